@@ -1,0 +1,94 @@
+ghost use Rattle.std.specs.Prelude.{◌≡◌, ◌-◌, ◌^◌, ◌≤◌, ◌↔◌, IsSome, IfSome};
+ghost use Rattle.pic_num.specs.Sizes.{IsAtMost};
+ghost use Rattle.pic_num.specs.Multiplier.{Multiplier, IsMultiplier};
+
+use std::marker::Model;
+
+/// A factor `n / 2^k`, with `n` in -2147483647..=2147483647 and `k` in 0..=62.
+#[derive(Clone, Copy, Debug, PartialEq, Eq)]
+pub struct Mult {
+    n: i32,
+    k: u32,
+}
+
+impl Model for Mult {
+    ghost Value = { Multiplier };
+
+    ghost view = { λ m. record { n = m.n; k = m.k } };
+
+    ghost invariant = { λ m. IsMultiplier (record { n = m.n; k = m.k }) };
+
+    ghost inverse = { λ m. record { n = m.n; k = m.k } };
+}
+
+impl Mult {
+    /// The greatest size of `n`.
+    pub const GREATEST_N: i32 = 2147483647;
+
+    /// The greatest `k`.
+    pub const GREATEST_K: u32 = 62;
+
+    pub fn new(n: i32, k: u32) -> Mult
+        requires { IsMultiplier (record { n = n; k = k }) }
+        ensures { result ≡ record { n = n; k = k } }
+    {
+        Mult { n, k }
+    }
+
+    /// The multiplier of numbers from outside, or `None` where they pass its limits.
+    pub fn try_new(n: i32, k: u32) -> Option<Mult>
+        ensures valid { IsSome result ↔ IsMultiplier (record { n = n; k = k }) }
+        ensures value { IfSome result (λ m. m ≡ record { n = n; k = k }) }
+    {
+        if n < -Mult::GREATEST_N || k > Mult::GREATEST_K {
+            return None;
+        }
+        Some(Mult { n, k })
+    }
+
+    pub fn n(self) -> i32
+        ensures value { result ≡ self.n }
+        ensures size { IsAtMost result (2 ^ 31 - 1) }
+    {
+        self.n
+    }
+
+    pub fn k(self) -> u32
+        ensures value { result ≡ self.k }
+        ensures most { result ≤ 62 }
+    {
+        self.k
+    }
+}
+
+/// The four multipliers of a deck: what half a step takes from E to B and a step from B to E, and
+/// what the force values of E and B are.
+#[derive(Clone, Copy, Debug, PartialEq, Eq)]
+pub struct Scales {
+    pub e_to_b: Mult,
+    pub b_to_e: Mult,
+    pub e_force: Mult,
+    pub b_force: Mult,
+}
+
+#[cfg(test)]
+mod tests {
+    use super::*;
+
+    #[test]
+    fn a_multiplier_keeps_its_limits(rt: HostRuntime) {
+        let cases = [
+            (2147483647, 62, true),
+            (-2147483647, 0, true),
+            (-2147483648, 0, false),
+            (1, 63, false),
+        ];
+        for (n, k, good) in cases {
+            let made = Mult::try_new(n, k);
+            assert_eq!(rt; made.is_some(), good, "{n} / 2^{k}");
+            if let Some(m) = made {
+                assert_eq!(rt; (m.n(), m.k()), (n, k));
+            }
+        }
+    }
+}

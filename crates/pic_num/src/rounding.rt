@@ -1,0 +1,89 @@
+ghost use Rattle.std.specs.Prelude.{◌≡◌, ℤ, pos, ℕ, ◌-◌, ◌*◌, ◌^◌, ◌<◌, ◌≤◌, ◌*ℤ◌, ◌<ℤ◌, unsigned_abs};
+ghost use Rattle.pic_num.specs.Sizes.{IsAtMost};
+ghost use Rattle.pic_num.specs.Rounding.{IsRounded, rounded, scaled, IsTruncated, truncated, IsResidue, residue};
+
+use crate::multiplier::Mult;
+
+/// The nearest whole number to `n / d`, a half going up.
+pub fn rdiv(n: i128, d: i128) -> i128
+    requires n_in_range { IsAtMost n (2 ^ 125 - 1) }
+    requires d_above_zero { pos 0 <ℤ d }
+    requires d_in_range { IsAtMost d (2 ^ 125 - 1) }
+    ensures value { result ≡ rounded n d }
+    ensures nearest { IsRounded n d result }
+    ensures only { (r : ℤ) → IsRounded n d r → r ≡ result }
+    ensures no_larger { unsigned_abs result ≤ unsigned_abs n }
+{
+    (2 * n + d).div_euclid(2 * d)
+}
+
+/// `v` times the multiplier `by`, rounded once to the nearest whole number, a half going up.
+pub fn scale(v: i128, by: Mult) -> i128
+    requires { IsAtMost v (2 ^ 90) }
+    ensures value { result ≡ scaled v by }
+    ensures nearest { IsRounded (v *ℤ by.n) (pos (2 ^ by.k)) result }
+    ensures only { (r : ℤ) → IsRounded (v *ℤ by.n) (pos (2 ^ by.k)) r → r ≡ result }
+    ensures size { IsAtMost result (2 ^ 121) }
+{
+    let n = i128::from(by.n());
+    let k = by.k();
+    (2 * v * n + (1 << k)) >> (k + 1)
+}
+
+/// `n / d` with its fraction dropped towards 0.
+pub fn trunc_div(n: i128, d: i128) -> i128
+    requires n_in_range { IsAtMost n (2 ^ 125 - 1) }
+    requires d_not_zero { 0 < unsigned_abs d }
+    requires d_in_range { IsAtMost d (2 ^ 125 - 1) }
+    ensures value { result ≡ truncated n d }
+    ensures towards_zero { IsTruncated n d result }
+    ensures only { (r : ℤ) → IsTruncated n d r → r ≡ result }
+{
+    n / d
+}
+
+/// The place of `p` on a periodic axis of `len` places: its residue.
+pub fn wrap(p: i64, len: u32) -> u32
+    requires { 0 < len }
+    ensures value { result ≡ residue p len }
+    ensures below { result < len }
+    ensures residue { IsResidue p len result }
+    ensures only { (r : ℕ) → IsResidue p len r → r ≡ result }
+{
+    p.rem_euclid(i64::from(len)) as u32
+}
+
+#[cfg(test)]
+mod tests {
+    use super::*;
+
+    #[test]
+    fn quotients_are_rounded_to_the_nearest(rt: HostRuntime) {
+        for (n, d, nearest) in [(1, 2, 1), (-1, 2, 0), (-3, 2, -1)] {
+            assert_eq!(rt; rdiv(n, d), nearest, "{n} / {d}");
+        }
+    }
+
+    #[test]
+    fn a_multiplier_is_rounded_once(rt: HostRuntime) {
+        assert_eq!(rt; scale(-5, Mult::new(1, 1)), -2);
+    }
+
+    #[test]
+    fn truncation_goes_towards_zero(rt: HostRuntime) {
+        for (n, d, whole) in [(7, 2, 3), (-7, 2, -3), (7, -2, -3), (-7, -2, 3), (-1, 2, 0)] {
+            assert_eq!(rt; trunc_div(n, d), whole, "{n} / {d}");
+        }
+    }
+
+    #[test]
+    fn a_position_is_wrapped_into_the_box(rt: HostRuntime) {
+        for (p, len, place) in [
+            (-100, 16384, 16284),
+            (16384, 16384, 0),
+            (16383, 16384, 16383),
+        ] {
+            assert_eq!(rt; wrap(p, len), place, "{p} modulo {len}");
+        }
+    }
+}
