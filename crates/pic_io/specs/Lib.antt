@@ -1,0 +1,6 @@
+pub mod Told
+pub mod Source
+pub mod Sink
+pub mod Sinks
+pub mod Memory
+pub mod Standard
