@@ -1,0 +1,3 @@
+pub mod GridLaws
+pub mod DocumentLaws
+pub mod TextLaws

@@ -1,0 +1,24 @@
+use Rattle.std.proofs.Common.{refl}
+use Rattle.pic_deck.specs.Keys.{grid}
+use Rattle.pic_walk.proofs.WalkLaws.{goes_on, exits}
+use Rattle.pic_deck.proofs.grid.read_grid.Goals as goal
+
+pub returns-in_err-table-clause-walks : goal.returns-in_err-table-clause-walks
+unfolding grid
+returns-in_err-table-clause-walks c =
+    exits _ _ c.from_residual.ensures.1 c.in_err-table.ensures
+
+pub returns-in_err-cells-clause-walks : goal.returns-in_err-cells-clause-walks
+unfolding grid
+returns-in_err-cells-clause-walks c =
+    goes_on _ _ _ c.in_ok-table.ensures.answer (exits _ _ c.from_residual-in_err-cells.ensures.1 c.in_err-cells.ensures.walks)
+
+pub returns-in_err-tiles-clause-walks : goal.returns-in_err-tiles-clause-walks
+unfolding grid
+returns-in_err-tiles-clause-walks c =
+    goes_on _ _ _ c.in_ok-table.ensures.answer (goes_on _ _ _ c.in_ok-cells.ensures.walks.answer (exits _ _ c.from_residual-in_err-tiles.ensures.1 c.in_err-tiles.ensures.walks))
+
+pub returns-clause-walks : goal.returns-clause-walks
+unfolding grid
+returns-clause-walks c =
+    goes_on _ _ _ c.in_ok-table.ensures.answer (goes_on _ _ _ c.in_ok-cells.ensures.walks.answer (goes_on _ _ _ c.in_ok-tiles.ensures.walks.answer (record { answer = refl })))

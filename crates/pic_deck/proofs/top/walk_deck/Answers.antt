@@ -1,0 +1,30 @@
+use Rattle.std.proofs.Common.{length, ◌<◌, ◌^◌, arith, rules}
+use Rattle.std.proofs.lemmas.Int.{to_z_pos}
+use mir.Syntax.{w128}
+use Rattle.pic_walk.proofs.WalkLaws.{goes_on, exits}
+use Rattle.pic_walk.proofs.TableLaws.{key_at-top}
+use Rattle.pic_deck.specs.Keys.{walk}
+use Rattle.pic_deck.proofs.top.walk_deck.Goals as goal
+
+pub returns-in_err-check_within : goal.returns-in_err-check_within
+unfolding walk
+returns-in_err-check_within c =
+    let fits : length c.args.bytes.now < 2 ^ 64 = search rules in
+    let size = to_z_pos w128 (length c.args.bytes.now) (omega (arith, fits)) in
+    exits _ _ c.from_residual.ensures.1 (rw (c.new-limits.ensures, c.new.ensures.path, key_at-top, size) at c.in_err-check_within.ensures.walks)
+
+pub returns-in_err-table : goal.returns-in_err-table
+unfolding walk
+returns-in_err-table c =
+    let fits : length c.args.bytes.now < 2 ^ 64 = search rules in
+    let size = to_z_pos w128 (length c.args.bytes.now) (omega (arith, fits)) in
+    goes_on _ _ _ (rw (c.new-limits.ensures, c.new.ensures.path, key_at-top, size) at c.in_ok-check_within.ensures.walks.answer)
+    (exits _ _ c.from_residual-in_err-table.ensures.1 c.in_err-table.ensures)
+
+pub returns : goal.returns
+unfolding walk
+returns c =
+    let fits : length c.args.bytes.now < 2 ^ 64 = search rules in
+    let size = to_z_pos w128 (length c.args.bytes.now) (omega (arith, fits)) in
+    goes_on _ _ _ (rw (c.new-limits.ensures, c.new.ensures.path, key_at-top, size) at c.in_ok-check_within.ensures.walks.answer)
+    (goes_on _ _ _ c.in_ok-table.ensures.answer c.read_table.ensures)

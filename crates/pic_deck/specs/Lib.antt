@@ -1,0 +1,3 @@
+pub mod Deck
+pub mod Keys
+pub mod Reading

@@ -1,0 +1,12 @@
+use Rattle.std.specs.Prelude.{ℕ}
+use Rattle.pic_run.specs.declared.ended.Ended.{Ended}
+use Rattle.pic_run.specs.declared.ended.Ended.TheVariants.{Done, Usage, Refused, ReadFault, WriteFault, NoMemory}
+
+-- the exit status of each answer
+abbrev pub status_of : Ended → ℕ
+status_of (Done steps) = 0
+status_of Usage = 2
+status_of (Refused refusal) = 3
+status_of ReadFault = 4
+status_of (WriteFault side) = 5
+status_of NoMemory = 6

@@ -1,0 +1,5 @@
+pub mod WalkLaws
+pub mod TableLaws
+pub mod LimitLaws
+pub mod ArrayLaws
+pub mod TextLaws

@@ -1,0 +1,11 @@
+use Rattle.std.proofs.Common.{sym}
+use Rattle.pic_walk.proofs.TableLaws.{unknown_is, known_is}
+use Rattle.pic_walk.proofs.WalkLaws.{refuses}
+use Rattle.pic_walk.proofs.tables.check_keys.Goals as goal
+
+pub returns-in-Some : goal.returns-in-Some
+returns-in-Some c =
+    refuses _ _ _ (rw (c.new.ensures.path, c.as_str.ensures.value) at c.unknown_fault.ensures) (unknown_is _ _ _ _ (sym c.in-Some.ensures.first))
+
+pub returns-in-None : goal.returns-in-None
+returns-in-None c = record { answer = known_is _ _ _ (sym c.in-None.ensures.first) }

@@ -1,0 +1,25 @@
+-- Limits of numbers.
+use Rattle.std.specs.Prelude.{ℤ, pos, List, ◌≤ℤ◌, ℕ, ◌-◌, ◌^◌, slice_index_or, Bool, int_le, ◌&&◌}
+use Rattle.pic_walk.specs.declared.ranges.Limits.{Limits}
+
+-- from the one to the other, both allowed
+abbrev pub from_to : ℤ → ℤ → Limits
+from_to low high = record { low = low; high = high }
+
+-- whether a number is within the limits
+abbrev pub is_within : Limits → ℤ → Bool
+is_within limits z = int_le limits.low z && int_le z limits.high
+
+-- the number is within the limits
+pub record IsInLimits (limits : Limits) (z : ℤ) : Type 0 where
+  pub low : limits.low ≤ℤ z
+  pub high : z ≤ℤ limits.high
+
+-- the limits allow no number below 0 and none of more than 32 bits
+pub record FitsU32 (limits : Limits) : Type 0 where
+  pub low : pos 0 ≤ℤ limits.low
+  pub high : limits.high ≤ℤ pos (2 ^ 32 - 1)
+
+-- the limits at an index
+unfoldable pub limits_at : List Limits → ℕ → Limits
+limits_at limits i = slice_index_or limits i (from_to (pos 0) (pos 0))

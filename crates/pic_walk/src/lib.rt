@@ -1,0 +1,21 @@
+//! The words of a walk through a TOML document: key paths, the one refusal that a walk ends with,
+//! and the readers of single values.
+#![tactic(auto)]
+
+mod faults;
+mod keys;
+mod numbers;
+mod paths;
+mod places;
+mod ranges;
+mod tables;
+
+pub use faults::{WalkFault, WalkRefusal};
+pub use keys::{first_unlisted, is_listed};
+pub use numbers::{
+    check_within, read_array, read_multiplier, read_number, read_numbers, read_three, read_whole,
+};
+pub use paths::KeyPath;
+pub use places::Place;
+pub use ranges::Limits;
+pub use tables::{check_keys, need_multiplier, need_table, need_three, need_whole, needed_value};

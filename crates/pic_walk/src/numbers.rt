@@ -1,0 +1,149 @@
+ghost use Rattle.std.specs.Prelude.{◌≡◌, ℤ, ℕ, pos, List, None, ◌<◌, IfOk, OnOk, slice_index, slice_index_or, unsigned_abs, vec_len};
+ghost use Rattle.pic_num.specs.Multiplier.{Multiplier};
+ghost use Rattle.toml.specs.View.{view, array_view};
+ghost use Rattle.pic_walk.specs.Path.{path_of};
+ghost use Rattle.pic_walk.specs.Range.{IsInLimits, FitsU32, limits_at};
+ghost use Rattle.pic_walk.specs.Walk.{WalksAs, within, limited, whole, fixed, numbers, three, multiplier, multiplier_limits};
+
+use crate::faults::WalkFault;
+use crate::places::Place;
+use crate::ranges::Limits;
+use pic_num::Mult;
+use std::alloc::Global;
+use toml::Value;
+use toml::value::Array;
+
+/// Refuses a number at a place unless it is within its limits.
+pub fn check_within(
+    alloc: Global,
+    place: Place<'_>,
+    value: i128,
+    limits: Limits,
+) -> Result<(), WalkFault>
+    ensures walks { WalksAs (λ _. value) (within limits (path_of place.entry) value) result }
+    ensures bounds { OnOk result (IsInLimits limits value) }
+{
+    if limits.allow(value) {
+        Ok(())
+    } else {
+        Err(place.limit_fault(alloc, value, limits))
+    }
+}
+
+/// The whole number at a place, within its limits.
+pub fn read_number(
+    alloc: Global,
+    place: Place<'_>,
+    value: &Value,
+    limits: Limits,
+) -> Result<i64, WalkFault>
+    ensures walks { WalksAs (λ (z : ℤ). z) (limited limits (path_of place.entry) (view value.now)) result }
+    ensures bounds { IfOk result (λ z. IsInLimits limits z) }
+{
+    match value.as_integer() {
+        Some(number) => {
+            check_within(alloc, place, i128::from(number), limits)?;
+            Ok(number)
+        }
+        None => Err(place.kind_fault(alloc)),
+    }
+}
+
+/// The whole number at a place, within limits that allow none below 0.
+pub fn read_whole(
+    alloc: Global,
+    place: Place<'_>,
+    value: &Value,
+    limits: Limits,
+) -> Result<u32, WalkFault>
+    requires { FitsU32 limits }
+    ensures walks { WalksAs (λ (n : ℕ). n) (whole limits (path_of place.entry) (view value.now)) result }
+    ensures bounds { IfOk result (λ n. IsInLimits limits (pos n)) }
+{
+    let number = read_number(alloc, place, value, limits)?;
+    Ok(number as u32)
+}
+
+/// The array of so many elements at a place.
+pub fn read_array<'v>(
+    alloc: Global,
+    place: Place<'_>,
+    value: &'v Value,
+    len: usize,
+) -> Result<&'v Array, WalkFault>
+    ensures walks { WalksAs (λ v. array_view v.now) (fixed len (path_of place.entry) (view value.now)) result }
+    ensures len { IfOk result (λ v. vec_len v.now ≡ len) }
+{
+    match value.as_array() {
+        Some(items) => {
+            if items.len() == len {
+                Ok(items)
+            } else {
+                Err(place.kind_fault(alloc))
+            }
+        }
+        None => Err(place.kind_fault(alloc)),
+    }
+}
+
+/// The array of whole numbers at a place, each within its own limits.
+pub fn read_numbers<const N: usize>(
+    alloc: Global,
+    place: Place<'_>,
+    value: &Value,
+    limits: [Limits; N],
+) -> Result<[i64; N], WalkFault>
+    requires { place.column ≡ None }
+    ensures walks { WalksAs (λ (zs : List ℤ). zs) (numbers limits.entry (path_of place.entry) (view value.now)) result }
+    ensures bounds { IfOk result (λ zs. (k : ℕ) → k < N → IsInLimits (limits_at limits.entry k) (slice_index_or zs k (pos 0))) }
+{
+    let items = read_array(alloc, place, value, N)?;
+    let mut numbers = [0i64; N];
+    for i in 0..N {
+        numbers[i] = read_number(alloc, place.element(i), &items[i], limits[i])?;
+    }
+    Ok(numbers)
+}
+
+/// The three whole numbers at a place, one an axis, within limits that allow none below 0.
+pub fn read_three(
+    alloc: Global,
+    place: Place<'_>,
+    value: &Value,
+    limits: [Limits; 3],
+) -> Result<[u32; 3], WalkFault>
+    requires plain { place.column ≡ None }
+    requires fits { (k : ℕ) → k < 3 → FitsU32 (limits_at limits k) }
+    ensures walks { WalksAs (λ (ns : List ℕ). ns) (three limits (path_of place.entry) (view value.now)) result }
+    ensures bounds { IfOk result (λ ns. (k : ℕ) → k < 3 → IsInLimits (limits_at limits k) (pos (slice_index ns k))) }
+{
+    let numbers = read_numbers(alloc, place, value, limits)?;
+    Ok([numbers[0] as u32, numbers[1] as u32, numbers[2] as u32])
+}
+
+/// The multiplier `[n, k]` at a place.
+pub fn read_multiplier(alloc: Global, place: Place<'_>, value: &Value) -> Result<Mult, WalkFault>
+    requires { place.column ≡ None }
+    ensures { WalksAs (λ (m : Multiplier). m) (multiplier (path_of place.entry) (view value.now)) result }
+{
+    let numbers = read_numbers(alloc, place, value, multiplier_limits())?;
+    Ok(multiplier_of(numbers[0], numbers[1]))
+}
+
+fn multiplier_limits() -> [Limits; 2]
+    ensures { result ≡ multiplier_limits }
+{
+    [
+        Limits::new(i64::from(-Mult::GREATEST_N), i64::from(Mult::GREATEST_N)),
+        Limits::new(0, i64::from(Mult::GREATEST_K)),
+    ]
+}
+
+#[tactic(auto, unfolding(crate::specs::Range::limits_at))]
+fn multiplier_of(n: i64, k: i64) -> Mult
+    requires n { IsInLimits (limits_at multiplier_limits 0) n }
+    requires k { IsInLimits (limits_at multiplier_limits 1) k }
+    ensures { result ≡ record { n = n; k = unsigned_abs k } }
+{
+    Mult::new(n as i32, k as u32)
+}
