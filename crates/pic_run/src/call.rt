@@ -1,4 +1,4 @@
-ghost use Rattle.std.specs.Prelude.{◌≡◌, false, ℕ, [], map, string_bytes, ⊤};
+ghost use Rattle.std.specs.Prelude.{◌≡◌, false, ℕ, [], map, string_bytes};
 ghost use Rattle.pic_io.specs.Told.{Told, Rose, Calm};
 ghost use Rattle.pic_io.specs.Sinks.{sinks, Wrote, FailedAt};
 ghost use Rattle.pic_io.specs.Source.{IsAtEnd};

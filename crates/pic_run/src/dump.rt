@@ -1,4 +1,4 @@
-ghost use Rattle.std.specs.Prelude.{◌≡◌, ◌+◌, ◌*◌, ◌≤◌, ◌++◌, ℤ, pos, length, replicate, OnOk, OnErr};
+ghost use Rattle.std.specs.Prelude.{◌≡◌, ◌+◌, ◌*◌, ◌≤◌, ◌++◌, pos, length, replicate};
 ghost use Rattle.pic_io.specs.Told.{HasCause};
 ghost use Rattle.pic_io.specs.Sink.{Puts};
 ghost use Rattle.pic_run.specs.Bytes.{i128_bytes};

@@ -1,5 +1,4 @@
 ghost use Rattle.std.specs.Prelude.{◌≡◌};
-ghost use Rattle.pic_run.specs.SerialRun.{Energies};
 ghost use Rattle.pic_run.specs.Lines.{frame_line, done_line, usage_line, read_fault_line, refused_line};
 
 use crate::text::Text;

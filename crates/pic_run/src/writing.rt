@@ -1,4 +1,4 @@
-ghost use Rattle.std.specs.Prelude.{◌≡◌, [], ◌∷◌, ◌++◌};
+ghost use Rattle.std.specs.Prelude.{[], ◌++◌};
 ghost use Rattle.pic_io.specs.Told.{Told};
 ghost use Rattle.pic_io.specs.Sinks.{sinks, Writes};
 ghost use Rattle.pic_run.specs.SerialRun.{empty_state, energies};
