@@ -1,0 +1,5 @@
+use Rattle.pic_grid.proofs.Weights as weights
+use Rattle.pic_grid.proofs.laws.weights_add_up.Goals as goal
+
+pub returns : goal.returns
+returns c = weights.weights_add_up

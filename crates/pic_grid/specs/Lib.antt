@@ -1,0 +1,14 @@
+pub mod Piece
+pub mod Places
+pub mod Arrays
+pub mod Fields
+pub mod Zones
+pub mod Parts
+pub mod Differences
+pub mod Sums
+pub mod Hat
+pub mod Gather
+pub mod Path
+pub mod Flux
+pub mod PushPhase
+pub mod Current

@@ -1,0 +1,53 @@
+-- A lattice cut into equal parts, one block for each, x fastest.
+use Rattle.std.specs.Prelude.{◌≡◌, ℕ, ℤ, pos, ◌*◌, ◌/◌, ◌<◌, List, [], length, slice_index_or}
+use Rattle.pic_num.specs.declared.space.Axis.{Axis}
+use Rattle.pic_num.specs.Space.{Triple, Spot}
+use Rattle.pic_grid.specs.Places.{IsCells, count_of, index_of, cell_of}
+use Rattle.pic_grid.specs.Fields.{Field, IsParts, field_of}
+use Rattle.pic_grid.specs.Zones.{BlockValues, edge_at}
+
+-- a cell of the grid as one that isn't wrapped
+abbrev pub spot_of : Triple → Spot
+spot_of p = record { x = pos p.x; y = pos p.y; z = pos p.z }
+
+-- the layers of each part of n cells
+abbrev pub part_size : Triple → Triple → Triple
+part_size n parts = record { x = n.x / parts.x; y = n.y / parts.y; z = n.z / parts.z }
+
+-- the part, of s layers, in which a cell lies
+abbrev pub part_of : Triple → Triple → Triple
+part_of s p = record { x = p.x / s.x; y = p.y / s.y; z = p.z / s.z }
+
+-- the lowest cell of a part
+abbrev pub corner_of : Triple → Triple → Spot
+corner_of s part = record { x = pos (part.x * s.x); y = pos (part.y * s.y); z = pos (part.z * s.z) }
+
+-- the block's zone is a part of s layers
+pub record IsPart (s part : Triple) (b : BlockValues) : Type 0 where
+  pub low : b.low ≡ corner_of s part
+  pub size : b.size ≡ s
+
+-- a block of no cells, which stands where a list of blocks has none
+abbrev pub no_block : BlockValues
+no_block = record { low = record { x = pos 0; y = pos 0; z = pos 0 }; size = record { x = 0; y = 0; z = 0 }; values = [] }
+
+-- there is one block per part of n cells, and their zones are the parts', in order
+pub record ArePartsOf (n parts : Triple) (blocks : List BlockValues) : Type 0 where
+  pub count : length blocks ≡ count_of parts
+  pub zones : (i : ℕ) → i < count_of parts → IsPart (part_size n parts) (cell_of parts i) (slice_index_or blocks i no_block)
+
+-- what the type of a lattice keeps: its cells, its parts of s layers, and its blocks fit together
+pub record IsLattice (n parts s : Triple) (blocks : List BlockValues) : Type 0 where
+  pub cells : IsCells n
+  pub parts_fit : IsParts n parts
+  pub layers : s ≡ part_size n parts
+  pub zones : ArePartsOf n parts blocks
+
+-- a cell's component is that of the block of its part
+unfoldable pub value_in : Triple → Triple → List BlockValues → Axis → Triple → ℤ
+value_in n parts blocks a p =
+    edge_at (slice_index_or blocks (index_of parts (part_of (part_size n parts) p)) no_block) a (spot_of p)
+
+-- the lattice of the blocks
+abbrev pub joined : Triple → Triple → List BlockValues → Field
+joined n parts blocks = field_of n parts (value_in n parts blocks)
