@@ -3,4 +3,5 @@ pub mod Ring
 pub mod Sizes
 pub mod Simpson
 pub mod Rounds
+pub mod Firsts
 mod PushRows

@@ -5,3 +5,4 @@ pub mod First
 pub mod Space
 pub mod Push
 pub mod Flux
+pub mod Bytes

@@ -1,0 +1,132 @@
+ghost use Rattle.std.specs.Prelude.{◌≡◌, List, ℕ, ◌+◌, ◌≤◌, ◌++◌, [], ◌∷◌, length};
+ghost use Rattle.std.specs.Fmt.{decimal, signed_decimal};
+ghost use Rattle.pic_num.specs.Bytes.{u32_bytes, i32_bytes, u128_bytes, i128_bytes};
+
+use arrayvec::ArrayVec;
+use std::marker::Model;
+
+/// A text in a room of `N` bytes, so that it takes no memory. Clauses see its bytes.
+#[derive(Drop)]
+pub struct Text<const N: usize> {
+    bytes: ArrayVec<u8, N>,
+}
+
+impl<const N: usize> Model for Text<N> {
+    ghost Value = { List ℕ };
+
+    ghost view = { λ t. t.bytes.items };
+}
+
+impl<const N: usize> Text<N> {
+    pub fn new() -> Text<N>
+        ensures { result ≡ [] }
+    {
+        Text {
+            bytes: ArrayVec::new(),
+        }
+    }
+
+    pub fn bytes(&self) -> &[u8]
+        ensures { result.now ≡ self.now }
+    {
+        self.bytes.as_slice()
+    }
+
+    pub fn push(&mut self, piece: &[u8])
+        requires { length self.old + length piece.now ≤ N }
+        ensures bytes { self.new ≡ self.old ++ piece.now }
+        ensures len { length self.new ≡ length self.old + length piece.now }
+    {
+        self.bytes.try_extend_from_slice(piece).unwrap();
+    }
+
+    pub fn push_byte(&mut self, byte: u8)
+        requires { length self.old + 1 ≤ N }
+        ensures bytes { self.new ≡ self.old ++ byte ∷ [] }
+        ensures len { length self.new ≡ length self.old + 1 }
+    {
+        self.push(&[byte]);
+    }
+
+    #[tactic(auto, unfolding(crate::specs::Bytes::u32_bytes))]
+    pub fn push_u32(&mut self, n: u32)
+        requires { length self.old + 4 ≤ N }
+        ensures bytes { self.new ≡ self.old ++ u32_bytes n }
+        ensures len { length self.new ≡ length self.old + 4 }
+    {
+        self.push(&n.to_be_bytes());
+    }
+
+    #[tactic(auto, unfolding(crate::specs::Bytes::i32_bytes))]
+    pub fn push_i32(&mut self, n: i32)
+        requires { length self.old + 4 ≤ N }
+        ensures bytes { self.new ≡ self.old ++ i32_bytes n }
+        ensures len { length self.new ≡ length self.old + 4 }
+    {
+        self.push(&n.to_be_bytes());
+    }
+
+    #[tactic(auto, unfolding(crate::specs::Bytes::u128_bytes))]
+    pub fn push_u128(&mut self, n: u128)
+        requires { length self.old + 16 ≤ N }
+        ensures bytes { self.new ≡ self.old ++ u128_bytes n }
+        ensures len { length self.new ≡ length self.old + 16 }
+    {
+        self.push(&n.to_be_bytes());
+    }
+
+    #[tactic(auto, unfolding(crate::specs::Bytes::i128_bytes))]
+    pub fn push_i128(&mut self, n: i128)
+        requires { length self.old + 16 ≤ N }
+        ensures bytes { self.new ≡ self.old ++ i128_bytes n }
+        ensures len { length self.new ≡ length self.old + 16 }
+    {
+        self.push(&n.to_be_bytes());
+    }
+
+    /// Appends the decimal digits of `n`, at most 40 of them.
+    pub fn push_decimal(&mut self, n: u128)
+        requires { length self.old + 40 ≤ N }
+        ensures bytes { self.new ≡ self.old ++ decimal n }
+        ensures len { length self.new ≤ length self.old + 40 }
+    {
+        let mut digits = itoa::Buffer::new();
+        self.push(digits.format(n).as_bytes());
+    }
+
+    /// Appends the decimal digits of `n`, behind a sign where it is below 0: at most 40 bytes.
+    pub fn push_signed(&mut self, n: i128)
+        requires { length self.old + 40 ≤ N }
+        ensures bytes { self.new ≡ self.old ++ signed_decimal n }
+        ensures len { length self.new ≤ length self.old + 40 }
+    {
+        let mut digits = itoa::Buffer::new();
+        self.push(digits.format(n).as_bytes());
+    }
+}
+
+#[cfg(test)]
+mod tests {
+    use super::*;
+
+    #[test]
+    fn numbers_are_spelled(rt: HostRuntime) {
+        let mut text = Text::<120>::new();
+        text.push_byte(b'-');
+        text.push_u32(258);
+        text.push_i32(-2);
+        text.push_decimal(340282366920938463463374607431768211455);
+        text.push_signed(-7);
+        assert_eq!(rt;
+            text.bytes(),
+            b"-\0\0\x01\x02\xff\xff\xff\xfe340282366920938463463374607431768211455-7".as_slice()
+        );
+        let mut wide = Text::<32>::new();
+        wide.push_u128(1);
+        wide.push_i128(-1);
+        assert_eq!(rt;
+            wide.bytes(),
+            b"\0\0\0\0\0\0\0\0\0\0\0\0\0\0\0\x01\xff\xff\xff\xff\xff\xff\xff\xff\xff\xff\xff\xff\xff\xff\xff\xff".as_slice()
+        );
+    }
+}
