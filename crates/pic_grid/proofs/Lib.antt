@@ -4,6 +4,7 @@ pub mod Zones
 pub mod Parts
 pub mod DifferenceLaws
 pub mod SumLaws
+pub mod OverLaws
 pub mod Hats
 pub mod SlowSums
 pub mod Weights

@@ -1,4 +1,5 @@
 pub mod Piece
+pub mod Species
 pub mod Places
 pub mod Arrays
 pub mod Fields

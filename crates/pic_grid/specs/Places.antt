@@ -15,14 +15,14 @@ pub record IsCells (n : Triple) : Type 0 where
   pub z_least : 2 ≤ n.z
   pub z_most : n.z ≤ 64
 
--- a box of cells has 1 to 66 layers on each axis
+-- a box of cells has 1 to 67 layers on each axis
 pub record IsSize (n : Triple) : Type 0 where
   pub x_least : 1 ≤ n.x
-  pub x_most : n.x ≤ 66
+  pub x_most : n.x ≤ 67
   pub y_least : 1 ≤ n.y
-  pub y_most : n.y ≤ 66
+  pub y_most : n.y ≤ 67
   pub z_least : 1 ≤ n.z
-  pub z_most : n.z ≤ 66
+  pub z_most : n.z ≤ 67
 
 -- p is one of the n.x by n.y by n.z cells
 pub record IsWithin (p n : Triple) : Type 0 where

@@ -1,4 +1,4 @@
-use Rattle.std.specs.Prelude.{ℤ, pos, ◌≤ℤ◌, ◌<ℤ◌, ◌+ℤ◌, ◌-ℤ◌, List, slice_index_or, slice_set, unsigned_abs}
+use Rattle.std.specs.Prelude.{◌≡◌, ℕ, ℤ, pos, ◌+◌, ◌≤◌, ◌≤ℤ◌, ◌<ℤ◌, ◌+ℤ◌, ◌-ℤ◌, List, slice_index_or, slice_set, unsigned_abs}
 use Rattle.pic_num.specs.declared.space.Axis.{Axis}
 use Rattle.pic_num.specs.Sizes.{IsAtMost}
 use Rattle.pic_num.specs.Space.{Triple, Spot}
@@ -10,7 +10,7 @@ pub record BlockValues : Type 0 where
   pub size : Triple
   pub values : List ℤ
 
--- a zone lies near the grid: its lowest cell is at most 64 in size, and it has 1 to 66 layers
+-- a zone lies near the grid: its lowest cell is at most 64 in size, and it has 1 to 67 layers
 pub record IsZone (low : Spot) (size : Triple) : Type 0 where
   pub x : IsAtMost low.x 64
   pub y : IsAtMost low.y 64
@@ -37,3 +37,29 @@ edge_at b a c = slice_index_or b.values (place_of b.size a (inner_of b.low c)) (
 -- the block with that component changed
 abbrev pub with_edge : BlockValues → Axis → Spot → ℤ → BlockValues
 with_edge b a c v = record b { values = slice_set b.values (place_of b.size a (inner_of b.low c)) v }
+
+-- the component on an axis at the cell that lies p above the lowest
+abbrev pub inner_at : BlockValues → Axis → Triple → ℤ
+inner_at b a p = slice_index_or b.values (place_of b.size a p) (pos 0)
+
+-- that cell, in a zone that begins at a cell of the grid
+abbrev pub outer_of : Spot → Triple → Triple
+outer_of low p = record { x = unsigned_abs low.x + p.x; y = unsigned_abs low.y + p.y; z = unsigned_abs low.z + p.z }
+
+-- a zone lies among the cells of a grid
+pub record IsAmongCells (low : Spot) (size n : Triple) : Type 0 where
+  pub x_low : pos 0 ≤ℤ low.x
+  pub x_high : unsigned_abs low.x + size.x ≤ n.x
+  pub y_low : pos 0 ≤ℤ low.y
+  pub y_high : unsigned_abs low.y + size.y ≤ n.y
+  pub z_low : pos 0 ≤ℤ low.z
+  pub z_high : unsigned_abs low.z + size.z ≤ n.z
+
+-- two blocks of one zone
+pub record IsShaped (b c : BlockValues) : Type 0 where
+  pub low : b.low ≡ c.low
+  pub size : b.size ≡ c.size
+
+-- every value of a block is at most most in size
+pub record AllAtMost (most : ℕ) (b : BlockValues) : Type 0 where
+  pub at_most : (a : Axis) (c : Spot) → InZone b.low b.size c → IsAtMost (edge_at b a c) most

@@ -10,7 +10,7 @@ use std::alloc::Global;
 use std::marker::Model;
 
 /// A box of cells: its lowest cell, which isn't wrapped, and its numbers of layers on x, y and z. A
-/// block's zone has 1 to 66 layers on each axis and a lowest cell in -64..=64.
+/// block's zone has 1 to 67 layers on each axis and a lowest cell in -64..=64.
 #[derive(Clone, Copy, Debug, PartialEq, Eq)]
 pub struct Zone {
     pub low: [i32; 3],
@@ -90,8 +90,8 @@ impl Block {
         self.values.fill(0);
     }
 
-    /// Changes the component on `axis` at `cell` to `value`, and nothing else.
-    pub(crate) fn put(&mut self, axis: Axis, cell: [i32; 3], value: i128)
+    /// Changes the component on `axis` at `cell`, one of the zone's, to `value`, and nothing else.
+    pub fn set(&mut self, axis: Axis, cell: [i32; 3], value: i128)
         requires { InZone self.old.low self.old.size (spot cell) }
         ensures after { self.new ≡ with_edge self.old axis (spot cell) value }
         ensures stored { edge_at self.new axis (spot cell) ≡ value }
@@ -178,6 +178,8 @@ mod tests {
         assert_eq!(rt; block.at(Axis::X, [-1, 2, 3]), 0);
         assert_eq!(rt; block.at(Axis::Y, [0, 2, 3]), 0);
         assert_eq!(rt; block.at(Axis::Y, [-1, 1, 3]), 0);
+        block.set(Axis::Z, [0, 0, 3], -5);
+        assert_eq!(rt; block.at(Axis::Z, [0, 0, 3]), -5);
         block.clear();
         assert_eq!(rt; block.at(Axis::Y, [-1, 2, 3]), 0);
         Ok(())

@@ -70,8 +70,8 @@ fn zone_of(parts: [u32; 3], layers: [u32; 3], number: usize) -> Zone
 
 /// The first layer of a part on one axis.
 fn start_of(part: u32, layers: u32) -> i32
-    requires part { part < 66 }
-    requires layers { layers < 67 }
+    requires part { part < 67 }
+    requires layers { layers < 68 }
     ensures { result ≡ pos (part * layers) }
 {
     (part * layers) as i32

@@ -109,7 +109,7 @@ impl Lattice {
         let part = part_in(self.parts, self.layers, cell);
         let at = signed(self.cells, cell);
         let block = &mut self.blocks[part];
-        block.put(axis, at, value);
+        block.set(axis, at, value);
     }
 }
 

@@ -6,6 +6,7 @@ mod cutting;
 mod extents;
 mod lattices;
 mod laws;
+mod names;
 mod nodes;
 mod numbering;
 mod slow;
@@ -20,6 +21,7 @@ pub use laws::{
     constant_is_gathered, curl_of_b_has_no_divergence, curl_of_e_has_no_divergence, hats_add_up,
     weights_add_up,
 };
+pub use names::Name;
 pub use nodes::Nodes;
 pub use slow::{slow_gather, slow_shifted_weight, slow_weight};
 pub use snapshots::Snapshot;

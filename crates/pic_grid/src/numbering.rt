@@ -32,7 +32,7 @@ pub(crate) fn place_in(size: [u32; 3], axis: Axis, cell: [u32; 3]) -> usize
 pub(crate) fn count_in(size: [u32; 3]) -> usize
     requires { IsSize (triple size) }
     ensures value { result ≡ count_of (triple size) }
-    ensures most { result < 300000 }
+    ensures most { result < 301000 }
 {
     let [x, y, z] = size;
     (x * y * z) as usize

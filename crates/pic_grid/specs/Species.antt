@@ -1,0 +1,43 @@
+-- What a deck and a dump say of each species, and its limits: this project's profile.
+use Rattle.std.specs.Prelude.{◌≡◌, ℕ, pos, negsuc, ◌<◌, ◌≤◌, ◌≤ℤ◌, Bool, ◌&&◌, ◌||◌, ◌==◌, nat_le, IsTrue, List, [], length, sum_by, slice_index_or}
+use Rattle.std.specs.List.{list_all}
+use Rattle.pic_num.specs.declared.motion.Kind.{Kind}
+
+-- a letter A to Z or a to z, a digit or `_`
+abbrev pub is_name_byte : ℕ → Bool
+is_name_byte b = (nat_le 48 b && nat_le b 57) || (nat_le 65 b && nat_le b 90) || (nat_le 97 b && nat_le b 122) || b == 95
+
+-- a name has 1 to 32 such bytes
+pub record IsName (name : List ℕ) : Type 0 where
+  pub least : 1 ≤ length name
+  pub most : length name ≤ 32
+  pub bytes : IsTrue (list_all is_name_byte name)
+
+-- the limits of charge and mass
+pub record IsKind (k : Kind) : Type 0 where
+  pub charge_low : negsuc 32767 ≤ℤ k.charge
+  pub charge_high : k.charge ≤ℤ pos 32767
+  pub mass_low : 1 ≤ k.mass
+  pub mass_high : k.mass ≤ 65536
+
+-- a species: its name, what its particles have in common, and how many there are
+pub record HeadView : Type 0 where
+  pub name : List ℕ
+  pub kind : Kind
+  pub count : ℕ
+
+-- a species that isn't there
+abbrev pub no_head : HeadView
+no_head = record {
+  name = [];
+  kind = record { charge = pos 0; mass = 0; kick = record { n = pos 0; k = 0 }; turn = record { n = pos 0; k = 0 } };
+  count = 0;
+}
+
+-- the species of a run: 16 at most, with names of their own, and 1048576 particles at most
+pub record AreHeads (heads : List HeadView) : Type 0 where
+  pub few : length heads ≤ 16
+  pub names : (i : ℕ) → i < length heads → IsName (slice_index_or heads i no_head).name
+  pub kinds : (i : ℕ) → i < length heads → IsKind (slice_index_or heads i no_head).kind
+  pub differ : (i j : ℕ) → i < j → j < length heads → (slice_index_or heads i no_head).name ≡ (slice_index_or heads j no_head).name → ⊥
+  pub total : sum_by (λ h. h.count) heads ≤ 1048576
