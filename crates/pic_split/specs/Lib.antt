@@ -1,0 +1,5 @@
+pub mod Crossings
+pub mod Moves
+pub mod Sizes
+pub mod Ways
+pub mod Continuity

@@ -1,0 +1,197 @@
+ghost use Rattle.std.specs.Prelude.{◌≡◌, ℕ, pos, ◌+◌, ◌-◌, ◌^◌, ◌<◌, length, slice_index, EachIndex};
+ghost use Rattle.std.specs.List.{All};
+ghost use Rattle.pic_num.specs.Push.{plus};
+ghost use Rattle.pic_num.specs.Space.{triple, spot};
+ghost use Rattle.pic_grid.specs.Path.{point_of, floor_cell, walk, path};
+ghost use Rattle.pic_grid.specs.Piece.{Leads};
+ghost use Rattle.pic_split.specs.Crossings.{list_of};
+ghost use Rattle.pic_split.specs.Sizes.{AreAtMost, IsSmall};
+ghost use Rattle.pic_split.specs.Moves.{IsMove};
+
+use crate::faces::{break_at, cell_after, cell_of, end_on};
+use crate::order::{Faces, crossings};
+use pic_grid::{Segment, Track};
+
+/// The path of a particle from `p0` by the move `d`, cut where it passes from one cell into another;
+/// in sub-cells, a cell's side being 4096. Nothing is wrapped.
+pub fn split(p0: [u32; 3], d: [i32; 3]) -> Track
+    requires start { EachIndex p0 (λ k. slice_index p0 k < 2 ^ 30) }
+    requires small { IsMove 4096 (spot d) }
+    ensures value { result ≡ path 4096 (point_of (triple p0)) (spot d) }
+    ensures leads { Leads 4096 (floor_cell 4096 (point_of (triple p0))) (floor_cell 4096 (plus (point_of (triple p0)) (spot d))) (point_of (triple p0)) result (plus (point_of (triple p0)) (spot d)) }
+{
+    let p = signed(p0);
+    cut(p, d, end_of(p, d), cell(p), crossings(p, d))
+}
+
+/// A position as a point that isn't wrapped.
+fn signed(p0: [u32; 3]) -> [i32; 3]
+    requires { EachIndex p0 (λ k. slice_index p0 k < 2 ^ 30) }
+    ensures value { spot result ≡ point_of (triple p0) }
+    ensures size { AreAtMost (spot result) (2 ^ 30 - 1) }
+{
+    let [x, y, z] = p0;
+    [x as i32, y as i32, z as i32]
+}
+
+/// The end of the path from `p` by `d`.
+fn end_of(p: [i32; 3], d: [i32; 3]) -> [i32; 3]
+    requires start { AreAtMost (spot p) (2 ^ 30 - 1) }
+    requires small { IsMove 4096 (spot d) }
+    ensures { spot result ≡ plus (spot p) (spot d) }
+{
+    let [x, y, z] = p;
+    let [dx, dy, dz] = d;
+    [end_on(x, dx), end_on(y, dy), end_on(z, dz)]
+}
+
+/// The cell of a point.
+fn cell(p: [i32; 3]) -> [i32; 3]
+    requires { AreAtMost (spot p) (2 ^ 30 - 1) }
+    ensures value { spot result ≡ floor_cell 4096 (spot p) }
+    ensures size { AreAtMost (spot result) (2 ^ 18 + 1) }
+{
+    let [x, y, z] = p;
+    [cell_of(x), cell_of(y), cell_of(z)]
+}
+
+/// A piece of the path.
+fn segment(from: [i32; 3], to: [i32; 3], cell: [i32; 3]) -> Segment
+    ensures { result ≡ record { from = spot from; to = spot to; cell = spot cell } }
+{
+    Segment { from, to, cell }
+}
+
+/// The path from `p` by `d` to `end`, from `cell` on, cut at the faces that it passes.
+#[tactic(auto, unfolding(pic_grid::specs::Path::walk))]
+fn cut(p: [i32; 3], d: [i32; 3], end: [i32; 3], cell: [i32; 3], faces: Faces) -> Track
+    requires start { AreAtMost (spot p) (2 ^ 30 - 1) }
+    requires small { IsMove 4096 (spot d) }
+    requires end { spot end ≡ plus (spot p) (spot d) }
+    requires cell { AreAtMost (spot cell) (2 ^ 18 + 1) }
+    requires faces { All (IsSmall 4096) (list_of faces) }
+    ensures { result ≡ walk (spot p) (spot d) (spot p) (spot cell) (list_of faces) }
+{
+    match faces {
+        Faces::Zero => {
+            let a = segment(p, end, cell);
+            Track::new([a, a, a, a], 1)
+        }
+        Faces::One(k) => {
+            let at_k = break_at(k, p, d);
+            let a = segment(p, at_k, cell);
+            let b = segment(at_k, end, cell_after(k, cell));
+            Track::new([a, b, b, b], 2)
+        }
+        Faces::Two(k, l) => {
+            let at_k = break_at(k, p, d);
+            let at_l = break_at(l, p, d);
+            let next = cell_after(k, cell);
+            let a = segment(p, at_k, cell);
+            let b = segment(at_k, at_l, next);
+            let c = segment(at_l, end, cell_after(l, next));
+            Track::new([a, b, c, c], 3)
+        }
+        Faces::Three(k, l, m) => {
+            let at_k = break_at(k, p, d);
+            let at_l = break_at(l, p, d);
+            let at_m = break_at(m, p, d);
+            let next = cell_after(k, cell);
+            let third = cell_after(l, next);
+            let a = segment(p, at_k, cell);
+            let b = segment(at_k, at_l, next);
+            let c = segment(at_l, at_m, third);
+            let e = segment(at_m, end, cell_after(m, third));
+            Track::new([a, b, c, e], 4)
+        }
+    }
+}
+
+#[cfg(test)]
+mod tests {
+    use super::*;
+    use std::process::Abort;
+
+    /// The path from `p0` by `d` has these pieces.
+    fn expect_path(rt: &impl Abort, p0: [u32; 3], d: [i32; 3], pieces: &[Segment])
+        requires start { EachIndex p0 (λ k. slice_index p0 k < 2 ^ 30) }
+        requires small { IsMove 4096 (spot d) }
+    {
+        let track = split(p0, d);
+        let segments = track.segments();
+        assert_eq!(rt; segments.len(), pieces.len());
+        for (segment, piece) in segments.iter().zip(pieces) {
+            assert_eq!(rt; segment.from, piece.from);
+            assert_eq!(rt; segment.to, piece.to);
+            assert_eq!(rt; segment.cell, piece.cell);
+        }
+    }
+
+    #[test]
+    fn break_points_are_rounded_towards_the_start(rt: HostRuntime) {
+        let up = [
+            segment([4000, 100, 0], [4096, 101, 0], [0, 0, 0]),
+            segment([4096, 101, 0], [4200, 103, 0], [1, 0, 0]),
+        ];
+        expect_path(&rt, [4000, 100, 0], [200, 3, 0], &up);
+        let down = [
+            segment([4000, 100, 0], [4096, 99, 0], [0, 0, 0]),
+            segment([4096, 99, 0], [4200, 97, 0], [1, 0, 0]),
+        ];
+        expect_path(&rt, [4000, 100, 0], [200, -3, 0], &down);
+    }
+
+    #[test]
+    fn faces_are_passed_by_fraction_and_then_by_axis(rt: HostRuntime) {
+        let corner = [4096; 3];
+        let through = [
+            segment([4090; 3], corner, [0, 0, 0]),
+            segment(corner, corner, [1, 0, 0]),
+            segment(corner, corner, [1, 1, 0]),
+            segment(corner, [4102; 3], [1, 1, 1]),
+        ];
+        expect_path(&rt, [4090; 3], [12; 3], &through);
+        let back = [
+            segment(corner, corner, [1, 1, 1]),
+            segment(corner, corner, [0, 1, 1]),
+            segment(corner, corner, [0, 0, 1]),
+            segment(corner, [4095; 3], [0, 0, 0]),
+        ];
+        expect_path(&rt, [4096; 3], [-1; 3], &back);
+        let y_first = [
+            segment([4000, 4090, 0], [4060, 4096, 0], [0, 0, 0]),
+            segment([4060, 4096, 0], [4096, 4099, 0], [0, 1, 0]),
+            segment([4096, 4099, 0], [4200, 4110, 0], [1, 1, 0]),
+        ];
+        expect_path(&rt, [4000, 4090, 0], [200, 20, 0], &y_first);
+    }
+
+    #[test]
+    fn a_face_at_an_end_is_passed(rt: HostRuntime) {
+        let at_start = [
+            segment([8192, 0, 0], [8192, 0, 0], [2, 0, 0]),
+            segment([8192, 0, 0], [4096, 0, 0], [1, 0, 0]),
+        ];
+        expect_path(&rt, [8192, 0, 0], [-4096, 0, 0], &at_start);
+        let at_end = [
+            segment([0, 0, 0], [4096, 0, 0], [0, 0, 0]),
+            segment([4096, 0, 0], [4096, 0, 0], [1, 0, 0]),
+        ];
+        expect_path(&rt, [0, 0, 0], [4096, 0, 0], &at_end);
+    }
+
+    #[test]
+    fn nothing_is_wrapped(rt: HostRuntime) {
+        let out = [
+            segment([100, 0, 0], [0, 0, 0], [0, 0, 0]),
+            segment([0, 0, 0], [-100, 0, 0], [-1, 0, 0]),
+        ];
+        expect_path(&rt, [100, 0, 0], [-200, 0, 0], &out);
+    }
+
+    #[test]
+    fn a_particle_that_stands_still_has_one_segment(rt: HostRuntime) {
+        let still = [segment([4096, 5, 9000], [4096, 5, 9000], [1, 0, 2])];
+        expect_path(&rt, [4096, 5, 9000], [0, 0, 0], &still);
+    }
+}
