@@ -1,0 +1,61 @@
+-- The flux of a piece by its cell's corners: a piece in a closed cell has a weight for the four edges
+-- along each axis at the cell's corners, and for no others (J. Villasenor and O. Buneman, Comput. Phys.
+-- Commun. 69, 1992, 306: the four boundary currents of a cell).
+use Rattle.std.specs.Prelude.{ℤ, pos, ℕ, ◌+ℤ◌, ◌-ℤ◌, ◌*ℤ◌, Bool, true, false, ◌&&◌, if◌then◌else◌}
+use Rattle.pic_num.specs.declared.space.Axis.{Axis}
+use Rattle.pic_num.specs.declared.space.Axis.TheVariants.{X, Y, Z}
+use Rattle.pic_num.specs.Flux.{simpson}
+use Rattle.pic_num.specs.Space.{Spot, along, next_axis}
+use Rattle.pic_grid.specs.Path.{same_int}
+use Rattle.pic_grid.specs.Piece.{Piece}
+
+-- whether two axes are one
+abbrev pub same_axis : Axis → Axis → Bool
+same_axis X X = true
+same_axis X Y = false
+same_axis X Z = false
+same_axis Y X = false
+same_axis Y Y = true
+same_axis Y Z = false
+same_axis Z X = false
+same_axis Z Y = false
+same_axis Z Z = true
+
+-- whether two cells are one
+abbrev pub same_spot : Spot → Spot → Bool
+same_spot p q = same_int p.x q.x && (same_int p.y q.y && same_int p.z q.z)
+
+-- v at the edge along axis at the cell there, and 0 at every other edge
+unfoldable pub at_edge : Axis → Spot → ℤ → Axis → Spot → ℤ
+at_edge axis there v a c = if same_axis axis a && same_spot c there then v else pos 0
+
+-- f at the edges along axis, and 0 at the others
+unfoldable pub on_axis : Axis → (Spot → ℤ) → Axis → Spot → ℤ
+on_axis axis f a c = if same_axis axis a then f c else pos 0
+
+-- the sum of two, edge by edge
+unfoldable pub both : (Axis → Spot → ℤ) → (Axis → Spot → ℤ) → Axis → Spot → ℤ
+both f g a c = f a c +ℤ g a c
+
+-- the next cell up along an axis
+abbrev pub raised : Axis → Spot → Spot
+raised X p = record p { x = p.x +ℤ pos 1 }
+raised Y p = record p { y = p.y +ℤ pos 1 }
+raised Z p = record p { z = p.z +ℤ pos 1 }
+
+-- the weight of a coordinate p of the closed cell c for the cell's high face (how far p lies above
+-- the low one), or for its low face (the rest of the side)
+unfoldable pub face_weight : ℕ → Bool → ℤ → ℤ → ℤ
+face_weight side true c p = p -ℤ c *ℤ pos side
+face_weight side false c p = pos side -ℤ (p -ℤ c *ℤ pos side)
+
+-- the flux of a charge q on a piece through the edge along axis at one corner of its cell: high or low
+-- on the next axis, and high or low on the third
+unfoldable pub corner : ℕ → ℤ → Piece → Axis → Bool → Bool → ℤ
+corner side q s axis high_second high_third =
+    let second = next_axis axis in
+    let third = next_axis second in
+    let weight = λ (high : Bool) (a : Axis) (p : Spot). face_weight side high (along a s.cell) (along a p) in
+    simpson q (along axis s.to -ℤ along axis s.from)
+    (weight high_second second s.from) (weight high_second second s.to)
+    (weight high_third third s.from) (weight high_third third s.to)
