@@ -1,0 +1,103 @@
+-- The stop of a phase: what it says of the new values, and how a walk finds it.
+use Rattle.std.proofs.Common.{◌≡◌, ℕ, ℤ, ◌+◌, ◌*◌, ◌^◌, ◌<◌, ◌≤◌, Bool, true, false, cond, ltb, Option, Some, None, Result, OnOk, unsigned_abs, refl, sym, ◌∙◌, ap, subst, arith}
+use Rattle.std.specs.Option.{option_or}
+use Rattle.std.specs.List.{range_with_len}
+use borrow.Author.Tests.{ltb-false}
+use Rattle.pic_num.specs.declared.space.Axis.{Axis}
+use Rattle.pic_num.specs.First.{first_of}
+use Rattle.pic_num.specs.Multiplier.{Multiplier}
+use Rattle.pic_num.specs.Push.{unless}
+use Rattle.pic_num.specs.Rounding.{scaled}
+use Rattle.pic_num.specs.Space.{Triple}
+use Rattle.pic_num.proofs.Firsts.{first_of_next, first_of_none}
+use Rattle.pic_grid.specs.declared.stops.Phase.{Phase}
+use Rattle.pic_grid.specs.declared.stops.Stop.{Stop}
+use Rattle.pic_grid.specs.Places.{IsWithin, count_of, place_of}
+use Rattle.pic_grid.specs.Zones.{BlockValues, inner_of, inner_at, outer_of}
+use Rattle.pic_grid.proofs.Places.{place_of_below, axis_of-place_of, cell_of-place_of}
+use Rattle.pic_grid.proofs.Zones.{inner_within}
+use Rattle.pic_field.proofs.Walks.{IsHere}
+use Rattle.pic_field.specs.FieldPhases.{fault_of, cell_above, lowest, fault_at, least_fault, IsBounded, AllBounded}
+
+-- neither of two tests holds where neither answer is given
+neither : (t u : Bool) (r s : Stop) → cond t (Some r) (cond u (Some s) None) ≡ None → (t ≡ false) × (u ≡ false)
+neither true u r s h = cc
+neither false true r s h = cc
+neither false false r s h = (refl, refl)
+
+-- a value that stops nothing passes neither bound
+pub fault_of-none : (phase : Phase) (by : Multiplier) (a : Axis) (p : Triple) (v : ℤ) → fault_of phase by a p v ≡ None → IsBounded by v
+unfolding fault_of
+fault_of-none phase by a p v none =
+    let both = neither (ltb (2 ^ 90) (unsigned_abs v)) (ltb (2 ^ 44) (unsigned_abs (scaled v by))) _ _ none in
+    let value : unsigned_abs v ≤ 2 ^ 90 = ltb-false (2 ^ 90) (unsigned_abs v) both.0 in
+    let force : unsigned_abs (scaled v by) ≤ 2 ^ 44 = ltb-false (2 ^ 44) (unsigned_abs (scaled v by)) both.1 in
+    record { value = record { size = value }; force = record { size = force } }
+
+-- the stop at a place's number is that of the place
+pub fault_at-place_of : (phase : Phase) (by : Multiplier) (low size : Triple) (f : Axis → Triple → ℤ) (a : Axis) (p : Triple) → IsWithin p size
+    → fault_at phase by low size f (place_of size a p) ≡ fault_of phase by a (cell_above low p) (f a (cell_above low p))
+fault_at-place_of phase by low size f a p w =
+    let axis = axis_of-place_of size a p w in
+    let cell = cell_of-place_of size a p w in
+    λ i. fault_of phase by (axis i) (cell_above low (cell i)) (f (axis i) (cell_above low (cell i)))
+
+-- where a box has no stop, no place of it has one
+pub least_fault-none : (phase : Phase) (by : Multiplier) (low size : Triple) (f : Axis → Triple → ℤ) → least_fault phase by low size f ≡ None
+    → (a : Axis) (p : Triple) → IsWithin p size → fault_of phase by a (cell_above low p) (f a (cell_above low p)) ≡ None
+unfolding least_fault
+least_fault-none phase by low size f none a p w =
+    let below : place_of size a p < 3 * count_of size = place_of_below size a p w in
+    sym (fault_at-place_of phase by low size f a p w)
+    ∙ first_of_none (fault_at phase by low size f) 0 (3 * count_of size) none (place_of size a p) (omega arith) (omega arith)
+
+-- so its values pass neither bound
+pub least_fault-bounded : (phase : Phase) (by : Multiplier) (low size : Triple) (f : Axis → Triple → ℤ) → least_fault phase by low size f ≡ None
+    → (a : Axis) (p : Triple) → IsWithin p size → IsBounded by (f a (cell_above low p))
+least_fault-bounded phase by low size f none a p w =
+    fault_of-none phase by a (cell_above low p) (f a (cell_above low p)) (least_fault-none phase by low size f none a p w)
+
+-- the stop of the places below i
+unfoldable pub fault_below : Phase → Multiplier → (Axis → Triple → ℤ) → BlockValues → ℕ → Option Stop
+fault_below phase by f old i = first_of (fault_at phase by (lowest old.low) old.size f) (range_with_len 0 i)
+
+pub fault_below-none : (phase : Phase) (by : Multiplier) (f : Axis → Triple → ℤ) (old : BlockValues) → fault_below phase by f old 0 ≡ None
+unfolding fault_below first_of
+fault_below-none phase by f old = refl
+
+-- a walk's step
+pub fault_below-more : (phase : Phase) (by : Multiplier) (f : Axis → Triple → ℤ) (old : BlockValues) (n : Triple) (i : ℕ) (a : Axis) (p q : Triple) (stop found : Option Stop)
+    → IsHere old n i a p q → stop ≡ fault_below phase by f old i → found ≡ fault_of phase by a q (f a q)
+    → option_or stop found ≡ fault_below phase by f old (i + 1)
+unfolding fault_below
+fault_below-more phase by f old n i a p q stop found h before here =
+    let g = fault_at phase by (lowest old.low) old.size f in
+    let last : found ≡ g i = here ∙ (λ j. fault_of phase by a (h.at j) (f a (h.at j))) ∙ sym (fault_at-place_of phase by (lowest old.low) old.size f a p h.within) ∙ ap g h.number in
+    let same : i ≡ 0 + i = omega arith in
+    (λ j. option_or (before j) (last j))
+    ∙ ap (λ (k : ℕ). option_or (first_of g (range_with_len 0 i)) (g k)) same
+    ∙ sym (first_of_next g 0 i)
+
+-- at its end
+pub fault_below-all : (phase : Phase) (by : Multiplier) (f : Axis → Triple → ℤ) (old : BlockValues) (i : ℕ) → i ≡ 3 * count_of old.size
+    → fault_below phase by f old i ≡ least_fault phase by (lowest old.low) old.size f
+unfolding fault_below least_fault
+fault_below-all phase by f old i end =
+    ap (λ (k : ℕ). first_of (fault_at phase by (lowest old.low) old.size f) (range_with_len 0 k)) end
+
+on_ok : (o : Option Stop) (r : Result (Unit {0}) Stop) (P : Type 0) → r ≡ unless o tt → (o ≡ None → P) → OnOk r P
+on_ok None r P e h = subst (λ (s : Result (Unit {0}) Stop). OnOk s P) (sym e) (h refl)
+on_ok (Some stop) r P e h = subst (λ (s : Result (Unit {0}) Stop). OnOk s P) (sym e) tt
+
+-- a phase that is Ok leaves a block of bounded values
+pub bounded_on_ok : (phase : Phase) (by : Multiplier) (f : Axis → Triple → ℤ) (old new : BlockValues) (r : Result (Unit {0}) Stop)
+    → new.low ≡ old.low → new.size ≡ old.size
+    → ((a : Axis) (p : Triple) → IsWithin p old.size → inner_at new a p ≡ f a (outer_of old.low p))
+    → r ≡ unless (least_fault phase by (lowest old.low) old.size f) tt → OnOk r (AllBounded by new)
+bounded_on_ok phase by f old new r low size values stop =
+    on_ok (least_fault phase by (lowest old.low) old.size f) r (AllBounded by new) stop (λ none. record {
+      bounded = λ a c inside.
+          let p = inner_of new.low c in
+          let w : IsWithin p old.size = subst (λ (m : Triple). IsWithin p m) size (inner_within new.low new.size c inside) in
+          subst (IsBounded by) (sym (values a p w)) (least_fault-bounded phase by (lowest old.low) old.size f none a p w);
+    })

@@ -1,0 +1,6 @@
+pub mod Numbers
+pub mod Blocks
+pub mod Walks
+pub mod LeastFaults
+pub mod Whole
+pub mod Small

@@ -1,0 +1,31 @@
+use Rattle.std.proofs.Common.{◌≡◌, ◌^◌, ℤ, ◌-ℤ◌, to_z, of_z, sym, ◌∙◌, ap, subst}
+use mir.Syntax.{w128}
+use Rattle.pic_num.specs.Sizes.{IsAtMost}
+use Rattle.pic_num.specs.Space.{Spot, triple}
+use Rattle.pic_num.proofs.Sizes.{codes, code_is}
+use Rattle.pic_grid.specs.Parts.{spot_of}
+use Rattle.pic_grid.specs.Zones.{edge_at, with_edge}
+use Rattle.pic_field.specs.FieldPhases.{half_of, half_in, fault_of}
+use Rattle.pic_field.proofs.magnetic.half_place.Goals as goal
+use Rattle.pic_field.proofs.magnetic.half_place.Goals.{After-fault}
+
+-- the number that is set
+new_value : (c : After-fault) → to_z w128 (of_z w128 (to_z w128 (of_z w128 c.at.result) -ℤ to_z w128 (of_z w128 c.curl_of_e.result)))
+    ≡ half_in c.args.scales.now c.args.e.now c.args.b.now c.args.axis (triple c.args.cell)
+unfolding half_of
+new_value c =
+    let b = c.args.b.now in
+    let old : c.at.result ≡ edge_at b c.args.axis (spot_of (triple c.args.cell)) = c.at.ensures ∙ ap (λ (s : Spot). edge_at b c.args.axis s) c.signed-at.ensures in
+    let small : IsAtMost c.at.result (2 ^ 90) = subst (λ (z : ℤ). IsAtMost z (2 ^ 90)) (sym old) c.requires.small in
+    code_is (search codes depth 12) tt ∙ (λ i. old i -ℤ c.curl_of_e.ensures.value i)
+
+pub returns-clause-after : goal.returns-clause-after
+returns-clause-after c = c.set.ensures.after ∙ (λ i. with_edge c.args.b.now c.args.axis (c.signed-at.ensures i) (new_value c i))
+
+pub returns-clause-stored : goal.returns-clause-stored
+returns-clause-stored c =
+    sym (ap (λ (s : Spot). edge_at c.set.new.self c.args.axis s) c.signed-at.ensures) ∙ c.set.ensures.stored ∙ new_value c
+
+pub returns-clause-stop : goal.returns-clause-stop
+returns-clause-stop c =
+    c.fault.ensures ∙ ap (fault_of c.args.phase c.args.scales.now.b_force c.args.axis (triple c.args.cell)) (new_value c)

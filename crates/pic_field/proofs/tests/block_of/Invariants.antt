@@ -1,0 +1,11 @@
+use Rattle.std.proofs.Common.{◌≡◌, ◌^◌}
+use Rattle.pic_num.specs.Space.{triple, spot}
+use Rattle.pic_grid.specs.Zones.{AllAtMost}
+use Rattle.pic_field.proofs.tests.block_of.Given as goal
+
+abbrev pub invariant-loop-axis : goal.invariant-loop-axis
+invariant-loop-axis l = record {
+  low : l.block.low ≡ spot l.fn.zone.low;
+  size : l.block.size ≡ triple l.fn.zone.size;
+  small : AllAtMost (2 ^ 90) l.block;
+}

@@ -1,0 +1,11 @@
+use Rattle.std.proofs.Common.{◌^◌, sym, ◌∙◌, ap, subst}
+use Rattle.pic_grid.specs.Fields.{Field}
+use Rattle.pic_field.specs.FieldPhases.{EachAtMost}
+use Rattle.pic_field.proofs.Small.{each_zeros}
+use Rattle.pic_field.proofs.tests.lattice_of.Goals as goal
+
+pub loop-axis-init : goal.loop-axis-init
+loop-axis-init c = record {
+  cells = ap (λ (f : Field). f.cells) c.in_ok-field.ensures ∙ c.new.ensures;
+  small = subst (EachAtMost (2 ^ 90)) (sym c.in_ok-field.ensures) (each_zeros (2 ^ 90) _ _);
+}

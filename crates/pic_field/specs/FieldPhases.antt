@@ -1,0 +1,81 @@
+-- The field phases of a step on Yee's staggered grid (K. S. Yee, IEEE Trans. Antennas Propag. 14,
+-- 1966, 302): B and E advance in turn, each by the curl of the other. A value is scaled and rounded
+-- once and only then differenced. The roundings, the two bounds of a new value and the order of
+-- stops are this project's profile.
+use Rattle.std.specs.Prelude.{ℤ, ℕ, ◌+◌, ◌*◌, ◌/◌, ◌%◌, ◌^◌, ◌+ℤ◌, ◌-ℤ◌, unsigned_abs, nat_lt, if◌then◌else◌, [], ◌∷◌, Option, Some, None}
+use Rattle.std.specs.List.{range_with_len}
+use Rattle.pic_num.specs.declared.multiplier.Scales.{Scales}
+use Rattle.pic_num.specs.declared.space.Axis.{Axis}
+use Rattle.pic_num.specs.First.{first_of}
+use Rattle.pic_num.specs.Multiplier.{Multiplier}
+use Rattle.pic_num.specs.Rounding.{scaled}
+use Rattle.pic_num.specs.Sizes.{IsAtMost}
+use Rattle.pic_num.specs.Space.{Triple, Spot}
+use Rattle.pic_grid.specs.declared.stops.Bound.TheVariants.{Value, Force}
+use Rattle.pic_grid.specs.declared.stops.Phase.{Phase}
+use Rattle.pic_grid.specs.declared.stops.Stop.{Stop}
+use Rattle.pic_grid.specs.declared.stops.Stop.TheVariants.{Field as field_stop}
+use Rattle.pic_grid.specs.Differences.{curl_b, curl_e}
+use Rattle.pic_grid.specs.Fields.{Field, value_at}
+use Rattle.pic_grid.specs.Parts.{spot_of}
+use Rattle.pic_grid.specs.Places.{IsWithin, count_of, cell_of, axis_of}
+use Rattle.pic_grid.specs.Zones.{BlockValues, InZone, edge_at}
+
+-- half a step of B at a place, from its old value v: v less the curl of the scaled E
+unfoldable pub half_of : Scales → Field → Axis → Triple → ℤ → ℤ
+half_of scales e a p v = v -ℤ curl_e e.cells (λ c q. scaled (value_at e c q) scales.e_to_b) a p
+
+-- a step of E at a place, from its old value v and the current j there: v and the curl of the scaled
+-- B, less j
+unfoldable pub full_of : Scales → Field → Axis → Triple → ℤ → ℤ → ℤ
+full_of scales b a p v j = v +ℤ curl_b b.cells (λ c q. scaled (value_at b c q) scales.b_to_e) a p -ℤ j
+
+-- the values of a block after half a step of B, by axis and cell of the grid
+abbrev pub half_in : Scales → Field → BlockValues → Axis → Triple → ℤ
+half_in scales e old a p = half_of scales e a p (edge_at old a (spot_of p))
+
+-- the values of a block after a step of E, by axis and cell of the grid
+abbrev pub full_in : Scales → Field → BlockValues → BlockValues → Axis → Triple → ℤ
+full_in scales b j old a p = full_of scales b a p (edge_at old a (spot_of p)) (edge_at j a (spot_of p))
+
+-- what stops a phase at a new value v: it is above 2^90 in size, else its force value is above 2^44.
+-- The stop names the number that is too large.
+unfoldable pub fault_of : Phase → Multiplier → Axis → Triple → ℤ → Option Stop
+fault_of phase by a p v =
+    let cell = p.x ∷ p.y ∷ p.z ∷ [] in
+    let force = scaled v by in
+    if nat_lt (2 ^ 90) (unsigned_abs v) then Some (field_stop phase Value a cell v)
+    else (if nat_lt (2 ^ 44) (unsigned_abs force) then Some (field_stop phase Force a cell force) else None)
+
+-- the cell of the grid that lies p above low
+abbrev pub cell_above : Triple → Triple → Triple
+cell_above low p = record { x = low.x + p.x; y = low.y + p.y; z = low.z + p.z }
+
+-- the lowest cell of a zone on the grid
+abbrev pub lowest : Spot → Triple
+lowest low = record { x = unsigned_abs low.x; y = unsigned_abs low.y; z = unsigned_abs low.z }
+
+-- the stop at the place of a number, of new values f by axis and cell of the grid, in the box of
+-- size cells from low on
+abbrev pub fault_at : Phase → Multiplier → Triple → Triple → (Axis → Triple → ℤ) → ℕ → Option Stop
+fault_at phase by low size f i =
+    let a = axis_of (i / count_of size) in
+    let p = cell_above low (cell_of size (i % count_of size)) in
+    fault_of phase by a p (f a p)
+
+-- the stop of that box: that of its least place (the axis first, then z, then y, then x)
+unfoldable pub least_fault : Phase → Multiplier → Triple → Triple → (Axis → Triple → ℤ) → Option Stop
+least_fault phase by low size f = first_of (fault_at phase by low size f) (range_with_len 0 (3 * count_of size))
+
+-- every value of a lattice is at most most in size
+pub record EachAtMost (most : ℕ) (f : Field) : Type 0 where
+  pub at_most : (a : Axis) (p : Triple) → IsWithin p f.cells → IsAtMost (value_at f a p) most
+
+-- a value passes neither bound: it is at most 2^90 in size, and its force value at most 2^44
+pub record IsBounded (by : Multiplier) (v : ℤ) : Type 0 where
+  pub value : IsAtMost v (2 ^ 90)
+  pub force : IsAtMost (scaled v by) (2 ^ 44)
+
+-- no value of a block passes a bound
+pub record AllBounded (by : Multiplier) (b : BlockValues) : Type 0 where
+  pub bounded : (a : Axis) (c : Spot) → InZone b.low b.size c → IsBounded by (edge_at b a c)

@@ -1,0 +1,16 @@
+//! The field phases of a step, and force values, block by block.
+#![tactic(auto)]
+
+mod curls;
+mod electric;
+mod faults;
+mod forces;
+mod magnetic;
+mod places;
+
+pub use electric::full_e;
+pub use forces::force;
+pub use magnetic::half_b;
+
+#[cfg(test)]
+mod tests;

@@ -1,0 +1,90 @@
+ghost use Rattle.std.specs.Prelude.{◌≡◌, ◌+◌, ◌*◌, ◌<◌};
+ghost use Rattle.pic_num.specs.Space.{triple, spot, axis_number};
+ghost use Rattle.pic_grid.specs.Parts.{spot_of};
+ghost use Rattle.pic_grid.specs.Places.{IsSize, IsWithin, count_of, place_of};
+ghost use Rattle.pic_grid.specs.Zones.{InZone, IsAmongCells, outer_of};
+
+use pic_grid::{Cells, Zone};
+use pic_num::Axis;
+
+/// A place of a block: the component's axis, and how far its cell lies above the block's lowest.
+#[derive(Clone, Copy)]
+pub(crate) struct Place {
+    pub(crate) axis: Axis,
+    pub(crate) inner: [u32; 3],
+}
+
+impl Place {
+    /// The first place of every block.
+    pub(crate) fn first() -> Place
+        ensures axis { axis_number result.axis ≡ 0 }
+        ensures inner { triple result.inner ≡ record { x = 0; y = 0; z = 0 } }
+    {
+        Place {
+            axis: Axis::X,
+            inner: [0; 3],
+        }
+    }
+
+    /// The place after this one in a block of `size` layers, x fastest, then y, z and the axis.
+    pub(crate) fn following(self, size: [u32; 3]) -> Place
+        requires layers { IsSize (triple size) }
+        requires within { IsWithin (triple self.inner) (triple size) }
+        ensures within { IsWithin (triple result.inner) (triple size) }
+        ensures number { place_of (triple size) self.axis (triple self.inner) + 1 < 3 * count_of (triple size)
+            → place_of (triple size) result.axis (triple result.inner) ≡ place_of (triple size) self.axis (triple self.inner) + 1 }
+    {
+        let axis = self.axis;
+        let [nx, ny, nz] = size;
+        let [x, y, z] = self.inner;
+        if x + 1 < nx {
+            let inner = [x + 1, y, z];
+            return Place { axis, inner };
+        }
+        if y + 1 < ny {
+            let inner = [0, y + 1, z];
+            return Place { axis, inner };
+        }
+        if z + 1 < nz {
+            let inner = [0, 0, z + 1];
+            return Place { axis, inner };
+        }
+        Place {
+            axis: axis.next(),
+            inner: [0, 0, 0],
+        }
+    }
+}
+
+/// How many places a block of `size` layers has.
+pub(crate) fn place_count(size: [u32; 3]) -> u32
+    requires { IsSize (triple size) }
+    ensures { result ≡ 3 * count_of (triple size) }
+{
+    let [nx, ny, nz] = size;
+    3 * (nx * ny * nz)
+}
+
+/// The cell of the grid that lies `inner` above the lowest of a zone.
+pub(crate) fn cell_in(cells: Cells, zone: Zone, inner: [u32; 3]) -> [u32; 3]
+    requires among { IsAmongCells (spot zone.low) (triple zone.size) cells }
+    requires within { IsWithin (triple inner) (triple zone.size) }
+    ensures value { triple result ≡ outer_of (spot zone.low) (triple inner) }
+    ensures within { IsWithin (triple result) cells }
+    ensures inside { InZone (spot zone.low) (triple zone.size) (spot_of (triple result)) }
+{
+    let [_, _, _] = cells.n;
+    let [low_x, low_y, low_z] = zone.low;
+    let [x, y, z] = inner;
+    [low_x as u32 + x, low_y as u32 + y, low_z as u32 + z]
+}
+
+/// A cell of the grid as one that isn't wrapped.
+pub(crate) fn signed(cells: Cells, cell: [u32; 3]) -> [i32; 3]
+    requires { IsWithin (triple cell) cells }
+    ensures { spot result ≡ spot_of (triple cell) }
+{
+    let [_, _, _] = cells.n;
+    let [x, y, z] = cell;
+    [x as i32, y as i32, z as i32]
+}

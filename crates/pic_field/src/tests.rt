@@ -1,0 +1,284 @@
+ghost use Rattle.std.specs.Prelude.{◌≡◌, ◌^◌, IfOk};
+ghost use Rattle.pic_num.specs.Sizes.{IsAtMost};
+ghost use Rattle.pic_num.specs.Space.{triple, spot};
+ghost use Rattle.pic_grid.specs.Places.{IsCells, IsWithin};
+ghost use Rattle.pic_grid.specs.Zones.{IsZone, InZone, IsAmongCells, IsShaped, AllAtMost};
+ghost use Rattle.pic_field.specs.FieldPhases.{EachAtMost};
+
+use crate::{force, full_e, half_b};
+use pic_grid::{Block, Bound, Cells, Lattice, Phase, Stop, Zone};
+use pic_num::{Axis, Mult, NoMemory, Scales};
+use std::alloc::Global;
+
+// a value of a lattice, and one of a block
+type Value = (Axis, [u32; 3], i128);
+
+type Edge = (Axis, [i32; 3], i128);
+
+// A lattice of zeros but for these values.
+fn lattice_of(alloc: Global, n: [u32; 3], values: &[Value]) -> Result<Lattice, NoMemory>
+    requires { IsCells (triple n) }
+    ensures cells { IfOk result (λ f. f.cells ≡ triple n) }
+    ensures small { IfOk result (EachAtMost (2 ^ 90)) }
+{
+    let mut field = Lattice::new(alloc, Cells::new(n), [1; 3])?;
+    for (axis, cell, value) in values {
+        put(&mut field, *axis, *cell, *value);
+    }
+    Ok(field)
+}
+
+fn put(field: &mut Lattice, axis: Axis, cell: [u32; 3], value: i128)
+    requires { EachAtMost (2 ^ 90) field.old }
+    ensures cells { field.new.cells ≡ field.old.cells }
+    ensures small { EachAtMost (2 ^ 90) field.new }
+{
+    let [nx, ny, nz] = field.cells().numbers();
+    let [x, y, z] = cell;
+    if x >= nx || y >= ny || z >= nz {
+        return;
+    }
+    if value.unsigned_abs() > 1 << 90 {
+        return;
+    }
+    field.set(axis, cell, value);
+}
+
+// A block of zeros but for these values.
+fn block_of(alloc: Global, zone: Zone, values: &[Edge]) -> Result<Block, NoMemory>
+    requires { IsZone (spot zone.low) (triple zone.size) }
+    ensures low { IfOk result (λ b. b.low ≡ spot zone.low) }
+    ensures size { IfOk result (λ b. b.size ≡ triple zone.size) }
+    ensures small { IfOk result (AllAtMost (2 ^ 90)) }
+{
+    let mut block = Block::new(alloc, zone)?;
+    for (axis, cell, value) in values {
+        put_edge(&mut block, *axis, *cell, *value);
+    }
+    Ok(block)
+}
+
+fn put_edge(block: &mut Block, axis: Axis, cell: [i32; 3], value: i128)
+    requires { AllAtMost (2 ^ 90) block.old }
+    ensures shape { IsShaped block.new block.old }
+    ensures small { AllAtMost (2 ^ 90) block.new }
+{
+    if !block.has(cell) {
+        return;
+    }
+    if value.unsigned_abs() > 1 << 90 {
+        return;
+    }
+    block.set(axis, cell, value);
+}
+
+// the value of a block at a cell of its zone
+fn read(block: &Block, axis: Axis, cell: [i32; 3]) -> i128 {
+    if block.has(cell) {
+        block.at(axis, cell)
+    } else {
+        0
+    }
+}
+
+// A step of E from zeros on all cells.
+fn full_step(
+    alloc: Global,
+    scales: &Scales,
+    n: [u32; 3],
+    faces: &[Value],
+    current: &[Edge],
+) -> Result<(Block, Result<(), Stop>), NoMemory>
+    requires { IsCells (triple n) }
+{
+    let zone = Zone {
+        low: [0; 3],
+        size: n,
+    };
+    let b = lattice_of(alloc, n, faces)?;
+    let j = block_of(alloc, zone, current)?;
+    let mut e = block_of(alloc, zone, &[])?;
+    let answer = full_e(scales, &b, &j, &mut e);
+    Ok((e, answer))
+}
+
+// Half a step of B on a zone, from these values.
+fn half_step(
+    alloc: Global,
+    scales: &Scales,
+    zone: Zone,
+    edges: &[Value],
+    faces: &[Edge],
+) -> Result<(Block, Result<(), Stop>), NoMemory>
+    requires among { IsAmongCells (spot zone.low) (triple zone.size) (record { x = 4; y = 4; z = 4 }) }
+    requires limits { IsZone (spot zone.low) (triple zone.size) }
+{
+    let e = lattice_of(alloc, [4, 4, 4], edges)?;
+    let mut b = block_of(alloc, zone, faces)?;
+    let answer = half_b(scales, &e, &mut b, Phase::Half1);
+    Ok((b, answer))
+}
+
+fn scales_of(e_to_b: Mult, b_to_e: Mult, e_force: Mult, b_force: Mult) -> Scales {
+    Scales {
+        e_to_b,
+        b_to_e,
+        e_force,
+        b_force,
+    }
+}
+
+// E of a vacuum step from one face alone, Bz(0, 0, 0) = 8.
+fn around_one_face(axis: Axis, cell: [i32; 3]) -> i128 {
+    match (axis, cell) {
+        (Axis::X, [0, 0, 0]) => 4,
+        (Axis::X, [0, 1, 0]) => -4,
+        (Axis::Y, [0, 0, 0]) => -4,
+        (Axis::Y, [1, 0, 0]) => 4,
+        _ => 0,
+    }
+}
+
+#[test]
+fn vacuum_step_of_one_face(rt: HostRuntime) -> Result<(), NoMemory> {
+    let none = Mult::new(0, 0);
+    let one = Mult::new(1, 0);
+    let scales = scales_of(none, Mult::new(1, 1), one, one);
+    let faces = [(Axis::Z, [0, 0, 0], 8)];
+    let (e, answer) = full_step(rt.alloc(), &scales, [4, 4, 4], &faces, &[])?;
+    assert_eq!(rt; answer, Ok(()));
+    for axis in [Axis::X, Axis::Y, Axis::Z] {
+        for z in 0..4 {
+            for y in 0..4 {
+                for x in 0..4 {
+                    let cell = [x, y, z];
+                    assert_eq!(rt;
+                        read(&e, axis, cell),
+                        around_one_face(axis, cell),
+                        "{axis:?} {cell:?}"
+                    );
+                }
+            }
+        }
+    }
+    Ok(())
+}
+
+fn electric(bound: Bound, cell: [u32; 3], value: i128) -> Result<(), Stop> {
+    Err(Stop::Field {
+        phase: Phase::Electric,
+        bound,
+        axis: Axis::X,
+        cell,
+        value,
+    })
+}
+
+#[test]
+fn a_step_of_e_stops_at_its_least_place(rt: HostRuntime) -> Result<(), NoMemory> {
+    let none = Mult::new(0, 0);
+    let one = Mult::new(1, 0);
+    let most = Mult::new(2147483647, 0);
+    let double = Mult::new(2, 0);
+    let greatest = 1237940039285380274899124224;
+    let first = [0, 0, 0];
+    let cases = [
+        // the force value alone is too large
+        (
+            (most, double),
+            (Axis::Z, first, 4097),
+            0,
+            electric(Bound::Force, first, 17596481003518),
+            8798240501759,
+        ),
+        // the greatest value, and one more by the current
+        ((one, none), (Axis::Z, first, greatest), 0, Ok(()), greatest),
+        (
+            (one, none),
+            (Axis::Z, first, greatest),
+            -1,
+            electric(Bound::Value, first, greatest + 1),
+            greatest + 1,
+        ),
+    ];
+    for ((b_to_e, e_force), face, current, answer, value) in cases {
+        let scales = scales_of(none, b_to_e, e_force, none);
+        let current = [(Axis::X, [0, 0, 0], current)];
+        let (e, found) = full_step(rt.alloc(), &scales, [2, 2, 2], &[face], &current)?;
+        assert_eq!(rt; found, answer);
+        assert_eq!(rt; read(&e, Axis::X, [0, 0, 0]), value);
+    }
+    // x edges come before all y edges, wherever they lie
+    let scales = scales_of(none, most, one, none);
+    let faces = [(Axis::X, [0, 0, 0], 8193), (Axis::Y, [2, 2, 2], 8193)];
+    let (_, found) = full_step(rt.alloc(), &scales, [4, 4, 4], &faces, &[])?;
+    assert_eq!(rt; found, electric(Bound::Force, [2, 2, 2], -17594333519871));
+    Ok(())
+}
+
+#[test]
+fn half_a_step_of_b(rt: HostRuntime) -> Result<(), NoMemory> {
+    let none = Mult::new(0, 0);
+    let one = Mult::new(1, 0);
+    let low = [0, 0, 0];
+
+    // four edges around a face add up to a force value that is too large
+    let scales = scales_of(Mult::new(2147483647, 0), none, none, one);
+    let zone = Zone {
+        low,
+        size: [4, 4, 4],
+    };
+    let edges = [
+        (Axis::X, [0, 0, 0], 8192),
+        (Axis::X, [0, 1, 0], -8192),
+        (Axis::Y, [0, 0, 0], -8192),
+        (Axis::Y, [1, 0, 0], 8192),
+    ];
+    let (_, found) = half_step(rt.alloc(), &scales, zone, &edges, &[])?;
+    let stop = Stop::Field {
+        phase: Phase::Half1,
+        bound: Bound::Force,
+        axis: Axis::Z,
+        cell: [0, 0, 0],
+        value: -70368744144896,
+    };
+    assert_eq!(rt; found, Err(stop));
+
+    // each value is rounded by itself: 1 and 2 halved are 1 and 1, and -3 halved is -1
+    let scales = scales_of(Mult::new(1, 1), none, none, one);
+    let zone = Zone {
+        low: [1, 0, 2],
+        size: [2, 4, 1],
+    };
+    let edges = [
+        (Axis::Y, [1, 0, 2], 1),
+        (Axis::Y, [2, 0, 2], 2),
+        (Axis::X, [1, 1, 2], -3),
+    ];
+    let faces = [(Axis::Z, [1, 0, 2], 10), (Axis::Z, [2, 3, 2], 7)];
+    let (b, found) = half_step(rt.alloc(), &scales, zone, &edges, &faces)?;
+    assert_eq!(rt; found, Ok(()));
+    for (cell, value) in [
+        ([1, 0, 2], 9),
+        ([1, 1, 2], 1),
+        ([2, 0, 2], 1),
+        ([2, 3, 2], 7),
+    ] {
+        assert_eq!(rt; read(&b, Axis::Z, cell), value, "{cell:?}");
+    }
+    Ok(())
+}
+
+#[test]
+fn force_values_are_rounded_once(rt: HostRuntime) -> Result<(), NoMemory> {
+    let from = lattice_of(rt.alloc(), [4, 4, 4], &[(Axis::X, [3, 3, 3], 5)])?;
+    let zone = Zone {
+        low: [3, 3, 3],
+        size: [1, 1, 1],
+    };
+    let mut to = block_of(rt.alloc(), zone, &[(Axis::Y, [3, 3, 3], 7)])?;
+    force(Mult::new(1, 1), &from, &mut to);
+    assert_eq!(rt; read(&to, Axis::X, [3, 3, 3]), 3);
+    assert_eq!(rt; read(&to, Axis::Y, [3, 3, 3]), 0);
+    Ok(())
+}
