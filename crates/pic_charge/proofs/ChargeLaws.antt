@@ -1,0 +1,157 @@
+-- Laws of the charge of the particles.
+use Rattle.std.proofs.Common.{◌≡◌, ℕ, ◌+◌, ◌*◌, ◌^◌, ◌<◌, ◌≤◌, List, [], ◌∷◌, ◌++◌, length, get_or, take, map, All, inl, inr, refl, sym, ◌∙◌, ap, subst, unsigned_abs, arith}
+use Rattle.std.proofs.Math.IntN.{ℤ, pos, ◌+ℤ◌, ◌-ℤ◌, ◌*ℤ◌}
+use Rattle.std.proofs.Math.Nat.{mul-le-mul_left, mul-le-mul_right, le_trans}
+use Rattle.std.proofs.lemmas.Bool.{cases_lt}
+use Rattle.std.proofs.lemmas.Int.{ints, unsigned_abs-mul}
+use Rattle.std.proofs.lemmas.List.{get_or_past}
+use Rattle.pic_num.specs.declared.motion.Particle.{Particle}
+use Rattle.pic_num.specs.declared.motion.Kind.{Kind}
+use Rattle.pic_num.specs.Sizes.{IsAtMost}
+use Rattle.pic_num.specs.Space.{Triple, triple}
+use Rattle.pic_grid.specs.Hat.{periodic_hat, weight}
+use Rattle.pic_grid.specs.Fields.{NodeValues, node_at}
+use Rattle.pic_grid.specs.Places.{IsWithin}
+use Rattle.pic_grid.specs.PushPhase.{kind_of, no_kind}
+use Rattle.pic_grid.specs.Species.{IsKind}
+use Rattle.pic_grid.specs.Sums.{sum_over}
+use Rattle.pic_grid.proofs.OverLaws.{sum_over-append, sum_over_more, sum_over-map, sum_over_less, sum_over_bound}
+use Rattle.pic_charge.specs.Charge.{share, charge_of}
+use Rattle.pic_charge.specs.Spread.{AreAtMost, Adds}
+
+-- no particles
+pub charge_of-nil : (side : ℕ) (n : Triple) (kinds : List Kind) (node : Triple) → charge_of side n kinds [] node ≡ pos 0
+unfolding charge_of sum_over
+charge_of-nil side n kinds node = refl
+
+-- a particle before others
+pub charge_of-cons : (side : ℕ) (n : Triple) (kinds : List Kind) (x : Particle) (xs : List Particle) (node : Triple)
+    → charge_of side n kinds (x ∷ xs) node ≡ share side n kinds x node +ℤ charge_of side n kinds xs node
+unfolding charge_of sum_over
+charge_of-cons side n kinds x xs node = refl
+
+-- particles after others
+pub charge_of-append : (side : ℕ) (n : Triple) (kinds : List Kind) (xs ys : List Particle) (node : Triple)
+    → charge_of side n kinds (xs ++ ys) node ≡ charge_of side n kinds xs node +ℤ charge_of side n kinds ys node
+unfolding charge_of
+charge_of-append side n kinds xs ys node = sum_over-append (λ x. share side n kinds x node) xs ys
+
+-- a loop's step: one particle more
+pub charge_of_more : (side : ℕ) (n : Triple) (kinds : List Kind) (xs : List Particle) (i : ℕ) (d : Particle) (node : Triple) → i < length xs
+    → charge_of side n kinds (take (i + 1) xs) node ≡ charge_of side n kinds (take i xs) node +ℤ share side n kinds (get_or xs i d) node
+unfolding charge_of
+charge_of_more side n kinds xs i d node below = sum_over_more (λ x. share side n kinds x node) xs i d below
+
+-- particles that are made one by one
+pub charge_of-map : {A : Type 0} (side : ℕ) (n : Triple) (kinds : List Kind) (g : A → Particle) (xs : List A) (node : Triple)
+    → charge_of side n kinds (map g xs) node ≡ sum_over (λ x. share side n kinds (g x) node) xs
+unfolding charge_of
+charge_of-map side n kinds g xs node = sum_over-map (λ x. share side n kinds x node) g xs
+
+-- particles that are changed one by one take their shares away and bring new ones
+pub charge_of_change : (side : ℕ) (n : Triple) (kinds : List Kind) (g : Particle → Particle) (xs : List Particle) (node : Triple)
+    → charge_of side n kinds xs node -ℤ charge_of side n kinds (map g xs) node
+    ≡ sum_over (λ x. share side n kinds x node -ℤ share side n kinds (g x) node) xs
+unfolding charge_of
+charge_of_change side n kinds g xs node =
+    ap (λ (t : ℤ). sum_over (λ x. share side n kinds x node) xs -ℤ t) (sum_over-map (λ x. share side n kinds x node) g xs)
+    ∙ sym (sum_over_less (λ x. share side n kinds x node) (λ x. share side n kinds (g x) node) xs)
+
+-- a share depends on the species and the position alone
+pub share_same : (side : ℕ) (n : Triple) (kinds : List Kind) (x y : Particle) (node : Triple) → x.species ≡ y.species → x.x ≡ y.x
+    → share side n kinds x node ≡ share side n kinds y node
+unfolding share
+share_same side n kinds x y node species place =
+    λ i. pos 12 *ℤ (get_or kinds (species i) no_kind).charge *ℤ pos (weight side n (triple (place i)) node)
+
+-- the charge as the sum that it is
+pub charge_of-is : (side : ℕ) (n : Triple) (kinds : List Kind) (xs : List Particle) (node : Triple)
+    → charge_of side n kinds xs node ≡ sum_over (λ x. share side n kinds x node) xs
+unfolding charge_of
+charge_of-is side n kinds xs node = refl
+
+hat_most : (side len p g : ℕ) → periodic_hat side len p g ≤ side
+unfolding periodic_hat
+hat_most side len p g = omega arith
+
+times_at_most : (a b c d : ℕ) → a ≤ b → c ≤ d → a * c ≤ b * d
+times_at_most a b c d h k = le_trans (mul-le-mul_right c h) (mul-le-mul_left b k)
+
+-- a weight is at most the cube of the side
+pub weight_most : (side : ℕ) (n point node : Triple) → weight side n point node ≤ side * side * side
+unfolding weight
+weight_most side n point node =
+    let on_x : ℕ = periodic_hat side (n.x * side) point.x (node.x * side) in
+    let on_y : ℕ = periodic_hat side (n.y * side) point.y (node.y * side) in
+    let on_z : ℕ = periodic_hat side (n.z * side) point.z (node.z * side) in
+    times_at_most (on_x * on_y) (side * side) on_z side
+    (times_at_most on_x side on_y side (hat_most side (n.x * side) point.x (node.x * side)) (hat_most side (n.y * side) point.y (node.y * side)))
+    (hat_most side (n.z * side) point.z (node.z * side))
+
+-- a species' charge is at most 2^15 in size
+pub kind_most : (k : Kind) → IsKind k → unsigned_abs k.charge ≤ 2 ^ 15
+kind_most k limits = let low = limits.charge_low in let high = limits.charge_high in omega (arith, ints, low, high)
+
+pub kind_of_most : (kinds : List Kind) (x : Particle) → All IsKind kinds → unsigned_abs (kind_of kinds x).charge ≤ 2 ^ 15
+kind_of_most kinds x limits = elim (cases_lt x.species (length kinds)) [
+  | inl below ↦ kind_most (kind_of kinds x) (limits x.species no_kind below)
+  | inr past ↦ subst (λ (k : Kind). unsigned_abs k.charge ≤ 2 ^ 15) (sym (get_or_past kinds x.species no_kind past)) (omega arith)
+]
+
+-- a particle's share is at most 12 * 2^15 times the cube of the side
+pub share_size : (side : ℕ) (n : Triple) (kinds : List Kind) (x : Particle) (node : Triple) → All IsKind kinds
+    → unsigned_abs (share side n kinds x node) ≤ 12 * 2 ^ 15 * (side * side * side)
+unfolding share
+share_size side n kinds x node limits =
+    let q : ℤ = (kind_of kinds x).charge in
+    let w : ℕ = weight side n (triple x.x) node in
+    let small = kind_of_most kinds x limits in
+    let twelve : unsigned_abs (pos 12 *ℤ q) ≤ 12 * 2 ^ 15 = omega (arith, ints, small) in
+    rw (unsigned_abs-mul (pos 12 *ℤ q) (pos w))
+    (times_at_most (unsigned_abs (pos 12 *ℤ q)) (12 * 2 ^ 15) w (side * side * side) twelve (weight_most side n (triple x.x) node))
+
+-- the charge of a node is at most that for each particle
+pub charge_of_size : (side : ℕ) (n : Triple) (kinds : List Kind) (xs : List Particle) (node : Triple) → All IsKind kinds
+    → unsigned_abs (charge_of side n kinds xs node) ≤ length xs * (12 * 2 ^ 15 * (side * side * side))
+unfolding charge_of
+charge_of_size side n kinds xs node limits =
+    sum_over_bound (λ x. share side n kinds x node) xs (12 * 2 ^ 15 * (side * side * side)) (λ x. share_size side n kinds x node limits)
+
+-- with cells of 4096 sub-cells and at most 1048576 particles it is below 2^75
+pub charge_of_most : (n : Triple) (kinds : List Kind) (xs : List Particle) (node : Triple) → All IsKind kinds → length xs ≤ 1048576
+    → IsAtMost (charge_of 4096 n kinds xs node) (2 ^ 75)
+charge_of_most n kinds xs node limits few =
+    let size = charge_of_size 4096 n kinds xs node limits in record { size = omega (arith, size, few) }
+
+-- the nodes hold the charge of particles
+pub record HoldsCharge (side : ℕ) (n : Triple) (kinds : List Kind) (xs : List Particle) (nodes : NodeValues) : Type 0 where
+  pub cells : nodes.cells ≡ n
+  pub values : (p : Triple) → IsWithin p n → node_at nodes p ≡ charge_of side n kinds xs p
+
+pub holds_none : (side : ℕ) (n : Triple) (kinds : List Kind) (nodes : NodeValues) → nodes.cells ≡ n
+    → ((p : Triple) → IsWithin p n → node_at nodes p ≡ pos 0)
+    → HoldsCharge side n kinds [] nodes
+holds_none side n kinds nodes same zeros = record { cells = same; values = λ p within. zeros p within ∙ sym (charge_of-nil side n kinds p) }
+
+pub holds_more : (side : ℕ) (n : Triple) (kinds : List Kind) (xs : List Particle) (i : ℕ) (d : Particle) (old new : NodeValues) → i < length xs
+    → HoldsCharge side n kinds (take i xs) old
+    → Adds old new (share side n kinds (get_or xs i d))
+    → HoldsCharge side n kinds (take (i + 1) xs) new
+holds_more side n kinds xs i d old new below so_far added = record {
+  cells = added.cells ∙ so_far.cells;
+  values = λ p within.
+      let inside : IsWithin p old.cells = subst (λ (m : Triple). IsWithin p m) (sym so_far.cells) within in
+      added.values p inside
+      ∙ ap (λ (t : ℤ). t +ℤ share side n kinds (get_or xs i d) p) (so_far.values p within)
+      ∙ sym (charge_of_more side n kinds xs i d p below);
+}
+
+-- there is room for a particle more
+pub holds_room : (n : Triple) (kinds : List Kind) (xs : List Particle) (nodes : NodeValues) → All IsKind kinds → length xs ≤ 1048576
+    → HoldsCharge 4096 n kinds xs nodes
+    → AreAtMost nodes (2 ^ 75)
+holds_room n kinds xs nodes limits few holds = record {
+  at_node = λ p within.
+      let inside : IsWithin p n = subst (λ (m : Triple). IsWithin p m) holds.cells within in
+      subst (λ (z : ℤ). IsAtMost z (2 ^ 75)) (sym (holds.values p inside)) (charge_of_most n kinds xs p limits few);
+}

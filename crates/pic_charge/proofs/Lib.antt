@@ -1,0 +1,6 @@
+pub mod Spreads
+pub mod Nodes
+pub mod PairLaws
+pub mod ChargeLaws
+pub mod BreakLaws
+pub mod Finds

@@ -1,0 +1,158 @@
+-- What the layers of the sharing of a charge add.
+use Rattle.std.proofs.Common.{◌≡◌, ℕ, ◌+◌, ◌*◌, ◌^◌, ◌≤◌, cond, eqb, true, false, [], ◌∷◌, sym, ◌∙◌, ap, subst, unsigned_abs, arith}
+use Rattle.std.proofs.Math.IntN.{ℤ, pos, ◌+ℤ◌, ◌*ℤ◌}
+use Rattle.std.proofs.Math.Nat.{mul-le-mul_left, mul-le-mul_right, le_trans}
+use Rattle.std.proofs.lemmas.Int.{ints, to_z-of_z, unsigned_abs-mul, fits_signed_from_abs}
+use mir.Syntax.{w128}
+use mir.Val.{to_z, of_z}
+use Rattle.pic_num.proofs.Ring.{ring, reads}
+use Rattle.pic_num.specs.Sizes.{IsAtMost}
+use Rattle.pic_num.specs.Space.{Triple}
+use Rattle.pic_grid.specs.Fields.{NodeValues, node_at}
+use Rattle.pic_grid.specs.Places.{IsWithin}
+use Rattle.pic_charge.specs.declared.pairs.Pair.{Pair}
+use Rattle.pic_charge.specs.Spread.{only_at, weight_in, spread, IsPair, AreAtMost, Adds}
+
+-- a lone value is a multiple of a lone 1
+only_is : (i v j : ℕ) → only_at i v j ≡ v * only_at i 1 j
+only_is i v j = elim (eqb j i) as (λ t. cond t v 0 ≡ v * cond t 1 0) [ true ↦ omega arith | false ↦ omega arith ]
+
+pub only_most : (i v j : ℕ) → only_at i v j ≤ v
+only_most i v j = elim (eqb j i) as (λ t. cond t v 0 ≤ v) [ true ↦ omega arith | false ↦ omega arith ]
+
+pub weight_in_most : (side n : ℕ) (s : Pair) (j : ℕ) → IsPair side n s → weight_in s j ≤ side
+weight_in_most side n s j pair =
+    let low = only_most s.low s.low_weight j in
+    let high = only_most s.high s.high_weight j in
+    let whole = pair.whole in omega (arith, low, high, whole)
+
+weight_in_is : (s : Pair) (j : ℕ) → s.low_weight * only_at s.low 1 j + s.high_weight * only_at s.high 1 j ≡ weight_in s j
+weight_in_is s j = λ i. sym (only_is s.low s.low_weight j) i + sym (only_is s.high s.high_weight j) i
+
+two_x : (a : ℤ) (v w i j g h : ℕ) → (a *ℤ pos v) *ℤ pos (i * g * h) +ℤ (a *ℤ pos w) *ℤ pos (j * g * h) ≡ a *ℤ pos ((v * i + w * j) * g * h)
+two_x a v w i j g h = ring (a ∷ pos v ∷ pos w ∷ pos i ∷ pos j ∷ pos g ∷ pos h ∷ []) (search reads depth 40 fits 9000) tt
+
+two_y : (a : ℤ) (v w i j f h : ℕ) → (a *ℤ pos v) *ℤ pos (f * i * h) +ℤ (a *ℤ pos w) *ℤ pos (f * j * h) ≡ a *ℤ pos (f * (v * i + w * j) * h)
+two_y a v w i j f h = ring (a ∷ pos v ∷ pos w ∷ pos i ∷ pos j ∷ pos f ∷ pos h ∷ []) (search reads depth 40 fits 9000) tt
+
+two_z : (a : ℤ) (v w i j f g : ℕ) → (a *ℤ pos v) *ℤ pos (f * g * i) +ℤ (a *ℤ pos w) *ℤ pos (f * g * j) ≡ a *ℤ pos (f * g * (v * i + w * j))
+two_z a v w i j f g = ring (a ∷ pos v ∷ pos w ∷ pos i ∷ pos j ∷ pos f ∷ pos g ∷ []) (search reads depth 40 fits 9000) tt
+
+-- two nodes make a line
+pub line_sum : (a : ℤ) (s : Pair) (g h : ℕ → ℕ) (p : Triple)
+    → spread (a *ℤ pos s.low_weight) (only_at s.low 1) g h p +ℤ spread (a *ℤ pos s.high_weight) (only_at s.high 1) g h p ≡ spread a (weight_in s) g h p
+unfolding spread
+line_sum a s g h p =
+    two_x a s.low_weight s.high_weight (only_at s.low 1 p.x) (only_at s.high 1 p.x) (g p.y) (h p.z)
+    ∙ ap (λ (t : ℕ). a *ℤ pos (t * g p.y * h p.z)) (weight_in_is s p.x)
+
+-- two lines make a plane
+pub plane_sum : (a : ℤ) (s : Pair) (f h : ℕ → ℕ) (p : Triple)
+    → spread (a *ℤ pos s.low_weight) f (only_at s.low 1) h p +ℤ spread (a *ℤ pos s.high_weight) f (only_at s.high 1) h p ≡ spread a f (weight_in s) h p
+unfolding spread
+plane_sum a s f h p =
+    two_y a s.low_weight s.high_weight (only_at s.low 1 p.y) (only_at s.high 1 p.y) (f p.x) (h p.z)
+    ∙ ap (λ (t : ℕ). a *ℤ pos (f p.x * t * h p.z)) (weight_in_is s p.y)
+
+-- two planes make a box
+pub box_sum : (a : ℤ) (s : Pair) (f g : ℕ → ℕ) (p : Triple)
+    → spread (a *ℤ pos s.low_weight) f g (only_at s.low 1) p +ℤ spread (a *ℤ pos s.high_weight) f g (only_at s.high 1) p ≡ spread a f g (weight_in s) p
+unfolding spread
+box_sum a s f g p =
+    two_z a s.low_weight s.high_weight (only_at s.low 1 p.z) (only_at s.high 1 p.z) (f p.x) (g p.y)
+    ∙ ap (λ (t : ℕ). a *ℤ pos (f p.x * g p.y * t)) (weight_in_is s p.z)
+
+times_at_most : (a b c d : ℕ) → a ≤ b → c ≤ d → a * c ≤ b * d
+times_at_most a b c d h k = le_trans (mul-le-mul_right c h) (mul-le-mul_left b k)
+
+-- how much is added at most to a node
+pub spread_size : (a : ℤ) (f g h : ℕ → ℕ) (p : Triple) (m u v w : ℕ) → IsAtMost a m → f p.x ≤ u → g p.y ≤ v → h p.z ≤ w
+    → unsigned_abs (spread a f g h p) ≤ m * (u * v * w)
+unfolding spread
+spread_size a f g h p m u v w size x y z =
+    rw (unsigned_abs-mul a (pos (f p.x * g p.y * h p.z)))
+    (times_at_most (unsigned_abs a) m (f p.x * g p.y * h p.z) (u * v * w) size.size
+    (times_at_most (f p.x * g p.y) (u * v) (h p.z) w (times_at_most (f p.x) u (g p.y) v x y) z))
+
+-- two additions in a row
+pub adds_both : (a b c : NodeValues) (f g h : Triple → ℤ) → Adds a b f → Adds b c g → ((p : Triple) → f p +ℤ g p ≡ h p) → Adds a c h
+adds_both a b c f g h first second sum = record {
+  cells = second.cells ∙ first.cells;
+  values = λ p within.
+      let inside : IsWithin p b.cells = subst (λ (n : Triple). IsWithin p n) (sym first.cells) within in
+      let one = first.values p within in
+      let two = second.values p inside in
+      let both = sum p in omega (arith, ints, one, two, both);
+}
+
+-- the same addition, said otherwise
+pub adds_same : (a b : NodeValues) (f g : Triple → ℤ) → Adds a b f → ((p : Triple) → IsWithin p a.cells → f p ≡ g p) → Adds a b g
+adds_same a b f g first same = record {
+  cells = first.cells;
+  values = λ p within. first.values p within ∙ ap (λ (t : ℤ). node_at a p +ℤ t) (same p within);
+}
+
+-- the room after an addition
+pub room_after : (a b : NodeValues) (f : Triple → ℤ) (m k big : ℕ) → AreAtMost a m → Adds a b f → ((p : Triple) → unsigned_abs (f p) ≤ k) → m + k ≤ big
+    → AreAtMost b big
+room_after a b f m k big small first added room = record {
+  at_node = λ p within.
+      let inside : IsWithin p a.cells = subst (λ (n : Triple). IsWithin p n) first.cells within in
+      let old = (small.at_node p inside).size in
+      let is = first.values p inside in
+      let new = added p in record { size = omega (arith, ints, old, is, new, room) };
+}
+
+-- nodes that are small are at most anything larger
+pub still_at_most : (nodes : NodeValues) (m k : ℕ) → AreAtMost nodes m → m ≤ k → AreAtMost nodes k
+still_at_most nodes m k small more = record {
+  at_node = λ p within. let size = (small.at_node p within).size in record { size = omega (arith, size, more) };
+}
+
+-- what the code passes on of a number that is small
+pub kept_is : (r : ℤ) → IsAtMost r (2 ^ 55) → to_z w128 (of_z w128 r) ≡ r
+kept_is r small = let size = small.size in to_z-of_z w128 r (fits_signed_from_abs w128 r (omega (arith, size)))
+
+-- the part of an amount, as the code multiplies it
+pub part_is : (amount r : ℤ) (weight most : ℕ) → IsAtMost amount most → most ≤ 2 ^ 55 → r ≡ to_z w128 (of_z w128 amount) *ℤ pos weight → r ≡ amount *ℤ pos weight
+part_is amount r weight most small low is =
+    let size = small.size in
+    is ∙ ap (λ (t : ℤ). t *ℤ pos weight) (kept_is amount (record { size = omega (arith, size, low) }))
+
+-- its size
+pub part_size : (amount r : ℤ) (weight most : ℕ) → r ≡ amount *ℤ pos weight → IsAtMost amount most → weight ≤ 4096 → IsAtMost r (most * 4096)
+part_size amount r weight most is small low = record {
+  size = subst (λ (z : ℤ). unsigned_abs z ≤ most * 4096) (sym is)
+      (rw (unsigned_abs-mul amount (pos weight)) (times_at_most (unsigned_abs amount) most weight 4096 small.size low));
+}
+
+-- two parts that are added one after the other, on each axis
+pub line_added : (a b c : NodeValues) (amount r t : ℤ) (s : Pair) (g h : ℕ → ℕ)
+    → r ≡ amount *ℤ pos s.low_weight → IsAtMost r (2 ^ 55)
+    → t ≡ amount *ℤ pos s.high_weight → IsAtMost t (2 ^ 55)
+    → Adds a b (spread (to_z w128 (of_z w128 r)) (only_at s.low 1) g h)
+    → Adds b c (spread (to_z w128 (of_z w128 t)) (only_at s.high 1) g h)
+    → Adds a c (spread amount (weight_in s) g h)
+line_added a b c amount r t s g h low small high tiny first second =
+    adds_both a b c _ _ (spread amount (weight_in s) g h) first second
+    (λ p. (λ i. spread ((kept_is r small ∙ low) i) (only_at s.low 1) g h p +ℤ spread ((kept_is t tiny ∙ high) i) (only_at s.high 1) g h p) ∙ line_sum amount s g h p)
+
+pub plane_added : (a b c : NodeValues) (amount r t : ℤ) (s : Pair) (f h : ℕ → ℕ)
+    → r ≡ amount *ℤ pos s.low_weight → IsAtMost r (2 ^ 55)
+    → t ≡ amount *ℤ pos s.high_weight → IsAtMost t (2 ^ 55)
+    → Adds a b (spread (to_z w128 (of_z w128 r)) f (only_at s.low 1) h)
+    → Adds b c (spread (to_z w128 (of_z w128 t)) f (only_at s.high 1) h)
+    → Adds a c (spread amount f (weight_in s) h)
+plane_added a b c amount r t s f h low small high tiny first second =
+    adds_both a b c _ _ (spread amount f (weight_in s) h) first second
+    (λ p. (λ i. spread ((kept_is r small ∙ low) i) f (only_at s.low 1) h p +ℤ spread ((kept_is t tiny ∙ high) i) f (only_at s.high 1) h p) ∙ plane_sum amount s f h p)
+
+pub box_added : (a b c : NodeValues) (amount r t : ℤ) (s : Pair) (f g : ℕ → ℕ)
+    → r ≡ amount *ℤ pos s.low_weight → IsAtMost r (2 ^ 55)
+    → t ≡ amount *ℤ pos s.high_weight → IsAtMost t (2 ^ 55)
+    → Adds a b (spread (to_z w128 (of_z w128 r)) f g (only_at s.low 1))
+    → Adds b c (spread (to_z w128 (of_z w128 t)) f g (only_at s.high 1))
+    → Adds a c (spread amount f g (weight_in s))
+box_added a b c amount r t s f g low small high tiny first second =
+    adds_both a b c _ _ (spread amount f g (weight_in s)) first second
+    (λ p. (λ i. spread ((kept_is r small ∙ low) i) f g (only_at s.low 1) p +ℤ spread ((kept_is t tiny ∙ high) i) f g (only_at s.high 1) p) ∙ box_sum amount s f g p)

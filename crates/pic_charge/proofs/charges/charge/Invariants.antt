@@ -1,0 +1,6 @@
+use Rattle.pic_charge.proofs.ChargeLaws.{HoldsCharge}
+use Rattle.std.proofs.Common.{take}
+use Rattle.pic_charge.proofs.charges.charge.Given as goal
+
+abbrev pub invariant-loop-particle : goal.invariant-loop-particle
+invariant-loop-particle l = HoldsCharge 4096 l.cells l.kinds (take l.particle-index l.particles) l.to

@@ -1,0 +1,5 @@
+use Rattle.pic_charge.proofs.Nodes.{IsCleared}
+use Rattle.pic_charge.proofs.charges.clear.Given as goal
+
+abbrev pub invariant-loop-index : goal.invariant-loop-index
+invariant-loop-index l = IsCleared l.cells l.to l.index

@@ -1,0 +1,16 @@
+use Rattle.std.proofs.Common.{ℤ, [], ◌∷◌, ◌^◌, ◌+ℤ◌, sym, ◌∙◌, ap, subst}
+use Rattle.pic_num.proofs.Sizes.{codes, code_is}
+use Rattle.pic_num.specs.Sizes.{IsAtMost}
+use Rattle.pic_num.specs.Space.{Triple, triple}
+use Rattle.pic_grid.specs.Places.{IsWithin}
+use Rattle.pic_charge.proofs.Nodes.{node_added}
+use Rattle.pic_charge.proofs.spreading.add.Goals as goal
+
+pub returns : goal.returns
+returns c =
+    let node : Triple = triple (c.args.x ∷ c.args.y ∷ c.args.z ∷ []) in
+    let within : IsWithin node c.args.to.now.cells = record { x = c.requires.x; y = c.requires.y; z = c.requires.z } in
+    let small : IsAtMost c.at.result (2 ^ 90) = subst (λ (v : ℤ). IsAtMost v (2 ^ 90)) (sym c.at.ensures) (c.requires.room.at_node node within) in
+    node_added c.args.to.now c.set.new.self node c.args.amount _ c.set.ensures.after
+    (c.set.ensures.stored ∙ code_is (search codes depth 12) tt ∙ ap (λ (v : ℤ). v +ℤ c.args.amount) c.at.ensures)
+    within

@@ -1,0 +1,3 @@
+pub mod Charge
+pub mod Gauss
+pub mod Spread

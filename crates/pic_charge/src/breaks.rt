@@ -1,0 +1,109 @@
+ghost use Rattle.std.specs.Prelude.{◌≡◌, ◌↔◌, ◌^◌, ◌<◌, ◌≤◌, ◌+◌, ◌-◌, ◌%◌, ◌-ℤ◌, None, IfSome};
+ghost use Rattle.pic_num.specs.declared.space.Axis.{Axis as AxisName};
+ghost use Rattle.pic_num.specs.Sizes.{IsAtMost};
+ghost use Rattle.pic_num.specs.Space.{Triple, triple};
+ghost use Rattle.pic_grid.specs.Differences.{div_e, down};
+ghost use Rattle.pic_grid.specs.Fields.{value_at, node_at};
+ghost use Rattle.pic_grid.specs.Places.{IsWithin};
+ghost use Rattle.pic_charge.specs.Gauss.{difference_at, first_break, Agree, IsLeastBreak};
+
+use pic_grid::{Cells, Lattice, Nodes};
+use pic_num::Axis;
+
+/// A node where the divergence of E and the charge differ, and the two numbers.
+#[derive(Clone, Copy, Debug, PartialEq, Eq)]
+pub struct Break {
+    pub node: [u32; 3],
+    pub div: i128,
+    pub rho: i128,
+}
+
+/// The least node, x fastest, where the divergence of `e` and the number in `rho` differ, or `None`
+/// where they agree at every node: Gauss's law, where `rho` holds the charge.
+pub fn gauss(cells: Cells, e: &Lattice, rho: &Nodes) -> Option<Break>
+    requires e_cells { e.now.cells ≡ cells }
+    requires rho_cells { rho.now.cells ≡ cells }
+    requires e_most { (a : AxisName) (p : Triple) → IsWithin p cells → IsAtMost (value_at e.now a p) (2 ^ 90) }
+    ensures value { result ≡ first_break cells (div_e cells (value_at e.now)) (node_at rho.now) }
+    ensures none { (result ≡ None) ↔ Agree cells (div_e cells (value_at e.now)) (node_at rho.now) }
+    ensures least { IfSome result (IsLeastBreak cells (div_e cells (value_at e.now)) (node_at rho.now)) }
+{
+    for index in 0..cells.count() {
+        let found = difference(cells, e, rho, cells.cell_at(index as usize));
+        if found.is_some() {
+            return found;
+        }
+    }
+    None
+}
+
+/// The break at `node`, if there is one.
+#[tactic(auto, unfolding(crate::specs::Gauss::difference_at))]
+fn difference(cells: Cells, e: &Lattice, rho: &Nodes, node: [u32; 3]) -> Option<Break>
+    requires e_cells { e.now.cells ≡ cells }
+    requires rho_cells { rho.now.cells ≡ cells }
+    requires e_most { (a : AxisName) (p : Triple) → IsWithin p cells → IsAtMost (value_at e.now a p) (2 ^ 90) }
+    requires within { IsWithin (triple node) cells }
+    ensures { result ≡ difference_at (div_e cells (value_at e.now)) (node_at rho.now) (triple node) }
+{
+    let div = divergence(cells, e, node);
+    let rho = rho.at(node);
+    if div == rho {
+        return None;
+    }
+    let [x, y, z] = node;
+    Some(Break {
+        node: [x, y, z],
+        div,
+        rho,
+    })
+}
+
+/// The divergence of E at `node`.
+fn divergence(cells: Cells, e: &Lattice, node: [u32; 3]) -> i128
+    requires e_cells { e.now.cells ≡ cells }
+    requires e_most { (a : AxisName) (p : Triple) → IsWithin p cells → IsAtMost (value_at e.now a p) (2 ^ 90) }
+    requires within { IsWithin (triple node) cells }
+    ensures { result ≡ div_e cells (value_at e.now) (triple node) }
+{
+    let along_x = outflow(cells, e, Axis::X, node);
+    let along_y = outflow(cells, e, Axis::Y, node);
+    let along_z = outflow(cells, e, Axis::Z, node);
+    along_x + along_y + along_z
+}
+
+/// What leaves `node` along an axis, less what comes in.
+fn outflow(cells: Cells, e: &Lattice, axis: Axis, node: [u32; 3]) -> i128
+    requires e_cells { e.now.cells ≡ cells }
+    requires e_most { (a : AxisName) (p : Triple) → IsWithin p cells → IsAtMost (value_at e.now a p) (2 ^ 90) }
+    requires within { IsWithin (triple node) cells }
+    ensures value { result ≡ value_at e.now axis (triple node) -ℤ value_at e.now axis (down cells axis (triple node)) }
+    ensures size { IsAtMost result (2 ^ 91) }
+{
+    e.at(axis, node) - e.at(axis, below(cells, axis, node))
+}
+
+/// The node below `node` along an axis, modulo the cells.
+fn below(cells: Cells, axis: Axis, node: [u32; 3]) -> [u32; 3]
+    requires { IsWithin (triple node) cells }
+    ensures value { triple result ≡ down cells axis (triple node) }
+    ensures within { IsWithin (triple result) cells }
+{
+    let [nx, ny, nz] = cells.n;
+    let [x, y, z] = node;
+    match axis {
+        Axis::X => [before(nx, x), y, z],
+        Axis::Y => [x, before(ny, y), z],
+        Axis::Z => [x, y, before(nz, z)],
+    }
+}
+
+/// The number before `number`, modulo `count`.
+fn before(count: u32, number: u32) -> u32
+    requires most { count ≤ 64 }
+    requires within { number < count }
+    ensures value { result ≡ (number + (count - 1)) % count }
+    ensures within { result < count }
+{
+    if number == 0 { count - 1 } else { number - 1 }
+}

@@ -1,0 +1,67 @@
+ghost use Rattle.std.specs.Prelude.{◌≡◌, pos, ◌^◌, ◌≤◌, ◌*ℤ◌, All, length};
+ghost use Rattle.pic_num.specs.Sizes.{IsAtMost};
+ghost use Rattle.pic_num.specs.Space.{Triple};
+ghost use Rattle.pic_grid.specs.Fields.{node_at};
+ghost use Rattle.pic_grid.specs.Places.{IsWithin};
+ghost use Rattle.pic_grid.specs.Species.{IsKind};
+ghost use Rattle.pic_charge.specs.Charge.{share, charge_of, CanShare};
+ghost use Rattle.pic_charge.specs.Spread.{AreAtMost, Adds};
+
+use crate::pairs::{SIDE, pair_of};
+use crate::spreading::add_box;
+use pic_grid::{Cells, Nodes};
+use pic_num::{Kind, Particle};
+
+/// Makes the nodes the charge of the particles, in 12 times the charge's unit times the cube of the
+/// side of a cell, whatever the nodes held. Weights are linear: Birdsall and Langdon, "Plasma
+/// Physics via Computer Simulation". The nodes have these cells, and each particle has one of the
+/// kinds as its species and a position in the box.
+pub fn charge(cells: Cells, kinds: &[Kind], particles: &[Particle], to: &mut Nodes)
+    requires same_cells { to.old.cells ≡ cells }
+    requires limits { All IsKind kinds.now }
+    requires placed { All (CanShare SIDE cells kinds.now) particles.now }
+    requires few { length particles.now ≤ 1048576 }
+    ensures same_cells { to.new.cells ≡ cells }
+    ensures values { (p : Triple) → IsWithin p cells → node_at to.new p ≡ charge_of SIDE cells kinds.now particles.now p }
+    ensures size { (p : Triple) → IsWithin p cells → IsAtMost (node_at to.new p) (2 ^ 75) }
+{
+    clear(cells, to);
+    for particle in particles {
+        add_particle(cells, kinds, particle, to);
+    }
+}
+
+/// Makes every node 0.
+fn clear(cells: Cells, to: &mut Nodes)
+    requires { to.old.cells ≡ cells }
+    ensures same_cells { to.new.cells ≡ cells }
+    ensures values { (p : Triple) → IsWithin p cells → node_at to.new p ≡ pos 0 }
+{
+    for index in 0..cells.count() {
+        to.set(cells.cell_at(index as usize), 0);
+    }
+}
+
+/// Adds a particle's share to every node.
+fn add_particle(cells: Cells, kinds: &[Kind], particle: &Particle, to: &mut Nodes)
+    requires same_cells { to.old.cells ≡ cells }
+    requires limits { All IsKind kinds.now }
+    requires placed { CanShare SIDE cells kinds.now particle.now }
+    requires room { AreAtMost to.old (2 ^ 87) }
+    ensures { Adds to.old to.new (share SIDE cells kinds.now particle.now) }
+{
+    let kind = kinds[particle.species as usize];
+    let [nx, ny, nz] = cells.n;
+    let [x, y, z] = particle.x;
+    let amount = twelvefold(kind.charge);
+    add_box(to, pair_of(nx, x), pair_of(ny, y), pair_of(nz, z), amount);
+}
+
+/// 12 times a charge.
+fn twelvefold(charge: i32) -> i128
+    requires { IsAtMost charge (2 ^ 15) }
+    ensures value { result ≡ pos 12 *ℤ charge }
+    ensures size { IsAtMost result (2 ^ 19) }
+{
+    12 * i128::from(charge)
+}

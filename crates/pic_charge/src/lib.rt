@@ -1,0 +1,15 @@
+//! The charge of the particles at the nodes, and Gauss's law.
+#![tactic(auto)]
+
+mod breaks;
+mod charges;
+mod laws;
+mod pairs;
+mod spreading;
+#[cfg(test)]
+mod tests;
+
+pub use breaks::{Break, gauss};
+pub use charges::charge;
+pub use laws::{break_is_where_gauss_fails, no_break_is_gauss};
+pub use pairs::SIDE;

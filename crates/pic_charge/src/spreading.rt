@@ -1,0 +1,68 @@
+ghost use Rattle.std.specs.Prelude.{◌≡◌, pos, ◌^◌, ◌<◌, ◌≤◌, ◌*ℤ◌};
+ghost use Rattle.pic_num.specs.Sizes.{IsAtMost};
+ghost use Rattle.pic_charge.specs.Spread.{only_at, weight_in, spread, IsPair, AreAtMost, Adds};
+
+use crate::pairs::{Pair, SIDE};
+use pic_grid::Nodes;
+
+/// Adds an amount to one node.
+fn add(to: &mut Nodes, x: u32, y: u32, z: u32, amount: i128)
+    requires x { x < to.old.cells.x }
+    requires y { y < to.old.cells.y }
+    requires z { z < to.old.cells.z }
+    requires room { AreAtMost to.old (2 ^ 90) }
+    requires size { IsAtMost amount (2 ^ 55) }
+    ensures { Adds to.old to.new (spread amount (only_at x 1) (only_at y 1) (only_at z 1)) }
+{
+    let node = [x, y, z];
+    let sum = to.at(node) + amount;
+    to.set(node, sum);
+}
+
+/// Shares an amount between the two nodes of a line along x.
+fn add_line(to: &mut Nodes, x: Pair, y: u32, z: u32, amount: i128)
+    requires x { IsPair SIDE to.old.cells.x x }
+    requires y { y < to.old.cells.y }
+    requires z { z < to.old.cells.z }
+    requires room { AreAtMost to.old (2 ^ 89) }
+    requires size { IsAtMost amount (2 ^ 43) }
+    ensures { Adds to.old to.new (spread amount (weight_in x) (only_at y 1) (only_at z 1)) }
+{
+    add(to, x.low, y, z, times(amount, x.low_weight));
+    add(to, x.high, y, z, times(amount, x.high_weight));
+}
+
+/// Shares an amount between the two lines of a plane across z.
+fn add_plane(to: &mut Nodes, x: Pair, y: Pair, z: u32, amount: i128)
+    requires x { IsPair SIDE to.old.cells.x x }
+    requires y { IsPair SIDE to.old.cells.y y }
+    requires z { z < to.old.cells.z }
+    requires room { AreAtMost to.old (2 ^ 88) }
+    requires size { IsAtMost amount (2 ^ 31) }
+    ensures { Adds to.old to.new (spread amount (weight_in x) (weight_in y) (only_at z 1)) }
+{
+    add_line(to, x, y.low, z, times(amount, y.low_weight));
+    add_line(to, x, y.high, z, times(amount, y.high_weight));
+}
+
+/// Shares an amount between the two planes of a box of eight nodes.
+pub(crate) fn add_box(to: &mut Nodes, x: Pair, y: Pair, z: Pair, amount: i128)
+    requires x { IsPair SIDE to.old.cells.x x }
+    requires y { IsPair SIDE to.old.cells.y y }
+    requires z { IsPair SIDE to.old.cells.z z }
+    requires room { AreAtMost to.old (2 ^ 87) }
+    requires size { IsAtMost amount (2 ^ 19) }
+    ensures { Adds to.old to.new (spread amount (weight_in x) (weight_in y) (weight_in z)) }
+{
+    add_plane(to, x, y, z.low, times(amount, z.low_weight));
+    add_plane(to, x, y, z.high, times(amount, z.high_weight));
+}
+
+/// An amount times a weight.
+fn times(amount: i128, weight: u32) -> i128
+    requires amount_most { IsAtMost amount (2 ^ 43) }
+    requires weight_most { weight ≤ SIDE }
+    ensures { result ≡ amount *ℤ pos weight }
+{
+    amount * i128::from(weight)
+}

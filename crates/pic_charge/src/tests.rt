@@ -1,0 +1,164 @@
+ghost use Rattle.std.specs.Prelude.{◌≡◌, ◌^◌, ◌<◌, ◌≤ℤ◌, negsuc, pos, IfOk};
+ghost use Rattle.pic_num.specs.declared.space.Axis.{Axis as AxisName};
+ghost use Rattle.pic_num.specs.Sizes.{IsAtMost};
+ghost use Rattle.pic_num.specs.Space.{Triple, triple};
+ghost use Rattle.pic_grid.specs.Fields.{value_at};
+ghost use Rattle.pic_grid.specs.Hat.{IsInBox};
+ghost use Rattle.pic_grid.specs.Places.{IsWithin};
+ghost use Rattle.pic_grid.specs.Species.{IsKind};
+
+use super::*;
+use pic_grid::{Cells, Lattice, Nodes};
+use pic_num::{Axis, Kind, Mult, NoMemory, Particle};
+use std::alloc::Global;
+
+fn kind(charge: i32) -> Kind
+    requires low { negsuc 32767 ≤ℤ charge }
+    requires high { charge ≤ℤ pos 32767 }
+    ensures { IsKind result }
+{
+    let none = Mult::new(0, 0);
+    Kind {
+        charge,
+        mass: 1,
+        kick: none,
+        turn: none,
+    }
+}
+
+fn at(species: u8, x: [u32; 3]) -> Particle
+    ensures species { result.species ≡ species }
+    ensures place { triple result.x ≡ triple x }
+{
+    Particle {
+        id: 0,
+        species,
+        x,
+        v: [0; 3],
+    }
+}
+
+// the charge of a particle of charge 1 (species 0) or -1 (species 1)
+fn charge_one(species: u8, x: [u32; 3], nodes: &mut Nodes)
+    requires species { species < 2 }
+    requires place { IsInBox 4096 nodes.old.cells (triple x) }
+    ensures { nodes.new.cells ≡ nodes.old.cells }
+{
+    let cells = nodes.cells();
+    charge(cells, &[kind(1), kind(-1)], &[at(species, x)], nodes);
+}
+
+// the charge of a particle of charge 1 and one of charge -1
+fn charge_two(first: [u32; 3], second: [u32; 3], nodes: &mut Nodes)
+    requires first { IsInBox 4096 nodes.old.cells (triple first) }
+    requires second { IsInBox 4096 nodes.old.cells (triple second) }
+    ensures { nodes.new.cells ≡ nodes.old.cells }
+{
+    let cells = nodes.cells();
+    charge(
+        cells,
+        &[kind(1), kind(-1)],
+        &[at(0, first), at(1, second)],
+        nodes,
+    );
+}
+
+#[test]
+fn a_charge_is_shared_by_eight_nodes(rt: HostRuntime) -> Result<(), NoMemory> {
+    let cells = Cells::new([2, 2, 2]);
+    let whole = 824633720832;
+    let cases = [
+        (0, [0, 0, 0], [whole, 0, 0, 0, 0, 0, 0, 0]),
+        (1, [0, 0, 0], [-whole, 0, 0, 0, 0, 0, 0, 0]),
+        (0, [2048, 2048, 2048], [103079215104; 8]),
+        (
+            0,
+            [8191, 0, 4096],
+            [0, 0, 0, 0, 824432394240, 201326592, 0, 0],
+        ),
+    ];
+    for (species, x, shares) in cases {
+        assert!(rt; species < 2 && x[0] < 8192 && x[1] < 8192 && x[2] < 8192);
+        let mut nodes = Nodes::new(rt.alloc(), cells)?;
+        nodes.set([1, 1, 0], 99);
+        charge_one(species, x, &mut nodes);
+        for index in 0..8 {
+            assert_eq!(rt;
+                nodes.at(cells.cell_at(index)),
+                shares[index],
+                "{x:?} {index}"
+            );
+        }
+    }
+    Ok(())
+}
+
+#[test]
+fn two_charges_at_one_place_are_none(rt: HostRuntime) -> Result<(), NoMemory> {
+    let cells = Cells::new([2, 2, 2]);
+    let mut nodes = Nodes::new(rt.alloc(), cells)?;
+    charge_two([5000, 100, 7], [5000, 100, 7], &mut nodes);
+    for index in 0..8 {
+        assert_eq!(rt; nodes.at(cells.cell_at(index)), 0);
+    }
+    Ok(())
+}
+
+// a field that is 0 but for one component
+fn lone(
+    alloc: Global,
+    cells: Cells,
+    axis: Axis,
+    cell: [u32; 3],
+    value: i128,
+) -> Result<Lattice, NoMemory>
+    requires within { IsWithin (triple cell) cells }
+    requires size { IsAtMost value (2 ^ 90) }
+    ensures same_cells { IfOk result (λ e. e.cells ≡ cells) }
+    ensures most { IfOk result (λ e. (a : AxisName) (p : Triple) → IsWithin p cells → IsAtMost (value_at e a p) (2 ^ 90)) }
+{
+    let mut e = Lattice::new(alloc, cells, [1; 3])?;
+    e.set(axis, cell, value);
+    Ok(e)
+}
+
+#[test]
+fn the_least_node_is_named(rt: HostRuntime) -> Result<(), NoMemory> {
+    let cells = Cells::new([2, 2, 2]);
+    let rho = Nodes::new(rt.alloc(), cells)?;
+    let e = lone(rt.alloc(), cells, Axis::Z, [1, 1, 1], 5)?;
+    let found = Break {
+        node: [1, 1, 0],
+        div: -5,
+        rho: 0,
+    };
+    assert_eq!(rt; gauss(cells, &e, &rho), Some(found));
+    Ok(())
+}
+
+#[test]
+fn an_ion_alone_breaks_the_law(rt: HostRuntime) -> Result<(), NoMemory> {
+    let cells = Cells::new([4, 4, 4]);
+    let mut rho = Nodes::new(rt.alloc(), cells)?;
+    let e = lone(rt.alloc(), cells, Axis::X, [0, 0, 0], 0)?;
+    charge_one(0, [1024, 0, 0], &mut rho);
+    let found = Break {
+        node: [0, 0, 0],
+        div: 0,
+        rho: 618475290624,
+    };
+    assert_eq!(rt; gauss(cells, &e, &rho), Some(found));
+    Ok(())
+}
+
+#[test]
+fn two_charges_want_their_field(rt: HostRuntime) -> Result<(), NoMemory> {
+    let cells = Cells::new([4, 4, 4]);
+    let mut rho = Nodes::new(rt.alloc(), cells)?;
+    charge_two([1024, 0, 0], [3072, 0, 0], &mut rho);
+    for (value, found) in [(0, false), (412316860416, true)] {
+        let e = lone(rt.alloc(), cells, Axis::X, [0, 0, 0], value)?;
+        assert_eq!(rt; gauss(cells, &e, &rho).is_none(), found, "{value}");
+    }
+    Ok(())
+}
