@@ -1,0 +1,5 @@
+pub mod TwoTerms
+pub mod Nested
+pub mod Mixes
+pub mod Means
+pub mod Same

@@ -1,0 +1,34 @@
+-- Force values, and their sums over the places of a component under the weights of three pairs.
+use Rattle.std.specs.Prelude.{ℤ, pos, ℕ, ◌^◌, ◌*ℤ◌}
+use Rattle.pic_num.specs.declared.space.Axis.{Axis}
+use Rattle.pic_num.specs.Sizes.{IsAtMost}
+use Rattle.pic_num.specs.Space.{Triple, Spot}
+use Rattle.pic_grid.specs.Fields.{Field, value_at}
+use Rattle.pic_grid.specs.Places.{IsWithin}
+use Rattle.pic_grid.specs.Sums.{sum_below}
+use Rattle.pic_gather.specs.declared.pairing.Pair.{Pair}
+use Rattle.pic_gather.specs.Pairs.{share}
+
+-- every value of a lattice within its cells is at most 2^44 in size: this project's bound of a force
+-- value
+pub record AreForces (f : Field) : Type 0 where
+  pub at_most : (a : Axis) (p : Triple) → IsWithin p f.cells → IsAtMost (value_at f a p) (2 ^ 44)
+
+-- each component of a gathered force is at most n in size
+pub record AreAtMost (p : Spot) (n : ℕ) : Type 0 where
+  pub x : IsAtMost p.x n
+  pub y : IsAtMost p.y n
+  pub z : IsAtMost p.z n
+
+-- the weighted sum along a row of places
+unfoldable pub row_sum : Field → Axis → Pair → ℕ → ℕ → ℤ
+row_sum f a in_x y z =
+    sum_below f.cells.x (λ x. value_at f a (record { x = x; y = y; z = z }) *ℤ pos (share in_x x))
+
+-- the weighted sum over the rows of a layer
+unfoldable pub layer_sum : Field → Axis → Pair → Pair → ℕ → ℤ
+layer_sum f a in_x in_y z = sum_below f.cells.y (λ y. row_sum f a in_x y z *ℤ pos (share in_y y))
+
+-- the weighted sum over the layers: over all places
+unfoldable pub whole_sum : Field → Axis → Pair → Pair → Pair → ℤ
+whole_sum f a in_x in_y in_z = sum_below f.cells.z (λ z. layer_sum f a in_x in_y z *ℤ pos (share in_z z))
