@@ -1,0 +1,12 @@
+use mir.Syntax.{w128}
+use Rattle.pic_num.proofs.Sizes.{codes, code_fits, code_is, code_at_most}
+use Rattle.pic_boris.proofs.turning.minor.Goals as goal
+
+pub overflow_sub-result : goal.overflow_sub-result
+overflow_sub-result c = code_fits w128 (search codes depth 14) tt
+
+pub returns-clause-value : goal.returns-clause-value
+returns-clause-value c = code_is (search codes depth 18) tt
+
+pub returns-clause-size : goal.returns-clause-size
+returns-clause-size c = code_at_most (search codes depth 18) tt

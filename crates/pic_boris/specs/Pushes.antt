@@ -1,0 +1,33 @@
+-- What the push answers, against its definition (Boris 1970; Birdsall and Langdon, "Plasma Physics via
+-- Computer Simulation", chapter 4; the units and the tests are this project's profile).
+use Rattle.std.specs.Prelude.{◌≡◌, pos, Result, Ok, Err}
+use Rattle.pic_num.specs.declared.motion.What.TheVariants.{Far}
+use Rattle.pic_num.specs.Push.{Shift, Halting, each, first_above, unless}
+use Rattle.pic_num.specs.Rounding.{rounded}
+use Rattle.pic_num.specs.Space.{Spot, spot}
+use Rattle.pic_boris.specs.declared.pushing.Moved.{Moved}
+use Rattle.pic_boris.specs.declared.pushing.Halt.{Halt}
+use Rattle.pic_boris.specs.Vectors.{AreAtMost, IsKeptVelocity}
+
+-- what an answer of the code stands for
+abbrev pub shift_of : Moved → Shift
+shift_of m = record { v = spot m.v; d = spot m.d }
+
+abbrev pub halting_of : Halt → Halting
+halting_of h = record { what = h.what; axis = h.axis; value = h.value }
+
+-- the code answers what the definition says
+abbrev pub Pushes : Result Shift Halting → Result Moved Halt → Type 0
+Pushes told (Ok m) = told ≡ Ok (shift_of m)
+Pushes told (Err h) = told ≡ Err (halting_of h)
+
+-- where a velocity leads in a cell of 4096 sub-cells, or that it leads too far
+abbrev pub arrived : Spot → Result Shift Halting
+arrived v =
+    let move = each (λ c. rounded c (pos 4096)) v in
+    unless (first_above Far 4096 move) (record { v = v; d = move })
+
+-- the new velocity and the move of a push stay within their limits
+pub record IsInLimits (m : Moved) : Type 0 where
+  pub v : IsKeptVelocity (spot m.v)
+  pub d : AreAtMost (spot m.d) 4096

@@ -1,0 +1,96 @@
+ghost use Rattle.std.specs.Prelude.{◌≡◌, pos, ◌^◌, ◌-◌, IfOk};
+ghost use Rattle.pic_num.specs.Push.{pushed, each};
+ghost use Rattle.pic_num.specs.Rounding.{rounded};
+ghost use Rattle.pic_num.specs.Space.{spot};
+ghost use Rattle.pic_boris.specs.Pushes.{Pushes, IsInLimits, arrived};
+ghost use Rattle.pic_boris.specs.Vectors.{AreAtMost, spot_of};
+
+use crate::limits::halt_above;
+use crate::turning::turned_by;
+use crate::vectors::{Vector, rounded_shift, scaled_by, sum_of, widened};
+use pic_num::{Axis, Mult, What};
+
+/// The most that a velocity may be in size after half of the kick, in 1/4096 sub-cell per step.
+const MOST_SPEED: u128 = 1099511627776;
+
+/// The most that a turn may be in size, in units of 1 / 2^20.
+const MOST_TURN: u128 = 16777216;
+
+/// The sub-cells along a cell, and the furthest move along an axis.
+const SIDE: u128 = 4096;
+
+/// A velocity is in 1 / 2^12 sub-cell per step.
+const SPEED_BITS: u32 = 12;
+
+/// A particle's new velocity, in 1/4096 sub-cell per step, and its move in sub-cells, which isn't
+/// wrapped yet.
+#[derive(Clone, Copy, Debug, PartialEq, Eq)]
+pub struct Moved {
+    pub v: [i32; 3],
+    pub d: [i32; 3],
+}
+
+/// What stops a push: the first test that fails, the first axis on which it does, and the number
+/// there.
+#[derive(Clone, Copy, Debug, PartialEq, Eq)]
+pub struct Halt {
+    pub what: What,
+    pub axis: Axis,
+    pub value: i128,
+}
+
+/// Pushes a particle of the velocity `v` by the gathered `e` and `b` with its species' multipliers:
+/// half of the electric kick, the turn by the magnetic field, the other half (Boris 1970). Velocities
+/// are in 1/4096 sub-cell per step, moves in sub-cells, turns in units of 1 / 2^20.
+///
+/// # Errors
+/// `Speed` where a component of the velocity after half of the kick is above 2^40 in size, else
+/// `Turn` where one of the turn is above 2^24, else `Far` where one of the move is above 4096; each
+/// on the first axis of x, y, z that fails.
+#[tactic(auto, unfolding(pic_num::specs::Push::pushed))]
+pub fn push(v: [i32; 3], e: [i64; 3], b: [i64; 3], kick: Mult, turn: Mult) -> Result<Moved, Halt>
+    ensures pushed { Pushes (pushed 4096 (spot v) (spot e) (spot b) kick turn) result }
+    ensures bounds { IfOk result IsInLimits }
+{
+    let half_kick = scaled_by(e, kick);
+    let kicked = sum_of(widened(v), half_kick);
+    halt_above(What::Speed, MOST_SPEED, kicked)?;
+    let turn_by = scaled_by(b, turn);
+    halt_above(What::Turn, MOST_TURN, turn_by)?;
+    let turned = turned_by(kicked, turn_by);
+    arrived(sum_of(turned, half_kick))
+}
+
+/// Where a new velocity leads: the velocity and its move, unless that is too far.
+fn arrived(v: Vector) -> Result<Moved, Halt>
+    requires { AreAtMost (spot_of v) (2 ^ 122) }
+    ensures pushed { Pushes (arrived (spot_of v)) result }
+    ensures bounds { IfOk result IsInLimits }
+{
+    let d = move_of(v);
+    halt_above(What::Far, SIDE, d)?;
+    Ok(Moved {
+        v: narrowed(v),
+        d: narrowed(d),
+    })
+}
+
+/// The move of a velocity, in sub-cells.
+fn move_of(v: Vector) -> Vector
+    requires { AreAtMost (spot_of v) (2 ^ 122) }
+    ensures { spot_of result ≡ each (λ c. rounded c (pos 4096)) (spot_of v) }
+{
+    Vector {
+        x: rounded_shift(v.x, SPEED_BITS),
+        y: rounded_shift(v.y, SPEED_BITS),
+        z: rounded_shift(v.z, SPEED_BITS),
+    }
+}
+
+/// The vector as numbers of the type that particles keep.
+fn narrowed(p: Vector) -> [i32; 3]
+    requires { AreAtMost (spot_of p) (2 ^ 31 - 1) }
+    ensures { spot result ≡ spot_of p }
+{
+    [p.x as i32, p.y as i32, p.z as i32]
+}
