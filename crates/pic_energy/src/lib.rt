@@ -1,0 +1,13 @@
+//! The energies of a state, and the lines of a report that tell of a run.
+#![tactic(auto)]
+
+mod amounts;
+mod lines;
+mod summing;
+
+pub use amounts::Energies;
+pub use lines::{Line, end_line, frame_line};
+pub use summing::energies;
+
+#[cfg(test)]
+mod tests;
