@@ -7,7 +7,7 @@ use Rattle.toml.specs.Data.{Data}
 use Rattle.toml.specs.View.{view, items_view}
 use Rattle.toml.specs.declared.value.Value.{Value}
 use Rattle.toml.proofs.Views.{items_view-drop}
-use Rattle.pic_walk.specs.declared.faults.WalkRefusal.TheVariants.{Kind}
+use Rattle.pic_walk.specs.declared.faults.Refusal.TheVariants.{Kind}
 use Rattle.pic_walk.specs.declared.ranges.Limits.{Limits}
 use Rattle.pic_walk.specs.Path.{element_at}
 use Rattle.pic_walk.specs.Range.{IsInLimits, limits_at}

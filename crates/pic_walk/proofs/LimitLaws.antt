@@ -5,7 +5,7 @@ use Rattle.std.proofs.lemmas.Int.{ints, to_z-of_z}
 use mir.Syntax.{w64, w128}
 use mir.Val.{SFits, to_z, of_z}
 use Rattle.pic_walk.specs.declared.ranges.Limits.{Limits}
-use Rattle.pic_walk.specs.declared.faults.WalkRefusal.TheVariants.{Limit}
+use Rattle.pic_walk.specs.declared.faults.Refusal.TheVariants.{Limit}
 use Rattle.pic_walk.specs.Range.{IsInLimits, is_within}
 use Rattle.pic_walk.specs.Walk.{within}
 

@@ -1,10 +1,18 @@
 -- Limits of numbers.
-use Rattle.std.specs.Prelude.{ℤ, pos, List, ◌≤ℤ◌, ℕ, ◌-◌, ◌^◌, slice_index_or, Bool, int_le, ◌&&◌}
+use Rattle.std.specs.Prelude.{ℤ, pos, negsuc, List, ◌≤ℤ◌, ℕ, ◌-◌, ◌^◌, slice_index_or, Bool, int_le, ◌&&◌}
 use Rattle.pic_walk.specs.declared.ranges.Limits.{Limits}
 
 -- from the one to the other, both allowed
 abbrev pub from_to : ℤ → ℤ → Limits
 from_to low high = record { low = low; high = high }
+
+-- all numbers of 64 bits
+abbrev pub any_limits : Limits
+any_limits = from_to (negsuc (2 ^ 63 - 1)) (pos (2 ^ 63 - 1))
+
+-- the numbers from 0 to below n
+abbrev pub below : ℕ → Limits
+below n = from_to (pos 0) (pos (n - 1))
 
 -- whether a number is within the limits
 abbrev pub is_within : Limits → ℤ → Bool

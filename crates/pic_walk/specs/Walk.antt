@@ -2,19 +2,19 @@
 -- meets first. What table a text is, is `toml`'s definition.
 use Rattle.std.specs.Prelude.{◌≡◌, ⊤, ℤ, pos, neg_ℤ, ℕ, suc, Bool, true, not, ◌&&◌, ◌==◌, unsigned_abs, if◌then◌else◌, List, [], ◌∷◌, ◌++◌, length, map, find, bytes_eq, slice_index_or, Option, Some, None, Result, Ok, Err}
 use Rattle.std.specs.List.{list_any}
-use Rattle.toml.specs.Data.{Data, Items, no_items, item, Members, no_members, member, as_integer, as_array, as_table, get_member, is_before}
+use Rattle.toml.specs.Data.{Data, Items, no_items, item, Members, no_members, member, as_str, as_integer, as_array, as_table, get_member, is_before}
 use Rattle.pic_num.specs.Multiplier.{Multiplier}
-use Rattle.pic_walk.specs.declared.faults.WalkRefusal.{WalkRefusal}
-use Rattle.pic_walk.specs.declared.faults.WalkRefusal.TheVariants.{Unknown, Missing, Kind, Limit}
-use Rattle.pic_walk.specs.declared.faults.WalkFault.{WalkFault}
-use Rattle.pic_walk.specs.declared.faults.WalkFault.TheVariants.{Refused, NoMemory}
+use Rattle.pic_walk.specs.declared.faults.Refusal.{Refusal}
+use Rattle.pic_walk.specs.declared.faults.Refusal.TheVariants.{Unknown, Missing, Kind, Limit}
+use Rattle.pic_walk.specs.declared.faults.DeckFault.{DeckFault}
+use Rattle.pic_walk.specs.declared.faults.DeckFault.TheVariants.{Refused, NoMemory}
 use Rattle.pic_walk.specs.declared.ranges.Limits.{Limits}
-use Rattle.pic_walk.specs.Range.{from_to, is_within, limits_at}
+use Rattle.pic_walk.specs.Range.{from_to, is_within, limits_at, any_limits}
 use Rattle.pic_walk.specs.Path.{key_at, element_at}
 
 -- what a walk gives
 abbrev pub Walked : Type 0 → Type 0
-Walked A = Result A WalkRefusal
+Walked A = Result A Refusal
 
 -- one walk, and then another from its value
 infixl 10 ◌>>=◌
@@ -23,7 +23,7 @@ Ok a >>= f = f a
 Err r >>= f = Err r
 
 -- the value, or this refusal where there is none
-unfoldable pub some_or : {A : Type 0} → WalkRefusal → Option A → Walked A
+unfoldable pub some_or : {A : Type 0} → Refusal → Option A → Walked A
 some_or r (Some a) = Ok a
 some_or r None = Err r
 
@@ -62,6 +62,14 @@ unfoldable pub each : {A : Type 0} → (List A → List ℕ → Data → Walked 
 each f path done no_items = Ok done
 each f path done (item d ds) = f done (element_at path (length done)) d >>= (λ a. each f path (done ++ a ∷ []) ds)
 
+-- an array of any number of elements
+unfoldable pub elements : List ℕ → Data → Walked Items
+elements path d = some_or (Kind path) (as_array d)
+
+-- the same, each element by f
+unfoldable pub list_of : {A : Type 0} → (List A → List ℕ → Data → Walked A) → List ℕ → Data → Walked (List A)
+list_of f path d = elements path d >>= each f path []
+
 -- an array of n elements, each by f
 unfoldable pub array_of : {A : Type 0} → ℕ → (List A → List ℕ → Data → Walked A) → List ℕ → Data → Walked (List A)
 array_of n f path d = fixed n path d >>= each f path []
@@ -77,6 +85,14 @@ numbers limits path d = array_of (length limits) (number_at limits) path d
 -- three numbers by axis, where the limits allow none below 0
 unfoldable pub three : List Limits → List ℕ → Data → Walked (List ℕ)
 three limits path d = numbers limits path d >>= (λ zs. Ok (map unsigned_abs zs))
+
+-- three numbers of 64 bits
+abbrev pub any_three : List Limits
+any_three = any_limits ∷ any_limits ∷ any_limits ∷ []
+
+-- a text
+unfoldable pub text : List ℕ → Data → Walked (List ℕ)
+text path d = some_or (Kind path) (as_str d)
 
 -- the limits of n and k in [n, k], a multiplier
 abbrev pub multiplier_limits : List Limits
@@ -126,17 +142,26 @@ needed key path ms = some_or (Missing (key_at path key)) (get_member key ms)
 unfoldable pub need : {A : Type 0} → (List ℕ → Data → Walked A) → List ℕ → List ℕ → Members → Walked A
 need f key path ms = needed key path ms >>= f (key_at path key)
 
+-- the value at a path by f, or another one where there is no value
+unfoldable pub given : {A : Type 0} → A → (List ℕ → Data → Walked A) → List ℕ → Option Data → Walked A
+given a f path None = Ok a
+given a f path (Some d) = f path d
+
+-- the value at a key by f, or another one where the key is absent
+unfoldable pub optional : {A : Type 0} → A → (List ℕ → Data → Walked A) → List ℕ → List ℕ → Members → Walked A
+optional a f key path ms = given a f (key_at path key) (get_member key ms)
+
 -- the fault is this refusal, or want of memory
-abbrev pub IsFault : WalkRefusal → WalkFault → Type 0
+abbrev pub IsFault : Refusal → DeckFault → Type 0
 IsFault r (Refused q) = q ≡ r
 IsFault r NoMemory = ⊤
 
 -- a call's answer is what the walk gives, or want of memory
-abbrev pub Answers : {A B : Type 0} → (B → A) → Walked A → Result B WalkFault → Type 0
+abbrev pub Answers : {A B : Type 0} → (B → A) → Walked A → Result B DeckFault → Type 0
 Answers seen w (Ok b) = w ≡ Ok (seen b)
 Answers seen w (Err (Refused r)) = w ≡ Err r
 Answers seen w (Err NoMemory) = ⊤
 
 -- the same as a record, of which lemmas find their arguments; `seen` is what a value stands for
-pub record WalksAs {A B : Type 0} (seen : B → A) (w : Walked A) (r : Result B WalkFault) : Type 0 where
+pub record WalksAs {A B : Type 0} (seen : B → A) (w : Walked A) (r : Result B DeckFault) : Type 0 where
   pub answer : Answers seen w r

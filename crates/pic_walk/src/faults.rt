@@ -1,12 +1,12 @@
 ghost use Rattle.std.specs.Prelude.{◌≡◌};
-ghost use Rattle.pic_walk.specs.declared.faults.WalkFault.TheVariants.{NoMemory};
+ghost use Rattle.pic_walk.specs.declared.faults.DeckFault.TheVariants.{NoMemory};
 
 use crate::paths::KeyPath;
 use std::alloc::{AllocError, AllocFailed};
 
 /// Why a document is refused: the first fault that the walk meets.
 #[derive(Debug, Drop)]
-pub enum WalkRefusal {
+pub enum Refusal {
     /// The bytes are no TOML document.
     Text,
     /// A table has a key that isn't listed for it.
@@ -28,35 +28,39 @@ pub enum WalkRefusal {
         low: i128,
         high: i128,
     },
+    /// A text isn't a name that may stand there.
+    Name {
+        path: KeyPath,
+    },
 }
 
 /// A refusal, or want of memory, which says nothing of the document.
 #[derive(Debug, Drop)]
-pub enum WalkFault {
-    Refused(WalkRefusal),
+pub enum DeckFault {
+    Refused(Refusal),
     NoMemory,
 }
 
-impl From<AllocError> for WalkFault {
+impl From<AllocError> for DeckFault {
     ghost from_gives = { λ _ e. e ≡ NoMemory };
 
-    fn from(_refused: AllocError) -> WalkFault {
-        WalkFault::NoMemory
+    fn from(_refused: AllocError) -> DeckFault {
+        DeckFault::NoMemory
     }
 }
 
-impl<T: Drop> From<AllocFailed<T>> for WalkFault {
+impl<T: Drop> From<AllocFailed<T>> for DeckFault {
     ghost from_gives = { λ _ e. e ≡ NoMemory };
 
-    fn from(_refused: AllocFailed<T>) -> WalkFault {
-        WalkFault::NoMemory
+    fn from(_refused: AllocFailed<T>) -> DeckFault {
+        DeckFault::NoMemory
     }
 }
 
-impl From<pic_num::NoMemory> for WalkFault {
+impl From<pic_num::NoMemory> for DeckFault {
     ghost from_gives = { λ _ e. e ≡ NoMemory };
 
-    fn from(_refused: pic_num::NoMemory) -> WalkFault {
-        WalkFault::NoMemory
+    fn from(_refused: pic_num::NoMemory) -> DeckFault {
+        DeckFault::NoMemory
     }
 }

@@ -10,12 +10,16 @@ mod places;
 mod ranges;
 mod tables;
 
-pub use faults::{WalkFault, WalkRefusal};
+pub use faults::{DeckFault, Refusal};
 pub use keys::{first_unlisted, is_listed};
 pub use numbers::{
-    check_within, read_array, read_multiplier, read_number, read_numbers, read_three, read_whole,
+    check_within, read_array, read_elements, read_multiplier, read_number, read_numbers, read_text,
+    read_three, read_whole,
 };
 pub use paths::KeyPath;
 pub use places::Place;
 pub use ranges::Limits;
-pub use tables::{check_keys, need_multiplier, need_table, need_three, need_whole, needed_value};
+pub use tables::{
+    check_keys, find_value, need_multiplier, need_number, need_table, need_three, need_whole,
+    needed_value, optional_three, read_table,
+};

@@ -3,9 +3,9 @@ ghost use Rattle.pic_num.specs.Multiplier.{Multiplier};
 ghost use Rattle.toml.specs.View.{view, array_view};
 ghost use Rattle.pic_walk.specs.Path.{path_of};
 ghost use Rattle.pic_walk.specs.Range.{IsInLimits, FitsU32, limits_at};
-ghost use Rattle.pic_walk.specs.Walk.{WalksAs, within, limited, whole, fixed, numbers, three, multiplier, multiplier_limits};
+ghost use Rattle.pic_walk.specs.Walk.{WalksAs, within, limited, whole, text, elements, fixed, numbers, three, multiplier, multiplier_limits};
 
-use crate::faults::WalkFault;
+use crate::faults::DeckFault;
 use crate::places::Place;
 use crate::ranges::Limits;
 use pic_num::Mult;
@@ -19,7 +19,7 @@ pub fn check_within(
     place: Place<'_>,
     value: i128,
     limits: Limits,
-) -> Result<(), WalkFault>
+) -> Result<(), DeckFault>
     ensures walks { WalksAs (λ _. value) (within limits (path_of place.entry) value) result }
     ensures bounds { OnOk result (IsInLimits limits value) }
 {
@@ -36,7 +36,7 @@ pub fn read_number(
     place: Place<'_>,
     value: &Value,
     limits: Limits,
-) -> Result<i64, WalkFault>
+) -> Result<i64, DeckFault>
     ensures walks { WalksAs (λ (z : ℤ). z) (limited limits (path_of place.entry) (view value.now)) result }
     ensures bounds { IfOk result (λ z. IsInLimits limits z) }
 {
@@ -55,7 +55,7 @@ pub fn read_whole(
     place: Place<'_>,
     value: &Value,
     limits: Limits,
-) -> Result<u32, WalkFault>
+) -> Result<u32, DeckFault>
     requires { FitsU32 limits }
     ensures walks { WalksAs (λ (n : ℕ). n) (whole limits (path_of place.entry) (view value.now)) result }
     ensures bounds { IfOk result (λ n. IsInLimits limits (pos n)) }
@@ -64,13 +64,41 @@ pub fn read_whole(
     Ok(number as u32)
 }
 
+/// The text at a place.
+pub fn read_text<'v>(
+    alloc: Global,
+    place: Place<'_>,
+    value: &'v Value,
+) -> Result<&'v str, DeckFault>
+    ensures { WalksAs (λ s. s.now) (text (path_of place.entry) (view value.now)) result }
+{
+    match value.as_str() {
+        Some(text) => Ok(text),
+        None => Err(place.kind_fault(alloc)),
+    }
+}
+
+/// The array of any number of elements at a place.
+pub fn read_elements<'v>(
+    alloc: Global,
+    place: Place<'_>,
+    value: &'v Value,
+) -> Result<&'v Array, DeckFault>
+    ensures { WalksAs (λ v. array_view v.now) (elements (path_of place.entry) (view value.now)) result }
+{
+    match value.as_array() {
+        Some(items) => Ok(items),
+        None => Err(place.kind_fault(alloc)),
+    }
+}
+
 /// The array of so many elements at a place.
 pub fn read_array<'v>(
     alloc: Global,
     place: Place<'_>,
     value: &'v Value,
     len: usize,
-) -> Result<&'v Array, WalkFault>
+) -> Result<&'v Array, DeckFault>
     ensures walks { WalksAs (λ v. array_view v.now) (fixed len (path_of place.entry) (view value.now)) result }
     ensures len { IfOk result (λ v. vec_len v.now ≡ len) }
 {
@@ -92,7 +120,7 @@ pub fn read_numbers<const N: usize>(
     place: Place<'_>,
     value: &Value,
     limits: [Limits; N],
-) -> Result<[i64; N], WalkFault>
+) -> Result<[i64; N], DeckFault>
     requires { place.column ≡ None }
     ensures walks { WalksAs (λ (zs : List ℤ). zs) (numbers limits.entry (path_of place.entry) (view value.now)) result }
     ensures bounds { IfOk result (λ zs. (k : ℕ) → k < N → IsInLimits (limits_at limits.entry k) (slice_index_or zs k (pos 0))) }
@@ -111,7 +139,7 @@ pub fn read_three(
     place: Place<'_>,
     value: &Value,
     limits: [Limits; 3],
-) -> Result<[u32; 3], WalkFault>
+) -> Result<[u32; 3], DeckFault>
     requires plain { place.column ≡ None }
     requires fits { (k : ℕ) → k < 3 → FitsU32 (limits_at limits k) }
     ensures walks { WalksAs (λ (ns : List ℕ). ns) (three limits (path_of place.entry) (view value.now)) result }
@@ -122,7 +150,7 @@ pub fn read_three(
 }
 
 /// The multiplier `[n, k]` at a place.
-pub fn read_multiplier(alloc: Global, place: Place<'_>, value: &Value) -> Result<Mult, WalkFault>
+pub fn read_multiplier(alloc: Global, place: Place<'_>, value: &Value) -> Result<Mult, DeckFault>
     requires { place.column ≡ None }
     ensures { WalksAs (λ (m : Multiplier). m) (multiplier (path_of place.entry) (view value.now)) result }
 {

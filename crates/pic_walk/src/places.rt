@@ -1,9 +1,9 @@
 ghost use Rattle.std.specs.Prelude.{◌≡◌, None, IfOk, OnOk, string_bytes};
 ghost use Rattle.pic_walk.specs.Path.{key_at, element_at, with_index, path_of};
 ghost use Rattle.pic_walk.specs.Walk.{IsFault};
-ghost use Rattle.pic_walk.specs.declared.faults.WalkRefusal.TheVariants.{Unknown, Missing, Kind, Limit};
+ghost use Rattle.pic_walk.specs.declared.faults.Refusal.TheVariants.{Unknown, Missing, Kind, Limit, Name};
 
-use crate::faults::{WalkFault, WalkRefusal};
+use crate::faults::{DeckFault, Refusal};
 use crate::paths::KeyPath;
 use crate::ranges::Limits;
 use std::alloc::{AllocError, Global};
@@ -66,47 +66,57 @@ impl<'a> Place<'a> {
     }
 
     /// That the table of the place has a key that isn't listed, the key of the place.
-    pub fn unknown_fault(self, alloc: Global) -> WalkFault
+    pub fn unknown_fault(self, alloc: Global) -> DeckFault
         ensures { IsFault (Unknown (path_of self.entry)) result }
     {
         match self.path(alloc) {
-            Ok(path) => WalkFault::Refused(WalkRefusal::Unknown { path }),
-            Err(_) => WalkFault::NoMemory,
+            Ok(path) => DeckFault::Refused(Refusal::Unknown { path }),
+            Err(_) => DeckFault::NoMemory,
         }
     }
 
     /// That nothing stands at the place.
-    pub fn missing_fault(self, alloc: Global) -> WalkFault
+    pub fn missing_fault(self, alloc: Global) -> DeckFault
         ensures { IsFault (Missing (path_of self.entry)) result }
     {
         match self.path(alloc) {
-            Ok(path) => WalkFault::Refused(WalkRefusal::Missing { path }),
-            Err(_) => WalkFault::NoMemory,
+            Ok(path) => DeckFault::Refused(Refusal::Missing { path }),
+            Err(_) => DeckFault::NoMemory,
         }
     }
 
     /// That a value of another kind stands at the place.
-    pub fn kind_fault(self, alloc: Global) -> WalkFault
+    pub fn kind_fault(self, alloc: Global) -> DeckFault
         ensures { IsFault (Kind (path_of self.entry)) result }
     {
         match self.path(alloc) {
-            Ok(path) => WalkFault::Refused(WalkRefusal::Kind { path }),
-            Err(_) => WalkFault::NoMemory,
+            Ok(path) => DeckFault::Refused(Refusal::Kind { path }),
+            Err(_) => DeckFault::NoMemory,
+        }
+    }
+
+    /// That the text at the place isn't a name that may stand there.
+    pub fn name_fault(self, alloc: Global) -> DeckFault
+        ensures { IsFault (Name (path_of self.entry)) result }
+    {
+        match self.path(alloc) {
+            Ok(path) => DeckFault::Refused(Refusal::Name { path }),
+            Err(_) => DeckFault::NoMemory,
         }
     }
 
     /// That the number at the place isn't within its limits.
-    pub fn limit_fault(self, alloc: Global, value: i128, limits: Limits) -> WalkFault
+    pub fn limit_fault(self, alloc: Global, value: i128, limits: Limits) -> DeckFault
         ensures { IsFault (Limit (path_of self.entry) value limits.low limits.high) result }
     {
         match self.path(alloc) {
-            Ok(path) => WalkFault::Refused(WalkRefusal::Limit {
+            Ok(path) => DeckFault::Refused(Refusal::Limit {
                 path,
                 value,
                 low: i128::from(limits.low),
                 high: i128::from(limits.high),
             }),
-            Err(_) => WalkFault::NoMemory,
+            Err(_) => DeckFault::NoMemory,
         }
     }
 }

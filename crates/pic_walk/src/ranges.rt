@@ -1,5 +1,5 @@
-ghost use Rattle.std.specs.Prelude.{◌≡◌};
-ghost use Rattle.pic_walk.specs.Range.{from_to, is_within};
+ghost use Rattle.std.specs.Prelude.{◌≡◌, ◌≤◌};
+ghost use Rattle.pic_walk.specs.Range.{from_to, any_limits, below, is_within};
 
 /// The least and the greatest number that may stand at a place.
 #[derive(Clone, Copy, Debug, PartialEq, Eq)]
@@ -13,6 +13,21 @@ impl Limits {
         ensures { result ≡ from_to low high }
     {
         Limits { low, high }
+    }
+
+    /// All numbers of 64 bits.
+    pub fn any() -> Limits
+        ensures { result ≡ any_limits }
+    {
+        Limits::new(i64::MIN, i64::MAX)
+    }
+
+    /// The numbers from 0 to below `n`.
+    pub fn below(n: u32) -> Limits
+        requires { 1 ≤ n }
+        ensures { result ≡ below n }
+    {
+        Limits::new(0, i64::from(n - 1))
     }
 
     /// Whether a number is within the limits.

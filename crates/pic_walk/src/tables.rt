@@ -1,27 +1,37 @@
-ghost use Rattle.std.specs.Prelude.{◌≡◌, ℕ, pos, List, [], map, ◌<◌, IfOk, slice_index};
+ghost use Rattle.std.specs.Prelude.{◌≡◌, ℕ, ℤ, pos, true, List, [], ◌∷◌, map, option_map, ◌<◌, IfOk, slice_index};
 ghost use Rattle.pic_num.specs.Multiplier.{Multiplier};
+ghost use Rattle.toml.specs.Data.{get_member};
 ghost use Rattle.toml.specs.View.{view, table_view};
 ghost use Rattle.pic_walk.specs.Path.{path_of};
 ghost use Rattle.pic_walk.specs.Range.{IsInLimits, FitsU32, limits_at};
-ghost use Rattle.pic_walk.specs.Walk.{WalksAs, listed, table_of, needed, need, whole, three, multiplier};
+ghost use Rattle.pic_walk.specs.Walk.{WalksAs, listed, keys_ascend, table_of, needed, need, optional, limited, whole, numbers, three, any_three, multiplier};
 
-use crate::faults::WalkFault;
+use crate::faults::DeckFault;
 use crate::keys::first_unlisted;
-use crate::numbers::{read_multiplier, read_three, read_whole};
+use crate::numbers::{read_multiplier, read_number, read_numbers, read_three, read_whole};
 use crate::places::Place;
 use crate::ranges::Limits;
 use pic_num::Mult;
 use std::alloc::Global;
 use toml::{Table, Value};
 
-/// Refuses the table at a path where it has a key that isn't listed.
-pub fn check_keys(alloc: Global, path: &str, keys: &[&str], table: &Table) -> Result<(), WalkFault>
-    ensures { WalksAs (λ _. table_view table.now) (listed (map (λ k. k.now) keys.now) path.now (table_view table.now)) result }
+/// Refuses the table at a path where it has a key that isn't listed. It names the first such key of
+/// the table, which is the least by byte order, since a table's keys ascend.
+pub fn check_keys(alloc: Global, path: &str, keys: &[&str], table: &Table) -> Result<(), DeckFault>
+    ensures walks { WalksAs (λ _. table_view table.now) (listed (map (λ k. k.now) keys.now) path.now (table_view table.now)) result }
+    ensures ascend { keys_ascend (table_view table.now) ≡ true }
 {
     match first_unlisted(keys, table) {
         Some(key) => Err(Place::new(path, key.as_str()).unknown_fault(alloc)),
         None => Ok(()),
     }
+}
+
+/// The value at a key of a table, where there is one.
+pub fn find_value<'v>(key: &str, table: &'v Table) -> Option<&'v Value>
+    ensures { option_map (λ v. view v.now) result ≡ get_member key.now (table_view table.now) }
+{
+    table.get(key)
 }
 
 /// The value at a key of the table at a path.
@@ -30,7 +40,7 @@ pub fn needed_value<'v>(
     path: &str,
     key: &str,
     table: &'v Table,
-) -> Result<&'v Value, WalkFault>
+) -> Result<&'v Value, DeckFault>
     ensures { WalksAs (λ v. view v.now) (needed key.now path.now (table_view table.now)) result }
 {
     match table.get(key) {
@@ -40,13 +50,13 @@ pub fn needed_value<'v>(
 }
 
 /// The table at a place, which has only listed keys; `path` is the path of the place.
-fn read_table<'v>(
+pub fn read_table<'v>(
     alloc: Global,
     place: Place<'_>,
     path: &str,
     keys: &[&str],
     value: &'v Value,
-) -> Result<&'v Table, WalkFault>
+) -> Result<&'v Table, DeckFault>
     requires { path_of place ≡ path.now }
     ensures { WalksAs (λ t. table_view t.now) (table_of (map (λ k. k.now) keys.now) path.now (view value.now)) result }
 {
@@ -65,7 +75,7 @@ pub fn need_table<'v>(
     key: &str,
     keys: &[&str],
     table: &'v Table,
-) -> Result<&'v Table, WalkFault>
+) -> Result<&'v Table, DeckFault>
     ensures { WalksAs (λ t. table_view t.now) (need (table_of (map (λ k. k.now) keys.now)) key.now [] (table_view table.now)) result }
 {
     let value = needed_value(alloc, "", key, table)?;
@@ -79,13 +89,28 @@ pub fn need_whole(
     key: &str,
     table: &Table,
     limits: Limits,
-) -> Result<u32, WalkFault>
+) -> Result<u32, DeckFault>
     requires { FitsU32 limits }
     ensures walks { WalksAs (λ (n : ℕ). n) (need (whole limits) key.now path.now (table_view table.now)) result }
     ensures bounds { IfOk result (λ n. IsInLimits limits (pos n)) }
 {
     let value = needed_value(alloc, path, key, table)?;
     read_whole(alloc, Place::new(path, key), value, limits)
+}
+
+/// The whole number at a key of the table at a path, within its limits.
+pub fn need_number(
+    alloc: Global,
+    path: &str,
+    key: &str,
+    table: &Table,
+    limits: Limits,
+) -> Result<i64, DeckFault>
+    ensures walks { WalksAs (λ (z : ℤ). z) (need (limited limits) key.now path.now (table_view table.now)) result }
+    ensures bounds { IfOk result (λ z. IsInLimits limits z) }
+{
+    let value = needed_value(alloc, path, key, table)?;
+    read_number(alloc, Place::new(path, key), value, limits)
 }
 
 /// The three whole numbers at a key of the table at a path, one an axis, within limits that allow
@@ -96,7 +121,7 @@ pub fn need_three(
     key: &str,
     table: &Table,
     limits: [Limits; 3],
-) -> Result<[u32; 3], WalkFault>
+) -> Result<[u32; 3], DeckFault>
     requires { (k : ℕ) → k < 3 → FitsU32 (limits_at limits k) }
     ensures walks { WalksAs (λ (ns : List ℕ). ns) (need (three limits) key.now path.now (table_view table.now)) result }
     ensures bounds { IfOk result (λ ns. (k : ℕ) → k < 3 → IsInLimits (limits_at limits k) (pos (slice_index ns k))) }
@@ -111,9 +136,24 @@ pub fn need_multiplier(
     path: &str,
     key: &str,
     table: &Table,
-) -> Result<Mult, WalkFault>
+) -> Result<Mult, DeckFault>
     ensures { WalksAs (λ (m : Multiplier). m) (need multiplier key.now path.now (table_view table.now)) result }
 {
     let value = needed_value(alloc, path, key, table)?;
     read_multiplier(alloc, Place::new(path, key), value)
+}
+
+/// Three numbers of 64 bits at a key of the table at a path, or zeros where the key is absent.
+pub fn optional_three(
+    alloc: Global,
+    path: &str,
+    key: &str,
+    table: &Table,
+) -> Result<[i64; 3], DeckFault>
+    ensures { WalksAs (λ (zs : List ℤ). zs) (optional (pos 0 ∷ pos 0 ∷ pos 0 ∷ []) (numbers any_three) key.now path.now (table_view table.now)) result }
+{
+    match find_value(key, table) {
+        Some(value) => read_numbers(alloc, Place::new(path, key), value, [Limits::any(); 3]),
+        None => Ok([0; 3]),
+    }
 }

@@ -6,12 +6,12 @@ use Rattle.pic_walk.proofs.tables.read_table.Goals as goal
 pub returns-in_err-check_keys-in-Some : goal.returns-in_err-check_keys-in-Some
 unfolding table_of
 returns-in_err-check_keys-in-Some c =
-    goes_on _ _ _ (there _ _ _ (sym c.in-Some.ensures)) (exits_as _ c.from_residual.ensures.1 c.in_err-check_keys-in-Some.ensures)
+    goes_on _ _ _ (there _ _ _ (sym c.in-Some.ensures)) (exits_as _ c.from_residual.ensures.1 c.in_err-check_keys-in-Some.ensures.walks)
 
 pub returns-in_ok-check_keys-in-Some : goal.returns-in_ok-check_keys-in-Some
 unfolding table_of
 returns-in_ok-check_keys-in-Some c =
-    goes_on _ _ _ (there _ _ _ (sym c.in-Some.ensures)) (record { answer = c.in_ok-check_keys-in-Some.ensures.answer })
+    goes_on _ _ _ (there _ _ _ (sym c.in-Some.ensures)) (record { answer = c.in_ok-check_keys-in-Some.ensures.walks.answer })
 
 pub returns-in-None : goal.returns-in-None
 unfolding table_of
