@@ -1,5 +1,5 @@
 -- The three axes of a grid.
-use Rattle.std.proofs.Common.{◌≡◌, ℤ, pos, ℕ, zero, suc, ◌+◌, ◌<◌, ◌≤◌, ◌≢◌, List, [], ◌∷◌, ◌++◌, length, get_or, set, take, drop, slice_index, ap, ◌∙◌, ◌/◌, ◌^◌, arith}
+use Rattle.std.proofs.Common.{◌≡◌, ℤ, pos, ℕ, zero, suc, ◌+◌, ◌<◌, ◌≤◌, ◌≢◌, List, [], ◌∷◌, ◌++◌, length, get_or, set, take, drop, slice_index, ap, ◌∙◌, lit<, ◌/◌, ◌^◌, arith}
 use Rattle.std.proofs.lemmas.Int.{ints, to_z-of_z}
 use mir.Syntax.{w64, w128}
 use mir.Val.{SFits, to_z, of_z}
@@ -12,7 +12,9 @@ use Rattle.pic_walk.specs.Path.{element_at}
 use Rattle.pic_walk.specs.Range.{from_to, IsInLimits, FitsU32, limits_at}
 use Rattle.pic_walk.specs.Walk.{◌>>=◌, each}
 use Rattle.pic_walk.proofs.ArrayLaws.{each_at}
-use Rattle.pic_deck.specs.Deck.{IsAxis, IsTiled}
+use Rattle.pic_num.specs.Space.{triple}
+use Rattle.pic_grid.specs.Places.{IsCells, count_of}
+use Rattle.pic_deck.specs.Deck.{IsTiled, AreTiles}
 use Rattle.pic_deck.specs.Keys.{cell_limits, next_tiles, axis_tiles}
 
 -- what holds of 0, 1 and 2
@@ -29,13 +31,32 @@ pub cells_fit : (k : ℕ) → k < 3 → FitsU32 (limits_at cell_limits k)
 unfolding limits_at
 cells_fit = below_three (λ k. FitsU32 (limits_at cell_limits k)) fits fits fits
 
-axis : (n : ℕ) → IsInLimits (from_to (pos 2) (pos 64)) (pos n) → IsAxis n
-axis n inside = record { low = omega (arith, ints, inside.low); high = omega (arith, ints, inside.high) }
-
-pub cells_within : (k n : ℕ) → k < 3 → IsInLimits (limits_at cell_limits k) (pos n) → IsAxis n
+pub cells_within : (ns : List ℕ) → ((k : ℕ) → k < 3 → IsInLimits (limits_at cell_limits k) (pos (slice_index ns k))) → IsCells (triple ns)
 unfolding limits_at
-cells_within k n small inside =
-    below_three (λ k'. IsInLimits (limits_at cell_limits k') (pos n) → IsAxis n) (axis n) (axis n) (axis n) k small inside
+cells_within ns inside =
+    let x : IsInLimits (from_to (pos 2) (pos 64)) (pos (slice_index ns 0)) = inside 0 (lit< tt) in
+    let y : IsInLimits (from_to (pos 2) (pos 64)) (pos (slice_index ns 1)) = inside 1 (lit< tt) in
+    let z : IsInLimits (from_to (pos 2) (pos 64)) (pos (slice_index ns 2)) = inside 2 (lit< tt) in
+    record {
+      x_least = omega (arith, ints, x.low);
+      x_most = omega (arith, ints, x.high);
+      y_least = omega (arith, ints, y.low);
+      y_most = omega (arith, ints, y.high);
+      z_least = omega (arith, ints, z.low);
+      z_most = omega (arith, ints, z.high);
+    }
+
+-- the tiles of each axis are those of the grid, where they are 512 at most
+pub tiles_within : (ns ts : List ℕ) → ((k : ℕ) → k < 3 → IsTiled (slice_index ns k) (slice_index ts k)) → count_of (triple ts) ≤ 512 → AreTiles (triple ns) (triple ts)
+tiles_within ns ts tiled most = record { x = tiled 0 (lit< tt); y = tiled 1 (lit< tt); z = tiled 2 (lit< tt); most = most }
+
+-- an axis has at most 32 tiles
+pub few_tiles : (ns ts : List ℕ) → IsCells (triple ns) → ((k : ℕ) → k < 3 → IsTiled (slice_index ns k) (slice_index ts k)) → (k : ℕ) → k < 3 → slice_index ts k ≤ 32
+few_tiles ns ts cells tiled =
+    let x = tiled 0 (lit< tt) in
+    let y = tiled 1 (lit< tt) in
+    let z = tiled 2 (lit< tt) in
+    below_three (λ k. slice_index ts k ≤ 32) (omega (arith, x.high, cells.x_most)) (omega (arith, y.high, cells.y_most)) (omega (arith, z.high, cells.z_most))
 
 -- the tiles of the next axis
 pub next_axis_tiles : (ns : List ℕ) (path : List ℕ) (ts : List ℕ) (vs : List Value) (i : ℕ) (d : Value) → i < length vs → i ≤ length ts

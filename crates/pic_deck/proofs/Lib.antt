@@ -1,3 +1,8 @@
 pub mod GridLaws
+pub mod ContentLaws
+pub mod InitialLaws
+pub mod ForceLaws
+pub mod HeadLaws
+pub mod ListLaws
 pub mod DocumentLaws
 pub mod TextLaws

@@ -1,10 +1,20 @@
 -- What a deck says, and the limits that its type keeps.
-use Rattle.std.specs.Prelude.{◌≡◌, ℕ, List, ◌*◌, ◌/◌, ◌%◌, ◌≤◌}
+use Rattle.std.specs.Prelude.{◌≡◌, ℕ, ℤ, List, map, ◌/◌, ◌%◌, ◌≤◌}
 use Rattle.pic_num.specs.declared.multiplier.Scales.{Scales}
-use Rattle.pic_num.specs.Space.{Triple, triple}
+use Rattle.pic_num.specs.declared.space.Axis.{Axis}
+use Rattle.pic_num.specs.Space.{Triple, triple, Spot, spot}
+use Rattle.pic_grid.specs.Places.{IsCells, count_of}
+use Rattle.pic_grid.specs.Species.{HeadView, AreHeads}
+use Rattle.pic_deck.specs.declared.parts.FieldValues.{FieldValues}
+use Rattle.pic_deck.specs.declared.parts.Setup.{Setup}
+use Rattle.pic_deck.specs.declared.row_lists.Row.{Row}
+use Rattle.pic_deck.specs.declared.species_lists.Species.{Species}
+use Rattle.pic_deck.specs.Heads.{AreFilled, head_of}
+use Rattle.pic_deck.specs.Initial.{AreRows, IsMild, set_up}
 
--- a deck: the cells and the tiles of each axis, how many steps, after how many a frame is due, and
--- the multipliers of the fields
+-- a deck: the cells and the tiles of each axis, how many steps, after how many a frame is due, the
+-- multipliers of the fields, the uniform parts of E and B and the rows that are added to them, and
+-- the species
 pub record DeckView : Type 0 where
   pub version : ℕ
   pub cells : Triple
@@ -12,11 +22,27 @@ pub record DeckView : Type 0 where
   pub steps : ℕ
   pub every : ℕ
   pub scales : Scales
+  pub e : Spot
+  pub b : Spot
+  pub edges : List Row
+  pub faces : List Row
+  pub species : List Species
 
--- the deck of these numbers
-abbrev pub deck_view : ℕ → List ℕ → List ℕ → ℕ → ℕ → Scales → DeckView
-deck_view version cells tiles steps every scales =
-    record { version = version; cells = triple cells; tiles = triple tiles; steps = steps; every = every; scales = scales }
+-- the deck of these parts
+abbrev pub deck_view : Setup → FieldValues → List Species → DeckView
+deck_view setup field species = record {
+  version = setup.version;
+  cells = setup.cells;
+  tiles = triple setup.tiles;
+  steps = setup.steps;
+  every = setup.every;
+  scales = setup.scales;
+  e = spot field.e;
+  b = spot field.b;
+  edges = field.edges;
+  faces = field.faces;
+  species = species;
+}
 
 -- an axis of n cells is cut into t tiles of one size, each of two cells or more
 pub record IsTiled (n t : ℕ) : Type 0 where
@@ -24,25 +50,41 @@ pub record IsTiled (n t : ℕ) : Type 0 where
   pub high : t ≤ n / 2
   pub divides : n % t ≡ 0
 
--- an axis may have so many cells
-pub record IsAxis (n : ℕ) : Type 0 where
-  pub low : 2 ≤ n
-  pub high : n ≤ 64
+-- a grid of n cells is cut into tiles, 512 at most
+pub record AreTiles (n tiles : Triple) : Type 0 where
+  pub x : IsTiled n.x tiles.x
+  pub y : IsTiled n.y tiles.y
+  pub z : IsTiled n.z tiles.z
+  pub most : count_of tiles ≤ 512
 
--- how many tiles there are
-abbrev pub tile_count : Triple → ℕ
-tile_count t = t.x * t.y * t.z
+-- the value of E that a deck begins with, on an axis at a cell: the uniform part, and what the rows
+-- of that place add up to
+abbrev pub initial_e : DeckView → Axis → Triple → ℤ
+initial_e d = set_up d.e d.edges
 
--- the numbers of a deck are within the limits of their keys
+-- the same of B
+abbrev pub initial_b : DeckView → Axis → Triple → ℤ
+initial_b d = set_up d.b d.faces
+
+-- the species as the dump's header has them
+abbrev pub heads_of : DeckView → List HeadView
+heads_of d = map head_of d.species
+
+-- the numbers of the tables of the grid, the run and the scales are within their limits
+pub record IsSetup (v : ℕ) (n t : Triple) (s f : ℕ) : Type 0 where
+  pub version : v ≡ 1
+  pub cells : IsCells n
+  pub tiles : AreTiles n t
+  pub steps : s ≤ 1000000
+  pub every_low : 1 ≤ f
+  pub every_high : f ≤ 1000000
+
+-- all that a deck says is within its limits
 pub record IsWithinLimits (d : DeckView) : Type 0 where
-  pub version : d.version ≡ 1
-  pub cells_x : IsAxis d.cells.x
-  pub cells_y : IsAxis d.cells.y
-  pub cells_z : IsAxis d.cells.z
-  pub tiles_x : IsTiled d.cells.x d.tiles.x
-  pub tiles_y : IsTiled d.cells.y d.tiles.y
-  pub tiles_z : IsTiled d.cells.z d.tiles.z
-  pub tiles : tile_count d.tiles ≤ 512
-  pub steps : d.steps ≤ 1000000
-  pub every_low : 1 ≤ d.every
-  pub every_high : d.every ≤ 1000000
+  pub setup : IsSetup d.version d.cells d.tiles d.steps d.every
+  pub edges : AreRows d.cells d.edges
+  pub faces : AreRows d.cells d.faces
+  pub heads : AreHeads (heads_of d)
+  pub filled : AreFilled d.cells d.species
+  pub e : IsMild d.cells d.scales.e_force (initial_e d)
+  pub b : IsMild d.cells d.scales.b_force (initial_b d)

@@ -1,21 +1,31 @@
 -- The walk of a deck, this project's profile: the keys of each table in their order, the kind of
 -- each value and its limits. Which table a text is, is `toml`'s definition.
-use Rattle.std.specs.Prelude.{pos, ℕ, ◌/◌, ◌%◌, List, [], ◌∷◌, length, codes, slice_index, if◌then◌else◌, Option, None, Ok}
+use Rattle.std.specs.Prelude.{ℤ, pos, negsuc, ℕ, ◌+◌, ◌*◌, ◌/◌, ◌%◌, unsigned_abs, List, [], ◌∷◌, length, codes, slice_index, slice_index_or, if◌then◌else◌, Option, Some, None, Ok, Err}
 use Rattle.std.specs.Str.{is_utf8}
 use Rattle.toml.specs.Data.{Data, Members}
 use Rattle.toml.specs.Parse.{parse_document}
 use Rattle.pic_num.specs.declared.multiplier.Scales.{Scales}
-use Rattle.pic_num.specs.Space.{triple}
-use Rattle.pic_walk.specs.declared.faults.WalkRefusal.TheVariants.{Text}
+use Rattle.pic_num.specs.declared.motion.Kind.{Kind}
+use Rattle.pic_num.specs.Space.{Triple, triple, spot}
+use Rattle.pic_grid.specs.Places.{count_of, axis_of}
+use Rattle.pic_walk.specs.declared.faults.Refusal.TheVariants.{Text, Limit, Name}
 use Rattle.pic_walk.specs.declared.ranges.Limits.{Limits}
 use Rattle.pic_walk.specs.Path.{key_at}
-use Rattle.pic_walk.specs.Range.{from_to}
-use Rattle.pic_walk.specs.Walk.{Walked, ◌>>=◌, some_or, within, whole, array_of, three, multiplier, listed, table_of, need}
-use Rattle.pic_deck.specs.Deck.{DeckView, deck_view, tile_count}
+use Rattle.pic_walk.specs.Range.{from_to, below, any_limits}
+use Rattle.pic_walk.specs.Walk.{Walked, ◌>>=◌, some_or, within, limited, whole, text, elements, count_of_items, each, list_of, array_of, numbers, three, any_three, multiplier, listed, table_of, need, optional}
+use Rattle.pic_deck.specs.declared.parts.FieldValues.{FieldValues}
+use Rattle.pic_deck.specs.declared.parts.Setup.{Setup}
+use Rattle.pic_deck.specs.declared.point_lists.Point6.{Point6}
+use Rattle.pic_deck.specs.declared.row_lists.Row.{Row}
+use Rattle.pic_deck.specs.declared.species_lists.Fill.TheVariants.{Points}
+use Rattle.pic_deck.specs.declared.species_lists.Species.{Species}
+use Rattle.pic_deck.specs.Deck.{DeckView, deck_view}
+use Rattle.pic_deck.specs.Heads.{is_new_name, particles_of}
+use Rattle.pic_deck.specs.Initial.{set_up, first_strong}
 
 -- the keys of the document's own table
 abbrev pub deck_keys : List (List ℕ)
-deck_keys = codes "version" ∷ codes "grid" ∷ codes "run" ∷ codes "scale" ∷ []
+deck_keys = codes "version" ∷ codes "grid" ∷ codes "run" ∷ codes "scale" ∷ codes "field" ∷ codes "species" ∷ []
 
 -- the keys of `grid`
 abbrev pub grid_keys : List (List ℕ)
@@ -48,16 +58,16 @@ next_tiles ns done path d = axis_tiles (slice_index ns (length done)) path d
 unfoldable pub tiles : List ℕ → List ℕ → Data → Walked (List ℕ)
 tiles ns path d =
     array_of 3 (next_tiles ns) path d
-    >>= (λ ts. within (from_to (pos 1) (pos 512)) path (pos (tile_count (triple ts)))
+    >>= (λ ts. within (from_to (pos 1) (pos 512)) path (pos (count_of (triple ts)))
     >>= (λ _. Ok ts))
 
 -- the cells and the tiles
-unfoldable pub grid : Members → Walked (List ℕ × List ℕ)
+unfoldable pub grid : Members → Walked (Triple × List ℕ)
 grid ms =
     need (table_of grid_keys) (codes "grid") [] ms
     >>= (λ t. need (three cell_limits) (codes "cells") (codes "grid") t
     >>= (λ ns. need (tiles ns) (codes "tiles") (codes "grid") t
-    >>= (λ ts. Ok (ns, ts))))
+    >>= (λ ts. Ok (triple ns, ts))))
 
 -- how many steps, and after how many a frame is due
 unfoldable pub run : Members → Walked (ℕ × ℕ)
@@ -77,16 +87,142 @@ scale ms =
     >>= (λ e_force. need multiplier (codes "b_force") (codes "scale") t
     >>= (λ b_force. Ok (record { e_to_b = e_to_b; b_to_e = b_to_e; e_force = e_force; b_force = b_force }))))))
 
--- the deck that a table is; so far a run has no steps
+-- the grid, the run and the scales of a deck
+unfoldable pub setup : Members → Walked Setup
+setup ms =
+    need (whole (from_to (pos 1) (pos 1))) (codes "version") [] ms
+    >>= (λ version. grid ms
+    >>= (λ g. run ms
+    >>= (λ r. scale ms
+    >>= (λ scales. Ok (record { version = version; cells = g.0; tiles = g.1; steps = r.0; every = r.1; scales = scales })))))
+
+-- the keys of `field`
+abbrev pub field_keys : List (List ℕ)
+field_keys = codes "e" ∷ codes "b" ∷ codes "edges" ∷ codes "faces" ∷ []
+
+-- the limits of a row [axis, i, j, k, value] on a grid of n cells
+abbrev pub row_limits : Triple → List Limits
+row_limits n = from_to (pos 0) (pos 2) ∷ below n.x ∷ below n.y ∷ below n.z ∷ any_limits ∷ []
+
+-- the number at an index, which isn't below 0
+abbrev pub natural_at : List ℤ → ℕ → ℕ
+natural_at zs i = unsigned_abs (slice_index_or zs i (pos 0))
+
+-- the row of five numbers
+abbrev pub row_of : List ℤ → Row
+row_of zs = record {
+  axis = axis_of (natural_at zs 0);
+  cell = natural_at zs 1 ∷ natural_at zs 2 ∷ natural_at zs 3 ∷ [];
+  value = slice_index_or zs 4 (pos 0);
+}
+
+-- the next row
+unfoldable pub row : Triple → List Row → List ℕ → Data → Walked Row
+row n done path d = numbers (row_limits n) path d >>= (λ zs. Ok (row_of zs))
+
+-- the rows of a field, 1048576 at most
+unfoldable pub row_list : Triple → List ℕ → Data → Walked (List Row)
+row_list n path d =
+    list_of (row n) path d
+    >>= (λ rs. within (from_to (pos 0) (pos 1048576)) path (pos (length rs))
+    >>= (λ _. Ok rs))
+
+-- a field of zeros
+abbrev pub zeros : List ℤ
+zeros = pos 0 ∷ pos 0 ∷ pos 0 ∷ []
+
+abbrev pub no_field : FieldValues
+no_field = record { e = zeros; b = zeros; edges = []; faces = [] }
+
+-- the fields: the uniform parts and the rows
+unfoldable pub fields : Triple → List ℕ → Data → Walked FieldValues
+fields n path d =
+    table_of field_keys path d
+    >>= (λ t. optional zeros (numbers any_three) (codes "e") path t
+    >>= (λ e. optional zeros (numbers any_three) (codes "b") path t
+    >>= (λ b. optional [] (row_list n) (codes "edges") path t
+    >>= (λ edges. optional [] (row_list n) (codes "faces") path t
+    >>= (λ faces. Ok (record { e = e; b = b; edges = edges; faces = faces }))))))
+
+-- the keys of a species
+abbrev pub species_keys : List (List ℕ)
+species_keys = codes "name" ∷ codes "charge" ∷ codes "mass" ∷ codes "kick" ∷ codes "turn" ∷ codes "points" ∷ []
+
+-- a name that no earlier species has
+unfoldable pub species_name : List Species → List ℕ → Data → Walked (List ℕ)
+species_name done path d =
+    text path d >>= (λ s. if is_new_name done s then Ok s else Err (Name path))
+
+-- what the particles of a species have in common
+unfoldable pub species_kind : List ℕ → Members → Walked Kind
+species_kind path t =
+    need (limited (from_to (negsuc 32767) (pos 32767))) (codes "charge") path t
+    >>= (λ charge. need (whole (from_to (pos 1) (pos 65536))) (codes "mass") path t
+    >>= (λ mass. need multiplier (codes "kick") path t
+    >>= (λ kick. need multiplier (codes "turn") path t
+    >>= (λ turn. Ok (record { charge = charge; mass = mass; kick = kick; turn = turn })))))
+
+-- the velocities of a deck
+abbrev pub speed_limits : Limits
+speed_limits = from_to (negsuc 16777215) (pos 16777216)
+
+-- the limits of a particle [x, y, z, vx, vy, vz] in the box of n cells
+abbrev pub point_limits : Triple → List Limits
+point_limits n =
+    below (n.x * 4096) ∷ below (n.y * 4096) ∷ below (n.z * 4096) ∷ speed_limits ∷ speed_limits ∷ speed_limits ∷ []
+
+-- the particle of six numbers
+abbrev pub point_of : List ℤ → Point6
+point_of zs = record {
+  x = natural_at zs 0 ∷ natural_at zs 1 ∷ natural_at zs 2 ∷ [];
+  v = slice_index_or zs 3 (pos 0) ∷ slice_index_or zs 4 (pos 0) ∷ slice_index_or zs 5 (pos 0) ∷ [];
+}
+
+-- the next particle
+unfoldable pub point : Triple → List Point6 → List ℕ → Data → Walked Point6
+point n done path d = numbers (point_limits n) path d >>= (λ zs. Ok (point_of zs))
+
+-- the particles of a species
+unfoldable pub point_list : Triple → List ℕ → Data → Walked (List Point6)
+point_list n path d = list_of (point n) path d
+
+-- the next species; the particles up to it are 1048576 at most
+unfoldable pub one_species : Triple → List Species → List ℕ → Data → Walked Species
+one_species n done path d =
+    table_of species_keys path d
+    >>= (λ t. need (species_name done) (codes "name") path t
+    >>= (λ named. species_kind path t
+    >>= (λ k. need (point_list n) (codes "points") path t
+    >>= (λ ps. within (from_to (pos 0) (pos 1048576)) path (pos (particles_of done + length ps))
+    >>= (λ _. Ok (record { name = named; kind = k; fill = Points ps }))))))
+
+-- all species, 16 at most
+unfoldable pub species_list : Triple → List ℕ → Data → Walked (List Species)
+species_list n path d =
+    elements path d
+    >>= (λ ds. within (from_to (pos 0) (pos 16)) path (pos (count_of_items ds))
+    >>= (λ _. each (one_species n) path [] ds))
+
+-- no force value passes 2^44, or that of the least place which does is refused
+unfoldable pub allowed : List ℕ → Option ℤ → Walked (Unit {0})
+allowed path None = Ok tt
+allowed path (Some f) = Err (Limit path f (negsuc 17592186044415) (pos 17592186044416))
+
+-- the force values of E, and then those of B
+unfoldable pub forces : Setup → FieldValues → Walked (Unit {0})
+forces s f =
+    allowed (key_at (codes "scale") (codes "e_force")) (first_strong s.cells s.scales.e_force (set_up (spot f.e) f.edges))
+    >>= (λ _. allowed (key_at (codes "scale") (codes "b_force")) (first_strong s.cells s.scales.b_force (set_up (spot f.b) f.faces)))
+
+-- the deck that a table is
 unfoldable pub deck : Members → Walked DeckView
 deck ms =
     listed deck_keys [] ms
-    >>= (λ t. need (whole (from_to (pos 1) (pos 1))) (codes "version") [] t
-    >>= (λ version. grid t
-    >>= (λ g. run t
-    >>= (λ r. scale t
-    >>= (λ scales. within (from_to (pos 0) (pos 0)) (key_at (codes "run") (codes "steps")) (pos r.0)
-    >>= (λ _. Ok (deck_view version g.0 g.1 r.0 r.1 scales)))))))
+    >>= (λ t. setup t
+    >>= (λ s. optional no_field (fields s.cells) (codes "field") [] t
+    >>= (λ f. optional [] (species_list s.cells) (codes "species") [] t
+    >>= (λ ss. forces s f
+    >>= (λ _. Ok (deck_view s f ss))))))
 
 -- the table that some bytes are: TOML, in UTF-8
 unfoldable pub document : List ℕ → Option Members

@@ -1,19 +1,25 @@
 ghost use Rattle.std.specs.Prelude.{◌≡◌};
-ghost use Rattle.pic_num.specs.Space.{triple};
-ghost use Rattle.pic_deck.specs.Deck.{IsWithinLimits};
+ghost use Rattle.pic_num.specs.Space.{triple, spot};
+ghost use Rattle.pic_grid.specs.Fields.{field_of};
+ghost use Rattle.pic_deck.specs.Deck.{IsWithinLimits, initial_e, initial_b};
+ghost use Rattle.pic_deck.specs.Heads.{particles_of};
 
+use crate::filling::fill;
+use crate::parts::{FieldValues, Setup};
+use crate::row_lists::Row;
+use crate::species_lists::{Species, SpeciesList};
+use crate::species_reader::particles_of;
+use pic_grid::{Cells, Lattice};
 use pic_num::Scales;
 use std::marker::Model;
 
-/// A deck, whose numbers are within the limits of their keys.
+/// A deck: all that it says is within the limits of its keys, no value of a field that it begins with
+/// is above 2^84 in size, and no force value above 2^44.
 #[derive(Debug, Drop)]
 pub struct Deck {
-    version: u32,
-    cells: [u32; 3],
-    tiles: [u32; 3],
-    steps: u32,
-    every: u32,
-    scales: Scales,
+    setup: Setup,
+    field: FieldValues,
+    species: SpeciesList,
 }
 
 impl Model for Deck {
@@ -21,32 +27,22 @@ impl Model for Deck {
 
     ghost Value = { DeckView };
 
-    ghost view = { λ a. deck_view a.version a.cells a.tiles a.steps a.every a.scales };
+    ghost view = { λ a. deck_view a.setup a.field a.species };
 
-    ghost invariant = { λ a. IsWithinLimits (deck_view a.version a.cells a.tiles a.steps a.every a.scales) };
+    ghost invariant = { λ a. IsWithinLimits (deck_view a.setup a.field a.species) };
 }
 
 impl Deck {
     ghost use Rattle.pic_deck.specs.Deck.{deck_view};
 
-    pub(crate) fn new(
-        version: u32,
-        cells: [u32; 3],
-        tiles: [u32; 3],
-        steps: u32,
-        every: u32,
-        scales: Scales,
-    ) -> Deck
-        requires { IsWithinLimits (deck_view version cells tiles steps every scales) }
-        ensures { result ≡ deck_view version cells tiles steps every scales }
+    pub(crate) fn new(setup: Setup, field: FieldValues, species: SpeciesList) -> Deck
+        requires { IsWithinLimits (deck_view setup field species) }
+        ensures { result ≡ deck_view setup field species }
     {
         Deck {
-            version,
-            cells,
-            tiles,
-            steps,
-            every,
-            scales,
+            setup,
+            field,
+            species,
         }
     }
 
@@ -55,15 +51,15 @@ impl Deck {
         ensures value { result ≡ self.now.version }
         ensures limits { IsWithinLimits self.now }
     {
-        self.version
+        self.setup.version
     }
 
     /// How many cells the grid has on each axis.
-    pub fn cells(&self) -> [u32; 3]
-        ensures value { triple result ≡ self.now.cells }
+    pub fn cells(&self) -> Cells
+        ensures value { result ≡ self.now.cells }
         ensures limits { IsWithinLimits self.now }
     {
-        self.cells
+        self.setup.cells
     }
 
     /// Into how many tiles the grid is cut on each axis.
@@ -71,7 +67,7 @@ impl Deck {
         ensures value { triple result ≡ self.now.tiles }
         ensures limits { IsWithinLimits self.now }
     {
-        self.tiles
+        self.setup.tiles
     }
 
     /// How many steps the run has.
@@ -79,7 +75,7 @@ impl Deck {
         ensures value { result ≡ self.now.steps }
         ensures limits { IsWithinLimits self.now }
     {
-        self.steps
+        self.setup.steps
     }
 
     /// After how many steps a frame is due.
@@ -87,13 +83,74 @@ impl Deck {
         ensures value { result ≡ self.now.every }
         ensures limits { IsWithinLimits self.now }
     {
-        self.every
+        self.setup.every
     }
 
     /// The multipliers of the fields.
     pub fn scales(&self) -> Scales
-        ensures { result ≡ self.now.scales }
+        ensures value { result ≡ self.now.scales }
+        ensures limits { IsWithinLimits self.now }
     {
-        self.scales
+        self.setup.scales
+    }
+
+    /// The uniform part of E.
+    pub fn e(&self) -> [i64; 3]
+        ensures value { spot result ≡ self.now.e }
+        ensures limits { IsWithinLimits self.now }
+    {
+        self.field.e
+    }
+
+    /// The uniform part of B.
+    pub fn b(&self) -> [i64; 3]
+        ensures value { spot result ≡ self.now.b }
+        ensures limits { IsWithinLimits self.now }
+    {
+        self.field.b
+    }
+
+    /// The rows that are added to E.
+    pub fn edges(&self) -> &[Row]
+        ensures value { result.now ≡ self.now.edges }
+        ensures limits { IsWithinLimits self.now }
+    {
+        self.field.edges.as_slice()
+    }
+
+    /// The rows that are added to B.
+    pub fn faces(&self) -> &[Row]
+        ensures value { result.now ≡ self.now.faces }
+        ensures limits { IsWithinLimits self.now }
+    {
+        self.field.faces.as_slice()
+    }
+
+    /// The species.
+    pub fn species(&self) -> &[Species]
+        ensures value { result.now ≡ self.now.species }
+        ensures limits { IsWithinLimits self.now }
+    {
+        self.species.as_slice()
+    }
+
+    /// How many particles the species have, 1048576 at most.
+    pub fn particles(&self) -> usize
+        ensures value { result ≡ particles_of self.now.species }
+        ensures limits { IsWithinLimits self.now }
+    {
+        particles_of(self.species.as_slice())
+    }
+
+    /// Makes two lattices of the deck's cells, whatever they held, the E and B that it begins with.
+    /// It takes no memory.
+    pub fn initial(&self, e: &mut Lattice, b: &mut Lattice)
+        requires e_cells { e.old.cells ≡ self.now.cells }
+        requires b_cells { b.old.cells ≡ self.now.cells }
+        ensures e { e.new ≡ field_of self.now.cells e.old.parts (initial_e self.now) }
+        ensures b { b.new ≡ field_of self.now.cells b.old.parts (initial_b self.now) }
+    {
+        fill(self.field.e, self.field.edges.as_slice(), e);
+        fill(self.field.b, self.field.faces.as_slice(), b);
     }
 }

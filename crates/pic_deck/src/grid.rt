@@ -1,33 +1,35 @@
 ghost use Rattle.std.specs.Prelude.{◌≡◌, ℕ, List, ◌*◌, ◌<◌, ◌≤◌, None, [], codes, IfOk, slice_index};
 ghost use Rattle.toml.specs.View.{view, table_view};
-ghost use Rattle.pic_num.specs.Space.{triple};
+ghost use Rattle.pic_num.specs.Space.{Triple, triple};
 ghost use Rattle.pic_walk.specs.Path.{path_of};
 ghost use Rattle.pic_walk.specs.Walk.{WalksAs, table_of, need, array_of, three};
-ghost use Rattle.pic_deck.specs.Deck.{IsAxis, IsTiled, tile_count};
+ghost use Rattle.pic_grid.specs.Places.{IsCells, count_of};
+ghost use Rattle.pic_deck.specs.Deck.{IsTiled, AreTiles};
 ghost use Rattle.pic_deck.specs.Keys.{grid_keys, grid, cell_limits, axis_tiles, next_tiles, tiles};
 
+use pic_grid::Cells;
 use pic_walk::{
-    Limits, Place, WalkFault, check_within, need_table, need_three, needed_value, read_array,
+    DeckFault, Limits, Place, check_within, need_table, need_three, needed_value, read_array,
     read_whole,
 };
 use std::alloc::Global;
 use toml::{Table, Value};
 
-const FEWEST_CELLS: i64 = 2;
+const FEWEST_CELLS: i64 = Cells::FEWEST as i64;
 
-const MOST_CELLS: i64 = 64;
+const MOST_CELLS: i64 = Cells::MOST as i64;
 
 const MOST_TILES: i64 = 512;
 
-fn grid_table(alloc: Global, table: &Table) -> Result<&Table, WalkFault>
+fn grid_table(alloc: Global, table: &Table) -> Result<&Table, DeckFault>
     ensures { WalksAs (λ t. table_view t.now) (need (table_of grid_keys) (codes "grid") [] (table_view table.now)) result }
 {
     need_table(alloc, "grid", &["cells", "tiles"], table)
 }
 
-fn read_cells(alloc: Global, table: &Table) -> Result<[u32; 3], WalkFault>
+fn read_cells(alloc: Global, table: &Table) -> Result<[u32; 3], DeckFault>
     ensures walks { WalksAs (λ (ns : List ℕ). ns) (need (three cell_limits) (codes "cells") (codes "grid") (table_view table.now)) result }
-    ensures bounds { IfOk result (λ ns. (k : ℕ) → k < 3 → IsAxis (slice_index ns k)) }
+    ensures bounds { IfOk result (λ ns. IsCells (triple ns)) }
 {
     let limits = [Limits::new(FEWEST_CELLS, MOST_CELLS); 3];
     need_three(alloc, "grid", "cells", table, limits)
@@ -39,7 +41,7 @@ fn read_axis_tiles(
     place: Place<'_>,
     value: &Value,
     cells: u32,
-) -> Result<u32, WalkFault>
+) -> Result<u32, DeckFault>
     ensures walks { WalksAs (λ (n : ℕ). n) (axis_tiles cells (path_of place.entry) (view value.now)) result }
     ensures tiled { IfOk result (λ t. IsTiled cells t) }
 {
@@ -54,7 +56,7 @@ fn read_each_tiles(
     place: Place<'_>,
     value: &Value,
     cells: [u32; 3],
-) -> Result<[u32; 3], WalkFault>
+) -> Result<[u32; 3], DeckFault>
     requires { place.column ≡ None }
     ensures walks { WalksAs (λ (ts : List ℕ). ts) (array_of 3 (next_tiles cells) (path_of place.entry) (view value.now)) result }
     ensures tiled { IfOk result (λ ts. (k : ℕ) → k < 3 → IsTiled (slice_index cells k) (slice_index ts k)) }
@@ -69,7 +71,7 @@ fn read_each_tiles(
 
 fn tiles_in_all(tiles: [u32; 3]) -> u32
     requires { (k : ℕ) → k < 3 → slice_index tiles k ≤ 32 }
-    ensures { result ≡ tile_count (triple tiles) }
+    ensures { result ≡ count_of (triple tiles) }
 {
     tiles[0] * tiles[1] * tiles[2]
 }
@@ -80,12 +82,11 @@ fn read_tiles(
     place: Place<'_>,
     value: &Value,
     cells: [u32; 3],
-) -> Result<[u32; 3], WalkFault>
+) -> Result<[u32; 3], DeckFault>
     requires plain { place.column ≡ None }
-    requires cells { (k : ℕ) → k < 3 → IsAxis (slice_index cells k) }
+    requires cells { IsCells (triple cells) }
     ensures walks { WalksAs (λ (ts : List ℕ). ts) (tiles cells (path_of place.entry) (view value.now)) result }
-    ensures tiled { IfOk result (λ ts. (k : ℕ) → k < 3 → IsTiled (slice_index cells k) (slice_index ts k)) }
-    ensures most { IfOk result (λ ts. tile_count (triple ts) ≤ 512) }
+    ensures tiled { IfOk result (λ ts. AreTiles (triple cells) (triple ts)) }
 {
     let tiles = read_each_tiles(alloc, place, value, cells)?;
     let count = i128::from(tiles_in_all(tiles));
@@ -93,25 +94,23 @@ fn read_tiles(
     Ok(tiles)
 }
 
-fn need_tiles(alloc: Global, table: &Table, cells: [u32; 3]) -> Result<[u32; 3], WalkFault>
-    requires { (k : ℕ) → k < 3 → IsAxis (slice_index cells k) }
+fn need_tiles(alloc: Global, table: &Table, cells: [u32; 3]) -> Result<[u32; 3], DeckFault>
+    requires { IsCells (triple cells) }
     ensures walks { WalksAs (λ (ts : List ℕ). ts) (need (tiles cells) (codes "tiles") (codes "grid") (table_view table.now)) result }
-    ensures tiled { IfOk result (λ ts. (k : ℕ) → k < 3 → IsTiled (slice_index cells k) (slice_index ts k)) }
-    ensures most { IfOk result (λ ts. tile_count (triple ts) ≤ 512) }
+    ensures tiled { IfOk result (λ ts. AreTiles (triple cells) (triple ts)) }
 {
     let value = needed_value(alloc, "grid", "tiles", table)?;
     read_tiles(alloc, Place::new("grid", "tiles"), value, cells)
 }
 
 /// The table `grid` of a deck: the cells and the tiles of each axis.
-pub fn read_grid(alloc: Global, table: &Table) -> Result<([u32; 3], [u32; 3]), WalkFault>
-    ensures walks { WalksAs (λ (g : List ℕ × List ℕ). g) (grid (table_view table.now)) result }
-    ensures cells { IfOk result (λ g. (k : ℕ) → k < 3 → IsAxis (slice_index g.0 k)) }
-    ensures tiled { IfOk result (λ g. (k : ℕ) → k < 3 → IsTiled (slice_index g.0 k) (slice_index g.1 k)) }
-    ensures most { IfOk result (λ g. tile_count (triple g.1) ≤ 512) }
+pub fn read_grid(alloc: Global, table: &Table) -> Result<(Cells, [u32; 3]), DeckFault>
+    ensures walks { WalksAs (λ (g : Triple × List ℕ). g) (grid (table_view table.now)) result }
+    ensures cells { IfOk result (λ g. IsCells g.0) }
+    ensures tiled { IfOk result (λ g. AreTiles g.0 (triple g.1)) }
 {
     let table = grid_table(alloc, table)?;
     let cells = read_cells(alloc, table)?;
     let tiles = need_tiles(alloc, table, cells)?;
-    Ok((cells, tiles))
+    Ok((Cells::new(cells), tiles))
 }

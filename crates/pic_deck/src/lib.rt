@@ -1,15 +1,30 @@
-//! The deck of a run: what a TOML document says of the grid, the run and the scales.
+//! The deck of a run: what a TOML document says of the grid, the run, the scales, the fields and the
+//! species.
 #![tactic(auto)]
 
 mod decks;
+mod fields;
+mod filling;
+mod forces;
 mod grid;
-mod reader;
+mod namings;
+mod parts;
+mod point_lists;
+mod point_reader;
+mod row_lists;
+mod row_reader;
 mod run;
 mod scale;
+mod setup;
+mod species_lists;
+mod species_reader;
 #[cfg(test)]
 mod tests;
 mod top;
 
 pub use decks::Deck;
-pub use reader::{DeckFault, Refusal, read_deck};
-pub use top::walk_deck;
+pub use pic_walk::{DeckFault, KeyPath, Refusal};
+pub use point_lists::{Point6, Points};
+pub use row_lists::{Row, Rows};
+pub use species_lists::{Fill, Species, SpeciesList};
+pub use top::read_deck;

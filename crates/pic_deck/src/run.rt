@@ -3,20 +3,20 @@ ghost use Rattle.toml.specs.View.{table_view};
 ghost use Rattle.pic_walk.specs.Walk.{WalksAs, table_of, need};
 ghost use Rattle.pic_deck.specs.Keys.{run_keys, run};
 
-use pic_walk::{Limits, WalkFault, need_table, need_whole};
+use pic_walk::{DeckFault, Limits, need_table, need_whole};
 use std::alloc::Global;
 use toml::Table;
 
 const MOST_STEPS: i64 = 1000000;
 
-fn run_table(alloc: Global, table: &Table) -> Result<&Table, WalkFault>
+fn run_table(alloc: Global, table: &Table) -> Result<&Table, DeckFault>
     ensures { WalksAs (λ t. table_view t.now) (need (table_of run_keys) (codes "run") [] (table_view table.now)) result }
 {
     need_table(alloc, "run", &["steps", "every"], table)
 }
 
 /// The table `run` of a deck: how many steps, and after how many a frame is due.
-pub fn read_run(alloc: Global, table: &Table) -> Result<(u32, u32), WalkFault>
+pub fn read_run(alloc: Global, table: &Table) -> Result<(u32, u32), DeckFault>
     ensures walks { WalksAs (λ (r : ℕ × ℕ). r) (run (table_view table.now)) result }
     ensures steps { IfOk result (λ r. r.0 ≤ 1000000) }
     ensures every_low { IfOk result (λ r. 1 ≤ r.1) }

@@ -5,11 +5,11 @@ ghost use Rattle.pic_walk.specs.Walk.{WalksAs, table_of, need};
 ghost use Rattle.pic_deck.specs.Keys.{scale_keys, scale};
 
 use pic_num::Scales;
-use pic_walk::{WalkFault, need_multiplier, need_table};
+use pic_walk::{DeckFault, need_multiplier, need_table};
 use std::alloc::Global;
 use toml::Table;
 
-fn scale_table(alloc: Global, table: &Table) -> Result<&Table, WalkFault>
+fn scale_table(alloc: Global, table: &Table) -> Result<&Table, DeckFault>
     ensures { WalksAs (λ t. table_view t.now) (need (table_of scale_keys) (codes "scale") [] (table_view table.now)) result }
 {
     need_table(
@@ -21,7 +21,7 @@ fn scale_table(alloc: Global, table: &Table) -> Result<&Table, WalkFault>
 }
 
 /// The table `scale` of a deck.
-pub fn read_scale(alloc: Global, table: &Table) -> Result<Scales, WalkFault>
+pub fn read_scale(alloc: Global, table: &Table) -> Result<Scales, DeckFault>
     ensures { WalksAs (λ (s : ScalesView). s) (scale (table_view table.now)) result }
 {
     let table = scale_table(alloc, table)?;

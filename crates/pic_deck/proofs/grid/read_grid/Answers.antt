@@ -1,4 +1,4 @@
-use Rattle.std.proofs.Common.{refl}
+use Rattle.std.proofs.Common.{Ok, ap, sym}
 use Rattle.pic_deck.specs.Keys.{grid}
 use Rattle.pic_walk.proofs.WalkLaws.{goes_on, exits}
 use Rattle.pic_deck.proofs.grid.read_grid.Goals as goal
@@ -21,4 +21,10 @@ returns-in_err-tiles-clause-walks c =
 pub returns-clause-walks : goal.returns-clause-walks
 unfolding grid
 returns-clause-walks c =
-    goes_on _ _ _ c.in_ok-table.ensures.answer (goes_on _ _ _ c.in_ok-cells.ensures.walks.answer (goes_on _ _ _ c.in_ok-tiles.ensures.walks.answer (record { answer = refl })))
+    goes_on _ _ _ c.in_ok-table.ensures.answer (goes_on _ _ _ c.in_ok-cells.ensures.walks.answer (goes_on _ _ _ c.in_ok-tiles.ensures.walks.answer (record { answer = ap (λ n. Ok (n, c.in_ok-tiles.tiles)) (sym c.new.ensures) })))
+
+pub returns-clause-tiled : goal.returns-clause-tiled
+returns-clause-tiled c = rw c.new.ensures c.in_ok-tiles.ensures.tiled
+
+pub returns-clause-cells : goal.returns-clause-cells
+returns-clause-cells c = rw c.new.ensures c.in_ok-cells.ensures.bounds

@@ -1,7 +1,5 @@
-use Rattle.std.proofs.Common.{Ok, ap, sym, arith, ◌≡◌, lit<}
-use Rattle.std.proofs.lemmas.Int.{ints}
+use Rattle.std.proofs.Common.{Ok, ap, sym}
 use Rattle.pic_deck.specs.Keys.{deck}
-use Rattle.pic_deck.proofs.GridLaws.{passed}
 use Rattle.pic_walk.proofs.WalkLaws.{goes_on, exits}
 use Rattle.pic_deck.proofs.top.read_table.Goals as goal
 
@@ -10,52 +8,38 @@ unfolding deck
 returns-in_err-check_deck_keys c =
     exits _ _ c.from_residual.ensures.1 c.in_err-check_deck_keys.ensures
 
-pub returns-in_err-version : goal.returns-in_err-version
+pub returns-in_err-setup : goal.returns-in_err-setup
 unfolding deck
-returns-in_err-version c =
-    goes_on _ _ _ c.in_ok-check_deck_keys.ensures.answer (exits _ _ c.from_residual-in_err-version.ensures.1 (rw c.new.ensures at c.in_err-version.ensures.walks))
+returns-in_err-setup c =
+    goes_on _ _ _ c.in_ok-check_deck_keys.ensures.answer (exits _ _ c.from_residual-in_err-setup.ensures.1 c.in_err-setup.ensures.walks)
 
-pub returns-in_err-cells : goal.returns-in_err-cells
+pub returns-in_err-field : goal.returns-in_err-field
 unfolding deck
-returns-in_err-cells c =
-    goes_on _ _ _ c.in_ok-check_deck_keys.ensures.answer (goes_on _ _ _ (rw c.new.ensures at c.in_ok-version.ensures.walks.answer) (exits _ _ c.from_residual-in_err-cells.ensures.1 c.in_err-cells.ensures.walks))
+returns-in_err-field c =
+    goes_on _ _ _ c.in_ok-check_deck_keys.ensures.answer (goes_on _ _ _ c.in_ok-setup.ensures.walks.answer (exits _ _ c.from_residual-in_err-field.ensures.1 c.in_err-field.ensures.walks))
 
-pub returns-in_err-steps : goal.returns-in_err-steps
+pub returns-in_err-species : goal.returns-in_err-species
 unfolding deck
-returns-in_err-steps c =
-    goes_on _ _ _ c.in_ok-check_deck_keys.ensures.answer (goes_on _ _ _ (rw c.new.ensures at c.in_ok-version.ensures.walks.answer) (goes_on _ _ _ c.in_ok-cells.ensures.walks.answer (exits _ _ c.from_residual-in_err-steps.ensures.1 c.in_err-steps.ensures.walks)))
+returns-in_err-species c =
+    goes_on _ _ _ c.in_ok-check_deck_keys.ensures.answer (goes_on _ _ _ c.in_ok-setup.ensures.walks.answer (goes_on _ _ _ c.in_ok-field.ensures.walks.answer (exits _ _ c.from_residual-in_err-species.ensures.1 c.in_err-species.ensures.walks)))
 
-pub returns-in_err-scales : goal.returns-in_err-scales
+pub returns-in_err-check_forces : goal.returns-in_err-check_forces
 unfolding deck
-returns-in_err-scales c =
-    goes_on _ _ _ c.in_ok-check_deck_keys.ensures.answer (goes_on _ _ _ (rw c.new.ensures at c.in_ok-version.ensures.walks.answer) (goes_on _ _ _ c.in_ok-cells.ensures.walks.answer (goes_on _ _ _ c.in_ok-steps.ensures.walks.answer (exits _ _ c.from_residual-in_err-scales.ensures.1 c.in_err-scales.ensures))))
-
-pub returns-in_err-check_within : goal.returns-in_err-check_within
-unfolding deck
-returns-in_err-check_within c =
-    let steps = passed c.in_ok-steps.steps c.from.result (omega arith) c.from.ensures in
-    goes_on _ _ _ c.in_ok-check_deck_keys.ensures.answer (goes_on _ _ _ (rw c.new.ensures at c.in_ok-version.ensures.walks.answer) (goes_on _ _ _ c.in_ok-cells.ensures.walks.answer (goes_on _ _ _ c.in_ok-steps.ensures.walks.answer (goes_on _ _ _ c.in_ok-scales.ensures.answer (exits _ _ c.from_residual-in_err-check_within.ensures.1 (rw (c.new-limits.ensures, c.new-2.ensures.path, steps) at c.in_err-check_within.ensures.walks))))))
+returns-in_err-check_forces c =
+    goes_on _ _ _ c.in_ok-check_deck_keys.ensures.answer (goes_on _ _ _ c.in_ok-setup.ensures.walks.answer (goes_on _ _ _ c.in_ok-field.ensures.walks.answer (goes_on _ _ _ c.in_ok-species.ensures.walks.answer (exits _ _ c.from_residual-in_err-check_forces.ensures.1 c.in_err-check_forces.ensures.walks))))
 
 pub returns : goal.returns
 unfolding deck
 returns c =
-    let steps = passed c.in_ok-steps.steps c.from.result (omega arith) c.from.ensures in
-    goes_on _ _ _ c.in_ok-check_deck_keys.ensures.answer (goes_on _ _ _ (rw c.new.ensures at c.in_ok-version.ensures.walks.answer) (goes_on _ _ _ c.in_ok-cells.ensures.walks.answer (goes_on _ _ _ c.in_ok-steps.ensures.walks.answer (goes_on _ _ _ c.in_ok-scales.ensures.answer (goes_on _ _ _ (rw (c.new-limits.ensures, c.new-2.ensures.path, steps) at c.in_ok-check_within.ensures.walks.answer) (record { answer = ap Ok (sym c.new-3.ensures) }))))))
+    goes_on _ _ _ c.in_ok-check_deck_keys.ensures.answer (goes_on _ _ _ c.in_ok-setup.ensures.walks.answer (goes_on _ _ _ c.in_ok-field.ensures.walks.answer (goes_on _ _ _ c.in_ok-species.ensures.walks.answer (goes_on _ _ _ c.in_ok-check_forces.ensures.walks.answer (record { answer = ap Ok (sym c.new.ensures) })))))
 
-pub new-requires-3 : goal.new-requires-3
-new-requires-3 c =
-    let inside = rw c.new.ensures at c.in_ok-version.ensures.bounds in
-    let one : c.in_ok-version.version ≡ 1 = omega (arith, ints, inside.low, inside.high) in
-    record {
-      version = one;
-      cells_x = c.in_ok-cells.ensures.cells 0 (lit< tt);
-      cells_y = c.in_ok-cells.ensures.cells 1 (lit< tt);
-      cells_z = c.in_ok-cells.ensures.cells 2 (lit< tt);
-      tiles_x = c.in_ok-cells.ensures.tiled 0 (lit< tt);
-      tiles_y = c.in_ok-cells.ensures.tiled 1 (lit< tt);
-      tiles_z = c.in_ok-cells.ensures.tiled 2 (lit< tt);
-      tiles = c.in_ok-cells.ensures.most;
-      steps = c.in_ok-steps.ensures.steps;
-      every_low = c.in_ok-steps.ensures.every_low;
-      every_high = c.in_ok-steps.ensures.every_high;
-    }
+pub new-requires : goal.new-requires
+new-requires c = record {
+  setup = c.in_ok-setup.ensures.limits;
+  edges = c.in_ok-field.ensures.edges;
+  faces = c.in_ok-field.ensures.faces;
+  heads = c.in_ok-species.ensures.heads;
+  filled = c.in_ok-species.ensures.filled;
+  e = c.in_ok-check_forces.ensures.e;
+  b = c.in_ok-check_forces.ensures.b;
+}

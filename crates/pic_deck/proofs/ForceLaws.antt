@@ -1,0 +1,125 @@
+-- The least place with a force value above 2^44.
+use Rattle.std.proofs.Common.{◌≡◌, ℕ, ◌+◌, ◌*◌, ◌/◌, ◌%◌, ◌^◌, ◌<◌, true, leb, List, [], ◌∷◌, length, Ok, Option, Some, None, ap, sym, ◌∙◌, refl, inl, inr, arith}
+use Rattle.std.proofs.Math.IntN.{ℤ, pos, ◌+ℤ◌, ◌*ℤ◌}
+use Rattle.std.specs.List.{range_with_len}
+use Rattle.std.specs.Prelude.{unsigned_abs}
+use Rattle.std.proofs.lemmas.Bool.{cases_Bool, leb-true, le-leb}
+use Rattle.std.proofs.lemmas.Int.{ints}
+use Rattle.pic_num.specs.declared.space.Axis.{Axis}
+use Rattle.pic_num.specs.declared.space.Axis.TheVariants.{X, Y, Z}
+use Rattle.pic_num.specs.First.{first_of}
+use Rattle.pic_num.specs.Multiplier.{Multiplier}
+use Rattle.pic_num.specs.Rounding.{scaled}
+use Rattle.pic_num.specs.Sizes.{IsAtMost}
+use Rattle.pic_num.specs.Space.{Triple, Spot}
+use Rattle.pic_num.proofs.Firsts.{first_of_next, first_of_at, first_of_none, none_first_of, first_of_same}
+use Rattle.pic_num.proofs.Rounds.{scaled-no_larger}
+use Rattle.pic_grid.specs.Fields.{Field, value_at, field_of}
+use Rattle.pic_grid.proofs.Fields.{value_at-field_of}
+use Rattle.pic_grid.specs.Places.{IsWithin, count_of, cell_of, axis_of, place_of}
+use Rattle.pic_grid.proofs.Places.{axis_of-place_of, cell_of-place_of, place_of_below, place_within}
+use Rattle.pic_grid.specs.Sums.{sum_over}
+use Rattle.pic_deck.specs.declared.row_lists.Row.{Row}
+use Rattle.pic_deck.specs.Initial.{strong, first_strong, set_up, IsMild}
+use Rattle.pic_deck.specs.Keys.{allowed}
+
+-- what is found at the place of a number
+abbrev pub strong_at : Triple → Multiplier → (Axis → Triple → ℤ) → ℕ → Option ℤ
+strong_at n by g i = strong by (g (axis_of (i / count_of n)) (cell_of n (i % count_of n)))
+
+pub strong_at-place : (n : Triple) (by : Multiplier) (g : Axis → Triple → ℤ) (a : Axis) (p : Triple) (i : ℕ) → IsWithin p n → place_of n a p ≡ i
+    → strong_at n by g i ≡ strong by (g a p)
+strong_at-place n by g a p i h e =
+    ap (strong_at n by g) (sym e) ∙ (λ k. strong by (g (axis_of-place_of n a p h k) (cell_of-place_of n a p h k)))
+
+-- nothing so far, and nothing here
+pub none_more : (n : Triple) (by : Multiplier) (g : Axis → Triple → ℤ) (i : ℕ) → first_of (strong_at n by g) (range_with_len 0 i) ≡ None → strong_at n by g i ≡ None
+    → first_of (strong_at n by g) (range_with_len 0 (i + 1)) ≡ None
+none_more n by g i none here =
+    let next = first_of_next (strong_at n by g) 0 i in
+    next ∙ rw (none, let e : 0 + i ≡ i = omega arith in ap (strong_at n by g) e ∙ here)
+
+-- nothing so far, and something here
+pub some_here : (n : Triple) (by : Multiplier) (g : Axis → Triple → ℤ) (i : ℕ) (f : ℤ) → first_of (strong_at n by g) (range_with_len 0 i) ≡ None → i < 3 * count_of n
+    → strong_at n by g i ≡ Some f → first_strong n by g ≡ Some f
+unfolding first_strong
+some_here n by g i f none below here =
+    first_of_at (strong_at n by g) 0 (3 * count_of n) i f (omega arith) (omega (arith, below)) here
+    (λ j low high. first_of_none (strong_at n by g) 0 i none j low (omega (arith, high)))
+
+-- nothing anywhere
+pub none_at_all : (n : Triple) (by : Multiplier) (g : Axis → Triple → ℤ) (i : ℕ) → i ≡ 3 * count_of n → first_of (strong_at n by g) (range_with_len 0 i) ≡ None
+    → first_strong n by g ≡ None
+unfolding first_strong
+none_at_all n by g i e none = ap (λ k. first_of (strong_at n by g) (range_with_len 0 k)) (sym e) ∙ none
+
+-- fields of the same values have the same first
+pub first_strong_same : (n : Triple) (by : Multiplier) (g h : Axis → Triple → ℤ) → ((a : Axis) (p : Triple) → IsWithin p n → g a p ≡ h a p)
+    → first_strong n by g ≡ first_strong n by h
+unfolding first_strong
+first_strong_same n by g h same =
+    first_of_same (strong_at n by g) (strong_at n by h) 0 (3 * count_of n)
+    (λ i low high. ap (strong by) (same (axis_of (i / count_of n)) (cell_of n (i % count_of n)) (place_within n i (omega (arith, high)))))
+
+weak : (by : Multiplier) (v : ℤ) → strong by v ≡ None → IsAtMost (scaled v by) (2 ^ 44)
+unfolding strong
+weak by v h =
+    elim (cases_Bool (leb (unsigned_abs (scaled v by)) (2 ^ 44))) [
+      | inl small ↦ record { size = leb-true _ _ small }
+      | inr large ↦ absurd (let e : Some (scaled v by) ≡ None = rw large at h in cc e)
+    ]
+
+-- where nothing is found every force value is small
+pub IsMild-from : (n : Triple) (by : Multiplier) (g : Axis → Triple → ℤ) → ((a : Axis) (p : Triple) → IsWithin p n → IsAtMost (g a p) (2 ^ 84))
+    → first_strong n by g ≡ None → IsMild n by g
+unfolding first_strong
+IsMild-from n by g small none = record {
+  values = small;
+  forces = λ a p h.
+      let below = place_of_below n a p h in
+      let here = first_of_none (strong_at n by g) 0 (3 * count_of n) none (place_of n a p) (omega arith) (omega (arith, below)) in
+      weak by (g a p) (sym (strong_at-place n by g a p (place_of n a p) h refl) ∙ here);
+}
+
+-- the force value of 0 is 0
+no_force : (by : Multiplier) (v : ℤ) → v ≡ pos 0 → strong by v ≡ None
+unfolding strong
+no_force by v e =
+    let size = scaled-no_larger v by in
+    let none : v *ℤ by.n ≡ pos 0 = ap (λ (z : ℤ). z *ℤ by.n) e ∙ omega (arith, ints) in
+    let small : leb (unsigned_abs (scaled v by)) (2 ^ 44) ≡ true = le-leb _ _ (omega (arith, size, ap unsigned_abs none)) in
+    rw small
+
+pub no_forces : (n : Triple) (by : Multiplier) (g : Axis → Triple → ℤ) → ((a : Axis) (p : Triple) → g a p ≡ pos 0) → first_strong n by g ≡ None
+unfolding first_strong
+no_forces n by g zero = none_first_of (strong_at n by g) 0 (3 * count_of n) (λ i low high. no_force by _ (zero _ _))
+
+pub zero_mild : (n : Triple) (by : Multiplier) (g : Axis → Triple → ℤ) → ((a : Axis) (p : Triple) → g a p ≡ pos 0) → IsMild n by g
+zero_mild n by g zero = IsMild-from n by g (λ a p h. record { size = rw (zero a p) (omega arith) }) (no_forces n by g zero)
+
+-- a field of zeros without rows
+pub zero_set_up : (u : Spot) (rows : List Row) → u ≡ record { x = pos 0; y = pos 0; z = pos 0 } → length rows ≡ 0 → (a : Axis) (p : Triple) → set_up u rows a p ≡ pos 0
+unfolding set_up sum_over
+zero_set_up u [] e h X p = ap (λ (v : Spot). v.x +ℤ pos 0) e
+zero_set_up u [] e h Y p = ap (λ (v : Spot). v.y +ℤ pos 0) e
+zero_set_up u [] e h Z p = ap (λ (v : Spot). v.z +ℤ pos 0) e
+zero_set_up u (r ∷ rows) e h a p = absurd (omega (arith, h))
+
+pub none_allowed : (path : List ℕ) (o : Option ℤ) → o ≡ None → allowed path o ≡ Ok tt
+unfolding allowed
+none_allowed path o e = rw e
+
+-- the first of a lattice given by its values
+pub first_of_field : (f : Field) (m parts n : Triple) (by : Multiplier) (g : Axis → Triple → ℤ) → f ≡ field_of m parts g → m ≡ n
+    → first_strong f.cells by (value_at f) ≡ first_strong n by g
+first_of_field f m parts n by g is same =
+    ap (λ (k : Field). first_strong k.cells by (value_at k)) is
+    ∙ first_strong_same m by (value_at (field_of m parts g)) g (λ a p h. value_at-field_of m parts g a p h)
+    ∙ ap (λ (k : Triple). first_strong k by g) same
+
+-- and the size of its values
+pub size_of_field : (f : Field) (m parts : Triple) (g : Axis → Triple → ℤ) → f ≡ field_of m parts g
+    → ((a : Axis) (p : Triple) → IsWithin p m → IsAtMost (g a p) (2 ^ 84))
+    → (a : Axis) (p : Triple) → IsWithin p f.cells → IsAtMost (value_at f a p) (2 ^ 90)
+size_of_field f m parts g is small =
+    rw is (λ a p h. let k = small a p h in rw (value_at-field_of m parts g a p h) (record { size = omega (arith, k.size) }))

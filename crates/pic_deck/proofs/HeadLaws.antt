@@ -1,0 +1,104 @@
+-- The species of a deck: their names, and one species more.
+use Rattle.std.proofs.Common.{◌≡◌, ℕ, ◌+◌, ◌<◌, ◌≤◌, Bool, true, false, not, ◌&&◌, leb, if◌then◌else◌, List, [], ◌∷◌, ◌++◌, length, map, get_or, sum_by, Ok, Err, ap, sym, ◌∙◌, refl, inl, inr, arith}
+use Rattle.std.specs.Str.{bytes_eq}
+use Rattle.std.specs.List.{list_all}
+use Rattle.std.proofs.lemmas.Bool.{and_parts, false≢true, leb-true}
+use Rattle.std.proofs.lemmas.List.Folds.{list_any_at}
+use Rattle.std.proofs.lemmas.Slice.Eq.{bytes_eq-Decides}
+use Rattle.std.proofs.lemmas.Bool.{cases_lt}
+use Rattle.std.proofs.lemmas.List.{length-append, length-map, map-append, get_or-map, get_or_append_left, get_or_push}
+use Rattle.std.proofs.lemmas.List.Sums.{sum_by-append, sum_by-cons}
+use Rattle.pic_num.specs.Space.{Triple}
+use Rattle.pic_grid.specs.Species.{IsName, IsKind, HeadView, no_head, AreHeads, is_name_byte}
+use Rattle.pic_walk.specs.declared.faults.Refusal.TheVariants.{Name}
+use Rattle.pic_walk.specs.Walk.{Walked}
+use Rattle.pic_deck.specs.declared.species_lists.Species.{Species}
+use Rattle.pic_deck.specs.Heads.{is_name, is_taken, is_new_name, no_species, IsNewName, ArePoints, AreFilled, points_in, particles_of, head_of}
+use Rattle.pic_deck.proofs.ListLaws.{all_more}
+
+name_from : (s : List ℕ) → is_name s ≡ true → IsName s
+unfolding is_name
+name_from s h =
+    let (size, bytes) = and_parts (leb 1 (length s) && leb (length s) 32) (list_all is_name_byte s) h in
+    let (low, high) = and_parts (leb 1 (length s)) (leb (length s) 32) size in
+    record { least = leb-true 1 (length s) low; most = leb-true (length s) 32 high; bytes = bytes }
+
+not_true : (b : Bool) → not b ≡ true → b ≡ true → ⊥
+not_true true h e = false≢true h
+not_true false h e = false≢true e
+
+pub IsNewName-from : (ss : List Species) (s : List ℕ) → is_new_name ss s ≡ true → IsNewName ss s
+unfolding is_new_name
+IsNewName-from ss s h =
+    let (good, free) = and_parts (is_name s) (not (is_taken ss s)) h in
+    record {
+      name = name_from s good;
+      differs = λ i below same. not_true (is_taken ss s) free
+          (list_any_at (λ (o : Species). bytes_eq o.name s) ss i no_species below ((bytes_eq-Decides (get_or ss i no_species).name s).1 same));
+    }
+
+-- the end of the walk of a name
+pub named : (ss : List Species) (path s : List ℕ) → is_new_name ss s ≡ true → ◌≡◌ {A = Walked (List ℕ)} (if is_new_name ss s then Ok s else Err (Name path)) (Ok s)
+named ss path s h = rw h
+
+pub misnamed : (ss : List Species) (path s : List ℕ) → is_new_name ss s ≡ false → ◌≡◌ {A = Walked (List ℕ)} (if is_new_name ss s then Ok s else Err (Name path)) (Err (Name path))
+misnamed ss path s h = rw h
+
+-- the particles of the heads are those of the species
+pub particles_of-heads : (ss : List Species) → sum_by (λ (h : HeadView). h.count) (map head_of ss) ≡ particles_of ss
+particles_of-heads [] = refl
+particles_of-heads (s ∷ ss) =
+    sum_by-cons (λ (h : HeadView). h.count) (head_of s) (map head_of ss)
+    ∙ ap (λ n. length (points_in s.fill) + n) (particles_of-heads ss)
+    ∙ sym (sum_by-cons (λ (o : Species). length (points_in o.fill)) s ss)
+
+differ_more : (hs : List HeadView) (h : HeadView) → ((i j : ℕ) → i < j → j < length hs → (get_or hs i no_head).name ≡ (get_or hs j no_head).name → ⊥)
+    → ((i : ℕ) → i < length hs → (get_or hs i no_head).name ≡ h.name → ⊥)
+    → (i j : ℕ) → i < j → j < length (hs ++ h ∷ []) → (get_or (hs ++ h ∷ []) i no_head).name ≡ (get_or (hs ++ h ∷ []) j no_head).name → ⊥
+differ_more hs h before new i j less high =
+    let size = length-append hs (h ∷ []) in
+    elim (cases_lt j (length hs)) [
+      | inl inside ↦
+          rw (get_or_append_left hs (h ∷ []) no_head i (omega (arith, less, inside)), get_or_append_left hs (h ∷ []) no_head j inside) (before i j less inside)
+      | inr last ↦
+          (let at_end : length hs ≡ j = omega (arith, last, high, size) in
+          rw (get_or_append_left hs (h ∷ []) no_head i (omega (arith, less, at_end)), get_or_push hs h no_head j at_end) (new i (omega (arith, less, at_end))))
+    ]
+
+heads_more : (hs : List HeadView) (h : HeadView) → AreHeads hs → length hs < 16 → IsName h.name → IsKind h.kind → ((i : ℕ) → i < length hs → (get_or hs i no_head).name ≡ h.name → ⊥)
+    → sum_by (λ (k : HeadView). k.count) hs + h.count ≤ 1048576 → AreHeads (hs ++ h ∷ [])
+heads_more hs h are room name kind new total =
+    let size = length-append hs (h ∷ []) in
+    let all = sum_by-append (λ (k : HeadView). k.count) hs (h ∷ []) in
+    record {
+      few = omega (arith, size, room);
+      names = all_more (λ (k : HeadView). IsName k.name) no_head hs h are.names name;
+      kinds = all_more (λ (k : HeadView). IsKind k.kind) no_head hs h are.kinds kind;
+      differ = differ_more hs h are.differ new;
+      total = omega (arith, all, total);
+    }
+
+-- one species more
+pub species_more : (ss : List Species) (s : Species) → AreHeads (map head_of ss) → length ss < 16 → IsNewName ss s.name → IsKind s.kind
+    → particles_of ss + length (points_in s.fill) ≤ 1048576 → AreHeads (map head_of (ss ++ s ∷ []))
+species_more ss s are room name kind few =
+    let size = length-map ss head_of in
+    let new : (i : ℕ) → i < length (map head_of ss) → (get_or (map head_of ss) i no_head).name ≡ s.name → ⊥ =
+    λ i below. let inside : i < length ss = omega (arith, below, size) in rw (get_or-map head_of ss i no_species no_head inside) (name.differs i inside) in
+    rw (map-append head_of ss (s ∷ []))
+    (heads_more (map head_of ss) (head_of s) are (omega (arith, size, room)) name.name kind new (rw (particles_of-heads ss) few))
+
+pub heads_none : AreHeads (map head_of [])
+heads_none = record {
+  few = omega arith;
+  names = λ i h. absurd (omega (arith, h));
+  kinds = λ i h. absurd (omega (arith, h));
+  differ = λ i j h k. absurd (omega (arith, k));
+  total = omega arith;
+}
+
+pub filled_more : (n : Triple) (ss : List Species) (s : Species) → AreFilled n ss → ArePoints n (points_in s.fill) → AreFilled n (ss ++ s ∷ [])
+filled_more n ss s are here = record { each = all_more (λ (o : Species). ArePoints n (points_in o.fill)) no_species ss s are.each here }
+
+pub filled_none : (n : Triple) → AreFilled n []
+filled_none n = record { each = λ i h. absurd (omega (arith, h)) }

@@ -1,0 +1,20 @@
+use Rattle.std.proofs.Common.{Ok, ap, sym}
+use Rattle.pic_walk.specs.Walk.{optional}
+use Rattle.pic_walk.proofs.TableLaws.{key_at-top}
+use Rattle.pic_walk.proofs.WalkLaws.{given_some, given_none}
+use Rattle.pic_deck.proofs.InitialLaws.{AreRows-none}
+use Rattle.pic_deck.proofs.fields.optional_fields.Goals as goal
+
+pub returns-in-Some-clause-walks : goal.returns-in-Some-clause-walks
+unfolding optional
+returns-in-Some-clause-walks c = given_some _ _ _ _ _ (sym c.in-Some.ensures) (rw key_at-top c.read_fields.ensures.walks)
+
+pub returns-in-None-clause-walks : goal.returns-in-None-clause-walks
+unfolding optional
+returns-in-None-clause-walks c = given_none _ _ _ _ (sym c.in-None.ensures) (record { answer = ap Ok (sym c.no_fields.ensures) })
+
+pub returns-in-None-clause-edges : goal.returns-in-None-clause-edges
+returns-in-None-clause-edges c = rw c.no_fields.ensures (AreRows-none c.args.cells)
+
+pub returns-in-None-clause-faces : goal.returns-in-None-clause-faces
+returns-in-None-clause-faces c = rw c.no_fields.ensures (AreRows-none c.args.cells)

@@ -1,0 +1,14 @@
+use Rattle.std.proofs.Common.{rules}
+use Rattle.pic_grid.specs.Places.{IsCells}
+use Rattle.pic_deck.proofs.ContentLaws.{point_is, point_within}
+use Rattle.pic_deck.proofs.point_reader.point_of.Goals as goal
+
+pub returns-clause-value : goal.returns-clause-value
+returns-clause-value c =
+    let cells : IsCells c.args.cells = search rules in
+    point_is c.args.cells c.args.numbers cells c.requires
+
+pub returns-clause-limits : goal.returns-clause-limits
+returns-clause-limits c =
+    let cells : IsCells c.args.cells = search rules in
+    rw (point_is c.args.cells c.args.numbers cells c.requires) (point_within c.args.cells c.args.numbers cells c.requires)

@@ -1,0 +1,52 @@
+use Rattle.std.proofs.Common.{◌∙◌, ◌+◌, ◌<◌, ◌≤◌, length, ap, refl, arith, rules}
+use Rattle.std.proofs.lemmas.List.{length-append}
+use Rattle.pic_walk.specs.Path.{path_of}
+use Rattle.pic_walk.specs.Walk.{list_of}
+use Rattle.pic_walk.proofs.ArrayLaws.{each_at, each_out}
+use Rattle.pic_walk.proofs.WalkLaws.{exits, then_ok}
+use Rattle.pic_deck.specs.Initial.{IsRow, no_row}
+use Rattle.pic_deck.specs.Keys.{row}
+use Rattle.pic_deck.proofs.ListLaws.{all_more}
+use Rattle.pic_deck.proofs.row_reader.read_each_row.Goals as goal
+
+pub returns-in_err-items-clause-walks : goal.returns-in_err-items-clause-walks
+unfolding list_of
+returns-in_err-items-clause-walks c = exits _ _ c.from_residual.ensures.1 c.in_err-items.ensures
+
+pub loop-i-init : goal.loop-i-init
+unfolding list_of
+loop-i-init c =
+    rw c.new-rows.ensures.items (record {
+      count = search rules;
+      size = refl;
+      walked = then_ok _ _ _ c.in_ok-items.ensures.answer;
+      limits = λ k h. absurd (omega (arith, h));
+    })
+
+pub returns-in_err-row-clause-walks : goal.returns-in_err-row-clause-walks
+returns-in_err-row-clause-walks c =
+    let room : c.loop-i.i < length c.in_ok-items.items.now.items = omega (arith, c.loop-i.invariant.count) in
+    let step = each_at (row c.args.cells) (path_of c.args.place) c.loop-i.rows.items c.in_ok-items.items.now.items c.loop-i.i c.index.result.now room in
+    rw (c.loop-i.invariant.walked ∙ rw c.loop-i.invariant.size at step)
+    (exits _ _ c.from_residual-in_err-row.ensures.1 (rw (c.element.ensures.path, c.index.ensures) at (c.in_err-row.ensures.walks c.loop-i.rows.items)))
+
+pub loop-i-preserved : goal.loop-i-preserved
+loop-i-preserved c =
+    let room : c.loop-i.i < length c.in_ok-items.items.now.items = omega (arith, c.loop-i.invariant.count) in
+    let step = each_at (row c.args.cells) (path_of c.args.place) c.loop-i.rows.items c.in_ok-items.items.now.items c.loop-i.i c.index.result.now room in
+    let at_i = rw c.loop-i.invariant.size at step in
+    let read = rw (c.element.ensures.path, c.index.ensures) at (c.in_ok-row.ensures.walks c.loop-i.rows.items).answer in
+    rw c.in_ok-push.ensures.items (record {
+      count = c.loop-i.invariant.count;
+      size = length-append _ _ ∙ ap (λ n. n + 1) c.loop-i.invariant.size;
+      walked = c.loop-i.invariant.walked ∙ at_i ∙ then_ok _ _ _ read;
+      limits = all_more (λ r. IsRow c.args.cells r) no_row _ _ c.loop-i.invariant.limits c.in_ok-row.ensures.limits;
+    })
+
+pub returns-clause-walks : goal.returns-clause-walks
+returns-clause-walks c =
+    let out : length c.in_ok-items.items.now.items ≤ c.loop-i.i = omega (arith, c.loop-i.invariant.count) in
+    record { answer = c.loop-i.invariant.walked ∙ each_out _ _ _ _ _ out }
+
+pub returns-clause-limits : goal.returns-clause-limits
+returns-clause-limits c = c.loop-i.invariant.limits

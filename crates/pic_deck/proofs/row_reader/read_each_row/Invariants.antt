@@ -1,0 +1,15 @@
+use Rattle.std.proofs.Common.{◌≡◌, ℕ, ◌<◌, length, drop, slice_index_or}
+use Rattle.toml.specs.View.{view, items_view}
+use Rattle.pic_walk.specs.Path.{path_of}
+use Rattle.pic_walk.specs.Walk.{list_of, each}
+use Rattle.pic_deck.specs.Initial.{IsRow, no_row}
+use Rattle.pic_deck.specs.Keys.{row}
+use Rattle.pic_deck.proofs.row_reader.read_each_row.Given as goal
+
+abbrev pub invariant-loop-i : goal.invariant-loop-i
+invariant-loop-i l = record {
+  count : length l.items.items ≡ l.i-end;
+  size : length l.rows.items ≡ l.i;
+  walked : list_of (row l.cells) (path_of l.place) (view l.value) ≡ each (row l.cells) (path_of l.place) l.rows.items (items_view (drop l.i l.items.items));
+  limits : (k : ℕ) → k < length l.rows.items → IsRow l.cells (slice_index_or l.rows.items k no_row);
+}

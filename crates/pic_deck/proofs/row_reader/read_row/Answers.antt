@@ -1,0 +1,14 @@
+use Rattle.std.proofs.Common.{Ok, ap, sym}
+use Rattle.pic_deck.specs.Keys.{row}
+use Rattle.pic_walk.proofs.WalkLaws.{goes_on, exits}
+use Rattle.pic_deck.proofs.row_reader.read_row.Goals as goal
+
+pub returns-in_err-numbers-clause-walks : goal.returns-in_err-numbers-clause-walks
+unfolding row
+returns-in_err-numbers-clause-walks c = λ done.
+    exits _ _ c.from_residual.ensures.1 (rw c.row_limits.ensures at c.in_err-numbers.ensures.walks)
+
+pub returns-clause-walks : goal.returns-clause-walks
+unfolding row
+returns-clause-walks c = λ done.
+    goes_on _ _ _ (rw c.row_limits.ensures at c.in_ok-numbers.ensures.walks.answer) (record { answer = ap Ok (sym c.row_of.ensures.value) })

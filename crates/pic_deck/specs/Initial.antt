@@ -1,0 +1,60 @@
+-- The fields that a deck begins with, and the test of their force values: this project's profile.
+use Rattle.std.specs.Prelude.{◌≡◌, ℤ, pos, ℕ, ◌+ℤ◌, ◌*◌, ◌/◌, ◌%◌, ◌^◌, ◌<◌, ◌≤◌, ◌==◌, ◌&&◌, Bool, nat_le, unsigned_abs, if◌then◌else◌, List, [], length, slice_index, slice_index_or, Option, Some, None}
+use Rattle.std.specs.List.{range_with_len}
+use Rattle.pic_num.specs.declared.space.Axis.{Axis}
+use Rattle.pic_num.specs.declared.space.Axis.TheVariants.{X}
+use Rattle.pic_num.specs.First.{first_of}
+use Rattle.pic_num.specs.Multiplier.{Multiplier}
+use Rattle.pic_num.specs.Rounding.{scaled}
+use Rattle.pic_num.specs.Sizes.{IsAtMost}
+use Rattle.pic_num.specs.Space.{Triple, triple, Spot, along, axis_number}
+use Rattle.pic_grid.specs.Places.{IsWithin, count_of, cell_of, axis_of}
+use Rattle.pic_grid.specs.Sums.{sum_over}
+use Rattle.pic_walk.specs.Range.{IsInLimits, any_limits}
+use Rattle.pic_deck.specs.declared.row_lists.Row.{Row}
+
+-- a row that adds nothing
+abbrev pub no_row : Row
+no_row = record { axis = X; cell = []; value = pos 0 }
+
+-- a row's cell is one of the n cells, and its value is one of 64 bits
+pub record IsRow (n : Triple) (r : Row) : Type 0 where
+  pub within : IsWithin (triple r.cell) n
+  pub value : IsInLimits any_limits r.value
+
+-- rows of the n cells, 1048576 at most
+pub record AreRows (n : Triple) (rows : List Row) : Type 0 where
+  pub few : length rows ≤ 1048576
+  pub each : (k : ℕ) → k < length rows → IsRow n (slice_index_or rows k no_row)
+
+-- the row is of the place on the axis a at the cell p
+abbrev pub is_of : Axis → Triple → Row → Bool
+is_of a p r =
+    axis_number r.axis == axis_number a && (slice_index r.cell 0 == p.x && (slice_index r.cell 1 == p.y && slice_index r.cell 2 == p.z))
+
+-- what a row adds there
+unfoldable pub part : Axis → Triple → Row → ℤ
+part a p r = if is_of a p r then r.value else pos 0
+
+-- a uniform field with rows added: rows for one place add up
+unfoldable pub set_up : Spot → List Row → Axis → Triple → ℤ
+set_up u rows a p = along a u +ℤ sum_over (part a p) rows
+
+-- a value of a uniform field: the number on its axis, one of 64 bits
+pub record IsUniform (u : Spot) (a : Axis) (v : ℤ) : Type 0 where
+  pub is : v ≡ along a u
+  pub size : IsAtMost v (2 ^ 63)
+
+-- a value's force value, where that is above 2^44 in size
+unfoldable pub strong : Multiplier → ℤ → Option ℤ
+strong by v = if nat_le (unsigned_abs (scaled v by)) (2 ^ 44) then None else Some (scaled v by)
+
+-- that of the least place which has one, in the order of places: the axis, then z, y and x
+unfoldable pub first_strong : Triple → Multiplier → (Axis → Triple → ℤ) → Option ℤ
+first_strong n by g =
+    first_of (λ i. strong by (g (axis_of (i / count_of n)) (cell_of n (i % count_of n)))) (range_with_len 0 (3 * count_of n))
+
+-- every value on n cells is at most 2^84 in size, and its force value at most 2^44
+pub record IsMild (n : Triple) (by : Multiplier) (g : Axis → Triple → ℤ) : Type 0 where
+  pub values : (a : Axis) (p : Triple) → IsWithin p n → IsAtMost (g a p) (2 ^ 84)
+  pub forces : (a : Axis) (p : Triple) → IsWithin p n → IsAtMost (scaled (g a p) by) (2 ^ 44)

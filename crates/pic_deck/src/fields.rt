@@ -1,0 +1,79 @@
+ghost use Rattle.std.specs.Prelude.{◌≡◌, List, [], codes, IfOk};
+ghost use Rattle.toml.specs.View.{view, table_view};
+ghost use Rattle.pic_walk.specs.Walk.{WalksAs, table_of, optional};
+ghost use Rattle.pic_deck.specs.declared.parts.FieldValues.{FieldValues as FieldView};
+ghost use Rattle.pic_deck.specs.declared.row_lists.Row.{Row};
+ghost use Rattle.pic_deck.specs.Initial.{AreRows};
+ghost use Rattle.pic_deck.specs.Keys.{field_keys, fields, row_list, no_field};
+
+use crate::parts::FieldValues;
+use crate::row_lists::Rows;
+use crate::row_reader::read_rows;
+use pic_grid::Cells;
+use pic_walk::{DeckFault, Place, find_value, optional_three, read_table};
+use std::alloc::Global;
+use toml::{Table, Value};
+
+fn field_table(alloc: Global, value: &Value) -> Result<&Table, DeckFault>
+    ensures { WalksAs (λ t. table_view t.now) (table_of field_keys (codes "field") (view value.now)) result }
+{
+    read_table(
+        alloc,
+        Place::new("", "field"),
+        "field",
+        &["e", "b", "edges", "faces"],
+        value,
+    )
+}
+
+// the rows at a key of `field`; none where the key is absent
+fn optional_rows(alloc: Global, key: &str, table: &Table, cells: Cells) -> Result<Rows, DeckFault>
+    ensures walks { WalksAs (λ (rs : List Row). rs) (optional [] (row_list cells) key.now (codes "field") (table_view table.now)) result }
+    ensures limits { IfOk result (λ rs. AreRows cells rs) }
+{
+    match find_value(key, table) {
+        Some(value) => read_rows(alloc, Place::new("field", key), value, cells),
+        None => Ok(Rows::from_vec(Vec::new(alloc))),
+    }
+}
+
+// the table `field` of a deck
+fn read_fields(alloc: Global, value: &Value, cells: Cells) -> Result<FieldValues, DeckFault>
+    ensures walks { WalksAs (λ (f : FieldView). f) (fields cells (codes "field") (view value.now)) result }
+    ensures edges { IfOk result (λ f. AreRows cells f.edges) }
+    ensures faces { IfOk result (λ f. AreRows cells f.faces) }
+{
+    let table = field_table(alloc, value)?;
+    let e = optional_three(alloc, "field", "e", table)?;
+    let b = optional_three(alloc, "field", "b", table)?;
+    let edges = optional_rows(alloc, "edges", table, cells)?;
+    let faces = optional_rows(alloc, "faces", table, cells)?;
+    Ok(FieldValues { e, b, edges, faces })
+}
+
+fn no_fields(alloc: Global) -> FieldValues
+    ensures { result ≡ no_field }
+{
+    FieldValues {
+        e: [0; 3],
+        b: [0; 3],
+        edges: Rows::from_vec(Vec::new(alloc)),
+        faces: Rows::from_vec(Vec::new(alloc)),
+    }
+}
+
+/// The fields of a deck, zeros where it has no table `field`.
+pub(crate) fn optional_fields(
+    alloc: Global,
+    table: &Table,
+    cells: Cells,
+) -> Result<FieldValues, DeckFault>
+    ensures walks { WalksAs (λ (f : FieldView). f) (optional no_field (fields cells) (codes "field") [] (table_view table.now)) result }
+    ensures edges { IfOk result (λ f. AreRows cells f.edges) }
+    ensures faces { IfOk result (λ f. AreRows cells f.faces) }
+{
+    match find_value("field", table) {
+        Some(value) => read_fields(alloc, value, cells),
+        None => Ok(no_fields(alloc)),
+    }
+}

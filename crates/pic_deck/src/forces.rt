@@ -1,0 +1,128 @@
+ghost use Rattle.std.specs.Prelude.{◌≡◌, ℤ, pos, ◌^◌, IsTrue, codes, OnOk};
+ghost use Rattle.pic_num.specs.declared.space.Axis.{Axis};
+ghost use Rattle.pic_num.specs.Sizes.{IsAtMost};
+ghost use Rattle.pic_num.specs.Space.{Triple, spot};
+ghost use Rattle.pic_grid.specs.Fields.{value_at};
+ghost use Rattle.pic_grid.specs.Places.{IsWithin};
+ghost use Rattle.pic_walk.specs.Path.{key_at};
+ghost use Rattle.pic_walk.specs.Walk.{WalksAs};
+ghost use Rattle.pic_deck.specs.Initial.{AreRows, IsMild, strong, first_strong, set_up};
+ghost use Rattle.pic_deck.specs.Keys.{allowed, forces};
+
+use crate::filling::fill;
+use crate::parts::{FieldValues, Setup};
+use crate::row_lists::Row;
+use pic_grid::{Cells, Lattice};
+use pic_num::{Mult, scale};
+use pic_walk::{DeckFault, Limits, Place};
+use std::alloc::Global;
+
+const STRONGEST: i64 = 17592186044416;
+
+// the force value of a value, where it is too large
+#[tactic(auto, unfolding(crate::specs::Initial::strong))]
+fn strong(by: Mult, value: i128) -> Option<i128>
+    requires { IsAtMost value (2 ^ 90) }
+    ensures { result ≡ strong by value }
+{
+    let force = scale(value, by);
+    if force.unsigned_abs() <= STRONGEST as u128 {
+        None
+    } else {
+        Some(force)
+    }
+}
+
+// the force value of the least place that has one too large
+fn first_strong(by: Mult, field: &Lattice) -> Option<i128>
+    requires { (a : Axis) (p : Triple) → IsWithin p field.now.cells → IsAtMost (value_at field.now a p) (2 ^ 90) }
+    ensures { result ≡ first_strong field.now.cells by (value_at field.now) }
+{
+    let cells = field.cells();
+    for place in 0..3 * cells.count() as usize {
+        let (axis, cell) = cells.place_at(place);
+        if let Some(force) = strong(by, field.at(axis, cell)) {
+            return Some(force);
+        }
+    }
+    None
+}
+
+// refuses the scale at a key where a force value is too large
+fn check_strong(alloc: Global, key: &str, strong: Option<i128>) -> Result<(), DeckFault>
+    ensures walks { WalksAs (λ _. tt) (allowed (key_at (codes "scale") key.now) strong) result }
+    ensures none { OnOk result (strong ≡ None) }
+{
+    match strong {
+        Some(force) => {
+            let limits = Limits::new(-STRONGEST, STRONGEST);
+            Err(Place::new("scale", key).limit_fault(alloc, force, limits))
+        }
+        None => Ok(()),
+    }
+}
+
+fn is_zero(numbers: [i64; 3]) -> bool
+    ensures { IsTrue result → spot numbers ≡ record { x = pos 0; y = pos 0; z = pos 0 } }
+{
+    let [x, y, z] = numbers;
+    x == 0 && y == 0 && z == 0
+}
+
+// refuses the scale at a key where a field that a deck begins with is too strong by it
+fn check_filled(
+    alloc: Global,
+    key: &str,
+    by: Mult,
+    cells: Cells,
+    numbers: [i64; 3],
+    rows: &[Row],
+) -> Result<(), DeckFault>
+    requires { AreRows cells rows.now }
+    ensures walks { WalksAs (λ _. tt) (allowed (key_at (codes "scale") key.now) (first_strong cells by (set_up (spot numbers) rows.now))) result }
+    ensures mild { OnOk result (IsMild cells by (set_up (spot numbers) rows.now)) }
+{
+    let mut field = Lattice::new(alloc, cells, [1; 3])?;
+    fill(numbers, rows, &mut field);
+    let first = first_strong(by, &field);
+    check_strong(alloc, key, first)
+}
+
+// the same, without the room for a field of zeros
+fn check_field(
+    alloc: Global,
+    key: &str,
+    by: Mult,
+    cells: Cells,
+    numbers: [i64; 3],
+    rows: &[Row],
+) -> Result<(), DeckFault>
+    requires { AreRows cells rows.now }
+    ensures walks { WalksAs (λ _. tt) (allowed (key_at (codes "scale") key.now) (first_strong cells by (set_up (spot numbers) rows.now))) result }
+    ensures mild { OnOk result (IsMild cells by (set_up (spot numbers) rows.now)) }
+{
+    if is_zero(numbers) && rows.is_empty() {
+        return Ok(());
+    }
+    check_filled(alloc, key, by, cells, numbers, rows)
+}
+
+/// Refuses a deck whose fields begin with a force value above 2^44 in size: E first, then B.
+pub(crate) fn check_forces(
+    alloc: Global,
+    setup: &Setup,
+    field: &FieldValues,
+) -> Result<(), DeckFault>
+    requires edges { AreRows setup.now.cells field.now.edges }
+    requires faces { AreRows setup.now.cells field.now.faces }
+    ensures walks { WalksAs (λ _. tt) (forces setup.now field.now) result }
+    ensures e { OnOk result (IsMild setup.now.cells setup.now.scales.e_force (set_up (spot field.now.e) field.now.edges)) }
+    ensures b { OnOk result (IsMild setup.now.cells setup.now.scales.b_force (set_up (spot field.now.b) field.now.faces)) }
+{
+    let cells = setup.cells;
+    let scales = setup.scales;
+    let e = field.edges.as_slice();
+    let b = field.faces.as_slice();
+    check_field(alloc, "e_force", scales.e_force, cells, field.e, e)?;
+    check_field(alloc, "b_force", scales.b_force, cells, field.b, b)
+}

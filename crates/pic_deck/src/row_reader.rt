@@ -1,0 +1,105 @@
+ghost use Rattle.std.specs.Prelude.{◌≡◌, ℕ, ℤ, pos, ◌^◌, ◌<◌, ◌≤ℤ◌, List, None, IfOk, length, unsigned_abs, slice_index_or};
+ghost use Rattle.toml.specs.View.{view};
+ghost use Rattle.pic_grid.specs.Places.{axis_of};
+ghost use Rattle.pic_walk.specs.Path.{path_of};
+ghost use Rattle.pic_walk.specs.Range.{IsInLimits, limits_at};
+ghost use Rattle.pic_walk.specs.Walk.{WalksAs, list_of};
+ghost use Rattle.pic_deck.specs.declared.row_lists.Row.{Row as RowView};
+ghost use Rattle.pic_deck.specs.Initial.{IsRow, AreRows, no_row};
+ghost use Rattle.pic_deck.specs.Keys.{row_limits, row_of, row, row_list};
+
+use crate::row_lists::{Row, Rows};
+use pic_grid::Cells;
+use pic_num::Axis;
+use pic_walk::{DeckFault, Limits, Place, check_within, read_elements, read_numbers};
+use std::alloc::Global;
+use toml::Value;
+
+const MOST_ROWS: i64 = 1048576;
+
+fn row_limits(cells: Cells) -> [Limits; 5]
+    ensures { result ≡ row_limits cells }
+{
+    let [nx, ny, nz] = cells.numbers();
+    [
+        Limits::new(0, 2),
+        Limits::below(nx),
+        Limits::below(ny),
+        Limits::below(nz),
+        Limits::any(),
+    ]
+}
+
+fn axis_at(number: i64) -> Axis
+    requires low { pos 0 ≤ℤ number }
+    requires high { number ≤ℤ pos 2 }
+    ensures { result ≡ axis_of (unsigned_abs number) }
+{
+    match number {
+        0 => Axis::X,
+        1 => Axis::Y,
+        _ => Axis::Z,
+    }
+}
+
+#[tactic(auto, unfolding(pic_walk::specs::Range::limits_at))]
+fn row_of(cells: Cells, numbers: [i64; 5]) -> Row
+    requires { (k : ℕ) → k < 5 → IsInLimits (limits_at (row_limits cells) k) (slice_index_or numbers k (pos 0)) }
+    ensures value { result ≡ row_of numbers }
+    ensures limits { IsRow cells result }
+{
+    let _ = cells;
+    Row {
+        axis: axis_at(numbers[0]),
+        cell: [numbers[1] as u32, numbers[2] as u32, numbers[3] as u32],
+        value: numbers[4],
+    }
+}
+
+// the row at a place
+fn read_row(alloc: Global, place: Place<'_>, value: &Value, cells: Cells) -> Result<Row, DeckFault>
+    requires { place.column ≡ None }
+    ensures walks { (done : List RowView) → WalksAs (λ (r : RowView). r) (row cells done (path_of place.entry) (view value.now)) result }
+    ensures limits { IfOk result (λ r. IsRow cells r) }
+{
+    let numbers = read_numbers(alloc, place, value, row_limits(cells))?;
+    Ok(row_of(cells, numbers))
+}
+
+// the rows at a place, one by one
+fn read_each_row(
+    alloc: Global,
+    place: Place<'_>,
+    value: &Value,
+    cells: Cells,
+) -> Result<Vec<Row>, DeckFault>
+    requires whole { place.row ≡ None }
+    requires plain { place.column ≡ None }
+    ensures walks { WalksAs (λ rs. rs.items) (list_of (row cells) (path_of place.entry) (view value.now)) result }
+    ensures limits { IfOk result (λ rs. (k : ℕ) → k < length rs.items → IsRow cells (slice_index_or rs.items k no_row)) }
+{
+    let items = read_elements(alloc, place, value)?;
+    let mut rows = Vec::new(alloc);
+    for i in 0..items.len() {
+        let row = read_row(alloc, place.element(i), &items[i], cells)?;
+        rows.push(row)?;
+    }
+    Ok(rows)
+}
+
+/// The rows at a place: `[axis, i, j, k, value]`, the cell among those of the grid.
+pub(crate) fn read_rows(
+    alloc: Global,
+    place: Place<'_>,
+    value: &Value,
+    cells: Cells,
+) -> Result<Rows, DeckFault>
+    requires whole { place.row ≡ None }
+    requires plain { place.column ≡ None }
+    ensures walks { WalksAs (λ (rs : List RowView). rs) (row_list cells (path_of place.entry) (view value.now)) result }
+    ensures limits { IfOk result (λ rs. AreRows cells rs) }
+{
+    let rows = read_each_row(alloc, place, value, cells)?;
+    check_within(alloc, place, rows.len() as i128, Limits::new(0, MOST_ROWS))?;
+    Ok(Rows::from_vec(rows))
+}
