@@ -1,0 +1,152 @@
+-- The text of a dump, version 1: this project's profile. All numbers are big-endian.
+use Rattle.std.specs.Prelude.{ℤ, ℕ, ◌-◌, List, [], ◌∷◌, ◌++◌, length, replicate, codes}
+use Rattle.std.specs.List.{flat_map}
+use Rattle.pic_num.specs.declared.motion.Kind.{Kind}
+use Rattle.pic_num.specs.declared.motion.Particle.{Particle}
+use Rattle.pic_num.specs.declared.motion.What.{What}
+use Rattle.pic_num.specs.declared.motion.What.TheVariants.{Speed, Turn, Far}
+use Rattle.pic_num.specs.declared.multiplier.Scales.{Scales}
+use Rattle.pic_num.specs.declared.space.Axis.{Axis}
+use Rattle.pic_num.specs.Bytes.{u32_bytes, i32_bytes, u128_bytes, i128_bytes}
+use Rattle.pic_num.specs.Multiplier.{Multiplier}
+use Rattle.pic_num.specs.Space.{Triple, triple, Spot, spot, axis_number}
+use Rattle.pic_grid.specs.declared.stops.Phase.{Phase}
+use Rattle.pic_grid.specs.declared.stops.Phase.TheVariants.{Half1, Half2, Electric}
+use Rattle.pic_grid.specs.declared.stops.Bound.{Bound}
+use Rattle.pic_grid.specs.declared.stops.Bound.TheVariants.{Value, Force}
+use Rattle.pic_grid.specs.declared.stops.Stop.TheVariants.{Field as FieldStop, Push}
+use Rattle.pic_grid.specs.declared.stops.EndMark.{EndMark}
+use Rattle.pic_grid.specs.declared.stops.EndMark.TheVariants.{Done, Stopped}
+use Rattle.pic_grid.specs.Fields.{Field}
+use Rattle.pic_grid.specs.Species.{HeadView}
+use Rattle.pic_energy.specs.declared.amounts.Energies.{Energies}
+use Rattle.pic_dump.specs.Headers.{HeaderView}
+
+-- a multiplier n / 2^k
+unfoldable pub mult_bytes : Multiplier → List ℕ
+mult_bytes m = i32_bytes m.n ++ u32_bytes m.k
+
+-- the four multipliers
+unfoldable pub scales_bytes : Scales → List ℕ
+scales_bytes s = mult_bytes s.e_to_b ++ mult_bytes s.b_to_e ++ mult_bytes s.e_force ++ mult_bytes s.b_force
+
+-- the numbers of cells
+unfoldable pub cells_bytes : Triple → List ℕ
+cells_bytes n = u32_bytes n.x ++ u32_bytes n.y ++ u32_bytes n.z
+
+-- the 64 bytes before the species: the mark, the cells, the steps, after how many of them a frame is
+-- due, the multipliers, and how many species there are
+unfoldable pub front_bytes : HeaderView → List ℕ
+front_bytes h =
+    codes "PICDUMP1"
+    ++ cells_bytes h.cells
+    ++ u32_bytes h.steps
+    ++ u32_bytes h.every
+    ++ scales_bytes h.scales
+    ++ u32_bytes (length h.species)
+
+-- a name of at most 32 bytes, filled with zeros
+unfoldable pub name_bytes : List ℕ → List ℕ
+name_bytes name = name ++ replicate (32 - length name) 0
+
+-- what the particles of a species have in common
+unfoldable pub kind_bytes : Kind → List ℕ
+kind_bytes k = i32_bytes k.charge ++ u32_bytes k.mass ++ mult_bytes k.kick ++ mult_bytes k.turn
+
+-- a species: its name, its kind, and the number of its particles
+unfoldable pub head_bytes : HeadView → List ℕ
+head_bytes h = name_bytes h.name ++ kind_bytes h.kind ++ u32_bytes h.count
+
+-- the species in their order
+unfoldable pub heads_bytes : List HeadView → List ℕ
+heads_bytes heads = flat_map head_bytes heads
+
+-- the header
+unfoldable pub header_bytes : HeaderView → List ℕ
+header_bytes h = front_bytes h ++ heads_bytes h.species
+
+-- the mark of a frame, and its step
+unfoldable pub start_bytes : ℕ → List ℕ
+start_bytes step = codes "F" ++ u32_bytes step
+
+-- the values of a field, in the order of places
+unfoldable pub values_bytes : List ℤ → List ℕ
+values_bytes values = flat_map i128_bytes values
+
+unfoldable pub position_bytes : Triple → List ℕ
+position_bytes p = u32_bytes p.x ++ u32_bytes p.y ++ u32_bytes p.z
+
+unfoldable pub velocity_bytes : Spot → List ℕ
+velocity_bytes v = i32_bytes v.x ++ i32_bytes v.y ++ i32_bytes v.z
+
+-- a particle: its position and its velocity. Its identity is its place in the list, and its species
+-- follows from the numbers in the header.
+unfoldable pub particle_bytes : Particle → List ℕ
+particle_bytes x = position_bytes (triple x.x) ++ velocity_bytes (spot x.v)
+
+-- the particles in their order
+unfoldable pub particles_bytes : List Particle → List ℕ
+particles_bytes particles = flat_map particle_bytes particles
+
+unfoldable pub energies_bytes : Energies → List ℕ
+energies_bytes e = u128_bytes e.kinetic ++ u128_bytes e.electric ++ u128_bytes e.magnetic
+
+-- E, B and the particles
+unfoldable pub state_bytes : Field → Field → List Particle → List ℕ
+state_bytes e b particles = values_bytes e.values ++ values_bytes b.values ++ particles_bytes particles
+
+-- a frame: its start, its state, and the energies
+unfoldable pub frame_bytes : ℕ → Field → Field → List Particle → Energies → List ℕ
+frame_bytes step e b particles energies = start_bytes step ++ state_bytes e b particles ++ energies_bytes energies
+
+-- the numbers of the field phases (2 is the push)
+abbrev pub phase_code : Phase → ℕ
+phase_code Half1 = 1
+phase_code Half2 = 3
+phase_code Electric = 4
+
+abbrev pub bound_code : Bound → ℕ
+bound_code Value = 1
+bound_code Force = 2
+
+abbrev pub what_code : What → ℕ
+what_code Speed = 1
+what_code Turn = 2
+what_code Far = 3
+
+-- the end of a run that is done: the mark, kind 0, and the steps
+unfoldable pub done_bytes : ℕ → List ℕ
+done_bytes steps = codes "E" ++ 0 ∷ [] ++ u32_bytes steps
+
+-- of one that a field value stopped: the mark, kind 1, the step, the phase, the bound, the axis, the
+-- cell, and the value or force value
+unfoldable pub field_stop_bytes : ℕ → Phase → Bound → Axis → Triple → ℤ → List ℕ
+field_stop_bytes step phase bound axis cell value =
+    codes "E"
+    ++ 1 ∷ []
+    ++ u32_bytes step
+    ++ phase_code phase ∷ []
+    ++ bound_code bound ∷ []
+    ++ axis_number axis ∷ []
+    ++ u32_bytes cell.x
+    ++ u32_bytes cell.y
+    ++ u32_bytes cell.z
+    ++ i128_bytes value
+
+-- of one that the push of a particle stopped: the mark, kind 2, the step, the particle, what is too
+-- large, the axis, and the number there
+unfoldable pub push_stop_bytes : ℕ → ℕ → What → Axis → ℤ → List ℕ
+push_stop_bytes step id what axis value =
+    codes "E"
+    ++ 2 ∷ []
+    ++ u32_bytes step
+    ++ u32_bytes id
+    ++ what_code what ∷ []
+    ++ axis_number axis ∷ []
+    ++ i128_bytes value
+
+-- the end record
+unfoldable pub end_bytes : EndMark → List ℕ
+end_bytes (Done steps) = done_bytes steps
+end_bytes (Stopped step (FieldStop phase bound axis cell value)) = field_stop_bytes step phase bound axis (triple cell) value
+end_bytes (Stopped step (Push id what axis value)) = push_stop_bytes step id what axis value

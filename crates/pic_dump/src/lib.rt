@@ -1,0 +1,16 @@
+//! The dump of a run: its header, its frames, its end record.
+#![tactic(auto)]
+
+mod ending;
+mod framing;
+mod headers;
+mod heading;
+mod room;
+
+pub use ending::put_end;
+pub use framing::put_frame;
+pub use headers::{Head, Header, Heads};
+pub use heading::put_header;
+
+#[cfg(test)]
+mod tests;
