@@ -1,0 +1,15 @@
+pub mod Walks
+pub mod Pushes
+pub mod GaussLaw
+pub mod Soundness
+pub mod Beyond
+pub mod Foldings
+pub mod Fits
+pub mod Passed
+pub mod OnePart
+pub mod Felt
+pub mod Exits
+pub mod TraceSizes
+pub mod Pushed
+pub mod Stepped
+pub mod Kept

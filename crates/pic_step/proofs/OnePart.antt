@@ -1,0 +1,104 @@
+-- A lattice of one part, taken into its one block and back.
+use Rattle.std.proofs.Common.{◌≡◌, ℕ, ◌<◌, List, [], ◌∷◌, length, get_or, sym, ap, ◌∙◌, subst, arith}
+use Rattle.std.proofs.Math.ListN.{set}
+use Rattle.std.proofs.lemmas.List.{get_or_default}
+use Rattle.pic_num.specs.declared.multiplier.Scales.{Scales}
+use Rattle.pic_num.specs.declared.space.Axis.{Axis}
+use Rattle.pic_num.specs.Multiplier.{Multiplier}
+use Rattle.pic_num.specs.Rounding.{scaled}
+use Rattle.pic_num.specs.Space.{Triple}
+use Rattle.pic_grid.specs.declared.stops.Phase.{Phase}
+use Rattle.pic_grid.specs.declared.stops.Phase.TheVariants.{Electric}
+use Rattle.pic_grid.specs.Fields.{Field, value_at, field_of}
+use Rattle.pic_grid.specs.Gather.{force_of}
+use Rattle.pic_grid.specs.Parts.{no_block, ArePartsOf, joined}
+use Rattle.pic_grid.specs.Places.{IsWithin}
+use Rattle.pic_grid.specs.Zones.{BlockValues, IsShaped, IsAmongCells, AllAtMost, inner_at, outer_of}
+use Rattle.pic_field.specs.FieldPhases.{half_of, half_in, full_of, full_in, least_fault, lowest, EachAtMost}
+use Rattle.pic_field.proofs.Whole.{IsWhole, whole_one, whole_block, whole_parts, whole_shaped, whole_among, whole_small, half_whole, half_stop, full_whole, full_stop, force_whole}
+use Rattle.pic_step.specs.SerialStep.{origin}
+use Rattle.pic_step.specs.Sound.{one_part}
+
+-- a lattice of one part and its one block
+pub record IsOne (n : Triple) (f : Field) (blocks : List BlockValues) (b : BlockValues) : Type 0 where
+  pub list : blocks ≡ b ∷ []
+  pub whole : IsWhole n b
+  pub is : f ≡ joined n one_part (b ∷ [])
+
+pub one_of : (n : Triple) (f : Field) (blocks : List BlockValues) (b : BlockValues) → f.cells ≡ n → f.parts ≡ one_part
+    → ArePartsOf f.cells f.parts blocks → f ≡ joined f.cells f.parts blocks → b ≡ get_or blocks 0 b → IsOne n f blocks b
+one_of n f blocks b cells parts zones values first =
+    let moved : ArePartsOf n one_part blocks = subst (λ (q : Triple). ArePartsOf n q blocks) parts (subst (λ (m : Triple). ArePartsOf m f.parts blocks) cells zones) in
+    let some : 0 < length blocks = omega (arith, moved.count) in
+    let here : get_or blocks 0 no_block ≡ b = get_or_default blocks 0 no_block b some ∙ sym first in
+    let list : blocks ≡ b ∷ [] = whole_one n blocks moved ∙ ap (λ (c : BlockValues). c ∷ []) here in
+    record {
+      list = list;
+      whole = subst (IsWhole n) here (whole_block n blocks moved);
+      is = values ∙ (λ i. joined (cells i) (parts i) (list i));
+    }
+
+-- what the block's calls require
+pub one_among : (n m : Triple) (f : Field) (blocks : List BlockValues) (b : BlockValues) → IsOne n f blocks b → n ≡ m → IsAmongCells b.low b.size m
+one_among n m f blocks b one same = subst (IsAmongCells b.low b.size) same (whole_among n b one.whole)
+
+pub one_small : (most : ℕ) (n : Triple) (f : Field) (blocks : List BlockValues) (b : BlockValues) → IsOne n f blocks b → EachAtMost most f → AllAtMost most b
+one_small most n f blocks b one small = whole_small most n b one.whole (subst (EachAtMost most) one.is small)
+
+pub one_shaped : (n : Triple) (f g : Field) (bs cs : List BlockValues) (b c : BlockValues) → IsOne n f bs b → IsOne n g cs c → IsShaped b c
+one_shaped n f g bs cs b c one two = record { low = one.whole.low ∙ sym two.whole.low; size = one.whole.size ∙ sym two.whole.size }
+
+-- the block goes back, changed or not
+pub one_zones : (n m : Triple) (f : Field) (blocks : List BlockValues) (b new : BlockValues) → IsOne n f blocks b → IsShaped new b → m ≡ n
+    → ArePartsOf m one_part (set blocks 0 new)
+one_zones n m f blocks b new one shaped same =
+    subst (λ (k : Triple). ArePartsOf k one_part (set blocks 0 new)) (sym same)
+    (subst (λ (bs : List BlockValues). ArePartsOf n one_part (set bs 0 new)) (sym one.list) (whole_parts n new (whole_shaped n b new one.whole shaped)))
+
+pub one_back : (n m : Triple) (f r : Field) (blocks : List BlockValues) (b new : BlockValues) → IsOne n f blocks b → m ≡ n
+    → r ≡ joined m one_part (set blocks 0 new) → r ≡ joined n one_part (new ∷ [])
+one_back n m f r blocks b new one same is = is ∙ (λ i. joined (same i) one_part (set (one.list i) 0 new))
+
+pub one_still : (n m : Triple) (f r : Field) (blocks : List BlockValues) (b : BlockValues) → IsOne n f blocks b → m ≡ n → r ≡ joined m one_part blocks → r ≡ f
+one_still n m f r blocks b one same is = is ∙ (λ i. joined (same i) one_part (one.list i)) ∙ sym one.is
+
+-- half a step of B
+pub half_done : (scales : Scales) (e : Field) (n m : Triple) (f r : Field) (blocks : List BlockValues) (b new : BlockValues) → IsOne n f blocks b → m ≡ n
+    → IsShaped new b
+    → ((a : Axis) (p : Triple) → IsWithin p b.size → inner_at new a p ≡ half_of scales e a (outer_of b.low p) (inner_at b a p))
+    → r ≡ joined m one_part (set blocks 0 new) → r ≡ field_of n one_part (λ a p. half_of scales e a p (value_at f a p))
+half_done scales e n m f r blocks b new one same shaped values is =
+    one_back n m f r blocks b new one same is
+    ∙ half_whole scales e n b new one.whole shaped values
+    ∙ (λ i. field_of n one_part (λ a p. half_of scales e a p (value_at (sym one.is i) a p)))
+
+pub half_stop_is : (phase : Phase) (scales : Scales) (e : Field) (by : Multiplier) (n : Triple) (f : Field) (blocks : List BlockValues) (b : BlockValues) → IsOne n f blocks b
+    → least_fault phase by (lowest b.low) b.size (half_in scales e b) ≡ least_fault phase by origin n (λ a p. half_of scales e a p (value_at f a p))
+half_stop_is phase scales e by n f blocks b one =
+    half_stop phase scales e by n b one.whole ∙ (λ i. least_fault phase by origin n (λ a p. half_of scales e a p (value_at (sym one.is i) a p)))
+
+-- a step of E
+pub full_done : (scales : Scales) (b : Field) (n m : Triple) (f k r : Field) (blocks currents : List BlockValues) (old j new : BlockValues)
+    → IsOne n f blocks old → IsOne n k currents j → m ≡ n → IsShaped new old
+    → ((a : Axis) (p : Triple) → IsWithin p old.size → inner_at new a p ≡ full_of scales b a (outer_of old.low p) (inner_at old a p) (inner_at j a p))
+    → r ≡ joined m one_part (set blocks 0 new) → r ≡ field_of n one_part (λ a p. full_of scales b a p (value_at f a p) (value_at k a p))
+full_done scales b n m f k r blocks currents old j new one two same shaped values is =
+    one_back n m f r blocks old new one same is
+    ∙ full_whole scales b n j old new one.whole (one_shaped n k f currents blocks j old two one) shaped values
+    ∙ (λ i. field_of n one_part (λ a p. full_of scales b a p (value_at (sym one.is i) a p) (value_at (sym two.is i) a p)))
+
+pub full_stop_is : (scales : Scales) (b : Field) (by : Multiplier) (n : Triple) (f k : Field) (blocks currents : List BlockValues) (old j : BlockValues)
+    → IsOne n f blocks old → IsOne n k currents j
+    → least_fault Electric by (lowest old.low) old.size (full_in scales b j old)
+    ≡ least_fault Electric by origin n (λ a p. full_of scales b a p (value_at f a p) (value_at k a p))
+full_stop_is scales b by n f k blocks currents old j one two =
+    full_stop scales b by n j old one.whole (one_shaped n k f currents blocks j old two one)
+    ∙ (λ i. least_fault Electric by origin n (λ a p. full_of scales b a p (value_at (sym one.is i) a p) (value_at (sym two.is i) a p)))
+
+-- force values
+pub force_done : (by : Multiplier) (from : Field) (n m : Triple) (f r : Field) (blocks : List BlockValues) (b new : BlockValues) → IsOne n f blocks b → m ≡ n
+    → IsShaped new b
+    → ((a : Axis) (p : Triple) → IsWithin p b.size → inner_at new a p ≡ scaled (value_at from a (outer_of b.low p)) by)
+    → r ≡ joined m one_part (set blocks 0 new) → r ≡ field_of n one_part (force_of by (value_at from))
+force_done by from n m f r blocks b new one same shaped values is =
+    one_back n m f r blocks b new one same is ∙ force_whole by from n b new one.whole shaped values

@@ -1,0 +1,133 @@
+-- What one push leaves: a move of at most a side, the identity, the species, a place in the box.
+use Rattle.std.proofs.Common.{◌≡◌, ℕ, zero, suc, ◌*◌, ◌<◌, ◌≤◌, Bool, true, false, cond, List, [], ◌∷◌, length, map, Option, Some, None, Result, Ok, Err, refl, sym, ap, subst, arith}
+use Rattle.std.specs.Prelude.{unsigned_abs, nat_lt, slice_index_or}
+use Rattle.std.specs.Option.{option_or}
+use Rattle.pic_num.specs.declared.motion.Particle.{Particle}
+use Rattle.pic_num.specs.declared.motion.What.{What}
+use Rattle.pic_num.specs.declared.motion.What.TheVariants.{Far}
+use Rattle.pic_num.specs.declared.space.Axis.{Axis}
+use Rattle.pic_num.specs.declared.space.Axis.TheVariants.{X, Y, Z}
+use Rattle.pic_num.specs.First.{first_of}
+use Rattle.pic_num.specs.Multiplier.{Multiplier}
+use Rattle.pic_num.specs.Push.{Shift, Halting, pushed, first_above, unless, plus}
+use Rattle.pic_num.specs.Space.{Triple, Spot, triple, along}
+use Rattle.pic_grid.specs.Hat.{HasTwo, IsInBox}
+use Rattle.pic_grid.specs.Path.{point_of}
+use Rattle.pic_num.proofs.Rounds.{residue-is}
+use Rattle.std.proofs.lemmas.Bool.Decides.{nat_tests}
+use Rattle.pic_grid.specs.PushPhase.{Surroundings, push_of, after_push, moved, moved_all}
+use Rattle.pic_charge.specs.Charge.{CanShare}
+use Rattle.pic_step.specs.Sound.{AllCanShare}
+use Rattle.pic_split.specs.Moves.{IsMove, wrapped_point}
+
+or_none_left : {A : Type 0} (o p : Option A) → option_or o p ≡ None → o ≡ None
+or_none_left None p h = refl
+or_none_left (Some a) p h = h
+
+or_none_right : {A : Type 0} (o p : Option A) → option_or o p ≡ None → p ≡ None
+or_none_right None p h = h
+or_none_right (Some a) p h = cc
+
+unless_ok : {A S : Type 0} (o : Option S) (a b : A) → unless o a ≡ Ok b → (o ≡ None) × (a ≡ b)
+unless_ok None a b h = (refl, cc)
+unless_ok (Some s) a b h = cc
+
+cond_none : {A : Type 0} (b : Bool) (a : A) → cond b (Some a) None ≡ None → b ≡ false
+cond_none true a h = cc
+cond_none false a h = refl
+
+not_above : (most n : ℕ) → nat_lt most n ≡ false → n ≤ most
+not_above most n h = grind (arith, nat_tests)
+
+-- a test that fails on no axis
+pub none_above : (what : What) (most : ℕ) (p : Spot) → first_above what most p ≡ None → (a : Axis) → unsigned_abs (along a p) ≤ most
+unfolding first_above first_of
+none_above what most p none X = not_above most (unsigned_abs p.x) (cond_none _ _ (or_none_left _ _ none))
+none_above what most p none Y = not_above most (unsigned_abs p.y) (cond_none _ _ (or_none_left _ _ (or_none_right _ _ none)))
+none_above what most p none Z = not_above most (unsigned_abs p.z) (cond_none _ _ (or_none_left _ _ (or_none_right _ _ (or_none_right _ _ none))))
+
+-- a push that doesn't halt moves by at most a side
+pub pushed_move : (side : ℕ) (v e b : Spot) (kick turn : Multiplier) (s : Shift) → pushed side v e b kick turn ≡ Ok s → IsMove side s.d
+unfolding pushed
+pushed_move side v e b kick turn s h =
+    let both = unless_ok _ _ s h in
+    let far = none_above Far side _ (or_none_right _ _ (or_none_right _ _ both.0)) in
+    subst (λ (t : Shift). IsMove side t.d) both.1
+    (record { x = record { size = far X }; y = record { size = far Y }; z = record { size = far Z } })
+
+-- the push of a particle that doesn't halt
+pub push_move : (w : Surroundings) (x : Particle) (s : Shift) → push_of w x ≡ Ok s → IsMove w.side s.d
+unfolding push_of
+push_move w x s h = pushed_move w.side _ _ _ _ _ s h
+
+-- a push keeps the identity
+pub id_kept : (side : ℕ) (n : Triple) (x : Particle) (r : Result Shift Halting) → (after_push side n x r).id ≡ x.id
+unfolding after_push moved
+id_kept side n x (Ok s) = refl
+id_kept side n x (Err h) = refl
+
+-- a push keeps the species
+pub species_kept : (side : ℕ) (n : Triple) (x : Particle) (r : Result Shift Halting) → (after_push side n x r).species ≡ x.species
+unfolding after_push moved
+species_kept side n x (Ok s) = refl
+species_kept side n x (Err h) = refl
+
+-- a particle that moved stands where its path wraps to
+pub moved_place : (side : ℕ) (n : Triple) (x : Particle) (s : Shift)
+    → triple (moved side n x s).x ≡ wrapped_point side n (plus (point_of (triple x.x)) s.d)
+unfolding moved
+moved_place side n x s = refl
+
+above_zero : (a b : ℕ) → 2 ≤ a → 0 < b → 0 < a * b
+above_zero a b h k = grind arith
+
+-- a wrapped point lies in the box
+pub wrapped_in_box : (side : ℕ) (n : Triple) (p : Spot) → 0 < side → HasTwo n → IsInBox side n (wrapped_point side n p)
+wrapped_in_box side n p above two = record {
+  x = (residue-is p.x (n.x * side) (above_zero n.x side two.x above)).below;
+  y = (residue-is p.y (n.y * side) (above_zero n.y side two.y above)).below;
+  z = (residue-is p.z (n.z * side) (above_zero n.z side two.z above)).below;
+}
+
+-- a push keeps a particle in the box
+pub box_kept : (side : ℕ) (n : Triple) (x : Particle) (r : Result Shift Halting) → 0 < side → HasTwo n → IsInBox side n (triple x.x)
+    → IsInBox side n (triple (after_push side n x r).x)
+unfolding after_push
+box_kept side n x (Ok s) above two h = subst (IsInBox side n) (sym (moved_place side n x s)) (wrapped_in_box side n (plus (point_of (triple x.x)) s.d) above two)
+box_kept side n x (Err halt) above two h = h
+
+-- the push keeps the identities of all particles
+pub ids_kept : (w : Surroundings) (xs : List Particle) → map (λ x. x.id) (moved_all w xs) ≡ map (λ x. x.id) xs
+unfolding moved_all
+ids_kept w [] = refl
+ids_kept w (x ∷ xs) = λ i. id_kept w.side w.cells x (push_of w x) i ∷ ids_kept w xs i
+
+-- one particle more
+share_at : (w : Surroundings) (xs : List Particle) → 0 < w.side → HasTwo w.cells
+    → ((i : ℕ) (d : Particle) → i < length xs → CanShare w.side w.cells w.kinds (slice_index_or xs i d))
+    → (i : ℕ) (d : Particle) → i < length (moved_all w xs) → CanShare w.side w.cells w.kinds (slice_index_or (moved_all w xs) i d)
+unfolding moved_all
+share_at w [] above two each i d below = absurd (omega (arith, below))
+share_at w (x ∷ xs) above two each zero d below =
+    let here = each 0 d (omega arith) in
+    record {
+      species = subst (λ (n : ℕ). n < length w.kinds) (sym (species_kept w.side w.cells x (push_of w x))) here.species;
+      place = box_kept w.side w.cells x (push_of w x) above two here.place;
+    }
+share_at w (x ∷ xs) above two each (suc i) d below =
+    share_at w xs above two (λ j e under. each (suc j) e (omega (arith, under))) i d (omega (arith, below))
+
+-- and their number
+pub length-moved_all : (w : Surroundings) (xs : List Particle) → length (moved_all w xs) ≡ length xs
+unfolding moved_all
+length-moved_all w [] = refl
+length-moved_all w (x ∷ xs) = ap suc (length-moved_all w xs)
+
+-- after the push each particle's species is still one of the kinds, and its position lies in the box
+pub share_kept : (w : Surroundings) (xs : List Particle) → 0 < w.side → HasTwo w.cells → AllCanShare w.side w.cells w.kinds xs
+    → AllCanShare w.side w.cells w.kinds (moved_all w xs)
+share_kept w xs above two all = record { each = go xs all.each }
+  where
+    go : (ys : List Particle) → ((i : ℕ) (d : Particle) → i < length ys → CanShare w.side w.cells w.kinds (slice_index_or ys i d))
+        → (i : ℕ) (d : Particle) → i < length (moved_all w ys) → CanShare w.side w.cells w.kinds (slice_index_or (moved_all w ys) i d)
+    go ys each i d below = share_at w ys above two each i d below

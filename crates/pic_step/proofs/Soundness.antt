@@ -1,0 +1,110 @@
+-- A step without a stop keeps what the state of a run keeps.
+use Rattle.std.proofs.Common.{◌≡◌, ℕ, ◌<◌, ◌≤◌, Option, Some, None, refl, sym, ap, ◌∙◌, subst, zero-add, arith}
+use Rattle.std.proofs.Math.IntN.{ℤ, ◌-ℤ◌}
+use Rattle.std.specs.Option.{option_or}
+use Rattle.std.specs.List.{range_with_len}
+use Rattle.std.proofs.lemmas.Int.{ints}
+use Rattle.pic_num.specs.declared.space.Axis.{Axis}
+use Rattle.pic_num.specs.Multiplier.{Multiplier}
+use Rattle.pic_num.specs.Rounding.{scaled}
+use Rattle.pic_num.specs.Space.{Triple}
+use Rattle.pic_grid.specs.declared.stops.Phase.{Phase}
+use Rattle.pic_grid.specs.declared.stops.Phase.TheVariants.{Half1, Half2, Electric}
+use Rattle.pic_grid.specs.Fields.{value_at, field_of}
+use Rattle.pic_grid.specs.Hat.{HasTwo}
+use Rattle.pic_grid.specs.Places.{IsCells}
+use Rattle.pic_grid.specs.PushPhase.{moved_all, push_stop}
+use Rattle.pic_grid.proofs.Fields.{value_at-field_of}
+use Rattle.pic_charge.specs.Charge.{charge_of}
+use Rattle.pic_charge.specs.Gauss.{MeetsGauss}
+use Rattle.pic_field.specs.FieldPhases.{full_of, least_fault, cell_above, IsBounded}
+use Rattle.pic_field.proofs.LeastFaults.{least_fault-bounded}
+use Rattle.pic_split.proofs.ContinuityImages.{div_e_same}
+use Rattle.pic_step.specs.SerialStep.{World, origin, around, half_at, full_at, half_on, push_on, current_of, before_electric, half_stop, full_stop, step_on, stop_of}
+use Rattle.pic_step.specs.Sound.{one_part, IsSafe, IsSound}
+use Rattle.pic_step.proofs.Pushes.{ids_kept, length-moved_all, share_kept}
+use Rattle.pic_step.proofs.GaussLaw.{div_current, div_full}
+
+-- every grid has two cells on each axis
+pub has_two : (n : Triple) → IsCells n → HasTwo n
+has_two n h = record { x = h.x_least; y = h.y_least; z = h.z_least }
+
+-- a cell counted from the lowest of the grid
+pub above_origin : (p : Triple) → cell_above origin p ≡ p
+above_origin p = λ i. record { x = zero-add p.x i; y = zero-add p.y i; z = zero-add p.z i }
+
+-- a field phase without a stop leaves a safe field
+pub safe_after : (phase : Phase) (by : Multiplier) (n : Triple) (g : Axis → Triple → ℤ) → least_fault phase by origin n g ≡ None
+    → IsSafe n by (field_of n one_part g)
+safe_after phase by n g none = record {
+  cells = refl;
+  parts = refl;
+  bounded = λ a p within. subst (IsBounded by) (ap (g a) (above_origin p) ∙ sym (value_at-field_of n one_part g a p within))
+      (least_fault-bounded phase by origin n g none a p within);
+}
+
+-- the four phases have no stop
+pub record HasNoStop (w : World) : Type 0 where
+  pub half1 : half_stop Half1 w ≡ None
+  pub push : push_stop (around (half_on w)) w.particles ≡ None
+  pub half2 : half_stop Half2 (push_on (half_on w)) ≡ None
+  pub electric : full_stop (current_of (half_on w)) (before_electric w) ≡ None
+
+neither : {A : Type 0} (o p : Option A) → option_or o p ≡ None → (o ≡ None) × (p ≡ None)
+neither None p h = (refl, h)
+neither (Some a) p h = cc
+
+pub no_stop : (w : World) → stop_of w ≡ None → HasNoStop w
+unfolding stop_of
+no_stop w none =
+    let first = neither _ _ none in
+    let second = neither _ _ first.1 in
+    let third = neither _ _ second.1 in
+    record { half1 = first.0; push = second.0; half2 = third.0; electric = third.1 }
+
+-- Gauss's law after a step
+pub gauss_kept : (w : World) → IsSound w → MeetsGauss w.side w.cells w.kinds (push_on (half_on w)).particles (step_on w).e
+unfolding step_on full_of
+gauss_kept w sound = record {
+  at_node = λ p within.
+      let n = w.cells in
+      let h = half_on w in
+      let w4 = before_electric w in
+      let j = current_of h in
+      let two = has_two n sound.cells in
+      let above : 0 < w.side = omega (arith, sound.side) in
+      let is_full = div_e_same n (value_at (field_of n w.e.parts (full_at j w4))) (full_at j w4) p within (λ a q inside. value_at-field_of n w.e.parts (full_at j w4) a q inside) in
+      let falls = div_full n (value_at w.e) (λ c q. scaled (value_at w4.b c q) w.scales.b_to_e) j p in
+      let old = sound.gauss.at_node p within in
+      let law = div_current (around h) w.particles p above two within sound.places.each in
+      is_full ∙ falls ∙ (λ i. old i -ℤ law i)
+      ∙ cancel (charge_of w.side n w.kinds w.particles p) (charge_of w.side n w.kinds (moved_all (around h) w.particles) p);
+}
+  where
+    cancel : (a b : ℤ) → a -ℤ (a -ℤ b) ≡ b
+    cancel a b = omega (arith, ints)
+
+-- a step without a stop keeps all
+pub step_sound : (w : World) → IsSound w → stop_of w ≡ None → IsSound (step_on w)
+unfolding step_on
+step_sound w sound none =
+    let n = w.cells in
+    let h = half_on w in
+    let stops = no_stop w none in
+    let two = has_two n sound.cells in
+    let above : 0 < w.side = omega (arith, sound.side) in
+    let count = length-moved_all (around h) w.particles in
+    record {
+      side = sound.side;
+      cells = sound.cells;
+      e = subst (λ (parts : Triple). IsSafe n w.scales.e_force (field_of n parts (full_at (current_of h) (before_electric w)))) (sym sound.e.parts)
+          (safe_after Electric w.scales.e_force n (full_at (current_of h) (before_electric w)) stops.electric);
+      b = subst (λ (parts : Triple). IsSafe n w.scales.b_force (field_of n parts (half_at (push_on h)))) (sym sound.b.parts)
+          (safe_after Half2 w.scales.b_force n (half_at (push_on h)) stops.half2);
+      species = sound.species;
+      kinds = sound.kinds;
+      few = subst (λ (k : ℕ). k ≤ 1048576) (sym count) sound.few;
+      identities = ids_kept (around h) w.particles ∙ sound.identities ∙ ap (range_with_len 0) (sym count);
+      places = share_kept (around h) w.particles above two sound.places;
+      gauss = gauss_kept w sound;
+    }

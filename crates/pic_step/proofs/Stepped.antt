@@ -1,0 +1,149 @@
+-- A step by its four calls: each leaves what the next one needs.
+use Rattle.std.proofs.Common.{◌≡◌, ◌^◌, List, Option, None, Ok, refl, sym, ap, ◌∙◌, subst}
+use Rattle.std.proofs.Math.IntN.{ℤ}
+use Rattle.pic_num.specs.declared.motion.Kind.{Kind}
+use Rattle.pic_num.specs.declared.motion.Particle.{Particle}
+use Rattle.pic_num.specs.declared.space.Axis.{Axis}
+use Rattle.pic_num.specs.Multiplier.{Multiplier}
+use Rattle.pic_num.specs.Space.{Triple}
+use Rattle.pic_grid.specs.declared.stops.Phase.TheVariants.{Half1, Half2, Electric}
+use Rattle.pic_grid.specs.declared.stops.Stop.{Stop}
+use Rattle.pic_grid.specs.Fields.{Field, value_at, field_of}
+use Rattle.pic_grid.specs.Gather.{force_of}
+use Rattle.pic_grid.specs.Places.{IsWithin}
+use Rattle.pic_grid.specs.PushPhase.{Surroundings, push_stop}
+use Rattle.pic_grid.proofs.Fields.{value_at-field_of, length-values_of, is_field_of}
+use Rattle.pic_field.specs.FieldPhases.{half_of, full_of, least_fault, EachAtMost}
+use Rattle.pic_field.proofs.Whole.{least_fault-same}
+use Rattle.pic_step.specs.declared.rooms.Rooms.{Rooms}
+use Rattle.pic_step.specs.PushRoom.{around_fields, IsPushed}
+use Rattle.pic_step.specs.Rooms.{IsRoom, AreRooms}
+use Rattle.pic_step.specs.SerialStep.{World, origin, around, half_at, full_at, half_on, push_on, current_of, before_electric, half_stop, full_stop, step_on, stop_of, stepped}
+use Rattle.pic_step.specs.Sound.{one_part, IsSafe, IsSound}
+use Rattle.pic_step.proofs.Exits.{no_stop_is, steps_on}
+use Rattle.pic_step.proofs.Soundness.{above_origin, safe_after, step_sound}
+
+-- the values of a safe field are small
+pub safe_small : (n : Triple) (by : Multiplier) (f : Field) → IsSafe n by f → EachAtMost (2 ^ 90) f
+safe_small n by f safe = record { at_most = λ a p within. (safe.bounded a p (subst (IsWithin p) safe.cells within)).value }
+
+-- what the first half step of B leaves
+pub record IsHalf (w : World) (b : Field) : Type 0 where
+  pub is : b ≡ (half_on w).b
+  pub none : half_stop Half1 w ≡ None
+
+pub half_stop_of : (w : World) (o : Option Stop) → IsSound w → least_fault Half1 w.scales.b_force origin w.e.cells (half_at w) ≡ o → half_stop Half1 w ≡ o
+half_stop_of w o sound h = (λ i. least_fault Half1 w.scales.b_force origin (sym sound.e.cells i) (half_at w)) ∙ h
+
+pub is_half : (w : World) (b : Field) → IsSound w → b ≡ field_of w.e.cells one_part (half_at w)
+    → least_fault Half1 w.scales.b_force origin w.e.cells (half_at w) ≡ None → IsHalf w b
+is_half w b sound is none = record {
+  is = is ∙ (λ i. field_of (sound.e.cells i) (sym sound.b.parts i) (half_at w));
+  none = half_stop_of w None sound none;
+}
+
+pub half_safe : (w : World) (b : Field) → IsSound w → IsHalf w b → IsSafe w.cells w.scales.b_force b
+half_safe w b sound half = subst (IsSafe w.cells w.scales.b_force)
+    ((λ i. field_of w.cells (sym sound.b.parts i) (half_at w)) ∙ sym half.is)
+    (safe_after Half1 w.scales.b_force w.cells (half_at w) half.none)
+
+-- the push is that of the definition
+pub around_is : (w : World) (b : Field) → IsSound w → IsHalf w b → around_fields w.scales w.kinds w.e b ≡ around (half_on w)
+around_is w b sound half = λ i. record {
+  side = sym sound.side i;
+  cells = sound.e.cells i;
+  kinds = w.kinds;
+  of_e = force_of w.scales.e_force (value_at w.e);
+  of_b = force_of w.scales.b_force (value_at (half.is i));
+}
+
+pub pushed_on : (w : World) (b : Field) (kinds : List Kind) (old now : List Particle) (stop : Option Stop) (rooms : Rooms) → IsSound w → IsHalf w b
+    → kinds ≡ w.kinds → old ≡ w.particles
+    → IsPushed (around_fields w.scales kinds w.e b) old now stop rooms → IsPushed (around (half_on w)) w.particles now stop rooms
+pushed_on w b kinds old now stop rooms sound half same_kinds same pushed =
+    subst (λ (xs : List Particle). IsPushed (around (half_on w)) xs now stop rooms) same
+    (subst (λ (s : Surroundings). IsPushed s old now stop rooms) ((λ i. around_fields w.scales (same_kinds i) w.e b) ∙ around_is w b sound half) pushed)
+
+-- what the second half step of B leaves
+pub record IsBefore (w : World) (b : Field) : Type 0 where
+  pub is : b ≡ (before_electric w).b
+  pub none : half_stop Half2 (push_on (half_on w)) ≡ None
+
+second_same : (w : World) (b : Field) → IsHalf w b → ◌≡◌ {A = Axis → Triple → ℤ} (λ a p. half_of w.scales w.e a p (value_at b a p)) (half_at (push_on (half_on w)))
+second_same w b half = λ i a p. half_of w.scales w.e a p (value_at (half.is i) a p)
+
+pub second_stop_of : (w : World) (b : Field) (o : Option Stop) → IsSound w → IsHalf w b
+    → least_fault Half2 w.scales.b_force origin w.e.cells (λ a p. half_of w.scales w.e a p (value_at b a p)) ≡ o → half_stop Half2 (push_on (half_on w)) ≡ o
+second_stop_of w b o sound half h = (λ i. least_fault Half2 w.scales.b_force origin (sym sound.e.cells i) (sym (second_same w b half) i)) ∙ h
+
+pub is_before : (w : World) (b c : Field) → IsSound w → IsHalf w b → c ≡ field_of w.e.cells one_part (λ a p. half_of w.scales w.e a p (value_at b a p))
+    → least_fault Half2 w.scales.b_force origin w.e.cells (λ a p. half_of w.scales w.e a p (value_at b a p)) ≡ None → IsBefore w c
+is_before w b c sound half is none = record {
+  is = is ∙ (λ i. field_of (sound.e.cells i) (sym sound.b.parts i) (second_same w b half i));
+  none = second_stop_of w b None sound half none;
+}
+
+pub before_safe : (w : World) (b : Field) → IsSound w → IsBefore w b → IsSafe w.cells w.scales.b_force b
+before_safe w b sound before = subst (IsSafe w.cells w.scales.b_force)
+    ((λ i. field_of w.cells (sym sound.b.parts i) (half_at (push_on (half_on w)))) ∙ sym before.is)
+    (safe_after Half2 w.scales.b_force w.cells (half_at (push_on (half_on w))) before.none)
+
+-- E by the lattice of the current is E by the current
+abbrev pub by_lattice : World → Field → Field → Axis → Triple → ℤ
+by_lattice w b j a p = full_of w.scales b a p (value_at w.e a p) (value_at j a p)
+
+current_same : (w : World) (b j : Field) → IsBefore w b → j ≡ field_of w.cells one_part (current_of (half_on w))
+    → (a : Axis) (p : Triple) → IsWithin p w.cells → by_lattice w b j a p ≡ full_at (current_of (half_on w)) (before_electric w) a p
+current_same w b j before is a p within =
+    let value = ap (λ (f : Field). value_at f a p) is ∙ value_at-field_of w.cells one_part (current_of (half_on w)) a p within in
+    λ i. full_of w.scales (before.is i) a p (value_at w.e a p) (value i)
+
+pub last_stop_of : (w : World) (b j : Field) (o : Option Stop) → IsSound w → IsBefore w b → j ≡ field_of w.cells one_part (current_of (half_on w))
+    → least_fault Electric w.scales.e_force origin b.cells (by_lattice w b j) ≡ o → full_stop (current_of (half_on w)) (before_electric w) ≡ o
+last_stop_of w b j o sound before is h =
+    let cells : w.cells ≡ b.cells = sym (ap (λ (f : Field). f.cells) before.is) in
+    least_fault-same Electric w.scales.e_force origin w.cells (full_at (current_of (half_on w)) (before_electric w)) (by_lattice w b j)
+    (λ a p within. ap (full_at (current_of (half_on w)) (before_electric w) a) (above_origin p)
+    ∙ sym (current_same w b j before is a p within)
+    ∙ ap (by_lattice w b j a) (sym (above_origin p)))
+    ∙ (λ i. least_fault Electric w.scales.e_force origin (cells i) (by_lattice w b j)) ∙ h
+
+pub e_after : (w : World) (b j e : Field) → IsSound w → IsBefore w b → j ≡ field_of w.cells one_part (current_of (half_on w))
+    → e ≡ field_of b.cells one_part (by_lattice w b j) → e ≡ field_of w.cells w.e.parts (full_at (current_of (half_on w)) (before_electric w))
+e_after w b j e sound before is done =
+    let cells : b.cells ≡ w.cells = ap (λ (f : Field). f.cells) before.is in
+    done ∙ (λ i. field_of (cells i) one_part (by_lattice w b j))
+    ∙ is_field_of w.cells one_part (full_at (current_of (half_on w)) (before_electric w)) (field_of w.cells one_part (by_lattice w b j)) refl refl
+    (length-values_of w.cells (by_lattice w b j))
+    (λ a p within. value_at-field_of w.cells one_part (by_lattice w b j) a p within ∙ current_same w b j before is a p within)
+    ∙ (λ i. field_of w.cells (sym sound.e.parts i) (full_at (current_of (half_on w)) (before_electric w)))
+
+-- the state after the step
+pub record IsAfter (w : World) (e b : Field) (particles : List Particle) : Type 0 where
+  pub none : stop_of w ≡ None
+  pub is : record w { e = e; b = b; particles = particles } ≡ step_on w
+
+pub is_after : (w : World) (b c e : Field) (now particles : List Particle) (rooms : Rooms) → IsSound w → IsHalf w b
+    → IsPushed (around (half_on w)) w.particles now None rooms → IsBefore w c → particles ≡ now
+    → e ≡ field_of c.cells one_part (by_lattice w c rooms.current) → least_fault Electric w.scales.e_force origin c.cells (by_lattice w c rooms.current) ≡ None
+    → IsAfter w e c particles
+unfolding step_on
+is_after w b c e now particles rooms sound half pushed before same e_is none =
+    let free : push_stop (around (half_on w)) w.particles ≡ None = sym pushed.stop_is in
+    let still = last_stop_of w c rooms.current None sound before pushed.current_is none in
+    let done = e_after w c rooms.current e sound before pushed.current_is e_is in
+    let moved : particles ≡ (before_electric w).particles = same ∙ pushed.particles in
+    record {
+      none = no_stop_is w half.none free before.none still;
+      is = λ i. record w { e = done i; b = before.is i; particles = moved i };
+    }
+
+pub sound_after : (w : World) (e b : Field) (particles : List Particle) → IsSound w → IsAfter w e b particles → IsSound (record w { e = e; b = b; particles = particles })
+sound_after w e b particles sound after = subst IsSound (sym after.is) (step_sound w sound after.none)
+
+pub stepped_after : (w : World) (e b : Field) (particles : List Particle) → IsAfter w e b particles → stepped w ≡ Ok (record w { e = e; b = b; particles = particles })
+stepped_after w e b particles after = steps_on w after.none ∙ ap (λ (v : World). Ok v) (sym after.is)
+
+-- the rooms with the current back
+pub rooms_back : (n : Triple) (r : Rooms) (k : Field) → AreRooms n r → k ≡ r.current → AreRooms n (record r { current = k })
+rooms_back n r k rooms is = record { force_e = rooms.force_e; force_b = rooms.force_b; current = subst (IsRoom n) (sym is) rooms.current; guard = rooms.guard }

@@ -1,0 +1,66 @@
+use Rattle.std.proofs.Common.{◌≡◌, ◌<◌, refl, sym, ap, ◌∙◌, subst, arith}
+use Rattle.std.specs.Prelude.{All}
+use Rattle.pic_num.specs.Space.{Triple}
+use Rattle.pic_grid.specs.Fields.{Field, value_at, field_of}
+use Rattle.pic_grid.specs.Gather.{force_of}
+use Rattle.pic_grid.specs.PushPhase.{Surroundings, moved_all, push_stop}
+use Rattle.pic_grid.specs.Species.{IsKind}
+use Rattle.pic_grid.specs.Zones.{BlockValues, AllAtMost}
+use Rattle.pic_flux.specs.Adds.{Adds}
+use Rattle.pic_flux.proofs.AddsLaws.{adds_same, zeros_at_most}
+use Rattle.pic_step.specs.PushRoom.{around_fields}
+use Rattle.pic_step.specs.Pushing.{felt}
+use Rattle.pic_step.specs.Sound.{one_part}
+use Rattle.pic_step.specs.Traces.{traces, Holds}
+use Rattle.pic_step.proofs.Felt.{around_lattices, moved_same, stop_same, traces_same}
+use Rattle.pic_step.proofs.Pushed.{forces_small, guard_holds, folded, folded_small, felt_is, kinds_all}
+use Rattle.pic_step.proofs.push_phase.push_phase.Goals as goal
+
+pub push_all-stop-requires-clause-e : goal.push_all-stop-requires-clause-e
+push_all-stop-requires-clause-e c = forces_small c.args.e.now.cells c.args.scales.now.e_force c.args.e.now c.forces-force_e.result c.requires.e c.forces-force_e.ensures
+
+pub push_all-stop-requires-clause-b : goal.push_all-stop-requires-clause-b
+push_all-stop-requires-clause-b c =
+    forces_small c.args.e.now.cells c.args.scales.now.b_force c.args.b.now c.forces-force_b.result c.requires.b
+    (c.forces-force_b.ensures ∙ ap (λ (n : Triple). field_of n one_part (force_of c.args.scales.now.b_force (value_at c.args.b.now))) c.requires.b.cells)
+
+pub returns : goal.returns
+returns c =
+    let scales = c.args.scales.now in
+    let kinds = c.args.kinds.now in
+    let e = c.args.e.now in
+    let b = c.args.b.now in
+    let n = e.cells in
+    let old = c.args.particles.now in
+    let w : Surroundings = around_fields scales kinds e b in
+    let is_b = c.forces-force_b.ensures ∙ ap (λ (m : Triple). field_of m one_part (force_of scales.b_force (value_at b))) c.requires.b.cells in
+    let feels : felt kinds c.forces-force_e.result c.forces-force_b.result ≡ around_lattices kinds n (force_of scales.e_force (value_at e)) (force_of scales.b_force (value_at b)) =
+    felt_is kinds n (force_of scales.e_force (value_at e)) (force_of scales.b_force (value_at b)) c.forces-force_e.result c.forces-force_b.result c.forces-force_e.ensures is_b in
+    let guard = c.clear.new.self in
+    let now = c.push_all-stop.new.guard in
+    let adds : Adds guard now (traces w old) =
+    adds_same guard now (traces (around_lattices kinds n (force_of scales.e_force (value_at e)) (force_of scales.b_force (value_at b))) old) (traces w old)
+    (λ a s. traces_same kinds n (force_of scales.e_force (value_at e)) (force_of scales.b_force (value_at b)) old a s)
+    (subst (λ (v : Surroundings). Adds guard now (traces v old)) feels c.push_all-stop.ensures.adds) in
+    let zeros : AllAtMost 0 guard = subst (AllAtMost 0) (sym c.clear.ensures) (zeros_at_most c.args.rooms.guard.low c.args.rooms.guard.size) in
+    let above : 0 < 4096 = omega arith in
+    let holds : Holds n now (traces w old) = guard_holds w old guard now above c.requires.can zeros c.push_all-stop.ensures.shape adds in
+    let room = c.requires.rooms in
+    let moved : Holds c.args.rooms.current.cells now (traces w old) = subst (λ (m : Triple). Holds m now (traces w old)) (sym room.current.cells) holds in
+    let current = folded w old c.args.rooms.current c.fold.new.current room.current.cells room.current.parts (c.fold.ensures (traces w old) moved) in
+    let limits : All IsKind kinds = kinds_all kinds c.requires.kinds.each in
+    record {
+      rooms_are = record {
+        force_e = record { cells = ap (λ (k : Field). k.cells) c.forces-force_e.ensures; parts = ap (λ (k : Field). k.parts) c.forces-force_e.ensures };
+        force_b = record { cells = ap (λ (k : Field). k.cells) is_b; parts = ap (λ (k : Field). k.parts) is_b };
+        current = record { cells = ap (λ (k : Field). k.cells) current; parts = ap (λ (k : Field). k.parts) current };
+        guard = record {
+          low = sym c.push_all-stop.ensures.shape.low ∙ ap (λ (k : BlockValues). k.low) c.clear.ensures ∙ room.guard.low;
+          size = sym c.push_all-stop.ensures.shape.size ∙ ap (λ (k : BlockValues). k.size) c.clear.ensures ∙ room.guard.size;
+        };
+      };
+      particles = c.push_all-stop.ensures.after ∙ ap (λ (v : Surroundings). moved_all v old) feels ∙ moved_same kinds n (force_of scales.e_force (value_at e)) (force_of scales.b_force (value_at b)) old;
+      stop_is = c.push_all-stop.ensures.stop ∙ ap (λ (v : Surroundings). push_stop v old) feels ∙ stop_same kinds n (force_of scales.e_force (value_at e)) (force_of scales.b_force (value_at b)) old;
+      current_is = current;
+      current_small = folded_small w old c.fold.new.current refl limits c.requires.few current;
+    }

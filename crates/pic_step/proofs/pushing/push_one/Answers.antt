@@ -1,0 +1,68 @@
+use Rattle.std.proofs.Common.{◌≡◌, ℕ, ◌+◌, Some, sym, ap, ◌∙◌, subst, arith, rules}
+use Rattle.std.specs.Prelude.{Result}
+use Rattle.std.proofs.Math.IntN.{ℤ, pos, ◌+ℤ◌}
+use Rattle.std.proofs.lemmas.Int.{ints, to_z-of_z}
+use mir.Syntax.{w32, w128}
+use mir.Val.{SFits, to_z, of_z}
+use Rattle.pic_num.specs.Push.{Shift, Halting}
+use Rattle.pic_num.specs.Space.{Triple, triple, spot}
+use Rattle.pic_grid.specs.declared.stops.Stop.TheVariants.{Push}
+use Rattle.pic_grid.specs.Flux.{path_flux}
+use Rattle.pic_grid.specs.Path.{path, point_of}
+use Rattle.pic_grid.specs.PushPhase.{kind_of, moved, after_push, halt_of}
+use Rattle.pic_grid.specs.Zones.{BlockValues, AllAtMost, edge_at}
+use Rattle.pic_boris.specs.Pushes.{shift_of}
+use Rattle.pic_flux.specs.Adds.{Adds}
+use Rattle.pic_step.specs.Traces.{trace_of}
+use Rattle.pic_step.proofs.pushing.push_one.Goals as goal
+
+plus_zero : (v : ℤ) → v ≡ v +ℤ pos 0
+plus_zero v = omega (arith, ints)
+
+more : (b : BlockValues) (n k : ℕ) → AllAtMost n b → AllAtMost (n + k) b
+more b n k all = record { at_most = λ a c inside. let h = all.at_most a c inside in record { size = omega (arith, h.size) } }
+
+pub returns-in-Ok-clause-after : goal.returns-in-Ok-clause-after
+unfolding after_push
+returns-in-Ok-clause-after c =
+    let x = c.args.x.now in
+    let n = c.args.force_e.now.cells in
+    c.follow.ensures.after
+    ∙ ap (λ (m : Triple). moved 4096 m x (shift_of c.in-Ok.by)) c.cells.ensures.value
+    ∙ ap (λ (r : Result Shift Halting). after_push 4096 n x r) (sym c.in-Ok.ensures.pushed)
+
+pub returns-in-Ok-clause-stop : goal.returns-in-Ok-clause-stop
+unfolding halt_of
+returns-in-Ok-clause-stop c = ap (λ (r : Result Shift Halting). halt_of c.args.x.now r) (sym c.in-Ok.ensures.pushed)
+
+pub returns-in-Ok-clause-adds : goal.returns-in-Ok-clause-adds
+unfolding trace_of
+returns-in-Ok-clause-adds c =
+    let x = c.args.x.now in
+    let kinds = c.args.kinds.now in
+    let fits : SFits w32 c.charge_of-charge.result = record { sfits = c.charge_of-charge.type_inv } in
+    let charge : to_z w32 (of_z w32 c.charge_of-charge.result) ≡ (kind_of kinds x).charge = to_z-of_z w32 c.charge_of-charge.result fits ∙ c.charge_of-charge.ensures.value in
+    let track = path 4096 (point_of (triple x.x)) (spot c.in-Ok.by.d) in
+    let added : Adds c.args.guard.now c.follow.new.guard (path_flux 4096 (kind_of kinds x).charge track) =
+    subst (λ (q : ℤ). Adds c.args.guard.now c.follow.new.guard (path_flux 4096 q track)) charge c.follow.ensures.adds in
+    subst (λ (r : Result Shift Halting). Adds c.args.guard.now c.follow.new.guard (λ a e. trace_of 4096 kinds x r a e)) (sym c.in-Ok.ensures.pushed) added
+
+pub returns-in-Err-clause-after : goal.returns-in-Err-clause-after
+unfolding after_push
+returns-in-Err-clause-after c =
+    ap (λ (r : Result Shift Halting). after_push 4096 c.args.force_e.now.cells c.args.x.now r) (sym c.in-Err.ensures.pushed)
+
+pub returns-in-Err-clause-stop : goal.returns-in-Err-clause-stop
+unfolding halt_of
+returns-in-Err-clause-stop c =
+    let halt = c.in-Err.halt in
+    let fits : SFits w128 halt.value = search rules in
+    (λ i. Some (Push c.args.x.now.id halt.what halt.axis (to_z-of_z w128 halt.value fits i)))
+    ∙ ap (λ (r : Result Shift Halting). halt_of c.args.x.now r) (sym c.in-Err.ensures.pushed)
+
+pub returns-in-Err-clause-adds : goal.returns-in-Err-clause-adds
+unfolding trace_of
+returns-in-Err-clause-adds c =
+    let guard = c.args.guard.now in
+    let still : Adds guard guard (λ a e. pos 0) = record { at = λ a e inside. plus_zero (edge_at guard a e) } in
+    subst (λ (r : Result Shift Halting). Adds guard guard (λ a e. trace_of 4096 c.args.kinds.now c.args.x.now r a e)) (sym c.in-Err.ensures.pushed) still

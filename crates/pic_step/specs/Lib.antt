@@ -1,0 +1,9 @@
+pub mod SerialStep
+pub mod Sound
+pub mod Traces
+pub mod Pushing
+pub mod SerialRun
+pub mod Phases
+pub mod Rooms
+pub mod PushRoom
+pub mod Keeps

@@ -1,0 +1,21 @@
+-- What a field phase does to a lattice of one part.
+use Rattle.std.specs.Prelude.{◌≡◌, ℤ, Some, None, Result, Ok, Err}
+use Rattle.pic_num.specs.declared.space.Axis.{Axis}
+use Rattle.pic_num.specs.Multiplier.{Multiplier}
+use Rattle.pic_num.specs.Space.{Triple}
+use Rattle.pic_grid.specs.declared.stops.Phase.{Phase}
+use Rattle.pic_grid.specs.declared.stops.Stop.{Stop}
+use Rattle.pic_grid.specs.Fields.{Field, field_of}
+use Rattle.pic_field.specs.FieldPhases.{least_fault}
+use Rattle.pic_step.specs.SerialStep.{origin}
+use Rattle.pic_step.specs.Sound.{one_part}
+
+-- the lattice of the new values that g gives, none of which is a stop, or the stop of the least place
+abbrev pub Advances : Phase → Multiplier → Triple → (Axis → Triple → ℤ) → Result Field Stop → Type 0
+Advances phase by n g (Ok f) = (f ≡ field_of n one_part g) × (least_fault phase by origin n g ≡ None)
+Advances phase by n g (Err stop) = least_fault phase by origin n g ≡ Some stop
+
+-- the same beside a lattice that stays
+abbrev pub AdvancesBeside : Phase → Multiplier → Triple → (Axis → Triple → ℤ) → Field → Result (Field × Field) Stop → Type 0
+AdvancesBeside phase by n g other (Ok both) = (both.0 ≡ field_of n one_part g) × (least_fault phase by origin n g ≡ None) × (both.1 ≡ other)
+AdvancesBeside phase by n g other (Err stop) = least_fault phase by origin n g ≡ Some stop

@@ -1,0 +1,96 @@
+-- One step of the serial scheme on one grid, in leapfrog (Birdsall and Langdon, "Plasma Physics via
+-- Computer Simulation"): half a step of B, the push of every particle, another half step of B, a
+-- step of E. Each phase is total: a field phase gives every place its new value, and a particle that
+-- halts stands still. What stops the step is said beside it.
+use Rattle.std.specs.Prelude.{ℕ, ℤ, List, Option, Result}
+use Rattle.std.specs.Option.{option_or}
+use Rattle.pic_num.specs.declared.motion.Kind.{Kind}
+use Rattle.pic_num.specs.declared.motion.Particle.{Particle}
+use Rattle.pic_num.specs.declared.multiplier.Scales.{Scales}
+use Rattle.pic_num.specs.declared.space.Axis.{Axis}
+use Rattle.pic_num.specs.Push.{unless}
+use Rattle.pic_num.specs.Space.{Triple}
+use Rattle.pic_grid.specs.declared.stops.Phase.{Phase}
+use Rattle.pic_grid.specs.declared.stops.Phase.TheVariants.{Half1, Half2, Electric}
+use Rattle.pic_grid.specs.declared.stops.Stop.{Stop}
+use Rattle.pic_grid.specs.Current.{current}
+use Rattle.pic_grid.specs.Fields.{Field, value_at, field_of}
+use Rattle.pic_grid.specs.Gather.{force_of}
+use Rattle.pic_grid.specs.PushPhase.{Surroundings, moved_all, push_stop}
+use Rattle.pic_field.specs.FieldPhases.{half_of, full_of, least_fault}
+
+-- a state of the scheme: the side of a cell, the numbers of cells, the multipliers and the species,
+-- which stay; the fields, and the particles in the order of their identities
+pub record World : Type 0 where
+  pub side : ℕ
+  pub cells : Triple
+  pub scales : Scales
+  pub kinds : List Kind
+  pub e : Field
+  pub b : Field
+  pub particles : List Particle
+
+-- the lowest cell of the grid
+abbrev pub origin : Triple
+origin = record { x = 0; y = 0; z = 0 }
+
+-- what surrounds the particles: the force values of E and B
+abbrev pub around : World → Surroundings
+around w = record {
+  side = w.side;
+  cells = w.cells;
+  kinds = w.kinds;
+  of_e = force_of w.scales.e_force (value_at w.e);
+  of_b = force_of w.scales.b_force (value_at w.b);
+}
+
+-- B after half a step, at a place
+abbrev pub half_at : World → Axis → Triple → ℤ
+half_at w a p = half_of w.scales w.e a p (value_at w.b a p)
+
+-- E after a step, at a place, with the current j
+abbrev pub full_at : (Axis → Triple → ℤ) → World → Axis → Triple → ℤ
+full_at j w a p = full_of w.scales w.b a p (value_at w.e a p) (j a p)
+
+-- half a step of B
+abbrev pub half_on : World → World
+half_on w = record w { b = field_of w.cells w.b.parts (half_at w) }
+
+-- the push of all particles
+abbrev pub push_on : World → World
+push_on w = record w { particles = moved_all (around w) w.particles }
+
+-- the current of that push
+abbrev pub current_of : World → Axis → Triple → ℤ
+current_of w = current (around w) w.particles
+
+-- a step of E, with the current j
+abbrev pub full_on : (Axis → Triple → ℤ) → World → World
+full_on j w = record w { e = field_of w.cells w.e.parts (full_at j w) }
+
+-- the state in which E takes its step
+abbrev pub before_electric : World → World
+before_electric w = half_on (push_on (half_on w))
+
+-- the state after a step
+unfoldable pub step_on : World → World
+step_on w = full_on (current_of (half_on w)) (before_electric w)
+
+-- what stops half a step of B
+abbrev pub half_stop : Phase → World → Option Stop
+half_stop phase w = least_fault phase w.scales.b_force origin w.cells (half_at w)
+
+-- what stops a step of E
+abbrev pub full_stop : (Axis → Triple → ℤ) → World → Option Stop
+full_stop j w = least_fault Electric w.scales.e_force origin w.cells (full_at j w)
+
+-- what stops a step: the stop of the first phase that has one
+unfoldable pub stop_of : World → Option Stop
+stop_of w =
+    option_or (half_stop Half1 w)
+    (option_or (push_stop (around (half_on w)) w.particles)
+    (option_or (half_stop Half2 (push_on (half_on w))) (full_stop (current_of (half_on w)) (before_electric w))))
+
+-- the state after a step, or what stops it
+unfoldable pub stepped : World → Result World Stop
+stepped w = unless (stop_of w) (step_on w)

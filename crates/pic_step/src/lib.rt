@@ -1,0 +1,16 @@
+//! The state of a run, and one step of it.
+#![tactic(auto)]
+
+mod copying;
+mod folding;
+mod laws;
+mod phases;
+mod push_phase;
+mod pushing;
+mod rooms;
+mod state;
+mod stepping;
+
+pub use laws::law_of_the_step;
+pub use state::State;
+pub use stepping::{StepStop, step};

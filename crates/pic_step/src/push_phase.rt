@@ -1,0 +1,52 @@
+//! The push phase of a state: force values, the push of all particles, and the current.
+
+ghost use Rattle.std.specs.Prelude.{◌≡◌, ◌^◌, ◌≤◌, length};
+ghost use Rattle.pic_num.specs.Sizes.{IsAtMost};
+ghost use Rattle.pic_step.specs.PushRoom.{around_fields, IsPushed};
+ghost use Rattle.pic_step.specs.Pushing.{AreKinds};
+ghost use Rattle.pic_step.specs.Rooms.{AreRooms};
+ghost use Rattle.pic_step.specs.Sound.{AllCanShare, IsSafe};
+
+use crate::folding::fold;
+use crate::phases::forces;
+use crate::pushing::push_all;
+use crate::rooms::Rooms;
+use pic_grid::{Lattice, Stop};
+use pic_num::{Kind, Particle, Scales};
+
+/// Pushes all particles by the fields, and finds the current. The rooms come back.
+pub fn push_phase(
+    scales: &Scales,
+    kinds: &[Kind],
+    e: &Lattice,
+    b: &Lattice,
+    particles: &mut [Particle],
+    rooms: Rooms,
+) -> (Rooms, Option<Stop>)
+    requires e { IsSafe e.now.cells scales.now.e_force e.now }
+    requires b { IsSafe e.now.cells scales.now.b_force b.now }
+    requires rooms { AreRooms e.now.cells rooms }
+    requires kinds { AreKinds kinds.now }
+    requires few { length particles.old ≤ 1048576 }
+    requires can { AllCanShare 4096 e.now.cells kinds.now particles.old }
+    ensures { IsPushed (around_fields scales.now kinds.now e.now b.now) particles.old particles.new result.1 result.0 }
+{
+    let Rooms {
+        force_e,
+        force_b,
+        mut current,
+        mut guard,
+    } = rooms;
+    let force_e = forces(scales.e_force, e, force_e);
+    let force_b = forces(scales.b_force, b, force_b);
+    guard.clear();
+    let stop = push_all(kinds, &force_e, &force_b, particles, &mut guard);
+    fold(&guard, &mut current);
+    let rooms = Rooms {
+        force_e,
+        force_b,
+        current,
+        guard,
+    };
+    (rooms, stop)
+}
