@@ -1,6 +1,9 @@
-pub mod Empty
+pub mod Printed
 pub mod Taken
 pub mod Texts
-pub mod Commands
+pub mod FrameLaws
+pub mod RunLaws
+pub mod Starts
+pub mod EveryState
 pub mod EndsLaws
 pub mod Answers

@@ -1,8 +1,10 @@
-pub mod Bytes
-pub mod SerialRun
-pub mod DumpText
 pub mod Lines
 pub mod Reading
 pub mod Status
+pub mod Commands
+pub mod Starting
+pub mod Frames
+pub mod Rooms
 pub mod Outcome
 pub mod Ends
+pub mod Runs

@@ -1,25 +1,12 @@
 -- The lines of a report: this project's profile. Numbers are plain decimal, and each line ends with
 -- a line feed.
-use Rattle.std.specs.Prelude.{ℕ, List, ◌++◌, codes}
-use Rattle.std.specs.Fmt.{decimal}
-use Rattle.pic_deck.specs.declared.reader.Refusal.{Refusal}
-use Rattle.pic_deck.specs.declared.reader.Refusal.TheVariants.{Text, Form}
-use Rattle.pic_run.specs.SerialRun.{Energies}
-
-unfoldable pub frame_line : ℕ → Energies → List ℕ
-frame_line step e =
-    codes "frame "
-    ++ decimal step
-    ++ codes " kinetic "
-    ++ decimal e.kinetic
-    ++ codes " electric "
-    ++ decimal e.electric
-    ++ codes " magnetic "
-    ++ decimal e.magnetic
-    ++ codes "\n"
-
-unfoldable pub done_line : ℕ → List ℕ
-done_line steps = codes "done " ++ decimal steps ++ codes "\n"
+use Rattle.std.specs.Prelude.{ℕ, ℤ, List, ◌++◌, ◌&&◌, map, codes, nat_le, if◌then◌else◌}
+use Rattle.std.specs.Fmt.{decimal, signed_decimal}
+use Rattle.std.specs.Str.{chars}
+use Rattle.pic_walk.specs.declared.faults.Refusal.{Refusal}
+use Rattle.pic_walk.specs.declared.faults.Refusal.TheVariants.{Text, Unknown, Missing, Kind, Limit, Name}
+use Rattle.pic_num.specs.Space.{triple}
+use Rattle.pic_charge.specs.declared.breaks.Break.{Break}
 
 unfoldable pub usage_line : List ℕ
 usage_line = codes "usage: pic [check | run [--workers N] | verify | demo SEED [--workers N]]\n"
@@ -27,6 +14,50 @@ usage_line = codes "usage: pic [check | run [--workers N] | verify | demo SEED [
 unfoldable pub read_fault_line : List ℕ
 read_fault_line = codes "read fault\n"
 
+unfoldable pub check_line : ℕ → List ℕ
+check_line particles = codes "ok " ++ decimal particles ++ codes " particles\n"
+
+-- a node where the divergence of E and the charge differ, and both
+unfoldable pub gauss_line : Break → List ℕ
+gauss_line b =
+    codes "gauss "
+    ++ decimal (triple b.node).x
+    ++ codes " "
+    ++ decimal (triple b.node).y
+    ++ codes " "
+    ++ decimal (triple b.node).z
+    ++ codes " div "
+    ++ signed_decimal b.div
+    ++ codes " rho "
+    ++ signed_decimal b.rho
+    ++ codes "\n"
+
+-- a character of a path, as it is from `!` to `~`, and `?` in place of any other
+abbrev pub printed_char : ℕ → ℕ
+printed_char c = if nat_le 33 c && nat_le c 126 then c else 63
+
+unfoldable pub printed_path : List ℕ → List ℕ
+printed_path path = map printed_char (chars path)
+
+-- a refusal that names a path
+unfoldable pub path_line : List ℕ → List ℕ → List ℕ → List ℕ
+path_line head path tail = head ++ (printed_path path ++ tail)
+
+-- the number that isn't within its limits, and the limits
+unfoldable pub limit_tail : ℤ → ℤ → ℤ → List ℕ
+limit_tail value low high =
+    codes " "
+    ++ signed_decimal value
+    ++ codes " "
+    ++ signed_decimal low
+    ++ codes " "
+    ++ signed_decimal high
+    ++ codes "\n"
+
 unfoldable pub refused_line : Refusal → List ℕ
 refused_line Text = codes "refused 1 text\n"
-refused_line Form = codes "refused 0 form\n"
+refused_line (Unknown path) = path_line (codes "refused 2 unknown ") path (codes "\n")
+refused_line (Missing path) = path_line (codes "refused 3 missing ") path (codes "\n")
+refused_line (Kind path) = path_line (codes "refused 4 kind ") path (codes "\n")
+refused_line (Limit path value low high) = path_line (codes "refused 5 limit ") path (limit_tail value low high)
+refused_line (Name path) = path_line (codes "refused 6 name ") path (codes "\n")

@@ -1,23 +1,24 @@
 -- The outcome of a command, from its words and what its source held: the answer, the text on out
 -- and the text on report. Every answer but a write fault and want of memory is the outcome's.
-use Rattle.std.specs.Prelude.{ℕ, Bool, false, List, [], ◌∷◌, ◌++◌, take, codes, Option, Some, None, Result, Ok, Err, if◌then◌else◌}
-use Rattle.std.specs.List.{flat_map}
-use Rattle.std.specs.Str.{bytes_eq}
+use Rattle.std.specs.Prelude.{ℕ, List, [], ◌++◌, length, take, Option, Some, None, Ok, Err}
+use Rattle.pic_walk.specs.Walk.{Walked}
+use Rattle.pic_grid.specs.declared.stops.EndMark.{EndMark}
+use Rattle.pic_grid.specs.declared.stops.EndMark.TheVariants.{Done as EndDone, Stopped as EndStopped}
+use Rattle.pic_charge.specs.declared.breaks.Break.{Break}
 use Rattle.pic_deck.specs.Deck.{DeckView}
-use Rattle.pic_deck.specs.Reading.{deck_of}
-use Rattle.pic_deck.specs.declared.reader.Refusal.{Refusal}
-use Rattle.pic_num.specs.declared.multiplier.Scales.{Scales}
+use Rattle.pic_deck.specs.Keys.{walk}
+use Rattle.pic_dump.specs.DumpText.{header_bytes}
+use Rattle.pic_dump.specs.Headers.{HeaderView}
+use Rattle.pic_step.specs.SerialStep.{World}
 use Rattle.pic_run.specs.declared.ended.Ended.{Ended}
-use Rattle.pic_run.specs.declared.ended.Ended.TheVariants.{Done, Usage, Refused, ReadFault}
-use Rattle.pic_run.specs.SerialRun.{State, empty_state, energies}
-use Rattle.pic_run.specs.DumpText.{header_bytes, frame_bytes, end_bytes}
-use Rattle.pic_run.specs.Lines.{frame_line, done_line, usage_line, read_fault_line, refused_line}
+use Rattle.pic_run.specs.declared.ended.Ended.TheVariants.{Done, Checked, Stopped, Usage, Refused, Gauss, ReadFault}
+use Rattle.pic_run.specs.declared.commands.Command.{Command}
+use Rattle.pic_run.specs.declared.commands.Command.TheVariants.{Check, Run}
+use Rattle.pic_run.specs.Commands.{command_of}
+use Rattle.pic_run.specs.Frames.{Piece, outs, lines, frames_of, end_of, end_piece}
+use Rattle.pic_run.specs.Lines.{check_line, gauss_line, usage_line, read_fault_line, refused_line}
 use Rattle.pic_run.specs.Reading.{deck_limit}
-
--- what goes to out at once, and the line that follows it on report
-pub record Piece : Type 0 where
-  pub out : List ℕ
-  pub line : List ℕ
+use Rattle.pic_run.specs.Starting.{first_state, break_of, header_of}
 
 -- an answer, and what goes to the two sinks: the head of a dump, its frames, and what comes last
 pub record Outcome : Type 0 where
@@ -27,41 +28,64 @@ pub record Outcome : Type 0 where
   pub last : Piece
 
 abbrev pub out_text : Outcome → List ℕ
-out_text o = o.head ++ flat_map (λ piece. piece.out) o.frames ++ o.last.out
+out_text o = o.head ++ outs o.frames ++ o.last.out
 
 abbrev pub report_text : Outcome → List ℕ
-report_text o = flat_map (λ piece. piece.line) o.frames ++ o.last.line
+report_text o = lines o.frames ++ o.last.line
 
 -- nothing on out, and one line on report
 abbrev pub line_alone : Ended → List ℕ → Outcome
 line_alone answer line = record { answer = answer; head = []; frames = []; last = record { out = []; line = line } }
 
-abbrev pub frame_piece : Scales → ℕ → State → Piece
-frame_piece scales step s = record { out = frame_bytes scales step s; line = frame_line step (energies scales s) }
+-- the answer of a run that ends so
+abbrev pub answer_of : EndMark → Ended
+answer_of (EndDone steps) = Done steps
+answer_of (EndStopped step stop) = Stopped step stop
 
--- a run of no step: the frame of its one state, then the end
-abbrev pub run_outcome : DeckView → Outcome
-run_outcome d = record {
-  answer = Done d.steps;
-  head = header_bytes d;
-  frames = frame_piece d.scales 0 (empty_state d.cells) ∷ [];
-  last = record { out = end_bytes d.steps; line = done_line d.steps };
+-- the run that a header is of, from its first state w
+abbrev pub run_outcome : HeaderView → World → Outcome
+run_outcome h w = record {
+  answer = answer_of (end_of h.steps w);
+  head = header_bytes h;
+  frames = frames_of h.steps h.every w;
+  last = end_piece (end_of h.steps w);
 }
 
-abbrev pub deck_outcome : Result DeckView Refusal → Outcome
-deck_outcome (Ok d) = run_outcome d
-deck_outcome (Err refusal) = line_alone (Refused refusal) (refused_line refusal)
+-- a deck that can be run: its number of particles, on out
+abbrev pub check_outcome : World → Outcome
+check_outcome w = record {
+  answer = Checked (length w.particles);
+  head = [];
+  frames = [];
+  last = record { out = check_line (length w.particles); line = [] };
+}
+
+-- a command on a deck that meets Gauss's law
+abbrev pub sound_outcome : Command → DeckView → World → Outcome
+sound_outcome Check d w = check_outcome w
+sound_outcome Run d w = run_outcome (header_of d) w
+
+-- a deck that doesn't meet Gauss's law is refused with the least node where it fails
+abbrev pub tested_outcome : Command → DeckView → World → Option Break → Outcome
+tested_outcome command d w None = sound_outcome command d w
+tested_outcome command d w (Some b) = line_alone (Gauss b) (gauss_line b)
+
+abbrev pub accepted_outcome : Command → DeckView → Outcome
+accepted_outcome command d = tested_outcome command d (first_state d) (break_of (first_state d))
+
+-- a deck is refused with the first refusal that its walk meets
+abbrev pub deck_outcome : Command → Walked DeckView → Outcome
+deck_outcome command (Ok d) = accepted_outcome command d
+deck_outcome command (Err refusal) = line_alone (Refused refusal) (refused_line refusal)
 
 -- the source's bytes, or None where a read failed
-abbrev pub source_outcome : Option (List ℕ) → Outcome
-source_outcome None = line_alone ReadFault read_fault_line
-source_outcome (Some held) = deck_outcome (deck_of (take deck_limit held))
+abbrev pub source_outcome : Command → Option (List ℕ) → Outcome
+source_outcome command None = line_alone ReadFault read_fault_line
+source_outcome command (Some held) = deck_outcome command (walk (take deck_limit held))
 
--- the one command is `run`
-unfoldable pub is_run : List (List ℕ) → Bool
-is_run [] = false
-is_run (word ∷ []) = bytes_eq word (codes "run")
-is_run (word ∷ (more ∷ words)) = false
+abbrev pub command_outcome : Option Command → Option (List ℕ) → Outcome
+command_outcome None input = line_alone Usage usage_line
+command_outcome (Some command) input = source_outcome command input
 
 unfoldable pub outcome : List (List ℕ) → Option (List ℕ) → Outcome
-outcome words input = if is_run words then source_outcome input else line_alone Usage usage_line
+outcome words input = command_outcome (command_of words) input

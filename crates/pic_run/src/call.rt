@@ -1,20 +1,34 @@
-ghost use Rattle.std.specs.Prelude.{◌≡◌, false, ℕ, [], map, string_bytes};
+ghost use Rattle.std.specs.Prelude.{◌≡◌, None, ℕ, [], length, map, string_bytes};
 ghost use Rattle.pic_io.specs.Told.{Told, Rose, Calm};
-ghost use Rattle.pic_io.specs.Sinks.{sinks, Wrote, FailedAt};
-ghost use Rattle.pic_io.specs.Source.{IsAtEnd};
+ghost use Rattle.pic_io.specs.Sinks.{sinks, FailedAt};
 ghost use Rattle.pic_io.specs.declared.outside.Side.{Side as SideName};
-ghost use Rattle.pic_deck.specs.declared.reader.Refusal.{Refusal as RefusalName};
-ghost use Rattle.pic_deck.specs.Reading.{deck_of};
+ghost use Rattle.pic_grid.specs.declared.stops.Stop.{Stop as StopName};
+ghost use Rattle.pic_charge.specs.declared.breaks.Break.{Break as BreakName};
+ghost use Rattle.pic_walk.specs.declared.faults.Refusal.{Refusal as RefusalName};
+ghost use Rattle.pic_deck.specs.Keys.{walk};
+ghost use Rattle.pic_load.specs.Loading.{AreLoaded};
+ghost use Rattle.pic_step.specs.SerialStep.{World};
+ghost use Rattle.pic_step.specs.SerialRun.{start_of};
+ghost use Rattle.pic_step.specs.Sound.{IsSound};
 ghost use Rattle.pic_run.specs.Reading.{deck_limit, TakesAtMost};
-ghost use Rattle.pic_run.specs.Outcome.{is_run, line_alone, deck_outcome, run_outcome};
-ghost use Rattle.pic_run.specs.Ends.{IsPlain, EndsAs, Ends, IsComplete, IsRefused, Explains};
+ghost use Rattle.pic_run.specs.Commands.{command_of};
+ghost use Rattle.pic_run.specs.Starting.{first_state, break_of};
+ghost use Rattle.pic_run.specs.Outcome.{line_alone, deck_outcome, accepted_outcome, tested_outcome, sound_outcome, check_outcome};
+ghost use Rattle.pic_run.specs.Lines.{refused_line};
+ghost use Rattle.pic_run.specs.Ends.{IsPlain, EndsAs, SoundFor, SoundDeck, Ends, IsComplete, IsDone, IsStopped, IsChecked, IsBroken, IsRefused, IsStarved, Explains};
 
+use crate::commands::{Command, command_of};
 use crate::ended::Ended;
-use crate::lines::{line_of_read_fault, line_of_refusal, line_of_usage};
+use crate::lines::{line_of_break, line_of_check, line_of_read_fault, line_of_usage};
 use crate::reading::{ReadStop, greatest_deck, read_all};
-use crate::writing::{put_line, write_run};
-use pic_deck::{Deck, DeckFault, read_deck};
-use pic_io::{Sink, Source};
+use crate::refusing::put_refusal;
+use crate::running::run_deck;
+use crate::starting::find_break;
+use crate::writing::put_line;
+use pic_deck::{Deck, DeckFault, Refusal, read_deck};
+use pic_io::{Failed, Side, Sink, Source};
+use pic_load::load;
+use pic_num::{NoMemory, Particle};
 use std::alloc::Global;
 
 /// The top call: performs the command of the words (those after the program's name), on a deck that
@@ -22,7 +36,7 @@ use std::alloc::Global;
 ///
 /// `ends` says it all: what the call answers and what it puts on its sinks is the outcome of the
 /// words and of what the source held. The other clauses follow from it.
-#[tactic(auto, using(crate::proofs::Answers::complete_of, crate::proofs::Answers::done_of, crate::proofs::Answers::write_fault_of, crate::proofs::Answers::no_memory_of))]
+#[tactic(auto, using(crate::proofs::Answers::complete_of, crate::proofs::Answers::write_fault_of))]
 pub fn pic<S: Source, O: Sink, R: Sink>(
     alloc: Global,
     words: &[String],
@@ -40,17 +54,21 @@ pub fn pic<S: Source, O: Sink, R: Sink>(
     ensures taken { TakesAtMost deck_limit (S.told source.old) (S.told source.new) }
 
     // what each answer means
-    ensures done { (steps : ℕ) → result ≡ Ended.Done steps → IsAtEnd (S.told source.new) }
-    ensures usage { result ≡ Ended.Usage → is_run (map string_bytes words.now) ≡ false }
-    ensures idle { is_run (map string_bytes words.now) ≡ false → S.told source.new ≡ S.told source.old }
+    ensures done { (steps : ℕ) → result ≡ Ended.Done steps → IsDone (map string_bytes words.now) (S.told source.old) (S.told source.new) steps }
+    ensures stopped { (step : ℕ) (stop : StopName) → result ≡ Ended.Stopped step stop
+        → IsStopped (map string_bytes words.now) (S.told source.old) (S.told source.new) step stop }
+    ensures checked { (particles : ℕ) → result ≡ Ended.Checked particles → IsChecked (map string_bytes words.now) (S.told source.old) (S.told source.new) particles }
+    ensures gauss { (b : BreakName) → result ≡ Ended.Gauss b → IsBroken (map string_bytes words.now) (S.told source.old) (S.told source.new) b }
+    ensures usage { result ≡ Ended.Usage → command_of (map string_bytes words.now) ≡ None }
+    ensures idle { command_of (map string_bytes words.now) ≡ None → S.told source.new ≡ S.told source.old }
     ensures refused { (refusal : RefusalName) → result ≡ Ended.Refused refusal
         → IsRefused (map string_bytes words.now) (S.told source.old) refusal }
     ensures read_fault { result ≡ Ended.ReadFault → Rose (S.told source.old) (S.told source.new)
         × Calm (O.told out.old) (O.told out.new) × Calm (R.told report.old) (R.told report.new) }
     ensures write_fault { (side : SideName) → result ≡ Ended.WriteFault side
         → FailedAt side (sinks (O.told out.old) (R.told report.old)) (sinks (O.told out.new) (R.told report.new)) }
-    ensures no_memory { result ≡ Ended.NoMemory
-        → Wrote (sinks (O.told out.old) (R.told report.old)) (sinks (O.told out.new) (R.told report.new)) [] [] }
+    ensures no_memory { result ≡ Ended.NoMemory → IsStarved (map string_bytes words.now) (S.told source.old) (S.told source.new)
+        (sinks (O.told out.old) (R.told report.old)) (sinks (O.told out.new) (R.told report.new)) }
 {
     perform(alloc, words, source, out, report)
 }
@@ -69,43 +87,109 @@ fn perform<S: Source, O: Sink, R: Sink>(
         (sinks (O.told out.old) (R.told report.old)) (sinks (O.told out.new) (R.told report.new)) result }
     ensures taken { TakesAtMost deck_limit (S.told source.old) (S.told source.new) }
 {
-    let is_command = is_run_command(words);
-    if is_command {
-        match read_all(alloc, source, greatest_deck()) {
-            Ok(bytes) => run_text(alloc, &bytes, out, report),
+    match command_of(words) {
+        Some(command) => match read_all(alloc, source, greatest_deck()) {
+            Ok(bytes) => perform_text(alloc, command, &bytes, out, report),
             Err(ReadStop::Fault) => answer(report, line_of_read_fault(), Ended::ReadFault),
             Err(ReadStop::NoMemory) => Ended::NoMemory,
-        }
-    } else {
-        answer(report, line_of_usage(), Ended::Usage)
+        },
+        None => answer(report, line_of_usage(), Ended::Usage),
     }
 }
 
-// Runs the deck of these bytes.
-fn run_text<O: Sink, R: Sink>(alloc: Global, bytes: &[u8], out: &mut O, report: &mut R) -> Ended
-    ensures { EndsAs (deck_outcome (deck_of bytes.now)) (sinks (O.told out.old) (R.told report.old))
+// Performs the command on the deck of these bytes.
+fn perform_text<O: Sink, R: Sink>(
+    alloc: Global,
+    command: Command,
+    bytes: &[u8],
+    out: &mut O,
+    report: &mut R,
+) -> Ended
+    ensures ends { EndsAs (deck_outcome command (walk bytes.now)) (sinks (O.told out.old) (R.told report.old))
         (sinks (O.told out.new) (R.told report.new)) result }
+    ensures sound { SoundDeck result (walk bytes.now) }
 {
     match read_deck(alloc, bytes) {
-        Ok(deck) => run_deck(&deck, out, report),
-        Err(DeckFault::Refused(refusal)) => answer(
-            report,
-            line_of_refusal(refusal),
-            Ended::Refused(refusal),
-        ),
+        Ok(deck) => perform_deck(alloc, command, &deck, out, report),
+        Err(DeckFault::Refused(refusal)) => refuse(report, refusal),
         Err(DeckFault::NoMemory) => Ended::NoMemory,
     }
 }
 
-fn run_deck<O: Sink, R: Sink>(deck: &Deck, out: &mut O, report: &mut R) -> Ended
-    ensures { EndsAs (run_outcome deck.now) (sinks (O.told out.old) (R.told report.old))
+// Ends a call whose deck is refused.
+fn refuse<R: Sink>(report: &mut R, refusal: Refusal) -> Ended
+    ensures { (o : Told) → EndsAs (line_alone (Ended.Refused refusal) (refused_line refusal)) (sinks o (R.told report.old)) (sinks o (R.told report.new)) result }
+{
+    match put_refusal(report, &refusal) {
+        Ok(()) => Ended::Refused(refusal),
+        Err(side) => Ended::WriteFault(side),
+    }
+}
+
+// Performs the command on a deck.
+fn perform_deck<O: Sink, R: Sink>(
+    alloc: Global,
+    command: Command,
+    deck: &Deck,
+    out: &mut O,
+    report: &mut R,
+) -> Ended
+    ensures ends { EndsAs (accepted_outcome command deck.now) (sinks (O.told out.old) (R.told report.old))
+        (sinks (O.told out.new) (R.told report.new)) result }
+    ensures sound { SoundFor result (first_state deck.now) }
+{
+    match load(alloc, deck) {
+        Ok(particles) => perform_loaded(alloc, command, deck, &particles, out, report),
+        Err(NoMemory) => Ended::NoMemory,
+    }
+}
+
+// Performs the command on a deck, whose particles these are.
+fn perform_loaded<O: Sink, R: Sink>(
+    alloc: Global,
+    command: Command,
+    deck: &Deck,
+    particles: &[Particle],
+    out: &mut O,
+    report: &mut R,
+) -> Ended
+    requires { AreLoaded deck.now particles.now }
+    ensures ends { let w = start_of deck.now particles.now in EndsAs (tested_outcome command deck.now w (break_of w))
+        (sinks (O.told out.old) (R.told report.old)) (sinks (O.told out.new) (R.told report.new)) result }
+    ensures sound { SoundFor result (start_of deck.now particles.now) }
+{
+    match find_break(alloc, deck, particles) {
+        Ok(None) => perform_sound(alloc, command, deck, particles, out, report),
+        Ok(Some(at)) => answer(report, line_of_break(at).bytes(), Ended::Gauss(at)),
+        Err(NoMemory) => Ended::NoMemory,
+    }
+}
+
+// Performs the command on a deck that meets Gauss's law.
+fn perform_sound<O: Sink, R: Sink>(
+    alloc: Global,
+    command: Command,
+    deck: &Deck,
+    particles: &[Particle],
+    out: &mut O,
+    report: &mut R,
+) -> Ended
+    requires { IsSound (start_of deck.now particles.now) }
+    ensures { EndsAs (sound_outcome command deck.now (start_of deck.now particles.now)) (sinks (O.told out.old) (R.told report.old))
         (sinks (O.told out.new) (R.told report.new)) result }
 {
-    match write_run(out, report, deck) {
-        Ok(()) => Ended::Done {
-            steps: deck.steps(),
-        },
-        Err(side) => Ended::WriteFault(side),
+    match command {
+        Command::Check => check_particles(out, particles.len() as u32),
+        Command::Run => run_deck(alloc, deck, particles, out, report),
+    }
+}
+
+fn check_particles<O: Sink>(out: &mut O, particles: u32) -> Ended
+    ensures { (w : World) (r : Told) → length w.particles ≡ particles → EndsAs (check_outcome w) (sinks (O.told out.old) r) (sinks (O.told out.new) r) result }
+{
+    match out.put(line_of_check(particles).bytes()) {
+        Ok(()) => Ended::Checked { particles },
+        Err(Failed) => Ended::WriteFault(Side::Out),
     }
 }
 
@@ -117,14 +201,5 @@ fn answer<R: Sink>(report: &mut R, line: &[u8], ended: Ended) -> Ended
     match put_line(report, line) {
         Ok(()) => ended,
         Err(side) => Ended::WriteFault(side),
-    }
-}
-
-fn is_run_command(words: &[String]) -> bool
-    ensures { result ≡ is_run (map string_bytes words.now) }
-{
-    match words {
-        [word] => word.as_str() == "run",
-        _ => false,
     }
 }

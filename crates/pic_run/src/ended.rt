@@ -1,18 +1,26 @@
 ghost use Rattle.std.specs.Prelude.{◌≡◌};
 ghost use Rattle.pic_run.specs.Status.{status_of};
 
+use pic_charge::Break;
 use pic_deck::Refusal;
+use pic_grid::Stop;
 use pic_io::Side;
 
 /// How a call of `pic` ended.
-#[derive(Clone, Copy, Debug, PartialEq, Eq)]
+#[derive(Debug, Drop)]
 pub enum Ended {
     /// The run reached the deck's last step.
     Done { steps: u32 },
+    /// The deck can be run; it has so many particles.
+    Checked { particles: u32 },
+    /// The run stopped in a step.
+    Stopped { step: u32, stop: Stop },
     /// The words are no command.
     Usage,
     /// The deck was refused.
     Refused(Refusal),
+    /// The deck's E and its charge don't meet Gauss's law; this is the least node where it fails.
+    Gauss(Break),
     /// A read failed.
     ReadFault,
     /// A write failed on this side.
@@ -27,9 +35,10 @@ impl Ended {
         ensures { result ≡ status_of self.now }
     {
         match self {
-            Ended::Done { .. } => 0,
+            Ended::Done { .. } | Ended::Checked { .. } => 0,
+            Ended::Stopped { .. } => 1,
             Ended::Usage => 2,
-            Ended::Refused(_) => 3,
+            Ended::Refused(_) | Ended::Gauss(_) => 3,
             Ended::ReadFault => 4,
             Ended::WriteFault(_) => 5,
             Ended::NoMemory => 6,

@@ -2,15 +2,21 @@
 #![tactic(auto)]
 
 mod call;
-mod dump;
+mod commands;
 mod ended;
+mod framing;
+mod heading;
+mod laws;
 mod lines;
 mod reading;
-mod text;
+mod refusing;
+mod running;
+mod starting;
 mod writing;
 
 pub use call::pic;
 pub use ended::Ended;
+pub use laws::every_state_meets_gauss;
 
 #[cfg(test)]
 mod tests;

@@ -1,41 +1,11 @@
 ghost use Rattle.std.specs.Prelude.{◌≡◌};
-ghost use Rattle.pic_run.specs.Lines.{frame_line, done_line, usage_line, read_fault_line, refused_line};
+ghost use Rattle.pic_run.specs.Lines.{check_line, gauss_line, usage_line, read_fault_line, limit_tail};
 
-use crate::text::Text;
-use pic_deck::Refusal;
+use pic_charge::Break;
+use pic_num::Text;
 
 /// Room for the longest line.
 pub const LINE_BYTES: usize = 240;
-
-/// The line of the frame of an empty state: all energies are 0.
-#[tactic(auto, unfolding(crate::specs::Lines::frame_line))]
-pub fn line_of_frame(step: u32) -> Text<LINE_BYTES>
-    ensures { result ≡ frame_line step (record { kinetic = 0; electric = 0; magnetic = 0 }) }
-{
-    let mut text = Text::new();
-    text.push(b"frame ");
-    text.push_decimal(u128::from(step));
-    text.push(b" kinetic ");
-    text.push_decimal(0);
-    text.push(b" electric ");
-    text.push_decimal(0);
-    text.push(b" magnetic ");
-    text.push_decimal(0);
-    text.push(b"\n");
-    text
-}
-
-/// The last line of a run that is done.
-#[tactic(auto, unfolding(crate::specs::Lines::done_line))]
-pub fn line_of_done(steps: u32) -> Text<LINE_BYTES>
-    ensures { result ≡ done_line steps }
-{
-    let mut text = Text::new();
-    text.push(b"done ");
-    text.push_decimal(u128::from(steps));
-    text.push(b"\n");
-    text
-}
 
 /// The line of words that are no command.
 #[tactic(auto, unfolding(crate::specs::Lines::usage_line))]
@@ -53,13 +23,51 @@ pub fn line_of_read_fault() -> &'static [u8]
     b"read fault\n"
 }
 
-/// The line of a deck that is refused.
-#[tactic(auto, unfolding(crate::specs::Lines::refused_line))]
-pub fn line_of_refusal(refusal: Refusal) -> &'static [u8]
-    ensures { result.now ≡ refused_line refusal }
+/// The line of a deck that can be run.
+#[tactic(auto, unfolding(crate::specs::Lines::check_line))]
+pub fn line_of_check(particles: u32) -> Text<LINE_BYTES>
+    ensures { result ≡ check_line particles }
 {
-    match refusal {
-        Refusal::Text => b"refused 1 text\n",
-        Refusal::Form => b"refused 0 form\n",
-    }
+    let mut text = Text::new();
+    text.push(b"ok ");
+    text.push_decimal(u128::from(particles));
+    text.push(b" particles\n");
+    text
+}
+
+/// The line of a deck that doesn't meet Gauss's law.
+#[tactic(auto, unfolding(crate::specs::Lines::gauss_line))]
+pub fn line_of_break(at: Break) -> Text<LINE_BYTES>
+    ensures { result ≡ gauss_line at }
+{
+    let [x, y, z] = at.node;
+    let mut text = Text::new();
+    text.push(b"gauss ");
+    text.push_decimal(u128::from(x));
+    text.push(b" ");
+    text.push_decimal(u128::from(y));
+    text.push(b" ");
+    text.push_decimal(u128::from(z));
+    text.push(b" div ");
+    text.push_signed(at.div);
+    text.push(b" rho ");
+    text.push_signed(at.rho);
+    text.push(b"\n");
+    text
+}
+
+/// The end of a limit's line: the number, and its limits.
+#[tactic(auto, unfolding(crate::specs::Lines::limit_tail))]
+pub fn tail_of_limit(value: i128, low: i128, high: i128) -> Text<LINE_BYTES>
+    ensures { result ≡ limit_tail value low high }
+{
+    let mut text = Text::new();
+    text.push(b" ");
+    text.push_signed(value);
+    text.push(b" ");
+    text.push_signed(low);
+    text.push(b" ");
+    text.push_signed(high);
+    text.push(b"\n");
+    text
 }

@@ -1,6 +1,5 @@
-use crate::{Ended, pic};
-use pic_deck::Refusal;
-use pic_io::{MemSink, MemSource, Side};
+use crate::{every_state_meets_gauss, pic};
+use pic_io::{MemSink, MemSource};
 use std::alloc::Global;
 use std::process::Abort;
 use std::test::Fail;
@@ -20,8 +19,23 @@ e_force = [1, 0]
 b_force = [1, 0]
 ";
 
-// The same deck with a step.
-const ONE_STEP_DECK: &[u8] = b"version = 1
+// The same with three steps, and a frame due after every ten.
+const RARE_DECK: &[u8] = b"version = 1
+[grid]
+cells = [2, 2, 2]
+tiles = [1, 1, 1]
+[run]
+steps = 3
+every = 10
+[scale]
+e_to_b = [1, 4]
+b_to_e = [1, 1]
+e_force = [1, 0]
+b_force = [1, 0]
+";
+
+// One face of B, and a step in which E's force value grows too large.
+const STOP_DECK: &[u8] = b"version = 1
 [grid]
 cells = [2, 2, 2]
 tiles = [1, 1, 1]
@@ -30,9 +44,132 @@ steps = 1
 every = 1
 [scale]
 e_to_b = [1, 4]
+b_to_e = [2147483647, 0]
+e_force = [2, 0]
+b_force = [0, 0]
+[field]
+faces = [[2, 0, 0, 0, 4097]]
+";
+
+// A step of the fields alone: Bz is 8 on one face.
+const VACUUM_DECK: &[u8] = b"version = 1
+[grid]
+cells = [4, 4, 4]
+tiles = [2, 2, 2]
+[run]
+steps = 1
+every = 1
+[scale]
+e_to_b = [0, 0]
 b_to_e = [1, 1]
 e_force = [1, 0]
 b_force = [1, 0]
+[field]
+faces = [[2, 0, 0, 0, 8]]
+";
+
+// An ion and an electron at one point; the electron moves half a cell.
+const PAIR_DECK: &[u8] = b"version = 1
+[grid]
+cells = [4, 4, 4]
+tiles = [2, 2, 2]
+[run]
+steps = 1
+every = 1
+[scale]
+e_to_b = [0, 0]
+b_to_e = [0, 0]
+e_force = [1, 20]
+b_force = [0, 0]
+[[species]]
+name = \"ion\"
+charge = 1
+mass = 1836
+kick = [0, 0]
+turn = [0, 0]
+points = [[1024, 0, 0, 0, 0, 0]]
+[[species]]
+name = \"electron\"
+charge = -1
+mass = 1
+kick = [0, 0]
+turn = [0, 0]
+points = [[1024, 0, 0, 8388608, 0, 0]]
+";
+
+// The ion alone, with no field: its charge breaks Gauss's law.
+const LONE_DECK: &[u8] = b"version = 1
+[grid]
+cells = [4, 4, 4]
+tiles = [2, 2, 2]
+[run]
+steps = 1
+every = 1
+[scale]
+e_to_b = [0, 0]
+b_to_e = [0, 0]
+e_force = [1, 20]
+b_force = [0, 0]
+[[species]]
+name = \"ion\"
+charge = 1
+mass = 1836
+kick = [0, 0]
+turn = [0, 0]
+points = [[1024, 0, 0, 0, 0, 0]]
+";
+
+// A pair on a small grid; the electron leaves the box on one side and comes in on the other.
+const WRAP_DECK: &[u8] = b"version = 1
+[grid]
+cells = [2, 2, 2]
+tiles = [1, 1, 1]
+[run]
+steps = 1
+every = 1
+[scale]
+e_to_b = [0, 0]
+b_to_e = [0, 0]
+e_force = [1, 20]
+b_force = [0, 0]
+[[species]]
+name = \"ion\"
+charge = 1
+mass = 1836
+kick = [0, 0]
+turn = [0, 0]
+points = [[100, 0, 0, 0, 0, 0]]
+[[species]]
+name = \"electron\"
+charge = -1
+mass = 1
+kick = [0, 0]
+turn = [0, 0]
+points = [[100, 0, 0, -819200, 0, 0]]
+";
+
+// Two uncharged particles, both too fast.
+const FAST_DECK: &[u8] = b"version = 1
+[grid]
+cells = [4, 4, 4]
+tiles = [2, 2, 2]
+[run]
+steps = 5
+every = 1
+[scale]
+e_to_b = [0, 0]
+b_to_e = [0, 0]
+e_force = [1, 0]
+b_force = [0, 0]
+[field]
+e = [1, 0, 0]
+[[species]]
+name = \"neutral\"
+charge = 0
+mass = 1
+kick = [8388608, 0]
+turn = [0, 0]
+points = [[8192, 0, 0, 16777216, 0, 0], [0, 0, 0, 16777216, 0, 0]]
 ";
 
 // The header of the empty deck's dump, of 64 bytes: the mark, the cells, steps 0, every 1, four multipliers, no species.
@@ -64,13 +201,37 @@ struct Given<'a> {
     report_fails: &'a [(u64, usize)],
 }
 
-// What it answers, with its status, how many bytes of the dump are on out, and the report.
+// What it answers, by its status, and what stands on out and on report.
 #[derive(Clone, Copy)]
 struct Wanted<'a> {
-    ended: Ended,
     status: u8,
-    out: usize,
+    out: &'a [u8],
     report: &'a [u8],
+}
+
+// A call's status, and what stands on out and on report after it.
+#[derive(Drop)]
+struct Left {
+    status: u8,
+    out: MemSink,
+    report: MemSink,
+}
+
+fn call(alloc: Global, given: &Given<'_>) -> Result<Left, Fail> {
+    let mut words = Vec::new(alloc);
+    for word in given.words {
+        words.push(word.to_string(alloc)?)?;
+    }
+    let deck = Vec::from_slice(alloc, given.deck)?;
+    let mut source = MemSource::new(deck, 100, Vec::from_slice(alloc, given.fails)?);
+    let mut out = MemSink::new(alloc, 13000, Vec::from_slice(alloc, given.out_fails)?)?;
+    let mut report = MemSink::new(alloc, 1000, Vec::from_slice(alloc, given.report_fails)?)?;
+    let ended = pic(alloc, &words, &mut source, &mut out, &mut report);
+    Ok(Left {
+        status: ended.status(),
+        out,
+        report,
+    })
 }
 
 fn check(
@@ -79,27 +240,17 @@ fn check(
     given: &Given<'_>,
     wanted: &Wanted<'_>,
 ) -> Result<(), Fail> {
-    let mut words = Vec::new(alloc);
-    for word in given.words {
-        words.push(word.to_string(alloc)?)?;
-    }
-    let deck = Vec::from_slice(alloc, given.deck)?;
-    let mut source = MemSource::new(deck, 100, Vec::from_slice(alloc, given.fails)?);
-    let mut out = MemSink::new(alloc, 1000, Vec::from_slice(alloc, given.out_fails)?)?;
-    let mut report = MemSink::new(alloc, 1000, Vec::from_slice(alloc, given.report_fails)?)?;
-    let ended = pic(alloc, &words, &mut source, &mut out, &mut report);
-    assert_eq!(rt; ended, wanted.ended);
-    assert_eq!(rt; ended.status(), wanted.status);
-    assert_eq!(rt; report.bytes(), wanted.report);
-    let dump = empty_dump(alloc)?;
-    assert_eq!(rt; Some(out.bytes()), dump.get(..wanted.out));
+    let left = call(alloc, given)?;
+    assert_eq!(rt; left.status, wanted.status);
+    assert_eq!(rt; left.report.bytes(), wanted.report);
+    assert_eq!(rt; left.out.bytes(), wanted.out);
     Ok(())
 }
 
-// A run of this deck over calls that don't fail.
-fn run_of(deck: &[u8]) -> Given<'_> {
+// A command on this deck over calls that don't fail.
+fn calm<'a>(words: &'a [&'a str], deck: &'a [u8]) -> Given<'a> {
     Given {
-        words: &["run"],
+        words,
         deck,
         fails: &[],
         out_fails: &[],
@@ -107,38 +258,175 @@ fn run_of(deck: &[u8]) -> Given<'_> {
     }
 }
 
+// What a run leaves: its status, its report, how many bytes stand on out, and some of them.
+#[derive(Clone, Copy)]
+struct Dumped<'a> {
+    status: u8,
+    report: &'a [u8],
+    len: usize,
+    parts: &'a [(usize, &'a [u8])],
+}
+
+fn check_run(rt: &impl Abort, alloc: Global, deck: &[u8], wanted: &Dumped<'_>) -> Result<(), Fail> {
+    let left = call(alloc, &calm(&["run"], deck))?;
+    assert_eq!(rt; left.report.bytes(), wanted.report);
+    assert_eq!(rt; left.status, wanted.status);
+    let out = left.out.bytes();
+    assert_eq!(rt; out.len(), wanted.len);
+    for (place, part) in wanted.parts {
+        let rest = out.get(*place..).expect(rt, "a place of the dump");
+        assert!(rt; rest.starts_with(part));
+    }
+    Ok(())
+}
+
 #[test]
 fn the_empty_run(rt: HostRuntime) -> Result<(), Fail> {
+    every_state_meets_gauss();
+    let dump = empty_dump(rt.alloc())?;
     let wanted = Wanted {
-        ended: Ended::Done { steps: 0 },
         status: 0,
-        out: 891,
+        out: &dump,
         report: EMPTY_REPORT,
     };
-    check(&rt, rt.alloc(), &run_of(EMPTY_DECK), &wanted)
+    check(&rt, rt.alloc(), &calm(&["run"], EMPTY_DECK), &wanted)
+}
+
+#[test]
+fn a_deck_is_checked(rt: HostRuntime) -> Result<(), Fail> {
+    let cases: [(&[&str], &[u8], &[u8]); 3] = [
+        (&[], EMPTY_DECK, b"ok 0 particles\n"),
+        (&["check"], EMPTY_DECK, b"ok 0 particles\n"),
+        (&["check"], PAIR_DECK, b"ok 2 particles\n"),
+    ];
+    for (words, deck, out) in cases {
+        let wanted = Wanted {
+            status: 0,
+            out,
+            report: b"",
+        };
+        check(&rt, rt.alloc(), &calm(words, deck), &wanted)?;
+    }
+    Ok(())
+}
+
+#[test]
+fn a_charge_without_its_field(rt: HostRuntime) -> Result<(), Fail> {
+    let cases: [&[&str]; 2] = [&["check"], &["run"]];
+    for words in cases {
+        let wanted = Wanted {
+            status: 3,
+            out: b"",
+            report: b"gauss 0 0 0 div 0 rho 618475290624\n",
+        };
+        check(&rt, rt.alloc(), &calm(words, LONE_DECK), &wanted)?;
+    }
+    Ok(())
+}
+
+#[test]
+fn runs_that_reach_their_last_step(rt: HostRuntime) -> Result<(), Fail> {
+    let rare = Dumped {
+        status: 0,
+        report: b"frame 0 kinetic 0 electric 0 magnetic 0\n\
+            frame 3 kinetic 0 electric 0 magnetic 0\n\
+            done 3\n",
+        len: 1712,
+        parts: &[
+            (64, b"F\0\0\0\0"),
+            (885, b"F\0\0\0\x03"),
+            (1706, b"E\0\0\0\0\x03"),
+        ],
+    };
+    check_run(&rt, rt.alloc(), RARE_DECK, &rare)?;
+    // Ex is 4 at (0, 0, 0) and -4 at (0, 1, 0), Ey is -4 at (0, 0, 0) and 4 at (1, 0, 0); each value
+    // has 16 bytes, of which the last are looked at
+    let vacuum = Dumped {
+        status: 0,
+        report: b"frame 0 kinetic 0 electric 0 magnetic 64\n\
+            frame 1 kinetic 0 electric 64 magnetic 64\n\
+            done 1\n",
+        len: 12464,
+        parts: &[
+            (5204, b"\x08"),
+            (6261, b"F\0\0\0\x01"),
+            (6280, b"\0\x04"),
+            (6344, b"\xff\xfc"),
+            (7304, b"\xff\xfc"),
+            (7320, b"\0\x04"),
+            (12458, b"E\0\0\0\0\x01"),
+        ],
+    };
+    check_run(&rt, rt.alloc(), VACUUM_DECK, &vacuum)
+}
+
+#[test]
+fn runs_with_particles(rt: HostRuntime) -> Result<(), Fail> {
+    // the electron is at x = 3072 in frame 1, and Ex(0, 0, 0) is 412316860416
+    let pair = Dumped {
+        status: 0,
+        report: b"frame 0 kinetic 70368744177664 electric 0 magnetic 0\n\
+            frame 1 kinetic 70368744177664 electric 154618822656 magnetic 0\n\
+            done 1\n",
+        len: 12680,
+        parts: &[
+            (64, b"ion\0"),
+            (124, b"electron\0"),
+            (6429, b"F\0\0\0\x01"),
+            (6434, b"\0\0\0\0\0\0\0\0\0\0\0`\0\0\0\0"),
+            (12602, b"\0\0\x0c\0\0\0\0\0\0\0\0\0\0\x80\0\0"),
+        ],
+    };
+    check_run(&rt, rt.alloc(), PAIR_DECK, &pair)?;
+    // the electron is at x = 8092
+    let wrap = Dumped {
+        status: 0,
+        report: b"frame 0 kinetic 671088640000 electric 0 magnetic 0\n\
+            frame 1 kinetic 671088640000 electric 737280000 magnetic 0\n\
+            done 1\n",
+        len: 1928,
+        parts: &[(1850, b"\0\0\x1f\x9c\0\0\0\0\0\0\0\0\xff\xf3\x80\0")],
+    };
+    check_run(&rt, rt.alloc(), WRAP_DECK, &wrap)
+}
+
+#[test]
+fn runs_that_stop(rt: HostRuntime) -> Result<(), Fail> {
+    let field = Dumped {
+        status: 1,
+        report: b"frame 0 kinetic 0 electric 0 magnetic 0\n\
+            stopped 1 field electric force 0 0 0 0 17596481003518\n",
+        len: 922,
+        parts: &[(
+            885,
+            b"E\x01\0\0\0\x01\x04\x02\0\0\0\0\0\0\0\0\0\0\0\0\0\0\0\0\0\0\0\0\0\0\0\x10\0\xff\xff\xdf\xfe",
+        )],
+    };
+    check_run(&rt, rt.alloc(), STOP_DECK, &field)?;
+    let push = Dumped {
+        status: 1,
+        report: b"frame 0 kinetic 562949953421312 electric 64 magnetic 0\n\
+            stopped 1 particle 0 far 0 8192\n",
+        len: 6397,
+        parts: &[(
+            6369,
+            b"E\x02\0\0\0\x01\0\0\0\0\x03\0\0\0\0\0\0\0\0\0\0\0\0\0\0\0 \0",
+        )],
+    };
+    check_run(&rt, rt.alloc(), FAST_DECK, &push)
 }
 
 #[test]
 fn words_that_are_no_command(rt: HostRuntime) -> Result<(), Fail> {
-    let cases: [&[&str]; 5] = [
-        &[],
-        &["go"],
-        &["demo"],
-        &["--workers", "0"],
-        &["run", "run"],
-    ];
+    let cases: [&[&str]; 4] = [&["go"], &["demo"], &["--workers", "0"], &["run", "run"]];
     for words in cases {
         let given = Given {
-            words,
-            deck: EMPTY_DECK,
             fails: &[0],
-            out_fails: &[],
-            report_fails: &[],
+            ..calm(words, EMPTY_DECK)
         };
         let wanted = Wanted {
-            ended: Ended::Usage,
             status: 2,
-            out: 0,
+            out: b"",
             report: USAGE,
         };
         check(&rt, rt.alloc(), &given, &wanted)?;
@@ -148,67 +436,41 @@ fn words_that_are_no_command(rt: HostRuntime) -> Result<(), Fail> {
 
 #[test]
 fn decks_that_are_refused(rt: HostRuntime) -> Result<(), Fail> {
-    let cases: [(&[u8], Refusal, &[u8]); 3] = [
-        (b"\xff", Refusal::Text, b"refused 1 text\n"),
-        (b"", Refusal::Form, b"refused 0 form\n"),
-        (ONE_STEP_DECK, Refusal::Form, b"refused 0 form\n"),
+    let cases: [(&[u8], &[u8]); 5] = [
+        (b"\xff", b"refused 1 text\n"),
+        (b"", b"refused 3 missing version\n"),
+        (b"version = 1.0", b"refused 4 kind version\n"),
+        (b"\"a \xc3\xa9b\" = 1", b"refused 2 unknown a??b\n"),
+        (b"version = 2", b"refused 5 limit version 2 1 1\n"),
     ];
-    for (deck, refusal, report) in cases {
+    for (deck, report) in cases {
         let wanted = Wanted {
-            ended: Ended::Refused(refusal),
             status: 3,
-            out: 0,
+            out: b"",
             report,
         };
-        check(&rt, rt.alloc(), &run_of(deck), &wanted)?;
+        check(&rt, rt.alloc(), &calm(&["run"], deck), &wanted)?;
+        check(&rt, rt.alloc(), &calm(&[], deck), &wanted)?;
     }
     Ok(())
 }
 
+// Which takes and puts of a run fail.
+type Failing<'a> = (&'a [u64], &'a [(u64, usize)], &'a [(u64, usize)]);
+
 #[test]
 fn calls_that_fail(rt: HostRuntime) -> Result<(), Fail> {
-    // which takes and puts fail, what is answered, and what stands on out and report
-    let cases: [(
-        &[u64],
-        &[(u64, usize)],
-        &[(u64, usize)],
-        Ended,
-        u8,
-        usize,
-        &[u8],
-    ); 6] = [
-        (&[0], &[], &[], Ended::ReadFault, 4, 0, b"read fault\n"),
-        (&[1], &[], &[], Ended::ReadFault, 4, 0, b"read fault\n"),
-        (&[], &[(0, 7)], &[], Ended::WriteFault(Side::Out), 5, 7, b""),
-        (
-            &[],
-            &[(1, 0)],
-            &[],
-            Ended::WriteFault(Side::Out),
-            5,
-            64,
-            b"",
-        ),
-        (
-            &[],
-            &[],
-            &[(0, 3)],
-            Ended::WriteFault(Side::Report),
-            5,
-            885,
-            b"fra",
-        ),
-        (
-            &[2],
-            &[],
-            &[(0, 4)],
-            Ended::WriteFault(Side::Report),
-            5,
-            0,
-            b"read",
-        ),
+    let dump = empty_dump(rt.alloc())?;
+    // what fails, the status, how many bytes of the dump stand on out, and the report
+    let cases: [(Failing<'_>, u8, usize, &[u8]); 6] = [
+        ((&[0], &[], &[]), 4, 0, b"read fault\n"),
+        ((&[1], &[], &[]), 4, 0, b"read fault\n"),
+        ((&[], &[(0, 7)], &[]), 5, 7, b""),
+        ((&[], &[(1, 0)], &[]), 5, 64, b""),
+        ((&[], &[], &[(0, 3)]), 5, 885, b"fra"),
+        ((&[2], &[], &[(0, 4)]), 5, 0, b"read"),
     ];
-    for (fails, out_fails, report_fails, ended, status, out, report) in cases {
+    for ((fails, out_fails, report_fails), status, out, report) in cases {
         let given = Given {
             words: &["run"],
             deck: EMPTY_DECK,
@@ -217,12 +479,32 @@ fn calls_that_fail(rt: HostRuntime) -> Result<(), Fail> {
             report_fails,
         };
         let wanted = Wanted {
-            ended,
             status,
-            out,
+            out: dump.get(..out).expect(&rt, "a front of the dump"),
             report,
         };
         check(&rt, rt.alloc(), &given, &wanted)?;
+    }
+    Ok(())
+}
+
+#[test]
+fn a_run_with_particles_that_fails(rt: HostRuntime) -> Result<(), Fail> {
+    // what fails, how many bytes stand on out, and the report
+    let cases: [(&[(u64, usize)], &[(u64, usize)], usize, &[u8]); 2] = [
+        (&[(1, 0)], &[], 184, b""),
+        (&[], &[(0, 3)], 6429, b"fra"),
+    ];
+    for (out_fails, report_fails, len, report) in cases {
+        let given = Given {
+            out_fails,
+            report_fails,
+            ..calm(&["run"], PAIR_DECK)
+        };
+        let left = call(rt.alloc(), &given)?;
+        assert_eq!(rt; left.status, 5);
+        assert_eq!(rt; left.out.bytes().len(), len);
+        assert_eq!(rt; left.report.bytes(), report);
     }
     Ok(())
 }

@@ -1,0 +1,193 @@
+-- The frames of a run, one after another.
+use Rattle.std.proofs.Common.{◌≡◌, ℕ, zero, suc, ◌+◌, ◌-◌, ◌<◌, ◌≤◌, List, [], ◌∷◌, ◌++◌, length, take, Ok, Err, refl, sym, ap, ◌∙◌, subst, arith, append-nil, zero-add, length-append}
+use Rattle.std.specs.List.{flat_map, range_with_len}
+use Rattle.std.proofs.lemmas.Grind.{flat_map-append}
+use Rattle.std.proofs.Math.Seq.{take-append_seam}
+use Rattle.pic_io.specs.declared.outside.Side.{Side}
+use Rattle.pic_io.specs.Sinks.{Sinks, Wrote, CutAt}
+use Rattle.pic_io.proofs.Puts.{wrote_twice, cut_after, cut_of_more}
+use Rattle.pic_grid.specs.declared.stops.EndMark.{EndMark}
+use Rattle.pic_grid.specs.declared.stops.EndMark.TheVariants.{Done, Stopped}
+use Rattle.pic_grid.specs.declared.stops.Stop.{Stop}
+use Rattle.pic_step.specs.SerialStep.{World, stepped}
+use Rattle.pic_step.specs.SerialRun.{after, step_from, stopped_in}
+use Rattle.pic_run.specs.Frames.{Piece, outs, lines, is_due, due_frame, frame_where, frame_after, frames_from, frames_of, end_where, end_of}
+use Rattle.pic_run.specs.Ends.{HasFrames}
+use Rattle.pic_run.specs.Runs.{WroteFrames}
+
+-- numbers, in two parts
+range_split : (a m k n j : ℕ) → m + k ≡ n → a + m ≡ j → range_with_len a n ≡ range_with_len a m ++ range_with_len j k
+range_split a zero k n j count from =
+    let same : n ≡ k = omega (arith, count) in
+    let at : a ≡ j = omega (arith, from) in
+    λ i. range_with_len (at i) (same i)
+range_split a (suc m) k n j count from =
+    let more : n ≡ suc (m + k) = omega (arith, count) in
+    ap (range_with_len a) more ∙ ap (λ t. a ∷ t) (range_split (a + 1) m k (m + k) j refl (omega (arith, from)))
+
+-- frames, in two parts
+frames_split : (steps every : ℕ) (w : World) (a m k n j : ℕ) → m + k ≡ n → a + m ≡ j
+    → frames_from steps every w a n ≡ frames_from steps every w a m ++ frames_from steps every w j k
+unfolding frames_from
+frames_split steps every w a m k n j count from =
+    ap (flat_map (frame_after steps every w)) (range_split a m k n j count from)
+    ∙ flat_map-append (frame_after steps every w) (range_with_len a m) (range_with_len j k)
+
+frames_one : (steps every : ℕ) (w : World) (j : ℕ) → frames_from steps every w j 1 ≡ frame_after steps every w j
+unfolding frames_from
+frames_one steps every w j = append-nil (frame_after steps every w j)
+
+-- one frame more, where one is due
+frames_more : (steps every : ℕ) (w : World) (n : ℕ)
+    → frames_from steps every w 0 (n + 1) ≡ frames_from steps every w 0 n ++ frame_after steps every w n
+frames_more steps every w n =
+    frames_split steps every w 0 n 1 (n + 1) n refl (zero-add n)
+    ∙ ap (λ t. frames_from steps every w 0 n ++ t) (frames_one steps every w n)
+
+frame_of : (steps every : ℕ) (w v : World) (n : ℕ) → after w n ≡ Ok v → frame_after steps every w n ≡ due_frame (is_due steps every n) n v
+unfolding frame_after
+frame_of steps every w v n reached = ap (frame_where steps every n) reached
+
+-- the first frames, one more, and the rest
+frames_parts : (steps every : ℕ) (w v : World) (n : ℕ) → n ≤ steps → after w n ≡ Ok v
+    → (rest : List Piece) × ((frames_from steps every w 0 n ++ due_frame (is_due steps every n) n v) ++ rest ≡ frames_of steps every w)
+frames_parts steps every w v n most reached =
+    let k = steps - n in
+    let split = frames_split steps every w 0 (n + 1) k (steps + 1) (n + 1) (omega arith) (zero-add (n + 1)) in
+    let first = frames_more steps every w n ∙ ap (λ t. frames_from steps every w 0 n ++ t) (frame_of steps every w v n reached) in
+    (frames_from steps every w (n + 1) k, sym (split ∙ ap (λ t. t ++ frames_from steps every w (n + 1) k) first))
+
+-- no step was done yet
+pub after_none : (w : World) → after w 0 ≡ Ok w
+unfolding after
+after_none w = refl
+
+-- the states of a run: one step further, and after a stop
+pub after_step : (w v v' : World) (n : ℕ) → after w n ≡ Ok v → stepped v ≡ Ok v' → after w (n + 1) ≡ Ok v'
+unfolding after
+after_step w v v' n reached steps =
+    let next : suc n ≡ n + 1 = omega arith in
+    subst (λ (k : ℕ). after w k ≡ Ok v') next (ap (step_from (suc n)) reached ∙ ap (stopped_in (suc n)) steps)
+
+pub after_stop : (w v : World) (stop : Stop) (n : ℕ) → after w n ≡ Ok v → stepped v ≡ Err stop → after w (n + 1) ≡ Err (Stopped (n + 1) stop)
+unfolding after
+after_stop w v stop n reached stops =
+    let next : suc n ≡ n + 1 = omega arith in
+    subst (λ (k : ℕ). after w k ≡ Err (Stopped k stop)) next (ap (step_from (suc n)) reached ∙ ap (stopped_in (suc n)) stops)
+
+pub after_stays : (w : World) (end : EndMark) (m k n : ℕ) → m + k ≡ n → after w m ≡ Err end → after w n ≡ Err end
+unfolding after
+after_stays w end m zero n is stopped =
+    let same : m ≡ n = omega (arith, is) in subst (λ (j : ℕ). after w j ≡ Err end) same stopped
+after_stays w end m (suc k) n is stopped =
+    let next : suc (m + k) ≡ n = omega (arith, is) in
+    subst (λ (j : ℕ). after w j ≡ Err end) next (ap (step_from (suc (m + k))) (after_stays w end m k (m + k) refl stopped))
+
+-- no frame is due after a stop
+no_frames : (steps every : ℕ) (w : World) (end : EndMark) (first count : ℕ) → after w first ≡ Err end → frames_from steps every w first count ≡ []
+unfolding frames_from frame_after
+no_frames steps every w end first zero stopped = refl
+no_frames steps every w end first (suc count) stopped =
+    let here = ap (frame_where steps every first) stopped in
+    ap (λ t. t ++ flat_map (frame_after steps every w) (range_with_len (first + 1) count)) here
+    ∙ no_frames steps every w end (first + 1) count (after_stays w end first 1 (first + 1) refl stopped)
+
+end_done : (steps : ℕ) (w v : World) → after w steps ≡ Ok v → Done steps ≡ end_of steps w
+unfolding end_of
+end_done steps w v reached = sym (ap (end_where steps) reached)
+
+end_stopped : (steps : ℕ) (w : World) (end : EndMark) → after w steps ≡ Err end → end ≡ end_of steps w
+unfolding end_of
+end_stopped steps w end stopped = sym (ap (end_where steps) stopped)
+
+-- some pieces were written, and then others
+pieces_wrote : (a b c : Sinks) (ps qs : List Piece) → Wrote a b (outs ps) (lines ps) → Wrote b c (outs qs) (lines qs)
+    → Wrote a c (outs (ps ++ qs)) (lines (ps ++ qs))
+pieces_wrote a b c ps qs first second =
+    let out = sym (flat_map-append (λ (p : Piece). p.out) ps qs) in
+    let line = sym (flat_map-append (λ (p : Piece). p.line) ps qs) in
+    subst (λ (x : List ℕ). Wrote a c x (lines (ps ++ qs))) out
+    (subst (λ (y : List ℕ). Wrote a c (outs ps ++ outs qs) y) line
+    (wrote_twice a b c (outs ps) (lines ps) (outs qs) (lines qs) first second))
+
+pieces_cut : (side : Side) (a b : Sinks) (ps qs : List Piece) → CutAt side a b (outs ps) (lines ps) → CutAt side a b (outs (ps ++ qs)) (lines (ps ++ qs))
+pieces_cut side a b ps qs cut =
+    let out = sym (flat_map-append (λ (p : Piece). p.out) ps qs) in
+    let line = sym (flat_map-append (λ (p : Piece). p.line) ps qs) in
+    subst (λ (x : List ℕ). CutAt side a b x (lines (ps ++ qs))) out
+    (subst (λ (y : List ℕ). CutAt side a b (outs ps ++ outs qs) y) line
+    (cut_of_more side a b (outs ps) (lines ps) (outs qs) (lines qs) cut))
+
+pieces_cut_after : (side : Side) (a b c : Sinks) (ps qs : List Piece) → Wrote a b (outs ps) (lines ps) → CutAt side b c (outs qs) (lines qs)
+    → CutAt side a c (outs (ps ++ qs)) (lines (ps ++ qs))
+pieces_cut_after side a b c ps qs first second =
+    let out = sym (flat_map-append (λ (p : Piece). p.out) ps qs) in
+    let line = sym (flat_map-append (λ (p : Piece). p.line) ps qs) in
+    subst (λ (x : List ℕ). CutAt side a c x (lines (ps ++ qs))) out
+    (subst (λ (y : List ℕ). CutAt side a c (outs ps ++ outs qs) y) line
+    (cut_after side a b c (outs ps) (lines ps) (outs qs) (lines qs) first second))
+
+-- the frames before a state were written, and then the frame of the state, where it is due
+pub more_written : (steps every : ℕ) (w v : World) (n : ℕ) (a b c : Sinks) → after w n ≡ Ok v
+    → Wrote a b (outs (frames_from steps every w 0 n)) (lines (frames_from steps every w 0 n))
+    → Wrote b c (outs (due_frame (is_due steps every n) n v)) (lines (due_frame (is_due steps every n) n v))
+    → Wrote a c (outs (frames_from steps every w 0 (n + 1))) (lines (frames_from steps every w 0 (n + 1)))
+more_written steps every w v n a b c reached first second =
+    let whole = frames_more steps every w n ∙ ap (λ t. frames_from steps every w 0 n ++ t) (frame_of steps every w v n reached) in
+    subst (λ (ps : List Piece). Wrote a c (outs ps) (lines ps)) (sym whole)
+    (pieces_wrote a b c (frames_from steps every w 0 n) (due_frame (is_due steps every n) n v) first second)
+
+-- the frame of the state was cut
+pub more_cut : (side : Side) (steps every : ℕ) (w v : World) (n : ℕ) (a b c : Sinks) → n ≤ steps → after w n ≡ Ok v
+    → Wrote a b (outs (frames_from steps every w 0 n)) (lines (frames_from steps every w 0 n))
+    → CutAt side b c (outs (due_frame (is_due steps every n) n v)) (lines (due_frame (is_due steps every n) n v))
+    → CutAt side a c (outs (frames_of steps every w)) (lines (frames_of steps every w))
+more_cut side steps every w v n a b c most reached first second =
+    let parts = frames_parts steps every w v n most reached in
+    subst (λ (ps : List Piece). CutAt side a c (outs ps) (lines ps)) parts.1
+    (pieces_cut side a c (frames_from steps every w 0 n ++ due_frame (is_due steps every n) n v) parts.0
+    (pieces_cut_after side a b c (frames_from steps every w 0 n) (due_frame (is_due steps every n) n v) first second))
+
+-- no frame was written yet
+pub none_written : (steps every : ℕ) (w : World) (a : Sinks) → Wrote a a [] []
+    → Wrote a a (outs (frames_from steps every w 0 0)) (lines (frames_from steps every w 0 0))
+unfolding frames_from
+none_written steps every w a none = none
+
+-- memory was wanting in a step: the frames before it stand
+pub some_written : (steps every : ℕ) (w : World) (n : ℕ) (a b : Sinks) → n < steps
+    → Wrote a b (outs (frames_from steps every w 0 (n + 1))) (lines (frames_from steps every w 0 (n + 1)))
+    → HasFrames [] (frames_of steps every w) a b
+some_written steps every w n a b below wrote =
+    let k = steps - n in
+    let front = frames_from steps every w 0 (n + 1) in
+    let rest = frames_from steps every w (n + 1) k in
+    let split : frames_of steps every w ≡ front ++ rest = frames_split steps every w 0 (n + 1) k (steps + 1) (n + 1) (omega arith) (zero-add (n + 1)) in
+    let whole : take (length front) (frames_of steps every w) ≡ front = ap (take (length front)) split ∙ take-append_seam front rest in
+    record {
+      number = length front;
+      most = let count = ap length split in omega (arith, count, length-append front rest);
+      wrote = subst (λ (ps : List Piece). Wrote a b (outs ps) (lines ps)) (sym whole) wrote;
+    }
+
+-- a step stopped: its frames are all that are due
+pub stopped_written : (steps every : ℕ) (w v : World) (stop : Stop) (n : ℕ) (a b : Sinks) → n < steps → after w n ≡ Ok v → stepped v ≡ Err stop
+    → Wrote a b (outs (frames_from steps every w 0 (n + 1))) (lines (frames_from steps every w 0 (n + 1)))
+    → WroteFrames (frames_of steps every w) (end_of steps w) (Stopped (n + 1) stop) a b
+stopped_written steps every w v stop n a b below reached stops wrote =
+    let k = steps - n in
+    let here = after_stop w v stop n reached stops in
+    let front = frames_from steps every w 0 (n + 1) in
+    let split = frames_split steps every w 0 (n + 1) k (steps + 1) (n + 1) (omega arith) (zero-add (n + 1)) in
+    let none = no_frames steps every w (Stopped (n + 1) stop) (n + 1) k here in
+    let all : frames_of steps every w ≡ front = split ∙ ap (λ t. front ++ t) none ∙ append-nil front in
+    record {
+      ends = end_stopped steps w (Stopped (n + 1) stop) (after_stays w (Stopped (n + 1) stop) (n + 1) (steps - (n + 1)) steps (omega arith) here);
+      wrote = subst (λ (ps : List Piece). Wrote a b (outs ps) (lines ps)) (sym all) wrote;
+    }
+
+-- the last step was done
+pub done_written : (steps every : ℕ) (w v : World) (a b : Sinks) → after w steps ≡ Ok v
+    → Wrote a b (outs (frames_from steps every w 0 (steps + 1))) (lines (frames_from steps every w 0 (steps + 1)))
+    → WroteFrames (frames_of steps every w) (end_of steps w) (Done steps) a b
+done_written steps every w v a b reached wrote = record { ends = end_done steps w v reached; wrote = wrote }

@@ -1,0 +1,61 @@
+use Rattle.std.proofs.Common.{◌≡◌, ℕ, ◌<◌, ◌^◌, List, length, map, get_or, sym, ap, ◌∙◌, subst}
+use Rattle.pic_num.specs.declared.motion.Kind.{Kind}
+use Rattle.pic_num.specs.declared.motion.Particle.{Particle}
+use Rattle.pic_num.specs.Sizes.{IsAtMost}
+use Rattle.pic_num.specs.Space.{Triple}
+use Rattle.pic_grid.specs.Differences.{div_e}
+use Rattle.pic_grid.specs.Fields.{Field, value_at, field_of, node_at}
+use Rattle.pic_grid.specs.Places.{IsWithin}
+use Rattle.pic_grid.specs.Species.{IsKind}
+use Rattle.pic_charge.specs.Charge.{CanShare, charge_of}
+use Rattle.pic_charge.specs.Gauss.{first_break}
+use Rattle.pic_charge.proofs.BreakLaws.{first_break-charge}
+use Rattle.pic_deck.specs.Deck.{initial_e}
+use Rattle.pic_step.specs.Sound.{one_part}
+use Rattle.pic_step.specs.SerialRun.{kinds_of}
+use Rattle.pic_run.specs.Starting.{break_of}
+use Rattle.pic_run.proofs.Starts.{kinds_are, shares_are, initial_most, sound_start}
+use Rattle.pic_run.proofs.starting.find_break.Goals as goal
+
+pub charge-requires-clause-limits : goal.charge-requires-clause-limits
+charge-requires-clause-limits c =
+    let d = c.args.deck.now in
+    let kinds : c.deref.result.now ≡ kinds_of d = c.deref.ensures.value ∙ c.in_ok-kinds.ensures ∙ ap (λ ss. map (λ s. s.kind) ss) c.species.ensures.value in
+    subst (λ (ks : List Kind). (i : ℕ) (k : Kind) → i < length ks → IsKind (get_or ks i k)) (sym kinds) (kinds_are d c.cells-cells.ensures.limits.heads)
+
+pub charge-requires-clause-placed : goal.charge-requires-clause-placed
+charge-requires-clause-placed c =
+    let d = c.args.deck.now in
+    let kinds : c.deref.result.now ≡ kinds_of d = c.deref.ensures.value ∙ c.in_ok-kinds.ensures ∙ ap (λ ss. map (λ s. s.kind) ss) c.species.ensures.value in
+    let cells = c.cells-cells.ensures.value in
+    subst (λ (ks : List Kind). (i : ℕ) (x : Particle) → i < length c.args.particles.now → CanShare 4096 c.cells-cells.result ks (get_or c.args.particles.now i x)) (sym kinds)
+    (subst (λ (n : Triple). (i : ℕ) (x : Particle) → i < length c.args.particles.now → CanShare 4096 n (kinds_of d) (get_or c.args.particles.now i x)) (sym cells)
+    (shares_are d c.args.particles.now c.requires))
+
+pub gauss-requires-clause-e_most : goal.gauss-requires-clause-e_most
+gauss-requires-clause-e_most c =
+    let d = c.args.deck.now in
+    let cells = c.cells-cells.ensures.value in
+    let parts = ap (λ (f : Field). f.parts) c.in_ok-e.ensures in
+    let e : c.initial.new.e ≡ field_of d.cells one_part (initial_e d) = c.initial.ensures.e ∙ ap (λ (p : Triple). field_of d.cells p (initial_e d)) parts in
+    λ a p within. subst (λ (f : Field). IsAtMost (value_at f a p) (2 ^ 90)) (sym e)
+    (initial_most d c.cells-cells.ensures.limits a p (subst (IsWithin p) cells within))
+
+pub returns-clause-value : goal.returns-clause-value
+unfolding break_of
+returns-clause-value c =
+    let d = c.args.deck.now in
+    let ps = c.args.particles.now in
+    let cells : c.cells-cells.result ≡ d.cells = c.cells-cells.ensures.value in
+    let kinds : c.deref.result.now ≡ kinds_of d = c.deref.ensures.value ∙ c.in_ok-kinds.ensures ∙ ap (λ ss. map (λ s. s.kind) ss) c.species.ensures.value in
+    let parts = ap (λ (f : Field). f.parts) c.in_ok-e.ensures in
+    let e : c.initial.new.e ≡ field_of d.cells one_part (initial_e d) = c.initial.ensures.e ∙ ap (λ (p : Triple). field_of d.cells p (initial_e d)) parts in
+    let n = c.cells-cells.result in
+    let charged : first_break n (div_e n (value_at c.initial.new.e)) (node_at c.charge.new.to) ≡ first_break n (div_e n (value_at c.initial.new.e)) (charge_of 4096 n c.deref.result.now ps) =
+    first_break-charge 4096 n c.deref.result.now ps (div_e n (value_at c.initial.new.e)) (node_at c.charge.new.to) c.charge.ensures.values in
+    c.gauss.ensures.value ∙ charged
+    ∙ (λ i. first_break (cells i) (div_e (cells i) (value_at (e i))) (charge_of 4096 (cells i) (kinds i) ps))
+
+pub returns-clause-sound : goal.returns-clause-sound
+returns-clause-sound c none =
+    sound_start c.args.deck.now c.args.particles.now c.cells-cells.ensures.limits c.requires (sym (returns-clause-value c) ∙ none)

@@ -1,0 +1,19 @@
+-- Room for the states of a run.
+use Rattle.std.specs.Prelude.{◌≡◌, length}
+use Rattle.pic_grid.specs.declared.snapshots.Snapshot.{Snapshot}
+use Rattle.pic_step.specs.SerialStep.{World}
+use Rattle.pic_step.specs.Sound.{one_part}
+
+-- a snapshot has the cells of a state, in one part, and as many particles
+pub record HasRoom (to : Snapshot) (w : World) : Type 0 where
+  pub e_cells : to.e.cells ≡ w.cells
+  pub e_parts : to.e.parts ≡ one_part
+  pub b_cells : to.b.cells ≡ w.cells
+  pub b_parts : to.b.parts ≡ one_part
+  pub count : length to.particles.items ≡ length w.particles
+
+-- it holds the state
+pub record IsFilled (to : Snapshot) (w : World) : Type 0 where
+  pub e : to.e ≡ w.e
+  pub b : to.b ≡ w.b
+  pub particles : to.particles.items ≡ w.particles

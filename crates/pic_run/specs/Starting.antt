@@ -1,0 +1,37 @@
+-- What a run begins with: its first state, the test of Gauss's law, and the header of its dump.
+use Rattle.std.specs.Prelude.{◌≡◌, ℕ, Option, Ok}
+use Rattle.pic_grid.specs.Differences.{div_e}
+use Rattle.pic_grid.specs.Fields.{value_at}
+use Rattle.pic_charge.specs.declared.breaks.Break.{Break}
+use Rattle.pic_charge.specs.Charge.{charge_of}
+use Rattle.pic_charge.specs.Gauss.{first_break, MeetsGauss}
+use Rattle.pic_deck.specs.Deck.{DeckView, heads_of}
+use Rattle.pic_load.specs.Loading.{loaded}
+use Rattle.pic_dump.specs.Headers.{HeaderView}
+use Rattle.pic_step.specs.SerialStep.{World}
+use Rattle.pic_step.specs.SerialRun.{start_of, after}
+use Rattle.pic_step.specs.Sound.{IsSound}
+
+-- the state 0 of a deck's run: its fields and its particles
+abbrev pub first_state : DeckView → World
+first_state d = start_of d (loaded d)
+
+-- the least node of a state, x fastest, where the divergence of E and the charge differ
+unfoldable pub break_of : World → Option Break
+break_of w = first_break w.cells (div_e w.cells (value_at w.e)) (charge_of w.side w.cells w.kinds w.particles)
+
+-- Gauss's law, at every node of a state
+abbrev pub IsGauss : World → Type 0
+IsGauss w = MeetsGauss w.side w.cells w.kinds w.particles w.e
+
+-- Gauss's law, at every node of every state of a serial run
+pub record EachGauss (w : World) : Type 0 where
+  pub after_step : (step : ℕ) (v : World) → after w step ≡ Ok v → IsGauss v
+
+-- every state of a serial run that begins in a sound state meets Gauss's law
+abbrev pub EveryStateMeetsGauss : Type 0
+EveryStateMeetsGauss = (w : World) → IsSound w → EachGauss w
+
+-- what the header of the dump says
+abbrev pub header_of : DeckView → HeaderView
+header_of d = record { cells = d.cells; steps = d.steps; every = d.every; scales = d.scales; species = heads_of d }

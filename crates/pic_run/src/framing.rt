@@ -1,0 +1,72 @@
+ghost use Rattle.std.specs.Prelude.{◌≡◌, ◌≤◌};
+ghost use Rattle.pic_io.specs.Sinks.{sinks, Writes};
+ghost use Rattle.pic_step.specs.Sound.{IsSound};
+ghost use Rattle.pic_run.specs.Frames.{frame_piece, due_frame, is_due, energies_in, outs, lines};
+ghost use Rattle.pic_run.specs.Rooms.{HasRoom, IsFilled};
+
+use crate::writing::put_line;
+use pic_dump::put_frame;
+use pic_energy::{Energies, energies, frame_line};
+use pic_grid::Snapshot;
+use pic_io::{Failed, Side, Sink};
+use pic_step::State;
+
+/// Whether a frame is due after this step.
+pub fn is_due(steps: u32, every: u32, step: u32) -> bool
+    requires { 1 ≤ every }
+    ensures { result ≡ is_due steps every step }
+{
+    step == steps || step % every == 0
+}
+
+/// Writes the frame of a state, and its line, where it is due. What the room held is lost.
+pub fn write_due<O: Sink, R: Sink>(
+    out: &mut O,
+    report: &mut R,
+    due: bool,
+    step: u32,
+    state: &State,
+    room: &mut Snapshot,
+) -> Result<(), Side>
+    requires { HasRoom room.old state.now }
+    ensures writes { Writes (sinks (O.told out.old) (R.told report.old)) (sinks (O.told out.new) (R.told report.new))
+        (outs (due_frame due step state.now)) (lines (due_frame due step state.now)) result }
+    ensures room { HasRoom room.new state.now }
+{
+    if due {
+        write_frame(out, report, step, state, room)
+    } else {
+        Ok(())
+    }
+}
+
+// The frame on out, and then its line on report.
+fn write_frame<O: Sink, R: Sink>(
+    out: &mut O,
+    report: &mut R,
+    step: u32,
+    state: &State,
+    room: &mut Snapshot,
+) -> Result<(), Side>
+    requires { HasRoom room.old state.now }
+    ensures writes { Writes (sinks (O.told out.old) (R.told report.old)) (sinks (O.told out.new) (R.told report.new))
+        (frame_piece step state.now).out (frame_piece step state.now).line result }
+    ensures room { HasRoom room.new state.now }
+{
+    state.fill(room);
+    let energies = energies_in(state, room);
+    match put_frame(out, step, room, energies) {
+        Ok(()) => put_line(report, frame_line(step, energies).bytes()),
+        Err(Failed) => Err(Side::Out),
+    }
+}
+
+// The energies of a state that stands in the room.
+fn energies_in(state: &State, room: &Snapshot) -> Energies
+    requires { IsFilled room.now state.now }
+    ensures value { result ≡ energies_in state.now }
+    ensures sound { IsSound state.now }
+{
+    let _cells = state.cells();
+    energies(&state.scales(), state.kinds(), room)
+}
