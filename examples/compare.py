@@ -1,0 +1,324 @@
+"""A second model of the serial run, slow, after docs/SCHEME.md and docs/FORMATS.md. It shares no code with the program.
+
+    python3 examples/compare.py DECK DUMP                 is DUMP byte for byte what the model gives for DECK?
+    python3 examples/compare.py --random COUNT PROGRAM    do PROGRAM and the model agree on COUNT random decks?
+
+PROGRAM is the path of the built program. Dump, report and exit status are compared. The exit status here is 0 where all
+agree, 1 where something differs, 2 for other words. The model takes it that a deck has the right form: of the refusals
+it knows that of a force value at the start and that of Gauss's law.
+"""
+
+import random
+import subprocess
+import sys
+import tomllib
+from collections import Counter
+from fractions import Fraction
+from math import trunc
+from struct import pack
+
+SIDE = 4096
+CORNERS = [(dx, dy, dz) for dz in (0, 1) for dy in (0, 1) for dx in (0, 1)]
+PHASES, BOUNDS, FAULTS = ("", "half1", "", "half2", "electric"), ("", "value", "force"), ("", "speed", "turn", "far")
+
+
+class Halt(Exception):
+    """The end of a run, with its exit status, last line of the report, and end record."""
+
+
+def rounded(number, divisor):
+    """The nearest whole number to number / divisor, a half going up."""
+    return (2 * number + divisor) // (2 * divisor)
+
+
+def scaled(value, multiplier):
+    """A value times the multiplier [n, k], which is n / 2^k."""
+    return rounded(value * multiplier[0], 2 ** multiplier[1])
+
+
+def cross(u, w):
+    return [u[1] * w[2] - u[2] * w[1], u[2] * w[0] - u[0] * w[2], u[0] * w[1] - u[1] * w[0]]
+
+
+def wide(number, signed=True):
+    return number.to_bytes(16, "big", signed=signed)
+
+
+def differences(field, high, low):
+    """The curl of a field. The tables `high` and `low` have the two places of a difference, for each axis."""
+    return [[field[c][high[b][n]] - field[c][low[b][n]] - field[b][high[c][n]] + field[b][low[c][n]]
+             for n in range(len(field[0]))] for b, c in ((1, 2), (2, 0), (0, 1))]
+
+
+def pieces(start, move):
+    """The straight pieces of a path, each with the cell that it lies in. Nothing is wrapped."""
+    end, crossings = [p + d for p, d in zip(start, move)], []
+    for a in range(3):
+        before, after = start[a] // SIDE, end[a] // SIDE
+        if before != after:
+            crossings.append((Fraction(max(before, after) * SIDE - start[a], move[a]), a, after - before))
+    cell, here = [p // SIDE for p in start], start
+    for fraction, a, sign in sorted(crossings):
+        there = [p + trunc(fraction * d) for p, d in zip(start, move)]
+        yield cell, here, there
+        cell, here = [c + sign * (b == a) for b, c in enumerate(cell)], there
+    yield cell, here, end
+
+
+class Model:
+    """The state of a run: fields as three lists each, x fastest, and particles as (kind, position, velocity)."""
+
+    def __init__(self, text):
+        deck = tomllib.loads(text)
+        self.cells, self.scale = deck["grid"]["cells"], deck["scale"]
+        self.steps, self.every = deck["run"]["steps"], deck["run"]["every"]
+        nx, ny, nz = self.cells
+        self.places = [(i, j, k) for k in range(nz) for j in range(ny) for i in range(nx)]
+        self.up = [[self.at(*(c + (b == a) for b, c in enumerate(p))) for p in self.places] for a in range(3)]
+        self.down = [[self.at(*(c - (b == a) for b, c in enumerate(p))) for p in self.places] for a in range(3)]
+        self.here = [range(len(self.places))] * 3
+        field = deck.get("field", {})
+        self.electric, self.magnetic = ([[v] * len(self.places) for v in field.get(name, [0, 0, 0])] for name in "eb")
+        for part, name in (self.electric, "edges"), (self.magnetic, "faces"):
+            for axis, i, j, k, value in field.get(name, []):
+                part[axis][self.at(i, j, k)] += value
+        self.kinds = deck.get("species", [])
+        self.particles = [(kind, row[:3], row[3:]) for kind in self.kinds for row in kind["points"]]
+        self.dump, self.report = [], []
+
+    def at(self, i, j, k):
+        nx, ny, nz = self.cells
+        return i % nx + nx * (j % ny + ny * (k % nz))
+
+    def forces(self, field, name):
+        return [[scaled(value, self.scale[name]) for value in part] for part in field]
+
+    def test_start(self):
+        """A force value at the start that is too large, and a charge that doesn't meet Gauss's law."""
+        for field, name in (self.electric, "e_force"), (self.magnetic, "b_force"):
+            for value in sum(self.forces(field, name), []):
+                if abs(value) > 2**44:
+                    raise Halt(3, f"refused 5 limit scale.{name} {value} {-2**44} {2**44}", b"")
+        self.test_gauss()
+
+    def weights(self, position):
+        """The eight nodes around a position, and its weight at each."""
+        for corner in CORNERS:
+            x, y, z = (p % SIDE if d else SIDE - p % SIDE for p, d in zip(position, corner))
+            yield self.at(*(p // SIDE + d for p, d in zip(position, corner))), x * y * z
+
+    def test_gauss(self):
+        """Div E at every node is 12 times the charge there."""
+        charge = [0] * len(self.places)
+        for kind, position, _ in self.particles:
+            for node, weight in self.weights(position):
+                charge[node] += 12 * kind["charge"] * weight
+        for n, place in enumerate(self.places):
+            divergence = sum(self.electric[a][n] - self.electric[a][self.down[a][n]] for a in range(3))
+            if divergence != charge[n]:
+                raise Halt(3, "gauss %d %d %d div %d rho %d" % (*place, divergence, charge[n]), b"")
+
+    def write_header(self):
+        self.dump.append(b"PICDUMP1" + pack(">5I", *self.cells, self.steps, self.every))
+        self.dump += [pack(">iI", *self.scale[name]) for name in ("e_to_b", "b_to_e", "e_force", "b_force")]
+        self.dump.append(pack(">I", len(self.kinds)))
+        for kind in self.kinds:
+            numbers = kind["charge"], kind["mass"], *kind["kick"], *kind["turn"], len(kind["points"])
+            self.dump.append(pack(">32siIiIiII", kind["name"].encode(), *numbers))
+
+    def write_frame(self, step):
+        """A frame, and its line of the report. Gauss's law is tested anew, which the program doesn't do."""
+        self.test_gauss()
+        self.dump.append(b"F" + pack(">I", step))
+        self.dump += [wide(value) for field in (self.electric, self.magnetic) for part in field for value in part]
+        self.dump += [pack(">3I3i", *position, *velocity) for _, position, velocity in self.particles]
+        kinetic = sum(kind["mass"] * sum(c * c for c in velocity) for kind, _, velocity in self.particles)
+        electric = sum(f * f for part in self.forces(self.electric, "e_force") for f in part)
+        magnetic = sum(f * f for part in self.forces(self.magnetic, "b_force") for f in part)
+        self.dump += [wide(energy, False) for energy in (kinetic, electric, magnetic)]
+        self.report.append(f"frame {step} kinetic {kinetic} electric {electric} magnetic {magnetic}")
+
+    def test_field(self, step, phase, field, name):
+        """No new value of a field phase, and no force value of it, is too large."""
+        for axis, place, value in ((a, p, v) for a in range(3) for p, v in zip(self.places, field[a])):
+            for bound, number, limit in (1, value, 2**90), (2, scaled(value, self.scale[name]), 2**44):
+                if abs(number) > limit:
+                    line = "stopped %d field %s %s %d %d %d %d %d"
+                    words = step, PHASES[phase], BOUNDS[bound], axis, *place, number
+                    record = pack(">cBIBBB3I", b"E", 1, step, phase, bound, axis, *place) + wide(number)
+                    raise Halt(1, line % words, record)
+
+    def half_step(self, step, phase):
+        """B becomes B less the curl of the scaled E."""
+        curl = differences(self.forces(self.electric, "e_to_b"), self.up, self.here)
+        self.magnetic = [[b - c for b, c in zip(*parts)] for parts in zip(self.magnetic, curl)]
+        self.test_field(step, phase, self.magnetic, "b_force")
+
+    def electric_step(self, step, current):
+        """E becomes E and the curl of the scaled B, less the current."""
+        curl = differences(self.forces(self.magnetic, "b_to_e"), self.here, self.down)
+        self.electric = [[e + c - j for e, c, j in zip(*parts)] for parts in zip(self.electric, curl, current)]
+        self.test_field(step, 4, self.electric, "e_force")
+
+    def gather(self, forces, position, shifted):
+        """The force at a position, on the lattice that is shifted by half a cell along the axes of `shifted`."""
+        local = [p - SIDE // 2 * (a in shifted) for a, p in enumerate(position)]
+        return rounded(sum(forces[node] * weight for node, weight in self.weights(local)), SIDE**3)
+
+    def push(self, step, identity, electric, magnetic):
+        """Boris's push of a particle: its new velocity and its move."""
+        kind, _, velocity = self.particles[identity]
+
+        def test(fault, numbers, limit):
+            for axis, number in enumerate(numbers):
+                if abs(number) > limit:
+                    record = pack(">cBIIBB", b"E", 2, step, identity, fault, axis) + wide(number)
+                    raise Halt(1, f"stopped {step} particle {identity} {FAULTS[fault]} {axis} {number}", record)
+
+        kick = [scaled(c, kind["kick"]) for c in electric]
+        middle = [v + h for v, h in zip(velocity, kick)]
+        test(1, middle, 2**40)
+        turn = [scaled(c, kind["turn"]) for c in magnetic]
+        test(2, turn, 2**24)
+        halfway = [v + rounded(c, 2**20) for v, c in zip(middle, cross(middle, turn))]
+        whole = 2**40 + sum(t * t for t in turn)
+        turned = [v + rounded(2**21 * c, whole) for v, c in zip(middle, cross(halfway, turn))]
+        velocity = [v + h for v, h in zip(turned, kick)]
+        move = [rounded(v, 4096) for v in velocity]
+        test(3, move, SIDE)
+        return velocity, move
+
+    def add_flux(self, current, charge, cell, start, end):
+        """Villasenor and Buneman's current of one piece, times 12, on the twelve edges of its cell."""
+        first, last = ([p - c * SIDE for p, c in zip(point, cell)] for point in (start, end))
+        assert all(0 <= p <= SIDE for p in first + last), "a piece leaves its cell"
+        for a in range(3):
+            b, c = (a + 1) % 3, (a + 2) % 3
+            for edge_b, edge_c in (0, 0), (1, 0), (0, 1), (1, 1):
+                b0, b1 = (p[b] if edge_b else SIDE - p[b] for p in (first, last))
+                c0, c1 = (p[c] if edge_c else SIDE - p[c] for p in (first, last))
+                edge = [p + (i == b and edge_b) + (i == c and edge_c) for i, p in enumerate(cell)]
+                mean = 3 * (b0 + b1) * (c0 + c1) + (b1 - b0) * (c1 - c0)
+                current[a][self.at(*edge)] += charge * (last[a] - first[a]) * mean
+
+    def push_all(self, step):
+        """Moves all particles, and gives the current."""
+        electric, magnetic = self.forces(self.electric, "e_force"), self.forces(self.magnetic, "b_force")
+        current = [[0] * len(self.places) for _ in range(3)]
+        for identity, (kind, position, _) in enumerate(self.particles):
+            e = [self.gather(electric[a], position, [a]) for a in range(3)]
+            b = [self.gather(magnetic[a], position, [(a + 1) % 3, (a + 2) % 3]) for a in range(3)]
+            velocity, move = self.push(step, identity, e, b)
+            for cell, start, end in pieces(position, move):
+                self.add_flux(current, kind["charge"], cell, start, end)
+            position = [(p + d) % (n * SIDE) for p, d, n in zip(position, move, self.cells)]
+            self.particles[identity] = kind, position, velocity
+        return current
+
+    def run(self):
+        """The whole run: its exit status, dump and report."""
+        try:
+            self.test_start()
+            self.write_header()
+            self.write_frame(0)
+            for step in range(1, self.steps + 1):
+                self.half_step(step, 1)
+                current = self.push_all(step)
+                self.half_step(step, 3)
+                self.electric_step(step, current)
+                if step % self.every == 0 or step == self.steps:
+                    self.write_frame(step)
+            raise Halt(0, f"done {self.steps}", pack(">cBI", b"E", 0, self.steps))
+        except Halt as end:
+            status, line, record = end.args
+            return status, b"".join(self.dump) + record, "\n".join(self.report + [line, ""]).encode()
+
+
+def difference(model, other):
+    """Where two byte strings first differ, in words, or nothing."""
+    if model == other:
+        return ""
+    place = next((i for i, (a, b) in enumerate(zip(model, other)) if a != b), min(len(model), len(other)))
+    return f"differs at byte {place} (the model has {len(model)} bytes, the other {len(other)})"
+
+
+def random_multiplier(dice, wild, low, high):
+    """A multiplier whose size is from 2^low to 2^high, or a wild one."""
+    if wild:
+        return [dice.choice([2**31 - 1, 1 - 2**31, 0, 1, 3]), dice.choice([0, 1, 5, 31, 62])]
+    k = dice.randint(0, 20)
+    return [round(2 ** (k + dice.uniform(low, high))) * dice.choice([1, -1]), k]
+
+
+def random_species(dice, wild, cells):
+    """Two species on the same places with opposite charges, so without a charge; many on faces, edges and nodes."""
+    fast, charge, text = dice.choice([2**14, 2**20, 2**23, 2**24]), dice.choice([1, -1, 7, 32767, 0]), ""
+    spots = [[dice.choice([dice.randrange(c * SIDE), SIDE * dice.randrange(c) + dice.choice([0, 0, 1, 2048, 4095])])
+              for c in cells] for _ in range(dice.randint(0, 5 if wild else 30))]
+    for name, sign in ("a", 1), ("b", -1):
+        speeds = lambda: [dice.choice([dice.randint(-fast, fast), 0, fast, -fast]) for _ in range(3)]
+        kick, turn = (random_multiplier(dice, wild and dice.random() < 0.3, low, low + 15) for low in (-14, -11))
+        text += f'[[species]]\nname = "{name}"\ncharge = {sign * charge}\nmass = {dice.randint(1, 65536)}\n'
+        text += f"kick = {kick}\nturn = {turn}\npoints = {[spot + speeds() for spot in spots]}\n"
+    return text
+
+
+def random_deck(number):
+    """The random deck of a number: a calm one where it is even, else a wild one that stops soon."""
+    dice, wild = random.Random(number), number % 2
+    cells = [dice.choice([2, 2, 3, 4] if wild else [2, 3, 4, 5, 6]) for _ in range(3)]
+    tiles = [dice.choice([t for t in range(1, c // 2 + 1) if c % t == 0]) for c in cells]
+    text = f"version = 1\n[grid]\ncells = {cells}\ntiles = {tiles}\n"
+    text += f"[run]\nsteps = {dice.randint(0, 12)}\nevery = {dice.randint(1, 5)}\n[scale]\n"
+    power = dice.choice([3, 40, 57, 58, 59, 60]) if wild else dice.randint(3, 43)
+    for name, high in ("e_to_b", -2), ("b_to_e", 0):
+        text += f"{name} = {random_multiplier(dice, wild and dice.random() < 0.7, high - 4, high)}\n"
+    for name in "e_force", "b_force":
+        k = dice.randint(14, 62) if wild else dice.choice([dice.randint(20, 40), max(0, power - dice.randint(5, 24))])
+        text += f"{name} = {[dice.randint(-3, 3), k]}\n"
+    text += random_species(dice, wild, cells)
+    # E is a curl, and so has no charge; but a few wild decks have a row more.
+    model, high = Model(text), 2**power
+    source, faces = ([[dice.randint(-high, high) for _ in model.places] for _ in range(3)] for _ in "eb")
+    curl = differences(source, model.here, model.down)
+    edges, faces = ([[a, *p, v] for a in range(3) for p, v in zip(model.places, field[a])] for field in (curl, faces))
+    edges += [[0, 0, 1, 0, 1]] if wild and dice.random() < 0.1 else []
+    e, b = ([dice.choice([dice.randint(-high, high), 8 * high - 1]) for _ in range(3)] for _ in "eb")
+    return text + f"[field]\ne = {e}\nb = {b}\nedges = {edges}\nfaces = {faces}\n"
+
+
+def compare_random(count, program):
+    """Runs the program and the model on the decks 0, 1, .., and counts how they end."""
+    ends, differ = Counter(), 0
+    for number in range(count):
+        text = random_deck(number)
+        status, dump, report = Model(text).run()
+        done = subprocess.run([program, "run"], input=text.encode(), capture_output=True, timeout=600)
+        last = report.decode().splitlines()[-1].split()
+        ends[" ".join(word for word in last[:5] if word[0].isalpha())] += 1
+        words = [difference(dump, done.stdout), difference(report, done.stderr)]
+        if any(words) or status != done.returncode:
+            differ += 1
+            print(f"deck {number}: dump {words[0] or 'agrees'}; report {words[1] or 'agrees'}; "
+                  f"status {status} and {done.returncode}. The deck:\n{text}")
+    print(f"{count - differ} of {count} random decks agree. They end so:")
+    for end, times in sorted(ends.items()):
+        print(f"{times:6} {end}")
+    return differ > 0
+
+
+def main(words):
+    if len(words) == 3 and words[0] == "--random" and words[1].isdecimal():
+        return compare_random(int(words[1]), words[2])
+    if len(words) != 2 or words[0].startswith("-"):
+        print(__doc__, file=sys.stderr)
+        return 2
+    with open(words[0], encoding="utf-8") as deck, open(words[1], "rb") as dump:
+        _, model, report = Model(deck.read()).run()
+        found = difference(model, dump.read())
+    print(f"the dump {found or 'agrees'}; the model's run ends with: {report.decode().splitlines()[-1]}")
+    return found != ""
+
+
+if __name__ == "__main__":
+    sys.exit(main(sys.argv[1:]))
