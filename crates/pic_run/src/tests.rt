@@ -148,6 +148,36 @@ turn = [0, 0]
 points = [[100, 0, 0, -819200, 0, 0]]
 ";
 
+// Three pairs on a grid of two cells an axis: one electron crosses a corner, one stands still, and one
+// moves a whole cell and comes in on the other side.
+const CORNER_DECK: &[u8] = b"version = 1
+[grid]
+cells = [2, 2, 2]
+tiles = [1, 1, 1]
+[run]
+steps = 1
+every = 1
+[scale]
+e_to_b = [0, 0]
+b_to_e = [0, 0]
+e_force = [1, 20]
+b_force = [0, 0]
+[[species]]
+name = \"ion\"
+charge = 1
+mass = 1836
+kick = [0, 0]
+turn = [0, 0]
+points = [[4095, 4095, 4095, 0, 0, 0], [100, 0, 0, 0, 0, 0], [4096, 0, 0, 0, 0, 0]]
+[[species]]
+name = \"electron\"
+charge = -1
+mass = 1
+kick = [0, 0]
+turn = [0, 0]
+points = [[4095, 4095, 4095, 8192, 8192, 8192], [100, 0, 0, 0, 0, 0], [4096, 0, 0, 16777216, 0, 0]]
+";
+
 // Two uncharged particles, both too fast.
 const FAST_DECK: &[u8] = b"version = 1
 [grid]
@@ -388,6 +418,30 @@ fn runs_with_particles(rt: HostRuntime) -> Result<(), Fail> {
         parts: &[(1850, b"\0\0\x1f\x9c\0\0\0\0\0\0\0\0\xff\xf3\x80\0")],
     };
     check_run(&rt, rt.alloc(), WRAP_DECK, &wrap)
+}
+
+#[test]
+fn a_corner_a_rest_and_a_whole_cell(rt: HostRuntime) -> Result<(), Fail> {
+    // Ex is 4 at (0, 0, 0), 12 * 2^36 + 4 at (1, 0, 0), 24572 at (0, 1, 0), 201277444 at (0, 1, 1);
+    // the electrons are at (4097, 4097, 4097), (100, 0, 0) and (0, 0, 0)
+    let corner = Dumped {
+        status: 0,
+        report: b"frame 0 kinetic 281475178037248 electric 0 magnetic 0\n\
+            frame 1 kinetic 281475178037248 electric 618475511808 magnetic 0\n\
+            done 1\n",
+        len: 2120,
+        parts: &[
+            (1149, b"F\0\0\0\x01"),
+            (1168, b"\0\x04"),
+            (1180, b"\0\xc0\0\0\0\x04"),
+            (1198, b"\0\0\x5f\xfc"),
+            (1262, b"\x0b\xff\x40\x04"),
+            (1994, b"\0\0\x10\x01\0\0\x10\x01\0\0\x10\x01"),
+            (2018, b"\0\0\0\x64\0\0\0\0\0\0\0\0"),
+            (2042, b"\0\0\0\0\0\0\0\0\0\0\0\0\x01\0\0\0"),
+        ],
+    };
+    check_run(&rt, rt.alloc(), CORNER_DECK, &corner)
 }
 
 #[test]
