@@ -80,30 +80,5 @@ fn outflow(cells: Cells, e: &Lattice, axis: Axis, node: [u32; 3]) -> i128
     ensures value { result ≡ value_at e.now axis (triple node) -ℤ value_at e.now axis (down cells axis (triple node)) }
     ensures size { IsAtMost result (2 ^ 91) }
 {
-    e.at(axis, node) - e.at(axis, below(cells, axis, node))
-}
-
-/// The node below `node` along an axis, modulo the cells.
-fn below(cells: Cells, axis: Axis, node: [u32; 3]) -> [u32; 3]
-    requires { IsWithin (triple node) cells }
-    ensures value { triple result ≡ down cells axis (triple node) }
-    ensures within { IsWithin (triple result) cells }
-{
-    let [nx, ny, nz] = cells.n;
-    let [x, y, z] = node;
-    match axis {
-        Axis::X => [before(nx, x), y, z],
-        Axis::Y => [x, before(ny, y), z],
-        Axis::Z => [x, y, before(nz, z)],
-    }
-}
-
-/// The number before `number`, modulo `count`.
-fn before(count: u32, number: u32) -> u32
-    requires most { count ≤ 64 }
-    requires within { number < count }
-    ensures value { result ≡ (number + (count - 1)) % count }
-    ensures within { result < count }
-{
-    if number == 0 { count - 1 } else { number - 1 }
+    e.at(axis, node) - e.at(axis, cells.down(axis, node))
 }

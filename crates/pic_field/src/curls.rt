@@ -1,13 +1,13 @@
-ghost use Rattle.std.specs.Prelude.{◌≡◌, ℕ, ◌+◌, ◌-◌, ◌%◌, ◌^◌, ◌<◌};
+ghost use Rattle.std.specs.Prelude.{◌≡◌, ◌^◌};
 ghost use Rattle.pic_num.specs.Rounding.{scaled};
 ghost use Rattle.pic_num.specs.Sizes.{IsAtMost};
 ghost use Rattle.pic_num.specs.Space.{triple};
-ghost use Rattle.pic_grid.specs.Differences.{up, down, curl_b, curl_e};
+ghost use Rattle.pic_grid.specs.Differences.{curl_b, curl_e};
 ghost use Rattle.pic_grid.specs.Fields.{value_at};
 ghost use Rattle.pic_grid.specs.Places.{IsWithin};
 ghost use Rattle.pic_field.specs.FieldPhases.{EachAtMost};
 
-use pic_grid::{Cells, Lattice};
+use pic_grid::Lattice;
 use pic_num::{Axis, Mult, scale};
 
 /// The curl of the scaled E at the component of B on `axis` at `cell`.
@@ -20,9 +20,9 @@ pub(crate) fn curl_of_e(e: &Lattice, by: Mult, axis: Axis, cell: [u32; 3]) -> i1
     let cells = e.cells();
     let second = axis.next();
     let third = second.next();
-    let far_third = scaled_at(e, by, third, cell_up(cells, second, cell));
+    let far_third = scaled_at(e, by, third, cells.up(second, cell));
     let near_third = scaled_at(e, by, third, cell);
-    let far_second = scaled_at(e, by, second, cell_up(cells, third, cell));
+    let far_second = scaled_at(e, by, second, cells.up(third, cell));
     let near_second = scaled_at(e, by, second, cell);
     far_third - near_third - far_second + near_second
 }
@@ -38,9 +38,9 @@ pub(crate) fn curl_of_b(b: &Lattice, by: Mult, axis: Axis, cell: [u32; 3]) -> i1
     let second = axis.next();
     let third = second.next();
     let near_third = scaled_at(b, by, third, cell);
-    let far_third = scaled_at(b, by, third, cell_down(cells, second, cell));
+    let far_third = scaled_at(b, by, third, cells.down(second, cell));
     let near_second = scaled_at(b, by, second, cell);
-    let far_second = scaled_at(b, by, second, cell_down(cells, third, cell));
+    let far_second = scaled_at(b, by, second, cells.down(third, cell));
     near_third - far_third - near_second + far_second
 }
 
@@ -52,50 +52,4 @@ pub(crate) fn scaled_at(field: &Lattice, by: Mult, axis: Axis, cell: [u32; 3]) -
     ensures size { IsAtMost result (2 ^ 121) }
 {
     scale(field.at(axis, cell), by)
-}
-
-/// The next cell up an axis, periodically.
-fn cell_up(cells: Cells, axis: Axis, cell: [u32; 3]) -> [u32; 3]
-    requires { IsWithin (triple cell) cells }
-    ensures value { triple result ≡ up cells axis (triple cell) }
-    ensures within { IsWithin (triple result) cells }
-{
-    let [nx, ny, nz] = cells.n;
-    let [x, y, z] = cell;
-    match axis {
-        Axis::X => [index_up(x, nx), y, z],
-        Axis::Y => [x, index_up(y, ny), z],
-        Axis::Z => [x, y, index_up(z, nz)],
-    }
-}
-
-/// The next cell down an axis, periodically.
-fn cell_down(cells: Cells, axis: Axis, cell: [u32; 3]) -> [u32; 3]
-    requires { IsWithin (triple cell) cells }
-    ensures value { triple result ≡ down cells axis (triple cell) }
-    ensures within { IsWithin (triple result) cells }
-{
-    let [nx, ny, nz] = cells.n;
-    let [x, y, z] = cell;
-    match axis {
-        Axis::X => [index_down(x, nx), y, z],
-        Axis::Y => [x, index_down(y, ny), z],
-        Axis::Z => [x, y, index_down(z, nz)],
-    }
-}
-
-fn index_up(index: u32, count: u32) -> u32
-    requires { index < count }
-    ensures value { result ≡ (index + 1) % count }
-    ensures below { result < count }
-{
-    if index + 1 == count { 0 } else { index + 1 }
-}
-
-fn index_down(index: u32, count: u32) -> u32
-    requires { index < count }
-    ensures value { result ≡ (index + (count - 1)) % count }
-    ensures below { result < count }
-{
-    if index == 0 { count - 1 } else { index - 1 }
 }

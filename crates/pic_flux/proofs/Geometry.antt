@@ -12,10 +12,11 @@ use Rattle.pic_grid.specs.Flux.{edge_weight, flux}
 use Rattle.pic_grid.specs.Path.{same_int}
 use Rattle.pic_grid.specs.Piece.{Piece, IsInCell}
 use Rattle.pic_grid.specs.Zones.{BlockValues, IsShaped}
+use Rattle.pic_grid.proofs.TwoHats.{only}
 use Rattle.pic_flux.specs.Adds.{Adds}
 use Rattle.pic_flux.specs.Corners.{same_axis, at_edge, on_axis, both, raised, face_weight, corner}
 use Rattle.pic_flux.proofs.AddsLaws.{shaped_twice, adds_same, adds_twice}
-use Rattle.pic_flux.proofs.Onlys.{one, only, if_is, two_hats}
+use Rattle.pic_flux.proofs.Onlys.{one, if_is, face_hats}
 
 -- Tests of three coordinates, as a product.
 
@@ -47,7 +48,7 @@ above axis p c = only (along axis p +ℤ pos 1) (along axis c)
 -- the value at an edge along axis at p, as seen from the cell c
 edge_is : (axis : Axis) (p : Spot) (v : ℤ) (c : Spot)
     → at_edge axis p v axis c ≡ level axis p c *ℤ (level (next_axis axis) p c *ℤ (level (next_axis (next_axis axis)) p c *ℤ v))
-unfolding at_edge only
+unfolding at_edge
 edge_is X p v c = chosen (same_int c.x p.x) (same_int c.y p.y) (same_int c.z p.z) v
 edge_is Y p v c =
     chosen (same_int c.x p.x) (same_int c.y p.y) (same_int c.z p.z) v
@@ -95,7 +96,7 @@ flux_is : (side : ℕ) (q : ℤ) (s : Piece) (axis : Axis) (c : Spot)
     *ℤ simpson q (along axis s.to -ℤ along axis s.from)
     (edge_weight side (next_axis axis) s.from c) (edge_weight side (next_axis axis) s.to c)
     (edge_weight side (next_axis (next_axis axis)) s.from c) (edge_weight side (next_axis (next_axis axis)) s.to c)
-unfolding flux only
+unfolding flux
 flux_is side q s axis c =
     if_is (same_int (along axis c) (along axis s.cell))
     (simpson q (along axis s.to -ℤ along axis s.from)
@@ -129,10 +130,10 @@ corners_here side q s axis c inside =
     (weight false third s.from) (weight false third s.to) (weight true third s.from) (weight true third s.to)
     ∙ sym (λ i. level axis s.cell c
     *ℤ simpson q way
-    (two_hats side (along second s.cell) (along second c) (along second s.from) (inside.from second) i)
-    (two_hats side (along second s.cell) (along second c) (along second s.to) (inside.to second) i)
-    (two_hats side (along third s.cell) (along third c) (along third s.from) (inside.from third) i)
-    (two_hats side (along third s.cell) (along third c) (along third s.to) (inside.to third) i))
+    (face_hats side (along second s.cell) (along second c) (along second s.from) (inside.from second) i)
+    (face_hats side (along second s.cell) (along second c) (along second s.to) (inside.to second) i)
+    (face_hats side (along third s.cell) (along third c) (along third s.from) (inside.from third) i)
+    (face_hats side (along third s.cell) (along third c) (along third s.to) (inside.to third) i))
     ∙ sym (flux_is side q s axis c)
 
 -- at every edge the four corners say the flux along their axis

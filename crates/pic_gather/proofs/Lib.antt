@@ -1,5 +1,4 @@
 pub mod TwoTerms
 pub mod Nested
 pub mod Mixes
-pub mod Means
 pub mod Same

@@ -6,6 +6,7 @@ pub mod DifferenceLaws
 pub mod SumLaws
 pub mod OverLaws
 pub mod Hats
+pub mod TwoHats
 pub mod SlowSums
 pub mod Weights
 mod DifferenceRows

@@ -7,6 +7,7 @@ mod extents;
 mod lattices;
 mod laws;
 mod names;
+mod neighbours;
 mod nodes;
 mod numbering;
 mod slow;

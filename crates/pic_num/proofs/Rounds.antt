@@ -13,7 +13,7 @@ use mir.Val.{to_z}
 use Rattle.pic_num.specs.Sizes.{IsAtMost}
 use Rattle.pic_num.specs.Rounding.{IsRounded, rounded, scaled, IsTruncated, truncated, IsResidue, residue}
 use Rattle.pic_num.specs.Multiplier.{Multiplier}
-use Rattle.pic_num.proofs.Laws.{*ℤ_assoc}
+use Rattle.pic_num.proofs.Laws.{*ℤ_assoc, *ℤ-one}
 use Rattle.pic_num.proofs.Ring.{ring, reads}
 
 pub mul-le_mul : (a b d : ℤ) → a ≤ℤ b → pos 0 ≤ℤ d → (a *ℤ d) ≤ℤ (b *ℤ d)
@@ -263,3 +263,11 @@ unfolding scaled rounded
 scaled-shr v by =
     shr-floor (pos 2 *ℤ v *ℤ by.n +ℤ pos (2 ^ by.k)) by.k
     ∙ ap (λ (x : ℤ). int_div_euclid (x +ℤ pos (2 ^ by.k)) (pos 2 *ℤ pos (2 ^ by.k))) (*ℤ_assoc (pos 2) v by.n)
+
+-- so a rounding by a power of two is a shift
+pub rounded-shr : (n : ℤ) (k : ℕ) → shr_z (pos 2 *ℤ n +ℤ pos (2 ^ k)) (2 ^ (k + 1)) ≡ rounded n (pos (2 ^ k))
+unfolding scaled
+rounded-shr n k =
+    ap (λ (m : ℤ). shr_z (m +ℤ pos (2 ^ k)) (2 ^ (k + 1))) (sym (*ℤ-one (pos 2 *ℤ n)))
+    ∙ scaled-shr n (record { n = pos 1; k = k })
+    ∙ ap (λ (m : ℤ). rounded m (pos (2 ^ k))) (*ℤ-one n)

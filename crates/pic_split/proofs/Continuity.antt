@@ -20,7 +20,8 @@ use Rattle.pic_grid.specs.Places.{IsWithin}
 use Rattle.pic_grid.specs.Sums.{sum_over}
 use Rattle.pic_split.specs.Continuity.{Continuity}
 use Rattle.pic_split.specs.Moves.{IsMove, wrapped_point}
-use Rattle.pic_split.proofs.ContinuityHats.{only, onlys, shadow, IsNear, shadows_change, shadow_wrapped, shadow_inside, floor_near, moved_low, moved_high}
+use Rattle.pic_grid.proofs.TwoHats.{only}
+use Rattle.pic_split.proofs.ContinuityHats.{onlys, shadow, IsNear, shadows_change, shadow_wrapped, shadow_inside, floor_near, moved_low, moved_high}
 use Rattle.pic_split.proofs.ContinuityImages.{images_way, images_first, images_second, wrapped-add, wrapped-zero, div_e-add, div_e-zero}
 use Rattle.pic_split.proofs.Leading.{path_leads}
 

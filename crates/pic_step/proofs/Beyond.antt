@@ -21,7 +21,8 @@ use Rattle.pic_grid.specs.Sums.{sum_over}
 use Rattle.pic_grid.proofs.OverLaws.{sum_over_same}
 use Rattle.pic_charge.specs.Charge.{CanShare}
 use Rattle.pic_split.proofs.Leading.{path_leads}
-use Rattle.pic_split.proofs.ContinuityHats.{only, only_below, only_above, two_hats, IsNear}
+use Rattle.pic_grid.proofs.TwoHats.{only, only_below, only_above, two_hats}
+use Rattle.pic_split.proofs.ContinuityHats.{IsNear}
 use Rattle.pic_split.proofs.ContinuityImages.{wrapped-zero, wrapped-over}
 use Rattle.pic_split.proofs.Continuity.{IsNearGrid, near_cell, near_start, near_end}
 use Rattle.pic_step.specs.Sound.{AllCanShare}

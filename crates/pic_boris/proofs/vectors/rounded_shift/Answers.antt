@@ -5,7 +5,7 @@ use Rattle.pic_num.specs.Rounding.{rounded}
 use Rattle.pic_num.specs.Sizes.{IsAtMost}
 use Rattle.pic_num.proofs.Rounds.{shifted, power_size, power_above_zero, rounded-no_larger}
 use Rattle.pic_num.proofs.Sizes.{codes, code_is}
-use Rattle.pic_boris.proofs.Shifts.{rounded-shr}
+use Rattle.pic_num.proofs.Rounds.{rounded-shr}
 use Rattle.pic_boris.proofs.vectors.rounded_shift.Goals as goal
 
 pub returns : goal.returns

@@ -6,7 +6,7 @@ use Rattle.pic_num.specs.Rounding.{rounded}
 use Rattle.pic_num.specs.Sizes.{IsAtMost}
 use Rattle.pic_num.proofs.Rounds.{rounded-size}
 use Rattle.pic_num.proofs.Sizes.{codes, code_is}
-use Rattle.pic_gather.proofs.Means.{rounded-shr}
+use Rattle.pic_num.proofs.Rounds.{rounded-shr}
 use Rattle.pic_gather.proofs.mixing.mean.Goals as goal
 
 pub returns-clause-value : goal.returns-clause-value

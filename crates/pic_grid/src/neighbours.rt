@@ -1,0 +1,75 @@
+ghost use Rattle.std.specs.Prelude.{◌≡◌, ◌+◌, ◌-◌, ◌%◌, ◌<◌};
+ghost use Rattle.pic_num.specs.Space.{triple};
+ghost use Rattle.pic_grid.specs.Differences.{up, down};
+ghost use Rattle.pic_grid.specs.Places.{IsWithin};
+
+use crate::extents::Cells;
+use pic_num::Axis;
+
+impl Cells {
+    /// The next cell up an axis, periodically.
+    pub fn up(self, axis: Axis, cell: [u32; 3]) -> [u32; 3]
+        requires { IsWithin (triple cell) self }
+        ensures value { triple result ≡ up self axis (triple cell) }
+        ensures within { IsWithin (triple result) self }
+    {
+        let [nx, ny, nz] = self.n;
+        let [x, y, z] = cell;
+        match axis {
+            Axis::X => [after(nx, x), y, z],
+            Axis::Y => [x, after(ny, y), z],
+            Axis::Z => [x, y, after(nz, z)],
+        }
+    }
+
+    /// The next cell down an axis, periodically.
+    pub fn down(self, axis: Axis, cell: [u32; 3]) -> [u32; 3]
+        requires { IsWithin (triple cell) self }
+        ensures value { triple result ≡ down self axis (triple cell) }
+        ensures within { IsWithin (triple result) self }
+    {
+        let [nx, ny, nz] = self.n;
+        let [x, y, z] = cell;
+        match axis {
+            Axis::X => [before(nx, x), y, z],
+            Axis::Y => [x, before(ny, y), z],
+            Axis::Z => [x, y, before(nz, z)],
+        }
+    }
+}
+
+/// The number after `number`, modulo `count`.
+fn after(count: u32, number: u32) -> u32
+    requires { number < count }
+    ensures value { result ≡ (number + 1) % count }
+    ensures below { result < count }
+{
+    if number + 1 == count { 0 } else { number + 1 }
+}
+
+/// The number before `number`, modulo `count`.
+fn before(count: u32, number: u32) -> u32
+    requires { number < count }
+    ensures value { result ≡ (number + (count - 1)) % count }
+    ensures below { result < count }
+{
+    if number == 0 { count - 1 } else { number - 1 }
+}
+
+#[cfg(test)]
+mod tests {
+    use super::*;
+
+    #[test]
+    fn cells_follow_each_other_round_an_axis(rt: HostRuntime) {
+        let cells = Cells::new([2, 3, 4]);
+        for (axis, cell, up, down) in [
+            (Axis::X, [1, 2, 3], [0, 2, 3], [0, 2, 3]),
+            (Axis::Y, [1, 2, 3], [1, 0, 3], [1, 1, 3]),
+            (Axis::Z, [1, 2, 0], [1, 2, 1], [1, 2, 3]),
+        ] {
+            assert_eq!(rt; cells.up(axis, cell), up);
+            assert_eq!(rt; cells.down(axis, cell), down);
+        }
+    }
+}
