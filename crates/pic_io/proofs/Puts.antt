@@ -1,5 +1,5 @@
 -- Puts, one after another, on one sink and on two.
-use Rattle.std.proofs.Common.{◌≡◌, ℕ, ◌+◌, ◌<◌, ◌≤◌, List, [], ◌∷◌, ◌++◌, length, get_or, take, drop, replicate, Option, Some, None, Result, Ok, Err, refl, ap, sym, subst, ◌∙◌, append_assoc, append-nil, arith, take-append-drop}
+use Rattle.std.proofs.Common.{◌≡◌, ℕ, ◌+◌, ◌<◌, ◌≤◌, List, [], ◌∷◌, ◌++◌, length, get_or, take, drop, replicate, Option, Some, None, Result, Ok, Err, inl, inr, refl, ap, sym, subst, ◌∙◌, append_assoc, append-nil, arith, take-append-drop}
 use Rattle.std.specs.Prelude.{IsOk, flat_map}
 use Rattle.std.proofs.lemmas.List.{take_more, take-replicate, get_or-replicate, length-replicate, replicate-append-replicate}
 use Rattle.std.proofs.lemmas.Grind.{flat_map-append}
@@ -7,7 +7,7 @@ use Rattle.std.proofs.Math.Nat.{le_trans}
 use Rattle.std.proofs.Math.Seq.{take-add, take-append_seam, drop-append_seam, take-length}
 use Rattle.pic_io.specs.Told.{Told, raised, Rose, Calm, Quiet, HasCause}
 use Rattle.pic_io.specs.Sink.{with_back, Appended, AppendedFront, Puts}
-use Rattle.pic_io.specs.Sinks.{Sinks, sinks, Wrote, FailedAt, CutAt, Writes, QuietSinks}
+use Rattle.pic_io.specs.Sinks.{Sinks, sinks, Wrote, FailedAt, Piece, outs, lines, Front, IsCut, CutAt, Writes, LineCut, WritesLine}
 use Rattle.pic_io.specs.declared.outside.Side.{Side}
 use Rattle.pic_io.specs.declared.outside.Side.TheVariants.{Out, Report}
 
@@ -153,14 +153,6 @@ wrote_out o p r x put calm = record { out = put; report = appended_none r; calm_
 pub wrote_report : (o r s : Told) (x : List ℕ) → Appended r s x → Calm r s → Wrote (sinks o r) (sinks o s) [] x
 wrote_report o r s x put calm = record { out = appended_none o; report = put; calm_out = refl; calm_report = calm }
 
--- a text put on out, cut
-pub cut_out : (o p r : Told) (x : List ℕ) → AppendedFront o p x → Rose o p → CutAt Out (sinks o r) (sinks p r) x []
-cut_out o p r x put rose = record { failed = (rose, refl); out = put; report = front_none r [] }
-
--- a line put on the report, cut
-pub cut_report : (o r s : Told) (x : List ℕ) → AppendedFront r s x → Rose r s → CutAt Report (sinks o r) (sinks o s) [] x
-cut_report o r s x put rose = record { failed = (rose, refl); out = front_none o []; report = put }
-
 -- a put that failed after texts that stand failed since their start
 failed_after : (side : Side) (a b c : Sinks) → Calm a.out b.out → Calm a.report b.report → FailedAt side b c → FailedAt side a c
 failed_after Out a b c out report failed =
@@ -168,29 +160,86 @@ failed_after Out a b c out report failed =
 failed_after Report a b c out report failed =
     (subst (λ n. raised n ≤ c.report.faults) report failed.0, failed.1 ∙ out)
 
-pub cut_after : (side : Side) (a b c : Sinks) (x r y s : List ℕ) → Wrote a b x r → CutAt side b c y s → CutAt side a c (x ++ y) (r ++ s)
-cut_after side a b c x r y s first second = record {
-  failed = failed_after side a b c first.calm_out first.calm_report second.failed;
-  out = front_after a.out b.out c.out x y first.out second.out;
-  report = front_after a.report b.report c.report r s first.report second.report;
+-- where pieces are cut, a put failed
+pub cut_failed : (side : Side) (a b : Sinks) (ps : List Piece) → CutAt side a b ps → FailedAt side a b
+cut_failed side a b [] cut = absurd cut
+cut_failed side a b (p ∷ ps) (inl cut) = cut.failed
+cut_failed side a b (p ∷ ps) (inr later) =
+    failed_after side a later.0 b later.1.calm_out later.1.calm_report (cut_failed side later.0 b ps later.2)
+
+-- pieces that are cut, with others behind them
+pub cut_more : (side : Side) (a b : Sinks) (ps qs : List Piece) → CutAt side a b ps → CutAt side a b (ps ++ qs)
+cut_more side a b [] qs cut = absurd cut
+cut_more side a b (p ∷ ps) qs (inl cut) = inl cut
+cut_more side a b (p ∷ ps) qs (inr later) = inr (later.0, later.1, cut_more side later.0 b ps qs later.2)
+
+-- a cut after nothing
+front_from : (side : Side) (a b c : Sinks) (p : Piece) → Wrote a b [] [] → Front side b c p → Front side a c p
+front_from Out a b c p none front =
+    (front_after a.out b.out c.out [] p.out none.out front.0, appended_twice a.report b.report c.report [] [] none.report front.1)
+front_from Report a b c p none front =
+    (appended_twice a.out b.out c.out [] p.out none.out front.0, front_after a.report b.report c.report [] p.line none.report front.1)
+
+pub cut_from : (side : Side) (a b c : Sinks) (ps : List Piece) → Wrote a b [] [] → CutAt side b c ps → CutAt side a c ps
+cut_from side a b c [] none cut = absurd cut
+cut_from side a b c (p ∷ ps) none (inl cut) = inl (record {
+  failed = failed_after side a b c none.calm_out none.calm_report cut.failed;
+  front = front_from side a b c p none cut.front;
+})
+cut_from side a b c (p ∷ ps) none (inr later) =
+    inr (later.0, wrote_twice a b later.0 [] [] p.out p.line none later.1, later.2)
+
+-- what stands after a piece
+abbrev after_piece : Sinks → Piece → Sinks
+after_piece a p = record {
+  out = record { bytes = with_back a.out.bytes p.out; faults = a.out.faults };
+  report = record { bytes = with_back a.report.bytes p.line; faults = a.report.faults };
 }
 
-pub cut_of_more : (side : Side) (a b : Sinks) (x r y s : List ℕ) → CutAt side a b x r → CutAt side a b (x ++ y) (r ++ s)
-cut_of_more side a b x r y s cut = record {
-  failed = cut.failed;
-  out = front_of_more a.out b.out x y cut.out;
-  report = front_of_more a.report b.report r s cut.report;
+wrote_piece : (a : Sinks) (p : Piece) → Wrote a (after_piece a p) p.out p.line
+wrote_piece a p = record { out = refl; report = refl; calm_out = refl; calm_report = refl }
+
+wrote_rest : (a b : Sinks) (p : Piece) (x r : List ℕ) → Wrote a b (p.out ++ x) (p.line ++ r) → Wrote (after_piece a p) b x r
+wrote_rest a b p x r both = record {
+  out = both.out ∙ sym (with_back_twice a.out.bytes p.out x);
+  report = both.report ∙ sym (with_back_twice a.report.bytes p.line r);
+  calm_out = both.calm_out;
+  calm_report = both.calm_report;
 }
 
--- a call that writes after texts that stand
-pub writes_after : {T : Type 0} (a b c : Sinks) (x r y s : List ℕ) (result : Result T Side)
-    → Wrote a b x r → Writes b c y s result → Writes a c (x ++ y) (r ++ s) result
-writes_after a b c x r y s (Ok _) first second = wrote_twice a b c x r y s first second
-writes_after a b c x r y s (Err side) first second = cut_after side a b c x r y s first second
+-- a cut after pieces that stand
+pub cut_later : (side : Side) (a b c : Sinks) (ps qs : List Piece) → Wrote a b (outs ps) (lines ps) → CutAt side b c qs → CutAt side a c (ps ++ qs)
+cut_later side a b c [] qs first second = cut_from side a b c qs first second
+cut_later side a b c (p ∷ ps) qs first second =
+    inr (after_piece a p, wrote_piece a p, cut_later side (after_piece a p) b c ps qs (wrote_rest a b p (outs ps) (lines ps) first) second)
 
--- where no fault can be blamed on either sink, both texts are whole
-pub wrote_where_quiet : {T : Type 0} (a b : Sinks) (x r : List ℕ) (result : Result T Side)
-    → Writes a b x r result → QuietSinks a b → Wrote a b x r
-wrote_where_quiet a b x r (Ok _) wrote quiet = wrote
-wrote_where_quiet a b x r (Err Out) cut quiet = absurd (quiet.out cut.failed.0)
-wrote_where_quiet a b x r (Err Report) cut quiet = absurd (quiet.report cut.failed.0)
+-- the text of a piece was cut on out
+pub cut_out : (o p r : Told) (piece : Piece) (others : List Piece) → AppendedFront o p piece.out → Rose o p → CutAt Out (sinks o r) (sinks p r) (piece ∷ others)
+cut_out o p r piece others put rose = inl (record { failed = (rose, refl); front = (put, appended_none r) })
+
+-- the text of a piece stands on out, and its line on report, or a front of it
+pub line_after : {T : Type 0} (o p r s : Told) (piece : Piece) (result : Result T Side) → Appended o p piece.out → Calm o p
+    → WritesLine r s piece.line result → Writes (sinks o r) (sinks p s) (piece ∷ []) result
+line_after o p r s piece (Ok _) put calm line = record {
+  out = put ∙ ap (λ t. with_back o.bytes t) (sym (append-nil piece.out));
+  report = line.0 ∙ ap (λ t. with_back r.bytes t) (sym (append-nil piece.line));
+  calm_out = calm;
+  calm_report = line.1;
+}
+line_after o p r s piece (Err Out) put calm line = absurd line
+line_after o p r s piece (Err Report) put calm line = inl (record { failed = (line.1, calm); front = (put, line.0) })
+
+-- a line put in two parts
+pub line_cut_after : (side : Side) (a b c : Told) (x y : List ℕ) → Appended a b x × Calm a b → LineCut side b c y → LineCut side a c (x ++ y)
+line_cut_after Out a b c x y first second = second
+line_cut_after Report a b c x y first second =
+    (front_after a b c x y first.0 second.0, subst (λ n. raised n ≤ c.faults) first.1 second.1)
+
+pub line_cut_more : (side : Side) (a b : Told) (x y : List ℕ) → LineCut side a b x → LineCut side a b (x ++ y)
+line_cut_more Out a b x y cut = cut
+line_cut_more Report a b x y cut = (front_of_more a b x y cut.0, cut.1)
+
+pub lines_after : {T : Type 0} (a b c : Told) (x y : List ℕ) (result : Result T Side)
+    → Appended a b x × Calm a b → WritesLine b c y result → WritesLine a c (x ++ y) result
+lines_after a b c x y (Ok _) first second = (appended_twice a b c x y first.0 second.0, second.1 ∙ first.1)
+lines_after a b c x y (Err side) first second = line_cut_after side a b c x y first second

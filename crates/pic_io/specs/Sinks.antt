@@ -1,4 +1,5 @@
-use Rattle.std.specs.Prelude.{ℕ, List, Result, Ok, Err}
+use Rattle.std.specs.Prelude.{ℕ, List, [], ◌∷◌, ◌⊎◌, Result, Ok, Err}
+use Rattle.std.specs.List.{flat_map}
 use Rattle.pic_io.specs.Told.{Told, Rose, Calm, Quiet}
 use Rattle.pic_io.specs.Sink.{Appended, AppendedFront}
 use Rattle.pic_io.specs.declared.outside.Side.{Side}
@@ -25,16 +26,50 @@ abbrev pub FailedAt : Side → Sinks → Sinks → Type 0
 FailedAt Out before now = Rose before.out now.out × Calm before.report now.report
 FailedAt Report before now = Rose before.report now.report × Calm before.out now.out
 
--- a put failed on this side, and each sink has a front of its text
-pub record CutAt (side : Side) (before now : Sinks) (text line : List ℕ) : Type 0 where
-  pub failed : FailedAt side before now
-  pub out : AppendedFront before.out now.out text
-  pub report : AppendedFront before.report now.report line
+-- a text for out, and the line for report that follows it
+pub record Piece : Type 0 where
+  pub out : List ℕ
+  pub line : List ℕ
 
--- what a call that writes both texts does: at Ok both are whole, and Err names the side that failed
-abbrev pub Writes : {T : Type 0} → Sinks → Sinks → List ℕ → List ℕ → Result T Side → Type 0
-Writes before now text line (Ok _) = Wrote before now text line
-Writes before now text line (Err side) = CutAt side before now text line
+-- what some pieces put on out
+abbrev pub outs : List Piece → List ℕ
+outs pieces = flat_map (λ piece. piece.out) pieces
+
+-- their lines
+abbrev pub lines : List Piece → List ℕ
+lines pieces = flat_map (λ piece. piece.line) pieces
+
+-- how far a piece came whose put failed: a front of its text, and no line, or its whole text, and a
+-- front of its line
+abbrev pub Front : Side → Sinks → Sinks → Piece → Type 0
+Front Out before now p = AppendedFront before.out now.out p.out × Appended before.report now.report []
+Front Report before now p = Appended before.out now.out p.out × AppendedFront before.report now.report p.line
+
+-- a put of this piece failed on this side
+pub record IsCut (side : Side) (before now : Sinks) (p : Piece) : Type 0 where
+  pub failed : FailedAt side before now
+  pub front : Front side before now p
+
+-- pieces were put one after another until a put failed on this side, and nothing after it: the first
+-- piece is cut, or it is whole and the others are cut
+abbrev pub CutAt : Side → Sinks → Sinks → List Piece → Type 0
+CutAt side before now [] = ⊥
+CutAt side before now (p ∷ ps) = IsCut side before now p ⊎ ((mid : Sinks) × Wrote before mid p.out p.line × CutAt side mid now ps)
+
+-- what a call that puts pieces does: at Ok all are whole, and Err names the side that failed
+abbrev pub Writes : {T : Type 0} → Sinks → Sinks → List Piece → Result T Side → Type 0
+Writes before now pieces (Ok _) = Wrote before now (outs pieces) (lines pieces)
+Writes before now pieces (Err side) = CutAt side before now pieces
+
+-- a put of a line failed, on the report alone
+abbrev pub LineCut : Side → Told → Told → List ℕ → Type 0
+LineCut Out before now line = ⊥
+LineCut Report before now line = AppendedFront before now line × Rose before now
+
+-- what a call that puts a line on the report does
+abbrev pub WritesLine : {T : Type 0} → Told → Told → List ℕ → Result T Side → Type 0
+WritesLine before now line (Ok _) = Appended before now line × Calm before now
+WritesLine before now line (Err side) = LineCut side before now line
 
 -- no fault can be blamed on either sink
 pub record QuietSinks (before now : Sinks) : Type 0 where

@@ -28,8 +28,9 @@ use Rattle.pic_run.specs.declared.ended.Ended.TheVariants.{Done, Checked, Stoppe
 use Rattle.pic_run.specs.Frames.{end_where, end_of}
 use Rattle.pic_run.specs.Reading.{deck_limit, Gave}
 use Rattle.pic_run.specs.Starting.{first_state, break_of}
-use Rattle.pic_run.specs.Outcome.{Outcome, answer_of, sound_outcome, tested_outcome, outcome, deck_outcome, source_outcome, command_outcome}
+use Rattle.pic_run.specs.Outcome.{Outcome, pieces_of, answer_of, sound_outcome, tested_outcome, outcome, deck_outcome, source_outcome, command_outcome}
 use Rattle.pic_run.specs.Ends.{Fulfils, HasFrames, IsPlain, EndsAs, ReadsToEnd, SoundDeck, SoundInput, Ends, IsComplete, Held, IsRefused, IsBroken, IsChecked, IsDone, IsStopped, IsStarved, Explains}
+use Rattle.pic_io.proofs.Puts.{cut_failed}
 use Rattle.pic_run.proofs.RunLaws.{none_of_none}
 use Rattle.pic_run.proofs.EveryState.{each_gauss}
 use Rattle.pic_run.proofs.Starts.{gauss_of}
@@ -48,7 +49,7 @@ fulfilled o before now Usage ends quiet = inr ends
 fulfilled o before now (Refused refusal) ends quiet = inr ends
 fulfilled o before now (Gauss b) ends quiet = inr ends
 fulfilled o before now ReadFault ends quiet = inr ends
-fulfilled o before now (WriteFault side) ends quiet = absurd (failed_quiet side before now ends.failed quiet)
+fulfilled o before now (WriteFault side) ends quiet = absurd (failed_quiet side before now (cut_failed side before now (pieces_of o) ends) quiet)
 fulfilled o before now NoMemory ends quiet = inl refl
 
 -- what holds for the held bytes holds for those that the source tells
@@ -476,4 +477,5 @@ explains words source source' before now ended ends = record {
 pub write_fault_of : (words : List (List ℕ)) (source source' : Told) (before now : Sinks) (ended : Ended)
     → Ends words source source' before now ended → (side : Side) → ended ≡ WriteFault side → FailedAt side before now
 write_fault_of words source source' before now ended ends side is =
-    let cut : EndsAs (outcome words ends.input) before now (WriteFault side) = subst (EndsAs (outcome words ends.input) before now) is ends.as_outcome in cut.failed
+    let cut : EndsAs (outcome words ends.input) before now (WriteFault side) = subst (EndsAs (outcome words ends.input) before now) is ends.as_outcome in
+    cut_failed side before now (pieces_of (outcome words ends.input)) cut

@@ -4,14 +4,14 @@ use Rattle.std.specs.List.{flat_map, range_with_len}
 use Rattle.std.proofs.lemmas.Grind.{flat_map-append}
 use Rattle.std.proofs.Math.Seq.{take-append_seam}
 use Rattle.pic_io.specs.declared.outside.Side.{Side}
-use Rattle.pic_io.specs.Sinks.{Sinks, Wrote, CutAt}
-use Rattle.pic_io.proofs.Puts.{wrote_twice, cut_after, cut_of_more}
+use Rattle.pic_io.specs.Sinks.{Sinks, Wrote, Piece, outs, lines, CutAt}
+use Rattle.pic_io.proofs.Puts.{wrote_twice, cut_more, cut_later}
 use Rattle.pic_grid.specs.declared.stops.EndMark.{EndMark}
 use Rattle.pic_grid.specs.declared.stops.EndMark.TheVariants.{Done, Stopped}
 use Rattle.pic_grid.specs.declared.stops.Stop.{Stop}
 use Rattle.pic_step.specs.SerialStep.{World, stepped}
 use Rattle.pic_step.specs.SerialRun.{after, step_from, stopped_in}
-use Rattle.pic_run.specs.Frames.{Piece, outs, lines, is_due, due_frame, frame_where, frame_after, frames_from, frames_of, end_where, end_of}
+use Rattle.pic_run.specs.Frames.{is_due, due_frame, frame_where, frame_after, frames_from, frames_of, end_where, end_of}
 use Rattle.pic_run.specs.Ends.{HasFrames}
 use Rattle.pic_run.specs.Runs.{WroteFrames}
 
@@ -110,23 +110,6 @@ pieces_wrote a b c ps qs first second =
     (subst (λ (y : List ℕ). Wrote a c (outs ps ++ outs qs) y) line
     (wrote_twice a b c (outs ps) (lines ps) (outs qs) (lines qs) first second))
 
-pieces_cut : (side : Side) (a b : Sinks) (ps qs : List Piece) → CutAt side a b (outs ps) (lines ps) → CutAt side a b (outs (ps ++ qs)) (lines (ps ++ qs))
-pieces_cut side a b ps qs cut =
-    let out = sym (flat_map-append (λ (p : Piece). p.out) ps qs) in
-    let line = sym (flat_map-append (λ (p : Piece). p.line) ps qs) in
-    subst (λ (x : List ℕ). CutAt side a b x (lines (ps ++ qs))) out
-    (subst (λ (y : List ℕ). CutAt side a b (outs ps ++ outs qs) y) line
-    (cut_of_more side a b (outs ps) (lines ps) (outs qs) (lines qs) cut))
-
-pieces_cut_after : (side : Side) (a b c : Sinks) (ps qs : List Piece) → Wrote a b (outs ps) (lines ps) → CutAt side b c (outs qs) (lines qs)
-    → CutAt side a c (outs (ps ++ qs)) (lines (ps ++ qs))
-pieces_cut_after side a b c ps qs first second =
-    let out = sym (flat_map-append (λ (p : Piece). p.out) ps qs) in
-    let line = sym (flat_map-append (λ (p : Piece). p.line) ps qs) in
-    subst (λ (x : List ℕ). CutAt side a c x (lines (ps ++ qs))) out
-    (subst (λ (y : List ℕ). CutAt side a c (outs ps ++ outs qs) y) line
-    (cut_after side a b c (outs ps) (lines ps) (outs qs) (lines qs) first second))
-
 -- the frames before a state were written, and then the frame of the state, where it is due
 pub more_written : (steps every : ℕ) (w v : World) (n : ℕ) (a b c : Sinks) → after w n ≡ Ok v
     → Wrote a b (outs (frames_from steps every w 0 n)) (lines (frames_from steps every w 0 n))
@@ -140,13 +123,13 @@ more_written steps every w v n a b c reached first second =
 -- the frame of the state was cut
 pub more_cut : (side : Side) (steps every : ℕ) (w v : World) (n : ℕ) (a b c : Sinks) → n ≤ steps → after w n ≡ Ok v
     → Wrote a b (outs (frames_from steps every w 0 n)) (lines (frames_from steps every w 0 n))
-    → CutAt side b c (outs (due_frame (is_due steps every n) n v)) (lines (due_frame (is_due steps every n) n v))
-    → CutAt side a c (outs (frames_of steps every w)) (lines (frames_of steps every w))
+    → CutAt side b c (due_frame (is_due steps every n) n v)
+    → CutAt side a c (frames_of steps every w)
 more_cut side steps every w v n a b c most reached first second =
     let parts = frames_parts steps every w v n most reached in
-    subst (λ (ps : List Piece). CutAt side a c (outs ps) (lines ps)) parts.1
-    (pieces_cut side a c (frames_from steps every w 0 n ++ due_frame (is_due steps every n) n v) parts.0
-    (pieces_cut_after side a b c (frames_from steps every w 0 n) (due_frame (is_due steps every n) n v) first second))
+    subst (λ (ps : List Piece). CutAt side a c ps) parts.1
+    (cut_more side a c (frames_from steps every w 0 n ++ due_frame (is_due steps every n) n v) parts.0
+    (cut_later side a b c (frames_from steps every w 0 n) (due_frame (is_due steps every n) n v) first second))
 
 -- no frame was written yet
 pub none_written : (steps every : ℕ) (w : World) (a : Sinks) → Wrote a a [] []

@@ -1,6 +1,5 @@
 pub mod Printed
 pub mod Taken
-pub mod Texts
 pub mod FrameLaws
 pub mod RunLaws
 pub mod Starts

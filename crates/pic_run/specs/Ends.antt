@@ -2,7 +2,7 @@
 use Rattle.std.specs.Prelude.{◌≡◌, ℕ, ◌≤◌, ◌⊎◌, List, [], ◌++◌, length, take, Option, Some, None, Ok, Err, IfSome, IsSome, IsOk, ⊤}
 use Rattle.pic_io.specs.Told.{Told, Rose, Calm, Quiet}
 use Rattle.pic_io.specs.Source.{IsAtEnd}
-use Rattle.pic_io.specs.Sinks.{Sinks, Wrote, CutAt, QuietSinks}
+use Rattle.pic_io.specs.Sinks.{Sinks, Wrote, Piece, outs, lines, CutAt, QuietSinks}
 use Rattle.pic_grid.specs.declared.stops.EndMark.TheVariants.{Stopped as EndStopped}
 use Rattle.pic_grid.specs.declared.stops.Stop.{Stop}
 use Rattle.pic_grid.specs.Differences.{div_e}
@@ -22,10 +22,9 @@ use Rattle.pic_run.specs.declared.ended.Ended.{Ended}
 use Rattle.pic_run.specs.declared.ended.Ended.TheVariants.{Done, Checked, Stopped, Usage, Refused, Gauss, ReadFault, WriteFault, NoMemory}
 use Rattle.pic_run.specs.declared.commands.Command.TheVariants.{Check, Run}
 use Rattle.pic_run.specs.Commands.{command_of}
-use Rattle.pic_run.specs.Frames.{Piece, outs, lines}
 use Rattle.pic_run.specs.Reading.{deck_limit, Gave}
 use Rattle.pic_run.specs.Starting.{first_state, IsGauss, EachGauss}
-use Rattle.pic_run.specs.Outcome.{Outcome, outcome, out_text, report_text}
+use Rattle.pic_run.specs.Outcome.{Outcome, outcome, out_text, report_text, pieces_of}
 
 -- the outcome's answer, and both its texts whole
 pub record Fulfils (o : Outcome) (before now : Sinks) (ended : Ended) : Type 0 where
@@ -42,10 +41,10 @@ pub record HasFrames (head : List ℕ) (frames : List Piece) (before now : Sinks
 abbrev pub Starves : Outcome → Sinks → Sinks → Type 0
 Starves o before now = Wrote before now [] [] ⊎ HasFrames o.head o.frames before now
 
--- A write fault leaves a front of each text, and want of memory leaves nothing or whole frames. Every
--- other answer is the outcome's, with its texts.
+-- After a write fault the pieces stand up to the put that failed, and nothing of what follows. Want of
+-- memory leaves nothing or whole frames. Every other answer is the outcome's, with its texts.
 abbrev pub EndsAs : Outcome → Sinks → Sinks → Ended → Type 0
-EndsAs o before now (WriteFault side) = CutAt side before now (out_text o) (report_text o)
+EndsAs o before now (WriteFault side) = CutAt side before now (pieces_of o)
 EndsAs o before now NoMemory = Starves o before now
 EndsAs o before now answer = Fulfils o before now answer
 

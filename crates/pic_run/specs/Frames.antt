@@ -1,6 +1,7 @@
 -- The frames of a run, each with its line, and how the run ends: this project's profile.
 use Rattle.std.specs.Prelude.{ℕ, ◌+◌, ◌%◌, ◌==◌, ◌||◌, Bool, List, [], ◌∷◌, if◌then◌else◌, Result, Ok, Err}
 use Rattle.std.specs.List.{flat_map, range_with_len}
+use Rattle.pic_io.specs.Sinks.{Piece}
 use Rattle.pic_grid.specs.declared.stops.EndMark.{EndMark}
 use Rattle.pic_grid.specs.declared.stops.EndMark.TheVariants.{Done}
 use Rattle.pic_energy.specs.declared.amounts.Energies.{Energies}
@@ -9,19 +10,6 @@ use Rattle.pic_energy.specs.Lines.{frame_line, end_line}
 use Rattle.pic_dump.specs.DumpText.{frame_bytes, end_bytes}
 use Rattle.pic_step.specs.SerialStep.{World}
 use Rattle.pic_step.specs.SerialRun.{after}
-
--- what goes to out at once, and the line that follows it on report
-pub record Piece : Type 0 where
-  pub out : List ℕ
-  pub line : List ℕ
-
--- what some pieces put on out
-abbrev pub outs : List Piece → List ℕ
-outs pieces = flat_map (λ piece. piece.out) pieces
-
--- their lines
-abbrev pub lines : List Piece → List ℕ
-lines pieces = flat_map (λ piece. piece.line) pieces
 
 -- the energies of a state
 abbrev pub energies_in : World → Energies

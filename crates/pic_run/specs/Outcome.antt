@@ -1,6 +1,7 @@
 -- The outcome of a command, from its words and what its source held: the answer, the text on out
 -- and the text on report. Every answer but a write fault and want of memory is the outcome's.
-use Rattle.std.specs.Prelude.{ℕ, List, [], ◌++◌, length, take, Option, Some, None, Ok, Err}
+use Rattle.std.specs.Prelude.{ℕ, List, [], ◌∷◌, ◌++◌, length, take, Option, Some, None, Ok, Err}
+use Rattle.pic_io.specs.Sinks.{Piece, outs, lines}
 use Rattle.pic_walk.specs.Walk.{Walked}
 use Rattle.pic_grid.specs.declared.stops.EndMark.{EndMark}
 use Rattle.pic_grid.specs.declared.stops.EndMark.TheVariants.{Done as EndDone, Stopped as EndStopped}
@@ -15,7 +16,7 @@ use Rattle.pic_run.specs.declared.ended.Ended.TheVariants.{Done, Checked, Stoppe
 use Rattle.pic_run.specs.declared.commands.Command.{Command}
 use Rattle.pic_run.specs.declared.commands.Command.TheVariants.{Check, Run}
 use Rattle.pic_run.specs.Commands.{command_of}
-use Rattle.pic_run.specs.Frames.{Piece, outs, lines, frames_of, end_of, end_piece}
+use Rattle.pic_run.specs.Frames.{frames_of, end_of, end_piece}
 use Rattle.pic_run.specs.Lines.{check_line, gauss_line, usage_line, read_fault_line, refused_line}
 use Rattle.pic_run.specs.Reading.{deck_limit}
 use Rattle.pic_run.specs.Starting.{first_state, break_of, header_of}
@@ -32,6 +33,14 @@ out_text o = o.head ++ outs o.frames ++ o.last.out
 
 abbrev pub report_text : Outcome → List ℕ
 report_text o = lines o.frames ++ o.last.line
+
+-- the pieces in their order: the head, where there is one, then the frames, then what comes last
+abbrev pub with_head : List ℕ → List Piece → List Piece
+with_head [] pieces = pieces
+with_head (byte ∷ head) pieces = record { out = byte ∷ head; line = [] } ∷ pieces
+
+abbrev pub pieces_of : Outcome → List Piece
+pieces_of o = with_head o.head (o.frames ++ o.last ∷ [])
 
 -- nothing on out, and one line on report
 abbrev pub line_alone : Ended → List ℕ → Outcome

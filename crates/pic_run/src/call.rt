@@ -36,7 +36,6 @@ use std::alloc::Global;
 ///
 /// `ends` says it all: what the call answers and what it puts on its sinks is the outcome of the
 /// words and of what the source held. The other clauses follow from it.
-#[tactic(auto, using(crate::proofs::Answers::complete_of, crate::proofs::Answers::write_fault_of))]
 pub fn pic<S: Source, O: Sink, R: Sink>(
     alloc: Global,
     words: &[String],

@@ -1,7 +1,7 @@
-ghost use Rattle.std.specs.Prelude.{◌≡◌, ◌≤◌};
+ghost use Rattle.std.specs.Prelude.{◌≡◌, ◌≤◌, [], ◌∷◌};
 ghost use Rattle.pic_io.specs.Sinks.{sinks, Writes};
 ghost use Rattle.pic_step.specs.Sound.{IsSound};
-ghost use Rattle.pic_run.specs.Frames.{frame_piece, due_frame, is_due, energies_in, outs, lines};
+ghost use Rattle.pic_run.specs.Frames.{frame_piece, due_frame, is_due, energies_in};
 ghost use Rattle.pic_run.specs.Rooms.{HasRoom, IsFilled};
 
 use crate::writing::put_line;
@@ -30,7 +30,7 @@ pub fn write_due<O: Sink, R: Sink>(
 ) -> Result<(), Side>
     requires { HasRoom room.old state.now }
     ensures writes { Writes (sinks (O.told out.old) (R.told report.old)) (sinks (O.told out.new) (R.told report.new))
-        (outs (due_frame due step state.now)) (lines (due_frame due step state.now)) result }
+        (due_frame due step state.now) result }
     ensures room { HasRoom room.new state.now }
 {
     if due {
@@ -50,7 +50,7 @@ fn write_frame<O: Sink, R: Sink>(
 ) -> Result<(), Side>
     requires { HasRoom room.old state.now }
     ensures writes { Writes (sinks (O.told out.old) (R.told report.old)) (sinks (O.told out.new) (R.told report.new))
-        (frame_piece step state.now).out (frame_piece step state.now).line result }
+        (frame_piece step state.now ∷ []) result }
     ensures room { HasRoom room.new state.now }
 {
     state.fill(room);

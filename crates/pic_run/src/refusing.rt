@@ -1,7 +1,6 @@
-ghost use Rattle.std.specs.Prelude.{◌≡◌, [], ◌++◌};
+ghost use Rattle.std.specs.Prelude.{◌≡◌, ◌++◌};
 ghost use Rattle.pic_walk.specs.declared.faults.Refusal.TheVariants.{Limit};
-ghost use Rattle.pic_io.specs.Told.{Told};
-ghost use Rattle.pic_io.specs.Sinks.{sinks, Writes};
+ghost use Rattle.pic_io.specs.Sinks.{WritesLine};
 ghost use Rattle.pic_run.specs.Lines.{printed_char, printed_path, path_line, refused_line};
 
 use crate::lines::tail_of_limit;
@@ -12,7 +11,7 @@ use pic_io::{Side, Sink};
 /// Puts the line of a deck that is refused on the report. It takes no memory, however long the path.
 #[tactic(auto, unfolding(crate::specs::Lines::refused_line))]
 pub fn put_refusal<R: Sink>(report: &mut R, refusal: &Refusal) -> Result<(), Side>
-    ensures { (o : Told) → Writes (sinks o (R.told report.old)) (sinks o (R.told report.new)) [] (refused_line refusal.now) result }
+    ensures { WritesLine (R.told report.old) (R.told report.new) (refused_line refusal.now) result }
 {
     match refusal {
         Refusal::Text => put_line(report, b"refused 1 text\n"),
@@ -37,7 +36,7 @@ fn put_limit<R: Sink>(
     low: i128,
     high: i128,
 ) -> Result<(), Side>
-    ensures { (o : Told) → Writes (sinks o (R.told report.old)) (sinks o (R.told report.new)) [] (refused_line (Limit path.now value low high)) result }
+    ensures { WritesLine (R.told report.old) (R.told report.new) (refused_line (Limit path.now value low high)) result }
 {
     let tail = tail_of_limit(value, low, high);
     put_path_line(report, b"refused 5 limit ", path, tail.bytes())
@@ -50,14 +49,14 @@ fn put_path_line<R: Sink>(
     path: &KeyPath,
     tail: &[u8],
 ) -> Result<(), Side>
-    ensures { (o : Told) → Writes (sinks o (R.told report.old)) (sinks o (R.told report.new)) [] (path_line head.now path.now tail.now) result }
+    ensures { WritesLine (R.told report.old) (R.told report.new) (path_line head.now path.now tail.now) result }
 {
     put_line(report, head)?;
     put_path_then(report, path, tail)
 }
 
 fn put_path_then<R: Sink>(report: &mut R, path: &KeyPath, tail: &[u8]) -> Result<(), Side>
-    ensures { (o : Told) → Writes (sinks o (R.told report.old)) (sinks o (R.told report.new)) [] (printed_path path.now ++ tail.now) result }
+    ensures { WritesLine (R.told report.old) (R.told report.new) (printed_path path.now ++ tail.now) result }
 {
     put_path(report, path.as_str())?;
     put_line(report, tail)
@@ -65,7 +64,7 @@ fn put_path_then<R: Sink>(report: &mut R, path: &KeyPath, tail: &[u8]) -> Result
 
 // The path, each character outside `!` to `~` as `?`.
 fn put_path<R: Sink>(report: &mut R, path: &str) -> Result<(), Side>
-    ensures { (o : Told) → Writes (sinks o (R.told report.old)) (sinks o (R.told report.new)) [] (printed_path path.now) result }
+    ensures { WritesLine (R.told report.old) (R.told report.new) (printed_path path.now) result }
 {
     for c in path.chars() {
         put_line(report, &[printed_char(c)])?;

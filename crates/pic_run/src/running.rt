@@ -1,12 +1,10 @@
-ghost use Rattle.std.specs.Prelude.{◌≡◌, ◌≤◌, [], IfOk};
+ghost use Rattle.std.specs.Prelude.{◌≡◌, ◌≤◌, [], ◌∷◌, IfOk};
 ghost use Rattle.pic_io.specs.Sinks.{sinks, Writes};
-ghost use Rattle.pic_dump.specs.DumpText.{end_bytes};
-ghost use Rattle.pic_energy.specs.Lines.{end_line};
 ghost use Rattle.pic_step.specs.SerialRun.{start_of};
 ghost use Rattle.pic_step.specs.Sound.{IsSound};
 ghost use Rattle.pic_run.specs.declared.running.RunStop.TheVariants.{Write};
 ghost use Rattle.pic_run.specs.Starting.{header_of};
-ghost use Rattle.pic_run.specs.Frames.{frames_of, end_of};
+ghost use Rattle.pic_run.specs.Frames.{frames_of, end_of, end_piece};
 ghost use Rattle.pic_run.specs.Rooms.{HasRoom};
 ghost use Rattle.pic_run.specs.Outcome.{run_outcome, answer_of};
 ghost use Rattle.pic_run.specs.Ends.{EndsAs};
@@ -174,7 +172,7 @@ fn write_end<O: Sink, R: Sink>(out: &mut O, report: &mut R, end: EndMark) -> End
 
 fn put_last<O: Sink, R: Sink>(out: &mut O, report: &mut R, end: EndMark) -> Result<(), Side>
     ensures { Writes (sinks (O.told out.old) (R.told report.old)) (sinks (O.told out.new) (R.told report.new))
-        (end_bytes end) (end_line end) result }
+        (end_piece end ∷ []) result }
 {
     match put_end(out, end) {
         Ok(()) => put_line(report, end_line(end).bytes()),

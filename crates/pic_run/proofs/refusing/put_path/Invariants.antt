@@ -1,7 +1,7 @@
 use Rattle.std.proofs.Common.{◌≡◌, [], length, take, map}
 use Rattle.std.specs.Str.{chars}
-use Rattle.pic_io.specs.Told.{Told}
-use Rattle.pic_io.specs.Sinks.{sinks, Wrote}
+use Rattle.pic_io.specs.Told.{Calm}
+use Rattle.pic_io.specs.Sink.{Appended}
 use Rattle.pic_run.specs.Lines.{printed_char}
 use Rattle.pic_run.proofs.refusing.put_path.Given as goal
 
@@ -9,4 +9,5 @@ use Rattle.pic_run.proofs.refusing.put_path.Given as goal
 abbrev pub invariant-loop-c : goal.invariant-loop-c
 invariant-loop-c g l =
     (l.yielded ≡ take (length l.yielded) (chars l.path))
-    × ((o : Told) → Wrote (sinks o (g.R.Sink.told l.initial.report)) (sinks o (g.R.Sink.told l.report)) [] (map printed_char l.yielded))
+    × Appended (g.R.Sink.told l.initial.report) (g.R.Sink.told l.report) (map printed_char l.yielded)
+    × Calm (g.R.Sink.told l.initial.report) (g.R.Sink.told l.report)

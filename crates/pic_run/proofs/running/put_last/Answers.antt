@@ -1,7 +1,7 @@
-use Rattle.std.proofs.Common.{List, ℕ, [], ◌∙◌, subst}
-use Rattle.pic_io.specs.Sinks.{sinks, Writes}
-use Rattle.pic_dump.specs.DumpText.{end_bytes}
-use Rattle.pic_run.proofs.Texts.{out_then_line}
+use Rattle.std.proofs.Common.{List, ℕ, ◌∙◌, subst}
+use Rattle.pic_io.specs.Sinks.{WritesLine}
+use Rattle.pic_io.proofs.Puts.{line_after}
+use Rattle.pic_run.specs.Frames.{end_piece}
 use Rattle.pic_run.proofs.running.put_last.Goals as goal
 
 pub returns-in-Ok : goal.returns-in-Ok
@@ -10,5 +10,5 @@ returns-in-Ok g c =
     let p = g.O.Sink.told c.put_end.new.out in
     let r = g.R.Sink.told c.args.report.now in
     let s = g.R.Sink.told c.put_line.new.report in
-    let line = subst (λ (text : List ℕ). Writes (sinks p r) (sinks p s) [] text c.put_line.result) (c.bytes.ensures ∙ c.end_line.ensures) (c.put_line.ensures p) in
-    out_then_line o p r (sinks p s) (end_bytes c.args.end) _ c.put_line.result c.in-Ok.ensures.bytes c.in-Ok.ensures.cause.ok line
+    let line = subst (λ (text : List ℕ). WritesLine r s text c.put_line.result) (c.bytes.ensures ∙ c.end_line.ensures) c.put_line.ensures in
+    line_after o p r s (end_piece c.args.end) c.put_line.result c.in-Ok.ensures.bytes c.in-Ok.ensures.cause.ok line

@@ -1,9 +1,9 @@
 use Rattle.std.proofs.Common.{◌≡◌, ℕ, ◌+◌, Bool, Ok, Err, ap, ◌∙◌, subst, arith}
 use Rattle.std.proofs.lemmas.Result.{err_from_is_err_and}
-use Rattle.pic_io.specs.Sinks.{sinks, Wrote, CutAt}
+use Rattle.pic_io.specs.Sinks.{sinks, Wrote, outs, lines, CutAt}
 use Rattle.pic_io.proofs.Puts.{wrote_none}
 use Rattle.pic_step.specs.SerialRun.{after}
-use Rattle.pic_run.specs.Frames.{outs, lines, due_frame, frames_from}
+use Rattle.pic_run.specs.Frames.{due_frame, frames_from}
 use Rattle.pic_run.proofs.FrameLaws.{after_none, after_step, none_written, more_written, more_cut, some_written, stopped_written, done_written}
 use Rattle.pic_run.proofs.Starts.{room_kept}
 use Rattle.pic_run.proofs.running.write_frames.Goals as goal
@@ -15,7 +15,7 @@ returns-in_err-write_due g c =
     let a = sinks (g.O.Sink.told c.args.out.now) (g.R.Sink.told c.args.report.now) in
     let b = sinks (g.O.Sink.told c.write_due.new.out) (g.R.Sink.told c.write_due.new.report) in
     let side = c.in_err-write_due.field-0.0 in
-    let cut = subst (λ (due : Bool). CutAt side a b (outs (due_frame due 0 w)) (lines (due_frame due 0 w))) c.is_due.ensures c.in_err-write_due.ensures.writes in
+    let cut = subst (λ (due : Bool). CutAt side a b (due_frame due 0 w)) c.is_due.ensures c.in_err-write_due.ensures.writes in
     rw (exit.1 ∙ ap Err exit.2)
     (more_cut side c.args.steps c.args.every w w 0 a a b (omega arith) (after_none w) (none_written c.args.steps c.args.every w a (wrote_none a)) cut)
 
@@ -60,7 +60,7 @@ returns-in_err-write_due-2 g c =
     let e = sinks (g.O.Sink.told c.write_due-in-loop-done.new.out) (g.R.Sink.told c.write_due-in-loop-done.new.report) in
     let side = c.in_err-write_due-2.field-0.0 in
     let reached = after_step w c.loop-done.state v n c.loop-done.invariant.reached c.in-Ok.ensures in
-    let cut = subst (λ (due : Bool). CutAt side b e (outs (due_frame due (n + 1) v)) (lines (due_frame due (n + 1) v))) c.is_due-due.ensures c.in_err-write_due-2.ensures.writes in
+    let cut = subst (λ (due : Bool). CutAt side b e (due_frame due (n + 1) v)) c.is_due-due.ensures c.in_err-write_due-2.ensures.writes in
     rw (exit.1 ∙ ap Err exit.2)
     (more_cut side c.args.steps c.args.every w v (n + 1) a b e (omega arith) reached c.loop-done.invariant.wrote cut)
 

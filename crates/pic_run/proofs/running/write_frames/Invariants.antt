@@ -1,7 +1,7 @@
 use Rattle.std.proofs.Common.{◌≡◌, ◌+◌, Ok}
-use Rattle.pic_io.specs.Sinks.{sinks, Wrote}
+use Rattle.pic_io.specs.Sinks.{sinks, Wrote, outs, lines}
 use Rattle.pic_step.specs.SerialRun.{after}
-use Rattle.pic_run.specs.Frames.{outs, lines, frames_from}
+use Rattle.pic_run.specs.Frames.{frames_from}
 use Rattle.pic_run.specs.Rooms.{HasRoom}
 use Rattle.pic_run.proofs.running.write_frames.Given as goal
 
