@@ -83,9 +83,6 @@ impl Model for Header {
 }
 
 impl Header {
-    /// The most steps, and the most of them after which a frame is due.
-    pub const MOST_STEPS: u32 = 1000000;
-
     /// The header of numbers and species within the limits.
     pub fn new(cells: Cells, steps: u32, every: u32, scales: Scales, species: Heads) -> Header
         requires { IsHeader (record { cells = cells; steps = steps; every = every; scales = scales; species = species }) }

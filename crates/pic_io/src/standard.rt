@@ -1,6 +1,6 @@
-ghost use Rattle.std.specs.Prelude.{◌≡◌, ◌≤◌, length, IfOk};
+ghost use Rattle.std.specs.Prelude.{◌≡◌, ◌≤◌, length, IfOk, OnErr};
 ghost use Rattle.std.specs.Io.KnownBytes.{ReadConsumes};
-ghost use Rattle.pic_io.specs.Told.{untold, HasCause};
+ghost use Rattle.pic_io.specs.Told.{untold, raised, HasCause};
 ghost use Rattle.pic_io.specs.Source.{Takes};
 ghost use Rattle.pic_io.specs.Sink.{Puts};
 ghost use Rattle.pic_io.specs.Standard.{reader_of, writer_of, WritesOn};
@@ -37,6 +37,7 @@ impl<R: Read> Source for StdSource<R> {
         ensures bytes { Takes (untold self.old.faults) (untold self.new.faults) room.new result }
         ensures cause { HasCause (untold self.old.faults) (untold self.new.faults) result }
 
+        ensures counted { OnErr result (self.new.faults ≡ raised self.old.faults) }
         ensures given { ReadConsumes (R.remaining (reader_of self.old))
             (R.remaining (reader_of self.new)) result room.new }
     {
@@ -79,6 +80,7 @@ impl<W: Write> Sink for StdSink<W> {
         ensures bytes { Puts (untold self.old.faults) (untold self.new.faults) piece.now result }
         ensures cause { HasCause (untold self.old.faults) (untold self.new.faults) result }
 
+        ensures counted { OnErr result (self.new.faults ≡ raised self.old.faults) }
         ensures written { WritesOn (W.contents (writer_of self.old))
             (W.contents (writer_of self.new)) piece.now result }
     {

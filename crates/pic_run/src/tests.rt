@@ -1,5 +1,13 @@
+ghost use Rattle.pic_load.specs.Loading.{AreLoaded};
+
+use crate::starting::find_break;
 use crate::{every_state_meets_gauss, pic};
+use pic_deck::{Deck, read_deck};
+use pic_grid::Snapshot;
 use pic_io::{MemSink, MemSource};
+use pic_load::load;
+use pic_num::{NoMemory, Particle};
+use pic_step::{State, step};
 use std::alloc::Global;
 use std::process::Abort;
 use std::test::Fail;
@@ -560,5 +568,37 @@ fn a_run_with_particles_that_fails(rt: HostRuntime) -> Result<(), Fail> {
         assert_eq!(rt; left.out.bytes().len(), len);
         assert_eq!(rt; left.report.bytes(), report);
     }
+    Ok(())
+}
+
+// The first state of a deck that meets Gauss's law, whose particles these are.
+fn state_of(alloc: Global, deck: &Deck, particles: &[Particle]) -> Option<State>
+    requires { AreLoaded deck.now particles.now }
+{
+    match find_break(alloc, deck, particles) {
+        Ok(None) => State::new(alloc, deck, particles).ok(),
+        Ok(Some(_)) => None,
+        Err(NoMemory) => None,
+    }
+}
+
+// The particles of a state.
+fn particles_of(alloc: Global, state: &State) -> Result<Vec<Particle>, NoMemory> {
+    let mut room = Snapshot::new(alloc, state.cells(), state.count())?;
+    state.fill(&mut room);
+    Ok(room.particles)
+}
+
+// The two charges as a state, and the state after a step: the electron has moved half a cell.
+#[test]
+fn a_state_and_the_one_after_a_step(rt: HostRuntime) -> Result<(), Fail> {
+    let deck = read_deck(rt.alloc(), PAIR_DECK).expect(&rt, "a deck");
+    let particles = load(rt.alloc(), &deck)?;
+    let first = state_of(rt.alloc(), &deck, &particles).expect(&rt, "a state");
+    assert_eq!(rt; particles_of(rt.alloc(), &first)?.as_slice(), particles.as_slice());
+    let second = step(first).ok().expect(&rt, "the next state");
+    let moved = particles_of(rt.alloc(), &second)?;
+    let electron = moved.get(1).expect(&rt, "an electron");
+    assert_eq!(rt; (electron.id, electron.x, electron.v), (1, [3072, 0, 0], [8388608, 0, 0]));
     Ok(())
 }
