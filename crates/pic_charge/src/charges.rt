@@ -7,7 +7,7 @@ ghost use Rattle.pic_grid.specs.Species.{IsKind};
 ghost use Rattle.pic_charge.specs.Charge.{share, charge_of, CanShare};
 ghost use Rattle.pic_charge.specs.Spread.{AreAtMost, Adds};
 
-use crate::pairs::{SIDE, pair_of};
+use crate::pairs::pair_of;
 use crate::spreading::add_box;
 use pic_grid::{Cells, Nodes};
 use pic_num::{Kind, Particle};
@@ -19,10 +19,10 @@ use pic_num::{Kind, Particle};
 pub fn charge(cells: Cells, kinds: &[Kind], particles: &[Particle], to: &mut Nodes)
     requires same_cells { to.old.cells ≡ cells }
     requires limits { All IsKind kinds.now }
-    requires placed { All (CanShare SIDE cells kinds.now) particles.now }
+    requires placed { All (CanShare 4096 cells kinds.now) particles.now }
     requires few { length particles.now ≤ 1048576 }
     ensures same_cells { to.new.cells ≡ cells }
-    ensures values { (p : Triple) → IsWithin p cells → node_at to.new p ≡ charge_of SIDE cells kinds.now particles.now p }
+    ensures values { (p : Triple) → IsWithin p cells → node_at to.new p ≡ charge_of 4096 cells kinds.now particles.now p }
     ensures size { (p : Triple) → IsWithin p cells → IsAtMost (node_at to.new p) (2 ^ 75) }
 {
     clear(cells, to);
@@ -46,9 +46,9 @@ fn clear(cells: Cells, to: &mut Nodes)
 fn add_particle(cells: Cells, kinds: &[Kind], particle: &Particle, to: &mut Nodes)
     requires same_cells { to.old.cells ≡ cells }
     requires limits { All IsKind kinds.now }
-    requires placed { CanShare SIDE cells kinds.now particle.now }
+    requires placed { CanShare 4096 cells kinds.now particle.now }
     requires room { AreAtMost to.old (2 ^ 87) }
-    ensures { Adds to.old to.new (share SIDE cells kinds.now particle.now) }
+    ensures { Adds to.old to.new (share 4096 cells kinds.now particle.now) }
 {
     let kind = kinds[particle.species as usize];
     let [nx, ny, nz] = cells.n;

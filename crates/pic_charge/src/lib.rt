@@ -12,4 +12,3 @@ mod tests;
 pub use breaks::{Break, gauss};
 pub use charges::charge;
 pub use laws::{break_is_where_gauss_fails, no_break_is_gauss};
-pub use pairs::SIDE;

@@ -3,7 +3,7 @@ ghost use Rattle.pic_grid.specs.Hat.{periodic_hat};
 ghost use Rattle.pic_charge.specs.Spread.{weight_in, IsPair};
 
 /// The side of a cell, in sub-cells.
-pub const SIDE: u32 = 4096;
+const SIDE: u32 = 4096;
 
 /// The two nodes of an axis that a point lies between, and its weight for each.
 #[derive(Clone, Copy)]
@@ -18,9 +18,9 @@ pub(crate) struct Pair {
 pub(crate) fn pair_of(cells: u32, point: u32) -> Pair
     requires least { 2 ≤ cells }
     requires most { cells ≤ 64 }
-    requires inside { point < cells * SIDE }
-    ensures pair { IsPair SIDE cells result }
-    ensures weights { (j : ℕ) → j < cells → periodic_hat SIDE (cells * SIDE) point (j * SIDE) ≡ weight_in result j }
+    requires inside { point < cells * 4096 }
+    ensures pair { IsPair 4096 cells result }
+    ensures weights { (j : ℕ) → j < cells → periodic_hat 4096 (cells * 4096) point (j * 4096) ≡ weight_in result j }
 {
     let low = point / SIDE;
     let high = next(cells, low);

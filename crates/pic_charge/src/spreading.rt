@@ -2,7 +2,7 @@ ghost use Rattle.std.specs.Prelude.{◌≡◌, pos, ◌^◌, ◌<◌, ◌≤◌,
 ghost use Rattle.pic_num.specs.Sizes.{IsAtMost};
 ghost use Rattle.pic_charge.specs.Spread.{only_at, weight_in, spread, IsPair, AreAtMost, Adds};
 
-use crate::pairs::{Pair, SIDE};
+use crate::pairs::Pair;
 use pic_grid::Nodes;
 
 /// Adds an amount to one node.
@@ -21,7 +21,7 @@ fn add(to: &mut Nodes, x: u32, y: u32, z: u32, amount: i128)
 
 /// Shares an amount between the two nodes of a line along x.
 fn add_line(to: &mut Nodes, x: Pair, y: u32, z: u32, amount: i128)
-    requires x { IsPair SIDE to.old.cells.x x }
+    requires x { IsPair 4096 to.old.cells.x x }
     requires y { y < to.old.cells.y }
     requires z { z < to.old.cells.z }
     requires room { AreAtMost to.old (2 ^ 89) }
@@ -34,8 +34,8 @@ fn add_line(to: &mut Nodes, x: Pair, y: u32, z: u32, amount: i128)
 
 /// Shares an amount between the two lines of a plane across z.
 fn add_plane(to: &mut Nodes, x: Pair, y: Pair, z: u32, amount: i128)
-    requires x { IsPair SIDE to.old.cells.x x }
-    requires y { IsPair SIDE to.old.cells.y y }
+    requires x { IsPair 4096 to.old.cells.x x }
+    requires y { IsPair 4096 to.old.cells.y y }
     requires z { z < to.old.cells.z }
     requires room { AreAtMost to.old (2 ^ 88) }
     requires size { IsAtMost amount (2 ^ 31) }
@@ -47,9 +47,9 @@ fn add_plane(to: &mut Nodes, x: Pair, y: Pair, z: u32, amount: i128)
 
 /// Shares an amount between the two planes of a box of eight nodes.
 pub(crate) fn add_box(to: &mut Nodes, x: Pair, y: Pair, z: Pair, amount: i128)
-    requires x { IsPair SIDE to.old.cells.x x }
-    requires y { IsPair SIDE to.old.cells.y y }
-    requires z { IsPair SIDE to.old.cells.z z }
+    requires x { IsPair 4096 to.old.cells.x x }
+    requires y { IsPair 4096 to.old.cells.y y }
+    requires z { IsPair 4096 to.old.cells.z z }
     requires room { AreAtMost to.old (2 ^ 87) }
     requires size { IsAtMost amount (2 ^ 19) }
     ensures { Adds to.old to.new (spread amount (weight_in x) (weight_in y) (weight_in z)) }
@@ -61,7 +61,7 @@ pub(crate) fn add_box(to: &mut Nodes, x: Pair, y: Pair, z: Pair, amount: i128)
 /// An amount times a weight.
 fn times(amount: i128, weight: u32) -> i128
     requires amount_most { IsAtMost amount (2 ^ 43) }
-    requires weight_most { weight ≤ SIDE }
+    requires weight_most { weight ≤ 4096 }
     ensures { result ≡ amount *ℤ pos weight }
 {
     amount * i128::from(weight)

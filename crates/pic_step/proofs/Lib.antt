@@ -3,6 +3,7 @@ pub mod Pushes
 pub mod GaussLaw
 pub mod Soundness
 pub mod Beyond
+pub mod Images
 pub mod Foldings
 pub mod Fits
 pub mod Passed

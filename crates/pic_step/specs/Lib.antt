@@ -7,3 +7,4 @@ pub mod Phases
 pub mod Rooms
 pub mod PushRoom
 pub mod Keeps
+pub mod Reach

@@ -11,6 +11,6 @@ mod rooms;
 mod state;
 mod stepping;
 
-pub use laws::law_of_the_step;
+pub use laws::{law_of_the_step, three_images_are_all};
 pub use state::State;
 pub use stepping::{StepStop, step};
