@@ -1,48 +1,11 @@
--- The particles of a deck beside the numbers that they are read from.
-use Rattle.std.proofs.Common.{◌≡◌, ℕ, ◌*◌, ◌<◌, ◌≤◌, ◌^◌, [], ◌∷◌, List, lit<, arith, get_or, slice_index_or}
+-- What the particles of a species have in common, beside the numbers that it is read from.
+use Rattle.std.proofs.Common.{◌≡◌, ℕ, arith}
 use Rattle.std.proofs.Math.IntN.{ℤ, pos, negsuc}
-use Rattle.std.specs.Prelude.{unsigned_abs}
-use Rattle.std.proofs.lemmas.Int.{ints, to_z-of_z, fits_signed_from_abs}
-use mir.Syntax.{w32, w64}
-use mir.Val.{SFits, to_z, of_z}
-use Rattle.pic_num.specs.declared.space.Axis.TheVariants.{X, Y, Z}
-use Rattle.pic_num.specs.declared.space.Axis.{Axis}
-use Rattle.pic_num.specs.Sizes.{IsAtMost}
-use Rattle.pic_num.specs.Space.{Triple, along, spot}
+use Rattle.std.proofs.lemmas.Int.{ints}
 use Rattle.pic_num.specs.Multiplier.{Multiplier}
-use Rattle.pic_grid.specs.Places.{IsCells}
 use Rattle.pic_grid.specs.Species.{IsKind}
-use Rattle.pic_walk.specs.Range.{IsInLimits, limits_at, below, from_to}
-use Rattle.pic_deck.specs.declared.point_lists.Point6.{Point6}
-use Rattle.pic_deck.specs.Heads.{IsPoint}
-use Rattle.pic_deck.specs.Keys.{speed_limits, point_limits, point_of}
-
-abbrev pub AreInside : Triple → List ℤ → Type 0
-AreInside n zs = (k : ℕ) → k < 6 → IsInLimits (limits_at (point_limits n) k) (slice_index_or zs k (pos 0))
-
--- what the code makes of a position
-abbrev pub as_place : ℤ → ℕ
-as_place z = unsigned_abs (to_z w64 (of_z w64 z))
-
--- and of a velocity
-abbrev pub as_speed : ℤ → ℤ
-as_speed z = to_z w32 (of_z w32 (to_z w64 (of_z w64 z)))
-
-kept_place : (m : ℕ) (z : ℤ) → m ≤ 262144 → IsInLimits (below m) z → to_z w64 (of_z w64 z) ≡ z
-kept_place m z small inside =
-    let size : unsigned_abs z < 2 ^ 63 = omega (arith, ints, inside.low, inside.high, small) in
-    to_z-of_z w64 z (fits_signed_from_abs w64 z size)
-
--- what the code makes of a number of 32 bits
-pub kept_small : (z : ℤ) → unsigned_abs z < 2 ^ 31 → as_speed z ≡ z
-kept_small z size =
-    let larger : unsigned_abs z < 2 ^ 63 = omega (arith, size) in
-    let wide : SFits w64 z = fits_signed_from_abs w64 z larger in
-    let fits : SFits w32 z = fits_signed_from_abs w32 z size in
-    rw (to_z-of_z w64 z wide) (to_z-of_z w32 z fits)
-
-kept_speed : (z : ℤ) → IsInLimits speed_limits z → as_speed z ≡ z
-kept_speed z inside = kept_small z (omega (arith, ints, inside.low, inside.high))
+use Rattle.pic_walk.specs.Range.{IsInLimits, from_to}
+use Rattle.pic_walk.proofs.PointLaws.{as_speed, kept_small}
 
 pub kept_charge : (z : ℤ) → IsInLimits (from_to (negsuc 32767) (pos 32767)) z → as_speed z ≡ z
 kept_charge z inside = kept_small z (omega (arith, ints, inside.low, inside.high))
@@ -56,46 +19,3 @@ IsKind-from charge mass kick turn c m = record {
   mass_low = omega (arith, ints, m.low);
   mass_high = omega (arith, ints, m.high);
 }
-
-place_below : (m : ℕ) (z : ℤ) → 1 ≤ m → IsInLimits (below m) z → unsigned_abs z < m
-place_below m z some inside = omega (arith, ints, inside.low, inside.high, some)
-
-speed_size : (z : ℤ) → IsInLimits speed_limits z → IsAtMost z (2 ^ 24)
-speed_size z inside = record { size = omega (arith, ints, inside.low, inside.high) }
-
--- the particle that the code makes of six numbers
-abbrev pub made : List ℤ → Point6
-made zs = record {
-  x = as_place (get_or zs 0 (pos 0)) ∷ as_place (get_or zs 1 (pos 0)) ∷ as_place (get_or zs 2 (pos 0)) ∷ [];
-  v = as_speed (get_or zs 3 (pos 0)) ∷ as_speed (get_or zs 4 (pos 0)) ∷ as_speed (get_or zs 5 (pos 0)) ∷ [];
-}
-
-pub point_is : (n : Triple) (zs : List ℤ) → IsCells n → AreInside n zs → made zs ≡ point_of zs
-unfolding limits_at
-point_is n zs cells inside =
-    rw (
-      kept_place (n.x * 4096) (get_or zs 0 (pos 0)) (omega (arith, cells.x_most)) (inside 0 (lit< tt)),
-      kept_place (n.y * 4096) (get_or zs 1 (pos 0)) (omega (arith, cells.y_most)) (inside 1 (lit< tt)),
-      kept_place (n.z * 4096) (get_or zs 2 (pos 0)) (omega (arith, cells.z_most)) (inside 2 (lit< tt)),
-      kept_speed (get_or zs 3 (pos 0)) (inside 3 (lit< tt)),
-      kept_speed (get_or zs 4 (pos 0)) (inside 4 (lit< tt)),
-      kept_speed (get_or zs 5 (pos 0)) (inside 5 (lit< tt)),
-    )
-
-speeds : (zs : List ℤ) (a : Axis) → IsInLimits speed_limits (get_or zs 3 (pos 0)) → IsInLimits speed_limits (get_or zs 4 (pos 0)) → IsInLimits speed_limits (get_or zs 5 (pos 0))
-    → IsAtMost (along a (spot (point_of zs).v)) (2 ^ 24)
-speeds zs X x y z = speed_size _ x
-speeds zs Y x y z = speed_size _ y
-speeds zs Z x y z = speed_size _ z
-
-pub point_within : (n : Triple) (zs : List ℤ) → IsCells n → AreInside n zs → IsPoint n (point_of zs)
-unfolding limits_at
-point_within n zs cells inside =
-    record {
-      place = record {
-        x = place_below (n.x * 4096) _ (omega (arith, cells.x_least)) (inside 0 (lit< tt));
-        y = place_below (n.y * 4096) _ (omega (arith, cells.y_least)) (inside 1 (lit< tt));
-        z = place_below (n.z * 4096) _ (omega (arith, cells.z_least)) (inside 2 (lit< tt));
-      };
-      speed = λ a. speeds zs a (inside 3 (lit< tt)) (inside 4 (lit< tt)) (inside 5 (lit< tt));
-    }

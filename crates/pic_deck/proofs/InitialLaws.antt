@@ -17,8 +17,9 @@ use Rattle.pic_grid.proofs.Fields.{value_at-same, value_at-other}
 use Rattle.pic_grid.proofs.OverLaws.{sum_over_more}
 use Rattle.pic_grid.proofs.Places.{place_of_same, places_more}
 use Rattle.pic_walk.specs.Range.{IsInLimits, any_limits}
-use Rattle.pic_deck.specs.declared.row_lists.Row.{Row}
-use Rattle.pic_deck.specs.Initial.{IsRow, AreRows, no_row, is_of, part, set_up}
+use Rattle.pic_walk.specs.declared.row_lists.Row.{Row}
+use Rattle.pic_walk.specs.Rows.{IsRow, AreRows, no_row}
+use Rattle.pic_deck.specs.Initial.{is_of, part, set_up}
 
 pub AreRows-none : (n : Triple) → AreRows n []
 AreRows-none n = record { few = omega arith; each = λ k h. absurd (omega (arith, h)) }

@@ -3,6 +3,5 @@ pub mod ContentLaws
 pub mod InitialLaws
 pub mod ForceLaws
 pub mod HeadLaws
-pub mod ListLaws
 pub mod DocumentLaws
 pub mod TextLaws

@@ -7,7 +7,7 @@ use Rattle.pic_walk.specs.declared.faults.Refusal.TheVariants.{Text, Limit, Name
 use Rattle.pic_walk.specs.Range.{from_to, IsInLimits, is_within}
 use Rattle.pic_walk.specs.Walk.{Walked, ◌>>=◌, some_or}
 use Rattle.pic_walk.proofs.LimitLaws.{within_in, within_out, IsInLimits-from, is_within-from}
-use Rattle.pic_walk.proofs.TextLaws.{IsNamed, same_refusal, named_ok, named_err, named_then, named_within, named_limited, named_whole, named_text, named_numbers, named_elements, named_each, named_list_of, named_array_of, named_three, named_multiplier, named_listed, named_table_of, named_need, named_optional}
+use Rattle.pic_walk.proofs.TextLaws.{IsNamed, same_refusal, named_ok, named_err, named_then, named_within, named_limited, named_whole, named_text, named_numbers, named_elements, named_each, named_array_of, named_three, named_multiplier, named_listed, named_table_of, named_need, named_optional, named_rows, named_points}
 use Rattle.pic_walk.proofs.WalkLaws.{then_ok, then_err, there, lacks}
 use Rattle.pic_deck.specs.Deck.{DeckView}
 use Rattle.pic_num.specs.Space.{Triple}
@@ -15,7 +15,7 @@ use Rattle.pic_deck.specs.declared.parts.FieldValues.{FieldValues}
 use Rattle.pic_deck.specs.declared.parts.Setup.{Setup}
 use Rattle.pic_deck.specs.declared.species_lists.Species.{Species}
 use Rattle.pic_deck.specs.Heads.{is_new_name}
-use Rattle.pic_deck.specs.Keys.{axis_tiles, next_tiles, tiles, grid, run, scale, setup, row, row_list, fields, species_name, species_kind, point, point_list, one_species, species_list, allowed, forces, deck, document, walk}
+use Rattle.pic_deck.specs.Keys.{axis_tiles, next_tiles, tiles, grid, run, scale, setup, fields, species_name, species_kind, one_species, species_list, allowed, forces, deck, document, walk}
 use Rattle.pic_deck.specs.Reading.{IsNoText}
 
 named_axis_tiles : (n : ℕ) (path : List ℕ) (d : Data) → IsNamed (axis_tiles n path d)
@@ -63,12 +63,6 @@ named_setup ms =
     (λ r. named_then _ _ (named_scale ms)
     (λ s. named_ok _))))
 
-named_rows : (n : Triple) (path : List ℕ) (d : Data) → IsNamed (row_list n path d)
-unfolding row_list row
-named_rows n path d =
-    named_then _ _ (named_list_of _ path d (λ done p e. named_then _ _ (named_numbers _ p e) (λ zs. named_ok _)))
-    (λ rs. named_then _ _ (named_within _ path _) (λ _. named_ok rs))
-
 named_fields : (n : Triple) (path : List ℕ) (d : Data) → IsNamed (fields n path d)
 unfolding fields
 named_fields n path d =
@@ -96,10 +90,6 @@ named_kind path t =
     (λ mass. named_then _ _ (named_need _ _ path t named_multiplier)
     (λ kick. named_then _ _ (named_need _ _ path t named_multiplier)
     (λ turn. named_ok _))))
-
-named_points : (n : Triple) (path : List ℕ) (d : Data) → IsNamed (point_list n path d)
-unfolding point_list point
-named_points n path d = named_list_of _ path d (λ done p e. named_then _ _ (named_numbers _ p e) (λ zs. named_ok _))
 
 named_species : (n : Triple) (done : List Species) (path : List ℕ) (d : Data) → IsNamed (one_species n done path d)
 unfolding one_species

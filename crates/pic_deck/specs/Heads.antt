@@ -1,12 +1,10 @@
 -- The species of a deck and their particles.
-use Rattle.std.specs.Prelude.{◌≡◌, ℕ, ◌^◌, ◌<◌, ◌&&◌, Bool, not, nat_le, bytes_eq, List, [], length, sum_by, slice_index_or}
+use Rattle.std.specs.Prelude.{◌≡◌, ℕ, ◌<◌, ◌&&◌, Bool, not, nat_le, bytes_eq, List, [], length, sum_by, slice_index_or}
 use Rattle.std.specs.List.{list_all, list_any}
-use Rattle.pic_num.specs.declared.space.Axis.{Axis}
-use Rattle.pic_num.specs.Sizes.{IsAtMost}
-use Rattle.pic_num.specs.Space.{Triple, triple, spot, along}
-use Rattle.pic_grid.specs.Hat.{IsInBox}
+use Rattle.pic_num.specs.Space.{Triple}
 use Rattle.pic_grid.specs.Species.{HeadView, no_head, is_name_byte, IsName}
-use Rattle.pic_deck.specs.declared.point_lists.Point6.{Point6}
+use Rattle.pic_walk.specs.declared.point_lists.Point6.{Point6}
+use Rattle.pic_walk.specs.Points.{ArePoints}
 use Rattle.pic_deck.specs.declared.species_lists.Fill.{Fill}
 use Rattle.pic_deck.specs.declared.species_lists.Fill.TheVariants.{Points}
 use Rattle.pic_deck.specs.declared.species_lists.Species.{Species}
@@ -22,19 +20,6 @@ is_taken ss name = list_any (λ o. bytes_eq o.name name) ss
 -- whether a text is a name that none of these species has
 unfoldable pub is_new_name : List Species → List ℕ → Bool
 is_new_name ss name = is_name name && not (is_taken ss name)
-
--- a particle that isn't there
-abbrev pub no_point : Point6
-no_point = record { x = []; v = [] }
-
--- a particle of a deck of n cells: in the box, and at most 2^24 fast on each axis
-pub record IsPoint (n : Triple) (p : Point6) : Type 0 where
-  pub place : IsInBox 4096 n (triple p.x)
-  pub speed : (a : Axis) → IsAtMost (along a (spot p.v)) (2 ^ 24)
-
--- such particles
-pub record ArePoints (n : Triple) (points : List Point6) : Type 0 where
-  pub each : (k : ℕ) → k < length points → IsPoint n (slice_index_or points k no_point)
 
 -- the particles of a species
 abbrev pub points_in : Fill → List Point6

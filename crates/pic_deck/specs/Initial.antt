@@ -1,31 +1,15 @@
 -- The fields that a deck begins with, and the test of their force values: this project's profile.
-use Rattle.std.specs.Prelude.{◌≡◌, ℤ, pos, ℕ, ◌+ℤ◌, ◌*◌, ◌/◌, ◌%◌, ◌^◌, ◌<◌, ◌≤◌, ◌==◌, ◌&&◌, Bool, nat_le, unsigned_abs, if◌then◌else◌, List, [], length, slice_index, slice_index_or, Option, Some, None}
+use Rattle.std.specs.Prelude.{◌≡◌, ℤ, pos, ◌+ℤ◌, ◌*◌, ◌/◌, ◌%◌, ◌^◌, ◌==◌, ◌&&◌, Bool, nat_le, unsigned_abs, if◌then◌else◌, List, slice_index, Option, Some, None}
 use Rattle.std.specs.List.{range_with_len}
 use Rattle.pic_num.specs.declared.space.Axis.{Axis}
-use Rattle.pic_num.specs.declared.space.Axis.TheVariants.{X}
 use Rattle.pic_num.specs.First.{first_of}
 use Rattle.pic_num.specs.Multiplier.{Multiplier}
 use Rattle.pic_num.specs.Rounding.{scaled}
 use Rattle.pic_num.specs.Sizes.{IsAtMost}
-use Rattle.pic_num.specs.Space.{Triple, triple, Spot, along, axis_number}
+use Rattle.pic_num.specs.Space.{Triple, Spot, along, axis_number}
 use Rattle.pic_grid.specs.Places.{IsWithin, count_of, cell_of, axis_of}
 use Rattle.pic_grid.specs.Sums.{sum_over}
-use Rattle.pic_walk.specs.Range.{IsInLimits, any_limits}
-use Rattle.pic_deck.specs.declared.row_lists.Row.{Row}
-
--- a row that adds nothing
-abbrev pub no_row : Row
-no_row = record { axis = X; cell = []; value = pos 0 }
-
--- a row's cell is one of the n cells, and its value is one of 64 bits
-pub record IsRow (n : Triple) (r : Row) : Type 0 where
-  pub within : IsWithin (triple r.cell) n
-  pub value : IsInLimits any_limits r.value
-
--- rows of the n cells, 1048576 at most
-pub record AreRows (n : Triple) (rows : List Row) : Type 0 where
-  pub few : length rows ≤ 1048576
-  pub each : (k : ℕ) → k < length rows → IsRow n (slice_index_or rows k no_row)
+use Rattle.pic_walk.specs.declared.row_lists.Row.{Row}
 
 -- the row is of the place on the axis a at the cell p
 abbrev pub is_of : Axis → Triple → Row → Bool

@@ -1,22 +1,22 @@
 -- The walk of a deck, this project's profile: the keys of each table in their order, the kind of
 -- each value and its limits. Which table a text is, is `toml`'s definition.
-use Rattle.std.specs.Prelude.{ℤ, pos, negsuc, ℕ, ◌+◌, ◌*◌, ◌/◌, ◌%◌, unsigned_abs, List, [], ◌∷◌, length, codes, slice_index, slice_index_or, if◌then◌else◌, Option, Some, None, Ok, Err}
+use Rattle.std.specs.Prelude.{ℤ, pos, negsuc, ℕ, ◌+◌, ◌/◌, ◌%◌, List, [], ◌∷◌, length, codes, slice_index, if◌then◌else◌, Option, Some, None, Ok, Err}
 use Rattle.std.specs.Str.{is_utf8}
 use Rattle.toml.specs.Data.{Data, Members}
 use Rattle.toml.specs.Parse.{parse_document}
 use Rattle.pic_num.specs.declared.multiplier.Scales.{Scales}
 use Rattle.pic_num.specs.declared.motion.Kind.{Kind}
 use Rattle.pic_num.specs.Space.{Triple, triple, spot}
-use Rattle.pic_grid.specs.Places.{count_of, axis_of}
+use Rattle.pic_grid.specs.Places.{count_of}
 use Rattle.pic_walk.specs.declared.faults.Refusal.TheVariants.{Text, Limit, Name}
 use Rattle.pic_walk.specs.declared.ranges.Limits.{Limits}
 use Rattle.pic_walk.specs.Path.{key_at}
-use Rattle.pic_walk.specs.Range.{from_to, below, any_limits}
-use Rattle.pic_walk.specs.Walk.{Walked, ◌>>=◌, some_or, within, limited, whole, text, elements, count_of_items, each, list_of, array_of, numbers, three, any_three, multiplier, listed, table_of, need, optional}
+use Rattle.pic_walk.specs.Points.{point_list}
+use Rattle.pic_walk.specs.Range.{from_to}
+use Rattle.pic_walk.specs.Rows.{row_list}
+use Rattle.pic_walk.specs.Walk.{Walked, ◌>>=◌, some_or, within, limited, whole, text, elements, count_of_items, each, array_of, numbers, three, any_three, multiplier, listed, table_of, need, optional}
 use Rattle.pic_deck.specs.declared.parts.FieldValues.{FieldValues}
 use Rattle.pic_deck.specs.declared.parts.Setup.{Setup}
-use Rattle.pic_deck.specs.declared.point_lists.Point6.{Point6}
-use Rattle.pic_deck.specs.declared.row_lists.Row.{Row}
 use Rattle.pic_deck.specs.declared.species_lists.Fill.TheVariants.{Points}
 use Rattle.pic_deck.specs.declared.species_lists.Species.{Species}
 use Rattle.pic_deck.specs.Deck.{DeckView, deck_view}
@@ -100,33 +100,6 @@ setup ms =
 abbrev pub field_keys : List (List ℕ)
 field_keys = codes "e" ∷ codes "b" ∷ codes "edges" ∷ codes "faces" ∷ []
 
--- the limits of a row [axis, i, j, k, value] on a grid of n cells
-abbrev pub row_limits : Triple → List Limits
-row_limits n = from_to (pos 0) (pos 2) ∷ below n.x ∷ below n.y ∷ below n.z ∷ any_limits ∷ []
-
--- the number at an index, which isn't below 0
-abbrev pub natural_at : List ℤ → ℕ → ℕ
-natural_at zs i = unsigned_abs (slice_index_or zs i (pos 0))
-
--- the row of five numbers
-abbrev pub row_of : List ℤ → Row
-row_of zs = record {
-  axis = axis_of (natural_at zs 0);
-  cell = natural_at zs 1 ∷ natural_at zs 2 ∷ natural_at zs 3 ∷ [];
-  value = slice_index_or zs 4 (pos 0);
-}
-
--- the next row
-unfoldable pub row : Triple → List Row → List ℕ → Data → Walked Row
-row n done path d = numbers (row_limits n) path d >>= (λ zs. Ok (row_of zs))
-
--- the rows of a field, 1048576 at most
-unfoldable pub row_list : Triple → List ℕ → Data → Walked (List Row)
-row_list n path d =
-    list_of (row n) path d
-    >>= (λ rs. within (from_to (pos 0) (pos 1048576)) path (pos (length rs))
-    >>= (λ _. Ok rs))
-
 -- a field of zeros
 abbrev pub zeros : List ℤ
 zeros = pos 0 ∷ pos 0 ∷ pos 0 ∷ []
@@ -161,30 +134,6 @@ species_kind path t =
     >>= (λ mass. need multiplier (codes "kick") path t
     >>= (λ kick. need multiplier (codes "turn") path t
     >>= (λ turn. Ok (record { charge = charge; mass = mass; kick = kick; turn = turn })))))
-
--- the velocities of a deck
-abbrev pub speed_limits : Limits
-speed_limits = from_to (negsuc 16777215) (pos 16777216)
-
--- the limits of a particle [x, y, z, vx, vy, vz] in the box of n cells
-abbrev pub point_limits : Triple → List Limits
-point_limits n =
-    below (n.x * 4096) ∷ below (n.y * 4096) ∷ below (n.z * 4096) ∷ speed_limits ∷ speed_limits ∷ speed_limits ∷ []
-
--- the particle of six numbers
-abbrev pub point_of : List ℤ → Point6
-point_of zs = record {
-  x = natural_at zs 0 ∷ natural_at zs 1 ∷ natural_at zs 2 ∷ [];
-  v = slice_index_or zs 3 (pos 0) ∷ slice_index_or zs 4 (pos 0) ∷ slice_index_or zs 5 (pos 0) ∷ [];
-}
-
--- the next particle
-unfoldable pub point : Triple → List Point6 → List ℕ → Data → Walked Point6
-point n done path d = numbers (point_limits n) path d >>= (λ zs. Ok (point_of zs))
-
--- the particles of a species
-unfoldable pub point_list : Triple → List ℕ → Data → Walked (List Point6)
-point_list n path d = list_of (point n) path d
 
 -- the next species; the particles up to it are 1048576 at most
 unfoldable pub one_species : Triple → List Species → List ℕ → Data → Walked Species

@@ -6,11 +6,11 @@ ghost use Rattle.pic_deck.specs.Heads.{particles_of};
 
 use crate::filling::fill;
 use crate::parts::{FieldValues, Setup};
-use crate::row_lists::Row;
 use crate::species_lists::{Species, SpeciesList};
 use crate::species_reader::particles_of;
 use pic_grid::{Cells, Lattice};
 use pic_num::Scales;
+use pic_walk::Row;
 use std::marker::Model;
 
 /// A deck: all that it says is within the limits of its keys, no value of a field that it begins with

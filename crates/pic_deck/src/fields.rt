@@ -1,16 +1,14 @@
 ghost use Rattle.std.specs.Prelude.{◌≡◌, List, [], codes, IfOk};
 ghost use Rattle.toml.specs.View.{view, table_view};
+ghost use Rattle.pic_walk.specs.declared.row_lists.Row.{Row};
+ghost use Rattle.pic_walk.specs.Rows.{AreRows, row_list};
 ghost use Rattle.pic_walk.specs.Walk.{WalksAs, table_of, optional};
 ghost use Rattle.pic_deck.specs.declared.parts.FieldValues.{FieldValues as FieldView};
-ghost use Rattle.pic_deck.specs.declared.row_lists.Row.{Row};
-ghost use Rattle.pic_deck.specs.Initial.{AreRows};
-ghost use Rattle.pic_deck.specs.Keys.{field_keys, fields, row_list, no_field};
+ghost use Rattle.pic_deck.specs.Keys.{field_keys, fields, no_field};
 
 use crate::parts::FieldValues;
-use crate::row_lists::Rows;
-use crate::row_reader::read_rows;
 use pic_grid::Cells;
-use pic_walk::{DeckFault, Place, find_value, optional_three, read_table};
+use pic_walk::{DeckFault, Place, Rows, find_value, optional_three, read_rows, read_table};
 use std::alloc::Global;
 use toml::{Table, Value};
 

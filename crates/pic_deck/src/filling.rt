@@ -5,11 +5,12 @@ ghost use Rattle.pic_num.specs.Space.{Triple, spot, along};
 ghost use Rattle.pic_grid.specs.Fields.{value_at, field_of};
 ghost use Rattle.pic_grid.specs.Places.{IsWithin, count_of};
 ghost use Rattle.pic_grid.specs.Sums.{sum_over};
-ghost use Rattle.pic_deck.specs.Initial.{AreRows, IsUniform, part, set_up};
+ghost use Rattle.pic_walk.specs.Rows.{AreRows};
+ghost use Rattle.pic_deck.specs.Initial.{IsUniform, part, set_up};
 
-use crate::row_lists::Row;
 use pic_grid::Lattice;
 use pic_num::Axis;
+use pic_walk::Row;
 
 // the number on an axis
 fn number_along(axis: Axis, numbers: [i64; 3]) -> i64

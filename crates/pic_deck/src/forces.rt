@@ -5,16 +5,16 @@ ghost use Rattle.pic_num.specs.Space.{Triple, spot};
 ghost use Rattle.pic_grid.specs.Fields.{value_at};
 ghost use Rattle.pic_grid.specs.Places.{IsWithin};
 ghost use Rattle.pic_walk.specs.Path.{key_at};
+ghost use Rattle.pic_walk.specs.Rows.{AreRows};
 ghost use Rattle.pic_walk.specs.Walk.{WalksAs};
-ghost use Rattle.pic_deck.specs.Initial.{AreRows, IsMild, strong, first_strong, set_up};
+ghost use Rattle.pic_deck.specs.Initial.{IsMild, strong, first_strong, set_up};
 ghost use Rattle.pic_deck.specs.Keys.{allowed, forces};
 
 use crate::filling::fill;
 use crate::parts::{FieldValues, Setup};
-use crate::row_lists::Row;
 use pic_grid::{Cells, Lattice};
 use pic_num::{Mult, scale};
-use pic_walk::{DeckFault, Limits, Place};
+use pic_walk::{DeckFault, Limits, Place, Row};
 use std::alloc::Global;
 
 const STRONGEST: i64 = 17592186044416;

@@ -1,6 +1,6 @@
-use crate::row_lists::Rows;
 use pic_grid::Cells;
 use pic_num::Scales;
+use pic_walk::Rows;
 
 /// What a deck says of the grid, the run and the scales.
 #[derive(Clone, Copy, Debug)]

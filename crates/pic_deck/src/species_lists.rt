@@ -1,8 +1,8 @@
 ghost use Rattle.std.specs.Prelude.{◌≡◌};
 
-use crate::point_lists::Points;
 use pic_grid::Name;
 use pic_num::Kind;
+use pic_walk::Points;
 use std::marker::Model;
 
 /// What particles a species has.

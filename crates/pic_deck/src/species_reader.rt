@@ -2,22 +2,21 @@ ghost use Rattle.std.specs.Prelude.{◌≡◌, ℕ, pos, negsuc, ◌+◌, ◌<�
 ghost use Rattle.toml.specs.View.{view, array_view, table_view};
 ghost use Rattle.pic_num.specs.declared.motion.Kind.{Kind as KindView};
 ghost use Rattle.pic_grid.specs.Species.{IsKind, AreHeads};
+ghost use Rattle.pic_walk.specs.declared.point_lists.Point6.{Point6};
 ghost use Rattle.pic_walk.specs.Path.{path_of};
+ghost use Rattle.pic_walk.specs.Points.{ArePoints, point_list};
 ghost use Rattle.pic_walk.specs.Walk.{WalksAs, within, need, each, table_of, optional};
-ghost use Rattle.pic_deck.specs.declared.point_lists.Point6.{Point6};
 ghost use Rattle.pic_deck.specs.declared.species_lists.Species.{Species as SpeciesView};
-ghost use Rattle.pic_deck.specs.Heads.{IsNewName, ArePoints, AreFilled, points_in, particles_of, head_of};
-ghost use Rattle.pic_deck.specs.Keys.{species_keys, species_kind, point_list, one_species, species_list};
+ghost use Rattle.pic_deck.specs.Heads.{IsNewName, AreFilled, points_in, particles_of, head_of};
+ghost use Rattle.pic_deck.specs.Keys.{species_keys, species_kind, one_species, species_list};
 
 use crate::namings::need_name;
-use crate::point_lists::Points;
-use crate::point_reader::read_points;
 use crate::species_lists::{Fill, Species, SpeciesList};
 use pic_grid::Cells;
 use pic_num::Kind;
 use pic_walk::{
-    DeckFault, Limits, Place, check_within, find_value, need_multiplier, need_number, need_whole,
-    needed_value, read_elements, read_table,
+    DeckFault, Limits, Place, Points, check_within, find_value, need_multiplier, need_number,
+    need_whole, needed_value, read_elements, read_points, read_table,
 };
 use std::alloc::Global;
 use toml::value::Array;

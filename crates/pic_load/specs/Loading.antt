@@ -7,7 +7,7 @@ use Rattle.pic_num.specs.declared.space.Axis.{Axis}
 use Rattle.pic_num.specs.Sizes.{IsAtMost}
 use Rattle.pic_num.specs.Space.{triple, spot, along}
 use Rattle.pic_grid.specs.Hat.{IsInBox}
-use Rattle.pic_deck.specs.declared.point_lists.Point6.{Point6}
+use Rattle.pic_walk.specs.declared.point_lists.Point6.{Point6}
 use Rattle.pic_deck.specs.declared.species_lists.Species.{Species}
 use Rattle.pic_deck.specs.Deck.{DeckView}
 use Rattle.pic_deck.specs.Heads.{points_in, particles_of}

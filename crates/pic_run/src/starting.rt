@@ -1,13 +1,14 @@
-ghost use Rattle.std.specs.Prelude.{◌≡◌, None, map, IfOk};
+ghost use Rattle.std.specs.Prelude.{◌≡◌, None, IfOk};
 ghost use Rattle.pic_load.specs.Loading.{AreLoaded};
 ghost use Rattle.pic_step.specs.SerialRun.{start_of};
 ghost use Rattle.pic_step.specs.Sound.{IsSound};
 ghost use Rattle.pic_run.specs.Starting.{break_of};
 
 use pic_charge::{Break, charge, gauss};
-use pic_deck::{Deck, Species};
+use pic_deck::Deck;
 use pic_grid::{Lattice, Nodes};
-use pic_num::{Kind, NoMemory, Particle};
+use pic_num::{NoMemory, Particle};
+use pic_step::kinds_of;
 use std::alloc::Global;
 
 /// The least node where Gauss's law fails for the deck's E and the charge of its particles, or `None`
@@ -22,22 +23,11 @@ pub fn find_break(
     ensures sound { IfOk result (λ found. found ≡ None → IsSound (start_of deck.now particles.now)) }
 {
     let cells = deck.cells();
-    let kinds = kinds_of(alloc, deck.species())?;
+    let kinds = kinds_of(alloc, deck)?;
     let mut e = Lattice::new(alloc, cells, [1; 3])?;
     let mut b = Lattice::new(alloc, cells, [1; 3])?;
     let mut rho = Nodes::new(alloc, cells)?;
     deck.initial(&mut e, &mut b);
     charge(cells, &kinds, particles, &mut rho);
     Ok(gauss(cells, &e, &rho))
-}
-
-// What the particles of each species have in common.
-fn kinds_of(alloc: Global, species: &[Species]) -> Result<Vec<Kind>, NoMemory>
-    ensures { IfOk result (λ kinds. kinds.items ≡ map (λ s. s.kind) species.now) }
-{
-    let mut kinds = Vec::new(alloc);
-    for one in species {
-        kinds.push(one.kind)?;
-    }
-    Ok(kinds)
 }

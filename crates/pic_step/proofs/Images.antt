@@ -1,5 +1,5 @@
 -- The images of an index that flux can reach.
-use Rattle.std.proofs.Common.{◌≡◌, ℕ, suc, ◌<◌, ◌≤◌, inl, inr, arith}
+use Rattle.std.proofs.Common.{◌≡◌, ℕ, suc, ◌<◌, ◌≤◌, inl, inr, ap, ◌∙◌, arith}
 use Rattle.std.proofs.Math.IntN.{ℤ, pos, negsuc, ◌+ℤ◌, ◌-ℤ◌, ◌*ℤ◌}
 use Rattle.std.specs.Prelude.{◌≤ℤ◌, ◌<ℤ◌}
 use Rattle.std.proofs.lemmas.Int.{ints, by_lt_z}
@@ -17,6 +17,9 @@ far_over : (n i : ℕ) (j m : ℤ) → 2 ≤ n → j ≡ m *ℤ pos n +ℤ pos i
 far_over n i j m two is over =
     let h = mul-le_mul (pos 2) m (pos n) (omega (arith, ints, over)) (omega (arith, ints)) in omega (arith, ints, h, is, two)
 
+by_turns : (j m k : ℤ) (n i : ℕ) → j ≡ m *ℤ pos n +ℤ pos i → m ≡ k → j ≡ k *ℤ pos n +ℤ pos i
+by_turns j m k n i is e = is ∙ ap (λ (t : ℤ). t *ℤ pos n +ℤ pos i) e
+
 image_of : (n i : ℕ) (j : ℤ) → 2 ≤ n → IsResidue j n i → IsImage n i j
 image_of n i j two wraps =
     let m = wraps.turns.0 in
@@ -26,10 +29,10 @@ image_of n i j two wraps =
     (λ least. by_lt_z (pos 1) m
     (λ over. inr (inr (inr (inr (far_over n i j m two is over)))))
     (λ most. by_lt_z m (pos 0)
-    (λ one_under. let k : m ≡ negsuc 0 = omega (arith, ints, least, one_under) in inl (rw k at is (omega (arith, ints, is))))
+    (λ one_under. let k : m ≡ negsuc 0 = omega (arith, ints, least, one_under) in let f = by_turns j m (negsuc 0) n i is k in inl (omega (arith, ints, f)))
     (λ above. by_lt_z (pos 0) m
-    (λ one_over. let k : m ≡ pos 1 = omega (arith, ints, one_over, most) in inr (inr (inl (omega (arith, ints, is, k)))))
-    (λ none. let k : m ≡ pos 0 = omega (arith, ints, none, above) in inr (inl (omega (arith, ints, is, k)))))))
+    (λ one_over. let k : m ≡ pos 1 = omega (arith, ints, one_over, most) in let f = by_turns j m (pos 1) n i is k in inr (inr (inl (omega (arith, ints, f)))))
+    (λ none. let k : m ≡ pos 0 = omega (arith, ints, none, above) in let f = by_turns j m (pos 0) n i is k in inr (inl (omega (arith, ints, f)))))))
 
 pub three_images_are_all : ThreeImagesAreAll
 three_images_are_all = record {

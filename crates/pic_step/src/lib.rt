@@ -12,5 +12,5 @@ mod state;
 mod stepping;
 
 pub use laws::{law_of_the_step, three_images_are_all};
-pub use state::State;
+pub use state::{State, kinds_of};
 pub use stepping::{StepStop, step};

@@ -113,7 +113,7 @@ impl State {
 }
 
 /// What the particles of each species of a deck have in common.
-fn kinds_of(alloc: Global, deck: &Deck) -> Result<Vec<Kind>, NoMemory>
+pub fn kinds_of(alloc: Global, deck: &Deck) -> Result<Vec<Kind>, NoMemory>
     ensures { IfOk result (λ kinds. kinds.items ≡ kinds_of deck.now) }
 {
     let mut kinds = Vec::new(alloc);

@@ -3,3 +3,5 @@ pub mod TableLaws
 pub mod LimitLaws
 pub mod ArrayLaws
 pub mod TextLaws
+pub mod ListLaws
+pub mod PointLaws

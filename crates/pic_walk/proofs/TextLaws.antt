@@ -2,10 +2,13 @@
 use Rattle.std.proofs.Common.{◌≡◌, ◌≢◌, ℤ, ℕ, List, [], ◌∷◌, ◌++◌, Option, Some, None, Ok, Err, inl, inr, ◌==◌}
 use Rattle.std.proofs.lemmas.Bool.{cases_Bool}
 use Rattle.toml.specs.Data.{Data, Items, no_items, item, Members, as_str, as_integer, as_array, as_table, get_member}
+use Rattle.pic_num.specs.Space.{Triple}
 use Rattle.pic_walk.specs.declared.faults.Refusal.{Refusal}
 use Rattle.pic_walk.specs.declared.faults.Refusal.TheVariants.{Text, Kind}
 use Rattle.pic_walk.specs.declared.ranges.Limits.{Limits}
+use Rattle.pic_walk.specs.Points.{point, point_list}
 use Rattle.pic_walk.specs.Range.{is_within}
+use Rattle.pic_walk.specs.Rows.{row, row_list}
 use Rattle.pic_walk.specs.Walk.{Walked, ◌>>=◌, some_or, number, within, limited, whole, count_of_items, of_length, text, elements, list_of, given, optional, fixed, each, array_of, number_at, numbers, three, multiplier, known, first_unlisted, listed, table_of, needed, need}
 use Rattle.pic_walk.proofs.LimitLaws.{within_in, within_out}
 
@@ -117,3 +120,13 @@ named_given a f path (Some d) one = one path d
 pub named_optional : {A : Type 0} (a : A) (f : List ℕ → Data → Walked A) (key path : List ℕ) (ms : Members) → ((p : List ℕ) (d : Data) → IsNamed (f p d)) → IsNamed (optional a f key path ms)
 unfolding optional
 named_optional a f key path ms one = named_given a f _ (get_member key ms) one
+
+pub named_rows : (n : Triple) (path : List ℕ) (d : Data) → IsNamed (row_list n path d)
+unfolding row_list row
+named_rows n path d =
+    named_then _ _ (named_list_of _ path d (λ done p e. named_then _ _ (named_numbers _ p e) (λ zs. named_ok _)))
+    (λ rs. named_then _ _ (named_within _ path _) (λ _. named_ok rs))
+
+pub named_points : (n : Triple) (path : List ℕ) (d : Data) → IsNamed (point_list n path d)
+unfolding point_list point
+named_points n path d = named_list_of _ path d (λ done p e. named_then _ _ (named_numbers _ p e) (λ zs. named_ok _))

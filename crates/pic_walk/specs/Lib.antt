@@ -1,3 +1,5 @@
 pub mod Range
 pub mod Path
 pub mod Walk
+pub mod Rows
+pub mod Points

@@ -82,6 +82,10 @@ number_at limits done path d = limited (limits_at limits (length done)) path d
 unfoldable pub numbers : List Limits → List ℕ → Data → Walked (List ℤ)
 numbers limits path d = array_of (length limits) (number_at limits) path d
 
+-- the number at an index, which isn't below 0
+abbrev pub natural_at : List ℤ → ℕ → ℕ
+natural_at zs i = unsigned_abs (slice_index_or zs i (pos 0))
+
 -- three numbers by axis, where the limits allow none below 0
 unfoldable pub three : List Limits → List ℕ → Data → Walked (List ℕ)
 three limits path d = numbers limits path d >>= (λ zs. Ok (map unsigned_abs zs))

@@ -9,7 +9,7 @@ use Rattle.pic_num.specs.Space.{triple}
 use Rattle.pic_num.proofs.Sizes.{codes, code_fits, code_is}
 use Rattle.pic_grid.specs.Places.{IsWithin}
 use Rattle.pic_grid.specs.Sums.{sum_over}
-use Rattle.pic_deck.specs.Initial.{no_row}
+use Rattle.pic_walk.specs.Rows.{no_row}
 use Rattle.pic_deck.proofs.InitialLaws.{row_step, value_size, value_64, fits_64}
 use Rattle.pic_deck.proofs.filling.add_rows.Goals as goal
 

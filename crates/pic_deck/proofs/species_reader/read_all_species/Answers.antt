@@ -4,7 +4,7 @@ use Rattle.pic_walk.proofs.ArrayLaws.{count_of_items-view}
 use Rattle.pic_walk.proofs.TableLaws.{key_at-top}
 use Rattle.pic_walk.proofs.WalkLaws.{goes_on, exits, exits_as}
 use Rattle.pic_deck.specs.Keys.{species_list}
-use Rattle.pic_deck.proofs.ListLaws.{counted}
+use Rattle.pic_walk.proofs.ListLaws.{counted}
 use Rattle.pic_deck.proofs.species_reader.read_all_species.Goals as goal
 
 pub returns-in_err-items-clause-walks : goal.returns-in_err-items-clause-walks

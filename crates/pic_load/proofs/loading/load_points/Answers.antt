@@ -1,7 +1,7 @@
 use Rattle.std.proofs.Common.{◌≡◌, ◌+◌, ◌++◌, ◌∷◌, [], ◌<◌, ◌^◌, List, length, map, take, get_or, sym, ap, ◌∙◌, rules, arith}
 use Rattle.std.proofs.lemmas.List.{append-nil, append_assoc}
 use Rattle.pic_num.specs.declared.motion.Particle.{Particle}
-use Rattle.pic_deck.specs.Heads.{no_point}
+use Rattle.pic_walk.specs.Points.{no_point}
 use Rattle.pic_load.specs.Loading.{member, particle, numbered}
 use Rattle.pic_load.proofs.LoadLaws.{points_more, length_so_far}
 use Rattle.pic_load.proofs.loading.load_points.Goals as goal

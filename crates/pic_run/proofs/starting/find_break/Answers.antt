@@ -1,4 +1,4 @@
-use Rattle.std.proofs.Common.{◌≡◌, ℕ, ◌<◌, ◌^◌, List, length, map, get_or, sym, ap, ◌∙◌, subst}
+use Rattle.std.proofs.Common.{◌≡◌, ℕ, ◌<◌, ◌^◌, List, length, get_or, sym, ap, ◌∙◌, subst}
 use Rattle.pic_num.specs.declared.motion.Kind.{Kind}
 use Rattle.pic_num.specs.declared.motion.Particle.{Particle}
 use Rattle.pic_num.specs.Sizes.{IsAtMost}
@@ -20,13 +20,13 @@ use Rattle.pic_run.proofs.starting.find_break.Goals as goal
 pub charge-requires-clause-limits : goal.charge-requires-clause-limits
 charge-requires-clause-limits c =
     let d = c.args.deck.now in
-    let kinds : c.deref.result.now ≡ kinds_of d = c.deref.ensures.value ∙ c.in_ok-kinds.ensures ∙ ap (λ ss. map (λ s. s.kind) ss) c.species.ensures.value in
+    let kinds : c.deref.result.now ≡ kinds_of d = c.deref.ensures.value ∙ c.in_ok-kinds.ensures in
     subst (λ (ks : List Kind). (i : ℕ) (k : Kind) → i < length ks → IsKind (get_or ks i k)) (sym kinds) (kinds_are d c.cells-cells.ensures.limits.heads)
 
 pub charge-requires-clause-placed : goal.charge-requires-clause-placed
 charge-requires-clause-placed c =
     let d = c.args.deck.now in
-    let kinds : c.deref.result.now ≡ kinds_of d = c.deref.ensures.value ∙ c.in_ok-kinds.ensures ∙ ap (λ ss. map (λ s. s.kind) ss) c.species.ensures.value in
+    let kinds : c.deref.result.now ≡ kinds_of d = c.deref.ensures.value ∙ c.in_ok-kinds.ensures in
     let cells = c.cells-cells.ensures.value in
     subst (λ (ks : List Kind). (i : ℕ) (x : Particle) → i < length c.args.particles.now → CanShare 4096 c.cells-cells.result ks (get_or c.args.particles.now i x)) (sym kinds)
     (subst (λ (n : Triple). (i : ℕ) (x : Particle) → i < length c.args.particles.now → CanShare 4096 n (kinds_of d) (get_or c.args.particles.now i x)) (sym cells)
@@ -47,7 +47,7 @@ returns-clause-value c =
     let d = c.args.deck.now in
     let ps = c.args.particles.now in
     let cells : c.cells-cells.result ≡ d.cells = c.cells-cells.ensures.value in
-    let kinds : c.deref.result.now ≡ kinds_of d = c.deref.ensures.value ∙ c.in_ok-kinds.ensures ∙ ap (λ ss. map (λ s. s.kind) ss) c.species.ensures.value in
+    let kinds : c.deref.result.now ≡ kinds_of d = c.deref.ensures.value ∙ c.in_ok-kinds.ensures in
     let parts = ap (λ (f : Field). f.parts) c.in_ok-e.ensures in
     let e : c.initial.new.e ≡ field_of d.cells one_part (initial_e d) = c.initial.ensures.e ∙ ap (λ (p : Triple). field_of d.cells p (initial_e d)) parts in
     let n = c.cells-cells.result in

@@ -3,13 +3,15 @@ ghost use Rattle.toml.specs.View.{view};
 ghost use Rattle.pic_walk.specs.Path.{path_of};
 ghost use Rattle.pic_walk.specs.Range.{IsInLimits, limits_at};
 ghost use Rattle.pic_walk.specs.Walk.{WalksAs};
-ghost use Rattle.pic_deck.specs.declared.point_lists.Point6.{Point6 as PointView};
-ghost use Rattle.pic_deck.specs.Heads.{IsPoint, ArePoints};
-ghost use Rattle.pic_deck.specs.Keys.{speed_limits, point_limits, point_of, point, point_list};
+ghost use Rattle.pic_walk.specs.declared.point_lists.Point6.{Point6 as PointView};
+ghost use Rattle.pic_walk.specs.Points.{IsPoint, ArePoints, speed_limits, point_limits, point_of, point, point_list};
 
+use crate::faults::DeckFault;
+use crate::numbers::{read_elements, read_numbers};
+use crate::places::Place;
 use crate::point_lists::{Point6, Points};
+use crate::ranges::Limits;
 use pic_grid::Cells;
-use pic_walk::{DeckFault, Limits, Place, read_elements, read_numbers};
 use std::alloc::Global;
 use toml::Value;
 
@@ -32,7 +34,7 @@ fn point_limits(cells: Cells) -> [Limits; 6]
     ]
 }
 
-#[tactic(auto, unfolding(pic_walk::specs::Range::limits_at))]
+#[tactic(auto, unfolding(crate::specs::Range::limits_at))]
 fn point_of(cells: Cells, numbers: [i64; 6]) -> Point6
     requires { (k : ℕ) → k < 6 → IsInLimits (limits_at (point_limits cells) k) (slice_index_or numbers k (pos 0)) }
     ensures value { result ≡ point_of numbers }
@@ -61,7 +63,7 @@ fn read_point(
 }
 
 /// The particles at a place: `[x, y, z, vx, vy, vz]`, each in the box.
-pub(crate) fn read_points(
+pub fn read_points(
     alloc: Global,
     place: Place<'_>,
     value: &Value,

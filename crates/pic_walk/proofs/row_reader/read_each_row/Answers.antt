@@ -4,10 +4,9 @@ use Rattle.pic_walk.specs.Path.{path_of}
 use Rattle.pic_walk.specs.Walk.{list_of}
 use Rattle.pic_walk.proofs.ArrayLaws.{each_at, each_out}
 use Rattle.pic_walk.proofs.WalkLaws.{exits, then_ok}
-use Rattle.pic_deck.specs.Initial.{IsRow, no_row}
-use Rattle.pic_deck.specs.Keys.{row}
-use Rattle.pic_deck.proofs.ListLaws.{all_more}
-use Rattle.pic_deck.proofs.row_reader.read_each_row.Goals as goal
+use Rattle.pic_walk.specs.Rows.{IsRow, no_row, row}
+use Rattle.pic_walk.proofs.ListLaws.{all_more}
+use Rattle.pic_walk.proofs.row_reader.read_each_row.Goals as goal
 
 pub returns-in_err-items-clause-walks : goal.returns-in_err-items-clause-walks
 unfolding list_of

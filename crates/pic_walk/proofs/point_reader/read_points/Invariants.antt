@@ -2,9 +2,8 @@ use Rattle.std.proofs.Common.{◌≡◌, ℕ, ◌<◌, length, drop, slice_index
 use Rattle.toml.specs.View.{view, items_view}
 use Rattle.pic_walk.specs.Path.{path_of}
 use Rattle.pic_walk.specs.Walk.{each}
-use Rattle.pic_deck.specs.Heads.{IsPoint, no_point}
-use Rattle.pic_deck.specs.Keys.{point, point_list}
-use Rattle.pic_deck.proofs.point_reader.read_points.Given as goal
+use Rattle.pic_walk.specs.Points.{IsPoint, no_point, point, point_list}
+use Rattle.pic_walk.proofs.point_reader.read_points.Given as goal
 
 abbrev pub invariant-loop-i : goal.invariant-loop-i
 invariant-loop-i l = record {

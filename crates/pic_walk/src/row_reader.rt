@@ -4,14 +4,16 @@ ghost use Rattle.pic_grid.specs.Places.{axis_of};
 ghost use Rattle.pic_walk.specs.Path.{path_of};
 ghost use Rattle.pic_walk.specs.Range.{IsInLimits, limits_at};
 ghost use Rattle.pic_walk.specs.Walk.{WalksAs, list_of};
-ghost use Rattle.pic_deck.specs.declared.row_lists.Row.{Row as RowView};
-ghost use Rattle.pic_deck.specs.Initial.{IsRow, AreRows, no_row};
-ghost use Rattle.pic_deck.specs.Keys.{row_limits, row_of, row, row_list};
+ghost use Rattle.pic_walk.specs.declared.row_lists.Row.{Row as RowView};
+ghost use Rattle.pic_walk.specs.Rows.{IsRow, AreRows, no_row, row_limits, row_of, row, row_list};
 
+use crate::faults::DeckFault;
+use crate::numbers::{check_within, read_elements, read_numbers};
+use crate::places::Place;
+use crate::ranges::Limits;
 use crate::row_lists::{Row, Rows};
 use pic_grid::Cells;
 use pic_num::Axis;
-use pic_walk::{DeckFault, Limits, Place, check_within, read_elements, read_numbers};
 use std::alloc::Global;
 use toml::Value;
 
@@ -42,7 +44,7 @@ fn axis_at(number: i64) -> Axis
     }
 }
 
-#[tactic(auto, unfolding(pic_walk::specs::Range::limits_at))]
+#[tactic(auto, unfolding(crate::specs::Range::limits_at))]
 fn row_of(cells: Cells, numbers: [i64; 5]) -> Row
     requires { (k : ℕ) → k < 5 → IsInLimits (limits_at (row_limits cells) k) (slice_index_or numbers k (pos 0)) }
     ensures value { result ≡ row_of numbers }
@@ -88,7 +90,7 @@ fn read_each_row(
 }
 
 /// The rows at a place: `[axis, i, j, k, value]`, the cell among those of the grid.
-pub(crate) fn read_rows(
+pub fn read_rows(
     alloc: Global,
     place: Place<'_>,
     value: &Value,

@@ -2,9 +2,8 @@ use Rattle.std.proofs.Common.{◌≡◌, ℕ, ◌<◌, length, drop, slice_index
 use Rattle.toml.specs.View.{view, items_view}
 use Rattle.pic_walk.specs.Path.{path_of}
 use Rattle.pic_walk.specs.Walk.{list_of, each}
-use Rattle.pic_deck.specs.Initial.{IsRow, no_row}
-use Rattle.pic_deck.specs.Keys.{row}
-use Rattle.pic_deck.proofs.row_reader.read_each_row.Given as goal
+use Rattle.pic_walk.specs.Rows.{IsRow, no_row, row}
+use Rattle.pic_walk.proofs.row_reader.read_each_row.Given as goal
 
 abbrev pub invariant-loop-i : goal.invariant-loop-i
 invariant-loop-i l = record {

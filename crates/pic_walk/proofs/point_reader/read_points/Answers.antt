@@ -4,10 +4,9 @@ use Rattle.pic_walk.specs.Path.{path_of}
 use Rattle.pic_walk.specs.Walk.{list_of}
 use Rattle.pic_walk.proofs.ArrayLaws.{each_at, each_out}
 use Rattle.pic_walk.proofs.WalkLaws.{exits, then_ok}
-use Rattle.pic_deck.specs.Heads.{IsPoint, no_point}
-use Rattle.pic_deck.specs.Keys.{point, point_list}
-use Rattle.pic_deck.proofs.ListLaws.{all_more}
-use Rattle.pic_deck.proofs.point_reader.read_points.Goals as goal
+use Rattle.pic_walk.specs.Points.{IsPoint, no_point, point, point_list}
+use Rattle.pic_walk.proofs.ListLaws.{all_more}
+use Rattle.pic_walk.proofs.point_reader.read_points.Goals as goal
 
 pub returns-in_err-items-clause-walks : goal.returns-in_err-items-clause-walks
 unfolding point_list list_of

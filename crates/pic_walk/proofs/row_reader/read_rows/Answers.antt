@@ -1,9 +1,9 @@
 use Rattle.std.proofs.Common.{◌≡◌, ◌<◌, ◌^◌, length, Ok, ap, sym, arith, rules}
 use Rattle.std.proofs.lemmas.Int.{ints}
-use Rattle.pic_deck.specs.Keys.{row_list}
+use Rattle.pic_walk.specs.Rows.{row_list}
 use Rattle.pic_walk.proofs.WalkLaws.{goes_on, exits}
-use Rattle.pic_deck.proofs.ListLaws.{counted}
-use Rattle.pic_deck.proofs.row_reader.read_rows.Goals as goal
+use Rattle.pic_walk.proofs.ListLaws.{counted}
+use Rattle.pic_walk.proofs.row_reader.read_rows.Goals as goal
 
 pub returns-in_err-rows-clause-walks : goal.returns-in_err-rows-clause-walks
 unfolding row_list

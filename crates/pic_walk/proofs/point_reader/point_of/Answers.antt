@@ -1,7 +1,7 @@
 use Rattle.std.proofs.Common.{rules}
 use Rattle.pic_grid.specs.Places.{IsCells}
-use Rattle.pic_deck.proofs.ContentLaws.{point_is, point_within}
-use Rattle.pic_deck.proofs.point_reader.point_of.Goals as goal
+use Rattle.pic_walk.proofs.PointLaws.{point_is, point_within}
+use Rattle.pic_walk.proofs.point_reader.point_of.Goals as goal
 
 pub returns-clause-value : goal.returns-clause-value
 returns-clause-value c =

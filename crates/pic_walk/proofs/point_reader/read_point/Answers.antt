@@ -1,7 +1,7 @@
 use Rattle.std.proofs.Common.{Ok, ap, sym}
-use Rattle.pic_deck.specs.Keys.{point}
+use Rattle.pic_walk.specs.Points.{point}
 use Rattle.pic_walk.proofs.WalkLaws.{goes_on, exits}
-use Rattle.pic_deck.proofs.point_reader.read_point.Goals as goal
+use Rattle.pic_walk.proofs.point_reader.read_point.Goals as goal
 
 pub returns-in_err-numbers-clause-walks : goal.returns-in_err-numbers-clause-walks
 unfolding point

@@ -1,7 +1,7 @@
 use Rattle.std.proofs.Common.{Ok, ap, sym}
-use Rattle.pic_deck.specs.Keys.{row}
+use Rattle.pic_walk.specs.Rows.{row}
 use Rattle.pic_walk.proofs.WalkLaws.{goes_on, exits}
-use Rattle.pic_deck.proofs.row_reader.read_row.Goals as goal
+use Rattle.pic_walk.proofs.row_reader.read_row.Goals as goal
 
 pub returns-in_err-numbers-clause-walks : goal.returns-in_err-numbers-clause-walks
 unfolding row
