@@ -11,7 +11,8 @@ use Rattle.pic_grid.specs.Path.{Crossing, crossing, crossings, floor_of, floor_c
 use Rattle.pic_grid.specs.Piece.{Piece, IsInside, Leads}
 use Rattle.pic_split.specs.Moves.{IsMove}
 use Rattle.pic_split.proofs.Breaks.{IsSound, IsUpTo, Passing, point_at, part, break_is, part_within, part_upto, part_own, at_start, at_end, between, floor_inside}
-use Rattle.pic_split.proofs.Orders.{IsOther, HasOne, Holds, Sorted, Tells, crossing_tells, crossings_sound, crossings_sorted, crossings_hold}
+use Rattle.pic_split.proofs.Orders.{IsOther, HasOne, Holds, Sorted, Tells, crossing_tells, crossings_sound, crossings_hold}
+use Rattle.pic_split.proofs.Ranks.{crossings_sorted}
 
 -- on one axis: the pieces that are left of the path from p by d, from x in the cell i on, have both
 -- ends in their cells, and each cell is c or e

@@ -17,7 +17,8 @@ use Rattle.pic_grid.specs.Sums.{sum_over}
 use Rattle.pic_split.specs.Moves.{IsMove}
 use Rattle.pic_split.specs.Ways.{ways}
 use Rattle.pic_split.proofs.Breaks.{IsSound, point_at, part, break_is, part_within, at_start, at_end}
-use Rattle.pic_split.proofs.Orders.{Sorted, crossings_sound, crossings_sorted}
+use Rattle.pic_split.proofs.Orders.{Sorted, crossings_sound}
+use Rattle.pic_split.proofs.Ranks.{crossings_sorted}
 use Rattle.pic_split.proofs.Leading.{parts_late, all_late, break_along, plus_along}
 
 -- the way between two points of the path

@@ -1,8 +1,10 @@
 pub mod Breaks
 pub mod Orders
+pub mod Ranks
 pub mod Leading
 pub mod Lengths
 pub mod Codes
 pub mod ContinuityImages
 pub mod ContinuityHats
 pub mod Continuity
+pub mod CrossingsInOrder

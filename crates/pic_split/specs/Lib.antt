@@ -3,3 +3,4 @@ pub mod Moves
 pub mod Sizes
 pub mod Ways
 pub mod Continuity
+pub mod CrossingsInOrder

@@ -6,5 +6,5 @@ mod law;
 mod order;
 mod paths;
 
-pub use law::law_of_continuity;
+pub use law::{law_of_continuity, law_of_crossings};
 pub use paths::split;
