@@ -146,6 +146,12 @@ fn a_reader_breaks(rt: HostRuntime) {
         assert_eq!(rt; source.take(&mut room), want);
         assert_eq!(rt; room.as_slice(), seen);
     }
+    let mut broken = StdSource::new(BrokenReader {
+        text: b"abc",
+        at: 0,
+        cut: Some(0),
+    });
+    assert_eq!(rt; broken.take(&mut []), Err(Failed));
 }
 
 // What a writer does that holds as many bytes as it is to take.
