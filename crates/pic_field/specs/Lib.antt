@@ -1,1 +1,2 @@
 pub mod FieldPhases
+pub mod LeastStop

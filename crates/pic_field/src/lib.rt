@@ -5,11 +5,13 @@ mod curls;
 mod electric;
 mod faults;
 mod forces;
+mod laws;
 mod magnetic;
 mod places;
 
 pub use electric::full_e;
 pub use forces::force;
+pub use laws::law_of_the_least_stop;
 pub use magnetic::half_b;
 
 #[cfg(test)]
