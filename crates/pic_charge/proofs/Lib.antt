@@ -3,4 +3,3 @@ pub mod Nodes
 pub mod PairLaws
 pub mod ChargeLaws
 pub mod BreakLaws
-pub mod Finds

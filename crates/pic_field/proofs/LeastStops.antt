@@ -12,7 +12,7 @@ use Rattle.pic_num.specs.First.{first_of}
 use Rattle.pic_num.specs.Multiplier.{Multiplier}
 use Rattle.pic_num.specs.Rounding.{scaled}
 use Rattle.pic_num.specs.Space.{Triple, axis_number}
-use Rattle.pic_num.proofs.Firsts.{first_of_at, none_first_of}
+use Rattle.pic_num.proofs.Firsts.{IsFoundAt, first_of_some, first_of_at, none_first_of}
 use Rattle.pic_grid.specs.declared.stops.Bound.{Bound}
 use Rattle.pic_grid.specs.declared.stops.Bound.TheVariants.{Value, Force}
 use Rattle.pic_grid.specs.declared.stops.Phase.{Phase}
@@ -24,39 +24,6 @@ use Rattle.pic_grid.proofs.Places.{index_of_below, place_of_below, place_of-numb
 use Rattle.pic_field.specs.FieldPhases.{fault_of, cell_above, fault_at, least_fault, IsBounded}
 use Rattle.pic_field.specs.LeastStop.{LeastStop, EachBounded, Passes, value_passes, force_passes, IsBefore, less_axis, less_z, less_y, less_x, IsLeastStop}
 use Rattle.pic_field.proofs.LeastFaults.{fault_of-none, fault_at-place_of, least_fault-bounded}
-
--- a is found at the number `at`, and nothing before it
-record IsFoundAt {A : Type 0} (g : ℕ → Option A) (s n : ℕ) (a : A) (at : ℕ) : Type 0 where
-  low : s ≤ at
-  high : at < s + n
-  found : g at ≡ Some a
-  before : (j : ℕ) → s ≤ j → j < at → g j ≡ None
-
--- what is found first along a range is found at its least number
-first_of_some : {A : Type 0} (g : ℕ → Option A) (s n : ℕ) (a : A) → first_of g (range_with_len s n) ≡ Some a
-    → (at : ℕ) × IsFoundAt g s n a at
-unfolding first_of
-first_of_some g s zero a is = cc
-first_of_some {A = A} g s (suc n) a is = go (λ found. first_of_some g (s + 1) n a found) (g s) refl is
-  where
-    go : (first_of g (range_with_len (s + 1) n) ≡ Some a → (at : ℕ) × IsFoundAt g (s + 1) n a at)
-        → (o : Option A) → g s ≡ o → option_or o (first_of g (range_with_len (s + 1) n)) ≡ Some a → (at : ℕ) × IsFoundAt g s (suc n) a at
-    go later_found (Some b) here found = (s, record { low = omega arith; high = omega arith; found = here ∙ found; before = λ j low high. absurd (omega (arith, low, high)) })
-    go later_found None here found =
-        let rest = later_found found in
-        let low = rest.1.low in
-        let high = rest.1.high in (
-          rest.0,
-          record {
-            low = omega (arith, low);
-            high = omega (arith, high);
-            found = rest.1.found;
-            before = λ j above below. elim (cases_lt s j) [
-              | inl later ↦ rest.1.before j (omega (arith, later)) below
-              | inr same ↦ (let e : j ≡ s = omega (arith, same, above) in ap g e ∙ here)
-            ];
-          },
-        )
 
 -- a cell of a lower row has the lower number
 row_less : (w r s x y : ℕ) → r < s → x < w → r * w + x < s * w + y
