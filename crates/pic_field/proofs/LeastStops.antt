@@ -1,18 +1,15 @@
 -- The stop of a box is the least: the order of places is that of their numbers, and what is found
 -- first along the numbers is at the least of them.
-use Rattle.std.proofs.Common.{◌≡◌, ℕ, zero, suc, ℤ, ◌+◌, ◌*◌, ◌/◌, ◌%◌, ◌^◌, ◌<◌, ◌≤◌, Bool, true, false, cond, ltb, Option, Some, None, unsigned_abs, refl, sym, ◌∙◌, ap, subst, inl, inr, arith}
+use Rattle.std.proofs.Common.{◌≡◌, ℕ, ℤ, ◌+◌, ◌*◌, ◌/◌, ◌%◌, ◌^◌, ◌<◌, Bool, true, false, cond, ltb, Option, Some, None, unsigned_abs, refl, sym, ◌∙◌, ap, subst, inl, inr, arith}
 use Rattle.std.proofs.lemmas.Bool.{cases_lt, ltb-true, lt-ltb, le-ltb}
 use Rattle.std.proofs.lemmas.Nat.{mul-add-lt}
-use Rattle.std.specs.Option.{option_or}
-use Rattle.std.specs.List.{range_with_len}
 use borrow.Author.Tests.{ltb-false}
 use Rattle.pic_num.specs.declared.space.Axis.{Axis}
 use Rattle.pic_num.specs.declared.space.Axis.TheVariants.{X, Y, Z}
-use Rattle.pic_num.specs.First.{first_of}
 use Rattle.pic_num.specs.Multiplier.{Multiplier}
 use Rattle.pic_num.specs.Rounding.{scaled}
 use Rattle.pic_num.specs.Space.{Triple, axis_number}
-use Rattle.pic_num.proofs.Firsts.{IsFoundAt, first_of_some, first_of_at, none_first_of}
+use Rattle.pic_num.proofs.Firsts.{first_of_some, first_of_at, none_first_of}
 use Rattle.pic_grid.specs.declared.stops.Bound.{Bound}
 use Rattle.pic_grid.specs.declared.stops.Bound.TheVariants.{Value, Force}
 use Rattle.pic_grid.specs.declared.stops.Phase.{Phase}

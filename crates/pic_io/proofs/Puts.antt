@@ -7,7 +7,7 @@ use Rattle.std.proofs.Math.Nat.{le_trans}
 use Rattle.std.proofs.Math.Seq.{take-add, take-append_seam, drop-append_seam, take-length}
 use Rattle.pic_io.specs.Told.{Told, raised, Rose, Calm, Quiet, HasCause}
 use Rattle.pic_io.specs.Sink.{with_back, Appended, AppendedFront, Puts}
-use Rattle.pic_io.specs.Sinks.{Sinks, sinks, Wrote, FailedAt, Piece, outs, lines, Front, IsCut, CutAt, Writes, LineCut, WritesLine}
+use Rattle.pic_io.specs.Sinks.{Sinks, sinks, Wrote, FailedAt, Piece, outs, lines, Front, CutAt, Writes, LineCut, WritesLine}
 use Rattle.pic_io.specs.declared.outside.Side.{Side}
 use Rattle.pic_io.specs.declared.outside.Side.TheVariants.{Out, Report}
 

@@ -595,10 +595,16 @@ fn a_state_and_the_one_after_a_step(rt: HostRuntime) -> Result<(), Fail> {
     let deck = read_deck(rt.alloc(), PAIR_DECK).expect(&rt, "a deck");
     let particles = load(rt.alloc(), &deck)?;
     let first = state_of(rt.alloc(), &deck, &particles).expect(&rt, "a state");
-    assert_eq!(rt; particles_of(rt.alloc(), &first)?.as_slice(), particles.as_slice());
+    assert_eq!(rt;
+        particles_of(rt.alloc(), &first)?.as_slice(),
+        particles.as_slice()
+    );
     let second = step(first).ok().expect(&rt, "the next state");
     let moved = particles_of(rt.alloc(), &second)?;
     let electron = moved.get(1).expect(&rt, "an electron");
-    assert_eq!(rt; (electron.id, electron.x, electron.v), (1, [3072, 0, 0], [8388608, 0, 0]));
+    assert_eq!(rt;
+        (electron.id, electron.x, electron.v),
+        (1, [3072, 0, 0], [8388608, 0, 0])
+    );
     Ok(())
 }

@@ -1,4 +1,4 @@
-use Rattle.std.proofs.Common.{◌≡◌, List, ℕ, [], codes, ◌∙◌, subst}
+use Rattle.std.proofs.Common.{◌≡◌, List, ℕ, codes, ◌∙◌, subst}
 use Rattle.std.proofs.lemmas.Int.{to_z-of_z}
 use mir.Syntax.{w128}
 use Rattle.pic_io.specs.Sinks.{WritesLine}

@@ -1,4 +1,4 @@
-use Rattle.std.proofs.Common.{◌≡◌, [], length, take, map}
+use Rattle.std.proofs.Common.{◌≡◌, length, take, map}
 use Rattle.std.specs.Str.{chars}
 use Rattle.pic_io.specs.Told.{Calm}
 use Rattle.pic_io.specs.Sink.{Appended}
