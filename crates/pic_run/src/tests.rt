@@ -524,13 +524,15 @@ type Failing<'a> = (&'a [u64], &'a [(u64, usize)], &'a [(u64, usize)]);
 fn calls_that_fail(rt: HostRuntime) -> Result<(), Fail> {
     let dump = empty_dump(rt.alloc())?;
     // what fails, the status, how many bytes of the dump stand on out, and the report
-    let cases: [(Failing<'_>, u8, usize, &[u8]); 6] = [
+    // (header, frame and end record are a put each, so a fourth put never comes to fail)
+    let cases: [(Failing<'_>, u8, usize, &[u8]); 7] = [
         ((&[0], &[], &[]), 4, 0, b"read fault\n"),
         ((&[1], &[], &[]), 4, 0, b"read fault\n"),
         ((&[], &[(0, 7)], &[]), 5, 7, b""),
         ((&[], &[(1, 0)], &[]), 5, 64, b""),
         ((&[], &[], &[(0, 3)]), 5, 885, b"fra"),
         ((&[2], &[], &[(0, 4)]), 5, 0, b"read"),
+        ((&[], &[(3, 0)], &[(2, 0)]), 0, 891, EMPTY_REPORT),
     ];
     for ((fails, out_fails, report_fails), status, out, report) in cases {
         let given = Given {
