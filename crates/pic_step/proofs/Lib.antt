@@ -4,6 +4,7 @@ pub mod GaussLaw
 pub mod Soundness
 pub mod Beyond
 pub mod Images
+pub mod LeastHalts
 pub mod Foldings
 pub mod Fits
 pub mod Passed

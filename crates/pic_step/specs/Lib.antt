@@ -8,3 +8,4 @@ pub mod Rooms
 pub mod PushRoom
 pub mod Keeps
 pub mod Reach
+pub mod LeastHalt

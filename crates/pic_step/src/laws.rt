@@ -1,7 +1,8 @@
-//! What the serial step keeps, and how far its flux reaches. Each is the contract of a function that
-//! does nothing.
+//! What the serial step keeps, what stops its push, and how far its flux reaches. Each is the contract
+//! of a function that does nothing.
 
 ghost use Rattle.pic_step.specs.Keeps.{EveryStepKeeps};
+ghost use Rattle.pic_step.specs.LeastHalt.{LeastHalt};
 ghost use Rattle.pic_step.specs.Reach.{ThreeImagesAreAll};
 
 /// The serial step of a state that meets Gauss's law meets it at every node, and the divergence of B
@@ -14,4 +15,10 @@ pub fn law_of_the_step()
 /// grid, which adds up these images, adds up all edges that wrap to one.
 pub fn three_images_are_all()
     ensures { ThreeImagesAreAll }
+{}
+
+/// The stop of the push phase is that of the least identity that halts, and there is none exactly where
+/// no particle halts: of all particles whose identities are 0, 1, .. in order.
+pub fn law_of_the_least_halt()
+    ensures { LeastHalt }
 {}

@@ -11,6 +11,6 @@ mod rooms;
 mod state;
 mod stepping;
 
-pub use laws::{law_of_the_step, three_images_are_all};
+pub use laws::{law_of_the_least_halt, law_of_the_step, three_images_are_all};
 pub use state::{State, kinds_of};
 pub use stepping::{StepStop, step};

@@ -1,0 +1,5 @@
+use Rattle.pic_step.proofs.LeastHalts.{least_halt}
+use Rattle.pic_step.proofs.laws.law_of_the_least_halt.Goals as goal
+
+pub returns : goal.returns
+returns c = least_halt
