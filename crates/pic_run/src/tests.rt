@@ -29,34 +29,17 @@ b_force = [1, 0]
 
 // The same with three steps, and a frame due after every ten.
 const RARE_DECK: &[u8] = b"version = 1
-[grid]
-cells = [2, 2, 2]
-tiles = [1, 1, 1]
-[run]
-steps = 3
-every = 10
-[scale]
-e_to_b = [1, 4]
-b_to_e = [1, 1]
-e_force = [1, 0]
-b_force = [1, 0]
+grid = { cells = [2, 2, 2], tiles = [1, 1, 1] }
+run = { steps = 3, every = 10 }
+scale = { e_to_b = [1, 4], b_to_e = [1, 1], e_force = [1, 0], b_force = [1, 0] }
 ";
 
 // One face of B, and a step in which E's force value grows too large.
 const STOP_DECK: &[u8] = b"version = 1
-[grid]
-cells = [2, 2, 2]
-tiles = [1, 1, 1]
-[run]
-steps = 1
-every = 1
-[scale]
-e_to_b = [1, 4]
-b_to_e = [2147483647, 0]
-e_force = [2, 0]
-b_force = [0, 0]
-[field]
-faces = [[2, 0, 0, 0, 4097]]
+grid = { cells = [2, 2, 2], tiles = [1, 1, 1] }
+run = { steps = 1, every = 1 }
+scale = { e_to_b = [1, 4], b_to_e = [2147483647, 0], e_force = [2, 0], b_force = [0, 0] }
+field = { faces = [[2, 0, 0, 0, 4097]] }
 ";
 
 // A step of the fields alone: Bz is 8 on one face.
