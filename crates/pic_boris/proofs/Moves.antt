@@ -7,7 +7,7 @@ use Rattle.pic_num.specs.Push.{each}
 use Rattle.pic_num.specs.Rounding.{rounded}
 use Rattle.pic_num.specs.Sizes.{IsAtMost}
 use Rattle.pic_num.specs.Space.{Spot}
-use Rattle.pic_num.proofs.Rounds.{rounded-is}
+use Rattle.pic_num.proofs.RoundingLaws.{rounded-is}
 use Rattle.pic_boris.specs.Vectors.{AreAtMost, IsKeptVelocity}
 
 kept : (v : ℤ) → IsAtMost (rounded v (pos 4096)) 4096 → (negsuc 16779263 ≤ℤ v) × (v ≤ℤ pos 16779263)

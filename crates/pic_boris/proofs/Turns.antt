@@ -8,8 +8,8 @@ use Rattle.pic_num.specs.Push.{cross, half_turned}
 use Rattle.pic_num.specs.Rounding.{rounded}
 use Rattle.pic_num.specs.Sizes.{IsAtMost}
 use Rattle.pic_num.specs.Space.{Spot}
-use Rattle.pic_num.proofs.Rounds.{rounded-size}
-use Rattle.pic_num.proofs.Sizes.{codes, code_is, code_at_most}
+use Rattle.pic_num.proofs.RoundingLaws.{rounded-size}
+use Rattle.pic_num.proofs.SizeLaws.{codes, code_is, code_at_most}
 use Rattle.pic_boris.specs.Vectors.{AreAtMost}
 
 minor_size : (a b c d : ℤ) → IsAtMost a (2 ^ 40) → IsAtMost b (2 ^ 24) → IsAtMost c (2 ^ 40) → IsAtMost d (2 ^ 24)

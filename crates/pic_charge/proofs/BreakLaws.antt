@@ -8,12 +8,12 @@ use Rattle.std.specs.Ordering.{int_eq}
 use Rattle.pic_num.specs.declared.motion.Particle.{Particle}
 use Rattle.pic_num.specs.declared.motion.Kind.{Kind}
 use Rattle.pic_num.specs.Space.{Triple}
-use Rattle.pic_num.proofs.Firsts.{first_of_some, first_of_at, first_of_none, none_first_of, first_of_same}
+use Rattle.pic_num.proofs.FirstLaws.{first_of_some, first_of_at, first_of_none, none_first_of, first_of_same}
 use Rattle.pic_grid.specs.Arrays.{array_of_triple}
 use Rattle.pic_grid.specs.Differences.{div_e}
-use Rattle.pic_grid.specs.Fields.{Field, value_at}
-use Rattle.pic_grid.specs.Places.{IsWithin, count_of, index_of, cell_of}
-use Rattle.pic_grid.proofs.Places.{index_of_below, cell_of-index_of, index_of-cell_of, cell_of_within}
+use Rattle.pic_grid.specs.Lattice.{Field, value_at}
+use Rattle.pic_grid.specs.Cells.{IsWithin, count_of, index_of, cell_of}
+use Rattle.pic_grid.proofs.CellLaws.{index_of_below, cell_of-index_of, index_of-cell_of, cell_of_within}
 use Rattle.pic_charge.specs.declared.breaks.Break.{Break}
 use Rattle.pic_charge.specs.Charge.{charge_of}
 use Rattle.pic_charge.specs.Gauss.{difference_at, first_break, Agree, IsLeastBreak, MeetsGauss}

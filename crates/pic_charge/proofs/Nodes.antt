@@ -6,9 +6,9 @@ use Rattle.std.proofs.lemmas.Bool.Decides.{nat_tests}
 use Rattle.std.proofs.lemmas.Int.{ints}
 use Rattle.std.proofs.lemmas.List.{get_or-set_other}
 use Rattle.pic_num.specs.Space.{Triple}
-use Rattle.pic_grid.specs.Fields.{NodeValues, node_at, with_node}
-use Rattle.pic_grid.specs.Places.{IsWithin, count_of, index_of}
-use Rattle.pic_grid.proofs.Places.{index_of_below, index_of_same, cells_more}
+use Rattle.pic_grid.specs.Lattice.{NodeValues, node_at, with_node}
+use Rattle.pic_grid.specs.Cells.{IsWithin, count_of, index_of}
+use Rattle.pic_grid.proofs.CellLaws.{index_of_below, index_of_same, cells_more}
 use Rattle.pic_charge.specs.Spread.{only_at, spread, Adds}
 
 -- every other node stays

@@ -9,9 +9,9 @@ use Rattle.pic_num.specs.declared.motion.Particle.{Particle}
 use Rattle.pic_num.specs.declared.motion.Kind.{Kind}
 use Rattle.pic_num.specs.Space.{Triple, triple}
 use Rattle.pic_grid.specs.Hat.{periodic_hat, weight}
-use Rattle.pic_grid.specs.Places.{IsWithin}
+use Rattle.pic_grid.specs.Cells.{IsWithin}
 use Rattle.pic_grid.specs.PushPhase.{kind_of}
-use Rattle.pic_grid.proofs.Hats.{two_hats}
+use Rattle.pic_grid.proofs.HatLaws.{two_hats}
 use Rattle.pic_charge.specs.declared.pairs.Pair.{Pair}
 use Rattle.pic_charge.specs.Charge.{share}
 use Rattle.pic_charge.specs.Spread.{only_at, weight_in, spread}

@@ -8,8 +8,8 @@ use mir.Val.{to_z, of_z}
 use Rattle.pic_num.proofs.Ring.{ring, reads}
 use Rattle.pic_num.specs.Sizes.{IsAtMost}
 use Rattle.pic_num.specs.Space.{Triple}
-use Rattle.pic_grid.specs.Fields.{NodeValues, node_at}
-use Rattle.pic_grid.specs.Places.{IsWithin}
+use Rattle.pic_grid.specs.Lattice.{NodeValues, node_at}
+use Rattle.pic_grid.specs.Cells.{IsWithin}
 use Rattle.pic_charge.specs.declared.pairs.Pair.{Pair}
 use Rattle.pic_charge.specs.Spread.{only_at, weight_in, spread, IsPair, AreAtMost, Adds}
 

@@ -4,8 +4,8 @@
 use Rattle.std.specs.Prelude.{◌≡◌, ℤ, pos, ℕ, ◌+◌, ◌*◌, ◌<◌, ◌+ℤ◌, ◌*ℤ◌, if◌then◌else◌, ◌==◌}
 use Rattle.pic_num.specs.Sizes.{IsAtMost}
 use Rattle.pic_num.specs.Space.{Triple}
-use Rattle.pic_grid.specs.Fields.{NodeValues, node_at}
-use Rattle.pic_grid.specs.Places.{IsWithin}
+use Rattle.pic_grid.specs.Lattice.{NodeValues, node_at}
+use Rattle.pic_grid.specs.Cells.{IsWithin}
 use Rattle.pic_charge.specs.declared.pairs.Pair.{Pair}
 
 -- v at the number i, and 0 elsewhere

@@ -1,8 +1,8 @@
 ghost use Rattle.std.specs.Prelude.{◌≡◌, pos, ◌^◌, ◌≤◌, ◌*ℤ◌, All, length};
 ghost use Rattle.pic_num.specs.Sizes.{IsAtMost};
 ghost use Rattle.pic_num.specs.Space.{Triple};
-ghost use Rattle.pic_grid.specs.Fields.{node_at};
-ghost use Rattle.pic_grid.specs.Places.{IsWithin};
+ghost use Rattle.pic_grid.specs.Lattice.{node_at};
+ghost use Rattle.pic_grid.specs.Cells.{IsWithin};
 ghost use Rattle.pic_grid.specs.Species.{IsKind};
 ghost use Rattle.pic_charge.specs.Charge.{share, charge_of, CanShare};
 ghost use Rattle.pic_charge.specs.Spread.{AreAtMost, Adds};

@@ -5,19 +5,19 @@ use Rattle.std.specs.List.{range_with_len}
 use Rattle.std.specs.Prelude.{unsigned_abs}
 use Rattle.std.proofs.lemmas.Bool.{cases_Bool, leb-true, le-leb}
 use Rattle.std.proofs.lemmas.Int.{ints}
-use Rattle.pic_num.specs.declared.space.Axis.{Axis}
-use Rattle.pic_num.specs.declared.space.Axis.TheVariants.{X, Y, Z}
+use Rattle.pic_num.specs.declared.axis.Axis.{Axis}
+use Rattle.pic_num.specs.declared.axis.Axis.TheVariants.{X, Y, Z}
 use Rattle.pic_num.specs.First.{first_of}
 use Rattle.pic_num.specs.Multiplier.{Multiplier}
 use Rattle.pic_num.specs.Rounding.{scaled}
 use Rattle.pic_num.specs.Sizes.{IsAtMost}
 use Rattle.pic_num.specs.Space.{Triple, Spot}
-use Rattle.pic_num.proofs.Firsts.{first_of_next, first_of_at, first_of_none, none_first_of, first_of_same}
-use Rattle.pic_num.proofs.Rounds.{scaled-no_larger}
-use Rattle.pic_grid.specs.Fields.{Field, value_at, field_of}
-use Rattle.pic_grid.proofs.Fields.{value_at-field_of}
-use Rattle.pic_grid.specs.Places.{IsWithin, count_of, cell_of, axis_of, place_of}
-use Rattle.pic_grid.proofs.Places.{axis_of-place_of, cell_of-place_of, place_of_below, place_within}
+use Rattle.pic_num.proofs.FirstLaws.{first_of_next, first_of_at, first_of_none, none_first_of, first_of_same}
+use Rattle.pic_num.proofs.RoundingLaws.{scaled-no_larger}
+use Rattle.pic_grid.specs.Lattice.{Field, value_at, field_of}
+use Rattle.pic_grid.proofs.LatticeLaws.{value_at-field_of}
+use Rattle.pic_grid.specs.Cells.{IsWithin, count_of, cell_of, axis_of, place_of}
+use Rattle.pic_grid.proofs.CellLaws.{axis_of-place_of, cell_of-place_of, place_of_below, place_within}
 use Rattle.pic_grid.specs.Sums.{sum_over}
 use Rattle.pic_walk.specs.declared.row_lists.Row.{Row}
 use Rattle.pic_deck.specs.Initial.{strong, first_strong, set_up, IsMild}

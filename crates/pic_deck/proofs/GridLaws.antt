@@ -13,7 +13,7 @@ use Rattle.pic_walk.specs.Range.{from_to, IsInLimits, FitsU32, limits_at}
 use Rattle.pic_walk.specs.Walk.{◌>>=◌, each}
 use Rattle.pic_walk.proofs.ArrayLaws.{each_at}
 use Rattle.pic_num.specs.Space.{triple}
-use Rattle.pic_grid.specs.Places.{IsCells, count_of}
+use Rattle.pic_grid.specs.Cells.{IsCells, count_of}
 use Rattle.pic_deck.specs.Deck.{IsTiled, AreTiles}
 use Rattle.pic_deck.specs.Keys.{cell_limits, next_tiles, axis_tiles}
 

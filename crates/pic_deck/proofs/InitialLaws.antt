@@ -7,15 +7,15 @@ use Rattle.std.proofs.lemmas.Int.{ints}
 use Rattle.std.proofs.lemmas.List.{take_all}
 use mir.Syntax.{w64}
 use mir.Val.{SFits}
-use Rattle.pic_num.specs.declared.space.Axis.{Axis}
+use Rattle.pic_num.specs.declared.axis.Axis.{Axis}
 use Rattle.pic_num.specs.Sizes.{IsAtMost}
 use Rattle.pic_num.specs.Space.{Triple, triple, Spot, along, axis_number}
-use Rattle.pic_grid.specs.Fields.{Field, value_at, with_value}
-use Rattle.pic_grid.specs.Places.{IsWithin, count_of, index_of, place_of}
+use Rattle.pic_grid.specs.Lattice.{Field, value_at, with_value}
+use Rattle.pic_grid.specs.Cells.{IsWithin, count_of, index_of, place_of}
 use Rattle.pic_grid.specs.Sums.{sum_over}
-use Rattle.pic_grid.proofs.Fields.{value_at-same, value_at-other}
+use Rattle.pic_grid.proofs.LatticeLaws.{value_at-same, value_at-other}
 use Rattle.pic_grid.proofs.OverLaws.{sum_over_more}
-use Rattle.pic_grid.proofs.Places.{place_of_same, places_more}
+use Rattle.pic_grid.proofs.CellLaws.{place_of_same, places_more}
 use Rattle.pic_walk.specs.Range.{IsInLimits, any_limits}
 use Rattle.pic_walk.specs.declared.row_lists.Row.{Row}
 use Rattle.pic_walk.specs.Rows.{IsRow, AreRows, no_row}

@@ -1,9 +1,9 @@
 -- What a deck says, and the limits that its type keeps.
 use Rattle.std.specs.Prelude.{◌≡◌, ℕ, ℤ, List, map, ◌/◌, ◌%◌, ◌≤◌}
-use Rattle.pic_num.specs.declared.multiplier.Scales.{Scales}
-use Rattle.pic_num.specs.declared.space.Axis.{Axis}
+use Rattle.pic_num.specs.declared.mult.Scales.{Scales}
+use Rattle.pic_num.specs.declared.axis.Axis.{Axis}
 use Rattle.pic_num.specs.Space.{Triple, triple, Spot, spot}
-use Rattle.pic_grid.specs.Places.{IsCells, count_of}
+use Rattle.pic_grid.specs.Cells.{IsCells, count_of}
 use Rattle.pic_grid.specs.Species.{HeadView, AreHeads}
 use Rattle.pic_walk.specs.declared.row_lists.Row.{Row}
 use Rattle.pic_walk.specs.Rows.{AreRows}

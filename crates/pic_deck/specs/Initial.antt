@@ -1,13 +1,13 @@
 -- The fields that a deck begins with, and the test of their force values: this project's profile.
 use Rattle.std.specs.Prelude.{◌≡◌, ℤ, pos, ◌+ℤ◌, ◌*◌, ◌/◌, ◌%◌, ◌^◌, ◌==◌, ◌&&◌, Bool, nat_le, unsigned_abs, if◌then◌else◌, List, slice_index, Option, Some, None}
 use Rattle.std.specs.List.{range_with_len}
-use Rattle.pic_num.specs.declared.space.Axis.{Axis}
+use Rattle.pic_num.specs.declared.axis.Axis.{Axis}
 use Rattle.pic_num.specs.First.{first_of}
 use Rattle.pic_num.specs.Multiplier.{Multiplier}
 use Rattle.pic_num.specs.Rounding.{scaled}
 use Rattle.pic_num.specs.Sizes.{IsAtMost}
 use Rattle.pic_num.specs.Space.{Triple, Spot, along, axis_number}
-use Rattle.pic_grid.specs.Places.{IsWithin, count_of, cell_of, axis_of}
+use Rattle.pic_grid.specs.Cells.{IsWithin, count_of, cell_of, axis_of}
 use Rattle.pic_grid.specs.Sums.{sum_over}
 use Rattle.pic_walk.specs.declared.row_lists.Row.{Row}
 

@@ -4,10 +4,10 @@ use Rattle.std.specs.Prelude.{ℤ, pos, negsuc, ℕ, ◌+◌, ◌/◌, ◌%◌, 
 use Rattle.std.specs.Str.{is_utf8}
 use Rattle.toml.specs.Data.{Data, Members}
 use Rattle.toml.specs.Parse.{parse_document}
-use Rattle.pic_num.specs.declared.multiplier.Scales.{Scales}
+use Rattle.pic_num.specs.declared.mult.Scales.{Scales}
 use Rattle.pic_num.specs.declared.motion.Kind.{Kind}
 use Rattle.pic_num.specs.Space.{Triple, triple, spot}
-use Rattle.pic_grid.specs.Places.{count_of}
+use Rattle.pic_grid.specs.Cells.{count_of}
 use Rattle.pic_walk.specs.declared.faults.Refusal.TheVariants.{Text, Limit, Name}
 use Rattle.pic_walk.specs.declared.ranges.Limits.{Limits}
 use Rattle.pic_walk.specs.Path.{key_at}

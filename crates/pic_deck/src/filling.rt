@@ -1,9 +1,9 @@
 ghost use Rattle.std.specs.Prelude.{◌≡◌, ℤ, pos, ◌^◌, ◌+ℤ◌, ◌*◌, ◌≤◌, length, unsigned_abs};
-ghost use Rattle.pic_num.specs.declared.space.Axis.{Axis as AxisView};
+ghost use Rattle.pic_num.specs.declared.axis.Axis.{Axis as AxisView};
 ghost use Rattle.pic_num.specs.Sizes.{IsAtMost};
 ghost use Rattle.pic_num.specs.Space.{Triple, spot, along};
-ghost use Rattle.pic_grid.specs.Fields.{value_at, field_of};
-ghost use Rattle.pic_grid.specs.Places.{IsWithin, count_of};
+ghost use Rattle.pic_grid.specs.Lattice.{value_at, field_of};
+ghost use Rattle.pic_grid.specs.Cells.{IsWithin, count_of};
 ghost use Rattle.pic_grid.specs.Sums.{sum_over};
 ghost use Rattle.pic_walk.specs.Rows.{AreRows};
 ghost use Rattle.pic_deck.specs.Initial.{IsUniform, part, set_up};

@@ -1,9 +1,9 @@
 ghost use Rattle.std.specs.Prelude.{◌≡◌, ℤ, pos, ◌^◌, IsTrue, codes, OnOk};
-ghost use Rattle.pic_num.specs.declared.space.Axis.{Axis};
+ghost use Rattle.pic_num.specs.declared.axis.Axis.{Axis};
 ghost use Rattle.pic_num.specs.Sizes.{IsAtMost};
 ghost use Rattle.pic_num.specs.Space.{Triple, spot};
-ghost use Rattle.pic_grid.specs.Fields.{value_at};
-ghost use Rattle.pic_grid.specs.Places.{IsWithin};
+ghost use Rattle.pic_grid.specs.Lattice.{value_at};
+ghost use Rattle.pic_grid.specs.Cells.{IsWithin};
 ghost use Rattle.pic_walk.specs.Path.{key_at};
 ghost use Rattle.pic_walk.specs.Rows.{AreRows};
 ghost use Rattle.pic_walk.specs.Walk.{WalksAs};

@@ -3,7 +3,7 @@ ghost use Rattle.toml.specs.View.{view, table_view};
 ghost use Rattle.pic_num.specs.Space.{Triple, triple};
 ghost use Rattle.pic_walk.specs.Path.{path_of};
 ghost use Rattle.pic_walk.specs.Walk.{WalksAs, table_of, need, array_of, three};
-ghost use Rattle.pic_grid.specs.Places.{IsCells, count_of};
+ghost use Rattle.pic_grid.specs.Cells.{IsCells, count_of};
 ghost use Rattle.pic_deck.specs.Deck.{IsTiled, AreTiles};
 ghost use Rattle.pic_deck.specs.Keys.{grid_keys, grid, cell_limits, axis_tiles, next_tiles, tiles};
 

@@ -1,6 +1,6 @@
 ghost use Rattle.std.specs.Prelude.{[], codes};
 ghost use Rattle.toml.specs.View.{table_view};
-ghost use Rattle.pic_num.specs.declared.multiplier.Scales.{Scales as ScalesView};
+ghost use Rattle.pic_num.specs.declared.mult.Scales.{Scales as ScalesView};
 ghost use Rattle.pic_walk.specs.Walk.{WalksAs, table_of, need};
 ghost use Rattle.pic_deck.specs.Keys.{scale_keys, scale};
 

@@ -5,19 +5,19 @@ use Rattle.pic_num.specs.declared.motion.Kind.{Kind}
 use Rattle.pic_num.specs.declared.motion.Particle.{Particle}
 use Rattle.pic_num.specs.declared.motion.What.{What}
 use Rattle.pic_num.specs.declared.motion.What.TheVariants.{Speed, Turn, Far}
-use Rattle.pic_num.specs.declared.multiplier.Scales.{Scales}
-use Rattle.pic_num.specs.declared.space.Axis.{Axis}
+use Rattle.pic_num.specs.declared.mult.Scales.{Scales}
+use Rattle.pic_num.specs.declared.axis.Axis.{Axis}
 use Rattle.pic_num.specs.Bytes.{u32_bytes, i32_bytes, u128_bytes, i128_bytes}
 use Rattle.pic_num.specs.Multiplier.{Multiplier}
 use Rattle.pic_num.specs.Space.{Triple, triple, Spot, spot, axis_number}
-use Rattle.pic_grid.specs.declared.stops.Phase.{Phase}
-use Rattle.pic_grid.specs.declared.stops.Phase.TheVariants.{Half1, Half2, Electric}
-use Rattle.pic_grid.specs.declared.stops.Bound.{Bound}
-use Rattle.pic_grid.specs.declared.stops.Bound.TheVariants.{Value, Force}
-use Rattle.pic_grid.specs.declared.stops.Stop.TheVariants.{Field as FieldStop, Push}
-use Rattle.pic_grid.specs.declared.stops.EndMark.{EndMark}
-use Rattle.pic_grid.specs.declared.stops.EndMark.TheVariants.{Done, Stopped}
-use Rattle.pic_grid.specs.Fields.{Field}
+use Rattle.pic_grid.specs.declared.stop.Phase.{Phase}
+use Rattle.pic_grid.specs.declared.stop.Phase.TheVariants.{Half1, Half2, Electric}
+use Rattle.pic_grid.specs.declared.stop.Bound.{Bound}
+use Rattle.pic_grid.specs.declared.stop.Bound.TheVariants.{Value, Force}
+use Rattle.pic_grid.specs.declared.stop.Stop.TheVariants.{Field as FieldStop, Push}
+use Rattle.pic_grid.specs.declared.stop.EndMark.{EndMark}
+use Rattle.pic_grid.specs.declared.stop.EndMark.TheVariants.{Done, Stopped}
+use Rattle.pic_grid.specs.Lattice.{Field}
 use Rattle.pic_grid.specs.Species.{HeadView}
 use Rattle.pic_energy.specs.declared.amounts.Energies.{Energies}
 use Rattle.pic_dump.specs.Headers.{HeaderView}

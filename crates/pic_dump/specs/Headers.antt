@@ -1,6 +1,6 @@
 -- What the header of a dump says, and its limits: this project's profile.
 use Rattle.std.specs.Prelude.{ℕ, ◌≤◌, List}
-use Rattle.pic_num.specs.declared.multiplier.Scales.{Scales}
+use Rattle.pic_num.specs.declared.mult.Scales.{Scales}
 use Rattle.pic_num.specs.Space.{Triple}
 use Rattle.pic_grid.specs.Species.{HeadView, AreHeads}
 

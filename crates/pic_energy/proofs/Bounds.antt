@@ -5,10 +5,10 @@ use Rattle.pic_num.specs.declared.motion.Kind.{Kind}
 use Rattle.pic_num.specs.Multiplier.{Multiplier}
 use Rattle.pic_num.specs.Rounding.{scaled}
 use Rattle.pic_num.specs.Sizes.{IsAtMost}
-use Rattle.pic_grid.specs.Fields.{Field}
-use Rattle.pic_grid.specs.Places.{count_of, place_of}
+use Rattle.pic_grid.specs.Lattice.{Field}
+use Rattle.pic_grid.specs.Cells.{count_of, place_of}
 use Rattle.pic_grid.specs.Species.{IsKind}
-use Rattle.pic_grid.proofs.Places.{place_of_below}
+use Rattle.pic_grid.proofs.CellLaws.{place_of_below}
 use Rattle.pic_energy.specs.Energies.{HasMass, IsBounded}
 
 -- kinds within their limits have masses within theirs

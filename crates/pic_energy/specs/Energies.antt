@@ -3,14 +3,14 @@
 use Rattle.std.specs.Prelude.{ℤ, ℕ, ◌+◌, ◌*◌, ◌^◌, ◌<◌, ◌≤◌, List, length, sum_by, unsigned_abs}
 use Rattle.pic_num.specs.declared.motion.Kind.{Kind}
 use Rattle.pic_num.specs.declared.motion.Particle.{Particle}
-use Rattle.pic_num.specs.declared.multiplier.Scales.{Scales}
-use Rattle.pic_num.specs.declared.space.Axis.{Axis}
+use Rattle.pic_num.specs.declared.mult.Scales.{Scales}
+use Rattle.pic_num.specs.declared.axis.Axis.{Axis}
 use Rattle.pic_num.specs.Multiplier.{Multiplier}
 use Rattle.pic_num.specs.Rounding.{scaled}
 use Rattle.pic_num.specs.Sizes.{IsAtMost}
 use Rattle.pic_num.specs.Space.{Triple, Spot, spot}
-use Rattle.pic_grid.specs.Fields.{Field, value_at}
-use Rattle.pic_grid.specs.Places.{IsWithin}
+use Rattle.pic_grid.specs.Lattice.{Field, value_at}
+use Rattle.pic_grid.specs.Cells.{IsWithin}
 use Rattle.pic_grid.specs.PushPhase.{kind_of}
 use Rattle.pic_energy.specs.declared.amounts.Energies.{Energies}
 

@@ -4,15 +4,15 @@ use Rattle.std.specs.Prelude.{ℤ, ℕ, List, ◌++◌, codes}
 use Rattle.std.specs.Fmt.{decimal, signed_decimal}
 use Rattle.pic_num.specs.declared.motion.What.{What}
 use Rattle.pic_num.specs.declared.motion.What.TheVariants.{Speed, Turn, Far}
-use Rattle.pic_num.specs.declared.space.Axis.{Axis}
+use Rattle.pic_num.specs.declared.axis.Axis.{Axis}
 use Rattle.pic_num.specs.Space.{Triple, triple, axis_number}
-use Rattle.pic_grid.specs.declared.stops.Phase.{Phase}
-use Rattle.pic_grid.specs.declared.stops.Phase.TheVariants.{Half1, Half2, Electric}
-use Rattle.pic_grid.specs.declared.stops.Bound.{Bound}
-use Rattle.pic_grid.specs.declared.stops.Bound.TheVariants.{Value, Force}
-use Rattle.pic_grid.specs.declared.stops.Stop.TheVariants.{Field, Push}
-use Rattle.pic_grid.specs.declared.stops.EndMark.{EndMark}
-use Rattle.pic_grid.specs.declared.stops.EndMark.TheVariants.{Done, Stopped}
+use Rattle.pic_grid.specs.declared.stop.Phase.{Phase}
+use Rattle.pic_grid.specs.declared.stop.Phase.TheVariants.{Half1, Half2, Electric}
+use Rattle.pic_grid.specs.declared.stop.Bound.{Bound}
+use Rattle.pic_grid.specs.declared.stop.Bound.TheVariants.{Value, Force}
+use Rattle.pic_grid.specs.declared.stop.Stop.TheVariants.{Field, Push}
+use Rattle.pic_grid.specs.declared.stop.EndMark.{EndMark}
+use Rattle.pic_grid.specs.declared.stop.EndMark.TheVariants.{Done, Stopped}
 use Rattle.pic_energy.specs.declared.amounts.Energies.{Energies}
 
 -- the line of a frame: its step and its energies

@@ -2,11 +2,11 @@
 -- grid.
 use Rattle.std.proofs.Common.{◌≡◌, ℕ, ℤ, pos, ◌+◌, ◌<◌, ◌≤◌, ◌+ℤ◌, ◌-ℤ◌, ◌≤ℤ◌, ◌<ℤ◌, slice_index_or, unsigned_abs, ◌∙◌, ap, arith}
 use Rattle.std.proofs.lemmas.Int.{ints}
-use Rattle.pic_num.specs.declared.space.Axis.{Axis}
+use Rattle.pic_num.specs.declared.axis.Axis.{Axis}
 use Rattle.pic_num.specs.Space.{Triple, Spot}
 use Rattle.pic_grid.specs.Parts.{spot_of}
-use Rattle.pic_grid.specs.Places.{IsWithin, place_of}
-use Rattle.pic_grid.specs.Zones.{BlockValues, InZone, IsAmongCells, IsShaped, inner_of, edge_at, inner_at, outer_of}
+use Rattle.pic_grid.specs.Cells.{IsWithin, place_of}
+use Rattle.pic_grid.specs.Block.{BlockValues, InZone, IsAmongCells, IsShaped, inner_of, edge_at, inner_at, outer_of}
 
 inner_up : (l : ℤ) (x : ℕ) → pos 0 ≤ℤ l → unsigned_abs (pos (unsigned_abs l + x) -ℤ l) ≡ x
 inner_up l x h = omega (arith, ints)

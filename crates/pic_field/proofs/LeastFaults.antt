@@ -3,19 +3,19 @@ use Rattle.std.proofs.Common.{◌≡◌, ℕ, ℤ, ◌+◌, ◌*◌, ◌^◌, �
 use Rattle.std.specs.Option.{option_or}
 use Rattle.std.specs.List.{range_with_len}
 use borrow.Author.Tests.{ltb-false}
-use Rattle.pic_num.specs.declared.space.Axis.{Axis}
+use Rattle.pic_num.specs.declared.axis.Axis.{Axis}
 use Rattle.pic_num.specs.First.{first_of}
 use Rattle.pic_num.specs.Multiplier.{Multiplier}
 use Rattle.pic_num.specs.Push.{unless}
 use Rattle.pic_num.specs.Rounding.{scaled}
 use Rattle.pic_num.specs.Space.{Triple}
-use Rattle.pic_num.proofs.Firsts.{first_of_next, first_of_none}
-use Rattle.pic_grid.specs.declared.stops.Phase.{Phase}
-use Rattle.pic_grid.specs.declared.stops.Stop.{Stop}
-use Rattle.pic_grid.specs.Places.{IsWithin, count_of, place_of}
-use Rattle.pic_grid.specs.Zones.{BlockValues, inner_of, inner_at, outer_of}
-use Rattle.pic_grid.proofs.Places.{place_of_below, axis_of-place_of, cell_of-place_of}
-use Rattle.pic_grid.proofs.Zones.{inner_within}
+use Rattle.pic_num.proofs.FirstLaws.{first_of_next, first_of_none}
+use Rattle.pic_grid.specs.declared.stop.Phase.{Phase}
+use Rattle.pic_grid.specs.declared.stop.Stop.{Stop}
+use Rattle.pic_grid.specs.Cells.{IsWithin, count_of, place_of}
+use Rattle.pic_grid.specs.Block.{BlockValues, inner_of, inner_at, outer_of}
+use Rattle.pic_grid.proofs.CellLaws.{place_of_below, axis_of-place_of, cell_of-place_of}
+use Rattle.pic_grid.proofs.BlockLaws.{inner_within}
 use Rattle.pic_field.proofs.Walks.{IsHere}
 use Rattle.pic_field.specs.FieldPhases.{fault_of, cell_above, lowest, fault_at, least_fault, IsBounded, AllBounded}
 

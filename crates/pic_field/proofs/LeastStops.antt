@@ -4,20 +4,20 @@ use Rattle.std.proofs.Common.{◌≡◌, ℕ, ℤ, ◌+◌, ◌*◌, ◌/◌, �
 use Rattle.std.proofs.lemmas.Bool.{cases_lt, ltb-true, lt-ltb, le-ltb}
 use Rattle.std.proofs.lemmas.Nat.{mul-add-lt}
 use borrow.Author.Tests.{ltb-false}
-use Rattle.pic_num.specs.declared.space.Axis.{Axis}
-use Rattle.pic_num.specs.declared.space.Axis.TheVariants.{X, Y, Z}
+use Rattle.pic_num.specs.declared.axis.Axis.{Axis}
+use Rattle.pic_num.specs.declared.axis.Axis.TheVariants.{X, Y, Z}
 use Rattle.pic_num.specs.Multiplier.{Multiplier}
 use Rattle.pic_num.specs.Rounding.{scaled}
 use Rattle.pic_num.specs.Space.{Triple, axis_number}
-use Rattle.pic_num.proofs.Firsts.{first_of_some, first_of_at, none_first_of}
-use Rattle.pic_grid.specs.declared.stops.Bound.{Bound}
-use Rattle.pic_grid.specs.declared.stops.Bound.TheVariants.{Value, Force}
-use Rattle.pic_grid.specs.declared.stops.Phase.{Phase}
-use Rattle.pic_grid.specs.declared.stops.Stop.{Stop}
-use Rattle.pic_grid.specs.declared.stops.Stop.TheVariants.{Field as field_stop}
+use Rattle.pic_num.proofs.FirstLaws.{first_of_some, first_of_at, none_first_of}
+use Rattle.pic_grid.specs.declared.stop.Bound.{Bound}
+use Rattle.pic_grid.specs.declared.stop.Bound.TheVariants.{Value, Force}
+use Rattle.pic_grid.specs.declared.stop.Phase.{Phase}
+use Rattle.pic_grid.specs.declared.stop.Stop.{Stop}
+use Rattle.pic_grid.specs.declared.stop.Stop.TheVariants.{Field as field_stop}
 use Rattle.pic_grid.specs.Arrays.{array_of_triple}
-use Rattle.pic_grid.specs.Places.{IsWithin, count_of, index_of, cell_of, axis_of, place_of}
-use Rattle.pic_grid.proofs.Places.{index_of_below, place_of_below, place_of-number, place_within}
+use Rattle.pic_grid.specs.Cells.{IsWithin, count_of, index_of, cell_of, axis_of, place_of}
+use Rattle.pic_grid.proofs.CellLaws.{index_of_below, place_of_below, place_of-number, place_within}
 use Rattle.pic_field.specs.FieldPhases.{fault_of, cell_above, fault_at, least_fault, IsBounded}
 use Rattle.pic_field.specs.LeastStop.{LeastStop, EachBounded, Passes, value_passes, force_passes, IsBefore, less_axis, less_z, less_y, less_x, IsLeastStop}
 use Rattle.pic_field.proofs.LeastFaults.{fault_of-none, fault_at-place_of, least_fault-bounded}

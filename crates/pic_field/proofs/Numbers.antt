@@ -1,9 +1,9 @@
 -- The numbers of places that follow each other in a box, and the place of a number.
 use Rattle.std.proofs.Common.{◌≡◌, ℕ, ◌+◌, ◌*◌, ◌<◌, sym, ◌∙◌, ap, subst, arith}
-use Rattle.pic_num.specs.declared.space.Axis.{Axis}
-use Rattle.pic_num.specs.declared.space.Axis.TheVariants.{X, Y, Z}
+use Rattle.pic_num.specs.declared.axis.Axis.{Axis}
+use Rattle.pic_num.specs.declared.axis.Axis.TheVariants.{X, Y, Z}
 use Rattle.pic_num.specs.Space.{Triple, axis_number, next_axis}
-use Rattle.pic_grid.specs.Places.{IsSize, IsWithin, count_of, index_of, place_of}
+use Rattle.pic_grid.specs.Cells.{IsSize, IsWithin, count_of, index_of, place_of}
 
 -- the component on an axis at the cell p is the place of the number i
 pub record IsPlace (n : Triple) (i : ℕ) (a : Axis) (p : Triple) : Type 0 where

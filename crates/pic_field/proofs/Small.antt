@@ -1,11 +1,11 @@
 -- Fields and blocks of small values: zeros, and a value changed.
 use Rattle.std.proofs.Common.{ℕ, zero, suc, ℤ, pos, ◌*◌, List, [], ◌∷◌, replicate, slice_index_or, slice_set, arith}
-use Rattle.pic_num.specs.declared.space.Axis.{Axis}
+use Rattle.pic_num.specs.declared.axis.Axis.{Axis}
 use Rattle.pic_num.specs.Sizes.{IsAtMost}
 use Rattle.pic_num.specs.Space.{Triple, Spot}
-use Rattle.pic_grid.specs.Fields.{Field, with_value}
-use Rattle.pic_grid.specs.Places.{count_of, place_of}
-use Rattle.pic_grid.specs.Zones.{BlockValues, AllAtMost, inner_of, with_edge}
+use Rattle.pic_grid.specs.Lattice.{Field, with_value}
+use Rattle.pic_grid.specs.Cells.{count_of, place_of}
+use Rattle.pic_grid.specs.Block.{BlockValues, AllAtMost, inner_of, with_edge}
 use Rattle.pic_field.specs.FieldPhases.{EachAtMost}
 
 small_zeros : (most m j : ℕ) → IsAtMost (slice_index_or (replicate m (pos 0)) j (pos 0)) most

@@ -1,13 +1,13 @@
 -- A walk over the places of a block that gives each its new value.
 use Rattle.std.proofs.Common.{◌≡◌, ◌≢◌, ℕ, ℤ, pos, ◌+◌, ◌*◌, ◌<◌, ◌≤◌, refl, sym, ◌∙◌, ap, subst, arith}
 use Rattle.std.proofs.lemmas.List.{get_or-set_other}
-use Rattle.pic_num.specs.declared.space.Axis.{Axis}
+use Rattle.pic_num.specs.declared.axis.Axis.{Axis}
 use Rattle.pic_num.specs.Sizes.{IsAtMost}
 use Rattle.pic_num.specs.Space.{Triple, Spot}
 use Rattle.pic_grid.specs.Parts.{spot_of}
-use Rattle.pic_grid.specs.Places.{IsWithin, count_of, place_of}
-use Rattle.pic_grid.specs.Zones.{BlockValues, InZone, IsAmongCells, IsShaped, AllAtMost, inner_of, edge_at, with_edge, inner_at, outer_of}
-use Rattle.pic_grid.proofs.Places.{place_of_below, places_more}
+use Rattle.pic_grid.specs.Cells.{IsWithin, count_of, place_of}
+use Rattle.pic_grid.specs.Block.{BlockValues, InZone, IsAmongCells, IsShaped, AllAtMost, inner_of, edge_at, with_edge, inner_at, outer_of}
+use Rattle.pic_grid.proofs.CellLaws.{place_of_below, places_more}
 use Rattle.pic_field.proofs.Blocks.{inner_of-outer_of, outer_inside}
 use Rattle.pic_field.proofs.Numbers.{IsPlace}
 

@@ -4,26 +4,26 @@ use Rattle.std.proofs.Common.{◌≡◌, ℕ, ℤ, pos, ◌+◌, ◌*◌, ◌/�
 use Rattle.std.proofs.lemmas.Int.{ints}
 use Rattle.std.proofs.lemmas.Nat.{div_below}
 use Rattle.std.proofs.Math.Nat.{div-one}
-use Rattle.pic_num.specs.declared.multiplier.Scales.{Scales}
-use Rattle.pic_num.specs.declared.space.Axis.{Axis}
+use Rattle.pic_num.specs.declared.mult.Scales.{Scales}
+use Rattle.pic_num.specs.declared.axis.Axis.{Axis}
 use Rattle.pic_num.specs.Multiplier.{Multiplier}
 use Rattle.pic_num.specs.Push.{unless}
 use Rattle.pic_num.specs.Rounding.{scaled}
 use Rattle.pic_num.specs.Sizes.{IsAtMost}
 use Rattle.pic_num.specs.Space.{Triple, Spot}
-use Rattle.pic_num.proofs.Firsts.{first_of_same}
-use Rattle.pic_grid.specs.declared.stops.Phase.{Phase}
-use Rattle.pic_grid.specs.declared.stops.Phase.TheVariants.{Electric}
-use Rattle.pic_grid.specs.declared.stops.Stop.{Stop}
-use Rattle.pic_grid.specs.Fields.{Field, value_at, field_of}
+use Rattle.pic_num.proofs.FirstLaws.{first_of_same}
+use Rattle.pic_grid.specs.declared.stop.Phase.{Phase}
+use Rattle.pic_grid.specs.declared.stop.Phase.TheVariants.{Electric}
+use Rattle.pic_grid.specs.declared.stop.Stop.{Stop}
+use Rattle.pic_grid.specs.Lattice.{Field, value_at, field_of}
 use Rattle.pic_grid.specs.Gather.{force_of}
 use Rattle.pic_grid.specs.Parts.{spot_of, part_size, part_of, corner_of, IsPart, no_block, ArePartsOf, value_in, joined}
-use Rattle.pic_grid.specs.Places.{IsWithin, count_of, index_of, cell_of, axis_of}
-use Rattle.pic_grid.specs.Zones.{BlockValues, InZone, IsAmongCells, IsShaped, AllAtMost, inner_of, edge_at, inner_at, outer_of}
-use Rattle.pic_grid.proofs.Fields.{is_field_of, length-values_of}
-use Rattle.pic_grid.proofs.Parts.{value_at-joined}
-use Rattle.pic_grid.proofs.Places.{index_of_below, place_within}
-use Rattle.pic_grid.proofs.Zones.{inner_within}
+use Rattle.pic_grid.specs.Cells.{IsWithin, count_of, index_of, cell_of, axis_of}
+use Rattle.pic_grid.specs.Block.{BlockValues, InZone, IsAmongCells, IsShaped, AllAtMost, inner_of, edge_at, inner_at, outer_of}
+use Rattle.pic_grid.proofs.LatticeLaws.{is_field_of, length-values_of}
+use Rattle.pic_grid.proofs.PartLaws.{value_at-joined}
+use Rattle.pic_grid.proofs.CellLaws.{index_of_below, place_within}
+use Rattle.pic_grid.proofs.BlockLaws.{inner_within}
 use Rattle.pic_field.proofs.Blocks.{outer_inside}
 use Rattle.pic_field.proofs.LeastFaults.{least_fault-bounded}
 use Rattle.pic_field.specs.FieldPhases.{half_of, half_in, full_of, full_in, lowest, cell_above, fault_of, fault_at, least_fault, EachAtMost, IsBounded, AllBounded}

@@ -4,22 +4,22 @@
 -- stops are this project's profile.
 use Rattle.std.specs.Prelude.{ℤ, ℕ, ◌+◌, ◌*◌, ◌/◌, ◌%◌, ◌^◌, ◌+ℤ◌, ◌-ℤ◌, unsigned_abs, nat_lt, if◌then◌else◌, [], ◌∷◌, Option, Some, None}
 use Rattle.std.specs.List.{range_with_len}
-use Rattle.pic_num.specs.declared.multiplier.Scales.{Scales}
-use Rattle.pic_num.specs.declared.space.Axis.{Axis}
+use Rattle.pic_num.specs.declared.mult.Scales.{Scales}
+use Rattle.pic_num.specs.declared.axis.Axis.{Axis}
 use Rattle.pic_num.specs.First.{first_of}
 use Rattle.pic_num.specs.Multiplier.{Multiplier}
 use Rattle.pic_num.specs.Rounding.{scaled}
 use Rattle.pic_num.specs.Sizes.{IsAtMost}
 use Rattle.pic_num.specs.Space.{Triple, Spot}
-use Rattle.pic_grid.specs.declared.stops.Bound.TheVariants.{Value, Force}
-use Rattle.pic_grid.specs.declared.stops.Phase.{Phase}
-use Rattle.pic_grid.specs.declared.stops.Stop.{Stop}
-use Rattle.pic_grid.specs.declared.stops.Stop.TheVariants.{Field as field_stop}
+use Rattle.pic_grid.specs.declared.stop.Bound.TheVariants.{Value, Force}
+use Rattle.pic_grid.specs.declared.stop.Phase.{Phase}
+use Rattle.pic_grid.specs.declared.stop.Stop.{Stop}
+use Rattle.pic_grid.specs.declared.stop.Stop.TheVariants.{Field as field_stop}
 use Rattle.pic_grid.specs.Differences.{curl_b, curl_e}
-use Rattle.pic_grid.specs.Fields.{Field, value_at}
+use Rattle.pic_grid.specs.Lattice.{Field, value_at}
 use Rattle.pic_grid.specs.Parts.{spot_of}
-use Rattle.pic_grid.specs.Places.{IsWithin, count_of, cell_of, axis_of}
-use Rattle.pic_grid.specs.Zones.{BlockValues, InZone, edge_at}
+use Rattle.pic_grid.specs.Cells.{IsWithin, count_of, cell_of, axis_of}
+use Rattle.pic_grid.specs.Block.{BlockValues, InZone, edge_at}
 
 -- half a step of B at a place, from its old value v: v less the curl of the scaled E
 unfoldable pub half_of : Scales → Field → Axis → Triple → ℤ → ℤ

@@ -2,18 +2,18 @@
 -- where no value passes a bound, and else it names the least place where one does. The order of
 -- places is this project's profile: the axis first, then z, then y, then x.
 use Rattle.std.specs.Prelude.{◌≡◌, ◌↔◌, ℤ, ◌^◌, ◌<◌, unsigned_abs, Some, None}
-use Rattle.pic_num.specs.declared.space.Axis.{Axis}
+use Rattle.pic_num.specs.declared.axis.Axis.{Axis}
 use Rattle.pic_num.specs.Multiplier.{Multiplier}
 use Rattle.pic_num.specs.Rounding.{scaled}
 use Rattle.pic_num.specs.Sizes.{IsAtMost}
 use Rattle.pic_num.specs.Space.{Triple, axis_number}
-use Rattle.pic_grid.specs.declared.stops.Bound.{Bound}
-use Rattle.pic_grid.specs.declared.stops.Bound.TheVariants.{Value, Force}
-use Rattle.pic_grid.specs.declared.stops.Phase.{Phase}
-use Rattle.pic_grid.specs.declared.stops.Stop.{Stop}
-use Rattle.pic_grid.specs.declared.stops.Stop.TheVariants.{Field as field_stop}
+use Rattle.pic_grid.specs.declared.stop.Bound.{Bound}
+use Rattle.pic_grid.specs.declared.stop.Bound.TheVariants.{Value, Force}
+use Rattle.pic_grid.specs.declared.stop.Phase.{Phase}
+use Rattle.pic_grid.specs.declared.stop.Stop.{Stop}
+use Rattle.pic_grid.specs.declared.stop.Stop.TheVariants.{Field as field_stop}
 use Rattle.pic_grid.specs.Arrays.{array_of_triple}
-use Rattle.pic_grid.specs.Places.{IsWithin}
+use Rattle.pic_grid.specs.Cells.{IsWithin}
 use Rattle.pic_field.specs.FieldPhases.{cell_above, least_fault, IsBounded}
 
 -- in the box of size cells from low on no value passes a bound

@@ -3,8 +3,8 @@ ghost use Rattle.pic_num.specs.Rounding.{scaled};
 ghost use Rattle.pic_num.specs.Sizes.{IsAtMost};
 ghost use Rattle.pic_num.specs.Space.{triple};
 ghost use Rattle.pic_grid.specs.Differences.{curl_b, curl_e};
-ghost use Rattle.pic_grid.specs.Fields.{value_at};
-ghost use Rattle.pic_grid.specs.Places.{IsWithin};
+ghost use Rattle.pic_grid.specs.Lattice.{value_at};
+ghost use Rattle.pic_grid.specs.Cells.{IsWithin};
 ghost use Rattle.pic_field.specs.FieldPhases.{EachAtMost};
 
 use pic_grid::Lattice;

@@ -1,12 +1,12 @@
 ghost use Rattle.std.specs.Prelude.{◌≡◌, ◌^◌, OnOk};
-ghost use Rattle.pic_num.specs.declared.space.Axis.{Axis as AxisName};
+ghost use Rattle.pic_num.specs.declared.axis.Axis.{Axis as AxisName};
 ghost use Rattle.pic_num.specs.Push.{unless};
 ghost use Rattle.pic_num.specs.Sizes.{IsAtMost};
 ghost use Rattle.pic_num.specs.Space.{Triple, triple};
-ghost use Rattle.pic_grid.specs.declared.stops.Phase.TheVariants.{Electric};
+ghost use Rattle.pic_grid.specs.declared.stop.Phase.TheVariants.{Electric};
 ghost use Rattle.pic_grid.specs.Parts.{spot_of};
-ghost use Rattle.pic_grid.specs.Places.{IsWithin};
-ghost use Rattle.pic_grid.specs.Zones.{IsAmongCells, IsShaped, AllAtMost, InZone, inner_at, outer_of, edge_at, with_edge};
+ghost use Rattle.pic_grid.specs.Cells.{IsWithin};
+ghost use Rattle.pic_grid.specs.Block.{IsAmongCells, IsShaped, AllAtMost, InZone, inner_at, outer_of, edge_at, with_edge};
 ghost use Rattle.pic_field.specs.FieldPhases.{full_of, full_in, fault_of, lowest, least_fault, EachAtMost, AllBounded};
 
 use crate::curls::curl_of_b;

@@ -1,11 +1,11 @@
 ghost use Rattle.std.specs.Prelude.{◌≡◌, ◌^◌};
-ghost use Rattle.pic_num.specs.declared.space.Axis.{Axis as AxisName};
+ghost use Rattle.pic_num.specs.declared.axis.Axis.{Axis as AxisName};
 ghost use Rattle.pic_num.specs.Rounding.{scaled};
 ghost use Rattle.pic_num.specs.Space.{Triple, triple};
-ghost use Rattle.pic_grid.specs.Fields.{value_at};
+ghost use Rattle.pic_grid.specs.Lattice.{value_at};
 ghost use Rattle.pic_grid.specs.Parts.{spot_of};
-ghost use Rattle.pic_grid.specs.Places.{IsWithin};
-ghost use Rattle.pic_grid.specs.Zones.{IsAmongCells, IsShaped, InZone, inner_at, outer_of, edge_at, with_edge};
+ghost use Rattle.pic_grid.specs.Cells.{IsWithin};
+ghost use Rattle.pic_grid.specs.Block.{IsAmongCells, IsShaped, InZone, inner_at, outer_of, edge_at, with_edge};
 ghost use Rattle.pic_field.specs.FieldPhases.{EachAtMost};
 
 use crate::curls::scaled_at;

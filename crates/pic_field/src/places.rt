@@ -1,8 +1,8 @@
 ghost use Rattle.std.specs.Prelude.{◌≡◌, ◌+◌, ◌*◌, ◌<◌};
 ghost use Rattle.pic_num.specs.Space.{triple, spot, axis_number};
 ghost use Rattle.pic_grid.specs.Parts.{spot_of};
-ghost use Rattle.pic_grid.specs.Places.{IsSize, IsWithin, count_of, place_of};
-ghost use Rattle.pic_grid.specs.Zones.{InZone, IsAmongCells, outer_of};
+ghost use Rattle.pic_grid.specs.Cells.{IsSize, IsWithin, count_of, place_of};
+ghost use Rattle.pic_grid.specs.Block.{InZone, IsAmongCells, outer_of};
 
 use pic_grid::{Cells, Zone};
 use pic_num::Axis;

@@ -1,8 +1,8 @@
 ghost use Rattle.std.specs.Prelude.{◌≡◌, ◌^◌, IfOk};
 ghost use Rattle.pic_num.specs.Sizes.{IsAtMost};
 ghost use Rattle.pic_num.specs.Space.{triple, spot};
-ghost use Rattle.pic_grid.specs.Places.{IsCells, IsWithin};
-ghost use Rattle.pic_grid.specs.Zones.{IsZone, InZone, IsAmongCells, IsShaped, AllAtMost};
+ghost use Rattle.pic_grid.specs.Cells.{IsCells, IsWithin};
+ghost use Rattle.pic_grid.specs.Block.{IsZone, InZone, IsAmongCells, IsShaped, AllAtMost};
 ghost use Rattle.pic_field.specs.FieldPhases.{EachAtMost};
 
 use crate::{force, full_e, half_b};

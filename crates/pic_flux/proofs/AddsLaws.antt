@@ -4,11 +4,11 @@ use Rattle.std.proofs.Math.IntN.{ℤ, pos, ◌+ℤ◌}
 use Rattle.std.proofs.lemmas.Bool.{cases_lt}
 use Rattle.std.proofs.lemmas.Int.{ints}
 use Rattle.std.proofs.lemmas.List.{get_or-replicate, get_or_past, length-replicate}
-use Rattle.pic_num.specs.declared.space.Axis.{Axis}
+use Rattle.pic_num.specs.declared.axis.Axis.{Axis}
 use Rattle.pic_num.specs.Space.{Triple, Spot}
-use Rattle.pic_grid.specs.Places.{count_of, place_of}
+use Rattle.pic_grid.specs.Cells.{count_of, place_of}
 use Rattle.pic_grid.specs.Sums.{sum_over}
-use Rattle.pic_grid.specs.Zones.{BlockValues, InZone, IsShaped, AllAtMost, inner_of, edge_at}
+use Rattle.pic_grid.specs.Block.{BlockValues, InZone, IsShaped, AllAtMost, inner_of, edge_at}
 use Rattle.pic_grid.proofs.OverLaws.{sum_over_more}
 use Rattle.pic_flux.specs.Adds.{Adds}
 use Rattle.pic_flux.specs.Corners.{both}

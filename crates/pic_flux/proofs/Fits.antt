@@ -4,13 +4,13 @@ use Rattle.std.proofs.Math.IntN.{ℤ, pos, negsuc, ◌+ℤ◌}
 use Rattle.std.specs.List.{All}
 use Rattle.std.proofs.lemmas.Int.{ints}
 use Rattle.std.proofs.lemmas.List.Elements.{All-nil, All-cons}
-use Rattle.pic_num.specs.declared.space.Axis.{Axis}
-use Rattle.pic_num.specs.declared.space.Axis.TheVariants.{X, Y, Z}
+use Rattle.pic_num.specs.declared.axis.Axis.{Axis}
+use Rattle.pic_num.specs.declared.axis.Axis.TheVariants.{X, Y, Z}
 use Rattle.pic_num.specs.Push.{plus}
 use Rattle.pic_num.specs.Sizes.{IsAtMost}
 use Rattle.pic_num.specs.Space.{Spot, along}
 use Rattle.pic_grid.specs.Path.{floor_of, floor_cell}
-use Rattle.pic_grid.specs.Piece.{Piece, Leads, arrived, onward}
+use Rattle.pic_grid.specs.Segment.{Piece, Leads, arrived, onward}
 use Rattle.pic_flux.specs.Adds.{IsFit}
 
 either_small : (i j k : ℤ) (n : ℕ) → (i ≡ j) ⊎ (i ≡ k) → IsAtMost j n → IsAtMost k n → IsAtMost i n

@@ -6,16 +6,16 @@ use Rattle.std.specs.Prelude.{if◌then◌else◌}
 use Rattle.std.specs.List.{All}
 use Rattle.std.proofs.lemmas.Int.{ints, unsigned_abs-mul}
 use Rattle.std.proofs.lemmas.List.Elements.{All-head, All-tail}
-use Rattle.pic_num.specs.declared.space.Axis.{Axis}
+use Rattle.pic_num.specs.declared.axis.Axis.{Axis}
 use Rattle.pic_num.specs.Flux.{simpson}
 use Rattle.pic_num.specs.Sizes.{IsAtMost}
 use Rattle.pic_num.specs.Space.{Spot, along, next_axis}
-use Rattle.pic_num.proofs.Laws.{*ℤ_assoc}
-use Rattle.pic_num.proofs.Sizes.{codes, code_at_most}
+use Rattle.pic_num.proofs.ProductLaws.{*ℤ_assoc}
+use Rattle.pic_num.proofs.SizeLaws.{codes, code_at_most}
 use Rattle.pic_grid.specs.Flux.{edge_weight, flux, path_flux}
 use Rattle.pic_grid.specs.Hat.{hat}
 use Rattle.pic_grid.specs.Path.{same_int}
-use Rattle.pic_grid.specs.Piece.{Piece, IsInside, IsInCell}
+use Rattle.pic_grid.specs.Segment.{Piece, IsInside, IsInCell}
 use Rattle.pic_grid.specs.Sums.{sum_over}
 use Rattle.pic_flux.specs.Adds.{IsFit}
 use Rattle.pic_flux.specs.Corners.{same_axis, on_axis}

@@ -3,16 +3,16 @@ use Rattle.std.proofs.Common.{◌≡◌, ℕ, Bool, true, false, ◌&&◌, [], �
 use Rattle.std.proofs.Math.IntN.{ℤ, pos, ◌+ℤ◌, ◌-ℤ◌, ◌*ℤ◌}
 use Rattle.std.specs.Prelude.{if◌then◌else◌}
 use Rattle.std.proofs.lemmas.Int.{ints}
-use Rattle.pic_num.specs.declared.space.Axis.{Axis}
-use Rattle.pic_num.specs.declared.space.Axis.TheVariants.{X, Y, Z}
+use Rattle.pic_num.specs.declared.axis.Axis.{Axis}
+use Rattle.pic_num.specs.declared.axis.Axis.TheVariants.{X, Y, Z}
 use Rattle.pic_num.specs.Flux.{simpson}
 use Rattle.pic_num.specs.Space.{Spot, along, next_axis}
 use Rattle.pic_num.proofs.Ring.{ring, reads}
 use Rattle.pic_grid.specs.Flux.{edge_weight, flux}
 use Rattle.pic_grid.specs.Path.{same_int}
-use Rattle.pic_grid.specs.Piece.{Piece, IsInCell}
-use Rattle.pic_grid.specs.Zones.{BlockValues, IsShaped}
-use Rattle.pic_grid.proofs.TwoHats.{only}
+use Rattle.pic_grid.specs.Segment.{Piece, IsInCell}
+use Rattle.pic_grid.specs.Block.{BlockValues, IsShaped}
+use Rattle.pic_grid.proofs.TwoHatLaws.{only}
 use Rattle.pic_flux.specs.Adds.{Adds}
 use Rattle.pic_flux.specs.Corners.{same_axis, at_edge, on_axis, both, raised, face_weight, corner}
 use Rattle.pic_flux.proofs.AddsLaws.{shaped_twice, adds_same, adds_twice}

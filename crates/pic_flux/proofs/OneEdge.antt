@@ -4,14 +4,14 @@ use Rattle.std.proofs.Math.IntN.{ℤ, pos, ◌+ℤ◌}
 use Rattle.std.specs.Prelude.{if◌then◌else◌}
 use Rattle.std.proofs.lemmas.Bool.{cases_Bool, and_parts, and_from, both_ways}
 use Rattle.std.proofs.lemmas.Int.{ints}
-use Rattle.pic_num.specs.declared.space.Axis.{Axis}
-use Rattle.pic_num.specs.declared.space.Axis.TheVariants.{X, Y, Z}
+use Rattle.pic_num.specs.declared.axis.Axis.{Axis}
+use Rattle.pic_num.specs.declared.axis.Axis.TheVariants.{X, Y, Z}
 use Rattle.pic_num.specs.Sizes.{IsAtMost}
 use Rattle.pic_num.specs.Space.{Spot}
 use Rattle.pic_grid.specs.Path.{same_int}
-use Rattle.pic_grid.specs.Places.{place_of}
-use Rattle.pic_grid.specs.Zones.{BlockValues, InZone, inner_of, edge_at, with_edge}
-use Rattle.pic_grid.proofs.Zones.{edge_same, edge_at-other}
+use Rattle.pic_grid.specs.Cells.{place_of}
+use Rattle.pic_grid.specs.Block.{BlockValues, InZone, inner_of, edge_at, with_edge}
+use Rattle.pic_grid.proofs.BlockLaws.{edge_same, edge_at-other}
 use Rattle.pic_flux.specs.Adds.{Adds}
 use Rattle.pic_flux.specs.Corners.{same_axis, same_spot, at_edge, both}
 use Rattle.pic_flux.proofs.Onlys.{same_int-same, same_int-true}

@@ -6,8 +6,8 @@ use Rattle.std.proofs.lemmas.Bool.{eqb-true, eq-eqb}
 use Rattle.std.proofs.lemmas.Int.{ints}
 use Rattle.pic_grid.specs.Hat.{hat}
 use Rattle.pic_grid.specs.Path.{same_int}
-use Rattle.pic_grid.specs.Piece.{IsInside}
-use Rattle.pic_grid.proofs.TwoHats.{only, two_hats}
+use Rattle.pic_grid.specs.Segment.{IsInside}
+use Rattle.pic_grid.proofs.TwoHatLaws.{only, two_hats}
 use Rattle.pic_flux.specs.Corners.{face_weight}
 
 -- equal numbers pass the test

@@ -1,11 +1,11 @@
 -- What a deposition does to the values of a block, and what it needs of a piece (this project's
 -- profile; the flux itself is that of Villasenor and Buneman).
 use Rattle.std.specs.Prelude.{◌≡◌, ℕ, ℤ, ◌^◌, ◌+ℤ◌}
-use Rattle.pic_num.specs.declared.space.Axis.{Axis}
+use Rattle.pic_num.specs.declared.axis.Axis.{Axis}
 use Rattle.pic_num.specs.Sizes.{IsAtMost}
 use Rattle.pic_num.specs.Space.{Spot, along}
-use Rattle.pic_grid.specs.Piece.{Piece, IsInCell}
-use Rattle.pic_grid.specs.Zones.{BlockValues, InZone, edge_at}
+use Rattle.pic_grid.specs.Segment.{Piece, IsInCell}
+use Rattle.pic_grid.specs.Block.{BlockValues, InZone, edge_at}
 
 -- at every edge of the zone the new value is the old one plus what f gives there. A block has no
 -- other values, so where its zone stays too, nothing else changes.

@@ -2,12 +2,12 @@
 -- along each axis at the cell's corners, and for no others (J. Villasenor and O. Buneman, Comput. Phys.
 -- Commun. 69, 1992, 306: the four boundary currents of a cell).
 use Rattle.std.specs.Prelude.{ℤ, pos, ℕ, ◌+ℤ◌, ◌-ℤ◌, ◌*ℤ◌, Bool, true, false, ◌&&◌, if◌then◌else◌}
-use Rattle.pic_num.specs.declared.space.Axis.{Axis}
-use Rattle.pic_num.specs.declared.space.Axis.TheVariants.{X, Y, Z}
+use Rattle.pic_num.specs.declared.axis.Axis.{Axis}
+use Rattle.pic_num.specs.declared.axis.Axis.TheVariants.{X, Y, Z}
 use Rattle.pic_num.specs.Flux.{simpson}
 use Rattle.pic_num.specs.Space.{Spot, along, next_axis}
 use Rattle.pic_grid.specs.Path.{same_int}
-use Rattle.pic_grid.specs.Piece.{Piece}
+use Rattle.pic_grid.specs.Segment.{Piece}
 
 -- whether two axes are one
 abbrev pub same_axis : Axis → Axis → Bool

@@ -1,11 +1,11 @@
 ghost use Rattle.std.specs.Prelude.{ℕ, ◌+◌, ◌*◌, ◌^◌};
 ghost use Rattle.std.specs.List.{All};
-ghost use Rattle.pic_num.specs.declared.space.Axis.{Axis as AxisName};
+ghost use Rattle.pic_num.specs.declared.axis.Axis.{Axis as AxisName};
 ghost use Rattle.pic_num.specs.Sizes.{IsAtMost};
 ghost use Rattle.pic_num.specs.Space.{along};
 ghost use Rattle.pic_grid.specs.Flux.{flux, path_flux};
-ghost use Rattle.pic_grid.specs.Piece.{IsInCell};
-ghost use Rattle.pic_grid.specs.Zones.{IsShaped, AllAtMost};
+ghost use Rattle.pic_grid.specs.Segment.{IsInCell};
+ghost use Rattle.pic_grid.specs.Block.{IsShaped, AllAtMost};
 ghost use Rattle.pic_flux.specs.Adds.{Adds, IsFit};
 
 use crate::edges::deposit_axis;

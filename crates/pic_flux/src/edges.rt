@@ -1,10 +1,10 @@
 ghost use Rattle.std.specs.Prelude.{◌^◌};
-ghost use Rattle.pic_num.specs.declared.space.Axis.{Axis as AxisName};
+ghost use Rattle.pic_num.specs.declared.axis.Axis.{Axis as AxisName};
 ghost use Rattle.pic_num.specs.Sizes.{IsAtMost};
 ghost use Rattle.pic_num.specs.Space.{spot, along};
 ghost use Rattle.pic_grid.specs.Flux.{flux};
-ghost use Rattle.pic_grid.specs.Piece.{IsInCell};
-ghost use Rattle.pic_grid.specs.Zones.{IsShaped, AllAtMost};
+ghost use Rattle.pic_grid.specs.Segment.{IsInCell};
+ghost use Rattle.pic_grid.specs.Block.{IsShaped, AllAtMost};
 ghost use Rattle.pic_flux.specs.Adds.{Adds};
 ghost use Rattle.pic_flux.specs.Corners.{at_edge, on_axis, both, raised};
 

@@ -1,8 +1,8 @@
 ghost use Rattle.std.specs.Prelude.{◌^◌, IsTrue, IfOk};
 ghost use Rattle.pic_num.specs.Sizes.{IsAtMost};
 ghost use Rattle.pic_num.specs.Space.{along};
-ghost use Rattle.pic_grid.specs.Piece.{IsInside};
-ghost use Rattle.pic_grid.specs.Zones.{AllAtMost};
+ghost use Rattle.pic_grid.specs.Segment.{IsInside};
+ghost use Rattle.pic_grid.specs.Block.{AllAtMost};
 ghost use Rattle.pic_flux.specs.Adds.{IsFit};
 
 use crate::weights::along;

@@ -2,7 +2,7 @@ ghost use Rattle.std.specs.Prelude.{◌≡◌, ◌^◌, ◌-ℤ◌};
 ghost use Rattle.pic_num.specs.Flux.{simpson};
 ghost use Rattle.pic_num.specs.Sizes.{IsAtMost};
 ghost use Rattle.pic_num.specs.Space.{spot, along};
-ghost use Rattle.pic_grid.specs.Piece.{IsInside, IsInCell};
+ghost use Rattle.pic_grid.specs.Segment.{IsInside, IsInCell};
 ghost use Rattle.pic_flux.specs.Corners.{face_weight, corner, raised};
 
 use pic_grid::Segment;

@@ -7,7 +7,7 @@ use mir.Syntax.{w128}
 use mir.Val.{SFits, to_z, of_z}
 use Rattle.pic_num.specs.Sizes.{IsAtMost}
 use Rattle.pic_num.proofs.Ring.{ring, reads}
-use Rattle.pic_num.proofs.Sizes.{codes, code_is}
+use Rattle.pic_num.proofs.SizeLaws.{codes, code_is}
 use Rattle.pic_grid.specs.Sums.{sum_below}
 use Rattle.pic_gather.specs.declared.pairing.Pair.{Pair}
 use Rattle.pic_gather.specs.Pairs.{IsOnAxis, share}

@@ -1,12 +1,12 @@
 -- The sum over all places, with the weights of each axis drawn out.
 use Rattle.std.proofs.Common.{◌≡◌, ℕ, ◌+◌, ◌*◌, ◌^◌, [], ◌∷◌, sym, ◌∙◌, ap}
 use Rattle.std.proofs.Math.IntN.{ℤ, pos, ◌*ℤ◌}
-use Rattle.pic_num.specs.declared.space.Axis.{Axis}
+use Rattle.pic_num.specs.declared.axis.Axis.{Axis}
 use Rattle.pic_num.specs.Rounding.{rounded}
 use Rattle.pic_num.specs.Space.{Triple}
-use Rattle.pic_num.proofs.Laws.{*ℤ_assoc}
+use Rattle.pic_num.proofs.ProductLaws.{*ℤ_assoc}
 use Rattle.pic_num.proofs.Ring.{ring, reads}
-use Rattle.pic_grid.specs.Fields.{Field, value_at}
+use Rattle.pic_grid.specs.Lattice.{Field, value_at}
 use Rattle.pic_grid.specs.Gather.{gathered, shifted_weight}
 use Rattle.pic_grid.specs.Hat.{periodic_hat}
 use Rattle.pic_grid.specs.Sums.{sum_below, sum_cells}

@@ -2,10 +2,10 @@
 use Rattle.std.proofs.Common.{◌≡◌, ℕ, ◌+◌, ◌<◌, ◌≤◌, ◌⊎◌, [], ◌∷◌, inl, inr, sym, ◌∙◌, arith}
 use Rattle.std.proofs.Math.IntN.{ℤ, pos, ◌+ℤ◌, ◌*ℤ◌, *ℤ_comm}
 use Rattle.std.proofs.lemmas.Bool.{cases_lt}
-use Rattle.pic_num.proofs.Laws.{*ℤ-zero, zero-*ℤ}
+use Rattle.pic_num.proofs.ProductLaws.{*ℤ-zero, zero-*ℤ}
 use Rattle.pic_num.proofs.Ring.{ring, reads}
 use Rattle.pic_grid.specs.Sums.{sum_below}
-use Rattle.pic_grid.proofs.Hats.{only_at, only_below, only_above, sum_only}
+use Rattle.pic_grid.proofs.HatLaws.{only_at, only_below, only_above, sum_only}
 use Rattle.pic_grid.proofs.SumLaws.{sum_plus, sum_times}
 
 -- the term of a cell, where one cell has a weight

@@ -1,10 +1,10 @@
 -- Force values, and their sums over the places of a component under the weights of three pairs.
 use Rattle.std.specs.Prelude.{ℤ, pos, ℕ, ◌^◌, ◌*ℤ◌}
-use Rattle.pic_num.specs.declared.space.Axis.{Axis}
+use Rattle.pic_num.specs.declared.axis.Axis.{Axis}
 use Rattle.pic_num.specs.Sizes.{IsAtMost}
 use Rattle.pic_num.specs.Space.{Triple, Spot}
-use Rattle.pic_grid.specs.Fields.{Field, value_at}
-use Rattle.pic_grid.specs.Places.{IsWithin}
+use Rattle.pic_grid.specs.Lattice.{Field, value_at}
+use Rattle.pic_grid.specs.Cells.{IsWithin}
 use Rattle.pic_grid.specs.Sums.{sum_below}
 use Rattle.pic_gather.specs.declared.pairing.Pair.{Pair}
 use Rattle.pic_gather.specs.Pairs.{share}

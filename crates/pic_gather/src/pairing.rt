@@ -1,7 +1,7 @@
 ghost use Rattle.std.specs.Prelude.{◌≡◌, ℕ, ◌+◌, ◌-◌, ◌*◌, ◌%◌, ◌<◌, ◌≤◌};
 ghost use Rattle.pic_num.specs.Space.{triple};
 ghost use Rattle.pic_grid.specs.Hat.{periodic_hat, IsInBox};
-ghost use Rattle.pic_grid.specs.Places.{IsCells};
+ghost use Rattle.pic_grid.specs.Cells.{IsCells};
 ghost use Rattle.pic_gather.specs.Pairs.{IsPair, ArePairs};
 
 /// The sub-cells along a cell.

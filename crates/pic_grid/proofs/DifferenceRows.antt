@@ -1,7 +1,7 @@
 -- The differences of the staggered grid, written out on each axis and computed on worked rows.
 use Rattle.std.specs.Prelude.{◌≡◌, ℤ, pos, negsuc, ℕ, ◌+◌, ◌-◌, ◌%◌, ◌+ℤ◌, ◌-ℤ◌, [], ◌∷◌, map, refl, if◌then◌else◌, ◌==◌, ◌&&◌}
-use Rattle.pic_num.specs.declared.space.Axis.{Axis}
-use Rattle.pic_num.specs.declared.space.Axis.TheVariants.{X, Y, Z}
+use Rattle.pic_num.specs.declared.axis.Axis.{Axis}
+use Rattle.pic_num.specs.declared.axis.Axis.TheVariants.{X, Y, Z}
 use Rattle.pic_num.specs.Rounding.{rounded, scaled}
 use Rattle.pic_num.specs.Space.{Triple, axis_number}
 use Rattle.pic_grid.specs.Differences.{curl_b, curl_e, div_b, div_e}

@@ -1,7 +1,7 @@
 -- The definitions of weights, fluxes, paths and gathers, computed on worked rows.
 use Rattle.std.specs.Prelude.{◌≡◌, ℤ, pos, negsuc, ℕ, ◌*◌, List, [], ◌∷◌, map, refl, if◌then◌else◌, ◌==◌, ◌&&◌}
-use Rattle.pic_num.specs.declared.space.Axis.{Axis}
-use Rattle.pic_num.specs.declared.space.Axis.TheVariants.{X, Z}
+use Rattle.pic_num.specs.declared.axis.Axis.{Axis}
+use Rattle.pic_num.specs.declared.axis.Axis.TheVariants.{X, Z}
 use Rattle.pic_num.specs.Flux.{simpson}
 use Rattle.pic_num.specs.Rounding.{rounded, truncated}
 use Rattle.pic_num.specs.Space.{Triple, Spot}

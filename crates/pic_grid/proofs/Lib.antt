@@ -1,14 +1,14 @@
-pub mod Places
-pub mod Fields
-pub mod Zones
-pub mod Parts
+pub mod CellLaws
+pub mod LatticeLaws
+pub mod BlockLaws
+pub mod PartLaws
 pub mod DifferenceLaws
 pub mod SumLaws
 pub mod OverLaws
-pub mod Hats
-pub mod TwoHats
+pub mod HatLaws
+pub mod TwoHatLaws
 pub mod SlowSums
-pub mod Weights
+pub mod WeightLaws
 mod DifferenceRows
 mod GridRows
 mod PhaseRows

@@ -1,6 +1,6 @@
 -- The push phase and its current, computed on worked rows.
 use Rattle.std.specs.Prelude.{◌≡◌, ℤ, pos, negsuc, ℕ, ◌-ℤ◌, ◌*ℤ◌, List, [], ◌∷◌, map, refl, Some, None}
-use Rattle.pic_num.specs.declared.space.Axis.TheVariants.{X}
+use Rattle.pic_num.specs.declared.axis.Axis.TheVariants.{X}
 use Rattle.pic_num.specs.declared.motion.What.TheVariants.{Far}
 use Rattle.pic_num.specs.declared.motion.Particle.{Particle}
 use Rattle.pic_num.specs.declared.motion.Kind.{Kind}
@@ -10,7 +10,7 @@ use Rattle.pic_num.specs.Multiplier.{Multiplier}
 use Rattle.pic_num.specs.Push.{pushed, turned, half_turned, cross, dot, first_above}
 use Rattle.pic_num.specs.Rounding.{rounded, scaled, truncated, residue}
 use Rattle.pic_num.specs.Space.{Triple, Spot}
-use Rattle.pic_grid.specs.declared.stops.Stop.TheVariants.{Push}
+use Rattle.pic_grid.specs.declared.stop.Stop.TheVariants.{Push}
 use Rattle.pic_grid.specs.Current.{sum_images, wrapped, flux_after, current}
 use Rattle.pic_grid.specs.Differences.{div_e}
 use Rattle.pic_grid.specs.Flux.{flux, path_flux}

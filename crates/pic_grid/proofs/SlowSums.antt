@@ -5,7 +5,7 @@ use Rattle.std.proofs.Math.Nat.{le_trans, mul-le-mul_left, mul-le-mul_right}
 use Rattle.std.proofs.lemmas.Int.{ints, to_z-of_z, fits_signed_from_abs}
 use mir.Syntax.{w128}
 use mir.Val.{SFits, to_z, of_z}
-use Rattle.pic_num.proofs.Sizes.{code_is, codes}
+use Rattle.pic_num.proofs.SizeLaws.{code_is, codes}
 use Rattle.pic_num.specs.Sizes.{IsAtMost}
 use Rattle.pic_grid.specs.Sums.{sum_below}
 use Rattle.pic_grid.proofs.SumLaws.{sum_below_more, cube_is}

@@ -3,7 +3,7 @@ use Rattle.std.proofs.Common.{◌≡◌, ℕ, zero, suc, ◌+◌, ◌*◌, ◌^�
 use Rattle.std.proofs.Math.IntN.{ℤ, ◌+ℤ◌, ◌*ℤ◌}
 use Rattle.std.proofs.Math.Nat.{pow-suc, pow-zero}
 use Rattle.std.proofs.lemmas.Int.{ints}
-use Rattle.pic_num.proofs.Laws.{+ℤ-*ℤ, zero-*ℤ}
+use Rattle.pic_num.proofs.ProductLaws.{+ℤ-*ℤ, zero-*ℤ}
 use Rattle.pic_grid.specs.Sums.{sum_below}
 
 -- sums of equal numbers are equal

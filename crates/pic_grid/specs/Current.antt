@@ -1,7 +1,7 @@
 -- The current of a push phase at the edges of the periodic grid: the flux of every particle's path
 -- (J. Villasenor and O. Buneman, Comput. Phys. Commun. 69, 1992, 306).
 use Rattle.std.specs.Prelude.{ℤ, pos, ℕ, ◌+ℤ◌, ◌-ℤ◌, List, Result, Ok, Err}
-use Rattle.pic_num.specs.declared.space.Axis.{Axis}
+use Rattle.pic_num.specs.declared.axis.Axis.{Axis}
 use Rattle.pic_num.specs.declared.motion.Particle.{Particle}
 use Rattle.pic_num.specs.declared.motion.Kind.{Kind}
 use Rattle.pic_num.specs.Push.{Shift, Halting}

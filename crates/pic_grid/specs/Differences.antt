@@ -1,8 +1,8 @@
 -- The differences of Yee's staggered grid (K. S. Yee, IEEE Trans. Antennas Propag. 14, 1966, 302),
 -- over fields given as functions of axis and cell, on a periodic grid of n cells.
 use Rattle.std.specs.Prelude.{◌≡◌, ℤ, pos, ◌+◌, ◌-◌, ◌%◌, ◌+ℤ◌, ◌-ℤ◌}
-use Rattle.pic_num.specs.declared.space.Axis.{Axis}
-use Rattle.pic_num.specs.declared.space.Axis.TheVariants.{X, Y, Z}
+use Rattle.pic_num.specs.declared.axis.Axis.{Axis}
+use Rattle.pic_num.specs.declared.axis.Axis.TheVariants.{X, Y, Z}
 use Rattle.pic_num.specs.Space.{Triple, next_axis}
 
 -- the next cell up an axis, modulo the cells

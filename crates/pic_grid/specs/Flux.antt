@@ -1,12 +1,12 @@
 -- The charge that a path carries through the edges of the grid (J. Villasenor and O. Buneman,
 -- Comput. Phys. Commun. 69, 1992, 306), 12 times as in `simpson`. No edge here is wrapped.
 use Rattle.std.specs.Prelude.{ℤ, pos, ℕ, ◌-ℤ◌, ◌*ℤ◌, if◌then◌else◌, List}
-use Rattle.pic_num.specs.declared.space.Axis.{Axis}
+use Rattle.pic_num.specs.declared.axis.Axis.{Axis}
 use Rattle.pic_num.specs.Flux.{simpson}
 use Rattle.pic_num.specs.Space.{Spot, along, next_axis}
 use Rattle.pic_grid.specs.Hat.{hat}
 use Rattle.pic_grid.specs.Path.{same_int}
-use Rattle.pic_grid.specs.Piece.{Piece}
+use Rattle.pic_grid.specs.Segment.{Piece}
 use Rattle.pic_grid.specs.Sums.{sum_over}
 
 -- the weight of a point for an edge, on one axis across the edge

@@ -2,13 +2,13 @@
 -- multiplier) under linear weights, each component on its own shifted grid, rounded once.
 -- The roundings are this project's profile.
 use Rattle.std.specs.Prelude.{◌≡◌, ℤ, pos, ℕ, ◌+◌, ◌*◌, ◌/◌, ◌^◌, ◌<◌, ◌*ℤ◌, List, slice_index_or}
-use Rattle.pic_num.specs.declared.space.Axis.{Axis}
-use Rattle.pic_num.specs.declared.space.Axis.TheVariants.{X, Y, Z}
+use Rattle.pic_num.specs.declared.axis.Axis.{Axis}
+use Rattle.pic_num.specs.declared.axis.Axis.TheVariants.{X, Y, Z}
 use Rattle.pic_num.specs.Multiplier.{Multiplier}
 use Rattle.pic_num.specs.Rounding.{rounded, scaled}
 use Rattle.pic_num.specs.Space.{Triple, Spot}
 use Rattle.pic_grid.specs.Hat.{periodic_hat, HasTwo, IsInBox}
-use Rattle.pic_grid.specs.Places.{index_of}
+use Rattle.pic_grid.specs.Cells.{index_of}
 use Rattle.pic_grid.specs.Sums.{sum_cells}
 
 -- the force values of a field: its values times a multiplier, each rounded once

@@ -1,9 +1,9 @@
-pub mod Piece
+pub mod Segment
 pub mod Species
-pub mod Places
+pub mod Cells
 pub mod Arrays
-pub mod Fields
-pub mod Zones
+pub mod Lattice
+pub mod Block
 pub mod Parts
 pub mod Differences
 pub mod Sums

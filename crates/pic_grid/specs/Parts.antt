@@ -1,10 +1,10 @@
 -- A lattice cut into equal parts, one block for each, x fastest.
 use Rattle.std.specs.Prelude.{◌≡◌, ℕ, ℤ, pos, ◌*◌, ◌/◌, ◌<◌, List, [], length, slice_index_or}
-use Rattle.pic_num.specs.declared.space.Axis.{Axis}
+use Rattle.pic_num.specs.declared.axis.Axis.{Axis}
 use Rattle.pic_num.specs.Space.{Triple, Spot}
-use Rattle.pic_grid.specs.Places.{IsCells, count_of, index_of, cell_of}
-use Rattle.pic_grid.specs.Fields.{Field, IsParts, field_of}
-use Rattle.pic_grid.specs.Zones.{BlockValues, edge_at}
+use Rattle.pic_grid.specs.Cells.{IsCells, count_of, index_of, cell_of}
+use Rattle.pic_grid.specs.Lattice.{Field, IsParts, field_of}
+use Rattle.pic_grid.specs.Block.{BlockValues, edge_at}
 
 -- a cell of the grid as one that isn't wrapped
 abbrev pub spot_of : Triple → Spot

@@ -2,15 +2,15 @@
 -- Simulation"): every particle is pushed by the fields gathered at its position. One that halts
 -- stands still, keeps its velocity and carries no current; the least identity that halts is the stop.
 use Rattle.std.specs.Prelude.{ℤ, pos, ℕ, ◌*◌, ◌+ℤ◌, List, [], ◌∷◌, map, Option, Some, None, Result, Ok, Err, slice_index_or}
-use Rattle.pic_num.specs.declared.space.Axis.{Axis}
+use Rattle.pic_num.specs.declared.axis.Axis.{Axis}
 use Rattle.pic_num.specs.declared.motion.Particle.{Particle}
 use Rattle.pic_num.specs.declared.motion.Kind.{Kind}
 use Rattle.pic_num.specs.First.{first_of}
 use Rattle.pic_num.specs.Push.{Shift, Halting, pushed}
 use Rattle.pic_num.specs.Rounding.{residue}
 use Rattle.pic_num.specs.Space.{Triple, triple, spot}
-use Rattle.pic_grid.specs.declared.stops.Stop.{Stop}
-use Rattle.pic_grid.specs.declared.stops.Stop.TheVariants.{Push}
+use Rattle.pic_grid.specs.declared.stop.Stop.{Stop}
+use Rattle.pic_grid.specs.declared.stop.Stop.TheVariants.{Push}
 use Rattle.pic_grid.specs.Gather.{gathered_e, gathered_b}
 
 -- what surrounds a particle in its push: the side of a cell, the numbers of cells, the species, and

@@ -1,30 +1,30 @@
 //! The grid: the types that fields, charges and paths live on, and the definitions of the scheme.
 #![tactic(auto)]
 
-mod boxes;
-mod cutting;
-mod extents;
-mod lattices;
+mod block;
+mod cells;
+mod lattice;
 mod laws;
-mod names;
+mod name;
 mod neighbours;
 mod nodes;
-mod numbering;
+mod parts;
+mod places;
 mod slow;
-mod snapshots;
-mod stops;
-mod tracks;
+mod snapshot;
+mod stop;
+mod track;
 
-pub use boxes::{Block, Zone};
-pub use extents::Cells;
-pub use lattices::Lattice;
+pub use block::{Block, Zone};
+pub use cells::Cells;
+pub use lattice::Lattice;
 pub use laws::{
     constant_is_gathered, curl_of_b_has_no_divergence, curl_of_e_has_no_divergence, hats_add_up,
     weights_add_up,
 };
-pub use names::Name;
+pub use name::Name;
 pub use nodes::Nodes;
 pub use slow::{slow_gather, slow_shifted_weight, slow_weight};
-pub use snapshots::Snapshot;
-pub use stops::{Bound, EndMark, Phase, Stop};
-pub use tracks::{Segment, Track};
+pub use snapshot::Snapshot;
+pub use stop::{Bound, EndMark, Phase, Stop};
+pub use track::{Segment, Track};

@@ -1,9 +1,9 @@
 ghost use Rattle.std.specs.Prelude.{◌≡◌, ◌+◌, ◌-◌, ◌%◌, ◌<◌};
 ghost use Rattle.pic_num.specs.Space.{triple};
 ghost use Rattle.pic_grid.specs.Differences.{up, down};
-ghost use Rattle.pic_grid.specs.Places.{IsWithin};
+ghost use Rattle.pic_grid.specs.Cells.{IsWithin};
 
-use crate::extents::Cells;
+use crate::cells::Cells;
 use pic_num::Axis;
 
 impl Cells {

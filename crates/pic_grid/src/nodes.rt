@@ -1,9 +1,9 @@
 ghost use Rattle.std.specs.Prelude.{◌≡◌, ℕ, ℤ, pos, length, replicate, IfOk};
 ghost use Rattle.pic_num.specs.Space.{triple};
-ghost use Rattle.pic_grid.specs.Places.{IsCells, IsWithin, count_of};
-ghost use Rattle.pic_grid.specs.Fields.{NodeValues, node_at, with_node};
+ghost use Rattle.pic_grid.specs.Cells.{IsCells, IsWithin, count_of};
+ghost use Rattle.pic_grid.specs.Lattice.{NodeValues, node_at, with_node};
 
-use crate::extents::Cells;
+use crate::cells::Cells;
 use pic_num::NoMemory;
 use std::alloc::Global;
 use std::marker::Model;

@@ -91,7 +91,7 @@ pub fn slow_weight(side: u32, cells: [u32; 3], point: [u32; 3], node: [u32; 3]) 
 }
 
 // the value of a component at a cell
-#[tactic(auto, unfolding(crate::specs::Gather::listed, crate::specs::Places::index_of))]
+#[tactic(auto, unfolding(crate::specs::Gather::listed, crate::specs::Cells::index_of))]
 fn listed_value(cells: [u32; 3], values: &[i128], cell: [u32; 3]) -> i128
     requires x_most { slice_index cells 0 ≤ 64 }
     requires y_most { slice_index cells 1 ≤ 64 }

@@ -1,7 +1,7 @@
-pub mod Laws
+pub mod ProductLaws
 pub mod Ring
-pub mod Sizes
+pub mod SizeLaws
 pub mod Simpson
-pub mod Rounds
-pub mod Firsts
+pub mod RoundingLaws
+pub mod FirstLaws
 mod PushRows

@@ -1,6 +1,6 @@
 -- The definition of the push, computed on worked rows.
 use Rattle.std.specs.Prelude.{◌≡◌, ℤ, pos, negsuc, Result, Ok, Err, refl}
-use Rattle.pic_num.specs.declared.space.Axis.TheVariants.{X}
+use Rattle.pic_num.specs.declared.axis.Axis.TheVariants.{X}
 use Rattle.pic_num.specs.declared.motion.What.TheVariants.{Far}
 use Rattle.pic_num.specs.First.{first_of}
 use Rattle.pic_num.specs.Multiplier.{Multiplier}

@@ -10,7 +10,7 @@ use Rattle.std.proofs.Math.IntN.{ℤ, pos, negsuc, neg_ℤ, ◌+ℤ◌, ◌*ℤ�
 use Rattle.std.proofs.Math.Dec.{T, ltb, leb, eqb, eqb→eq}
 use Rattle.std.proofs.lemmas.Int.{ints}
 use mathlib.Core.Path.{ap₂}
-use Rattle.pic_num.proofs.Laws.{*ℤ_assoc, +ℤ-*ℤ, *ℤ-+ℤ, *ℤ_left_comm, one-*ℤ, *ℤ-one, zero-*ℤ, *ℤ-zero, minus_one-*ℤ, +ℤ_left_comm}
+use Rattle.pic_num.proofs.ProductLaws.{*ℤ_assoc, +ℤ-*ℤ, *ℤ-+ℤ, *ℤ_left_comm, one-*ℤ, *ℤ-one, zero-*ℤ, *ℤ-zero, minus_one-*ℤ, +ℤ_left_comm}
 
 -- the number at a place of the list, 0 past its end
 abbrev pub at : List ℤ → ℕ → ℤ

@@ -4,8 +4,8 @@
 -- Velocities are in 1/4096 sub-cell per step; a cell has `side` sub-cells.
 use Rattle.std.specs.Prelude.{ℤ, pos, ℕ, ◌^◌, ◌+ℤ◌, ◌-ℤ◌, ◌*ℤ◌, unsigned_abs, nat_lt, if◌then◌else◌, [], ◌∷◌, Option, Some, None, Result, Ok, Err}
 use Rattle.std.specs.Option.{option_or}
-use Rattle.pic_num.specs.declared.space.Axis.{Axis}
-use Rattle.pic_num.specs.declared.space.Axis.TheVariants.{X, Y, Z}
+use Rattle.pic_num.specs.declared.axis.Axis.{Axis}
+use Rattle.pic_num.specs.declared.axis.Axis.TheVariants.{X, Y, Z}
 use Rattle.pic_num.specs.declared.motion.What.{What}
 use Rattle.pic_num.specs.declared.motion.What.TheVariants.{Speed, Turn, Far}
 use Rattle.pic_num.specs.First.{first_of}

@@ -1,6 +1,6 @@
 use Rattle.std.specs.Prelude.{ℤ, pos, ℕ, List, slice_index, slice_index_or}
-use Rattle.pic_num.specs.declared.space.Axis.{Axis}
-use Rattle.pic_num.specs.declared.space.Axis.TheVariants.{X, Y, Z}
+use Rattle.pic_num.specs.declared.axis.Axis.{Axis}
+use Rattle.pic_num.specs.declared.axis.Axis.TheVariants.{X, Y, Z}
 
 -- three natural numbers by axis: a number of cells, a cell of the grid, a position in the box
 pub record Triple : Type 0 where

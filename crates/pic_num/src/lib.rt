@@ -2,16 +2,16 @@
 //! bytes, and what every crate answers for want of memory.
 #![tactic(auto)]
 
-mod memory;
+mod axis;
 mod motion;
-mod multiplier;
+mod mult;
+mod no_memory;
 mod rounding;
-mod space;
 mod text;
 
-pub use memory::NoMemory;
+pub use axis::Axis;
 pub use motion::{Kind, Particle, What};
-pub use multiplier::{Mult, Scales};
+pub use mult::{Mult, Scales};
+pub use no_memory::NoMemory;
 pub use rounding::{rdiv, scale, trunc_div, wrap};
-pub use space::Axis;
 pub use text::Text;

@@ -1,4 +1,4 @@
-use crate::multiplier::Mult;
+use crate::mult::Mult;
 
 /// A particle: its identity, the number of its species, its position in sub-cells and its velocity
 /// in 1/4096 sub-cell per step.

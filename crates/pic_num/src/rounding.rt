@@ -2,7 +2,7 @@ ghost use Rattle.std.specs.Prelude.{◌≡◌, ℤ, pos, ℕ, ◌-◌, ◌*◌, 
 ghost use Rattle.pic_num.specs.Sizes.{IsAtMost};
 ghost use Rattle.pic_num.specs.Rounding.{IsRounded, rounded, scaled, IsTruncated, truncated, IsResidue, residue};
 
-use crate::multiplier::Mult;
+use crate::mult::Mult;
 
 /// The nearest whole number to `n / d`, a half going up.
 pub fn rdiv(n: i128, d: i128) -> i128

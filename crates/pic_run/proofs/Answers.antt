@@ -5,11 +5,11 @@ use Rattle.pic_io.specs.Told.{Told, Rose, Calm}
 use Rattle.pic_io.specs.Sinks.{Sinks, Wrote, FailedAt, QuietSinks}
 use Rattle.pic_io.specs.declared.outside.Side.{Side}
 use Rattle.pic_io.specs.declared.outside.Side.TheVariants.{Out, Report}
-use Rattle.pic_grid.specs.declared.stops.EndMark.{EndMark}
-use Rattle.pic_grid.specs.declared.stops.EndMark.TheVariants.{Done as EndDone, Stopped as EndStopped}
-use Rattle.pic_grid.specs.declared.stops.Stop.{Stop}
+use Rattle.pic_grid.specs.declared.stop.EndMark.{EndMark}
+use Rattle.pic_grid.specs.declared.stop.EndMark.TheVariants.{Done as EndDone, Stopped as EndStopped}
+use Rattle.pic_grid.specs.declared.stop.Stop.{Stop}
 use Rattle.pic_grid.specs.Differences.{div_e}
-use Rattle.pic_grid.specs.Fields.{value_at}
+use Rattle.pic_grid.specs.Lattice.{value_at}
 use Rattle.pic_charge.specs.declared.breaks.Break.{Break}
 use Rattle.pic_charge.specs.Charge.{charge_of}
 use Rattle.pic_charge.specs.Gauss.{IsLeastBreak}

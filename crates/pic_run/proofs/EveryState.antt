@@ -1,8 +1,8 @@
 -- Every state of a serial run is as sound as the first.
 use Rattle.std.proofs.Common.{◌≡◌, ℕ, zero, suc, Option, Some, None, Result, Ok, Err, refl, subst}
 use Rattle.pic_num.specs.Push.{unless}
-use Rattle.pic_grid.specs.declared.stops.EndMark.{EndMark}
-use Rattle.pic_grid.specs.declared.stops.Stop.{Stop}
+use Rattle.pic_grid.specs.declared.stop.EndMark.{EndMark}
+use Rattle.pic_grid.specs.declared.stop.Stop.{Stop}
 use Rattle.pic_step.specs.SerialStep.{World, step_on, stop_of, stepped}
 use Rattle.pic_step.specs.SerialRun.{after, step_from, stopped_in}
 use Rattle.pic_step.specs.Sound.{IsSound}

@@ -5,19 +5,19 @@ use Rattle.std.proofs.Math.IntN.{ℤ}
 use Rattle.std.proofs.lemmas.List.{get_or-map, length-map}
 use Rattle.std.proofs.lemmas.List.Elements.{All-from_get_or, All-get_or}
 use Rattle.std.proofs.Math.Nat.{le_trans}
-use Rattle.pic_num.specs.declared.space.Axis.{Axis}
+use Rattle.pic_num.specs.declared.axis.Axis.{Axis}
 use Rattle.pic_num.specs.declared.motion.Kind.{Kind}
 use Rattle.pic_num.specs.declared.motion.Particle.{Particle}
 use Rattle.pic_num.specs.Multiplier.{Multiplier}
 use Rattle.pic_num.specs.Push.{unless}
 use Rattle.pic_num.specs.Sizes.{IsAtMost}
 use Rattle.pic_num.specs.Space.{Triple}
-use Rattle.pic_grid.specs.declared.snapshots.Snapshot.{Snapshot}
-use Rattle.pic_grid.specs.Fields.{value_at, field_of}
-use Rattle.pic_grid.specs.Places.{IsWithin}
+use Rattle.pic_grid.specs.declared.snapshot.Snapshot.{Snapshot}
+use Rattle.pic_grid.specs.Lattice.{value_at, field_of}
+use Rattle.pic_grid.specs.Cells.{IsWithin}
 use Rattle.pic_grid.specs.PushPhase.{no_kind, moved_all}
 use Rattle.pic_grid.specs.Species.{IsKind, AreHeads, no_head}
-use Rattle.pic_grid.proofs.Fields.{value_at-field_of}
+use Rattle.pic_grid.proofs.LatticeLaws.{value_at-field_of}
 use Rattle.pic_charge.specs.Charge.{CanShare, charge_of}
 use Rattle.pic_charge.proofs.BreakLaws.{meets_gauss}
 use Rattle.pic_field.specs.FieldPhases.{IsBounded}

@@ -2,8 +2,8 @@
 use Rattle.std.specs.Prelude.{ℕ, ◌+◌, ◌%◌, ◌==◌, ◌||◌, Bool, List, [], ◌∷◌, if◌then◌else◌, Result, Ok, Err}
 use Rattle.std.specs.List.{flat_map, range_with_len}
 use Rattle.pic_io.specs.Sinks.{Piece}
-use Rattle.pic_grid.specs.declared.stops.EndMark.{EndMark}
-use Rattle.pic_grid.specs.declared.stops.EndMark.TheVariants.{Done}
+use Rattle.pic_grid.specs.declared.stop.EndMark.{EndMark}
+use Rattle.pic_grid.specs.declared.stop.EndMark.TheVariants.{Done}
 use Rattle.pic_energy.specs.declared.amounts.Energies.{Energies}
 use Rattle.pic_energy.specs.Energies.{energies_of}
 use Rattle.pic_energy.specs.Lines.{frame_line, end_line}

@@ -1,6 +1,6 @@
 -- Room for the states of a run.
 use Rattle.std.specs.Prelude.{◌≡◌, length}
-use Rattle.pic_grid.specs.declared.snapshots.Snapshot.{Snapshot}
+use Rattle.pic_grid.specs.declared.snapshot.Snapshot.{Snapshot}
 use Rattle.pic_step.specs.SerialStep.{World}
 use Rattle.pic_step.specs.Sound.{one_part}
 

@@ -1,7 +1,7 @@
 -- What the parts of a run write.
 use Rattle.std.specs.Prelude.{◌≡◌, List, [], Result, Ok, Err}
 use Rattle.pic_io.specs.Sinks.{Sinks, Wrote, Piece, outs, lines, CutAt}
-use Rattle.pic_grid.specs.declared.stops.EndMark.{EndMark}
+use Rattle.pic_grid.specs.declared.stop.EndMark.{EndMark}
 use Rattle.pic_run.specs.declared.running.RunStop.{RunStop}
 use Rattle.pic_run.specs.declared.running.RunStop.TheVariants.{Write, NoMemory}
 use Rattle.pic_run.specs.Frames.{end_piece}

@@ -1,7 +1,7 @@
 -- What a run begins with: its first state, the test of Gauss's law, and the header of its dump.
 use Rattle.std.specs.Prelude.{◌≡◌, ℕ, Option, Ok}
 use Rattle.pic_grid.specs.Differences.{div_e}
-use Rattle.pic_grid.specs.Fields.{value_at}
+use Rattle.pic_grid.specs.Lattice.{value_at}
 use Rattle.pic_charge.specs.declared.breaks.Break.{Break}
 use Rattle.pic_charge.specs.Charge.{charge_of}
 use Rattle.pic_charge.specs.Gauss.{first_break, MeetsGauss}

@@ -8,13 +8,13 @@ use Rattle.std.proofs.lemmas.Int.{ints, by_lt_z, int_max_is}
 use Rattle.std.proofs.lemmas.Nat.{le-div}
 use Rattle.std.specs.Prelude.{◌<ℤ◌, ◌≤ℤ◌}
 use Rattle.std.specs.Int.{int_max}
-use Rattle.pic_num.specs.declared.space.Axis.{Axis}
-use Rattle.pic_num.specs.declared.space.Axis.TheVariants.{X, Y, Z}
+use Rattle.pic_num.specs.declared.axis.Axis.{Axis}
+use Rattle.pic_num.specs.declared.axis.Axis.TheVariants.{X, Y, Z}
 use Rattle.pic_num.specs.Rounding.{truncated}
 use Rattle.pic_num.proofs.Ring.{ring, reads}
-use Rattle.pic_num.proofs.Rounds.{mul-le_mul}
+use Rattle.pic_num.proofs.RoundingLaws.{mul-le_mul}
 use Rattle.pic_grid.specs.Path.{Crossing, floor_of, break_on, step_on}
-use Rattle.pic_grid.specs.Piece.{IsInside}
+use Rattle.pic_grid.specs.Segment.{IsInside}
 
 -- n with the sign of d
 abbrev pub with_sign : ℤ → ℕ → ℤ

@@ -3,8 +3,8 @@ use Rattle.std.proofs.Common.{◌≡◌, ℕ, ◌+◌, ◌-◌, ◌*◌, ◌%◌
 use Rattle.std.proofs.Math.IntN.{ℤ, pos, ◌+ℤ◌, ◌-ℤ◌, ◌*ℤ◌}
 use Rattle.std.proofs.lemmas.Int.{ints}
 use Rattle.std.specs.Prelude.{if◌then◌else◌}
-use Rattle.pic_num.specs.declared.space.Axis.{Axis}
-use Rattle.pic_num.specs.declared.space.Axis.TheVariants.{X, Y, Z}
+use Rattle.pic_num.specs.declared.axis.Axis.{Axis}
+use Rattle.pic_num.specs.declared.axis.Axis.TheVariants.{X, Y, Z}
 use Rattle.pic_num.specs.Flux.{simpson}
 use Rattle.pic_num.specs.Push.{plus}
 use Rattle.pic_num.specs.Space.{Triple, Spot, along, next_axis}
@@ -15,12 +15,12 @@ use Rattle.pic_grid.specs.Differences.{down, div_e}
 use Rattle.pic_grid.specs.Flux.{edge_weight, flux, path_flux}
 use Rattle.pic_grid.specs.Hat.{hat, weight, HasTwo, IsInBox}
 use Rattle.pic_grid.specs.Path.{floor_cell, path, point_of, same_int}
-use Rattle.pic_grid.specs.Piece.{Piece, IsInCell, IsOfCells, Leads, arrived, onward}
-use Rattle.pic_grid.specs.Places.{IsWithin}
+use Rattle.pic_grid.specs.Segment.{Piece, IsInCell, IsOfCells, Leads, arrived, onward}
+use Rattle.pic_grid.specs.Cells.{IsWithin}
 use Rattle.pic_grid.specs.Sums.{sum_over}
 use Rattle.pic_split.specs.Continuity.{Continuity}
 use Rattle.pic_split.specs.Moves.{IsMove, wrapped_point}
-use Rattle.pic_grid.proofs.TwoHats.{only}
+use Rattle.pic_grid.proofs.TwoHatLaws.{only}
 use Rattle.pic_split.proofs.ContinuityHats.{onlys, shadow, IsNear, shadows_change, shadow_wrapped, shadow_inside, floor_near, moved_low, moved_high}
 use Rattle.pic_split.proofs.ContinuityImages.{images_way, images_first, images_second, wrapped-add, wrapped-zero, div_e-add, div_e-zero}
 use Rattle.pic_split.proofs.Leading.{path_leads}

@@ -8,13 +8,13 @@ use Rattle.std.proofs.lemmas.Int.{ints, by_lt_z}
 use Rattle.std.specs.Prelude.{◌<ℤ◌, ◌≤ℤ◌, ◌==◌, unsigned_abs, if◌then◌else◌}
 use Rattle.pic_num.specs.Rounding.{IsResidue, residue}
 use Rattle.pic_num.proofs.Ring.{ring, reads}
-use Rattle.pic_num.proofs.Rounds.{residue-unique}
+use Rattle.pic_num.proofs.RoundingLaws.{residue-unique}
 use Rattle.pic_grid.specs.Current.{sum_images}
 use Rattle.pic_grid.specs.Hat.{hat, periodic_hat}
 use Rattle.pic_grid.specs.Path.{same_int, floor_of}
-use Rattle.pic_grid.specs.Piece.{IsInside}
-use Rattle.pic_grid.proofs.Hats.{times_one}
-use Rattle.pic_grid.proofs.TwoHats.{only, only_below, only_above, further_times, two_hats}
+use Rattle.pic_grid.specs.Segment.{IsInside}
+use Rattle.pic_grid.proofs.HatLaws.{times_one}
+use Rattle.pic_grid.proofs.TwoHatLaws.{only, only_below, only_above, further_times, two_hats}
 
 -- how often the images of the index i are c: once where i is c modulo the cells, else never
 unfoldable pub onlys : ℕ → ℤ → ℕ → ℤ

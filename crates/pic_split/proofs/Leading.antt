@@ -3,12 +3,12 @@ use Rattle.std.proofs.Common.{◌≡◌, ℕ, ◌<◌, ◌≤◌, ◌⊎◌, Boo
 use Rattle.std.proofs.Math.IntN.{ℤ, pos, ◌+ℤ◌, ◌-ℤ◌}
 use Rattle.std.specs.Prelude.{int_lt}
 use Rattle.std.specs.List.{AllByRecursion as Each}
-use Rattle.pic_num.specs.declared.space.Axis.{Axis}
-use Rattle.pic_num.specs.declared.space.Axis.TheVariants.{X, Y, Z}
+use Rattle.pic_num.specs.declared.axis.Axis.{Axis}
+use Rattle.pic_num.specs.declared.axis.Axis.TheVariants.{X, Y, Z}
 use Rattle.pic_num.specs.Push.{plus}
 use Rattle.pic_num.specs.Space.{Spot, along}
 use Rattle.pic_grid.specs.Path.{Crossing, crossing, crossings, floor_of, floor_cell, break_on, break_at, step_on, cell_after, walk, path}
-use Rattle.pic_grid.specs.Piece.{Piece, IsInside, Leads}
+use Rattle.pic_grid.specs.Segment.{Piece, IsInside, Leads}
 use Rattle.pic_split.specs.Moves.{IsMove}
 use Rattle.pic_split.proofs.Breaks.{IsSound, IsUpTo, Passing, point_at, part, break_is, part_within, part_upto, part_own, at_start, at_end, between, floor_inside}
 use Rattle.pic_split.proofs.Orders.{IsOther, HasOne, Holds, Sorted, Tells, crossing_tells, crossings_sound, crossings_hold}

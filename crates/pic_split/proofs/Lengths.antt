@@ -5,14 +5,14 @@ use Rattle.std.proofs.Math.Nat.{mul-le-mul_left}
 use Rattle.std.proofs.lemmas.Int.{ints, unsigned_abs-mul}
 use Rattle.std.specs.List.{AllByRecursion as Each}
 use Rattle.pic_num.proofs.Ring.{ring, reads}
-use Rattle.pic_num.specs.declared.space.Axis.{Axis}
+use Rattle.pic_num.specs.declared.axis.Axis.{Axis}
 use Rattle.pic_num.specs.Flux.{simpson}
 use Rattle.pic_num.specs.Push.{plus}
 use Rattle.pic_num.specs.Space.{Spot, along, next_axis}
 use Rattle.pic_grid.specs.Flux.{edge_weight, flux, path_flux}
 use Rattle.pic_grid.specs.Hat.{hat}
 use Rattle.pic_grid.specs.Path.{Crossing, crossings, floor_cell, break_at, cell_after, same_int, walk, path}
-use Rattle.pic_grid.specs.Piece.{Piece}
+use Rattle.pic_grid.specs.Segment.{Piece}
 use Rattle.pic_grid.specs.Sums.{sum_over}
 use Rattle.pic_split.specs.Moves.{IsMove}
 use Rattle.pic_split.specs.Ways.{ways}

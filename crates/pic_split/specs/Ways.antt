@@ -1,8 +1,8 @@
 -- How far the pieces of a path go (this project's profile).
 use Rattle.std.specs.Prelude.{ℕ, ◌+◌, ◌-ℤ◌, unsigned_abs, List, [], ◌∷◌}
-use Rattle.pic_num.specs.declared.space.Axis.{Axis}
+use Rattle.pic_num.specs.declared.axis.Axis.{Axis}
 use Rattle.pic_num.specs.Space.{along}
-use Rattle.pic_grid.specs.Piece.{Piece}
+use Rattle.pic_grid.specs.Segment.{Piece}
 
 -- the sizes of the pieces' ways along an axis, added up
 unfoldable pub ways : Axis → List Piece → ℕ

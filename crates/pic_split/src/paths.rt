@@ -3,7 +3,7 @@ ghost use Rattle.std.specs.List.{All};
 ghost use Rattle.pic_num.specs.Push.{plus};
 ghost use Rattle.pic_num.specs.Space.{triple, spot};
 ghost use Rattle.pic_grid.specs.Path.{point_of, floor_cell, walk, path};
-ghost use Rattle.pic_grid.specs.Piece.{Leads};
+ghost use Rattle.pic_grid.specs.Segment.{Leads};
 ghost use Rattle.pic_split.specs.Crossings.{list_of};
 ghost use Rattle.pic_split.specs.Sizes.{AreAtMost, IsSmall};
 ghost use Rattle.pic_split.specs.Moves.{IsMove};

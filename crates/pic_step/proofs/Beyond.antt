@@ -5,8 +5,8 @@ use Rattle.std.specs.Prelude.{unsigned_abs, slice_index_or}
 use Rattle.std.proofs.lemmas.Bool.Decides.{nat_tests}
 use Rattle.std.proofs.lemmas.Int.{ints}
 use Rattle.pic_num.specs.declared.motion.Particle.{Particle}
-use Rattle.pic_num.specs.declared.space.Axis.{Axis}
-use Rattle.pic_num.specs.declared.space.Axis.TheVariants.{X, Y, Z}
+use Rattle.pic_num.specs.declared.axis.Axis.{Axis}
+use Rattle.pic_num.specs.declared.axis.Axis.TheVariants.{X, Y, Z}
 use Rattle.pic_num.specs.Flux.{simpson}
 use Rattle.pic_num.specs.Push.{Shift, Halting, plus}
 use Rattle.pic_num.specs.Space.{Triple, Spot, triple}
@@ -15,13 +15,13 @@ use Rattle.pic_grid.specs.Current.{wrapped, flux_after, current}
 use Rattle.pic_grid.specs.Flux.{flux, path_flux}
 use Rattle.pic_grid.specs.Hat.{hat, IsInBox}
 use Rattle.pic_grid.specs.Path.{point_of, floor_cell, same_int}
-use Rattle.pic_grid.specs.Piece.{Piece, IsInside, IsInCell, Leads, arrived, onward}
+use Rattle.pic_grid.specs.Segment.{Piece, IsInside, IsInCell, Leads, arrived, onward}
 use Rattle.pic_grid.specs.PushPhase.{Surroundings, kind_of, push_of}
 use Rattle.pic_grid.specs.Sums.{sum_over}
 use Rattle.pic_grid.proofs.OverLaws.{sum_over_same}
 use Rattle.pic_charge.specs.Charge.{CanShare}
 use Rattle.pic_split.proofs.Leading.{path_leads}
-use Rattle.pic_grid.proofs.TwoHats.{only, only_below, only_above, two_hats}
+use Rattle.pic_grid.proofs.TwoHatLaws.{only, only_below, only_above, two_hats}
 use Rattle.pic_split.proofs.ContinuityHats.{IsNear}
 use Rattle.pic_split.proofs.ContinuityImages.{wrapped-zero, wrapped-over}
 use Rattle.pic_split.proofs.Continuity.{IsNearGrid, near_cell, near_start, near_end}

@@ -2,8 +2,8 @@
 use Rattle.std.proofs.Common.{◌≡◌, Option, Some, None, Ok, Err, ap}
 use Rattle.std.specs.Option.{option_or}
 use Rattle.pic_num.specs.Push.{unless}
-use Rattle.pic_grid.specs.declared.stops.Phase.TheVariants.{Half1, Half2}
-use Rattle.pic_grid.specs.declared.stops.Stop.{Stop}
+use Rattle.pic_grid.specs.declared.stop.Phase.TheVariants.{Half1, Half2}
+use Rattle.pic_grid.specs.declared.stop.Stop.{Stop}
 use Rattle.pic_grid.specs.PushPhase.{push_stop}
 use Rattle.pic_step.specs.SerialStep.{World, around, half_on, push_on, current_of, before_electric, half_stop, full_stop, step_on, stop_of, stepped}
 

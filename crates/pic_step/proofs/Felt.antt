@@ -4,14 +4,14 @@ use Rattle.std.proofs.Math.IntN.{ℤ, ◌+ℤ◌}
 use Rattle.std.specs.Option.{option_or}
 use Rattle.pic_num.specs.declared.motion.Kind.{Kind}
 use Rattle.pic_num.specs.declared.motion.Particle.{Particle}
-use Rattle.pic_num.specs.declared.space.Axis.{Axis}
+use Rattle.pic_num.specs.declared.axis.Axis.{Axis}
 use Rattle.pic_num.specs.First.{first_of}
 use Rattle.pic_num.specs.Push.{pushed}
 use Rattle.pic_num.specs.Space.{Triple, Spot, triple, spot}
-use Rattle.pic_grid.specs.Fields.{value_at, field_of}
+use Rattle.pic_grid.specs.Lattice.{value_at, field_of}
 use Rattle.pic_grid.specs.PushPhase.{Surroundings, kind_of, push_of, after_push, moved_all, halt_of, push_stop}
 use Rattle.pic_grid.specs.Sums.{sum_over}
-use Rattle.pic_grid.proofs.Fields.{value_at-field_of}
+use Rattle.pic_grid.proofs.LatticeLaws.{value_at-field_of}
 use Rattle.pic_gather.proofs.Same.{gathered_e_same, gathered_b_same}
 use Rattle.pic_step.specs.Pushing.{felt}
 use Rattle.pic_step.specs.Sound.{one_part}

@@ -2,14 +2,14 @@
 use Rattle.std.proofs.Common.{ℕ, zero, suc, ◌^◌, ◌<◌, List, length, get_or, arith}
 use Rattle.std.proofs.Math.IntN.{ℤ}
 use Rattle.std.proofs.lemmas.Int.{ints}
-use Rattle.pic_num.specs.declared.space.Axis.{Axis}
-use Rattle.pic_num.specs.declared.space.Axis.TheVariants.{X, Y, Z}
+use Rattle.pic_num.specs.declared.axis.Axis.{Axis}
+use Rattle.pic_num.specs.declared.axis.Axis.TheVariants.{X, Y, Z}
 use Rattle.pic_num.specs.Push.{plus}
 use Rattle.pic_num.specs.Sizes.{IsAtMost}
 use Rattle.pic_num.specs.Space.{Triple, Spot, along}
 use Rattle.pic_grid.specs.Hat.{IsInBox}
 use Rattle.pic_grid.specs.Path.{point_of, floor_cell}
-use Rattle.pic_grid.specs.Piece.{Piece, Leads, arrived, onward}
+use Rattle.pic_grid.specs.Segment.{Piece, Leads, arrived, onward}
 use Rattle.pic_flux.specs.Adds.{IsFit}
 use Rattle.pic_step.specs.Pushing.{most_cells}
 use Rattle.pic_split.specs.Moves.{IsMove}

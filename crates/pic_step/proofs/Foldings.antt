@@ -4,7 +4,7 @@ use Rattle.std.proofs.Math.IntN.{ℤ, pos, ◌+ℤ◌, ◌-ℤ◌}
 use Rattle.std.proofs.lemmas.Int.{ints}
 use Rattle.pic_num.specs.Space.{Triple, Spot}
 use Rattle.pic_grid.specs.Current.{sum_images}
-use Rattle.pic_grid.specs.Zones.{BlockValues, InZone}
+use Rattle.pic_grid.specs.Block.{BlockValues, InZone}
 use Rattle.pic_step.specs.Traces.{IsGuard, IsReached}
 
 -- a sum over images of what is 0 everywhere

@@ -4,7 +4,7 @@ use Rattle.std.proofs.Math.IntN.{ℤ, pos, negsuc, ◌+ℤ◌, ◌*ℤ◌}
 use Rattle.std.specs.Prelude.{◌<ℤ◌}
 use Rattle.std.proofs.lemmas.Int.{ints, by_lt_z}
 use Rattle.pic_num.specs.Rounding.{IsResidue}
-use Rattle.pic_num.proofs.Rounds.{mul-le_mul}
+use Rattle.pic_num.proofs.RoundingLaws.{mul-le_mul}
 use Rattle.pic_step.specs.Reach.{IsImage, ThreeImagesAreAll}
 use Rattle.pic_step.proofs.Beyond.{traces_beyond_x, traces_beyond_y, traces_beyond_z}
 

@@ -3,15 +3,15 @@ use Rattle.std.proofs.Common.{◌≡◌, ◌+◌, ap, ◌∙◌, arith}
 use Rattle.std.proofs.Math.IntN.{ℤ, pos, ◌+ℤ◌, ◌-ℤ◌}
 use Rattle.std.proofs.lemmas.Int.{ints}
 use Rattle.std.proofs.lemmas.Nat.{mod_below}
-use Rattle.pic_num.specs.declared.space.Axis.{Axis}
-use Rattle.pic_num.specs.declared.space.Axis.TheVariants.{X, Y, Z}
+use Rattle.pic_num.specs.declared.axis.Axis.{Axis}
+use Rattle.pic_num.specs.declared.axis.Axis.TheVariants.{X, Y, Z}
 use Rattle.pic_num.specs.Rounding.{scaled}
 use Rattle.pic_num.specs.Space.{Triple}
 use Rattle.pic_grid.specs.Differences.{up, curl_e, div_b}
-use Rattle.pic_grid.specs.Fields.{value_at, field_of}
-use Rattle.pic_grid.specs.Places.{IsWithin}
+use Rattle.pic_grid.specs.Lattice.{value_at, field_of}
+use Rattle.pic_grid.specs.Cells.{IsWithin}
 use Rattle.pic_grid.proofs.DifferenceLaws.{div_b-curl_e}
-use Rattle.pic_grid.proofs.Fields.{value_at-field_of}
+use Rattle.pic_grid.proofs.LatticeLaws.{value_at-field_of}
 use Rattle.pic_field.specs.FieldPhases.{half_of}
 use Rattle.pic_step.specs.Keeps.{Keeps}
 use Rattle.pic_step.specs.SerialStep.{World, half_at, half_on, push_on, step_on}

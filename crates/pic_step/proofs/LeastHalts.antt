@@ -7,8 +7,8 @@ use Rattle.std.proofs.lemmas.List.Elements.{All-from_recursion, recursion_from_A
 use Rattle.pic_num.specs.declared.motion.Particle.{Particle}
 use Rattle.pic_num.specs.First.{first_of}
 use Rattle.pic_num.specs.Push.{Shift, Halting}
-use Rattle.pic_grid.specs.declared.stops.Stop.{Stop}
-use Rattle.pic_grid.specs.declared.stops.Stop.TheVariants.{Push}
+use Rattle.pic_grid.specs.declared.stop.Stop.{Stop}
+use Rattle.pic_grid.specs.declared.stop.Stop.TheVariants.{Push}
 use Rattle.pic_grid.specs.PushPhase.{Surroundings, push_of, halt_of, push_stop}
 use Rattle.pic_step.specs.LeastHalt.{LeastHalt}
 

@@ -2,18 +2,18 @@
 use Rattle.std.proofs.Common.{◌≡◌, ℕ, ◌<◌, List, [], ◌∷◌, length, get_or, sym, ap, ◌∙◌, subst, arith}
 use Rattle.std.proofs.Math.ListN.{set}
 use Rattle.std.proofs.lemmas.List.{get_or_default}
-use Rattle.pic_num.specs.declared.multiplier.Scales.{Scales}
-use Rattle.pic_num.specs.declared.space.Axis.{Axis}
+use Rattle.pic_num.specs.declared.mult.Scales.{Scales}
+use Rattle.pic_num.specs.declared.axis.Axis.{Axis}
 use Rattle.pic_num.specs.Multiplier.{Multiplier}
 use Rattle.pic_num.specs.Rounding.{scaled}
 use Rattle.pic_num.specs.Space.{Triple}
-use Rattle.pic_grid.specs.declared.stops.Phase.{Phase}
-use Rattle.pic_grid.specs.declared.stops.Phase.TheVariants.{Electric}
-use Rattle.pic_grid.specs.Fields.{Field, value_at, field_of}
+use Rattle.pic_grid.specs.declared.stop.Phase.{Phase}
+use Rattle.pic_grid.specs.declared.stop.Phase.TheVariants.{Electric}
+use Rattle.pic_grid.specs.Lattice.{Field, value_at, field_of}
 use Rattle.pic_grid.specs.Gather.{force_of}
 use Rattle.pic_grid.specs.Parts.{no_block, ArePartsOf, joined}
-use Rattle.pic_grid.specs.Places.{IsWithin}
-use Rattle.pic_grid.specs.Zones.{BlockValues, IsShaped, IsAmongCells, AllAtMost, inner_at, outer_of}
+use Rattle.pic_grid.specs.Cells.{IsWithin}
+use Rattle.pic_grid.specs.Block.{BlockValues, IsShaped, IsAmongCells, AllAtMost, inner_at, outer_of}
 use Rattle.pic_field.specs.FieldPhases.{half_of, half_in, full_of, full_in, least_fault, lowest, EachAtMost}
 use Rattle.pic_field.proofs.Whole.{IsWhole, whole_one, whole_block, whole_parts, whole_shaped, whole_among, whole_small, half_whole, half_stop, full_whole, full_stop, force_whole}
 use Rattle.pic_step.specs.SerialStep.{origin}

@@ -9,11 +9,11 @@ use Rattle.std.proofs.lemmas.List.Edits.{map_over_more}
 use Rattle.pic_num.specs.declared.motion.Particle.{Particle}
 use Rattle.pic_num.specs.First.{first_of}
 use Rattle.pic_num.specs.Space.{Spot}
-use Rattle.pic_num.proofs.Firsts.{first_of_more}
-use Rattle.pic_grid.specs.declared.stops.Stop.{Stop}
+use Rattle.pic_num.proofs.FirstLaws.{first_of_more}
+use Rattle.pic_grid.specs.declared.stop.Stop.{Stop}
 use Rattle.pic_grid.specs.PushPhase.{Surroundings, push_of, after_push, moved_all, halt_of, push_stop}
 use Rattle.pic_grid.specs.Sums.{sum_over}
-use Rattle.pic_grid.specs.Zones.{BlockValues, InZone, IsShaped, AllAtMost, edge_at}
+use Rattle.pic_grid.specs.Block.{BlockValues, InZone, IsShaped, AllAtMost, edge_at}
 use Rattle.pic_grid.proofs.OverLaws.{sum_over_more}
 use Rattle.pic_flux.specs.Adds.{Adds}
 use Rattle.pic_step.proofs.Pushes.{length-moved_all}

@@ -4,18 +4,18 @@ use Rattle.std.proofs.Math.IntN.{ℤ}
 use Rattle.std.specs.Prelude.{All}
 use Rattle.pic_num.specs.declared.motion.Kind.{Kind}
 use Rattle.pic_num.specs.declared.motion.Particle.{Particle}
-use Rattle.pic_num.specs.declared.space.Axis.{Axis}
+use Rattle.pic_num.specs.declared.axis.Axis.{Axis}
 use Rattle.pic_num.specs.Multiplier.{Multiplier}
 use Rattle.pic_num.specs.Sizes.{IsAtMost}
 use Rattle.pic_num.specs.Space.{Triple, Spot}
 use Rattle.pic_grid.specs.Current.{wrapped, current}
-use Rattle.pic_grid.specs.Fields.{Field, value_at, field_of}
+use Rattle.pic_grid.specs.Lattice.{Field, value_at, field_of}
 use Rattle.pic_grid.specs.Gather.{force_of}
 use Rattle.std.proofs.lemmas.List.{get_or_default}
 use Rattle.pic_grid.specs.PushPhase.{no_kind, Surroundings}
 use Rattle.pic_grid.specs.Species.{IsKind}
-use Rattle.pic_grid.specs.Zones.{BlockValues, InZone, IsShaped, AllAtMost}
-use Rattle.pic_grid.proofs.Fields.{value_at-field_of}
+use Rattle.pic_grid.specs.Block.{BlockValues, InZone, IsShaped, AllAtMost}
+use Rattle.pic_grid.proofs.LatticeLaws.{value_at-field_of}
 use Rattle.pic_field.specs.FieldPhases.{EachAtMost}
 use Rattle.pic_flux.specs.Adds.{Adds}
 use Rattle.pic_flux.proofs.AddsLaws.{adds_from_zeros}

@@ -5,15 +5,15 @@ use Rattle.std.specs.Option.{option_or}
 use Rattle.pic_num.specs.declared.motion.Particle.{Particle}
 use Rattle.pic_num.specs.declared.motion.What.{What}
 use Rattle.pic_num.specs.declared.motion.What.TheVariants.{Far}
-use Rattle.pic_num.specs.declared.space.Axis.{Axis}
-use Rattle.pic_num.specs.declared.space.Axis.TheVariants.{X, Y, Z}
+use Rattle.pic_num.specs.declared.axis.Axis.{Axis}
+use Rattle.pic_num.specs.declared.axis.Axis.TheVariants.{X, Y, Z}
 use Rattle.pic_num.specs.First.{first_of}
 use Rattle.pic_num.specs.Multiplier.{Multiplier}
 use Rattle.pic_num.specs.Push.{Shift, Halting, pushed, first_above, unless, plus}
 use Rattle.pic_num.specs.Space.{Triple, Spot, triple, along}
 use Rattle.pic_grid.specs.Hat.{HasTwo, IsInBox}
 use Rattle.pic_grid.specs.Path.{point_of}
-use Rattle.pic_num.proofs.Rounds.{residue-is}
+use Rattle.pic_num.proofs.RoundingLaws.{residue-is}
 use Rattle.std.proofs.lemmas.Bool.Decides.{nat_tests}
 use Rattle.pic_grid.specs.PushPhase.{Surroundings, push_of, after_push, moved, moved_all}
 use Rattle.pic_charge.specs.Charge.{CanShare}

@@ -4,17 +4,17 @@ use Rattle.std.proofs.Math.IntN.{ℤ, ◌-ℤ◌}
 use Rattle.std.specs.Option.{option_or}
 use Rattle.std.specs.List.{range_with_len}
 use Rattle.std.proofs.lemmas.Int.{ints}
-use Rattle.pic_num.specs.declared.space.Axis.{Axis}
+use Rattle.pic_num.specs.declared.axis.Axis.{Axis}
 use Rattle.pic_num.specs.Multiplier.{Multiplier}
 use Rattle.pic_num.specs.Rounding.{scaled}
 use Rattle.pic_num.specs.Space.{Triple}
-use Rattle.pic_grid.specs.declared.stops.Phase.{Phase}
-use Rattle.pic_grid.specs.declared.stops.Phase.TheVariants.{Half1, Half2, Electric}
-use Rattle.pic_grid.specs.Fields.{value_at, field_of}
+use Rattle.pic_grid.specs.declared.stop.Phase.{Phase}
+use Rattle.pic_grid.specs.declared.stop.Phase.TheVariants.{Half1, Half2, Electric}
+use Rattle.pic_grid.specs.Lattice.{value_at, field_of}
 use Rattle.pic_grid.specs.Hat.{HasTwo}
-use Rattle.pic_grid.specs.Places.{IsCells}
+use Rattle.pic_grid.specs.Cells.{IsCells}
 use Rattle.pic_grid.specs.PushPhase.{moved_all, push_stop}
-use Rattle.pic_grid.proofs.Fields.{value_at-field_of}
+use Rattle.pic_grid.proofs.LatticeLaws.{value_at-field_of}
 use Rattle.pic_charge.specs.Charge.{charge_of}
 use Rattle.pic_charge.specs.Gauss.{MeetsGauss}
 use Rattle.pic_field.specs.FieldPhases.{full_of, least_fault, cell_above, IsBounded}

@@ -3,16 +3,16 @@ use Rattle.std.proofs.Common.{◌≡◌, ◌^◌, List, Option, None, Ok, refl, 
 use Rattle.std.proofs.Math.IntN.{ℤ}
 use Rattle.pic_num.specs.declared.motion.Kind.{Kind}
 use Rattle.pic_num.specs.declared.motion.Particle.{Particle}
-use Rattle.pic_num.specs.declared.space.Axis.{Axis}
+use Rattle.pic_num.specs.declared.axis.Axis.{Axis}
 use Rattle.pic_num.specs.Multiplier.{Multiplier}
 use Rattle.pic_num.specs.Space.{Triple}
-use Rattle.pic_grid.specs.declared.stops.Phase.TheVariants.{Half1, Half2, Electric}
-use Rattle.pic_grid.specs.declared.stops.Stop.{Stop}
-use Rattle.pic_grid.specs.Fields.{Field, value_at, field_of}
+use Rattle.pic_grid.specs.declared.stop.Phase.TheVariants.{Half1, Half2, Electric}
+use Rattle.pic_grid.specs.declared.stop.Stop.{Stop}
+use Rattle.pic_grid.specs.Lattice.{Field, value_at, field_of}
 use Rattle.pic_grid.specs.Gather.{force_of}
-use Rattle.pic_grid.specs.Places.{IsWithin}
+use Rattle.pic_grid.specs.Cells.{IsWithin}
 use Rattle.pic_grid.specs.PushPhase.{Surroundings, push_stop}
-use Rattle.pic_grid.proofs.Fields.{value_at-field_of, length-values_of, is_field_of}
+use Rattle.pic_grid.proofs.LatticeLaws.{value_at-field_of, length-values_of, is_field_of}
 use Rattle.pic_field.specs.FieldPhases.{half_of, full_of, least_fault, EachAtMost}
 use Rattle.pic_field.proofs.Whole.{least_fault-same}
 use Rattle.pic_step.specs.declared.rooms.Rooms.{Rooms}

@@ -2,12 +2,12 @@
 use Rattle.std.proofs.Common.{◌≡◌, ◌≢◌, ℕ, ◌+◌, ◌*◌, ◌<◌, length, refl, sym, ◌∙◌, subst, arith}
 use Rattle.std.proofs.Math.IntN.{ℤ}
 use Rattle.std.proofs.lemmas.List.{length-set}
-use Rattle.pic_num.specs.declared.space.Axis.{Axis}
+use Rattle.pic_num.specs.declared.axis.Axis.{Axis}
 use Rattle.pic_num.specs.Space.{Triple}
-use Rattle.pic_grid.specs.Fields.{Field, value_at, with_value, field_of}
-use Rattle.pic_grid.specs.Places.{IsWithin, count_of, place_of}
-use Rattle.pic_grid.proofs.Fields.{value_at-same, value_at-other, is_field_of}
-use Rattle.pic_grid.proofs.Places.{places_more, place_of_below}
+use Rattle.pic_grid.specs.Lattice.{Field, value_at, with_value, field_of}
+use Rattle.pic_grid.specs.Cells.{IsWithin, count_of, place_of}
+use Rattle.pic_grid.proofs.LatticeLaws.{value_at-same, value_at-other, is_field_of}
+use Rattle.pic_grid.proofs.CellLaws.{places_more, place_of_below}
 
 -- of the lattice's places those below i have the values that g gives
 pub record Walked (n parts : Triple) (g : Axis → Triple → ℤ) (f : Field) (i : ℕ) : Type 0 where

@@ -2,8 +2,8 @@
 use Rattle.std.specs.Prelude.{◌≡◌}
 use Rattle.pic_num.specs.Space.{Triple}
 use Rattle.pic_grid.specs.Differences.{div_b}
-use Rattle.pic_grid.specs.Fields.{value_at}
-use Rattle.pic_grid.specs.Places.{IsWithin}
+use Rattle.pic_grid.specs.Lattice.{value_at}
+use Rattle.pic_grid.specs.Cells.{IsWithin}
 use Rattle.pic_charge.specs.Gauss.{MeetsGauss}
 use Rattle.pic_step.specs.SerialStep.{World, step_on}
 use Rattle.pic_step.specs.Sound.{IsSound}

@@ -3,8 +3,8 @@ use Rattle.std.specs.Prelude.{◌≡◌, ◌<◌, List, length, map, None, Some,
 use Rattle.std.specs.List.{All, Contains, range_with_len}
 use Rattle.pic_num.specs.declared.motion.Particle.{Particle}
 use Rattle.pic_num.specs.Push.{Halting}
-use Rattle.pic_grid.specs.declared.stops.Stop.{Stop}
-use Rattle.pic_grid.specs.declared.stops.Stop.TheVariants.{Push}
+use Rattle.pic_grid.specs.declared.stop.Stop.{Stop}
+use Rattle.pic_grid.specs.declared.stop.Stop.TheVariants.{Push}
 use Rattle.pic_grid.specs.PushPhase.{Surroundings, push_of, push_stop}
 
 -- a particle of the list halts, the stop is its own, and no particle of a lesser identity halts

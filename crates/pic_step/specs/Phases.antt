@@ -1,11 +1,11 @@
 -- What a field phase does to a lattice of one part.
 use Rattle.std.specs.Prelude.{◌≡◌, ℤ, Some, None, Result, Ok, Err}
-use Rattle.pic_num.specs.declared.space.Axis.{Axis}
+use Rattle.pic_num.specs.declared.axis.Axis.{Axis}
 use Rattle.pic_num.specs.Multiplier.{Multiplier}
 use Rattle.pic_num.specs.Space.{Triple}
-use Rattle.pic_grid.specs.declared.stops.Phase.{Phase}
-use Rattle.pic_grid.specs.declared.stops.Stop.{Stop}
-use Rattle.pic_grid.specs.Fields.{Field, field_of}
+use Rattle.pic_grid.specs.declared.stop.Phase.{Phase}
+use Rattle.pic_grid.specs.declared.stop.Stop.{Stop}
+use Rattle.pic_grid.specs.Lattice.{Field, field_of}
 use Rattle.pic_field.specs.FieldPhases.{least_fault}
 use Rattle.pic_step.specs.SerialStep.{origin}
 use Rattle.pic_step.specs.Sound.{one_part}

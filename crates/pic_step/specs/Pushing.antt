@@ -2,7 +2,7 @@
 use Rattle.std.specs.Prelude.{ℕ, List, ◌<◌, length, slice_index_or}
 use Rattle.pic_num.specs.declared.motion.Kind.{Kind}
 use Rattle.pic_num.specs.Space.{Triple}
-use Rattle.pic_grid.specs.Fields.{Field, value_at}
+use Rattle.pic_grid.specs.Lattice.{Field, value_at}
 use Rattle.pic_grid.specs.PushPhase.{Surroundings, no_kind}
 use Rattle.pic_grid.specs.Species.{IsKind}
 

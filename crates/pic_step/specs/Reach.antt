@@ -2,7 +2,7 @@
 -- the periodic grid, three images on each axis are all that it can pass.
 use Rattle.std.specs.Prelude.{◌≡◌, ℕ, ◌<◌, ◌≤◌, ℤ, pos, ◌+ℤ◌, ◌-ℤ◌, ◌⊎◌, List}
 use Rattle.pic_num.specs.declared.motion.Particle.{Particle}
-use Rattle.pic_num.specs.declared.space.Axis.{Axis}
+use Rattle.pic_num.specs.declared.axis.Axis.{Axis}
 use Rattle.pic_num.specs.Rounding.{IsResidue}
 use Rattle.pic_num.specs.Space.{Spot}
 use Rattle.pic_grid.specs.PushPhase.{Surroundings}

@@ -1,7 +1,7 @@
 -- The lattices and the block that a state works with.
 use Rattle.std.specs.Prelude.{◌≡◌}
 use Rattle.pic_num.specs.Space.{Triple}
-use Rattle.pic_grid.specs.Fields.{Field}
+use Rattle.pic_grid.specs.Lattice.{Field}
 use Rattle.pic_step.specs.declared.rooms.Rooms.{Rooms}
 use Rattle.pic_step.specs.SerialStep.{World}
 use Rattle.pic_step.specs.Sound.{one_part, IsSound}

@@ -2,10 +2,10 @@
 use Rattle.std.specs.Prelude.{◌≡◌, ⊤, ℕ, zero, suc, List, map, Result, Ok, Err}
 use Rattle.pic_num.specs.declared.motion.Kind.{Kind}
 use Rattle.pic_num.specs.declared.motion.Particle.{Particle}
-use Rattle.pic_grid.specs.declared.stops.Stop.{Stop}
-use Rattle.pic_grid.specs.declared.stops.EndMark.{EndMark}
-use Rattle.pic_grid.specs.declared.stops.EndMark.TheVariants.{Stopped}
-use Rattle.pic_grid.specs.Fields.{field_of}
+use Rattle.pic_grid.specs.declared.stop.Stop.{Stop}
+use Rattle.pic_grid.specs.declared.stop.EndMark.{EndMark}
+use Rattle.pic_grid.specs.declared.stop.EndMark.TheVariants.{Stopped}
+use Rattle.pic_grid.specs.Lattice.{field_of}
 use Rattle.pic_deck.specs.declared.species_lists.Species.{Species}
 use Rattle.pic_deck.specs.Deck.{DeckView, initial_e, initial_b}
 use Rattle.pic_step.specs.declared.stepping.StepStop.{StepStop}

@@ -6,15 +6,15 @@ use Rattle.std.specs.Prelude.{ℕ, ℤ, List, Option, Result}
 use Rattle.std.specs.Option.{option_or}
 use Rattle.pic_num.specs.declared.motion.Kind.{Kind}
 use Rattle.pic_num.specs.declared.motion.Particle.{Particle}
-use Rattle.pic_num.specs.declared.multiplier.Scales.{Scales}
-use Rattle.pic_num.specs.declared.space.Axis.{Axis}
+use Rattle.pic_num.specs.declared.mult.Scales.{Scales}
+use Rattle.pic_num.specs.declared.axis.Axis.{Axis}
 use Rattle.pic_num.specs.Push.{unless}
 use Rattle.pic_num.specs.Space.{Triple}
-use Rattle.pic_grid.specs.declared.stops.Phase.{Phase}
-use Rattle.pic_grid.specs.declared.stops.Phase.TheVariants.{Half1, Half2, Electric}
-use Rattle.pic_grid.specs.declared.stops.Stop.{Stop}
+use Rattle.pic_grid.specs.declared.stop.Phase.{Phase}
+use Rattle.pic_grid.specs.declared.stop.Phase.TheVariants.{Half1, Half2, Electric}
+use Rattle.pic_grid.specs.declared.stop.Stop.{Stop}
 use Rattle.pic_grid.specs.Current.{current}
-use Rattle.pic_grid.specs.Fields.{Field, value_at, field_of}
+use Rattle.pic_grid.specs.Lattice.{Field, value_at, field_of}
 use Rattle.pic_grid.specs.Gather.{force_of}
 use Rattle.pic_grid.specs.PushPhase.{Surroundings, moved_all, push_stop}
 use Rattle.pic_field.specs.FieldPhases.{half_of, full_of, least_fault}

@@ -3,14 +3,14 @@
 use Rattle.std.specs.Prelude.{◌≡◌, ℕ, suc, ◌+◌, ℤ, pos, negsuc, ◌<ℤ◌, ◌≤ℤ◌, ◌⊎◌, List, Result, Ok, Err}
 use Rattle.pic_num.specs.declared.motion.Kind.{Kind}
 use Rattle.pic_num.specs.declared.motion.Particle.{Particle}
-use Rattle.pic_num.specs.declared.space.Axis.{Axis}
+use Rattle.pic_num.specs.declared.axis.Axis.{Axis}
 use Rattle.pic_num.specs.Push.{Shift, Halting}
 use Rattle.pic_num.specs.Space.{Triple, Spot, triple}
 use Rattle.pic_grid.specs.Flux.{path_flux}
 use Rattle.pic_grid.specs.Path.{path, point_of}
 use Rattle.pic_grid.specs.PushPhase.{Surroundings, kind_of, push_of}
 use Rattle.pic_grid.specs.Sums.{sum_over}
-use Rattle.pic_grid.specs.Zones.{BlockValues, InZone, edge_at}
+use Rattle.pic_grid.specs.Block.{BlockValues, InZone, edge_at}
 
 -- the flux of one particle after its push: that of its path, or 0 where it halts
 unfoldable pub trace_of : ℕ → List Kind → Particle → Result Shift Halting → Axis → Spot → ℤ

@@ -2,13 +2,13 @@
 
 ghost use Rattle.std.specs.Prelude.{◌≡◌, ℕ, ℤ, pos, ◌*◌, ◌^◌, ◌<◌, ◌≤◌, ◌+ℤ◌, ◌-ℤ◌};
 ghost use Rattle.std.specs.Bool.{OnTrue, OnFalse};
-ghost use Rattle.pic_num.specs.declared.space.Axis.{Axis as AxisName};
+ghost use Rattle.pic_num.specs.declared.axis.Axis.{Axis as AxisName};
 ghost use Rattle.pic_num.specs.Sizes.{IsAtMost};
 ghost use Rattle.pic_num.specs.Space.{Spot, triple, spot};
 ghost use Rattle.pic_grid.specs.Current.{sum_images, wrapped};
-ghost use Rattle.pic_grid.specs.Fields.{field_of};
-ghost use Rattle.pic_grid.specs.Places.{IsWithin};
-ghost use Rattle.pic_grid.specs.Zones.{AllAtMost};
+ghost use Rattle.pic_grid.specs.Lattice.{field_of};
+ghost use Rattle.pic_grid.specs.Cells.{IsWithin};
+ghost use Rattle.pic_grid.specs.Block.{AllAtMost};
 ghost use Rattle.pic_step.specs.Traces.{Holds, IsGuard, IsReached, IsBeyond};
 
 use pic_grid::{Block, Cells, Lattice};

@@ -1,7 +1,7 @@
 //! The field phases and the force values, on lattices of one part.
 
 ghost use Rattle.std.specs.Prelude.{◌≡◌, ◌^◌};
-ghost use Rattle.pic_grid.specs.Fields.{value_at, field_of};
+ghost use Rattle.pic_grid.specs.Lattice.{value_at, field_of};
 ghost use Rattle.pic_grid.specs.Gather.{force_of};
 ghost use Rattle.pic_field.specs.FieldPhases.{half_of, full_of, EachAtMost};
 ghost use Rattle.pic_step.specs.Phases.{Advances, AdvancesBeside};

@@ -8,7 +8,7 @@ ghost use Rattle.pic_grid.specs.Hat.{IsInBox};
 ghost use Rattle.pic_grid.specs.Path.{path, point_of};
 ghost use Rattle.pic_num.specs.Space.{triple, spot};
 ghost use Rattle.pic_grid.specs.PushPhase.{kind_of, moved, after_push, push_of, moved_all, halt_of, push_stop};
-ghost use Rattle.pic_grid.specs.Zones.{IsShaped, AllAtMost};
+ghost use Rattle.pic_grid.specs.Block.{IsShaped, AllAtMost};
 ghost use Rattle.pic_boris.specs.Pushes.{Pushes, shift_of, IsInLimits};
 ghost use Rattle.pic_charge.specs.Charge.{CanShare};
 ghost use Rattle.pic_flux.specs.Adds.{Adds};

@@ -1,5 +1,5 @@
 ghost use Rattle.std.specs.Prelude.{◌≡◌, IfOk, length};
-ghost use Rattle.pic_grid.specs.Fields.{field_of};
+ghost use Rattle.pic_grid.specs.Lattice.{field_of};
 ghost use Rattle.pic_deck.specs.Deck.{initial_e, initial_b};
 ghost use Rattle.pic_step.specs.SerialRun.{kinds_of};
 ghost use Rattle.pic_step.specs.Sound.{one_part};

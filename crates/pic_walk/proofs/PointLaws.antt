@@ -5,11 +5,11 @@ use Rattle.std.specs.Prelude.{unsigned_abs}
 use Rattle.std.proofs.lemmas.Int.{ints, to_z-of_z, fits_signed_from_abs}
 use mir.Syntax.{w32, w64}
 use mir.Val.{SFits, to_z, of_z}
-use Rattle.pic_num.specs.declared.space.Axis.TheVariants.{X, Y, Z}
-use Rattle.pic_num.specs.declared.space.Axis.{Axis}
+use Rattle.pic_num.specs.declared.axis.Axis.TheVariants.{X, Y, Z}
+use Rattle.pic_num.specs.declared.axis.Axis.{Axis}
 use Rattle.pic_num.specs.Sizes.{IsAtMost}
 use Rattle.pic_num.specs.Space.{Triple, along, spot}
-use Rattle.pic_grid.specs.Places.{IsCells}
+use Rattle.pic_grid.specs.Cells.{IsCells}
 use Rattle.pic_walk.specs.Range.{IsInLimits, limits_at, below}
 use Rattle.pic_walk.specs.declared.point_lists.Point6.{Point6}
 use Rattle.pic_walk.specs.Points.{IsPoint, speed_limits, point_limits, point_of}

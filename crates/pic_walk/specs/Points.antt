@@ -1,7 +1,7 @@
 -- The particles of a species, one by one: their limits, and the walk of them.
 use Rattle.std.specs.Prelude.{ℕ, ℤ, pos, negsuc, ◌*◌, ◌^◌, ◌<◌, List, [], ◌∷◌, length, slice_index_or, Ok}
 use Rattle.toml.specs.Data.{Data}
-use Rattle.pic_num.specs.declared.space.Axis.{Axis}
+use Rattle.pic_num.specs.declared.axis.Axis.{Axis}
 use Rattle.pic_num.specs.Sizes.{IsAtMost}
 use Rattle.pic_num.specs.Space.{Triple, triple, spot, along}
 use Rattle.pic_grid.specs.Hat.{IsInBox}

@@ -1,9 +1,9 @@
 -- The rows of a field: their limits, and the walk of them.
 use Rattle.std.specs.Prelude.{ℕ, ℤ, pos, ◌<◌, ◌≤◌, List, [], ◌∷◌, length, slice_index_or, Ok}
 use Rattle.toml.specs.Data.{Data}
-use Rattle.pic_num.specs.declared.space.Axis.TheVariants.{X}
+use Rattle.pic_num.specs.declared.axis.Axis.TheVariants.{X}
 use Rattle.pic_num.specs.Space.{Triple, triple}
-use Rattle.pic_grid.specs.Places.{IsWithin, axis_of}
+use Rattle.pic_grid.specs.Cells.{IsWithin, axis_of}
 use Rattle.pic_walk.specs.declared.ranges.Limits.{Limits}
 use Rattle.pic_walk.specs.declared.row_lists.Row.{Row}
 use Rattle.pic_walk.specs.Range.{IsInLimits, from_to, below, any_limits}

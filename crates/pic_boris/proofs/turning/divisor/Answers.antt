@@ -4,7 +4,7 @@ use Rattle.std.proofs.lemmas.Int.{ints}
 use mir.Syntax.{w128}
 use Rattle.pic_num.specs.Push.{dot}
 use Rattle.pic_num.specs.Sizes.{IsAtMost}
-use Rattle.pic_num.proofs.Sizes.{codes, code_fits, code_is, code_at_most}
+use Rattle.pic_num.proofs.SizeLaws.{codes, code_fits, code_is, code_at_most}
 use Rattle.pic_boris.proofs.turning.divisor.Goals as goal
 
 -- the sum, with its casts left out

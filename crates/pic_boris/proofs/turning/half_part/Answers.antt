@@ -1,7 +1,7 @@
 use Rattle.std.proofs.Common.{◌≡◌, ℤ, pos, ◌^◌, ◌+ℤ◌, to_z, of_z, ◌∙◌, ap}
 use mir.Syntax.{w128}
 use Rattle.pic_num.specs.Rounding.{rounded}
-use Rattle.pic_num.proofs.Sizes.{codes, code_fits, code_is}
+use Rattle.pic_num.proofs.SizeLaws.{codes, code_fits, code_is}
 use Rattle.pic_boris.proofs.turning.half_part.Goals as goal
 
 pub overflow_add-result : goal.overflow_add-result

@@ -1,5 +1,5 @@
 use mir.Syntax.{w128}
-use Rattle.pic_num.proofs.Sizes.{codes, code_fits, code_is, code_at_most}
+use Rattle.pic_num.proofs.SizeLaws.{codes, code_fits, code_is, code_at_most}
 use Rattle.pic_boris.proofs.turning.minor.Goals as goal
 
 pub overflow_sub-result : goal.overflow_sub-result

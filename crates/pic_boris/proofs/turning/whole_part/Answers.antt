@@ -2,7 +2,7 @@ use Rattle.std.proofs.Common.{◌≡◌, pos, ◌^◌, ◌+ℤ◌, ◌*ℤ◌, t
 use mir.Syntax.{w128}
 use Rattle.pic_num.specs.Rounding.{rounded}
 use Rattle.pic_num.specs.Sizes.{IsAtMost}
-use Rattle.pic_num.proofs.Sizes.{codes, code_fits, code_is, code_at_most}
+use Rattle.pic_num.proofs.SizeLaws.{codes, code_fits, code_is, code_at_most}
 use Rattle.pic_boris.proofs.turning.whole_part.Goals as goal
 
 quotient_size : (c : goal.After-rdiv) → IsAtMost c.rdiv.result (2 ^ 92)

@@ -3,9 +3,9 @@ use lib.Signed.{shr_z}
 use mir.Syntax.{w128}
 use Rattle.pic_num.specs.Rounding.{rounded}
 use Rattle.pic_num.specs.Sizes.{IsAtMost}
-use Rattle.pic_num.proofs.Rounds.{shifted, power_size, power_above_zero, rounded-no_larger}
-use Rattle.pic_num.proofs.Sizes.{codes, code_is}
-use Rattle.pic_num.proofs.Rounds.{rounded-shr}
+use Rattle.pic_num.proofs.RoundingLaws.{shifted, power_size, power_above_zero, rounded-no_larger}
+use Rattle.pic_num.proofs.SizeLaws.{codes, code_is}
+use Rattle.pic_num.proofs.RoundingLaws.{rounded-shr}
 use Rattle.pic_boris.proofs.vectors.rounded_shift.Goals as goal
 
 pub returns : goal.returns

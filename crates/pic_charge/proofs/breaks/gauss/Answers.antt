@@ -1,8 +1,8 @@
 use Rattle.std.proofs.Common.{◌≡◌, None, ap, sym, ◌∙◌, arith}
 use borrow.Author.Count.{below_more}
 use Rattle.pic_grid.specs.Differences.{div_e}
-use Rattle.pic_grid.specs.Fields.{value_at, node_at}
-use Rattle.pic_grid.specs.Places.{cell_of}
+use Rattle.pic_grid.specs.Lattice.{value_at, node_at}
+use Rattle.pic_grid.specs.Cells.{cell_of}
 use Rattle.pic_charge.specs.Gauss.{difference_at, first_break}
 use Rattle.pic_charge.proofs.BreakLaws.{first_break_at, first_break_nowhere, none_exactly, least_where, none_unless}
 use Rattle.pic_charge.proofs.breaks.gauss.Goals as goal

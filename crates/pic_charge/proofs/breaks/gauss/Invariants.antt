@@ -1,7 +1,7 @@
 use Rattle.std.proofs.Common.{◌≡◌, ℕ, ◌<◌, None}
 use Rattle.pic_grid.specs.Differences.{div_e}
-use Rattle.pic_grid.specs.Fields.{value_at, node_at}
-use Rattle.pic_grid.specs.Places.{cell_of}
+use Rattle.pic_grid.specs.Lattice.{value_at, node_at}
+use Rattle.pic_grid.specs.Cells.{cell_of}
 use Rattle.pic_charge.specs.Gauss.{difference_at}
 use Rattle.pic_charge.proofs.breaks.gauss.Given as goal
 

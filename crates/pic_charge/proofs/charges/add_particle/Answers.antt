@@ -2,7 +2,7 @@ use Rattle.std.proofs.Common.{◌≡◌, ℤ, pos, ◌*ℤ◌, ◌≤◌, ◌^�
 use Rattle.std.proofs.lemmas.List.{get_or_read}
 use Rattle.pic_num.specs.declared.motion.Kind.{Kind}
 use Rattle.pic_num.specs.Space.{Triple, triple}
-use Rattle.pic_grid.specs.Places.{IsWithin}
+use Rattle.pic_grid.specs.Cells.{IsWithin}
 use Rattle.pic_grid.specs.PushPhase.{kind_of, no_kind}
 use Rattle.pic_charge.specs.Spread.{weight_in, spread}
 use Rattle.pic_charge.proofs.ChargeLaws.{kind_of_most}

@@ -1,6 +1,6 @@
 use Rattle.std.proofs.Common.{sym, ◌∙◌}
 use Rattle.pic_grid.specs.Differences.{div_e}
-use Rattle.pic_grid.specs.Fields.{value_at}
+use Rattle.pic_grid.specs.Lattice.{value_at}
 use Rattle.pic_charge.specs.Charge.{charge_of}
 use Rattle.pic_charge.proofs.BreakLaws.{first_break_some, first_break-charge}
 use Rattle.pic_charge.proofs.laws.break_is_where_gauss_fails.Goals as goal

@@ -1,8 +1,8 @@
 use Rattle.std.proofs.Common.{ℤ, [], ◌∷◌, ◌^◌, ◌+ℤ◌, sym, ◌∙◌, ap, subst}
-use Rattle.pic_num.proofs.Sizes.{codes, code_is}
+use Rattle.pic_num.proofs.SizeLaws.{codes, code_is}
 use Rattle.pic_num.specs.Sizes.{IsAtMost}
 use Rattle.pic_num.specs.Space.{Triple, triple}
-use Rattle.pic_grid.specs.Places.{IsWithin}
+use Rattle.pic_grid.specs.Cells.{IsWithin}
 use Rattle.pic_charge.proofs.Nodes.{node_added}
 use Rattle.pic_charge.proofs.spreading.add.Goals as goal
 

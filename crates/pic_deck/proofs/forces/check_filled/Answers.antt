@@ -1,7 +1,7 @@
 use Rattle.std.proofs.Common.{◌∙◌, sym, ap}
 use Rattle.std.proofs.lemmas.Result.{on_ok_weaker}
 use Rattle.pic_num.specs.Space.{spot}
-use Rattle.pic_grid.specs.Fields.{Field}
+use Rattle.pic_grid.specs.Lattice.{Field}
 use Rattle.pic_deck.specs.Initial.{set_up}
 use Rattle.pic_deck.proofs.ForceLaws.{first_of_field, size_of_field, IsMild-from}
 use Rattle.pic_deck.proofs.forces.check_filled.Goals as goal

@@ -8,9 +8,9 @@ use mir.Val.{SFits}
 use Rattle.pic_io.specs.Sink.{AppendedFront}
 use Rattle.pic_num.specs.Bytes.{i128_bytes}
 use Rattle.pic_num.specs.Space.{Triple, triple}
-use Rattle.pic_num.specs.declared.space.Axis.{Axis}
-use Rattle.pic_grid.specs.Fields.{Field, value_at}
-use Rattle.pic_grid.specs.Places.{count_of, place_of}
+use Rattle.pic_num.specs.declared.axis.Axis.{Axis}
+use Rattle.pic_grid.specs.Lattice.{Field, value_at}
+use Rattle.pic_grid.specs.Cells.{count_of, place_of}
 use Rattle.pic_dump.specs.DumpText.{values_bytes}
 use Rattle.pic_dump.specs.Queues.{Queued}
 use Rattle.pic_dump.proofs.Waits.{queued_more, cut_of_pieces}

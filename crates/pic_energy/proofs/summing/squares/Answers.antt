@@ -5,7 +5,7 @@ use mir.Syntax.{w128}
 use mir.Val.{SFits}
 use Rattle.pic_num.specs.Rounding.{scaled}
 use Rattle.pic_num.specs.Space.{triple}
-use Rattle.pic_grid.specs.Places.{count_of, place_of}
+use Rattle.pic_grid.specs.Cells.{count_of, place_of}
 use Rattle.pic_energy.specs.Energies.{square_of, square_sum}
 use Rattle.pic_energy.proofs.summing.squares.Goals as goal
 

@@ -10,13 +10,13 @@ use Rattle.pic_num.specs.Multiplier.{Multiplier}
 use Rattle.pic_num.specs.Rounding.{scaled}
 use Rattle.pic_num.specs.Sizes.{IsAtMost}
 use Rattle.pic_num.specs.Space.{Triple}
-use Rattle.pic_num.specs.declared.space.Axis.{Axis}
-use Rattle.pic_num.specs.declared.space.Axis.TheVariants.{X}
-use Rattle.pic_num.proofs.Rounds.{scaled-no_larger}
-use Rattle.pic_num.proofs.Sizes.{code_at_most, codes}
-use Rattle.pic_grid.specs.Fields.{Field, value_at, with_value}
-use Rattle.pic_grid.specs.Places.{IsWithin, count_of, place_of}
-use Rattle.pic_grid.proofs.Places.{place_of_below}
+use Rattle.pic_num.specs.declared.axis.Axis.{Axis}
+use Rattle.pic_num.specs.declared.axis.Axis.TheVariants.{X}
+use Rattle.pic_num.proofs.RoundingLaws.{scaled-no_larger}
+use Rattle.pic_num.proofs.SizeLaws.{code_at_most, codes}
+use Rattle.pic_grid.specs.Lattice.{Field, value_at, with_value}
+use Rattle.pic_grid.specs.Cells.{IsWithin, count_of, place_of}
+use Rattle.pic_grid.proofs.CellLaws.{place_of_below}
 use Rattle.pic_energy.specs.Energies.{IsBounded}
 use Rattle.pic_energy.proofs.tests.lone_value.Goals as goal
 

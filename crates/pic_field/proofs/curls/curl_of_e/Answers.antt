@@ -2,9 +2,9 @@ use Rattle.std.proofs.Common.{◌≡◌, ◌-ℤ◌, ◌+ℤ◌, ◌∙◌, ap}
 use mir.Syntax.{w128}
 use Rattle.pic_num.specs.Rounding.{scaled}
 use Rattle.pic_num.specs.Space.{triple, next_axis}
-use Rattle.pic_num.proofs.Sizes.{codes, code_fits, code_is, code_at_most}
+use Rattle.pic_num.proofs.SizeLaws.{codes, code_fits, code_is, code_at_most}
 use Rattle.pic_grid.specs.Differences.{up}
-use Rattle.pic_grid.specs.Fields.{value_at}
+use Rattle.pic_grid.specs.Lattice.{value_at}
 use Rattle.pic_field.proofs.curls.curl_of_e.Goals as goal
 
 pub overflow_add-result : goal.overflow_add-result

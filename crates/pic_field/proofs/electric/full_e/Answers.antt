@@ -1,11 +1,11 @@
 use Rattle.std.proofs.Common.{◌≡◌, ℤ, ◌*◌, ◌^◌, ◌<◌, Option, sym, ◌∙◌, ap, arith}
 use Rattle.pic_num.specs.Push.{unless}
 use Rattle.pic_num.specs.Space.{triple}
-use Rattle.pic_grid.specs.declared.stops.Phase.TheVariants.{Electric}
-use Rattle.pic_grid.specs.declared.stops.Stop.{Stop}
+use Rattle.pic_grid.specs.declared.stop.Phase.TheVariants.{Electric}
+use Rattle.pic_grid.specs.declared.stop.Stop.{Stop}
 use Rattle.pic_grid.specs.Parts.{spot_of}
-use Rattle.pic_grid.specs.Places.{count_of}
-use Rattle.pic_grid.specs.Zones.{outer_of, edge_at}
+use Rattle.pic_grid.specs.Cells.{count_of}
+use Rattle.pic_grid.specs.Block.{outer_of, edge_at}
 use Rattle.pic_field.specs.FieldPhases.{full_of, full_in, fault_of}
 use Rattle.pic_field.proofs.Blocks.{edge_at-outer, edge_at-shaped}
 use Rattle.pic_field.proofs.LeastFaults.{fault_below-none, fault_below-more, fault_below-all, bounded_on_ok}

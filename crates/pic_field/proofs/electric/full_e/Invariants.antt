@@ -1,6 +1,6 @@
 use Rattle.std.proofs.Common.{◌≡◌}
 use Rattle.pic_num.specs.Space.{triple}
-use Rattle.pic_grid.specs.declared.stops.Phase.TheVariants.{Electric}
+use Rattle.pic_grid.specs.declared.stop.Phase.TheVariants.{Electric}
 use Rattle.pic_field.specs.FieldPhases.{full_in}
 use Rattle.pic_field.proofs.LeastFaults.{fault_below}
 use Rattle.pic_field.proofs.Numbers.{IsPlace}

@@ -2,10 +2,10 @@ use Rattle.std.proofs.Common.{◌≡◌, ◌^◌, ℤ, ◌+ℤ◌, ◌-ℤ◌, t
 use mir.Syntax.{w128}
 use Rattle.pic_num.specs.Sizes.{IsAtMost}
 use Rattle.pic_num.specs.Space.{Spot, triple}
-use Rattle.pic_num.proofs.Sizes.{codes, code_fits, code_is}
-use Rattle.pic_grid.specs.declared.stops.Phase.TheVariants.{Electric}
+use Rattle.pic_num.proofs.SizeLaws.{codes, code_fits, code_is}
+use Rattle.pic_grid.specs.declared.stop.Phase.TheVariants.{Electric}
 use Rattle.pic_grid.specs.Parts.{spot_of}
-use Rattle.pic_grid.specs.Zones.{edge_at, with_edge}
+use Rattle.pic_grid.specs.Block.{edge_at, with_edge}
 use Rattle.pic_field.specs.FieldPhases.{full_of, full_in, fault_of}
 use Rattle.pic_field.proofs.electric.full_place.Goals as goal
 use Rattle.pic_field.proofs.electric.full_place.Goals.{After-fault}

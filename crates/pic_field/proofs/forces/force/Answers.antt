@@ -1,8 +1,8 @@
 use Rattle.std.proofs.Common.{◌≡◌, ◌*◌, ◌<◌, refl, ◌∙◌, ap, arith}
 use Rattle.pic_num.specs.Space.{triple}
-use Rattle.pic_grid.specs.Fields.{value_at}
+use Rattle.pic_grid.specs.Lattice.{value_at}
 use Rattle.pic_grid.specs.Gather.{force_of}
-use Rattle.pic_grid.specs.Places.{count_of}
+use Rattle.pic_grid.specs.Cells.{count_of}
 use Rattle.pic_field.proofs.Numbers.{first_place, next_place}
 use Rattle.pic_field.proofs.Walks.{IsHere, is_here, here_inside, walked_none, walked_shape, walked_more, walked_all}
 use Rattle.pic_field.proofs.forces.force.Goals as goal

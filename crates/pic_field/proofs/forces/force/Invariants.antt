@@ -1,5 +1,5 @@
 use Rattle.pic_num.specs.Space.{triple}
-use Rattle.pic_grid.specs.Fields.{value_at}
+use Rattle.pic_grid.specs.Lattice.{value_at}
 use Rattle.pic_grid.specs.Gather.{force_of}
 use Rattle.pic_field.proofs.Numbers.{IsPlace}
 use Rattle.pic_field.proofs.Walks.{Walked}

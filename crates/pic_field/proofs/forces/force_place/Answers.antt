@@ -2,9 +2,9 @@ use Rattle.std.proofs.Common.{◌≡◌, to_z, of_z, sym, ◌∙◌, ap}
 use mir.Syntax.{w128}
 use Rattle.pic_num.specs.Rounding.{scaled}
 use Rattle.pic_num.specs.Space.{Spot, triple}
-use Rattle.pic_num.proofs.Sizes.{codes, code_is}
-use Rattle.pic_grid.specs.Fields.{value_at}
-use Rattle.pic_grid.specs.Zones.{edge_at, with_edge}
+use Rattle.pic_num.proofs.SizeLaws.{codes, code_is}
+use Rattle.pic_grid.specs.Lattice.{value_at}
+use Rattle.pic_grid.specs.Block.{edge_at, with_edge}
 use Rattle.pic_field.proofs.forces.force_place.Goals as goal
 use Rattle.pic_field.proofs.forces.force_place.Goals.{After-set}
 

@@ -1,9 +1,9 @@
 use Rattle.std.proofs.Common.{◌≡◌, ◌*◌, ◌^◌, ◌<◌, Option, sym, ◌∙◌, ap, arith}
 use Rattle.pic_num.specs.Push.{unless}
 use Rattle.pic_num.specs.Space.{triple}
-use Rattle.pic_grid.specs.declared.stops.Stop.{Stop}
-use Rattle.pic_grid.specs.Places.{count_of}
-use Rattle.pic_grid.specs.Zones.{outer_of}
+use Rattle.pic_grid.specs.declared.stop.Stop.{Stop}
+use Rattle.pic_grid.specs.Cells.{count_of}
+use Rattle.pic_grid.specs.Block.{outer_of}
 use Rattle.pic_field.specs.FieldPhases.{half_of, half_in, fault_of}
 use Rattle.pic_field.proofs.Blocks.{edge_at-outer}
 use Rattle.pic_field.proofs.LeastFaults.{fault_below-none, fault_below-more, fault_below-all, bounded_on_ok}

@@ -2,9 +2,9 @@ use Rattle.std.proofs.Common.{◌≡◌, ◌^◌, ℤ, ◌-ℤ◌, to_z, of_z, s
 use mir.Syntax.{w128}
 use Rattle.pic_num.specs.Sizes.{IsAtMost}
 use Rattle.pic_num.specs.Space.{Spot, triple}
-use Rattle.pic_num.proofs.Sizes.{codes, code_is}
+use Rattle.pic_num.proofs.SizeLaws.{codes, code_is}
 use Rattle.pic_grid.specs.Parts.{spot_of}
-use Rattle.pic_grid.specs.Zones.{edge_at, with_edge}
+use Rattle.pic_grid.specs.Block.{edge_at, with_edge}
 use Rattle.pic_field.specs.FieldPhases.{half_of, half_in, fault_of}
 use Rattle.pic_field.proofs.magnetic.half_place.Goals as goal
 use Rattle.pic_field.proofs.magnetic.half_place.Goals.{After-fault}

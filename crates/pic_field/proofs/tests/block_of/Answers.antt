@@ -1,5 +1,5 @@
 use Rattle.std.proofs.Common.{◌^◌, sym, ap, subst}
-use Rattle.pic_grid.specs.Zones.{BlockValues, AllAtMost}
+use Rattle.pic_grid.specs.Block.{BlockValues, AllAtMost}
 use Rattle.pic_field.proofs.Small.{all_zeros}
 use Rattle.pic_field.proofs.tests.block_of.Goals as goal
 

@@ -1,12 +1,12 @@
 use Rattle.std.proofs.Common.{◌≡◌, ℕ, ◌^◌, ◌+◌, ◌*◌, ℤ, to_z, of_z, ap, subst, ◌∙◌, arith}
 use mir.Syntax.{w32, w64}
-use Rattle.pic_num.specs.declared.space.Axis.{Axis}
-use Rattle.pic_num.specs.declared.space.Axis.TheVariants.{X, Y, Z}
+use Rattle.pic_num.specs.declared.axis.Axis.{Axis}
+use Rattle.pic_num.specs.declared.axis.Axis.TheVariants.{X, Y, Z}
 use Rattle.pic_num.specs.Sizes.{IsAtMost}
-use Rattle.pic_num.proofs.Sizes.{codes, code_is}
+use Rattle.pic_num.proofs.SizeLaws.{codes, code_is}
 use Rattle.pic_grid.specs.Flux.{flux}
-use Rattle.pic_grid.specs.Piece.{Piece, IsInCell}
-use Rattle.pic_grid.specs.Zones.{BlockValues, IsShaped, AllAtMost}
+use Rattle.pic_grid.specs.Segment.{Piece, IsInCell}
+use Rattle.pic_grid.specs.Block.{BlockValues, IsShaped, AllAtMost}
 use Rattle.pic_flux.specs.Adds.{Adds}
 use Rattle.pic_flux.specs.Corners.{on_axis}
 use Rattle.pic_flux.proofs.AddsLaws.{shaped_twice, adds_grow, all_at_most_more}

@@ -2,10 +2,10 @@ use Rattle.std.proofs.Common.{◌≡◌, ◌^◌, ◌+◌, ◌*◌, ℤ, length,
 use mir.Syntax.{w32}
 use Rattle.std.proofs.lemmas.Int.{to_z-of_z}
 use Rattle.std.proofs.lemmas.List.{take_all}
-use Rattle.pic_num.specs.declared.space.Axis.{Axis}
+use Rattle.pic_num.specs.declared.axis.Axis.{Axis}
 use Rattle.pic_num.specs.Space.{Spot}
 use Rattle.pic_grid.specs.Flux.{flux, path_flux}
-use Rattle.pic_grid.specs.Piece.{Piece}
+use Rattle.pic_grid.specs.Segment.{Piece}
 use Rattle.pic_flux.specs.Adds.{Adds}
 use Rattle.pic_flux.proofs.AddsLaws.{shaped_same, shaped_twice, adds_start, adds_more, adds_grow, all_at_most_more}
 use Rattle.pic_flux.proofs.FluxSizes.{path_flux_most}

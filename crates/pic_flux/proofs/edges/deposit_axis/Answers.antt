@@ -2,13 +2,13 @@ use Rattle.std.proofs.Common.{◌≡◌, ◌^◌, ◌+◌, ℤ, pos, Bool, true,
 use mir.Syntax.{w64, w128}
 use mir.Val.{SFits}
 use Rattle.std.proofs.lemmas.Int.{to_z-of_z}
-use Rattle.pic_num.specs.declared.space.Axis.{Axis}
+use Rattle.pic_num.specs.declared.axis.Axis.{Axis}
 use Rattle.pic_num.specs.Sizes.{IsAtMost}
 use Rattle.pic_num.specs.Space.{Spot, spot, along, next_axis}
-use Rattle.pic_num.proofs.Sizes.{codes, code_at_most, code_is}
+use Rattle.pic_num.proofs.SizeLaws.{codes, code_at_most, code_is}
 use Rattle.pic_grid.specs.Flux.{flux}
-use Rattle.pic_grid.specs.Piece.{Piece}
-use Rattle.pic_grid.specs.Zones.{BlockValues}
+use Rattle.pic_grid.specs.Segment.{Piece}
+use Rattle.pic_grid.specs.Block.{BlockValues}
 use Rattle.pic_flux.specs.Adds.{Adds}
 use Rattle.pic_flux.specs.Corners.{at_edge, on_axis, both, raised, corner}
 use Rattle.pic_flux.proofs.AddsLaws.{adds_none, adds_grow, all_at_most_more}

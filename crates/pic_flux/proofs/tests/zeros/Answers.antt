@@ -1,6 +1,6 @@
 use Rattle.std.proofs.Common.{◌≡◌, IfOk, Result, Ok, Err, sym, subst}
-use Rattle.pic_num.specs.declared.memory.NoMemory.{NoMemory}
-use Rattle.pic_grid.specs.Zones.{BlockValues, AllAtMost}
+use Rattle.pic_num.specs.declared.no_memory.NoMemory.{NoMemory}
+use Rattle.pic_grid.specs.Block.{BlockValues, AllAtMost}
 use Rattle.pic_flux.proofs.AddsLaws.{zeros_at_most}
 use Rattle.pic_flux.proofs.tests.zeros.Goals as goal
 

@@ -1,10 +1,10 @@
 use Rattle.std.proofs.Common.{◌≡◌, ℤ, Bool, to_z, of_z, ap, ◌∙◌}
 use mir.Syntax.{w64, w128}
-use Rattle.pic_num.specs.declared.space.Axis.{Axis}
+use Rattle.pic_num.specs.declared.axis.Axis.{Axis}
 use Rattle.pic_num.specs.Flux.{simpson}
 use Rattle.pic_num.specs.Sizes.{IsAtMost}
 use Rattle.pic_num.specs.Space.{Spot, along, next_axis}
-use Rattle.pic_num.proofs.Sizes.{codes, code_is}
+use Rattle.pic_num.proofs.SizeLaws.{codes, code_is}
 use Rattle.pic_flux.specs.Corners.{corner, face_weight}
 use Rattle.pic_flux.proofs.weights.corner.Goals as goal
 

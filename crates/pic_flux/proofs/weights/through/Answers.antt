@@ -1,7 +1,7 @@
 use Rattle.std.proofs.Common.{◌∙◌}
 use mir.Syntax.{w64}
 use Rattle.pic_num.proofs.Simpson.{villasenor_buneman}
-use Rattle.pic_num.proofs.Sizes.{codes, code_fits, code_is, code_at_most}
+use Rattle.pic_num.proofs.SizeLaws.{codes, code_fits, code_is, code_at_most}
 use Rattle.pic_flux.proofs.weights.through.Goals as goal
 
 pub overflow_mul-result-3 : goal.overflow_mul-result-3

@@ -4,9 +4,9 @@ use lib.Signed.{shr_z}
 use mir.Syntax.{w64, w128}
 use Rattle.pic_num.specs.Rounding.{rounded}
 use Rattle.pic_num.specs.Sizes.{IsAtMost}
-use Rattle.pic_num.proofs.Rounds.{rounded-size}
-use Rattle.pic_num.proofs.Sizes.{codes, code_is}
-use Rattle.pic_num.proofs.Rounds.{rounded-shr}
+use Rattle.pic_num.proofs.RoundingLaws.{rounded-size}
+use Rattle.pic_num.proofs.SizeLaws.{codes, code_is}
+use Rattle.pic_num.proofs.RoundingLaws.{rounded-shr}
 use Rattle.pic_gather.proofs.mixing.mean.Goals as goal
 
 pub returns-clause-value : goal.returns-clause-value

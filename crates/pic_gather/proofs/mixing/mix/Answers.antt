@@ -1,7 +1,7 @@
 use Rattle.std.proofs.Common.{ℤ, ◌*◌, ◌+ℤ◌, ◌-ℤ◌, ◌*ℤ◌, subst, sym, ◌∙◌, arith}
 use mir.Syntax.{w128}
 use Rattle.pic_num.specs.Sizes.{IsAtMost}
-use Rattle.pic_num.proofs.Sizes.{codes, code_fits}
+use Rattle.pic_num.proofs.SizeLaws.{codes, code_fits}
 use Rattle.pic_gather.proofs.Mixes.{code_mix, mix_is, mix_size, weight_size}
 use Rattle.pic_gather.proofs.mixing.mix.Goals as goal
 

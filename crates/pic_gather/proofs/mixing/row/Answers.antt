@@ -3,7 +3,7 @@ use Rattle.std.proofs.lemmas.Int.{to_z-of_z}
 use mir.Syntax.{w128}
 use mir.Val.{SFits}
 use Rattle.pic_num.specs.Space.{Triple}
-use Rattle.pic_grid.specs.Fields.{value_at}
+use Rattle.pic_grid.specs.Lattice.{value_at}
 use Rattle.pic_gather.specs.Forces.{row_sum}
 use Rattle.pic_gather.proofs.Mixes.{mixed, mixed_size}
 use Rattle.pic_gather.proofs.mixing.row.Goals as goal

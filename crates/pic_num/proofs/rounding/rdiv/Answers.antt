@@ -3,7 +3,7 @@ use Rattle.std.proofs.lemmas.Int.{ints, to_z-of_z}
 use mir.Syntax.{w128}
 use mir.Val.{SFits}
 use Rattle.pic_num.specs.Rounding.{IsRounded, rounded}
-use Rattle.pic_num.proofs.Rounds.{rounded-is, rounded-unique, rounded-no_larger}
+use Rattle.pic_num.proofs.RoundingLaws.{rounded-is, rounded-unique, rounded-no_larger}
 use Rattle.pic_num.proofs.rounding.rdiv.Goals as goal
 
 pub returns : goal.returns

@@ -4,8 +4,8 @@ use lib.Signed.{shr_z}
 use mir.Syntax.{w32, w128}
 use Rattle.pic_num.specs.Sizes.{IsAtMost}
 use Rattle.pic_num.specs.Rounding.{IsRounded, scaled}
-use Rattle.pic_num.proofs.Sizes.{codes, code_fits, code_is, code_at_most}
-use Rattle.pic_num.proofs.Rounds.{shifted, shifted_size, power_size, scaled-shr, scaled-no_larger, scaled-is, scaled-unique}
+use Rattle.pic_num.proofs.SizeLaws.{codes, code_fits, code_is, code_at_most}
+use Rattle.pic_num.proofs.RoundingLaws.{shifted, shifted_size, power_size, scaled-shr, scaled-no_larger, scaled-is, scaled-unique}
 use Rattle.pic_num.proofs.rounding.scale.Goals as goal
 
 -- the multiplier's n, widened by the code

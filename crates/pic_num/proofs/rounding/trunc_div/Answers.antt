@@ -4,7 +4,7 @@ use mir.Syntax.{w128}
 use mir.Val.{SFits}
 use Rattle.std.specs.Prelude.{int_div}
 use Rattle.pic_num.specs.Rounding.{IsTruncated, truncated}
-use Rattle.pic_num.proofs.Rounds.{truncated-is, truncated-unique, truncated-no_larger}
+use Rattle.pic_num.proofs.RoundingLaws.{truncated-is, truncated-unique, truncated-no_larger}
 use Rattle.pic_num.proofs.rounding.trunc_div.Goals as goal
 
 pub returns : goal.returns

@@ -3,7 +3,7 @@ use Rattle.std.proofs.lemmas.Int.{to_z-of_z}
 use mir.Syntax.{w64}
 use mir.Val.{SFits}
 use Rattle.pic_num.specs.Rounding.{IsResidue, residue}
-use Rattle.pic_num.proofs.Rounds.{residue-is, residue-unique}
+use Rattle.pic_num.proofs.RoundingLaws.{residue-is, residue-unique}
 use Rattle.pic_num.proofs.rounding.wrap.Goals as goal
 
 pub returns : goal.returns

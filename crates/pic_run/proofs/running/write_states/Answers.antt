@@ -1,6 +1,6 @@
 use Rattle.std.proofs.Common.{subst}
 use Rattle.pic_io.specs.Sinks.{sinks}
-use Rattle.pic_grid.specs.declared.stops.EndMark.{EndMark}
+use Rattle.pic_grid.specs.declared.stop.EndMark.{EndMark}
 use Rattle.pic_run.specs.Frames.{frames_of, end_of, end_piece}
 use Rattle.pic_run.specs.Outcome.{answer_of}
 use Rattle.pic_run.specs.Ends.{EndsAs}

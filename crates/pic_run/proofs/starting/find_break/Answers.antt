@@ -4,8 +4,8 @@ use Rattle.pic_num.specs.declared.motion.Particle.{Particle}
 use Rattle.pic_num.specs.Sizes.{IsAtMost}
 use Rattle.pic_num.specs.Space.{Triple}
 use Rattle.pic_grid.specs.Differences.{div_e}
-use Rattle.pic_grid.specs.Fields.{Field, value_at, field_of, node_at}
-use Rattle.pic_grid.specs.Places.{IsWithin}
+use Rattle.pic_grid.specs.Lattice.{Field, value_at, field_of, node_at}
+use Rattle.pic_grid.specs.Cells.{IsWithin}
 use Rattle.pic_grid.specs.Species.{IsKind}
 use Rattle.pic_charge.specs.Charge.{CanShare, charge_of}
 use Rattle.pic_charge.specs.Gauss.{first_break}

@@ -3,7 +3,7 @@ use Rattle.std.specs.List.{All}
 use Rattle.pic_num.specs.Push.{plus}
 use Rattle.pic_num.specs.Space.{triple, spot}
 use Rattle.pic_grid.specs.Path.{Crossing, point_of, floor_cell, crossings, walk, path}
-use Rattle.pic_grid.specs.Piece.{Piece, Leads}
+use Rattle.pic_grid.specs.Segment.{Piece, Leads}
 use Rattle.pic_split.specs.Sizes.{IsSmall}
 use Rattle.pic_split.proofs.Codes.{crossings_small}
 use Rattle.pic_split.proofs.Leading.{path_leads}

@@ -3,9 +3,9 @@ use Rattle.std.proofs.lemmas.Int.{to_z-of_z}
 use mir.Syntax.{w128}
 use mir.Val.{SFits, to_z, of_z}
 use Rattle.pic_num.specs.Space.{Triple, triple}
-use Rattle.pic_grid.specs.Fields.{value_at, field_of}
-use Rattle.pic_grid.specs.Places.{IsWithin, count_of, place_of}
-use Rattle.pic_grid.proofs.Fields.{is_field_of}
+use Rattle.pic_grid.specs.Lattice.{value_at, field_of}
+use Rattle.pic_grid.specs.Cells.{IsWithin, count_of, place_of}
+use Rattle.pic_grid.proofs.LatticeLaws.{is_field_of}
 use Rattle.pic_step.proofs.Walks.{walked_none, walked_more, walked_all}
 use Rattle.pic_step.proofs.copying.copy.Goals as goal
 

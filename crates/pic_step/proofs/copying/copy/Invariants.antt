@@ -1,4 +1,4 @@
-use Rattle.pic_grid.specs.Fields.{value_at}
+use Rattle.pic_grid.specs.Lattice.{value_at}
 use Rattle.pic_step.proofs.Walks.{Walked}
 use Rattle.pic_step.proofs.copying.copy.Given as goal
 

@@ -5,7 +5,7 @@ use mir.Syntax.{w32, w128}
 use mir.Val.{SFits, to_z, of_z}
 use Rattle.pic_num.specs.Sizes.{IsAtMost}
 use Rattle.pic_num.specs.Space.{Triple, Spot, triple}
-use Rattle.pic_grid.specs.Zones.{InZone, edge_at}
+use Rattle.pic_grid.specs.Block.{InZone, edge_at}
 use Rattle.pic_step.specs.Traces.{IsReached}
 use Rattle.pic_step.proofs.Foldings.{in_guard}
 use Rattle.pic_step.proofs.folding.edge_flux.Goals as goal

@@ -1,11 +1,11 @@
 use Rattle.std.proofs.lemmas.Int.{to_z-of_z}
 use mir.Syntax.{w128}
 use mir.Val.{SFits, to_z, of_z}
-use Rattle.pic_grid.specs.Fields.{Field}
+use Rattle.pic_grid.specs.Lattice.{Field}
 use Rattle.std.proofs.Common.{◌≡◌, ◌*◌, refl, sym, ap, ◌∙◌, subst, arith}
 use Rattle.pic_num.specs.Space.{Triple, triple}
 use Rattle.pic_grid.specs.Current.{wrapped}
-use Rattle.pic_grid.specs.Places.{IsWithin, count_of, place_of}
+use Rattle.pic_grid.specs.Cells.{IsWithin, count_of, place_of}
 use Rattle.pic_step.specs.Traces.{Holds}
 use Rattle.pic_step.proofs.Walks.{walked_none, walked_more, walked_all}
 use Rattle.pic_step.proofs.folding.fold.Goals as goal

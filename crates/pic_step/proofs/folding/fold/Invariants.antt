@@ -1,6 +1,6 @@
 use Rattle.std.proofs.Common.{◌≡◌}
 use Rattle.std.proofs.Math.IntN.{ℤ}
-use Rattle.pic_num.specs.declared.space.Axis.{Axis}
+use Rattle.pic_num.specs.declared.axis.Axis.{Axis}
 use Rattle.pic_num.specs.Space.{Spot}
 use Rattle.pic_grid.specs.Current.{wrapped}
 use Rattle.pic_step.specs.Traces.{Holds}

@@ -4,7 +4,7 @@ use Rattle.std.proofs.lemmas.Int.{to_z-of_z}
 use mir.Syntax.{w32}
 use mir.Val.{SFits}
 use Rattle.pic_num.specs.Space.{Triple}
-use Rattle.pic_num.proofs.Sizes.{code_is, codes}
+use Rattle.pic_num.proofs.SizeLaws.{code_is, codes}
 use Rattle.pic_grid.specs.Current.{sum_images}
 use Rattle.pic_step.proofs.folding.row.Goals as goal
 

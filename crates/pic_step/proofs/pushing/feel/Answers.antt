@@ -3,7 +3,7 @@ use Rattle.std.proofs.lemmas.List.{get_or_read}
 use Rattle.pic_num.specs.Push.{Shift, Halting, pushed}
 use Rattle.pic_num.specs.Space.{Triple, triple, spot}
 use Rattle.std.specs.Prelude.{Result}
-use Rattle.pic_grid.specs.Fields.{value_at}
+use Rattle.pic_grid.specs.Lattice.{value_at}
 use Rattle.pic_grid.specs.Gather.{gathered_b}
 use Rattle.pic_grid.specs.PushPhase.{no_kind, kind_of, push_of}
 use Rattle.pic_boris.specs.Pushes.{Pushes}

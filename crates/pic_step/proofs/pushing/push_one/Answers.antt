@@ -6,11 +6,11 @@ use mir.Syntax.{w32, w128}
 use mir.Val.{SFits, to_z, of_z}
 use Rattle.pic_num.specs.Push.{Shift, Halting}
 use Rattle.pic_num.specs.Space.{Triple, triple, spot}
-use Rattle.pic_grid.specs.declared.stops.Stop.TheVariants.{Push}
+use Rattle.pic_grid.specs.declared.stop.Stop.TheVariants.{Push}
 use Rattle.pic_grid.specs.Flux.{path_flux}
 use Rattle.pic_grid.specs.Path.{path, point_of}
 use Rattle.pic_grid.specs.PushPhase.{kind_of, moved, after_push, halt_of}
-use Rattle.pic_grid.specs.Zones.{BlockValues, AllAtMost, edge_at}
+use Rattle.pic_grid.specs.Block.{BlockValues, AllAtMost, edge_at}
 use Rattle.pic_boris.specs.Pushes.{shift_of}
 use Rattle.pic_flux.specs.Adds.{Adds}
 use Rattle.pic_step.specs.Traces.{trace_of}

@@ -3,7 +3,7 @@ use Rattle.std.proofs.lemmas.Result.{err_from_is_err_and}
 use Rattle.std.specs.Vec.{with_items}
 use Rattle.std.proofs.lemmas.List.{with_items_is}
 use Rattle.pic_num.specs.Space.{Triple}
-use Rattle.pic_grid.specs.declared.stops.Stop.{Stop}
+use Rattle.pic_grid.specs.declared.stop.Stop.{Stop}
 use Rattle.pic_step.specs.Pushing.{AreKinds}
 use Rattle.pic_step.specs.PushRoom.{IsPushed}
 use Rattle.pic_step.specs.SerialStep.{World, around, half_on, stepped}

@@ -1,5 +1,5 @@
 use Rattle.std.proofs.Common.{rules}
-use Rattle.pic_grid.specs.Places.{IsCells}
+use Rattle.pic_grid.specs.Cells.{IsCells}
 use Rattle.pic_walk.proofs.PointLaws.{point_is, point_within}
 use Rattle.pic_walk.proofs.point_reader.point_of.Goals as goal
 

@@ -1,6 +1,6 @@
 use Rattle.std.proofs.Common.{◌≡◌, ◌+◌, ◌∙◌, arith}
 use Rattle.pic_num.specs.Space.{triple}
-use Rattle.pic_grid.specs.Places.{place_of}
+use Rattle.pic_grid.specs.Cells.{place_of}
 use Rattle.pic_field.proofs.Numbers.{row_next, row_end, layer_end, axis_end}
 use Rattle.pic_field.proofs.places.Place.following.Goals as goal
 

@@ -1,0 +1,53 @@
+-- The order of places of a lattice: the component's axis first, then z, then y, and x fastest. The
+-- lattice is the staggered one of K. S. Yee (IEEE Trans. Antennas Propag. 14, 1966, 302), where each
+-- cell owns three edges and three faces, one for each axis.
+use Rattle.std.specs.Prelude.{ℕ, zero, suc, ◌+◌, ◌*◌, ◌/◌, ◌%◌, ◌<◌, ◌≤◌}
+use Rattle.pic_num.specs.declared.axis.Axis.{Axis}
+use Rattle.pic_num.specs.declared.axis.Axis.TheVariants.{X, Y, Z}
+use Rattle.pic_num.specs.Space.{Triple, axis_number}
+
+-- a grid has 2 to 64 cells on each axis
+pub record IsCells (n : Triple) : Type 0 where
+  pub x_least : 2 ≤ n.x
+  pub x_most : n.x ≤ 64
+  pub y_least : 2 ≤ n.y
+  pub y_most : n.y ≤ 64
+  pub z_least : 2 ≤ n.z
+  pub z_most : n.z ≤ 64
+
+-- a box of cells has 1 to 67 layers on each axis
+pub record IsSize (n : Triple) : Type 0 where
+  pub x_least : 1 ≤ n.x
+  pub x_most : n.x ≤ 67
+  pub y_least : 1 ≤ n.y
+  pub y_most : n.y ≤ 67
+  pub z_least : 1 ≤ n.z
+  pub z_most : n.z ≤ 67
+
+-- p is one of the n.x by n.y by n.z cells
+pub record IsWithin (p n : Triple) : Type 0 where
+  pub x : p.x < n.x
+  pub y : p.y < n.y
+  pub z : p.z < n.z
+
+-- how many cells there are
+abbrev pub count_of : Triple → ℕ
+count_of n = n.x * n.y * n.z
+
+-- the number of a cell, x fastest
+unfoldable pub index_of : Triple → Triple → ℕ
+index_of n p = (p.z * n.y + p.y) * n.x + p.x
+
+-- the cell of a number
+abbrev pub cell_of : Triple → ℕ → Triple
+cell_of n i = record { x = i % n.x; y = i / n.x % n.y; z = i / n.x / n.y }
+
+-- the axis of a number
+abbrev pub axis_of : ℕ → Axis
+axis_of zero = X
+axis_of (suc zero) = Y
+axis_of (suc (suc i)) = Z
+
+-- the number of a place: the component on an axis at a cell
+unfoldable pub place_of : Triple → Axis → Triple → ℕ
+place_of n a p = axis_number a * count_of n + index_of n p

@@ -1,0 +1,49 @@
+use Rattle.std.specs.Prelude.{◌≡◌, ℤ, pos, ◌*◌, ◌/◌, ◌%◌, ◌≤◌, List, map, slice_index_or, slice_set}
+use Rattle.std.specs.List.{range_with_len}
+use Rattle.pic_num.specs.declared.axis.Axis.{Axis}
+use Rattle.pic_num.specs.Space.{Triple}
+use Rattle.pic_grid.specs.Cells.{count_of, index_of, cell_of, axis_of, place_of}
+
+-- a lattice: its numbers of cells and of parts, and its 3N values in the order of places
+pub record Field : Type 0 where
+  pub cells : Triple
+  pub parts : Triple
+  pub values : List ℤ
+
+-- each axis has at least one part, and its parts have equally many cells
+pub record IsParts (n parts : Triple) : Type 0 where
+  pub x_least : 1 ≤ parts.x
+  pub x_whole : n.x % parts.x ≡ 0
+  pub y_least : 1 ≤ parts.y
+  pub y_whole : n.y % parts.y ≡ 0
+  pub z_least : 1 ≤ parts.z
+  pub z_whole : n.z % parts.z ≡ 0
+
+-- the component on an axis at a cell
+abbrev pub value_at : Field → Axis → Triple → ℤ
+value_at f a p = slice_index_or f.values (place_of f.cells a p) (pos 0)
+
+-- the lattice with that component changed
+abbrev pub with_value : Field → Axis → Triple → ℤ → Field
+with_value f a p v = record f { values = slice_set f.values (place_of f.cells a p) v }
+
+-- the components that g gives, in the order of places
+unfoldable pub values_of : Triple → (Axis → Triple → ℤ) → List ℤ
+values_of n g = map (λ i. g (axis_of (i / count_of n)) (cell_of n (i % count_of n))) (range_with_len 0 (3 * count_of n))
+
+-- the lattice of those components
+abbrev pub field_of : Triple → Triple → (Axis → Triple → ℤ) → Field
+field_of n parts g = record { cells = n; parts = parts; values = values_of n g }
+
+-- one number per node: the numbers of cells, and the values in the order of nodes, x fastest
+pub record NodeValues : Type 0 where
+  pub cells : Triple
+  pub values : List ℤ
+
+-- the value of a node
+abbrev pub node_at : NodeValues → Triple → ℤ
+node_at f p = slice_index_or f.values (index_of f.cells p) (pos 0)
+
+-- the nodes with that value changed
+abbrev pub with_node : NodeValues → Triple → ℤ → NodeValues
+with_node f p v = record f { values = slice_set f.values (index_of f.cells p) v }

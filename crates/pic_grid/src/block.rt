@@ -1,0 +1,208 @@
+ghost use Rattle.std.specs.Prelude.{◌≡◌, ◌↔◌, ℕ, ℤ, pos, ◌*◌, ◌<◌, ◌+ℤ◌, ◌-ℤ◌, ◌≤ℤ◌, ◌<ℤ◌, length, replicate, unsigned_abs, FitsSigned, IsTrue, IfOk};
+ghost use Rattle.std.specs.Int.{w128};
+ghost use Rattle.pic_num.specs.Space.{triple, spot};
+ghost use Rattle.pic_grid.specs.Cells.{IsWithin, count_of, place_of};
+ghost use Rattle.pic_grid.specs.Block.{BlockValues, IsZone, InZone, inner_of, edge_at, with_edge};
+
+use crate::places::{count_in, place_in};
+use pic_num::{Axis, NoMemory};
+use std::alloc::Global;
+use std::marker::Model;
+
+/// A box of cells: its lowest cell, which isn't wrapped, and its numbers of layers on x, y and z. A
+/// block's zone has 1 to 67 layers on each axis and a lowest cell in -64..=64.
+#[derive(Clone, Copy, Debug, PartialEq, Eq)]
+pub struct Zone {
+    pub low: [i32; 3],
+    pub size: [u32; 3],
+}
+
+/// Three `i128` components for each cell of a zone.
+#[derive(Drop)]
+pub struct Block {
+    zone: Zone,
+    values: Vec<i128>,
+}
+
+impl Model for Block {
+    ghost Value = { BlockValues };
+
+    ghost view = { λ b. record { low = spot b.zone.low; size = triple b.zone.size; values = b.values.items } };
+
+    ghost invariant = { λ b. IsZone (spot b.zone.low) (triple b.zone.size) × (length b.values.items ≡ 3 * count_of (triple b.zone.size)) };
+}
+
+impl Block {
+    /// A block of zeros.
+    pub fn new(alloc: Global, zone: Zone) -> Result<Block, NoMemory>
+        requires { IsZone (spot zone.low) (triple zone.size) }
+        ensures { IfOk result (λ b. b ≡ record { low = spot zone.low; size = triple zone.size; values = replicate (3 * count_of (triple zone.size)) (pos 0) }) }
+    {
+        let count = count_in(zone.size);
+        let values = vec![in alloc; 0i128; 3 * count]?;
+        Ok(Block { zone, values })
+    }
+
+    /// The zone.
+    pub fn zone(&self) -> Zone
+        ensures low { spot result.low ≡ self.now.low }
+        ensures size { triple result.size ≡ self.now.size }
+        ensures limits { IsZone self.now.low self.now.size }
+        ensures shape { length self.now.values ≡ 3 * count_of self.now.size }
+    {
+        let _values = &self.values;
+        self.zone
+    }
+
+    /// Whether `cell` is one of the zone's.
+    pub fn has(&self, cell: [i32; 3]) -> bool
+        ensures { IsTrue result ↔ InZone self.now.low self.now.size (spot cell) }
+    {
+        is_inside(self.zone, cell)
+    }
+
+    /// The component on `axis` at `cell`, one of the zone's.
+    pub fn at(&self, axis: Axis, cell: [i32; 3]) -> i128
+        requires { InZone self.now.low self.now.size (spot cell) }
+        ensures { result ≡ edge_at self.now axis (spot cell) }
+    {
+        let place = self.place(axis, cell);
+        self.values[place]
+    }
+
+    /// Adds `value` to the component on `axis` at `cell`, one of the zone's, and changes nothing else.
+    /// The sum fits an `i128`.
+    pub fn add(&mut self, axis: Axis, cell: [i32; 3], value: i128)
+        requires within { InZone self.old.low self.old.size (spot cell) }
+        requires room { FitsSigned w128 (edge_at self.old axis (spot cell) +ℤ value) }
+        ensures after { self.new ≡ with_edge self.old axis (spot cell) (edge_at self.old axis (spot cell) +ℤ value) }
+        ensures stored { edge_at self.new axis (spot cell) ≡ edge_at self.old axis (spot cell) +ℤ value }
+    {
+        let place = self.place(axis, cell);
+        let sum = self.values[place] + value;
+        self.values[place] = sum;
+    }
+
+    /// Makes every component 0.
+    pub fn clear(&mut self)
+        ensures { self.new ≡ record self.old { values = replicate (3 * count_of self.old.size) (pos 0) } }
+    {
+        self.values.fill(0);
+    }
+
+    /// Changes the component on `axis` at `cell`, one of the zone's, to `value`, and nothing else.
+    pub fn set(&mut self, axis: Axis, cell: [i32; 3], value: i128)
+        requires { InZone self.old.low self.old.size (spot cell) }
+        ensures after { self.new ≡ with_edge self.old axis (spot cell) value }
+        ensures stored { edge_at self.new axis (spot cell) ≡ value }
+    {
+        let place = self.place(axis, cell);
+        self.values[place] = value;
+    }
+
+    fn place(&self, axis: Axis, cell: [i32; 3]) -> usize
+        requires { InZone self.now.low self.now.size (spot cell) }
+        ensures value { result ≡ place_of self.now.size axis (inner_of self.now.low (spot cell)) }
+        ensures below { result < length self.now.values }
+    {
+        let _values = &self.values;
+        let [low_x, low_y, low_z] = self.zone.low;
+        let [nx, ny, nz] = self.zone.size;
+        let [x, y, z] = cell;
+        let inner = [
+            above(low_x, x, nx),
+            above(low_y, y, ny),
+            above(low_z, z, nz),
+        ];
+        place_in(self.zone.size, axis, inner)
+    }
+}
+
+/// How far `c` lies above `low`, on an axis of `size` layers.
+fn above(low: i32, c: i32, size: u32) -> u32
+    requires low { low ≤ℤ c }
+    requires high { c <ℤ (low +ℤ pos size) }
+    ensures value { result ≡ unsigned_abs (c -ℤ low) }
+    ensures below { result < size }
+{
+    (i64::from(c) - i64::from(low)) as u32
+}
+
+fn is_inside(zone: Zone, cell: [i32; 3]) -> bool
+    ensures { IsTrue result ↔ InZone (spot zone.low) (triple zone.size) (spot cell) }
+{
+    let [low_x, low_y, low_z] = zone.low;
+    let [nx, ny, nz] = zone.size;
+    let [x, y, z] = cell;
+    if !is_among(low_x, nx, x) {
+        return false;
+    }
+    if !is_among(low_y, ny, y) {
+        return false;
+    }
+    if !is_among(low_z, nz, z) {
+        return false;
+    }
+    true
+}
+
+/// Whether `c` is one of `size` layers from `low` on.
+fn is_among(low: i32, size: u32, c: i32) -> bool
+    ensures { IsTrue result ↔ ((low ≤ℤ c) × (c <ℤ (low +ℤ pos size))) }
+{
+    if c < low {
+        return false;
+    }
+    if i64::from(c) - i64::from(low) >= i64::from(size) {
+        return false;
+    }
+    true
+}
+
+#[cfg(test)]
+mod tests {
+    use super::*;
+
+    #[test]
+    fn a_block_adds_at_one_place(rt: HostRuntime) -> Result<(), NoMemory> {
+        let zone = Zone {
+            low: [-1, 0, 3],
+            size: [2, 3, 1],
+        };
+        let mut block = Block::new(rt.alloc(), zone)?;
+        assert_eq!(rt; block.zone(), zone);
+        assert_eq!(rt; block.at(Axis::Y, [-1, 2, 3]), 0);
+        block.add(Axis::Y, [-1, 2, 3], 40);
+        block.add(Axis::Y, [-1, 2, 3], 2);
+        assert_eq!(rt; block.at(Axis::Y, [-1, 2, 3]), 42);
+        assert_eq!(rt; block.at(Axis::X, [-1, 2, 3]), 0);
+        assert_eq!(rt; block.at(Axis::Y, [0, 2, 3]), 0);
+        assert_eq!(rt; block.at(Axis::Y, [-1, 1, 3]), 0);
+        block.set(Axis::Z, [0, 0, 3], -5);
+        assert_eq!(rt; block.at(Axis::Z, [0, 0, 3]), -5);
+        block.clear();
+        assert_eq!(rt; block.at(Axis::Y, [-1, 2, 3]), 0);
+        Ok(())
+    }
+
+    #[test]
+    fn a_block_has_the_cells_of_its_zone(rt: HostRuntime) -> Result<(), NoMemory> {
+        let zone = Zone {
+            low: [-1, 0, 3],
+            size: [2, 3, 1],
+        };
+        let block = Block::new(rt.alloc(), zone)?;
+        let cases = [
+            ([-1, 0, 3], true),
+            ([0, 2, 3], true),
+            ([-2, 0, 3], false),
+            ([1, 0, 3], false),
+            ([0, 3, 3], false),
+            ([0, 0, 4], false),
+        ];
+        for (cell, inside) in cases {
+            assert_eq!(rt; block.has(cell), inside, "{cell:?}");
+        }
+        Ok(())
+    }
+}

@@ -1,0 +1,150 @@
+ghost use Rattle.std.specs.Prelude.{◌≡◌, ℕ, ℤ, pos, ◌*◌, length, replicate, IfOk};
+ghost use Rattle.pic_num.specs.Space.{triple};
+ghost use Rattle.pic_grid.specs.Cells.{IsCells, IsWithin, count_of};
+ghost use Rattle.pic_grid.specs.Lattice.{Field, IsParts, value_at, with_value};
+ghost use Rattle.pic_grid.specs.Parts.{IsLattice, ArePartsOf, joined};
+
+use crate::block::Block;
+use crate::cells::Cells;
+use crate::parts::{blocks_of, layers_of, part_in, signed};
+use pic_num::{Axis, NoMemory};
+use std::alloc::Global;
+use std::marker::Model;
+
+/// Three `i128` components for each cell of the grid, cut into equal parts with one block for each.
+/// Contracts see the cells, the parts and the values in the order of places.
+#[derive(Drop)]
+pub struct Lattice {
+    cells: Cells,
+    parts: [u32; 3],
+    layers: [u32; 3],
+    blocks: Vec<Block>,
+}
+
+impl Model for Lattice {
+    ghost Value = { Field };
+
+    ghost view = { λ l. joined l.cells (triple l.parts) l.blocks.items };
+
+    ghost invariant = { λ l. IsLattice l.cells (triple l.parts) (triple l.layers) l.blocks.items };
+}
+
+impl Lattice {
+    /// A lattice of zeros. Each axis has at least one part, and its parts have equally many cells.
+    pub fn new(alloc: Global, cells: Cells, parts: [u32; 3]) -> Result<Lattice, NoMemory>
+        requires { IsParts cells (triple parts) }
+        ensures { IfOk result (λ l. l ≡ record { cells = cells; parts = triple parts; values = replicate (3 * count_of cells) (pos 0) }) }
+    {
+        let layers = layers_of(cells, parts);
+        let blocks = blocks_of(alloc, cells, parts)?;
+        Ok(Lattice {
+            cells,
+            parts,
+            layers,
+            blocks,
+        })
+    }
+
+    /// The lattice of blocks, one for each part, x fastest. Their zones are the parts'.
+    pub fn of_blocks(cells: Cells, parts: [u32; 3], blocks: Vec<Block>) -> Lattice
+        requires parts { IsParts cells (triple parts) }
+        requires zones { ArePartsOf cells (triple parts) blocks.items }
+        ensures { result ≡ joined cells (triple parts) blocks.items }
+    {
+        let layers = layers_of(cells, parts);
+        Lattice {
+            cells,
+            parts,
+            layers,
+            blocks,
+        }
+    }
+
+    /// The blocks, one for each part, x fastest.
+    pub fn into_blocks(self) -> Vec<Block>
+        ensures zones { ArePartsOf self.cells self.parts result.items }
+        ensures values { self ≡ joined self.cells self.parts result.items }
+    {
+        let Lattice {
+            cells: _,
+            parts: _,
+            layers: _,
+            blocks,
+        } = self;
+        blocks
+    }
+
+    /// The numbers of cells.
+    pub fn cells(&self) -> Cells
+        ensures value { result ≡ self.now.cells }
+        ensures shape { length self.now.values ≡ 3 * count_of self.now.cells }
+    {
+        self.cells
+    }
+
+    /// The numbers of parts on x, y and z.
+    pub fn parts(&self) -> [u32; 3]
+        ensures value { triple result ≡ self.now.parts }
+        ensures limits { IsParts self.now.cells self.now.parts }
+    {
+        self.parts
+    }
+
+    /// The component on `axis` at `cell`, one of the cells.
+    pub fn at(&self, axis: Axis, cell: [u32; 3]) -> i128
+        requires { IsWithin (triple cell) self.now.cells }
+        ensures { result ≡ value_at self.now axis (triple cell) }
+    {
+        let part = part_in(self.parts, self.layers, cell);
+        let block = &self.blocks[part];
+        block.at(axis, signed(self.cells, cell))
+    }
+
+    /// Changes the component on `axis` at `cell`, one of the cells, to `value`, and nothing else.
+    pub fn set(&mut self, axis: Axis, cell: [u32; 3], value: i128)
+        requires { IsWithin (triple cell) self.old.cells }
+        ensures after { self.new ≡ with_value self.old axis (triple cell) value }
+        ensures stored { value_at self.new axis (triple cell) ≡ value }
+    {
+        let part = part_in(self.parts, self.layers, cell);
+        let at = signed(self.cells, cell);
+        let block = &mut self.blocks[part];
+        block.set(axis, at, value);
+    }
+}
+
+#[cfg(test)]
+mod tests {
+    use super::*;
+
+    #[test]
+    fn a_value_is_read_back_in_every_part(rt: HostRuntime) -> Result<(), NoMemory> {
+        for parts in [[1, 1, 1], [2, 1, 2]] {
+            let cells = Cells::new([4, 2, 4]);
+            let mut field = Lattice::new(rt.alloc(), cells, parts)?;
+            field.set(Axis::Y, [1, 1, 1], -7);
+            field.set(Axis::Z, [2, 1, 3], 5);
+            assert_eq!(rt; field.cells(), cells);
+            assert_eq!(rt; field.parts(), parts);
+            assert_eq!(rt; field.at(Axis::Y, [1, 1, 1]), -7);
+            assert_eq!(rt; field.at(Axis::Z, [2, 1, 3]), 5);
+            assert_eq!(rt; field.at(Axis::X, [2, 1, 3]), 0);
+            assert_eq!(rt; field.at(Axis::Z, [1, 1, 3]), 0);
+        }
+        Ok(())
+    }
+
+    #[test]
+    fn blocks_keep_all_values(rt: HostRuntime) -> Result<(), NoMemory> {
+        let cells = Cells::new([4, 2, 4]);
+        let mut field = Lattice::new(rt.alloc(), cells, [2, 1, 2])?;
+        field.set(Axis::Z, [3, 1, 1], 5);
+        let blocks = field.into_blocks();
+        assert_eq!(rt; blocks.len(), 4);
+        assert_eq!(rt; blocks[1].zone().low, [2, 0, 0]);
+        assert_eq!(rt; blocks[1].zone().size, [2, 2, 2]);
+        let again = Lattice::of_blocks(cells, [2, 1, 2], blocks);
+        assert_eq!(rt; again.at(Axis::Z, [3, 1, 1]), 5);
+        Ok(())
+    }
+}

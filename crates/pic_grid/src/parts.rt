@@ -1,0 +1,99 @@
+ghost use Rattle.std.specs.Prelude.{◌≡◌, ℕ, ℤ, pos, ◌*◌, ◌<◌, replicate, slice_index_or, IfOk};
+ghost use Rattle.pic_num.specs.Space.{triple, spot};
+ghost use Rattle.pic_grid.specs.Cells.{IsCells, IsSize, IsWithin, count_of, index_of, cell_of};
+ghost use Rattle.pic_grid.specs.Lattice.{IsParts};
+ghost use Rattle.pic_grid.specs.Block.{IsZone};
+ghost use Rattle.pic_grid.specs.Parts.{spot_of, part_size, part_of, corner_of, no_block, ArePartsOf};
+
+use crate::block::{Block, Zone};
+use crate::cells::Cells;
+use crate::places::{count_in, index_in};
+use pic_num::NoMemory;
+use std::alloc::Global;
+
+/// The layers of each part of the cells.
+pub(crate) fn layers_of(cells: Cells, parts: [u32; 3]) -> [u32; 3]
+    requires { IsParts cells (triple parts) }
+    ensures value { triple result ≡ part_size cells (triple parts) }
+    ensures cells { IsCells cells }
+    ensures parts { IsSize (triple parts) }
+    ensures layers { IsSize (triple result) }
+{
+    let [nx, ny, nz] = cells.n;
+    let [px, py, pz] = parts;
+    [nx / px, ny / py, nz / pz]
+}
+
+/// The number of the part in which a cell lies. One part alone needs no division.
+pub(crate) fn part_in(parts: [u32; 3], layers: [u32; 3], cell: [u32; 3]) -> usize
+    requires parts { IsSize (triple parts) }
+    requires layers { IsSize (triple layers) }
+    requires within { IsWithin (part_of (triple layers) (triple cell)) (triple parts) }
+    ensures { result ≡ index_of (triple parts) (part_of (triple layers) (triple cell)) }
+{
+    if count_in(parts) == 1 {
+        return 0;
+    }
+    let [nx, ny, nz] = layers;
+    let [x, y, z] = cell;
+    index_in(parts, [x / nx, y / ny, z / nz])
+}
+
+/// A cell of the grid as one that isn't wrapped.
+pub(crate) fn signed(cells: Cells, cell: [u32; 3]) -> [i32; 3]
+    requires { IsWithin (triple cell) cells }
+    ensures { spot result ≡ spot_of (triple cell) }
+{
+    let [_, _, _] = cells.n;
+    let [x, y, z] = cell;
+    [x as i32, y as i32, z as i32]
+}
+
+/// The zone of the part of a number.
+fn zone_of(parts: [u32; 3], layers: [u32; 3], number: usize) -> Zone
+    requires parts { IsSize (triple parts) }
+    requires layers { IsSize (triple layers) }
+    requires below { number < count_of (triple parts) }
+    ensures low { spot result.low ≡ corner_of (triple layers) (cell_of (triple parts) number) }
+    ensures size { triple result.size ≡ triple layers }
+{
+    let [px, py, _] = parts;
+    let [nx, ny, nz] = layers;
+    let number = number as u32;
+    let low = [
+        start_of(number % px, nx),
+        start_of(number / px % py, ny),
+        start_of(number / px / py, nz),
+    ];
+    Zone { low, size: layers }
+}
+
+/// The first layer of a part on one axis.
+fn start_of(part: u32, layers: u32) -> i32
+    requires part { part < 67 }
+    requires layers { layers < 68 }
+    ensures { result ≡ pos (part * layers) }
+{
+    (part * layers) as i32
+}
+
+/// A block of zeros for each part, x fastest.
+pub(crate) fn blocks_of(
+    alloc: Global,
+    cells: Cells,
+    parts: [u32; 3],
+) -> Result<Vec<Block>, NoMemory>
+    requires { IsParts cells (triple parts) }
+    ensures zones { IfOk result (λ v. ArePartsOf cells (triple parts) v.items) }
+    ensures zeros { IfOk result (λ v. (i : ℕ) → i < count_of (triple parts) → (slice_index_or v.items i no_block).values ≡ replicate (3 * count_of (part_size cells (triple parts))) (pos 0)) }
+{
+    let layers = layers_of(cells, parts);
+    let count = count_in(parts);
+    let mut blocks = Vec::with_capacity(alloc, count)?;
+    for number in 0..count {
+        let zone = zone_of(parts, layers, number);
+        let block = Block::new(alloc, zone)?;
+        blocks.push(block)?;
+    }
+    Ok(blocks)
+}
