@@ -1,4 +1,4 @@
-use Rattle.pic_grid.proofs.Weights as weights
+use Rattle.pic_grid.proofs.WeightLaws as weights
 use Rattle.pic_grid.proofs.laws.weights_add_up.Goals as goal
 
 pub returns : goal.returns
