@@ -3,6 +3,7 @@
 #![tactic(auto)]
 
 mod axis;
+mod listed;
 mod motion;
 mod mult;
 mod no_memory;
@@ -10,6 +11,7 @@ mod rounding;
 mod text;
 
 pub use axis::Axis;
+pub use listed::Listed;
 pub use motion::{Kind, Particle, What};
 pub use mult::{Mult, Scales};
 pub use no_memory::NoMemory;
