@@ -1,7 +1,7 @@
-pub mod Numbers
-pub mod Blocks
-pub mod Walks
-pub mod LeastFaults
-pub mod LeastStops
-pub mod Whole
-pub mod Small
+pub mod PlaceLaws
+pub mod ZoneLaws
+pub mod WalkLaws
+pub mod FaultLaws
+pub mod LeastStopLaws
+pub mod WholeLaws
+pub mod SmallLaws

@@ -25,10 +25,11 @@ use Rattle.pic_grid.specs.Block.{BlockValues, InZone, edge_at}
 unfoldable pub half_of : Scales → Field → Axis → Triple → ℤ → ℤ
 half_of scales e a p v = v -ℤ curl_e e.cells (λ c q. scaled (value_at e c q) scales.e_to_b) a p
 
--- a step of E at a place, from its old value v and the current j there: v and the curl of the scaled
--- B, less j
+-- a step of E at a place, from its old value v and the current j there: v and the curl of the
+-- scaled B, less j
 unfoldable pub full_of : Scales → Field → Axis → Triple → ℤ → ℤ → ℤ
-full_of scales b a p v j = v +ℤ curl_b b.cells (λ c q. scaled (value_at b c q) scales.b_to_e) a p -ℤ j
+full_of scales b a p v j =
+    v +ℤ curl_b b.cells (λ c q. scaled (value_at b c q) scales.b_to_e) a p -ℤ j
 
 -- the values of a block after half a step of B, by axis and cell of the grid
 abbrev pub half_in : Scales → Field → BlockValues → Axis → Triple → ℤ
@@ -36,16 +37,18 @@ half_in scales e old a p = half_of scales e a p (edge_at old a (spot_of p))
 
 -- the values of a block after a step of E, by axis and cell of the grid
 abbrev pub full_in : Scales → Field → BlockValues → BlockValues → Axis → Triple → ℤ
-full_in scales b j old a p = full_of scales b a p (edge_at old a (spot_of p)) (edge_at j a (spot_of p))
+full_in scales b j old a p =
+    full_of scales b a p (edge_at old a (spot_of p)) (edge_at j a (spot_of p))
 
--- what stops a phase at a new value v: it is above 2^90 in size, else its force value is above 2^44.
--- The stop names the number that is too large.
+-- what stops a phase at a new value v: it is above 2^90 in size, else its force value is above
+-- 2^44. The stop names the number that is too large.
 unfoldable pub fault_of : Phase → Multiplier → Axis → Triple → ℤ → Option Stop
 fault_of phase by a p v =
     let cell = p.x ∷ p.y ∷ p.z ∷ [] in
     let force = scaled v by in
     if nat_lt (2 ^ 90) (unsigned_abs v) then Some (field_stop phase Value a cell v)
-    else (if nat_lt (2 ^ 44) (unsigned_abs force) then Some (field_stop phase Force a cell force) else None)
+    else (if nat_lt (2 ^ 44) (unsigned_abs force) then Some (field_stop phase Force a cell force)
+    else None)
 
 -- the cell of the grid that lies p above low
 abbrev pub cell_above : Triple → Triple → Triple
@@ -64,8 +67,10 @@ fault_at phase by low size f i =
     fault_of phase by a p (f a p)
 
 -- the stop of that box: that of its least place (the axis first, then z, then y, then x)
-unfoldable pub least_fault : Phase → Multiplier → Triple → Triple → (Axis → Triple → ℤ) → Option Stop
-least_fault phase by low size f = first_of (fault_at phase by low size f) (range_with_len 0 (3 * count_of size))
+unfoldable pub least_fault : Phase → Multiplier → Triple → Triple → (Axis → Triple → ℤ)
+    → Option Stop
+least_fault phase by low size f =
+    first_of (fault_at phase by low size f) (range_with_len 0 (3 * count_of size))
 
 -- every value of a lattice is at most most in size
 pub record EachAtMost (most : ℕ) (f : Field) : Type 0 where

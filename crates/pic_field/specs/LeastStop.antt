@@ -24,7 +24,8 @@ pub record EachBounded (by : Multiplier) (low size : Triple) (f : Axis → Tripl
 -- 2^90 in size, else its force value where that is above 2^44
 pub data Passes (by : Multiplier) (v : ℤ) : Bound → ℤ → Type 0 where
   value_passes : 2 ^ 90 < unsigned_abs v → Passes by v Value v
-  force_passes : IsAtMost v (2 ^ 90) → 2 ^ 44 < unsigned_abs (scaled v by) → Passes by v Force (scaled v by)
+  force_passes : IsAtMost v (2 ^ 90) → 2 ^ 44 < unsigned_abs (scaled v by)
+      → Passes by v Force (scaled v by)
 
 -- the component on b at the cell q comes before that on a at p: its axis is less, or else its z, or
 -- else its y, or else its x
@@ -37,7 +38,8 @@ pub data IsBefore (b : Axis) (q : Triple) (a : Axis) (p : Triple) : Type 0 where
 -- a stop names the phase, a place of the box whose value passes a bound (its cell lies `at` above
 -- low), that bound and the number that is too large; at no place of the box before it does a value
 -- pass a bound
-pub record IsLeastStop (phase : Phase) (by : Multiplier) (low size : Triple) (f : Axis → Triple → ℤ) (stop : Stop) : Type 0 where
+pub record IsLeastStop (phase : Phase) (by : Multiplier) (low size : Triple)
+    (f : Axis → Triple → ℤ) (stop : Stop) : Type 0 where
   pub axis : Axis
   pub at : Triple
   pub bound : Bound
@@ -45,7 +47,8 @@ pub record IsLeastStop (phase : Phase) (by : Multiplier) (low size : Triple) (f 
   pub names : stop ≡ field_stop phase bound axis (array_of_triple (cell_above low at)) value
   pub within : IsWithin at size
   pub passes : Passes by (f axis (cell_above low at)) bound value
-  pub least : (b : Axis) (q : Triple) → IsWithin q size → IsBefore b q axis at → IsBounded by (f b (cell_above low q))
+  pub least : (b : Axis) (q : Triple) → IsWithin q size → IsBefore b q axis at
+      → IsBounded by (f b (cell_above low q))
 
 -- in every phase, with every multiplier, for all values on every box: there is no stop exactly
 -- where no value passes a bound, and a stop is the answer exactly where it is the least
@@ -53,4 +56,5 @@ abbrev pub LeastStop : Type 0
 LeastStop =
     (phase : Phase) (by : Multiplier) (low size : Triple) (f : Axis → Triple → ℤ)
     → ((least_fault phase by low size f ≡ None) ↔ EachBounded by low size f)
-    × ((stop : Stop) → (least_fault phase by low size f ≡ Some stop) ↔ IsLeastStop phase by low size f stop)
+    × ((stop : Stop) → (least_fault phase by low size f ≡ Some stop)
+    ↔ IsLeastStop phase by low size f stop)

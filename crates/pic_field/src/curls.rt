@@ -1,3 +1,5 @@
+//! The curls of scaled fields at a place, and one scaled value.
+
 ghost use Rattle.std.specs.Prelude.{◌≡◌, ◌^◌};
 ghost use Rattle.pic_num.specs.Rounding.{scaled};
 ghost use Rattle.pic_num.specs.Sizes.{IsAtMost};

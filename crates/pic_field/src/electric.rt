@@ -1,3 +1,5 @@
+//! A step of E in one block.
+
 ghost use Rattle.std.specs.Prelude.{◌≡◌, ◌^◌, OnOk};
 ghost use Rattle.pic_num.specs.declared.axis.Axis.{Axis as AxisName};
 ghost use Rattle.pic_num.specs.Push.{unless};
@@ -11,7 +13,7 @@ ghost use Rattle.pic_field.specs.FieldPhases.{full_of, full_in, fault_of, lowest
 
 use crate::curls::curl_of_b;
 use crate::faults::{answer, fault};
-use crate::places::{Place, cell_in, place_count, signed};
+use crate::place::{Place, cell_in, place_count, signed};
 use pic_grid::{Block, Lattice, Phase, Stop};
 use pic_num::{Axis, Scales};
 
@@ -19,9 +21,9 @@ use pic_num::{Axis, Scales};
 /// `j`. The zone of the block lies among the cells of `b` and is that of `j`, and all values are at
 /// most 2^90 in size.
 ///
-/// Every place has its new value, also where the answer is a stop: that of the least place (the axis
-/// first, then z, y, x) whose new value is above 2^90 in size, or else its force value above 2^44. The
-/// phase of the stop is `Electric`.
+/// Every place has its new value, also where the answer is a stop: that of the least place (the
+/// axis first, then z, y, x) whose new value is above 2^90 in size, or else its force value above
+/// 2^44. The phase of the stop is `Electric`.
 pub fn full_e(scales: &Scales, b: &Lattice, j: &Block, e: &mut Block) -> Result<(), Stop>
     requires among { IsAmongCells e.old.low e.old.size b.now.cells }
     requires j_shape { IsShaped j.now e.old }
@@ -30,8 +32,11 @@ pub fn full_e(scales: &Scales, b: &Lattice, j: &Block, e: &mut Block) -> Result<
     requires e_small { AllAtMost (2 ^ 90) e.old }
     ensures shape { IsShaped e.new e.old }
     ensures values { (a : AxisName) → (p : Triple) → IsWithin p e.old.size
-        → inner_at e.new a p ≡ full_of scales.now b.now a (outer_of e.old.low p) (inner_at e.old a p) (inner_at j.now a p) }
-    ensures stop { result ≡ unless (least_fault Phase.Electric scales.now.e_force (lowest e.old.low) e.old.size (full_in scales.now b.now j.now e.old)) tt }
+        → inner_at e.new a p
+        ≡ full_of scales.now b.now a (outer_of e.old.low p) (inner_at e.old a p)
+        (inner_at j.now a p) }
+    ensures stop { result ≡ unless (least_fault Phase.Electric scales.now.e_force (lowest e.old.low)
+        e.old.size (full_in scales.now b.now j.now e.old)) tt }
     ensures bounded { OnOk result (AllBounded scales.now.e_force e.new) }
 {
     let cells = b.cells();

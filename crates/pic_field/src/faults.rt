@@ -1,3 +1,5 @@
+//! What stops a field phase at a new value.
+
 ghost use Rattle.std.specs.Prelude.{◌≡◌};
 ghost use Rattle.pic_num.specs.Push.{unless};
 ghost use Rattle.pic_num.specs.Space.{triple};

@@ -1,3 +1,5 @@
+//! The force values of a field in one block.
+
 ghost use Rattle.std.specs.Prelude.{◌≡◌, ◌^◌};
 ghost use Rattle.pic_num.specs.declared.axis.Axis.{Axis as AxisName};
 ghost use Rattle.pic_num.specs.Rounding.{scaled};
@@ -9,7 +11,7 @@ ghost use Rattle.pic_grid.specs.Block.{IsAmongCells, IsShaped, InZone, inner_at,
 ghost use Rattle.pic_field.specs.FieldPhases.{EachAtMost};
 
 use crate::curls::scaled_at;
-use crate::places::{Place, cell_in, place_count, signed};
+use crate::place::{Place, cell_in, place_count, signed};
 use pic_grid::{Block, Lattice};
 use pic_num::{Axis, Mult};
 

@@ -7,7 +7,7 @@ mod faults;
 mod forces;
 mod laws;
 mod magnetic;
-mod places;
+mod place;
 
 pub use electric::full_e;
 pub use forces::force;

@@ -1,3 +1,5 @@
+//! Half a step of B in one block.
+
 ghost use Rattle.std.specs.Prelude.{◌≡◌, ◌^◌, OnOk};
 ghost use Rattle.pic_num.specs.declared.axis.Axis.{Axis as AxisName};
 ghost use Rattle.pic_num.specs.Push.{unless};
@@ -10,23 +12,26 @@ ghost use Rattle.pic_field.specs.FieldPhases.{half_of, half_in, fault_of, lowest
 
 use crate::curls::curl_of_e;
 use crate::faults::{answer, fault};
-use crate::places::{Place, cell_in, place_count, signed};
+use crate::place::{Place, cell_in, place_count, signed};
 use pic_grid::{Block, Lattice, Phase, Stop};
 use pic_num::{Axis, Scales};
 
-/// Half a step of B at every place of a block: each value less the curl of the scaled E. The zone of
-/// the block lies among the cells of `e`, and all values are at most 2^90 in size.
+/// Half a step of B at every place of a block: each value less the curl of the scaled E. The zone
+/// of the block lies among the cells of `e`, and all values are at most 2^90 in size.
 ///
-/// Every place has its new value, also where the answer is a stop: that of the least place (the axis
-/// first, then z, y, x) whose new value is above 2^90 in size, or else its force value above 2^44.
+/// Every place has its new value, also where the answer is a stop: that of the least place (the
+/// axis first, then z, y, x) whose new value is above 2^90 in size, or else its force value above
+/// 2^44.
 pub fn half_b(scales: &Scales, e: &Lattice, b: &mut Block, phase: Phase) -> Result<(), Stop>
     requires among { IsAmongCells b.old.low b.old.size e.now.cells }
     requires e_small { EachAtMost (2 ^ 90) e.now }
     requires b_small { AllAtMost (2 ^ 90) b.old }
     ensures shape { IsShaped b.new b.old }
     ensures values { (a : AxisName) → (p : Triple) → IsWithin p b.old.size
-        → inner_at b.new a p ≡ half_of scales.now e.now a (outer_of b.old.low p) (inner_at b.old a p) }
-    ensures stop { result ≡ unless (least_fault phase scales.now.b_force (lowest b.old.low) b.old.size (half_in scales.now e.now b.old)) tt }
+        → inner_at b.new a p
+        ≡ half_of scales.now e.now a (outer_of b.old.low p) (inner_at b.old a p) }
+    ensures stop { result ≡ unless (least_fault phase scales.now.b_force (lowest b.old.low)
+        b.old.size (half_in scales.now e.now b.old)) tt }
     ensures bounded { OnOk result (AllBounded scales.now.b_force b.new) }
 {
     let cells = e.cells();

@@ -1,3 +1,5 @@
+//! Worked steps of E and B, their stops, and force values.
+
 ghost use Rattle.std.specs.Prelude.{◌≡◌, ◌^◌, IfOk};
 ghost use Rattle.pic_num.specs.Sizes.{IsAtMost};
 ghost use Rattle.pic_num.specs.Space.{triple, spot};
@@ -110,7 +112,8 @@ fn half_step(
     edges: &[Value],
     faces: &[Edge],
 ) -> Result<(Block, Result<(), Stop>), NoMemory>
-    requires among { IsAmongCells (spot zone.low) (triple zone.size) (record { x = 4; y = 4; z = 4 }) }
+    requires among { IsAmongCells (spot zone.low) (triple zone.size)
+        (record { x = 4; y = 4; z = 4 }) }
     requires limits { IsZone (spot zone.low) (triple zone.size) }
 {
     let e = lattice_of(alloc, [4, 4, 4], edges)?;

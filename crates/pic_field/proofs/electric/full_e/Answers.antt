@@ -7,10 +7,10 @@ use Rattle.pic_grid.specs.Parts.{spot_of}
 use Rattle.pic_grid.specs.Cells.{count_of}
 use Rattle.pic_grid.specs.Block.{outer_of, edge_at}
 use Rattle.pic_field.specs.FieldPhases.{full_of, full_in, fault_of}
-use Rattle.pic_field.proofs.Blocks.{edge_at-outer, edge_at-shaped}
-use Rattle.pic_field.proofs.LeastFaults.{fault_below-none, fault_below-more, fault_below-all, bounded_on_ok}
-use Rattle.pic_field.proofs.Numbers.{first_place, next_place}
-use Rattle.pic_field.proofs.Walks.{IsHere, is_here, here_inside, walked_none, walked_shape, walked_kept, walked_small, walked_more, walked_all}
+use Rattle.pic_field.proofs.ZoneLaws.{edge_at-outer, edge_at-shaped}
+use Rattle.pic_field.proofs.FaultLaws.{fault_below-none, fault_below-more, fault_below-all, bounded_on_ok}
+use Rattle.pic_field.proofs.PlaceLaws.{first_place, next_place}
+use Rattle.pic_field.proofs.WalkLaws.{IsHere, is_here, here_inside, walked_none, walked_shape, walked_kept, walked_small, walked_more, walked_all}
 use Rattle.pic_field.proofs.electric.full_e.Goals as goal
 use Rattle.pic_field.proofs.electric.full_e.Goals.{After-cell_in-cell, After-answer}
 

@@ -2,9 +2,9 @@ use Rattle.std.proofs.Common.{◌≡◌}
 use Rattle.pic_num.specs.Space.{triple}
 use Rattle.pic_grid.specs.declared.stop.Phase.TheVariants.{Electric}
 use Rattle.pic_field.specs.FieldPhases.{full_in}
-use Rattle.pic_field.proofs.LeastFaults.{fault_below}
-use Rattle.pic_field.proofs.Numbers.{IsPlace}
-use Rattle.pic_field.proofs.Walks.{Walked}
+use Rattle.pic_field.proofs.FaultLaws.{fault_below}
+use Rattle.pic_field.proofs.PlaceLaws.{IsPlace}
+use Rattle.pic_field.proofs.WalkLaws.{Walked}
 use Rattle.pic_field.proofs.electric.full_e.Given as goal
 
 -- the walk stands at the place of its number, and has found the least stop so far

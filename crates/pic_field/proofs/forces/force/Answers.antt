@@ -3,8 +3,8 @@ use Rattle.pic_num.specs.Space.{triple}
 use Rattle.pic_grid.specs.Lattice.{value_at}
 use Rattle.pic_grid.specs.Gather.{force_of}
 use Rattle.pic_grid.specs.Cells.{count_of}
-use Rattle.pic_field.proofs.Numbers.{first_place, next_place}
-use Rattle.pic_field.proofs.Walks.{IsHere, is_here, here_inside, walked_none, walked_shape, walked_more, walked_all}
+use Rattle.pic_field.proofs.PlaceLaws.{first_place, next_place}
+use Rattle.pic_field.proofs.WalkLaws.{IsHere, is_here, here_inside, walked_none, walked_shape, walked_more, walked_all}
 use Rattle.pic_field.proofs.forces.force.Goals as goal
 use Rattle.pic_field.proofs.forces.force.Goals.{After-cell_in-cell}
 

@@ -1,8 +1,8 @@
 use Rattle.pic_num.specs.Space.{triple}
 use Rattle.pic_grid.specs.Lattice.{value_at}
 use Rattle.pic_grid.specs.Gather.{force_of}
-use Rattle.pic_field.proofs.Numbers.{IsPlace}
-use Rattle.pic_field.proofs.Walks.{Walked}
+use Rattle.pic_field.proofs.PlaceLaws.{IsPlace}
+use Rattle.pic_field.proofs.WalkLaws.{Walked}
 use Rattle.pic_field.proofs.forces.force.Given as goal
 
 -- the walk stands at the place of its number

@@ -1,4 +1,4 @@
-use Rattle.pic_field.proofs.LeastStops.{least_stop}
+use Rattle.pic_field.proofs.LeastStopLaws.{least_stop}
 use Rattle.pic_field.proofs.laws.law_of_the_least_stop.Goals as goal
 
 pub returns : goal.returns

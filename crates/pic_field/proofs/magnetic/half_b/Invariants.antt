@@ -1,9 +1,9 @@
 use Rattle.std.proofs.Common.{◌≡◌}
 use Rattle.pic_num.specs.Space.{triple}
 use Rattle.pic_field.specs.FieldPhases.{half_in}
-use Rattle.pic_field.proofs.LeastFaults.{fault_below}
-use Rattle.pic_field.proofs.Numbers.{IsPlace}
-use Rattle.pic_field.proofs.Walks.{Walked}
+use Rattle.pic_field.proofs.FaultLaws.{fault_below}
+use Rattle.pic_field.proofs.PlaceLaws.{IsPlace}
+use Rattle.pic_field.proofs.WalkLaws.{Walked}
 use Rattle.pic_field.proofs.magnetic.half_b.Given as goal
 
 -- the walk stands at the place of its number, and has found the least stop so far

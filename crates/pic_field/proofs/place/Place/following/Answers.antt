@@ -1,8 +1,8 @@
 use Rattle.std.proofs.Common.{◌≡◌, ◌+◌, ◌∙◌, arith}
 use Rattle.pic_num.specs.Space.{triple}
 use Rattle.pic_grid.specs.Cells.{place_of}
-use Rattle.pic_field.proofs.Numbers.{row_next, row_end, layer_end, axis_end}
-use Rattle.pic_field.proofs.places.Place.following.Goals as goal
+use Rattle.pic_field.proofs.PlaceLaws.{row_next, row_end, layer_end, axis_end}
+use Rattle.pic_field.proofs.place.Place.following.Goals as goal
 
 pub returns-then-x-nx-clause-number : goal.returns-then-x-nx-clause-number
 returns-then-x-nx-clause-number c = λ h. row_next (triple c.args.size) c.args.self.axis (triple c.args.self.inner)

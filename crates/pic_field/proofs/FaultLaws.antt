@@ -16,7 +16,7 @@ use Rattle.pic_grid.specs.Cells.{IsWithin, count_of, place_of}
 use Rattle.pic_grid.specs.Block.{BlockValues, inner_of, inner_at, outer_of}
 use Rattle.pic_grid.proofs.CellLaws.{place_of_below, axis_of-place_of, cell_of-place_of}
 use Rattle.pic_grid.proofs.BlockLaws.{inner_within}
-use Rattle.pic_field.proofs.Walks.{IsHere}
+use Rattle.pic_field.proofs.WalkLaws.{IsHere}
 use Rattle.pic_field.specs.FieldPhases.{fault_of, cell_above, lowest, fault_at, least_fault, IsBounded, AllBounded}
 
 -- neither of two tests holds where neither answer is given
@@ -66,13 +66,15 @@ unfolding fault_below first_of
 fault_below-none phase by f old = refl
 
 -- a walk's step
-pub fault_below-more : (phase : Phase) (by : Multiplier) (f : Axis → Triple → ℤ) (old : BlockValues) (n : Triple) (i : ℕ) (a : Axis) (p q : Triple) (stop found : Option Stop)
+pub fault_below-more : (phase : Phase) (by : Multiplier) (f : Axis → Triple → ℤ) (old : BlockValues) (n : Triple) (i : ℕ)
+    → (a : Axis) (p q : Triple) (stop found : Option Stop)
     → IsHere old n i a p q → stop ≡ fault_below phase by f old i → found ≡ fault_of phase by a q (f a q)
     → option_or stop found ≡ fault_below phase by f old (i + 1)
 unfolding fault_below
 fault_below-more phase by f old n i a p q stop found h before here =
     let g = fault_at phase by (lowest old.low) old.size f in
-    let last : found ≡ g i = here ∙ (λ j. fault_of phase by a (h.at j) (f a (h.at j))) ∙ sym (fault_at-place_of phase by (lowest old.low) old.size f a p h.within) ∙ ap g h.number in
+    let number = fault_at-place_of phase by (lowest old.low) old.size f a p h.within in
+    let last : found ≡ g i = here ∙ (λ j. fault_of phase by a (h.at j) (f a (h.at j))) ∙ sym number ∙ ap g h.number in
     let same : i ≡ 0 + i = omega arith in
     (λ j. option_or (before j) (last j))
     ∙ ap (λ (k : ℕ). option_or (first_of g (range_with_len 0 i)) (g k)) same

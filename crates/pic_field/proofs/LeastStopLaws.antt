@@ -20,7 +20,7 @@ use Rattle.pic_grid.specs.Cells.{IsWithin, count_of, index_of, cell_of, axis_of,
 use Rattle.pic_grid.proofs.CellLaws.{index_of_below, place_of_below, place_of-number, place_within}
 use Rattle.pic_field.specs.FieldPhases.{fault_of, cell_above, fault_at, least_fault, IsBounded}
 use Rattle.pic_field.specs.LeastStop.{LeastStop, EachBounded, Passes, value_passes, force_passes, IsBefore, less_axis, less_z, less_y, less_x, IsLeastStop}
-use Rattle.pic_field.proofs.LeastFaults.{fault_of-none, fault_at-place_of, least_fault-bounded}
+use Rattle.pic_field.proofs.FaultLaws.{fault_of-none, fault_at-place_of, least_fault-bounded}
 
 -- a cell of a lower row has the lower number
 row_less : (w r s x y : ℕ) → r < s → x < w → r * w + x < s * w + y
@@ -110,57 +110,68 @@ below_before n b q a p v w below = on_axis (order (axis_number b) (axis_number a
     on_axis (same s) = on_z (sym (axis_of-number b) ∙ ap axis_of s ∙ axis_of-number a) (order q.z p.z)
     on_axis (more m) = absurd (not_after (less_axis m))
 
--- a value that passes neither bound stops nothing
-none_fault_of : (phase : Phase) (by : Multiplier) (a : Axis) (c : Triple) (v : ℤ) → IsBounded by v → fault_of phase by a c v ≡ None
-unfolding fault_of
-none_fault_of phase by a c v bounded =
-    let value = le-ltb (2 ^ 90) (unsigned_abs v) bounded.value.size in
-    let force = le-ltb (2 ^ 44) (unsigned_abs (scaled v by)) bounded.force.size in
-    λ i. cond (value i) (Some (field_stop phase Value a (array_of_triple c) v)) (cond (force i) (Some (field_stop phase Force a (array_of_triple c) (scaled v by))) None)
-
--- what a stop says of the value at its place
-record Names (phase : Phase) (by : Multiplier) (a : Axis) (c : Triple) (v : ℤ) (stop : Stop) : Type 0 where
-  bound : Bound
-  number : ℤ
-  names : stop ≡ field_stop phase bound a (array_of_triple c) number
-  passes : Passes by v bound number
-
 some_is : (s t : Stop) → Some s ≡ Some t → t ≡ s
 some_is s t e = cc
 
--- a stop of a value names the bound that it passes
-fault_of-some : (phase : Phase) (by : Multiplier) (a : Axis) (c : Triple) (v : ℤ) (stop : Stop) → fault_of phase by a c v ≡ Some stop → Names phase by a c v stop
-unfolding fault_of
-fault_of-some phase by a c v stop some = go (ltb (2 ^ 90) (unsigned_abs v)) (ltb (2 ^ 44) (unsigned_abs (scaled v by))) refl refl some
+-- the stop of one new value v, of the component on a at the cell c
+module _ (phase : Phase) (by : Multiplier) (a : Axis) (c : Triple) (v : ℤ)
   where
-    on_value : Stop
+    abbrev on_value : Stop
     on_value = field_stop phase Value a (array_of_triple c) v
 
-    on_force : Stop
+    abbrev on_force : Stop
     on_force = field_stop phase Force a (array_of_triple c) (scaled v by)
 
-    go : (t u : Bool) → ltb (2 ^ 90) (unsigned_abs v) ≡ t → ltb (2 ^ 44) (unsigned_abs (scaled v by)) ≡ u
-        → cond t (Some on_value) (cond u (Some on_force) None) ≡ Some stop → Names phase by a c v stop
-    go true u value force is = record { bound = Value; number = v; names = some_is on_value stop is; passes = value_passes (ltb-true (2 ^ 90) (unsigned_abs v) value) }
-    go false true value force is = record {
-      bound = Force;
-      number = scaled v by;
-      names = some_is on_force stop is;
-      passes = force_passes (record { size = ltb-false (2 ^ 90) (unsigned_abs v) value }) (ltb-true (2 ^ 44) (unsigned_abs (scaled v by)) force);
-    }
-    go false false value force is = cc
+    -- by the two tests: whether v is too large, and whether its force value is
+    abbrev chosen : Bool → Bool → Option Stop
+    chosen t u = cond t (Some on_value) (cond u (Some on_force) None)
 
--- and a value that passes a bound has that stop
-some_fault_of : (phase : Phase) (by : Multiplier) (a : Axis) (c : Triple) (v : ℤ) (bound : Bound) (number : ℤ) → Passes by v bound number
-    → fault_of phase by a c v ≡ Some (field_stop phase bound a (array_of_triple c) number)
-unfolding fault_of
-some_fault_of phase by a c v Value number (value_passes large) =
-    ap (λ (t : Bool). cond t (Some (field_stop phase Value a (array_of_triple c) v)) (cond (ltb (2 ^ 44) (unsigned_abs (scaled v by))) (Some (field_stop phase Force a (array_of_triple c) (scaled v by))) None))
-    (lt-ltb (2 ^ 90) (unsigned_abs v) large)
-some_fault_of phase by a c v Force number (force_passes small large) =
-    let value = le-ltb (2 ^ 90) (unsigned_abs v) small.size in
-    let force = lt-ltb (2 ^ 44) (unsigned_abs (scaled v by)) large in
-    λ i. cond (value i) (Some (field_stop phase Value a (array_of_triple c) v)) (cond (force i) (Some (field_stop phase Force a (array_of_triple c) (scaled v by))) None)
+    -- a value that passes neither bound stops nothing
+    none_fault_of : IsBounded by v → fault_of phase by a c v ≡ None
+    unfolding fault_of
+    none_fault_of bounded =
+        let value = le-ltb (2 ^ 90) (unsigned_abs v) bounded.value.size in
+        let force = le-ltb (2 ^ 44) (unsigned_abs (scaled v by)) bounded.force.size in
+        λ i. chosen (value i) (force i)
+
+    -- what a stop says of the value at its place
+    record Names (stop : Stop) : Type 0 where
+      bound : Bound
+      number : ℤ
+      names : stop ≡ field_stop phase bound a (array_of_triple c) number
+      passes : Passes by v bound number
+
+    -- a stop of a value names the bound that it passes
+    fault_of-some : (stop : Stop) → fault_of phase by a c v ≡ Some stop → Names stop
+    unfolding fault_of
+    fault_of-some stop some = go (ltb (2 ^ 90) (unsigned_abs v)) (ltb (2 ^ 44) (unsigned_abs (scaled v by))) refl refl some
+      where
+        go : (t u : Bool) → ltb (2 ^ 90) (unsigned_abs v) ≡ t → ltb (2 ^ 44) (unsigned_abs (scaled v by)) ≡ u
+            → chosen t u ≡ Some stop → Names stop
+        go true u value force is = record {
+          bound = Value;
+          number = v;
+          names = some_is on_value stop is;
+          passes = value_passes (ltb-true (2 ^ 90) (unsigned_abs v) value);
+        }
+        go false true value force is = record {
+          bound = Force;
+          number = scaled v by;
+          names = some_is on_force stop is;
+          passes = force_passes (record { size = ltb-false (2 ^ 90) (unsigned_abs v) value }) (ltb-true (2 ^ 44) (unsigned_abs (scaled v by)) force);
+        }
+        go false false value force is = cc
+
+    -- and a value that passes a bound has that stop
+    some_fault_of : (bound : Bound) (number : ℤ) → Passes by v bound number
+        → fault_of phase by a c v ≡ Some (field_stop phase bound a (array_of_triple c) number)
+    unfolding fault_of
+    some_fault_of Value number (value_passes large) =
+        ap (λ (t : Bool). chosen t (ltb (2 ^ 44) (unsigned_abs (scaled v by)))) (lt-ltb (2 ^ 90) (unsigned_abs v) large)
+    some_fault_of Force number (force_passes small large) =
+        let value = le-ltb (2 ^ 90) (unsigned_abs v) small.size in
+        let force = lt-ltb (2 ^ 44) (unsigned_abs (scaled v by)) large in
+        λ i. chosen (value i) (force i)
 
 module _ (phase : Phase) (by : Multiplier) (low size : Triple) (f : Axis → Triple → ℤ)
   where

@@ -8,8 +8,8 @@ use Rattle.pic_grid.specs.Parts.{spot_of}
 use Rattle.pic_grid.specs.Cells.{IsWithin, count_of, place_of}
 use Rattle.pic_grid.specs.Block.{BlockValues, InZone, IsAmongCells, IsShaped, AllAtMost, inner_of, edge_at, with_edge, inner_at, outer_of}
 use Rattle.pic_grid.proofs.CellLaws.{place_of_below, places_more}
-use Rattle.pic_field.proofs.Blocks.{inner_of-outer_of, outer_inside}
-use Rattle.pic_field.proofs.Numbers.{IsPlace}
+use Rattle.pic_field.proofs.ZoneLaws.{inner_of-outer_of, outer_inside}
+use Rattle.pic_field.proofs.PlaceLaws.{IsPlace}
 
 -- the places below i have the values that f gives by axis and cell of the grid, the others are as they were
 pub record Walked (f : Axis → Triple → ℤ) (i : ℕ) (old new : BlockValues) : Type 0 where

@@ -24,8 +24,8 @@ use Rattle.pic_grid.proofs.LatticeLaws.{is_field_of, length-values_of}
 use Rattle.pic_grid.proofs.PartLaws.{value_at-joined}
 use Rattle.pic_grid.proofs.CellLaws.{index_of_below, place_within}
 use Rattle.pic_grid.proofs.BlockLaws.{inner_within}
-use Rattle.pic_field.proofs.Blocks.{outer_inside}
-use Rattle.pic_field.proofs.LeastFaults.{least_fault-bounded}
+use Rattle.pic_field.proofs.ZoneLaws.{outer_inside}
+use Rattle.pic_field.proofs.FaultLaws.{least_fault-bounded}
 use Rattle.pic_field.specs.FieldPhases.{half_of, half_in, full_of, full_in, lowest, cell_above, fault_of, fault_at, least_fault, EachAtMost, IsBounded, AllBounded}
 
 -- one part on each axis, and the lowest cell of the grid
@@ -71,7 +71,10 @@ whole_parts n b whole = record {
   count = refl;
   zones = λ i h.
       let first : 0 ≡ i = omega arith in
-      let part : IsPart (part_size n one_part) (cell_of one_part 0) b = record { low = whole.low ∙ sym (whole_corner (part_size n one_part)); size = whole.size ∙ sym (whole_size n) } in
+      let part : IsPart (part_size n one_part) (cell_of one_part 0) b = record {
+        low = whole.low ∙ sym (whole_corner (part_size n one_part));
+        size = whole.size ∙ sym (whole_size n);
+      } in
       subst (λ (k : ℕ). IsPart (part_size n one_part) (cell_of one_part k) (slice_index_or (b ∷ []) k no_block)) first part;
 }
 
@@ -167,7 +170,8 @@ whole_each by n b whole all = record { at_most = λ a p w. (whole_bounded by n b
 
 -- equal values have one stop
 pub least_fault-same : (phase : Phase) (by : Multiplier) (low size : Triple) (f g : Axis → Triple → ℤ)
-    → ((a : Axis) (p : Triple) → IsWithin p size → f a (cell_above low p) ≡ g a (cell_above low p)) → least_fault phase by low size f ≡ least_fault phase by low size g
+    → ((a : Axis) (p : Triple) → IsWithin p size → f a (cell_above low p) ≡ g a (cell_above low p))
+    → least_fault phase by low size f ≡ least_fault phase by low size g
 unfolding least_fault
 least_fault-same phase by low size f g same =
     first_of_same (fault_at phase by low size f) (fault_at phase by low size g) 0 (3 * count_of size) (λ i least below.
@@ -190,40 +194,46 @@ whole_none phase by n f none a p w =
     subst (λ (q : Triple). IsBounded by (f a q)) (above_origin p) (least_fault-bounded phase by origin n f none a p w)
 
 -- half a step of B: what `half_b` says of the block, said of the lattice
+abbrev pub half_all : Scales → Field → Triple → BlockValues → Axis → Triple → ℤ
+half_all scales e n old a p = half_of scales e a p (value_at (joined n one_part (old ∷ [])) a p)
+
 pub half_whole : (scales : Scales) (e : Field) (n : Triple) (old new : BlockValues) → IsWhole n old → IsShaped new old
     → ((a : Axis) (p : Triple) → IsWithin p old.size → inner_at new a p ≡ half_of scales e a (outer_of old.low p) (inner_at old a p))
-    → joined n one_part (new ∷ []) ≡ field_of n one_part (λ a p. half_of scales e a p (value_at (joined n one_part (old ∷ [])) a p))
+    → joined n one_part (new ∷ []) ≡ field_of n one_part (half_all scales e n old)
 half_whole scales e n old new whole shaped values =
-    whole_is n (λ a p. half_of scales e a p (value_at (joined n one_part (old ∷ [])) a p)) new (whole_shaped n old new whole shaped) (λ a p w.
+    whole_is n (half_all scales e n old) new (whole_shaped n old new whole shaped) (λ a p w.
     let inner : IsWithin p old.size = subst (λ (s : Triple). IsWithin p s) (sym whole.size) w in
     values a p inner ∙ (λ i. half_of scales e a (whole_outer n old p whole i) (sym (value_at-whole n old a p whole w) i)))
 
 pub half_stop : (phase : Phase) (scales : Scales) (e : Field) (by : Multiplier) (n : Triple) (old : BlockValues) → IsWhole n old
-    → least_fault phase by (lowest old.low) old.size (half_in scales e old)
-    ≡ least_fault phase by origin n (λ a p. half_of scales e a p (value_at (joined n one_part (old ∷ [])) a p))
+    → least_fault phase by (lowest old.low) old.size (half_in scales e old) ≡ least_fault phase by origin n (half_all scales e n old)
 half_stop phase scales e by n old whole =
-    whole_stop phase by n old (half_in scales e old) (λ a p. half_of scales e a p (value_at (joined n one_part (old ∷ [])) a p)) whole
+    whole_stop phase by n old (half_in scales e old) (half_all scales e n old) whole
     (λ a p w. ap (half_of scales e a p) (whole_edge n old a p whole ∙ sym (value_at-whole n old a p whole w)))
 
 -- a step of E, with the current j in a block of all cells, the same
+abbrev pub full_all : Scales → Field → Triple → BlockValues → BlockValues → Axis → Triple → ℤ
+full_all scales b n j old a p =
+    full_of scales b a p (value_at (joined n one_part (old ∷ [])) a p) (value_at (joined n one_part (j ∷ [])) a p)
+
 pub full_whole : (scales : Scales) (b : Field) (n : Triple) (j old new : BlockValues) → IsWhole n old → IsShaped j old → IsShaped new old
     → ((a : Axis) (p : Triple) → IsWithin p old.size → inner_at new a p ≡ full_of scales b a (outer_of old.low p) (inner_at old a p) (inner_at j a p))
-    → joined n one_part (new ∷ [])
-    ≡ field_of n one_part (λ a p. full_of scales b a p (value_at (joined n one_part (old ∷ [])) a p) (value_at (joined n one_part (j ∷ [])) a p))
+    → joined n one_part (new ∷ []) ≡ field_of n one_part (full_all scales b n j old)
 full_whole scales b n j old new whole of_j shaped values =
     let over_j = whole_shaped n old j whole of_j in
-    whole_is n (λ a p. full_of scales b a p (value_at (joined n one_part (old ∷ [])) a p) (value_at (joined n one_part (j ∷ [])) a p)) new (whole_shaped n old new whole shaped) (λ a p w.
+    whole_is n (full_all scales b n j old) new (whole_shaped n old new whole shaped) (λ a p w.
     let inner : IsWithin p old.size = subst (λ (s : Triple). IsWithin p s) (sym whole.size) w in
-    values a p inner
-    ∙ (λ i. full_of scales b a (whole_outer n old p whole i) (sym (value_at-whole n old a p whole w) i) (sym (value_at-whole n j a p over_j w) i)))
+    let of_e = sym (value_at-whole n old a p whole w) in
+    values a p inner ∙ (λ i. full_of scales b a (whole_outer n old p whole i) (of_e i) (sym (value_at-whole n j a p over_j w) i)))
 
 pub full_stop : (scales : Scales) (b : Field) (by : Multiplier) (n : Triple) (j old : BlockValues) → IsWhole n old → IsShaped j old
-    → least_fault Electric by (lowest old.low) old.size (full_in scales b j old)
-    ≡ least_fault Electric by origin n (λ a p. full_of scales b a p (value_at (joined n one_part (old ∷ [])) a p) (value_at (joined n one_part (j ∷ [])) a p))
+    → least_fault Electric by (lowest old.low) old.size (full_in scales b j old) ≡ least_fault Electric by origin n (full_all scales b n j old)
 full_stop scales b by n j old whole of_j =
     let over_j = whole_shaped n old j whole of_j in
-    whole_stop Electric by n old (full_in scales b j old) (λ a p. full_of scales b a p (value_at (joined n one_part (old ∷ [])) a p) (value_at (joined n one_part (j ∷ [])) a p)) whole
-    (λ a p w. λ i. full_of scales b a p ((whole_edge n old a p whole ∙ sym (value_at-whole n old a p whole w)) i) ((whole_edge n j a p over_j ∙ sym (value_at-whole n j a p over_j w)) i))
+    whole_stop Electric by n old (full_in scales b j old) (full_all scales b n j old) whole (λ a p w.
+    let of_e = whole_edge n old a p whole ∙ sym (value_at-whole n old a p whole w) in
+    let of_j = whole_edge n j a p over_j ∙ sym (value_at-whole n j a p over_j w) in
+    λ i. full_of scales b a p (of_e i) (of_j i))
 
 -- force values
 pub force_whole : (by : Multiplier) (from : Field) (n : Triple) (old new : BlockValues) → IsWhole n old → IsShaped new old

@@ -1,3 +1,5 @@
+//! The places of a block in their order.
+
 ghost use Rattle.std.specs.Prelude.{◌≡◌, ◌+◌, ◌*◌, ◌<◌};
 ghost use Rattle.pic_num.specs.Space.{triple, spot, axis_number};
 ghost use Rattle.pic_grid.specs.Parts.{spot_of};
@@ -31,8 +33,9 @@ impl Place {
         requires layers { IsSize (triple size) }
         requires within { IsWithin (triple self.inner) (triple size) }
         ensures within { IsWithin (triple result.inner) (triple size) }
-        ensures number { place_of (triple size) self.axis (triple self.inner) + 1 < 3 * count_of (triple size)
-            → place_of (triple size) result.axis (triple result.inner) ≡ place_of (triple size) self.axis (triple self.inner) + 1 }
+        ensures number { let number = place_of (triple size) self.axis (triple self.inner) in
+            number + 1 < 3 * count_of (triple size)
+            → place_of (triple size) result.axis (triple result.inner) ≡ number + 1 }
     {
         let axis = self.axis;
         let [nx, ny, nz] = size;

@@ -34,5 +34,6 @@ all_zeros most low size = record { at_most = λ a c inside. small_zeros most (3 
 
 pub all_with : (most : ℕ) (b : BlockValues) (a : Axis) (c : Spot) (v : ℤ) → AllAtMost most b → IsAtMost v most → AllAtMost most (with_edge b a c v)
 all_with most b a c v all small = record {
-  at_most = λ f d inside. small_set most b.values (place_of b.size a (inner_of b.low c)) (place_of b.size f (inner_of b.low d)) v small (all.at_most f d inside);
+  at_most = λ f d inside.
+      small_set most b.values (place_of b.size a (inner_of b.low c)) (place_of b.size f (inner_of b.low d)) v small (all.at_most f d inside);
 }

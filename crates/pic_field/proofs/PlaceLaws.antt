@@ -53,7 +53,8 @@ first_place n m a p same layers axis cell =
     let y : 0 < m.y = omega (arith, layers.y_least) in
     let z : 0 < m.z = omega (arith, layers.z_least) in
     let zero : IsWithin (record { x = 0; y = 0; z = 0 }) m = record { x = x; y = y; z = z } in
-    let number : place_of n a p ≡ 0 * count_of n + ((0 * n.y + 0) * n.x + 0) = λ i. axis i * count_of n + (((cell i).z * n.y + (cell i).y) * n.x + (cell i).x) in
+    let number : place_of n a p ≡ 0 * count_of n + ((0 * n.y + 0) * n.x + 0) =
+    λ i. axis i * count_of n + (((cell i).z * n.y + (cell i).y) * n.x + (cell i).x) in
     record {
       within = subst (λ (s : Triple). IsWithin p s) (sym same) (subst (λ (q : Triple). IsWithin q m) (sym cell) zero);
       number = λ h. omega (arith, number);
