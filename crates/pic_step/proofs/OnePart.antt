@@ -15,7 +15,7 @@ use Rattle.pic_grid.specs.Parts.{no_block, ArePartsOf, joined}
 use Rattle.pic_grid.specs.Cells.{IsWithin}
 use Rattle.pic_grid.specs.Block.{BlockValues, IsShaped, IsAmongCells, AllAtMost, inner_at, outer_of}
 use Rattle.pic_field.specs.FieldPhases.{half_of, half_in, full_of, full_in, least_fault, lowest, EachAtMost}
-use Rattle.pic_field.proofs.Whole.{IsWhole, whole_one, whole_block, whole_parts, whole_shaped, whole_among, whole_small, half_whole, half_stop, full_whole, full_stop, force_whole}
+use Rattle.pic_field.proofs.WholeLaws.{IsWhole, whole_one, whole_block, whole_parts, whole_shaped, whole_among, whole_small, half_whole, half_stop, full_whole, full_stop, force_whole}
 use Rattle.pic_step.specs.SerialStep.{origin}
 use Rattle.pic_step.specs.Sound.{one_part}
 

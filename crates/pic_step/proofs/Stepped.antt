@@ -14,7 +14,7 @@ use Rattle.pic_grid.specs.Cells.{IsWithin}
 use Rattle.pic_grid.specs.PushPhase.{Surroundings, push_stop}
 use Rattle.pic_grid.proofs.LatticeLaws.{value_at-field_of, length-values_of, is_field_of}
 use Rattle.pic_field.specs.FieldPhases.{half_of, full_of, least_fault, EachAtMost}
-use Rattle.pic_field.proofs.Whole.{least_fault-same}
+use Rattle.pic_field.proofs.WholeLaws.{least_fault-same}
 use Rattle.pic_step.specs.declared.rooms.Rooms.{Rooms}
 use Rattle.pic_step.specs.PushRoom.{around_fields, IsPushed}
 use Rattle.pic_step.specs.Rooms.{IsRoom, AreRooms}
