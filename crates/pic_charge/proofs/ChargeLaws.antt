@@ -1,13 +1,13 @@
 -- Laws of the charge of the particles.
 use Rattle.std.proofs.Common.{◌≡◌, ℕ, ◌+◌, ◌*◌, ◌^◌, ◌<◌, ◌≤◌, List, [], ◌∷◌, ◌++◌, length, get_or, take, map, All, inl, inr, refl, sym, ◌∙◌, ap, subst, unsigned_abs, arith}
 use Rattle.std.proofs.Math.IntN.{ℤ, pos, ◌+ℤ◌, ◌-ℤ◌, ◌*ℤ◌}
-use Rattle.std.proofs.Math.Nat.{mul-le-mul_left, mul-le-mul_right, le_trans}
 use Rattle.std.proofs.lemmas.Bool.{cases_lt}
 use Rattle.std.proofs.lemmas.Int.{ints, unsigned_abs-mul}
 use Rattle.std.proofs.lemmas.List.{get_or_past}
 use Rattle.pic_num.specs.declared.motion.Particle.{Particle}
 use Rattle.pic_num.specs.declared.motion.Kind.{Kind}
 use Rattle.pic_num.specs.Sizes.{IsAtMost}
+use Rattle.pic_num.proofs.SizeLaws.{times_at_most}
 use Rattle.pic_num.specs.Space.{Triple, triple}
 use Rattle.pic_grid.specs.Hat.{periodic_hat, weight}
 use Rattle.pic_grid.specs.Lattice.{NodeValues, node_at}
@@ -15,9 +15,10 @@ use Rattle.pic_grid.specs.Cells.{IsWithin}
 use Rattle.pic_grid.specs.PushPhase.{kind_of, no_kind}
 use Rattle.pic_grid.specs.Species.{IsKind}
 use Rattle.pic_grid.specs.Sums.{sum_over}
+use Rattle.pic_grid.proofs.HatLaws.{hat_most}
 use Rattle.pic_grid.proofs.OverLaws.{sum_over-append, sum_over_more, sum_over-map, sum_over_less, sum_over_bound}
 use Rattle.pic_charge.specs.Charge.{share, charge_of}
-use Rattle.pic_charge.specs.Spread.{AreAtMost, Adds}
+use Rattle.pic_charge.specs.Spread.{NodesAtMost, Adds}
 
 -- no particles
 pub charge_of-nil : (side : ℕ) (n : Triple) (kinds : List Kind) (node : Triple) → charge_of side n kinds [] node ≡ pos 0
@@ -70,13 +71,6 @@ pub charge_of-is : (side : ℕ) (n : Triple) (kinds : List Kind) (xs : List Part
 unfolding charge_of
 charge_of-is side n kinds xs node = refl
 
-hat_most : (side len p g : ℕ) → periodic_hat side len p g ≤ side
-unfolding periodic_hat
-hat_most side len p g = omega arith
-
-times_at_most : (a b c d : ℕ) → a ≤ b → c ≤ d → a * c ≤ b * d
-times_at_most a b c d h k = le_trans (mul-le-mul_right c h) (mul-le-mul_left b k)
-
 -- a weight is at most the cube of the side
 pub weight_most : (side : ℕ) (n point node : Triple) → weight side n point node ≤ side * side * side
 unfolding weight
@@ -84,8 +78,8 @@ weight_most side n point node =
     let on_x : ℕ = periodic_hat side (n.x * side) point.x (node.x * side) in
     let on_y : ℕ = periodic_hat side (n.y * side) point.y (node.y * side) in
     let on_z : ℕ = periodic_hat side (n.z * side) point.z (node.z * side) in
-    times_at_most (on_x * on_y) (side * side) on_z side
-    (times_at_most on_x side on_y side (hat_most side (n.x * side) point.x (node.x * side)) (hat_most side (n.y * side) point.y (node.y * side)))
+    times_at_most (on_x * on_y) on_z (side * side) side
+    (times_at_most on_x on_y side side (hat_most side (n.x * side) point.x (node.x * side)) (hat_most side (n.y * side) point.y (node.y * side)))
     (hat_most side (n.z * side) point.z (node.z * side))
 
 -- a species' charge is at most 2^15 in size
@@ -108,7 +102,7 @@ share_size side n kinds x node limits =
     let small = kind_of_most kinds x limits in
     let twelve : unsigned_abs (pos 12 *ℤ q) ≤ 12 * 2 ^ 15 = omega (arith, ints, small) in
     rw (unsigned_abs-mul (pos 12 *ℤ q) (pos w))
-    (times_at_most (unsigned_abs (pos 12 *ℤ q)) (12 * 2 ^ 15) w (side * side * side) twelve (weight_most side n (triple x.x) node))
+    (times_at_most (unsigned_abs (pos 12 *ℤ q)) w (12 * 2 ^ 15) (side * side * side) twelve (weight_most side n (triple x.x) node))
 
 -- the charge of a node is at most that for each particle
 pub charge_of_size : (side : ℕ) (n : Triple) (kinds : List Kind) (xs : List Particle) (node : Triple) → All IsKind kinds
@@ -149,7 +143,7 @@ holds_more side n kinds xs i d old new below so_far added = record {
 -- there is room for a particle more
 pub holds_room : (n : Triple) (kinds : List Kind) (xs : List Particle) (nodes : NodeValues) → All IsKind kinds → length xs ≤ 1048576
     → HoldsCharge 4096 n kinds xs nodes
-    → AreAtMost nodes (2 ^ 75)
+    → NodesAtMost nodes (2 ^ 75)
 holds_room n kinds xs nodes limits few holds = record {
   at_node = λ p within.
       let inside : IsWithin p n = subst (λ (m : Triple). IsWithin p m) holds.cells within in

@@ -6,10 +6,12 @@ use Rattle.std.proofs.lemmas.Bool.Decides.{nat_tests}
 use Rattle.std.proofs.lemmas.Int.{ints}
 use Rattle.std.proofs.lemmas.List.{get_or-set_other}
 use Rattle.pic_num.specs.Space.{Triple}
+use Rattle.pic_num.proofs.ProductLaws.{*ℤ-one, *ℤ-zero}
 use Rattle.pic_grid.specs.Lattice.{NodeValues, node_at, with_node}
 use Rattle.pic_grid.specs.Cells.{IsWithin, count_of, index_of}
 use Rattle.pic_grid.proofs.CellLaws.{index_of_below, index_of_same, cells_more}
-use Rattle.pic_charge.specs.Spread.{only_at, spread, Adds}
+use Rattle.pic_grid.specs.Hat.{only_at}
+use Rattle.pic_charge.specs.Spread.{spread, Adds}
 
 -- every other node stays
 pub node_at-other : (f : NodeValues) (p : Triple) (v : ℤ) (q : Triple) → index_of f.cells q ≢ index_of f.cells p
@@ -26,10 +28,7 @@ only_elsewhere i j differ = grind (arith, nat_tests)
 here_is : (q : Triple) (amount : ℤ) → spread amount (only_at q.x 1) (only_at q.y 1) (only_at q.z 1) q ≡ amount
 unfolding spread
 here_is q amount =
-    (λ i. amount *ℤ pos (only_here q.x q.x refl i * only_here q.y q.y refl i * only_here q.z q.z refl i)) ∙ times_one amount
-  where
-    times_one : (a : ℤ) → a *ℤ pos 1 ≡ a
-    times_one a = omega (arith, ints)
+    (λ i. amount *ℤ pos (only_here q.x q.x refl i * only_here q.y q.y refl i * only_here q.z q.z refl i)) ∙ *ℤ-one amount
 
 elsewhere_is : (q p : Triple) (amount : ℤ) → (p ≡ q → ⊥) → spread amount (only_at q.x 1) (only_at q.y 1) (only_at q.z 1) p ≡ pos 0
 unfolding spread
@@ -45,10 +44,7 @@ elsewhere_is q p amount differ = elim (cases_eq p.x q.x) [
 ]
   where
     none : (a b c : ℕ) → a * b * c ≡ 0 → amount *ℤ pos (a * b * c) ≡ pos 0
-    none a b c is = ap (λ (t : ℕ). amount *ℤ pos t) is ∙ times_none amount
-      where
-        times_none : (a : ℤ) → a *ℤ pos 0 ≡ pos 0
-        times_none a = omega (arith, ints)
+    none a b c is = ap (λ (t : ℕ). amount *ℤ pos t) is ∙ *ℤ-zero amount
 
     zero_first : (a b c : ℕ) → a ≡ 0 → a * b * c ≡ 0
     zero_first a b c is = ap (λ (t : ℕ). t * b * c) is ∙ omega arith

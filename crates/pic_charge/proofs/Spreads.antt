@@ -1,17 +1,19 @@
 -- What the layers of the sharing of a charge add.
 use Rattle.std.proofs.Common.{◌≡◌, ℕ, ◌+◌, ◌*◌, ◌^◌, ◌≤◌, cond, eqb, true, false, [], ◌∷◌, sym, ◌∙◌, ap, subst, unsigned_abs, arith}
 use Rattle.std.proofs.Math.IntN.{ℤ, pos, ◌+ℤ◌, ◌*ℤ◌}
-use Rattle.std.proofs.Math.Nat.{mul-le-mul_left, mul-le-mul_right, le_trans}
 use Rattle.std.proofs.lemmas.Int.{ints, to_z-of_z, unsigned_abs-mul, fits_signed_from_abs}
 use mir.Syntax.{w128}
 use mir.Val.{to_z, of_z}
 use Rattle.pic_num.proofs.Ring.{ring, reads}
+use Rattle.pic_num.proofs.SizeLaws.{times_at_most}
 use Rattle.pic_num.specs.Sizes.{IsAtMost}
 use Rattle.pic_num.specs.Space.{Triple}
 use Rattle.pic_grid.specs.Lattice.{NodeValues, node_at}
 use Rattle.pic_grid.specs.Cells.{IsWithin}
-use Rattle.pic_charge.specs.declared.pairs.Pair.{Pair}
-use Rattle.pic_charge.specs.Spread.{only_at, weight_in, spread, IsPair, AreAtMost, Adds}
+use Rattle.pic_grid.specs.declared.pair.Pair.{Pair}
+use Rattle.pic_grid.specs.Hat.{only_at}
+use Rattle.pic_grid.specs.Pair.{weight_in, IsPair}
+use Rattle.pic_charge.specs.Spread.{spread, NodesAtMost, Adds}
 
 -- a lone value is a multiple of a lone 1
 only_is : (i v j : ℕ) → only_at i v j ≡ v * only_at i 1 j
@@ -62,17 +64,14 @@ box_sum a s f g p =
     two_z a s.low_weight s.high_weight (only_at s.low 1 p.z) (only_at s.high 1 p.z) (f p.x) (g p.y)
     ∙ ap (λ (t : ℕ). a *ℤ pos (f p.x * g p.y * t)) (weight_in_is s p.z)
 
-times_at_most : (a b c d : ℕ) → a ≤ b → c ≤ d → a * c ≤ b * d
-times_at_most a b c d h k = le_trans (mul-le-mul_right c h) (mul-le-mul_left b k)
-
 -- how much is added at most to a node
 pub spread_size : (a : ℤ) (f g h : ℕ → ℕ) (p : Triple) (m u v w : ℕ) → IsAtMost a m → f p.x ≤ u → g p.y ≤ v → h p.z ≤ w
     → unsigned_abs (spread a f g h p) ≤ m * (u * v * w)
 unfolding spread
 spread_size a f g h p m u v w size x y z =
     rw (unsigned_abs-mul a (pos (f p.x * g p.y * h p.z)))
-    (times_at_most (unsigned_abs a) m (f p.x * g p.y * h p.z) (u * v * w) size.size
-    (times_at_most (f p.x * g p.y) (u * v) (h p.z) w (times_at_most (f p.x) u (g p.y) v x y) z))
+    (times_at_most (unsigned_abs a) (f p.x * g p.y * h p.z) m (u * v * w) size.size
+    (times_at_most (f p.x * g p.y) (h p.z) (u * v) w (times_at_most (f p.x) (g p.y) u v x y) z))
 
 -- two additions in a row
 pub adds_both : (a b c : NodeValues) (f g h : Triple → ℤ) → Adds a b f → Adds b c g → ((p : Triple) → f p +ℤ g p ≡ h p) → Adds a c h
@@ -93,8 +92,8 @@ adds_same a b f g first same = record {
 }
 
 -- the room after an addition
-pub room_after : (a b : NodeValues) (f : Triple → ℤ) (m k big : ℕ) → AreAtMost a m → Adds a b f → ((p : Triple) → unsigned_abs (f p) ≤ k) → m + k ≤ big
-    → AreAtMost b big
+pub room_after : (a b : NodeValues) (f : Triple → ℤ) (m k big : ℕ) → NodesAtMost a m → Adds a b f → ((p : Triple) → unsigned_abs (f p) ≤ k) → m + k ≤ big
+    → NodesAtMost b big
 room_after a b f m k big small first added room = record {
   at_node = λ p within.
       let inside : IsWithin p a.cells = subst (λ (n : Triple). IsWithin p n) first.cells within in
@@ -104,7 +103,7 @@ room_after a b f m k big small first added room = record {
 }
 
 -- nodes that are small are at most anything larger
-pub still_at_most : (nodes : NodeValues) (m k : ℕ) → AreAtMost nodes m → m ≤ k → AreAtMost nodes k
+pub still_at_most : (nodes : NodeValues) (m k : ℕ) → NodesAtMost nodes m → m ≤ k → NodesAtMost nodes k
 still_at_most nodes m k small more = record {
   at_node = λ p within. let size = (small.at_node p within).size in record { size = omega (arith, size, more) };
 }
@@ -123,7 +122,7 @@ part_is amount r weight most small low is =
 pub part_size : (amount r : ℤ) (weight most : ℕ) → r ≡ amount *ℤ pos weight → IsAtMost amount most → weight ≤ 4096 → IsAtMost r (most * 4096)
 part_size amount r weight most is small low = record {
   size = subst (λ (z : ℤ). unsigned_abs z ≤ most * 4096) (sym is)
-      (rw (unsigned_abs-mul amount (pos weight)) (times_at_most (unsigned_abs amount) most weight 4096 small.size low));
+      (rw (unsigned_abs-mul amount (pos weight)) (times_at_most (unsigned_abs amount) weight most 4096 small.size low));
 }
 
 -- two parts that are added one after the other, on each axis

@@ -5,11 +5,10 @@ ghost use Rattle.pic_grid.specs.Lattice.{node_at};
 ghost use Rattle.pic_grid.specs.Cells.{IsWithin};
 ghost use Rattle.pic_grid.specs.Species.{IsKind};
 ghost use Rattle.pic_charge.specs.Charge.{share, charge_of, CanShare};
-ghost use Rattle.pic_charge.specs.Spread.{AreAtMost, Adds};
+ghost use Rattle.pic_charge.specs.Spread.{NodesAtMost, Adds};
 
-use crate::pairs::pair_of;
 use crate::spreading::add_box;
-use pic_grid::{Cells, Nodes};
+use pic_grid::{Cells, Nodes, Pair};
 use pic_num::{Kind, Particle};
 
 /// Makes the nodes the charge of the particles, in 12 times the charge's unit times the cube of the
@@ -47,14 +46,17 @@ fn add_particle(cells: Cells, kinds: &[Kind], particle: &Particle, to: &mut Node
     requires same_cells { to.old.cells ≡ cells }
     requires limits { All IsKind kinds.now }
     requires placed { CanShare 4096 cells kinds.now particle.now }
-    requires room { AreAtMost to.old (2 ^ 87) }
+    requires room { NodesAtMost to.old (2 ^ 87) }
     ensures { Adds to.old to.new (share 4096 cells kinds.now particle.now) }
 {
     let kind = kinds[particle.species as usize];
     let [nx, ny, nz] = cells.n;
     let [x, y, z] = particle.x;
     let amount = twelvefold(kind.charge);
-    add_box(to, pair_of(nx, x), pair_of(ny, y), pair_of(nz, z), amount);
+    let on_x = Pair::of_nodes(nx, x);
+    let on_y = Pair::of_nodes(ny, y);
+    let on_z = Pair::of_nodes(nz, z);
+    add_box(to, on_x, on_y, on_z, amount);
 }
 
 /// 12 times a charge.

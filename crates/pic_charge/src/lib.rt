@@ -4,7 +4,6 @@
 mod breaks;
 mod charges;
 mod laws;
-mod pairs;
 mod spreading;
 #[cfg(test)]
 mod tests;

@@ -1,16 +1,17 @@
 ghost use Rattle.std.specs.Prelude.{◌≡◌, pos, ◌^◌, ◌<◌, ◌≤◌, ◌*ℤ◌};
 ghost use Rattle.pic_num.specs.Sizes.{IsAtMost};
-ghost use Rattle.pic_charge.specs.Spread.{only_at, weight_in, spread, IsPair, AreAtMost, Adds};
+ghost use Rattle.pic_grid.specs.Hat.{only_at};
+ghost use Rattle.pic_grid.specs.Pair.{weight_in, IsPair};
+ghost use Rattle.pic_charge.specs.Spread.{spread, NodesAtMost, Adds};
 
-use crate::pairs::Pair;
-use pic_grid::Nodes;
+use pic_grid::{Nodes, Pair};
 
 /// Adds an amount to one node.
 fn add(to: &mut Nodes, x: u32, y: u32, z: u32, amount: i128)
     requires x { x < to.old.cells.x }
     requires y { y < to.old.cells.y }
     requires z { z < to.old.cells.z }
-    requires room { AreAtMost to.old (2 ^ 90) }
+    requires room { NodesAtMost to.old (2 ^ 90) }
     requires size { IsAtMost amount (2 ^ 55) }
     ensures { Adds to.old to.new (spread amount (only_at x 1) (only_at y 1) (only_at z 1)) }
 {
@@ -24,7 +25,7 @@ fn add_line(to: &mut Nodes, x: Pair, y: u32, z: u32, amount: i128)
     requires x { IsPair 4096 to.old.cells.x x }
     requires y { y < to.old.cells.y }
     requires z { z < to.old.cells.z }
-    requires room { AreAtMost to.old (2 ^ 89) }
+    requires room { NodesAtMost to.old (2 ^ 89) }
     requires size { IsAtMost amount (2 ^ 43) }
     ensures { Adds to.old to.new (spread amount (weight_in x) (only_at y 1) (only_at z 1)) }
 {
@@ -37,7 +38,7 @@ fn add_plane(to: &mut Nodes, x: Pair, y: Pair, z: u32, amount: i128)
     requires x { IsPair 4096 to.old.cells.x x }
     requires y { IsPair 4096 to.old.cells.y y }
     requires z { z < to.old.cells.z }
-    requires room { AreAtMost to.old (2 ^ 88) }
+    requires room { NodesAtMost to.old (2 ^ 88) }
     requires size { IsAtMost amount (2 ^ 31) }
     ensures { Adds to.old to.new (spread amount (weight_in x) (weight_in y) (only_at z 1)) }
 {
@@ -50,7 +51,7 @@ pub(crate) fn add_box(to: &mut Nodes, x: Pair, y: Pair, z: Pair, amount: i128)
     requires x { IsPair 4096 to.old.cells.x x }
     requires y { IsPair 4096 to.old.cells.y y }
     requires z { IsPair 4096 to.old.cells.z z }
-    requires room { AreAtMost to.old (2 ^ 87) }
+    requires room { NodesAtMost to.old (2 ^ 87) }
     requires size { IsAtMost amount (2 ^ 19) }
     ensures { Adds to.old to.new (spread amount (weight_in x) (weight_in y) (weight_in z)) }
 {

@@ -5,7 +5,8 @@ use Rattle.std.proofs.lemmas.Bool.{cases_lt}
 use Rattle.pic_num.proofs.ProductLaws.{*ℤ-zero, zero-*ℤ}
 use Rattle.pic_num.proofs.Ring.{ring, reads}
 use Rattle.pic_grid.specs.Sums.{sum_below}
-use Rattle.pic_grid.proofs.HatLaws.{only_at, only_below, only_above, sum_only}
+use Rattle.pic_grid.specs.Hat.{only_at}
+use Rattle.pic_grid.proofs.HatLaws.{only_below, only_above, sum_only}
 use Rattle.pic_grid.proofs.SumLaws.{sum_plus, sum_times}
 
 -- the term of a cell, where one cell has a weight

@@ -1,24 +1,14 @@
 -- Force values, and their sums over the places of a component under the weights of three pairs.
 use Rattle.std.specs.Prelude.{ℤ, pos, ℕ, ◌^◌, ◌*ℤ◌}
 use Rattle.pic_num.specs.declared.axis.Axis.{Axis}
-use Rattle.pic_num.specs.Sizes.{IsAtMost}
-use Rattle.pic_num.specs.Space.{Triple, Spot}
-use Rattle.pic_grid.specs.Lattice.{Field, value_at}
-use Rattle.pic_grid.specs.Cells.{IsWithin}
+use Rattle.pic_grid.specs.Lattice.{Field, value_at, EachAtMost}
 use Rattle.pic_grid.specs.Sums.{sum_below}
 use Rattle.pic_gather.specs.declared.pairing.Pair.{Pair}
 use Rattle.pic_gather.specs.Pairs.{share}
 
--- every value of a lattice within its cells is at most 2^44 in size: this project's bound of a force
--- value
-pub record AreForces (f : Field) : Type 0 where
-  pub at_most : (a : Axis) (p : Triple) → IsWithin p f.cells → IsAtMost (value_at f a p) (2 ^ 44)
-
--- each component of a gathered force is at most n in size
-pub record AreAtMost (p : Spot) (n : ℕ) : Type 0 where
-  pub x : IsAtMost p.x n
-  pub y : IsAtMost p.y n
-  pub z : IsAtMost p.z n
+-- every value of a lattice is at most 2^44 in size: this project's bound of a force value
+abbrev pub AreForces : Field → Type 0
+AreForces = EachAtMost (2 ^ 44)
 
 -- the weighted sum along a row of places
 unfoldable pub row_sum : Field → Axis → Pair → ℕ → ℕ → ℤ

@@ -1,9 +1,9 @@
 ghost use Rattle.std.specs.Prelude.{◌≡◌, ◌^◌};
-ghost use Rattle.pic_num.specs.Space.{triple, spot};
+ghost use Rattle.pic_num.specs.Space.{triple, spot, AreAtMost};
 ghost use Rattle.pic_grid.specs.Lattice.{value_at};
 ghost use Rattle.pic_grid.specs.Gather.{gathered_e, gathered_b};
 ghost use Rattle.pic_grid.specs.Hat.{IsInBox};
-ghost use Rattle.pic_gather.specs.Forces.{AreForces, AreAtMost};
+ghost use Rattle.pic_gather.specs.Forces.{AreForces};
 
 use crate::mixing::component;
 use crate::pairing::{node_pairs, shifted_pairs};

@@ -1,11 +1,12 @@
--- Reads of a block after a write.
-use Rattle.std.proofs.Common.{◌≡◌, ◌≢◌, ℕ, ℤ, pos, ◌*◌, ◌<◌, ◌+ℤ◌, ◌-ℤ◌, ◌≤ℤ◌, ◌<ℤ◌, length, unsigned_abs, ap, arith}
+-- Reads of a block after a write, and blocks of one zone.
+use Rattle.std.proofs.Common.{◌≡◌, ◌≢◌, ℕ, ℤ, pos, ◌*◌, ◌<◌, ◌+ℤ◌, ◌-ℤ◌, ◌≤ℤ◌, ◌<ℤ◌, length, unsigned_abs, ◌≤◌, ◌∙◌, subst, ap, arith}
 use Rattle.std.proofs.lemmas.Int.{ints}
 use Rattle.std.proofs.lemmas.List.{get_or-set_same, get_or-set_other}
 use Rattle.pic_num.specs.declared.axis.Axis.{Axis}
 use Rattle.pic_num.specs.Space.{Triple, Spot}
 use Rattle.pic_grid.specs.Cells.{IsWithin, count_of, place_of}
-use Rattle.pic_grid.specs.Block.{BlockValues, InZone, inner_of, edge_at, with_edge}
+use Rattle.pic_grid.specs.Block.{BlockValues, InZone, inner_of, edge_at, with_edge, IsShaped, AllAtMost}
+use Rattle.pic_num.proofs.SizeLaws.{at_most_more}
 use Rattle.pic_grid.proofs.CellLaws.{place_of_below, place_of_same}
 
 above_below : (low c : ℤ) (size : ℕ) → low ≤ℤ c → c <ℤ (low +ℤ pos size) → unsigned_abs (c -ℤ low) < size
@@ -49,3 +50,16 @@ pub edge_at-other : (b : BlockValues) (a : Axis) (c : Spot) (v : ℤ) (f : Axis)
     → place_of b.size f (inner_of b.low d) ≢ place_of b.size a (inner_of b.low c) → edge_at (with_edge b a c v) f d ≡ edge_at b f d
 edge_at-other b a c v f d other =
     get_or-set_other b.values (place_of b.size a (inner_of b.low c)) (place_of b.size f (inner_of b.low d)) v (pos 0) other
+
+-- blocks of one zone have the same cells,
+pub in_zone_shaped : (b c : BlockValues) (p : Spot) → IsShaped b c → InZone b.low b.size p → InZone c.low c.size p
+in_zone_shaped b c p shaped inside =
+    subst (λ (n : Triple). InZone c.low n p) shaped.size (subst (λ (l : Spot). InZone l b.size p) shaped.low inside)
+
+-- and so has a block of the second's zone
+pub shaped_twice : (a b c : BlockValues) → IsShaped a b → IsShaped b c → IsShaped a c
+shaped_twice a b c first second = record { low = first.low ∙ second.low; size = first.size ∙ second.size }
+
+-- a bound of a block's values, made wider
+pub all_at_most_more : (b : BlockValues) (m n : ℕ) → m ≤ n → AllAtMost m b → AllAtMost n b
+all_at_most_more b m n more small = record { at_most = λ a c inside. at_most_more (edge_at b a c) m n more (small.at_most a c inside) }

@@ -5,6 +5,7 @@ use Rattle.std.proofs.lemmas.Nat.{mul-add-lt, same_from_place, div-mul-add, mod-
 use Rattle.pic_num.specs.declared.axis.Axis.{Axis}
 use Rattle.pic_num.specs.declared.axis.Axis.TheVariants.{X, Y, Z}
 use Rattle.pic_num.specs.Space.{Triple, axis_number}
+use Rattle.pic_num.proofs.AxisLaws.{axis_below, same_axis_number}
 use Rattle.pic_grid.specs.Cells.{IsWithin, count_of, index_of, cell_of, axis_of, place_of}
 
 pub index_of_below : (n p : Triple) → IsWithin p n → index_of n p < count_of n
@@ -13,11 +14,6 @@ index_of_below n p h =
     let row : p.z * n.y + p.y < n.y * n.z = mul-add-lt p.z n.y p.y n.z h.z h.y in
     let all : (p.z * n.y + p.y) * n.x + p.x < n.x * (n.y * n.z) = mul-add-lt (p.z * n.y + p.y) n.x p.x (n.y * n.z) row h.x in
     omega arith
-
-axis_below : (a : Axis) → axis_number a < 3
-axis_below X = omega arith
-axis_below Y = omega arith
-axis_below Z = omega arith
 
 pub place_of_below : (n : Triple) (a : Axis) (p : Triple) → IsWithin p n → place_of n a p < 3 * count_of n
 unfolding place_of
@@ -32,17 +28,6 @@ index_of_same n p q h k e =
     let outer = same_from_place (p.z * n.y + p.y) p.x (q.z * n.y + q.y) q.x n.x h.x k.x e in
     let inner = same_from_place p.z p.y q.z q.y n.y h.y k.y outer.0 in
     λ i. record { x = outer.1 i; y = inner.1 i; z = inner.0 i }
-
-same_axis_number : (a b : Axis) → axis_number a ≡ axis_number b → a ≡ b
-same_axis_number X X e = refl
-same_axis_number Y Y e = refl
-same_axis_number Z Z e = refl
-same_axis_number X Y e = absurd (omega arith)
-same_axis_number X Z e = absurd (omega arith)
-same_axis_number Y X e = absurd (omega arith)
-same_axis_number Y Z e = absurd (omega arith)
-same_axis_number Z X e = absurd (omega arith)
-same_axis_number Z Y e = absurd (omega arith)
 
 -- equal numbers have one axis and one cell
 pub place_of_same : (n : Triple) (a : Axis) (p : Triple) (b : Axis) (q : Triple) → IsWithin p n → IsWithin q n
@@ -79,7 +64,7 @@ cell_of_within n i h =
     let z : i / n.x / n.y < n.z = div_below (i / n.x) n.y n.z y (omega arith) in
     record { x = mod_below i n.x x; y = mod_below (i / n.x) n.y y; z = z }
 
-axis_of-number : (a : Axis) → axis_of (axis_number a) ≡ a
+pub axis_of-number : (a : Axis) → axis_of (axis_number a) ≡ a
 axis_of-number X = refl
 axis_of-number Y = refl
 axis_of-number Z = refl
@@ -96,7 +81,7 @@ unfolding place_of
 cell_of-place_of n a p h =
     ap (cell_of n) (mod-mul-add (axis_number a) (count_of n) (index_of n p) (index_of_below n p h)) ∙ cell_of-index_of n p h
 
-axis_number-of : (i : ℕ) → i < 3 → axis_number (axis_of i) ≡ i
+pub axis_number-of : (i : ℕ) → i < 3 → axis_number (axis_of i) ≡ i
 axis_number-of zero h = refl
 axis_number-of (suc zero) h = refl
 axis_number-of (suc (suc zero)) h = refl

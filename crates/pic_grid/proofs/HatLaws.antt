@@ -1,20 +1,15 @@
 -- The weights of a point on a periodic axis: two of them are above 0, those of the two nodes next to
 -- it, and they add up to the side of a cell.
-use Rattle.std.proofs.Common.{◌≡◌, ℕ, zero, suc, ◌+◌, ◌-◌, ◌*◌, ◌/◌, ◌%◌, ◌<◌, ◌≤◌, ◌==◌, ◌⊎◌, ◌∙◌, ap, sym, refl, inl, inr, arith}
+use Rattle.std.proofs.Common.{◌≡◌, ℕ, zero, suc, ◌+◌, ◌-◌, ◌*◌, ◌/◌, ◌%◌, ◌<◌, ◌≤◌, ◌⊎◌, ◌∙◌, ap, sym, refl, inl, inr, arith}
 use Rattle.std.proofs.Math.IntN.{pos, ◌+ℤ◌}
 use Rattle.std.proofs.Math.Nat.{mul-le-mul_right, mod_self, mod-eq_of_lt}
 use Rattle.std.proofs.lemmas.Bool.{cases_lt}
 use Rattle.std.proofs.lemmas.Bool.Decides.{nat_tests}
 use Rattle.std.proofs.lemmas.Int.{ints}
 use Rattle.std.proofs.lemmas.Nat.{mod_below, div_below, div-add-mod'}
-use Rattle.std.specs.Prelude.{if◌then◌else◌}
-use Rattle.pic_grid.specs.Hat.{periodic_hat}
+use Rattle.pic_grid.specs.Hat.{periodic_hat, only_at}
 use Rattle.pic_grid.specs.Sums.{sum_below}
 use Rattle.pic_grid.proofs.SumLaws.{sum_same, sum_plus}
-
--- v at the number i, and 0 elsewhere
-abbrev pub only_at : ℕ → ℕ → ℕ → ℕ
-only_at i v j = if j == i then v else 0
 
 pub only_same : (i v j : ℕ) → j ≡ i → only_at i v j ≡ v
 only_same i v j is = grind (arith, nat_tests)
@@ -46,6 +41,11 @@ sum_only (suc n) i v below = go (sum_only n i v) (cases_lt i n)
     go before_is (inr not_less) =
         let before = sum_before n i v not_less in
         let here = only_same i v n (omega (arith, below, not_less)) in omega (arith, ints, before, here)
+
+-- a weight is at most the side of a cell
+pub hat_most : (side len p g : ℕ) → periodic_hat side len p g ≤ side
+unfolding periodic_hat
+hat_most side len p g = omega arith
 
 -- The weight of a point p = a + r, with r below the side s, on an axis of length c, where a is the
 -- coordinate of the node below the point.
@@ -88,7 +88,7 @@ times_two : (s i j : ℕ) → i + 2 ≤ j → i * s + s + s ≤ j * s
 times_two s i j more = let h = mul-le-mul_right s more in omega (arith, h)
 
 -- an axis of at least two cells is at least two sides long
-two_sides : (s n : ℕ) → 2 ≤ n → s + s ≤ n * s
+pub two_sides : (s n : ℕ) → 2 ≤ n → s + s ≤ n * s
 two_sides s n two = let h = mul-le-mul_right s two in omega (arith, h)
 
 -- the weights of a point that isn't in the last cell

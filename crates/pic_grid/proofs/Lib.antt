@@ -6,6 +6,7 @@ pub mod DifferenceLaws
 pub mod SumLaws
 pub mod OverLaws
 pub mod HatLaws
+pub mod PathLaws
 pub mod TwoHatLaws
 pub mod SlowSums
 pub mod WeightLaws

@@ -1,11 +1,10 @@
 -- A sum that a loop adds up part by part.
 use Rattle.std.proofs.Common.{◌≡◌, ℕ, ◌+◌, ◌*◌, ◌<◌, ◌≤◌, ◌^◌, ap, subst, sym, refl, ◌∙◌, arith}
 use Rattle.std.proofs.Math.IntN.{ℤ, pos, ◌+ℤ◌, ◌*ℤ◌}
-use Rattle.std.proofs.Math.Nat.{le_trans, mul-le-mul_left, mul-le-mul_right}
 use Rattle.std.proofs.lemmas.Int.{ints, to_z-of_z, fits_signed_from_abs}
 use mir.Syntax.{w128}
 use mir.Val.{SFits, to_z, of_z}
-use Rattle.pic_num.proofs.SizeLaws.{code_is, codes}
+use Rattle.pic_num.proofs.SizeLaws.{code_is, codes, times_at_most}
 use Rattle.pic_num.specs.Sizes.{IsAtMost}
 use Rattle.pic_grid.specs.Sums.{sum_below}
 use Rattle.pic_grid.proofs.SumLaws.{sum_below_more, cube_is}
@@ -38,14 +37,11 @@ one_more f n most total part so_far is small few low =
     let size = both.size.size in
     let part_size = small.size in
     let part_fits : SFits w128 part = fits_signed_from_abs w128 part (omega (arith, part_size, low)) in
-    let room : (n + 1) * most ≤ 64 * 2 ^ 98 = times_at_most (n + 1) 64 most (2 ^ 98) (omega (arith, few)) low in
+    let room : (n + 1) * most ≤ 64 * 2 ^ 98 = times_at_most (n + 1) most 64 (2 ^ 98) (omega (arith, few)) low in
     let fits : SFits w128 (total +ℤ part) = fits_signed_from_abs w128 (total +ℤ part) (omega (arith, size, room)) in
     let plain : to_z w128 (of_z w128 (total +ℤ to_z w128 (of_z w128 part))) ≡ total +ℤ part =
     ap (λ (t : ℤ). to_z w128 (of_z w128 (total +ℤ t))) (to_z-of_z w128 part part_fits) ∙ to_z-of_z w128 (total +ℤ part) fits in
     subst (IsSumOf f (n + 1) most) (sym plain) both
-  where
-    times_at_most : (a b c d : ℕ) → a ≤ b → c ≤ d → a * c ≤ b * d
-    times_at_most a b c d h k = le_trans (mul-le-mul_right c h) (mul-le-mul_left b k)
 
 -- the cube of a side, as the code multiplies it
 pub cube : (s : ℕ) (x : ℤ) → x ≡ pos s → s ≤ 2 ^ 14

@@ -5,6 +5,7 @@ use Rattle.std.proofs.Math.IntN.{ℤ, pos, ◌*ℤ◌}
 use Rattle.std.proofs.Math.Nat.{one-le-pow}
 use Rattle.std.proofs.lemmas.Bool.{cases_lt}
 use Rattle.std.proofs.lemmas.Int.{ints}
+use Rattle.pic_num.proofs.ProductLaws.{one-*ℤ}
 use Rattle.pic_num.proofs.Ring.{ring, reads}
 use Rattle.pic_num.proofs.RoundingLaws.{rounded-whole}
 use Rattle.pic_num.specs.Rounding.{rounded}
@@ -103,13 +104,10 @@ weights_add_up side n point some two inside =
     *ℤ (hats_add_up side n.x point.x some two.x inside.x i *ℤ pos 1)))
     ∙ cubed side (pos 1)
     ∙ ap (λ (t : ℕ). pos 1 *ℤ pos t) (cube_is side)
-    ∙ once (pos (side ^ 3))
+    ∙ one-*ℤ (pos (side ^ 3))
   where
-    once : (z : ℤ) → pos 1 *ℤ z ≡ z
-    once z = omega (arith, ints)
-
     one : (p : Triple) → pos (weight side n point p) ≡ pos 1 *ℤ pos (weight side n point p)
-    one p = sym (once (pos (weight side n point p)))
+    one p = sym (one-*ℤ (pos (weight side n point p)))
 
 pub constant_is_gathered : (side : ℕ) (n offset point : Triple) (value : ℤ)
     → 0 < side → HasTwo n → IsOffset side offset → IsInBox side n point

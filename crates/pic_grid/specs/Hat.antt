@@ -1,6 +1,6 @@
 -- Linear weights by distance (first order, "cloud in cell": Birdsall and Langdon, "Plasma Physics
 -- via Computer Simulation"): the side of a cell less the distance, where that is above 0.
-use Rattle.std.specs.Prelude.{◌≡◌, ℤ, pos, ℕ, ◌+◌, ◌-◌, ◌*◌, ◌^◌, ◌<◌, ◌≤◌, min, unsigned_abs, ◌-ℤ◌}
+use Rattle.std.specs.Prelude.{◌≡◌, ℤ, pos, ℕ, ◌+◌, ◌-◌, ◌*◌, ◌^◌, ◌<◌, ◌≤◌, ◌==◌, if◌then◌else◌, min, unsigned_abs, ◌-ℤ◌}
 use Rattle.pic_num.specs.Space.{Triple}
 use Rattle.pic_grid.specs.Sums.{sum_below, sum_cells}
 
@@ -15,6 +15,10 @@ gap p g = (p - g) + (g - p)
 -- the same weight on a periodic axis of length len, by the shorter way round
 unfoldable pub periodic_hat : ℕ → ℕ → ℕ → ℕ → ℕ
 periodic_hat side len p g = side - min (gap p g) (len - gap p g)
+
+-- v at the number i, and 0 elsewhere
+abbrev pub only_at : ℕ → ℕ → ℕ → ℕ
+only_at i v j = if j == i then v else 0
 
 -- the weight of a point for a node of a grid of n cells: the product over the three axes
 unfoldable pub weight : ℕ → Triple → Triple → Triple → ℕ

@@ -1,8 +1,9 @@
-use Rattle.std.specs.Prelude.{◌≡◌, ℤ, pos, ◌*◌, ◌/◌, ◌%◌, ◌≤◌, List, map, slice_index_or, slice_set}
+use Rattle.std.specs.Prelude.{◌≡◌, ℤ, pos, ℕ, ◌*◌, ◌/◌, ◌%◌, ◌≤◌, List, map, slice_index_or, slice_set}
 use Rattle.std.specs.List.{range_with_len}
 use Rattle.pic_num.specs.declared.axis.Axis.{Axis}
+use Rattle.pic_num.specs.Sizes.{IsAtMost}
 use Rattle.pic_num.specs.Space.{Triple}
-use Rattle.pic_grid.specs.Cells.{count_of, index_of, cell_of, axis_of, place_of}
+use Rattle.pic_grid.specs.Cells.{IsWithin, count_of, index_of, cell_of, axis_of, place_of}
 
 -- a lattice: its numbers of cells and of parts, and its 3N values in the order of places
 pub record Field : Type 0 where
@@ -22,6 +23,10 @@ pub record IsParts (n parts : Triple) : Type 0 where
 -- the component on an axis at a cell
 abbrev pub value_at : Field → Axis → Triple → ℤ
 value_at f a p = slice_index_or f.values (place_of f.cells a p) (pos 0)
+
+-- every value of a lattice is at most most in size
+pub record EachAtMost (most : ℕ) (f : Field) : Type 0 where
+  pub at_most : (a : Axis) (p : Triple) → IsWithin p f.cells → IsAtMost (value_at f a p) most
 
 -- the lattice with that component changed
 abbrev pub with_value : Field → Axis → Triple → ℤ → Field

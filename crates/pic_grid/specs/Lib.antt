@@ -8,6 +8,7 @@ pub mod Parts
 pub mod Differences
 pub mod Sums
 pub mod Hat
+pub mod Pair
 pub mod Gather
 pub mod Path
 pub mod Flux

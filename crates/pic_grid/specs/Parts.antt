@@ -10,6 +10,13 @@ use Rattle.pic_grid.specs.Block.{BlockValues, edge_at}
 abbrev pub spot_of : Triple → Spot
 spot_of p = record { x = pos p.x; y = pos p.y; z = pos p.z }
 
+-- one part on each axis, and the lowest cell of the grid
+abbrev pub one_part : Triple
+one_part = record { x = 1; y = 1; z = 1 }
+
+abbrev pub origin : Triple
+origin = record { x = 0; y = 0; z = 0 }
+
 -- the layers of each part of n cells
 abbrev pub part_size : Triple → Triple → Triple
 part_size n parts = record { x = n.x / parts.x; y = n.y / parts.y; z = n.z / parts.z }

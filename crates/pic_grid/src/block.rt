@@ -1,7 +1,7 @@
 ghost use Rattle.std.specs.Prelude.{◌≡◌, ◌↔◌, ℕ, ℤ, pos, ◌*◌, ◌<◌, ◌+ℤ◌, ◌-ℤ◌, ◌≤ℤ◌, ◌<ℤ◌, length, replicate, unsigned_abs, FitsSigned, IsTrue, IfOk};
 ghost use Rattle.std.specs.Int.{w128};
 ghost use Rattle.pic_num.specs.Space.{triple, spot};
-ghost use Rattle.pic_grid.specs.Cells.{IsWithin, count_of, place_of};
+ghost use Rattle.pic_grid.specs.Cells.{IsSize, IsWithin, count_of, place_of};
 ghost use Rattle.pic_grid.specs.Block.{BlockValues, IsZone, InZone, inner_of, edge_at, with_edge};
 
 use crate::places::{count_in, place_in};
@@ -15,6 +15,17 @@ use std::marker::Model;
 pub struct Zone {
     pub low: [i32; 3],
     pub size: [u32; 3],
+}
+
+impl Zone {
+    /// How many cells the zone has.
+    pub fn count(self) -> usize
+        requires { IsSize (triple self.size) }
+        ensures value { result ≡ count_of (triple self.size) }
+        ensures most { result < 301000 }
+    {
+        count_in(self.size)
+    }
 }
 
 /// Three `i128` components for each cell of a zone.
@@ -38,8 +49,7 @@ impl Block {
         requires { IsZone (spot zone.low) (triple zone.size) }
         ensures { IfOk result (λ b. b ≡ record { low = spot zone.low; size = triple zone.size; values = replicate (3 * count_of (triple zone.size)) (pos 0) }) }
     {
-        let count = count_in(zone.size);
-        let values = vec![in alloc; 0i128; 3 * count]?;
+        let values = vec![in alloc; 0i128; 3 * zone.count()]?;
         Ok(Block { zone, values })
     }
 
@@ -170,6 +180,7 @@ mod tests {
             size: [2, 3, 1],
         };
         let mut block = Block::new(rt.alloc(), zone)?;
+        assert_eq!(rt; zone.count(), 6);
         assert_eq!(rt; block.zone(), zone);
         assert_eq!(rt; block.at(Axis::Y, [-1, 2, 3]), 0);
         block.add(Axis::Y, [-1, 2, 3], 40);

@@ -1,10 +1,10 @@
 ghost use Rattle.std.specs.Prelude.{◌≡◌, ◌↔◌, ◌≤◌, ◌<◌, ◌*◌, length, IsSome, IfSome};
-ghost use Rattle.pic_num.specs.Space.{Triple, triple, axis_number};
+ghost use Rattle.pic_num.specs.Space.{Triple, triple, spot, unwrapped};
 ghost use Rattle.pic_grid.specs.Cells.{IsCells, IsWithin, count_of, index_of, cell_of, place_of};
 ghost use Rattle.pic_grid.specs.Arrays.{array_of_triple};
 
 use crate::places::{index_in, place_in};
-use pic_num::Axis;
+use pic_num::{Axis, unwrapped};
 use std::marker::Model;
 
 /// The numbers of cells of a periodic grid on its three axes, 2 to 64 on each.
@@ -113,19 +113,18 @@ impl Cells {
         ensures number { place_of self result.0 (triple result.1) ≡ place }
     {
         let count = self.count() as usize;
-        (axis_at(place / count), self.cell_at(place % count))
+        let axis = Axis::of_number((place / count) as u32);
+        (axis, self.cell_at(place % count))
     }
-}
 
-/// The axis of a number.
-fn axis_at(number: usize) -> Axis
-    requires { number < 3 }
-    ensures { axis_number result ≡ number }
-{
-    match number {
-        0 => Axis::X,
-        1 => Axis::Y,
-        _ => Axis::Z,
+    /// One of these cells as one that isn't wrapped.
+    pub fn unwrapped(self, cell: [u32; 3]) -> [i32; 3]
+        requires { IsWithin (triple cell) self }
+        ensures { spot result ≡ unwrapped (triple cell) }
+    {
+        let [_, _, _] = self.n;
+        let [x, y, z] = cell;
+        unwrapped([x, y, z])
     }
 }
 
@@ -162,6 +161,7 @@ mod tests {
         assert_eq!(rt; cells.place(Axis::X, [0, 0, 0]), 0);
         assert_eq!(rt; cells.place(Axis::Y, [1, 2, 3]), 47);
         assert_eq!(rt; cells.place(Axis::Z, [1, 2, 3]), 71);
+        assert_eq!(rt; cells.unwrapped([1, 2, 3]), [1, 2, 3]);
         assert_eq!(rt; cells.place_at(47), (Axis::Y, [1, 2, 3]));
     }
 }

@@ -6,7 +6,7 @@ ghost use Rattle.pic_grid.specs.Parts.{IsLattice, ArePartsOf, joined};
 
 use crate::block::Block;
 use crate::cells::Cells;
-use crate::parts::{blocks_of, layers_of, part_in, signed};
+use crate::parts::{blocks_of, layers_of, part_in};
 use pic_num::{Axis, NoMemory};
 use std::alloc::Global;
 use std::marker::Model;
@@ -97,7 +97,7 @@ impl Lattice {
     {
         let part = part_in(self.parts, self.layers, cell);
         let block = &self.blocks[part];
-        block.at(axis, signed(self.cells, cell))
+        block.at(axis, self.cells.unwrapped(cell))
     }
 
     /// Changes the component on `axis` at `cell`, one of the cells, to `value`, and nothing else.
@@ -107,7 +107,7 @@ impl Lattice {
         ensures stored { value_at self.new axis (triple cell) ≡ value }
     {
         let part = part_in(self.parts, self.layers, cell);
-        let at = signed(self.cells, cell);
+        let at = self.cells.unwrapped(cell);
         let block = &mut self.blocks[part];
         block.set(axis, at, value);
     }

@@ -8,6 +8,7 @@ mod laws;
 mod name;
 mod neighbours;
 mod nodes;
+mod pair;
 mod parts;
 mod places;
 mod slow;
@@ -24,6 +25,7 @@ pub use laws::{
 };
 pub use name::Name;
 pub use nodes::Nodes;
+pub use pair::Pair;
 pub use slow::{slow_gather, slow_shifted_weight, slow_weight};
 pub use snapshot::Snapshot;
 pub use stop::{Bound, EndMark, Phase, Stop};

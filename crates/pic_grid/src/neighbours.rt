@@ -39,7 +39,7 @@ impl Cells {
 }
 
 /// The number after `number`, modulo `count`.
-fn after(count: u32, number: u32) -> u32
+pub(crate) fn after(count: u32, number: u32) -> u32
     requires { number < count }
     ensures value { result ≡ (number + 1) % count }
     ensures below { result < count }

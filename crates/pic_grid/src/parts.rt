@@ -3,7 +3,7 @@ ghost use Rattle.pic_num.specs.Space.{triple, spot};
 ghost use Rattle.pic_grid.specs.Cells.{IsCells, IsSize, IsWithin, count_of, index_of, cell_of};
 ghost use Rattle.pic_grid.specs.Lattice.{IsParts};
 ghost use Rattle.pic_grid.specs.Block.{IsZone};
-ghost use Rattle.pic_grid.specs.Parts.{spot_of, part_size, part_of, corner_of, no_block, ArePartsOf};
+ghost use Rattle.pic_grid.specs.Parts.{part_size, part_of, corner_of, no_block, ArePartsOf};
 
 use crate::block::{Block, Zone};
 use crate::cells::Cells;
@@ -37,16 +37,6 @@ pub(crate) fn part_in(parts: [u32; 3], layers: [u32; 3], cell: [u32; 3]) -> usiz
     let [nx, ny, nz] = layers;
     let [x, y, z] = cell;
     index_in(parts, [x / nx, y / ny, z / nz])
-}
-
-/// A cell of the grid as one that isn't wrapped.
-pub(crate) fn signed(cells: Cells, cell: [u32; 3]) -> [i32; 3]
-    requires { IsWithin (triple cell) cells }
-    ensures { spot result ≡ spot_of (triple cell) }
-{
-    let [_, _, _] = cells.n;
-    let [x, y, z] = cell;
-    [x as i32, y as i32, z as i32]
 }
 
 /// The zone of the part of a number.

@@ -14,11 +14,12 @@ or_assoc : {A : Type 0} (o p q : Option A) → option_or (option_or o p) q ≡ o
 or_assoc None p q = refl
 or_assoc (Some a) p q = refl
 
-left_none : {A : Type 0} (o p : Option A) → option_or o p ≡ None → o ≡ None
+-- where neither of two is there, the first is not there, nor the second
+pub left_none : {A : Type 0} (o p : Option A) → option_or o p ≡ None → o ≡ None
 left_none None p h = refl
 left_none (Some a) p h = h
 
-right_none : {A : Type 0} (o p : Option A) → option_or o p ≡ None → p ≡ None
+pub right_none : {A : Type 0} (o p : Option A) → option_or o p ≡ None → p ≡ None
 right_none None p h = h
 right_none (Some a) p h = cc
 

@@ -4,4 +4,5 @@ pub mod SizeLaws
 pub mod Simpson
 pub mod RoundingLaws
 pub mod FirstLaws
+pub mod AxisLaws
 mod PushRows

@@ -1,6 +1,7 @@
--- The laws of whole numbers that the library lacks: products. A whole number is `up z - down z`.
+-- The laws of whole numbers that the library lacks: products, and what 0 and 1 change. A whole number
+-- is `up z - down z`.
 use Rattle.std.proofs.Common.{◌≡◌, ◌+◌, ◌*◌, ap, sym, ◌∙◌, arith}
-use Rattle.std.proofs.Math.IntN.{ℤ, pos, negsuc, neg_ℤ, ◌+ℤ◌, ◌*ℤ◌, *ℤ_comm}
+use Rattle.std.proofs.Math.IntN.{ℤ, pos, negsuc, neg_ℤ, ◌+ℤ◌, ◌-ℤ◌, ◌*ℤ◌, *ℤ_comm}
 use Rattle.std.proofs.lemmas.Int.{ints}
 use borrow.Author.Differences.{up, down, product_is, sum_is_lem, same_in}
 
@@ -49,3 +50,12 @@ minus_one-*ℤ a = omega (arith, ints)
 
 pub +ℤ_left_comm : (a b c : ℤ) → a +ℤ (b +ℤ c) ≡ b +ℤ (a +ℤ c)
 +ℤ_left_comm a b c = omega (arith, ints)
+
+pub plus_zero : (a : ℤ) → a ≡ a +ℤ pos 0
+plus_zero a = omega (arith, ints)
+
+pub plus_none : (a b : ℤ) → b ≡ pos 0 → a ≡ a +ℤ b
+plus_none a b none = omega (arith, ints, none)
+
+pub minus_itself : (a : ℤ) → pos 0 ≡ a -ℤ a
+minus_itself a = omega (arith, ints)

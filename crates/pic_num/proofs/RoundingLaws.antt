@@ -24,12 +24,12 @@ mul-le_mul (negsuc a) (negsuc b) (pos d) h k = let e : b * d ≤ a * d = mul-le-
 mul-le_mul a b (negsuc d) h k = absurd (omega (arith, ints, k))
 
 -- the floor of m / e, times e, is at most m, and less than e below it
-floor-lower : (m e : ℤ) → pos 0 <ℤ e → (int_div_euclid m e *ℤ e) ≤ℤ m
+pub floor-lower : (m e : ℤ) → pos 0 <ℤ e → (int_div_euclid m e *ℤ e) ≤ℤ m
 floor-lower (pos a) (pos e) h = omega (arith, ints, h)
 floor-lower (negsuc a) (pos e) h = omega (arith, ints, h)
 floor-lower m (negsuc e) h = absurd (omega (arith, ints, h))
 
-floor-upper : (m e : ℤ) → pos 0 <ℤ e → m <ℤ (int_div_euclid m e *ℤ e +ℤ e)
+pub floor-upper : (m e : ℤ) → pos 0 <ℤ e → m <ℤ (int_div_euclid m e *ℤ e +ℤ e)
 floor-upper (pos a) (pos e) h = omega (arith, ints, h)
 floor-upper (negsuc a) (pos e) h = omega (arith, ints, h)
 floor-upper m (negsuc e) h = absurd (omega (arith, ints, h))

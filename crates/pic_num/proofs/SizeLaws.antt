@@ -64,8 +64,13 @@ kept (cast w x) = ltb (bound x) (2 ^ hbits w) && kept x
 kept (held a w h) = true
 kept (widened w n h) = ltb n (2 ^ hbits w)
 
-times_at_most : (a b m n : ℕ) → a ≤ m → b ≤ n → a * b ≤ m * n
+-- factors that are no larger make a product that is no larger
+pub times_at_most : (a b m n : ℕ) → a ≤ m → b ≤ n → a * b ≤ m * n
 times_at_most a b m n h k = le_trans (mul-le-mul_right b h) (mul-le-mul_left m k)
+
+-- a number that is at most m in size is at most anything larger
+pub at_most_more : (z : ℤ) (m n : ℕ) → m ≤ n → IsAtMost z m → IsAtMost z n
+at_most_more z m n more small = let size = small.size in record { size = omega (arith, more, size) }
 
 pub size : {z : ℤ} (r : Code z) → unsigned_abs (plain r) ≤ bound r
 size (atom n h) = h

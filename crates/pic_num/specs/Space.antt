@@ -1,6 +1,7 @@
 use Rattle.std.specs.Prelude.{ℤ, pos, ℕ, List, slice_index, slice_index_or}
 use Rattle.pic_num.specs.declared.axis.Axis.{Axis}
 use Rattle.pic_num.specs.declared.axis.Axis.TheVariants.{X, Y, Z}
+use Rattle.pic_num.specs.Sizes.{IsAtMost}
 
 -- three natural numbers by axis: a number of cells, a cell of the grid, a position in the box
 pub record Triple : Type 0 where
@@ -21,6 +22,17 @@ pub record Spot : Type 0 where
 -- what an array of three signed numbers stands for
 abbrev pub spot : List ℤ → Spot
 spot a = record { x = slice_index_or a 0 (pos 0); y = slice_index_or a 1 (pos 0); z = slice_index_or a 2 (pos 0) }
+
+-- three natural numbers as whole ones: a cell of the grid or a position in the box as one that isn't
+-- wrapped
+abbrev pub unwrapped : Triple → Spot
+unwrapped p = record { x = pos p.x; y = pos p.y; z = pos p.z }
+
+-- each number of a spot is at most n in size
+pub record AreAtMost (p : Spot) (n : ℕ) : Type 0 where
+  pub x : IsAtMost p.x n
+  pub y : IsAtMost p.y n
+  pub z : IsAtMost p.z n
 
 -- the number on an axis
 abbrev pub along : Axis → Spot → ℤ

@@ -1,5 +1,7 @@
-ghost use Rattle.std.specs.Prelude.{◌≡◌};
-ghost use Rattle.pic_num.specs.Space.{axis_number, next_axis};
+//! The three axes, and three numbers by axis.
+
+ghost use Rattle.std.specs.Prelude.{◌≡◌, ◌^◌, ◌<◌, EachIndex, slice_index, slice_index_or};
+ghost use Rattle.pic_num.specs.Space.{triple, spot, axis_number, next_axis, unwrapped};
 
 /// One of the three axes, in the order x, y, z.
 #[derive(Clone, Copy, Debug, PartialEq, Eq)]
@@ -21,6 +23,31 @@ impl Axis {
         }
     }
 
+    /// The axis of a number below 3.
+    pub fn of_number(number: u32) -> Axis
+        requires { number < 3 }
+        ensures { axis_number result ≡ number }
+    {
+        match number {
+            0 => Axis::X,
+            1 => Axis::Y,
+            _ => Axis::Z,
+        }
+    }
+
+    /// The one of three numbers by axis that stands on this axis.
+    #[inline(always)]
+    pub fn of<T: Copy>(self, numbers: [T; 3]) -> T
+        ensures { (d : T) → result ≡ slice_index_or numbers (axis_number self) d }
+    {
+        let [x, y, z] = numbers;
+        match self {
+            Axis::X => x,
+            Axis::Y => y,
+            Axis::Z => z,
+        }
+    }
+
     /// The axis after this one, cyclically.
     pub fn next(self) -> Axis
         ensures { result ≡ next_axis self }
@@ -31,6 +58,16 @@ impl Axis {
             Axis::Z => Axis::X,
         }
     }
+}
+
+/// A cell of the grid, or a position in the box, as one that isn't wrapped.
+#[inline(always)]
+pub fn unwrapped(p: [u32; 3]) -> [i32; 3]
+    requires { EachIndex p (λ k. slice_index p k < 2 ^ 31) }
+    ensures { spot result ≡ unwrapped (triple p) }
+{
+    let [x, y, z] = p;
+    [x as i32, y as i32, z as i32]
 }
 
 #[cfg(test)]
@@ -46,6 +83,13 @@ mod tests {
         ] {
             assert_eq!(rt; axis.number(), number);
             assert_eq!(rt; axis.next(), next);
+            assert_eq!(rt; Axis::of_number(number), axis);
+            assert_eq!(rt; axis.of([0i32, 1, 2]), number as i32);
         }
+    }
+
+    #[test]
+    fn a_cell_is_unwrapped(rt: HostRuntime) {
+        assert_eq!(rt; unwrapped([0, 63, 2147483647]), [0, 63, 2147483647]);
     }
 }

@@ -10,7 +10,7 @@ mod no_memory;
 mod rounding;
 mod text;
 
-pub use axis::Axis;
+pub use axis::{Axis, unwrapped};
 pub use listed::Listed;
 pub use motion::{Kind, Particle, What};
 pub use mult::{Mult, Scales};

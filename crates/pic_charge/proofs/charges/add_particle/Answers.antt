@@ -4,9 +4,10 @@ use Rattle.pic_num.specs.declared.motion.Kind.{Kind}
 use Rattle.pic_num.specs.Space.{Triple, triple}
 use Rattle.pic_grid.specs.Cells.{IsWithin}
 use Rattle.pic_grid.specs.PushPhase.{kind_of, no_kind}
-use Rattle.pic_charge.specs.Spread.{weight_in, spread}
+use Rattle.pic_grid.specs.Pair.{weight_in, IsPairOf}
+use Rattle.pic_charge.specs.Spread.{spread}
 use Rattle.pic_charge.proofs.ChargeLaws.{kind_of_most}
-use Rattle.pic_charge.proofs.PairLaws.{IsPairOf, share_is_spread, twelve_is}
+use Rattle.pic_charge.proofs.PairLaws.{share_is_spread, twelve_is}
 use Rattle.pic_charge.proofs.Spreads.{adds_same, kept_is}
 use Rattle.pic_charge.proofs.charges.add_particle.Goals as goal
 
@@ -16,18 +17,18 @@ returns c =
     let kinds = c.args.kinds.now in
     let x = c.args.particle.now in
     let at : Triple = triple x.x in
-    let a = c.pair_of.result in
-    let b = c.pair_of-2.result in
-    let d = c.pair_of-3.result in
+    let a = c.of_nodes-on_x.result in
+    let b = c.of_nodes-on_y.result in
+    let d = c.of_nodes-on_z.result in
     let kind = c.index-kinds-particle.result in
     let amount = c.twelvefold-amount.result in
     let kind_is : kind ≡ kind_of kinds x = get_or_read kinds x.species kind c.requires.placed.species c.index-kinds-particle.is no_kind in
     let small : unsigned_abs kind.charge ≤ 2 ^ 15 = subst (λ (k : Kind). unsigned_abs k.charge ≤ 2 ^ 15) (sym kind_is) (kind_of_most kinds x c.requires.limits) in
     let amount_is : amount ≡ pos 12 *ℤ (kind_of kinds x).charge = twelve_is kind.charge amount small c.twelvefold-amount.ensures.value ∙ ap (λ (k : Kind). pos 12 *ℤ k.charge) kind_is in
     let size = c.twelvefold-amount.ensures.size.size in
-    let on_x : IsPairOf 4096 n.x at.x a = subst (λ (m : Triple). IsPairOf 4096 m.x at.x a) c.cells.view_is (record { weights = c.pair_of.ensures.weights }) in
-    let on_y : IsPairOf 4096 n.y at.y b = subst (λ (m : Triple). IsPairOf 4096 m.y at.y b) c.cells.view_is (record { weights = c.pair_of-2.ensures.weights }) in
-    let on_z : IsPairOf 4096 n.z at.z d = subst (λ (m : Triple). IsPairOf 4096 m.z at.z d) c.cells.view_is (record { weights = c.pair_of-3.ensures.weights }) in
+    let on_x : IsPairOf 4096 n.x 0 at.x a = subst (λ (m : Triple). IsPairOf 4096 m.x 0 at.x a) c.cells.view_is c.of_nodes-on_x.ensures in
+    let on_y : IsPairOf 4096 n.y 0 at.y b = subst (λ (m : Triple). IsPairOf 4096 m.y 0 at.y b) c.cells.view_is c.of_nodes-on_y.ensures in
+    let on_z : IsPairOf 4096 n.z 0 at.z d = subst (λ (m : Triple). IsPairOf 4096 m.z 0 at.z d) c.cells.view_is c.of_nodes-on_z.ensures in
     adds_same c.args.to.now c.add_box.new.to _ _ c.add_box.ensures
     (λ p within.
     let inside : IsWithin p n = subst (λ (m : Triple). IsWithin p m) c.requires.same_cells within in

@@ -1,7 +1,8 @@
 use Rattle.std.proofs.Common.{◌≡◌, ◌+◌, ◌-◌, ◌*◌, ◌/◌, ◌%◌, ◌<◌, sym, ◌∙◌, arith}
 use Rattle.std.proofs.lemmas.Nat.{mod_below, div_below, div-add-mod'}
 use Rattle.pic_grid.specs.Hat.{periodic_hat}
-use Rattle.pic_grid.proofs.HatLaws.{only_at, two_hats}
+use Rattle.pic_grid.specs.Hat.{only_at}
+use Rattle.pic_grid.proofs.HatLaws.{two_hats}
 use Rattle.pic_gather.proofs.pairing.node_pair.Goals as goal
 
 pub returns : goal.returns

@@ -28,7 +28,7 @@ pub at-requires : goal.at-requires
 at-requires c =
     let w : IsWithin (triple c.args.cell) c.self.inside.cells = subst (λ (f : Field). IsWithin (triple c.args.cell) f.cells) (sym c.self.view_is) c.requires in
     let block = lattice_block c.self.inside.cells (triple c.self.inside.parts) (triple c.self.inside.layers) c.self.inside.blocks.items (triple c.args.cell) c.part_in-part.result c.index-block.result.now c.self.invariant w c.part_in-part.ensures c.index-block.ensures in
-    lattice_has c.self.inside.cells (triple c.self.inside.parts) (triple c.self.inside.layers) c.self.inside.blocks.items (triple c.args.cell) c.index-block.result.now _ c.self.invariant w block c.signed.ensures
+    lattice_has c.self.inside.cells (triple c.self.inside.parts) (triple c.self.inside.layers) c.self.inside.blocks.items (triple c.args.cell) c.index-block.result.now _ c.self.invariant w block c.unwrapped.ensures
 
 pub returns : goal.returns
 returns c =
@@ -40,7 +40,7 @@ returns c =
     let block = lattice_block n parts (triple c.self.inside.layers) blocks p c.part_in-part.result c.index-block.result.now c.self.invariant w c.part_in-part.ensures c.index-block.ensures in
     let value : c.at.result ≡ value_at c.args.self.now c.args.axis p
     = c.at.ensures
-    ∙ (λ i. edge_at (block i) c.args.axis (c.signed.ensures i))
+    ∙ (λ i. edge_at (block i) c.args.axis (c.unwrapped.ensures i))
     ∙ sym (value_at-joined n parts blocks c.args.axis p w)
     ∙ ap (λ (f : Field). value_at f c.args.axis p) c.self.view_is in
     let fits : SFits w128 c.at.result = search rules in

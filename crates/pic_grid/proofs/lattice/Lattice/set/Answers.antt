@@ -29,7 +29,7 @@ pub set-requires : goal.set-requires
 set-requires c =
     let w : IsWithin (triple c.args.cell) c.self.inside.cells = subst (λ (f : Field). IsWithin (triple c.args.cell) f.cells) (sym c.self.view_is) c.requires in
     let block = lattice_block c.self.inside.cells (triple c.self.inside.parts) (triple c.self.inside.layers) c.self.inside.blocks.items (triple c.args.cell) c.part_in-part.result c.index_mut-block.result.now c.self.invariant w c.part_in-part.ensures c.index_mut-block.ensures.value in
-    lattice_has c.self.inside.cells (triple c.self.inside.parts) (triple c.self.inside.layers) c.self.inside.blocks.items (triple c.args.cell) c.index_mut-block.result.now _ c.self.invariant w block c.signed-at.ensures
+    lattice_has c.self.inside.cells (triple c.self.inside.parts) (triple c.self.inside.layers) c.self.inside.blocks.items (triple c.args.cell) c.index_mut-block.result.now _ c.self.invariant w block c.unwrapped-at.ensures
 
 pub invariant_of-self : goal.invariant_of-self
 invariant_of-self c =
@@ -46,10 +46,10 @@ returns-clause-after c =
     let w : IsWithin p n = subst (λ (f : Field). IsWithin p f.cells) (sym c.self.view_is) c.requires in
     let value : to_z w128 (of_z w128 c.args.value) ≡ c.args.value = to_z-of_z w128 c.args.value c.ranges.value in
     let block = c.index_mut-block.result.now in
-    let after = c.set.ensures.after ∙ ap (λ (v : ℤ). with_edge block c.args.axis (spot c.signed-at.result) v) value in
+    let after = c.set.ensures.after ∙ ap (λ (v : ℤ). with_edge block c.args.axis (spot c.unwrapped-at.result) v) value in
     let stored = c.set.ensures.stored ∙ value in
-    lattice_set n parts (triple c.self.inside.layers) c.self.inside.blocks.items p c.part_in-part.result c.args.axis (spot c.signed-at.result) c.args.value block c.set.new.self
-    c.self.invariant w c.part_in-part.ensures c.index_mut-block.ensures.value c.signed-at.ensures after stored
+    lattice_set n parts (triple c.self.inside.layers) c.self.inside.blocks.items p c.part_in-part.result c.args.axis (spot c.unwrapped-at.result) c.args.value block c.set.new.self
+    c.self.invariant w c.part_in-part.ensures c.index_mut-block.ensures.value c.unwrapped-at.ensures after stored
     ∙ ap (λ (f : Field). with_value f c.args.axis p c.args.value) c.self.view_is
 
 pub returns-clause-stored : goal.returns-clause-stored
@@ -61,9 +61,9 @@ returns-clause-stored c =
     let size = length-values_of n (value_in n parts c.self.inside.blocks.items) in
     let value : to_z w128 (of_z w128 c.args.value) ≡ c.args.value = to_z-of_z w128 c.args.value c.ranges.value in
     let block = c.index_mut-block.result.now in
-    let after = c.set.ensures.after ∙ ap (λ (v : ℤ). with_edge block c.args.axis (spot c.signed-at.result) v) value in
+    let after = c.set.ensures.after ∙ ap (λ (v : ℤ). with_edge block c.args.axis (spot c.unwrapped-at.result) v) value in
     let stored = c.set.ensures.stored ∙ value in
     ap (λ (f : Field). value_at f c.args.axis p)
-    (lattice_set n parts (triple c.self.inside.layers) c.self.inside.blocks.items p c.part_in-part.result c.args.axis (spot c.signed-at.result) c.args.value block c.set.new.self
-    c.self.invariant w c.part_in-part.ensures c.index_mut-block.ensures.value c.signed-at.ensures after stored)
+    (lattice_set n parts (triple c.self.inside.layers) c.self.inside.blocks.items p c.part_in-part.result c.args.axis (spot c.unwrapped-at.result) c.args.value block c.set.new.self
+    c.self.invariant w c.part_in-part.ensures c.index_mut-block.ensures.value c.unwrapped-at.ensures after stored)
     ∙ value_at-same (joined n parts c.self.inside.blocks.items) c.args.axis p c.args.value w size
