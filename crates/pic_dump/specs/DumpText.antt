@@ -20,7 +20,7 @@ use Rattle.pic_grid.specs.declared.stop.EndMark.TheVariants.{Done, Stopped}
 use Rattle.pic_grid.specs.Lattice.{Field}
 use Rattle.pic_grid.specs.Species.{HeadView}
 use Rattle.pic_energy.specs.declared.amounts.Energies.{Energies}
-use Rattle.pic_dump.specs.Headers.{HeaderView}
+use Rattle.pic_dump.specs.Header.{HeaderView}
 
 -- a multiplier n / 2^k
 unfoldable pub mult_bytes : Multiplier → List ℕ
@@ -82,7 +82,7 @@ velocity_bytes v = i32_bytes v.x ++ i32_bytes v.y ++ i32_bytes v.z
 -- a particle: its position and its velocity. Its identity is its place in the list, and its species
 -- follows from the numbers in the header.
 unfoldable pub particle_bytes : Particle → List ℕ
-particle_bytes x = position_bytes (triple x.x) ++ velocity_bytes (spot x.v)
+particle_bytes particle = position_bytes (triple particle.x) ++ velocity_bytes (spot particle.v)
 
 -- the particles in their order
 unfoldable pub particles_bytes : List Particle → List ℕ

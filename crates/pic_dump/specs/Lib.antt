@@ -1,3 +1,5 @@
-pub mod Headers
+pub mod Limits
+pub mod Header
 pub mod DumpText
 pub mod Queues
+pub mod Due

@@ -1,3 +1,5 @@
+//! A frame of a dump, put in pieces.
+
 ghost use Rattle.std.specs.Prelude.{◌≡◌, ◌+◌, ◌≤◌, [], ◌++◌, length, map};
 ghost use Rattle.std.specs.List.{range_with_len};
 ghost use Rattle.pic_io.specs.Told.{HasCause};
@@ -30,7 +32,7 @@ pub fn put_frame<O: Sink>(
     state: &Snapshot,
     energies: Energies,
 ) -> Result<(), Failed>
-    requires { map (λ x. x.id) state.now.particles.items ≡ range_with_len 0 (length state.now.particles.items) }
+    requires { map (λ particle. particle.id) state.now.particles.items ≡ range_with_len 0 (length state.now.particles.items) }
     ensures bytes { Puts (O.told out.old) (O.told out.new) (frame_bytes step state.now.e state.now.b state.now.particles.items energies) result }
     ensures cause { HasCause (O.told out.old) (O.told out.new) result }
 {

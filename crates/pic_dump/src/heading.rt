@@ -1,3 +1,5 @@
+//! The header of a dump, put.
+
 ghost use Rattle.std.specs.Prelude.{◌≡◌, ◌+◌, ◌*◌, ◌≤◌, ◌++◌, length};
 ghost use Rattle.std.specs.List.{flat_map};
 ghost use Rattle.pic_io.specs.Told.{HasCause};
@@ -5,7 +7,8 @@ ghost use Rattle.pic_io.specs.Sink.{Puts};
 ghost use Rattle.pic_grid.specs.Species.{HeadView, AreHeads};
 ghost use Rattle.pic_dump.specs.DumpText.{mult_bytes, scales_bytes, cells_bytes, front_bytes, name_bytes, kind_bytes, head_bytes, heads_bytes, header_bytes};
 
-use crate::headers::{Head, Header};
+use crate::head::Head;
+use crate::header::Header;
 use pic_grid::Cells;
 use pic_io::{Failed, Sink};
 use pic_num::{Kind, Mult, Scales, Text};

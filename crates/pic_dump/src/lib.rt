@@ -3,13 +3,15 @@
 
 mod ending;
 mod framing;
-mod headers;
+mod head;
+mod header;
 mod heading;
 mod room;
 
 pub use ending::put_end;
 pub use framing::put_frame;
-pub use headers::{Head, Header, Heads};
+pub use head::{Head, Heads};
+pub use header::Header;
 pub use heading::put_header;
 
 #[cfg(test)]

@@ -1,3 +1,5 @@
+//! A room in which a part of a text waits to be put.
+
 ghost use Rattle.std.specs.Prelude.{◌≡◌, ◌+◌, ◌≤◌, [], length, OnOk};
 ghost use Rattle.pic_io.specs.Told.{HasCause};
 ghost use Rattle.pic_dump.specs.Queues.{Queues};

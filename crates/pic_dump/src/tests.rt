@@ -1,3 +1,5 @@
+//! Tests of what is put, against bytes that were written by hand.
+
 ghost use Rattle.std.specs.Prelude.{◌≡◌, length, map, IfOk};
 ghost use Rattle.std.specs.List.{range_with_len};
 
@@ -83,18 +85,9 @@ fn the_header_of_two_charges(rt: HostRuntime) -> Result<(), Fail> {
     Ok(())
 }
 
-#[test]
-fn heads_are_given_back(rt: HostRuntime) -> Result<(), Fail> {
-    let ion = head(rt.alloc(), b"ion", kind(1, 1836))?;
-    let heads = Heads::from_vec(vec![in rt.alloc(); ion]?).into_vec();
-    assert_eq!(rt; heads.len(), 1);
-    assert_eq!(rt; heads[0].name.as_slice(), b"ion".as_slice());
-    Ok(())
-}
-
 // A state of 2 by 2 by 2 cells: the first value of E is 1, the last of B is -1, and one particle.
 fn small_state(alloc: Global) -> Result<Snapshot, Fail>
-    ensures { IfOk result (λ s. map (λ x. x.id) s.particles.items ≡ range_with_len 0 (length s.particles.items)) }
+    ensures { IfOk result (λ s. map (λ particle. particle.id) s.particles.items ≡ range_with_len 0 (length s.particles.items)) }
 {
     let cells = Cells::new([2, 2, 2]);
     let mut e = Lattice::new(alloc, cells, [1, 1, 1])?;

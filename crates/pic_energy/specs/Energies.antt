@@ -24,7 +24,7 @@ speed_square v = square_of v.x + square_of v.y + square_of v.z
 
 -- the kinetic energy of a particle: its mass times the square of its velocity
 unfoldable pub kinetic_of : List Kind → Particle → ℕ
-kinetic_of kinds x = (kind_of kinds x).mass * speed_square (spot x.v)
+kinetic_of kinds particle = (kind_of kinds particle).mass * speed_square (spot particle.v)
 
 -- the kinetic energy of all particles
 unfoldable pub kinetic_sum : List Kind → List Particle → ℕ
@@ -48,8 +48,8 @@ pub record HasMass (k : Kind) : Type 0 where
   pub most : k.mass ≤ 65536
 
 -- a particle's species is one of the kinds
-pub record IsOfKinds (kinds : List Kind) (x : Particle) : Type 0 where
-  pub species : x.species < length kinds
+pub record IsOfKinds (kinds : List Kind) (particle : Particle) : Type 0 where
+  pub species : particle.species < length kinds
 
 -- each value of a field is at most 2^90 in size, and its force value at most 2^44
 pub record IsBounded (by : Multiplier) (f : Field) : Type 0 where

@@ -1,2 +1,2 @@
 pub mod Energies
-pub mod Lines
+pub mod Line

@@ -2,11 +2,11 @@
 #![tactic(auto)]
 
 mod amounts;
-mod lines;
+mod line;
 mod summing;
 
 pub use amounts::Energies;
-pub use lines::{Line, end_line, frame_line};
+pub use line::{Line, end_line, frame_line};
 pub use summing::energies;
 
 #[cfg(test)]

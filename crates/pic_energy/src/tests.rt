@@ -1,3 +1,5 @@
+//! Tests of energies and lines on worked numbers.
+
 ghost use Rattle.std.specs.Prelude.{◌≡◌, ◌^◌, ◌≤◌, unsigned_abs, IfOk};
 ghost use Rattle.pic_num.specs.Multiplier.{Multiplier};
 ghost use Rattle.pic_num.specs.Sizes.{IsAtMost};

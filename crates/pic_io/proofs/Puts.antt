@@ -8,8 +8,8 @@ use Rattle.std.proofs.Math.Seq.{take-add, take-append_seam, drop-append_seam, ta
 use Rattle.pic_io.specs.Told.{Told, raised, Rose, Calm, Quiet, HasCause}
 use Rattle.pic_io.specs.Sink.{with_back, Appended, AppendedFront, Puts}
 use Rattle.pic_io.specs.Sinks.{Sinks, sinks, Wrote, FailedAt, Piece, outs, lines, Front, CutAt, Writes, LineCut, WritesLine}
-use Rattle.pic_io.specs.declared.outside.Side.{Side}
-use Rattle.pic_io.specs.declared.outside.Side.TheVariants.{Out, Report}
+use Rattle.pic_io.specs.declared.side.Side.{Side}
+use Rattle.pic_io.specs.declared.side.Side.TheVariants.{Out, Report}
 
 pub with_back_twice : (known : Option (List ℕ)) (xs ys : List ℕ) → with_back (with_back known xs) ys ≡ with_back known (xs ++ ys)
 with_back_twice None xs ys = refl

@@ -2,8 +2,8 @@ use Rattle.std.specs.Prelude.{ℕ, List, [], ◌∷◌, ◌⊎◌, Result, Ok, E
 use Rattle.std.specs.List.{flat_map}
 use Rattle.pic_io.specs.Told.{Told, Rose, Calm, Quiet}
 use Rattle.pic_io.specs.Sink.{Appended, AppendedFront}
-use Rattle.pic_io.specs.declared.outside.Side.{Side}
-use Rattle.pic_io.specs.declared.outside.Side.TheVariants.{Out, Report}
+use Rattle.pic_io.specs.declared.side.Side.{Side}
+use Rattle.pic_io.specs.declared.side.Side.TheVariants.{Out, Report}
 
 -- what is known of the two sinks that a command writes to
 pub record Sinks : Type 0 where

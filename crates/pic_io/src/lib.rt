@@ -2,18 +2,28 @@
 //! memory, over the standard streams, and such as never fail.
 #![tactic(auto)]
 
-mod memory_sink;
-mod memory_source;
-mod never;
-mod outside;
+mod failed;
+mod mem_sink;
+mod mem_source;
+mod never_sink;
+mod never_source;
 mod pieces;
-mod standard;
+mod side;
+mod sink;
+mod source;
+mod std_sink;
+mod std_source;
 
-pub use memory_sink::MemSink;
-pub use memory_source::MemSource;
-pub use never::{NeverSink, NeverSource};
-pub use outside::{Failed, Side, Sink, Source};
-pub use standard::{StdSink, StdSource};
+pub use failed::Failed;
+pub use mem_sink::MemSink;
+pub use mem_source::MemSource;
+pub use never_sink::NeverSink;
+pub use never_source::NeverSource;
+pub use side::Side;
+pub use sink::Sink;
+pub use source::Source;
+pub use std_sink::StdSink;
+pub use std_source::StdSource;
 
 #[cfg(test)]
 mod tests;

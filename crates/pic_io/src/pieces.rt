@@ -1,3 +1,5 @@
+//! Copies between lists of bytes, with what they leave as it is.
+
 ghost use Rattle.std.specs.Prelude.{◌≡◌, ◌+◌, ◌<◌, ◌≤◌, [], ◌++◌, length, take, drop, vec_len, vec_capacity};
 ghost use Rattle.pic_io.specs.Memory.{moved_count};
 

@@ -1,3 +1,5 @@
+//! Tests of the sources and sinks: listed failures, readers and writers that break.
+
 ghost use Rattle.std.specs.Prelude.{◌⊎◌, IsOk, OnErr};
 ghost use Rattle.pic_io.specs.Told.{Rose};
 
@@ -154,10 +156,12 @@ fn a_reader_breaks(rt: HostRuntime) {
     assert_eq!(rt; broken.take(&mut []), Err(Failed));
 }
 
-// What a writer does that holds as many bytes as it is to take.
+// What a writer does that holds as many bytes as it is to take: it errs for good or once, takes
+// nothing, or fails to flush.
 #[derive(Clone, Copy, PartialEq, Eq)]
 enum Break {
     Error,
+    ErrorOnce,
     Nothing,
     Flush,
 }
@@ -174,6 +178,10 @@ struct BrokenWriter {
 impl Write for BrokenWriter {
     fn write(&mut self, buf: &[u8]) -> io::Result<usize> {
         let left = self.cut.saturating_sub(self.held.len());
+        if left == 0 && self.how == Break::ErrorOnce {
+            self.cut = usize::MAX;
+            return Err(io::Error::from(io::ErrorKind::Interrupted));
+        }
         if left == 0 && self.how == Break::Error {
             return Err(io::Error::from(io::ErrorKind::BrokenPipe));
         }
@@ -203,9 +211,10 @@ fn broken_writer(alloc: Global, how: Break) -> BrokenWriter {
 
 #[test]
 fn a_writer_breaks(rt: HostRuntime) {
-    let cases: [(Break, &[u8], Result<(), Failed>, &[u8], u32); 5] = [
+    let cases: [(Break, &[u8], Result<(), Failed>, &[u8], u32); 6] = [
         (Break::Error, b"e", Ok(()), b"abcde", 2),
         (Break::Error, b"efgh", Err(Failed), b"abcdef", 1),
+        (Break::ErrorOnce, b"efgh", Err(Failed), b"abcdef", 1),
         (Break::Nothing, b"ef", Ok(()), b"abcdef", 2),
         (Break::Nothing, b"efgh", Err(Failed), b"abcdef", 1),
         (Break::Flush, b"ef", Err(Failed), b"abcdef", 2),

@@ -5,7 +5,7 @@ use Rattle.std.proofs.Math.Seq.{take-append_seam}
 use Rattle.std.specs.Io.KnownBytes.{Appends, Keeps}
 use Rattle.std.proofs.KnownBytes.{Appends-trans, Appends-kept}
 use Rattle.pic_io.proofs.Puts.{take-past}
-use Rattle.pic_io.proofs.standard.write_whole.Goals as goal
+use Rattle.pic_io.proofs.std_sink.write_whole.Goals as goal
 
 -- n more of the rest are done
 done_more : (all done rest : List ℕ) (n : ℕ) → all ≡ done ++ rest → all ≡ (done ++ take n rest) ++ take (length rest - n) (drop n rest)

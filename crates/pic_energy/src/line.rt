@@ -1,6 +1,8 @@
+//! The lines of a report that tell of a run.
+
 ghost use Rattle.std.specs.Prelude.{◌≡◌, ◌≤◌, length};
 ghost use Rattle.pic_num.specs.Space.{triple};
-ghost use Rattle.pic_energy.specs.Lines.{phase_word, bound_word, what_word, frame_line, done_line, field_line, particle_line, end_line};
+ghost use Rattle.pic_energy.specs.Line.{phase_word, bound_word, what_word, frame_line, done_line, field_line, particle_line, end_line};
 
 use crate::amounts::Energies;
 use pic_grid::{Bound, EndMark, Phase, Stop};
@@ -34,7 +36,7 @@ impl Line {
 }
 
 /// The line of a frame: its step and its energies.
-#[tactic(auto, unfolding(crate::specs::Lines::frame_line))]
+#[tactic(auto, unfolding(crate::specs::Line::frame_line))]
 pub fn frame_line(step: u32, energies: Energies) -> Line
     ensures { result ≡ frame_line step energies }
 {
@@ -52,7 +54,7 @@ pub fn frame_line(step: u32, energies: Energies) -> Line
 }
 
 /// The last line of a run: that it is done, or what stopped it in which step.
-#[tactic(auto, unfolding(crate::specs::Lines::end_line))]
+#[tactic(auto, unfolding(crate::specs::Line::end_line))]
 pub fn end_line(end: EndMark) -> Line
     ensures { result ≡ end_line end }
 {
@@ -82,7 +84,7 @@ pub fn end_line(end: EndMark) -> Line
 }
 
 // The line of a run that is done.
-#[tactic(auto, unfolding(crate::specs::Lines::done_line))]
+#[tactic(auto, unfolding(crate::specs::Line::done_line))]
 fn done_text(steps: u32) -> Text<LINE_BYTES>
     ensures { result ≡ done_line steps }
 {
@@ -94,7 +96,7 @@ fn done_text(steps: u32) -> Text<LINE_BYTES>
 }
 
 // The line of a run that a field value stopped.
-#[tactic(auto, unfolding(crate::specs::Lines::field_line))]
+#[tactic(auto, unfolding(crate::specs::Line::field_line))]
 fn field_text(
     step: u32,
     phase: Phase,
@@ -128,7 +130,7 @@ fn field_text(
 }
 
 // The line of a run that the push of a particle stopped.
-#[tactic(auto, unfolding(crate::specs::Lines::particle_line))]
+#[tactic(auto, unfolding(crate::specs::Line::particle_line))]
 fn particle_text(step: u32, id: u32, what: What, axis: Axis, value: i128) -> Text<LINE_BYTES>
     ensures { result ≡ particle_line step id what axis value }
 {
@@ -147,7 +149,7 @@ fn particle_text(step: u32, id: u32, what: What, axis: Axis, value: i128) -> Tex
     text
 }
 
-#[tactic(auto, unfolding(crate::specs::Lines::phase_word))]
+#[tactic(auto, unfolding(crate::specs::Line::phase_word))]
 fn phase_word(phase: Phase) -> &'static [u8]
     ensures word { result.now ≡ phase_word phase }
     ensures len { length result.now ≤ 8 }
@@ -159,7 +161,7 @@ fn phase_word(phase: Phase) -> &'static [u8]
     }
 }
 
-#[tactic(auto, unfolding(crate::specs::Lines::bound_word))]
+#[tactic(auto, unfolding(crate::specs::Line::bound_word))]
 fn bound_word(bound: Bound) -> &'static [u8]
     ensures word { result.now ≡ bound_word bound }
     ensures len { length result.now ≤ 8 }
@@ -170,7 +172,7 @@ fn bound_word(bound: Bound) -> &'static [u8]
     }
 }
 
-#[tactic(auto, unfolding(crate::specs::Lines::what_word))]
+#[tactic(auto, unfolding(crate::specs::Line::what_word))]
 fn what_word(what: What) -> &'static [u8]
     ensures word { result.now ≡ what_word what }
     ensures len { length result.now ≤ 8 }

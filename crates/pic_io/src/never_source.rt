@@ -1,10 +1,13 @@
+//! A source in memory that never fails.
+
 ghost use Rattle.std.specs.Prelude.{◌≡◌, ◌≤◌, length, drop, IsOk, IfOk};
-ghost use Rattle.pic_io.specs.Told.{untold, HasCause};
+ghost use Rattle.pic_io.specs.Told.{HasCause};
 ghost use Rattle.pic_io.specs.Source.{Takes};
 ghost use Rattle.pic_io.specs.Memory.{flow_told, moved_count};
 
-use crate::outside::{Failed, Sink, Source};
+use crate::failed::Failed;
 use crate::pieces::copy_front;
+use crate::source::Source;
 use std::marker::Model;
 
 /// A source over bytes in memory that never fails: its count of faults is 0 for good.
@@ -60,34 +63,5 @@ impl Source for NeverSource {
         let count = copy_front(&self.bytes[self.start..], self.piece, room);
         self.start += count;
         Ok(count)
-    }
-}
-
-/// A sink that drops what is put and never fails: it tells no bytes, and its count of faults is 0
-/// for good.
-#[derive(Clone, Copy, Debug, PartialEq, Eq)]
-pub struct NeverSink;
-
-impl NeverSink {
-    pub fn new() -> NeverSink
-        ensures { ⟦<NeverSink as Sink>⟧.told result ≡ untold 0 }
-    {
-        NeverSink
-    }
-}
-
-impl Default for NeverSink {
-    fn default() -> NeverSink {
-        NeverSink::new()
-    }
-}
-
-impl Sink for NeverSink {
-    ghost told = { λ _. untold 0 };
-
-    fn put(&mut self, _piece: &[u8]) -> Result<(), Failed>
-        ensures ok { IsOk result }
-    {
-        Ok(())
     }
 }

@@ -1,10 +1,13 @@
+//! A sink that holds its bytes in memory, which fails where a test wants it.
+
 ghost use Rattle.std.specs.Prelude.{◌≡◌, ◌↔◌, [], IsOk, IsErr, IfOk};
 ghost use Rattle.pic_io.specs.Told.{HasCause};
 ghost use Rattle.pic_io.specs.Sink.{Puts};
 ghost use Rattle.pic_io.specs.Memory.{stock_told, listed_count, Accepts, Refuses, after_put};
 
-use crate::outside::{Failed, Sink};
+use crate::failed::Failed;
 use crate::pieces::append;
+use crate::sink::Sink;
 use pic_num::NoMemory;
 use std::alloc::Global;
 use std::marker::Model;

@@ -1,10 +1,13 @@
+//! A source over bytes in memory, which fails where a test wants it.
+
 ghost use Rattle.std.specs.Prelude.{◌≡◌, ◌≤◌, ◌↔◌, length, drop, IsErr, IfOk, MatchResult, Contains};
 ghost use Rattle.pic_io.specs.Told.{HasCause};
 ghost use Rattle.pic_io.specs.Source.{Takes};
 ghost use Rattle.pic_io.specs.Memory.{supply_told, moved_count, after_take};
 
-use crate::outside::{Failed, Source};
+use crate::failed::Failed;
 use crate::pieces::copy_front;
+use crate::source::Source;
 use std::marker::Model;
 
 /// A source over bytes in memory, which fails at listed calls and at no others.

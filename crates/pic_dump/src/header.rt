@@ -1,70 +1,21 @@
-ghost use Rattle.std.specs.Prelude.{◌≡◌, ◌≤◌};
-ghost use Rattle.pic_grid.specs.Species.{HeadView, AreHeads};
-ghost use Rattle.pic_dump.specs.Headers.{HeaderView, IsHeader};
+//! The header of a dump.
 
-use pic_grid::{Cells, Name};
-use pic_num::{Kind, Scales};
+ghost use Rattle.std.specs.Prelude.{◌≡◌, All};
+ghost use Rattle.pic_num.specs.Multiplier.{IsMultiplier};
+ghost use Rattle.pic_grid.specs.Cells.{IsCells};
+ghost use Rattle.pic_dump.specs.Header.{HeaderView, HasLimits, HasMultipliers, AreMultipliers, IsHeader};
+
+use crate::head::{Head, Heads};
+use pic_grid::Cells;
+use pic_num::{Kind, Mult, Scales};
 use std::marker::Model;
-
-/// What the header says of a species: its name, what its particles have in common, and how many
-/// particles it has.
-#[derive(Debug, Drop)]
-pub struct Head {
-    pub name: Name,
-    pub kind: Kind,
-    pub count: u32,
-}
-
-impl Model for Head {
-    ghost Value = { HeadView };
-
-    ghost view = { λ h. record { name = h.name; kind = h.kind; count = h.count } };
-}
-
-/// The species of a header, in their order.
-#[derive(Debug, Drop)]
-pub struct Heads {
-    heads: Vec<Head>,
-}
-
-impl Model for Heads {
-    ghost use Rattle.std.specs.Prelude.{List};
-    ghost use Rattle.pic_grid.specs.Species.{HeadView};
-
-    ghost Value = { List HeadView };
-
-    ghost view = { λ h. h.heads.items };
-}
-
-impl Heads {
-    /// The list of these species; it takes no memory.
-    pub fn from_vec(heads: Vec<Head>) -> Heads
-        ensures { result ≡ heads.items }
-    {
-        Heads { heads }
-    }
-
-    /// The species, without taking memory.
-    pub fn into_vec(self) -> Vec<Head>
-        ensures { result.items ≡ self }
-    {
-        let Heads { heads } = self;
-        heads
-    }
-
-    /// The species.
-    pub fn as_slice(&self) -> &[Head]
-        ensures { result.now ≡ self.now }
-    {
-        self.heads.as_slice()
-    }
-}
 
 /// The header of a dump: the numbers of cells, the number of steps, after how many steps a frame is
 /// due, the four multipliers, and the species.
 ///
 /// There are at most 1000000 steps, a frame is due after 1 to 1000000 of them, and the species are at
-/// most 16, with names of their own and 1048576 particles at most.
+/// most 16, with names of their own and 1048576 particles at most. So a dump's reader refuses no
+/// number of it.
 #[derive(Debug, Drop)]
 pub struct Header {
     cells: Cells,
@@ -85,9 +36,12 @@ impl Model for Header {
 impl Header {
     /// The header of numbers and species within the limits.
     pub fn new(cells: Cells, steps: u32, every: u32, scales: Scales, species: Heads) -> Header
-        requires { IsHeader (record { cells = cells; steps = steps; every = every; scales = scales; species = species }) }
+        requires { HasLimits (record { cells = cells; steps = steps; every = every; scales = scales; species = species }) }
         ensures { result ≡ record { cells = cells; steps = steps; every = every; scales = scales; species = species } }
     {
+        keep_cells(cells);
+        keep_scales(&scales);
+        let species = keep_species(species);
         Header {
             cells,
             steps,
@@ -130,8 +84,54 @@ impl Header {
     /// The species.
     pub fn species(&self) -> &Heads
         ensures value { result.now ≡ self.now.species }
-        ensures limits { AreHeads self.now.species }
+        ensures limits { IsHeader self.now }
     {
         &self.species
+    }
+}
+
+// What the types of cells and multipliers keep, as facts. None of these changes anything.
+
+fn keep_cells(cells: Cells)
+    ensures { IsCells cells }
+{
+    let _numbers = cells.numbers();
+}
+
+fn keep_mult(by: Mult)
+    ensures { IsMultiplier by }
+{
+    let _numbers = (by.n(), by.k());
+}
+
+fn keep_scales(scales: &Scales)
+    ensures { AreMultipliers scales.now }
+{
+    keep_mult(scales.e_to_b);
+    keep_mult(scales.b_to_e);
+    keep_mult(scales.e_force);
+    keep_mult(scales.b_force);
+}
+
+fn keep_kind(kind: Kind)
+    ensures { HasMultipliers kind }
+{
+    keep_mult(kind.kick);
+    keep_mult(kind.turn);
+}
+
+fn keep_species(species: Heads) -> Heads
+    ensures same { result ≡ species }
+    ensures kinds { All (λ h. HasMultipliers h.kind) species }
+{
+    keep_kinds(species.as_slice());
+    species
+}
+
+fn keep_kinds(heads: &[Head])
+    ensures { All (λ h. HasMultipliers h.kind) heads.now }
+{
+    for head in heads {
+        keep_kind(head.kind);
     }
 }
