@@ -3,8 +3,8 @@ use Rattle.std.proofs.Common.{◌≡◌, ℕ, ◌⊎◌, zero, suc, List, [], le
 use Rattle.std.specs.Prelude.{IfSome, IsSome, IsOk, ⊤}
 use Rattle.pic_io.specs.Told.{Told, Rose, Calm}
 use Rattle.pic_io.specs.Sinks.{Sinks, Wrote, FailedAt, QuietSinks}
-use Rattle.pic_io.specs.declared.outside.Side.{Side}
-use Rattle.pic_io.specs.declared.outside.Side.TheVariants.{Out, Report}
+use Rattle.pic_io.specs.declared.side.Side.{Side}
+use Rattle.pic_io.specs.declared.side.Side.TheVariants.{Out, Report}
 use Rattle.pic_grid.specs.declared.stop.EndMark.{EndMark}
 use Rattle.pic_grid.specs.declared.stop.EndMark.TheVariants.{Done as EndDone, Stopped as EndStopped}
 use Rattle.pic_grid.specs.declared.stop.Stop.{Stop}

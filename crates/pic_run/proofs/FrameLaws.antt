@@ -3,7 +3,7 @@ use Rattle.std.proofs.Common.{◌≡◌, ℕ, zero, suc, ◌+◌, ◌-◌, ◌<�
 use Rattle.std.specs.List.{flat_map, range_with_len}
 use Rattle.std.proofs.lemmas.Grind.{flat_map-append}
 use Rattle.std.proofs.Math.Seq.{take-append_seam}
-use Rattle.pic_io.specs.declared.outside.Side.{Side}
+use Rattle.pic_io.specs.declared.side.Side.{Side}
 use Rattle.pic_io.specs.Sinks.{Sinks, Wrote, Piece, outs, lines, CutAt}
 use Rattle.pic_io.proofs.Puts.{wrote_twice, cut_more, cut_later}
 use Rattle.pic_grid.specs.declared.stop.EndMark.{EndMark}
@@ -11,7 +11,8 @@ use Rattle.pic_grid.specs.declared.stop.EndMark.TheVariants.{Done, Stopped}
 use Rattle.pic_grid.specs.declared.stop.Stop.{Stop}
 use Rattle.pic_step.specs.SerialStep.{World, stepped}
 use Rattle.pic_step.specs.SerialRun.{after, step_from, stopped_in}
-use Rattle.pic_run.specs.Frames.{is_due, due_frame, frame_where, frame_after, frames_from, frames_of, end_where, end_of}
+use Rattle.pic_dump.specs.Due.{is_due}
+use Rattle.pic_run.specs.Frames.{due_frame, frame_where, frame_after, frames_from, frames_of, end_where, end_of}
 use Rattle.pic_run.specs.Ends.{HasFrames}
 use Rattle.pic_run.specs.Runs.{WroteFrames}
 

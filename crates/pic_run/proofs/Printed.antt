@@ -1,7 +1,7 @@
 -- A path that is put on the report character by character.
 use Rattle.std.proofs.Common.{◌≡◌, ℕ, ◌<◌, List, [], ◌∷◌, ◌++◌, length, get_or, take, drop, map, refl, sym, ap, ◌∙◌, subst}
 use Rattle.std.proofs.lemmas.List.{map-append, take-append-drop, take_more, length_push}
-use Rattle.pic_io.specs.declared.outside.Side.{Side}
+use Rattle.pic_io.specs.declared.side.Side.{Side}
 use Rattle.pic_io.specs.Told.{Told, Calm}
 use Rattle.pic_io.specs.Sink.{Appended}
 use Rattle.pic_io.specs.Sinks.{LineCut}

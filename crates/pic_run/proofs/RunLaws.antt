@@ -1,8 +1,8 @@
 -- How a run ends, from how its parts end.
 use Rattle.std.proofs.Common.{ℕ, List, [], ◌∷◌, ◌++◌, length, take, inl, inr, sym, subst, arith, append-nil, append_assoc}
 use Rattle.std.proofs.Math.Seq.{take-nil, take-length}
-use Rattle.pic_io.specs.declared.outside.Side.{Side}
-use Rattle.pic_io.specs.declared.outside.Side.TheVariants.{Out}
+use Rattle.pic_io.specs.declared.side.Side.{Side}
+use Rattle.pic_io.specs.declared.side.Side.TheVariants.{Out}
 use Rattle.pic_io.specs.Told.{Told, Rose}
 use Rattle.pic_io.specs.Sink.{Appended, AppendedFront}
 use Rattle.pic_io.specs.Sinks.{Sinks, sinks, Wrote, Piece, outs, lines, CutAt}

@@ -1,13 +1,14 @@
 -- The frames of a run, each with its line, and how the run ends: this project's profile.
-use Rattle.std.specs.Prelude.{ℕ, ◌+◌, ◌%◌, ◌==◌, ◌||◌, Bool, List, [], ◌∷◌, if◌then◌else◌, Result, Ok, Err}
+use Rattle.std.specs.Prelude.{ℕ, ◌+◌, Bool, List, [], ◌∷◌, if◌then◌else◌, Result, Ok, Err}
 use Rattle.std.specs.List.{flat_map, range_with_len}
 use Rattle.pic_io.specs.Sinks.{Piece}
 use Rattle.pic_grid.specs.declared.stop.EndMark.{EndMark}
 use Rattle.pic_grid.specs.declared.stop.EndMark.TheVariants.{Done}
 use Rattle.pic_energy.specs.declared.amounts.Energies.{Energies}
 use Rattle.pic_energy.specs.Energies.{energies_of}
-use Rattle.pic_energy.specs.Lines.{frame_line, end_line}
+use Rattle.pic_energy.specs.Line.{frame_line, end_line}
 use Rattle.pic_dump.specs.DumpText.{frame_bytes, end_bytes}
+use Rattle.pic_dump.specs.Due.{is_due}
 use Rattle.pic_step.specs.SerialStep.{World}
 use Rattle.pic_step.specs.SerialRun.{after}
 
@@ -21,10 +22,6 @@ frame_piece step w = record {
   out = frame_bytes step w.e w.b w.particles (energies_in w);
   line = frame_line step (energies_in w);
 }
-
--- a frame is due after every so many steps, from none on, and after the last step
-abbrev pub is_due : ℕ → ℕ → ℕ → Bool
-is_due steps every step = step == steps || step % every == 0
 
 -- the frame of a state, where it is due
 abbrev pub due_frame : Bool → ℕ → World → List Piece

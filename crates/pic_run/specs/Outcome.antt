@@ -9,7 +9,7 @@ use Rattle.pic_charge.specs.declared.breaks.Break.{Break}
 use Rattle.pic_deck.specs.Deck.{DeckView}
 use Rattle.pic_deck.specs.Keys.{walk}
 use Rattle.pic_dump.specs.DumpText.{header_bytes}
-use Rattle.pic_dump.specs.Headers.{HeaderView}
+use Rattle.pic_dump.specs.Header.{HeaderView}
 use Rattle.pic_step.specs.SerialStep.{World}
 use Rattle.pic_run.specs.declared.ended.Ended.{Ended}
 use Rattle.pic_run.specs.declared.ended.Ended.TheVariants.{Done, Checked, Stopped, Usage, Refused, Gauss, ReadFault}

@@ -1,7 +1,7 @@
 ghost use Rattle.std.specs.Prelude.{◌≡◌, None, ℕ, [], length, map, string_bytes};
 ghost use Rattle.pic_io.specs.Told.{Told, Rose, Calm};
 ghost use Rattle.pic_io.specs.Sinks.{sinks, FailedAt};
-ghost use Rattle.pic_io.specs.declared.outside.Side.{Side as SideName};
+ghost use Rattle.pic_io.specs.declared.side.Side.{Side as SideName};
 ghost use Rattle.pic_grid.specs.declared.stop.Stop.{Stop as StopName};
 ghost use Rattle.pic_charge.specs.declared.breaks.Break.{Break as BreakName};
 ghost use Rattle.pic_walk.specs.declared.faults.Refusal.{Refusal as RefusalName};

@@ -1,7 +1,8 @@
 ghost use Rattle.std.specs.Prelude.{◌≡◌, ◌≤◌, [], ◌∷◌};
 ghost use Rattle.pic_io.specs.Sinks.{sinks, Writes};
 ghost use Rattle.pic_step.specs.Sound.{IsSound};
-ghost use Rattle.pic_run.specs.Frames.{frame_piece, due_frame, is_due, energies_in};
+ghost use Rattle.pic_dump.specs.Due.{is_due};
+ghost use Rattle.pic_run.specs.Frames.{frame_piece, due_frame, energies_in};
 ghost use Rattle.pic_run.specs.Rooms.{HasRoom, IsFilled};
 
 use crate::writing::put_line;

@@ -3,7 +3,7 @@ use Rattle.pic_io.specs.Sink.{Appended, AppendedFront}
 use Rattle.pic_io.specs.Sinks.{WritesLine}
 use Rattle.pic_io.proofs.Puts.{cut_out, line_after}
 use Rattle.pic_dump.specs.DumpText.{frame_bytes}
-use Rattle.pic_energy.specs.Lines.{frame_line}
+use Rattle.pic_energy.specs.Line.{frame_line}
 use Rattle.pic_run.specs.Frames.{frame_piece, energies_in}
 use Rattle.pic_run.proofs.framing.write_frame.Goals as goal
 
