@@ -6,6 +6,7 @@ use Rattle.std.proofs.lemmas.Int.{ints, unsigned_abs-mul}
 use Rattle.std.proofs.lemmas.List.{get_or_past}
 use Rattle.pic_num.specs.declared.motion.Particle.{Particle}
 use Rattle.pic_num.specs.declared.motion.Kind.{Kind}
+use Rattle.pic_num.specs.Limits.{most_charge, most_particles}
 use Rattle.pic_num.specs.Sizes.{IsAtMost}
 use Rattle.pic_num.proofs.SizeLaws.{times_at_most}
 use Rattle.pic_num.specs.Space.{Triple, triple}
@@ -17,7 +18,7 @@ use Rattle.pic_grid.specs.Species.{IsKind}
 use Rattle.pic_grid.specs.Sums.{sum_over}
 use Rattle.pic_grid.proofs.HatLaws.{hat_most}
 use Rattle.pic_grid.proofs.OverLaws.{sum_over-append, sum_over_more, sum_over-map, sum_over_less, sum_over_bound}
-use Rattle.pic_charge.specs.Charge.{share, charge_of}
+use Rattle.pic_charge.specs.Charge.{share, charge_of, IsCharged}
 use Rattle.pic_charge.specs.Spread.{NodesAtMost, Adds}
 
 -- no particles
@@ -86,33 +87,40 @@ weight_most side n point node =
 pub kind_most : (k : Kind) → IsKind k → unsigned_abs k.charge ≤ 2 ^ 15
 kind_most k limits = let low = limits.charge_low in let high = limits.charge_high in omega (arith, ints, low, high)
 
-pub kind_of_most : (kinds : List Kind) (x : Particle) → All IsKind kinds → unsigned_abs (kind_of kinds x).charge ≤ 2 ^ 15
-kind_of_most kinds x limits = elim (cases_lt x.species (length kinds)) [
-  | inl below ↦ kind_most (kind_of kinds x) (limits x.species no_kind below)
+pub all_charged : (kinds : List Kind) → All IsKind kinds → All IsCharged kinds
+all_charged kinds limits i k below = record { size = kind_most (get_or kinds i k) (limits i k below) }
+
+-- so is that of a particle, whatever its species
+pub charge_most : (kinds : List Kind) (x : Particle) → All IsCharged kinds → unsigned_abs (kind_of kinds x).charge ≤ most_charge
+charge_most kinds x limits = elim (cases_lt x.species (length kinds)) [
+  | inl below ↦ (limits x.species no_kind below).size
   | inr past ↦ subst (λ (k : Kind). unsigned_abs k.charge ≤ 2 ^ 15) (sym (get_or_past kinds x.species no_kind past)) (omega arith)
 ]
 
+pub kind_of_most : (kinds : List Kind) (x : Particle) → All IsKind kinds → unsigned_abs (kind_of kinds x).charge ≤ most_charge
+kind_of_most kinds x limits = charge_most kinds x (all_charged kinds limits)
+
 -- a particle's share is at most 12 * 2^15 times the cube of the side
-pub share_size : (side : ℕ) (n : Triple) (kinds : List Kind) (x : Particle) (node : Triple) → All IsKind kinds
+pub share_size : (side : ℕ) (n : Triple) (kinds : List Kind) (x : Particle) (node : Triple) → All IsCharged kinds
     → unsigned_abs (share side n kinds x node) ≤ 12 * 2 ^ 15 * (side * side * side)
 unfolding share
 share_size side n kinds x node limits =
     let q : ℤ = (kind_of kinds x).charge in
     let w : ℕ = weight side n (triple x.x) node in
-    let small = kind_of_most kinds x limits in
+    let small = charge_most kinds x limits in
     let twelve : unsigned_abs (pos 12 *ℤ q) ≤ 12 * 2 ^ 15 = omega (arith, ints, small) in
     rw (unsigned_abs-mul (pos 12 *ℤ q) (pos w))
     (times_at_most (unsigned_abs (pos 12 *ℤ q)) w (12 * 2 ^ 15) (side * side * side) twelve (weight_most side n (triple x.x) node))
 
 -- the charge of a node is at most that for each particle
-pub charge_of_size : (side : ℕ) (n : Triple) (kinds : List Kind) (xs : List Particle) (node : Triple) → All IsKind kinds
+pub charge_of_size : (side : ℕ) (n : Triple) (kinds : List Kind) (xs : List Particle) (node : Triple) → All IsCharged kinds
     → unsigned_abs (charge_of side n kinds xs node) ≤ length xs * (12 * 2 ^ 15 * (side * side * side))
 unfolding charge_of
 charge_of_size side n kinds xs node limits =
     sum_over_bound (λ x. share side n kinds x node) xs (12 * 2 ^ 15 * (side * side * side)) (λ x. share_size side n kinds x node limits)
 
--- with cells of 4096 sub-cells and at most 1048576 particles it is below 2^75
-pub charge_of_most : (n : Triple) (kinds : List Kind) (xs : List Particle) (node : Triple) → All IsKind kinds → length xs ≤ 1048576
+-- with cells of 4096 sub-cells and no more particles than the limit it is below 2^75
+pub charge_of_most : (n : Triple) (kinds : List Kind) (xs : List Particle) (node : Triple) → All IsCharged kinds → length xs ≤ most_particles
     → IsAtMost (charge_of 4096 n kinds xs node) (2 ^ 75)
 charge_of_most n kinds xs node limits few =
     let size = charge_of_size 4096 n kinds xs node limits in record { size = omega (arith, size, few) }
@@ -141,7 +149,7 @@ holds_more side n kinds xs i d old new below so_far added = record {
 }
 
 -- there is room for a particle more
-pub holds_room : (n : Triple) (kinds : List Kind) (xs : List Particle) (nodes : NodeValues) → All IsKind kinds → length xs ≤ 1048576
+pub holds_room : (n : Triple) (kinds : List Kind) (xs : List Particle) (nodes : NodeValues) → All IsCharged kinds → length xs ≤ most_particles
     → HoldsCharge 4096 n kinds xs nodes
     → NodesAtMost nodes (2 ^ 75)
 holds_room n kinds xs nodes limits few holds = record {

@@ -1,5 +1,5 @@
-pub mod Spreads
-pub mod Nodes
+pub mod SpreadLaws
+pub mod NodeLaws
 pub mod PairLaws
 pub mod ChargeLaws
 pub mod BreakLaws

@@ -1,23 +1,25 @@
 -- The charge of the particles at the nodes, by linear weights (first order, "cloud in cell": Birdsall
 -- and Langdon, "Plasma Physics via Computer Simulation"). All charges are taken 12 times, so that
 -- the flux of a straight segment is a whole number too: this project's profile.
-use Rattle.std.specs.Prelude.{ℤ, pos, ℕ, ◌<◌, ◌*ℤ◌, List, length}
+use Rattle.std.specs.Prelude.{ℤ, pos, ℕ, ◌*ℤ◌, List}
 use Rattle.pic_num.specs.declared.motion.Particle.{Particle}
 use Rattle.pic_num.specs.declared.motion.Kind.{Kind}
+use Rattle.pic_num.specs.Limits.{most_charge}
+use Rattle.pic_num.specs.Sizes.{IsAtMost}
 use Rattle.pic_num.specs.Space.{Triple, triple}
-use Rattle.pic_grid.specs.Hat.{weight, IsInBox}
+use Rattle.pic_grid.specs.Hat.{weight}
 use Rattle.pic_grid.specs.PushPhase.{kind_of}
 use Rattle.pic_grid.specs.Sums.{sum_over}
 
 -- what a particle adds to a node: 12 times its charge times its weight for the node
 unfoldable pub share : ℕ → Triple → List Kind → Particle → Triple → ℤ
-share side n kinds x node = pos 12 *ℤ (kind_of kinds x).charge *ℤ pos (weight side n (triple x.x) node)
+share side n kinds particle node =
+    pos 12 *ℤ (kind_of kinds particle).charge *ℤ pos (weight side n (triple particle.x) node)
+
+-- a species whose charge is within its limit
+abbrev pub IsCharged : Kind → Type 0
+IsCharged k = IsAtMost k.charge most_charge
 
 -- the charge of a node: what all particles add to it
 unfoldable pub charge_of : ℕ → Triple → List Kind → List Particle → Triple → ℤ
-charge_of side n kinds particles node = sum_over (λ x. share side n kinds x node) particles
-
--- a particle that has a share: its species is one of the kinds, and its position lies in the box
-pub record CanShare (side : ℕ) (n : Triple) (kinds : List Kind) (x : Particle) : Type 0 where
-  pub species : x.species < length kinds
-  pub place : IsInBox side n (triple x.x)
+charge_of side n kinds particles node = sum_over (λ particle. share side n kinds particle node) particles

@@ -1,3 +1,5 @@
+//! Gauss's law, node by node.
+
 ghost use Rattle.std.specs.Prelude.{◌≡◌, ◌↔◌, ◌^◌, ◌<◌, ◌≤◌, ◌+◌, ◌-◌, ◌%◌, ◌-ℤ◌, None, IfSome};
 ghost use Rattle.pic_num.specs.declared.axis.Axis.{Axis as AxisName};
 ghost use Rattle.pic_num.specs.Sizes.{IsAtMost};

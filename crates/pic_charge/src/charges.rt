@@ -1,25 +1,28 @@
+//! The charge of the particles at the nodes.
+
 ghost use Rattle.std.specs.Prelude.{◌≡◌, pos, ◌^◌, ◌≤◌, ◌*ℤ◌, All, length};
+ghost use Rattle.pic_num.specs.Limits.{most_particles};
 ghost use Rattle.pic_num.specs.Sizes.{IsAtMost};
 ghost use Rattle.pic_num.specs.Space.{Triple};
 ghost use Rattle.pic_grid.specs.Lattice.{node_at};
 ghost use Rattle.pic_grid.specs.Cells.{IsWithin};
-ghost use Rattle.pic_grid.specs.Species.{IsKind};
-ghost use Rattle.pic_charge.specs.Charge.{share, charge_of, CanShare};
+ghost use Rattle.pic_grid.specs.PushPhase.{CanShare};
+ghost use Rattle.pic_charge.specs.Charge.{share, charge_of, IsCharged};
 ghost use Rattle.pic_charge.specs.Spread.{NodesAtMost, Adds};
 
-use crate::spreading::add_box;
+use crate::spread::add_box;
 use pic_grid::{Cells, Nodes, Pair};
 use pic_num::{Kind, Particle};
 
 /// Makes the nodes the charge of the particles, in 12 times the charge's unit times the cube of the
 /// side of a cell, whatever the nodes held. Weights are linear: Birdsall and Langdon, "Plasma
-/// Physics via Computer Simulation". The nodes have these cells, and each particle has one of the
-/// kinds as its species and a position in the box.
+/// Physics via Computer Simulation". The nodes have these cells, each particle has one of the kinds as
+/// its species and a position in the box, and charges and particles are within their limits.
 pub fn charge(cells: Cells, kinds: &[Kind], particles: &[Particle], to: &mut Nodes)
     requires same_cells { to.old.cells ≡ cells }
-    requires limits { All IsKind kinds.now }
+    requires limits { All IsCharged kinds.now }
     requires placed { All (CanShare 4096 cells kinds.now) particles.now }
-    requires few { length particles.now ≤ 1048576 }
+    requires few { length particles.now ≤ most_particles }
     ensures same_cells { to.new.cells ≡ cells }
     ensures values { (p : Triple) → IsWithin p cells → node_at to.new p ≡ charge_of 4096 cells kinds.now particles.now p }
     ensures size { (p : Triple) → IsWithin p cells → IsAtMost (node_at to.new p) (2 ^ 75) }
@@ -44,7 +47,7 @@ fn clear(cells: Cells, to: &mut Nodes)
 /// Adds a particle's share to every node.
 fn add_particle(cells: Cells, kinds: &[Kind], particle: &Particle, to: &mut Nodes)
     requires same_cells { to.old.cells ≡ cells }
-    requires limits { All IsKind kinds.now }
+    requires limits { All IsCharged kinds.now }
     requires placed { CanShare 4096 cells kinds.now particle.now }
     requires room { NodesAtMost to.old (2 ^ 87) }
     ensures { Adds to.old to.new (share 4096 cells kinds.now particle.now) }

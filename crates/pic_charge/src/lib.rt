@@ -4,7 +4,7 @@
 mod breaks;
 mod charges;
 mod laws;
-mod spreading;
+mod spread;
 #[cfg(test)]
 mod tests;
 

@@ -1,21 +1,23 @@
-ghost use Rattle.std.specs.Prelude.{◌≡◌, ◌^◌, ◌<◌, ◌≤ℤ◌, negsuc, pos, IfOk};
+//! Tests of the charge and of Gauss's law on worked numbers.
+
+ghost use Rattle.std.specs.Prelude.{◌≡◌, ◌^◌, ◌<◌, IfOk};
 ghost use Rattle.pic_num.specs.declared.axis.Axis.{Axis as AxisName};
+ghost use Rattle.pic_num.specs.Limits.{most_charge};
 ghost use Rattle.pic_num.specs.Sizes.{IsAtMost};
 ghost use Rattle.pic_num.specs.Space.{Triple, triple};
 ghost use Rattle.pic_grid.specs.Lattice.{value_at};
 ghost use Rattle.pic_grid.specs.Hat.{IsInBox};
 ghost use Rattle.pic_grid.specs.Cells.{IsWithin};
-ghost use Rattle.pic_grid.specs.Species.{IsKind};
+ghost use Rattle.pic_charge.specs.Charge.{IsCharged};
 
 use super::*;
-use pic_grid::{Cells, Lattice, Nodes};
+use pic_grid::{Cells, Lattice, Nodes, slow_weight};
 use pic_num::{Axis, Kind, Mult, NoMemory, Particle};
 use std::alloc::Global;
 
 fn kind(charge: i32) -> Kind
-    requires low { negsuc 32767 ≤ℤ charge }
-    requires high { charge ≤ℤ pos 32767 }
-    ensures { IsKind result }
+    requires { IsAtMost charge most_charge }
+    ensures { IsCharged result }
 {
     let none = Mult::new(0, 0);
     Kind {
@@ -88,6 +90,23 @@ fn a_charge_is_shared_by_eight_nodes(rt: HostRuntime) -> Result<(), NoMemory> {
                 shares[index],
                 "{x:?} {index}"
             );
+        }
+    }
+    Ok(())
+}
+
+#[test]
+fn a_share_is_twelve_times_the_weight_by_distance(rt: HostRuntime) -> Result<(), NoMemory> {
+    let n = [2, 3, 4];
+    let cells = Cells::new(n);
+    for x in [[0, 0, 0], [8191, 12287, 16383], [4096, 5000, 9999]] {
+        assert!(rt; x[0] < 8192 && x[1] < 12288 && x[2] < 16384);
+        let mut nodes = Nodes::new(rt.alloc(), cells)?;
+        charge_one(0, x, &mut nodes);
+        for index in 0..24 {
+            let node = cells.cell_at(index);
+            let weight = slow_weight(4096, n, x, node);
+            assert_eq!(rt; nodes.at(node), 12 * i128::from(weight), "{x:?} {node:?}");
         }
     }
     Ok(())

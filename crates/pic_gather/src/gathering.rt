@@ -1,3 +1,5 @@
+//! The gather of E and of B at a point.
+
 ghost use Rattle.std.specs.Prelude.{◌≡◌, ◌^◌};
 ghost use Rattle.pic_num.specs.Space.{triple, spot, AreAtMost};
 ghost use Rattle.pic_grid.specs.Lattice.{value_at};

@@ -1,3 +1,5 @@
+//! One component at a point, under the weights of three pairs.
+
 ghost use Rattle.std.specs.Prelude.{◌≡◌, pos, ℕ, ◌-◌, ◌*◌, ◌^◌, ◌<◌, ◌≤◌, ◌+ℤ◌, ◌*ℤ◌};
 ghost use Rattle.pic_num.specs.Rounding.{rounded};
 ghost use Rattle.pic_num.specs.Sizes.{IsAtMost};

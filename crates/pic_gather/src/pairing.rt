@@ -1,3 +1,5 @@
+//! The pairs of a point on the three axes.
+
 ghost use Rattle.std.specs.Prelude.{◌≡◌, ℕ, ◌+◌, ◌-◌, ◌*◌, ◌%◌, ◌<◌, ◌≤◌};
 ghost use Rattle.pic_num.specs.Space.{triple};
 ghost use Rattle.pic_grid.specs.Hat.{periodic_hat, IsInBox};

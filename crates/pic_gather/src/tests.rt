@@ -1,3 +1,5 @@
+//! Tests of the gather on worked numbers.
+
 ghost use Rattle.std.specs.Prelude.{◌≡◌, ℕ, ◌≤◌, IsTrue, IfOk};
 ghost use Rattle.pic_num.specs.Space.{Triple, triple};
 ghost use Rattle.pic_grid.specs.Hat.{IsInBox};

@@ -4,16 +4,17 @@
 use Rattle.std.specs.Prelude.{ℕ, zero, suc, ◌+◌, ◌*◌, ◌/◌, ◌%◌, ◌<◌, ◌≤◌}
 use Rattle.pic_num.specs.declared.axis.Axis.{Axis}
 use Rattle.pic_num.specs.declared.axis.Axis.TheVariants.{X, Y, Z}
+use Rattle.pic_num.specs.Limits.{fewest_cells_of_axis, most_cells_of_axis}
 use Rattle.pic_num.specs.Space.{Triple, axis_number}
 
--- a grid has 2 to 64 cells on each axis
+-- the numbers of cells of a grid on its axes
 pub record IsCells (n : Triple) : Type 0 where
-  pub x_least : 2 ≤ n.x
-  pub x_most : n.x ≤ 64
-  pub y_least : 2 ≤ n.y
-  pub y_most : n.y ≤ 64
-  pub z_least : 2 ≤ n.z
-  pub z_most : n.z ≤ 64
+  pub x_least : fewest_cells_of_axis ≤ n.x
+  pub x_most : n.x ≤ most_cells_of_axis
+  pub y_least : fewest_cells_of_axis ≤ n.y
+  pub y_most : n.y ≤ most_cells_of_axis
+  pub z_least : fewest_cells_of_axis ≤ n.z
+  pub z_most : n.z ≤ most_cells_of_axis
 
 -- a box of cells has 1 to 67 layers on each axis
 pub record IsSize (n : Triple) : Type 0 where

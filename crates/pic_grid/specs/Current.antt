@@ -24,10 +24,10 @@ wrapped n f p =
 
 -- the current of one particle after its push: that of its path, or 0 where it halts
 unfoldable pub flux_after : ℕ → Triple → List Kind → Particle → Axis → Triple → Result Shift Halting → ℤ
-flux_after side n kinds x a p (Ok s) =
-    wrapped n (path_flux side (kind_of kinds x).charge (path side (point_of (triple x.x)) s.d) a) p
-flux_after side n kinds x a p (Err h) = pos 0
+flux_after side n kinds particle a p (Ok s) =
+    wrapped n (path_flux side (kind_of kinds particle).charge (path side (point_of (triple particle.x)) s.d) a) p
+flux_after side n kinds particle a p (Err h) = pos 0
 
 -- the current of all particles, at the edge along the axis a of the cell p
 unfoldable pub current : Surroundings → List Particle → Axis → Triple → ℤ
-current w particles a p = sum_over (λ x. flux_after w.side w.cells w.kinds x a p (push_of w x)) particles
+current w particles a p = sum_over (λ particle. flux_after w.side w.cells w.kinds particle a p (push_of w particle)) particles

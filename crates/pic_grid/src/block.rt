@@ -1,3 +1,5 @@
+//! Boxes of cells, and three components for each cell of one.
+
 ghost use Rattle.std.specs.Prelude.{◌≡◌, ◌↔◌, ℕ, ℤ, pos, ◌*◌, ◌<◌, ◌+ℤ◌, ◌-ℤ◌, ◌≤ℤ◌, ◌<ℤ◌, length, replicate, unsigned_abs, FitsSigned, IsTrue, IfOk};
 ghost use Rattle.std.specs.Int.{w128};
 ghost use Rattle.pic_num.specs.Space.{triple, spot};

@@ -1,3 +1,5 @@
+//! The numbers of cells of the grid, and the order of its cells and places.
+
 ghost use Rattle.std.specs.Prelude.{◌≡◌, ◌↔◌, ◌≤◌, ◌<◌, ◌*◌, length, IsSome, IfSome};
 ghost use Rattle.pic_num.specs.Space.{Triple, triple, spot, unwrapped};
 ghost use Rattle.pic_grid.specs.Cells.{IsCells, IsWithin, count_of, index_of, cell_of, place_of};

@@ -1,3 +1,5 @@
+//! The next cell up and down an axis, periodically.
+
 ghost use Rattle.std.specs.Prelude.{◌≡◌, ◌+◌, ◌-◌, ◌%◌, ◌<◌};
 ghost use Rattle.pic_num.specs.Space.{triple};
 ghost use Rattle.pic_grid.specs.Differences.{up, down};

@@ -1,3 +1,5 @@
+//! One number for each node of the grid.
+
 ghost use Rattle.std.specs.Prelude.{◌≡◌, ℕ, ℤ, pos, length, replicate, IfOk};
 ghost use Rattle.pic_num.specs.Space.{triple};
 ghost use Rattle.pic_grid.specs.Cells.{IsCells, IsWithin, count_of};

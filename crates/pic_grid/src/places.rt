@@ -1,3 +1,5 @@
+//! The order of places in a box of cells.
+
 ghost use Rattle.std.specs.Prelude.{◌≡◌, ◌*◌, ◌<◌};
 ghost use Rattle.pic_num.specs.Space.{triple};
 ghost use Rattle.pic_grid.specs.Cells.{IsSize, IsWithin, count_of, index_of, place_of};

@@ -1,3 +1,5 @@
+//! One state: fields and particles.
+
 ghost use Rattle.std.specs.Prelude.{◌≡◌, ℕ, ℤ, pos, ◌*◌, [], ◌∷◌, replicate, IfOk};
 ghost use Rattle.pic_grid.specs.Cells.{count_of};
 

@@ -1,3 +1,5 @@
+//! What stops a step, and how a run ends.
+
 use pic_num::{Axis, What};
 
 /// The field phases of a step, in their order (the push comes after the first).

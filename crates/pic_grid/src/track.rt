@@ -1,3 +1,5 @@
+//! The path of a particle in one step, as segments.
+
 ghost use Rattle.std.specs.Prelude.{◌≡◌, ℕ, ◌<◌, ◌≤◌, List, length, take};
 ghost use Rattle.pic_num.specs.Space.{spot};
 ghost use Rattle.pic_grid.specs.Arrays.{array_of_spot};

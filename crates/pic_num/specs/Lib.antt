@@ -1,3 +1,4 @@
+pub mod Limits
 pub mod Sizes
 pub mod Rounding
 pub mod Multiplier

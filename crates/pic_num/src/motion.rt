@@ -1,3 +1,5 @@
+//! What the push knows of a particle and its species, and what stops it.
+
 use crate::mult::Mult;
 
 /// A particle: its identity, the number of its species, its position in sub-cells and its velocity

@@ -1,3 +1,5 @@
+//! Multipliers: fractions over a power of two.
+
 ghost use Rattle.std.specs.Prelude.{◌≡◌, ◌-◌, ◌^◌, ◌≤◌, ◌↔◌, IsSome, IfSome};
 ghost use Rattle.pic_num.specs.Sizes.{IsAtMost};
 ghost use Rattle.pic_num.specs.Multiplier.{Multiplier, IsMultiplier};

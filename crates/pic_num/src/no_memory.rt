@@ -1,3 +1,5 @@
+//! Want of memory, as every crate answers it.
+
 use std::alloc::{AllocError, AllocFailed};
 use std::error::Error;
 use std::fmt;

@@ -1,3 +1,5 @@
+//! Roundings: to the nearest, towards 0, and the residue of a position.
+
 ghost use Rattle.std.specs.Prelude.{◌≡◌, ℤ, pos, ℕ, ◌-◌, ◌*◌, ◌^◌, ◌<◌, ◌≤◌, ◌*ℤ◌, ◌<ℤ◌, unsigned_abs};
 ghost use Rattle.pic_num.specs.Sizes.{IsAtMost};
 ghost use Rattle.pic_num.specs.Rounding.{IsRounded, rounded, scaled, IsTruncated, truncated, IsResidue, residue};

@@ -2,7 +2,7 @@ use Rattle.std.proofs.Common.{◌≡◌, ℤ, ◌^◌, take, sym, subst, lit≤,
 use Rattle.std.proofs.lemmas.List.{length-take, take_all}
 use Rattle.pic_num.specs.Sizes.{IsAtMost}
 use Rattle.pic_charge.proofs.ChargeLaws.{HoldsCharge, holds_none, holds_more, holds_room, charge_of_most}
-use Rattle.pic_charge.proofs.Spreads.{still_at_most}
+use Rattle.pic_charge.proofs.SpreadLaws.{still_at_most}
 use Rattle.pic_charge.proofs.charges.charge.Goals as goal
 
 pub loop-particle-init : goal.loop-particle-init

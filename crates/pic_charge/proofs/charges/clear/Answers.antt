@@ -1,7 +1,7 @@
 use Rattle.std.proofs.Common.{sym, subst, arith}
 use Rattle.pic_num.specs.Space.{Triple, triple}
 use Rattle.pic_grid.specs.Cells.{IsWithin}
-use Rattle.pic_charge.proofs.Nodes.{cleared_none, cleared_more, cleared_all}
+use Rattle.pic_charge.proofs.NodeLaws.{cleared_none, cleared_more, cleared_all}
 use Rattle.pic_charge.proofs.charges.clear.Goals as goal
 
 pub set-requires : goal.set-requires

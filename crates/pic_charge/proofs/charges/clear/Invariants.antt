@@ -1,4 +1,4 @@
-use Rattle.pic_charge.proofs.Nodes.{IsCleared}
+use Rattle.pic_charge.proofs.NodeLaws.{IsCleared}
 use Rattle.pic_charge.proofs.charges.clear.Given as goal
 
 abbrev pub invariant-loop-index : goal.invariant-loop-index

@@ -3,8 +3,8 @@ use Rattle.pic_num.proofs.SizeLaws.{codes, code_is}
 use Rattle.pic_num.specs.Sizes.{IsAtMost}
 use Rattle.pic_num.specs.Space.{Triple, triple}
 use Rattle.pic_grid.specs.Cells.{IsWithin}
-use Rattle.pic_charge.proofs.Nodes.{node_added}
-use Rattle.pic_charge.proofs.spreading.add.Goals as goal
+use Rattle.pic_charge.proofs.NodeLaws.{node_added}
+use Rattle.pic_charge.proofs.spread.add.Goals as goal
 
 pub returns : goal.returns
 returns c =

@@ -3,8 +3,8 @@ use Rattle.pic_num.proofs.SizeLaws.{codes, code_at_most}
 use Rattle.pic_num.specs.Sizes.{IsAtMost}
 use Rattle.pic_grid.specs.Hat.{only_at}
 use Rattle.pic_grid.specs.Pair.{weight_in}
-use Rattle.pic_charge.proofs.Spreads.{only_most, weight_in_most, spread_size, room_after, part_is, part_size, plane_added}
-use Rattle.pic_charge.proofs.spreading.add_plane.Goals as goal
+use Rattle.pic_charge.proofs.SpreadLaws.{only_most, weight_in_most, spread_size, room_after, part_is, part_size, plane_added}
+use Rattle.pic_charge.proofs.spread.add_plane.Goals as goal
 
 pub add_line-requires-clause-size : goal.add_line-requires-clause-size
 add_line-requires-clause-size c =

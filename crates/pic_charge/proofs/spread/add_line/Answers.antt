@@ -2,8 +2,8 @@ use Rattle.std.proofs.Common.{◌≡◌, pos, ◌*ℤ◌, ◌*◌, ◌^◌, lit�
 use Rattle.pic_num.proofs.SizeLaws.{codes, code_at_most}
 use Rattle.pic_num.specs.Sizes.{IsAtMost}
 use Rattle.pic_grid.specs.Hat.{only_at}
-use Rattle.pic_charge.proofs.Spreads.{only_most, spread_size, room_after, part_is, part_size, line_added}
-use Rattle.pic_charge.proofs.spreading.add_line.Goals as goal
+use Rattle.pic_charge.proofs.SpreadLaws.{only_most, spread_size, room_after, part_is, part_size, line_added}
+use Rattle.pic_charge.proofs.spread.add_line.Goals as goal
 
 pub add-requires-clause-size : goal.add-requires-clause-size
 add-requires-clause-size c =
