@@ -15,10 +15,10 @@ use Rattle.pic_num.specs.Space.{Triple}
 use Rattle.pic_grid.specs.declared.snapshot.Snapshot.{Snapshot}
 use Rattle.pic_grid.specs.Lattice.{value_at, field_of}
 use Rattle.pic_grid.specs.Cells.{IsWithin}
-use Rattle.pic_grid.specs.PushPhase.{no_kind, moved_all}
+use Rattle.pic_grid.specs.PushPhase.{no_kind, moved_all, CanShare}
 use Rattle.pic_grid.specs.Species.{IsKind, AreHeads, no_head}
 use Rattle.pic_grid.proofs.LatticeLaws.{value_at-field_of}
-use Rattle.pic_charge.specs.Charge.{CanShare, charge_of}
+use Rattle.pic_charge.specs.Charge.{charge_of}
 use Rattle.pic_charge.proofs.BreakLaws.{meets_gauss}
 use Rattle.pic_field.specs.FieldPhases.{IsBounded}
 use Rattle.pic_deck.specs.declared.species_lists.Species.{Species}

@@ -16,10 +16,9 @@ use Rattle.pic_grid.specs.Flux.{flux, path_flux}
 use Rattle.pic_grid.specs.Hat.{hat, IsInBox}
 use Rattle.pic_grid.specs.Path.{point_of, floor_cell, same_int}
 use Rattle.pic_grid.specs.Segment.{Piece, IsInside, IsInCell, Leads, arrived, onward}
-use Rattle.pic_grid.specs.PushPhase.{Surroundings, kind_of, push_of}
+use Rattle.pic_grid.specs.PushPhase.{Surroundings, kind_of, push_of, CanShare}
 use Rattle.pic_grid.specs.Sums.{sum_over}
 use Rattle.pic_grid.proofs.OverLaws.{sum_over_same}
-use Rattle.pic_charge.specs.Charge.{CanShare}
 use Rattle.pic_split.proofs.Leading.{path_leads}
 use Rattle.pic_grid.proofs.TwoHatLaws.{only, only_below, only_above, two_hats}
 use Rattle.pic_split.proofs.ContinuityHats.{IsNear}

@@ -11,10 +11,10 @@ use Rattle.pic_grid.specs.Current.{flux_after, current}
 use Rattle.pic_grid.specs.Differences.{div_e, curl_b}
 use Rattle.pic_grid.specs.Hat.{HasTwo, IsInBox}
 use Rattle.pic_grid.specs.Cells.{IsWithin}
-use Rattle.pic_grid.specs.PushPhase.{Surroundings, kind_of, push_of, after_push, moved, moved_all}
+use Rattle.pic_grid.specs.PushPhase.{Surroundings, kind_of, push_of, after_push, moved, moved_all, CanShare}
 use Rattle.pic_grid.specs.Sums.{sum_over}
 use Rattle.pic_grid.proofs.DifferenceLaws.{div_e-curl_b}
-use Rattle.pic_charge.specs.Charge.{share, charge_of, CanShare}
+use Rattle.pic_charge.specs.Charge.{share, charge_of}
 use Rattle.pic_split.proofs.Continuity.{continuity_of_move}
 use Rattle.pic_split.proofs.ContinuityImages.{div_e-zero, div_e-add, div_e-less}
 use Rattle.pic_step.proofs.Pushes.{push_move}

@@ -15,8 +15,7 @@ use Rattle.pic_grid.specs.Hat.{HasTwo, IsInBox}
 use Rattle.pic_grid.specs.Path.{point_of}
 use Rattle.pic_num.proofs.RoundingLaws.{residue-is}
 use Rattle.std.proofs.lemmas.Bool.Decides.{nat_tests}
-use Rattle.pic_grid.specs.PushPhase.{Surroundings, push_of, after_push, moved, moved_all}
-use Rattle.pic_charge.specs.Charge.{CanShare}
+use Rattle.pic_grid.specs.PushPhase.{Surroundings, push_of, after_push, moved, moved_all, CanShare}
 use Rattle.pic_step.specs.Sound.{AllCanShare}
 use Rattle.pic_split.specs.Moves.{IsMove, wrapped_point}
 

@@ -8,9 +8,8 @@ use Rattle.pic_num.specs.Multiplier.{Multiplier}
 use Rattle.pic_num.specs.Space.{Triple}
 use Rattle.pic_grid.specs.Lattice.{Field, value_at}
 use Rattle.pic_grid.specs.Cells.{IsCells, IsWithin}
-use Rattle.pic_grid.specs.PushPhase.{no_kind}
+use Rattle.pic_grid.specs.PushPhase.{no_kind, CanShare}
 use Rattle.pic_grid.specs.Species.{IsKind}
-use Rattle.pic_charge.specs.Charge.{CanShare}
 use Rattle.pic_charge.specs.Gauss.{MeetsGauss}
 use Rattle.pic_field.specs.FieldPhases.{IsBounded}
 use Rattle.pic_step.specs.SerialStep.{World}

@@ -7,9 +7,11 @@ use Rattle.pic_grid.specs.Differences.{div_e}
 use Rattle.pic_grid.specs.Lattice.{Field, value_at, field_of, node_at}
 use Rattle.pic_grid.specs.Cells.{IsWithin}
 use Rattle.pic_grid.specs.Species.{IsKind}
-use Rattle.pic_charge.specs.Charge.{CanShare, charge_of}
+use Rattle.pic_grid.specs.PushPhase.{CanShare}
+use Rattle.pic_charge.specs.Charge.{charge_of}
 use Rattle.pic_charge.specs.Gauss.{first_break}
 use Rattle.pic_charge.proofs.BreakLaws.{first_break-charge}
+use Rattle.pic_charge.proofs.ChargeLaws.{all_charged}
 use Rattle.pic_deck.specs.Deck.{initial_e}
 use Rattle.pic_step.specs.Sound.{one_part}
 use Rattle.pic_step.specs.SerialRun.{kinds_of}
@@ -21,7 +23,8 @@ pub charge-requires-clause-limits : goal.charge-requires-clause-limits
 charge-requires-clause-limits c =
     let d = c.args.deck.now in
     let kinds : c.deref.result.now ≡ kinds_of d = c.deref.ensures.value ∙ c.in_ok-kinds.ensures in
-    subst (λ (ks : List Kind). (i : ℕ) (k : Kind) → i < length ks → IsKind (get_or ks i k)) (sym kinds) (kinds_are d c.cells-cells.ensures.limits.heads)
+    all_charged c.deref.result.now
+    (subst (λ (ks : List Kind). (i : ℕ) (k : Kind) → i < length ks → IsKind (get_or ks i k)) (sym kinds) (kinds_are d c.cells-cells.ensures.limits.heads))
 
 pub charge-requires-clause-placed : goal.charge-requires-clause-placed
 charge-requires-clause-placed c =

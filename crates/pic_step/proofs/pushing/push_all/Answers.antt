@@ -3,8 +3,7 @@ use Rattle.std.proofs.Math.ListN.{set}
 use Rattle.std.specs.Prelude.{Option}
 use Rattle.pic_grid.specs.declared.stop.Stop.{Stop}
 use Rattle.pic_num.specs.declared.motion.Particle.{Particle}
-use Rattle.pic_grid.specs.PushPhase.{push_of, halt_of}
-use Rattle.pic_charge.specs.Charge.{CanShare}
+use Rattle.pic_grid.specs.PushPhase.{push_of, halt_of, CanShare}
 use Rattle.pic_flux.specs.Adds.{Adds}
 use Rattle.pic_step.specs.Pushing.{felt}
 use Rattle.pic_step.specs.Traces.{trace_of}
