@@ -4,7 +4,7 @@ use Rattle.std.proofs.Math.IntN.{ℤ, pos, negsuc}
 use Rattle.std.proofs.lemmas.Int.{ints}
 use Rattle.pic_num.specs.Multiplier.{Multiplier}
 use Rattle.pic_grid.specs.Species.{IsKind}
-use Rattle.pic_walk.specs.Range.{IsInLimits, from_to}
+use Rattle.pic_walk.specs.Limits.{IsInLimits, from_to}
 use Rattle.pic_walk.proofs.PointLaws.{as_speed, kept_small}
 
 pub kept_charge : (z : ℤ) → IsInLimits (from_to (negsuc 32767) (pos 32767)) z → as_speed z ≡ z

@@ -19,7 +19,7 @@ use Rattle.pic_grid.proofs.LatticeLaws.{value_at-field_of}
 use Rattle.pic_grid.specs.Cells.{IsWithin, count_of, cell_of, axis_of, place_of}
 use Rattle.pic_grid.proofs.CellLaws.{axis_of-place_of, cell_of-place_of, place_of_below, place_within}
 use Rattle.pic_grid.specs.Sums.{sum_over}
-use Rattle.pic_walk.specs.declared.row_lists.Row.{Row}
+use Rattle.pic_walk.specs.declared.row.Row.{Row}
 use Rattle.pic_deck.specs.Initial.{strong, first_strong, set_up, IsMild}
 use Rattle.pic_deck.specs.Keys.{allowed}
 

@@ -7,9 +7,9 @@ use Rattle.std.proofs.lemmas.List.{length-take-le, get_or-set_same, get_or-set_o
 use borrow.Author.Count.{below_more}
 use Rattle.toml.specs.View.{view, items_view}
 use Rattle.toml.specs.declared.value.Value.{Value}
-use Rattle.pic_walk.specs.declared.ranges.Limits.{Limits}
+use Rattle.pic_walk.specs.declared.limits.Limits.{Limits}
 use Rattle.pic_walk.specs.Path.{element_at}
-use Rattle.pic_walk.specs.Range.{from_to, IsInLimits, FitsU32, limits_at}
+use Rattle.pic_walk.specs.Limits.{from_to, IsInLimits, FitsU32, limits_at}
 use Rattle.pic_walk.specs.Walk.{◌>>=◌, each}
 use Rattle.pic_walk.proofs.ArrayLaws.{each_at}
 use Rattle.pic_num.specs.Space.{triple}

@@ -10,12 +10,12 @@ use Rattle.std.proofs.lemmas.List.{length-append, length-map, map-append, get_or
 use Rattle.std.proofs.lemmas.List.Sums.{sum_by-append, sum_by-cons}
 use Rattle.pic_num.specs.Space.{Triple}
 use Rattle.pic_grid.specs.Species.{IsName, IsKind, HeadView, no_head, AreHeads, is_name_byte}
-use Rattle.pic_walk.specs.declared.faults.Refusal.TheVariants.{Name}
+use Rattle.pic_walk.specs.declared.fault.Refusal.TheVariants.{Name}
 use Rattle.pic_walk.specs.Points.{ArePoints}
 use Rattle.pic_walk.specs.Walk.{Walked}
 use Rattle.pic_walk.proofs.ListLaws.{all_more}
-use Rattle.pic_deck.specs.declared.species_lists.Species.{Species}
-use Rattle.pic_deck.specs.Heads.{is_name, is_taken, is_new_name, no_species, IsNewName, AreFilled, points_in, particles_of, head_of}
+use Rattle.pic_deck.specs.declared.species.Species.{Species}
+use Rattle.pic_deck.specs.Species.{is_name, is_taken, is_new_name, no_species, IsNewName, AreFilled, points_in, particles_of, head_of}
 
 name_from : (s : List ℕ) → is_name s ≡ true → IsName s
 unfolding is_name

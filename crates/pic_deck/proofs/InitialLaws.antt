@@ -16,8 +16,8 @@ use Rattle.pic_grid.specs.Sums.{sum_over}
 use Rattle.pic_grid.proofs.LatticeLaws.{value_at-same, value_at-other}
 use Rattle.pic_grid.proofs.OverLaws.{sum_over_more}
 use Rattle.pic_grid.proofs.CellLaws.{place_of_same, places_more}
-use Rattle.pic_walk.specs.Range.{IsInLimits, any_limits}
-use Rattle.pic_walk.specs.declared.row_lists.Row.{Row}
+use Rattle.pic_walk.specs.Limits.{IsInLimits, any_limits}
+use Rattle.pic_walk.specs.declared.row.Row.{Row}
 use Rattle.pic_walk.specs.Rows.{IsRow, AreRows, no_row}
 use Rattle.pic_deck.specs.Initial.{is_of, part, set_up}
 

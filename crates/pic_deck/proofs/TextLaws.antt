@@ -3,8 +3,8 @@ use Rattle.std.proofs.Common.{◌≡◌, ◌↔◌, ◌≤◌, ℕ, ℤ, pos, Li
 use Rattle.std.proofs.lemmas.Bool.{cases_Bool}
 use Rattle.std.proofs.lemmas.Int.{ints}
 use Rattle.toml.specs.Data.{Data, Members}
-use Rattle.pic_walk.specs.declared.faults.Refusal.TheVariants.{Text, Limit, Name}
-use Rattle.pic_walk.specs.Range.{from_to, IsInLimits, is_within}
+use Rattle.pic_walk.specs.declared.fault.Refusal.TheVariants.{Text, Limit, Name}
+use Rattle.pic_walk.specs.Limits.{from_to, IsInLimits, is_within}
 use Rattle.pic_walk.specs.Walk.{Walked, ◌>>=◌, some_or}
 use Rattle.pic_walk.proofs.LimitLaws.{within_in, within_out, IsInLimits-from, is_within-from}
 use Rattle.pic_walk.proofs.TextLaws.{IsNamed, same_refusal, named_ok, named_err, named_then, named_within, named_limited, named_whole, named_text, named_numbers, named_elements, named_each, named_array_of, named_three, named_multiplier, named_listed, named_table_of, named_need, named_optional, named_rows, named_points}
@@ -13,8 +13,8 @@ use Rattle.pic_deck.specs.Deck.{DeckView}
 use Rattle.pic_num.specs.Space.{Triple}
 use Rattle.pic_deck.specs.declared.parts.FieldValues.{FieldValues}
 use Rattle.pic_deck.specs.declared.parts.Setup.{Setup}
-use Rattle.pic_deck.specs.declared.species_lists.Species.{Species}
-use Rattle.pic_deck.specs.Heads.{is_new_name}
+use Rattle.pic_deck.specs.declared.species.Species.{Species}
+use Rattle.pic_deck.specs.Species.{is_new_name}
 use Rattle.pic_deck.specs.Keys.{axis_tiles, next_tiles, tiles, grid, run, scale, setup, fields, species_name, species_kind, one_species, species_list, allowed, forces, deck, document, walk}
 use Rattle.pic_deck.specs.Reading.{IsNoText}
 

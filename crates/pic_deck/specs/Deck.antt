@@ -5,12 +5,12 @@ use Rattle.pic_num.specs.declared.axis.Axis.{Axis}
 use Rattle.pic_num.specs.Space.{Triple, triple, Spot, spot}
 use Rattle.pic_grid.specs.Cells.{IsCells, count_of}
 use Rattle.pic_grid.specs.Species.{HeadView, AreHeads}
-use Rattle.pic_walk.specs.declared.row_lists.Row.{Row}
+use Rattle.pic_walk.specs.declared.row.Row.{Row}
 use Rattle.pic_walk.specs.Rows.{AreRows}
 use Rattle.pic_deck.specs.declared.parts.FieldValues.{FieldValues}
 use Rattle.pic_deck.specs.declared.parts.Setup.{Setup}
-use Rattle.pic_deck.specs.declared.species_lists.Species.{Species}
-use Rattle.pic_deck.specs.Heads.{AreFilled, head_of}
+use Rattle.pic_deck.specs.declared.species.Species.{Species}
+use Rattle.pic_deck.specs.Species.{AreFilled, head_of}
 use Rattle.pic_deck.specs.Initial.{IsMild, set_up}
 
 -- a deck: the cells and the tiles of each axis, how many steps, after how many a frame is due, the

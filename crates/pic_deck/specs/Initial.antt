@@ -9,7 +9,7 @@ use Rattle.pic_num.specs.Sizes.{IsAtMost}
 use Rattle.pic_num.specs.Space.{Triple, Spot, along, axis_number}
 use Rattle.pic_grid.specs.Cells.{IsWithin, count_of, cell_of, axis_of}
 use Rattle.pic_grid.specs.Sums.{sum_over}
-use Rattle.pic_walk.specs.declared.row_lists.Row.{Row}
+use Rattle.pic_walk.specs.declared.row.Row.{Row}
 
 -- the row is of the place on the axis a at the cell p
 abbrev pub is_of : Axis → Triple → Row → Bool

@@ -8,19 +8,19 @@ use Rattle.pic_num.specs.declared.mult.Scales.{Scales}
 use Rattle.pic_num.specs.declared.motion.Kind.{Kind}
 use Rattle.pic_num.specs.Space.{Triple, triple, spot}
 use Rattle.pic_grid.specs.Cells.{count_of}
-use Rattle.pic_walk.specs.declared.faults.Refusal.TheVariants.{Text, Limit, Name}
-use Rattle.pic_walk.specs.declared.ranges.Limits.{Limits}
+use Rattle.pic_walk.specs.declared.fault.Refusal.TheVariants.{Text, Limit, Name}
+use Rattle.pic_walk.specs.declared.limits.Limits.{Limits}
 use Rattle.pic_walk.specs.Path.{key_at}
 use Rattle.pic_walk.specs.Points.{point_list}
-use Rattle.pic_walk.specs.Range.{from_to}
+use Rattle.pic_walk.specs.Limits.{from_to}
 use Rattle.pic_walk.specs.Rows.{row_list}
 use Rattle.pic_walk.specs.Walk.{Walked, ◌>>=◌, some_or, within, limited, whole, text, elements, count_of_items, each, array_of, numbers, three, any_three, multiplier, listed, table_of, need, optional}
 use Rattle.pic_deck.specs.declared.parts.FieldValues.{FieldValues}
 use Rattle.pic_deck.specs.declared.parts.Setup.{Setup}
-use Rattle.pic_deck.specs.declared.species_lists.Fill.TheVariants.{Points}
-use Rattle.pic_deck.specs.declared.species_lists.Species.{Species}
+use Rattle.pic_deck.specs.declared.species.Fill.TheVariants.{Points}
+use Rattle.pic_deck.specs.declared.species.Species.{Species}
 use Rattle.pic_deck.specs.Deck.{DeckView, deck_view}
-use Rattle.pic_deck.specs.Heads.{is_new_name, particles_of}
+use Rattle.pic_deck.specs.Species.{is_new_name, particles_of}
 use Rattle.pic_deck.specs.Initial.{set_up, first_strong}
 
 -- the keys of the document's own table

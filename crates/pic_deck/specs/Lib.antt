@@ -1,5 +1,5 @@
 pub mod Initial
-pub mod Heads
+pub mod Species
 pub mod Deck
 pub mod Keys
 pub mod Reading

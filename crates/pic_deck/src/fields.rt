@@ -1,6 +1,6 @@
 ghost use Rattle.std.specs.Prelude.{◌≡◌, List, [], codes, IfOk};
 ghost use Rattle.toml.specs.View.{view, table_view};
-ghost use Rattle.pic_walk.specs.declared.row_lists.Row.{Row};
+ghost use Rattle.pic_walk.specs.declared.row.Row.{Row};
 ghost use Rattle.pic_walk.specs.Rows.{AreRows, row_list};
 ghost use Rattle.pic_walk.specs.Walk.{WalksAs, table_of, optional};
 ghost use Rattle.pic_deck.specs.declared.parts.FieldValues.{FieldValues as FieldView};

@@ -2,23 +2,23 @@
 //! species.
 #![tactic(auto)]
 
-mod decks;
+mod deck;
 mod fields;
 mod filling;
 mod forces;
 mod grid;
-mod namings;
+mod naming;
 mod parts;
 mod run;
 mod scale;
-mod setup;
-mod species_lists;
+mod settings;
+mod species;
 mod species_reader;
 #[cfg(test)]
 mod tests;
-mod top;
+mod reading;
 
-pub use decks::Deck;
+pub use deck::Deck;
 pub use pic_walk::{DeckFault, KeyPath, Point6, Points, Refusal, Row, Rows};
-pub use species_lists::{Fill, Species, SpeciesList};
-pub use top::read_deck;
+pub use species::{Fill, Species, SpeciesList};
+pub use reading::read_deck;

@@ -2,16 +2,16 @@ ghost use Rattle.std.specs.Prelude.{◌≡◌, ℕ, pos, negsuc, ◌+◌, ◌<�
 ghost use Rattle.toml.specs.View.{view, array_view, table_view};
 ghost use Rattle.pic_num.specs.declared.motion.Kind.{Kind as KindView};
 ghost use Rattle.pic_grid.specs.Species.{IsKind, AreHeads};
-ghost use Rattle.pic_walk.specs.declared.point_lists.Point6.{Point6};
+ghost use Rattle.pic_walk.specs.declared.point6.Point6.{Point6};
 ghost use Rattle.pic_walk.specs.Path.{path_of};
 ghost use Rattle.pic_walk.specs.Points.{ArePoints, point_list};
 ghost use Rattle.pic_walk.specs.Walk.{WalksAs, within, need, each, table_of, optional};
-ghost use Rattle.pic_deck.specs.declared.species_lists.Species.{Species as SpeciesView};
-ghost use Rattle.pic_deck.specs.Heads.{IsNewName, AreFilled, points_in, particles_of, head_of};
+ghost use Rattle.pic_deck.specs.declared.species.Species.{Species as SpeciesView};
+ghost use Rattle.pic_deck.specs.Species.{IsNewName, AreFilled, points_in, particles_of, head_of};
 ghost use Rattle.pic_deck.specs.Keys.{species_keys, species_kind, one_species, species_list};
 
-use crate::namings::need_name;
-use crate::species_lists::{Fill, Species, SpeciesList};
+use crate::naming::need_name;
+use crate::species::{Fill, Species, SpeciesList};
 use pic_grid::Cells;
 use pic_num::Kind;
 use pic_walk::{

@@ -5,11 +5,11 @@ use Rattle.std.proofs.lemmas.List.{append-nil, append_assoc, length-append, leng
 use Rattle.std.proofs.lemmas.List.Elements.{All-append, All-map}
 use Rattle.std.proofs.lemmas.List.Sums.{sum_by-cons, sum_by_more_le}
 use Rattle.pic_num.specs.declared.motion.Particle.{Particle}
-use Rattle.pic_walk.specs.declared.point_lists.Point6.{Point6}
+use Rattle.pic_walk.specs.declared.point6.Point6.{Point6}
 use Rattle.pic_walk.specs.Points.{no_point}
-use Rattle.pic_deck.specs.declared.species_lists.Species.{Species}
+use Rattle.pic_deck.specs.declared.species.Species.{Species}
 use Rattle.pic_deck.specs.Deck.{DeckView, IsWithinLimits}
-use Rattle.pic_deck.specs.Heads.{points_in, particles_of, no_species}
+use Rattle.pic_deck.specs.Species.{points_in, particles_of, no_species}
 use Rattle.pic_deck.proofs.HeadLaws.{particles_of-heads}
 use Rattle.pic_load.specs.Loading.{Member, member, members_from, particle, numbered, loaded, IsLoaded, AreLoaded}
 

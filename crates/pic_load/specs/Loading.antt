@@ -7,10 +7,10 @@ use Rattle.pic_num.specs.declared.axis.Axis.{Axis}
 use Rattle.pic_num.specs.Sizes.{IsAtMost}
 use Rattle.pic_num.specs.Space.{triple, spot, along}
 use Rattle.pic_grid.specs.Hat.{IsInBox}
-use Rattle.pic_walk.specs.declared.point_lists.Point6.{Point6}
-use Rattle.pic_deck.specs.declared.species_lists.Species.{Species}
+use Rattle.pic_walk.specs.declared.point6.Point6.{Point6}
+use Rattle.pic_deck.specs.declared.species.Species.{Species}
 use Rattle.pic_deck.specs.Deck.{DeckView}
-use Rattle.pic_deck.specs.Heads.{points_in, particles_of}
+use Rattle.pic_deck.specs.Species.{points_in, particles_of}
 
 -- a particle that a deck gives, and the number of its species
 pub record Member : Type 0 where

@@ -1,5 +1,5 @@
 ghost use Rattle.std.specs.Prelude.{◌≡◌, ◌+◌, ◌≤◌, ◌++◌, map, length, IfOk, OnOk};
-ghost use Rattle.pic_deck.specs.Heads.{points_in};
+ghost use Rattle.pic_deck.specs.Species.{points_in};
 ghost use Rattle.pic_load.specs.Loading.{member, numbered, loaded, AreLoaded};
 
 use pic_deck::{Deck, Fill, Point6};

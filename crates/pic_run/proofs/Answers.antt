@@ -16,7 +16,7 @@ use Rattle.pic_charge.specs.Gauss.{IsLeastBreak}
 use Rattle.pic_charge.proofs.BreakLaws.{first_break_some}
 use Rattle.pic_deck.specs.Deck.{DeckView}
 use Rattle.pic_walk.specs.Walk.{Walked}
-use Rattle.pic_walk.specs.declared.faults.Refusal.{Refusal}
+use Rattle.pic_walk.specs.declared.fault.Refusal.{Refusal}
 use Rattle.pic_deck.specs.Keys.{walk}
 use Rattle.pic_step.specs.SerialStep.{World, stepped}
 use Rattle.pic_step.specs.SerialRun.{after, step_from, stopped_in}

@@ -8,8 +8,8 @@ use Rattle.pic_io.specs.Source.{IsAtEnd}
 use Rattle.pic_io.specs.Sinks.{Sinks}
 use Rattle.pic_io.proofs.Puts.{wrote_none}
 use Rattle.pic_deck.specs.Deck.{DeckView}
-use Rattle.pic_walk.specs.declared.faults.Refusal.TheVariants.{Text, Limit}
-use Rattle.pic_walk.specs.Range.{from_to, is_within}
+use Rattle.pic_walk.specs.declared.fault.Refusal.TheVariants.{Text, Limit}
+use Rattle.pic_walk.specs.Limits.{from_to, is_within}
 use Rattle.pic_walk.specs.Walk.{Walked, ◌>>=◌, within, some_or}
 use Rattle.pic_deck.specs.Keys.{walk, document, deck}
 use Rattle.pic_run.specs.declared.commands.Command.{Command}

@@ -21,9 +21,9 @@ use Rattle.pic_grid.proofs.LatticeLaws.{value_at-field_of}
 use Rattle.pic_charge.specs.Charge.{charge_of}
 use Rattle.pic_charge.proofs.BreakLaws.{meets_gauss}
 use Rattle.pic_field.specs.FieldPhases.{IsBounded}
-use Rattle.pic_deck.specs.declared.species_lists.Species.{Species}
+use Rattle.pic_deck.specs.declared.species.Species.{Species}
 use Rattle.pic_deck.specs.Deck.{DeckView, IsWithinLimits, heads_of, initial_e, initial_b}
-use Rattle.pic_deck.specs.Heads.{head_of, no_species}
+use Rattle.pic_deck.specs.Species.{head_of, no_species}
 use Rattle.pic_deck.specs.Initial.{IsMild}
 use Rattle.pic_load.specs.Loading.{IsLoaded, AreLoaded}
 use Rattle.pic_step.specs.SerialStep.{World, step_on, stop_of, stepped}

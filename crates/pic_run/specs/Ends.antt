@@ -11,7 +11,7 @@ use Rattle.pic_charge.specs.declared.breaks.Break.{Break}
 use Rattle.pic_charge.specs.Charge.{charge_of}
 use Rattle.pic_charge.specs.Gauss.{IsLeastBreak}
 use Rattle.pic_walk.specs.Walk.{Walked}
-use Rattle.pic_walk.specs.declared.faults.Refusal.{Refusal}
+use Rattle.pic_walk.specs.declared.fault.Refusal.{Refusal}
 use Rattle.pic_deck.specs.Deck.{DeckView}
 use Rattle.pic_deck.specs.Keys.{walk}
 use Rattle.pic_load.specs.Loading.{loaded}

@@ -4,7 +4,7 @@ ghost use Rattle.pic_io.specs.Sinks.{sinks, FailedAt};
 ghost use Rattle.pic_io.specs.declared.side.Side.{Side as SideName};
 ghost use Rattle.pic_grid.specs.declared.stop.Stop.{Stop as StopName};
 ghost use Rattle.pic_charge.specs.declared.breaks.Break.{Break as BreakName};
-ghost use Rattle.pic_walk.specs.declared.faults.Refusal.{Refusal as RefusalName};
+ghost use Rattle.pic_walk.specs.declared.fault.Refusal.{Refusal as RefusalName};
 ghost use Rattle.pic_deck.specs.Keys.{walk};
 ghost use Rattle.pic_load.specs.Loading.{AreLoaded};
 ghost use Rattle.pic_step.specs.SerialStep.{World};

@@ -1,6 +1,6 @@
 ghost use Rattle.std.specs.Prelude.{◌≡◌, ◌≤◌, length, map, IfOk};
 ghost use Rattle.pic_grid.specs.Species.{AreHeads};
-ghost use Rattle.pic_deck.specs.Heads.{head_of, points_in};
+ghost use Rattle.pic_deck.specs.Species.{head_of, points_in};
 ghost use Rattle.pic_run.specs.Starting.{header_of};
 
 use pic_deck::{Deck, Fill, Species};

@@ -6,7 +6,7 @@ use Rattle.pic_grid.specs.declared.stop.Stop.{Stop}
 use Rattle.pic_grid.specs.declared.stop.EndMark.{EndMark}
 use Rattle.pic_grid.specs.declared.stop.EndMark.TheVariants.{Stopped}
 use Rattle.pic_grid.specs.Lattice.{field_of}
-use Rattle.pic_deck.specs.declared.species_lists.Species.{Species}
+use Rattle.pic_deck.specs.declared.species.Species.{Species}
 use Rattle.pic_deck.specs.Deck.{DeckView, initial_e, initial_b}
 use Rattle.pic_step.specs.declared.stepping.StepStop.{StepStop}
 use Rattle.pic_step.specs.declared.stepping.StepStop.TheVariants as step_stop

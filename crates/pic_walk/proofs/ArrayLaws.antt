@@ -7,10 +7,10 @@ use Rattle.toml.specs.Data.{Data}
 use Rattle.toml.specs.View.{view, items_view}
 use Rattle.toml.specs.declared.value.Value.{Value}
 use Rattle.toml.proofs.Views.{items_view-drop}
-use Rattle.pic_walk.specs.declared.faults.Refusal.TheVariants.{Kind}
-use Rattle.pic_walk.specs.declared.ranges.Limits.{Limits}
+use Rattle.pic_walk.specs.declared.fault.Refusal.TheVariants.{Kind}
+use Rattle.pic_walk.specs.declared.limits.Limits.{Limits}
 use Rattle.pic_walk.specs.Path.{element_at}
-use Rattle.pic_walk.specs.Range.{IsInLimits, limits_at}
+use Rattle.pic_walk.specs.Limits.{IsInLimits, limits_at}
 use Rattle.pic_walk.specs.Walk.{Walked, ◌>>=◌, count_of_items, of_length, each, limited, number_at}
 
 pub count_of_items-view : (vs : List Value) → count_of_items (items_view vs) ≡ length vs

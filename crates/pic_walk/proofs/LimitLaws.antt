@@ -4,9 +4,9 @@ use Rattle.std.proofs.lemmas.Bool.{and_parts}
 use Rattle.std.proofs.lemmas.Int.{ints, to_z-of_z}
 use mir.Syntax.{w64, w128}
 use mir.Val.{SFits, to_z, of_z}
-use Rattle.pic_walk.specs.declared.ranges.Limits.{Limits}
-use Rattle.pic_walk.specs.declared.faults.Refusal.TheVariants.{Limit}
-use Rattle.pic_walk.specs.Range.{IsInLimits, is_within}
+use Rattle.pic_walk.specs.declared.limits.Limits.{Limits}
+use Rattle.pic_walk.specs.declared.fault.Refusal.TheVariants.{Limit}
+use Rattle.pic_walk.specs.Limits.{IsInLimits, is_within}
 use Rattle.pic_walk.specs.Walk.{within}
 
 pub within_in : (limits : Limits) (path : List ℕ) (z : ℤ) → is_within limits z ≡ true → within limits path z ≡ Ok z

@@ -10,8 +10,8 @@ use Rattle.pic_num.specs.declared.axis.Axis.{Axis}
 use Rattle.pic_num.specs.Sizes.{IsAtMost}
 use Rattle.pic_num.specs.Space.{Triple, along, spot}
 use Rattle.pic_grid.specs.Cells.{IsCells}
-use Rattle.pic_walk.specs.Range.{IsInLimits, limits_at, below}
-use Rattle.pic_walk.specs.declared.point_lists.Point6.{Point6}
+use Rattle.pic_walk.specs.Limits.{IsInLimits, limits_at, below}
+use Rattle.pic_walk.specs.declared.point6.Point6.{Point6}
 use Rattle.pic_walk.specs.Points.{IsPoint, speed_limits, point_limits, point_of}
 
 abbrev pub AreInside : Triple → List ℤ → Type 0

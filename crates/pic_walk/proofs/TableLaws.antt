@@ -8,7 +8,7 @@ use Rattle.std.specs.List.Sorted.{IsStrictlySortedBy}
 use Rattle.std.specs.String.{string_cmp}
 use Rattle.toml.proofs.Views.{is_before-sorted}
 use Rattle.toml.specs.Data.{Members}
-use Rattle.pic_walk.specs.declared.faults.Refusal.TheVariants.{Unknown}
+use Rattle.pic_walk.specs.declared.fault.Refusal.TheVariants.{Unknown}
 use Rattle.pic_walk.specs.Path.{key_at}
 use Rattle.pic_walk.specs.Walk.{member_keys, is_listed, first_unlisted, keys_ascend, known, listed}
 

@@ -3,11 +3,11 @@ use Rattle.std.proofs.Common.{◌≡◌, ◌≢◌, ℤ, ℕ, List, [], ◌∷�
 use Rattle.std.proofs.lemmas.Bool.{cases_Bool}
 use Rattle.toml.specs.Data.{Data, Items, no_items, item, Members, as_str, as_integer, as_array, as_table, get_member}
 use Rattle.pic_num.specs.Space.{Triple}
-use Rattle.pic_walk.specs.declared.faults.Refusal.{Refusal}
-use Rattle.pic_walk.specs.declared.faults.Refusal.TheVariants.{Text, Kind}
-use Rattle.pic_walk.specs.declared.ranges.Limits.{Limits}
+use Rattle.pic_walk.specs.declared.fault.Refusal.{Refusal}
+use Rattle.pic_walk.specs.declared.fault.Refusal.TheVariants.{Text, Kind}
+use Rattle.pic_walk.specs.declared.limits.Limits.{Limits}
 use Rattle.pic_walk.specs.Points.{point, point_list}
-use Rattle.pic_walk.specs.Range.{is_within}
+use Rattle.pic_walk.specs.Limits.{is_within}
 use Rattle.pic_walk.specs.Rows.{row, row_list}
 use Rattle.pic_walk.specs.Walk.{Walked, ◌>>=◌, some_or, number, within, limited, whole, count_of_items, of_length, text, elements, list_of, given, optional, fixed, each, array_of, number_at, numbers, three, multiplier, known, first_unlisted, listed, table_of, needed, need}
 use Rattle.pic_walk.proofs.LimitLaws.{within_in, within_out}

@@ -1,9 +1,9 @@
 -- How the exits of a reader answer a walk.
 use Rattle.std.proofs.Common.{◌≡◌, List, ℕ, Option, Some, None, Result, Ok, Err, IsErrAnd, ap, sym, ◌∙◌}
 use Rattle.std.proofs.lemmas.Result.{err_from_is_err_and}
-use Rattle.pic_walk.specs.declared.faults.Refusal.{Refusal}
-use Rattle.pic_walk.specs.declared.faults.DeckFault.{DeckFault}
-use Rattle.pic_walk.specs.declared.faults.DeckFault.TheVariants.{Refused, NoMemory}
+use Rattle.pic_walk.specs.declared.fault.Refusal.{Refusal}
+use Rattle.pic_walk.specs.declared.fault.DeckFault.{DeckFault}
+use Rattle.pic_walk.specs.declared.fault.DeckFault.TheVariants.{Refused, NoMemory}
 use Rattle.toml.specs.Data.{Data}
 use Rattle.pic_walk.specs.Walk.{Walked, ◌>>=◌, some_or, given, IsFault, WalksAs}
 

@@ -1,4 +1,4 @@
-pub mod Range
+pub mod Limits
 pub mod Path
 pub mod Walk
 pub mod Rows

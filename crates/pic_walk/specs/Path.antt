@@ -1,6 +1,6 @@
 -- Key paths, as lists of bytes.
 use Rattle.std.specs.Prelude.{ℕ, List, ◌++◌, ◌==◌, length, codes, decimal, if◌then◌else◌, Option, Some, None}
-use Rattle.pic_walk.specs.declared.places.Place.{Place}
+use Rattle.pic_walk.specs.declared.address.Place.{Place}
 
 -- the path of a key in the table at a path; the document's own table has the empty path
 unfoldable pub key_at : List ℕ → List ℕ → List ℕ

@@ -5,9 +5,9 @@ use Rattle.pic_num.specs.declared.axis.Axis.{Axis}
 use Rattle.pic_num.specs.Sizes.{IsAtMost}
 use Rattle.pic_num.specs.Space.{Triple, triple, spot, along}
 use Rattle.pic_grid.specs.Hat.{IsInBox}
-use Rattle.pic_walk.specs.declared.point_lists.Point6.{Point6}
-use Rattle.pic_walk.specs.declared.ranges.Limits.{Limits}
-use Rattle.pic_walk.specs.Range.{from_to, below}
+use Rattle.pic_walk.specs.declared.point6.Point6.{Point6}
+use Rattle.pic_walk.specs.declared.limits.Limits.{Limits}
+use Rattle.pic_walk.specs.Limits.{from_to, below}
 use Rattle.pic_walk.specs.Walk.{Walked, ◌>>=◌, list_of, numbers, natural_at}
 
 -- a particle that isn't there

@@ -4,9 +4,9 @@ use Rattle.toml.specs.Data.{Data}
 use Rattle.pic_num.specs.declared.axis.Axis.TheVariants.{X}
 use Rattle.pic_num.specs.Space.{Triple, triple}
 use Rattle.pic_grid.specs.Cells.{IsWithin, axis_of}
-use Rattle.pic_walk.specs.declared.ranges.Limits.{Limits}
-use Rattle.pic_walk.specs.declared.row_lists.Row.{Row}
-use Rattle.pic_walk.specs.Range.{IsInLimits, from_to, below, any_limits}
+use Rattle.pic_walk.specs.declared.limits.Limits.{Limits}
+use Rattle.pic_walk.specs.declared.row.Row.{Row}
+use Rattle.pic_walk.specs.Limits.{IsInLimits, from_to, below, any_limits}
 use Rattle.pic_walk.specs.Walk.{Walked, ◌>>=◌, within, list_of, numbers, natural_at}
 
 -- a row that adds nothing

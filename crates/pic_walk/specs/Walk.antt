@@ -4,12 +4,12 @@ use Rattle.std.specs.Prelude.{◌≡◌, ⊤, ℤ, pos, neg_ℤ, ℕ, suc, Bool,
 use Rattle.std.specs.List.{list_any}
 use Rattle.toml.specs.Data.{Data, Items, no_items, item, Members, no_members, member, as_str, as_integer, as_array, as_table, get_member, is_before}
 use Rattle.pic_num.specs.Multiplier.{Multiplier}
-use Rattle.pic_walk.specs.declared.faults.Refusal.{Refusal}
-use Rattle.pic_walk.specs.declared.faults.Refusal.TheVariants.{Unknown, Missing, Kind, Limit}
-use Rattle.pic_walk.specs.declared.faults.DeckFault.{DeckFault}
-use Rattle.pic_walk.specs.declared.faults.DeckFault.TheVariants.{Refused, NoMemory}
-use Rattle.pic_walk.specs.declared.ranges.Limits.{Limits}
-use Rattle.pic_walk.specs.Range.{from_to, is_within, limits_at, any_limits}
+use Rattle.pic_walk.specs.declared.fault.Refusal.{Refusal}
+use Rattle.pic_walk.specs.declared.fault.Refusal.TheVariants.{Unknown, Missing, Kind, Limit}
+use Rattle.pic_walk.specs.declared.fault.DeckFault.{DeckFault}
+use Rattle.pic_walk.specs.declared.fault.DeckFault.TheVariants.{Refused, NoMemory}
+use Rattle.pic_walk.specs.declared.limits.Limits.{Limits}
+use Rattle.pic_walk.specs.Limits.{from_to, is_within, limits_at, any_limits}
 use Rattle.pic_walk.specs.Path.{key_at, element_at}
 
 -- what a walk gives

@@ -2,12 +2,12 @@ ghost use Rattle.std.specs.Prelude.{◌≡◌, ℤ, ℕ, pos, List, None, ◌<�
 ghost use Rattle.pic_num.specs.Multiplier.{Multiplier};
 ghost use Rattle.toml.specs.View.{view, array_view};
 ghost use Rattle.pic_walk.specs.Path.{path_of};
-ghost use Rattle.pic_walk.specs.Range.{IsInLimits, FitsU32, limits_at};
+ghost use Rattle.pic_walk.specs.Limits.{IsInLimits, FitsU32, limits_at};
 ghost use Rattle.pic_walk.specs.Walk.{WalksAs, within, limited, whole, text, elements, fixed, numbers, three, multiplier, multiplier_limits};
 
-use crate::faults::DeckFault;
-use crate::places::Place;
-use crate::ranges::Limits;
+use crate::fault::DeckFault;
+use crate::address::Place;
+use crate::limits::Limits;
 use pic_num::Mult;
 use std::alloc::Global;
 use toml::Value;
@@ -167,7 +167,7 @@ fn multiplier_limits() -> [Limits; 2]
     ]
 }
 
-#[tactic(auto, unfolding(crate::specs::Range::limits_at))]
+#[tactic(auto, unfolding(crate::specs::Limits::limits_at))]
 fn multiplier_of(n: i64, k: i64) -> Mult
     requires n { IsInLimits (limits_at multiplier_limits 0) n }
     requires k { IsInLimits (limits_at multiplier_limits 1) k }

@@ -1,16 +1,16 @@
 ghost use Rattle.std.specs.Prelude.{◌≡◌, ℕ, ℤ, pos, ◌<◌, List, None, IfOk, length, slice_index_or};
 ghost use Rattle.toml.specs.View.{view};
 ghost use Rattle.pic_walk.specs.Path.{path_of};
-ghost use Rattle.pic_walk.specs.Range.{IsInLimits, limits_at};
+ghost use Rattle.pic_walk.specs.Limits.{IsInLimits, limits_at};
 ghost use Rattle.pic_walk.specs.Walk.{WalksAs};
-ghost use Rattle.pic_walk.specs.declared.point_lists.Point6.{Point6 as PointView};
+ghost use Rattle.pic_walk.specs.declared.point6.Point6.{Point6 as PointView};
 ghost use Rattle.pic_walk.specs.Points.{IsPoint, ArePoints, speed_limits, point_limits, point_of, point, point_list};
 
-use crate::faults::DeckFault;
+use crate::fault::DeckFault;
 use crate::numbers::{read_elements, read_numbers};
-use crate::places::Place;
-use crate::point_lists::{Point6, Points};
-use crate::ranges::Limits;
+use crate::address::Place;
+use crate::point6::{Point6, Points};
+use crate::limits::Limits;
 use pic_grid::Cells;
 use std::alloc::Global;
 use toml::Value;
@@ -34,7 +34,7 @@ fn point_limits(cells: Cells) -> [Limits; 6]
     ]
 }
 
-#[tactic(auto, unfolding(crate::specs::Range::limits_at))]
+#[tactic(auto, unfolding(crate::specs::Limits::limits_at))]
 fn point_of(cells: Cells, numbers: [i64; 6]) -> Point6
     requires { (k : ℕ) → k < 6 → IsInLimits (limits_at (point_limits cells) k) (slice_index_or numbers k (pos 0)) }
     ensures value { result ≡ point_of numbers }

@@ -2,16 +2,16 @@ ghost use Rattle.std.specs.Prelude.{◌≡◌, ℕ, ℤ, pos, ◌^◌, ◌<◌, 
 ghost use Rattle.toml.specs.View.{view};
 ghost use Rattle.pic_grid.specs.Cells.{axis_of};
 ghost use Rattle.pic_walk.specs.Path.{path_of};
-ghost use Rattle.pic_walk.specs.Range.{IsInLimits, limits_at};
+ghost use Rattle.pic_walk.specs.Limits.{IsInLimits, limits_at};
 ghost use Rattle.pic_walk.specs.Walk.{WalksAs, list_of};
-ghost use Rattle.pic_walk.specs.declared.row_lists.Row.{Row as RowView};
+ghost use Rattle.pic_walk.specs.declared.row.Row.{Row as RowView};
 ghost use Rattle.pic_walk.specs.Rows.{IsRow, AreRows, no_row, row_limits, row_of, row, row_list};
 
-use crate::faults::DeckFault;
+use crate::fault::DeckFault;
 use crate::numbers::{check_within, read_elements, read_numbers};
-use crate::places::Place;
-use crate::ranges::Limits;
-use crate::row_lists::{Row, Rows};
+use crate::address::Place;
+use crate::limits::Limits;
+use crate::row::{Row, Rows};
 use pic_grid::Cells;
 use pic_num::Axis;
 use std::alloc::Global;
@@ -44,7 +44,7 @@ fn axis_at(number: i64) -> Axis
     }
 }
 
-#[tactic(auto, unfolding(crate::specs::Range::limits_at))]
+#[tactic(auto, unfolding(crate::specs::Limits::limits_at))]
 fn row_of(cells: Cells, numbers: [i64; 5]) -> Row
     requires { (k : ℕ) → k < 5 → IsInLimits (limits_at (row_limits cells) k) (slice_index_or numbers k (pos 0)) }
     ensures value { result ≡ row_of numbers }

@@ -3,14 +3,14 @@ ghost use Rattle.pic_num.specs.Multiplier.{Multiplier};
 ghost use Rattle.toml.specs.Data.{get_member};
 ghost use Rattle.toml.specs.View.{view, table_view};
 ghost use Rattle.pic_walk.specs.Path.{path_of};
-ghost use Rattle.pic_walk.specs.Range.{IsInLimits, FitsU32, limits_at};
+ghost use Rattle.pic_walk.specs.Limits.{IsInLimits, FitsU32, limits_at};
 ghost use Rattle.pic_walk.specs.Walk.{WalksAs, listed, keys_ascend, table_of, needed, need, optional, limited, whole, numbers, three, any_three, multiplier};
 
-use crate::faults::DeckFault;
+use crate::fault::DeckFault;
 use crate::keys::first_unlisted;
 use crate::numbers::{read_multiplier, read_number, read_numbers, read_three, read_whole};
-use crate::places::Place;
-use crate::ranges::Limits;
+use crate::address::Place;
+use crate::limits::Limits;
 use pic_num::Mult;
 use std::alloc::Global;
 use toml::{Table, Value};

@@ -3,7 +3,7 @@ use Rattle.toml.specs.View.{items_view}
 use Rattle.pic_grid.specs.Species.{AreHeads}
 use Rattle.pic_walk.specs.Path.{path_of}
 use Rattle.pic_walk.specs.Walk.{each}
-use Rattle.pic_deck.specs.Heads.{AreFilled, head_of}
+use Rattle.pic_deck.specs.Species.{AreFilled, head_of}
 use Rattle.pic_deck.specs.Keys.{one_species}
 use Rattle.pic_deck.proofs.species_reader.read_each_species.Given as goal
 

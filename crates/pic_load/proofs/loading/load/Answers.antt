@@ -1,6 +1,6 @@
 use Rattle.std.proofs.Common.{◌≤◌, sym, ap, ◌∙◌, arith}
 use Rattle.std.proofs.lemmas.List.{take_all}
-use Rattle.pic_deck.specs.Heads.{particles_of}
+use Rattle.pic_deck.specs.Species.{particles_of}
 use Rattle.pic_deck.proofs.HeadLaws.{particles_of-heads}
 use Rattle.pic_load.specs.Loading.{members_from, numbered, loaded}
 use Rattle.pic_load.proofs.LoadLaws.{species_more, room_for, loaded_is}

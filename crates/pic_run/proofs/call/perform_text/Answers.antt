@@ -3,7 +3,7 @@ use Rattle.pic_io.specs.Sinks.{sinks}
 use Rattle.pic_walk.specs.Walk.{Walked}
 use Rattle.pic_deck.specs.Deck.{DeckView}
 use Rattle.pic_deck.specs.Keys.{walk}
-use Rattle.pic_walk.specs.declared.faults.Refusal.{Refusal}
+use Rattle.pic_walk.specs.declared.fault.Refusal.{Refusal}
 use Rattle.pic_run.specs.declared.ended.Ended.TheVariants.{Refused}
 use Rattle.pic_run.specs.Lines.{refused_line}
 use Rattle.pic_run.specs.Outcome.{deck_outcome, line_alone}

@@ -3,7 +3,7 @@ use Rattle.std.proofs.lemmas.List.Sums.{get_or-le-sum_by}
 use Rattle.std.proofs.lemmas.List.{get_or-map}
 use Rattle.std.proofs.lemmas.List.{length-map}
 use Rattle.pic_grid.specs.Species.{no_head}
-use Rattle.pic_deck.specs.Heads.{head_of, points_in}
+use Rattle.pic_deck.specs.Species.{head_of, points_in}
 use Rattle.pic_run.proofs.heading.heads_of.Goals as goal
 
 -- one species has no more particles than all

@@ -1,5 +1,5 @@
 use Rattle.std.proofs.Common.{◌≡◌, map, take}
-use Rattle.pic_deck.specs.Heads.{head_of}
+use Rattle.pic_deck.specs.Species.{head_of}
 use Rattle.pic_run.proofs.heading.heads_of.Given as goal
 
 -- the heads so far

@@ -1,5 +1,5 @@
 use Rattle.std.proofs.Common.{◌≡◌, map, take}
-use Rattle.pic_deck.specs.declared.species_lists.Species.{Species}
+use Rattle.pic_deck.specs.declared.species.Species.{Species}
 use Rattle.pic_step.proofs.state.kinds_of.Given as goal
 
 abbrev pub invariant-loop-species : goal.invariant-loop-species

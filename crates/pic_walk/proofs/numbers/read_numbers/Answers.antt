@@ -3,7 +3,7 @@ use Rattle.std.proofs.lemmas.Int.{to_z-of_z}
 use Rattle.std.proofs.lemmas.List.{take_more_set, length-set, length-replicate, take_all}
 use mir.Syntax.{w64}
 use mir.Val.{SFits}
-use Rattle.pic_walk.specs.Range.{limits_at}
+use Rattle.pic_walk.specs.Limits.{limits_at}
 use Rattle.pic_walk.specs.Walk.{numbers, array_of}
 use Rattle.pic_walk.proofs.ArrayLaws.{each_out, next_number, more_in_limits}
 use Rattle.pic_walk.proofs.WalkLaws.{exits, then_ok}

@@ -1,7 +1,7 @@
 use Rattle.std.proofs.Common.{◌≡◌, ℕ, pos, ◌<◌, slice_index_or, length, take, drop}
 use Rattle.toml.specs.View.{view, items_view}
 use Rattle.pic_walk.specs.Path.{path_of}
-use Rattle.pic_walk.specs.Range.{IsInLimits, limits_at}
+use Rattle.pic_walk.specs.Limits.{IsInLimits, limits_at}
 use Rattle.pic_walk.specs.Walk.{numbers, number_at, each}
 use Rattle.pic_walk.proofs.numbers.read_numbers.Given as goal
 

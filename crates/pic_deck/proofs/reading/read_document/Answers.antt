@@ -1,7 +1,7 @@
 use Rattle.std.proofs.lemmas.Bool.{false≢true}
 use Rattle.pic_walk.proofs.WalkLaws.{there, lacks}
 use Rattle.pic_deck.proofs.DocumentLaws.{document_is, no_document}
-use Rattle.pic_deck.proofs.top.read_document.Goals as goal
+use Rattle.pic_deck.proofs.reading.read_document.Goals as goal
 
 pub returns-in-Ok : goal.returns-in-Ok
 returns-in-Ok c = record { answer = there _ _ _ (document_is _ _ c.in-Ok.ensures.ok.0 c.in-Ok.ensures.ok.1) }

@@ -1,6 +1,6 @@
 use Rattle.pic_walk.specs.Walk.{need}
 use Rattle.pic_walk.proofs.WalkLaws.{goes_on, exits}
-use Rattle.pic_deck.proofs.namings.need_name.Goals as goal
+use Rattle.pic_deck.proofs.naming.need_name.Goals as goal
 
 pub returns-in_err-value-clause-walks : goal.returns-in_err-value-clause-walks
 unfolding need

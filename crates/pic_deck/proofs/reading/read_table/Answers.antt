@@ -1,7 +1,7 @@
 use Rattle.std.proofs.Common.{Ok, ap, sym}
 use Rattle.pic_deck.specs.Keys.{deck}
 use Rattle.pic_walk.proofs.WalkLaws.{goes_on, exits}
-use Rattle.pic_deck.proofs.top.read_table.Goals as goal
+use Rattle.pic_deck.proofs.reading.read_table.Goals as goal
 
 pub returns-in_err-check_deck_keys : goal.returns-in_err-check_deck_keys
 unfolding deck

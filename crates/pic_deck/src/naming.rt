@@ -4,10 +4,10 @@ ghost use Rattle.toml.specs.View.{view, table_view};
 ghost use Rattle.pic_grid.specs.Species.{is_name_byte};
 ghost use Rattle.pic_walk.specs.Path.{path_of};
 ghost use Rattle.pic_walk.specs.Walk.{WalksAs, need};
-ghost use Rattle.pic_deck.specs.Heads.{IsNewName, is_name, is_taken, is_new_name};
+ghost use Rattle.pic_deck.specs.Species.{IsNewName, is_name, is_taken, is_new_name};
 ghost use Rattle.pic_deck.specs.Keys.{species_name};
 
-use crate::species_lists::Species;
+use crate::species::Species;
 use pic_grid::Name;
 use pic_walk::{DeckFault, Place, needed_value, read_text};
 use std::alloc::Global;
@@ -31,7 +31,7 @@ fn are_name_bytes(bytes: &[u8]) -> bool
 }
 
 // whether a text is a name
-#[tactic(auto, unfolding(crate::specs::Heads::is_name))]
+#[tactic(auto, unfolding(crate::specs::Species::is_name))]
 fn is_name(text: &str) -> bool
     ensures { result ≡ is_name text.now }
 {
@@ -48,7 +48,7 @@ fn is_taken(species: &[Species], text: &str) -> bool
 }
 
 // whether a text is a name that none of these species has
-#[tactic(auto, unfolding(crate::specs::Heads::is_new_name))]
+#[tactic(auto, unfolding(crate::specs::Species::is_new_name))]
 fn is_new_name(species: &[Species], text: &str) -> bool
     ensures { result ≡ is_new_name species.now text.now }
 {

@@ -14,7 +14,7 @@ pub enum Fill {
 
 impl Fill {
     ghost use Rattle.std.specs.Prelude.{length};
-    ghost use Rattle.pic_deck.specs.Heads.{points_in};
+    ghost use Rattle.pic_deck.specs.Species.{points_in};
 
     /// How many particles there are.
     pub fn count(&self) -> usize
@@ -42,7 +42,7 @@ pub struct SpeciesList {
 
 impl Model for SpeciesList {
     ghost use Rattle.std.specs.Prelude.{List};
-    ghost use Rattle.pic_deck.specs.declared.species_lists.Species.{Species};
+    ghost use Rattle.pic_deck.specs.declared.species.Species.{Species};
 
     ghost Value = { List Species };
 

@@ -1,5 +1,5 @@
 ghost use Rattle.std.specs.Prelude.{◌≡◌, ◌≤◌};
-ghost use Rattle.pic_walk.specs.Range.{from_to, any_limits, below, is_within};
+ghost use Rattle.pic_walk.specs.Limits.{from_to, any_limits, below, is_within};
 
 /// The least and the greatest number that may stand at a place.
 #[derive(Clone, Copy, Debug, PartialEq, Eq)]

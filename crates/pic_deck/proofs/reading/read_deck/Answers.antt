@@ -5,7 +5,7 @@ use Rattle.pic_walk.proofs.WalkLaws.{goes_on, exits}
 use Rattle.pic_walk.proofs.TableLaws.{key_at-top}
 use Rattle.pic_deck.specs.Keys.{walk}
 use Rattle.pic_deck.proofs.TextLaws.{text_exactly}
-use Rattle.pic_deck.proofs.top.read_deck.Goals as goal
+use Rattle.pic_deck.proofs.reading.read_deck.Goals as goal
 
 pub returns-in_err-check_within-clause-walks : goal.returns-in_err-check_within-clause-walks
 unfolding walk

@@ -3,11 +3,11 @@ use Rattle.std.specs.Prelude.{◌≡◌, ℕ, ◌<◌, ◌&&◌, Bool, not, nat_
 use Rattle.std.specs.List.{list_all, list_any}
 use Rattle.pic_num.specs.Space.{Triple}
 use Rattle.pic_grid.specs.Species.{HeadView, no_head, is_name_byte, IsName}
-use Rattle.pic_walk.specs.declared.point_lists.Point6.{Point6}
+use Rattle.pic_walk.specs.declared.point6.Point6.{Point6}
 use Rattle.pic_walk.specs.Points.{ArePoints}
-use Rattle.pic_deck.specs.declared.species_lists.Fill.{Fill}
-use Rattle.pic_deck.specs.declared.species_lists.Fill.TheVariants.{Points}
-use Rattle.pic_deck.specs.declared.species_lists.Species.{Species}
+use Rattle.pic_deck.specs.declared.species.Fill.{Fill}
+use Rattle.pic_deck.specs.declared.species.Fill.TheVariants.{Points}
+use Rattle.pic_deck.specs.declared.species.Species.{Species}
 
 -- whether a text is a name: 1 to 32 bytes, each a letter, a digit or `_`
 unfoldable pub is_name : List ℕ → Bool

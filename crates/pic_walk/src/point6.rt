@@ -17,7 +17,7 @@ pub struct Points {
 
 impl Model for Points {
     ghost use Rattle.std.specs.Prelude.{List};
-    ghost use Rattle.pic_walk.specs.declared.point_lists.Point6.{Point6};
+    ghost use Rattle.pic_walk.specs.declared.point6.Point6.{Point6};
 
     ghost Value = { List Point6 };
 

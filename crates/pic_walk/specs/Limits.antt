@@ -1,6 +1,6 @@
 -- Limits of numbers.
 use Rattle.std.specs.Prelude.{ℤ, pos, negsuc, List, ◌≤ℤ◌, ℕ, ◌-◌, ◌^◌, slice_index_or, Bool, int_le, ◌&&◌}
-use Rattle.pic_walk.specs.declared.ranges.Limits.{Limits}
+use Rattle.pic_walk.specs.declared.limits.Limits.{Limits}
 
 -- from the one to the other, both allowed
 abbrev pub from_to : ℤ → ℤ → Limits

@@ -2,11 +2,11 @@ ghost use Rattle.std.specs.Prelude.{◌≡◌};
 ghost use Rattle.pic_num.specs.Space.{triple, spot};
 ghost use Rattle.pic_grid.specs.Lattice.{field_of};
 ghost use Rattle.pic_deck.specs.Deck.{IsWithinLimits, initial_e, initial_b};
-ghost use Rattle.pic_deck.specs.Heads.{particles_of};
+ghost use Rattle.pic_deck.specs.Species.{particles_of};
 
 use crate::filling::fill;
 use crate::parts::{FieldValues, Setup};
-use crate::species_lists::{Species, SpeciesList};
+use crate::species::{Species, SpeciesList};
 use crate::species_reader::particles_of;
 use pic_grid::{Cells, Lattice};
 use pic_num::Scales;

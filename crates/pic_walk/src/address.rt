@@ -1,11 +1,11 @@
 ghost use Rattle.std.specs.Prelude.{◌≡◌, None, IfOk, OnOk, string_bytes};
 ghost use Rattle.pic_walk.specs.Path.{key_at, element_at, with_index, path_of};
 ghost use Rattle.pic_walk.specs.Walk.{IsFault};
-ghost use Rattle.pic_walk.specs.declared.faults.Refusal.TheVariants.{Unknown, Missing, Kind, Limit, Name};
+ghost use Rattle.pic_walk.specs.declared.fault.Refusal.TheVariants.{Unknown, Missing, Kind, Limit, Name};
 
-use crate::faults::{DeckFault, Refusal};
-use crate::paths::KeyPath;
-use crate::ranges::Limits;
+use crate::fault::{DeckFault, Refusal};
+use crate::key_path::KeyPath;
+use crate::limits::Limits;
 use std::alloc::{AllocError, Global};
 use std::fmt::Write;
 

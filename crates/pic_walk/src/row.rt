@@ -19,7 +19,7 @@ pub struct Rows {
 
 impl Model for Rows {
     ghost use Rattle.std.specs.Prelude.{List};
-    ghost use Rattle.pic_walk.specs.declared.row_lists.Row.{Row};
+    ghost use Rattle.pic_walk.specs.declared.row.Row.{Row};
 
     ghost Value = { List Row };
 

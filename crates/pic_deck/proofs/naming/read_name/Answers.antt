@@ -2,7 +2,7 @@ use Rattle.std.proofs.Common.{Ok, ap, sym, ◌∙◌}
 use Rattle.pic_deck.specs.Keys.{species_name}
 use Rattle.pic_walk.proofs.WalkLaws.{goes_on, exits, refuses}
 use Rattle.pic_deck.proofs.HeadLaws.{IsNewName-from, named, misnamed}
-use Rattle.pic_deck.proofs.namings.read_name.Goals as goal
+use Rattle.pic_deck.proofs.naming.read_name.Goals as goal
 
 pub returns-in_err-text-clause-walks : goal.returns-in_err-text-clause-walks
 unfolding species_name

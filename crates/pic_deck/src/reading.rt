@@ -1,15 +1,15 @@
 ghost use Rattle.std.specs.Prelude.{◌≡◌, ◌↔◌, [], Err};
 ghost use Rattle.toml.specs.View.{table_view};
-ghost use Rattle.pic_walk.specs.declared.faults.Refusal.TheVariants.{Text};
+ghost use Rattle.pic_walk.specs.declared.fault.Refusal.TheVariants.{Text};
 ghost use Rattle.pic_walk.specs.Walk.{WalksAs, some_or, listed};
 ghost use Rattle.pic_deck.specs.Deck.{DeckView};
 ghost use Rattle.pic_deck.specs.Keys.{deck_keys, deck, document, walk};
 ghost use Rattle.pic_deck.specs.Reading.{IsNoText};
 
-use crate::decks::Deck;
+use crate::deck::Deck;
 use crate::fields::optional_fields;
 use crate::forces::check_forces;
-use crate::setup::read_setup;
+use crate::settings::read_setup;
 use crate::species_reader::optional_species;
 use pic_walk::{DeckFault, Limits, Place, Refusal, check_keys, check_within};
 use std::alloc::Global;

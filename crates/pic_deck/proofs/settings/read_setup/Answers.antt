@@ -2,7 +2,7 @@ use Rattle.std.proofs.Common.{◌≡◌, refl, arith}
 use Rattle.std.proofs.lemmas.Int.{ints}
 use Rattle.pic_deck.specs.Keys.{setup}
 use Rattle.pic_walk.proofs.WalkLaws.{goes_on, exits}
-use Rattle.pic_deck.proofs.setup.read_setup.Goals as goal
+use Rattle.pic_deck.proofs.settings.read_setup.Goals as goal
 
 pub returns-in_err-version-clause-walks : goal.returns-in_err-version-clause-walks
 unfolding setup

@@ -1,7 +1,7 @@
 ghost use Rattle.std.specs.Prelude.{◌≡◌};
-ghost use Rattle.pic_walk.specs.declared.faults.DeckFault.TheVariants.{NoMemory};
+ghost use Rattle.pic_walk.specs.declared.fault.DeckFault.TheVariants.{NoMemory};
 
-use crate::paths::KeyPath;
+use crate::key_path::KeyPath;
 use std::alloc::{AllocError, AllocFailed};
 
 /// Why a document is refused: the first fault that the walk meets.
