@@ -11,7 +11,8 @@ pub kept_charge : (z : ℤ) → IsInLimits (from_to (negsuc 32767) (pos 32767)) 
 kept_charge z inside = kept_small z (omega (arith, ints, inside.low, inside.high))
 
 -- the limits of a charge and a mass are those of a species
-pub IsKind-from : (charge : ℤ) (mass : ℕ) (kick turn : Multiplier) → IsInLimits (from_to (negsuc 32767) (pos 32767)) charge → IsInLimits (from_to (pos 1) (pos 65536)) (pos mass)
+pub IsKind-from : (charge : ℤ) (mass : ℕ) (kick turn : Multiplier) → IsInLimits (from_to (negsuc 32767) (pos 32767)) charge
+    → IsInLimits (from_to (pos 1) (pos 65536)) (pos mass)
     → IsKind (record { charge = charge; mass = mass; kick = kick; turn = turn })
 IsKind-from charge mass kick turn c m = record {
   charge_low = c.low;

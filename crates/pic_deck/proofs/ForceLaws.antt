@@ -33,14 +33,16 @@ strong_at-place n by g a p i h e =
     ap (strong_at n by g) (sym e) ∙ (λ k. strong by (g (axis_of-place_of n a p h k) (cell_of-place_of n a p h k)))
 
 -- nothing so far, and nothing here
-pub none_more : (n : Triple) (by : Multiplier) (g : Axis → Triple → ℤ) (i : ℕ) → first_of (strong_at n by g) (range_with_len 0 i) ≡ None → strong_at n by g i ≡ None
+pub none_more : (n : Triple) (by : Multiplier) (g : Axis → Triple → ℤ) (i : ℕ) → first_of (strong_at n by g) (range_with_len 0 i) ≡ None
+    → strong_at n by g i ≡ None
     → first_of (strong_at n by g) (range_with_len 0 (i + 1)) ≡ None
 none_more n by g i none here =
     let next = first_of_next (strong_at n by g) 0 i in
     next ∙ rw (none, let e : 0 + i ≡ i = omega arith in ap (strong_at n by g) e ∙ here)
 
 -- nothing so far, and something here
-pub some_here : (n : Triple) (by : Multiplier) (g : Axis → Triple → ℤ) (i : ℕ) (f : ℤ) → first_of (strong_at n by g) (range_with_len 0 i) ≡ None → i < 3 * count_of n
+pub some_here : (n : Triple) (by : Multiplier) (g : Axis → Triple → ℤ) (i : ℕ) (f : ℤ) → first_of (strong_at n by g) (range_with_len 0 i) ≡ None
+    → i < 3 * count_of n
     → strong_at n by g i ≡ Some f → first_strong n by g ≡ Some f
 unfolding first_strong
 some_here n by g i f none below here =
@@ -98,7 +100,8 @@ pub zero_mild : (n : Triple) (by : Multiplier) (g : Axis → Triple → ℤ) →
 zero_mild n by g zero = IsMild-from n by g (λ a p h. record { size = rw (zero a p) (omega arith) }) (no_forces n by g zero)
 
 -- a field of zeros without rows
-pub zero_set_up : (u : Spot) (rows : List Row) → u ≡ record { x = pos 0; y = pos 0; z = pos 0 } → length rows ≡ 0 → (a : Axis) (p : Triple) → set_up u rows a p ≡ pos 0
+pub zero_set_up : (u : Spot) (rows : List Row) → u ≡ record { x = pos 0; y = pos 0; z = pos 0 } → length rows ≡ 0 → (a : Axis) (p : Triple)
+    → set_up u rows a p ≡ pos 0
 unfolding set_up sum_over
 zero_set_up u [] e h X p = ap (λ (v : Spot). v.x +ℤ pos 0) e
 zero_set_up u [] e h Y p = ap (λ (v : Spot). v.y +ℤ pos 0) e

@@ -47,11 +47,13 @@ cells_within ns inside =
     }
 
 -- the tiles of each axis are those of the grid, where they are 512 at most
-pub tiles_within : (ns ts : List ℕ) → ((k : ℕ) → k < 3 → IsTiled (slice_index ns k) (slice_index ts k)) → count_of (triple ts) ≤ 512 → AreTiles (triple ns) (triple ts)
+pub tiles_within : (ns ts : List ℕ) → ((k : ℕ) → k < 3 → IsTiled (slice_index ns k) (slice_index ts k)) → count_of (triple ts) ≤ 512
+    → AreTiles (triple ns) (triple ts)
 tiles_within ns ts tiled most = record { x = tiled 0 (lit< tt); y = tiled 1 (lit< tt); z = tiled 2 (lit< tt); most = most }
 
 -- an axis has at most 32 tiles
-pub few_tiles : (ns ts : List ℕ) → IsCells (triple ns) → ((k : ℕ) → k < 3 → IsTiled (slice_index ns k) (slice_index ts k)) → (k : ℕ) → k < 3 → slice_index ts k ≤ 32
+pub few_tiles : (ns ts : List ℕ) → IsCells (triple ns) → ((k : ℕ) → k < 3 → IsTiled (slice_index ns k) (slice_index ts k)) → (k : ℕ) → k < 3
+    → slice_index ts k ≤ 32
 few_tiles ns ts cells tiled =
     let x = tiled 0 (lit< tt) in
     let y = tiled 1 (lit< tt) in
@@ -60,7 +62,9 @@ few_tiles ns ts cells tiled =
 
 -- the tiles of the next axis
 pub next_axis_tiles : (ns : List ℕ) (path : List ℕ) (ts : List ℕ) (vs : List Value) (i : ℕ) (d : Value) → i < length vs → i ≤ length ts
-    → each (next_tiles ns) path (take i ts) (items_view (drop i vs)) ≡ axis_tiles (slice_index ns i) (element_at path i) (view (get_or vs i d)) >>= (λ a. each (next_tiles ns) path (take i ts ++ a ∷ []) (items_view (drop (i + 1) vs)))
+    → each (next_tiles ns) path (take i ts) (items_view (drop i vs))
+    ≡ axis_tiles (slice_index ns i) (element_at path i) (view (get_or vs i d))
+    >>= (λ a. each (next_tiles ns) path (take i ts ++ a ∷ []) (items_view (drop (i + 1) vs)))
 unfolding next_tiles
 next_axis_tiles ns path ts vs i d h room =
     let same : length (take i ts) ≡ i = length-take-le i ts room in

@@ -1,21 +1,21 @@
 -- The species of a deck: their names, and one species more.
-use Rattle.std.proofs.Common.{◌≡◌, ℕ, ◌+◌, ◌<◌, ◌≤◌, Bool, true, false, not, ◌&&◌, leb, if◌then◌else◌, List, [], ◌∷◌, ◌++◌, length, map, get_or, sum_by, Ok, Err, ap, sym, ◌∙◌, refl, inl, inr, arith}
+use Rattle.std.proofs.Common.{◌≡◌, ℕ, ◌+◌, ◌<◌, ◌≤◌, Bool, true, false, not, ◌&&◌, leb, if◌then◌else◌, List, [], ◌∷◌, ◌++◌, length, map, take, get_or, sum_by, Ok, Err, ap, sym, ◌∙◌, refl, inl, inr, arith}
 use Rattle.std.specs.Str.{bytes_eq}
 use Rattle.std.specs.List.{list_all}
 use Rattle.std.proofs.lemmas.Bool.{and_parts, false≢true, leb-true}
 use Rattle.std.proofs.lemmas.List.Folds.{list_any_at}
 use Rattle.std.proofs.lemmas.Slice.Eq.{bytes_eq-Decides}
 use Rattle.std.proofs.lemmas.Bool.{cases_lt}
-use Rattle.std.proofs.lemmas.List.{length-append, length-map, map-append, get_or-map, get_or_append_left, get_or_push}
+use Rattle.std.proofs.Math.Seq.{take-append_seam}
+use Rattle.std.proofs.lemmas.List.{take-append-le, length-append, length-map, map-append, get_or-map, get_or_append_left, get_or_push}
 use Rattle.std.proofs.lemmas.List.Sums.{sum_by-append, sum_by-cons}
 use Rattle.pic_num.specs.Space.{Triple}
 use Rattle.pic_grid.specs.Species.{IsName, IsKind, HeadView, no_head, AreHeads, is_name_byte}
-use Rattle.pic_walk.specs.declared.fault.Refusal.TheVariants.{Name}
-use Rattle.pic_walk.specs.Points.{ArePoints}
+use Rattle.pic_walk.specs.declared.fault.Fault.TheVariants.{Name}
 use Rattle.pic_walk.specs.Walk.{Walked}
 use Rattle.pic_walk.proofs.ListLaws.{all_more}
 use Rattle.pic_deck.specs.declared.species.Species.{Species}
-use Rattle.pic_deck.specs.Species.{is_name, is_taken, is_new_name, no_species, IsNewName, AreFilled, points_in, particles_of, head_of}
+use Rattle.pic_deck.specs.Species.{is_name, is_taken, is_new_name, no_species, IsNewName, IsFilled, IsNext, AreFilled, particles_of, head_of}
 
 name_from : (s : List ℕ) → is_name s ≡ true → IsName s
 unfolding is_name
@@ -39,10 +39,12 @@ IsNewName-from ss s h =
     }
 
 -- the end of the walk of a name
-pub named : (ss : List Species) (path s : List ℕ) → is_new_name ss s ≡ true → ◌≡◌ {A = Walked (List ℕ)} (if is_new_name ss s then Ok s else Err (Name path)) (Ok s)
+pub named : (ss : List Species) (path s : List ℕ) → is_new_name ss s ≡ true
+    → ◌≡◌ {A = Walked (List ℕ)} (if is_new_name ss s then Ok s else Err (Name path)) (Ok s)
 named ss path s h = rw h
 
-pub misnamed : (ss : List Species) (path s : List ℕ) → is_new_name ss s ≡ false → ◌≡◌ {A = Walked (List ℕ)} (if is_new_name ss s then Ok s else Err (Name path)) (Err (Name path))
+pub misnamed : (ss : List Species) (path s : List ℕ) → is_new_name ss s ≡ false
+    → ◌≡◌ {A = Walked (List ℕ)} (if is_new_name ss s then Ok s else Err (Name path)) (Err (Name path))
 misnamed ss path s h = rw h
 
 -- the particles of the heads are those of the species
@@ -50,8 +52,8 @@ pub particles_of-heads : (ss : List Species) → sum_by (λ (h : HeadView). h.co
 particles_of-heads [] = refl
 particles_of-heads (s ∷ ss) =
     sum_by-cons (λ (h : HeadView). h.count) (head_of s) (map head_of ss)
-    ∙ ap (λ n. length (points_in s.fill) + n) (particles_of-heads ss)
-    ∙ sym (sum_by-cons (λ (o : Species). length (points_in o.fill)) s ss)
+    ∙ ap (λ n. s.count + n) (particles_of-heads ss)
+    ∙ sym (sum_by-cons (λ (o : Species). o.count) s ss)
 
 differ_more : (hs : List HeadView) (h : HeadView) → ((i j : ℕ) → i < j → j < length hs → (get_or hs i no_head).name ≡ (get_or hs j no_head).name → ⊥)
     → ((i : ℕ) → i < length hs → (get_or hs i no_head).name ≡ h.name → ⊥)
@@ -66,7 +68,8 @@ differ_more hs h before new i j less high =
           rw (get_or_append_left hs (h ∷ []) no_head i (omega (arith, less, at_end)), get_or_push hs h no_head j at_end) (new i (omega (arith, less, at_end))))
     ]
 
-heads_more : (hs : List HeadView) (h : HeadView) → AreHeads hs → length hs < 16 → IsName h.name → IsKind h.kind → ((i : ℕ) → i < length hs → (get_or hs i no_head).name ≡ h.name → ⊥)
+heads_more : (hs : List HeadView) (h : HeadView) → AreHeads hs → length hs < 16 → IsName h.name → IsKind h.kind
+    → ((i : ℕ) → i < length hs → (get_or hs i no_head).name ≡ h.name → ⊥)
     → sum_by (λ (k : HeadView). k.count) hs + h.count ≤ 1048576 → AreHeads (hs ++ h ∷ [])
 heads_more hs h are room name kind new total =
     let size = length-append hs (h ∷ []) in
@@ -80,14 +83,14 @@ heads_more hs h are room name kind new total =
     }
 
 -- one species more
-pub species_more : (ss : List Species) (s : Species) → AreHeads (map head_of ss) → length ss < 16 → IsNewName ss s.name → IsKind s.kind
-    → particles_of ss + length (points_in s.fill) ≤ 1048576 → AreHeads (map head_of (ss ++ s ∷ []))
-species_more ss s are room name kind few =
+pub species_more : (n : Triple) (ss : List Species) (s : Species) → AreHeads (map head_of ss) → length ss < 16 → IsNext n ss s
+    → AreHeads (map head_of (ss ++ s ∷ []))
+species_more n ss s are room next =
     let size = length-map ss head_of in
     let new : (i : ℕ) → i < length (map head_of ss) → (get_or (map head_of ss) i no_head).name ≡ s.name → ⊥ =
-    λ i below. let inside : i < length ss = omega (arith, below, size) in rw (get_or-map head_of ss i no_species no_head inside) (name.differs i inside) in
+    λ i below. let inside : i < length ss = omega (arith, below, size) in rw (get_or-map head_of ss i no_species no_head inside) (next.name.differs i inside) in
     rw (map-append head_of ss (s ∷ []))
-    (heads_more (map head_of ss) (head_of s) are (omega (arith, size, room)) name.name kind new (rw (particles_of-heads ss) few))
+    (heads_more (map head_of ss) (head_of s) are (omega (arith, size, room)) next.name.name next.kind new (rw (particles_of-heads ss) next.few))
 
 pub heads_none : AreHeads (map head_of [])
 heads_none = record {
@@ -98,8 +101,21 @@ heads_none = record {
   total = omega arith;
 }
 
-pub filled_more : (n : Triple) (ss : List Species) (s : Species) → AreFilled n ss → ArePoints n (points_in s.fill) → AreFilled n (ss ++ s ∷ [])
-filled_more n ss s are here = record { each = all_more (λ (o : Species). ArePoints n (points_in o.fill)) no_species ss s are.each here }
+pub filled_more : (n : Triple) (ss : List Species) (s : Species) → AreFilled n ss → IsFilled n ss s → AreFilled n (ss ++ s ∷ [])
+filled_more n ss s are here = record { each = each }
+  where
+    size : length (ss ++ s ∷ []) ≡ length ss + 1
+    size = length-append ss (s ∷ [])
+
+    each : (i : ℕ) → i < length (ss ++ s ∷ []) → IsFilled n (take i (ss ++ s ∷ [])) (get_or (ss ++ s ∷ []) i no_species)
+    each i below = elim (cases_lt i (length ss)) [
+      | inl inside ↦
+          rw (take-append-le i ss (s ∷ []) (omega (arith, inside)), get_or_append_left ss (s ∷ []) no_species i inside) (are.each i inside)
+      | inr last ↦
+          (let at_end : length ss ≡ i = omega (arith, last, below, size) in
+          let before : take i (ss ++ s ∷ []) ≡ ss = (ap (λ k. take k (ss ++ s ∷ [])) (sym at_end) ∙ take-append_seam ss (s ∷ [])) in
+          rw (before, get_or_push ss s no_species i at_end) here)
+    ]
 
 pub filled_none : (n : Triple) → AreFilled n []
 filled_none n = record { each = λ i h. absurd (omega (arith, h)) }

@@ -39,7 +39,8 @@ is_of_same n a p r here there e =
 is_of_place : (n : Triple) (a : Axis) (p : Triple) (r : Row) → is_of a p r ≡ true → place_of n r.axis (triple r.cell) ≡ place_of n a p
 unfolding place_of index_of
 is_of_place n a p r h =
-    let (axis, cell) = and_parts (eqb (axis_number r.axis) (axis_number a)) (eqb (slice_index r.cell 0) p.x && (eqb (slice_index r.cell 1) p.y && eqb (slice_index r.cell 2) p.z)) h in
+    let (axis, cell) = and_parts (eqb (axis_number r.axis) (axis_number a))
+    (eqb (slice_index r.cell 0) p.x && (eqb (slice_index r.cell 1) p.y && eqb (slice_index r.cell 2) p.z)) h in
     let (x, rest) = and_parts (eqb (slice_index r.cell 0) p.x) (eqb (slice_index r.cell 1) p.y && eqb (slice_index r.cell 2) p.z) cell in
     let (y, z) = and_parts (eqb (slice_index r.cell 1) p.y) (eqb (slice_index r.cell 2) p.z) rest in
     rw (eqb-true _ _ axis, eqb-true _ _ x, eqb-true _ _ y, eqb-true _ _ z)

@@ -3,5 +3,4 @@ pub mod ContentLaws
 pub mod InitialLaws
 pub mod ForceLaws
 pub mod HeadLaws
-pub mod DocumentLaws
-pub mod TextLaws
+pub mod ReadingLaws

@@ -6,9 +6,10 @@ use Rattle.pic_num.specs.Space.{Triple, triple, Spot, spot}
 use Rattle.pic_grid.specs.Cells.{IsCells, count_of}
 use Rattle.pic_grid.specs.Species.{HeadView, AreHeads}
 use Rattle.pic_walk.specs.declared.row.Row.{Row}
+use Rattle.pic_walk.specs.Bounds.{most_tiles, most_steps}
 use Rattle.pic_walk.specs.Rows.{AreRows}
-use Rattle.pic_deck.specs.declared.parts.FieldValues.{FieldValues}
-use Rattle.pic_deck.specs.declared.parts.Setup.{Setup}
+use Rattle.pic_deck.specs.declared.fields.InitialFields.{InitialFields}
+use Rattle.pic_deck.specs.declared.settings.Settings.{Settings}
 use Rattle.pic_deck.specs.declared.species.Species.{Species}
 use Rattle.pic_deck.specs.Species.{AreFilled, head_of}
 use Rattle.pic_deck.specs.Initial.{IsMild, set_up}
@@ -30,14 +31,14 @@ pub record DeckView : Type 0 where
   pub species : List Species
 
 -- the deck of these parts
-abbrev pub deck_view : Setup → FieldValues → List Species → DeckView
-deck_view setup field species = record {
-  version = setup.version;
-  cells = setup.cells;
-  tiles = triple setup.tiles;
-  steps = setup.steps;
-  every = setup.every;
-  scales = setup.scales;
+abbrev pub deck_view : Settings → InitialFields → List Species → DeckView
+deck_view settings field species = record {
+  version = settings.version;
+  cells = settings.cells;
+  tiles = triple settings.tiles;
+  steps = settings.steps;
+  every = settings.every;
+  scales = settings.scales;
   e = spot field.e;
   b = spot field.b;
   edges = field.edges;
@@ -51,12 +52,12 @@ pub record IsTiled (n t : ℕ) : Type 0 where
   pub high : t ≤ n / 2
   pub divides : n % t ≡ 0
 
--- a grid of n cells is cut into tiles, 512 at most
+-- a grid of n cells is cut into tiles, not too many
 pub record AreTiles (n tiles : Triple) : Type 0 where
   pub x : IsTiled n.x tiles.x
   pub y : IsTiled n.y tiles.y
   pub z : IsTiled n.z tiles.z
-  pub most : count_of tiles ≤ 512
+  pub most : count_of tiles ≤ most_tiles
 
 -- the value of E that a deck begins with, on an axis at a cell: the uniform part, and what the rows
 -- of that place add up to
@@ -72,17 +73,17 @@ abbrev pub heads_of : DeckView → List HeadView
 heads_of d = map head_of d.species
 
 -- the numbers of the tables of the grid, the run and the scales are within their limits
-pub record IsSetup (v : ℕ) (n t : Triple) (s f : ℕ) : Type 0 where
+pub record AreSettings (v : ℕ) (n t : Triple) (s f : ℕ) : Type 0 where
   pub version : v ≡ 1
   pub cells : IsCells n
   pub tiles : AreTiles n t
-  pub steps : s ≤ 1000000
+  pub steps : s ≤ most_steps
   pub every_low : 1 ≤ f
-  pub every_high : f ≤ 1000000
+  pub every_high : f ≤ most_steps
 
 -- all that a deck says is within its limits
 pub record IsWithinLimits (d : DeckView) : Type 0 where
-  pub setup : IsSetup d.version d.cells d.tiles d.steps d.every
+  pub settings : AreSettings d.version d.cells d.tiles d.steps d.every
   pub edges : AreRows d.cells d.edges
   pub faces : AreRows d.cells d.faces
   pub heads : AreHeads (heads_of d)

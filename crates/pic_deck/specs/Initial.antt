@@ -9,6 +9,7 @@ use Rattle.pic_num.specs.Sizes.{IsAtMost}
 use Rattle.pic_num.specs.Space.{Triple, Spot, along, axis_number}
 use Rattle.pic_grid.specs.Cells.{IsWithin, count_of, cell_of, axis_of}
 use Rattle.pic_grid.specs.Sums.{sum_over}
+use Rattle.pic_walk.specs.Bounds.{strongest}
 use Rattle.pic_walk.specs.declared.row.Row.{Row}
 
 -- the row is of the place on the axis a at the cell p
@@ -29,16 +30,16 @@ pub record IsUniform (u : Spot) (a : Axis) (v : ℤ) : Type 0 where
   pub is : v ≡ along a u
   pub size : IsAtMost v (2 ^ 63)
 
--- a value's force value, where that is above 2^44 in size
+-- a value's force value, where that is too large
 unfoldable pub strong : Multiplier → ℤ → Option ℤ
-strong by v = if nat_le (unsigned_abs (scaled v by)) (2 ^ 44) then None else Some (scaled v by)
+strong by v = if nat_le (unsigned_abs (scaled v by)) strongest then None else Some (scaled v by)
 
 -- that of the least place which has one, in the order of places: the axis, then z, y and x
 unfoldable pub first_strong : Triple → Multiplier → (Axis → Triple → ℤ) → Option ℤ
 first_strong n by g =
     first_of (λ i. strong by (g (axis_of (i / count_of n)) (cell_of n (i % count_of n)))) (range_with_len 0 (3 * count_of n))
 
--- every value on n cells is at most 2^84 in size, and its force value at most 2^44
+-- every value on n cells is at most 2^84 in size, and its force value not too large
 pub record IsMild (n : Triple) (by : Multiplier) (g : Axis → Triple → ℤ) : Type 0 where
   pub values : (a : Axis) (p : Triple) → IsWithin p n → IsAtMost (g a p) (2 ^ 84)
-  pub forces : (a : Axis) (p : Triple) → IsWithin p n → IsAtMost (scaled (g a p) by) (2 ^ 44)
+  pub forces : (a : Axis) (p : Triple) → IsWithin p n → IsAtMost (scaled (g a p) by) strongest

@@ -1,26 +1,26 @@
 -- The walk of a deck, this project's profile: the keys of each table in their order, the kind of
 -- each value and its limits. Which table a text is, is `toml`'s definition.
-use Rattle.std.specs.Prelude.{ℤ, pos, negsuc, ℕ, ◌+◌, ◌/◌, ◌%◌, List, [], ◌∷◌, length, codes, slice_index, if◌then◌else◌, Option, Some, None, Ok, Err}
-use Rattle.std.specs.Str.{is_utf8}
+use Rattle.std.specs.Prelude.{ℤ, pos, neg_ℤ, ℕ, ◌+◌, ◌/◌, ◌%◌, List, [], ◌∷◌, length, codes, slice_index, if◌then◌else◌, Option, Some, None, Ok, Err}
 use Rattle.toml.specs.Data.{Data, Members}
-use Rattle.toml.specs.Parse.{parse_document}
 use Rattle.pic_num.specs.declared.mult.Scales.{Scales}
 use Rattle.pic_num.specs.declared.motion.Kind.{Kind}
 use Rattle.pic_num.specs.Space.{Triple, triple, spot}
 use Rattle.pic_grid.specs.Cells.{count_of}
-use Rattle.pic_walk.specs.declared.fault.Refusal.TheVariants.{Text, Limit, Name}
+use Rattle.pic_walk.specs.Bounds.{fewest_cells, most_cells, most_tiles, most_steps, most_species, most_particles, least_charge, greatest_charge, greatest_mass, strongest}
+use Rattle.pic_walk.specs.declared.fault.Fault.TheVariants.{Limit, Name}
 use Rattle.pic_walk.specs.declared.limits.Limits.{Limits}
 use Rattle.pic_walk.specs.Path.{key_at}
 use Rattle.pic_walk.specs.Points.{point_list}
 use Rattle.pic_walk.specs.Limits.{from_to}
 use Rattle.pic_walk.specs.Rows.{row_list}
 use Rattle.pic_walk.specs.Walk.{Walked, ◌>>=◌, some_or, within, limited, whole, text, elements, count_of_items, each, array_of, numbers, three, any_three, multiplier, listed, table_of, need, optional}
-use Rattle.pic_deck.specs.declared.parts.FieldValues.{FieldValues}
-use Rattle.pic_deck.specs.declared.parts.Setup.{Setup}
+use Rattle.pic_deck.specs.declared.fields.InitialFields.{InitialFields}
+use Rattle.pic_deck.specs.declared.settings.Settings.{Settings}
+use Rattle.pic_deck.specs.declared.species.Fill.{Fill}
 use Rattle.pic_deck.specs.declared.species.Fill.TheVariants.{Points}
 use Rattle.pic_deck.specs.declared.species.Species.{Species}
 use Rattle.pic_deck.specs.Deck.{DeckView, deck_view}
-use Rattle.pic_deck.specs.Species.{is_new_name, particles_of}
+use Rattle.pic_deck.specs.Species.{is_new_name, count_in, particles_of}
 use Rattle.pic_deck.specs.Initial.{set_up, first_strong}
 
 -- the keys of the document's own table
@@ -39,9 +39,13 @@ run_keys = codes "steps" ∷ codes "every" ∷ []
 abbrev pub scale_keys : List (List ℕ)
 scale_keys = codes "e_to_b" ∷ codes "b_to_e" ∷ codes "e_force" ∷ codes "b_force" ∷ []
 
--- how many cells an axis may have, for each of the three
+-- how many cells an axis may have
+abbrev pub axis_limits : Limits
+axis_limits = from_to (pos fewest_cells) (pos most_cells)
+
+-- the same for each of the three
 abbrev pub cell_limits : List Limits
-cell_limits = from_to (pos 2) (pos 64) ∷ from_to (pos 2) (pos 64) ∷ from_to (pos 2) (pos 64) ∷ []
+cell_limits = axis_limits ∷ axis_limits ∷ axis_limits ∷ []
 
 -- the tiles of an axis of n cells: from 1 to half the cells, and none is left over
 unfoldable pub axis_tiles : ℕ → List ℕ → Data → Walked ℕ
@@ -54,11 +58,11 @@ axis_tiles n path d =
 unfoldable pub next_tiles : List ℕ → List ℕ → List ℕ → Data → Walked ℕ
 next_tiles ns done path d = axis_tiles (slice_index ns (length done)) path d
 
--- the tiles of all three axes, 512 at most
+-- the tiles of all three axes, not too many
 unfoldable pub tiles : List ℕ → List ℕ → Data → Walked (List ℕ)
 tiles ns path d =
     array_of 3 (next_tiles ns) path d
-    >>= (λ ts. within (from_to (pos 1) (pos 512)) path (pos (count_of (triple ts)))
+    >>= (λ ts. within (from_to (pos 1) (pos most_tiles)) path (pos (count_of (triple ts)))
     >>= (λ _. Ok ts))
 
 -- the cells and the tiles
@@ -73,8 +77,8 @@ grid ms =
 unfoldable pub run : Members → Walked (ℕ × ℕ)
 run ms =
     need (table_of run_keys) (codes "run") [] ms
-    >>= (λ t. need (whole (from_to (pos 0) (pos 1000000))) (codes "steps") (codes "run") t
-    >>= (λ steps. need (whole (from_to (pos 1) (pos 1000000))) (codes "every") (codes "run") t
+    >>= (λ t. need (whole (from_to (pos 0) (pos most_steps))) (codes "steps") (codes "run") t
+    >>= (λ steps. need (whole (from_to (pos 1) (pos most_steps))) (codes "every") (codes "run") t
     >>= (λ every. Ok (steps, every))))
 
 -- the multipliers of the fields
@@ -88,8 +92,8 @@ scale ms =
     >>= (λ b_force. Ok (record { e_to_b = e_to_b; b_to_e = b_to_e; e_force = e_force; b_force = b_force }))))))
 
 -- the grid, the run and the scales of a deck
-unfoldable pub setup : Members → Walked Setup
-setup ms =
+unfoldable pub settings : Members → Walked Settings
+settings ms =
     need (whole (from_to (pos 1) (pos 1))) (codes "version") [] ms
     >>= (λ version. grid ms
     >>= (λ g. run ms
@@ -104,11 +108,11 @@ field_keys = codes "e" ∷ codes "b" ∷ codes "edges" ∷ codes "faces" ∷ []
 abbrev pub zeros : List ℤ
 zeros = pos 0 ∷ pos 0 ∷ pos 0 ∷ []
 
-abbrev pub no_field : FieldValues
+abbrev pub no_field : InitialFields
 no_field = record { e = zeros; b = zeros; edges = []; faces = [] }
 
 -- the fields: the uniform parts and the rows
-unfoldable pub fields : Triple → List ℕ → Data → Walked FieldValues
+unfoldable pub fields : Triple → List ℕ → Data → Walked InitialFields
 fields n path d =
     table_of field_keys path d
     >>= (λ t. optional zeros (numbers any_three) (codes "e") path t
@@ -129,36 +133,49 @@ species_name done path d =
 -- what the particles of a species have in common
 unfoldable pub species_kind : List ℕ → Members → Walked Kind
 species_kind path t =
-    need (limited (from_to (negsuc 32767) (pos 32767))) (codes "charge") path t
-    >>= (λ charge. need (whole (from_to (pos 1) (pos 65536))) (codes "mass") path t
+    need (limited (from_to least_charge greatest_charge)) (codes "charge") path t
+    >>= (λ charge. need (whole (from_to (pos 1) (pos greatest_mass))) (codes "mass") path t
     >>= (λ mass. need multiplier (codes "kick") path t
     >>= (λ kick. need multiplier (codes "turn") path t
     >>= (λ turn. Ok (record { charge = charge; mass = mass; kick = kick; turn = turn })))))
 
--- the next species; the particles up to it are 1048576 at most
-unfoldable pub one_species : Triple → List Species → List ℕ → Data → Walked Species
-one_species n done path d =
-    table_of species_keys path d
-    >>= (λ t. need (species_name done) (codes "name") path t
-    >>= (λ named. species_kind path t
-    >>= (λ k. need (point_list n) (codes "points") path t
-    >>= (λ ps. within (from_to (pos 0) (pos 1048576)) path (pos (particles_of done + length ps))
-    >>= (λ _. Ok (record { name = named; kind = k; fill = Points ps }))))))
+-- how many particles a species has after earlier ones, which all together are not too many
+unfoldable pub counted : List Species → List ℕ → Fill → Walked ℕ
+counted done path fill =
+    within (from_to (pos 0) (pos most_particles)) path (pos (particles_of done + count_in done fill))
+    >>= (λ _. Ok (count_in done fill))
 
--- all species, 16 at most
+-- what fills a species
+unfoldable pub species_fill : Triple → List ℕ → Members → Walked Fill
+species_fill n path t = need (point_list n) (codes "points") path t >>= (λ points. Ok (Points points))
+
+-- the species that a table is, after earlier ones
+unfoldable pub species_in : Triple → List Species → List ℕ → Members → Walked Species
+species_in n done path t =
+    need (species_name done) (codes "name") path t
+    >>= (λ named. species_kind path t
+    >>= (λ k. species_fill n path t
+    >>= (λ f. counted done path f
+    >>= (λ count. Ok (record { name = named; kind = k; count = count; fill = f })))))
+
+-- the next species
+unfoldable pub one_species : Triple → List Species → List ℕ → Data → Walked Species
+one_species n done path d = table_of species_keys path d >>= species_in n done path
+
+-- all species, not too many
 unfoldable pub species_list : Triple → List ℕ → Data → Walked (List Species)
 species_list n path d =
     elements path d
-    >>= (λ ds. within (from_to (pos 0) (pos 16)) path (pos (count_of_items ds))
+    >>= (λ ds. within (from_to (pos 0) (pos most_species)) path (pos (count_of_items ds))
     >>= (λ _. each (one_species n) path [] ds))
 
--- no force value passes 2^44, or that of the least place which does is refused
+-- no force value is too large, or that of the least place which has one is refused
 unfoldable pub allowed : List ℕ → Option ℤ → Walked (Unit {0})
 allowed path None = Ok tt
-allowed path (Some f) = Err (Limit path f (negsuc 17592186044415) (pos 17592186044416))
+allowed path (Some f) = Err (Limit path f (neg_ℤ (pos strongest)) (pos strongest))
 
 -- the force values of E, and then those of B
-unfoldable pub forces : Setup → FieldValues → Walked (Unit {0})
+unfoldable pub forces : Settings → InitialFields → Walked (Unit {0})
 forces s f =
     allowed (key_at (codes "scale") (codes "e_force")) (first_strong s.cells s.scales.e_force (set_up (spot f.e) f.edges))
     >>= (λ _. allowed (key_at (codes "scale") (codes "b_force")) (first_strong s.cells s.scales.b_force (set_up (spot f.b) f.faces)))
@@ -167,19 +184,8 @@ forces s f =
 unfoldable pub deck : Members → Walked DeckView
 deck ms =
     listed deck_keys [] ms
-    >>= (λ t. setup t
+    >>= (λ t. settings t
     >>= (λ s. optional no_field (fields s.cells) (codes "field") [] t
     >>= (λ f. optional [] (species_list s.cells) (codes "species") [] t
     >>= (λ ss. forces s f
     >>= (λ _. Ok (deck_view s f ss))))))
-
--- the table that some bytes are: TOML, in UTF-8
-unfoldable pub document : List ℕ → Option Members
-document bytes = if is_utf8 bytes then parse_document bytes else None
-
--- the deck that some bytes are, 1048576 at most
-unfoldable pub walk : List ℕ → Walked DeckView
-walk bytes =
-    within (from_to (pos 0) (pos 1048576)) (codes "deck") (pos (length bytes))
-    >>= (λ _. some_or Text (document bytes)
-    >>= deck)

@@ -2,4 +2,5 @@ pub mod Initial
 pub mod Species
 pub mod Deck
 pub mod Keys
+pub mod Refusal
 pub mod Reading

@@ -1,10 +1,11 @@
 -- The species of a deck and their particles.
-use Rattle.std.specs.Prelude.{◌≡◌, ℕ, ◌<◌, ◌&&◌, Bool, not, nat_le, bytes_eq, List, [], length, sum_by, slice_index_or}
+use Rattle.std.specs.Prelude.{◌≡◌, ℕ, ◌+◌, ◌<◌, ◌≤◌, ◌&&◌, Bool, not, nat_le, bytes_eq, List, [], length, sum_by, take, slice_index_or}
 use Rattle.std.specs.List.{list_all, list_any}
 use Rattle.pic_num.specs.Space.{Triple}
-use Rattle.pic_grid.specs.Species.{HeadView, no_head, is_name_byte, IsName}
-use Rattle.pic_walk.specs.declared.point6.Point6.{Point6}
-use Rattle.pic_walk.specs.Points.{ArePoints}
+use Rattle.pic_grid.specs.Species.{HeadView, no_head, is_name_byte, IsName, IsKind}
+pub use Rattle.pic_walk.specs.declared.point6.Point6.{Point6}
+pub use Rattle.pic_walk.specs.Points.{no_point, IsPoint, ArePoints}
+pub use Rattle.pic_walk.specs.Bounds.{most_particles}
 use Rattle.pic_deck.specs.declared.species.Fill.{Fill}
 use Rattle.pic_deck.specs.declared.species.Fill.TheVariants.{Points}
 use Rattle.pic_deck.specs.declared.species.Species.{Species}
@@ -21,27 +22,48 @@ is_taken ss name = list_any (λ o. bytes_eq o.name name) ss
 unfoldable pub is_new_name : List Species → List ℕ → Bool
 is_new_name ss name = is_name name && not (is_taken ss name)
 
--- the particles of a species
-abbrev pub points_in : Fill → List Point6
-points_in (Points points) = points
+-- how many particles a species has by what fills it, after earlier ones
+abbrev pub count_in : List Species → Fill → ℕ
+count_in earlier (Points points) = length points
 
 -- a species as the dump's header has it: its name, its kind and how many particles it has
 abbrev pub head_of : Species → HeadView
-head_of s = record { name = s.name; kind = s.kind; count = length (points_in s.fill) }
+head_of s = record { name = s.name; kind = s.kind; count = s.count }
 
 -- a species that isn't there
 abbrev pub no_species : Species
-no_species = record { name = []; kind = no_head.kind; fill = Points [] }
+no_species = record { name = []; kind = no_head.kind; count = 0; fill = Points [] }
+
+-- the species at an index
+abbrev pub species_at : List Species → ℕ → Species
+species_at ss i = slice_index_or ss i no_species
 
 -- how many particles some species have
 abbrev pub particles_of : List Species → ℕ
-particles_of ss = sum_by (λ s. length (points_in s.fill)) ss
+particles_of ss = sum_by (λ s. s.count) ss
 
 -- a name, and one that none of these species has
 pub record IsNewName (ss : List Species) (s : List ℕ) : Type 0 where
   pub name : IsName s
-  pub differs : (i : ℕ) → i < length ss → (slice_index_or ss i no_species).name ≡ s → ⊥
+  pub differs : (i : ℕ) → i < length ss → (species_at ss i).name ≡ s → ⊥
 
--- the particles of each species are such as a deck of n cells may have
+-- what fills a species is such as a deck of n cells may have
+abbrev pub IsFill : Triple → Fill → Type 0
+IsFill n (Points points) = ArePoints n points
+
+-- a species after earlier ones is filled so, and has so many particles
+pub record IsFilled (n : Triple) (earlier : List Species) (s : Species) : Type 0 where
+  pub fill : IsFill n s.fill
+  pub count : s.count ≡ count_in earlier s.fill
+
+-- a species that may come next: its name is new, its particles are within their limits, and with
+-- them there are not too many
+pub record IsNext (n : Triple) (earlier : List Species) (s : Species) : Type 0 where
+  pub name : IsNewName earlier s.name
+  pub kind : IsKind s.kind
+  pub filled : IsFilled n earlier s
+  pub few : particles_of earlier + s.count ≤ most_particles
+
+-- each species is filled so, after those before it
 pub record AreFilled (n : Triple) (ss : List Species) : Type 0 where
-  pub each : (i : ℕ) → i < length ss → ArePoints n (points_in (slice_index_or ss i no_species).fill)
+  pub each : (i : ℕ) → i < length ss → IsFilled n (take i ss) (species_at ss i)

@@ -1,11 +1,14 @@
+//! A deck.
+
 ghost use Rattle.std.specs.Prelude.{◌≡◌};
 ghost use Rattle.pic_num.specs.Space.{triple, spot};
 ghost use Rattle.pic_grid.specs.Lattice.{field_of};
 ghost use Rattle.pic_deck.specs.Deck.{IsWithinLimits, initial_e, initial_b};
 ghost use Rattle.pic_deck.specs.Species.{particles_of};
 
+use crate::fields::InitialFields;
 use crate::filling::fill;
-use crate::parts::{FieldValues, Setup};
+use crate::settings::Settings;
 use crate::species::{Species, SpeciesList};
 use crate::species_reader::particles_of;
 use pic_grid::{Cells, Lattice};
@@ -17,8 +20,8 @@ use std::marker::Model;
 /// is above 2^84 in size, and no force value above 2^44.
 #[derive(Debug, Drop)]
 pub struct Deck {
-    setup: Setup,
-    field: FieldValues,
+    settings: Settings,
+    field: InitialFields,
     species: SpeciesList,
 }
 
@@ -27,20 +30,21 @@ impl Model for Deck {
 
     ghost Value = { DeckView };
 
-    ghost view = { λ a. deck_view a.setup a.field a.species };
+    ghost view = { λ a. deck_view a.settings a.field a.species };
 
-    ghost invariant = { λ a. IsWithinLimits (deck_view a.setup a.field a.species) };
+    ghost invariant = { λ a. IsWithinLimits (deck_view a.settings a.field a.species) };
 }
 
 impl Deck {
     ghost use Rattle.pic_deck.specs.Deck.{deck_view};
 
-    pub(crate) fn new(setup: Setup, field: FieldValues, species: SpeciesList) -> Deck
-        requires { IsWithinLimits (deck_view setup field species) }
-        ensures { result ≡ deck_view setup field species }
+    /// The deck of these parts, which are within their limits.
+    pub fn new(settings: Settings, field: InitialFields, species: SpeciesList) -> Deck
+        requires { IsWithinLimits (deck_view settings field species) }
+        ensures { result ≡ deck_view settings field species }
     {
         Deck {
-            setup,
+            settings,
             field,
             species,
         }
@@ -51,7 +55,7 @@ impl Deck {
         ensures value { result ≡ self.now.version }
         ensures limits { IsWithinLimits self.now }
     {
-        self.setup.version
+        self.settings.version
     }
 
     /// How many cells the grid has on each axis.
@@ -59,7 +63,7 @@ impl Deck {
         ensures value { result ≡ self.now.cells }
         ensures limits { IsWithinLimits self.now }
     {
-        self.setup.cells
+        self.settings.cells
     }
 
     /// Into how many tiles the grid is cut on each axis.
@@ -67,7 +71,7 @@ impl Deck {
         ensures value { triple result ≡ self.now.tiles }
         ensures limits { IsWithinLimits self.now }
     {
-        self.setup.tiles
+        self.settings.tiles
     }
 
     /// How many steps the run has.
@@ -75,7 +79,7 @@ impl Deck {
         ensures value { result ≡ self.now.steps }
         ensures limits { IsWithinLimits self.now }
     {
-        self.setup.steps
+        self.settings.steps
     }
 
     /// After how many steps a frame is due.
@@ -83,7 +87,7 @@ impl Deck {
         ensures value { result ≡ self.now.every }
         ensures limits { IsWithinLimits self.now }
     {
-        self.setup.every
+        self.settings.every
     }
 
     /// The multipliers of the fields.
@@ -91,7 +95,7 @@ impl Deck {
         ensures value { result ≡ self.now.scales }
         ensures limits { IsWithinLimits self.now }
     {
-        self.setup.scales
+        self.settings.scales
     }
 
     /// The uniform part of E.

@@ -1,3 +1,5 @@
+//! Filling a lattice with a field that a deck begins with.
+
 ghost use Rattle.std.specs.Prelude.{◌≡◌, ℤ, pos, ◌^◌, ◌+ℤ◌, ◌*◌, ◌≤◌, length, unsigned_abs};
 ghost use Rattle.pic_num.specs.declared.axis.Axis.{Axis as AxisView};
 ghost use Rattle.pic_num.specs.Sizes.{IsAtMost};
@@ -29,7 +31,8 @@ fn fill_uniform(numbers: [i64; 3], to: &mut Lattice)
     ensures cells { to.new.cells ≡ to.old.cells }
     ensures parts { to.new.parts ≡ to.old.parts }
     ensures shape { length to.new.values ≡ 3 * count_of to.new.cells }
-    ensures values { (a : AxisView) (p : Triple) → IsWithin p to.new.cells → IsUniform (spot numbers) a (value_at to.new a p) }
+    ensures values { (a : AxisView) (p : Triple) → IsWithin p to.new.cells
+        → IsUniform (spot numbers) a (value_at to.new a p) }
 {
     let cells = to.cells();
     for place in 0..3 * cells.count() as usize {
@@ -43,11 +46,13 @@ fn fill_uniform(numbers: [i64; 3], to: &mut Lattice)
 fn add_rows(rows: &[Row], to: &mut Lattice)
     requires rows { AreRows to.old.cells rows.now }
     requires shape { length to.old.values ≡ 3 * count_of to.old.cells }
-    requires size { (a : AxisView) (p : Triple) → IsWithin p to.old.cells → IsAtMost (value_at to.old a p) (2 ^ 63) }
+    requires size { (a : AxisView) (p : Triple) → IsWithin p to.old.cells
+        → IsAtMost (value_at to.old a p) (2 ^ 63) }
     ensures cells { to.new.cells ≡ to.old.cells }
     ensures parts { to.new.parts ≡ to.old.parts }
     ensures shape { length to.new.values ≡ 3 * count_of to.new.cells }
-    ensures values { (a : AxisView) (p : Triple) → IsWithin p to.old.cells → value_at to.new a p ≡ value_at to.old a p +ℤ sum_over (part a p) rows.now }
+    ensures values { (a : AxisView) (p : Triple) → IsWithin p to.old.cells → value_at to.new a p
+        ≡ value_at to.old a p +ℤ sum_over (part a p) rows.now }
 {
     for row in rows {
         let value = to.at(row.axis, row.cell) + i128::from(row.value);
@@ -59,7 +64,8 @@ fn add_rows(rows: &[Row], to: &mut Lattice)
 pub(crate) fn fill(numbers: [i64; 3], rows: &[Row], to: &mut Lattice)
     requires { AreRows to.old.cells rows.now }
     ensures value { to.new ≡ field_of to.old.cells to.old.parts (set_up (spot numbers) rows.now) }
-    ensures size { (a : AxisView) (p : Triple) → IsWithin p to.old.cells → IsAtMost (set_up (spot numbers) rows.now a p) (2 ^ 84) }
+    ensures size { (a : AxisView) (p : Triple) → IsWithin p to.old.cells
+        → IsAtMost (set_up (spot numbers) rows.now a p) (2 ^ 84) }
 {
     fill_uniform(numbers, to);
     add_rows(rows, to);

@@ -1,3 +1,5 @@
+//! The test of the force values of the fields that a deck begins with.
+
 ghost use Rattle.std.specs.Prelude.{◌≡◌, ℤ, pos, ◌^◌, IsTrue, codes, OnOk};
 ghost use Rattle.pic_num.specs.declared.axis.Axis.{Axis};
 ghost use Rattle.pic_num.specs.Sizes.{IsAtMost};
@@ -10,11 +12,12 @@ ghost use Rattle.pic_walk.specs.Walk.{WalksAs};
 ghost use Rattle.pic_deck.specs.Initial.{IsMild, strong, first_strong, set_up};
 ghost use Rattle.pic_deck.specs.Keys.{allowed, forces};
 
+use crate::fields::InitialFields;
 use crate::filling::fill;
-use crate::parts::{FieldValues, Setup};
+use crate::settings::Settings;
 use pic_grid::{Cells, Lattice};
 use pic_num::{Mult, scale};
-use pic_walk::{DeckFault, Limits, Place, Row};
+use pic_walk::{Address, Limits, Row, WalkStop};
 use std::alloc::Global;
 
 const STRONGEST: i64 = 17592186044416;
@@ -35,7 +38,8 @@ fn strong(by: Mult, value: i128) -> Option<i128>
 
 // the force value of the least place that has one too large
 fn first_strong(by: Mult, field: &Lattice) -> Option<i128>
-    requires { (a : Axis) (p : Triple) → IsWithin p field.now.cells → IsAtMost (value_at field.now a p) (2 ^ 90) }
+    requires { (a : Axis) (p : Triple) → IsWithin p field.now.cells
+        → IsAtMost (value_at field.now a p) (2 ^ 90) }
     ensures { result ≡ first_strong field.now.cells by (value_at field.now) }
 {
     let cells = field.cells();
@@ -49,14 +53,14 @@ fn first_strong(by: Mult, field: &Lattice) -> Option<i128>
 }
 
 // refuses the scale at a key where a force value is too large
-fn check_strong(alloc: Global, key: &str, strong: Option<i128>) -> Result<(), DeckFault>
+fn check_strong(alloc: Global, key: &str, strong: Option<i128>) -> Result<(), WalkStop>
     ensures walks { WalksAs (λ _. tt) (allowed (key_at (codes "scale") key.now) strong) result }
     ensures none { OnOk result (strong ≡ None) }
 {
     match strong {
         Some(force) => {
             let limits = Limits::new(-STRONGEST, STRONGEST);
-            Err(Place::new("scale", key).limit_fault(alloc, force, limits))
+            Err(Address::new("scale", key).limit_fault(alloc, force, limits))
         }
         None => Ok(()),
     }
@@ -77,9 +81,10 @@ fn check_filled(
     cells: Cells,
     numbers: [i64; 3],
     rows: &[Row],
-) -> Result<(), DeckFault>
+) -> Result<(), WalkStop>
     requires { AreRows cells rows.now }
-    ensures walks { WalksAs (λ _. tt) (allowed (key_at (codes "scale") key.now) (first_strong cells by (set_up (spot numbers) rows.now))) result }
+    ensures walks { WalksAs (λ _. tt) (allowed (key_at (codes "scale") key.now)
+        (first_strong cells by (set_up (spot numbers) rows.now))) result }
     ensures mild { OnOk result (IsMild cells by (set_up (spot numbers) rows.now)) }
 {
     let mut field = Lattice::new(alloc, cells, [1; 3])?;
@@ -96,9 +101,10 @@ fn check_field(
     cells: Cells,
     numbers: [i64; 3],
     rows: &[Row],
-) -> Result<(), DeckFault>
+) -> Result<(), WalkStop>
     requires { AreRows cells rows.now }
-    ensures walks { WalksAs (λ _. tt) (allowed (key_at (codes "scale") key.now) (first_strong cells by (set_up (spot numbers) rows.now))) result }
+    ensures walks { WalksAs (λ _. tt) (allowed (key_at (codes "scale") key.now)
+        (first_strong cells by (set_up (spot numbers) rows.now))) result }
     ensures mild { OnOk result (IsMild cells by (set_up (spot numbers) rows.now)) }
 {
     if is_zero(numbers) && rows.is_empty() {
@@ -110,17 +116,19 @@ fn check_field(
 /// Refuses a deck whose fields begin with a force value above 2^44 in size: E first, then B.
 pub(crate) fn check_forces(
     alloc: Global,
-    setup: &Setup,
-    field: &FieldValues,
-) -> Result<(), DeckFault>
-    requires edges { AreRows setup.now.cells field.now.edges }
-    requires faces { AreRows setup.now.cells field.now.faces }
-    ensures walks { WalksAs (λ _. tt) (forces setup.now field.now) result }
-    ensures e { OnOk result (IsMild setup.now.cells setup.now.scales.e_force (set_up (spot field.now.e) field.now.edges)) }
-    ensures b { OnOk result (IsMild setup.now.cells setup.now.scales.b_force (set_up (spot field.now.b) field.now.faces)) }
+    settings: &Settings,
+    field: &InitialFields,
+) -> Result<(), WalkStop>
+    requires edges { AreRows settings.now.cells field.now.edges }
+    requires faces { AreRows settings.now.cells field.now.faces }
+    ensures walks { WalksAs (λ _. tt) (forces settings.now field.now) result }
+    ensures e { OnOk result (IsMild settings.now.cells settings.now.scales.e_force
+        (set_up (spot field.now.e) field.now.edges)) }
+    ensures b { OnOk result (IsMild settings.now.cells settings.now.scales.b_force
+        (set_up (spot field.now.b) field.now.faces)) }
 {
-    let cells = setup.cells;
-    let scales = setup.scales;
+    let cells = settings.cells;
+    let scales = settings.scales;
     let e = field.edges.as_slice();
     let b = field.faces.as_slice();
     check_field(alloc, "e_force", scales.e_force, cells, field.e, e)?;

@@ -1,3 +1,5 @@
+//! The table `grid` of a deck.
+
 ghost use Rattle.std.specs.Prelude.{◌≡◌, ℕ, List, ◌*◌, ◌<◌, ◌≤◌, None, [], codes, IfOk, slice_index};
 ghost use Rattle.toml.specs.View.{view, table_view};
 ghost use Rattle.pic_num.specs.Space.{Triple, triple};
@@ -9,7 +11,7 @@ ghost use Rattle.pic_deck.specs.Keys.{grid_keys, grid, cell_limits, axis_tiles, 
 
 use pic_grid::Cells;
 use pic_walk::{
-    DeckFault, Limits, Place, check_within, need_table, need_three, needed_value, read_array,
+    Address, Limits, WalkStop, check_within, need_table, need_three, needed_value, read_array,
     read_whole,
 };
 use std::alloc::Global;
@@ -21,14 +23,16 @@ const MOST_CELLS: i64 = Cells::MOST as i64;
 
 const MOST_TILES: i64 = 512;
 
-fn grid_table(alloc: Global, table: &Table) -> Result<&Table, DeckFault>
-    ensures { WalksAs (λ t. table_view t.now) (need (table_of grid_keys) (codes "grid") [] (table_view table.now)) result }
+fn grid_table(alloc: Global, table: &Table) -> Result<&Table, WalkStop>
+    ensures { WalksAs (λ t. table_view t.now)
+        (need (table_of grid_keys) (codes "grid") [] (table_view table.now)) result }
 {
     need_table(alloc, "grid", &["cells", "tiles"], table)
 }
 
-fn read_cells(alloc: Global, table: &Table) -> Result<[u32; 3], DeckFault>
-    ensures walks { WalksAs (λ (ns : List ℕ). ns) (need (three cell_limits) (codes "cells") (codes "grid") (table_view table.now)) result }
+fn read_cells(alloc: Global, table: &Table) -> Result<[u32; 3], WalkStop>
+    ensures walks { WalksAs (λ (ns : List ℕ). ns)
+        (need (three cell_limits) (codes "cells") (codes "grid") (table_view table.now)) result }
     ensures bounds { IfOk result (λ ns. IsCells (triple ns)) }
 {
     let limits = [Limits::new(FEWEST_CELLS, MOST_CELLS); 3];
@@ -38,33 +42,36 @@ fn read_cells(alloc: Global, table: &Table) -> Result<[u32; 3], DeckFault>
 // the tiles of an axis of so many cells
 fn read_axis_tiles(
     alloc: Global,
-    place: Place<'_>,
+    address: Address<'_>,
     value: &Value,
     cells: u32,
-) -> Result<u32, DeckFault>
-    ensures walks { WalksAs (λ (n : ℕ). n) (axis_tiles cells (path_of place.entry) (view value.now)) result }
+) -> Result<u32, WalkStop>
+    ensures walks { WalksAs (λ (n : ℕ). n)
+        (axis_tiles cells (path_of address.entry) (view value.now)) result }
     ensures tiled { IfOk result (λ t. IsTiled cells t) }
 {
-    let tiles = read_whole(alloc, place, value, Limits::new(1, i64::from(cells / 2)))?;
-    check_within(alloc, place, i128::from(cells % tiles), Limits::new(0, 0))?;
+    let tiles = read_whole(alloc, address, value, Limits::new(1, i64::from(cells / 2)))?;
+    check_within(alloc, address, i128::from(cells % tiles), Limits::new(0, 0))?;
     Ok(tiles)
 }
 
 // the tiles of each axis
 fn read_each_tiles(
     alloc: Global,
-    place: Place<'_>,
+    address: Address<'_>,
     value: &Value,
     cells: [u32; 3],
-) -> Result<[u32; 3], DeckFault>
-    requires { place.column ≡ None }
-    ensures walks { WalksAs (λ (ts : List ℕ). ts) (array_of 3 (next_tiles cells) (path_of place.entry) (view value.now)) result }
-    ensures tiled { IfOk result (λ ts. (k : ℕ) → k < 3 → IsTiled (slice_index cells k) (slice_index ts k)) }
+) -> Result<[u32; 3], WalkStop>
+    requires { address.column ≡ None }
+    ensures walks { WalksAs (λ (ts : List ℕ). ts)
+        (array_of 3 (next_tiles cells) (path_of address.entry) (view value.now)) result }
+    ensures tiled { IfOk result (λ ts. (k : ℕ) → k < 3
+        → IsTiled (slice_index cells k) (slice_index ts k)) }
 {
-    let items = read_array(alloc, place, value, 3)?;
+    let items = read_array(alloc, address, value, 3)?;
     let mut tiles = [0u32; 3];
     for i in 0..3usize {
-        tiles[i] = read_axis_tiles(alloc, place.element(i), &items[i], cells[i])?;
+        tiles[i] = read_axis_tiles(alloc, address.element(i), &items[i], cells[i])?;
     }
     Ok(tiles)
 }
@@ -79,32 +86,34 @@ fn tiles_in_all(tiles: [u32; 3]) -> u32
 // the tiles of all three axes
 fn read_tiles(
     alloc: Global,
-    place: Place<'_>,
+    address: Address<'_>,
     value: &Value,
     cells: [u32; 3],
-) -> Result<[u32; 3], DeckFault>
-    requires plain { place.column ≡ None }
+) -> Result<[u32; 3], WalkStop>
+    requires plain { address.column ≡ None }
     requires cells { IsCells (triple cells) }
-    ensures walks { WalksAs (λ (ts : List ℕ). ts) (tiles cells (path_of place.entry) (view value.now)) result }
+    ensures walks { WalksAs (λ (ts : List ℕ). ts)
+        (tiles cells (path_of address.entry) (view value.now)) result }
     ensures tiled { IfOk result (λ ts. AreTiles (triple cells) (triple ts)) }
 {
-    let tiles = read_each_tiles(alloc, place, value, cells)?;
+    let tiles = read_each_tiles(alloc, address, value, cells)?;
     let count = i128::from(tiles_in_all(tiles));
-    check_within(alloc, place, count, Limits::new(1, MOST_TILES))?;
+    check_within(alloc, address, count, Limits::new(1, MOST_TILES))?;
     Ok(tiles)
 }
 
-fn need_tiles(alloc: Global, table: &Table, cells: [u32; 3]) -> Result<[u32; 3], DeckFault>
+fn need_tiles(alloc: Global, table: &Table, cells: [u32; 3]) -> Result<[u32; 3], WalkStop>
     requires { IsCells (triple cells) }
-    ensures walks { WalksAs (λ (ts : List ℕ). ts) (need (tiles cells) (codes "tiles") (codes "grid") (table_view table.now)) result }
+    ensures walks { WalksAs (λ (ts : List ℕ). ts)
+        (need (tiles cells) (codes "tiles") (codes "grid") (table_view table.now)) result }
     ensures tiled { IfOk result (λ ts. AreTiles (triple cells) (triple ts)) }
 {
     let value = needed_value(alloc, "grid", "tiles", table)?;
-    read_tiles(alloc, Place::new("grid", "tiles"), value, cells)
+    read_tiles(alloc, Address::new("grid", "tiles"), value, cells)
 }
 
 /// The table `grid` of a deck: the cells and the tiles of each axis.
-pub fn read_grid(alloc: Global, table: &Table) -> Result<(Cells, [u32; 3]), DeckFault>
+pub fn read_grid(alloc: Global, table: &Table) -> Result<(Cells, [u32; 3]), WalkStop>
     ensures walks { WalksAs (λ (g : Triple × List ℕ). g) (grid (table_view table.now)) result }
     ensures cells { IfOk result (λ g. IsCells g.0) }
     ensures tiled { IfOk result (λ g. AreTiles g.0 (triple g.1)) }

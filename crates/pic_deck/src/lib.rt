@@ -8,7 +8,8 @@ mod filling;
 mod forces;
 mod grid;
 mod naming;
-mod parts;
+mod reading;
+mod refusal;
 mod run;
 mod scale;
 mod settings;
@@ -16,9 +17,11 @@ mod species;
 mod species_reader;
 #[cfg(test)]
 mod tests;
-mod reading;
 
 pub use deck::Deck;
-pub use pic_walk::{DeckFault, KeyPath, Point6, Points, Refusal, Row, Rows};
-pub use species::{Fill, Species, SpeciesList};
+pub use fields::InitialFields;
+pub use pic_walk::{KeyPath, Point6, Points, Row, Rows};
 pub use reading::read_deck;
+pub use refusal::{DeckFault, Refusal};
+pub use settings::Settings;
+pub use species::{Fill, Species, SpeciesList};

@@ -1,3 +1,5 @@
+//! The names of species.
+
 ghost use Rattle.std.specs.Prelude.{◌≡◌, ℕ, List, codes, IfOk};
 ghost use Rattle.std.specs.List.{list_all};
 ghost use Rattle.toml.specs.View.{view, table_view};
@@ -9,7 +11,7 @@ ghost use Rattle.pic_deck.specs.Keys.{species_name};
 
 use crate::species::Species;
 use pic_grid::Name;
-use pic_walk::{DeckFault, Place, needed_value, read_text};
+use pic_walk::{Address, WalkStop, needed_value, read_text};
 use std::alloc::Global;
 use toml::{Table, Value};
 
@@ -55,22 +57,23 @@ fn is_new_name(species: &[Species], text: &str) -> bool
     is_name(text) && !is_taken(species, text)
 }
 
-// the name at a place, which no earlier species has
+// the name at an address, which no earlier species has
 fn read_name(
     alloc: Global,
-    place: Place<'_>,
+    address: Address<'_>,
     value: &Value,
     earlier: &[Species],
-) -> Result<Name, DeckFault>
-    ensures walks { WalksAs (λ (s : List ℕ). s) (species_name earlier.now (path_of place.entry) (view value.now)) result }
+) -> Result<Name, WalkStop>
+    ensures walks { WalksAs (λ (s : List ℕ). s)
+        (species_name earlier.now (path_of address.entry) (view value.now)) result }
     ensures limits { IfOk result (λ s. IsNewName earlier.now s) }
 {
-    let text = read_text(alloc, place, value)?;
+    let text = read_text(alloc, address, value)?;
     if is_new_name(earlier, text) {
         let bytes = Vec::from_slice(alloc, text.as_bytes())?;
         Ok(Name::from_vec(bytes))
     } else {
-        Err(place.name_fault(alloc))
+        Err(address.name_fault(alloc))
     }
 }
 
@@ -80,10 +83,11 @@ pub(crate) fn need_name(
     path: &str,
     table: &Table,
     earlier: &[Species],
-) -> Result<Name, DeckFault>
-    ensures walks { WalksAs (λ (s : List ℕ). s) (need (species_name earlier.now) (codes "name") path.now (table_view table.now)) result }
+) -> Result<Name, WalkStop>
+    ensures walks { WalksAs (λ (s : List ℕ). s)
+        (need (species_name earlier.now) (codes "name") path.now (table_view table.now)) result }
     ensures limits { IfOk result (λ s. IsNewName earlier.now s) }
 {
     let value = needed_value(alloc, path, "name", table)?;
-    read_name(alloc, Place::new(path, "name"), value, earlier)
+    read_name(alloc, Address::new(path, "name"), value, earlier)
 }

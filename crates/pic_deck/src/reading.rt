@@ -1,24 +1,30 @@
-ghost use Rattle.std.specs.Prelude.{◌≡◌, ◌↔◌, [], Err};
+//! The deck that some bytes are.
+
+ghost use Rattle.std.specs.Prelude.{◌≡◌, ◌↔◌, ◌<◌, Some, Err, [], IfOk, IfErr};
 ghost use Rattle.toml.specs.View.{table_view};
-ghost use Rattle.pic_walk.specs.declared.fault.Refusal.TheVariants.{Text};
-ghost use Rattle.pic_walk.specs.Walk.{WalksAs, some_or, listed};
+ghost use Rattle.pic_walk.specs.Bounds.{most_bytes};
+ghost use Rattle.pic_walk.specs.Walk.{WalksAs, listed};
+ghost use Rattle.pic_deck.specs.declared.refusal.Refusal.TheVariants.{Text};
 ghost use Rattle.pic_deck.specs.Deck.{DeckView};
-ghost use Rattle.pic_deck.specs.Keys.{deck_keys, deck, document, walk};
-ghost use Rattle.pic_deck.specs.Reading.{IsNoText};
+ghost use Rattle.pic_deck.specs.Keys.{deck_keys, deck};
+ghost use Rattle.pic_deck.specs.Reading.{document, walk, too_long, IsNoText};
+ghost use Rattle.pic_deck.specs.Refusal.{IsRefusal, IsTextFault, ReadsAs};
 
 use crate::deck::Deck;
 use crate::fields::optional_fields;
 use crate::forces::check_forces;
-use crate::settings::read_setup;
+use crate::refusal::{DeckFault, Refusal};
+use crate::settings::read_settings;
 use crate::species_reader::optional_species;
-use pic_walk::{DeckFault, Limits, Place, Refusal, check_keys, check_within};
+use pic_walk::{Address, Limits, WalkStop, check_keys};
 use std::alloc::Global;
 use toml::Table;
 
-const MOST_BYTES: i64 = 1048576;
+const MOST_BYTES: usize = 1048576;
 
-fn check_deck_keys(alloc: Global, table: &Table) -> Result<(), DeckFault>
-    ensures { WalksAs (λ _. table_view table.now) (listed deck_keys [] (table_view table.now)) result }
+fn check_deck_keys(alloc: Global, table: &Table) -> Result<(), WalkStop>
+    ensures { WalksAs (λ _. table_view table.now) (listed deck_keys [] (table_view table.now))
+        result }
 {
     check_keys(
         alloc,
@@ -30,7 +36,8 @@ fn check_deck_keys(alloc: Global, table: &Table) -> Result<(), DeckFault>
 
 // the table that some bytes are
 fn read_document(alloc: Global, bytes: &[u8]) -> Result<Table, DeckFault>
-    ensures { WalksAs (λ t. table_view t) (some_or Text (document bytes.now)) result }
+    ensures ok { IfOk result (λ t. document bytes.now ≡ Some (table_view t)) }
+    ensures refused { IfErr result (λ e. IsTextFault (document bytes.now) e) }
 {
     match toml::table_from_slice(alloc, bytes) {
         Ok(table) => Ok(table),
@@ -45,24 +52,34 @@ fn read_document(alloc: Global, bytes: &[u8]) -> Result<Table, DeckFault>
 }
 
 // the deck that a table is
-fn read_table(alloc: Global, table: &Table) -> Result<Deck, DeckFault>
+fn deck_of(alloc: Global, table: &Table) -> Result<Deck, WalkStop>
     ensures { WalksAs (λ (d : DeckView). d) (deck (table_view table.now)) result }
 {
     check_deck_keys(alloc, table)?;
-    let setup = read_setup(alloc, table)?;
-    let field = optional_fields(alloc, table, setup.cells)?;
-    let species = optional_species(alloc, table, setup.cells)?;
-    check_forces(alloc, &setup, &field)?;
-    Ok(Deck::new(setup, field, species))
+    let settings = read_settings(alloc, table)?;
+    let field = optional_fields(alloc, table, settings.cells)?;
+    let species = optional_species(alloc, table, settings.cells)?;
+    check_forces(alloc, &settings, &field)?;
+    Ok(Deck::new(settings, field, species))
+}
+
+// that there are too many bytes
+fn size_fault(alloc: Global, size: usize) -> DeckFault
+    ensures { IsRefusal (too_long size) result }
+{
+    let limits = Limits::new(0, MOST_BYTES as i64);
+    DeckFault::from(Address::new("", "deck").limit_fault(alloc, size as i128, limits))
 }
 
 /// The deck that some bytes are, or the one refusal that the walk of them meets first.
+#[tactic(auto, using(crate::proofs::ReadingLaws::text_exactly))]
 pub fn read_deck(alloc: Global, bytes: &[u8]) -> Result<Deck, DeckFault>
-    ensures walks { WalksAs (λ (d : DeckView). d) (walk bytes.now) result }
+    ensures walks { ReadsAs (walk bytes.now) result }
     ensures text { (walk bytes.now ≡ Err Text) ↔ IsNoText bytes.now }
 {
-    let limits = Limits::new(0, MOST_BYTES);
-    check_within(alloc, Place::new("", "deck"), bytes.len() as i128, limits)?;
+    if bytes.len() > MOST_BYTES {
+        return Err(size_fault(alloc, bytes.len()));
+    }
     let table = read_document(alloc, bytes)?;
-    read_table(alloc, &table)
+    Ok(deck_of(alloc, &table)?)
 }

@@ -1,3 +1,5 @@
+//! The table `scale` of a deck.
+
 ghost use Rattle.std.specs.Prelude.{[], codes};
 ghost use Rattle.toml.specs.View.{table_view};
 ghost use Rattle.pic_num.specs.declared.mult.Scales.{Scales as ScalesView};
@@ -5,12 +7,13 @@ ghost use Rattle.pic_walk.specs.Walk.{WalksAs, table_of, need};
 ghost use Rattle.pic_deck.specs.Keys.{scale_keys, scale};
 
 use pic_num::Scales;
-use pic_walk::{DeckFault, need_multiplier, need_table};
+use pic_walk::{WalkStop, need_multiplier, need_table};
 use std::alloc::Global;
 use toml::Table;
 
-fn scale_table(alloc: Global, table: &Table) -> Result<&Table, DeckFault>
-    ensures { WalksAs (λ t. table_view t.now) (need (table_of scale_keys) (codes "scale") [] (table_view table.now)) result }
+fn scale_table(alloc: Global, table: &Table) -> Result<&Table, WalkStop>
+    ensures { WalksAs (λ t. table_view t.now)
+        (need (table_of scale_keys) (codes "scale") [] (table_view table.now)) result }
 {
     need_table(
         alloc,
@@ -21,7 +24,7 @@ fn scale_table(alloc: Global, table: &Table) -> Result<&Table, DeckFault>
 }
 
 /// The table `scale` of a deck.
-pub fn read_scale(alloc: Global, table: &Table) -> Result<Scales, DeckFault>
+pub fn read_scale(alloc: Global, table: &Table) -> Result<Scales, WalkStop>
     ensures { WalksAs (λ (s : ScalesView). s) (scale (table_view table.now)) result }
 {
     let table = scale_table(alloc, table)?;

@@ -1,9 +1,8 @@
-ghost use Rattle.std.specs.Prelude.{◌≡◌};
+//! A species of a deck, and what particles it has.
 
 use pic_grid::Name;
-use pic_num::Kind;
+use pic_num::{Kind, Listed};
 use pic_walk::Points;
-use std::marker::Model;
 
 /// What particles a species has.
 #[derive(Debug, Drop)]
@@ -13,62 +12,28 @@ pub enum Fill {
 }
 
 impl Fill {
-    ghost use Rattle.std.specs.Prelude.{length};
-    ghost use Rattle.pic_deck.specs.Species.{points_in};
+    ghost use Rattle.std.specs.Prelude.{◌≡◌};
+    ghost use Rattle.pic_deck.specs.Species.{count_in};
 
-    /// How many particles there are.
-    pub fn count(&self) -> usize
-        ensures { result ≡ length (points_in self.now) }
+    /// How many particles these are in a species after earlier ones.
+    pub fn count(&self, earlier: &[Species]) -> u64
+        ensures { result ≡ count_in earlier.now self.now }
     {
+        let _ = earlier;
         match self {
-            Fill::Points(points) => points.as_slice().len(),
+            Fill::Points(points) => points.as_slice().len() as u64,
         }
     }
 }
 
-/// A species: its name, what its particles have in common, and its particles.
+/// A species: its name, what its particles have in common, how many they are, and which.
 #[derive(Debug, Drop)]
 pub struct Species {
     pub name: Name,
     pub kind: Kind,
+    pub count: u32,
     pub fill: Fill,
 }
 
 /// The species of a deck, as a list.
-#[derive(Debug, Drop)]
-pub struct SpeciesList {
-    species: Vec<Species>,
-}
-
-impl Model for SpeciesList {
-    ghost use Rattle.std.specs.Prelude.{List};
-    ghost use Rattle.pic_deck.specs.declared.species.Species.{Species};
-
-    ghost Value = { List Species };
-
-    ghost view = { λ a. a.species.items };
-}
-
-impl SpeciesList {
-    /// The list of these species; it takes no memory.
-    pub fn from_vec(species: Vec<Species>) -> SpeciesList
-        ensures { result ≡ species.items }
-    {
-        SpeciesList { species }
-    }
-
-    /// The species, without taking memory.
-    pub fn into_vec(self) -> Vec<Species>
-        ensures { result.items ≡ self }
-    {
-        let SpeciesList { species } = self;
-        species
-    }
-
-    /// The species.
-    pub fn as_slice(&self) -> &[Species]
-        ensures { result.now ≡ self.now }
-    {
-        self.species.as_slice()
-    }
-}
+pub type SpeciesList = Listed<Species>;

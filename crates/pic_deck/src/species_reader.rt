@@ -1,21 +1,26 @@
-ghost use Rattle.std.specs.Prelude.{◌≡◌, ℕ, pos, negsuc, ◌+◌, ◌<◌, ◌≤◌, List, [], None, map, codes, length, slice_index_or, IfOk, OnOk};
+//! The tables `species` of a deck.
+
+ghost use Rattle.std.specs.Prelude.{◌≡◌, ℕ, pos, ◌+◌, ◌≤◌, List, [], None, map, codes, length, IfOk, OnOk};
 ghost use Rattle.toml.specs.View.{view, array_view, table_view};
 ghost use Rattle.pic_num.specs.declared.motion.Kind.{Kind as KindView};
 ghost use Rattle.pic_grid.specs.Species.{IsKind, AreHeads};
-ghost use Rattle.pic_walk.specs.declared.point6.Point6.{Point6};
+ghost use Rattle.pic_walk.specs.Bounds.{most_species, most_particles};
 ghost use Rattle.pic_walk.specs.Path.{path_of};
+ghost use Rattle.pic_walk.specs.declared.point6.Point6.{Point6};
 ghost use Rattle.pic_walk.specs.Points.{ArePoints, point_list};
+ghost use Rattle.pic_walk.specs.Limits.{from_to};
 ghost use Rattle.pic_walk.specs.Walk.{WalksAs, within, need, each, table_of, optional};
+ghost use Rattle.pic_deck.specs.declared.species.Fill.{Fill as FillView};
 ghost use Rattle.pic_deck.specs.declared.species.Species.{Species as SpeciesView};
-ghost use Rattle.pic_deck.specs.Species.{IsNewName, AreFilled, points_in, particles_of, head_of};
-ghost use Rattle.pic_deck.specs.Keys.{species_keys, species_kind, one_species, species_list};
+ghost use Rattle.pic_deck.specs.Species.{IsFill, IsNext, AreFilled, count_in, particles_of, head_of};
+ghost use Rattle.pic_deck.specs.Keys.{species_keys, species_kind, species_fill, counted, species_in, one_species, species_list};
 
 use crate::naming::need_name;
 use crate::species::{Fill, Species, SpeciesList};
 use pic_grid::Cells;
 use pic_num::Kind;
 use pic_walk::{
-    DeckFault, Limits, Place, Points, check_within, find_value, need_multiplier, need_number,
+    Address, Limits, Points, WalkStop, check_within, find_value, need_multiplier, need_number,
     need_whole, needed_value, read_elements, read_points, read_table,
 };
 use std::alloc::Global;
@@ -28,16 +33,17 @@ const MOST_PARTICLES: i64 = 1048576;
 
 fn species_table<'v>(
     alloc: Global,
-    place: Place<'_>,
+    address: Address<'_>,
     path: &str,
     value: &'v Value,
-) -> Result<&'v Table, DeckFault>
-    requires { path_of place ≡ path.now }
-    ensures { WalksAs (λ t. table_view t.now) (table_of species_keys path.now (view value.now)) result }
+) -> Result<&'v Table, WalkStop>
+    requires { path_of address ≡ path.now }
+    ensures { WalksAs (λ t. table_view t.now) (table_of species_keys path.now (view value.now))
+        result }
 {
     read_table(
         alloc,
-        place,
+        address,
         path,
         &["name", "charge", "mass", "kick", "turn", "points"],
         value,
@@ -45,8 +51,9 @@ fn species_table<'v>(
 }
 
 // what the particles of a species have in common
-fn read_kind(alloc: Global, path: &str, table: &Table) -> Result<Kind, DeckFault>
-    ensures walks { WalksAs (λ (k : KindView). k) (species_kind path.now (table_view table.now)) result }
+fn read_kind(alloc: Global, path: &str, table: &Table) -> Result<Kind, WalkStop>
+    ensures walks { WalksAs (λ (k : KindView). k) (species_kind path.now (table_view table.now))
+        result }
     ensures limits { IfOk result (λ k. IsKind k) }
 {
     let charge = need_number(alloc, path, "charge", table, Limits::new(-32768, 32767))?;
@@ -61,22 +68,33 @@ fn read_kind(alloc: Global, path: &str, table: &Table) -> Result<Kind, DeckFault
     })
 }
 
-fn need_points(alloc: Global, path: &str, table: &Table, cells: Cells) -> Result<Points, DeckFault>
-    ensures walks { WalksAs (λ (ps : List Point6). ps) (need (point_list cells) (codes "points") path.now (table_view table.now)) result }
+fn need_points(alloc: Global, path: &str, table: &Table, cells: Cells) -> Result<Points, WalkStop>
+    ensures walks { WalksAs (λ (ps : List Point6). ps)
+        (need (point_list cells) (codes "points") path.now (table_view table.now)) result }
     ensures limits { IfOk result (λ ps. ArePoints cells ps) }
 {
     let value = needed_value(alloc, path, "points", table)?;
-    read_points(alloc, Place::new(path, "points"), value, cells)
+    read_points(alloc, Address::new(path, "points"), value, cells)
+}
+
+// what fills a species
+fn read_fill(alloc: Global, path: &str, table: &Table, cells: Cells) -> Result<Fill, WalkStop>
+    ensures walks { WalksAs (λ (f : FillView). f)
+        (species_fill cells path.now (table_view table.now)) result }
+    ensures limits { IfOk result (λ f. IsFill cells f) }
+{
+    let points = need_points(alloc, path, table, cells)?;
+    Ok(Fill::Points(points))
 }
 
 /// How many particles some species have.
 pub(crate) fn particles_of(species: &[Species]) -> usize
-    requires { particles_of species.now ≤ 1048576 }
+    requires { particles_of species.now ≤ most_particles }
     ensures { result ≡ particles_of species.now }
 {
     let mut total = 0;
     for one in species {
-        total += one.fill.count();
+        total += one.count as usize;
     }
     total
 }
@@ -84,82 +102,124 @@ pub(crate) fn particles_of(species: &[Species]) -> usize
 // refuses a species with whose particles there are too many
 fn check_particles(
     alloc: Global,
-    place: Place<'_>,
+    address: Address<'_>,
     earlier: &[Species],
-    points: &Points,
-) -> Result<(), DeckFault>
-    requires { particles_of earlier.now ≤ 1048576 }
-    ensures walks { WalksAs (λ _. pos (particles_of earlier.now + length points.now)) (within (record { low = pos 0; high = pos 1048576 }) (path_of place.entry) (pos (particles_of earlier.now + length points.now))) result }
-    ensures few { OnOk result (particles_of earlier.now + length points.now ≤ 1048576) }
+    count: u64,
+) -> Result<(), WalkStop>
+    requires { particles_of earlier.now ≤ most_particles }
+    ensures walks { WalksAs (λ _. pos (particles_of earlier.now + count))
+        (within (from_to (pos 0) (pos most_particles)) (path_of address.entry)
+        (pos (particles_of earlier.now + count))) result }
+    ensures few { OnOk result (particles_of earlier.now + count ≤ most_particles) }
 {
     let before = particles_of(earlier) as i128;
-    let count = points.as_slice().len() as i128;
-    check_within(alloc, place, before + count, Limits::new(0, MOST_PARTICLES))
+    let more = count as i128;
+    let limits = Limits::new(0, MOST_PARTICLES);
+    check_within(alloc, address, before + more, limits)
 }
 
-// the species at a place, after earlier ones
+// how many particles a species has, with which there aren't too many
+fn read_count(
+    alloc: Global,
+    address: Address<'_>,
+    earlier: &[Species],
+    fill: &Fill,
+) -> Result<u32, WalkStop>
+    requires { particles_of earlier.now ≤ most_particles }
+    ensures walks { WalksAs (λ (n : ℕ). n) (counted earlier.now (path_of address.entry) fill.now)
+        result }
+    ensures count { IfOk result (λ n. n ≡ count_in earlier.now fill.now) }
+    ensures few { IfOk result (λ n. particles_of earlier.now + n ≤ most_particles) }
+{
+    let count = fill.count(earlier);
+    check_particles(alloc, address, earlier, count)?;
+    Ok(count as u32)
+}
+
+// the species that the table at an address is, after earlier ones
+fn species_in(
+    alloc: Global,
+    address: Address<'_>,
+    path: &str,
+    table: &Table,
+    cells: Cells,
+    earlier: &[Species],
+) -> Result<Species, WalkStop>
+    requires path { path_of address ≡ path.now }
+    requires heads { AreHeads (map head_of earlier.now) }
+    ensures walks { WalksAs (λ (s : SpeciesView). s)
+        (species_in cells earlier.now path.now (table_view table.now)) result }
+    ensures limits { IfOk result (λ s. IsNext cells earlier.now s) }
+{
+    let name = need_name(alloc, path, table, earlier)?;
+    let kind = read_kind(alloc, path, table)?;
+    let fill = read_fill(alloc, path, table, cells)?;
+    let count = read_count(alloc, address, earlier, &fill)?;
+    Ok(Species {
+        name,
+        kind,
+        count,
+        fill,
+    })
+}
+
+// the species at an address, after earlier ones
 fn read_species(
     alloc: Global,
-    place: Place<'_>,
+    address: Address<'_>,
     value: &Value,
     cells: Cells,
     earlier: &[Species],
-) -> Result<Species, DeckFault>
+) -> Result<Species, WalkStop>
     requires { AreHeads (map head_of earlier.now) }
-    ensures walks { WalksAs (λ (s : SpeciesView). s) (one_species cells earlier.now (path_of place.entry) (view value.now)) result }
-    ensures name { IfOk result (λ s. IsNewName earlier.now s.name) }
-    ensures kind { IfOk result (λ s. IsKind s.kind) }
-    ensures points { IfOk result (λ s. ArePoints cells (points_in s.fill)) }
-    ensures few { IfOk result (λ s. particles_of earlier.now + length (points_in s.fill) ≤ 1048576) }
+    ensures walks { WalksAs (λ (s : SpeciesView). s)
+        (one_species cells earlier.now (path_of address.entry) (view value.now)) result }
+    ensures limits { IfOk result (λ s. IsNext cells earlier.now s) }
 {
-    let path = place.path(alloc)?;
-    let prefix = path.as_str();
-    let table = species_table(alloc, place, prefix, value)?;
-    let name = need_name(alloc, prefix, table, earlier)?;
-    let kind = read_kind(alloc, prefix, table)?;
-    let points = need_points(alloc, prefix, table, cells)?;
-    check_particles(alloc, place, earlier, &points)?;
-    let fill = Fill::Points(points);
-    Ok(Species { name, kind, fill })
+    let path = address.path(alloc)?;
+    let table = species_table(alloc, address, path.as_str(), value)?;
+    species_in(alloc, address, path.as_str(), table, cells, earlier)
 }
 
-// the species at a place, one by one
+// the species at an address, one by one
 fn read_each_species(
     alloc: Global,
-    place: Place<'_>,
+    address: Address<'_>,
     items: &Array,
     cells: Cells,
-) -> Result<Vec<Species>, DeckFault>
-    requires whole { place.row ≡ None }
-    requires plain { place.column ≡ None }
-    requires few { length items.now.items ≤ 16 }
-    ensures walks { WalksAs (λ ss. ss.items) (each (one_species cells) (path_of place.entry) [] (array_view items.now)) result }
+) -> Result<Vec<Species>, WalkStop>
+    requires whole { address.row ≡ None }
+    requires plain { address.column ≡ None }
+    requires few { length items.now.items ≤ most_species }
+    ensures walks { WalksAs (λ ss. ss.items)
+        (each (one_species cells) (path_of address.entry) [] (array_view items.now)) result }
     ensures heads { IfOk result (λ ss. AreHeads (map head_of ss.items)) }
     ensures filled { IfOk result (λ ss. AreFilled cells ss.items) }
 {
     let mut all = Vec::new(alloc);
     for i in 0..items.len() {
-        let species = read_species(alloc, place.element(i), &items[i], cells, all.as_slice())?;
+        let species = read_species(alloc, address.element(i), &items[i], cells, all.as_slice())?;
         all.push(species)?;
     }
     Ok(all)
 }
 
 // the array of species
-fn read_all_species(alloc: Global, value: &Value, cells: Cells) -> Result<SpeciesList, DeckFault>
-    ensures walks { WalksAs (λ (ss : List SpeciesView). ss) (species_list cells (codes "species") (view value.now)) result }
+fn read_all_species(alloc: Global, value: &Value, cells: Cells) -> Result<SpeciesList, WalkStop>
+    ensures walks { WalksAs (λ (ss : List SpeciesView). ss)
+        (species_list cells (codes "species") (view value.now)) result }
     ensures heads { IfOk result (λ ss. AreHeads (map head_of ss)) }
     ensures filled { IfOk result (λ ss. AreFilled cells ss) }
 {
-    let place = Place::new("", "species");
-    let items = read_elements(alloc, place, value)?;
+    let address = Address::new("", "species");
+    let items = read_elements(alloc, address, value)?;
     check_within(
         alloc,
-        place,
+        address,
         items.len() as i128,
         Limits::new(0, MOST_SPECIES),
     )?;
-    let species = read_each_species(alloc, place, items, cells)?;
+    let species = read_each_species(alloc, address, items, cells)?;
     Ok(SpeciesList::from_vec(species))
 }
 
@@ -168,8 +228,9 @@ pub(crate) fn optional_species(
     alloc: Global,
     table: &Table,
     cells: Cells,
-) -> Result<SpeciesList, DeckFault>
-    ensures walks { WalksAs (λ (ss : List SpeciesView). ss) (optional [] (species_list cells) (codes "species") [] (table_view table.now)) result }
+) -> Result<SpeciesList, WalkStop>
+    ensures walks { WalksAs (λ (ss : List SpeciesView). ss)
+        (optional [] (species_list cells) (codes "species") [] (table_view table.now)) result }
     ensures heads { IfOk result (λ ss. AreHeads (map head_of ss)) }
     ensures filled { IfOk result (λ ss. AreFilled cells ss) }
 {

@@ -1,4 +1,6 @@
-use crate::{Deck, DeckFault, Fill, Point6, Points, Refusal, Row, Rows, SpeciesList, read_deck};
+//! Decks, and what their reader makes of them.
+
+use crate::{Deck, DeckFault, Fill, Point6, Refusal, Row, read_deck};
 use pic_grid::{Cells, Lattice};
 use pic_num::{Axis, Kind, Mult};
 use std::process::Abort;
@@ -320,25 +322,5 @@ fn rows_for_one_place_add_up(rt: HostRuntime) -> Result<(), Fail> {
     assert_eq!(rt; e.at(Axis::X, [0, 0, 1]), 5);
     assert_eq!(rt; e.at(Axis::Y, [1, 0, 1]), 0);
     assert_eq!(rt; b.at(Axis::Y, [1, 1, 1]), 0);
-    Ok(())
-}
-
-#[test]
-fn lists_are_what_they_are_made_of(rt: HostRuntime) -> Result<(), Fail> {
-    let row = Row {
-        axis: Axis::X,
-        cell: [0, 0, 0],
-        value: 1,
-    };
-    let rows = Rows::from_vec(Vec::from_slice(rt.alloc(), &[row])?).into_vec();
-    assert_eq!(rt; rows.as_slice(), [row].as_slice());
-    let point = Point6 {
-        x: [0, 0, 0],
-        v: [0, 0, 0],
-    };
-    let points = Points::from_vec(Vec::from_slice(rt.alloc(), &[point])?).into_vec();
-    assert_eq!(rt; points.as_slice(), [point].as_slice());
-    let species = SpeciesList::from_vec(Vec::new(rt.alloc())).into_vec();
-    assert!(rt; species.is_empty());
     Ok(())
 }

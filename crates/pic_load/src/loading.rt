@@ -1,6 +1,6 @@
 ghost use Rattle.std.specs.Prelude.{◌≡◌, ◌+◌, ◌≤◌, ◌++◌, map, length, IfOk, OnOk};
-ghost use Rattle.pic_deck.specs.Species.{points_in};
-ghost use Rattle.pic_load.specs.Loading.{member, numbered, loaded, AreLoaded};
+ghost use Rattle.pic_deck.specs.Species.{most_particles};
+ghost use Rattle.pic_load.specs.Loading.{points_in, member, numbered, loaded, AreLoaded};
 
 use pic_deck::{Deck, Fill, Point6};
 use pic_num::{NoMemory, Particle};
@@ -12,8 +12,9 @@ fn load_points(
     species: u8,
     points: &[Point6],
 ) -> Result<(), NoMemory>
-    requires { length particles.old.items + length points.now ≤ 1048576 }
-    ensures { OnOk result (particles.new.items ≡ particles.old.items ++ numbered (length particles.old.items) (map (member species) points.now)) }
+    requires { length particles.old.items + length points.now ≤ most_particles }
+    ensures { OnOk result (particles.new.items ≡ particles.old.items
+        ++ numbered (length particles.old.items) (map (member species) points.now)) }
 {
     for point in points {
         let id = particles.len() as u32;
@@ -29,8 +30,9 @@ fn load_points(
 
 // adds the particles of a species
 fn load_fill(particles: &mut Vec<Particle>, species: u8, fill: &Fill) -> Result<(), NoMemory>
-    requires { length particles.old.items + length (points_in fill.now) ≤ 1048576 }
-    ensures { OnOk result (particles.new.items ≡ particles.old.items ++ numbered (length particles.old.items) (map (member species) (points_in fill.now))) }
+    requires { length particles.old.items + length (points_in fill.now) ≤ most_particles }
+    ensures { OnOk result (particles.new.items ≡ particles.old.items
+        ++ numbered (length particles.old.items) (map (member species) (points_in fill.now))) }
 {
     match fill {
         Fill::Points(points) => load_points(particles, species, points.as_slice()),

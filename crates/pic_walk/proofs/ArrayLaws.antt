@@ -7,7 +7,7 @@ use Rattle.toml.specs.Data.{Data}
 use Rattle.toml.specs.View.{view, items_view}
 use Rattle.toml.specs.declared.value.Value.{Value}
 use Rattle.toml.proofs.Views.{items_view-drop}
-use Rattle.pic_walk.specs.declared.fault.Refusal.TheVariants.{Kind}
+use Rattle.pic_walk.specs.declared.fault.Fault.TheVariants.{Kind}
 use Rattle.pic_walk.specs.declared.limits.Limits.{Limits}
 use Rattle.pic_walk.specs.Path.{element_at}
 use Rattle.pic_walk.specs.Limits.{IsInLimits, limits_at}
@@ -31,18 +31,22 @@ wrong_length n path vs e =
 
 -- the next element, and then those after it
 pub each_at : {A : Type 0} (f : List A → List ℕ → Data → Walked A) (path : List ℕ) (done : List A) (vs : List Value) (i : ℕ) (d : Value) → i < length vs
-    → each f path done (items_view (drop i vs)) ≡ f done (element_at path (length done)) (view (get_or vs i d)) >>= (λ a. each f path (done ++ a ∷ []) (items_view (drop (i + 1) vs)))
+    → each f path done (items_view (drop i vs)) ≡ f done (element_at path (length done)) (view (get_or vs i d))
+    >>= (λ a. each f path (done ++ a ∷ []) (items_view (drop (i + 1) vs)))
 unfolding each
 each_at f path done vs i d h = rw (items_view-drop vs i d h)
 
 -- no element is left
-pub each_out : {A : Type 0} (f : List A → List ℕ → Data → Walked A) (path : List ℕ) (done : List A) (vs : List Value) (i : ℕ) → length vs ≤ i → each f path done (items_view (drop i vs)) ≡ Ok done
+pub each_out : {A : Type 0} (f : List A → List ℕ → Data → Walked A) (path : List ℕ) (done : List A) (vs : List Value) (i : ℕ) → length vs ≤ i
+    → each f path done (items_view (drop i vs)) ≡ Ok done
 unfolding each
 each_out f path done vs i h = rw (drop_all i vs h)
 
 -- the next number of an array
 pub next_number : (limits : List Limits) (path : List ℕ) (ns : List ℤ) (vs : List Value) (i : ℕ) (d : Value) → i < length vs → i ≤ length ns
-    → each (number_at limits) path (take i ns) (items_view (drop i vs)) ≡ limited (limits_at limits i) (element_at path i) (view (get_or vs i d)) >>= (λ a. each (number_at limits) path (take i ns ++ a ∷ []) (items_view (drop (i + 1) vs)))
+    → each (number_at limits) path (take i ns) (items_view (drop i vs))
+    ≡ limited (limits_at limits i) (element_at path i) (view (get_or vs i d))
+    >>= (λ a. each (number_at limits) path (take i ns ++ a ∷ []) (items_view (drop (i + 1) vs)))
 unfolding number_at
 next_number limits path ns vs i d h room =
     let same : length (take i ns) ≡ i = length-take-le i ns room in
@@ -50,7 +54,8 @@ next_number limits path ns vs i d h room =
     rw same at step
 
 -- one more number is within its limits
-pub more_in_limits : (limits : List Limits) (ns : List ℤ) (i : ℕ) (z : ℤ) → i < length ns → ((k : ℕ) → k < i → IsInLimits (limits_at limits k) (get_or ns k (pos 0))) → IsInLimits (limits_at limits i) z
+pub more_in_limits : (limits : List Limits) (ns : List ℤ) (i : ℕ) (z : ℤ) → i < length ns
+    → ((k : ℕ) → k < i → IsInLimits (limits_at limits k) (get_or ns k (pos 0))) → IsInLimits (limits_at limits i) z
     → (k : ℕ) → k < i + 1 → IsInLimits (limits_at limits k) (get_or (set ns i z) k (pos 0))
 more_in_limits limits ns i z room below here =
     below_more (λ k. IsInLimits (limits_at limits k) (get_or (set ns i z) k (pos 0))) i
@@ -58,7 +63,8 @@ more_in_limits limits ns i z room below here =
     (rw (get_or-set_same ns i z (pos 0) room) here)
 
 -- three numbers, one by one
-pub three_items : (zs : List ℤ) → length zs ≡ 3 → unsigned_abs (get_or zs 0 (pos 0)) ∷ unsigned_abs (get_or zs 1 (pos 0)) ∷ unsigned_abs (get_or zs 2 (pos 0)) ∷ [] ≡ map unsigned_abs zs
+pub three_items : (zs : List ℤ) → length zs ≡ 3 → unsigned_abs (get_or zs 0 (pos 0)) ∷ unsigned_abs (get_or zs 1 (pos 0)) ∷ unsigned_abs
+    (get_or zs 2 (pos 0)) ∷ [] ≡ map unsigned_abs zs
 three_items [] e = absurd (omega (arith, e))
 three_items (a ∷ []) e = absurd (omega (arith, e))
 three_items (a ∷ b ∷ []) e = absurd (omega (arith, e))

@@ -2,6 +2,5 @@ pub mod WalkLaws
 pub mod TableLaws
 pub mod LimitLaws
 pub mod ArrayLaws
-pub mod TextLaws
 pub mod ListLaws
 pub mod PointLaws

@@ -5,7 +5,7 @@ use Rattle.std.proofs.lemmas.Int.{ints, to_z-of_z}
 use mir.Syntax.{w64, w128}
 use mir.Val.{SFits, to_z, of_z}
 use Rattle.pic_walk.specs.declared.limits.Limits.{Limits}
-use Rattle.pic_walk.specs.declared.fault.Refusal.TheVariants.{Limit}
+use Rattle.pic_walk.specs.declared.fault.Fault.TheVariants.{Limit}
 use Rattle.pic_walk.specs.Limits.{IsInLimits, is_within}
 use Rattle.pic_walk.specs.Walk.{within}
 

@@ -10,6 +10,7 @@ use Rattle.pic_num.specs.declared.axis.Axis.{Axis}
 use Rattle.pic_num.specs.Sizes.{IsAtMost}
 use Rattle.pic_num.specs.Space.{Triple, along, spot}
 use Rattle.pic_grid.specs.Cells.{IsCells}
+use Rattle.pic_walk.specs.Bounds.{fastest}
 use Rattle.pic_walk.specs.Limits.{IsInLimits, limits_at, below}
 use Rattle.pic_walk.specs.declared.point6.Point6.{Point6}
 use Rattle.pic_walk.specs.Points.{IsPoint, speed_limits, point_limits, point_of}
@@ -44,7 +45,7 @@ kept_speed z inside = kept_small z (omega (arith, ints, inside.low, inside.high)
 place_below : (m : ℕ) (z : ℤ) → 1 ≤ m → IsInLimits (below m) z → unsigned_abs z < m
 place_below m z some inside = omega (arith, ints, inside.low, inside.high, some)
 
-speed_size : (z : ℤ) → IsInLimits speed_limits z → IsAtMost z (2 ^ 24)
+speed_size : (z : ℤ) → IsInLimits speed_limits z → IsAtMost z fastest
 speed_size z inside = record { size = omega (arith, ints, inside.low, inside.high) }
 
 -- the particle that the code makes of six numbers
@@ -66,8 +67,9 @@ point_is n zs cells inside =
       kept_speed (get_or zs 5 (pos 0)) (inside 5 (lit< tt)),
     )
 
-speeds : (zs : List ℤ) (a : Axis) → IsInLimits speed_limits (get_or zs 3 (pos 0)) → IsInLimits speed_limits (get_or zs 4 (pos 0)) → IsInLimits speed_limits (get_or zs 5 (pos 0))
-    → IsAtMost (along a (spot (point_of zs).v)) (2 ^ 24)
+speeds : (zs : List ℤ) (a : Axis) → IsInLimits speed_limits (get_or zs 3 (pos 0)) → IsInLimits speed_limits (get_or zs 4 (pos 0))
+    → IsInLimits speed_limits (get_or zs 5 (pos 0))
+    → IsAtMost (along a (spot (point_of zs).v)) fastest
 speeds zs X x y z = speed_size _ x
 speeds zs Y x y z = speed_size _ y
 speeds zs Z x y z = speed_size _ z

@@ -8,7 +8,7 @@ use Rattle.std.specs.List.Sorted.{IsStrictlySortedBy}
 use Rattle.std.specs.String.{string_cmp}
 use Rattle.toml.proofs.Views.{is_before-sorted}
 use Rattle.toml.specs.Data.{Members}
-use Rattle.pic_walk.specs.declared.fault.Refusal.TheVariants.{Unknown}
+use Rattle.pic_walk.specs.declared.fault.Fault.TheVariants.{Unknown}
 use Rattle.pic_walk.specs.Path.{key_at}
 use Rattle.pic_walk.specs.Walk.{member_keys, is_listed, first_unlisted, keys_ascend, known, listed}
 
@@ -20,12 +20,14 @@ list_any-map f p (x ∷ xs) = ap (λ b. p (f x) || b) (list_any-map f p xs)
 abbrev Entry : Type 0
 Entry = String Global × Value
 
-found_or : (b : Bool) (k : String Global) (rest : Option (String Global)) (found : Option (List ℕ)) → option_map string_bytes rest ≡ found → option_map string_bytes (cond b (Some k) rest) ≡ cond b (Some (string_bytes k)) found
+found_or : (b : Bool) (k : String Global) (rest : Option (String Global)) (found : Option (List ℕ)) → option_map string_bytes rest ≡ found
+    → option_map string_bytes (cond b (Some k) rest) ≡ cond b (Some (string_bytes k)) found
 found_or true k rest found e = refl
 found_or false k rest found e = e
 
 -- a search among the keys is one among the members' keys
-find-member_keys : (p : List ℕ → Bool) (es : List Entry) → option_map string_bytes (find (λ k. p (string_bytes k)) (keys_of es)) ≡ find p (member_keys (members_view es))
+find-member_keys : (p : List ℕ → Bool) (es : List Entry) → option_map string_bytes (find (λ k. p (string_bytes k)) (keys_of es))
+    ≡ find p (member_keys (members_view es))
 find-member_keys p [] = refl
 find-member_keys p (e ∷ es) = found_or (p (string_bytes e.0)) e.0 _ _ (find-member_keys p es)
 
@@ -33,7 +35,8 @@ seen_twice : (r : Option (Bor (String Global))) → option_map (λ k. string_byt
 seen_twice None = refl
 seen_twice (Some k) = refl
 
-pub first_unlisted-keys : (keys : List (List ℕ)) (r : Option (Bor (String Global))) (es : List Entry) → option_map (λ k. k.now) r ≡ find (λ k. not (is_listed keys (string_bytes k))) (keys_of es)
+pub first_unlisted-keys : (keys : List (List ℕ)) (r : Option (Bor (String Global))) (es : List Entry) → option_map (λ k. k.now) r
+    ≡ find (λ k. not (is_listed keys (string_bytes k))) (keys_of es)
     → option_map (λ k. string_bytes k.now) r ≡ first_unlisted keys (members_view es)
 unfolding first_unlisted
 first_unlisted-keys keys r es found =

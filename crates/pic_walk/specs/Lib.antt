@@ -1,3 +1,4 @@
+pub mod Bounds
 pub mod Limits
 pub mod Path
 pub mod Walk

@@ -1,6 +1,6 @@
 -- Key paths, as lists of bytes.
 use Rattle.std.specs.Prelude.{ℕ, List, ◌++◌, ◌==◌, length, codes, decimal, if◌then◌else◌, Option, Some, None}
-use Rattle.pic_walk.specs.declared.address.Place.{Place}
+use Rattle.pic_walk.specs.declared.address.Address.{Address}
 
 -- the path of a key in the table at a path; the document's own table has the empty path
 unfoldable pub key_at : List ℕ → List ℕ → List ℕ
@@ -15,6 +15,6 @@ abbrev pub with_index : Option ℕ → List ℕ → List ℕ
 with_index None path = path
 with_index (Some i) path = element_at path i
 
--- the path of a place
-unfoldable pub path_of : Place → List ℕ
-path_of place = with_index place.column (with_index place.row (key_at place.table.now place.key.now))
+-- the path of an address
+unfoldable pub path_of : Address → List ℕ
+path_of address = with_index address.column (with_index address.row (key_at address.table.now address.key.now))

@@ -1,11 +1,12 @@
 -- The particles of a species, one by one: their limits, and the walk of them.
-use Rattle.std.specs.Prelude.{ℕ, ℤ, pos, negsuc, ◌*◌, ◌^◌, ◌<◌, List, [], ◌∷◌, length, slice_index_or, Ok}
+use Rattle.std.specs.Prelude.{ℕ, ℤ, pos, neg_ℤ, ◌*◌, ◌<◌, List, [], ◌∷◌, length, slice_index_or, Ok}
 use Rattle.toml.specs.Data.{Data}
 use Rattle.pic_num.specs.declared.axis.Axis.{Axis}
 use Rattle.pic_num.specs.Sizes.{IsAtMost}
 use Rattle.pic_num.specs.Space.{Triple, triple, spot, along}
 use Rattle.pic_grid.specs.Hat.{IsInBox}
 use Rattle.pic_walk.specs.declared.point6.Point6.{Point6}
+use Rattle.pic_walk.specs.Bounds.{fastest}
 use Rattle.pic_walk.specs.declared.limits.Limits.{Limits}
 use Rattle.pic_walk.specs.Limits.{from_to, below}
 use Rattle.pic_walk.specs.Walk.{Walked, ◌>>=◌, list_of, numbers, natural_at}
@@ -14,10 +15,10 @@ use Rattle.pic_walk.specs.Walk.{Walked, ◌>>=◌, list_of, numbers, natural_at}
 abbrev pub no_point : Point6
 no_point = record { x = []; v = [] }
 
--- a particle of a deck of n cells: in the box, and at most 2^24 fast on each axis
+-- a particle of a deck of n cells: in the box, and not too fast on any axis
 pub record IsPoint (n : Triple) (p : Point6) : Type 0 where
   pub place : IsInBox 4096 n (triple p.x)
-  pub speed : (a : Axis) → IsAtMost (along a (spot p.v)) (2 ^ 24)
+  pub speed : (a : Axis) → IsAtMost (along a (spot p.v)) fastest
 
 -- such particles
 pub record ArePoints (n : Triple) (points : List Point6) : Type 0 where
@@ -25,7 +26,7 @@ pub record ArePoints (n : Triple) (points : List Point6) : Type 0 where
 
 -- the velocities of a deck
 abbrev pub speed_limits : Limits
-speed_limits = from_to (negsuc 16777215) (pos 16777216)
+speed_limits = from_to (neg_ℤ (pos fastest)) (pos fastest)
 
 -- the limits of a particle [x, y, z, vx, vy, vz] in the box of n cells
 abbrev pub point_limits : Triple → List Limits

@@ -4,6 +4,7 @@ use Rattle.toml.specs.Data.{Data}
 use Rattle.pic_num.specs.declared.axis.Axis.TheVariants.{X}
 use Rattle.pic_num.specs.Space.{Triple, triple}
 use Rattle.pic_grid.specs.Cells.{IsWithin, axis_of}
+use Rattle.pic_walk.specs.Bounds.{most_rows}
 use Rattle.pic_walk.specs.declared.limits.Limits.{Limits}
 use Rattle.pic_walk.specs.declared.row.Row.{Row}
 use Rattle.pic_walk.specs.Limits.{IsInLimits, from_to, below, any_limits}
@@ -18,9 +19,9 @@ pub record IsRow (n : Triple) (r : Row) : Type 0 where
   pub within : IsWithin (triple r.cell) n
   pub value : IsInLimits any_limits r.value
 
--- rows of the n cells, 1048576 at most
+-- rows of the n cells, not too many
 pub record AreRows (n : Triple) (rows : List Row) : Type 0 where
-  pub few : length rows ≤ 1048576
+  pub few : length rows ≤ most_rows
   pub each : (k : ℕ) → k < length rows → IsRow n (slice_index_or rows k no_row)
 
 -- the limits of a row [axis, i, j, k, value] on a grid of n cells
@@ -39,9 +40,9 @@ row_of zs = record {
 unfoldable pub row : Triple → List Row → List ℕ → Data → Walked Row
 row n done path d = numbers (row_limits n) path d >>= (λ zs. Ok (row_of zs))
 
--- the rows of a field, 1048576 at most
+-- the rows of a field, not too many
 unfoldable pub row_list : Triple → List ℕ → Data → Walked (List Row)
 row_list n path d =
     list_of (row n) path d
-    >>= (λ rs. within (from_to (pos 0) (pos 1048576)) path (pos (length rs))
+    >>= (λ rs. within (from_to (pos 0) (pos most_rows)) path (pos (length rs))
     >>= (λ _. Ok rs))

@@ -1,20 +1,21 @@
--- A walk through a document, this project's profile: it gives a value, or the one refusal that it
+-- A walk through a document, this project's profile: it gives a value, or the one fault that it
 -- meets first. What table a text is, is `toml`'s definition.
 use Rattle.std.specs.Prelude.{◌≡◌, ⊤, ℤ, pos, neg_ℤ, ℕ, suc, Bool, true, not, ◌&&◌, ◌==◌, unsigned_abs, if◌then◌else◌, List, [], ◌∷◌, ◌++◌, length, map, find, bytes_eq, slice_index_or, Option, Some, None, Result, Ok, Err}
 use Rattle.std.specs.List.{list_any}
 use Rattle.toml.specs.Data.{Data, Items, no_items, item, Members, no_members, member, as_str, as_integer, as_array, as_table, get_member, is_before}
 use Rattle.pic_num.specs.Multiplier.{Multiplier}
-use Rattle.pic_walk.specs.declared.fault.Refusal.{Refusal}
-use Rattle.pic_walk.specs.declared.fault.Refusal.TheVariants.{Unknown, Missing, Kind, Limit}
-use Rattle.pic_walk.specs.declared.fault.DeckFault.{DeckFault}
-use Rattle.pic_walk.specs.declared.fault.DeckFault.TheVariants.{Refused, NoMemory}
+use Rattle.pic_walk.specs.declared.fault.Fault.{Fault}
+use Rattle.pic_walk.specs.declared.fault.Fault.TheVariants.{Unknown, Missing, Kind, Limit}
+use Rattle.pic_walk.specs.declared.fault.WalkStop.{WalkStop}
+use Rattle.pic_walk.specs.declared.fault.WalkStop.TheVariants.{Found, NoMemory}
+use Rattle.pic_walk.specs.Bounds.{greatest_n, greatest_k}
 use Rattle.pic_walk.specs.declared.limits.Limits.{Limits}
 use Rattle.pic_walk.specs.Limits.{from_to, is_within, limits_at, any_limits}
 use Rattle.pic_walk.specs.Path.{key_at, element_at}
 
 -- what a walk gives
 abbrev pub Walked : Type 0 → Type 0
-Walked A = Result A Refusal
+Walked A = Result A Fault
 
 -- one walk, and then another from its value
 infixl 10 ◌>>=◌
@@ -22,8 +23,8 @@ unfoldable pub ◌>>=◌ : {A B : Type 0} → Walked A → (A → Walked B) → 
 Ok a >>= f = f a
 Err r >>= f = Err r
 
--- the value, or this refusal where there is none
-unfoldable pub some_or : {A : Type 0} → Refusal → Option A → Walked A
+-- the value, or this fault where there is none
+unfoldable pub some_or : {A : Type 0} → Fault → Option A → Walked A
 some_or r (Some a) = Ok a
 some_or r None = Err r
 
@@ -100,7 +101,7 @@ text path d = some_or (Kind path) (as_str d)
 
 -- the limits of n and k in [n, k], a multiplier
 abbrev pub multiplier_limits : List Limits
-multiplier_limits = from_to (neg_ℤ (pos 2147483647)) (pos 2147483647) ∷ from_to (pos 0) (pos 62) ∷ []
+multiplier_limits = from_to (neg_ℤ (pos greatest_n)) (pos greatest_n) ∷ from_to (pos 0) (pos greatest_k) ∷ []
 
 -- an array [n, k] as the multiplier n / 2^k
 unfoldable pub multiplier : List ℕ → Data → Walked Multiplier
@@ -155,17 +156,17 @@ given a f path (Some d) = f path d
 unfoldable pub optional : {A : Type 0} → A → (List ℕ → Data → Walked A) → List ℕ → List ℕ → Members → Walked A
 optional a f key path ms = given a f (key_at path key) (get_member key ms)
 
--- the fault is this refusal, or want of memory
-abbrev pub IsFault : Refusal → DeckFault → Type 0
-IsFault r (Refused q) = q ≡ r
+-- the walk stops for this fault, or for want of memory
+abbrev pub IsFault : Fault → WalkStop → Type 0
+IsFault r (Found q) = q ≡ r
 IsFault r NoMemory = ⊤
 
 -- a call's answer is what the walk gives, or want of memory
-abbrev pub Answers : {A B : Type 0} → (B → A) → Walked A → Result B DeckFault → Type 0
+abbrev pub Answers : {A B : Type 0} → (B → A) → Walked A → Result B WalkStop → Type 0
 Answers seen w (Ok b) = w ≡ Ok (seen b)
-Answers seen w (Err (Refused r)) = w ≡ Err r
+Answers seen w (Err (Found r)) = w ≡ Err r
 Answers seen w (Err NoMemory) = ⊤
 
 -- the same as a record, of which lemmas find their arguments; `seen` is what a value stands for
-pub record WalksAs {A B : Type 0} (seen : B → A) (w : Walked A) (r : Result B DeckFault) : Type 0 where
+pub record WalksAs {A B : Type 0} (seen : B → A) (w : Walked A) (r : Result B WalkStop) : Type 0 where
   pub answer : Answers seen w r

@@ -1,14 +1,14 @@
+//! Why a walk ends: the first fault that it meets, or want of memory.
+
 ghost use Rattle.std.specs.Prelude.{◌≡◌};
-ghost use Rattle.pic_walk.specs.declared.fault.DeckFault.TheVariants.{NoMemory};
+ghost use Rattle.pic_walk.specs.declared.fault.WalkStop.TheVariants.{NoMemory};
 
 use crate::key_path::KeyPath;
 use std::alloc::{AllocError, AllocFailed};
 
-/// Why a document is refused: the first fault that the walk meets.
+/// What is wrong with a document, and at which path: the first fault that a walk meets.
 #[derive(Debug, Drop)]
-pub enum Refusal {
-    /// The bytes are no TOML document.
-    Text,
+pub enum Fault {
     /// A table has a key that isn't listed for it.
     Unknown {
         path: KeyPath,
@@ -34,33 +34,33 @@ pub enum Refusal {
     },
 }
 
-/// A refusal, or want of memory, which says nothing of the document.
+/// Why a walk stops early: a fault, or want of memory, which says nothing of the document.
 #[derive(Debug, Drop)]
-pub enum DeckFault {
-    Refused(Refusal),
+pub enum WalkStop {
+    Found(Fault),
     NoMemory,
 }
 
-impl From<AllocError> for DeckFault {
+impl From<AllocError> for WalkStop {
     ghost from_gives = { λ _ e. e ≡ NoMemory };
 
-    fn from(_refused: AllocError) -> DeckFault {
-        DeckFault::NoMemory
+    fn from(_refused: AllocError) -> WalkStop {
+        WalkStop::NoMemory
     }
 }
 
-impl<T: Drop> From<AllocFailed<T>> for DeckFault {
+impl<T: Drop> From<AllocFailed<T>> for WalkStop {
     ghost from_gives = { λ _ e. e ≡ NoMemory };
 
-    fn from(_refused: AllocFailed<T>) -> DeckFault {
-        DeckFault::NoMemory
+    fn from(_refused: AllocFailed<T>) -> WalkStop {
+        WalkStop::NoMemory
     }
 }
 
-impl From<pic_num::NoMemory> for DeckFault {
+impl From<pic_num::NoMemory> for WalkStop {
     ghost from_gives = { λ _ e. e ≡ NoMemory };
 
-    fn from(_refused: pic_num::NoMemory) -> DeckFault {
-        DeckFault::NoMemory
+    fn from(_refused: pic_num::NoMemory) -> WalkStop {
+        WalkStop::NoMemory
     }
 }

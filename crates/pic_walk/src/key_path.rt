@@ -1,3 +1,5 @@
+//! The path of a key or of an element, as text.
+
 ghost use Rattle.std.specs.Prelude.{◌≡◌, string_bytes};
 
 use std::marker::Model;

@@ -1,30 +1,30 @@
-//! The words of a walk through a TOML document: key paths, the one refusal that a walk ends with,
-//! and the readers of single values, of rows and of points.
+//! The words of a walk through a TOML document: key paths, the one fault that a walk ends with, and
+//! the readers of single values, of rows and of points.
 #![tactic(auto)]
 
-mod fault;
-mod keys;
-mod numbers;
-mod key_path;
 mod address;
+mod fault;
+mod key_path;
+mod keys;
+mod limits;
+mod numbers;
 mod point6;
 mod point_reader;
-mod limits;
 mod row;
 mod row_reader;
 mod tables;
 
-pub use fault::{DeckFault, Refusal};
+pub use address::Address;
+pub use fault::{Fault, WalkStop};
+pub use key_path::KeyPath;
 pub use keys::{first_unlisted, is_listed};
+pub use limits::Limits;
 pub use numbers::{
     check_within, read_array, read_elements, read_multiplier, read_number, read_numbers, read_text,
     read_three, read_whole,
 };
-pub use key_path::KeyPath;
-pub use address::Place;
-pub use point6::{Point6, Points};
 pub use point_reader::read_points;
-pub use limits::Limits;
+pub use point6::{Point6, Points};
 pub use row::{Row, Rows};
 pub use row_reader::read_rows;
 pub use tables::{

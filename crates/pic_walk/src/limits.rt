@@ -1,7 +1,9 @@
+//! The least and the greatest number that may stand somewhere.
+
 ghost use Rattle.std.specs.Prelude.{◌≡◌, ◌≤◌};
 ghost use Rattle.pic_walk.specs.Limits.{from_to, any_limits, below, is_within};
 
-/// The least and the greatest number that may stand at a place.
+/// The least and the greatest number that may stand at an address.
 #[derive(Clone, Copy, Debug, PartialEq, Eq)]
 pub struct Limits {
     pub low: i64,

@@ -1,3 +1,5 @@
+//! Readers of single numbers, texts and arrays.
+
 ghost use Rattle.std.specs.Prelude.{◌≡◌, ℤ, ℕ, pos, List, None, ◌<◌, IfOk, OnOk, slice_index, slice_index_or, unsigned_abs, vec_len};
 ghost use Rattle.pic_num.specs.Multiplier.{Multiplier};
 ghost use Rattle.toml.specs.View.{view, array_view};
@@ -5,101 +7,105 @@ ghost use Rattle.pic_walk.specs.Path.{path_of};
 ghost use Rattle.pic_walk.specs.Limits.{IsInLimits, FitsU32, limits_at};
 ghost use Rattle.pic_walk.specs.Walk.{WalksAs, within, limited, whole, text, elements, fixed, numbers, three, multiplier, multiplier_limits};
 
-use crate::fault::DeckFault;
-use crate::address::Place;
+use crate::address::Address;
+use crate::fault::WalkStop;
 use crate::limits::Limits;
 use pic_num::Mult;
 use std::alloc::Global;
 use toml::Value;
 use toml::value::Array;
 
-/// Refuses a number at a place unless it is within its limits.
+/// Refuses a number at an address unless it is within its limits.
 pub fn check_within(
     alloc: Global,
-    place: Place<'_>,
+    address: Address<'_>,
     value: i128,
     limits: Limits,
-) -> Result<(), DeckFault>
-    ensures walks { WalksAs (λ _. value) (within limits (path_of place.entry) value) result }
+) -> Result<(), WalkStop>
+    ensures walks { WalksAs (λ _. value) (within limits (path_of address.entry) value) result }
     ensures bounds { OnOk result (IsInLimits limits value) }
 {
     if limits.allow(value) {
         Ok(())
     } else {
-        Err(place.limit_fault(alloc, value, limits))
+        Err(address.limit_fault(alloc, value, limits))
     }
 }
 
-/// The whole number at a place, within its limits.
+/// The whole number at an address, within its limits.
 pub fn read_number(
     alloc: Global,
-    place: Place<'_>,
+    address: Address<'_>,
     value: &Value,
     limits: Limits,
-) -> Result<i64, DeckFault>
-    ensures walks { WalksAs (λ (z : ℤ). z) (limited limits (path_of place.entry) (view value.now)) result }
+) -> Result<i64, WalkStop>
+    ensures walks { WalksAs (λ (z : ℤ). z) (limited limits (path_of address.entry) (view value.now))
+        result }
     ensures bounds { IfOk result (λ z. IsInLimits limits z) }
 {
     match value.as_integer() {
         Some(number) => {
-            check_within(alloc, place, i128::from(number), limits)?;
+            check_within(alloc, address, i128::from(number), limits)?;
             Ok(number)
         }
-        None => Err(place.kind_fault(alloc)),
+        None => Err(address.kind_fault(alloc)),
     }
 }
 
-/// The whole number at a place, within limits that allow none below 0.
+/// The whole number at an address, within limits that allow none below 0.
 pub fn read_whole(
     alloc: Global,
-    place: Place<'_>,
+    address: Address<'_>,
     value: &Value,
     limits: Limits,
-) -> Result<u32, DeckFault>
+) -> Result<u32, WalkStop>
     requires { FitsU32 limits }
-    ensures walks { WalksAs (λ (n : ℕ). n) (whole limits (path_of place.entry) (view value.now)) result }
+    ensures walks { WalksAs (λ (n : ℕ). n) (whole limits (path_of address.entry) (view value.now))
+        result }
     ensures bounds { IfOk result (λ n. IsInLimits limits (pos n)) }
 {
-    let number = read_number(alloc, place, value, limits)?;
+    let number = read_number(alloc, address, value, limits)?;
     Ok(number as u32)
 }
 
-/// The text at a place.
+/// The text at an address.
 pub fn read_text<'v>(
     alloc: Global,
-    place: Place<'_>,
+    address: Address<'_>,
     value: &'v Value,
-) -> Result<&'v str, DeckFault>
-    ensures { WalksAs (λ s. s.now) (text (path_of place.entry) (view value.now)) result }
+) -> Result<&'v str, WalkStop>
+    ensures { WalksAs (λ s. s.now) (text (path_of address.entry) (view value.now)) result }
 {
     match value.as_str() {
         Some(text) => Ok(text),
-        None => Err(place.kind_fault(alloc)),
+        None => Err(address.kind_fault(alloc)),
     }
 }
 
-/// The array of any number of elements at a place.
+/// The array of any number of elements at an address.
 pub fn read_elements<'v>(
     alloc: Global,
-    place: Place<'_>,
+    address: Address<'_>,
     value: &'v Value,
-) -> Result<&'v Array, DeckFault>
-    ensures { WalksAs (λ v. array_view v.now) (elements (path_of place.entry) (view value.now)) result }
+) -> Result<&'v Array, WalkStop>
+    ensures { WalksAs (λ v. array_view v.now) (elements (path_of address.entry) (view value.now))
+        result }
 {
     match value.as_array() {
         Some(items) => Ok(items),
-        None => Err(place.kind_fault(alloc)),
+        None => Err(address.kind_fault(alloc)),
     }
 }
 
-/// The array of so many elements at a place.
+/// The array of so many elements at an address.
 pub fn read_array<'v>(
     alloc: Global,
-    place: Place<'_>,
+    address: Address<'_>,
     value: &'v Value,
     len: usize,
-) -> Result<&'v Array, DeckFault>
-    ensures walks { WalksAs (λ v. array_view v.now) (fixed len (path_of place.entry) (view value.now)) result }
+) -> Result<&'v Array, WalkStop>
+    ensures walks { WalksAs (λ v. array_view v.now)
+        (fixed len (path_of address.entry) (view value.now)) result }
     ensures len { IfOk result (λ v. vec_len v.now ≡ len) }
 {
     match value.as_array() {
@@ -107,54 +113,59 @@ pub fn read_array<'v>(
             if items.len() == len {
                 Ok(items)
             } else {
-                Err(place.kind_fault(alloc))
+                Err(address.kind_fault(alloc))
             }
         }
-        None => Err(place.kind_fault(alloc)),
+        None => Err(address.kind_fault(alloc)),
     }
 }
 
-/// The array of whole numbers at a place, each within its own limits.
+/// The array of whole numbers at an address, each within its own limits.
 pub fn read_numbers<const N: usize>(
     alloc: Global,
-    place: Place<'_>,
+    address: Address<'_>,
     value: &Value,
     limits: [Limits; N],
-) -> Result<[i64; N], DeckFault>
-    requires { place.column ≡ None }
-    ensures walks { WalksAs (λ (zs : List ℤ). zs) (numbers limits.entry (path_of place.entry) (view value.now)) result }
-    ensures bounds { IfOk result (λ zs. (k : ℕ) → k < N → IsInLimits (limits_at limits.entry k) (slice_index_or zs k (pos 0))) }
+) -> Result<[i64; N], WalkStop>
+    requires { address.column ≡ None }
+    ensures walks { WalksAs (λ (zs : List ℤ). zs)
+        (numbers limits.entry (path_of address.entry) (view value.now)) result }
+    ensures bounds { IfOk result (λ zs. (k : ℕ) → k < N
+        → IsInLimits (limits_at limits.entry k) (slice_index_or zs k (pos 0))) }
 {
-    let items = read_array(alloc, place, value, N)?;
+    let items = read_array(alloc, address, value, N)?;
     let mut numbers = [0i64; N];
     for i in 0..N {
-        numbers[i] = read_number(alloc, place.element(i), &items[i], limits[i])?;
+        numbers[i] = read_number(alloc, address.element(i), &items[i], limits[i])?;
     }
     Ok(numbers)
 }
 
-/// The three whole numbers at a place, one an axis, within limits that allow none below 0.
+/// The three whole numbers at an address, one an axis, within limits that allow none below 0.
 pub fn read_three(
     alloc: Global,
-    place: Place<'_>,
+    address: Address<'_>,
     value: &Value,
     limits: [Limits; 3],
-) -> Result<[u32; 3], DeckFault>
-    requires plain { place.column ≡ None }
+) -> Result<[u32; 3], WalkStop>
+    requires plain { address.column ≡ None }
     requires fits { (k : ℕ) → k < 3 → FitsU32 (limits_at limits k) }
-    ensures walks { WalksAs (λ (ns : List ℕ). ns) (three limits (path_of place.entry) (view value.now)) result }
-    ensures bounds { IfOk result (λ ns. (k : ℕ) → k < 3 → IsInLimits (limits_at limits k) (pos (slice_index ns k))) }
+    ensures walks { WalksAs (λ (ns : List ℕ). ns)
+        (three limits (path_of address.entry) (view value.now)) result }
+    ensures bounds { IfOk result (λ ns. (k : ℕ) → k < 3
+        → IsInLimits (limits_at limits k) (pos (slice_index ns k))) }
 {
-    let numbers = read_numbers(alloc, place, value, limits)?;
+    let numbers = read_numbers(alloc, address, value, limits)?;
     Ok([numbers[0] as u32, numbers[1] as u32, numbers[2] as u32])
 }
 
-/// The multiplier `[n, k]` at a place.
-pub fn read_multiplier(alloc: Global, place: Place<'_>, value: &Value) -> Result<Mult, DeckFault>
-    requires { place.column ≡ None }
-    ensures { WalksAs (λ (m : Multiplier). m) (multiplier (path_of place.entry) (view value.now)) result }
+/// The multiplier `[n, k]` at an address.
+pub fn read_multiplier(alloc: Global, address: Address<'_>, value: &Value) -> Result<Mult, WalkStop>
+    requires { address.column ≡ None }
+    ensures { WalksAs (λ (m : Multiplier). m) (multiplier (path_of address.entry) (view value.now))
+        result }
 {
-    let numbers = read_numbers(alloc, place, value, multiplier_limits())?;
+    let numbers = read_numbers(alloc, address, value, multiplier_limits())?;
     Ok(multiplier_of(numbers[0], numbers[1]))
 }
 

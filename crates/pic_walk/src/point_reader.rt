@@ -1,3 +1,5 @@
+//! Reader of the particles of a species, one by one.
+
 ghost use Rattle.std.specs.Prelude.{◌≡◌, ℕ, ℤ, pos, ◌<◌, List, None, IfOk, length, slice_index_or};
 ghost use Rattle.toml.specs.View.{view};
 ghost use Rattle.pic_walk.specs.Path.{path_of};
@@ -6,11 +8,11 @@ ghost use Rattle.pic_walk.specs.Walk.{WalksAs};
 ghost use Rattle.pic_walk.specs.declared.point6.Point6.{Point6 as PointView};
 ghost use Rattle.pic_walk.specs.Points.{IsPoint, ArePoints, speed_limits, point_limits, point_of, point, point_list};
 
-use crate::fault::DeckFault;
-use crate::numbers::{read_elements, read_numbers};
-use crate::address::Place;
-use crate::point6::{Point6, Points};
+use crate::address::Address;
+use crate::fault::WalkStop;
 use crate::limits::Limits;
+use crate::numbers::{read_elements, read_numbers};
+use crate::point6::{Point6, Points};
 use pic_grid::Cells;
 use std::alloc::Global;
 use toml::Value;
@@ -36,7 +38,8 @@ fn point_limits(cells: Cells) -> [Limits; 6]
 
 #[tactic(auto, unfolding(crate::specs::Limits::limits_at))]
 fn point_of(cells: Cells, numbers: [i64; 6]) -> Point6
-    requires { (k : ℕ) → k < 6 → IsInLimits (limits_at (point_limits cells) k) (slice_index_or numbers k (pos 0)) }
+    requires { (k : ℕ) → k < 6 → IsInLimits (limits_at (point_limits cells) k)
+        (slice_index_or numbers k (pos 0)) }
     ensures value { result ≡ point_of numbers }
     ensures limits { IsPoint cells result }
 {
@@ -47,37 +50,40 @@ fn point_of(cells: Cells, numbers: [i64; 6]) -> Point6
     }
 }
 
-// the particle at a place
+// the particle at an address
 fn read_point(
     alloc: Global,
-    place: Place<'_>,
+    address: Address<'_>,
     value: &Value,
     cells: Cells,
-) -> Result<Point6, DeckFault>
-    requires { place.column ≡ None }
-    ensures walks { (done : List PointView) → WalksAs (λ (p : PointView). p) (point cells done (path_of place.entry) (view value.now)) result }
+) -> Result<Point6, WalkStop>
+    requires { address.column ≡ None }
+    ensures walks { (done : List PointView)
+        → WalksAs (λ (p : PointView). p) (point cells done (path_of address.entry) (view value.now))
+        result }
     ensures limits { IfOk result (λ p. IsPoint cells p) }
 {
-    let numbers = read_numbers(alloc, place, value, point_limits(cells))?;
+    let numbers = read_numbers(alloc, address, value, point_limits(cells))?;
     Ok(point_of(cells, numbers))
 }
 
-/// The particles at a place: `[x, y, z, vx, vy, vz]`, each in the box.
+/// The particles at an address: `[x, y, z, vx, vy, vz]`, each in the box.
 pub fn read_points(
     alloc: Global,
-    place: Place<'_>,
+    address: Address<'_>,
     value: &Value,
     cells: Cells,
-) -> Result<Points, DeckFault>
-    requires whole { place.row ≡ None }
-    requires plain { place.column ≡ None }
-    ensures walks { WalksAs (λ (ps : List PointView). ps) (point_list cells (path_of place.entry) (view value.now)) result }
+) -> Result<Points, WalkStop>
+    requires whole { address.row ≡ None }
+    requires plain { address.column ≡ None }
+    ensures walks { WalksAs (λ (ps : List PointView). ps)
+        (point_list cells (path_of address.entry) (view value.now)) result }
     ensures limits { IfOk result (λ ps. ArePoints cells ps) }
 {
-    let items = read_elements(alloc, place, value)?;
+    let items = read_elements(alloc, address, value)?;
     let mut points = Vec::new(alloc);
     for i in 0..items.len() {
-        let point = read_point(alloc, place.element(i), &items[i], cells)?;
+        let point = read_point(alloc, address.element(i), &items[i], cells)?;
         points.push(point)?;
     }
     Ok(Points::from_vec(points))

@@ -1,3 +1,5 @@
+//! Reader of the rows of a field.
+
 ghost use Rattle.std.specs.Prelude.{◌≡◌, ℕ, ℤ, pos, ◌^◌, ◌<◌, ◌≤ℤ◌, List, None, IfOk, length, unsigned_abs, slice_index_or};
 ghost use Rattle.toml.specs.View.{view};
 ghost use Rattle.pic_grid.specs.Cells.{axis_of};
@@ -7,10 +9,10 @@ ghost use Rattle.pic_walk.specs.Walk.{WalksAs, list_of};
 ghost use Rattle.pic_walk.specs.declared.row.Row.{Row as RowView};
 ghost use Rattle.pic_walk.specs.Rows.{IsRow, AreRows, no_row, row_limits, row_of, row, row_list};
 
-use crate::fault::DeckFault;
-use crate::numbers::{check_within, read_elements, read_numbers};
-use crate::address::Place;
+use crate::address::Address;
+use crate::fault::WalkStop;
 use crate::limits::Limits;
+use crate::numbers::{check_within, read_elements, read_numbers};
 use crate::row::{Row, Rows};
 use pic_grid::Cells;
 use pic_num::Axis;
@@ -46,7 +48,8 @@ fn axis_at(number: i64) -> Axis
 
 #[tactic(auto, unfolding(crate::specs::Limits::limits_at))]
 fn row_of(cells: Cells, numbers: [i64; 5]) -> Row
-    requires { (k : ℕ) → k < 5 → IsInLimits (limits_at (row_limits cells) k) (slice_index_or numbers k (pos 0)) }
+    requires { (k : ℕ) → k < 5 → IsInLimits (limits_at (row_limits cells) k)
+        (slice_index_or numbers k (pos 0)) }
     ensures value { result ≡ row_of numbers }
     ensures limits { IsRow cells result }
 {
@@ -58,50 +61,65 @@ fn row_of(cells: Cells, numbers: [i64; 5]) -> Row
     }
 }
 
-// the row at a place
-fn read_row(alloc: Global, place: Place<'_>, value: &Value, cells: Cells) -> Result<Row, DeckFault>
-    requires { place.column ≡ None }
-    ensures walks { (done : List RowView) → WalksAs (λ (r : RowView). r) (row cells done (path_of place.entry) (view value.now)) result }
+// the row at an address
+fn read_row(
+    alloc: Global,
+    address: Address<'_>,
+    value: &Value,
+    cells: Cells,
+) -> Result<Row, WalkStop>
+    requires { address.column ≡ None }
+    ensures walks { (done : List RowView)
+        → WalksAs (λ (r : RowView). r) (row cells done (path_of address.entry) (view value.now))
+        result }
     ensures limits { IfOk result (λ r. IsRow cells r) }
 {
-    let numbers = read_numbers(alloc, place, value, row_limits(cells))?;
+    let numbers = read_numbers(alloc, address, value, row_limits(cells))?;
     Ok(row_of(cells, numbers))
 }
 
-// the rows at a place, one by one
+// the rows at an address, one by one
 fn read_each_row(
     alloc: Global,
-    place: Place<'_>,
+    address: Address<'_>,
     value: &Value,
     cells: Cells,
-) -> Result<Vec<Row>, DeckFault>
-    requires whole { place.row ≡ None }
-    requires plain { place.column ≡ None }
-    ensures walks { WalksAs (λ rs. rs.items) (list_of (row cells) (path_of place.entry) (view value.now)) result }
-    ensures limits { IfOk result (λ rs. (k : ℕ) → k < length rs.items → IsRow cells (slice_index_or rs.items k no_row)) }
+) -> Result<Vec<Row>, WalkStop>
+    requires whole { address.row ≡ None }
+    requires plain { address.column ≡ None }
+    ensures walks { WalksAs (λ rs. rs.items)
+        (list_of (row cells) (path_of address.entry) (view value.now)) result }
+    ensures limits { IfOk result (λ rs. (k : ℕ) → k < length rs.items
+        → IsRow cells (slice_index_or rs.items k no_row)) }
 {
-    let items = read_elements(alloc, place, value)?;
+    let items = read_elements(alloc, address, value)?;
     let mut rows = Vec::new(alloc);
     for i in 0..items.len() {
-        let row = read_row(alloc, place.element(i), &items[i], cells)?;
+        let row = read_row(alloc, address.element(i), &items[i], cells)?;
         rows.push(row)?;
     }
     Ok(rows)
 }
 
-/// The rows at a place: `[axis, i, j, k, value]`, the cell among those of the grid.
+/// The rows at an address: `[axis, i, j, k, value]`, the cell among those of the grid.
 pub fn read_rows(
     alloc: Global,
-    place: Place<'_>,
+    address: Address<'_>,
     value: &Value,
     cells: Cells,
-) -> Result<Rows, DeckFault>
-    requires whole { place.row ≡ None }
-    requires plain { place.column ≡ None }
-    ensures walks { WalksAs (λ (rs : List RowView). rs) (row_list cells (path_of place.entry) (view value.now)) result }
+) -> Result<Rows, WalkStop>
+    requires whole { address.row ≡ None }
+    requires plain { address.column ≡ None }
+    ensures walks { WalksAs (λ (rs : List RowView). rs)
+        (row_list cells (path_of address.entry) (view value.now)) result }
     ensures limits { IfOk result (λ rs. AreRows cells rs) }
 {
-    let rows = read_each_row(alloc, place, value, cells)?;
-    check_within(alloc, place, rows.len() as i128, Limits::new(0, MOST_ROWS))?;
+    let rows = read_each_row(alloc, address, value, cells)?;
+    check_within(
+        alloc,
+        address,
+        rows.len() as i128,
+        Limits::new(0, MOST_ROWS),
+    )?;
     Ok(Rows::from_vec(rows))
 }

@@ -1,3 +1,5 @@
+//! Readers of tables, and of the values at their keys.
+
 ghost use Rattle.std.specs.Prelude.{◌≡◌, ℕ, ℤ, pos, true, List, [], ◌∷◌, map, option_map, ◌<◌, IfOk, slice_index};
 ghost use Rattle.pic_num.specs.Multiplier.{Multiplier};
 ghost use Rattle.toml.specs.Data.{get_member};
@@ -6,23 +8,24 @@ ghost use Rattle.pic_walk.specs.Path.{path_of};
 ghost use Rattle.pic_walk.specs.Limits.{IsInLimits, FitsU32, limits_at};
 ghost use Rattle.pic_walk.specs.Walk.{WalksAs, listed, keys_ascend, table_of, needed, need, optional, limited, whole, numbers, three, any_three, multiplier};
 
-use crate::fault::DeckFault;
+use crate::address::Address;
+use crate::fault::WalkStop;
 use crate::keys::first_unlisted;
-use crate::numbers::{read_multiplier, read_number, read_numbers, read_three, read_whole};
-use crate::address::Place;
 use crate::limits::Limits;
+use crate::numbers::{read_multiplier, read_number, read_numbers, read_three, read_whole};
 use pic_num::Mult;
 use std::alloc::Global;
 use toml::{Table, Value};
 
 /// Refuses the table at a path where it has a key that isn't listed. It names the first such key of
 /// the table, which is the least by byte order, since a table's keys ascend.
-pub fn check_keys(alloc: Global, path: &str, keys: &[&str], table: &Table) -> Result<(), DeckFault>
-    ensures walks { WalksAs (λ _. table_view table.now) (listed (map (λ k. k.now) keys.now) path.now (table_view table.now)) result }
+pub fn check_keys(alloc: Global, path: &str, keys: &[&str], table: &Table) -> Result<(), WalkStop>
+    ensures walks { WalksAs (λ _. table_view table.now)
+        (listed (map (λ k. k.now) keys.now) path.now (table_view table.now)) result }
     ensures ascend { keys_ascend (table_view table.now) ≡ true }
 {
     match first_unlisted(keys, table) {
-        Some(key) => Err(Place::new(path, key.as_str()).unknown_fault(alloc)),
+        Some(key) => Err(Address::new(path, key.as_str()).unknown_fault(alloc)),
         None => Ok(()),
     }
 }
@@ -40,32 +43,33 @@ pub fn needed_value<'v>(
     path: &str,
     key: &str,
     table: &'v Table,
-) -> Result<&'v Value, DeckFault>
+) -> Result<&'v Value, WalkStop>
     ensures { WalksAs (λ v. view v.now) (needed key.now path.now (table_view table.now)) result }
 {
     match table.get(key) {
         Some(value) => Ok(value),
-        None => Err(Place::new(path, key).missing_fault(alloc)),
+        None => Err(Address::new(path, key).missing_fault(alloc)),
     }
 }
 
-/// The table at a place, which has only listed keys; `path` is the path of the place.
+/// The table at an address, which has only listed keys; `path` is the path of the address.
 pub fn read_table<'v>(
     alloc: Global,
-    place: Place<'_>,
+    address: Address<'_>,
     path: &str,
     keys: &[&str],
     value: &'v Value,
-) -> Result<&'v Table, DeckFault>
-    requires { path_of place ≡ path.now }
-    ensures { WalksAs (λ t. table_view t.now) (table_of (map (λ k. k.now) keys.now) path.now (view value.now)) result }
+) -> Result<&'v Table, WalkStop>
+    requires { path_of address ≡ path.now }
+    ensures { WalksAs (λ t. table_view t.now)
+        (table_of (map (λ k. k.now) keys.now) path.now (view value.now)) result }
 {
     match value.as_table() {
         Some(table) => {
             check_keys(alloc, path, keys, table)?;
             Ok(table)
         }
-        None => Err(place.kind_fault(alloc)),
+        None => Err(address.kind_fault(alloc)),
     }
 }
 
@@ -75,11 +79,12 @@ pub fn need_table<'v>(
     key: &str,
     keys: &[&str],
     table: &'v Table,
-) -> Result<&'v Table, DeckFault>
-    ensures { WalksAs (λ t. table_view t.now) (need (table_of (map (λ k. k.now) keys.now)) key.now [] (table_view table.now)) result }
+) -> Result<&'v Table, WalkStop>
+    ensures { WalksAs (λ t. table_view t.now)
+        (need (table_of (map (λ k. k.now) keys.now)) key.now [] (table_view table.now)) result }
 {
     let value = needed_value(alloc, "", key, table)?;
-    read_table(alloc, Place::new("", key), key, keys, value)
+    read_table(alloc, Address::new("", key), key, keys, value)
 }
 
 /// The whole number at a key of the table at a path, within limits that allow none below 0.
@@ -89,13 +94,14 @@ pub fn need_whole(
     key: &str,
     table: &Table,
     limits: Limits,
-) -> Result<u32, DeckFault>
+) -> Result<u32, WalkStop>
     requires { FitsU32 limits }
-    ensures walks { WalksAs (λ (n : ℕ). n) (need (whole limits) key.now path.now (table_view table.now)) result }
+    ensures walks { WalksAs (λ (n : ℕ). n)
+        (need (whole limits) key.now path.now (table_view table.now)) result }
     ensures bounds { IfOk result (λ n. IsInLimits limits (pos n)) }
 {
     let value = needed_value(alloc, path, key, table)?;
-    read_whole(alloc, Place::new(path, key), value, limits)
+    read_whole(alloc, Address::new(path, key), value, limits)
 }
 
 /// The whole number at a key of the table at a path, within its limits.
@@ -105,12 +111,13 @@ pub fn need_number(
     key: &str,
     table: &Table,
     limits: Limits,
-) -> Result<i64, DeckFault>
-    ensures walks { WalksAs (λ (z : ℤ). z) (need (limited limits) key.now path.now (table_view table.now)) result }
+) -> Result<i64, WalkStop>
+    ensures walks { WalksAs (λ (z : ℤ). z)
+        (need (limited limits) key.now path.now (table_view table.now)) result }
     ensures bounds { IfOk result (λ z. IsInLimits limits z) }
 {
     let value = needed_value(alloc, path, key, table)?;
-    read_number(alloc, Place::new(path, key), value, limits)
+    read_number(alloc, Address::new(path, key), value, limits)
 }
 
 /// The three whole numbers at a key of the table at a path, one an axis, within limits that allow
@@ -121,13 +128,15 @@ pub fn need_three(
     key: &str,
     table: &Table,
     limits: [Limits; 3],
-) -> Result<[u32; 3], DeckFault>
+) -> Result<[u32; 3], WalkStop>
     requires { (k : ℕ) → k < 3 → FitsU32 (limits_at limits k) }
-    ensures walks { WalksAs (λ (ns : List ℕ). ns) (need (three limits) key.now path.now (table_view table.now)) result }
-    ensures bounds { IfOk result (λ ns. (k : ℕ) → k < 3 → IsInLimits (limits_at limits k) (pos (slice_index ns k))) }
+    ensures walks { WalksAs (λ (ns : List ℕ). ns)
+        (need (three limits) key.now path.now (table_view table.now)) result }
+    ensures bounds { IfOk result (λ ns. (k : ℕ) → k < 3
+        → IsInLimits (limits_at limits k) (pos (slice_index ns k))) }
 {
     let value = needed_value(alloc, path, key, table)?;
-    read_three(alloc, Place::new(path, key), value, limits)
+    read_three(alloc, Address::new(path, key), value, limits)
 }
 
 /// The multiplier at a key of the table at a path.
@@ -136,11 +145,12 @@ pub fn need_multiplier(
     path: &str,
     key: &str,
     table: &Table,
-) -> Result<Mult, DeckFault>
-    ensures { WalksAs (λ (m : Multiplier). m) (need multiplier key.now path.now (table_view table.now)) result }
+) -> Result<Mult, WalkStop>
+    ensures { WalksAs (λ (m : Multiplier). m)
+        (need multiplier key.now path.now (table_view table.now)) result }
 {
     let value = needed_value(alloc, path, key, table)?;
-    read_multiplier(alloc, Place::new(path, key), value)
+    read_multiplier(alloc, Address::new(path, key), value)
 }
 
 /// Three numbers of 64 bits at a key of the table at a path, or zeros where the key is absent.
@@ -149,11 +159,13 @@ pub fn optional_three(
     path: &str,
     key: &str,
     table: &Table,
-) -> Result<[i64; 3], DeckFault>
-    ensures { WalksAs (λ (zs : List ℤ). zs) (optional (pos 0 ∷ pos 0 ∷ pos 0 ∷ []) (numbers any_three) key.now path.now (table_view table.now)) result }
+) -> Result<[i64; 3], WalkStop>
+    ensures { WalksAs (λ (zs : List ℤ). zs)
+        (optional (pos 0 ∷ pos 0 ∷ pos 0 ∷ []) (numbers any_three) key.now path.now
+        (table_view table.now)) result }
 {
     match find_value(key, table) {
-        Some(value) => read_numbers(alloc, Place::new(path, key), value, [Limits::any(); 3]),
+        Some(value) => read_numbers(alloc, Address::new(path, key), value, [Limits::any(); 3]),
         None => Ok([0; 3]),
     }
 }

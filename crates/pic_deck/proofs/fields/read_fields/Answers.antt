@@ -21,14 +21,19 @@ returns-in_err-b-clause-walks c =
 pub returns-in_err-edges-clause-walks : goal.returns-in_err-edges-clause-walks
 unfolding fields
 returns-in_err-edges-clause-walks c =
-    goes_on _ _ _ c.in_ok-table.ensures.answer (goes_on _ _ _ c.in_ok-e.ensures.answer (goes_on _ _ _ c.in_ok-b.ensures.answer (exits _ _ c.from_residual-in_err-edges.ensures.1 c.in_err-edges.ensures.walks)))
+    goes_on _ _ _ c.in_ok-table.ensures.answer (goes_on _ _ _ c.in_ok-e.ensures.answer
+    (goes_on _ _ _ c.in_ok-b.ensures.answer (exits _ _ c.from_residual-in_err-edges.ensures.1 c.in_err-edges.ensures.walks)))
 
 pub returns-in_err-faces-clause-walks : goal.returns-in_err-faces-clause-walks
 unfolding fields
 returns-in_err-faces-clause-walks c =
-    goes_on _ _ _ c.in_ok-table.ensures.answer (goes_on _ _ _ c.in_ok-e.ensures.answer (goes_on _ _ _ c.in_ok-b.ensures.answer (goes_on _ _ _ c.in_ok-edges.ensures.walks.answer (exits _ _ c.from_residual-in_err-faces.ensures.1 c.in_err-faces.ensures.walks))))
+    goes_on _ _ _ c.in_ok-table.ensures.answer (goes_on _ _ _ c.in_ok-e.ensures.answer
+    (goes_on _ _ _ c.in_ok-b.ensures.answer (goes_on _ _ _ c.in_ok-edges.ensures.walks.answer
+    (exits _ _ c.from_residual-in_err-faces.ensures.1 c.in_err-faces.ensures.walks))))
 
 pub returns-clause-walks : goal.returns-clause-walks
 unfolding fields
 returns-clause-walks c =
-    goes_on _ _ _ c.in_ok-table.ensures.answer (goes_on _ _ _ c.in_ok-e.ensures.answer (goes_on _ _ _ c.in_ok-b.ensures.answer (goes_on _ _ _ c.in_ok-edges.ensures.walks.answer (goes_on _ _ _ c.in_ok-faces.ensures.walks.answer (record { answer = refl })))))
+    goes_on _ _ _ c.in_ok-table.ensures.answer (goes_on _ _ _ c.in_ok-e.ensures.answer
+    (goes_on _ _ _ c.in_ok-b.ensures.answer (goes_on _ _ _ c.in_ok-edges.ensures.walks.answer
+    (goes_on _ _ _ c.in_ok-faces.ensures.walks.answer (record { answer = refl })))))

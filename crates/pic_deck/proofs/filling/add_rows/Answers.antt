@@ -33,7 +33,8 @@ overflow_add-value c =
     let inv = c.loop-row.invariant in
     let good = c.requires.rows.each c.loop-row.row-index (omega arith) in
     let value = c.from.ensures ∙ to_z-of_z w64 _ (fits_64 _ good.value) in
-    let large = value_size c.args.to.now c.loop-row.to c.args.rows.now c.loop-row.row-index _ _ c.requires.rows (omega arith) good.within c.requires.size inv.values in
+    let large = value_size c.args.to.now c.loop-row.to c.args.rows.now c.loop-row.row-index _ _ c.requires.rows (omega arith)
+    good.within c.requires.size inv.values in
     let here : IsAtMost c.at.result (2 ^ 84) = rw c.at.ensures large in
     let more : IsAtMost c.from.result (2 ^ 63) = rw value (record { size = value_64 _ good.value }) in
     code_fits w128 (search codes depth 20) tt
@@ -43,14 +44,17 @@ loop-row-preserved c =
     let inv = c.loop-row.invariant in
     let good = c.requires.rows.each c.loop-row.row-index (omega arith) in
     let value = c.from.ensures ∙ to_z-of_z w64 _ (fits_64 _ good.value) in
-    let large = value_size c.args.to.now c.loop-row.to c.args.rows.now c.loop-row.row-index _ _ c.requires.rows (omega arith) good.within c.requires.size inv.values in
+    let large = value_size c.args.to.now c.loop-row.to c.args.rows.now c.loop-row.row-index _ _ c.requires.rows (omega arith)
+    good.within c.requires.size inv.values in
     let here : IsAtMost c.at.result (2 ^ 84) = rw c.at.ensures large in
     let more : IsAtMost c.from.result (2 ^ 63) = rw value (record { size = value_64 _ good.value }) in
-    let sum : to_z w128 (of_z w128 (to_z w128 (of_z w128 c.at.result) +ℤ to_z w128 (of_z w128 c.from.result))) ≡ c.at.result +ℤ c.from.result = code_is (search codes depth 20) tt in
+    let sum : to_z w128 (of_z w128 (to_z w128 (of_z w128 c.at.result) +ℤ to_z w128 (of_z w128 c.from.result)))
+    ≡ c.at.result +ℤ c.from.result = code_is (search codes depth 20) tt in
     let within : IsWithin (triple (get_or c.args.rows.now c.loop-row.row-index no_row).cell) c.loop-row.to.cells = rw inv.cells good.within in
     rw c.set.ensures.after (record {
       cells = inv.cells;
       parts = inv.parts;
       shape = length-set _ _ _ ∙ inv.shape;
-      values = row_step c.args.to.now c.loop-row.to c.args.rows.now c.loop-row.row-index _ (omega arith) inv.cells inv.shape within (sum ∙ (λ i. c.at.ensures i +ℤ value i)) inv.values;
+      values = row_step c.args.to.now c.loop-row.to c.args.rows.now c.loop-row.row-index _ (omega arith) inv.cells inv.shape
+          within (sum ∙ (λ i. c.at.ensures i +ℤ value i)) inv.values;
     })

@@ -13,5 +13,6 @@ invariant-loop-row l = record {
   cells : l.to.cells ≡ l.initial.to.cells;
   parts : l.to.parts ≡ l.initial.to.parts;
   shape : length l.to.values ≡ 3 * count_of l.to.cells;
-  values : (a : Axis) (p : Triple) → IsWithin p l.initial.to.cells → value_at l.to a p ≡ value_at l.initial.to a p +ℤ sum_over (part a p) (take l.row-index l.rows);
+  values : (a : Axis) (p : Triple) → IsWithin p l.initial.to.cells → value_at l.to a p
+      ≡ value_at l.initial.to a p +ℤ sum_over (part a p) (take l.row-index l.rows);
 }

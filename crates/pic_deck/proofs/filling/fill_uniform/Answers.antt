@@ -14,14 +14,16 @@ loop-place-preserved c =
     let inv = c.loop-place.invariant in
     let fits : SFits w64 c.number_along-number.result = search rules in
     let same = widened c.number_along-number.result c.from.result fits c.from.ensures in
-    let uniform : IsUniform (spot c.args.numbers) c.place_at-axis.result.0 (to_z w128 (of_z w128 c.from.result)) = rw same (record { is = c.number_along-number.ensures.value; size = c.number_along-number.ensures.size }) in
+    let uniform : IsUniform (spot c.args.numbers) c.place_at-axis.result.0 (to_z w128 (of_z w128 c.from.result)) = rw same
+    (record { is = c.number_along-number.ensures.value; size = c.number_along-number.ensures.size }) in
     rw c.set.ensures.after (record {
       same = inv.same;
       cells = inv.cells;
       parts = inv.parts;
       last = inv.last;
       shape = length-set _ _ _ ∙ inv.shape;
-      done = filled_step (λ a v. IsUniform (spot c.args.numbers) a v) c.loop-place.to c.loop-place.place _ _ _ (rw inv.same at c.place_at-axis.ensures.number) (rw inv.same at c.place_at-axis.ensures.within) inv.shape uniform inv.done;
+      done = filled_step (λ a v. IsUniform (spot c.args.numbers) a v) c.loop-place.to c.loop-place.place _ _ _
+          (rw inv.same at c.place_at-axis.ensures.number) (rw inv.same at c.place_at-axis.ensures.within) inv.shape uniform inv.done;
     })
 
 pub returns-clause-values : goal.returns-clause-values

@@ -12,11 +12,13 @@ first_strong-first-requires c = size_of_field _ c.in_ok-field.field.cells c.in_o
 pub returns-clause-walks : goal.returns-clause-walks
 returns-clause-walks c =
     let cells = ap (λ (f : Field). f.cells) c.in_ok-field.ensures in
-    let first = c.first_strong-first.ensures ∙ first_of_field _ c.in_ok-field.field.cells c.in_ok-field.field.parts c.args.cells c.args.by (set_up (spot c.args.numbers) c.args.rows.now) c.fill.ensures.value cells in
+    let first = c.first_strong-first.ensures ∙ first_of_field _ c.in_ok-field.field.cells c.in_ok-field.field.parts c.args.cells c.args.by
+    (set_up (spot c.args.numbers) c.args.rows.now) c.fill.ensures.value cells in
     rw first at c.check_strong.ensures.walks
 
 pub returns-clause-mild : goal.returns-clause-mild
 returns-clause-mild c =
     let cells = ap (λ (f : Field). f.cells) c.in_ok-field.ensures in
-    let first = c.first_strong-first.ensures ∙ first_of_field _ c.in_ok-field.field.cells c.in_ok-field.field.parts c.args.cells c.args.by (set_up (spot c.args.numbers) c.args.rows.now) c.fill.ensures.value cells in
+    let first = c.first_strong-first.ensures ∙ first_of_field _ c.in_ok-field.field.cells c.in_ok-field.field.parts c.args.cells c.args.by
+    (set_up (spot c.args.numbers) c.args.rows.now) c.fill.ensures.value cells in
     on_ok_weaker _ (λ none. IsMild-from c.args.cells c.args.by _ (rw cells at c.fill.ensures.size) (sym first ∙ none)) c.check_strong.ensures.none

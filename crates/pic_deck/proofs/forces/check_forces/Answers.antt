@@ -8,4 +8,5 @@ returns-in_err-check_field-clause-walks c = exits _ _ c.from_residual.ensures.1 
 
 pub returns-clause-walks : goal.returns-clause-walks
 unfolding forces
-returns-clause-walks c = goes_on _ _ _ (rw c.as_slice-e.ensures at c.in_ok-check_field.ensures.walks.answer) (rw c.as_slice-b.ensures at c.check_field-2.ensures.walks)
+returns-clause-walks c = goes_on _ _ _ (rw c.as_slice-e.ensures at c.in_ok-check_field.ensures.walks.answer)
+    (rw c.as_slice-b.ensures at c.check_field-2.ensures.walks)

@@ -22,7 +22,8 @@ returns-in-Some c =
     let inv = c.loop-place.invariant in
     let fits : SFits w128 c.in-Some.force = search rules in
     let value = to_z-of_z w128 c.at.result (record { sfits = c.at.type_inv }) in
-    let found = strong_at-place c.args.field.now.cells c.args.by (value_at c.args.field.now) _ _ c.loop-place.place (rw inv.same at c.place_at-axis.ensures.within) (rw inv.same at c.place_at-axis.ensures.number) in
+    let found = strong_at-place c.args.field.now.cells c.args.by (value_at c.args.field.now) _ _ c.loop-place.place
+    (rw inv.same at c.place_at-axis.ensures.within) (rw inv.same at c.place_at-axis.ensures.number) in
     let here = found ∙ ap (strong c.args.by) (sym c.at.ensures ∙ sym value) ∙ sym c.in-Some.ensures in
     let below : c.loop-place.place < 3 * count_of c.args.field.now.cells = omega (arith, inv.last) in
     rw (to_z-of_z w128 _ fits) (sym (some_here _ _ _ _ _ inv.none below here))
@@ -31,7 +32,8 @@ pub loop-place-preserved : goal.loop-place-preserved
 loop-place-preserved c =
     let inv = c.loop-place.invariant in
     let value = to_z-of_z w128 c.at.result (record { sfits = c.at.type_inv }) in
-    let found = strong_at-place c.args.field.now.cells c.args.by (value_at c.args.field.now) _ _ c.loop-place.place (rw inv.same at c.place_at-axis.ensures.within) (rw inv.same at c.place_at-axis.ensures.number) in
+    let found = strong_at-place c.args.field.now.cells c.args.by (value_at c.args.field.now) _ _ c.loop-place.place
+    (rw inv.same at c.place_at-axis.ensures.within) (rw inv.same at c.place_at-axis.ensures.number) in
     let here = found ∙ ap (strong c.args.by) (sym c.at.ensures ∙ sym value) ∙ sym c.in_default.ensures in
     record { same = inv.same; last = inv.last; none = none_more c.args.field.now.cells c.args.by (value_at c.args.field.now) c.loop-place.place inv.none here }
 

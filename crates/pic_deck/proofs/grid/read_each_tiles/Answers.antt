@@ -31,15 +31,15 @@ returns-in_err-tiles-clause-walks c =
 pub loop-i-preserved : goal.loop-i-preserved
 loop-i-preserved c =
     let room : c.loop-i.i < length c.in_ok-items.items.now.items = omega (arith, c.loop-i.invariant.count) in
-    let place : c.loop-i.i < length c.loop-i.tiles = omega (arith, c.loop-i.invariant.size) in
+    let address : c.loop-i.i < length c.loop-i.tiles = omega (arith, c.loop-i.invariant.size) in
     let done : c.loop-i.i ≤ length c.loop-i.tiles = omega arith in
     let step = next_axis_tiles c.args.cells _ c.loop-i.tiles _ c.loop-i.i c.index.result.now room done in
     let read = rw (c.element.ensures.path, c.index.ensures) at c.in_ok-tiles.ensures.walks.answer in
     record {
       count = c.loop-i.invariant.count;
       size = length-set _ _ _ ∙ c.loop-i.invariant.size;
-      walked = rw (take_more_set c.loop-i.tiles c.loop-i.i c.in_ok-tiles.field-0 place) (c.loop-i.invariant.walked ∙ step ∙ then_ok _ _ _ read);
-      tiled = more_tiled _ _ _ _ place c.loop-i.invariant.tiled c.in_ok-tiles.ensures.tiled;
+      walked = rw (take_more_set c.loop-i.tiles c.loop-i.i c.in_ok-tiles.field-0 address) (c.loop-i.invariant.walked ∙ step ∙ then_ok _ _ _ read);
+      tiled = more_tiled _ _ _ _ address c.loop-i.invariant.tiled c.in_ok-tiles.ensures.tiled;
     }
 
 pub returns-clause-walks : goal.returns-clause-walks

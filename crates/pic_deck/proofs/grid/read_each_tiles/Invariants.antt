@@ -10,6 +10,7 @@ abbrev pub invariant-loop-i : goal.invariant-loop-i
 invariant-loop-i l = record {
   count : length l.items.items ≡ 3;
   size : length l.tiles ≡ 3;
-  walked : array_of 3 (next_tiles l.cells) (path_of l.place) (view l.value) ≡ each (next_tiles l.cells) (path_of l.place) (take l.i l.tiles) (items_view (drop l.i l.items.items));
+  walked : array_of 3 (next_tiles l.cells) (path_of l.address) (view l.value)
+      ≡ each (next_tiles l.cells) (path_of l.address) (take l.i l.tiles) (items_view (drop l.i l.items.items));
   tiled : (k : ℕ) → k < l.i → IsTiled (slice_index l.cells k) (slice_index l.tiles k);
 }

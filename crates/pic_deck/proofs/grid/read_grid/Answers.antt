@@ -16,12 +16,14 @@ returns-in_err-cells-clause-walks c =
 pub returns-in_err-tiles-clause-walks : goal.returns-in_err-tiles-clause-walks
 unfolding grid
 returns-in_err-tiles-clause-walks c =
-    goes_on _ _ _ c.in_ok-table.ensures.answer (goes_on _ _ _ c.in_ok-cells.ensures.walks.answer (exits _ _ c.from_residual-in_err-tiles.ensures.1 c.in_err-tiles.ensures.walks))
+    goes_on _ _ _ c.in_ok-table.ensures.answer (goes_on _ _ _ c.in_ok-cells.ensures.walks.answer
+    (exits _ _ c.from_residual-in_err-tiles.ensures.1 c.in_err-tiles.ensures.walks))
 
 pub returns-clause-walks : goal.returns-clause-walks
 unfolding grid
 returns-clause-walks c =
-    goes_on _ _ _ c.in_ok-table.ensures.answer (goes_on _ _ _ c.in_ok-cells.ensures.walks.answer (goes_on _ _ _ c.in_ok-tiles.ensures.walks.answer (record { answer = ap (λ n. Ok (n, c.in_ok-tiles.tiles)) (sym c.new.ensures) })))
+    goes_on _ _ _ c.in_ok-table.ensures.answer (goes_on _ _ _ c.in_ok-cells.ensures.walks.answer
+    (goes_on _ _ _ c.in_ok-tiles.ensures.walks.answer (record { answer = ap (λ n. Ok (n, c.in_ok-tiles.tiles)) (sym c.new.ensures) })))
 
 pub returns-clause-tiled : goal.returns-clause-tiled
 returns-clause-tiled c = rw c.new.ensures c.in_ok-tiles.ensures.tiled

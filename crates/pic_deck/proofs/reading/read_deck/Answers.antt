@@ -1,40 +1,24 @@
-use Rattle.std.proofs.Common.{length, ◌<◌, ◌^◌, arith, rules}
-use Rattle.std.proofs.lemmas.Int.{to_z_pos}
-use mir.Syntax.{w128}
-use Rattle.pic_walk.proofs.WalkLaws.{goes_on, exits}
-use Rattle.pic_walk.proofs.TableLaws.{key_at-top}
-use Rattle.pic_deck.specs.Keys.{walk}
-use Rattle.pic_deck.proofs.TextLaws.{text_exactly}
+use Rattle.std.proofs.Common.{◌<◌, ◌≤◌, length, sym, rules}
+use Rattle.pic_walk.specs.Bounds.{most_bytes}
+use Rattle.pic_deck.proofs.ReadingLaws.{refuses, walk_long, walk_is, no_text, stops, reads}
 use Rattle.pic_deck.proofs.reading.read_deck.Goals as goal
 
-pub returns-in_err-check_within-clause-walks : goal.returns-in_err-check_within-clause-walks
-unfolding walk
-returns-in_err-check_within-clause-walks c =
-    let fits : length c.args.bytes.now < 2 ^ 64 = search rules in
-    let size = to_z_pos w128 (length c.args.bytes.now) (omega (arith, fits)) in
-    exits _ _ c.from_residual.ensures.1 (rw (c.new-limits.ensures, c.new.ensures.path, key_at-top, size) at c.in_err-check_within.ensures.walks)
+pub returns-then-bytes-gt-MOST_BYTES-clause-walks : goal.returns-then-bytes-gt-MOST_BYTES-clause-walks
+returns-then-bytes-gt-MOST_BYTES-clause-walks c =
+    let large : most_bytes < length c.args.bytes.now = search rules in
+    refuses _ _ _ c.size_fault.ensures (walk_long _ large)
 
 pub returns-in_err-table-clause-walks : goal.returns-in_err-table-clause-walks
-unfolding walk
 returns-in_err-table-clause-walks c =
-    let fits : length c.args.bytes.now < 2 ^ 64 = search rules in
-    let size = to_z_pos w128 (length c.args.bytes.now) (omega (arith, fits)) in
-    goes_on _ _ _ (rw (c.new-limits.ensures, c.new.ensures.path, key_at-top, size) at c.in_ok-check_within.ensures.walks.answer)
-    (exits _ _ c.from_residual-in_err-table.ensures.1 c.in_err-table.ensures)
+    let small : length c.args.bytes.now ≤ most_bytes = search rules in
+    no_text _ _ small c.from_residual.ensures.1 c.in_err-table.ensures.refused
+
+pub returns-in_err-deck_of-clause-walks : goal.returns-in_err-deck_of-clause-walks
+returns-in_err-deck_of-clause-walks c =
+    let small : length c.args.bytes.now ≤ most_bytes = search rules in
+    rw (walk_is _ _ small c.in_ok-table.ensures.ok) (stops _ _ c.from_residual-in_err-deck_of.ensures.1 c.in_err-deck_of.ensures)
 
 pub returns-clause-walks : goal.returns-clause-walks
-unfolding walk
 returns-clause-walks c =
-    let fits : length c.args.bytes.now < 2 ^ 64 = search rules in
-    let size = to_z_pos w128 (length c.args.bytes.now) (omega (arith, fits)) in
-    goes_on _ _ _ (rw (c.new-limits.ensures, c.new.ensures.path, key_at-top, size) at c.in_ok-check_within.ensures.walks.answer)
-    (goes_on _ _ _ c.in_ok-table.ensures.answer c.read_table.ensures)
-
-pub returns-in_err-check_within-clause-text : goal.returns-in_err-check_within-clause-text
-returns-in_err-check_within-clause-text c = text_exactly _
-
-pub returns-in_err-table-clause-text : goal.returns-in_err-table-clause-text
-returns-in_err-table-clause-text c = text_exactly _
-
-pub returns-clause-text : goal.returns-clause-text
-returns-clause-text c = text_exactly _
+    let small : length c.args.bytes.now ≤ most_bytes = search rules in
+    rw (walk_is _ _ small c.in_ok-table.ensures.ok) (reads _ _ c.in_ok-deck_of.ensures.answer)

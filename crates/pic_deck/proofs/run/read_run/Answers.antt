@@ -16,9 +16,11 @@ returns-in_err-steps-clause-walks c =
 pub returns-in_err-every-clause-walks : goal.returns-in_err-every-clause-walks
 unfolding run
 returns-in_err-every-clause-walks c =
-    goes_on _ _ _ c.in_ok-table.ensures.answer (goes_on _ _ _ (rw c.new.ensures at c.in_ok-steps.ensures.walks.answer) (exits _ _ c.from_residual-in_err-every.ensures.1 (rw c.new-2.ensures at c.in_err-every.ensures.walks)))
+    goes_on _ _ _ c.in_ok-table.ensures.answer (goes_on _ _ _ (rw c.new.ensures at c.in_ok-steps.ensures.walks.answer)
+    (exits _ _ c.from_residual-in_err-every.ensures.1 (rw c.new-2.ensures at c.in_err-every.ensures.walks)))
 
 pub returns-clause-walks : goal.returns-clause-walks
 unfolding run
 returns-clause-walks c =
-    goes_on _ _ _ c.in_ok-table.ensures.answer (goes_on _ _ _ (rw c.new.ensures at c.in_ok-steps.ensures.walks.answer) (goes_on _ _ _ (rw c.new-2.ensures at c.in_ok-every.ensures.walks.answer) (record { answer = refl })))
+    goes_on _ _ _ c.in_ok-table.ensures.answer (goes_on _ _ _ (rw c.new.ensures at c.in_ok-steps.ensures.walks.answer)
+    (goes_on _ _ _ (rw c.new-2.ensures at c.in_ok-every.ensures.walks.answer) (record { answer = refl })))

@@ -23,7 +23,7 @@ read_species-requires c = rw c.as_slice.ensures.value c.loop-i.invariant.heads
 pub returns-in_err-species-clause-walks : goal.returns-in_err-species-clause-walks
 returns-in_err-species-clause-walks c =
     let room : c.loop-i.i < length c.args.items.now.items = omega (arith, c.loop-i.invariant.count) in
-    let step = each_at (one_species c.args.cells) (path_of c.args.place) c.loop-i.all.items c.args.items.now.items c.loop-i.i c.index.result.now room in
+    let step = each_at (one_species c.args.cells) (path_of c.args.address) c.loop-i.all.items c.args.items.now.items c.loop-i.i c.index.result.now room in
     rw (c.loop-i.invariant.walked ∙ rw c.loop-i.invariant.size at step)
     (exits _ _ c.from_residual.ensures.1 (rw (c.element.ensures.path, c.index.ensures, c.as_slice.ensures.value) at c.in_err-species.ensures.walks))
 
@@ -31,17 +31,16 @@ pub loop-i-preserved : goal.loop-i-preserved
 loop-i-preserved c =
     let room : c.loop-i.i < length c.args.items.now.items = omega (arith, c.loop-i.invariant.count) in
     let few : length c.loop-i.all.items < 16 = omega (arith, c.loop-i.invariant.size, c.requires.few, room) in
-    let step = each_at (one_species c.args.cells) (path_of c.args.place) c.loop-i.all.items c.args.items.now.items c.loop-i.i c.index.result.now room in
+    let step = each_at (one_species c.args.cells) (path_of c.args.address) c.loop-i.all.items c.args.items.now.items c.loop-i.i c.index.result.now room in
     let at_i = rw c.loop-i.invariant.size at step in
     let read = rw (c.element.ensures.path, c.index.ensures, c.as_slice.ensures.value) at c.in_ok-species.ensures.walks.answer in
-    let name = rw c.as_slice.ensures.value at c.in_ok-species.ensures.name in
-    let total = rw c.as_slice.ensures.value at c.in_ok-species.ensures.few in
+    let next = rw c.as_slice.ensures.value at c.in_ok-species.ensures.limits in
     rw c.in_ok-push.ensures.items (record {
       count = c.loop-i.invariant.count;
       size = length-append _ _ ∙ ap (λ n. n + 1) c.loop-i.invariant.size;
       walked = c.loop-i.invariant.walked ∙ at_i ∙ then_ok _ _ _ read;
-      heads = species_more _ _ c.loop-i.invariant.heads few name c.in_ok-species.ensures.kind total;
-      filled = filled_more _ _ _ c.loop-i.invariant.filled c.in_ok-species.ensures.points;
+      heads = species_more _ _ _ c.loop-i.invariant.heads few next;
+      filled = filled_more _ _ _ c.loop-i.invariant.filled next.filled;
     })
 
 pub returns-clause-walks : goal.returns-clause-walks

@@ -11,7 +11,8 @@ abbrev pub invariant-loop-i : goal.invariant-loop-i
 invariant-loop-i l = record {
   count : length l.items.items ≡ l.i-end;
   size : length l.all.items ≡ l.i;
-  walked : each (one_species l.cells) (path_of l.place) [] (items_view l.items.items) ≡ each (one_species l.cells) (path_of l.place) l.all.items (items_view (drop l.i l.items.items));
+  walked : each (one_species l.cells) (path_of l.address) [] (items_view l.items.items)
+      ≡ each (one_species l.cells) (path_of l.address) l.all.items (items_view (drop l.i l.items.items));
   heads : AreHeads (map head_of l.all.items);
   filled : AreFilled l.cells l.all.items;
 }

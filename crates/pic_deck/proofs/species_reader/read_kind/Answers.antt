@@ -12,23 +12,33 @@ returns-in_err-charge-clause-walks c =
 pub returns-in_err-mass-clause-walks : goal.returns-in_err-mass-clause-walks
 unfolding species_kind
 returns-in_err-mass-clause-walks c =
-    goes_on _ _ _ (rw c.new.ensures at c.in_ok-charge.ensures.walks.answer) (exits _ _ c.from_residual-in_err-mass.ensures.1 (rw c.new-2.ensures at c.in_err-mass.ensures.walks))
+    goes_on _ _ _ (rw c.new.ensures at c.in_ok-charge.ensures.walks.answer)
+    (exits _ _ c.from_residual-in_err-mass.ensures.1 (rw c.new-2.ensures at c.in_err-mass.ensures.walks))
 
 pub returns-in_err-kick-clause-walks : goal.returns-in_err-kick-clause-walks
 unfolding species_kind
 returns-in_err-kick-clause-walks c =
-    goes_on _ _ _ (rw c.new.ensures at c.in_ok-charge.ensures.walks.answer) (goes_on _ _ _ (rw c.new-2.ensures at c.in_ok-mass.ensures.walks.answer) (exits _ _ c.from_residual-in_err-kick.ensures.1 c.in_err-kick.ensures))
+    goes_on _ _ _ (rw c.new.ensures at c.in_ok-charge.ensures.walks.answer)
+    (goes_on _ _ _ (rw c.new-2.ensures at c.in_ok-mass.ensures.walks.answer) (exits _ _ c.from_residual-in_err-kick.ensures.1 c.in_err-kick.ensures))
 
 pub returns-in_err-turn-clause-walks : goal.returns-in_err-turn-clause-walks
 unfolding species_kind
 returns-in_err-turn-clause-walks c =
-    goes_on _ _ _ (rw c.new.ensures at c.in_ok-charge.ensures.walks.answer) (goes_on _ _ _ (rw c.new-2.ensures at c.in_ok-mass.ensures.walks.answer) (goes_on _ _ _ c.in_ok-kick.ensures.answer (exits _ _ c.from_residual-in_err-turn.ensures.1 c.in_err-turn.ensures)))
+    goes_on _ _ _ (rw c.new.ensures at c.in_ok-charge.ensures.walks.answer)
+    (goes_on _ _ _ (rw c.new-2.ensures at c.in_ok-mass.ensures.walks.answer)
+    (goes_on _ _ _ c.in_ok-kick.ensures.answer (exits _ _ c.from_residual-in_err-turn.ensures.1 c.in_err-turn.ensures)))
 
 pub returns-clause-walks : goal.returns-clause-walks
 unfolding species_kind
 returns-clause-walks c =
     let inside = rw c.new.ensures at c.in_ok-charge.ensures.bounds in
-    goes_on _ _ _ (rw c.new.ensures at c.in_ok-charge.ensures.walks.answer) (goes_on _ _ _ (rw c.new-2.ensures at c.in_ok-mass.ensures.walks.answer) (goes_on _ _ _ c.in_ok-kick.ensures.answer (goes_on _ _ _ c.in_ok-turn.ensures.answer (record { answer = ap (λ z. Ok (record { charge = z; mass = c.in_ok-mass.mass; kick = c.in_ok-kick.kick; turn = c.in_ok-turn.turn })) (sym (kept_charge _ inside)) }))))
+    goes_on _ _ _ (rw c.new.ensures at c.in_ok-charge.ensures.walks.answer)
+    (goes_on _ _ _ (rw c.new-2.ensures at c.in_ok-mass.ensures.walks.answer)
+    (goes_on _ _ _ c.in_ok-kick.ensures.answer (goes_on _ _ _ c.in_ok-turn.ensures.answer
+    (record {
+      answer = ap (λ z. Ok (record { charge = z; mass = c.in_ok-mass.mass; kick = c.in_ok-kick.kick; turn = c.in_ok-turn.turn }))
+          (sym (kept_charge _ inside));
+    }))))
 
 pub returns-clause-limits : goal.returns-clause-limits
 returns-clause-limits c =

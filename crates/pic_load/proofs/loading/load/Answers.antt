@@ -1,9 +1,9 @@
 use Rattle.std.proofs.Common.{◌≤◌, sym, ap, ◌∙◌, arith}
 use Rattle.std.proofs.lemmas.List.{take_all}
-use Rattle.pic_deck.specs.Species.{particles_of}
+use Rattle.pic_deck.specs.Species.{most_particles, particles_of}
 use Rattle.pic_deck.proofs.HeadLaws.{particles_of-heads}
 use Rattle.pic_load.specs.Loading.{members_from, numbered, loaded}
-use Rattle.pic_load.proofs.LoadLaws.{species_more, room_for, loaded_is}
+use Rattle.pic_load.proofs.LoadLaws.{AreCounted, AreCounted-from, species_more, room_for, loaded_is}
 use Rattle.pic_load.proofs.loading.load.Goals as goal
 
 pub loop-number-init : goal.loop-number-init
@@ -13,8 +13,9 @@ loop-number-init c = c.in_ok-particles.ensures.items
 pub load_fill-requires : goal.load_fill-requires
 load_fill-requires c =
     let total = rw (particles_of-heads c.args.deck.now.species) at c.species-all.ensures.limits.heads.total in
-    let few : particles_of c.species-all.result.now ≤ 1048576 = rw c.species-all.ensures.value total in
-    let room = room_for c.loop-number.number c.species-all.result.now c.index-all-number.result (omega arith) few in
+    let few : particles_of c.species-all.result.now ≤ most_particles = rw c.species-all.ensures.value total in
+    let counted : AreCounted c.species-all.result.now = rw c.species-all.ensures.value (AreCounted-from c.args.deck.now c.species-all.ensures.limits) in
+    let room = room_for c.loop-number.number c.species-all.result.now c.index-all-number.result (omega arith) counted few in
     rw c.loop-number.invariant (rw (sym c.index-all-number.is) at room)
 
 pub loop-number-preserved : goal.loop-number-preserved

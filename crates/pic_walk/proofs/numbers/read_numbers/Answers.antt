@@ -41,15 +41,15 @@ loop-i-preserved g c =
     let fits : SFits w64 c.in_ok-numbers.field-0 = search rules in
     let same = to_z-of_z w64 c.in_ok-numbers.field-0 fits in
     let room : c.loop-i.i < length c.in_ok-items.items.now.items = omega (arith, c.loop-i.invariant.count) in
-    let place : c.loop-i.i < length c.loop-i.numbers = omega (arith, c.loop-i.invariant.size) in
+    let address : c.loop-i.i < length c.loop-i.numbers = omega (arith, c.loop-i.invariant.size) in
     let done : c.loop-i.i ≤ length c.loop-i.numbers = omega arith in
     let step = next_number c.args.limits _ c.loop-i.numbers _ c.loop-i.i c.index.result.now room done in
     let read = rw (c.element.ensures.path, c.index.ensures) at c.in_ok-numbers.ensures.walks.answer in
     rw same (record {
       count = c.loop-i.invariant.count;
       size = length-set _ _ _ ∙ c.loop-i.invariant.size;
-      walked = rw (take_more_set c.loop-i.numbers c.loop-i.i c.in_ok-numbers.field-0 place) (c.loop-i.invariant.walked ∙ step ∙ then_ok _ _ _ read);
-      bounds = more_in_limits _ _ _ _ place c.loop-i.invariant.bounds c.in_ok-numbers.ensures.bounds;
+      walked = rw (take_more_set c.loop-i.numbers c.loop-i.i c.in_ok-numbers.field-0 address) (c.loop-i.invariant.walked ∙ step ∙ then_ok _ _ _ read);
+      bounds = more_in_limits _ _ _ _ address c.loop-i.invariant.bounds c.in_ok-numbers.ensures.bounds;
     })
 
 pub returns-clause-walks : goal.returns-clause-walks

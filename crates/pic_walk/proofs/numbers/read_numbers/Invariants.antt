@@ -9,6 +9,7 @@ abbrev pub invariant-loop-i : goal.invariant-loop-i
 invariant-loop-i g l = record {
   count : length l.items.items ≡ l.i-end;
   size : length l.numbers ≡ l.i-end;
-  walked : numbers l.limits (path_of l.place) (view l.value) ≡ each (number_at l.limits) (path_of l.place) (take l.i l.numbers) (items_view (drop l.i l.items.items));
+  walked : numbers l.limits (path_of l.address) (view l.value)
+      ≡ each (number_at l.limits) (path_of l.address) (take l.i l.numbers) (items_view (drop l.i l.items.items));
   bounds : (k : ℕ) → k < l.i → IsInLimits (limits_at l.limits k) (slice_index_or l.numbers k (pos 0));
 }

@@ -25,14 +25,14 @@ loop-i-init c =
 pub returns-in_err-point-clause-walks : goal.returns-in_err-point-clause-walks
 returns-in_err-point-clause-walks c =
     let room : c.loop-i.i < length c.in_ok-items.items.now.items = omega (arith, c.loop-i.invariant.count) in
-    let step = each_at (point c.args.cells) (path_of c.args.place) c.loop-i.points.items c.in_ok-items.items.now.items c.loop-i.i c.index.result.now room in
+    let step = each_at (point c.args.cells) (path_of c.args.address) c.loop-i.points.items c.in_ok-items.items.now.items c.loop-i.i c.index.result.now room in
     rw (c.loop-i.invariant.walked ∙ rw c.loop-i.invariant.size at step)
     (exits _ _ c.from_residual-in_err-point.ensures.1 (rw (c.element.ensures.path, c.index.ensures) at (c.in_err-point.ensures.walks c.loop-i.points.items)))
 
 pub loop-i-preserved : goal.loop-i-preserved
 loop-i-preserved c =
     let room : c.loop-i.i < length c.in_ok-items.items.now.items = omega (arith, c.loop-i.invariant.count) in
-    let step = each_at (point c.args.cells) (path_of c.args.place) c.loop-i.points.items c.in_ok-items.items.now.items c.loop-i.i c.index.result.now room in
+    let step = each_at (point c.args.cells) (path_of c.args.address) c.loop-i.points.items c.in_ok-items.items.now.items c.loop-i.i c.index.result.now room in
     let at_i = rw c.loop-i.invariant.size at step in
     let read = rw (c.element.ensures.path, c.index.ensures) at (c.in_ok-point.ensures.walks c.loop-i.points.items).answer in
     rw c.in_ok-push.ensures.items (record {

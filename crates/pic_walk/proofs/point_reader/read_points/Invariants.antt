@@ -9,6 +9,7 @@ abbrev pub invariant-loop-i : goal.invariant-loop-i
 invariant-loop-i l = record {
   count : length l.items.items ≡ l.i-end;
   size : length l.points.items ≡ l.i;
-  walked : point_list l.cells (path_of l.place) (view l.value) ≡ each (point l.cells) (path_of l.place) l.points.items (items_view (drop l.i l.items.items));
+  walked : point_list l.cells (path_of l.address) (view l.value)
+      ≡ each (point l.cells) (path_of l.address) l.points.items (items_view (drop l.i l.items.items));
   limits : (k : ℕ) → k < length l.points.items → IsPoint l.cells (slice_index_or l.points.items k no_point);
 }

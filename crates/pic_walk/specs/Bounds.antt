@@ -1,0 +1,59 @@
+-- The limits of a deck of version 1, this project's profile.
+use Rattle.std.specs.Prelude.{ℕ, ℤ, pos, negsuc}
+
+-- the bytes of a deck
+abbrev pub most_bytes : ℕ
+most_bytes = 1048576
+
+-- the cells of an axis
+abbrev pub fewest_cells : ℕ
+fewest_cells = 2
+
+abbrev pub most_cells : ℕ
+most_cells = 64
+
+-- the tiles of a grid
+abbrev pub most_tiles : ℕ
+most_tiles = 512
+
+-- the steps of a run, and those from one frame to the next
+abbrev pub most_steps : ℕ
+most_steps = 1000000
+
+-- a multiplier n / 2^k
+abbrev pub greatest_n : ℕ
+greatest_n = 2147483647
+
+abbrev pub greatest_k : ℕ
+greatest_k = 62
+
+-- the rows of a field
+abbrev pub most_rows : ℕ
+most_rows = 1048576
+
+-- the species of a deck
+abbrev pub most_species : ℕ
+most_species = 16
+
+-- the particles of all species
+abbrev pub most_particles : ℕ
+most_particles = 1048576
+
+-- the charge of a particle
+abbrev pub least_charge : ℤ
+least_charge = negsuc 32767
+
+abbrev pub greatest_charge : ℤ
+greatest_charge = pos 32767
+
+-- the mass of a particle
+abbrev pub greatest_mass : ℕ
+greatest_mass = 65536
+
+-- the velocity of a particle on an axis, either way
+abbrev pub fastest : ℕ
+fastest = 16777216
+
+-- the force values of the fields that a deck begins with, either way
+abbrev pub strongest : ℕ
+strongest = 17592186044416
