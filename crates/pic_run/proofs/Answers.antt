@@ -15,9 +15,9 @@ use Rattle.pic_charge.specs.Charge.{charge_of}
 use Rattle.pic_charge.specs.Gauss.{IsLeastBreak}
 use Rattle.pic_charge.proofs.BreakLaws.{first_break_some}
 use Rattle.pic_deck.specs.Deck.{DeckView}
-use Rattle.pic_walk.specs.Walk.{Walked}
-use Rattle.pic_walk.specs.declared.fault.Refusal.{Refusal}
-use Rattle.pic_deck.specs.Keys.{walk}
+use Rattle.pic_deck.specs.Refusal.{ReadDeck}
+use Rattle.pic_deck.specs.declared.refusal.Refusal.{Refusal}
+use Rattle.pic_deck.specs.Reading.{walk}
 use Rattle.pic_step.specs.SerialStep.{World, stepped}
 use Rattle.pic_step.specs.SerialRun.{after, step_from, stopped_in}
 use Rattle.pic_run.specs.declared.commands.Command.{Command}
@@ -152,23 +152,23 @@ tested_refusal : (command : Command) (d : DeckView) (w : World) (b : Option Brea
 tested_refusal command d w None refused = sound_refusal _ (sound_answers command d w) refused
 tested_refusal command d w (Some b) refused = refused
 
-deck_answers : (command : Command) (r : Walked DeckView) → IsDeckAnswer (deck_outcome command r).answer
+deck_answers : (command : Command) (r : ReadDeck) → IsDeckAnswer (deck_outcome command r).answer
 deck_answers command (Ok d) = tested_answers command d (first_state d) (break_of (first_state d))
 deck_answers command (Err refusal) = tt
 
-refused_deck : (command : Command) (r : Walked DeckView) (refusal : Refusal) → (deck_outcome command r).answer ≡ Refused refusal → r ≡ Err refusal
+refused_deck : (command : Command) (r : ReadDeck) (refusal : Refusal) → (deck_outcome command r).answer ≡ Refused refusal → r ≡ Err refusal
 refused_deck command (Ok d) refusal e =
     absurd (tested_refusal command d (first_state d) (break_of (first_state d)) (subst IsRefusal (sym e) tt))
 refused_deck command (Err other) refusal e = cc
 
 -- where an answer on a sound deck comes from
-pub record FromSound (command : Command) (r : Walked DeckView) (ended : Ended) : Type 0 where
+pub record FromSound (command : Command) (r : ReadDeck) (ended : Ended) : Type 0 where
   pub deck : DeckView
   pub walked : r ≡ Ok deck
   pub none : break_of (first_state deck) ≡ None
   pub answer : (sound_outcome command deck (first_state deck)).answer ≡ ended
 
-from_sound : (command : Command) (r : Walked DeckView) (ended : Ended) → IsSoundAnswer ended → (deck_outcome command r).answer ≡ ended
+from_sound : (command : Command) (r : ReadDeck) (ended : Ended) → IsSoundAnswer ended → (deck_outcome command r).answer ≡ ended
     → FromSound command r ended
 from_sound command (Err refusal) ended sound e = absurd (subst IsSoundAnswer (sym e) sound)
 from_sound command (Ok d) ended sound e = go (break_of (first_state d)) refl e
@@ -178,7 +178,7 @@ from_sound command (Ok d) ended sound e = go (break_of (first_state d)) refl e
     go (Some b) is e' = absurd (subst IsSoundAnswer (sym e') sound)
 
 -- where a break comes from
-pub record FromBreak (r : Walked DeckView) (b : Break) : Type 0 where
+pub record FromBreak (r : ReadDeck) (b : Break) : Type 0 where
   pub deck : DeckView
   pub walked : r ≡ Ok deck
   pub found : break_of (first_state deck) ≡ Some b
@@ -199,7 +199,7 @@ sound_whole ReadFault sound = tt
 sound_whole (WriteFault side) sound = tt
 sound_whole NoMemory sound = tt
 
-from_break : (command : Command) (r : Walked DeckView) (b : Break) → (deck_outcome command r).answer ≡ Gauss b → FromBreak r b
+from_break : (command : Command) (r : ReadDeck) (b : Break) → (deck_outcome command r).answer ≡ Gauss b → FromBreak r b
 from_break command (Err refusal) b e = absurd (subst IsWhole e tt)
 from_break command (Ok d) b e = go (break_of (first_state d)) refl e
   where
@@ -435,7 +435,7 @@ no_frames_of words input before now = go (command_of words) refl
     tested d w None has = none_of_none before now has
     tested d w (Some b) has = none_of_none before now has
 
-    on_deck : (r : Walked DeckView) → HasFrames (deck_outcome Check r).head (deck_outcome Check r).frames before now → Wrote before now [] []
+    on_deck : (r : ReadDeck) → HasFrames (deck_outcome Check r).head (deck_outcome Check r).frames before now → Wrote before now [] []
     on_deck (Ok d) has = tested d (first_state d) (break_of (first_state d)) has
     on_deck (Err refusal) has = none_of_none before now has
 

@@ -8,10 +8,9 @@ use Rattle.pic_io.specs.Source.{IsAtEnd}
 use Rattle.pic_io.specs.Sinks.{Sinks}
 use Rattle.pic_io.proofs.Puts.{wrote_none}
 use Rattle.pic_deck.specs.Deck.{DeckView}
-use Rattle.pic_walk.specs.declared.fault.Refusal.TheVariants.{Text, Limit}
-use Rattle.pic_walk.specs.Limits.{from_to, is_within}
-use Rattle.pic_walk.specs.Walk.{Walked, ◌>>=◌, within, some_or}
-use Rattle.pic_deck.specs.Keys.{walk, document, deck}
+use Rattle.pic_deck.specs.Refusal.{ReadDeck}
+use Rattle.pic_deck.specs.Reading.{walk}
+use Rattle.pic_deck.proofs.ReadingLaws.{deck_size}
 use Rattle.pic_run.specs.declared.commands.Command.{Command}
 use Rattle.pic_run.specs.Commands.{command_of}
 use Rattle.pic_run.specs.declared.ended.Ended.{Ended}
@@ -31,20 +30,10 @@ gave_known a b calm = (calm, known a.bytes)
     known None = tt
     known (Some held) = refl
 
--- a number that is within the limits of a walk is at most the high one
-within_most : (n most : ℕ) → is_within (from_to (pos 0) (pos most)) (pos n) ≡ true → n ≤ most
-within_most n most e = leb-true n most (rw (leb-zero n) at e)
-
 -- an accepted deck is no longer than a deck may be
 short_deck : (bytes : List ℕ) (d : DeckView) (limit : ℕ) → limit ≡ deck_limit → walk bytes ≡ Ok d → length bytes < limit
-unfolding deck_limit walk within ◌>>=◌
-short_deck bytes d limit is e = go (is_within (from_to (pos 0) (pos 1048576)) (pos (length bytes))) refl e
-  where
-    go : (fits : Bool) → is_within (from_to (pos 0) (pos 1048576)) (pos (length bytes)) ≡ fits
-        → cond fits (Ok (pos (length bytes))) (Err (Limit (codes "deck") (pos (length bytes)) (pos 0) (pos 1048576))) >>= (λ _. some_or Text (document bytes) >>= deck) ≡ Ok d
-        → length bytes < limit
-    go true fits accepted = let most = within_most (length bytes) 1048576 fits in omega (arith, most, is)
-    go false fits accepted = cc
+unfolding deck_limit
+short_deck bytes d limit is e = let size = deck_size bytes d e in omega (arith, size, is)
 
 -- an answer on no accepted deck has no end to reach
 abbrev IsUndone : Ended → Type 0
@@ -96,7 +85,7 @@ sound_anyway (WriteFault side) w sound = tt
 sound_anyway NoMemory w sound = tt
 
 -- an answer says nothing of a deck's state where it does so of every state
-pub sound_deck : (ended : Ended) (r : Walked DeckView) → ((d : DeckView) → r ≡ Ok d → SoundFor ended (first_state d)) → SoundDeck ended r
+pub sound_deck : (ended : Ended) (r : ReadDeck) → ((d : DeckView) → r ≡ Ok d → SoundFor ended (first_state d)) → SoundDeck ended r
 sound_deck ended (Ok d) sound = sound d refl
 sound_deck ended (Err refusal) sound = tt
 
@@ -146,7 +135,7 @@ done_read : (command : Command) (before now : Sinks) (ended : Ended) (source sou
     → TookAll source source' limit bytes → EndsAs (deck_outcome command (walk bytes)) before now ended → ReadsToEnd ended source'
 done_read command before now ended source source' limit bytes is took ends = go (walk bytes) refl ends
   where
-    go : (deck : Walked DeckView) → walk bytes ≡ deck → EndsAs (deck_outcome command deck) before now ended → ReadsToEnd ended source'
+    go : (deck : ReadDeck) → walk bytes ≡ deck → EndsAs (deck_outcome command deck) before now ended → ReadsToEnd ended source'
     go (Err refusal) e ends' = undone (deck_outcome command (Err refusal)) before now ended source' tt ends'
     go (Ok d) e ends' = reached ended (took.end (short_deck bytes d limit is e))
       where

@@ -80,7 +80,7 @@ pub sound_start : (d : DeckView) (particles : List Particle) → IsWithinLimits 
     → break_of (start_of d particles) ≡ None → IsSound (start_of d particles)
 sound_start d particles limits loaded none = record {
   side = refl;
-  cells = limits.setup.cells;
+  cells = limits.settings.cells;
   e = safe_of d.cells d.scales.e_force (initial_e d) limits.e;
   b = safe_of d.cells d.scales.b_force (initial_b d) limits.b;
   species =

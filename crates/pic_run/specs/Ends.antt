@@ -10,10 +10,10 @@ use Rattle.pic_grid.specs.Lattice.{value_at}
 use Rattle.pic_charge.specs.declared.breaks.Break.{Break}
 use Rattle.pic_charge.specs.Charge.{charge_of}
 use Rattle.pic_charge.specs.Gauss.{IsLeastBreak}
-use Rattle.pic_walk.specs.Walk.{Walked}
-use Rattle.pic_walk.specs.declared.fault.Refusal.{Refusal}
+use Rattle.pic_deck.specs.Refusal.{ReadDeck}
+use Rattle.pic_deck.specs.declared.refusal.Refusal.{Refusal}
 use Rattle.pic_deck.specs.Deck.{DeckView}
-use Rattle.pic_deck.specs.Keys.{walk}
+use Rattle.pic_deck.specs.Reading.{walk}
 use Rattle.pic_load.specs.Loading.{loaded}
 use Rattle.pic_step.specs.SerialStep.{World}
 use Rattle.pic_step.specs.SerialRun.{after}
@@ -69,7 +69,7 @@ SoundFor (Checked particles) w = IsSound w
 SoundFor (Stopped step stop) w = IsSound w
 SoundFor answer w = ⊤
 
-abbrev pub SoundDeck : Ended → Walked DeckView → Type 0
+abbrev pub SoundDeck : Ended → ReadDeck → Type 0
 SoundDeck ended (Ok d) = SoundFor ended (first_state d)
 SoundDeck ended (Err refusal) = ⊤
 

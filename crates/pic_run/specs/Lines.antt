@@ -3,8 +3,8 @@
 use Rattle.std.specs.Prelude.{ℕ, ℤ, List, ◌++◌, ◌&&◌, map, codes, nat_le, if◌then◌else◌}
 use Rattle.std.specs.Fmt.{decimal, signed_decimal}
 use Rattle.std.specs.Str.{chars}
-use Rattle.pic_walk.specs.declared.fault.Refusal.{Refusal}
-use Rattle.pic_walk.specs.declared.fault.Refusal.TheVariants.{Text, Unknown, Missing, Kind, Limit, Name}
+use Rattle.pic_deck.specs.declared.refusal.Refusal.{Refusal}
+use Rattle.pic_deck.specs.declared.refusal.Refusal.TheVariants.{Text, Unknown, Missing, Kind, Limit, Name}
 use Rattle.pic_num.specs.Space.{triple}
 use Rattle.pic_charge.specs.declared.breaks.Break.{Break}
 

@@ -2,12 +2,12 @@
 -- and the text on report. Every answer but a write fault and want of memory is the outcome's.
 use Rattle.std.specs.Prelude.{ℕ, List, [], ◌∷◌, ◌++◌, length, take, Option, Some, None, Ok, Err}
 use Rattle.pic_io.specs.Sinks.{Piece, outs, lines}
-use Rattle.pic_walk.specs.Walk.{Walked}
+use Rattle.pic_deck.specs.Refusal.{ReadDeck}
 use Rattle.pic_grid.specs.declared.stop.EndMark.{EndMark}
 use Rattle.pic_grid.specs.declared.stop.EndMark.TheVariants.{Done as EndDone, Stopped as EndStopped}
 use Rattle.pic_charge.specs.declared.breaks.Break.{Break}
 use Rattle.pic_deck.specs.Deck.{DeckView}
-use Rattle.pic_deck.specs.Keys.{walk}
+use Rattle.pic_deck.specs.Reading.{walk}
 use Rattle.pic_dump.specs.DumpText.{header_bytes}
 use Rattle.pic_dump.specs.Header.{HeaderView}
 use Rattle.pic_step.specs.SerialStep.{World}
@@ -83,7 +83,7 @@ abbrev pub accepted_outcome : Command → DeckView → Outcome
 accepted_outcome command d = tested_outcome command d (first_state d) (break_of (first_state d))
 
 -- a deck is refused with the first refusal that its walk meets
-abbrev pub deck_outcome : Command → Walked DeckView → Outcome
+abbrev pub deck_outcome : Command → ReadDeck → Outcome
 deck_outcome command (Ok d) = accepted_outcome command d
 deck_outcome command (Err refusal) = line_alone (Refused refusal) (refused_line refusal)
 

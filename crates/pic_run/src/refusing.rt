@@ -1,5 +1,5 @@
 ghost use Rattle.std.specs.Prelude.{◌≡◌, ◌++◌};
-ghost use Rattle.pic_walk.specs.declared.fault.Refusal.TheVariants.{Limit};
+ghost use Rattle.pic_deck.specs.declared.refusal.Refusal.TheVariants.{Limit};
 ghost use Rattle.pic_io.specs.Sinks.{WritesLine};
 ghost use Rattle.pic_run.specs.Lines.{printed_char, printed_path, path_line, refused_line};
 

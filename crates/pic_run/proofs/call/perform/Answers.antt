@@ -1,6 +1,6 @@
 use Rattle.std.proofs.Common.{List, ℕ, map, string_bytes, sym, subst}
 use Rattle.pic_io.specs.Sinks.{sinks}
-use Rattle.pic_deck.specs.Keys.{walk}
+use Rattle.pic_deck.specs.Reading.{walk}
 use Rattle.pic_run.specs.declared.ended.Ended.TheVariants.{Usage, ReadFault}
 use Rattle.pic_run.specs.Outcome.{deck_outcome, line_alone}
 use Rattle.pic_run.specs.Ends.{EndsAs, SoundDeck}

@@ -2,8 +2,8 @@ use Rattle.std.proofs.Common.{◌≡◌, List, ℕ, sym, ◌∙◌, subst, rules
 use Rattle.std.proofs.lemmas.Int.{to_z-of_z}
 use mir.Syntax.{w128}
 use mir.Val.{SFits, to_z, of_z}
-use Rattle.pic_walk.specs.declared.fault.Refusal.TheVariants.{Limit}
-use Rattle.pic_walk.specs.declared.fault.Refusal.{Refusal}
+use Rattle.pic_deck.specs.declared.refusal.Refusal.TheVariants.{Limit}
+use Rattle.pic_deck.specs.declared.refusal.Refusal.{Refusal}
 use Rattle.pic_io.specs.Sinks.{WritesLine}
 use Rattle.pic_run.specs.Lines.{refused_line}
 use Rattle.pic_run.proofs.refusing.put_refusal.Goals as goal
