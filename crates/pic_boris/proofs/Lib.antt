@@ -1,2 +1,2 @@
-pub mod Turns
-pub mod Moves
+pub mod TurnLaws
+pub mod MoveLaws

@@ -1,2 +1,2 @@
-pub mod Vectors
+pub mod Vector
 pub mod Pushes

@@ -1,13 +1,13 @@
--- What the push answers, against its definition (Boris 1970; Birdsall and Langdon, "Plasma Physics via
--- Computer Simulation", chapter 4; the units and the tests are this project's profile).
+-- What the push answers, against its definition (Boris 1970; Birdsall and Langdon, "Plasma Physics
+-- via Computer Simulation", chapter 4; the units and the tests are this project's profile).
 use Rattle.std.specs.Prelude.{◌≡◌, pos, Result, Ok, Err}
 use Rattle.pic_num.specs.declared.motion.What.TheVariants.{Far}
 use Rattle.pic_num.specs.Push.{Shift, Halting, each, first_above, unless}
 use Rattle.pic_num.specs.Rounding.{rounded}
-use Rattle.pic_num.specs.Space.{Spot, spot}
-use Rattle.pic_boris.specs.declared.pushing.Moved.{Moved}
-use Rattle.pic_boris.specs.declared.pushing.Halt.{Halt}
-use Rattle.pic_boris.specs.Vectors.{AreAtMost, IsKeptVelocity}
+use Rattle.pic_num.specs.Space.{Spot, spot, AreAtMost}
+use Rattle.pic_boris.specs.declared.moved.Moved.{Moved}
+use Rattle.pic_boris.specs.declared.halt.Halt.{Halt}
+use Rattle.pic_boris.specs.Vector.{IsKeptVelocity}
 
 -- what an answer of the code stands for
 abbrev pub shift_of : Moved → Shift

@@ -1,11 +1,14 @@
 //! The Boris push of one particle.
 #![tactic(auto)]
 
-mod limits;
+mod halt;
+mod moved;
 mod pushing;
 #[cfg(test)]
 mod tests;
 mod turning;
-mod vectors;
+mod vector;
 
-pub use pushing::{Halt, Moved, push};
+pub use halt::Halt;
+pub use moved::Moved;
+pub use pushing::push;

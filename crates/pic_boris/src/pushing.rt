@@ -1,13 +1,16 @@
+//! The push: half of the kick, the turn, the other half, and where the new velocity leads.
+
 ghost use Rattle.std.specs.Prelude.{◌≡◌, pos, ◌^◌, ◌-◌, IfOk};
 ghost use Rattle.pic_num.specs.Push.{pushed, each};
 ghost use Rattle.pic_num.specs.Rounding.{rounded};
-ghost use Rattle.pic_num.specs.Space.{spot};
+ghost use Rattle.pic_num.specs.Space.{spot, AreAtMost};
 ghost use Rattle.pic_boris.specs.Pushes.{Pushes, IsInLimits, arrived};
-ghost use Rattle.pic_boris.specs.Vectors.{AreAtMost, spot_of};
+ghost use Rattle.pic_boris.specs.Vector.{spot_of};
 
-use crate::limits::halt_above;
+use crate::halt::{Halt, halt_above};
+use crate::moved::Moved;
 use crate::turning::turned_by;
-use crate::vectors::{Vector, rounded_shift, scaled_by, sum_of, widened};
+use crate::vector::{Vector, rounded_shift, scaled_by, sum_of, widened};
 use pic_num::{Axis, Mult, What};
 
 /// The most that a velocity may be in size after half of the kick, in 1/4096 sub-cell per step.
@@ -22,26 +25,9 @@ const SIDE: u128 = 4096;
 /// A velocity is in 1 / 2^12 sub-cell per step.
 const SPEED_BITS: u32 = 12;
 
-/// A particle's new velocity, in 1/4096 sub-cell per step, and its move in sub-cells, which isn't
-/// wrapped yet.
-#[derive(Clone, Copy, Debug, PartialEq, Eq)]
-pub struct Moved {
-    pub v: [i32; 3],
-    pub d: [i32; 3],
-}
-
-/// What stops a push: the first test that fails, the first axis on which it does, and the number
-/// there.
-#[derive(Clone, Copy, Debug, PartialEq, Eq)]
-pub struct Halt {
-    pub what: What,
-    pub axis: Axis,
-    pub value: i128,
-}
-
 /// Pushes a particle of the velocity `v` by the gathered `e` and `b` with its species' multipliers:
-/// half of the electric kick, the turn by the magnetic field, the other half (Boris 1970). Velocities
-/// are in 1/4096 sub-cell per step, moves in sub-cells, turns in units of 1 / 2^20.
+/// half of the electric kick, the turn by the magnetic field, the other half (Boris 1970).
+/// Velocities are in 1/4096 sub-cell per step, moves in sub-cells, turns in units of 1 / 2^20.
 ///
 /// # Errors
 /// `Speed` where a component of the velocity after half of the kick is above 2^40 in size, else

@@ -1,3 +1,5 @@
+//! Worked rows of the push.
+
 use crate::{Halt, Moved, push};
 use pic_num::{Axis, Mult, What};
 

@@ -1,10 +1,13 @@
+//! The turn of a velocity by the magnetic field.
+
 ghost use Rattle.std.specs.Prelude.{◌≡◌, pos, ◌^◌, ◌+ℤ◌, ◌-ℤ◌, ◌*ℤ◌, ◌<ℤ◌, ◌≤ℤ◌};
 ghost use Rattle.pic_num.specs.Push.{cross, dot, half_turned, turned};
 ghost use Rattle.pic_num.specs.Rounding.{rounded};
 ghost use Rattle.pic_num.specs.Sizes.{IsAtMost};
-ghost use Rattle.pic_boris.specs.Vectors.{AreAtMost, spot_of};
+ghost use Rattle.pic_boris.specs.Vector.{spot_of};
+ghost use Rattle.pic_num.specs.Space.{AreAtMost};
 
-use crate::vectors::{Vector, rounded_shift};
+use crate::vector::{Vector, rounded_shift};
 use pic_num::rdiv;
 
 /// A turn is in units of 1 / 2^20.

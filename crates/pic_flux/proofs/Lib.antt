@@ -1,6 +1,5 @@
 pub mod AddsLaws
-pub mod Onlys
-pub mod OneEdge
-pub mod Geometry
-pub mod FluxSizes
-pub mod Fits
+pub mod OnlyLaws
+pub mod EdgeLaws
+pub mod CornerLaws
+pub mod FluxSizeLaws

@@ -1,12 +1,12 @@
-ghost use Rattle.std.specs.Prelude.{ℕ, ◌+◌, ◌*◌, ◌^◌};
+//! The deposition of a segment's flux, and of a track's.
+
+ghost use Rattle.std.specs.Prelude.{ℕ, ◌*◌, ◌^◌, unsigned_abs, take};
 ghost use Rattle.std.specs.List.{All};
-ghost use Rattle.pic_num.specs.declared.axis.Axis.{Axis as AxisName};
-ghost use Rattle.pic_num.specs.Sizes.{IsAtMost};
-ghost use Rattle.pic_num.specs.Space.{along};
 ghost use Rattle.pic_grid.specs.Flux.{flux, path_flux};
 ghost use Rattle.pic_grid.specs.Segment.{IsInCell};
-ghost use Rattle.pic_grid.specs.Block.{IsShaped, AllAtMost};
-ghost use Rattle.pic_flux.specs.Adds.{Adds, IsFit};
+ghost use Rattle.pic_grid.specs.Block.{IsShaped};
+ghost use Rattle.pic_grid.specs.Ways.{GoAtMost};
+ghost use Rattle.pic_flux.specs.Adds.{Adds, SumsBelow, GrowsBy};
 
 use crate::edges::deposit_axis;
 use pic_grid::{Block, Segment, Track};
@@ -14,16 +14,14 @@ use pic_num::Axis;
 
 /// Adds the flux of the charge `q` on a segment to those of the twelve edges of its cell that lie,
 /// unwrapped, in the block's zone, and changes nothing else (Villasenor and Buneman, Comput. Phys.
-/// Commun. 69, 1992, 306). The unit is a twelfth of a charge times a cubic sub-cell. Both ends lie in
-/// the segment's closed cell, and the values have room for the sum.
+/// Commun. 69, 1992, 306). The unit is a twelfth of a charge times a cubic sub-cell. Both ends lie
+/// in the segment's closed cell, and the sums stay below 2^75.
 pub fn deposit(seg: &Segment, q: i32, to: &mut Block)
     requires inside { IsInCell 4096 seg.now }
-    requires charge { IsAtMost q (2 ^ 15) }
-    requires cell { (a : AxisName) → IsAtMost (along a seg.now.cell) (2 ^ 20) }
-    requires room { AllAtMost (2 ^ 100) to.old }
+    requires room { SumsBelow to.old (flux 4096 q seg.now) }
     ensures shape { IsShaped to.old to.new }
     ensures values { Adds to.old to.new (flux 4096 q seg.now) }
-    ensures grows { (n : ℕ) → AllAtMost n to.old → AllAtMost (n + 12 * 2 ^ 51) to.new }
+    ensures grows { GrowsBy (unsigned_abs q * (12 * 4096 ^ 3)) to.old to.new }
 {
     let charge = i64::from(q);
     deposit_axis(seg, charge, Axis::X, to);
@@ -32,14 +30,13 @@ pub fn deposit(seg: &Segment, q: i32, to: &mut Block)
 }
 
 /// Adds the flux of the charge `q` on all segments of a track, each as `deposit` does, and changes
-/// nothing else.
+/// nothing else. What it adds at an edge is bounded by how far the track's segments go along it.
 pub fn deposit_track(track: &Track, q: i32, to: &mut Block)
-    requires fit { All (IsFit 4096) track.now }
-    requires charge { IsAtMost q (2 ^ 15) }
-    requires room { AllAtMost (2 ^ 99) to.old }
+    requires inside { All (IsInCell 4096) track.now }
+    requires room { (k : ℕ) → SumsBelow to.old (path_flux 4096 q (take k track.now)) }
     ensures shape { IsShaped to.old to.new }
     ensures values { Adds to.old to.new (path_flux 4096 q track.now) }
-    ensures grows { (n : ℕ) → AllAtMost n to.old → AllAtMost (n + 12 * 2 ^ 53) to.new }
+    ensures grows { (m : ℕ) → GoAtMost m track.now → GrowsBy (unsigned_abs q * m * (12 * 4096 ^ 2)) to.old to.new }
 {
     let segments = track.segments();
     for seg in segments {

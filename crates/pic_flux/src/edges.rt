@@ -1,5 +1,6 @@
+//! The deposition of a segment's flux along one axis.
+
 ghost use Rattle.std.specs.Prelude.{◌^◌};
-ghost use Rattle.pic_num.specs.declared.axis.Axis.{Axis as AxisName};
 ghost use Rattle.pic_num.specs.Sizes.{IsAtMost};
 ghost use Rattle.pic_num.specs.Space.{spot, along};
 ghost use Rattle.pic_grid.specs.Flux.{flux};
@@ -15,7 +16,7 @@ use pic_num::Axis;
 /// Adds `value` to the edge along `axis` at `cell`, if the zone has that cell.
 #[inline(always)]
 fn add_edge(to: &mut Block, axis: Axis, cell: [i32; 3], value: i128)
-    requires value { IsAtMost value (2 ^ 55) }
+    requires value { IsAtMost value (2 ^ 71) }
     requires room { AllAtMost (2 ^ 120) to.old }
     ensures shape { IsShaped to.old to.new }
     ensures values { Adds to.old to.new (at_edge axis (spot cell) value) }
@@ -29,8 +30,8 @@ fn add_edge(to: &mut Block, axis: Axis, cell: [i32; 3], value: i128)
 #[inline(always)]
 fn add_pair(to: &mut Block, axis: Axis, other: Axis, cell: [i32; 3], low: i128, high: i128)
     requires cell { IsAtMost (along other (spot cell)) (2 ^ 20) }
-    requires low { IsAtMost low (2 ^ 55) }
-    requires high { IsAtMost high (2 ^ 55) }
+    requires low { IsAtMost low (2 ^ 71) }
+    requires high { IsAtMost high (2 ^ 71) }
     requires room { AllAtMost (2 ^ 119) to.old }
     ensures shape { IsShaped to.old to.new }
     ensures values { Adds to.old to.new (both (at_edge axis (spot cell) low) (at_edge axis (raised other (spot cell)) high)) }
@@ -43,8 +44,7 @@ fn add_pair(to: &mut Block, axis: Axis, other: Axis, cell: [i32; 3], low: i128, 
 #[inline(always)]
 pub fn deposit_axis(seg: &Segment, q: i64, axis: Axis, to: &mut Block)
     requires inside { IsInCell 4096 seg.now }
-    requires charge { IsAtMost q (2 ^ 15) }
-    requires cell { (a : AxisName) → IsAtMost (along a seg.now.cell) (2 ^ 20) }
+    requires charge { IsAtMost q (2 ^ 31) }
     requires room { AllAtMost (2 ^ 110) to.old }
     ensures shape { IsShaped to.old to.new }
     ensures values { Adds to.old to.new (on_axis axis (flux 4096 q seg.now axis)) }
@@ -52,13 +52,13 @@ pub fn deposit_axis(seg: &Segment, q: i64, axis: Axis, to: &mut Block)
     if way(seg, axis) == 0 {
         return;
     }
+    let low_low = corner(seg, q, axis, false, false);
+    let high_low = corner(seg, q, axis, true, false);
+    let low_high = corner(seg, q, axis, false, true);
+    let high_high = corner(seg, q, axis, true, true);
     let second = axis.next();
     let low = seg.cell;
     let high = raised(second.next(), low);
-    let low_low = corner(seg, q, axis, false, false);
-    let high_low = corner(seg, q, axis, true, false);
     add_pair(to, axis, second, low, low_low, high_low);
-    let low_high = corner(seg, q, axis, false, true);
-    let high_high = corner(seg, q, axis, true, true);
     add_pair(to, axis, second, high, low_high, high_high);
 }

@@ -1,9 +1,11 @@
+//! Worked rows of the deposition.
+
 ghost use Rattle.std.specs.Prelude.{◌^◌, IsTrue, IfOk};
 ghost use Rattle.pic_num.specs.Sizes.{IsAtMost};
-ghost use Rattle.pic_num.specs.Space.{along};
-ghost use Rattle.pic_grid.specs.Segment.{IsInside};
-ghost use Rattle.pic_grid.specs.Block.{AllAtMost};
-ghost use Rattle.pic_flux.specs.Adds.{IsFit};
+ghost use Rattle.pic_num.specs.Space.{along, spot, triple};
+ghost use Rattle.std.specs.List.{All};
+ghost use Rattle.pic_grid.specs.Segment.{IsInside, IsInCell};
+ghost use Rattle.pic_grid.specs.Block.{AllAtMost, IsZone};
 
 use crate::weights::along;
 use crate::{deposit, deposit_track};
@@ -16,27 +18,25 @@ type Edge = (Axis, [i32; 3], i128);
 
 const AXES: [Axis; 3] = [Axis::X, Axis::Y, Axis::Z];
 
-/// A block of zeros with the 4 by 4 by 4 cells from (-1, -1, -1) on.
-fn zeros(alloc: Global) -> Result<Block, NoMemory>
+/// The 4 by 4 by 4 cells from (-1, -1, -1) on.
+const AROUND: Zone = Zone {
+    low: [-1; 3],
+    size: [4; 3],
+};
+
+/// A block of zeros.
+fn zeros(alloc: Global, zone: Zone) -> Result<Block, NoMemory>
+    requires { IsZone (spot zone.low) (triple zone.size) }
     ensures { IfOk result (AllAtMost 0) }
 {
-    let zone = Zone {
-        low: [-1; 3],
-        size: [4; 3],
-    };
     Block::new(alloc, zone)
 }
 
-/// Whether the coordinate `p` lies in the closed cell `c`, one that may be deposited in.
+/// Whether the coordinate `p` lies in the closed cell `c`.
 fn is_inside(c: i32, p: i32) -> bool
-    ensures inside { IsTrue result → IsInside 4096 c p }
-    ensures cell { IsTrue result → IsAtMost c (2 ^ 20) }
+    ensures { IsTrue result → IsInside 4096 c p }
 {
-    let low = i64::from(c) * 4096;
-    let above = i64::from(p) - low;
-    if c.unsigned_abs() > 1 << 20 {
-        return false;
-    }
+    let above = i64::from(p) - i64::from(c) * 4096;
     if above < 0 {
         return false;
     }
@@ -46,21 +46,39 @@ fn is_inside(c: i32, p: i32) -> bool
     true
 }
 
-/// Whether a segment may be deposited, tested at one axis.
-fn is_fit_on(seg: &Segment, axis: Axis) -> bool
+/// Whether both ends of a segment lie in its closed cell, on one axis.
+fn is_inside_on(seg: &Segment, axis: Axis) -> bool
     ensures from { IsTrue result → IsInside 4096 (along axis seg.now.cell) (along axis seg.now.from) }
     ensures to { IsTrue result → IsInside 4096 (along axis seg.now.cell) (along axis seg.now.to) }
-    ensures cell { IsTrue result → IsAtMost (along axis seg.now.cell) (2 ^ 20) }
 {
     let c = along(axis, seg.cell);
     is_inside(c, along(axis, seg.from)) && is_inside(c, along(axis, seg.to))
 }
 
-/// Whether a segment may be deposited.
-fn is_fit(seg: &Segment) -> bool
-    ensures { IsTrue result → IsFit 4096 seg.now }
+/// Whether both ends of a segment lie in its closed cell.
+fn is_in_cell(seg: &Segment) -> bool
+    ensures { IsTrue result → IsInCell 4096 seg.now }
 {
-    is_fit_on(seg, Axis::X) && is_fit_on(seg, Axis::Y) && is_fit_on(seg, Axis::Z)
+    is_inside_on(seg, Axis::X) && is_inside_on(seg, Axis::Y) && is_inside_on(seg, Axis::Z)
+}
+
+/// Deposits a segment of a deck's charge in a block of zeros.
+fn deposit_first(seg: &Segment, q: i32, to: &mut Block)
+    requires inside { IsInCell 4096 seg.now }
+    requires charge { IsAtMost q (2 ^ 15) }
+    requires zeros { AllAtMost 0 to.old }
+{
+    deposit(seg, q, to);
+}
+
+/// Deposits a track of a deck's charge in a block of zeros.
+fn deposit_first_track(track: &Track, q: i32, to: &mut Block)
+    requires inside { All (IsInCell 4096) track.now }
+    requires charge { IsAtMost q (2 ^ 15) }
+    requires zeros { AllAtMost 0 to.old }
+{
+    let _segments = track.segments();
+    deposit_track(track, q, to);
 }
 
 /// The value at an edge, or 0 outside the zone.
@@ -153,10 +171,10 @@ fn a_segment_adds_its_flux_and_nothing_else(rt: HostRuntime) -> Result<(), NoMem
         (down, 1, &[(Axis::X, [1, 0, 0], -824633720832)]),
     ];
     for (seg, q, edges) in cases {
-        let mut block = zeros(rt.alloc())?;
-        assert!(rt; is_fit(&seg));
+        let mut block = zeros(rt.alloc(), AROUND)?;
+        assert!(rt; is_in_cell(&seg));
         assert!(rt; q.unsigned_abs() <= 1 << 15);
-        deposit(&seg, q, &mut block);
+        deposit_first(&seg, q, &mut block);
         assert_holds(&rt, &block, edges);
     }
     Ok(())
@@ -173,9 +191,9 @@ fn a_zone_gets_only_its_own_edges(rt: HostRuntime) -> Result<(), NoMemory> {
         low: [0, 1, 0],
         size: [1; 3],
     };
-    let mut block = Block::new(rt.alloc(), zone)?;
-    assert!(rt; is_fit(&seg));
-    deposit(&seg, 1, &mut block);
+    let mut block = zeros(rt.alloc(), zone)?;
+    assert!(rt; is_in_cell(&seg));
+    deposit_first(&seg, 1, &mut block);
     let edges = [
         (Axis::X, [0, 1, 0], 68719476736),
         (Axis::Z, [0, 1, 0], 68719476736),
@@ -196,11 +214,11 @@ fn a_track_adds_the_flux_of_its_segments(rt: HostRuntime) -> Result<(), NoMemory
         to: [-100, 0, 0],
         cell: [-1, 0, 0],
     };
-    let mut block = zeros(rt.alloc())?;
-    assert!(rt; is_fit(&upper));
-    assert!(rt; is_fit(&lower));
+    let mut block = zeros(rt.alloc(), AROUND)?;
+    assert!(rt; is_in_cell(&upper));
+    assert!(rt; is_in_cell(&lower));
     let track = Track::new([upper, lower, lower, lower], 2);
-    deposit_track(&track, 1, &mut block);
+    deposit_first_track(&track, 1, &mut block);
     let edges = [
         (Axis::X, [0, 0, 0], -20132659200),
         (Axis::X, [-1, 0, 0], -20132659200),

@@ -1,7 +1,9 @@
-ghost use Rattle.std.specs.Prelude.{◌≡◌, ◌^◌, ◌-ℤ◌};
+//! A segment's weights for the edges of its cell, and its flux through them.
+
+ghost use Rattle.std.specs.Prelude.{◌≡◌, ◌^◌, ◌-ℤ◌, ◌*ℤ◌};
 ghost use Rattle.pic_num.specs.Flux.{simpson};
 ghost use Rattle.pic_num.specs.Sizes.{IsAtMost};
-ghost use Rattle.pic_num.specs.Space.{spot, along};
+ghost use Rattle.pic_num.specs.Space.{spot, along, next_axis};
 ghost use Rattle.pic_grid.specs.Segment.{IsInside, IsInCell};
 ghost use Rattle.pic_flux.specs.Corners.{face_weight, corner, raised};
 
@@ -44,6 +46,7 @@ fn face_weight(c: i32, p: i32, high: bool) -> i64
     requires { IsInside 4096 c p }
     ensures value { result ≡ face_weight 4096 high c p }
     ensures size { IsAtMost result 4096 }
+    ensures cell { IsAtMost c (2 ^ 20) }
 {
     let above = i64::from(p) - i64::from(c) * SIDE;
     if high { above } else { SIDE - above }
@@ -55,6 +58,7 @@ fn weight_from(seg: &Segment, axis: Axis, high: bool) -> i64
     requires { IsInCell 4096 seg.now }
     ensures value { result ≡ face_weight 4096 high (along axis seg.now.cell) (along axis seg.now.from) }
     ensures size { IsAtMost result 4096 }
+    ensures cell { IsAtMost (along axis seg.now.cell) (2 ^ 20) }
 {
     face_weight(along(axis, seg.cell), along(axis, seg.from), high)
 }
@@ -79,20 +83,32 @@ pub fn way(seg: &Segment, axis: Axis) -> i64
     i64::from(along(axis, seg.to)) - i64::from(along(axis, seg.from))
 }
 
+/// The product of a charge's way and the weights.
+#[inline(always)]
+fn wide_product(way: i64, weights: i64) -> i128
+    requires way { IsAtMost way (2 ^ 43) }
+    requires weights { IsAtMost weights (2 ^ 28) }
+    ensures value { result ≡ way *ℤ weights }
+    ensures size { IsAtMost result (2 ^ 71) }
+{
+    i128::from(way) * i128::from(weights)
+}
+
 /// The flux of Villasenor and Buneman, 12 times: the charge times the way, times the mean weights and
 /// the correction for how they change together.
 #[inline(always)]
-fn through(q: i64, way: i64, a0: i64, a1: i64, b0: i64, b1: i64) -> i64
-    requires q { IsAtMost q (2 ^ 15) }
+fn through(q: i64, way: i64, a0: i64, a1: i64, b0: i64, b1: i64) -> i128
+    requires q { IsAtMost q (2 ^ 31) }
     requires way { IsAtMost way 4096 }
     requires a0 { IsAtMost a0 4096 }
     requires a1 { IsAtMost a1 4096 }
     requires b0 { IsAtMost b0 4096 }
     requires b1 { IsAtMost b1 4096 }
     ensures value { result ≡ simpson q way a0 a1 b0 b1 }
-    ensures size { IsAtMost result (2 ^ 55) }
+    ensures size { IsAtMost result (2 ^ 71) }
 {
-    q * way * (3 * (a0 + a1) * (b0 + b1) + (a1 - a0) * (b1 - b0))
+    let weights = 3 * (a0 + a1) * (b0 + b1) + (a1 - a0) * (b1 - b0);
+    wide_product(q * way, weights)
 }
 
 /// The flux of the charge `q` on a segment through the edge along `axis` at one corner of its cell:
@@ -100,9 +116,11 @@ fn through(q: i64, way: i64, a0: i64, a1: i64, b0: i64, b1: i64) -> i64
 #[inline(always)]
 pub fn corner(seg: &Segment, q: i64, axis: Axis, high_second: bool, high_third: bool) -> i128
     requires inside { IsInCell 4096 seg.now }
-    requires charge { IsAtMost q (2 ^ 15) }
+    requires charge { IsAtMost q (2 ^ 31) }
     ensures value { result ≡ corner 4096 q seg.now axis high_second high_third }
-    ensures size { IsAtMost result (2 ^ 55) }
+    ensures second { IsAtMost (along (next_axis axis) seg.now.cell) (2 ^ 20) }
+    ensures third { IsAtMost (along (next_axis (next_axis axis)) seg.now.cell) (2 ^ 20) }
+    ensures size { IsAtMost result (2 ^ 71) }
 {
     let second = axis.next();
     let third = second.next();
@@ -110,5 +128,5 @@ pub fn corner(seg: &Segment, q: i64, axis: Axis, high_second: bool, high_third: 
     let a1 = weight_to(seg, second, high_second);
     let b0 = weight_from(seg, third, high_third);
     let b1 = weight_to(seg, third, high_third);
-    i128::from(through(q, way(seg, axis), a0, a1, b0, b1))
+    through(q, way(seg, axis), a0, a1, b0, b1)
 }

@@ -1,6 +1,7 @@
 pub mod CellLaws
 pub mod LatticeLaws
 pub mod BlockLaws
+pub mod ShapeLaws
 pub mod PartLaws
 pub mod DifferenceLaws
 pub mod SumLaws
@@ -10,6 +11,7 @@ pub mod PathLaws
 pub mod TwoHatLaws
 pub mod SlowSums
 pub mod WeightLaws
+pub mod FluxLaws
 mod DifferenceRows
 mod GridRows
 mod PhaseRows

@@ -14,3 +14,4 @@ pub mod Path
 pub mod Flux
 pub mod PushPhase
 pub mod Current
+pub mod Ways

@@ -9,7 +9,7 @@ use Rattle.pic_grid.specs.Flux.{path_flux}
 use Rattle.pic_grid.specs.Hat.{weight, HasTwo, IsInBox}
 use Rattle.pic_grid.specs.Path.{path, point_of}
 use Rattle.pic_grid.specs.Cells.{IsWithin}
-use Rattle.pic_split.specs.Moves.{IsMove, wrapped_point}
+use Rattle.pic_split.specs.Move.{IsMove, wrapped_point}
 
 -- A particle of charge q moves from a position of the box by d, at most the side of a cell on each
 -- axis, and is wrapped into the box again. At every node the divergence of its path's current is

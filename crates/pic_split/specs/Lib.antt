@@ -1,6 +1,5 @@
-pub mod Crossings
-pub mod Moves
-pub mod Sizes
-pub mod Ways
+pub mod Face
+pub mod Faces
+pub mod Move
 pub mod Continuity
 pub mod CrossingsInOrder

@@ -1,37 +1,29 @@
+//! The path of a particle, cut at the faces that it passes.
+
 ghost use Rattle.std.specs.Prelude.{◌≡◌, ℕ, pos, ◌+◌, ◌-◌, ◌^◌, ◌<◌, length, slice_index, EachIndex};
 ghost use Rattle.std.specs.List.{All};
 ghost use Rattle.pic_num.specs.Push.{plus};
-ghost use Rattle.pic_num.specs.Space.{triple, spot};
+ghost use Rattle.pic_num.specs.Space.{triple, spot, AreAtMost};
 ghost use Rattle.pic_grid.specs.Path.{point_of, floor_cell, walk, path};
-ghost use Rattle.pic_grid.specs.Segment.{Leads};
-ghost use Rattle.pic_split.specs.Crossings.{list_of};
-ghost use Rattle.pic_split.specs.Sizes.{AreAtMost, IsSmall};
-ghost use Rattle.pic_split.specs.Moves.{IsMove};
+ghost use Rattle.pic_split.specs.Faces.{list_of};
+ghost use Rattle.pic_split.specs.Face.{IsSmall};
+ghost use Rattle.pic_split.specs.Move.{IsMove, LeadBy};
 
-use crate::faces::{break_at, cell_after, cell_of, end_on};
-use crate::order::{Faces, crossings};
+use crate::face::{break_at, cell_after, cell_of, end_on};
+use crate::faces::{Faces, crossings};
 use pic_grid::{Segment, Track};
+use pic_num::unwrapped;
 
-/// The path of a particle from `p0` by the move `d`, cut where it passes from one cell into another;
-/// in sub-cells, a cell's side being 4096. Nothing is wrapped.
+/// The path of a particle from `p0` by the move `d`, cut where it passes from one cell into
+/// another; in sub-cells, a cell's side being 4096. Nothing is wrapped.
 pub fn split(p0: [u32; 3], d: [i32; 3]) -> Track
     requires start { EachIndex p0 (λ k. slice_index p0 k < 2 ^ 30) }
     requires small { IsMove 4096 (spot d) }
     ensures value { result ≡ path 4096 (point_of (triple p0)) (spot d) }
-    ensures leads { Leads 4096 (floor_cell 4096 (point_of (triple p0))) (floor_cell 4096 (plus (point_of (triple p0)) (spot d))) (point_of (triple p0)) result (plus (point_of (triple p0)) (spot d)) }
+    ensures leads { LeadBy 4096 (point_of (triple p0)) (spot d) result }
 {
-    let p = signed(p0);
+    let p = unwrapped(p0);
     cut(p, d, end_of(p, d), cell(p), crossings(p, d))
-}
-
-/// A position as a point that isn't wrapped.
-fn signed(p0: [u32; 3]) -> [i32; 3]
-    requires { EachIndex p0 (λ k. slice_index p0 k < 2 ^ 30) }
-    ensures value { spot result ≡ point_of (triple p0) }
-    ensures size { AreAtMost (spot result) (2 ^ 30 - 1) }
-{
-    let [x, y, z] = p0;
-    [x as i32, y as i32, z as i32]
 }
 
 /// The end of the path from `p` by `d`.

@@ -1,7 +1,7 @@
 use Rattle.std.proofs.Common.{subst, sym}
-use Rattle.pic_num.specs.Space.{Spot}
-use Rattle.pic_boris.specs.Vectors.{AreAtMost, IsKeptVelocity, spot_of}
-use Rattle.pic_boris.proofs.Moves.{kept_velocity, kept_sizes}
+use Rattle.pic_num.specs.Space.{Spot, AreAtMost}
+use Rattle.pic_boris.specs.Vector.{IsKeptVelocity, spot_of}
+use Rattle.pic_boris.proofs.MoveLaws.{kept_velocity, kept_sizes}
 use Rattle.pic_boris.proofs.pushing.arrived.Goals as goal
 
 pub narrowed-requires : goal.narrowed-requires

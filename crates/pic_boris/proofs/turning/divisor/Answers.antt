@@ -9,7 +9,8 @@ use Rattle.pic_boris.proofs.turning.divisor.Goals as goal
 
 -- the sum, with its casts left out
 sum_is : (a b d : ℤ) → IsAtMost a (2 ^ 48) → IsAtMost b (2 ^ 48) → IsAtMost d (2 ^ 48)
-    → to_z w128 (of_z w128 (pos 1099511627776 +ℤ to_z w128 (of_z w128 (to_z w128 (of_z w128 (to_z w128 (of_z w128 a) +ℤ to_z w128 (of_z w128 b))) +ℤ to_z w128 (of_z w128 d)))))
+    → to_z w128 (of_z w128 (pos 1099511627776 +ℤ to_z w128
+    (of_z w128 (to_z w128 (of_z w128 (to_z w128 (of_z w128 a) +ℤ to_z w128 (of_z w128 b))) +ℤ to_z w128 (of_z w128 d)))))
     ≡ pos (2 ^ 40) +ℤ (a +ℤ b +ℤ d)
 sum_is a b d h k l = code_is (search codes depth 18) tt
 

@@ -1,5 +1,7 @@
-use Rattle.std.proofs.Common.{◌≡◌, ℕ, ◌^◌, ◌+◌, ◌*◌, ℤ, to_z, of_z, ap, subst, ◌∙◌, arith}
+use Rattle.std.proofs.Common.{◌≡◌, ℕ, ◌^◌, ◌+◌, ◌*◌, ◌≤◌, ℤ, unsigned_abs, to_z, of_z, ap, subst, ◌∙◌, arith}
 use mir.Syntax.{w32, w64}
+use mir.Val.{SFits}
+use Rattle.std.proofs.lemmas.Int.{ints, to_z-of_z}
 use Rattle.pic_num.specs.declared.axis.Axis.{Axis}
 use Rattle.pic_num.specs.declared.axis.Axis.TheVariants.{X, Y, Z}
 use Rattle.pic_num.specs.Sizes.{IsAtMost}
@@ -7,55 +9,79 @@ use Rattle.pic_num.proofs.SizeLaws.{codes, code_is}
 use Rattle.pic_grid.specs.Flux.{flux}
 use Rattle.pic_grid.specs.Segment.{Piece, IsInCell}
 use Rattle.pic_grid.specs.Block.{BlockValues, IsShaped, AllAtMost}
-use Rattle.pic_flux.specs.Adds.{Adds}
+use Rattle.pic_grid.proofs.BlockLaws.{shaped_twice, all_at_most_more}
+use Rattle.pic_flux.specs.Adds.{Adds, flux_limit}
 use Rattle.pic_flux.specs.Corners.{on_axis}
-use Rattle.pic_flux.proofs.AddsLaws.{shaped_twice, adds_grow, all_at_most_more}
-use Rattle.pic_flux.proofs.FluxSizes.{flux_most, on_axis_most}
-use Rattle.pic_flux.proofs.Geometry.{three_added}
+use Rattle.pic_flux.proofs.AddsLaws.{adds_grow, room_before}
+use Rattle.pic_flux.proofs.FluxSizeLaws.{flux_most, on_axis_most}
+use Rattle.pic_flux.proofs.CornerLaws.{three_added}
 use Rattle.pic_flux.proofs.deposits.deposit.Goals as goal
+use Rattle.pic_flux.proofs.deposits.deposit.Goals.{After-from-charge, After-deposit_axis, After-deposit_axis-2}
+
+small : (q : ℤ) → SFits w32 q → IsAtMost q (2 ^ 31)
+small q fits = record { size = omega (arith, ints, fits.sfits) }
 
 -- the charge as the code passes it on
-passed : (q r : ℤ) → IsAtMost q (2 ^ 15) → r ≡ to_z w32 (of_z w32 q) → to_z w64 (of_z w64 r) ≡ q
+passed : (q r : ℤ) → SFits w32 q → r ≡ to_z w32 (of_z w32 q) → to_z w64 (of_z w64 r) ≡ q
 passed q r h e =
-    let held : to_z w32 (of_z w32 q) ≡ q = code_is (search codes depth 4) tt in
+    let size = small q h in
     let widened : to_z w64 (of_z w64 q) ≡ q = code_is (search codes depth 4) tt in
-    ap (λ (z : ℤ). to_z w64 (of_z w64 z)) (e ∙ held) ∙ widened
+    ap (λ (z : ℤ). to_z w64 (of_z w64 z)) (e ∙ to_z-of_z w32 q h) ∙ widened
 
--- what is added along one axis, by the charge that was given
-along_axis : (old now : BlockValues) (q r : ℤ) (s : Piece) (axis : Axis) → r ≡ q → Adds old now (on_axis axis (flux 4096 r s axis))
-    → Adds old now (on_axis axis (flux 4096 q s axis))
-along_axis old now q r s axis e h = subst (λ (p : ℤ). Adds old now (on_axis axis (flux 4096 p s axis))) e h
+most : (q : ℤ) → SFits w32 q → unsigned_abs q * (12 * 4096 ^ 3) ≤ 2 ^ 72
+most q fits = let h = (small q fits).size in omega (arith, h)
 
--- and how far the values may have grown by it
-room_after : (old now : BlockValues) (q : ℤ) (s : Piece) (axis : Axis) (n : ℕ) → IsAtMost q (2 ^ 15) → IsInCell 4096 s → IsShaped old now
-    → Adds old now (on_axis axis (flux 4096 q s axis)) → AllAtMost n old → AllAtMost (n + 12 * 2 ^ 51) now
-room_after old now q s axis n charge inside shape added room =
-    adds_grow old now (on_axis axis (flux 4096 q s axis)) n (12 * 2 ^ 51) shape added (on_axis_most q s axis charge inside) room
+-- what a deposit along one axis adds, by the charge that was given, and how far values may grow by it
+record Along (old now : BlockValues) (q : ℤ) (s : Piece) (axis : Axis) : Type 0 where
+  shape : IsShaped old now
+  added : Adds old now (on_axis axis (flux 4096 q s axis))
+  grown : (n : ℕ) → AllAtMost n old → AllAtMost (n + 2 ^ 72) now
+
+along : (old now : BlockValues) (q r : ℤ) (s : Piece) (axis : Axis) → SFits w32 q → r ≡ q → IsInCell 4096 s → IsShaped old now
+    → Adds old now (on_axis axis (flux 4096 r s axis)) → Along old now q s axis
+along old now q r s axis fits e inside shape h =
+    let added = subst (λ (p : ℤ). Adds old now (on_axis axis (flux 4096 p s axis))) e h in
+    record {
+      shape = shape;
+      added = added;
+      grown = λ n room.
+          let grow = adds_grow old now (on_axis axis (flux 4096 q s axis)) n (unsigned_abs q * (12 * 4096 ^ 3)) shape added
+          (on_axis_most q s axis inside) room in
+          all_at_most_more now (n + unsigned_abs q * (12 * 4096 ^ 3)) (n + 2 ^ 72) (omega (arith, most q fits)) grow;
+    }
+
+along_x : (c : After-deposit_axis) → Along c.args.to.now c.deposit_axis.new.to c.args.q c.args.seg.now X
+along_x c =
+    along _ _ c.args.q _ c.args.seg.now X c.ranges.q (passed c.args.q c.from-charge.result c.ranges.q c.from-charge.ensures)
+    c.requires.inside c.deposit_axis.ensures.shape c.deposit_axis.ensures.values
+
+room_at : (c : After-from-charge) → AllAtMost (2 ^ 80) c.args.to.now
+room_at c =
+    all_at_most_more c.args.to.now (flux_limit + unsigned_abs c.args.q * (12 * 4096 ^ 3)) (2 ^ 80) (omega (arith, most c.args.q c.ranges.q))
+    (room_before c.args.to.now (flux 4096 c.args.q c.args.seg.now) (unsigned_abs c.args.q * (12 * 4096 ^ 3))
+    (flux_most c.args.q c.args.seg.now c.requires.inside) c.requires.room)
+
+along_y : (c : After-deposit_axis-2) → Along c.deposit_axis.new.to c.deposit_axis-2.new.to c.args.q c.args.seg.now Y
+along_y c =
+    along _ _ c.args.q _ c.args.seg.now Y c.ranges.q (passed c.args.q c.from-charge.result c.ranges.q c.from-charge.ensures)
+    c.requires.inside c.deposit_axis-2.ensures.shape c.deposit_axis-2.ensures.values
+
+pub deposit_axis-requires-clause-room : goal.deposit_axis-requires-clause-room
+deposit_axis-requires-clause-room c =
+    all_at_most_more c.args.to.now (2 ^ 80) (2 ^ 110) (omega arith) (room_at (goal.at.deposit_axis-requires-clause-room c).After-from-charge)
 
 pub deposit_axis-requires-2-clause-room : goal.deposit_axis-requires-2-clause-room
 deposit_axis-requires-2-clause-room c =
-    let old = c.args.to.now in
-    let x = c.deposit_axis.new.to in
-    let s = c.args.seg.now in
-    let q = c.args.q in
-    let charge = passed q c.from-charge.result c.requires.charge c.from-charge.ensures in
-    let on_x = along_axis old x q _ s X charge c.deposit_axis.ensures.values in
-    all_at_most_more x (2 ^ 100 + 12 * 2 ^ 51) (2 ^ 110) (omega arith)
-    (room_after old x q s X (2 ^ 100) c.requires.charge c.requires.inside c.deposit_axis.ensures.shape on_x c.requires.room)
+    all_at_most_more c.deposit_axis.new.to (2 ^ 80 + 2 ^ 72) (2 ^ 110) (omega arith)
+    ((along_x (goal.at.deposit_axis-requires-2-clause-room c).After-deposit_axis).grown (2 ^ 80)
+    (room_at (goal.at.deposit_axis-requires-2-clause-room c).After-from-charge))
 
 pub deposit_axis-requires-3-clause-room : goal.deposit_axis-requires-3-clause-room
 deposit_axis-requires-3-clause-room c =
-    let old = c.args.to.now in
-    let x = c.deposit_axis.new.to in
-    let y = c.deposit_axis-2.new.to in
-    let s = c.args.seg.now in
-    let q = c.args.q in
-    let charge = passed q c.from-charge.result c.requires.charge c.from-charge.ensures in
-    let on_x = along_axis old x q _ s X charge c.deposit_axis.ensures.values in
-    let on_y = along_axis x y q _ s Y charge c.deposit_axis-2.ensures.values in
-    let room = room_after old x q s X (2 ^ 100) c.requires.charge c.requires.inside c.deposit_axis.ensures.shape on_x c.requires.room in
-    all_at_most_more y (2 ^ 100 + 12 * 2 ^ 51 + 12 * 2 ^ 51) (2 ^ 110) (omega arith)
-    (room_after x y q s Y (2 ^ 100 + 12 * 2 ^ 51) c.requires.charge c.requires.inside c.deposit_axis-2.ensures.shape on_y room)
+    let x = (along_x (goal.at.deposit_axis-requires-3-clause-room c).After-deposit_axis).grown (2 ^ 80)
+    (room_at (goal.at.deposit_axis-requires-3-clause-room c).After-from-charge) in
+    all_at_most_more c.deposit_axis-2.new.to (2 ^ 80 + 2 ^ 72 + 2 ^ 72) (2 ^ 110) (omega arith)
+    ((along_y (goal.at.deposit_axis-requires-3-clause-room c).After-deposit_axis-2).grown (2 ^ 80 + 2 ^ 72) x)
 
 pub returns : goal.returns
 returns c =
@@ -65,15 +91,14 @@ returns c =
     let now = c.deposit_axis-3.new.to in
     let s = c.args.seg.now in
     let q = c.args.q in
-    let charge = passed q c.from-charge.result c.requires.charge c.from-charge.ensures in
-    let on_x = along_axis old x q _ s X charge c.deposit_axis.ensures.values in
-    let on_y = along_axis x y q _ s Y charge c.deposit_axis-2.ensures.values in
-    let on_z = along_axis y now q _ s Z charge c.deposit_axis-3.ensures.values in
-    let upto_y = shaped_twice old x y c.deposit_axis.ensures.shape c.deposit_axis-2.ensures.shape in
-    let shape = shaped_twice old y now upto_y c.deposit_axis-3.ensures.shape in
-    let values = three_added (flux 4096 q s) old x y now c.deposit_axis.ensures.shape c.deposit_axis-2.ensures.shape on_x on_y on_z in
+    let on_x = along_x (goal.at.returns c).After-deposit_axis in
+    let on_y = along_y (goal.at.returns c).After-deposit_axis-2 in
+    let on_z = along y now q _ s Z c.ranges.q (passed q c.from-charge.result c.ranges.q c.from-charge.ensures)
+    c.requires.inside c.deposit_axis-3.ensures.shape c.deposit_axis-3.ensures.values in
+    let shape = shaped_twice old y now (shaped_twice old x y on_x.shape on_y.shape) on_z.shape in
+    let values = three_added (flux 4096 q s) old x y now on_x.shape on_y.shape on_x.added on_y.added on_z.added in
     record {
       shape = shape;
       values = values;
-      grows = λ n room. adds_grow old now (flux 4096 q s) n (12 * 2 ^ 51) shape values (flux_most q s c.requires.charge c.requires.inside) room;
+      grows = λ n room. adds_grow old now (flux 4096 q s) n (unsigned_abs q * (12 * 4096 ^ 3)) shape values (flux_most q s c.requires.inside) room;
     }

@@ -1,14 +1,17 @@
-use Rattle.std.proofs.Common.{◌≡◌, ◌^◌, ◌+◌, ◌*◌, ℤ, length, to_z, of_z, ap, subst, ◌∙◌, arith}
+use Rattle.std.proofs.Common.{◌≡◌, ℤ, to_z, of_z, ap, subst, sym, ◌∙◌, ◌+◌, take, length, arith}
 use mir.Syntax.{w32}
 use Rattle.std.proofs.lemmas.Int.{to_z-of_z}
 use Rattle.std.proofs.lemmas.List.{take_all}
 use Rattle.pic_num.specs.declared.axis.Axis.{Axis}
 use Rattle.pic_num.specs.Space.{Spot}
+use Rattle.std.specs.Prelude.{List}
 use Rattle.pic_grid.specs.Flux.{flux, path_flux}
 use Rattle.pic_grid.specs.Segment.{Piece}
-use Rattle.pic_flux.specs.Adds.{Adds}
-use Rattle.pic_flux.proofs.AddsLaws.{shaped_same, shaped_twice, adds_start, adds_more, adds_grow, all_at_most_more}
-use Rattle.pic_flux.proofs.FluxSizes.{path_flux_most}
+use Rattle.pic_grid.proofs.FluxLaws.{path_flux_most}
+use Rattle.pic_grid.proofs.BlockLaws.{shaped_twice}
+use Rattle.pic_grid.proofs.ShapeLaws.{shaped_same}
+use Rattle.pic_flux.specs.Adds.{Adds, SumsBelow}
+use Rattle.pic_flux.proofs.AddsLaws.{adds_start, adds_more, adds_grow, room_next}
 use Rattle.pic_flux.proofs.deposits.deposit_track.Goals as goal
 
 pub loop-seg-init : goal.loop-seg-init
@@ -16,15 +19,22 @@ unfolding path_flux
 loop-seg-init c = record {
   shape = shaped_same c.args.to.now;
   values = adds_start c.args.to.now (flux 4096 (to_z w32 (of_z w32 c.args.q))) c.segments-segments.result.now;
-  room = all_at_most_more c.args.to.now (2 ^ 99) (2 ^ 99 + 0 * (12 * 2 ^ 51)) (omega arith) c.requires.room;
 }
 
 pub deposit-requires-clause-room : goal.deposit-requires-clause-room
+unfolding path_flux
 deposit-requires-clause-room c =
+    let old = c.args.to.now in
+    let q = to_z w32 (of_z w32 c.args.q) in
     let i = c.loop-seg.seg-index in
-    let size = ap length c.segments-segments.ensures.value in
-    let most = c.segments-segments.ensures.most in
-    all_at_most_more c.loop-seg.to (2 ^ 99 + i * (12 * 2 ^ 51)) (2 ^ 100) (omega arith) c.loop-seg.invariant.room
+    let segments = c.segments-segments.result.now in
+    let charge : q ≡ c.args.q = to_z-of_z w32 c.args.q c.ranges.q in
+    let room : SumsBelow old (path_flux 4096 q (take (i + 1) segments)) =
+    subst (λ (f : Axis → Spot → ℤ). SumsBelow old f)
+    (sym (λ j. path_flux 4096 (charge j) (take (i + 1) (c.segments-segments.ensures.value j)))) (c.requires.room (i + 1)) in
+    subst (λ (s : Piece). SumsBelow c.loop-seg.to (flux 4096 q s)) (sym c.seg-item.is)
+    (room_next old c.loop-seg.to (flux 4096 q) segments i c.seg-item.result c.loop-seg-test.true
+    c.loop-seg.invariant.shape c.loop-seg.invariant.values room)
 
 pub loop-seg-preserved : goal.loop-seg-preserved
 unfolding path_flux
@@ -32,14 +42,13 @@ loop-seg-preserved c =
     let old = c.args.to.now in
     let mid = c.loop-seg.to in
     let now = c.deposit.new.to in
-    let i = c.loop-seg.seg-index in
     let q = to_z w32 (of_z w32 c.args.q) in
     let segments = c.segments-segments.result.now in
     let added = subst (λ (s : Piece). Adds mid now (flux 4096 q s)) c.seg-item.is c.deposit.ensures.values in
     record {
       shape = shaped_twice old mid now c.loop-seg.invariant.shape c.deposit.ensures.shape;
-      values = adds_more old mid now (flux 4096 q) segments i c.seg-item.result c.loop-seg-test.true c.loop-seg.invariant.shape c.loop-seg.invariant.values added;
-      room = all_at_most_more now (2 ^ 99 + i * (12 * 2 ^ 51) + 12 * 2 ^ 51) (2 ^ 99 + (i + 1) * (12 * 2 ^ 51)) (omega arith) (c.deposit.ensures.grows (2 ^ 99 + i * (12 * 2 ^ 51)) c.loop-seg.invariant.room);
+      values = adds_more old mid now (flux 4096 q) segments c.loop-seg.seg-index c.seg-item.result
+          c.loop-seg-test.true c.loop-seg.invariant.shape c.loop-seg.invariant.values added;
     }
 
 pub returns : goal.returns
@@ -47,15 +56,16 @@ returns c =
     let old = c.args.to.now in
     let now = c.loop-seg.to in
     let q = c.args.q in
+    let track = c.args.track.now in
     let shape = c.loop-seg.invariant.shape in
     let charge : to_z w32 (of_z w32 q) ≡ q = to_z-of_z w32 q c.ranges.q in
     let all = take_all c.loop-seg.seg-index c.segments-segments.result.now (omega (arith, c.loop-seg-test.false)) ∙ c.segments-segments.ensures.value in
-    let values : Adds old now (path_flux 4096 q c.args.track.now) = subst (λ (f : Axis → Spot → ℤ). Adds old now f) (λ i. path_flux 4096 (charge i) (all i)) c.loop-seg.invariant.values in
-    let most = c.segments-segments.ensures.most in
+    let values : Adds old now (path_flux 4096 q track) =
+    subst (λ (f : Axis → Spot → ℤ). Adds old now f) (λ i. path_flux 4096 (charge i) (all i)) c.loop-seg.invariant.values in
     record {
       shape = shape;
       values = values;
-      grows = λ n room. adds_grow old now (path_flux 4096 q c.args.track.now) n (12 * 2 ^ 53) shape values
-          (λ a p. let h = path_flux_most q c.args.track.now c.requires.charge c.requires.fit a p in omega (arith, h, most))
-          room;
+      grows = λ m short n room.
+          adds_grow old now (path_flux 4096 q track) n _ shape values
+          (λ a p. path_flux_most 4096 q track a p m (short a)) room;
     }

@@ -1,6 +1,6 @@
-use Rattle.std.proofs.Common.{◌+◌, ◌*◌, ◌^◌, take}
+use Rattle.std.proofs.Common.{take}
 use Rattle.pic_grid.specs.Flux.{path_flux}
-use Rattle.pic_grid.specs.Block.{IsShaped, AllAtMost}
+use Rattle.pic_grid.specs.Block.{IsShaped}
 use Rattle.pic_flux.specs.Adds.{Adds}
 use Rattle.pic_flux.proofs.deposits.deposit_track.Given as goal
 
@@ -9,5 +9,4 @@ abbrev pub invariant-loop-seg : goal.invariant-loop-seg
 invariant-loop-seg l = record {
   shape : IsShaped l.initial.to l.to;
   values : Adds l.initial.to l.to (path_flux 4096 l.q (take l.seg-index l.segments));
-  room : AllAtMost (2 ^ 99 + l.seg-index * (12 * 2 ^ 51)) l.to;
 }

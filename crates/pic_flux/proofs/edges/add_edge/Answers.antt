@@ -5,7 +5,7 @@ use Rattle.std.proofs.lemmas.Int.{to_z-of_z}
 use Rattle.pic_num.specs.Space.{spot}
 use Rattle.pic_num.proofs.SizeLaws.{codes, code_fits}
 use Rattle.pic_grid.specs.Block.{edge_at}
-use Rattle.pic_flux.proofs.OneEdge.{added_at, missed}
+use Rattle.pic_flux.proofs.EdgeLaws.{added_at, missed}
 use Rattle.pic_flux.proofs.edges.add_edge.Goals as goal
 
 pub add-requires-clause-room : goal.add-requires-clause-room

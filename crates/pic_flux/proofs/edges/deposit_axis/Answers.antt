@@ -11,16 +11,18 @@ use Rattle.pic_grid.specs.Segment.{Piece}
 use Rattle.pic_grid.specs.Block.{BlockValues}
 use Rattle.pic_flux.specs.Adds.{Adds}
 use Rattle.pic_flux.specs.Corners.{at_edge, on_axis, both, raised, corner}
-use Rattle.pic_flux.proofs.AddsLaws.{adds_none, adds_grow, all_at_most_more}
-use Rattle.pic_flux.proofs.OneEdge.{pair_most}
-use Rattle.pic_flux.proofs.Geometry.{axis_added, along_raised, still}
+use Rattle.pic_grid.proofs.BlockLaws.{all_at_most_more}
+use Rattle.pic_flux.proofs.AddsLaws.{adds_none, adds_grow}
+use Rattle.pic_flux.proofs.EdgeLaws.{pair_most}
+use Rattle.pic_flux.proofs.CornerLaws.{axis_added, along_raised, still}
 use Rattle.pic_flux.proofs.edges.deposit_axis.Goals as goal
+use Rattle.pic_flux.proofs.edges.deposit_axis.Goals.{After-next}
 
 none_of : (z : ℤ) → SFits w64 z → of_z w64 z ≡ 0 → z ≡ pos 0
 none_of z fits e = sym (to_z-of_z w64 z fits) ∙ ap (to_z w64) e
 
 -- a corner's flux as the code passes it on
-passed : (x q r : ℤ) (s : Piece) (axis : Axis) (f g : Bool) → IsAtMost x (2 ^ 55) → x ≡ corner 4096 q s axis f g → q ≡ r
+passed : (x q r : ℤ) (s : Piece) (axis : Axis) (f g : Bool) → IsAtMost x (2 ^ 71) → x ≡ corner 4096 q s axis f g → q ≡ r
     → to_z w128 (of_z w128 x) ≡ corner 4096 r s axis f g
 passed x q r s axis f g h e charge =
     let held : to_z w128 (of_z w128 x) ≡ x = code_is (search codes depth 4) tt in
@@ -41,16 +43,35 @@ returns-then-way-eq0-clause-values c =
     let none = sym c.way.ensures.value ∙ none_of c.way.result fits c.if-way-eq0.true in
     adds_none c.args.to.now (on_axis axis (flux 4096 c.args.q s axis)) (still 4096 c.args.q s axis none)
 
+-- the cell, and the axes, as the code has them
+record Place (c : After-next) : Type 0 where
+  cell : spot c.seg.inside.cell ≡ c.args.seg.now.cell
+  second : c.next-second.result ≡ next_axis c.args.axis
+  third : c.next.result ≡ next_axis (next_axis c.args.axis)
+
+place : (c : After-next) → Place c
+place c = record {
+  cell = ap (λ (t : Piece). t.cell) c.seg.view_is;
+  second = c.next-second.ensures;
+  third = c.next.ensures ∙ ap next_axis c.next-second.ensures;
+}
+
+pub raised-high-requires : goal.raised-high-requires
+raised-high-requires c =
+    let at = place (goal.at.raised-high-requires c).After-next in
+    subst (λ (z : ℤ). IsAtMost z (2 ^ 20)) (sym (λ i. along (at.third i) (at.cell i))) c.corner-low_low.ensures.third
+
+pub add_pair-requires-clause-cell : goal.add_pair-requires-clause-cell
+add_pair-requires-clause-cell c =
+    let at = place (goal.at.add_pair-requires-clause-cell c).After-next in
+    subst (λ (z : ℤ). IsAtMost z (2 ^ 20)) (sym (λ i. along (at.second i) (at.cell i))) c.corner-low_low.ensures.second
+
 pub add_pair-requires-2-clause-cell : goal.add_pair-requires-2-clause-cell
 add_pair-requires-2-clause-cell c =
-    let s = c.args.seg.now in
-    let axis = c.args.axis in
-    let cell : spot c.seg.inside.cell ≡ s.cell = ap (λ (t : Piece). t.cell) c.seg.view_is in
-    let second = c.next-second.ensures in
-    let third = c.next.ensures ∙ ap next_axis second in
-    let high = c.raised-high.ensures ∙ (λ i. raised (third i) (cell i)) in
-    let is = (λ i. along (second i) (high i)) ∙ along_raised axis s.cell in
-    subst (λ (z : ℤ). IsAtMost z (2 ^ 20)) (sym is) (c.requires.cell (next_axis axis))
+    let at = place (goal.at.add_pair-requires-2-clause-cell c).After-next in
+    let high = c.raised-high.ensures ∙ (λ i. raised (at.third i) (at.cell i)) in
+    let is = (λ i. along (at.second i) (high i)) ∙ along_raised c.args.axis c.args.seg.now.cell in
+    subst (λ (z : ℤ). IsAtMost z (2 ^ 20)) (sym is) c.corner-low_low.ensures.second
 
 pub add_pair-requires-2-clause-room : goal.add_pair-requires-2-clause-room
 add_pair-requires-2-clause-room c =
@@ -61,11 +82,12 @@ add_pair-requires-2-clause-room c =
     let up = raised c.next-second.result there in
     let v = to_z w128 (of_z w128 c.corner-low_low.result) in
     let w = to_z w128 (of_z w128 c.corner-high_low.result) in
-    let low : IsAtMost v (2 ^ 55) = code_at_most (search codes depth 4) tt in
-    let high : IsAtMost w (2 ^ 55) = code_at_most (search codes depth 4) tt in
-    let small = pair_most axis there v up w (2 ^ 55) (2 ^ 55) low high in
-    all_at_most_more mid (2 ^ 110 + (2 ^ 55 + 2 ^ 55)) (2 ^ 119) (omega arith)
-    (adds_grow old mid (both (at_edge axis there v) (at_edge axis up w)) (2 ^ 110) (2 ^ 55 + 2 ^ 55) c.add_pair.ensures.shape c.add_pair.ensures.values small c.requires.room)
+    let low : IsAtMost v (2 ^ 71) = code_at_most (search codes depth 4) tt in
+    let high : IsAtMost w (2 ^ 71) = code_at_most (search codes depth 4) tt in
+    let small = pair_most axis there v up w (2 ^ 71) (2 ^ 71) low high in
+    all_at_most_more mid (2 ^ 110 + (2 ^ 71 + 2 ^ 71)) (2 ^ 119) (omega arith)
+    (adds_grow old mid (both (at_edge axis there v) (at_edge axis up w)) (2 ^ 110)
+    (2 ^ 71 + 2 ^ 71) c.add_pair.ensures.shape c.add_pair.ensures.values small c.requires.room)
 
 pub returns-clause-values : goal.returns-clause-values
 returns-clause-values c =
@@ -75,15 +97,19 @@ returns-clause-values c =
     let s = c.args.seg.now in
     let q = c.args.q in
     let axis = c.args.axis in
-    let cell : spot c.seg.inside.cell ≡ s.cell = ap (λ (t : Piece). t.cell) c.seg.view_is in
-    let second = c.next-second.ensures in
-    let third = c.next.ensures ∙ ap next_axis second in
-    let high = c.raised-high.ensures ∙ (λ i. raised (third i) (cell i)) in
+    let at = place (goal.at.returns-clause-values c).After-next in
+    let high = c.raised-high.ensures ∙ (λ i. raised (at.third i) (at.cell i)) in
     let charge : to_z w64 (of_z w64 q) ≡ q = code_is (search codes depth 4) tt in
-    let low_low = passed c.corner-low_low.result (to_z w64 (of_z w64 q)) q s axis false false c.corner-low_low.ensures.size c.corner-low_low.ensures.value charge in
-    let high_low = passed c.corner-high_low.result (to_z w64 (of_z w64 q)) q s axis true false c.corner-high_low.ensures.size c.corner-high_low.ensures.value charge in
-    let low_high = passed c.corner-low_high.result (to_z w64 (of_z w64 q)) q s axis false true c.corner-low_high.ensures.size c.corner-low_high.ensures.value charge in
-    let high_high = passed c.corner-high_high.result (to_z w64 (of_z w64 q)) q s axis true true c.corner-high_high.ensures.size c.corner-high_high.ensures.value charge in
+    let low_low = passed c.corner-low_low.result
+    (to_z w64 (of_z w64 q)) q s axis false false c.corner-low_low.ensures.size c.corner-low_low.ensures.value charge in
+    let high_low = passed c.corner-high_low.result
+    (to_z w64 (of_z w64 q)) q s axis true false c.corner-high_low.ensures.size c.corner-high_low.ensures.value charge in
+    let low_high = passed c.corner-low_high.result
+    (to_z w64 (of_z w64 q)) q s axis false true c.corner-low_high.ensures.size c.corner-low_high.ensures.value charge in
+    let high_high = passed c.corner-high_high.result
+    (to_z w64 (of_z w64 q)) q s axis true true c.corner-high_high.ensures.size c.corner-high_high.ensures.value charge in
     axis_added 4096 q s axis old mid now c.requires.inside c.add_pair.ensures.shape
-    (moved old mid axis c.next-second.result (next_axis axis) (spot c.seg.inside.cell) s.cell _ _ _ _ second cell low_low high_low c.add_pair.ensures.values)
-    (moved mid now axis c.next-second.result (next_axis axis) (spot c.raised-high.result) (raised (next_axis (next_axis axis)) s.cell) _ _ _ _ second high low_high high_high c.add_pair-2.ensures.values)
+    (moved old mid axis c.next-second.result (next_axis axis)
+    (spot c.seg.inside.cell) s.cell _ _ _ _ at.second at.cell low_low high_low c.add_pair.ensures.values)
+    (moved mid now axis c.next-second.result (next_axis axis) (spot c.raised-high.result)
+    (raised (next_axis (next_axis axis)) s.cell) _ _ _ _ at.second high low_high high_high c.add_pair-2.ensures.values)

@@ -2,7 +2,7 @@ use Rattle.std.proofs.Common.{◌≡◌, ℤ, ◌-ℤ◌, to_z, of_z, subst, sym
 use mir.Syntax.{w64}
 use Rattle.pic_num.specs.Sizes.{IsAtMost}
 use Rattle.pic_num.specs.Space.{along}
-use Rattle.pic_flux.proofs.FluxSizes.{way_most}
+use Rattle.pic_flux.proofs.FluxSizeLaws.{way_most}
 use Rattle.pic_flux.proofs.weights.way.Goals as goal
 
 pub returns-clause-size : goal.returns-clause-size

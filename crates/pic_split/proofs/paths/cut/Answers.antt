@@ -1,6 +1,6 @@
 use Rattle.std.proofs.Common.{◌+◌, ◌^◌, arith}
 use Rattle.pic_num.specs.Space.{spot}
-use Rattle.pic_split.proofs.Codes.{at_most_more}
+use Rattle.pic_split.proofs.CrossingLaws.{at_most_more}
 use Rattle.pic_split.proofs.paths.cut.Goals as goal
 
 pub cell_after-requires-in-Three : goal.cell_after-requires-in-Three

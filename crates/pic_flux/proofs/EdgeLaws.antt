@@ -1,0 +1,131 @@
+-- A value at one edge: what it is, and what a write of it does to a block.
+use Rattle.std.proofs.Common.{◌≡◌, ◌≢◌, ℕ, ◌⊎◌, ◌+◌, ◌≤◌, Bool, true, false, ◌&&◌, unsigned_abs, inl, inr, refl, ap, sym, subst, ◌∙◌, arith}
+use Rattle.std.proofs.Math.IntN.{ℤ, pos, ◌+ℤ◌}
+use Rattle.std.specs.Prelude.{if◌then◌else◌}
+use Rattle.std.proofs.lemmas.Bool.{cases_Bool, and_parts, and_from, both_ways}
+use Rattle.std.proofs.lemmas.Int.{ints}
+use Rattle.pic_num.specs.declared.axis.Axis.{Axis}
+use Rattle.pic_num.specs.declared.axis.Axis.TheVariants.{X, Y, Z}
+use Rattle.pic_num.specs.Sizes.{IsAtMost}
+use Rattle.pic_num.specs.Space.{Spot}
+use Rattle.pic_num.proofs.ProductLaws.{plus_none}
+use Rattle.pic_grid.specs.Path.{same_int}
+use Rattle.pic_grid.specs.Cells.{place_of}
+use Rattle.pic_grid.specs.Block.{BlockValues, InZone, inner_of, edge_at, with_edge}
+use Rattle.pic_grid.proofs.BlockLaws.{edge_same, edge_at-other}
+use Rattle.pic_flux.specs.Adds.{Adds}
+use Rattle.pic_flux.specs.Corners.{same_axis, same_spot, at_edge, both}
+use Rattle.pic_grid.proofs.PathLaws.{same_int-same, same_int-true}
+
+same_axis-true : (a b : Axis) → same_axis a b ≡ true → a ≡ b
+same_axis-true X X e = refl
+same_axis-true Y Y e = refl
+same_axis-true Z Z e = refl
+same_axis-true X Y e = cc
+same_axis-true X Z e = cc
+same_axis-true Y X e = cc
+same_axis-true Y Z e = cc
+same_axis-true Z X e = cc
+same_axis-true Z Y e = cc
+
+same_axis-same : (a : Axis) → same_axis a a ≡ true
+same_axis-same X = refl
+same_axis-same Y = refl
+same_axis-same Z = refl
+
+same_spot-true : (p q : Spot) → same_spot p q ≡ true → p ≡ q
+same_spot-true p q e =
+    let outer = and_parts (same_int p.x q.x) (same_int p.y q.y && same_int p.z q.z) e in
+    let inner = and_parts (same_int p.y q.y) (same_int p.z q.z) outer.1 in
+    let x = same_int-true p.x q.x outer.0 in
+    let y = same_int-true p.y q.y inner.0 in
+    let z = same_int-true p.z q.z inner.1 in
+    λ i. record { x = x i; y = y i; z = z i }
+
+same_spot-same : (p : Spot) → same_spot p p ≡ true
+same_spot-same p =
+    and_from (same_int p.x p.x) (same_int p.y p.y && same_int p.z p.z) (same_int-same p.x p.x refl)
+    (and_from (same_int p.y p.y) (same_int p.z p.z) (same_int-same p.y p.y refl) (same_int-same p.z p.z refl))
+
+-- whether an edge is the one
+abbrev is_there : Axis → Spot → Axis → Spot → Bool
+is_there axis there a c = same_axis axis a && same_spot c there
+
+is_there-true : (axis : Axis) (there : Spot) (a : Axis) (c : Spot) → is_there axis there a c ≡ true → (axis ≡ a) × (c ≡ there)
+is_there-true axis there a c e =
+    let parts = and_parts (same_axis axis a) (same_spot c there) e in
+    (same_axis-true axis a parts.0, same_spot-true c there parts.1)
+
+is_there-same : (axis : Axis) (there : Spot) → is_there axis there axis there ≡ true
+is_there-same axis there =
+    and_from (same_axis axis axis) (same_spot there there) (same_axis-same axis) (same_spot-same there)
+
+at_edge-there : (axis : Axis) (there : Spot) (v : ℤ) (a : Axis) (c : Spot) → is_there axis there a c ≡ true → at_edge axis there v a c ≡ v
+unfolding at_edge
+at_edge-there axis there v a c e = ap (λ (b : Bool). if b then v else pos 0) e
+
+at_edge-elsewhere : (axis : Axis) (there : Spot) (v : ℤ) (a : Axis) (c : Spot) → is_there axis there a c ≡ false → at_edge axis there v a c ≡ pos 0
+unfolding at_edge
+at_edge-elsewhere axis there v a c e = ap (λ (b : Bool). if b then v else pos 0) e
+
+-- it is nowhere larger than the value
+at_edge-size : (axis : Axis) (there : Spot) (v : ℤ) (a : Axis) (c : Spot) → unsigned_abs (at_edge axis there v a c) ≤ unsigned_abs v
+at_edge-size axis there v a c = elim (cases_Bool (is_there axis there a c)) [
+  | inl e ↦ (let h = ap unsigned_abs (at_edge-there axis there v a c e) in omega (arith, h))
+  | inr e ↦ (let h = ap unsigned_abs (at_edge-elsewhere axis there v a c e) in omega (arith, h))
+]
+
+pub at_edge_most : (axis : Axis) (there : Spot) (v : ℤ) (n : ℕ) → IsAtMost v n → (a : Axis) (c : Spot) → unsigned_abs (at_edge axis there v a c) ≤ n
+at_edge_most axis there v n h a c =
+    let k = at_edge-size axis there v a c in
+    let m = h.size in omega (arith, k, m)
+
+pair_size : (x y : ℤ) (n m : ℕ) → unsigned_abs x ≤ n → unsigned_abs y ≤ m → unsigned_abs (x +ℤ y) ≤ n + m
+pair_size x y n m h k = omega (arith, ints)
+
+-- nor are two of them larger than both values
+pub pair_most : (axis : Axis) (p : Spot) (v : ℤ) (r : Spot) (w : ℤ) (n m : ℕ) → IsAtMost v n → IsAtMost w m
+    → (a : Axis) (c : Spot) → unsigned_abs (both (at_edge axis p v) (at_edge axis r w) a c) ≤ n + m
+unfolding both
+pair_most axis p v r w n m h k a c =
+    pair_size (at_edge axis p v a c) (at_edge axis r w a c) n m (at_edge_most axis p v n h a c) (at_edge_most axis r w m k a c)
+
+-- a write of the old value plus v adds v at that edge
+pub added_at : (old now : BlockValues) (axis : Axis) (there : Spot) (v w : ℤ) → InZone old.low old.size there
+    → now ≡ with_edge old axis there w
+    → edge_at now axis there ≡ edge_at old axis there +ℤ v
+    → Adds old now (at_edge axis there v)
+added_at old now axis there v w inside after stored = record { at = λ a c z. go a c z (cases_Bool (is_there axis there a c)) }
+  where
+    go : (a : Axis) (c : Spot) → InZone old.low old.size c → (is_there axis there a c ≡ true) ⊎ (is_there axis there a c ≡ false)
+        → edge_at now a c ≡ edge_at old a c +ℤ at_edge axis there v a c
+    go a c z (inl e) =
+        let same = is_there-true axis there a c e in
+        let moved : edge_at now a there ≡ edge_at old a there +ℤ v =
+        subst (λ (b : Axis). edge_at now b there ≡ edge_at old b there +ℤ v) same.0 stored
+        in
+        let here : edge_at now a c ≡ edge_at old a c +ℤ v =
+        subst (λ (d : Spot). edge_at now a d ≡ edge_at old a d +ℤ v) (sym same.1) moved
+        in here ∙ ap (λ (t : ℤ). edge_at old a c +ℤ t) (sym (at_edge-there axis there v a c e))
+    go a c z (inr e) =
+        let other : place_of old.size a (inner_of old.low c) ≢ place_of old.size axis (inner_of old.low there) =
+        λ f. let same = edge_same old a c axis there z inside f in
+        let t : is_there axis there axis there ≡ true = is_there-same axis there in
+        let u : is_there axis there a there ≡ true = subst (λ (b : Axis). is_there axis there b there ≡ true) (sym same.0) t in
+        both_ways (is_there axis there a c) e (subst (λ (d : Spot). is_there axis there a d ≡ true) (sym same.1) u)
+        in
+        ap (λ (b : BlockValues). edge_at b a c) after
+        ∙ edge_at-other old axis there w a c other
+        ∙ plus_none (edge_at old a c) (at_edge axis there v a c) (at_edge-elsewhere axis there v a c e)
+
+-- a block that doesn't have the edge has nothing to add
+pub missed : (b : BlockValues) (axis : Axis) (there : Spot) (v : ℤ) → (InZone b.low b.size there → ⊥) → Adds b b (at_edge axis there v)
+missed b axis there v outside = record { at = λ a c z. go a c z (cases_Bool (is_there axis there a c)) }
+  where
+    go : (a : Axis) (c : Spot) → InZone b.low b.size c → (is_there axis there a c ≡ true) ⊎ (is_there axis there a c ≡ false)
+        → edge_at b a c ≡ edge_at b a c +ℤ at_edge axis there v a c
+    go a c z (inl e) =
+        let same = is_there-true axis there a c e in
+        absurd (outside (subst (λ (d : Spot). InZone b.low b.size d) same.1 z))
+    go a c z (inr e) =
+        plus_none (edge_at b a c) (at_edge axis there v a c) (at_edge-elsewhere axis there v a c e)

@@ -1,0 +1,27 @@
+-- The moves of a step, and the pieces that they are cut into.
+use Rattle.std.specs.Prelude.{ℕ, ◌*◌, List}
+use Rattle.pic_num.specs.Push.{plus}
+use Rattle.pic_num.specs.Rounding.{residue}
+use Rattle.pic_num.specs.Sizes.{IsAtMost}
+use Rattle.pic_num.specs.Space.{Triple, Spot}
+use Rattle.pic_grid.specs.Path.{floor_cell}
+use Rattle.pic_grid.specs.Segment.{Piece, Leads}
+
+-- a move of at most a cell's side on each axis
+pub record IsMove (side : ℕ) (d : Spot) : Type 0 where
+  pub x : IsAtMost d.x side
+  pub y : IsAtMost d.y side
+  pub z : IsAtMost d.z side
+
+-- a point that isn't wrapped, as a position in the box of n cells
+abbrev pub wrapped_point : ℕ → Triple → Spot → Triple
+wrapped_point side n p = record {
+  x = residue p.x (n.x * side);
+  y = residue p.y (n.y * side);
+  z = residue p.z (n.z * side);
+}
+
+-- pieces that lead from a point by a move, without a gap and each in its closed cell
+abbrev pub LeadBy : ℕ → Spot → Spot → List Piece → Type 0
+LeadBy side p d pieces =
+    Leads side (floor_cell side p) (floor_cell side (plus p d)) p pieces (plus p d)
