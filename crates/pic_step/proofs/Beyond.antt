@@ -19,11 +19,11 @@ use Rattle.pic_grid.specs.Segment.{Piece, IsInside, IsInCell, Leads, arrived, on
 use Rattle.pic_grid.specs.PushPhase.{Surroundings, kind_of, push_of, CanShare}
 use Rattle.pic_grid.specs.Sums.{sum_over}
 use Rattle.pic_grid.proofs.OverLaws.{sum_over_same}
-use Rattle.pic_split.proofs.Leading.{path_leads}
+use Rattle.pic_split.proofs.LeadLaws.{path_leads}
 use Rattle.pic_grid.proofs.TwoHatLaws.{only, only_below, only_above, two_hats}
-use Rattle.pic_split.proofs.ContinuityHats.{IsNear}
-use Rattle.pic_split.proofs.ContinuityImages.{wrapped-zero, wrapped-over}
-use Rattle.pic_split.proofs.Continuity.{IsNearGrid, near_cell, near_start, near_end}
+use Rattle.pic_split.proofs.ImageHatLaws.{IsNear}
+use Rattle.pic_split.proofs.ImageLaws.{wrapped-zero, wrapped-over}
+use Rattle.pic_split.proofs.ContinuityLaws.{IsNearGrid, near_cell, near_start, near_end}
 use Rattle.pic_step.specs.Sound.{AllCanShare}
 use Rattle.pic_step.specs.Traces.{trace_of, traces, IsBeyond}
 use Rattle.pic_step.proofs.Pushes.{push_move}

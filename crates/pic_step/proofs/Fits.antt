@@ -12,9 +12,9 @@ use Rattle.pic_grid.specs.Path.{point_of, floor_cell}
 use Rattle.pic_grid.specs.Segment.{Piece, Leads, arrived, onward}
 use Rattle.pic_flux.specs.Adds.{IsFit}
 use Rattle.pic_step.specs.Pushing.{most_cells}
-use Rattle.pic_split.specs.Moves.{IsMove}
-use Rattle.pic_split.proofs.ContinuityHats.{IsNear}
-use Rattle.pic_split.proofs.Continuity.{IsNearGrid, near_cell, near_start, near_end}
+use Rattle.pic_split.specs.Move.{IsMove}
+use Rattle.pic_split.proofs.ImageHatLaws.{IsNear}
+use Rattle.pic_split.proofs.ContinuityLaws.{IsNearGrid, near_cell, near_start, near_end}
 
 near_small : (c : ℤ) → IsNear 64 c → IsAtMost c (2 ^ 20)
 near_small c near = record { size = omega (arith, ints, near.low, near.high) }

@@ -17,7 +17,7 @@ use Rattle.pic_num.proofs.RoundingLaws.{residue-is}
 use Rattle.std.proofs.lemmas.Bool.Decides.{nat_tests}
 use Rattle.pic_grid.specs.PushPhase.{Surroundings, push_of, after_push, moved, moved_all, CanShare}
 use Rattle.pic_step.specs.Sound.{AllCanShare}
-use Rattle.pic_split.specs.Moves.{IsMove, wrapped_point}
+use Rattle.pic_split.specs.Move.{IsMove, wrapped_point}
 
 or_none_left : {A : Type 0} (o p : Option A) → option_or o p ≡ None → o ≡ None
 or_none_left None p h = refl

@@ -19,7 +19,7 @@ use Rattle.pic_charge.specs.Charge.{charge_of}
 use Rattle.pic_charge.specs.Gauss.{MeetsGauss}
 use Rattle.pic_field.specs.FieldPhases.{full_of, least_fault, cell_above, IsBounded}
 use Rattle.pic_field.proofs.FaultLaws.{least_fault-bounded}
-use Rattle.pic_split.proofs.ContinuityImages.{div_e_same}
+use Rattle.pic_split.proofs.ImageLaws.{div_e_same}
 use Rattle.pic_step.specs.SerialStep.{World, origin, around, half_at, full_at, half_on, push_on, current_of, before_electric, half_stop, full_stop, step_on, stop_of}
 use Rattle.pic_step.specs.Sound.{one_part, IsSafe, IsSound}
 use Rattle.pic_step.proofs.Pushes.{ids_kept, length-moved_all, share_kept}

@@ -15,9 +15,9 @@ use Rattle.pic_grid.specs.PushPhase.{Surroundings, kind_of, push_of}
 use Rattle.pic_grid.specs.Species.{IsKind}
 use Rattle.pic_grid.proofs.OverLaws.{sum_over_bound}
 use Rattle.pic_charge.proofs.ChargeLaws.{kind_of_most}
-use Rattle.pic_split.proofs.ContinuityImages.{wrapped_size}
-use Rattle.pic_split.proofs.Leading.{move_along}
-use Rattle.pic_split.proofs.Lengths.{path_flux_size}
+use Rattle.pic_split.proofs.ImageLaws.{wrapped_size}
+use Rattle.pic_split.proofs.LeadLaws.{move_along}
+use Rattle.pic_split.proofs.WayLaws.{path_flux_size}
 use Rattle.pic_step.specs.Traces.{trace_of, traces}
 use Rattle.pic_step.proofs.Beyond.{current_is}
 use Rattle.pic_step.proofs.Pushes.{push_move}

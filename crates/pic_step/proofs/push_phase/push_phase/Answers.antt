@@ -7,7 +7,8 @@ use Rattle.pic_grid.specs.PushPhase.{Surroundings, moved_all, push_stop}
 use Rattle.pic_grid.specs.Species.{IsKind}
 use Rattle.pic_grid.specs.Block.{BlockValues, AllAtMost}
 use Rattle.pic_flux.specs.Adds.{Adds}
-use Rattle.pic_flux.proofs.AddsLaws.{adds_same, zeros_at_most}
+use Rattle.pic_flux.proofs.AddsLaws.{adds_same}
+use Rattle.pic_grid.proofs.ShapeLaws.{zeros_at_most}
 use Rattle.pic_step.specs.PushRoom.{around_fields}
 use Rattle.pic_step.specs.Pushing.{felt}
 use Rattle.pic_step.specs.Sound.{one_part}
