@@ -1,4 +1,5 @@
 pub mod Limits
+pub mod Sub
 pub mod Sizes
 pub mod Rounding
 pub mod Multiplier

@@ -1,5 +1,5 @@
-//! The whole numbers of the scheme: roundings, multipliers, particles, axes, numbers as text and as
-//! bytes, and what every crate answers for want of memory.
+//! The whole numbers of the scheme: roundings, multipliers, the side of a cell, particles, axes, lists,
+//! numbers as text and as bytes, and what every crate answers for want of memory.
 #![tactic(auto)]
 
 mod axis;
@@ -8,6 +8,7 @@ mod motion;
 mod mult;
 mod no_memory;
 mod rounding;
+mod sub;
 mod text;
 
 pub use axis::{Axis, unwrapped};
@@ -16,4 +17,5 @@ pub use motion::{Kind, Particle, What};
 pub use mult::{Mult, Scales};
 pub use no_memory::NoMemory;
 pub use rounding::{rdiv, scale, trunc_div, wrap};
+pub use sub::Sub;
 pub use text::Text;

@@ -1,0 +1,93 @@
+//! The side of a cell.
+
+ghost use Rattle.std.specs.Prelude.{◌≡◌, ℕ, ◌^◌, ◌≤◌, ◌↔◌, IsSome, IfSome};
+ghost use Rattle.pic_num.specs.Sub.{fewest_bits, most_bits, bits_of};
+
+use std::marker::Model;
+
+/// How many sub-cells lie along a cell: a power of two, 2^8 to 2^14. Contracts see that number.
+#[derive(Clone, Copy, Debug, PartialEq, Eq)]
+pub struct Sub {
+    bits: u32,
+}
+
+impl Model for Sub {
+    ghost Value = { ℕ };
+
+    ghost view = { λ s. 2 ^ s.bits };
+
+    ghost invariant = { λ s. (fewest_bits ≤ s.bits) × (s.bits ≤ most_bits) };
+
+    ghost inverse = { λ side. record { bits = bits_of side } };
+
+    ghost inverse_ok = { λ s h i. record { bits = Rattle.pic_num.specs.Sub.bits_of-side s.bits h.0 h.1 i } };
+}
+
+impl Sub {
+    /// The least power of two.
+    pub const FEWEST_BITS: u32 = 8;
+
+    /// The greatest power of two.
+    pub const MOST_BITS: u32 = 14;
+
+    /// The side of a power of two from outside, or `None` where it passes the limits.
+    pub fn new(bits: u32) -> Option<Sub>
+        ensures valid { IsSome result ↔ ((fewest_bits ≤ bits) × (bits ≤ most_bits)) }
+        ensures value { IfSome result (λ s. s ≡ 2 ^ bits) }
+    {
+        if bits < Sub::FEWEST_BITS || bits > Sub::MOST_BITS {
+            return None;
+        }
+        Some(Sub { bits })
+    }
+
+    /// The side of a power of two within the limits.
+    pub fn of_bits(bits: u32) -> Sub
+        requires least { fewest_bits ≤ bits }
+        requires most { bits ≤ most_bits }
+        ensures { result ≡ 2 ^ bits }
+    {
+        Sub { bits }
+    }
+
+    /// The power of two.
+    #[inline(always)]
+    pub fn bits(self) -> u32
+        ensures power { self ≡ 2 ^ result }
+        ensures least { 8 ≤ result }
+        ensures most { result ≤ 14 }
+    {
+        self.bits
+    }
+
+    /// The side, in sub-cells.
+    #[inline(always)]
+    pub fn side(self) -> u32
+        ensures value { result ≡ self }
+        ensures least { 256 ≤ self }
+        ensures most { self ≤ 16384 }
+    {
+        1 << self.bits
+    }
+}
+
+#[cfg(test)]
+mod tests {
+    use super::*;
+
+    #[test]
+    fn a_side_is_a_power_of_two_within_its_limits(rt: HostRuntime) {
+        for (bits, side) in [
+            (7, None),
+            (8, Some(256)),
+            (12, Some(4096)),
+            (14, Some(16384)),
+            (15, None),
+        ] {
+            let made = Sub::new(bits);
+            assert_eq!(rt; made.map(|sub| sub.side()), side);
+            assert_eq!(rt; made.map(|sub| sub.bits() == bits).unwrap_or(true), true);
+        }
+        assert_eq!(rt; Sub::of_bits(12).side(), 4096);
+    }
+}
