@@ -3,6 +3,9 @@ pub mod LatticeLaws
 pub mod BlockLaws
 pub mod ShapeLaws
 pub mod PartLaws
+pub mod RowLaws
+pub mod RunLaws
+pub mod FourLaws
 pub mod DifferenceLaws
 pub mod SumLaws
 pub mod OverLaws

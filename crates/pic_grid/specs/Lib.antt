@@ -4,6 +4,7 @@ pub mod Cells
 pub mod Arrays
 pub mod Lattice
 pub mod Block
+pub mod Rows
 pub mod Parts
 pub mod Differences
 pub mod Sums

@@ -33,8 +33,8 @@ impl Zone {
 /// Three `i128` components for each cell of a zone.
 #[derive(Drop)]
 pub struct Block {
-    zone: Zone,
-    values: Vec<i128>,
+    pub(crate) zone: Zone,
+    pub(crate) values: Vec<i128>,
 }
 
 impl Model for Block {
@@ -131,7 +131,7 @@ impl Block {
 }
 
 /// How far `c` lies above `low`, on an axis of `size` layers.
-fn above(low: i32, c: i32, size: u32) -> u32
+pub(crate) fn above(low: i32, c: i32, size: u32) -> u32
     requires low { low ≤ℤ c }
     requires high { c <ℤ (low +ℤ pos size) }
     ensures value { result ≡ unsigned_abs (c -ℤ low) }

@@ -17,10 +17,10 @@ use std::marker::Model;
 /// Contracts see the cells, the parts and the values in the order of places.
 #[derive(Drop)]
 pub struct Lattice {
-    cells: Cells,
-    parts: [u32; 3],
-    layers: [u32; 3],
-    blocks: Vec<Block>,
+    pub(crate) cells: Cells,
+    pub(crate) parts: [u32; 3],
+    pub(crate) layers: [u32; 3],
+    pub(crate) blocks: Vec<Block>,
 }
 
 impl Model for Lattice {

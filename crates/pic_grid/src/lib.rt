@@ -3,6 +3,7 @@
 
 mod block;
 mod cells;
+mod fours;
 mod lattice;
 mod laws;
 mod name;
@@ -11,6 +12,8 @@ mod nodes;
 mod pair;
 mod parts;
 mod places;
+mod rows;
+mod runs;
 mod slow;
 mod snapshot;
 mod stop;
