@@ -1,0 +1,136 @@
+"""What the scheme's own linear theory says of waves and instabilities: with its grid, its shapes and its steps.
+
+Wave numbers k are in radians a cell and along x, frequencies and growth rates in radians a step, speeds in cells a step. A
+wave is exp(i (k x - w t)), so it grows where the imaginary part of w is above 0. `wp` is the plasma frequency of
+the electrons, which all have one charge to mass ratio; the ions stand still.
+
+The method is that of C. K. Birdsall and A. B. Langdon, Plasma Physics via Computer Simulation, chapters 8 and 9. The charge
+of a particle is shared by hats, E and B are gathered by hats on Yee's lattice, a particle feels a wave of k also as its
+aliases k + 2 pi p, and leapfrog makes 2 sin(x/2) of a frequency x. As k and the frequencies go to 0, each relation goes to
+the one of the textbooks.
+"""
+
+from __future__ import annotations
+
+from collections.abc import Callable, Sequence
+from math import asin, asinh, cos, pi, sin, sqrt
+from typing import NamedTuple
+
+import numpy as np
+
+ALIASES = np.arange(-12, 13)
+
+
+class Stream(NamedTuple):
+    """A part of the electrons: its share of them, its drift along x, and its thermal speed (the standard deviation)."""
+
+    share: float
+    drift: float
+    thermal: float
+
+
+def root(function: Callable[[complex], complex], guess: complex) -> complex:
+    """A zero of an analytic function near a guess, by the secant method."""
+    before, here = guess * (1 + 1e-4) + 1e-9, guess
+    with np.errstate(all="ignore"):
+        old, now = function(before), function(here)
+        for _ in range(100):
+            if abs(here - before) < 1e-11 * abs(here) + 1e-15 and abs(now) < 1e-6:
+                return here
+            before, old, here = here, now, here - now * (here - before) / (now - old)
+            now = function(here)
+    raise ArithmeticError(f"no zero found near {guess:.5f}")
+
+
+def light(k: float, c: float, wp: float = 0) -> float:
+    """The frequency of light along an axis, in a cold plasma or (wp = 0) in vacuum.
+
+    sin(w/2)^2 = c^2 sin(k/2)^2 + wp^2 (1 + 2 cos(k/2)^2) / 12; the textbook's is w^2 = c^2 k^2 + wp^2.
+    """
+    return 2 * asin(sqrt(c**2 * sin(k / 2)**2 + wp**2 * (1 + 2 * cos(k / 2)**2) / 12))
+
+
+def cold_langmuir(k: float, wp: float) -> float:
+    """The frequency of a Langmuir wave in a cold plasma with many particles a cell.
+
+    sin(w/2)^2 = wp^2 (1 + cos(k/2)^2) / 8; the textbook's is w = wp.
+    """
+    return 2 * asin(wp / 2 * sqrt((1 + cos(k / 2)**2) / 2))
+
+
+def lag_sum(w: complex, k: float, stream: Stream) -> complex:
+    """The mean of 1 / (4 sin((w - k v) / 2)^2) over the speeds v of a stream, continued to damped waves as Landau's.
+
+    It is minus the sum, over the steps m since a kick, of m exp(i m (w - k v)), whose mean over a Maxwellian is known.
+    """
+    if stream.thermal * abs(k) < 1e-9:
+        return 1 / (4 * np.sin((w - k * stream.drift) / 2)**2)
+    m = np.arange(1, int(9 / (stream.thermal * abs(k))) + 2)
+    return -np.sum(m * np.exp(1j * m * (w - k * stream.drift) - (m * k * stream.thermal)**2 / 2))
+
+
+def electrostatic(w: complex, k: float, wp: float, streams: Sequence[Stream]) -> complex:
+    """The dielectric function of waves with E along x; it is 0 for a wave that can be.
+
+    1 - wp^2 sum over p of (-1)^p k_p S(k_p)^2 / (2 sin(k/2)) <1 / (4 sin((w - k_p v) / 2)^2)>, k_p = k + 2 pi p, with the
+    hat's S(k) = (sin(k/2) / (k/2))^2. The textbook's is 1 - wp^2 <1 / (w - k v)^2>.
+    """
+    total = 0j
+    for p in ALIASES:
+        kp = k + 2 * pi * p
+        weight = (-1.0)**p * kp * (sin(kp / 2) / (kp / 2))**4 / (2 * sin(k / 2))
+        total += weight * sum(s.share * lag_sum(w, kp, s) for s in streams)
+    return 1 - wp**2 * total
+
+
+def langmuir(k: float, wp: float, thermal: float) -> complex:
+    """A Langmuir wave in a warm plasma: its frequency, and (the imaginary part) how fast it grows; Landau damping is
+    below 0. The textbook's is w^2 = wp^2 + 3 k^2 thermal^2 for long waves."""
+    guess = sqrt(wp**2 + 3 * (k * thermal)**2)
+    return root(lambda w: electrostatic(w, k, wp, [Stream(1, 0, thermal)]), guess)
+
+
+def two_stream(k: float, wp: float, drift: float, thermal: float = 0) -> complex:
+    """The slowest wave of two equal streams that go +drift and -drift along x: it grows, by the imaginary part, where that
+    is above 0. The textbook's, for cold streams, is 1 = wp^2/2 (1 / (w - k drift)^2 + 1 / (w + k drift)^2)."""
+    d, h = (k * drift)**2, wp**2 / 2
+    guess = complex(d + h - sqrt(h**2 + 4 * d * h))**0.5
+    streams = [Stream(0.5, drift, thermal), Stream(0.5, -drift, thermal)]
+    return root(lambda w: electrostatic(w, k, wp, streams), guess)
+
+
+def filamentation(k: float, wp: float, drift: float, c: float) -> float:
+    """The growth rate of filaments across two equal cold streams that go +drift and -drift along y, k along x.
+
+    With g = 2 sinh(rate/2) and s = 2 sin(k/2): g^2 (g^2 + c^2 s^2 + wp^2 (1 + 2 cos(k/2)^2) / 3) =
+    wp^2 drift^2 s^2 (1 + g^2/4) (1 + cos(k/2)^2) / 2; the textbook's is g^2 (g^2 + c^2 k^2 + wp^2) = wp^2 drift^2 k^2.
+    """
+    s, square = 2 * sin(k / 2), cos(k / 2)**2
+    drive = (wp * drift * s)**2 * (1 + square) / 2
+    half = (c**2 * s**2 + wp**2 * (1 + 2 * square) / 3 - drive / 4) / 2
+    return 2 * asinh(sqrt(sqrt(half**2 + drive) - half) / 2)
+
+
+def upper_hybrid(k: float, wp: float, gyration: float, c: float) -> float:
+    """The frequency of the slow extraordinary wave, along x and across a uniform B: the upper hybrid one for short waves.
+
+    `gyration` is the angle that B turns a particle by in a step. The electrons are cold. The textbook's is the lesser root
+    of c^2 k^2 / w^2 = 1 - wp^2 / w^2 (w^2 - wp^2) / (w^2 - u^2), u^2 = wp^2 + gyration^2; u where c k is well above it.
+    """
+    s, a, half = 2 * sin(k / 2), cos(k / 2), gyration / 2
+
+    def determinant(w: complex) -> complex:
+        """Of the two equations of Ex and Ey. A step's rotation couples the velocities along x and y."""
+        lead = 1j * np.cos(half)
+        plus, minus = lead / (2 * np.sin((w + gyration) / 2)), lead / (2 * np.sin((w - gyration) / 2))
+        along, across = (plus + minus) / 2, (plus - minus) / 2j
+        step = 2 * np.sin(w / 2)
+        xx = 1 + 1j * wp**2 / step * (1 + a**2) / 2 * along
+        xy = 1j * wp**2 / step * a * across
+        yx = -wp**2 * a * (5 + a**2) / 6 * -across
+        yy = 1j * (step - (c * s)**2 / step) - wp**2 * (1 + 2 * a**2) / 3 * along
+        return xx * yy - xy * yx
+
+    p, light_square = wp**2 * (1 + a**2) / 2, (c * s)**2
+    half_sum = (2 * p + gyration**2 + light_square) / 2
+    return root(determinant, sqrt(half_sum - sqrt(half_sum**2 - p**2 - light_square * (p + gyration**2)))).real

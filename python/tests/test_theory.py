@@ -1,0 +1,54 @@
+"""The scheme's theory against textbooks' numbers, where the grid and the steps don't show, and against its closed forms."""
+
+import unittest
+from math import pi, sqrt
+
+from pictools import theory
+
+
+class Textbooks(unittest.TestCase):
+    def test_light_on_the_grid(self):
+        # c = 1/4; frequencies of docs/UNITS.md.
+        for length, frequency in (32, 0.049013476), (8, 0.191634814), (32 / 12, 0.466148804):
+            self.assertAlmostEqual(theory.light(2 * pi / length, 0.25), frequency, 9)
+        self.assertAlmostEqual(theory.light(0.003, 0.5, 0.002), sqrt(0.0015**2 + 0.002**2), 8)
+
+    def test_landau_damping(self):
+        # k times the Debye length is 1/2: w = 1.4156 wp and damping 0.1533 wp, and for 0.3 1.1598 wp and 0.0126 wp.
+        for k, frequency, damping in (0.05, 1.4156, 0.1533), (0.03, 1.1598, 0.0126):
+            w = theory.langmuir(k, 0.01, 0.1) / 0.01
+            self.assertAlmostEqual(w.real, frequency, 3)
+            self.assertAlmostEqual(w.imag, -damping, 3)
+
+    def test_two_cold_streams(self):
+        # The greatest growth is wp / sqrt(8), where k drift = sqrt(3/8) wp; from k drift = wp on there is none.
+        wp, k = 0.001, 0.02
+        self.assertAlmostEqual(theory.two_stream(k, wp, sqrt(3 / 8) * wp / k).imag / wp, 1 / sqrt(8), 3)
+        self.assertAlmostEqual(theory.two_stream(k, wp, 1.1 * wp / k).imag, 0)
+
+    def test_filaments(self):
+        # g^2 (g^2 + c^2 k^2 + wp^2) = wp^2 drift^2 k^2; here c k = 2 wp and drift = c / 5.
+        wp, k = 0.001, 0.004
+        rate = theory.filamentation(k, wp, 0.1, 0.5) / wp
+        self.assertAlmostEqual(rate**2 * (rate**2 + 5), 0.16, 4)
+
+    def test_upper_hybrid(self):
+        # The lesser root of W^2 - W (u^2 + wp^2 + c^2 k^2) + wp^4 + c^2 k^2 u^2 = 0, in units of wp: with gyration 1 and
+        # c k = 2, W^2 - 7 W + 9 = 0.
+        w = theory.upper_hybrid(0.004, 0.001, 0.001, 0.5) / 0.001
+        self.assertAlmostEqual(w**2, (7 - sqrt(13)) / 2, 4)
+
+
+class ClosedForms(unittest.TestCase):
+    def test_cold_langmuir_waves(self):
+        for k in 0.1, 1.0, 2.5:
+            w = theory.cold_langmuir(k, 0.2)
+            self.assertAlmostEqual(abs(theory.electrostatic(w, k, 0.2, [theory.Stream(1, 0, 0)])), 0, 4)
+
+    def test_a_root_that_is_not_there(self):
+        with self.assertRaises(ArithmeticError):
+            theory.root(lambda w: 1 + 0 * w + 1e-3 / (w + 10)**2, 1)
+
+
+if __name__ == "__main__":
+    unittest.main()
