@@ -1,116 +1,162 @@
-"""Reads a dump of one of the example decks, measures, and prints what theory says beside it.
+"""Measures what a dump of one of the example decks is about, and prints what theory says beside it.
 
-    python3 examples/measure.py DECK FILE        DECK: light_wave, gyration, e_cross_b or plasma_oscillation
+    python3 examples/measure.py DECK DUMP
 
-A cell has 4096 sub-cells, and a velocity of 2^24 is one cell a step.
+DECK is light_wave, gyration, e_cross_b or plasma_oscillation, after docs/EXAMPLES.md, or langmuir, two_stream,
+filamentation or upper_hybrid, after docs/GALLERY.md. All numbers of the theory are taken from the dump. It needs numpy.
 """
 
-import struct
 import sys
-from cmath import exp, phase
-from math import asin, atan, atan2, hypot, pi, sin, sqrt
+from math import asin, hypot, pi, sin
+from pathlib import Path
 
-CELL = 4096
-FAST = 2**24
+import numpy as np
 
+sys.path.insert(0, str(Path(__file__).parents[1] / "python"))
 
-class Dump:
-    def __init__(self, data):
-        if data[:8] != b"PICDUMP1":
-            raise SystemExit("not a dump")
-        self.cells = struct.unpack_from(">3I", data, 8)
-        mults = struct.unpack_from(">iIiIiIiI", data, 28)
-        self.e_to_b, self.b_to_e, self.e_force, self.b_force = (mults[i] / 2 ** mults[i + 1] for i in (0, 2, 4, 6))
-        (count,) = struct.unpack_from(">I", data, 60)
-        self.charge, self.kick, self.turn = [], [], []   # of each particle
-        for s in range(count):
-            q, _, kn, kk, tn, tk, size = struct.unpack_from(">iIiIiII", data, 64 + 60 * s + 32)
-            self.charge += [q] * size
-            self.kick += [kn / 2**kk] * size
-            self.turn += [tn / 2**tk] * size
-        size = len(self.charge)
-        n, place = self.cells[0] * self.cells[1] * self.cells[2], 64 + 60 * count
-        self.steps, self.fields, self.particles = [], [], []
-        while data[place : place + 1] == b"F":
-            self.steps.append(struct.unpack_from(">I", data, place + 1)[0])
-            place += 5
-            ends = range(place + 16, place + 96 * n + 16, 16)
-            values = [int.from_bytes(data[end - 16 : end], "big", signed=True) for end in ends]
-            self.fields.append([values[n * i : n * i + n] for i in range(6)])   # Ex, Ey, Ez, Bx, By, Bz
-            place += 96 * n
-            self.particles.append([struct.unpack_from(">3I3i", data, place + 24 * i) for i in range(size)])
-            place += 24 * size + 48
-        self.span = self.steps[-1] - self.steps[0]
-
-    def track(self, i):
-        """The positions of particle i in cells, with the steps through the box's sides taken out."""
-        places = [[x / CELL for x in frame[i][:3]] for frame in self.particles]
-        for before, now in zip(places, places[1:]):
-            for a in range(3):
-                now[a] -= round((now[a] - before[a]) / self.cells[a]) * self.cells[a]
-        return places
+from pictools import measure, theory, units
+from pictools.dump import FAST, SIDE, Dump, Species
 
 
-def turned(angles):
-    """The whole angle turned through, from angles known up to whole turns."""
-    return sum((b - a + pi) % (2 * pi) - pi for a, b in zip(angles, angles[1:]))
+def show(what: str, measured: float, expected: float) -> None:
+    print(f"{what:28} measured {measured:12.9f}   theory {expected:12.9f}   off by {measured / expected - 1:+.1e}")
 
 
-def show(what, measured, theory):
-    print(f"{what:28} measured {measured:12.9f}   theory {theory:12.9f}   off by {measured / theory - 1:+.1e}")
+def tracks(dump: Dump) -> np.ndarray:
+    """The positions of all particles in cells, through the box's sides: shape (frames, particles, 3)."""
+    places = dump.records["particles"]["position"] / SIDE
+    moves = np.diff(places, axis=0, prepend=places[:1])
+    return places - np.cumsum(np.rint(moves / dump.header.cells), axis=0) * dump.header.cells
 
 
-def light_wave(dump):
-    nx = dump.cells[0]
-    c = sqrt(2 * dump.e_to_b * dump.b_to_e)
-
-    def wave(field, m):
-        """The part of Ey, along the first line of cells, that goes round m times over the box."""
-        return sum(field[1][i] * exp(-2j * pi * m * i / nx) for i in range(nx))
-
-    heights = [abs(wave(dump.fields[0], m)) for m in range(nx // 2)]
-    for m in range(1, nx // 2):
-        if heights[m] > max(heights) / 10:
-            omega = -turned([phase(wave(f, m)) for f in dump.fields]) / dump.span
-            show(f"length {nx / m:.3f}: frequency", omega, 2 * asin(c * sin(pi * m / nx)))
+def waves(dump: Dump, name: str) -> np.ndarray:
+    """The waves along x of a component, which has to have some at the start: shape (frames, nx)."""
+    heights = measure.waves(dump, name)
+    if not abs(heights[0, 1:]).max() > 0:
+        raise ValueError(f"{name} has no wave along x at the start")
+    return heights
 
 
-def gyration(dump):
-    b = dump.fields[0][5][0]
-    for i in range(len(dump.turn)):
-        theory = 2 * atan(b * dump.b_force * dump.turn[i] / 2**20)     # with the clock for B along z
-        angle = -turned([atan2(f[i][4], f[i][3]) for f in dump.particles]) / dump.span
-        track = dump.track(i)[:-1]
-        x, y = (sum(p[a] for p in track) / len(track) for a in (0, 1))
-        radius = sum(hypot(p[0] - x, p[1] - y) for p in track) / len(track)
-        speed = hypot(dump.particles[0][i][3], dump.particles[0][i][4]) / FAST
-        show(f"particle {i}: period", 2 * pi / angle, 2 * pi / theory)
-        show(f"particle {i}: radius", radius, speed / (2 * sin(abs(theory) / 2)))
+def particles(dump: Dump) -> list[tuple[int, Species]]:
+    """The numbers of all particles that feel B, each with its species."""
+    found = [(number, s) for s in dump.header.species if s.turn.n for number in range(s.first, s.first + s.count)]
+    if not found:
+        raise ValueError("no particle has a turn")
+    return found
 
 
-def e_cross_b(dump):
-    e, b = dump.fields[0][1][0], dump.fields[0][5][0]
-    for i in range(len(dump.turn)):
-        track = dump.track(i)
-        drift = (track[-1][0] - track[0][0]) / dump.span
-        theory = e * dump.e_force * dump.kick[i] / (b * dump.b_force * dump.turn[i] / 2**20) / FAST
-        show(f"particle {i}: drift along x", drift, theory)
-        print(f"{'':28} along y  {(track[-1][1] - track[0][1]) / dump.span:12.9f}")
+def uniform(dump: Dump, with_e: bool) -> tuple[float, float]:
+    """The uniform E along y and B along z at the start; E has to be there, or not to be, and B has to."""
+    e, b = dump[0].e[1].mean(), dump[0].b[2].mean()
+    if not b or bool(e) != with_e:
+        raise ValueError(f"the mean E along y is {e:g} and the mean B along z {b:g}")
+    return e, b
 
 
-def plasma_oscillation(dump):
-    nx, n = dump.cells[0], dump.cells[0] * dump.cells[1] * dump.cells[2]
-    wave = [sum(f[0][i] * sin(2 * pi * (i % nx + 0.5) / nx) for i in range(n)) for f in dump.fields]
-    zeros = []
-    for step, here, after, there in zip(dump.steps, wave, dump.steps[1:], wave[1:]):
-        if here * there < 0:
-            zeros.append(step + (after - step) * here / (here - there))
-    square = sum(2 * k * q * dump.e_force * 12 * 2**12 for k, q in zip(dump.kick, dump.charge)) / n
-    show("frequency", pi * (len(zeros) - 1) / (zeros[-1] - zeros[0]), 2 * asin(sqrt(square) / 2))
-    print(f"{'':28} over {len(zeros) - 1} half swings; the plasma frequency itself is {sqrt(square):.9f}")
+def plasma(dump: Dump) -> tuple[float, Species]:
+    """The plasma frequency, and the first species of electrons."""
+    kinds = units.electrons(dump.header)
+    if not kinds or not units.plasma_frequency(dump.header):
+        raise ValueError("no species has a charge below 0 and a kick that fits it")
+    return units.plasma_frequency(dump.header), kinds[0]
 
+
+def light_wave(dump: Dump) -> None:
+    heights = waves(dump, "ey")
+    for m in range(1, dump.header.cells[0] // 2):
+        if abs(heights[0, m]) > abs(heights[0]).max() / 10:
+            omega = -measure.turned(np.angle(heights[:, m])) / dump.header.steps
+            length = dump.header.cells[0] / m
+            show(f"length {length:.3f}: frequency", omega, theory.light(2 * pi / length, units.light_speed(dump.header)))
+
+
+def gyration(dump: Dump) -> None:
+    velocity, places = dump.records["particles"]["velocity"], tracks(dump)[:-1]
+    _, b = uniform(dump, False)
+    for number, species in particles(dump):
+        expected = units.gyration(dump.header, species, b)      # with the clock for B along z
+        angle = -measure.turned(np.arctan2(velocity[:, number, 1], velocity[:, number, 0])) / dump.header.steps
+        way = places[:, number, :2] - places[:, number, :2].mean(axis=0)
+        speed = hypot(*velocity[0, number, :2]) / FAST
+        show(f"particle {number}: period", 2 * pi / angle, 2 * pi / expected)
+        show(f"particle {number}: radius", np.hypot(*way.T).mean(), speed / (2 * sin(abs(expected) / 2)))
+
+
+def e_cross_b(dump: Dump) -> None:
+    (e, b), places = uniform(dump, True), tracks(dump)
+    for number, species in particles(dump):
+        drift = (places[-1, number] - places[0, number]) / dump.header.steps
+        turn = b * dump.header.b_force.value * species.turn.value / 2**20
+        show(f"particle {number}: drift along x", drift[0],
+             e * dump.header.e_force.value * species.kick.value / turn / FAST)
+        print(f"{'':28} along y  {drift[1]:12.9f}")
+
+
+def plasma_oscillation(dump: Dump) -> None:
+    wave = -measure.waves(dump, "ex")[:, 1] * np.exp(-1j * pi / dump.header.cells[0])
+    wp, _ = plasma(dump)
+    show("frequency", measure.frequency(dump.steps, wave.imag), 2 * asin(wp / 2))
+    print(f"{'':28} over {len(measure.crossings(dump.steps, wave.imag)) - 1} half swings; "
+          f"the plasma frequency itself is {wp:.9f}")
+
+
+def strongest(dump: Dump, name: str) -> tuple[int, float, np.ndarray]:
+    """The wave of a component that is the greatest at the start: how often it goes into the box, its k, and its heights."""
+    heights = waves(dump, name)
+    wave = 1 + int(np.argmax(abs(heights[0, 1 : dump.header.cells[0] // 2])))
+    return wave, 2 * pi * wave / dump.header.cells[0], heights[:, wave]
+
+
+def langmuir(dump: Dump) -> None:
+    wave, k, heights = strongest(dump, "ex")
+    expected = theory.langmuir(k, plasma(dump)[0], units.thermal_speed(dump[0]))
+    show(f"wave {wave}: frequency", -measure.turned(np.angle(heights)) / dump.header.steps, expected.real)
+
+
+def upper_hybrid(dump: Dump) -> None:
+    wave, k, heights = strongest(dump, "ex")
+    wp, electrons = plasma(dump)
+    angle = abs(units.gyration(dump.header, electrons, dump[0].b[2].mean()))
+    show(f"wave {wave}: frequency", -measure.turned(np.angle(heights)) / dump.header.steps,
+         theory.upper_hybrid(k, wp, angle, units.light_speed(dump.header)))
+    print(f"{'':28} without grid and steps, for c k far above it: {hypot(wp, angle):.9f}")
+
+
+def drift(dump: Dump, axes: list[int]) -> float:
+    """The mean speed of the first electrons along these axes, in cells a step, which has to be a drift."""
+    mean = dump[0].species(plasma(dump)[1].name)["velocity"].mean(axis=0)[axes] / FAST
+    if hypot(*mean) < 0.001:
+        raise ValueError(f"the electrons drift by {hypot(*mean):g} cells a step along {', '.join('xyz'[a] for a in axes)}")
+    return hypot(*mean)
+
+
+def show_growth(dump: Dump, wave: int, heights: np.ndarray, expected: float) -> None:
+    fit = measure.growth(dump.steps, abs(heights))
+    show(f"wave {wave}: growth rate", fit.rate, expected)
+    print(f"{'':28} from step {fit.first} to {fit.last}")
+
+
+def two_stream(dump: Dump) -> None:
+    wave, k, heights = strongest(dump, "ex")
+    expected = theory.two_stream(k, plasma(dump)[0], drift(dump, [0]), units.thermal_speed(dump[0]))
+    show_growth(dump, wave, heights, expected.imag)
+
+
+def filamentation(dump: Dump) -> None:
+    speed = drift(dump, [1, 2])
+    wave, k, heights = strongest(dump, "bz" if dump[0].b[2].any() else "by")
+    expected = theory.filamentation(k, plasma(dump)[0], speed, units.light_speed(dump.header))
+    show_growth(dump, wave, heights, expected)
+
+
+MEASURES = {f.__name__: f for f in (light_wave, gyration, e_cross_b, plasma_oscillation, langmuir, two_stream,
+                                    filamentation, upper_hybrid)}
 
 if __name__ == "__main__":
-    measures = {f.__name__: f for f in (light_wave, gyration, e_cross_b, plasma_oscillation)}
-    with open(sys.argv[2], "rb") as file:
-        measures[sys.argv[1]](Dump(file.read()))
+    if len(sys.argv) != 3 or sys.argv[1] not in MEASURES:
+        print(__doc__, file=sys.stderr)
+        sys.exit(2)
+    try:
+        MEASURES[sys.argv[1]](Dump(sys.argv[2]))
+    except (ValueError, LookupError, ArithmeticError, OSError) as error:
+        sys.exit(f"{sys.argv[1]}: {sys.argv[2]} can't be measured as a dump of this deck: {error}")
