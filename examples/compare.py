@@ -1,11 +1,12 @@
 """A second model of the serial run, slow, after docs/SCHEME.md and docs/FORMATS.md. It shares no code with the program.
 
-    python3 examples/compare.py DECK DUMP                 is DUMP byte for byte what the model gives for DECK?
-    python3 examples/compare.py --random COUNT PROGRAM    do PROGRAM and the model agree on COUNT random decks?
+    python3 examples/compare.py DECK DUMP                      is DUMP byte for byte what the model gives for DECK?
+    python3 examples/compare.py --random COUNT PROGRAM [KIND]  do PROGRAM and the model agree on COUNT random decks?
 
 PROGRAM is the path of the built program. Dump, report and exit status are compared. The exit status here is 0 where all
 agree, 1 where something differs, 2 for other words. The model takes it that a deck has the right form: of the refusals
-it knows that of a force value at the start and that of Gauss's law.
+it knows that of a force value at the start and that of Gauss's law. KIND, for a program that knows such decks, is
+`sources` where particles are lattices, random ones and pairs, or `sides` where cells have 256 to 16384 sub-cells (version 2).
 """
 
 import random
@@ -17,7 +18,6 @@ from fractions import Fraction
 from math import trunc
 from struct import pack
 
-SIDE = 4096
 CORNERS = [(dx, dy, dz) for dz in (0, 1) for dy in (0, 1) for dx in (0, 1)]
 PHASES, BOUNDS, FAULTS = ("", "half1", "", "half2", "electric"), ("", "value", "force"), ("", "speed", "turn", "far")
 
@@ -50,14 +50,46 @@ def differences(field, high, low):
              for n in range(len(field[0]))] for b, c in ((1, 2), (2, 0), (0, 1))]
 
 
-def pieces(start, move):
+def random_words(seed, stream):
+    """The words of PCG32 (M. E. O'Neill, 2014: XSH RR of a 64-bit congruence) for a seed and a stream."""
+    step = (2 * stream + 1) % 2**64
+    state = ((step + seed) * 6364136223846793005 + step) % 2**64
+    while True:
+        mixed, turn = (state >> 18 ^ state) >> 27 & 2**32 - 1, state >> 59
+        yield (mixed >> turn | mixed << 32 - turn) & 2**32 - 1
+        state = (state * 6364136223846793005 + step) % 2**64
+
+
+def drawn_velocity(draw, source):
+    """On each axis the drift and the spread times a sum of twelve words, which is nearly Gaussian."""
+    return [drift + rounded(spread * (sum(next(draw) for _ in range(12)) - 6 * (2**32 - 1)), 2**32)
+            for drift, spread in zip(source["drift"], source["spread"])]
+
+
+def particles(kind, box, earlier):
+    """The rows [x, y, z, vx, vy, vz] of a species. `earlier` has those of the species before it, by name."""
+    if "points" in kind:
+        return kind["points"]
+    if "lattice" in kind:
+        source = kind["lattice"]
+        counts = [range(n) for n in source["count"]]
+        return [[(f + n * g) % b for f, n, g, b in zip(source["first"], place, source["gap"], box)] + source["v"]
+                for place in ((x, y, z) for z in counts[2] for y in counts[1] for x in counts[0])]
+    source = kind["random"] if "random" in kind else kind["pair"]
+    draw = random_words(source["seed"], source["stream"])
+    if "random" in kind:
+        return [[next(draw) * b >> 32 for b in box] + drawn_velocity(draw, source) for _ in range(source["count"])]
+    return [row[:3] + drawn_velocity(draw, source) for row in earlier[source["of"]]]
+
+
+def pieces(start, move, side):
     """The straight pieces of a path, each with the cell that it lies in. Nothing is wrapped."""
     end, crossings = [p + d for p, d in zip(start, move)], []
     for a in range(3):
-        before, after = start[a] // SIDE, end[a] // SIDE
+        before, after = start[a] // side, end[a] // side
         if before != after:
-            crossings.append((Fraction(max(before, after) * SIDE - start[a], move[a]), a, after - before))
-    cell, here = [p // SIDE for p in start], start
+            crossings.append((Fraction(max(before, after) * side - start[a], move[a]), a, after - before))
+    cell, here = [p // side for p in start], start
     for fraction, a, sign in sorted(crossings):
         there = [p + trunc(fraction * d) for p, d in zip(start, move)]
         yield cell, here, there
@@ -70,7 +102,8 @@ class Model:
 
     def __init__(self, text):
         deck = tomllib.loads(text)
-        self.cells, self.scale = deck["grid"]["cells"], deck["scale"]
+        self.version, self.cells, self.scale = deck["version"], deck["grid"]["cells"], deck["scale"]
+        self.side = 2 ** deck["grid"]["sub"] if self.version == 2 else 4096
         self.steps, self.every = deck["run"]["steps"], deck["run"]["every"]
         nx, ny, nz = self.cells
         self.places = [(i, j, k) for k in range(nz) for j in range(ny) for i in range(nx)]
@@ -83,7 +116,11 @@ class Model:
             for axis, i, j, k, value in field.get(name, []):
                 part[axis][self.at(i, j, k)] += value
         self.kinds = deck.get("species", [])
-        self.particles = [(kind, row[:3], row[3:]) for kind in self.kinds for row in kind["points"]]
+        rows, box = {}, [n * self.side for n in self.cells]
+        for kind in self.kinds:
+            rows[kind["name"]] = particles(kind, box, rows)
+        self.counts = [len(part) for part in rows.values()]
+        self.particles = [(kind, row[:3], row[3:]) for kind in self.kinds for row in rows[kind["name"]]]
         self.dump, self.report = [], []
 
     def at(self, i, j, k):
@@ -104,8 +141,8 @@ class Model:
     def weights(self, position):
         """The eight nodes around a position, and its weight at each."""
         for corner in CORNERS:
-            x, y, z = (p % SIDE if d else SIDE - p % SIDE for p, d in zip(position, corner))
-            yield self.at(*(p // SIDE + d for p, d in zip(position, corner))), x * y * z
+            x, y, z = (p % self.side if d else self.side - p % self.side for p, d in zip(position, corner))
+            yield self.at(*(p // self.side + d for p, d in zip(position, corner))), x * y * z
 
     def test_gauss(self):
         """Div E at every node is 12 times the charge there."""
@@ -119,11 +156,13 @@ class Model:
                 raise Halt(3, "gauss %d %d %d div %d rho %d" % (*place, divergence, charge[n]), b"")
 
     def write_header(self):
-        self.dump.append(b"PICDUMP1" + pack(">5I", *self.cells, self.steps, self.every))
+        self.dump.append(b"PICDUMP%d" % self.version + pack(">5I", *self.cells, self.steps, self.every))
         self.dump += [pack(">iI", *self.scale[name]) for name in ("e_to_b", "b_to_e", "e_force", "b_force")]
+        # Version 2 has the sub-cells of a cell as a power of 2, and two numbers that are 0.
+        self.dump.append(pack(">3I", self.side.bit_length() - 1, 0, 0) if self.version == 2 else b"")
         self.dump.append(pack(">I", len(self.kinds)))
-        for kind in self.kinds:
-            numbers = kind["charge"], kind["mass"], *kind["kick"], *kind["turn"], len(kind["points"])
+        for kind, count in zip(self.kinds, self.counts):
+            numbers = kind["charge"], kind["mass"], *kind["kick"], *kind["turn"], count
             self.dump.append(pack(">32siIiIiII", kind["name"].encode(), *numbers))
 
     def write_frame(self, step):
@@ -162,8 +201,8 @@ class Model:
 
     def gather(self, forces, position, shifted):
         """The force at a position, on the lattice that is shifted by half a cell along the axes of `shifted`."""
-        local = [p - SIDE // 2 * (a in shifted) for a, p in enumerate(position)]
-        return rounded(sum(forces[node] * weight for node, weight in self.weights(local)), SIDE**3)
+        local = [p - self.side // 2 * (a in shifted) for a, p in enumerate(position)]
+        return rounded(sum(forces[node] * weight for node, weight in self.weights(local)), self.side**3)
 
     def push(self, step, identity, electric, magnetic):
         """Boris's push of a particle: its new velocity and its move."""
@@ -185,18 +224,18 @@ class Model:
         turned = [v + rounded(2**21 * c, whole) for v, c in zip(middle, cross(halfway, turn))]
         velocity = [v + h for v, h in zip(turned, kick)]
         move = [rounded(v, 4096) for v in velocity]
-        test(3, move, SIDE)
+        test(3, move, self.side)
         return velocity, move
 
     def add_flux(self, current, charge, cell, start, end):
         """Villasenor and Buneman's current of one piece, times 12, on the twelve edges of its cell."""
-        first, last = ([p - c * SIDE for p, c in zip(point, cell)] for point in (start, end))
-        assert all(0 <= p <= SIDE for p in first + last), "a piece leaves its cell"
+        first, last = ([p - c * self.side for p, c in zip(point, cell)] for point in (start, end))
+        assert all(0 <= p <= self.side for p in first + last), "a piece leaves its cell"
         for a in range(3):
             b, c = (a + 1) % 3, (a + 2) % 3
             for edge_b, edge_c in (0, 0), (1, 0), (0, 1), (1, 1):
-                b0, b1 = (p[b] if edge_b else SIDE - p[b] for p in (first, last))
-                c0, c1 = (p[c] if edge_c else SIDE - p[c] for p in (first, last))
+                b0, b1 = (p[b] if edge_b else self.side - p[b] for p in (first, last))
+                c0, c1 = (p[c] if edge_c else self.side - p[c] for p in (first, last))
                 edge = [p + (i == b and edge_b) + (i == c and edge_c) for i, p in enumerate(cell)]
                 mean = 3 * (b0 + b1) * (c0 + c1) + (b1 - b0) * (c1 - c0)
                 current[a][self.at(*edge)] += charge * (last[a] - first[a]) * mean
@@ -209,9 +248,9 @@ class Model:
             e = [self.gather(electric[a], position, [a]) for a in range(3)]
             b = [self.gather(magnetic[a], position, [(a + 1) % 3, (a + 2) % 3]) for a in range(3)]
             velocity, move = self.push(step, identity, e, b)
-            for cell, start, end in pieces(position, move):
+            for cell, start, end in pieces(position, move, self.side):
                 self.add_flux(current, kind["charge"], cell, start, end)
-            position = [(p + d) % (n * SIDE) for p, d, n in zip(position, move, self.cells)]
+            position = [(p + d) % (n * self.side) for p, d, n in zip(position, move, self.cells)]
             self.particles[identity] = kind, position, velocity
         return current
 
@@ -250,25 +289,48 @@ def random_multiplier(dice, wild, low, high):
     return [round(2 ** (k + dice.uniform(low, high))) * dice.choice([1, -1]), k]
 
 
-def random_species(dice, wild, cells):
+def random_species(dice, wild, cells, side):
     """Two species on the same places with opposite charges, so without a charge; many on faces, edges and nodes."""
-    fast, charge, text = dice.choice([2**14, 2**20, 2**23, 2**24]), dice.choice([1, -1, 7, 32767, 0]), ""
-    spots = [[dice.choice([dice.randrange(c * SIDE), SIDE * dice.randrange(c) + dice.choice([0, 0, 1, 2048, 4095])])
+    fast, charge = dice.choice([4, 2**8, 2**11, 2**12]) * side, dice.choice([1, -1, 7, 32767, 0])
+    spots = [[dice.choice([dice.randrange(c * side), side * dice.randrange(c) + dice.choice([0, 0, 1, side // 2, side - 1])])
               for c in cells] for _ in range(dice.randint(0, 5 if wild else 30))]
+    text = ""
     for name, sign in ("a", 1), ("b", -1):
         speeds = lambda: [dice.choice([dice.randint(-fast, fast), 0, fast, -fast]) for _ in range(3)]
-        kick, turn = (random_multiplier(dice, wild and dice.random() < 0.3, low, low + 15) for low in (-14, -11))
-        text += f'[[species]]\nname = "{name}"\ncharge = {sign * charge}\nmass = {dice.randint(1, 65536)}\n'
-        text += f"kick = {kick}\nturn = {turn}\npoints = {[spot + speeds() for spot in spots]}\n"
+        text += random_kind(dice, wild, name, sign * charge) + f"points = {[spot + speeds() for spot in spots]}\n"
     return text
 
 
-def random_deck(number):
+def random_kind(dice, wild, name, charge):
+    """A species without its particles."""
+    kick, turn = (random_multiplier(dice, wild and dice.random() < 0.3, low, low + 15) for low in (-14, -11))
+    text = f'[[species]]\nname = "{name}"\ncharge = {charge}\nmass = {dice.randint(1, 65536)}\n'
+    return text + f"kick = {kick}\nturn = {turn}\n"
+
+
+def random_sources(dice, wild, cells):
+    """A lattice or random particles, and two pairs of them, one of a pair. The second has the opposite charge, the third none."""
+    charge, fast = dice.choice([1, -1, 7, 32767, 0]), dice.choice([2**10, 2**16, 2**20])
+    drift, spread = ([dice.choice([0, dice.randint(0, fast)]) for _ in range(3)] for _ in "ds")
+    drawn = lambda: (f"seed = {dice.choice([0, 1, 42, 2**63 - 1])}, stream = {dice.choice([0, 54, 2**63 - 1])}, "
+                     f"drift = {[dice.choice([1, -1]) * d for d in drift]}, spread = {spread}")
+    counts, first = [dice.choice([0, 1, 2, 3]) for _ in range(3)], [dice.randrange(4096 * c) for c in cells]
+    gap, v = [dice.choice([0, 2048, 262144, dice.randrange(262144)]) for _ in range(3)], [-d for d in drift]
+    sources = [f"lattice = {{ first = {first}, gap = {gap}, count = {counts}, v = {v} }}",
+               f"random = {{ count = {dice.randint(0, 5 if wild else 30)}, {drawn()} }}"]
+    sources = [dice.choice(sources), f'pair = {{ of = "a", {drawn()} }}', f'pair = {{ of = "b", {drawn()} }}']
+    return "".join(random_kind(dice, wild, name, sign * charge) + source + "\n"
+                   for name, sign, source in zip("abc", (1, -1, 0), sources))
+
+
+def random_deck(number, kind=""):
     """The random deck of a number: a calm one where it is even, else a wild one that stops soon."""
     dice, wild = random.Random(number), number % 2
     cells = [dice.choice([2, 2, 3, 4] if wild else [2, 3, 4, 5, 6]) for _ in range(3)]
     tiles = [dice.choice([t for t in range(1, c // 2 + 1) if c % t == 0]) for c in cells]
-    text = f"version = 1\n[grid]\ncells = {cells}\ntiles = {tiles}\n"
+    sub = dice.randint(8, 14) if kind == "sides" else 12
+    text = f"version = {2 if kind == 'sides' else 1}\n[grid]\ncells = {cells}\ntiles = {tiles}\n"
+    text += f"sub = {sub}\n" if kind == "sides" else ""
     text += f"[run]\nsteps = {dice.randint(0, 12)}\nevery = {dice.randint(1, 5)}\n[scale]\n"
     power = dice.choice([3, 40, 57, 58, 59, 60]) if wild else dice.randint(3, 43)
     for name, high in ("e_to_b", -2), ("b_to_e", 0):
@@ -276,7 +338,7 @@ def random_deck(number):
     for name in "e_force", "b_force":
         k = dice.randint(14, 62) if wild else dice.choice([dice.randint(20, 40), max(0, power - dice.randint(5, 24))])
         text += f"{name} = {[dice.randint(-3, 3), k]}\n"
-    text += random_species(dice, wild, cells)
+    text += random_sources(dice, wild, cells) if kind == "sources" else random_species(dice, wild, cells, 2**sub)
     # E is a curl, and so has no charge; but a few wild decks have a row more.
     model, high = Model(text), 2**power
     source, faces = ([[dice.randint(-high, high) for _ in model.places] for _ in range(3)] for _ in "eb")
@@ -287,11 +349,11 @@ def random_deck(number):
     return text + f"[field]\ne = {e}\nb = {b}\nedges = {edges}\nfaces = {faces}\n"
 
 
-def compare_random(count, program):
+def compare_random(count, program, kind):
     """Runs the program and the model on the decks 0, 1, .., and counts how they end."""
     ends, differ = Counter(), 0
     for number in range(count):
-        text = random_deck(number)
+        text = random_deck(number, kind)
         status, dump, report = Model(text).run()
         done = subprocess.run([program, "run"], input=text.encode(), capture_output=True, timeout=600)
         last = report.decode().splitlines()[-1].split()
@@ -308,8 +370,8 @@ def compare_random(count, program):
 
 
 def main(words):
-    if len(words) == 3 and words[0] == "--random" and words[1].isdecimal():
-        return compare_random(int(words[1]), words[2])
+    if words[:1] == ["--random"] and len(words) in (3, 4) and words[1].isdecimal() and set(words[3:]) <= {"sources", "sides"}:
+        return compare_random(int(words[1]), words[2], "".join(words[3:]))
     if len(words) != 2 or words[0].startswith("-"):
         print(__doc__, file=sys.stderr)
         return 2
