@@ -6,7 +6,7 @@ use Rattle.pic_grid.specs.declared.stop.Stop.{Stop}
 use Rattle.pic_step.specs.SerialStep.{World, step_on, stop_of, stepped}
 use Rattle.pic_step.specs.SerialRun.{after, step_from, stopped_in}
 use Rattle.pic_step.specs.Sound.{IsSound}
-use Rattle.pic_step.proofs.Soundness.{step_sound}
+use Rattle.pic_step.proofs.SoundLaws.{step_sound}
 use Rattle.pic_run.specs.Starting.{EachGauss}
 
 unless_is : (o : Option Stop) (a b : World) → ◌≡◌ {A = Result World Stop} (unless o a) (Ok b) → (o ≡ None) × (a ≡ b)

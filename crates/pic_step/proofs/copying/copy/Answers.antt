@@ -6,7 +6,7 @@ use Rattle.pic_num.specs.Space.{Triple, triple}
 use Rattle.pic_grid.specs.Lattice.{value_at, field_of}
 use Rattle.pic_grid.specs.Cells.{IsWithin, count_of, place_of}
 use Rattle.pic_grid.proofs.LatticeLaws.{is_field_of}
-use Rattle.pic_step.proofs.Walks.{walked_none, walked_more, walked_all}
+use Rattle.pic_step.proofs.WalkLaws.{walked_none, walked_more, walked_all}
 use Rattle.pic_step.proofs.copying.copy.Goals as goal
 
 pub loop-place-init : goal.loop-place-init

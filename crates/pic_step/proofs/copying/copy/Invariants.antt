@@ -1,5 +1,5 @@
 use Rattle.pic_grid.specs.Lattice.{value_at}
-use Rattle.pic_step.proofs.Walks.{Walked}
+use Rattle.pic_step.proofs.WalkLaws.{Walked}
 use Rattle.pic_step.proofs.copying.copy.Given as goal
 
 -- the places so far have the values of the other lattice

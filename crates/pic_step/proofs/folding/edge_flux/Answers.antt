@@ -7,7 +7,7 @@ use Rattle.pic_num.specs.Sizes.{IsAtMost}
 use Rattle.pic_num.specs.Space.{Triple, Spot, triple}
 use Rattle.pic_grid.specs.Block.{InZone, edge_at}
 use Rattle.pic_step.specs.Traces.{IsReached}
-use Rattle.pic_step.proofs.Foldings.{in_guard}
+use Rattle.pic_step.proofs.FoldLaws.{in_guard}
 use Rattle.pic_step.proofs.folding.edge_flux.Goals as goal
 
 pub returns-then-is_reached-clause-value : goal.returns-then-is_reached-clause-value

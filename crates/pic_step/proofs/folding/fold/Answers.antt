@@ -7,7 +7,7 @@ use Rattle.pic_num.specs.Space.{Triple, triple}
 use Rattle.pic_grid.specs.Current.{wrapped}
 use Rattle.pic_grid.specs.Cells.{IsWithin, count_of, place_of}
 use Rattle.pic_step.specs.Traces.{Holds}
-use Rattle.pic_step.proofs.Walks.{walked_none, walked_more, walked_all}
+use Rattle.pic_step.proofs.WalkLaws.{walked_none, walked_more, walked_all}
 use Rattle.pic_step.proofs.folding.fold.Goals as goal
 
 pub loop-place-init : goal.loop-place-init

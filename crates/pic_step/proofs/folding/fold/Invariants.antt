@@ -4,7 +4,7 @@ use Rattle.pic_num.specs.declared.axis.Axis.{Axis}
 use Rattle.pic_num.specs.Space.{Spot}
 use Rattle.pic_grid.specs.Current.{wrapped}
 use Rattle.pic_step.specs.Traces.{Holds}
-use Rattle.pic_step.proofs.Walks.{Walked}
+use Rattle.pic_step.proofs.WalkLaws.{Walked}
 use Rattle.pic_step.proofs.folding.fold.Given as goal
 
 -- the places so far have the flux through all their images

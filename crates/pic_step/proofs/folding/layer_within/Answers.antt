@@ -4,7 +4,7 @@ use mir.Syntax.{w32}
 use Rattle.pic_num.specs.Space.{Triple, triple}
 use Rattle.pic_grid.specs.Current.{sum_images}
 use Rattle.pic_step.specs.Traces.{IsBeyond}
-use Rattle.pic_step.proofs.Foldings.{images_none}
+use Rattle.pic_step.proofs.FoldLaws.{images_none}
 use Rattle.pic_step.proofs.folding.layer_within.Goals as goal
 
 pub returns-else-is_reached-clause-value : goal.returns-else-is_reached-clause-value

@@ -3,7 +3,7 @@ use Rattle.std.proofs.lemmas.Int.{to_z-of_z}
 use mir.Syntax.{w32}
 use Rattle.pic_num.specs.Space.{Triple, triple}
 use Rattle.pic_step.specs.Traces.{IsBeyond}
-use Rattle.pic_step.proofs.Foldings.{images_none}
+use Rattle.pic_step.proofs.FoldLaws.{images_none}
 use Rattle.pic_step.proofs.folding.row_within.Goals as goal
 
 pub returns-else-is_reached-clause-value : goal.returns-else-is_reached-clause-value

@@ -1,4 +1,4 @@
-use Rattle.pic_step.proofs.Images.{three_images_are_all}
+use Rattle.pic_step.proofs.ImageLaws.{three_images_are_all}
 use Rattle.pic_step.proofs.laws.three_images_are_all.Goals as goal
 
 pub returns : goal.returns

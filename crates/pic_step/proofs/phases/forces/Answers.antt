@@ -1,5 +1,5 @@
 use Rattle.std.proofs.Common.{refl}
-use Rattle.pic_step.proofs.OnePart.{one_of, one_among, one_zones, force_done}
+use Rattle.pic_step.proofs.OnePartLaws.{one_of, one_among, one_zones, force_done}
 use Rattle.pic_step.proofs.phases.forces.Goals as goal
 
 pub force-requires-clause-among : goal.force-requires-clause-among

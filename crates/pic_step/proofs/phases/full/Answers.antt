@@ -2,7 +2,7 @@ use Rattle.std.proofs.Common.{◌^◌, Err, refl, sym, ap, ◌∙◌, subst}
 use Rattle.std.proofs.lemmas.Result.{err_from_is_err_and}
 use Rattle.pic_field.proofs.WholeLaws.{no_stop, the_stop}
 use Rattle.pic_step.specs.Sound.{one_part}
-use Rattle.pic_step.proofs.OnePart.{one_of, one_among, one_small, one_shaped, one_zones, one_still, full_done, full_stop_is}
+use Rattle.pic_step.proofs.OnePartLaws.{one_of, one_among, one_small, one_shaped, one_zones, one_still, full_done, full_stop_is}
 use Rattle.pic_grid.specs.Parts.{ArePartsOf}
 use Rattle.pic_num.specs.Space.{Triple}
 use Rattle.pic_step.proofs.phases.full.Goals as goal

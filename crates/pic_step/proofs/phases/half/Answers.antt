@@ -1,7 +1,7 @@
 use Rattle.std.proofs.Common.{◌^◌, Err, refl, sym, ap, ◌∙◌}
 use Rattle.std.proofs.lemmas.Result.{err_from_is_err_and}
 use Rattle.pic_field.proofs.WholeLaws.{no_stop, the_stop}
-use Rattle.pic_step.proofs.OnePart.{one_of, one_among, one_small, one_zones, half_done, half_stop_is}
+use Rattle.pic_step.proofs.OnePartLaws.{one_of, one_among, one_small, one_zones, half_done, half_stop_is}
 use Rattle.pic_step.proofs.phases.half.Goals as goal
 
 pub half_b-requires-clause-among : goal.half_b-requires-clause-among

@@ -13,8 +13,8 @@ use Rattle.pic_step.specs.PushRoom.{around_fields}
 use Rattle.pic_step.specs.Pushing.{felt}
 use Rattle.pic_step.specs.Sound.{one_part}
 use Rattle.pic_step.specs.Traces.{traces, Holds}
-use Rattle.pic_step.proofs.Felt.{around_lattices, moved_same, stop_same, traces_same}
-use Rattle.pic_step.proofs.Pushed.{forces_small, guard_holds, folded, folded_small, felt_is, kinds_all}
+use Rattle.pic_step.proofs.FeltLaws.{around_lattices, moved_same, stop_same, traces_same}
+use Rattle.pic_step.proofs.PushPhaseLaws.{forces_small, guard_holds, folded, folded_small, felt_is, kinds_all}
 use Rattle.pic_step.proofs.push_phase.push_phase.Goals as goal
 
 pub push_all-stop-requires-clause-e : goal.push_all-stop-requires-clause-e

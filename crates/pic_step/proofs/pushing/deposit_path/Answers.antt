@@ -1,5 +1,5 @@
 use Rattle.pic_num.specs.Space.{triple, spot}
-use Rattle.pic_step.proofs.Fits.{track_fits}
+use Rattle.pic_step.proofs.FitLaws.{track_fits}
 use Rattle.pic_step.proofs.pushing.deposit_path.Goals as goal
 
 pub deposit_track-requires-clause-fit : goal.deposit_track-requires-clause-fit

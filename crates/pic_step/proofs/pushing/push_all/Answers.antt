@@ -7,7 +7,7 @@ use Rattle.pic_grid.specs.PushPhase.{push_of, halt_of, CanShare}
 use Rattle.pic_flux.specs.Adds.{Adds}
 use Rattle.pic_step.specs.Pushing.{felt}
 use Rattle.pic_step.specs.Traces.{trace_of}
-use Rattle.pic_step.proofs.Passed.{Passed, passed_none, passed_more, passed_all, at_most_more, next_is, written}
+use Rattle.pic_step.proofs.PassedLaws.{Passed, passed_none, passed_more, passed_all, at_most_more, next_is, written}
 use Rattle.pic_step.proofs.pushing.push_all.Goals as goal
 
 pub loop-i-init : goal.loop-i-init

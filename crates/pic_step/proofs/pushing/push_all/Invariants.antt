@@ -1,5 +1,5 @@
 use Rattle.pic_step.specs.Pushing.{felt}
-use Rattle.pic_step.proofs.Passed.{Passed}
+use Rattle.pic_step.proofs.PassedLaws.{Passed}
 use Rattle.pic_step.proofs.pushing.push_all.Given as goal
 
 -- the particles so far are pushed

@@ -8,9 +8,9 @@ use Rattle.pic_step.specs.Pushing.{AreKinds}
 use Rattle.pic_step.specs.PushRoom.{IsPushed}
 use Rattle.pic_step.specs.SerialStep.{World, around, half_on, stepped}
 use Rattle.pic_step.specs.Sound.{IsSafe}
-use Rattle.pic_step.proofs.Exits.{stops_first, stops_push, stops_second, stops_last}
-use Rattle.pic_step.proofs.Pushes.{length-moved_all}
-use Rattle.pic_step.proofs.Stepped.{safe_small, is_half, half_stop_of, half_safe, pushed_on, is_before, second_stop_of, before_safe, last_stop_of, is_after, sound_after, stepped_after, rooms_back}
+use Rattle.pic_step.proofs.ExitLaws.{stops_first, stops_push, stops_second, stops_last}
+use Rattle.pic_step.proofs.PushLaws.{length-moved_all}
+use Rattle.pic_step.proofs.StepLaws.{safe_small, is_half, half_stop_of, half_safe, pushed_on, is_before, second_stop_of, before_safe, last_stop_of, is_after, sound_after, stepped_after, rooms_back}
 use Rattle.pic_step.proofs.stepping.after_step.Goals as goal
 
 pub returns-in_err-b : goal.returns-in_err-b

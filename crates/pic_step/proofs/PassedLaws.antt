@@ -16,7 +16,7 @@ use Rattle.pic_grid.specs.Sums.{sum_over}
 use Rattle.pic_grid.specs.Block.{BlockValues, InZone, IsShaped, AllAtMost, edge_at}
 use Rattle.pic_grid.proofs.OverLaws.{sum_over_more}
 use Rattle.pic_flux.specs.Adds.{Adds}
-use Rattle.pic_step.proofs.Pushes.{length-moved_all}
+use Rattle.pic_step.proofs.PushLaws.{length-moved_all}
 use Rattle.pic_step.specs.Traces.{trace_of, traces}
 
 -- the first i particles are pushed, their flux is added, and their first stop is known

@@ -6,7 +6,7 @@ use Rattle.std.proofs.lemmas.Int.{ints, by_lt_z}
 use Rattle.pic_num.specs.Rounding.{IsResidue}
 use Rattle.pic_num.proofs.RoundingLaws.{mul-le_mul}
 use Rattle.pic_step.specs.Reach.{IsImage, ThreeImagesAreAll}
-use Rattle.pic_step.proofs.Beyond.{traces_beyond_x, traces_beyond_y, traces_beyond_z}
+use Rattle.pic_step.proofs.BeyondLaws.{traces_beyond_x, traces_beyond_y, traces_beyond_z}
 
 -- two boxes or more under or over are beyond
 far_under : (n i : ℕ) (j m : ℤ) → 2 ≤ n → i < n → j ≡ m *ℤ pos n +ℤ pos i → m <ℤ negsuc 0 → j <ℤ negsuc 0

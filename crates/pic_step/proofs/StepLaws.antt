@@ -20,8 +20,8 @@ use Rattle.pic_step.specs.PushRoom.{around_fields, IsPushed}
 use Rattle.pic_step.specs.Rooms.{IsRoom, AreRooms}
 use Rattle.pic_step.specs.SerialStep.{World, origin, around, half_at, full_at, half_on, push_on, current_of, before_electric, half_stop, full_stop, step_on, stop_of, stepped}
 use Rattle.pic_step.specs.Sound.{one_part, IsSafe, IsSound}
-use Rattle.pic_step.proofs.Exits.{no_stop_is, steps_on}
-use Rattle.pic_step.proofs.Soundness.{above_origin, safe_after, step_sound}
+use Rattle.pic_step.proofs.ExitLaws.{no_stop_is, steps_on}
+use Rattle.pic_step.proofs.SoundLaws.{above_origin, safe_after, step_sound}
 
 -- the values of a safe field are small
 pub safe_small : (n : Triple) (by : Multiplier) (f : Field) → IsSafe n by f → EachAtMost (2 ^ 90) f

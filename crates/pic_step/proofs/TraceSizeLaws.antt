@@ -19,8 +19,8 @@ use Rattle.pic_split.proofs.ImageLaws.{wrapped_size}
 use Rattle.pic_split.proofs.LeadLaws.{move_along}
 use Rattle.pic_split.proofs.WayLaws.{path_flux_size}
 use Rattle.pic_step.specs.Traces.{trace_of, traces}
-use Rattle.pic_step.proofs.Beyond.{current_is}
-use Rattle.pic_step.proofs.Pushes.{push_move}
+use Rattle.pic_step.proofs.BeyondLaws.{current_is}
+use Rattle.pic_step.proofs.PushLaws.{push_move}
 
 product_most : (q d : ℕ) → q ≤ 2 ^ 15 → d ≤ 4096 → q * d * (12 * (4096 * 4096)) ≤ 12 * 2 ^ 51
 product_most q d h k =

@@ -22,8 +22,8 @@ use Rattle.pic_field.proofs.FaultLaws.{least_fault-bounded}
 use Rattle.pic_split.proofs.ImageLaws.{div_e_same}
 use Rattle.pic_step.specs.SerialStep.{World, origin, around, half_at, full_at, half_on, push_on, current_of, before_electric, half_stop, full_stop, step_on, stop_of}
 use Rattle.pic_step.specs.Sound.{one_part, IsSafe, IsSound}
-use Rattle.pic_step.proofs.Pushes.{ids_kept, length-moved_all, share_kept}
-use Rattle.pic_step.proofs.GaussLaw.{div_current, div_full}
+use Rattle.pic_step.proofs.PushLaws.{ids_kept, length-moved_all, share_kept}
+use Rattle.pic_step.proofs.GaussLaws.{div_current, div_full}
 
 -- every grid has two cells on each axis
 pub has_two : (n : Triple) → IsCells n → HasTwo n

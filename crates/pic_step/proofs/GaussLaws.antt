@@ -15,9 +15,9 @@ use Rattle.pic_grid.specs.PushPhase.{Surroundings, kind_of, push_of, after_push,
 use Rattle.pic_grid.specs.Sums.{sum_over}
 use Rattle.pic_grid.proofs.DifferenceLaws.{div_e-curl_b}
 use Rattle.pic_charge.specs.Charge.{share, charge_of}
-use Rattle.pic_split.proofs.ContinuityLaws.{continuity_of_move}
-use Rattle.pic_split.proofs.ImageLaws.{div_e-zero, div_e-add, div_e-less}
-use Rattle.pic_step.proofs.Pushes.{push_move}
+use Rattle.pic_split.proofs.Continuity.{continuity_of_move}
+use Rattle.pic_split.proofs.ContinuityImages.{div_e-zero, div_e-add, div_e-less}
+use Rattle.pic_step.proofs.PushLaws.{push_move}
 
 -- one particle: the divergence of its current is what its share loses
 pub div_flux : (w : Surroundings) (x : Particle) (node : Triple) (r : Result Shift Halting) → push_of w x ≡ r

@@ -23,9 +23,9 @@ use Rattle.pic_gather.specs.Forces.{AreForces}
 use Rattle.pic_step.specs.Pushing.{felt}
 use Rattle.pic_step.specs.Sound.{one_part, IsSafe, AllCanShare}
 use Rattle.pic_step.specs.Traces.{traces, Holds}
-use Rattle.pic_step.proofs.Beyond.{traces_beyond_x, traces_beyond_y, traces_beyond_z, current_is}
-use Rattle.pic_step.proofs.Felt.{around_lattices}
-use Rattle.pic_step.proofs.TraceSizes.{current_size}
+use Rattle.pic_step.proofs.BeyondLaws.{traces_beyond_x, traces_beyond_y, traces_beyond_z, current_is}
+use Rattle.pic_step.proofs.FeltLaws.{around_lattices}
+use Rattle.pic_step.proofs.TraceSizeLaws.{current_size}
 
 -- the force values of a safe field are small enough to be gathered
 pub forces_small : (n : Triple) (by : Multiplier) (f r : Field) → IsSafe n by f → r ≡ field_of n one_part (force_of by (value_at f)) → AreForces r

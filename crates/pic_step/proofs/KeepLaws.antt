@@ -16,7 +16,7 @@ use Rattle.pic_field.specs.FieldPhases.{half_of}
 use Rattle.pic_step.specs.Keeps.{Keeps}
 use Rattle.pic_step.specs.SerialStep.{World, half_at, half_on, push_on, step_on}
 use Rattle.pic_step.specs.Sound.{IsSound}
-use Rattle.pic_step.proofs.Soundness.{gauss_kept}
+use Rattle.pic_step.proofs.SoundLaws.{gauss_kept}
 
 -- the next cell up is one of the grid's
 up_within : (n : Triple) (a : Axis) (p : Triple) → IsWithin p n → IsWithin (up n a p) n
