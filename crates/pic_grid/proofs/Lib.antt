@@ -15,6 +15,7 @@ pub mod TwoHatLaws
 pub mod SlowSums
 pub mod WeightLaws
 pub mod FluxLaws
+pub mod LeastHaltLaws
 mod DifferenceRows
 mod GridRows
 mod PhaseRows

@@ -16,3 +16,6 @@ pub mod Flux
 pub mod PushPhase
 pub mod Current
 pub mod Ways
+pub mod Traces
+pub mod Felt
+pub mod LeastHalt

@@ -8,3 +8,4 @@ pub mod Space
 pub mod Push
 pub mod Flux
 pub mod Bytes
+pub mod Velocity

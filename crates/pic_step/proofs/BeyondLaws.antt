@@ -1,7 +1,8 @@
 -- No path from the box reaches beyond the layer under the grid and the two layers over it.
-use Rattle.std.proofs.Common.{◌≡◌, ℕ, suc, ◌<◌, inl, inr, Bool, true, false, cond, List, [], ◌∷◌, length, Result, Ok, Err, refl, sym, ◌∙◌, arith}
+use Rattle.std.proofs.Common.{◌≡◌, ℕ, ◌<◌, inl, inr, Bool, true, false, cond, List, [], ◌∷◌, Result, Ok, Err, refl, sym, ◌∙◌, arith}
 use Rattle.std.proofs.Math.IntN.{ℤ, pos, ◌+ℤ◌, ◌-ℤ◌, ◌*ℤ◌}
-use Rattle.std.specs.Prelude.{unsigned_abs, slice_index_or}
+use Rattle.std.specs.Prelude.{unsigned_abs, All}
+use Rattle.std.proofs.lemmas.List.Elements.{All-head, All-tail}
 use Rattle.std.proofs.lemmas.Bool.Decides.{nat_tests}
 use Rattle.std.proofs.lemmas.Int.{ints}
 use Rattle.pic_num.specs.declared.motion.Particle.{Particle}
@@ -24,14 +25,14 @@ use Rattle.pic_grid.proofs.TwoHatLaws.{only, only_below, only_above, two_hats}
 use Rattle.pic_split.proofs.ImageHatLaws.{IsNear}
 use Rattle.pic_split.proofs.ImageLaws.{wrapped-zero, wrapped-over}
 use Rattle.pic_split.proofs.ContinuityLaws.{IsNearGrid, near_cell, near_start, near_end}
-use Rattle.pic_step.specs.Sound.{AllCanShare}
-use Rattle.pic_step.specs.Traces.{trace_of, traces, IsBeyond}
+use Rattle.pic_grid.specs.Traces.{trace_of, traces, IsBeyond}
 use Rattle.pic_step.proofs.PushLaws.{push_move}
 
 -- an edge beyond is neither that of a near cell nor the next one
 only_beyond : (n : ℕ) (c j : ℤ) → IsNear n c → IsBeyond n j → (only c j ≡ pos 0) × (only (c +ℤ pos 1) j ≡ pos 0)
 only_beyond n c j near (inl low) = let l = near.low in (only_below c j (omega (arith, ints, low, l)), only_below (c +ℤ pos 1) j (omega (arith, ints, low, l)))
-only_beyond n c j near (inr high) = let h = near.high in (only_above c j (omega (arith, ints, high, h)), only_above (c +ℤ pos 1) j (omega (arith, ints, high, h)))
+only_beyond n c j near (inr high) = let h = near.high in
+    (only_above c j (omega (arith, ints, high, h)), only_above (c +ℤ pos 1) j (omega (arith, ints, high, h)))
 
 no_weight : (u v : ℤ) → pos 0 *ℤ u +ℤ pos 0 *ℤ v ≡ pos 0
 no_weight u v = ring (u ∷ v ∷ []) (search reads depth 10) tt
@@ -67,7 +68,8 @@ unfolding simpson
 no_second q way a0 a1 b0 b1 h k = (λ i. simpson q way a0 a1 (h i) (k i)) ∙ ring (q ∷ way ∷ a0 ∷ a1 ∷ []) (search reads depth 14) tt
 
 -- a piece has no flux through an edge that is beyond on x
-flux_beyond_x : (side : ℕ) (n : Triple) (q : ℤ) (s : Piece) (a : Axis) (c : Spot) → IsNearGrid n s.cell → IsInCell side s → IsBeyond n.x c.x → flux side q s a c ≡ pos 0
+flux_beyond_x : (side : ℕ) (n : Triple) (q : ℤ) (s : Piece) (a : Axis) (c : Spot) → IsNearGrid n s.cell → IsInCell side s → IsBeyond n.x c.x
+    → flux side q s a c ≡ pos 0
 unfolding flux
 flux_beyond_x side n q s X c near at beyond = when_false _ _ (other_cell n.x s.cell.x c.x near.x beyond)
 flux_beyond_x side n q s Y c near at beyond = when_zero _ _ (no_second q _ _ _ _ _
@@ -75,7 +77,8 @@ flux_beyond_x side n q s Y c near at beyond = when_zero _ _ (no_second q _ _ _ _
 flux_beyond_x side n q s Z c near at beyond = when_zero _ _ (no_first q _ _ _ _ _
     (hat_beyond side n.x s.cell.x s.from.x c.x near.x (at.from X) beyond) (hat_beyond side n.x s.cell.x s.to.x c.x near.x (at.to X) beyond))
 
-flux_beyond_y : (side : ℕ) (n : Triple) (q : ℤ) (s : Piece) (a : Axis) (c : Spot) → IsNearGrid n s.cell → IsInCell side s → IsBeyond n.y c.y → flux side q s a c ≡ pos 0
+flux_beyond_y : (side : ℕ) (n : Triple) (q : ℤ) (s : Piece) (a : Axis) (c : Spot) → IsNearGrid n s.cell → IsInCell side s → IsBeyond n.y c.y
+    → flux side q s a c ≡ pos 0
 unfolding flux
 flux_beyond_y side n q s Y c near at beyond = when_false _ _ (other_cell n.y s.cell.y c.y near.y beyond)
 flux_beyond_y side n q s Z c near at beyond = when_zero _ _ (no_second q _ _ _ _ _
@@ -83,7 +86,8 @@ flux_beyond_y side n q s Z c near at beyond = when_zero _ _ (no_second q _ _ _ _
 flux_beyond_y side n q s X c near at beyond = when_zero _ _ (no_first q _ _ _ _ _
     (hat_beyond side n.y s.cell.y s.from.y c.y near.y (at.from Y) beyond) (hat_beyond side n.y s.cell.y s.to.y c.y near.y (at.to Y) beyond))
 
-flux_beyond_z : (side : ℕ) (n : Triple) (q : ℤ) (s : Piece) (a : Axis) (c : Spot) → IsNearGrid n s.cell → IsInCell side s → IsBeyond n.z c.z → flux side q s a c ≡ pos 0
+flux_beyond_z : (side : ℕ) (n : Triple) (q : ℤ) (s : Piece) (a : Axis) (c : Spot) → IsNearGrid n s.cell → IsInCell side s → IsBeyond n.z c.z
+    → flux side q s a c ≡ pos 0
 unfolding flux
 flux_beyond_z side n q s Z c near at beyond = when_false _ _ (other_cell n.z s.cell.z c.z near.z beyond)
 flux_beyond_z side n q s X c near at beyond = when_zero _ _ (no_second q _ _ _ _ _
@@ -101,48 +105,52 @@ along_path side n c e f of_c of_e zeros (onward s at of rest) =
     (λ i. zeros s (near_cell n c e s of_c of_e of) at i +ℤ along_path side n c e f of_c of_e zeros rest i)
 
 -- the flux of a push where that of every near piece is 0
-trace_none : (w : Surroundings) (x : Particle) (r : Result Shift Halting) (a : Axis) (c : Spot) → push_of w x ≡ r → 0 < w.side → IsInBox w.side w.cells (triple x.x)
-    → ((q : ℤ) (s : Piece) → IsNearGrid w.cells s.cell → IsInCell w.side s → flux w.side q s a c ≡ pos 0) → trace_of w.side w.kinds x r a c ≡ pos 0
+trace_none : (w : Surroundings) (particle : Particle) (r : Result Shift Halting) (a : Axis) (c : Spot) → push_of w particle ≡ r → 0 < w.side
+    → IsInBox w.side w.cells (triple particle.x)
+    → ((q : ℤ) (s : Piece) → IsNearGrid w.cells s.cell → IsInCell w.side s → flux w.side q s a c ≡ pos 0) → trace_of w.side w.kinds particle r a c ≡ pos 0
 unfolding trace_of path_flux
-trace_none w x (Err h) a c is above inside zeros = refl
-trace_none w x (Ok s) a c is above inside zeros =
-    let move = push_move w x s is in
-    let start = point_of (triple x.x) in
-    along_path w.side w.cells (floor_cell w.side start) (floor_cell w.side (plus start s.d)) (λ t. flux w.side (kind_of w.kinds x).charge t a c)
-    (near_start w.side w.cells (triple x.x) above inside) (near_end w.side w.cells (triple x.x) s.d above inside move) (zeros (kind_of w.kinds x).charge)
+trace_none w particle (Err h) a c is above inside zeros = refl
+trace_none w particle (Ok s) a c is above inside zeros =
+    let move = push_move w particle s is in
+    let start = point_of (triple particle.x) in
+    along_path w.side w.cells (floor_cell w.side start) (floor_cell w.side (plus start s.d)) (λ t. flux w.side (kind_of w.kinds particle).charge t a c)
+    (near_start w.side w.cells (triple particle.x) above inside) (near_end w.side w.cells (triple particle.x) s.d above inside move)
+    (zeros (kind_of w.kinds particle).charge)
     (path_leads w.side start s.d above move)
 
-traces_none : (w : Surroundings) (xs : List Particle) (a : Axis) (c : Spot) → 0 < w.side
-    → ((i : ℕ) (d : Particle) → i < length xs → CanShare w.side w.cells w.kinds (slice_index_or xs i d))
-    → ((q : ℤ) (s : Piece) → IsNearGrid w.cells s.cell → IsInCell w.side s → flux w.side q s a c ≡ pos 0) → traces w xs a c ≡ pos 0
+traces_none : (w : Surroundings) (particles : List Particle) (a : Axis) (c : Spot) → 0 < w.side
+    → All (CanShare w.side w.cells w.kinds) particles
+    → ((q : ℤ) (s : Piece) → IsNearGrid w.cells s.cell → IsInCell w.side s → flux w.side q s a c ≡ pos 0) → traces w particles a c ≡ pos 0
 unfolding traces sum_over
 traces_none w [] a c above each zeros = refl
-traces_none w (x ∷ xs) a c above each zeros =
-    (λ i. trace_none w x (push_of w x) a c refl above (each 0 x (omega arith)).place zeros i
-    +ℤ traces_none w xs a c above (λ j d below. each (suc j) d (omega (arith, below))) zeros i)
+traces_none w (particle ∷ particles) a c above each zeros =
+    (λ i. trace_none w particle (push_of w particle) a c refl above (All-head (CanShare w.side w.cells w.kinds) particle particles each).place zeros i
+    +ℤ traces_none w particles a c above (All-tail (CanShare w.side w.cells w.kinds) particle particles each) zeros i)
 
 -- the flux of all particles is 0 beyond
-pub traces_beyond_x : (w : Surroundings) (xs : List Particle) (a : Axis) (c : Spot) → 0 < w.side → AllCanShare w.side w.cells w.kinds xs
-    → IsBeyond w.cells.x c.x → traces w xs a c ≡ pos 0
-traces_beyond_x w xs a c above all beyond = traces_none w xs a c above all.each (λ q s near at. flux_beyond_x w.side w.cells q s a c near at beyond)
+pub traces_beyond_x : (w : Surroundings) (particles : List Particle) (a : Axis) (c : Spot) → 0 < w.side → All (CanShare w.side w.cells w.kinds) particles
+    → IsBeyond w.cells.x c.x → traces w particles a c ≡ pos 0
+traces_beyond_x w particles a c above all beyond = traces_none w particles a c above all (λ q s near at. flux_beyond_x w.side w.cells q s a c near at beyond)
 
-pub traces_beyond_y : (w : Surroundings) (xs : List Particle) (a : Axis) (c : Spot) → 0 < w.side → AllCanShare w.side w.cells w.kinds xs
-    → IsBeyond w.cells.y c.y → traces w xs a c ≡ pos 0
-traces_beyond_y w xs a c above all beyond = traces_none w xs a c above all.each (λ q s near at. flux_beyond_y w.side w.cells q s a c near at beyond)
+pub traces_beyond_y : (w : Surroundings) (particles : List Particle) (a : Axis) (c : Spot) → 0 < w.side → All (CanShare w.side w.cells w.kinds) particles
+    → IsBeyond w.cells.y c.y → traces w particles a c ≡ pos 0
+traces_beyond_y w particles a c above all beyond = traces_none w particles a c above all (λ q s near at. flux_beyond_y w.side w.cells q s a c near at beyond)
 
-pub traces_beyond_z : (w : Surroundings) (xs : List Particle) (a : Axis) (c : Spot) → 0 < w.side → AllCanShare w.side w.cells w.kinds xs
-    → IsBeyond w.cells.z c.z → traces w xs a c ≡ pos 0
-traces_beyond_z w xs a c above all beyond = traces_none w xs a c above all.each (λ q s near at. flux_beyond_z w.side w.cells q s a c near at beyond)
+pub traces_beyond_z : (w : Surroundings) (particles : List Particle) (a : Axis) (c : Spot) → 0 < w.side → All (CanShare w.side w.cells w.kinds) particles
+    → IsBeyond w.cells.z c.z → traces w particles a c ≡ pos 0
+traces_beyond_z w particles a c above all beyond = traces_none w particles a c above all (λ q s near at. flux_beyond_z w.side w.cells q s a c near at beyond)
 
-flux_is : (w : Surroundings) (x : Particle) (a : Axis) (p : Triple) (r : Result Shift Halting)
-    → flux_after w.side w.cells w.kinds x a p r ≡ wrapped w.cells (trace_of w.side w.kinds x r a) p
+flux_is : (w : Surroundings) (particle : Particle) (a : Axis) (p : Triple) (r : Result Shift Halting)
+    → flux_after w.side w.cells w.kinds particle a p r ≡ wrapped w.cells (trace_of w.side w.kinds particle r a) p
 unfolding flux_after trace_of
-flux_is w x a p (Ok s) = refl
-flux_is w x a p (Err h) = sym (wrapped-zero w.cells p)
+flux_is w particle a p (Ok s) = refl
+flux_is w particle a p (Err h) = sym (wrapped-zero w.cells p)
 
 -- the current of all particles is their flux, wrapped
-pub current_is : (w : Surroundings) (xs : List Particle) (a : Axis) (p : Triple) → current w xs a p ≡ wrapped w.cells (traces w xs a) p
+pub current_is : (w : Surroundings) (particles : List Particle) (a : Axis) (p : Triple) → current w particles a p ≡ wrapped w.cells (traces w particles a) p
 unfolding current traces
-current_is w xs a p =
-    sum_over_same (λ x. flux_after w.side w.cells w.kinds x a p (push_of w x)) (λ x. wrapped w.cells (trace_of w.side w.kinds x (push_of w x) a) p) xs (λ x. flux_is w x a p (push_of w x))
-    ∙ sym (wrapped-over w.cells (λ x. trace_of w.side w.kinds x (push_of w x) a) xs p)
+current_is w particles a p =
+    sum_over_same (λ particle. flux_after w.side w.cells w.kinds particle a p (push_of w particle))
+    (λ particle. wrapped w.cells (trace_of w.side w.kinds particle (push_of w particle) a) p) particles
+    (λ particle. flux_is w particle a p (push_of w particle))
+    ∙ sym (wrapped-over w.cells (λ particle. trace_of w.side w.kinds particle (push_of w particle) a) particles p)

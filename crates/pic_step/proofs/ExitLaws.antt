@@ -24,7 +24,8 @@ stops_push w s none h = ends w (Some s) (λ i. option_or (none i) (option_or (h 
 pub stops_second : (w : World) (s : Stop) → half_stop Half1 w ≡ None → push_stop (around (half_on w)) w.particles ≡ None
     → half_stop Half2 (push_on (half_on w)) ≡ Some s → stepped w ≡ Err s
 unfolding stop_of
-stops_second w s none free h = ends w (Some s) (λ i. option_or (none i) (option_or (free i) (option_or (h i) (full_stop (current_of (half_on w)) (before_electric w)))))
+stops_second w s none free h = ends w (Some s)
+    (λ i. option_or (none i) (option_or (free i) (option_or (h i) (full_stop (current_of (half_on w)) (before_electric w)))))
 
 pub stops_last : (w : World) (s : Stop) → half_stop Half1 w ≡ None → push_stop (around (half_on w)) w.particles ≡ None
     → half_stop Half2 (push_on (half_on w)) ≡ None → full_stop (current_of (half_on w)) (before_electric w) ≡ Some s → stepped w ≡ Err s

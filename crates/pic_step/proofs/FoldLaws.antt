@@ -5,7 +5,8 @@ use Rattle.std.proofs.lemmas.Int.{ints}
 use Rattle.pic_num.specs.Space.{Triple, Spot}
 use Rattle.pic_grid.specs.Current.{sum_images}
 use Rattle.pic_grid.specs.Block.{BlockValues, InZone}
-use Rattle.pic_step.specs.Traces.{IsGuard, IsReached}
+use Rattle.pic_grid.specs.Traces.{IsReached}
+use Rattle.pic_step.specs.Guard.{IsGuard}
 
 -- a sum over images of what is 0 everywhere
 pub images_none : (n : ℕ) (g : ℤ → ℤ) (i : ℕ) → ((j : ℤ) → g j ≡ pos 0) → pos 0 ≡ sum_images n g i

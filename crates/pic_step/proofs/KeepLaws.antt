@@ -1,5 +1,5 @@
 -- The divergence of B through a step: a curl of E has none.
-use Rattle.std.proofs.Common.{◌≡◌, ◌+◌, ap, ◌∙◌, arith}
+use Rattle.std.proofs.Common.{◌≡◌, ◌+◌, refl, ap, ◌∙◌, arith}
 use Rattle.std.proofs.Math.IntN.{ℤ, pos, ◌+ℤ◌, ◌-ℤ◌}
 use Rattle.std.proofs.lemmas.Int.{ints}
 use Rattle.std.proofs.lemmas.Nat.{mod_below}
@@ -51,9 +51,13 @@ half_keeps w p cells within =
     none : (k : ℤ) → k -ℤ pos 0 ≡ k
     none k = omega (arith, ints)
 
-pub step_keeps : (w : World) → IsSound w → Keeps w
+pub step_keeps : (w : World) → IsSound w → Keeps w (step_on w)
 unfolding step_on
 step_keeps w sound = record {
+  side = refl;
+  cells = refl;
+  scales = refl;
+  kinds = refl;
   gauss = gauss_kept w sound;
   magnetic = λ p within. half_keeps (push_on (half_on w)) p sound.e.cells within ∙ half_keeps w p sound.e.cells within;
 }

@@ -1,10 +1,10 @@
 pub mod WalkLaws
 pub mod PushLaws
+pub mod VelocityLaws
 pub mod GaussLaws
 pub mod SoundLaws
 pub mod BeyondLaws
 pub mod ImageLaws
-pub mod LeastHaltLaws
 pub mod FoldLaws
 pub mod FitLaws
 pub mod PassedLaws

@@ -15,9 +15,10 @@ use Rattle.pic_grid.specs.Parts.{no_block, ArePartsOf, joined}
 use Rattle.pic_grid.specs.Cells.{IsWithin}
 use Rattle.pic_grid.specs.Block.{BlockValues, IsShaped, IsAmongCells, AllAtMost, inner_at, outer_of}
 use Rattle.pic_field.specs.FieldPhases.{half_of, half_in, full_of, full_in, least_fault, lowest, EachAtMost}
-use Rattle.pic_field.proofs.WholeLaws.{IsWhole, whole_one, whole_block, whole_parts, whole_shaped, whole_among, whole_small, half_whole, half_stop, full_whole, full_stop, force_whole}
-use Rattle.pic_step.specs.SerialStep.{origin}
-use Rattle.pic_step.specs.Sound.{one_part}
+use Rattle.pic_field.proofs.WholeLaws.{IsWhole, whole_one, whole_block, whole_parts, whole_shaped, whole_among}
+use Rattle.pic_field.proofs.WholeLaws.{whole_small, half_whole, half_stop, full_whole, full_stop, force_whole}
+use Rattle.pic_grid.specs.Parts.{origin}
+use Rattle.pic_grid.specs.Parts.{one_part}
 
 -- a lattice of one part and its one block
 pub record IsOne (n : Triple) (f : Field) (blocks : List BlockValues) (b : BlockValues) : Type 0 where
@@ -28,7 +29,8 @@ pub record IsOne (n : Triple) (f : Field) (blocks : List BlockValues) (b : Block
 pub one_of : (n : Triple) (f : Field) (blocks : List BlockValues) (b : BlockValues) → f.cells ≡ n → f.parts ≡ one_part
     → ArePartsOf f.cells f.parts blocks → f ≡ joined f.cells f.parts blocks → b ≡ get_or blocks 0 b → IsOne n f blocks b
 one_of n f blocks b cells parts zones values first =
-    let moved : ArePartsOf n one_part blocks = subst (λ (q : Triple). ArePartsOf n q blocks) parts (subst (λ (m : Triple). ArePartsOf m f.parts blocks) cells zones) in
+    let moved : ArePartsOf n one_part blocks = subst (λ (q : Triple). ArePartsOf n q blocks) parts
+    (subst (λ (m : Triple). ArePartsOf m f.parts blocks) cells zones) in
     let some : 0 < length blocks = omega (arith, moved.count) in
     let here : get_or blocks 0 no_block ≡ b = get_or_default blocks 0 no_block b some ∙ sym first in
     let list : blocks ≡ b ∷ [] = whole_one n blocks moved ∙ ap (λ (c : BlockValues). c ∷ []) here in
@@ -72,7 +74,8 @@ half_done scales e n m f r blocks b new one same shaped values is =
     ∙ half_whole scales e n b new one.whole shaped values
     ∙ (λ i. field_of n one_part (λ a p. half_of scales e a p (value_at (sym one.is i) a p)))
 
-pub half_stop_is : (phase : Phase) (scales : Scales) (e : Field) (by : Multiplier) (n : Triple) (f : Field) (blocks : List BlockValues) (b : BlockValues) → IsOne n f blocks b
+pub half_stop_is : (phase : Phase) (scales : Scales) (e : Field) (by : Multiplier) (n : Triple) (f : Field) (blocks : List BlockValues) (b : BlockValues)
+    → IsOne n f blocks b
     → least_fault phase by (lowest b.low) b.size (half_in scales e b) ≡ least_fault phase by origin n (λ a p. half_of scales e a p (value_at f a p))
 half_stop_is phase scales e by n f blocks b one =
     half_stop phase scales e by n b one.whole ∙ (λ i. least_fault phase by origin n (λ a p. half_of scales e a p (value_at (sym one.is i) a p)))

@@ -1,30 +1,35 @@
 -- What the push phase leaves, from what its calls left.
-use Rattle.std.proofs.Common.{◌≡◌, ℕ, ◌^◌, ◌<◌, ◌≤◌, List, length, get_or, sym, ◌∙◌, subst}
+use Rattle.std.proofs.Common.{◌≡◌, ◌^◌, ◌<◌, ◌≤◌, List, length, sym, ◌∙◌, subst}
 use Rattle.std.proofs.Math.IntN.{ℤ}
 use Rattle.std.specs.Prelude.{All}
+use Rattle.pic_num.specs.Limits.{most_particles, most_value}
 use Rattle.pic_num.specs.declared.motion.Kind.{Kind}
 use Rattle.pic_num.specs.declared.motion.Particle.{Particle}
 use Rattle.pic_num.specs.declared.axis.Axis.{Axis}
 use Rattle.pic_num.specs.Multiplier.{Multiplier}
 use Rattle.pic_num.specs.Sizes.{IsAtMost}
-use Rattle.pic_num.specs.Space.{Triple, Spot}
+use Rattle.pic_num.specs.Space.{Triple}
 use Rattle.pic_grid.specs.Current.{wrapped, current}
 use Rattle.pic_grid.specs.Lattice.{Field, value_at, field_of}
 use Rattle.pic_grid.specs.Gather.{force_of}
-use Rattle.std.proofs.lemmas.List.{get_or_default}
-use Rattle.pic_grid.specs.PushPhase.{no_kind, Surroundings}
+use Rattle.pic_grid.specs.PushPhase.{Surroundings}
 use Rattle.pic_grid.specs.Species.{IsKind}
-use Rattle.pic_grid.specs.Block.{BlockValues, InZone, IsShaped, AllAtMost}
+use Rattle.pic_grid.specs.Block.{BlockValues, IsShaped, AllAtMost}
 use Rattle.pic_grid.proofs.LatticeLaws.{value_at-field_of}
 use Rattle.pic_field.specs.FieldPhases.{EachAtMost}
+use Rattle.pic_grid.proofs.BlockLaws.{in_zone_shaped}
 use Rattle.pic_flux.specs.Adds.{Adds}
 use Rattle.pic_flux.proofs.AddsLaws.{adds_from_zeros}
 use Rattle.pic_gather.specs.Forces.{AreForces}
-use Rattle.pic_step.specs.Pushing.{felt}
-use Rattle.pic_step.specs.Sound.{one_part, IsSafe, AllCanShare}
-use Rattle.pic_step.specs.Traces.{traces, Holds}
+use Rattle.pic_grid.specs.Felt.{felt}
+use Rattle.pic_grid.specs.PushPhase.{CanShare}
+use Rattle.pic_grid.specs.Parts.{one_part}
+use Rattle.pic_step.specs.Sound.{IsSafe}
+use Rattle.pic_grid.specs.Traces.{traces}
+use Rattle.pic_step.specs.Guard.{Holds}
 use Rattle.pic_step.proofs.BeyondLaws.{traces_beyond_x, traces_beyond_y, traces_beyond_z, current_is}
 use Rattle.pic_step.proofs.FeltLaws.{around_lattices}
+use Rattle.pic_grid.proofs.ShapeLaws.{shaped_back}
 use Rattle.pic_step.proofs.TraceSizeLaws.{current_size}
 
 -- the force values of a safe field are small enough to be gathered
@@ -35,34 +40,31 @@ forces_small n by f r safe is = subst AreForces (sym is) (record {
 })
 
 -- the guard holds the flux of all particles
-pub guard_holds : (w : Surroundings) (xs : List Particle) (guard now : BlockValues) → 0 < w.side → AllCanShare w.side w.cells w.kinds xs
-    → AllAtMost 0 guard → IsShaped guard now → Adds guard now (traces w xs) → Holds w.cells now (traces w xs)
-guard_holds w xs guard now above all zeros shape adds = record {
-  inside = λ a c inside. adds_from_zeros guard now (traces w xs) zeros adds a c
-      (subst (λ (low : Spot). InZone low guard.size c) (sym shape.low) (subst (λ (size : Triple). InZone now.low size c) (sym shape.size) inside));
-  beyond_x = λ a c beyond. traces_beyond_x w xs a c above all beyond;
-  beyond_y = λ a c beyond. traces_beyond_y w xs a c above all beyond;
-  beyond_z = λ a c beyond. traces_beyond_z w xs a c above all beyond;
+pub guard_holds : (w : Surroundings) (particles : List Particle) (guard now : BlockValues) → 0 < w.side → All (CanShare w.side w.cells w.kinds) particles
+    → AllAtMost 0 guard → IsShaped guard now → Adds guard now (traces w particles) → Holds w.cells now (traces w particles)
+guard_holds w particles guard now above all zeros shape adds = record {
+  inside = λ a c inside. adds_from_zeros guard now (traces w particles) zeros adds a c (in_zone_shaped now guard c (shaped_back guard now shape) inside);
+  beyond_x = λ a c beyond. traces_beyond_x w particles a c above all beyond;
+  beyond_y = λ a c beyond. traces_beyond_y w particles a c above all beyond;
+  beyond_z = λ a c beyond. traces_beyond_z w particles a c above all beyond;
 }
 
 -- the folded flux is the current
-pub folded : (w : Surroundings) (xs : List Particle) (old new : Field) → old.cells ≡ w.cells → old.parts ≡ one_part
-    → new ≡ field_of old.cells old.parts (λ a p. wrapped old.cells (traces w xs a) p) → new ≡ field_of w.cells one_part (current w xs)
-folded w xs old new cells parts is =
-    is ∙ (λ i. field_of (cells i) (parts i) (λ a p. wrapped (cells i) (traces w xs a) p))
-    ∙ (λ i. field_of w.cells one_part (λ a p. sym (current_is w xs a p) i))
+pub folded : (w : Surroundings) (particles : List Particle) (old new : Field) → old.cells ≡ w.cells → old.parts ≡ one_part
+    → new ≡ field_of old.cells old.parts (λ a p. wrapped old.cells (traces w particles a) p) → new ≡ field_of w.cells one_part (current w particles)
+folded w particles old new cells parts is =
+    is ∙ (λ i. field_of (cells i) (parts i) (λ a p. wrapped (cells i) (traces w particles a) p))
+    ∙ (λ i. field_of w.cells one_part (λ a p. sym (current_is w particles a p) i))
 
-pub folded_small : (w : Surroundings) (xs : List Particle) (f : Field) → w.side ≡ 4096 → All IsKind w.kinds → length xs ≤ 1048576
-    → f ≡ field_of w.cells one_part (current w xs) → EachAtMost (2 ^ 90) f
-folded_small w xs f side limits few is = subst (EachAtMost (2 ^ 90)) (sym is) (record {
+pub folded_small : (w : Surroundings) (particles : List Particle) (f : Field) → w.side ≡ 4096 → All IsKind w.kinds → length particles ≤ most_particles
+    → f ≡ field_of w.cells one_part (current w particles) → EachAtMost most_value f
+folded_small w particles f side limits few is = subst (EachAtMost most_value) (sym is) (record {
   at_most = λ a p within.
-      subst (λ (v : ℤ). IsAtMost v (2 ^ 90)) (sym (value_at-field_of w.cells one_part (current w xs) a p within)) (current_size w xs a p side limits few);
+      subst (λ (v : ℤ). IsAtMost v most_value) (sym (value_at-field_of w.cells one_part (current w particles) a p within))
+      (current_size w particles a p side limits few);
 })
 
 -- what particles feel, by lattices that are given by force values
 pub felt_is : (kinds : List Kind) (n : Triple) (f g : Axis → Triple → ℤ) (e b : Field) → e ≡ field_of n one_part f → b ≡ field_of n one_part g
     → felt kinds e b ≡ around_lattices kinds n f g
 felt_is kinds n f g e b h k = λ i. felt kinds (h i) (k i)
-
-pub kinds_all : (kinds : List Kind) → ((i : ℕ) → i < length kinds → IsKind (get_or kinds i no_kind)) → All IsKind kinds
-kinds_all kinds each = λ i d below. subst IsKind (get_or_default kinds i no_kind d below) (each i below)

@@ -1,9 +1,10 @@
 -- A step without a stop keeps what the state of a run keeps.
-use Rattle.std.proofs.Common.{◌≡◌, ℕ, ◌<◌, ◌≤◌, Option, Some, None, refl, sym, ap, ◌∙◌, subst, zero-add, arith}
+use Rattle.std.proofs.Common.{◌≡◌, ℕ, ◌<◌, ◌≤◌, None, refl, sym, ap, ◌∙◌, subst, zero-add, arith}
 use Rattle.std.proofs.Math.IntN.{ℤ, ◌-ℤ◌}
-use Rattle.std.specs.Option.{option_or}
 use Rattle.std.specs.List.{range_with_len}
 use Rattle.std.proofs.lemmas.Int.{ints}
+use Rattle.pic_num.specs.Limits.{most_particles}
+use Rattle.pic_num.proofs.FirstLaws.{left_none, right_none}
 use Rattle.pic_num.specs.declared.axis.Axis.{Axis}
 use Rattle.pic_num.specs.Multiplier.{Multiplier}
 use Rattle.pic_num.specs.Rounding.{scaled}
@@ -20,9 +21,12 @@ use Rattle.pic_charge.specs.Gauss.{MeetsGauss}
 use Rattle.pic_field.specs.FieldPhases.{full_of, least_fault, cell_above, IsBounded}
 use Rattle.pic_field.proofs.FaultLaws.{least_fault-bounded}
 use Rattle.pic_split.proofs.ImageLaws.{div_e_same}
-use Rattle.pic_step.specs.SerialStep.{World, origin, around, half_at, full_at, half_on, push_on, current_of, before_electric, half_stop, full_stop, step_on, stop_of}
-use Rattle.pic_step.specs.Sound.{one_part, IsSafe, IsSound}
+use Rattle.pic_grid.specs.Parts.{origin}
+use Rattle.pic_step.specs.SerialStep.{World, around, half_at, full_at, half_on, push_on, current_of, before_electric, half_stop, full_stop, step_on, stop_of}
+use Rattle.pic_grid.specs.Parts.{one_part}
+use Rattle.pic_step.specs.Sound.{IsSafe, IsSound}
 use Rattle.pic_step.proofs.PushLaws.{ids_kept, length-moved_all, share_kept}
+use Rattle.pic_step.proofs.VelocityLaws.{velocities_kept}
 use Rattle.pic_step.proofs.GaussLaws.{div_current, div_full}
 
 -- every grid has two cells on each axis
@@ -50,17 +54,12 @@ pub record HasNoStop (w : World) : Type 0 where
   pub half2 : half_stop Half2 (push_on (half_on w)) ≡ None
   pub electric : full_stop (current_of (half_on w)) (before_electric w) ≡ None
 
-neither : {A : Type 0} (o p : Option A) → option_or o p ≡ None → (o ≡ None) × (p ≡ None)
-neither None p h = (refl, h)
-neither (Some a) p h = cc
-
 pub no_stop : (w : World) → stop_of w ≡ None → HasNoStop w
 unfolding stop_of
 no_stop w none =
-    let first = neither _ _ none in
-    let second = neither _ _ first.1 in
-    let third = neither _ _ second.1 in
-    record { half1 = first.0; push = second.0; half2 = third.0; electric = third.1 }
+    let second = right_none _ _ none in
+    let third = right_none _ _ second in
+    record { half1 = left_none _ _ none; push = left_none _ _ second; half2 = left_none _ _ third; electric = right_none _ _ third }
 
 -- Gauss's law after a step
 pub gauss_kept : (w : World) → IsSound w → MeetsGauss w.side w.cells w.kinds (push_on (half_on w)).particles (step_on w).e
@@ -73,10 +72,11 @@ gauss_kept w sound = record {
       let j = current_of h in
       let two = has_two n sound.cells in
       let above : 0 < w.side = omega (arith, sound.side) in
-      let is_full = div_e_same n (value_at (field_of n w.e.parts (full_at j w4))) (full_at j w4) p within (λ a q inside. value_at-field_of n w.e.parts (full_at j w4) a q inside) in
+      let is_full = div_e_same n (value_at (field_of n w.e.parts (full_at j w4))) (full_at j w4) p within
+      (λ a q inside. value_at-field_of n w.e.parts (full_at j w4) a q inside) in
       let falls = div_full n (value_at w.e) (λ c q. scaled (value_at w4.b c q) w.scales.b_to_e) j p in
       let old = sound.gauss.at_node p within in
-      let law = div_current (around h) w.particles p above two within sound.places.each in
+      let law = div_current (around h) w.particles p above two within sound.places in
       is_full ∙ falls ∙ (λ i. old i -ℤ law i)
       ∙ cancel (charge_of w.side n w.kinds w.particles p) (charge_of w.side n w.kinds (moved_all (around h) w.particles) p);
 }
@@ -103,8 +103,16 @@ step_sound w sound none =
           (safe_after Half2 w.scales.b_force n (half_at (push_on h)) stops.half2);
       species = sound.species;
       kinds = sound.kinds;
-      few = subst (λ (k : ℕ). k ≤ 1048576) (sym count) sound.few;
+      few = subst (λ (k : ℕ). k ≤ most_particles) (sym count) sound.few;
       identities = ids_kept (around h) w.particles ∙ sound.identities ∙ ap (range_with_len 0) (sym count);
       places = share_kept (around h) w.particles above two sound.places;
+      velocities = velocities_kept (around h) w.particles sound.velocities;
       gauss = gauss_kept w sound;
     }
+
+-- a sound state's fields are of one part
+pub whole_e : (w : World) (parts : Triple) → IsSound w → parts ≡ one_part → record w.e { parts = parts } ≡ w.e
+whole_e w parts sound one = λ i. record w.e { parts = (one ∙ sym sound.e.parts) i }
+
+pub whole_b : (w : World) (parts : Triple) → IsSound w → parts ≡ one_part → record w.b { parts = parts } ≡ w.b
+whole_b w parts sound one = λ i. record w.b { parts = (one ∙ sym sound.b.parts) i }

@@ -1,6 +1,7 @@
 -- A step by its four calls: each leaves what the next one needs.
-use Rattle.std.proofs.Common.{◌≡◌, ◌^◌, List, Option, None, Ok, refl, sym, ap, ◌∙◌, subst}
+use Rattle.std.proofs.Common.{◌≡◌, List, Option, None, Ok, refl, sym, ap, ◌∙◌, subst}
 use Rattle.std.proofs.Math.IntN.{ℤ}
+use Rattle.pic_num.specs.Limits.{most_value}
 use Rattle.pic_num.specs.declared.motion.Kind.{Kind}
 use Rattle.pic_num.specs.declared.motion.Particle.{Particle}
 use Rattle.pic_num.specs.declared.axis.Axis.{Axis}
@@ -18,13 +19,18 @@ use Rattle.pic_field.proofs.WholeLaws.{least_fault-same}
 use Rattle.pic_step.specs.declared.rooms.Rooms.{Rooms}
 use Rattle.pic_step.specs.PushRoom.{around_fields, IsPushed}
 use Rattle.pic_step.specs.Rooms.{IsRoom, AreRooms}
-use Rattle.pic_step.specs.SerialStep.{World, origin, around, half_at, full_at, half_on, push_on, current_of, before_electric, half_stop, full_stop, step_on, stop_of, stepped}
-use Rattle.pic_step.specs.Sound.{one_part, IsSafe, IsSound}
+use Rattle.pic_grid.specs.Parts.{origin}
+use Rattle.pic_step.specs.SerialStep.{World, around, half_at, full_at, half_on, push_on}
+use Rattle.pic_step.specs.SerialStep.{current_of, before_electric, half_stop, full_stop, step_on, stop_of, stepped}
+use Rattle.pic_grid.specs.Parts.{one_part}
+use Rattle.pic_step.specs.Sound.{IsSafe, IsSound}
+use Rattle.pic_step.specs.Keeps.{Keeps}
+use Rattle.pic_step.proofs.KeepLaws.{step_keeps}
 use Rattle.pic_step.proofs.ExitLaws.{no_stop_is, steps_on}
 use Rattle.pic_step.proofs.SoundLaws.{above_origin, safe_after, step_sound}
 
 -- the values of a safe field are small
-pub safe_small : (n : Triple) (by : Multiplier) (f : Field) → IsSafe n by f → EachAtMost (2 ^ 90) f
+pub safe_small : (n : Triple) (by : Multiplier) (f : Field) → IsSafe n by f → EachAtMost most_value f
 safe_small n by f safe = record { at_most = λ a p within. (safe.bounded a p (subst (IsWithin p) safe.cells within)).value }
 
 -- what the first half step of B leaves
@@ -69,7 +75,8 @@ pub record IsBefore (w : World) (b : Field) : Type 0 where
   pub is : b ≡ (before_electric w).b
   pub none : half_stop Half2 (push_on (half_on w)) ≡ None
 
-second_same : (w : World) (b : Field) → IsHalf w b → ◌≡◌ {A = Axis → Triple → ℤ} (λ a p. half_of w.scales w.e a p (value_at b a p)) (half_at (push_on (half_on w)))
+second_same : (w : World) (b : Field) → IsHalf w b
+    → ◌≡◌ {A = Axis → Triple → ℤ} (λ a p. half_of w.scales w.e a p (value_at b a p)) (half_at (push_on (half_on w)))
 second_same w b half = λ i a p. half_of w.scales w.e a p (value_at (half.is i) a p)
 
 pub second_stop_of : (w : World) (b : Field) (o : Option Stop) → IsSound w → IsHalf w b
@@ -138,11 +145,17 @@ is_after w b c e now particles rooms sound half pushed before same e_is none =
       is = λ i. record w { e = done i; b = before.is i; particles = moved i };
     }
 
-pub sound_after : (w : World) (e b : Field) (particles : List Particle) → IsSound w → IsAfter w e b particles → IsSound (record w { e = e; b = b; particles = particles })
+pub sound_after : (w : World) (e b : Field) (particles : List Particle) → IsSound w → IsAfter w e b particles
+    → IsSound (record w { e = e; b = b; particles = particles })
 sound_after w e b particles sound after = subst IsSound (sym after.is) (step_sound w sound after.none)
 
-pub stepped_after : (w : World) (e b : Field) (particles : List Particle) → IsAfter w e b particles → stepped w ≡ Ok (record w { e = e; b = b; particles = particles })
+pub stepped_after : (w : World) (e b : Field) (particles : List Particle) → IsAfter w e b particles
+    → stepped w ≡ Ok (record w { e = e; b = b; particles = particles })
 stepped_after w e b particles after = steps_on w after.none ∙ ap (λ (v : World). Ok v) (sym after.is)
+
+pub keeps_after : (w : World) (e b : Field) (particles : List Particle) → IsSound w → IsAfter w e b particles
+    → Keeps w (record w { e = e; b = b; particles = particles })
+keeps_after w e b particles sound after = subst (Keeps w) (sym after.is) (step_keeps w sound)
 
 -- the rooms with the current back
 pub rooms_back : (n : Triple) (r : Rooms) (k : Field) → AreRooms n r → k ≡ r.current → AreRooms n (record r { current = k })

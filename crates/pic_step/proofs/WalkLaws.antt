@@ -16,7 +16,8 @@ pub record Walked (n parts : Triple) (g : Axis → Triple → ℤ) (f : Field) (
   pub size : length f.values ≡ 3 * count_of n
   pub done : (a : Axis) (p : Triple) → IsWithin p n → place_of n a p < i → value_at f a p ≡ g a p
 
-pub walked_none : (n parts : Triple) (g : Axis → Triple → ℤ) (f : Field) → f.cells ≡ n → f.parts ≡ parts → length f.values ≡ 3 * count_of n → Walked n parts g f 0
+pub walked_none : (n parts : Triple) (g : Axis → Triple → ℤ) (f : Field) → f.cells ≡ n → f.parts ≡ parts → length f.values ≡ 3 * count_of n
+    → Walked n parts g f 0
 walked_none n parts g f cells parts_are size = record {
   cells = cells;
   parts_are = parts_are;
@@ -45,7 +46,8 @@ walked_more n parts g f f' i a p v walked within here is after =
     let own : Walked f.cells parts g f i = subst (λ (m : Triple). Walked m parts g f i) (sym walked.cells) walked in
     let inside : IsWithin p f.cells = subst (IsWithin p) (sym walked.cells) within in
     let at : place_of f.cells a p ≡ i = subst (λ (m : Triple). place_of m a p ≡ i) (sym walked.cells) here in
-    let moved : Walked f.cells parts g f' (i + 1) = subst (λ (k : Field). Walked f.cells parts g k (i + 1)) (sym after) (more_here parts g f i a p v own inside at is) in
+    let moved : Walked f.cells parts g f' (i + 1) = subst (λ (k : Field). Walked f.cells parts g k (i + 1)) (sym after)
+    (more_here parts g f i a p v own inside at is) in
     subst (λ (m : Triple). Walked m parts g f' (i + 1)) walked.cells moved
 
 -- all places

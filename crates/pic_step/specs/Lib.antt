@@ -1,11 +1,10 @@
 pub mod SerialStep
 pub mod Sound
-pub mod Traces
-pub mod Pushing
+pub mod Guard
+pub mod Follow
 pub mod SerialRun
 pub mod Phases
 pub mod Rooms
 pub mod PushRoom
 pub mod Keeps
 pub mod Reach
-pub mod LeastHalt

@@ -7,15 +7,20 @@ use Rattle.pic_grid.specs.declared.stop.Phase.{Phase}
 use Rattle.pic_grid.specs.declared.stop.Stop.{Stop}
 use Rattle.pic_grid.specs.Lattice.{Field, field_of}
 use Rattle.pic_field.specs.FieldPhases.{least_fault}
-use Rattle.pic_step.specs.SerialStep.{origin}
-use Rattle.pic_step.specs.Sound.{one_part}
+use Rattle.pic_grid.specs.Parts.{origin}
+use Rattle.pic_grid.specs.Parts.{one_part}
 
 -- the lattice of the new values that g gives, none of which is a stop, or the stop of the least place
 abbrev pub Advances : Phase → Multiplier → Triple → (Axis → Triple → ℤ) → Result Field Stop → Type 0
-Advances phase by n g (Ok f) = (f ≡ field_of n one_part g) × (least_fault phase by origin n g ≡ None)
+Advances phase by n g (Ok f) =
+    (f ≡ field_of n one_part g) × (least_fault phase by origin n g ≡ None)
 Advances phase by n g (Err stop) = least_fault phase by origin n g ≡ Some stop
 
 -- the same beside a lattice that stays
-abbrev pub AdvancesBeside : Phase → Multiplier → Triple → (Axis → Triple → ℤ) → Field → Result (Field × Field) Stop → Type 0
-AdvancesBeside phase by n g other (Ok both) = (both.0 ≡ field_of n one_part g) × (least_fault phase by origin n g ≡ None) × (both.1 ≡ other)
+abbrev pub AdvancesBeside : Phase → Multiplier → Triple → (Axis → Triple → ℤ) → Field
+    → Result (Field × Field) Stop → Type 0
+AdvancesBeside phase by n g other (Ok both) =
+    (both.0 ≡ field_of n one_part g)
+    × (least_fault phase by origin n g ≡ None)
+    × (both.1 ≡ other)
 AdvancesBeside phase by n g other (Err stop) = least_fault phase by origin n g ≡ Some stop

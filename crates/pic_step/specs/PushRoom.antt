@@ -1,5 +1,6 @@
 -- What the push phase leaves in the rooms of a state.
-use Rattle.std.specs.Prelude.{◌≡◌, ◌^◌, List, Option}
+use Rattle.std.specs.Prelude.{◌≡◌, List, Option}
+use Rattle.pic_num.specs.Limits.{most_value}
 use Rattle.pic_num.specs.declared.motion.Kind.{Kind}
 use Rattle.pic_num.specs.declared.motion.Particle.{Particle}
 use Rattle.pic_num.specs.declared.mult.Scales.{Scales}
@@ -11,7 +12,7 @@ use Rattle.pic_grid.specs.PushPhase.{Surroundings, moved_all, push_stop}
 use Rattle.pic_field.specs.FieldPhases.{EachAtMost}
 use Rattle.pic_step.specs.declared.rooms.Rooms.{Rooms}
 use Rattle.pic_step.specs.Rooms.{AreRooms}
-use Rattle.pic_step.specs.Sound.{one_part}
+use Rattle.pic_grid.specs.Parts.{one_part}
 
 -- what is around the particles, by the fields E and B
 abbrev pub around_fields : Scales → List Kind → Field → Field → Surroundings
@@ -24,9 +25,10 @@ around_fields scales kinds e b = record {
 }
 
 -- the particles are pushed, their stop is known, and the room of the current holds it
-pub record IsPushed (w : Surroundings) (old now : List Particle) (stop : Option Stop) (rooms : Rooms) : Type 0 where
+pub record IsPushed (w : Surroundings) (old now : List Particle) (stop : Option Stop)
+    (rooms : Rooms) : Type 0 where
   pub rooms_are : AreRooms w.cells rooms
   pub particles : now ≡ moved_all w old
   pub stop_is : stop ≡ push_stop w old
   pub current_is : rooms.current ≡ field_of w.cells one_part (current w old)
-  pub current_small : EachAtMost (2 ^ 90) rooms.current
+  pub current_small : EachAtMost most_value rooms.current

@@ -4,8 +4,9 @@ use Rattle.pic_num.specs.Space.{Triple}
 use Rattle.pic_grid.specs.Lattice.{Field}
 use Rattle.pic_step.specs.declared.rooms.Rooms.{Rooms}
 use Rattle.pic_step.specs.SerialStep.{World}
-use Rattle.pic_step.specs.Sound.{one_part, IsSound}
-use Rattle.pic_step.specs.Traces.{IsGuard}
+use Rattle.pic_grid.specs.Parts.{one_part}
+use Rattle.pic_step.specs.Sound.{IsSound}
+use Rattle.pic_step.specs.Guard.{IsGuard}
 
 -- a lattice of these cells in one part, whatever it holds
 pub record IsRoom (n : Triple) (f : Field) : Type 0 where

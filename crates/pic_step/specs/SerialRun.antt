@@ -11,7 +11,7 @@ use Rattle.pic_deck.specs.Deck.{DeckView, initial_e, initial_b}
 use Rattle.pic_step.specs.declared.stepping.StepStop.{StepStop}
 use Rattle.pic_step.specs.declared.stepping.StepStop.TheVariants as step_stop
 use Rattle.pic_step.specs.SerialStep.{World, stepped}
-use Rattle.pic_step.specs.Sound.{one_part}
+use Rattle.pic_grid.specs.Parts.{one_part}
 
 -- what the particles of each species of a deck have in common
 abbrev pub kinds_of : DeckView → List Kind

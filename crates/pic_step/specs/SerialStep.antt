@@ -16,6 +16,7 @@ use Rattle.pic_grid.specs.declared.stop.Stop.{Stop}
 use Rattle.pic_grid.specs.Current.{current}
 use Rattle.pic_grid.specs.Lattice.{Field, value_at, field_of}
 use Rattle.pic_grid.specs.Gather.{force_of}
+use Rattle.pic_grid.specs.Parts.{origin}
 use Rattle.pic_grid.specs.PushPhase.{Surroundings, moved_all, push_stop}
 use Rattle.pic_field.specs.FieldPhases.{half_of, full_of, least_fault}
 
@@ -29,10 +30,6 @@ pub record World : Type 0 where
   pub e : Field
   pub b : Field
   pub particles : List Particle
-
--- the lowest cell of the grid
-abbrev pub origin : Triple
-origin = record { x = 0; y = 0; z = 0 }
 
 -- what surrounds the particles: the force values of E and B
 abbrev pub around : World → Surroundings
@@ -89,7 +86,8 @@ unfoldable pub stop_of : World → Option Stop
 stop_of w =
     option_or (half_stop Half1 w)
     (option_or (push_stop (around (half_on w)) w.particles)
-    (option_or (half_stop Half2 (push_on (half_on w))) (full_stop (current_of (half_on w)) (before_electric w))))
+    (option_or (half_stop Half2 (push_on (half_on w)))
+    (full_stop (current_of (half_on w)) (before_electric w))))
 
 -- the state after a step, or what stops it
 unfoldable pub stepped : World → Result World Stop

@@ -1,8 +1,9 @@
 //! What the serial step keeps, what stops its push, and how far its flux reaches. Each is the contract
 //! of a function that does nothing.
 
+ghost use Rattle.pic_num.specs.Velocity.{PushKeepsVelocities};
 ghost use Rattle.pic_step.specs.Keeps.{EveryStepKeeps};
-ghost use Rattle.pic_step.specs.LeastHalt.{LeastHalt};
+ghost use Rattle.pic_grid.specs.LeastHalt.{LeastHalt};
 ghost use Rattle.pic_step.specs.Reach.{ThreeImagesAreAll};
 
 /// The serial step of a state that meets Gauss's law meets it at every node, and the divergence of B
@@ -17,8 +18,15 @@ pub fn three_images_are_all()
     ensures { ThreeImagesAreAll }
 {}
 
-/// The stop of the push phase is that of the least identity that halts, and there is none exactly where
-/// no particle halts: of all particles whose identities are 0, 1, .. in order.
+/// There is no stop of the push phase exactly where no particle halts, and a stop is the answer exactly
+/// where it is that of the least identity that halts: of all particles whose identities are 0, 1, ..
+/// in order.
 pub fn law_of_the_least_halt()
     ensures { LeastHalt }
+{}
+
+/// A push that doesn't halt leaves a velocity that leads at most a cell far: with 4096 sub-cells a
+/// cell it lies in -16779264..=16779263 on each axis.
+pub fn law_of_velocities()
+    ensures { PushKeepsVelocities }
 {}

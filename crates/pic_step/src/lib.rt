@@ -1,16 +1,19 @@
 //! The state of a run, and one step of it.
 #![tactic(auto)]
 
-mod copying;
-mod folding;
+mod copy;
+mod feel;
+mod fold;
+mod follow;
 mod laws;
 mod phases;
+mod push_all;
+mod push_one;
 mod push_phase;
-mod pushing;
 mod rooms;
 mod state;
 mod stepping;
 
-pub use laws::{law_of_the_least_halt, law_of_the_step, three_images_are_all};
+pub use laws::{law_of_the_least_halt, law_of_the_step, law_of_velocities, three_images_are_all};
 pub use state::{State, kinds_of};
 pub use stepping::{StepStop, step};

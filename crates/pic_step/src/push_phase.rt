@@ -1,15 +1,16 @@
 //! The push phase of a state: force values, the push of all particles, and the current.
 
-ghost use Rattle.std.specs.Prelude.{◌≡◌, ◌^◌, ◌≤◌, length};
-ghost use Rattle.pic_num.specs.Sizes.{IsAtMost};
+ghost use Rattle.std.specs.Prelude.{◌≤◌, length, All};
+ghost use Rattle.pic_num.specs.Limits.{most_particles};
+ghost use Rattle.pic_grid.specs.Species.{IsKind};
+ghost use Rattle.pic_grid.specs.PushPhase.{CanShare};
 ghost use Rattle.pic_step.specs.PushRoom.{around_fields, IsPushed};
-ghost use Rattle.pic_step.specs.Pushing.{AreKinds};
 ghost use Rattle.pic_step.specs.Rooms.{AreRooms};
-ghost use Rattle.pic_step.specs.Sound.{AllCanShare, IsSafe};
+ghost use Rattle.pic_step.specs.Sound.{IsSafe};
 
-use crate::folding::fold;
+use crate::fold::fold;
 use crate::phases::forces;
-use crate::pushing::push_all;
+use crate::push_all::push_all;
 use crate::rooms::Rooms;
 use pic_grid::{Lattice, Stop};
 use pic_num::{Kind, Particle, Scales};
@@ -26,10 +27,11 @@ pub fn push_phase(
     requires e { IsSafe e.now.cells scales.now.e_force e.now }
     requires b { IsSafe e.now.cells scales.now.b_force b.now }
     requires rooms { AreRooms e.now.cells rooms }
-    requires kinds { AreKinds kinds.now }
-    requires few { length particles.old ≤ 1048576 }
-    requires can { AllCanShare 4096 e.now.cells kinds.now particles.old }
-    ensures { IsPushed (around_fields scales.now kinds.now e.now b.now) particles.old particles.new result.1 result.0 }
+    requires kinds { All IsKind kinds.now }
+    requires few { length particles.old ≤ most_particles }
+    requires can { All (CanShare 4096 e.now.cells kinds.now) particles.old }
+    ensures { IsPushed (around_fields scales.now kinds.now e.now b.now)
+        particles.old particles.new result.1 result.0 }
 {
     let Rooms {
         force_e,

@@ -1,6 +1,8 @@
+//! What a state works with beside its fields, taken once.
+
 ghost use Rattle.std.specs.Prelude.{IfOk};
 ghost use Rattle.pic_step.specs.Rooms.{AreRooms};
-ghost use Rattle.pic_step.specs.Traces.{IsGuard};
+ghost use Rattle.pic_step.specs.Guard.{IsGuard};
 
 use pic_grid::{Block, Cells, Lattice, Zone};
 use pic_num::NoMemory;

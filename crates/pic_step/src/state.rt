@@ -1,10 +1,12 @@
+//! The state of a run: what its type keeps, how it begins, and what it shows.
+
 ghost use Rattle.std.specs.Prelude.{◌≡◌, IfOk, length};
 ghost use Rattle.pic_grid.specs.Lattice.{field_of};
 ghost use Rattle.pic_deck.specs.Deck.{initial_e, initial_b};
 ghost use Rattle.pic_step.specs.SerialRun.{kinds_of};
-ghost use Rattle.pic_step.specs.Sound.{one_part};
+ghost use Rattle.pic_grid.specs.Parts.{one_part};
 
-use crate::copying::copy;
+use crate::copy::copy;
 use crate::rooms::{Rooms, rooms_for};
 use pic_deck::Deck;
 use pic_grid::{Cells, Lattice, Snapshot};
@@ -31,14 +33,30 @@ impl Model for State {
 
     ghost Value = { World };
 
-    ghost view = { λ s. record { side = 4096; cells = s.cells; scales = s.scales; kinds = s.kinds.items; e = s.e; b = s.b; particles = s.particles.items } };
+    ghost view = { λ s. record {
+      side = 4096;
+      cells = s.cells;
+      scales = s.scales;
+      kinds = s.kinds.items;
+      e = s.e;
+      b = s.b;
+      particles = s.particles.items;
+    } };
 
-    ghost invariant = { λ s. IsKept (record { side = 4096; cells = s.cells; scales = s.scales; kinds = s.kinds.items; e = s.e; b = s.b; particles = s.particles.items }) s.rooms };
+    ghost invariant = { λ s. IsKept (record {
+      side = 4096;
+      cells = s.cells;
+      scales = s.scales;
+      kinds = s.kinds.items;
+      e = s.e;
+      b = s.b;
+      particles = s.particles.items;
+    }) s.rooms };
 }
 
 impl State {
     ghost use Rattle.pic_step.specs.SerialRun.{start_of};
-    ghost use Rattle.pic_step.specs.Sound.{one_part, IsSound};
+    ghost use Rattle.pic_step.specs.Sound.{IsSound};
 
     /// The state that a deck begins with, with these particles.
     pub fn new(alloc: Global, deck: &Deck, particles: &[Particle]) -> Result<State, NoMemory>
@@ -91,16 +109,15 @@ impl State {
         self.particles.len() as u32
     }
 
-    /// Fills a snapshot of as many cells and particles: the fields, and the particles in the order of
-    /// their identities. It takes no memory.
+    /// Fills a snapshot of as many cells and particles: the fields, however the snapshot's are cut into
+    /// parts, and the particles in the order of their identities. It takes no memory.
     pub fn fill(&self, to: &mut Snapshot)
         requires e_cells { to.old.e.cells ≡ self.now.cells }
-        requires e_parts { to.old.e.parts ≡ one_part }
         requires b_cells { to.old.b.cells ≡ self.now.cells }
-        requires b_parts { to.old.b.parts ≡ one_part }
         requires count { length to.old.particles.items ≡ length self.now.particles }
-        ensures e { to.new.e ≡ self.now.e }
-        ensures b { to.new.b ≡ self.now.b }
+        ensures sound { IsSound self.now }
+        ensures e { to.new.e ≡ record self.now.e { parts = to.old.e.parts } }
+        ensures b { to.new.b ≡ record self.now.b { parts = to.old.b.parts } }
         ensures particles { to.new.particles.items ≡ self.now.particles }
     {
         let _rooms = &self.rooms;
@@ -125,7 +142,10 @@ pub fn kinds_of(alloc: Global, deck: &Deck) -> Result<Vec<Kind>, NoMemory>
 
 /// The fields that a deck begins with.
 fn fields_of(alloc: Global, deck: &Deck) -> Result<(Lattice, Lattice), NoMemory>
-    ensures { IfOk result (λ both. (both.0 ≡ field_of deck.now.cells one_part (initial_e deck.now)) × (both.1 ≡ field_of deck.now.cells one_part (initial_b deck.now))) }
+    ensures e { IfOk result (λ both.
+        both.0 ≡ field_of deck.now.cells one_part (initial_e deck.now)) }
+    ensures b { IfOk result (λ both.
+        both.1 ≡ field_of deck.now.cells one_part (initial_b deck.now)) }
 {
     let mut e = Lattice::new(alloc, deck.cells(), [1; 3])?;
     let mut b = Lattice::new(alloc, deck.cells(), [1; 3])?;

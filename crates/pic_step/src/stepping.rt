@@ -1,4 +1,7 @@
-ghost use Rattle.std.specs.Prelude.{◌≡◌};
+//! One step of the serial scheme, by its phases.
+
+ghost use Rattle.std.specs.Prelude.{◌≡◌, IfOk};
+ghost use Rattle.pic_step.specs.Keeps.{Keeps};
 ghost use Rattle.pic_step.specs.SerialRun.{Steps};
 ghost use Rattle.pic_step.specs.SerialStep.{stepped};
 
@@ -16,9 +19,12 @@ pub enum StepStop {
 }
 
 /// One step of the serial scheme: half a step of B, the push, another half step of B, a step of E.
-/// It answers the state after it, or the stop of the first phase that has one.
+/// It answers the state after it, or the stop of the first phase that has one. The state after it
+/// has the same cells, multipliers and kinds, meets Gauss's law at every node, and the divergence of
+/// its B is what it was in every cell.
 pub fn step(state: State) -> Result<State, StepStop>
-    ensures { Steps state result }
+    ensures steps { Steps state result }
+    ensures keeps { IfOk result (Keeps state) }
 {
     match after_step(state) {
         Ok(next) => Ok(next),
@@ -28,7 +34,8 @@ pub fn step(state: State) -> Result<State, StepStop>
 
 /// The state after a step, or what stops it.
 fn after_step(state: State) -> Result<State, Stop>
-    ensures { stepped state ≡ result }
+    ensures steps { stepped state ≡ result }
+    ensures keeps { IfOk result (Keeps state) }
 {
     let State {
         cells,

@@ -1,20 +1,19 @@
 use Rattle.std.proofs.Common.{◌≡◌, ◌<◌, refl, sym, ap, ◌∙◌, subst, arith}
-use Rattle.std.specs.Prelude.{All}
 use Rattle.pic_num.specs.Space.{Triple}
 use Rattle.pic_grid.specs.Lattice.{Field, value_at, field_of}
 use Rattle.pic_grid.specs.Gather.{force_of}
 use Rattle.pic_grid.specs.PushPhase.{Surroundings, moved_all, push_stop}
-use Rattle.pic_grid.specs.Species.{IsKind}
 use Rattle.pic_grid.specs.Block.{BlockValues, AllAtMost}
 use Rattle.pic_flux.specs.Adds.{Adds}
 use Rattle.pic_flux.proofs.AddsLaws.{adds_same}
 use Rattle.pic_grid.proofs.ShapeLaws.{zeros_at_most}
 use Rattle.pic_step.specs.PushRoom.{around_fields}
-use Rattle.pic_step.specs.Pushing.{felt}
-use Rattle.pic_step.specs.Sound.{one_part}
-use Rattle.pic_step.specs.Traces.{traces, Holds}
+use Rattle.pic_grid.specs.Felt.{felt}
+use Rattle.pic_grid.specs.Parts.{one_part}
+use Rattle.pic_grid.specs.Traces.{traces}
+use Rattle.pic_step.specs.Guard.{Holds}
 use Rattle.pic_step.proofs.FeltLaws.{around_lattices, moved_same, stop_same, traces_same}
-use Rattle.pic_step.proofs.PushPhaseLaws.{forces_small, guard_holds, folded, folded_small, felt_is, kinds_all}
+use Rattle.pic_step.proofs.PushPhaseLaws.{forces_small, guard_holds, folded, folded_small, felt_is}
 use Rattle.pic_step.proofs.push_phase.push_phase.Goals as goal
 
 pub push_all-stop-requires-clause-e : goal.push_all-stop-requires-clause-e
@@ -35,8 +34,10 @@ returns c =
     let old = c.args.particles.now in
     let w : Surroundings = around_fields scales kinds e b in
     let is_b = c.forces-force_b.ensures ∙ ap (λ (m : Triple). field_of m one_part (force_of scales.b_force (value_at b))) c.requires.b.cells in
-    let feels : felt kinds c.forces-force_e.result c.forces-force_b.result ≡ around_lattices kinds n (force_of scales.e_force (value_at e)) (force_of scales.b_force (value_at b)) =
-    felt_is kinds n (force_of scales.e_force (value_at e)) (force_of scales.b_force (value_at b)) c.forces-force_e.result c.forces-force_b.result c.forces-force_e.ensures is_b in
+    let feels : felt kinds c.forces-force_e.result c.forces-force_b.result ≡ around_lattices kinds n (force_of scales.e_force (value_at e))
+    (force_of scales.b_force (value_at b)) =
+    felt_is kinds n (force_of scales.e_force (value_at e))
+    (force_of scales.b_force (value_at b)) c.forces-force_e.result c.forces-force_b.result c.forces-force_e.ensures is_b in
     let guard = c.clear.new.self in
     let now = c.push_all-stop.new.guard in
     let adds : Adds guard now (traces w old) =
@@ -49,7 +50,6 @@ returns c =
     let room = c.requires.rooms in
     let moved : Holds c.args.rooms.current.cells now (traces w old) = subst (λ (m : Triple). Holds m now (traces w old)) (sym room.current.cells) holds in
     let current = folded w old c.args.rooms.current c.fold.new.current room.current.cells room.current.parts (c.fold.ensures (traces w old) moved) in
-    let limits : All IsKind kinds = kinds_all kinds c.requires.kinds.each in
     record {
       rooms_are = record {
         force_e = record { cells = ap (λ (k : Field). k.cells) c.forces-force_e.ensures; parts = ap (λ (k : Field). k.parts) c.forces-force_e.ensures };
@@ -60,8 +60,10 @@ returns c =
           size = sym c.push_all-stop.ensures.shape.size ∙ ap (λ (k : BlockValues). k.size) c.clear.ensures ∙ room.guard.size;
         };
       };
-      particles = c.push_all-stop.ensures.after ∙ ap (λ (v : Surroundings). moved_all v old) feels ∙ moved_same kinds n (force_of scales.e_force (value_at e)) (force_of scales.b_force (value_at b)) old;
-      stop_is = c.push_all-stop.ensures.stop ∙ ap (λ (v : Surroundings). push_stop v old) feels ∙ stop_same kinds n (force_of scales.e_force (value_at e)) (force_of scales.b_force (value_at b)) old;
+      particles = c.push_all-stop.ensures.after ∙ ap (λ (v : Surroundings). moved_all v old) feels
+          ∙ moved_same kinds n (force_of scales.e_force (value_at e)) (force_of scales.b_force (value_at b)) old;
+      stop_is = c.push_all-stop.ensures.stop ∙ ap (λ (v : Surroundings). push_stop v old) feels
+          ∙ stop_same kinds n (force_of scales.e_force (value_at e)) (force_of scales.b_force (value_at b)) old;
       current_is = current;
-      current_small = folded_small w old c.fold.new.current refl limits c.requires.few current;
+      current_small = folded_small w old c.fold.new.current refl c.requires.kinds c.requires.few current;
     }

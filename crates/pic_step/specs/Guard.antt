@@ -1,0 +1,18 @@
+-- The block that a push adds its flux to: the grid, and the layers round it that paths reach.
+use Rattle.std.specs.Prelude.{◌≡◌, ◌+◌, ℤ, pos, negsuc}
+use Rattle.pic_num.specs.declared.axis.Axis.{Axis}
+use Rattle.pic_num.specs.Space.{Triple, Spot}
+use Rattle.pic_grid.specs.Block.{BlockValues, InZone, edge_at}
+use Rattle.pic_grid.specs.Traces.{IsBeyond}
+
+-- the zone of such a block: one layer under the grid, the grid, and two layers over it
+pub record IsGuard (n : Triple) (b : BlockValues) : Type 0 where
+  pub low : b.low ≡ record { x = negsuc 0; y = negsuc 0; z = negsuc 0 }
+  pub size : b.size ≡ record { x = n.x + 3; y = n.y + 3; z = n.z + 3 }
+
+-- a block holds f at the edges of its zone, and f is 0 beyond what paths from the box reach
+pub record Holds (n : Triple) (b : BlockValues) (f : Axis → Spot → ℤ) : Type 0 where
+  pub inside : (a : Axis) (c : Spot) → InZone b.low b.size c → edge_at b a c ≡ f a c
+  pub beyond_x : (a : Axis) (c : Spot) → IsBeyond n.x c.x → f a c ≡ pos 0
+  pub beyond_y : (a : Axis) (c : Spot) → IsBeyond n.y c.y → f a c ≡ pos 0
+  pub beyond_z : (a : Axis) (c : Spot) → IsBeyond n.z c.z → f a c ≡ pos 0

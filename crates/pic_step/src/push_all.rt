@@ -1,0 +1,50 @@
+//! The push phase: every particle is pushed, and the flux of its path is added up.
+
+ghost use Rattle.std.specs.Prelude.{◌≡◌, ℕ, ◌≤◌, length, take, All};
+ghost use Rattle.pic_num.specs.Limits.{most_particles};
+ghost use Rattle.pic_grid.specs.Block.{IsShaped, AllAtMost};
+ghost use Rattle.pic_grid.specs.Felt.{felt};
+ghost use Rattle.pic_grid.specs.PushPhase.{moved_all, push_stop};
+ghost use Rattle.pic_grid.specs.Species.{IsKind};
+ghost use Rattle.pic_grid.specs.Traces.{traces, most_flux, IsFluxAtMost};
+ghost use Rattle.pic_grid.specs.PushPhase.{CanShare};
+ghost use Rattle.pic_flux.specs.Adds.{Adds};
+ghost use Rattle.pic_gather.specs.Forces.{AreForces};
+
+use crate::push_one::push_one;
+use pic_grid::{Block, Lattice, Stop};
+use pic_num::{Kind, Particle};
+
+/// Pushes all particles by force values, and adds the flux of their paths to a block of zeros. The
+/// answer is the stop of the first particle that halts. At no edge does the flux of the first so
+/// many particles reach 2^75.
+pub fn push_all(
+    kinds: &[Kind],
+    force_e: &Lattice,
+    force_b: &Lattice,
+    particles: &mut [Particle],
+    guard: &mut Block,
+) -> Option<Stop>
+    requires can { All (CanShare 4096 force_e.now.cells kinds.now) particles.old }
+    requires few { length particles.old ≤ most_particles }
+    requires kinds { All IsKind kinds.now }
+    requires cells { force_b.now.cells ≡ force_e.now.cells }
+    requires e { AreForces force_e.now }
+    requires b { AreForces force_b.now }
+    requires zeros { AllAtMost 0 guard.old }
+    ensures after { particles.new ≡ moved_all (felt kinds.now force_e.now force_b.now) particles.old }
+    ensures stop { result ≡ push_stop (felt kinds.now force_e.now force_b.now) particles.old }
+    ensures shape { IsShaped guard.old guard.new }
+    ensures adds { let w = felt kinds.now force_e.now force_b.now in
+        Adds guard.old guard.new (traces w particles.old) }
+    ensures partial { let w = felt kinds.now force_e.now force_b.now in
+        (i : ℕ) → IsFluxAtMost most_flux (traces w (take i particles.old)) }
+    ensures size { AllAtMost most_flux guard.new }
+{
+    let mut stop = None;
+    for i in 0..particles.len() {
+        let found = push_one(kinds, force_e, force_b, &mut particles[i], guard);
+        stop = stop.or(found);
+    }
+    stop
+}
