@@ -2,6 +2,8 @@
 -- a step keeps of a state's shape.
 use Rattle.std.proofs.Common.{◌≡◌, ℕ, ◌^◌, ◌<◌, List, length, get_or, lit≤, Option, Some, None, Ok, refl, sym, ap, ◌∙◌, subst, arith}
 use Rattle.std.proofs.Math.IntN.{ℤ}
+use Rattle.std.specs.Prelude.{All}
+use Rattle.std.proofs.lemmas.Int.{ints}
 use Rattle.std.proofs.lemmas.List.{get_or-map, length-map}
 use Rattle.std.proofs.lemmas.List.Elements.{All-from_get_or, All-get_or}
 use Rattle.std.proofs.Math.Nat.{le_trans}
@@ -11,7 +13,8 @@ use Rattle.pic_num.specs.declared.motion.Particle.{Particle}
 use Rattle.pic_num.specs.Multiplier.{Multiplier}
 use Rattle.pic_num.specs.Push.{unless}
 use Rattle.pic_num.specs.Sizes.{IsAtMost}
-use Rattle.pic_num.specs.Space.{Triple}
+use Rattle.pic_num.specs.Space.{Triple, spot}
+use Rattle.pic_num.specs.Velocity.{IsKeptVelocity}
 use Rattle.pic_grid.specs.declared.snapshot.Snapshot.{Snapshot}
 use Rattle.pic_grid.specs.Lattice.{value_at, field_of}
 use Rattle.pic_grid.specs.Cells.{IsWithin}
@@ -27,7 +30,8 @@ use Rattle.pic_deck.specs.Species.{head_of, no_species}
 use Rattle.pic_deck.specs.Initial.{IsMild}
 use Rattle.pic_load.specs.Loading.{IsLoaded, AreLoaded}
 use Rattle.pic_step.specs.SerialStep.{World, step_on, stop_of, stepped}
-use Rattle.pic_step.specs.Sound.{one_part, IsSafe, IsSound}
+use Rattle.pic_grid.specs.Parts.{one_part}
+use Rattle.pic_step.specs.Sound.{IsSafe, IsSound}
 use Rattle.pic_step.specs.SerialRun.{kinds_of, start_of}
 use Rattle.pic_run.specs.Rooms.{HasRoom}
 use Rattle.pic_run.specs.Starting.{break_of, IsGauss}
@@ -75,6 +79,16 @@ pub shares_are : (d : DeckView) (particles : List Particle) → AreLoaded d part
     → (i : ℕ) (x : Particle) → i < length particles → CanShare 4096 d.cells (kinds_of d) (get_or particles i x)
 shares_are d particles loaded = share_at d particles loaded
 
+-- and a velocity that a push could have left
+speeds_are : (d : DeckView) (particles : List Particle) → AreLoaded d particles
+    → All (λ particle. IsKeptVelocity 4096 (spot particle.v)) particles
+speeds_are d particles loaded i x below =
+    let h = All-get_or (IsLoaded d) particles i x below loaded.each in
+    record {
+      least = λ a. let s = h.speed a in omega (arith, ints, s.size);
+      most = λ a. let s = h.speed a in omega (arith, ints, s.size);
+    }
+
 -- the first state of a run
 pub sound_start : (d : DeckView) (particles : List Particle) → IsWithinLimits d → AreLoaded d particles
     → break_of (start_of d particles) ≡ None → IsSound (start_of d particles)
@@ -88,10 +102,11 @@ sound_start d particles limits loaded none = record {
       let same = length-map d.species head_of in
       let few = limits.heads.few in
       omega (arith, count, same, few);
-  kinds = kind_at d limits.heads;
+  kinds = kinds_are d limits.heads;
   few = loaded.few;
   identities = loaded.identities;
-  places = record { each = share_at d particles loaded };
+  places = shares_are d particles loaded;
+  velocities = speeds_are d particles loaded;
   gauss = gauss_of (start_of d particles) none;
 }
 

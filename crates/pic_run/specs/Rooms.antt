@@ -2,7 +2,7 @@
 use Rattle.std.specs.Prelude.{◌≡◌, length}
 use Rattle.pic_grid.specs.declared.snapshot.Snapshot.{Snapshot}
 use Rattle.pic_step.specs.SerialStep.{World}
-use Rattle.pic_step.specs.Sound.{one_part}
+use Rattle.pic_grid.specs.Parts.{one_part}
 
 -- a snapshot has the cells of a state, in one part, and as many particles
 pub record HasRoom (to : Snapshot) (w : World) : Type 0 where

@@ -35,7 +35,7 @@ pub returns-in-Err-Stop : goal.returns-in-Err-Stop
 returns-in-Err-Stop g c =
     let a = sinks (g.O.Sink.told c.args.out.now) (g.R.Sink.told c.args.report.now) in
     let b = sinks (g.O.Sink.told c.loop-done.out) (g.R.Sink.told c.loop-done.report) in
-    let stops = rw c.in-Err-Stop.field-0-is at c.in-Err-Stop.ensures in
+    let stops = rw c.in-Err-Stop.field-0-is at c.in-Err-Stop.ensures.steps in
     stopped_written c.args.steps c.args.every c.args.state c.loop-done.state c.in-Err-Stop.stop c.loop-done.done a b (omega arith)
     c.loop-done.invariant.reached stops c.loop-done.invariant.wrote
 
@@ -47,7 +47,7 @@ returns-in-Err-NoMemory g c =
 
 pub write_due-requires-in-loop-done : goal.write_due-requires-in-loop-done
 write_due-requires-in-loop-done g c =
-    room_kept c.loop-done.room c.loop-done.state c.in-Ok.next c.in-Ok.ensures c.loop-done.invariant.room
+    room_kept c.loop-done.room c.loop-done.state c.in-Ok.next c.in-Ok.ensures.steps c.loop-done.invariant.room
 
 pub returns-in_err-write_due-2 : goal.returns-in_err-write_due-2
 returns-in_err-write_due-2 g c =
@@ -59,7 +59,7 @@ returns-in_err-write_due-2 g c =
     let b = sinks (g.O.Sink.told c.loop-done.out) (g.R.Sink.told c.loop-done.report) in
     let e = sinks (g.O.Sink.told c.write_due-in-loop-done.new.out) (g.R.Sink.told c.write_due-in-loop-done.new.report) in
     let side = c.in_err-write_due-2.field-0.0 in
-    let reached = after_step w c.loop-done.state v n c.loop-done.invariant.reached c.in-Ok.ensures in
+    let reached = after_step w c.loop-done.state v n c.loop-done.invariant.reached c.in-Ok.ensures.steps in
     let cut = subst (λ (due : Bool). CutAt side b e (due_frame due (n + 1) v)) c.is_due-due.ensures c.in_err-write_due-2.ensures.writes in
     rw (exit.1 ∙ ap Err exit.2)
     (more_cut side c.args.steps c.args.every w v (n + 1) a b e (omega arith) reached c.loop-done.invariant.wrote cut)
@@ -72,7 +72,7 @@ loop-done-preserved g c =
     let a = sinks (g.O.Sink.told c.args.out.now) (g.R.Sink.told c.args.report.now) in
     let b = sinks (g.O.Sink.told c.loop-done.out) (g.R.Sink.told c.loop-done.report) in
     let e = sinks (g.O.Sink.told c.write_due-in-loop-done.new.out) (g.R.Sink.told c.write_due-in-loop-done.new.report) in
-    let reached = after_step w c.loop-done.state v n c.loop-done.invariant.reached c.in-Ok.ensures in
+    let reached = after_step w c.loop-done.state v n c.loop-done.invariant.reached c.in-Ok.ensures.steps in
     let next = subst (λ (due : Bool). Wrote b e (outs (due_frame due (n + 1) v)) (lines (due_frame due (n + 1) v))) c.is_due-due.ensures c.in_ok-write_due-2.ensures.writes in
     record {
       reached = reached;

@@ -13,7 +13,7 @@ use Rattle.pic_charge.specs.Gauss.{first_break}
 use Rattle.pic_charge.proofs.BreakLaws.{first_break-charge}
 use Rattle.pic_charge.proofs.ChargeLaws.{all_charged}
 use Rattle.pic_deck.specs.Deck.{initial_e}
-use Rattle.pic_step.specs.Sound.{one_part}
+use Rattle.pic_grid.specs.Parts.{one_part}
 use Rattle.pic_step.specs.SerialRun.{kinds_of}
 use Rattle.pic_run.specs.Starting.{break_of}
 use Rattle.pic_run.proofs.Starts.{kinds_are, shares_are, initial_most, sound_start}
