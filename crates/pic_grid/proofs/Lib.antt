@@ -5,6 +5,7 @@ pub mod ShapeLaws
 pub mod PartLaws
 pub mod RowLaws
 pub mod RunLaws
+pub mod SlotLaws
 pub mod FourLaws
 pub mod DifferenceLaws
 pub mod SumLaws

@@ -23,7 +23,7 @@ same_layer s x i some below =
     ap (λ (j : ℕ). j / s) split ∙ div-mul-add (x / s) s (x % s + i) rest
 
 -- how far a layer lies above the lowest of its part
-above_corner : (s x : ℕ) → unsigned_abs (pos x -ℤ pos (x / s * s)) ≡ x % s
+pub above_corner : (s x : ℕ) → unsigned_abs (pos x -ℤ pos (x / s * s)) ≡ x % s
 above_corner s x =
     let whole : x / s * s + x % s ≡ x = div-add-mod' x s in
     omega (arith, ints)
@@ -42,7 +42,7 @@ module _ (n parts : Triple) (blocks : List BlockValues) (p : Triple) (h : IsCell
     b = block_of n parts blocks p
 
     -- the block of a cell's part
-    here : IsPart s (part_of s p) b
+    pub here : IsPart s (part_of s p) b
     here =
         let among = part_of_within n parts p h k w in
         let zone = are.zones (index_of parts (part_of s p)) (index_of_below parts (part_of s p) among) in

@@ -6,6 +6,7 @@ pub mod Lattice
 pub mod Block
 pub mod Rows
 pub mod Parts
+pub mod Slot
 pub mod Differences
 pub mod Sums
 pub mod Hat

@@ -8,18 +8,20 @@ ghost use Rattle.pic_grid.specs.Parts.{IsLattice, ArePartsOf, joined};
 
 use crate::block::Block;
 use crate::cells::Cells;
-use crate::parts::{blocks_of, layers_of, part_in};
+use crate::parts::{blocks_of, guesses_of, layers_of, part_in};
 use pic_num::{Axis, NoMemory};
 use std::alloc::Global;
 use std::marker::Model;
 
 /// Three `i128` components for each cell of the grid, cut into equal parts with one block for each.
 /// Contracts see the cells, the parts and the values in the order of places.
+// `guesses` are what an index is multiplied by for a guess at its part.
 #[derive(Drop)]
 pub struct Lattice {
     pub(crate) cells: Cells,
     pub(crate) parts: [u32; 3],
     pub(crate) layers: [u32; 3],
+    pub(crate) guesses: [u16; 3],
     pub(crate) blocks: Vec<Block>,
 }
 
@@ -43,6 +45,7 @@ impl Lattice {
             cells,
             parts,
             layers,
+            guesses: guesses_of(layers),
             blocks,
         })
     }
@@ -58,6 +61,7 @@ impl Lattice {
             cells,
             parts,
             layers,
+            guesses: guesses_of(layers),
             blocks,
         }
     }
@@ -71,6 +75,7 @@ impl Lattice {
             cells: _,
             parts: _,
             layers: _,
+            guesses: _,
             blocks,
         } = self;
         blocks

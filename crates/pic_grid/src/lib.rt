@@ -14,6 +14,7 @@ mod parts;
 mod places;
 mod rows;
 mod runs;
+mod slot;
 mod slow;
 mod snapshot;
 mod stop;
@@ -29,6 +30,7 @@ pub use laws::{
 pub use name::Name;
 pub use nodes::Nodes;
 pub use pair::Pair;
+pub use slot::Slot;
 pub use slow::{slow_gather, slow_shifted_weight, slow_weight};
 pub use snapshot::Snapshot;
 pub use stop::{Bound, EndMark, Phase, Stop};

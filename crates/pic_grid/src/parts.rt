@@ -26,6 +26,21 @@ pub(crate) fn layers_of(cells: Cells, parts: [u32; 3]) -> [u32; 3]
     [nx / px, ny / py, nz / pz]
 }
 
+/// On each axis 2^15 over the layers of a part: by it the part of an index is guessed without a
+/// division.
+pub(crate) fn guesses_of(layers: [u32; 3]) -> [u16; 3]
+    requires { IsSize (triple layers) }
+{
+    let [nx, ny, nz] = layers;
+    [guess_of(nx), guess_of(ny), guess_of(nz)]
+}
+
+fn guess_of(layers: u32) -> u16
+    requires { 0 < layers }
+{
+    (32768 / layers + 1) as u16
+}
+
 /// The number of the part in which a cell lies. One part alone needs no division.
 pub(crate) fn part_in(parts: [u32; 3], layers: [u32; 3], cell: [u32; 3]) -> usize
     requires parts { IsSize (triple parts) }

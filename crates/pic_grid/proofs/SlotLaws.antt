@@ -1,0 +1,105 @@
+-- Places of a lattice by three slots: the sums of their shares are the number of the cell's part and
+-- the number of its place in the part's block.
+use Rattle.std.proofs.Common.{◌≡◌, ℕ, pos, ◌+◌, ◌*◌, ◌/◌, ◌%◌, ◌<◌, List, length, slice_index_or, sym, ◌∙◌, ap, subst, arith}
+use Rattle.pic_num.specs.declared.axis.Axis.{Axis}
+use Rattle.pic_num.specs.Space.{Triple, axis_number}
+use Rattle.pic_grid.specs.declared.slot.Slot.{Slot}
+use Rattle.pic_grid.specs.Block.{BlockValues, inner_of, edge_at}
+use Rattle.pic_grid.specs.Cells.{IsWithin, count_of, index_of, place_of}
+use Rattle.pic_grid.specs.Lattice.{Field, value_at}
+use Rattle.pic_grid.specs.Parts.{spot_of, part_size, part_of, corner_of, IsPart, IsLattice, joined}
+use Rattle.pic_grid.specs.Slot.{IsSlotX, IsSlotY, IsSlotZ}
+use Rattle.pic_grid.proofs.BlockLaws.{inner_within}
+use Rattle.pic_grid.proofs.CellLaws.{place_of_below}
+use Rattle.pic_grid.proofs.PartLaws.{block_of, block_has, lattice_below, lattice_block, value_at-joined}
+use Rattle.pic_grid.proofs.RunLaws.{here, above_corner}
+
+number_sum : (a b c px py : ℕ) → a * 1 + b * px + c * (px * py) ≡ (c * py + b) * px + a
+number_sum a b c px py = omega arith
+
+-- three slots, one of each axis
+pub record AreSlots (n parts : Triple) (u v w : Slot) : Type 0 where
+  pub x : IsSlotX n parts u
+  pub y : IsSlotY n parts v
+  pub z : IsSlotZ n parts w
+
+pub slots_of : (n parts : Triple) (blocks : List BlockValues) (f : Field) (x y z : Slot) → joined n parts blocks ≡ f
+    → IsSlotX f.cells f.parts x → IsSlotY f.cells f.parts y → IsSlotZ f.cells f.parts z → AreSlots n parts x y z
+slots_of n parts blocks f x y z view on_x on_y on_z =
+    subst (λ (g : Field). AreSlots g.cells g.parts x y z) (sym view) (record { x = on_x; y = on_y; z = on_z })
+
+-- three slots of a lattice, and the cell that they are of
+module _ (n parts s : Triple) (blocks : List BlockValues) (x y z : Slot) (l : IsLattice n parts s blocks) (on : AreSlots n parts x y z)
+  where
+    abbrev p : Triple
+    p = record { x = x.index; y = y.index; z = z.index }
+
+    abbrev part : ℕ
+    part = x.part + y.part + z.part
+
+    abbrev place : ℕ
+    place = x.place + y.place + z.place
+
+    pub slots_within : IsWithin p n
+    slots_within = record { x = on.x.within; y = on.y.within; z = on.z.within }
+
+    part_is : part ≡ index_of parts (part_of (part_size n parts) p)
+    unfolding index_of
+    part_is =
+        (λ i. on.x.part i + on.y.part i + on.z.part i)
+        ∙ number_sum (x.index / (part_size n parts).x) (y.index / (part_size n parts).y) (z.index / (part_size n parts).z) parts.x parts.y
+
+    number : part ≡ index_of parts (part_of s p)
+    number = part_is ∙ ap (λ (m : Triple). index_of parts (part_of m p)) (sym l.layers)
+
+    -- their part is one of the parts
+    pub slots_below : part < length blocks
+    slots_below = lattice_below n parts s blocks p part l slots_within number
+
+    abbrev inner : Triple
+    inner = record { x = x.index % (part_size n parts).x; y = y.index % (part_size n parts).y; z = z.index % (part_size n parts).z }
+
+    place_is : (a : Axis) → axis_number a * count_of (part_size n parts) + place ≡ place_of (part_size n parts) a inner
+    unfolding place_of index_of
+    place_is a =
+        ap (λ (m : ℕ). axis_number a * count_of (part_size n parts) + m)
+        ((λ i. on.x.place i + on.y.place i + on.z.place i)
+        ∙ number_sum inner.x inner.y inner.z (part_size n parts).x (part_size n parts).y)
+
+    inner_is : inner_of (corner_of (part_size n parts) (part_of (part_size n parts) p)) (spot_of p) ≡ inner
+    inner_is i = record {
+      x = above_corner (part_size n parts).x x.index i;
+      y = above_corner (part_size n parts).y y.index i;
+      z = above_corner (part_size n parts).z z.index i;
+    }
+
+    -- what was read there is the block of the cell's part
+    module _ (b : BlockValues) (read : b ≡ slice_index_or blocks part b)
+      where
+        block : b ≡ block_of n parts blocks p
+        block = lattice_block n parts s blocks p part b l slots_within number read
+
+        zone : IsPart (part_size n parts) (part_of (part_size n parts) p) b
+        zone = subst (IsPart (part_size n parts) (part_of (part_size n parts) p)) (sym block) (here n parts blocks p l.cells l.parts_fit l.zones slots_within)
+
+        at : (a : Axis) → axis_number a * count_of s + place ≡ place_of b.size a (inner_of b.low (spot_of p))
+        at a =
+            ap (λ (m : Triple). axis_number a * count_of m + place) l.layers
+            ∙ place_is a
+            ∙ ap (place_of (part_size n parts) a) (sym inner_is)
+            ∙ sym (λ i. place_of (zone.size i) a (inner_of (zone.low i) (spot_of p)))
+
+        -- which has the cell's place,
+        pub slots_place : (a : Axis) → length b.values ≡ 3 * count_of b.size → axis_number a * count_of s + place < length b.values
+        slots_place a size =
+            let has = subst (λ (c : BlockValues). IsWithin (inner_of c.low (spot_of p)) c.size) (sym block)
+            (inner_within _ _ (spot_of p) (block_has n parts blocks p l.cells l.parts_fit l.zones slots_within)) in
+            let below = place_of_below b.size a (inner_of b.low (spot_of p)) has in
+            omega (arith, below, size, at a)
+
+        -- and there its value
+        pub slots_value : (a : Axis) → slice_index_or b.values (axis_number a * count_of s + place) (pos 0) ≡ value_at (joined n parts blocks) a p
+        slots_value a =
+            ap (λ (m : ℕ). slice_index_or b.values m (pos 0)) (at a)
+            ∙ ap (λ (c : BlockValues). edge_at c a (spot_of p)) block
+            ∙ sym (value_at-joined n parts blocks a p slots_within)

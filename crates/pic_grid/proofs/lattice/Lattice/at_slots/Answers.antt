@@ -1,0 +1,57 @@
+use Rattle.std.proofs.Common.{◌≡◌, ℕ, pos, ◌+◌, ◌*◌, ◌<◌, length, slice_index_or, rules, sym, ◌∙◌, ap, subst}
+use Rattle.std.proofs.lemmas.Int.{to_z-of_z}
+use Rattle.std.proofs.lemmas.List.{get_or_read}
+use mir.Syntax.{w128}
+use mir.Val.{SFits}
+use Rattle.pic_num.specs.Space.{triple, axis_number}
+use Rattle.pic_grid.specs.Block.{BlockValues}
+use Rattle.pic_grid.specs.Cells.{count_of}
+use Rattle.pic_grid.specs.Lattice.{Field, value_at}
+use Rattle.pic_grid.proofs.SlotLaws.{slots_of, slots_below, slots_place, slots_value}
+use Rattle.pic_grid.proofs.lattice.Lattice.at_slots.Goals as goal
+
+pub index-block-requires : goal.index-block-requires
+index-block-requires c =
+    let n = c.self.inside.cells in
+    let parts = triple c.self.inside.parts in
+    let blocks = c.self.inside.blocks.items in
+    let on = slots_of n parts blocks _ c.args.x c.args.y c.args.z c.self.view_is c.requires.x c.requires.y c.requires.z in
+    let below = slots_below n parts (triple c.self.inside.layers) blocks c.args.x c.args.y c.args.z c.self.invariant on in
+    search (rules, below)
+
+pub index-requires : goal.index-requires
+index-requires c =
+    let n = c.self.inside.cells in
+    let parts = triple c.self.inside.parts in
+    let s = triple c.self.inside.layers in
+    let blocks = c.self.inside.blocks.items in
+    let on = slots_of n parts blocks _ c.args.x c.args.y c.args.z c.self.view_is c.requires.x c.requires.y c.requires.z in
+    let whole = subst (λ (b : BlockValues). length b.values ≡ 3 * count_of b.size) c.block.view_is c.block.invariant.1 in
+    let place = c.args.x.place + c.args.y.place + c.args.z.place in
+    let below = slots_place n parts s blocks c.args.x c.args.y c.args.z c.self.invariant on c.index-block.result.now c.index-block.ensures c.args.axis whole in
+    let room : c.number.result * count_of s + place < length c.block.inside.values.items =
+    subst (λ (m : ℕ). m * count_of s + place < length c.block.inside.values.items) (sym c.number.ensures)
+    (subst (λ (b : BlockValues). axis_number c.args.axis * count_of s + place < length b.values) (sym c.block.view_is) below) in
+    search (rules, room)
+
+pub returns : goal.returns
+returns c =
+    let n = c.self.inside.cells in
+    let parts = triple c.self.inside.parts in
+    let s = triple c.self.inside.layers in
+    let blocks = c.self.inside.blocks.items in
+    let on = slots_of n parts blocks _ c.args.x c.args.y c.args.z c.self.view_is c.requires.x c.requires.y c.requires.z in
+    let whole = subst (λ (b : BlockValues). length b.values ≡ 3 * count_of b.size) c.block.view_is c.block.invariant.1 in
+    let place = c.args.x.place + c.args.y.place + c.args.z.place in
+    let items = c.block.inside.values.items in
+    let below = slots_place n parts s blocks c.args.x c.args.y c.args.z c.self.invariant on c.index-block.result.now c.index-block.ensures c.args.axis whole in
+    let room : c.number.result * count_of s + place < length items =
+    subst (λ (m : ℕ). m * count_of s + place < length items) (sym c.number.ensures)
+    (subst (λ (b : BlockValues). axis_number c.args.axis * count_of s + place < length b.values) (sym c.block.view_is) below) in
+    let fits : SFits w128 c.index.result.now = search rules in
+    to_z-of_z w128 c.index.result.now fits
+    ∙ get_or_read items (c.number.result * count_of s + place) c.index.result.now room c.index.ensures (pos 0)
+    ∙ ap (λ (m : ℕ). slice_index_or items (m * count_of s + place) (pos 0)) c.number.ensures
+    ∙ ap (λ (b : BlockValues). slice_index_or b.values (axis_number c.args.axis * count_of s + place) (pos 0)) c.block.view_is
+    ∙ slots_value n parts s blocks c.args.x c.args.y c.args.z c.self.invariant on c.index-block.result.now c.index-block.ensures c.args.axis
+    ∙ ap (λ (f : Field). value_at f c.args.axis (record { x = c.args.x.index; y = c.args.y.index; z = c.args.z.index })) c.self.view_is

@@ -1,0 +1,155 @@
+//! Places of a lattice found axis by axis, for readers of many places round one point.
+
+ghost use Rattle.std.specs.Prelude.{◌≡◌, ◌↔◌, ◌+◌, ◌*◌, ◌/◌, ◌%◌, ◌^◌, ◌<◌, ◌≤◌, IsTrue};
+ghost use Rattle.pic_grid.specs.Lattice.{value_at};
+ghost use Rattle.pic_grid.specs.Slot.{IsSlotX, IsSlotY, IsSlotZ};
+
+use crate::lattice::Lattice;
+use pic_num::Axis;
+
+/// A cell's index on one axis, and where it lies in a lattice: what it adds to the number of the
+/// cell's part, and to the cell's number among those of the part.
+#[derive(Clone, Copy)]
+pub struct Slot {
+    pub index: u32,
+    pub part: u32,
+    pub place: u32,
+}
+
+impl Lattice {
+    /// Where an index of the x axis lies.
+    #[inline(always)]
+    pub fn slot_x(&self, index: u32) -> Slot
+        requires { index < self.now.cells.x }
+        ensures index { result.index ≡ index }
+        ensures slot { IsSlotX self.now.cells self.now.parts result }
+    {
+        let [layers, _, _] = self.layers;
+        let [guess, _, _] = self.guesses;
+        slot_on(layers, guess, 1, 1, index)
+    }
+
+    /// Where an index of the y axis lies.
+    #[inline(always)]
+    pub fn slot_y(&self, index: u32) -> Slot
+        requires { index < self.now.cells.y }
+        ensures index { result.index ≡ index }
+        ensures slot { IsSlotY self.now.cells self.now.parts result }
+    {
+        let [parts_x, _, _] = self.parts;
+        let [layers_x, layers, _] = self.layers;
+        let [_, guess, _] = self.guesses;
+        slot_on(layers, guess, parts_x, layers_x, index)
+    }
+
+    /// Where an index of the z axis lies.
+    #[inline(always)]
+    pub fn slot_z(&self, index: u32) -> Slot
+        requires { index < self.now.cells.z }
+        ensures index { result.index ≡ index }
+        ensures slot { IsSlotZ self.now.cells self.now.parts result }
+    {
+        let [parts_x, parts_y, _] = self.parts;
+        let [layers_x, layers_y, layers] = self.layers;
+        let [_, _, guess] = self.guesses;
+        slot_on(layers, guess, parts_x * parts_y, layers_x * layers_y, index)
+    }
+
+    /// The component on `axis` at the cell of three slots.
+    #[inline(always)]
+    pub fn at_slots(&self, axis: Axis, x: Slot, y: Slot, z: Slot) -> i128
+        requires x { IsSlotX self.now.cells self.now.parts x }
+        requires y { IsSlotY self.now.cells self.now.parts y }
+        requires z { IsSlotZ self.now.cells self.now.parts z }
+        ensures { result ≡ value_at self.now axis (record { x = x.index; y = y.index; z = z.index }) }
+    {
+        let [layers_x, layers_y, layers_z] = self.layers;
+        let count = layers_x as usize * layers_y as usize * layers_z as usize;
+        let part = x.part as usize + y.part as usize + z.part as usize;
+        let place = x.place as usize + y.place as usize + z.place as usize;
+        let block = &self.blocks[part];
+        block.values[axis.number() as usize * count + place]
+    }
+}
+
+/// Where an index lies on an axis, one part and one place of which are so many further.
+#[inline(always)]
+fn slot_on(layers: u32, guess: u16, part_step: u32, place_step: u32, index: u32) -> Slot
+    requires some { 1 ≤ layers }
+    requires most { layers ≤ 67 }
+    requires few { index < 67 }
+    requires part_step { part_step ≤ 67 * 67 }
+    requires place_step { place_step ≤ 67 * 67 }
+    ensures index { result.index ≡ index }
+    ensures part { result.part ≡ index / layers * part_step }
+    ensures place { result.place ≡ index % layers * place_step }
+{
+    let part = part_of(layers, guess, index);
+    let inner = index - part * layers;
+    Slot {
+        index,
+        part: part * part_step,
+        place: inner * place_step,
+    }
+}
+
+/// The part of an index: a guess that its rest confirms, or else a quotient.
+#[inline(always)]
+fn part_of(layers: u32, guess: u16, index: u32) -> u32
+    requires some { 1 ≤ layers }
+    requires most { layers ≤ 67 }
+    requires few { index < 67 }
+    ensures value { result ≡ index / layers }
+    ensures low { result * layers ≤ index }
+    ensures high { index < result * layers + layers }
+{
+    let part = (index * u32::from(guess)) >> 15;
+    let start = part * layers;
+    if is_in(start, layers, index) {
+        return part;
+    }
+    index / layers
+}
+
+/// Whether an index is one of `layers` from `start` on.
+#[inline(always)]
+fn is_in(start: u32, layers: u32, index: u32) -> bool
+    requires start { start < 2 ^ 24 }
+    requires most { layers ≤ 67 }
+    ensures { IsTrue result ↔ ((start ≤ index) × (index < start + layers)) }
+{
+    if start > index {
+        return false;
+    }
+    index < start + layers
+}
+
+#[cfg(test)]
+mod tests {
+    use super::*;
+    use crate::cells::Cells;
+    use pic_num::NoMemory;
+
+    #[test]
+    fn a_value_is_found_axis_by_axis(rt: HostRuntime) -> Result<(), NoMemory> {
+        let cells = Cells::new([4, 6, 2]);
+        for parts in [[1, 1, 1], [2, 3, 1], [4, 2, 2]] {
+            let mut field = Lattice::new(rt.alloc(), cells, parts)?;
+            for index in 0..48 {
+                let cell = cells.cell_at(index);
+                field.set(Axis::Y, cell, index as i128);
+            }
+            for index in 0..48 {
+                let [x, y, z] = cells.cell_at(index);
+                let found = field.at_slots(
+                    Axis::Y,
+                    field.slot_x(x),
+                    field.slot_y(y),
+                    field.slot_z(z),
+                );
+                assert_eq!(rt; found, index as i128, "{parts:?}");
+            }
+        }
+        Ok(())
+    }
+}
