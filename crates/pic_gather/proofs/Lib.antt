@@ -1,4 +1,4 @@
-pub mod TwoTerms
-pub mod Nested
-pub mod Mixes
-pub mod Same
+pub mod TwoTermLaws
+pub mod NestedLaws
+pub mod MixLaws
+pub mod SameLaws

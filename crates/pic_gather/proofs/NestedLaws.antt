@@ -11,9 +11,9 @@ use Rattle.pic_grid.specs.Gather.{gathered, shifted_weight}
 use Rattle.pic_grid.specs.Hat.{periodic_hat}
 use Rattle.pic_grid.specs.Sums.{sum_below, sum_cells}
 use Rattle.pic_grid.proofs.SumLaws.{sum_same, sum_times}
-use Rattle.pic_gather.specs.declared.pairing.Pair.{Pair}
+use Rattle.pic_grid.specs.declared.pair.Pair.{Pair}
 use Rattle.pic_gather.specs.Forces.{row_sum, layer_sum, whole_sum}
-use Rattle.pic_gather.specs.Pairs.{IsPair}
+use Rattle.pic_grid.specs.Pair.{IsPairOf}
 
 drawn_out : (c : ℤ) (a b d : ℕ) → c *ℤ pos (a * b * d) ≡ c *ℤ pos a *ℤ (pos b *ℤ pos d)
 drawn_out c a b d = ring (c ∷ pos a ∷ pos b ∷ pos d ∷ []) (search reads depth 40 fits 9000) tt
@@ -34,7 +34,7 @@ cells_nested n force f g h =
 
 -- a component is gathered as the sum under the weights of the point's pairs, rounded once
 pub gathered_is : (f : Field) (a : Axis) (offset point : Triple) (x y z : Pair)
-    → IsPair f.cells.x offset.x point.x x → IsPair f.cells.y offset.y point.y y → IsPair f.cells.z offset.z point.z z
+    → IsPairOf 4096 f.cells.x offset.x point.x x → IsPairOf 4096 f.cells.y offset.y point.y y → IsPairOf 4096 f.cells.z offset.z point.z z
     → gathered 4096 f.cells offset (value_at f a) point ≡ rounded (whole_sum f a x y z) (pos (4096 ^ 3))
 unfolding gathered shifted_weight row_sum layer_sum whole_sum
 gathered_is f a offset point in_x in_y in_z of_x of_y of_z =

@@ -3,8 +3,8 @@ use Rattle.std.specs.Prelude.{ℤ, pos, ℕ, ◌^◌, ◌*ℤ◌}
 use Rattle.pic_num.specs.declared.axis.Axis.{Axis}
 use Rattle.pic_grid.specs.Lattice.{Field, value_at, EachAtMost}
 use Rattle.pic_grid.specs.Sums.{sum_below}
-use Rattle.pic_gather.specs.declared.pairing.Pair.{Pair}
-use Rattle.pic_gather.specs.Pairs.{share}
+use Rattle.pic_grid.specs.declared.pair.Pair.{Pair}
+use Rattle.pic_grid.specs.Pair.{weight_in}
 
 -- every value of a lattice is at most 2^44 in size: this project's bound of a force value
 abbrev pub AreForces : Field → Type 0
@@ -13,12 +13,12 @@ AreForces = EachAtMost (2 ^ 44)
 -- the weighted sum along a row of places
 unfoldable pub row_sum : Field → Axis → Pair → ℕ → ℕ → ℤ
 row_sum f a in_x y z =
-    sum_below f.cells.x (λ x. value_at f a (record { x = x; y = y; z = z }) *ℤ pos (share in_x x))
+    sum_below f.cells.x (λ x. value_at f a (record { x = x; y = y; z = z }) *ℤ pos (weight_in in_x x))
 
 -- the weighted sum over the rows of a layer
 unfoldable pub layer_sum : Field → Axis → Pair → Pair → ℕ → ℤ
-layer_sum f a in_x in_y z = sum_below f.cells.y (λ y. row_sum f a in_x y z *ℤ pos (share in_y y))
+layer_sum f a in_x in_y z = sum_below f.cells.y (λ y. row_sum f a in_x y z *ℤ pos (weight_in in_y y))
 
 -- the weighted sum over the layers: over all places
 unfoldable pub whole_sum : Field → Axis → Pair → Pair → Pair → ℤ
-whole_sum f a in_x in_y in_z = sum_below f.cells.z (λ z. layer_sum f a in_x in_y z *ℤ pos (share in_z z))
+whole_sum f a in_x in_y in_z = sum_below f.cells.z (λ z. layer_sum f a in_x in_y z *ℤ pos (weight_in in_z z))

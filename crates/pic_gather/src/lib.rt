@@ -1,10 +1,10 @@
 //! The gather of E and B at a point.
 #![tactic(auto)]
 
+mod component;
 mod gathering;
-mod mixing;
-mod pairing;
+mod stencil;
 #[cfg(test)]
 mod tests;
 
-pub use gathering::{gather_b, gather_e};
+pub use gathering::{Gathered, gather, gather_b, gather_e};

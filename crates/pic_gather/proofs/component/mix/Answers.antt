@@ -1,0 +1,16 @@
+use Rattle.std.proofs.Common.{◌^◌, lit≤}
+use mir.Syntax.{w128}
+use Rattle.pic_num.proofs.SizeLaws.{codes, code_fits}
+use Rattle.pic_gather.proofs.MixLaws.{wide, weight_size, other_size}
+use Rattle.pic_gather.proofs.component.mix.Goals as goal
+
+pub overflow_add-result : goal.overflow_add-result
+overflow_add-result c =
+    let low = weight_size c.from.result _ _ c.from.ensures c.requires.whole in
+    let high = other_size c.from-2.result _ _ c.from-2.ensures c.requires.whole in
+    code_fits w128 (search codes depth 20) tt
+
+pub returns : goal.returns
+returns c =
+    let mix = wide c.args.low c.args.high c.from.result c.from-2.result _ _ (2 ^ 68) (lit≤ tt) c.requires.whole c.requires.low_small c.requires.high_small c.from.ensures c.from-2.ensures in
+    record { value = mix.value; size = mix.size }

@@ -1,0 +1,98 @@
+//! The gather of E and of B at a point, apart or together.
+
+ghost use Rattle.std.specs.Prelude.{◌≡◌, ◌^◌};
+ghost use Rattle.pic_num.specs.Space.{triple, spot, AreAtMost};
+ghost use Rattle.pic_grid.specs.Lattice.{value_at};
+ghost use Rattle.pic_grid.specs.Gather.{gathered_e, gathered_b};
+ghost use Rattle.pic_grid.specs.Hat.{IsInBox};
+ghost use Rattle.pic_gather.specs.Forces.{AreForces};
+ghost use Rattle.pic_gather.specs.Stencil.{IsStencil};
+
+use crate::component::component;
+use crate::stencil::{Stencil, stencil_of};
+use pic_grid::Lattice;
+use pic_num::Axis;
+
+/// The force values of E and of B at a point.
+#[derive(Clone, Copy, Debug, PartialEq, Eq)]
+pub struct Gathered {
+    pub e: [i64; 3],
+    pub b: [i64; 3],
+}
+
+/// The force values of E at a point of the box, in sub-cells: each component is the mean over its
+/// places, which stand half a cell along the component's own axis, rounded once.
+pub fn gather_e(force: &Lattice, point: [u32; 3]) -> [i64; 3]
+    requires in_box { IsInBox 4096 force.now.cells (triple point) }
+    requires small { AreForces force.now }
+    ensures value { spot result ≡ gathered_e 4096 force.now.cells (value_at force.now) (triple point) }
+    ensures size { AreAtMost (spot result) (2 ^ 44) }
+{
+    e_at(force, point, stencil_of(force, point))
+}
+
+/// The force values of B at a point of the box, in sub-cells: each component is the mean over its
+/// places, which stand half a cell along the two other axes, rounded once.
+pub fn gather_b(force: &Lattice, point: [u32; 3]) -> [i64; 3]
+    requires in_box { IsInBox 4096 force.now.cells (triple point) }
+    requires small { AreForces force.now }
+    ensures value { spot result ≡ gathered_b 4096 force.now.cells (value_at force.now) (triple point) }
+    ensures size { AreAtMost (spot result) (2 ^ 44) }
+{
+    b_at(force, point, stencil_of(force, point))
+}
+
+/// Both at a point of the box, where the two lattices have the same cells and parts: their places are
+/// found once.
+#[inline(always)]
+pub fn gather(force_e: &Lattice, force_b: &Lattice, point: [u32; 3]) -> Gathered
+    requires in_box { IsInBox 4096 force_e.now.cells (triple point) }
+    requires cells { force_b.now.cells ≡ force_e.now.cells }
+    requires parts { force_b.now.parts ≡ force_e.now.parts }
+    requires small_e { AreForces force_e.now }
+    requires small_b { AreForces force_b.now }
+    ensures e { spot result.e ≡ gathered_e 4096 force_e.now.cells (value_at force_e.now) (triple point) }
+    ensures b { spot result.b ≡ gathered_b 4096 force_b.now.cells (value_at force_b.now) (triple point) }
+    ensures size_e { AreAtMost (spot result.e) (2 ^ 44) }
+    ensures size_b { AreAtMost (spot result.b) (2 ^ 44) }
+{
+    let at = stencil_of(force_e, point);
+    Gathered {
+        e: e_at(force_e, point, at),
+        b: b_at(force_b, point, at),
+    }
+}
+
+#[inline(always)]
+fn e_at(force: &Lattice, point: [u32; 3], at: Stencil) -> [i64; 3]
+    requires at { IsStencil force.now.cells force.now.parts (triple point) at }
+    requires small { AreForces force.now }
+    ensures value { spot result ≡ gathered_e 4096 force.now.cells (value_at force.now) (triple point) }
+    ensures size { AreAtMost (spot result) (2 ^ 44) }
+{
+    let _point = point;
+    let node = at.nodes;
+    let half = at.middles;
+    [
+        component(force, Axis::X, half.x, node.y, node.z),
+        component(force, Axis::Y, node.x, half.y, node.z),
+        component(force, Axis::Z, node.x, node.y, half.z),
+    ]
+}
+
+#[inline(always)]
+fn b_at(force: &Lattice, point: [u32; 3], at: Stencil) -> [i64; 3]
+    requires at { IsStencil force.now.cells force.now.parts (triple point) at }
+    requires small { AreForces force.now }
+    ensures value { spot result ≡ gathered_b 4096 force.now.cells (value_at force.now) (triple point) }
+    ensures size { AreAtMost (spot result) (2 ^ 44) }
+{
+    let _point = point;
+    let node = at.nodes;
+    let half = at.middles;
+    [
+        component(force, Axis::X, node.x, half.y, half.z),
+        component(force, Axis::Y, half.x, node.y, half.z),
+        component(force, Axis::Z, half.x, half.y, node.z),
+    ]
+}
