@@ -12,7 +12,7 @@ use Rattle.pic_grid.specs.Lattice.{value_at, field_of}
 use Rattle.pic_grid.specs.PushPhase.{Surroundings, kind_of, push_of, after_push, moved_all, halt_of, push_stop}
 use Rattle.pic_grid.specs.Sums.{sum_over}
 use Rattle.pic_grid.proofs.LatticeLaws.{value_at-field_of}
-use Rattle.pic_gather.proofs.Same.{gathered_e_same, gathered_b_same}
+use Rattle.pic_gather.proofs.SameLaws.{gathered_e_same, gathered_b_same}
 use Rattle.pic_grid.specs.Felt.{felt}
 use Rattle.pic_grid.specs.Parts.{one_part}
 use Rattle.pic_grid.specs.Traces.{trace_of, traces}
