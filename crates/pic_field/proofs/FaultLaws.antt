@@ -16,7 +16,7 @@ use Rattle.pic_grid.specs.Cells.{IsWithin, count_of, place_of}
 use Rattle.pic_grid.specs.Block.{BlockValues, inner_of, inner_at, outer_of}
 use Rattle.pic_grid.proofs.CellLaws.{place_of_below, axis_of-place_of, cell_of-place_of}
 use Rattle.pic_grid.proofs.BlockLaws.{inner_within}
-use Rattle.pic_field.proofs.WalkLaws.{IsHere}
+use Rattle.pic_field.proofs.PlaceLaws.{IsHere}
 use Rattle.pic_field.specs.FieldPhases.{fault_of, cell_above, lowest, fault_at, least_fault, IsBounded, AllBounded}
 
 -- neither of two tests holds where neither answer is given

@@ -5,7 +5,6 @@ use Rattle.std.proofs.lemmas.Bool.{cases_lt, ltb-true, lt-ltb, le-ltb}
 use Rattle.std.proofs.lemmas.Nat.{mul-add-lt}
 use borrow.Author.Tests.{ltb-false}
 use Rattle.pic_num.specs.declared.axis.Axis.{Axis}
-use Rattle.pic_num.specs.declared.axis.Axis.TheVariants.{X, Y, Z}
 use Rattle.pic_num.specs.Multiplier.{Multiplier}
 use Rattle.pic_num.specs.Rounding.{scaled}
 use Rattle.pic_num.specs.Space.{Triple, axis_number}
@@ -17,7 +16,7 @@ use Rattle.pic_grid.specs.declared.stop.Stop.{Stop}
 use Rattle.pic_grid.specs.declared.stop.Stop.TheVariants.{Field as field_stop}
 use Rattle.pic_grid.specs.Arrays.{array_of_triple}
 use Rattle.pic_grid.specs.Cells.{IsWithin, count_of, index_of, cell_of, axis_of, place_of}
-use Rattle.pic_grid.proofs.CellLaws.{index_of_below, place_of_below, place_of-number, place_within}
+use Rattle.pic_grid.proofs.CellLaws.{axis_of-number, index_of_below, place_of_below, place_of-number, place_within}
 use Rattle.pic_field.specs.FieldPhases.{fault_of, cell_above, fault_at, least_fault, IsBounded}
 use Rattle.pic_field.specs.LeastStop.{LeastStop, EachBounded, Passes, value_passes, force_passes, IsBefore, less_axis, less_z, less_y, less_x, IsLeastStop}
 use Rattle.pic_field.proofs.FaultLaws.{fault_of-none, fault_at-place_of, least_fault-bounded}
@@ -59,12 +58,6 @@ before_below n b q a p v w (less_axis less) = row_less (count_of n) (axis_number
 before_below n b q a p v w (less_z same less) = same_axis n b a (index_of n q) (index_of n p) same (index_less_z n q p v less)
 before_below n b q a p v w (less_y same same_z less) = same_axis n b a (index_of n q) (index_of n p) same (index_less_y n q p v same_z less)
 before_below n b q a p v w (less_x same same_z same_y less) = same_axis n b a (index_of n q) (index_of n p) same (index_less_x n q p same_z same_y less)
-
--- the axis of an axis's number
-axis_of-number : (a : Axis) → axis_of (axis_number a) ≡ a
-axis_of-number X = refl
-axis_of-number Y = refl
-axis_of-number Z = refl
 
 -- one of two numbers is less, or they are equal
 data Order (m n : ℕ) : Type 0 where

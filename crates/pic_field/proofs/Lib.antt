@@ -1,7 +1,10 @@
 pub mod PlaceLaws
 pub mod ZoneLaws
-pub mod WalkLaws
 pub mod FaultLaws
 pub mod LeastStopLaws
 pub mod WholeLaws
+pub mod CalmLaws
 pub mod SmallLaws
+pub mod RowLaws
+pub mod LineLaws
+pub mod CurlLaws

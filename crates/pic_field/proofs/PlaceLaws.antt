@@ -2,7 +2,8 @@
 use Rattle.std.proofs.Common.{◌≡◌, ℕ, ◌+◌, ◌*◌, ◌<◌, sym, ◌∙◌, ap, subst, arith}
 use Rattle.pic_num.specs.declared.axis.Axis.{Axis}
 use Rattle.pic_num.specs.declared.axis.Axis.TheVariants.{X, Y, Z}
-use Rattle.pic_num.specs.Space.{Triple, axis_number, next_axis}
+use Rattle.pic_num.specs.Space.{Triple, Spot, axis_number, next_axis}
+use Rattle.pic_grid.specs.Block.{BlockValues, IsAmongCells, outer_of}
 use Rattle.pic_grid.specs.Cells.{IsSize, IsWithin, count_of, index_of, place_of}
 
 -- the component on an axis at the cell p is the place of the number i
@@ -66,3 +67,21 @@ pub next_place : (n : Triple) (i : ℕ) (a : Axis) (p : Triple) (b : Axis) (q : 
 next_place n i a p b q place below within next =
     let here : place_of n a p ≡ i = place.number below in
     record { within = within; number = λ h. next (subst (λ (k : ℕ). k + 1 < 3 * count_of n) (sym here) h) ∙ ap (λ (k : ℕ). k + 1) here }
+
+-- in a walk over a block, whose zone lies among n cells, the place of the number i is the component
+-- on an axis at the cell q of the grid, which lies p above the lowest
+pub record IsHere (old : BlockValues) (n : Triple) (i : ℕ) (a : Axis) (p q : Triple) : Type 0 where
+  pub among : IsAmongCells old.low old.size n
+  pub within : IsWithin p old.size
+  pub number : place_of old.size a p ≡ i
+  pub at : q ≡ outer_of old.low p
+
+-- as the code knows it: by its own copy of the zone
+pub is_here : (old : BlockValues) (n : Triple) (i : ℕ) (a : Axis) (p q : Triple) (low : Spot) (size : Triple) → low ≡ old.low → size ≡ old.size
+    → IsAmongCells old.low old.size n → IsPlace size i a p → i < 3 * count_of size → q ≡ outer_of low p → IsHere old n i a p q
+is_here old n i a p q low size same_low same_size among place below at = record {
+  among = among;
+  within = subst (λ (s : Triple). IsWithin p s) same_size place.within;
+  number = sym (ap (λ (s : Triple). place_of s a p) same_size) ∙ place.number below;
+  at = at ∙ ap (λ (l : Spot). outer_of l p) same_low;
+}

@@ -15,9 +15,9 @@ use Rattle.pic_num.proofs.FirstLaws.{first_of_same}
 use Rattle.pic_grid.specs.declared.stop.Phase.{Phase}
 use Rattle.pic_grid.specs.declared.stop.Phase.TheVariants.{Electric}
 use Rattle.pic_grid.specs.declared.stop.Stop.{Stop}
-use Rattle.pic_grid.specs.Lattice.{Field, value_at, field_of}
+use Rattle.pic_grid.specs.Lattice.{Field, EachAtMost, value_at, field_of}
 use Rattle.pic_grid.specs.Gather.{force_of}
-use Rattle.pic_grid.specs.Parts.{spot_of, part_size, part_of, corner_of, IsPart, no_block, ArePartsOf, value_in, joined}
+use Rattle.pic_grid.specs.Parts.{spot_of, one_part, origin, part_size, part_of, corner_of, IsPart, no_block, ArePartsOf, value_in, joined}
 use Rattle.pic_grid.specs.Cells.{IsWithin, count_of, index_of, cell_of, axis_of}
 use Rattle.pic_grid.specs.Block.{BlockValues, InZone, IsAmongCells, IsShaped, AllAtMost, inner_of, edge_at, inner_at, outer_of}
 use Rattle.pic_grid.proofs.LatticeLaws.{is_field_of, length-values_of}
@@ -26,14 +26,7 @@ use Rattle.pic_grid.proofs.CellLaws.{index_of_below, place_within}
 use Rattle.pic_grid.proofs.BlockLaws.{inner_within}
 use Rattle.pic_field.proofs.ZoneLaws.{outer_inside}
 use Rattle.pic_field.proofs.FaultLaws.{least_fault-bounded}
-use Rattle.pic_field.specs.FieldPhases.{half_of, half_in, full_of, full_in, lowest, cell_above, fault_of, fault_at, least_fault, EachAtMost, IsBounded, AllBounded}
-
--- one part on each axis, and the lowest cell of the grid
-abbrev pub one_part : Triple
-one_part = record { x = 1; y = 1; z = 1 }
-
-abbrev pub origin : Triple
-origin = record { x = 0; y = 0; z = 0 }
+use Rattle.pic_field.specs.FieldPhases.{half_of, half_in, full_of, full_in, lowest, cell_above, fault_of, fault_at, least_fault, IsBounded, AllBounded}
 
 -- the block lies over all n cells
 pub record IsWhole (n : Triple) (b : BlockValues) : Type 0 where

@@ -1,6 +1,6 @@
 -- A block whose zone lies among the cells of the grid: its cells, counted from the lowest and on the
 -- grid.
-use Rattle.std.proofs.Common.{◌≡◌, ℕ, ℤ, pos, ◌+◌, ◌<◌, ◌≤◌, ◌+ℤ◌, ◌-ℤ◌, ◌≤ℤ◌, ◌<ℤ◌, slice_index_or, unsigned_abs, ◌∙◌, ap, arith}
+use Rattle.std.proofs.Common.{◌≡◌, ℕ, ℤ, pos, ◌+◌, ◌<◌, ◌+ℤ◌, ◌-ℤ◌, ◌≤ℤ◌, ◌<ℤ◌, slice_index_or, unsigned_abs, ◌∙◌, ap, arith}
 use Rattle.std.proofs.lemmas.Int.{ints}
 use Rattle.pic_num.specs.declared.axis.Axis.{Axis}
 use Rattle.pic_num.specs.Space.{Triple, Spot}
@@ -25,7 +25,7 @@ outer_low l x h = omega (arith, ints)
 outer_high : (l : ℤ) (x s : ℕ) → pos 0 ≤ℤ l → x < s → pos (unsigned_abs l + x) <ℤ (l +ℤ pos s)
 outer_high l x s h k = omega (arith, ints)
 
--- it is one of the zone's,
+-- it is one of the zone's
 pub outer_inside : (low : Spot) (size n p : Triple) → IsAmongCells low size n → IsWithin p size → InZone low size (spot_of (outer_of low p))
 outer_inside low size n p h w = record {
   x_low = outer_low low.x p.x h.x_low;
@@ -34,17 +34,6 @@ outer_inside low size n p h w = record {
   y_high = outer_high low.y p.y size.y h.y_low w.y;
   z_low = outer_low low.z p.z h.z_low;
   z_high = outer_high low.z p.z size.z h.z_low w.z;
-}
-
-outer_below : (l : ℤ) (x s n : ℕ) → unsigned_abs l + s ≤ n → x < s → unsigned_abs l + x < n
-outer_below l x s n h k = omega arith
-
--- and of the grid's
-pub outer_within : (low : Spot) (size n p : Triple) → IsAmongCells low size n → IsWithin p size → IsWithin (outer_of low p) n
-outer_within low size n p h w = record {
-  x = outer_below low.x p.x size.x n.x h.x_high w.x;
-  y = outer_below low.y p.y size.y n.y h.y_high w.y;
-  z = outer_below low.z p.z size.z n.z h.z_high w.z;
 }
 
 -- the component there

@@ -18,7 +18,7 @@ use Rattle.pic_grid.specs.declared.stop.Stop.TheVariants.{Field as field_stop}
 use Rattle.pic_grid.specs.Differences.{curl_b, curl_e}
 use Rattle.pic_grid.specs.Lattice.{Field, value_at}
 use Rattle.pic_grid.specs.Parts.{spot_of}
-use Rattle.pic_grid.specs.Cells.{IsWithin, count_of, cell_of, axis_of}
+use Rattle.pic_grid.specs.Cells.{count_of, cell_of, axis_of}
 use Rattle.pic_grid.specs.Block.{BlockValues, InZone, edge_at}
 
 -- half a step of B at a place, from its old value v: v less the curl of the scaled E
@@ -71,10 +71,6 @@ unfoldable pub least_fault : Phase → Multiplier → Triple → Triple → (Axi
     → Option Stop
 least_fault phase by low size f =
     first_of (fault_at phase by low size f) (range_with_len 0 (3 * count_of size))
-
--- every value of a lattice is at most most in size
-pub record EachAtMost (most : ℕ) (f : Field) : Type 0 where
-  pub at_most : (a : Axis) (p : Triple) → IsWithin p f.cells → IsAtMost (value_at f a p) most
 
 -- a value passes neither bound: it is at most 2^90 in size, and its force value at most 2^44
 pub record IsBounded (by : Multiplier) (v : ℤ) : Type 0 where

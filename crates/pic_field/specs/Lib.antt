@@ -1,2 +1,4 @@
 pub mod FieldPhases
 pub mod LeastStop
+pub mod Rows
+pub mod Lines

@@ -1,11 +1,15 @@
 //! What stops a field phase at a new value.
 
-ghost use Rattle.std.specs.Prelude.{◌≡◌};
+ghost use Rattle.std.specs.Prelude.{◌≡◌, ℤ};
 ghost use Rattle.pic_num.specs.Push.{unless};
+ghost use Rattle.pic_num.specs.Sizes.{IsAtMost};
 ghost use Rattle.pic_num.specs.Space.{triple};
-ghost use Rattle.pic_field.specs.FieldPhases.{fault_of};
+ghost use Rattle.pic_grid.specs.Block.{IsAmongCells, edge_at};
+ghost use Rattle.pic_grid.specs.Parts.{spot_of};
+ghost use Rattle.pic_field.specs.FieldPhases.{fault_of, lowest, least_fault, IsBounded};
 
-use pic_grid::{Bound, Phase, Stop};
+use crate::place::{Place, cell_in, place_count};
+use pic_grid::{Block, Bound, Cells, Phase, Stop};
 use pic_num::{Axis, Mult, scale};
 
 /// The greatest size of a field's value.
@@ -42,6 +46,39 @@ pub(crate) fn fault(phase: Phase, by: Mult, axis: Axis, cell: [u32; 3], value: i
         });
     }
     None
+}
+
+/// A size up to which no value passes a bound: neither is it above 2^90 in size, nor is its force
+/// value above 2^44.
+pub(crate) fn safe_most(by: Mult) -> u128
+    ensures { (v : ℤ) → IsAtMost v result → IsBounded by v }
+{
+    let size = u128::from(by.n().unsigned_abs());
+    if size == 0 {
+        return GREATEST_VALUE;
+    }
+    let most = (GREATEST_FORCE << by.k()) / size;
+    most.min(GREATEST_VALUE)
+}
+
+/// The stop of the values of a block: that of its least place whose value passes a bound. The zone
+/// of the block lies among the cells.
+pub(crate) fn stop_in(phase: Phase, by: Mult, cells: Cells, b: &Block) -> Result<(), Stop>
+    requires among { IsAmongCells b.now.low b.now.size cells }
+    ensures { result ≡ unless (least_fault phase by (lowest b.now.low) b.now.size
+        (λ a p. edge_at b.now a (spot_of p))) tt }
+{
+    let zone = b.zone();
+    let mut stop = None;
+    let mut place = Place::first();
+    for _number in 0..place_count(zone.size) {
+        let cell = cell_in(cells, zone, place.inner);
+        let value = b.at(place.axis, cells.unwrapped(cell));
+        let found = fault(phase, by, place.axis, cell, value);
+        stop = stop.or(found);
+        place = place.following(zone.size);
+    }
+    answer(stop)
 }
 
 /// The answer of a phase: its stop, if there is one.

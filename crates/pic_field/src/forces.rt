@@ -1,17 +1,16 @@
-//! The force values of a field in one block.
+//! The force values of a field in one block, line by line.
 
-ghost use Rattle.std.specs.Prelude.{◌≡◌, ◌^◌};
+ghost use Rattle.std.specs.Prelude.{◌≡◌, ◌^◌, ◌<◌};
 ghost use Rattle.pic_num.specs.declared.axis.Axis.{Axis as AxisName};
 ghost use Rattle.pic_num.specs.Rounding.{scaled};
-ghost use Rattle.pic_num.specs.Space.{Triple, triple};
-ghost use Rattle.pic_grid.specs.Lattice.{value_at};
-ghost use Rattle.pic_grid.specs.Parts.{spot_of};
+ghost use Rattle.pic_num.specs.Space.{Triple};
 ghost use Rattle.pic_grid.specs.Cells.{IsWithin};
-ghost use Rattle.pic_grid.specs.Block.{IsAmongCells, IsShaped, InZone, inner_at, outer_of, edge_at, with_edge};
-ghost use Rattle.pic_field.specs.FieldPhases.{EachAtMost};
+ghost use Rattle.pic_grid.specs.Lattice.{EachAtMost, value_at};
+ghost use Rattle.pic_grid.specs.Block.{IsAmongCells, IsShaped, inner_at, outer_of};
+ghost use Rattle.pic_field.specs.Lines.{OnRow, OnLine, OnLayer, Changed, force_made};
 
-use crate::curls::scaled_at;
-use crate::place::{Place, cell_in, place_count, signed};
+use crate::place::cell_in;
+use crate::row::{ROOM, Row, scaled_row};
 use pic_grid::{Block, Lattice};
 use pic_num::{Axis, Mult};
 
@@ -25,24 +24,50 @@ pub fn force(mult: Mult, from: &Lattice, to: &mut Block)
     ensures values { (a : AxisName) → (p : Triple) → IsWithin p to.old.size
         → inner_at to.new a p ≡ scaled (value_at from.now a (outer_of to.old.low p)) mult }
 {
-    let cells = from.cells();
     let zone = to.zone();
-    let mut place = Place::first();
-    for _number in 0..place_count(zone.size) {
-        let cell = cell_in(cells, zone, place.inner);
-        force_place(mult, from, to, place.axis, cell);
-        place = place.following(zone.size);
+    let mut made = [0; ROOM];
+    for z in 0..zone.size[2] {
+        force_layer(mult, from, to, z, &mut made);
     }
 }
 
-/// The force value of the component on `axis` at `cell`, a cell of the grid.
-fn force_place(mult: Mult, from: &Lattice, to: &mut Block, axis: Axis, cell: [u32; 3])
-    requires within { IsWithin (triple cell) from.now.cells }
-    requires inside { InZone to.old.low to.old.size (spot_of (triple cell)) }
+/// The force values of a layer, line by line.
+fn force_layer(mult: Mult, from: &Lattice, to: &mut Block, z: u32, made: &mut Row)
+    requires among { IsAmongCells to.old.low to.old.size from.now.cells }
     requires small { EachAtMost (2 ^ 90) from.now }
-    ensures after { to.new ≡ with_edge to.old axis (spot_of (triple cell)) (scaled (value_at from.now axis (triple cell)) mult) }
-    ensures stored { edge_at to.new axis (spot_of (triple cell)) ≡ scaled (value_at from.now axis (triple cell)) mult }
+    requires z { z < to.old.size.z }
+    ensures { Changed (force_made mult from.now to.old.low) (OnLayer z) to.old to.new }
 {
-    let at = signed(from.cells(), cell);
-    to.set(axis, at, scaled_at(from, mult, axis, cell));
+    let zone = to.zone();
+    for y in 0..zone.size[1] {
+        force_line(mult, from, to, y, z, made);
+    }
+}
+
+/// The force values of a line.
+fn force_line(mult: Mult, from: &Lattice, to: &mut Block, y: u32, z: u32, made: &mut Row)
+    requires among { IsAmongCells to.old.low to.old.size from.now.cells }
+    requires small { EachAtMost (2 ^ 90) from.now }
+    requires y { y < to.old.size.y }
+    requires z { z < to.old.size.z }
+    ensures { Changed (force_made mult from.now to.old.low) (OnLine y z) to.old to.new }
+{
+    force_row(mult, from, to, Axis::X, y, z, made);
+    force_row(mult, from, to, Axis::Y, y, z, made);
+    force_row(mult, from, to, Axis::Z, y, z, made);
+}
+
+/// The force values of the component on `axis` along a line.
+fn force_row(mult: Mult, from: &Lattice, to: &mut Block, axis: Axis, y: u32, z: u32, made: &mut Row)
+    requires among { IsAmongCells to.old.low to.old.size from.now.cells }
+    requires small { EachAtMost (2 ^ 90) from.now }
+    requires y { y < to.old.size.y }
+    requires z { z < to.old.size.z }
+    ensures { Changed (force_made mult from.now to.old.low) (OnRow axis y z) to.old to.new }
+{
+    let zone = to.zone();
+    let count = zone.size[0] as usize;
+    let here = cell_in(from.cells(), zone, [0, y, z]);
+    scaled_row(from, mult, axis, here, count, made);
+    to.set_row(axis, y, z, &made[..count]);
 }

@@ -1,13 +1,14 @@
 //! The field phases of a step, and force values, block by block.
 #![tactic(auto)]
 
-mod curls;
 mod electric;
 mod faults;
 mod forces;
 mod laws;
 mod magnetic;
 mod place;
+mod rooms;
+mod row;
 
 pub use electric::full_e;
 pub use forces::force;

@@ -1,20 +1,23 @@
-//! Half a step of B in one block.
+//! Half a step of B in one block, line by line.
 
-ghost use Rattle.std.specs.Prelude.{◌≡◌, ◌^◌, OnOk};
+ghost use Rattle.std.specs.Prelude.{◌≡◌, ◌+◌, ◌^◌, ◌<◌, ◌≤◌, OnOk, IsTrue};
 ghost use Rattle.pic_num.specs.declared.axis.Axis.{Axis as AxisName};
 ghost use Rattle.pic_num.specs.Push.{unless};
-ghost use Rattle.pic_num.specs.Sizes.{IsAtMost};
 ghost use Rattle.pic_num.specs.Space.{Triple, triple};
-ghost use Rattle.pic_grid.specs.Parts.{spot_of};
 ghost use Rattle.pic_grid.specs.Cells.{IsWithin};
-ghost use Rattle.pic_grid.specs.Block.{IsAmongCells, IsShaped, AllAtMost, InZone, inner_at, outer_of, edge_at, with_edge};
-ghost use Rattle.pic_field.specs.FieldPhases.{half_of, half_in, fault_of, lowest, least_fault, EachAtMost, AllBounded};
+ghost use Rattle.pic_grid.specs.Differences.{up};
+ghost use Rattle.pic_grid.specs.Lattice.{EachAtMost};
+ghost use Rattle.pic_grid.specs.Block.{IsAmongCells, IsShaped, AllAtMost, inner_at, outer_of};
+ghost use Rattle.pic_field.specs.FieldPhases.{half_of, half_in, lowest, least_fault, AllBounded};
+ghost use Rattle.pic_field.specs.Lines.{OnLine, OnLayer, BelowLayer, Changed, AreSmall, half_made, line_start};
+ghost use Rattle.pic_field.specs.Rows.{IsScaledRow};
 
-use crate::curls::curl_of_e;
-use crate::faults::{answer, fault};
-use crate::place::{Place, cell_in, place_count, signed};
+use crate::faults::{safe_most, stop_in};
+use crate::place::cell_in;
+use crate::rooms::{Rooms, half_row};
+use crate::row::{Four, copy_row, scaled_row, shifted};
 use pic_grid::{Block, Lattice, Phase, Stop};
-use pic_num::{Axis, Scales};
+use pic_num::{Axis, Mult, Scales};
 
 /// Half a step of B at every place of a block: each value less the curl of the scaled E. The zone
 /// of the block lies among the cells of `e`, and all values are at most 2^90 in size.
@@ -34,39 +37,143 @@ pub fn half_b(scales: &Scales, e: &Lattice, b: &mut Block, phase: Phase) -> Resu
         b.old.size (half_in scales.now e.now b.old)) tt }
     ensures bounded { OnOk result (AllBounded scales.now.b_force b.new) }
 {
-    let cells = e.cells();
-    let zone = b.zone();
-    let mut stop = None;
-    let mut place = Place::first();
-    for _number in 0..place_count(zone.size) {
-        let cell = cell_in(cells, zone, place.inner);
-        let found = half_place(scales, e, b, phase, place.axis, cell);
-        stop = stop.or(found);
-        place = place.following(zone.size);
+    let most = safe_most(scales.b_force);
+    let mut rooms = Rooms::new();
+    if half_layers(scales, e, b, most, &mut rooms) {
+        return Ok(());
     }
-    answer(stop)
+    stop_in(phase, scales.b_force, e.cells(), b)
 }
 
-/// Half a step of B at the component on `axis` at `cell`, a cell of the grid: sets the new value and
-/// finds its stop.
-fn half_place(
+/// Half a step of B at every place, layer by layer, and whether all new values are at most `most`
+/// in size.
+fn half_layers(scales: &Scales, e: &Lattice, b: &mut Block, most: u128, rooms: &mut Rooms) -> bool
+    requires among { IsAmongCells b.old.low b.old.size e.now.cells }
+    requires e_small { EachAtMost (2 ^ 90) e.now }
+    requires b_small { AreSmall (2 ^ 90) (BelowLayer b.old.size.z) b.old }
+    ensures changed { Changed (half_made scales.now e.now b.old.low)
+        (BelowLayer b.old.size.z) b.old b.new }
+    ensures calm { IsTrue result → AreSmall most (BelowLayer b.old.size.z) b.new }
+{
+    let zone = b.zone();
+    let mut calm = true;
+    for z in 0..zone.size[2] {
+        let found = half_layer(scales, e, b, z, most, rooms);
+        calm = calm & found;
+    }
+    calm
+}
+
+/// Half a step of B at every place of a layer, line by line. The rows that one line has in common
+/// with the next are scaled once.
+fn half_layer(
     scales: &Scales,
     e: &Lattice,
     b: &mut Block,
-    phase: Phase,
-    axis: Axis,
-    cell: [u32; 3],
-) -> Option<Stop>
-    requires within { IsWithin (triple cell) e.now.cells }
-    requires inside { InZone b.old.low b.old.size (spot_of (triple cell)) }
+    z: u32,
+    most: u128,
+    rooms: &mut Rooms,
+) -> bool
+    requires among { IsAmongCells b.old.low b.old.size e.now.cells }
     requires e_small { EachAtMost (2 ^ 90) e.now }
-    requires small { IsAtMost (edge_at b.old axis (spot_of (triple cell))) (2 ^ 90) }
-    ensures after { b.new ≡ with_edge b.old axis (spot_of (triple cell)) (half_in scales.now e.now b.old axis (triple cell)) }
-    ensures stored { edge_at b.new axis (spot_of (triple cell)) ≡ half_in scales.now e.now b.old axis (triple cell) }
-    ensures stop { result ≡ fault_of phase scales.now.b_force axis (triple cell) (half_in scales.now e.now b.old axis (triple cell)) }
+    requires z { z < b.old.size.z }
+    requires b_small { AreSmall (2 ^ 90) (OnLayer z) b.old }
+    ensures changed { Changed (half_made scales.now e.now b.old.low) (OnLayer z) b.old b.new }
+    ensures calm { IsTrue result → AreSmall most (OnLayer z) b.new }
 {
-    let at = signed(e.cells(), cell);
-    let value = b.at(axis, at) - curl_of_e(e, scales.e_to_b, axis, cell);
-    b.set(axis, at, value);
-    fault(phase, scales.b_force, axis, cell, value)
+    let zone = b.zone();
+    let count = zone.size[0] as usize + 1;
+    let first = cell_in(e.cells(), zone, [0, 0, z]);
+    scaled_row(e, scales.e_to_b, Axis::X, first, count, &mut rooms.x);
+    scaled_row(e, scales.e_to_b, Axis::Z, first, count, &mut rooms.z);
+    let mut calm = true;
+    for y in 0..zone.size[1] {
+        let found = half_line(scales, e, b, y, z, most, rooms);
+        calm = calm & found;
+    }
+    calm
+}
+
+/// Half a step of B along a line. The rooms `x` and `z` hold the line's own rows, and then those of
+/// the next line in y.
+fn half_line(
+    scales: &Scales,
+    e: &Lattice,
+    b: &mut Block,
+    y: u32,
+    z: u32,
+    most: u128,
+    rooms: &mut Rooms,
+) -> bool
+    requires among { IsAmongCells b.old.low b.old.size e.now.cells }
+    requires e_small { EachAtMost (2 ^ 90) e.now }
+    requires y { y < b.old.size.y }
+    requires z { z < b.old.size.z }
+    requires b_small { AreSmall (2 ^ 90) (OnLine y z) b.old }
+    requires x_row { IsScaledRow e.now scales.now.e_to_b Axis.X (line_start b.old.low y z)
+        (b.old.size.x + 1) rooms.old.x }
+    requires z_row { IsScaledRow e.now scales.now.e_to_b Axis.Z (line_start b.old.low y z)
+        (b.old.size.x + 1) rooms.old.z }
+    ensures x_row { IsScaledRow e.now scales.now.e_to_b Axis.X
+        (up e.now.cells Axis.Y (line_start b.old.low y z)) (b.old.size.x + 1) rooms.new.x }
+    ensures z_row { IsScaledRow e.now scales.now.e_to_b Axis.Z
+        (up e.now.cells Axis.Y (line_start b.old.low y z)) (b.old.size.x + 1) rooms.new.z }
+    ensures changed { Changed (half_made scales.now e.now b.old.low) (OnLine y z) b.old b.new }
+    ensures calm { IsTrue result → AreSmall most (OnLine y z) b.new }
+{
+    let zone = b.zone();
+    let count = zone.size[0] as usize;
+    let here = cell_in(e.cells(), zone, [0, y, z]);
+    half_rows(scales.e_to_b, e, here, count + 1, rooms);
+    let on_x = Four {
+        far_third: &rooms.z_by_y[..count],
+        near_third: &rooms.z[..count],
+        far_second: &rooms.y_by_z[..count],
+        near_second: &rooms.y[..count],
+    };
+    let calm_x = half_row(b, Axis::X, y, z, &on_x, most, &mut rooms.made);
+    let on_y = Four {
+        far_third: &rooms.x_by_z[..count],
+        near_third: &rooms.x[..count],
+        far_second: shifted(&rooms.z[..], count),
+        near_second: &rooms.z[..count],
+    };
+    let calm_y = half_row(b, Axis::Y, y, z, &on_y, most, &mut rooms.made);
+    let on_z = Four {
+        far_third: shifted(&rooms.y[..], count),
+        near_third: &rooms.y[..count],
+        far_second: &rooms.x_by_y[..count],
+        near_second: &rooms.x[..count],
+    };
+    let calm_z = half_row(b, Axis::Z, y, z, &on_z, most, &mut rooms.made);
+    copy_row(&rooms.x_by_y, count + 1, &mut rooms.x);
+    copy_row(&rooms.z_by_y, count + 1, &mut rooms.z);
+    calm_x & calm_y & calm_z
+}
+
+/// The rows of scaled E that a line needs beside its own x and z: its y, and those of the next lines
+/// in y and in z.
+fn half_rows(by: Mult, e: &Lattice, here: [u32; 3], count: usize, rooms: &mut Rooms)
+    requires within { IsWithin (triple here) e.now.cells }
+    requires few { count ≤ 129 }
+    requires e_small { EachAtMost (2 ^ 90) e.now }
+    ensures x { rooms.new.x ≡ rooms.old.x }
+    ensures z { rooms.new.z ≡ rooms.old.z }
+    ensures y { IsScaledRow e.now by Axis.Y (triple here) count rooms.new.y }
+    ensures x_by_y { IsScaledRow e.now by Axis.X (up e.now.cells Axis.Y (triple here)) count
+        rooms.new.x_by_y }
+    ensures z_by_y { IsScaledRow e.now by Axis.Z (up e.now.cells Axis.Y (triple here)) count
+        rooms.new.z_by_y }
+    ensures x_by_z { IsScaledRow e.now by Axis.X (up e.now.cells Axis.Z (triple here)) count
+        rooms.new.x_by_z }
+    ensures y_by_z { IsScaledRow e.now by Axis.Y (up e.now.cells Axis.Z (triple here)) count
+        rooms.new.y_by_z }
+{
+    let by_y = e.cells().up(Axis::Y, here);
+    let by_z = e.cells().up(Axis::Z, here);
+    scaled_row(e, by, Axis::Y, here, count, &mut rooms.y);
+    scaled_row(e, by, Axis::X, by_y, count, &mut rooms.x_by_y);
+    scaled_row(e, by, Axis::Z, by_y, count, &mut rooms.z_by_y);
+    scaled_row(e, by, Axis::X, by_z, count, &mut rooms.x_by_z);
+    scaled_row(e, by, Axis::Y, by_z, count, &mut rooms.y_by_z);
 }

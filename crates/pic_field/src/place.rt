@@ -81,13 +81,3 @@ pub(crate) fn cell_in(cells: Cells, zone: Zone, inner: [u32; 3]) -> [u32; 3]
     let [x, y, z] = inner;
     [low_x as u32 + x, low_y as u32 + y, low_z as u32 + z]
 }
-
-/// A cell of the grid as one that isn't wrapped.
-pub(crate) fn signed(cells: Cells, cell: [u32; 3]) -> [i32; 3]
-    requires { IsWithin (triple cell) cells }
-    ensures { spot result ≡ spot_of (triple cell) }
-{
-    let [_, _, _] = cells.n;
-    let [x, y, z] = cell;
-    [x as i32, y as i32, z as i32]
-}

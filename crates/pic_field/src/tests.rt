@@ -5,7 +5,7 @@ ghost use Rattle.pic_num.specs.Sizes.{IsAtMost};
 ghost use Rattle.pic_num.specs.Space.{triple, spot};
 ghost use Rattle.pic_grid.specs.Cells.{IsCells, IsWithin};
 ghost use Rattle.pic_grid.specs.Block.{IsZone, InZone, IsAmongCells, IsShaped, AllAtMost};
-ghost use Rattle.pic_field.specs.FieldPhases.{EachAtMost};
+ghost use Rattle.pic_grid.specs.Lattice.{EachAtMost};
 
 use crate::{force, full_e, half_b};
 use pic_grid::{Block, Bound, Cells, Lattice, Phase, Stop, Zone};

@@ -1,100 +1,58 @@
-use Rattle.std.proofs.Common.{◌≡◌, ℤ, ◌*◌, ◌^◌, ◌<◌, Option, sym, ◌∙◌, ap, arith}
+use Rattle.std.proofs.Common.{◌≡◌, ◌^◌, Option, sym, ◌∙◌, ap, subst}
 use Rattle.pic_num.specs.Push.{unless}
-use Rattle.pic_num.specs.Space.{triple}
+use Rattle.pic_num.specs.declared.axis.Axis.{Axis}
+use Rattle.pic_num.specs.Space.{Triple, Spot}
 use Rattle.pic_grid.specs.declared.stop.Phase.TheVariants.{Electric}
 use Rattle.pic_grid.specs.declared.stop.Stop.{Stop}
-use Rattle.pic_grid.specs.Parts.{spot_of}
-use Rattle.pic_grid.specs.Cells.{count_of}
-use Rattle.pic_grid.specs.Block.{outer_of, edge_at}
-use Rattle.pic_field.specs.FieldPhases.{full_of, full_in, fault_of}
+use Rattle.pic_grid.specs.Cells.{IsWithin}
+use Rattle.pic_grid.specs.Block.{IsAmongCells, inner_at, outer_of}
+use Rattle.pic_field.specs.FieldPhases.{full_of, full_in}
+use Rattle.pic_field.specs.Lines.{BelowLayer}
+use Rattle.pic_field.proofs.CalmLaws.{all_small, calm_none, new_stop}
+use Rattle.pic_field.proofs.FaultLaws.{bounded_on_ok}
 use Rattle.pic_field.proofs.ZoneLaws.{edge_at-outer, edge_at-shaped}
-use Rattle.pic_field.proofs.FaultLaws.{fault_below-none, fault_below-more, fault_below-all, bounded_on_ok}
-use Rattle.pic_field.proofs.PlaceLaws.{first_place, next_place}
-use Rattle.pic_field.proofs.WalkLaws.{IsHere, is_here, here_inside, walked_none, walked_shape, walked_kept, walked_small, walked_more, walked_all}
 use Rattle.pic_field.proofs.electric.full_e.Goals as goal
-use Rattle.pic_field.proofs.electric.full_e.Goals.{After-cell_in-cell, After-answer}
+use Rattle.pic_field.proofs.electric.full_e.Goals.{After-full_layers}
 
--- where the walk stands
-here : (c : After-cell_in-cell)
-    → IsHere c.args.e.now c.args.b.now.cells c.loop-number._number c.loop-number.place.axis (triple c.loop-number.place.inner) (triple c.cell_in-cell.result)
-here c =
-    let below : c.loop-number._number < 3 * count_of (triple c.zone-zone.result.size) = omega (arith, c.place_count-number-end.ensures, c.loop-number-test.true) in
-    is_here c.args.e.now c.args.b.now.cells _ _ _ _ _ _ c.zone-zone.ensures.low c.zone-zone.ensures.size c.requires.among c.loop-number.invariant.place below c.cell_in-cell.ensures.value
+pub full_layers-requires-clause-e_small : goal.full_layers-requires-clause-e_small
+full_layers-requires-clause-e_small c = all_small (2 ^ 90) (BelowLayer c.args.e.now.size.z) c.args.e.now c.args.b.now.cells c.requires.among c.requires.e_small
 
--- and that it has come to the end
-ended : (c : After-answer) → c.loop-number._number ≡ 3 * count_of c.args.e.now.size
-ended c =
-    let end : c.loop-number._number ≡ 3 * count_of (triple c.zone-zone.result.size) = omega (arith, c.place_count-number-end.ensures, c.loop-number-test.false, c.loop-number.auto._number-end) in
-    end ∙ ap (λ n. 3 * count_of n) c.zone-zone.ensures.size
+pub full_layers-requires-clause-j_small : goal.full_layers-requires-clause-j_small
+full_layers-requires-clause-j_small c =
+    let shape = c.requires.j_shape in
+    let among : IsAmongCells c.args.j.now.low c.args.j.now.size c.args.b.now.cells =
+    subst (λ (l : Spot). IsAmongCells l c.args.j.now.size c.args.b.now.cells) (sym shape.low)
+    (subst (λ (n : Triple). IsAmongCells c.args.e.now.low n c.args.b.now.cells) (sym shape.size) c.requires.among) in
+    all_small (2 ^ 90) (BelowLayer c.args.e.now.size.z) c.args.j.now c.args.b.now.cells among c.requires.j_small
 
-pub loop-number-init : goal.loop-number-init
-loop-number-init c = record {
-  place = first_place (triple c.zone-zone.result.size) c.args.e.now.size _ _ c.zone-zone.ensures.size c.zone-zone.ensures.limits.layers c.first-place.ensures.axis c.first-place.ensures.inner;
-  walked = walked_none (full_in c.args.scales.now c.args.b.now c.args.j.now c.args.e.now) c.args.e.now;
-  stop = sym (fault_below-none Electric c.args.scales.now.e_force (full_in c.args.scales.now c.args.b.now c.args.j.now c.args.e.now) c.args.e.now);
-}
+-- the new values
+values : (c : After-full_layers) → (a : Axis) (p : Triple) → IsWithin p c.args.e.now.size
+    → inner_at c.full_layers.new.e a p ≡ full_in c.args.scales.now c.args.b.now c.args.j.now c.args.e.now a (outer_of c.args.e.now.low p)
+values c a p w =
+    let of_e = edge_at-outer c.args.e.now c.args.b.now.cells a p c.requires.among in
+    let of_j = edge_at-shaped c.args.j.now c.args.e.now c.args.b.now.cells a p c.requires.j_shape c.requires.among in
+    c.full_layers.ensures.changed.done a p w (record { z_below = w.z })
+    ∙ (λ i. full_of c.args.scales.now c.args.b.now a (outer_of c.args.e.now.low p) (sym of_e i) (sym of_j i))
 
-pub full_place-found-requires-clause-inside : goal.full_place-found-requires-clause-inside
-full_place-found-requires-clause-inside c =
-    let walked = c.loop-number.invariant.walked in
-    here_inside c.args.e.now c.loop-number.e c.args.b.now.cells _ _ _ _ (walked_shape _ _ _ _ walked) (here (goal.at.full_place-found-requires-clause-inside c).After-cell_in-cell)
-
-pub full_place-found-requires-clause-j_inside : goal.full_place-found-requires-clause-j_inside
-full_place-found-requires-clause-j_inside c =
-    here_inside c.args.e.now c.args.j.now c.args.b.now.cells _ _ _ _ c.requires.j_shape (here (goal.at.full_place-found-requires-clause-j_inside c).After-cell_in-cell)
-
-pub full_place-found-requires-clause-j_small : goal.full_place-found-requires-clause-j_small
-full_place-found-requires-clause-j_small c =
-    let inside = here_inside c.args.e.now c.args.j.now c.args.b.now.cells _ _ _ _ c.requires.j_shape (here (goal.at.full_place-found-requires-clause-j_small c).After-cell_in-cell) in
-    c.requires.j_small.at_most _ _ inside
-
-pub full_place-found-requires-clause-small : goal.full_place-found-requires-clause-small
-full_place-found-requires-clause-small c =
-    walked_small (2 ^ 90) (full_in c.args.scales.now c.args.b.now c.args.j.now c.args.e.now) c.loop-number._number c.args.e.now c.loop-number.e c.args.b.now.cells _ _ _
-    c.requires.e_small c.loop-number.invariant.walked (here (goal.at.full_place-found-requires-clause-small c).After-cell_in-cell)
-
-pub loop-number-preserved : goal.loop-number-preserved
-loop-number-preserved c =
-    let old = c.args.e.now in
-    let i = c.loop-number._number in
-    let a = c.loop-number.place.axis in
-    let p = triple c.loop-number.place.inner in
-    let q = triple c.cell_in-cell.result in
-    let walked = c.loop-number.invariant.walked in
-    let h = here (goal.at.loop-number-preserved c).After-cell_in-cell in
-    let below : i < 3 * count_of (triple c.zone-zone.result.size) = omega (arith, c.place_count-number-end.ensures, c.loop-number-test.true) in
-    let kept = walked_kept (full_in c.args.scales.now c.args.b.now c.args.j.now c.args.e.now) i old c.loop-number.e c.args.b.now.cells a p q walked h in
-    let value = ap (λ (v : ℤ). full_of c.args.scales.now c.args.b.now a q v (edge_at c.args.j.now a (spot_of q))) kept in
-    record {
-      place = next_place (triple c.zone-zone.result.size) i a p _ _ c.loop-number.invariant.place below c.following-place.ensures.within c.following-place.ensures.number;
-      walked = walked_more (full_in c.args.scales.now c.args.b.now c.args.j.now c.args.e.now) i old c.loop-number.e c.full_place-found.new.e c.args.b.now.cells a p q _ walked h c.full_place-found.ensures.after c.full_place-found.ensures.stored value;
-      stop = c.or-stop.ensures
-          ∙ fault_below-more Electric c.args.scales.now.e_force (full_in c.args.scales.now c.args.b.now c.args.j.now c.args.e.now) old c.args.b.now.cells i a p q c.loop-number.stop c.full_place-found.result h c.loop-number.invariant.stop
-          (c.full_place-found.ensures.stop ∙ ap (fault_of Electric c.args.scales.now.e_force a q) value);
-    }
-
-pub returns-clause-shape : goal.returns-clause-shape
-returns-clause-shape c = walked_shape (full_in c.args.scales.now c.args.b.now c.args.j.now c.args.e.now) c.loop-number._number c.args.e.now c.loop-number.e c.loop-number.invariant.walked
-
-pub returns-clause-values : goal.returns-clause-values
-returns-clause-values c = λ a p w.
-    let old = c.args.e.now in
-    let end = ended c in
-    walked_all (full_in c.args.scales.now c.args.b.now c.args.j.now c.args.e.now) c.loop-number._number old c.loop-number.e (omega arith) c.loop-number.invariant.walked a p w
-    ∙ (λ i. full_of c.args.scales.now c.args.b.now a (outer_of old.low p)
-    (edge_at-outer old c.args.b.now.cells a p c.requires.among i)
-    (edge_at-shaped c.args.j.now old c.args.b.now.cells a p c.requires.j_shape c.requires.among i))
+pub returns-then-full_layers-clause-stop : goal.returns-then-full_layers-clause-stop
+returns-then-full_layers-clause-stop c =
+    let k = (goal.at.returns-then-full_layers-clause-stop c).After-full_layers in
+    let none = calm_none Electric c.args.scales.now.e_force (full_in c.args.scales.now c.args.b.now c.args.j.now c.args.e.now) c.args.e.now c.full_layers.new.e
+    c.args.b.now.cells c.requires.among c.full_layers.ensures.changed.shaped (values k) c.safe_most-most.result (c.full_layers.ensures.calm c.if-full_layers.true)
+    c.safe_most-most.ensures in
+    ap (λ (o : Option Stop). unless o tt) (sym none)
 
 pub returns-clause-stop : goal.returns-clause-stop
 returns-clause-stop c =
-    c.answer.ensures
+    let k = (goal.at.returns-clause-stop c).After-full_layers in
+    c.stop_in.ensures
     ∙ ap (λ (o : Option Stop). unless o tt)
-    (c.loop-number.invariant.stop ∙ fault_below-all Electric c.args.scales.now.e_force (full_in c.args.scales.now c.args.b.now c.args.j.now c.args.e.now) c.args.e.now c.loop-number._number (ended c))
+    (new_stop Electric c.args.scales.now.e_force (full_in c.args.scales.now c.args.b.now c.args.j.now c.args.e.now) c.args.e.now c.full_layers.new.e c.args.b.now.cells
+    c.requires.among c.full_layers.ensures.changed.shaped (values k))
 
 pub returns-clause-bounded : goal.returns-clause-bounded
 returns-clause-bounded c =
-    let end = ended c in
-    let walked = c.loop-number.invariant.walked in
-    bounded_on_ok Electric c.args.scales.now.e_force (full_in c.args.scales.now c.args.b.now c.args.j.now c.args.e.now) c.args.e.now c.loop-number.e c.answer.result walked.low walked.size
-    (λ a p w. walked_all (full_in c.args.scales.now c.args.b.now c.args.j.now c.args.e.now) c.loop-number._number c.args.e.now c.loop-number.e (omega arith) walked a p w)
-    (returns-clause-stop c)
+    let k = (goal.at.returns-clause-bounded c).After-full_layers in
+    let shaped = c.full_layers.ensures.changed.shaped in
+    bounded_on_ok Electric c.args.scales.now.e_force (full_in c.args.scales.now c.args.b.now c.args.j.now c.args.e.now) c.args.e.now c.full_layers.new.e c.stop_in.result
+    shaped.low shaped.size (values k) (returns-clause-stop c)

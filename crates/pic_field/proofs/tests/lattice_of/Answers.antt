@@ -1,6 +1,5 @@
 use Rattle.std.proofs.Common.{◌^◌, sym, ◌∙◌, ap, subst}
-use Rattle.pic_grid.specs.Lattice.{Field}
-use Rattle.pic_field.specs.FieldPhases.{EachAtMost}
+use Rattle.pic_grid.specs.Lattice.{Field, EachAtMost}
 use Rattle.pic_field.proofs.SmallLaws.{each_zeros}
 use Rattle.pic_field.proofs.tests.lattice_of.Goals as goal
 

@@ -1,6 +1,6 @@
 use Rattle.std.proofs.Common.{◌≡◌, ◌^◌}
 use Rattle.pic_num.specs.Space.{triple}
-use Rattle.pic_field.specs.FieldPhases.{EachAtMost}
+use Rattle.pic_grid.specs.Lattice.{EachAtMost}
 use Rattle.pic_field.proofs.tests.lattice_of.Given as goal
 
 abbrev pub invariant-loop-axis : goal.invariant-loop-axis

@@ -1,0 +1,191 @@
+-- What a phase has done of a block: rows join to lines, lines to layers, layers to the whole.
+use Rattle.std.proofs.Common.{◌≡◌, ℕ, ℤ, ◌+◌, ◌*◌, ◌<◌, ◌≤◌, ◌⊎◌, ◌&&◌, Bool, true, false, inl, inr, List, length, refl, sym, ◌∙◌, ap, subst, arith}
+use Rattle.std.proofs.lemmas.Bool.{cases_lt}
+use Rattle.pic_num.specs.declared.axis.Axis.{Axis}
+use Rattle.pic_num.specs.declared.axis.Axis.TheVariants.{X, Y, Z}
+use Rattle.pic_num.specs.Sizes.{IsAtMost}
+use Rattle.pic_num.specs.Space.{Triple}
+use Rattle.pic_grid.specs.Cells.{IsWithin, count_of}
+use Rattle.pic_grid.specs.Block.{BlockValues, inner_at}
+use Rattle.pic_grid.specs.Rows.{with_row}
+use Rattle.pic_grid.proofs.RowLaws.{IsOff, row_here, row_others, row_shape, row_size}
+use Rattle.pic_field.specs.Lines.{OnRow, OnLine, BelowLine, OnLayer, BelowLayer, Changed, AreSmall}
+use Rattle.pic_field.specs.Rows.{row_at, IsSmallRow}
+
+-- two answers that are both yes
+pub both_true : (s t : Bool) → (s && t) ≡ true → (s ≡ true) × (t ≡ true)
+both_true true true e = (refl, refl)
+both_true true false e = cc
+both_true false t e = cc
+
+-- of the places of a box R has those of P and those of Q, and no place is in both
+pub record IsJoined (n : Triple) (P Q R : Axis → Triple → Type 0) : Type 0 where
+  pub apart : (a : Axis) (p : Triple) → P a p → Q a p → ⊥
+  pub either : (a : Axis) (p : Triple) → IsWithin p n → R a p → P a p ⊎ Q a p
+  pub left : (a : Axis) (p : Triple) → P a p → R a p
+  pub right : (a : Axis) (p : Triple) → Q a p → R a p
+
+module _ (g : Axis → Triple → ℤ → ℤ) (P Q R : Axis → Triple → Type 0) (old mid new : BlockValues)
+  where
+    within_mid : Changed g P old mid → (p : Triple) → IsWithin p old.size → IsWithin p mid.size
+    within_mid first p w = subst (λ (n : Triple). IsWithin p n) (sym first.shaped.size) w
+
+    -- one change after another, of other places,
+    pub changed_next : Changed g P old mid → Changed g Q mid new → IsJoined old.size P Q R → Changed g R old new
+    changed_next first then join = record {
+      shaped = record { low = then.shaped.low ∙ first.shaped.low; size = then.shaped.size ∙ first.shaped.size };
+      done = λ a p w r. elim (join.either a p w r) [
+        | inl here ↦ then.rest a p (within_mid first p w) (λ q. join.apart a p here q) ∙ first.done a p w here
+        | inr here ↦ then.done a p (within_mid first p w) here ∙ ap (g a p) (first.rest a p w (λ q. join.apart a p q here))
+      ];
+      rest = λ a p w none.
+          then.rest a p (within_mid first p w) (λ q. none (join.right a p q)) ∙ first.rest a p w (λ q. none (join.left a p q));
+    }
+
+    -- leaves small values where both left them
+    pub small_next : (most : ℕ) → Changed g Q mid new → AreSmall most P mid → AreSmall most Q new → IsJoined mid.size P Q R → AreSmall most R new
+    small_next most then first now join = record {
+      at_most = λ a p w r.
+          let v : IsWithin p mid.size = subst (λ (n : Triple). IsWithin p n) then.shaped.size w in
+          elim (join.either a p v r) [
+            | inl here ↦ subst (λ (z : ℤ). IsAtMost z most) (sym (then.rest a p v (λ q. join.apart a p here q))) (first.at_most a p v here)
+            | inr here ↦ now.at_most a p w here
+          ];
+    }
+
+    -- and keeps those of places that it leaves alone
+    pub small_kept : (most : ℕ) → Changed g Q old mid → AreSmall most P old → ((a : Axis) (p : Triple) → R a p → P a p) → ((a : Axis) (p : Triple) → R a p → Q a p → ⊥)
+        → AreSmall most R mid
+    small_kept most first before in_p apart = record {
+      at_most = λ a p w r.
+          let v : IsWithin p old.size = subst (λ (n : Triple). IsWithin p n) first.shaped.size w in
+          subst (λ (z : ℤ). IsAtMost z most) (sym (first.rest a p v (apart a p r))) (before.at_most a p v (in_p a p r));
+    }
+
+-- the same change said otherwise: by what makes the values,
+pub changed_as : (g h : Axis → Triple → ℤ → ℤ) (P : Axis → Triple → Type 0) (old new : BlockValues) → Changed g P old new
+    → ((a : Axis) (p : Triple) → IsWithin p old.size → P a p → g a p (inner_at old a p) ≡ h a p (inner_at old a p)) → Changed h P old new
+changed_as g h P old new change same = record {
+  shaped = change.shaped;
+  done = λ a p w here. change.done a p w here ∙ same a p w here;
+  rest = change.rest;
+}
+
+-- and by the places
+pub changed_over : (g : Axis → Triple → ℤ → ℤ) (P R : Axis → Triple → Type 0) (old new : BlockValues) → Changed g P old new
+    → ((a : Axis) (p : Triple) → P a p → R a p) → ((a : Axis) (p : Triple) → IsWithin p old.size → R a p → P a p) → Changed g R old new
+changed_over g P R old new change into from = record {
+  shaped = change.shaped;
+  done = λ a p w here. change.done a p w (from a p w here);
+  rest = λ a p w none. change.rest a p w (λ q. none (into a p q));
+}
+
+-- nothing is changed at first
+pub changed_none : (g : Axis → Triple → ℤ → ℤ) (P : Axis → Triple → Type 0) (b : BlockValues) → ((a : Axis) (p : Triple) → P a p → ⊥) → Changed g P b b
+changed_none g P b none = record {
+  shaped = record { low = refl; size = refl };
+  done = λ a p w here. absurd (none a p here);
+  rest = λ a p w here. refl;
+}
+
+pub small_none : (most : ℕ) (P : Axis → Triple → Type 0) (b : BlockValues) → ((a : Axis) (p : Triple) → P a p → ⊥) → AreSmall most P b
+small_none most P b none = record { at_most = λ a p w here. absurd (none a p here) }
+
+-- fewer places are small too
+pub small_within : (most : ℕ) (P R : Axis → Triple → Type 0) (b : BlockValues) → AreSmall most P b → ((a : Axis) (p : Triple) → R a p → P a p) → AreSmall most R b
+small_within most P R b small in_p = record { at_most = λ a p w r. small.at_most a p w (in_p a p r) }
+
+-- a row that is written is a change of its places
+pub row_changed : (g : Axis → Triple → ℤ → ℤ) (b new : BlockValues) (axis : Axis) (y z : ℕ) (row : List ℤ) → new ≡ with_row b axis y z row
+    → length b.values ≡ 3 * count_of b.size → 1 ≤ b.size.x → y < b.size.y → z < b.size.z → length row ≡ b.size.x
+    → ((x : ℕ) → x < b.size.x → row_at row x ≡ g axis (record { x = x; y = y; z = z }) (inner_at b axis (record { x = x; y = y; z = z })))
+    → Changed g (OnRow axis y z) b new
+row_changed g b new axis y z row is whole some in_y in_z long values = record {
+  shaped = record { low = ap (λ (d : BlockValues). d.low) is ∙ row_shape b axis y z row; size = ap (λ (d : BlockValues). d.size) is ∙ row_size b axis y z row };
+  done = λ a p w on.
+      let at : p ≡ record { x = p.x; y = y; z = z } = λ i. record { x = p.x; y = on.y_is i; z = on.z_is i } in
+      (λ i. inner_at (is i) (on.axis_is i) (at i))
+      ∙ row_here b axis y z row whole some in_y in_z long p.x w.x
+      ∙ values p.x w.x
+      ∙ sym (λ i. g (on.axis_is i) (at i) (inner_at b (on.axis_is i) (at i)));
+  rest = λ a p w none.
+      let off : IsOff axis y z a p = record { off = λ e f h. none (record { axis_is = e; y_is = f; z_is = h }) } in
+      ap (λ (d : BlockValues). inner_at d a p) is ∙ row_others b axis y z row whole some in_y in_z long a p w off;
+}
+
+pub row_small : (most : ℕ) (b new : BlockValues) (axis : Axis) (y z : ℕ) (row : List ℤ) → new ≡ with_row b axis y z row
+    → length b.values ≡ 3 * count_of b.size → 1 ≤ b.size.x → y < b.size.y → z < b.size.z → length row ≡ b.size.x
+    → IsSmallRow most b.size.x row → AreSmall most (OnRow axis y z) new
+row_small most b new axis y z row is whole some in_y in_z long small = record {
+  at_most = λ a p w on.
+      let v : IsWithin p b.size = subst (λ (n : Triple). IsWithin p n) (ap (λ (d : BlockValues). d.size) is ∙ row_size b axis y z row) w in
+      let at : p ≡ record { x = p.x; y = y; z = z } = λ i. record { x = p.x; y = on.y_is i; z = on.z_is i } in
+      subst (λ (k : ℤ). IsAtMost k most) (sym ((λ i. inner_at (is i) (on.axis_is i) (at i)) ∙ row_here b axis y z row whole some in_y in_z long p.x v.x))
+      (small.at_most p.x v.x);
+}
+
+-- the rows of a line: two of them, and the third
+abbrev pub OnTwo : ℕ → ℕ → Axis → Triple → Type 0
+OnTwo y z a p = OnRow X y z a p ⊎ OnRow Y y z a p
+
+x_not_y : (y z : ℕ) (a : Axis) (p : Triple) → OnRow X y z a p → OnRow Y y z a p → ⊥
+x_not_y y z a p h k = let e : X ≡ Y = sym h.axis_is ∙ k.axis_is in cc
+
+two_not_z : (y z : ℕ) (a : Axis) (p : Triple) → OnTwo y z a p → OnRow Z y z a p → ⊥
+two_not_z y z a p (inl h) k = let e : X ≡ Z = sym h.axis_is ∙ k.axis_is in cc
+two_not_z y z a p (inr h) k = let e : Y ≡ Z = sym h.axis_is ∙ k.axis_is in cc
+
+pub two_rows : (n : Triple) (y z : ℕ) → IsJoined n (OnRow X y z) (OnRow Y y z) (OnTwo y z)
+two_rows n y z = record { apart = x_not_y y z; either = λ a p w r. r; left = λ a p h. inl h; right = λ a p h. inr h }
+
+on_line : (axis : Axis) (y z : ℕ) (a : Axis) (p : Triple) → OnRow axis y z a p → OnLine y z a p
+on_line axis y z a p h = record { y_is = h.y_is; z_is = h.z_is }
+
+which_row : (y z : ℕ) (a : Axis) (p : Triple) → OnLine y z a p → OnTwo y z a p ⊎ OnRow Z y z a p
+which_row y z X p h = inl (inl (record { axis_is = refl; y_is = h.y_is; z_is = h.z_is }))
+which_row y z Y p h = inl (inr (record { axis_is = refl; y_is = h.y_is; z_is = h.z_is }))
+which_row y z Z p h = inr (record { axis_is = refl; y_is = h.y_is; z_is = h.z_is })
+
+two_on_line : (y z : ℕ) (a : Axis) (p : Triple) → OnTwo y z a p → OnLine y z a p
+two_on_line y z a p (inl h) = on_line X y z a p h
+two_on_line y z a p (inr h) = on_line Y y z a p h
+
+pub three_rows : (n : Triple) (y z : ℕ) → IsJoined n (OnTwo y z) (OnRow Z y z) (OnLine y z)
+three_rows n y z = record { apart = two_not_z y z; either = λ a p w r. which_row y z a p r; left = two_on_line y z; right = on_line Z y z }
+
+-- three rows that are changed one after another are a change of the line
+pub line_changed : (g : Axis → Triple → ℤ → ℤ) (y z : ℕ) (b one two three : BlockValues) → Changed g (OnRow X y z) b one → Changed g (OnRow Y y z) one two
+    → Changed g (OnRow Z y z) two three → Changed g (OnLine y z) b three
+line_changed g y z b one two three first second third =
+    let both = changed_next g (OnRow X y z) (OnRow Y y z) (OnTwo y z) b one two first second (two_rows b.size y z) in
+    changed_next g (OnTwo y z) (OnRow Z y z) (OnLine y z) b two three both third (three_rows b.size y z)
+
+pub line_small : (most : ℕ) (g h : Axis → Triple → ℤ → ℤ) (y z : ℕ) (one two three : BlockValues) → Changed g (OnRow Y y z) one two → Changed h (OnRow Z y z) two three
+    → AreSmall most (OnRow X y z) one → AreSmall most (OnRow Y y z) two → AreSmall most (OnRow Z y z) three → AreSmall most (OnLine y z) three
+line_small most g h y z one two three second third small_x small_y small_z =
+    let both = small_next g (OnRow X y z) (OnRow Y y z) (OnTwo y z) one one two most second small_x small_y (two_rows one.size y z) in
+    small_next h (OnTwo y z) (OnRow Z y z) (OnLine y z) one two three most third both small_z (three_rows two.size y z)
+
+-- the lines of a layer
+pub lines_more : (n : Triple) (y z : ℕ) → IsJoined n (BelowLine y z) (OnLine y z) (BelowLine (y + 1) z)
+lines_more n y z = record {
+  apart = λ a p h k. let below : p.y < y = h.y_below in let same : p.y ≡ y = k.y_is in absurd (omega arith);
+  either = λ a p w r. elim (cases_lt p.y y) [
+    | inl below ↦ inl (record { y_below = below; z_is = r.z_is })
+    | inr least ↦ (let last : p.y < y + 1 = r.y_below in let same : p.y ≡ y = omega arith in inr (record { y_is = same; z_is = r.z_is }))
+  ];
+  left = λ a p h. let below : p.y < y = h.y_below in record { y_below = omega arith; z_is = h.z_is };
+  right = λ a p h. let same : p.y ≡ y = h.y_is in record { y_below = omega arith; z_is = h.z_is };
+}
+
+-- and the layers of a block
+pub layers_more : (n : Triple) (z : ℕ) → IsJoined n (BelowLayer z) (OnLayer z) (BelowLayer (z + 1))
+layers_more n z = record {
+  apart = λ a p h k. let below : p.z < z = h.z_below in let same : p.z ≡ z = k.z_is in absurd (omega arith);
+  either = λ a p w r. elim (cases_lt p.z z) [
+    | inl below ↦ inl (record { z_below = below })
+    | inr least ↦ (let last : p.z < z + 1 = r.z_below in let same : p.z ≡ z = omega arith in inr (record { z_is = same }))
+  ];
+  left = λ a p h. let below : p.z < z = h.z_below in record { z_below = omega arith };
+  right = λ a p h. let same : p.z ≡ z = h.z_is in record { z_below = omega arith };
+}

@@ -1,0 +1,152 @@
+-- Rows filled value by value, and run by run round the grid.
+use Rattle.std.proofs.Common.{◌≡◌, ◌≢◌, ℕ, ℤ, pos, ◌+◌, ◌-◌, ◌*◌, ◌/◌, ◌%◌, ◌^◌, ◌<◌, ◌≤◌, List, ◌++◌, length, take, drop, slice_set, inl, inr, sym, ◌∙◌, ap, subst, arith}
+use Rattle.std.proofs.lemmas.Bool.{cases_lt}
+use Rattle.std.proofs.lemmas.List.{get_or-set_same, get_or-set_other, get_or-take, get_or_append_left, get_or-append_right, length-append, length-drop, length-take-le, take_at}
+use Rattle.std.proofs.lemmas.Nat.{div-add-mod', mod-mul-add}
+use Rattle.std.proofs.Math.Nat.{mul-add-mod_self_right}
+use borrow.Author.Count.{below_more}
+use Rattle.pic_num.specs.declared.axis.Axis.{Axis}
+use Rattle.pic_num.specs.Multiplier.{Multiplier}
+use Rattle.pic_num.specs.Rounding.{scaled}
+use Rattle.pic_num.specs.Sizes.{IsAtMost}
+use Rattle.pic_num.specs.Space.{Triple}
+use Rattle.pic_grid.specs.Cells.{IsWithin}
+use Rattle.pic_grid.specs.Lattice.{Field, value_at, EachAtMost}
+use Rattle.pic_field.specs.Rows.{row_at, along_x, IsSmallRow, IsRow, IsScaledRow}
+
+-- a fact of every value below i holds below i + 1 once it holds of the value written there
+pub row_more : (P : ℕ → ℤ → Type 0) (row : List ℤ) (i : ℕ) (v : ℤ) → i < length row → ((k : ℕ) → k < i → P k (row_at row k)) → P i v
+    → (k : ℕ) → k < i + 1 → P k (row_at (slice_set row i v) k)
+row_more P row i v inside below here =
+    below_more (λ k. P k (row_at (slice_set row i v) k)) i
+    (λ k h. let other : k ≢ i = omega arith in subst (P k) (sym (get_or-set_other row i k v (pos 0) other)) (below k h))
+    (subst (P i) (sym (get_or-set_same row i v (pos 0) inside)) here)
+
+pub small_more : (most : ℕ) (row : List ℤ) (i : ℕ) (v : ℤ) → i < length row → IsSmallRow most i row → IsAtMost v most → IsSmallRow most (i + 1) (slice_set row i v)
+small_more most row i v inside small here = record { at_most = row_more (λ k z. IsAtMost z most) row i v inside small.at_most here }
+
+-- the part of a row that a run fills, and the row with that part filled
+pub part_long : (row : List ℤ) (done more : ℕ) → done + more ≤ length row → length (take (done + more - done) (drop done row)) ≡ more
+part_long row done more fits =
+    let rest = length-drop done row in
+    length-take-le (done + more - done) (drop done row) (omega (arith, rest)) ∙ omega arith
+
+pub filled_long : (row part : List ℤ) (done more : ℕ) → done + more ≤ length row → length part ≡ more
+    → length (take done row ++ (part ++ drop (done + more - done) (drop done row))) ≡ length row
+filled_long row part done more fits long =
+    let front = length-take-le done row (omega arith) in
+    let rest = length-drop (done + more - done) (drop done row) in
+    let behind = length-drop done row in
+    let all = length-append (take done row) (part ++ drop (done + more - done) (drop done row)) in
+    omega (arith, front, rest, behind, all, length-append part (drop (done + more - done) (drop done row)))
+
+-- the layer j further than one that lies d round from s, where it doesn't pass the last
+pub round_next : (n s d x j : ℕ) → x ≡ (s + d) % n → x + j < n → (s + (d + j)) % n ≡ x + j
+round_next n s d x j at below =
+    let whole : (s + d) / n * n + (s + d) % n ≡ s + d = div-add-mod' (s + d) n in
+    let sum : s + (d + j) ≡ (s + d) / n * n + (x + j) = omega arith in
+    ap (λ (m : ℕ). m % n) sum ∙ mod-mul-add ((s + d) / n) n (x + j) below
+
+pub round_on : (n s d x j : ℕ) → x ≡ (s + d) % n → (x + j) % n ≡ (s + (d + j)) % n
+round_on n s d x j at =
+    let whole : (s + d) / n * n + (s + d) % n ≡ s + d = div-add-mod' (s + d) n in
+    let sum : s + (d + j) ≡ (s + d) / n * n + (x + j) = omega arith in
+    sym (ap (λ (m : ℕ). m % n) sum ∙ mul-add-mod_self_right ((s + d) / n) n (x + j))
+
+module _ (f : Field) (by : Multiplier) (a : Axis) (p : Triple) (done more x : ℕ) (at : x ≡ (p.x + done) % f.cells.x) (within : IsWithin p f.cells)
+    (fits : x + more ≤ f.cells.x) (run : List ℤ) (values : (i : ℕ) → i < more → row_at run i ≡ value_at f a (record p { x = x + i }))
+  where
+    -- a run's values are small,
+    pub run_small : (most : ℕ) → EachAtMost most f → IsSmallRow most more run
+    run_small most each = record {
+      at_most = λ i below.
+          let inside : x + i < f.cells.x = omega (arith, fits) in
+          subst (λ (z : ℤ). IsAtMost z most) (sym (values i below)) (each.at_most a (record p { x = x + i }) (record { x = inside; y = within.y; z = within.z }));
+    }
+
+    -- and scaled they are the next of the row
+    pub more_scaled : (row part rest : List ℤ) → done ≤ length row → length part ≡ more → IsScaledRow f by a p done row
+        → ((i : ℕ) → i < more → row_at part i ≡ scaled (row_at run i) by) → IsSmallRow (2 ^ 121) more part
+        → IsScaledRow f by a p (done + more) (take done row ++ (part ++ rest))
+    more_scaled row part rest room long before scaled_part small = record {
+      values = λ k below. elim (cases_lt k done) as (λ _. row_at all k ≡ scaled (value_at f a (along_x f.cells p k)) by) [
+        | inl less ↦ left k less ∙ before.values k less
+        | inr least ↦
+            (let j : k - done < more = omega arith in
+            let next : (p.x + (done + (k - done))) % f.cells.x ≡ x + (k - done) = round_next f.cells.x p.x done x (k - done) at (omega (arith, fits)) in
+            let same : p.x + k ≡ p.x + (done + (k - done)) = omega arith in
+            right k least j
+            ∙ scaled_part (k - done) j
+            ∙ ap (λ (z : ℤ). scaled z by) (values (k - done) j)
+            ∙ sym (ap (λ (m : ℕ). scaled (value_at f a (record p { x = m })) by) (ap (λ (m : ℕ). m % f.cells.x) same ∙ next)))
+      ];
+      small = record {
+        at_most = λ k below. elim (cases_lt k done) as (λ _. IsAtMost (row_at all k) (2 ^ 121)) [
+          | inl less ↦ subst (λ (z : ℤ). IsAtMost z (2 ^ 121)) (sym (left k less)) (before.small.at_most k less)
+          | inr least ↦
+              (let j : k - done < more = omega arith in
+              subst (λ (z : ℤ). IsAtMost z (2 ^ 121)) (sym (right k least j)) (small.at_most (k - done) j))
+        ];
+      };
+    }
+      where
+        all : List ℤ
+        all = take done row ++ (part ++ rest)
+
+        front : length (take done row) ≡ done
+        front = length-take-le done row room
+
+        left : (k : ℕ) → k < done → row_at all k ≡ row_at row k
+        left k less = get_or_append_left (take done row) (part ++ rest) (pos 0) k (omega (arith, front)) ∙ get_or-take done row k (pos 0) less
+
+        right : (k : ℕ) → done ≤ k → k - done < more → row_at all k ≡ row_at part (k - done)
+        right k least j =
+            get_or-append_right (take done row) (part ++ rest) done k (pos 0) front least
+            ∙ get_or_append_left part rest (pos 0) (k - done) (omega (arith, long))
+
+-- the front of a scaled row,
+pub front_row : (most count : ℕ) (row : List ℤ) (size : ℕ) → count ≤ length row → IsSmallRow most (count + 1) row → count ≡ size → IsRow most size (take count row)
+front_row most count row size room small same = record {
+  length_is = length-take-le count row room ∙ same;
+  small = record {
+    at_most = λ i below.
+        let inside : i < count = omega arith in
+        let more : i < count + 1 = omega arith in
+        subst (λ (z : ℤ). IsAtMost z most) (sym (get_or-take count row i (pos 0) inside)) (small.at_most i more);
+  };
+}
+
+-- and what follows its first value
+pub shifted_row : (most count : ℕ) (row on : List ℤ) (size : ℕ) → length on ≡ count → ((i : ℕ) → i < count → row_at on i ≡ row_at row (i + 1))
+    → IsSmallRow most (count + 1) row → count ≡ size → IsRow most size on
+shifted_row most count row on size long after small same = record {
+  length_is = long ∙ same;
+  small = record {
+    at_most = λ i below.
+        let inside : i < count = omega arith in
+        let more : i + 1 < count + 1 = omega arith in
+        subst (λ (z : ℤ). IsAtMost z most) (sym (after i inside)) (small.at_most (i + 1) more);
+  };
+}
+
+-- a copy of a scaled row is one
+pub copied_row : (f : Field) (by : Multiplier) (a : Axis) (p : Triple) (count size : ℕ) (row new : List ℤ) → IsScaledRow f by a p (count + 1) row
+    → ((i : ℕ) → i < count + 1 → row_at new i ≡ row_at row i) → count ≡ size → IsScaledRow f by a p (size + 1) new
+copied_row f by a p count size row new is copy same = record {
+  values = λ i below. let inside : i < count + 1 = omega arith in copy i inside ∙ is.values i inside;
+  small = record {
+    at_most = λ i below. let inside : i < count + 1 = omega arith in subst (λ (z : ℤ). IsAtMost z (2 ^ 121)) (sym (copy i inside)) (is.small.at_most i inside);
+  };
+}
+
+-- what a part of a room holds that was filled from its first value on
+pub taken_at : (part rest : List ℤ) (n x : ℕ) → length part ≡ n → row_at (take n (part ++ rest)) x ≡ row_at part x
+taken_at part rest n x long = ap (λ (row : List ℤ). row_at row x) (take_at part rest n long)
+
+pub taken_below : (part rest : List ℤ) (n x : ℕ) → length part ≡ n → x < n → x < length (take n (part ++ rest))
+taken_below part rest n x long below = subst (λ (m : ℕ). x < m) (sym (ap length (take_at part rest n long) ∙ long)) below
+
+pub taken_small : (part rest : List ℤ) (n size most : ℕ) (row : List ℤ) → length part ≡ n → n ≡ size → IsSmallRow most (length (take n (part ++ rest))) row
+    → IsSmallRow most size row
+taken_small part rest n size most row long same small =
+    subst (λ (m : ℕ). IsSmallRow most m row) (ap length (take_at part rest n long) ∙ long ∙ same) small

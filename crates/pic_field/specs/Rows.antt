@@ -1,0 +1,37 @@
+-- Rows of a phase: the values of one component along a line of cells in x, scaled once.
+use Rattle.std.specs.Prelude.{◌≡◌, ℕ, ℤ, pos, ◌+◌, ◌%◌, ◌^◌, ◌<◌, ◌+ℤ◌, ◌-ℤ◌, List, length, slice_index_or}
+use Rattle.pic_num.specs.declared.axis.Axis.{Axis}
+use Rattle.pic_num.specs.Multiplier.{Multiplier}
+use Rattle.pic_num.specs.Rounding.{scaled}
+use Rattle.pic_num.specs.Sizes.{IsAtMost}
+use Rattle.pic_num.specs.Space.{Triple}
+use Rattle.pic_grid.specs.Lattice.{Field, value_at}
+
+-- the value at an index of a row
+abbrev pub row_at : List ℤ → ℕ → ℤ
+row_at row i = slice_index_or row i (pos 0)
+
+-- the first count values of a row are at most most in size
+pub record IsSmallRow (most count : ℕ) (row : List ℤ) : Type 0 where
+  pub at_most : (i : ℕ) → i < count → IsAtMost (row_at row i) most
+
+-- a row of count values that are at most most in size
+pub record IsRow (most count : ℕ) (row : List ℤ) : Type 0 where
+  pub length_is : length row ≡ count
+  pub small : IsSmallRow most count row
+
+-- the cell i further in x than p on a periodic grid
+abbrev pub along_x : Triple → Triple → ℕ → Triple
+along_x n p i = record p { x = (p.x + i) % n.x }
+
+-- the first count values of a row are those of the field's component on an axis from the cell p on,
+-- round the grid, each scaled once
+pub record IsScaledRow (f : Field) (by : Multiplier) (a : Axis) (p : Triple) (count : ℕ)
+    (row : List ℤ) : Type 0 where
+  pub values : (i : ℕ) → i < count → row_at row i ≡ scaled (value_at f a (along_x f.cells p i)) by
+  pub small : IsSmallRow (2 ^ 121) count row
+
+-- a curl from the values of four rows
+abbrev pub curl_of : ℤ → ℤ → ℤ → ℤ → ℤ
+curl_of far_third near_third far_second near_second =
+    far_third -ℤ near_third -ℤ far_second +ℤ near_second

@@ -1,0 +1,115 @@
+//! Rooms for the rows of a line, and a row of a block that is lessened by a curl.
+
+ghost use Rattle.std.specs.Prelude.{◌≡◌, pos, ◌+◌, ◌*◌, ◌^◌, ◌<◌, ◌≤◌, ◌-ℤ◌, IsTrue};
+ghost use Rattle.pic_grid.specs.Block.{IsShaped, inner_at};
+ghost use Rattle.pic_field.specs.Lines.{OnRow, Changed, AreSmall};
+ghost use Rattle.pic_field.specs.Rows.{row_at, curl_of, IsRow};
+
+use crate::row::{Four, ROOM, Row, less_row, lessen_row};
+use pic_grid::Block;
+use pic_num::Axis;
+
+/// Rooms for the rows of a line: the scaled components of a field along the line, along the next
+/// line in y (`_by_y`) and in z (`_by_z`), and new values. A walk makes them once and lends them to
+/// every line.
+#[derive(Drop)]
+pub(crate) struct Rooms {
+    pub(crate) x: Row,
+    pub(crate) y: Row,
+    pub(crate) z: Row,
+    pub(crate) x_by_y: Row,
+    pub(crate) z_by_y: Row,
+    pub(crate) x_by_z: Row,
+    pub(crate) y_by_z: Row,
+    pub(crate) less: Row,
+    pub(crate) made: Row,
+}
+
+impl Rooms {
+    /// Rooms whose values are of no matter.
+    pub(crate) fn new() -> Rooms {
+        let row = [0; ROOM];
+        Rooms {
+            x: row,
+            y: row,
+            z: row,
+            x_by_y: row,
+            z_by_y: row,
+            x_by_z: row,
+            y_by_z: row,
+            less: row,
+            made: row,
+        }
+    }
+}
+
+/// Lessens the components of a block on `axis` along the row at the layers `y` and `z` by the curl
+/// of four rows, and answers whether all new values are at most `most` in size.
+pub(crate) fn half_row(
+    b: &mut Block,
+    axis: Axis,
+    y: u32,
+    z: u32,
+    four: &Four,
+    most: u128,
+    new: &mut Row,
+) -> bool
+    requires y { y < b.old.size.y }
+    requires z { z < b.old.size.z }
+    requires few { b.old.size.x ≤ 129 }
+    requires small { AreSmall (2 ^ 90) (OnRow axis y z) b.old }
+    requires far_third { IsRow (2 ^ 121) b.old.size.x four.now.far_third.now }
+    requires near_third { IsRow (2 ^ 121) b.old.size.x four.now.near_third.now }
+    requires far_second { IsRow (2 ^ 121) b.old.size.x four.now.far_second.now }
+    requires near_second { IsRow (2 ^ 121) b.old.size.x four.now.near_second.now }
+    ensures changed { Changed (λ a p v. v -ℤ curl_of
+        (row_at four.now.far_third.now p.x) (row_at four.now.near_third.now p.x)
+        (row_at four.now.far_second.now p.x) (row_at four.now.near_second.now p.x))
+        (OnRow axis y z) b.old b.new }
+    ensures calm { IsTrue result → AreSmall most (OnRow axis y z) b.new }
+{
+    let zone = b.zone();
+    let count = zone.size[0] as usize;
+    let old = b.row(axis, y, z);
+    let calm = lessen_row(old, four, most, &mut new[..count]);
+    b.set_row(axis, y, z, &new[..count]);
+    calm
+}
+
+/// Lessens the components of a block on `axis` along the row at the layers `y` and `z` by those of
+/// another block of its zone and by the curl of four rows, and answers whether all new values are at
+/// most `most` in size.
+pub(crate) fn full_row(
+    e: &mut Block,
+    j: &Block,
+    axis: Axis,
+    y: u32,
+    z: u32,
+    four: &Four,
+    most: u128,
+    less: &mut Row,
+    new: &mut Row,
+) -> bool
+    requires j_shape { IsShaped j.now e.old }
+    requires y { y < e.old.size.y }
+    requires z { z < e.old.size.z }
+    requires few { e.old.size.x ≤ 129 }
+    requires j_small { AreSmall (2 ^ 90) (OnRow axis y z) j.now }
+    requires small { AreSmall (2 ^ 90) (OnRow axis y z) e.old }
+    requires far_third { IsRow (2 ^ 121) e.old.size.x four.now.far_third.now }
+    requires near_third { IsRow (2 ^ 121) e.old.size.x four.now.near_third.now }
+    requires far_second { IsRow (2 ^ 121) e.old.size.x four.now.far_second.now }
+    requires near_second { IsRow (2 ^ 121) e.old.size.x four.now.near_second.now }
+    ensures changed { Changed (λ a p v. v -ℤ inner_at j.now a p -ℤ curl_of
+        (row_at four.now.far_third.now p.x) (row_at four.now.near_third.now p.x)
+        (row_at four.now.far_second.now p.x) (row_at four.now.near_second.now p.x))
+        (OnRow axis y z) e.old e.new }
+    ensures calm { IsTrue result → AreSmall most (OnRow axis y z) e.new }
+{
+    let zone = e.zone();
+    let count = zone.size[0] as usize;
+    less_row(e.row(axis, y, z), j.row(axis, y, z), &mut less[..count]);
+    let calm = lessen_row(&less[..count], four, most, &mut new[..count]);
+    e.set_row(axis, y, z, &new[..count]);
+    calm
+}

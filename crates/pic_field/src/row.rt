@@ -1,0 +1,136 @@
+//! Rows of values: a field's values along a line of cells, scaled, and what a curl makes of them.
+
+ghost use Rattle.std.specs.Prelude.{◌≡◌, ℕ, pos, ◌+◌, ◌%◌, ◌^◌, ◌<◌, ◌≤◌, ◌-ℤ◌, IsTrue, length};
+ghost use Rattle.pic_num.specs.Rounding.{scaled};
+ghost use Rattle.pic_num.specs.Sizes.{IsAtMost};
+ghost use Rattle.pic_num.specs.Space.{triple};
+ghost use Rattle.pic_grid.specs.Cells.{IsWithin};
+ghost use Rattle.pic_grid.specs.Lattice.{EachAtMost};
+ghost use Rattle.pic_field.specs.Rows.{row_at, curl_of, IsSmallRow, IsRow, IsScaledRow};
+
+use pic_grid::Lattice;
+use pic_num::{Axis, Mult, scale};
+
+/// How many values a row has room for: one more than the most cells of an axis.
+pub(crate) const ROOM: usize = 129;
+
+/// A room for a row.
+pub(crate) type Row = [i128; ROOM];
+
+/// The four rows that make a curl: of the two other components, each where the curl is (`near`) and
+/// a cell further (`far`).
+#[derive(Clone, Copy)]
+pub(crate) struct Four<'a> {
+    pub(crate) far_third: &'a [i128],
+    pub(crate) near_third: &'a [i128],
+    pub(crate) far_second: &'a [i128],
+    pub(crate) near_second: &'a [i128],
+}
+
+/// The first `count` values of the component on `axis` along the row from `cell` on, round the
+/// grid, each scaled once.
+pub(crate) fn scaled_row(
+    field: &Lattice,
+    by: Mult,
+    axis: Axis,
+    cell: [u32; 3],
+    count: usize,
+    to: &mut Row,
+)
+    requires within { IsWithin (triple cell) field.now.cells }
+    requires few { count ≤ 129 }
+    requires small { EachAtMost (2 ^ 90) field.now }
+    ensures { IsScaledRow field.now by axis (triple cell) count to.new }
+{
+    let [nx, _, _] = field.cells().numbers();
+    let [mut x, y, z] = cell;
+    let mut done = 0;
+    while done < count {
+        let run = field.run(axis, [x, y, z]);
+        let more = run.len().min(count - done);
+        scale_row(&run[..more], by, &mut to[done..done + more]);
+        done = done + more;
+        x = after_run(nx, x, more);
+    }
+}
+
+/// The layer that follows a run of `more` layers from `x` on, of `count` periodic ones.
+fn after_run(count: u32, x: u32, more: usize) -> u32
+    requires count { count < 2 ^ 31 }
+    requires x { x < count }
+    requires run { x + more ≤ count }
+    ensures value { result ≡ (x + more) % count }
+    ensures below { result < count }
+{
+    let next = x + more as u32;
+    if next == count { 0 } else { next }
+}
+
+/// Scales every value of a row.
+fn scale_row(from: &[i128], by: Mult, to: &mut [i128])
+    requires length { length to.old ≡ length from.now }
+    requires small { IsSmallRow (2 ^ 90) (length from.now) from.now }
+    ensures values { (i : ℕ) → i < length from.now
+        → row_at to.new i ≡ scaled (row_at from.now i) by }
+    ensures small { IsSmallRow (2 ^ 121) (length from.now) to.new }
+{
+    for i in 0..from.len() {
+        to[i] = scale(from[i], by);
+    }
+}
+
+/// Makes every value of `new` that of `old` less the curl of four rows, and answers whether all
+/// are at most `most` in size.
+pub(crate) fn lessen_row(old: &[i128], four: &Four, most: u128, new: &mut [i128]) -> bool
+    requires length { length new.old ≡ length old.now }
+    requires small { IsSmallRow (2 ^ 91) (length old.now) old.now }
+    requires far_third { IsRow (2 ^ 121) (length old.now) four.now.far_third.now }
+    requires near_third { IsRow (2 ^ 121) (length old.now) four.now.near_third.now }
+    requires far_second { IsRow (2 ^ 121) (length old.now) four.now.far_second.now }
+    requires near_second { IsRow (2 ^ 121) (length old.now) four.now.near_second.now }
+    ensures values { (i : ℕ) → i < length old.now → row_at new.new i ≡ row_at old.now i -ℤ
+        curl_of (row_at four.now.far_third.now i) (row_at four.now.near_third.now i)
+        (row_at four.now.far_second.now i) (row_at four.now.near_second.now i) }
+    ensures calm { IsTrue result → IsSmallRow most (length old.now) new.new }
+{
+    let mut calm = true;
+    for i in 0..old.len() {
+        let curl = four.far_third[i] - four.near_third[i] - four.far_second[i]
+            + four.near_second[i];
+        let value = old[i] - curl;
+        new[i] = value;
+        calm = calm & (value.unsigned_abs() <= most);
+    }
+    calm
+}
+
+/// Makes every value of `new` that of one row less that of another.
+pub(crate) fn less_row(from: &[i128], take: &[i128], new: &mut [i128])
+    requires length { length new.old ≡ length from.now }
+    requires from { IsSmallRow (2 ^ 90) (length from.now) from.now }
+    requires take { IsRow (2 ^ 90) (length from.now) take.now }
+    ensures values { (i : ℕ) → i < length from.now
+        → row_at new.new i ≡ row_at from.now i -ℤ row_at take.now i }
+    ensures small { IsSmallRow (2 ^ 91) (length from.now) new.new }
+{
+    for i in 0..from.len() {
+        new[i] = from[i] - take[i];
+    }
+}
+
+/// The `count` values of a row that follow its first.
+pub(crate) fn shifted(row: &[i128], count: usize) -> &[i128]
+    requires { count < length row.now }
+    ensures length { length result.now ≡ count }
+    ensures values { (i : ℕ) → i < count → row_at result.now i ≡ row_at row.now (i + 1) }
+{
+    &row[1..count + 1]
+}
+
+/// Copies the first `count` values of a row.
+pub(crate) fn copy_row(from: &Row, count: usize, to: &mut Row)
+    requires { count ≤ 129 }
+    ensures { (i : ℕ) → i < count → row_at to.new i ≡ row_at from.now i }
+{
+    to[..count].copy_from_slice(&from[..count]);
+}
