@@ -9,12 +9,12 @@ use Rattle.pic_num.specs.Rounding.{scaled}
 use Rattle.pic_num.specs.Space.{Triple}
 use Rattle.pic_grid.specs.declared.stop.Phase.{Phase}
 use Rattle.pic_grid.specs.declared.stop.Phase.TheVariants.{Electric}
-use Rattle.pic_grid.specs.Lattice.{Field, value_at, field_of}
+use Rattle.pic_grid.specs.Lattice.{Field, EachAtMost, value_at, field_of}
 use Rattle.pic_grid.specs.Gather.{force_of}
 use Rattle.pic_grid.specs.Parts.{no_block, ArePartsOf, joined}
 use Rattle.pic_grid.specs.Cells.{IsWithin}
 use Rattle.pic_grid.specs.Block.{BlockValues, IsShaped, IsAmongCells, AllAtMost, inner_at, outer_of}
-use Rattle.pic_field.specs.FieldPhases.{half_of, half_in, full_of, full_in, least_fault, lowest, EachAtMost}
+use Rattle.pic_field.specs.FieldPhases.{half_of, half_in, full_of, full_in, least_fault, lowest}
 use Rattle.pic_field.proofs.WholeLaws.{IsWhole, whole_one, whole_block, whole_parts, whole_shaped, whole_among}
 use Rattle.pic_field.proofs.WholeLaws.{whole_small, half_whole, half_stop, full_whole, full_stop, force_whole}
 use Rattle.pic_grid.specs.Parts.{origin}

@@ -10,13 +10,12 @@ use Rattle.pic_num.specs.Multiplier.{Multiplier}
 use Rattle.pic_num.specs.Sizes.{IsAtMost}
 use Rattle.pic_num.specs.Space.{Triple}
 use Rattle.pic_grid.specs.Current.{wrapped, current}
-use Rattle.pic_grid.specs.Lattice.{Field, value_at, field_of}
+use Rattle.pic_grid.specs.Lattice.{Field, EachAtMost, value_at, field_of}
 use Rattle.pic_grid.specs.Gather.{force_of}
 use Rattle.pic_grid.specs.PushPhase.{Surroundings}
 use Rattle.pic_grid.specs.Species.{IsKind}
 use Rattle.pic_grid.specs.Block.{BlockValues, IsShaped, AllAtMost}
 use Rattle.pic_grid.proofs.LatticeLaws.{value_at-field_of}
-use Rattle.pic_field.specs.FieldPhases.{EachAtMost}
 use Rattle.pic_grid.proofs.BlockLaws.{in_zone_shaped}
 use Rattle.pic_flux.specs.Adds.{Adds}
 use Rattle.pic_flux.proofs.AddsLaws.{adds_from_zeros}

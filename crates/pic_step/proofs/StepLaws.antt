@@ -9,12 +9,12 @@ use Rattle.pic_num.specs.Multiplier.{Multiplier}
 use Rattle.pic_num.specs.Space.{Triple}
 use Rattle.pic_grid.specs.declared.stop.Phase.TheVariants.{Half1, Half2, Electric}
 use Rattle.pic_grid.specs.declared.stop.Stop.{Stop}
-use Rattle.pic_grid.specs.Lattice.{Field, value_at, field_of}
+use Rattle.pic_grid.specs.Lattice.{Field, EachAtMost, value_at, field_of}
 use Rattle.pic_grid.specs.Gather.{force_of}
 use Rattle.pic_grid.specs.Cells.{IsWithin}
 use Rattle.pic_grid.specs.PushPhase.{Surroundings, push_stop}
 use Rattle.pic_grid.proofs.LatticeLaws.{value_at-field_of, length-values_of, is_field_of}
-use Rattle.pic_field.specs.FieldPhases.{half_of, full_of, least_fault, EachAtMost}
+use Rattle.pic_field.specs.FieldPhases.{half_of, full_of, least_fault}
 use Rattle.pic_field.proofs.WholeLaws.{least_fault-same}
 use Rattle.pic_step.specs.declared.rooms.Rooms.{Rooms}
 use Rattle.pic_step.specs.PushRoom.{around_fields, IsPushed}

@@ -2,9 +2,9 @@
 
 ghost use Rattle.std.specs.Prelude.{◌≡◌, ◌^◌};
 ghost use Rattle.pic_num.specs.Limits.{most_value};
-ghost use Rattle.pic_grid.specs.Lattice.{value_at, field_of};
+ghost use Rattle.pic_grid.specs.Lattice.{EachAtMost, value_at, field_of};
 ghost use Rattle.pic_grid.specs.Gather.{force_of};
-ghost use Rattle.pic_field.specs.FieldPhases.{half_of, full_of, EachAtMost};
+ghost use Rattle.pic_field.specs.FieldPhases.{half_of, full_of};
 ghost use Rattle.pic_step.specs.Phases.{Advances, AdvancesBeside};
 ghost use Rattle.pic_grid.specs.Parts.{one_part};
 
