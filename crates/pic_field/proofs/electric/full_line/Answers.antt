@@ -1,4 +1,4 @@
-use Rattle.std.proofs.Common.{◌≡◌, ◌+◌, ◌^◌, ◌≤◌, ℕ, ℤ, List, length, slice_index, sym, ◌∙◌, ap, subst, arith}
+use Rattle.std.proofs.Common.{◌≡◌, ◌+◌, ◌&&◌, ◌^◌, ◌≤◌, ℕ, ℤ, List, length, slice_index, sym, ◌∙◌, ap, subst, arith}
 use Rattle.pic_num.specs.declared.axis.Axis.{Axis}
 use Rattle.pic_num.specs.declared.axis.Axis.TheVariants.{X, Y, Z}
 use Rattle.pic_num.specs.Space.{Triple, Spot, triple}
@@ -8,7 +8,7 @@ use Rattle.pic_grid.specs.Block.{outer_of, inner_at}
 use Rattle.pic_field.specs.Lines.{OnRow, full_made, line_start}
 use Rattle.pic_field.specs.Rows.{IsScaledRow}
 use Rattle.pic_field.proofs.CurlLaws.{full_x, full_y, full_z}
-use Rattle.pic_field.proofs.LineLaws.{changed_as, line_changed}
+use Rattle.pic_field.proofs.LineLaws.{both_true, changed_as, line_changed, line_small}
 use Rattle.pic_field.proofs.RowLaws.{front_row, shifted_row, copied_row}
 use Rattle.pic_field.proofs.electric.full_line.Goals as goal
 use Rattle.pic_field.proofs.electric.full_line.Goals.{After-full_rows}
@@ -120,3 +120,10 @@ returns-clause-z_by_y c =
     let k = known (goal.at.returns-clause-z_by_y c).After-full_rows in
     copied_row c.args.b.now c.args.scales.now.b_to_e Z (down c.args.b.now.cells X (line_start c.args.e.now.low c.args.y c.args.z)) (slice_index c.zone-zone.result.size 0)
     c.args.e.now.size.x c.full_rows.new.rooms.z c.copy_row-2.new.to k.z c.copy_row-2.ensures k.same
+
+pub returns-clause-calm : goal.returns-clause-calm
+returns-clause-calm c = λ all.
+    let last = both_true (c.full_row-calm_x.result && c.full_row-calm_y.result) c.full_row-calm_z.result all in
+    let first = both_true c.full_row-calm_x.result c.full_row-calm_y.result last.0 in
+    line_small c.args.most _ _ c.args.y c.args.z c.full_row-calm_x.new.e c.full_row-calm_y.new.e c.full_row-calm_z.new.e c.full_row-calm_y.ensures.changed
+    c.full_row-calm_z.ensures.changed (c.full_row-calm_x.ensures.calm first.0) (c.full_row-calm_y.ensures.calm first.1) (c.full_row-calm_z.ensures.calm last.1)

@@ -1,4 +1,4 @@
-use Rattle.std.proofs.Common.{◌≡◌, ◌+◌, ℕ, ℤ, List, slice_index, sym, ◌∙◌, ap, subst}
+use Rattle.std.proofs.Common.{◌≡◌, ◌+◌, ◌&&◌, ℕ, ℤ, List, slice_index, sym, ◌∙◌, ap, subst}
 use Rattle.pic_num.specs.declared.axis.Axis.TheVariants.{X, Y, Z}
 use Rattle.pic_num.specs.Space.{Triple, Spot, triple}
 use Rattle.pic_grid.specs.Cells.{IsWithin}
@@ -7,7 +7,8 @@ use Rattle.pic_grid.specs.Block.{outer_of, inner_at}
 use Rattle.pic_field.specs.Lines.{OnRow, half_made, line_start}
 use Rattle.pic_field.specs.Rows.{IsScaledRow}
 use Rattle.pic_field.proofs.CurlLaws.{half_x, half_y, half_z}
-use Rattle.pic_field.proofs.LineLaws.{changed_as, line_changed}
+use Rattle.pic_field.proofs.LineLaws.{both_true, changed_as, line_changed, line_small}
+use Rattle.pic_field.proofs.RowLaws.{copied_row}
 use Rattle.pic_field.proofs.magnetic.half_line.Goals as goal
 use Rattle.pic_field.proofs.magnetic.half_line.Goals.{After-half_rows}
 
@@ -71,3 +72,22 @@ returns-clause-changed c =
     half_z scales e b.low b.size y z count c.requires.among k.same c.shifted-2.result.now rooms.y rooms.x_by_y rooms.x k.y k.x_by_y k.x c.shifted-2.ensures.values a p
     (subst (λ (n : Triple). IsWithin p n) (second.shaped.size ∙ first.shaped.size) w) on (inner_at two a p)) in
     line_changed (half_made scales e b.low) y z b one two three first second third
+
+pub returns-clause-x_row : goal.returns-clause-x_row
+returns-clause-x_row c =
+    let k = known (goal.at.returns-clause-x_row c).After-half_rows in
+    copied_row c.args.e.now c.args.scales.now.e_to_b X (up c.args.e.now.cells Y (line_start c.args.b.now.low c.args.y c.args.z))
+    (slice_index c.zone-zone.result.size 0) c.args.b.now.size.x c.half_rows.new.rooms.x_by_y c.copy_row.new.to k.x_by_y c.copy_row.ensures k.same
+
+pub returns-clause-z_row : goal.returns-clause-z_row
+returns-clause-z_row c =
+    let k = known (goal.at.returns-clause-z_row c).After-half_rows in
+    copied_row c.args.e.now c.args.scales.now.e_to_b Z (up c.args.e.now.cells Y (line_start c.args.b.now.low c.args.y c.args.z))
+    (slice_index c.zone-zone.result.size 0) c.args.b.now.size.x c.half_rows.new.rooms.z_by_y c.copy_row-2.new.to k.z_by_y c.copy_row-2.ensures k.same
+
+pub returns-clause-calm : goal.returns-clause-calm
+returns-clause-calm c = λ all.
+    let last = both_true (c.half_row-calm_x.result && c.half_row-calm_y.result) c.half_row-calm_z.result all in
+    let first = both_true c.half_row-calm_x.result c.half_row-calm_y.result last.0 in
+    line_small c.args.most _ _ c.args.y c.args.z c.half_row-calm_x.new.b c.half_row-calm_y.new.b c.half_row-calm_z.new.b c.half_row-calm_y.ensures.changed
+    c.half_row-calm_z.ensures.changed (c.half_row-calm_x.ensures.calm first.0) (c.half_row-calm_y.ensures.calm first.1) (c.half_row-calm_z.ensures.calm last.1)
