@@ -1,6 +1,6 @@
 -- Laws of the charge of the particles.
-use Rattle.std.proofs.Common.{◌≡◌, ℕ, ◌+◌, ◌*◌, ◌^◌, ◌<◌, ◌≤◌, List, [], ◌∷◌, ◌++◌, length, get_or, take, map, All, inl, inr, refl, sym, ◌∙◌, ap, subst, unsigned_abs, arith}
-use Rattle.std.proofs.Math.IntN.{ℤ, pos, ◌+ℤ◌, ◌-ℤ◌, ◌*ℤ◌}
+use Rattle.std.proofs.Common.{◌≡◌, ℕ, ◌+◌, ◌*◌, ◌^◌, ◌<◌, ◌≤◌, List, [], length, get_or, take, All, inl, inr, refl, sym, ◌∙◌, ap, subst, unsigned_abs, arith}
+use Rattle.std.proofs.Math.IntN.{ℤ, pos, ◌+ℤ◌, ◌*ℤ◌}
 use Rattle.std.proofs.lemmas.Bool.{cases_lt}
 use Rattle.std.proofs.lemmas.Int.{ints, unsigned_abs-mul}
 use Rattle.std.proofs.lemmas.List.{get_or_past}
@@ -17,7 +17,7 @@ use Rattle.pic_grid.specs.PushPhase.{kind_of, no_kind}
 use Rattle.pic_grid.specs.Species.{IsKind}
 use Rattle.pic_grid.specs.Sums.{sum_over}
 use Rattle.pic_grid.proofs.HatLaws.{hat_most}
-use Rattle.pic_grid.proofs.OverLaws.{sum_over-append, sum_over_more, sum_over-map, sum_over_less, sum_over_bound}
+use Rattle.pic_grid.proofs.OverLaws.{sum_over_more, sum_over_bound}
 use Rattle.pic_charge.specs.Charge.{share, charge_of, IsCharged}
 use Rattle.pic_charge.specs.Spread.{NodesAtMost, Adds}
 
@@ -26,51 +26,11 @@ pub charge_of-nil : (side : ℕ) (n : Triple) (kinds : List Kind) (node : Triple
 unfolding charge_of sum_over
 charge_of-nil side n kinds node = refl
 
--- a particle before others
-pub charge_of-cons : (side : ℕ) (n : Triple) (kinds : List Kind) (x : Particle) (xs : List Particle) (node : Triple)
-    → charge_of side n kinds (x ∷ xs) node ≡ share side n kinds x node +ℤ charge_of side n kinds xs node
-unfolding charge_of sum_over
-charge_of-cons side n kinds x xs node = refl
-
--- particles after others
-pub charge_of-append : (side : ℕ) (n : Triple) (kinds : List Kind) (xs ys : List Particle) (node : Triple)
-    → charge_of side n kinds (xs ++ ys) node ≡ charge_of side n kinds xs node +ℤ charge_of side n kinds ys node
-unfolding charge_of
-charge_of-append side n kinds xs ys node = sum_over-append (λ x. share side n kinds x node) xs ys
-
 -- a loop's step: one particle more
 pub charge_of_more : (side : ℕ) (n : Triple) (kinds : List Kind) (xs : List Particle) (i : ℕ) (d : Particle) (node : Triple) → i < length xs
     → charge_of side n kinds (take (i + 1) xs) node ≡ charge_of side n kinds (take i xs) node +ℤ share side n kinds (get_or xs i d) node
 unfolding charge_of
 charge_of_more side n kinds xs i d node below = sum_over_more (λ x. share side n kinds x node) xs i d below
-
--- particles that are made one by one
-pub charge_of-map : {A : Type 0} (side : ℕ) (n : Triple) (kinds : List Kind) (g : A → Particle) (xs : List A) (node : Triple)
-    → charge_of side n kinds (map g xs) node ≡ sum_over (λ x. share side n kinds (g x) node) xs
-unfolding charge_of
-charge_of-map side n kinds g xs node = sum_over-map (λ x. share side n kinds x node) g xs
-
--- particles that are changed one by one take their shares away and bring new ones
-pub charge_of_change : (side : ℕ) (n : Triple) (kinds : List Kind) (g : Particle → Particle) (xs : List Particle) (node : Triple)
-    → charge_of side n kinds xs node -ℤ charge_of side n kinds (map g xs) node
-    ≡ sum_over (λ x. share side n kinds x node -ℤ share side n kinds (g x) node) xs
-unfolding charge_of
-charge_of_change side n kinds g xs node =
-    ap (λ (t : ℤ). sum_over (λ x. share side n kinds x node) xs -ℤ t) (sum_over-map (λ x. share side n kinds x node) g xs)
-    ∙ sym (sum_over_less (λ x. share side n kinds x node) (λ x. share side n kinds (g x) node) xs)
-
--- a share depends on the species and the position alone
-pub share_same : (side : ℕ) (n : Triple) (kinds : List Kind) (x y : Particle) (node : Triple) → x.species ≡ y.species → x.x ≡ y.x
-    → share side n kinds x node ≡ share side n kinds y node
-unfolding share
-share_same side n kinds x y node species place =
-    λ i. pos 12 *ℤ (get_or kinds (species i) no_kind).charge *ℤ pos (weight side n (triple (place i)) node)
-
--- the charge as the sum that it is
-pub charge_of-is : (side : ℕ) (n : Triple) (kinds : List Kind) (xs : List Particle) (node : Triple)
-    → charge_of side n kinds xs node ≡ sum_over (λ x. share side n kinds x node) xs
-unfolding charge_of
-charge_of-is side n kinds xs node = refl
 
 -- a weight is at most the cube of the side
 pub weight_most : (side : ℕ) (n point node : Triple) → weight side n point node ≤ side * side * side

@@ -112,46 +112,54 @@ still_at_most nodes m k small more = record {
 pub kept_is : (r : ℤ) → IsAtMost r (2 ^ 55) → to_z w128 (of_z w128 r) ≡ r
 kept_is r small = let size = small.size in to_z-of_z w128 r (fits_signed_from_abs w128 r (omega (arith, size)))
 
--- the part of an amount, as the code multiplies it
-pub part_is : (amount r : ℤ) (weight most : ℕ) → IsAtMost amount most → most ≤ 2 ^ 55 → r ≡ to_z w128 (of_z w128 amount) *ℤ pos weight → r ≡ amount *ℤ pos weight
-part_is amount r weight most small low is =
-    let size = small.size in
-    is ∙ ap (λ (t : ℤ). t *ℤ pos weight) (kept_is amount (record { size = omega (arith, size, low) }))
+-- a part of an amount, as the code passes it on
+pub record IsShare (amount r : ℤ) (weight most : ℕ) : Type 0 where
+  pub is : to_z w128 (of_z w128 r) ≡ amount *ℤ pos weight
+  pub size : IsAtMost (to_z w128 (of_z w128 r)) (most * 4096)
 
--- its size
-pub part_size : (amount r : ℤ) (weight most : ℕ) → r ≡ amount *ℤ pos weight → IsAtMost amount most → weight ≤ 4096 → IsAtMost r (most * 4096)
-part_size amount r weight most is small low = record {
-  size = subst (λ (z : ℤ). unsigned_abs z ≤ most * 4096) (sym is)
-      (rw (unsigned_abs-mul amount (pos weight)) (times_at_most (unsigned_abs amount) weight most 4096 small.size low));
-}
+share_of : (amount r : ℤ) (weight most : ℕ) → weight ≤ 4096 → IsAtMost amount most → most ≤ 2 ^ 43
+    → r ≡ to_z w128 (of_z w128 amount) *ℤ pos weight → IsShare amount r weight most
+share_of amount r weight most light small low is =
+    let size = small.size in
+    let plain : r ≡ amount *ℤ pos weight
+    = is ∙ ap (λ (t : ℤ). t *ℤ pos weight) (kept_is amount (record { size = omega (arith, size, low) })) in
+    let product : unsigned_abs (amount *ℤ pos weight) ≤ most * 4096
+    = rw (unsigned_abs-mul amount (pos weight)) (times_at_most (unsigned_abs amount) weight most 4096 size light) in
+    let sized : unsigned_abs r ≤ most * 4096 = subst (λ (z : ℤ). unsigned_abs z ≤ most * 4096) (sym plain) product in
+    let kept : to_z w128 (of_z w128 r) ≡ r = kept_is r (record { size = omega (arith, sized, low) }) in
+    record { is = kept ∙ plain; size = subst (λ (z : ℤ). IsAtMost z (most * 4096)) (sym kept) (record { size = sized }) }
+
+pub low_share : (n most : ℕ) (amount r : ℤ) (s : Pair) → IsPair 4096 n s → IsAtMost amount most → most ≤ 2 ^ 43
+    → r ≡ to_z w128 (of_z w128 amount) *ℤ pos s.low_weight → IsShare amount r s.low_weight most
+low_share n most amount r s pair = let whole = pair.whole in share_of amount r s.low_weight most (omega (arith, whole))
+
+pub high_share : (n most : ℕ) (amount r : ℤ) (s : Pair) → IsPair 4096 n s → IsAtMost amount most → most ≤ 2 ^ 43
+    → r ≡ to_z w128 (of_z w128 amount) *ℤ pos s.high_weight → IsShare amount r s.high_weight most
+high_share n most amount r s pair = let whole = pair.whole in share_of amount r s.high_weight most (omega (arith, whole))
 
 -- two parts that are added one after the other, on each axis
-pub line_added : (a b c : NodeValues) (amount r t : ℤ) (s : Pair) (g h : ℕ → ℕ)
-    → r ≡ amount *ℤ pos s.low_weight → IsAtMost r (2 ^ 55)
-    → t ≡ amount *ℤ pos s.high_weight → IsAtMost t (2 ^ 55)
-    → Adds a b (spread (to_z w128 (of_z w128 r)) (only_at s.low 1) g h)
-    → Adds b c (spread (to_z w128 (of_z w128 t)) (only_at s.high 1) g h)
-    → Adds a c (spread amount (weight_in s) g h)
-line_added a b c amount r t s g h low small high tiny first second =
-    adds_both a b c _ _ (spread amount (weight_in s) g h) first second
-    (λ p. (λ i. spread ((kept_is r small ∙ low) i) (only_at s.low 1) g h p +ℤ spread ((kept_is t tiny ∙ high) i) (only_at s.high 1) g h p) ∙ line_sum amount s g h p)
+module _ (a b c : NodeValues) (amount r t : ℤ) (s : Pair) (most : ℕ) (low : IsShare amount r s.low_weight most) (high : IsShare amount t s.high_weight most)
+  where
+    abbrev first : ℤ
+    first = to_z w128 (of_z w128 r)
 
-pub plane_added : (a b c : NodeValues) (amount r t : ℤ) (s : Pair) (f h : ℕ → ℕ)
-    → r ≡ amount *ℤ pos s.low_weight → IsAtMost r (2 ^ 55)
-    → t ≡ amount *ℤ pos s.high_weight → IsAtMost t (2 ^ 55)
-    → Adds a b (spread (to_z w128 (of_z w128 r)) f (only_at s.low 1) h)
-    → Adds b c (spread (to_z w128 (of_z w128 t)) f (only_at s.high 1) h)
-    → Adds a c (spread amount f (weight_in s) h)
-plane_added a b c amount r t s f h low small high tiny first second =
-    adds_both a b c _ _ (spread amount f (weight_in s) h) first second
-    (λ p. (λ i. spread ((kept_is r small ∙ low) i) f (only_at s.low 1) h p +ℤ spread ((kept_is t tiny ∙ high) i) f (only_at s.high 1) h p) ∙ plane_sum amount s f h p)
+    abbrev second : ℤ
+    second = to_z w128 (of_z w128 t)
 
-pub box_added : (a b c : NodeValues) (amount r t : ℤ) (s : Pair) (f g : ℕ → ℕ)
-    → r ≡ amount *ℤ pos s.low_weight → IsAtMost r (2 ^ 55)
-    → t ≡ amount *ℤ pos s.high_weight → IsAtMost t (2 ^ 55)
-    → Adds a b (spread (to_z w128 (of_z w128 r)) f g (only_at s.low 1))
-    → Adds b c (spread (to_z w128 (of_z w128 t)) f g (only_at s.high 1))
-    → Adds a c (spread amount f g (weight_in s))
-box_added a b c amount r t s f g low small high tiny first second =
-    adds_both a b c _ _ (spread amount f g (weight_in s)) first second
-    (λ p. (λ i. spread ((kept_is r small ∙ low) i) f g (only_at s.low 1) p +ℤ spread ((kept_is t tiny ∙ high) i) f g (only_at s.high 1) p) ∙ box_sum amount s f g p)
+    pub line_added : (g h : ℕ → ℕ) → Adds a b (spread first (only_at s.low 1) g h) → Adds b c (spread second (only_at s.high 1) g h)
+        → Adds a c (spread amount (weight_in s) g h)
+    line_added g h one two =
+        adds_both a b c _ _ (spread amount (weight_in s) g h) one two
+        (λ p. (λ i. spread (low.is i) (only_at s.low 1) g h p +ℤ spread (high.is i) (only_at s.high 1) g h p) ∙ line_sum amount s g h p)
+
+    pub plane_added : (f h : ℕ → ℕ) → Adds a b (spread first f (only_at s.low 1) h) → Adds b c (spread second f (only_at s.high 1) h)
+        → Adds a c (spread amount f (weight_in s) h)
+    plane_added f h one two =
+        adds_both a b c _ _ (spread amount f (weight_in s) h) one two
+        (λ p. (λ i. spread (low.is i) f (only_at s.low 1) h p +ℤ spread (high.is i) f (only_at s.high 1) h p) ∙ plane_sum amount s f h p)
+
+    pub box_added : (f g : ℕ → ℕ) → Adds a b (spread first f g (only_at s.low 1)) → Adds b c (spread second f g (only_at s.high 1))
+        → Adds a c (spread amount f g (weight_in s))
+    box_added f g one two =
+        adds_both a b c _ _ (spread amount f g (weight_in s)) one two
+        (λ p. (λ i. spread (low.is i) f g (only_at s.low 1) p +ℤ spread (high.is i) f g (only_at s.high 1) p) ∙ box_sum amount s f g p)

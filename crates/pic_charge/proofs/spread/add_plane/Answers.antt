@@ -1,44 +1,30 @@
-use Rattle.std.proofs.Common.{◌≡◌, pos, ◌*ℤ◌, ◌*◌, ◌^◌, lit≤, arith}
-use Rattle.pic_num.proofs.SizeLaws.{codes, code_at_most}
-use Rattle.pic_num.specs.Sizes.{IsAtMost}
+use Rattle.std.proofs.Common.{◌*◌, ◌^◌, lit≤}
 use Rattle.pic_grid.specs.Hat.{only_at}
 use Rattle.pic_grid.specs.Pair.{weight_in}
-use Rattle.pic_charge.proofs.SpreadLaws.{only_most, weight_in_most, spread_size, room_after, part_is, part_size, plane_added}
+use Rattle.pic_charge.proofs.SpreadLaws.{only_most, weight_in_most, spread_size, room_after, low_share, high_share, plane_added}
 use Rattle.pic_charge.proofs.spread.add_plane.Goals as goal
 
 pub add_line-requires-clause-size : goal.add_line-requires-clause-size
 add_line-requires-clause-size c =
-    let s = c.args.y in
-    let whole = c.requires.y.whole in
-    let is : c.times.result ≡ c.args.amount *ℤ pos s.low_weight = part_is c.args.amount c.times.result s.low_weight (2 ^ 31) c.requires.size (lit≤ tt) c.times.ensures in
-    let small : IsAtMost c.times.result (2 ^ 31 * 4096) = part_size c.args.amount c.times.result s.low_weight (2 ^ 31) is c.requires.size (omega (arith, whole)) in
-    code_at_most (search codes depth 8) tt
+    (low_share _ (2 ^ 31) c.args.amount c.times.result c.args.y c.requires.y c.requires.size (lit≤ tt) c.times.ensures).size
 
 pub add_line-requires-2-clause-size : goal.add_line-requires-2-clause-size
 add_line-requires-2-clause-size c =
-    let s = c.args.y in
-    let whole = c.requires.y.whole in
-    let is : c.times-2.result ≡ c.args.amount *ℤ pos s.high_weight = part_is c.args.amount c.times-2.result s.high_weight (2 ^ 31) c.requires.size (lit≤ tt) c.times-2.ensures in
-    let small : IsAtMost c.times-2.result (2 ^ 31 * 4096) = part_size c.args.amount c.times-2.result s.high_weight (2 ^ 31) is c.requires.size (omega (arith, whole)) in
-    code_at_most (search codes depth 8) tt
+    (high_share _ (2 ^ 31) c.args.amount c.times-2.result c.args.y c.requires.y c.requires.size (lit≤ tt) c.times-2.ensures).size
 
 pub add_line-requires-2-clause-room : goal.add_line-requires-2-clause-room
 add_line-requires-2-clause-room c =
     let s = c.args.y in
-    let whole = c.requires.y.whole in
-    let is : c.times.result ≡ c.args.amount *ℤ pos s.low_weight = part_is c.args.amount c.times.result s.low_weight (2 ^ 31) c.requires.size (lit≤ tt) c.times.ensures in
-    let small : IsAtMost c.times.result (2 ^ 31 * 4096) = part_size c.args.amount c.times.result s.low_weight (2 ^ 31) is c.requires.size (omega (arith, whole)) in
+    let low = low_share _ (2 ^ 31) c.args.amount c.times.result s c.requires.y c.requires.size (lit≤ tt) c.times.ensures in
     room_after c.args.to.now _ _ (2 ^ 88) (2 ^ 55) (2 ^ 89) c.requires.room c.add_line.ensures
-    (λ p. spread_size _ (weight_in c.args.x) (only_at s.low 1) (only_at c.args.z 1) p (2 ^ 31 * 4096) 4096 1 1 (code_at_most (search codes depth 8) tt) (weight_in_most 4096 _ c.args.x p.x c.requires.x) (only_most s.low 1 p.y) (only_most c.args.z 1 p.z))
+    (λ p. spread_size _ (weight_in c.args.x) (only_at s.low 1) (only_at c.args.z 1) p (2 ^ 31 * 4096) 4096 1 1 low.size
+    (weight_in_most 4096 _ c.args.x p.x c.requires.x) (only_most s.low 1 p.y) (only_most c.args.z 1 p.z))
     (lit≤ tt)
 
 pub returns : goal.returns
 returns c =
     let s = c.args.y in
-    let whole = c.requires.y.whole in
-    let is : c.times.result ≡ c.args.amount *ℤ pos s.low_weight = part_is c.args.amount c.times.result s.low_weight (2 ^ 31) c.requires.size (lit≤ tt) c.times.ensures in
-    let small : IsAtMost c.times.result (2 ^ 31 * 4096) = part_size c.args.amount c.times.result s.low_weight (2 ^ 31) is c.requires.size (omega (arith, whole)) in
-    let same : c.times-2.result ≡ c.args.amount *ℤ pos s.high_weight = part_is c.args.amount c.times-2.result s.high_weight (2 ^ 31) c.requires.size (lit≤ tt) c.times-2.ensures in
-    let tiny : IsAtMost c.times-2.result (2 ^ 31 * 4096) = part_size c.args.amount c.times-2.result s.high_weight (2 ^ 31) same c.requires.size (omega (arith, whole)) in
-    plane_added c.args.to.now c.add_line.new.to c.add_line-2.new.to c.args.amount c.times.result c.times-2.result s (weight_in c.args.x) (only_at c.args.z 1)
-    is (code_at_most (search codes depth 8) tt) same (code_at_most (search codes depth 8) tt) c.add_line.ensures c.add_line-2.ensures
+    let low = low_share _ (2 ^ 31) c.args.amount c.times.result s c.requires.y c.requires.size (lit≤ tt) c.times.ensures in
+    let high = high_share _ (2 ^ 31) c.args.amount c.times-2.result s c.requires.y c.requires.size (lit≤ tt) c.times-2.ensures in
+    plane_added c.args.to.now c.add_line.new.to c.add_line-2.new.to c.args.amount _ _ s (2 ^ 31) low high (weight_in c.args.x) (only_at c.args.z 1)
+    c.add_line.ensures c.add_line-2.ensures
