@@ -4,3 +4,4 @@ pub mod LimitLaws
 pub mod ArrayLaws
 pub mod ListLaws
 pub mod PointLaws
+pub mod FillLaws

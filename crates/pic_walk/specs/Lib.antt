@@ -4,3 +4,5 @@ pub mod Path
 pub mod Walk
 pub mod Rows
 pub mod Points
+pub mod Sites
+pub mod Draw

@@ -1,5 +1,5 @@
 -- Limits of numbers.
-use Rattle.std.specs.Prelude.{ℤ, pos, negsuc, List, ◌≤ℤ◌, ℕ, ◌-◌, ◌^◌, slice_index_or, Bool, int_le, ◌&&◌}
+use Rattle.std.specs.Prelude.{ℤ, pos, negsuc, neg_ℤ, List, [], ◌∷◌, ◌≤ℤ◌, ℕ, ◌-◌, ◌^◌, slice_index_or, Bool, int_le, ◌&&◌}
 use Rattle.pic_walk.specs.declared.limits.Limits.{Limits}
 
 -- from the one to the other, both allowed
@@ -27,6 +27,15 @@ pub record IsInLimits (limits : Limits) (z : ℤ) : Type 0 where
 pub record FitsU32 (limits : Limits) : Type 0 where
   pub low : pos 0 ≤ℤ limits.low
   pub high : limits.high ≤ℤ pos (2 ^ 32 - 1)
+
+-- the limits allow only numbers below 2^31 in size
+pub record FitsI32 (limits : Limits) : Type 0 where
+  pub low : neg_ℤ (pos (2 ^ 31 - 1)) ≤ℤ limits.low
+  pub high : limits.high ≤ℤ pos (2 ^ 31 - 1)
+
+-- the same limits for each of three numbers
+abbrev pub thrice : Limits → List Limits
+thrice limits = limits ∷ limits ∷ limits ∷ []
 
 -- the limits at an index
 unfoldable pub limits_at : List Limits → ℕ → Limits

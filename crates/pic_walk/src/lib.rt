@@ -3,6 +3,7 @@
 #![tactic(auto)]
 
 mod address;
+mod draw;
 mod fault;
 mod key_path;
 mod keys;
@@ -12,22 +13,25 @@ mod point6;
 mod point_reader;
 mod row;
 mod row_reader;
+mod sites;
 mod tables;
 
 pub use address::Address;
+pub use draw::{Draw, read_draw};
 pub use fault::{Fault, WalkStop};
 pub use key_path::KeyPath;
 pub use keys::{first_unlisted, is_listed};
 pub use limits::Limits;
 pub use numbers::{
-    check_within, read_array, read_elements, read_multiplier, read_number, read_numbers, read_text,
-    read_three, read_whole,
+    check_within, read_array, read_elements, read_long, read_multiplier, read_number, read_numbers,
+    read_signed_three, read_text, read_three, read_whole,
 };
 pub use point_reader::read_points;
 pub use point6::{Point6, Points};
 pub use row::{Row, Rows};
 pub use row_reader::read_rows;
+pub use sites::{Sites, read_sites};
 pub use tables::{
-    check_keys, find_value, need_multiplier, need_number, need_table, need_three, need_whole,
-    needed_value, optional_three, read_table,
+    check_keys, find_value, need_long, need_multiplier, need_number, need_signed_three, need_table,
+    need_three, need_whole, needed_value, optional_three, read_table,
 };

@@ -1,10 +1,10 @@
 //! Readers of single numbers, texts and arrays.
 
-ghost use Rattle.std.specs.Prelude.{◌≡◌, ℤ, ℕ, pos, List, None, ◌<◌, IfOk, OnOk, slice_index, slice_index_or, unsigned_abs, vec_len};
+ghost use Rattle.std.specs.Prelude.{◌≡◌, ℤ, ℕ, pos, List, None, ◌<◌, ◌≤ℤ◌, IfOk, OnOk, slice_index, slice_index_or, unsigned_abs, vec_len};
 ghost use Rattle.pic_num.specs.Multiplier.{Multiplier};
 ghost use Rattle.toml.specs.View.{view, array_view};
 ghost use Rattle.pic_walk.specs.Path.{path_of};
-ghost use Rattle.pic_walk.specs.Limits.{IsInLimits, FitsU32, limits_at};
+ghost use Rattle.pic_walk.specs.Limits.{IsInLimits, FitsU32, FitsI32, limits_at};
 ghost use Rattle.pic_walk.specs.Walk.{WalksAs, within, limited, whole, text, elements, fixed, numbers, three, multiplier, multiplier_limits};
 
 use crate::address::Address;
@@ -66,6 +66,22 @@ pub fn read_whole(
 {
     let number = read_number(alloc, address, value, limits)?;
     Ok(number as u32)
+}
+
+/// The whole number at an address, of 64 bits, within limits that allow none below 0.
+pub fn read_long(
+    alloc: Global,
+    address: Address<'_>,
+    value: &Value,
+    limits: Limits,
+) -> Result<u64, WalkStop>
+    requires { pos 0 ≤ℤ limits.low }
+    ensures walks { WalksAs (λ (n : ℕ). n)
+        (whole limits (path_of address.entry) (view value.now)) result }
+    ensures bounds { IfOk result (λ n. IsInLimits limits (pos n)) }
+{
+    let number = read_number(alloc, address, value, limits)?;
+    Ok(number as u64)
 }
 
 /// The text at an address.
@@ -157,6 +173,24 @@ pub fn read_three(
 {
     let numbers = read_numbers(alloc, address, value, limits)?;
     Ok([numbers[0] as u32, numbers[1] as u32, numbers[2] as u32])
+}
+
+/// The three whole numbers at an address, one an axis, within limits of 32 bits.
+pub fn read_signed_three(
+    alloc: Global,
+    address: Address<'_>,
+    value: &Value,
+    limits: [Limits; 3],
+) -> Result<[i32; 3], WalkStop>
+    requires plain { address.column ≡ None }
+    requires fits { (k : ℕ) → k < 3 → FitsI32 (limits_at limits k) }
+    ensures walks { WalksAs (λ (zs : List ℤ). zs)
+        (numbers limits (path_of address.entry) (view value.now)) result }
+    ensures bounds { IfOk result (λ zs. (k : ℕ) → k < 3
+        → IsInLimits (limits_at limits k) (slice_index_or zs k (pos 0))) }
+{
+    let numbers = read_numbers(alloc, address, value, limits)?;
+    Ok([numbers[0] as i32, numbers[1] as i32, numbers[2] as i32])
 }
 
 /// The multiplier `[n, k]` at an address.

@@ -1,18 +1,21 @@
 //! Readers of tables, and of the values at their keys.
 
-ghost use Rattle.std.specs.Prelude.{◌≡◌, ℕ, ℤ, pos, true, List, [], ◌∷◌, map, option_map, ◌<◌, IfOk, slice_index};
+ghost use Rattle.std.specs.Prelude.{◌≡◌, ℕ, ℤ, pos, true, List, [], ◌∷◌, map, option_map, ◌<◌, ◌≤ℤ◌, IfOk, slice_index, slice_index_or};
 ghost use Rattle.pic_num.specs.Multiplier.{Multiplier};
 ghost use Rattle.toml.specs.Data.{get_member};
 ghost use Rattle.toml.specs.View.{view, table_view};
 ghost use Rattle.pic_walk.specs.Path.{path_of};
-ghost use Rattle.pic_walk.specs.Limits.{IsInLimits, FitsU32, limits_at};
+ghost use Rattle.pic_walk.specs.Limits.{IsInLimits, FitsU32, FitsI32, limits_at};
 ghost use Rattle.pic_walk.specs.Walk.{WalksAs, listed, keys_ascend, table_of, needed, need, optional, limited, whole, numbers, three, any_three, multiplier};
 
 use crate::address::Address;
 use crate::fault::WalkStop;
 use crate::keys::first_unlisted;
 use crate::limits::Limits;
-use crate::numbers::{read_multiplier, read_number, read_numbers, read_three, read_whole};
+use crate::numbers::{
+    read_long, read_multiplier, read_number, read_numbers, read_signed_three, read_three,
+    read_whole,
+};
 use pic_num::Mult;
 use std::alloc::Global;
 use toml::{Table, Value};
@@ -104,6 +107,24 @@ pub fn need_whole(
     read_whole(alloc, Address::new(path, key), value, limits)
 }
 
+/// The whole number at a key of the table at a path, of 64 bits, within limits that allow none
+/// below 0.
+pub fn need_long(
+    alloc: Global,
+    path: &str,
+    key: &str,
+    table: &Table,
+    limits: Limits,
+) -> Result<u64, WalkStop>
+    requires { pos 0 ≤ℤ limits.low }
+    ensures walks { WalksAs (λ (n : ℕ). n)
+        (need (whole limits) key.now path.now (table_view table.now)) result }
+    ensures bounds { IfOk result (λ n. IsInLimits limits (pos n)) }
+{
+    let value = needed_value(alloc, path, key, table)?;
+    read_long(alloc, Address::new(path, key), value, limits)
+}
+
 /// The whole number at a key of the table at a path, within its limits.
 pub fn need_number(
     alloc: Global,
@@ -137,6 +158,24 @@ pub fn need_three(
 {
     let value = needed_value(alloc, path, key, table)?;
     read_three(alloc, Address::new(path, key), value, limits)
+}
+
+/// The three whole numbers at a key of the table at a path, one an axis, within limits of 32 bits.
+pub fn need_signed_three(
+    alloc: Global,
+    path: &str,
+    key: &str,
+    table: &Table,
+    limits: [Limits; 3],
+) -> Result<[i32; 3], WalkStop>
+    requires { (k : ℕ) → k < 3 → FitsI32 (limits_at limits k) }
+    ensures walks { WalksAs (λ (zs : List ℤ). zs)
+        (need (numbers limits) key.now path.now (table_view table.now)) result }
+    ensures bounds { IfOk result (λ zs. (k : ℕ) → k < 3
+        → IsInLimits (limits_at limits k) (slice_index_or zs k (pos 0))) }
+{
+    let value = needed_value(alloc, path, key, table)?;
+    read_signed_three(alloc, Address::new(path, key), value, limits)
 }
 
 /// The multiplier at a key of the table at a path.

@@ -1,0 +1,81 @@
+//! Particles at the sites of a lattice.
+
+ghost use Rattle.std.specs.Prelude.{◌≡◌, IfOk};
+ghost use Rattle.toml.specs.View.{table_view};
+ghost use Rattle.pic_walk.specs.declared.sites.Sites.{Sites as SitesView};
+ghost use Rattle.pic_walk.specs.Limits.{thrice};
+ghost use Rattle.pic_walk.specs.Points.{speed_limits};
+ghost use Rattle.pic_walk.specs.Sites.{AreSites, place_limits, gap_limits, count_limits, sites};
+ghost use Rattle.pic_walk.specs.Walk.{WalksAs};
+
+use crate::fault::WalkStop;
+use crate::limits::Limits;
+use crate::tables::{need_signed_three, need_three};
+use pic_grid::Cells;
+use std::alloc::Global;
+use toml::Table;
+
+const WIDEST_GAP: i64 = 262144;
+
+const MOST_SITES: i64 = 1048576;
+
+const FASTEST: i64 = 16777216;
+
+const SIDE: u32 = 4096;
+
+/// The sites of a lattice on which particles stand: the first of them, the way from one to the next
+/// on each axis, how many there are on each axis, and the velocity of all.
+#[derive(Clone, Copy, Debug, PartialEq, Eq)]
+pub struct Sites {
+    pub first: [u32; 3],
+    pub gap: [u32; 3],
+    pub count: [u32; 3],
+    pub v: [i32; 3],
+}
+
+fn place_limits(cells: Cells) -> [Limits; 3]
+    ensures { result ≡ place_limits cells }
+{
+    let [nx, ny, nz] = cells.numbers();
+    [
+        Limits::below(nx * SIDE),
+        Limits::below(ny * SIDE),
+        Limits::below(nz * SIDE),
+    ]
+}
+
+fn gap_limits() -> [Limits; 3]
+    ensures { result ≡ gap_limits }
+{
+    [Limits::new(0, WIDEST_GAP); 3]
+}
+
+fn count_limits() -> [Limits; 3]
+    ensures { result ≡ count_limits }
+{
+    [Limits::new(1, MOST_SITES); 3]
+}
+
+fn velocity_limits() -> [Limits; 3]
+    ensures { result ≡ thrice speed_limits }
+{
+    [Limits::new(-FASTEST, FASTEST); 3]
+}
+
+/// The keys of a lattice of sites in the table at a path; the first site is in the box.
+pub fn read_sites(alloc: Global, path: &str, table: &Table, cells: Cells) -> Result<Sites, WalkStop>
+    ensures walks { WalksAs (λ (s : SitesView). s) (sites cells path.now (table_view table.now))
+        result }
+    ensures limits { IfOk result (λ s. AreSites cells s) }
+{
+    let first = need_three(alloc, path, "first", table, place_limits(cells))?;
+    let gap = need_three(alloc, path, "gap", table, gap_limits())?;
+    let count = need_three(alloc, path, "count", table, count_limits())?;
+    let v = need_signed_three(alloc, path, "v", table, velocity_limits())?;
+    Ok(Sites {
+        first,
+        gap,
+        count,
+        v,
+    })
+}
