@@ -10,18 +10,17 @@ use Rattle.pic_walk.specs.Bounds.{fewest_cells, most_cells, most_tiles, most_ste
 use Rattle.pic_walk.specs.declared.fault.Fault.TheVariants.{Limit, Name}
 use Rattle.pic_walk.specs.declared.limits.Limits.{Limits}
 use Rattle.pic_walk.specs.Path.{key_at}
-use Rattle.pic_walk.specs.Points.{point_list}
 use Rattle.pic_walk.specs.Limits.{from_to}
 use Rattle.pic_walk.specs.Rows.{row_list}
 use Rattle.pic_walk.specs.Walk.{Walked, ◌>>=◌, some_or, within, limited, whole, text, elements, count_of_items, each, array_of, numbers, three, any_three, multiplier, listed, table_of, need, optional}
 use Rattle.pic_deck.specs.declared.fields.InitialFields.{InitialFields}
 use Rattle.pic_deck.specs.declared.settings.Settings.{Settings}
 use Rattle.pic_deck.specs.declared.species.Fill.{Fill}
-use Rattle.pic_deck.specs.declared.species.Fill.TheVariants.{Points}
 use Rattle.pic_deck.specs.declared.species.Species.{Species}
 use Rattle.pic_deck.specs.Deck.{DeckView, deck_view}
 use Rattle.pic_deck.specs.Species.{is_new_name, count_in, particles_of}
 use Rattle.pic_deck.specs.Initial.{set_up, first_strong}
+use Rattle.pic_deck.specs.Source.{species_fill}
 
 -- the keys of the document's own table
 abbrev pub deck_keys : List (List ℕ)
@@ -123,7 +122,8 @@ fields n path d =
 
 -- the keys of a species
 abbrev pub species_keys : List (List ℕ)
-species_keys = codes "name" ∷ codes "charge" ∷ codes "mass" ∷ codes "kick" ∷ codes "turn" ∷ codes "points" ∷ []
+species_keys = codes "name" ∷ codes "charge" ∷ codes "mass" ∷ codes "kick" ∷ codes "turn" ∷ codes "points" ∷ codes "lattice" ∷ codes "random" ∷ codes
+    "pair" ∷ []
 
 -- a name that no earlier species has
 unfoldable pub species_name : List Species → List ℕ → Data → Walked (List ℕ)
@@ -145,16 +145,12 @@ counted done path fill =
     within (from_to (pos 0) (pos most_particles)) path (pos (particles_of done + count_in done fill))
     >>= (λ _. Ok (count_in done fill))
 
--- what fills a species
-unfoldable pub species_fill : Triple → List ℕ → Members → Walked Fill
-species_fill n path t = need (point_list n) (codes "points") path t >>= (λ points. Ok (Points points))
-
 -- the species that a table is, after earlier ones
 unfoldable pub species_in : Triple → List Species → List ℕ → Members → Walked Species
 species_in n done path t =
     need (species_name done) (codes "name") path t
     >>= (λ named. species_kind path t
-    >>= (λ k. species_fill n path t
+    >>= (λ k. species_fill n done path t
     >>= (λ f. counted done path f
     >>= (λ count. Ok (record { name = named; kind = k; count = count; fill = f })))))
 

@@ -1,13 +1,16 @@
 -- The species of a deck and their particles.
 use Rattle.std.specs.Prelude.{◌≡◌, ℕ, ◌+◌, ◌<◌, ◌≤◌, ◌&&◌, Bool, not, nat_le, bytes_eq, List, [], length, sum_by, take, slice_index_or}
 use Rattle.std.specs.List.{list_all, list_any}
-use Rattle.pic_num.specs.Space.{Triple}
+use Rattle.pic_num.specs.Space.{Triple, triple}
+use Rattle.pic_grid.specs.Cells.{count_of}
 use Rattle.pic_grid.specs.Species.{HeadView, no_head, is_name_byte, IsName, IsKind}
 pub use Rattle.pic_walk.specs.declared.point6.Point6.{Point6}
 pub use Rattle.pic_walk.specs.Points.{no_point, IsPoint, ArePoints}
-pub use Rattle.pic_walk.specs.Bounds.{most_particles}
+pub use Rattle.pic_walk.specs.Draw.{IsDraw}
+pub use Rattle.pic_walk.specs.Sites.{AreSites}
+pub use Rattle.pic_walk.specs.Bounds.{most_particles, most_species, fastest, fastest_drift, widest_spread}
 use Rattle.pic_deck.specs.declared.species.Fill.{Fill}
-use Rattle.pic_deck.specs.declared.species.Fill.TheVariants.{Points}
+use Rattle.pic_deck.specs.declared.species.Fill.TheVariants.{Points, Lattice, Random, Pair}
 use Rattle.pic_deck.specs.declared.species.Species.{Species}
 
 -- whether a text is a name: 1 to 32 bytes, each a letter, a digit or `_`
@@ -22,14 +25,6 @@ is_taken ss name = list_any (λ o. bytes_eq o.name name) ss
 unfoldable pub is_new_name : List Species → List ℕ → Bool
 is_new_name ss name = is_name name && not (is_taken ss name)
 
--- how many particles a species has by what fills it, after earlier ones
-abbrev pub count_in : List Species → Fill → ℕ
-count_in earlier (Points points) = length points
-
--- a species as the dump's header has it: its name, its kind and how many particles it has
-abbrev pub head_of : Species → HeadView
-head_of s = record { name = s.name; kind = s.kind; count = s.count }
-
 -- a species that isn't there
 abbrev pub no_species : Species
 no_species = record { name = []; kind = no_head.kind; count = 0; fill = Points [] }
@@ -37,6 +32,17 @@ no_species = record { name = []; kind = no_head.kind; count = 0; fill = Points [
 -- the species at an index
 abbrev pub species_at : List Species → ℕ → Species
 species_at ss i = slice_index_or ss i no_species
+
+-- how many particles a species has by what fills it, after earlier ones
+abbrev pub count_in : List Species → Fill → ℕ
+count_in earlier (Points points) = length points
+count_in earlier (Lattice first gap count v) = count_of (triple count)
+count_in earlier (Random count seed stream drift spread) = count
+count_in earlier (Pair named seed stream drift spread) = (species_at earlier named).count
+
+-- a species as the dump's header has it: its name, its kind and how many particles it has
+abbrev pub head_of : Species → HeadView
+head_of s = record { name = s.name; kind = s.kind; count = s.count }
 
 -- how many particles some species have
 abbrev pub particles_of : List Species → ℕ
@@ -47,13 +53,19 @@ pub record IsNewName (ss : List Species) (s : List ℕ) : Type 0 where
   pub name : IsName s
   pub differs : (i : ℕ) → i < length ss → (species_at ss i).name ≡ s → ⊥
 
--- what fills a species is such as a deck of n cells may have
-abbrev pub IsFill : Triple → Fill → Type 0
-IsFill n (Points points) = ArePoints n points
+-- what fills a species after earlier ones is such as a deck of n cells may have
+abbrev pub IsFill : Triple → List Species → Fill → Type 0
+IsFill n earlier (Points points) = ArePoints n points
+IsFill n earlier (Lattice first gap count v) =
+    AreSites n (record { first = first; gap = gap; count = count; v = v })
+IsFill n earlier (Random count seed stream drift spread) =
+    (count ≤ most_particles) × IsDraw (record { seed = seed; stream = stream; drift = drift; spread = spread })
+IsFill n earlier (Pair named seed stream drift spread) =
+    (named < length earlier) × IsDraw (record { seed = seed; stream = stream; drift = drift; spread = spread })
 
 -- a species after earlier ones is filled so, and has so many particles
 pub record IsFilled (n : Triple) (earlier : List Species) (s : Species) : Type 0 where
-  pub fill : IsFill n s.fill
+  pub fill : IsFill n earlier s.fill
   pub count : s.count ≡ count_in earlier s.fill
 
 -- a species that may come next: its name is new, its particles are within their limits, and with

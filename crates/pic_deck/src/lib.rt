@@ -4,6 +4,7 @@
 
 mod deck;
 mod fields;
+mod fill_reader;
 mod filling;
 mod forces;
 mod grid;
@@ -13,6 +14,7 @@ mod refusal;
 mod run;
 mod scale;
 mod settings;
+mod source;
 mod species;
 mod species_reader;
 #[cfg(test)]
@@ -25,3 +27,4 @@ pub use reading::read_deck;
 pub use refusal::{DeckFault, Refusal};
 pub use settings::Settings;
 pub use species::{Fill, Species, SpeciesList};
+pub use species_reader::particles_of;

@@ -1,27 +1,25 @@
 //! The tables `species` of a deck.
 
-ghost use Rattle.std.specs.Prelude.{◌≡◌, ℕ, pos, ◌+◌, ◌≤◌, List, [], None, map, codes, length, IfOk, OnOk};
+ghost use Rattle.std.specs.Prelude.{◌≡◌, ℕ, pos, ◌+◌, ◌^◌, ◌<◌, ◌≤◌, List, [], None, map, codes, length, IfOk, OnOk};
 ghost use Rattle.toml.specs.View.{view, array_view, table_view};
 ghost use Rattle.pic_num.specs.declared.motion.Kind.{Kind as KindView};
 ghost use Rattle.pic_grid.specs.Species.{IsKind, AreHeads};
 ghost use Rattle.pic_walk.specs.Bounds.{most_species, most_particles};
 ghost use Rattle.pic_walk.specs.Path.{path_of};
-ghost use Rattle.pic_walk.specs.declared.point6.Point6.{Point6};
-ghost use Rattle.pic_walk.specs.Points.{ArePoints, point_list};
 ghost use Rattle.pic_walk.specs.Limits.{from_to};
-ghost use Rattle.pic_walk.specs.Walk.{WalksAs, within, need, each, table_of, optional};
-ghost use Rattle.pic_deck.specs.declared.species.Fill.{Fill as FillView};
+ghost use Rattle.pic_walk.specs.Walk.{WalksAs, within, each, table_of, optional};
 ghost use Rattle.pic_deck.specs.declared.species.Species.{Species as SpeciesView};
-ghost use Rattle.pic_deck.specs.Species.{IsFill, IsNext, AreFilled, count_in, particles_of, head_of};
-ghost use Rattle.pic_deck.specs.Keys.{species_keys, species_kind, species_fill, counted, species_in, one_species, species_list};
+ghost use Rattle.pic_deck.specs.Species.{IsNext, AreFilled, count_in, particles_of, head_of};
+ghost use Rattle.pic_deck.specs.Keys.{species_keys, species_kind, counted, species_in, one_species, species_list};
 
+use crate::fill_reader::read_fill;
 use crate::naming::need_name;
 use crate::species::{Fill, Species, SpeciesList};
 use pic_grid::Cells;
 use pic_num::Kind;
 use pic_walk::{
-    Address, Limits, Points, WalkStop, check_within, find_value, need_multiplier, need_number,
-    need_whole, needed_value, read_elements, read_points, read_table,
+    Address, Limits, WalkStop, check_within, find_value, need_multiplier, need_number, need_whole,
+    read_elements, read_table,
 };
 use std::alloc::Global;
 use toml::value::Array;
@@ -45,7 +43,9 @@ fn species_table<'v>(
         alloc,
         address,
         path,
-        &["name", "charge", "mass", "kick", "turn", "points"],
+        &[
+            "name", "charge", "mass", "kick", "turn", "points", "lattice", "random", "pair",
+        ],
         value,
     )
 }
@@ -68,27 +68,8 @@ fn read_kind(alloc: Global, path: &str, table: &Table) -> Result<Kind, WalkStop>
     })
 }
 
-fn need_points(alloc: Global, path: &str, table: &Table, cells: Cells) -> Result<Points, WalkStop>
-    ensures walks { WalksAs (λ (ps : List Point6). ps)
-        (need (point_list cells) (codes "points") path.now (table_view table.now)) result }
-    ensures limits { IfOk result (λ ps. ArePoints cells ps) }
-{
-    let value = needed_value(alloc, path, "points", table)?;
-    read_points(alloc, Address::new(path, "points"), value, cells)
-}
-
-// what fills a species
-fn read_fill(alloc: Global, path: &str, table: &Table, cells: Cells) -> Result<Fill, WalkStop>
-    ensures walks { WalksAs (λ (f : FillView). f)
-        (species_fill cells path.now (table_view table.now)) result }
-    ensures limits { IfOk result (λ f. IsFill cells f) }
-{
-    let points = need_points(alloc, path, table, cells)?;
-    Ok(Fill::Points(points))
-}
-
 /// How many particles some species have.
-pub(crate) fn particles_of(species: &[Species]) -> usize
+pub fn particles_of(species: &[Species]) -> usize
     requires { particles_of species.now ≤ most_particles }
     ensures { result ≡ particles_of species.now }
 {
@@ -104,9 +85,10 @@ fn check_particles(
     alloc: Global,
     address: Address<'_>,
     earlier: &[Species],
-    count: u64,
+    count: u128,
 ) -> Result<(), WalkStop>
-    requires { particles_of earlier.now ≤ most_particles }
+    requires few { particles_of earlier.now ≤ most_particles }
+    requires size { count < 2 ^ 96 }
     ensures walks { WalksAs (λ _. pos (particles_of earlier.now + count))
         (within (from_to (pos 0) (pos most_particles)) (path_of address.entry)
         (pos (particles_of earlier.now + count))) result }
@@ -153,7 +135,7 @@ fn species_in(
 {
     let name = need_name(alloc, path, table, earlier)?;
     let kind = read_kind(alloc, path, table)?;
-    let fill = read_fill(alloc, path, table, cells)?;
+    let fill = read_fill(alloc, path, table, cells, earlier)?;
     let count = read_count(alloc, address, earlier, &fill)?;
     Ok(Species {
         name,

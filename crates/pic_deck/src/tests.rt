@@ -234,6 +234,44 @@ fn species_are_refused_by_name(rt: HostRuntime) -> Result<(), Fail> {
             ("missing", "species[0].points", [0; 3]),
         ),
         (
+            "points = [[1024, 0, 0, 0, 0, 0]]",
+            "random = {}\npair = 1",
+            ("unknown", "species[0].pair", [0; 3]),
+        ),
+        (
+            "points = [[1024, 0, 0, 0, 0, 0]]",
+            "random = {}",
+            ("missing", "species[0].random.count", [0; 3]),
+        ),
+        (
+            "points = [[1024, 0, 0, 0, 0, 0]]",
+            "pair = { of = \"ion\" }",
+            ("name", "species[0].pair.of", [0; 3]),
+        ),
+        (
+            "points = [[1024, 0, 0, 8388608, 0, 0]]",
+            "pair = { of = \"ion\", seed = -1 }",
+            (
+                "limit",
+                "species[1].pair.seed",
+                [-1, 0, 9223372036854775807],
+            ),
+        ),
+        (
+            "points = [[1024, 0, 0, 0, 0, 0]]",
+            "random = { count = 1, seed = 0, stream = 0, drift = [0, 0, 8388609] }",
+            (
+                "limit",
+                "species[0].random.drift[2]",
+                [8388609, -8388608, 8388608],
+            ),
+        ),
+        (
+            "points = [[1024, 0, 0, 0, 0, 0]]",
+            "lattice = { first = [0, 0, 0], gap = [0, 0, 0], count = [1024, 1025, 1], v = [0, 0, 0] }",
+            ("limit", "species[0]", [1049600, 0, 1048576]),
+        ),
+        (
             "[1024, 0, 0, 0, 0, 0]",
             "[1024, 0, 0, 0, 0]",
             ("kind", "species[0].points[0]", [0; 3]),
@@ -262,10 +300,41 @@ fn species_are_refused_by_name(rt: HostRuntime) -> Result<(), Fail> {
     Ok(())
 }
 
+#[test]
+fn each_source_has_its_count(rt: HostRuntime) -> Result<(), Fail> {
+    let lattice =
+        "lattice = { first = [0, 0, 0], gap = [0, 0, 0], count = [512, 1024, 1], v = [0, 0, 0] }";
+    let pair =
+        "pair = { of = \"ion\", seed = 1, stream = 2, drift = [3, 4, -5], spread = [6, 7, 8] }";
+    let ions = changed(&rt, PAIR, "points = [[1024, 0, 0, 0, 0, 0]]", lattice)?;
+    let electrons = "points = [[1024, 0, 0, 8388608, 0, 0]]";
+    let text = changed(&rt, ions.as_str(), electrons, pair)?;
+    let deck = deck_of(&rt, text.as_str());
+    assert_eq!(rt; deck.particles(), 1048576);
+    let electron = deck.species().get(1).expect(&rt, "the electron");
+    assert_eq!(rt; electron.count, 524288);
+    match &electron.fill {
+        Fill::Pair {
+            of,
+            seed,
+            stream,
+            drift,
+            spread,
+        } => {
+            assert_eq!(rt; (*of, *seed, *stream), (0, 1, 2));
+            assert_eq!(rt; (*drift, *spread), ([3, 4, -5], [6, 7, 8]));
+        }
+        _ => panic!(rt; "no pair"),
+    }
+    Ok(())
+}
+
 fn points_of(rt: &(impl AllocGlobal + Abort), deck: &Deck, index: usize) -> Vec<Point6> {
     let species = deck.species().get(index).expect(rt, "a species");
-    let Fill::Points(points) = &species.fill;
-    Vec::from_slice(rt.alloc(), points.as_slice()).expect(rt, "room")
+    match &species.fill {
+        Fill::Points(points) => Vec::from_slice(rt.alloc(), points.as_slice()).expect(rt, "room"),
+        _ => Vec::new(rt.alloc()),
+    }
 }
 
 #[test]

@@ -1,6 +1,6 @@
 use Rattle.pic_walk.specs.Walk.{need}
 use Rattle.pic_walk.proofs.WalkLaws.{goes_on, exits}
-use Rattle.pic_deck.proofs.species_reader.need_points.Goals as goal
+use Rattle.pic_deck.proofs.fill_reader.need_species_number.Goals as goal
 
 pub returns-in_err-value-clause-walks : goal.returns-in_err-value-clause-walks
 unfolding need
@@ -8,4 +8,4 @@ returns-in_err-value-clause-walks c = exits _ _ c.from_residual.ensures.1 c.in_e
 
 pub returns-clause-walks : goal.returns-clause-walks
 unfolding need
-returns-clause-walks c = goes_on _ _ _ c.in_ok-value.ensures.answer (rw c.new.ensures.path at c.read_points.ensures.walks)
+returns-clause-walks c = goes_on _ _ _ c.in_ok-value.ensures.answer (rw c.new.ensures.path at c.read_species_number.ensures.walks)

@@ -1,0 +1,10 @@
+use Rattle.std.proofs.Common.{◌≡◌, drop}
+use Rattle.toml.specs.View.{table_view}
+use Rattle.pic_deck.specs.Source.{sources, only}
+use Rattle.pic_deck.proofs.source.find_source.Given as goal
+
+abbrev pub invariant-loop-i : goal.invariant-loop-i
+invariant-loop-i l = record {
+  all : l.all ≡ sources;
+  left : only l.path (table_view l.table) sources ≡ only l.path (table_view l.table) (drop l.i sources);
+}

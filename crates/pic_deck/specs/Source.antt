@@ -1,0 +1,105 @@
+-- The walk of what fills a species, this project's profile: which of its sources counts, and the keys
+-- of each source in their order.
+use Rattle.std.specs.Prelude.{ℕ, pos, Bool, is_some, find, position, bytes_eq, if◌then◌else◌, List, [], ◌∷◌, codes, Option, Some, None, Ok, Err}
+use Rattle.toml.specs.Data.{Data, Members, get_member}
+use Rattle.pic_num.specs.Space.{Triple}
+use Rattle.pic_walk.specs.Bounds.{most_particles}
+use Rattle.pic_walk.specs.declared.fault.Fault.TheVariants.{Unknown, Missing, Name}
+use Rattle.pic_walk.specs.declared.draw.Draw.{Draw}
+use Rattle.pic_walk.specs.declared.sites.Sites.{Sites}
+use Rattle.pic_walk.specs.Draw.{draw}
+use Rattle.pic_walk.specs.Limits.{from_to}
+use Rattle.pic_walk.specs.Path.{key_at}
+use Rattle.pic_walk.specs.Points.{point_list}
+use Rattle.pic_walk.specs.Sites.{sites}
+use Rattle.pic_walk.specs.Walk.{Walked, ◌>>=◌, some_or, whole, text, table_of, need}
+use Rattle.pic_deck.specs.declared.source.Source.{Source}
+use Rattle.pic_deck.specs.declared.source.Source.TheVariants as source
+use Rattle.pic_deck.specs.declared.species.Fill.{Fill}
+use Rattle.pic_deck.specs.declared.species.Fill.TheVariants.{Points, Lattice, Random, Pair}
+use Rattle.pic_deck.specs.declared.species.Species.{Species}
+
+-- the sources that a species may have, in the order in which they count
+abbrev pub sources : List Source
+sources = source.Points ∷ source.Lattice ∷ source.Random ∷ source.Pair ∷ []
+
+abbrev pub source_key : Source → List ℕ
+source_key source.Points = codes "points"
+source_key source.Lattice = codes "lattice"
+source_key source.Random = codes "random"
+source_key source.Pair = codes "pair"
+
+-- whether a table has a source
+abbrev pub has : Members → Source → Bool
+has t s = is_some (get_member (source_key s) t)
+
+-- a source, where no further one is there
+unfoldable pub alone : List ℕ → Source → Option Source → Walked Source
+alone path s None = Ok s
+alone path s (Some further) = Err (Unknown (key_at path (source_key further)))
+
+-- the first of some sources that is there, and no further one
+unfoldable pub only : List ℕ → Members → List Source → Walked Source
+only path t [] = Err (Missing (key_at path (codes "points")))
+only path t (s ∷ ss) = if has t s then alone path s (find (has t) ss) else only path t ss
+
+-- the keys of `lattice`
+abbrev pub lattice_keys : List (List ℕ)
+lattice_keys = codes "first" ∷ codes "gap" ∷ codes "count" ∷ codes "v" ∷ []
+
+-- the sites of a lattice
+unfoldable pub lattice : Triple → List ℕ → Data → Walked Sites
+lattice n path d = table_of lattice_keys path d >>= sites n path
+
+-- the keys of `random`
+abbrev pub random_keys : List (List ℕ)
+random_keys = codes "count" ∷ codes "seed" ∷ codes "stream" ∷ codes "drift" ∷ codes "spread" ∷ []
+
+-- how many particles at random places, and how they are drawn
+unfoldable pub random : List ℕ → Data → Walked (ℕ × Draw)
+random path d =
+    table_of random_keys path d
+    >>= (λ t. need (whole (from_to (pos 0) (pos most_particles))) (codes "count") path t
+    >>= (λ count. draw path t
+    >>= (λ r. Ok (count, r))))
+
+-- the keys of `pair`
+abbrev pub pair_keys : List (List ℕ)
+pair_keys = codes "of" ∷ codes "seed" ∷ codes "stream" ∷ codes "drift" ∷ codes "spread" ∷ []
+
+-- the number of the earlier species of a name
+unfoldable pub species_number : List Species → List ℕ → Data → Walked ℕ
+species_number done path d =
+    text path d >>= (λ s. some_or (Name path) (position (λ o. bytes_eq o.name s) done))
+
+-- the earlier species where whose particles others stand, and how their velocities are drawn
+unfoldable pub pair : List Species → List ℕ → Data → Walked (ℕ × Draw)
+pair done path d =
+    table_of pair_keys path d
+    >>= (λ t. need (species_number done) (codes "of") path t
+    >>= (λ named. draw path t
+    >>= (λ r. Ok (named, r))))
+
+-- particles at the sites of a lattice
+abbrev pub at_sites : Sites → Fill
+at_sites s = Lattice s.first s.gap s.count s.v
+
+-- so many particles at random places
+abbrev pub at_random : ℕ × Draw → Fill
+at_random r = Random r.0 r.1.seed r.1.stream r.1.drift r.1.spread
+
+-- particles where those of a species stand
+abbrev pub in_pairs : ℕ × Draw → Fill
+in_pairs r = Pair r.0 r.1.seed r.1.stream r.1.drift r.1.spread
+
+-- what a source fills a species with
+abbrev pub fill_by : Source → Triple → List Species → List ℕ → Data → Walked Fill
+fill_by source.Points n done path d = point_list n path d >>= (λ points. Ok (Points points))
+fill_by source.Lattice n done path d = lattice n path d >>= (λ s. Ok (at_sites s))
+fill_by source.Random n done path d = random path d >>= (λ r. Ok (at_random r))
+fill_by source.Pair n done path d = pair done path d >>= (λ r. Ok (in_pairs r))
+
+-- what fills the species that a table is
+unfoldable pub species_fill : Triple → List Species → List ℕ → Members → Walked Fill
+species_fill n done path t =
+    only path t sources >>= (λ s. need (fill_by s n done) (source_key s) path t)

@@ -1,0 +1,265 @@
+//! What fills a species: the tables `lattice`, `random` and `pair` beside the array `points`.
+
+ghost use Rattle.std.specs.Prelude.{◌≡◌, ◌<◌, ◌≤◌, ℕ, None, codes, position, bytes_eq, length, IfOk};
+ghost use Rattle.toml.specs.View.{view, table_view};
+ghost use Rattle.pic_walk.specs.Bounds.{most_species, most_particles};
+ghost use Rattle.pic_walk.specs.Path.{key_at, path_of};
+ghost use Rattle.pic_walk.specs.declared.draw.Draw.{Draw as DrawView};
+ghost use Rattle.pic_walk.specs.declared.sites.Sites.{Sites as SitesView};
+ghost use Rattle.pic_walk.specs.Draw.{IsDraw};
+ghost use Rattle.pic_walk.specs.Sites.{AreSites};
+ghost use Rattle.pic_walk.specs.Walk.{WalksAs, need, table_of};
+ghost use Rattle.pic_deck.specs.declared.species.Fill.{Fill as FillView};
+ghost use Rattle.pic_deck.specs.Source.{source_key, lattice_keys, lattice, random_keys, random, pair_keys, species_number, pair, at_sites, at_random, in_pairs, fill_by, species_fill};
+ghost use Rattle.pic_deck.specs.Species.{IsFill};
+
+use crate::source::{Source, find_source};
+use crate::species::{Fill, Species};
+use pic_grid::Cells;
+use pic_walk::{
+    Address, Draw, Limits, Sites, WalkStop, need_whole, needed_value, read_draw, read_points,
+    read_sites, read_table, read_text,
+};
+use std::alloc::Global;
+use toml::{Table, Value};
+
+const MOST_PARTICLES: i64 = 1048576;
+
+fn lattice_table<'v>(
+    alloc: Global,
+    address: Address<'_>,
+    path: &str,
+    value: &'v Value,
+) -> Result<&'v Table, WalkStop>
+    requires { path_of address ≡ path.now }
+    ensures { WalksAs (λ t. table_view t.now) (table_of lattice_keys path.now (view value.now))
+        result }
+{
+    read_table(alloc, address, path, &["first", "gap", "count", "v"], value)
+}
+
+// the sites of a lattice
+fn read_lattice(
+    alloc: Global,
+    address: Address<'_>,
+    value: &Value,
+    cells: Cells,
+) -> Result<Sites, WalkStop>
+    ensures walks { WalksAs (λ (s : SitesView). s)
+        (lattice cells (path_of address.entry) (view value.now)) result }
+    ensures limits { IfOk result (λ s. AreSites cells s) }
+{
+    let path = address.path(alloc)?;
+    let table = lattice_table(alloc, address, path.as_str(), value)?;
+    read_sites(alloc, path.as_str(), table, cells)
+}
+
+fn random_table<'v>(
+    alloc: Global,
+    address: Address<'_>,
+    path: &str,
+    value: &'v Value,
+) -> Result<&'v Table, WalkStop>
+    requires { path_of address ≡ path.now }
+    ensures { WalksAs (λ t. table_view t.now) (table_of random_keys path.now (view value.now))
+        result }
+{
+    read_table(
+        alloc,
+        address,
+        path,
+        &["count", "seed", "stream", "drift", "spread"],
+        value,
+    )
+}
+
+// how many particles at random places, and how they are drawn
+fn read_random(alloc: Global, address: Address<'_>, value: &Value) -> Result<(u32, Draw), WalkStop>
+    ensures walks { WalksAs (λ (r : ℕ × DrawView). r)
+        (random (path_of address.entry) (view value.now)) result }
+    ensures count { IfOk result (λ r. r.0 ≤ most_particles) }
+    ensures draw { IfOk result (λ r. IsDraw r.1) }
+{
+    let path = address.path(alloc)?;
+    let table = random_table(alloc, address, path.as_str(), value)?;
+    let limits = Limits::new(0, MOST_PARTICLES);
+    let count = need_whole(alloc, path.as_str(), "count", table, limits)?;
+    let draw = read_draw(alloc, path.as_str(), table)?;
+    Ok((count, draw))
+}
+
+fn pair_table<'v>(
+    alloc: Global,
+    address: Address<'_>,
+    path: &str,
+    value: &'v Value,
+) -> Result<&'v Table, WalkStop>
+    requires { path_of address ≡ path.now }
+    ensures { WalksAs (λ t. table_view t.now) (table_of pair_keys path.now (view value.now))
+        result }
+{
+    read_table(
+        alloc,
+        address,
+        path,
+        &["of", "seed", "stream", "drift", "spread"],
+        value,
+    )
+}
+
+// the number of the species of this name
+fn number_of(species: &[Species], text: &str) -> Option<usize>
+    ensures { result ≡ position (λ o. bytes_eq o.name text.now) species.now }
+{
+    let name = text.as_bytes();
+    species.iter().position(|one| one.name.as_slice() == name)
+}
+
+// the number of the earlier species that is named at an address
+fn read_species_number(
+    alloc: Global,
+    address: Address<'_>,
+    value: &Value,
+    earlier: &[Species],
+) -> Result<usize, WalkStop>
+    ensures walks { WalksAs (λ (n : ℕ). n)
+        (species_number earlier.now (path_of address.entry) (view value.now)) result }
+    ensures below { IfOk result (λ n. n < length earlier.now) }
+{
+    let text = read_text(alloc, address, value)?;
+    match number_of(earlier, text) {
+        Some(number) => Ok(number),
+        None => Err(address.name_fault(alloc)),
+    }
+}
+
+fn need_species_number(
+    alloc: Global,
+    path: &str,
+    table: &Table,
+    earlier: &[Species],
+) -> Result<usize, WalkStop>
+    ensures walks { WalksAs (λ (n : ℕ). n)
+        (need (species_number earlier.now) (codes "of") path.now (table_view table.now)) result }
+    ensures below { IfOk result (λ n. n < length earlier.now) }
+{
+    let value = needed_value(alloc, path, "of", table)?;
+    read_species_number(alloc, Address::new(path, "of"), value, earlier)
+}
+
+// the earlier species where whose particles others stand, and how their velocities are drawn
+fn read_pair(
+    alloc: Global,
+    address: Address<'_>,
+    value: &Value,
+    earlier: &[Species],
+) -> Result<(u32, Draw), WalkStop>
+    requires { length earlier.now ≤ most_species }
+    ensures walks { WalksAs (λ (r : ℕ × DrawView). r)
+        (pair earlier.now (path_of address.entry) (view value.now)) result }
+    ensures below { IfOk result (λ r. r.0 < length earlier.now) }
+    ensures draw { IfOk result (λ r. IsDraw r.1) }
+{
+    let path = address.path(alloc)?;
+    let table = pair_table(alloc, address, path.as_str(), value)?;
+    let number = need_species_number(alloc, path.as_str(), table, earlier)?;
+    let draw = read_draw(alloc, path.as_str(), table)?;
+    Ok((number as u32, draw))
+}
+
+fn at_sites(sites: Sites) -> Fill
+    ensures { result ≡ at_sites sites }
+{
+    let Sites {
+        first,
+        gap,
+        count,
+        v,
+    } = sites;
+    Fill::Lattice {
+        first,
+        gap,
+        count,
+        v,
+    }
+}
+
+fn at_random(random: (u32, Draw)) -> Fill
+    ensures { result ≡ at_random random }
+{
+    let (count, draw) = random;
+    let Draw {
+        seed,
+        stream,
+        drift,
+        spread,
+    } = draw;
+    Fill::Random {
+        count,
+        seed,
+        stream,
+        drift,
+        spread,
+    }
+}
+
+fn in_pairs(pair: (u32, Draw)) -> Fill
+    ensures { result ≡ in_pairs pair }
+{
+    let (of, draw) = pair;
+    let Draw {
+        seed,
+        stream,
+        drift,
+        spread,
+    } = draw;
+    Fill::Pair {
+        of,
+        seed,
+        stream,
+        drift,
+        spread,
+    }
+}
+
+// what a source fills a species with
+fn read_by(
+    alloc: Global,
+    path: &str,
+    source: Source,
+    value: &Value,
+    cells: Cells,
+    earlier: &[Species],
+) -> Result<Fill, WalkStop>
+    requires { length earlier.now ≤ most_species }
+    ensures walks { WalksAs (λ (f : FillView). f)
+        (fill_by source cells earlier.now (key_at path.now (source_key source)) (view value.now))
+        result }
+    ensures limits { IfOk result (λ f. IsFill cells earlier.now f) }
+{
+    let address = Address::new(path, source.key());
+    match source {
+        Source::Points => Ok(Fill::Points(read_points(alloc, address, value, cells)?)),
+        Source::Lattice => Ok(at_sites(read_lattice(alloc, address, value, cells)?)),
+        Source::Random => Ok(at_random(read_random(alloc, address, value)?)),
+        Source::Pair => Ok(in_pairs(read_pair(alloc, address, value, earlier)?)),
+    }
+}
+
+/// What fills the species that the table at a path is, after earlier ones.
+pub(crate) fn read_fill(
+    alloc: Global,
+    path: &str,
+    table: &Table,
+    cells: Cells,
+    earlier: &[Species],
+) -> Result<Fill, WalkStop>
+    requires { length earlier.now ≤ most_species }
+    ensures walks { WalksAs (λ (f : FillView). f)
+        (species_fill cells earlier.now path.now (table_view table.now)) result }
+    ensures limits { IfOk result (λ f. IsFill cells earlier.now f) }
+{
+    let source = find_source(alloc, path, table)?;
+    let value = needed_value(alloc, path, source.key(), table)?;
+    read_by(alloc, path, source, value, cells, earlier)
+}
