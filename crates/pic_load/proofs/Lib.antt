@@ -1,1 +1,3 @@
+pub mod GeneratorLaws
+pub mod DrawingLaws
 pub mod LoadLaws

@@ -1,1 +1,3 @@
+pub mod Generator
+pub mod Drawing
 pub mod Loading

@@ -1,6 +1,7 @@
-//! The particles of a deck.
+//! The particles that a deck's run begins with.
 #![tactic(auto)]
 
+mod drawing;
 mod loading;
 #[cfg(test)]
 mod tests;

@@ -1,53 +1,248 @@
-ghost use Rattle.std.specs.Prelude.{◌≡◌, ◌+◌, ◌≤◌, ◌++◌, map, length, IfOk, OnOk};
-ghost use Rattle.pic_deck.specs.Species.{most_particles};
-ghost use Rattle.pic_load.specs.Loading.{points_in, member, numbered, loaded, AreLoaded};
+//! The particles of a deck, species by species.
 
-use pic_deck::{Deck, Fill, Point6};
+ghost use Rattle.std.specs.Prelude.{◌≡◌, ℕ, ◌+◌, ◌*◌, ◌%◌, ◌^◌, ◌<◌, ◌≤◌, ◌++◌, ◌∷◌, [], length, take, slice_index, slice_index_or, IfOk, OnOk};
+ghost use Rattle.std.specs.List.{All};
+ghost use Rattle.pic_num.specs.declared.axis.Axis.{Axis};
+ghost use Rattle.pic_num.specs.Sizes.{IsAtMost};
+ghost use Rattle.pic_num.specs.Space.{Triple, triple, spot, along};
+ghost use Rattle.pic_grid.specs.Cells.{cell_of, count_of};
+ghost use Rattle.pic_grid.specs.Hat.{IsInBox};
+ghost use Rattle.pic_deck.specs.Species.{ArePoints, IsFilled, fastest, most_particles, most_species, no_point, particles_of};
+ghost use Rattle.pic_load.specs.Drawing.{IsSpread};
+ghost use Rattle.pic_load.specs.Generator.{after};
+ghost use Rattle.pic_load.specs.Loading.{particle_of, no_particle, site, at_site, drawn, beside, first_of_species, particles_in, loaded, IsPlaced, AreLoaded};
+
+use crate::drawing::{draw_place, draw_velocity};
+use pic_deck::{Deck, Fill, Point6, Species, particles_of};
+use pic_grid::Cells;
 use pic_num::{NoMemory, Particle};
+use rand_pcg::Pcg32;
 use std::alloc::Global;
 
-// adds the particles of a species that are given one by one
+const SIDE: u64 = 4096;
+
+// adds a particle of a species
+fn add(particles: &mut Vec<Particle>, species: u8, x: [u32; 3], v: [i32; 3]) -> Result<(), NoMemory>
+    requires { length particles.old.items < 2 ^ 32 }
+    ensures { OnOk result (particles.new.items ≡ particles.old.items
+        ++ particle_of (length particles.old.items) species (record { x = x; v = v }) ∷ []) }
+{
+    let id = particles.len() as u32;
+    particles.push(Particle { id, species, x, v })?;
+    Ok(())
+}
+
+// adds particles that are given one by one
 fn load_points(
     particles: &mut Vec<Particle>,
     species: u8,
     points: &[Point6],
 ) -> Result<(), NoMemory>
     requires { length particles.old.items + length points.now ≤ most_particles }
-    ensures { OnOk result (particles.new.items ≡ particles.old.items
-        ++ numbered (length particles.old.items) (map (member species) points.now)) }
+    ensures value { OnOk result (particles.new.items ≡ particles.old.items
+        ++ first_of_species (length particles.old.items) species
+        (λ i. slice_index_or points.now i no_point) (length points.now)) }
+    ensures placed { (n : Triple) (m : ℕ) → species < m → ArePoints n points.now
+        → All (IsPlaced n m) particles.old.items
+        → OnOk result (All (IsPlaced n m) particles.new.items) }
 {
     for point in points {
-        let id = particles.len() as u32;
-        particles.push(Particle {
-            id,
-            species,
-            x: point.x,
-            v: point.v,
-        })?;
+        add(particles, species, point.x, point.v)?;
     }
     Ok(())
 }
 
-// adds the particles of a species
-fn load_fill(particles: &mut Vec<Particle>, species: u8, fill: &Fill) -> Result<(), NoMemory>
-    requires { length particles.old.items + length (points_in fill.now) ≤ most_particles }
-    ensures { OnOk result (particles.new.items ≡ particles.old.items
-        ++ numbered (length particles.old.items) (map (member species) (points_in fill.now))) }
+fn site_on(first: u32, gap: u32, at: u32, cells: u32) -> u32
+    requires some { 1 ≤ cells }
+    requires few { cells ≤ 64 }
+    ensures value { result ≡ (first + at * gap) % (cells * 4096) }
+    ensures below { result < cells * 4096 }
 {
-    match fill {
-        Fill::Points(points) => load_points(particles, species, points.as_slice()),
+    ((u64::from(first) + u64::from(at) * u64::from(gap)) % (u64::from(cells) * SIDE)) as u32
+}
+
+// the cell of a number in a lattice of so many
+fn number_in(count: [u32; 3], number: u32) -> [u32; 3]
+    requires { (k : ℕ) → k < 3 → 1 ≤ slice_index count k }
+    ensures { triple result ≡ cell_of (triple count) number }
+{
+    let [x, y, _] = count;
+    [number % x, number / x % y, number / x / y]
+}
+
+fn site(cells: Cells, first: [u32; 3], gap: [u32; 3], at: [u32; 3]) -> [u32; 3]
+    ensures value { result ≡ site cells (triple first) (triple gap) (triple at) }
+    ensures within { IsInBox 4096 cells (triple result) }
+{
+    let [nx, ny, nz] = cells.numbers();
+    let x = site_on(first[0], gap[0], at[0], nx);
+    let y = site_on(first[1], gap[1], at[1], ny);
+    let z = site_on(first[2], gap[2], at[2], nz);
+    [x, y, z]
+}
+
+// the numbers of a lattice that a deck says
+#[derive(Clone, Copy)]
+struct Sites {
+    first: [u32; 3],
+    gap: [u32; 3],
+    count: [u32; 3],
+    v: [i32; 3],
+}
+
+// adds the first so many particles of a lattice
+fn load_lattice(
+    particles: &mut Vec<Particle>,
+    species: u8,
+    cells: Cells,
+    sites: Sites,
+    total: u32,
+) -> Result<(), NoMemory>
+    requires few { length particles.old.items + total ≤ most_particles }
+    requires some { (k : ℕ) → k < 3 → 1 ≤ slice_index sites.count k }
+    ensures value { OnOk result (particles.new.items ≡ particles.old.items
+        ++ first_of_species (length particles.old.items) species
+        (at_site cells sites.first sites.gap sites.count sites.v) total) }
+    ensures placed { (m : ℕ) → species < m
+        → ((a : Axis) → IsAtMost (along a (spot sites.v)) fastest)
+        → All (IsPlaced cells m) particles.old.items
+        → OnOk result (All (IsPlaced cells m) particles.new.items) }
+{
+    for i in 0..total {
+        let at = number_in(sites.count, i);
+        add(
+            particles,
+            species,
+            site(cells, sites.first, sites.gap, at),
+            sites.v,
+        )?;
+    }
+    Ok(())
+}
+
+// adds so many particles at random places
+fn load_random(
+    particles: &mut Vec<Particle>,
+    species: u8,
+    cells: Cells,
+    total: u32,
+    rng: &mut Pcg32,
+    drift: [i32; 3],
+    spread: [u32; 3],
+) -> Result<(), NoMemory>
+    requires few { length particles.old.items + total ≤ most_particles }
+    requires spread { IsSpread drift spread }
+    ensures value { OnOk result (particles.new.items ≡ particles.old.items
+        ++ first_of_species (length particles.old.items) species
+        (λ i. drawn cells drift spread (after (39 * i) rng.old)) total) }
+    ensures placed { (m : ℕ) → species < m → All (IsPlaced cells m) particles.old.items
+        → OnOk result (All (IsPlaced cells m) particles.new.items) }
+{
+    for _ in 0..total {
+        let x = draw_place(rng, cells);
+        let v = draw_velocity(rng, drift, spread);
+        add(particles, species, x, v)?;
+    }
+    Ok(())
+}
+
+// adds so many particles where others stand, those from an identity on
+fn load_pair(
+    particles: &mut Vec<Particle>,
+    species: u8,
+    start: usize,
+    total: u32,
+    rng: &mut Pcg32,
+    drift: [i32; 3],
+    spread: [u32; 3],
+) -> Result<(), NoMemory>
+    requires few { length particles.old.items + total ≤ most_particles }
+    requires others { start + total ≤ length particles.old.items }
+    requires spread { IsSpread drift spread }
+    ensures value { OnOk result (particles.new.items ≡ particles.old.items
+        ++ first_of_species (length particles.old.items) species
+        (λ i. beside (slice_index_or particles.old.items (start + i) no_particle) drift spread
+        (after (36 * i) rng.old)) total) }
+    ensures placed { (n : Triple) (m : ℕ) → species < m → All (IsPlaced n m) particles.old.items
+        → OnOk result (All (IsPlaced n m) particles.new.items) }
+{
+    for i in 0..total {
+        let other = particles[start + i as usize];
+        let own = draw_velocity(rng, drift, spread);
+        add(particles, species, other.x, own)?;
+    }
+    Ok(())
+}
+
+// adds the particles of the next species
+fn load_species(
+    particles: &mut Vec<Particle>,
+    cells: Cells,
+    earlier: &[Species],
+    species: &Species,
+) -> Result<(), NoMemory>
+    requires number { length earlier.now < most_species }
+    requires count { length particles.old.items ≡ particles_of earlier.now }
+    requires few { particles_of earlier.now + species.now.count ≤ most_particles }
+    requires filled { IsFilled cells earlier.now species.now }
+    ensures value { OnOk result (particles.new.items ≡ particles.old.items
+        ++ particles_in cells earlier.now particles.old.items species.now) }
+    ensures placed { (m : ℕ) → length earlier.now < m → All (IsPlaced cells m) particles.old.items
+        → OnOk result (All (IsPlaced cells m) particles.new.items) }
+{
+    let number = earlier.len() as u8;
+    let total = species.count;
+    match &species.fill {
+        Fill::Points(points) => load_points(particles, number, points.as_slice()),
+        Fill::Lattice {
+            first,
+            gap,
+            count,
+            v,
+        } => {
+            let sites = Sites {
+                first: *first,
+                gap: *gap,
+                count: *count,
+                v: *v,
+            };
+            load_lattice(particles, number, cells, sites, total)
+        }
+        Fill::Random {
+            seed,
+            stream,
+            drift,
+            spread,
+            ..
+        } => {
+            let mut rng = Pcg32::new(*seed, *stream);
+            load_random(particles, number, cells, total, &mut rng, *drift, *spread)
+        }
+        Fill::Pair {
+            of,
+            seed,
+            stream,
+            drift,
+            spread,
+        } => {
+            let start = particles_of(&earlier[..*of as usize]);
+            let mut own = Pcg32::new(*seed, *stream);
+            load_pair(particles, number, start, total, &mut own, *drift, *spread)
+        }
     }
 }
 
 /// The particles of a deck: the species in the deck's order, with the identities 0, 1, 2 and so on.
+/// All room is taken first.
 pub fn load(alloc: Global, deck: &Deck) -> Result<Vec<Particle>, NoMemory>
-    ensures value { IfOk result (λ xs. xs.items ≡ loaded deck.now) }
-    ensures limits { IfOk result (λ xs. AreLoaded deck.now xs.items) }
+    ensures value { IfOk result (λ ps. ps.items ≡ loaded deck.now) }
+    ensures limits { IfOk result (λ ps. AreLoaded deck.now ps.items) }
 {
-    let mut particles = Vec::with_capacity(alloc, deck.particles())?;
+    let cells = deck.cells();
     let all = deck.species();
-    for (number, species) in all.iter().enumerate() {
-        load_fill(&mut particles, number as u8, &species.fill)?;
+    let mut particles = Vec::with_capacity(alloc, deck.particles())?;
+    for number in 0..all.len() {
+        load_species(&mut particles, cells, &all[..number], &all[number])?;
     }
     Ok(particles)
 }

@@ -1,6 +1,10 @@
+//! The particles of decks, with words and velocities that a program of its own gave.
+
 use crate::load;
 use pic_deck::read_deck;
 use pic_num::Particle;
+use std::alloc::AllocError;
+use std::process::Abort;
 use std::test::Fail;
 
 const PAIR: &str = "version = 1
@@ -48,5 +52,106 @@ fn identities_go_through_the_species(rt: HostRuntime) -> Result<(), Fail> {
     };
     let particles = load(rt.alloc(), &deck)?;
     assert_eq!(rt; particles.as_slice(), [ion, electron].as_slice());
+    Ok(())
+}
+
+// a deck of so many cells on each axis, with species that are not charged
+fn loaded(
+    rt: &(impl AllocGlobal + Abort),
+    cells: u32,
+    fills: &[&str],
+) -> Result<Vec<Particle>, AllocError> {
+    let mut text = format!(in rt.alloc();
+        "version = 1
+[grid]
+cells = [{cells}, {cells}, {cells}]
+tiles = [1, 1, 1]
+[run]
+steps = 0
+every = 1
+[scale]
+e_to_b = [0, 0]
+b_to_e = [0, 0]
+e_force = [0, 0]
+b_force = [0, 0]
+"
+    )?;
+    for (number, fill) in fills.iter().enumerate() {
+        let species = format!(in rt.alloc();
+            "[[species]]
+name = \"s{number}\"
+charge = 0
+mass = 1
+kick = [0, 0]
+turn = [0, 0]
+{fill}
+"
+        )?;
+        text.push_str(species.as_str())?;
+    }
+    let deck = read_deck(rt.alloc(), text.as_bytes()).expect(rt, "a deck");
+    Ok(load(rt.alloc(), &deck).expect(rt, "room"))
+}
+
+#[test]
+fn three_words_are_a_position(rt: HostRuntime) -> Result<(), Fail> {
+    let still =
+        "random = { count = 1, seed = 42, stream = 54, drift = [0, 0, 0], spread = [0, 0, 0] }";
+    let particles = loaded(&rt, 4, &[still])?;
+    let one = Particle {
+        id: 0,
+        species: 0,
+        x: [10327, 7889, 11911],
+        v: [0, 0, 0],
+    };
+    assert_eq!(rt; particles.as_slice(), [one].as_slice());
+    Ok(())
+}
+
+#[test]
+fn each_source_fills_a_species(rt: HostRuntime) -> Result<(), Fail> {
+    let fills = [
+        "lattice = { first = [0, 0, 0], gap = [2048, 0, 0], count = [5, 1, 1], v = [1, -2, 3] }",
+        "random = { count = 2, seed = 9223372036854775807, stream = 9223372036854775807, drift = [100, -200, 0], spread = [1048576, 1024, 0] }",
+        "pair = { of = \"s1\", seed = 42, stream = 54, drift = [0, 0, -8388608], spread = [0, 0, 1048576] }",
+        "random = { count = 0, seed = 0, stream = 0, drift = [0, 0, 0], spread = [0, 0, 0] }",
+        "pair = { of = \"s3\", seed = 0, stream = 0, drift = [0, 0, 0], spread = [0, 0, 0] }",
+        "pair = { of = \"s2\", seed = 0, stream = 1, drift = [0, 0, 0], spread = [3, 0, 0] }",
+        "lattice = { first = [8191, 0, 1], gap = [2, 3, 262144], count = [2, 1, 2], v = [0, 0, 0] }",
+        "pair = { of = \"s0\", seed = 1, stream = 0, drift = [0, 0, 0], spread = [1048576, 1048576, 1048576] }",
+    ];
+    let wanted = [
+        (0, [0, 0, 0], [1, -2, 3]),
+        (0, [2048, 0, 0], [1, -2, 3]),
+        (0, [4096, 0, 0], [1, -2, 3]),
+        (0, [6144, 0, 0], [1, -2, 3]),
+        (0, [0, 0, 0], [1, -2, 3]),
+        (1, [6216, 5382, 4418], [-275606, 158, 0]),
+        (1, [6777, 4232, 7878], [95886, -889, 0]),
+        (2, [6216, 5382, 4418], [0, 0, -8478049]),
+        (2, [6777, 4232, 7878], [0, 0, -9512553]),
+        (5, [6216, 5382, 4418], [-6, 0, 0]),
+        (5, [6777, 4232, 7878], [6, 0, 0]),
+        (6, [8191, 0, 1], [0, 0, 0]),
+        (6, [1, 0, 1], [0, 0, 0]),
+        (6, [8191, 0, 1], [0, 0, 0]),
+        (6, [1, 0, 1], [0, 0, 0]),
+        (7, [0, 0, 0], [263961, -639310, -98027]),
+        (7, [2048, 0, 0], [-1749992, 403126, 1309161]),
+        (7, [4096, 0, 0], [-147878, -585184, -1992046]),
+        (7, [6144, 0, 0], [-982306, 827136, -1237991]),
+        (7, [0, 0, 0], [650142, 79571, -1091095]),
+    ];
+    let particles = loaded(&rt, 2, &fills)?;
+    assert_eq!(rt; particles.len(), wanted.len());
+    for (number, (species, x, v)) in wanted.iter().enumerate() {
+        let particle = Particle {
+            id: number as u32,
+            species: *species,
+            x: *x,
+            v: *v,
+        };
+        assert_eq!(rt; particles[number], particle);
+    }
     Ok(())
 }

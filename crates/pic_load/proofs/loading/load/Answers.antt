@@ -1,37 +1,79 @@
-use Rattle.std.proofs.Common.{◌≤◌, sym, ap, ◌∙◌, arith}
-use Rattle.std.proofs.lemmas.List.{take_all}
-use Rattle.pic_deck.specs.Species.{most_particles, particles_of}
+use Rattle.std.proofs.Common.{◌≡◌, ◌+◌, ◌++◌, ◌<◌, ◌≤◌, List, [], length, take, drop, get_or, ap, sym, ◌∙◌, subst, arith}
+use Rattle.std.specs.List.{All}
+use Rattle.std.proofs.lemmas.List.{take_all, drop_all, length-append, length-take-le, get_or_default}
+use Rattle.pic_num.specs.Space.{Triple}
+use Rattle.pic_deck.specs.declared.species.Species.{Species}
+use Rattle.pic_deck.specs.Species.{most_particles, particles_of, IsFilled, AreFilled, no_species}
 use Rattle.pic_deck.proofs.HeadLaws.{particles_of-heads}
-use Rattle.pic_load.specs.Loading.{members_from, numbered, loaded}
-use Rattle.pic_load.proofs.LoadLaws.{AreCounted, AreCounted-from, species_more, room_for, loaded_is}
+use Rattle.pic_load.specs.Loading.{loaded_after, loaded, particles_in, IsPlaced}
+use Rattle.pic_load.proofs.LoadLaws.{within_earlier, species_more, count_more, length-particles_in, identities_more}
 use Rattle.pic_load.proofs.loading.load.Goals as goal
 
-pub loop-number-init : goal.loop-number-init
-unfolding numbered members_from
-loop-number-init c = c.in_ok-particles.ensures.items
-
-pub load_fill-requires : goal.load_fill-requires
-load_fill-requires c =
+pub load_species-requires-clause-few : goal.load_species-requires-clause-few
+load_species-requires-clause-few c =
+    let all = c.species-all.result.now in
+    let one = c.index-all-number.result in
+    let below : c.loop-number.number < length all = omega arith in
     let total = rw (particles_of-heads c.args.deck.now.species) at c.species-all.ensures.limits.heads.total in
-    let few : particles_of c.species-all.result.now ≤ most_particles = rw c.species-all.ensures.value total in
-    let counted : AreCounted c.species-all.result.now = rw c.species-all.ensures.value (AreCounted-from c.args.deck.now c.species-all.ensures.limits) in
-    let room = room_for c.loop-number.number c.species-all.result.now c.index-all-number.result (omega arith) counted few in
-    rw c.loop-number.invariant (rw (sym c.index-all-number.is) at room)
+    let few : particles_of all ≤ most_particles = rw c.species-all.ensures.value total in
+    let room = rw (sym c.index-all-number.is) at (within_earlier all c.loop-number.number one below) in
+    omega (arith, room, few)
+
+pub load_species-requires-clause-filled : goal.load_species-requires-clause-filled
+load_species-requires-clause-filled c =
+    let all = c.species-all.result.now in
+    let n = c.cells-cells.result in
+    let number = c.loop-number.number in
+    let below : number < length all = omega arith in
+    let are : AreFilled n all = rw (c.cells-cells.ensures.value, c.species-all.ensures.value) c.species-all.ensures.limits.filled in
+    subst (λ (s : Species). IsFilled n (take number all) s)
+    (sym (c.index-all-number.is ∙ get_or_default all number c.index-all-number.result no_species below)) (are.each number below)
 
 pub loop-number-preserved : goal.loop-number-preserved
 loop-number-preserved c =
-    let filled = rw (c.loop-number.invariant, c.index-all-number.is) at c.in_ok-load_fill.ensures in
-    filled ∙ sym (species_more c.loop-number.number c.species-all.result.now c.index-all-number.result (omega arith))
+    let inv = c.loop-number.invariant in
+    let all = c.species-all.result.now in
+    let n = c.cells-cells.result in
+    let number = c.loop-number.number in
+    let items = c.loop-number.particles.items in
+    let one = c.index-all-number.result in
+    let below : number < length all = omega arith in
+    let earlier : length (take number all) < length all = omega (arith, length-take-le number all (omega (arith, below)), below) in
+    let next : c.load_species.new.particles.items ≡ items ++ particles_in n (take number all) items (get_or all number one) =
+    c.in_ok-load_species.ensures.value ∙ ap (λ (s : Species). items ++ particles_in n (take number all) items s) c.index-all-number.is in
+    record {
+      rest = inv.rest ∙ species_more n all items _ number one below next;
+      count = ap length next ∙ length-append items (particles_in n (take number all) items (get_or all number one))
+          ∙ (λ i. inv.count i + length-particles_in n (take number all) items (get_or all number one) i) ∙ sym (count_more all number one below);
+      identities = identities_more n (take number all) items _ (get_or all number one) next inv.identities;
+      placed = c.in_ok-load_species.ensures.placed (length all) earlier inv.placed;
+    }
 
 pub returns-clause-value : goal.returns-clause-value
-unfolding loaded
+unfolding loaded loaded_after
 returns-clause-value c =
-    let all = take_all c.loop-number.number c.species-all.result.now (omega arith) in
-    c.loop-number.invariant ∙ ap (λ ss. numbered 0 (members_from 0 ss)) (all ∙ c.species-all.ensures.value)
+    let inv = c.loop-number.invariant in
+    let all = c.species-all.result.now in
+    let n = c.cells-cells.result in
+    let number = c.loop-number.number in
+    let end : loaded_after n (take number all) c.loop-number.particles.items (drop number all) ≡ c.loop-number.particles.items =
+    ap (loaded_after n (take number all) c.loop-number.particles.items) (drop_all number all (omega arith)) in
+    sym end ∙ sym inv.rest ∙ (λ i. loaded_after (c.cells-cells.ensures.value i) [] [] (c.species-all.ensures.value i))
 
 pub returns-clause-limits : goal.returns-clause-limits
-unfolding loaded
 returns-clause-limits c =
-    let all = take_all c.loop-number.number c.species-all.result.now (omega arith) in
-    let is = c.loop-number.invariant ∙ ap (λ ss. numbered 0 (members_from 0 ss)) (all ∙ c.species-all.ensures.value) in
-    rw is (loaded_is c.args.deck.now c.species-all.ensures.limits)
+    let inv = c.loop-number.invariant in
+    let d = c.args.deck.now in
+    let all = c.species-all.result.now in
+    let n = c.cells-cells.result in
+    let items = c.loop-number.particles.items in
+    let total = rw (particles_of-heads d.species) at c.species-all.ensures.limits.heads.total in
+    let count : length items ≡ particles_of d.species = inv.count
+    ∙ ap particles_of (take_all c.loop-number.number all (omega arith) ∙ c.species-all.ensures.value) in
+    record {
+      count = count;
+      few = omega (arith, count, total);
+      identities = inv.identities;
+      each = subst (λ (m : Triple). All (IsPlaced m (length d.species)) items) c.cells-cells.ensures.value
+          (subst (λ (ss : List Species). All (IsPlaced n (length ss)) items) c.species-all.ensures.value inv.placed);
+    }

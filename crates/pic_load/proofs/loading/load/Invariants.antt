@@ -1,6 +1,14 @@
-use Rattle.std.proofs.Common.{◌≡◌, take}
-use Rattle.pic_load.specs.Loading.{members_from, numbered}
+use Rattle.std.proofs.Common.{◌≡◌, [], length, map, take, drop}
+use Rattle.std.specs.List.{All, range_with_len}
+use Rattle.pic_num.specs.declared.motion.Particle.{Particle}
+use Rattle.pic_deck.specs.Species.{particles_of}
+use Rattle.pic_load.specs.Loading.{loaded_after, IsPlaced}
 use Rattle.pic_load.proofs.loading.load.Given as goal
 
 abbrev pub invariant-loop-number : goal.invariant-loop-number
-invariant-loop-number l = l.particles.items ≡ numbered 0 (members_from 0 (take l.number l.all))
+invariant-loop-number l = record {
+  rest : loaded_after l.cells [] [] l.all ≡ loaded_after l.cells (take l.number l.all) l.particles.items (drop l.number l.all);
+  count : length l.particles.items ≡ particles_of (take l.number l.all);
+  identities : map (λ (p : Particle). p.id) l.particles.items ≡ range_with_len 0 (length l.particles.items);
+  placed : All (IsPlaced l.cells (length l.all)) l.particles.items;
+}

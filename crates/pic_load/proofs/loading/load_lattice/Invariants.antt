@@ -1,0 +1,16 @@
+use Rattle.std.proofs.Common.{◌≡◌, ◌++◌, ◌<◌, ℕ, length}
+use Rattle.std.specs.List.{All}
+use Rattle.pic_num.specs.declared.axis.Axis.{Axis}
+use Rattle.pic_num.specs.Sizes.{IsAtMost}
+use Rattle.pic_num.specs.Space.{spot, along}
+use Rattle.pic_deck.specs.Species.{fastest}
+use Rattle.pic_load.specs.Loading.{at_site, first_of_species, IsPlaced}
+use Rattle.pic_load.proofs.loading.load_lattice.Given as goal
+
+abbrev pub invariant-loop-i : goal.invariant-loop-i
+invariant-loop-i l = record {
+  filled : l.particles.items ≡ l.initial.particles.items ++ first_of_species (length l.initial.particles.items) l.species
+      (at_site l.cells l.sites.first l.sites.gap l.sites.count l.sites.v) l.i;
+  placed : (m : ℕ) → l.species < m → ((a : Axis) → IsAtMost (along a (spot l.sites.v)) fastest) → All (IsPlaced l.cells m) l.initial.particles.items
+      → All (IsPlaced l.cells m) l.particles.items;
+}
