@@ -1,2 +1,4 @@
 pub mod TurnLaws
 pub mod MoveLaws
+pub mod ShiftLaws
+pub mod QuotientLaws

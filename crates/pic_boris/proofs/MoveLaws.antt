@@ -1,34 +1,73 @@
 -- A velocity whose move is at most one cell.
-use Rattle.std.proofs.Common.{◌^◌, ◌-◌, arith}
-use Rattle.std.proofs.Math.IntN.{ℤ, pos, negsuc}
-use Rattle.std.specs.Prelude.{◌≤ℤ◌}
+use Rattle.std.proofs.Common.{◌≡◌, ℕ, ◌^◌, ◌-◌, ◌≤◌, Bool, true, false, nat_lt, if◌then◌else◌, unsigned_abs, Option, Some, None, Ok, refl, arith}
+use Rattle.std.specs.Option.{option_or}
+use Rattle.std.proofs.lemmas.Bool.Decides.{nat_tests}
+use Rattle.std.proofs.Math.IntN.{ℤ, pos}
 use Rattle.std.proofs.lemmas.Int.{ints}
-use Rattle.pic_num.specs.Push.{each}
-use Rattle.pic_num.specs.Rounding.{rounded}
+use Rattle.pic_num.specs.declared.axis.Axis.{Axis}
+use Rattle.pic_num.specs.declared.axis.Axis.TheVariants.{X, Y, Z}
+use Rattle.pic_num.specs.declared.motion.What.{What}
+use Rattle.pic_num.specs.declared.motion.What.TheVariants.{Speed, Turn, Far}
+use Rattle.pic_num.specs.First.{first_of}
+use Rattle.pic_num.specs.Multiplier.{Multiplier}
+use Rattle.pic_num.specs.Push.{Halting, each, plus, turned, first_above, unless, pushed}
+use Rattle.pic_num.specs.Rounding.{rounded, scaled}
 use Rattle.pic_num.specs.Sizes.{IsAtMost}
 use Rattle.pic_num.specs.Space.{Spot, AreAtMost}
 use Rattle.pic_num.proofs.RoundingLaws.{rounded-is}
-use Rattle.pic_boris.specs.Vector.{IsKeptVelocity}
+use Rattle.pic_boris.specs.Pushes.{arrived}
+use Rattle.pic_boris.specs.Velocity.{IsKept, IsKeptVelocity, velocity_unit}
 
-kept : (v : ℤ) → IsAtMost (rounded v (pos 4096)) 4096 → (negsuc 16779263 ≤ℤ v) × (v ≤ℤ pos 16779263)
-kept v h =
-    let is = rounded-is v (pos 4096) (omega (arith, ints)) in
-    let size = h.size in
-    (omega (arith, ints, is.below, size), omega (arith, ints, is.above, size))
+kept : (side : ℕ) (v : ℤ) → IsAtMost (rounded v (pos velocity_unit)) side → IsKept side v
+kept side v h =
+    let is = rounded-is v (pos velocity_unit) (omega (arith, ints)) in
+    record { least = omega (arith, ints, is.below, h.size); most = omega (arith, ints, is.above, h.size) }
 
-pub kept_velocity : (v : Spot) → AreAtMost (each (λ c. rounded c (pos 4096)) v) 4096 → IsKeptVelocity v
-kept_velocity v h =
-    let x = kept v.x h.x in
-    let y = kept v.y h.y in
-    let z = kept v.z h.z in
-    record { x_least = x.0; x_most = x.1; y_least = y.0; y_most = y.1; z_least = z.0; z_most = z.1 }
+pub kept_velocity : (side : ℕ) (v : Spot) → AreAtMost (each (λ c. rounded c (pos velocity_unit)) v) side → IsKeptVelocity side v
+kept_velocity side v h = record { x = kept side v.x h.x; y = kept side v.y h.y; z = kept side v.z h.z }
 
-kept_size : (v : ℤ) → negsuc 16779263 ≤ℤ v → v ≤ℤ pos 16779263 → IsAtMost v (2 ^ 31 - 1)
-kept_size v low high = record { size = omega (arith, ints, low, high) }
+kept_size : (side : ℕ) (v : ℤ) → side ≤ 2 ^ 14 → IsKept side v → IsAtMost v (2 ^ 31 - 1)
+kept_size side v few h = record { size = omega (arith, ints, few, h.least, h.most) }
 
-pub kept_sizes : (v : Spot) → IsKeptVelocity v → AreAtMost v (2 ^ 31 - 1)
-kept_sizes v h = record {
-  x = kept_size v.x h.x_least h.x_most;
-  y = kept_size v.y h.y_least h.y_most;
-  z = kept_size v.z h.z_least h.z_most;
-}
+pub kept_sizes : (side : ℕ) (v : Spot) → side ≤ 2 ^ 14 → IsKeptVelocity side v → AreAtMost v (2 ^ 31 - 1)
+kept_sizes side v few h = record { x = kept_size side v.x few h.x; y = kept_size side v.y few h.y; z = kept_size side v.z few h.z }
+
+not_above : (most n : ℕ) → n ≤ most → nat_lt most n ≡ false
+not_above most n h = go (nat_lt most n) refl
+  where
+    go : (b : Bool) → nat_lt most n ≡ b → nat_lt most n ≡ false
+    go false e = e
+    go true e = absurd (grind (arith, nat_tests))
+
+-- a vector whose components are no larger fails no test
+pub none_above : (what : What) (n most : ℕ) (p : Spot) → n ≤ most → AreAtMost p n → first_above what most p ≡ None
+unfolding first_above first_of
+none_above what n most p more h =
+    let x = not_above most (unsigned_abs p.x) (omega (arith, more, h.x.size)) in
+    let y = not_above most (unsigned_abs p.y) (omega (arith, more, h.y.size)) in
+    let z = not_above most (unsigned_abs p.z) (omega (arith, more, h.z.size)) in
+    let halt : Axis → ℤ → Bool → Option Halting = λ axis value b. if b then Some (record { what = what; axis = axis; value = value }) else None in
+    λ i. option_or (halt X p.x (x i)) (option_or (halt Y p.y (y i)) (option_or (halt Z p.z (z i)) None))
+
+-- a velocity that moves no further than a side leads there
+pub near_arrives : (side : ℕ) (v : Spot) → AreAtMost (each (λ c. rounded c (pos velocity_unit)) v) side
+    → arrived side v ≡ Ok (record { v = v; d = each (λ c. rounded c (pos velocity_unit)) v })
+near_arrives side v h =
+    let move = each (λ c. rounded c (pos velocity_unit)) v in
+    λ i. unless (none_above Far side side move (omega arith) h i) (record { v = v; d = move })
+
+-- where neither the speed nor the turn is too large, a push leads where its new velocity does
+pub slow_arrives : (side : ℕ) (v e b : Spot) (kick turn : Multiplier) → AreAtMost (plus v (each (λ c. scaled c kick) e)) (2 ^ 26)
+    → AreAtMost (each (λ c. scaled c turn) b) (2 ^ 20)
+    → pushed side v e b kick turn
+    ≡ arrived side (plus (turned (plus v (each (λ c. scaled c kick) e)) (each (λ c. scaled c turn) b)) (each (λ c. scaled c kick) e))
+unfolding pushed
+slow_arrives side v e b kick turn slow weak =
+    let half_kick = each (λ c. scaled c kick) e in
+    let kicked = plus v half_kick in
+    let turn_by = each (λ c. scaled c turn) b in
+    let new_v = plus (turned kicked turn_by) half_kick in
+    let move = each (λ c. rounded c (pos velocity_unit)) new_v in
+    let speed = none_above Speed (2 ^ 26) (2 ^ 40) kicked (omega arith) slow in
+    let turned_by = none_above Turn (2 ^ 20) (2 ^ 24) turn_by (omega arith) weak in
+    λ i. unless (option_or (speed i) (option_or (turned_by i) (first_above Far side move))) (record { v = new_v; d = move })

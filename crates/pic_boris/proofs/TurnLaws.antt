@@ -1,7 +1,8 @@
 -- The two turns, component by component: what the code computes of them, and how large they are.
-use Rattle.std.proofs.Common.{◌≡◌, ◌^◌, ◌∙◌, arith}
+use Rattle.std.proofs.Common.{◌≡◌, ℕ, ◌+◌, ◌*◌, ◌^◌, ◌≤◌, ◌∙◌, unsigned_abs, arith}
 use Rattle.std.proofs.Math.IntN.{ℤ, pos, ◌+ℤ◌, ◌-ℤ◌, ◌*ℤ◌}
-use Rattle.std.proofs.lemmas.Int.{ints, to_z-of_z}
+use Rattle.std.proofs.Math.Nat.{le_trans}
+use Rattle.std.proofs.lemmas.Int.{ints, unsigned_abs-mul, to_z-of_z}
 use mir.Syntax.{w128}
 use mir.Val.{SFits, to_z, of_z}
 use Rattle.pic_num.specs.Push.{cross, half_turned}
@@ -9,26 +10,30 @@ use Rattle.pic_num.specs.Rounding.{rounded}
 use Rattle.pic_num.specs.Sizes.{IsAtMost}
 use Rattle.pic_num.specs.Space.{Spot, AreAtMost}
 use Rattle.pic_num.proofs.RoundingLaws.{rounded-size}
-use Rattle.pic_num.proofs.SizeLaws.{codes, code_is, code_at_most}
+use Rattle.pic_num.proofs.SizeLaws.{codes, code_is, times_at_most, at_most_more}
 
-minor_size : (a b c d : ℤ) → IsAtMost a (2 ^ 40) → IsAtMost b (2 ^ 24) → IsAtMost c (2 ^ 40) → IsAtMost d (2 ^ 24)
-    → IsAtMost (a *ℤ b -ℤ c *ℤ d) (2 ^ 65)
-minor_size a b c d h k l m = code_at_most (search codes depth 10) tt
+minor_size : (a b c d : ℤ) (n m : ℕ) → IsAtMost a n → IsAtMost b m → IsAtMost c n → IsAtMost d m → unsigned_abs (a *ℤ b -ℤ c *ℤ d) ≤ 2 * (n * m)
+minor_size a b c d n m h k l o =
+    let p : unsigned_abs (a *ℤ b) ≤ n * m = rw (unsigned_abs-mul a b) (times_at_most (unsigned_abs a) (unsigned_abs b) n m h.size k.size) in
+    let q : unsigned_abs (c *ℤ d) ≤ n * m = rw (unsigned_abs-mul c d) (times_at_most (unsigned_abs c) (unsigned_abs d) n m l.size o.size) in
+    omega (arith, ints, p, q)
 
-part_size : (v w : ℤ) → IsAtMost v (2 ^ 40) → IsAtMost w (2 ^ 65) → IsAtMost (v +ℤ rounded w (pos (2 ^ 20))) (2 ^ 46)
-part_size v w h k =
-    let w_size = k.size in
-    let v_size = h.size in
-    let turn = rounded-size w (pos (2 ^ 20)) (2 ^ 45) (2 ^ 20) (omega arith) (omega (arith, ints)) (omega (arith, w_size)) in
-    record { size = omega (arith, ints, v_size, turn) }
+part_size : (v w : ℤ) (n k : ℕ) → IsAtMost v n → unsigned_abs w ≤ k * 2 ^ 20 → IsAtMost (v +ℤ rounded w (pos (2 ^ 20))) (n + k)
+part_size v w n k h few =
+    let turn = rounded-size w (pos (2 ^ 20)) k (2 ^ 20) (omega arith) (omega (arith, ints)) few in
+    record { size = omega (arith, ints, h.size, turn) }
 
-pub half_turned_size : (v t : Spot) → AreAtMost v (2 ^ 40) → AreAtMost t (2 ^ 24) → AreAtMost (half_turned v t) (2 ^ 46)
+-- a velocity of at most n, turned by at most m, is at most n and k
+pub half_turned_size : (v t : Spot) (n m k : ℕ) → AreAtMost v n → AreAtMost t m → 2 * (n * m) ≤ k * 2 ^ 20 → AreAtMost (half_turned v t) (n + k)
 unfolding half_turned cross
-half_turned_size v t h k = record {
-  x = part_size v.x (v.y *ℤ t.z -ℤ v.z *ℤ t.y) h.x (minor_size v.y t.z v.z t.y h.y k.z h.z k.y);
-  y = part_size v.y (v.z *ℤ t.x -ℤ v.x *ℤ t.z) h.y (minor_size v.z t.x v.x t.z h.z k.x h.x k.z);
-  z = part_size v.z (v.x *ℤ t.y -ℤ v.y *ℤ t.x) h.z (minor_size v.x t.y v.y t.x h.x k.y h.y k.x);
+half_turned_size v t n m k h l few = record {
+  x = part_size v.x (v.y *ℤ t.z -ℤ v.z *ℤ t.y) n k h.x (le_trans (minor_size v.y t.z v.z t.y n m h.y l.z h.z l.y) few);
+  y = part_size v.y (v.z *ℤ t.x -ℤ v.x *ℤ t.z) n k h.y (le_trans (minor_size v.z t.x v.x t.z n m h.z l.x h.x l.z) few);
+  z = part_size v.z (v.x *ℤ t.y -ℤ v.y *ℤ t.x) n k h.z (le_trans (minor_size v.x t.y v.y t.x n m h.x l.y h.y l.x) few);
 }
+
+pub more_at_most : (v : Spot) (n m : ℕ) → n ≤ m → AreAtMost v n → AreAtMost v m
+more_at_most v n m more h = record { x = at_most_more v.x n m more h.x; y = at_most_more v.y n m more h.y; z = at_most_more v.z n m more h.z }
 
 -- a component of the first turn, with its casts left out
 pub half_part_is : (v w r : ℤ) → IsAtMost v (2 ^ 40) → IsAtMost w (2 ^ 71) → SFits w128 r

@@ -1,2 +1,4 @@
 pub mod Vector
+pub mod Narrow
+pub mod Velocity
 pub mod Pushes

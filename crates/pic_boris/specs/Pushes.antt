@@ -1,13 +1,13 @@
 -- What the push answers, against its definition (Boris 1970; Birdsall and Langdon, "Plasma Physics
 -- via Computer Simulation", chapter 4; the units and the tests are this project's profile).
-use Rattle.std.specs.Prelude.{◌≡◌, pos, Result, Ok, Err}
+use Rattle.std.specs.Prelude.{◌≡◌, ℕ, pos, Result, Ok, Err}
 use Rattle.pic_num.specs.declared.motion.What.TheVariants.{Far}
 use Rattle.pic_num.specs.Push.{Shift, Halting, each, first_above, unless}
 use Rattle.pic_num.specs.Rounding.{rounded}
 use Rattle.pic_num.specs.Space.{Spot, spot, AreAtMost}
 use Rattle.pic_boris.specs.declared.moved.Moved.{Moved}
 use Rattle.pic_boris.specs.declared.halt.Halt.{Halt}
-use Rattle.pic_boris.specs.Vector.{IsKeptVelocity}
+use Rattle.pic_boris.specs.Velocity.{velocity_unit, IsKeptVelocity}
 
 -- what an answer of the code stands for
 abbrev pub shift_of : Moved → Shift
@@ -21,13 +21,13 @@ abbrev pub Pushes : Result Shift Halting → Result Moved Halt → Type 0
 Pushes told (Ok m) = told ≡ Ok (shift_of m)
 Pushes told (Err h) = told ≡ Err (halting_of h)
 
--- where a velocity leads in a cell of 4096 sub-cells, or that it leads too far
-abbrev pub arrived : Spot → Result Shift Halting
-arrived v =
-    let move = each (λ c. rounded c (pos 4096)) v in
-    unless (first_above Far 4096 move) (record { v = v; d = move })
+-- where a velocity leads, or that it leads further than the side of a cell
+abbrev pub arrived : ℕ → Spot → Result Shift Halting
+arrived side v =
+    let move = each (λ c. rounded c (pos velocity_unit)) v in
+    unless (first_above Far side move) (record { v = v; d = move })
 
 -- the new velocity and the move of a push stay within their limits
-pub record IsInLimits (m : Moved) : Type 0 where
-  pub v : IsKeptVelocity (spot m.v)
-  pub d : AreAtMost (spot m.d) 4096
+pub record IsInLimits (side : ℕ) (m : Moved) : Type 0 where
+  pub v : IsKeptVelocity side (spot m.v)
+  pub d : AreAtMost (spot m.d) side

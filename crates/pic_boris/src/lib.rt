@@ -3,6 +3,9 @@
 
 mod halt;
 mod moved;
+mod narrow;
+mod narrow_pushing;
+mod narrow_turning;
 mod pushing;
 #[cfg(test)]
 mod tests;

@@ -1,26 +1,25 @@
 //! The push: half of the kick, the turn, the other half, and where the new velocity leads.
 
-ghost use Rattle.std.specs.Prelude.{◌≡◌, pos, ◌^◌, ◌-◌, IfOk};
+ghost use Rattle.std.specs.Prelude.{◌≡◌, pos, ◌^◌, ◌-◌, Ok, IfOk, IfSome};
 ghost use Rattle.pic_num.specs.Push.{pushed, each};
 ghost use Rattle.pic_num.specs.Rounding.{rounded};
 ghost use Rattle.pic_num.specs.Space.{spot, AreAtMost};
-ghost use Rattle.pic_boris.specs.Pushes.{Pushes, IsInLimits, arrived};
+ghost use Rattle.pic_boris.specs.Pushes.{Pushes, IsInLimits, shift_of, arrived};
 ghost use Rattle.pic_boris.specs.Vector.{spot_of};
+ghost use Rattle.pic_boris.specs.Velocity.{velocity_unit};
 
 use crate::halt::{Halt, halt_above};
 use crate::moved::Moved;
+use crate::narrow_pushing::push_narrow;
 use crate::turning::turned_by;
 use crate::vector::{Vector, rounded_shift, scaled_by, sum_of, widened};
-use pic_num::{Axis, Mult, What};
+use pic_num::{Mult, Sub, What};
 
 /// The most that a velocity may be in size after half of the kick, in 1/4096 sub-cell per step.
 const MOST_SPEED: u128 = 1099511627776;
 
 /// The most that a turn may be in size, in units of 1 / 2^20.
 const MOST_TURN: u128 = 16777216;
-
-/// The sub-cells along a cell, and the furthest move along an axis.
-const SIDE: u128 = 4096;
 
 /// A velocity is in 1 / 2^12 sub-cell per step.
 const SPEED_BITS: u32 = 12;
@@ -31,12 +30,37 @@ const SPEED_BITS: u32 = 12;
 ///
 /// # Errors
 /// `Speed` where a component of the velocity after half of the kick is above 2^40 in size, else
-/// `Turn` where one of the turn is above 2^24, else `Far` where one of the move is above 4096; each
-/// on the first axis of x, y, z that fails.
+/// `Turn` where one of the turn is above 2^24, else `Far` where one of the move is above the side of
+/// a cell; each on the first axis of x, y, z that fails.
+pub fn push(
+    sub: Sub,
+    v: [i32; 3],
+    e: [i64; 3],
+    b: [i64; 3],
+    kick: Mult,
+    turn: Mult,
+) -> Result<Moved, Halt>
+    ensures pushed { Pushes (pushed sub (spot v) (spot e) (spot b) kick turn) result }
+    ensures bounds { IfOk result (IsInLimits sub) }
+{
+    match push_narrow(sub, v, e, b, kick, turn) {
+        Some(moved) => Ok(moved),
+        None => push_wide(sub, v, e, b, kick, turn),
+    }
+}
+
+/// The push in 128 bits, of any numbers.
 #[tactic(auto, unfolding(pic_num::specs::Push::pushed))]
-pub fn push(v: [i32; 3], e: [i64; 3], b: [i64; 3], kick: Mult, turn: Mult) -> Result<Moved, Halt>
-    ensures pushed { Pushes (pushed 4096 (spot v) (spot e) (spot b) kick turn) result }
-    ensures bounds { IfOk result IsInLimits }
+fn push_wide(
+    sub: Sub,
+    v: [i32; 3],
+    e: [i64; 3],
+    b: [i64; 3],
+    kick: Mult,
+    turn: Mult,
+) -> Result<Moved, Halt>
+    ensures pushed { Pushes (pushed sub (spot v) (spot e) (spot b) kick turn) result }
+    ensures bounds { IfOk result (IsInLimits sub) }
 {
     let half_kick = scaled_by(e, kick);
     let kicked = sum_of(widened(v), half_kick);
@@ -44,17 +68,18 @@ pub fn push(v: [i32; 3], e: [i64; 3], b: [i64; 3], kick: Mult, turn: Mult) -> Re
     let turn_by = scaled_by(b, turn);
     halt_above(What::Turn, MOST_TURN, turn_by)?;
     let turned = turned_by(kicked, turn_by);
-    arrived(sum_of(turned, half_kick))
+    arrived(sub, sum_of(turned, half_kick))
 }
 
 /// Where a new velocity leads: the velocity and its move, unless that is too far.
-fn arrived(v: Vector) -> Result<Moved, Halt>
+fn arrived(sub: Sub, v: Vector) -> Result<Moved, Halt>
     requires { AreAtMost (spot_of v) (2 ^ 122) }
-    ensures pushed { Pushes (arrived (spot_of v)) result }
-    ensures bounds { IfOk result IsInLimits }
+    ensures pushed { Pushes (arrived sub (spot_of v)) result }
+    ensures bounds { IfOk result (IsInLimits sub) }
 {
     let d = move_of(v);
-    halt_above(What::Far, SIDE, d)?;
+    let side = sub.side();
+    halt_above(What::Far, u128::from(side), d)?;
     Ok(Moved {
         v: narrowed(v),
         d: narrowed(d),
@@ -64,7 +89,7 @@ fn arrived(v: Vector) -> Result<Moved, Halt>
 /// The move of a velocity, in sub-cells.
 fn move_of(v: Vector) -> Vector
     requires { AreAtMost (spot_of v) (2 ^ 122) }
-    ensures { spot_of result ≡ each (λ c. rounded c (pos 4096)) (spot_of v) }
+    ensures { spot_of result ≡ each (λ c. rounded c (pos velocity_unit)) (spot_of v) }
 {
     Vector {
         x: rounded_shift(v.x, SPEED_BITS),

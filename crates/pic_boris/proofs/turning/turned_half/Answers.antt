@@ -1,10 +1,10 @@
-use Rattle.std.proofs.Common.{◌≡◌, pos, ◌^◌, to_z, of_z, subst, sym, ◌∙◌}
+use Rattle.std.proofs.Common.{◌≡◌, pos, ◌^◌, to_z, of_z, subst, sym, ◌∙◌, ◌+◌, arith}
 use mir.Syntax.{w128}
 use Rattle.pic_num.specs.Push.{half_turned, each, plus}
 use Rattle.pic_num.specs.Rounding.{rounded}
 use Rattle.pic_num.specs.Space.{Spot, AreAtMost}
 use Rattle.pic_boris.specs.Vector.{spot_of}
-use Rattle.pic_boris.proofs.TurnLaws.{half_part_is, half_turned_size}
+use Rattle.pic_boris.proofs.TurnLaws.{half_part_is, half_turned_size, more_at_most}
 use Rattle.pic_boris.proofs.turning.turned_half.Goals as goal
 
 pub returns : goal.returns
@@ -27,4 +27,8 @@ returns c =
     } in
     let parts : told ≡ plus v (each (λ c. rounded c (pos (2 ^ 20))) w) = λ i. record { x = x i; y = y i; z = z i } in
     let is : told ≡ half_turned v t = parts ∙ (λ i. plus v (each (λ c. rounded c (pos (2 ^ 20))) (c.cross_of-w.ensures.value i))) in
-    record { value = is; size = subst (λ (p : Spot). AreAtMost p (2 ^ 46)) (sym is) (half_turned_size v t c.requires.v_small c.requires.t_small) }
+    record {
+      value = is;
+      size = subst (λ (p : Spot). AreAtMost p (2 ^ 46)) (sym is) (more_at_most (half_turned v t) (2 ^ 40 + 2 ^ 45) (2 ^ 46) (omega arith)
+          (half_turned_size v t (2 ^ 40) (2 ^ 24) (2 ^ 45) c.requires.v_small c.requires.t_small (omega arith)));
+    }

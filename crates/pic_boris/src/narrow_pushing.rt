@@ -1,0 +1,126 @@
+//! The push in 64 bits, of numbers that are small.
+
+ghost use Rattle.std.specs.Prelude.{◌≡◌, pos, ◌^◌, ◌-◌, ◌≤◌, Ok, IfSome, IsTrue};
+ghost use Rattle.pic_num.specs.Push.{pushed, each};
+ghost use Rattle.pic_num.specs.Rounding.{rounded};
+ghost use Rattle.pic_num.specs.Sizes.{IsAtMost};
+ghost use Rattle.pic_num.specs.Space.{spot, AreAtMost};
+ghost use Rattle.pic_boris.specs.Narrow.{narrow_spot};
+ghost use Rattle.pic_boris.specs.Pushes.{IsInLimits, shift_of, arrived};
+ghost use Rattle.pic_boris.specs.Velocity.{velocity_unit};
+
+use crate::moved::Moved;
+use crate::narrow::{Narrow, narrow_of, narrow_shift, narrow_sum, scaled_narrow};
+use crate::narrow_turning::narrow_turned;
+use pic_num::{Mult, Sub};
+
+/// The most that a gathered value may be in size here.
+const MOST_FIELD: u64 = 268435456;
+
+/// The most that a multiplier's power may be here.
+const MOST_POWER: u32 = 60;
+
+/// The most that a velocity may be in size here, after half of the kick.
+const MOST_SPEED: u64 = 67108864;
+
+/// The most that a turn may be in size here.
+const MOST_TURN: u64 = 1048576;
+
+/// A velocity is in 1 / 2^12 sub-cell per step.
+const SPEED_BITS: u32 = 12;
+
+/// Whether three numbers are at most `most` in size.
+#[inline(always)]
+fn are_at_most(x: i64, y: i64, z: i64, most: u64) -> bool
+    ensures x { IsTrue result → IsAtMost x most }
+    ensures y { IsTrue result → IsAtMost y most }
+    ensures z { IsTrue result → IsAtMost z most }
+{
+    let more = x.unsigned_abs().max(y.unsigned_abs());
+    more.max(z.unsigned_abs()) <= most
+}
+
+/// Whether a gathered field and its multiplier are small.
+#[inline(always)]
+fn is_weak(field: [i64; 3], by: Mult) -> bool
+    ensures field { IsTrue result → AreAtMost (spot field) (2 ^ 28) }
+    ensures by { IsTrue result → by.k ≤ 60 }
+{
+    let [x, y, z] = field;
+    by.k() <= MOST_POWER && are_at_most(x, y, z, MOST_FIELD)
+}
+
+/// Whether a vector is at most `most` in size.
+#[inline(always)]
+fn is_small(p: Narrow, most: u64) -> bool
+    ensures { IsTrue result → AreAtMost (narrow_spot p) most }
+{
+    are_at_most(p.x, p.y, p.z, most)
+}
+
+/// The move of a velocity, in sub-cells.
+#[inline(always)]
+fn narrow_move(v: Narrow) -> Narrow
+    requires { AreAtMost (narrow_spot v) (2 ^ 61) }
+    ensures { narrow_spot result ≡ each (λ c. rounded c (pos velocity_unit)) (narrow_spot v) }
+{
+    Narrow {
+        x: narrow_shift(v.x, SPEED_BITS),
+        y: narrow_shift(v.y, SPEED_BITS),
+        z: narrow_shift(v.z, SPEED_BITS),
+    }
+}
+
+/// The vector as numbers of the type that particles keep.
+#[inline(always)]
+fn kept(p: Narrow) -> [i32; 3]
+    requires { AreAtMost (narrow_spot p) (2 ^ 31 - 1) }
+    ensures { spot result ≡ narrow_spot p }
+{
+    [p.x as i32, p.y as i32, p.z as i32]
+}
+
+/// Where a new velocity leads, if that isn't too far.
+#[inline(always)]
+fn arrive_narrow(sub: Sub, v: Narrow) -> Option<Moved>
+    requires { AreAtMost (narrow_spot v) (2 ^ 61) }
+    ensures pushed { IfSome result (λ m. arrived sub (narrow_spot v) ≡ Ok (shift_of m)) }
+    ensures bounds { IfSome result (IsInLimits sub) }
+{
+    let d = narrow_move(v);
+    let side = sub.side();
+    if !is_small(d, u64::from(side)) {
+        return None;
+    }
+    Some(Moved {
+        v: kept(v),
+        d: kept(d),
+    })
+}
+
+/// The push, where its numbers are small and the move isn't too far; else `None`, which says
+/// nothing.
+#[inline(always)]
+pub(crate) fn push_narrow(
+    sub: Sub,
+    v: [i32; 3],
+    e: [i64; 3],
+    b: [i64; 3],
+    kick: Mult,
+    turn: Mult,
+) -> Option<Moved>
+    ensures pushed { IfSome result
+        (λ m. pushed sub (spot v) (spot e) (spot b) kick turn ≡ Ok (shift_of m)) }
+    ensures bounds { IfSome result (IsInLimits sub) }
+{
+    if !is_weak(e, kick) || !is_weak(b, turn) {
+        return None;
+    }
+    let half_kick = scaled_narrow(e, kick);
+    let kicked = narrow_sum(narrow_of(v), half_kick);
+    let turn_by = scaled_narrow(b, turn);
+    if !is_small(kicked, MOST_SPEED) || !is_small(turn_by, MOST_TURN) {
+        return None;
+    }
+    arrive_narrow(sub, narrow_sum(narrow_turned(kicked, turn_by), half_kick))
+}
