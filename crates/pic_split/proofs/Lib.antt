@@ -8,3 +8,4 @@ pub mod ImageLaws
 pub mod ImageHatLaws
 pub mod ContinuityLaws
 pub mod InOrderLaws
+pub mod LoneLaws

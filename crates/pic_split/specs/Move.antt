@@ -1,5 +1,5 @@
 -- The moves of a step, and the pieces that they are cut into.
-use Rattle.std.specs.Prelude.{ℕ, ◌*◌, List}
+use Rattle.std.specs.Prelude.{ℕ, ◌*◌, List, [], ◌∷◌, Option, Some, None}
 use Rattle.pic_num.specs.Push.{plus}
 use Rattle.pic_num.specs.Rounding.{residue}
 use Rattle.pic_num.specs.Sizes.{IsAtMost}
@@ -25,3 +25,9 @@ wrapped_point side n p = record {
 abbrev pub LeadBy : ℕ → Spot → Spot → List Piece → Type 0
 LeadBy side p d pieces =
     Leads side (floor_cell side p) (floor_cell side (plus p d)) p pieces (plus p d)
+
+-- the piece of a path that has one alone
+abbrev pub lone_piece : List Piece → Option Piece
+lone_piece [] = None
+lone_piece (s ∷ []) = Some s
+lone_piece (s ∷ t ∷ ss) = None

@@ -8,11 +8,8 @@ ghost use Rattle.pic_grid.specs.Path.{Crossing, floor_of, floor_cell, crossing, 
 ghost use Rattle.pic_split.specs.Face.{IsSmall};
 ghost use Rattle.pic_split.specs.Move.{IsMove};
 
-use pic_num::Axis;
+use pic_num::{Axis, Sub};
 use std::marker::Model;
-
-/// The side of a cell, in sub-cells.
-pub(crate) const SIDE: i32 = 4096;
 
 /// Where a path passes a face between two cells: the axis, the signed way to the face along it, and
 /// the path's whole move along it, in sub-cells.
@@ -32,47 +29,50 @@ impl Model for Face {
 }
 
 /// The cell of a coordinate.
-#[tactic(auto, unfolding(pic_grid::specs::Path::floor_of))]
-pub(crate) fn cell_of(p: i32) -> i32
-    requires { IsAtMost p (2 ^ 30 + 4095) }
-    ensures value { result ≡ floor_of 4096 p }
-    ensures size { IsAtMost result (2 ^ 18 + 1) }
+#[inline(always)]
+pub(crate) fn cell_of(sub: Sub, p: i32) -> i32
+    requires { IsAtMost p (2 ^ 30 + 2 ^ 14) }
+    ensures value { result ≡ floor_of sub p }
+    ensures size { IsAtMost result (2 ^ 30 + 2 ^ 15) }
 {
-    p.div_euclid(SIDE)
+    let _side = sub.side();
+    p >> sub.bits()
 }
 
 /// A coordinate of the end of the path from `p` by `d`.
+#[inline(always)]
 pub(crate) fn end_on(p: i32, d: i32) -> i32
     requires start { IsAtMost p (2 ^ 30 - 1) }
-    requires small { IsAtMost d 4096 }
+    requires small { IsAtMost d (2 ^ 14) }
     ensures value { result ≡ p +ℤ d }
-    ensures size { IsAtMost result (2 ^ 30 + 4095) }
+    ensures size { IsAtMost result (2 ^ 30 + 2 ^ 14) }
 {
     p + d
 }
 
 /// The signed way from `p` to the lower face of a cell.
-fn way_to(cell: i32, p: i32) -> i32
-    requires cell { IsAtMost cell (2 ^ 18 + 1) }
-    requires near { IsAtMost (cell *ℤ pos 4096 -ℤ p) 4096 }
-    ensures { result ≡ cell *ℤ pos 4096 -ℤ p }
+fn way_to(side: u32, cell: i32, p: i32) -> i32
+    requires near { IsAtMost (cell *ℤ pos side -ℤ p) (2 ^ 14) }
+    requires side { side ≤ 2 ^ 14 }
+    ensures { result ≡ cell *ℤ pos side -ℤ p }
 {
-    cell * SIDE - p
+    (i64::from(cell) * i64::from(side) - i64::from(p)) as i32
 }
 
 /// Where the path along `axis` from `p` by `d` passes a face, if it does: at the face between the
 /// cells of its start and end.
-pub(crate) fn face_on(axis: Axis, p: i32, d: i32) -> Option<Face>
+pub(crate) fn face_on(sub: Sub, axis: Axis, p: i32, d: i32) -> Option<Face>
     requires start { IsAtMost p (2 ^ 30 - 1) }
-    requires small { IsAtMost d 4096 }
-    ensures { result ≡ crossing 4096 axis p d }
+    requires small { IsAtMost d sub }
+    ensures { result ≡ crossing sub axis p d }
 {
-    let before = cell_of(p);
-    let after = cell_of(end_on(p, d));
+    let side = sub.side();
+    let before = cell_of(sub, p);
+    let after = cell_of(sub, end_on(p, d));
     if before == after {
         return None;
     }
-    let way = way_to(before.max(after), p);
+    let way = way_to(side, before.max(after), p);
     Some(Face {
         axis,
         way,
@@ -83,10 +83,10 @@ pub(crate) fn face_on(axis: Axis, p: i32, d: i32) -> Option<Face>
 /// `n / d` with its fraction dropped towards 0.
 #[tactic(auto, unfolding(pic_num::specs::Rounding::truncated))]
 fn quotient(n: i32, d: i32) -> i32
-    requires n_in_range { IsAtMost n (2 ^ 24) }
+    requires n_in_range { IsAtMost n (2 ^ 28) }
     requires d_not_zero { 0 < unsigned_abs d }
     ensures value { result ≡ truncated n d }
-    ensures size { IsAtMost result (2 ^ 24) }
+    ensures size { IsAtMost result (2 ^ 28) }
 {
     n / d
 }
@@ -94,9 +94,9 @@ fn quotient(n: i32, d: i32) -> i32
 /// A coordinate of the path from `p` by `d` at a face, rounded towards the start.
 #[tactic(auto, unfolding(pic_grid::specs::Path::break_on))]
 fn break_on(face: Face, p: i32, d: i32) -> i32
-    requires face { IsSmall 4096 face }
+    requires face { IsSmall (2 ^ 14) face }
     requires start { IsAtMost p (2 ^ 30) }
-    requires small { IsAtMost d 4096 }
+    requires small { IsAtMost d (2 ^ 14) }
     ensures { result ≡ break_on face p d }
 {
     let n = face.way * d;
@@ -105,9 +105,9 @@ fn break_on(face: Face, p: i32, d: i32) -> i32
 
 /// The point at which the path from `p` by `d` passes a face.
 pub(crate) fn break_at(face: Face, p: [i32; 3], d: [i32; 3]) -> [i32; 3]
-    requires face { IsSmall 4096 face }
+    requires face { IsSmall (2 ^ 14) face }
     requires start { AreAtMost (spot p) (2 ^ 30) }
-    requires small { IsMove 4096 (spot d) }
+    requires small { IsMove (2 ^ 14) (spot d) }
     ensures { spot result ≡ break_at (spot p) (spot d) face }
 {
     let [x, y, z] = p;
@@ -122,7 +122,7 @@ pub(crate) fn break_at(face: Face, p: [i32; 3], d: [i32; 3]) -> [i32; 3]
 /// A cell's index on `axis` after a face.
 #[tactic(auto, unfolding(pic_grid::specs::Path::step_on))]
 fn step_on(axis: Axis, face: Face, index: i32) -> i32
-    requires { IsAtMost index (2 ^ 20) }
+    requires { IsAtMost index (2 ^ 30 + 2 ^ 16) }
     ensures value { result ≡ step_on axis face index }
     ensures size { (n : ℕ) → IsAtMost index n → IsAtMost result (n + 1) }
 {
@@ -134,7 +134,7 @@ fn step_on(axis: Axis, face: Face, index: i32) -> i32
 
 /// The cell after a face.
 pub(crate) fn cell_after(face: Face, cell: [i32; 3]) -> [i32; 3]
-    requires { AreAtMost (spot cell) (2 ^ 20) }
+    requires { AreAtMost (spot cell) (2 ^ 30 + 2 ^ 16) }
     ensures value { spot result ≡ cell_after face (spot cell) }
     ensures size { (n : ℕ) → AreAtMost (spot cell) n → AreAtMost (spot result) (n + 1) }
 {

@@ -1,36 +1,92 @@
 //! The path of a particle, cut at the faces that it passes.
 
-ghost use Rattle.std.specs.Prelude.{◌≡◌, ℕ, pos, ◌+◌, ◌-◌, ◌^◌, ◌<◌, length, slice_index, EachIndex};
+ghost use Rattle.std.specs.Prelude.{
+  ◌≡◌,
+  ℕ,
+  pos,
+  ◌+◌,
+  ◌-◌,
+  ◌^◌,
+  ◌<◌,
+  length,
+  slice_index,
+  EachIndex,
+  IsTrue,
+  IfSome,
+  ◌↔◌,
+};
 ghost use Rattle.std.specs.List.{All};
 ghost use Rattle.pic_num.specs.Push.{plus};
 ghost use Rattle.pic_num.specs.Space.{triple, spot, AreAtMost};
 ghost use Rattle.pic_grid.specs.Path.{point_of, floor_cell, walk, path};
+ghost use Rattle.pic_grid.specs.Segment.{IsInCell};
 ghost use Rattle.pic_split.specs.Faces.{list_of};
 ghost use Rattle.pic_split.specs.Face.{IsSmall};
-ghost use Rattle.pic_split.specs.Move.{IsMove, LeadBy};
+ghost use Rattle.pic_split.specs.Move.{IsMove, LeadBy, lone_piece};
 
 use crate::face::{break_at, cell_after, cell_of, end_on};
 use crate::faces::{Faces, crossings};
 use pic_grid::{Segment, Track};
-use pic_num::unwrapped;
+use pic_num::{Sub, unwrapped};
 
 /// The path of a particle from `p0` by the move `d`, cut where it passes from one cell into
-/// another; in sub-cells, a cell's side being 4096. Nothing is wrapped.
-pub fn split(p0: [u32; 3], d: [i32; 3]) -> Track
+/// another; in sub-cells, of which a cell's side has `sub`. Nothing is wrapped.
+pub fn split(sub: Sub, p0: [u32; 3], d: [i32; 3]) -> Track
     requires start { EachIndex p0 (λ k. slice_index p0 k < 2 ^ 30) }
-    requires small { IsMove 4096 (spot d) }
-    ensures value { result ≡ path 4096 (point_of (triple p0)) (spot d) }
-    ensures leads { LeadBy 4096 (point_of (triple p0)) (spot d) result }
+    requires small { IsMove sub (spot d) }
+    ensures value { result ≡ path sub (point_of (triple p0)) (spot d) }
+    ensures leads { LeadBy sub (point_of (triple p0)) (spot d) result }
 {
     let p = unwrapped(p0);
-    cut(p, d, end_of(p, d), cell(p), crossings(p, d))
+    let _side = sub.side();
+    cut(p, d, end_of(p, d), cell(sub, p), crossings(sub, p, d))
+}
+
+/// The path of a particle from `p0` by the move `d` where it stays in one cell, and `None` where it
+/// is cut.
+#[inline(always)]
+pub fn lone(sub: Sub, p0: [u32; 3], d: [i32; 3]) -> Option<Segment>
+    requires start { EachIndex p0 (λ k. slice_index p0 k < 2 ^ 30) }
+    requires small { IsMove sub (spot d) }
+    ensures piece { result ≡ lone_piece (path sub (point_of (triple p0)) (spot d)) }
+    ensures inside { IfSome result (IsInCell sub) }
+{
+    let p = unwrapped(p0);
+    let _side = sub.side();
+    let end = end_of(p, d);
+    let start_cell = cell(sub, p);
+    if !is_same(start_cell, cell(sub, end)) {
+        return None;
+    }
+    Some(segment(p, end, start_cell))
+}
+
+/// Whether two cells are one.
+#[inline(always)]
+fn is_same(a: [i32; 3], b: [i32; 3]) -> bool
+    ensures { IsTrue result ↔ (spot a ≡ spot b) }
+{
+    let [x, y, z] = a;
+    let [u, v, w] = b;
+    if x != u {
+        return false;
+    }
+    if y != v {
+        return false;
+    }
+    if z != w {
+        return false;
+    }
+    true
 }
 
 /// The end of the path from `p` by `d`.
+#[inline(always)]
 fn end_of(p: [i32; 3], d: [i32; 3]) -> [i32; 3]
     requires start { AreAtMost (spot p) (2 ^ 30 - 1) }
-    requires small { IsMove 4096 (spot d) }
-    ensures { spot result ≡ plus (spot p) (spot d) }
+    requires small { IsMove (2 ^ 14) (spot d) }
+    ensures value { spot result ≡ plus (spot p) (spot d) }
+    ensures size { AreAtMost (spot result) (2 ^ 30 + 2 ^ 14) }
 {
     let [x, y, z] = p;
     let [dx, dy, dz] = d;
@@ -38,13 +94,14 @@ fn end_of(p: [i32; 3], d: [i32; 3]) -> [i32; 3]
 }
 
 /// The cell of a point.
-fn cell(p: [i32; 3]) -> [i32; 3]
-    requires { AreAtMost (spot p) (2 ^ 30 - 1) }
-    ensures value { spot result ≡ floor_cell 4096 (spot p) }
-    ensures size { AreAtMost (spot result) (2 ^ 18 + 1) }
+#[inline(always)]
+fn cell(sub: Sub, p: [i32; 3]) -> [i32; 3]
+    requires { AreAtMost (spot p) (2 ^ 30 + 2 ^ 14) }
+    ensures value { spot result ≡ floor_cell sub (spot p) }
+    ensures size { AreAtMost (spot result) (2 ^ 30 + 2 ^ 15) }
 {
     let [x, y, z] = p;
-    [cell_of(x), cell_of(y), cell_of(z)]
+    [cell_of(sub, x), cell_of(sub, y), cell_of(sub, z)]
 }
 
 /// A piece of the path.
@@ -58,10 +115,10 @@ fn segment(from: [i32; 3], to: [i32; 3], cell: [i32; 3]) -> Segment
 #[tactic(auto, unfolding(pic_grid::specs::Path::walk))]
 fn cut(p: [i32; 3], d: [i32; 3], end: [i32; 3], cell: [i32; 3], faces: Faces) -> Track
     requires start { AreAtMost (spot p) (2 ^ 30 - 1) }
-    requires small { IsMove 4096 (spot d) }
+    requires small { IsMove (2 ^ 14) (spot d) }
     requires end { spot end ≡ plus (spot p) (spot d) }
-    requires cell { AreAtMost (spot cell) (2 ^ 18 + 1) }
-    requires faces { All (IsSmall 4096) (list_of faces) }
+    requires cell { AreAtMost (spot cell) (2 ^ 30 + 2 ^ 15) }
+    requires faces { All (IsSmall (2 ^ 14)) (list_of faces) }
     ensures { result ≡ walk (spot p) (spot d) (spot p) (spot cell) (list_of faces) }
 {
     match faces {
@@ -105,11 +162,11 @@ mod tests {
     use std::process::Abort;
 
     /// The path from `p0` by `d` has these pieces.
-    fn expect_path(rt: &impl Abort, p0: [u32; 3], d: [i32; 3], pieces: &[Segment])
+    fn expect_path(rt: &impl Abort, sub: Sub, p0: [u32; 3], d: [i32; 3], pieces: &[Segment])
         requires start { EachIndex p0 (λ k. slice_index p0 k < 2 ^ 30) }
-        requires small { IsMove 4096 (spot d) }
+        requires small { IsMove sub (spot d) }
     {
-        let track = split(p0, d);
+        let track = split(sub, p0, d);
         let segments = track.segments();
         assert_eq!(rt; segments.len(), pieces.len());
         for (segment, piece) in segments.iter().zip(pieces) {
@@ -125,12 +182,12 @@ mod tests {
             segment([4000, 100, 0], [4096, 101, 0], [0, 0, 0]),
             segment([4096, 101, 0], [4200, 103, 0], [1, 0, 0]),
         ];
-        expect_path(&rt, [4000, 100, 0], [200, 3, 0], &up);
+        expect_path(&rt, Sub::of_bits(12), [4000, 100, 0], [200, 3, 0], &up);
         let down = [
             segment([4000, 100, 0], [4096, 99, 0], [0, 0, 0]),
             segment([4096, 99, 0], [4200, 97, 0], [1, 0, 0]),
         ];
-        expect_path(&rt, [4000, 100, 0], [200, -3, 0], &down);
+        expect_path(&rt, Sub::of_bits(12), [4000, 100, 0], [200, -3, 0], &down);
     }
 
     #[test]
@@ -142,20 +199,26 @@ mod tests {
             segment(corner, corner, [1, 1, 0]),
             segment(corner, [4102; 3], [1, 1, 1]),
         ];
-        expect_path(&rt, [4090; 3], [12; 3], &through);
+        expect_path(&rt, Sub::of_bits(12), [4090; 3], [12; 3], &through);
         let back = [
             segment(corner, corner, [1, 1, 1]),
             segment(corner, corner, [0, 1, 1]),
             segment(corner, corner, [0, 0, 1]),
             segment(corner, [4095; 3], [0, 0, 0]),
         ];
-        expect_path(&rt, [4096; 3], [-1; 3], &back);
+        expect_path(&rt, Sub::of_bits(12), [4096; 3], [-1; 3], &back);
         let y_first = [
             segment([4000, 4090, 0], [4060, 4096, 0], [0, 0, 0]),
             segment([4060, 4096, 0], [4096, 4099, 0], [0, 1, 0]),
             segment([4096, 4099, 0], [4200, 4110, 0], [1, 1, 0]),
         ];
-        expect_path(&rt, [4000, 4090, 0], [200, 20, 0], &y_first);
+        expect_path(
+            &rt,
+            Sub::of_bits(12),
+            [4000, 4090, 0],
+            [200, 20, 0],
+            &y_first,
+        );
     }
 
     #[test]
@@ -164,12 +227,18 @@ mod tests {
             segment([8192, 0, 0], [8192, 0, 0], [2, 0, 0]),
             segment([8192, 0, 0], [4096, 0, 0], [1, 0, 0]),
         ];
-        expect_path(&rt, [8192, 0, 0], [-4096, 0, 0], &at_start);
+        expect_path(
+            &rt,
+            Sub::of_bits(12),
+            [8192, 0, 0],
+            [-4096, 0, 0],
+            &at_start,
+        );
         let at_end = [
             segment([0, 0, 0], [4096, 0, 0], [0, 0, 0]),
             segment([4096, 0, 0], [4096, 0, 0], [1, 0, 0]),
         ];
-        expect_path(&rt, [0, 0, 0], [4096, 0, 0], &at_end);
+        expect_path(&rt, Sub::of_bits(12), [0, 0, 0], [4096, 0, 0], &at_end);
     }
 
     #[test]
@@ -178,12 +247,40 @@ mod tests {
             segment([100, 0, 0], [0, 0, 0], [0, 0, 0]),
             segment([0, 0, 0], [-100, 0, 0], [-1, 0, 0]),
         ];
-        expect_path(&rt, [100, 0, 0], [-200, 0, 0], &out);
+        expect_path(&rt, Sub::of_bits(12), [100, 0, 0], [-200, 0, 0], &out);
     }
 
     #[test]
     fn a_particle_that_stands_still_has_one_segment(rt: HostRuntime) {
         let still = [segment([4096, 5, 9000], [4096, 5, 9000], [1, 0, 2])];
-        expect_path(&rt, [4096, 5, 9000], [0, 0, 0], &still);
+        expect_path(&rt, Sub::of_bits(12), [4096, 5, 9000], [0, 0, 0], &still);
+    }
+
+    #[test]
+    fn a_cell_ends_at_its_side(rt: HostRuntime) {
+        let short = [
+            segment([250, 255, 0], [253, 256, 0], [0, 0, 0]),
+            segment([253, 256, 0], [256, 257, 0], [0, 1, 0]),
+            segment([256, 257, 0], [262, 259, 0], [1, 1, 0]),
+        ];
+        expect_path(&rt, Sub::of_bits(8), [250, 255, 0], [12, 4, 0], &short);
+        let long = [
+            segment([16380, 0, 16383], [16384, 0, 16382], [0, 0, 0]),
+            segment([16384, 0, 16382], [16388, 0, 16381], [1, 0, 0]),
+        ];
+        expect_path(&rt, Sub::of_bits(14), [16380, 0, 16383], [8, 0, -2], &long);
+    }
+
+    #[test]
+    fn a_path_in_one_cell_is_one_piece(rt: HostRuntime) {
+        let whole = lone(Sub::of_bits(8), [250, 0, 511], [5, 0, -255]);
+        assert!(rt; whole.is_some());
+        if let Some(piece) = whole {
+            assert_eq!(rt; piece.from, [250, 0, 511]);
+            assert_eq!(rt; piece.to, [255, 0, 256]);
+            assert_eq!(rt; piece.cell, [0, 0, 1]);
+        }
+        assert!(rt; lone(Sub::of_bits(8), [250, 0, 511], [6, 0, 0]).is_none());
+        assert!(rt; lone(Sub::of_bits(14), [250, 0, 511], [6, 0, 0]).is_some());
     }
 }

@@ -1,21 +1,21 @@
-use Rattle.std.proofs.Common.{◌≡◌, ℤ, pos, ◌+◌, ◌^◌, ◌+ℤ◌, ◌-ℤ◌, ◌*ℤ◌, ◌∙◌, ap, sym, subst, Some, to_z, of_z, w32, SFits, arith}
+use Rattle.std.proofs.Common.{◌≡◌, ℕ, ℤ, pos, ◌+◌, ◌^◌, ◌+ℤ◌, ◌-ℤ◌, ◌*ℤ◌, ◌∙◌, ap, sym, subst, Some, to_z, of_z, w32, SFits, arith}
 use Rattle.std.proofs.lemmas.Int.{to_z-of_z}
 use Rattle.std.specs.Int.{int_max}
 use Rattle.pic_num.specs.Sizes.{IsAtMost}
 use Rattle.pic_grid.specs.Path.{floor_of}
-use Rattle.pic_split.proofs.CrossingLaws.{crossing_none, crossing_some, way_size, max_size}
+use Rattle.pic_split.proofs.CrossingLaws.{crossing_none, crossing_some, way_size}
 use Rattle.pic_split.proofs.face.face_on.Goals as goal
 use Rattle.pic_split.proofs.face.face_on.Goals.{After-cell_of-after, After-max}
 
 -- what the code's cells are, without its casts
 
-before_is : (p c : ℤ) → SFits w32 p → c ≡ floor_of 4096 (to_z w32 (of_z w32 p)) → c ≡ floor_of 4096 p
-before_is p c p_fits is = is ∙ ap (floor_of 4096) (to_z-of_z w32 p p_fits)
+before_is : (side : ℕ) (p c : ℤ) → SFits w32 p → c ≡ floor_of side (to_z w32 (of_z w32 p)) → c ≡ floor_of side p
+before_is side p c p_fits is = is ∙ ap (floor_of side) (to_z-of_z w32 p p_fits)
 
-after_is : (p d e c : ℤ) → SFits w32 p → SFits w32 d → SFits w32 e → e ≡ to_z w32 (of_z w32 p) +ℤ to_z w32 (of_z w32 d)
-    → c ≡ floor_of 4096 (to_z w32 (of_z w32 e)) → c ≡ floor_of 4096 (p +ℤ d)
-after_is p d e c p_fits d_fits e_fits end is =
-    is ∙ ap (floor_of 4096) (to_z-of_z w32 e e_fits ∙ end ∙ (λ i. to_z-of_z w32 p p_fits i +ℤ to_z-of_z w32 d d_fits i))
+after_is : (side : ℕ) (p d e c : ℤ) → SFits w32 p → SFits w32 d → SFits w32 e → e ≡ to_z w32 (of_z w32 p) +ℤ to_z w32 (of_z w32 d)
+    → c ≡ floor_of side (to_z w32 (of_z w32 e)) → c ≡ floor_of side (p +ℤ d)
+after_is side p d e c p_fits d_fits e_fits end is =
+    is ∙ ap (floor_of side) (to_z-of_z w32 e e_fits ∙ end ∙ (λ i. to_z-of_z w32 p p_fits i +ℤ to_z-of_z w32 d d_fits i))
 
 same_bits : (b a : ℤ) → SFits w32 b → SFits w32 a → of_z w32 b ≡ of_z w32 a → b ≡ a
 same_bits b a b_fits a_fits same = sym (to_z-of_z w32 b b_fits) ∙ ap (to_z w32) same ∙ to_z-of_z w32 a a_fits
@@ -29,8 +29,8 @@ larger_is b a m b_fits a_fits m_fits is =
 record Cells (c : After-cell_of-after) : Type 0 where
   before_fits : SFits w32 c.cell_of-before.result
   after_fits : SFits w32 c.cell_of-after.result
-  before : c.cell_of-before.result ≡ floor_of 4096 c.args.p
-  after : c.cell_of-after.result ≡ floor_of 4096 (c.args.p +ℤ c.args.d)
+  before : c.cell_of-before.result ≡ floor_of c.args.sub c.args.p
+  after : c.cell_of-after.result ≡ floor_of c.args.sub (c.args.p +ℤ c.args.d)
 
 cells : (c : After-cell_of-after) → Cells c
 cells c =
@@ -39,8 +39,8 @@ cells c =
     record {
       before_fits = record { sfits = c.cell_of-before.type_inv };
       after_fits = record { sfits = c.cell_of-after.type_inv };
-      before = before_is p c.cell_of-before.result c.ranges.p c.cell_of-before.ensures.value;
-      after = after_is p d c.end_on.result c.cell_of-after.result c.ranges.p c.ranges.d
+      before = before_is c.args.sub p c.cell_of-before.result c.ranges.p c.cell_of-before.ensures.value;
+      after = after_is c.args.sub p d c.end_on.result c.cell_of-after.result c.ranges.p c.ranges.d
           (record { sfits = c.end_on.type_inv }) c.end_on.ensures.value c.cell_of-after.ensures.value;
     }
 
@@ -48,13 +48,13 @@ pub returns-then-before-after : goal.returns-then-before-after
 returns-then-before-after c =
     let two = cells (goal.at.returns-then-before-after c).After-cell_of-after in
     let same = same_bits c.cell_of-before.result c.cell_of-after.result two.before_fits two.after_fits c.if-before-after.true in
-    crossing_none 4096 c.args.axis c.args.p c.args.d (sym two.before ∙ same ∙ two.after)
+    crossing_none c.args.sub c.args.axis c.args.p c.args.d (sym two.before ∙ same ∙ two.after)
 
 -- where they differ, the face is at the larger
 record Face (c : After-max) : Type 0 where
   larger : to_z w32 (of_z w32 c.max.result) ≡ int_max c.cell_of-before.result c.cell_of-after.result
-  place : to_z w32 (of_z w32 c.max.result) ≡ int_max (floor_of 4096 c.args.p) (floor_of 4096 (c.args.p +ℤ c.args.d))
-  differ : floor_of 4096 c.args.p ≡ floor_of 4096 (c.args.p +ℤ c.args.d) → ⊥
+  place : to_z w32 (of_z w32 c.max.result) ≡ int_max (floor_of c.args.sub c.args.p) (floor_of c.args.sub (c.args.p +ℤ c.args.d))
+  differ : floor_of c.args.sub c.args.p ≡ floor_of c.args.sub (c.args.p +ℤ c.args.d) → ⊥
 
 face : (c : After-max) → Face c
 face c =
@@ -67,23 +67,24 @@ face c =
       differ = λ same. c.if-before-after.false (ap (of_z w32) (two.before ∙ same ∙ sym two.after));
     }
 
-pub way_to-way-requires-clause-cell : goal.way_to-way-requires-clause-cell
-way_to-way-requires-clause-cell c =
-    subst (λ (z : ℤ). IsAtMost z (2 ^ 18 + 1)) (sym (face c).larger)
-    (max_size c.cell_of-before.result c.cell_of-after.result (2 ^ 18 + 1) c.cell_of-before.ensures.size c.cell_of-after.ensures.size)
+-- the side that the code passes on
+side_is : (c : After-max) → pos c.side-side.result ≡ pos c.args.sub
+side_is c = ap pos c.side-side.ensures.value
 
 pub way_to-way-requires-clause-near : goal.way_to-way-requires-clause-near
 way_to-way-requires-clause-near c =
     let at = face c in
     let p_is = to_z-of_z w32 c.args.p c.ranges.p in
-    subst (λ (z : ℤ). IsAtMost z 4096) (sym (λ i. at.place i *ℤ pos 4096 -ℤ p_is i))
-    (way_size 4096 c.args.axis c.args.p c.args.d (omega arith) c.requires.small.size at.differ)
+    let near = way_size c.args.sub c.args.axis c.args.p c.args.d (omega (arith, c.side-side.ensures.least)) c.requires.small.size at.differ in
+    let few = c.side-side.ensures.most in
+    subst (λ (z : ℤ). IsAtMost z (2 ^ 14)) (sym (λ i. at.place i *ℤ side_is c i -ℤ p_is i))
+    (record { size = omega (arith, near.size, few) })
 
 pub returns : goal.returns
 returns c =
     let at = face (goal.at.returns c).After-max in
     let p_is = to_z-of_z w32 c.args.p c.ranges.p in
     let d_is = to_z-of_z w32 c.args.d c.ranges.d in
-    let way = to_z-of_z w32 c.way_to-way.result (record { sfits = c.way_to-way.type_inv }) ∙ c.way_to-way.ensures ∙ (λ i. at.place i *ℤ pos 4096 -ℤ p_is i) in
+    let way = to_z-of_z w32 c.way_to-way.result (record { sfits = c.way_to-way.type_inv }) ∙ c.way_to-way.ensures ∙ (λ i. at.place i *ℤ side_is (goal.at.returns c).After-max i -ℤ p_is i) in
     (λ i. Some (record { axis = c.args.axis; way = way i; whole = d_is i }))
-    ∙ crossing_some 4096 c.args.axis c.args.p c.args.d at.differ
+    ∙ crossing_some c.args.sub c.args.axis c.args.p c.args.d at.differ

@@ -1,17 +1,18 @@
-use Rattle.std.proofs.Common.{◌≡◌, ◌∙◌, subst, sym, arith, List}
+use Rattle.std.proofs.Common.{◌≡◌, ◌^◌, ◌∙◌, subst, sym, arith, List}
 use Rattle.std.specs.List.{All}
 use Rattle.pic_num.specs.Space.{triple, spot}
 use Rattle.pic_grid.specs.Path.{Crossing, point_of, floor_cell, crossings, walk, path}
 use Rattle.pic_split.specs.Face.{IsSmall}
 use Rattle.pic_split.specs.Move.{LeadBy}
-use Rattle.pic_split.proofs.CrossingLaws.{crossings_small}
+use Rattle.pic_split.proofs.CrossingLaws.{crossings_small, all_small_more, move_more}
 use Rattle.pic_split.proofs.LeadLaws.{path_leads}
 use Rattle.pic_split.proofs.paths.split.Goals as goal
 
 pub cut-requires-clause-faces : goal.cut-requires-clause-faces
 cut-requires-clause-faces c =
-    subst (λ (ks : List Crossing). All (IsSmall 4096) ks) (sym c.crossings.ensures)
-    (crossings_small 4096 (spot c.unwrapped-p.result) (spot c.args.d) (omega arith) c.requires.small)
+    subst (λ (ks : List Crossing). All (IsSmall (2 ^ 14)) ks) (sym c.crossings.ensures)
+    (all_small_more c.args.sub (2 ^ 14) (crossings c.args.sub (spot c.unwrapped-p.result) (spot c.args.d)) c.side-side.ensures.most
+    (crossings_small c.args.sub (spot c.unwrapped-p.result) (spot c.args.d) (omega (arith, c.side-side.ensures.least)) c.requires.small))
 
 pub returns-clause-value : goal.returns-clause-value
 unfolding path
@@ -19,17 +20,23 @@ returns-clause-value c =
     let d = spot c.args.d in
     c.cut.ensures
     ∙ (λ i. walk (spot c.unwrapped-p.result) d (spot c.unwrapped-p.result) (c.cell.ensures.value i) (c.crossings.ensures i))
-    ∙ (λ i. walk (c.unwrapped-p.ensures i) d (c.unwrapped-p.ensures i) (floor_cell 4096 (c.unwrapped-p.ensures i))
-    (crossings 4096 (c.unwrapped-p.ensures i) d))
+    ∙ (λ i. walk (c.unwrapped-p.ensures i) d (c.unwrapped-p.ensures i) (floor_cell c.args.sub (c.unwrapped-p.ensures i))
+    (crossings c.args.sub (c.unwrapped-p.ensures i) d))
 
 pub returns-clause-leads : goal.returns-clause-leads
 unfolding path
 returns-clause-leads c =
     let p = point_of (triple c.args.p0) in
     let d = spot c.args.d in
-    let is : c.cut.result ≡ path 4096 p d = c.cut.ensures
+    let is : c.cut.result ≡ path c.args.sub p d = c.cut.ensures
     ∙ (λ i. walk (spot c.unwrapped-p.result) d (spot c.unwrapped-p.result) (c.cell.ensures.value i) (c.crossings.ensures i))
-    ∙ (λ i. walk (c.unwrapped-p.ensures i) d (c.unwrapped-p.ensures i) (floor_cell 4096 (c.unwrapped-p.ensures i))
-    (crossings 4096 (c.unwrapped-p.ensures i) d)) in
-    subst (LeadBy 4096 p d) (sym is)
-    (path_leads 4096 p d (omega arith) c.requires.small)
+    ∙ (λ i. walk (c.unwrapped-p.ensures i) d (c.unwrapped-p.ensures i) (floor_cell c.args.sub (c.unwrapped-p.ensures i))
+    (crossings c.args.sub (c.unwrapped-p.ensures i) d)) in
+    subst (LeadBy c.args.sub p d) (sym is)
+    (path_leads c.args.sub p d (omega (arith, c.side-side.ensures.least)) c.requires.small)
+
+pub end_of-requires-clause-small : goal.end_of-requires-clause-small
+end_of-requires-clause-small c = move_more c.args.sub (2 ^ 14) (spot c.args.d) c.side-side.ensures.most c.requires.small
+
+pub cut-requires-clause-small : goal.cut-requires-clause-small
+cut-requires-clause-small c = move_more c.args.sub (2 ^ 14) (spot c.args.d) c.side-side.ensures.most c.requires.small
