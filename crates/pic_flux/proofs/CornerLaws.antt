@@ -14,7 +14,8 @@ use Rattle.pic_grid.specs.Segment.{Piece, IsInCell}
 use Rattle.pic_grid.specs.Block.{BlockValues, IsShaped}
 use Rattle.pic_grid.proofs.TwoHatLaws.{only}
 use Rattle.pic_flux.specs.Adds.{Adds}
-use Rattle.pic_flux.specs.Corners.{same_axis, at_edge, on_axis, both, raised, face_weight, corner}
+use Rattle.pic_grid.specs.Rows.{lifted}
+use Rattle.pic_flux.specs.Corners.{same_axis, at_edge, at_corners, on_axis, both, face_weight, corner}
 use Rattle.pic_grid.proofs.BlockLaws.{shaped_twice}
 use Rattle.pic_flux.proofs.AddsLaws.{adds_same, adds_twice}
 use Rattle.pic_flux.proofs.OnlyLaws.{one, if_is, face_hats}
@@ -60,25 +61,25 @@ edge_is Z p v c =
 
 -- and at the cells up from p along the next axis, along the third, and along both
 edge_second : (axis : Axis) (p : Spot) (v : ℤ) (c : Spot)
-    → at_edge axis (raised (next_axis axis) p) v axis c
+    → at_edge axis (lifted (next_axis axis) p) v axis c
     ≡ level axis p c *ℤ (above (next_axis axis) p c *ℤ (level (next_axis (next_axis axis)) p c *ℤ v))
-edge_second X p v c = edge_is X (raised Y p) v c
-edge_second Y p v c = edge_is Y (raised Z p) v c
-edge_second Z p v c = edge_is Z (raised X p) v c
+edge_second X p v c = edge_is X (lifted Y p) v c
+edge_second Y p v c = edge_is Y (lifted Z p) v c
+edge_second Z p v c = edge_is Z (lifted X p) v c
 
 edge_third : (axis : Axis) (p : Spot) (v : ℤ) (c : Spot)
-    → at_edge axis (raised (next_axis (next_axis axis)) p) v axis c
+    → at_edge axis (lifted (next_axis (next_axis axis)) p) v axis c
     ≡ level axis p c *ℤ (level (next_axis axis) p c *ℤ (above (next_axis (next_axis axis)) p c *ℤ v))
-edge_third X p v c = edge_is X (raised Z p) v c
-edge_third Y p v c = edge_is Y (raised X p) v c
-edge_third Z p v c = edge_is Z (raised Y p) v c
+edge_third X p v c = edge_is X (lifted Z p) v c
+edge_third Y p v c = edge_is Y (lifted X p) v c
+edge_third Z p v c = edge_is Z (lifted Y p) v c
 
 edge_far : (axis : Axis) (p : Spot) (v : ℤ) (c : Spot)
-    → at_edge axis (raised (next_axis axis) (raised (next_axis (next_axis axis)) p)) v axis c
+    → at_edge axis (lifted (next_axis axis) (lifted (next_axis (next_axis axis)) p)) v axis c
     ≡ level axis p c *ℤ (above (next_axis axis) p c *ℤ (above (next_axis (next_axis axis)) p c *ℤ v))
-edge_far X p v c = edge_is X (raised Y (raised Z p)) v c
-edge_far Y p v c = edge_is Y (raised Z (raised X p)) v c
-edge_far Z p v c = edge_is Z (raised X (raised Y p)) v c
+edge_far X p v c = edge_is X (lifted Y (lifted Z p)) v c
+edge_far Y p v c = edge_is Y (lifted Z (lifted X p)) v c
+edge_far Z p v c = edge_is Z (lifted X (lifted Y p)) v c
 
 -- Simpson's form is linear in the weights of each axis, so the flux for weights that are chosen is the
 -- sum of four
@@ -105,13 +106,9 @@ flux_is side q s axis c =
     (edge_weight side (next_axis (next_axis axis)) s.from c) (edge_weight side (next_axis (next_axis axis)) s.to c))
 
 -- the four edges of a piece's cell along an axis, with what its corners say
-abbrev corners : ℕ → ℤ → Piece → Axis → Axis → Spot → ℤ
+abbrev pub corners : ℕ → ℤ → Piece → Axis → Axis → Spot → ℤ
 corners side q s axis =
-    let second = next_axis axis in
-    let high = raised (next_axis second) s.cell in
-    both
-    (both (at_edge axis s.cell (corner side q s axis false false)) (at_edge axis (raised second s.cell) (corner side q s axis true false)))
-    (both (at_edge axis high (corner side q s axis false true)) (at_edge axis (raised second high) (corner side q s axis true true)))
+    at_corners axis s.cell (corner side q s axis false false) (corner side q s axis true false) (corner side q s axis false true) (corner side q s axis true true)
 
 -- at an edge along that axis
 corners_here : (side : ℕ) (q : ℤ) (s : Piece) (axis : Axis) (c : Spot) → IsInCell side s → corners side q s axis axis c ≡ flux side q s axis c
@@ -151,22 +148,14 @@ corners_are side q s Y inside Z c = refl
 corners_are side q s Z inside X c = refl
 corners_are side q s Z inside Y c = refl
 
--- so two pairs of deposits add the flux along an axis
-pub axis_added : (side : ℕ) (q : ℤ) (s : Piece) (axis : Axis) (old mid now : BlockValues) → IsInCell side s → IsShaped old mid
-    → Adds old mid (both (at_edge axis s.cell (corner side q s axis false false))
-    (at_edge axis (raised (next_axis axis) s.cell) (corner side q s axis true false)))
-    → Adds mid now (both (at_edge axis (raised (next_axis (next_axis axis)) s.cell) (corner side q s axis false true))
-    (at_edge axis (raised (next_axis axis) (raised (next_axis (next_axis axis)) s.cell)) (corner side q s axis true true)))
-    → Adds old now (on_axis axis (flux side q s axis))
-axis_added side q s axis old mid now inside shape first second =
-    let low = both (at_edge axis s.cell (corner side q s axis false false)) (at_edge axis (raised (next_axis axis) s.cell) (corner side q s axis true false)) in
-    let high = both (at_edge axis (raised (next_axis (next_axis axis)) s.cell) (corner side q s axis false true))
-    (at_edge axis (raised (next_axis axis) (raised (next_axis (next_axis axis)) s.cell)) (corner side q s axis true true)) in
-    adds_same old now (corners side q s axis) (on_axis axis (flux side q s axis)) (corners_are side q s axis inside)
-    (adds_twice old mid now low high shape first second)
+-- so values at a cell's corners that are its corners' flux add the flux along the axis
+pub axis_added : (side : ℕ) (q : ℤ) (s : Piece) (axis : Axis) (old now : BlockValues) → IsInCell side s
+    → Adds old now (corners side q s axis) → Adds old now (on_axis axis (flux side q s axis))
+axis_added side q s axis old now inside added =
+    adds_same old now (corners side q s axis) (on_axis axis (flux side q s axis)) (corners_are side q s axis inside) added
 
 -- the next cell up along the third axis lies level with the cell along the next
-pub along_raised : (axis : Axis) (p : Spot) → along (next_axis axis) (raised (next_axis (next_axis axis)) p) ≡ along (next_axis axis) p
+pub along_raised : (axis : Axis) (p : Spot) → along (next_axis axis) (lifted (next_axis (next_axis axis)) p) ≡ along (next_axis axis) p
 along_raised X p = refl
 along_raised Y p = refl
 along_raised Z p = refl

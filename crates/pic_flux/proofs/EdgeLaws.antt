@@ -1,5 +1,5 @@
 -- A value at one edge: what it is, and what a write of it does to a block.
-use Rattle.std.proofs.Common.{◌≡◌, ◌≢◌, ℕ, ◌⊎◌, ◌+◌, ◌≤◌, Bool, true, false, ◌&&◌, unsigned_abs, inl, inr, refl, ap, sym, subst, ◌∙◌, arith}
+use Rattle.std.proofs.Common.{◌≡◌, ◌≢◌, ℕ, ◌⊎◌, ◌+◌, ◌*◌, ◌^◌, ◌≤◌, length, Bool, true, false, ◌&&◌, unsigned_abs, inl, inr, refl, ap, sym, subst, ◌∙◌, arith}
 use Rattle.std.proofs.Math.IntN.{ℤ, pos, ◌+ℤ◌}
 use Rattle.std.specs.Prelude.{if◌then◌else◌}
 use Rattle.std.proofs.lemmas.Bool.{cases_Bool, and_parts, and_from, both_ways}
@@ -7,14 +7,21 @@ use Rattle.std.proofs.lemmas.Int.{ints}
 use Rattle.pic_num.specs.declared.axis.Axis.{Axis}
 use Rattle.pic_num.specs.declared.axis.Axis.TheVariants.{X, Y, Z}
 use Rattle.pic_num.specs.Sizes.{IsAtMost}
-use Rattle.pic_num.specs.Space.{Spot}
+use Rattle.pic_num.specs.Space.{Spot, next_axis}
+use Rattle.pic_num.proofs.SizeLaws.{codes, code_fits}
+use Rattle.std.proofs.lemmas.List.{length-set}
+use mir.Syntax.{w128}
+use mir.Val.{SFits}
 use Rattle.pic_num.proofs.ProductLaws.{plus_none}
 use Rattle.pic_grid.specs.Path.{same_int}
-use Rattle.pic_grid.specs.Cells.{place_of}
-use Rattle.pic_grid.specs.Block.{BlockValues, InZone, inner_of, edge_at, with_edge}
-use Rattle.pic_grid.proofs.BlockLaws.{edge_same, edge_at-other}
+use Rattle.pic_grid.specs.Cells.{count_of, place_of}
+use Rattle.pic_grid.specs.Rows.{added, lifted, four_added}
+use Rattle.pic_grid.proofs.FourLaws.{between_second, between_third}
+use Rattle.pic_grid.specs.Block.{BlockValues, InZone, IsShaped, AllAtMost, inner_of, edge_at, with_edge}
+use Rattle.pic_grid.proofs.BlockLaws.{edge_same, edge_at-same, edge_at-other}
+use Rattle.pic_flux.proofs.AddsLaws.{adds_twice}
 use Rattle.pic_flux.specs.Adds.{Adds}
-use Rattle.pic_flux.specs.Corners.{same_axis, same_spot, at_edge, both}
+use Rattle.pic_flux.specs.Corners.{same_axis, same_spot, at_edge, at_corners, both}
 use Rattle.pic_grid.proofs.PathLaws.{same_int-same, same_int-true}
 
 same_axis-true : (a b : Axis) → same_axis a b ≡ true → a ≡ b
@@ -129,3 +136,44 @@ missed b axis there v outside = record { at = λ a c z. go a c z (cases_Bool (is
         absurd (outside (subst (λ (d : Spot). InZone b.low b.size d) same.1 z))
     go a c z (inr e) =
         plus_none (edge_at b a c) (at_edge axis there v a c) (at_edge-elsewhere axis there v a c e)
+
+-- values added to the four edges along an axis round a cell, one after the other
+shape_of : (b : BlockValues) (a : Axis) (c : Spot) (v : ℤ) → IsShaped b (added b a c v)
+shape_of b a c v = record { low = refl; size = refl }
+
+length_of : (b : BlockValues) (a : Axis) (c : Spot) (v : ℤ) → length b.values ≡ 3 * count_of b.size → length (added b a c v).values ≡ 3 * count_of b.size
+length_of b a c v long = length-set b.values (place_of b.size a (inner_of b.low c)) (edge_at b a c +ℤ v) ∙ long
+
+one_added : (b : BlockValues) (a : Axis) (c : Spot) (v : ℤ) → InZone b.low b.size c → length b.values ≡ 3 * count_of b.size
+    → Adds b (added b a c v) (at_edge a c v)
+one_added b a c v inside long =
+    added_at b (added b a c v) a c v (edge_at b a c +ℤ v) inside refl (edge_at-same b a c (edge_at b a c +ℤ v) inside long)
+
+pub four_adds : (b : BlockValues) (a : Axis) (c : Spot) (v w x y : ℤ) → length b.values ≡ 3 * count_of b.size → InZone b.low b.size c
+    → InZone b.low b.size (lifted (next_axis a) (lifted (next_axis (next_axis a)) c))
+    → Adds b (four_added b a c v w x y) (at_corners a c v w x y)
+four_adds b a c v w x y long here there =
+    let second = next_axis a in
+    let third = next_axis second in
+    let one = added b a c v in
+    let two = added one a (lifted second c) w in
+    let three = added two a (lifted third c) x in
+    let four = added three a (lifted second (lifted third c)) y in
+    let one_long = length_of b a c v long in
+    let two_long = length_of one a (lifted second c) w one_long in
+    let three_long = length_of two a (lifted third c) x two_long in
+    let first = one_added b a c v here long in
+    let up_second = one_added one a (lifted second c) w (between_second b.low b.size a c here there) one_long in
+    let up_third = one_added two a (lifted third c) x (between_third b.low b.size a c here there) two_long in
+    let up_both = one_added three a (lifted second (lifted third c)) y there three_long in
+    adds_twice b two four (both (at_edge a c v) (at_edge a (lifted second c) w))
+    (both (at_edge a (lifted third c) x) (at_edge a (lifted second (lifted third c)) y)) (record { low = refl; size = refl })
+    (adds_twice b one two (at_edge a c v) (at_edge a (lifted second c) w) (shape_of b a c v) first up_second)
+    (adds_twice two three four (at_edge a (lifted third c) x) (at_edge a (lifted second (lifted third c)) y)
+    (shape_of two a (lifted third c) x) up_third up_both)
+
+-- each of the four sums fits
+pub sum_fits : (b : BlockValues) (a : Axis) (c : Spot) (v : ℤ) → AllAtMost (2 ^ 110) b → IsAtMost v (2 ^ 80) → InZone b.low b.size c
+    → SFits w128 (edge_at b a c +ℤ v)
+sum_fits b a c v room small inside =
+    let held = room.at_most a c inside in code_fits w128 (search codes depth 8) tt

@@ -3,3 +3,4 @@ pub mod OnlyLaws
 pub mod EdgeLaws
 pub mod CornerLaws
 pub mod FluxSizeLaws
+pub mod WeightLaws

@@ -1,11 +1,9 @@
 -- Tests of places of the line as numbers, and the weights of a point of a cell by the cell's faces.
-use Rattle.std.proofs.Common.{◌≡◌, ℕ, Bool, true, false, unsigned_abs, ◌∙◌, arith}
+use Rattle.std.proofs.Common.{◌≡◌, ℕ, Bool, true, false, ◌∙◌, arith}
 use Rattle.std.proofs.Math.IntN.{ℤ, pos, ◌+ℤ◌, ◌-ℤ◌, ◌*ℤ◌}
 use Rattle.std.specs.Prelude.{if◌then◌else◌}
-use Rattle.std.proofs.lemmas.Bool.{eqb-true, eq-eqb}
 use Rattle.std.proofs.lemmas.Int.{ints}
 use Rattle.pic_grid.specs.Hat.{hat}
-use Rattle.pic_grid.specs.Path.{same_int}
 use Rattle.pic_grid.specs.Segment.{IsInside}
 use Rattle.pic_grid.proofs.TwoHatLaws.{only, two_hats}
 use Rattle.pic_flux.specs.Corners.{face_weight}

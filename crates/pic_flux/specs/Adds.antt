@@ -13,7 +13,7 @@ pub record Adds (old now : BlockValues) (f : Axis → Spot → ℤ) : Type 0 whe
 
 -- what every sum of flux stays below, in twelfths of a charge times a cubic sub-cell
 abbrev pub flux_limit : ℕ
-flux_limit = 2 ^ 75
+flux_limit = 2 ^ 83
 
 -- at every edge of the zone the value and what f gives there add up to less than that
 pub record SumsBelow (old : BlockValues) (f : Axis → Spot → ℤ) : Type 0 where

@@ -1,6 +1,6 @@
 //! The deposition of a segment's flux, and of a track's.
 
-ghost use Rattle.std.specs.Prelude.{ℕ, ◌*◌, ◌^◌, unsigned_abs, take};
+ghost use Rattle.std.specs.Prelude.{ℕ, ◌*◌, unsigned_abs, take};
 ghost use Rattle.std.specs.List.{All};
 ghost use Rattle.pic_grid.specs.Flux.{flux, path_flux};
 ghost use Rattle.pic_grid.specs.Segment.{IsInCell};
@@ -10,36 +10,37 @@ ghost use Rattle.pic_flux.specs.Adds.{Adds, SumsBelow, GrowsBy};
 
 use crate::edges::deposit_axis;
 use pic_grid::{Block, Segment, Track};
-use pic_num::Axis;
+use pic_num::{Axis, Sub};
 
 /// Adds the flux of the charge `q` on a segment to those of the twelve edges of its cell that lie,
 /// unwrapped, in the block's zone, and changes nothing else (Villasenor and Buneman, Comput. Phys.
 /// Commun. 69, 1992, 306). The unit is a twelfth of a charge times a cubic sub-cell. Both ends lie
-/// in the segment's closed cell, and the sums stay below 2^75.
-pub fn deposit(seg: &Segment, q: i32, to: &mut Block)
-    requires inside { IsInCell 4096 seg.now }
-    requires room { SumsBelow to.old (flux 4096 q seg.now) }
+/// in the segment's closed cell, and the sums stay below 2^83.
+pub fn deposit(sub: Sub, seg: &Segment, q: i32, to: &mut Block)
+    requires inside { IsInCell sub seg.now }
+    requires room { SumsBelow to.old (flux sub q seg.now) }
     ensures shape { IsShaped to.old to.new }
-    ensures values { Adds to.old to.new (flux 4096 q seg.now) }
-    ensures grows { GrowsBy (unsigned_abs q * (12 * 4096 ^ 3)) to.old to.new }
+    ensures values { Adds to.old to.new (flux sub q seg.now) }
+    ensures grows { GrowsBy (unsigned_abs q * sub * (12 * (sub * sub))) to.old to.new }
 {
     let charge = i64::from(q);
-    deposit_axis(seg, charge, Axis::X, to);
-    deposit_axis(seg, charge, Axis::Y, to);
-    deposit_axis(seg, charge, Axis::Z, to);
+    let _side = sub.side();
+    deposit_axis(sub, seg, charge, Axis::X, to);
+    deposit_axis(sub, seg, charge, Axis::Y, to);
+    deposit_axis(sub, seg, charge, Axis::Z, to);
 }
 
 /// Adds the flux of the charge `q` on all segments of a track, each as `deposit` does, and changes
 /// nothing else. What it adds at an edge is bounded by how far the track's segments go along it.
-pub fn deposit_track(track: &Track, q: i32, to: &mut Block)
-    requires inside { All (IsInCell 4096) track.now }
-    requires room { (k : ℕ) → SumsBelow to.old (path_flux 4096 q (take k track.now)) }
+pub fn deposit_track(sub: Sub, track: &Track, q: i32, to: &mut Block)
+    requires inside { All (IsInCell sub) track.now }
+    requires room { (k : ℕ) → SumsBelow to.old (path_flux sub q (take k track.now)) }
     ensures shape { IsShaped to.old to.new }
-    ensures values { Adds to.old to.new (path_flux 4096 q track.now) }
-    ensures grows { (m : ℕ) → GoAtMost m track.now → GrowsBy (unsigned_abs q * m * (12 * 4096 ^ 2)) to.old to.new }
+    ensures values { Adds to.old to.new (path_flux sub q track.now) }
+    ensures grows { (m : ℕ) → GoAtMost m track.now → GrowsBy (unsigned_abs q * m * (12 * (sub * sub))) to.old to.new }
 {
     let segments = track.segments();
     for seg in segments {
-        deposit(seg, q, to);
+        deposit(sub, seg, q, to);
     }
 }

@@ -1,5 +1,5 @@
-//! The deposition of a path's flux on the edges of a block. It is written once for all axes and
-//! corners, and inlined, so that each axis and corner has straight code of its own.
+//! The deposition of a path's flux on the edges of a block. It is written once for all axes, and
+//! inlined, so that each axis has straight code of its own.
 #![tactic(auto)]
 
 mod deposits;

@@ -1,6 +1,6 @@
 //! Worked rows of the deposition.
 
-ghost use Rattle.std.specs.Prelude.{◌^◌, IsTrue, IfOk};
+ghost use Rattle.std.specs.Prelude.{◌≡◌, ◌^◌, ◌≤◌, ◌+ℤ◌, ◌*ℤ◌, ◌≤ℤ◌, pos, IsTrue, IfOk};
 ghost use Rattle.pic_num.specs.Sizes.{IsAtMost};
 ghost use Rattle.pic_num.specs.Space.{along, spot, triple};
 ghost use Rattle.std.specs.List.{All};
@@ -10,7 +10,7 @@ ghost use Rattle.pic_grid.specs.Block.{AllAtMost, IsZone};
 use crate::weights::along;
 use crate::{deposit, deposit_track};
 use pic_grid::{Block, Segment, Track, Zone};
-use pic_num::{Axis, NoMemory};
+use pic_num::{Axis, NoMemory, Sub};
 use std::alloc::Global;
 use std::process::Abort;
 
@@ -32,53 +32,84 @@ fn zeros(alloc: Global, zone: Zone) -> Result<Block, NoMemory>
     Block::new(alloc, zone)
 }
 
-/// Whether the coordinate `p` lies in the closed cell `c`.
-fn is_inside(c: i32, p: i32) -> bool
-    ensures { IsTrue result → IsInside 4096 c p }
+/// The low face of the cell `c`.
+fn low_face(side: u32, c: i32) -> i64
+    requires { side ≤ 2 ^ 14 }
+    ensures value { result ≡ c *ℤ pos side }
+    ensures size { IsAtMost result (2 ^ 45) }
 {
-    let above = i64::from(p) - i64::from(c) * 4096;
-    if above < 0 {
+    i64::from(c) * i64::from(side)
+}
+
+/// Whether `p` is at least `low`, and at most a side more.
+fn is_between(p: i32, low: i64, side: u32) -> bool
+    requires low { IsAtMost low (2 ^ 45) }
+    requires side { side ≤ 2 ^ 14 }
+    ensures low { IsTrue result → low ≤ℤ p }
+    ensures high { IsTrue result → p ≤ℤ (low +ℤ pos side) }
+{
+    if i64::from(p) < low {
         return false;
     }
-    if above > 4096 {
+    if i64::from(p) > low + i64::from(side) {
         return false;
     }
     true
 }
 
+/// Whether the coordinate `p` lies in the closed cell `c`.
+fn is_inside(side: u32, c: i32, p: i32) -> bool
+    requires { side ≤ 2 ^ 14 }
+    ensures { IsTrue result → IsInside side c p }
+{
+    is_between(p, low_face(side, c), side)
+}
+
 /// Whether both ends of a segment lie in its closed cell, on one axis.
-fn is_inside_on(seg: &Segment, axis: Axis) -> bool
-    ensures from { IsTrue result → IsInside 4096 (along axis seg.now.cell) (along axis seg.now.from) }
-    ensures to { IsTrue result → IsInside 4096 (along axis seg.now.cell) (along axis seg.now.to) }
+fn is_inside_on(sub: Sub, seg: &Segment, axis: Axis) -> bool
+    ensures from { IsTrue result → IsInside sub (along axis seg.now.cell) (along axis seg.now.from) }
+    ensures to { IsTrue result → IsInside sub (along axis seg.now.cell) (along axis seg.now.to) }
 {
     let c = along(axis, seg.cell);
-    is_inside(c, along(axis, seg.from)) && is_inside(c, along(axis, seg.to))
+    let from = along(axis, seg.from);
+    let to = along(axis, seg.to);
+    let side = sub.side();
+    let from_inside = is_inside(side, c, from);
+    let to_inside = is_inside(side, c, to);
+    if !from_inside {
+        return false;
+    }
+    to_inside
 }
 
 /// Whether both ends of a segment lie in its closed cell.
-fn is_in_cell(seg: &Segment) -> bool
-    ensures { IsTrue result → IsInCell 4096 seg.now }
+fn is_in_cell(sub: Sub, seg: &Segment) -> bool
+    ensures { IsTrue result → IsInCell sub seg.now }
 {
-    is_inside_on(seg, Axis::X) && is_inside_on(seg, Axis::Y) && is_inside_on(seg, Axis::Z)
+    is_inside_on(sub, seg, Axis::X)
+        && is_inside_on(sub, seg, Axis::Y)
+        && is_inside_on(sub, seg, Axis::Z)
 }
 
 /// Deposits a segment of a deck's charge in a block of zeros.
-fn deposit_first(seg: &Segment, q: i32, to: &mut Block)
-    requires inside { IsInCell 4096 seg.now }
+fn deposit_first(sub: Sub, seg: &Segment, q: i32, to: &mut Block)
+    requires inside { IsInCell sub seg.now }
     requires charge { IsAtMost q (2 ^ 15) }
     requires zeros { AllAtMost 0 to.old }
 {
-    deposit(seg, q, to);
+    let _side = sub.side();
+    deposit(sub, seg, q, to);
 }
 
 /// Deposits a track of a deck's charge in a block of zeros.
-fn deposit_first_track(track: &Track, q: i32, to: &mut Block)
-    requires inside { All (IsInCell 4096) track.now }
+fn deposit_first_track(sub: Sub, track: &Track, q: i32, to: &mut Block)
+    requires inside { All (IsInCell sub) track.now }
     requires charge { IsAtMost q (2 ^ 15) }
     requires zeros { AllAtMost 0 to.old }
 {
     let _segments = track.segments();
-    deposit_track(track, q, to);
+    let _side = sub.side();
+    deposit_track(sub, track, q, to);
 }
 
 /// The value at an edge, or 0 outside the zone.
@@ -117,6 +148,7 @@ fn assert_holds(rt: &impl Abort, block: &Block, edges: &[Edge]) {
 
 #[test]
 fn a_segment_adds_its_flux_and_nothing_else(rt: HostRuntime) -> Result<(), NoMemory> {
+    let sub = Sub::of_bits(12);
     let first = Segment {
         from: [1024, 0, 0],
         to: [3072, 0, 0],
@@ -172,9 +204,9 @@ fn a_segment_adds_its_flux_and_nothing_else(rt: HostRuntime) -> Result<(), NoMem
     ];
     for (seg, q, edges) in cases {
         let mut block = zeros(rt.alloc(), AROUND)?;
-        assert!(rt; is_in_cell(&seg));
+        assert!(rt; is_in_cell(sub, &seg));
         assert!(rt; q.unsigned_abs() <= 1 << 15);
-        deposit_first(&seg, q, &mut block);
+        deposit_first(sub, &seg, q, &mut block);
         assert_holds(&rt, &block, edges);
     }
     Ok(())
@@ -182,6 +214,7 @@ fn a_segment_adds_its_flux_and_nothing_else(rt: HostRuntime) -> Result<(), NoMem
 
 #[test]
 fn a_zone_gets_only_its_own_edges(rt: HostRuntime) -> Result<(), NoMemory> {
+    let sub = Sub::of_bits(12);
     let seg = Segment {
         from: [0; 3],
         to: [2048; 3],
@@ -192,8 +225,8 @@ fn a_zone_gets_only_its_own_edges(rt: HostRuntime) -> Result<(), NoMemory> {
         size: [1; 3],
     };
     let mut block = zeros(rt.alloc(), zone)?;
-    assert!(rt; is_in_cell(&seg));
-    deposit_first(&seg, 1, &mut block);
+    assert!(rt; is_in_cell(sub, &seg));
+    deposit_first(sub, &seg, 1, &mut block);
     let edges = [
         (Axis::X, [0, 1, 0], 68719476736),
         (Axis::Z, [0, 1, 0], 68719476736),
@@ -204,6 +237,7 @@ fn a_zone_gets_only_its_own_edges(rt: HostRuntime) -> Result<(), NoMemory> {
 
 #[test]
 fn a_track_adds_the_flux_of_its_segments(rt: HostRuntime) -> Result<(), NoMemory> {
+    let sub = Sub::of_bits(12);
     let upper = Segment {
         from: [100, 0, 0],
         to: [0, 0, 0],
@@ -215,14 +249,39 @@ fn a_track_adds_the_flux_of_its_segments(rt: HostRuntime) -> Result<(), NoMemory
         cell: [-1, 0, 0],
     };
     let mut block = zeros(rt.alloc(), AROUND)?;
-    assert!(rt; is_in_cell(&upper));
-    assert!(rt; is_in_cell(&lower));
+    assert!(rt; is_in_cell(sub, &upper));
+    assert!(rt; is_in_cell(sub, &lower));
     let track = Track::new([upper, lower, lower, lower], 2);
-    deposit_first_track(&track, 1, &mut block);
+    deposit_first_track(sub, &track, 1, &mut block);
     let edges = [
         (Axis::X, [0, 0, 0], -20132659200),
         (Axis::X, [-1, 0, 0], -20132659200),
     ];
     assert_holds(&rt, &block, &edges);
+    Ok(())
+}
+
+#[test]
+fn the_side_of_a_cell_gives_the_weights(rt: HostRuntime) -> Result<(), NoMemory> {
+    let cases: [(u32, i32, [i128; 3]); 2] = [
+        (8, 128, [58720256, 16777216, 8388608]),
+        (14, 8192, [15393162788864, 4398046511104, 2199023255552]),
+    ];
+    for (bits, half, [near, beside, far]) in cases {
+        let sub = Sub::of_bits(bits);
+        let diagonal = Segment {
+            from: [0; 3],
+            to: [half; 3],
+            cell: [0; 3],
+        };
+        let mut block = zeros(rt.alloc(), AROUND)?;
+        assert!(rt; is_in_cell(sub, &diagonal));
+        deposit_first(sub, &diagonal, 1, &mut block);
+        assert_eq!(rt; value_at(&block, Axis::X, [0, 0, 0]), near);
+        assert_eq!(rt; value_at(&block, Axis::X, [0, 1, 0]), beside);
+        assert_eq!(rt; value_at(&block, Axis::X, [0, 0, 1]), beside);
+        assert_eq!(rt; value_at(&block, Axis::Y, [1, 0, 1]), far);
+        assert_eq!(rt; value_at(&block, Axis::Z, [1, 1, 0]), far);
+    }
     Ok(())
 }

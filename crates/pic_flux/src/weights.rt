@@ -1,17 +1,17 @@
 //! A segment's weights for the edges of its cell, and its flux through them.
+//!
+//! All four edges along an axis take their weights from the two for the cell's high faces, so that an
+//! axis takes seven products.
 
-ghost use Rattle.std.specs.Prelude.{◌≡◌, ◌^◌, ◌-ℤ◌, ◌*ℤ◌};
-ghost use Rattle.pic_num.specs.Flux.{simpson};
+ghost use Rattle.std.specs.Prelude.{◌≡◌, ◌^◌, pos, ◌+ℤ◌, ◌-ℤ◌, ◌*ℤ◌, true};
 ghost use Rattle.pic_num.specs.Sizes.{IsAtMost};
 ghost use Rattle.pic_num.specs.Space.{spot, along, next_axis};
+ghost use Rattle.pic_grid.specs.Rows.{lifted};
 ghost use Rattle.pic_grid.specs.Segment.{IsInside, IsInCell};
-ghost use Rattle.pic_flux.specs.Corners.{face_weight, corner, raised};
+ghost use Rattle.pic_flux.specs.Corners.{face_weight, weight_of, corner, both_high, weight_by};
 
 use pic_grid::Segment;
-use pic_num::Axis;
-
-/// The side of a cell, in sub-cells.
-const SIDE: i64 = 4096;
+use pic_num::{Axis, Sub};
 
 /// The coordinate on `axis`.
 #[inline(always)]
@@ -29,8 +29,8 @@ pub fn along(axis: Axis, p: [i32; 3]) -> i32
 /// The next cell up along `axis`.
 #[inline(always)]
 pub fn raised(axis: Axis, cell: [i32; 3]) -> [i32; 3]
-    requires { IsAtMost (along axis (spot cell)) (2 ^ 20) }
-    ensures { spot result ≡ raised axis (spot cell) }
+    requires { IsAtMost (along axis (spot cell)) (2 ^ 24) }
+    ensures { spot result ≡ lifted axis (spot cell) }
 {
     let [x, y, z] = cell;
     match axis {
@@ -40,93 +40,169 @@ pub fn raised(axis: Axis, cell: [i32; 3]) -> [i32; 3]
     }
 }
 
-/// The weight of the coordinate `p` of the closed cell `c` for the cell's high or low face.
+/// How far a coordinate `p` lies above the low face of its closed cell.
 #[inline(always)]
-fn face_weight(c: i32, p: i32, high: bool) -> i64
-    requires { IsInside 4096 c p }
-    ensures value { result ≡ face_weight 4096 high c p }
-    ensures size { IsAtMost result 4096 }
-    ensures cell { IsAtMost c (2 ^ 20) }
+fn above(c: i32, p: i32, side: i64) -> i64
+    requires side { IsAtMost side (2 ^ 14) }
+    ensures { result ≡ p -ℤ c *ℤ side }
 {
-    let above = i64::from(p) - i64::from(c) * SIDE;
-    if high { above } else { SIDE - above }
+    i64::from(p) - i64::from(c) * side
 }
 
-/// The weight of a segment's start on `axis`, for a high or low edge of its cell.
+/// The weight of the coordinate `p` of the closed cell `c` for the cell's high face.
 #[inline(always)]
-fn weight_from(seg: &Segment, axis: Axis, high: bool) -> i64
-    requires { IsInCell 4096 seg.now }
-    ensures value { result ≡ face_weight 4096 high (along axis seg.now.cell) (along axis seg.now.from) }
-    ensures size { IsAtMost result 4096 }
-    ensures cell { IsAtMost (along axis seg.now.cell) (2 ^ 20) }
+fn high_weight(sub: Sub, c: i32, p: i32) -> i64
+    requires { IsInside sub c p }
+    ensures value { result ≡ face_weight sub true c p }
+    ensures size { IsAtMost result (2 ^ 14) }
+    ensures cell { IsAtMost c (2 ^ 24) }
 {
-    face_weight(along(axis, seg.cell), along(axis, seg.from), high)
+    above(c, p, i64::from(sub.side()))
 }
 
-/// The weight of a segment's end on `axis`, for a high or low edge of its cell.
+/// The weight of a segment's start on `axis`, for the high face of its cell.
 #[inline(always)]
-fn weight_to(seg: &Segment, axis: Axis, high: bool) -> i64
-    requires { IsInCell 4096 seg.now }
-    ensures value { result ≡ face_weight 4096 high (along axis seg.now.cell) (along axis seg.now.to) }
-    ensures size { IsAtMost result 4096 }
+fn weight_from(sub: Sub, seg: &Segment, axis: Axis) -> i64
+    requires { IsInCell sub seg.now }
+    ensures value { result ≡ weight_of sub seg.now.cell true axis seg.now.from }
+    ensures size { IsAtMost result (2 ^ 14) }
+    ensures cell { IsAtMost (along axis seg.now.cell) (2 ^ 24) }
 {
-    face_weight(along(axis, seg.cell), along(axis, seg.to), high)
+    high_weight(sub, along(axis, seg.cell), along(axis, seg.from))
+}
+
+/// The weight of a segment's end on `axis`, for the high face of its cell.
+#[inline(always)]
+fn weight_to(sub: Sub, seg: &Segment, axis: Axis) -> i64
+    requires { IsInCell sub seg.now }
+    ensures value { result ≡ weight_of sub seg.now.cell true axis seg.now.to }
+    ensures size { IsAtMost result (2 ^ 14) }
+{
+    high_weight(sub, along(axis, seg.cell), along(axis, seg.to))
 }
 
 /// How far a segment goes along `axis`.
 #[inline(always)]
-pub fn way(seg: &Segment, axis: Axis) -> i64
-    requires { IsInCell 4096 seg.now }
+pub fn way(sub: Sub, seg: &Segment, axis: Axis) -> i64
+    requires { IsInCell sub seg.now }
     ensures value { result ≡ along axis seg.now.to -ℤ along axis seg.now.from }
-    ensures size { IsAtMost result 4096 }
+    ensures size { IsAtMost result (2 ^ 14) }
 {
+    let _side = sub.side();
     i64::from(along(axis, seg.to)) - i64::from(along(axis, seg.from))
 }
 
-/// The product of a charge's way and the weights.
+/// The product of what is carried along a way and a weight.
 #[inline(always)]
-fn wide_product(way: i64, weights: i64) -> i128
-    requires way { IsAtMost way (2 ^ 43) }
-    requires weights { IsAtMost weights (2 ^ 28) }
-    ensures value { result ≡ way *ℤ weights }
-    ensures size { IsAtMost result (2 ^ 71) }
+fn wide_product(carried: i64, weight: i64) -> i128
+    requires carried { IsAtMost carried (2 ^ 45) }
+    requires weight { IsAtMost weight (2 ^ 35) }
+    ensures value { result ≡ carried *ℤ weight }
+    ensures size { IsAtMost result (2 ^ 80) }
 {
-    i128::from(way) * i128::from(weights)
+    i128::from(carried) * i128::from(weight)
 }
 
-/// The flux of Villasenor and Buneman, 12 times: the charge times the way, times the mean weights and
-/// the correction for how they change together.
+/// The flux of Villasenor and Buneman, 12 times: the charge times the way, times an edge's weight.
 #[inline(always)]
-fn through(q: i64, way: i64, a0: i64, a1: i64, b0: i64, b1: i64) -> i128
+fn through(q: i64, way: i64, weight: i64) -> i128
     requires q { IsAtMost q (2 ^ 31) }
-    requires way { IsAtMost way 4096 }
-    requires a0 { IsAtMost a0 4096 }
-    requires a1 { IsAtMost a1 4096 }
-    requires b0 { IsAtMost b0 4096 }
-    requires b1 { IsAtMost b1 4096 }
-    ensures value { result ≡ simpson q way a0 a1 b0 b1 }
-    ensures size { IsAtMost result (2 ^ 71) }
+    requires way { IsAtMost way (2 ^ 14) }
+    requires weight { IsAtMost weight (2 ^ 35) }
+    ensures value { result ≡ q *ℤ way *ℤ weight }
+    ensures size { IsAtMost result (2 ^ 80) }
 {
-    let weights = 3 * (a0 + a1) * (b0 + b1) + (a1 - a0) * (b1 - b0);
-    wide_product(q * way, weights)
+    wide_product(q * way, weight)
+}
+
+/// The weight of the edge that is high on both other axes: the mean weights and the correction for
+/// how they change together, of the weights of the start and the end for the high faces there.
+#[inline(always)]
+fn both_high(a0: i64, a1: i64, b0: i64, b1: i64) -> i64
+    requires a0 { IsAtMost a0 (2 ^ 14) }
+    requires a1 { IsAtMost a1 (2 ^ 14) }
+    requires b0 { IsAtMost b0 (2 ^ 14) }
+    requires b1 { IsAtMost b1 (2 ^ 14) }
+    ensures value { result ≡ both_high a0 a1 b0 b1 }
+    ensures size { IsAtMost result (2 ^ 33) }
+{
+    3 * (a0 + a1) * (b0 + b1) + (a1 - a0) * (b1 - b0)
+}
+
+/// The weight of an edge that is high on one axis alone.
+#[inline(always)]
+fn one_high(side: i64, a0: i64, a1: i64, both: i64) -> i64
+    requires side { IsAtMost side (2 ^ 14) }
+    requires a0 { IsAtMost a0 (2 ^ 14) }
+    requires a1 { IsAtMost a1 (2 ^ 14) }
+    requires both { IsAtMost both (2 ^ 33) }
+    ensures value { result ≡ pos 6 *ℤ side *ℤ (a0 +ℤ a1) -ℤ both }
+    ensures size { IsAtMost result (2 ^ 34) }
+{
+    6 * side * (a0 + a1) - both
+}
+
+/// The weight of the edge that is low on both axes.
+#[inline(always)]
+fn none_high(side: i64, a0: i64, a1: i64, b0: i64, b1: i64, both: i64) -> i64
+    requires side { IsAtMost side (2 ^ 14) }
+    requires a0 { IsAtMost a0 (2 ^ 14) }
+    requires a1 { IsAtMost a1 (2 ^ 14) }
+    requires b0 { IsAtMost b0 (2 ^ 14) }
+    requires b1 { IsAtMost b1 (2 ^ 14) }
+    requires both { IsAtMost both (2 ^ 33) }
+    ensures value { result ≡ pos 6 *ℤ side *ℤ (pos 2 *ℤ side -ℤ (a0 +ℤ a1) -ℤ (b0 +ℤ b1)) +ℤ both }
+    ensures size { IsAtMost result (2 ^ 35) }
+{
+    6 * side * (2 * side - (a0 + a1) - (b0 + b1)) + both
+}
+
+/// The weight of an edge that is high or low on either axis: by the weights for the high faces, of
+/// which it takes three products, and one for the four edges together.
+#[inline(always)]
+fn weight(side: i64, high_a: bool, high_b: bool, a0: i64, a1: i64, b0: i64, b1: i64) -> i64
+    requires side { IsAtMost side (2 ^ 14) }
+    requires a0 { IsAtMost a0 (2 ^ 14) }
+    requires a1 { IsAtMost a1 (2 ^ 14) }
+    requires b0 { IsAtMost b0 (2 ^ 14) }
+    requires b1 { IsAtMost b1 (2 ^ 14) }
+    ensures value { result ≡ weight_by side high_a high_b a0 a1 b0 b1 }
+    ensures size { IsAtMost result (2 ^ 35) }
+{
+    let both = both_high(a0, a1, b0, b1);
+    match (high_a, high_b) {
+        (true, true) => both,
+        (true, false) => one_high(side, a0, a1, both),
+        (false, true) => one_high(side, b0, b1, both),
+        (false, false) => none_high(side, a0, a1, b0, b1, both),
+    }
 }
 
 /// The flux of the charge `q` on a segment through the edge along `axis` at one corner of its cell:
 /// high or low on the next axis, and on the third.
 #[inline(always)]
-pub fn corner(seg: &Segment, q: i64, axis: Axis, high_second: bool, high_third: bool) -> i128
-    requires inside { IsInCell 4096 seg.now }
+pub fn corner(
+    sub: Sub,
+    seg: &Segment,
+    q: i64,
+    axis: Axis,
+    high_second: bool,
+    high_third: bool,
+) -> i128
+    requires inside { IsInCell sub seg.now }
     requires charge { IsAtMost q (2 ^ 31) }
-    ensures value { result ≡ corner 4096 q seg.now axis high_second high_third }
-    ensures second { IsAtMost (along (next_axis axis) seg.now.cell) (2 ^ 20) }
-    ensures third { IsAtMost (along (next_axis (next_axis axis)) seg.now.cell) (2 ^ 20) }
-    ensures size { IsAtMost result (2 ^ 71) }
+    ensures value { result ≡ corner sub q seg.now axis high_second high_third }
+    ensures second { IsAtMost (along (next_axis axis) seg.now.cell) (2 ^ 24) }
+    ensures third { IsAtMost (along (next_axis (next_axis axis)) seg.now.cell) (2 ^ 24) }
+    ensures size { IsAtMost result (2 ^ 80) }
 {
     let second = axis.next();
     let third = second.next();
-    let a0 = weight_from(seg, second, high_second);
-    let a1 = weight_to(seg, second, high_second);
-    let b0 = weight_from(seg, third, high_third);
-    let b1 = weight_to(seg, third, high_third);
-    through(q, way(seg, axis), a0, a1, b0, b1)
+    let a0 = weight_from(sub, seg, second);
+    let a1 = weight_to(sub, seg, second);
+    let b0 = weight_from(sub, seg, third);
+    let b1 = weight_to(sub, seg, third);
+    let side = i64::from(sub.side());
+    let weight = weight(side, high_second, high_third, a0, a1, b0, b1);
+    through(q, way(sub, seg, axis), weight)
 }

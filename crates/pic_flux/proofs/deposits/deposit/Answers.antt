@@ -13,10 +13,10 @@ use Rattle.pic_grid.proofs.BlockLaws.{shaped_twice, all_at_most_more}
 use Rattle.pic_flux.specs.Adds.{Adds, flux_limit}
 use Rattle.pic_flux.specs.Corners.{on_axis}
 use Rattle.pic_flux.proofs.AddsLaws.{adds_grow, room_before}
-use Rattle.pic_flux.proofs.FluxSizeLaws.{flux_most, on_axis_most}
+use Rattle.pic_flux.proofs.FluxSizeLaws.{flux_most, flux_few, on_axis_most}
 use Rattle.pic_flux.proofs.CornerLaws.{three_added}
 use Rattle.pic_flux.proofs.deposits.deposit.Goals as goal
-use Rattle.pic_flux.proofs.deposits.deposit.Goals.{After-from-charge, After-deposit_axis, After-deposit_axis-2}
+use Rattle.pic_flux.proofs.deposits.deposit.Goals.{After-side-side, After-deposit_axis, After-deposit_axis-2}
 
 small : (q : ℤ) → SFits w32 q → IsAtMost q (2 ^ 31)
 small q fits = record { size = omega (arith, ints, fits.sfits) }
@@ -28,60 +28,60 @@ passed q r h e =
     let widened : to_z w64 (of_z w64 q) ≡ q = code_is (search codes depth 4) tt in
     ap (λ (z : ℤ). to_z w64 (of_z w64 z)) (e ∙ to_z-of_z w32 q h) ∙ widened
 
-most : (q : ℤ) → SFits w32 q → unsigned_abs q * (12 * 4096 ^ 3) ≤ 2 ^ 72
-most q fits = let h = (small q fits).size in omega (arith, h)
+most : (side : ℕ) (q : ℤ) → side ≤ 2 ^ 14 → SFits w32 q → unsigned_abs q * side * (12 * (side * side)) ≤ 2 ^ 77
+most side q few fits = flux_few side (unsigned_abs q) few (small q fits).size
 
 -- what a deposit along one axis adds, by the charge that was given, and how far values may grow by it
-record Along (old now : BlockValues) (q : ℤ) (s : Piece) (axis : Axis) : Type 0 where
+record Along (side : ℕ) (old now : BlockValues) (q : ℤ) (s : Piece) (axis : Axis) : Type 0 where
   shape : IsShaped old now
-  added : Adds old now (on_axis axis (flux 4096 q s axis))
-  grown : (n : ℕ) → AllAtMost n old → AllAtMost (n + 2 ^ 72) now
+  added : Adds old now (on_axis axis (flux side q s axis))
+  grown : (n : ℕ) → AllAtMost n old → AllAtMost (n + 2 ^ 77) now
 
-along : (old now : BlockValues) (q r : ℤ) (s : Piece) (axis : Axis) → SFits w32 q → r ≡ q → IsInCell 4096 s → IsShaped old now
-    → Adds old now (on_axis axis (flux 4096 r s axis)) → Along old now q s axis
-along old now q r s axis fits e inside shape h =
-    let added = subst (λ (p : ℤ). Adds old now (on_axis axis (flux 4096 p s axis))) e h in
+along : (side : ℕ) (old now : BlockValues) (q r : ℤ) (s : Piece) (axis : Axis) → side ≤ 2 ^ 14 → SFits w32 q → r ≡ q → IsInCell side s → IsShaped old now
+    → Adds old now (on_axis axis (flux side r s axis)) → Along side old now q s axis
+along side old now q r s axis few fits e inside shape h =
+    let added = subst (λ (p : ℤ). Adds old now (on_axis axis (flux side p s axis))) e h in
     record {
       shape = shape;
       added = added;
       grown = λ n room.
-          let grow = adds_grow old now (on_axis axis (flux 4096 q s axis)) n (unsigned_abs q * (12 * 4096 ^ 3)) shape added
-          (on_axis_most q s axis inside) room in
-          all_at_most_more now (n + unsigned_abs q * (12 * 4096 ^ 3)) (n + 2 ^ 72) (omega (arith, most q fits)) grow;
+          let grow = adds_grow old now (on_axis axis (flux side q s axis)) n (unsigned_abs q * side * (12 * (side * side))) shape added
+          (on_axis_most side q s axis inside) room in
+          all_at_most_more now (n + unsigned_abs q * side * (12 * (side * side))) (n + 2 ^ 77) (omega (arith, most side q few fits)) grow;
     }
 
-along_x : (c : After-deposit_axis) → Along c.args.to.now c.deposit_axis.new.to c.args.q c.args.seg.now X
+along_x : (c : After-deposit_axis) → Along c.args.sub c.args.to.now c.deposit_axis.new.to c.args.q c.args.seg.now X
 along_x c =
-    along _ _ c.args.q _ c.args.seg.now X c.ranges.q (passed c.args.q c.from-charge.result c.ranges.q c.from-charge.ensures)
+    along c.args.sub _ _ c.args.q _ c.args.seg.now X c.side-side.ensures.most c.ranges.q (passed c.args.q c.from-charge.result c.ranges.q c.from-charge.ensures)
     c.requires.inside c.deposit_axis.ensures.shape c.deposit_axis.ensures.values
 
-room_at : (c : After-from-charge) → AllAtMost (2 ^ 80) c.args.to.now
+room_at : (c : After-side-side) → AllAtMost (2 ^ 84) c.args.to.now
 room_at c =
-    all_at_most_more c.args.to.now (flux_limit + unsigned_abs c.args.q * (12 * 4096 ^ 3)) (2 ^ 80) (omega (arith, most c.args.q c.ranges.q))
-    (room_before c.args.to.now (flux 4096 c.args.q c.args.seg.now) (unsigned_abs c.args.q * (12 * 4096 ^ 3))
-    (flux_most c.args.q c.args.seg.now c.requires.inside) c.requires.room)
+    all_at_most_more c.args.to.now (flux_limit + unsigned_abs c.args.q * c.args.sub * (12 * (c.args.sub * c.args.sub))) (2 ^ 84) (omega (arith, most c.args.sub c.args.q c.side-side.ensures.most c.ranges.q))
+    (room_before c.args.to.now (flux c.args.sub c.args.q c.args.seg.now) (unsigned_abs c.args.q * c.args.sub * (12 * (c.args.sub * c.args.sub)))
+    (flux_most c.args.sub c.args.q c.args.seg.now c.requires.inside) c.requires.room)
 
-along_y : (c : After-deposit_axis-2) → Along c.deposit_axis.new.to c.deposit_axis-2.new.to c.args.q c.args.seg.now Y
+along_y : (c : After-deposit_axis-2) → Along c.args.sub c.deposit_axis.new.to c.deposit_axis-2.new.to c.args.q c.args.seg.now Y
 along_y c =
-    along _ _ c.args.q _ c.args.seg.now Y c.ranges.q (passed c.args.q c.from-charge.result c.ranges.q c.from-charge.ensures)
+    along c.args.sub _ _ c.args.q _ c.args.seg.now Y c.side-side.ensures.most c.ranges.q (passed c.args.q c.from-charge.result c.ranges.q c.from-charge.ensures)
     c.requires.inside c.deposit_axis-2.ensures.shape c.deposit_axis-2.ensures.values
 
 pub deposit_axis-requires-clause-room : goal.deposit_axis-requires-clause-room
 deposit_axis-requires-clause-room c =
-    all_at_most_more c.args.to.now (2 ^ 80) (2 ^ 110) (omega arith) (room_at (goal.at.deposit_axis-requires-clause-room c).After-from-charge)
+    all_at_most_more c.args.to.now (2 ^ 84) (2 ^ 110) (omega arith) (room_at (goal.at.deposit_axis-requires-clause-room c).After-side-side)
 
 pub deposit_axis-requires-2-clause-room : goal.deposit_axis-requires-2-clause-room
 deposit_axis-requires-2-clause-room c =
-    all_at_most_more c.deposit_axis.new.to (2 ^ 80 + 2 ^ 72) (2 ^ 110) (omega arith)
-    ((along_x (goal.at.deposit_axis-requires-2-clause-room c).After-deposit_axis).grown (2 ^ 80)
-    (room_at (goal.at.deposit_axis-requires-2-clause-room c).After-from-charge))
+    all_at_most_more c.deposit_axis.new.to (2 ^ 84 + 2 ^ 77) (2 ^ 110) (omega arith)
+    ((along_x (goal.at.deposit_axis-requires-2-clause-room c).After-deposit_axis).grown (2 ^ 84)
+    (room_at (goal.at.deposit_axis-requires-2-clause-room c).After-side-side))
 
 pub deposit_axis-requires-3-clause-room : goal.deposit_axis-requires-3-clause-room
 deposit_axis-requires-3-clause-room c =
-    let x = (along_x (goal.at.deposit_axis-requires-3-clause-room c).After-deposit_axis).grown (2 ^ 80)
-    (room_at (goal.at.deposit_axis-requires-3-clause-room c).After-from-charge) in
-    all_at_most_more c.deposit_axis-2.new.to (2 ^ 80 + 2 ^ 72 + 2 ^ 72) (2 ^ 110) (omega arith)
-    ((along_y (goal.at.deposit_axis-requires-3-clause-room c).After-deposit_axis-2).grown (2 ^ 80 + 2 ^ 72) x)
+    let x = (along_x (goal.at.deposit_axis-requires-3-clause-room c).After-deposit_axis).grown (2 ^ 84)
+    (room_at (goal.at.deposit_axis-requires-3-clause-room c).After-side-side) in
+    all_at_most_more c.deposit_axis-2.new.to (2 ^ 84 + 2 ^ 77 + 2 ^ 77) (2 ^ 110) (omega arith)
+    ((along_y (goal.at.deposit_axis-requires-3-clause-room c).After-deposit_axis-2).grown (2 ^ 84 + 2 ^ 77) x)
 
 pub returns : goal.returns
 returns c =
@@ -93,12 +93,13 @@ returns c =
     let q = c.args.q in
     let on_x = along_x (goal.at.returns c).After-deposit_axis in
     let on_y = along_y (goal.at.returns c).After-deposit_axis-2 in
-    let on_z = along y now q _ s Z c.ranges.q (passed q c.from-charge.result c.ranges.q c.from-charge.ensures)
+    let side = c.args.sub in
+    let on_z = along side y now q _ s Z c.side-side.ensures.most c.ranges.q (passed q c.from-charge.result c.ranges.q c.from-charge.ensures)
     c.requires.inside c.deposit_axis-3.ensures.shape c.deposit_axis-3.ensures.values in
     let shape = shaped_twice old y now (shaped_twice old x y on_x.shape on_y.shape) on_z.shape in
-    let values = three_added (flux 4096 q s) old x y now on_x.shape on_y.shape on_x.added on_y.added on_z.added in
+    let values = three_added (flux side q s) old x y now on_x.shape on_y.shape on_x.added on_y.added on_z.added in
     record {
       shape = shape;
       values = values;
-      grows = λ n room. adds_grow old now (flux 4096 q s) n (unsigned_abs q * (12 * 4096 ^ 3)) shape values (flux_most q s c.requires.inside) room;
+      grows = λ n room. adds_grow old now (flux side q s) n (unsigned_abs q * side * (12 * (side * side))) shape values (flux_most side q s c.requires.inside) room;
     }

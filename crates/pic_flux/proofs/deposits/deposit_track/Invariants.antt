@@ -8,5 +8,5 @@ use Rattle.pic_flux.proofs.deposits.deposit_track.Given as goal
 abbrev pub invariant-loop-seg : goal.invariant-loop-seg
 invariant-loop-seg l = record {
   shape : IsShaped l.initial.to l.to;
-  values : Adds l.initial.to l.to (path_flux 4096 l.q (take l.seg-index l.segments));
+  values : Adds l.initial.to l.to (path_flux l.sub l.q (take l.seg-index l.segments));
 }

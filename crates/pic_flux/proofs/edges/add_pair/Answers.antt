@@ -3,7 +3,8 @@ use mir.Syntax.{w128}
 use Rattle.std.proofs.lemmas.Int.{to_z-of_z}
 use Rattle.pic_num.specs.Space.{Spot, spot}
 use Rattle.pic_flux.specs.Adds.{Adds}
-use Rattle.pic_flux.specs.Corners.{at_edge, raised}
+use Rattle.pic_grid.specs.Rows.{lifted}
+use Rattle.pic_flux.specs.Corners.{at_edge}
 use Rattle.pic_grid.proofs.BlockLaws.{all_at_most_more}
 use Rattle.pic_flux.proofs.AddsLaws.{adds_twice, adds_grow}
 use Rattle.pic_flux.proofs.EdgeLaws.{at_edge_most}
@@ -17,9 +18,9 @@ add_edge-requires-2-clause-room c =
     let there = spot c.args.cell in
     let low : to_z w128 (of_z w128 c.args.low) ≡ c.args.low = to_z-of_z w128 c.args.low c.ranges.low in
     let first : Adds old mid (at_edge axis there c.args.low) = subst (λ (v : ℤ). Adds old mid (at_edge axis there v)) low c.add_edge.ensures.values in
-    all_at_most_more mid (2 ^ 119 + 2 ^ 71) (2 ^ 120) (omega arith)
-    (adds_grow old mid (at_edge axis there c.args.low) (2 ^ 119) (2 ^ 71) c.add_edge.ensures.shape first
-    (at_edge_most axis there c.args.low (2 ^ 71) c.requires.low) c.requires.room)
+    all_at_most_more mid (2 ^ 119 + 2 ^ 80) (2 ^ 120) (omega arith)
+    (adds_grow old mid (at_edge axis there c.args.low) (2 ^ 119) (2 ^ 80) c.add_edge.ensures.shape first
+    (at_edge_most axis there c.args.low (2 ^ 80) c.requires.low) c.requires.room)
 
 pub returns-clause-values : goal.returns-clause-values
 returns-clause-values c =
@@ -30,10 +31,10 @@ returns-clause-values c =
     let there = spot c.args.cell in
     let low : to_z w128 (of_z w128 c.args.low) ≡ c.args.low = to_z-of_z w128 c.args.low c.ranges.low in
     let high : to_z w128 (of_z w128 c.args.high) ≡ c.args.high = to_z-of_z w128 c.args.high c.ranges.high in
-    let up : spot c.raised.result ≡ raised c.args.other there = c.raised.ensures in
+    let up : spot c.raised.result ≡ lifted c.args.other there = c.raised.ensures in
     let first : Adds old mid (at_edge axis there c.args.low) = subst (λ (v : ℤ). Adds old mid (at_edge axis there v)) low c.add_edge.ensures.values in
     let moved : Adds mid now (at_edge axis (spot c.raised.result) c.args.high) = subst
     (λ (v : ℤ). Adds mid now (at_edge axis (spot c.raised.result) v)) high c.add_edge-2.ensures.values in
-    let second : Adds mid now (at_edge axis (raised c.args.other there) c.args.high) = subst
+    let second : Adds mid now (at_edge axis (lifted c.args.other there) c.args.high) = subst
     (λ (p : Spot). Adds mid now (at_edge axis p c.args.high)) up moved in
-    adds_twice old mid now (at_edge axis there c.args.low) (at_edge axis (raised c.args.other there) c.args.high) c.add_edge.ensures.shape first second
+    adds_twice old mid now (at_edge axis there c.args.low) (at_edge axis (lifted c.args.other there) c.args.high) c.add_edge.ensures.shape first second
