@@ -99,7 +99,7 @@ impl Block {
     pub fn clear(&mut self)
         ensures { self.new ≡ record self.old { values = replicate (3 * count_of self.old.size) (pos 0) } }
     {
-        self.values.fill(0);
+        zero(self.values.as_mut_slice());
     }
 
     /// Changes the component on `axis` at `cell`, one of the zone's, to `value`, and nothing else.
@@ -169,6 +169,15 @@ fn is_among(low: i32, size: u32, c: i32) -> bool
         return false;
     }
     true
+}
+
+/// Makes every number 0.
+fn zero(values: &mut [i128])
+    ensures { values.new ≡ replicate (length values.old) (pos 0) }
+{
+    for i in 0..values.len() {
+        values[i] = 0;
+    }
 }
 
 #[cfg(test)]
