@@ -1,5 +1,5 @@
 -- A lattice of one part, taken into its one block and back.
-use Rattle.std.proofs.Common.{◌≡◌, ℕ, ◌<◌, List, [], ◌∷◌, length, get_or, sym, ap, ◌∙◌, subst, arith}
+use Rattle.std.proofs.Common.{◌≡◌, ℕ, ◌<◌, List, [], ◌∷◌, length, get_or, refl, sym, ap, ◌∙◌, subst, zero-add, arith}
 use Rattle.std.proofs.Math.ListN.{set}
 use Rattle.std.proofs.lemmas.List.{get_or_default}
 use Rattle.pic_num.specs.declared.mult.Scales.{Scales}
@@ -9,13 +9,18 @@ use Rattle.pic_num.specs.Rounding.{scaled}
 use Rattle.pic_num.specs.Space.{Triple}
 use Rattle.pic_grid.specs.declared.stop.Phase.{Phase}
 use Rattle.pic_grid.specs.declared.stop.Phase.TheVariants.{Electric}
-use Rattle.pic_grid.specs.Lattice.{Field, EachAtMost, value_at, field_of}
+use Rattle.pic_grid.specs.Lattice.{Field, value_at, field_of}
 use Rattle.pic_grid.specs.Gather.{force_of}
 use Rattle.pic_grid.specs.Parts.{no_block, ArePartsOf, joined}
 use Rattle.pic_grid.specs.Cells.{IsWithin}
 use Rattle.pic_grid.specs.Block.{BlockValues, IsShaped, IsAmongCells, AllAtMost, inner_at, outer_of}
-use Rattle.pic_field.specs.FieldPhases.{half_of, half_in, full_of, full_in, least_fault, lowest}
+use Rattle.pic_grid.specs.Lattice.{EachAtMost}
+use Rattle.pic_field.specs.FieldPhases.{half_of, half_in, full_of, full_in, cell_above, least_fault, lowest}
 use Rattle.pic_field.proofs.WholeLaws.{IsWhole, whole_one, whole_block, whole_parts, whole_shaped, whole_among}
+use Rattle.pic_grid.proofs.LatticeLaws.{value_at-field_of, length-values_of, is_field_of}
+use Rattle.pic_step.specs.Guard.{IsOver}
+use Rattle.pic_field.proofs.WholeLaws.{value_at-whole, full_all, least_fault-same}
+use Rattle.std.proofs.Math.IntN.{ℤ}
 use Rattle.pic_field.proofs.WholeLaws.{whole_small, half_whole, half_stop, full_whole, full_stop, force_whole}
 use Rattle.pic_grid.specs.Parts.{origin}
 use Rattle.pic_grid.specs.Parts.{one_part}
@@ -47,9 +52,6 @@ one_among n m f blocks b one same = subst (IsAmongCells b.low b.size) same (whol
 pub one_small : (most : ℕ) (n : Triple) (f : Field) (blocks : List BlockValues) (b : BlockValues) → IsOne n f blocks b → EachAtMost most f → AllAtMost most b
 one_small most n f blocks b one small = whole_small most n b one.whole (subst (EachAtMost most) one.is small)
 
-pub one_shaped : (n : Triple) (f g : Field) (bs cs : List BlockValues) (b c : BlockValues) → IsOne n f bs b → IsOne n g cs c → IsShaped b c
-one_shaped n f g bs cs b c one two = record { low = one.whole.low ∙ sym two.whole.low; size = one.whole.size ∙ sym two.whole.size }
-
 -- the block goes back, changed or not
 pub one_zones : (n m : Triple) (f : Field) (blocks : List BlockValues) (b new : BlockValues) → IsOne n f blocks b → IsShaped new b → m ≡ n
     → ArePartsOf m one_part (set blocks 0 new)
@@ -60,9 +62,6 @@ one_zones n m f blocks b new one shaped same =
 pub one_back : (n m : Triple) (f r : Field) (blocks : List BlockValues) (b new : BlockValues) → IsOne n f blocks b → m ≡ n
     → r ≡ joined m one_part (set blocks 0 new) → r ≡ joined n one_part (new ∷ [])
 one_back n m f r blocks b new one same is = is ∙ (λ i. joined (same i) one_part (set (one.list i) 0 new))
-
-pub one_still : (n m : Triple) (f r : Field) (blocks : List BlockValues) (b : BlockValues) → IsOne n f blocks b → m ≡ n → r ≡ joined m one_part blocks → r ≡ f
-one_still n m f r blocks b one same is = is ∙ (λ i. joined (same i) one_part (one.list i)) ∙ sym one.is
 
 -- half a step of B
 pub half_done : (scales : Scales) (e : Field) (n m : Triple) (f r : Field) (blocks : List BlockValues) (b new : BlockValues) → IsOne n f blocks b → m ≡ n
@@ -80,23 +79,45 @@ pub half_stop_is : (phase : Phase) (scales : Scales) (e : Field) (by : Multiplie
 half_stop_is phase scales e by n f blocks b one =
     half_stop phase scales e by n b one.whole ∙ (λ i. least_fault phase by origin n (λ a p. half_of scales e a p (value_at (sym one.is i) a p)))
 
--- a step of E
-pub full_done : (scales : Scales) (b : Field) (n m : Triple) (f k r : Field) (blocks currents : List BlockValues) (old j new : BlockValues)
-    → IsOne n f blocks old → IsOne n k currents j → m ≡ n → IsShaped new old
-    → ((a : Axis) (p : Triple) → IsWithin p old.size → inner_at new a p ≡ full_of scales b a (outer_of old.low p) (inner_at old a p) (inner_at j a p))
-    → r ≡ joined m one_part (set blocks 0 new) → r ≡ field_of n one_part (λ a p. full_of scales b a p (value_at f a p) (value_at k a p))
-full_done scales b n m f k r blocks currents old j new one two same shaped values is =
-    one_back n m f r blocks old new one same is
-    ∙ full_whole scales b n j old new one.whole (one_shaped n k f currents blocks j old two one) shaped values
-    ∙ (λ i. field_of n one_part (λ a p. full_of scales b a p (value_at (sym one.is i) a p) (value_at (sym two.is i) a p)))
+-- a cell counted from the lowest of the grid
+pub above_origin : (p : Triple) → cell_above origin p ≡ p
+above_origin p = λ i. record { x = zero-add p.x i; y = zero-add p.y i; z = zero-add p.z i }
 
-pub full_stop_is : (scales : Scales) (b : Field) (by : Multiplier) (n : Triple) (f k : Field) (blocks currents : List BlockValues) (old j : BlockValues)
-    → IsOne n f blocks old → IsOne n k currents j
+-- a block over the grid
+pub whole_of : (n : Triple) (b : BlockValues) → IsOver n b → IsWhole n b
+whole_of n b over = record { low = over.low; size = over.size }
+
+pub over_shaped : (n : Triple) (f : Field) (blocks : List BlockValues) (b j : BlockValues) → IsOne n f blocks b → IsOver n j → IsShaped j b
+over_shaped n f blocks b j one over = record { low = over.low ∙ sym one.whole.low; size = over.size ∙ sym one.whole.size }
+
+-- functions with the same values in the grid have one field
+pub field_same : (n : Triple) (g h : Axis → Triple → ℤ) → ((a : Axis) (p : Triple) → IsWithin p n → g a p ≡ h a p)
+    → field_of n one_part g ≡ field_of n one_part h
+field_same n g h same =
+    is_field_of n one_part h (field_of n one_part g) refl refl (length-values_of n g) (λ a p w. value_at-field_of n one_part g a p w ∙ same a p w)
+
+-- a step of E
+pub full_done : (scales : Scales) (b : Field) (n m : Triple) (f r : Field) (blocks : List BlockValues) (old j new : BlockValues)
+    → IsOne n f blocks old → IsOver n j → m ≡ n → IsShaped new old
+    → ((a : Axis) (p : Triple) → IsWithin p old.size → inner_at new a p ≡ full_of scales b a (outer_of old.low p) (inner_at old a p) (inner_at j a p))
+    → r ≡ joined m one_part (set blocks 0 new) → r ≡ field_of n one_part (λ a p. full_of scales b a p (value_at f a p) (inner_at j a p))
+full_done scales b n m f r blocks old j new one over same shaped values is =
+    one_back n m f r blocks old new one same is
+    ∙ full_whole scales b n j old new one.whole (over_shaped n f blocks old j one over) shaped values
+    ∙ field_same n _ (λ a p. full_of scales b a p (value_at f a p) (inner_at j a p))
+    (λ a p w. λ i. full_of scales b a p (value_at (sym one.is i) a p) (value_at-whole n j a p (whole_of n j over) w i))
+
+pub full_stop_is : (scales : Scales) (b : Field) (by : Multiplier) (n : Triple) (f : Field) (blocks : List BlockValues) (old j : BlockValues)
+    → IsOne n f blocks old → IsOver n j
     → least_fault Electric by (lowest old.low) old.size (full_in scales b j old)
-    ≡ least_fault Electric by origin n (λ a p. full_of scales b a p (value_at f a p) (value_at k a p))
-full_stop_is scales b by n f k blocks currents old j one two =
-    full_stop scales b by n j old one.whole (one_shaped n k f currents blocks j old two one)
-    ∙ (λ i. least_fault Electric by origin n (λ a p. full_of scales b a p (value_at (sym one.is i) a p) (value_at (sym two.is i) a p)))
+    ≡ least_fault Electric by origin n (λ a p. full_of scales b a p (value_at f a p) (inner_at j a p))
+full_stop_is scales b by n f blocks old j one over =
+    let g : Axis → Triple → ℤ = λ a p. full_of scales b a p (value_at f a p) (inner_at j a p) in
+    full_stop scales b by n j old one.whole (over_shaped n f blocks old j one over)
+    ∙ least_fault-same Electric by origin n _ g (λ a p w.
+    ap (full_all scales b n j old a) (above_origin p)
+    ∙ (λ i. full_of scales b a p (value_at (sym one.is i) a p) (value_at-whole n j a p (whole_of n j over) w i))
+    ∙ sym (ap (g a) (above_origin p)))
 
 -- force values
 pub force_done : (by : Multiplier) (from : Field) (n m : Triple) (f r : Field) (blocks : List BlockValues) (b new : BlockValues) → IsOne n f blocks b → m ≡ n

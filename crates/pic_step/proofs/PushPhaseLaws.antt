@@ -10,11 +10,14 @@ use Rattle.pic_num.specs.Multiplier.{Multiplier}
 use Rattle.pic_num.specs.Sizes.{IsAtMost}
 use Rattle.pic_num.specs.Space.{Triple}
 use Rattle.pic_grid.specs.Current.{wrapped, current}
-use Rattle.pic_grid.specs.Lattice.{Field, EachAtMost, value_at, field_of}
+use Rattle.pic_grid.specs.Lattice.{Field, value_at, field_of}
 use Rattle.pic_grid.specs.Gather.{force_of}
 use Rattle.pic_grid.specs.PushPhase.{Surroundings}
 use Rattle.pic_grid.specs.Species.{IsKind}
-use Rattle.pic_grid.specs.Block.{BlockValues, IsShaped, AllAtMost}
+use Rattle.pic_grid.specs.Block.{BlockValues, IsShaped, AllAtMost, inner_of, inner_at}
+use Rattle.pic_grid.specs.Cells.{IsWithin}
+use Rattle.pic_grid.proofs.BlockLaws.{inner_within}
+use Rattle.pic_step.specs.Guard.{IsOver}
 use Rattle.pic_grid.proofs.LatticeLaws.{value_at-field_of}
 use Rattle.pic_grid.proofs.BlockLaws.{in_zone_shaped}
 use Rattle.pic_flux.specs.Adds.{Adds}
@@ -49,19 +52,18 @@ guard_holds w particles guard now above all zeros shape adds = record {
 }
 
 -- the folded flux is the current
-pub folded : (w : Surroundings) (particles : List Particle) (old new : Field) → old.cells ≡ w.cells → old.parts ≡ one_part
-    → new ≡ field_of old.cells old.parts (λ a p. wrapped old.cells (traces w particles a) p) → new ≡ field_of w.cells one_part (current w particles)
-folded w particles old new cells parts is =
-    is ∙ (λ i. field_of (cells i) (parts i) (λ a p. wrapped (cells i) (traces w particles a) p))
-    ∙ (λ i. field_of w.cells one_part (λ a p. sym (current_is w particles a p) i))
+pub folded : (w : Surroundings) (particles : List Particle) (j : BlockValues)
+    → ((a : Axis) (p : Triple) → IsWithin p w.cells → inner_at j a p ≡ wrapped w.cells (traces w particles a) p)
+    → (a : Axis) (p : Triple) → IsWithin p w.cells → inner_at j a p ≡ current w particles a p
+folded w particles j is a p within = is a p within ∙ sym (current_is w particles a p)
 
-pub folded_small : (w : Surroundings) (particles : List Particle) (f : Field) → w.side ≡ 4096 → All IsKind w.kinds → length particles ≤ most_particles
-    → f ≡ field_of w.cells one_part (current w particles) → EachAtMost most_value f
-folded_small w particles f side limits few is = subst (EachAtMost most_value) (sym is) (record {
-  at_most = λ a p within.
-      subst (λ (v : ℤ). IsAtMost v most_value) (sym (value_at-field_of w.cells one_part (current w particles) a p within))
-      (current_size w particles a p side limits few);
-})
+pub folded_small : (w : Surroundings) (particles : List Particle) (j : BlockValues) → w.side ≡ 4096 → All IsKind w.kinds → length particles ≤ most_particles
+    → IsOver w.cells j → ((a : Axis) (p : Triple) → IsWithin p w.cells → inner_at j a p ≡ current w particles a p) → AllAtMost most_value j
+folded_small w particles j side limits few over is = record {
+  at_most = λ a c inside.
+      let within : IsWithin (inner_of j.low c) w.cells = subst (IsWithin (inner_of j.low c)) over.size (inner_within j.low j.size c inside) in
+      subst (λ (v : ℤ). IsAtMost v most_value) (sym (is a (inner_of j.low c) within)) (current_size w particles a (inner_of j.low c) side limits few);
+}
 
 -- what particles feel, by lattices that are given by force values
 pub felt_is : (kinds : List Kind) (n : Triple) (f g : Axis → Triple → ℤ) (e b : Field) → e ≡ field_of n one_part f → b ≡ field_of n one_part g

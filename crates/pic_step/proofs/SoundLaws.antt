@@ -1,5 +1,5 @@
 -- A step without a stop keeps what the state of a run keeps.
-use Rattle.std.proofs.Common.{◌≡◌, ℕ, ◌<◌, ◌≤◌, None, refl, sym, ap, ◌∙◌, subst, zero-add, arith}
+use Rattle.std.proofs.Common.{◌≡◌, ℕ, ◌<◌, ◌≤◌, None, refl, sym, ap, ◌∙◌, subst, arith}
 use Rattle.std.proofs.Math.IntN.{ℤ, ◌-ℤ◌}
 use Rattle.std.specs.List.{range_with_len}
 use Rattle.std.proofs.lemmas.Int.{ints}
@@ -18,13 +18,14 @@ use Rattle.pic_grid.specs.PushPhase.{moved_all, push_stop}
 use Rattle.pic_grid.proofs.LatticeLaws.{value_at-field_of}
 use Rattle.pic_charge.specs.Charge.{charge_of}
 use Rattle.pic_charge.specs.Gauss.{MeetsGauss}
-use Rattle.pic_field.specs.FieldPhases.{full_of, least_fault, cell_above, IsBounded}
+use Rattle.pic_field.specs.FieldPhases.{full_of, least_fault, IsBounded}
 use Rattle.pic_field.proofs.FaultLaws.{least_fault-bounded}
 use Rattle.pic_split.proofs.ImageLaws.{div_e_same}
 use Rattle.pic_grid.specs.Parts.{origin}
 use Rattle.pic_step.specs.SerialStep.{World, around, half_at, full_at, half_on, push_on, current_of, before_electric, half_stop, full_stop, step_on, stop_of}
 use Rattle.pic_grid.specs.Parts.{one_part}
 use Rattle.pic_step.specs.Sound.{IsSafe, IsSound}
+use Rattle.pic_step.proofs.OnePartLaws.{above_origin}
 use Rattle.pic_step.proofs.PushLaws.{ids_kept, length-moved_all, share_kept}
 use Rattle.pic_step.proofs.VelocityLaws.{velocities_kept}
 use Rattle.pic_step.proofs.GaussLaws.{div_current, div_full}
@@ -32,10 +33,6 @@ use Rattle.pic_step.proofs.GaussLaws.{div_current, div_full}
 -- every grid has two cells on each axis
 pub has_two : (n : Triple) → IsCells n → HasTwo n
 has_two n h = record { x = h.x_least; y = h.y_least; z = h.z_least }
-
--- a cell counted from the lowest of the grid
-pub above_origin : (p : Triple) → cell_above origin p ≡ p
-above_origin p = λ i. record { x = zero-add p.x i; y = zero-add p.y i; z = zero-add p.z i }
 
 -- a field phase without a stop leaves a safe field
 pub safe_after : (phase : Phase) (by : Multiplier) (n : Triple) (g : Axis → Triple → ℤ) → least_fault phase by origin n g ≡ None

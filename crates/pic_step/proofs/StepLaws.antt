@@ -1,5 +1,5 @@
 -- A step by its four calls: each leaves what the next one needs.
-use Rattle.std.proofs.Common.{◌≡◌, List, Option, None, Ok, refl, sym, ap, ◌∙◌, subst}
+use Rattle.std.proofs.Common.{◌≡◌, List, Option, None, Ok, sym, ap, ◌∙◌, subst}
 use Rattle.std.proofs.Math.IntN.{ℤ}
 use Rattle.pic_num.specs.Limits.{most_value}
 use Rattle.pic_num.specs.declared.motion.Kind.{Kind}
@@ -9,16 +9,17 @@ use Rattle.pic_num.specs.Multiplier.{Multiplier}
 use Rattle.pic_num.specs.Space.{Triple}
 use Rattle.pic_grid.specs.declared.stop.Phase.TheVariants.{Half1, Half2, Electric}
 use Rattle.pic_grid.specs.declared.stop.Stop.{Stop}
-use Rattle.pic_grid.specs.Lattice.{Field, EachAtMost, value_at, field_of}
+use Rattle.pic_grid.specs.Lattice.{Field, value_at, field_of}
 use Rattle.pic_grid.specs.Gather.{force_of}
 use Rattle.pic_grid.specs.Cells.{IsWithin}
 use Rattle.pic_grid.specs.PushPhase.{Surroundings, push_stop}
-use Rattle.pic_grid.proofs.LatticeLaws.{value_at-field_of, length-values_of, is_field_of}
+use Rattle.pic_grid.specs.Block.{BlockValues, inner_at}
+use Rattle.pic_step.proofs.OnePartLaws.{above_origin, field_same}
+use Rattle.pic_grid.specs.Lattice.{EachAtMost}
 use Rattle.pic_field.specs.FieldPhases.{half_of, full_of, least_fault}
 use Rattle.pic_field.proofs.WholeLaws.{least_fault-same}
 use Rattle.pic_step.specs.declared.rooms.Rooms.{Rooms}
 use Rattle.pic_step.specs.PushRoom.{around_fields, IsPushed}
-use Rattle.pic_step.specs.Rooms.{IsRoom, AreRooms}
 use Rattle.pic_grid.specs.Parts.{origin}
 use Rattle.pic_step.specs.SerialStep.{World, around, half_at, full_at, half_on, push_on}
 use Rattle.pic_step.specs.SerialStep.{current_of, before_electric, half_stop, full_stop, step_on, stop_of, stepped}
@@ -27,7 +28,7 @@ use Rattle.pic_step.specs.Sound.{IsSafe, IsSound}
 use Rattle.pic_step.specs.Keeps.{Keeps}
 use Rattle.pic_step.proofs.KeepLaws.{step_keeps}
 use Rattle.pic_step.proofs.ExitLaws.{no_stop_is, steps_on}
-use Rattle.pic_step.proofs.SoundLaws.{above_origin, safe_after, step_sound}
+use Rattle.pic_step.proofs.SoundLaws.{safe_after, step_sound}
 
 -- the values of a safe field are small
 pub safe_small : (n : Triple) (by : Multiplier) (f : Field) → IsSafe n by f → EachAtMost most_value f
@@ -95,34 +96,35 @@ before_safe w b sound before = subst (IsSafe w.cells w.scales.b_force)
     ((λ i. field_of w.cells (sym sound.b.parts i) (half_at (push_on (half_on w)))) ∙ sym before.is)
     (safe_after Half2 w.scales.b_force w.cells (half_at (push_on (half_on w))) before.none)
 
--- E by the lattice of the current is E by the current
-abbrev pub by_lattice : World → Field → Field → Axis → Triple → ℤ
-by_lattice w b j a p = full_of w.scales b a p (value_at w.e a p) (value_at j a p)
+-- the block holds the current of the push
+abbrev pub IsCurrent : World → BlockValues → Type 0
+IsCurrent w j = (a : Axis) (p : Triple) → IsWithin p w.cells → inner_at j a p ≡ current_of (half_on w) a p
 
-current_same : (w : World) (b j : Field) → IsBefore w b → j ≡ field_of w.cells one_part (current_of (half_on w))
-    → (a : Axis) (p : Triple) → IsWithin p w.cells → by_lattice w b j a p ≡ full_at (current_of (half_on w)) (before_electric w) a p
+-- E by the block of the current is E by the current
+abbrev pub by_block : World → Field → BlockValues → Axis → Triple → ℤ
+by_block w b j a p = full_of w.scales b a p (value_at w.e a p) (inner_at j a p)
+
+current_same : (w : World) (b : Field) (j : BlockValues) → IsBefore w b → IsCurrent w j
+    → (a : Axis) (p : Triple) → IsWithin p w.cells → by_block w b j a p ≡ full_at (current_of (half_on w)) (before_electric w) a p
 current_same w b j before is a p within =
-    let value = ap (λ (f : Field). value_at f a p) is ∙ value_at-field_of w.cells one_part (current_of (half_on w)) a p within in
-    λ i. full_of w.scales (before.is i) a p (value_at w.e a p) (value i)
+    λ i. full_of w.scales (before.is i) a p (value_at w.e a p) (is a p within i)
 
-pub last_stop_of : (w : World) (b j : Field) (o : Option Stop) → IsSound w → IsBefore w b → j ≡ field_of w.cells one_part (current_of (half_on w))
-    → least_fault Electric w.scales.e_force origin b.cells (by_lattice w b j) ≡ o → full_stop (current_of (half_on w)) (before_electric w) ≡ o
+pub last_stop_of : (w : World) (b : Field) (j : BlockValues) (o : Option Stop) → IsSound w → IsBefore w b → IsCurrent w j
+    → least_fault Electric w.scales.e_force origin b.cells (by_block w b j) ≡ o → full_stop (current_of (half_on w)) (before_electric w) ≡ o
 last_stop_of w b j o sound before is h =
     let cells : w.cells ≡ b.cells = sym (ap (λ (f : Field). f.cells) before.is) in
-    least_fault-same Electric w.scales.e_force origin w.cells (full_at (current_of (half_on w)) (before_electric w)) (by_lattice w b j)
+    least_fault-same Electric w.scales.e_force origin w.cells (full_at (current_of (half_on w)) (before_electric w)) (by_block w b j)
     (λ a p within. ap (full_at (current_of (half_on w)) (before_electric w) a) (above_origin p)
     ∙ sym (current_same w b j before is a p within)
-    ∙ ap (by_lattice w b j a) (sym (above_origin p)))
-    ∙ (λ i. least_fault Electric w.scales.e_force origin (cells i) (by_lattice w b j)) ∙ h
+    ∙ ap (by_block w b j a) (sym (above_origin p)))
+    ∙ (λ i. least_fault Electric w.scales.e_force origin (cells i) (by_block w b j)) ∙ h
 
-pub e_after : (w : World) (b j e : Field) → IsSound w → IsBefore w b → j ≡ field_of w.cells one_part (current_of (half_on w))
-    → e ≡ field_of b.cells one_part (by_lattice w b j) → e ≡ field_of w.cells w.e.parts (full_at (current_of (half_on w)) (before_electric w))
-e_after w b j e sound before is done =
+pub e_after : (w : World) (b e : Field) (j : BlockValues) → IsSound w → IsBefore w b → IsCurrent w j
+    → e ≡ field_of b.cells one_part (by_block w b j) → e ≡ field_of w.cells w.e.parts (full_at (current_of (half_on w)) (before_electric w))
+e_after w b e j sound before is done =
     let cells : b.cells ≡ w.cells = ap (λ (f : Field). f.cells) before.is in
-    done ∙ (λ i. field_of (cells i) one_part (by_lattice w b j))
-    ∙ is_field_of w.cells one_part (full_at (current_of (half_on w)) (before_electric w)) (field_of w.cells one_part (by_lattice w b j)) refl refl
-    (length-values_of w.cells (by_lattice w b j))
-    (λ a p within. value_at-field_of w.cells one_part (by_lattice w b j) a p within ∙ current_same w b j before is a p within)
+    done ∙ (λ i. field_of (cells i) one_part (by_block w b j))
+    ∙ field_same w.cells (by_block w b j) (full_at (current_of (half_on w)) (before_electric w)) (current_same w b j before is)
     ∙ (λ i. field_of w.cells (sym sound.e.parts i) (full_at (current_of (half_on w)) (before_electric w)))
 
 -- the state after the step
@@ -132,13 +134,13 @@ pub record IsAfter (w : World) (e b : Field) (particles : List Particle) : Type 
 
 pub is_after : (w : World) (b c e : Field) (now particles : List Particle) (rooms : Rooms) → IsSound w → IsHalf w b
     → IsPushed (around (half_on w)) w.particles now None rooms → IsBefore w c → particles ≡ now
-    → e ≡ field_of c.cells one_part (by_lattice w c rooms.current) → least_fault Electric w.scales.e_force origin c.cells (by_lattice w c rooms.current) ≡ None
+    → e ≡ field_of c.cells one_part (by_block w c rooms.current) → least_fault Electric w.scales.e_force origin c.cells (by_block w c rooms.current) ≡ None
     → IsAfter w e c particles
 unfolding step_on
 is_after w b c e now particles rooms sound half pushed before same e_is none =
     let free : push_stop (around (half_on w)) w.particles ≡ None = sym pushed.stop_is in
     let still = last_stop_of w c rooms.current None sound before pushed.current_is none in
-    let done = e_after w c rooms.current e sound before pushed.current_is e_is in
+    let done = e_after w c e rooms.current sound before pushed.current_is e_is in
     let moved : particles ≡ (before_electric w).particles = same ∙ pushed.particles in
     record {
       none = no_stop_is w half.none free before.none still;
@@ -156,7 +158,3 @@ stepped_after w e b particles after = steps_on w after.none ∙ ap (λ (v : Worl
 pub keeps_after : (w : World) (e b : Field) (particles : List Particle) → IsSound w → IsAfter w e b particles
     → Keeps w (record w { e = e; b = b; particles = particles })
 keeps_after w e b particles sound after = subst (Keeps w) (sym after.is) (step_keeps w sound)
-
--- the rooms with the current back
-pub rooms_back : (n : Triple) (r : Rooms) (k : Field) → AreRooms n r → k ≡ r.current → AreRooms n (record r { current = k })
-rooms_back n r k rooms is = record { force_e = rooms.force_e; force_b = rooms.force_b; current = subst (IsRoom n) (sym is) rooms.current; guard = rooms.guard }

@@ -65,7 +65,8 @@ front_size w particles i side limits few =
     traces_size w (take i particles) side limits (omega (arith, few, fewer, size))
 
 -- the current of all particles
-pub current_size : (w : Surroundings) (particles : List Particle) (a : Axis) (p : Triple) → w.side ≡ 4096 → All IsKind w.kinds → length particles ≤ most_particles
+pub current_size : (w : Surroundings) (particles : List Particle) (a : Axis) (p : Triple) → w.side ≡ 4096 → All IsKind w.kinds
+    → length particles ≤ most_particles
     → IsAtMost (current w particles a p) most_value
 current_size w particles a p side limits few =
     let size = wrapped_size w.cells (traces w particles a) p most_flux (λ c. ((traces_size w particles side limits few).at_most a c).size) in

@@ -1,6 +1,7 @@
 -- The block that a push adds its flux to: the grid, and the layers round it that paths reach.
-use Rattle.std.specs.Prelude.{◌≡◌, ◌+◌, ℤ, pos, negsuc}
+use Rattle.std.specs.Prelude.{◌≡◌, ℕ, ◌+◌, ℤ, pos, negsuc, ◌+ℤ◌, ◌==◌, nat_lt, if◌then◌else◌, List, slice_index_or}
 use Rattle.pic_num.specs.declared.axis.Axis.{Axis}
+use Rattle.pic_num.specs.Sizes.{IsAtMost}
 use Rattle.pic_num.specs.Space.{Triple, Spot}
 use Rattle.pic_grid.specs.Block.{BlockValues, InZone, edge_at}
 use Rattle.pic_grid.specs.Traces.{IsBeyond}
@@ -16,3 +17,20 @@ pub record Holds (n : Triple) (b : BlockValues) (f : Axis → Spot → ℤ) : Ty
   pub beyond_x : (a : Axis) (c : Spot) → IsBeyond n.x c.x → f a c ≡ pos 0
   pub beyond_y : (a : Axis) (c : Spot) → IsBeyond n.y c.y → f a c ≡ pos 0
   pub beyond_z : (a : Axis) (c : Spot) → IsBeyond n.z c.z → f a c ≡ pos 0
+
+-- a block over all cells of the grid
+pub record IsOver (n : Triple) (b : BlockValues) : Type 0 where
+  pub low : b.low ≡ record { x = pos 0; y = pos 0; z = pos 0 }
+  pub size : b.size ≡ n
+
+-- what the images of the place x on an axis of n cells add up to in a row of such a guard: one box
+-- under it, itself, and one box over it
+abbrev pub images_in : ℕ → List ℤ → ℕ → ℤ
+images_in n row x =
+    let under = if x + 1 == n then slice_index_or row 0 (pos 0) else pos 0 in
+    let over = if nat_lt x 2 then slice_index_or row (x + n + 1) (pos 0) else pos 0 in
+    under +ℤ slice_index_or row (x + 1) (pos 0) +ℤ over
+
+-- each number of a row is at most most in size
+pub record IsRowAtMost (most : ℕ) (row : List ℤ) : Type 0 where
+  pub at_most : (x : ℕ) → IsAtMost (slice_index_or row x (pos 0)) most

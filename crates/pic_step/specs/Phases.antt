@@ -15,12 +15,3 @@ abbrev pub Advances : Phase → Multiplier → Triple → (Axis → Triple → �
 Advances phase by n g (Ok f) =
     (f ≡ field_of n one_part g) × (least_fault phase by origin n g ≡ None)
 Advances phase by n g (Err stop) = least_fault phase by origin n g ≡ Some stop
-
--- the same beside a lattice that stays
-abbrev pub AdvancesBeside : Phase → Multiplier → Triple → (Axis → Triple → ℤ) → Field
-    → Result (Field × Field) Stop → Type 0
-AdvancesBeside phase by n g other (Ok both) =
-    (both.0 ≡ field_of n one_part g)
-    × (least_fault phase by origin n g ≡ None)
-    × (both.1 ≡ other)
-AdvancesBeside phase by n g other (Err stop) = least_fault phase by origin n g ≡ Some stop

@@ -3,15 +3,18 @@ use Rattle.std.specs.Prelude.{◌≡◌, List, Option}
 use Rattle.pic_num.specs.Limits.{most_value}
 use Rattle.pic_num.specs.declared.motion.Kind.{Kind}
 use Rattle.pic_num.specs.declared.motion.Particle.{Particle}
+use Rattle.pic_num.specs.declared.axis.Axis.{Axis}
 use Rattle.pic_num.specs.declared.mult.Scales.{Scales}
 use Rattle.pic_grid.specs.declared.stop.Stop.{Stop}
+use Rattle.pic_num.specs.Space.{Triple}
+use Rattle.pic_grid.specs.Block.{AllAtMost, inner_at}
+use Rattle.pic_grid.specs.Cells.{IsWithin}
 use Rattle.pic_grid.specs.Current.{current}
-use Rattle.pic_grid.specs.Lattice.{Field, EachAtMost, value_at, field_of}
+use Rattle.pic_grid.specs.Lattice.{Field, value_at}
 use Rattle.pic_grid.specs.Gather.{force_of}
 use Rattle.pic_grid.specs.PushPhase.{Surroundings, moved_all, push_stop}
 use Rattle.pic_step.specs.declared.rooms.Rooms.{Rooms}
 use Rattle.pic_step.specs.Rooms.{AreRooms}
-use Rattle.pic_grid.specs.Parts.{one_part}
 
 -- what is around the particles, by the fields E and B
 abbrev pub around_fields : Scales → List Kind → Field → Field → Surroundings
@@ -29,5 +32,6 @@ pub record IsPushed (w : Surroundings) (old now : List Particle) (stop : Option 
   pub rooms_are : AreRooms w.cells rooms
   pub particles : now ≡ moved_all w old
   pub stop_is : stop ≡ push_stop w old
-  pub current_is : rooms.current ≡ field_of w.cells one_part (current w old)
-  pub current_small : EachAtMost most_value rooms.current
+  pub current_is : (a : Axis) (p : Triple) → IsWithin p w.cells
+      → inner_at rooms.current a p ≡ current w old a p
+  pub current_small : AllAtMost most_value rooms.current

@@ -6,7 +6,7 @@ use Rattle.pic_step.specs.declared.rooms.Rooms.{Rooms}
 use Rattle.pic_step.specs.SerialStep.{World}
 use Rattle.pic_grid.specs.Parts.{one_part}
 use Rattle.pic_step.specs.Sound.{IsSound}
-use Rattle.pic_step.specs.Guard.{IsGuard}
+use Rattle.pic_step.specs.Guard.{IsGuard, IsOver}
 
 -- a lattice of these cells in one part, whatever it holds
 pub record IsRoom (n : Triple) (f : Field) : Type 0 where
@@ -17,7 +17,7 @@ pub record IsRoom (n : Triple) (f : Field) : Type 0 where
 pub record AreRooms (n : Triple) (r : Rooms) : Type 0 where
   pub force_e : IsRoom n r.force_e
   pub force_b : IsRoom n r.force_b
-  pub current : IsRoom n r.current
+  pub current : IsOver n r.current
   pub guard : IsGuard n r.guard
 
 -- what the type of a state keeps

@@ -8,26 +8,28 @@ ghost use Rattle.pic_grid.specs.PushPhase.{CanShare};
 ghost use Rattle.pic_gather.specs.Forces.{AreForces};
 
 use pic_boris::{Halt, Moved, push};
-use pic_gather::{gather_b, gather_e};
+use pic_gather::{Gathered, gather};
 use pic_grid::Lattice;
-use pic_num::{Kind, Particle};
+use pic_num::{Kind, Particle, Sub};
 
 /// A particle's new velocity and its move, by the force values at its position, or what halts it.
 pub fn feel(
+    sub: Sub,
     kinds: &[Kind],
     force_e: &Lattice,
     force_b: &Lattice,
     particle: &Particle,
 ) -> Result<Moved, Halt>
+    requires side { sub ≡ 4096 }
     requires can { CanShare 4096 force_e.now.cells kinds.now particle.now }
     requires cells { force_b.now.cells ≡ force_e.now.cells }
+    requires parts { force_b.now.parts ≡ force_e.now.parts }
     requires e { AreForces force_e.now }
     requires b { AreForces force_b.now }
     ensures pushed { Pushes (push_of (felt kinds.now force_e.now force_b.now) particle.now) result }
-    ensures limits { IfOk result IsInLimits }
+    ensures limits { IfOk result (IsInLimits sub) }
 {
     let kind = kinds[particle.species as usize];
-    let e = gather_e(force_e, particle.x);
-    let b = gather_b(force_b, particle.x);
-    push(particle.v, e, b, kind.kick, kind.turn)
+    let Gathered { e, b } = gather(force_e, force_b, particle.x);
+    push(sub, particle.v, e, b, kind.kick, kind.turn)
 }

@@ -1,6 +1,7 @@
 //! A particle's move: the flux of its path, and its place in the box afterwards.
 
-ghost use Rattle.std.specs.Prelude.{◌≡◌, pos, ◌*◌, ◌<◌, ◌≤◌, ◌+ℤ◌};
+ghost use Rattle.std.specs.Prelude.{◌≡◌, pos, ◌*◌, ◌^◌, ◌<◌, ◌≤◌, ◌+ℤ◌, ◌≤ℤ◌, ◌<ℤ◌};
+ghost use Rattle.std.specs.Bool.{OnTrue};
 ghost use Rattle.pic_num.specs.Limits.{most_charge, most_cells_of_axis};
 ghost use Rattle.pic_num.specs.Rounding.{residue};
 ghost use Rattle.pic_num.specs.Sizes.{IsAtMost};
@@ -16,29 +17,55 @@ ghost use Rattle.pic_flux.specs.Adds.{Adds};
 ghost use Rattle.pic_step.specs.Follow.{largest_grid};
 
 use pic_boris::Moved;
-use pic_flux::deposit_track;
+use pic_flux::{deposit, deposit_track};
 use pic_grid::{Block, Cells};
-use pic_num::{Particle, wrap};
-use pic_split::split;
+use pic_num::{Particle, Sub, wrap};
+use pic_split::{lone, split};
 
-const SIDE: u32 = 4096;
+/// Whether a coordinate lies in the box already, on an axis of `len` sub-cells.
+fn is_inside(to: i64, len: u32) -> bool
+    ensures { OnTrue result ((pos 0 ≤ℤ to) × (to <ℤ pos len)) }
+{
+    if to < 0 {
+        return false;
+    }
+    to < i64::from(len)
+}
 
-/// A coordinate after a move, wrapped into an axis of `n` cells.
-fn wrapped_by(n: u32, at: u32, d: i32) -> u32
+/// A coordinate that lies in the box.
+fn as_it_is(to: i64, len: u32) -> u32
+    requires low { pos 0 ≤ℤ to }
+    requires high { to <ℤ pos len }
+    ensures { result ≡ residue to len }
+{
+    to as u32
+}
+
+/// A coordinate after a move, wrapped into an axis of `n` cells. Most moves stay in the box, and need
+/// no division.
+fn wrapped_by(side: u32, n: u32, at: u32, d: i32) -> u32
+    requires side_low { 0 < side }
+    requires side_high { side ≤ 2 ^ 14 }
     requires most { n ≤ most_cells_of_axis }
     requires least { 0 < n }
-    requires at { at < n * 4096 }
-    ensures { result ≡ residue (pos at +ℤ d) (n * 4096) }
+    requires at { at < n * side }
+    ensures { result ≡ residue (pos at +ℤ d) (n * side) }
 {
-    wrap(i64::from(at) + i64::from(d), n * SIDE)
+    let to = i64::from(at) + i64::from(d);
+    let len = n * side;
+    if is_inside(to, len) {
+        return as_it_is(to, len);
+    }
+    wrap(to, len)
 }
 
 /// A particle after its move, wrapped into the box.
 #[tactic(auto, unfolding(pic_grid::specs::PushPhase::moved))]
-fn moved(cells: Cells, particle: &Particle, by: &Moved) -> Particle
-    requires { IsInBox 4096 cells (triple particle.now.x) }
-    ensures { result ≡ moved 4096 cells particle.now (shift_of by.now) }
+fn moved(sub: Sub, cells: Cells, particle: &Particle, by: &Moved) -> Particle
+    requires { IsInBox sub cells (triple particle.now.x) }
+    ensures { result ≡ moved sub cells particle.now (shift_of by.now) }
 {
+    let side = sub.side();
     let [nx, ny, nz] = cells.n;
     let [at_x, at_y, at_z] = particle.x;
     let [dx, dy, dz] = by.d;
@@ -47,41 +74,54 @@ fn moved(cells: Cells, particle: &Particle, by: &Moved) -> Particle
         id: particle.id,
         species: particle.species,
         x: [
-            wrapped_by(nx, at_x, dx),
-            wrapped_by(ny, at_y, dy),
-            wrapped_by(nz, at_z, dz),
+            wrapped_by(side, nx, at_x, dx),
+            wrapped_by(side, ny, at_y, dy),
+            wrapped_by(side, nz, at_z, dz),
         ],
         v: [vx, vy, vz],
     }
 }
 
-/// Adds the flux of a particle's path to a block.
-fn deposit_path(particle: &Particle, by: &Moved, charge: i32, guard: &mut Block)
-    requires place { IsInBox 4096 largest_grid (triple particle.now.x) }
-    requires limits { IsInLimits by.now }
+/// Adds the flux of a particle's path to a block: that of its one piece where it stays in a cell.
+fn deposit_path(sub: Sub, particle: &Particle, by: &Moved, charge: i32, guard: &mut Block)
+    requires place { IsInBox sub largest_grid (triple particle.now.x) }
+    requires limits { IsInLimits sub by.now }
     requires charge { IsAtMost charge most_charge }
     requires room { AllAtMost most_flux guard.old }
     ensures shape { IsShaped guard.old guard.new }
     ensures adds { Adds guard.old guard.new
-        (path_flux 4096 charge (path 4096 (point_of (triple particle.now.x)) (spot by.now.d))) }
+        (path_flux sub charge (path sub (point_of (triple particle.now.x)) (spot by.now.d))) }
 {
     let [at_x, at_y, at_z] = particle.x;
-    let track = split([at_x, at_y, at_z], by.d);
-    deposit_track(&track, charge, guard);
+    let _side = sub.side();
+    match lone(sub, [at_x, at_y, at_z], by.d) {
+        Some(piece) => deposit(sub, &piece, charge, guard),
+        None => {
+            let track = split(sub, [at_x, at_y, at_z], by.d);
+            deposit_track(sub, &track, charge, guard);
+        }
+    }
 }
 
 /// Moves a particle that doesn't halt, and adds the flux of its path to a block.
-pub fn follow(cells: Cells, charge: i32, particle: &mut Particle, by: &Moved, guard: &mut Block)
-    requires place { IsInBox 4096 cells (triple particle.old.x) }
-    requires limits { IsInLimits by.now }
+pub fn follow(
+    sub: Sub,
+    cells: Cells,
+    charge: i32,
+    particle: &mut Particle,
+    by: &Moved,
+    guard: &mut Block,
+)
+    requires place { IsInBox sub cells (triple particle.old.x) }
+    requires limits { IsInLimits sub by.now }
     requires charge { IsAtMost charge most_charge }
     requires room { AllAtMost most_flux guard.old }
-    ensures after { particle.new ≡ moved 4096 cells particle.old (shift_of by.now) }
+    ensures after { particle.new ≡ moved sub cells particle.old (shift_of by.now) }
     ensures shape { IsShaped guard.old guard.new }
     ensures adds { Adds guard.old guard.new
-        (path_flux 4096 charge (path 4096 (point_of (triple particle.old.x)) (spot by.now.d))) }
+        (path_flux sub charge (path sub (point_of (triple particle.old.x)) (spot by.now.d))) }
 {
     let [_, _, _] = cells.n;
-    deposit_path(particle, by, charge, guard);
-    *particle = moved(cells, particle, by);
+    deposit_path(sub, particle, by, charge, guard);
+    *particle = moved(sub, cells, particle, by);
 }

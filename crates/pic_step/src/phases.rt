@@ -2,14 +2,17 @@
 
 ghost use Rattle.std.specs.Prelude.{◌≡◌, ◌^◌};
 ghost use Rattle.pic_num.specs.Limits.{most_value};
-ghost use Rattle.pic_grid.specs.Lattice.{EachAtMost, value_at, field_of};
+ghost use Rattle.pic_grid.specs.Lattice.{value_at, field_of};
 ghost use Rattle.pic_grid.specs.Gather.{force_of};
+ghost use Rattle.pic_grid.specs.Lattice.{EachAtMost};
 ghost use Rattle.pic_field.specs.FieldPhases.{half_of, full_of};
-ghost use Rattle.pic_step.specs.Phases.{Advances, AdvancesBeside};
+ghost use Rattle.pic_grid.specs.Block.{AllAtMost, inner_at};
+ghost use Rattle.pic_step.specs.Guard.{IsOver};
+ghost use Rattle.pic_step.specs.Phases.{Advances};
 ghost use Rattle.pic_grid.specs.Parts.{one_part};
 
 use pic_field::{force, full_e, half_b};
-use pic_grid::{Lattice, Phase, Stop};
+use pic_grid::{Block, Lattice, Phase, Stop};
 use pic_num::{Mult, Scales};
 
 /// Half a step of B.
@@ -26,30 +29,20 @@ pub fn half(scales: &Scales, e: &Lattice, b: Lattice, phase: Phase) -> Result<La
     Ok(Lattice::of_blocks(e.cells(), [1; 3], blocks))
 }
 
-/// A step of E by the current, which comes back as it was.
-pub fn full(
-    scales: &Scales,
-    b: &Lattice,
-    current: Lattice,
-    e: Lattice,
-) -> Result<(Lattice, Lattice), Stop>
+/// A step of E by the current.
+pub fn full(scales: &Scales, b: &Lattice, current: &Block, e: Lattice) -> Result<Lattice, Stop>
     requires cells { e.cells ≡ b.now.cells }
     requires parts { e.parts ≡ one_part }
-    requires current_cells { current.cells ≡ b.now.cells }
-    requires current_parts { current.parts ≡ one_part }
+    requires over { IsOver b.now.cells current.now }
     requires b_small { EachAtMost most_value b.now }
-    requires current_small { EachAtMost most_value current }
+    requires current_small { AllAtMost most_value current.now }
     requires e_small { EachAtMost most_value e }
-    ensures { AdvancesBeside Phase.Electric scales.now.e_force b.now.cells
-        (λ a p. full_of scales.now b.now a p (value_at e a p) (value_at current a p))
-        current result }
+    ensures { Advances Phase.Electric scales.now.e_force b.now.cells
+        (λ a p. full_of scales.now b.now a p (value_at e a p) (inner_at current.now a p)) result }
 {
     let mut blocks = e.into_blocks();
-    let currents = current.into_blocks();
-    full_e(scales, b, &currents[0], &mut blocks[0])?;
-    let e = Lattice::of_blocks(b.cells(), [1; 3], blocks);
-    let current = Lattice::of_blocks(b.cells(), [1; 3], currents);
-    Ok((e, current))
+    full_e(scales, b, current, &mut blocks[0])?;
+    Ok(Lattice::of_blocks(b.cells(), [1; 3], blocks))
 }
 
 /// The force values of a field, in a lattice whose values don't matter.

@@ -13,26 +13,30 @@ ghost use Rattle.pic_gather.specs.Forces.{AreForces};
 
 use crate::push_one::push_one;
 use pic_grid::{Block, Lattice, Stop};
-use pic_num::{Kind, Particle};
+use pic_num::{Kind, Particle, Sub};
 
 /// Pushes all particles by force values, and adds the flux of their paths to a block of zeros. The
 /// answer is the stop of the first particle that halts. At no edge does the flux of the first so
 /// many particles reach 2^75.
 pub fn push_all(
+    sub: Sub,
     kinds: &[Kind],
     force_e: &Lattice,
     force_b: &Lattice,
     particles: &mut [Particle],
     guard: &mut Block,
 ) -> Option<Stop>
+    requires side { sub ≡ 4096 }
     requires can { All (CanShare 4096 force_e.now.cells kinds.now) particles.old }
     requires few { length particles.old ≤ most_particles }
     requires kinds { All IsKind kinds.now }
     requires cells { force_b.now.cells ≡ force_e.now.cells }
+    requires parts { force_b.now.parts ≡ force_e.now.parts }
     requires e { AreForces force_e.now }
     requires b { AreForces force_b.now }
     requires zeros { AllAtMost 0 guard.old }
-    ensures after { particles.new ≡ moved_all (felt kinds.now force_e.now force_b.now) particles.old }
+    ensures after { particles.new
+        ≡ moved_all (felt kinds.now force_e.now force_b.now) particles.old }
     ensures stop { result ≡ push_stop (felt kinds.now force_e.now force_b.now) particles.old }
     ensures shape { IsShaped guard.old guard.new }
     ensures adds { let w = felt kinds.now force_e.now force_b.now in
@@ -43,7 +47,7 @@ pub fn push_all(
 {
     let mut stop = None;
     for i in 0..particles.len() {
-        let found = push_one(kinds, force_e, force_b, &mut particles[i], guard);
+        let found = push_one(sub, kinds, force_e, force_b, &mut particles[i], guard);
         stop = stop.or(found);
     }
     stop

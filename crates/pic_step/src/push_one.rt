@@ -15,7 +15,7 @@ ghost use Rattle.pic_gather.specs.Forces.{AreForces};
 use crate::feel::feel;
 use crate::follow::follow;
 use pic_grid::{Block, Lattice, Stop};
-use pic_num::{Kind, Particle};
+use pic_num::{Kind, Particle, Sub};
 
 /// The charge of a particle.
 fn charge_of(kinds: &[Kind], particle: &Particle) -> i32
@@ -30,15 +30,18 @@ fn charge_of(kinds: &[Kind], particle: &Particle) -> i32
 /// Pushes one particle, and adds the flux of its path to a block. A particle that halts stands still
 /// and adds nothing; its stop is answered.
 pub fn push_one(
+    sub: Sub,
     kinds: &[Kind],
     force_e: &Lattice,
     force_b: &Lattice,
     particle: &mut Particle,
     guard: &mut Block,
 ) -> Option<Stop>
+    requires side { sub ≡ 4096 }
     requires can { CanShare 4096 force_e.now.cells kinds.now particle.old }
     requires kinds { All IsKind kinds.now }
     requires cells { force_b.now.cells ≡ force_e.now.cells }
+    requires parts { force_b.now.parts ≡ force_e.now.parts }
     requires e { AreForces force_e.now }
     requires b { AreForces force_b.now }
     requires room { AllAtMost most_flux guard.old }
@@ -51,9 +54,9 @@ pub fn push_one(
         Adds guard.old guard.new (trace_of 4096 kinds.now particle.old push) }
 {
     let charge = charge_of(kinds, particle);
-    match feel(kinds, force_e, force_b, particle) {
+    match feel(sub, kinds, force_e, force_b, particle) {
         Ok(by) => {
-            follow(force_e.cells(), charge, particle, &by, guard);
+            follow(sub, force_e.cells(), charge, particle, &by, guard);
             None
         }
         Err(halt) => Some(Stop::Push {

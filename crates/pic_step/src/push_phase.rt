@@ -13,7 +13,7 @@ use crate::phases::forces;
 use crate::push_all::push_all;
 use crate::rooms::Rooms;
 use pic_grid::{Lattice, Stop};
-use pic_num::{Kind, Particle, Scales};
+use pic_num::{Kind, Particle, Scales, Sub};
 
 /// Pushes all particles by the fields, and finds the current. The rooms come back.
 pub fn push_phase(
@@ -42,8 +42,9 @@ pub fn push_phase(
     let force_e = forces(scales.e_force, e, force_e);
     let force_b = forces(scales.b_force, b, force_b);
     guard.clear();
-    let stop = push_all(kinds, &force_e, &force_b, particles, &mut guard);
-    fold(&guard, &mut current);
+    let sub = Sub::of_bits(12);
+    let stop = push_all(sub, kinds, &force_e, &force_b, particles, &mut guard);
+    fold(&guard, e.cells(), &mut current);
     let rooms = Rooms {
         force_e,
         force_b,

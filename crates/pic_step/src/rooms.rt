@@ -2,7 +2,7 @@
 
 ghost use Rattle.std.specs.Prelude.{IfOk};
 ghost use Rattle.pic_step.specs.Rooms.{AreRooms};
-ghost use Rattle.pic_step.specs.Guard.{IsGuard};
+ghost use Rattle.pic_step.specs.Guard.{IsGuard, IsOver};
 
 use pic_grid::{Block, Cells, Lattice, Zone};
 use pic_num::NoMemory;
@@ -14,7 +14,7 @@ use std::alloc::Global;
 pub struct Rooms {
     pub force_e: Lattice,
     pub force_b: Lattice,
-    pub current: Lattice,
+    pub current: Block,
     pub guard: Block,
 }
 
@@ -24,7 +24,7 @@ pub fn rooms_for(alloc: Global, cells: Cells) -> Result<Rooms, NoMemory>
 {
     let force_e = Lattice::new(alloc, cells, [1; 3])?;
     let force_b = Lattice::new(alloc, cells, [1; 3])?;
-    let current = Lattice::new(alloc, cells, [1; 3])?;
+    let current = current_for(alloc, cells)?;
     let guard = guard_for(alloc, cells)?;
     Ok(Rooms {
         force_e,
@@ -32,6 +32,18 @@ pub fn rooms_for(alloc: Global, cells: Cells) -> Result<Rooms, NoMemory>
         current,
         guard,
     })
+}
+
+/// A block over the grid.
+fn current_for(alloc: Global, cells: Cells) -> Result<Block, NoMemory>
+    ensures { IfOk result (IsOver cells) }
+{
+    let [nx, ny, nz] = cells.n;
+    let zone = Zone {
+        low: [0; 3],
+        size: [nx, ny, nz],
+    };
+    Block::new(alloc, zone)
 }
 
 /// A block over the grid, with one layer under it and two over it.

@@ -7,7 +7,6 @@ ghost use Rattle.pic_step.specs.SerialStep.{stepped};
 
 use crate::phases::{full, half};
 use crate::push_phase::push_phase;
-use crate::rooms::Rooms;
 use crate::state::State;
 use pic_grid::{Phase, Stop};
 
@@ -53,19 +52,7 @@ fn after_step(state: State) -> Result<State, Stop>
         None => {}
     }
     let b = half(&scales, &e, b, Phase::Half2)?;
-    let Rooms {
-        force_e,
-        force_b,
-        current,
-        guard,
-    } = rooms;
-    let (e, current) = full(&scales, &b, current, e)?;
-    let rooms = Rooms {
-        force_e,
-        force_b,
-        current,
-        guard,
-    };
+    let e = full(&scales, &b, &rooms.current, e)?;
     Ok(State {
         cells,
         scales,

@@ -16,11 +16,13 @@ returns-clause-pushed c =
     let particle = c.args.particle.now in
     let kinds = c.args.kinds.now in
     let b = c.args.force_b.now in
-    let kind : c.index-kinds-particle.result ≡ kind_of kinds particle = get_or_read kinds particle.species c.index-kinds-particle.result c.requires.can.species c.index-kinds-particle.is no_kind in
-    let at_e = c.gather_e-e.ensures.value in
-    let at_b = c.gather_b-b.ensures.value ∙ ap (λ (n : Triple). gathered_b 4096 n (value_at b) (triple particle.x)) c.requires.cells in
-    let told : pushed 4096 (spot particle.v) (spot c.gather_e-e.result)
-    (spot c.gather_b-b.result) c.index-kinds-particle.result.kick c.index-kinds-particle.result.turn
+    let number = particle.species in
+    let kind : c.index-kinds-particle.result ≡ kind_of kinds particle =
+    get_or_read kinds number c.index-kinds-particle.result c.requires.can.species c.index-kinds-particle.is no_kind in
+    let at_e = c.gather.ensures.e in
+    let at_b = c.gather.ensures.b ∙ ap (λ (n : Triple). gathered_b 4096 n (value_at b) (triple particle.x)) c.requires.cells in
+    let told : pushed c.args.sub (spot particle.v) (spot c.gather.result.e) (spot c.gather.result.b)
+    c.index-kinds-particle.result.kick c.index-kinds-particle.result.turn
     ≡ push_of (felt kinds c.args.force_e.now b) particle =
-    λ i. pushed 4096 (spot particle.v) (at_e i) (at_b i) (kind i).kick (kind i).turn in
+    λ i. pushed (c.requires.side i) (spot particle.v) (at_e i) (at_b i) (kind i).kick (kind i).turn in
     subst (λ (r : Result Shift Halting). Pushes r c.push.result) told c.push.ensures.pushed

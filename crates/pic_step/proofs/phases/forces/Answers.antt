@@ -7,7 +7,8 @@ use Rattle.pic_step.proofs.phases.forces.Goals.{After-index_mut}
 one : (c : After-index_mut) → IsOne c.args.from.now.cells c.args.to c.into_blocks-blocks.result.items c.index_mut.result.now
 one c =
     let taken = c.into_blocks-blocks in
-    one_of c.args.from.now.cells c.args.to taken.result.items c.index_mut.result.now c.requires.cells c.requires.parts taken.ensures.zones taken.ensures.values c.index_mut.ensures.value
+    one_of c.args.from.now.cells c.args.to taken.result.items c.index_mut.result.now
+    c.requires.cells c.requires.parts taken.ensures.zones taken.ensures.values c.index_mut.ensures.value
 
 pub force-requires-clause-among : goal.force-requires-clause-among
 force-requires-clause-among c =
@@ -21,5 +22,6 @@ of_blocks-requires-clause-zones c =
 pub returns : goal.returns
 returns c =
     let here = one (goal.at.returns c).After-index_mut in
-    force_done c.args.mult c.args.from.now c.args.from.now.cells c.cells.result c.args.to c.of_blocks.result _ c.index_mut.result.now c.force.new.to here c.cells.ensures.value
+    force_done c.args.mult c.args.from.now c.args.from.now.cells c.cells.result c.args.to c.of_blocks.result _
+    c.index_mut.result.now c.force.new.to here c.cells.ensures.value
     c.force.ensures.shape c.force.ensures.values c.of_blocks.ensures

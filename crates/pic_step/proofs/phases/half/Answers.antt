@@ -10,7 +10,8 @@ use Rattle.pic_step.proofs.phases.half.Goals.{After-index_mut}
 one : (c : After-index_mut) → IsOne c.args.e.now.cells c.args.b c.into_blocks-blocks.result.items c.index_mut.result.now
 one c =
     let taken = c.into_blocks-blocks in
-    one_of c.args.e.now.cells c.args.b taken.result.items c.index_mut.result.now c.requires.cells c.requires.parts taken.ensures.zones taken.ensures.values c.index_mut.ensures.value
+    one_of c.args.e.now.cells c.args.b taken.result.items c.index_mut.result.now
+    c.requires.cells c.requires.parts taken.ensures.zones taken.ensures.values c.index_mut.ensures.value
 
 pub half_b-requires-clause-among : goal.half_b-requires-clause-among
 half_b-requires-clause-among c =
@@ -18,7 +19,8 @@ half_b-requires-clause-among c =
 
 pub half_b-requires-clause-b_small : goal.half_b-requires-clause-b_small
 half_b-requires-clause-b_small c =
-    one_small most_value c.args.e.now.cells c.args.b _ c.index_mut.result.now (one (goal.at.half_b-requires-clause-b_small c).After-index_mut) c.requires.b_small
+    one_small most_value c.args.e.now.cells c.args.b _ c.index_mut.result.now
+    (one (goal.at.half_b-requires-clause-b_small c).After-index_mut) c.requires.b_small
 
 pub returns-in_err-half_b : goal.returns-in_err-half_b
 returns-in_err-half_b c =
@@ -41,6 +43,7 @@ returns c =
     let scales = c.args.scales.now in
     let block = c.index_mut.result.now in
     let ok = c.in_ok-half_b.ensures in (
-      half_done scales c.args.e.now n c.cells.result c.args.b c.of_blocks.result _ block c.half_b.new.b here c.cells.ensures.value ok.shape ok.values c.of_blocks.ensures,
+      half_done scales c.args.e.now n c.cells.result c.args.b c.of_blocks.result _ block c.half_b.new.b here
+          c.cells.ensures.value ok.shape ok.values c.of_blocks.ensures,
       sym (half_stop_is c.args.phase scales c.args.e.now scales.b_force n c.args.b _ block here) ∙ no_stop _ ok.stop,
     )

@@ -62,5 +62,6 @@ returns c =
       shape = c.loop-i.invariant.shape;
       adds = all.adds;
       partial = λ i. front_size w old i refl c.requires.kinds c.requires.few;
-      size = held_size w old guard c.loop-i.guard c.loop-i.i c.loop-i.particles c.loop-i.stop refl c.requires.kinds c.requires.few c.requires.zeros c.loop-i.invariant;
+      size = held_size w old guard c.loop-i.guard c.loop-i.i c.loop-i.particles c.loop-i.stop
+          refl c.requires.kinds c.requires.few c.requires.zeros c.loop-i.invariant;
     }

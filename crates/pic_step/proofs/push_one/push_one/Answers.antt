@@ -1,4 +1,4 @@
-use Rattle.std.proofs.Common.{◌≡◌, Some, sym, ap, ◌∙◌, subst, rules}
+use Rattle.std.proofs.Common.{◌≡◌, ℕ, List, Some, sym, ap, ◌∙◌, subst, rules}
 use Rattle.std.specs.Prelude.{Result}
 use Rattle.std.proofs.Math.IntN.{ℤ, pos}
 use Rattle.std.proofs.lemmas.Int.{to_z-of_z}
@@ -8,7 +8,9 @@ use Rattle.pic_num.proofs.ProductLaws.{plus_zero}
 use Rattle.pic_num.specs.Push.{Shift, Halting}
 use Rattle.pic_num.specs.Space.{Triple, triple, spot}
 use Rattle.pic_grid.specs.declared.stop.Stop.TheVariants.{Push}
+use Rattle.pic_grid.specs.Hat.{IsInBox}
 use Rattle.pic_grid.specs.Flux.{path_flux}
+use Rattle.pic_grid.specs.Segment.{Piece}
 use Rattle.pic_grid.specs.Path.{path, point_of}
 use Rattle.pic_grid.specs.PushPhase.{kind_of, moved, after_push, halt_of}
 use Rattle.pic_grid.specs.Block.{edge_at}
@@ -23,7 +25,7 @@ returns-in-Ok-clause-after c =
     let particle = c.args.particle.now in
     let n = c.args.force_e.now.cells in
     c.follow.ensures.after
-    ∙ ap (λ (m : Triple). moved 4096 m particle (shift_of c.in-Ok.by)) c.cells.ensures.value
+    ∙ (λ i. moved (c.requires.side i) (c.cells.ensures.value i) particle (shift_of c.in-Ok.by))
     ∙ ap (λ (r : Result Shift Halting). after_push 4096 n particle r) (sym c.in-Ok.ensures.pushed)
 
 pub returns-in-Ok-clause-stop : goal.returns-in-Ok-clause-stop
@@ -38,9 +40,12 @@ returns-in-Ok-clause-adds c =
     let fits : SFits w32 c.charge_of-charge.result = record { sfits = c.charge_of-charge.type_inv } in
     let charge : to_z w32 (of_z w32 c.charge_of-charge.result) ≡ (kind_of kinds particle).charge = to_z-of_z w32 c.charge_of-charge.result fits
     ∙ c.charge_of-charge.ensures.value in
-    let track = path 4096 (point_of (triple particle.x)) (spot c.in-Ok.by.d) in
-    let added : Adds c.args.guard.now c.follow.new.guard (path_flux 4096 (kind_of kinds particle).charge track) =
-    subst (λ (q : ℤ). Adds c.args.guard.now c.follow.new.guard (path_flux 4096 q track)) charge c.follow.ensures.adds in
+    let track : ℕ → List Piece = λ side. path side (point_of (triple particle.x)) (spot c.in-Ok.by.d) in
+    let by_side : Adds c.args.guard.now c.follow.new.guard (path_flux 4096 (to_z w32 (of_z w32 c.charge_of-charge.result)) (track 4096)) =
+    subst (λ (side : ℕ). Adds c.args.guard.now c.follow.new.guard (path_flux side (to_z w32 (of_z w32 c.charge_of-charge.result)) (track side)))
+    c.requires.side c.follow.ensures.adds in
+    let added : Adds c.args.guard.now c.follow.new.guard (path_flux 4096 (kind_of kinds particle).charge (track 4096)) =
+    subst (λ (q : ℤ). Adds c.args.guard.now c.follow.new.guard (path_flux 4096 q (track 4096))) charge by_side in
     subst (λ (r : Result Shift Halting). Adds c.args.guard.now c.follow.new.guard (λ a e. trace_of 4096 kinds particle r a e))
     (sym c.in-Ok.ensures.pushed) added
 
@@ -63,3 +68,8 @@ returns-in-Err-clause-adds c =
     let guard = c.args.guard.now in
     let still : Adds guard guard (λ a e. pos 0) = record { at = λ a e inside. plus_zero (edge_at guard a e) } in
     subst (λ (r : Result Shift Halting). Adds guard guard (λ a e. trace_of 4096 c.args.kinds.now c.args.particle.now r a e)) (sym c.in-Err.ensures.pushed) still
+
+pub follow-requires-clause-place : goal.follow-requires-clause-place
+follow-requires-clause-place c =
+    subst (λ (n : Triple). IsInBox c.args.sub n (triple c.args.particle.now.x)) (sym c.cells.ensures.value)
+    (subst (λ (side : ℕ). IsInBox side c.args.force_e.now.cells (triple c.args.particle.now.x)) (sym c.requires.side) c.requires.can.place)

@@ -11,18 +11,24 @@ use Rattle.pic_step.specs.PushRoom.{around_fields}
 use Rattle.pic_grid.specs.Felt.{felt}
 use Rattle.pic_grid.specs.Parts.{one_part}
 use Rattle.pic_grid.specs.Traces.{traces}
-use Rattle.pic_step.specs.Guard.{Holds}
+use Rattle.pic_step.specs.Guard.{Holds, IsOver}
+use Rattle.pic_grid.specs.Cells.{IsWithin}
+use Rattle.pic_grid.specs.Current.{wrapped}
 use Rattle.pic_step.proofs.FeltLaws.{around_lattices, moved_same, stop_same, traces_same}
 use Rattle.pic_step.proofs.PushPhaseLaws.{forces_small, guard_holds, folded, folded_small, felt_is}
 use Rattle.pic_step.proofs.push_phase.push_phase.Goals as goal
 
 pub push_all-stop-requires-clause-e : goal.push_all-stop-requires-clause-e
-push_all-stop-requires-clause-e c = forces_small c.args.e.now.cells c.args.scales.now.e_force c.args.e.now c.forces-force_e.result c.requires.e c.forces-force_e.ensures
+push_all-stop-requires-clause-e c =
+    forces_small c.args.e.now.cells c.args.scales.now.e_force c.args.e.now c.forces-force_e.result c.requires.e c.forces-force_e.ensures
 
 pub push_all-stop-requires-clause-b : goal.push_all-stop-requires-clause-b
 push_all-stop-requires-clause-b c =
     forces_small c.args.e.now.cells c.args.scales.now.b_force c.args.b.now c.forces-force_b.result c.requires.b
     (c.forces-force_b.ensures ∙ ap (λ (n : Triple). field_of n one_part (force_of c.args.scales.now.b_force (value_at c.args.b.now))) c.requires.b.cells)
+
+pub push_all-stop-requires-clause-parts : goal.push_all-stop-requires-clause-parts
+push_all-stop-requires-clause-parts c = ap (λ (f : Field). f.parts) c.forces-force_b.ensures ∙ sym (ap (λ (f : Field). f.parts) c.forces-force_e.ensures)
 
 pub returns : goal.returns
 returns c =
@@ -48,13 +54,17 @@ returns c =
     let above : 0 < 4096 = omega arith in
     let holds : Holds n now (traces w old) = guard_holds w old guard now above c.requires.can zeros c.push_all-stop.ensures.shape adds in
     let room = c.requires.rooms in
-    let moved : Holds c.args.rooms.current.cells now (traces w old) = subst (λ (m : Triple). Holds m now (traces w old)) (sym room.current.cells) holds in
-    let current = folded w old c.args.rooms.current c.fold.new.current room.current.cells room.current.parts (c.fold.ensures (traces w old) moved) in
+    let same : c.cells.result ≡ n = c.cells.ensures.value in
+    let moved : Holds c.cells.result now (traces w old) = subst (λ (m : Triple). Holds m now (traces w old)) (sym same) holds in
+    let current = folded w old c.fold.new.current (λ a p within.
+    c.fold.ensures.values (traces w old) moved a p (subst (IsWithin p) (sym same) within) ∙ ap (λ (m : Triple). wrapped m (traces w old a) p) same) in
+    let shape = c.fold.ensures.shape in
+    let over : IsOver n c.fold.new.current = record { low = sym shape.low ∙ room.current.low; size = sym shape.size ∙ room.current.size } in
     record {
       rooms_are = record {
         force_e = record { cells = ap (λ (k : Field). k.cells) c.forces-force_e.ensures; parts = ap (λ (k : Field). k.parts) c.forces-force_e.ensures };
         force_b = record { cells = ap (λ (k : Field). k.cells) is_b; parts = ap (λ (k : Field). k.parts) is_b };
-        current = record { cells = ap (λ (k : Field). k.cells) current; parts = ap (λ (k : Field). k.parts) current };
+        current = over;
         guard = record {
           low = sym c.push_all-stop.ensures.shape.low ∙ ap (λ (k : BlockValues). k.low) c.clear.ensures ∙ room.guard.low;
           size = sym c.push_all-stop.ensures.shape.size ∙ ap (λ (k : BlockValues). k.size) c.clear.ensures ∙ room.guard.size;
@@ -65,5 +75,5 @@ returns c =
       stop_is = c.push_all-stop.ensures.stop ∙ ap (λ (v : Surroundings). push_stop v old) feels
           ∙ stop_same kinds n (force_of scales.e_force (value_at e)) (force_of scales.b_force (value_at b)) old;
       current_is = current;
-      current_small = folded_small w old c.fold.new.current refl c.requires.kinds c.requires.few current;
+      current_small = folded_small w old c.fold.new.current refl c.requires.kinds c.requires.few over current;
     }

@@ -13,7 +13,7 @@ use Rattle.pic_step.specs.Sound.{IsSafe}
 use Rattle.pic_step.proofs.ExitLaws.{stops_first, stops_push, stops_second, stops_last}
 use Rattle.pic_step.proofs.PushLaws.{length-moved_all}
 use Rattle.pic_step.proofs.StepLaws.{safe_small, IsHalf, is_half, half_stop_of, half_safe, pushed_on, IsBefore, is_before}
-use Rattle.pic_step.proofs.StepLaws.{second_stop_of, before_safe, last_stop_of, IsAfter, is_after, sound_after, stepped_after, keeps_after, rooms_back}
+use Rattle.pic_step.proofs.StepLaws.{second_stop_of, before_safe, last_stop_of, IsAfter, is_after, sound_after, stepped_after, keeps_after}
 use Rattle.pic_step.proofs.stepping.after_step.Goals as goal
 use Rattle.pic_step.proofs.stepping.after_step.Goals.{In_ok-b, In-None, In_ok-b-2, In_ok-e}
 
@@ -73,7 +73,8 @@ pub returns-in-Some-clause-steps : goal.returns-in-Some-clause-steps
 returns-in-Some-clause-steps c =
     let w = world c.state.inside in
     let first = half (goal.at.returns-in-Some-clause-steps c).In_ok-b in
-    let free = pushed_on w c.in_ok-b.b c.deref.result.now c.deref_mut.result.now c.push_phase-rooms.new.particles c.push_phase-rooms.result.1 c.push_phase-rooms.result.0
+    let free = pushed_on w c.in_ok-b.b c.deref.result.now c.deref_mut.result.now
+    c.push_phase-rooms.new.particles c.push_phase-rooms.result.1 c.push_phase-rooms.result.0
     c.state.invariant.sound first c.deref.ensures.value c.deref_mut.ensures.value c.push_phase-rooms.ensures in
     ap stepped (sym c.state.view_is) ∙ stops_push w c.in-Some.stop first.none (sym free.stop_is ∙ c.in-Some.is)
 
@@ -128,7 +129,7 @@ invariant_of-result c =
     let free = pushed at.In-None first in
     record {
       sound = sound_after w c.in_ok-e.e c.in_ok-b-2.b _ c.state.invariant.sound (after at.In_ok-e first free (before at.In_ok-b-2 first));
-      rooms = rooms_back w.cells c.push_phase-rooms.result.0 c.in_ok-e.current free.rooms_are c.in_ok-e.ensures.2;
+      rooms = free.rooms_are;
     }
 
 pub returns-clause-steps : goal.returns-clause-steps
