@@ -84,12 +84,12 @@ row_taken most n row small = row_small most (take n row) (λ k below.
     subst (λ (v : ℤ). IsAtMost v most) (sym (get_or-take n row k (pos 0) (omega (arith, below, few, least)))) (small.at_most k))
 
 -- an image under or over the grid is in the row, or beyond
-under_is : (n : ℕ) (row : List ℤ) (g : ℤ → ℤ) (x : ℕ) (b : Bool) → (x + 1 == n) ≡ b → x < n → ((k : ℕ) → k < n + 3 → get_or row k (pos 0) ≡ g (pos k -ℤ pos 1))
-    → ((j : ℤ) → IsBeyond n j → g j ≡ pos 0) → cond b (get_or row 0 (pos 0)) (pos 0) ≡ g (pos x -ℤ pos n)
-under_is n row g x true e below reads none =
+under_is : (n : ℕ) (line : List ℤ) (g : ℤ → ℤ) (x : ℕ) (b : Bool) → (x + 1 == n) ≡ b → x < n → ((k : ℕ) → k < n + 3 → get_or line k (pos 0) ≡ g (pos k -ℤ pos 1))
+    → ((j : ℤ) → IsBeyond n j → g j ≡ pos 0) → cond b (get_or line 0 (pos 0)) (pos 0) ≡ g (pos x -ℤ pos n)
+under_is n line g x true e below reads none =
     let last = eqb-true (x + 1) n e in
     let same : pos 0 -ℤ pos 1 ≡ pos x -ℤ pos n = omega (arith, ints, last) in reads 0 (omega arith) ∙ ap g same
-under_is n row g x false e below reads none =
+under_is n line g x false e below reads none =
     let other = eqb-false (x + 1) n e in
     let inner : x + 1 < n = grind (arith, other) in sym (none (pos x -ℤ pos n) (inl (omega (arith, ints, inner))))
 

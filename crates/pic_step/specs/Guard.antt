@@ -26,10 +26,10 @@ pub record IsOver (n : Triple) (b : BlockValues) : Type 0 where
 -- what the images of the place x on an axis of n cells add up to in a row of such a guard: one box
 -- under it, itself, and one box over it
 abbrev pub images_in : ℕ → List ℤ → ℕ → ℤ
-images_in n row x =
-    let under = if x + 1 == n then slice_index_or row 0 (pos 0) else pos 0 in
-    let over = if nat_lt x 2 then slice_index_or row (x + n + 1) (pos 0) else pos 0 in
-    under +ℤ slice_index_or row (x + 1) (pos 0) +ℤ over
+images_in n line x =
+    let under = if x + 1 == n then slice_index_or line 0 (pos 0) else pos 0 in
+    let over = if nat_lt x 2 then slice_index_or line (x + n + 1) (pos 0) else pos 0 in
+    under +ℤ slice_index_or line (x + 1) (pos 0) +ℤ over
 
 -- each number of a row is at most most in size
 pub record IsRowAtMost (most : ℕ) (row : List ℤ) : Type 0 where
