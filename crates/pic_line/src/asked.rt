@@ -1,0 +1,32 @@
+//! What a command line asks for, and why it is none.
+
+ghost use Rattle.std.specs.Prelude.{◌≡◌};
+ghost use Rattle.pic_line.specs.declared.asked.LineFault.TheVariants.{NoMemory};
+
+use std::alloc::AllocError;
+
+/// What the words ask for.
+#[derive(Clone, Copy, Debug, PartialEq, Eq)]
+pub enum Command {
+    /// Reads the deck and says whether it can be run.
+    Check,
+    /// Runs the deck, on so many workers, 1 to 64.
+    Run { workers: u32 },
+}
+
+/// Why a line has no command.
+#[derive(Clone, Copy, Debug, PartialEq, Eq)]
+pub enum LineFault {
+    /// The words are no command.
+    Usage,
+    /// Memory was refused.
+    NoMemory,
+}
+
+impl From<AllocError> for LineFault {
+    ghost from_gives = { λ _ fault. fault ≡ NoMemory };
+
+    fn from(_refused: AllocError) -> LineFault {
+        LineFault::NoMemory
+    }
+}
