@@ -1,7 +1,8 @@
 -- The frames of a run, one after another.
-use Rattle.std.proofs.Common.{◌≡◌, ℕ, zero, suc, ◌+◌, ◌-◌, ◌<◌, ◌≤◌, List, [], ◌∷◌, ◌++◌, length, take, Ok, Err, refl, sym, ap, ◌∙◌, subst, arith, append-nil, zero-add, length-append}
+use Rattle.std.proofs.Common.{◌≡◌, ℕ, zero, suc, ◌+◌, ◌-◌, ◌<◌, ◌≤◌, ◌==◌, ◌||◌, Bool, true, false, List, [], ◌∷◌, ◌++◌, length, take, Ok, Err, refl, sym, ap, ◌∙◌, subst, arith, append-nil, zero-add, length-append}
 use Rattle.std.specs.List.{flat_map, range_with_len}
 use Rattle.std.proofs.lemmas.Grind.{flat_map-append}
+use Rattle.std.proofs.Math.Nat.{zero-mod}
 use Rattle.std.proofs.Math.Seq.{take-append_seam}
 use Rattle.pic_io.specs.declared.side.Side.{Side}
 use Rattle.pic_io.specs.Sinks.{Sinks, Wrote, Piece, outs, lines, CutAt}
@@ -12,7 +13,8 @@ use Rattle.pic_grid.specs.declared.stop.Stop.{Stop}
 use Rattle.pic_step.specs.SerialStep.{World, stepped}
 use Rattle.pic_step.specs.SerialRun.{after, step_from, stopped_in}
 use Rattle.pic_dump.specs.Due.{is_due}
-use Rattle.pic_run.specs.Frames.{due_frame, frame_where, frame_after, frames_from, frames_of, end_where, end_of}
+use Rattle.pic_run.specs.declared.output.Output.{Output}
+use Rattle.pic_run.specs.Frames.{frame_piece, due_frame, frame_where, frame_after, frames_from, frames_of, end_where, end_of}
 use Rattle.pic_run.specs.Ends.{HasFrames}
 use Rattle.pic_run.specs.Runs.{WroteFrames}
 
@@ -27,36 +29,37 @@ range_split a (suc m) k n j count from =
     ap (range_with_len a) more ∙ ap (λ t. a ∷ t) (range_split (a + 1) m k (m + k) j refl (omega (arith, from)))
 
 -- frames, in two parts
-frames_split : (steps every : ℕ) (w : World) (a m k n j : ℕ) → m + k ≡ n → a + m ≡ j
-    → frames_from steps every w a n ≡ frames_from steps every w a m ++ frames_from steps every w j k
+frames_split : (output : Output) (steps every : ℕ) (w : World) (a m k n j : ℕ) → m + k ≡ n → a + m ≡ j
+    → frames_from output steps every w a n ≡ frames_from output steps every w a m ++ frames_from output steps every w j k
 unfolding frames_from
-frames_split steps every w a m k n j count from =
-    ap (flat_map (frame_after steps every w)) (range_split a m k n j count from)
-    ∙ flat_map-append (frame_after steps every w) (range_with_len a m) (range_with_len j k)
+frames_split output steps every w a m k n j count from =
+    ap (flat_map (frame_after output steps every w)) (range_split a m k n j count from)
+    ∙ flat_map-append (frame_after output steps every w) (range_with_len a m) (range_with_len j k)
 
-frames_one : (steps every : ℕ) (w : World) (j : ℕ) → frames_from steps every w j 1 ≡ frame_after steps every w j
+frames_one : (output : Output) (steps every : ℕ) (w : World) (j : ℕ) → frames_from output steps every w j 1 ≡ frame_after output steps every w j
 unfolding frames_from
-frames_one steps every w j = append-nil (frame_after steps every w j)
+frames_one output steps every w j = append-nil (frame_after output steps every w j)
 
 -- one frame more, where one is due
-frames_more : (steps every : ℕ) (w : World) (n : ℕ)
-    → frames_from steps every w 0 (n + 1) ≡ frames_from steps every w 0 n ++ frame_after steps every w n
-frames_more steps every w n =
-    frames_split steps every w 0 n 1 (n + 1) n refl (zero-add n)
-    ∙ ap (λ t. frames_from steps every w 0 n ++ t) (frames_one steps every w n)
+frames_more : (output : Output) (steps every : ℕ) (w : World) (n : ℕ)
+    → frames_from output steps every w 0 (n + 1) ≡ frames_from output steps every w 0 n ++ frame_after output steps every w n
+frames_more output steps every w n =
+    frames_split output steps every w 0 n 1 (n + 1) n refl (zero-add n)
+    ∙ ap (λ t. frames_from output steps every w 0 n ++ t) (frames_one output steps every w n)
 
-frame_of : (steps every : ℕ) (w v : World) (n : ℕ) → after w n ≡ Ok v → frame_after steps every w n ≡ due_frame (is_due steps every n) n v
+frame_of : (output : Output) (steps every : ℕ) (w v : World) (n : ℕ) → after w n ≡ Ok v
+    → frame_after output steps every w n ≡ due_frame output (is_due steps every n) n v
 unfolding frame_after
-frame_of steps every w v n reached = ap (frame_where steps every n) reached
+frame_of output steps every w v n reached = ap (frame_where output steps every n) reached
 
 -- the first frames, one more, and the rest
-frames_parts : (steps every : ℕ) (w v : World) (n : ℕ) → n ≤ steps → after w n ≡ Ok v
-    → (rest : List Piece) × ((frames_from steps every w 0 n ++ due_frame (is_due steps every n) n v) ++ rest ≡ frames_of steps every w)
-frames_parts steps every w v n most reached =
+frames_parts : (output : Output) (steps every : ℕ) (w v : World) (n : ℕ) → n ≤ steps → after w n ≡ Ok v
+    → (rest : List Piece) × ((frames_from output steps every w 0 n ++ due_frame output (is_due steps every n) n v) ++ rest ≡ frames_of output steps every w)
+frames_parts output steps every w v n most reached =
     let k = steps - n in
-    let split = frames_split steps every w 0 (n + 1) k (steps + 1) (n + 1) (omega arith) (zero-add (n + 1)) in
-    let first = frames_more steps every w n ∙ ap (λ t. frames_from steps every w 0 n ++ t) (frame_of steps every w v n reached) in
-    (frames_from steps every w (n + 1) k, sym (split ∙ ap (λ t. t ++ frames_from steps every w (n + 1) k) first))
+    let split = frames_split output steps every w 0 (n + 1) k (steps + 1) (n + 1) (omega arith) (zero-add (n + 1)) in
+    let first = frames_more output steps every w n ∙ ap (λ t. frames_from output steps every w 0 n ++ t) (frame_of output steps every w v n reached) in
+    (frames_from output steps every w (n + 1) k, sym (split ∙ ap (λ t. t ++ frames_from output steps every w (n + 1) k) first))
 
 -- no step was done yet
 pub after_none : (w : World) → after w 0 ≡ Ok w
@@ -85,13 +88,14 @@ after_stays w end m (suc k) n is stopped =
     subst (λ (j : ℕ). after w j ≡ Err end) next (ap (step_from (suc (m + k))) (after_stays w end m k (m + k) refl stopped))
 
 -- no frame is due after a stop
-no_frames : (steps every : ℕ) (w : World) (end : EndMark) (first count : ℕ) → after w first ≡ Err end → frames_from steps every w first count ≡ []
+no_frames : (output : Output) (steps every : ℕ) (w : World) (end : EndMark) (first count : ℕ) → after w first ≡ Err end
+    → frames_from output steps every w first count ≡ []
 unfolding frames_from frame_after
-no_frames steps every w end first zero stopped = refl
-no_frames steps every w end first (suc count) stopped =
-    let here = ap (frame_where steps every first) stopped in
-    ap (λ t. t ++ flat_map (frame_after steps every w) (range_with_len (first + 1) count)) here
-    ∙ no_frames steps every w end (first + 1) count (after_stays w end first 1 (first + 1) refl stopped)
+no_frames output steps every w end first zero stopped = refl
+no_frames output steps every w end first (suc count) stopped =
+    let here = ap (frame_where output steps every first) stopped in
+    ap (λ t. t ++ flat_map (frame_after output steps every w) (range_with_len (first + 1) count)) here
+    ∙ no_frames output steps every w end (first + 1) count (after_stays w end first 1 (first + 1) refl stopped)
 
 end_done : (steps : ℕ) (w v : World) → after w steps ≡ Ok v → Done steps ≡ end_of steps w
 unfolding end_of
@@ -112,66 +116,86 @@ pieces_wrote a b c ps qs first second =
     (wrote_twice a b c (outs ps) (lines ps) (outs qs) (lines qs) first second))
 
 -- the frames before a state were written, and then the frame of the state, where it is due
-pub more_written : (steps every : ℕ) (w v : World) (n : ℕ) (a b c : Sinks) → after w n ≡ Ok v
-    → Wrote a b (outs (frames_from steps every w 0 n)) (lines (frames_from steps every w 0 n))
-    → Wrote b c (outs (due_frame (is_due steps every n) n v)) (lines (due_frame (is_due steps every n) n v))
-    → Wrote a c (outs (frames_from steps every w 0 (n + 1))) (lines (frames_from steps every w 0 (n + 1)))
-more_written steps every w v n a b c reached first second =
-    let whole = frames_more steps every w n ∙ ap (λ t. frames_from steps every w 0 n ++ t) (frame_of steps every w v n reached) in
+pub more_written : (output : Output) (steps every : ℕ) (w v : World) (n : ℕ) (a b c : Sinks) → after w n ≡ Ok v
+    → Wrote a b (outs (frames_from output steps every w 0 n)) (lines (frames_from output steps every w 0 n))
+    → Wrote b c (outs (due_frame output (is_due steps every n) n v)) (lines (due_frame output (is_due steps every n) n v))
+    → Wrote a c (outs (frames_from output steps every w 0 (n + 1))) (lines (frames_from output steps every w 0 (n + 1)))
+more_written output steps every w v n a b c reached first second =
+    let whole = frames_more output steps every w n ∙ ap (λ t. frames_from output steps every w 0 n ++ t) (frame_of output steps every w v n reached) in
     subst (λ (ps : List Piece). Wrote a c (outs ps) (lines ps)) (sym whole)
-    (pieces_wrote a b c (frames_from steps every w 0 n) (due_frame (is_due steps every n) n v) first second)
+    (pieces_wrote a b c (frames_from output steps every w 0 n) (due_frame output (is_due steps every n) n v) first second)
 
 -- the frame of the state was cut
-pub more_cut : (side : Side) (steps every : ℕ) (w v : World) (n : ℕ) (a b c : Sinks) → n ≤ steps → after w n ≡ Ok v
-    → Wrote a b (outs (frames_from steps every w 0 n)) (lines (frames_from steps every w 0 n))
-    → CutAt side b c (due_frame (is_due steps every n) n v)
-    → CutAt side a c (frames_of steps every w)
-more_cut side steps every w v n a b c most reached first second =
-    let parts = frames_parts steps every w v n most reached in
+pub more_cut : (side : Side) (output : Output) (steps every : ℕ) (w v : World) (n : ℕ) (a b c : Sinks) → n ≤ steps → after w n ≡ Ok v
+    → Wrote a b (outs (frames_from output steps every w 0 n)) (lines (frames_from output steps every w 0 n))
+    → CutAt side b c (due_frame output (is_due steps every n) n v)
+    → CutAt side a c (frames_of output steps every w)
+more_cut side output steps every w v n a b c most reached first second =
+    let parts = frames_parts output steps every w v n most reached in
     subst (λ (ps : List Piece). CutAt side a c ps) parts.1
-    (cut_more side a c (frames_from steps every w 0 n ++ due_frame (is_due steps every n) n v) parts.0
-    (cut_later side a b c (frames_from steps every w 0 n) (due_frame (is_due steps every n) n v) first second))
+    (cut_more side a c (frames_from output steps every w 0 n ++ due_frame output (is_due steps every n) n v) parts.0
+    (cut_later side a b c (frames_from output steps every w 0 n) (due_frame output (is_due steps every n) n v) first second))
 
 -- no frame was written yet
-pub none_written : (steps every : ℕ) (w : World) (a : Sinks) → Wrote a a [] []
-    → Wrote a a (outs (frames_from steps every w 0 0)) (lines (frames_from steps every w 0 0))
+pub none_written : (output : Output) (steps every : ℕ) (w : World) (a : Sinks) → Wrote a a [] []
+    → Wrote a a (outs (frames_from output steps every w 0 0)) (lines (frames_from output steps every w 0 0))
 unfolding frames_from
-none_written steps every w a none = none
+none_written output steps every w a none = none
+
+-- the first state's frame is always due
+or_true : (b : Bool) → (b || true) ≡ true
+or_true true = refl
+or_true false = refl
+
+first_due : (steps every : ℕ) → 1 ≤ every → is_due steps every 0 ≡ true
+first_due steps every above =
+    ap (λ (r : ℕ). 0 == steps || r == 0) (zero-mod every) ∙ or_true (0 == steps)
+
+first_frame : (output : Output) (steps every : ℕ) (w : World) (n : ℕ) → 1 ≤ every
+    → frames_from output steps every w 0 (n + 1) ≡ frame_piece output 0 w ∷ frames_from output steps every w 1 n
+first_frame output steps every w n above =
+    frames_split output steps every w 0 1 n (n + 1) 1 (omega arith) refl
+    ∙ ap (λ t. t ++ frames_from output steps every w 1 n) (frames_one output steps every w 0
+    ∙ frame_of output steps every w w 0 (after_none w)
+    ∙ ap (λ due. due_frame output due 0 w) (first_due steps every above))
 
 -- memory was wanting in a step: the frames before it stand
-pub some_written : (steps every : ℕ) (w : World) (n : ℕ) (a b : Sinks) → n < steps
-    → Wrote a b (outs (frames_from steps every w 0 (n + 1))) (lines (frames_from steps every w 0 (n + 1)))
-    → HasFrames [] (frames_of steps every w) a b
-some_written steps every w n a b below wrote =
+pub some_written : (output : Output) (steps every : ℕ) (w : World) (n : ℕ) (a b : Sinks) → 1 ≤ every → n < steps
+    → Wrote a b (outs (frames_from output steps every w 0 (n + 1))) (lines (frames_from output steps every w 0 (n + 1)))
+    → HasFrames [] (frames_of output steps every w) a b
+some_written output steps every w n a b above below wrote =
     let k = steps - n in
-    let front = frames_from steps every w 0 (n + 1) in
-    let rest = frames_from steps every w (n + 1) k in
-    let split : frames_of steps every w ≡ front ++ rest = frames_split steps every w 0 (n + 1) k (steps + 1) (n + 1) (omega arith) (zero-add (n + 1)) in
-    let whole : take (length front) (frames_of steps every w) ≡ front = ap (take (length front)) split ∙ take-append_seam front rest in
+    let front = frames_from output steps every w 0 (n + 1) in
+    let rest = frames_from output steps every w (n + 1) k in
+    let split : frames_of output steps every w ≡ front ++ rest =
+    frames_split output steps every w 0 (n + 1) k (steps + 1) (n + 1) (omega arith) (zero-add (n + 1)) in
+    let whole : take (length front) (frames_of output steps every w) ≡ front = ap (take (length front)) split ∙ take-append_seam front rest in
     record {
       number = length front;
+      least = let count = ap length (first_frame output steps every w n above) in omega (arith, count);
       most = let count = ap length split in omega (arith, count, length-append front rest);
       wrote = subst (λ (ps : List Piece). Wrote a b (outs ps) (lines ps)) (sym whole) wrote;
     }
 
 -- a step stopped: its frames are all that are due
-pub stopped_written : (steps every : ℕ) (w v : World) (stop : Stop) (n : ℕ) (a b : Sinks) → n < steps → after w n ≡ Ok v → stepped v ≡ Err stop
-    → Wrote a b (outs (frames_from steps every w 0 (n + 1))) (lines (frames_from steps every w 0 (n + 1)))
-    → WroteFrames (frames_of steps every w) (end_of steps w) (Stopped (n + 1) stop) a b
-stopped_written steps every w v stop n a b below reached stops wrote =
+pub stopped_written : (output : Output) (steps every : ℕ) (w v : World) (stop : Stop) (n : ℕ) (a b : Sinks) → n < steps → after w n ≡ Ok v
+    → stepped v ≡ Err stop
+    → Wrote a b (outs (frames_from output steps every w 0 (n + 1))) (lines (frames_from output steps every w 0 (n + 1)))
+    → WroteFrames (frames_of output steps every w) (end_of steps w) (Stopped (n + 1) stop) a b
+stopped_written output steps every w v stop n a b below reached stops wrote =
     let k = steps - n in
     let here = after_stop w v stop n reached stops in
-    let front = frames_from steps every w 0 (n + 1) in
-    let split = frames_split steps every w 0 (n + 1) k (steps + 1) (n + 1) (omega arith) (zero-add (n + 1)) in
-    let none = no_frames steps every w (Stopped (n + 1) stop) (n + 1) k here in
-    let all : frames_of steps every w ≡ front = split ∙ ap (λ t. front ++ t) none ∙ append-nil front in
+    let front = frames_from output steps every w 0 (n + 1) in
+    let split = frames_split output steps every w 0 (n + 1) k (steps + 1) (n + 1) (omega arith) (zero-add (n + 1)) in
+    let none = no_frames output steps every w (Stopped (n + 1) stop) (n + 1) k here in
+    let all : frames_of output steps every w ≡ front = split ∙ ap (λ t. front ++ t) none ∙ append-nil front in
     record {
       ends = end_stopped steps w (Stopped (n + 1) stop) (after_stays w (Stopped (n + 1) stop) (n + 1) (steps - (n + 1)) steps (omega arith) here);
       wrote = subst (λ (ps : List Piece). Wrote a b (outs ps) (lines ps)) (sym all) wrote;
     }
 
 -- the last step was done
-pub done_written : (steps every : ℕ) (w v : World) (a b : Sinks) → after w steps ≡ Ok v
-    → Wrote a b (outs (frames_from steps every w 0 (steps + 1))) (lines (frames_from steps every w 0 (steps + 1)))
-    → WroteFrames (frames_of steps every w) (end_of steps w) (Done steps) a b
-done_written steps every w v a b reached wrote = record { ends = end_done steps w v reached; wrote = wrote }
+pub done_written : (output : Output) (steps every : ℕ) (w v : World) (a b : Sinks) → after w steps ≡ Ok v
+    → Wrote a b (outs (frames_from output steps every w 0 (steps + 1))) (lines (frames_from output steps every w 0 (steps + 1)))
+    → WroteFrames (frames_of output steps every w) (end_of steps w) (Done steps) a b
+done_written output steps every w v a b reached wrote = record { ends = end_done steps w v reached; wrote = wrote }

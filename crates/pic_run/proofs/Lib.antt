@@ -1,8 +1,9 @@
-pub mod Printed
-pub mod Taken
+pub mod PrintedLaws
+pub mod TakenLaws
 pub mod FrameLaws
 pub mod RunLaws
-pub mod Starts
-pub mod EveryState
-pub mod EndsLaws
-pub mod Answers
+pub mod StartLaws
+pub mod StateLaws
+pub mod OpenedLaws
+pub mod EndLaws
+pub mod MeaningLaws

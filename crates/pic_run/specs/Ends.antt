@@ -1,6 +1,6 @@
 -- How a call ends: what it took from its source, what it put on its sinks, and its answer.
-use Rattle.std.specs.Prelude.{◌≡◌, ℕ, ◌≤◌, ◌⊎◌, List, [], ◌++◌, length, take, Option, Some, None, Ok, Err, IfSome, IsSome, IsOk, ⊤}
-use Rattle.pic_io.specs.Told.{Told, Rose, Calm, Quiet}
+use Rattle.std.specs.Prelude.{◌≡◌, ◌≢◌, ℕ, ◌≤◌, ◌⊎◌, List, [], ◌++◌, length, take, Option, Some, None, Result, Ok, Err, IfSome, IsSome, IsOk}
+use Rattle.pic_io.specs.Told.{Told, Quiet}
 use Rattle.pic_io.specs.Source.{IsAtEnd}
 use Rattle.pic_io.specs.Sinks.{Sinks, Wrote, Piece, outs, lines, CutAt, QuietSinks}
 use Rattle.pic_grid.specs.declared.stop.EndMark.TheVariants.{Stopped as EndStopped}
@@ -10,7 +10,6 @@ use Rattle.pic_grid.specs.Lattice.{value_at}
 use Rattle.pic_charge.specs.declared.breaks.Break.{Break}
 use Rattle.pic_charge.specs.Charge.{charge_of}
 use Rattle.pic_charge.specs.Gauss.{IsLeastBreak}
-use Rattle.pic_deck.specs.Refusal.{ReadDeck}
 use Rattle.pic_deck.specs.declared.refusal.Refusal.{Refusal}
 use Rattle.pic_deck.specs.Deck.{DeckView}
 use Rattle.pic_deck.specs.Reading.{walk}
@@ -18,81 +17,107 @@ use Rattle.pic_load.specs.Loading.{loaded}
 use Rattle.pic_step.specs.SerialStep.{World}
 use Rattle.pic_step.specs.SerialRun.{after}
 use Rattle.pic_step.specs.Sound.{IsSound}
+use Rattle.pic_run.specs.declared.cut.Cut.{Cut}
+use Rattle.pic_run.specs.declared.cut.Cut.TheVariants as cut
+use Rattle.pic_run.specs.declared.early.StageStop.{StageStop}
+use Rattle.pic_run.specs.declared.early.StageStop.TheVariants as stage_stop
 use Rattle.pic_run.specs.declared.ended.Ended.{Ended}
-use Rattle.pic_run.specs.declared.ended.Ended.TheVariants.{Done, Checked, Stopped, Usage, Refused, Gauss, ReadFault, WriteFault, NoMemory}
-use Rattle.pic_run.specs.declared.commands.Command.TheVariants.{Check, Run}
-use Rattle.pic_run.specs.Commands.{command_of}
-use Rattle.pic_run.specs.Reading.{deck_limit, Gave}
+use Rattle.pic_run.specs.declared.ended.Ended.TheVariants.{NoMemory}
+use Rattle.pic_line.specs.declared.asked.Command.{Command}
+use Rattle.pic_line.specs.declared.asked.Command.TheVariants.{Check, Run}
+use Rattle.pic_line.specs.CommandLine.{command_of}
+use Rattle.pic_run.specs.Early.{ended_early, early_line}
+use Rattle.pic_run.specs.Ended.{ended_of}
+use Rattle.pic_run.specs.Reading.{deck_limit, Gave, TakesAtMost}
 use Rattle.pic_run.specs.Starting.{first_state, IsGauss, EachGauss}
-use Rattle.pic_run.specs.Outcome.{Outcome, outcome, out_text, report_text, pieces_of}
+use Rattle.pic_run.specs.Outcome.{Outcome, outcome, out_text, report_text, pieces_of, line_alone, accepted, opened, on_deck}
 
 -- the outcome's answer, and both its texts whole
-pub record Fulfils (o : Outcome) (before now : Sinks) (ended : Ended) : Type 0 where
-  pub answer : o.answer ≡ ended
+pub record Fulfils (o : Outcome) (before now : Sinks) (answer : Ended) : Type 0 where
+  pub answers : o.answer ≡ answer
   pub wrote : Wrote before now (out_text o) (report_text o)
 
--- the head and the first so many frames, whole, with their lines
+-- the head, the first frame and so many more, whole, with their lines
 pub record HasFrames (head : List ℕ) (frames : List Piece) (before now : Sinks) : Type 0 where
   pub number : ℕ
+  pub least : 1 ≤ number
   pub most : number ≤ length frames
   pub wrote : Wrote before now (head ++ outs (take number frames)) (lines (take number frames))
 
--- nothing on both sinks, or so much
+-- nothing on both sinks, or so much: memory is wanted before the head, or by a step
 abbrev pub Starves : Outcome → Sinks → Sinks → Type 0
 Starves o before now = Wrote before now [] [] ⊎ HasFrames o.head o.frames before now
 
--- After a write fault the pieces stand up to the put that failed, and nothing of what follows. Want of
--- memory leaves nothing or whole frames. Every other answer is the outcome's, with its texts.
-abbrev pub EndsAs : Outcome → Sinks → Sinks → Ended → Type 0
-EndsAs o before now (WriteFault side) = CutAt side before now (pieces_of o)
-EndsAs o before now NoMemory = Starves o before now
-EndsAs o before now answer = Fulfils o before now answer
+-- A call comes to the outcome's answer, with its texts, or it is cut off: after a put that failed
+-- the pieces stand up to it, and nothing of what follows; want of memory leaves nothing or whole
+-- frames.
+abbrev pub Finishes : Outcome → Sinks → Sinks → Result Ended Cut → Type 0
+Finishes o before now (Ok answer) = Fulfils o before now answer
+Finishes o before now (Err (cut.Write side)) = CutAt side before now (pieces_of o)
+Finishes o before now (Err cut.NoMemory) = Starves o before now
 
--- an answer that is the outcome's
-abbrev pub IsPlain : Ended → Type 0
-IsPlain (WriteFault side) = ⊥
-IsPlain NoMemory = ⊥
-IsPlain answer = ⊤
+-- a call whose stage was stopped: an early end comes to its answer
+abbrev pub EndsStopped : StageStop → Sinks → Sinks → Result Ended Cut → Type 0
+EndsStopped (stage_stop.Answer end) before now finish =
+    Finishes (line_alone (ended_early end) (early_line end)) before now finish
+EndsStopped stage_stop.NoMemory before now finish =
+    (finish ≡ Err cut.NoMemory) × Wrote before now [] []
 
--- an answer on an accepted deck, whose source was read to the end
-abbrev pub ReadsToEnd : Ended → Told → Type 0
-ReadsToEnd (Done steps) now = IsAtEnd now
-ReadsToEnd (Checked particles) now = IsAtEnd now
-ReadsToEnd (Stopped step stop) now = IsAtEnd now
-ReadsToEnd (Gauss b) now = IsAtEnd now
-ReadsToEnd answer now = ⊤
+-- the command is a run, on any number of workers
+abbrev pub IsRun : Option Command → Type 0
+IsRun c = (workers : ℕ) × (c ≡ Some (Run workers))
 
--- a deck that was run or checked begins in a sound state: the limits, the census, Gauss's law
-abbrev pub SoundFor : Ended → World → Type 0
-SoundFor (Done steps) w = IsSound w
-SoundFor (Checked particles) w = IsSound w
-SoundFor (Stopped step stop) w = IsSound w
-SoundFor answer w = ⊤
+-- how a deck was read: at most one byte more than a deck may have; and unless memory was wanting, an
+-- accepted deck to its end, and one that meets Gauss's law begins in a sound state
+pub record ReadsDeck (input : Option (List ℕ)) (source source' : Told)
+    (finish : Result Ended Cut) : Type 0 where
+  pub taken : TakesAtMost deck_limit source source'
+  pub end : finish ≢ Err cut.NoMemory → (d : DeckView) → accepted input ≡ Ok d → IsAtEnd source'
+  pub sound : finish ≢ Err cut.NoMemory
+      → (d : DeckView) → opened input ≡ Ok d → IsSound (first_state d)
 
-abbrev pub SoundDeck : Ended → ReadDeck → Type 0
-SoundDeck ended (Ok d) = SoundFor ended (first_state d)
-SoundDeck ended (Err refusal) = ⊤
+-- how each command reads its source; words that are no command take nothing from it
+abbrev pub Reads : Option Command → Option (List ℕ) → Told → Told → Result Ended Cut → Type 0
+Reads None input source source' finish = source' ≡ source
+Reads (Some Check) input source source' finish = ReadsDeck input source source' finish
+Reads (Some (Run workers)) input source source' finish = ReadsDeck input source source' finish
 
-abbrev pub SoundInput : Ended → Option (List ℕ) → Type 0
-SoundInput ended None = ⊤
-SoundInput ended (Some held) = SoundDeck ended (walk (take deck_limit held))
-
--- the call ends as the outcome says for what its source held
-pub record Ends (words : List (List ℕ)) (source source' : Told) (before now : Sinks) (ended : Ended) : Type 0 where
+-- a command on a deck finishes as it says for what its source held
+pub record OnDeck (performed : DeckView → Outcome) (source source' : Told)
+    (before now : Sinks) (finish : Result Ended Cut) : Type 0 where
   pub input : Option (List ℕ)
   pub gave : Gave source source' input
-  pub as_outcome : EndsAs (outcome words input) before now ended
-  pub to_end : ReadsToEnd ended source'
-  pub sound : SoundInput ended input
-  -- words that are no command take nothing from the source
-  pub idle : command_of words ≡ None → source' ≡ source
+  pub finishes : Finishes (on_deck performed (opened input)) before now finish
+  pub reads : ReadsDeck input source source' finish
+
+-- the call finishes as the outcome says for what its source held
+pub record Performs (words : List (List ℕ)) (source source' : Told) (before now : Sinks)
+    (finish : Result Ended Cut) : Type 0 where
+  pub input : Option (List ℕ)
+  pub gave : Gave source source' input
+  pub finishes : Finishes (outcome words input) before now finish
+  pub reads : Reads (command_of words) input source source' finish
+
+-- the call ends so
+pub record Ends (words : List (List ℕ)) (source source' : Told) (before now : Sinks)
+    (ended : Ended) : Type 0 where
+  pub finish : Result Ended Cut
+  pub performs : Performs words source source' before now finish
+  pub answer : ended_of finish ≡ ended
+
+-- what each command takes of its source at most
+abbrev pub Takes : Option Command → Told → Told → Type 0
+Takes None source source' = source' ≡ source
+Takes (Some Check) source source' = TakesAtMost deck_limit source source'
+Takes (Some (Run workers)) source source' = TakesAtMost deck_limit source source'
 
 -- where the source tells its bytes and no fault can be blamed on a count, the call answers the
 -- outcome and puts its texts, or memory was wanting
 abbrev pub IsComplete : List (List ℕ) → Told → Told → Sinks → Sinks → Ended → Type 0
 IsComplete words source source' before now ended =
     Quiet source source' → QuietSinks before now
-    → IfSome source.bytes (λ held. (ended ≡ NoMemory) ⊎ Fulfils (outcome words (Some held)) before now ended)
+    → IfSome source.bytes
+    (λ held. (ended ≡ NoMemory) ⊎ Fulfils (outcome words (Some held)) before now ended)
 
 -- the source held this deck, where it tells its bytes
 abbrev pub Held : Told → DeckView → Type 0
@@ -103,12 +128,17 @@ pub record IsRefused (words : List (List ℕ)) (source : Told) (refusal : Refusa
   pub command : IsSome (command_of words)
   pub refused : IfSome source.bytes (λ held. walk (take deck_limit held) ≡ Err refusal)
 
+-- the least node of a state where the divergence of E and the charge differ
+abbrev pub IsLeastBreakOf : World → Break → Type 0
+IsLeastBreakOf w b =
+    IsLeastBreak w.cells (div_e w.cells (value_at w.e)) (charge_of w.side w.cells w.kinds w.particles) b
+
 -- the words are a command, and this is the least node where the deck's E and its charge differ
-pub record IsBroken (words : List (List ℕ)) (source source' : Told) (b : Break) : Type 0 where
+pub record BreaksGauss (words : List (List ℕ)) (source source' : Told) (b : Break) : Type 0 where
   pub command : IsSome (command_of words)
   pub deck : DeckView
   pub held : Held source deck
-  pub least : let w = first_state deck in IsLeastBreak w.cells (div_e w.cells (value_at w.e)) (charge_of w.side w.cells w.kinds w.particles) b
+  pub least : IsLeastBreakOf (first_state deck) b
   pub end : IsAtEnd source'
 
 -- the deck meets Gauss's law, and these are its particles
@@ -122,7 +152,7 @@ pub record IsChecked (words : List (List ℕ)) (source source' : Told) (particle
 
 -- the deck's serial run reaches its last step, and each of its states meets Gauss's law
 pub record IsDone (words : List (List ℕ)) (source source' : Told) (steps : ℕ) : Type 0 where
-  pub command : command_of words ≡ Some Run
+  pub command : IsRun (command_of words)
   pub deck : DeckView
   pub held : Held source deck
   pub gauss : EachGauss (first_state deck)
@@ -131,8 +161,9 @@ pub record IsDone (words : List (List ℕ)) (source source' : Told) (steps : ℕ
   pub end : IsAtEnd source'
 
 -- the deck's serial run stops in this step, and each of its states meets Gauss's law
-pub record IsStopped (words : List (List ℕ)) (source source' : Told) (step : ℕ) (stop : Stop) : Type 0 where
-  pub command : command_of words ≡ Some Run
+pub record IsStopped (words : List (List ℕ)) (source source' : Told) (step : ℕ)
+    (stop : Stop) : Type 0 where
+  pub command : IsRun (command_of words)
   pub deck : DeckView
   pub held : Held source deck
   pub gauss : EachGauss (first_state deck)
@@ -140,23 +171,14 @@ pub record IsStopped (words : List (List ℕ)) (source source' : Told) (step : �
   pub end : IsAtEnd source'
 
 -- a run for which memory was wanting left whole frames
-pub record HasRun (words : List (List ℕ)) (source source' : Told) (before now : Sinks) : Type 0 where
-  pub command : command_of words ≡ Some Run
+pub record HasRun (words : List (List ℕ)) (source source' : Told)
+    (before now : Sinks) : Type 0 where
+  pub command : IsRun (command_of words)
   pub input : Option (List ℕ)
   pub gave : Gave source source' input
   pub frames : HasFrames (outcome words input).head (outcome words input).frames before now
 
 -- want of memory leaves nothing on both sinks, or whole frames of a run
 abbrev pub IsStarved : List (List ℕ) → Told → Told → Sinks → Sinks → Type 0
-IsStarved words source source' before now = Wrote before now [] [] ⊎ HasRun words source source' before now
-
--- what each answer means
-pub record Explains (words : List (List ℕ)) (source source' : Told) (before now : Sinks) (ended : Ended) : Type 0 where
-  pub done : (steps : ℕ) → ended ≡ Done steps → IsDone words source source' steps
-  pub stopped : (step : ℕ) (stop : Stop) → ended ≡ Stopped step stop → IsStopped words source source' step stop
-  pub checked : (particles : ℕ) → ended ≡ Checked particles → IsChecked words source source' particles
-  pub gauss : (b : Break) → ended ≡ Gauss b → IsBroken words source source' b
-  pub usage : ended ≡ Usage → command_of words ≡ None
-  pub refused : (refusal : Refusal) → ended ≡ Refused refusal → IsRefused words source refusal
-  pub read_fault : ended ≡ ReadFault → Rose source source' × Calm before.out now.out × Calm before.report now.report
-  pub no_memory : ended ≡ NoMemory → IsStarved words source source' before now
+IsStarved words source source' before now =
+    Wrote before now [] [] ⊎ HasRun words source source' before now

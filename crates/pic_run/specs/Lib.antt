@@ -1,10 +1,12 @@
 pub mod Lines
+pub mod Piece
 pub mod Reading
-pub mod Status
-pub mod Commands
+pub mod Ended
+pub mod Early
 pub mod Starting
 pub mod Frames
 pub mod Rooms
 pub mod Outcome
+pub mod Opened
 pub mod Ends
 pub mod Runs

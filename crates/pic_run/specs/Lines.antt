@@ -41,7 +41,7 @@ printed_path path = map printed_char (chars path)
 
 -- a refusal that names a path
 unfoldable pub path_line : List ℕ → List ℕ → List ℕ → List ℕ
-path_line head path tail = head ++ (printed_path path ++ tail)
+path_line head path tail = head ++ printed_path path ++ tail
 
 -- the number that isn't within its limits, and the limits
 unfoldable pub limit_tail : ℤ → ℤ → ℤ → List ℕ
@@ -59,5 +59,6 @@ refused_line Text = codes "refused 1 text\n"
 refused_line (Unknown path) = path_line (codes "refused 2 unknown ") path (codes "\n")
 refused_line (Missing path) = path_line (codes "refused 3 missing ") path (codes "\n")
 refused_line (Kind path) = path_line (codes "refused 4 kind ") path (codes "\n")
-refused_line (Limit path value low high) = path_line (codes "refused 5 limit ") path (limit_tail value low high)
+refused_line (Limit path value low high) =
+    path_line (codes "refused 5 limit ") path (limit_tail value low high)
 refused_line (Name path) = path_line (codes "refused 6 name ") path (codes "\n")

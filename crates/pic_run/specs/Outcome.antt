@@ -10,18 +10,23 @@ use Rattle.pic_deck.specs.Deck.{DeckView}
 use Rattle.pic_deck.specs.Reading.{walk}
 use Rattle.pic_dump.specs.DumpText.{header_bytes}
 use Rattle.pic_dump.specs.Header.{HeaderView}
+use Rattle.pic_load.specs.Loading.{loaded}
 use Rattle.pic_step.specs.SerialStep.{World}
+use Rattle.pic_run.specs.declared.early.Early.TheVariants as early
 use Rattle.pic_run.specs.declared.ended.Ended.{Ended}
-use Rattle.pic_run.specs.declared.ended.Ended.TheVariants.{Done, Checked, Stopped, Usage, Refused, Gauss, ReadFault}
-use Rattle.pic_run.specs.declared.commands.Command.{Command}
-use Rattle.pic_run.specs.declared.commands.Command.TheVariants.{Check, Run}
-use Rattle.pic_run.specs.Commands.{command_of}
+use Rattle.pic_run.specs.declared.ended.Ended.TheVariants.{Done, Checked, Stopped}
+use Rattle.pic_line.specs.declared.asked.Command.{Command}
+use Rattle.pic_line.specs.declared.asked.Command.TheVariants.{Check, Run}
+use Rattle.pic_run.specs.declared.output.Output.{Output}
+use Rattle.pic_run.specs.declared.output.Output.TheVariants.{Dump}
+use Rattle.pic_line.specs.CommandLine.{command_of}
+use Rattle.pic_run.specs.Early.{Staged, ◌>>=◌, ended_early, early_line}
 use Rattle.pic_run.specs.Frames.{frames_of, end_of, end_piece}
-use Rattle.pic_run.specs.Lines.{check_line, gauss_line, usage_line, read_fault_line, refused_line}
+use Rattle.pic_run.specs.Lines.{check_line}
 use Rattle.pic_run.specs.Reading.{deck_limit}
 use Rattle.pic_run.specs.Starting.{first_state, break_of, header_of}
 
--- an answer, and what goes to the two sinks: the head of a dump, its frames, and what comes last
+-- an answer, and what goes to the two sinks: the head of a dump, frames, and what comes last
 pub record Outcome : Type 0 where
   pub answer : Ended
   pub head : List ℕ
@@ -42,59 +47,76 @@ with_head (byte ∷ head) pieces = record { out = byte ∷ head; line = [] } ∷
 abbrev pub pieces_of : Outcome → List Piece
 pieces_of o = with_head o.head (o.frames ++ o.last ∷ [])
 
+-- The stages of a deck. The bytes that are taken of what the source held; None: a read failed
+abbrev pub taken : Option (List ℕ) → Staged (List ℕ)
+taken None = Err early.ReadFault
+taken (Some held) = Ok (take deck_limit held)
+
+-- the deck, or the first refusal that its walk meets
+abbrev pub unless_refused : ReadDeck → Staged DeckView
+unless_refused (Ok d) = Ok d
+unless_refused (Err refusal) = Err (early.Refused refusal)
+
+abbrev pub accepted : Option (List ℕ) → Staged DeckView
+accepted input = taken input >>= (λ text. unless_refused (walk text))
+
+-- a deck that meets Gauss's law, or the least node where it fails
+abbrev pub unless_broken : DeckView → Option Break → Staged DeckView
+unless_broken d None = Ok d
+unless_broken d (Some b) = Err (early.Gauss b)
+
+abbrev pub opened : Option (List ℕ) → Staged DeckView
+opened input = accepted input >>= (λ d. unless_broken d (break_of (first_state d)))
+
 -- nothing on out, and one line on report
 abbrev pub line_alone : Ended → List ℕ → Outcome
-line_alone answer line = record { answer = answer; head = []; frames = []; last = record { out = []; line = line } }
+line_alone answer line = record {
+  answer = answer;
+  head = [];
+  frames = [];
+  last = record { out = []; line = line };
+}
+
+-- what a command makes of its deck, or an early end
+abbrev pub on_deck : (DeckView → Outcome) → Staged DeckView → Outcome
+on_deck performed (Ok d) = performed d
+on_deck performed (Err end) = line_alone (ended_early end) (early_line end)
+
+-- a deck that can be run: its number of particles, on out
+abbrev pub check_outcome : DeckView → Outcome
+check_outcome d = record {
+  answer = Checked (length (loaded d));
+  head = [];
+  frames = [];
+  last = record { out = check_line (length (loaded d)); line = [] };
+}
 
 -- the answer of a run that ends so
 abbrev pub answer_of : EndMark → Ended
 answer_of (EndDone steps) = Done steps
 answer_of (EndStopped step stop) = Stopped step stop
 
+-- some frames behind a head, and the end of a run behind them
+abbrev pub states_outcome : Output → List ℕ → List Piece → EndMark → Outcome
+states_outcome output head frames end = record {
+  answer = answer_of end;
+  head = head;
+  frames = frames;
+  last = end_piece output end;
+}
+
 -- the run that a header is of, from its first state w
-abbrev pub run_outcome : HeaderView → World → Outcome
-run_outcome h w = record {
-  answer = answer_of (end_of h.steps w);
-  head = header_bytes h;
-  frames = frames_of h.steps h.every w;
-  last = end_piece (end_of h.steps w);
-}
+abbrev pub dump_outcome : HeaderView → World → Outcome
+dump_outcome h w =
+    states_outcome Dump (header_bytes h) (frames_of Dump h.steps h.every w) (end_of h.steps w)
 
--- a deck that can be run: its number of particles, on out
-abbrev pub check_outcome : World → Outcome
-check_outcome w = record {
-  answer = Checked (length w.particles);
-  head = [];
-  frames = [];
-  last = record { out = check_line (length w.particles); line = [] };
-}
-
--- a command on a deck that meets Gauss's law
-abbrev pub sound_outcome : Command → DeckView → World → Outcome
-sound_outcome Check d w = check_outcome w
-sound_outcome Run d w = run_outcome (header_of d) w
-
--- a deck that doesn't meet Gauss's law is refused with the least node where it fails
-abbrev pub tested_outcome : Command → DeckView → World → Option Break → Outcome
-tested_outcome command d w None = sound_outcome command d w
-tested_outcome command d w (Some b) = line_alone (Gauss b) (gauss_line b)
-
-abbrev pub accepted_outcome : Command → DeckView → Outcome
-accepted_outcome command d = tested_outcome command d (first_state d) (break_of (first_state d))
-
--- a deck is refused with the first refusal that its walk meets
-abbrev pub deck_outcome : Command → ReadDeck → Outcome
-deck_outcome command (Ok d) = accepted_outcome command d
-deck_outcome command (Err refusal) = line_alone (Refused refusal) (refused_line refusal)
-
--- the source's bytes, or None where a read failed
-abbrev pub source_outcome : Command → Option (List ℕ) → Outcome
-source_outcome command None = line_alone ReadFault read_fault_line
-source_outcome command (Some held) = deck_outcome command (walk (take deck_limit held))
+abbrev pub run_outcome : DeckView → Outcome
+run_outcome d = dump_outcome (header_of d) (first_state d)
 
 abbrev pub command_outcome : Option Command → Option (List ℕ) → Outcome
-command_outcome None input = line_alone Usage usage_line
-command_outcome (Some command) input = source_outcome command input
+command_outcome None input = line_alone (ended_early early.Usage) (early_line early.Usage)
+command_outcome (Some Check) input = on_deck check_outcome (opened input)
+command_outcome (Some (Run workers)) input = on_deck run_outcome (opened input)
 
 unfoldable pub outcome : List (List ℕ) → Option (List ℕ) → Outcome
 outcome words input = command_outcome (command_of words) input

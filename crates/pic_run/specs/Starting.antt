@@ -18,7 +18,8 @@ first_state d = start_of d (loaded d)
 
 -- the least node of a state, x fastest, where the divergence of E and the charge differ
 unfoldable pub break_of : World → Option Break
-break_of w = first_break w.cells (div_e w.cells (value_at w.e)) (charge_of w.side w.cells w.kinds w.particles)
+break_of w =
+    first_break w.cells (div_e w.cells (value_at w.e)) (charge_of w.side w.cells w.kinds w.particles)
 
 -- Gauss's law, at every node of a state
 abbrev pub IsGauss : World → Type 0
@@ -34,4 +35,10 @@ EveryStateMeetsGauss = (w : World) → IsSound w → EachGauss w
 
 -- what the header of the dump says
 abbrev pub header_of : DeckView → HeaderView
-header_of d = record { cells = d.cells; steps = d.steps; every = d.every; scales = d.scales; species = heads_of d }
+header_of d = record {
+  cells = d.cells;
+  steps = d.steps;
+  every = d.every;
+  scales = d.scales;
+  species = heads_of d;
+}

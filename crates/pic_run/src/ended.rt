@@ -1,6 +1,9 @@
-ghost use Rattle.std.specs.Prelude.{◌≡◌};
-ghost use Rattle.pic_run.specs.Status.{status_of};
+//! How a call of `pic` ended, and the exit status of that.
 
+ghost use Rattle.std.specs.Prelude.{◌≡◌};
+ghost use Rattle.pic_run.specs.Ended.{status_of, ended_of};
+
+use crate::cut::Cut;
 use pic_charge::Break;
 use pic_deck::Refusal;
 use pic_grid::Stop;
@@ -43,5 +46,16 @@ impl Ended {
             Ended::WriteFault(_) => 5,
             Ended::NoMemory => 6,
         }
+    }
+}
+
+/// The end of a call that came to an answer, or was cut off.
+pub fn ended_of(finish: Result<Ended, Cut>) -> Ended
+    ensures { result ≡ ended_of finish }
+{
+    match finish {
+        Ok(answer) => answer,
+        Err(Cut::Write(side)) => Ended::WriteFault(side),
+        Err(Cut::NoMemory) => Ended::NoMemory,
     }
 }

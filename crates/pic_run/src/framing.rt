@@ -1,14 +1,17 @@
+//! What a run puts of its states and of its end.
+
 ghost use Rattle.std.specs.Prelude.{◌≡◌, ◌≤◌, [], ◌∷◌};
 ghost use Rattle.pic_io.specs.Sinks.{sinks, Writes};
 ghost use Rattle.pic_step.specs.Sound.{IsSound};
 ghost use Rattle.pic_dump.specs.Due.{is_due};
-ghost use Rattle.pic_run.specs.Frames.{frame_piece, due_frame, energies_in};
+ghost use Rattle.pic_run.specs.Frames.{frame_piece, due_frame, energies_in, end_piece};
 ghost use Rattle.pic_run.specs.Rooms.{HasRoom, IsFilled};
 
-use crate::writing::put_line;
-use pic_dump::put_frame;
-use pic_energy::{Energies, energies, frame_line};
-use pic_grid::Snapshot;
+use crate::output::Output;
+use crate::writing::{put_line, put_out};
+use pic_dump::{put_end, put_frame};
+use pic_energy::{Energies, end_line, energies, frame_line};
+use pic_grid::{EndMark, Snapshot};
 use pic_io::{Failed, Side, Sink};
 use pic_step::State;
 
@@ -20,8 +23,9 @@ pub fn is_due(steps: u32, every: u32, step: u32) -> bool
     step == steps || step % every == 0
 }
 
-/// Writes the frame of a state, and its line, where it is due. What the room held is lost.
+/// Writes the frame of a state, where it is due. What the room held is lost.
 pub fn write_due<O: Sink, R: Sink>(
+    output: Output,
     out: &mut O,
     report: &mut R,
     due: bool,
@@ -30,19 +34,20 @@ pub fn write_due<O: Sink, R: Sink>(
     room: &mut Snapshot,
 ) -> Result<(), Side>
     requires { HasRoom room.old state.now }
-    ensures writes { Writes (sinks (O.told out.old) (R.told report.old)) (sinks (O.told out.new) (R.told report.new))
-        (due_frame due step state.now) result }
+    ensures writes { Writes (sinks (O.told out.old) (R.told report.old))
+        (sinks (O.told out.new) (R.told report.new))
+        (due_frame output due step state.now) result }
     ensures room { HasRoom room.new state.now }
 {
     if due {
-        write_frame(out, report, step, state, room)
+        write_frame(output, out, report, step, state, room)
     } else {
         Ok(())
     }
 }
 
-// The frame on out, and then its line on report.
 fn write_frame<O: Sink, R: Sink>(
+    output: Output,
     out: &mut O,
     report: &mut R,
     step: u32,
@@ -50,15 +55,21 @@ fn write_frame<O: Sink, R: Sink>(
     room: &mut Snapshot,
 ) -> Result<(), Side>
     requires { HasRoom room.old state.now }
-    ensures writes { Writes (sinks (O.told out.old) (R.told report.old)) (sinks (O.told out.new) (R.told report.new))
-        (frame_piece step state.now ∷ []) result }
+    ensures writes { Writes (sinks (O.told out.old) (R.told report.old))
+        (sinks (O.told out.new) (R.told report.new))
+        (frame_piece output step state.now ∷ []) result }
     ensures room { HasRoom room.new state.now }
 {
     state.fill(room);
     let energies = energies_in(state, room);
-    match put_frame(out, step, room, energies) {
-        Ok(()) => put_line(report, frame_line(step, energies).bytes()),
-        Err(Failed) => Err(Side::Out),
+    let line = frame_line(step, energies);
+    let text = line.bytes();
+    match output {
+        Output::Dump => match put_frame(out, step, room, energies) {
+            Ok(()) => put_line(report, text),
+            Err(Failed) => Err(Side::Out),
+        },
+        Output::Lines => put_out(out, text),
     }
 }
 
@@ -70,4 +81,26 @@ fn energies_in(state: &State, room: &Snapshot) -> Energies
 {
     let _cells = state.cells();
     energies(&state.scales(), state.kinds(), room)
+}
+
+/// Writes the end of a run.
+pub fn put_last<O: Sink, R: Sink>(
+    output: Output,
+    out: &mut O,
+    report: &mut R,
+    end: EndMark,
+) -> Result<(), Side>
+    ensures { Writes (sinks (O.told out.old) (R.told report.old))
+        (sinks (O.told out.new) (R.told report.new))
+        (end_piece output end ∷ []) result }
+{
+    let line = end_line(end);
+    let text = line.bytes();
+    match output {
+        Output::Dump => match put_end(out, end) {
+            Ok(()) => put_line(report, text),
+            Err(Failed) => Err(Side::Out),
+        },
+        Output::Lines => put_out(out, text),
+    }
 }

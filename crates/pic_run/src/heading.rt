@@ -1,3 +1,5 @@
+//! The header of the dump of a run.
+
 ghost use Rattle.std.specs.Prelude.{◌≡◌, map, IfOk};
 ghost use Rattle.pic_deck.specs.Species.{head_of};
 ghost use Rattle.pic_run.specs.Starting.{header_of};

@@ -2,15 +2,19 @@
 #![tactic(auto)]
 
 mod call;
-mod commands;
+mod check;
+mod cut;
+mod early;
 mod ended;
 mod framing;
 mod heading;
 mod laws;
 mod lines;
+mod opened;
+mod output;
 mod reading;
 mod refusing;
-mod running;
+mod run;
 mod starting;
 mod writing;
 

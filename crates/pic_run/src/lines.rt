@@ -1,3 +1,5 @@
+//! The lines of a report, but for those of refused decks and of frames.
+
 ghost use Rattle.std.specs.Prelude.{◌≡◌};
 ghost use Rattle.pic_run.specs.Lines.{check_line, gauss_line, usage_line, read_fault_line, limit_tail};
 

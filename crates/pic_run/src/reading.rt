@@ -1,3 +1,5 @@
+//! A source, read to its end or to a limit.
+
 ghost use Rattle.std.specs.Prelude.{◌≡◌, ◌≤◌, ◌<◌, length, IfOk};
 ghost use Rattle.pic_io.specs.Told.{HasCause};
 ghost use Rattle.pic_io.specs.Source.{Takes};

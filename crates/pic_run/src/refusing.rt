@@ -1,12 +1,19 @@
-ghost use Rattle.std.specs.Prelude.{◌≡◌, ◌++◌};
+//! The line of a refused deck, which takes no memory, however long its path is.
+
+ghost use Rattle.std.specs.Prelude.{◌≡◌, ◌<◌, ◌≤◌, ◌++◌, length, OnOk};
 ghost use Rattle.pic_deck.specs.declared.refusal.Refusal.TheVariants.{Limit};
 ghost use Rattle.pic_io.specs.Sinks.{WritesLine};
 ghost use Rattle.pic_run.specs.Lines.{printed_char, printed_path, path_line, refused_line};
+ghost use Rattle.pic_run.specs.Piece.{PutsFull};
 
 use crate::lines::tail_of_limit;
 use crate::writing::put_line;
 use pic_deck::{KeyPath, Refusal};
 use pic_io::{Side, Sink};
+use pic_num::Text;
+
+// The bytes of a put at most; a line with a longer path is put in several.
+const PIECE_BYTES: usize = 256;
 
 /// Puts the line of a deck that is refused on the report. It takes no memory, however long the path.
 #[tactic(auto, unfolding(crate::specs::Lines::refused_line))]
@@ -36,39 +43,52 @@ fn put_limit<R: Sink>(
     low: i128,
     high: i128,
 ) -> Result<(), Side>
-    ensures { WritesLine (R.told report.old) (R.told report.new) (refused_line (Limit path.now value low high)) result }
+    ensures { WritesLine (R.told report.old) (R.told report.new)
+        (refused_line (Limit path.now value low high)) result }
 {
     let tail = tail_of_limit(value, low, high);
     put_path_line(report, b"refused 5 limit ", path, tail.bytes())
 }
 
-#[tactic(auto, unfolding(crate::specs::Lines::path_line))]
 fn put_path_line<R: Sink>(
     report: &mut R,
     head: &[u8],
     path: &KeyPath,
     tail: &[u8],
 ) -> Result<(), Side>
-    ensures { WritesLine (R.told report.old) (R.told report.new) (path_line head.now path.now tail.now) result }
+    requires { length head.now ≤ PIECE_BYTES }
+    ensures { WritesLine (R.told report.old) (R.told report.new)
+        (path_line head.now path.now tail.now) result }
 {
-    put_line(report, head)?;
-    put_path_then(report, path, tail)
-}
-
-fn put_path_then<R: Sink>(report: &mut R, path: &KeyPath, tail: &[u8]) -> Result<(), Side>
-    ensures { WritesLine (R.told report.old) (R.told report.new) (printed_path path.now ++ tail.now) result }
-{
-    put_path(report, path.as_str())?;
+    put_path(report, head, path.as_str())?;
     put_line(report, tail)
 }
 
-// The path, each character outside `!` to `~` as `?`.
-fn put_path<R: Sink>(report: &mut R, path: &str) -> Result<(), Side>
-    ensures { WritesLine (R.told report.old) (R.told report.new) (printed_path path.now) result }
+// The head, and the path with each character outside `!` to `~` as `?`.
+fn put_path<R: Sink>(report: &mut R, head: &[u8], path: &str) -> Result<(), Side>
+    requires { length head.now ≤ PIECE_BYTES }
+    ensures { WritesLine (R.told report.old) (R.told report.new)
+        (head.now ++ printed_path path.now) result }
 {
+    let mut piece: Text<PIECE_BYTES> = Text::new();
+    piece.push(head);
     for c in path.chars() {
-        put_line(report, &[printed_char(c)])?;
+        put_full(report, &mut piece)?;
+        piece.push_byte(printed_char(c));
     }
+    put_line(report, piece.bytes())
+}
+
+// Puts a piece that has no room for one byte more, and begins the next one.
+fn put_full<R: Sink>(report: &mut R, piece: &mut Text<PIECE_BYTES>) -> Result<(), Side>
+    ensures room { OnOk result (length piece.new < PIECE_BYTES) }
+    ensures puts { PutsFull (R.told report.old) (R.told report.new) piece.old piece.new result }
+{
+    if piece.bytes().len() < PIECE_BYTES {
+        return Ok(());
+    }
+    put_line(report, piece.bytes())?;
+    *piece = Text::new();
     Ok(())
 }
 

@@ -1,3 +1,5 @@
+//! The test of Gauss's law that a deck has to pass.
+
 ghost use Rattle.std.specs.Prelude.{◌≡◌, None, IfOk};
 ghost use Rattle.pic_load.specs.Loading.{AreLoaded};
 ghost use Rattle.pic_step.specs.SerialRun.{start_of};

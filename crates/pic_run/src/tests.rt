@@ -1,3 +1,5 @@
+//! Whole runs: in bytes, in values of their dumps, and with each fault in mid-run.
+
 ghost use Rattle.pic_load.specs.Loading.{AreLoaded};
 
 use crate::starting::find_break;
@@ -14,17 +16,9 @@ use std::test::Fail;
 
 // An empty grid of 2 by 2 by 2 cells, and no step.
 const EMPTY_DECK: &[u8] = b"version = 1
-[grid]
-cells = [2, 2, 2]
-tiles = [1, 1, 1]
-[run]
-steps = 0
-every = 1
-[scale]
-e_to_b = [1, 4]
-b_to_e = [1, 1]
-e_force = [1, 0]
-b_force = [1, 0]
+grid = { cells = [2, 2, 2], tiles = [1, 1, 1] }
+run = { steps = 0, every = 1 }
+scale = { e_to_b = [1, 4], b_to_e = [1, 1], e_force = [1, 0], b_force = [1, 0] }
 ";
 
 // The same with three steps, and a frame due after every ten.
@@ -44,153 +38,61 @@ field = { faces = [[2, 0, 0, 0, 4097]] }
 
 // A step of the fields alone: Bz is 8 on one face.
 const VACUUM_DECK: &[u8] = b"version = 1
-[grid]
-cells = [4, 4, 4]
-tiles = [2, 2, 2]
-[run]
-steps = 1
-every = 1
-[scale]
-e_to_b = [0, 0]
-b_to_e = [1, 1]
-e_force = [1, 0]
-b_force = [1, 0]
-[field]
-faces = [[2, 0, 0, 0, 8]]
+grid = { cells = [4, 4, 4], tiles = [2, 2, 2] }
+run = { steps = 1, every = 1 }
+scale = { e_to_b = [0, 0], b_to_e = [1, 1], e_force = [1, 0], b_force = [1, 0] }
+field = { faces = [[2, 0, 0, 0, 8]] }
 ";
 
 // An ion and an electron at one point; the electron moves half a cell.
 const PAIR_DECK: &[u8] = b"version = 1
-[grid]
-cells = [4, 4, 4]
-tiles = [2, 2, 2]
-[run]
-steps = 1
-every = 1
-[scale]
-e_to_b = [0, 0]
-b_to_e = [0, 0]
-e_force = [1, 20]
-b_force = [0, 0]
-[[species]]
-name = \"ion\"
-charge = 1
-mass = 1836
-kick = [0, 0]
-turn = [0, 0]
-points = [[1024, 0, 0, 0, 0, 0]]
-[[species]]
-name = \"electron\"
-charge = -1
-mass = 1
-kick = [0, 0]
-turn = [0, 0]
-points = [[1024, 0, 0, 8388608, 0, 0]]
+grid = { cells = [4, 4, 4], tiles = [2, 2, 2] }
+run = { steps = 1, every = 1 }
+scale = { e_to_b = [0, 0], b_to_e = [0, 0], e_force = [1, 20], b_force = [0, 0] }
+species = [
+    { name = \"ion\", charge = 1, mass = 1836, kick = [0, 0], turn = [0, 0],
+        points = [[1024, 0, 0, 0, 0, 0]] },
+    { name = \"electron\", charge = -1, mass = 1, kick = [0, 0], turn = [0, 0],
+        points = [[1024, 0, 0, 8388608, 0, 0]] },
+]
 ";
 
-// The ion alone, with no field: its charge breaks Gauss's law.
+// An ion alone, with no field: its charge breaks Gauss's law.
 const LONE_DECK: &[u8] = b"version = 1
-[grid]
-cells = [4, 4, 4]
-tiles = [2, 2, 2]
-[run]
-steps = 1
-every = 1
-[scale]
-e_to_b = [0, 0]
-b_to_e = [0, 0]
-e_force = [1, 20]
-b_force = [0, 0]
-[[species]]
-name = \"ion\"
-charge = 1
-mass = 1836
-kick = [0, 0]
-turn = [0, 0]
-points = [[1024, 0, 0, 0, 0, 0]]
+grid = { cells = [4, 4, 4], tiles = [2, 2, 2] }
+run = { steps = 1, every = 1 }
+scale = { e_to_b = [0, 0], b_to_e = [0, 0], e_force = [1, 20], b_force = [0, 0] }
+species = [
+    { name = \"ion\", charge = 1, mass = 1836, kick = [0, 0], turn = [0, 0],
+        points = [[1024, 0, 0, 0, 0, 0]] },
+]
 ";
 
-// A pair on a small grid; the electron leaves the box on one side and comes in on the other.
-const WRAP_DECK: &[u8] = b"version = 1
-[grid]
-cells = [2, 2, 2]
-tiles = [1, 1, 1]
-[run]
-steps = 1
-every = 1
-[scale]
-e_to_b = [0, 0]
-b_to_e = [0, 0]
-e_force = [1, 20]
-b_force = [0, 0]
-[[species]]
-name = \"ion\"
-charge = 1
-mass = 1836
-kick = [0, 0]
-turn = [0, 0]
-points = [[100, 0, 0, 0, 0, 0]]
-[[species]]
-name = \"electron\"
-charge = -1
-mass = 1
-kick = [0, 0]
-turn = [0, 0]
-points = [[100, 0, 0, -819200, 0, 0]]
-";
-
-// Three pairs on a grid of two cells an axis: one electron crosses a corner, one stands still, and one
-// moves a whole cell and comes in on the other side.
+// Three pairs on a grid of two cells an axis: one electron crosses a corner, one stands still, and
+// one moves a whole cell and comes in on the other side.
 const CORNER_DECK: &[u8] = b"version = 1
-[grid]
-cells = [2, 2, 2]
-tiles = [1, 1, 1]
-[run]
-steps = 1
-every = 1
-[scale]
-e_to_b = [0, 0]
-b_to_e = [0, 0]
-e_force = [1, 20]
-b_force = [0, 0]
-[[species]]
-name = \"ion\"
-charge = 1
-mass = 1836
-kick = [0, 0]
-turn = [0, 0]
-points = [[4095, 4095, 4095, 0, 0, 0], [100, 0, 0, 0, 0, 0], [4096, 0, 0, 0, 0, 0]]
-[[species]]
-name = \"electron\"
-charge = -1
-mass = 1
-kick = [0, 0]
-turn = [0, 0]
-points = [[4095, 4095, 4095, 8192, 8192, 8192], [100, 0, 0, 0, 0, 0], [4096, 0, 0, 16777216, 0, 0]]
+grid = { cells = [2, 2, 2], tiles = [1, 1, 1] }
+run = { steps = 1, every = 1 }
+scale = { e_to_b = [0, 0], b_to_e = [0, 0], e_force = [1, 20], b_force = [0, 0] }
+species = [
+    { name = \"ion\", charge = 1, mass = 1836, kick = [0, 0], turn = [0, 0],
+        points = [[4095, 4095, 4095, 0, 0, 0], [100, 0, 0, 0, 0, 0], [4096, 0, 0, 0, 0, 0]] },
+    { name = \"electron\", charge = -1, mass = 1, kick = [0, 0], turn = [0, 0],
+        points = [[4095, 4095, 4095, 8192, 8192, 8192], [100, 0, 0, 0, 0, 0],
+            [4096, 0, 0, 16777216, 0, 0]] },
+]
 ";
 
 // Two uncharged particles, both too fast.
 const FAST_DECK: &[u8] = b"version = 1
-[grid]
-cells = [4, 4, 4]
-tiles = [2, 2, 2]
-[run]
-steps = 5
-every = 1
-[scale]
-e_to_b = [0, 0]
-b_to_e = [0, 0]
-e_force = [1, 0]
-b_force = [0, 0]
-[field]
-e = [1, 0, 0]
-[[species]]
-name = \"neutral\"
-charge = 0
-mass = 1
-kick = [8388608, 0]
-turn = [0, 0]
-points = [[8192, 0, 0, 16777216, 0, 0], [0, 0, 0, 16777216, 0, 0]]
+grid = { cells = [4, 4, 4], tiles = [2, 2, 2] }
+run = { steps = 5, every = 1 }
+scale = { e_to_b = [0, 0], b_to_e = [0, 0], e_force = [1, 0], b_force = [0, 0] }
+field = { e = [1, 0, 0] }
+species = [
+    { name = \"neutral\", charge = 0, mass = 1, kick = [8388608, 0], turn = [0, 0],
+        points = [[8192, 0, 0, 16777216, 0, 0], [0, 0, 0, 16777216, 0, 0]] },
+]
 ";
 
 // The header of the empty deck's dump, of 64 bytes: the mark, the cells, steps 0, every 1, four multipliers, no species.
@@ -198,6 +100,8 @@ const EMPTY_HEADER: &[u8] = b"PICDUMP1\
     \0\0\0\x02\0\0\0\x02\0\0\0\x02\0\0\0\0\0\0\0\x01\
     \0\0\0\x01\0\0\0\x04\0\0\0\x01\0\0\0\x01\0\0\0\x01\0\0\0\0\0\0\0\x01\0\0\0\0\
     \0\0\0\0";
+
+const LONE_REPORT: &[u8] = b"gauss 0 0 0 div 0 rho 618475290624\n";
 
 const EMPTY_REPORT: &[u8] = b"frame 0 kinetic 0 electric 0 magnetic 0\ndone 0\n";
 
@@ -279,26 +183,92 @@ fn calm<'a>(words: &'a [&'a str], deck: &'a [u8]) -> Given<'a> {
     }
 }
 
-// What a run leaves: its status, its report, how many bytes stand on out, and some of them.
+// A run's dump: the cells of an axis, its species and its particles say where its numbers stand.
 #[derive(Clone, Copy)]
-struct Dumped<'a> {
-    status: u8,
-    report: &'a [u8],
-    len: usize,
-    parts: &'a [(usize, &'a [u8])],
+struct Dump<'a> {
+    bytes: &'a [u8],
+    cells: usize,
+    species: usize,
+    particles: usize,
 }
 
-fn check_run(rt: &impl Abort, alloc: Global, deck: &[u8], wanted: &Dumped<'_>) -> Result<(), Fail> {
-    let left = call(alloc, &calm(&["run"], deck))?;
-    assert_eq!(rt; left.report.bytes(), wanted.report);
-    assert_eq!(rt; left.status, wanted.status);
-    let out = left.out.bytes();
-    assert_eq!(rt; out.len(), wanted.len);
-    for (place, part) in wanted.parts {
-        let rest = out.get(*place..).expect(rt, "a place of the dump");
-        assert!(rt; rest.starts_with(part));
+// The number of so many bytes at this place: one of 16 bytes has a sign.
+fn number_at(bytes: &[u8], place: usize, len: usize) -> Option<i128> {
+    let mut number: i128 = 0;
+    for byte in bytes.get(place..)?.get(..len)? {
+        number = number.wrapping_mul(256).wrapping_add(i128::from(*byte));
+    }
+    Some(number)
+}
+
+// The places of a frame's values and of its particles.
+fn frame_at(dump: &Dump<'_>, frame: usize) -> (usize, usize) {
+    let values = dump.cells.wrapping_pow(3).wrapping_mul(96);
+    let particles = dump.particles.wrapping_mul(24);
+    let frame_len = values.wrapping_add(particles).wrapping_add(53);
+    let header = dump.species.wrapping_mul(60).wrapping_add(64);
+    let first = header
+        .wrapping_add(frame_len.wrapping_mul(frame))
+        .wrapping_add(5);
+    (first, first.wrapping_add(values))
+}
+
+// The value of E on the edge of this axis at a cell, in a frame.
+fn value_at(dump: &Dump<'_>, frame: usize, axis: usize, cell: [usize; 3]) -> Option<i128> {
+    let n = dump.cells;
+    let [x, y, z] = cell;
+    let plane = axis.wrapping_mul(n).wrapping_add(z);
+    let row = plane.wrapping_mul(n).wrapping_add(y);
+    let number = row.wrapping_mul(n).wrapping_add(x);
+    let (values, _) = frame_at(dump, frame);
+    number_at(dump.bytes, values.wrapping_add(number.wrapping_mul(16)), 16)
+}
+
+// The position of a particle on this axis, in a frame.
+fn position_at(dump: &Dump<'_>, frame: usize, axis: usize, particle: usize) -> Option<i128> {
+    let (_, particles) = frame_at(dump, frame);
+    let place = particles.wrapping_add(particle.wrapping_mul(24));
+    number_at(dump.bytes, place.wrapping_add(axis.wrapping_mul(4)), 4)
+}
+
+// What stands on report after a run, and what its dump has in frame 1: some values of E by axis and
+// cell, and some positions by axis and particle.
+#[derive(Clone, Copy)]
+struct Ran<'a> {
+    deck: &'a [u8],
+    shape: Dump<'a>,
+    report: &'a [u8],
+    len: usize,
+    values: &'a [(usize, [usize; 3], i128)],
+    positions: &'a [(usize, usize, i128)],
+}
+
+fn check_run(rt: &impl Abort, alloc: Global, ran: &Ran<'_>) -> Result<(), Fail> {
+    let left = call(alloc, &calm(&["run"], ran.deck))?;
+    assert_eq!(rt; left.report.bytes(), ran.report);
+    assert_eq!(rt; left.status, 0);
+    let dump = Dump {
+        bytes: left.out.bytes(),
+        ..ran.shape
+    };
+    assert_eq!(rt; dump.bytes.len(), ran.len);
+    for (axis, cell, value) in ran.values {
+        assert_eq!(rt; value_at(&dump, 1, *axis, *cell), Some(*value));
+    }
+    for (axis, particle, position) in ran.positions {
+        assert_eq!(rt; position_at(&dump, 1, *axis, *particle), Some(*position));
     }
     Ok(())
+}
+
+// So many cells an axis, species and particles.
+fn shape(cells: usize, species: usize, particles: usize) -> Dump<'static> {
+    Dump {
+        bytes: b"",
+        cells,
+        species,
+        particles,
+    }
 }
 
 #[test]
@@ -314,17 +284,34 @@ fn the_empty_run(rt: HostRuntime) -> Result<(), Fail> {
 }
 
 #[test]
-fn a_deck_is_checked(rt: HostRuntime) -> Result<(), Fail> {
-    let cases: [(&[&str], &[u8], &[u8]); 3] = [
-        (&[], EMPTY_DECK, b"ok 0 particles\n"),
-        (&["check"], EMPTY_DECK, b"ok 0 particles\n"),
-        (&["check"], PAIR_DECK, b"ok 2 particles\n"),
+fn calls_without_a_dump(rt: HostRuntime) -> Result<(), Fail> {
+    let cases: [(&[&str], &[u8], u8, &[u8], &[u8]); 8] = [
+        (&[], EMPTY_DECK, 0, b"ok 0 particles\n", b""),
+        (&["check"], PAIR_DECK, 0, b"ok 2 particles\n", b""),
+        (&["check"], LONE_DECK, 3, b"", LONE_REPORT),
+        (&["run"], LONE_DECK, 3, b"", LONE_REPORT),
+        (&["run"], b"\xff", 3, b"", b"refused 1 text\n"),
+        (&[], b"version = 1.0", 3, b"", b"refused 4 kind version\n"),
+        (
+            &["run"],
+            b"\"a \xc3\xa9b\" = 1",
+            3,
+            b"",
+            b"refused 2 unknown a??b\n",
+        ),
+        (
+            &["run"],
+            b"version = 2",
+            3,
+            b"",
+            b"refused 5 limit version 2 1 1\n",
+        ),
     ];
-    for (words, deck, out) in cases {
+    for (words, deck, status, out, report) in cases {
         let wanted = Wanted {
-            status: 0,
+            status,
             out,
-            report: b"",
+            report,
         };
         check(&rt, rt.alloc(), &calm(words, deck), &wanted)?;
     }
@@ -332,138 +319,106 @@ fn a_deck_is_checked(rt: HostRuntime) -> Result<(), Fail> {
 }
 
 #[test]
-fn a_charge_without_its_field(rt: HostRuntime) -> Result<(), Fail> {
-    let cases: [&[&str]; 2] = [&["check"], &["run"]];
-    for words in cases {
-        let wanted = Wanted {
-            status: 3,
-            out: b"",
-            report: b"gauss 0 0 0 div 0 rho 618475290624\n",
-        };
-        check(&rt, rt.alloc(), &calm(words, LONE_DECK), &wanted)?;
+fn runs_that_reach_their_last_step(rt: HostRuntime) -> Result<(), Fail> {
+    let rare = Ran {
+        deck: RARE_DECK,
+        shape: shape(2, 0, 0),
+        report: b"frame 0 kinetic 0 electric 0 magnetic 0\n\
+            frame 3 kinetic 0 electric 0 magnetic 0\n\
+            done 3\n",
+        len: 1712,
+        values: &[],
+        positions: &[],
+    };
+    check_run(&rt, rt.alloc(), &rare)?;
+    let vacuum = Ran {
+        deck: VACUUM_DECK,
+        shape: shape(4, 0, 0),
+        report: b"frame 0 kinetic 0 electric 0 magnetic 64\n\
+            frame 1 kinetic 0 electric 64 magnetic 64\n\
+            done 1\n",
+        len: 12464,
+        values: &[
+            (0, [0, 0, 0], 4),
+            (0, [0, 1, 0], -4),
+            (1, [0, 0, 0], -4),
+            (1, [1, 0, 0], 4),
+        ],
+        positions: &[],
+    };
+    check_run(&rt, rt.alloc(), &vacuum)
+}
+
+#[test]
+fn runs_with_particles(rt: HostRuntime) -> Result<(), Fail> {
+    let pair = Ran {
+        deck: PAIR_DECK,
+        shape: shape(4, 2, 2),
+        report: b"frame 0 kinetic 70368744177664 electric 0 magnetic 0\n\
+            frame 1 kinetic 70368744177664 electric 154618822656 magnetic 0\n\
+            done 1\n",
+        len: 12680,
+        values: &[(0, [0, 0, 0], 412316860416)],
+        positions: &[(0, 1, 3072)],
+    };
+    check_run(&rt, rt.alloc(), &pair)?;
+    let corner = Ran {
+        deck: CORNER_DECK,
+        shape: shape(2, 2, 6),
+        report: b"frame 0 kinetic 281475178037248 electric 0 magnetic 0\n\
+            frame 1 kinetic 281475178037248 electric 618475511808 magnetic 0\n\
+            done 1\n",
+        len: 2120,
+        values: &[
+            (0, [0, 0, 0], 4),
+            (0, [1, 0, 0], 824633720836),
+            (0, [0, 1, 0], 24572),
+            (0, [0, 1, 1], 201277444),
+        ],
+        positions: &[
+            (0, 3, 4097),
+            (1, 3, 4097),
+            (2, 3, 4097),
+            (0, 4, 100),
+            (0, 5, 0),
+        ],
+    };
+    check_run(&rt, rt.alloc(), &corner)
+}
+
+#[test]
+fn runs_that_stop(rt: HostRuntime) -> Result<(), Fail> {
+    // the report, the length of the dump, and the number at the end of its last record
+    let cases: [(&[u8], &[u8], usize, i128); 2] = [
+        (
+            STOP_DECK,
+            b"frame 0 kinetic 0 electric 0 magnetic 0\n\
+                stopped 1 field electric force 0 0 0 0 17596481003518\n",
+            922,
+            17596481003518,
+        ),
+        (
+            FAST_DECK,
+            b"frame 0 kinetic 562949953421312 electric 64 magnetic 0\n\
+                stopped 1 particle 0 far 0 8192\n",
+            6397,
+            8192,
+        ),
+    ];
+    for (deck, report, len, value) in cases {
+        let left = call(rt.alloc(), &calm(&["run"], deck))?;
+        assert_eq!(rt; left.status, 1);
+        assert_eq!(rt; left.report.bytes(), report);
+        assert_eq!(rt; left.out.bytes().len(), len);
+        let last = number_at(left.out.bytes(), len.wrapping_sub(16), 16);
+        assert_eq!(rt; last, Some(value));
     }
     Ok(())
 }
 
 #[test]
-fn runs_that_reach_their_last_step(rt: HostRuntime) -> Result<(), Fail> {
-    let rare = Dumped {
-        status: 0,
-        report: b"frame 0 kinetic 0 electric 0 magnetic 0\n\
-            frame 3 kinetic 0 electric 0 magnetic 0\n\
-            done 3\n",
-        len: 1712,
-        parts: &[
-            (64, b"F\0\0\0\0"),
-            (885, b"F\0\0\0\x03"),
-            (1706, b"E\0\0\0\0\x03"),
-        ],
-    };
-    check_run(&rt, rt.alloc(), RARE_DECK, &rare)?;
-    // Ex is 4 at (0, 0, 0) and -4 at (0, 1, 0), Ey is -4 at (0, 0, 0) and 4 at (1, 0, 0); each value
-    // has 16 bytes, of which the last are looked at
-    let vacuum = Dumped {
-        status: 0,
-        report: b"frame 0 kinetic 0 electric 0 magnetic 64\n\
-            frame 1 kinetic 0 electric 64 magnetic 64\n\
-            done 1\n",
-        len: 12464,
-        parts: &[
-            (5204, b"\x08"),
-            (6261, b"F\0\0\0\x01"),
-            (6280, b"\0\x04"),
-            (6344, b"\xff\xfc"),
-            (7304, b"\xff\xfc"),
-            (7320, b"\0\x04"),
-            (12458, b"E\0\0\0\0\x01"),
-        ],
-    };
-    check_run(&rt, rt.alloc(), VACUUM_DECK, &vacuum)
-}
-
-#[test]
-fn runs_with_particles(rt: HostRuntime) -> Result<(), Fail> {
-    // the electron is at x = 3072 in frame 1, and Ex(0, 0, 0) is 412316860416
-    let pair = Dumped {
-        status: 0,
-        report: b"frame 0 kinetic 70368744177664 electric 0 magnetic 0\n\
-            frame 1 kinetic 70368744177664 electric 154618822656 magnetic 0\n\
-            done 1\n",
-        len: 12680,
-        parts: &[
-            (64, b"ion\0"),
-            (124, b"electron\0"),
-            (6429, b"F\0\0\0\x01"),
-            (6434, b"\0\0\0\0\0\0\0\0\0\0\0`\0\0\0\0"),
-            (12602, b"\0\0\x0c\0\0\0\0\0\0\0\0\0\0\x80\0\0"),
-        ],
-    };
-    check_run(&rt, rt.alloc(), PAIR_DECK, &pair)?;
-    // the electron is at x = 8092
-    let wrap = Dumped {
-        status: 0,
-        report: b"frame 0 kinetic 671088640000 electric 0 magnetic 0\n\
-            frame 1 kinetic 671088640000 electric 737280000 magnetic 0\n\
-            done 1\n",
-        len: 1928,
-        parts: &[(1850, b"\0\0\x1f\x9c\0\0\0\0\0\0\0\0\xff\xf3\x80\0")],
-    };
-    check_run(&rt, rt.alloc(), WRAP_DECK, &wrap)
-}
-
-#[test]
-fn a_corner_a_rest_and_a_whole_cell(rt: HostRuntime) -> Result<(), Fail> {
-    // Ex is 4 at (0, 0, 0), 12 * 2^36 + 4 at (1, 0, 0), 24572 at (0, 1, 0), 201277444 at (0, 1, 1);
-    // the electrons are at (4097, 4097, 4097), (100, 0, 0) and (0, 0, 0)
-    let corner = Dumped {
-        status: 0,
-        report: b"frame 0 kinetic 281475178037248 electric 0 magnetic 0\n\
-            frame 1 kinetic 281475178037248 electric 618475511808 magnetic 0\n\
-            done 1\n",
-        len: 2120,
-        parts: &[
-            (1149, b"F\0\0\0\x01"),
-            (1168, b"\0\x04"),
-            (1180, b"\0\xc0\0\0\0\x04"),
-            (1198, b"\0\0\x5f\xfc"),
-            (1262, b"\x0b\xff\x40\x04"),
-            (1994, b"\0\0\x10\x01\0\0\x10\x01\0\0\x10\x01"),
-            (2018, b"\0\0\0\x64\0\0\0\0\0\0\0\0"),
-            (2042, b"\0\0\0\0\0\0\0\0\0\0\0\0\x01\0\0\0"),
-        ],
-    };
-    check_run(&rt, rt.alloc(), CORNER_DECK, &corner)
-}
-
-#[test]
-fn runs_that_stop(rt: HostRuntime) -> Result<(), Fail> {
-    let field = Dumped {
-        status: 1,
-        report: b"frame 0 kinetic 0 electric 0 magnetic 0\n\
-            stopped 1 field electric force 0 0 0 0 17596481003518\n",
-        len: 922,
-        parts: &[(
-            885,
-            b"E\x01\0\0\0\x01\x04\x02\0\0\0\0\0\0\0\0\0\0\0\0\0\0\0\0\0\0\0\0\0\0\0\x10\0\xff\xff\xdf\xfe",
-        )],
-    };
-    check_run(&rt, rt.alloc(), STOP_DECK, &field)?;
-    let push = Dumped {
-        status: 1,
-        report: b"frame 0 kinetic 562949953421312 electric 64 magnetic 0\n\
-            stopped 1 particle 0 far 0 8192\n",
-        len: 6397,
-        parts: &[(
-            6369,
-            b"E\x02\0\0\0\x01\0\0\0\0\x03\0\0\0\0\0\0\0\0\0\0\0\0\0\0\0 \0",
-        )],
-    };
-    check_run(&rt, rt.alloc(), FAST_DECK, &push)
-}
-
-#[test]
 fn words_that_are_no_command(rt: HostRuntime) -> Result<(), Fail> {
-    let cases: [&[&str]; 4] = [&["go"], &["demo"], &["--workers", "0"], &["run", "run"]];
+    let cases: [&[&str]; 3] = [&["go"], &["demo"], &["run", "run"]];
     for words in cases {
         let given = Given {
             fails: &[0],
@@ -479,24 +434,18 @@ fn words_that_are_no_command(rt: HostRuntime) -> Result<(), Fail> {
     Ok(())
 }
 
+// A key of 600 letters is put in pieces of 256 bytes: the third of them fails.
 #[test]
-fn decks_that_are_refused(rt: HostRuntime) -> Result<(), Fail> {
-    let cases: [(&[u8], &[u8]); 5] = [
-        (b"\xff", b"refused 1 text\n"),
-        (b"", b"refused 3 missing version\n"),
-        (b"version = 1.0", b"refused 4 kind version\n"),
-        (b"\"a \xc3\xa9b\" = 1", b"refused 2 unknown a??b\n"),
-        (b"version = 2", b"refused 5 limit version 2 1 1\n"),
-    ];
-    for (deck, report) in cases {
-        let wanted = Wanted {
-            status: 3,
-            out: b"",
-            report,
-        };
-        check(&rt, rt.alloc(), &calm(&["run"], deck), &wanted)?;
-        check(&rt, rt.alloc(), &calm(&[], deck), &wanted)?;
-    }
+fn a_long_key_is_put_in_pieces(rt: HostRuntime) -> Result<(), Fail> {
+    let mut deck = vec![in rt.alloc(); b'a'; 600]?;
+    deck.extend_from_slice(b" = 1")?;
+    let given = Given {
+        report_fails: &[(2, 10)],
+        ..calm(&["check"], &deck)
+    };
+    let left = call(rt.alloc(), &given)?;
+    assert_eq!(rt; left.status, 5);
+    assert_eq!(rt; left.report.bytes().len(), 522);
     Ok(())
 }
 
@@ -531,27 +480,6 @@ fn calls_that_fail(rt: HostRuntime) -> Result<(), Fail> {
             report,
         };
         check(&rt, rt.alloc(), &given, &wanted)?;
-    }
-    Ok(())
-}
-
-#[test]
-fn a_run_with_particles_that_fails(rt: HostRuntime) -> Result<(), Fail> {
-    // what fails, how many bytes stand on out, and the report
-    let cases: [(&[(u64, usize)], &[(u64, usize)], usize, &[u8]); 2] = [
-        (&[(1, 0)], &[], 184, b""),
-        (&[], &[(0, 3)], 6429, b"fra"),
-    ];
-    for (out_fails, report_fails, len, report) in cases {
-        let given = Given {
-            out_fails,
-            report_fails,
-            ..calm(&["run"], PAIR_DECK)
-        };
-        let left = call(rt.alloc(), &given)?;
-        assert_eq!(rt; left.status, 5);
-        assert_eq!(rt; left.out.bytes().len(), len);
-        assert_eq!(rt; left.report.bytes(), report);
     }
     Ok(())
 }

@@ -1,11 +1,14 @@
-use Rattle.std.proofs.Common.{◌≡◌, List, ℕ, [], ◌∙◌, ap, subst}
+use Rattle.std.proofs.Common.{◌≡◌, List, ℕ, [], ◌∷◌, ◌∙◌, ap, subst, sym}
 use Rattle.pic_io.specs.Sink.{Appended, AppendedFront}
-use Rattle.pic_io.specs.Sinks.{WritesLine}
+use Rattle.pic_io.specs.Sinks.{sinks, CutAt, Writes, WritesLine}
+use Rattle.pic_io.specs.declared.side.Side.TheVariants.{Out}
 use Rattle.pic_io.proofs.Puts.{cut_out, line_after}
-use Rattle.pic_dump.specs.DumpText.{frame_bytes}
 use Rattle.pic_energy.specs.Line.{frame_line}
 use Rattle.pic_step.proofs.SoundLaws.{whole_e, whole_b}
-use Rattle.pic_run.specs.Frames.{frame_piece, energies_in}
+use Rattle.pic_run.specs.declared.output.Output.{Output}
+use Rattle.pic_run.specs.declared.output.Output.TheVariants.{Dump}
+use Rattle.pic_run.specs.Frames.{frame_piece}
+use Rattle.pic_run.proofs.StartLaws.{frame_is}
 use Rattle.pic_run.proofs.framing.write_frame.Goals as goal
 
 pub returns-in-Ok-clause-writes : goal.returns-in-Ok-clause-writes
@@ -16,28 +19,44 @@ returns-in-Ok-clause-writes g c =
     let r = g.R.Sink.told c.args.report.now in
     let s = g.R.Sink.told c.put_line.new.report in
     let w = c.args.state.now in
-    let filled = c.fill.ensures in
-    let e = filled.e ∙ whole_e w _ filled.sound c.requires.e_parts in
-    let b = filled.b ∙ whole_b w _ filled.sound c.requires.b_parts in
     let measured = c.energies_in-energies.ensures.value in
-    let text : frame_bytes c.args.step c.fill.new.to.e c.fill.new.to.b c.fill.new.to.particles.items c.energies_in-energies.result ≡ frame_bytes c.args.step w.e w.b w.particles (energies_in w) =
-    (λ i. frame_bytes c.args.step (e i) (b i) (filled.particles i) (measured i)) in
+    let text = frame_is c.args.step c.fill.new.to w c.energies_in-energies.result
+    (record {
+      e = c.fill.ensures.e ∙ whole_e w _ c.fill.ensures.sound c.requires.e_parts;
+      b = c.fill.ensures.b ∙ whole_b w _ c.fill.ensures.sound c.requires.b_parts;
+      particles = c.fill.ensures.particles;
+    }) measured in
     let put = subst (λ (x : List ℕ). Appended o p x) text c.in-Ok.ensures.bytes in
-    let said = c.bytes.ensures ∙ c.frame_line.ensures ∙ ap (frame_line c.args.step) measured in
+    let said = c.bytes-text.ensures ∙ c.frame_line-line.ensures ∙ ap (frame_line c.args.step) measured in
     let line = subst (λ (text : List ℕ). WritesLine r s text c.put_line.result) said c.put_line.ensures in
-    line_after o p r s (frame_piece c.args.step w) c.put_line.result put c.in-Ok.ensures.cause.ok line
+    subst (λ (output : Output). Writes (sinks o r) (sinks p s) (frame_piece output c.args.step w ∷ []) c.put_line.result) (sym c.in-Dump.is)
+    (line_after o p r s (frame_piece Dump c.args.step w) c.put_line.result put c.in-Ok.ensures.cause.ok line)
 
 pub returns-in-Err-clause-writes : goal.returns-in-Err-clause-writes
 unfolding frame_piece
 returns-in-Err-clause-writes g c =
     let o = g.O.Sink.told c.args.out.now in
     let p = g.O.Sink.told c.put_frame.new.out in
+    let r = g.R.Sink.told c.args.report.now in
     let w = c.args.state.now in
-    let filled = c.fill.ensures in
-    let e = filled.e ∙ whole_e w _ filled.sound c.requires.e_parts in
-    let b = filled.b ∙ whole_b w _ filled.sound c.requires.b_parts in
     let measured = c.energies_in-energies.ensures.value in
-    let text : frame_bytes c.args.step c.fill.new.to.e c.fill.new.to.b c.fill.new.to.particles.items c.energies_in-energies.result ≡ frame_bytes c.args.step w.e w.b w.particles (energies_in w) =
-    (λ i. frame_bytes c.args.step (e i) (b i) (filled.particles i) (measured i)) in
+    let text = frame_is c.args.step c.fill.new.to w c.energies_in-energies.result
+    (record {
+      e = c.fill.ensures.e ∙ whole_e w _ c.fill.ensures.sound c.requires.e_parts;
+      b = c.fill.ensures.b ∙ whole_b w _ c.fill.ensures.sound c.requires.b_parts;
+      particles = c.fill.ensures.particles;
+    }) measured in
     let put = subst (λ (x : List ℕ). AppendedFront o p x) text c.in-Err.ensures.bytes in
-    cut_out o p (g.R.Sink.told c.args.report.now) (frame_piece c.args.step w) [] put c.in-Err.ensures.cause.err
+    subst (λ (output : Output). CutAt Out (sinks o r) (sinks p r) (frame_piece output c.args.step w ∷ [])) (sym c.in-Dump.is)
+    (cut_out o p r (frame_piece Dump c.args.step w) [] put c.in-Err.ensures.cause.err)
+
+pub returns-in-Lines-clause-writes : goal.returns-in-Lines-clause-writes
+unfolding frame_piece
+returns-in-Lines-clause-writes g c =
+    let r = g.R.Sink.told c.args.report.now in
+    let a = sinks (g.O.Sink.told c.args.out.now) r in
+    let b = sinks (g.O.Sink.told c.put_out.new.out) r in
+    let w = c.args.state.now in
+    let said = c.bytes-text.ensures ∙ c.frame_line-line.ensures ∙ ap (frame_line c.args.step) c.energies_in-energies.ensures.value in
+    subst (λ (output : Output). Writes a b (frame_piece output c.args.step w ∷ []) c.put_out.result) (sym c.in-Lines.is)
+    (subst (λ (t : List ℕ). Writes a b (record { out = t; line = [] } ∷ []) c.put_out.result) said (c.put_out.ensures r))

@@ -1,5 +1,5 @@
 use Rattle.std.proofs.Common.{◌≡◌, length, arith}
-use Rattle.pic_run.proofs.Taken.{taken_more, took_full}
+use Rattle.pic_run.proofs.TakenLaws.{taken_more, took_full}
 use Rattle.pic_run.proofs.reading.read_all.Goals as goal
 
 pub returns-in_err-extend_from_slice-in-Ok-clause-taken : goal.returns-in_err-extend_from_slice-in-Ok-clause-taken

@@ -14,5 +14,6 @@ returns g c =
     let tail : c.bytes.result.now ≡ limit_tail c.args.value c.args.low c.args.high =
     c.bytes.ensures ∙ c.tail_of_limit-tail.ensures ∙ (λ i. limit_tail (value i) (low i) (high i)) in
     subst
-    (λ (tail : List ℕ). WritesLine (g.R.Sink.told c.args.report.now) (g.R.Sink.told c.put_path_line.new.report) (path_line (codes "refused 5 limit ") c.args.path.now tail) c.put_path_line.result)
+    (λ (tail : List ℕ). WritesLine (g.R.Sink.told c.args.report.now) (g.R.Sink.told c.put_path_line.new.report) (path_line
+    (codes "refused 5 limit ") c.args.path.now tail) c.put_path_line.result)
     tail c.put_path_line.ensures

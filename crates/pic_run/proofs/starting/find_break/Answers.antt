@@ -16,7 +16,7 @@ use Rattle.pic_deck.specs.Deck.{initial_e}
 use Rattle.pic_grid.specs.Parts.{one_part}
 use Rattle.pic_step.specs.SerialRun.{kinds_of}
 use Rattle.pic_run.specs.Starting.{break_of}
-use Rattle.pic_run.proofs.Starts.{kinds_are, shares_are, initial_most, sound_start}
+use Rattle.pic_run.proofs.StartLaws.{kinds_are, shares_are, initial_most, sound_start}
 use Rattle.pic_run.proofs.starting.find_break.Goals as goal
 
 pub charge-requires-clause-limits : goal.charge-requires-clause-limits
@@ -31,8 +31,10 @@ charge-requires-clause-placed c =
     let d = c.args.deck.now in
     let kinds : c.deref.result.now ≡ kinds_of d = c.deref.ensures.value ∙ c.in_ok-kinds.ensures in
     let cells = c.cells-cells.ensures.value in
-    subst (λ (ks : List Kind). (i : ℕ) (x : Particle) → i < length c.args.particles.now → CanShare 4096 c.cells-cells.result ks (get_or c.args.particles.now i x)) (sym kinds)
-    (subst (λ (n : Triple). (i : ℕ) (x : Particle) → i < length c.args.particles.now → CanShare 4096 n (kinds_of d) (get_or c.args.particles.now i x)) (sym cells)
+    subst (λ (ks : List Kind). (i : ℕ) (x : Particle) → i < length c.args.particles.now
+    → CanShare 4096 c.cells-cells.result ks (get_or c.args.particles.now i x)) (sym kinds)
+    (subst (λ (n : Triple). (i : ℕ) (x : Particle) → i < length c.args.particles.now
+    → CanShare 4096 n (kinds_of d) (get_or c.args.particles.now i x)) (sym cells)
     (shares_are d c.args.particles.now c.requires))
 
 pub gauss-requires-clause-e_most : goal.gauss-requires-clause-e_most
@@ -54,7 +56,8 @@ returns-clause-value c =
     let parts = ap (λ (f : Field). f.parts) c.in_ok-e.ensures in
     let e : c.initial.new.e ≡ field_of d.cells one_part (initial_e d) = c.initial.ensures.e ∙ ap (λ (p : Triple). field_of d.cells p (initial_e d)) parts in
     let n = c.cells-cells.result in
-    let charged : first_break n (div_e n (value_at c.initial.new.e)) (node_at c.charge.new.to) ≡ first_break n (div_e n (value_at c.initial.new.e)) (charge_of 4096 n c.deref.result.now ps) =
+    let charged : first_break n (div_e n (value_at c.initial.new.e)) (node_at c.charge.new.to) ≡ first_break n (div_e n (value_at c.initial.new.e))
+    (charge_of 4096 n c.deref.result.now ps) =
     first_break-charge 4096 n c.deref.result.now ps (div_e n (value_at c.initial.new.e)) (node_at c.charge.new.to) c.charge.ensures.values in
     c.gauss.ensures.value ∙ charged
     ∙ (λ i. first_break (cells i) (div_e (cells i) (value_at (e i))) (charge_of 4096 (cells i) (kinds i) ps))

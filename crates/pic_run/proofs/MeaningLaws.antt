@@ -1,0 +1,274 @@
+-- What each answer of a call means.
+use Rattle.std.proofs.Common.{◌≡◌, ℕ, ◌⊎◌, zero, suc, List, [], length, take, Option, Some, None, Result, Ok, Err, inl, inr, refl, sym, ap, ◌∙◌, subst, arith}
+use Rattle.std.specs.Prelude.{IfSome, IsSome, IsOk}
+use Rattle.pic_io.specs.Told.{Told, Rose, Calm}
+use Rattle.pic_io.specs.Sinks.{Sinks, Wrote, FailedAt, QuietSinks}
+use Rattle.pic_io.specs.declared.side.Side.{Side}
+use Rattle.pic_io.specs.declared.side.Side.TheVariants.{Out, Report}
+use Rattle.pic_io.proofs.Puts.{cut_failed}
+use Rattle.pic_grid.specs.declared.stop.EndMark.{EndMark}
+use Rattle.pic_grid.specs.declared.stop.EndMark.TheVariants.{Done as EndDone, Stopped as EndStopped}
+use Rattle.pic_grid.specs.declared.stop.Stop.{Stop}
+use Rattle.pic_grid.specs.Differences.{div_e}
+use Rattle.pic_grid.specs.Lattice.{value_at}
+use Rattle.pic_charge.specs.declared.breaks.Break.{Break}
+use Rattle.pic_charge.specs.Charge.{charge_of}
+use Rattle.pic_charge.specs.Gauss.{IsLeastBreak}
+use Rattle.pic_charge.proofs.BreakLaws.{first_break_some}
+use Rattle.pic_deck.specs.Deck.{DeckView}
+use Rattle.pic_deck.specs.Refusal.{ReadDeck}
+use Rattle.pic_deck.specs.Reading.{walk}
+use Rattle.pic_step.specs.SerialStep.{World, stepped}
+use Rattle.pic_step.specs.SerialRun.{after, step_from, stopped_in}
+use Rattle.pic_line.specs.declared.asked.Command.{Command}
+use Rattle.pic_line.specs.declared.asked.Command.TheVariants.{Check, Run}
+use Rattle.pic_run.specs.declared.cut.Cut.{Cut}
+use Rattle.pic_run.specs.declared.cut.Cut.TheVariants as cut
+use Rattle.pic_run.specs.declared.early.Early.{Early}
+use Rattle.pic_run.specs.declared.early.Early.TheVariants as early
+use Rattle.pic_run.specs.declared.ended.Ended.{Ended}
+use Rattle.pic_run.specs.declared.ended.Ended.TheVariants.{Done, Checked, Stopped, Usage, Refused, Gauss, ReadFault, WriteFault, NoMemory}
+use Rattle.pic_line.specs.CommandLine.{command_of}
+use Rattle.pic_run.specs.Early.{Staged, ◌>>=◌, ended_early}
+use Rattle.pic_run.specs.Ended.{ended_of}
+use Rattle.pic_run.specs.Frames.{end_where, end_of}
+use Rattle.pic_run.specs.Reading.{deck_limit, Gave}
+use Rattle.pic_run.specs.Starting.{first_state, break_of}
+use Rattle.pic_run.specs.Outcome.{Outcome, pieces_of, answer_of, outcome, command_outcome, unless_refused, unless_broken, accepted, opened, on_deck, check_outcome, run_outcome}
+use Rattle.pic_run.specs.Ends.{Fulfils, HasFrames, Finishes, Reads, ReadsDeck, Takes, Performs, Ends, IsComplete, Held, IsRun, IsRefused, BreaksGauss, IsChecked, IsDone, IsStopped, IsStarved}
+use Rattle.pic_run.proofs.StateLaws.{each_gauss}
+use Rattle.pic_run.proofs.StartLaws.{gauss_of}
+
+-- what each answer means
+abbrev pub Means : List (List ℕ) → Told → Told → Sinks → Sinks → Ended → Type 0
+Means words source source' before now (Done steps) = IsDone words source source' steps
+Means words source source' before now (Checked particles) = IsChecked words source source' particles
+Means words source source' before now (Stopped step stop) = IsStopped words source source' step stop
+Means words source source' before now Usage = command_of words ≡ None
+Means words source source' before now (Refused refusal) = IsRefused words source refusal
+Means words source source' before now (Gauss b) = BreaksGauss words source source' b
+Means words source source' before now ReadFault = Rose source source' × Calm before.out now.out × Calm before.report now.report
+Means words source source' before now (WriteFault side) = FailedAt side before now
+Means words source source' before now NoMemory = IsStarved words source source' before now
+
+-- where the value of the stages of a deck comes from
+abbrev IsFrom : Option (List ℕ) → Staged DeckView → Type 0
+IsFrom input (Ok d) = (held : List ℕ) × (input ≡ Some held) × (walk (take deck_limit held) ≡ Ok d) × (break_of (first_state d) ≡ None)
+IsFrom input (Err early.Usage) = ⊥
+IsFrom input (Err early.ReadFault) = input ≡ None
+IsFrom input (Err (early.Refused refusal)) = (held : List ℕ) × (input ≡ Some held) × (walk (take deck_limit held) ≡ Err refusal)
+IsFrom input (Err (early.Gauss b)) =
+    (held : List ℕ) × (d : DeckView) × (input ≡ Some held) × (walk (take deck_limit held) ≡ Ok d) × (break_of (first_state d) ≡ Some b)
+
+from : (input : Option (List ℕ)) → IsFrom input (opened input)
+from None = refl
+from (Some held) = go (walk (take deck_limit held)) refl
+  where
+    test : (d : DeckView) → walk (take deck_limit held) ≡ Ok d → (b : Option Break) → break_of (first_state d) ≡ b
+        → IsFrom (Some held) (unless_broken d b)
+    test d walked None is = (held, refl, walked, is)
+    test d walked (Some b) is = (held, d, refl, walked, is)
+
+    go : (w : ReadDeck) → walk (take deck_limit held) ≡ w
+        → IsFrom (Some held) (unless_refused w >>= (λ d. unless_broken d (break_of (first_state d))))
+    go (Err refusal) walked = (held, refl, walked)
+    go (Ok d) walked = test d walked (break_of (first_state d)) refl
+
+-- what holds for the held bytes holds for those that the source tells
+told_held : (P : List ℕ → Type 0) (bytes : Option (List ℕ)) (held : List ℕ) → IfSome bytes (λ h. h ≡ held) → P held → IfSome bytes P
+told_held P None held is fact = tt
+told_held P (Some h) held is fact = subst P (sym is) fact
+
+gave_held : (source source' : Told) (input : Option (List ℕ)) (held : List ℕ) → Gave source source' input → input ≡ Some held
+    → IfSome source.bytes (λ h. h ≡ held)
+gave_held source source' None held gave is = cc
+gave_held source source' (Some h) held gave is =
+    let same : h ≡ held = cc in subst (λ (x : List ℕ). IfSome source.bytes (λ b. b ≡ x)) same gave.1
+
+least_of : (w : World) (b : Break) → break_of w ≡ Some b
+    → IsLeastBreak w.cells (div_e w.cells (value_at w.e)) (charge_of w.side w.cells w.kinds w.particles) b
+unfolding break_of
+least_of w b found = first_break_some w.cells (div_e w.cells (value_at w.e)) (charge_of w.side w.cells w.kinds w.particles) b found
+
+accepted_in : (input : Option (List ℕ)) (held : List ℕ) (d : DeckView) → input ≡ Some held → walk (take deck_limit held) ≡ Ok d → accepted input ≡ Ok d
+accepted_in input held d is walked = ap accepted is ∙ ap unless_refused walked
+
+-- the early ends of a deck, and the ends of a command on it
+record IsAnswer (words : List (List ℕ)) (source source' : Told) (before now : Sinks) (input : Option (List ℕ)) (finish : Result Ended Cut) : Type 0 where
+  command : IsSome (command_of words)
+  gave : Gave source source' input
+  reads : ReadsDeck input source source' finish
+  calm_out : Calm before.out now.out
+  calm_report : Calm before.report now.report
+  whole : (finish ≡ Err cut.NoMemory) → ⊥
+
+means_early : (words : List (List ℕ)) (source source' : Told) (before now : Sinks) (input : Option (List ℕ)) (finish : Result Ended Cut)
+    → IsAnswer words source source' before now input finish → (end : Early) → IsFrom input (Err end) → Means words source source' before now (ended_early end)
+means_early words source source' before now input finish is early.Usage none = absurd none
+means_early words source source' before now input finish is early.ReadFault none =
+    (subst (Gave source source') none is.gave, is.calm_out, is.calm_report)
+means_early words source source' before now input finish is (early.Refused refusal) (held, same, walked) = record {
+  command = is.command;
+  refused = told_held (λ bytes. walk (take deck_limit bytes) ≡ Err refusal) source.bytes held (gave_held source source' input held is.gave same) walked;
+}
+means_early words source source' before now input finish is (early.Gauss b) (held, d, same, walked, found) = record {
+  command = is.command;
+  deck = d;
+  held = told_held (λ bytes. walk (take deck_limit bytes) ≡ Ok d) source.bytes held (gave_held source source' input held is.gave same) walked;
+  least = least_of (first_state d) b found;
+  end = is.reads.end is.whole d (accepted_in input held d same walked);
+}
+
+-- a run stops by a stop alone
+abbrev IsStop : EndMark → Type 0
+IsStop (EndDone steps) = ⊥
+IsStop (EndStopped step stop) = Unit {0}
+
+stops_by_stop : (w : World) (n : ℕ) (end : EndMark) → after w n ≡ Err end → IsStop end
+unfolding after
+stops_by_stop w zero end e = cc
+stops_by_stop w (suc n) end e = go (after w n) (λ other is. stops_by_stop w n other is) e
+  where
+    last : (r : Result World Stop) → stopped_in (suc n) r ≡ Err end → IsStop end
+    last (Ok v) e' = cc
+    last (Err stop) e' = named e'
+      where
+        named : ◌≡◌ {A = Result World EndMark} (Err (EndStopped (suc n) stop)) (Err end) → IsStop end
+        named same = let is : EndStopped (suc n) stop ≡ end = cc in subst IsStop is tt
+
+    go : (r : Result World EndMark) → ((other : EndMark) → r ≡ Err other → IsStop other) → step_from (suc n) r ≡ Err end → IsStop end
+    go (Ok v) before e' = last (stepped v) e'
+    go (Err other) before e' = let same : other ≡ end = cc in subst IsStop same (before other refl)
+
+means_check : (words : List (List ℕ)) (source source' : Told) (before now : Sinks) (input : Option (List ℕ)) (finish : Result Ended Cut)
+    → command_of words ≡ Some Check → IsAnswer words source source' before now input finish
+    → (s : Staged DeckView) → opened input ≡ s → IsFrom input s → Means words source source' before now (on_deck check_outcome s).answer
+means_check words source source' before now input finish named is (Err end) opens from = means_early words source source' before now input finish is end from
+means_check words source source' before now input finish named is (Ok d) opens (held, same, walked, none) = record {
+  command = named;
+  deck = d;
+  held = told_held (λ bytes. walk (take deck_limit bytes) ≡ Ok d) source.bytes held (gave_held source source' input held is.gave same) walked;
+  gauss = gauss_of (first_state d) none;
+  count = refl;
+  end = is.reads.end is.whole d (accepted_in input held d same walked);
+}
+
+means_run : (words : List (List ℕ)) (source source' : Told) (before now : Sinks) (input : Option (List ℕ)) (finish : Result Ended Cut)
+    → IsRun (command_of words) → IsAnswer words source source' before now input finish
+    → (s : Staged DeckView) → opened input ≡ s → IsFrom input s → Means words source source' before now (on_deck run_outcome s).answer
+unfolding end_of
+means_run words source source' before now input finish named is (Err end) opens from = means_early words source source' before now input finish is end from
+means_run words source source' before now input finish named is (Ok d) opens (held, same, walked, none) = go (after (first_state d) d.steps) refl
+  where
+    deck_held : Held source d
+    deck_held = told_held (λ bytes. walk (take deck_limit bytes) ≡ Ok d) source.bytes held (gave_held source source' input held is.gave same) walked
+
+    go : (r : Result World EndMark) → after (first_state d) d.steps ≡ r → Means words source source' before now (answer_of (end_where d.steps r))
+    go (Ok v) reached = record {
+      command = named;
+      deck = d;
+      held = deck_held;
+      gauss = each_gauss (first_state d) (is.reads.sound is.whole d opens);
+      last = refl;
+      reached = subst IsOk (sym reached) refl;
+      end = is.reads.end is.whole d (accepted_in input held d same walked);
+    }
+    go (Err (EndDone other)) stops = absurd (stops_by_stop (first_state d) d.steps (EndDone other) stops)
+    go (Err (EndStopped step stop)) stops = record {
+      command = named;
+      deck = d;
+      held = deck_held;
+      gauss = each_gauss (first_state d) (is.reads.sound is.whole d opens);
+      stops = stops;
+      end = is.reads.end is.whole d (accepted_in input held d same walked);
+    }
+
+-- the answer of the outcome, where the call came to it
+means_answer : (words : List (List ℕ)) (source source' : Told) (before now : Sinks) (answer : Ended)
+    → (p : Performs words source source' before now (Ok answer))
+    → Means words source source' before now (outcome words p.input).answer
+unfolding outcome
+means_answer words source source' before now answer p = go (command_of words) refl p.reads
+  where
+    whole : ◌≡◌ {A = Result Ended Cut} (Ok answer) (Err cut.NoMemory) → ⊥
+    whole same = cc
+
+    of_deck : (command : Command) → command_of words ≡ Some command → ReadsDeck p.input source source' (Ok answer)
+        → IsAnswer words source source' before now p.input (Ok answer)
+    of_deck command named reads = record {
+      command = subst IsSome (sym named) refl;
+      gave = p.gave;
+      reads = reads;
+      calm_out = p.finishes.wrote.calm_out;
+      calm_report = p.finishes.wrote.calm_report;
+      whole = whole;
+    }
+
+    go : (c : Option Command) → command_of words ≡ c → Reads c p.input source source' (Ok answer)
+        → Means words source source' before now (command_outcome c p.input).answer
+    go None named reads = named
+    go (Some Check) named reads =
+        means_check words source source' before now p.input (Ok answer) named (of_deck Check named reads) (opened p.input) refl (from p.input)
+    go (Some (Run workers)) named reads =
+        means_run words source source' before now p.input (Ok answer) (workers, named) (of_deck (Run workers) named reads) (opened p.input) refl (from p.input)
+
+-- what memory that was wanting leaves
+no_frames : (a b : Sinks) → HasFrames [] [] a b → ⊥
+no_frames a b has = omega (arith, has.least, has.most)
+
+starved : (words : List (List ℕ)) (source source' : Told) (before now : Sinks) → Performs words source source' before now (Err cut.NoMemory)
+    → IsStarved words source source' before now
+unfolding outcome
+starved words source source' before now p = elim p.finishes [ inl none ↦ inl none | inr has ↦ go (command_of words) refl has ]
+  where
+    check : (s : Staged DeckView) → HasFrames (on_deck check_outcome s).head (on_deck check_outcome s).frames before now → ⊥
+    check (Ok d) has = no_frames before now has
+    check (Err end) has = no_frames before now has
+
+    go : (c : Option Command) → command_of words ≡ c → HasFrames (command_outcome c p.input).head (command_outcome c p.input).frames before now
+        → IsStarved words source source' before now
+    go None named has = absurd (no_frames before now has)
+    go (Some Check) named has = absurd (check (opened p.input) has)
+    go (Some (Run workers)) named has =
+        inr (record {
+          command = (workers, named);
+          input = p.input;
+          gave = p.gave;
+          frames = subst (λ (c : Option Command). HasFrames (command_outcome c p.input).head (command_outcome c p.input).frames before now) (sym named) has;
+        })
+
+-- what each end of a call means
+pub means : (words : List (List ℕ)) (source source' : Told) (before now : Sinks) (finish : Result Ended Cut) → Performs words source source' before now finish
+    → Means words source source' before now (ended_of finish)
+means words source source' before now (Ok answer) p =
+    subst (Means words source source' before now) p.finishes.answers (means_answer words source source' before now answer p)
+means words source source' before now (Err (cut.Write side)) p = cut_failed side before now (pieces_of (outcome words p.input)) p.finishes
+means words source source' before now (Err cut.NoMemory) p = starved words source source' before now p
+
+pub meant : {words : List (List ℕ)} {source source' : Told} {before now : Sinks} {ended : Ended} → Ends words source source' before now ended
+    → (answer : Ended) → ended ≡ answer → Means words source source' before now answer
+meant {words} {source} {source'} {before} {now} ends answer is =
+    subst (Means words source source' before now) (ends.answer ∙ is) (means words source source' before now ends.finish ends.performs)
+
+-- a side that failed isn't quiet
+failed_quiet : (side : Side) (before now : Sinks) → FailedAt side before now → QuietSinks before now → ⊥
+failed_quiet Out before now failed quiet = quiet.out failed.0
+failed_quiet Report before now failed quiet = quiet.report failed.0
+
+finished : (o : Outcome) (before now : Sinks) (finish : Result Ended Cut) → Finishes o before now finish → QuietSinks before now
+    → (ended_of finish ≡ NoMemory) ⊎ Fulfils o before now (ended_of finish)
+finished o before now (Ok answer) ends quiet = inr ends
+finished o before now (Err (cut.Write side)) ends quiet = absurd (failed_quiet side before now (cut_failed side before now (pieces_of o) ends) quiet)
+finished o before now (Err cut.NoMemory) ends quiet = inl refl
+
+pub complete : {words : List (List ℕ)} {source source' : Told} {before now : Sinks} {ended : Ended} → Ends words source source' before now ended
+    → IsComplete words source source' before now ended
+complete {words} {source} {source'} {before} {now} {ended} ends calm quiet = go ends.performs.input ends.performs.gave ends.performs.finishes
+  where
+    go : (input : Option (List ℕ)) → Gave source source' input → Finishes (outcome words input) before now ends.finish
+        → IfSome source.bytes (λ h. (ended ≡ NoMemory) ⊎ Fulfils (outcome words (Some h)) before now ended)
+    go None gave ends' = absurd (calm gave)
+    go (Some b) gave ends' =
+        told_held (λ h. (ended ≡ NoMemory) ⊎ Fulfils (outcome words (Some h)) before now ended) source.bytes b gave.1
+        (subst (λ (e : Ended). (e ≡ NoMemory) ⊎ Fulfils (outcome words (Some b)) before now e) ends.answer
+        (finished (outcome words (Some b)) before now ends.finish ends' quiet))

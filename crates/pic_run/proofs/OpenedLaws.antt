@@ -1,0 +1,101 @@
+-- What opening a deck does, from what its stages do.
+use Rattle.std.proofs.Common.{◌≡◌, ℕ, ◌<◌, List, [], length, take, Option, Some, None, Ok, Err, refl, sym, ◌∙◌, ap, subst, arith}
+use Rattle.std.specs.Prelude.{IfSome, unwrap_or}
+use Rattle.pic_io.specs.Told.{Told, Calm}
+use Rattle.pic_charge.specs.declared.breaks.Break.{Break}
+use Rattle.pic_deck.specs.Deck.{DeckView}
+use Rattle.pic_deck.specs.declared.refusal.DeckFault.{DeckFault}
+use Rattle.pic_deck.specs.declared.refusal.DeckFault.TheVariants as deck_fault
+use Rattle.pic_deck.specs.Refusal.{ReadDeck, ReadsAs}
+use Rattle.pic_deck.specs.Reading.{walk}
+use Rattle.pic_deck.proofs.ReadingLaws.{deck_size}
+use Rattle.pic_load.specs.Loading.{loaded}
+use Rattle.pic_step.specs.SerialRun.{start_of}
+use Rattle.pic_step.specs.Sound.{IsSound}
+use Rattle.pic_run.specs.declared.early.Early.TheVariants.{Gauss, Refused}
+use Rattle.pic_run.specs.declared.early.StageStop.TheVariants.{Answer, NoMemory}
+use Rattle.pic_run.specs.declared.opened.Opened.{Opened}
+use Rattle.pic_run.specs.declared.reading.ReadStop.{ReadStop}
+use Rattle.pic_run.specs.declared.reading.ReadStop.TheVariants as read_stop
+use Rattle.pic_run.specs.Early.{Staged, ◌>>=◌, stop_of_reading, stop_of_deck}
+use Rattle.pic_run.specs.Opened.{Opens}
+use Rattle.pic_run.specs.Outcome.{accepted, opened, unless_refused, unless_broken}
+use Rattle.pic_run.specs.Reading.{deck_limit, Gave, ReadsAll, TookAll}
+use Rattle.pic_run.specs.Starting.{first_state, break_of}
+
+pub gave_known : (a b : Told) → Calm a b → Gave a b (Some (unwrap_or a.bytes []))
+gave_known a b calm = (calm, known a.bytes)
+  where
+    known : (bytes : Option (List ℕ)) → IfSome bytes (λ held. held ≡ unwrap_or bytes [])
+    known None = tt
+    known (Some held) = refl
+
+-- an accepted deck is no longer than a deck may be
+short_deck : (bytes : List ℕ) (d : DeckView) (limit : ℕ) → limit ≡ deck_limit → walk bytes ≡ Ok d → length bytes < limit
+unfolding deck_limit
+short_deck bytes d limit is e = let size = deck_size bytes d e in omega (arith, size, is)
+
+-- a read that failed, or memory that was wanting while the source was read
+pub unread : (stop : ReadStop) (a b : Told) (limit : ℕ) → ReadsAll a b limit (Err stop) → Opens a b (Err (stop_of_reading stop))
+unread read_stop.Fault a b limit rose = record { input = None; gave = rose; opens = record { early = refl; end = λ d e. cc } }
+unread read_stop.NoMemory a b limit calm = record { input = Some (unwrap_or a.bytes []); gave = gave_known a b calm; opens = tt }
+
+-- memory that was wanting later
+pub starved : (a b : Told) (limit : ℕ) (bytes : List ℕ) → TookAll a b limit bytes → Opens a b (Err NoMemory)
+starved a b limit bytes took = record { input = Some took.held; gave = took.gave; opens = tt }
+
+-- the walk of what the source held is that of the bytes that were taken
+walked : (a b : Told) (limit : ℕ) (bytes : List ℕ) → limit ≡ deck_limit → (took : TookAll a b limit bytes) (w : ReadDeck) → walk bytes ≡ w
+    → walk (take deck_limit took.held) ≡ w
+walked a b limit bytes is took w e =
+    subst (λ (text : List ℕ). walk text ≡ w) (sym took.front ∙ ap (λ n. take n took.held) is) e
+
+accepted_as : (held : List ℕ) (w : ReadDeck) → walk (take deck_limit held) ≡ w → accepted (Some held) ≡ unless_refused w
+accepted_as held w e = ap unless_refused e
+
+opened_as : (held : List ℕ) (w : ReadDeck) → walk (take deck_limit held) ≡ w
+    → opened (Some held) ≡ unless_refused w >>= (λ d. unless_broken d (break_of (first_state d)))
+opened_as held w e = ap (λ (s : Staged DeckView). s >>= (λ d. unless_broken d (break_of (first_state d)))) (accepted_as held w e)
+
+-- a text that is no accepted deck
+pub refused : (fault : DeckFault) (a b : Told) (limit : ℕ) (bytes : List ℕ) → limit ≡ deck_limit → TookAll a b limit bytes
+    → ReadsAs (walk bytes) (Err fault) → Opens a b (Err (stop_of_deck fault))
+refused (deck_fault.Refused refusal) a b limit bytes is took walks =
+    let w = walked a b limit bytes is took (Err refusal) walks.answer in
+    record {
+      input = Some took.held;
+      gave = took.gave;
+      opens = record {
+        early = opened_as took.held (Err refusal) w;
+        end = λ d e. let other : ◌≡◌ {A = Staged DeckView} (Err (Refused refusal)) (Ok d) = sym (accepted_as took.held (Err refusal) w) ∙ e in cc;
+      };
+    }
+refused deck_fault.NoMemory a b limit bytes is took walks = starved a b limit bytes took
+
+-- a deck that doesn't meet Gauss's law
+pub broken : (a b : Told) (limit : ℕ) (bytes : List ℕ) (d : DeckView) (at : Break) → limit ≡ deck_limit → TookAll a b limit bytes
+    → walk bytes ≡ Ok d → break_of (first_state d) ≡ Some at → Opens a b (Err (Answer (Gauss at)))
+broken a b limit bytes d at is took walks found = record {
+  input = Some took.held;
+  gave = took.gave;
+  opens = record {
+    early = opened_as took.held (Ok d) (walked a b limit bytes is took (Ok d) walks) ∙ ap (unless_broken d) found;
+    end = λ _ _. took.end (short_deck bytes d limit is walks);
+  };
+}
+
+-- a deck that can be run
+pub ready : (a b : Told) (limit : ℕ) (bytes : List ℕ) (o : Opened) → limit ≡ deck_limit → TookAll a b limit bytes
+    → walk bytes ≡ Ok o.deck → o.particles.items ≡ loaded o.deck → IsSound (start_of o.deck o.particles.items)
+    → break_of (start_of o.deck o.particles.items) ≡ None → Opens a b (Ok o)
+ready a b limit bytes o is took walks particles sound none = record {
+  input = Some took.held;
+  gave = took.gave;
+  opens = record {
+    deck = opened_as took.held (Ok o.deck) (walked a b limit bytes is took (Ok o.deck) walks)
+        ∙ ap (unless_broken o.deck) (ap (λ ps. break_of (start_of o.deck ps)) (sym particles) ∙ none);
+    particles = particles;
+    sound = sound;
+    end = took.end (short_deck bytes o.deck limit is walks);
+  };
+}

@@ -1,0 +1,157 @@
+-- The first state of a run is sound where its deck is within the limits and meets Gauss's law; and what
+-- a step keeps of a state's shape.
+use Rattle.std.proofs.Common.{◌≡◌, ℕ, ◌^◌, ◌<◌, List, length, get_or, lit≤, Option, Some, None, Ok, refl, sym, ap, ◌∙◌, subst, arith}
+use Rattle.std.proofs.Math.IntN.{ℤ}
+use Rattle.std.specs.Prelude.{All}
+use Rattle.std.proofs.lemmas.Int.{ints}
+use Rattle.std.proofs.lemmas.List.{get_or-map, length-map}
+use Rattle.std.proofs.lemmas.List.Elements.{All-from_get_or, All-get_or}
+use Rattle.std.proofs.Math.Nat.{le_trans}
+use Rattle.pic_num.specs.declared.axis.Axis.{Axis}
+use Rattle.pic_num.specs.declared.motion.Kind.{Kind}
+use Rattle.pic_num.specs.declared.motion.Particle.{Particle}
+use Rattle.pic_num.specs.Multiplier.{Multiplier}
+use Rattle.pic_num.specs.Push.{unless}
+use Rattle.pic_num.specs.Sizes.{IsAtMost}
+use Rattle.pic_num.specs.Space.{Triple, spot}
+use Rattle.pic_num.specs.Velocity.{IsKeptVelocity}
+use Rattle.pic_grid.specs.declared.snapshot.Snapshot.{Snapshot}
+use Rattle.pic_grid.specs.Lattice.{value_at, field_of}
+use Rattle.pic_grid.specs.Cells.{IsWithin}
+use Rattle.pic_grid.specs.PushPhase.{no_kind, moved_all, CanShare}
+use Rattle.pic_grid.specs.Species.{IsKind, AreHeads, no_head}
+use Rattle.pic_grid.proofs.LatticeLaws.{value_at-field_of}
+use Rattle.pic_charge.specs.Charge.{charge_of}
+use Rattle.pic_charge.proofs.BreakLaws.{meets_gauss}
+use Rattle.pic_field.specs.FieldPhases.{IsBounded}
+use Rattle.pic_energy.specs.declared.amounts.Energies.{Energies}
+use Rattle.pic_dump.specs.DumpText.{frame_bytes}
+use Rattle.pic_deck.specs.declared.species.Species.{Species}
+use Rattle.pic_deck.specs.Deck.{DeckView, IsWithinLimits, heads_of, initial_e, initial_b}
+use Rattle.pic_deck.specs.Species.{head_of, no_species}
+use Rattle.pic_deck.specs.Initial.{IsMild}
+use Rattle.pic_load.specs.Loading.{IsLoaded, AreLoaded}
+use Rattle.pic_step.specs.SerialStep.{World, step_on, stop_of, stepped}
+use Rattle.pic_grid.specs.Parts.{one_part}
+use Rattle.pic_step.specs.Sound.{IsSafe, IsSound}
+use Rattle.pic_step.specs.SerialRun.{kinds_of, start_of}
+use Rattle.pic_run.specs.Frames.{energies_in}
+use Rattle.pic_run.specs.Rooms.{HasRoom, IsFilled}
+use Rattle.pic_run.specs.Starting.{break_of, IsGauss}
+
+-- no break is Gauss's law
+pub gauss_of : (w : World) → break_of w ≡ None → IsGauss w
+unfolding break_of
+gauss_of w none = meets_gauss w.side w.cells w.kinds w.particles w.e (charge_of w.side w.cells w.kinds w.particles) (λ p within. refl) none
+
+-- a mild field is safe
+safe_of : (n : Triple) (by : Multiplier) (g : Axis → Triple → ℤ) → IsMild n by g → IsSafe n by (field_of n one_part g)
+safe_of n by g mild = record {
+  cells = refl;
+  parts = refl;
+  bounded = λ a p within. subst (IsBounded by) (sym (value_at-field_of n one_part g a p within))
+      (let small = mild.values a p within in record { value = record { size = le_trans small.size (lit≤ tt) }; force = mild.forces a p within });
+}
+
+-- the kinds of the species are within the limits
+kind_at : (d : DeckView) → AreHeads (heads_of d) → (i : ℕ) → i < length (kinds_of d) → IsKind (get_or (kinds_of d) i no_kind)
+kind_at d heads i below =
+    let count = length-map d.species (λ (s : Species). s.kind) in
+    let same = length-map d.species head_of in
+    let inside : i < length d.species = omega (arith, below, count) in
+    let h = heads.kinds i (omega (arith, inside, same)) in
+    let of_head = get_or-map head_of d.species i no_species no_head inside in
+    let of_kind = get_or-map (λ (s : Species). s.kind) d.species i no_species no_kind inside in
+    subst IsKind (ap (λ t. t.kind) of_head ∙ sym of_kind) h
+
+pub kinds_are : (d : DeckView) → AreHeads (heads_of d) → (i : ℕ) (k : Kind) → i < length (kinds_of d) → IsKind (get_or (kinds_of d) i k)
+kinds_are d heads i k below =
+    All-get_or IsKind (kinds_of d) i k below (All-from_get_or IsKind (kinds_of d) no_kind (kind_at d heads))
+
+-- each particle of the deck has a share
+share_at : (d : DeckView) (particles : List Particle) → AreLoaded d particles → (i : ℕ) (x : Particle) → i < length particles
+    → CanShare 4096 d.cells (kinds_of d) (get_or particles i x)
+share_at d particles loaded i x below =
+    let h = All-get_or (IsLoaded d) particles i x below loaded.each in
+    record {
+      species = let count = length-map d.species (λ (s : Species). s.kind) in let k = h.species in omega (arith, count, k);
+      place = h.place;
+    }
+
+pub shares_are : (d : DeckView) (particles : List Particle) → AreLoaded d particles
+    → (i : ℕ) (x : Particle) → i < length particles → CanShare 4096 d.cells (kinds_of d) (get_or particles i x)
+shares_are d particles loaded = share_at d particles loaded
+
+-- and a velocity that a push could have left
+speeds_are : (d : DeckView) (particles : List Particle) → AreLoaded d particles
+    → All (λ particle. IsKeptVelocity 4096 (spot particle.v)) particles
+speeds_are d particles loaded i x below =
+    let h = All-get_or (IsLoaded d) particles i x below loaded.each in
+    record {
+      least = λ a. let s = h.speed a in omega (arith, ints, s.size);
+      most = λ a. let s = h.speed a in omega (arith, ints, s.size);
+    }
+
+-- the first state of a run
+pub sound_start : (d : DeckView) (particles : List Particle) → IsWithinLimits d → AreLoaded d particles
+    → break_of (start_of d particles) ≡ None → IsSound (start_of d particles)
+sound_start d particles limits loaded none = record {
+  side = refl;
+  cells = limits.settings.cells;
+  e = safe_of d.cells d.scales.e_force (initial_e d) limits.e;
+  b = safe_of d.cells d.scales.b_force (initial_b d) limits.b;
+  species =
+      let count = length-map d.species (λ (s : Species). s.kind) in
+      let same = length-map d.species head_of in
+      let few = limits.heads.few in
+      omega (arith, count, same, few);
+  kinds = kinds_are d limits.heads;
+  few = loaded.few;
+  identities = loaded.identities;
+  places = shares_are d particles loaded;
+  velocities = speeds_are d particles loaded;
+  gauss = gauss_of (start_of d particles) none;
+}
+
+-- the initial E is small enough for the sums of Gauss's law
+pub initial_most : (d : DeckView) → IsWithinLimits d → (a : Axis) (p : Triple) → IsWithin p d.cells
+    → IsAtMost (value_at (field_of d.cells one_part (initial_e d)) a p) (2 ^ 90)
+initial_most d limits a p within =
+    let safe = safe_of d.cells d.scales.e_force (initial_e d) limits.e in
+    let bounded = safe.bounded a p within in
+    bounded.value
+
+unless_ok : {A S : Type 0} (o : Option S) (a b : A) → unless o a ≡ Ok b → a ≡ b
+unless_ok None a b h = cc
+unless_ok (Some s) a b h = cc
+
+step_is : (w v : World) → stepped w ≡ Ok v → step_on w ≡ v
+unfolding stepped
+step_is w v steps = unless_ok (stop_of w) (step_on w) v steps
+
+step_cells : (w : World) → (step_on w).cells ≡ w.cells
+unfolding step_on
+step_cells w = refl
+
+step_count : (w : World) → length (step_on w).particles ≡ length w.particles
+unfolding step_on moved_all
+step_count w = length-map w.particles _
+
+-- room for a state is room for the next
+pub room_kept : (to : Snapshot) (w v : World) → stepped w ≡ Ok v → HasRoom to w → HasRoom to v
+room_kept to w v steps room =
+    let is = step_is w v steps in
+    let cells = sym (step_cells w) in
+    subst (HasRoom to) is (record {
+      e_cells = room.e_cells ∙ cells;
+      e_parts = room.e_parts;
+      b_cells = room.b_cells ∙ cells;
+      b_parts = room.b_parts;
+      count = room.count ∙ sym (step_count w);
+    })
+
+-- the frame of a state that stands in a snapshot
+pub frame_is : (step : ℕ) (to : Snapshot) (w : World) (energies : Energies) → IsFilled to w → energies ≡ energies_in w
+    → frame_bytes step to.e to.b to.particles.items energies ≡ frame_bytes step w.e w.b w.particles (energies_in w)
+frame_is step to w energies filled measured =
+    (λ i. frame_bytes step (filled.e i) (filled.b i) (filled.particles i) (measured i))

@@ -1,0 +1,48 @@
+-- The stages of a call. Each gives a value for the next one, or an early end of the call, which has
+-- an answer, and a line of its own on the report.
+use Rattle.std.specs.Prelude.{ℕ, List, Result, Ok, Err}
+use Rattle.pic_deck.specs.declared.refusal.DeckFault.{DeckFault}
+use Rattle.pic_deck.specs.declared.refusal.DeckFault.TheVariants as deck_fault
+use Rattle.pic_run.specs.declared.early.Early.{Early}
+use Rattle.pic_run.specs.declared.early.Early.TheVariants as early
+use Rattle.pic_run.specs.declared.early.StageStop.{StageStop}
+use Rattle.pic_run.specs.declared.early.StageStop.TheVariants as stage_stop
+use Rattle.pic_run.specs.declared.ended.Ended.{Ended}
+use Rattle.pic_run.specs.declared.ended.Ended.TheVariants.{Usage, Refused, Gauss, ReadFault}
+use Rattle.pic_run.specs.declared.reading.ReadStop.{ReadStop}
+use Rattle.pic_run.specs.declared.reading.ReadStop.TheVariants as read_stop
+use Rattle.pic_run.specs.Lines.{gauss_line, usage_line, read_fault_line, refused_line}
+
+-- what a stage gives
+abbrev pub Staged : Type 0 → Type 0
+Staged A = Result A Early
+
+-- one stage, and then another from its value
+infixl 10 ◌>>=◌
+abbrev pub ◌>>=◌ : {A B : Type 0} → Staged A → (A → Staged B) → Staged B
+Ok a >>= f = f a
+Err end >>= f = Err end
+
+-- the answer of an early end
+abbrev pub ended_early : Early → Ended
+ended_early early.Usage = Usage
+ended_early early.ReadFault = ReadFault
+ended_early (early.Refused refusal) = Refused refusal
+ended_early (early.Gauss b) = Gauss b
+
+-- its line on the report
+abbrev pub early_line : Early → List ℕ
+early_line early.Usage = usage_line
+early_line early.ReadFault = read_fault_line
+early_line (early.Refused refusal) = refused_line refusal
+early_line (early.Gauss b) = gauss_line b
+
+-- what stops the stage of reading
+abbrev pub stop_of_reading : ReadStop → StageStop
+stop_of_reading read_stop.Fault = stage_stop.Answer early.ReadFault
+stop_of_reading read_stop.NoMemory = stage_stop.NoMemory
+
+-- what stops the stage of the deck
+abbrev pub stop_of_deck : DeckFault → StageStop
+stop_of_deck (deck_fault.Refused refusal) = stage_stop.Answer (early.Refused refusal)
+stop_of_deck deck_fault.NoMemory = stage_stop.NoMemory

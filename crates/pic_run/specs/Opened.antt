@@ -1,0 +1,37 @@
+-- What opening a deck does.
+use Rattle.std.specs.Prelude.{◌≡◌, ⊤, ℕ, List, Option, Result, Ok, Err}
+use Rattle.pic_io.specs.Told.{Told}
+use Rattle.pic_io.specs.Source.{IsAtEnd}
+use Rattle.pic_deck.specs.Deck.{DeckView}
+use Rattle.pic_load.specs.Loading.{loaded}
+use Rattle.pic_step.specs.SerialRun.{start_of}
+use Rattle.pic_step.specs.Sound.{IsSound}
+use Rattle.pic_run.specs.declared.early.Early.{Early}
+use Rattle.pic_run.specs.declared.early.StageStop.{StageStop}
+use Rattle.pic_run.specs.declared.early.StageStop.TheVariants.{Answer, NoMemory}
+use Rattle.pic_run.specs.declared.opened.Opened.{Opened}
+use Rattle.pic_run.specs.Outcome.{accepted, opened}
+use Rattle.pic_run.specs.Reading.{Gave}
+
+-- the deck of the input with its particles; its first state is sound, and the source is at its end
+pub record IsOpened (input : Option (List ℕ)) (now : Told) (o : Opened) : Type 0 where
+  pub deck : opened input ≡ Ok o.deck
+  pub particles : o.particles.items ≡ loaded o.deck
+  pub sound : IsSound (start_of o.deck o.particles.items)
+  pub end : IsAtEnd now
+
+-- the early end of the input; where its deck is accepted, the source is at its end
+pub record IsEarly (input : Option (List ℕ)) (now : Told) (why : Early) : Type 0 where
+  pub early : opened input ≡ Err why
+  pub end : (d : DeckView) → accepted input ≡ Ok d → IsAtEnd now
+
+abbrev pub OpensAs : Option (List ℕ) → Told → Result Opened StageStop → Type 0
+OpensAs input now (Ok o) = IsOpened input now o
+OpensAs input now (Err (Answer why)) = IsEarly input now why
+OpensAs input now (Err NoMemory) = ⊤
+
+-- what opening a deck answers, from what its source held
+pub record Opens (before now : Told) (result : Result Opened StageStop) : Type 0 where
+  pub input : Option (List ℕ)
+  pub gave : Gave before now input
+  pub opens : OpensAs input now result

@@ -1,0 +1,104 @@
+//! The early ends of a call: those that come before its command has put anything.
+
+ghost use Rattle.std.specs.Prelude.{◌≡◌};
+ghost use Rattle.pic_io.specs.Told.{Told};
+ghost use Rattle.pic_io.specs.Sinks.{sinks, WritesLine};
+ghost use Rattle.pic_run.specs.declared.early.StageStop.TheVariants as stage_stop;
+ghost use Rattle.pic_run.specs.Early.{ended_early, early_line, stop_of_reading, stop_of_deck};
+ghost use Rattle.pic_run.specs.Ends.{EndsStopped};
+
+use crate::cut::Cut;
+use crate::ended::Ended;
+use crate::lines::{line_of_break, line_of_read_fault, line_of_usage};
+use crate::reading::ReadStop;
+use crate::refusing::put_refusal;
+use crate::writing::put_line;
+use pic_charge::Break;
+use pic_deck::{DeckFault, Refusal};
+use pic_io::{Side, Sink};
+
+/// An end before a command has put anything. Each has a line of its own, on the report.
+#[derive(Debug, Drop)]
+pub enum Early {
+    /// The words are no command.
+    Usage,
+    /// A read failed.
+    ReadFault,
+    /// The deck was refused.
+    Refused(Refusal),
+    /// The deck's E and its charge don't meet Gauss's law; this is the least node where it fails.
+    Gauss(Break),
+}
+
+/// What ends a stage: an early end of the call, or want of memory.
+#[derive(Debug, Drop)]
+pub enum StageStop {
+    Answer(Early),
+    NoMemory,
+}
+
+impl From<ReadStop> for StageStop {
+    ghost from_gives = { λ stop result. result ≡ stop_of_reading stop };
+
+    fn from(stop: ReadStop) -> StageStop {
+        match stop {
+            ReadStop::Fault => StageStop::Answer(Early::ReadFault),
+            ReadStop::NoMemory => StageStop::NoMemory,
+        }
+    }
+}
+
+impl From<DeckFault> for StageStop {
+    ghost from_gives = { λ fault result. result ≡ stop_of_deck fault };
+
+    fn from(fault: DeckFault) -> StageStop {
+        match fault {
+            DeckFault::Refused(refusal) => StageStop::Answer(Early::Refused(refusal)),
+            DeckFault::NoMemory => StageStop::NoMemory,
+        }
+    }
+}
+
+impl From<pic_num::NoMemory> for StageStop {
+    ghost from_gives = { λ _ result. result ≡ stage_stop.NoMemory };
+
+    fn from(_refused: pic_num::NoMemory) -> StageStop {
+        StageStop::NoMemory
+    }
+}
+
+/// Ends a call whose stage was stopped: an early end by its line on the report.
+pub fn end_early<R: Sink>(report: &mut R, stop: StageStop) -> Result<Ended, Cut>
+    ensures { (o : Told) → EndsStopped stop
+        (sinks o (R.told report.old)) (sinks o (R.told report.new)) result }
+{
+    match stop {
+        StageStop::Answer(early) => {
+            put_early(report, &early)?;
+            Ok(ended_early(early))
+        }
+        StageStop::NoMemory => Err(Cut::NoMemory),
+    }
+}
+
+fn put_early<R: Sink>(report: &mut R, early: &Early) -> Result<(), Side>
+    ensures { WritesLine (R.told report.old) (R.told report.new) (early_line early.now) result }
+{
+    match early {
+        Early::Usage => put_line(report, line_of_usage()),
+        Early::ReadFault => put_line(report, line_of_read_fault()),
+        Early::Refused(refusal) => put_refusal(report, refusal),
+        Early::Gauss(at) => put_line(report, line_of_break(*at).bytes()),
+    }
+}
+
+fn ended_early(early: Early) -> Ended
+    ensures { result ≡ ended_early early }
+{
+    match early {
+        Early::Usage => Ended::Usage,
+        Early::ReadFault => Ended::ReadFault,
+        Early::Refused(refusal) => Ended::Refused(refusal),
+        Early::Gauss(at) => Ended::Gauss(at),
+    }
+}

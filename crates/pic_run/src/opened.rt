@@ -1,0 +1,35 @@
+//! The stages of a deck: it is read and walked, its particles are loaded, Gauss's law is tested.
+
+ghost use Rattle.pic_run.specs.Reading.{deck_limit, TakesAtMost};
+ghost use Rattle.pic_run.specs.Opened.{Opens};
+
+use crate::early::{Early, StageStop};
+use crate::reading::{greatest_deck, read_all};
+use crate::starting::find_break;
+use pic_deck::{Deck, read_deck};
+use pic_io::Source;
+use pic_load::load;
+use pic_num::Particle;
+use std::alloc::Global;
+
+/// A deck that can be run, and its particles.
+#[derive(Drop)]
+pub struct Opened {
+    pub deck: Deck,
+    pub particles: Vec<Particle>,
+}
+
+/// Opens the deck that the source gives, through all stages up to Gauss's law.
+pub fn open<S: Source>(alloc: Global, source: &mut S) -> Result<Opened, StageStop>
+    ensures opens { Opens (S.told source.old) (S.told source.new) result }
+    ensures taken { TakesAtMost deck_limit (S.told source.old) (S.told source.new) }
+{
+    let bytes = read_all(alloc, source, greatest_deck())?;
+    let text: &[u8] = &bytes;
+    let deck = read_deck(alloc, text)?;
+    let particles = load(alloc, &deck)?;
+    match find_break(alloc, &deck, &particles)? {
+        None => Ok(Opened { deck, particles }),
+        Some(at) => Err(StageStop::Answer(Early::Gauss(at))),
+    }
+}
