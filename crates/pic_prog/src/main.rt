@@ -1,8 +1,14 @@
 //! The program `pic`: its words and the three standard streams, handed to the top call.
 #![tactic(auto)]
 
+ghost use Rattle.std.specs.Prelude.{◌≡◌, None, map, drop, string_bytes, IfOk};
+ghost use Rattle.std.specs.Process.{exit_status};
+ghost use Rattle.pic_line.specs.CommandLine.{command_of};
+ghost use Rattle.pic_run.specs.Ended.{status_of};
+
 use pic_io::{StdSink, StdSource};
 use pic_run::{Ended, pic};
+use std::alloc::{AllocError, Global};
 use std::process::ExitCode;
 use std::rt::Env;
 use std::{env, io};
@@ -11,26 +17,50 @@ fn main(rt: HostRuntime) -> ExitCode {
     let mut source = StdSource::new(rt.stdin());
     let mut out = StdSink::new(rt.stdout());
     let mut report = StdSink::new(rt.stderr());
-    let ended = match words(&rt) {
-        Ok(words) => pic(rt.alloc(), &words, &mut source, &mut out, &mut report),
+    let ended = match arguments(&rt) {
+        Ok(all) => pic(
+            rt.alloc(),
+            after_name(&all),
+            &mut source,
+            &mut out,
+            &mut report,
+        ),
         Err(_) => Ended::NoMemory,
     };
-    ExitCode::from(ended.status())
+    code_of(&ended)
 }
 
-// The words after the program's name. Where one isn't text, they are words that are no command.
-fn words<R: Env + AllocGlobal>(rt: &R) -> io::Result<Vec<String>> {
-    let mut words = Vec::new(rt.alloc());
+// The program's name and the words after it. Where one isn't text, they are none of a command.
+fn arguments<R: Env + AllocGlobal>(rt: &R) -> io::Result<Vec<String>> {
     match env::args(rt) {
-        Ok(args) => {
-            for word in args.skip(1) {
-                words.push(word)?;
-            }
-        }
-        Err(fault) if fault.kind() == io::ErrorKind::InvalidData => {
-            words.push("\u{fffd}".to_string(rt.alloc())?)?;
-        }
-        Err(fault) => return Err(fault),
+        Ok(all) => Ok(all.collect(rt.alloc())?),
+        Err(fault) if fault.kind() == io::ErrorKind::InvalidData => Ok(no_command(rt.alloc())?),
+        Err(fault) => Err(fault),
     }
-    Ok(words)
+}
+
+// A name and a word that are no command.
+fn no_command(alloc: Global) -> Result<Vec<String>, AllocError>
+    ensures { IfOk result (λ all. command_of (map string_bytes (drop 1 all.items)) ≡ None) }
+{
+    let mut all = Vec::new(alloc);
+    all.push(String::new(alloc))?;
+    all.push("\u{fffd}".to_string(alloc)?)?;
+    Ok(all)
+}
+
+// The words after the program's name.
+fn after_name(all: &[String]) -> &[String]
+    ensures { result.now ≡ drop 1 all.now }
+{
+    match all {
+        [_name, words @ ..] => words,
+        [] => &[],
+    }
+}
+
+fn code_of(ended: &Ended) -> ExitCode
+    ensures { exit_status result ≡ status_of ended.now }
+{
+    ExitCode::from(ended.status())
 }
