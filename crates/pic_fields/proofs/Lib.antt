@@ -1,0 +1,4 @@
+pub mod ReadLaws
+pub mod FieldLaws
+pub mod EachLaws
+pub mod EndLaws

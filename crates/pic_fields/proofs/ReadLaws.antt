@@ -1,0 +1,173 @@
+-- What calls gave one after another, held against the format that they read.
+use Rattle.std.proofs.Common.{◌≡◌, ℕ, ◌≤◌, Bool, true, false, List, [], Option, Some, None, Result, Ok, Err, IsErrAnd, refl, ap, subst, ◌∙◌}
+use Rattle.std.proofs.lemmas.Result.{err_from_is_err_and}
+use Rattle.std.specs.Prelude.{option_map}
+use Rattle.pic_io.specs.Told.{Told, Rose, Calm, raised}
+use Rattle.pic_fields.specs.Parser.{Input, input, Fault, fault, Parser, done, after, ◌>>=◌, mapped, tested, checked}
+use Rattle.pic_fields.specs.Reads.{Left, HasRead, Fails, HasEnded, Stops, Reads, ReadsEnd}
+use Rattle.pic_fields.specs.declared.read_stop.ReadStop.{ReadStop}
+use Rattle.pic_fields.specs.declared.read_stop.ReadStop.TheVariants.{ReadFault, BadDump}
+
+pub then_ok : {A B : Type 0} (p : Parser A) (f : A → Parser B) (i j : Input) (a : A) → p i ≡ Ok (a, j) → (p >>= f) i ≡ f a j
+unfolding ◌>>=◌
+then_ok p f i j a e = ap (λ r. after r f) e
+
+pub then_err : {A B : Type 0} (p : Parser A) (f : A → Parser B) (i : Input) (e : Fault) → p i ≡ Err e → (p >>= f) i ≡ Err e
+unfolding ◌>>=◌
+then_err p f i e is = ap (λ r. after r f) is
+
+-- a source tells some bytes, or any could be left
+rest_in : (known : Option (List ℕ)) → (rest : List ℕ) × (known ≡ option_map (λ _. rest) known)
+rest_in None = ([], refl)
+rest_in (Some bytes) = (bytes, refl)
+
+pub some_rest : (t : Told) → (rest : List ℕ) × Left t rest
+some_rest t = rest_in t.bytes
+
+-- a count that stayed and then rose
+rose_after : (x y z : Told) → Calm x y → Rose y z → Rose x z
+rose_after x y z calm rose = subst (λ n. raised n ≤ z.faults) calm rose
+
+-- a value, and then another
+pub read_then : {A B : Type 0} {p : Parser A} (f : A → Parser B) {s m e : ℕ} {x y z : Told} {a : A} {b : B}
+    → HasRead p s x a m y → HasRead (f a) m y b e z → HasRead (p >>= f) s x b e z
+read_then f first second = record {
+  calm = second.calm ∙ first.calm;
+  reads = λ rest left. (let (h2, left2, e2) = second.reads rest left in
+      let (h1, left1, e1) = first.reads h2 left2 in
+      (h1, left1, then_ok _ f _ _ _ e1 ∙ e2));
+}
+
+-- the first part fails
+fails_first : {A B : Type 0} {p : Parser A} (f : A → Parser B) {s : ℕ} {x z : Told} {e : Fault} → Fails p s x e z → Fails (p >>= f) s x e z
+fails_first f first = record { calm = first.calm; held = first.held; was = first.was; fails = then_err _ f _ _ first.fails }
+
+-- a value, and then a fault
+fails_then : {A B : Type 0} {p : Parser A} (f : A → Parser B) {s m : ℕ} {x y z : Told} {a : A} {e : Fault}
+    → HasRead p s x a m y → Fails (f a) m y e z → Fails (p >>= f) s x e z
+fails_then f first second =
+    let (held, was, e1) = first.reads second.held second.was in
+    record { calm = second.calm ∙ first.calm; held = held; was = was; fails = then_ok _ f _ _ _ e1 ∙ second.fails }
+
+-- a value, and then the last one
+pub ends_then : {A B : Type 0} {p : Parser A} (f : A → Parser B) {s m : ℕ} {x y z : Told} {a : A} {b : B}
+    → HasRead p s x a m y → HasEnded (f a) m y b z → HasEnded (p >>= f) s x b z
+ends_then f first second =
+    let (held, was, e1) = first.reads second.held second.was in
+    record { calm = second.calm ∙ first.calm; end = second.end; held = held; was = was; stop = second.stop; reads = then_ok _ f _ _ _ e1 ∙ second.reads }
+
+-- why a call stopped, where it is the first part, or comes after one
+pub stops_first : {A B : Type 0} {p : Parser A} (f : A → Parser B) {s : ℕ} {x z : Told} {stop : ReadStop} → Stops p s x z stop → Stops (p >>= f) s x z stop
+stops_first f {stop = ReadFault} first = record { why = first.why }
+stops_first f {stop = BadDump place cause} first = record { why = fails_first f first.why }
+
+pub stops_then : {A B : Type 0} {p : Parser A} (f : A → Parser B) {s m : ℕ} {x y z : Told} {a : A} {stop : ReadStop}
+    → HasRead p s x a m y → Stops (f a) m y z stop → Stops (p >>= f) s x z stop
+stops_then f {x = x} {y = y} {z = z} {stop = ReadFault} first second = record { why = rose_after x y z first.calm second.why }
+stops_then f {stop = BadDump place cause} first second = record { why = fails_then f first second.why }
+
+-- a call after a value
+pub goes_on : {A B C : Type 0} {p : Parser A} (f : A → Parser B) {view : C → B} {s m e : ℕ} {x y z : Told} {a : A} {r : Result C ReadStop}
+    → HasRead p s x a m y → Reads view (f a) m e y z r → Reads view (p >>= f) s e x z r
+goes_on f {r = Ok c} first second = record { answer = read_then f first second.answer }
+goes_on f {r = Err stop} first second = record { answer = stops_then f first second.answer }
+
+pub goes_on_to_end : {A B C : Type 0} {p : Parser A} (f : A → Parser B) {view : C → B} {s m : ℕ} {x y z : Told} {a : A} {r : Result C ReadStop}
+    → HasRead p s x a m y → ReadsEnd view (f a) m y z r → ReadsEnd view (p >>= f) s x z r
+goes_on_to_end f {r = Ok c} first second = record { answer = ends_then f first second.answer }
+goes_on_to_end f {r = Err stop} first second = record { answer = stops_then f first second.answer }
+
+-- a call that stopped as the first part
+pub exits : {A B C D : Type 0} {p : Parser A} (f : A → Parser B) {view : C → A} {other : D → B} {s e d : ℕ} {x z : Told} {stop : ReadStop} {r : Result D ReadStop}
+    → IsErrAnd r (λ y. y ≡ stop) → Reads view p s e x z (Err stop) → Reads other (p >>= f) s d x z r
+exits f {stop = stop} {r = r} is first =
+    let q = err_from_is_err_and r is in
+    rw (q.1, q.2) (record { answer = stops_first f first.answer })
+
+pub exits_to_end : {A B C D : Type 0} {p : Parser A} (f : A → Parser B) {view : C → A} {other : D → B} {s e : ℕ} {x z : Told} {stop : ReadStop} {r : Result D ReadStop}
+    → IsErrAnd r (λ y. y ≡ stop) → Reads view p s e x z (Err stop) → ReadsEnd other (p >>= f) s x z r
+exits_to_end f {stop = stop} {r = r} is first =
+    let q = err_from_is_err_and r is in
+    rw (q.1, q.2) (record { answer = stops_first f first.answer })
+
+-- a value that takes no bytes
+pub read_done : {A : Type 0} (a : A) (s : ℕ) (x : Told) → HasRead (done a) s x a s x
+unfolding done
+read_done a s x = record { calm = refl; reads = λ rest left. (rest, left, refl) }
+
+-- a value as another
+pub read_as : {A B : Type 0} {p : Parser A} (f : A → B) {s e : ℕ} {x z : Told} {a : A} → HasRead p s x a e z → HasRead (mapped f p) s x (f a) e z
+unfolding mapped done
+read_as f first = read_then (λ b. done (f b)) first (read_done (f _) _ _)
+
+pub stops_as : {A B : Type 0} {p : Parser A} (f : A → B) {s : ℕ} {x z : Told} {stop : ReadStop} → Stops p s x z stop → Stops (mapped f p) s x z stop
+unfolding mapped
+stops_as f first = stops_first (λ b. done (f b)) first
+
+pub exits_as : {A B C D : Type 0} {p : Parser A} (f : A → B) {view : C → A} {other : D → B} {s e d : ℕ} {x z : Told} {stop : ReadStop} {r : Result D ReadStop}
+    → IsErrAnd r (λ y. y ≡ stop) → Reads view p s e x z (Err stop) → Reads other (mapped f p) s d x z r
+exits_as f {stop = stop} {r = r} is first =
+    let q = err_from_is_err_and r is in
+    rw (q.1, q.2) (record { answer = stops_as f first.answer })
+
+pub reads_as : {A B C : Type 0} {p : Parser A} (f : A → B) {view : C → A} {s e : ℕ} {x z : Told} {r : Result C ReadStop}
+    → Reads view p s e x z r → Reads (λ c. f (view c)) (mapped f p) s e x z r
+reads_as f {r = Ok c} h = record { answer = read_as f h.answer }
+reads_as f {r = Err stop} h = record { answer = stops_as f h.answer }
+
+pub reads_up_to : {A C : Type 0} {p : Parser A} {view : C → A} {s d e : ℕ} {x z : Told} {r : Result C ReadStop} → d ≡ e → Reads view p s d x z r → Reads view p s e x z r
+reads_up_to {p = p} {view = view} {s = s} {x = x} {z = z} {r = r} is h = subst (λ n. Reads view p s n x z r) is h
+
+-- a test that is passed
+tested_true : {A : Type 0} (place cause : ℕ) (test : A → Bool) (x : A × Input) → test x.0 ≡ true → tested place cause test (Ok x) ≡ Ok x
+tested_true place cause test x e = rw e refl
+
+tested_false : {A : Type 0} (place cause : ℕ) (test : A → Bool) (x : A × Input) → test x.0 ≡ false → tested place cause test (Ok x) ≡ Err (fault place cause)
+tested_false place cause test x e = rw e refl
+
+pub passes : {A : Type 0} {p : Parser A} (cause : ℕ) (test : A → Bool) {s e : ℕ} {x z : Told} {a : A}
+    → HasRead p s x a e z → test a ≡ true → HasRead (checked cause test p) s x a e z
+unfolding checked
+passes cause test first is = record {
+  calm = first.calm;
+  reads = λ rest left. (let (held, was, e1) = first.reads rest left in
+      (held, was, ap (tested _ cause test) e1 ∙ tested_true _ cause test _ is));
+}
+
+-- one that is not
+pub refused : {A : Type 0} {p : Parser A} (cause : ℕ) (test : A → Bool) {s e : ℕ} {x z : Told} {a : A}
+    → HasRead p s x a e z → test a ≡ false → Fails (checked cause test p) s x (fault s cause) z
+unfolding checked
+refused cause test {z = z} first is =
+    let (rest, left) = some_rest z in
+    let (held, was, e1) = first.reads rest left in
+    record { calm = first.calm; held = held; was = was; fails = ap (tested _ cause test) e1 ∙ tested_false _ cause test _ is }
+
+fails_checked : {A : Type 0} {p : Parser A} (cause : ℕ) (test : A → Bool) {s : ℕ} {x z : Told} {e : Fault} → Fails p s x e z → Fails (checked cause test p) s x e z
+unfolding checked
+fails_checked cause test first = record { calm = first.calm; held = first.held; was = first.was; fails = ap (tested _ cause test) first.fails }
+
+pub stops_checked : {A : Type 0} {p : Parser A} (cause : ℕ) (test : A → Bool) {s : ℕ} {x z : Told} {stop : ReadStop}
+    → Stops p s x z stop → Stops (checked cause test p) s x z stop
+stops_checked cause test {stop = ReadFault} first = record { why = first.why }
+stops_checked cause test {stop = BadDump place c} first = record { why = fails_checked cause test first.why }
+
+pub exits_checked : {A C D : Type 0} {p : Parser A} (cause : ℕ) (test : A → Bool) {view : C → A} {other : D → A} {s e d : ℕ} {x z : Told} {stop : ReadStop} {r : Result D ReadStop}
+    → IsErrAnd r (λ y. y ≡ stop) → Reads view p s e x z (Err stop) → Reads other (checked cause test p) s d x z r
+exits_checked cause test {stop = stop} {r = r} is first =
+    let q = err_from_is_err_and r is in
+    rw (q.1, q.2) (record { answer = stops_checked cause test first.answer })
+
+-- another spelling of the value, of the end, or of the start
+pub read_same : {A : Type 0} {p : Parser A} {s e : ℕ} {x z : Told} {a b : A} → a ≡ b → HasRead p s x a e z → HasRead p s x b e z
+read_same {p = p} {s = s} {e = e} {x = x} {z = z} is first = subst (λ c. HasRead p s x c e z) is first
+
+pub read_up_to : {A : Type 0} {p : Parser A} {s d e : ℕ} {x z : Told} {a : A} → d ≡ e → HasRead p s x a d z → HasRead p s x a e z
+read_up_to {p = p} {s = s} {x = x} {z = z} {a = a} is first = subst (λ n. HasRead p s x a n z) is first
+
+-- what was read is of the format
+pub read_is : {A : Type 0} {p : Parser A} {s e : ℕ} {x z : Told} {a : A} → HasRead p s x a e z → (held rest : List ℕ) × (p (input s held) ≡ Ok (a, input e rest))
+read_is {z = z} first =
+    let (rest, left) = some_rest z in
+    let (held, was, is) = first.reads rest left in
+    (held, rest, is)

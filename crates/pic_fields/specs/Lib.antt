@@ -1,0 +1,5 @@
+pub mod Parser
+pub mod Number
+pub mod Reads
+pub mod Fills
+pub mod Spells

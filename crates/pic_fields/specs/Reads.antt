@@ -1,0 +1,65 @@
+-- What a call that reads from a source gave, held against a format.
+use Rattle.std.specs.Prelude.{◌≡◌, ℕ, List, [], option_map, Result, Ok, Err}
+use Rattle.pic_io.specs.Told.{Told, Rose, Calm}
+use Rattle.pic_io.specs.Source.{IsAtEnd}
+use Rattle.pic_fields.specs.Parser.{Parser, Fault, fault, input}
+use Rattle.pic_fields.specs.declared.read_stop.ReadStop.{ReadStop}
+use Rattle.pic_fields.specs.declared.read_stop.ReadStop.TheVariants.{ReadFault, BadDump}
+
+-- these bytes are left, where the source tells its bytes
+abbrev pub Left : Told → List ℕ → Type 0
+Left now rest = now.bytes ≡ option_map (λ _. rest) now.bytes
+
+-- a value was read from one place up to another: whatever is left now, what was there before is of
+-- the format and gives the value
+pub record HasRead {A : Type 0} (p : Parser A) (start : ℕ) (before : Told) (a : A) (end : ℕ) (now : Told) : Type 0 where
+  pub calm : Calm before now
+  pub reads : (rest : List ℕ) → Left now rest → (held : List ℕ) × Left before held × (p (input start held) ≡ Ok (a, input end rest))
+
+-- a fault was found, which is the first
+pub record Fails {A : Type 0} (p : Parser A) (start : ℕ) (before : Told) (f : Fault) (now : Told) : Type 0 where
+  pub calm : Calm before now
+  pub held : List ℕ
+  pub was : Left before held
+  pub fails : p (input start held) ≡ Err f
+
+-- a value was read, and nothing is left behind it
+pub record HasEnded {A : Type 0} (p : Parser A) (start : ℕ) (before : Told) (a : A) (now : Told) : Type 0 where
+  pub calm : Calm before now
+  pub end : IsAtEnd now
+  pub held : List ℕ
+  pub was : Left before held
+  pub stop : ℕ
+  pub reads : p (input start held) ≡ Ok (a, input stop [])
+
+abbrev pub Why : {A : Type 0} → Parser A → ℕ → Told → Told → ReadStop → Type 0
+Why p start before now (BadDump place cause) = Fails p start before (fault place cause) now
+Why p start before now ReadFault = Rose before now
+
+-- why a call gave no value: the first fault, or a read failed
+pub record Stops {A : Type 0} (p : Parser A) (start : ℕ) (before now : Told) (stop : ReadStop) : Type 0 where
+  pub why : Why p start before now stop
+
+abbrev pub Answers : {A B : Type 0} → (B → A) → Parser A → ℕ → ℕ → Told → Told → Result B ReadStop → Type 0
+Answers view p start end before now (Ok b) = HasRead p start before (view b) end now
+Answers view p start end before now (Err stop) = Stops p start before now stop
+
+-- what a call that reads a part of a format gave; `view` is what its result stands for
+pub record Reads {A B : Type 0} (view : B → A) (p : Parser A) (start end : ℕ) (before now : Told) (result : Result B ReadStop) : Type 0 where
+  pub answer : Answers view p start end before now result
+
+abbrev pub AnswersEnd : {A B : Type 0} → (B → A) → Parser A → ℕ → Told → Told → Result B ReadStop → Type 0
+AnswersEnd view p start before now (Ok b) = HasEnded p start before (view b) now
+AnswersEnd view p start before now (Err stop) = Stops p start before now stop
+
+-- the same for one that reads up to the end
+pub record ReadsEnd {A B : Type 0} (view : B → A) (p : Parser A) (start : ℕ) (before now : Told) (result : Result B ReadStop) : Type 0 where
+  pub answer : AnswersEnd view p start before now result
+
+-- a value that a call leaves in one of its arguments, whatever its result is
+abbrev pub always : {A B : Type 0} → A → B → A
+always a b = a
+
+-- the result itself
+abbrev pub as_it_is : {A : Type 0} → A → A
+as_it_is a = a
