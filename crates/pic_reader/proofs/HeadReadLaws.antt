@@ -1,0 +1,57 @@
+-- Calls that read parts of the header one after another.
+use Rattle.std.proofs.Common.{◌≡◌, ℕ, List, ◌<◌, Result, Ok, Err, IsErrAnd, ◌∙◌}
+use Rattle.std.proofs.lemmas.Result.{err_from_is_err_and}
+use Rattle.pic_io.specs.Told.{Told, Calm}
+use Rattle.pic_fields.specs.declared.read_stop.ReadStop.{ReadStop}
+use Rattle.pic_fields.specs.Parser.{Parser, ◌>>=◌, each}
+use Rattle.pic_fields.specs.Reads.{HasRead, Reads}
+use Rattle.pic_fields.proofs.ReadLaws.{read_then, stops_first, stops_then}
+use Rattle.pic_fields.proofs.EachLaws.{stops_among}
+use Rattle.pic_reader.specs.declared.head_stop.HeadStop.{HeadStop}
+use Rattle.pic_reader.specs.declared.head_stop.HeadStop.TheVariants.{Read, NoMemory}
+use Rattle.pic_reader.specs.HeadReads.{HeadReads}
+
+-- a call after a value
+pub head_goes_on : {A B C : Type 0} {p : Parser A} (f : A → Parser B) {view : C → B} {s m : ℕ} {end : B → ℕ} {x y z : Told} {a : A} {r : Result C HeadStop}
+    → HasRead p s x a m y → HeadReads view (f a) m end y z r → HeadReads view (p >>= f) s end x z r
+head_goes_on f {r = Ok c} first second = record { answer = read_then f first second.answer }
+head_goes_on f {r = Err (Read stop)} first second = record { answer = stops_then f first second.answer }
+head_goes_on f {r = Err NoMemory} first second = record { answer = second.answer ∙ first.calm }
+
+-- a call that stopped
+pub head_exits : {A B C D : Type 0} {p : Parser A} (f : A → Parser B) {view : C → A} {other : D → B} {s e : ℕ} {end : B → ℕ} {x z : Told} {stop : ReadStop} {r : Result D HeadStop}
+    → IsErrAnd r (λ y. y ≡ Read stop) → Reads view p s e x z (Err stop) → HeadReads other (p >>= f) s end x z r
+head_exits f {stop = stop} {r = r} is first =
+    let q = err_from_is_err_and r is in
+    rw (q.1, q.2) (record { answer = stops_first f first.answer })
+
+-- the same for one that takes memory
+stays : {A B C D : Type 0} {p : Parser A} (f : A → Parser B) {view : C → A} {other : D → B} {s : ℕ} {to : A → ℕ} {end : B → ℕ} {x z : Told} (stop : HeadStop)
+    → HeadReads view p s to x z (Err stop) → HeadReads other (p >>= f) s end x z (Err stop)
+stays f (Read stop) first = record { answer = stops_first f first.answer }
+stays f NoMemory first = record { answer = first.answer }
+
+pub head_passes_on : {A B C D : Type 0} {p : Parser A} (f : A → Parser B) {view : C → A} {other : D → B} {s : ℕ} {to : A → ℕ} {end : B → ℕ} {x z : Told} {stop : HeadStop} {r : Result D HeadStop}
+    → IsErrAnd r (λ y. y ≡ stop) → HeadReads view p s to x z (Err stop) → HeadReads other (p >>= f) s end x z r
+head_passes_on f {stop = stop} {r = r} is first =
+    let q = err_from_is_err_and r is in
+    rw (q.1, q.2) (stays f stop first)
+
+-- want of memory
+pub head_starves : {A D : Type 0} (p : Parser A) {other : D → A} {s : ℕ} {end : A → ℕ} {x z : Told} {r : Result D HeadStop}
+    → IsErrAnd r (λ y. y ≡ NoMemory) → Calm x z → HeadReads other p s end x z r
+head_starves p {r = r} is calm =
+    let q = err_from_is_err_and r is in
+    rw (q.1, q.2) (record { answer = calm })
+
+-- one of several
+stays_among : {A C D : Type 0} (n i : ℕ) (f : List A → Parser A) {view : C → A} {other : D → List A} {s m : ℕ} {to : A → ℕ} {end : List A → ℕ} {x y z : Told} {xs : List A} (stop : HeadStop)
+    → i < n → HasRead (each i f) s x xs m y → HeadReads view (f xs) m to y z (Err stop) → HeadReads other (each n f) s end x z (Err stop)
+stays_among n i f (Read stop) below first second = record { answer = stops_among n i f below first second.answer }
+stays_among n i f NoMemory below first second = record { answer = second.answer ∙ first.calm }
+
+pub head_among : {A C D : Type 0} (n i : ℕ) (f : List A → Parser A) {view : C → A} {other : D → List A} {s m : ℕ} {to : A → ℕ} {end : List A → ℕ} {x y z : Told} {xs : List A} {stop : HeadStop} {r : Result D HeadStop}
+    → IsErrAnd r (λ u. u ≡ stop) → i < n → HasRead (each i f) s x xs m y → HeadReads view (f xs) m to y z (Err stop) → HeadReads other (each n f) s end x z r
+head_among n i f {stop = stop} {r = r} is below first second =
+    let q = err_from_is_err_and r is in
+    rw (q.1, q.2) (stays_among n i f stop below first second)

@@ -1,0 +1,64 @@
+-- The next record, and the reader behind it.
+use Rattle.std.proofs.Common.{◌≡◌, ℕ, ◌+◌, ◌^◌, ◌<◌, ◌≤◌, true, false, eqb, List, Option, Some, None, Result, IsErrAnd, inl, inr, refl, arith}
+use Rattle.std.specs.Prelude.{IfSome}
+use Rattle.std.proofs.lemmas.Bool.{cases_lt, lt-ltb, le-ltb, eqb-true}
+use Rattle.std.proofs.lemmas.Result.{err_from_is_err_and}
+use Rattle.pic_io.specs.Told.{Told}
+use Rattle.pic_num.specs.declared.motion.Particle.{Particle}
+use Rattle.pic_grid.specs.Lattice.{Field}
+use Rattle.pic_fields.specs.declared.read_stop.ReadStop.{ReadStop}
+use Rattle.pic_fields.specs.Parser.{mapped}
+use Rattle.pic_fields.specs.Reads.{Stops}
+use Rattle.pic_reader.specs.declared.dump_reader.Next.{Next}
+use Rattle.pic_dump.specs.Due.{due_after}
+use Rattle.pic_reader.specs.Layout.{LayoutView}
+use Rattle.pic_reader.specs.FrameFields.{frame_at}
+use Rattle.pic_reader.specs.EndFields.{or_zero, end_at}
+use Rattle.pic_reader.specs.Records.{AFrame, is_tag, last_record, behind_tag, record_at}
+use Rattle.pic_reader.specs.Standing.{Standing, IsStanding, passed}
+use Rattle.pic_reader.specs.NextReads.{NextReads}
+
+-- what stands behind each mark
+pub of_frame : (l : LayoutView) (last due : Option ℕ) (tag : ℕ) → eqb tag 70 ≡ true → behind_tag l last due tag ≡ mapped AFrame (frame_at l (or_zero due))
+unfolding behind_tag
+of_frame l last due tag is = rw is refl
+
+pub of_end : (l : LayoutView) (last due : Option ℕ) (tag : ℕ) → eqb tag 70 ≡ false → behind_tag l last due tag ≡ end_at l last due last_record
+unfolding behind_tag
+of_end l last due tag is = rw is refl
+
+-- a call that stopped
+pub next_exits : (r : Standing) {x z : Told} {e b : Field} {ps : List Particle} {stop : ReadStop} {res : Result Next ReadStop}
+    → IsErrAnd res (λ y. y ≡ stop) → Stops (record_at r.layout r.last) r.place x z stop → NextReads r x z e b ps res
+next_exits r {res = res} is stops =
+    let q = err_from_is_err_and res is in
+    rw (q.1, q.2) (record { answer = stops })
+
+-- an end record's mark is no frame's
+two_marks : (tag : ℕ) → eqb tag 69 ≡ true → eqb tag 70 ≡ true → ⊥
+two_marks tag end frame =
+    let e = eqb-true tag 69 end in
+    let f = eqb-true tag 70 frame in
+    omega (arith, e, f)
+
+-- a frame that may stand there comes after the last one
+pub frame_after : (steps every : ℕ) (last : Option ℕ) (tag : ℕ) → 1 ≤ every → is_tag (due_after steps every last) last tag ≡ true → eqb tag 70 ≡ true
+    → passed last ≤ or_zero (due_after steps every last)
+frame_after steps every None tag least passes frame = omega arith
+frame_after steps every (Some s) tag least passes frame = elim (cases_lt s steps) [
+  | inl less ↦ rw (lt-ltb s steps less) (omega (arith, less, least))
+  | inr over ↦ (let none = rw (le-ltb s steps over) at passes in absurd (two_marks tag none frame))
+]
+
+pub or_zero_most : (due : Option ℕ) (n : ℕ) → IfSome due (λ step. step ≤ n) → or_zero due ≤ n
+or_zero_most None n most = omega arith
+or_zero_most (Some step) n most = most
+
+-- the reader behind a frame
+pub stands_behind : (r : Standing) (tag count : ℕ) → IsStanding r → count < 2 ^ 26 → is_tag (due_after r.layout.steps r.layout.every r.last) r.last tag ≡ true → eqb tag 70 ≡ true
+    → (step : ℕ) → step ≡ or_zero (due_after r.layout.steps r.layout.every r.last) → step ≤ r.layout.steps
+    → IsStanding (record { layout = r.layout; place = r.place + 1 + count; last = Some step })
+stands_behind r tag count stands small passes frame step is most =
+    let later = frame_after r.layout.steps r.layout.every r.last tag stands.layout.every_least passes frame in
+    let place = stands.place in
+    record { layout = stands.layout; place = omega (arith, later, place, small, is); last = most }

@@ -1,0 +1,58 @@
+use Rattle.std.proofs.Common.{◌≡◌, ℕ, List, Result, ◌-◌, ap, sym, ◌∙◌, subst, arith}
+use Rattle.pic_num.specs.declared.motion.Kind.{Kind}
+use Rattle.pic_grid.specs.Species.{HeadView, IsName}
+use Rattle.pic_io.specs.Told.{Told}
+use Rattle.pic_fields.specs.declared.read_stop.ReadStop.{ReadStop}
+use Rattle.pic_fields.specs.Number.{within}
+use Rattle.pic_fields.specs.Reads.{Reads, as_it_is}
+use Rattle.pic_fields.proofs.ReadLaws.{read_then, read_done, read_same, read_up_to}
+use Rattle.pic_reader.specs.HeaderFields.{head_at}
+use Rattle.pic_reader.specs.Fields.{out_of_limits}
+use Rattle.pic_dump.specs.Limits.{most_particles}
+use Rattle.pic_reader.proofs.NameLaws.{name_from, new_from}
+use Rattle.pic_reader.proofs.HeadReadLaws.{head_goes_on, head_exits, head_starves}
+use Rattle.pic_reader.proofs.head_reader.read_head.Goals as goal
+
+-- a species of these parts
+abbrev head : List ℕ → Kind → ℕ → HeadView
+head name kind count = record { name = name; kind = kind; count = count }
+
+-- the particles so far, by the species before
+so_many : (n m : ℕ) → n ≡ m → {s e : ℕ} {x z : Told} {r : Result ℕ ReadStop} → Reads as_it_is (within out_of_limits 0 (most_particles - n)) s e x z r
+    → Reads as_it_is (within out_of_limits 0 (most_particles - m)) s e x z r
+so_many n m is {s} {e} {x} {z} {r} h = subst (λ k. Reads as_it_is (within out_of_limits 0 (most_particles - k)) s e x z r) is h
+
+pub returns-in_err-name-clause-reads : goal.returns-in_err-name-clause-reads
+unfolding head_at
+returns-in_err-name-clause-reads g c = head_exits _ c.from_residual.ensures.1 c.in_err-name.ensures.reads
+
+pub returns-in_err-kind-clause-reads : goal.returns-in_err-kind-clause-reads
+unfolding head_at
+returns-in_err-kind-clause-reads g c = head_goes_on _ c.in_ok-name.ensures.reads.answer (head_exits _ c.from_residual-in_err-kind.ensures.1 c.in_err-kind.ensures.reads)
+
+pub returns-in_err-count-clause-reads : goal.returns-in_err-count-clause-reads
+unfolding head_at
+returns-in_err-count-clause-reads g c = head_goes_on _ c.in_ok-name.ensures.reads.answer (head_goes_on _ c.in_ok-kind.ensures.reads.answer (head_exits _ c.from_residual-in_err-count.ensures.1 (so_many _ _ c.requires.count c.in_err-count.ensures.reads)))
+
+pub returns-in_err-head-clause-reads : goal.returns-in_err-head-clause-reads
+returns-in_err-head-clause-reads g c =
+    head_starves _ c.from_residual-in_err-head.ensures.1
+    (c.in_ok-count.ensures.reads.answer.calm ∙ (c.in_ok-kind.ensures.reads.answer.calm ∙ c.in_ok-name.ensures.reads.answer.calm))
+
+pub returns-clause-reads : goal.returns-clause-reads
+unfolding head_at
+returns-clause-reads g c =
+    let is = c.in_ok-head.ensures ∙ ap (λ (name : List ℕ). head name c.in_ok-kind.kind c.in_ok-count.count) c.bytes.ensures in
+    record { answer = read_same (sym is) (read_up_to (omega arith) (read_then _ c.in_ok-name.ensures.reads.answer (read_then _ c.in_ok-kind.ensures.reads.answer (read_then _ (so_many _ _ c.requires.count c.in_ok-count.ensures.reads).answer (read_done _ _ _))))) }
+
+pub returns-clause-new : goal.returns-clause-new
+returns-clause-new g c =
+    let is = c.in_ok-head.ensures ∙ ap (λ (name : List ℕ). head name c.in_ok-kind.kind c.in_ok-count.count) c.bytes.ensures in
+    let (bytes, test, size, same) = c.in_ok-name.ensures.new in
+    let (good, free) = new_from c.args.earlier.now bytes test in
+    rw is (record {
+      name = subst IsName (sym same) (name_from bytes size good);
+      kind = c.in_ok-kind.ensures.limits;
+      differs = λ i below equal. free i below (equal ∙ same);
+      total = omega (arith, c.requires.count, c.requires.most, c.in_ok-count.ensures.high);
+    })

@@ -1,0 +1,104 @@
+-- A frame of a dump, field by field: this project's profile.
+use Rattle.std.specs.Prelude.{ℤ, pos, negsuc, ℕ, ◌+◌, ◌*◌, ◌^◌, ◌&&◌, Bool, nat_le, nat_eq, unsigned_abs, List, [], ◌∷◌, length, sum, All}
+use Rattle.pic_num.specs.declared.motion.Particle.{Particle}
+use Rattle.pic_num.specs.Multiplier.{Multiplier}
+use Rattle.pic_num.specs.Rounding.{scaled}
+use Rattle.pic_num.specs.Sizes.{IsAtMost}
+use Rattle.pic_num.specs.Space.{Triple}
+use Rattle.pic_grid.specs.Cells.{count_of}
+use Rattle.pic_grid.specs.Lattice.{Field}
+use Rattle.pic_energy.specs.declared.amounts.Energies.{Energies}
+use Rattle.pic_energy.specs.Energies.{energies_of, IsBounded, IsOfKinds}
+use Rattle.pic_fields.specs.Parser.{Parser, done, ◌>>=◌, checked, mapped, each}
+use Rattle.pic_fields.specs.Number.{u128_at, i128_at}
+use Rattle.pic_reader.specs.Fields.{strong_value, out_of_range, wrong_energy, below, between, the_step}
+use Rattle.pic_reader.specs.Layout.{LayoutView, species_of}
+
+-- a frame: its step, the values of E and B in the order of places, the particles, and the energies
+pub record FrameView : Type 0 where
+  pub step : ℕ
+  pub e : List ℤ
+  pub b : List ℤ
+  pub particles : List Particle
+  pub energies : Energies
+
+-- a value of at most 2^90 whose force value is at most 2^44
+abbrev pub is_moderate : Multiplier → ℤ → Bool
+is_moderate by v = nat_le (unsigned_abs v) (2 ^ 90) && nat_le (unsigned_abs (scaled v by)) (2 ^ 44)
+
+pub record IsModerate (by : Multiplier) (v : ℤ) : Type 0 where
+  pub value : IsAtMost v (2 ^ 90)
+  pub force : IsAtMost (scaled v by) (2 ^ 44)
+
+-- the next value of a field
+unfoldable pub value_at : Multiplier → List ℤ → Parser ℤ
+value_at by before = checked strong_value (is_moderate by) i128_at
+
+-- the values of a field
+unfoldable pub field_at : Triple → Multiplier → Parser (List ℤ)
+field_at n by = each (3 * count_of n) (value_at by)
+
+-- a position on an axis of so many cells of 4096 sub-cells
+unfoldable pub coordinate_at : ℕ → Parser ℕ
+coordinate_at cells = below out_of_range (cells * 4096)
+
+unfoldable pub position_at : Triple → Parser (List ℕ)
+position_at n = coordinate_at n.x >>= (λ x. coordinate_at n.y >>= (λ y. coordinate_at n.z >>= (λ z. done (x ∷ y ∷ z ∷ []))))
+
+unfoldable pub speed_at : Parser ℤ
+speed_at = between out_of_range (negsuc 16779263) (pos 16779263)
+
+unfoldable pub velocity_at : Parser (List ℤ)
+velocity_at = speed_at >>= (λ x. speed_at >>= (λ y. speed_at >>= (λ z. done (x ∷ y ∷ z ∷ []))))
+
+-- the particle of an identity, which tells its species
+unfoldable pub particle_of : LayoutView → ℕ → Parser Particle
+particle_of l id =
+    position_at l.cells
+    >>= (λ x. velocity_at >>= (λ v. done (record { id = id; species = species_of l.counts id; x = x; v = v })))
+
+-- the next particle: its identity is its place in the list
+unfoldable pub particle_at : LayoutView → List Particle → Parser Particle
+particle_at l before = particle_of l (length before)
+
+unfoldable pub particles_at : LayoutView → Parser (List Particle)
+particles_at l = each (sum l.counts) (particle_at l)
+
+unfoldable pub energy_at : ℕ → Parser ℕ
+energy_at want = checked wrong_energy (nat_eq want) u128_at
+
+unfoldable pub energies_at : Energies → Parser Energies
+energies_at want =
+    energy_at want.kinetic
+    >>= (λ kinetic. energy_at want.electric
+    >>= (λ electric. energy_at want.magnetic
+    >>= (λ magnetic. done (record { kinetic = kinetic; electric = electric; magnetic = magnetic }))))
+
+-- a field of such values
+abbrev pub with_values : Triple → List ℤ → Field
+with_values n values = record { cells = n; parts = record { x = 1; y = 1; z = 1 }; values = values }
+
+abbrev pub frame_of : ℕ → List ℤ → List ℤ → List Particle → Energies → FrameView
+frame_of step e b particles energies = record { step = step; e = e; b = b; particles = particles; energies = energies }
+
+-- the fields, the particles, and their energies, after the step
+unfoldable pub state_at : LayoutView → ℕ → Parser FrameView
+state_at l step =
+    field_at l.cells l.scales.e_force
+    >>= (λ e. field_at l.cells l.scales.b_force
+    >>= (λ b. particles_at l
+    >>= (λ particles. mapped (frame_of step e b particles) (energies_at (energies_of l.scales l.kinds (with_values l.cells e) (with_values l.cells b) particles)))))
+
+-- the frame of the step that is due
+unfoldable pub frame_at : LayoutView → ℕ → Parser FrameView
+frame_at l due = the_step due >>= (λ step. state_at l due)
+
+-- how many bytes a frame has, behind its mark
+abbrev pub frame_length : LayoutView → ℕ
+frame_length l = 52 + 96 * count_of l.cells + 24 * sum l.counts
+
+-- what the reader knows of a state that it read: its values are within their bounds, and each particle is of a species
+pub record IsHeld (l : LayoutView) (e b : Field) (particles : List Particle) : Type 0 where
+  pub electric : IsBounded l.scales.e_force e
+  pub magnetic : IsBounded l.scales.b_force b
+  pub species : All (IsOfKinds l.kinds) particles

@@ -1,0 +1,9 @@
+pub mod Layout
+pub mod Fields
+pub mod HeaderFields
+pub mod FrameFields
+pub mod EndFields
+pub mod Records
+pub mod HeadReads
+pub mod Standing
+pub mod NextReads

@@ -1,0 +1,34 @@
+-- What reading the next record of a dump gave.
+use Rattle.std.specs.Prelude.{◌≡◌, ℕ, List, Some, Result, Ok, Err, ⊤}
+use Rattle.pic_io.specs.Told.{Told}
+use Rattle.pic_num.specs.declared.motion.Particle.{Particle}
+use Rattle.pic_grid.specs.Lattice.{Field}
+use Rattle.pic_energy.specs.declared.amounts.Energies.{Energies}
+use Rattle.pic_fields.specs.declared.read_stop.ReadStop.{ReadStop}
+use Rattle.pic_fields.specs.Reads.{HasRead, HasEnded, Stops}
+use Rattle.pic_reader.specs.declared.dump_reader.Next.{Next}
+use Rattle.pic_reader.specs.declared.dump_reader.Next.TheVariants.{Frame, End}
+use Rattle.pic_reader.specs.FrameFields.{frame_of, IsHeld}
+use Rattle.pic_reader.specs.Records.{AFrame, AnEnd, record_at}
+use Rattle.pic_reader.specs.Standing.{Standing}
+
+-- a frame was read, and the reader stands behind it
+pub record HasFrame (r : Standing) (before now : Told) (e b : Field) (particles : List Particle) (behind : Standing) (step : ℕ) (energies : Energies) : Type 0 where
+  pub read : HasRead (record_at r.layout r.last) r.place before (AFrame (frame_of step e.values b.values particles energies)) behind.place now
+  pub layout : behind.layout ≡ r.layout
+  pub last : behind.last ≡ Some step
+  pub held : IsHeld r.layout e b particles
+
+abbrev pub NextOf : Standing → Told → Told → Field → Field → List Particle → Result Next ReadStop → Type 0
+NextOf r before now e b particles (Ok (Frame behind step energies)) = HasFrame r before now e b particles behind step energies
+NextOf r before now e b particles (Ok (End mark)) = HasEnded (record_at r.layout r.last) r.place before (AnEnd mark) now
+NextOf r before now e b particles (Err stop) = Stops (record_at r.layout r.last) r.place before now stop
+
+-- the next record, the first fault, or that a read failed
+pub record NextReads (r : Standing) (before now : Told) (e b : Field) (particles : List Particle) (result : Result Next ReadStop) : Type 0 where
+  pub answer : NextOf r before now e b particles result
+
+-- the reader behind a frame reads the same dump
+abbrev pub IsBehind : Standing → Next → Type 0
+IsBehind r (Frame behind step energies) = behind.layout ≡ r.layout
+IsBehind r (End mark) = ⊤

@@ -1,0 +1,169 @@
+//! A dump, read record by record.
+
+ghost use Rattle.std.specs.Prelude.{◌≡◌, ◌+◌, ◌*◌, ◌<◌, ◌≤◌, ◌^◌, length, sum, Option, Some, None, IfOk, IfSome, IsTrue};
+ghost use Rattle.pic_fields.specs.Parser.{checked};
+ghost use Rattle.pic_fields.specs.Number.{byte_at};
+ghost use Rattle.pic_fields.specs.Reads.{Reads, as_it_is};
+ghost use Rattle.pic_reader.specs.Fields.{wrong_tag};
+ghost use Rattle.pic_reader.specs.FrameFields.{frame_length};
+ghost use Rattle.pic_reader.specs.HeaderFields.{header_at};
+ghost use Rattle.pic_reader.specs.HeadReads.{HeadReads};
+ghost use Rattle.pic_reader.specs.Layout.{layout_of};
+ghost use Rattle.pic_reader.specs.NextReads.{NextReads, IsBehind};
+ghost use Rattle.pic_reader.specs.Records.{is_tag};
+
+use crate::due::due_after;
+use crate::end_reader::{is_code, or_zero, read_end_record};
+use crate::frame_reader::read_frame;
+use crate::head_reader::read_header;
+use crate::head_stop::HeadStop;
+use crate::layout::Layout;
+use pic_dump::Header;
+use pic_energy::Energies;
+use pic_fields::{ReadStop, read_byte};
+use pic_grid::{EndMark, Snapshot};
+use pic_io::Source;
+use std::alloc::Global;
+use std::marker::Model;
+
+/// The cause of a record that begins neither as a frame that is due nor as an end record.
+const WRONG_TAG: u8 = 3;
+
+/// The mark of a frame.
+const FRAME: u8 = 70;
+
+/// The mark of an end record.
+const END: u8 = 69;
+
+/// A reader of a dump, which stands behind the header or a frame.
+#[derive(Debug, Drop)]
+pub struct DumpReader {
+    layout: Layout,
+    place: u64,
+    last: Option<u32>,
+}
+
+impl Model for DumpReader {
+    ghost use Rattle.pic_reader.specs.Standing.{Standing, IsStanding};
+
+    ghost Value = { Standing };
+
+    ghost view = { λ r. record { layout = r.layout; place = r.place; last = r.last } };
+
+    ghost invariant = { λ r. IsStanding (record { layout = r.layout; place = r.place; last = r.last }) };
+}
+
+/// The next record of a dump.
+#[derive(Debug, Drop)]
+pub enum Next {
+    /// A frame, whose fields and particles are in the snapshot: the reader behind it, its step, and
+    /// its energies.
+    Frame(DumpReader, u32, Energies),
+    /// The end record, behind which nothing is.
+    End(EndMark),
+}
+
+impl DumpReader {
+    /// Reads the header, and answers it with a reader that stands behind it.
+    pub fn head<S: Source>(alloc: Global, source: &mut S) -> Result<(DumpReader, Header), HeadStop>
+        ensures reads { HeadReads (λ r. r.1) header_at 0 (λ h. 64 + 60 * length h.species) (S.told source.old) (S.told source.new) result }
+        ensures stands { IfOk result (λ r. r.0 ≡ record { layout = layout_of r.1; place = 64 + 60 * length r.1.species; last = None }) }
+    {
+        let header = read_header(alloc, source)?;
+        let reader = DumpReader::behind(alloc, &header)?;
+        Ok((reader, header))
+    }
+
+    // A reader that stands behind a header.
+    fn behind(alloc: Global, header: &Header) -> Result<DumpReader, pic_num::NoMemory>
+        ensures { IfOk result (λ r. r ≡ record { layout = layout_of header.now; place = 64 + 60 * length header.now.species; last = None }) }
+    {
+        let place = 64 + 60 * header.species().as_slice().len() as u64;
+        let layout = Layout::of_header(alloc, header)?;
+        Ok(DumpReader {
+            layout,
+            place,
+            last: None,
+        })
+    }
+
+    /// Room for the frames of this dump: a snapshot with its numbers of cells and particles.
+    pub fn room(&self, alloc: Global) -> Result<Snapshot, pic_num::NoMemory>
+        ensures e { IfOk result (λ s. s.e.cells ≡ self.now.layout.cells) }
+        ensures b { IfOk result (λ s. s.b.cells ≡ self.now.layout.cells) }
+        ensures particles { IfOk result (λ s. length s.particles.items ≡ sum self.now.layout.counts) }
+    {
+        Snapshot::new(alloc, self.layout.cells(), self.layout.particles())
+    }
+
+    /// Reads the next record: a frame into the snapshot, or the end record and the end of the input.
+    ///
+    /// The snapshot has the header's numbers of cells and particles. At an error the reader is gone.
+    pub fn next<S: Source>(self, source: &mut S, state: &mut Snapshot) -> Result<Next, ReadStop>
+        requires e { state.old.e.cells ≡ self.layout.cells }
+        requires b { state.old.b.cells ≡ self.layout.cells }
+        requires particles { length state.old.particles.items ≡ sum self.layout.counts }
+        ensures reads { NextReads self (S.told source.old) (S.told source.new) state.new.e state.new.b state.new.particles.items result }
+        ensures behind { IfOk result (λ n. IsBehind self n) }
+        ensures e { (state.new.e.cells ≡ state.old.e.cells) × (state.new.e.parts ≡ state.old.e.parts) }
+        ensures b { (state.new.b.cells ≡ state.old.b.cells) × (state.new.b.parts ≡ state.old.b.parts) }
+        ensures particles { length state.new.particles.items ≡ length state.old.particles.items }
+    {
+        let DumpReader {
+            layout,
+            place,
+            last,
+        } = self;
+        let due = due_after(layout.steps(), layout.every(), last);
+        let second = place + 1;
+        let tag = read_tag(source, place, due, last)?;
+        if is_code(tag, FRAME) {
+            let step = or_zero(due);
+            let energies = read_frame(source, second, &layout, step, state)?;
+            let place = second + frame_length(&layout);
+            let reader = DumpReader {
+                layout,
+                place,
+                last: Some(step),
+            };
+            return Ok(Next::Frame(reader, step, energies));
+        }
+        let mark = read_end_record(source, second, &layout, last, due)?;
+        Ok(Next::End(mark))
+    }
+}
+
+// Reads the mark of a record.
+fn read_tag<S: Source>(
+    source: &mut S,
+    place: u64,
+    due: Option<u32>,
+    last: Option<u32>,
+) -> Result<u8, ReadStop>
+    requires { place + 1 < 2 ^ 63 }
+    ensures reads { Reads as_it_is (checked wrong_tag (is_tag due last) byte_at) place (place + 1) (S.told source.old) (S.told source.new) result }
+    ensures passes { IfOk result (λ tag. IsTrue (is_tag due last tag)) }
+{
+    let tag = read_byte(source, place)?;
+    if !is_tag(due, last, tag) {
+        return Err(ReadStop::BadDump {
+            place,
+            cause: WRONG_TAG,
+        });
+    }
+    Ok(tag)
+}
+
+fn is_tag(due: Option<u32>, last: Option<u32>, tag: u8) -> bool
+    ensures { result ≡ is_tag due last tag }
+{
+    (due.is_some() && tag == FRAME) || (last.is_some() && tag == END)
+}
+
+// The bytes of a frame behind its mark.
+fn frame_length(layout: &Layout) -> u64
+    ensures value { result ≡ frame_length layout.now }
+    ensures most { result < 2 ^ 26 }
+{
+    52 + 96 * u64::from(layout.cells().count()) + 24 * u64::from(layout.particles())
+}

@@ -1,0 +1,290 @@
+//! A frame of a dump, read.
+
+ghost use Rattle.std.specs.Prelude.{◌≡◌, ℕ, ℤ, pos, ◌+◌, ◌-◌, ◌*◌, ◌<◌, ◌≤◌, ◌^◌, All, List, length, sum, nat_eq, IfOk, OnOk};
+ghost use Rattle.pic_num.specs.Sizes.{IsAtMost};
+ghost use Rattle.pic_num.specs.Rounding.{scaled};
+ghost use Rattle.pic_grid.specs.Cells.{count_of};
+ghost use Rattle.pic_fields.specs.Parser.{checked};
+ghost use Rattle.pic_fields.specs.Number.{i128_at};
+ghost use Rattle.pic_fields.specs.Reads.{Reads, always, as_it_is};
+ghost use Rattle.pic_energy.specs.Energies.{HasMass, IsOfKinds, IsBounded};
+ghost use Rattle.pic_reader.specs.Fields.{strong_value, is_below, below, the_step};
+ghost use Rattle.pic_reader.specs.FrameFields.{FrameView, is_moderate, IsModerate, field_at, coordinate_at, position_at, velocity_at, speed_at, particle_of, particle_at, particles_at, energy_at, energies_at, frame_of, frame_at, frame_length, IsHeld};
+ghost use Rattle.pic_reader.specs.Layout.{species_of, IsLayout};
+
+use crate::head_reader::read_between;
+use crate::layout::{Layout, species_at};
+use pic_energy::{Energies, energies};
+use pic_fields::{ReadStop, read_i128, read_u32, read_u128};
+use pic_grid::{Cells, Lattice, Snapshot};
+use pic_io::Source;
+use pic_num::{Mult, Particle, scale};
+
+/// The cause of a step that isn't the one that is due.
+const WRONG_STEP: u8 = 4;
+
+/// The cause of a field value, or its force value, that is too large.
+const STRONG_VALUE: u8 = 5;
+
+/// The cause of a position outside the box, or a velocity outside its range.
+const OUT_OF_RANGE: u8 = 6;
+
+/// The cause of an energy that isn't that of the frame.
+const WRONG_ENERGY: u8 = 7;
+
+/// The greatest size of a field value, 2^90, and of a force value, 2^44.
+const MOST_VALUE: u128 = 1237940039285380274899124224;
+
+const MOST_FORCE: u128 = 17592186044416;
+
+/// The least and the greatest velocity.
+const LEAST_SPEED: i32 = -16779264;
+
+const MOST_SPEED: i32 = 16779263;
+
+/// The sub-cells of a cell's side.
+const SIDE: u32 = 4096;
+
+// Reads a field value.
+fn read_value<S: Source>(source: &mut S, place: u64, by: Mult) -> Result<i128, ReadStop>
+    requires { place + 16 < 2 ^ 63 }
+    ensures reads { Reads as_it_is (checked strong_value (is_moderate by) i128_at) place (place + 16) (S.told source.old) (S.told source.new) result }
+    ensures bounds { IfOk result (λ v. IsModerate by v) }
+{
+    let value = read_i128(source, place)?;
+    if !is_moderate(by, value) {
+        return Err(ReadStop::BadDump {
+            place,
+            cause: STRONG_VALUE,
+        });
+    }
+    Ok(value)
+}
+
+fn is_moderate(by: Mult, value: i128) -> bool
+    ensures { result ≡ is_moderate by value }
+{
+    value.unsigned_abs() <= MOST_VALUE && scale(value, by).unsigned_abs() <= MOST_FORCE
+}
+
+// Reads the values of a field in the order of places.
+fn read_field<S: Source>(
+    source: &mut S,
+    place: u64,
+    by: Mult,
+    field: &mut Lattice,
+) -> Result<(), ReadStop>
+    requires { place + 2 ^ 26 < 2 ^ 63 }
+    ensures reads { Reads (always field.new.values) (field_at field.old.cells by) place (place + 16 * (3 * count_of field.old.cells))
+        (S.told source.old) (S.told source.new) result }
+    ensures cells { field.new.cells ≡ field.old.cells }
+    ensures parts { field.new.parts ≡ field.old.parts }
+    ensures bounds { OnOk result (IsBounded by field.new) }
+{
+    let cells = field.cells();
+    for index in 0..3 * cells.count() as usize {
+        let (axis, cell) = cells.place_at(index);
+        let value = read_value(source, place + 16 * index as u64, by)?;
+        field.set(axis, cell, value);
+    }
+    Ok(())
+}
+
+// Reads a number below another; a fault is of this cause.
+pub(crate) fn read_below<S: Source>(
+    source: &mut S,
+    place: u64,
+    cause: u8,
+    limit: u32,
+) -> Result<u32, ReadStop>
+    requires { place + 4 < 2 ^ 63 }
+    ensures { Reads as_it_is (below cause limit) place (place + 4) (S.told source.old) (S.told source.new) result }
+{
+    let n = read_u32(source, place)?;
+    if !is_below(limit, n) {
+        return Err(ReadStop::BadDump { place, cause });
+    }
+    Ok(n)
+}
+
+fn is_below(limit: u32, n: u32) -> bool
+    ensures { result ≡ is_below limit n }
+{
+    n < limit
+}
+
+// Reads a position on an axis of so many cells.
+fn read_coordinate<S: Source>(source: &mut S, place: u64, cells: u32) -> Result<u32, ReadStop>
+    requires place { place + 4 < 2 ^ 63 }
+    requires cells { cells ≤ 64 }
+    ensures { Reads as_it_is (coordinate_at cells) place (place + 4) (S.told source.old) (S.told source.new) result }
+{
+    read_below(source, place, OUT_OF_RANGE, cells * SIDE)
+}
+
+fn read_position<S: Source>(source: &mut S, place: u64, cells: Cells) -> Result<[u32; 3], ReadStop>
+    requires { place + 12 < 2 ^ 63 }
+    ensures { Reads as_it_is (position_at cells) place (place + 12) (S.told source.old) (S.told source.new) result }
+{
+    let second = place + 4;
+    let third = second + 4;
+    let [nx, ny, nz] = cells.numbers();
+    let x = read_coordinate(source, place, nx)?;
+    let y = read_coordinate(source, second, ny)?;
+    let z = read_coordinate(source, third, nz)?;
+    Ok([x, y, z])
+}
+
+fn read_speed<S: Source>(source: &mut S, place: u64) -> Result<i32, ReadStop>
+    requires { place + 4 < 2 ^ 63 }
+    ensures { Reads as_it_is speed_at place (place + 4) (S.told source.old) (S.told source.new) result }
+{
+    read_between(source, place, OUT_OF_RANGE, LEAST_SPEED, MOST_SPEED)
+}
+
+fn read_velocity<S: Source>(source: &mut S, place: u64) -> Result<[i32; 3], ReadStop>
+    requires { place + 12 < 2 ^ 63 }
+    ensures { Reads as_it_is velocity_at place (place + 12) (S.told source.old) (S.told source.new) result }
+{
+    let second = place + 4;
+    let third = second + 4;
+    let x = read_speed(source, place)?;
+    let y = read_speed(source, second)?;
+    let z = read_speed(source, third)?;
+    Ok([x, y, z])
+}
+
+// Reads the particle of an identity.
+fn read_particle<S: Source>(
+    source: &mut S,
+    place: u64,
+    layout: &Layout,
+    id: u32,
+) -> Result<Particle, ReadStop>
+    requires place { place + 24 < 2 ^ 63 }
+    requires id { id < sum layout.now.counts }
+    ensures reads { Reads as_it_is (particle_of layout.now id) place (place + 24) (S.told source.old) (S.told source.new) result }
+    ensures species { IfOk result (λ p. IsOfKinds layout.now.kinds p) }
+{
+    let second = place + 12;
+    let species = species_at(layout.counts(), id);
+    let x = read_position(source, place, layout.cells())?;
+    let v = read_velocity(source, second)?;
+    Ok(Particle { id, species, x, v })
+}
+
+// Reads the particles.
+fn read_particles<S: Source>(
+    source: &mut S,
+    place: u64,
+    layout: &Layout,
+    particles: &mut [Particle],
+) -> Result<(), ReadStop>
+    requires place { place + 2 ^ 26 < 2 ^ 63 }
+    requires count { length particles.old ≡ sum layout.now.counts }
+    ensures reads { Reads (always particles.new) (particles_at layout.now) place (place + 24 * sum layout.now.counts)
+        (S.told source.old) (S.told source.new) result }
+    ensures length { length particles.new ≡ length particles.old }
+    ensures species { OnOk result (All (IsOfKinds layout.now.kinds) particles.new) }
+{
+    let count = layout.particles();
+    for index in 0..count {
+        let particle = read_particle(source, place + 24 * index as u64, layout, index)?;
+        particles[index as usize] = particle;
+    }
+    Ok(())
+}
+
+// Reads an energy, which has to be this one.
+fn read_energy<S: Source>(source: &mut S, place: u64, want: u128) -> Result<u128, ReadStop>
+    requires { place + 16 < 2 ^ 63 }
+    ensures { Reads as_it_is (energy_at want) place (place + 16) (S.told source.old) (S.told source.new) result }
+{
+    let energy = read_u128(source, place)?;
+    if !is_same(want, energy) {
+        return Err(ReadStop::BadDump {
+            place,
+            cause: WRONG_ENERGY,
+        });
+    }
+    Ok(energy)
+}
+
+fn is_same(want: u128, energy: u128) -> bool
+    ensures { result ≡ nat_eq want energy }
+{
+    want == energy
+}
+
+fn read_energies<S: Source>(
+    source: &mut S,
+    place: u64,
+    want: Energies,
+) -> Result<Energies, ReadStop>
+    requires { place + 48 < 2 ^ 63 }
+    ensures { Reads as_it_is (energies_at want) place (place + 48) (S.told source.old) (S.told source.new) result }
+{
+    let second = place + 16;
+    let third = second + 16;
+    let kinetic = read_energy(source, place, want.kinetic)?;
+    let electric = read_energy(source, second, want.electric)?;
+    let magnetic = read_energy(source, third, want.magnetic)?;
+    Ok(Energies {
+        kinetic,
+        electric,
+        magnetic,
+    })
+}
+
+// Reads a step, which has to be this one.
+pub(crate) fn read_step<S: Source>(source: &mut S, place: u64, want: u32) -> Result<u32, ReadStop>
+    requires { place + 4 < 2 ^ 63 }
+    ensures { Reads as_it_is (the_step want) place (place + 4) (S.told source.old) (S.told source.new) result }
+{
+    let step = read_u32(source, place)?;
+    if !is_same_step(want, step) {
+        return Err(ReadStop::BadDump {
+            place,
+            cause: WRONG_STEP,
+        });
+    }
+    Ok(step)
+}
+
+fn is_same_step(want: u32, step: u32) -> bool
+    ensures { result ≡ nat_eq want step }
+{
+    want == step
+}
+
+/// Reads the frame of the step that is due, behind its mark, and answers its energies.
+pub fn read_frame<S: Source>(
+    source: &mut S,
+    place: u64,
+    layout: &Layout,
+    due: u32,
+    state: &mut Snapshot,
+) -> Result<Energies, ReadStop>
+    requires place { place + 2 ^ 27 < 2 ^ 63 }
+    requires e { state.old.e.cells ≡ layout.now.cells }
+    requires b { state.old.b.cells ≡ layout.now.cells }
+    requires particles { length state.old.particles.items ≡ sum layout.now.counts }
+    ensures reads { Reads (frame_of due state.new.e.values state.new.b.values state.new.particles.items) (frame_at layout.now due)
+        place (place + frame_length layout.now) (S.told source.old) (S.told source.new) result }
+    ensures held { OnOk result (IsHeld layout.now state.new.e state.new.b state.new.particles.items) }
+    ensures e { (state.new.e.cells ≡ state.old.e.cells) × (state.new.e.parts ≡ state.old.e.parts) }
+    ensures b { (state.new.b.cells ≡ state.old.b.cells) × (state.new.b.parts ≡ state.old.b.parts) }
+    ensures particles { length state.new.particles.items ≡ length state.old.particles.items }
+{
+    let values = 3 * u64::from(layout.cells().count());
+    let second = place + 4;
+    let third = second + 16 * values;
+    let fourth = third + 16 * values;
+    let fifth = fourth + 24 * u64::from(layout.particles());
+    read_step(source, place, due)?;
+    read_field(source, second, layout.scales().e_force, &mut state.e)?;
+    read_field(source, third, layout.scales().b_force, &mut state.b)?;
+    read_particles(source, fourth, layout, state.particles.as_mut_slice())?;
+    let want = energies(layout.scales(), layout.kinds(), state);
+    read_energies(source, fifth, want)
+}

@@ -1,0 +1,212 @@
+//! The header of a dump, read.
+
+ghost use Rattle.std.specs.Prelude.{◌≡◌, ℤ, pos, negsuc, ◌+◌, ◌-◌, ◌*◌, ◌<◌, ◌≤◌, ◌≤ℤ◌, ◌^◌, IsTrue, length, map, IfOk};
+ghost use Rattle.pic_num.specs.Space.{triple};
+ghost use Rattle.pic_grid.specs.Species.{HeadView, IsName, IsKind, AreHeads};
+ghost use Rattle.pic_fields.specs.Parser.{each};
+ghost use Rattle.pic_fields.specs.Reads.{Reads, as_it_is};
+ghost use Rattle.pic_dump.specs.Header.{HasLimits};
+ghost use Rattle.pic_reader.specs.Fields.{is_between, between};
+ghost use Rattle.pic_reader.specs.HeaderFields.{IsNewHead, cells_at, mult_at, scales_at, kind_at, name_of, is_name_field, is_new_name_field, name_at, particles_of, head_at, heads_at, header_at};
+ghost use Rattle.pic_reader.specs.HeadReads.{HeadReads};
+
+use crate::head_stop::HeadStop;
+use crate::name_reader::{OUT_OF_LIMITS, read_name};
+use pic_dump::{Head, Header, Heads};
+use pic_fields::{ReadStop, read_exactly, read_i32, read_within};
+use pic_grid::{Cells, Name};
+use pic_io::Source;
+use pic_num::{Kind, Mult, NoMemory, Scales};
+use std::alloc::Global;
+
+/// The cause of a wrong byte in the mark of a dump.
+const WRONG_LETTER: u8 = 1;
+
+/// The bytes of a species.
+const HEAD_BYTES: u64 = 60;
+
+/// The most steps of a run.
+const MOST_STEPS: u32 = 1000000;
+
+/// The most species.
+const MOST_SPECIES: u32 = 16;
+
+/// The most particles of all species.
+const MOST_PARTICLES: u32 = 1048576;
+
+/// The least and the greatest charge.
+const LEAST_CHARGE: i32 = -32768;
+
+const MOST_CHARGE: i32 = 32767;
+
+/// The greatest mass.
+const MOST_MASS: u32 = 65536;
+
+fn read_cells<S: Source>(source: &mut S, place: u64) -> Result<Cells, ReadStop>
+    requires { place + 12 < 2 ^ 63 }
+    ensures { Reads as_it_is cells_at place (place + 12) (S.told source.old) (S.told source.new) result }
+{
+    let second = place + 4;
+    let third = second + 4;
+    let x = read_within(source, place, OUT_OF_LIMITS, Cells::FEWEST, Cells::MOST)?;
+    let y = read_within(source, second, OUT_OF_LIMITS, Cells::FEWEST, Cells::MOST)?;
+    let z = read_within(source, third, OUT_OF_LIMITS, Cells::FEWEST, Cells::MOST)?;
+    Ok(Cells::new([x, y, z]))
+}
+
+// Reads a signed number from `low` to `high`; another is a fault of this cause.
+pub(crate) fn read_between<S: Source>(
+    source: &mut S,
+    place: u64,
+    cause: u8,
+    low: i32,
+    high: i32,
+) -> Result<i32, ReadStop>
+    requires { place + 4 < 2 ^ 63 }
+    ensures reads { Reads as_it_is (between cause low high) place (place + 4) (S.told source.old) (S.told source.new) result }
+    ensures low { IfOk result (λ n. low ≤ℤ n) }
+    ensures high { IfOk result (λ n. n ≤ℤ high) }
+{
+    let n = read_i32(source, place)?;
+    if !is_between(low, high, n) {
+        return Err(ReadStop::BadDump { place, cause });
+    }
+    Ok(n)
+}
+
+fn is_between(low: i32, high: i32, n: i32) -> bool
+    ensures { result ≡ is_between low high n }
+{
+    low <= n && n <= high
+}
+
+fn read_mult<S: Source>(source: &mut S, place: u64) -> Result<Mult, ReadStop>
+    requires { place + 8 < 2 ^ 63 }
+    ensures { Reads as_it_is mult_at place (place + 8) (S.told source.old) (S.told source.new) result }
+{
+    let n = read_between(
+        source,
+        place,
+        OUT_OF_LIMITS,
+        -Mult::GREATEST_N,
+        Mult::GREATEST_N,
+    )?;
+    let k = read_within(source, place + 4, OUT_OF_LIMITS, 0, Mult::GREATEST_K)?;
+    Ok(Mult::new(n, k))
+}
+
+fn read_scales<S: Source>(source: &mut S, place: u64) -> Result<Scales, ReadStop>
+    requires { place + 32 < 2 ^ 63 }
+    ensures { Reads as_it_is scales_at place (place + 32) (S.told source.old) (S.told source.new) result }
+{
+    let second = place + 8;
+    let third = second + 8;
+    let fourth = third + 8;
+    let e_to_b = read_mult(source, place)?;
+    let b_to_e = read_mult(source, second)?;
+    let e_force = read_mult(source, third)?;
+    let b_force = read_mult(source, fourth)?;
+    Ok(Scales {
+        e_to_b,
+        b_to_e,
+        e_force,
+        b_force,
+    })
+}
+
+fn read_kind<S: Source>(source: &mut S, place: u64) -> Result<Kind, ReadStop>
+    requires { place + 24 < 2 ^ 63 }
+    ensures reads { Reads as_it_is kind_at place (place + 24) (S.told source.old) (S.told source.new) result }
+    ensures limits { IfOk result (λ k. IsKind k) }
+{
+    let second = place + 4;
+    let third = second + 4;
+    let fourth = third + 8;
+    let charge = read_between(source, place, OUT_OF_LIMITS, LEAST_CHARGE, MOST_CHARGE)?;
+    let mass = read_within(source, second, OUT_OF_LIMITS, 1, MOST_MASS)?;
+    let kick = read_mult(source, third)?;
+    let turn = read_mult(source, fourth)?;
+    Ok(Kind {
+        charge,
+        mass,
+        kick,
+        turn,
+    })
+}
+
+// Reads a species after others, which have so many particles.
+fn read_head<S: Source>(
+    alloc: Global,
+    source: &mut S,
+    place: u64,
+    earlier: &[Head],
+    particles: u32,
+) -> Result<Head, HeadStop>
+    requires place { place + 60 < 2 ^ 63 }
+    requires count { particles ≡ particles_of earlier.now }
+    requires most { particles ≤ 1048576 }
+    ensures reads { HeadReads (λ h. h) (head_at earlier.now) place (λ _. place + 60) (S.told source.old) (S.told source.new) result }
+    ensures new { IfOk result (λ h. IsNewHead earlier.now h) }
+{
+    let second = place + 32;
+    let third = second + 24;
+    let name = read_name(source, place, earlier)?;
+    let kind = read_kind(source, second)?;
+    let count = read_within(source, third, OUT_OF_LIMITS, 0, MOST_PARTICLES - particles)?;
+    let head = make_head(alloc, name.bytes(), kind, count)?;
+    Ok(head)
+}
+
+fn make_head(alloc: Global, name: &[u8], kind: Kind, count: u32) -> Result<Head, NoMemory>
+    ensures { IfOk result (λ h. h ≡ record { name = name.now; kind = kind; count = count }) }
+{
+    let name = Name::from_vec(Vec::from_slice(alloc, name)?);
+    Ok(Head { name, kind, count })
+}
+
+// Reads so many species.
+fn read_each_head<S: Source>(
+    alloc: Global,
+    source: &mut S,
+    place: u64,
+    count: u32,
+) -> Result<Vec<Head>, HeadStop>
+    requires few { count ≤ 16 }
+    requires place { place + 60 * 16 < 2 ^ 63 }
+    ensures reads { HeadReads (λ hs. hs.items) (each count head_at) place (λ hs. place + 60 * length hs) (S.told source.old) (S.told source.new) result }
+    ensures heads { IfOk result (λ hs. AreHeads hs.items) }
+{
+    let mut heads = Vec::new(alloc);
+    let mut particles = 0u32;
+    for index in 0..count {
+        let at = place + HEAD_BYTES * index as u64;
+        let head = read_head(alloc, source, at, heads.as_slice(), particles)?;
+        particles += head.count;
+        heads.push(head)?;
+    }
+    Ok(heads)
+}
+
+// Reads the species.
+fn read_heads<S: Source>(alloc: Global, source: &mut S, place: u64) -> Result<Vec<Head>, HeadStop>
+    requires { place + 1000 < 2 ^ 63 }
+    ensures reads { HeadReads (λ hs. hs.items) heads_at place (λ hs. place + 4 + 60 * length hs) (S.told source.old) (S.told source.new) result }
+    ensures heads { IfOk result (λ hs. AreHeads hs.items) }
+{
+    let first = place + 4;
+    let count = read_within(source, place, OUT_OF_LIMITS, 0, MOST_SPECIES)?;
+    read_each_head(alloc, source, first, count)
+}
+
+/// Reads the header.
+pub fn read_header<S: Source>(alloc: Global, source: &mut S) -> Result<Header, HeadStop>
+    ensures { HeadReads (λ h. h) header_at 0 (λ h. 64 + 60 * length h.species) (S.told source.old) (S.told source.new) result }
+{
+    read_exactly(source, 0, WRONG_LETTER, b"PICDUMP1")?;
+    let cells = read_cells(source, 8)?;
+    let steps = read_within(source, 20, OUT_OF_LIMITS, 0, MOST_STEPS)?;
+    let every = read_within(source, 24, OUT_OF_LIMITS, 1, MOST_STEPS)?;
+    let scales = read_scales(source, 28)?;
+    let heads = read_heads(alloc, source, 60)?;
+    Ok(Header::new(cells, steps, every, scales, Heads::from_vec(heads)))
+}

@@ -1,0 +1,18 @@
+//! A dump, read over any source: its header, its frames and its end record, or the first fault.
+#![tactic(auto)]
+
+mod due;
+mod dump_reader;
+mod end_reader;
+mod frame_reader;
+mod head_reader;
+mod head_stop;
+mod layout;
+mod name_reader;
+
+pub use dump_reader::{DumpReader, Next};
+pub use head_stop::HeadStop;
+pub use pic_fields::ReadStop;
+
+#[cfg(test)]
+mod tests;

@@ -1,0 +1,210 @@
+//! Tests of the reader: the dump of two charges, whole, changed and cut.
+
+ghost use Rattle.std.specs.Prelude.{◌≡◌, length, map, IfOk};
+ghost use Rattle.std.specs.List.{range_with_len};
+
+use crate::{DumpReader, HeadStop, Next};
+use pic_dump::{Head, Header, Heads, put_end, put_frame, put_header};
+use pic_energy::Energies;
+use pic_fields::ReadStop;
+use pic_grid::{Cells, EndMark, Lattice, Name, Snapshot};
+use pic_io::{MemSink, MemSource, Source};
+use pic_num::{Axis, Kind, Mult, Particle, Scales};
+use std::alloc::Global;
+use std::test::Fail;
+
+fn none() -> Mult {
+    Mult::new(0, 0)
+}
+
+// A species of one particle.
+fn head(alloc: Global, name: &[u8], charge: i32, mass: u32) -> Result<Head, Fail>
+    ensures { IfOk result (λ h. (h.name ≡ name.now) × (h.kind.charge ≡ charge) × (h.kind.mass ≡ mass) × (h.count ≡ 1)) }
+{
+    let kind = Kind {
+        charge,
+        mass,
+        kick: none(),
+        turn: none(),
+    };
+    Ok(Head {
+        name: Name::from_vec(Vec::from_slice(alloc, name)?),
+        kind,
+        count: 1,
+    })
+}
+
+// An ion, and an electron that moves along x, at most one step.
+fn two_charges(alloc: Global) -> Result<Header, Fail> {
+    let scales = Scales {
+        e_to_b: none(),
+        b_to_e: none(),
+        e_force: Mult::new(1, 20),
+        b_force: none(),
+    };
+    let ion = head(alloc, b"ion", 1, 1836)?;
+    let electron = head(alloc, b"electron", -1, 1)?;
+    let species = Heads::from_vec(vec![in alloc; ion, electron]?);
+    Ok(Header::new(Cells::new([4, 4, 4]), 1, 1, scales, species))
+}
+
+// Their state with the electron at x, and this value of E along x in the first cell.
+fn state(alloc: Global, x: u32, value: i128) -> Result<Snapshot, Fail>
+    ensures { IfOk result (λ s. map (λ particle. particle.id) s.particles.items ≡ range_with_len 0 (length s.particles.items)) }
+{
+    let cells = Cells::new([4, 4, 4]);
+    let mut e = Lattice::new(alloc, cells, [1, 1, 1])?;
+    let b = Lattice::new(alloc, cells, [1, 1, 1])?;
+    e.set(Axis::X, [0, 0, 0], value);
+    let ion = Particle {
+        id: 0,
+        species: 0,
+        x: [1024, 0, 0],
+        v: [0, 0, 0],
+    };
+    let electron = Particle {
+        id: 1,
+        species: 1,
+        x: [x, 0, 0],
+        v: [8388608, 0, 0],
+    };
+    let particles = vec![in alloc; ion, electron]?;
+    Ok(Snapshot { e, b, particles })
+}
+
+fn energies(electric: u128) -> Energies {
+    Energies {
+        kinetic: 70368744177664,
+        electric,
+        magnetic: 0,
+    }
+}
+
+// The bytes of their dump: 184 of the header, two frames of 6245, and 6 of the end record.
+fn dump(alloc: Global) -> Result<Vec<u8>, Fail> {
+    let mut out = MemSink::new(alloc, 12681, Vec::new(alloc))?;
+    put_header(&mut out, &two_charges(alloc)?)?;
+    put_frame(&mut out, 0, &state(alloc, 1024, 0)?, energies(0))?;
+    put_frame(
+        &mut out,
+        1,
+        &state(alloc, 3072, 412316860416)?,
+        energies(154618822656),
+    )?;
+    put_end(&mut out, EndMark::Done { steps: 1 })?;
+    Ok(Vec::from_slice(alloc, out.bytes())?)
+}
+
+// Reads a dump of two steps at most to its end: how many frames it has, and how it ends.
+fn walk<S: Source>(alloc: Global, source: &mut S) -> Result<(u32, EndMark), HeadStop> {
+    let (reader, _header) = DumpReader::head(alloc, source)?;
+    let mut state = reader.room(alloc)?;
+    let second = match reader.next(source, &mut state)? {
+        Next::Frame(behind, _, _) => behind,
+        Next::End(mark) => return Ok((0, mark)),
+    };
+    let third = match second.next(source, &mut state)? {
+        Next::Frame(behind, _, _) => behind,
+        Next::End(mark) => return Ok((1, mark)),
+    };
+    match third.next(source, &mut state)? {
+        Next::Frame(_, _, _) => Ok((3, EndMark::Done { steps: 0 })),
+        Next::End(mark) => Ok((2, mark)),
+    }
+}
+
+fn walk_bytes(
+    alloc: Global,
+    bytes: &[u8],
+    piece: usize,
+) -> Result<Result<(u32, EndMark), HeadStop>, Fail>
+    requires { 1 ≤ piece }
+{
+    let mut source = MemSource::new(Vec::from_slice(alloc, bytes)?, piece, Vec::new(alloc));
+    Ok(walk(alloc, &mut source))
+}
+
+// What a dump that isn't of the format answers.
+fn bad(place: u64, cause: u8) -> Result<(u32, EndMark), HeadStop> {
+    Err(HeadStop::Read(ReadStop::BadDump { place, cause }))
+}
+
+#[test]
+fn two_charges_are_read_back(rt: HostRuntime) -> Result<(), Fail> {
+    let bytes = dump(rt.alloc())?;
+    assert_eq!(rt; bytes.len(), 12680);
+    let mut source = MemSource::new(bytes, 7, Vec::new(rt.alloc()));
+    let (reader, header) = DumpReader::head(rt.alloc(), &mut source)?;
+    assert_eq!(rt; (header.steps(), header.every()), (1, 1));
+    assert_eq!(rt; header.cells(), Cells::new([4, 4, 4]));
+    assert_eq!(rt; header.scales().e_force, Mult::new(1, 20));
+    assert_eq!(rt;
+        header.species().as_slice()[1].name.as_slice(),
+        b"electron".as_slice()
+    );
+    let mut state = reader.room(rt.alloc())?;
+    if let Next::Frame(second, step, _) = reader.next(&mut source, &mut state)? {
+        assert_eq!(rt; step, 0);
+        assert_eq!(rt; state.particles[1].x, [1024, 0, 0]);
+        if let Next::Frame(_, step, energies) = second.next(&mut source, &mut state)? {
+            assert_eq!(rt; (step, energies.electric), (1, 154618822656));
+            assert_eq!(rt; state.e.at(Axis::X, [0, 0, 0]), 412316860416);
+            assert_eq!(rt; (state.particles[1].id, state.particles[1].species), (1, 1));
+            assert_eq!(rt; state.particles[1].x, [3072, 0, 0]);
+            return Ok(());
+        }
+    }
+    assert!(rt; false, "two frames are read");
+    Ok(())
+}
+
+#[test]
+fn pieces_give_one_answer(rt: HostRuntime) -> Result<(), Fail> {
+    let bytes = dump(rt.alloc())?;
+    for piece in [1, 7, 4096] {
+        assert_eq!(rt;
+            walk_bytes(rt.alloc(), &bytes, piece)?,
+            Ok((2, EndMark::Done { steps: 1 }))
+        );
+    }
+    Ok(())
+}
+
+// A byte that is changed, and the fault that it makes.
+#[test]
+fn changed_bytes_are_found(rt: HostRuntime) -> Result<(), Fail> {
+    let bytes = dump(rt.alloc())?;
+    let cases = [
+        (0usize, 0u8, 0, 1),
+        (11, 65, 8, 2),
+        (64, 45, 64, 2),
+        (184, 0, 184, 3),
+        (188, 1, 185, 4),
+        (189, 127, 189, 5),
+        (6335, 64, 6333, 6),
+        (6396, 1, 6381, 7),
+        (12674, 70, 12674, 3),
+        (12675, 1, 12675, 8),
+    ];
+    for (at, byte, place, cause) in cases {
+        let mut changed = Vec::from_slice(rt.alloc(), &bytes)?;
+        changed[at] = byte;
+        assert_eq!(rt; walk_bytes(rt.alloc(), &changed, 4096)?, bad(place, cause));
+    }
+    let mut more = Vec::from_slice(rt.alloc(), &bytes)?;
+    more.push(0)?;
+    assert_eq!(rt; walk_bytes(rt.alloc(), &more, 4096)?, bad(12680, 10));
+    Ok(())
+}
+
+#[test]
+fn cut_dumps_are_told_at_their_end(rt: HostRuntime) -> Result<(), Fail> {
+    let bytes = dump(rt.alloc())?;
+    for len in (0..12680usize).step_by(317) {
+        assert_eq!(rt;
+            walk_bytes(rt.alloc(), &bytes[..len], 4096)?,
+            bad(len as u64, 9)
+        );
+    }
+    Ok(())
+}
