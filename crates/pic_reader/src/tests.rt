@@ -1,6 +1,6 @@
 //! Tests of the reader: the dump of two charges, whole, changed and cut.
 
-ghost use Rattle.std.specs.Prelude.{◌≡◌, length, map, IfOk};
+ghost use Rattle.std.specs.Prelude.{◌≡◌, ◌≤◌, length, map, IfOk};
 ghost use Rattle.std.specs.List.{range_with_len};
 
 use crate::{DumpReader, HeadStop, Next};
@@ -138,10 +138,9 @@ fn two_charges_are_read_back(rt: HostRuntime) -> Result<(), Fail> {
     assert_eq!(rt; (header.steps(), header.every()), (1, 1));
     assert_eq!(rt; header.cells(), Cells::new([4, 4, 4]));
     assert_eq!(rt; header.scales().e_force, Mult::new(1, 20));
-    assert_eq!(rt;
-        header.species().as_slice()[1].name.as_slice(),
-        b"electron".as_slice()
-    );
+    let electron = &header.species().as_slice()[1];
+    let name = electron.name.as_slice();
+    assert_eq!(rt; name, b"electron".as_slice());
     let mut state = reader.room(rt.alloc())?;
     if let Next::Frame(second, step, _) = reader.next(&mut source, &mut state)? {
         assert_eq!(rt; step, 0);
