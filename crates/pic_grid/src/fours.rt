@@ -68,33 +68,3 @@ impl Block {
         }
     }
 }
-
-#[cfg(test)]
-mod tests {
-    use super::*;
-    use crate::block::Zone;
-    use pic_num::NoMemory;
-
-    #[test]
-    fn four_components_are_added_to(rt: HostRuntime) -> Result<(), NoMemory> {
-        let zone = Zone {
-            low: [-1, 0, 3],
-            size: [2, 3, 2],
-        };
-        for (axis, second, third) in [
-            (Axis::X, [-1, 2, 3], [-1, 1, 4]),
-            (Axis::Y, [-1, 1, 4], [0, 1, 3]),
-            (Axis::Z, [0, 1, 3], [-1, 2, 3]),
-        ] {
-            let mut block = Block::new(rt.alloc(), zone)?;
-            block.add(axis, second, 40);
-            block.add_four(axis, [-1, 1, 3], 1, 2, 3, 4);
-            assert_eq!(rt; block.at(axis, [-1, 1, 3]), 1);
-            assert_eq!(rt; block.at(axis, second), 42);
-            assert_eq!(rt; block.at(axis, third), 3);
-            assert_eq!(rt; block.at(axis, [0, 0, 3]), 0);
-            assert_eq!(rt; block.at(axis.next(), [-1, 1, 3]), 0);
-        }
-        Ok(())
-    }
-}

@@ -89,6 +89,32 @@ mod tests {
     use crate::block::Zone;
     use pic_num::NoMemory;
 
+    /// The component at a cell, or `None` outside the zone.
+    fn value_in(block: &Block, axis: Axis, cell: [i32; 3]) -> Option<i128> {
+        if block.has(cell) {
+            Some(block.at(axis, cell))
+        } else {
+            None
+        }
+    }
+
+    /// Whether these are the values of a row.
+    fn has_row(block: &Block, axis: Axis, y: u32, z: u32, values: &[i128]) -> bool {
+        let [_, ny, nz] = block.zone().size;
+        if y >= ny || z >= nz {
+            return false;
+        }
+        block.row(axis, y, z) == values
+    }
+
+    /// Whether these are the values from a cell to the end of its row.
+    fn has_run(block: &Block, axis: Axis, cell: [i32; 3], values: &[i128]) -> bool {
+        if !block.has(cell) {
+            return false;
+        }
+        block.run(axis, cell) == values
+    }
+
     #[test]
     fn a_row_is_read_back(rt: HostRuntime) -> Result<(), NoMemory> {
         let zone = Zone {
@@ -97,14 +123,12 @@ mod tests {
         };
         let mut block = Block::new(rt.alloc(), zone)?;
         block.set_row(Axis::Y, 2, 0, &[5, 6]);
-        assert_eq!(rt; block.at(Axis::Y, [-1, 2, 3]), 5);
-        assert_eq!(rt; block.at(Axis::Y, [0, 2, 3]), 6);
-        assert_eq!(rt; block.at(Axis::Y, [0, 1, 3]), 0);
-        assert_eq!(rt; block.at(Axis::Z, [-1, 0, 3]), 0);
-        let row = block.row(Axis::Y, 2, 0);
-        assert_eq!(rt; (row.len(), row[0], row[1]), (2, 5, 6));
-        let run = block.run(Axis::Y, [0, 2, 3]);
-        assert_eq!(rt; (run.len(), run[0]), (1, 6));
+        assert_eq!(rt; value_in(&block, Axis::Y, [-1, 2, 3]), Some(5));
+        assert_eq!(rt; value_in(&block, Axis::Y, [0, 2, 3]), Some(6));
+        assert_eq!(rt; value_in(&block, Axis::Y, [0, 1, 3]), Some(0));
+        assert_eq!(rt; value_in(&block, Axis::Z, [-1, 0, 3]), Some(0));
+        assert!(rt; has_row(&block, Axis::Y, 2, 0, &[5, 6]));
+        assert!(rt; has_run(&block, Axis::Y, [0, 2, 3], &[6]));
         Ok(())
     }
 }

@@ -46,6 +46,17 @@ mod tests {
     use crate::cells::Cells;
     use pic_num::NoMemory;
 
+    /// Whether a run from a cell on has so many values, one of them at a place.
+    fn has_run(field: &Lattice, cell: [u32; 3], length: usize, at: usize, value: i128) -> bool {
+        let [nx, ny, nz] = field.cells().numbers();
+        let [x, y, z] = cell;
+        if x >= nx || y >= ny || z >= nz {
+            return false;
+        }
+        let run = field.run(Axis::Y, cell);
+        run.len() == length && run.get(at) == Some(&value)
+    }
+
     #[test]
     fn a_run_ends_with_its_part(rt: HostRuntime) -> Result<(), NoMemory> {
         let cells = Cells::new([4, 2, 4]);
@@ -56,9 +67,7 @@ mod tests {
         ] {
             let mut field = Lattice::new(rt.alloc(), cells, parts)?;
             field.set(Axis::Y, [3, 1, 1], -7);
-            let run = field.run(Axis::Y, cell);
-            assert_eq!(rt; run.len(), length);
-            assert_eq!(rt; run.get(at), Some(&-7));
+            assert!(rt; has_run(&field, cell, length, at, -7), "{parts:?}");
             assert_eq!(rt; field.flat().is_some(), parts == [1, 1, 1]);
             if let Some(values) = field.flat() {
                 assert_eq!(rt; values.get(cells.place(Axis::Y, [3, 1, 1])), Some(&-7));

@@ -130,24 +130,34 @@ mod tests {
     use crate::cells::Cells;
     use pic_num::NoMemory;
 
+    fn put(field: &mut Lattice, cell: [u32; 3], value: i128) {
+        let [nx, ny, nz] = field.cells().numbers();
+        let [x, y, z] = cell;
+        if x < nx && y < ny && z < nz {
+            field.set(Axis::Y, cell, value);
+        }
+    }
+
+    fn found(field: &Lattice, cell: [u32; 3]) -> Option<i128> {
+        let [nx, ny, nz] = field.cells().numbers();
+        let [x, y, z] = cell;
+        if x >= nx || y >= ny || z >= nz {
+            return None;
+        }
+        Some(field.at_slots(Axis::Y, field.slot_x(x), field.slot_y(y), field.slot_z(z)))
+    }
+
     #[test]
     fn a_value_is_found_axis_by_axis(rt: HostRuntime) -> Result<(), NoMemory> {
         let cells = Cells::new([4, 6, 2]);
         for parts in [[1, 1, 1], [2, 3, 1], [4, 2, 2]] {
             let mut field = Lattice::new(rt.alloc(), cells, parts)?;
             for index in 0..48 {
-                let cell = cells.cell_at(index);
-                field.set(Axis::Y, cell, index as i128);
+                put(&mut field, cells.cell_at(index), index as i128);
             }
             for index in 0..48 {
-                let [x, y, z] = cells.cell_at(index);
-                let found = field.at_slots(
-                    Axis::Y,
-                    field.slot_x(x),
-                    field.slot_y(y),
-                    field.slot_z(z),
-                );
-                assert_eq!(rt; found, index as i128, "{parts:?}");
+                let value = found(&field, cells.cell_at(index));
+                assert_eq!(rt; value, Some(index as i128), "{parts:?}");
             }
         }
         Ok(())
