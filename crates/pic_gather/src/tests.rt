@@ -2,7 +2,6 @@
 
 ghost use Rattle.std.specs.Prelude.{◌≡◌, ℕ, ◌≤◌, IsTrue, IfOk};
 ghost use Rattle.pic_num.specs.Space.{Triple, triple};
-ghost use Rattle.pic_grid.specs.Cells.{IsWithin};
 ghost use Rattle.pic_grid.specs.Hat.{IsInBox};
 ghost use Rattle.pic_grid.specs.Lattice.{IsParts};
 ghost use Rattle.pic_gather.specs.Forces.{AreForces};
@@ -59,51 +58,31 @@ fn a_lone_value_of_e_is_gathered(rt: HostRuntime) -> Result<(), NoMemory> {
     Ok(())
 }
 
-/// A lattice of 4 by 2 by 6 cells in these parts with one value.
-fn lone_in(
-    alloc: Global,
-    parts: [u32; 3],
-    axis: Axis,
-    cell: [u32; 3],
-    value: i32,
-) -> Result<Lattice, NoMemory>
-    requires parts { IsParts (record { x = 4; y = 2; z = 6 }) (triple parts) }
-    requires cell { IsWithin (triple cell) (record { x = 4; y = 2; z = 6 }) }
+/// A lattice of 2 by 2 by 2 cells in these parts with an 8 in the first cell.
+fn eight_in(alloc: Global, parts: [u32; 3], axis: Axis) -> Result<Lattice, NoMemory>
+    requires { IsParts (record { x = 2; y = 2; z = 2 }) (triple parts) }
     ensures forces { IfOk result AreForces }
-    ensures cells { IfOk result (λ f. f.cells ≡ record { x = 4; y = 2; z = 6 }) }
+    ensures cells { IfOk result (λ f. f.cells ≡ record { x = 2; y = 2; z = 2 }) }
+    ensures parts { IfOk result (λ f. f.parts ≡ triple parts) }
 {
-    let mut force = Lattice::new(alloc, Cells::new([4, 2, 6]), parts)?;
-    force.set(axis, cell, i128::from(value));
+    let mut force = Lattice::new(alloc, Cells::new([2, 2, 2]), parts)?;
+    force.set(axis, [0, 0, 0], 8);
     Ok(force)
 }
 
 #[test]
 fn every_part_is_gathered_as_by_distance(rt: HostRuntime) -> Result<(), NoMemory> {
-    let n = [4, 2, 6];
-    let mut values = [0; 48];
-    values[43] = 1000003;
-    for point in [
-        [12000, 5000, 22000],
-        [16383, 8191, 24575],
-        [10240, 2048, 20480],
-        [0, 4096, 0],
-    ] {
+    let (n, values) = ([2, 2, 2], [8, 0, 0, 0, 0, 0, 0, 0]);
+    for point in [[0, 0, 0], [2048, 0, 0], [8191, 4095, 0], [5000, 100, 8191]] {
         let x = slow_gather(4096, n, [2048, 0, 0], &values, point);
         let y = slow_gather(4096, n, [2048, 0, 2048], &values, point);
-        for parts in [[1, 1, 1], [2, 1, 2], [4, 2, 6]] {
-            let e = lone_in(rt.alloc(), parts, Axis::X, [3, 0, 5], 1000003)?;
-            let b = lone_in(rt.alloc(), parts, Axis::Y, [3, 0, 5], 1000003)?;
-            assert_eq!(rt;
-                i128::from(gather_e(&e, point)[0]),
-                x,
-                "{parts:?} {point:?}"
-            );
-            assert_eq!(rt;
-                i128::from(gather_b(&b, point)[1]),
-                y,
-                "{parts:?} {point:?}"
-            );
+        for parts in [[1, 1, 1], [2, 1, 2], [2, 2, 2]] {
+            assert!(rt; is_in_box(2, point));
+            let e = eight_in(rt.alloc(), parts, Axis::X)?;
+            let b = eight_in(rt.alloc(), parts, Axis::Y)?;
             let both = gather(&e, &b, point);
+            assert_eq!(rt; i128::from(both.e[0]), x, "{parts:?} {point:?}");
+            assert_eq!(rt; i128::from(both.b[1]), y, "{parts:?} {point:?}");
             assert_eq!(rt; both.e, gather_e(&e, point), "{parts:?} {point:?}");
             assert_eq!(rt; both.b, gather_b(&b, point), "{parts:?} {point:?}");
         }
