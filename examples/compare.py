@@ -5,8 +5,8 @@
 
 PROGRAM is the path of the built program. Dump, report and exit status are compared. The exit status here is 0 where all
 agree, 1 where something differs, 2 for other words. The model takes it that a deck has the right form: of the refusals
-it knows that of a force value at the start and that of Gauss's law. KIND, for a program that knows such decks, is
-`sources` where particles are lattices, random ones and pairs, or `sides` where cells have 256 to 16384 sub-cells (version 2).
+it knows that of a force value at the start and that of Gauss's law. KIND is `sources` where particles are lattices, random
+ones and pairs, or, for a program that knows such decks, `sides` where cells have 256 to 16384 sub-cells (version 2).
 """
 
 import random
@@ -314,7 +314,7 @@ def random_sources(dice, wild, cells):
     drift, spread = ([dice.choice([0, dice.randint(0, fast)]) for _ in range(3)] for _ in "ds")
     drawn = lambda: (f"seed = {dice.choice([0, 1, 42, 2**63 - 1])}, stream = {dice.choice([0, 54, 2**63 - 1])}, "
                      f"drift = {[dice.choice([1, -1]) * d for d in drift]}, spread = {spread}")
-    counts, first = [dice.choice([0, 1, 2, 3]) for _ in range(3)], [dice.randrange(4096 * c) for c in cells]
+    counts, first = [dice.choice([1, 1, 2, 3]) for _ in range(3)], [dice.randrange(4096 * c) for c in cells]
     gap, v = [dice.choice([0, 2048, 262144, dice.randrange(262144)]) for _ in range(3)], [-d for d in drift]
     sources = [f"lattice = {{ first = {first}, gap = {gap}, count = {counts}, v = {v} }}",
                f"random = {{ count = {dice.randint(0, 5 if wild else 30)}, {drawn()} }}"]

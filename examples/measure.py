@@ -2,12 +2,13 @@
 
     python3 examples/measure.py DECK DUMP
 
-DECK is light_wave, gyration, e_cross_b or plasma_oscillation, after docs/EXAMPLES.md, or langmuir, two_stream,
-filamentation or upper_hybrid, after docs/GALLERY.md. All numbers of the theory are taken from the dump. It needs numpy.
+DECK is light_wave, gyration, e_cross_b, plasma_oscillation, thermal_plasma, langmuir or two_stream, after docs/EXAMPLES.md,
+or langmuir, two_stream, filamentation or upper_hybrid, after docs/GALLERY.md. All numbers of the theory are taken from the
+dump. It needs numpy.
 """
 
 import sys
-from math import asin, hypot, pi, sin
+from math import asin, hypot, pi, sin, sqrt
 from pathlib import Path
 
 import numpy as np
@@ -100,17 +101,37 @@ def plasma_oscillation(dump: Dump) -> None:
           f"the plasma frequency itself is {wp:.9f}")
 
 
+def wave_number(dump: Dump, wave: int) -> float:
+    """The k of the wave that goes so often into the box along x."""
+    return 2 * pi * wave / dump.header.cells[0]
+
+
 def strongest(dump: Dump, name: str) -> tuple[int, float, np.ndarray]:
     """The wave of a component that is the greatest at the start: how often it goes into the box, its k, and its heights."""
     heights = waves(dump, name)
     wave = 1 + int(np.argmax(abs(heights[0, 1 : dump.header.cells[0] // 2])))
-    return wave, 2 * pi * wave / dump.header.cells[0], heights[:, wave]
+    return wave, wave_number(dump, wave), heights[:, wave]
 
 
 def langmuir(dump: Dump) -> None:
-    wave, k, heights = strongest(dump, "ex")
-    expected = theory.langmuir(k, plasma(dump)[0], units.thermal_speed(dump[0]))
-    show(f"wave {wave}: frequency", -measure.turned(np.angle(heights)) / dump.header.steps, expected.real)
+    """The wave at the start; where E is 0 there, the waves of the noise that hardly damp."""
+    wp, thermal = plasma(dump)[0], units.thermal_speed(dump[0])
+    if dump[0].e.any():
+        wave, k, heights = strongest(dump, "ex")
+        show(f"wave {wave}: frequency", -measure.turned(np.angle(heights)) / dump.header.steps,
+             theory.langmuir(k, wp, thermal).real)
+        return
+    heights = measure.waves(dump, "ex")
+    # Shorter ones are damped in some periods.
+    numbers = [wave for wave in range(1, dump.header.cells[0] // 2) if wave_number(dump, wave) * thermal < 0.3 * wp]
+    if not numbers or not thermal:
+        raise ValueError("no wave along x is longer than 21 Debye lengths, or the electrons are cold")
+    for wave in numbers:
+        k = wave_number(dump, wave)
+        expected = theory.langmuir(k, wp, thermal)
+        show(f"wave {wave}: frequency", measure.peak(dump.steps, heights[:, wave]), expected.real)
+        print(f"{'':28} Bohm and Gross: {sqrt(wp**2 + 3 * (k * thermal)**2):.9f}, without grid and steps; "
+              f"damped by {-expected.imag:.1e} a step")
 
 
 def upper_hybrid(dump: Dump) -> None:
@@ -137,9 +158,24 @@ def show_growth(dump: Dump, wave: int, heights: np.ndarray, expected: float) -> 
 
 
 def two_stream(dump: Dump) -> None:
-    wave, k, heights = strongest(dump, "ex")
-    expected = theory.two_stream(k, plasma(dump)[0], drift(dump, [0]), units.thermal_speed(dump[0]))
-    show_growth(dump, wave, heights, expected.imag)
+    """The wave at the start; where E is 0 there, the waves that grow out of the noise, while the strongest still does."""
+    wp, speed, thermal = plasma(dump)[0], drift(dump, [0]), units.thermal_speed(dump[0])
+    if dump[0].e.any():
+        wave, k, heights = strongest(dump, "ex")
+        show_growth(dump, wave, heights, theory.two_stream(k, wp, speed, thermal).imag)
+        return
+    heights = abs(measure.waves(dump, "ex"))[:, : dump.header.cells[0] // 2]
+    square = np.sum(heights[:, 1:]**2, axis=1)
+    top = 1 + int(np.argmax(heights[np.argmax(square > square.max() / 100), 1:]))
+    frames = measure.window(dump.steps, heights[:, top])
+    # Beside two stronger waves a weak one is soon driven by their beat.
+    numbers = {wave: wave_number(dump, wave) for wave in range(1, heights.shape[1])}
+    rates = {wave: theory.two_stream(k, wp, speed, thermal).imag for wave, k in numbers.items() if k * speed < wp}
+    for wave, rate in rates.items():
+        if rate > 0.75 * max(rates.values()):
+            fit = measure.growth(dump.steps, heights[:, wave], frames)
+            show(f"wave {wave}: growth rate", fit.rate, rate)
+            print(f"{'':28} from step {fit.first} to {fit.last}")
 
 
 def filamentation(dump: Dump) -> None:
@@ -149,8 +185,45 @@ def filamentation(dump: Dump) -> None:
     show_growth(dump, wave, heights, expected)
 
 
-MEASURES = {f.__name__: f for f in (light_wave, gyration, e_cross_b, plasma_oscillation, langmuir, two_stream,
-                                    filamentation, upper_hybrid)}
+def show_noise(noise: np.ndarray, k: np.ndarray, wp: float, thermal: float) -> None:
+    """The noise of the waves k, in units of half the temperature, by their lengths."""
+    length = 2 * pi / np.sqrt(np.sum(k**2, axis=1)) + 1e-9
+    shot, screen = theory.thermal_shares(k, wp, thermal)
+    for low, high in (6, np.inf), (4, 6), (3, 4), (2, 3), (1, 2):
+        band = (low < length) & (length < high)
+        if band.any():
+            level = (shot / (1 + screen))[band]
+            show(f"waves from {low} cell{'s' * (low > 1)}: noise", noise[band].mean(), level.mean())
+            chance = np.std(noise[band] / level) / sqrt(len(level) / 2)             # k and -k are one wave
+            print(f"{'':28} off by {chance:.1e} by chance; without screening {shot[band].mean():.4f}")
+
+
+def thermal_plasma(dump: Dump) -> None:
+    """The kinetic energy, and the noise of E along its wave numbers, when three plasma periods have gone by."""
+    wp, _ = plasma(dump)
+    frames = [frame for frame in dump if frame.step * wp > 3 * 2 * pi]
+    if dump[0].e.any() or not frames or not units.thermal_speed(dump[0]):
+        raise ValueError("it begins with an E or cold, or has less than three plasma periods")
+    if not all(units.kinetic_weight(dump.header, species) for species in dump.header.species):
+        raise ValueError("a species feels no E")
+    scale, number = dump.header.e_force.value**2, 3 * dump.header.particles
+    kinetic = np.mean([units.kinetic_energy(frame) for frame in frames])
+    thermal = sqrt(np.mean([frame.particles["velocity"].astype(float)**2 for frame in frames])) / FAST
+    noise = np.mean([measure.longitudinal(frame.e) for frame in frames], axis=0) * scale * number / kinetic
+    k, noise = measure.wave_numbers(noise.shape).reshape(-1, 3)[1:], noise.ravel()[1:]
+    show("kinetic energy over first", kinetic / units.kinetic_energy(dump[0]),
+         1 / (1 + theory.thermal_noise(k, wp, thermal).sum() / number))
+    print(f"{'':28} means of the steps {frames[0].step} to {frames[-1].step}, here and below")
+    show_noise(noise, k, wp, thermal)
+    e, b = frames[-1].e, frames[-1].b
+    light = (np.sum(e**2) - np.sum(measure.longitudinal(e))) * scale, np.sum(b**2) * (
+        dump.header.b_force.value**2 * units.magnetic_weight(dump.header))
+    light = [part * number / kinetic / (2 * len(k)) for part in light]              # two waves for each k
+    print(f"{'light, last step':28} a wave's E {light[0]:.4f} and B {light[1]:.4f}; both 0 at the start")
+
+
+MEASURES = {f.__name__: f for f in (light_wave, gyration, e_cross_b, plasma_oscillation, thermal_plasma, langmuir,
+                                    two_stream, filamentation, upper_hybrid)}
 
 if __name__ == "__main__":
     if len(sys.argv) != 3 or sys.argv[1] not in MEASURES:

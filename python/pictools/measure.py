@@ -2,11 +2,13 @@
 
 from __future__ import annotations
 
+from math import sqrt
 from typing import NamedTuple
 
 import numpy as np
 from numpy.typing import NDArray
 
+from pictools.deck import divergence
 from pictools.dump import Dump
 
 
@@ -69,6 +71,35 @@ def frequency(steps: NDArray, signal: NDArray) -> float:
 def turned(angles: NDArray) -> float:
     """The whole angle turned through, from angles known up to whole turns and less than half a turn apart."""
     return float(np.sum((np.diff(angles) + np.pi) % (2 * np.pi) - np.pi))
+
+
+def peak(steps: NDArray, signal: NDArray) -> float:
+    """The frequency, in radians a step, at which a signal that swings about its mean has the most power, waves of both senses
+    counted. The steps are evenly apart. The ends are faded out (Hann); between two frequencies of the spectrum it goes by a
+    parabola."""
+    swing = signal - np.mean(signal)
+    if not np.any(swing):
+        raise ValueError("the wave stays as it is")
+    size = 16 * len(swing)
+    power = np.abs(np.fft.fft(swing * np.hanning(len(swing) + 2)[1:-1], size))**2
+    power = np.log((power + power[-np.arange(size)])[: size // 2])
+    top = 1 + int(np.argmax(power[1:-1]))
+    before, here, after = power[top - 1 : top + 2]
+    return float(2 * np.pi / (size * (steps[1] - steps[0])) * (top + (before - after) / (2 * (before - 2 * here + after))))
+
+
+def longitudinal(e: NDArray[np.float64]) -> NDArray[np.float64]:
+    """The squares of the part of E, of shape (3, nz, ny, nx), along its wave numbers: shape (nz, ny, nx), as of a Fourier
+    transform that keeps the sum of squares. It is that of the charges; what is left over is light and currents."""
+    transform = np.fft.fftn(divergence(e)) / sqrt(e[0].size)
+    square = np.sum((2 * np.sin(wave_numbers(e.shape[1:]) / 2))**2, axis=-1)
+    square[0, 0, 0] = 1
+    return np.abs(transform)**2 / square
+
+
+def wave_numbers(shape: tuple[int, ...]) -> NDArray[np.float64]:
+    """The wave numbers (kx, ky, kz), in radians a cell, of a field's transform of this shape (nz, ny, nx): one axis more."""
+    return np.stack(np.meshgrid(*(2 * np.pi * np.fft.fftfreq(n) for n in shape), indexing="ij")[::-1], axis=-1)
 
 
 def spectrum(dump: Dump, name: str) -> tuple[NDArray, NDArray, NDArray]:

@@ -17,6 +17,7 @@ from math import asin, asinh, cos, pi, sin, sqrt
 from typing import NamedTuple
 
 import numpy as np
+from numpy.typing import NDArray
 
 ALIASES = np.arange(-12, 13)
 
@@ -97,6 +98,35 @@ def two_stream(k: float, wp: float, drift: float, thermal: float = 0) -> complex
     guess = complex(d + h - sqrt(h**2 + 4 * d * h))**0.5
     streams = [Stream(0.5, drift, thermal), Stream(0.5, -drift, thermal)]
     return root(lambda w: electrostatic(w, k, wp, streams), guess)
+
+
+def thermal_noise(k: NDArray[np.float64], wp: float, thermal: float) -> NDArray[np.float64]:
+    """The energy of waves of E along their k in thermal noise, in units of half the temperature.
+
+    `k`, of shape (.., 3), may have any direction. All particles count in `wp`, and have one `thermal` speed. It is
+    shot / (1 + screen), see `thermal_shares`; the textbook's is 1 / (1 + k^2 D^2), D = thermal / wp.
+    """
+    shot, screen = thermal_shares(k, wp, thermal)
+    return shot / (1 + screen)
+
+
+def thermal_shares(k: NDArray[np.float64], wp: float, thermal: float) -> tuple[NDArray[np.float64], NDArray[np.float64]]:
+    """The noise of particles that stand anywhere, without an order, and how far they screen it: `shot` and `screen`.
+
+    With s_a = 2 sin(k_a/2) and sums over all aliases k_p of k, screen = (wp / thermal)^2 / s^2 times the sum of
+    S(k_p)^2 (sum over a of (-1)^p_a k_pa s_a) / k_p^2, which is the dielectric function less 1 at frequency 0, and
+    shot = (wp / thermal)^2 / s^2 times the sum of S(k_p)^2, which is the product of (2 + cos k_a) / 3. For long waves both
+    are 1 / (k D)^2. It is taken for granted that a step is short against a particle's way through a wave.
+    """
+    k = np.asarray(k, np.float64)
+    s = 2 * np.sin(k / 2)
+    screen = np.zeros(k.shape[:-1])
+    for p in np.stack(np.meshgrid(*3 * [np.arange(-2, 3)]), axis=-1).reshape(-1, 3):
+        kp = k + 2 * pi * p
+        hats = np.prod(np.sinc(kp / (2 * pi))**4, axis=-1)
+        screen += hats * np.sum((-1.0)**p * kp * s, axis=-1) / np.sum(kp**2, axis=-1)
+    scale = (wp / thermal)**2 / np.sum(s**2, axis=-1)
+    return scale * np.prod((2 + np.cos(k)) / 3, axis=-1), scale * screen
 
 
 def filamentation(k: float, wp: float, drift: float, c: float) -> float:

@@ -58,6 +58,31 @@ class Commands(unittest.TestCase):
         self.assertEqual((done.returncode, done.stderr[:17]), (1, b"gyration: a.dump "))
         self.assertEqual(self.call("two_charges a.dump", script).returncode, 2)
 
+    def test_measures_of_noise(self):
+        """The decks that begin without a field, cut down to some particles and steps, and stronger."""
+        number, short = rb" +measured +0\.\d+ +theory +0\.\d+", {"64, 2, 2": "8, 2, 2", "[4, 1, 1]\n\n[run": "[2, 1, 1]\n\n[run"}
+        cuts = {
+            "thermal_plasma": ({"12, 12, 12": "4, 4, 2", "[4, 4, 4]": "[2, 2, 1]", "3456": "16", "1000": "72", "= 20": "= 4"},
+                               b"kinetic energy over first" + number),
+            "langmuir": (short | {"[32,": "[1024,", "[64, 0": "[2048, 0", "[4096,": "[16,", "1600": "64", "= 16\n": "= 4\n"},
+                         b"wave 1: frequency" + number),
+            "two_stream": (short | {"[64,": "[1024,", "[128,": "[2048,", "[2048, 1,": "[16, 1,", "400": "88"},
+                           b"wave 1: growth rate" + number),
+        }
+        for name, (changes, line) in cuts.items():
+            text = (HOME.parent / "decks" / f"{name}.toml").read_text()
+            for old, new in (changes | {"[-1, 8]": "[-1, 1]"}).items():
+                self.assertIn(old, text, name)
+                text = text.replace(old, new)
+            text = text.replace("[1, 8]", "[1, 1]")
+            _, dump, _ = Model(text).run()
+            (self.folder / "noise.dump").write_bytes(dump)
+            done = self.call(f"{name} noise.dump", str(HOME.parent / "examples" / "measure.py"))
+            self.assertRegex(done.stdout, line, (name, done.stderr))
+            for other in cuts.keys() - {name, "langmuir"}:
+                done = self.call(f"{other} noise.dump", str(HOME.parent / "examples" / "measure.py"))
+                self.assertRegex(done.stderr, rb"can't be measured as a dump of this deck: .+\n$", (name, other))
+
     @DRAWS
     def test_pictures(self):
         panels = "energies phase orbits field history growth spectrum --steps 100 --wave 1 --speed y --title Streams"

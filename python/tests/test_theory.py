@@ -3,6 +3,8 @@
 import unittest
 from math import pi, sqrt
 
+import numpy as np
+
 from pictools import theory
 
 
@@ -38,8 +40,23 @@ class Textbooks(unittest.TestCase):
         w = theory.upper_hybrid(0.004, 0.001, 0.001, 0.5) / 0.001
         self.assertAlmostEqual(w**2, (7 - sqrt(13)) / 2, 4)
 
+    def test_thermal_noise_of_long_waves(self):
+        # 1 / (1 + k^2 D^2) with D = 20 cells, and k D = 1 and 2 in directions of all kinds.
+        k = 0.05 * np.array([[1, 0, 0], [0, 0.6, 0.8], [2 / 3, 2 / 3, -1 / 3], [0, 2, 0], [-1.2, 0, 1.6]])
+        for level, expected in zip(theory.thermal_noise(k, 0.001, 0.02), (0.5, 0.5, 0.5, 0.2, 0.2), strict=True):
+            self.assertAlmostEqual(level, expected, 3)
+
 
 class ClosedForms(unittest.TestCase):
+    def test_thermal_noise_along_x(self):
+        # The dielectric function at frequency 0, and the sum of the hats' squares over the aliases.
+        for k in 0.3, 1.5, pi:
+            shot, screen = theory.thermal_shares([k, 0, 0], 0.01, 0.008)
+            static = theory.electrostatic(0, k, 0.01, [theory.Stream(1, 0, 0.008)])
+            self.assertAlmostEqual(screen, static.real - 1, 3)
+            hats = sum(np.sinc(k / (2 * pi) + p)**4 for p in range(-50, 51))
+            self.assertAlmostEqual(shot, hats * (0.01 / 0.008 / (2 * np.sin(k / 2)))**2, 6)
+
     def test_cold_langmuir_waves(self):
         for k in 0.1, 1.0, 2.5:
             w = theory.cold_langmuir(k, 0.2)
