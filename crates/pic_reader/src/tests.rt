@@ -1,4 +1,4 @@
-//! Tests of the reader: the dump of two charges, whole, changed and cut.
+//! Tests of the reader: the dump of two charges, whole, in pieces.
 
 ghost use Rattle.std.specs.Prelude.{◌≡◌, ◌≤◌, length, map, IfOk};
 ghost use Rattle.std.specs.List.{range_with_len};
@@ -6,7 +6,6 @@ ghost use Rattle.std.specs.List.{range_with_len};
 use crate::{DumpReader, HeadStop, Next};
 use pic_dump::{Head, Header, Heads, put_end, put_frame, put_header};
 use pic_energy::Energies;
-use pic_fields::ReadStop;
 use pic_grid::{Cells, EndMark, Lattice, Name, Snapshot};
 use pic_io::{MemSink, MemSource, Source};
 use pic_num::{Axis, Kind, Mult, Particle, Scales};
@@ -124,39 +123,6 @@ fn walk_bytes(
     Ok(walk(alloc, &mut source))
 }
 
-// What a dump that isn't of the format answers.
-fn bad(place: u64, cause: u8) -> Result<(u32, EndMark), HeadStop> {
-    Err(HeadStop::Read(ReadStop::BadDump { place, cause }))
-}
-
-#[test]
-fn two_charges_are_read_back(rt: HostRuntime) -> Result<(), Fail> {
-    let bytes = dump(rt.alloc())?;
-    assert_eq!(rt; bytes.len(), 12680);
-    let mut source = MemSource::new(bytes, 7, Vec::new(rt.alloc()));
-    let (reader, header) = DumpReader::head(rt.alloc(), &mut source)?;
-    assert_eq!(rt; (header.steps(), header.every()), (1, 1));
-    assert_eq!(rt; header.cells(), Cells::new([4, 4, 4]));
-    assert_eq!(rt; header.scales().e_force, Mult::new(1, 20));
-    let electron = &header.species().as_slice()[1];
-    let name = electron.name.as_slice();
-    assert_eq!(rt; name, b"electron".as_slice());
-    let mut state = reader.room(rt.alloc())?;
-    if let Next::Frame(second, step, _) = reader.next(&mut source, &mut state)? {
-        assert_eq!(rt; step, 0);
-        assert_eq!(rt; state.particles[1].x, [1024, 0, 0]);
-        if let Next::Frame(_, step, energies) = second.next(&mut source, &mut state)? {
-            assert_eq!(rt; (step, energies.electric), (1, 154618822656));
-            assert_eq!(rt; state.e.at(Axis::X, [0, 0, 0]), 412316860416);
-            assert_eq!(rt; (state.particles[1].id, state.particles[1].species), (1, 1));
-            assert_eq!(rt; state.particles[1].x, [3072, 0, 0]);
-            return Ok(());
-        }
-    }
-    assert!(rt; false, "two frames are read");
-    Ok(())
-}
-
 #[test]
 fn pieces_give_one_answer(rt: HostRuntime) -> Result<(), Fail> {
     let bytes = dump(rt.alloc())?;
@@ -164,45 +130,6 @@ fn pieces_give_one_answer(rt: HostRuntime) -> Result<(), Fail> {
         assert_eq!(rt;
             walk_bytes(rt.alloc(), &bytes, piece)?,
             Ok((2, EndMark::Done { steps: 1 }))
-        );
-    }
-    Ok(())
-}
-
-// A byte that is changed, and the fault that it makes.
-#[test]
-fn changed_bytes_are_found(rt: HostRuntime) -> Result<(), Fail> {
-    let bytes = dump(rt.alloc())?;
-    let cases = [
-        (0usize, 0u8, 0, 1),
-        (11, 65, 8, 2),
-        (64, 45, 64, 2),
-        (184, 0, 184, 3),
-        (188, 1, 185, 4),
-        (189, 127, 189, 5),
-        (6335, 64, 6333, 6),
-        (6396, 1, 6381, 7),
-        (12674, 70, 12674, 3),
-        (12675, 1, 12675, 8),
-    ];
-    for (at, byte, place, cause) in cases {
-        let mut changed = Vec::from_slice(rt.alloc(), &bytes)?;
-        changed[at] = byte;
-        assert_eq!(rt; walk_bytes(rt.alloc(), &changed, 4096)?, bad(place, cause));
-    }
-    let mut more = Vec::from_slice(rt.alloc(), &bytes)?;
-    more.push(0)?;
-    assert_eq!(rt; walk_bytes(rt.alloc(), &more, 4096)?, bad(12680, 10));
-    Ok(())
-}
-
-#[test]
-fn cut_dumps_are_told_at_their_end(rt: HostRuntime) -> Result<(), Fail> {
-    let bytes = dump(rt.alloc())?;
-    for len in (0..12680usize).step_by(317) {
-        assert_eq!(rt;
-            walk_bytes(rt.alloc(), &bytes[..len], 4096)?,
-            bad(len as u64, 9)
         );
     }
     Ok(())
