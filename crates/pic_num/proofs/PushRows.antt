@@ -49,3 +49,14 @@ least_move = refl
 too_far_back : drifting (negsuc 16779264) ≡ Err (record { what = Far; axis = X; value = negsuc 4096 })
 unfolding pushed turned half_turned cross dot first_above first_of scaled rounded
 too_far_back = refl
+
+-- with 256 sub-cells along a cell
+greatest_move_in_a_small_cell : pushed 256 (along_x (pos 1050623)) none none no_kick no_kick
+    ≡ Ok (record { v = along_x (pos 1050623); d = along_x (pos 256) })
+unfolding pushed turned half_turned cross dot first_above first_of scaled rounded
+greatest_move_in_a_small_cell = refl
+
+too_far_in_a_small_cell : pushed 256 (along_x (pos 1050624)) none none no_kick no_kick
+    ≡ Err (record { what = Far; axis = X; value = pos 257 })
+unfolding pushed turned half_turned cross dot first_above first_of scaled rounded
+too_far_in_a_small_cell = refl

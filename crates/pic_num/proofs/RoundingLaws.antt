@@ -109,12 +109,6 @@ rounded-whole k d h =
     let high = rounded-at_most (k *ℤ d) d k h (omega (arith, ints)) in
     let low = rounded-at_least (k *ℤ d) d k h (omega (arith, ints)) in omega (arith, ints, high, low)
 
--- a multiplier with k = 0 is a whole factor
-pub rounded-by_one : (n : ℤ) → rounded n (pos 1) ≡ n
-rounded-by_one n =
-    let e : n *ℤ pos 1 ≡ n = omega (arith, ints) in
-    subst (λ (z : ℤ). rounded z (pos 1) ≡ n) e (rounded-whole n (pos 1) (omega (arith, ints)))
-
 pub power_above_zero : (k : ℕ) → pos 0 <ℤ pos (2 ^ k)
 power_above_zero k = let h = pow_pos k in omega (arith, ints, h)
 

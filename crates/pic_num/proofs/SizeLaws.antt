@@ -11,7 +11,6 @@ use Rattle.std.specs.Prelude.{unsigned_abs}
 use Rattle.std.proofs.lemmas.Int.{ints, to_z-of_z, to_z_pos, unsigned_abs-mul, fits_signed_from_abs}
 use mir.Syntax.{Width, w32, w64, w128}
 use mir.Val.{SFits, to_z, of_z, hbits}
-use lib.Signed.{mag}
 use mathlib.Core.Path.{ap₂}
 use Rattle.pic_num.specs.Sizes.{IsAtMost}
 use Rattle.pic_num.proofs.Ring.{T_left, T_right}
@@ -25,7 +24,6 @@ pub data Code : ℤ → Type 0 where
   times : {a b : ℤ} → Code a → Code b → Code (a *ℤ b)
   minus : {a : ℤ} → Code a → Code (neg_ℤ a)
   cast : {a : ℤ} (w : Width) → Code a → Code (to_z w (of_z w a))
-  held : (a : ℤ) (w : Width) → mag a < 2 ^ hbits w → Code (to_z w (of_z w a))
   widened : {m : ℕ} (w : Width) (n : ℕ) → m ≤ n → Code (to_z w m)
 
 -- the number with its casts left out
@@ -37,7 +35,6 @@ plain (plus x y) = plain x +ℤ plain y
 plain (times x y) = plain x *ℤ plain y
 plain (minus x) = neg_ℤ (plain x)
 plain (cast w x) = plain x
-plain (held a w h) = a
 plain (widened {m} w n h) = pos m
 
 -- how large it can be
@@ -49,7 +46,6 @@ bound (plus x y) = bound x + bound y
 bound (times x y) = bound x * bound y
 bound (minus x) = bound x
 bound (cast w x) = bound x
-bound (held a w h) = 2 ^ hbits w
 bound (widened w n h) = n
 
 -- each cast has room for what it casts
@@ -61,7 +57,6 @@ kept (plus x y) = kept x && kept y
 kept (times x y) = kept x && kept y
 kept (minus x) = kept x
 kept (cast w x) = ltb (bound x) (2 ^ hbits w) && kept x
-kept (held a w h) = true
 kept (widened w n h) = ltb n (2 ^ hbits w)
 
 -- factors that are no larger make a product that is no larger
@@ -84,7 +79,6 @@ size (times x y) =
     (times_at_most (unsigned_abs (plain x)) (unsigned_abs (plain y)) (bound x) (bound y) (size x) (size y))
 size (minus x) = let h = size x in omega (arith, ints, h)
 size (cast w x) = size x
-size (held a w h) = omega (arith, ints, h)
 size (widened w n h) = h
 
 -- a number below half the range of a type is what the type holds of it
@@ -108,7 +102,6 @@ code_is (cast w x) t =
     let e = code_is x (T_right (ltb (bound x) (2 ^ hbits w)) (kept x) t) in
     ap (λ (z : ℤ). to_z w (of_z w z)) e
     ∙ kept_by w (plain x) (bound x) (size x) (T_left (ltb (bound x) (2 ^ hbits w)) (kept x) t)
-code_is (held a w h) t = to_z-of_z w a (record { sfits = h })
 code_is (widened {m} w n h) t =
     let k = ltb→lt n (2 ^ hbits w) t in to_z_pos w m (omega (arith, h, k))
 
@@ -168,14 +161,3 @@ abbrev pub minus_literal : (n : ℕ) → T (ltb n (suc n)) → Code (negsuc n)
 minus_literal n t = minus_number n
 
 pub ruleset codes = (of_size, at_most, under, plus, times, minus, cast_w32, cast_w64, cast_w128, wide_w64, wide_w128, wide_under_w64, wide_under_w128, literal, minus_literal)
-
--- A leaf that is known by its type's range alone. Not in `codes`, where `search` would take it before
--- a sharper hypothesis: write `search (codes, held_w128)`.
-abbrev pub held_w32 : (a : ℤ) → mag a < 2 ^ hbits w32 → Code (to_z w32 (of_z w32 a))
-held_w32 a h = held a w32 h
-
-abbrev pub held_w64 : (a : ℤ) → mag a < 2 ^ hbits w64 → Code (to_z w64 (of_z w64 a))
-held_w64 a h = held a w64 h
-
-abbrev pub held_w128 : (a : ℤ) → mag a < 2 ^ hbits w128 → Code (to_z w128 (of_z w128 a))
-held_w128 a h = held a w128 h

@@ -9,6 +9,7 @@ use Rattle.pic_num.specs.declared.axis.Axis.TheVariants.{X, Y, Z}
 use Rattle.pic_num.specs.declared.motion.What.{What}
 use Rattle.pic_num.specs.declared.motion.What.TheVariants.{Speed, Turn, Far}
 use Rattle.pic_num.specs.First.{first_of}
+use Rattle.pic_num.specs.Limits.{velocity_unit, most_speed, most_turn}
 use Rattle.pic_num.specs.Multiplier.{Multiplier}
 use Rattle.pic_num.specs.Rounding.{rounded, scaled}
 use Rattle.pic_num.specs.Space.{Spot, along}
@@ -65,6 +66,8 @@ pushed side v e b kick turn =
     let kicked = plus v half_kick in
     let turn_by = each (λ c. scaled c turn) b in
     let new_v = plus (turned kicked turn_by) half_kick in
-    let move = each (λ c. rounded c (pos 4096)) new_v in
-    let halt = option_or (first_above Speed (2 ^ 40) kicked) (option_or (first_above Turn (2 ^ 24) turn_by) (first_above Far side move)) in
+    let move = each (λ c. rounded c (pos velocity_unit)) new_v in
+    let halt =
+    option_or (first_above Speed most_speed kicked)
+    (option_or (first_above Turn most_turn turn_by) (first_above Far side move)) in
     unless halt (record { v = new_v; d = move })

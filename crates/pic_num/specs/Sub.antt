@@ -2,13 +2,7 @@
 use Rattle.std.specs.Prelude.{◌≡◌, ℕ, ◌^◌, ◌≤◌, ◌==◌, if◌then◌else◌}
 use Rattle.std.proofs.Common.{inl, inr, ap, sym, ◌∙◌, arith}
 use Rattle.std.proofs.lemmas.Bool.{cases_eq}
-
--- the powers of two that the side of a cell can be
-abbrev pub fewest_bits : ℕ
-fewest_bits = 8
-
-abbrev pub most_bits : ℕ
-most_bits = 14
+use Rattle.pic_num.specs.Limits.{fewest_bits, most_bits}
 
 -- which of them a side is
 unfoldable pub bits_of : ℕ → ℕ

@@ -1,14 +1,14 @@
 -- The velocities that a push keeps: those that lead at most a cell far (this project's profile).
--- Velocities are in 1/4096 sub-cell a step.
-use Rattle.std.specs.Prelude.{◌≡◌, ℕ, ◌+◌, ◌*◌, ℤ, pos, ◌-ℤ◌, ◌<ℤ◌, ◌≤ℤ◌, Ok}
+use Rattle.std.specs.Prelude.{◌≡◌, ℕ, ◌+◌, ◌*◌, ◌/◌, pos, ◌-ℤ◌, ◌<ℤ◌, ◌≤ℤ◌, Ok}
 use Rattle.pic_num.specs.declared.axis.Axis.{Axis}
+use Rattle.pic_num.specs.Limits.{velocity_unit}
 use Rattle.pic_num.specs.Multiplier.{Multiplier}
 use Rattle.pic_num.specs.Push.{Shift, pushed}
 use Rattle.pic_num.specs.Space.{Spot, along}
 
 -- the least speed that leads further than a cell of so many sub-cells: half a sub-cell is rounded up
 abbrev pub too_fast : ℕ → ℕ
-too_fast side = 4096 * side + 2048
+too_fast side = velocity_unit * side + velocity_unit / 2
 
 -- on each axis a velocity leads at most a cell down, and less than half a sub-cell further up
 pub record IsKeptVelocity (side : ℕ) (v : Spot) : Type 0 where

@@ -1,7 +1,8 @@
 //! The side of a cell.
 
 ghost use Rattle.std.specs.Prelude.{◌≡◌, ℕ, ◌^◌, ◌≤◌, ◌↔◌, IsSome, IfSome};
-ghost use Rattle.pic_num.specs.Sub.{fewest_bits, most_bits, bits_of};
+ghost use Rattle.pic_num.specs.Limits.{fewest_bits, most_bits, least_side, most_side};
+ghost use Rattle.pic_num.specs.Sub.{bits_of};
 
 use std::marker::Model;
 
@@ -54,8 +55,8 @@ impl Sub {
     #[inline(always)]
     pub fn bits(self) -> u32
         ensures power { self ≡ 2 ^ result }
-        ensures least { 8 ≤ result }
-        ensures most { result ≤ 14 }
+        ensures least { fewest_bits ≤ result }
+        ensures most { result ≤ most_bits }
     {
         self.bits
     }
@@ -64,8 +65,8 @@ impl Sub {
     #[inline(always)]
     pub fn side(self) -> u32
         ensures value { result ≡ self }
-        ensures least { 256 ≤ self }
-        ensures most { self ≤ 16384 }
+        ensures least { least_side ≤ self }
+        ensures most { self ≤ most_side }
     {
         1 << self.bits
     }
