@@ -2,35 +2,48 @@
 use Rattle.std.proofs.Common.{◌≡◌, ℕ, ◌^◌, ◌-◌, ◌≤◌, Bool, true, false, nat_lt, if◌then◌else◌, unsigned_abs, Option, Some, None, Ok, refl, arith}
 use Rattle.std.specs.Option.{option_or}
 use Rattle.std.proofs.lemmas.Bool.Decides.{nat_tests}
-use Rattle.std.proofs.Math.IntN.{ℤ, pos}
+use Rattle.std.proofs.Math.IntN.{ℤ, pos, ◌-ℤ◌}
+use Rattle.std.specs.Prelude.{◌<ℤ◌, ◌≤ℤ◌}
 use Rattle.std.proofs.lemmas.Int.{ints}
 use Rattle.pic_num.specs.declared.axis.Axis.{Axis}
 use Rattle.pic_num.specs.declared.axis.Axis.TheVariants.{X, Y, Z}
 use Rattle.pic_num.specs.declared.motion.What.{What}
 use Rattle.pic_num.specs.declared.motion.What.TheVariants.{Speed, Turn, Far}
 use Rattle.pic_num.specs.First.{first_of}
+use Rattle.pic_num.specs.Limits.{most_side, most_speed, most_turn, velocity_unit}
 use Rattle.pic_num.specs.Multiplier.{Multiplier}
 use Rattle.pic_num.specs.Push.{Halting, each, plus, turned, first_above, unless, pushed}
 use Rattle.pic_num.specs.Rounding.{rounded, scaled}
 use Rattle.pic_num.specs.Sizes.{IsAtMost}
-use Rattle.pic_num.specs.Space.{Spot, AreAtMost}
+use Rattle.pic_num.specs.Space.{Spot, along, AreAtMost}
+use Rattle.pic_num.specs.Velocity.{too_fast, IsKeptVelocity}
 use Rattle.pic_num.proofs.RoundingLaws.{rounded-is}
 use Rattle.pic_boris.specs.Pushes.{arrived}
-use Rattle.pic_boris.specs.Velocity.{IsKept, IsKeptVelocity, velocity_unit}
 
-kept : (side : ℕ) (v : ℤ) → IsAtMost (rounded v (pos velocity_unit)) side → IsKept side v
+kept : (side : ℕ) (v : ℤ) → IsAtMost (rounded v (pos velocity_unit)) side
+    → ((pos 0 -ℤ pos (too_fast side)) ≤ℤ v) × (v <ℤ pos (too_fast side))
 kept side v h =
     let is = rounded-is v (pos velocity_unit) (omega (arith, ints)) in
-    record { least = omega (arith, ints, is.below, h.size); most = omega (arith, ints, is.above, h.size) }
+    (omega (arith, ints, is.above, h.size), omega (arith, ints, is.below, h.size))
+
+kept_along : (side : ℕ) (v : Spot) → AreAtMost (each (λ c. rounded c (pos velocity_unit)) v) side
+    → (a : Axis) → ((pos 0 -ℤ pos (too_fast side)) ≤ℤ along a v) × (along a v <ℤ pos (too_fast side))
+kept_along side v h X = kept side v.x h.x
+kept_along side v h Y = kept side v.y h.y
+kept_along side v h Z = kept side v.z h.z
 
 pub kept_velocity : (side : ℕ) (v : Spot) → AreAtMost (each (λ c. rounded c (pos velocity_unit)) v) side → IsKeptVelocity side v
-kept_velocity side v h = record { x = kept side v.x h.x; y = kept side v.y h.y; z = kept side v.z h.z }
+kept_velocity side v h = record { least = λ a. (kept_along side v h a).0; most = λ a. (kept_along side v h a).1 }
 
-kept_size : (side : ℕ) (v : ℤ) → side ≤ 2 ^ 14 → IsKept side v → IsAtMost v (2 ^ 31 - 1)
-kept_size side v few h = record { size = omega (arith, ints, few, h.least, h.most) }
+kept_size : (side : ℕ) (v : ℤ) → side ≤ most_side → (pos 0 -ℤ pos (too_fast side)) ≤ℤ v → v <ℤ pos (too_fast side) → IsAtMost v (2 ^ 31 - 1)
+kept_size side v few least most = record { size = omega (arith, ints, few, least, most) }
 
-pub kept_sizes : (side : ℕ) (v : Spot) → side ≤ 2 ^ 14 → IsKeptVelocity side v → AreAtMost v (2 ^ 31 - 1)
-kept_sizes side v few h = record { x = kept_size side v.x few h.x; y = kept_size side v.y few h.y; z = kept_size side v.z few h.z }
+pub kept_sizes : (side : ℕ) (v : Spot) → side ≤ most_side → IsKeptVelocity side v → AreAtMost v (2 ^ 31 - 1)
+kept_sizes side v few h = record {
+  x = kept_size side v.x few (h.least X) (h.most X);
+  y = kept_size side v.y few (h.least Y) (h.most Y);
+  z = kept_size side v.z few (h.least Z) (h.most Z);
+}
 
 not_above : (most n : ℕ) → n ≤ most → nat_lt most n ≡ false
 not_above most n h = go (nat_lt most n) refl
@@ -68,6 +81,6 @@ slow_arrives side v e b kick turn slow weak =
     let turn_by = each (λ c. scaled c turn) b in
     let new_v = plus (turned kicked turn_by) half_kick in
     let move = each (λ c. rounded c (pos velocity_unit)) new_v in
-    let speed = none_above Speed (2 ^ 26) (2 ^ 40) kicked (omega arith) slow in
-    let turned_by = none_above Turn (2 ^ 20) (2 ^ 24) turn_by (omega arith) weak in
+    let speed = none_above Speed (2 ^ 26) most_speed kicked (omega arith) slow in
+    let turned_by = none_above Turn (2 ^ 20) most_turn turn_by (omega arith) weak in
     λ i. unless (option_or (speed i) (option_or (turned_by i) (first_above Far side move))) (record { v = new_v; d = move })

@@ -1,4 +1,3 @@
 pub mod Vector
 pub mod Narrow
-pub mod Velocity
 pub mod Pushes

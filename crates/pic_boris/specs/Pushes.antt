@@ -2,12 +2,13 @@
 -- via Computer Simulation", chapter 4; the units and the tests are this project's profile).
 use Rattle.std.specs.Prelude.{◌≡◌, ℕ, pos, Result, Ok, Err}
 use Rattle.pic_num.specs.declared.motion.What.TheVariants.{Far}
+use Rattle.pic_num.specs.Limits.{velocity_unit}
 use Rattle.pic_num.specs.Push.{Shift, Halting, each, first_above, unless}
 use Rattle.pic_num.specs.Rounding.{rounded}
 use Rattle.pic_num.specs.Space.{Spot, spot, AreAtMost}
+use Rattle.pic_num.specs.Velocity.{IsKeptVelocity}
 use Rattle.pic_boris.specs.declared.moved.Moved.{Moved}
 use Rattle.pic_boris.specs.declared.halt.Halt.{Halt}
-use Rattle.pic_boris.specs.Velocity.{velocity_unit, IsKeptVelocity}
 
 -- what an answer of the code stands for
 abbrev pub shift_of : Moved → Shift

@@ -1,13 +1,13 @@
 //! The push in 64 bits, of numbers that are small.
 
 ghost use Rattle.std.specs.Prelude.{◌≡◌, pos, ◌^◌, ◌-◌, ◌≤◌, Ok, IfSome, IsTrue};
+ghost use Rattle.pic_num.specs.Limits.{velocity_unit};
 ghost use Rattle.pic_num.specs.Push.{pushed, each};
 ghost use Rattle.pic_num.specs.Rounding.{rounded};
 ghost use Rattle.pic_num.specs.Sizes.{IsAtMost};
 ghost use Rattle.pic_num.specs.Space.{spot, AreAtMost};
 ghost use Rattle.pic_boris.specs.Narrow.{narrow_spot};
 ghost use Rattle.pic_boris.specs.Pushes.{IsInLimits, shift_of, arrived};
-ghost use Rattle.pic_boris.specs.Velocity.{velocity_unit};
 
 use crate::moved::Moved;
 use crate::narrow::{Narrow, narrow_of, narrow_shift, narrow_sum, scaled_narrow};

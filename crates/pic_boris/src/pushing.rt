@@ -1,12 +1,12 @@
 //! The push: half of the kick, the turn, the other half, and where the new velocity leads.
 
 ghost use Rattle.std.specs.Prelude.{◌≡◌, pos, ◌^◌, ◌-◌, Ok, IfOk, IfSome};
+ghost use Rattle.pic_num.specs.Limits.{velocity_unit};
 ghost use Rattle.pic_num.specs.Push.{pushed, each};
 ghost use Rattle.pic_num.specs.Rounding.{rounded};
 ghost use Rattle.pic_num.specs.Space.{spot, AreAtMost};
 ghost use Rattle.pic_boris.specs.Pushes.{Pushes, IsInLimits, shift_of, arrived};
 ghost use Rattle.pic_boris.specs.Vector.{spot_of};
-ghost use Rattle.pic_boris.specs.Velocity.{velocity_unit};
 
 use crate::halt::{Halt, halt_above};
 use crate::moved::Moved;

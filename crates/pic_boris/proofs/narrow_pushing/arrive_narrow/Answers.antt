@@ -1,9 +1,10 @@
-use Rattle.std.proofs.Common.{◌≡◌, ℕ, pos, Ok, refl, subst, sym, ◌∙◌}
+use Rattle.std.proofs.Common.{ℕ, pos, Ok, refl, subst, sym, ◌∙◌}
 use Rattle.pic_num.specs.Push.{each}
 use Rattle.pic_num.specs.Rounding.{rounded}
+use Rattle.pic_num.specs.Limits.{velocity_unit}
 use Rattle.pic_num.specs.Space.{Spot, AreAtMost}
+use Rattle.pic_num.specs.Velocity.{IsKeptVelocity}
 use Rattle.pic_boris.specs.Narrow.{narrow_spot}
-use Rattle.pic_boris.specs.Velocity.{IsKeptVelocity, velocity_unit}
 use Rattle.pic_boris.proofs.MoveLaws.{kept_velocity, kept_sizes, near_arrives}
 use Rattle.pic_boris.proofs.narrow_pushing.arrive_narrow.Goals as goal
 use Rattle.pic_boris.proofs.narrow_pushing.arrive_narrow.Goals.{Else-not-is_small}

@@ -1,9 +1,7 @@
-use Rattle.std.proofs.Common.{◌≡◌, ℤ, pos, ◌^◌, ◌+ℤ◌, ◌-ℤ◌, ◌*ℤ◌, to_z, of_z, ◌∙◌, subst, [], ◌∷◌, arith}
+use Rattle.std.proofs.Common.{◌≡◌, ℤ, pos, ◌^◌, ◌+ℤ◌, ◌-ℤ◌, ◌*ℤ◌, to_z, of_z, ◌∙◌, subst, arith}
 use Rattle.std.specs.Prelude.{◌<ℤ◌, ◌≤ℤ◌}
 use Rattle.std.proofs.lemmas.Int.{ints, to_z-of_z}
 use mir.Syntax.{w64, w128}
-use mir.Val.{SFits}
-use Rattle.pic_num.specs.Rounding.{rounded}
 use Rattle.pic_boris.proofs.QuotientLaws.{by_rest, dividend_is}
 use Rattle.pic_boris.proofs.narrow_turning.is_quotient.Goals as goal
 

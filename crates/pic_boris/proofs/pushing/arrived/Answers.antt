@@ -1,7 +1,7 @@
 use Rattle.std.proofs.Common.{ℕ, subst, sym, ◌∙◌}
 use Rattle.pic_num.specs.Space.{Spot, AreAtMost}
+use Rattle.pic_num.specs.Velocity.{IsKeptVelocity}
 use Rattle.pic_boris.specs.Vector.{spot_of}
-use Rattle.pic_boris.specs.Velocity.{IsKeptVelocity}
 use Rattle.pic_boris.proofs.MoveLaws.{kept_velocity, kept_sizes}
 use Rattle.pic_boris.proofs.pushing.arrived.Goals as goal
 use Rattle.pic_boris.proofs.pushing.arrived.Goals.{In_ok-halt_above}
