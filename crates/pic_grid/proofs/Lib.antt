@@ -11,6 +11,7 @@ pub mod DifferenceLaws
 pub mod SumLaws
 pub mod OverLaws
 pub mod HatLaws
+pub mod PairLaws
 pub mod PathLaws
 pub mod TwoHatLaws
 pub mod SlowSums

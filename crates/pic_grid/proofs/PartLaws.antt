@@ -1,34 +1,35 @@
 -- A lattice of blocks: its cells lie in the blocks of their parts, and a write in one block is a
 -- write in the lattice.
-use Rattle.std.proofs.Common.{◌≡◌, ◌≢◌, ℕ, ℤ, pos, ◌+◌, ◌*◌, ◌/◌, ◌%◌, ◌<◌, ◌≤◌, ◌+ℤ◌, ◌≤ℤ◌, ◌<ℤ◌, List, [], ◌∷◌, ◌++◌, length, length-append, replicate, slice_index_or, slice_set, unsigned_abs, inl, inr, refl, sym, ◌∙◌, ap, subst, arith}
+use Rattle.std.proofs.Common.{◌≡◌, ◌≢◌, ℕ, ℤ, pos, ◌+◌, ◌*◌, ◌^◌, ◌/◌, ◌%◌, ◌<◌, ◌≤◌, ◌+ℤ◌, ◌≤ℤ◌, ◌<ℤ◌, List, [], ◌∷◌, ◌++◌, length, length-append, replicate, slice_index_or, slice_set, unsigned_abs, inl, inr, refl, sym, ◌∙◌, ap, subst, arith}
 use Rattle.std.proofs.lemmas.Bool.{cases_eq, cases_lt}
 use Rattle.std.proofs.lemmas.Grind.{get_or-set_at}
 use Rattle.std.proofs.lemmas.Int.{ints}
 use Rattle.std.proofs.lemmas.List.{get_or-set_other, get_or-replicate, get_or_past, get_or_read, length-set, length-replicate}
 use Rattle.std.proofs.lemmas.Nat.{div-add-mod', mod_below, div_below}
 use Rattle.std.proofs.Math.ListN.{get_or-append}
-use Rattle.std.proofs.Math.Nat.{div-le_self, le-mul_of_pos_right, mul-le-mul_right}
+use Rattle.std.proofs.Math.Nat.{div-le_self, le-mul_of_pos_right}
 use Rattle.std.proofs.Math.Seq.{get_or-append_seam}
 use borrow.Author.Count.{below_more}
-use Rattle.pic_num.specs.Sizes.{IsAtMost}
+use Rattle.pic_num.specs.Limits.{most_cells, most_cells_of_axis}
 use Rattle.pic_num.specs.declared.axis.Axis.{Axis}
 use Rattle.pic_num.specs.Space.{Triple, Spot}
-use Rattle.pic_grid.specs.Cells.{IsCells, IsSize, IsWithin, count_of, index_of, cell_of, place_of}
+use Rattle.pic_num.proofs.SizeLaws.{times_at_most}
+use Rattle.pic_grid.specs.Cells.{Grid, IsCells, IsSize, IsWithin, count_of, index_of, cell_of, place_of}
 use Rattle.pic_grid.specs.Lattice.{IsParts, value_at, with_value, values_of}
-use Rattle.pic_grid.specs.Block.{BlockValues, IsZone, InZone, inner_of, edge_at, with_edge}
+use Rattle.pic_grid.specs.Block.{BlockValues, InZone, inner_of, edge_at, with_edge}
 use Rattle.pic_grid.specs.Parts.{spot_of, part_size, part_of, corner_of, IsPart, no_block, ArePartsOf, IsLattice, value_in, joined}
-use Rattle.pic_grid.proofs.CellLaws.{index_of_below, cell_of-index_of, cell_of_within, place_of_below}
+use Rattle.pic_grid.proofs.CellLaws.{index_of_below, cell_of-index_of, place_of_below}
 use Rattle.pic_grid.proofs.LatticeLaws.{value_at-field_of, length-values_of, same_values}
 use Rattle.pic_grid.proofs.BlockLaws.{edge_same, edge_at-other}
 
 -- an axis of n cells is cut into k parts
 pub record IsAxisCut (n k : ℕ) : Type 0 where
   pub least : 1 ≤ n / k
-  pub most : n / k ≤ 64
-  pub few : k ≤ 64
+  pub most : n / k ≤ most_cells_of_axis
+  pub few : k ≤ most_cells_of_axis
   pub whole : k * (n / k) ≡ n
 
-axis_cut : (n k : ℕ) → 2 ≤ n → n ≤ 64 → 1 ≤ k → n % k ≡ 0 → IsAxisCut n k
+axis_cut : (n k : ℕ) → 2 ≤ n → n ≤ most_cells_of_axis → 1 ≤ k → n % k ≡ 0 → IsAxisCut n k
 axis_cut n k least most parts rest =
     let all : n / k * k + n % k ≡ n = div-add-mod' n k in
     let whole : k * (n / k) ≡ n = omega arith in
@@ -52,18 +53,25 @@ cut n parts h k = record {
 pub part_size_limits : (n parts : Triple) → IsCells n → IsParts n parts → IsSize (part_size n parts)
 part_size_limits n parts h k =
     let c = cut n parts h k in
-    let x : n.x / parts.x ≤ 64 = c.x.most in
-    let y : n.y / parts.y ≤ 64 = c.y.most in
-    let z : n.z / parts.z ≤ 64 = c.z.most in
+    let x : n.x / parts.x ≤ most_cells_of_axis = c.x.most in
+    let y : n.y / parts.y ≤ most_cells_of_axis = c.y.most in
+    let z : n.z / parts.z ≤ most_cells_of_axis = c.z.most in
     record { x_least = c.x.least; x_most = omega arith; y_least = c.y.least; y_most = omega arith; z_least = c.z.least; z_most = omega arith }
 
 pub parts_limits : (n parts : Triple) → IsCells n → IsParts n parts → IsSize parts
 parts_limits n parts h k =
     let c = cut n parts h k in
-    let x : parts.x ≤ 64 = c.x.few in
-    let y : parts.y ≤ 64 = c.y.few in
-    let z : parts.z ≤ 64 = c.z.few in
+    let x : parts.x ≤ most_cells_of_axis = c.x.few in
+    let y : parts.y ≤ most_cells_of_axis = c.y.few in
+    let z : parts.z ≤ most_cells_of_axis = c.z.few in
     record { x_least = k.x_least; x_most = omega arith; y_least = k.y_least; y_most = omega arith; z_least = k.z_least; z_most = omega arith }
+
+-- the places of a box of so few layers have numbers of 64 bits
+pub size_room : (n : Triple) → IsSize n → 3 * count_of n < 2 ^ 64
+size_room n h =
+    let layer : n.x * n.y ≤ most_cells_of_axis * most_cells_of_axis = times_at_most n.x n.y _ _ h.x_most h.y_most in
+    let all : n.x * n.y * n.z ≤ most_cells = times_at_most (n.x * n.y) n.z _ _ layer h.z_most in
+    omega (arith, all)
 
 axis_part : (n k p : ℕ) → IsAxisCut n k → p < n → p / (n / k) < k
 axis_part n k p c h =
@@ -123,10 +131,15 @@ number_below n parts blocks p h k are w =
     omega arith
 
 -- a component of the lattice is that of the block of its part
-pub value_at-joined : (n parts : Triple) (blocks : List BlockValues) (a : Axis) (p : Triple) → IsWithin p n
-    → value_at (joined n parts blocks) a p ≡ edge_at (block_of n parts blocks p) a (spot_of p)
+pub value_at-joined : (grid : Grid) (parts : Triple) (blocks : List BlockValues) (a : Axis) (p : Triple) → IsWithin p grid.n
+    → value_at (joined grid parts blocks) a p ≡ edge_at (block_of grid.n parts blocks p) a (spot_of p)
 unfolding value_in
-value_at-joined n parts blocks a p w = value_at-field_of n parts (value_in n parts blocks) a p w
+value_at-joined grid parts blocks a p w = value_at-field_of grid.side grid.n parts (value_in grid.n parts blocks) a p w
+
+-- the same of the list of values
+values_of-joined : (n parts : Triple) (blocks : List BlockValues) (a : Axis) (p : Triple) → IsWithin p n
+    → slice_index_or (values_of n (value_in n parts blocks)) (place_of n a p) (pos 0) ≡ edge_at (block_of n parts blocks p) a (spot_of p)
+values_of-joined n parts blocks = value_at-joined (record { n = n; side = 0 }) parts blocks
 
 same_spot : (p q : Triple) → spot_of p ≡ spot_of q → p ≡ q
 same_spot p q e i = record { x = unsigned_abs (e i).x; y = unsigned_abs (e i).y; z = unsigned_abs (e i).z }
@@ -168,10 +181,10 @@ joined_set n parts blocks a p v h k are w stored =
     let size : length xs ≡ 3 * count_of n = length-values_of n (value_in n parts blocks) in
     let below : place_of n a p < 3 * count_of n = place_of_below n a p w in
     same_values n (values_of n (value_in n parts new)) (slice_set xs (place_of n a p) v) (length-values_of n (value_in n parts new)) (length-set xs (place_of n a p) v ∙ size) (λ f q wq.
-    let read = value_at-joined n parts new f q wq in
+    let read = values_of-joined n parts new f q wq in
     elim (cases_eq (place_of n f q) (place_of n a p)) as (λ _. slice_index_or (values_of n (value_in n parts new)) (place_of n f q) (pos 0) ≡ slice_index_or (slice_set xs (place_of n a p) v) (place_of n f q) (pos 0)) [
       | inl e ↦
-          (let here = value_at-joined n parts new a p w in
+          (let here = values_of-joined n parts new a p w in
           let written : slice_index_or new (number_of n parts p) no_block ≡ after = get_or-set_at blocks (number_of n parts p) (number_of n parts p) after no_block refl (number_below n parts blocks p h k are w) in
           ap (λ (j : ℕ). slice_index_or (values_of n (value_in n parts new)) j (pos 0)) e
           ∙ here
@@ -181,7 +194,7 @@ joined_set n parts blocks a p v h k are w stored =
       | inr differ ↦
           read
           ∙ joined_other n parts blocks a p v f q h k are w wq differ
-          ∙ sym (value_at-joined n parts blocks f q wq)
+          ∙ sym (values_of-joined n parts blocks f q wq)
           ∙ sym (get_or-set_other xs (place_of n a p) (place_of n f q) v (pos 0) differ)
     ])
 
@@ -190,9 +203,6 @@ pub record IsLaid (n parts : Triple) (i : ℕ) (blocks : List BlockValues) : Typ
   pub count : length blocks ≡ i
   pub zones : (j : ℕ) → j < i → IsPart (part_size n parts) (cell_of parts j) (slice_index_or blocks j no_block)
   pub zeros : (j : ℕ) → j < i → (slice_index_or blocks j no_block).values ≡ replicate (3 * count_of (part_size n parts)) (pos 0)
-
-pub laid_none : (n parts : Triple) → IsLaid n parts 0 []
-laid_none n parts = record { count = refl; zones = λ j h. absurd (omega arith); zeros = λ j h. absurd (omega arith) }
 
 pub laid_more : (n parts : Triple) (i : ℕ) (blocks : List BlockValues) (b : BlockValues) → IsLaid n parts i blocks
     → IsPart (part_size n parts) (cell_of parts i) b → b.values ≡ replicate (3 * count_of (part_size n parts)) (pos 0)
@@ -227,7 +237,7 @@ joined_zeros n parts blocks h k zeros =
     same_values n (values_of n (value_in n parts blocks)) (replicate (3 * count_of n) (pos 0)) (length-values_of n (value_in n parts blocks)) (length-replicate (3 * count_of n) (pos 0)) (λ a p w.
     let b = block_of n parts blocks p in
     let here = zeros (number_of n parts p) (index_of_below parts (part_of (part_size n parts) p) (part_of_within n parts p h k w)) in
-    value_at-joined n parts blocks a p w
+    values_of-joined n parts blocks a p w
     ∙ ap (λ (xs : List ℤ). slice_index_or xs (place_of b.size a (inner_of b.low (spot_of p))) (pos 0)) here
     ∙ zero_read (3 * count_of (part_size n parts)) (place_of b.size a (inner_of b.low (spot_of p)))
     ∙ sym (zero_read (3 * count_of n) (place_of n a p)))
@@ -250,28 +260,6 @@ are_parts_with n parts blocks k new are low size =
         | inr differ ↦ subst (λ (d : BlockValues). IsPart (part_size n parts) (cell_of parts j) d) (sym (get_or-set_other blocks k j new no_block differ)) (are.zones j h)
       ];
     }
-
-start_limit : (n k p : ℕ) → n ≤ 64 → IsAxisCut n k → p < k → IsAtMost (pos (p * (n / k))) 64
-start_limit n k p most c h =
-    let whole : k * (n / k) ≡ n = c.whole in
-    let start : p * (n / k) ≤ k * (n / k) = mul-le-mul_right (n / k) (omega arith) in
-    let bound : p * (n / k) ≤ 64 = omega arith in
-    record { size = bound }
-
--- the zone of a part lies on the grid
-pub part_is_zone : (n parts : Triple) (i : ℕ) (low : Spot) (size : Triple) → IsCells n → IsParts n parts → i < count_of parts
-    → low ≡ corner_of (part_size n parts) (cell_of parts i) → size ≡ part_size n parts → IsZone low size
-part_is_zone n parts i low size h k below at layers =
-    let c = cut n parts h k in
-    let part : IsWithin (cell_of parts i) parts = cell_of_within parts i below in
-    let s = part_size n parts in
-    let corner : IsZone (corner_of s (cell_of parts i)) s = record {
-      x = start_limit n.x parts.x (cell_of parts i).x h.x_most c.x part.x;
-      y = start_limit n.y parts.y (cell_of parts i).y h.y_most c.y part.y;
-      z = start_limit n.z parts.z (cell_of parts i).z h.z_most c.z part.z;
-      layers = part_size_limits n parts h k;
-    } in
-    subst (λ (m : Triple). IsZone low m) (sym layers) (subst (λ (l : Spot). IsZone l s) (sym at) corner)
 
 -- what the fields of a lattice say of a cell: its part is one of the parts,
 pub lattice_part : (n parts s : Triple) (blocks : List BlockValues) (p : Triple) → IsLattice n parts s blocks → IsWithin p n → IsWithin (part_of s p) parts
@@ -315,14 +303,15 @@ lattice_kept n parts s blocks i a c v b new l below read after =
     record { cells = l.cells; parts_fit = l.parts_fit; layers = l.layers; zones = zones }
 
 -- and is the write of the lattice
-pub lattice_set : (n parts s : Triple) (blocks : List BlockValues) (p : Triple) (i : ℕ) (a : Axis) (c : Spot) (v : ℤ) (b new : BlockValues)
-    → IsLattice n parts s blocks → IsWithin p n → i ≡ index_of parts (part_of s p) → b ≡ slice_index_or blocks i b → c ≡ spot_of p
+pub lattice_set : (grid : Grid) (parts s : Triple) (blocks : List BlockValues) (p : Triple) (i : ℕ) (a : Axis) (c : Spot) (v : ℤ) (b new : BlockValues)
+    → IsLattice grid.n parts s blocks → IsWithin p grid.n → i ≡ index_of parts (part_of s p) → b ≡ slice_index_or blocks i b → c ≡ spot_of p
     → new ≡ with_edge b a c v → edge_at new a c ≡ v
-    → joined n parts (slice_set blocks i new) ≡ with_value (joined n parts blocks) a p v
-lattice_set n parts s blocks p i a c v b new l w e read at after stored =
+    → joined grid parts (slice_set blocks i new) ≡ with_value (joined grid parts blocks) a p v
+lattice_set grid parts s blocks p i a c v b new l w e read at after stored =
+    let n = grid.n in
     let number : i ≡ number_of n parts p = lattice_number n parts s blocks p i l e in
     let here : b ≡ block_of n parts blocks p = lattice_block n parts s blocks p i b l w e read in
     let written : new ≡ with_edge (block_of n parts blocks p) a (spot_of p) v = after ∙ (λ j. with_edge (here j) a (at j) v) in
     let held : edge_at (with_edge (block_of n parts blocks p) a (spot_of p) v) a (spot_of p) ≡ v = sym (λ j. edge_at (written j) a (at j)) ∙ stored in
     let whole = joined_set n parts blocks a p v l.cells l.parts_fit l.zones w held in
-    (λ j. joined n parts (slice_set blocks (number j) (written j))) ∙ (λ j. record { cells = n; parts = parts; values = whole j })
+    (λ j. joined grid parts (slice_set blocks (number j) (written j))) ∙ (λ j. record { cells = n; side = grid.side; parts = parts; values = whole j })

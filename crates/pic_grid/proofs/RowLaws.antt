@@ -1,13 +1,16 @@
 -- Rows of a block: where their places are, and what a write of one leaves.
 use Rattle.std.proofs.Common.{◌≡◌, ℕ, ℤ, pos, ◌+◌, ◌-◌, ◌*◌, ◌<◌, ◌≤◌, List, ◌++◌, length, take, drop, slice_index_or, inl, inr, refl, sym, ◌∙◌, ap, arith}
 use Rattle.std.proofs.lemmas.Bool.{cases_lt}
+use Rattle.std.proofs.Math.Nat.{mul-le-mul_right}
+use Rattle.std.proofs.lemmas.Nat.{mul-add-lt}
 use Rattle.std.proofs.lemmas.List.{length-append, length-take-le, length-drop, get_or-take, get_or-drop, get_or_append_left, get_or-append_right, drop-drop}
 use Rattle.pic_num.specs.declared.axis.Axis.{Axis}
-use Rattle.pic_num.specs.Space.{Triple}
+use Rattle.pic_num.specs.Space.{Triple, axis_number}
+use Rattle.pic_num.proofs.AxisLaws.{axis_below}
 use Rattle.pic_grid.specs.Cells.{IsWithin, count_of, index_of, place_of}
 use Rattle.pic_grid.specs.Block.{BlockValues, inner_at}
 use Rattle.pic_grid.specs.Rows.{row_of, with_row}
-use Rattle.pic_grid.proofs.CellLaws.{place_of_below, place_of_same}
+use Rattle.pic_grid.proofs.CellLaws.{place_of_same}
 
 -- the places of a row follow each other
 pub place_of-row : (n : Triple) (a : Axis) (x y z : ℕ) → place_of n a (record { x = x; y = y; z = z }) ≡ row_of n a y z + x
@@ -15,11 +18,18 @@ unfolding place_of index_of
 place_of-row n a x y z = omega arith
 
 -- and end among those of the box
-pub row_fits : (n : Triple) (a : Axis) (y z : ℕ) → 1 ≤ n.x → y < n.y → z < n.z → row_of n a y z + n.x ≤ 3 * count_of n
-row_fits n a y z some in_y in_z =
-    let last : n.x - 1 < n.x = omega arith in
-    let below = place_of_below n a (record { x = n.x - 1; y = y; z = z }) (record { x = last; y = in_y; z = in_z }) in
-    omega (arith, below, place_of-row n a (n.x - 1) y z)
+pub row_fits : (n : Triple) (a : Axis) (y z : ℕ) → y < n.y → z < n.z → row_of n a y z + n.x ≤ 3 * count_of n
+unfolding place_of index_of
+row_fits n a y z in_y in_z =
+    let layer = mul-add-lt (axis_number a) n.z z 3 (axis_below a) in_z in
+    let line = mul-add-lt (axis_number a * n.z + z) n.y y (n.z * 3) layer in_y in
+    let all : ((axis_number a * n.z + z) * n.y + y + 1) * n.x ≤ n.y * (n.z * 3) * n.x = mul-le-mul_right n.x (omega (arith, line)) in
+    omega (arith, all)
+
+-- its first place, as the code counts it: whole layers, and whole rows of the last
+pub row_start : (n : Triple) (a : Axis) (y z : ℕ) → row_of n a y z ≡ (axis_number a * n.z + z) * (n.y * n.x) + y * n.x
+unfolding place_of index_of
+row_start n a y z = omega arith
 
 part_at : (xs : List ℤ) (start k i : ℕ) → i < k → slice_index_or (take k (drop start xs)) i (pos 0) ≡ slice_index_or xs (start + i) (pos 0)
 part_at xs start k i h = get_or-take k (drop start xs) i (pos 0) h ∙ get_or-drop start xs i (pos 0)
@@ -54,14 +64,14 @@ written_length values row start k fits size =
 pub record IsOff (axis : Axis) (y z : ℕ) (a : Axis) (p : Triple) : Type 0 where
   pub off : a ≡ axis → p.y ≡ y → p.z ≡ z → ⊥
 
-module _ (b : BlockValues) (axis : Axis) (y z : ℕ) (row : List ℤ) (whole : length b.values ≡ 3 * count_of b.size) (some : 1 ≤ b.size.x) (in_y : y < b.size.y)
+module _ (b : BlockValues) (axis : Axis) (y z : ℕ) (row : List ℤ) (whole : length b.values ≡ 3 * count_of b.size) (in_y : y < b.size.y)
     (in_z : z < b.size.z) (size : length row ≡ b.size.x)
   where
     abbrev start : ℕ
     start = row_of b.size axis y z
 
     front : length (take start b.values) ≡ start
-    front = length-take-le start b.values (omega (arith, whole, row_fits b.size axis y z some in_y in_z))
+    front = length-take-le start b.values (omega (arith, whole, row_fits b.size axis y z in_y in_z))
 
     -- after the write the row has its new values,
     pub row_here : (x : ℕ) → x < b.size.x → inner_at (with_row b axis y z row) axis (record { x = x; y = y; z = z }) ≡ slice_index_or row x (pos 0)

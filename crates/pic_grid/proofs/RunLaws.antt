@@ -78,9 +78,9 @@ module _ (n parts : Triple) (blocks : List BlockValues) (p : Triple) (h : IsCell
         omega arith
 
     -- each value before the end is that of the lattice
-    pub run_value : (a : Axis) (i : ℕ) → p.x + i < part_end s.x p.x
-        → inner_at b a (record (inner_of b.low (spot_of p)) { x = (inner_of b.low (spot_of p)).x + i }) ≡ value_at (joined n parts blocks) a (record p { x = p.x + i })
-    run_value a i below =
+    pub run_value : (side : ℕ) (a : Axis) (i : ℕ) → p.x + i < part_end s.x p.x
+        → inner_at b a (record (inner_of b.low (spot_of p)) { x = (inner_of b.low (spot_of p)).x + i }) ≡ value_at (joined (record { n = n; side = side }) parts blocks) a (record p { x = p.x + i })
+    run_value side a i below =
         let q = record p { x = p.x + i } in
         let in_x : p.x + i < n.x = omega (arith, run_inside) in
         let inside : IsWithin q n = record { x = in_x; y = w.y; z = w.z } in
@@ -92,7 +92,7 @@ module _ (n parts : Triple) (blocks : List BlockValues) (p : Triple) (h : IsCell
         ∙ sym (ap (λ (l : ℤ). unsigned_abs (pos (p.x + i) -ℤ l)) low) in
         ap (λ (m : ℕ). inner_at b a (record (inner_of b.low (spot_of p)) { x = m })) at_x
         ∙ sym (ap (λ (m : Triple). edge_at (slice_index_or blocks (index_of parts m) no_block) a (spot_of q)) part)
-        ∙ sym (value_at-joined n parts blocks a q inside)
+        ∙ sym (value_at-joined (record { n = n; side = side }) parts blocks a q inside)
 
 one_of : (a b c : ℕ) → 1 ≤ a → 1 ≤ b → 1 ≤ c → a * b * c ≡ 1 → a ≡ 1
 one_of a b c x y z all =
@@ -116,7 +116,7 @@ pub one_values : (n parts : Triple) (blocks : List BlockValues) (b : BlockValues
     → b ≡ slice_index_or blocks 0 no_block → length b.values ≡ 3 * count_of b.size → b.values ≡ values_of n (value_in n parts blocks)
 one_values n parts blocks b h k are one first whole =
     same_values n b.values (values_of n (value_in n parts blocks)) (whole ∙ ap (λ (m : Triple). 3 * count_of m) size) (length-values_of n (value_in n parts blocks))
-    (λ a p w. sym (value_at-joined n parts blocks a p w ∙ (λ i. edge_at (of_block p w i) a (spot_of p)) ∙ (λ i. slice_index_or b.values (place_of (size i) a (inner p w i)) (pos 0))))
+    (λ a p w. sym (value_at-joined (record { n = n; side = 0 }) parts blocks a p w ∙ (λ i. edge_at (of_block p w i) a (spot_of p)) ∙ (λ i. slice_index_or b.values (place_of (size i) a (inner p w i)) (pos 0))))
   where
     count : count_of parts ≡ 1
     count = sym are.count ∙ one

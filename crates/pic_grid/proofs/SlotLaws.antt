@@ -5,7 +5,7 @@ use Rattle.pic_num.specs.declared.axis.Axis.{Axis}
 use Rattle.pic_num.specs.Space.{Triple, axis_number}
 use Rattle.pic_grid.specs.declared.slot.Slot.{Slot}
 use Rattle.pic_grid.specs.Block.{BlockValues, inner_of, edge_at}
-use Rattle.pic_grid.specs.Cells.{IsWithin, count_of, index_of, place_of}
+use Rattle.pic_grid.specs.Cells.{Grid, IsWithin, count_of, index_of, place_of}
 use Rattle.pic_grid.specs.Lattice.{Field, value_at}
 use Rattle.pic_grid.specs.Parts.{spot_of, part_size, part_of, corner_of, IsPart, IsLattice, joined}
 use Rattle.pic_grid.specs.Slot.{IsSlotX, IsSlotY, IsSlotZ}
@@ -23,9 +23,9 @@ pub record AreSlots (n parts : Triple) (u v w : Slot) : Type 0 where
   pub y : IsSlotY n parts v
   pub z : IsSlotZ n parts w
 
-pub slots_of : (n parts : Triple) (blocks : List BlockValues) (f : Field) (x y z : Slot) → joined n parts blocks ≡ f
-    → IsSlotX f.cells f.parts x → IsSlotY f.cells f.parts y → IsSlotZ f.cells f.parts z → AreSlots n parts x y z
-slots_of n parts blocks f x y z view on_x on_y on_z =
+pub slots_of : (grid : Grid) (parts : Triple) (blocks : List BlockValues) (f : Field) (x y z : Slot) → joined grid parts blocks ≡ f
+    → IsSlotX f.cells f.parts x → IsSlotY f.cells f.parts y → IsSlotZ f.cells f.parts z → AreSlots grid.n parts x y z
+slots_of grid parts blocks f x y z view on_x on_y on_z =
     subst (λ (g : Field). AreSlots g.cells g.parts x y z) (sym view) (record { x = on_x; y = on_y; z = on_z })
 
 -- three slots of a lattice, and the cell that they are of
@@ -98,8 +98,8 @@ module _ (n parts s : Triple) (blocks : List BlockValues) (x y z : Slot) (l : Is
             omega (arith, below, size, at a)
 
         -- and there its value
-        pub slots_value : (a : Axis) → slice_index_or b.values (axis_number a * count_of s + place) (pos 0) ≡ value_at (joined n parts blocks) a p
-        slots_value a =
+        pub slots_value : (side : ℕ) (a : Axis) → slice_index_or b.values (axis_number a * count_of s + place) (pos 0) ≡ value_at (joined (record { n = n; side = side }) parts blocks) a p
+        slots_value side a =
             ap (λ (m : ℕ). slice_index_or b.values m (pos 0)) (at a)
             ∙ ap (λ (c : BlockValues). edge_at c a (spot_of p)) block
-            ∙ sym (value_at-joined n parts blocks a p slots_within)
+            ∙ sym (value_at-joined (record { n = n; side = side }) parts blocks a p slots_within)

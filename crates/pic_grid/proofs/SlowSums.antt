@@ -5,6 +5,7 @@ use Rattle.std.proofs.lemmas.Int.{ints, to_z-of_z, fits_signed_from_abs}
 use mir.Syntax.{w128}
 use mir.Val.{SFits, to_z, of_z}
 use Rattle.pic_num.proofs.SizeLaws.{code_is, codes, times_at_most}
+use Rattle.pic_num.specs.Limits.{most_cells_of_axis}
 use Rattle.pic_num.specs.Sizes.{IsAtMost}
 use Rattle.pic_grid.specs.Sums.{sum_below}
 use Rattle.pic_grid.proofs.SumLaws.{sum_below_more, cube_is}
@@ -29,15 +30,15 @@ more_is f n most total part so_far is small =
 
 -- one part more, as the code adds it up
 pub one_more : (f : ℕ → ℤ) (n most : ℕ) (total part : ℤ) → IsSumOf f n most total → part ≡ f n → IsAtMost part most
-    → n < 64
-    → most ≤ 2 ^ 98
+    → n < most_cells_of_axis
+    → most ≤ 2 ^ 100
     → IsSumOf f (n + 1) most (to_z w128 (of_z w128 (total +ℤ to_z w128 (of_z w128 part))))
 one_more f n most total part so_far is small few low =
     let both = more_is f n most total part so_far is small in
     let size = both.size.size in
     let part_size = small.size in
     let part_fits : SFits w128 part = fits_signed_from_abs w128 part (omega (arith, part_size, low)) in
-    let room : (n + 1) * most ≤ 64 * 2 ^ 98 = times_at_most (n + 1) most 64 (2 ^ 98) (omega (arith, few)) low in
+    let room : (n + 1) * most ≤ most_cells_of_axis * 2 ^ 100 = times_at_most (n + 1) most most_cells_of_axis (2 ^ 100) (omega (arith, few)) low in
     let fits : SFits w128 (total +ℤ part) = fits_signed_from_abs w128 (total +ℤ part) (omega (arith, size, room)) in
     let plain : to_z w128 (of_z w128 (total +ℤ to_z w128 (of_z w128 part))) ≡ total +ℤ part =
     ap (λ (t : ℤ). to_z w128 (of_z w128 (total +ℤ t))) (to_z-of_z w128 part part_fits) ∙ to_z-of_z w128 (total +ℤ part) fits in

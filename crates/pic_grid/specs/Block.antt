@@ -2,20 +2,13 @@ use Rattle.std.specs.Prelude.{◌≡◌, ℕ, ℤ, pos, ◌+◌, ◌≤◌, ◌�
 use Rattle.pic_num.specs.declared.axis.Axis.{Axis}
 use Rattle.pic_num.specs.Sizes.{IsAtMost}
 use Rattle.pic_num.specs.Space.{Triple, Spot}
-use Rattle.pic_grid.specs.Cells.{IsSize, place_of}
+use Rattle.pic_grid.specs.Cells.{place_of}
 
 -- a block: its lowest cell, its layers of cells, and its values in the order of places
 pub record BlockValues : Type 0 where
   pub low : Spot
   pub size : Triple
   pub values : List ℤ
-
--- a zone lies near the grid: its lowest cell is at most 64 in size, and it has 1 to 67 layers
-pub record IsZone (low : Spot) (size : Triple) : Type 0 where
-  pub x : IsAtMost low.x 64
-  pub y : IsAtMost low.y 64
-  pub z : IsAtMost low.z 64
-  pub layers : IsSize size
 
 -- the cell c, which isn't wrapped, is one of a zone's
 pub record InZone (low : Spot) (size : Triple) (c : Spot) : Type 0 where

@@ -7,6 +7,11 @@ use Rattle.pic_num.specs.declared.axis.Axis.TheVariants.{X, Y, Z}
 use Rattle.pic_num.specs.Limits.{fewest_cells_of_axis, most_cells_of_axis}
 use Rattle.pic_num.specs.Space.{Triple, axis_number}
 
+-- a grid: its numbers of cells on the axes, and how many sub-cells lie along a cell
+pub record Grid : Type 0 where
+  pub n : Triple
+  pub side : ℕ
+
 -- the numbers of cells of a grid on its axes
 pub record IsCells (n : Triple) : Type 0 where
   pub x_least : fewest_cells_of_axis ≤ n.x
@@ -16,14 +21,15 @@ pub record IsCells (n : Triple) : Type 0 where
   pub z_least : fewest_cells_of_axis ≤ n.z
   pub z_most : n.z ≤ most_cells_of_axis
 
--- a box of cells has 1 to 67 layers on each axis
+-- a part of a grid has 1 to as many layers on each axis as a grid can have cells, and a grid so many
+-- parts
 pub record IsSize (n : Triple) : Type 0 where
   pub x_least : 1 ≤ n.x
-  pub x_most : n.x ≤ 67
+  pub x_most : n.x ≤ most_cells_of_axis
   pub y_least : 1 ≤ n.y
-  pub y_most : n.y ≤ 67
+  pub y_most : n.y ≤ most_cells_of_axis
   pub z_least : 1 ≤ n.z
-  pub z_most : n.z ≤ 67
+  pub z_most : n.z ≤ most_cells_of_axis
 
 -- p is one of the n.x by n.y by n.z cells
 pub record IsWithin (p n : Triple) : Type 0 where

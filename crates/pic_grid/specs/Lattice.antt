@@ -3,13 +3,19 @@ use Rattle.std.specs.List.{range_with_len}
 use Rattle.pic_num.specs.declared.axis.Axis.{Axis}
 use Rattle.pic_num.specs.Sizes.{IsAtMost}
 use Rattle.pic_num.specs.Space.{Triple}
-use Rattle.pic_grid.specs.Cells.{IsWithin, count_of, index_of, cell_of, axis_of, place_of}
+use Rattle.pic_grid.specs.Cells.{Grid, IsWithin, count_of, index_of, cell_of, axis_of, place_of}
 
--- a lattice: its numbers of cells and of parts, and its 3N values in the order of places
+-- a lattice: its numbers of cells, the side of a cell, its numbers of parts, and its 3N values in the
+-- order of places
 pub record Field : Type 0 where
   pub cells : Triple
+  pub side : ℕ
   pub parts : Triple
   pub values : List ℤ
+
+-- its grid
+abbrev pub grid_of : Field → Grid
+grid_of f = record { n = f.cells; side = f.side }
 
 -- each axis has at least one part, and its parts have equally many cells
 pub record IsParts (n parts : Triple) : Type 0 where
@@ -37,8 +43,8 @@ unfoldable pub values_of : Triple → (Axis → Triple → ℤ) → List ℤ
 values_of n g = map (λ i. g (axis_of (i / count_of n)) (cell_of n (i % count_of n))) (range_with_len 0 (3 * count_of n))
 
 -- the lattice of those components
-abbrev pub field_of : Triple → Triple → (Axis → Triple → ℤ) → Field
-field_of n parts g = record { cells = n; parts = parts; values = values_of n g }
+abbrev pub field_of : ℕ → Triple → Triple → (Axis → Triple → ℤ) → Field
+field_of side n parts g = record { cells = n; side = side; parts = parts; values = values_of n g }
 
 -- one number per node: the numbers of cells, and the values in the order of nodes, x fastest
 pub record NodeValues : Type 0 where

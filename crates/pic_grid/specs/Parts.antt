@@ -2,7 +2,7 @@
 use Rattle.std.specs.Prelude.{◌≡◌, ℕ, ℤ, pos, ◌*◌, ◌/◌, ◌<◌, List, [], length, slice_index_or}
 use Rattle.pic_num.specs.declared.axis.Axis.{Axis}
 use Rattle.pic_num.specs.Space.{Triple, Spot}
-use Rattle.pic_grid.specs.Cells.{IsCells, count_of, index_of, cell_of}
+use Rattle.pic_grid.specs.Cells.{Grid, IsCells, count_of, index_of, cell_of}
 use Rattle.pic_grid.specs.Lattice.{Field, IsParts, field_of}
 use Rattle.pic_grid.specs.Block.{BlockValues, edge_at}
 
@@ -56,5 +56,5 @@ value_in n parts blocks a p =
     edge_at (slice_index_or blocks (index_of parts (part_of (part_size n parts) p)) no_block) a (spot_of p)
 
 -- the lattice of the blocks
-abbrev pub joined : Triple → Triple → List BlockValues → Field
-joined n parts blocks = field_of n parts (value_in n parts blocks)
+abbrev pub joined : Grid → Triple → List BlockValues → Field
+joined grid parts blocks = field_of grid.side grid.n parts (value_in grid.n parts blocks)

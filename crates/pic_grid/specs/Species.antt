@@ -2,6 +2,7 @@
 use Rattle.std.specs.Prelude.{◌≡◌, ℕ, pos, negsuc, ◌<◌, ◌≤◌, ◌≤ℤ◌, Bool, ◌&&◌, ◌||◌, ◌==◌, nat_le, IsTrue, List, [], length, sum_by, slice_index_or}
 use Rattle.std.specs.List.{list_all}
 use Rattle.pic_num.specs.declared.motion.Kind.{Kind}
+use Rattle.pic_num.specs.Limits.{most_mass, most_species, most_particles_1}
 
 -- a letter A to Z or a to z, a digit or `_`
 abbrev pub is_name_byte : ℕ → Bool
@@ -18,7 +19,7 @@ pub record IsKind (k : Kind) : Type 0 where
   pub charge_low : negsuc 32767 ≤ℤ k.charge
   pub charge_high : k.charge ≤ℤ pos 32767
   pub mass_low : 1 ≤ k.mass
-  pub mass_high : k.mass ≤ 65536
+  pub mass_high : k.mass ≤ most_mass
 
 -- a species: its name, what its particles have in common, and how many there are
 pub record HeadView : Type 0 where
@@ -34,10 +35,11 @@ no_head = record {
   count = 0;
 }
 
--- the species of a run: 16 at most, with names of their own, and 1048576 particles at most
+-- the species of a run: 16 at most, with names of their own, and as many particles at most as a deck
+-- of version 1 may have
 pub record AreHeads (heads : List HeadView) : Type 0 where
-  pub few : length heads ≤ 16
+  pub few : length heads ≤ most_species
   pub names : (i : ℕ) → i < length heads → IsName (slice_index_or heads i no_head).name
   pub kinds : (i : ℕ) → i < length heads → IsKind (slice_index_or heads i no_head).kind
   pub differ : (i j : ℕ) → i < j → j < length heads → (slice_index_or heads i no_head).name ≡ (slice_index_or heads j no_head).name → ⊥
-  pub total : sum_by (λ h. h.count) heads ≤ 1048576
+  pub total : sum_by (λ h. h.count) heads ≤ most_particles_1

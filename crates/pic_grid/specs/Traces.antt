@@ -1,9 +1,10 @@
 -- The flux of a push at the edges of the unbounded lattice, before edges wrap to one edge of the
 -- periodic grid (J. Villasenor and O. Buneman, Comput. Phys. Commun. 69, 1992, 306).
-use Rattle.std.specs.Prelude.{ℕ, suc, ◌*◌, ◌^◌, ℤ, pos, negsuc, ◌<ℤ◌, ◌≤ℤ◌, ◌⊎◌, List, Result, Ok, Err}
+use Rattle.std.specs.Prelude.{ℕ, suc, ℤ, pos, negsuc, ◌<ℤ◌, ◌≤ℤ◌, ◌⊎◌, List, Result, Ok, Err}
 use Rattle.pic_num.specs.declared.motion.Kind.{Kind}
 use Rattle.pic_num.specs.declared.motion.Particle.{Particle}
 use Rattle.pic_num.specs.declared.axis.Axis.{Axis}
+use Rattle.pic_num.specs.Limits.{most_particles, most_particles_1, most_flux_of}
 use Rattle.pic_num.specs.Push.{Shift, Halting}
 use Rattle.pic_num.specs.Sizes.{IsAtMost}
 use Rattle.pic_num.specs.Space.{Spot, triple}
@@ -34,9 +35,12 @@ pub record IsReached (n : ℕ) (j : ℤ) : Type 0 where
   pub high : j ≤ℤ pos (suc n)
 
 -- the most that the flux of all particles can be at an edge, in twelfths of a charge times a cubic
--- sub-cell: 2^20 particles of 2^15 charges, 12 * 4096^3 each. It is below 2^75.
+-- sub-cell: below 2^83, and below 2^81 with as many particles as version 1 has
 abbrev pub most_flux : ℕ
-most_flux = 12 * 2 ^ 71
+most_flux = most_flux_of most_particles
+
+abbrev pub most_flux_1 : ℕ
+most_flux_1 = most_flux_of most_particles_1
 
 -- a flux is at most so large at every edge
 pub record IsFluxAtMost (most : ℕ) (f : Axis → Spot → ℤ) : Type 0 where

@@ -1,18 +1,17 @@
 //! Boxes of cells, and three components for each cell of one.
 
-ghost use Rattle.std.specs.Prelude.{◌≡◌, ◌↔◌, ℕ, ℤ, pos, ◌*◌, ◌<◌, ◌+ℤ◌, ◌-ℤ◌, ◌≤ℤ◌, ◌<ℤ◌, length, replicate, unsigned_abs, FitsSigned, IsTrue, IfOk};
+ghost use Rattle.std.specs.Prelude.{◌≡◌, ◌↔◌, ℕ, ℤ, pos, ◌*◌, ◌<◌, ◌+ℤ◌, ◌-ℤ◌, ◌≤ℤ◌, ◌<ℤ◌, length, replicate, unsigned_abs, FitsSigned, IsTrue, IfOk, IfSome};
 ghost use Rattle.std.specs.Int.{w128};
 ghost use Rattle.pic_num.specs.Space.{triple, spot};
-ghost use Rattle.pic_grid.specs.Cells.{IsSize, IsWithin, count_of, place_of};
-ghost use Rattle.pic_grid.specs.Block.{BlockValues, IsZone, InZone, inner_of, edge_at, with_edge};
+ghost use Rattle.pic_grid.specs.Cells.{IsWithin, count_of, place_of};
+ghost use Rattle.pic_grid.specs.Block.{BlockValues, InZone, inner_of, edge_at, with_edge};
 
-use crate::places::{count_in, place_in};
+use crate::places::place_in;
 use pic_num::{Axis, NoMemory};
 use std::alloc::Global;
 use std::marker::Model;
 
-/// A box of cells: its lowest cell, which isn't wrapped, and its numbers of layers on x, y and z. A
-/// block's zone has 1 to 67 layers on each axis and a lowest cell in -64..=64.
+/// A box of cells: its lowest cell, which isn't wrapped, and its numbers of layers on x, y and z.
 #[derive(Clone, Copy, Debug, PartialEq, Eq)]
 pub struct Zone {
     pub low: [i32; 3],
@@ -20,13 +19,16 @@ pub struct Zone {
 }
 
 impl Zone {
-    /// How many cells the zone has.
-    pub fn count(self) -> usize
-        requires { IsSize (triple self.size) }
-        ensures value { result ≡ count_of (triple self.size) }
-        ensures most { result < 301000 }
+    /// How many components a block of the zone has, or `None` where a `usize` can't tell.
+    fn places(self) -> Option<usize>
+        ensures { IfSome result (λ n. n ≡ 3 * count_of (triple self.size)) }
     {
-        count_in(self.size)
+        let [x, y, z] = self.size;
+        let places = 3 * (u128::from(x) * u128::from(y) * u128::from(z));
+        if places > u128::from(u64::MAX) {
+            return None;
+        }
+        Some(places as usize)
     }
 }
 
@@ -42,16 +44,18 @@ impl Model for Block {
 
     ghost view = { λ b. record { low = spot b.zone.low; size = triple b.zone.size; values = b.values.items } };
 
-    ghost invariant = { λ b. IsZone (spot b.zone.low) (triple b.zone.size) × (length b.values.items ≡ 3 * count_of (triple b.zone.size)) };
+    ghost invariant = { λ b. length b.values.items ≡ 3 * count_of (triple b.zone.size) };
 }
 
 impl Block {
-    /// A block of zeros.
+    /// A block of zeros over any zone.
     pub fn new(alloc: Global, zone: Zone) -> Result<Block, NoMemory>
-        requires { IsZone (spot zone.low) (triple zone.size) }
         ensures { IfOk result (λ b. b ≡ record { low = spot zone.low; size = triple zone.size; values = replicate (3 * count_of (triple zone.size)) (pos 0) }) }
     {
-        let values = vec![in alloc; 0i128; 3 * zone.count()]?;
+        let Some(places) = zone.places() else {
+            return Err(NoMemory);
+        };
+        let values = vec![in alloc; 0i128; places]?;
         Ok(Block { zone, values })
     }
 
@@ -59,7 +63,6 @@ impl Block {
     pub fn zone(&self) -> Zone
         ensures low { spot result.low ≡ self.now.low }
         ensures size { triple result.size ≡ self.now.size }
-        ensures limits { IsZone self.now.low self.now.size }
         ensures shape { length self.now.values ≡ 3 * count_of self.now.size }
     {
         let _values = &self.values;
@@ -117,7 +120,7 @@ impl Block {
         ensures value { result ≡ place_of self.now.size axis (inner_of self.now.low (spot cell)) }
         ensures below { result < length self.now.values }
     {
-        let _values = &self.values;
+        let _count = self.values.len();
         let [low_x, low_y, low_z] = self.zone.low;
         let [nx, ny, nz] = self.zone.size;
         let [x, y, z] = cell;
@@ -191,7 +194,6 @@ mod tests {
             size: [2, 3, 1],
         };
         let mut block = Block::new(rt.alloc(), zone)?;
-        assert_eq!(rt; zone.count(), 6);
         assert_eq!(rt; block.zone(), zone);
         assert_eq!(rt; block.at(Axis::Y, [-1, 2, 3]), 0);
         block.add(Axis::Y, [-1, 2, 3], 40);

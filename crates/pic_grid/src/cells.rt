@@ -1,30 +1,36 @@
-//! The numbers of cells of the grid, and the order of its cells and places.
+//! The numbers of cells of the grid and the side of a cell, and the order of cells and places.
 
 ghost use Rattle.std.specs.Prelude.{◌≡◌, ◌↔◌, ◌≤◌, ◌<◌, ◌*◌, length, IsSome, IfSome};
-ghost use Rattle.pic_num.specs.Space.{Triple, triple, spot, unwrapped};
-ghost use Rattle.pic_grid.specs.Cells.{IsCells, IsWithin, count_of, index_of, cell_of, place_of};
+ghost use Rattle.pic_num.specs.Limits.{most_cells};
+ghost use Rattle.pic_num.specs.Space.{triple, spot, unwrapped};
+ghost use Rattle.pic_grid.specs.Cells.{Grid, IsCells, IsWithin, count_of, index_of, cell_of, place_of};
 ghost use Rattle.pic_grid.specs.Arrays.{array_of_triple};
 
 use crate::places::{index_in, place_in};
-use pic_num::{Axis, unwrapped};
+use pic_num::{Axis, Sub, unwrapped};
 use std::marker::Model;
 
-/// The numbers of cells of a periodic grid on its three axes, 2 to 64 on each.
+/// The numbers of cells of a periodic grid on its three axes, 2 to 128 on each, and the side of a
+/// cell.
 #[derive(Clone, Copy, Debug, PartialEq, Eq)]
 pub struct Cells {
     pub n: [u32; 3],
+    pub sub: Sub,
 }
 
 impl Model for Cells {
-    ghost Value = { Triple };
+    ghost Value = { Grid };
 
-    ghost view = { λ c. triple c.n };
+    ghost view = { λ c. record { n = triple c.n; side = c.sub } };
 
     ghost invariant = { λ c. IsCells (triple c.n) × (length c.n ≡ 3) };
 
-    ghost inverse = { λ t. record { n = array_of_triple t } };
+    ghost inverse = { λ g. record { n = array_of_triple g.n; sub = g.side } };
 
-    ghost inverse_ok = { λ c h i. record { n = Rattle.pic_grid.specs.Arrays.array_of_triple-triple c.n h.1 i } };
+    ghost inverse_ok = { λ c h i. record {
+      n = Rattle.pic_grid.specs.Arrays.array_of_triple-triple c.n h.1 i;
+      sub = c.sub;
+    } };
 }
 
 impl Cells {
@@ -32,20 +38,20 @@ impl Cells {
     pub const FEWEST: u32 = 2;
 
     /// The most cells of an axis.
-    pub const MOST: u32 = 64;
+    pub const MOST: u32 = 128;
 
     /// The cells of numbers within the limits.
-    pub fn new(n: [u32; 3]) -> Cells
+    pub fn new(n: [u32; 3], sub: Sub) -> Cells
         requires { IsCells (triple n) }
-        ensures { result ≡ triple n }
+        ensures { result ≡ record { n = triple n; side = sub } }
     {
-        Cells { n }
+        Cells { n, sub }
     }
 
     /// The cells of numbers from outside, or `None` where they pass the limits.
-    pub fn try_new(n: [u32; 3]) -> Option<Cells>
+    pub fn try_new(n: [u32; 3], sub: Sub) -> Option<Cells>
         ensures valid { IsSome result ↔ IsCells (triple n) }
-        ensures value { IfSome result (λ c. c ≡ triple n) }
+        ensures value { IfSome result (λ c. c ≡ record { n = triple n; side = sub }) }
     {
         let [x, y, z] = n;
         if x < Cells::FEWEST || x > Cells::MOST {
@@ -57,21 +63,29 @@ impl Cells {
         if z < Cells::FEWEST || z > Cells::MOST {
             return None;
         }
-        Some(Cells { n })
+        Some(Cells { n, sub })
     }
 
     /// The numbers of cells on x, y and z.
     pub fn numbers(self) -> [u32; 3]
-        ensures value { triple result ≡ self }
-        ensures limits { IsCells self }
+        ensures value { triple result ≡ self.n }
+        ensures limits { IsCells self.n }
     {
         self.n
     }
 
+    /// The side of a cell.
+    #[inline(always)]
+    pub fn sub(self) -> Sub
+        ensures { result ≡ self.side }
+    {
+        self.sub
+    }
+
     /// How many cells there are.
     pub fn count(self) -> u32
-        ensures value { result ≡ count_of self }
-        ensures most { result ≤ 262144 }
+        ensures value { result ≡ count_of self.n }
+        ensures most { result ≤ most_cells }
     {
         let [x, y, z] = self.n;
         x * y * z
@@ -79,9 +93,9 @@ impl Cells {
 
     /// The number of `cell`, one of these cells, x fastest.
     pub fn index(self, cell: [u32; 3]) -> usize
-        requires { IsWithin (triple cell) self }
-        ensures value { result ≡ index_of self (triple cell) }
-        ensures below { result < count_of self }
+        requires { IsWithin (triple cell) self.n }
+        ensures value { result ≡ index_of self.n (triple cell) }
+        ensures below { result < count_of self.n }
     {
         index_in(self.n, cell)
     }
@@ -89,19 +103,19 @@ impl Cells {
     /// The number of the component on `axis` at `cell`, one of these cells: the axis first, then the
     /// cell.
     pub fn place(self, axis: Axis, cell: [u32; 3]) -> usize
-        requires { IsWithin (triple cell) self }
-        ensures value { result ≡ place_of self axis (triple cell) }
-        ensures below { result < 3 * count_of self }
+        requires { IsWithin (triple cell) self.n }
+        ensures value { result ≡ place_of self.n axis (triple cell) }
+        ensures below { result < 3 * count_of self.n }
     {
         place_in(self.n, axis, cell)
     }
 
     /// The cell of a number below that of the cells.
     pub fn cell_at(self, index: usize) -> [u32; 3]
-        requires { index < count_of self }
-        ensures value { triple result ≡ cell_of self index }
-        ensures within { IsWithin (triple result) self }
-        ensures number { index_of self (triple result) ≡ index }
+        requires { index < count_of self.n }
+        ensures value { triple result ≡ cell_of self.n index }
+        ensures within { IsWithin (triple result) self.n }
+        ensures number { index_of self.n (triple result) ≡ index }
     {
         let [nx, ny, _] = self.n;
         let index = index as u32;
@@ -110,9 +124,9 @@ impl Cells {
 
     /// The axis and the cell of a place's number, which is below three times that of the cells.
     pub fn place_at(self, place: usize) -> (Axis, [u32; 3])
-        requires { place < 3 * count_of self }
-        ensures within { IsWithin (triple result.1) self }
-        ensures number { place_of self result.0 (triple result.1) ≡ place }
+        requires { place < 3 * count_of self.n }
+        ensures within { IsWithin (triple result.1) self.n }
+        ensures number { place_of self.n result.0 (triple result.1) ≡ place }
     {
         let count = self.count() as usize;
         let axis = Axis::of_number((place / count) as u32);
@@ -121,7 +135,7 @@ impl Cells {
 
     /// One of these cells as one that isn't wrapped.
     pub fn unwrapped(self, cell: [u32; 3]) -> [i32; 3]
-        requires { IsWithin (triple cell) self }
+        requires { IsWithin (triple cell) self.n }
         ensures { spot result ≡ unwrapped (triple cell) }
     {
         let [_, _, _] = self.n;
@@ -138,23 +152,24 @@ mod tests {
     fn cells_keep_their_limits(rt: HostRuntime) {
         let cases = [
             ([2, 2, 2], true),
-            ([64, 64, 64], true),
+            ([128, 128, 128], true),
             ([1, 2, 2], false),
-            ([2, 65, 2], false),
+            ([2, 129, 2], false),
             ([2, 2, 0], false),
         ];
         for (n, good) in cases {
-            let made = Cells::try_new(n);
+            let made = Cells::try_new(n, Sub::of_bits(14));
             assert_eq!(rt; made.is_some(), good, "{n:?}");
             if let Some(cells) = made {
                 assert_eq!(rt; cells.numbers(), n);
+                assert_eq!(rt; cells.sub().side(), 16384);
             }
         }
     }
 
     #[test]
     fn places_go_by_axis_then_z_then_y_then_x(rt: HostRuntime) {
-        let cells = Cells::new([2, 3, 4]);
+        let cells = Cells::new([2, 3, 4], Sub::of_bits(8));
         assert_eq!(rt; cells.count(), 24);
         assert_eq!(rt; cells.index([1, 0, 0]), 1);
         assert_eq!(rt; cells.index([0, 1, 0]), 2);
@@ -165,5 +180,9 @@ mod tests {
         assert_eq!(rt; cells.place(Axis::Z, [1, 2, 3]), 71);
         assert_eq!(rt; cells.unwrapped([1, 2, 3]), [1, 2, 3]);
         assert_eq!(rt; cells.place_at(47), (Axis::Y, [1, 2, 3]));
+        let most = Cells::new([128, 128, 128], Sub::of_bits(8));
+        assert_eq!(rt; most.count(), 2097152);
+        assert_eq!(rt; most.place(Axis::Z, [127, 127, 127]), 6291455);
+        assert_eq!(rt; most.place_at(6291455), (Axis::Z, [127, 127, 127]));
     }
 }

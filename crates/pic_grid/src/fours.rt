@@ -64,7 +64,7 @@ impl Block {
         match axis {
             Axis::X => 1,
             Axis::Y => nx as usize,
-            Axis::Z => (nx * ny) as usize,
+            Axis::Z => nx as usize * ny as usize,
         }
     }
 }

@@ -3,7 +3,7 @@
 ghost use Rattle.std.specs.Prelude.{◌≡◌, ℕ, ℤ, pos, ◌*◌, length, replicate, IfOk};
 ghost use Rattle.pic_num.specs.Space.{triple};
 ghost use Rattle.pic_grid.specs.Cells.{IsCells, IsWithin, count_of};
-ghost use Rattle.pic_grid.specs.Lattice.{Field, IsParts, value_at, with_value};
+ghost use Rattle.pic_grid.specs.Lattice.{Field, grid_of, IsParts, value_at, with_value};
 ghost use Rattle.pic_grid.specs.Parts.{IsLattice, ArePartsOf, joined};
 
 use crate::block::Block;
@@ -14,7 +14,7 @@ use std::alloc::Global;
 use std::marker::Model;
 
 /// Three `i128` components for each cell of the grid, cut into equal parts with one block for each.
-/// Contracts see the cells, the parts and the values in the order of places.
+/// Contracts see the cells, their side, the parts and the values in the order of places.
 // `guesses` are what an index is multiplied by for a guess at its part.
 #[derive(Drop)]
 pub struct Lattice {
@@ -30,14 +30,14 @@ impl Model for Lattice {
 
     ghost view = { λ l. joined l.cells (triple l.parts) l.blocks.items };
 
-    ghost invariant = { λ l. IsLattice l.cells (triple l.parts) (triple l.layers) l.blocks.items };
+    ghost invariant = { λ l. IsLattice l.cells.n (triple l.parts) (triple l.layers) l.blocks.items };
 }
 
 impl Lattice {
     /// A lattice of zeros. Each axis has at least one part, and its parts have equally many cells.
     pub fn new(alloc: Global, cells: Cells, parts: [u32; 3]) -> Result<Lattice, NoMemory>
-        requires { IsParts cells (triple parts) }
-        ensures { IfOk result (λ l. l ≡ record { cells = cells; parts = triple parts; values = replicate (3 * count_of cells) (pos 0) }) }
+        requires { IsParts cells.n (triple parts) }
+        ensures { IfOk result (λ l. l ≡ record { cells = cells.n; side = cells.side; parts = triple parts; values = replicate (3 * count_of cells.n) (pos 0) }) }
     {
         let layers = layers_of(cells, parts);
         let blocks = blocks_of(alloc, cells, parts)?;
@@ -52,8 +52,8 @@ impl Lattice {
 
     /// The lattice of blocks, one for each part, x fastest. Their zones are the parts'.
     pub fn of_blocks(cells: Cells, parts: [u32; 3], blocks: Vec<Block>) -> Lattice
-        requires parts { IsParts cells (triple parts) }
-        requires zones { ArePartsOf cells (triple parts) blocks.items }
+        requires parts { IsParts cells.n (triple parts) }
+        requires zones { ArePartsOf cells.n (triple parts) blocks.items }
         ensures { result ≡ joined cells (triple parts) blocks.items }
     {
         let layers = layers_of(cells, parts);
@@ -69,7 +69,7 @@ impl Lattice {
     /// The blocks, one for each part, x fastest.
     pub fn into_blocks(self) -> Vec<Block>
         ensures zones { ArePartsOf self.cells self.parts result.items }
-        ensures values { self ≡ joined self.cells self.parts result.items }
+        ensures values { self ≡ joined (grid_of self) self.parts result.items }
     {
         let Lattice {
             cells: _,
@@ -81,9 +81,10 @@ impl Lattice {
         blocks
     }
 
-    /// The numbers of cells.
+    /// The numbers of cells and their side.
     pub fn cells(&self) -> Cells
-        ensures value { result ≡ self.now.cells }
+        ensures value { result.n ≡ self.now.cells }
+        ensures side { result.side ≡ self.now.side }
         ensures shape { length self.now.values ≡ 3 * count_of self.now.cells }
     {
         self.cells
@@ -123,11 +124,12 @@ impl Lattice {
 #[cfg(test)]
 mod tests {
     use super::*;
+    use pic_num::Sub;
 
     #[test]
     fn a_value_is_read_back_in_every_part(rt: HostRuntime) -> Result<(), NoMemory> {
         for parts in [[1, 1, 1], [2, 1, 2]] {
-            let cells = Cells::new([4, 2, 4]);
+            let cells = Cells::new([4, 2, 4], Sub::of_bits(8));
             let mut field = Lattice::new(rt.alloc(), cells, parts)?;
             field.set(Axis::Y, [1, 1, 1], -7);
             field.set(Axis::Z, [2, 1, 3], 5);
@@ -143,7 +145,7 @@ mod tests {
 
     #[test]
     fn blocks_keep_all_values(rt: HostRuntime) -> Result<(), NoMemory> {
-        let cells = Cells::new([4, 2, 4]);
+        let cells = Cells::new([4, 2, 4], Sub::of_bits(8));
         let mut field = Lattice::new(rt.alloc(), cells, [2, 1, 2])?;
         field.set(Axis::Z, [3, 1, 1], 5);
         let blocks = field.into_blocks();

@@ -11,9 +11,9 @@ use pic_num::Axis;
 impl Cells {
     /// The next cell up an axis, periodically.
     pub fn up(self, axis: Axis, cell: [u32; 3]) -> [u32; 3]
-        requires { IsWithin (triple cell) self }
-        ensures value { triple result ≡ up self axis (triple cell) }
-        ensures within { IsWithin (triple result) self }
+        requires { IsWithin (triple cell) self.n }
+        ensures value { triple result ≡ up self.n axis (triple cell) }
+        ensures within { IsWithin (triple result) self.n }
     {
         let [nx, ny, nz] = self.n;
         let [x, y, z] = cell;
@@ -26,9 +26,9 @@ impl Cells {
 
     /// The next cell down an axis, periodically.
     pub fn down(self, axis: Axis, cell: [u32; 3]) -> [u32; 3]
-        requires { IsWithin (triple cell) self }
-        ensures value { triple result ≡ down self axis (triple cell) }
-        ensures within { IsWithin (triple result) self }
+        requires { IsWithin (triple cell) self.n }
+        ensures value { triple result ≡ down self.n axis (triple cell) }
+        ensures within { IsWithin (triple result) self.n }
     {
         let [nx, ny, nz] = self.n;
         let [x, y, z] = cell;
@@ -61,10 +61,11 @@ fn before(count: u32, number: u32) -> u32
 #[cfg(test)]
 mod tests {
     use super::*;
+    use pic_num::Sub;
 
     #[test]
     fn cells_follow_each_other_round_an_axis(rt: HostRuntime) {
-        let cells = Cells::new([2, 3, 4]);
+        let cells = Cells::new([2, 3, 4], Sub::of_bits(8));
         for (axis, cell, up, down) in [
             (Axis::X, [1, 2, 3], [0, 2, 3], [0, 2, 3]),
             (Axis::Y, [1, 2, 3], [1, 0, 3], [1, 1, 3]),

@@ -20,15 +20,15 @@ pub struct Nodes {
 impl Model for Nodes {
     ghost Value = { NodeValues };
 
-    ghost view = { λ n. record { cells = n.cells; values = n.values.items } };
+    ghost view = { λ n. record { cells = n.cells.n; values = n.values.items } };
 
-    ghost invariant = { λ n. IsCells n.cells × (length n.values.items ≡ count_of n.cells) };
+    ghost invariant = { λ n. IsCells n.cells.n × (length n.values.items ≡ count_of n.cells.n) };
 }
 
 impl Nodes {
     /// Nodes of zeros.
     pub fn new(alloc: Global, cells: Cells) -> Result<Nodes, NoMemory>
-        ensures { IfOk result (λ n. n ≡ record { cells = cells; values = replicate (count_of cells) (pos 0) }) }
+        ensures { IfOk result (λ n. n ≡ record { cells = cells.n; values = replicate (count_of cells.n) (pos 0) }) }
     {
         let [_, _, _] = cells.n;
         let values = vec![in alloc; 0i128; cells.count() as usize]?;
@@ -37,7 +37,7 @@ impl Nodes {
 
     /// The numbers of cells.
     pub fn cells(&self) -> Cells
-        ensures value { result ≡ self.now.cells }
+        ensures value { result.n ≡ self.now.cells }
         ensures shape { length self.now.values ≡ count_of self.now.cells }
     {
         let _values = &self.values;
@@ -67,10 +67,11 @@ impl Nodes {
 #[cfg(test)]
 mod tests {
     use super::*;
+    use pic_num::Sub;
 
     #[test]
     fn a_node_is_read_back(rt: HostRuntime) -> Result<(), NoMemory> {
-        let cells = Cells::new([2, 3, 4]);
+        let cells = Cells::new([2, 3, 4], Sub::of_bits(8));
         let mut nodes = Nodes::new(rt.alloc(), cells)?;
         nodes.set([1, 2, 3], 9);
         assert_eq!(rt; nodes.cells(), cells);

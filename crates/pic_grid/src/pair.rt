@@ -1,16 +1,12 @@
 //! The two places of an axis that a point lies between.
 
-ghost use Rattle.std.specs.Prelude.{◌≡◌, ℕ, ◌+◌, ◌*◌, ◌<◌, ◌≤◌};
+ghost use Rattle.std.specs.Prelude.{◌≡◌, ℕ, ◌+◌, ◌*◌, ◌/◌, ◌<◌, ◌≤◌};
+ghost use Rattle.pic_num.specs.Limits.{most_cells_of_axis};
 ghost use Rattle.pic_grid.specs.Hat.{periodic_hat};
 ghost use Rattle.pic_grid.specs.Pair.{IsPairOf};
 
 use crate::neighbours::after;
-
-/// The sub-cells along a cell.
-const SIDE: u32 = 4096;
-
-/// How far the places of a shifted axis stand above the nodes.
-const HALF: u32 = 2048;
+use pic_num::Sub;
 
 /// The two cells of an axis between whose places a point lies, and the point's weight for each: the
 /// two weights add up to a cell's side.
@@ -24,46 +20,52 @@ pub struct Pair {
 
 impl Pair {
     /// The pair of a point, in sub-cells, on an axis of `cells` cells whose places are the nodes.
-    pub fn of_nodes(cells: u32, point: u32) -> Pair
+    #[inline(always)]
+    pub fn of_nodes(sub: Sub, cells: u32, point: u32) -> Pair
         requires two { 2 ≤ cells }
-        requires inside { point < cells * 4096 }
-        ensures { IsPairOf 4096 cells 0 point result }
+        requires inside { point < cells * sub }
+        ensures { IsPairOf sub cells 0 point result }
     {
-        let low = point / SIDE;
-        let high_weight = point % SIDE;
+        let side = sub.side();
+        let low = point >> sub.bits();
+        let high_weight = point & (side - 1);
         Pair {
             low,
             high: after(cells, low),
-            low_weight: SIDE - high_weight,
+            low_weight: side - high_weight,
             high_weight,
         }
     }
 
     /// The pair of a point, in sub-cells, on an axis of `cells` cells whose places stand in the middle
     /// between the nodes.
-    pub fn of_middles(cells: u32, point: u32) -> Pair
+    #[inline(always)]
+    pub fn of_middles(sub: Sub, cells: u32, point: u32) -> Pair
         requires two { 2 ≤ cells }
-        requires few { cells ≤ 64 }
-        requires inside { point < cells * 4096 }
-        ensures { IsPairOf 4096 cells 2048 point result }
+        requires few { cells ≤ most_cells_of_axis }
+        requires inside { point < cells * sub }
+        ensures { IsPairOf sub cells (sub / 2) point result }
     {
-        Pair::of_nodes(cells, shifted_back(cells, point))
+        Pair::of_nodes(sub, cells, shifted_back(sub, cells, point))
     }
 }
 
 /// The point that lies half a cell back, round the axis.
-#[tactic(auto, unfolding(crate::specs::Hat::periodic_hat))]
-fn shifted_back(cells: u32, point: u32) -> u32
+#[inline(always)]
+fn shifted_back(sub: Sub, cells: u32, point: u32) -> u32
     requires two { 2 ≤ cells }
-    requires few { cells ≤ 64 }
-    requires inside { point < cells * 4096 }
-    ensures inside { result < cells * 4096 }
-    ensures weights { (j : ℕ) → j < cells → periodic_hat 4096 (cells * 4096) point (j * 4096 + 2048) ≡ periodic_hat 4096 (cells * 4096) result (j * 4096 + 0) }
+    requires few { cells ≤ most_cells_of_axis }
+    requires inside { point < cells * sub }
+    ensures inside { result < cells * sub }
+    ensures weights { (j : ℕ) → j < cells → periodic_hat sub (cells * sub) point (j * sub + sub / 2)
+        ≡ periodic_hat sub (cells * sub) result (j * sub + 0) }
 {
-    if point < HALF {
-        point + (cells * SIDE - HALF)
+    let side = sub.side();
+    let half = side / 2;
+    if point < half {
+        point + (cells * side - half)
     } else {
-        point - HALF
+        point - half
     }
 }
 
@@ -79,13 +81,16 @@ mod tests {
             low_weight,
             high_weight,
         };
-        for (point, nodes, middles) in [
-            (0, pair(0, 1, 4096, 0), pair(3, 0, 2048, 2048)),
-            (2048, pair(0, 1, 2048, 2048), pair(0, 1, 4096, 0)),
-            (16383, pair(3, 0, 1, 4095), pair(3, 0, 2049, 2047)),
+        for (bits, point, nodes, middles) in [
+            (12, 0, pair(0, 1, 4096, 0), pair(3, 0, 2048, 2048)),
+            (12, 2048, pair(0, 1, 2048, 2048), pair(0, 1, 4096, 0)),
+            (12, 16383, pair(3, 0, 1, 4095), pair(3, 0, 2049, 2047)),
+            (8, 1023, pair(3, 0, 1, 255), pair(3, 0, 129, 127)),
+            (14, 16385, pair(1, 2, 16383, 1), pair(0, 1, 8191, 8193)),
         ] {
-            assert_eq!(rt; Pair::of_nodes(4, point), nodes, "{point}");
-            assert_eq!(rt; Pair::of_middles(4, point), middles, "{point}");
+            let sub = Sub::of_bits(bits);
+            assert_eq!(rt; Pair::of_nodes(sub, 4, point), nodes, "{point}");
+            assert_eq!(rt; Pair::of_middles(sub, 4, point), middles, "{point}");
         }
     }
 }

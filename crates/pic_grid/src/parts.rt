@@ -1,10 +1,10 @@
 //! A lattice cut into equal parts, one block for each.
 
-ghost use Rattle.std.specs.Prelude.{◌≡◌, ℕ, ℤ, pos, ◌*◌, ◌<◌, replicate, slice_index_or, IfOk};
+ghost use Rattle.std.specs.Prelude.{◌≡◌, ℕ, ℤ, pos, ◌*◌, ◌<◌, ◌≤◌, replicate, slice_index_or, IfOk};
+ghost use Rattle.pic_num.specs.Limits.{most_cells_of_axis};
 ghost use Rattle.pic_num.specs.Space.{triple, spot};
 ghost use Rattle.pic_grid.specs.Cells.{IsCells, IsSize, IsWithin, count_of, index_of, cell_of};
 ghost use Rattle.pic_grid.specs.Lattice.{IsParts};
-ghost use Rattle.pic_grid.specs.Block.{IsZone};
 ghost use Rattle.pic_grid.specs.Parts.{part_size, part_of, corner_of, no_block, ArePartsOf};
 
 use crate::block::{Block, Zone};
@@ -15,9 +15,9 @@ use std::alloc::Global;
 
 /// The layers of each part of the cells.
 pub(crate) fn layers_of(cells: Cells, parts: [u32; 3]) -> [u32; 3]
-    requires { IsParts cells (triple parts) }
-    ensures value { triple result ≡ part_size cells (triple parts) }
-    ensures cells { IsCells cells }
+    requires { IsParts cells.n (triple parts) }
+    ensures value { triple result ≡ part_size cells.n (triple parts) }
+    ensures cells { IsCells cells.n }
     ensures parts { IsSize (triple parts) }
     ensures layers { IsSize (triple result) }
 {
@@ -77,8 +77,8 @@ fn zone_of(parts: [u32; 3], layers: [u32; 3], number: usize) -> Zone
 
 /// The first layer of a part on one axis.
 fn start_of(part: u32, layers: u32) -> i32
-    requires part { part < 67 }
-    requires layers { layers < 68 }
+    requires part { part ≤ most_cells_of_axis }
+    requires layers { layers ≤ most_cells_of_axis }
     ensures { result ≡ pos (part * layers) }
 {
     (part * layers) as i32
@@ -90,9 +90,9 @@ pub(crate) fn blocks_of(
     cells: Cells,
     parts: [u32; 3],
 ) -> Result<Vec<Block>, NoMemory>
-    requires { IsParts cells (triple parts) }
-    ensures zones { IfOk result (λ v. ArePartsOf cells (triple parts) v.items) }
-    ensures zeros { IfOk result (λ v. (i : ℕ) → i < count_of (triple parts) → (slice_index_or v.items i no_block).values ≡ replicate (3 * count_of (part_size cells (triple parts))) (pos 0)) }
+    requires { IsParts cells.n (triple parts) }
+    ensures zones { IfOk result (λ v. ArePartsOf cells.n (triple parts) v.items) }
+    ensures zeros { IfOk result (λ v. (i : ℕ) → i < count_of (triple parts) → (slice_index_or v.items i no_block).values ≡ replicate (3 * count_of (part_size cells.n (triple parts))) (pos 0)) }
 {
     let layers = layers_of(cells, parts);
     let count = count_in(parts);

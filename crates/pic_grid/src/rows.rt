@@ -1,13 +1,12 @@
 //! Rows of a block: the places of one component side by side in x.
 
-ghost use Rattle.std.specs.Prelude.{◌≡◌, ℕ, pos, ◌+◌, ◌*◌, ◌<◌, ◌≤◌, length, slice_index_or};
+ghost use Rattle.std.specs.Prelude.{◌≡◌, ℕ, pos, ◌+◌, ◌*◌, ◌^◌, ◌<◌, ◌≤◌, length, slice_index_or};
 ghost use Rattle.pic_num.specs.Space.{triple, spot};
-ghost use Rattle.pic_grid.specs.Cells.{IsSize, IsWithin, count_of};
+ghost use Rattle.pic_grid.specs.Cells.{IsWithin, count_of};
 ghost use Rattle.pic_grid.specs.Block.{InZone, inner_of, inner_at};
 ghost use Rattle.pic_grid.specs.Rows.{row_of, with_row};
 
 use crate::block::{Block, above};
-use crate::places::place_in;
 use pic_num::Axis;
 
 impl Block {
@@ -74,13 +73,16 @@ impl Block {
 
 /// The number of the first place of the row on `axis` at the layers `y` and `z` of a box.
 fn row_start(size: [u32; 3], axis: Axis, y: u32, z: u32) -> usize
-    requires layers { IsSize (triple size) }
     requires y { y < (triple size).y }
     requires z { z < (triple size).z }
+    requires room { 3 * count_of (triple size) < 2 ^ 64 }
     ensures value { result ≡ row_of (triple size) axis y z }
     ensures end { result + (triple size).x ≤ 3 * count_of (triple size) }
 {
-    place_in(size, axis, [0, y, z])
+    let [nx, ny, nz] = size;
+    let plane = ny as usize * nx as usize;
+    let layer = axis.number() as usize * nz as usize + z as usize;
+    layer * plane + y as usize * nx as usize
 }
 
 #[cfg(test)]

@@ -44,7 +44,7 @@ impl Lattice {
 mod tests {
     use super::*;
     use crate::cells::Cells;
-    use pic_num::NoMemory;
+    use pic_num::{NoMemory, Sub};
 
     /// Whether a run from a cell on has so many values, one of them at a place.
     fn has_run(field: &Lattice, cell: [u32; 3], length: usize, at: usize, value: i128) -> bool {
@@ -59,7 +59,7 @@ mod tests {
 
     #[test]
     fn a_run_ends_with_its_part(rt: HostRuntime) -> Result<(), NoMemory> {
-        let cells = Cells::new([4, 2, 4]);
+        let cells = Cells::new([4, 2, 4], Sub::of_bits(8));
         for (parts, cell, length, at) in [
             ([1, 1, 1], [1, 1, 1], 3, 2),
             ([2, 1, 2], [2, 1, 1], 2, 1),

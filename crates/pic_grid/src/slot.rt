@@ -1,6 +1,7 @@
 //! Places of a lattice found axis by axis, for readers of many places round one point.
 
 ghost use Rattle.std.specs.Prelude.{◌≡◌, ◌↔◌, ◌+◌, ◌*◌, ◌/◌, ◌%◌, ◌^◌, ◌<◌, ◌≤◌, IsTrue};
+ghost use Rattle.pic_num.specs.Limits.{most_cells_of_axis};
 ghost use Rattle.pic_grid.specs.Lattice.{value_at};
 ghost use Rattle.pic_grid.specs.Slot.{IsSlotX, IsSlotY, IsSlotZ};
 
@@ -76,10 +77,10 @@ impl Lattice {
 #[inline(always)]
 fn slot_on(layers: u32, guess: u16, part_step: u32, place_step: u32, index: u32) -> Slot
     requires some { 1 ≤ layers }
-    requires most { layers ≤ 67 }
-    requires few { index < 67 }
-    requires part_step { part_step ≤ 67 * 67 }
-    requires place_step { place_step ≤ 67 * 67 }
+    requires most { layers ≤ most_cells_of_axis }
+    requires few { index < most_cells_of_axis }
+    requires part_step { part_step ≤ most_cells_of_axis * most_cells_of_axis }
+    requires place_step { place_step ≤ most_cells_of_axis * most_cells_of_axis }
     ensures index { result.index ≡ index }
     ensures part { result.part ≡ index / layers * part_step }
     ensures place { result.place ≡ index % layers * place_step }
@@ -97,8 +98,8 @@ fn slot_on(layers: u32, guess: u16, part_step: u32, place_step: u32, index: u32)
 #[inline(always)]
 fn part_of(layers: u32, guess: u16, index: u32) -> u32
     requires some { 1 ≤ layers }
-    requires most { layers ≤ 67 }
-    requires few { index < 67 }
+    requires most { layers ≤ most_cells_of_axis }
+    requires few { index < most_cells_of_axis }
     ensures value { result ≡ index / layers }
     ensures low { result * layers ≤ index }
     ensures high { index < result * layers + layers }
@@ -115,7 +116,7 @@ fn part_of(layers: u32, guess: u16, index: u32) -> u32
 #[inline(always)]
 fn is_in(start: u32, layers: u32, index: u32) -> bool
     requires start { start < 2 ^ 24 }
-    requires most { layers ≤ 67 }
+    requires most { layers ≤ most_cells_of_axis }
     ensures { IsTrue result ↔ ((start ≤ index) × (index < start + layers)) }
 {
     if start > index {
@@ -128,7 +129,7 @@ fn is_in(start: u32, layers: u32, index: u32) -> bool
 mod tests {
     use super::*;
     use crate::cells::Cells;
-    use pic_num::NoMemory;
+    use pic_num::{NoMemory, Sub};
 
     fn put(field: &mut Lattice, cell: [u32; 3], value: i128) {
         let [nx, ny, nz] = field.cells().numbers();
@@ -149,7 +150,7 @@ mod tests {
 
     #[test]
     fn a_value_is_found_axis_by_axis(rt: HostRuntime) -> Result<(), NoMemory> {
-        let cells = Cells::new([4, 6, 2]);
+        let cells = Cells::new([4, 6, 2], Sub::of_bits(8));
         for parts in [[1, 1, 1], [2, 3, 1], [4, 2, 2]] {
             let mut field = Lattice::new(rt.alloc(), cells, parts)?;
             for index in 0..48 {

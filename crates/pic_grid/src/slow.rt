@@ -2,6 +2,7 @@
 //! cell and no stencil: what a test can hold a fast program against.
 
 ghost use Rattle.std.specs.Prelude.{◌≡◌, pos, ◌+◌, ◌*◌, ◌^◌, ◌<◌, ◌≤◌, ◌*ℤ◌, All, slice_index};
+ghost use Rattle.pic_num.specs.Limits.{most_cells_of_axis, most_side, most_force};
 ghost use Rattle.pic_num.specs.Sizes.{IsAtMost};
 ghost use Rattle.pic_num.specs.Space.{triple};
 ghost use Rattle.pic_grid.specs.Gather.{shifted_weight, weighted, gathered, listed};
@@ -34,9 +35,9 @@ fn shifted_hat(side: u32, cells: u32, offset: u32, point: u32, index: u32) -> u6
 
 // three weights of at most a side each
 fn product(x: u64, y: u64, z: u64) -> u64
-    requires x_most { x ≤ 2 ^ 14 }
-    requires y_most { y ≤ 2 ^ 14 }
-    requires z_most { z ≤ 2 ^ 14 }
+    requires x_most { x ≤ most_side }
+    requires y_most { y ≤ most_side }
+    requires z_most { z ≤ most_side }
     ensures value { result ≡ x * y * z }
     ensures most { result ≤ 2 ^ 42 }
 {
@@ -52,7 +53,7 @@ pub fn slow_shifted_weight(
     point: [u32; 3],
     cell: [u32; 3],
 ) -> u64
-    requires { side ≤ 2 ^ 14 }
+    requires { side ≤ most_side }
     ensures value { result ≡ shifted_weight side (triple cells) (triple offset) (triple point) (triple cell) }
     ensures most { result ≤ 2 ^ 42 }
 {
@@ -65,7 +66,7 @@ pub fn slow_shifted_weight(
 /// The weight of a point for a node.
 #[tactic(auto, unfolding(crate::specs::Hat::weight))]
 pub fn slow_weight(side: u32, cells: [u32; 3], point: [u32; 3], node: [u32; 3]) -> u64
-    requires { side ≤ 2 ^ 14 }
+    requires { side ≤ most_side }
     ensures value { result ≡ weight side (triple cells) (triple point) (triple node) }
     ensures most { result ≤ 2 ^ 42 }
 {
@@ -93,14 +94,14 @@ pub fn slow_weight(side: u32, cells: [u32; 3], point: [u32; 3], node: [u32; 3]) 
 // the value of a component at a cell
 #[tactic(auto, unfolding(crate::specs::Gather::listed, crate::specs::Cells::index_of))]
 fn listed_value(cells: [u32; 3], values: &[i128], cell: [u32; 3]) -> i128
-    requires x_most { slice_index cells 0 ≤ 64 }
-    requires y_most { slice_index cells 1 ≤ 64 }
-    requires x_inside { slice_index cell 0 ≤ 64 }
-    requires y_inside { slice_index cell 1 ≤ 64 }
-    requires z_inside { slice_index cell 2 ≤ 64 }
-    requires values_most { All (λ v. IsAtMost v (2 ^ 44)) values.now }
+    requires x_most { slice_index cells 0 ≤ most_cells_of_axis }
+    requires y_most { slice_index cells 1 ≤ most_cells_of_axis }
+    requires x_inside { slice_index cell 0 ≤ most_cells_of_axis }
+    requires y_inside { slice_index cell 1 ≤ most_cells_of_axis }
+    requires z_inside { slice_index cell 2 ≤ most_cells_of_axis }
+    requires values_most { All (λ v. IsAtMost v most_force) values.now }
     ensures value { result ≡ listed (triple cells) values.now (triple cell) }
-    ensures size { IsAtMost result (2 ^ 44) }
+    ensures size { IsAtMost result most_force }
 {
     let index = (cell[2] * cells[1] + cell[1]) * cells[0] + cell[0];
     let place = index as usize;
@@ -113,7 +114,7 @@ fn listed_value(cells: [u32; 3], values: &[i128], cell: [u32; 3]) -> i128
 
 // a value times a weight
 fn times(value: i128, weight: u64) -> i128
-    requires value_most { IsAtMost value (2 ^ 44) }
+    requires value_most { IsAtMost value most_force }
     requires weight_most { weight ≤ 2 ^ 42 }
     ensures value { result ≡ value *ℤ pos weight }
     ensures size { IsAtMost result (2 ^ 86) }
@@ -130,14 +131,14 @@ fn place(
     point: [u32; 3],
     cell: [u32; 3],
 ) -> i128
-    requires side_most { side ≤ 2 ^ 14 }
-    requires x_most { slice_index cells 0 ≤ 64 }
-    requires y_most { slice_index cells 1 ≤ 64 }
-    requires z_most { slice_index cells 2 ≤ 64 }
-    requires values_most { All (λ v. IsAtMost v (2 ^ 44)) values.now }
-    requires x_inside { slice_index cell 0 ≤ 64 }
-    requires y_inside { slice_index cell 1 ≤ 64 }
-    requires z_inside { slice_index cell 2 ≤ 64 }
+    requires side_most { side ≤ most_side }
+    requires x_most { slice_index cells 0 ≤ most_cells_of_axis }
+    requires y_most { slice_index cells 1 ≤ most_cells_of_axis }
+    requires z_most { slice_index cells 2 ≤ most_cells_of_axis }
+    requires values_most { All (λ v. IsAtMost v most_force) values.now }
+    requires x_inside { slice_index cell 0 ≤ most_cells_of_axis }
+    requires y_inside { slice_index cell 1 ≤ most_cells_of_axis }
+    requires z_inside { slice_index cell 2 ≤ most_cells_of_axis }
     ensures value { result ≡ weighted side (triple cells) (triple offset) (listed (triple cells) values.now) (triple point) (triple cell) }
     ensures size { IsAtMost result (2 ^ 86) }
 {
@@ -156,15 +157,15 @@ fn row(
     y: u32,
     z: u32,
 ) -> i128
-    requires side_most { side ≤ 2 ^ 14 }
-    requires x_most { slice_index cells 0 ≤ 64 }
-    requires y_most { slice_index cells 1 ≤ 64 }
-    requires z_most { slice_index cells 2 ≤ 64 }
-    requires values_most { All (λ v. IsAtMost v (2 ^ 44)) values.now }
-    requires y_inside { y ≤ 64 }
-    requires z_inside { z ≤ 64 }
+    requires side_most { side ≤ most_side }
+    requires x_most { slice_index cells 0 ≤ most_cells_of_axis }
+    requires y_most { slice_index cells 1 ≤ most_cells_of_axis }
+    requires z_most { slice_index cells 2 ≤ most_cells_of_axis }
+    requires values_most { All (λ v. IsAtMost v most_force) values.now }
+    requires y_inside { y ≤ most_cells_of_axis }
+    requires z_inside { z ≤ most_cells_of_axis }
     ensures value { result ≡ sum_below (slice_index cells 0) (λ x. weighted side (triple cells) (triple offset) (listed (triple cells) values.now) (triple point) (record { x = x; y = y; z = z })) }
-    ensures size { IsAtMost result (2 ^ 92) }
+    ensures size { IsAtMost result (2 ^ 93) }
 {
     let mut total = 0i128;
     for x in 0..cells[0] {
@@ -183,14 +184,14 @@ fn layer(
     point: [u32; 3],
     z: u32,
 ) -> i128
-    requires side_most { side ≤ 2 ^ 14 }
-    requires x_most { slice_index cells 0 ≤ 64 }
-    requires y_most { slice_index cells 1 ≤ 64 }
-    requires z_most { slice_index cells 2 ≤ 64 }
-    requires values_most { All (λ v. IsAtMost v (2 ^ 44)) values.now }
-    requires z_inside { z ≤ 64 }
+    requires side_most { side ≤ most_side }
+    requires x_most { slice_index cells 0 ≤ most_cells_of_axis }
+    requires y_most { slice_index cells 1 ≤ most_cells_of_axis }
+    requires z_most { slice_index cells 2 ≤ most_cells_of_axis }
+    requires values_most { All (λ v. IsAtMost v most_force) values.now }
+    requires z_inside { z ≤ most_cells_of_axis }
     ensures value { result ≡ sum_below (slice_index cells 1) (λ y. sum_below (slice_index cells 0) (λ x. weighted side (triple cells) (triple offset) (listed (triple cells) values.now) (triple point) (record { x = x; y = y; z = z }))) }
-    ensures size { IsAtMost result (2 ^ 98) }
+    ensures size { IsAtMost result (2 ^ 100) }
 {
     let mut total = 0i128;
     for y in 0..cells[1] {
@@ -203,13 +204,13 @@ fn layer(
 // what all places add
 #[tactic(auto, unfolding(crate::specs::Sums::sum_cells))]
 fn whole(side: u32, cells: [u32; 3], offset: [u32; 3], values: &[i128], point: [u32; 3]) -> i128
-    requires side_most { side ≤ 2 ^ 14 }
-    requires x_most { slice_index cells 0 ≤ 64 }
-    requires y_most { slice_index cells 1 ≤ 64 }
-    requires z_most { slice_index cells 2 ≤ 64 }
-    requires values_most { All (λ v. IsAtMost v (2 ^ 44)) values.now }
+    requires side_most { side ≤ most_side }
+    requires x_most { slice_index cells 0 ≤ most_cells_of_axis }
+    requires y_most { slice_index cells 1 ≤ most_cells_of_axis }
+    requires z_most { slice_index cells 2 ≤ most_cells_of_axis }
+    requires values_most { All (λ v. IsAtMost v most_force) values.now }
     ensures value { result ≡ sum_cells (triple cells) (λ p. weighted side (triple cells) (triple offset) (listed (triple cells) values.now) (triple point) p) }
-    ensures size { IsAtMost result (2 ^ 104) }
+    ensures size { IsAtMost result (2 ^ 107) }
 {
     let mut total = 0i128;
     for z in 0..cells[2] {
@@ -230,11 +231,11 @@ pub fn slow_gather(
     point: [u32; 3],
 ) -> i128
     requires side_least { 0 < side }
-    requires side_most { side ≤ 2 ^ 14 }
-    requires x_most { slice_index cells 0 ≤ 64 }
-    requires y_most { slice_index cells 1 ≤ 64 }
-    requires z_most { slice_index cells 2 ≤ 64 }
-    requires values_most { All (λ v. IsAtMost v (2 ^ 44)) values.now }
+    requires side_most { side ≤ most_side }
+    requires x_most { slice_index cells 0 ≤ most_cells_of_axis }
+    requires y_most { slice_index cells 1 ≤ most_cells_of_axis }
+    requires z_most { slice_index cells 2 ≤ most_cells_of_axis }
+    requires values_most { All (λ v. IsAtMost v most_force) values.now }
     ensures { result ≡ gathered side (triple cells) (triple offset) (listed (triple cells) values.now) (triple point) }
 {
     let sum = whole(side, cells, offset, values, point);

@@ -4,4 +4,4 @@ use Rattle.pic_grid.proofs.parts.blocks_of.Given as goal
 
 -- the blocks of the parts so far stand
 abbrev pub invariant-loop-number : goal.invariant-loop-number
-invariant-loop-number l = IsLaid l.fn.cells (triple l.fn.parts) l.number l.blocks.items
+invariant-loop-number l = IsLaid l.fn.cells.n (triple l.fn.parts) l.number l.blocks.items

@@ -7,4 +7,4 @@ use Rattle.pic_grid.proofs.parts.part_in.Goals as goal
 pub returns-then-count_in-eq1 : goal.returns-then-count_in-eq1
 returns-then-count_in-eq1 c =
     let below = index_of_below (triple c.args.parts) (part_of (triple c.args.layers) (triple c.args.cell)) c.requires.within in
-    omega (arith, below, c.count_in.ensures.value)
+    omega (arith, below, c.count_in.ensures)

@@ -8,4 +8,4 @@ use Rattle.pic_grid.proofs.slow.layer.Given as goal
 
 abbrev pub invariant-loop-y : goal.invariant-loop-y
 invariant-loop-y l =
-    IsSumOf (λ y. sum_below (slice_index l.cells 0) (λ x. weighted l.side (triple l.cells) (triple l.offset) (listed (triple l.cells) l.values) (triple l.point) (record { x = x; y = y; z = l.z }))) l.y (2 ^ 92) l.total
+    IsSumOf (λ y. sum_below (slice_index l.cells 0) (λ x. weighted l.side (triple l.cells) (triple l.offset) (listed (triple l.cells) l.values) (triple l.point) (record { x = x; y = y; z = l.z }))) l.y (2 ^ 93) l.total

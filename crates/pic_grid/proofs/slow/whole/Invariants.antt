@@ -8,4 +8,4 @@ use Rattle.pic_grid.proofs.slow.whole.Given as goal
 
 abbrev pub invariant-loop-z : goal.invariant-loop-z
 invariant-loop-z l =
-    IsSumOf (λ z. sum_below (slice_index l.cells 1) (λ y. sum_below (slice_index l.cells 0) (λ x. weighted l.side (triple l.cells) (triple l.offset) (listed (triple l.cells) l.values) (triple l.point) (record { x = x; y = y; z = z })))) l.z (2 ^ 98) l.total
+    IsSumOf (λ z. sum_below (slice_index l.cells 1) (λ y. sum_below (slice_index l.cells 0) (λ x. weighted l.side (triple l.cells) (triple l.offset) (listed (triple l.cells) l.values) (triple l.point) (record { x = x; y = y; z = z })))) l.z (2 ^ 100) l.total

@@ -2,8 +2,8 @@ use Rattle.std.proofs.Common.{◌≡◌, ◌+◌, ◌*◌, ◌<◌, ◌+ℤ◌, 
 use Rattle.std.proofs.lemmas.Int.{to_z-of_z}
 use Rattle.std.proofs.lemmas.List.{with_items_is, length-set}
 use Rattle.std.specs.Vec.{with_items}
-use mir.Syntax.{w128}
-use mir.Val.{SFits}
+use mir.Syntax.{w64, w128}
+use mir.Val.{Fits, SFits}
 use Rattle.pic_num.specs.Space.{spot, next_axis}
 use Rattle.pic_grid.specs.Cells.{count_of, place_of}
 use Rattle.pic_grid.specs.Block.{BlockValues, inner_of, edge_at}
@@ -123,6 +123,28 @@ pub bounds-values-up_both : goal.bounds-values-up_both
 bounds-values-up_both c =
     set_below _ _ _ _ (set_below _ _ _ _ (set_below _ _ _ _ (below_both (goal.at.bounds-values-up_both c).After-as_mut_slice-values)))
 
+-- an index of the values, times their size in bytes
+fits_at : (c : After-as_mut_slice-values) (i : ℕ) → i < length c.as_mut_slice-values.result.now → Fits w64 (i * 16)
+fits_at c i h = record { fits = omega (arith, h, c.as_mut_slice-values.type_inv.1) }
+
+pub offset_bounds-values-up_second : goal.offset_bounds-values-up_second
+offset_bounds-values-up_second c = let here = (goal.at.offset_bounds-values-up_second c).After-as_mut_slice-values in fits_at here _ (below_second here)
+
+pub offset_bounds-values-up_third : goal.offset_bounds-values-up_third
+offset_bounds-values-up_third c = let here = (goal.at.offset_bounds-values-up_third c).After-as_mut_slice-values in fits_at here _ (below_third here)
+
+pub offset_bounds-values-up_both : goal.offset_bounds-values-up_both
+offset_bounds-values-up_both c = let here = (goal.at.offset_bounds-values-up_both c).After-as_mut_slice-values in fits_at here _ (below_both here)
+
+pub offset_bounds-values-up_second-2 : goal.offset_bounds-values-up_second-2
+offset_bounds-values-up_second-2 c = let here = (goal.at.offset_bounds-values-up_second-2 c).After-as_mut_slice-values in fits_at here _ (below_second here)
+
+pub offset_bounds-values-up_third-2 : goal.offset_bounds-values-up_third-2
+offset_bounds-values-up_third-2 c = let here = (goal.at.offset_bounds-values-up_third-2 c).After-as_mut_slice-values in fits_at here _ (below_third here)
+
+pub offset_bounds-values-up_both-2 : goal.offset_bounds-values-up_both-2
+offset_bounds-values-up_both-2 c = let here = (goal.at.offset_bounds-values-up_both-2 c).After-as_mut_slice-values in fits_at here _ (below_both here)
+
 -- the values with four of them changed
 abbrev written : List ℤ → ℕ → ℕ → ℕ → ℕ → ℤ → ℤ → ℤ → ℤ → List ℤ
 written xs p q r s a b c d = slice_set (slice_set (slice_set (slice_set xs p a) q b) r c) s d
@@ -152,7 +174,7 @@ items c = with_items_is c.self.inside.values (new_values c) (written_length _ _ 
 pub invariant_of-self : goal.invariant_of-self
 invariant_of-self c =
     let k = (goal.at.invariant_of-self c).After-as_mut_slice-values in
-    (c.self.invariant.0, ap length (items k) ∙ written_length _ _ _ _ _ _ _ _ _ ∙ ap length c.as_mut_slice-values.ensures.value ∙ c.self.invariant.1)
+    ap length (items k) ∙ written_length _ _ _ _ _ _ _ _ _ ∙ ap length c.as_mut_slice-values.ensures.value ∙ c.self.invariant
 
 pub returns : goal.returns
 returns c =

@@ -8,6 +8,6 @@ unfolding place_of
 returns-clause-number c =
     let place = c.args.place in
     let count = c.count-count.result in
-    (λ i. c.of_number-axis.ensures i * count_of c.args.self + c.cell_at.ensures.number i)
+    (λ i. c.of_number-axis.ensures i * count_of c.args.self.n + c.cell_at.ensures.number i)
     ∙ ap (λ (m : ℕ). place / count * m + place % count) (sym c.count-count.ensures.value)
     ∙ div-add-mod' place count

@@ -8,5 +8,5 @@ use Rattle.pic_grid.proofs.lattice.Lattice.cells.Goals as goal
 
 pub returns-clause-shape : goal.returns-clause-shape
 returns-clause-shape c =
-    let size = length-values_of c.self.inside.cells (value_in c.self.inside.cells (triple c.self.inside.parts) c.self.inside.blocks.items) in
+    let size = length-values_of c.self.inside.cells.n (value_in c.self.inside.cells.n (triple c.self.inside.parts) c.self.inside.blocks.items) in
     subst (λ (f : Field). length f.values ≡ 3 * count_of f.cells) c.self.view_is size
