@@ -1,14 +1,11 @@
 -- What a deck and a dump say of each species, and its limits: this project's profile.
-use Rattle.std.specs.Prelude.{◌≡◌, ℕ, pos, negsuc, ◌<◌, ◌≤◌, ◌≤ℤ◌, Bool, ◌&&◌, ◌||◌, ◌==◌, nat_le, IsTrue, List, [], length, sum_by, slice_index_or}
+use Rattle.std.specs.Prelude.{◌≡◌, ℕ, pos, negsuc, ◌<◌, ◌≤◌, ◌≤ℤ◌, IsTrue, List, [], length, sum_by, slice_index_or}
 use Rattle.std.specs.List.{list_all}
 use Rattle.pic_num.specs.declared.motion.Kind.{Kind}
 use Rattle.pic_num.specs.Limits.{most_mass, most_species, most_particles_1}
+pub use Rattle.pic_num.specs.Names.{is_name_byte}
 
--- a letter A to Z or a to z, a digit or `_`
-abbrev pub is_name_byte : ℕ → Bool
-is_name_byte b = (nat_le 48 b && nat_le b 57) || (nat_le 65 b && nat_le b 90) || (nat_le 97 b && nat_le b 122) || b == 95
-
--- a name has 1 to 32 such bytes
+-- a name has 1 to 32 bytes, each a letter, a digit or `_`
 pub record IsName (name : List ℕ) : Type 0 where
   pub least : 1 ≤ length name
   pub most : length name ≤ 32

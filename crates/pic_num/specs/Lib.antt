@@ -9,3 +9,4 @@ pub mod Push
 pub mod Flux
 pub mod Bytes
 pub mod Velocity
+pub mod Names

@@ -1,0 +1,41 @@
+//! The bytes of names.
+
+ghost use Rattle.std.specs.Prelude.{◌≡◌};
+ghost use Rattle.std.specs.List.{list_all};
+ghost use Rattle.pic_num.specs.Names.{is_name_byte};
+
+fn is_name_byte(byte: u8) -> bool
+    ensures { result ≡ is_name_byte byte }
+{
+    (48 <= byte && byte <= 57)
+        || (65 <= byte && byte <= 90)
+        || (97 <= byte && byte <= 122)
+        || byte == 95
+}
+
+/// Whether each of some bytes may stand in a name: a letter A to Z or a to z, a digit or `_`.
+pub fn are_name_bytes(bytes: &[u8]) -> bool
+    ensures { result ≡ list_all is_name_byte bytes.now }
+{
+    bytes.iter().all(|byte| is_name_byte(*byte))
+}
+
+#[cfg(test)]
+mod tests {
+    use super::*;
+
+    #[test]
+    fn letters_digits_and_a_line_are_name_bytes(rt: HostRuntime) {
+        let cases = [
+            ("AZ_az09", true),
+            ("", true),
+            ("e-", false),
+            ("a b", false),
+            ("@", false),
+            ("é", false),
+        ];
+        for (text, good) in cases {
+            assert_eq!(rt; are_name_bytes(text.as_bytes()), good, "{text}");
+        }
+    }
+}
