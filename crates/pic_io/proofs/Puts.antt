@@ -1,11 +1,7 @@
 -- Puts, one after another, on one sink and on two.
-use Rattle.std.proofs.Common.{◌≡◌, ℕ, ◌+◌, ◌<◌, ◌≤◌, List, [], ◌∷◌, ◌++◌, length, get_or, take, drop, replicate, Option, Some, None, Result, Ok, Err, inl, inr, refl, ap, sym, subst, ◌∙◌, append_assoc, append-nil, arith, take-append-drop}
-use Rattle.std.specs.Prelude.{IsOk, flat_map}
-use Rattle.std.proofs.lemmas.List.{take_more, take-replicate, get_or-replicate, length-replicate, replicate-append-replicate}
-use Rattle.std.proofs.lemmas.Grind.{flat_map-append}
-use Rattle.std.proofs.Math.Nat.{le_trans}
-use Rattle.std.proofs.Math.Seq.{take-add, take-append_seam, drop-append_seam, take-length}
-use Rattle.pic_io.specs.Told.{Told, raised, Rose, Calm, Quiet, HasCause}
+use Rattle.std.proofs.Common.{◌≡◌, ℕ, ◌+◌, ◌≤◌, List, [], ◌∷◌, ◌++◌, length, take, drop, Option, Some, None, Result, Ok, Err, inl, inr, refl, ap, sym, subst, ◌∙◌, append_assoc, append-nil, take-append-drop}
+use Rattle.std.proofs.Math.Seq.{take-add, take-append_seam, drop-append_seam}
+use Rattle.pic_io.specs.Told.{Told, raised, Rose, Calm}
 use Rattle.pic_io.specs.Sink.{with_back, Appended, AppendedFront, Puts}
 use Rattle.pic_io.specs.Sinks.{Sinks, sinks, Wrote, FailedAt, Piece, outs, lines, Front, CutAt, Writes, LineCut, WritesLine}
 use Rattle.pic_io.specs.declared.side.Side.{Side}
@@ -22,14 +18,6 @@ with_back_nil (Some bytes) = ap (λ b. Some b) (sym (append-nil bytes))
 -- a sink that was left alone
 pub appended_none : (a : Told) → Appended a a []
 appended_none a = with_back_nil a.bytes
-
--- a front may be empty
-pub front_none : (a : Told) (x : List ℕ) → AppendedFront a a x
-front_none a x = (0, with_back_nil a.bytes)
-
--- a whole text is a front of itself
-pub front_of_whole : (a b : Told) (x : List ℕ) → Appended a b x → AppendedFront a b x
-front_of_whole a b x put = (length x, put ∙ ap (λ t. with_back a.bytes t) (sym (take-length x)))
 
 pub appended_twice : (a b c : Told) (x y : List ℕ) → Appended a b x → Appended b c y → Appended a c (x ++ y)
 appended_twice a b c x y first second =
@@ -65,74 +53,6 @@ pub puts_after : {T E : Type 0} (a b c : Told) (x y : List ℕ) (result : Result
 puts_after a b c x y (Ok _) first second = appended_twice a b c x y first second
 puts_after a b c x y (Err _) first second = front_after a b c x y first second
 
--- a call after one that left the count as it was
-pub cause_after : {T E : Type 0} (a b c : Told) (result : Result T E) → Calm a b → HasCause b c result → HasCause a c result
-cause_after a b c (Ok v) calm cause = record { later = omega (arith, cause.later); ok = cause.ok ∙ calm; err = cause.err }
-cause_after a b c (Err e) calm cause = record { later = omega (arith, cause.later); ok = cause.ok; err = subst (λ n. raised n ≤ c.faults) calm cause.err }
-
--- where no fault can be blamed, a call answers Ok
-pub ok_where_quiet : {T E : Type 0} (a b : Told) (result : Result T E) → HasCause a b result → Quiet a b → IsOk result
-ok_where_quiet a b (Ok v) cause quiet = refl
-ok_where_quiet a b (Err e) cause quiet = absurd (quiet cause.err)
-
--- where no fault can be blamed in the end, none could be before
-pub quiet_before : (a b c : Told) → b.faults ≤ c.faults → Quiet a c → Quiet a b
-quiet_before a b c later quiet rose = quiet (le_trans rose later)
-
--- where no fault can be blamed since the start, none can be since a calm part of it
-pub quiet_after : (a b c : Told) → Calm a b → Quiet a c → Quiet b c
-quiet_after a b c calm quiet rose = quiet (subst (λ n. raised n ≤ c.faults) calm rose)
-
--- the text of a list of pieces, one piece further
-flat_map-more : {A : Type 0} (f : A → List ℕ) (xs : List A) (i : ℕ) (d : A) → i < length xs
-    → flat_map f (take (i + 1) xs) ≡ flat_map f (take i xs) ++ f (get_or xs i d)
-flat_map-more f xs i d below =
-    let piece = get_or xs i d in
-    ap (flat_map f) (take_more xs i d below)
-    ∙ flat_map-append f (take i xs) (piece ∷ [])
-    ∙ ap (λ l. flat_map f (take i xs) ++ l) (append-nil (f piece))
-
--- the text of a list of pieces, in two parts
-flat_map-parts : {A : Type 0} (f : A → List ℕ) (xs : List A) (i : ℕ) → flat_map f xs ≡ flat_map f (take i xs) ++ flat_map f (drop i xs)
-flat_map-parts f xs i = ap (flat_map f) (sym (take-append-drop i xs)) ∙ flat_map-append f (take i xs) (drop i xs)
-
--- one more of a list of pieces
-pub pieces_more : {A : Type 0} (f : A → List ℕ) (xs : List A) (i : ℕ) (d : A) (a b c : Told) → i < length xs
-    → Appended a b (flat_map f (take i xs)) → Appended b c (f (get_or xs i d)) → Appended a c (flat_map f (take (i + 1) xs))
-pieces_more f xs i d a b c below first second =
-    appended_twice a b c (flat_map f (take i xs)) (f (get_or xs i d)) first second
-    ∙ ap (λ t. with_back a.bytes t) (sym (flat_map-more f xs i d below))
-
--- a list of pieces, cut in one of them
-pub front_of_pieces : {A : Type 0} (f : A → List ℕ) (xs : List A) (i : ℕ) (d : A) (a b c : Told) → i < length xs
-    → Appended a b (flat_map f (take i xs)) → AppendedFront b c (f (get_or xs i d)) → AppendedFront a c (flat_map f xs)
-front_of_pieces f xs i d a b c below first second =
-    let done = flat_map f (take i xs) in
-    let piece = f (get_or xs i d) in
-    let rest = flat_map f (drop (i + 1) xs) in
-    let whole : (done ++ piece) ++ rest ≡ flat_map f xs =
-    ap (λ l. l ++ rest) (sym (flat_map-more f xs i d below)) ∙ sym (flat_map-parts f xs (i + 1)) in
-    subst (AppendedFront a c) whole (front_of_more a c (done ++ piece) rest (front_after a b c done piece first second))
-
--- one more of copies of one piece
-pub copies_more : {A : Type 0} (f : A → List ℕ) (i : ℕ) (x : A) (a b c : Told)
-    → Appended a b (flat_map f (replicate i x)) → Appended b c (f x) → Appended a c (flat_map f (replicate (i + 1) x))
-copies_more f i x a b c first second =
-    let more : flat_map f (replicate i x) ++ f x ≡ flat_map f (replicate (i + 1) x) =
-    ap (λ l. flat_map f (replicate i x) ++ l) (sym (append-nil (f x)))
-    ∙ sym (flat_map-append f (replicate i x) (x ∷ []))
-    ∙ ap (flat_map f) (replicate-append-replicate i 1 x) in
-    appended_twice a b c (flat_map f (replicate i x)) (f x) first second ∙ ap (λ t. with_back a.bytes t) more
-
--- copies of one piece, cut in one of them
-pub front_of_copies : {A : Type 0} (f : A → List ℕ) (n i : ℕ) (x : A) (a b c : Told) → i < n
-    → Appended a b (flat_map f (replicate i x)) → AppendedFront b c (f x) → AppendedFront a c (flat_map f (replicate n x))
-front_of_copies f n i x a b c below first second =
-    let below' : i < length (replicate n x) = rw (length-replicate n x) below in
-    let first' = subst (λ l. Appended a b (flat_map f l)) (sym (take-replicate i n x (omega arith))) first in
-    let second' = subst (λ l. AppendedFront b c (f l)) (sym (get_or-replicate n i x x below)) second in
-    front_of_pieces f (replicate n x) i x a b c below' first' second'
-
 -- both sinks as they were
 pub wrote_none : (a : Sinks) → Wrote a a [] []
 wrote_none a = record { out = appended_none a.out; report = appended_none a.report; calm_out = refl; calm_report = refl }
@@ -148,10 +68,6 @@ wrote_twice a b c x r y s first second = record {
 -- a text put on out, whole
 pub wrote_out : (o p r : Told) (x : List ℕ) → Appended o p x → Calm o p → Wrote (sinks o r) (sinks p r) x []
 wrote_out o p r x put calm = record { out = put; report = appended_none r; calm_out = calm; calm_report = refl }
-
--- a line put on the report, whole
-pub wrote_report : (o r s : Told) (x : List ℕ) → Appended r s x → Calm r s → Wrote (sinks o r) (sinks o s) [] x
-wrote_report o r s x put calm = record { out = appended_none o; report = put; calm_out = refl; calm_report = calm }
 
 -- a put that failed after texts that stand failed since their start
 failed_after : (side : Side) (a b c : Sinks) → Calm a.out b.out → Calm a.report b.report → FailedAt side b c → FailedAt side a c
