@@ -3,10 +3,9 @@ use Rattle.std.proofs.Common.{◌≡◌, ℕ, ℤ, None, sym, ◌∙◌, subst}
 use Rattle.pic_num.specs.declared.axis.Axis.{Axis}
 use Rattle.pic_num.specs.Multiplier.{Multiplier}
 use Rattle.pic_num.specs.Sizes.{IsAtMost}
-use Rattle.pic_num.specs.Space.{Triple}
+use Rattle.pic_num.specs.Space.{Triple, unwrapped}
 use Rattle.pic_grid.specs.declared.stop.Phase.{Phase}
 use Rattle.pic_grid.specs.Cells.{IsWithin}
-use Rattle.pic_grid.specs.Parts.{spot_of}
 use Rattle.pic_grid.specs.Block.{BlockValues, IsAmongCells, IsShaped, AllAtMost, inner_at, edge_at, outer_of}
 use Rattle.pic_field.specs.FieldPhases.{lowest, least_fault, IsBounded}
 use Rattle.pic_field.specs.LeastStop.{EachBounded}
@@ -19,7 +18,7 @@ use Rattle.pic_field.proofs.ZoneLaws.{edge_at-outer, outer_inside}
 pub all_small : (most : ℕ) (P : Axis → Triple → Type 0) (b : BlockValues) (n : Triple) → IsAmongCells b.low b.size n → AllAtMost most b → AreSmall most P b
 all_small most P b n among all = record {
   at_most = λ a p w here.
-      subst (λ (z : ℤ). IsAtMost z most) (edge_at-outer b n a p among) (all.at_most a (spot_of (outer_of b.low p)) (outer_inside b.low b.size n p among w));
+      subst (λ (z : ℤ). IsAtMost z most) (edge_at-outer b n a p among) (all.at_most a (unwrapped (outer_of b.low p)) (outer_inside b.low b.size n p among w));
 }
 
 module _ (phase : Phase) (by : Multiplier) (f : Axis → Triple → ℤ) (old new : BlockValues) (n : Triple) (among : IsAmongCells old.low old.size n)
@@ -35,10 +34,10 @@ module _ (phase : Phase) (by : Multiplier) (f : Axis → Triple → ℤ) (old ne
         } in
         (least_stop phase by (lowest old.low) old.size f).0.1 each
 
-    pub new_stop : least_fault phase by (lowest new.low) new.size (λ a p. edge_at new a (spot_of p)) ≡ least_fault phase by (lowest old.low) old.size f
+    pub new_stop : least_fault phase by (lowest new.low) new.size (λ a p. edge_at new a (unwrapped p)) ≡ least_fault phase by (lowest old.low) old.size f
     new_stop =
-        (λ i. least_fault phase by (lowest (shaped.low i)) (shaped.size i) (λ a p. edge_at new a (spot_of p)))
-        ∙ least_fault-same phase by (lowest old.low) old.size (λ a p. edge_at new a (spot_of p)) f (λ a p w.
-        (λ i. edge_at new a (spot_of (outer_of (sym shaped.low i) p)))
+        (λ i. least_fault phase by (lowest (shaped.low i)) (shaped.size i) (λ a p. edge_at new a (unwrapped p)))
+        ∙ least_fault-same phase by (lowest old.low) old.size (λ a p. edge_at new a (unwrapped p)) f (λ a p w.
+        (λ i. edge_at new a (unwrapped (outer_of (sym shaped.low i) p)))
         ∙ edge_at-outer new n a p (subst (λ (d : BlockValues). IsAmongCells d.low d.size n) (λ i. record { low = sym shaped.low i; size = sym shaped.size i; values = new.values }) among)
         ∙ values a p w)

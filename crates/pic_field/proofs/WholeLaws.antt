@@ -10,14 +10,14 @@ use Rattle.pic_num.specs.Multiplier.{Multiplier}
 use Rattle.pic_num.specs.Push.{unless}
 use Rattle.pic_num.specs.Rounding.{scaled}
 use Rattle.pic_num.specs.Sizes.{IsAtMost}
-use Rattle.pic_num.specs.Space.{Triple, Spot}
+use Rattle.pic_num.specs.Space.{Triple, Spot, unwrapped}
 use Rattle.pic_num.proofs.FirstLaws.{first_of_same}
 use Rattle.pic_grid.specs.declared.stop.Phase.{Phase}
 use Rattle.pic_grid.specs.declared.stop.Phase.TheVariants.{Electric}
 use Rattle.pic_grid.specs.declared.stop.Stop.{Stop}
 use Rattle.pic_grid.specs.Lattice.{Field, EachAtMost, value_at, field_of}
 use Rattle.pic_grid.specs.Gather.{force_of}
-use Rattle.pic_grid.specs.Parts.{spot_of, one_part, origin, part_size, part_of, corner_of, IsPart, no_block, ArePartsOf, value_in, joined}
+use Rattle.pic_grid.specs.Parts.{one_part, origin, part_size, part_of, corner_of, IsPart, no_block, ArePartsOf, value_in, joined}
 use Rattle.pic_grid.specs.Cells.{IsWithin, count_of, index_of, cell_of, axis_of}
 use Rattle.pic_grid.specs.Block.{BlockValues, InZone, IsAmongCells, IsShaped, AllAtMost, inner_of, edge_at, inner_at, outer_of}
 use Rattle.pic_grid.proofs.LatticeLaws.{is_field_of, length-values_of}
@@ -30,13 +30,13 @@ use Rattle.pic_field.specs.FieldPhases.{half_of, half_in, full_of, full_in, lowe
 
 -- the block lies over all n cells
 pub record IsWhole (n : Triple) (b : BlockValues) : Type 0 where
-  pub low : b.low ≡ spot_of origin
+  pub low : b.low ≡ unwrapped origin
   pub size : b.size ≡ n
 
 whole_size : (n : Triple) → part_size n one_part ≡ n
 whole_size n = λ i. record { x = div-one n.x i; y = div-one n.y i; z = div-one n.z i }
 
-whole_corner : (s : Triple) → corner_of s (cell_of one_part 0) ≡ spot_of origin
+whole_corner : (s : Triple) → corner_of s (cell_of one_part 0) ≡ unwrapped origin
 whole_corner s =
     let x : 0 * s.x ≡ 0 = omega arith in
     let y : 0 * s.y ≡ 0 = omega arith in
@@ -78,7 +78,7 @@ whole_shaped n b c whole shaped = record { low = shaped.low ∙ whole.low; size 
 -- it lies among the cells
 pub whole_among : (n : Triple) (b : BlockValues) → IsWhole n b → IsAmongCells b.low b.size n
 whole_among n b whole =
-    let here : IsAmongCells (spot_of origin) n n = record {
+    let here : IsAmongCells (unwrapped origin) n n = record {
       x_low = omega (arith, ints);
       x_high = omega arith;
       y_low = omega (arith, ints);
@@ -86,9 +86,9 @@ whole_among n b whole =
       z_low = omega (arith, ints);
       z_high = omega arith;
     } in
-    subst (λ (l : Spot). IsAmongCells l b.size n) (sym whole.low) (subst (λ (s : Triple). IsAmongCells (spot_of origin) s n) (sym whole.size) here)
+    subst (λ (l : Spot). IsAmongCells l b.size n) (sym whole.low) (subst (λ (s : Triple). IsAmongCells (unwrapped origin) s n) (sym whole.size) here)
 
-from_origin : (p : Triple) → inner_of (spot_of origin) (spot_of p) ≡ p
+from_origin : (p : Triple) → inner_of (unwrapped origin) (unwrapped p) ≡ p
 from_origin p =
     let x : unsigned_abs (pos p.x -ℤ pos 0) ≡ p.x = omega (arith, ints) in
     let y : unsigned_abs (pos p.y -ℤ pos 0) ≡ p.y = omega (arith, ints) in
@@ -106,9 +106,9 @@ whole_outer : (n : Triple) (b : BlockValues) (p : Triple) → IsWhole n b → ou
 whole_outer n b p whole = ap (λ (l : Spot). outer_of l p) whole.low ∙ above_origin p
 
 -- the component at a cell of the grid
-pub whole_edge : (n : Triple) (b : BlockValues) (a : Axis) (p : Triple) → IsWhole n b → edge_at b a (spot_of p) ≡ inner_at b a p
+pub whole_edge : (n : Triple) (b : BlockValues) (a : Axis) (p : Triple) → IsWhole n b → edge_at b a (unwrapped p) ≡ inner_at b a p
 whole_edge n b a p whole =
-    ap (λ (l : Spot). inner_at b a (inner_of l (spot_of p))) whole.low ∙ ap (λ (q : Triple). inner_at b a q) (from_origin p)
+    ap (λ (l : Spot). inner_at b a (inner_of l (unwrapped p))) whole.low ∙ ap (λ (q : Triple). inner_at b a q) (from_origin p)
 
 one_number : (n p : Triple) → IsWithin p n → index_of one_part (part_of (part_size n one_part) p) ≡ 0
 one_number n p w =
@@ -128,7 +128,7 @@ pub value_at-whole : (n : Triple) (b : BlockValues) (a : Axis) (p : Triple) → 
     → value_at (joined n one_part (b ∷ [])) a p ≡ inner_at b a p
 value_at-whole n b a p whole w =
     value_at-joined n one_part (b ∷ []) a p w
-    ∙ ap (λ (k : ℕ). edge_at (slice_index_or (b ∷ []) k no_block) a (spot_of p)) (one_number n p w)
+    ∙ ap (λ (k : ℕ). edge_at (slice_index_or (b ∷ []) k no_block) a (unwrapped p)) (one_number n p w)
     ∙ whole_edge n b a p whole
 
 -- a lattice of one block is given by the block's values
@@ -138,10 +138,10 @@ whole_is n g b whole values =
     is_field_of n one_part g (joined n one_part (b ∷ [])) refl refl (length-values_of n (value_in n one_part (b ∷ [])))
     (λ a p w. value_at-whole n b a p whole w ∙ values a p w)
 
-whole_inside : (n : Triple) (b : BlockValues) (p : Triple) → IsWhole n b → IsWithin p n → InZone b.low b.size (spot_of p)
+whole_inside : (n : Triple) (b : BlockValues) (p : Triple) → IsWhole n b → IsWithin p n → InZone b.low b.size (unwrapped p)
 whole_inside n b p whole w =
     let inner : IsWithin p b.size = subst (λ (s : Triple). IsWithin p s) (sym whole.size) w in
-    subst (λ (q : Triple). InZone b.low b.size (spot_of q)) (whole_outer n b p whole) (outer_inside b.low b.size n p (whole_among n b whole) inner)
+    subst (λ (q : Triple). InZone b.low b.size (unwrapped q)) (whole_outer n b p whole) (outer_inside b.low b.size n p (whole_among n b whole) inner)
 
 -- the sizes of the lattice's values are those of the block's,
 pub whole_small : (most : ℕ) (n : Triple) (b : BlockValues) → IsWhole n b → EachAtMost most (joined n one_part (b ∷ [])) → AllAtMost most b
@@ -156,7 +156,7 @@ whole_small most n b whole small = record {
 pub whole_bounded : (by : Multiplier) (n : Triple) (b : BlockValues) → IsWhole n b → AllBounded by b
     → (a : Axis) (p : Triple) → IsWithin p n → IsBounded by (value_at (joined n one_part (b ∷ [])) a p)
 whole_bounded by n b whole all a p w =
-    subst (IsBounded by) (whole_edge n b a p whole ∙ sym (value_at-whole n b a p whole w)) (all.bounded a (spot_of p) (whole_inside n b p whole w))
+    subst (IsBounded by) (whole_edge n b a p whole ∙ sym (value_at-whole n b a p whole w)) (all.bounded a (unwrapped p) (whole_inside n b p whole w))
 
 pub whole_each : (by : Multiplier) (n : Triple) (b : BlockValues) → IsWhole n b → AllBounded by b → EachAtMost (2 ^ 90) (joined n one_part (b ∷ []))
 whole_each by n b whole all = record { at_most = λ a p w. (whole_bounded by n b whole all a p w).value }

@@ -10,14 +10,13 @@ use Rattle.pic_num.specs.First.{first_of}
 use Rattle.pic_num.specs.Multiplier.{Multiplier}
 use Rattle.pic_num.specs.Rounding.{scaled}
 use Rattle.pic_num.specs.Sizes.{IsAtMost}
-use Rattle.pic_num.specs.Space.{Triple, Spot}
+use Rattle.pic_num.specs.Space.{Triple, Spot, unwrapped}
 use Rattle.pic_grid.specs.declared.stop.Bound.TheVariants.{Value, Force}
 use Rattle.pic_grid.specs.declared.stop.Phase.{Phase}
 use Rattle.pic_grid.specs.declared.stop.Stop.{Stop}
 use Rattle.pic_grid.specs.declared.stop.Stop.TheVariants.{Field as field_stop}
 use Rattle.pic_grid.specs.Differences.{curl_b, curl_e}
 use Rattle.pic_grid.specs.Lattice.{Field, value_at}
-use Rattle.pic_grid.specs.Parts.{spot_of}
 use Rattle.pic_grid.specs.Cells.{count_of, cell_of, axis_of}
 use Rattle.pic_grid.specs.Block.{BlockValues, InZone, edge_at}
 
@@ -33,12 +32,12 @@ full_of scales b a p v j =
 
 -- the values of a block after half a step of B, by axis and cell of the grid
 abbrev pub half_in : Scales → Field → BlockValues → Axis → Triple → ℤ
-half_in scales e old a p = half_of scales e a p (edge_at old a (spot_of p))
+half_in scales e old a p = half_of scales e a p (edge_at old a (unwrapped p))
 
 -- the values of a block after a step of E, by axis and cell of the grid
 abbrev pub full_in : Scales → Field → BlockValues → BlockValues → Axis → Triple → ℤ
 full_in scales b j old a p =
-    full_of scales b a p (edge_at old a (spot_of p)) (edge_at j a (spot_of p))
+    full_of scales b a p (edge_at old a (unwrapped p)) (edge_at j a (unwrapped p))
 
 -- what stops a phase at a new value v: it is above 2^90 in size, else its force value is above
 -- 2^44. The stop names the number that is too large.

@@ -3,9 +3,8 @@
 ghost use Rattle.std.specs.Prelude.{◌≡◌, ℤ};
 ghost use Rattle.pic_num.specs.Push.{unless};
 ghost use Rattle.pic_num.specs.Sizes.{IsAtMost};
-ghost use Rattle.pic_num.specs.Space.{triple};
+ghost use Rattle.pic_num.specs.Space.{triple, unwrapped};
 ghost use Rattle.pic_grid.specs.Block.{IsAmongCells, edge_at};
-ghost use Rattle.pic_grid.specs.Parts.{spot_of};
 ghost use Rattle.pic_field.specs.FieldPhases.{fault_of, lowest, least_fault, IsBounded};
 
 use crate::place::{Place, cell_in, place_count};
@@ -66,7 +65,7 @@ pub(crate) fn safe_most(by: Mult) -> u128
 pub(crate) fn stop_in(phase: Phase, by: Mult, cells: Cells, b: &Block) -> Result<(), Stop>
     requires among { IsAmongCells b.now.low b.now.size cells }
     ensures { result ≡ unless (least_fault phase by (lowest b.now.low) b.now.size
-        (λ a p. edge_at b.now a (spot_of p))) tt }
+        (λ a p. edge_at b.now a (unwrapped p))) tt }
 {
     let zone = b.zone();
     let mut stop = None;

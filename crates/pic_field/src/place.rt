@@ -1,8 +1,7 @@
 //! The places of a block in their order.
 
 ghost use Rattle.std.specs.Prelude.{◌≡◌, ◌+◌, ◌*◌, ◌<◌};
-ghost use Rattle.pic_num.specs.Space.{triple, spot, axis_number};
-ghost use Rattle.pic_grid.specs.Parts.{spot_of};
+ghost use Rattle.pic_num.specs.Space.{triple, spot, axis_number, unwrapped};
 ghost use Rattle.pic_grid.specs.Cells.{IsSize, IsWithin, count_of, place_of};
 ghost use Rattle.pic_grid.specs.Block.{InZone, IsAmongCells, outer_of};
 
@@ -74,7 +73,7 @@ pub(crate) fn cell_in(cells: Cells, zone: Zone, inner: [u32; 3]) -> [u32; 3]
     requires within { IsWithin (triple inner) (triple zone.size) }
     ensures value { triple result ≡ outer_of (spot zone.low) (triple inner) }
     ensures within { IsWithin (triple result) cells }
-    ensures inside { InZone (spot zone.low) (triple zone.size) (spot_of (triple result)) }
+    ensures inside { InZone (spot zone.low) (triple zone.size) (unwrapped (triple result)) }
 {
     let [_, _, _] = cells.n;
     let [low_x, low_y, low_z] = zone.low;

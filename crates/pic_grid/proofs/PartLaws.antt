@@ -12,12 +12,12 @@ use Rattle.std.proofs.Math.Seq.{get_or-append_seam}
 use borrow.Author.Count.{below_more}
 use Rattle.pic_num.specs.Limits.{most_cells, most_cells_of_axis}
 use Rattle.pic_num.specs.declared.axis.Axis.{Axis}
-use Rattle.pic_num.specs.Space.{Triple, Spot}
+use Rattle.pic_num.specs.Space.{Triple, Spot, unwrapped}
 use Rattle.pic_num.proofs.SizeLaws.{times_at_most}
 use Rattle.pic_grid.specs.Cells.{Grid, IsCells, IsSize, IsWithin, count_of, index_of, cell_of, place_of}
 use Rattle.pic_grid.specs.Lattice.{IsParts, value_at, with_value, values_of}
 use Rattle.pic_grid.specs.Block.{BlockValues, InZone, inner_of, edge_at, with_edge}
-use Rattle.pic_grid.specs.Parts.{spot_of, part_size, part_of, corner_of, IsPart, no_block, ArePartsOf, IsLattice, value_in, joined}
+use Rattle.pic_grid.specs.Parts.{part_size, part_of, corner_of, IsPart, no_block, ArePartsOf, IsLattice, value_in, joined}
 use Rattle.pic_grid.proofs.CellLaws.{index_of_below, cell_of-index_of, place_of_below}
 use Rattle.pic_grid.proofs.LatticeLaws.{value_at-field_of, length-values_of, same_values}
 use Rattle.pic_grid.proofs.BlockLaws.{edge_same, edge_at-other}
@@ -93,7 +93,7 @@ high_end p s h =
     let rest : p % s < s = mod_below p s (omega arith) in
     omega (arith, ints, div-add-mod' p s)
 
-in_part : (s p : Triple) → IsSize s → InZone (corner_of s (part_of s p)) s (spot_of p)
+in_part : (s p : Triple) → IsSize s → InZone (corner_of s (part_of s p)) s (unwrapped p)
 in_part s p h = record {
   x_low = low_end p.x s.x;
   x_high = high_end p.x s.x h.x_least;
@@ -112,16 +112,16 @@ block_of n parts blocks p = slice_index_or blocks (number_of n parts p) no_block
 
 -- a cell lies in the block of its part
 pub block_has : (n parts : Triple) (blocks : List BlockValues) (p : Triple) → IsCells n → IsParts n parts → ArePartsOf n parts blocks → IsWithin p n
-    → InZone (block_of n parts blocks p).low (block_of n parts blocks p).size (spot_of p)
+    → InZone (block_of n parts blocks p).low (block_of n parts blocks p).size (unwrapped p)
 block_has n parts blocks p h k are w =
     let s = part_size n parts in
     let among : IsWithin (part_of s p) parts = part_of_within n parts p h k w in
     let zone : IsPart s (cell_of parts (number_of n parts p)) (block_of n parts blocks p) = are.zones (number_of n parts p) (index_of_below parts (part_of s p) among) in
     let number : cell_of parts (number_of n parts p) ≡ part_of s p = cell_of-index_of parts (part_of s p) among in
     let low : (block_of n parts blocks p).low ≡ corner_of s (part_of s p) = zone.low ∙ ap (corner_of s) number in
-    let inside : InZone (corner_of s (part_of s p)) s (spot_of p) = in_part s p (part_size_limits n parts h k) in
-    let sized : InZone (corner_of s (part_of s p)) (block_of n parts blocks p).size (spot_of p) = subst (λ (m : Triple). InZone (corner_of s (part_of s p)) m (spot_of p)) (sym zone.size) inside in
-    subst (λ (l : Spot). InZone l (block_of n parts blocks p).size (spot_of p)) (sym low) sized
+    let inside : InZone (corner_of s (part_of s p)) s (unwrapped p) = in_part s p (part_size_limits n parts h k) in
+    let sized : InZone (corner_of s (part_of s p)) (block_of n parts blocks p).size (unwrapped p) = subst (λ (m : Triple). InZone (corner_of s (part_of s p)) m (unwrapped p)) (sym zone.size) inside in
+    subst (λ (l : Spot). InZone l (block_of n parts blocks p).size (unwrapped p)) (sym low) sized
 
 pub number_below : (n parts : Triple) (blocks : List BlockValues) (p : Triple) → IsCells n → IsParts n parts → ArePartsOf n parts blocks → IsWithin p n
     → number_of n parts p < length blocks
@@ -132,50 +132,50 @@ number_below n parts blocks p h k are w =
 
 -- a component of the lattice is that of the block of its part
 pub value_at-joined : (grid : Grid) (parts : Triple) (blocks : List BlockValues) (a : Axis) (p : Triple) → IsWithin p grid.n
-    → value_at (joined grid parts blocks) a p ≡ edge_at (block_of grid.n parts blocks p) a (spot_of p)
+    → value_at (joined grid parts blocks) a p ≡ edge_at (block_of grid.n parts blocks p) a (unwrapped p)
 unfolding value_in
 value_at-joined grid parts blocks a p w = value_at-field_of grid.side grid.n parts (value_in grid.n parts blocks) a p w
 
 -- the same of the list of values
 values_of-joined : (n parts : Triple) (blocks : List BlockValues) (a : Axis) (p : Triple) → IsWithin p n
-    → slice_index_or (values_of n (value_in n parts blocks)) (place_of n a p) (pos 0) ≡ edge_at (block_of n parts blocks p) a (spot_of p)
+    → slice_index_or (values_of n (value_in n parts blocks)) (place_of n a p) (pos 0) ≡ edge_at (block_of n parts blocks p) a (unwrapped p)
 values_of-joined n parts blocks = value_at-joined (record { n = n; side = 0 }) parts blocks
 
-same_spot : (p q : Triple) → spot_of p ≡ spot_of q → p ≡ q
+same_spot : (p q : Triple) → unwrapped p ≡ unwrapped q → p ≡ q
 same_spot p q e i = record { x = unsigned_abs (e i).x; y = unsigned_abs (e i).y; z = unsigned_abs (e i).z }
 
 -- a write in the block of a cell's part leaves every other component
 joined_other : (n parts : Triple) (blocks : List BlockValues) (a : Axis) (p : Triple) (v : ℤ) (f : Axis) (q : Triple)
     → IsCells n → IsParts n parts → ArePartsOf n parts blocks → IsWithin p n → IsWithin q n → place_of n f q ≢ place_of n a p
-    → edge_at (block_of n parts (slice_set blocks (number_of n parts p) (with_edge (block_of n parts blocks p) a (spot_of p) v)) q) f (spot_of q)
-    ≡ edge_at (block_of n parts blocks q) f (spot_of q)
+    → edge_at (block_of n parts (slice_set blocks (number_of n parts p) (with_edge (block_of n parts blocks p) a (unwrapped p) v)) q) f (unwrapped q)
+    ≡ edge_at (block_of n parts blocks q) f (unwrapped q)
 joined_other n parts blocks a p v f q h k are wp wq other =
     let b = block_of n parts blocks p in
     let kp = number_of n parts p in
     let kq = number_of n parts q in
-    let after = with_edge b a (spot_of p) v in
-    elim (cases_eq kq kp) as (λ _. edge_at (slice_index_or (slice_set blocks kp after) kq no_block) f (spot_of q) ≡ edge_at (slice_index_or blocks kq no_block) f (spot_of q)) [
+    let after = with_edge b a (unwrapped p) v in
+    elim (cases_eq kq kp) as (λ _. edge_at (slice_index_or (slice_set blocks kp after) kq no_block) f (unwrapped q) ≡ edge_at (slice_index_or blocks kq no_block) f (unwrapped q)) [
       | inl e ↦
           (let written : slice_index_or (slice_set blocks kp after) kq no_block ≡ after = get_or-set_at blocks kp kq after no_block e (number_below n parts blocks p h k are wp) in
-          let zone : InZone b.low b.size (spot_of q) = subst (λ (m : ℕ). InZone (slice_index_or blocks m no_block).low (slice_index_or blocks m no_block).size (spot_of q)) e (block_has n parts blocks q h k are wq) in
-          let apart : place_of b.size f (inner_of b.low (spot_of q)) ≢ place_of b.size a (inner_of b.low (spot_of p)) = λ same.
-          (let both = edge_same b f (spot_of q) a (spot_of p) zone (block_has n parts blocks p h k are wp) same in
+          let zone : InZone b.low b.size (unwrapped q) = subst (λ (m : ℕ). InZone (slice_index_or blocks m no_block).low (slice_index_or blocks m no_block).size (unwrapped q)) e (block_has n parts blocks q h k are wq) in
+          let apart : place_of b.size f (inner_of b.low (unwrapped q)) ≢ place_of b.size a (inner_of b.low (unwrapped p)) = λ same.
+          (let both = edge_same b f (unwrapped q) a (unwrapped p) zone (block_has n parts blocks p h k are wp) same in
           other (λ i. place_of n (both.0 i) (same_spot q p both.1 i))) in
-          ap (λ (c : BlockValues). edge_at c f (spot_of q)) written
-          ∙ edge_at-other b a (spot_of p) v f (spot_of q) apart
-          ∙ ap (λ (m : ℕ). edge_at (slice_index_or blocks m no_block) f (spot_of q)) (sym e))
-      | inr differ ↦ ap (λ (c : BlockValues). edge_at c f (spot_of q)) (get_or-set_other blocks kp kq after no_block differ)
+          ap (λ (c : BlockValues). edge_at c f (unwrapped q)) written
+          ∙ edge_at-other b a (unwrapped p) v f (unwrapped q) apart
+          ∙ ap (λ (m : ℕ). edge_at (slice_index_or blocks m no_block) f (unwrapped q)) (sym e))
+      | inr differ ↦ ap (λ (c : BlockValues). edge_at c f (unwrapped q)) (get_or-set_other blocks kp kq after no_block differ)
     ]
 
 -- a write in the block of a cell's part is a write in the lattice
 pub joined_set : (n parts : Triple) (blocks : List BlockValues) (a : Axis) (p : Triple) (v : ℤ)
     → IsCells n → IsParts n parts → ArePartsOf n parts blocks → IsWithin p n
-    → edge_at (with_edge (block_of n parts blocks p) a (spot_of p) v) a (spot_of p) ≡ v
-    → values_of n (value_in n parts (slice_set blocks (number_of n parts p) (with_edge (block_of n parts blocks p) a (spot_of p) v)))
+    → edge_at (with_edge (block_of n parts blocks p) a (unwrapped p) v) a (unwrapped p) ≡ v
+    → values_of n (value_in n parts (slice_set blocks (number_of n parts p) (with_edge (block_of n parts blocks p) a (unwrapped p) v)))
     ≡ slice_set (values_of n (value_in n parts blocks)) (place_of n a p) v
 joined_set n parts blocks a p v h k are w stored =
     let b = block_of n parts blocks p in
-    let after = with_edge b a (spot_of p) v in
+    let after = with_edge b a (unwrapped p) v in
     let new = slice_set blocks (number_of n parts p) after in
     let xs = values_of n (value_in n parts blocks) in
     let size : length xs ≡ 3 * count_of n = length-values_of n (value_in n parts blocks) in
@@ -188,7 +188,7 @@ joined_set n parts blocks a p v h k are w stored =
           let written : slice_index_or new (number_of n parts p) no_block ≡ after = get_or-set_at blocks (number_of n parts p) (number_of n parts p) after no_block refl (number_below n parts blocks p h k are w) in
           ap (λ (j : ℕ). slice_index_or (values_of n (value_in n parts new)) j (pos 0)) e
           ∙ here
-          ∙ ap (λ (c : BlockValues). edge_at c a (spot_of p)) written
+          ∙ ap (λ (c : BlockValues). edge_at c a (unwrapped p)) written
           ∙ stored
           ∙ sym (get_or-set_at xs (place_of n a p) (place_of n f q) v (pos 0) e (omega arith)))
       | inr differ ↦
@@ -238,8 +238,8 @@ joined_zeros n parts blocks h k zeros =
     let b = block_of n parts blocks p in
     let here = zeros (number_of n parts p) (index_of_below parts (part_of (part_size n parts) p) (part_of_within n parts p h k w)) in
     values_of-joined n parts blocks a p w
-    ∙ ap (λ (xs : List ℤ). slice_index_or xs (place_of b.size a (inner_of b.low (spot_of p))) (pos 0)) here
-    ∙ zero_read (3 * count_of (part_size n parts)) (place_of b.size a (inner_of b.low (spot_of p)))
+    ∙ ap (λ (xs : List ℤ). slice_index_or xs (place_of b.size a (inner_of b.low (unwrapped p))) (pos 0)) here
+    ∙ zero_read (3 * count_of (part_size n parts)) (place_of b.size a (inner_of b.low (unwrapped p)))
     ∙ sym (zero_read (3 * count_of n) (place_of n a p)))
 
 -- a block over the same zone is as good a part
@@ -287,10 +287,10 @@ lattice_block n parts s blocks p i b l w e read =
 
 -- and the cell lies in its zone
 pub lattice_has : (n parts s : Triple) (blocks : List BlockValues) (p : Triple) (b : BlockValues) (c : Spot) → IsLattice n parts s blocks → IsWithin p n
-    → b ≡ block_of n parts blocks p → c ≡ spot_of p → InZone b.low b.size c
+    → b ≡ block_of n parts blocks p → c ≡ unwrapped p → InZone b.low b.size c
 lattice_has n parts s blocks p b c l w here at =
     let inside = block_has n parts blocks p l.cells l.parts_fit l.zones w in
-    let block : InZone b.low b.size (spot_of p) = subst (λ (d : BlockValues). InZone d.low d.size (spot_of p)) (sym here) inside in
+    let block : InZone b.low b.size (unwrapped p) = subst (λ (d : BlockValues). InZone d.low d.size (unwrapped p)) (sym here) inside in
     subst (λ (d : Spot). InZone b.low b.size d) (sym at) block
 
 -- a write in that block keeps the lattice
@@ -304,14 +304,14 @@ lattice_kept n parts s blocks i a c v b new l below read after =
 
 -- and is the write of the lattice
 pub lattice_set : (grid : Grid) (parts s : Triple) (blocks : List BlockValues) (p : Triple) (i : ℕ) (a : Axis) (c : Spot) (v : ℤ) (b new : BlockValues)
-    → IsLattice grid.n parts s blocks → IsWithin p grid.n → i ≡ index_of parts (part_of s p) → b ≡ slice_index_or blocks i b → c ≡ spot_of p
+    → IsLattice grid.n parts s blocks → IsWithin p grid.n → i ≡ index_of parts (part_of s p) → b ≡ slice_index_or blocks i b → c ≡ unwrapped p
     → new ≡ with_edge b a c v → edge_at new a c ≡ v
     → joined grid parts (slice_set blocks i new) ≡ with_value (joined grid parts blocks) a p v
 lattice_set grid parts s blocks p i a c v b new l w e read at after stored =
     let n = grid.n in
     let number : i ≡ number_of n parts p = lattice_number n parts s blocks p i l e in
     let here : b ≡ block_of n parts blocks p = lattice_block n parts s blocks p i b l w e read in
-    let written : new ≡ with_edge (block_of n parts blocks p) a (spot_of p) v = after ∙ (λ j. with_edge (here j) a (at j) v) in
-    let held : edge_at (with_edge (block_of n parts blocks p) a (spot_of p) v) a (spot_of p) ≡ v = sym (λ j. edge_at (written j) a (at j)) ∙ stored in
+    let written : new ≡ with_edge (block_of n parts blocks p) a (unwrapped p) v = after ∙ (λ j. with_edge (here j) a (at j) v) in
+    let held : edge_at (with_edge (block_of n parts blocks p) a (unwrapped p) v) a (unwrapped p) ≡ v = sym (λ j. edge_at (written j) a (at j)) ∙ stored in
     let whole = joined_set n parts blocks a p v l.cells l.parts_fit l.zones w held in
     (λ j. joined grid parts (slice_set blocks (number j) (written j))) ∙ (λ j. record { cells = n; side = grid.side; parts = parts; values = whole j })

@@ -9,14 +9,14 @@ use Rattle.pic_num.specs.Flux.{simpson}
 use Rattle.pic_num.specs.Multiplier.{Multiplier}
 use Rattle.pic_num.specs.Push.{pushed, turned, half_turned, cross, dot, first_above}
 use Rattle.pic_num.specs.Rounding.{rounded, scaled, truncated, residue}
-use Rattle.pic_num.specs.Space.{Triple, Spot}
+use Rattle.pic_num.specs.Space.{Triple, Spot, unwrapped}
 use Rattle.pic_grid.specs.declared.stop.Stop.TheVariants.{Push}
 use Rattle.pic_grid.specs.Current.{sum_images, wrapped, flux_after, current}
 use Rattle.pic_grid.specs.Differences.{div_e}
 use Rattle.pic_grid.specs.Flux.{flux, path_flux}
 use Rattle.pic_grid.specs.Gather.{gathered, shifted_weight}
 use Rattle.pic_grid.specs.Hat.{hat, periodic_hat, weight}
-use Rattle.pic_grid.specs.Path.{floor_of, same_int, crossing, is_before, put, crossings, break_on, step_on, walk, path, point_of}
+use Rattle.pic_grid.specs.Path.{floor_of, same_int, crossing, is_before, put, crossings, break_on, step_on, walk, path}
 use Rattle.pic_grid.specs.PushPhase.{Surroundings, push_of, moved, after_push, moved_all, halt_of, push_stop}
 use Rattle.pic_grid.specs.Sums.{sum_over, sum_below, sum_cells}
 
@@ -80,7 +80,7 @@ abbrev nodes : List Triple
 nodes = cell 0 0 0 ∷ cell 1 0 0 ∷ cell 0 1 0 ∷ cell 1 1 0 ∷ cell 0 0 1 ∷ cell 1 0 1 ∷ cell 0 1 1 ∷ cell 1 1 1 ∷ []
 
 abbrev outflow : Triple → Spot → Triple → ℤ
-outflow p d node = div_e (cell 2 2 2) (λ a. wrapped (cell 2 2 2) (path_flux 4096 (pos 3) (path 4096 (point_of p) d) a)) node
+outflow p d node = div_e (cell 2 2 2) (λ a. wrapped (cell 2 2 2) (path_flux 4096 (pos 3) (path 4096 (unwrapped p) d) a)) node
 
 abbrev fall : Triple → Triple → Triple → ℤ
 fall p q node = pos 36 *ℤ pos (weight 4096 (cell 2 2 2) p node) -ℤ pos 36 *ℤ pos (weight 4096 (cell 2 2 2) q node)

@@ -4,11 +4,11 @@ use Rattle.std.proofs.lemmas.Int.{ints}
 use Rattle.std.proofs.lemmas.Nat.{div-add-mod', div-mul-add, mod_below, div_below}
 use Rattle.std.proofs.Math.Nat.{div-one, le-mul_of_pos_right, mul-le-mul_right}
 use Rattle.pic_num.specs.declared.axis.Axis.{Axis}
-use Rattle.pic_num.specs.Space.{Triple, Spot}
+use Rattle.pic_num.specs.Space.{Triple, Spot, unwrapped}
 use Rattle.pic_grid.specs.Cells.{IsCells, IsWithin, count_of, index_of, place_of}
 use Rattle.pic_grid.specs.Lattice.{IsParts, value_at, values_of}
 use Rattle.pic_grid.specs.Block.{BlockValues, inner_of, edge_at, inner_at}
-use Rattle.pic_grid.specs.Parts.{spot_of, part_size, part_of, IsPart, no_block, ArePartsOf, value_in, joined}
+use Rattle.pic_grid.specs.Parts.{part_size, part_of, IsPart, no_block, ArePartsOf, value_in, joined}
 use Rattle.pic_grid.specs.Rows.{part_end}
 use Rattle.pic_grid.proofs.CellLaws.{cell_of-index_of, index_of_below}
 use Rattle.pic_grid.proofs.LatticeLaws.{length-values_of, same_values}
@@ -55,10 +55,10 @@ module _ (n parts : Triple) (blocks : List BlockValues) (p : Triple) (h : IsCell
     low = ap (λ (l : Spot). l.x) here.low
 
     -- a run from the cell p ends with the part,
-    pub run_end : (length : ℕ) → (inner_of b.low (spot_of p)).x + length ≡ b.size.x → p.x + length ≡ part_end s.x p.x
+    pub run_end : (length : ℕ) → (inner_of b.low (unwrapped p)).x + length ≡ b.size.x → p.x + length ≡ part_end s.x p.x
     run_end length end =
         let whole : p.x / s.x * s.x + p.x % s.x ≡ p.x = div-add-mod' p.x s.x in
-        let inner : (inner_of b.low (spot_of p)).x ≡ p.x % s.x = ap (λ (l : ℤ). unsigned_abs (pos p.x -ℤ l)) low ∙ above_corner s.x p.x in
+        let inner : (inner_of b.low (unwrapped p)).x ≡ p.x % s.x = ap (λ (l : ℤ). unsigned_abs (pos p.x -ℤ l)) low ∙ above_corner s.x p.x in
         let size : b.size.x ≡ s.x = ap (λ (m : Triple). m.x) here.size in
         omega arith
 
@@ -79,19 +79,19 @@ module _ (n parts : Triple) (blocks : List BlockValues) (p : Triple) (h : IsCell
 
     -- each value before the end is that of the lattice
     pub run_value : (side : ℕ) (a : Axis) (i : ℕ) → p.x + i < part_end s.x p.x
-        → inner_at b a (record (inner_of b.low (spot_of p)) { x = (inner_of b.low (spot_of p)).x + i }) ≡ value_at (joined (record { n = n; side = side }) parts blocks) a (record p { x = p.x + i })
+        → inner_at b a (record (inner_of b.low (unwrapped p)) { x = (inner_of b.low (unwrapped p)).x + i }) ≡ value_at (joined (record { n = n; side = side }) parts blocks) a (record p { x = p.x + i })
     run_value side a i below =
         let q = record p { x = p.x + i } in
         let in_x : p.x + i < n.x = omega (arith, run_inside) in
         let inside : IsWithin q n = record { x = in_x; y = w.y; z = w.z } in
         let part : part_of s q ≡ part_of s p = λ j. record { x = same_layer s.x p.x i some below j; y = p.y / s.y; z = p.z / s.z } in
-        let at_x : (inner_of b.low (spot_of p)).x + i ≡ (inner_of b.low (spot_of q)).x =
+        let at_x : (inner_of b.low (unwrapped p)).x + i ≡ (inner_of b.low (unwrapped q)).x =
         ap (λ (l : ℤ). unsigned_abs (pos p.x -ℤ l) + i) low
         ∙ ap (λ (m : ℕ). m + i) (above_corner s.x p.x)
         ∙ sym (above_more s.x p.x i)
         ∙ sym (ap (λ (l : ℤ). unsigned_abs (pos (p.x + i) -ℤ l)) low) in
-        ap (λ (m : ℕ). inner_at b a (record (inner_of b.low (spot_of p)) { x = m })) at_x
-        ∙ sym (ap (λ (m : Triple). edge_at (slice_index_or blocks (index_of parts m) no_block) a (spot_of q)) part)
+        ap (λ (m : ℕ). inner_at b a (record (inner_of b.low (unwrapped p)) { x = m })) at_x
+        ∙ sym (ap (λ (m : Triple). edge_at (slice_index_or blocks (index_of parts m) no_block) a (unwrapped q)) part)
         ∙ sym (value_at-joined (record { n = n; side = side }) parts blocks a q inside)
 
 one_of : (a b c : ℕ) → 1 ≤ a → 1 ≤ b → 1 ≤ c → a * b * c ≡ 1 → a ≡ 1
@@ -116,7 +116,7 @@ pub one_values : (n parts : Triple) (blocks : List BlockValues) (b : BlockValues
     → b ≡ slice_index_or blocks 0 no_block → length b.values ≡ 3 * count_of b.size → b.values ≡ values_of n (value_in n parts blocks)
 one_values n parts blocks b h k are one first whole =
     same_values n b.values (values_of n (value_in n parts blocks)) (whole ∙ ap (λ (m : Triple). 3 * count_of m) size) (length-values_of n (value_in n parts blocks))
-    (λ a p w. sym (value_at-joined (record { n = n; side = 0 }) parts blocks a p w ∙ (λ i. edge_at (of_block p w i) a (spot_of p)) ∙ (λ i. slice_index_or b.values (place_of (size i) a (inner p w i)) (pos 0))))
+    (λ a p w. sym (value_at-joined (record { n = n; side = 0 }) parts blocks a p w ∙ (λ i. edge_at (of_block p w i) a (unwrapped p)) ∙ (λ i. slice_index_or b.values (place_of (size i) a (inner p w i)) (pos 0))))
   where
     count : count_of parts ≡ 1
     count = sym are.count ∙ one
@@ -150,11 +150,11 @@ one_values n parts blocks b h k are one first whole =
         let w : IsWithin corner n = record { x = omega (arith, h.x_least); y = omega (arith, h.y_least); z = omega (arith, h.z_least) } in
         (part corner w).size ∙ size_is
 
-    inner : (p : Triple) → IsWithin p n → inner_of b.low (spot_of p) ≡ p
+    inner : (p : Triple) → IsWithin p n → inner_of b.low (unwrapped p) ≡ p
     inner p w =
         let at = (part p w).low in
         let s = part_size n parts in
         let x = above_corner s.x p.x ∙ one_inner n.x s.x p.x (ap (λ (m : Triple). m.x) size_is) w.x in
         let y = above_corner s.y p.y ∙ one_inner n.y s.y p.y (ap (λ (m : Triple). m.y) size_is) w.y in
         let z = above_corner s.z p.z ∙ one_inner n.z s.z p.z (ap (λ (m : Triple). m.z) size_is) w.z in
-        ap (λ (l : Spot). inner_of l (spot_of p)) at ∙ (λ i. record { x = x i; y = y i; z = z i })
+        ap (λ (l : Spot). inner_of l (unwrapped p)) at ∙ (λ i. record { x = x i; y = y i; z = z i })

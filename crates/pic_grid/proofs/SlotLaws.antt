@@ -2,12 +2,12 @@
 -- the number of its place in the part's block.
 use Rattle.std.proofs.Common.{◌≡◌, ℕ, pos, ◌+◌, ◌*◌, ◌/◌, ◌%◌, ◌<◌, List, length, slice_index_or, sym, ◌∙◌, ap, subst, arith}
 use Rattle.pic_num.specs.declared.axis.Axis.{Axis}
-use Rattle.pic_num.specs.Space.{Triple, axis_number}
+use Rattle.pic_num.specs.Space.{Triple, axis_number, unwrapped}
 use Rattle.pic_grid.specs.declared.slot.Slot.{Slot}
 use Rattle.pic_grid.specs.Block.{BlockValues, inner_of, edge_at}
 use Rattle.pic_grid.specs.Cells.{Grid, IsWithin, count_of, index_of, place_of}
 use Rattle.pic_grid.specs.Lattice.{Field, value_at}
-use Rattle.pic_grid.specs.Parts.{spot_of, part_size, part_of, corner_of, IsPart, IsLattice, joined}
+use Rattle.pic_grid.specs.Parts.{part_size, part_of, corner_of, IsPart, IsLattice, joined}
 use Rattle.pic_grid.specs.Slot.{IsSlotX, IsSlotY, IsSlotZ}
 use Rattle.pic_grid.proofs.BlockLaws.{inner_within}
 use Rattle.pic_grid.proofs.CellLaws.{place_of_below}
@@ -66,7 +66,7 @@ module _ (n parts s : Triple) (blocks : List BlockValues) (x y z : Slot) (l : Is
         ((λ i. on.x.place i + on.y.place i + on.z.place i)
         ∙ number_sum inner.x inner.y inner.z (part_size n parts).x (part_size n parts).y)
 
-    inner_is : inner_of (corner_of (part_size n parts) (part_of (part_size n parts) p)) (spot_of p) ≡ inner
+    inner_is : inner_of (corner_of (part_size n parts) (part_of (part_size n parts) p)) (unwrapped p) ≡ inner
     inner_is i = record {
       x = above_corner (part_size n parts).x x.index i;
       y = above_corner (part_size n parts).y y.index i;
@@ -82,24 +82,24 @@ module _ (n parts s : Triple) (blocks : List BlockValues) (x y z : Slot) (l : Is
         zone : IsPart (part_size n parts) (part_of (part_size n parts) p) b
         zone = subst (IsPart (part_size n parts) (part_of (part_size n parts) p)) (sym block) (here n parts blocks p l.cells l.parts_fit l.zones slots_within)
 
-        at : (a : Axis) → axis_number a * count_of s + place ≡ place_of b.size a (inner_of b.low (spot_of p))
+        at : (a : Axis) → axis_number a * count_of s + place ≡ place_of b.size a (inner_of b.low (unwrapped p))
         at a =
             ap (λ (m : Triple). axis_number a * count_of m + place) l.layers
             ∙ place_is a
             ∙ ap (place_of (part_size n parts) a) (sym inner_is)
-            ∙ sym (λ i. place_of (zone.size i) a (inner_of (zone.low i) (spot_of p)))
+            ∙ sym (λ i. place_of (zone.size i) a (inner_of (zone.low i) (unwrapped p)))
 
         -- which has the cell's place,
         pub slots_place : (a : Axis) → length b.values ≡ 3 * count_of b.size → axis_number a * count_of s + place < length b.values
         slots_place a size =
-            let has = subst (λ (c : BlockValues). IsWithin (inner_of c.low (spot_of p)) c.size) (sym block)
-            (inner_within _ _ (spot_of p) (block_has n parts blocks p l.cells l.parts_fit l.zones slots_within)) in
-            let below = place_of_below b.size a (inner_of b.low (spot_of p)) has in
+            let has = subst (λ (c : BlockValues). IsWithin (inner_of c.low (unwrapped p)) c.size) (sym block)
+            (inner_within _ _ (unwrapped p) (block_has n parts blocks p l.cells l.parts_fit l.zones slots_within)) in
+            let below = place_of_below b.size a (inner_of b.low (unwrapped p)) has in
             omega (arith, below, size, at a)
 
         -- and there its value
         pub slots_value : (side : ℕ) (a : Axis) → slice_index_or b.values (axis_number a * count_of s + place) (pos 0) ≡ value_at (joined (record { n = n; side = side }) parts blocks) a p
         slots_value side a =
             ap (λ (m : ℕ). slice_index_or b.values m (pos 0)) (at a)
-            ∙ ap (λ (c : BlockValues). edge_at c a (spot_of p)) block
+            ∙ ap (λ (c : BlockValues). edge_at c a (unwrapped p)) block
             ∙ sym (value_at-joined (record { n = n; side = side }) parts blocks a p slots_within)

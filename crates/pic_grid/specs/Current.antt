@@ -5,9 +5,9 @@ use Rattle.pic_num.specs.declared.axis.Axis.{Axis}
 use Rattle.pic_num.specs.declared.motion.Particle.{Particle}
 use Rattle.pic_num.specs.declared.motion.Kind.{Kind}
 use Rattle.pic_num.specs.Push.{Shift, Halting}
-use Rattle.pic_num.specs.Space.{Triple, Spot, triple}
+use Rattle.pic_num.specs.Space.{Triple, Spot, triple, unwrapped}
 use Rattle.pic_grid.specs.Flux.{path_flux}
-use Rattle.pic_grid.specs.Path.{path, point_of}
+use Rattle.pic_grid.specs.Path.{path}
 use Rattle.pic_grid.specs.PushPhase.{Surroundings, kind_of, push_of}
 use Rattle.pic_grid.specs.Sums.{sum_over}
 
@@ -25,7 +25,7 @@ wrapped n f p =
 -- the current of one particle after its push: that of its path, or 0 where it halts
 unfoldable pub flux_after : ℕ → Triple → List Kind → Particle → Axis → Triple → Result Shift Halting → ℤ
 flux_after side n kinds particle a p (Ok s) =
-    wrapped n (path_flux side (kind_of kinds particle).charge (path side (point_of (triple particle.x)) s.d) a) p
+    wrapped n (path_flux side (kind_of kinds particle).charge (path side (unwrapped (triple particle.x)) s.d) a) p
 flux_after side n kinds particle a p (Err h) = pos 0
 
 -- the current of all particles, at the edge along the axis a of the cell p

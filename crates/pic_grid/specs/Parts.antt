@@ -1,14 +1,10 @@
 -- A lattice cut into equal parts, one block for each, x fastest.
 use Rattle.std.specs.Prelude.{◌≡◌, ℕ, ℤ, pos, ◌*◌, ◌/◌, ◌<◌, List, [], length, slice_index_or}
 use Rattle.pic_num.specs.declared.axis.Axis.{Axis}
-use Rattle.pic_num.specs.Space.{Triple, Spot}
+use Rattle.pic_num.specs.Space.{Triple, Spot, unwrapped}
 use Rattle.pic_grid.specs.Cells.{Grid, IsCells, count_of, index_of, cell_of}
 use Rattle.pic_grid.specs.Lattice.{Field, IsParts, field_of}
 use Rattle.pic_grid.specs.Block.{BlockValues, edge_at}
-
--- a cell of the grid as one that isn't wrapped
-abbrev pub spot_of : Triple → Spot
-spot_of p = record { x = pos p.x; y = pos p.y; z = pos p.z }
 
 -- one part on each axis, and the lowest cell of the grid
 abbrev pub one_part : Triple
@@ -53,7 +49,7 @@ pub record IsLattice (n parts s : Triple) (blocks : List BlockValues) : Type 0 w
 -- a cell's component is that of the block of its part
 unfoldable pub value_in : Triple → Triple → List BlockValues → Axis → Triple → ℤ
 value_in n parts blocks a p =
-    edge_at (slice_index_or blocks (index_of parts (part_of (part_size n parts) p)) no_block) a (spot_of p)
+    edge_at (slice_index_or blocks (index_of parts (part_of (part_size n parts) p)) no_block) a (unwrapped p)
 
 -- the lattice of the blocks
 abbrev pub joined : Grid → Triple → List BlockValues → Field

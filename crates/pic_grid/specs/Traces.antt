@@ -7,16 +7,16 @@ use Rattle.pic_num.specs.declared.axis.Axis.{Axis}
 use Rattle.pic_num.specs.Limits.{most_particles, most_particles_1, most_flux_of}
 use Rattle.pic_num.specs.Push.{Shift, Halting}
 use Rattle.pic_num.specs.Sizes.{IsAtMost}
-use Rattle.pic_num.specs.Space.{Spot, triple}
+use Rattle.pic_num.specs.Space.{Spot, triple, unwrapped}
 use Rattle.pic_grid.specs.Flux.{path_flux}
-use Rattle.pic_grid.specs.Path.{path, point_of}
+use Rattle.pic_grid.specs.Path.{path}
 use Rattle.pic_grid.specs.PushPhase.{Surroundings, kind_of, push_of}
 use Rattle.pic_grid.specs.Sums.{sum_over}
 
 -- the flux of one particle after its push: that of its path, or 0 where it halts
 unfoldable pub trace_of : ℕ → List Kind → Particle → Result Shift Halting → Axis → Spot → ℤ
 trace_of side kinds particle (Ok s) a c =
-    path_flux side (kind_of kinds particle).charge (path side (point_of (triple particle.x)) s.d) a c
+    path_flux side (kind_of kinds particle).charge (path side (unwrapped (triple particle.x)) s.d) a c
 trace_of side kinds particle (Err h) a c = pos 0
 
 -- the flux of all particles

@@ -7,14 +7,14 @@ use Rattle.pic_num.specs.declared.axis.Axis.{Axis}
 use Rattle.pic_num.specs.declared.axis.Axis.TheVariants.{X, Y, Z}
 use Rattle.pic_num.specs.Flux.{simpson}
 use Rattle.pic_num.specs.Push.{plus}
-use Rattle.pic_num.specs.Space.{Triple, Spot, along, next_axis}
+use Rattle.pic_num.specs.Space.{Triple, Spot, along, next_axis, unwrapped}
 use Rattle.pic_num.proofs.Ring.{ring, reads}
 use Rattle.pic_num.proofs.Simpson.{continuity}
 use Rattle.pic_grid.specs.Current.{sum_images, wrapped}
 use Rattle.pic_grid.specs.Differences.{down, div_e}
 use Rattle.pic_grid.specs.Flux.{edge_weight, flux, path_flux}
 use Rattle.pic_grid.specs.Hat.{hat, weight, HasTwo, IsInBox}
-use Rattle.pic_grid.specs.Path.{floor_cell, path, point_of, same_int}
+use Rattle.pic_grid.specs.Path.{floor_cell, path, same_int}
 use Rattle.pic_grid.specs.Segment.{Piece, IsInCell, IsOfCells, Leads, arrived, onward}
 use Rattle.pic_grid.specs.Cells.{IsWithin}
 use Rattle.pic_grid.specs.Sums.{sum_over}
@@ -204,7 +204,7 @@ path_law side n q node c e two within of_c of_e (onward {r} {ss} s at of rest) =
 
 -- a position of the box
 image_weight-inside : (side : ℕ) (n from node : Triple) → HasTwo n → IsWithin node n → IsInBox side n from
-    → image_weight side n (point_of from) node ≡ pos (weight side n from node)
+    → image_weight side n (unwrapped from) node ≡ pos (weight side n from node)
 unfolding image_weight weight
 image_weight-inside side n from node two within inside =
     λ t. shadow_inside side n.x from.x node.x two.x within.x inside.x t
@@ -214,7 +214,7 @@ image_weight-inside side n from node two within inside =
 -- the end of a move from a position of the box
 image_weight-wrapped : (side : ℕ) (n from : Triple) (d : Spot) (node : Triple)
     → 0 < side → HasTwo n → IsWithin node n → IsInBox side n from → IsMove side d
-    → image_weight side n (plus (point_of from) d) node ≡ pos (weight side n (wrapped_point side n (plus (point_of from) d)) node)
+    → image_weight side n (plus (unwrapped from) d) node ≡ pos (weight side n (wrapped_point side n (plus (unwrapped from) d)) node)
 unfolding image_weight weight
 image_weight-wrapped side n from d node some two within inside move =
     λ t. shadow_wrapped side n.x (pos from.x +ℤ d.x) node.x some two.x within.x
@@ -225,7 +225,7 @@ image_weight-wrapped side n from d node some two within inside move =
     (moved_low side from.z d.z move.z.size) (moved_high side (n.z * side) from.z d.z inside.z move.z.size) t
 
 -- the cell of a position of the box
-pub near_start : (side : ℕ) (n from : Triple) → 0 < side → IsInBox side n from → IsNearGrid n (floor_cell side (point_of from))
+pub near_start : (side : ℕ) (n from : Triple) → 0 < side → IsInBox side n from → IsNearGrid n (floor_cell side (unwrapped from))
 near_start side n from some inside = record {
   x = floor_near side n.x (pos from.x) some (omega (arith, ints)) (omega (arith, ints, inside));
   y = floor_near side n.y (pos from.y) some (omega (arith, ints)) (omega (arith, ints, inside));
@@ -234,7 +234,7 @@ near_start side n from some inside = record {
 
 -- the cell of the end of a move from there
 pub near_end : (side : ℕ) (n from : Triple) (d : Spot) → 0 < side → IsInBox side n from → IsMove side d
-    → IsNearGrid n (floor_cell side (plus (point_of from) d))
+    → IsNearGrid n (floor_cell side (plus (unwrapped from) d))
 near_end side n from d some inside move = record {
   x = floor_near side n.x (pos from.x +ℤ d.x) some (moved_low side from.x d.x move.x.size) (moved_high side (n.x * side) from.x d.x inside.x move.x.size);
   y = floor_near side n.y (pos from.y +ℤ d.y) some (moved_low side from.y d.y move.y.size) (moved_high side (n.y * side) from.y d.y inside.y move.y.size);
@@ -244,12 +244,12 @@ near_end side n from d some inside move = record {
 -- the law of pieces that lead from a position of the box to the end of a move
 pub continuity_of_path : (side : ℕ) (n : Triple) (q : ℤ) (from : Triple) (d : Spot) (node : Triple) (pieces : List Piece)
     → 0 < side → HasTwo n → IsWithin node n → IsInBox side n from → IsMove side d
-    → Leads side (floor_cell side (point_of from)) (floor_cell side (plus (point_of from) d)) (point_of from) pieces (plus (point_of from) d)
+    → Leads side (floor_cell side (unwrapped from)) (floor_cell side (plus (unwrapped from) d)) (unwrapped from) pieces (plus (unwrapped from) d)
     → div_e n (λ a p. wrapped n (path_flux side q pieces a) p) node
     ≡ pos 12 *ℤ q *ℤ pos (weight side n from node)
-    -ℤ pos 12 *ℤ q *ℤ pos (weight side n (wrapped_point side n (plus (point_of from) d)) node)
+    -ℤ pos 12 *ℤ q *ℤ pos (weight side n (wrapped_point side n (plus (unwrapped from) d)) node)
 continuity_of_path side n q from d node pieces some two within inside move leads =
-    path_law side n q node (floor_cell side (point_of from)) (floor_cell side (plus (point_of from) d))
+    path_law side n q node (floor_cell side (unwrapped from)) (floor_cell side (plus (unwrapped from) d))
     two within (near_start side n from some inside) (near_end side n from d some inside move) leads
     ∙ (λ t. pos 12 *ℤ q *ℤ image_weight-inside side n from node two within inside t
     -ℤ pos 12 *ℤ q *ℤ image_weight-wrapped side n from d node some two within inside move t)
@@ -257,4 +257,4 @@ continuity_of_path side n q from d node pieces some two within inside move leads
 -- the law of continuity
 pub continuity_of_move : Continuity
 continuity_of_move side n q from d node some two within inside move =
-    continuity_of_path side n q from d node (path side (point_of from) d) some two within inside move (path_leads side (point_of from) d some move)
+    continuity_of_path side n q from d node (path side (unwrapped from) d) some two within inside move (path_leads side (unwrapped from) d some move)

@@ -2,12 +2,12 @@
 -- and O. Buneman, Comput. Phys. Commun. 69, 1992, 306).
 use Rattle.std.specs.Prelude.{◌≡◌, ℤ, pos, ℕ, ◌<◌, ◌-ℤ◌, ◌*ℤ◌}
 use Rattle.pic_num.specs.Push.{plus}
-use Rattle.pic_num.specs.Space.{Triple, Spot}
+use Rattle.pic_num.specs.Space.{Triple, Spot, unwrapped}
 use Rattle.pic_grid.specs.Current.{wrapped}
 use Rattle.pic_grid.specs.Differences.{div_e}
 use Rattle.pic_grid.specs.Flux.{path_flux}
 use Rattle.pic_grid.specs.Hat.{weight, HasTwo, IsInBox}
-use Rattle.pic_grid.specs.Path.{path, point_of}
+use Rattle.pic_grid.specs.Path.{path}
 use Rattle.pic_grid.specs.Cells.{IsWithin}
 use Rattle.pic_split.specs.Move.{IsMove, wrapped_point}
 
@@ -25,6 +25,6 @@ Continuity =
     → IsWithin node n
     → IsInBox side n from
     → IsMove side d
-    → div_e n (λ a p. wrapped n (path_flux side q (path side (point_of from) d) a) p) node
+    → div_e n (λ a p. wrapped n (path_flux side q (path side (unwrapped from) d) a) p) node
     ≡ pos 12 *ℤ q *ℤ pos (weight side n from node)
-    -ℤ pos 12 *ℤ q *ℤ pos (weight side n (wrapped_point side n (plus (point_of from) d)) node)
+    -ℤ pos 12 *ℤ q *ℤ pos (weight side n (wrapped_point side n (plus (unwrapped from) d)) node)

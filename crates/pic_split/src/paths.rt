@@ -17,8 +17,8 @@ ghost use Rattle.std.specs.Prelude.{
 };
 ghost use Rattle.std.specs.List.{All};
 ghost use Rattle.pic_num.specs.Push.{plus};
-ghost use Rattle.pic_num.specs.Space.{triple, spot, AreAtMost};
-ghost use Rattle.pic_grid.specs.Path.{point_of, floor_cell, walk, path};
+ghost use Rattle.pic_num.specs.Space.{triple, spot, AreAtMost, unwrapped};
+ghost use Rattle.pic_grid.specs.Path.{floor_cell, walk, path};
 ghost use Rattle.pic_grid.specs.Segment.{IsInCell};
 ghost use Rattle.pic_split.specs.Faces.{list_of};
 ghost use Rattle.pic_split.specs.Face.{IsSmall};
@@ -34,8 +34,8 @@ use pic_num::{Sub, unwrapped};
 pub fn split(sub: Sub, p0: [u32; 3], d: [i32; 3]) -> Track
     requires start { EachIndex p0 (λ k. slice_index p0 k < 2 ^ 30) }
     requires small { IsMove sub (spot d) }
-    ensures value { result ≡ path sub (point_of (triple p0)) (spot d) }
-    ensures leads { LeadBy sub (point_of (triple p0)) (spot d) result }
+    ensures value { result ≡ path sub (unwrapped (triple p0)) (spot d) }
+    ensures leads { LeadBy sub (unwrapped (triple p0)) (spot d) result }
 {
     let p = unwrapped(p0);
     let _side = sub.side();
@@ -48,7 +48,7 @@ pub fn split(sub: Sub, p0: [u32; 3], d: [i32; 3]) -> Track
 pub fn lone(sub: Sub, p0: [u32; 3], d: [i32; 3]) -> Option<Segment>
     requires start { EachIndex p0 (λ k. slice_index p0 k < 2 ^ 30) }
     requires small { IsMove sub (spot d) }
-    ensures piece { result ≡ lone_piece (path sub (point_of (triple p0)) (spot d)) }
+    ensures piece { result ≡ lone_piece (path sub (unwrapped (triple p0)) (spot d)) }
     ensures inside { IfSome result (IsInCell sub) }
 {
     let p = unwrapped(p0);

@@ -10,12 +10,12 @@ use Rattle.pic_num.specs.declared.axis.Axis.{Axis}
 use Rattle.pic_num.specs.declared.axis.Axis.TheVariants.{X, Y, Z}
 use Rattle.pic_num.specs.Flux.{simpson}
 use Rattle.pic_num.specs.Push.{Shift, Halting, plus}
-use Rattle.pic_num.specs.Space.{Triple, Spot, triple}
+use Rattle.pic_num.specs.Space.{Triple, Spot, triple, unwrapped}
 use Rattle.pic_num.proofs.Ring.{ring, reads}
 use Rattle.pic_grid.specs.Current.{wrapped, flux_after, current}
 use Rattle.pic_grid.specs.Flux.{flux, path_flux}
 use Rattle.pic_grid.specs.Hat.{hat, IsInBox}
-use Rattle.pic_grid.specs.Path.{point_of, floor_cell, same_int}
+use Rattle.pic_grid.specs.Path.{floor_cell, same_int}
 use Rattle.pic_grid.specs.Segment.{Piece, IsInside, IsInCell, Leads, arrived, onward}
 use Rattle.pic_grid.specs.PushPhase.{Surroundings, kind_of, push_of, CanShare}
 use Rattle.pic_grid.specs.Sums.{sum_over}
@@ -112,7 +112,7 @@ unfolding trace_of path_flux
 trace_none w particle (Err h) a c is above inside zeros = refl
 trace_none w particle (Ok s) a c is above inside zeros =
     let move = push_move w particle s is in
-    let start = point_of (triple particle.x) in
+    let start = unwrapped (triple particle.x) in
     along_path w.side w.cells (floor_cell w.side start) (floor_cell w.side (plus start s.d)) (λ t. flux w.side (kind_of w.kinds particle).charge t a c)
     (near_start w.side w.cells (triple particle.x) above inside) (near_end w.side w.cells (triple particle.x) s.d above inside move)
     (zeros (kind_of w.kinds particle).charge)

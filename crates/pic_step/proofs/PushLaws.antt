@@ -12,9 +12,8 @@ use Rattle.pic_num.specs.First.{first_of}
 use Rattle.pic_num.proofs.FirstLaws.{left_none, right_none}
 use Rattle.pic_num.specs.Multiplier.{Multiplier}
 use Rattle.pic_num.specs.Push.{Shift, Halting, pushed, first_above, unless, plus}
-use Rattle.pic_num.specs.Space.{Triple, Spot, triple, along}
+use Rattle.pic_num.specs.Space.{Triple, Spot, triple, along, unwrapped}
 use Rattle.pic_grid.specs.Hat.{HasTwo, IsInBox}
-use Rattle.pic_grid.specs.Path.{point_of}
 use Rattle.pic_num.proofs.RoundingLaws.{residue-is}
 use Rattle.std.proofs.lemmas.Bool.Decides.{nat_tests}
 use Rattle.pic_grid.specs.PushPhase.{Surroundings, push_of, after_push, moved, moved_all}
@@ -67,7 +66,7 @@ species_kept side n particle (Err h) = refl
 
 -- a particle that moved stands where its path wraps to
 pub moved_place : (side : ℕ) (n : Triple) (particle : Particle) (s : Shift)
-    → triple (moved side n particle s).x ≡ wrapped_point side n (plus (point_of (triple particle.x)) s.d)
+    → triple (moved side n particle s).x ≡ wrapped_point side n (plus (unwrapped (triple particle.x)) s.d)
 unfolding moved
 moved_place side n particle s = refl
 
@@ -87,7 +86,7 @@ pub box_kept : (side : ℕ) (n : Triple) (particle : Particle) (r : Result Shift
     → IsInBox side n (triple (after_push side n particle r).x)
 unfolding after_push
 box_kept side n particle (Ok s) above two h = subst (IsInBox side n) (sym (moved_place side n particle s))
-    (wrapped_in_box side n (plus (point_of (triple particle.x)) s.d) above two)
+    (wrapped_in_box side n (plus (unwrapped (triple particle.x)) s.d) above two)
 box_kept side n particle (Err halt) above two h = h
 
 -- the push keeps the identities of all particles

@@ -11,9 +11,8 @@ use Rattle.pic_num.specs.declared.axis.Axis.{Axis}
 use Rattle.pic_num.specs.Push.{Shift, Halting}
 use Rattle.pic_num.specs.Sizes.{IsAtMost}
 use Rattle.pic_num.proofs.SizeLaws.{times_at_most}
-use Rattle.pic_num.specs.Space.{Triple, Spot, triple, along}
+use Rattle.pic_num.specs.Space.{Triple, Spot, triple, along, unwrapped}
 use Rattle.pic_grid.specs.Current.{current}
-use Rattle.pic_grid.specs.Path.{point_of}
 use Rattle.pic_grid.specs.PushPhase.{Surroundings, kind_of, push_of}
 use Rattle.pic_grid.specs.Species.{IsKind}
 use Rattle.pic_grid.proofs.OverLaws.{sum_over_bound}
@@ -37,7 +36,7 @@ trace_size w particle (Err h) a c is side limits = omega (arith, ints)
 trace_size w particle (Ok s) a c is side limits =
     let some : 0 < w.side = omega (arith, side) in
     let move = push_move w particle s is in
-    let size = path_flux_size w.side (kind_of w.kinds particle).charge (point_of (triple particle.x)) s.d a c some move in
+    let size = path_flux_size w.side (kind_of w.kinds particle).charge (unwrapped (triple particle.x)) s.d a c some move in
     let charge = kind_of_most w.kinds particle limits in
     let way = move_along w.side a s.d move in
     let most = product_most (unsigned_abs (kind_of w.kinds particle).charge) (unsigned_abs (along a s.d)) charge (omega (arith, way, side)) in

@@ -5,11 +5,11 @@ ghost use Rattle.std.specs.Bool.{OnTrue};
 ghost use Rattle.pic_num.specs.Limits.{most_charge, most_cells_of_axis};
 ghost use Rattle.pic_num.specs.Rounding.{residue};
 ghost use Rattle.pic_num.specs.Sizes.{IsAtMost};
-ghost use Rattle.pic_num.specs.Space.{triple, spot};
+ghost use Rattle.pic_num.specs.Space.{triple, spot, unwrapped};
 ghost use Rattle.pic_grid.specs.Block.{IsShaped, AllAtMost};
 ghost use Rattle.pic_grid.specs.Flux.{path_flux};
 ghost use Rattle.pic_grid.specs.Hat.{IsInBox};
-ghost use Rattle.pic_grid.specs.Path.{path, point_of};
+ghost use Rattle.pic_grid.specs.Path.{path};
 ghost use Rattle.pic_grid.specs.PushPhase.{moved};
 ghost use Rattle.pic_grid.specs.Traces.{most_flux};
 ghost use Rattle.pic_boris.specs.Pushes.{shift_of, IsInLimits};
@@ -90,7 +90,7 @@ fn deposit_path(sub: Sub, particle: &Particle, by: &Moved, charge: i32, guard: &
     requires room { AllAtMost most_flux guard.old }
     ensures shape { IsShaped guard.old guard.new }
     ensures adds { Adds guard.old guard.new
-        (path_flux sub charge (path sub (point_of (triple particle.now.x)) (spot by.now.d))) }
+        (path_flux sub charge (path sub (unwrapped (triple particle.now.x)) (spot by.now.d))) }
 {
     let [at_x, at_y, at_z] = particle.x;
     let _side = sub.side();
@@ -119,7 +119,7 @@ pub fn follow(
     ensures after { particle.new ≡ moved sub cells particle.old (shift_of by.now) }
     ensures shape { IsShaped guard.old guard.new }
     ensures adds { Adds guard.old guard.new
-        (path_flux sub charge (path sub (point_of (triple particle.old.x)) (spot by.now.d))) }
+        (path_flux sub charge (path sub (unwrapped (triple particle.old.x)) (spot by.now.d))) }
 {
     let [_, _, _] = cells.n;
     deposit_path(sub, particle, by, charge, guard);

@@ -3,11 +3,10 @@ use Rattle.std.proofs.lemmas.Int.{to_z-of_z}
 use mir.Syntax.{w128}
 use mir.Val.{SFits}
 use Rattle.pic_num.specs.Push.{unless}
-use Rattle.pic_num.specs.Space.{triple}
+use Rattle.pic_num.specs.Space.{triple, unwrapped}
 use Rattle.pic_grid.specs.declared.stop.Stop.{Stop}
 use Rattle.pic_grid.specs.Cells.{count_of}
 use Rattle.pic_grid.specs.Block.{edge_at}
-use Rattle.pic_grid.specs.Parts.{spot_of}
 use Rattle.pic_field.specs.FieldPhases.{fault_of}
 use Rattle.pic_field.proofs.FaultLaws.{fault_below-none, fault_below-more, fault_below-all}
 use Rattle.pic_field.proofs.PlaceLaws.{IsHere, is_here, first_place, next_place}
@@ -23,7 +22,7 @@ here c =
 pub loop-number-init : goal.loop-number-init
 loop-number-init c = record {
   place = first_place (triple c.zone-zone.result.size) c.args.b.now.size _ _ c.zone-zone.ensures.size c.zone-zone.ensures.limits.layers c.first-place.ensures.axis c.first-place.ensures.inner;
-  stop = sym (fault_below-none c.args.phase c.args.by (λ a p. edge_at c.args.b.now a (spot_of p)) c.args.b.now);
+  stop = sym (fault_below-none c.args.phase c.args.by (λ a p. edge_at c.args.b.now a (unwrapped p)) c.args.b.now);
 }
 
 pub loop-number-preserved : goal.loop-number-preserved
@@ -36,11 +35,11 @@ loop-number-preserved c =
     let h = here (goal.at.loop-number-preserved c).After-cell_in-cell in
     let below : i < 3 * count_of (triple c.zone-zone.result.size) = omega (arith, c.place_count-number-end.ensures, c.loop-number-test.true) in
     let fits : SFits w128 c.at-value.result = search rules in
-    let value : to_z w128 (of_z w128 c.at-value.result) ≡ edge_at b a (spot_of q) = to_z-of_z w128 c.at-value.result fits ∙ c.at-value.ensures ∙ ap (edge_at b a) c.unwrapped.ensures in
+    let value : to_z w128 (of_z w128 c.at-value.result) ≡ edge_at b a (unwrapped q) = to_z-of_z w128 c.at-value.result fits ∙ c.at-value.ensures ∙ ap (edge_at b a) c.unwrapped.ensures in
     record {
       place = next_place (triple c.zone-zone.result.size) i a p _ _ c.loop-number.invariant.place below c.following-place.ensures.within c.following-place.ensures.number;
       stop = c.or-stop.ensures
-          ∙ fault_below-more c.args.phase c.args.by (λ d r. edge_at b d (spot_of r)) b c.args.cells i a p q c.loop-number.stop c.fault-found.result h c.loop-number.invariant.stop
+          ∙ fault_below-more c.args.phase c.args.by (λ d r. edge_at b d (unwrapped r)) b c.args.cells i a p q c.loop-number.stop c.fault-found.result h c.loop-number.invariant.stop
           (c.fault-found.ensures ∙ ap (fault_of c.args.phase c.args.by a q) value);
     }
 
@@ -50,4 +49,4 @@ returns c =
     c.answer.ensures
     ∙ ap (λ (o : Option Stop). unless o tt)
     (c.loop-number.invariant.stop
-    ∙ fault_below-all c.args.phase c.args.by (λ a p. edge_at c.args.b.now a (spot_of p)) c.args.b.now c.loop-number._number (end ∙ ap (λ n. 3 * count_of n) c.zone-zone.ensures.size))
+    ∙ fault_below-all c.args.phase c.args.by (λ a p. edge_at c.args.b.now a (unwrapped p)) c.args.b.now c.loop-number._number (end ∙ ap (λ n. 3 * count_of n) c.zone-zone.ensures.size))

@@ -1,7 +1,6 @@
 use Rattle.std.proofs.Common.{◌≡◌}
-use Rattle.pic_num.specs.Space.{triple}
+use Rattle.pic_num.specs.Space.{triple, unwrapped}
 use Rattle.pic_grid.specs.Block.{edge_at}
-use Rattle.pic_grid.specs.Parts.{spot_of}
 use Rattle.pic_field.proofs.FaultLaws.{fault_below}
 use Rattle.pic_field.proofs.PlaceLaws.{IsPlace}
 use Rattle.pic_field.proofs.faults.stop_in.Given as goal
@@ -10,5 +9,5 @@ use Rattle.pic_field.proofs.faults.stop_in.Given as goal
 abbrev pub invariant-loop-number : goal.invariant-loop-number
 invariant-loop-number l = record {
   place : IsPlace (triple l.zone.size) l._number l.place.axis (triple l.place.inner);
-  stop : l.stop ≡ fault_below l.phase l.by (λ a p. edge_at l.b a (spot_of p)) l.b l._number;
+  stop : l.stop ≡ fault_below l.phase l.by (λ a p. edge_at l.b a (unwrapped p)) l.b l._number;
 }

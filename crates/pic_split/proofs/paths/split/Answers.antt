@@ -1,7 +1,7 @@
 use Rattle.std.proofs.Common.{◌≡◌, ◌^◌, ◌∙◌, subst, sym, arith, List}
 use Rattle.std.specs.List.{All}
-use Rattle.pic_num.specs.Space.{triple, spot}
-use Rattle.pic_grid.specs.Path.{Crossing, point_of, floor_cell, crossings, walk, path}
+use Rattle.pic_num.specs.Space.{triple, spot, unwrapped}
+use Rattle.pic_grid.specs.Path.{Crossing, floor_cell, crossings, walk, path}
 use Rattle.pic_split.specs.Face.{IsSmall}
 use Rattle.pic_split.specs.Move.{LeadBy}
 use Rattle.pic_split.proofs.CrossingLaws.{crossings_small, all_small_more, move_more}
@@ -26,7 +26,7 @@ returns-clause-value c =
 pub returns-clause-leads : goal.returns-clause-leads
 unfolding path
 returns-clause-leads c =
-    let p = point_of (triple c.args.p0) in
+    let p = unwrapped (triple c.args.p0) in
     let d = spot c.args.d in
     let is : c.cut.result ≡ path c.args.sub p d = c.cut.ensures
     ∙ (λ i. walk (spot c.unwrapped-p.result) d (spot c.unwrapped-p.result) (c.cell.ensures.value i) (c.crossings.ensures i))

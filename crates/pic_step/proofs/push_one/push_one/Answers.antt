@@ -6,12 +6,12 @@ use mir.Syntax.{w32, w128}
 use mir.Val.{SFits, to_z, of_z}
 use Rattle.pic_num.proofs.ProductLaws.{plus_zero}
 use Rattle.pic_num.specs.Push.{Shift, Halting}
-use Rattle.pic_num.specs.Space.{Triple, triple, spot}
+use Rattle.pic_num.specs.Space.{Triple, triple, spot, unwrapped}
 use Rattle.pic_grid.specs.declared.stop.Stop.TheVariants.{Push}
 use Rattle.pic_grid.specs.Hat.{IsInBox}
 use Rattle.pic_grid.specs.Flux.{path_flux}
 use Rattle.pic_grid.specs.Segment.{Piece}
-use Rattle.pic_grid.specs.Path.{path, point_of}
+use Rattle.pic_grid.specs.Path.{path}
 use Rattle.pic_grid.specs.PushPhase.{kind_of, moved, after_push, halt_of}
 use Rattle.pic_grid.specs.Block.{edge_at}
 use Rattle.pic_boris.specs.Pushes.{shift_of}
@@ -40,7 +40,7 @@ returns-in-Ok-clause-adds c =
     let fits : SFits w32 c.charge_of-charge.result = record { sfits = c.charge_of-charge.type_inv } in
     let charge : to_z w32 (of_z w32 c.charge_of-charge.result) ≡ (kind_of kinds particle).charge = to_z-of_z w32 c.charge_of-charge.result fits
     ∙ c.charge_of-charge.ensures.value in
-    let track : ℕ → List Piece = λ side. path side (point_of (triple particle.x)) (spot c.in-Ok.by.d) in
+    let track : ℕ → List Piece = λ side. path side (unwrapped (triple particle.x)) (spot c.in-Ok.by.d) in
     let by_side : Adds c.args.guard.now c.follow.new.guard (path_flux 4096 (to_z w32 (of_z w32 c.charge_of-charge.result)) (track 4096)) =
     subst (λ (side : ℕ). Adds c.args.guard.now c.follow.new.guard (path_flux side (to_z w32 (of_z w32 c.charge_of-charge.result)) (track side)))
     c.requires.side c.follow.ensures.adds in
