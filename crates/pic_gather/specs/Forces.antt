@@ -1,6 +1,7 @@
 -- Force values, and their sums over the places of a component under the weights of three pairs.
-use Rattle.std.specs.Prelude.{ℤ, pos, ℕ, ◌^◌, ◌*ℤ◌}
+use Rattle.std.specs.Prelude.{ℤ, pos, ℕ, ◌^◌, ◌<◌, ◌*ℤ◌, List, length, slice_index_or}
 use Rattle.pic_num.specs.declared.axis.Axis.{Axis}
+use Rattle.pic_num.specs.Sizes.{IsAtMost}
 use Rattle.pic_grid.specs.Lattice.{Field, value_at, EachAtMost}
 use Rattle.pic_grid.specs.Sums.{sum_below}
 use Rattle.pic_grid.specs.declared.pair.Pair.{Pair}
@@ -9,6 +10,11 @@ use Rattle.pic_grid.specs.Pair.{weight_in}
 -- every value of a lattice is at most 2^44 in size: this project's bound of a force value
 abbrev pub AreForces : Field → Type 0
 AreForces = EachAtMost (2 ^ 44)
+
+-- one entry of a list is such a value
+pub record IsForce (values : List ℤ) (i : ℕ) : Type 0 where
+  pub below : i < length values
+  pub small : IsAtMost (slice_index_or values i (pos 0)) (2 ^ 44)
 
 -- the weighted sum along a row of places
 unfoldable pub row_sum : Field → Axis → Pair → ℕ → ℕ → ℤ

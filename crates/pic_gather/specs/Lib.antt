@@ -1,2 +1,3 @@
 pub mod Stencil
+pub mod Sides
 pub mod Forces

@@ -1,23 +1,18 @@
-//! One component at a point: a mean of eight values under the weights of three pairs. Rows are summed
-//! in 64 bits.
+//! One component at a point, in a lattice of any parts: a mean of eight values under the weights of
+//! three pairs.
 
-ghost use Rattle.std.specs.Prelude.{◌≡◌, pos, ◌+◌, ◌^◌, ◌+ℤ◌, ◌*ℤ◌};
+ghost use Rattle.std.specs.Prelude.{◌≡◌, pos, ◌^◌};
 ghost use Rattle.pic_num.specs.Rounding.{rounded};
 ghost use Rattle.pic_num.specs.Sizes.{IsAtMost};
 ghost use Rattle.pic_grid.specs.Lattice.{value_at};
 ghost use Rattle.pic_grid.specs.Slot.{IsSlotX, IsSlotY, IsSlotZ};
-ghost use Rattle.pic_gather.specs.Forces.{AreForces, row_sum, layer_sum, whole_sum};
+ghost use Rattle.pic_gather.specs.Forces.{AreForces, row_sum, whole_sum};
 ghost use Rattle.pic_gather.specs.Stencil.{AreOnAxis};
 
+use crate::mix::{mean, narrow_mix, wide_mix};
 use crate::stencil::Ends;
-use pic_grid::{Lattice, Pair, Slot};
+use pic_grid::{Lattice, Slot};
 use pic_num::Axis;
-
-/// The weights of a point for all places of a component add up to the cube of a cell's side.
-const CUBE: i128 = 68719476736;
-
-/// That cube is 2 to this power.
-const CUBE_BITS: u32 = 36;
 
 /// The force value at three slots.
 #[inline(always)]
@@ -30,42 +25,6 @@ fn value(force: &Lattice, axis: Axis, x: Slot, y: Slot, z: Slot) -> i64
     ensures size { IsAtMost result (2 ^ 44) }
 {
     force.at_slots(axis, x, y, z) as i64
-}
-
-/// Two values under the weights of a pair.
-#[inline(always)]
-fn narrow_mix(low: i64, high: i64, pair: Pair) -> i64
-    requires low_small { IsAtMost low (2 ^ 44) }
-    requires high_small { IsAtMost high (2 ^ 44) }
-    requires whole { pair.low_weight + pair.high_weight ≡ 4096 }
-    ensures value { result ≡ low *ℤ pos pair.low_weight +ℤ high *ℤ pos pair.high_weight }
-    ensures size { IsAtMost result (2 ^ 56) }
-{
-    low * i64::from(pair.low_weight) + high * i64::from(pair.high_weight)
-}
-
-/// Two sums of rows under the weights of a pair.
-#[inline(always)]
-fn wide_mix(low: i64, high: i64, pair: Pair) -> i128
-    requires low_small { IsAtMost low (2 ^ 56) }
-    requires high_small { IsAtMost high (2 ^ 56) }
-    requires whole { pair.low_weight + pair.high_weight ≡ 4096 }
-    ensures value { result ≡ low *ℤ pos pair.low_weight +ℤ high *ℤ pos pair.high_weight }
-    ensures size { IsAtMost result (2 ^ 68) }
-{
-    i128::from(low) * i128::from(pair.low_weight) + i128::from(high) * i128::from(pair.high_weight)
-}
-
-/// Two sums of layers under the weights of a pair.
-#[inline(always)]
-fn mix(low: i128, high: i128, pair: Pair) -> i128
-    requires low_small { IsAtMost low (2 ^ 68) }
-    requires high_small { IsAtMost high (2 ^ 68) }
-    requires whole { pair.low_weight + pair.high_weight ≡ 4096 }
-    ensures value { result ≡ low *ℤ pos pair.low_weight +ℤ high *ℤ pos pair.high_weight }
-    ensures size { IsAtMost result (2 ^ 80) }
-{
-    low * i128::from(pair.low_weight) + high * i128::from(pair.high_weight)
 }
 
 /// The weighted sum along a row.
@@ -83,48 +42,7 @@ fn row(force: &Lattice, axis: Axis, x: Ends, y: Slot, z: Slot) -> i64
     narrow_mix(low, high, x.pair)
 }
 
-/// The weighted sum over a layer.
-#[inline(always)]
-fn layer(force: &Lattice, axis: Axis, x: Ends, y: Ends, z: Slot) -> i128
-    requires small { AreForces force.now }
-    requires x_on { AreOnAxis (IsSlotX force.now.cells force.now.parts) force.now.cells.x x }
-    requires y_on { AreOnAxis (IsSlotY force.now.cells force.now.parts) force.now.cells.y y }
-    requires z_on { IsSlotZ force.now.cells force.now.parts z }
-    ensures value { result ≡ layer_sum force.now axis x.pair y.pair z.index }
-    ensures size { IsAtMost result (2 ^ 68) }
-{
-    let low = row(force, axis, x, y.low, z);
-    let high = row(force, axis, x, y.high, z);
-    wide_mix(low, high, y.pair)
-}
-
-/// The weighted sum over all places: eight of them have a weight.
-#[inline(always)]
-fn whole(force: &Lattice, axis: Axis, x: Ends, y: Ends, z: Ends) -> i128
-    requires small { AreForces force.now }
-    requires x_on { AreOnAxis (IsSlotX force.now.cells force.now.parts) force.now.cells.x x }
-    requires y_on { AreOnAxis (IsSlotY force.now.cells force.now.parts) force.now.cells.y y }
-    requires z_on { AreOnAxis (IsSlotZ force.now.cells force.now.parts) force.now.cells.z z }
-    ensures value { result ≡ whole_sum force.now axis x.pair y.pair z.pair }
-    ensures size { IsAtMost result (2 ^ 80) }
-{
-    let low = layer(force, axis, x, y, z.low);
-    let high = layer(force, axis, x, y, z.high);
-    mix(low, high, z.pair)
-}
-
-/// A weighted sum over the cube of a cell's side, rounded to the nearest whole number, a half going
-/// up.
-#[inline(always)]
-fn mean(sum: i128) -> i64
-    requires { IsAtMost sum (2 ^ 80) }
-    ensures value { result ≡ rounded sum (pos (4096 ^ 3)) }
-    ensures size { IsAtMost result (2 ^ 44) }
-{
-    ((2 * sum + CUBE) >> (CUBE_BITS + 1)) as i64
-}
-
-/// One component at the point of three pairs.
+/// One component at the point of three pairs: of all places eight have a weight, in four rows.
 #[inline(always)]
 pub(crate) fn component(force: &Lattice, axis: Axis, x: Ends, y: Ends, z: Ends) -> i64
     requires small { AreForces force.now }
@@ -134,5 +52,10 @@ pub(crate) fn component(force: &Lattice, axis: Axis, x: Ends, y: Ends, z: Ends) 
     ensures value { result ≡ rounded (whole_sum force.now axis x.pair y.pair z.pair) (pos (4096 ^ 3)) }
     ensures size { IsAtMost result (2 ^ 44) }
 {
-    mean(whole(force, axis, x, y, z))
+    let low_low = row(force, axis, x, y.low, z.low);
+    let high_low = row(force, axis, x, y.high, z.low);
+    let low_high = row(force, axis, x, y.low, z.high);
+    let high_high = row(force, axis, x, y.high, z.high);
+    let sum = wide_mix(low_low, high_low, low_high, high_high, y.pair, z.pair);
+    mean(sum)
 }

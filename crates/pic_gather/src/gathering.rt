@@ -6,9 +6,11 @@ ghost use Rattle.pic_grid.specs.Lattice.{value_at};
 ghost use Rattle.pic_grid.specs.Gather.{gathered_e, gathered_b};
 ghost use Rattle.pic_grid.specs.Hat.{IsInBox};
 ghost use Rattle.pic_gather.specs.Forces.{AreForces};
+ghost use Rattle.pic_gather.specs.Sides.{IsFlat};
 ghost use Rattle.pic_gather.specs.Stencil.{IsStencil};
 
 use crate::component::component;
+use crate::flat::{Flat, flat_component, flat_of};
 use crate::stencil::{Stencil, stencil_of};
 use pic_grid::Lattice;
 use pic_num::Axis;
@@ -28,7 +30,10 @@ pub fn gather_e(force: &Lattice, point: [u32; 3]) -> [i64; 3]
     ensures value { spot result ≡ gathered_e 4096 force.now.cells (value_at force.now) (triple point) }
     ensures size { AreAtMost (spot result) (2 ^ 44) }
 {
-    e_at(force, point, stencil_of(force, point))
+    match force.flat() {
+        Some(values) => flat_e(force, values, point, flat_of(force.cells(), point)),
+        None => e_at(force, point, stencil_of(force, point)),
+    }
 }
 
 /// The force values of B at a point of the box, in sub-cells: each component is the mean over its
@@ -39,7 +44,10 @@ pub fn gather_b(force: &Lattice, point: [u32; 3]) -> [i64; 3]
     ensures value { spot result ≡ gathered_b 4096 force.now.cells (value_at force.now) (triple point) }
     ensures size { AreAtMost (spot result) (2 ^ 44) }
 {
-    b_at(force, point, stencil_of(force, point))
+    match force.flat() {
+        Some(values) => flat_b(force, values, point, flat_of(force.cells(), point)),
+        None => b_at(force, point, stencil_of(force, point)),
+    }
 }
 
 /// Both at a point of the box, where the two lattices have the same cells and parts: their places are
@@ -56,10 +64,58 @@ pub fn gather(force_e: &Lattice, force_b: &Lattice, point: [u32; 3]) -> Gathered
     ensures size_e { AreAtMost (spot result.e) (2 ^ 44) }
     ensures size_b { AreAtMost (spot result.b) (2 ^ 44) }
 {
+    match force_e.flat() {
+        Some(e) => match force_b.flat() {
+            Some(b) => flat_both(force_e, e, force_b, b, point),
+            None => both(force_e, force_b, point),
+        },
+        None => both(force_e, force_b, point),
+    }
+}
+
+/// Both in lattices of any parts.
+fn both(force_e: &Lattice, force_b: &Lattice, point: [u32; 3]) -> Gathered
+    requires in_box { IsInBox 4096 force_e.now.cells (triple point) }
+    requires cells { force_b.now.cells ≡ force_e.now.cells }
+    requires parts { force_b.now.parts ≡ force_e.now.parts }
+    requires small_e { AreForces force_e.now }
+    requires small_b { AreForces force_b.now }
+    ensures e { spot result.e ≡ gathered_e 4096 force_e.now.cells (value_at force_e.now) (triple point) }
+    ensures b { spot result.b ≡ gathered_b 4096 force_b.now.cells (value_at force_b.now) (triple point) }
+    ensures size_e { AreAtMost (spot result.e) (2 ^ 44) }
+    ensures size_b { AreAtMost (spot result.b) (2 ^ 44) }
+{
     let at = stencil_of(force_e, point);
     Gathered {
         e: e_at(force_e, point, at),
         b: b_at(force_b, point, at),
+    }
+}
+
+/// Both in lattices of one part, of which these are all values.
+#[inline(always)]
+fn flat_both(
+    force_e: &Lattice,
+    e: &[i128],
+    force_b: &Lattice,
+    b: &[i128],
+    point: [u32; 3],
+) -> Gathered
+    requires e { e.now ≡ force_e.now.values }
+    requires b { b.now ≡ force_b.now.values }
+    requires in_box { IsInBox 4096 force_e.now.cells (triple point) }
+    requires cells { force_b.now.cells ≡ force_e.now.cells }
+    requires small_e { AreForces force_e.now }
+    requires small_b { AreForces force_b.now }
+    ensures e { spot result.e ≡ gathered_e 4096 force_e.now.cells (value_at force_e.now) (triple point) }
+    ensures b { spot result.b ≡ gathered_b 4096 force_b.now.cells (value_at force_b.now) (triple point) }
+    ensures size_e { AreAtMost (spot result.e) (2 ^ 44) }
+    ensures size_b { AreAtMost (spot result.b) (2 ^ 44) }
+{
+    let at = flat_of(force_e.cells(), point);
+    Gathered {
+        e: flat_e(force_e, e, point, at),
+        b: flat_b(force_b, b, point, at),
     }
 }
 
@@ -94,5 +150,41 @@ fn b_at(force: &Lattice, point: [u32; 3], at: Stencil) -> [i64; 3]
         component(force, Axis::X, node.x, half.y, half.z),
         component(force, Axis::Y, half.x, node.y, half.z),
         component(force, Axis::Z, half.x, half.y, node.z),
+    ]
+}
+
+#[inline(always)]
+fn flat_e(force: &Lattice, values: &[i128], point: [u32; 3], at: Flat) -> [i64; 3]
+    requires values { values.now ≡ force.now.values }
+    requires at { IsFlat force.now.cells (triple point) at }
+    requires small { AreForces force.now }
+    ensures value { spot result ≡ gathered_e 4096 force.now.cells (value_at force.now) (triple point) }
+    ensures size { AreAtMost (spot result) (2 ^ 44) }
+{
+    let _point = point;
+    let node = at.nodes;
+    let half = at.middles;
+    [
+        flat_component(force, values, Axis::X, half.x, node.y, node.z),
+        flat_component(force, values, Axis::Y, node.x, half.y, node.z),
+        flat_component(force, values, Axis::Z, node.x, node.y, half.z),
+    ]
+}
+
+#[inline(always)]
+fn flat_b(force: &Lattice, values: &[i128], point: [u32; 3], at: Flat) -> [i64; 3]
+    requires values { values.now ≡ force.now.values }
+    requires at { IsFlat force.now.cells (triple point) at }
+    requires small { AreForces force.now }
+    ensures value { spot result ≡ gathered_b 4096 force.now.cells (value_at force.now) (triple point) }
+    ensures size { AreAtMost (spot result) (2 ^ 44) }
+{
+    let _point = point;
+    let node = at.nodes;
+    let half = at.middles;
+    [
+        flat_component(force, values, Axis::X, node.x, half.y, half.z),
+        flat_component(force, values, Axis::Y, half.x, node.y, half.z),
+        flat_component(force, values, Axis::Z, half.x, half.y, node.z),
     ]
 }

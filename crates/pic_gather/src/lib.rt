@@ -2,7 +2,9 @@
 #![tactic(auto)]
 
 mod component;
+mod flat;
 mod gathering;
+mod mix;
 mod stencil;
 #[cfg(test)]
 mod tests;

@@ -1,7 +1,7 @@
 use mir.Syntax.{w64}
 use Rattle.pic_num.proofs.SizeLaws.{codes, code_fits}
 use Rattle.pic_gather.proofs.MixLaws.{narrow, weight_size, other_size}
-use Rattle.pic_gather.proofs.component.narrow_mix.Goals as goal
+use Rattle.pic_gather.proofs.mix.narrow_mix.Goals as goal
 
 pub overflow_add-result : goal.overflow_add-result
 overflow_add-result c =

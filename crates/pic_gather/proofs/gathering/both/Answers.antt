@@ -1,7 +1,7 @@
 use Rattle.std.proofs.Common.{sym, subst}
 use Rattle.pic_num.specs.Space.{Triple, triple}
 use Rattle.pic_gather.specs.Stencil.{IsStencil}
-use Rattle.pic_gather.proofs.gathering.gather.Goals as goal
+use Rattle.pic_gather.proofs.gathering.both.Goals as goal
 
 pub b_at-requires-clause-at : goal.b_at-requires-clause-at
 b_at-requires-clause-at c =

@@ -1,0 +1,88 @@
+use Rattle.std.proofs.Common.{ℤ, pos, ◌^◌, ◌∙◌, ap}
+use Rattle.std.proofs.lemmas.Int.{to_z-of_z}
+use mir.Syntax.{w64, w128}
+use Rattle.pic_num.specs.Rounding.{rounded}
+use Rattle.pic_gather.proofs.FlatLaws.{list_of, low_force, high_force, row_is}
+use Rattle.pic_gather.proofs.MixLaws.{four_mixed}
+use Rattle.pic_gather.proofs.flat.flat_component.Goals as goal
+
+pub row-low_low-requires-clause-low : goal.row-low_low-requires-clause-low
+row-low_low-requires-clause-low c =
+    let l = list_of _ _ _ _ _ _ c.requires.values c.cells.ensures.shape c.requires.small c.number.ensures c.count.ensures.value c.cells.ensures.value in
+    let y = c.requires.y_on in
+    let z = c.requires.z_on in
+    low_force _ _ _ _ l c.args.x c.requires.x_on _ _ _ _ y.pair.low z.pair.low y.low z.low
+
+pub row-low_low-requires-clause-high : goal.row-low_low-requires-clause-high
+row-low_low-requires-clause-high c =
+    let l = list_of _ _ _ _ _ _ c.requires.values c.cells.ensures.shape c.requires.small c.number.ensures c.count.ensures.value c.cells.ensures.value in
+    let y = c.requires.y_on in
+    let z = c.requires.z_on in
+    high_force _ _ _ _ l c.args.x c.requires.x_on _ _ _ _ y.pair.low z.pair.low y.low z.low
+
+pub row-high_low-requires-clause-low : goal.row-high_low-requires-clause-low
+row-high_low-requires-clause-low c =
+    let l = list_of _ _ _ _ _ _ c.requires.values c.cells.ensures.shape c.requires.small c.number.ensures c.count.ensures.value c.cells.ensures.value in
+    let y = c.requires.y_on in
+    let z = c.requires.z_on in
+    low_force _ _ _ _ l c.args.x c.requires.x_on _ _ _ _ y.pair.high z.pair.low y.high z.low
+
+pub row-high_low-requires-clause-high : goal.row-high_low-requires-clause-high
+row-high_low-requires-clause-high c =
+    let l = list_of _ _ _ _ _ _ c.requires.values c.cells.ensures.shape c.requires.small c.number.ensures c.count.ensures.value c.cells.ensures.value in
+    let y = c.requires.y_on in
+    let z = c.requires.z_on in
+    high_force _ _ _ _ l c.args.x c.requires.x_on _ _ _ _ y.pair.high z.pair.low y.high z.low
+
+pub row-low_high-requires-clause-low : goal.row-low_high-requires-clause-low
+row-low_high-requires-clause-low c =
+    let l = list_of _ _ _ _ _ _ c.requires.values c.cells.ensures.shape c.requires.small c.number.ensures c.count.ensures.value c.cells.ensures.value in
+    let y = c.requires.y_on in
+    let z = c.requires.z_on in
+    low_force _ _ _ _ l c.args.x c.requires.x_on _ _ _ _ y.pair.low z.pair.high y.low z.high
+
+pub row-low_high-requires-clause-high : goal.row-low_high-requires-clause-high
+row-low_high-requires-clause-high c =
+    let l = list_of _ _ _ _ _ _ c.requires.values c.cells.ensures.shape c.requires.small c.number.ensures c.count.ensures.value c.cells.ensures.value in
+    let y = c.requires.y_on in
+    let z = c.requires.z_on in
+    high_force _ _ _ _ l c.args.x c.requires.x_on _ _ _ _ y.pair.low z.pair.high y.low z.high
+
+pub row-high_high-requires-clause-low : goal.row-high_high-requires-clause-low
+row-high_high-requires-clause-low c =
+    let l = list_of _ _ _ _ _ _ c.requires.values c.cells.ensures.shape c.requires.small c.number.ensures c.count.ensures.value c.cells.ensures.value in
+    let y = c.requires.y_on in
+    let z = c.requires.z_on in
+    low_force _ _ _ _ l c.args.x c.requires.x_on _ _ _ _ y.pair.high z.pair.high y.high z.high
+
+pub row-high_high-requires-clause-high : goal.row-high_high-requires-clause-high
+row-high_high-requires-clause-high c =
+    let l = list_of _ _ _ _ _ _ c.requires.values c.cells.ensures.shape c.requires.small c.number.ensures c.count.ensures.value c.cells.ensures.value in
+    let y = c.requires.y_on in
+    let z = c.requires.z_on in
+    high_force _ _ _ _ l c.args.x c.requires.x_on _ _ _ _ y.pair.high z.pair.high y.high z.high
+
+pub returns-clause-value : goal.returns-clause-value
+returns-clause-value c =
+    let f = c.args.force.now in
+    let a = c.args.axis in
+    let x = c.args.x in
+    let l = list_of _ _ _ _ _ _ c.requires.values c.cells.ensures.shape c.requires.small c.number.ensures c.count.ensures.value c.cells.ensures.value in
+    let y = c.requires.y_on in
+    let z = c.requires.z_on in
+    let low_low = to_z-of_z w64 c.row-low_low.result (record { sfits = c.row-low_low.type_inv })
+    ∙ row_is _ _ _ _ l x c.requires.x_on _ _ _ _ y.pair.low z.pair.low y.low z.low _ c.row-low_low.ensures.value
+    in
+    let high_low = to_z-of_z w64 c.row-high_low.result (record { sfits = c.row-high_low.type_inv })
+    ∙ row_is _ _ _ _ l x c.requires.x_on _ _ _ _ y.pair.high z.pair.low y.high z.low _ c.row-high_low.ensures.value
+    in
+    let low_high = to_z-of_z w64 c.row-low_high.result (record { sfits = c.row-low_high.type_inv })
+    ∙ row_is _ _ _ _ l x c.requires.x_on _ _ _ _ y.pair.low z.pair.high y.low z.high _ c.row-low_high.ensures.value
+    in
+    let high_high = to_z-of_z w64 c.row-high_high.result (record { sfits = c.row-high_high.type_inv })
+    ∙ row_is _ _ _ _ l x c.requires.x_on _ _ _ _ y.pair.high z.pair.high y.high z.high _ c.row-high_high.ensures.value
+    in
+    let sum = to_z-of_z w128 c.wide_mix-sum.result (record { sfits = c.wide_mix-sum.type_inv })
+    ∙ four_mixed f a x.pair c.args.y.pair c.args.z.pair _ _ _ _ c.wide_mix-sum.result y.pair z.pair low_low high_low low_high high_high c.wide_mix-sum.ensures.value
+    in
+    to_z-of_z w64 c.mean.result (record { sfits = c.mean.type_inv }) ∙ c.mean.ensures.value ∙ ap (λ (s : ℤ). rounded s (pos (4096 ^ 3))) sum

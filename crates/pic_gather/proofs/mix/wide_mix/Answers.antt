@@ -1,0 +1,41 @@
+use Rattle.std.proofs.Common.{pos, ◌^◌, ◌*ℤ◌, ◌∙◌}
+use Rattle.std.proofs.lemmas.Int.{to_z-of_z}
+use mir.Syntax.{w64, w128}
+use Rattle.pic_num.proofs.SizeLaws.{codes, code_fits}
+use Rattle.pic_gather.proofs.MixLaws.{code_four, four_of}
+use Rattle.pic_gather.proofs.mix.wide_mix.Goals as goal
+
+pub overflow_add-result-2 : goal.overflow_add-result-2
+overflow_add-result-2 c =
+    let one = c.weighed.ensures.size in
+    let two = c.weighed-2.ensures.size in
+    let three = c.weighed-3.ensures.size in
+    code_fits w128 (search codes depth 20) tt
+
+pub overflow_add-result-3 : goal.overflow_add-result-3
+overflow_add-result-3 c =
+    let one = c.weighed.ensures.size in
+    let two = c.weighed-2.ensures.size in
+    let three = c.weighed-3.ensures.size in
+    let four = c.weighed-4.ensures.size in
+    code_fits w128 (search codes depth 20) tt
+
+pub returns : goal.returns
+returns c =
+    let h = c.requires in
+    let y = c.args.y in
+    let z = c.args.z in
+    let low_low = to_z-of_z w64 c.args.low_low c.ranges.low_low in
+    let high_low = to_z-of_z w64 c.args.high_low c.ranges.high_low in
+    let low_high = to_z-of_z w64 c.args.low_high c.ranges.low_high in
+    let high_high = to_z-of_z w64 c.args.high_high c.ranges.high_high in
+    let sum = code_four _ _ _ _ c.weighed.ensures.size c.weighed-2.ensures.size c.weighed-3.ensures.size c.weighed-4.ensures.size in
+    let mix = four_of c.args.low_low c.args.high_low c.args.low_high c.args.high_high _ _ _ _ _ _ _ _ _ (2 ^ 56) h.y_whole h.z_whole
+    h.low_low_small h.high_low_small h.low_high_small h.high_high_small
+    (c.weighed.ensures.value ∙ (λ i. low_low i *ℤ (pos y.low_weight *ℤ pos z.low_weight)))
+    (c.weighed-2.ensures.value ∙ (λ i. high_low i *ℤ (pos y.high_weight *ℤ pos z.low_weight)))
+    (c.weighed-3.ensures.value ∙ (λ i. low_high i *ℤ (pos y.low_weight *ℤ pos z.high_weight)))
+    (c.weighed-4.ensures.value ∙ (λ i. high_high i *ℤ (pos y.high_weight *ℤ pos z.high_weight)))
+    sum
+    in
+    record { value = mix.value; size = mix.size }
