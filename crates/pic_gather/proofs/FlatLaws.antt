@@ -1,7 +1,8 @@
 -- The places of a lattice of one part.
-use Rattle.std.proofs.Common.{◌≡◌, ℕ, ◌+◌, ◌*◌, ◌^◌, ◌<◌, List, length, slice_index_or, sym, ◌∙◌, ap, subst, arith}
-use Rattle.std.proofs.Math.IntN.{ℤ, pos, ◌+ℤ◌, ◌*ℤ◌}
+use Rattle.std.proofs.Common.{◌≡◌, ℕ, ◌+◌, ◌*◌, ◌<◌, List, length, slice_index_or, sym, ◌∙◌, ap, subst, arith}
+use Rattle.std.proofs.Math.IntN.{ℤ, pos}
 use Rattle.pic_num.specs.declared.axis.Axis.{Axis}
+use Rattle.pic_num.specs.Limits.{most_force}
 use Rattle.pic_num.specs.Sizes.{IsAtMost}
 use Rattle.pic_num.specs.Space.{Triple, axis_number}
 use Rattle.pic_grid.specs.Cells.{IsWithin, count_of, index_of, place_of}
@@ -10,7 +11,7 @@ use Rattle.pic_grid.proofs.CellLaws.{place_of_below}
 use Rattle.pic_gather.specs.Forces.{AreForces, IsForce, row_sum}
 use Rattle.pic_gather.specs.Sides.{IsSide}
 use Rattle.pic_gather.specs.declared.flat.Side.{Side}
-use Rattle.pic_gather.proofs.MixLaws.{mixed}
+use Rattle.pic_gather.proofs.MixLaws.{mix, mixed}
 
 number_sum : (a b c d px py : ℕ) → d + c * (px * py) + b * px + a * 1 ≡ d + ((c * py + b) * px + a)
 number_sum a b c d px py = omega arith
@@ -22,13 +23,13 @@ pub record IsList (f : Field) (values : List ℤ) (a : Axis) (first : ℕ) : Typ
   pub small : AreForces f
   pub first_is : first ≡ axis_number a * count_of f.cells
 
-pub list_of : (f : Field) (values : List ℤ) (a : Axis) (number count : ℕ) (n : Triple) → values ≡ f.values → length f.values ≡ 3 * count_of f.cells → AreForces f
-    → number ≡ axis_number a → count ≡ count_of n → n ≡ f.cells → IsList f values a (number * count)
+pub list_of : (f : Field) (values : List ℤ) (a : Axis) (number count : ℕ) (n : Triple) → values ≡ f.values
+    → length f.values ≡ 3 * count_of f.cells → AreForces f → number ≡ axis_number a → count ≡ count_of n → n ≡ f.cells → IsList f values a (number * count)
 list_of f values a number count n same whole small number_is count_is n_is =
     record { same = same; whole = whole; small = small; first_is = λ i. number_is i * (count_is ∙ ap count_of n_is) i }
 
 -- a row of such a lattice
-module _ (f : Field) (values : List ℤ) (a : Axis) (first : ℕ) (l : IsList f values a first) (x : Side) (on : IsSide f.cells.x 1 x)
+module _ (f : Field) (values : List ℤ) (a : Axis) (first : ℕ) (l : IsList f values a first) (x : Side) (on : IsSide f.side f.cells.x 1 x)
     (j k y z : ℕ) (in_y : j < f.cells.y) (in_z : k < f.cells.z) (y_is : y ≡ j * f.cells.x) (z_is : z ≡ k * (f.cells.x * f.cells.y))
   where
     abbrev cell : ℕ → Triple
@@ -57,7 +58,7 @@ module _ (f : Field) (values : List ℤ) (a : Axis) (first : ℕ) (l : IsList f 
         let size : length values ≡ 3 * count_of f.cells = ap length l.same ∙ l.whole in
         record {
           below = omega (arith, below, size);
-          small = subst (λ (v : ℤ). IsAtMost v (2 ^ 44)) (sym (value i m is)) (l.small.at_most a (cell i) (inside i in_x));
+          small = subst (λ (v : ℤ). IsAtMost v most_force) (sym (value i m is)) (l.small.at_most a (cell i) (inside i in_x));
         }
 
     -- the values at both places of a point are forces,
@@ -69,8 +70,9 @@ module _ (f : Field) (values : List ℤ) (a : Axis) (first : ℕ) (l : IsList f 
 
     -- and the mix of them is the sum along the row
     pub row_is : (r : ℤ)
-        → r ≡ slice_index_or values (first + z + y + x.low) (pos 0) *ℤ pos x.pair.low_weight +ℤ slice_index_or values (first + z + y + x.high) (pos 0) *ℤ pos x.pair.high_weight
+        → r ≡ mix (slice_index_or values (first + z + y + x.low) (pos 0)) (slice_index_or values (first + z + y + x.high) (pos 0))
+        x.pair.low_weight x.pair.high_weight
         → r ≡ row_sum f a x.pair j k
     unfolding row_sum
     row_is r is =
-        mixed f.cells.x (λ i. value_at f a (cell i)) x.pair _ _ r on.pair (value x.pair.low x.low on.low) (value x.pair.high x.high on.high) is
+        mixed f.side f.cells.x (λ i. value_at f a (cell i)) x.pair _ _ r on.pair (value x.pair.low x.low on.low) (value x.pair.high x.high on.high) is

@@ -34,18 +34,18 @@ cells_nested n force f g h =
 
 -- a component is gathered as the sum under the weights of the point's pairs, rounded once
 pub gathered_is : (f : Field) (a : Axis) (offset point : Triple) (x y z : Pair)
-    → IsPairOf 4096 f.cells.x offset.x point.x x → IsPairOf 4096 f.cells.y offset.y point.y y → IsPairOf 4096 f.cells.z offset.z point.z z
-    → gathered 4096 f.cells offset (value_at f a) point ≡ rounded (whole_sum f a x y z) (pos (4096 ^ 3))
+    → IsPairOf f.side f.cells.x offset.x point.x x → IsPairOf f.side f.cells.y offset.y point.y y → IsPairOf f.side f.cells.z offset.z point.z z
+    → gathered f.side f.cells offset (value_at f a) point ≡ rounded (whole_sum f a x y z) (pos (f.side ^ 3))
 unfolding gathered shifted_weight row_sum layer_sum whole_sum
 gathered_is f a offset point in_x in_y in_z of_x of_y of_z =
     let n = f.cells in
-    let hat_x : ℕ → ℕ = λ j. periodic_hat 4096 (n.x * 4096) point.x (j * 4096 + offset.x) in
-    let hat_y : ℕ → ℕ = λ j. periodic_hat 4096 (n.y * 4096) point.y (j * 4096 + offset.y) in
-    let hat_z : ℕ → ℕ = λ j. periodic_hat 4096 (n.z * 4096) point.z (j * 4096 + offset.z) in
+    let hat_x : ℕ → ℕ = λ j. periodic_hat f.side (n.x * f.side) point.x (j * f.side + offset.x) in
+    let hat_y : ℕ → ℕ = λ j. periodic_hat f.side (n.y * f.side) point.y (j * f.side + offset.y) in
+    let hat_z : ℕ → ℕ = λ j. periodic_hat f.side (n.z * f.side) point.z (j * f.side + offset.z) in
     let row : (y z : ℕ) → sum_below n.x (λ x. value_at f a (record { x = x; y = y; z = z }) *ℤ pos (hat_x x)) ≡ row_sum f a in_x y z =
     λ y z. sum_same n.x _ _ (λ j below. ap (λ (w : ℕ). value_at f a (record { x = j; y = y; z = z }) *ℤ pos w) (of_x.weights j below)) in
     let layer : (z : ℕ) → sum_below n.y (λ y. sum_below n.x (λ x. value_at f a (record { x = x; y = y; z = z }) *ℤ pos (hat_x x)) *ℤ pos (hat_y y)) ≡ layer_sum f a in_x in_y z =
     λ z. sum_same n.y _ _ (λ j below. λ i. row j z i *ℤ pos (of_y.weights j below i)) in
     let all : sum_below n.z (λ z. sum_below n.y (λ y. sum_below n.x (λ x. value_at f a (record { x = x; y = y; z = z }) *ℤ pos (hat_x x)) *ℤ pos (hat_y y)) *ℤ pos (hat_z z)) ≡ whole_sum f a in_x in_y in_z =
     sum_same n.z _ _ (λ j below. λ i. layer j i *ℤ pos (of_z.weights j below i)) in
-    ap (λ (s : ℤ). rounded s (pos (4096 ^ 3))) (cells_nested n (value_at f a) hat_x hat_y hat_z ∙ all)
+    ap (λ (s : ℤ). rounded s (pos (f.side ^ 3))) (cells_nested n (value_at f a) hat_x hat_y hat_z ∙ all)

@@ -1,20 +1,21 @@
-//! One component at a point, in a lattice of one part: all values stand in one list, and the number of
-//! a place in it is a sum of three numbers.
+//! One component at a point, in a lattice of one part: all values stand in one list, and the number
+//! of a place in it is a sum of three numbers.
 
-ghost use Rattle.std.specs.Prelude.{◌≡◌, pos, ◌+◌, ◌*◌, ◌^◌, ◌<◌, ◌≤◌, ◌+ℤ◌, ◌*ℤ◌, slice_index_or};
+ghost use Rattle.std.specs.Prelude.{◌≡◌, pos, ◌+◌, ◌*◌, ◌/◌, ◌^◌, ◌<◌, ◌≤◌, ◌+ℤ◌, ◌*ℤ◌, slice_index_or};
+ghost use Rattle.pic_num.specs.Limits.{most_force, most_side, most_cells_of_axis};
 ghost use Rattle.pic_num.specs.Rounding.{rounded};
 ghost use Rattle.pic_num.specs.Sizes.{IsAtMost};
 ghost use Rattle.pic_num.specs.Space.{triple};
 ghost use Rattle.pic_grid.specs.Hat.{IsInBox};
 ghost use Rattle.pic_gather.specs.Forces.{AreForces, IsForce, whole_sum};
-ghost use Rattle.pic_gather.specs.Sides.{IsSide, AreSides, IsFlat};
+ghost use Rattle.pic_gather.specs.Sides.{IsSideX, IsSideY, IsSideZ, AreSides, IsFlat};
 
 use crate::mix::{mean, narrow_mix, wide_mix};
 use pic_grid::{Cells, Lattice, Pair};
-use pic_num::Axis;
+use pic_num::{Axis, Sub};
 
-/// The two cells of an axis between whose places a point lies, each by what it adds to the number of a
-/// place, and the point's weights for them.
+/// The two cells of an axis between whose places a point lies, each by what it adds to the number of
+/// a place, and the point's weights for them.
 #[derive(Clone, Copy)]
 pub(crate) struct Side {
     pub(crate) pair: Pair,
@@ -40,9 +41,9 @@ pub(crate) struct Flat {
 /// A pair of an axis on which one cell further adds `step` to the number of a place.
 #[inline(always)]
 fn side_of(pair: Pair, step: u32) -> Side
-    requires low { pair.low < 2 ^ 7 }
-    requires high { pair.high < 2 ^ 7 }
-    requires step { step ≤ 2 ^ 14 }
+    requires low { pair.low < most_cells_of_axis }
+    requires high { pair.high < most_cells_of_axis }
+    requires step { step ≤ most_cells_of_axis * most_cells_of_axis }
     ensures pair { result.pair ≡ pair }
     ensures low { result.low ≡ pair.low * step }
     ensures high { result.high ≡ pair.high * step }
@@ -57,14 +58,15 @@ fn side_of(pair: Pair, step: u32) -> Side
 /// A point's sides where the places are the nodes.
 #[inline(always)]
 fn nodes(cells: Cells, point: [u32; 3]) -> Sides
-    requires { IsInBox 4096 cells (triple point) }
-    ensures { AreSides cells 0 (triple point) result }
+    requires { IsInBox cells.side cells.n (triple point) }
+    ensures { AreSides cells.side cells.n 0 (triple point) result }
 {
+    let sub = cells.sub();
     let [nx, ny, nz] = cells.numbers();
     let [x, y, z] = point;
-    let on_x = Pair::of_nodes(nx, x);
-    let on_y = Pair::of_nodes(ny, y);
-    let on_z = Pair::of_nodes(nz, z);
+    let on_x = Pair::of_nodes(sub, nx, x);
+    let on_y = Pair::of_nodes(sub, ny, y);
+    let on_z = Pair::of_nodes(sub, nz, z);
     Sides {
         x: side_of(on_x, 1),
         y: side_of(on_y, nx),
@@ -75,14 +77,15 @@ fn nodes(cells: Cells, point: [u32; 3]) -> Sides
 /// A point's sides where the places stand in the middle between the nodes.
 #[inline(always)]
 fn middles(cells: Cells, point: [u32; 3]) -> Sides
-    requires { IsInBox 4096 cells (triple point) }
-    ensures { AreSides cells 2048 (triple point) result }
+    requires { IsInBox cells.side cells.n (triple point) }
+    ensures { AreSides cells.side cells.n (cells.side / 2) (triple point) result }
 {
+    let sub = cells.sub();
     let [nx, ny, nz] = cells.numbers();
     let [x, y, z] = point;
-    let on_x = Pair::of_middles(nx, x);
-    let on_y = Pair::of_middles(ny, y);
-    let on_z = Pair::of_middles(nz, z);
+    let on_x = Pair::of_middles(sub, nx, x);
+    let on_y = Pair::of_middles(sub, ny, y);
+    let on_z = Pair::of_middles(sub, nz, z);
     Sides {
         x: side_of(on_x, 1),
         y: side_of(on_y, nx),
@@ -93,9 +96,10 @@ fn middles(cells: Cells, point: [u32; 3]) -> Sides
 /// The places of a point, in sub-cells, in each lattice of these cells and one part.
 #[inline(always)]
 pub(crate) fn flat_of(cells: Cells, point: [u32; 3]) -> Flat
-    requires { IsInBox 4096 cells (triple point) }
-    ensures { IsFlat cells (triple point) result }
+    requires { IsInBox cells.side cells.n (triple point) }
+    ensures { IsFlat cells.side cells.n (triple point) result }
 {
+    let _side = cells.sub().side();
     Flat {
         nodes: nodes(cells, point),
         middles: middles(cells, point),
@@ -107,11 +111,11 @@ pub(crate) fn flat_of(cells: Cells, point: [u32; 3]) -> Flat
 fn row(values: &[i128], start: usize, x: Side) -> i64
     requires low { IsForce values.now (start + x.low) }
     requires high { IsForce values.now (start + x.high) }
-    requires whole { x.pair.low_weight + x.pair.high_weight ≡ 4096 }
+    requires most { x.pair.low_weight + x.pair.high_weight ≤ most_side }
     ensures value { result
         ≡ slice_index_or values.now (start + x.low) (pos 0) *ℤ pos x.pair.low_weight
         +ℤ slice_index_or values.now (start + x.high) (pos 0) *ℤ pos x.pair.high_weight }
-    ensures size { IsAtMost result (2 ^ 56) }
+    ensures size { IsAtMost result (most_force * (x.pair.low_weight + x.pair.high_weight)) }
 {
     let low = values[start + x.low] as i64;
     let high = values[start + x.high] as i64;
@@ -122,6 +126,7 @@ fn row(values: &[i128], start: usize, x: Side) -> i64
 #[inline(always)]
 pub(crate) fn flat_component(
     force: &Lattice,
+    sub: Sub,
     values: &[i128],
     axis: Axis,
     x: Side,
@@ -129,12 +134,15 @@ pub(crate) fn flat_component(
     z: Side,
 ) -> i64
     requires values { values.now ≡ force.now.values }
+    requires side { sub ≡ force.now.side }
+    requires most { force.now.side ≤ most_side }
     requires small { AreForces force.now }
-    requires x_on { IsSide force.now.cells.x 1 x }
-    requires y_on { IsSide force.now.cells.y force.now.cells.x y }
-    requires z_on { IsSide force.now.cells.z (force.now.cells.x * force.now.cells.y) z }
-    ensures value { result ≡ rounded (whole_sum force.now axis x.pair y.pair z.pair) (pos (4096 ^ 3)) }
-    ensures size { IsAtMost result (2 ^ 44) }
+    requires x_on { IsSideX force.now x }
+    requires y_on { IsSideY force.now y }
+    requires z_on { IsSideZ force.now z }
+    ensures value { result
+        ≡ rounded (whole_sum force.now axis x.pair y.pair z.pair) (pos (force.now.side ^ 3)) }
+    ensures size { IsAtMost result most_force }
 {
     let first = axis.number() as usize * force.cells().count() as usize;
     let low_low = row(values, first + z.low + y.low, x);
@@ -142,5 +150,5 @@ pub(crate) fn flat_component(
     let low_high = row(values, first + z.high + y.low, x);
     let high_high = row(values, first + z.high + y.high, x);
     let sum = wide_mix(low_low, high_low, low_high, high_high, y.pair, z.pair);
-    mean(sum)
+    mean(sub, sum)
 }

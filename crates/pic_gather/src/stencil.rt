@@ -1,15 +1,16 @@
 //! The places that a point is gathered from, found once.
 
-ghost use Rattle.std.specs.Prelude.{◌≡◌, ◌<◌};
+ghost use Rattle.std.specs.Prelude.{◌≡◌, ◌/◌, ◌<◌};
 ghost use Rattle.pic_num.specs.Space.{triple};
 ghost use Rattle.pic_grid.specs.Hat.{IsInBox};
 ghost use Rattle.pic_grid.specs.Slot.{IsSlotX, IsSlotY, IsSlotZ};
 ghost use Rattle.pic_gather.specs.Stencil.{AreThree, IsStencil};
 
 use pic_grid::{Lattice, Pair, Slot};
+use pic_num::Sub;
 
-/// The two cells of an axis between whose places a point lies, where they lie in the lattice, and the
-/// point's weights for them.
+/// The two cells of an axis between whose places a point lies, where they lie in the lattice, and
+/// the point's weights for them.
 #[derive(Clone, Copy)]
 pub(crate) struct Ends {
     pub(crate) pair: Pair,
@@ -88,15 +89,16 @@ fn ends_z(force: &Lattice, pair: Pair) -> Ends
 
 /// A point's ends on the axes where the places are the nodes.
 #[inline(always)]
-fn nodes(force: &Lattice, point: [u32; 3]) -> Three
-    requires { IsInBox 4096 force.now.cells (triple point) }
-    ensures { AreThree force.now.cells force.now.parts 0 (triple point) result }
+fn nodes(force: &Lattice, sub: Sub, point: [u32; 3]) -> Three
+    requires side { sub ≡ force.now.side }
+    requires in_box { IsInBox force.now.side force.now.cells (triple point) }
+    ensures { AreThree force.now.side force.now.cells force.now.parts 0 (triple point) result }
 {
     let [nx, ny, nz] = force.cells().numbers();
     let [x, y, z] = point;
-    let on_x = Pair::of_nodes(nx, x);
-    let on_y = Pair::of_nodes(ny, y);
-    let on_z = Pair::of_nodes(nz, z);
+    let on_x = Pair::of_nodes(sub, nx, x);
+    let on_y = Pair::of_nodes(sub, ny, y);
+    let on_z = Pair::of_nodes(sub, nz, z);
     Three {
         x: ends_x(force, on_x),
         y: ends_y(force, on_y),
@@ -106,15 +108,17 @@ fn nodes(force: &Lattice, point: [u32; 3]) -> Three
 
 /// A point's ends on the axes where the places stand in the middle between the nodes.
 #[inline(always)]
-fn middles(force: &Lattice, point: [u32; 3]) -> Three
-    requires { IsInBox 4096 force.now.cells (triple point) }
-    ensures { AreThree force.now.cells force.now.parts 2048 (triple point) result }
+fn middles(force: &Lattice, sub: Sub, point: [u32; 3]) -> Three
+    requires side { sub ≡ force.now.side }
+    requires in_box { IsInBox force.now.side force.now.cells (triple point) }
+    ensures { AreThree force.now.side force.now.cells force.now.parts (force.now.side / 2)
+        (triple point) result }
 {
     let [nx, ny, nz] = force.cells().numbers();
     let [x, y, z] = point;
-    let on_x = Pair::of_middles(nx, x);
-    let on_y = Pair::of_middles(ny, y);
-    let on_z = Pair::of_middles(nz, z);
+    let on_x = Pair::of_middles(sub, nx, x);
+    let on_y = Pair::of_middles(sub, ny, y);
+    let on_z = Pair::of_middles(sub, nz, z);
     Three {
         x: ends_x(force, on_x),
         y: ends_y(force, on_y),
@@ -124,12 +128,14 @@ fn middles(force: &Lattice, point: [u32; 3]) -> Three
 
 /// The places of a point, in sub-cells, in a lattice and in each of the same cells and parts.
 #[inline(always)]
-pub(crate) fn stencil_of(force: &Lattice, point: [u32; 3]) -> Stencil
-    requires { IsInBox 4096 force.now.cells (triple point) }
-    ensures { IsStencil force.now.cells force.now.parts (triple point) result }
+pub(crate) fn stencil_of(force: &Lattice, sub: Sub, point: [u32; 3]) -> Stencil
+    requires side { sub ≡ force.now.side }
+    requires in_box { IsInBox force.now.side force.now.cells (triple point) }
+    ensures { IsStencil force.now.side force.now.cells force.now.parts (triple point) result }
 {
+    let _side = sub.side();
     Stencil {
-        nodes: nodes(force, point),
-        middles: middles(force, point),
+        nodes: nodes(force, sub, point),
+        middles: middles(force, sub, point),
     }
 }

@@ -1,11 +1,9 @@
-use Rattle.std.proofs.Common.{ℕ, ◌^◌, ◌∙◌, sym, ap, subst}
-use Rattle.std.proofs.Math.IntN.{ℤ}
+use Rattle.std.proofs.Common.{ℕ, ℤ, ◌∙◌, ap}
 use Rattle.std.proofs.lemmas.Int.{to_z-of_z}
 use mir.Syntax.{w64}
-use Rattle.pic_num.specs.Sizes.{IsAtMost}
 use Rattle.pic_grid.specs.Lattice.{value_at}
 use Rattle.pic_gather.specs.Forces.{row_sum}
-use Rattle.pic_gather.proofs.MixLaws.{mixed}
+use Rattle.pic_gather.proofs.MixLaws.{mixed, whole_row}
 use Rattle.pic_gather.proofs.component.row.Goals as goal
 
 pub returns : goal.returns
@@ -19,6 +17,6 @@ returns c =
     let high_is = to_z-of_z w64 c.value-high.result (record { sfits = c.value-high.type_inv }) ∙ c.value-high.ensures.value ∙ ap at on.high_is in
     let held = to_z-of_z w64 c.narrow_mix.result (record { sfits = c.narrow_mix.type_inv }) in
     record {
-      value = held ∙ mixed f.cells.x at c.args.x.pair _ _ c.narrow_mix.result on.pair low_is high_is c.narrow_mix.ensures.value;
-      size = subst (λ (z : ℤ). IsAtMost z (2 ^ 56)) (sym held) c.narrow_mix.ensures.size;
+      value = held ∙ mixed f.side f.cells.x at c.args.x.pair _ _ c.narrow_mix.result on.pair low_is high_is c.narrow_mix.ensures.value;
+      size = whole_row _ _ _ c.narrow_mix.type_inv on.pair.whole c.narrow_mix.ensures.size;
     }

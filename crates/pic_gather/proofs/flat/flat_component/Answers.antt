@@ -1,9 +1,9 @@
-use Rattle.std.proofs.Common.{ℤ, pos, ◌^◌, ◌∙◌, ap}
+use Rattle.std.proofs.Common.{pos, ◌^◌, ◌∙◌}
 use Rattle.std.proofs.lemmas.Int.{to_z-of_z}
 use mir.Syntax.{w64, w128}
 use Rattle.pic_num.specs.Rounding.{rounded}
 use Rattle.pic_gather.proofs.FlatLaws.{list_of, low_force, high_force, row_is}
-use Rattle.pic_gather.proofs.MixLaws.{four_mixed}
+use Rattle.pic_gather.proofs.MixLaws.{whole_row, four_mixed, four_size, mean_of}
 use Rattle.pic_gather.proofs.flat.flat_component.Goals as goal
 
 pub row-low_low-requires-clause-low : goal.row-low_low-requires-clause-low
@@ -62,6 +62,17 @@ row-high_high-requires-clause-high c =
     let z = c.requires.z_on in
     high_force _ _ _ _ l c.args.x c.requires.x_on _ _ _ _ y.pair.high z.pair.high y.high z.high
 
+pub mean-requires : goal.mean-requires
+mean-requires c =
+    let x = c.requires.x_on.pair.whole in
+    let y = c.requires.y_on.pair in
+    let z = c.requires.z_on.pair in
+    let small = four_size c.args.force.now c.args.axis c.args.x.pair c.args.y.pair c.args.z.pair _ _ _ _ c.wide_mix-sum.result y z c.wide_mix-sum.ensures
+    (whole_row _ _ _ c.row-low_low.type_inv x c.row-low_low.ensures.size) (whole_row _ _ _ c.row-high_low.type_inv x c.row-high_low.ensures.size)
+    (whole_row _ _ _ c.row-low_high.type_inv x c.row-low_high.ensures.size) (whole_row _ _ _ c.row-high_high.type_inv x c.row-high_high.ensures.size)
+    in
+    mean_of c.wide_mix-sum.result _ _ c.wide_mix-sum.type_inv c.requires.side small
+
 pub returns-clause-value : goal.returns-clause-value
 returns-clause-value c =
     let f = c.args.force.now in
@@ -83,6 +94,6 @@ returns-clause-value c =
     ∙ row_is _ _ _ _ l x c.requires.x_on _ _ _ _ y.pair.high z.pair.high y.high z.high _ c.row-high_high.ensures.value
     in
     let sum = to_z-of_z w128 c.wide_mix-sum.result (record { sfits = c.wide_mix-sum.type_inv })
-    ∙ four_mixed f a x.pair c.args.y.pair c.args.z.pair _ _ _ _ c.wide_mix-sum.result y.pair z.pair low_low high_low low_high high_high c.wide_mix-sum.ensures.value
+    ∙ four_mixed f a x.pair c.args.y.pair c.args.z.pair _ _ _ _ c.wide_mix-sum.result y.pair z.pair c.wide_mix-sum.ensures low_low high_low low_high high_high
     in
-    to_z-of_z w64 c.mean.result (record { sfits = c.mean.type_inv }) ∙ c.mean.ensures.value ∙ ap (λ (s : ℤ). rounded s (pos (4096 ^ 3))) sum
+    to_z-of_z w64 c.mean.result (record { sfits = c.mean.type_inv }) ∙ c.mean.ensures.value ∙ (λ i. rounded (sum i) (pos (c.requires.side i ^ 3)))

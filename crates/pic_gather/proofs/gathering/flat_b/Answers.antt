@@ -17,16 +17,16 @@ returns-clause-value c =
     let x =
     to_z-of_z w64 c.flat_component.result (record { sfits = c.flat_component.type_inv })
     ∙ c.flat_component.ensures.value
-    ∙ sym (gathered_is f X (offset_b 4096 X) p of.nodes.x.pair of.middles.y.pair of.middles.z.pair node.x.of half.y.of half.z.of)
+    ∙ sym (gathered_is f X (offset_b f.side X) p of.nodes.x.pair of.middles.y.pair of.middles.z.pair node.x.of half.y.of half.z.of)
     in
     let y =
     to_z-of_z w64 c.flat_component-2.result (record { sfits = c.flat_component-2.type_inv })
     ∙ c.flat_component-2.ensures.value
-    ∙ sym (gathered_is f Y (offset_b 4096 Y) p of.middles.x.pair of.nodes.y.pair of.middles.z.pair half.x.of node.y.of half.z.of)
+    ∙ sym (gathered_is f Y (offset_b f.side Y) p of.middles.x.pair of.nodes.y.pair of.middles.z.pair half.x.of node.y.of half.z.of)
     in
     let z =
     to_z-of_z w64 c.flat_component-3.result (record { sfits = c.flat_component-3.type_inv })
     ∙ c.flat_component-3.ensures.value
-    ∙ sym (gathered_is f Z (offset_b 4096 Z) p of.middles.x.pair of.middles.y.pair of.nodes.z.pair half.x.of half.y.of node.z.of)
+    ∙ sym (gathered_is f Z (offset_b f.side Z) p of.middles.x.pair of.middles.y.pair of.nodes.z.pair half.x.of half.y.of node.z.of)
     in
     λ i. record { x = x i; y = y i; z = z i }

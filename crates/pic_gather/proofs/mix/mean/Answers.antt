@@ -1,21 +1,29 @@
-use Rattle.std.proofs.Common.{◌≡◌, ℤ, pos, ◌^◌, ◌+ℤ◌, to_z, of_z, ◌∙◌, ap, arith}
-use Rattle.std.proofs.lemmas.Int.{ints}
-use lib.Signed.{shr_z}
+use Rattle.std.proofs.Common.{◌≡◌, ℤ, to_z, of_z, sym, ◌∙◌, ap, subst}
 use mir.Syntax.{w64, w128}
-use Rattle.pic_num.specs.Rounding.{rounded}
+use mir.Val.{SFits}
+use Rattle.pic_num.specs.Limits.{most_force}
 use Rattle.pic_num.specs.Sizes.{IsAtMost}
-use Rattle.pic_num.proofs.RoundingLaws.{rounded-size}
-use Rattle.pic_num.proofs.SizeLaws.{codes, code_is}
-use Rattle.pic_gather.proofs.HalfLaws.{rounded_half}
+use Rattle.pic_num.proofs.SizeLaws.{codes, code_is, code_fits}
+use Rattle.pic_gather.proofs.HalfLaws.{code_mean, mean_size}
 use Rattle.pic_gather.proofs.mix.mean.Goals as goal
 
-pub returns-clause-value : goal.returns-clause-value
-returns-clause-value c =
-    let sum = c.args.sum in
-    let sum_size = c.requires.size in
-    let mean_size = rounded-size sum (pos (2 ^ 36)) (2 ^ 44) (2 ^ 36) (omega arith) (omega (arith, ints)) (omega (arith, sum_size)) in
-    let size : IsAtMost (rounded sum (pos (2 ^ 36))) (2 ^ 44) = record { size = mean_size } in
-    let inner : to_z w128 (of_z w128 (to_z w128 (of_z w128 sum) +ℤ pos 34359738368)) ≡ sum +ℤ pos (2 ^ 35) =
-    code_is (search codes depth 14) tt in
-    let held : to_z w64 (of_z w64 (to_z w128 (of_z w128 (rounded sum (pos (2 ^ 36)))))) ≡ rounded sum (pos (2 ^ 36)) = code_is (search codes depth 6) tt in
-    ap (λ (z : ℤ). to_z w64 (of_z w64 (to_z w128 (of_z w128 z)))) (ap (λ (z : ℤ). shr_z z (2 ^ 36)) inner ∙ rounded_half sum 35) ∙ held
+-- a mean held in either word is the mean
+held : (r : ℤ) → IsAtMost r most_force → to_z w64 (of_z w64 (to_z w128 (of_z w128 r))) ≡ r
+held r small = code_is (search codes depth 6) tt
+
+fits : (r : ℤ) → IsAtMost r most_force → SFits w64 (to_z w128 (of_z w128 r))
+fits r small = code_fits w64 (search codes depth 6) tt
+
+pub overflow_cast-result-2 : goal.overflow_cast-result-2
+overflow_cast-result-2 c =
+    let h = c.bits.ensures in
+    let is = code_mean c.args.sub c.bits.result h.power c.args.sum h.least h.most c.requires in
+    subst (λ (z : ℤ). SFits w64 (to_z w128 (of_z w128 z))) (sym is) (fits _ (mean_size c.args.sub c.bits.result h.power c.args.sum c.requires))
+
+pub returns : goal.returns
+returns c =
+    let h = c.bits.ensures in
+    let small = mean_size c.args.sub c.bits.result h.power c.args.sum c.requires in
+    let mean = code_mean c.args.sub c.bits.result h.power c.args.sum h.least h.most c.requires in
+    let is = ap (λ (z : ℤ). to_z w64 (of_z w64 (to_z w128 (of_z w128 z)))) mean ∙ held _ small in
+    record { value = is; size = subst (λ (z : ℤ). IsAtMost z most_force) (sym is) small }

@@ -1,4 +1,4 @@
-use Rattle.std.proofs.Common.{pos, ◌^◌, ◌*ℤ◌, ◌∙◌}
+use Rattle.std.proofs.Common.{pos, ◌*◌, ◌*ℤ◌, ◌∙◌}
 use Rattle.std.proofs.lemmas.Int.{to_z-of_z}
 use mir.Syntax.{w64, w128}
 use Rattle.pic_num.proofs.SizeLaws.{codes, code_fits}
@@ -22,7 +22,6 @@ overflow_add-result-3 c =
 
 pub returns : goal.returns
 returns c =
-    let h = c.requires in
     let y = c.args.y in
     let z = c.args.z in
     let low_low = to_z-of_z w64 c.args.low_low c.ranges.low_low in
@@ -30,12 +29,9 @@ returns c =
     let low_high = to_z-of_z w64 c.args.low_high c.ranges.low_high in
     let high_high = to_z-of_z w64 c.args.high_high c.ranges.high_high in
     let sum = code_four _ _ _ _ c.weighed.ensures.size c.weighed-2.ensures.size c.weighed-3.ensures.size c.weighed-4.ensures.size in
-    let mix = four_of c.args.low_low c.args.high_low c.args.low_high c.args.high_high _ _ _ _ _ _ _ _ _ (2 ^ 56) h.y_whole h.z_whole
-    h.low_low_small h.high_low_small h.low_high_small h.high_high_small
-    (c.weighed.ensures.value ∙ (λ i. low_low i *ℤ (pos y.low_weight *ℤ pos z.low_weight)))
-    (c.weighed-2.ensures.value ∙ (λ i. high_low i *ℤ (pos y.high_weight *ℤ pos z.low_weight)))
-    (c.weighed-3.ensures.value ∙ (λ i. low_high i *ℤ (pos y.low_weight *ℤ pos z.high_weight)))
-    (c.weighed-4.ensures.value ∙ (λ i. high_high i *ℤ (pos y.high_weight *ℤ pos z.high_weight)))
+    four_of c.args.low_low c.args.high_low c.args.low_high c.args.high_high _ _ _ _ _ y.low_weight y.high_weight z.low_weight z.high_weight
+    (c.weighed.ensures.value ∙ (λ i. low_low i *ℤ pos (y.low_weight * z.low_weight)))
+    (c.weighed-2.ensures.value ∙ (λ i. high_low i *ℤ pos (y.high_weight * z.low_weight)))
+    (c.weighed-3.ensures.value ∙ (λ i. low_high i *ℤ pos (y.low_weight * z.high_weight)))
+    (c.weighed-4.ensures.value ∙ (λ i. high_high i *ℤ pos (y.high_weight * z.high_weight)))
     sum
-    in
-    record { value = mix.value; size = mix.size }
