@@ -4,8 +4,9 @@ use Rattle.pic_num.specs.declared.motion.Particle.{Particle}
 use Rattle.pic_num.specs.Multiplier.{Multiplier}
 use Rattle.pic_num.specs.Rounding.{scaled}
 use Rattle.pic_num.specs.Sizes.{IsAtMost}
-use Rattle.pic_num.specs.Space.{Triple}
+use Rattle.pic_num.specs.Space.{Triple, triple}
 use Rattle.pic_grid.specs.Cells.{count_of}
+use Rattle.pic_grid.specs.Hat.{IsInBox}
 use Rattle.pic_grid.specs.Lattice.{Field}
 use Rattle.pic_energy.specs.declared.amounts.Energies.{Energies}
 use Rattle.pic_energy.specs.Energies.{energies_of, IsBounded, IsOfKinds}
@@ -97,8 +98,14 @@ frame_at l due = the_step due >>= (λ step. state_at l due)
 abbrev pub frame_length : LayoutView → ℕ
 frame_length l = 52 + 96 * count_of l.cells + 24 * sum l.counts
 
--- what the reader knows of a state that it read: its values are within their bounds, and each particle is of a species
+-- a particle whose position lies in the box
+pub record IsPlaced (n : Triple) (particle : Particle) : Type 0 where
+  pub place : IsInBox 4096 n (triple particle.x)
+
+-- what the reader knows of a state that it read: its values are within their bounds, and each particle
+-- is of a species and lies in the box
 pub record IsHeld (l : LayoutView) (e b : Field) (particles : List Particle) : Type 0 where
   pub electric : IsBounded l.scales.e_force e
   pub magnetic : IsBounded l.scales.b_force b
   pub species : All (IsOfKinds l.kinds) particles
+  pub places : All (IsPlaced l.cells) particles

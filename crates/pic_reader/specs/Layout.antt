@@ -2,6 +2,8 @@
 use Rattle.std.specs.Prelude.{◌≡◌, ℕ, suc, ◌-◌, ◌≤◌, nat_lt, if◌then◌else◌, List, [], ◌∷◌, length, map, sum, All}
 use Rattle.pic_num.specs.declared.motion.Kind.{Kind}
 use Rattle.pic_num.specs.declared.mult.Scales.{Scales}
+use Rattle.pic_num.specs.Limits.{most_charge}
+use Rattle.pic_num.specs.Sizes.{IsAtMost}
 use Rattle.pic_num.specs.Space.{Triple}
 use Rattle.pic_grid.specs.Cells.{IsCells}
 use Rattle.pic_energy.specs.Energies.{HasMass}
@@ -36,6 +38,7 @@ pub record IsLayout (l : LayoutView) : Type 0 where
   pub every_least : 1 ≤ l.every
   pub every_most : l.every ≤ most_steps
   pub masses : All HasMass l.kinds
+  pub charges : All (λ (k : Kind). IsAtMost k.charge most_charge) l.kinds
   pub species : length l.kinds ≡ length l.counts
   pub few : length l.counts ≤ most_species
   pub total : sum l.counts ≤ most_particles

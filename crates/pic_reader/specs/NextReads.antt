@@ -1,5 +1,5 @@
 -- What reading the next record of a dump gave.
-use Rattle.std.specs.Prelude.{◌≡◌, ℕ, List, Some, Result, Ok, Err, ⊤}
+use Rattle.std.specs.Prelude.{◌≡◌, ℕ, ◌≤◌, List, Some, Result, Ok, Err, ⊤}
 use Rattle.pic_io.specs.Told.{Told}
 use Rattle.pic_num.specs.declared.motion.Particle.{Particle}
 use Rattle.pic_grid.specs.Lattice.{Field}
@@ -10,13 +10,15 @@ use Rattle.pic_reader.specs.declared.dump_reader.Next.{Next}
 use Rattle.pic_reader.specs.declared.dump_reader.Next.TheVariants.{Frame, End}
 use Rattle.pic_reader.specs.FrameFields.{frame_of, IsHeld}
 use Rattle.pic_reader.specs.Records.{AFrame, AnEnd, record_at}
-use Rattle.pic_reader.specs.Standing.{Standing}
+use Rattle.pic_reader.specs.Standing.{Standing, passed}
 
--- a frame was read, and the reader stands behind it
+-- a frame was read, of a step after the last one's and among the steps, and the reader stands behind it
 pub record HasFrame (r : Standing) (before now : Told) (e b : Field) (particles : List Particle) (behind : Standing) (step : ℕ) (energies : Energies) : Type 0 where
   pub read : HasRead (record_at r.layout r.last) r.place before (AFrame (frame_of step e.values b.values particles energies)) behind.place now
   pub layout : behind.layout ≡ r.layout
   pub last : behind.last ≡ Some step
+  pub later : passed r.last ≤ step
+  pub most : step ≤ r.layout.steps
   pub held : IsHeld r.layout e b particles
 
 abbrev pub NextOf : Standing → Told → Told → Field → Field → List Particle → Result Next ReadStop → Type 0

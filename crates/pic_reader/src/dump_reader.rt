@@ -8,7 +8,7 @@ ghost use Rattle.pic_reader.specs.Fields.{wrong_tag};
 ghost use Rattle.pic_reader.specs.FrameFields.{frame_length};
 ghost use Rattle.pic_reader.specs.HeaderFields.{header_at};
 ghost use Rattle.pic_reader.specs.HeadReads.{HeadReads};
-ghost use Rattle.pic_reader.specs.Layout.{layout_of};
+ghost use Rattle.pic_reader.specs.Layout.{IsLayout, layout_of};
 ghost use Rattle.pic_reader.specs.NextReads.{NextReads, IsBehind};
 ghost use Rattle.pic_reader.specs.Records.{is_tag};
 
@@ -21,8 +21,9 @@ use crate::layout::Layout;
 use pic_dump::Header;
 use pic_energy::Energies;
 use pic_fields::{ReadStop, read_byte};
-use pic_grid::{EndMark, Snapshot};
+use pic_grid::{Cells, EndMark, Snapshot};
 use pic_io::Source;
+use pic_num::Kind;
 use std::alloc::Global;
 use std::marker::Model;
 
@@ -94,6 +95,22 @@ impl DumpReader {
         ensures particles { IfOk result (λ s. length s.particles.items ≡ sum self.now.layout.counts) }
     {
         Snapshot::new(alloc, self.layout.cells(), self.layout.particles())
+    }
+
+    /// The numbers of cells of the dump's grid.
+    pub fn cells(&self) -> Cells
+        ensures value { result ≡ self.now.layout.cells }
+        ensures limits { IsLayout self.now.layout }
+    {
+        self.layout.cells()
+    }
+
+    /// What the particles of each species have in common.
+    pub fn kinds(&self) -> &[Kind]
+        ensures value { result.now ≡ self.now.layout.kinds }
+        ensures limits { IsLayout self.now.layout }
+    {
+        self.layout.kinds()
     }
 
     /// Reads the next record: a frame into the snapshot, or the end record and the end of the input.

@@ -3,13 +3,15 @@
 ghost use Rattle.std.specs.Prelude.{◌≡◌, ℕ, ℤ, pos, ◌+◌, ◌-◌, ◌*◌, ◌<◌, ◌≤◌, ◌^◌, All, List, length, sum, nat_eq, IfOk, OnOk};
 ghost use Rattle.pic_num.specs.Sizes.{IsAtMost};
 ghost use Rattle.pic_num.specs.Rounding.{scaled};
+ghost use Rattle.pic_num.specs.Space.{triple};
 ghost use Rattle.pic_grid.specs.Cells.{count_of};
+ghost use Rattle.pic_grid.specs.Hat.{IsInBox};
 ghost use Rattle.pic_fields.specs.Parser.{checked};
 ghost use Rattle.pic_fields.specs.Number.{i128_at};
 ghost use Rattle.pic_fields.specs.Reads.{Reads, always, as_it_is};
 ghost use Rattle.pic_energy.specs.Energies.{HasMass, IsOfKinds, IsBounded};
 ghost use Rattle.pic_reader.specs.Fields.{strong_value, is_below, below, the_step};
-ghost use Rattle.pic_reader.specs.FrameFields.{FrameView, is_moderate, IsModerate, field_at, coordinate_at, position_at, velocity_at, speed_at, particle_of, particle_at, particles_at, energy_at, energies_at, frame_of, frame_at, frame_length, IsHeld};
+ghost use Rattle.pic_reader.specs.FrameFields.{FrameView, is_moderate, IsModerate, field_at, coordinate_at, position_at, velocity_at, speed_at, particle_of, particle_at, particles_at, energy_at, energies_at, frame_of, frame_at, frame_length, IsPlaced, IsHeld};
 ghost use Rattle.pic_reader.specs.Layout.{species_of, IsLayout};
 
 use crate::head_reader::read_between;
@@ -98,7 +100,8 @@ pub(crate) fn read_below<S: Source>(
     limit: u32,
 ) -> Result<u32, ReadStop>
     requires { place + 4 < 2 ^ 63 }
-    ensures { Reads as_it_is (below cause limit) place (place + 4) (S.told source.old) (S.told source.new) result }
+    ensures reads { Reads as_it_is (below cause limit) place (place + 4) (S.told source.old) (S.told source.new) result }
+    ensures below { IfOk result (λ n. n < limit) }
 {
     let n = read_u32(source, place)?;
     if !is_below(limit, n) {
@@ -117,14 +120,16 @@ fn is_below(limit: u32, n: u32) -> bool
 fn read_coordinate<S: Source>(source: &mut S, place: u64, cells: u32) -> Result<u32, ReadStop>
     requires place { place + 4 < 2 ^ 63 }
     requires cells { cells ≤ 64 }
-    ensures { Reads as_it_is (coordinate_at cells) place (place + 4) (S.told source.old) (S.told source.new) result }
+    ensures reads { Reads as_it_is (coordinate_at cells) place (place + 4) (S.told source.old) (S.told source.new) result }
+    ensures below { IfOk result (λ x. x < cells * 4096) }
 {
     read_below(source, place, OUT_OF_RANGE, cells * SIDE)
 }
 
 fn read_position<S: Source>(source: &mut S, place: u64, cells: Cells) -> Result<[u32; 3], ReadStop>
     requires { place + 12 < 2 ^ 63 }
-    ensures { Reads as_it_is (position_at cells) place (place + 12) (S.told source.old) (S.told source.new) result }
+    ensures reads { Reads as_it_is (position_at cells) place (place + 12) (S.told source.old) (S.told source.new) result }
+    ensures inside { IfOk result (λ x. IsInBox 4096 cells (triple x)) }
 {
     let second = place + 4;
     let third = second + 4;
@@ -165,6 +170,7 @@ fn read_particle<S: Source>(
     requires id { id < sum layout.now.counts }
     ensures reads { Reads as_it_is (particle_of layout.now id) place (place + 24) (S.told source.old) (S.told source.new) result }
     ensures species { IfOk result (λ p. IsOfKinds layout.now.kinds p) }
+    ensures place { IfOk result (λ p. IsPlaced layout.now.cells p) }
 {
     let second = place + 12;
     let species = species_at(layout.counts(), id);
@@ -186,6 +192,7 @@ fn read_particles<S: Source>(
         (S.told source.old) (S.told source.new) result }
     ensures length { length particles.new ≡ length particles.old }
     ensures species { OnOk result (All (IsOfKinds layout.now.kinds) particles.new) }
+    ensures places { OnOk result (All (IsPlaced layout.now.cells) particles.new) }
 {
     let count = layout.particles();
     for index in 0..count {

@@ -3,14 +3,14 @@ use Rattle.pic_reader.specs.Fields.{below}
 use Rattle.pic_fields.proofs.ReadLaws.{passes, refused, exits_checked}
 use Rattle.pic_reader.proofs.frame_reader.read_below.Goals as goal
 
-pub returns-in_err-n : goal.returns-in_err-n
+pub returns-in_err-n-clause-reads : goal.returns-in_err-n-clause-reads
 unfolding below
-returns-in_err-n g c = exits_checked _ _ c.from_residual.ensures.1 c.in_err-n.ensures
+returns-in_err-n-clause-reads g c = exits_checked _ _ c.from_residual.ensures.1 c.in_err-n.ensures
 
-pub returns-then-not-is_below : goal.returns-then-not-is_below
+pub returns-then-not-is_below-clause-reads : goal.returns-then-not-is_below-clause-reads
 unfolding below
-returns-then-not-is_below g c = record { answer = record { why = refused _ _ c.in_ok-n.ensures.answer (sym c.is_below.ensures ∙ c.if-not-is_below.true) } }
+returns-then-not-is_below-clause-reads g c = record { answer = record { why = refused _ _ c.in_ok-n.ensures.answer (sym c.is_below.ensures ∙ c.if-not-is_below.true) } }
 
-pub returns : goal.returns
+pub returns-clause-reads : goal.returns-clause-reads
 unfolding below
-returns g c = record { answer = passes _ _ c.in_ok-n.ensures.answer (sym c.is_below.ensures ∙ c.if-not-is_below.false) }
+returns-clause-reads g c = record { answer = passes _ _ c.in_ok-n.ensures.answer (sym c.is_below.ensures ∙ c.if-not-is_below.false) }

@@ -7,7 +7,7 @@ use Rattle.pic_fields.specs.Parser.{each}
 use Rattle.pic_fields.specs.Reads.{HasRead, Reads, as_it_is}
 use Rattle.pic_fields.proofs.ReadLaws.{read_same, read_up_to}
 use Rattle.pic_fields.proofs.EachLaws.{read_none, read_more, exits_among}
-use Rattle.pic_reader.specs.FrameFields.{particle_at, particles_at}
+use Rattle.pic_reader.specs.FrameFields.{particle_at, particles_at, IsPlaced}
 use Rattle.pic_reader.proofs.FrameLaws.{each_set}
 use Rattle.pic_reader.proofs.frame_reader.read_particles.Goals as goal
 
@@ -16,6 +16,7 @@ loop-index-init g c = record {
   read = read_up_to (omega arith) (read_none (particle_at c.args.layout.now) c.args.place _);
   size = refl;
   species = λ k d below. absurd (omega (arith, below));
+  places = λ k d below. absurd (omega (arith, below));
 }
 
 pub returns-in_err-particle-clause-reads : goal.returns-in_err-particle-clause-reads
@@ -48,6 +49,7 @@ loop-index-preserved g c =
       read = read_up_to (omega arith) (read_same (sym (take_more_set ps i p inside)) (read_more i (particle_at l) so_far.read next));
       size = length-set _ _ _ ∙ so_far.size;
       species = each_set (IsOfKinds l.kinds) ps i p inside so_far.species c.in_ok-particle.ensures.species;
+      places = each_set (IsPlaced l.cells) ps i p inside so_far.places c.in_ok-particle.ensures.place;
     }
 
 pub returns-clause-reads : goal.returns-clause-reads
@@ -67,3 +69,8 @@ pub returns-clause-species : goal.returns-clause-species
 returns-clause-species g c =
     let so_far = c.loop-index.invariant in
     λ k d below. so_far.species k d (omega (arith, below, so_far.size, c.requires.count, c.loop-index-test.false, c.particles-count.ensures.value))
+
+pub returns-clause-places : goal.returns-clause-places
+returns-clause-places g c =
+    let so_far = c.loop-index.invariant in
+    λ k d below. so_far.places k d (omega (arith, below, so_far.size, c.requires.count, c.loop-index-test.false, c.particles-count.ensures.value))

@@ -4,7 +4,7 @@ use Rattle.pic_dump.specs.Due.{due_after}
 use Rattle.pic_reader.specs.EndFields.{or_zero}
 use Rattle.pic_reader.specs.FrameFields.{frame_of}
 use Rattle.pic_reader.specs.Records.{RecordView, AFrame, record_at}
-use Rattle.pic_reader.proofs.NextLaws.{of_frame, of_end, next_exits, or_zero_most, stands_behind}
+use Rattle.pic_reader.proofs.NextLaws.{of_frame, of_end, next_exits, frame_after, or_zero_most, stands_behind}
 use Rattle.pic_reader.proofs.dump_reader.DumpReader.next.Goals as goal
 
 pub returns-in_err-tag-clause-reads : goal.returns-in_err-tag-clause-reads
@@ -56,6 +56,9 @@ returns-then-is_code-clause-reads g c =
     let behind = rw (sym (of_frame l last (due_after l.steps l.every last) c.in_ok-tag.tag is_frame)) at wrapped in
     let length = c.frame_length.ensures.value in
     let step : c.or_zero-step.result ≡ or_zero (due_after l.steps l.every last) = c.or_zero-step.ensures ∙ ap or_zero due in
+    let passes = rw due at c.in_ok-tag.ensures.passes in
+    let later = frame_after l.steps l.every last c.in_ok-tag.tag c.self.invariant.layout.every_least passes is_frame in
+    let limit = or_zero_most c.due_after-due.result c.steps.result c.due_after-due.ensures.most in
     let after = c.read_frame.new.state in
     let frame : ℕ → RecordView = λ s. AFrame (frame_of s after.e.values after.b.values after.particles.items c.in_ok-energies.energies) in
     rw (sym c.self.view_is) (record {
@@ -63,6 +66,8 @@ returns-then-is_code-clause-reads g c =
         read = read_same (ap frame (sym step)) (read_up_to (omega (arith, length)) (read_then _ tag.answer behind));
         layout = refl;
         last = refl;
+        later = omega (arith, later, step);
+        most = omega (arith, limit, c.or_zero-step.ensures, c.steps.ensures.value);
         held = c.in_ok-energies.ensures.held;
       };
     })
