@@ -1,0 +1,85 @@
+-- The verdict on a dump, from that on its records.
+use Rattle.std.proofs.Common.{◌≡◌, ℕ, ◌+◌, List, Option, Some, None, Ok, Err, IsErrAnd, refl, sym, ap, ◌∙◌}
+use Rattle.std.specs.Prelude.{option_map}
+use Rattle.std.proofs.lemmas.Result.{err_from_is_err_and}
+use Rattle.pic_io.specs.Told.{Told, Rose, Calm, Quiet}
+use Rattle.pic_fields.specs.Parser.{input, fault}
+use Rattle.pic_fields.specs.Reads.{HasRead, Stops}
+use Rattle.pic_fields.specs.declared.read_stop.ReadStop.{ReadStop}
+use Rattle.pic_fields.specs.declared.read_stop.ReadStop.TheVariants as read
+use Rattle.pic_dump.specs.Header.{HeaderView}
+use Rattle.pic_reader.specs.Layout.{layout_of}
+use Rattle.pic_reader.specs.HeaderFields.{header_at}
+use Rattle.pic_reader.specs.HeadReads.{HeadReads}
+use Rattle.pic_reader.specs.Standing.{Standing}
+use Rattle.pic_reader.specs.declared.head_stop.HeadStop.{HeadStop}
+use Rattle.pic_reader.specs.declared.head_stop.HeadStop.TheVariants as head
+use Rattle.pic_verify.specs.declared.verify_stop.VerifyStop.TheVariants.{ReadFault, BadDump, Broken, NoMemory}
+use Rattle.pic_verify.specs.Stops.{stop_of_head}
+use Rattle.pic_verify.specs.Verified.{Verdict, of_header, walked, verified}
+use Rattle.pic_verify.specs.Verifies.{Finds, Answered, Verifies, Walks, OrNoMemory, IsExact}
+use Rattle.pic_verify.proofs.WalkLaws.{on_records, rose_after}
+
+-- where a reader stands behind a header
+abbrev pub behind : HeaderView → ℕ → Standing
+behind h place = record { layout = layout_of h; place = place; last = None }
+
+finds_behind : (h : HeaderView) (place : ℕ) (x y z : Told) (answer : Verdict)
+    → HasRead header_at 0 x h place y → Finds (on_records (behind h place)) y z answer → Finds verified x z answer
+unfolding verified
+finds_behind h place x y z answer first finds =
+    let (held, was, is) = first.reads finds.held finds.was in
+    record { calm = finds.calm ∙ first.calm; held = held; was = was; verdict = ap of_header is ∙ finds.verdict }
+
+answered_behind : (h : HeaderView) (place : ℕ) (x y z : Told) (answer : Verdict)
+    → HasRead header_at 0 x h place y → Answered (on_records (behind h place)) y z answer → Answered verified x z answer
+answered_behind h place x y z (Ok frames) first second = (finds_behind h place x y z (Ok frames) first second.0, second.1)
+answered_behind h place x y z (Err ReadFault) first second = rose_after x y z first.calm second
+answered_behind h place x y z (Err (BadDump at cause)) first second = finds_behind h place x y z (Err (BadDump at cause)) first second
+answered_behind h place x y z (Err (Broken frame at)) first second = finds_behind h place x y z (Err (Broken frame at)) first second
+answered_behind h place x y z (Err NoMemory) first second = second ∙ first.calm
+
+-- the header, and then the records
+pub verifies_behind : (h : HeaderView) (place : ℕ) (r : Standing) (x y z : Told) (answer : Verdict)
+    → HasRead header_at 0 x h place y → r ≡ behind h place → Walks r y z answer → Verifies x z answer
+verifies_behind h place r x y z answer first is walks =
+    let there = rw is at walks in
+    record { answer = answered_behind h place x y z answer first there.answer }
+
+stops_answer : {B : Type 0} (x z : Told) (stop : HeadStop) (view : B → HeaderView) (end : HeaderView → ℕ)
+    → HeadReads view header_at 0 end x z (Err stop) → Answered verified x z (Err (stop_of_head stop))
+unfolding verified
+stops_answer x z (head.Read read.ReadFault) view end first = first.answer.why
+stops_answer x z (head.Read (read.BadDump place cause)) view end first =
+    let fails = first.answer.why in
+    record { calm = fails.calm; held = fails.held; was = fails.was; verdict = ap of_header fails.fails }
+stops_answer x z head.NoMemory view end first = first.answer
+
+-- a header that isn't there
+pub verifies_head : {B : Type 0} (view : B → HeaderView) (end : HeaderView → ℕ) (x z : Told) (stop : HeadStop) (result : Verdict)
+    → IsErrAnd result (λ u. u ≡ stop_of_head stop) → HeadReads view header_at 0 end x z (Err stop) → Verifies x z result
+verifies_head view end x z stop result is first =
+    let q = err_from_is_err_and result is in
+    rw (q.1, q.2) (record { answer = stops_answer x z stop view end first })
+
+-- want of memory behind the header
+pub starves : (x z : Told) (result : Verdict) → IsErrAnd result (λ u. u ≡ NoMemory) → Calm x z → Verifies x z result
+starves x z result is calm =
+    let q = err_from_is_err_and result is in
+    rw (q.1, q.2) (record { answer = calm })
+
+-- what a source told is what it held
+same_bytes : (before : Option (List ℕ)) (bytes held : List ℕ) → before ≡ Some bytes → before ≡ option_map (λ _. held) before → held ≡ bytes
+same_bytes None bytes held told was = cc
+same_bytes (Some known) bytes held told was = cc
+
+exact_finds : (x z : Told) (bytes : List ℕ) (answer : Verdict) → x.bytes ≡ Some bytes → Finds verified x z answer → answer ≡ verified bytes
+exact_finds x z bytes answer told finds = sym finds.verdict ∙ ap verified (same_bytes x.bytes bytes finds.held told finds.was)
+
+-- an answer that the bytes decide
+pub exact : (x z : Told) (answer : Verdict) → Verifies x z answer → IsExact x z answer
+exact x z (Ok frames) v bytes told quiet = exact_finds x z bytes (Ok frames) told v.answer.0
+exact x z (Err ReadFault) v bytes told quiet = absurd (quiet v.answer)
+exact x z (Err (BadDump place cause)) v bytes told quiet = exact_finds x z bytes (Err (BadDump place cause)) told v.answer
+exact x z (Err (Broken frame at)) v bytes told quiet = exact_finds x z bytes (Err (Broken frame at)) told v.answer
+exact x z (Err NoMemory) v bytes told quiet = tt

@@ -1,0 +1,167 @@
+-- The verdict after so many good frames is that of what follows them.
+use Rattle.std.proofs.Common.{◌≡◌, ℕ, suc, ◌+◌, ◌-◌, ◌≤◌, List, [], Option, Some, None, Result, Ok, Err, IsErrAnd, refl, sym, ap, subst, ◌∙◌, arith, add-one}
+use Rattle.std.proofs.lemmas.Result.{err_from_is_err_and}
+use Rattle.pic_io.specs.Told.{Told, Rose, Calm, raised}
+use Rattle.pic_num.specs.declared.motion.Particle.{Particle}
+use Rattle.pic_grid.specs.declared.stop.EndMark.{EndMark}
+use Rattle.pic_grid.specs.Lattice.{Field}
+use Rattle.pic_energy.specs.declared.amounts.Energies.{Energies}
+use Rattle.pic_charge.specs.declared.breaks.Break.{Break}
+use Rattle.pic_fields.specs.Parser.{Input, input, Fault, fault}
+use Rattle.pic_fields.specs.Reads.{Left, HasEnded, Stops}
+use Rattle.pic_fields.specs.declared.read_stop.ReadStop.{ReadStop}
+use Rattle.pic_fields.specs.declared.read_stop.ReadStop.TheVariants as read
+use Rattle.pic_fields.proofs.ReadLaws.{some_rest}
+use Rattle.pic_reader.specs.Layout.{LayoutView}
+use Rattle.pic_reader.specs.FrameFields.{FrameView, frame_of}
+use Rattle.pic_reader.specs.Records.{AFrame, AnEnd, record_at}
+use Rattle.pic_reader.specs.Standing.{Standing, passed}
+use Rattle.pic_reader.specs.NextReads.{HasFrame}
+use Rattle.pic_verify.specs.declared.verify_stop.VerifyStop.TheVariants.{BadDump, Broken}
+use Rattle.pic_verify.specs.Stops.{stop_of_read}
+use Rattle.pic_verify.specs.Verified.{Verdict, break_of, unless_broken, of_parsed, walked}
+use Rattle.pic_verify.specs.Verifies.{Finds, Answered, Walks}
+
+-- a record of each kind
+walked_frame : (n : ℕ) (l : LayoutView) (k : ℕ) (last : Option ℕ) (i j : Input) (f : FrameView) → record_at l last i ≡ Ok (AFrame f, j)
+    → walked (suc n) l k last i ≡ unless_broken k (break_of l f.e f.particles) (walked n l (suc k) (Some f.step) j)
+unfolding walked
+walked_frame n l k last i j f is = ap (of_parsed l k (λ step rest. walked n l (suc k) (Some step) rest)) is
+
+walked_end : (n : ℕ) (l : LayoutView) (k : ℕ) (last : Option ℕ) (i j : Input) (mark : EndMark) → record_at l last i ≡ Ok (AnEnd mark, j) → walked (suc n) l k last i ≡ Ok k
+unfolding walked
+walked_end n l k last i j mark is = ap (of_parsed l k (λ step rest. walked n l (suc k) (Some step) rest)) is
+
+walked_fault : (n : ℕ) (l : LayoutView) (k : ℕ) (last : Option ℕ) (i : Input) (f : Fault) → record_at l last i ≡ Err f → walked (suc n) l k last i ≡ Err (BadDump f.place f.cause)
+unfolding walked
+walked_fault n l k last i f is = ap (of_parsed l k (λ step rest. walked n l (suc k) (Some step) rest)) is
+
+-- the verdict on all that was left where a reader stood before any frame
+abbrev pub on_records : Standing → List ℕ → Verdict
+on_records r held = walked (r.layout.steps + 2) r.layout 0 None (input r.place held)
+
+-- k good frames were read, after which a reader stands here, and n records may follow
+pub record Follows (r : Standing) (before : Told) (k : ℕ) (here : Standing) (now : Told) : Type 0 where
+  pub calm : Calm before now
+  pub layout : here.layout ≡ r.layout
+  pub few : k ≤ passed here.last
+  pub most : passed here.last ≤ r.layout.steps + 1
+  pub n : ℕ
+  pub left : k + n ≡ r.layout.steps + 1
+  pub follows : (rest : List ℕ) → Left now rest → (held : List ℕ) × Left before held × (on_records r held ≡ walked (suc n) r.layout k here.last (input here.place rest))
+
+-- where reading begins
+pub follows_none : (r : Standing) (before : Told) → r.last ≡ None → Follows r before 0 r before
+follows_none r before start =
+    let steps = r.layout.steps in
+    let two : steps + 2 ≡ suc (steps + 1) = omega arith in
+    let none : passed r.last ≡ 0 = ap passed start in
+    record {
+      calm = refl;
+      layout = refl;
+      few = omega arith;
+      most = omega (arith, none);
+      n = steps + 1;
+      left = omega arith;
+      follows = λ rest left. (
+          rest,
+          left,
+          ap (λ m. walked m r.layout 0 None (input r.place rest)) two ∙ ap (λ o. walked (suc (steps + 1)) r.layout 0 o (input r.place rest)) (sym start),
+        );
+    }
+
+-- a frame, and what is left behind it: the verdict by its break and by what follows
+frame_read : (r : Standing) (before y z : Told) (k : ℕ) (here behind : Standing) (e b : Field) (particles : List Particle) (step : ℕ) (energies : Energies) (so_far : Follows r before k here y)
+    → HasFrame here y z e b particles behind step energies → (rest : List ℕ) → Left z rest
+    → (held : List ℕ) × Left before held × (on_records r held ≡ unless_broken k (break_of r.layout e.values particles) (walked so_far.n r.layout (suc k) (Some step) (input behind.place rest)))
+frame_read r before y z k here behind e b particles step energies so_far has rest left =
+    let f = frame_of step e.values b.values particles energies in
+    let (h2, left2, e2) = has.read.reads rest left in
+    let is = subst (λ l. record_at l here.last (input here.place h2) ≡ Ok (AFrame f, input behind.place rest)) so_far.layout e2 in
+    let (h1, left1, e1) = so_far.follows h2 left2 in
+    (h1, left1, e1 ∙ walked_frame so_far.n r.layout k here.last (input here.place h2) (input behind.place rest) f is)
+
+-- a good frame
+pub follows_frame : (r : Standing) (before y z : Told) (k : ℕ) (here behind : Standing) (e b : Field) (particles : List Particle) (step : ℕ) (energies : Energies)
+    → Follows r before k here y → HasFrame here y z e b particles behind step energies → break_of r.layout e.values particles ≡ None → Follows r before (k + 1) behind z
+follows_frame r before y z k here behind e b particles step energies so_far has none =
+    let l = r.layout in
+    let steps = ap (λ (m : LayoutView). m.steps) so_far.layout in
+    let passed_is : passed behind.last ≡ step + 1 = ap passed has.last in
+    let few = so_far.few in
+    let later = has.later in
+    let most = has.most in
+    let count = so_far.left in
+    let n = so_far.n in
+    let one_less : n ≡ suc (n - 1) = omega (arith, few, later, most, count, steps) in
+    record {
+      calm = has.read.calm ∙ so_far.calm;
+      layout = has.layout ∙ so_far.layout;
+      few = omega (arith, passed_is, few, later);
+      most = omega (arith, passed_is, most, steps);
+      n = n - 1;
+      left = omega (arith, one_less, count);
+      follows = λ rest left. (let (held, was, is) = frame_read r before y z k here behind e b particles step energies so_far has rest left in
+          let i = input behind.place rest in (
+            held,
+            was,
+            is
+            ∙ ap (λ o. unless_broken k o (walked n l (suc k) (Some step) i)) none
+            ∙ ap (λ m. walked m l (suc k) (Some step) i) one_less
+            ∙ ap (λ m. walked (suc (n - 1)) l m (Some step) i) (sym (add-one k))
+            ∙ ap (λ o. walked (suc (n - 1)) l (k + 1) o i) (sym has.last),
+          ));
+    }
+
+-- a frame with a break
+pub breaks_frame : (r : Standing) (before y z : Told) (k : ℕ) (here behind : Standing) (e b : Field) (particles : List Particle) (step : ℕ) (energies : Energies) (at : Break)
+    → Follows r before k here y → HasFrame here y z e b particles behind step energies → break_of r.layout e.values particles ≡ Some at → Finds (on_records r) before z (Err (Broken k at))
+breaks_frame r before y z k here behind e b particles step energies at so_far has some =
+    let (rest, left) = some_rest z in
+    let (held, was, is) = frame_read r before y z k here behind e b particles step energies so_far has rest left in
+    record {
+      calm = has.read.calm ∙ so_far.calm;
+      held = held;
+      was = was;
+      verdict = is ∙ ap (λ o. unless_broken k o (walked so_far.n r.layout (suc k) (Some step) (input behind.place rest))) some;
+    }
+
+-- the end record
+pub ends_records : (r : Standing) (before y z : Told) (k : ℕ) (here : Standing) (mark : EndMark)
+    → Follows r before k here y → HasEnded (record_at here.layout here.last) here.place y (AnEnd mark) z → Walks r before z (Ok k)
+ends_records r before y z k here mark so_far has =
+    let is = subst (λ l. record_at l here.last (input here.place has.held) ≡ Ok (AnEnd mark, input has.stop [])) so_far.layout has.reads in
+    let (held, was, e1) = so_far.follows has.held has.was in
+    record {
+      answer = (record {
+          calm = has.calm ∙ so_far.calm;
+          held = held;
+          was = was;
+          verdict = e1 ∙ walked_end so_far.n r.layout k here.last (input here.place has.held) (input has.stop []) mark is;
+        }, has.end);
+    }
+
+-- a count that stayed and then rose
+pub rose_after : (x y z : Told) → Calm x y → Rose y z → Rose x z
+rose_after x y z calm rose = subst (λ n. raised n ≤ z.faults) calm rose
+
+stops_answer : (r : Standing) (before y z : Told) (k : ℕ) (here : Standing) (stop : ReadStop)
+    → Follows r before k here y → Stops (record_at here.layout here.last) here.place y z stop → Answered (on_records r) before z (Err (stop_of_read stop))
+stops_answer r before y z k here read.ReadFault so_far stops = rose_after before y z so_far.calm stops.why
+stops_answer r before y z k here (read.BadDump place cause) so_far stops =
+    let fails = stops.why in
+    let is = subst (λ l. record_at l here.last (input here.place fails.held) ≡ Err (fault place cause)) so_far.layout fails.fails in
+    let (held, was, e1) = so_far.follows fails.held fails.was in
+    record {
+      calm = fails.calm ∙ so_far.calm;
+      held = held;
+      was = was;
+      verdict = e1 ∙ walked_fault so_far.n r.layout k here.last (input here.place fails.held) (fault place cause) is;
+    }
+
+-- the first fault, or a read that failed
+pub stops_records : (r : Standing) (before y z : Told) (k : ℕ) (here : Standing) (stop : ReadStop) (result : Verdict)
+    → IsErrAnd result (λ u. u ≡ stop_of_read stop) → Follows r before k here y → Stops (record_at here.layout here.last) here.place y z stop → Walks r before z result
+stops_records r before y z k here stop result is so_far stops =
+    let q = err_from_is_err_and result is in
+    rw (q.1, q.2) (record { answer = stops_answer r before y z k here stop so_far stops })

@@ -1,0 +1,9 @@
+//! A dump held against its own physics: each frame is of the format, with its energies, and meets
+//! Gauss's law.
+#![tactic(auto)]
+
+mod verify_stop;
+mod verifying;
+
+pub use verify_stop::VerifyStop;
+pub use verifying::verify;

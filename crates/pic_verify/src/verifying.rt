@@ -1,0 +1,74 @@
+//! A dump, verified frame by frame.
+
+ghost use Rattle.std.specs.Prelude.{◌≡◌, length, sum, None};
+ghost use Rattle.pic_reader.specs.FrameFields.{IsHeld};
+ghost use Rattle.pic_reader.specs.Layout.{IsLayout};
+ghost use Rattle.pic_verify.specs.Verified.{break_of};
+ghost use Rattle.pic_verify.specs.Verifies.{Verifies, IsExact, Walks};
+
+use crate::verify_stop::VerifyStop;
+use pic_charge::{Break, charge, gauss};
+use pic_grid::{Nodes, Snapshot};
+use pic_io::Source;
+use pic_reader::{DumpReader, Next};
+use std::alloc::Global;
+
+/// Reads a dump to its end, and answers how many frames it has.
+///
+/// Each frame is read whole, its energies included, and then held against Gauss's law, before the next
+/// record is read: the first fault or the first break is answered. All memory is taken before the first
+/// frame.
+pub fn verify<S: Source>(alloc: Global, source: &mut S) -> Result<u32, VerifyStop>
+    ensures verifies { Verifies (S.told source.old) (S.told source.new) result }
+    ensures exactly { IsExact (S.told source.old) (S.told source.new) result }
+{
+    let (reader, _header) = DumpReader::head(alloc, source)?;
+    let mut state = reader.room(alloc)?;
+    let mut nodes = Nodes::new(alloc, reader.cells())?;
+    walk(source, reader, &mut state, &mut nodes)
+}
+
+// Verifies the records behind the header.
+fn walk<S: Source>(
+    source: &mut S,
+    reader: DumpReader,
+    state: &mut Snapshot,
+    nodes: &mut Nodes,
+) -> Result<u32, VerifyStop>
+    requires e { state.old.e.cells ≡ reader.layout.cells }
+    requires b { state.old.b.cells ≡ reader.layout.cells }
+    requires particles { length state.old.particles.items ≡ sum reader.layout.counts }
+    requires nodes { nodes.old.cells ≡ reader.layout.cells }
+    requires limits { IsLayout reader.layout }
+    requires start { reader.last ≡ None }
+    ensures { Walks reader (S.told source.old) (S.told source.new) result }
+{
+    let mut reader = reader;
+    let mut frame = 0;
+    'records: loop {
+        match reader.next(source, state)? {
+            Next::Frame(behind, _step, _energies) => {
+                if let Some(at) = first_break(&behind, state, nodes) {
+                    return Err(VerifyStop::Broken { frame, at });
+                }
+                reader = behind;
+                frame += 1;
+            }
+            Next::End(_mark) => return Ok(frame),
+        }
+    }
+}
+
+// The least node where the divergence of E and the charge of the particles differ.
+fn first_break(reader: &DumpReader, state: &Snapshot, nodes: &mut Nodes) -> Option<Break>
+    requires e { state.now.e.cells ≡ reader.now.layout.cells }
+    requires nodes { nodes.old.cells ≡ reader.now.layout.cells }
+    requires limits { IsLayout reader.now.layout }
+    requires held { IsHeld reader.now.layout state.now.e state.now.b state.now.particles.items }
+    requires particles { length state.now.particles.items ≡ sum reader.now.layout.counts }
+    ensures value { result ≡ break_of reader.now.layout state.now.e.values state.now.particles.items }
+    ensures nodes { nodes.new.cells ≡ nodes.old.cells }
+{
+    charge(reader.cells(), reader.kinds(), &state.particles, nodes);
+    gauss(reader.cells(), &state.e, nodes)
+}
