@@ -1,5 +1,5 @@
 -- The break of a frame that was read.
-use Rattle.std.proofs.Common.{◌≡◌, ℕ, List, Option, pos, sym, ap, ◌∙◌}
+use Rattle.std.proofs.Common.{◌≡◌, List, Option, pos, ap, ◌∙◌}
 use Rattle.std.specs.Prelude.{All, slice_index_or}
 use Rattle.pic_num.specs.declared.motion.Kind.{Kind}
 use Rattle.pic_num.specs.declared.motion.Particle.{Particle}

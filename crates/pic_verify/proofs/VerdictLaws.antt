@@ -1,11 +1,9 @@
 -- The verdict on a dump, from that on its records.
-use Rattle.std.proofs.Common.{◌≡◌, ℕ, ◌+◌, List, Option, Some, None, Ok, Err, IsErrAnd, refl, sym, ap, ◌∙◌}
+use Rattle.std.proofs.Common.{◌≡◌, ℕ, List, Option, Some, None, Ok, Err, IsErrAnd, sym, ap, ◌∙◌}
 use Rattle.std.specs.Prelude.{option_map}
 use Rattle.std.proofs.lemmas.Result.{err_from_is_err_and}
-use Rattle.pic_io.specs.Told.{Told, Rose, Calm, Quiet}
-use Rattle.pic_fields.specs.Parser.{input, fault}
-use Rattle.pic_fields.specs.Reads.{HasRead, Stops}
-use Rattle.pic_fields.specs.declared.read_stop.ReadStop.{ReadStop}
+use Rattle.pic_io.specs.Told.{Told, Calm}
+use Rattle.pic_fields.specs.Reads.{HasRead}
 use Rattle.pic_fields.specs.declared.read_stop.ReadStop.TheVariants as read
 use Rattle.pic_dump.specs.Header.{HeaderView}
 use Rattle.pic_reader.specs.Layout.{layout_of}
@@ -16,8 +14,8 @@ use Rattle.pic_reader.specs.declared.head_stop.HeadStop.{HeadStop}
 use Rattle.pic_reader.specs.declared.head_stop.HeadStop.TheVariants as head
 use Rattle.pic_verify.specs.declared.verify_stop.VerifyStop.TheVariants.{ReadFault, BadDump, Broken, NoMemory}
 use Rattle.pic_verify.specs.Stops.{stop_of_head}
-use Rattle.pic_verify.specs.Verified.{Verdict, of_header, walked, verified}
-use Rattle.pic_verify.specs.Verifies.{Finds, Answered, Verifies, Walks, OrNoMemory, IsExact}
+use Rattle.pic_verify.specs.Verified.{Verdict, of_header, verified}
+use Rattle.pic_verify.specs.Verifies.{Finds, Answered, Verifies, Walks, IsExact}
 use Rattle.pic_verify.proofs.WalkLaws.{on_records, rose_after}
 
 -- where a reader stands behind a header

@@ -1,5 +1,5 @@
 -- The verdict after so many good frames is that of what follows them.
-use Rattle.std.proofs.Common.{◌≡◌, ℕ, suc, ◌+◌, ◌-◌, ◌≤◌, List, [], Option, Some, None, Result, Ok, Err, IsErrAnd, refl, sym, ap, subst, ◌∙◌, arith, add-one}
+use Rattle.std.proofs.Common.{◌≡◌, ℕ, suc, ◌+◌, ◌-◌, ◌≤◌, List, [], Option, Some, None, Ok, Err, IsErrAnd, refl, sym, ap, subst, ◌∙◌, arith, add-one}
 use Rattle.std.proofs.lemmas.Result.{err_from_is_err_and}
 use Rattle.pic_io.specs.Told.{Told, Rose, Calm, raised}
 use Rattle.pic_num.specs.declared.motion.Particle.{Particle}
@@ -64,10 +64,10 @@ follows_none r before start =
       n = steps + 1;
       left = omega arith;
       follows = λ rest left. (
-          rest,
-          left,
-          ap (λ m. walked m r.layout 0 None (input r.place rest)) two ∙ ap (λ o. walked (suc (steps + 1)) r.layout 0 o (input r.place rest)) (sym start),
-        );
+        rest,
+        left,
+        ap (λ m. walked m r.layout 0 None (input r.place rest)) two ∙ ap (λ o. walked (suc (steps + 1)) r.layout 0 o (input r.place rest)) (sym start),
+      );
     }
 
 -- a frame, and what is left behind it: the verdict by its break and by what follows
@@ -106,10 +106,10 @@ follows_frame r before y z k here behind e b particles step energies so_far has 
             held,
             was,
             is
-            ∙ ap (λ o. unless_broken k o (walked n l (suc k) (Some step) i)) none
-            ∙ ap (λ m. walked m l (suc k) (Some step) i) one_less
-            ∙ ap (λ m. walked (suc (n - 1)) l m (Some step) i) (sym (add-one k))
-            ∙ ap (λ o. walked (suc (n - 1)) l (k + 1) o i) (sym has.last),
+                ∙ ap (λ o. unless_broken k o (walked n l (suc k) (Some step) i)) none
+                ∙ ap (λ m. walked m l (suc k) (Some step) i) one_less
+                ∙ ap (λ m. walked (suc (n - 1)) l m (Some step) i) (sym (add-one k))
+                ∙ ap (λ o. walked (suc (n - 1)) l (k + 1) o i) (sym has.last),
           ));
     }
 
@@ -133,12 +133,15 @@ ends_records r before y z k here mark so_far has =
     let is = subst (λ l. record_at l here.last (input here.place has.held) ≡ Ok (AnEnd mark, input has.stop [])) so_far.layout has.reads in
     let (held, was, e1) = so_far.follows has.held has.was in
     record {
-      answer = (record {
+      answer = (
+        record {
           calm = has.calm ∙ so_far.calm;
           held = held;
           was = was;
           verdict = e1 ∙ walked_end so_far.n r.layout k here.last (input here.place has.held) (input has.stop []) mark is;
-        }, has.end);
+        },
+        has.end,
+      );
     }
 
 -- a count that stayed and then rose

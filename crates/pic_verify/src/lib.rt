@@ -7,3 +7,6 @@ mod verifying;
 
 pub use verify_stop::VerifyStop;
 pub use verifying::verify;
+
+#[cfg(test)]
+mod tests;

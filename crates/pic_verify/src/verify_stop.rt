@@ -30,7 +30,10 @@ impl fmt::Display for VerifyStop {
             VerifyStop::Broken { frame, at } => {
                 let Break { node, div, rho } = at;
                 let [x, y, z] = node;
-                write!(f, "broken frame {frame} node {x} {y} {z} div {div} rho {rho}")
+                write!(
+                    f,
+                    "broken frame {frame} node {x} {y} {z} div {div} rho {rho}"
+                )
             }
             VerifyStop::NoMemory => write!(f, "out of memory"),
         }

@@ -1,0 +1,14 @@
+use Rattle.pic_verify.proofs.VerdictLaws.{verifies_behind, verifies_head, exact}
+use Rattle.pic_verify.proofs.verifying.verify.Goals as goal
+
+pub returns-in_err-reader-clause-verifies : goal.returns-in_err-reader-clause-verifies
+returns-in_err-reader-clause-verifies g c = verifies_head _ _ _ _ _ _ c.from_residual.ensures.1 c.in_err-reader.ensures.reads
+
+pub returns-in_err-reader-clause-exactly : goal.returns-in_err-reader-clause-exactly
+returns-in_err-reader-clause-exactly g c = exact _ _ _ (verifies_head _ _ _ _ _ _ c.from_residual.ensures.1 c.in_err-reader.ensures.reads)
+
+pub returns-clause-verifies : goal.returns-clause-verifies
+returns-clause-verifies g c = verifies_behind _ _ _ _ _ _ _ c.in_ok-reader.ensures.reads.answer c.in_ok-reader.ensures.stands c.walk.ensures
+
+pub returns-clause-exactly : goal.returns-clause-exactly
+returns-clause-exactly g c = exact _ _ _ (verifies_behind _ _ _ _ _ _ _ c.in_ok-reader.ensures.reads.answer c.in_ok-reader.ensures.stands c.walk.ensures)

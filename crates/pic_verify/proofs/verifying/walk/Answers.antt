@@ -1,0 +1,54 @@
+use Rattle.std.proofs.Common.{◌≡◌, Some, None, sym, ap, subst, ◌∙◌}
+use Rattle.std.specs.Prelude.{sum}
+use Rattle.pic_reader.specs.Layout.{LayoutView, IsLayout}
+use Rattle.pic_reader.specs.NextReads.{HasFrame}
+use Rattle.pic_verify.specs.Verified.{break_of}
+use Rattle.pic_verify.proofs.WalkLaws.{follows_none, follows_frame, breaks_frame, ends_records, stops_records}
+use Rattle.pic_verify.proofs.verifying.walk.Goals as goal
+
+pub records-init : goal.records-init
+records-init g c = record {
+  follows = follows_none c.args.reader _ c.requires.start;
+  e = c.requires.e;
+  b = c.requires.b;
+  particles = c.requires.particles;
+  nodes = c.requires.nodes;
+  limits = c.requires.limits;
+}
+
+pub returns-in_err-behind : goal.returns-in_err-behind
+returns-in_err-behind g c = stops_records _ _ _ _ _ _ _ _ c.from_residual.ensures.1 c.records.invariant.follows c.in_err-behind.ensures.reads.answer
+
+pub returns-in-Some : goal.returns-in-Some
+returns-in-Some g c =
+    let reads = rw c.in-Frame.is at c.in_ok-behind.ensures.reads in
+    let has : HasFrame _ _ _ _ _ _ _ _ _ = reads.answer in
+    let so_far = c.records.invariant.follows in
+    let layout = has.layout ∙ so_far.layout in
+    let e = c.next.new.state.e.values in
+    let particles = c.next.new.state.particles.items in
+    let some : break_of c.args.reader.layout e particles ≡ Some c.in-Some.at = ap (λ (l : LayoutView). break_of l e particles) (sym layout) ∙ sym c.in-Some.ensures.value in
+    record { answer = breaks_frame _ _ _ _ _ _ _ _ _ _ _ _ _ so_far has some }
+
+pub records-preserved : goal.records-preserved
+records-preserved g c =
+    let reads = rw c.in-Frame.is at c.in_ok-behind.ensures.reads in
+    let has : HasFrame _ _ _ _ _ _ _ _ _ = reads.answer in
+    let before = c.records.invariant in
+    let layout = has.layout ∙ before.follows.layout in
+    let e = c.next.new.state.e.values in
+    let particles = c.next.new.state.particles.items in
+    let none : break_of c.args.reader.layout e particles ≡ None = ap (λ (l : LayoutView). break_of l e particles) (sym layout) ∙ sym c.in_default.ensures.value in
+    record {
+      follows = follows_frame _ _ _ _ _ _ _ _ _ _ _ _ before.follows has none;
+      e = c.in_ok-behind.ensures.e.0 ∙ before.e ∙ ap (λ (l : LayoutView). l.cells) (sym has.layout);
+      b = c.in_ok-behind.ensures.b.0 ∙ before.b ∙ ap (λ (l : LayoutView). l.cells) (sym has.layout);
+      particles = c.in_ok-behind.ensures.particles ∙ before.particles ∙ ap (λ (l : LayoutView). sum l.counts) (sym has.layout);
+      nodes = c.first_break.ensures.nodes ∙ before.nodes ∙ ap (λ (l : LayoutView). l.cells) (sym has.layout);
+      limits = subst IsLayout (sym has.layout) before.limits;
+    }
+
+pub returns-in-End : goal.returns-in-End
+returns-in-End g c =
+    let reads = rw c.in-End.is at c.in_ok-behind.ensures.reads in
+    ends_records _ _ _ _ _ _ _ c.records.invariant.follows reads.answer
