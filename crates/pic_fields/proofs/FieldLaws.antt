@@ -19,7 +19,7 @@ left_before before (Some bytes) front rest taken left =
     taken ∙ ap (λ o. with_front front o) left ∙ ap (option_map (λ _. front ++ rest)) (sym taken)
 
 -- a field of all of some bytes, with more behind them
-field_is : (place : ℕ) (front rest : List ℕ) → field (length front) (input place (front ++ rest)) ≡ Ok (front, input (place + length front) rest)
+pub field_is : (place : ℕ) (front rest : List ℕ) → field (length front) (input place (front ++ rest)) ≡ Ok (front, input (place + length front) rest)
 unfolding field
 field_is place front rest =
     let long : length front ≤ length (front ++ rest) = omega (arith, length-append front rest) in
