@@ -1,10 +1,11 @@
 -- The energies of a state (Birdsall and Langdon, "Plasma Physics via Computer Simulation"), in whole
 -- numbers and without the constant factors: this project's profile.
-use Rattle.std.specs.Prelude.{ℤ, ℕ, ◌+◌, ◌*◌, ◌^◌, ◌<◌, ◌≤◌, List, length, sum_by, unsigned_abs}
+use Rattle.std.specs.Prelude.{ℤ, ℕ, ◌+◌, ◌*◌, ◌<◌, ◌≤◌, List, length, sum_by, unsigned_abs}
 use Rattle.pic_num.specs.declared.motion.Kind.{Kind}
 use Rattle.pic_num.specs.declared.motion.Particle.{Particle}
 use Rattle.pic_num.specs.declared.mult.Scales.{Scales}
 use Rattle.pic_num.specs.declared.axis.Axis.{Axis}
+use Rattle.pic_num.specs.Limits.{most_mass, most_value, most_force}
 use Rattle.pic_num.specs.Multiplier.{Multiplier}
 use Rattle.pic_num.specs.Rounding.{scaled}
 use Rattle.pic_num.specs.Sizes.{IsAtMost}
@@ -45,13 +46,13 @@ energies_of scales kinds e b particles = record {
 -- a mass within its limits
 pub record HasMass (k : Kind) : Type 0 where
   pub least : 1 ≤ k.mass
-  pub most : k.mass ≤ 65536
+  pub most : k.mass ≤ most_mass
 
 -- a particle's species is one of the kinds
 pub record IsOfKinds (kinds : List Kind) (particle : Particle) : Type 0 where
   pub species : particle.species < length kinds
 
--- each value of a field is at most 2^90 in size, and its force value at most 2^44
+-- each value of a field and each force value is within its limit
 pub record IsBounded (by : Multiplier) (f : Field) : Type 0 where
-  pub values : (a : Axis) (p : Triple) → IsWithin p f.cells → IsAtMost (value_at f a p) (2 ^ 90)
-  pub forces : (a : Axis) (p : Triple) → IsWithin p f.cells → IsAtMost (scaled (value_at f a p) by) (2 ^ 44)
+  pub values : (a : Axis) (p : Triple) → IsWithin p f.cells → IsAtMost (value_at f a p) most_value
+  pub forces : (a : Axis) (p : Triple) → IsWithin p f.cells → IsAtMost (scaled (value_at f a p) by) most_force

@@ -1,6 +1,7 @@
 //! The sums of energies over particles and field values.
 
 ghost use Rattle.std.specs.Prelude.{◌≡◌, ◌*◌, ◌^◌, ◌<◌, ◌≤◌, All, length};
+ghost use Rattle.pic_num.specs.Limits.{most_mass, most_particles, most_force};
 ghost use Rattle.pic_num.specs.Sizes.{IsAtMost};
 ghost use Rattle.pic_num.specs.Space.{spot};
 ghost use Rattle.pic_grid.specs.PushPhase.{kind_of};
@@ -13,12 +14,12 @@ use pic_num::{Kind, Mult, Particle, Scales, scale};
 /// The energies of a state: kinetic is the sum of mass times the square of the velocity over the
 /// particles, electric the sum of the squares of E's force values, magnetic the same of B.
 ///
-/// Each particle is of one of the kinds, whose masses are 1 to 65536, and there are at most 1048576
+/// Each particle is of one of the kinds, whose masses are 1 to 65536, and there are at most 4194304
 /// particles. Each value of E and B is at most 2^90 in size, and its force value at most 2^44.
 pub fn energies(scales: &Scales, kinds: &[Kind], state: &Snapshot) -> Energies
     requires species { All (IsOfKinds kinds.now) state.now.particles.items }
     requires masses { All HasMass kinds.now }
-    requires few { length state.now.particles.items ≤ 1048576 }
+    requires few { length state.now.particles.items ≤ most_particles }
     requires e_bounded { IsBounded scales.now.e_force state.now.e }
     requires b_bounded { IsBounded scales.now.b_force state.now.b }
     ensures { result ≡ energies_of scales.now kinds.now state.now.e state.now.b state.now.particles.items }
@@ -34,7 +35,7 @@ pub fn energies(scales: &Scales, kinds: &[Kind], state: &Snapshot) -> Energies
 fn kinetic(kinds: &[Kind], particles: &[Particle]) -> u128
     requires species { All (IsOfKinds kinds.now) particles.now }
     requires masses { All HasMass kinds.now }
-    requires few { length particles.now ≤ 1048576 }
+    requires few { length particles.now ≤ most_particles }
     ensures { result ≡ kinetic_sum kinds.now particles.now }
 {
     let mut total = 0u128;
@@ -61,7 +62,7 @@ fn mass_of(kinds: &[Kind], particle: &Particle) -> u32
     requires species { IsOfKinds kinds.now particle.now }
     requires masses { All HasMass kinds.now }
     ensures value { result ≡ (kind_of kinds.now particle.now).mass }
-    ensures most { result ≤ 65536 }
+    ensures most { result ≤ most_mass }
 {
     kinds[usize::from(particle.species)].mass
 }
@@ -103,7 +104,7 @@ fn squares(by: Mult, field: &Lattice) -> u128
 // The square of a number.
 #[tactic(auto, unfolding(crate::specs::Energies::square_of))]
 fn square(value: i128) -> u128
-    requires { IsAtMost value (2 ^ 44) }
+    requires { IsAtMost value most_force }
     ensures value { result ≡ square_of value }
     ensures most { result ≤ 2 ^ 88 }
 {

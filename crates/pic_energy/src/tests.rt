@@ -7,7 +7,7 @@ ghost use Rattle.pic_energy.specs.Energies.{IsBounded};
 
 use crate::{end_line, energies, frame_line};
 use pic_grid::{Bound, Cells, EndMark, Lattice, Phase, Snapshot, Stop};
-use pic_num::{Axis, Kind, Mult, NoMemory, Particle, Scales, What};
+use pic_num::{Axis, Kind, Mult, NoMemory, Particle, Scales, Sub, What};
 use std::alloc::Global;
 use std::test::Fail;
 
@@ -16,7 +16,7 @@ fn lone_value(alloc: Global, value: i128) -> Result<Lattice, NoMemory>
     requires { IsAtMost value (2 ^ 44) }
     ensures { IfOk result (λ f. (by : Multiplier) → unsigned_abs by.n ≤ 1 → IsBounded by f) }
 {
-    let mut field = Lattice::new(alloc, Cells::new([4, 4, 4]), [2, 1, 1])?;
+    let mut field = Lattice::new(alloc, Cells::new([4, 4, 4], Sub::of_bits(12)), [2, 1, 1])?;
     field.set(Axis::X, [0, 0, 0], value);
     Ok(field)
 }

@@ -1,4 +1,4 @@
-use Rattle.std.proofs.Common.{ℤ, pos, ◌*◌, ◌^◌, ◌<◌, ◌≤◌, length, replicate, inl, inr, sym, ap, subst, ◌∙◌, arith, to_z, of_z}
+use Rattle.std.proofs.Common.{ℕ, ℤ, pos, ◌*◌, ◌^◌, ◌<◌, ◌≤◌, length, replicate, inl, inr, sym, ap, subst, ◌∙◌, arith, to_z, of_z}
 use Rattle.std.specs.Prelude.{unsigned_abs}
 use Rattle.std.proofs.Math.Nat.{mul-le-mul_left}
 use Rattle.std.proofs.lemmas.Bool.{cases_eq}
@@ -21,13 +21,13 @@ use Rattle.pic_energy.specs.Energies.{IsBounded}
 use Rattle.pic_energy.proofs.tests.lone_value.Goals as goal
 
 -- a field of zeros
-abbrev zeros : Triple → Triple → Field
-zeros n parts = record { cells = n; parts = parts; values = replicate (3 * count_of n) (pos 0) }
+abbrev zeros : ℕ → Triple → Triple → Field
+zeros side n parts = record { cells = n; side = side; parts = parts; values = replicate (3 * count_of n) (pos 0) }
 
 -- zeros but for one small value are small
-all_small : (n parts : Triple) (a : Axis) (p : Triple) (v : ℤ) → IsAtMost v (2 ^ 44) → (b : Axis) (q : Triple) → IsWithin q n
-    → IsAtMost (value_at (with_value (zeros n parts) a p v) b q) (2 ^ 44)
-all_small n parts a p v small b q within =
+all_small : (side : ℕ) (n parts : Triple) (a : Axis) (p : Triple) (v : ℤ) → IsAtMost v (2 ^ 44) → (b : Axis) (q : Triple) → IsWithin q n
+    → IsAtMost (value_at (with_value (zeros side n parts) a p v) b q) (2 ^ 44)
+all_small side n parts a p v small b q within =
     let count = 3 * count_of n in
     let i = place_of n a p in
     let j = place_of n b q in
@@ -51,11 +51,11 @@ scaled_small v by one small =
     let size = small.size in
     record { size = omega (arith, product, least, no_larger, size) }
 
-bounded : (n parts : Triple) (a : Axis) (p : Triple) (v : ℤ) (by : Multiplier) → unsigned_abs by.n ≤ 1 → IsAtMost v (2 ^ 44)
-    → IsBounded by (with_value (zeros n parts) a p v)
-bounded n parts a p v by one small = record {
-  values = λ b q within. (let size = (all_small n parts a p v small b q within).size in record { size = omega (arith, size) });
-  forces = λ b q within. scaled_small (value_at (with_value (zeros n parts) a p v) b q) by one (all_small n parts a p v small b q within);
+bounded : (side : ℕ) (n parts : Triple) (a : Axis) (p : Triple) (v : ℤ) (by : Multiplier) → unsigned_abs by.n ≤ 1 → IsAtMost v (2 ^ 44)
+    → IsBounded by (with_value (zeros side n parts) a p v)
+bounded side n parts a p v by one small = record {
+  values = λ b q within. (let size = (all_small side n parts a p v small b q within).size in record { size = omega (arith, size) });
+  forces = λ b q within. scaled_small (value_at (with_value (zeros side n parts) a p v) b q) by one (all_small side n parts a p v small b q within);
 }
 
 pub returns : goal.returns
@@ -63,4 +63,4 @@ returns c = λ by one.
     let v = to_z w128 (of_z w128 c.args.value) in
     let small : IsAtMost (to_z w128 (of_z w128 c.args.value)) (2 ^ 44) = code_at_most (search codes depth 6) tt in
     let field = c.set.ensures.after ∙ ap (λ (f : Field). with_value f X _ v) c.in_ok-field.ensures in
-    subst (IsBounded by) (sym field) (bounded _ _ X _ v by one small)
+    subst (IsBounded by) (sym field) (bounded _ _ _ X _ v by one small)
