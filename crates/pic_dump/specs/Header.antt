@@ -1,24 +1,34 @@
 -- What the header of a dump says, and its limits: this project's profile.
-use Rattle.std.specs.Prelude.{ℕ, ◌≤◌, List, All}
+use Rattle.std.specs.Prelude.{◌≡◌, ℕ, ◌≤◌, List, All}
 use Rattle.pic_num.specs.declared.motion.Kind.{Kind}
 use Rattle.pic_num.specs.declared.mult.Scales.{Scales}
+use Rattle.pic_num.specs.Limits.{most_cells_of_axis_1, side_1}
 use Rattle.pic_num.specs.Multiplier.{IsMultiplier}
 use Rattle.pic_num.specs.Space.{Triple}
 use Rattle.pic_grid.specs.Cells.{IsCells}
 use Rattle.pic_grid.specs.Species.{HeadView, AreHeads}
 use Rattle.pic_dump.specs.Limits.{most_steps}
 
--- a header: the numbers of cells, the steps, after how many of them a frame is due, the multipliers,
--- and the species
+-- a header: the numbers of cells, the side of a cell, the steps, after how many of them a frame is due,
+-- the multipliers, and the species
 pub record HeaderView : Type 0 where
   pub cells : Triple
+  pub side : ℕ
   pub steps : ℕ
   pub every : ℕ
   pub scales : Scales
   pub species : List HeadView
 
--- the limits of the steps and the species
+-- the grid of a dump of version 1, which doesn't say the side of a cell
+pub record IsGrid_1 (n : Triple) (side : ℕ) : Type 0 where
+  pub x : n.x ≤ most_cells_of_axis_1
+  pub y : n.y ≤ most_cells_of_axis_1
+  pub z : n.z ≤ most_cells_of_axis_1
+  pub same_side : side ≡ side_1
+
+-- the limits of the grid, the steps and the species
 pub record HasLimits (h : HeaderView) : Type 0 where
+  pub grid : IsGrid_1 h.cells h.side
   pub steps_most : h.steps ≤ most_steps
   pub every_least : 1 ≤ h.every
   pub every_most : h.every ≤ most_steps

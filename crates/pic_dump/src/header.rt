@@ -10,12 +10,12 @@ use pic_grid::Cells;
 use pic_num::{Kind, Mult, Scales};
 use std::marker::Model;
 
-/// The header of a dump: the numbers of cells, the number of steps, after how many steps a frame is
-/// due, the four multipliers, and the species.
+/// The header of a dump of version 1: the numbers of cells and the side of a cell, the number of steps,
+/// after how many steps a frame is due, the four multipliers, and the species.
 ///
-/// There are at most 1000000 steps, a frame is due after 1 to 1000000 of them, and the species are at
-/// most 16, with names of their own and 1048576 particles at most. So a dump's reader refuses no
-/// number of it.
+/// An axis has at most 64 cells, whose side is 4096 sub-cells. There are at most 1000000 steps, a frame
+/// is due after 1 to 1000000 of them, and the species are at most 16, with names of their own and
+/// 1048576 particles at most. So a dump's reader refuses no number of it.
 #[derive(Debug, Drop)]
 pub struct Header {
     cells: Cells,
@@ -28,16 +28,16 @@ pub struct Header {
 impl Model for Header {
     ghost Value = { HeaderView };
 
-    ghost view = { λ h. record { cells = h.cells; steps = h.steps; every = h.every; scales = h.scales; species = h.species } };
+    ghost view = { λ h. record { cells = h.cells.n; side = h.cells.side; steps = h.steps; every = h.every; scales = h.scales; species = h.species } };
 
-    ghost invariant = { λ h. IsHeader (record { cells = h.cells; steps = h.steps; every = h.every; scales = h.scales; species = h.species }) };
+    ghost invariant = { λ h. IsHeader (record { cells = h.cells.n; side = h.cells.side; steps = h.steps; every = h.every; scales = h.scales; species = h.species }) };
 }
 
 impl Header {
     /// The header of numbers and species within the limits.
     pub fn new(cells: Cells, steps: u32, every: u32, scales: Scales, species: Heads) -> Header
-        requires { HasLimits (record { cells = cells; steps = steps; every = every; scales = scales; species = species }) }
-        ensures { result ≡ record { cells = cells; steps = steps; every = every; scales = scales; species = species } }
+        requires { HasLimits (record { cells = cells.n; side = cells.side; steps = steps; every = every; scales = scales; species = species }) }
+        ensures { result ≡ record { cells = cells.n; side = cells.side; steps = steps; every = every; scales = scales; species = species } }
     {
         keep_cells(cells);
         keep_scales(&scales);
@@ -51,9 +51,10 @@ impl Header {
         }
     }
 
-    /// The numbers of cells.
+    /// The numbers of cells and the side of a cell.
     pub fn cells(&self) -> Cells
-        ensures { result ≡ self.now.cells }
+        ensures value { result.n ≡ self.now.cells }
+        ensures side { result.side ≡ self.now.side }
     {
         self.cells
     }
@@ -93,7 +94,7 @@ impl Header {
 // What the types of cells and multipliers keep, as facts. None of these changes anything.
 
 fn keep_cells(cells: Cells)
-    ensures { IsCells cells }
+    ensures { IsCells cells.n }
 {
     let _numbers = cells.numbers();
 }

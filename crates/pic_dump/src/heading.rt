@@ -62,7 +62,7 @@ fn push_front(text: &mut HeaderText, header: &Header)
 #[tactic(auto, unfolding(crate::specs::DumpText::cells_bytes))]
 fn push_cells(text: &mut HeaderText, cells: Cells)
     requires { length text.old + 12 ≤ 1024 }
-    ensures bytes { text.new ≡ text.old ++ cells_bytes cells }
+    ensures bytes { text.new ≡ text.old ++ cells_bytes cells.n }
     ensures len { length text.new ≡ length text.old + 12 }
 {
     let [x, y, z] = cells.numbers();

@@ -7,7 +7,7 @@ use crate::{Head, Header, Heads, put_end, put_frame, put_header};
 use pic_energy::Energies;
 use pic_grid::{Bound, Cells, EndMark, Lattice, Name, Phase, Snapshot, Stop};
 use pic_io::{Failed, MemSink};
-use pic_num::{Axis, Kind, Mult, Particle, Scales, What};
+use pic_num::{Axis, Kind, Mult, Particle, Scales, Sub, What};
 use std::alloc::{AllocError, Global};
 use std::test::Fail;
 
@@ -64,7 +64,13 @@ fn two_charges(alloc: Global) -> Result<Header, Fail> {
     let ion = head(alloc, b"ion", kind(1, 1836))?;
     let electron = head(alloc, b"electron", kind(-1, 1))?;
     let species = Heads::from_vec(vec![in alloc; ion, electron]?);
-    Ok(Header::new(Cells::new([4, 4, 4]), 1, 1, scales, species))
+    Ok(Header::new(
+        Cells::new([4, 4, 4], Sub::of_bits(12)),
+        1,
+        1,
+        scales,
+        species,
+    ))
 }
 
 fn sink(alloc: Global, fails: &[(u64, usize)]) -> Result<MemSink, Fail> {
@@ -74,7 +80,7 @@ fn sink(alloc: Global, fails: &[(u64, usize)]) -> Result<MemSink, Fail> {
 #[test]
 fn the_header_of_two_charges(rt: HostRuntime) -> Result<(), Fail> {
     let header = two_charges(rt.alloc())?;
-    assert_eq!(rt; header.cells(), Cells::new([4, 4, 4]));
+    assert_eq!(rt; header.cells(), Cells::new([4, 4, 4], Sub::of_bits(12)));
     assert_eq!(rt; (header.steps(), header.every()), (1, 1));
     assert_eq!(rt; header.scales().e_force, Mult::new(1, 20));
     assert_eq!(rt; header.species().as_slice().len(), 2);
@@ -89,7 +95,7 @@ fn the_header_of_two_charges(rt: HostRuntime) -> Result<(), Fail> {
 fn small_state(alloc: Global) -> Result<Snapshot, Fail>
     ensures { IfOk result (λ s. map (λ particle. particle.id) s.particles.items ≡ range_with_len 0 (length s.particles.items)) }
 {
-    let cells = Cells::new([2, 2, 2]);
+    let cells = Cells::new([2, 2, 2], Sub::of_bits(12));
     let mut e = Lattice::new(alloc, cells, [1, 1, 1])?;
     let mut b = Lattice::new(alloc, cells, [1, 1, 1])?;
     e.set(Axis::X, [0, 0, 0], 1);

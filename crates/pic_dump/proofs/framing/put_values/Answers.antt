@@ -34,9 +34,9 @@ returns-in_err-put_value-clause-bytes g c =
     let exit = err_from_is_err_and c.from_residual.result c.from_residual.ensures.1 in
     let f = c.args.field.now in
     let i = c.loop-place.place in
-    let count = count_is f c.cells-cells.result c.count.result c.cells-cells.ensures.value c.count.ensures.value c.cells-cells.ensures.shape in
+    let count = count_is f c.cells-cells.result.n c.count.result c.cells-cells.ensures.value c.count.ensures.value c.cells-cells.ensures.shape in
     let below : i < length f.values = omega (arith, count, c.loop-place-test.true) in
-    let is = value_is f c.cells-cells.result c.place_at-axis.result.0 (triple c.place_at-axis.result.1) i c.at.result c.cells-cells.ensures.value c.place_at-axis.ensures.number c.at.ensures (record { sfits = c.at.type_inv }) in
+    let is = value_is f c.cells-cells.result.n c.place_at-axis.result.0 (triple c.place_at-axis.result.1) i c.at.result c.cells-cells.ensures.value c.place_at-axis.ensures.number c.at.ensures (record { sfits = c.at.type_inv }) in
     let before = g.O.Sink.told c.args.out.now in
     let mid = g.O.Sink.told c.loop-place.out in
     let now = g.O.Sink.told c.put_value.new.out in
@@ -47,9 +47,9 @@ pub loop-place-preserved : goal.loop-place-preserved
 loop-place-preserved g c =
     let f = c.args.field.now in
     let i = c.loop-place.place in
-    let count = count_is f c.cells-cells.result c.count.result c.cells-cells.ensures.value c.count.ensures.value c.cells-cells.ensures.shape in
+    let count = count_is f c.cells-cells.result.n c.count.result c.cells-cells.ensures.value c.count.ensures.value c.cells-cells.ensures.shape in
     let below : i < length f.values = omega (arith, count, c.loop-place-test.true) in
-    let is = value_is f c.cells-cells.result c.place_at-axis.result.0 (triple c.place_at-axis.result.1) i c.at.result c.cells-cells.ensures.value c.place_at-axis.ensures.number c.at.ensures (record { sfits = c.at.type_inv }) in
+    let is = value_is f c.cells-cells.result.n c.place_at-axis.result.0 (triple c.place_at-axis.result.1) i c.at.result c.cells-cells.ensures.value c.place_at-axis.ensures.number c.at.ensures (record { sfits = c.at.type_inv }) in
     let before = g.O.Sink.told c.args.out.now in
     let mid = g.O.Sink.told c.loop-place.out in
     let now = g.O.Sink.told c.put_value.new.out in
@@ -64,7 +64,7 @@ pub returns-clause-bytes : goal.returns-clause-bytes
 unfolding values_bytes
 returns-clause-bytes g c =
     let f = c.args.field.now in
-    let count = count_is f c.cells-cells.result c.count.result c.cells-cells.ensures.value c.count.ensures.value c.cells-cells.ensures.shape in
+    let count = count_is f c.cells-cells.result.n c.count.result c.cells-cells.ensures.value c.count.ensures.value c.cells-cells.ensures.shape in
     let all : c.loop-place.place ≡ length f.values = omega (arith, count, c.loop-place-test.false, c.loop-place.auto.place-end) in
     let whole = ap (λ i. take i f.values) all ∙ take-length f.values in
     record {
