@@ -15,6 +15,7 @@ use Rattle.pic_grid.specs.Lattice.{Field, with_value}
 use Rattle.pic_energy.specs.Energies.{IsBounded, energies_of}
 use Rattle.pic_energy.proofs.Bounds.{bounded_of_values}
 use Rattle.pic_reader.specs.FrameFields.{IsModerate, with_values}
+use Rattle.pic_reader.specs.Layout.{LayoutView}
 
 -- what holds of the items so far and of one more
 pub each_set : {A : Type 0} (P : A → Type 0) (xs : List A) (i : ℕ) (x : A) → i < length xs → ((k : ℕ) (d : A) → k < i → P (get_or xs k d)) → P x
@@ -39,10 +40,10 @@ pub bounded_from : (by : Multiplier) (f : Field) → length f.values ≡ 3 * cou
 bounded_from by f shape all = bounded_of_values by f shape (λ k d below. (all k d below).value) (λ k d below. (all k d below).force)
 
 -- the energies depend on the values of the fields alone
-pub same_energies : (scales : Scales) (kinds : List Kind) (e b : Field) (n : Triple) (particles : List Particle)
-    → energies_of scales kinds e b particles ≡ energies_of scales kinds (with_values n e.values) (with_values n b.values) particles
+pub same_energies : (scales : Scales) (kinds : List Kind) (e b : Field) (l : LayoutView) (particles : List Particle)
+    → energies_of scales kinds e b particles ≡ energies_of scales kinds (with_values l e.values) (with_values l b.values) particles
 unfolding energies_of
-same_energies scales kinds e b n particles = refl
+same_energies scales kinds e b l particles = refl
 
 -- what a slice that has taken a list's place is
 pub written_over : {A : Type 0} (n : ℕ) (new rest : List A) → length new ≡ n → take n (new ++ rest) ≡ new

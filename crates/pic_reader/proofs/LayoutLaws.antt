@@ -27,10 +27,13 @@ layout_fits h are =
     let kinds = length-map h.species (λ s. s.kind) in
     let counts = length-map h.species (λ s. s.count) in
     let few = heads.few in
+    let side = are.limits.grid.same_side in
     let total = heads.total in
     let sums = sum-map (λ (s : HeadView). s.count) h.species in
     record {
       cells = are.cells;
+      side_least = omega (arith, side);
+      side_most = omega (arith, side);
       steps = are.limits.steps_most;
       every_least = are.limits.every_least;
       every_most = are.limits.every_most;

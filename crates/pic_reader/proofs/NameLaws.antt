@@ -1,10 +1,8 @@
 -- The name in a field of bytes.
-use Rattle.std.proofs.Common.{◌≡◌, ℕ, suc, ◌+◌, ◌<◌, ◌≤◌, Bool, true, false, not, ◌&&◌, leb, eqb, List, [], ◌∷◌, ◌++◌, length, get_or, take, drop, refl, sym, ap, ◌∙◌, arith, add-one, append_assoc, append-nil, if◌then◌else◌}
+use Rattle.std.proofs.Common.{◌≡◌, ℕ, suc, ◌<◌, ◌≤◌, Bool, true, false, not, ◌&&◌, leb, eqb, List, [], ◌∷◌, length, get_or, drop, refl, arith, if◌then◌else◌}
 use Rattle.std.specs.Str.{bytes_eq}
 use Rattle.std.specs.List.{list_all, list_any}
-use Rattle.std.proofs.Math.Seq.{drop-cons}
 use Rattle.std.proofs.lemmas.Bool.{and_parts, false≢true, leb-true}
-use Rattle.std.proofs.lemmas.List.{take_more}
 use Rattle.std.proofs.lemmas.List.Folds.{list_any_at}
 use Rattle.std.proofs.lemmas.Slice.Eq.{bytes_eq-Decides}
 use Rattle.pic_grid.specs.Species.{IsName, HeadView, no_head, is_name_byte}
@@ -24,23 +22,6 @@ name_length (b ∷ bytes) = elim (eqb b 0) as (λ v. length (if v then [] else b
   | true ↦ omega arith
   | false ↦ (let h = name_length bytes in omega (arith, h))
 ]
-
--- the bytes so far are of the name
-pub so_far_none : (bytes : List ℕ) (i : ℕ) → i < length bytes → eqb (get_or bytes i 0) 0 ≡ true → name_of bytes ≡ take i bytes ++ name_of (drop i bytes) → name_of bytes ≡ take i bytes
-so_far_none bytes i below zero so_far =
-    so_far ∙ ap (λ l. take i bytes ++ name_of l) (drop-cons bytes i 0 below) ∙ ap (λ l. take i bytes ++ l) (name_none _ (drop (suc i) bytes) zero) ∙ append-nil (take i bytes)
-
-pub so_far_more : (bytes : List ℕ) (i : ℕ) → i < length bytes → eqb (get_or bytes i 0) 0 ≡ false → name_of bytes ≡ take i bytes ++ name_of (drop i bytes)
-    → name_of bytes ≡ take (i + 1) bytes ++ name_of (drop (i + 1) bytes)
-so_far_more bytes i below other so_far =
-    let b = get_or bytes i 0 in
-    let rest = name_of (drop (i + 1) bytes) in
-    so_far
-    ∙ ap (λ l. take i bytes ++ name_of l) (drop-cons bytes i 0 below)
-    ∙ ap (λ l. take i bytes ++ l) (name_cons b (drop (suc i) bytes) other)
-    ∙ ap (λ k. take i bytes ++ b ∷ name_of (drop k bytes)) (sym (add-one i))
-    ∙ sym (append_assoc (take i bytes) (b ∷ []) rest)
-    ∙ ap (λ l. l ++ rest) (sym (take_more bytes i 0 below))
 
 not_true : (b : Bool) → not b ≡ true → b ≡ true → ⊥
 not_true true h e = false≢true h

@@ -55,7 +55,7 @@ or_zero_most None n most = omega arith
 or_zero_most (Some step) n most = most
 
 -- the reader behind a frame
-pub stands_behind : (r : Standing) (tag count : ℕ) → IsStanding r → count < 2 ^ 26 → is_tag (due_after r.layout.steps r.layout.every r.last) r.last tag ≡ true → eqb tag 70 ≡ true
+pub stands_behind : (r : Standing) (tag count : ℕ) → IsStanding r → count < 2 ^ 29 → is_tag (due_after r.layout.steps r.layout.every r.last) r.last tag ≡ true → eqb tag 70 ≡ true
     → (step : ℕ) → step ≡ or_zero (due_after r.layout.steps r.layout.every r.last) → step ≤ r.layout.steps
     → IsStanding (record { layout = r.layout; place = r.place + 1 + count; last = Some step })
 stands_behind r tag count stands small passes frame step is most =

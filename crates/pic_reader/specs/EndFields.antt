@@ -1,8 +1,9 @@
 -- The end record of a dump, field by field: this project's profile.
-use Rattle.std.specs.Prelude.{ℤ, ℕ, suc, ◌^◌, ◌||◌, Bool, nat_lt, nat_eq, unsigned_abs, if◌then◌else◌, List, [], ◌∷◌, sum, Option, Some, None}
+use Rattle.std.specs.Prelude.{ℤ, ℕ, suc, ◌||◌, Bool, nat_lt, nat_eq, unsigned_abs, if◌then◌else◌, List, [], ◌∷◌, sum, Option, Some, None}
 use Rattle.pic_num.specs.declared.motion.What.{What}
 use Rattle.pic_num.specs.declared.motion.What.TheVariants.{Speed, Turn, Far}
 use Rattle.pic_num.specs.declared.axis.Axis.{Axis}
+use Rattle.pic_num.specs.Limits.{most_value, most_force, most_speed, most_turn}
 use Rattle.pic_num.specs.Space.{Triple}
 use Rattle.pic_grid.specs.Cells.{axis_of}
 use Rattle.pic_grid.specs.declared.stop.Phase.{Phase}
@@ -54,15 +55,15 @@ axis_at = mapped axis_of (code_at (is_from_to 0 2))
 unfoldable pub cell_at : Triple → Parser (List ℕ)
 cell_at n = below_at n.x >>= (λ x. below_at n.y >>= (λ y. below_at n.z >>= (λ z. done (x ∷ y ∷ z ∷ []))))
 
--- the bounds that a stop's number passes
+-- the bounds that a stop's number passes, with cells of this side
 abbrev pub bound_limit : Bound → ℕ
-bound_limit Value = 2 ^ 90
-bound_limit Force = 2 ^ 44
+bound_limit Value = most_value
+bound_limit Force = most_force
 
-abbrev pub what_limit : What → ℕ
-what_limit Speed = 2 ^ 40
-what_limit Turn = 2 ^ 24
-what_limit Far = 4096
+abbrev pub what_limit : ℕ → What → ℕ
+what_limit side Speed = most_speed
+what_limit side Turn = most_turn
+what_limit side Far = side
 
 abbrev pub is_past : ℕ → ℤ → Bool
 is_past limit v = nat_lt limit (unsigned_abs v)
@@ -82,7 +83,7 @@ field_stop_at l =
 unfoldable pub push_stop_at : LayoutView → Parser Stop
 push_stop_at l =
     below_at (sum l.counts)
-    >>= (λ id. what_at >>= (λ what. axis_at >>= (λ axis. past_at (what_limit what) >>= (λ value. done (Push id what axis value)))))
+    >>= (λ id. what_at >>= (λ what. axis_at >>= (λ axis. past_at (what_limit l.side what) >>= (λ value. done (Push id what axis value)))))
 
 -- where no frame is due any more the run is done, and else it was stopped
 abbrev pub is_kind : Option ℕ → ℕ → Bool

@@ -1,10 +1,12 @@
 -- A frame of a dump, field by field: this project's profile.
-use Rattle.std.specs.Prelude.{ℤ, pos, negsuc, ℕ, ◌+◌, ◌*◌, ◌^◌, ◌&&◌, Bool, nat_le, nat_eq, unsigned_abs, List, [], ◌∷◌, length, sum, All}
+use Rattle.std.specs.Prelude.{◌≡◌, ℤ, pos, ◌-ℤ◌, ℕ, ◌+◌, ◌-◌, ◌*◌, ◌&&◌, Bool, nat_le, nat_eq, unsigned_abs, List, [], ◌∷◌, length, sum, All}
 use Rattle.pic_num.specs.declared.motion.Particle.{Particle}
+use Rattle.pic_num.specs.Limits.{most_value, most_force}
 use Rattle.pic_num.specs.Multiplier.{Multiplier}
 use Rattle.pic_num.specs.Rounding.{scaled}
 use Rattle.pic_num.specs.Sizes.{IsAtMost}
 use Rattle.pic_num.specs.Space.{Triple, triple}
+use Rattle.pic_num.specs.Velocity.{too_fast}
 use Rattle.pic_grid.specs.Cells.{count_of}
 use Rattle.pic_grid.specs.Hat.{IsInBox}
 use Rattle.pic_grid.specs.Lattice.{Field}
@@ -23,13 +25,13 @@ pub record FrameView : Type 0 where
   pub particles : List Particle
   pub energies : Energies
 
--- a value of at most 2^90 whose force value is at most 2^44
+-- a value within its limit, whose force value is within its own
 abbrev pub is_moderate : Multiplier → ℤ → Bool
-is_moderate by v = nat_le (unsigned_abs v) (2 ^ 90) && nat_le (unsigned_abs (scaled v by)) (2 ^ 44)
+is_moderate by v = nat_le (unsigned_abs v) most_value && nat_le (unsigned_abs (scaled v by)) most_force
 
 pub record IsModerate (by : Multiplier) (v : ℤ) : Type 0 where
-  pub value : IsAtMost v (2 ^ 90)
-  pub force : IsAtMost (scaled v by) (2 ^ 44)
+  pub value : IsAtMost v most_value
+  pub force : IsAtMost (scaled v by) most_force
 
 -- the next value of a field
 unfoldable pub value_at : Multiplier → List ℤ → Parser ℤ
@@ -39,24 +41,25 @@ value_at by before = checked strong_value (is_moderate by) i128_at
 unfoldable pub field_at : Triple → Multiplier → Parser (List ℤ)
 field_at n by = each (3 * count_of n) (value_at by)
 
--- a position on an axis of so many cells of 4096 sub-cells
-unfoldable pub coordinate_at : ℕ → Parser ℕ
-coordinate_at cells = below out_of_range (cells * 4096)
+-- a position on an axis of so many cells of this side
+unfoldable pub coordinate_at : ℕ → ℕ → Parser ℕ
+coordinate_at side cells = below out_of_range (cells * side)
 
-unfoldable pub position_at : Triple → Parser (List ℕ)
-position_at n = coordinate_at n.x >>= (λ x. coordinate_at n.y >>= (λ y. coordinate_at n.z >>= (λ z. done (x ∷ y ∷ z ∷ []))))
+unfoldable pub position_at : ℕ → Triple → Parser (List ℕ)
+position_at side n = coordinate_at side n.x >>= (λ x. coordinate_at side n.y >>= (λ y. coordinate_at side n.z >>= (λ z. done (x ∷ y ∷ z ∷ []))))
 
-unfoldable pub speed_at : Parser ℤ
-speed_at = between out_of_range (negsuc 16779263) (pos 16779263)
+-- a velocity that a push keeps
+unfoldable pub speed_at : ℕ → Parser ℤ
+speed_at side = between out_of_range (pos 0 -ℤ pos (too_fast side)) (pos (too_fast side - 1))
 
-unfoldable pub velocity_at : Parser (List ℤ)
-velocity_at = speed_at >>= (λ x. speed_at >>= (λ y. speed_at >>= (λ z. done (x ∷ y ∷ z ∷ []))))
+unfoldable pub velocity_at : ℕ → Parser (List ℤ)
+velocity_at side = speed_at side >>= (λ x. speed_at side >>= (λ y. speed_at side >>= (λ z. done (x ∷ y ∷ z ∷ []))))
 
 -- the particle of an identity, which tells its species
 unfoldable pub particle_of : LayoutView → ℕ → Parser Particle
 particle_of l id =
-    position_at l.cells
-    >>= (λ x. velocity_at >>= (λ v. done (record { id = id; species = species_of l.counts id; x = x; v = v })))
+    position_at l.side l.cells
+    >>= (λ x. velocity_at l.side >>= (λ v. done (record { id = id; species = species_of l.counts id; x = x; v = v })))
 
 -- the next particle: its identity is its place in the list
 unfoldable pub particle_at : LayoutView → List Particle → Parser Particle
@@ -76,8 +79,8 @@ energies_at want =
     >>= (λ magnetic. done (record { kinetic = kinetic; electric = electric; magnetic = magnetic }))))
 
 -- a field of such values
-abbrev pub with_values : Triple → List ℤ → Field
-with_values n values = record { cells = n; parts = record { x = 1; y = 1; z = 1 }; values = values }
+abbrev pub with_values : LayoutView → List ℤ → Field
+with_values l values = record { cells = l.cells; side = l.side; parts = record { x = 1; y = 1; z = 1 }; values = values }
 
 abbrev pub frame_of : ℕ → List ℤ → List ℤ → List Particle → Energies → FrameView
 frame_of step e b particles energies = record { step = step; e = e; b = b; particles = particles; energies = energies }
@@ -88,7 +91,7 @@ state_at l step =
     field_at l.cells l.scales.e_force
     >>= (λ e. field_at l.cells l.scales.b_force
     >>= (λ b. particles_at l
-    >>= (λ particles. mapped (frame_of step e b particles) (energies_at (energies_of l.scales l.kinds (with_values l.cells e) (with_values l.cells b) particles)))))
+    >>= (λ particles. mapped (frame_of step e b particles) (energies_at (energies_of l.scales l.kinds (with_values l e) (with_values l b) particles)))))
 
 -- the frame of the step that is due
 unfoldable pub frame_at : LayoutView → ℕ → Parser FrameView
@@ -98,9 +101,15 @@ frame_at l due = the_step due >>= (λ step. state_at l due)
 abbrev pub frame_length : LayoutView → ℕ
 frame_length l = 52 + 96 * count_of l.cells + 24 * sum l.counts
 
+-- a field with other values
+pub record IsSameShape (old new : Field) : Type 0 where
+  pub cells : new.cells ≡ old.cells
+  pub side : new.side ≡ old.side
+  pub parts : new.parts ≡ old.parts
+
 -- a particle whose position lies in the box
-pub record IsPlaced (n : Triple) (particle : Particle) : Type 0 where
-  pub place : IsInBox 4096 n (triple particle.x)
+pub record IsPlaced (side : ℕ) (n : Triple) (particle : Particle) : Type 0 where
+  pub place : IsInBox side n (triple particle.x)
 
 -- what the reader knows of a state that it read: its values are within their bounds, and each particle
 -- is of a species and lies in the box
@@ -108,4 +117,4 @@ pub record IsHeld (l : LayoutView) (e b : Field) (particles : List Particle) : T
   pub electric : IsBounded l.scales.e_force e
   pub magnetic : IsBounded l.scales.b_force b
   pub species : All (IsOfKinds l.kinds) particles
-  pub places : All (IsPlaced l.cells) particles
+  pub places : All (IsPlaced l.side l.cells) particles

@@ -3,21 +3,22 @@ use Rattle.std.specs.Prelude.{◌≡◌, pos, negsuc, ℕ, ◌-◌, ◌+◌, ◌
 use Rattle.std.specs.List.{list_all, list_any}
 use Rattle.pic_num.specs.declared.motion.Kind.{Kind}
 use Rattle.pic_num.specs.declared.mult.Scales.{Scales}
+use Rattle.pic_num.specs.Limits.{fewest_cells_of_axis, most_cells_of_axis_1, side_1, most_species, most_particles_1, most_mass}
 use Rattle.pic_num.specs.Multiplier.{Multiplier}
 use Rattle.pic_num.specs.Space.{Triple}
 use Rattle.pic_grid.specs.Species.{HeadView, no_head, IsName, IsKind, is_name_byte}
 use Rattle.pic_fields.specs.Parser.{Parser, field, done, ◌>>=◌, checked, mapped, each}
 use Rattle.pic_fields.specs.Number.{within, exactly}
 use Rattle.pic_dump.specs.Header.{HeaderView}
-use Rattle.pic_dump.specs.Limits.{most_steps, fewest_cells, most_cells, most_species, most_letters, most_particles}
+use Rattle.pic_dump.specs.Limits.{most_steps, most_letters}
 use Rattle.pic_reader.specs.Fields.{wrong_letter, out_of_limits, between}
 
 -- the numbers of cells
 unfoldable pub cells_at : Parser Triple
 cells_at =
-    within out_of_limits fewest_cells most_cells
-    >>= (λ x. within out_of_limits fewest_cells most_cells
-    >>= (λ y. within out_of_limits fewest_cells most_cells >>= (λ z. done (record { x = x; y = y; z = z }))))
+    within out_of_limits fewest_cells_of_axis most_cells_of_axis_1
+    >>= (λ x. within out_of_limits fewest_cells_of_axis most_cells_of_axis_1
+    >>= (λ y. within out_of_limits fewest_cells_of_axis most_cells_of_axis_1 >>= (λ z. done (record { x = x; y = y; z = z }))))
 
 -- a multiplier
 unfoldable pub mult_at : Parser Multiplier
@@ -36,7 +37,7 @@ scales_at =
 unfoldable pub kind_at : Parser Kind
 kind_at =
     between out_of_limits (negsuc 32767) (pos 32767)
-    >>= (λ charge. within out_of_limits 1 65536
+    >>= (λ charge. within out_of_limits 1 most_mass
     >>= (λ mass. mult_at >>= (λ kick. mult_at >>= (λ turn. done (record { charge = charge; mass = mass; kick = kick; turn = turn })))))
 
 -- the bytes before the first zero
@@ -65,14 +66,14 @@ unfoldable pub head_at : List HeadView → Parser HeadView
 head_at before =
     name_at before
     >>= (λ name. kind_at
-    >>= (λ kind. within out_of_limits 0 (most_particles - particles_of before)
+    >>= (λ kind. within out_of_limits 0 (most_particles_1 - particles_of before)
     >>= (λ count. done (record { name = name; kind = kind; count = count }))))
 
 -- the species
 unfoldable pub heads_at : Parser (List HeadView)
 heads_at = within out_of_limits 0 most_species >>= (λ count. each count head_at)
 
--- the header
+-- the header of version 1, whose cells have one side
 unfoldable pub header_at : Parser HeaderView
 header_at =
     exactly wrong_letter (codes "PICDUMP1")
@@ -81,11 +82,11 @@ header_at =
     >>= (λ steps. within out_of_limits 1 most_steps
     >>= (λ every. scales_at
     >>= (λ scales. heads_at
-    >>= (λ heads. done (record { cells = cells; steps = steps; every = every; scales = scales; species = heads })))))))
+    >>= (λ heads. done (record { cells = cells; side = side_1; steps = steps; every = every; scales = scales; species = heads })))))))
 
 -- a species within the limits, with a name that none of these has, and few enough particles beside theirs
 pub record IsNewHead (heads : List HeadView) (h : HeadView) : Type 0 where
   pub name : IsName h.name
   pub kind : IsKind h.kind
   pub differs : (i : ℕ) → i < length heads → (slice_index_or heads i no_head).name ≡ h.name → ⊥
-  pub total : sum_by (λ s. s.count) heads + h.count ≤ most_particles
+  pub total : sum_by (λ s. s.count) heads + h.count ≤ most_particles_1

@@ -2,18 +2,19 @@
 use Rattle.std.specs.Prelude.{◌≡◌, ℕ, suc, ◌-◌, ◌≤◌, nat_lt, if◌then◌else◌, List, [], ◌∷◌, length, map, sum, All}
 use Rattle.pic_num.specs.declared.motion.Kind.{Kind}
 use Rattle.pic_num.specs.declared.mult.Scales.{Scales}
-use Rattle.pic_num.specs.Limits.{most_charge}
+use Rattle.pic_num.specs.Limits.{least_side, most_side, most_species, most_particles, most_charge}
 use Rattle.pic_num.specs.Sizes.{IsAtMost}
 use Rattle.pic_num.specs.Space.{Triple}
 use Rattle.pic_grid.specs.Cells.{IsCells}
 use Rattle.pic_energy.specs.Energies.{HasMass}
 use Rattle.pic_dump.specs.Header.{HeaderView}
-use Rattle.pic_dump.specs.Limits.{most_steps, most_species, most_particles}
+use Rattle.pic_dump.specs.Limits.{most_steps}
 
--- the numbers of cells, the steps, after how many of them a frame is due, the multipliers, and the
+-- the numbers of cells, the side of a cell, the steps, after how many of them a frame is due, the multipliers, and the
 -- kinds and the numbers of particles of the species
 pub record LayoutView : Type 0 where
   pub cells : Triple
+  pub side : ℕ
   pub steps : ℕ
   pub every : ℕ
   pub scales : Scales
@@ -24,6 +25,7 @@ pub record LayoutView : Type 0 where
 abbrev pub layout_of : HeaderView → LayoutView
 layout_of h = record {
   cells = h.cells;
+  side = h.side;
   steps = h.steps;
   every = h.every;
   scales = h.scales;
@@ -34,6 +36,8 @@ layout_of h = record {
 -- its limits
 pub record IsLayout (l : LayoutView) : Type 0 where
   pub cells : IsCells l.cells
+  pub side_least : least_side ≤ l.side
+  pub side_most : l.side ≤ most_side
   pub steps : l.steps ≤ most_steps
   pub every_least : 1 ≤ l.every
   pub every_most : l.every ≤ most_steps

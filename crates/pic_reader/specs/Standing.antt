@@ -16,5 +16,5 @@ passed (Some step) = step + 1
 -- a reader is never so far that its place can't be counted
 pub record IsStanding (r : Standing) : Type 0 where
   pub layout : IsLayout r.layout
-  pub place : r.place ≤ 1024 + passed r.last * 2 ^ 26
+  pub place : r.place ≤ 1024 + passed r.last * 2 ^ 29
   pub last : IfSome r.last (λ step. step ≤ r.layout.steps)

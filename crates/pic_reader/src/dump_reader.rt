@@ -5,7 +5,7 @@ ghost use Rattle.pic_fields.specs.Parser.{checked};
 ghost use Rattle.pic_fields.specs.Number.{byte_at};
 ghost use Rattle.pic_fields.specs.Reads.{Reads, as_it_is};
 ghost use Rattle.pic_reader.specs.Fields.{wrong_tag};
-ghost use Rattle.pic_reader.specs.FrameFields.{frame_length};
+ghost use Rattle.pic_reader.specs.FrameFields.{frame_length, IsSameShape};
 ghost use Rattle.pic_reader.specs.HeaderFields.{header_at};
 ghost use Rattle.pic_reader.specs.HeadReads.{HeadReads};
 ghost use Rattle.pic_reader.specs.Layout.{IsLayout, layout_of};
@@ -90,16 +90,17 @@ impl DumpReader {
 
     /// Room for the frames of this dump: a snapshot with its numbers of cells and particles.
     pub fn room(&self, alloc: Global) -> Result<Snapshot, pic_num::NoMemory>
-        ensures e { IfOk result (λ s. s.e.cells ≡ self.now.layout.cells) }
-        ensures b { IfOk result (λ s. s.b.cells ≡ self.now.layout.cells) }
+        ensures e { IfOk result (λ s. (s.e.cells ≡ self.now.layout.cells) × (s.e.side ≡ self.now.layout.side)) }
+        ensures b { IfOk result (λ s. (s.b.cells ≡ self.now.layout.cells) × (s.b.side ≡ self.now.layout.side)) }
         ensures particles { IfOk result (λ s. length s.particles.items ≡ sum self.now.layout.counts) }
     {
         Snapshot::new(alloc, self.layout.cells(), self.layout.particles())
     }
 
-    /// The numbers of cells of the dump's grid.
+    /// The numbers of cells of the dump's grid, and the side of a cell.
     pub fn cells(&self) -> Cells
-        ensures value { result ≡ self.now.layout.cells }
+        ensures value { result.n ≡ self.now.layout.cells }
+        ensures side { result.side ≡ self.now.layout.side }
         ensures limits { IsLayout self.now.layout }
     {
         self.layout.cells()
@@ -122,8 +123,8 @@ impl DumpReader {
         requires particles { length state.old.particles.items ≡ sum self.layout.counts }
         ensures reads { NextReads self (S.told source.old) (S.told source.new) state.new.e state.new.b state.new.particles.items result }
         ensures behind { IfOk result (λ n. IsBehind self n) }
-        ensures e { (state.new.e.cells ≡ state.old.e.cells) × (state.new.e.parts ≡ state.old.e.parts) }
-        ensures b { (state.new.b.cells ≡ state.old.b.cells) × (state.new.b.parts ≡ state.old.b.parts) }
+        ensures e { IsSameShape state.old.e state.new.e }
+        ensures b { IsSameShape state.old.b state.new.b }
         ensures particles { length state.new.particles.items ≡ length state.old.particles.items }
     {
         let DumpReader {
@@ -180,7 +181,7 @@ fn is_tag(due: Option<u32>, last: Option<u32>, tag: u8) -> bool
 // The bytes of a frame behind its mark.
 fn frame_length(layout: &Layout) -> u64
     ensures value { result ≡ frame_length layout.now }
-    ensures most { result < 2 ^ 26 }
+    ensures most { result < 2 ^ 29 }
 {
     52 + 96 * u64::from(layout.cells().count()) + 24 * u64::from(layout.particles())
 }

@@ -130,7 +130,7 @@ fn axis_of(n: u8) -> Axis
 
 fn read_cell<S: Source>(source: &mut S, place: u64, cells: Cells) -> Result<[u32; 3], ReadStop>
     requires { place + 12 < 2 ^ 63 }
-    ensures { Reads as_it_is (cell_at cells) place (place + 12) (S.told source.old) (S.told source.new) result }
+    ensures { Reads as_it_is (cell_at cells.n) place (place + 12) (S.told source.old) (S.told source.new) result }
 {
     let second = place + 4;
     let third = second + 4;
@@ -171,13 +171,13 @@ fn bound_limit(bound: Bound) -> u128
     }
 }
 
-fn what_limit(what: What) -> u128
-    ensures { result ≡ what_limit what }
+fn what_limit(side: u32, what: What) -> u128
+    ensures { result ≡ what_limit side what }
 {
     match what {
         What::Speed => 1099511627776,
         What::Turn => 16777216,
-        What::Far => 4096,
+        What::Far => u128::from(side),
     }
 }
 
@@ -215,7 +215,7 @@ fn read_push_stop<S: Source>(source: &mut S, place: u64, layout: &Layout) -> Res
     let id = read_below(source, place, WRONG_END, layout.particles())?;
     let what = read_what(source, second)?;
     let axis = read_axis(source, third)?;
-    let value = read_past(source, fourth, what_limit(what))?;
+    let value = read_past(source, fourth, what_limit(layout.side(), what))?;
     Ok(Stop::Push {
         id,
         what,

@@ -1,7 +1,9 @@
 //! A frame of a dump, read.
 
-ghost use Rattle.std.specs.Prelude.{◌≡◌, ℕ, ℤ, pos, ◌+◌, ◌-◌, ◌*◌, ◌<◌, ◌≤◌, ◌^◌, All, List, length, sum, nat_eq, IfOk, OnOk};
+ghost use Rattle.std.specs.Prelude.{◌≡◌, ℕ, ℤ, pos, ◌-ℤ◌, ◌+◌, ◌-◌, ◌*◌, ◌<◌, ◌≤◌, ◌^◌, All, List, length, sum, nat_eq, IfOk, OnOk};
+ghost use Rattle.pic_num.specs.Limits.{most_side, most_cells_of_axis};
 ghost use Rattle.pic_num.specs.Sizes.{IsAtMost};
+ghost use Rattle.pic_num.specs.Velocity.{too_fast};
 ghost use Rattle.pic_num.specs.Rounding.{scaled};
 ghost use Rattle.pic_num.specs.Space.{triple};
 ghost use Rattle.pic_grid.specs.Cells.{count_of};
@@ -11,7 +13,7 @@ ghost use Rattle.pic_fields.specs.Number.{i128_at};
 ghost use Rattle.pic_fields.specs.Reads.{Reads, always, as_it_is};
 ghost use Rattle.pic_energy.specs.Energies.{HasMass, IsOfKinds, IsBounded};
 ghost use Rattle.pic_reader.specs.Fields.{strong_value, is_below, below, the_step};
-ghost use Rattle.pic_reader.specs.FrameFields.{FrameView, is_moderate, IsModerate, field_at, coordinate_at, position_at, velocity_at, speed_at, particle_of, particle_at, particles_at, energy_at, energies_at, frame_of, frame_at, frame_length, IsPlaced, IsHeld};
+ghost use Rattle.pic_reader.specs.FrameFields.{FrameView, is_moderate, IsModerate, field_at, coordinate_at, position_at, velocity_at, speed_at, particle_of, particle_at, particles_at, energy_at, energies_at, frame_of, frame_at, frame_length, IsSameShape, IsPlaced, IsHeld};
 ghost use Rattle.pic_reader.specs.Layout.{species_of, IsLayout};
 
 use crate::head_reader::read_between;
@@ -39,13 +41,8 @@ const MOST_VALUE: u128 = 1237940039285380274899124224;
 
 const MOST_FORCE: u128 = 17592186044416;
 
-/// The least and the greatest velocity.
-const LEAST_SPEED: i32 = -16779264;
-
-const MOST_SPEED: i32 = 16779263;
-
-/// The sub-cells of a cell's side.
-const SIDE: u32 = 4096;
+/// How many of its units a velocity of a sub-cell a step has.
+const VELOCITY_UNIT: i32 = 4096;
 
 // Reads a field value.
 fn read_value<S: Source>(source: &mut S, place: u64, by: Mult) -> Result<i128, ReadStop>
@@ -76,11 +73,10 @@ fn read_field<S: Source>(
     by: Mult,
     field: &mut Lattice,
 ) -> Result<(), ReadStop>
-    requires { place + 2 ^ 26 < 2 ^ 63 }
+    requires { place + 2 ^ 29 < 2 ^ 63 }
     ensures reads { Reads (always field.new.values) (field_at field.old.cells by) place (place + 16 * (3 * count_of field.old.cells))
         (S.told source.old) (S.told source.new) result }
-    ensures cells { field.new.cells ≡ field.old.cells }
-    ensures parts { field.new.parts ≡ field.old.parts }
+    ensures shape { IsSameShape field.old field.new }
     ensures bounds { OnOk result (IsBounded by field.new) }
 {
     let cells = field.cells();
@@ -116,46 +112,82 @@ fn is_below(limit: u32, n: u32) -> bool
     n < limit
 }
 
-// Reads a position on an axis of so many cells.
-fn read_coordinate<S: Source>(source: &mut S, place: u64, cells: u32) -> Result<u32, ReadStop>
+// Reads a position on an axis of so many cells of this side.
+fn read_coordinate<S: Source>(
+    source: &mut S,
+    place: u64,
+    side: u32,
+    cells: u32,
+) -> Result<u32, ReadStop>
     requires place { place + 4 < 2 ^ 63 }
-    requires cells { cells ≤ 64 }
-    ensures reads { Reads as_it_is (coordinate_at cells) place (place + 4) (S.told source.old) (S.told source.new) result }
-    ensures below { IfOk result (λ x. x < cells * 4096) }
+    requires side { side ≤ most_side }
+    requires cells { cells ≤ most_cells_of_axis }
+    ensures reads { Reads as_it_is (coordinate_at side cells) place (place + 4) (S.told source.old) (S.told source.new) result }
+    ensures below { IfOk result (λ x. x < cells * side) }
 {
-    read_below(source, place, OUT_OF_RANGE, cells * SIDE)
+    read_below(source, place, OUT_OF_RANGE, cells * side)
 }
 
 fn read_position<S: Source>(source: &mut S, place: u64, cells: Cells) -> Result<[u32; 3], ReadStop>
     requires { place + 12 < 2 ^ 63 }
-    ensures reads { Reads as_it_is (position_at cells) place (place + 12) (S.told source.old) (S.told source.new) result }
-    ensures inside { IfOk result (λ x. IsInBox 4096 cells (triple x)) }
+    ensures reads { Reads as_it_is (position_at cells.side cells.n) place (place + 12) (S.told source.old) (S.told source.new) result }
+    ensures inside { IfOk result (λ x. IsInBox cells.side cells.n (triple x)) }
 {
     let second = place + 4;
     let third = second + 4;
     let [nx, ny, nz] = cells.numbers();
-    let x = read_coordinate(source, place, nx)?;
-    let y = read_coordinate(source, second, ny)?;
-    let z = read_coordinate(source, third, nz)?;
+    let side = cells.sub().side();
+    let x = read_coordinate(source, place, side, nx)?;
+    let y = read_coordinate(source, second, side, ny)?;
+    let z = read_coordinate(source, third, side, nz)?;
     Ok([x, y, z])
 }
 
-fn read_speed<S: Source>(source: &mut S, place: u64) -> Result<i32, ReadStop>
-    requires { place + 4 < 2 ^ 63 }
-    ensures { Reads as_it_is speed_at place (place + 4) (S.told source.old) (S.told source.new) result }
+// Reads a velocity that a push with cells of this side keeps.
+fn read_speed<S: Source>(source: &mut S, place: u64, side: u32) -> Result<i32, ReadStop>
+    requires place { place + 4 < 2 ^ 63 }
+    requires side { side ≤ most_side }
+    ensures { Reads as_it_is (speed_at side) place (place + 4) (S.told source.old) (S.told source.new) result }
 {
-    read_between(source, place, OUT_OF_RANGE, LEAST_SPEED, MOST_SPEED)
+    let low = slowest(side);
+    let high = fastest(side);
+    read_between(source, place, OUT_OF_RANGE, low, high)
 }
 
-fn read_velocity<S: Source>(source: &mut S, place: u64) -> Result<[i32; 3], ReadStop>
-    requires { place + 12 < 2 ^ 63 }
-    ensures { Reads as_it_is velocity_at place (place + 12) (S.told source.old) (S.told source.new) result }
+// The least speed that leads further than a cell of this side.
+fn too_fast(side: u32) -> i32
+    requires { side ≤ most_side }
+    ensures value { result ≡ pos (too_fast side) }
+    ensures most { too_fast side < 2 ^ 30 }
+{
+    VELOCITY_UNIT * side as i32 + VELOCITY_UNIT / 2
+}
+
+// The least and the greatest velocity that a push with cells of this side keeps.
+fn slowest(side: u32) -> i32
+    requires { side ≤ most_side }
+    ensures { result ≡ pos 0 -ℤ pos (too_fast side) }
+{
+    -too_fast(side)
+}
+
+fn fastest(side: u32) -> i32
+    requires { side ≤ most_side }
+    ensures { result ≡ pos (too_fast side - 1) }
+{
+    too_fast(side) - 1
+}
+
+fn read_velocity<S: Source>(source: &mut S, place: u64, side: u32) -> Result<[i32; 3], ReadStop>
+    requires place { place + 12 < 2 ^ 63 }
+    requires side { side ≤ most_side }
+    ensures { Reads as_it_is (velocity_at side) place (place + 12) (S.told source.old) (S.told source.new) result }
 {
     let second = place + 4;
     let third = second + 4;
-    let x = read_speed(source, place)?;
-    let y = read_speed(source, second)?;
-    let z = read_speed(source, third)?;
+    let x = read_speed(source, place, side)?;
+    let y = read_speed(source, second, side)?;
+    let z = read_speed(source, third, side)?;
     Ok([x, y, z])
 }
 
@@ -170,12 +202,12 @@ fn read_particle<S: Source>(
     requires id { id < sum layout.now.counts }
     ensures reads { Reads as_it_is (particle_of layout.now id) place (place + 24) (S.told source.old) (S.told source.new) result }
     ensures species { IfOk result (λ p. IsOfKinds layout.now.kinds p) }
-    ensures place { IfOk result (λ p. IsPlaced layout.now.cells p) }
+    ensures place { IfOk result (λ p. IsPlaced layout.now.side layout.now.cells p) }
 {
     let second = place + 12;
     let species = species_at(layout.counts(), id);
     let x = read_position(source, place, layout.cells())?;
-    let v = read_velocity(source, second)?;
+    let v = read_velocity(source, second, layout.side())?;
     Ok(Particle { id, species, x, v })
 }
 
@@ -186,13 +218,13 @@ fn read_particles<S: Source>(
     layout: &Layout,
     particles: &mut [Particle],
 ) -> Result<(), ReadStop>
-    requires place { place + 2 ^ 26 < 2 ^ 63 }
+    requires place { place + 2 ^ 29 < 2 ^ 63 }
     requires count { length particles.old ≡ sum layout.now.counts }
     ensures reads { Reads (always particles.new) (particles_at layout.now) place (place + 24 * sum layout.now.counts)
         (S.told source.old) (S.told source.new) result }
     ensures length { length particles.new ≡ length particles.old }
     ensures species { OnOk result (All (IsOfKinds layout.now.kinds) particles.new) }
-    ensures places { OnOk result (All (IsPlaced layout.now.cells) particles.new) }
+    ensures places { OnOk result (All (IsPlaced layout.now.side layout.now.cells) particles.new) }
 {
     let count = layout.particles();
     for index in 0..count {
@@ -272,15 +304,15 @@ pub fn read_frame<S: Source>(
     due: u32,
     state: &mut Snapshot,
 ) -> Result<Energies, ReadStop>
-    requires place { place + 2 ^ 27 < 2 ^ 63 }
+    requires place { place + 2 ^ 30 < 2 ^ 63 }
     requires e { state.old.e.cells ≡ layout.now.cells }
     requires b { state.old.b.cells ≡ layout.now.cells }
     requires particles { length state.old.particles.items ≡ sum layout.now.counts }
     ensures reads { Reads (frame_of due state.new.e.values state.new.b.values state.new.particles.items) (frame_at layout.now due)
         place (place + frame_length layout.now) (S.told source.old) (S.told source.new) result }
     ensures held { OnOk result (IsHeld layout.now state.new.e state.new.b state.new.particles.items) }
-    ensures e { (state.new.e.cells ≡ state.old.e.cells) × (state.new.e.parts ≡ state.old.e.parts) }
-    ensures b { (state.new.b.cells ≡ state.old.b.cells) × (state.new.b.parts ≡ state.old.b.parts) }
+    ensures e { IsSameShape state.old.e state.new.e }
+    ensures b { IsSameShape state.old.b state.new.b }
     ensures particles { length state.new.particles.items ≡ length state.old.particles.items }
 {
     let values = 3 * u64::from(layout.cells().count());

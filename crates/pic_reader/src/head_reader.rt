@@ -1,11 +1,12 @@
 //! The header of a dump, read.
 
 ghost use Rattle.std.specs.Prelude.{◌≡◌, ℤ, pos, negsuc, ◌+◌, ◌-◌, ◌*◌, ◌<◌, ◌≤◌, ◌≤ℤ◌, ◌^◌, IsTrue, length, map, IfOk};
+ghost use Rattle.pic_num.specs.Limits.{most_particles_1};
 ghost use Rattle.pic_num.specs.Space.{triple};
 ghost use Rattle.pic_grid.specs.Species.{HeadView, IsName, IsKind, AreHeads};
 ghost use Rattle.pic_fields.specs.Parser.{each};
 ghost use Rattle.pic_fields.specs.Reads.{Reads, as_it_is};
-ghost use Rattle.pic_dump.specs.Header.{HasLimits};
+ghost use Rattle.pic_dump.specs.Header.{IsGrid_1, HasLimits};
 ghost use Rattle.pic_reader.specs.Fields.{is_between, between};
 ghost use Rattle.pic_reader.specs.HeaderFields.{IsNewHead, cells_at, mult_at, scales_at, kind_at, name_of, is_name_field, is_new_name_field, name_at, particles_of, head_at, heads_at, header_at};
 ghost use Rattle.pic_reader.specs.HeadReads.{HeadReads};
@@ -16,7 +17,7 @@ use pic_dump::{Head, Header, Heads};
 use pic_fields::{ReadStop, read_exactly, read_i32, read_within};
 use pic_grid::{Cells, Name};
 use pic_io::Source;
-use pic_num::{Kind, Mult, NoMemory, Scales};
+use pic_num::{Kind, Mult, NoMemory, Scales, Sub};
 use std::alloc::Global;
 
 /// The cause of a wrong byte in the mark of a dump.
@@ -27,6 +28,11 @@ const HEAD_BYTES: u64 = 60;
 
 /// The most steps of a run.
 const MOST_STEPS: u32 = 1000000;
+
+/// The most cells of an axis, and the power of two of their side.
+const MOST_CELLS: u32 = 64;
+
+const BITS: u32 = 12;
 
 /// The most species.
 const MOST_SPECIES: u32 = 16;
@@ -44,14 +50,15 @@ const MOST_MASS: u32 = 65536;
 
 fn read_cells<S: Source>(source: &mut S, place: u64) -> Result<Cells, ReadStop>
     requires { place + 12 < 2 ^ 63 }
-    ensures { Reads as_it_is cells_at place (place + 12) (S.told source.old) (S.told source.new) result }
+    ensures reads { Reads (λ c. c.n) cells_at place (place + 12) (S.told source.old) (S.told source.new) result }
+    ensures grid { IfOk result (λ c. IsGrid_1 c.n c.side) }
 {
     let second = place + 4;
     let third = second + 4;
-    let x = read_within(source, place, OUT_OF_LIMITS, Cells::FEWEST, Cells::MOST)?;
-    let y = read_within(source, second, OUT_OF_LIMITS, Cells::FEWEST, Cells::MOST)?;
-    let z = read_within(source, third, OUT_OF_LIMITS, Cells::FEWEST, Cells::MOST)?;
-    Ok(Cells::new([x, y, z]))
+    let x = read_within(source, place, OUT_OF_LIMITS, Cells::FEWEST, MOST_CELLS)?;
+    let y = read_within(source, second, OUT_OF_LIMITS, Cells::FEWEST, MOST_CELLS)?;
+    let z = read_within(source, third, OUT_OF_LIMITS, Cells::FEWEST, MOST_CELLS)?;
+    Ok(Cells::new([x, y, z], Sub::of_bits(BITS)))
 }
 
 // Reads a signed number from `low` to `high`; another is a fault of this cause.
@@ -144,7 +151,7 @@ fn read_head<S: Source>(
 ) -> Result<Head, HeadStop>
     requires place { place + 60 < 2 ^ 63 }
     requires count { particles ≡ particles_of earlier.now }
-    requires most { particles ≤ 1048576 }
+    requires most { particles ≤ most_particles_1 }
     ensures reads { HeadReads (λ h. h) (head_at earlier.now) place (λ _. place + 60) (S.told source.old) (S.told source.new) result }
     ensures new { IfOk result (λ h. IsNewHead earlier.now h) }
 {

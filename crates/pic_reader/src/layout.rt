@@ -1,6 +1,7 @@
 //! What the frames and the end record of a dump depend on, of its header.
 
 ghost use Rattle.std.specs.Prelude.{◌≡◌, ◌<◌, ◌≤◌, length, map, sum, IfOk};
+ghost use Rattle.pic_num.specs.Limits.{most_particles};
 ghost use Rattle.pic_reader.specs.Layout.{LayoutView, IsLayout, layout_of, species_of};
 
 use pic_dump::Header;
@@ -9,7 +10,7 @@ use pic_num::{Kind, NoMemory, Scales};
 use std::alloc::Global;
 use std::marker::Model;
 
-/// The numbers of cells, the steps, after how many of them a frame is due, the multipliers, and the
+/// The numbers of cells and their side, the steps, after how many of them a frame is due, the multipliers, and the
 /// kinds and the numbers of particles of the species.
 #[derive(Debug, Drop)]
 pub struct Layout {
@@ -24,9 +25,9 @@ pub struct Layout {
 impl Model for Layout {
     ghost Value = { LayoutView };
 
-    ghost view = { λ l. record { cells = l.cells; steps = l.steps; every = l.every; scales = l.scales; kinds = l.kinds.items; counts = l.counts.items } };
+    ghost view = { λ l. record { cells = l.cells.n; side = l.cells.side; steps = l.steps; every = l.every; scales = l.scales; kinds = l.kinds.items; counts = l.counts.items } };
 
-    ghost invariant = { λ l. IsLayout (record { cells = l.cells; steps = l.steps; every = l.every; scales = l.scales; kinds = l.kinds.items; counts = l.counts.items }) };
+    ghost invariant = { λ l. IsLayout (record { cells = l.cells.n; side = l.cells.side; steps = l.steps; every = l.every; scales = l.scales; kinds = l.kinds.items; counts = l.counts.items }) };
 }
 
 impl Layout {
@@ -52,7 +53,8 @@ impl Layout {
     }
 
     pub fn cells(&self) -> Cells
-        ensures value { result ≡ self.now.cells }
+        ensures value { result.n ≡ self.now.cells }
+        ensures side { result.side ≡ self.now.side }
         ensures limits { IsLayout self.now }
     {
         self.cells
@@ -70,6 +72,14 @@ impl Layout {
         ensures limits { IsLayout self.now }
     {
         self.every
+    }
+
+    /// The side of a cell, in sub-cells.
+    pub fn side(&self) -> u32
+        ensures value { result ≡ self.now.side }
+        ensures limits { IsLayout self.now }
+    {
+        self.cells.sub().side()
     }
 
     pub fn scales(&self) -> &Scales
@@ -96,7 +106,7 @@ impl Layout {
     /// How many particles there are.
     pub fn particles(&self) -> u32
         ensures value { result ≡ sum self.now.counts }
-        ensures most { result ≤ 1048576 }
+        ensures most { result ≤ most_particles }
     {
         self.counts.iter().sum::<u32>()
     }

@@ -2,14 +2,14 @@
 
 ghost use Rattle.std.specs.Prelude.{◌≡◌, ◌+◌, ◌<◌, ◌≤◌, ◌^◌, ℕ, List, IsTrue, length, nat_eq, bytes_eq, IfOk};
 ghost use Rattle.std.specs.List.{list_all, list_any};
-ghost use Rattle.pic_grid.specs.Species.{HeadView, is_name_byte};
+ghost use Rattle.pic_grid.specs.Species.{HeadView};
 ghost use Rattle.pic_fields.specs.Reads.{Reads, as_it_is};
 ghost use Rattle.pic_reader.specs.HeaderFields.{name_of, is_name_field, is_new_name_field, name_at};
 
 use pic_dump::Head;
 use pic_fields::{ReadStop, take_field};
 use pic_io::Source;
-use pic_num::Text;
+use pic_num::{Text, are_name_bytes};
 
 /// The cause of a number or a name of the header outside its limits.
 pub const OUT_OF_LIMITS: u8 = 2;
@@ -65,21 +65,6 @@ fn name_of(bytes: &[u8]) -> &[u8]
         }
     }
     bytes
-}
-
-fn are_name_bytes(bytes: &[u8]) -> bool
-    ensures { result ≡ list_all is_name_byte bytes.now }
-{
-    bytes.iter().all(|byte| is_name_byte(*byte))
-}
-
-fn is_name_byte(byte: u8) -> bool
-    ensures { result ≡ is_name_byte byte }
-{
-    (48 <= byte && byte <= 57)
-        || (65 <= byte && byte <= 90)
-        || (97 <= byte && byte <= 122)
-        || byte == 95
 }
 
 fn are_zeros(bytes: &[u8]) -> bool

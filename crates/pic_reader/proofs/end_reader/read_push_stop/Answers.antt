@@ -28,14 +28,14 @@ pub returns-in_err-value : goal.returns-in_err-value
 unfolding push_stop_at below_at
 returns-in_err-value g c =
     let id = rw c.particles.ensures.value at c.in_ok-id.ensures.reads in
-    let value = rw c.what_limit.ensures at c.in_err-value.ensures in
+    let value = rw (c.what_limit.ensures, c.side.ensures.value) at c.in_err-value.ensures in
     goes_on _ id.answer (goes_on _ c.in_ok-what.ensures.answer (goes_on _ c.in_ok-axis.ensures.answer (exits _ c.from_residual-in_err-value.ensures.1 value)))
 
 pub returns : goal.returns
 unfolding push_stop_at below_at
 returns g c =
     let id = rw c.particles.ensures.value at c.in_ok-id.ensures.reads in
-    let value = rw c.what_limit.ensures at c.in_ok-value.ensures in
+    let value = rw (c.what_limit.ensures, c.side.ensures.value) at c.in_ok-value.ensures in
     let fits : SFits w128 c.in_ok-value.value = search rules in
     rw (to_z-of_z w128 c.in_ok-value.value fits)
     (record {

@@ -17,6 +17,7 @@ pub loop-index-init : goal.loop-index-init
 loop-index-init g c = record {
   read = read_up_to (omega arith) (read_none (value_at c.args.by) c.args.place _);
   cells = refl;
+  side = refl;
   parts = refl;
   shape = c.cells-cells.ensures.shape;
   moderate = λ k d below. absurd (omega (arith, below));
@@ -48,6 +49,7 @@ loop-index-preserved g c =
     rw c.set.ensures.after (record {
       read = read_up_to (omega arith) (read_same (sym (values_more f axis cell i v (to_z w128 (of_z w128 v)) at inside is)) (read_more i (value_at by) so_far.read c.in_ok-value.ensures.reads.answer));
       cells = so_far.cells;
+      side = so_far.side;
       parts = so_far.parts;
       shape = length-set _ _ _ ∙ so_far.shape;
       moderate = moderate_more by f axis cell i v (to_z w128 (of_z w128 v)) at inside is so_far.moderate c.in_ok-value.ensures.bounds;

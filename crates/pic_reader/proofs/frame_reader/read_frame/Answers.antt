@@ -75,12 +75,12 @@ returns-clause-reads g c =
     let items = ap length c.as_mut_slice.ensures.value in
     let size : length new ≡ c.args.state.now.particles.len = omega (arith, c.in_ok-read_particles.ensures.length, c.as_mut_slice.ensures.len, items) in
     let whole : take c.args.state.now.particles.len (new ++ rest) ≡ new = written_over c.args.state.now.particles.len new rest size in
-    let want : c.energies-want.result ≡ energies_of l.scales l.kinds (with_values l.cells e_is.values) (with_values l.cells b_is.values) new =
+    let want : c.energies-want.result ≡ energies_of l.scales l.kinds (with_values l e_is.values) (with_values l b_is.values) new =
     c.energies-want.ensures
     ∙ ap (λ s. energies_of s c.kinds.result.now e_is b_is (take c.args.state.now.particles.len (new ++ rest))) c.scales-3.ensures.value
     ∙ ap (λ k. energies_of l.scales k e_is b_is (take c.args.state.now.particles.len (new ++ rest))) c.kinds.ensures.value
     ∙ ap (λ q. energies_of l.scales l.kinds e_is b_is q) whole
-    ∙ same_energies l.scales l.kinds e_is b_is l.cells new in
+    ∙ same_energies l.scales l.kinds e_is b_is l new in
     let energies = subst (λ w. Reads as_it_is (energies_at w) fifth (fifth + 48) at_p (g.S.Source.told c.read_energies.new.source) c.read_energies.result) want c.read_energies.ensures in
     let last = reads_as (frame_of c.args.due e_is.values b_is.values new) energies in
     rw whole (reads_up_to {d = fifth + 48} (omega (arith, count, number)) (goes_on _ c.in_ok-read_step.ensures.answer (goes_on _ e (goes_on _ b (goes_on _ p last)))))

@@ -49,7 +49,7 @@ loop-index-preserved g c =
       read = read_up_to (omega arith) (read_same (sym (take_more_set ps i p inside)) (read_more i (particle_at l) so_far.read next));
       size = length-set _ _ _ ∙ so_far.size;
       species = each_set (IsOfKinds l.kinds) ps i p inside so_far.species c.in_ok-particle.ensures.species;
-      places = each_set (IsPlaced l.cells) ps i p inside so_far.places c.in_ok-particle.ensures.place;
+      places = each_set (IsPlaced l.side l.cells) ps i p inside so_far.places c.in_ok-particle.ensures.place;
     }
 
 pub returns-clause-reads : goal.returns-clause-reads

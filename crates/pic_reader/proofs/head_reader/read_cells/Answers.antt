@@ -1,20 +1,21 @@
-use Rattle.std.proofs.Common.{sym, arith}
+use Rattle.std.proofs.Common.{sym, ap, arith}
+use Rattle.pic_grid.specs.Cells.{Grid}
 use Rattle.pic_fields.proofs.ReadLaws.{read_then, read_done, read_same, read_up_to, goes_on, exits}
 use Rattle.pic_reader.specs.HeaderFields.{cells_at}
 use Rattle.pic_reader.proofs.head_reader.read_cells.Goals as goal
 
-pub returns-in_err-x : goal.returns-in_err-x
+pub returns-in_err-x-clause-reads : goal.returns-in_err-x-clause-reads
 unfolding cells_at
-returns-in_err-x g c = exits _ c.from_residual.ensures.1 c.in_err-x.ensures.reads
+returns-in_err-x-clause-reads g c = exits _ c.from_residual.ensures.1 c.in_err-x.ensures.reads
 
-pub returns-in_err-y : goal.returns-in_err-y
+pub returns-in_err-y-clause-reads : goal.returns-in_err-y-clause-reads
 unfolding cells_at
-returns-in_err-y g c = goes_on _ c.in_ok-x.ensures.reads.answer (exits _ c.from_residual-in_err-y.ensures.1 c.in_err-y.ensures.reads)
+returns-in_err-y-clause-reads g c = goes_on _ c.in_ok-x.ensures.reads.answer (exits _ c.from_residual-in_err-y.ensures.1 c.in_err-y.ensures.reads)
 
-pub returns-in_err-z : goal.returns-in_err-z
+pub returns-in_err-z-clause-reads : goal.returns-in_err-z-clause-reads
 unfolding cells_at
-returns-in_err-z g c = goes_on _ c.in_ok-x.ensures.reads.answer (goes_on _ c.in_ok-y.ensures.reads.answer (exits _ c.from_residual-in_err-z.ensures.1 c.in_err-z.ensures.reads))
+returns-in_err-z-clause-reads g c = goes_on _ c.in_ok-x.ensures.reads.answer (goes_on _ c.in_ok-y.ensures.reads.answer (exits _ c.from_residual-in_err-z.ensures.1 c.in_err-z.ensures.reads))
 
-pub returns : goal.returns
+pub returns-clause-reads : goal.returns-clause-reads
 unfolding cells_at
-returns g c = record { answer = read_same (sym c.new.ensures) (read_up_to (omega arith) (read_then _ c.in_ok-x.ensures.reads.answer (read_then _ c.in_ok-y.ensures.reads.answer (read_then _ c.in_ok-z.ensures.reads.answer (read_done _ _ _))))) }
+returns-clause-reads g c = record { answer = read_same (sym (ap (λ (grid : Grid). grid.n) c.new.ensures)) (read_up_to (omega arith) (read_then _ c.in_ok-x.ensures.reads.answer (read_then _ c.in_ok-y.ensures.reads.answer (read_then _ c.in_ok-z.ensures.reads.answer (read_done _ _ _))))) }

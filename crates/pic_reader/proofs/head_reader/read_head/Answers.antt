@@ -8,7 +8,7 @@ use Rattle.pic_fields.specs.Reads.{Reads, as_it_is}
 use Rattle.pic_fields.proofs.ReadLaws.{read_then, read_done, read_same, read_up_to}
 use Rattle.pic_reader.specs.HeaderFields.{head_at}
 use Rattle.pic_reader.specs.Fields.{out_of_limits}
-use Rattle.pic_dump.specs.Limits.{most_particles}
+use Rattle.pic_num.specs.Limits.{most_particles_1}
 use Rattle.pic_reader.proofs.NameLaws.{name_from, new_from}
 use Rattle.pic_reader.proofs.HeadReadLaws.{head_goes_on, head_exits, head_starves}
 use Rattle.pic_reader.proofs.head_reader.read_head.Goals as goal
@@ -18,9 +18,9 @@ abbrev head : List ℕ → Kind → ℕ → HeadView
 head name kind count = record { name = name; kind = kind; count = count }
 
 -- the particles so far, by the species before
-so_many : (n m : ℕ) → n ≡ m → {s e : ℕ} {x z : Told} {r : Result ℕ ReadStop} → Reads as_it_is (within out_of_limits 0 (most_particles - n)) s e x z r
-    → Reads as_it_is (within out_of_limits 0 (most_particles - m)) s e x z r
-so_many n m is {s} {e} {x} {z} {r} h = subst (λ k. Reads as_it_is (within out_of_limits 0 (most_particles - k)) s e x z r) is h
+so_many : (n m : ℕ) → n ≡ m → {s e : ℕ} {x z : Told} {r : Result ℕ ReadStop} → Reads as_it_is (within out_of_limits 0 (most_particles_1 - n)) s e x z r
+    → Reads as_it_is (within out_of_limits 0 (most_particles_1 - m)) s e x z r
+so_many n m is {s} {e} {x} {z} {r} h = subst (λ k. Reads as_it_is (within out_of_limits 0 (most_particles_1 - k)) s e x z r) is h
 
 pub returns-in_err-name-clause-reads : goal.returns-in_err-name-clause-reads
 unfolding head_at
