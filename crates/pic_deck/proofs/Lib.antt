@@ -4,4 +4,3 @@ pub mod InitialLaws
 pub mod ForceLaws
 pub mod HeadLaws
 pub mod ReadingLaws
-pub mod SourceLaws

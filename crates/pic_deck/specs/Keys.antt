@@ -12,7 +12,7 @@ use Rattle.pic_walk.specs.declared.limits.Limits.{Limits}
 use Rattle.pic_walk.specs.Path.{key_at}
 use Rattle.pic_walk.specs.Limits.{from_to}
 use Rattle.pic_walk.specs.Rows.{row_list}
-use Rattle.pic_walk.specs.Walk.{Walked, ◌>>=◌, some_or, within, limited, whole, text, elements, count_of_items, each, array_of, numbers, three, any_three, multiplier, listed, table_of, need, optional}
+use Rattle.pic_walk.specs.Walk.{Walked, ◌>>=◌, within, limited, whole, text, elements, count_of_items, each, array_of, numbers, three, any_three, multiplier, listed, table_of, need, optional}
 use Rattle.pic_deck.specs.declared.fields.InitialFields.{InitialFields}
 use Rattle.pic_deck.specs.declared.settings.Settings.{Settings}
 use Rattle.pic_deck.specs.declared.species.Fill.{Fill}
@@ -20,7 +20,7 @@ use Rattle.pic_deck.specs.declared.species.Species.{Species}
 use Rattle.pic_deck.specs.Deck.{DeckView, deck_view}
 use Rattle.pic_deck.specs.Species.{is_new_name, count_in, particles_of}
 use Rattle.pic_deck.specs.Initial.{set_up, first_strong}
-use Rattle.pic_deck.specs.Source.{species_fill}
+use Rattle.pic_deck.specs.Fill.{species_fill}
 
 -- the keys of the document's own table
 abbrev pub deck_keys : List (List ℕ)

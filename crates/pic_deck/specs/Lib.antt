@@ -1,7 +1,7 @@
 pub mod Initial
 pub mod Species
 pub mod Deck
-pub mod Source
+pub mod Fill
 pub mod Keys
 pub mod Refusal
 pub mod Reading

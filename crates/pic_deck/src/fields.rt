@@ -22,6 +22,20 @@ pub struct InitialFields {
     pub faces: Rows,
 }
 
+impl InitialFields {
+    /// Fields of zeros.
+    pub fn none(alloc: Global) -> InitialFields
+        ensures { result ≡ no_field }
+    {
+        InitialFields {
+            e: [0; 3],
+            b: [0; 3],
+            edges: Rows::from_vec(Vec::new(alloc)),
+            faces: Rows::from_vec(Vec::new(alloc)),
+        }
+    }
+}
+
 fn field_table(alloc: Global, value: &Value) -> Result<&Table, WalkStop>
     ensures { WalksAs (λ t. table_view t.now) (table_of field_keys (codes "field") (view value.now))
         result }
@@ -62,17 +76,6 @@ fn read_fields(alloc: Global, value: &Value, cells: Cells) -> Result<InitialFiel
     Ok(InitialFields { e, b, edges, faces })
 }
 
-fn no_fields(alloc: Global) -> InitialFields
-    ensures { result ≡ no_field }
-{
-    InitialFields {
-        e: [0; 3],
-        b: [0; 3],
-        edges: Rows::from_vec(Vec::new(alloc)),
-        faces: Rows::from_vec(Vec::new(alloc)),
-    }
-}
-
 /// The fields of a deck, zeros where it has no table `field`.
 pub(crate) fn optional_fields(
     alloc: Global,
@@ -86,6 +89,6 @@ pub(crate) fn optional_fields(
 {
     match find_value("field", table) {
         Some(value) => read_fields(alloc, value, cells),
-        None => Ok(no_fields(alloc)),
+        None => Ok(InitialFields::none(alloc)),
     }
 }

@@ -10,15 +10,15 @@ ghost use Rattle.pic_walk.specs.Draw.{IsDraw};
 ghost use Rattle.pic_walk.specs.Sites.{AreSites};
 ghost use Rattle.pic_walk.specs.Walk.{WalksAs, need, table_of};
 ghost use Rattle.pic_deck.specs.declared.species.Fill.{Fill as FillView};
-ghost use Rattle.pic_deck.specs.Source.{source_key, lattice_keys, lattice, random_keys, random, pair_keys, species_number, pair, at_sites, at_random, in_pairs, fill_by, species_fill};
+ghost use Rattle.pic_walk.specs.Source.{source_key};
+ghost use Rattle.pic_deck.specs.Fill.{lattice_keys, lattice, random_keys, random, pair_keys, species_number, pair, at_sites, at_random, in_pairs, fill_by, species_fill};
 ghost use Rattle.pic_deck.specs.Species.{IsFill};
 
-use crate::source::{Source, find_source};
 use crate::species::{Fill, Species};
 use pic_grid::Cells;
 use pic_walk::{
-    Address, Draw, Limits, Sites, WalkStop, need_whole, needed_value, read_draw, read_points,
-    read_sites, read_table, read_text,
+    Address, Draw, Limits, Sites, Source, WalkStop, find_source, need_whole, needed_value,
+    read_draw, read_points, read_sites, read_table, read_text,
 };
 use std::alloc::Global;
 use toml::{Table, Value};

@@ -14,7 +14,6 @@ mod refusal;
 mod run;
 mod scale;
 mod settings;
-mod source;
 mod species;
 mod species_reader;
 #[cfg(test)]

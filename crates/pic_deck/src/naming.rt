@@ -1,9 +1,7 @@
 //! The names of species.
 
 ghost use Rattle.std.specs.Prelude.{◌≡◌, ℕ, List, codes, IfOk};
-ghost use Rattle.std.specs.List.{list_all};
 ghost use Rattle.toml.specs.View.{view, table_view};
-ghost use Rattle.pic_grid.specs.Species.{is_name_byte};
 ghost use Rattle.pic_walk.specs.Path.{path_of};
 ghost use Rattle.pic_walk.specs.Walk.{WalksAs, need};
 ghost use Rattle.pic_deck.specs.Species.{IsNewName, is_name, is_taken, is_new_name};
@@ -11,26 +9,12 @@ ghost use Rattle.pic_deck.specs.Keys.{species_name};
 
 use crate::species::Species;
 use pic_grid::Name;
+use pic_num::are_name_bytes;
 use pic_walk::{Address, WalkStop, needed_value, read_text};
 use std::alloc::Global;
 use toml::{Table, Value};
 
 const LONGEST_NAME: usize = 32;
-
-fn is_name_byte(byte: u8) -> bool
-    ensures { result ≡ is_name_byte byte }
-{
-    (48 <= byte && byte <= 57)
-        || (65 <= byte && byte <= 90)
-        || (97 <= byte && byte <= 122)
-        || byte == 95
-}
-
-fn are_name_bytes(bytes: &[u8]) -> bool
-    ensures { result ≡ list_all is_name_byte bytes.now }
-{
-    bytes.iter().all(|byte| is_name_byte(*byte))
-}
 
 // whether a text is a name
 #[tactic(auto, unfolding(crate::specs::Species::is_name))]

@@ -6,3 +6,4 @@ pub mod Rows
 pub mod Points
 pub mod Sites
 pub mod Draw
+pub mod Source

@@ -14,6 +14,7 @@ mod point_reader;
 mod row;
 mod row_reader;
 mod sites;
+mod source;
 mod tables;
 
 pub use address::Address;
@@ -31,6 +32,7 @@ pub use point6::{Point6, Points};
 pub use row::{Row, Rows};
 pub use row_reader::read_rows;
 pub use sites::{Sites, read_sites};
+pub use source::{Source, find_source};
 pub use tables::{
     check_keys, find_value, need_long, need_multiplier, need_number, need_signed_three, need_table,
     need_three, need_whole, needed_value, optional_three, read_table,

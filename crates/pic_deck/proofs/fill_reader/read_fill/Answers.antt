@@ -1,4 +1,4 @@
-use Rattle.pic_deck.specs.Source.{species_fill}
+use Rattle.pic_deck.specs.Fill.{species_fill}
 use Rattle.pic_walk.specs.Walk.{need}
 use Rattle.pic_walk.proofs.WalkLaws.{goes_on, exits}
 use Rattle.pic_deck.proofs.fill_reader.read_fill.Goals as goal

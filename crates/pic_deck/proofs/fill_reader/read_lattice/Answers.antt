@@ -1,4 +1,4 @@
-use Rattle.pic_deck.specs.Source.{lattice}
+use Rattle.pic_deck.specs.Fill.{lattice}
 use Rattle.pic_walk.proofs.WalkLaws.{goes_on, exits}
 use Rattle.pic_deck.proofs.fill_reader.read_lattice.Goals as goal
 

@@ -1,5 +1,5 @@
 use Rattle.std.proofs.Common.{refl}
-use Rattle.pic_deck.specs.Source.{pair}
+use Rattle.pic_deck.specs.Fill.{pair}
 use Rattle.pic_walk.proofs.WalkLaws.{goes_on, exits}
 use Rattle.pic_deck.proofs.fill_reader.read_pair.Goals as goal
 

@@ -1,5 +1,5 @@
 use Rattle.std.proofs.Common.{refl}
-use Rattle.pic_deck.specs.Source.{random}
+use Rattle.pic_deck.specs.Fill.{random}
 use Rattle.pic_walk.proofs.WalkLaws.{goes_on, exits}
 use Rattle.pic_deck.proofs.fill_reader.read_random.Goals as goal
 

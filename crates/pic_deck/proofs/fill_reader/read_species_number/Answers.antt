@@ -1,5 +1,5 @@
 use Rattle.std.proofs.Common.{sym}
-use Rattle.pic_deck.specs.Source.{species_number}
+use Rattle.pic_deck.specs.Fill.{species_number}
 use Rattle.pic_walk.proofs.WalkLaws.{goes_on, exits, refuses, there, lacks}
 use Rattle.pic_deck.proofs.fill_reader.read_species_number.Goals as goal
 

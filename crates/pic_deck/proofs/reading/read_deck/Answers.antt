@@ -1,4 +1,4 @@
-use Rattle.std.proofs.Common.{◌<◌, ◌≤◌, length, sym, rules}
+use Rattle.std.proofs.Common.{◌<◌, ◌≤◌, length, rules}
 use Rattle.pic_walk.specs.Bounds.{most_bytes}
 use Rattle.pic_deck.proofs.ReadingLaws.{refuses, walk_long, walk_is, no_text, stops, reads}
 use Rattle.pic_deck.proofs.reading.read_deck.Goals as goal

@@ -3,16 +3,18 @@
 ghost use Rattle.std.specs.Prelude.{◌≡◌, find};
 ghost use Rattle.toml.specs.View.{table_view};
 ghost use Rattle.pic_walk.specs.Walk.{WalksAs};
-ghost use Rattle.pic_deck.specs.declared.source.Source.{Source as SourceView};
-ghost use Rattle.pic_deck.specs.Source.{sources, source_key, has, alone, only};
+ghost use Rattle.pic_walk.specs.declared.source.Source.{Source as SourceView};
+ghost use Rattle.pic_walk.specs.Source.{sources, source_key, has, alone, only};
 
-use pic_walk::{Address, WalkStop, find_value};
+use crate::address::Address;
+use crate::fault::WalkStop;
+use crate::tables::find_value;
 use std::alloc::Global;
 use toml::Table;
 
 /// What a species may have its particles from.
 #[derive(Clone, Copy, Debug, PartialEq, Eq)]
-pub(crate) enum Source {
+pub enum Source {
     Points,
     Lattice,
     Random,
@@ -74,7 +76,7 @@ fn alone(
 
 /// The source of the species that the table at a path is: the first that is there, and no further
 /// one may be.
-pub(crate) fn find_source(alloc: Global, path: &str, table: &Table) -> Result<Source, WalkStop>
+pub fn find_source(alloc: Global, path: &str, table: &Table) -> Result<Source, WalkStop>
     ensures { WalksAs (λ (s : SourceView). s) (only path.now (table_view table.now) sources)
         result }
 {

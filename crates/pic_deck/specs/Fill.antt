@@ -1,47 +1,22 @@
--- The walk of what fills a species, this project's profile: which of its sources counts, and the keys
--- of each source in their order.
-use Rattle.std.specs.Prelude.{ℕ, pos, Bool, is_some, find, position, bytes_eq, if◌then◌else◌, List, [], ◌∷◌, codes, Option, Some, None, Ok, Err}
-use Rattle.toml.specs.Data.{Data, Members, get_member}
+-- The walk of what fills a species, this project's profile: the keys of each source in their order.
+use Rattle.std.specs.Prelude.{ℕ, pos, position, bytes_eq, List, [], ◌∷◌, codes, Ok}
+use Rattle.toml.specs.Data.{Data, Members}
 use Rattle.pic_num.specs.Space.{Triple}
 use Rattle.pic_walk.specs.Bounds.{most_particles}
-use Rattle.pic_walk.specs.declared.fault.Fault.TheVariants.{Unknown, Missing, Name}
+use Rattle.pic_walk.specs.declared.fault.Fault.TheVariants.{Name}
 use Rattle.pic_walk.specs.declared.draw.Draw.{Draw}
 use Rattle.pic_walk.specs.declared.sites.Sites.{Sites}
 use Rattle.pic_walk.specs.Draw.{draw}
 use Rattle.pic_walk.specs.Limits.{from_to}
-use Rattle.pic_walk.specs.Path.{key_at}
 use Rattle.pic_walk.specs.Points.{point_list}
 use Rattle.pic_walk.specs.Sites.{sites}
+use Rattle.pic_walk.specs.Source.{sources, source_key, only}
 use Rattle.pic_walk.specs.Walk.{Walked, ◌>>=◌, some_or, whole, text, table_of, need}
-use Rattle.pic_deck.specs.declared.source.Source.{Source}
-use Rattle.pic_deck.specs.declared.source.Source.TheVariants as source
+use Rattle.pic_walk.specs.declared.source.Source.{Source}
+use Rattle.pic_walk.specs.declared.source.Source.TheVariants as source
 use Rattle.pic_deck.specs.declared.species.Fill.{Fill}
 use Rattle.pic_deck.specs.declared.species.Fill.TheVariants.{Points, Lattice, Random, Pair}
 use Rattle.pic_deck.specs.declared.species.Species.{Species}
-
--- the sources that a species may have, in the order in which they count
-abbrev pub sources : List Source
-sources = source.Points ∷ source.Lattice ∷ source.Random ∷ source.Pair ∷ []
-
-abbrev pub source_key : Source → List ℕ
-source_key source.Points = codes "points"
-source_key source.Lattice = codes "lattice"
-source_key source.Random = codes "random"
-source_key source.Pair = codes "pair"
-
--- whether a table has a source
-abbrev pub has : Members → Source → Bool
-has t s = is_some (get_member (source_key s) t)
-
--- a source, where no further one is there
-unfoldable pub alone : List ℕ → Source → Option Source → Walked Source
-alone path s None = Ok s
-alone path s (Some further) = Err (Unknown (key_at path (source_key further)))
-
--- the first of some sources that is there, and no further one
-unfoldable pub only : List ℕ → Members → List Source → Walked Source
-only path t [] = Err (Missing (key_at path (codes "points")))
-only path t (s ∷ ss) = if has t s then alone path s (find (has t) ss) else only path t ss
 
 -- the keys of `lattice`
 abbrev pub lattice_keys : List (List ℕ)

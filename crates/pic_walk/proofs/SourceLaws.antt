@@ -6,8 +6,8 @@ use Rattle.toml.specs.Data.{Members}
 use Rattle.pic_walk.specs.declared.fault.Fault.TheVariants.{Missing}
 use Rattle.pic_walk.specs.Path.{key_at}
 use Rattle.std.specs.Prelude.{codes}
-use Rattle.pic_deck.specs.declared.source.Source.{Source}
-use Rattle.pic_deck.specs.Source.{has, alone, only}
+use Rattle.pic_walk.specs.declared.source.Source.{Source}
+use Rattle.pic_walk.specs.Source.{has, alone, only}
 
 -- the source at an index is there
 pub only_here : (path : List ℕ) (t : Members) (ss : List Source) (i : ℕ) (d : Source) → i < length ss → has t (get_or ss i d) ≡ true
