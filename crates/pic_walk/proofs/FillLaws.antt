@@ -6,8 +6,9 @@ use Rattle.std.proofs.lemmas.Int.{ints}
 use Rattle.pic_num.specs.declared.axis.Axis.{Axis}
 use Rattle.pic_num.specs.declared.axis.Axis.TheVariants.{X, Y, Z}
 use Rattle.pic_num.specs.Sizes.{IsAtMost}
-use Rattle.pic_num.specs.Space.{Triple, triple, along, spot}
-use Rattle.pic_grid.specs.Cells.{IsCells}
+use Rattle.pic_num.specs.Space.{triple, along, spot}
+use Rattle.pic_grid.specs.Cells.{Grid}
+use Rattle.pic_walk.specs.Extent.{extent_of, IsExtent}
 use Rattle.pic_grid.specs.Hat.{IsInBox}
 use Rattle.pic_walk.specs.declared.limits.Limits.{Limits}
 use Rattle.pic_walk.specs.Limits.{IsInLimits, FitsU32, FitsI32, from_to, below, limits_at, thrice}
@@ -78,24 +79,25 @@ at_least low high ns inside k h =
     let is : IsInLimits (from_to (pos low) (pos high)) (pos (slice_index ns k)) = rw (thrice_at _ k h) at (inside k h) in
     omega (arith, ints, is.low)
 
-pub places_fit : (n : Triple) → IsCells n → (k : ℕ) → k < 3 → FitsU32 (limits_at (place_limits n) k)
+pub places_fit : (g : Grid) → IsExtent (extent_of g) → (k : ℕ) → k < 3 → FitsU32 (limits_at (place_limits g) k)
 unfolding limits_at
-places_fit n cells zero h = record { low = omega (arith, ints); high = omega (arith, ints, cells.x_most) }
-places_fit n cells (suc zero) h = record { low = omega (arith, ints); high = omega (arith, ints, cells.y_most) }
-places_fit n cells (suc (suc zero)) h = record { low = omega (arith, ints); high = omega (arith, ints, cells.z_most) }
-places_fit n cells (suc (suc (suc k))) h = absurd (omega (arith, h))
+places_fit g extent zero h = record { low = omega (arith, ints); high = omega (arith, ints, extent.x_most) }
+places_fit g extent (suc zero) h = record { low = omega (arith, ints); high = omega (arith, ints, extent.y_most) }
+places_fit g extent (suc (suc zero)) h = record { low = omega (arith, ints); high = omega (arith, ints, extent.z_most) }
+places_fit g extent (suc (suc (suc k))) h = absurd (omega (arith, h))
 
-pub place_in : (n : Triple) (ns : List ℕ) → IsCells n → ((k : ℕ) → k < 3 → IsInLimits (limits_at (place_limits n) k) (pos (slice_index ns k)))
-    → IsInBox 4096 n (triple ns)
+pub place_in : (g : Grid) (ns : List ℕ) → IsExtent (extent_of g)
+    → ((k : ℕ) → k < 3 → IsInLimits (limits_at (place_limits g) k) (pos (slice_index ns k)))
+    → IsInBox g.side g.n (triple ns)
 unfolding limits_at
-place_in n ns cells inside =
-    let x : IsInLimits (below (n.x * 4096)) (pos (slice_index ns 0)) = inside 0 (lit< tt) in
-    let y : IsInLimits (below (n.y * 4096)) (pos (slice_index ns 1)) = inside 1 (lit< tt) in
-    let z : IsInLimits (below (n.z * 4096)) (pos (slice_index ns 2)) = inside 2 (lit< tt) in
+place_in g ns extent inside =
+    let x : IsInLimits (below (g.n.x * g.side)) (pos (slice_index ns 0)) = inside 0 (lit< tt) in
+    let y : IsInLimits (below (g.n.y * g.side)) (pos (slice_index ns 1)) = inside 1 (lit< tt) in
+    let z : IsInLimits (below (g.n.z * g.side)) (pos (slice_index ns 2)) = inside 2 (lit< tt) in
     record {
-      x = omega (arith, ints, x.high, cells.x_least);
-      y = omega (arith, ints, y.high, cells.y_least);
-      z = omega (arith, ints, z.high, cells.z_least);
+      x = omega (arith, ints, x.high, extent.x_some);
+      y = omega (arith, ints, y.high, extent.y_some);
+      z = omega (arith, ints, z.high, extent.z_some);
     }
 
 fits_small : (low high : ℕ) → high < 2 ^ 32 → FitsU32 (from_to (pos low) (pos high))

@@ -8,15 +8,16 @@ use mir.Val.{SFits, to_z, of_z}
 use Rattle.pic_num.specs.declared.axis.Axis.TheVariants.{X, Y, Z}
 use Rattle.pic_num.specs.declared.axis.Axis.{Axis}
 use Rattle.pic_num.specs.Sizes.{IsAtMost}
-use Rattle.pic_num.specs.Space.{Triple, along, spot}
-use Rattle.pic_grid.specs.Cells.{IsCells}
+use Rattle.pic_num.specs.Space.{along, spot}
+use Rattle.pic_grid.specs.Cells.{Grid}
+use Rattle.pic_walk.specs.Extent.{extent_of, most_extent, IsExtent}
 use Rattle.pic_walk.specs.Bounds.{fastest}
 use Rattle.pic_walk.specs.Limits.{IsInLimits, limits_at, below}
 use Rattle.pic_walk.specs.declared.point6.Point6.{Point6}
 use Rattle.pic_walk.specs.Points.{IsPoint, speed_limits, point_limits, point_of}
 
-abbrev pub AreInside : Triple → List ℤ → Type 0
-AreInside n zs = (k : ℕ) → k < 6 → IsInLimits (limits_at (point_limits n) k) (slice_index_or zs k (pos 0))
+abbrev pub AreInside : Grid → List ℤ → Type 0
+AreInside g zs = (k : ℕ) → k < 6 → IsInLimits (limits_at (point_limits g) k) (slice_index_or zs k (pos 0))
 
 -- what the code makes of a position
 abbrev pub as_place : ℤ → ℕ
@@ -26,7 +27,7 @@ as_place z = unsigned_abs (to_z w64 (of_z w64 z))
 abbrev pub as_speed : ℤ → ℤ
 as_speed z = to_z w32 (of_z w32 (to_z w64 (of_z w64 z)))
 
-kept_place : (m : ℕ) (z : ℤ) → m ≤ 262144 → IsInLimits (below m) z → to_z w64 (of_z w64 z) ≡ z
+kept_place : (m : ℕ) (z : ℤ) → m ≤ most_extent → IsInLimits (below m) z → to_z w64 (of_z w64 z) ≡ z
 kept_place m z small inside =
     let size : unsigned_abs z < 2 ^ 63 = omega (arith, ints, inside.low, inside.high, small) in
     to_z-of_z w64 z (fits_signed_from_abs w64 z size)
@@ -55,13 +56,13 @@ made zs = record {
   v = as_speed (get_or zs 3 (pos 0)) ∷ as_speed (get_or zs 4 (pos 0)) ∷ as_speed (get_or zs 5 (pos 0)) ∷ [];
 }
 
-pub point_is : (n : Triple) (zs : List ℤ) → IsCells n → AreInside n zs → made zs ≡ point_of zs
+pub point_is : (g : Grid) (zs : List ℤ) → IsExtent (extent_of g) → AreInside g zs → made zs ≡ point_of zs
 unfolding limits_at
-point_is n zs cells inside =
+point_is g zs extent inside =
     rw (
-      kept_place (n.x * 4096) (get_or zs 0 (pos 0)) (omega (arith, cells.x_most)) (inside 0 (lit< tt)),
-      kept_place (n.y * 4096) (get_or zs 1 (pos 0)) (omega (arith, cells.y_most)) (inside 1 (lit< tt)),
-      kept_place (n.z * 4096) (get_or zs 2 (pos 0)) (omega (arith, cells.z_most)) (inside 2 (lit< tt)),
+      kept_place (g.n.x * g.side) (get_or zs 0 (pos 0)) extent.x_most (inside 0 (lit< tt)),
+      kept_place (g.n.y * g.side) (get_or zs 1 (pos 0)) extent.y_most (inside 1 (lit< tt)),
+      kept_place (g.n.z * g.side) (get_or zs 2 (pos 0)) extent.z_most (inside 2 (lit< tt)),
       kept_speed (get_or zs 3 (pos 0)) (inside 3 (lit< tt)),
       kept_speed (get_or zs 4 (pos 0)) (inside 4 (lit< tt)),
       kept_speed (get_or zs 5 (pos 0)) (inside 5 (lit< tt)),
@@ -74,14 +75,14 @@ speeds zs X x y z = speed_size _ x
 speeds zs Y x y z = speed_size _ y
 speeds zs Z x y z = speed_size _ z
 
-pub point_within : (n : Triple) (zs : List ℤ) → IsCells n → AreInside n zs → IsPoint n (point_of zs)
+pub point_within : (g : Grid) (zs : List ℤ) → IsExtent (extent_of g) → AreInside g zs → IsPoint g (point_of zs)
 unfolding limits_at
-point_within n zs cells inside =
+point_within g zs extent inside =
     record {
       place = record {
-        x = place_below (n.x * 4096) _ (omega (arith, cells.x_least)) (inside 0 (lit< tt));
-        y = place_below (n.y * 4096) _ (omega (arith, cells.y_least)) (inside 1 (lit< tt));
-        z = place_below (n.z * 4096) _ (omega (arith, cells.z_least)) (inside 2 (lit< tt));
+        x = place_below (g.n.x * g.side) _ extent.x_some (inside 0 (lit< tt));
+        y = place_below (g.n.y * g.side) _ extent.y_some (inside 1 (lit< tt));
+        z = place_below (g.n.z * g.side) _ extent.z_some (inside 2 (lit< tt));
       };
       speed = λ a. speeds zs a (inside 3 (lit< tt)) (inside 4 (lit< tt)) (inside 5 (lit< tt));
     }

@@ -1,16 +1,9 @@
--- The limits of a deck of version 1, this project's profile.
+-- The limits of a deck of version 1 beside those of the scheme, this project's profile.
 use Rattle.std.specs.Prelude.{ℕ, ℤ, pos, negsuc, ◌^◌, ◌-◌}
 
 -- the bytes of a deck
 abbrev pub most_bytes : ℕ
 most_bytes = 1048576
-
--- the cells of an axis
-abbrev pub fewest_cells : ℕ
-fewest_cells = 2
-
-abbrev pub most_cells : ℕ
-most_cells = 64
 
 -- the tiles of a grid
 abbrev pub most_tiles : ℕ
@@ -31,24 +24,12 @@ greatest_k = 62
 abbrev pub most_rows : ℕ
 most_rows = 1048576
 
--- the species of a deck
-abbrev pub most_species : ℕ
-most_species = 16
-
--- the particles of all species
-abbrev pub most_particles : ℕ
-most_particles = 1048576
-
 -- the charge of a particle
 abbrev pub least_charge : ℤ
 least_charge = negsuc 32767
 
 abbrev pub greatest_charge : ℤ
 greatest_charge = pos 32767
-
--- the mass of a particle
-abbrev pub greatest_mass : ℕ
-greatest_mass = 65536
 
 -- the velocity of a particle on an axis, either way
 abbrev pub fastest : ℕ
@@ -69,7 +50,3 @@ fastest_drift = 8388608
 -- the spread of their velocities on an axis
 abbrev pub widest_spread : ℕ
 widest_spread = 1048576
-
--- the force values of the fields that a deck begins with, either way
-abbrev pub strongest : ℕ
-strongest = 17592186044416

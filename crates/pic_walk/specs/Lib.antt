@@ -1,4 +1,5 @@
 pub mod Bounds
+pub mod Extent
 pub mod Limits
 pub mod Path
 pub mod Walk

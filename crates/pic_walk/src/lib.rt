@@ -4,6 +4,7 @@
 
 mod address;
 mod draw;
+mod extents;
 mod fault;
 mod key_path;
 mod keys;
@@ -19,6 +20,7 @@ mod tables;
 
 pub use address::Address;
 pub use draw::{Draw, read_draw};
+pub use extents::extent;
 pub use fault::{Fault, WalkStop};
 pub use key_path::KeyPath;
 pub use keys::{first_unlisted, is_listed};

@@ -9,6 +9,7 @@ ghost use Rattle.pic_walk.specs.declared.point6.Point6.{Point6 as PointView};
 ghost use Rattle.pic_walk.specs.Points.{IsPoint, ArePoints, speed_limits, point_limits, point_of, point, point_list};
 
 use crate::address::Address;
+use crate::extents::extent;
 use crate::fault::WalkStop;
 use crate::limits::Limits;
 use crate::numbers::{read_elements, read_numbers};
@@ -19,17 +20,15 @@ use toml::Value;
 
 const FASTEST: i64 = 16777216;
 
-const SIDE: u32 = 4096;
-
 fn point_limits(cells: Cells) -> [Limits; 6]
     ensures { result ≡ point_limits cells }
 {
-    let [nx, ny, nz] = cells.numbers();
+    let [x, y, z] = extent(cells);
     let speed = Limits::new(-FASTEST, FASTEST);
     [
-        Limits::below(nx * SIDE),
-        Limits::below(ny * SIDE),
-        Limits::below(nz * SIDE),
+        Limits::below(x),
+        Limits::below(y),
+        Limits::below(z),
         speed,
         speed,
         speed,
@@ -43,7 +42,7 @@ fn point_of(cells: Cells, numbers: [i64; 6]) -> Point6
     ensures value { result ≡ point_of numbers }
     ensures limits { IsPoint cells result }
 {
-    let _ = cells;
+    let _ = extent(cells);
     Point6 {
         x: [numbers[0] as u32, numbers[1] as u32, numbers[2] as u32],
         v: [numbers[3] as i32, numbers[4] as i32, numbers[5] as i32],

@@ -22,7 +22,7 @@ use toml::Value;
 const MOST_ROWS: i64 = 1048576;
 
 fn row_limits(cells: Cells) -> [Limits; 5]
-    ensures { result ≡ row_limits cells }
+    ensures { result ≡ row_limits cells.n }
 {
     let [nx, ny, nz] = cells.numbers();
     [
@@ -48,10 +48,10 @@ fn axis_at(number: i64) -> Axis
 
 #[tactic(auto, unfolding(crate::specs::Limits::limits_at))]
 fn row_of(cells: Cells, numbers: [i64; 5]) -> Row
-    requires { (k : ℕ) → k < 5 → IsInLimits (limits_at (row_limits cells) k)
+    requires { (k : ℕ) → k < 5 → IsInLimits (limits_at (row_limits cells.n) k)
         (slice_index_or numbers k (pos 0)) }
     ensures value { result ≡ row_of numbers }
-    ensures limits { IsRow cells result }
+    ensures limits { IsRow cells.n result }
 {
     let _ = cells;
     Row {
@@ -70,9 +70,9 @@ fn read_row(
 ) -> Result<Row, WalkStop>
     requires { address.column ≡ None }
     ensures walks { (done : List RowView)
-        → WalksAs (λ (r : RowView). r) (row cells done (path_of address.entry) (view value.now))
+        → WalksAs (λ (r : RowView). r) (row cells.n done (path_of address.entry) (view value.now))
         result }
-    ensures limits { IfOk result (λ r. IsRow cells r) }
+    ensures limits { IfOk result (λ r. IsRow cells.n r) }
 {
     let numbers = read_numbers(alloc, address, value, row_limits(cells))?;
     Ok(row_of(cells, numbers))
@@ -88,9 +88,9 @@ fn read_each_row(
     requires whole { address.row ≡ None }
     requires plain { address.column ≡ None }
     ensures walks { WalksAs (λ rs. rs.items)
-        (list_of (row cells) (path_of address.entry) (view value.now)) result }
+        (list_of (row cells.n) (path_of address.entry) (view value.now)) result }
     ensures limits { IfOk result (λ rs. (k : ℕ) → k < length rs.items
-        → IsRow cells (slice_index_or rs.items k no_row)) }
+        → IsRow cells.n (slice_index_or rs.items k no_row)) }
 {
     let items = read_elements(alloc, address, value)?;
     let mut rows = Vec::new(alloc);
@@ -111,8 +111,8 @@ pub fn read_rows(
     requires whole { address.row ≡ None }
     requires plain { address.column ≡ None }
     ensures walks { WalksAs (λ (rs : List RowView). rs)
-        (row_list cells (path_of address.entry) (view value.now)) result }
-    ensures limits { IfOk result (λ rs. AreRows cells rs) }
+        (row_list cells.n (path_of address.entry) (view value.now)) result }
+    ensures limits { IfOk result (λ rs. AreRows cells.n rs) }
 {
     let rows = read_each_row(alloc, address, value, cells)?;
     check_within(

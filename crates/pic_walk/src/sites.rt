@@ -2,12 +2,14 @@
 
 ghost use Rattle.std.specs.Prelude.{◌≡◌, IfOk};
 ghost use Rattle.toml.specs.View.{table_view};
+ghost use Rattle.pic_walk.specs.Extent.{extent_of, IsExtent};
 ghost use Rattle.pic_walk.specs.declared.sites.Sites.{Sites as SitesView};
 ghost use Rattle.pic_walk.specs.Limits.{thrice};
 ghost use Rattle.pic_walk.specs.Points.{speed_limits};
 ghost use Rattle.pic_walk.specs.Sites.{AreSites, place_limits, gap_limits, count_limits, sites};
 ghost use Rattle.pic_walk.specs.Walk.{WalksAs};
 
+use crate::extents::extent;
 use crate::fault::WalkStop;
 use crate::limits::Limits;
 use crate::tables::{need_signed_three, need_three};
@@ -21,8 +23,6 @@ const MOST_SITES: i64 = 1048576;
 
 const FASTEST: i64 = 16777216;
 
-const SIDE: u32 = 4096;
-
 /// The sites of a lattice on which particles stand: the first of them, the way from one to the next
 /// on each axis, how many there are on each axis, and the velocity of all.
 #[derive(Clone, Copy, Debug, PartialEq, Eq)]
@@ -34,14 +34,11 @@ pub struct Sites {
 }
 
 fn place_limits(cells: Cells) -> [Limits; 3]
-    ensures { result ≡ place_limits cells }
+    ensures value { result ≡ place_limits cells }
+    ensures extent { IsExtent (extent_of cells) }
 {
-    let [nx, ny, nz] = cells.numbers();
-    [
-        Limits::below(nx * SIDE),
-        Limits::below(ny * SIDE),
-        Limits::below(nz * SIDE),
-    ]
+    let [x, y, z] = extent(cells);
+    [Limits::below(x), Limits::below(y), Limits::below(z)]
 }
 
 fn gap_limits() -> [Limits; 3]

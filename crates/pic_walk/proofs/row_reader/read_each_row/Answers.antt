@@ -25,21 +25,21 @@ loop-i-init c =
 pub returns-in_err-row-clause-walks : goal.returns-in_err-row-clause-walks
 returns-in_err-row-clause-walks c =
     let room : c.loop-i.i < length c.in_ok-items.items.now.items = omega (arith, c.loop-i.invariant.count) in
-    let step = each_at (row c.args.cells) (path_of c.args.address) c.loop-i.rows.items c.in_ok-items.items.now.items c.loop-i.i c.index.result.now room in
+    let step = each_at (row c.args.cells.n) (path_of c.args.address) c.loop-i.rows.items c.in_ok-items.items.now.items c.loop-i.i c.index.result.now room in
     rw (c.loop-i.invariant.walked ∙ rw c.loop-i.invariant.size at step)
     (exits _ _ c.from_residual-in_err-row.ensures.1 (rw (c.element.ensures.path, c.index.ensures) at (c.in_err-row.ensures.walks c.loop-i.rows.items)))
 
 pub loop-i-preserved : goal.loop-i-preserved
 loop-i-preserved c =
     let room : c.loop-i.i < length c.in_ok-items.items.now.items = omega (arith, c.loop-i.invariant.count) in
-    let step = each_at (row c.args.cells) (path_of c.args.address) c.loop-i.rows.items c.in_ok-items.items.now.items c.loop-i.i c.index.result.now room in
+    let step = each_at (row c.args.cells.n) (path_of c.args.address) c.loop-i.rows.items c.in_ok-items.items.now.items c.loop-i.i c.index.result.now room in
     let at_i = rw c.loop-i.invariant.size at step in
     let read = rw (c.element.ensures.path, c.index.ensures) at (c.in_ok-row.ensures.walks c.loop-i.rows.items).answer in
     rw c.in_ok-push.ensures.items (record {
       count = c.loop-i.invariant.count;
       size = length-append _ _ ∙ ap (λ n. n + 1) c.loop-i.invariant.size;
       walked = c.loop-i.invariant.walked ∙ at_i ∙ then_ok _ _ _ read;
-      limits = all_more (λ r. IsRow c.args.cells r) no_row _ _ c.loop-i.invariant.limits c.in_ok-row.ensures.limits;
+      limits = all_more (λ r. IsRow c.args.cells.n r) no_row _ _ c.loop-i.invariant.limits c.in_ok-row.ensures.limits;
     })
 
 pub returns-clause-walks : goal.returns-clause-walks
