@@ -113,16 +113,16 @@ unfolding allowed
 none_allowed path o e = rw e
 
 -- the first of a lattice given by its values
-pub first_of_field : (f : Field) (m parts n : Triple) (by : Multiplier) (g : Axis → Triple → ℤ) → f ≡ field_of m parts g → m ≡ n
+pub first_of_field : (f : Field) (side : ℕ) (m parts n : Triple) (by : Multiplier) (g : Axis → Triple → ℤ) → f ≡ field_of side m parts g → m ≡ n
     → first_strong f.cells by (value_at f) ≡ first_strong n by g
-first_of_field f m parts n by g is same =
+first_of_field f side m parts n by g is same =
     ap (λ (k : Field). first_strong k.cells by (value_at k)) is
-    ∙ first_strong_same m by (value_at (field_of m parts g)) g (λ a p h. value_at-field_of m parts g a p h)
+    ∙ first_strong_same m by (value_at (field_of side m parts g)) g (λ a p h. value_at-field_of side m parts g a p h)
     ∙ ap (λ (k : Triple). first_strong k by g) same
 
 -- and the size of its values
-pub size_of_field : (f : Field) (m parts : Triple) (g : Axis → Triple → ℤ) → f ≡ field_of m parts g
+pub size_of_field : (f : Field) (side : ℕ) (m parts : Triple) (g : Axis → Triple → ℤ) → f ≡ field_of side m parts g
     → ((a : Axis) (p : Triple) → IsWithin p m → IsAtMost (g a p) (2 ^ 84))
     → (a : Axis) (p : Triple) → IsWithin p f.cells → IsAtMost (value_at f a p) (2 ^ 90)
-size_of_field f m parts g is small =
-    rw is (λ a p h. let k = small a p h in rw (value_at-field_of m parts g a p h) (record { size = omega (arith, k.size) }))
+size_of_field f side m parts g is small =
+    rw is (λ a p h. let k = small a p h in rw (value_at-field_of side m parts g a p h) (record { size = omega (arith, k.size) }))

@@ -14,7 +14,7 @@ use Rattle.pic_walk.specs.Walk.{◌>>=◌, each}
 use Rattle.pic_walk.proofs.ArrayLaws.{each_at}
 use Rattle.pic_num.specs.Space.{triple}
 use Rattle.pic_grid.specs.Cells.{IsCells, count_of}
-use Rattle.pic_deck.specs.Deck.{IsTiled, AreTiles}
+use Rattle.pic_deck.specs.Deck.{AreFew, IsTiled, AreTiles}
 use Rattle.pic_deck.specs.Keys.{cell_limits, next_tiles, axis_tiles}
 
 -- what holds of 0, 1 and 2
@@ -46,19 +46,28 @@ cells_within ns inside =
       z_most = omega (arith, ints, z.high);
     }
 
+-- and they are no more than version 1 allows
+pub few_within : (ns : List ℕ) → ((k : ℕ) → k < 3 → IsInLimits (limits_at cell_limits k) (pos (slice_index ns k))) → AreFew (triple ns)
+unfolding limits_at
+few_within ns inside =
+    let x : IsInLimits (from_to (pos 2) (pos 64)) (pos (slice_index ns 0)) = inside 0 (lit< tt) in
+    let y : IsInLimits (from_to (pos 2) (pos 64)) (pos (slice_index ns 1)) = inside 1 (lit< tt) in
+    let z : IsInLimits (from_to (pos 2) (pos 64)) (pos (slice_index ns 2)) = inside 2 (lit< tt) in
+    record { x = omega (arith, ints, x.high); y = omega (arith, ints, y.high); z = omega (arith, ints, z.high) }
+
 -- the tiles of each axis are those of the grid, where they are 512 at most
 pub tiles_within : (ns ts : List ℕ) → ((k : ℕ) → k < 3 → IsTiled (slice_index ns k) (slice_index ts k)) → count_of (triple ts) ≤ 512
     → AreTiles (triple ns) (triple ts)
 tiles_within ns ts tiled most = record { x = tiled 0 (lit< tt); y = tiled 1 (lit< tt); z = tiled 2 (lit< tt); most = most }
 
 -- an axis has at most 32 tiles
-pub few_tiles : (ns ts : List ℕ) → IsCells (triple ns) → ((k : ℕ) → k < 3 → IsTiled (slice_index ns k) (slice_index ts k)) → (k : ℕ) → k < 3
+pub few_tiles : (ns ts : List ℕ) → AreFew (triple ns) → ((k : ℕ) → k < 3 → IsTiled (slice_index ns k) (slice_index ts k)) → (k : ℕ) → k < 3
     → slice_index ts k ≤ 32
-few_tiles ns ts cells tiled =
+few_tiles ns ts few tiled =
     let x = tiled 0 (lit< tt) in
     let y = tiled 1 (lit< tt) in
     let z = tiled 2 (lit< tt) in
-    below_three (λ k. slice_index ts k ≤ 32) (omega (arith, x.high, cells.x_most)) (omega (arith, y.high, cells.y_most)) (omega (arith, z.high, cells.z_most))
+    below_three (λ k. slice_index ts k ≤ 32) (omega (arith, x.high, few.x)) (omega (arith, y.high, few.y)) (omega (arith, z.high, few.z))
 
 -- the tiles of the next axis
 pub next_axis_tiles : (ns : List ℕ) (path : List ℕ) (ts : List ℕ) (vs : List Value) (i : ℕ) (d : Value) → i < length vs → i ≤ length ts

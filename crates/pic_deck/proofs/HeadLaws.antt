@@ -9,7 +9,7 @@ use Rattle.std.proofs.lemmas.Bool.{cases_lt}
 use Rattle.std.proofs.Math.Seq.{take-append_seam}
 use Rattle.std.proofs.lemmas.List.{take-append-le, length-append, length-map, map-append, get_or-map, get_or_append_left, get_or_push}
 use Rattle.std.proofs.lemmas.List.Sums.{sum_by-append, sum_by-cons}
-use Rattle.pic_num.specs.Space.{Triple}
+use Rattle.pic_grid.specs.Cells.{Grid}
 use Rattle.pic_grid.specs.Species.{IsName, IsKind, HeadView, no_head, AreHeads, is_name_byte}
 use Rattle.pic_walk.specs.declared.fault.Fault.TheVariants.{Name}
 use Rattle.pic_walk.specs.Walk.{Walked}
@@ -83,7 +83,7 @@ heads_more hs h are room name kind new total =
     }
 
 -- one species more
-pub species_more : (n : Triple) (ss : List Species) (s : Species) → AreHeads (map head_of ss) → length ss < 16 → IsNext n ss s
+pub species_more : (n : Grid) (ss : List Species) (s : Species) → AreHeads (map head_of ss) → length ss < 16 → IsNext n ss s
     → AreHeads (map head_of (ss ++ s ∷ []))
 species_more n ss s are room next =
     let size = length-map ss head_of in
@@ -101,7 +101,7 @@ heads_none = record {
   total = omega arith;
 }
 
-pub filled_more : (n : Triple) (ss : List Species) (s : Species) → AreFilled n ss → IsFilled n ss s → AreFilled n (ss ++ s ∷ [])
+pub filled_more : (n : Grid) (ss : List Species) (s : Species) → AreFilled n ss → IsFilled n ss s → AreFilled n (ss ++ s ∷ [])
 filled_more n ss s are here = record { each = each }
   where
     size : length (ss ++ s ∷ []) ≡ length ss + 1
@@ -117,5 +117,5 @@ filled_more n ss s are here = record { each = each }
           rw (before, get_or_push ss s no_species i at_end) here)
     ]
 
-pub filled_none : (n : Triple) → AreFilled n []
+pub filled_none : (n : Grid) → AreFilled n []
 filled_none n = record { each = λ i h. absurd (omega (arith, h)) }

@@ -2,11 +2,13 @@
 use Rattle.std.specs.Prelude.{◌≡◌, ℕ, ℤ, List, map, ◌/◌, ◌%◌, ◌≤◌}
 use Rattle.pic_num.specs.declared.mult.Scales.{Scales}
 use Rattle.pic_num.specs.declared.axis.Axis.{Axis}
+use Rattle.pic_num.specs.Limits.{most_cells_of_axis_1, side_1}
 use Rattle.pic_num.specs.Space.{Triple, triple, Spot, spot}
-use Rattle.pic_grid.specs.Cells.{IsCells, count_of}
+use Rattle.pic_grid.specs.Cells.{Grid, IsCells, count_of}
 use Rattle.pic_grid.specs.Species.{HeadView, AreHeads}
 use Rattle.pic_walk.specs.declared.row.Row.{Row}
 use Rattle.pic_walk.specs.Bounds.{most_tiles, most_steps}
+pub use Rattle.pic_walk.specs.Extent.{extent_of, most_extent, IsExtent}
 use Rattle.pic_walk.specs.Rows.{AreRows}
 use Rattle.pic_deck.specs.declared.fields.InitialFields.{InitialFields}
 use Rattle.pic_deck.specs.declared.settings.Settings.{Settings}
@@ -14,12 +16,13 @@ use Rattle.pic_deck.specs.declared.species.Species.{Species}
 use Rattle.pic_deck.specs.Species.{AreFilled, head_of}
 use Rattle.pic_deck.specs.Initial.{IsMild, set_up}
 
--- a deck: the cells and the tiles of each axis, how many steps, after how many a frame is due, the
--- multipliers of the fields, the uniform parts of E and B and the rows that are added to them, and
--- the species
+-- a deck: the cells of each axis, the side of a cell, the tiles of each axis, how many steps, after how
+-- many a frame is due, the multipliers of the fields, the uniform parts of E and B and the rows that
+-- are added to them, and the species
 pub record DeckView : Type 0 where
   pub version : ℕ
   pub cells : Triple
+  pub side : ℕ
   pub tiles : Triple
   pub steps : ℕ
   pub every : ℕ
@@ -34,7 +37,8 @@ pub record DeckView : Type 0 where
 abbrev pub deck_view : Settings → InitialFields → List Species → DeckView
 deck_view settings field species = record {
   version = settings.version;
-  cells = settings.cells;
+  cells = settings.cells.n;
+  side = settings.cells.side;
   tiles = triple settings.tiles;
   steps = settings.steps;
   every = settings.every;
@@ -45,6 +49,16 @@ deck_view settings field species = record {
   faces = field.faces;
   species = species;
 }
+
+-- its grid
+abbrev pub deck_grid : DeckView → Grid
+deck_grid d = record { n = d.cells; side = d.side }
+
+-- a grid of no more cells on an axis than version 1 allows
+pub record AreFew (n : Triple) : Type 0 where
+  pub x : n.x ≤ most_cells_of_axis_1
+  pub y : n.y ≤ most_cells_of_axis_1
+  pub z : n.z ≤ most_cells_of_axis_1
 
 -- an axis of n cells is cut into t tiles of one size, each of two cells or more
 pub record IsTiled (n t : ℕ) : Type 0 where
@@ -73,20 +87,22 @@ abbrev pub heads_of : DeckView → List HeadView
 heads_of d = map head_of d.species
 
 -- the numbers of the tables of the grid, the run and the scales are within their limits
-pub record AreSettings (v : ℕ) (n t : Triple) (s f : ℕ) : Type 0 where
+pub record AreSettings (v : ℕ) (g : Grid) (t : Triple) (s f : ℕ) : Type 0 where
   pub version : v ≡ 1
-  pub cells : IsCells n
-  pub tiles : AreTiles n t
+  pub cells : IsCells g.n
+  pub few : AreFew g.n
+  pub side : g.side ≡ side_1
+  pub tiles : AreTiles g.n t
   pub steps : s ≤ most_steps
   pub every_low : 1 ≤ f
   pub every_high : f ≤ most_steps
 
 -- all that a deck says is within its limits
 pub record IsWithinLimits (d : DeckView) : Type 0 where
-  pub settings : AreSettings d.version d.cells d.tiles d.steps d.every
+  pub settings : AreSettings d.version (deck_grid d) d.tiles d.steps d.every
   pub edges : AreRows d.cells d.edges
   pub faces : AreRows d.cells d.faces
   pub heads : AreHeads (heads_of d)
-  pub filled : AreFilled d.cells d.species
+  pub filled : AreFilled (deck_grid d) d.species
   pub e : IsMild d.cells d.scales.e_force (initial_e d)
   pub b : IsMild d.cells d.scales.b_force (initial_b d)

@@ -1,8 +1,8 @@
 -- The walk of what fills a species, this project's profile: the keys of each source in their order.
 use Rattle.std.specs.Prelude.{ℕ, pos, position, bytes_eq, List, [], ◌∷◌, codes, Ok}
 use Rattle.toml.specs.Data.{Data, Members}
-use Rattle.pic_num.specs.Space.{Triple}
-use Rattle.pic_walk.specs.Bounds.{most_particles}
+use Rattle.pic_num.specs.Limits.{most_particles_1}
+use Rattle.pic_grid.specs.Cells.{Grid}
 use Rattle.pic_walk.specs.declared.fault.Fault.TheVariants.{Name}
 use Rattle.pic_walk.specs.declared.draw.Draw.{Draw}
 use Rattle.pic_walk.specs.declared.sites.Sites.{Sites}
@@ -23,8 +23,8 @@ abbrev pub lattice_keys : List (List ℕ)
 lattice_keys = codes "first" ∷ codes "gap" ∷ codes "count" ∷ codes "v" ∷ []
 
 -- the sites of a lattice
-unfoldable pub lattice : Triple → List ℕ → Data → Walked Sites
-lattice n path d = table_of lattice_keys path d >>= sites n path
+unfoldable pub lattice : Grid → List ℕ → Data → Walked Sites
+lattice g path d = table_of lattice_keys path d >>= sites g path
 
 -- the keys of `random`
 abbrev pub random_keys : List (List ℕ)
@@ -34,7 +34,7 @@ random_keys = codes "count" ∷ codes "seed" ∷ codes "stream" ∷ codes "drift
 unfoldable pub random : List ℕ → Data → Walked (ℕ × Draw)
 random path d =
     table_of random_keys path d
-    >>= (λ t. need (whole (from_to (pos 0) (pos most_particles))) (codes "count") path t
+    >>= (λ t. need (whole (from_to (pos 0) (pos most_particles_1))) (codes "count") path t
     >>= (λ count. draw path t
     >>= (λ r. Ok (count, r))))
 
@@ -68,13 +68,13 @@ abbrev pub in_pairs : ℕ × Draw → Fill
 in_pairs r = Pair r.0 r.1.seed r.1.stream r.1.drift r.1.spread
 
 -- what a source fills a species with
-abbrev pub fill_by : Source → Triple → List Species → List ℕ → Data → Walked Fill
-fill_by source.Points n done path d = point_list n path d >>= (λ points. Ok (Points points))
-fill_by source.Lattice n done path d = lattice n path d >>= (λ s. Ok (at_sites s))
-fill_by source.Random n done path d = random path d >>= (λ r. Ok (at_random r))
-fill_by source.Pair n done path d = pair done path d >>= (λ r. Ok (in_pairs r))
+abbrev pub fill_by : Source → Grid → List Species → List ℕ → Data → Walked Fill
+fill_by source.Points g done path d = point_list g path d >>= (λ points. Ok (Points points))
+fill_by source.Lattice g done path d = lattice g path d >>= (λ s. Ok (at_sites s))
+fill_by source.Random g done path d = random path d >>= (λ r. Ok (at_random r))
+fill_by source.Pair g done path d = pair done path d >>= (λ r. Ok (in_pairs r))
 
 -- what fills the species that a table is
-unfoldable pub species_fill : Triple → List Species → List ℕ → Members → Walked Fill
-species_fill n done path t =
-    only path t sources >>= (λ s. need (fill_by s n done) (source_key s) path t)
+unfoldable pub species_fill : Grid → List Species → List ℕ → Members → Walked Fill
+species_fill g done path t =
+    only path t sources >>= (λ s. need (fill_by s g done) (source_key s) path t)

@@ -3,13 +3,13 @@ use Rattle.std.specs.Prelude.{◌≡◌, ℤ, pos, ◌+ℤ◌, ◌*◌, ◌/◌,
 use Rattle.std.specs.List.{range_with_len}
 use Rattle.pic_num.specs.declared.axis.Axis.{Axis}
 use Rattle.pic_num.specs.First.{first_of}
+use Rattle.pic_num.specs.Limits.{most_force}
 use Rattle.pic_num.specs.Multiplier.{Multiplier}
 use Rattle.pic_num.specs.Rounding.{scaled}
 use Rattle.pic_num.specs.Sizes.{IsAtMost}
 use Rattle.pic_num.specs.Space.{Triple, Spot, along, axis_number}
 use Rattle.pic_grid.specs.Cells.{IsWithin, count_of, cell_of, axis_of}
 use Rattle.pic_grid.specs.Sums.{sum_over}
-use Rattle.pic_walk.specs.Bounds.{strongest}
 use Rattle.pic_walk.specs.declared.row.Row.{Row}
 
 -- the row is of the place on the axis a at the cell p
@@ -32,7 +32,7 @@ pub record IsUniform (u : Spot) (a : Axis) (v : ℤ) : Type 0 where
 
 -- a value's force value, where that is too large
 unfoldable pub strong : Multiplier → ℤ → Option ℤ
-strong by v = if nat_le (unsigned_abs (scaled v by)) strongest then None else Some (scaled v by)
+strong by v = if nat_le (unsigned_abs (scaled v by)) most_force then None else Some (scaled v by)
 
 -- that of the least place which has one, in the order of places: the axis, then z, y and x
 unfoldable pub first_strong : Triple → Multiplier → (Axis → Triple → ℤ) → Option ℤ
@@ -42,4 +42,4 @@ first_strong n by g =
 -- every value on n cells is at most 2^84 in size, and its force value not too large
 pub record IsMild (n : Triple) (by : Multiplier) (g : Axis → Triple → ℤ) : Type 0 where
   pub values : (a : Axis) (p : Triple) → IsWithin p n → IsAtMost (g a p) (2 ^ 84)
-  pub forces : (a : Axis) (p : Triple) → IsWithin p n → IsAtMost (scaled (g a p) by) strongest
+  pub forces : (a : Axis) (p : Triple) → IsWithin p n → IsAtMost (scaled (g a p) by) most_force

@@ -4,9 +4,10 @@ use Rattle.std.specs.Prelude.{ℤ, pos, neg_ℤ, ℕ, ◌+◌, ◌/◌, ◌%◌,
 use Rattle.toml.specs.Data.{Data, Members}
 use Rattle.pic_num.specs.declared.mult.Scales.{Scales}
 use Rattle.pic_num.specs.declared.motion.Kind.{Kind}
+use Rattle.pic_num.specs.Limits.{fewest_cells_of_axis, most_cells_of_axis_1, side_1, most_species, most_particles_1, most_mass, most_force}
 use Rattle.pic_num.specs.Space.{Triple, triple, spot}
-use Rattle.pic_grid.specs.Cells.{count_of}
-use Rattle.pic_walk.specs.Bounds.{fewest_cells, most_cells, most_tiles, most_steps, most_species, most_particles, least_charge, greatest_charge, greatest_mass, strongest}
+use Rattle.pic_grid.specs.Cells.{Grid, count_of}
+use Rattle.pic_walk.specs.Bounds.{most_tiles, most_steps, least_charge, greatest_charge}
 use Rattle.pic_walk.specs.declared.fault.Fault.TheVariants.{Limit, Name}
 use Rattle.pic_walk.specs.declared.limits.Limits.{Limits}
 use Rattle.pic_walk.specs.Path.{key_at}
@@ -40,7 +41,7 @@ scale_keys = codes "e_to_b" ∷ codes "b_to_e" ∷ codes "e_force" ∷ codes "b_
 
 -- how many cells an axis may have
 abbrev pub axis_limits : Limits
-axis_limits = from_to (pos fewest_cells) (pos most_cells)
+axis_limits = from_to (pos fewest_cells_of_axis) (pos most_cells_of_axis_1)
 
 -- the same for each of the three
 abbrev pub cell_limits : List Limits
@@ -64,13 +65,13 @@ tiles ns path d =
     >>= (λ ts. within (from_to (pos 1) (pos most_tiles)) path (pos (count_of (triple ts)))
     >>= (λ _. Ok ts))
 
--- the cells and the tiles
-unfoldable pub grid : Members → Walked (Triple × List ℕ)
+-- the cells, of the side that version 1 has, and the tiles
+unfoldable pub grid : Members → Walked (Grid × List ℕ)
 grid ms =
     need (table_of grid_keys) (codes "grid") [] ms
     >>= (λ t. need (three cell_limits) (codes "cells") (codes "grid") t
     >>= (λ ns. need (tiles ns) (codes "tiles") (codes "grid") t
-    >>= (λ ts. Ok (triple ns, ts))))
+    >>= (λ ts. Ok (record { n = triple ns; side = side_1 }, ts))))
 
 -- how many steps, and after how many a frame is due
 unfoldable pub run : Members → Walked (ℕ × ℕ)
@@ -134,7 +135,7 @@ species_name done path d =
 unfoldable pub species_kind : List ℕ → Members → Walked Kind
 species_kind path t =
     need (limited (from_to least_charge greatest_charge)) (codes "charge") path t
-    >>= (λ charge. need (whole (from_to (pos 1) (pos greatest_mass))) (codes "mass") path t
+    >>= (λ charge. need (whole (from_to (pos 1) (pos most_mass))) (codes "mass") path t
     >>= (λ mass. need multiplier (codes "kick") path t
     >>= (λ kick. need multiplier (codes "turn") path t
     >>= (λ turn. Ok (record { charge = charge; mass = mass; kick = kick; turn = turn })))))
@@ -142,46 +143,46 @@ species_kind path t =
 -- how many particles a species has after earlier ones, which all together are not too many
 unfoldable pub counted : List Species → List ℕ → Fill → Walked ℕ
 counted done path fill =
-    within (from_to (pos 0) (pos most_particles)) path (pos (particles_of done + count_in done fill))
+    within (from_to (pos 0) (pos most_particles_1)) path (pos (particles_of done + count_in done fill))
     >>= (λ _. Ok (count_in done fill))
 
 -- the species that a table is, after earlier ones
-unfoldable pub species_in : Triple → List Species → List ℕ → Members → Walked Species
-species_in n done path t =
+unfoldable pub species_in : Grid → List Species → List ℕ → Members → Walked Species
+species_in g done path t =
     need (species_name done) (codes "name") path t
     >>= (λ named. species_kind path t
-    >>= (λ k. species_fill n done path t
+    >>= (λ k. species_fill g done path t
     >>= (λ f. counted done path f
     >>= (λ count. Ok (record { name = named; kind = k; count = count; fill = f })))))
 
 -- the next species
-unfoldable pub one_species : Triple → List Species → List ℕ → Data → Walked Species
-one_species n done path d = table_of species_keys path d >>= species_in n done path
+unfoldable pub one_species : Grid → List Species → List ℕ → Data → Walked Species
+one_species g done path d = table_of species_keys path d >>= species_in g done path
 
 -- all species, not too many
-unfoldable pub species_list : Triple → List ℕ → Data → Walked (List Species)
-species_list n path d =
+unfoldable pub species_list : Grid → List ℕ → Data → Walked (List Species)
+species_list g path d =
     elements path d
     >>= (λ ds. within (from_to (pos 0) (pos most_species)) path (pos (count_of_items ds))
-    >>= (λ _. each (one_species n) path [] ds))
+    >>= (λ _. each (one_species g) path [] ds))
 
 -- no force value is too large, or that of the least place which has one is refused
 unfoldable pub allowed : List ℕ → Option ℤ → Walked (Unit {0})
 allowed path None = Ok tt
-allowed path (Some f) = Err (Limit path f (neg_ℤ (pos strongest)) (pos strongest))
+allowed path (Some f) = Err (Limit path f (neg_ℤ (pos most_force)) (pos most_force))
 
 -- the force values of E, and then those of B
 unfoldable pub forces : Settings → InitialFields → Walked (Unit {0})
 forces s f =
-    allowed (key_at (codes "scale") (codes "e_force")) (first_strong s.cells s.scales.e_force (set_up (spot f.e) f.edges))
-    >>= (λ _. allowed (key_at (codes "scale") (codes "b_force")) (first_strong s.cells s.scales.b_force (set_up (spot f.b) f.faces)))
+    allowed (key_at (codes "scale") (codes "e_force")) (first_strong s.cells.n s.scales.e_force (set_up (spot f.e) f.edges))
+    >>= (λ _. allowed (key_at (codes "scale") (codes "b_force")) (first_strong s.cells.n s.scales.b_force (set_up (spot f.b) f.faces)))
 
 -- the deck that a table is
 unfoldable pub deck : Members → Walked DeckView
 deck ms =
     listed deck_keys [] ms
     >>= (λ t. settings t
-    >>= (λ s. optional no_field (fields s.cells) (codes "field") [] t
+    >>= (λ s. optional no_field (fields s.cells.n) (codes "field") [] t
     >>= (λ f. optional [] (species_list s.cells) (codes "species") [] t
     >>= (λ ss. forces s f
     >>= (λ _. Ok (deck_view s f ss))))))

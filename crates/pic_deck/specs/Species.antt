@@ -1,14 +1,15 @@
 -- The species of a deck and their particles.
 use Rattle.std.specs.Prelude.{◌≡◌, ℕ, ◌+◌, ◌<◌, ◌≤◌, ◌&&◌, Bool, not, nat_le, bytes_eq, List, [], length, sum_by, take, slice_index_or}
 use Rattle.std.specs.List.{list_all, list_any}
-use Rattle.pic_num.specs.Space.{Triple, triple}
-use Rattle.pic_grid.specs.Cells.{count_of}
+use Rattle.pic_num.specs.Space.{triple}
+use Rattle.pic_grid.specs.Cells.{Grid, count_of}
 use Rattle.pic_grid.specs.Species.{HeadView, no_head, is_name_byte, IsName, IsKind}
 pub use Rattle.pic_walk.specs.declared.point6.Point6.{Point6}
 pub use Rattle.pic_walk.specs.Points.{no_point, IsPoint, ArePoints}
 pub use Rattle.pic_walk.specs.Draw.{IsDraw}
 pub use Rattle.pic_walk.specs.Sites.{AreSites}
-pub use Rattle.pic_walk.specs.Bounds.{most_particles, most_species, fastest, fastest_drift, widest_spread}
+pub use Rattle.pic_num.specs.Limits.{most_particles_1, most_species}
+pub use Rattle.pic_walk.specs.Bounds.{fastest, fastest_drift, widest_spread}
 use Rattle.pic_deck.specs.declared.species.Fill.{Fill}
 use Rattle.pic_deck.specs.declared.species.Fill.TheVariants.{Points, Lattice, Random, Pair}
 use Rattle.pic_deck.specs.declared.species.Species.{Species}
@@ -53,29 +54,29 @@ pub record IsNewName (ss : List Species) (s : List ℕ) : Type 0 where
   pub name : IsName s
   pub differs : (i : ℕ) → i < length ss → (species_at ss i).name ≡ s → ⊥
 
--- what fills a species after earlier ones is such as a deck of n cells may have
-abbrev pub IsFill : Triple → List Species → Fill → Type 0
-IsFill n earlier (Points points) = ArePoints n points
-IsFill n earlier (Lattice first gap count v) =
-    AreSites n (record { first = first; gap = gap; count = count; v = v })
-IsFill n earlier (Random count seed stream drift spread) =
-    (count ≤ most_particles) × IsDraw (record { seed = seed; stream = stream; drift = drift; spread = spread })
-IsFill n earlier (Pair named seed stream drift spread) =
+-- what fills a species after earlier ones is such as a deck of a grid may have
+abbrev pub IsFill : Grid → List Species → Fill → Type 0
+IsFill g earlier (Points points) = ArePoints g points
+IsFill g earlier (Lattice first gap count v) =
+    AreSites g (record { first = first; gap = gap; count = count; v = v })
+IsFill g earlier (Random count seed stream drift spread) =
+    (count ≤ most_particles_1) × IsDraw (record { seed = seed; stream = stream; drift = drift; spread = spread })
+IsFill g earlier (Pair named seed stream drift spread) =
     (named < length earlier) × IsDraw (record { seed = seed; stream = stream; drift = drift; spread = spread })
 
 -- a species after earlier ones is filled so, and has so many particles
-pub record IsFilled (n : Triple) (earlier : List Species) (s : Species) : Type 0 where
-  pub fill : IsFill n earlier s.fill
+pub record IsFilled (g : Grid) (earlier : List Species) (s : Species) : Type 0 where
+  pub fill : IsFill g earlier s.fill
   pub count : s.count ≡ count_in earlier s.fill
 
 -- a species that may come next: its name is new, its particles are within their limits, and with
 -- them there are not too many
-pub record IsNext (n : Triple) (earlier : List Species) (s : Species) : Type 0 where
+pub record IsNext (g : Grid) (earlier : List Species) (s : Species) : Type 0 where
   pub name : IsNewName earlier s.name
   pub kind : IsKind s.kind
-  pub filled : IsFilled n earlier s
-  pub few : particles_of earlier + s.count ≤ most_particles
+  pub filled : IsFilled g earlier s
+  pub few : particles_of earlier + s.count ≤ most_particles_1
 
 -- each species is filled so, after those before it
-pub record AreFilled (n : Triple) (ss : List Species) : Type 0 where
-  pub each : (i : ℕ) → i < length ss → IsFilled n (take i ss) (species_at ss i)
+pub record AreFilled (g : Grid) (ss : List Species) : Type 0 where
+  pub each : (i : ℕ) → i < length ss → IsFilled g (take i ss) (species_at ss i)

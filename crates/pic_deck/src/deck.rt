@@ -3,7 +3,7 @@
 ghost use Rattle.std.specs.Prelude.{◌≡◌};
 ghost use Rattle.pic_num.specs.Space.{triple, spot};
 ghost use Rattle.pic_grid.specs.Lattice.{field_of};
-ghost use Rattle.pic_deck.specs.Deck.{IsWithinLimits, initial_e, initial_b};
+ghost use Rattle.pic_deck.specs.Deck.{IsWithinLimits, deck_grid, initial_e, initial_b};
 ghost use Rattle.pic_deck.specs.Species.{particles_of};
 
 use crate::fields::InitialFields;
@@ -58,9 +58,9 @@ impl Deck {
         self.settings.version
     }
 
-    /// How many cells the grid has on each axis.
+    /// How many cells the grid has on each axis, and the side of a cell.
     pub fn cells(&self) -> Cells
-        ensures value { result ≡ self.now.cells }
+        ensures value { result ≡ deck_grid self.now }
         ensures limits { IsWithinLimits self.now }
     {
         self.settings.cells
@@ -151,8 +151,8 @@ impl Deck {
     pub fn initial(&self, e: &mut Lattice, b: &mut Lattice)
         requires e_cells { e.old.cells ≡ self.now.cells }
         requires b_cells { b.old.cells ≡ self.now.cells }
-        ensures e { e.new ≡ field_of self.now.cells e.old.parts (initial_e self.now) }
-        ensures b { b.new ≡ field_of self.now.cells b.old.parts (initial_b self.now) }
+        ensures e { e.new ≡ field_of e.old.side self.now.cells e.old.parts (initial_e self.now) }
+        ensures b { b.new ≡ field_of b.old.side self.now.cells b.old.parts (initial_b self.now) }
     {
         fill(self.field.e, self.field.edges.as_slice(), e);
         fill(self.field.b, self.field.faces.as_slice(), b);

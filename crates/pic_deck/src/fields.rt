@@ -52,8 +52,8 @@ fn field_table(alloc: Global, value: &Value) -> Result<&Table, WalkStop>
 // the rows at a key of `field`; none where the key is absent
 fn optional_rows(alloc: Global, key: &str, table: &Table, cells: Cells) -> Result<Rows, WalkStop>
     ensures walks { WalksAs (λ (rs : List Row). rs)
-        (optional [] (row_list cells) key.now (codes "field") (table_view table.now)) result }
-    ensures limits { IfOk result (λ rs. AreRows cells rs) }
+        (optional [] (row_list cells.n) key.now (codes "field") (table_view table.now)) result }
+    ensures limits { IfOk result (λ rs. AreRows cells.n rs) }
 {
     match find_value(key, table) {
         Some(value) => read_rows(alloc, Address::new("field", key), value, cells),
@@ -63,10 +63,10 @@ fn optional_rows(alloc: Global, key: &str, table: &Table, cells: Cells) -> Resul
 
 // the table `field` of a deck
 fn read_fields(alloc: Global, value: &Value, cells: Cells) -> Result<InitialFields, WalkStop>
-    ensures walks { WalksAs (λ (f : FieldsView). f) (fields cells (codes "field") (view value.now))
+    ensures walks { WalksAs (λ (f : FieldsView). f) (fields cells.n (codes "field") (view value.now))
         result }
-    ensures edges { IfOk result (λ f. AreRows cells f.edges) }
-    ensures faces { IfOk result (λ f. AreRows cells f.faces) }
+    ensures edges { IfOk result (λ f. AreRows cells.n f.edges) }
+    ensures faces { IfOk result (λ f. AreRows cells.n f.faces) }
 {
     let table = field_table(alloc, value)?;
     let e = optional_three(alloc, "field", "e", table)?;
@@ -83,9 +83,9 @@ pub(crate) fn optional_fields(
     cells: Cells,
 ) -> Result<InitialFields, WalkStop>
     ensures walks { WalksAs (λ (f : FieldsView). f)
-        (optional no_field (fields cells) (codes "field") [] (table_view table.now)) result }
-    ensures edges { IfOk result (λ f. AreRows cells f.edges) }
-    ensures faces { IfOk result (λ f. AreRows cells f.faces) }
+        (optional no_field (fields cells.n) (codes "field") [] (table_view table.now)) result }
+    ensures edges { IfOk result (λ f. AreRows cells.n f.edges) }
+    ensures faces { IfOk result (λ f. AreRows cells.n f.faces) }
 {
     match find_value("field", table) {
         Some(value) => read_fields(alloc, value, cells),

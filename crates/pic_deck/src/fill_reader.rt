@@ -2,7 +2,7 @@
 
 ghost use Rattle.std.specs.Prelude.{◌≡◌, ◌<◌, ◌≤◌, ℕ, None, codes, position, bytes_eq, length, IfOk};
 ghost use Rattle.toml.specs.View.{view, table_view};
-ghost use Rattle.pic_walk.specs.Bounds.{most_species, most_particles};
+ghost use Rattle.pic_num.specs.Limits.{most_species, most_particles_1};
 ghost use Rattle.pic_walk.specs.Path.{key_at, path_of};
 ghost use Rattle.pic_walk.specs.declared.draw.Draw.{Draw as DrawView};
 ghost use Rattle.pic_walk.specs.declared.sites.Sites.{Sites as SitesView};
@@ -77,7 +77,7 @@ fn random_table<'v>(
 fn read_random(alloc: Global, address: Address<'_>, value: &Value) -> Result<(u32, Draw), WalkStop>
     ensures walks { WalksAs (λ (r : ℕ × DrawView). r)
         (random (path_of address.entry) (view value.now)) result }
-    ensures count { IfOk result (λ r. r.0 ≤ most_particles) }
+    ensures count { IfOk result (λ r. r.0 ≤ most_particles_1) }
     ensures draw { IfOk result (λ r. IsDraw r.1) }
 {
     let path = address.path(alloc)?;

@@ -29,6 +29,7 @@ fn number_along(axis: Axis, numbers: [i64; 3]) -> i64
 // sets every component on an axis to the number of that axis
 fn fill_uniform(numbers: [i64; 3], to: &mut Lattice)
     ensures cells { to.new.cells ≡ to.old.cells }
+    ensures side { to.new.side ≡ to.old.side }
     ensures parts { to.new.parts ≡ to.old.parts }
     ensures shape { length to.new.values ≡ 3 * count_of to.new.cells }
     ensures values { (a : AxisView) (p : Triple) → IsWithin p to.new.cells
@@ -49,6 +50,7 @@ fn add_rows(rows: &[Row], to: &mut Lattice)
     requires size { (a : AxisView) (p : Triple) → IsWithin p to.old.cells
         → IsAtMost (value_at to.old a p) (2 ^ 63) }
     ensures cells { to.new.cells ≡ to.old.cells }
+    ensures side { to.new.side ≡ to.old.side }
     ensures parts { to.new.parts ≡ to.old.parts }
     ensures shape { length to.new.values ≡ 3 * count_of to.new.cells }
     ensures values { (a : AxisView) (p : Triple) → IsWithin p to.old.cells → value_at to.new a p
@@ -63,7 +65,7 @@ fn add_rows(rows: &[Row], to: &mut Lattice)
 /// Makes a lattice, whatever it held, the uniform field of these numbers with the rows added.
 pub(crate) fn fill(numbers: [i64; 3], rows: &[Row], to: &mut Lattice)
     requires { AreRows to.old.cells rows.now }
-    ensures value { to.new ≡ field_of to.old.cells to.old.parts (set_up (spot numbers) rows.now) }
+    ensures value { to.new ≡ field_of to.old.side to.old.cells to.old.parts (set_up (spot numbers) rows.now) }
     ensures size { (a : AxisView) (p : Triple) → IsWithin p to.old.cells
         → IsAtMost (set_up (spot numbers) rows.now a p) (2 ^ 84) }
 {

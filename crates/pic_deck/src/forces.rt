@@ -82,10 +82,10 @@ fn check_filled(
     numbers: [i64; 3],
     rows: &[Row],
 ) -> Result<(), WalkStop>
-    requires { AreRows cells rows.now }
+    requires { AreRows cells.n rows.now }
     ensures walks { WalksAs (λ _. tt) (allowed (key_at (codes "scale") key.now)
-        (first_strong cells by (set_up (spot numbers) rows.now))) result }
-    ensures mild { OnOk result (IsMild cells by (set_up (spot numbers) rows.now)) }
+        (first_strong cells.n by (set_up (spot numbers) rows.now))) result }
+    ensures mild { OnOk result (IsMild cells.n by (set_up (spot numbers) rows.now)) }
 {
     let mut field = Lattice::new(alloc, cells, [1; 3])?;
     fill(numbers, rows, &mut field);
@@ -102,10 +102,10 @@ fn check_field(
     numbers: [i64; 3],
     rows: &[Row],
 ) -> Result<(), WalkStop>
-    requires { AreRows cells rows.now }
+    requires { AreRows cells.n rows.now }
     ensures walks { WalksAs (λ _. tt) (allowed (key_at (codes "scale") key.now)
-        (first_strong cells by (set_up (spot numbers) rows.now))) result }
-    ensures mild { OnOk result (IsMild cells by (set_up (spot numbers) rows.now)) }
+        (first_strong cells.n by (set_up (spot numbers) rows.now))) result }
+    ensures mild { OnOk result (IsMild cells.n by (set_up (spot numbers) rows.now)) }
 {
     if is_zero(numbers) && rows.is_empty() {
         return Ok(());
@@ -119,12 +119,12 @@ pub(crate) fn check_forces(
     settings: &Settings,
     field: &InitialFields,
 ) -> Result<(), WalkStop>
-    requires edges { AreRows settings.now.cells field.now.edges }
-    requires faces { AreRows settings.now.cells field.now.faces }
+    requires edges { AreRows settings.now.cells.n field.now.edges }
+    requires faces { AreRows settings.now.cells.n field.now.faces }
     ensures walks { WalksAs (λ _. tt) (forces settings.now field.now) result }
-    ensures e { OnOk result (IsMild settings.now.cells settings.now.scales.e_force
+    ensures e { OnOk result (IsMild settings.now.cells.n settings.now.scales.e_force
         (set_up (spot field.now.e) field.now.edges)) }
-    ensures b { OnOk result (IsMild settings.now.cells settings.now.scales.b_force
+    ensures b { OnOk result (IsMild settings.now.cells.n settings.now.scales.b_force
         (set_up (spot field.now.b) field.now.faces)) }
 {
     let cells = settings.cells;

@@ -2,14 +2,16 @@
 
 ghost use Rattle.std.specs.Prelude.{◌≡◌, ℕ, List, ◌*◌, ◌<◌, ◌≤◌, None, [], codes, IfOk, slice_index};
 ghost use Rattle.toml.specs.View.{view, table_view};
-ghost use Rattle.pic_num.specs.Space.{Triple, triple};
+ghost use Rattle.pic_num.specs.Limits.{side_1};
+ghost use Rattle.pic_num.specs.Space.{triple};
 ghost use Rattle.pic_walk.specs.Path.{path_of};
 ghost use Rattle.pic_walk.specs.Walk.{WalksAs, table_of, need, array_of, three};
-ghost use Rattle.pic_grid.specs.Cells.{IsCells, count_of};
-ghost use Rattle.pic_deck.specs.Deck.{IsTiled, AreTiles};
+ghost use Rattle.pic_grid.specs.Cells.{Grid, IsCells, count_of};
+ghost use Rattle.pic_deck.specs.Deck.{AreFew, IsTiled, AreTiles};
 ghost use Rattle.pic_deck.specs.Keys.{grid_keys, grid, cell_limits, axis_tiles, next_tiles, tiles};
 
 use pic_grid::Cells;
+use pic_num::Sub;
 use pic_walk::{
     Address, Limits, WalkStop, check_within, need_table, need_three, needed_value, read_array,
     read_whole,
@@ -19,7 +21,9 @@ use toml::{Table, Value};
 
 const FEWEST_CELLS: i64 = Cells::FEWEST as i64;
 
-const MOST_CELLS: i64 = Cells::MOST as i64;
+const MOST_CELLS: i64 = 64;
+
+const BITS: u32 = 12;
 
 const MOST_TILES: i64 = 512;
 
@@ -34,6 +38,7 @@ fn read_cells(alloc: Global, table: &Table) -> Result<[u32; 3], WalkStop>
     ensures walks { WalksAs (λ (ns : List ℕ). ns)
         (need (three cell_limits) (codes "cells") (codes "grid") (table_view table.now)) result }
     ensures bounds { IfOk result (λ ns. IsCells (triple ns)) }
+    ensures few { IfOk result (λ ns. AreFew (triple ns)) }
 {
     let limits = [Limits::new(FEWEST_CELLS, MOST_CELLS); 3];
     need_three(alloc, "grid", "cells", table, limits)
@@ -91,7 +96,7 @@ fn read_tiles(
     cells: [u32; 3],
 ) -> Result<[u32; 3], WalkStop>
     requires plain { address.column ≡ None }
-    requires cells { IsCells (triple cells) }
+    requires cells { AreFew (triple cells) }
     ensures walks { WalksAs (λ (ts : List ℕ). ts)
         (tiles cells (path_of address.entry) (view value.now)) result }
     ensures tiled { IfOk result (λ ts. AreTiles (triple cells) (triple ts)) }
@@ -103,7 +108,7 @@ fn read_tiles(
 }
 
 fn need_tiles(alloc: Global, table: &Table, cells: [u32; 3]) -> Result<[u32; 3], WalkStop>
-    requires { IsCells (triple cells) }
+    requires { AreFew (triple cells) }
     ensures walks { WalksAs (λ (ts : List ℕ). ts)
         (need (tiles cells) (codes "tiles") (codes "grid") (table_view table.now)) result }
     ensures tiled { IfOk result (λ ts. AreTiles (triple cells) (triple ts)) }
@@ -112,14 +117,16 @@ fn need_tiles(alloc: Global, table: &Table, cells: [u32; 3]) -> Result<[u32; 3],
     read_tiles(alloc, Address::new("grid", "tiles"), value, cells)
 }
 
-/// The table `grid` of a deck: the cells and the tiles of each axis.
+/// The table `grid` of a deck: the cells of each axis, with the side that version 1 has, and the tiles.
 pub fn read_grid(alloc: Global, table: &Table) -> Result<(Cells, [u32; 3]), WalkStop>
-    ensures walks { WalksAs (λ (g : Triple × List ℕ). g) (grid (table_view table.now)) result }
-    ensures cells { IfOk result (λ g. IsCells g.0) }
-    ensures tiled { IfOk result (λ g. AreTiles g.0 (triple g.1)) }
+    ensures walks { WalksAs (λ (g : Grid × List ℕ). g) (grid (table_view table.now)) result }
+    ensures cells { IfOk result (λ g. IsCells g.0.n) }
+    ensures few { IfOk result (λ g. AreFew g.0.n) }
+    ensures side { IfOk result (λ g. g.0.side ≡ side_1) }
+    ensures tiled { IfOk result (λ g. AreTiles g.0.n (triple g.1)) }
 {
     let table = grid_table(alloc, table)?;
     let cells = read_cells(alloc, table)?;
     let tiles = need_tiles(alloc, table, cells)?;
-    Ok((Cells::new(cells), tiles))
+    Ok((Cells::new(cells, Sub::of_bits(BITS)), tiles))
 }

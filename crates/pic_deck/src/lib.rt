@@ -21,7 +21,7 @@ mod tests;
 
 pub use deck::Deck;
 pub use fields::InitialFields;
-pub use pic_walk::{KeyPath, Point6, Points, Row, Rows};
+pub use pic_walk::{KeyPath, Point6, Points, Row, Rows, extent};
 pub use reading::read_deck;
 pub use refusal::{DeckFault, Refusal};
 pub use settings::Settings;

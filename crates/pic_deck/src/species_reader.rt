@@ -4,7 +4,7 @@ ghost use Rattle.std.specs.Prelude.{◌≡◌, ℕ, pos, ◌+◌, ◌^◌, ◌<�
 ghost use Rattle.toml.specs.View.{view, array_view, table_view};
 ghost use Rattle.pic_num.specs.declared.motion.Kind.{Kind as KindView};
 ghost use Rattle.pic_grid.specs.Species.{IsKind, AreHeads};
-ghost use Rattle.pic_walk.specs.Bounds.{most_species, most_particles};
+ghost use Rattle.pic_num.specs.Limits.{most_species, most_particles_1};
 ghost use Rattle.pic_walk.specs.Path.{path_of};
 ghost use Rattle.pic_walk.specs.Limits.{from_to};
 ghost use Rattle.pic_walk.specs.Walk.{WalksAs, within, each, table_of, optional};
@@ -70,7 +70,7 @@ fn read_kind(alloc: Global, path: &str, table: &Table) -> Result<Kind, WalkStop>
 
 /// How many particles some species have.
 pub fn particles_of(species: &[Species]) -> usize
-    requires { particles_of species.now ≤ most_particles }
+    requires { particles_of species.now ≤ most_particles_1 }
     ensures { result ≡ particles_of species.now }
 {
     let mut total = 0;
@@ -87,12 +87,12 @@ fn check_particles(
     earlier: &[Species],
     count: u128,
 ) -> Result<(), WalkStop>
-    requires few { particles_of earlier.now ≤ most_particles }
+    requires few { particles_of earlier.now ≤ most_particles_1 }
     requires size { count < 2 ^ 96 }
     ensures walks { WalksAs (λ _. pos (particles_of earlier.now + count))
-        (within (from_to (pos 0) (pos most_particles)) (path_of address.entry)
+        (within (from_to (pos 0) (pos most_particles_1)) (path_of address.entry)
         (pos (particles_of earlier.now + count))) result }
-    ensures few { OnOk result (particles_of earlier.now + count ≤ most_particles) }
+    ensures few { OnOk result (particles_of earlier.now + count ≤ most_particles_1) }
 {
     let before = particles_of(earlier) as i128;
     let more = count as i128;
@@ -107,11 +107,11 @@ fn read_count(
     earlier: &[Species],
     fill: &Fill,
 ) -> Result<u32, WalkStop>
-    requires { particles_of earlier.now ≤ most_particles }
+    requires { particles_of earlier.now ≤ most_particles_1 }
     ensures walks { WalksAs (λ (n : ℕ). n) (counted earlier.now (path_of address.entry) fill.now)
         result }
     ensures count { IfOk result (λ n. n ≡ count_in earlier.now fill.now) }
-    ensures few { IfOk result (λ n. particles_of earlier.now + n ≤ most_particles) }
+    ensures few { IfOk result (λ n. particles_of earlier.now + n ≤ most_particles_1) }
 {
     let count = fill.count(earlier);
     check_particles(alloc, address, earlier, count)?;

@@ -2,7 +2,7 @@
 
 use crate::{Deck, DeckFault, Fill, Point6, Refusal, Row, read_deck};
 use pic_grid::{Cells, Lattice};
-use pic_num::{Axis, Kind, Mult};
+use pic_num::{Axis, Kind, Mult, Sub};
 use std::process::Abort;
 use std::test::Fail;
 
@@ -130,7 +130,7 @@ fn refuses(rt: &(impl AllocGlobal + Abort), bytes: &[u8], want: (&str, &str, [i1
 fn the_smallest_deck_is_read(rt: HostRuntime) {
     let deck = deck_of(&rt, SMALLEST);
     assert_eq!(rt; (deck.version(), deck.steps(), deck.every()), (1, 0, 1));
-    assert_eq!(rt; deck.cells(), Cells::new([2, 2, 2]));
+    assert_eq!(rt; deck.cells(), Cells::new([2, 2, 2], Sub::of_bits(12)));
     assert_eq!(rt; deck.tiles(), [1, 1, 1]);
     assert_eq!(rt; (deck.e(), deck.b()), ([0, 0, 0], [0, 0, 0]));
     assert!(rt; deck.edges().is_empty() && deck.faces().is_empty());

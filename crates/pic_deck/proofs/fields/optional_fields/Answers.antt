@@ -14,7 +14,7 @@ unfolding optional
 returns-in-None-clause-walks c = given_none _ _ _ _ (sym c.in-None.ensures) (record { answer = ap Ok (sym c.none.ensures) })
 
 pub returns-in-None-clause-edges : goal.returns-in-None-clause-edges
-returns-in-None-clause-edges c = rw c.none.ensures (AreRows-none c.args.cells)
+returns-in-None-clause-edges c = rw c.none.ensures (AreRows-none c.args.cells.n)
 
 pub returns-in-None-clause-faces : goal.returns-in-None-clause-faces
-returns-in-None-clause-faces c = rw c.none.ensures (AreRows-none c.args.cells)
+returns-in-None-clause-faces c = rw c.none.ensures (AreRows-none c.args.cells.n)

@@ -13,4 +13,4 @@ unfolding optional
 returns-in-None-clause-walks c = given_none _ _ _ _ (sym c.in-None.ensures) (record { answer = ap Ok (sym (c.from_vec.ensures ∙ c.new-in-None.ensures.items)) })
 
 pub returns-in-None-clause-limits : goal.returns-in-None-clause-limits
-returns-in-None-clause-limits c = rw (c.from_vec.ensures ∙ c.new-in-None.ensures.items) (AreRows-none c.args.cells)
+returns-in-None-clause-limits c = rw (c.from_vec.ensures ∙ c.new-in-None.ensures.items) (AreRows-none c.args.cells.n)

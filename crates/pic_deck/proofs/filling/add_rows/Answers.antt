@@ -17,6 +17,7 @@ pub loop-row-init : goal.loop-row-init
 unfolding sum_over
 loop-row-init c = record {
   cells = refl;
+  side = refl;
   parts = refl;
   shape = c.requires.shape;
   values = λ a p h. omega (arith, ints);
@@ -53,6 +54,7 @@ loop-row-preserved c =
     let within : IsWithin (triple (get_or c.args.rows.now c.loop-row.row-index no_row).cell) c.loop-row.to.cells = rw inv.cells good.within in
     rw c.set.ensures.after (record {
       cells = inv.cells;
+      side = inv.side;
       parts = inv.parts;
       shape = length-set _ _ _ ∙ inv.shape;
       values = row_step c.args.to.now c.loop-row.to c.args.rows.now c.loop-row.row-index _ (omega arith) inv.cells inv.shape

@@ -11,6 +11,7 @@ use Rattle.pic_deck.proofs.filling.add_rows.Given as goal
 abbrev pub invariant-loop-row : goal.invariant-loop-row
 invariant-loop-row l = record {
   cells : l.to.cells ≡ l.initial.to.cells;
+  side : l.to.side ≡ l.initial.to.side;
   parts : l.to.parts ≡ l.initial.to.parts;
   shape : length l.to.values ≡ 3 * count_of l.to.cells;
   values : (a : Axis) (p : Triple) → IsWithin p l.initial.to.cells → value_at l.to a p

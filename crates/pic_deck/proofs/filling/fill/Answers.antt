@@ -18,8 +18,9 @@ pub returns-clause-value : goal.returns-clause-value
 unfolding set_up
 returns-clause-value c =
     let cells = c.add_rows.ensures.cells ∙ c.fill_uniform.ensures.cells in
+    let side = c.add_rows.ensures.side ∙ c.fill_uniform.ensures.side in
     let parts = c.add_rows.ensures.parts ∙ c.fill_uniform.ensures.parts in
-    is_field_of c.args.to.now.cells c.args.to.now.parts (set_up (spot c.args.numbers) c.args.rows.now) c.add_rows.new.to cells parts
+    is_field_of c.args.to.now.side c.args.to.now.cells c.args.to.now.parts (set_up (spot c.args.numbers) c.args.rows.now) c.add_rows.new.to cells side parts
     (c.add_rows.ensures.shape ∙ ap (λ n. 3 * count_of n) cells)
     (λ a p h.
     let inside = within_old c.args.to.now.cells c.fill_uniform.new.to.cells p (sym c.fill_uniform.ensures.cells) h in

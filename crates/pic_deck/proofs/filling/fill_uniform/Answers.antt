@@ -19,6 +19,7 @@ loop-place-preserved c =
     rw c.set.ensures.after (record {
       same = inv.same;
       cells = inv.cells;
+      side = inv.side;
       parts = inv.parts;
       last = inv.last;
       shape = length-set _ _ _ ∙ inv.shape;

@@ -8,8 +8,9 @@ use Rattle.pic_deck.proofs.filling.fill_uniform.Given as goal
 
 abbrev pub invariant-loop-place : goal.invariant-loop-place
 invariant-loop-place l = record {
-  same : l.cells ≡ l.to.cells;
+  same : l.cells.n ≡ l.to.cells;
   cells : l.to.cells ≡ l.initial.to.cells;
+  side : l.to.side ≡ l.initial.to.side;
   parts : l.to.parts ≡ l.initial.to.parts;
   last : l.place-end ≡ 3 * count_of l.to.cells;
   shape : length l.to.values ≡ 3 * count_of l.to.cells;

@@ -6,7 +6,7 @@ use Rattle.pic_deck.proofs.forces.check_field.Goals as goal
 pub returns-then-is_empty-clause-walks : goal.returns-then-is_empty-clause-walks
 returns-then-is_empty-clause-walks c =
     let zero = zero_set_up _ c.args.rows.now (c.if-is_zero.ensures refl) (eqb-true _ _ (sym c.if-is_empty.ensures)) in
-    record { answer = none_allowed _ _ (no_forces c.args.cells c.args.by _ zero) }
+    record { answer = none_allowed _ _ (no_forces c.args.cells.n c.args.by _ zero) }
 
 pub returns-then-is_empty-clause-mild : goal.returns-then-is_empty-clause-mild
 returns-then-is_empty-clause-mild c =

@@ -1,4 +1,6 @@
-use Rattle.std.proofs.Common.{Ok, ap, sym}
+use Rattle.std.proofs.Common.{Ok, ap, sym, ◌∙◌}
+use Rattle.pic_num.specs.Space.{triple}
+use Rattle.pic_grid.specs.Cells.{Grid}
 use Rattle.pic_deck.specs.Keys.{grid}
 use Rattle.pic_walk.proofs.WalkLaws.{goes_on, exits}
 use Rattle.pic_deck.proofs.grid.read_grid.Goals as goal
@@ -23,10 +25,16 @@ pub returns-clause-walks : goal.returns-clause-walks
 unfolding grid
 returns-clause-walks c =
     goes_on _ _ _ c.in_ok-table.ensures.answer (goes_on _ _ _ c.in_ok-cells.ensures.walks.answer
-    (goes_on _ _ _ c.in_ok-tiles.ensures.walks.answer (record { answer = ap (λ n. Ok (n, c.in_ok-tiles.tiles)) (sym c.new.ensures) })))
+    (goes_on _ _ _ c.in_ok-tiles.ensures.walks.answer (record { answer = ap (λ (g : Grid). Ok (g, c.in_ok-tiles.tiles)) (sym (c.new.ensures ∙ ap (λ side. record { n = triple c.in_ok-cells.cells; side = side }) c.of_bits.ensures)) })))
 
 pub returns-clause-tiled : goal.returns-clause-tiled
 returns-clause-tiled c = rw c.new.ensures c.in_ok-tiles.ensures.tiled
 
 pub returns-clause-cells : goal.returns-clause-cells
 returns-clause-cells c = rw c.new.ensures c.in_ok-cells.ensures.bounds
+
+pub returns-clause-few : goal.returns-clause-few
+returns-clause-few c = rw c.new.ensures c.in_ok-cells.ensures.few
+
+pub returns-clause-side : goal.returns-clause-side
+returns-clause-side c = rw c.new.ensures c.of_bits.ensures

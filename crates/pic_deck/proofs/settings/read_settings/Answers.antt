@@ -41,6 +41,8 @@ returns-clause-limits c =
     record {
       version = one;
       cells = c.in_ok-cells.ensures.cells;
+      few = c.in_ok-cells.ensures.few;
+      side = c.in_ok-cells.ensures.side;
       tiles = c.in_ok-cells.ensures.tiled;
       steps = c.in_ok-steps.ensures.steps;
       every_low = c.in_ok-steps.ensures.every_low;
