@@ -10,7 +10,8 @@ use Rattle.std.proofs.lemmas.List.Sums.{sum_by_push, sum_by_more_le}
 use Rattle.pic_num.specs.declared.axis.Axis.{Axis}
 use Rattle.pic_num.specs.declared.motion.Particle.{Particle}
 use Rattle.pic_num.specs.Sizes.{IsAtMost}
-use Rattle.pic_num.specs.Space.{Triple, triple, spot, along}
+use Rattle.pic_num.specs.Space.{triple, spot, along}
+use Rattle.pic_grid.specs.Cells.{Grid}
 use Rattle.pic_grid.specs.Hat.{IsInBox}
 use Rattle.pic_deck.specs.declared.species.Fill.{Fill}
 use Rattle.pic_deck.specs.declared.species.Species.{Species}
@@ -39,11 +40,11 @@ pub none_yet : (old : List Particle) (species : ℕ) (f : ℕ → Point6) → ol
 none_yet old species f = sym (append-nil old)
 
 -- a particle that is added
-pub placed_more : (n : Triple) (m : ℕ) (now next : List Particle) (id species : ℕ) (p : Point6) → species < m → IsInBox 4096 n (triple p.x)
+pub placed_more : (grid : Grid) (m : ℕ) (now next : List Particle) (id species : ℕ) (p : Point6) → species < m → IsInBox grid.side grid.n (triple p.x)
     → ((a : Axis) → IsAtMost (along a (spot p.v)) fastest)
-    → next ≡ now ++ particle_of id species p ∷ [] → All (IsPlaced n m) now → All (IsPlaced n m) next
-placed_more n m now next id species p below place speed e placed =
-    rw e (All-push (IsPlaced n m) now (particle_of id species p) placed (record { species = below; place = place; speed = speed }))
+    → next ≡ now ++ particle_of id species p ∷ [] → All (IsPlaced grid m) now → All (IsPlaced grid m) next
+placed_more grid m now next id species p below place speed e placed =
+    rw e (All-push (IsPlaced grid m) now (particle_of id species p) placed (record { species = below; place = place; speed = speed }))
 
 -- an earlier particle is still where it was
 pub still : (old now : List Particle) (species k : ℕ) (f : ℕ → Point6) (i : ℕ) (d : Particle) → now ≡ old ++ first_of_species (length old) species f k
@@ -52,10 +53,10 @@ still old now species k f i d e below = ap (λ (ps : List Particle). get_or ps i
     ∙ get_or_append_left old (first_of_species (length old) species f k) d i below
 
 -- what fills a species, told
-pub filled_by : (n : Triple) (earlier : List Species) (done : List Particle) (s : Species) (f : Fill) (k : ℕ) → s.fill ≡ f → s.count ≡ k
-    → particles_in n earlier done s ≡ first_of_species (length done) (length earlier) (point_in n earlier done f) k
+pub filled_by : (grid : Grid) (earlier : List Species) (done : List Particle) (s : Species) (f : Fill) (k : ℕ) → s.fill ≡ f → s.count ≡ k
+    → particles_in grid earlier done s ≡ first_of_species (length done) (length earlier) (point_in grid earlier done f) k
 unfolding particles_in
-filled_by n earlier done s f k e h = (λ i. first_of_species (length done) (length earlier) (point_in n earlier done (e i)) (h i))
+filled_by grid earlier done s f k e h = (λ i. first_of_species (length done) (length earlier) (point_in grid earlier done (e i)) (h i))
 
 -- there is room in what the earlier species left for the particles of one of them
 pub within_earlier : (ss : List Species) (number : ℕ) (d : Species) → number < length ss
@@ -63,23 +64,23 @@ pub within_earlier : (ss : List Species) (number : ℕ) (d : Species) → number
 within_earlier ss number d below = sum_by_more_le (λ (s : Species). s.count) ss number d below
 
 -- the next species of those that are left
-pub species_more : (n : Triple) (ss : List Species) (done next : List Particle) (i : ℕ) (d : Species) → i < length ss
-    → next ≡ done ++ particles_in n (take i ss) done (get_or ss i d)
-    → loaded_after n (take i ss) done (drop i ss) ≡ loaded_after n (take (i + 1) ss) next (drop (i + 1) ss)
+pub species_more : (grid : Grid) (ss : List Species) (done next : List Particle) (i : ℕ) (d : Species) → i < length ss
+    → next ≡ done ++ particles_in grid (take i ss) done (get_or ss i d)
+    → loaded_after grid (take i ss) done (drop i ss) ≡ loaded_after grid (take (i + 1) ss) next (drop (i + 1) ss)
 unfolding loaded_after
-species_more n ss done next i d below e =
+species_more grid ss done next i d below e =
     let more : suc i ≡ i + 1 = omega arith in
-    ap (loaded_after n (take i ss) done) (drop-cons ss i d below)
-    ∙ (λ j. loaded_after n (sym (take_more ss i d below) j) (sym e j) (drop (more j) ss))
+    ap (loaded_after grid (take i ss) done) (drop-cons ss i d below)
+    ∙ (λ j. loaded_after grid (sym (take_more ss i d below) j) (sym e j) (drop (more j) ss))
 
 pub count_more : (ss : List Species) (i : ℕ) (d : Species) → i < length ss → particles_of (take (i + 1) ss) ≡ particles_of (take i ss) + (get_or ss i d).count
 count_more ss i d below = ap particles_of (take_more ss i d below) ∙ sum_by_push (λ (s : Species). s.count) (take i ss) (get_or ss i d)
 
 -- as many particles as the species says
-pub length-particles_in : (n : Triple) (earlier : List Species) (done : List Particle) (s : Species) → length (particles_in n earlier done s) ≡ s.count
+pub length-particles_in : (grid : Grid) (earlier : List Species) (done : List Particle) (s : Species) → length (particles_in grid earlier done s) ≡ s.count
 unfolding particles_in
-length-particles_in n earlier done s = length-map-range_with_len
-    (λ i. particle_of (length done + i) (length earlier) (point_in n earlier done s.fill i)) 0 s.count
+length-particles_in grid earlier done s = length-map-range_with_len
+    (λ i. particle_of (length done + i) (length earlier) (point_in grid earlier done s.fill i)) 0 s.count
 
 range_append : (a m n : ℕ) → range_with_len a (m + n) ≡ range_with_len a m ++ range_with_len (a + m) n
 range_append a zero n =
@@ -95,11 +96,11 @@ ids_of start species f j (suc k) =
     ap (λ xs. (start + j) ∷ xs) (ids_of start species f (j + 1) k ∙ ap (λ i. range_with_len i k) (let e : start + (j + 1) ≡ start + j + 1 = omega arith in e))
 
 -- identities go on counting up
-pub identities_more : (n : Triple) (earlier : List Species) (done next : List Particle) (s : Species) → next ≡ done ++ particles_in n earlier done s
+pub identities_more : (grid : Grid) (earlier : List Species) (done next : List Particle) (s : Species) → next ≡ done ++ particles_in grid earlier done s
     → map (λ (p : Particle). p.id) done ≡ range_with_len 0 (length done) → map (λ (p : Particle). p.id) next ≡ range_with_len 0 (length next)
 unfolding particles_in
-identities_more n earlier done next s e before =
-    let f = point_in n earlier done s.fill in
+identities_more grid earlier done next s e before =
+    let f = point_in grid earlier done s.fill in
     let new = first_of_species (length done) (length earlier) f s.count in
     let start : length done + 0 ≡ 0 + length done = omega arith in
     let size : length next ≡ length done + s.count = so_far done next (length earlier) s.count f e in

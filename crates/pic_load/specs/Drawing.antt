@@ -7,7 +7,8 @@ use Rattle.rand_pcg.specs.Lcg.{Lcg}
 use Rattle.pic_num.specs.declared.axis.Axis.{Axis}
 use Rattle.pic_num.specs.Rounding.{rounded}
 use Rattle.pic_num.specs.Sizes.{IsAtMost}
-use Rattle.pic_num.specs.Space.{Triple, spot, along}
+use Rattle.pic_num.specs.Space.{spot, along}
+use Rattle.pic_grid.specs.Cells.{Grid}
 use Rattle.pic_deck.specs.Species.{fastest_drift, widest_spread}
 use Rattle.pic_load.specs.Generator.{after, word}
 
@@ -15,10 +16,13 @@ use Rattle.pic_load.specs.Generator.{after, word}
 abbrev pub scaled_word : ℕ → ℕ → ℕ
 scaled_word w len = w * len / 2 ^ 32
 
--- a position in the box of n cells, by the next three words
-unfoldable pub drawn_place : Triple → Lcg → List ℕ
-drawn_place n g =
-    scaled_word (word 0 g) (n.x * 4096) ∷ scaled_word (word 1 g) (n.y * 4096) ∷ scaled_word (word 2 g) (n.z * 4096) ∷ []
+-- a position in the box of a grid, by the next three words
+unfoldable pub drawn_place : Grid → Lcg → List ℕ
+drawn_place grid g =
+    scaled_word (word 0 g) (grid.n.x * grid.side)
+    ∷ scaled_word (word 1 g) (grid.n.y * grid.side)
+    ∷ scaled_word (word 2 g) (grid.n.z * grid.side)
+    ∷ []
 
 -- the sum of the next words
 unfoldable pub sum_of_words : ℕ → Lcg → ℕ

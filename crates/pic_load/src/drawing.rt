@@ -5,16 +5,16 @@ ghost use Rattle.pic_num.specs.declared.axis.Axis.{Axis};
 ghost use Rattle.pic_num.specs.Rounding.{rounded};
 ghost use Rattle.pic_num.specs.Sizes.{IsAtMost};
 ghost use Rattle.pic_num.specs.Space.{triple, spot, along};
+ghost use Rattle.pic_deck.specs.Deck.{most_extent};
 ghost use Rattle.pic_grid.specs.Hat.{IsInBox};
 ghost use Rattle.pic_deck.specs.Species.{fastest, fastest_drift, widest_spread};
 ghost use Rattle.pic_load.specs.Generator.{after, word};
 ghost use Rattle.pic_load.specs.Drawing.{IsSpread, scaled_word, drawn_place, sum_of_words, mean_of_twelve, drawn_speed, drawn_velocity};
 
+use pic_deck::extent;
 use pic_grid::Cells;
 use rand_core::utils::NextWord;
 use rand_pcg::Pcg32;
-
-const SIDE: u64 = 4096;
 
 const WORDS: u64 = 4294967296;
 
@@ -29,26 +29,26 @@ fn draw_word(rng: &mut Pcg32) -> u32
     rng.next_word()
 }
 
-// a word as a position on an axis of so many cells
-fn position_of(word: u32, cells: u32) -> u32
-    requires some { 1 ≤ cells }
-    requires few { cells ≤ 64 }
-    ensures value { result ≡ scaled_word word (cells * 4096) }
-    ensures below { result < cells * 4096 }
+// a word as a position on an axis of so many sub-cells
+fn position_of(word: u32, len: u32) -> u32
+    requires some { 1 ≤ len }
+    requires most { len ≤ most_extent }
+    ensures value { result ≡ scaled_word word len }
+    ensures below { result < len }
 {
-    (u64::from(word) * (u64::from(cells) * SIDE) / WORDS) as u32
+    (u64::from(word) * u64::from(len) / WORDS) as u32
 }
 
 /// A position in the box, by three words.
 pub(crate) fn draw_place(rng: &mut Pcg32, cells: Cells) -> [u32; 3]
     ensures value { result ≡ drawn_place cells rng.old }
-    ensures within { IsInBox 4096 cells (triple result) }
+    ensures within { IsInBox cells.side cells.n (triple result) }
     ensures left { rng.new ≡ after 3 rng.old }
 {
-    let [nx, ny, nz] = cells.numbers();
-    let x = position_of(draw_word(rng), nx);
-    let y = position_of(draw_word(rng), ny);
-    let z = position_of(draw_word(rng), nz);
+    let [x_len, y_len, z_len] = extent(cells);
+    let x = position_of(draw_word(rng), x_len);
+    let y = position_of(draw_word(rng), y_len);
+    let z = position_of(draw_word(rng), z_len);
     [x, y, z]
 }
 

@@ -5,21 +5,20 @@ ghost use Rattle.std.specs.List.{All};
 ghost use Rattle.pic_num.specs.declared.axis.Axis.{Axis};
 ghost use Rattle.pic_num.specs.Sizes.{IsAtMost};
 ghost use Rattle.pic_num.specs.Space.{Triple, triple, spot, along};
-ghost use Rattle.pic_grid.specs.Cells.{cell_of, count_of};
+ghost use Rattle.pic_grid.specs.Cells.{Grid, cell_of};
+ghost use Rattle.pic_deck.specs.Deck.{most_extent};
 ghost use Rattle.pic_grid.specs.Hat.{IsInBox};
-ghost use Rattle.pic_deck.specs.Species.{ArePoints, IsFilled, fastest, most_particles, most_species, no_point, particles_of};
+ghost use Rattle.pic_deck.specs.Species.{ArePoints, IsFilled, fastest, most_particles_1, most_species, no_point, particles_of};
 ghost use Rattle.pic_load.specs.Drawing.{IsSpread};
 ghost use Rattle.pic_load.specs.Generator.{after};
 ghost use Rattle.pic_load.specs.Loading.{particle_of, no_particle, site, at_site, drawn, beside, first_of_species, particles_in, loaded, IsPlaced, AreLoaded};
 
 use crate::drawing::{draw_place, draw_velocity};
-use pic_deck::{Deck, Fill, Point6, Species, particles_of};
+use pic_deck::{Deck, Fill, Point6, Species, extent, particles_of};
 use pic_grid::Cells;
 use pic_num::{NoMemory, Particle};
 use rand_pcg::Pcg32;
 use std::alloc::Global;
-
-const SIDE: u64 = 4096;
 
 // adds a particle of a species
 fn add(particles: &mut Vec<Particle>, species: u8, x: [u32; 3], v: [i32; 3]) -> Result<(), NoMemory>
@@ -38,13 +37,13 @@ fn load_points(
     species: u8,
     points: &[Point6],
 ) -> Result<(), NoMemory>
-    requires { length particles.old.items + length points.now ≤ most_particles }
+    requires { length particles.old.items + length points.now ≤ most_particles_1 }
     ensures value { OnOk result (particles.new.items ≡ particles.old.items
         ++ first_of_species (length particles.old.items) species
         (λ i. slice_index_or points.now i no_point) (length points.now)) }
-    ensures placed { (n : Triple) (m : ℕ) → species < m → ArePoints n points.now
-        → All (IsPlaced n m) particles.old.items
-        → OnOk result (All (IsPlaced n m) particles.new.items) }
+    ensures placed { (grid : Grid) (m : ℕ) → species < m → ArePoints grid points.now
+        → All (IsPlaced grid m) particles.old.items
+        → OnOk result (All (IsPlaced grid m) particles.new.items) }
 {
     for point in points {
         add(particles, species, point.x, point.v)?;
@@ -52,13 +51,13 @@ fn load_points(
     Ok(())
 }
 
-fn site_on(first: u32, gap: u32, at: u32, cells: u32) -> u32
-    requires some { 1 ≤ cells }
-    requires few { cells ≤ 64 }
-    ensures value { result ≡ (first + at * gap) % (cells * 4096) }
-    ensures below { result < cells * 4096 }
+fn site_on(first: u32, gap: u32, at: u32, len: u32) -> u32
+    requires some { 1 ≤ len }
+    requires most { len ≤ most_extent }
+    ensures value { result ≡ (first + at * gap) % len }
+    ensures below { result < len }
 {
-    ((u64::from(first) + u64::from(at) * u64::from(gap)) % (u64::from(cells) * SIDE)) as u32
+    ((u64::from(first) + u64::from(at) * u64::from(gap)) % u64::from(len)) as u32
 }
 
 // the cell of a number in a lattice of so many
@@ -72,12 +71,12 @@ fn number_in(count: [u32; 3], number: u32) -> [u32; 3]
 
 fn site(cells: Cells, first: [u32; 3], gap: [u32; 3], at: [u32; 3]) -> [u32; 3]
     ensures value { result ≡ site cells (triple first) (triple gap) (triple at) }
-    ensures within { IsInBox 4096 cells (triple result) }
+    ensures within { IsInBox cells.side cells.n (triple result) }
 {
-    let [nx, ny, nz] = cells.numbers();
-    let x = site_on(first[0], gap[0], at[0], nx);
-    let y = site_on(first[1], gap[1], at[1], ny);
-    let z = site_on(first[2], gap[2], at[2], nz);
+    let [x_len, y_len, z_len] = extent(cells);
+    let x = site_on(first[0], gap[0], at[0], x_len);
+    let y = site_on(first[1], gap[1], at[1], y_len);
+    let z = site_on(first[2], gap[2], at[2], z_len);
     [x, y, z]
 }
 
@@ -98,7 +97,7 @@ fn load_lattice(
     sites: Sites,
     total: u32,
 ) -> Result<(), NoMemory>
-    requires few { length particles.old.items + total ≤ most_particles }
+    requires few { length particles.old.items + total ≤ most_particles_1 }
     requires some { (k : ℕ) → k < 3 → 1 ≤ slice_index sites.count k }
     ensures value { OnOk result (particles.new.items ≡ particles.old.items
         ++ first_of_species (length particles.old.items) species
@@ -130,7 +129,7 @@ fn load_random(
     drift: [i32; 3],
     spread: [u32; 3],
 ) -> Result<(), NoMemory>
-    requires few { length particles.old.items + total ≤ most_particles }
+    requires few { length particles.old.items + total ≤ most_particles_1 }
     requires spread { IsSpread drift spread }
     ensures value { OnOk result (particles.new.items ≡ particles.old.items
         ++ first_of_species (length particles.old.items) species
@@ -156,15 +155,15 @@ fn load_pair(
     drift: [i32; 3],
     spread: [u32; 3],
 ) -> Result<(), NoMemory>
-    requires few { length particles.old.items + total ≤ most_particles }
+    requires few { length particles.old.items + total ≤ most_particles_1 }
     requires others { start + total ≤ length particles.old.items }
     requires spread { IsSpread drift spread }
     ensures value { OnOk result (particles.new.items ≡ particles.old.items
         ++ first_of_species (length particles.old.items) species
         (λ i. beside (slice_index_or particles.old.items (start + i) no_particle) drift spread
         (after (36 * i) rng.old)) total) }
-    ensures placed { (n : Triple) (m : ℕ) → species < m → All (IsPlaced n m) particles.old.items
-        → OnOk result (All (IsPlaced n m) particles.new.items) }
+    ensures placed { (grid : Grid) (m : ℕ) → species < m → All (IsPlaced grid m) particles.old.items
+        → OnOk result (All (IsPlaced grid m) particles.new.items) }
 {
     for i in 0..total {
         let other = particles[start + i as usize];
@@ -183,7 +182,7 @@ fn load_species(
 ) -> Result<(), NoMemory>
     requires number { length earlier.now < most_species }
     requires count { length particles.old.items ≡ particles_of earlier.now }
-    requires few { particles_of earlier.now + species.now.count ≤ most_particles }
+    requires few { particles_of earlier.now + species.now.count ≤ most_particles_1 }
     requires filled { IsFilled cells earlier.now species.now }
     ensures value { OnOk result (particles.new.items ≡ particles.old.items
         ++ particles_in cells earlier.now particles.old.items species.now) }

@@ -1,9 +1,9 @@
 use Rattle.std.proofs.Common.{◌≡◌, ◌+◌, ◌++◌, ◌<◌, ◌≤◌, List, [], length, take, drop, get_or, ap, sym, ◌∙◌, subst, arith}
 use Rattle.std.specs.List.{All}
 use Rattle.std.proofs.lemmas.List.{take_all, drop_all, length-append, length-take-le, get_or_default}
-use Rattle.pic_num.specs.Space.{Triple}
+use Rattle.pic_grid.specs.Cells.{Grid}
 use Rattle.pic_deck.specs.declared.species.Species.{Species}
-use Rattle.pic_deck.specs.Species.{most_particles, particles_of, IsFilled, AreFilled, no_species}
+use Rattle.pic_deck.specs.Species.{most_particles_1, particles_of, IsFilled, AreFilled, no_species}
 use Rattle.pic_deck.proofs.HeadLaws.{particles_of-heads}
 use Rattle.pic_load.specs.Loading.{loaded_after, loaded, particles_in, IsPlaced}
 use Rattle.pic_load.proofs.LoadLaws.{within_earlier, species_more, count_more, length-particles_in, identities_more}
@@ -15,7 +15,7 @@ load_species-requires-clause-few c =
     let one = c.index-all-number.result in
     let below : c.loop-number.number < length all = omega arith in
     let total = rw (particles_of-heads c.args.deck.now.species) at c.species-all.ensures.limits.heads.total in
-    let few : particles_of all ≤ most_particles = rw c.species-all.ensures.value total in
+    let few : particles_of all ≤ most_particles_1 = rw c.species-all.ensures.value total in
     let room = rw (sym c.index-all-number.is) at (within_earlier all c.loop-number.number one below) in
     omega (arith, room, few)
 
@@ -74,6 +74,6 @@ returns-clause-limits c =
       count = count;
       few = omega (arith, count, total);
       identities = inv.identities;
-      each = subst (λ (m : Triple). All (IsPlaced m (length d.species)) items) c.cells-cells.ensures.value
+      each = subst (λ (m : Grid). All (IsPlaced m (length d.species)) items) c.cells-cells.ensures.value
           (subst (λ (ss : List Species). All (IsPlaced n (length ss)) items) c.species-all.ensures.value inv.placed);
     }

@@ -51,7 +51,7 @@ loop-i-preserved c =
       left = left_more (36 * k) 36 (36 * (k + 1)) g _ _ inv.left c.draw_velocity-own.ensures.left next;
       placed = λ n m kinds placed.
           let here = (inv.placed n m kinds placed (c.args.start + k) no_particle below).place in
-          let place = subst (λ (p : Particle). IsInBox 4096 n (triple p.x))
+          let place = subst (λ (p : Particle). IsInBox n.side n.n (triple p.x))
           (sym (c.index-other.ensures ∙ get_or_default now (c.args.start + k) _ no_particle below)) here in
           placed_more n m now _ _ c.args.species (record { x = c.index-other.result.now.x; v = c.draw_velocity-own.result }) kinds place
           c.draw_velocity-own.ensures.size c.in_ok-add.ensures (inv.placed n m kinds placed);
