@@ -1,12 +1,13 @@
 -- Laws of the charge of the particles.
 use Rattle.std.proofs.Common.{◌≡◌, ℕ, ◌+◌, ◌*◌, ◌^◌, ◌<◌, ◌≤◌, List, [], length, get_or, take, All, inl, inr, refl, sym, ◌∙◌, ap, subst, unsigned_abs, arith}
 use Rattle.std.proofs.Math.IntN.{ℤ, pos, ◌+ℤ◌, ◌*ℤ◌}
+use Rattle.std.proofs.Math.Nat.{le_trans}
 use Rattle.std.proofs.lemmas.Bool.{cases_lt}
 use Rattle.std.proofs.lemmas.Int.{ints, unsigned_abs-mul}
 use Rattle.std.proofs.lemmas.List.{get_or_past}
 use Rattle.pic_num.specs.declared.motion.Particle.{Particle}
 use Rattle.pic_num.specs.declared.motion.Kind.{Kind}
-use Rattle.pic_num.specs.Limits.{most_charge, most_particles}
+use Rattle.pic_num.specs.Limits.{most_charge, most_particles, most_side}
 use Rattle.pic_num.specs.Sizes.{IsAtMost}
 use Rattle.pic_num.proofs.SizeLaws.{times_at_most}
 use Rattle.pic_num.specs.Space.{Triple, triple}
@@ -18,8 +19,12 @@ use Rattle.pic_grid.specs.Species.{IsKind}
 use Rattle.pic_grid.specs.Sums.{sum_over}
 use Rattle.pic_grid.proofs.HatLaws.{hat_most}
 use Rattle.pic_grid.proofs.OverLaws.{sum_over_more, sum_over_bound}
-use Rattle.pic_charge.specs.Charge.{share, charge_of, IsCharged}
+use Rattle.pic_charge.specs.Charge.{share, charge_of, most_node_charge, IsCharged}
 use Rattle.pic_charge.specs.Spread.{NodesAtMost, Adds}
+
+-- a side that was looked up is none too long
+pub short_side : (side sub : ℕ) → sub ≡ side → sub ≤ most_side → side ≤ most_side
+short_side side sub is most = omega (arith, is, most)
 
 -- no particles
 pub charge_of-nil : (side : ℕ) (n : Triple) (kinds : List Kind) (node : Triple) → charge_of side n kinds [] node ≡ pos 0
@@ -79,11 +84,17 @@ unfolding charge_of
 charge_of_size side n kinds xs node limits =
     sum_over_bound (λ x. share side n kinds x node) xs (12 * 2 ^ 15 * (side * side * side)) (λ x. share_size side n kinds x node limits)
 
--- with cells of 4096 sub-cells and no more particles than the limit it is below 2^75
-pub charge_of_most : (n : Triple) (kinds : List Kind) (xs : List Particle) (node : Triple) → All IsCharged kinds → length xs ≤ most_particles
-    → IsAtMost (charge_of 4096 n kinds xs node) (2 ^ 75)
-charge_of_most n kinds xs node limits few =
-    let size = charge_of_size 4096 n kinds xs node limits in record { size = omega (arith, size, few) }
+-- with no longer side and no more particles than the limits it is no larger than that of a node can be
+pub charge_of_most : (side : ℕ) (n : Triple) (kinds : List Kind) (xs : List Particle) (node : Triple) → side ≤ most_side → All IsCharged kinds
+    → length xs ≤ most_particles → IsAtMost (charge_of side n kinds xs node) most_node_charge
+charge_of_most side n kinds xs node short limits few =
+    let size = charge_of_size side n kinds xs node limits in
+    let cube = times_at_most (side * side) side (most_side * most_side) most_side (times_at_most side side most_side most_side short short) short in
+    let each = times_at_most (12 * most_charge) (side * side * side) (12 * most_charge) (most_side * most_side * most_side) (omega arith) cube in
+    record {
+      size = le_trans size
+          (times_at_most (length xs) (12 * most_charge * (side * side * side)) most_particles (12 * most_charge * (most_side * most_side * most_side)) few each);
+    }
 
 -- the nodes hold the charge of particles
 pub record HoldsCharge (side : ℕ) (n : Triple) (kinds : List Kind) (xs : List Particle) (nodes : NodeValues) : Type 0 where
@@ -109,11 +120,10 @@ holds_more side n kinds xs i d old new below so_far added = record {
 }
 
 -- there is room for a particle more
-pub holds_room : (n : Triple) (kinds : List Kind) (xs : List Particle) (nodes : NodeValues) → All IsCharged kinds → length xs ≤ most_particles
-    → HoldsCharge 4096 n kinds xs nodes
-    → NodesAtMost nodes (2 ^ 75)
-holds_room n kinds xs nodes limits few holds = record {
+pub holds_room : (side : ℕ) (n : Triple) (kinds : List Kind) (xs : List Particle) (nodes : NodeValues) → side ≤ most_side → All IsCharged kinds
+    → length xs ≤ most_particles → HoldsCharge side n kinds xs nodes → NodesAtMost nodes most_node_charge
+holds_room side n kinds xs nodes short limits few holds = record {
   at_node = λ p within.
       let inside : IsWithin p n = subst (λ (m : Triple). IsWithin p m) holds.cells within in
-      subst (λ (z : ℤ). IsAtMost z (2 ^ 75)) (sym (holds.values p inside)) (charge_of_most n kinds xs p limits few);
+      subst (λ (z : ℤ). IsAtMost z most_node_charge) (sym (holds.values p inside)) (charge_of_most side n kinds xs p short limits few);
 }

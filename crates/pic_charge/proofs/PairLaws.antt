@@ -1,5 +1,5 @@
 -- The pair of nodes of a point, and the share of a particle by its three pairs.
-use Rattle.std.proofs.Common.{◌≡◌, ℕ, ◌+◌, ◌*◌, ◌^◌, ◌<◌, ◌≤◌, List, unsigned_abs, sym, ◌∙◌, ap, arith}
+use Rattle.std.proofs.Common.{◌≡◌, ℕ, ◌+◌, ◌*◌, ◌^◌, ◌<◌, ◌≤◌, List, unsigned_abs, sym, ◌∙◌, ap, subst, arith}
 use Rattle.std.proofs.Math.IntN.{ℤ, pos, ◌*ℤ◌}
 use Rattle.std.proofs.lemmas.Int.{to_z-of_z, fits_signed_from_abs}
 use mir.Syntax.{w32}
@@ -14,6 +14,11 @@ use Rattle.pic_grid.specs.declared.pair.Pair.{Pair}
 use Rattle.pic_charge.specs.Charge.{share}
 use Rattle.pic_grid.specs.Pair.{weight_in, IsPairOf}
 use Rattle.pic_charge.specs.Spread.{spread}
+
+-- a pair under the side and the number of cells that the code looked up
+pub pair_as : (s side n m point : ℕ) (w : Pair) → s ≡ side → n ≡ m → IsPairOf s n 0 point w → IsPairOf side m 0 point w
+pair_as s side n m point w same cells of =
+    subst (λ (k : ℕ). IsPairOf side k 0 point w) cells (subst (λ (k : ℕ). IsPairOf k n 0 point w) same of)
 
 -- the weight of a point for a node, by its pair
 node_weight : (s n point j : ℕ) (w : Pair) → IsPairOf s n 0 point w → j < n → periodic_hat s (n * s) point (j * s) ≡ weight_in w j

@@ -6,6 +6,7 @@ use mir.Syntax.{w128}
 use mir.Val.{to_z, of_z}
 use Rattle.pic_num.proofs.Ring.{ring, reads}
 use Rattle.pic_num.proofs.SizeLaws.{times_at_most}
+use Rattle.pic_num.specs.Limits.{most_side}
 use Rattle.pic_num.specs.Sizes.{IsAtMost}
 use Rattle.pic_num.specs.Space.{Triple}
 use Rattle.pic_grid.specs.Lattice.{NodeValues, node_at}
@@ -13,7 +14,7 @@ use Rattle.pic_grid.specs.Cells.{IsWithin}
 use Rattle.pic_grid.specs.declared.pair.Pair.{Pair}
 use Rattle.pic_grid.specs.Hat.{only_at}
 use Rattle.pic_grid.specs.Pair.{weight_in, IsPair}
-use Rattle.pic_charge.specs.Spread.{spread, NodesAtMost, Adds}
+use Rattle.pic_charge.specs.Spread.{spread, CanSpread, NodesAtMost, Adds}
 
 -- a lone value is a multiple of a lone 1
 only_is : (i v j : ℕ) → only_at i v j ≡ v * only_at i 1 j
@@ -22,11 +23,18 @@ only_is i v j = elim (eqb j i) as (λ t. cond t v 0 ≡ v * cond t 1 0) [ true �
 pub only_most : (i v j : ℕ) → only_at i v j ≤ v
 only_most i v j = elim (eqb j i) as (λ t. cond t v 0 ≤ v) [ true ↦ omega arith | false ↦ omega arith ]
 
-pub weight_in_most : (side n : ℕ) (s : Pair) (j : ℕ) → IsPair side n s → weight_in s j ≤ side
-weight_in_most side n s j pair =
+pub weight_in_most : (n : ℕ) (s : Pair) (j : ℕ) → CanSpread n s → weight_in s j ≤ most_side
+weight_in_most n s j pair =
     let low = only_most s.low s.low_weight j in
     let high = only_most s.high s.high_weight j in
-    let whole = pair.whole in omega (arith, low, high, whole)
+    let most = pair.most in omega (arith, low, high, most)
+
+-- the pair of a point on an axis, under a side that is none too long
+pub can_spread : (side n m : ℕ) (s : Pair) → IsPair side n s → n ≡ m → side ≤ most_side → CanSpread m s
+can_spread side n m s pair same most =
+    let low = pair.low in
+    let high = pair.high in
+    let whole = pair.whole in record { low = omega (arith, low, same); high = omega (arith, high, same); most = omega (arith, whole, most) }
 
 weight_in_is : (s : Pair) (j : ℕ) → s.low_weight * only_at s.low 1 j + s.high_weight * only_at s.high 1 j ≡ weight_in s j
 weight_in_is s j = λ i. sym (only_is s.low s.low_weight j) i + sym (only_is s.high s.high_weight j) i
@@ -109,33 +117,33 @@ still_at_most nodes m k small more = record {
 }
 
 -- what the code passes on of a number that is small
-pub kept_is : (r : ℤ) → IsAtMost r (2 ^ 55) → to_z w128 (of_z w128 r) ≡ r
+pub kept_is : (r : ℤ) → IsAtMost r (2 ^ 61) → to_z w128 (of_z w128 r) ≡ r
 kept_is r small = let size = small.size in to_z-of_z w128 r (fits_signed_from_abs w128 r (omega (arith, size)))
 
 -- a part of an amount, as the code passes it on
 pub record IsShare (amount r : ℤ) (weight most : ℕ) : Type 0 where
   pub is : to_z w128 (of_z w128 r) ≡ amount *ℤ pos weight
-  pub size : IsAtMost (to_z w128 (of_z w128 r)) (most * 4096)
+  pub size : IsAtMost (to_z w128 (of_z w128 r)) (most * most_side)
 
-share_of : (amount r : ℤ) (weight most : ℕ) → weight ≤ 4096 → IsAtMost amount most → most ≤ 2 ^ 43
+share_of : (amount r : ℤ) (weight most : ℕ) → weight ≤ most_side → IsAtMost amount most → most ≤ 2 ^ 47
     → r ≡ to_z w128 (of_z w128 amount) *ℤ pos weight → IsShare amount r weight most
 share_of amount r weight most light small low is =
     let size = small.size in
     let plain : r ≡ amount *ℤ pos weight
     = is ∙ ap (λ (t : ℤ). t *ℤ pos weight) (kept_is amount (record { size = omega (arith, size, low) })) in
-    let product : unsigned_abs (amount *ℤ pos weight) ≤ most * 4096
-    = rw (unsigned_abs-mul amount (pos weight)) (times_at_most (unsigned_abs amount) weight most 4096 size light) in
-    let sized : unsigned_abs r ≤ most * 4096 = subst (λ (z : ℤ). unsigned_abs z ≤ most * 4096) (sym plain) product in
+    let product : unsigned_abs (amount *ℤ pos weight) ≤ most * most_side
+    = rw (unsigned_abs-mul amount (pos weight)) (times_at_most (unsigned_abs amount) weight most most_side size light) in
+    let sized : unsigned_abs r ≤ most * most_side = subst (λ (z : ℤ). unsigned_abs z ≤ most * most_side) (sym plain) product in
     let kept : to_z w128 (of_z w128 r) ≡ r = kept_is r (record { size = omega (arith, sized, low) }) in
-    record { is = kept ∙ plain; size = subst (λ (z : ℤ). IsAtMost z (most * 4096)) (sym kept) (record { size = sized }) }
+    record { is = kept ∙ plain; size = subst (λ (z : ℤ). IsAtMost z (most * most_side)) (sym kept) (record { size = sized }) }
 
-pub low_share : (n most : ℕ) (amount r : ℤ) (s : Pair) → IsPair 4096 n s → IsAtMost amount most → most ≤ 2 ^ 43
+pub low_share : (n most : ℕ) (amount r : ℤ) (s : Pair) → CanSpread n s → IsAtMost amount most → most ≤ 2 ^ 47
     → r ≡ to_z w128 (of_z w128 amount) *ℤ pos s.low_weight → IsShare amount r s.low_weight most
-low_share n most amount r s pair = let whole = pair.whole in share_of amount r s.low_weight most (omega (arith, whole))
+low_share n most amount r s pair = let least = pair.most in share_of amount r s.low_weight most (omega (arith, least))
 
-pub high_share : (n most : ℕ) (amount r : ℤ) (s : Pair) → IsPair 4096 n s → IsAtMost amount most → most ≤ 2 ^ 43
+pub high_share : (n most : ℕ) (amount r : ℤ) (s : Pair) → CanSpread n s → IsAtMost amount most → most ≤ 2 ^ 47
     → r ≡ to_z w128 (of_z w128 amount) *ℤ pos s.high_weight → IsShare amount r s.high_weight most
-high_share n most amount r s pair = let whole = pair.whole in share_of amount r s.high_weight most (omega (arith, whole))
+high_share n most amount r s pair = let least = pair.most in share_of amount r s.high_weight most (omega (arith, least))
 
 -- two parts that are added one after the other, on each axis
 module _ (a b c : NodeValues) (amount r t : ℤ) (s : Pair) (most : ℕ) (low : IsShare amount r s.low_weight most) (high : IsShare amount t s.high_weight most)

@@ -1,10 +1,10 @@
 -- The charge of the particles at the nodes, by linear weights (first order, "cloud in cell": Birdsall
 -- and Langdon, "Plasma Physics via Computer Simulation"). All charges are taken 12 times, so that
 -- the flux of a straight segment is a whole number too: this project's profile.
-use Rattle.std.specs.Prelude.{ℤ, pos, ℕ, ◌*ℤ◌, List}
+use Rattle.std.specs.Prelude.{ℤ, pos, ℕ, ◌*◌, ◌*ℤ◌, List}
 use Rattle.pic_num.specs.declared.motion.Particle.{Particle}
 use Rattle.pic_num.specs.declared.motion.Kind.{Kind}
-use Rattle.pic_num.specs.Limits.{most_charge}
+use Rattle.pic_num.specs.Limits.{most_charge, most_particles, most_side}
 use Rattle.pic_num.specs.Sizes.{IsAtMost}
 use Rattle.pic_num.specs.Space.{Triple, triple}
 use Rattle.pic_grid.specs.Hat.{weight}
@@ -23,3 +23,7 @@ IsCharged k = IsAtMost k.charge most_charge
 -- the charge of a node: what all particles add to it
 unfoldable pub charge_of : ℕ → Triple → List Kind → List Particle → Triple → ℤ
 charge_of side n kinds particles node = sum_over (λ particle. share side n kinds particle node) particles
+
+-- how large it can be: below 2^83
+abbrev pub most_node_charge : ℕ
+most_node_charge = most_particles * (12 * most_charge * (most_side * most_side * most_side))

@@ -2,6 +2,7 @@
 
 ghost use Rattle.std.specs.Prelude.{◌≡◌, ◌↔◌, ◌^◌, ◌<◌, ◌≤◌, ◌+◌, ◌-◌, ◌%◌, ◌-ℤ◌, None, IfSome};
 ghost use Rattle.pic_num.specs.declared.axis.Axis.{Axis as AxisName};
+ghost use Rattle.pic_num.specs.Limits.{most_value};
 ghost use Rattle.pic_num.specs.Sizes.{IsAtMost};
 ghost use Rattle.pic_num.specs.Space.{Triple, triple};
 ghost use Rattle.pic_grid.specs.Differences.{div_e, down};
@@ -23,12 +24,12 @@ pub struct Break {
 /// The least node, x fastest, where the divergence of `e` and the number in `rho` differ, or `None`
 /// where they agree at every node: Gauss's law, where `rho` holds the charge.
 pub fn gauss(cells: Cells, e: &Lattice, rho: &Nodes) -> Option<Break>
-    requires e_cells { e.now.cells ≡ cells }
-    requires rho_cells { rho.now.cells ≡ cells }
-    requires e_most { (a : AxisName) (p : Triple) → IsWithin p cells → IsAtMost (value_at e.now a p) (2 ^ 90) }
-    ensures value { result ≡ first_break cells (div_e cells (value_at e.now)) (node_at rho.now) }
-    ensures none { (result ≡ None) ↔ Agree cells (div_e cells (value_at e.now)) (node_at rho.now) }
-    ensures least { IfSome result (IsLeastBreak cells (div_e cells (value_at e.now)) (node_at rho.now)) }
+    requires e_cells { e.now.cells ≡ cells.n }
+    requires rho_cells { rho.now.cells ≡ cells.n }
+    requires e_most { (a : AxisName) (p : Triple) → IsWithin p cells.n → IsAtMost (value_at e.now a p) most_value }
+    ensures value { result ≡ first_break cells.n (div_e cells.n (value_at e.now)) (node_at rho.now) }
+    ensures none { (result ≡ None) ↔ Agree cells.n (div_e cells.n (value_at e.now)) (node_at rho.now) }
+    ensures least { IfSome result (IsLeastBreak cells.n (div_e cells.n (value_at e.now)) (node_at rho.now)) }
 {
     for index in 0..cells.count() {
         let found = difference(cells, e, rho, cells.cell_at(index as usize));
@@ -42,11 +43,11 @@ pub fn gauss(cells: Cells, e: &Lattice, rho: &Nodes) -> Option<Break>
 /// The break at `node`, if there is one.
 #[tactic(auto, unfolding(crate::specs::Gauss::difference_at))]
 fn difference(cells: Cells, e: &Lattice, rho: &Nodes, node: [u32; 3]) -> Option<Break>
-    requires e_cells { e.now.cells ≡ cells }
-    requires rho_cells { rho.now.cells ≡ cells }
-    requires e_most { (a : AxisName) (p : Triple) → IsWithin p cells → IsAtMost (value_at e.now a p) (2 ^ 90) }
-    requires within { IsWithin (triple node) cells }
-    ensures { result ≡ difference_at (div_e cells (value_at e.now)) (node_at rho.now) (triple node) }
+    requires e_cells { e.now.cells ≡ cells.n }
+    requires rho_cells { rho.now.cells ≡ cells.n }
+    requires e_most { (a : AxisName) (p : Triple) → IsWithin p cells.n → IsAtMost (value_at e.now a p) most_value }
+    requires within { IsWithin (triple node) cells.n }
+    ensures { result ≡ difference_at (div_e cells.n (value_at e.now)) (node_at rho.now) (triple node) }
 {
     let div = divergence(cells, e, node);
     let rho = rho.at(node);
@@ -63,10 +64,10 @@ fn difference(cells: Cells, e: &Lattice, rho: &Nodes, node: [u32; 3]) -> Option<
 
 /// The divergence of E at `node`.
 fn divergence(cells: Cells, e: &Lattice, node: [u32; 3]) -> i128
-    requires e_cells { e.now.cells ≡ cells }
-    requires e_most { (a : AxisName) (p : Triple) → IsWithin p cells → IsAtMost (value_at e.now a p) (2 ^ 90) }
-    requires within { IsWithin (triple node) cells }
-    ensures { result ≡ div_e cells (value_at e.now) (triple node) }
+    requires e_cells { e.now.cells ≡ cells.n }
+    requires e_most { (a : AxisName) (p : Triple) → IsWithin p cells.n → IsAtMost (value_at e.now a p) most_value }
+    requires within { IsWithin (triple node) cells.n }
+    ensures { result ≡ div_e cells.n (value_at e.now) (triple node) }
 {
     let along_x = outflow(cells, e, Axis::X, node);
     let along_y = outflow(cells, e, Axis::Y, node);
@@ -76,10 +77,10 @@ fn divergence(cells: Cells, e: &Lattice, node: [u32; 3]) -> i128
 
 /// What leaves `node` along an axis, less what comes in.
 fn outflow(cells: Cells, e: &Lattice, axis: Axis, node: [u32; 3]) -> i128
-    requires e_cells { e.now.cells ≡ cells }
-    requires e_most { (a : AxisName) (p : Triple) → IsWithin p cells → IsAtMost (value_at e.now a p) (2 ^ 90) }
-    requires within { IsWithin (triple node) cells }
-    ensures value { result ≡ value_at e.now axis (triple node) -ℤ value_at e.now axis (down cells axis (triple node)) }
+    requires e_cells { e.now.cells ≡ cells.n }
+    requires e_most { (a : AxisName) (p : Triple) → IsWithin p cells.n → IsAtMost (value_at e.now a p) most_value }
+    requires within { IsWithin (triple node) cells.n }
+    ensures value { result ≡ value_at e.now axis (triple node) -ℤ value_at e.now axis (down cells.n axis (triple node)) }
     ensures size { IsAtMost result (2 ^ 91) }
 {
     e.at(axis, node) - e.at(axis, cells.down(axis, node))

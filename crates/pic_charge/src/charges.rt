@@ -1,13 +1,13 @@
 //! The charge of the particles at the nodes.
 
 ghost use Rattle.std.specs.Prelude.{◌≡◌, pos, ◌^◌, ◌≤◌, ◌*ℤ◌, All, length};
-ghost use Rattle.pic_num.specs.Limits.{most_particles};
+ghost use Rattle.pic_num.specs.Limits.{most_charge, most_particles};
 ghost use Rattle.pic_num.specs.Sizes.{IsAtMost};
 ghost use Rattle.pic_num.specs.Space.{Triple};
 ghost use Rattle.pic_grid.specs.Lattice.{node_at};
 ghost use Rattle.pic_grid.specs.Cells.{IsWithin};
 ghost use Rattle.pic_grid.specs.PushPhase.{CanShare};
-ghost use Rattle.pic_charge.specs.Charge.{share, charge_of, IsCharged};
+ghost use Rattle.pic_charge.specs.Charge.{share, charge_of, most_node_charge, IsCharged};
 ghost use Rattle.pic_charge.specs.Spread.{NodesAtMost, Adds};
 
 use crate::spread::add_box;
@@ -19,14 +19,16 @@ use pic_num::{Kind, Particle};
 /// Physics via Computer Simulation". The nodes have these cells, each particle has one of the kinds as
 /// its species and a position in the box, and charges and particles are within their limits.
 pub fn charge(cells: Cells, kinds: &[Kind], particles: &[Particle], to: &mut Nodes)
-    requires same_cells { to.old.cells ≡ cells }
+    requires same_cells { to.old.cells ≡ cells.n }
     requires limits { All IsCharged kinds.now }
-    requires placed { All (CanShare 4096 cells kinds.now) particles.now }
+    requires placed { All (CanShare cells.side cells.n kinds.now) particles.now }
     requires few { length particles.now ≤ most_particles }
-    ensures same_cells { to.new.cells ≡ cells }
-    ensures values { (p : Triple) → IsWithin p cells → node_at to.new p ≡ charge_of 4096 cells kinds.now particles.now p }
-    ensures size { (p : Triple) → IsWithin p cells → IsAtMost (node_at to.new p) (2 ^ 75) }
+    ensures same_cells { to.new.cells ≡ cells.n }
+    ensures values { (p : Triple) → IsWithin p cells.n → node_at to.new p ≡ charge_of cells.side cells.n kinds.now particles.now p }
+    ensures size { (p : Triple) → IsWithin p cells.n → IsAtMost (node_at to.new p) most_node_charge }
 {
+    let sub = cells.sub();
+    let _side = sub.side();
     clear(cells, to);
     for particle in particles {
         add_particle(cells, kinds, particle, to);
@@ -35,9 +37,9 @@ pub fn charge(cells: Cells, kinds: &[Kind], particles: &[Particle], to: &mut Nod
 
 /// Makes every node 0.
 fn clear(cells: Cells, to: &mut Nodes)
-    requires { to.old.cells ≡ cells }
-    ensures same_cells { to.new.cells ≡ cells }
-    ensures values { (p : Triple) → IsWithin p cells → node_at to.new p ≡ pos 0 }
+    requires { to.old.cells ≡ cells.n }
+    ensures same_cells { to.new.cells ≡ cells.n }
+    ensures values { (p : Triple) → IsWithin p cells.n → node_at to.new p ≡ pos 0 }
 {
     for index in 0..cells.count() {
         to.set(cells.cell_at(index as usize), 0);
@@ -46,25 +48,27 @@ fn clear(cells: Cells, to: &mut Nodes)
 
 /// Adds a particle's share to every node.
 fn add_particle(cells: Cells, kinds: &[Kind], particle: &Particle, to: &mut Nodes)
-    requires same_cells { to.old.cells ≡ cells }
+    requires same_cells { to.old.cells ≡ cells.n }
     requires limits { All IsCharged kinds.now }
-    requires placed { CanShare 4096 cells kinds.now particle.now }
+    requires placed { CanShare cells.side cells.n kinds.now particle.now }
     requires room { NodesAtMost to.old (2 ^ 87) }
-    ensures { Adds to.old to.new (share 4096 cells kinds.now particle.now) }
+    ensures { Adds to.old to.new (share cells.side cells.n kinds.now particle.now) }
 {
     let kind = kinds[particle.species as usize];
-    let [nx, ny, nz] = cells.n;
+    let sub = cells.sub();
+    let _side = sub.side();
+    let [nx, ny, nz] = cells.numbers();
     let [x, y, z] = particle.x;
     let amount = twelvefold(kind.charge);
-    let on_x = Pair::of_nodes(nx, x);
-    let on_y = Pair::of_nodes(ny, y);
-    let on_z = Pair::of_nodes(nz, z);
+    let on_x = Pair::of_nodes(sub, nx, x);
+    let on_y = Pair::of_nodes(sub, ny, y);
+    let on_z = Pair::of_nodes(sub, nz, z);
     add_box(to, on_x, on_y, on_z, amount);
 }
 
 /// 12 times a charge.
 fn twelvefold(charge: i32) -> i128
-    requires { IsAtMost charge (2 ^ 15) }
+    requires { IsAtMost charge most_charge }
     ensures value { result ≡ pos 12 *ℤ charge }
     ensures size { IsAtMost result (2 ^ 19) }
 {

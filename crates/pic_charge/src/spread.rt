@@ -1,10 +1,11 @@
 //! How an amount is shared by the eight nodes round a point.
 
 ghost use Rattle.std.specs.Prelude.{◌≡◌, pos, ◌^◌, ◌<◌, ◌≤◌, ◌*ℤ◌};
+ghost use Rattle.pic_num.specs.Limits.{most_side};
 ghost use Rattle.pic_num.specs.Sizes.{IsAtMost};
 ghost use Rattle.pic_grid.specs.Hat.{only_at};
-ghost use Rattle.pic_grid.specs.Pair.{weight_in, IsPair};
-ghost use Rattle.pic_charge.specs.Spread.{spread, NodesAtMost, Adds};
+ghost use Rattle.pic_grid.specs.Pair.{weight_in};
+ghost use Rattle.pic_charge.specs.Spread.{spread, CanSpread, NodesAtMost, Adds};
 
 use pic_grid::{Nodes, Pair};
 
@@ -14,7 +15,7 @@ fn add(to: &mut Nodes, x: u32, y: u32, z: u32, amount: i128)
     requires y { y < to.old.cells.y }
     requires z { z < to.old.cells.z }
     requires room { NodesAtMost to.old (2 ^ 90) }
-    requires size { IsAtMost amount (2 ^ 55) }
+    requires size { IsAtMost amount (2 ^ 61) }
     ensures { Adds to.old to.new (spread amount (only_at x 1) (only_at y 1) (only_at z 1)) }
 {
     let node = [x, y, z];
@@ -24,11 +25,11 @@ fn add(to: &mut Nodes, x: u32, y: u32, z: u32, amount: i128)
 
 /// Shares an amount between the two nodes of a line along x.
 fn add_line(to: &mut Nodes, x: Pair, y: u32, z: u32, amount: i128)
-    requires x { IsPair 4096 to.old.cells.x x }
+    requires x { CanSpread to.old.cells.x x }
     requires y { y < to.old.cells.y }
     requires z { z < to.old.cells.z }
     requires room { NodesAtMost to.old (2 ^ 89) }
-    requires size { IsAtMost amount (2 ^ 43) }
+    requires size { IsAtMost amount (2 ^ 47) }
     ensures { Adds to.old to.new (spread amount (weight_in x) (only_at y 1) (only_at z 1)) }
 {
     add(to, x.low, y, z, times(amount, x.low_weight));
@@ -37,11 +38,11 @@ fn add_line(to: &mut Nodes, x: Pair, y: u32, z: u32, amount: i128)
 
 /// Shares an amount between the two lines of a plane across z.
 fn add_plane(to: &mut Nodes, x: Pair, y: Pair, z: u32, amount: i128)
-    requires x { IsPair 4096 to.old.cells.x x }
-    requires y { IsPair 4096 to.old.cells.y y }
+    requires x { CanSpread to.old.cells.x x }
+    requires y { CanSpread to.old.cells.y y }
     requires z { z < to.old.cells.z }
     requires room { NodesAtMost to.old (2 ^ 88) }
-    requires size { IsAtMost amount (2 ^ 31) }
+    requires size { IsAtMost amount (2 ^ 33) }
     ensures { Adds to.old to.new (spread amount (weight_in x) (weight_in y) (only_at z 1)) }
 {
     add_line(to, x, y.low, z, times(amount, y.low_weight));
@@ -50,9 +51,9 @@ fn add_plane(to: &mut Nodes, x: Pair, y: Pair, z: u32, amount: i128)
 
 /// Shares an amount between the two planes of a box of eight nodes.
 pub(crate) fn add_box(to: &mut Nodes, x: Pair, y: Pair, z: Pair, amount: i128)
-    requires x { IsPair 4096 to.old.cells.x x }
-    requires y { IsPair 4096 to.old.cells.y y }
-    requires z { IsPair 4096 to.old.cells.z z }
+    requires x { CanSpread to.old.cells.x x }
+    requires y { CanSpread to.old.cells.y y }
+    requires z { CanSpread to.old.cells.z z }
     requires room { NodesAtMost to.old (2 ^ 87) }
     requires size { IsAtMost amount (2 ^ 19) }
     ensures { Adds to.old to.new (spread amount (weight_in x) (weight_in y) (weight_in z)) }
@@ -63,8 +64,8 @@ pub(crate) fn add_box(to: &mut Nodes, x: Pair, y: Pair, z: Pair, amount: i128)
 
 /// An amount times a weight.
 fn times(amount: i128, weight: u32) -> i128
-    requires amount_most { IsAtMost amount (2 ^ 43) }
-    requires weight_most { weight ≤ 4096 }
+    requires amount_most { IsAtMost amount (2 ^ 47) }
+    requires weight_most { weight ≤ most_side }
     ensures { result ≡ amount *ℤ pos weight }
 {
     amount * i128::from(weight)

@@ -1,8 +1,8 @@
 //! Tests of the charge and of Gauss's law on worked numbers.
 
-ghost use Rattle.std.specs.Prelude.{◌≡◌, ◌^◌, ◌<◌, IfOk};
+ghost use Rattle.std.specs.Prelude.{◌≡◌, ◌<◌, IsTrue, IfOk};
 ghost use Rattle.pic_num.specs.declared.axis.Axis.{Axis as AxisName};
-ghost use Rattle.pic_num.specs.Limits.{most_charge};
+ghost use Rattle.pic_num.specs.Limits.{most_charge, most_value};
 ghost use Rattle.pic_num.specs.Sizes.{IsAtMost};
 ghost use Rattle.pic_num.specs.Space.{Triple, triple};
 ghost use Rattle.pic_grid.specs.Lattice.{value_at};
@@ -12,7 +12,7 @@ ghost use Rattle.pic_charge.specs.Charge.{IsCharged};
 
 use super::*;
 use pic_grid::{Cells, Lattice, Nodes, slow_weight};
-use pic_num::{Axis, Kind, Mult, NoMemory, Particle};
+use pic_num::{Axis, Kind, Mult, NoMemory, Particle, Sub};
 use std::alloc::Global;
 
 fn kind(charge: i32) -> Kind
@@ -40,23 +40,33 @@ fn at(species: u8, x: [u32; 3]) -> Particle
     }
 }
 
-// the charge of a particle of charge 1 (species 0) or -1 (species 1)
-fn charge_one(species: u8, x: [u32; 3], nodes: &mut Nodes)
-    requires species { species < 2 }
-    requires place { IsInBox 4096 nodes.old.cells (triple x) }
-    ensures { nodes.new.cells ≡ nodes.old.cells }
+// whether a position lies in the box
+fn is_in_box(cells: Cells, point: [u32; 3]) -> bool
+    ensures { IsTrue result → IsInBox cells.side cells.n (triple point) }
 {
-    let cells = nodes.cells();
+    let side = cells.sub().side();
+    let [nx, ny, nz] = cells.numbers();
+    let [x, y, z] = point;
+    x < nx * side && y < ny * side && z < nz * side
+}
+
+// the charge of a particle of charge 1 (species 0) or -1 (species 1)
+fn charge_one(cells: Cells, species: u8, x: [u32; 3], nodes: &mut Nodes)
+    requires cells { nodes.old.cells ≡ cells.n }
+    requires species { species < 2 }
+    requires place { IsInBox cells.side cells.n (triple x) }
+    ensures { nodes.new.cells ≡ cells.n }
+{
     charge(cells, &[kind(1), kind(-1)], &[at(species, x)], nodes);
 }
 
 // the charge of a particle of charge 1 and one of charge -1
-fn charge_two(first: [u32; 3], second: [u32; 3], nodes: &mut Nodes)
-    requires first { IsInBox 4096 nodes.old.cells (triple first) }
-    requires second { IsInBox 4096 nodes.old.cells (triple second) }
-    ensures { nodes.new.cells ≡ nodes.old.cells }
+fn charge_two(cells: Cells, first: [u32; 3], second: [u32; 3], nodes: &mut Nodes)
+    requires cells { nodes.old.cells ≡ cells.n }
+    requires first { IsInBox cells.side cells.n (triple first) }
+    requires second { IsInBox cells.side cells.n (triple second) }
+    ensures { nodes.new.cells ≡ cells.n }
 {
-    let cells = nodes.cells();
     charge(
         cells,
         &[kind(1), kind(-1)],
@@ -67,23 +77,34 @@ fn charge_two(first: [u32; 3], second: [u32; 3], nodes: &mut Nodes)
 
 #[test]
 fn a_charge_is_shared_by_eight_nodes(rt: HostRuntime) -> Result<(), NoMemory> {
-    let cells = Cells::new([2, 2, 2]);
     let whole = 824633720832;
     let cases = [
-        (0, [0, 0, 0], [whole, 0, 0, 0, 0, 0, 0, 0]),
-        (1, [0, 0, 0], [-whole, 0, 0, 0, 0, 0, 0, 0]),
-        (0, [2048, 2048, 2048], [103079215104; 8]),
+        (12, 0, [0, 0, 0], [whole, 0, 0, 0, 0, 0, 0, 0]),
+        (12, 1, [0, 0, 0], [-whole, 0, 0, 0, 0, 0, 0, 0]),
+        (12, 0, [2048, 2048, 2048], [103079215104; 8]),
         (
+            12,
             0,
             [8191, 0, 4096],
             [0, 0, 0, 0, 824432394240, 201326592, 0, 0],
         ),
+        (8, 0, [0, 0, 0], [201326592, 0, 0, 0, 0, 0, 0, 0]),
+        (8, 0, [0, 384, 0], [100663296, 0, 100663296, 0, 0, 0, 0, 0]),
+        (14, 0, [0, 0, 0], [52776558133248, 0, 0, 0, 0, 0, 0, 0]),
+        (
+            14,
+            1,
+            [16385, 0, 0],
+            [-3221225472, -52773336907776, 0, 0, 0, 0, 0, 0],
+        ),
     ];
-    for (species, x, shares) in cases {
-        assert!(rt; species < 2 && x[0] < 8192 && x[1] < 8192 && x[2] < 8192);
+    for (bits, species, x, shares) in cases {
+        assert!(rt; bits >= Sub::FEWEST_BITS && bits <= Sub::MOST_BITS && species < 2);
+        let cells = Cells::new([2, 2, 2], Sub::of_bits(bits));
+        assert!(rt; is_in_box(cells, x));
         let mut nodes = Nodes::new(rt.alloc(), cells)?;
         nodes.set([1, 1, 0], 99);
-        charge_one(species, x, &mut nodes);
+        charge_one(cells, species, x, &mut nodes);
         for index in 0..8 {
             assert_eq!(rt;
                 nodes.at(cells.cell_at(index)),
@@ -97,15 +118,14 @@ fn a_charge_is_shared_by_eight_nodes(rt: HostRuntime) -> Result<(), NoMemory> {
 
 #[test]
 fn a_share_is_twelve_times_the_weight_by_distance(rt: HostRuntime) -> Result<(), NoMemory> {
-    let n = [2, 3, 4];
-    let cells = Cells::new(n);
+    let cells = Cells::new([2, 3, 4], Sub::of_bits(12));
     for x in [[0, 0, 0], [8191, 12287, 16383], [4096, 5000, 9999]] {
-        assert!(rt; x[0] < 8192 && x[1] < 12288 && x[2] < 16384);
+        assert!(rt; is_in_box(cells, x));
         let mut nodes = Nodes::new(rt.alloc(), cells)?;
-        charge_one(0, x, &mut nodes);
+        charge_one(cells, 0, x, &mut nodes);
         for index in 0..24 {
             let node = cells.cell_at(index);
-            let weight = slow_weight(4096, n, x, node);
+            let weight = slow_weight(4096, [2, 3, 4], x, node);
             assert_eq!(rt; nodes.at(node), 12 * i128::from(weight), "{x:?} {node:?}");
         }
     }
@@ -114,9 +134,9 @@ fn a_share_is_twelve_times_the_weight_by_distance(rt: HostRuntime) -> Result<(),
 
 #[test]
 fn two_charges_at_one_place_are_none(rt: HostRuntime) -> Result<(), NoMemory> {
-    let cells = Cells::new([2, 2, 2]);
+    let cells = Cells::new([2, 2, 2], Sub::of_bits(12));
     let mut nodes = Nodes::new(rt.alloc(), cells)?;
-    charge_two([5000, 100, 7], [5000, 100, 7], &mut nodes);
+    charge_two(cells, [5000, 100, 7], [5000, 100, 7], &mut nodes);
     for index in 0..8 {
         assert_eq!(rt; nodes.at(cells.cell_at(index)), 0);
     }
@@ -131,10 +151,10 @@ fn lone(
     cell: [u32; 3],
     value: i128,
 ) -> Result<Lattice, NoMemory>
-    requires within { IsWithin (triple cell) cells }
-    requires size { IsAtMost value (2 ^ 90) }
-    ensures same_cells { IfOk result (λ e. e.cells ≡ cells) }
-    ensures most { IfOk result (λ e. (a : AxisName) (p : Triple) → IsWithin p cells → IsAtMost (value_at e a p) (2 ^ 90)) }
+    requires within { IsWithin (triple cell) cells.n }
+    requires size { IsAtMost value most_value }
+    ensures same_cells { IfOk result (λ e. e.cells ≡ cells.n) }
+    ensures most { IfOk result (λ e. (a : AxisName) (p : Triple) → IsWithin p cells.n → IsAtMost (value_at e a p) most_value) }
 {
     let mut e = Lattice::new(alloc, cells, [1; 3])?;
     e.set(axis, cell, value);
@@ -143,7 +163,7 @@ fn lone(
 
 #[test]
 fn the_least_node_is_named(rt: HostRuntime) -> Result<(), NoMemory> {
-    let cells = Cells::new([2, 2, 2]);
+    let cells = Cells::new([2, 2, 2], Sub::of_bits(12));
     let rho = Nodes::new(rt.alloc(), cells)?;
     let e = lone(rt.alloc(), cells, Axis::Z, [1, 1, 1], 5)?;
     let found = Break {
@@ -157,10 +177,10 @@ fn the_least_node_is_named(rt: HostRuntime) -> Result<(), NoMemory> {
 
 #[test]
 fn an_ion_alone_breaks_the_law(rt: HostRuntime) -> Result<(), NoMemory> {
-    let cells = Cells::new([4, 4, 4]);
+    let cells = Cells::new([4, 4, 4], Sub::of_bits(12));
     let mut rho = Nodes::new(rt.alloc(), cells)?;
     let e = lone(rt.alloc(), cells, Axis::X, [0, 0, 0], 0)?;
-    charge_one(0, [1024, 0, 0], &mut rho);
+    charge_one(cells, 0, [1024, 0, 0], &mut rho);
     let found = Break {
         node: [0, 0, 0],
         div: 0,
@@ -172,9 +192,9 @@ fn an_ion_alone_breaks_the_law(rt: HostRuntime) -> Result<(), NoMemory> {
 
 #[test]
 fn two_charges_want_their_field(rt: HostRuntime) -> Result<(), NoMemory> {
-    let cells = Cells::new([4, 4, 4]);
+    let cells = Cells::new([4, 4, 4], Sub::of_bits(12));
     let mut rho = Nodes::new(rt.alloc(), cells)?;
-    charge_two([1024, 0, 0], [3072, 0, 0], &mut rho);
+    charge_two(cells, [1024, 0, 0], [3072, 0, 0], &mut rho);
     for (value, found) in [(0, false), (412316860416, true)] {
         let e = lone(rt.alloc(), cells, Axis::X, [0, 0, 0], value)?;
         assert_eq!(rt; gauss(cells, &e, &rho).is_none(), found, "{value}");

@@ -3,4 +3,4 @@ use Rattle.std.proofs.Common.{take}
 use Rattle.pic_charge.proofs.charges.charge.Given as goal
 
 abbrev pub invariant-loop-particle : goal.invariant-loop-particle
-invariant-loop-particle l = HoldsCharge 4096 l.cells l.kinds (take l.particle-index l.particles) l.to
+invariant-loop-particle l = HoldsCharge l.cells.side l.cells.n l.kinds (take l.particle-index l.particles) l.to

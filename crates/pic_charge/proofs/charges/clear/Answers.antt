@@ -8,15 +8,15 @@ pub set-requires : goal.set-requires
 set-requires c = subst (λ (n : Triple). IsWithin (triple c.cell_at.result) n) (sym c.loop-index.invariant.cells) c.cell_at.ensures.within
 
 pub loop-index-init : goal.loop-index-init
-loop-index-init c = cleared_none c.args.cells c.args.to.now c.requires
+loop-index-init c = cleared_none c.args.cells.n c.args.to.now c.requires
 
 pub loop-index-preserved : goal.loop-index-preserved
 loop-index-preserved c =
-    cleared_more c.args.cells c.loop-index.to c.set.new.self c.loop-index.index (triple c.cell_at.result) c.loop-index.invariant
+    cleared_more c.args.cells.n c.loop-index.to c.set.new.self c.loop-index.index (triple c.cell_at.result) c.loop-index.invariant
     c.set.ensures.after c.set.ensures.stored c.cell_at.ensures.number c.cell_at.ensures.within
 
 pub returns : goal.returns
 returns c = record {
   same_cells = c.loop-index.invariant.cells;
-  values = cleared_all c.args.cells c.loop-index.to c.loop-index.index c.loop-index.invariant (omega (arith, c.loop-index-test.false, c.loop-index.auto.index-end, c.count-index-end.ensures.value));
+  values = cleared_all c.args.cells.n c.loop-index.to c.loop-index.index c.loop-index.invariant (omega (arith, c.loop-index-test.false, c.loop-index.auto.index-end, c.count-index-end.ensures.value));
 }

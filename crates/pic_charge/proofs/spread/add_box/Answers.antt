@@ -1,4 +1,5 @@
 use Rattle.std.proofs.Common.{◌*◌, ◌^◌, lit≤}
+use Rattle.pic_num.specs.Limits.{most_side}
 use Rattle.pic_grid.specs.Hat.{only_at}
 use Rattle.pic_grid.specs.Pair.{weight_in}
 use Rattle.pic_charge.proofs.SpreadLaws.{only_most, weight_in_most, spread_size, room_after, low_share, high_share, box_added}
@@ -16,9 +17,9 @@ pub add_plane-requires-2-clause-room : goal.add_plane-requires-2-clause-room
 add_plane-requires-2-clause-room c =
     let s = c.args.z in
     let low = low_share _ (2 ^ 19) c.args.amount c.times.result s c.requires.z c.requires.size (lit≤ tt) c.times.ensures in
-    room_after c.args.to.now _ _ (2 ^ 87) (2 ^ 55) (2 ^ 88) c.requires.room c.add_plane.ensures
-    (λ p. spread_size _ (weight_in c.args.x) (weight_in c.args.y) (only_at s.low 1) p (2 ^ 19 * 4096) 4096 4096 1 low.size
-    (weight_in_most 4096 _ c.args.x p.x c.requires.x) (weight_in_most 4096 _ c.args.y p.y c.requires.y) (only_most s.low 1 p.z))
+    room_after c.args.to.now _ _ (2 ^ 87) (2 ^ 61) (2 ^ 88) c.requires.room c.add_plane.ensures
+    (λ p. spread_size _ (weight_in c.args.x) (weight_in c.args.y) (only_at s.low 1) p (2 ^ 19 * most_side) most_side most_side 1 low.size
+    (weight_in_most _ c.args.x p.x c.requires.x) (weight_in_most _ c.args.y p.y c.requires.y) (only_most s.low 1 p.z))
     (lit≤ tt)
 
 pub returns : goal.returns
