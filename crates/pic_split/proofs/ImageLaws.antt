@@ -15,18 +15,10 @@ use Rattle.pic_grid.specs.Sums.{sum_over}
 
 -- The sum over the images of an index.
 
--- of equal numbers
-pub images_same : (n : ℕ) (f g : ℤ → ℤ) (i : ℕ) → ((j : ℤ) → f j ≡ g j) → sum_images n f i ≡ sum_images n g i
-images_same n f g i same = λ t. sum_images n (λ j. same j t) i
-
 -- of a sum, a difference, and 0
 pub images_plus : (n : ℕ) (f g : ℤ → ℤ) (i : ℕ) → sum_images n (λ j. f j +ℤ g j) i ≡ sum_images n f i +ℤ sum_images n g i
 unfolding sum_images
 images_plus n f g i = omega (arith, ints)
-
-pub images_less : (n : ℕ) (f g : ℤ → ℤ) (i : ℕ) → sum_images n (λ j. f j -ℤ g j) i ≡ sum_images n f i -ℤ sum_images n g i
-unfolding sum_images
-images_less n f g i = omega (arith, ints)
 
 pub images_zero : (n i : ℕ) → sum_images n (λ j. pos 0) i ≡ pos 0
 unfolding sum_images
@@ -84,19 +76,6 @@ wrapped-add n f g p =
     ∙ (λ t. sum_images n.z (λ z. images_plus n.y (λ y. row_f y z) (λ y. row_g y z) p.y t) p.z)
     ∙ images_plus n.z layer_f layer_g p.z
 
--- of a difference
-pub wrapped-less : (n : Triple) (f g : Spot → ℤ) (p : Triple) → wrapped n (λ c. f c -ℤ g c) p ≡ wrapped n f p -ℤ wrapped n g p
-unfolding wrapped
-wrapped-less n f g p =
-    let row_f = λ (y z : ℤ). sum_images n.x (λ x. f (record { x = x; y = y; z = z })) p.x in
-    let row_g = λ (y z : ℤ). sum_images n.x (λ x. g (record { x = x; y = y; z = z })) p.x in
-    let layer_f = λ (z : ℤ). sum_images n.y (λ y. row_f y z) p.y in
-    let layer_g = λ (z : ℤ). sum_images n.y (λ y. row_g y z) p.y in
-    (λ t. sum_images n.z (λ z. sum_images n.y (λ y.
-    images_less n.x (λ x. f (record { x = x; y = y; z = z })) (λ x. g (record { x = x; y = y; z = z })) p.x t) p.y) p.z)
-    ∙ (λ t. sum_images n.z (λ z. images_less n.y (λ y. row_f y z) (λ y. row_g y z) p.y t) p.z)
-    ∙ images_less n.z layer_f layer_g p.z
-
 -- of nothing
 pub wrapped-zero : (n p : Triple) → wrapped n (λ c. pos 0) p ≡ pos 0
 unfolding wrapped
@@ -104,10 +83,6 @@ wrapped-zero n p =
     (λ t. sum_images n.z (λ z. sum_images n.y (λ y. images_zero n.x p.x t) p.y) p.z)
     ∙ (λ t. sum_images n.z (λ z. images_zero n.y p.y t) p.z)
     ∙ images_zero n.z p.z
-
--- of a function that is 0 everywhere
-pub wrapped_none : (n : Triple) (f : Spot → ℤ) (p : Triple) → ((c : Spot) → f c ≡ pos 0) → wrapped n f p ≡ pos 0
-wrapped_none n f p none = wrapped_same n f (λ c. pos 0) p none ∙ wrapped-zero n p
 
 -- of a sum over a list
 pub wrapped-over : {A : Type 0} (n : Triple) (f : A → Spot → ℤ) (xs : List A) (p : Triple)

@@ -129,11 +129,6 @@ plus_along X p d = refl
 plus_along Y p d = refl
 plus_along Z p d = refl
 
-pub floor_along : (side : ℕ) (a : Axis) (p : Spot) → along a (floor_cell side p) ≡ floor_of side (along a p)
-floor_along side X p = refl
-floor_along side Y p = refl
-floor_along side Z p = refl
-
 walk_leads : (side : ℕ) (c e p d x cell : Spot) (ks : List Crossing)
     → ((a : Axis) → Fits side a (along a c) (along a e) (along a p) (along a d) (along a x) (along a cell) ks)
     → Leads side c e x (walk p d x cell ks) (plus p d)

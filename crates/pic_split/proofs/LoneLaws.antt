@@ -6,7 +6,7 @@ use Rattle.pic_num.specs.declared.axis.Axis.TheVariants.{X, Y, Z}
 use Rattle.pic_num.specs.Push.{plus}
 use Rattle.pic_num.specs.Space.{Spot}
 use Rattle.pic_grid.specs.Path.{Crossing, crossing, crossings, is_before, put, put_some, floor_of, floor_cell, walk, path}
-use Rattle.pic_grid.specs.Segment.{Piece, IsInCell, Leads, arrived, onward}
+use Rattle.pic_grid.specs.Segment.{Piece, IsInCell, Leads, onward}
 use Rattle.pic_split.specs.Move.{IsMove, lone_piece}
 use Rattle.pic_split.proofs.CrossingLaws.{crossing_none}
 use Rattle.pic_split.proofs.OrderLaws.{Tells, crossing_tells}

@@ -1,9 +1,9 @@
-use Rattle.std.proofs.Common.{◌≡◌, ◌^◌, ◌<◌, ℕ, [], ◌∷◌, List, Option, Some, refl, sym, ap, ◌∙◌, subst, arith}
+use Rattle.std.proofs.Common.{◌≡◌, ◌<◌, [], ◌∷◌, refl, sym, ap, ◌∙◌, subst, arith}
 use Rattle.std.proofs.lemmas.Bool.{false≢true}
 use Rattle.pic_num.specs.Push.{plus}
 use Rattle.pic_num.specs.Space.{Spot, triple, spot, unwrapped}
 use Rattle.pic_grid.specs.Path.{floor_cell, path}
-use Rattle.pic_grid.specs.Segment.{Piece, IsInCell}
+use Rattle.pic_grid.specs.Segment.{Piece}
 use Rattle.pic_split.specs.Move.{lone_piece, LeadBy}
 use Rattle.pic_split.proofs.LeadLaws.{path_leads}
 use Rattle.pic_split.proofs.LoneLaws.{none_lone, path_is_lone, lead_inside}
