@@ -154,12 +154,6 @@ pub axis_added : (side : ℕ) (q : ℤ) (s : Piece) (axis : Axis) (old now : Blo
 axis_added side q s axis old now inside added =
     adds_same old now (corners side q s axis) (on_axis axis (flux side q s axis)) (corners_are side q s axis inside) added
 
--- the next cell up along the third axis lies level with the cell along the next
-pub along_raised : (axis : Axis) (p : Spot) → along (next_axis axis) (lifted (next_axis (next_axis axis)) p) ≡ along (next_axis axis) p
-along_raised X p = refl
-along_raised Y p = refl
-along_raised Z p = refl
-
 first_of_three : (f : ℤ) → f +ℤ pos 0 +ℤ pos 0 ≡ f
 first_of_three f = omega (arith, ints)
 

@@ -2,10 +2,10 @@
 
 ghost use Rattle.std.specs.Prelude.{◌≡◌, ◌^◌, ◌≤◌, ◌+ℤ◌, ◌*ℤ◌, ◌≤ℤ◌, pos, IsTrue, IfOk};
 ghost use Rattle.pic_num.specs.Sizes.{IsAtMost};
-ghost use Rattle.pic_num.specs.Space.{along, spot, triple};
+ghost use Rattle.pic_num.specs.Space.{along, spot};
 ghost use Rattle.std.specs.List.{All};
 ghost use Rattle.pic_grid.specs.Segment.{IsInside, IsInCell};
-ghost use Rattle.pic_grid.specs.Block.{AllAtMost, IsZone};
+ghost use Rattle.pic_grid.specs.Block.{AllAtMost};
 
 use crate::weights::along;
 use crate::{deposit, deposit_track};
@@ -26,7 +26,6 @@ const AROUND: Zone = Zone {
 
 /// A block of zeros.
 fn zeros(alloc: Global, zone: Zone) -> Result<Block, NoMemory>
-    requires { IsZone (spot zone.low) (triple zone.size) }
     ensures { IfOk result (AllAtMost 0) }
 {
     Block::new(alloc, zone)

@@ -4,7 +4,7 @@ use mir.Val.{SFits}
 use Rattle.std.proofs.lemmas.Int.{to_z-of_z}
 use Rattle.pic_num.specs.declared.axis.Axis.{Axis}
 use Rattle.pic_num.specs.Sizes.{IsAtMost}
-use Rattle.pic_num.specs.Space.{Spot, spot, along, next_axis}
+use Rattle.pic_num.specs.Space.{Spot, along, next_axis}
 use Rattle.pic_num.proofs.SizeLaws.{codes, code_is}
 use Rattle.pic_grid.specs.Flux.{flux}
 use Rattle.pic_grid.specs.Segment.{Piece}

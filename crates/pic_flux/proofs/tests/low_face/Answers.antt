@@ -1,5 +1,5 @@
-use Rattle.std.proofs.Common.{◌≡◌, ℤ, ◌^◌, ◌*ℤ◌, pos, to_z, of_z, subst, sym, ◌∙◌, arith}
-use mir.Syntax.{w32, w64}
+use Rattle.std.proofs.Common.{◌≡◌, ℤ, ◌^◌, ◌*ℤ◌, subst, sym, ◌∙◌, arith}
+use mir.Syntax.{w32}
 use mir.Val.{SFits}
 use Rattle.std.proofs.lemmas.Int.{ints, to_z-of_z}
 use Rattle.pic_num.specs.Sizes.{IsAtMost}

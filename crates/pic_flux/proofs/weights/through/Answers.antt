@@ -1,4 +1,4 @@
-use Rattle.std.proofs.Common.{◌≡◌, ◌*ℤ◌, to_z, of_z, ◌∙◌}
+use Rattle.std.proofs.Common.{◌≡◌, to_z, of_z, ◌∙◌}
 use mir.Syntax.{w64, w128}
 use Rattle.pic_num.proofs.SizeLaws.{codes, code_fits, code_is, code_at_most}
 use Rattle.pic_flux.proofs.weights.through.Goals as goal

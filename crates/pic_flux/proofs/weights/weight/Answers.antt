@@ -1,4 +1,4 @@
-use Rattle.std.proofs.Common.{◌≡◌, ℤ, pos, Bool, true, false, ◌+ℤ◌, ◌-ℤ◌, ◌*ℤ◌, to_z, of_z, sym, subst, ◌∙◌}
+use Rattle.std.proofs.Common.{◌≡◌, ℤ, pos, Bool, true, false, ◌+ℤ◌, ◌-ℤ◌, ◌*ℤ◌, to_z, of_z, sym, ◌∙◌}
 use mir.Syntax.{w64}
 use Rattle.std.proofs.lemmas.Int.{to_z-of_z}
 use Rattle.pic_flux.specs.Corners.{both_high, weight_by}
