@@ -1,5 +1,5 @@
 -- What a phase has done of a block: rows join to lines, lines to layers, layers to the whole.
-use Rattle.std.proofs.Common.{◌≡◌, ℕ, ℤ, ◌+◌, ◌*◌, ◌<◌, ◌≤◌, ◌⊎◌, ◌&&◌, Bool, true, false, inl, inr, List, length, refl, sym, ◌∙◌, ap, subst, arith}
+use Rattle.std.proofs.Common.{◌≡◌, ℕ, ℤ, ◌+◌, ◌*◌, ◌<◌, ◌⊎◌, ◌&&◌, Bool, true, false, inl, inr, List, length, refl, sym, ◌∙◌, ap, subst, arith}
 use Rattle.std.proofs.lemmas.Bool.{cases_lt}
 use Rattle.pic_num.specs.declared.axis.Axis.{Axis}
 use Rattle.pic_num.specs.declared.axis.Axis.TheVariants.{X, Y, Z}
@@ -9,8 +9,12 @@ use Rattle.pic_grid.specs.Cells.{IsWithin, count_of}
 use Rattle.pic_grid.specs.Block.{BlockValues, inner_at}
 use Rattle.pic_grid.specs.Rows.{with_row}
 use Rattle.pic_grid.proofs.RowLaws.{IsOff, row_here, row_others, row_shape, row_size}
-use Rattle.pic_field.specs.Lines.{OnRow, OnLine, BelowLine, OnLayer, BelowLayer, Changed, AreSmall}
+use Rattle.pic_field.specs.Lines.{HasCells, OnRow, OnLine, BelowLine, Changed, AreSmall}
 use Rattle.pic_field.specs.Rows.{row_at, IsSmallRow}
+
+-- a zone that a place lies in has a cell
+pub has_cells : (size p : Triple) → IsWithin p size → HasCells size
+has_cells size p w = record { x = omega (arith, w.x); y = omega (arith, w.y); z = omega (arith, w.z) }
 
 -- two answers that are both yes
 pub both_true : (s t : Bool) → (s && t) ≡ true → (s ≡ true) × (t ≡ true)
@@ -71,56 +75,43 @@ changed_as g h P old new change same = record {
   rest = change.rest;
 }
 
--- and by the places
-pub changed_over : (g : Axis → Triple → ℤ → ℤ) (P R : Axis → Triple → Type 0) (old new : BlockValues) → Changed g P old new
-    → ((a : Axis) (p : Triple) → P a p → R a p) → ((a : Axis) (p : Triple) → IsWithin p old.size → R a p → P a p) → Changed g R old new
-changed_over g P R old new change into from = record {
-  shaped = change.shaped;
-  done = λ a p w here. change.done a p w (from a p w here);
-  rest = λ a p w none. change.rest a p w (λ q. none (into a p q));
-}
-
--- nothing is changed at first
-pub changed_none : (g : Axis → Triple → ℤ → ℤ) (P : Axis → Triple → Type 0) (b : BlockValues) → ((a : Axis) (p : Triple) → P a p → ⊥) → Changed g P b b
+-- of a zone without cells nothing is changed, and all of it is small
+pub changed_none : (g : Axis → Triple → ℤ → ℤ) (P : Axis → Triple → Type 0) (b : BlockValues) → (HasCells b.size → ⊥) → Changed g P b b
 changed_none g P b none = record {
   shaped = record { low = refl; size = refl };
-  done = λ a p w here. absurd (none a p here);
+  done = λ a p w here. absurd (none (has_cells b.size p w));
   rest = λ a p w here. refl;
 }
 
-pub small_none : (most : ℕ) (P : Axis → Triple → Type 0) (b : BlockValues) → ((a : Axis) (p : Triple) → P a p → ⊥) → AreSmall most P b
-small_none most P b none = record { at_most = λ a p w here. absurd (none a p here) }
-
--- fewer places are small too
-pub small_within : (most : ℕ) (P R : Axis → Triple → Type 0) (b : BlockValues) → AreSmall most P b → ((a : Axis) (p : Triple) → R a p → P a p) → AreSmall most R b
-small_within most P R b small in_p = record { at_most = λ a p w r. small.at_most a p w (in_p a p r) }
+pub small_none : (most : ℕ) (P : Axis → Triple → Type 0) (b : BlockValues) → (HasCells b.size → ⊥) → AreSmall most P b
+small_none most P b none = record { at_most = λ a p w here. absurd (none (has_cells b.size p w)) }
 
 -- a row that is written is a change of its places
 pub row_changed : (g : Axis → Triple → ℤ → ℤ) (b new : BlockValues) (axis : Axis) (y z : ℕ) (row : List ℤ) → new ≡ with_row b axis y z row
-    → length b.values ≡ 3 * count_of b.size → 1 ≤ b.size.x → y < b.size.y → z < b.size.z → length row ≡ b.size.x
+    → length b.values ≡ 3 * count_of b.size → y < b.size.y → z < b.size.z → length row ≡ b.size.x
     → ((x : ℕ) → x < b.size.x → row_at row x ≡ g axis (record { x = x; y = y; z = z }) (inner_at b axis (record { x = x; y = y; z = z })))
     → Changed g (OnRow axis y z) b new
-row_changed g b new axis y z row is whole some in_y in_z long values = record {
+row_changed g b new axis y z row is whole in_y in_z long values = record {
   shaped = record { low = ap (λ (d : BlockValues). d.low) is ∙ row_shape b axis y z row; size = ap (λ (d : BlockValues). d.size) is ∙ row_size b axis y z row };
   done = λ a p w on.
       let at : p ≡ record { x = p.x; y = y; z = z } = λ i. record { x = p.x; y = on.y_is i; z = on.z_is i } in
       (λ i. inner_at (is i) (on.axis_is i) (at i))
-      ∙ row_here b axis y z row whole some in_y in_z long p.x w.x
+      ∙ row_here b axis y z row whole in_y in_z long p.x w.x
       ∙ values p.x w.x
       ∙ sym (λ i. g (on.axis_is i) (at i) (inner_at b (on.axis_is i) (at i)));
   rest = λ a p w none.
       let off : IsOff axis y z a p = record { off = λ e f h. none (record { axis_is = e; y_is = f; z_is = h }) } in
-      ap (λ (d : BlockValues). inner_at d a p) is ∙ row_others b axis y z row whole some in_y in_z long a p w off;
+      ap (λ (d : BlockValues). inner_at d a p) is ∙ row_others b axis y z row whole in_y in_z long a p w off;
 }
 
 pub row_small : (most : ℕ) (b new : BlockValues) (axis : Axis) (y z : ℕ) (row : List ℤ) → new ≡ with_row b axis y z row
-    → length b.values ≡ 3 * count_of b.size → 1 ≤ b.size.x → y < b.size.y → z < b.size.z → length row ≡ b.size.x
+    → length b.values ≡ 3 * count_of b.size → y < b.size.y → z < b.size.z → length row ≡ b.size.x
     → IsSmallRow most b.size.x row → AreSmall most (OnRow axis y z) new
-row_small most b new axis y z row is whole some in_y in_z long small = record {
+row_small most b new axis y z row is whole in_y in_z long small = record {
   at_most = λ a p w on.
       let v : IsWithin p b.size = subst (λ (n : Triple). IsWithin p n) (ap (λ (d : BlockValues). d.size) is ∙ row_size b axis y z row) w in
       let at : p ≡ record { x = p.x; y = y; z = z } = λ i. record { x = p.x; y = on.y_is i; z = on.z_is i } in
-      subst (λ (k : ℤ). IsAtMost k most) (sym ((λ i. inner_at (is i) (on.axis_is i) (at i)) ∙ row_here b axis y z row whole some in_y in_z long p.x v.x))
+      subst (λ (k : ℤ). IsAtMost k most) (sym ((λ i. inner_at (is i) (on.axis_is i) (at i)) ∙ row_here b axis y z row whole in_y in_z long p.x v.x))
       (small.at_most p.x v.x);
 }
 
@@ -176,16 +167,4 @@ lines_more n y z = record {
   ];
   left = λ a p h. let below : p.y < y = h.y_below in record { y_below = omega arith; z_is = h.z_is };
   right = λ a p h. let same : p.y ≡ y = h.y_is in record { y_below = omega arith; z_is = h.z_is };
-}
-
--- and the layers of a block
-pub layers_more : (n : Triple) (z : ℕ) → IsJoined n (BelowLayer z) (OnLayer z) (BelowLayer (z + 1))
-layers_more n z = record {
-  apart = λ a p h k. let below : p.z < z = h.z_below in let same : p.z ≡ z = k.z_is in absurd (omega arith);
-  either = λ a p w r. elim (cases_lt p.z z) [
-    | inl below ↦ inl (record { z_below = below })
-    | inr least ↦ (let last : p.z < z + 1 = r.z_below in let same : p.z ≡ z = omega arith in inr (record { z_is = same }))
-  ];
-  left = λ a p h. let below : p.z < z = h.z_below in record { z_below = omega arith };
-  right = λ a p h. let same : p.z ≡ z = h.z_is in record { z_below = omega arith };
 }

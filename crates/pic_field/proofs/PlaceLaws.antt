@@ -4,11 +4,11 @@ use Rattle.pic_num.specs.declared.axis.Axis.{Axis}
 use Rattle.pic_num.specs.declared.axis.Axis.TheVariants.{X, Y, Z}
 use Rattle.pic_num.specs.Space.{Triple, Spot, axis_number, next_axis}
 use Rattle.pic_grid.specs.Block.{BlockValues, IsAmongCells, outer_of}
-use Rattle.pic_grid.specs.Cells.{IsSize, IsWithin, count_of, index_of, place_of}
+use Rattle.pic_grid.specs.Cells.{IsWithin, count_of, index_of, place_of}
 
 -- the component on an axis at the cell p is the place of the number i
 pub record IsPlace (n : Triple) (i : ℕ) (a : Axis) (p : Triple) : Type 0 where
-  pub within : IsWithin p n
+  pub within : i < 3 * count_of n → IsWithin p n
   pub number : i < 3 * count_of n → place_of n a p ≡ i
 
 -- the place after another in its row,
@@ -46,18 +46,17 @@ axis_end n X p x y z h = let last = last_index n p x y z in omega (arith, last)
 axis_end n Y p x y z h = let last = last_index n p x y z in omega (arith, last)
 axis_end n Z p x y z h = let last = last_index n p x y z in absurd (omega (arith, last, h))
 
+lowest_within : (n : Triple) → 0 < 3 * count_of n → IsWithin (record { x = 0; y = 0; z = 0 }) n
+lowest_within n h = record { x = grind arith; y = grind arith; z = grind arith }
+
 -- the first place of a box,
-pub first_place : (n m : Triple) (a : Axis) (p : Triple) → n ≡ m → IsSize m → axis_number a ≡ 0 → p ≡ record { x = 0; y = 0; z = 0 } → IsPlace n 0 a p
+pub first_place : (n : Triple) (a : Axis) (p : Triple) → axis_number a ≡ 0 → p ≡ record { x = 0; y = 0; z = 0 } → IsPlace n 0 a p
 unfolding place_of index_of
-first_place n m a p same layers axis cell =
-    let x : 0 < m.x = omega (arith, layers.x_least) in
-    let y : 0 < m.y = omega (arith, layers.y_least) in
-    let z : 0 < m.z = omega (arith, layers.z_least) in
-    let zero : IsWithin (record { x = 0; y = 0; z = 0 }) m = record { x = x; y = y; z = z } in
+first_place n a p axis cell =
     let number : place_of n a p ≡ 0 * count_of n + ((0 * n.y + 0) * n.x + 0) =
     λ i. axis i * count_of n + (((cell i).z * n.y + (cell i).y) * n.x + (cell i).x) in
     record {
-      within = subst (λ (s : Triple). IsWithin p s) (sym same) (subst (λ (q : Triple). IsWithin q m) (sym cell) zero);
+      within = λ h. subst (λ (q : Triple). IsWithin q n) (sym cell) (lowest_within n h);
       number = λ h. omega (arith, number);
     }
 
@@ -66,7 +65,7 @@ pub next_place : (n : Triple) (i : ℕ) (a : Axis) (p : Triple) (b : Axis) (q : 
     → (place_of n a p + 1 < 3 * count_of n → place_of n b q ≡ place_of n a p + 1) → IsPlace n (i + 1) b q
 next_place n i a p b q place below within next =
     let here : place_of n a p ≡ i = place.number below in
-    record { within = within; number = λ h. next (subst (λ (k : ℕ). k + 1 < 3 * count_of n) (sym here) h) ∙ ap (λ (k : ℕ). k + 1) here }
+    record { within = λ h. within; number = λ h. next (subst (λ (k : ℕ). k + 1 < 3 * count_of n) (sym here) h) ∙ ap (λ (k : ℕ). k + 1) here }
 
 -- in a walk over a block, whose zone lies among n cells, the place of the number i is the component
 -- on an axis at the cell q of the grid, which lies p above the lowest
@@ -81,7 +80,7 @@ pub is_here : (old : BlockValues) (n : Triple) (i : ℕ) (a : Axis) (p q : Tripl
     → IsAmongCells old.low old.size n → IsPlace size i a p → i < 3 * count_of size → q ≡ outer_of low p → IsHere old n i a p q
 is_here old n i a p q low size same_low same_size among place below at = record {
   among = among;
-  within = subst (λ (s : Triple). IsWithin p s) same_size place.within;
+  within = subst (λ (s : Triple). IsWithin p s) same_size (place.within below);
   number = sym (ap (λ (s : Triple). place_of s a p) same_size) ∙ place.number below;
   at = at ∙ ap (λ (l : Spot). outer_of l p) same_low;
 }

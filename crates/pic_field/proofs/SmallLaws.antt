@@ -3,7 +3,7 @@ use Rattle.std.proofs.Common.{ℕ, zero, suc, ℤ, pos, ◌*◌, List, [], ◌�
 use Rattle.pic_num.specs.declared.axis.Axis.{Axis}
 use Rattle.pic_num.specs.Sizes.{IsAtMost}
 use Rattle.pic_num.specs.Space.{Triple, Spot}
-use Rattle.pic_grid.specs.Lattice.{Field, EachAtMost, with_value}
+use Rattle.pic_grid.specs.Lattice.{EachAtMost}
 use Rattle.pic_grid.specs.Cells.{count_of, place_of}
 use Rattle.pic_grid.specs.Block.{BlockValues, AllAtMost, inner_of, with_edge}
 
@@ -20,13 +20,8 @@ small_set most (x ∷ xs) zero (suc j) v h k = k
 small_set most (x ∷ xs) (suc i) zero v h k = k
 small_set most (x ∷ xs) (suc i) (suc j) v h k = small_set most xs i j v h k
 
-pub each_zeros : (most : ℕ) (n parts : Triple) → EachAtMost most (record { cells = n; parts = parts; values = replicate (3 * count_of n) (pos 0) })
-each_zeros most n parts = record { at_most = λ a p w. small_zeros most (3 * count_of n) (place_of n a p) }
-
-pub each_with : (most : ℕ) (f : Field) (a : Axis) (p : Triple) (v : ℤ) → EachAtMost most f → IsAtMost v most → EachAtMost most (with_value f a p v)
-each_with most f a p v each small = record {
-  at_most = λ b q w. small_set most f.values (place_of f.cells a p) (place_of f.cells b q) v small (each.at_most b q w);
-}
+pub each_zeros : (most side : ℕ) (n parts : Triple) → EachAtMost most (record { cells = n; side = side; parts = parts; values = replicate (3 * count_of n) (pos 0) })
+each_zeros most side n parts = record { at_most = λ a p w. small_zeros most (3 * count_of n) (place_of n a p) }
 
 pub all_zeros : (most : ℕ) (low : Spot) (size : Triple) → AllAtMost most (record { low = low; size = size; values = replicate (3 * count_of size) (pos 0) })
 all_zeros most low size = record { at_most = λ a c inside. small_zeros most (3 * count_of size) (place_of size a (inner_of low c)) }

@@ -1,6 +1,6 @@
 -- A lattice in one part: its one block lies over all cells, so what a phase does to the block is what it
 -- does to the lattice.
-use Rattle.std.proofs.Common.{◌≡◌, ℕ, ℤ, pos, ◌+◌, ◌*◌, ◌/◌, ◌%◌, ◌^◌, ◌<◌, ◌-ℤ◌, List, [], ◌∷◌, length, slice_index_or, unsigned_abs, Option, Some, None, Result, Ok, Err, refl, sym, ◌∙◌, ap, subst, arith}
+use Rattle.std.proofs.Common.{◌≡◌, ℕ, ℤ, pos, ◌+◌, ◌*◌, ◌/◌, ◌%◌, ◌<◌, ◌-ℤ◌, List, [], ◌∷◌, length, slice_index_or, unsigned_abs, Option, Some, None, Result, Ok, Err, refl, sym, ◌∙◌, ap, subst, arith}
 use Rattle.std.proofs.lemmas.Int.{ints}
 use Rattle.std.proofs.lemmas.Nat.{div_below}
 use Rattle.std.proofs.Math.Nat.{div-one}
@@ -18,14 +18,13 @@ use Rattle.pic_grid.specs.declared.stop.Stop.{Stop}
 use Rattle.pic_grid.specs.Lattice.{Field, EachAtMost, value_at, field_of}
 use Rattle.pic_grid.specs.Gather.{force_of}
 use Rattle.pic_grid.specs.Parts.{one_part, origin, part_size, part_of, corner_of, IsPart, no_block, ArePartsOf, value_in, joined}
-use Rattle.pic_grid.specs.Cells.{IsWithin, count_of, index_of, cell_of, axis_of}
+use Rattle.pic_grid.specs.Cells.{Grid, IsWithin, count_of, index_of, cell_of, axis_of}
 use Rattle.pic_grid.specs.Block.{BlockValues, InZone, IsAmongCells, IsShaped, AllAtMost, inner_of, edge_at, inner_at, outer_of}
 use Rattle.pic_grid.proofs.LatticeLaws.{is_field_of, length-values_of}
 use Rattle.pic_grid.proofs.PartLaws.{value_at-joined}
 use Rattle.pic_grid.proofs.CellLaws.{index_of_below, place_within}
 use Rattle.pic_grid.proofs.BlockLaws.{inner_within}
 use Rattle.pic_field.proofs.ZoneLaws.{outer_inside}
-use Rattle.pic_field.proofs.FaultLaws.{least_fault-bounded}
 use Rattle.pic_field.specs.FieldPhases.{half_of, half_in, full_of, full_in, lowest, cell_above, fault_of, fault_at, least_fault, IsBounded, AllBounded}
 
 -- the block lies over all n cells
@@ -124,19 +123,19 @@ one_number n p w =
     omega arith
 
 -- is that of the lattice
-pub value_at-whole : (n : Triple) (b : BlockValues) (a : Axis) (p : Triple) → IsWhole n b → IsWithin p n
-    → value_at (joined n one_part (b ∷ [])) a p ≡ inner_at b a p
-value_at-whole n b a p whole w =
-    value_at-joined n one_part (b ∷ []) a p w
-    ∙ ap (λ (k : ℕ). edge_at (slice_index_or (b ∷ []) k no_block) a (unwrapped p)) (one_number n p w)
-    ∙ whole_edge n b a p whole
+pub value_at-whole : (grid : Grid) (b : BlockValues) (a : Axis) (p : Triple) → IsWhole grid.n b → IsWithin p grid.n
+    → value_at (joined grid one_part (b ∷ [])) a p ≡ inner_at b a p
+value_at-whole grid b a p whole w =
+    value_at-joined grid one_part (b ∷ []) a p w
+    ∙ ap (λ (k : ℕ). edge_at (slice_index_or (b ∷ []) k no_block) a (unwrapped p)) (one_number grid.n p w)
+    ∙ whole_edge grid.n b a p whole
 
 -- a lattice of one block is given by the block's values
-pub whole_is : (n : Triple) (g : Axis → Triple → ℤ) (b : BlockValues) → IsWhole n b
-    → ((a : Axis) (p : Triple) → IsWithin p n → inner_at b a p ≡ g a p) → joined n one_part (b ∷ []) ≡ field_of n one_part g
-whole_is n g b whole values =
-    is_field_of n one_part g (joined n one_part (b ∷ [])) refl refl (length-values_of n (value_in n one_part (b ∷ [])))
-    (λ a p w. value_at-whole n b a p whole w ∙ values a p w)
+pub whole_is : (grid : Grid) (g : Axis → Triple → ℤ) (b : BlockValues) → IsWhole grid.n b
+    → ((a : Axis) (p : Triple) → IsWithin p grid.n → inner_at b a p ≡ g a p) → joined grid one_part (b ∷ []) ≡ field_of grid.side grid.n one_part g
+whole_is grid g b whole values =
+    is_field_of grid.side grid.n one_part g (joined grid one_part (b ∷ [])) refl refl refl (length-values_of grid.n (value_in grid.n one_part (b ∷ [])))
+    (λ a p w. value_at-whole grid b a p whole w ∙ values a p w)
 
 whole_inside : (n : Triple) (b : BlockValues) (p : Triple) → IsWhole n b → IsWithin p n → InZone b.low b.size (unwrapped p)
 whole_inside n b p whole w =
@@ -144,22 +143,19 @@ whole_inside n b p whole w =
     subst (λ (q : Triple). InZone b.low b.size (unwrapped q)) (whole_outer n b p whole) (outer_inside b.low b.size n p (whole_among n b whole) inner)
 
 -- the sizes of the lattice's values are those of the block's,
-pub whole_small : (most : ℕ) (n : Triple) (b : BlockValues) → IsWhole n b → EachAtMost most (joined n one_part (b ∷ [])) → AllAtMost most b
-whole_small most n b whole small = record {
+pub whole_small : (most : ℕ) (grid : Grid) (b : BlockValues) → IsWhole grid.n b → EachAtMost most (joined grid one_part (b ∷ [])) → AllAtMost most b
+whole_small most grid b whole small = record {
   at_most = λ a c inside.
       let p = inner_of b.low c in
-      let w : IsWithin p n = subst (λ (s : Triple). IsWithin p s) whole.size (inner_within b.low b.size c inside) in
-      subst (λ (v : ℤ). IsAtMost v most) (value_at-whole n b a p whole w) (small.at_most a p w);
+      let w : IsWithin p grid.n = subst (λ (s : Triple). IsWithin p s) whole.size (inner_within b.low b.size c inside) in
+      subst (λ (v : ℤ). IsAtMost v most) (value_at-whole grid b a p whole w) (small.at_most a p w);
 }
 
 -- and so are their bounds
-pub whole_bounded : (by : Multiplier) (n : Triple) (b : BlockValues) → IsWhole n b → AllBounded by b
-    → (a : Axis) (p : Triple) → IsWithin p n → IsBounded by (value_at (joined n one_part (b ∷ [])) a p)
-whole_bounded by n b whole all a p w =
-    subst (IsBounded by) (whole_edge n b a p whole ∙ sym (value_at-whole n b a p whole w)) (all.bounded a (unwrapped p) (whole_inside n b p whole w))
-
-pub whole_each : (by : Multiplier) (n : Triple) (b : BlockValues) → IsWhole n b → AllBounded by b → EachAtMost (2 ^ 90) (joined n one_part (b ∷ []))
-whole_each by n b whole all = record { at_most = λ a p w. (whole_bounded by n b whole all a p w).value }
+pub whole_bounded : (by : Multiplier) (grid : Grid) (b : BlockValues) → IsWhole grid.n b → AllBounded by b
+    → (a : Axis) (p : Triple) → IsWithin p grid.n → IsBounded by (value_at (joined grid one_part (b ∷ [])) a p)
+whole_bounded by grid b whole all a p w =
+    subst (IsBounded by) (whole_edge grid.n b a p whole ∙ sym (value_at-whole grid b a p whole w)) (all.bounded a (unwrapped p) (whole_inside grid.n b p whole w))
 
 -- equal values have one stop
 pub least_fault-same : (phase : Phase) (by : Multiplier) (low size : Triple) (f g : Axis → Triple → ℤ)
@@ -180,62 +176,56 @@ whole_stop phase by n old f g whole same =
     (λ i. least_fault phase by (lowest (whole.low i)) (whole.size i) f)
     ∙ least_fault-same phase by origin n f g (λ a p w. let at = above_origin p in ap (f a) at ∙ same a p w ∙ sym (ap (g a) at))
 
--- where all cells have no stop, no value passes a bound
-pub whole_none : (phase : Phase) (by : Multiplier) (n : Triple) (f : Axis → Triple → ℤ) → least_fault phase by origin n f ≡ None
-    → (a : Axis) (p : Triple) → IsWithin p n → IsBounded by (f a p)
-whole_none phase by n f none a p w =
-    subst (λ (q : Triple). IsBounded by (f a q)) (above_origin p) (least_fault-bounded phase by origin n f none a p w)
-
 -- half a step of B: what `half_b` says of the block, said of the lattice
-abbrev pub half_all : Scales → Field → Triple → BlockValues → Axis → Triple → ℤ
-half_all scales e n old a p = half_of scales e a p (value_at (joined n one_part (old ∷ [])) a p)
+abbrev pub half_all : Scales → Field → Grid → BlockValues → Axis → Triple → ℤ
+half_all scales e grid old a p = half_of scales e a p (value_at (joined grid one_part (old ∷ [])) a p)
 
-pub half_whole : (scales : Scales) (e : Field) (n : Triple) (old new : BlockValues) → IsWhole n old → IsShaped new old
+pub half_whole : (scales : Scales) (e : Field) (grid : Grid) (old new : BlockValues) → IsWhole grid.n old → IsShaped new old
     → ((a : Axis) (p : Triple) → IsWithin p old.size → inner_at new a p ≡ half_of scales e a (outer_of old.low p) (inner_at old a p))
-    → joined n one_part (new ∷ []) ≡ field_of n one_part (half_all scales e n old)
-half_whole scales e n old new whole shaped values =
-    whole_is n (half_all scales e n old) new (whole_shaped n old new whole shaped) (λ a p w.
+    → joined grid one_part (new ∷ []) ≡ field_of grid.side grid.n one_part (half_all scales e grid old)
+half_whole scales e grid old new whole shaped values =
+    whole_is grid (half_all scales e grid old) new (whole_shaped grid.n old new whole shaped) (λ a p w.
     let inner : IsWithin p old.size = subst (λ (s : Triple). IsWithin p s) (sym whole.size) w in
-    values a p inner ∙ (λ i. half_of scales e a (whole_outer n old p whole i) (sym (value_at-whole n old a p whole w) i)))
+    values a p inner ∙ (λ i. half_of scales e a (whole_outer grid.n old p whole i) (sym (value_at-whole grid old a p whole w) i)))
 
-pub half_stop : (phase : Phase) (scales : Scales) (e : Field) (by : Multiplier) (n : Triple) (old : BlockValues) → IsWhole n old
-    → least_fault phase by (lowest old.low) old.size (half_in scales e old) ≡ least_fault phase by origin n (half_all scales e n old)
-half_stop phase scales e by n old whole =
-    whole_stop phase by n old (half_in scales e old) (half_all scales e n old) whole
-    (λ a p w. ap (half_of scales e a p) (whole_edge n old a p whole ∙ sym (value_at-whole n old a p whole w)))
+pub half_stop : (phase : Phase) (scales : Scales) (e : Field) (by : Multiplier) (grid : Grid) (old : BlockValues) → IsWhole grid.n old
+    → least_fault phase by (lowest old.low) old.size (half_in scales e old) ≡ least_fault phase by origin grid.n (half_all scales e grid old)
+half_stop phase scales e by grid old whole =
+    whole_stop phase by grid.n old (half_in scales e old) (half_all scales e grid old) whole
+    (λ a p w. ap (half_of scales e a p) (whole_edge grid.n old a p whole ∙ sym (value_at-whole grid old a p whole w)))
 
 -- a step of E, with the current j in a block of all cells, the same
-abbrev pub full_all : Scales → Field → Triple → BlockValues → BlockValues → Axis → Triple → ℤ
-full_all scales b n j old a p =
-    full_of scales b a p (value_at (joined n one_part (old ∷ [])) a p) (value_at (joined n one_part (j ∷ [])) a p)
+abbrev pub full_all : Scales → Field → Grid → BlockValues → BlockValues → Axis → Triple → ℤ
+full_all scales b grid j old a p =
+    full_of scales b a p (value_at (joined grid one_part (old ∷ [])) a p) (value_at (joined grid one_part (j ∷ [])) a p)
 
-pub full_whole : (scales : Scales) (b : Field) (n : Triple) (j old new : BlockValues) → IsWhole n old → IsShaped j old → IsShaped new old
+pub full_whole : (scales : Scales) (b : Field) (grid : Grid) (j old new : BlockValues) → IsWhole grid.n old → IsShaped j old → IsShaped new old
     → ((a : Axis) (p : Triple) → IsWithin p old.size → inner_at new a p ≡ full_of scales b a (outer_of old.low p) (inner_at old a p) (inner_at j a p))
-    → joined n one_part (new ∷ []) ≡ field_of n one_part (full_all scales b n j old)
-full_whole scales b n j old new whole of_j shaped values =
-    let over_j = whole_shaped n old j whole of_j in
-    whole_is n (full_all scales b n j old) new (whole_shaped n old new whole shaped) (λ a p w.
+    → joined grid one_part (new ∷ []) ≡ field_of grid.side grid.n one_part (full_all scales b grid j old)
+full_whole scales b grid j old new whole of_j shaped values =
+    let over_j = whole_shaped grid.n old j whole of_j in
+    whole_is grid (full_all scales b grid j old) new (whole_shaped grid.n old new whole shaped) (λ a p w.
     let inner : IsWithin p old.size = subst (λ (s : Triple). IsWithin p s) (sym whole.size) w in
-    let of_e = sym (value_at-whole n old a p whole w) in
-    values a p inner ∙ (λ i. full_of scales b a (whole_outer n old p whole i) (of_e i) (sym (value_at-whole n j a p over_j w) i)))
+    let of_e = sym (value_at-whole grid old a p whole w) in
+    values a p inner ∙ (λ i. full_of scales b a (whole_outer grid.n old p whole i) (of_e i) (sym (value_at-whole grid j a p over_j w) i)))
 
-pub full_stop : (scales : Scales) (b : Field) (by : Multiplier) (n : Triple) (j old : BlockValues) → IsWhole n old → IsShaped j old
-    → least_fault Electric by (lowest old.low) old.size (full_in scales b j old) ≡ least_fault Electric by origin n (full_all scales b n j old)
-full_stop scales b by n j old whole of_j =
-    let over_j = whole_shaped n old j whole of_j in
-    whole_stop Electric by n old (full_in scales b j old) (full_all scales b n j old) whole (λ a p w.
-    let of_e = whole_edge n old a p whole ∙ sym (value_at-whole n old a p whole w) in
-    let of_j = whole_edge n j a p over_j ∙ sym (value_at-whole n j a p over_j w) in
+pub full_stop : (scales : Scales) (b : Field) (by : Multiplier) (grid : Grid) (j old : BlockValues) → IsWhole grid.n old → IsShaped j old
+    → least_fault Electric by (lowest old.low) old.size (full_in scales b j old) ≡ least_fault Electric by origin grid.n (full_all scales b grid j old)
+full_stop scales b by grid j old whole of_j =
+    let over_j = whole_shaped grid.n old j whole of_j in
+    whole_stop Electric by grid.n old (full_in scales b j old) (full_all scales b grid j old) whole (λ a p w.
+    let of_e = whole_edge grid.n old a p whole ∙ sym (value_at-whole grid old a p whole w) in
+    let of_j = whole_edge grid.n j a p over_j ∙ sym (value_at-whole grid j a p over_j w) in
     λ i. full_of scales b a p (of_e i) (of_j i))
 
 -- force values
-pub force_whole : (by : Multiplier) (from : Field) (n : Triple) (old new : BlockValues) → IsWhole n old → IsShaped new old
+pub force_whole : (by : Multiplier) (from : Field) (grid : Grid) (old new : BlockValues) → IsWhole grid.n old → IsShaped new old
     → ((a : Axis) (p : Triple) → IsWithin p old.size → inner_at new a p ≡ scaled (value_at from a (outer_of old.low p)) by)
-    → joined n one_part (new ∷ []) ≡ field_of n one_part (force_of by (value_at from))
-force_whole by from n old new whole shaped values =
-    whole_is n (force_of by (value_at from)) new (whole_shaped n old new whole shaped) (λ a p w.
+    → joined grid one_part (new ∷ []) ≡ field_of grid.side grid.n one_part (force_of by (value_at from))
+force_whole by from grid old new whole shaped values =
+    whole_is grid (force_of by (value_at from)) new (whole_shaped grid.n old new whole shaped) (λ a p w.
     let inner : IsWithin p old.size = subst (λ (s : Triple). IsWithin p s) (sym whole.size) w in
-    values a p inner ∙ ap (λ (q : Triple). scaled (value_at from a q) by) (whole_outer n old p whole))
+    values a p inner ∙ ap (λ (q : Triple). scaled (value_at from a q) by) (whole_outer grid.n old p whole))
 
 -- the answer Ok says that there is no stop, and Err which it is
 pub no_stop : (o : Option Stop) → ◌≡◌ {A = Result (Unit {0}) Stop} (Ok tt) (unless o tt) → o ≡ None

@@ -12,6 +12,12 @@ use Rattle.pic_grid.specs.Lattice.{Field, value_at}
 use Rattle.pic_grid.specs.Block.{BlockValues, IsShaped, inner_at, outer_of}
 use Rattle.pic_field.specs.FieldPhases.{half_of, full_of}
 
+-- a zone has a cell: at least one layer on each axis
+pub record HasCells (size : Triple) : Type 0 where
+  pub x : 0 < size.x
+  pub y : 0 < size.y
+  pub z : 0 < size.z
+
 -- a place is one of the row on an axis at the layers y and z,
 pub record OnRow (axis : Axis) (y z : ℕ) (a : Axis) (p : Triple) : Type 0 where
   pub axis_is : a ≡ axis

@@ -10,11 +10,11 @@ ghost use Rattle.pic_grid.specs.Differences.{down};
 ghost use Rattle.pic_grid.specs.Lattice.{EachAtMost};
 ghost use Rattle.pic_grid.specs.Block.{IsAmongCells, IsShaped, AllAtMost, inner_at, outer_of};
 ghost use Rattle.pic_field.specs.FieldPhases.{full_of, full_in, lowest, least_fault, AllBounded};
-ghost use Rattle.pic_field.specs.Lines.{OnLine, OnLayer, BelowLayer, Changed, AreSmall, full_made, line_start};
+ghost use Rattle.pic_field.specs.Lines.{HasCells, OnLine, OnLayer, BelowLayer, Changed, AreSmall, full_made, line_start};
 ghost use Rattle.pic_field.specs.Rows.{IsScaledRow};
 
 use crate::faults::{safe_most, stop_in};
-use crate::place::cell_in;
+use crate::place::{cell_in, is_empty, line_length};
 use crate::rooms::{Rooms, full_row};
 use crate::row::{Four, copy_row, scaled_row, shifted};
 use pic_grid::{Block, Lattice, Phase, Stop};
@@ -70,6 +70,9 @@ fn full_layers(
     ensures calm { IsTrue result → AreSmall most (BelowLayer e.old.size.z) e.new }
 {
     let zone = e.zone();
+    if is_empty(zone) {
+        return true;
+    }
     let mut calm = true;
     for z in 0..zone.size[2] {
         let found = full_layer(scales, b, j, e, z, most, rooms);
@@ -91,6 +94,7 @@ fn full_layer(
 ) -> bool
     requires among { IsAmongCells e.old.low e.old.size b.now.cells }
     requires j_shape { IsShaped j.now e.old }
+    requires some { HasCells e.old.size }
     requires b_small { EachAtMost (2 ^ 90) b.now }
     requires z { z < e.old.size.z }
     requires j_small { AreSmall (2 ^ 90) (OnLayer z) j.now }
@@ -99,7 +103,7 @@ fn full_layer(
     ensures calm { IsTrue result → AreSmall most (OnLayer z) e.new }
 {
     let zone = e.zone();
-    let count = zone.size[0] as usize + 1;
+    let count = line_length(b.cells(), zone) + 1;
     let first = cell_in(b.cells(), zone, [0, 0, z]);
     let by_y = b.cells().down(Axis::Y, first);
     let back = b.cells().down(Axis::X, by_y);
@@ -127,6 +131,7 @@ fn full_line(
 ) -> bool
     requires among { IsAmongCells e.old.low e.old.size b.now.cells }
     requires j_shape { IsShaped j.now e.old }
+    requires some { HasCells e.old.size }
     requires b_small { EachAtMost (2 ^ 90) b.now }
     requires y { y < e.old.size.y }
     requires z { z < e.old.size.z }
@@ -146,7 +151,7 @@ fn full_line(
     ensures calm { IsTrue result → AreSmall most (OnLine y z) e.new }
 {
     let zone = e.zone();
-    let count = zone.size[0] as usize;
+    let count = line_length(b.cells(), zone);
     let here = cell_in(b.cells(), zone, [0, y, z]);
     full_rows(scales.b_to_e, b, here, count + 1, rooms);
     let on_x = Four {

@@ -63,14 +63,14 @@ pub(crate) fn safe_most(by: Mult) -> u128
 /// The stop of the values of a block: that of its least place whose value passes a bound. The zone
 /// of the block lies among the cells.
 pub(crate) fn stop_in(phase: Phase, by: Mult, cells: Cells, b: &Block) -> Result<(), Stop>
-    requires among { IsAmongCells b.now.low b.now.size cells }
+    requires among { IsAmongCells b.now.low b.now.size cells.n }
     ensures { result ≡ unless (least_fault phase by (lowest b.now.low) b.now.size
         (λ a p. edge_at b.now a (unwrapped p))) tt }
 {
     let zone = b.zone();
     let mut stop = None;
     let mut place = Place::first();
-    for _number in 0..place_count(zone.size) {
+    for _number in 0..place_count(cells, zone) {
         let cell = cell_in(cells, zone, place.inner);
         let value = b.at(place.axis, cells.unwrapped(cell));
         let found = fault(phase, by, place.axis, cell, value);

@@ -7,9 +7,9 @@ ghost use Rattle.pic_num.specs.Space.{Triple};
 ghost use Rattle.pic_grid.specs.Cells.{IsWithin};
 ghost use Rattle.pic_grid.specs.Lattice.{EachAtMost, value_at};
 ghost use Rattle.pic_grid.specs.Block.{IsAmongCells, IsShaped, inner_at, outer_of};
-ghost use Rattle.pic_field.specs.Lines.{OnRow, OnLine, OnLayer, Changed, force_made};
+ghost use Rattle.pic_field.specs.Lines.{HasCells, OnRow, OnLine, OnLayer, Changed, force_made};
 
-use crate::place::cell_in;
+use crate::place::{cell_in, is_empty, line_length};
 use crate::row::{ROOM, Row, scaled_row};
 use pic_grid::{Block, Lattice};
 use pic_num::{Axis, Mult};
@@ -25,6 +25,9 @@ pub fn force(mult: Mult, from: &Lattice, to: &mut Block)
         → inner_at to.new a p ≡ scaled (value_at from.now a (outer_of to.old.low p)) mult }
 {
     let zone = to.zone();
+    if is_empty(zone) {
+        return;
+    }
     let mut made = [0; ROOM];
     for z in 0..zone.size[2] {
         force_layer(mult, from, to, z, &mut made);
@@ -34,6 +37,7 @@ pub fn force(mult: Mult, from: &Lattice, to: &mut Block)
 /// The force values of a layer, line by line.
 fn force_layer(mult: Mult, from: &Lattice, to: &mut Block, z: u32, made: &mut Row)
     requires among { IsAmongCells to.old.low to.old.size from.now.cells }
+    requires some { HasCells to.old.size }
     requires small { EachAtMost (2 ^ 90) from.now }
     requires z { z < to.old.size.z }
     ensures { Changed (force_made mult from.now to.old.low) (OnLayer z) to.old to.new }
@@ -47,6 +51,7 @@ fn force_layer(mult: Mult, from: &Lattice, to: &mut Block, z: u32, made: &mut Ro
 /// The force values of a line.
 fn force_line(mult: Mult, from: &Lattice, to: &mut Block, y: u32, z: u32, made: &mut Row)
     requires among { IsAmongCells to.old.low to.old.size from.now.cells }
+    requires some { HasCells to.old.size }
     requires small { EachAtMost (2 ^ 90) from.now }
     requires y { y < to.old.size.y }
     requires z { z < to.old.size.z }
@@ -60,13 +65,14 @@ fn force_line(mult: Mult, from: &Lattice, to: &mut Block, y: u32, z: u32, made: 
 /// The force values of the component on `axis` along a line.
 fn force_row(mult: Mult, from: &Lattice, to: &mut Block, axis: Axis, y: u32, z: u32, made: &mut Row)
     requires among { IsAmongCells to.old.low to.old.size from.now.cells }
+    requires some { HasCells to.old.size }
     requires small { EachAtMost (2 ^ 90) from.now }
     requires y { y < to.old.size.y }
     requires z { z < to.old.size.z }
     ensures { Changed (force_made mult from.now to.old.low) (OnRow axis y z) to.old to.new }
 {
     let zone = to.zone();
-    let count = zone.size[0] as usize;
+    let count = line_length(from.cells(), zone);
     let here = cell_in(from.cells(), zone, [0, y, z]);
     scaled_row(from, mult, axis, here, count, made);
     to.set_row(axis, y, z, &made[..count]);

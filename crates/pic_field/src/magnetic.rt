@@ -9,11 +9,11 @@ ghost use Rattle.pic_grid.specs.Differences.{up};
 ghost use Rattle.pic_grid.specs.Lattice.{EachAtMost};
 ghost use Rattle.pic_grid.specs.Block.{IsAmongCells, IsShaped, AllAtMost, inner_at, outer_of};
 ghost use Rattle.pic_field.specs.FieldPhases.{half_of, half_in, lowest, least_fault, AllBounded};
-ghost use Rattle.pic_field.specs.Lines.{OnLine, OnLayer, BelowLayer, Changed, AreSmall, half_made, line_start};
+ghost use Rattle.pic_field.specs.Lines.{HasCells, OnLine, OnLayer, BelowLayer, Changed, AreSmall, half_made, line_start};
 ghost use Rattle.pic_field.specs.Rows.{IsScaledRow};
 
 use crate::faults::{safe_most, stop_in};
-use crate::place::cell_in;
+use crate::place::{cell_in, is_empty, line_length};
 use crate::rooms::{Rooms, half_row};
 use crate::row::{Four, copy_row, scaled_row, shifted};
 use pic_grid::{Block, Lattice, Phase, Stop};
@@ -56,6 +56,9 @@ fn half_layers(scales: &Scales, e: &Lattice, b: &mut Block, most: u128, rooms: &
     ensures calm { IsTrue result → AreSmall most (BelowLayer b.old.size.z) b.new }
 {
     let zone = b.zone();
+    if is_empty(zone) {
+        return true;
+    }
     let mut calm = true;
     for z in 0..zone.size[2] {
         let found = half_layer(scales, e, b, z, most, rooms);
@@ -75,6 +78,7 @@ fn half_layer(
     rooms: &mut Rooms,
 ) -> bool
     requires among { IsAmongCells b.old.low b.old.size e.now.cells }
+    requires some { HasCells b.old.size }
     requires e_small { EachAtMost (2 ^ 90) e.now }
     requires z { z < b.old.size.z }
     requires b_small { AreSmall (2 ^ 90) (OnLayer z) b.old }
@@ -82,7 +86,7 @@ fn half_layer(
     ensures calm { IsTrue result → AreSmall most (OnLayer z) b.new }
 {
     let zone = b.zone();
-    let count = zone.size[0] as usize + 1;
+    let count = line_length(e.cells(), zone) + 1;
     let first = cell_in(e.cells(), zone, [0, 0, z]);
     scaled_row(e, scales.e_to_b, Axis::X, first, count, &mut rooms.x);
     scaled_row(e, scales.e_to_b, Axis::Z, first, count, &mut rooms.z);
@@ -106,6 +110,7 @@ fn half_line(
     rooms: &mut Rooms,
 ) -> bool
     requires among { IsAmongCells b.old.low b.old.size e.now.cells }
+    requires some { HasCells b.old.size }
     requires e_small { EachAtMost (2 ^ 90) e.now }
     requires y { y < b.old.size.y }
     requires z { z < b.old.size.z }
@@ -122,7 +127,7 @@ fn half_line(
     ensures calm { IsTrue result → AreSmall most (OnLine y z) b.new }
 {
     let zone = b.zone();
-    let count = zone.size[0] as usize;
+    let count = line_length(e.cells(), zone);
     let here = cell_in(e.cells(), zone, [0, y, z]);
     half_rows(scales.e_to_b, e, here, count + 1, rooms);
     let on_x = Four {

@@ -1,9 +1,12 @@
 //! The places of a block in their order.
 
-ghost use Rattle.std.specs.Prelude.{◌≡◌, ◌+◌, ◌*◌, ◌<◌};
+ghost use Rattle.std.specs.Prelude.{◌≡◌, ◌+◌, ◌*◌, ◌<◌, ◌≤◌};
+ghost use Rattle.std.specs.Bool.{OnTrue, OnFalse};
+ghost use Rattle.pic_num.specs.Limits.{most_cells_of_axis};
 ghost use Rattle.pic_num.specs.Space.{triple, spot, axis_number, unwrapped};
-ghost use Rattle.pic_grid.specs.Cells.{IsSize, IsWithin, count_of, place_of};
+ghost use Rattle.pic_grid.specs.Cells.{IsWithin, count_of, place_of};
 ghost use Rattle.pic_grid.specs.Block.{InZone, IsAmongCells, outer_of};
+ghost use Rattle.pic_field.specs.Lines.{HasCells};
 
 use pic_grid::{Cells, Zone};
 use pic_num::Axis;
@@ -29,7 +32,6 @@ impl Place {
 
     /// The place after this one in a block of `size` layers, x fastest, then y, z and the axis.
     pub(crate) fn following(self, size: [u32; 3]) -> Place
-        requires layers { IsSize (triple size) }
         requires within { IsWithin (triple self.inner) (triple size) }
         ensures within { IsWithin (triple result.inner) (triple size) }
         ensures number { let number = place_of (triple size) self.axis (triple self.inner) in
@@ -58,21 +60,48 @@ impl Place {
     }
 }
 
-/// How many places a block of `size` layers has.
-pub(crate) fn place_count(size: [u32; 3]) -> u32
-    requires { IsSize (triple size) }
-    ensures { result ≡ 3 * count_of (triple size) }
+/// How many places a block has whose zone lies among the cells.
+pub(crate) fn place_count(cells: Cells, zone: Zone) -> u32
+    requires { IsAmongCells (spot zone.low) (triple zone.size) cells.n }
+    ensures { result ≡ 3 * count_of (triple zone.size) }
 {
-    let [nx, ny, nz] = size;
+    let [_, _, _] = cells.n;
+    let [nx, ny, nz] = zone.size;
     3 * (nx * ny * nz)
+}
+
+/// How many cells a line of a zone among the cells has.
+pub(crate) fn line_length(cells: Cells, zone: Zone) -> usize
+    requires { IsAmongCells (spot zone.low) (triple zone.size) cells.n }
+    ensures value { result ≡ (triple zone.size).x }
+    ensures few { result ≤ most_cells_of_axis }
+{
+    let [_, _, _] = cells.n;
+    let [nx, _, _] = zone.size;
+    nx as usize
+}
+
+/// Whether a zone has no cell.
+pub(crate) fn is_empty(zone: Zone) -> bool
+    ensures none { OnTrue result (HasCells (triple zone.size) → ⊥) }
+    ensures some { OnFalse result (HasCells (triple zone.size)) }
+{
+    let [nx, ny, nz] = zone.size;
+    if nx == 0 {
+        return true;
+    }
+    if ny == 0 {
+        return true;
+    }
+    nz == 0
 }
 
 /// The cell of the grid that lies `inner` above the lowest of a zone.
 pub(crate) fn cell_in(cells: Cells, zone: Zone, inner: [u32; 3]) -> [u32; 3]
-    requires among { IsAmongCells (spot zone.low) (triple zone.size) cells }
+    requires among { IsAmongCells (spot zone.low) (triple zone.size) cells.n }
     requires within { IsWithin (triple inner) (triple zone.size) }
     ensures value { triple result ≡ outer_of (spot zone.low) (triple inner) }
-    ensures within { IsWithin (triple result) cells }
+    ensures within { IsWithin (triple result) cells.n }
     ensures inside { InZone (spot zone.low) (triple zone.size) (unwrapped (triple result)) }
 {
     let [_, _, _] = cells.n;

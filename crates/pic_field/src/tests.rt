@@ -4,12 +4,12 @@ ghost use Rattle.std.specs.Prelude.{◌≡◌, ◌^◌, IfOk};
 ghost use Rattle.pic_num.specs.Sizes.{IsAtMost};
 ghost use Rattle.pic_num.specs.Space.{triple, spot};
 ghost use Rattle.pic_grid.specs.Cells.{IsCells, IsWithin};
-ghost use Rattle.pic_grid.specs.Block.{IsZone, InZone, IsAmongCells, IsShaped, AllAtMost};
+ghost use Rattle.pic_grid.specs.Block.{InZone, IsAmongCells, IsShaped, AllAtMost};
 ghost use Rattle.pic_grid.specs.Lattice.{EachAtMost};
 
 use crate::{force, full_e, half_b};
 use pic_grid::{Block, Bound, Cells, Lattice, Phase, Stop, Zone};
-use pic_num::{Axis, Mult, NoMemory, Scales};
+use pic_num::{Axis, Mult, NoMemory, Scales, Sub};
 use std::alloc::Global;
 
 // a value of a lattice, and one of a block
@@ -23,7 +23,7 @@ fn lattice_of(alloc: Global, n: [u32; 3], values: &[Value]) -> Result<Lattice, N
     ensures cells { IfOk result (λ f. f.cells ≡ triple n) }
     ensures small { IfOk result (EachAtMost (2 ^ 90)) }
 {
-    let mut field = Lattice::new(alloc, Cells::new(n), [1; 3])?;
+    let mut field = Lattice::new(alloc, Cells::new(n, Sub::of_bits(12)), [1; 3])?;
     for (axis, cell, value) in values {
         put(&mut field, *axis, *cell, *value);
     }
@@ -48,7 +48,6 @@ fn put(field: &mut Lattice, axis: Axis, cell: [u32; 3], value: i128)
 
 // A block of zeros but for these values.
 fn block_of(alloc: Global, zone: Zone, values: &[Edge]) -> Result<Block, NoMemory>
-    requires { IsZone (spot zone.low) (triple zone.size) }
     ensures low { IfOk result (λ b. b.low ≡ spot zone.low) }
     ensures size { IfOk result (λ b. b.size ≡ triple zone.size) }
     ensures small { IfOk result (AllAtMost (2 ^ 90)) }
@@ -114,7 +113,6 @@ fn half_step(
 ) -> Result<(Block, Result<(), Stop>), NoMemory>
     requires among { IsAmongCells (spot zone.low) (triple zone.size)
         (record { x = 4; y = 4; z = 4 }) }
-    requires limits { IsZone (spot zone.low) (triple zone.size) }
 {
     let e = lattice_of(alloc, [4, 4, 4], edges)?;
     let mut b = block_of(alloc, zone, faces)?;
@@ -274,14 +272,14 @@ fn half_a_step_of_b(rt: HostRuntime) -> Result<(), NoMemory> {
 
 #[test]
 fn force_values_are_rounded_once(rt: HostRuntime) -> Result<(), NoMemory> {
-    let from = lattice_of(rt.alloc(), [4, 4, 4], &[(Axis::X, [3, 3, 3], 5)])?;
+    let from = lattice_of(rt.alloc(), [128, 4, 4], &[(Axis::X, [127, 3, 3], 5)])?;
     let zone = Zone {
-        low: [3, 3, 3],
+        low: [127, 3, 3],
         size: [1, 1, 1],
     };
-    let mut to = block_of(rt.alloc(), zone, &[(Axis::Y, [3, 3, 3], 7)])?;
+    let mut to = block_of(rt.alloc(), zone, &[(Axis::Y, [127, 3, 3], 7)])?;
     force(Mult::new(1, 1), &from, &mut to);
-    assert_eq!(rt; read(&to, Axis::X, [3, 3, 3]), 3);
-    assert_eq!(rt; read(&to, Axis::Y, [3, 3, 3]), 0);
+    assert_eq!(rt; read(&to, Axis::X, [127, 3, 3]), 3);
+    assert_eq!(rt; read(&to, Axis::Y, [127, 3, 3]), 0);
     Ok(())
 }

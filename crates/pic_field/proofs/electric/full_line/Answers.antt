@@ -1,4 +1,4 @@
-use Rattle.std.proofs.Common.{◌≡◌, ◌+◌, ◌&&◌, ◌^◌, ◌≤◌, ℕ, ℤ, List, length, slice_index, sym, ◌∙◌, ap, subst, arith}
+use Rattle.std.proofs.Common.{◌≡◌, ◌+◌, ◌&&◌, ◌^◌, ◌≤◌, ℕ, ℤ, List, length, sym, ◌∙◌, ap, subst, arith}
 use Rattle.pic_num.specs.declared.axis.Axis.{Axis}
 use Rattle.pic_num.specs.declared.axis.Axis.TheVariants.{X, Y, Z}
 use Rattle.pic_num.specs.Space.{Triple, Spot, triple}
@@ -14,14 +14,14 @@ use Rattle.pic_field.proofs.electric.full_line.Goals as goal
 use Rattle.pic_field.proofs.electric.full_line.Goals.{After-full_rows}
 
 abbrev Of : After-full_rows → Axis → Triple → List ℤ → Type 0
-Of c a p row = IsScaledRow c.args.b.now c.args.scales.now.b_to_e a p (slice_index c.zone-zone.result.size 0 + 1) row
+Of c a p row = IsScaledRow c.args.b.now c.args.scales.now.b_to_e a p (c.line_length-count.result + 1) row
 
 abbrev start : After-full_rows → Triple
 start c = line_start c.args.e.now.low c.args.y c.args.z
 
 -- the rows of the line, where it begins
 record Known (c : After-full_rows) : Type 0 where
-  same : slice_index c.zone-zone.result.size 0 ≡ c.args.e.now.size.x
+  same : c.line_length-count.result ≡ c.args.e.now.size.x
   x : Of c X (start c) c.full_rows.new.rooms.x
   y : Of c Y (down c.args.b.now.cells X (start c)) c.full_rows.new.rooms.y
   z : Of c Z (down c.args.b.now.cells X (start c)) c.full_rows.new.rooms.z
@@ -35,7 +35,7 @@ known c =
     let n = c.args.b.now.cells in
     let h = c.full_rows.ensures in
     let rooms = c.full_rows.new.rooms in
-    let same : slice_index c.zone-zone.result.size 0 ≡ c.args.e.now.size.x = ap (λ (m : Triple). m.x) c.zone-zone.ensures.size in
+    let same : c.line_length-count.result ≡ c.args.e.now.size.x = c.line_length-count.ensures.value ∙ ap (λ (m : Triple). m.x) c.zone-zone.ensures.size in
     let inner : Triple = record { x = 0; y = c.args.y; z = c.args.z } in
     let at : triple c.cell_in-here.result ≡ start c = c.cell_in-here.ensures.value ∙ ap (λ (l : Spot). outer_of l inner) c.zone-zone.ensures.low in
     record {
@@ -61,7 +61,7 @@ returns-clause-changed c =
     let e = c.args.e.now in
     let y = c.args.y in
     let z = c.args.z in
-    let count = slice_index c.zone-zone.result.size 0 in
+    let count = c.line_length-count.result in
     let rooms = c.full_rows.new.rooms in
     let one = c.full_row-calm_x.new.e in
     let two = c.full_row-calm_y.new.e in
@@ -80,45 +80,45 @@ returns-clause-changed c =
 pub full_row-calm_y-requires-clause-far_second : goal.full_row-calm_y-requires-clause-far_second
 full_row-calm_y-requires-clause-far_second c =
     let k = known (goal.at.full_row-calm_y-requires-clause-far_second c).After-full_rows in
-    front_row (2 ^ 121) (slice_index c.zone-zone.result.size 0) c.full_rows.new.rooms.z c.full_row-calm_x.new.e.size.x (omega arith) k.z.small
+    front_row (2 ^ 121) (c.line_length-count.result) c.full_rows.new.rooms.z c.full_row-calm_x.new.e.size.x (omega arith) k.z.small
     (k.same ∙ sym (ap (λ (n : Triple). n.x) c.full_row-calm_x.ensures.changed.shaped.size))
 
 pub full_row-calm_y-requires-clause-near_second : goal.full_row-calm_y-requires-clause-near_second
 full_row-calm_y-requires-clause-near_second c =
     let k = known (goal.at.full_row-calm_y-requires-clause-near_second c).After-full_rows in
-    shifted_row (2 ^ 121) (slice_index c.zone-zone.result.size 0) c.full_rows.new.rooms.z c.shifted-4.result.now c.full_row-calm_x.new.e.size.x
+    shifted_row (2 ^ 121) (c.line_length-count.result) c.full_rows.new.rooms.z c.shifted-4.result.now c.full_row-calm_x.new.e.size.x
     c.shifted-4.ensures.length c.shifted-4.ensures.values k.z.small (k.same ∙ sym (ap (λ (n : Triple). n.x) c.full_row-calm_x.ensures.changed.shaped.size))
 
 pub full_row-calm_z-requires-clause-far_third : goal.full_row-calm_z-requires-clause-far_third
 full_row-calm_z-requires-clause-far_third c =
     let k = known (goal.at.full_row-calm_z-requires-clause-far_third c).After-full_rows in
-    front_row (2 ^ 121) (slice_index c.zone-zone.result.size 0) c.full_rows.new.rooms.y c.full_row-calm_y.new.e.size.x (omega arith) k.y.small
+    front_row (2 ^ 121) (c.line_length-count.result) c.full_rows.new.rooms.y c.full_row-calm_y.new.e.size.x (omega arith) k.y.small
     (k.same ∙ sym (ap (λ (n : Triple). n.x) (c.full_row-calm_y.ensures.changed.shaped.size ∙ c.full_row-calm_x.ensures.changed.shaped.size)))
 
 pub full_row-calm_z-requires-clause-near_third : goal.full_row-calm_z-requires-clause-near_third
 full_row-calm_z-requires-clause-near_third c =
     let k = known (goal.at.full_row-calm_z-requires-clause-near_third c).After-full_rows in
-    shifted_row (2 ^ 121) (slice_index c.zone-zone.result.size 0) c.full_rows.new.rooms.y c.shifted-5.result.now c.full_row-calm_y.new.e.size.x
+    shifted_row (2 ^ 121) (c.line_length-count.result) c.full_rows.new.rooms.y c.shifted-5.result.now c.full_row-calm_y.new.e.size.x
     c.shifted-5.ensures.length c.shifted-5.ensures.values k.y.small
     (k.same ∙ sym (ap (λ (n : Triple). n.x) (c.full_row-calm_y.ensures.changed.shaped.size ∙ c.full_row-calm_x.ensures.changed.shaped.size)))
 
 pub full_row-calm_z-requires-clause-far_second : goal.full_row-calm_z-requires-clause-far_second
 full_row-calm_z-requires-clause-far_second c =
     let k = known (goal.at.full_row-calm_z-requires-clause-far_second c).After-full_rows in
-    front_row (2 ^ 121) (slice_index c.zone-zone.result.size 0) c.full_rows.new.rooms.x_by_y c.full_row-calm_y.new.e.size.x
-    (subst (λ (row : List ℤ). slice_index c.zone-zone.result.size 0 ≤ length row) (sym c.full_rows.ensures.x_by_y) (omega arith)) k.x_by_y.small
+    front_row (2 ^ 121) (c.line_length-count.result) c.full_rows.new.rooms.x_by_y c.full_row-calm_y.new.e.size.x
+    (subst (λ (row : List ℤ). c.line_length-count.result ≤ length row) (sym c.full_rows.ensures.x_by_y) (omega arith)) k.x_by_y.small
     (k.same ∙ sym (ap (λ (n : Triple). n.x) (c.full_row-calm_y.ensures.changed.shaped.size ∙ c.full_row-calm_x.ensures.changed.shaped.size)))
 
 pub returns-clause-x_by_y : goal.returns-clause-x_by_y
 returns-clause-x_by_y c =
     let k = known (goal.at.returns-clause-x_by_y c).After-full_rows in
-    copied_row c.args.b.now c.args.scales.now.b_to_e X (line_start c.args.e.now.low c.args.y c.args.z) (slice_index c.zone-zone.result.size 0) c.args.e.now.size.x
+    copied_row c.args.b.now c.args.scales.now.b_to_e X (line_start c.args.e.now.low c.args.y c.args.z) (c.line_length-count.result) c.args.e.now.size.x
     c.full_rows.new.rooms.x c.copy_row.new.to k.x c.copy_row.ensures k.same
 
 pub returns-clause-z_by_y : goal.returns-clause-z_by_y
 returns-clause-z_by_y c =
     let k = known (goal.at.returns-clause-z_by_y c).After-full_rows in
-    copied_row c.args.b.now c.args.scales.now.b_to_e Z (down c.args.b.now.cells X (line_start c.args.e.now.low c.args.y c.args.z)) (slice_index c.zone-zone.result.size 0)
+    copied_row c.args.b.now c.args.scales.now.b_to_e Z (down c.args.b.now.cells X (line_start c.args.e.now.low c.args.y c.args.z)) (c.line_length-count.result)
     c.args.e.now.size.x c.full_rows.new.rooms.z c.copy_row-2.new.to k.z c.copy_row-2.ensures k.same
 
 pub returns-clause-calm : goal.returns-clause-calm

@@ -14,14 +14,14 @@ use Rattle.pic_field.proofs.faults.stop_in.Goals as goal
 use Rattle.pic_field.proofs.faults.stop_in.Goals.{After-cell_in-cell}
 
 -- where the walk stands
-here : (c : After-cell_in-cell) → IsHere c.args.b.now c.args.cells c.loop-number._number c.loop-number.place.axis (triple c.loop-number.place.inner) (triple c.cell_in-cell.result)
+here : (c : After-cell_in-cell) → IsHere c.args.b.now c.args.cells.n c.loop-number._number c.loop-number.place.axis (triple c.loop-number.place.inner) (triple c.cell_in-cell.result)
 here c =
     let below : c.loop-number._number < 3 * count_of (triple c.zone-zone.result.size) = omega (arith, c.place_count-number-end.ensures, c.loop-number-test.true) in
-    is_here c.args.b.now c.args.cells _ _ _ _ _ _ c.zone-zone.ensures.low c.zone-zone.ensures.size c.requires.among c.loop-number.invariant.place below c.cell_in-cell.ensures.value
+    is_here c.args.b.now c.args.cells.n _ _ _ _ _ _ c.zone-zone.ensures.low c.zone-zone.ensures.size c.requires.among c.loop-number.invariant.place below c.cell_in-cell.ensures.value
 
 pub loop-number-init : goal.loop-number-init
 loop-number-init c = record {
-  place = first_place (triple c.zone-zone.result.size) c.args.b.now.size _ _ c.zone-zone.ensures.size c.zone-zone.ensures.limits.layers c.first-place.ensures.axis c.first-place.ensures.inner;
+  place = first_place (triple c.zone-zone.result.size) _ _ c.first-place.ensures.axis c.first-place.ensures.inner;
   stop = sym (fault_below-none c.args.phase c.args.by (λ a p. edge_at c.args.b.now a (unwrapped p)) c.args.b.now);
 }
 
@@ -39,7 +39,7 @@ loop-number-preserved c =
     record {
       place = next_place (triple c.zone-zone.result.size) i a p _ _ c.loop-number.invariant.place below c.following-place.ensures.within c.following-place.ensures.number;
       stop = c.or-stop.ensures
-          ∙ fault_below-more c.args.phase c.args.by (λ d r. edge_at b d (unwrapped r)) b c.args.cells i a p q c.loop-number.stop c.fault-found.result h c.loop-number.invariant.stop
+          ∙ fault_below-more c.args.phase c.args.by (λ d r. edge_at b d (unwrapped r)) b c.args.cells.n i a p q c.loop-number.stop c.fault-found.result h c.loop-number.invariant.stop
           (c.fault-found.ensures ∙ ap (fault_of c.args.phase c.args.by a q) value);
     }
 

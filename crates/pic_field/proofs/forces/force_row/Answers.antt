@@ -1,4 +1,4 @@
-use Rattle.std.proofs.Common.{◌≡◌, ◌<◌, ◌≤◌, length, take, slice_index, ◌∙◌, ap, subst, arith}
+use Rattle.std.proofs.Common.{◌≡◌, ◌<◌, length, take, ◌∙◌, ap, subst, arith}
 use Rattle.std.proofs.lemmas.List.{length-take-le}
 use Rattle.pic_num.specs.Space.{Triple, Spot, triple}
 use Rattle.pic_grid.specs.Block.{outer_of}
@@ -14,16 +14,15 @@ returns c =
     let from = c.args.from.now in
     let y = c.args.y in
     let z = c.args.z in
-    let count = slice_index c.zone-zone.result.size 0 in
+    let count = c.line_length-count.result in
     let made = c.scaled_row.new.to in
-    let size : count ≡ to.size.x = ap (λ (n : Triple). n.x) c.zone-zone.ensures.size in
-    let some : 1 ≤ to.size.x = c.zone-zone.ensures.limits.layers.x_least in
+    let size : count ≡ to.size.x = c.line_length-count.ensures.value ∙ ap (λ (n : Triple). n.x) c.zone-zone.ensures.size in
     let inner : Triple = record { x = 0; y = y; z = z } in
     let at : triple c.cell_in-here.result ≡ line_start to.low y z = c.cell_in-here.ensures.value ∙ ap (λ (l : Spot). outer_of l inner) c.zone-zone.ensures.low in
     let row : IsScaledRow from c.args.mult c.args.axis (line_start to.low y z) count made = subst (λ (s : Triple). IsScaledRow from c.args.mult c.args.axis s count made) at c.scaled_row.ensures in
     let room : length made ≡ 129 = c.scaled_row.array_long in
-    let most : to.size.x ≤ 67 = c.zone-zone.ensures.limits.layers.x_most in
-    row_changed (force_made c.args.mult from to.low) to c.set_row.new.self c.args.axis y z (take count made) c.set_row.ensures c.zone-zone.ensures.shape some
+    let most = c.line_length-count.ensures.few in
+    row_changed (force_made c.args.mult from to.low) to c.set_row.new.self c.args.axis y z (take count made) c.set_row.ensures c.zone-zone.ensures.shape
     c.requires.y c.requires.z (length-take-le count made (omega (arith, size)) ∙ size) (λ x below.
     let inside : x < count = omega (arith, size) in
     front made count x _ inside (row_here from c.args.mult to.low to.size y z x c.requires.among below c.args.axis count made row inside))

@@ -1,4 +1,4 @@
-use Rattle.std.proofs.Common.{◌≡◌, ◌+◌, ◌&&◌, ℕ, ℤ, List, slice_index, sym, ◌∙◌, ap, subst}
+use Rattle.std.proofs.Common.{◌≡◌, ◌+◌, ◌&&◌, ℕ, ℤ, List, sym, ◌∙◌, ap, subst}
 use Rattle.pic_num.specs.declared.axis.Axis.TheVariants.{X, Y, Z}
 use Rattle.pic_num.specs.Space.{Triple, Spot, triple}
 use Rattle.pic_grid.specs.Cells.{IsWithin}
@@ -14,18 +14,18 @@ use Rattle.pic_field.proofs.magnetic.half_line.Goals.{After-half_rows}
 
 -- the rows of the line, where it begins
 record Known (c : After-half_rows) : Type 0 where
-  same : slice_index c.zone-zone.result.size 0 ≡ c.args.b.now.size.x
-  x : IsScaledRow c.args.e.now c.args.scales.now.e_to_b X (line_start c.args.b.now.low c.args.y c.args.z) (slice_index c.zone-zone.result.size 0 + 1) c.half_rows.new.rooms.x
-  y : IsScaledRow c.args.e.now c.args.scales.now.e_to_b Y (line_start c.args.b.now.low c.args.y c.args.z) (slice_index c.zone-zone.result.size 0 + 1) c.half_rows.new.rooms.y
-  z : IsScaledRow c.args.e.now c.args.scales.now.e_to_b Z (line_start c.args.b.now.low c.args.y c.args.z) (slice_index c.zone-zone.result.size 0 + 1) c.half_rows.new.rooms.z
+  same : c.line_length-count.result ≡ c.args.b.now.size.x
+  x : IsScaledRow c.args.e.now c.args.scales.now.e_to_b X (line_start c.args.b.now.low c.args.y c.args.z) (c.line_length-count.result + 1) c.half_rows.new.rooms.x
+  y : IsScaledRow c.args.e.now c.args.scales.now.e_to_b Y (line_start c.args.b.now.low c.args.y c.args.z) (c.line_length-count.result + 1) c.half_rows.new.rooms.y
+  z : IsScaledRow c.args.e.now c.args.scales.now.e_to_b Z (line_start c.args.b.now.low c.args.y c.args.z) (c.line_length-count.result + 1) c.half_rows.new.rooms.z
   x_by_y : IsScaledRow c.args.e.now c.args.scales.now.e_to_b X (up c.args.e.now.cells Y (line_start c.args.b.now.low c.args.y c.args.z))
-      (slice_index c.zone-zone.result.size 0 + 1) c.half_rows.new.rooms.x_by_y
+      (c.line_length-count.result + 1) c.half_rows.new.rooms.x_by_y
   z_by_y : IsScaledRow c.args.e.now c.args.scales.now.e_to_b Z (up c.args.e.now.cells Y (line_start c.args.b.now.low c.args.y c.args.z))
-      (slice_index c.zone-zone.result.size 0 + 1) c.half_rows.new.rooms.z_by_y
+      (c.line_length-count.result + 1) c.half_rows.new.rooms.z_by_y
   x_by_z : IsScaledRow c.args.e.now c.args.scales.now.e_to_b X (up c.args.e.now.cells Z (line_start c.args.b.now.low c.args.y c.args.z))
-      (slice_index c.zone-zone.result.size 0 + 1) c.half_rows.new.rooms.x_by_z
+      (c.line_length-count.result + 1) c.half_rows.new.rooms.x_by_z
   y_by_z : IsScaledRow c.args.e.now c.args.scales.now.e_to_b Y (up c.args.e.now.cells Z (line_start c.args.b.now.low c.args.y c.args.z))
-      (slice_index c.zone-zone.result.size 0 + 1) c.half_rows.new.rooms.y_by_z
+      (c.line_length-count.result + 1) c.half_rows.new.rooms.y_by_z
 
 known : (c : After-half_rows) → Known c
 known c =
@@ -33,8 +33,8 @@ known c =
     let by = c.args.scales.now.e_to_b in
     let h = c.half_rows.ensures in
     let rooms = c.half_rows.new.rooms in
-    let count = slice_index c.zone-zone.result.size 0 in
-    let same : count ≡ c.args.b.now.size.x = ap (λ (n : Triple). n.x) c.zone-zone.ensures.size in
+    let count = c.line_length-count.result in
+    let same : count ≡ c.args.b.now.size.x = c.line_length-count.ensures.value ∙ ap (λ (n : Triple). n.x) c.zone-zone.ensures.size in
     let inner : Triple = record { x = 0; y = c.args.y; z = c.args.z } in
     let at : triple c.cell_in-here.result ≡ line_start c.args.b.now.low c.args.y c.args.z = c.cell_in-here.ensures.value ∙ ap (λ (l : Spot). outer_of l inner) c.zone-zone.ensures.low in
     record {
@@ -58,7 +58,7 @@ returns-clause-changed c =
     let b = c.args.b.now in
     let y = c.args.y in
     let z = c.args.z in
-    let count = slice_index c.zone-zone.result.size 0 in
+    let count = c.line_length-count.result in
     let rooms = c.half_rows.new.rooms in
     let one = c.half_row-calm_x.new.b in
     let two = c.half_row-calm_y.new.b in
@@ -77,13 +77,13 @@ pub returns-clause-x_row : goal.returns-clause-x_row
 returns-clause-x_row c =
     let k = known (goal.at.returns-clause-x_row c).After-half_rows in
     copied_row c.args.e.now c.args.scales.now.e_to_b X (up c.args.e.now.cells Y (line_start c.args.b.now.low c.args.y c.args.z))
-    (slice_index c.zone-zone.result.size 0) c.args.b.now.size.x c.half_rows.new.rooms.x_by_y c.copy_row.new.to k.x_by_y c.copy_row.ensures k.same
+    (c.line_length-count.result) c.args.b.now.size.x c.half_rows.new.rooms.x_by_y c.copy_row.new.to k.x_by_y c.copy_row.ensures k.same
 
 pub returns-clause-z_row : goal.returns-clause-z_row
 returns-clause-z_row c =
     let k = known (goal.at.returns-clause-z_row c).After-half_rows in
     copied_row c.args.e.now c.args.scales.now.e_to_b Z (up c.args.e.now.cells Y (line_start c.args.b.now.low c.args.y c.args.z))
-    (slice_index c.zone-zone.result.size 0) c.args.b.now.size.x c.half_rows.new.rooms.z_by_y c.copy_row-2.new.to k.z_by_y c.copy_row-2.ensures k.same
+    (c.line_length-count.result) c.args.b.now.size.x c.half_rows.new.rooms.z_by_y c.copy_row-2.new.to k.z_by_y c.copy_row-2.ensures k.same
 
 pub returns-clause-calm : goal.returns-clause-calm
 returns-clause-calm c = λ all.

@@ -1,4 +1,4 @@
-use Rattle.std.proofs.Common.{◌≡◌, ◌≤◌, ◌<◌, ◌-ℤ◌, ℤ, length, slice_index, ◌∙◌, ap, arith}
+use Rattle.std.proofs.Common.{◌≡◌, ◌<◌, ◌-ℤ◌, ℤ, length, slice_index, ◌∙◌, ap, arith}
 use Rattle.std.proofs.lemmas.List.{take_at, length-take-le}
 use Rattle.pic_num.specs.Space.{Triple}
 use Rattle.pic_grid.specs.Rows.{with_row}
@@ -14,7 +14,6 @@ record Known (c : After-set_row) : Type 0 where
   size : slice_index c.zone-zone.result.size 0 ≡ c.args.e.now.size.x
   long : length c.lessen_row-calm.new.new ≡ c.args.e.now.size.x
   long_less : length c.less_row.new.new ≡ slice_index c.zone-zone.result.size 0
-  some : 1 ≤ c.args.e.now.size.x
 
 known : (c : After-set_row) → Known c
 known c =
@@ -31,7 +30,6 @@ known c =
       size = size;
       long = long ∙ size;
       long_less = long_less;
-      some = c.zone-zone.ensures.limits.layers.x_least;
     }
 
 pub returns-clause-changed : goal.returns-clause-changed
@@ -40,7 +38,7 @@ returns-clause-changed c =
     let e = c.args.e.now in
     let count = slice_index c.zone-zone.result.size 0 in
     let of_j : c.args.j.now.size.x ≡ e.size.x = ap (λ (n : Triple). n.x) c.requires.j_shape.size in
-    row_changed _ e c.set_row.new.self c.args.axis c.args.y c.args.z c.lessen_row-calm.new.new k.is c.zone-zone.ensures.shape k.some c.requires.y c.requires.z k.long
+    row_changed _ e c.set_row.new.self c.args.axis c.args.y c.args.z c.lessen_row-calm.new.new k.is c.zone-zone.ensures.shape c.requires.y c.requires.z k.long
     (λ x below.
     let inside : x < count = omega (arith, k.size) in
     let in_row : x < length c.row.result.now = omega (arith, c.row.ensures.length) in
@@ -54,6 +52,6 @@ pub returns-clause-calm : goal.returns-clause-calm
 returns-clause-calm c = λ calm.
     let k = known (goal.at.returns-clause-calm c).After-set_row in
     let count = slice_index c.zone-zone.result.size 0 in
-    row_small c.args.most c.args.e.now c.set_row.new.self c.args.axis c.args.y c.args.z c.lessen_row-calm.new.new k.is c.zone-zone.ensures.shape k.some c.requires.y
+    row_small c.args.most c.args.e.now c.set_row.new.self c.args.axis c.args.y c.args.z c.lessen_row-calm.new.new k.is c.zone-zone.ensures.shape c.requires.y
     c.requires.z k.long
     (taken_small c.less_row.new.new _ count c.args.e.now.size.x c.args.most c.lessen_row-calm.new.new k.long_less k.size (c.lessen_row-calm.ensures.calm calm))

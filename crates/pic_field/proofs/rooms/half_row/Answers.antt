@@ -1,4 +1,4 @@
-use Rattle.std.proofs.Common.{◌≡◌, ◌≤◌, ◌-ℤ◌, ℕ, ℤ, length, slice_index, ◌∙◌, ap, subst, arith}
+use Rattle.std.proofs.Common.{◌≡◌, ◌-ℤ◌, ℕ, ℤ, length, slice_index, ◌∙◌, ap, subst, arith}
 use Rattle.std.proofs.lemmas.List.{take_at, length-take-le}
 use Rattle.pic_num.specs.Space.{Triple}
 use Rattle.pic_grid.specs.Rows.{with_row}
@@ -12,7 +12,6 @@ record Known (c : After-set_row) : Type 0 where
   is : c.set_row.new.self ≡ with_row c.args.b.now c.args.axis c.args.y c.args.z c.lessen_row-calm.new.new
   long : length c.lessen_row-calm.new.new ≡ c.args.b.now.size.x
   same : length c.row-old.result.now ≡ c.args.b.now.size.x
-  some : 1 ≤ c.args.b.now.size.x
 
 known : (c : After-set_row) → Known c
 known c =
@@ -25,14 +24,13 @@ known c =
       is = c.set_row.ensures ∙ ap (with_row c.args.b.now c.args.axis c.args.y c.args.z) (take_at c.lessen_row-calm.new.new _ count long);
       long = long ∙ size;
       same = c.row-old.ensures.length;
-      some = c.zone-zone.ensures.limits.layers.x_least;
     }
 
 pub returns-clause-changed : goal.returns-clause-changed
 returns-clause-changed c =
     let k = known (goal.at.returns-clause-changed c).After-set_row in
     let b = c.args.b.now in
-    row_changed _ b c.set_row.new.self c.args.axis c.args.y c.args.z c.lessen_row-calm.new.new k.is c.zone-zone.ensures.shape k.some c.requires.y c.requires.z k.long
+    row_changed _ b c.set_row.new.self c.args.axis c.args.y c.args.z c.lessen_row-calm.new.new k.is c.zone-zone.ensures.shape c.requires.y c.requires.z k.long
     (λ x below. c.lessen_row-calm.ensures.values x (omega (arith, k.same))
     ∙ ap (λ (v : ℤ). v -ℤ curl_of (row_at c.args.four.now.far_third.now x) (row_at c.args.four.now.near_third.now x) (row_at c.args.four.now.far_second.now x)
     (row_at c.args.four.now.near_second.now x)) (c.row-old.ensures.values x below))
@@ -41,5 +39,5 @@ pub returns-clause-calm : goal.returns-clause-calm
 returns-clause-calm c = λ calm.
     let k = known (goal.at.returns-clause-calm c).After-set_row in
     let b = c.args.b.now in
-    row_small c.args.most b c.set_row.new.self c.args.axis c.args.y c.args.z c.lessen_row-calm.new.new k.is c.zone-zone.ensures.shape k.some c.requires.y c.requires.z
+    row_small c.args.most b c.set_row.new.self c.args.axis c.args.y c.args.z c.lessen_row-calm.new.new k.is c.zone-zone.ensures.shape c.requires.y c.requires.z
     k.long (subst (λ (n : ℕ). IsSmallRow c.args.most n c.lessen_row-calm.new.new) k.same (c.lessen_row-calm.ensures.calm calm))
