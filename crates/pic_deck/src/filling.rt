@@ -1,6 +1,6 @@
 //! Filling a lattice with a field that a deck begins with.
 
-ghost use Rattle.std.specs.Prelude.{◌≡◌, ℤ, pos, ◌^◌, ◌+ℤ◌, ◌*◌, ◌≤◌, length, unsigned_abs};
+ghost use Rattle.std.specs.Prelude.{◌≡◌, ℤ, ◌^◌, ◌+ℤ◌, ◌*◌, length};
 ghost use Rattle.pic_num.specs.declared.axis.Axis.{Axis as AxisView};
 ghost use Rattle.pic_num.specs.Sizes.{IsAtMost};
 ghost use Rattle.pic_num.specs.Space.{Triple, spot, along};

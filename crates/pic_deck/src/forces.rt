@@ -1,6 +1,6 @@
 //! The test of the force values of the fields that a deck begins with.
 
-ghost use Rattle.std.specs.Prelude.{◌≡◌, ℤ, pos, ◌^◌, IsTrue, codes, OnOk};
+ghost use Rattle.std.specs.Prelude.{◌≡◌, pos, ◌^◌, IsTrue, codes, OnOk};
 ghost use Rattle.pic_num.specs.declared.axis.Axis.{Axis};
 ghost use Rattle.pic_num.specs.Sizes.{IsAtMost};
 ghost use Rattle.pic_num.specs.Space.{Triple, spot};

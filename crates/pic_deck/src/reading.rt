@@ -2,7 +2,6 @@
 
 ghost use Rattle.std.specs.Prelude.{◌≡◌, ◌↔◌, ◌<◌, Some, Err, [], IfOk, IfErr};
 ghost use Rattle.toml.specs.View.{table_view};
-ghost use Rattle.pic_walk.specs.Bounds.{most_bytes};
 ghost use Rattle.pic_walk.specs.Walk.{WalksAs, listed};
 ghost use Rattle.pic_deck.specs.declared.refusal.Refusal.TheVariants.{Text};
 ghost use Rattle.pic_deck.specs.Deck.{DeckView};

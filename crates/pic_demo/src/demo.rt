@@ -1,6 +1,6 @@
 //! The demonstration's deck.
 
-ghost use Rattle.std.specs.Prelude.{◌≡◌, ◌^◌, ◌<◌, IfOk};
+ghost use Rattle.std.specs.Prelude.{◌≡◌, ◌<◌, IfOk};
 ghost use Rattle.pic_demo.specs.Demo.{demo_scales, demo_settings, electron, ion, demo_deck};
 
 use pic_deck::{Deck, Fill, InitialFields, Settings, Species, SpeciesList};

@@ -1,10 +1,10 @@
 //! The particles of a deck, species by species.
 
-ghost use Rattle.std.specs.Prelude.{◌≡◌, ℕ, ◌+◌, ◌*◌, ◌%◌, ◌^◌, ◌<◌, ◌≤◌, ◌++◌, ◌∷◌, [], length, take, slice_index, slice_index_or, IfOk, OnOk};
+ghost use Rattle.std.specs.Prelude.{◌≡◌, ℕ, ◌+◌, ◌*◌, ◌%◌, ◌^◌, ◌<◌, ◌≤◌, ◌++◌, ◌∷◌, [], length, slice_index, slice_index_or, IfOk, OnOk};
 ghost use Rattle.std.specs.List.{All};
 ghost use Rattle.pic_num.specs.declared.axis.Axis.{Axis};
 ghost use Rattle.pic_num.specs.Sizes.{IsAtMost};
-ghost use Rattle.pic_num.specs.Space.{Triple, triple, spot, along};
+ghost use Rattle.pic_num.specs.Space.{triple, spot, along};
 ghost use Rattle.pic_grid.specs.Cells.{Grid, cell_of};
 ghost use Rattle.pic_deck.specs.Deck.{most_extent};
 ghost use Rattle.pic_grid.specs.Hat.{IsInBox};

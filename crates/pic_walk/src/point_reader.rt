@@ -1,12 +1,12 @@
 //! Reader of the particles of a species, one by one.
 
-ghost use Rattle.std.specs.Prelude.{◌≡◌, ℕ, ℤ, pos, ◌<◌, List, None, IfOk, length, slice_index_or};
+ghost use Rattle.std.specs.Prelude.{◌≡◌, ℕ, pos, ◌<◌, List, None, IfOk, slice_index_or};
 ghost use Rattle.toml.specs.View.{view};
 ghost use Rattle.pic_walk.specs.Path.{path_of};
 ghost use Rattle.pic_walk.specs.Limits.{IsInLimits, limits_at};
 ghost use Rattle.pic_walk.specs.Walk.{WalksAs};
 ghost use Rattle.pic_walk.specs.declared.point6.Point6.{Point6 as PointView};
-ghost use Rattle.pic_walk.specs.Points.{IsPoint, ArePoints, speed_limits, point_limits, point_of, point, point_list};
+ghost use Rattle.pic_walk.specs.Points.{IsPoint, ArePoints, point_limits, point_of, point, point_list};
 
 use crate::address::Address;
 use crate::extents::extent;

@@ -1,6 +1,6 @@
 //! Reader of the rows of a field.
 
-ghost use Rattle.std.specs.Prelude.{◌≡◌, ℕ, ℤ, pos, ◌^◌, ◌<◌, ◌≤ℤ◌, List, None, IfOk, length, unsigned_abs, slice_index_or};
+ghost use Rattle.std.specs.Prelude.{◌≡◌, ℕ, ℤ, pos, ◌<◌, ◌≤ℤ◌, List, None, IfOk, length, unsigned_abs, slice_index_or};
 ghost use Rattle.toml.specs.View.{view};
 ghost use Rattle.pic_grid.specs.Cells.{axis_of};
 ghost use Rattle.pic_walk.specs.Path.{path_of};
