@@ -1,1 +1,2 @@
 pub mod DemoLaws
+pub mod WalkedLaws
