@@ -11,20 +11,20 @@ use Rattle.pic_fields.proofs.ReadLaws.{then_ok}
 use Rattle.pic_fields.proofs.FieldLaws.{field_is}
 
 -- a value that was read, and what is left
-abbrev found : {A : Type 0} → A → Input → Parsed A
+abbrev pub found : {A : Type 0} → A → Input → Parsed A
 found a i = Ok (a, i)
 
 abbrev pair_of : {A : Type 0} → A → Input → A × Input
 pair_of a i = (a, i)
 
 -- two values that were read are one
-same_read : {A : Type 0} (a b : A) (i k : Input) → found a i ≡ found b k → (a ≡ b) × (i ≡ k)
+pub same_read : {A : Type 0} (a b : A) (i k : Input) → found a i ≡ found b k → (a ≡ b) × (i ≡ k)
 same_read {A = A} a b i k is =
     let both : pair_of a i ≡ pair_of b k = cc in
     (ap (λ (q : A × Input). q.0) both, ap (λ (q : A × Input). q.1) both)
 
 -- the parts of a value that was read
-bind_parts : {A B : Type 0} (p : Parser A) (f : A → Parser B) (i k : Input) (b : B) → (p >>= f) i ≡ Ok (b, k) → (a : A) × (j : Input) × (p i ≡ Ok (a, j)) × (f a j ≡ Ok (b, k))
+pub bind_parts : {A B : Type 0} (p : Parser A) (f : A → Parser B) (i k : Input) (b : B) → (p >>= f) i ≡ Ok (b, k) → (a : A) × (j : Input) × (p i ≡ Ok (a, j)) × (f a j ≡ Ok (b, k))
 unfolding ◌>>=◌
 bind_parts {A = A} {B = B} p f i k b is = go (p i) refl is
   where
@@ -89,7 +89,7 @@ spells_last {F = F} make part parts first =
     (λ a good. (subst F (sym (parts a)) good, ap make (sym (parts a)))) (λ a good. parts a) first
 
 -- a value that passes a test
-passed_test : {A : Type 0} (place cause : ℕ) (test : A → Bool) (r : Parsed A) (a : A) (k : Input) → tested place cause test r ≡ Ok (a, k) → (r ≡ Ok (a, k)) × (test a ≡ true)
+pub passed_test : {A : Type 0} (place cause : ℕ) (test : A → Bool) (r : Parsed A) (a : A) (k : Input) → tested place cause test r ≡ Ok (a, k) → (r ≡ Ok (a, k)) × (test a ≡ true)
 passed_test {A = A} place cause test (Err e) a k is = absurd cc
 passed_test {A = A} place cause test (Ok x) a k is = go (test x.0) refl is
   where
@@ -97,7 +97,7 @@ passed_test {A = A} place cause test (Ok x) a k is = go (test x.0) refl is
     go true e h = (h, ap test (sym (same_read x.0 a x.1 k h).0) ∙ e)
     go false e h = absurd cc
 
-passes_test : {A : Type 0} (place cause : ℕ) (test : A → Bool) (x : A × Input) → test x.0 ≡ true → tested place cause test (Ok x) ≡ Ok x
+pub passes_test : {A : Type 0} (place cause : ℕ) (test : A → Bool) (x : A × Input) → test x.0 ≡ true → tested place cause test (Ok x) ≡ Ok x
 passes_test place cause test x is = rw is refl
 
 pub spells_checked : {A : Type 0} {p : Parser A} {s : A → List ℕ} {F : A → Type 0} (cause : ℕ) (test : A → Bool)
@@ -238,6 +238,19 @@ fits_each G d (suc n) xs size each_fits =
       here = each_fits n (omega arith);
       whole = whole;
     }
+
+-- texts one after another, from the right
+pub right_4 : (a b c d : List ℕ) → a ++ b ++ c ++ d ≡ a ++ (b ++ (c ++ d))
+right_4 a b c d = append_assoc (a ++ b) c d ∙ append_assoc a b (c ++ d)
+
+pub right_5 : (a b c d e : List ℕ) → a ++ b ++ c ++ d ++ e ≡ a ++ (b ++ (c ++ (d ++ e)))
+right_5 a b c d e = append_assoc (a ++ b ++ c) d e ∙ right_4 a b c (d ++ e)
+
+pub right_6 : (a b c d e f : List ℕ) → a ++ b ++ c ++ d ++ e ++ f ≡ a ++ (b ++ (c ++ (d ++ (e ++ f))))
+right_6 a b c d e f = append_assoc (a ++ b ++ c ++ d) e f ∙ right_5 a b c d (e ++ f)
+
+pub right_7 : (a b c d e f g : List ℕ) → a ++ b ++ c ++ d ++ e ++ f ++ g ≡ a ++ (b ++ (c ++ (d ++ (e ++ (f ++ g)))))
+right_7 a b c d e f g = append_assoc (a ++ b ++ c ++ d ++ e) f g ∙ right_6 a b c d e (f ++ g)
 
 -- two spellings of which one begins the other are one, of one value
 pub one_spelling : {A : Type 0} {p : Parser A} {s : A → List ℕ} {F : A → Type 0} → Spells p s F → (a b : A) (x y : List ℕ) → F a → F b → s a ++ x ≡ s b ++ y → (a ≡ b) × (x ≡ y)

@@ -4,3 +4,8 @@ pub mod HeadReadLaws
 pub mod FrameLaws
 pub mod LayoutLaws
 pub mod NextLaws
+pub mod HeaderSpells
+pub mod FrameSpells
+pub mod EndSpells
+pub mod RecordSpells
+pub mod SpellingLaws

@@ -1,5 +1,5 @@
 -- The name in a field of bytes.
-use Rattle.std.proofs.Common.{◌≡◌, ℕ, suc, ◌<◌, ◌≤◌, Bool, true, false, not, ◌&&◌, leb, eqb, List, [], ◌∷◌, length, get_or, drop, refl, arith, if◌then◌else◌}
+use Rattle.std.proofs.Common.{◌≡◌, ℕ, suc, ◌<◌, ◌≤◌, Bool, true, false, not, ◌&&◌, leb, eqb, List, [], ◌∷◌, length, get_or, drop, arith, if◌then◌else◌}
 use Rattle.std.specs.Str.{bytes_eq}
 use Rattle.std.specs.List.{list_all, list_any}
 use Rattle.std.proofs.lemmas.Bool.{and_parts, false≢true, leb-true}
@@ -7,13 +7,6 @@ use Rattle.std.proofs.lemmas.List.Folds.{list_any_at}
 use Rattle.std.proofs.lemmas.Slice.Eq.{bytes_eq-Decides}
 use Rattle.pic_grid.specs.Species.{IsName, HeadView, no_head, is_name_byte}
 use Rattle.pic_reader.specs.HeaderFields.{name_of, is_name_field, is_new_name_field}
-
--- what a byte leaves of a name
-name_cons : (b : ℕ) (bytes : List ℕ) → eqb b 0 ≡ false → name_of (b ∷ bytes) ≡ b ∷ name_of bytes
-name_cons b bytes other = rw other refl
-
-name_none : (b : ℕ) (bytes : List ℕ) → eqb b 0 ≡ true → name_of (b ∷ bytes) ≡ []
-name_none b bytes zero = rw zero refl
 
 -- a name has not more bytes than its field
 pub name_length : (bytes : List ℕ) → length (name_of bytes) ≤ length bytes

@@ -7,3 +7,4 @@ pub mod Records
 pub mod HeadReads
 pub mod Standing
 pub mod NextReads
+pub mod Spelling

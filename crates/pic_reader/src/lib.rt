@@ -7,11 +7,13 @@ mod end_reader;
 mod frame_reader;
 mod head_reader;
 mod head_stop;
+mod laws;
 mod layout;
 mod name_reader;
 
 pub use dump_reader::{DumpReader, Next};
 pub use head_stop::HeadStop;
+pub use laws::{headers_have_one_spelling, records_have_one_spelling};
 pub use pic_fields::ReadStop;
 
 #[cfg(test)]
