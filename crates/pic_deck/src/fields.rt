@@ -63,8 +63,8 @@ fn optional_rows(alloc: Global, key: &str, table: &Table, cells: Cells) -> Resul
 
 // the table `field` of a deck
 fn read_fields(alloc: Global, value: &Value, cells: Cells) -> Result<InitialFields, WalkStop>
-    ensures walks { WalksAs (λ (f : FieldsView). f) (fields cells.n (codes "field") (view value.now))
-        result }
+    ensures walks { WalksAs (λ (f : FieldsView). f)
+        (fields cells.n (codes "field") (view value.now)) result }
     ensures edges { IfOk result (λ f. AreRows cells.n f.edges) }
     ensures faces { IfOk result (λ f. AreRows cells.n f.faces) }
 {

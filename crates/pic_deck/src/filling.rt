@@ -65,7 +65,8 @@ fn add_rows(rows: &[Row], to: &mut Lattice)
 /// Makes a lattice, whatever it held, the uniform field of these numbers with the rows added.
 pub(crate) fn fill(numbers: [i64; 3], rows: &[Row], to: &mut Lattice)
     requires { AreRows to.old.cells rows.now }
-    ensures value { to.new ≡ field_of to.old.side to.old.cells to.old.parts (set_up (spot numbers) rows.now) }
+    ensures value { to.new
+        ≡ field_of to.old.side to.old.cells to.old.parts (set_up (spot numbers) rows.now) }
     ensures size { (a : AxisView) (p : Triple) → IsWithin p to.old.cells
         → IsAtMost (set_up (spot numbers) rows.now a p) (2 ^ 84) }
 {

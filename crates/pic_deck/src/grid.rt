@@ -117,7 +117,7 @@ fn need_tiles(alloc: Global, table: &Table, cells: [u32; 3]) -> Result<[u32; 3],
     read_tiles(alloc, Address::new("grid", "tiles"), value, cells)
 }
 
-/// The table `grid` of a deck: the cells of each axis, with the side that version 1 has, and the tiles.
+/// The table `grid` of a deck: the cells of each axis, with the side of version 1, and the tiles.
 pub fn read_grid(alloc: Global, table: &Table) -> Result<(Cells, [u32; 3]), WalkStop>
     ensures walks { WalksAs (λ (g : Grid × List ℕ). g) (grid (table_view table.now)) result }
     ensures cells { IfOk result (λ g. IsCells g.0.n) }

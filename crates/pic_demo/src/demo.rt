@@ -106,8 +106,8 @@ fn ion(alloc: Global, seed: u64) -> Result<Species, NoMemory>
     })
 }
 
-/// The demonstration's deck of a number: a thermal plasma of 8192 electrons and as many ions in a box of
-/// 16 cells on each axis, for 16 steps.
+/// The demonstration's deck of a number: a thermal plasma of 8192 electrons and as many ions in a box
+/// of 16 cells on each axis, for 16 steps.
 pub fn deck_of(alloc: Global, seed: u32) -> Result<Deck, NoMemory>
     ensures { IfOk result (λ d. d ≡ demo_deck seed) }
 {

@@ -24,8 +24,10 @@ returns-in_err-tiles-clause-walks c =
 pub returns-clause-walks : goal.returns-clause-walks
 unfolding grid
 returns-clause-walks c =
+    let side = ap (λ side. record { n = triple c.in_ok-cells.cells; side = side }) c.of_bits.ensures in
     goes_on _ _ _ c.in_ok-table.ensures.answer (goes_on _ _ _ c.in_ok-cells.ensures.walks.answer
-    (goes_on _ _ _ c.in_ok-tiles.ensures.walks.answer (record { answer = ap (λ (g : Grid). Ok (g, c.in_ok-tiles.tiles)) (sym (c.new.ensures ∙ ap (λ side. record { n = triple c.in_ok-cells.cells; side = side }) c.of_bits.ensures)) })))
+    (goes_on _ _ _ c.in_ok-tiles.ensures.walks.answer
+    (record { answer = ap (λ (g : Grid). Ok (g, c.in_ok-tiles.tiles)) (sym (c.new.ensures ∙ side)) })))
 
 pub returns-clause-tiled : goal.returns-clause-tiled
 returns-clause-tiled c = rw c.new.ensures c.in_ok-tiles.ensures.tiled

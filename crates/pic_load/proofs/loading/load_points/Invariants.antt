@@ -9,5 +9,6 @@ abbrev pub invariant-loop-point : goal.invariant-loop-point
 invariant-loop-point l = record {
   filled : l.particles.items ≡ l.initial.particles.items ++ first_of_species (length l.initial.particles.items) l.species
       (λ i. slice_index_or l.points i no_point) l.point-index;
-  placed : (grid : Grid) (m : ℕ) → l.species < m → ArePoints grid l.points → All (IsPlaced grid m) l.initial.particles.items → All (IsPlaced grid m) l.particles.items;
+  placed : (grid : Grid) (m : ℕ) → l.species < m → ArePoints grid l.points → All (IsPlaced grid m) l.initial.particles.items
+      → All (IsPlaced grid m) l.particles.items;
 }

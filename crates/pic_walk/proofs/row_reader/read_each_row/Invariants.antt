@@ -9,6 +9,7 @@ abbrev pub invariant-loop-i : goal.invariant-loop-i
 invariant-loop-i l = record {
   count : length l.items.items ≡ l.i-end;
   size : length l.rows.items ≡ l.i;
-  walked : list_of (row l.cells.n) (path_of l.address) (view l.value) ≡ each (row l.cells.n) (path_of l.address) l.rows.items (items_view (drop l.i l.items.items));
+  walked : list_of (row l.cells.n) (path_of l.address) (view l.value)
+      ≡ each (row l.cells.n) (path_of l.address) l.rows.items (items_view (drop l.i l.items.items));
   limits : (k : ℕ) → k < length l.rows.items → IsRow l.cells.n (slice_index_or l.rows.items k no_row);
 }
