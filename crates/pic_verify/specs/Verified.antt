@@ -23,7 +23,7 @@ Verdict = Result ℕ VerifyStop
 
 -- the least node of a frame where the divergence of its E and the charge of its particles differ
 unfoldable pub break_of : LayoutView → List ℤ → List Particle → Option Break
-break_of l e particles = first_break l.cells (div_e l.cells (value_at (with_values l.cells e))) (charge_of 4096 l.cells l.kinds particles)
+break_of l e particles = first_break l.cells (div_e l.cells (value_at (with_values l e))) (charge_of l.side l.cells l.kinds particles)
 
 -- a break in the frame after k others, or what follows that frame
 abbrev pub unless_broken : ℕ → Option Break → Verdict → Verdict

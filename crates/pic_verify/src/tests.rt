@@ -9,7 +9,7 @@ use pic_dump::{Head, Header, Heads, put_end, put_frame, put_header};
 use pic_energy::Energies;
 use pic_grid::{Cells, EndMark, Lattice, Name, Snapshot};
 use pic_io::{MemSink, MemSource};
-use pic_num::{Axis, Kind, Mult, Particle, Scales};
+use pic_num::{Axis, Kind, Mult, Particle, Scales, Sub};
 use std::alloc::Global;
 use std::test::Fail;
 
@@ -45,14 +45,20 @@ fn two_charges(alloc: Global) -> Result<Header, Fail> {
     let ion = head(alloc, b"ion", 1, 1836)?;
     let electron = head(alloc, b"electron", -1, 1)?;
     let species = Heads::from_vec(vec![in alloc; ion, electron]?);
-    Ok(Header::new(Cells::new([4, 4, 4]), 1, 1, scales, species))
+    Ok(Header::new(
+        Cells::new([4, 4, 4], Sub::of_bits(12)),
+        1,
+        1,
+        scales,
+        species,
+    ))
 }
 
 // Their state with the electron at x, and this value of E along x in the first cell.
 fn state(alloc: Global, x: u32, value: i128) -> Result<Snapshot, Fail>
     ensures { IfOk result (λ s. map (λ particle. particle.id) s.particles.items ≡ range_with_len 0 (length s.particles.items)) }
 {
-    let cells = Cells::new([4, 4, 4]);
+    let cells = Cells::new([4, 4, 4], Sub::of_bits(12));
     let mut e = Lattice::new(alloc, cells, [1, 1, 1])?;
     let b = Lattice::new(alloc, cells, [1, 1, 1])?;
     e.set(Axis::X, [0, 0, 0], value);

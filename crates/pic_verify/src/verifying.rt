@@ -44,7 +44,7 @@ fn walk<S: Source>(
     ensures { Walks reader (S.told source.old) (S.told source.new) result }
 {
     let mut reader = reader;
-    let mut frame = 0;
+    let mut frame = 0u32;
     'records: loop {
         match reader.next(source, state)? {
             Next::Frame(behind, _step, _energies) => {

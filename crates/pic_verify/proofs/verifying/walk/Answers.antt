@@ -41,8 +41,8 @@ records-preserved g c =
     let none : break_of c.args.reader.layout e particles ≡ None = ap (λ (l : LayoutView). break_of l e particles) (sym layout) ∙ sym c.in_default.ensures.value in
     record {
       follows = follows_frame _ _ _ _ _ _ _ _ _ _ _ _ before.follows has none;
-      e = c.in_ok-behind.ensures.e.0 ∙ before.e ∙ ap (λ (l : LayoutView). l.cells) (sym has.layout);
-      b = c.in_ok-behind.ensures.b.0 ∙ before.b ∙ ap (λ (l : LayoutView). l.cells) (sym has.layout);
+      e = c.in_ok-behind.ensures.e.cells ∙ before.e ∙ ap (λ (l : LayoutView). l.cells) (sym has.layout);
+      b = c.in_ok-behind.ensures.b.cells ∙ before.b ∙ ap (λ (l : LayoutView). l.cells) (sym has.layout);
       particles = c.in_ok-behind.ensures.particles ∙ before.particles ∙ ap (λ (l : LayoutView). sum l.counts) (sym has.layout);
       nodes = c.first_break.ensures.nodes ∙ before.nodes ∙ ap (λ (l : LayoutView). l.cells) (sym has.layout);
       limits = subst IsLayout (sym has.layout) before.limits;
