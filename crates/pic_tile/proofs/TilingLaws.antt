@@ -1,0 +1,98 @@
+-- Tiles: each cell is in one, and a neighbour's neighbour by the direction back is the tile itself.
+use Rattle.std.proofs.Common.{◌≡◌, ℕ, pos, ◌+◌, ◌-◌, ◌*◌, ◌/◌, ◌%◌, ◌<◌, ◌≤◌, ◌+ℤ◌, ◌≤ℤ◌, ◌<ℤ◌, sym, ◌∙◌, ap, subst, arith}
+use Rattle.std.proofs.lemmas.Int.{ints}
+use Rattle.std.proofs.lemmas.Nat.{div-add-mod', div-mul-add, div_below, mod_below}
+use Rattle.pic_num.specs.Space.{Triple, unwrapped}
+use Rattle.pic_grid.specs.Cells.{IsSize, IsWithin, count_of, index_of, cell_of}
+use Rattle.pic_grid.specs.Block.{InZone}
+use Rattle.pic_grid.specs.Parts.{part_of, corner_of}
+use Rattle.pic_grid.proofs.CellLaws.{cell_of-index_of, index_of-cell_of, cell_of_within}
+use Rattle.pic_tile.specs.Directions.{directions, steps_of, opposite, ring_step}
+use Rattle.pic_tile.specs.Tiling.{Tiling, IsMap, cells_of, IsInTile, owner_of, stepped, neighbour_of}
+use Rattle.pic_tile.proofs.RingLaws.{ring_below, ring_back}
+
+-- a cell's part is one of the tiles
+part_within : (m : Tiling) (c : Triple) → IsMap m → IsWithin c (cells_of m) → IsWithin (part_of m.size c) m.tiles
+part_within m c h w =
+    let x : 0 < m.size.x = h.layers.x_least in
+    let y : 0 < m.size.y = h.layers.y_least in
+    let z : 0 < m.size.z = h.layers.z_least in
+    record {
+      x = div_below c.x m.size.x m.tiles.x x w.x;
+      y = div_below c.y m.size.y m.tiles.y y w.y;
+      z = div_below c.z m.size.z m.tiles.z z w.z;
+    }
+
+-- a number and the end of its row
+low_end : (c s : ℕ) → pos (c / s * s) ≤ℤ pos c
+low_end c s = omega (arith, ints, div-add-mod' c s)
+
+high_end : (c s : ℕ) → 0 < s → pos c <ℤ (pos (c / s * s) +ℤ pos s)
+high_end c s h =
+    let rest : c % s < s = mod_below c s h in
+    omega (arith, ints, div-add-mod' c s)
+
+-- a cell lies in the box of its part
+in_part : (s c : Triple) → IsSize s → InZone (corner_of s (part_of s c)) s (unwrapped c)
+in_part s c h = record {
+  x_low = low_end c.x s.x;
+  x_high = high_end c.x s.x h.x_least;
+  y_low = low_end c.y s.y;
+  y_high = high_end c.y s.y h.y_least;
+  z_low = low_end c.z s.z;
+  z_high = high_end c.z s.z h.z_least;
+}
+
+-- a cell's tile has it
+pub owner_has : (m : Tiling) (c : Triple) → IsMap m → IsWithin c (cells_of m) → IsInTile m (owner_of m c) c
+owner_has m c h w =
+    let part : cell_of m.tiles (owner_of m c) ≡ part_of m.size c = cell_of-index_of m.tiles (part_of m.size c) (part_within m c h w) in
+    subst (λ (p : Triple). InZone (corner_of m.size p) m.size (unwrapped c)) (sym part) (in_part m.size c h.layers)
+
+-- the row of a number between its ends
+row_is : (c p s : ℕ) → pos (p * s) ≤ℤ pos c → pos c <ℤ (pos (p * s) +ℤ pos s) → c / s ≡ p
+row_is c p s low high =
+    let least : p * s ≤ c = omega (arith, ints) in
+    let rest : c - p * s < s = omega (arith, ints) in
+    let whole : c ≡ p * s + (c - p * s) = omega arith in
+    ap (λ (d : ℕ). d / s) whole ∙ div-mul-add p s (c - p * s) rest
+
+-- and no other has it
+pub owner_only : (m : Tiling) (t : ℕ) (c : Triple) → IsInTile m t c → owner_of m c ≡ t
+owner_only m t c h =
+    let p = cell_of m.tiles t in
+    let x : c.x / m.size.x ≡ p.x = row_is c.x p.x m.size.x h.x_low h.x_high in
+    let y : c.y / m.size.y ≡ p.y = row_is c.y p.y m.size.y h.y_low h.y_high in
+    let z : c.z / m.size.z ≡ p.z = row_is c.z p.z m.size.z h.z_low h.z_high in
+    let part : part_of m.size c ≡ p = (λ i. record { x = x i; y = y i; z = z i }) in
+    ap (index_of m.tiles) part ∙ index_of-cell_of m.tiles t
+
+-- steps lead to places of tiles, and back
+stepped_within : (n e p : Triple) → IsWithin p n → IsWithin (stepped n e p) n
+stepped_within n e p w = record { x = ring_below n.x e.x p.x w.x; y = ring_below n.y e.y p.y w.y; z = ring_below n.z e.z p.z w.z }
+
+steps_back : (d : ℕ) → d < directions → steps_of (opposite d) ≡ record { x = 2 - d % 3; y = 2 - d / 3 % 3; z = 2 - d / 9 }
+steps_back d h =
+    let x : (26 - d) % 3 ≡ 2 - d % 3 = omega arith in
+    let y : (26 - d) / 3 % 3 ≡ 2 - d / 3 % 3 = omega arith in
+    let z : (26 - d) / 9 ≡ 2 - d / 9 = omega arith in
+    λ i. record { x = x i; y = y i; z = z i }
+
+stepped_back : (n p : Triple) (d : ℕ) → d < directions → IsWithin p n → stepped n (steps_of (opposite d)) (stepped n (steps_of d) p) ≡ p
+stepped_back n p d h w =
+    let x : ring_step n.x (2 - d % 3) (ring_step n.x (d % 3) p.x) ≡ p.x = ring_back n.x (d % 3) p.x w.x (omega arith) in
+    let y : ring_step n.y (2 - d / 3 % 3) (ring_step n.y (d / 3 % 3) p.y) ≡ p.y = ring_back n.y (d / 3 % 3) p.y w.y (omega arith) in
+    let z : ring_step n.z (2 - d / 9) (ring_step n.z (d / 9) p.z) ≡ p.z = ring_back n.z (d / 9) p.z w.z (omega arith) in
+    let steps : Triple = record { x = 2 - d % 3; y = 2 - d / 3 % 3; z = 2 - d / 9 } in
+    let back : stepped n steps (stepped n (steps_of d) p) ≡ p = (λ i. record { x = x i; y = y i; z = z i }) in
+    ap (λ (e : Triple). stepped n e (stepped n (steps_of d) p)) (steps_back d h) ∙ back
+
+-- the neighbour's neighbour by the direction back
+pub neighbour_back : (n : Triple) (t d : ℕ) → t < count_of n → d < directions → neighbour_of n (neighbour_of n t d) (opposite d) ≡ t
+neighbour_back n t d h k =
+    let w = cell_of_within n t h in
+    let next = stepped n (steps_of d) (cell_of n t) in
+    let place : cell_of n (index_of n next) ≡ next = cell_of-index_of n next (stepped_within n (steps_of d) (cell_of n t) w) in
+    ap (λ (p : Triple). index_of n (stepped n (steps_of (opposite d)) p)) place
+    ∙ ap (index_of n) (stepped_back n (cell_of n t) d k w)
+    ∙ index_of-cell_of n t
