@@ -1,8 +1,7 @@
 //! Tests of the gather on worked numbers.
 
-ghost use Rattle.std.specs.Prelude.{◌≡◌, ℕ, ◌≤◌, IsTrue, IfOk};
-ghost use Rattle.pic_num.specs.Limits.{most_cells_of_axis};
-ghost use Rattle.pic_num.specs.Space.{Triple, triple};
+ghost use Rattle.std.specs.Prelude.{◌≡◌, IsTrue, IfOk};
+ghost use Rattle.pic_num.specs.Space.{triple};
 ghost use Rattle.pic_grid.specs.Hat.{IsInBox};
 ghost use Rattle.pic_grid.specs.Lattice.{IsParts};
 ghost use Rattle.pic_gather.specs.Forces.{AreForces};
@@ -12,31 +11,26 @@ use pic_grid::{Cells, Lattice, slow_gather};
 use pic_num::{Axis, NoMemory, Sub};
 use std::alloc::Global;
 
-/// A lattice of `n` by `n` by `n` cells with one value, in the first cell.
-fn lone(alloc: Global, sub: Sub, n: u32, axis: Axis, value: i32) -> Result<Lattice, NoMemory>
-    requires least { 2 ≤ n }
-    requires most { n ≤ most_cells_of_axis }
+/// A lattice of one part with one value, in the first cell.
+fn lone(alloc: Global, cells: Cells, axis: Axis, value: i32) -> Result<Lattice, NoMemory>
     ensures forces { IfOk result AreForces }
-    ensures cells { IfOk result (λ f. f.cells ≡ record { x = n; y = n; z = n }) }
-    ensures side { IfOk result (λ f. f.side ≡ sub) }
+    ensures cells { IfOk result (λ f. f.cells ≡ cells.n) }
+    ensures side { IfOk result (λ f. f.side ≡ cells.side) }
 {
-    let mut force = Lattice::new(alloc, Cells::new([n, n, n], sub), [1, 1, 1])?;
+    let [_, _, _] = cells.numbers();
+    let mut force = Lattice::new(alloc, cells, [1; 3])?;
     force.set(axis, [0, 0, 0], i128::from(value));
     Ok(force)
 }
 
-/// Whether `point` lies in the box of such a lattice, and `n` in its limits.
-fn is_in_box(sub: Sub, n: u32, point: [u32; 3]) -> bool
-    ensures least { IsTrue result → 2 ≤ n }
-    ensures most { IsTrue result → n ≤ most_cells_of_axis }
-    ensures inside { IsTrue result → IsInBox sub (record { x = n; y = n; z = n }) (triple point) }
+/// Whether a point lies in the box.
+fn is_in_box(cells: Cells, point: [u32; 3]) -> bool
+    ensures { IsTrue result → IsInBox cells.side cells.n (triple point) }
 {
+    let side = cells.sub().side();
+    let [nx, ny, nz] = cells.numbers();
     let [x, y, z] = point;
-    if n < 2 || n > 128 {
-        return false;
-    }
-    let length = n * sub.side();
-    x < length && y < length && z < length
+    x < nx * side && y < ny * side && z < nz * side
 }
 
 #[test]
@@ -57,9 +51,10 @@ fn a_lone_value_of_e_is_gathered(rt: HostRuntime) -> Result<(), NoMemory> {
         (14, 128, 1000000, [2097151, 2097151, 2097151], 499878),
     ] {
         assert!(rt; bits >= Sub::FEWEST_BITS && bits <= Sub::MOST_BITS);
-        let sub = Sub::of_bits(bits);
-        assert!(rt; is_in_box(sub, n, point));
-        let force = lone(rt.alloc(), sub, n, Axis::X, value)?;
+        assert!(rt; n >= Cells::FEWEST && n <= Cells::MOST);
+        let cells = Cells::new([n, n, n], Sub::of_bits(bits));
+        assert!(rt; is_in_box(cells, point));
+        let force = lone(rt.alloc(), cells, Axis::X, value)?;
         assert_eq!(rt;
             gather_e(&force, point),
             [x, 0, 0],
@@ -90,7 +85,7 @@ fn every_part_is_gathered_as_by_distance(rt: HostRuntime) -> Result<(), NoMemory
         let x = slow_gather(4096, n, [2048, 0, 0], &values, point);
         let y = slow_gather(4096, n, [2048, 0, 2048], &values, point);
         for parts in [[1, 1, 1], [2, 1, 2], [2, 2, 2]] {
-            assert!(rt; is_in_box(sub, 2, point));
+            assert!(rt; is_in_box(Cells::new(n, sub), point));
             let e = eight_in(rt.alloc(), sub, parts, Axis::X)?;
             let b = eight_in(rt.alloc(), sub, parts, Axis::Y)?;
             let both = gather(&e, &b, point);
@@ -113,9 +108,10 @@ fn a_lone_value_of_b_is_gathered(rt: HostRuntime) -> Result<(), NoMemory> {
         (14, 4, [1, 65535, 3], 2000),
     ] {
         assert!(rt; bits >= Sub::FEWEST_BITS && bits <= Sub::MOST_BITS);
-        let sub = Sub::of_bits(bits);
-        assert!(rt; is_in_box(sub, n, point));
-        let force = lone(rt.alloc(), sub, n, Axis::Z, 8000)?;
+        assert!(rt; n >= Cells::FEWEST && n <= Cells::MOST);
+        let cells = Cells::new([n, n, n], Sub::of_bits(bits));
+        assert!(rt; is_in_box(cells, point));
+        let force = lone(rt.alloc(), cells, Axis::Z, 8000)?;
         assert_eq!(rt; gather_b(&force, point), [0, 0, z], "{point:?} of {n}");
     }
     Ok(())
