@@ -5,7 +5,10 @@ pub mod GaussLaws
 pub mod SoundLaws
 pub mod BeyondLaws
 pub mod ImageLaws
+pub mod GuardRowLaws
 pub mod FoldLaws
+pub mod FoldRowLaws
+pub mod FoldedLaws
 pub mod FitLaws
 pub mod PassedLaws
 pub mod OnePartLaws

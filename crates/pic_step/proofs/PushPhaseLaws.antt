@@ -41,14 +41,14 @@ forces_small n by f r safe is = subst AreForces (sym is) (record {
       subst (λ (v : ℤ). IsAtMost v (2 ^ 44)) (sym (value_at-field_of n one_part (force_of by (value_at f)) a p within)) (safe.bounded a p within).force;
 })
 
--- the guard holds the flux of all particles
+-- on each axis the guard holds the flux of all particles
 pub guard_holds : (w : Surroundings) (particles : List Particle) (guard now : BlockValues) → 0 < w.side → All (CanShare w.side w.cells w.kinds) particles
-    → AllAtMost 0 guard → IsShaped guard now → Adds guard now (traces w particles) → Holds w.cells now (traces w particles)
-guard_holds w particles guard now above all zeros shape adds = record {
-  inside = λ a c inside. adds_from_zeros guard now (traces w particles) zeros adds a c (in_zone_shaped now guard c (shaped_back guard now shape) inside);
-  beyond_x = λ a c beyond. traces_beyond_x w particles a c above all beyond;
-  beyond_y = λ a c beyond. traces_beyond_y w particles a c above all beyond;
-  beyond_z = λ a c beyond. traces_beyond_z w particles a c above all beyond;
+    → AllAtMost 0 guard → IsShaped guard now → Adds guard now (traces w particles) → (a : Axis) → Holds w.cells now a (traces w particles a)
+guard_holds w particles guard now above all zeros shape adds a = record {
+  inside = λ c inside. adds_from_zeros guard now (traces w particles) zeros adds a c (in_zone_shaped now guard c (shaped_back guard now shape) inside);
+  beyond_x = λ c beyond. traces_beyond_x w particles a c above all beyond;
+  beyond_y = λ c beyond. traces_beyond_y w particles a c above all beyond;
+  beyond_z = λ c beyond. traces_beyond_z w particles a c above all beyond;
 }
 
 -- the folded flux is the current

@@ -1,17 +1,16 @@
-//! The flux at the edges of the unbounded lattice, folded into the current of the periodic grid: row
-//! by row, each value read once.
+//! The flux at the edges of the unbounded lattice, folded into the current of the periodic grid: each
+//! row of the guard is read, added and cleared while it is at hand.
 
-ghost use Rattle.std.specs.Prelude.{◌≡◌, ℕ, ℤ, pos, ◌+◌, ◌-◌, ◌*◌, ◌<◌, ◌≤◌, ◌+ℤ◌, ◌-ℤ◌, if◌then◌else◌, length, slice_index_or};
-ghost use Rattle.std.specs.Bool.{OnTrue, OnFalse};
+ghost use Rattle.std.specs.Prelude.{◌≡◌, ◌==◌, ℕ, ℤ, pos, ◌+◌, ◌-◌, ◌*◌, ◌^◌, ◌<◌, ◌≤◌, ◌+ℤ◌, if◌then◌else◌, length, slice_index_or};
 ghost use Rattle.pic_num.specs.declared.axis.Axis.{Axis as AxisName};
-ghost use Rattle.pic_num.specs.Limits.{most_cells_of_axis};
+ghost use Rattle.pic_num.specs.Limits.{fewest_cells_of_axis, most_cells_of_axis};
 ghost use Rattle.pic_num.specs.Sizes.{IsAtMost};
 ghost use Rattle.pic_num.specs.Space.{Spot, Triple};
 ghost use Rattle.pic_grid.specs.Block.{AllAtMost, IsShaped, inner_at};
 ghost use Rattle.pic_grid.specs.Cells.{IsWithin};
 ghost use Rattle.pic_grid.specs.Current.{sum_images, wrapped};
-ghost use Rattle.pic_grid.specs.Traces.{IsReached, IsBeyond, most_flux};
-ghost use Rattle.pic_step.specs.Guard.{Holds, IsGuard, IsOver, images_in, IsRowAtMost};
+ghost use Rattle.pic_grid.specs.Traces.{most_flux};
+ghost use Rattle.pic_step.specs.Guard.{Holds, HasRow, IsGuard, IsOver, IsLayerOf, ChangesRow, ChangesAxis, images_in, IsRowAtMost, IsAxisAtMost};
 
 use pic_grid::{Block, Cells};
 use pic_num::Axis;
@@ -19,252 +18,188 @@ use pic_num::Axis;
 /// How many sums a row has room for: as many cells as an axis may have.
 const ROOM: usize = 64;
 
-/// Whether a path from the box reaches an index on an axis of `n` cells: from one layer under the
-/// grid to the second over it.
-fn is_reached(n: u32, i: i32) -> bool
-    requires { n ≤ most_cells_of_axis }
-    ensures reached { OnTrue result (IsReached n i) }
-    ensures beyond { OnFalse result (IsBeyond n i) }
-{
-    if i < -1 {
-        return false;
-    }
-    if i > n as i32 + 1 {
-        return false;
-    }
-    true
-}
+/// How many layers the guard has on an axis beside those of the grid.
+const BEYOND: u32 = 3;
 
-/// The images of an index on a periodic axis: one box under it, itself, and one box over it.
+/// A layer of the guard, counted from its lowest, and the index of the grid that it wraps to.
 #[derive(Clone, Copy)]
-struct Images {
-    under: i32,
-    here: i32,
-    over: i32,
+struct Layer {
+    number: u32,
+    home: u32,
 }
 
-fn images_of(n: u32, i: u32) -> Images
+fn layer_of(n: u32, number: u32) -> Layer
     requires most { n ≤ most_cells_of_axis }
-    requires below { i < n }
-    ensures under { result.under ≡ pos i -ℤ pos n }
-    ensures here { result.here ≡ pos i }
-    ensures over { result.over ≡ pos i +ℤ pos n }
+    requires least { fewest_cells_of_axis ≤ n }
+    requires below { number < n + 3 }
+    ensures number { result.number ≡ number }
+    ensures below { result.home < n }
+    ensures image { IsLayerOf n result.home number }
 {
-    let (n, i) = (n as i32, i as i32);
-    Images {
-        under: i - n,
-        here: i,
-        over: i + n,
+    Layer {
+        number,
+        home: home_of(n, number),
     }
 }
 
-/// What the images of the place `x` on an axis of `n` cells add up to in a row, which has one layer
-/// under the grid and two over it.
-fn images_in(row: &[i128], n: usize, x: usize) -> i128
-    requires length { length row.now ≡ n + 3 }
+/// The index of a periodic axis of `n` cells that a layer of the guard wraps to.
+fn home_of(n: u32, number: u32) -> u32
     requires most { n ≤ most_cells_of_axis }
-    requires least { 2 ≤ n }
-    requires within { x < n }
+    requires least { fewest_cells_of_axis ≤ n }
+    requires below { number < n + 3 }
+    ensures below { result < n }
+    ensures image { IsLayerOf n result number }
+{
+    if number < 1 {
+        return n - 1;
+    }
+    if number > n {
+        return number - 1 - n;
+    }
+    number - 1
+}
+
+/// Adds to each sum the number one place further in a row.
+fn add_next(row: &[i128], sums: &mut [i128])
+    requires length { length row.now ≡ length sums.old + 3 }
     requires room { IsRowAtMost most_flux row.now }
-    ensures value { result ≡ images_in n row.now x }
-    ensures size { IsAtMost result (3 * most_flux) }
+    requires few { IsRowAtMost (2 ^ 120) sums.old }
+    ensures values { (x : ℕ) → x < length sums.old → slice_index_or sums.new x (pos 0)
+        ≡ slice_index_or sums.old x (pos 0) +ℤ slice_index_or row.now (x + 1) (pos 0) }
+    ensures grows { (m : ℕ) → IsRowAtMost m sums.old → IsRowAtMost (m + most_flux) sums.new }
 {
-    value_where(x + 1 == n, row, 0) + row[x + 1] + value_where(x < 2, row, x + n + 1)
+    for x in 0..sums.len() {
+        sums[x] += row[x + 1];
+    }
 }
 
-/// The number at a place of a row, or 0 where it isn't wanted.
-fn value_where(wanted: bool, row: &[i128], x: usize) -> i128
-    requires within { OnTrue wanted (x < length row.now) }
+/// Adds to one sum.
+fn add_at(sums: &mut [i128], at: usize, value: i128)
+    requires within { at < length sums.old }
+    requires small { IsAtMost value most_flux }
+    requires few { IsRowAtMost (2 ^ 121) sums.old }
+    ensures values { (x : ℕ) → slice_index_or sums.new x (pos 0)
+        ≡ slice_index_or sums.old x (pos 0) +ℤ (if x == at then value else pos 0) }
+    ensures grows { (m : ℕ) → IsRowAtMost m sums.old → IsRowAtMost (m + most_flux) sums.new }
+{
+    sums[at] += value;
+}
+
+/// Adds to each sum what the images of its place add up to in a row, which has one layer under the
+/// grid and two over it.
+fn add_images(row: &[i128], sums: &mut [i128])
+    requires length { length row.now ≡ length sums.old + 3 }
+    requires least { 2 ≤ length sums.old }
     requires room { IsRowAtMost most_flux row.now }
-    ensures value { result ≡ (if wanted then slice_index_or row.now x (pos 0) else pos 0) }
-    ensures size { IsAtMost result most_flux }
+    requires few { IsRowAtMost (2 ^ 120) sums.old }
+    ensures values { (x : ℕ) → x < length sums.old → slice_index_or sums.new x (pos 0)
+        ≡ slice_index_or sums.old x (pos 0) +ℤ images_in (length sums.old) row.now x }
+    ensures grows { (m : ℕ) → IsRowAtMost m sums.old → IsRowAtMost (m + 4 * most_flux) sums.new }
 {
-    if wanted { row[x] } else { 0 }
+    let n = sums.len();
+    add_next(row, sums);
+    add_at(sums, 0, row[n + 1]);
+    add_at(sums, 1, row[n + 2]);
+    add_at(sums, n - 1, row[0]);
 }
 
-/// The layer of the guard, counted from its lowest, at an index that is reached.
-fn layer_of(n: u32, i: i32) -> u32
-    requires most { n ≤ most_cells_of_axis }
-    requires reached { IsReached n i }
-    ensures value { pos result ≡ i +ℤ pos 1 }
-    ensures below { result < n + 3 }
+/// Adds a row of the guard to the row of the current that it wraps to, and clears it.
+fn fold_row(
+    guard: &mut Block,
+    axis: Axis,
+    y: Layer,
+    z: Layer,
+    current: &mut Block,
+    sums: &mut [i128],
+    zeros: &[i128],
+)
+    requires zone { IsGuard current.old.size guard.old }
+    requires least { 2 ≤ current.old.size.x }
+    requires long { length sums.old ≡ current.old.size.x }
+    requires wide { length zeros.now ≡ current.old.size.x + 3 }
+    requires zeros { IsRowAtMost 0 zeros.now }
+    requires y { y.number < guard.old.size.y }
+    requires z { z.number < guard.old.size.z }
+    requires home_y { y.home < current.old.size.y }
+    requires home_z { z.home < current.old.size.z }
+    requires room { IsAxisAtMost most_flux axis guard.old }
+    requires few { IsAxisAtMost (2 ^ 120) axis current.old }
+    ensures current { ChangesRow axis y.home z.home current.old current.new }
+    ensures guard { ChangesRow axis y.number z.number guard.old guard.new }
+    ensures added { (g : ℤ → ℤ) → HasRow current.old.size.x guard.old axis y.number z.number g
+        → (x : ℕ) → x < current.old.size.x
+        → inner_at current.new axis (record { x = x; y = y.home; z = z.home })
+        ≡ inner_at current.old axis (record { x = x; y = y.home; z = z.home })
+        +ℤ sum_images current.old.size.x g x }
+    ensures cleared { (k : ℕ) → k < guard.old.size.x
+        → inner_at guard.new axis (record { x = k; y = y.number; z = z.number }) ≡ pos 0 }
+    ensures grows { (m : ℕ) → IsAxisAtMost m axis current.old
+        → IsAxisAtMost (m + 4 * most_flux) axis current.new }
 {
-    (i + 1) as u32
+    let (_here, _there) = (current.zone(), guard.zone());
+    sums.copy_from_slice(current.row(axis, y.home, z.home));
+    add_images(guard.row(axis, y.number, z.number), sums);
+    current.set_row(axis, y.home, z.home, sums);
+    guard.set_row(axis, y.number, z.number, zeros);
 }
 
-/// Adds to each sum what the images on x add up to along a row of the guard that is reached.
-fn add_row(guard: &Block, cells: Cells, axis: Axis, y: i32, z: i32, sums: &mut [i128])
-    requires zone { IsGuard cells guard.now }
+/// Makes the components on `axis` those of the current, row by row, and clears them in the guard.
+fn fold_axis(
+    guard: &mut Block,
+    cells: Cells,
+    axis: Axis,
+    current: &mut Block,
+    sums: &mut [i128],
+    zeros: &[i128],
+)
+    requires zone { IsGuard cells guard.old }
+    requires over { IsOver cells current.old }
     requires long { length sums.old ≡ cells.x }
-    requires y { IsReached cells.y y }
-    requires z { IsReached cells.z z }
-    requires room { AllAtMost most_flux guard.now }
-    requires few { IsRowAtMost (24 * most_flux) sums.old }
-    ensures values { (f : AxisName → Spot → ℤ) → Holds cells guard.now f → (x : ℕ) → x < cells.x
-        → slice_index_or sums.new x (pos 0) ≡ slice_index_or sums.old x (pos 0)
-        +ℤ sum_images cells.x (λ i. f axis (record { x = i; y = y; z = z })) x }
-    ensures grows { (m : ℕ) → IsRowAtMost m sums.old → IsRowAtMost (m + 3 * most_flux) sums.new }
+    requires wide { length zeros.now ≡ cells.x + 3 }
+    requires zeros { IsRowAtMost 0 zeros.now }
+    requires room { IsAxisAtMost most_flux axis guard.old }
+    requires none { IsAxisAtMost 0 axis current.old }
+    ensures current { ChangesAxis axis current.old current.new }
+    ensures guard { ChangesAxis axis guard.old guard.new }
+    ensures values { (f : Spot → ℤ) → Holds cells guard.old axis f → (p : Triple)
+        → IsWithin p cells → inner_at current.new axis p ≡ wrapped cells f p }
+    ensures cleared { IsAxisAtMost 0 axis guard.new }
 {
-    let [nx, ny, nz] = cells.n;
-    let row = guard.row(axis, layer_of(ny, y), layer_of(nz, z));
-    add_images(row, nx as usize, sums);
-}
-
-/// Adds to each sum what the images of its place add up to in a row.
-fn add_images(row: &[i128], n: usize, sums: &mut [i128])
-    requires length { length row.now ≡ n + 3 }
-    requires long { length sums.old ≡ n }
-    requires most { n ≤ most_cells_of_axis }
-    requires least { 2 ≤ n }
-    requires room { IsRowAtMost most_flux row.now }
-    requires few { IsRowAtMost (24 * most_flux) sums.old }
-    ensures values { (x : ℕ) → x < n → slice_index_or sums.new x (pos 0)
-        ≡ slice_index_or sums.old x (pos 0) +ℤ images_in n row.now x }
-    ensures grows { (m : ℕ) → IsRowAtMost m sums.old → IsRowAtMost (m + 3 * most_flux) sums.new }
-{
-    for x in 0..n {
-        sums[x] += images_in(row, n, x);
+    let [_, ny, nz] = cells.n;
+    for row in 0..(ny + BEYOND) * (nz + BEYOND) {
+        let y = layer_of(ny, row % (ny + BEYOND));
+        let z = layer_of(nz, row / (ny + BEYOND));
+        fold_row(guard, axis, y, z, current, sums, zeros);
     }
 }
 
-/// The same where y may be beyond.
-fn add_row_within(guard: &Block, cells: Cells, axis: Axis, y: i32, z: i32, sums: &mut [i128])
-    requires zone { IsGuard cells guard.now }
-    requires long { length sums.old ≡ cells.x }
-    requires z { IsReached cells.z z }
-    requires room { AllAtMost most_flux guard.now }
-    requires few { IsRowAtMost (24 * most_flux) sums.old }
-    ensures values { (f : AxisName → Spot → ℤ) → Holds cells guard.now f → (x : ℕ) → x < cells.x
-        → slice_index_or sums.new x (pos 0) ≡ slice_index_or sums.old x (pos 0)
-        +ℤ sum_images cells.x (λ i. f axis (record { x = i; y = y; z = z })) x }
-    ensures grows { (m : ℕ) → IsRowAtMost m sums.old → IsRowAtMost (m + 3 * most_flux) sums.new }
-{
-    let [_, ny, _] = cells.n;
-    if is_reached(ny, y) {
-        add_row(guard, cells, axis, y, z, sums);
-    }
-}
-
-/// Adds to each sum what the images on x and y add up to in a layer of the guard that is reached.
-fn add_layer(guard: &Block, cells: Cells, axis: Axis, y: u32, z: i32, sums: &mut [i128])
-    requires zone { IsGuard cells guard.now }
-    requires long { length sums.old ≡ cells.x }
-    requires y { y < cells.y }
-    requires z { IsReached cells.z z }
-    requires room { AllAtMost most_flux guard.now }
-    requires few { IsRowAtMost (18 * most_flux) sums.old }
-    ensures values { (f : AxisName → Spot → ℤ) → Holds cells guard.now f → (x : ℕ) → x < cells.x
-        → slice_index_or sums.new x (pos 0) ≡ slice_index_or sums.old x (pos 0)
-        +ℤ sum_images cells.y
-        (λ j. sum_images cells.x (λ i. f axis (record { x = i; y = j; z = z })) x) y }
-    ensures grows { (m : ℕ) → IsRowAtMost m sums.old → IsRowAtMost (m + 9 * most_flux) sums.new }
-{
-    let [_, ny, _] = cells.n;
-    let j = images_of(ny, y);
-    add_row_within(guard, cells, axis, j.under, z, sums);
-    add_row_within(guard, cells, axis, j.here, z, sums);
-    add_row_within(guard, cells, axis, j.over, z, sums);
-}
-
-/// The same where z may be beyond.
-fn add_layer_within(guard: &Block, cells: Cells, axis: Axis, y: u32, z: i32, sums: &mut [i128])
-    requires zone { IsGuard cells guard.now }
-    requires long { length sums.old ≡ cells.x }
-    requires y { y < cells.y }
-    requires room { AllAtMost most_flux guard.now }
-    requires few { IsRowAtMost (18 * most_flux) sums.old }
-    ensures values { (f : AxisName → Spot → ℤ) → Holds cells guard.now f → (x : ℕ) → x < cells.x
-        → slice_index_or sums.new x (pos 0) ≡ slice_index_or sums.old x (pos 0)
-        +ℤ sum_images cells.y
-        (λ j. sum_images cells.x (λ i. f axis (record { x = i; y = j; z = z })) x) y }
-    ensures grows { (m : ℕ) → IsRowAtMost m sums.old → IsRowAtMost (m + 9 * most_flux) sums.new }
-{
-    let [_, _, nz] = cells.n;
-    if is_reached(nz, z) {
-        add_layer(guard, cells, axis, y, z, sums);
-    }
-}
-
-/// Makes each sum the flux through all images of an edge of the grid, along the row at y and z.
-fn add_layers(guard: &Block, cells: Cells, axis: Axis, y: u32, z: u32, sums: &mut [i128])
-    requires zone { IsGuard cells guard.now }
-    requires long { length sums.old ≡ cells.x }
-    requires y { y < cells.y }
-    requires z { z < cells.z }
-    requires room { AllAtMost most_flux guard.now }
-    requires zeros { IsRowAtMost 0 sums.old }
-    ensures { (f : AxisName → Spot → ℤ) → Holds cells guard.now f → (x : ℕ) → x < cells.x
-        → slice_index_or sums.new x (pos 0)
-        ≡ wrapped cells (f axis) (record { x = x; y = y; z = z }) }
-{
-    let [_, _, nz] = cells.n;
-    let k = images_of(nz, z);
-    add_layer_within(guard, cells, axis, y, k.under, sums);
-    add_layer_within(guard, cells, axis, y, k.here, sums);
-    add_layer_within(guard, cells, axis, y, k.over, sums);
-}
-
-/// Room for the sums of a row.
-fn no_sums() -> [i128; ROOM]
-    ensures long { length result ≡ 64 }
+/// Zeros for a row of the guard.
+fn zero_row() -> [i128; ROOM + 3]
+    ensures long { length result ≡ 67 }
     ensures zeros { IsRowAtMost 0 result }
 {
-    [0; ROOM]
-}
-
-/// Makes the components on `axis` along the row at y and z those of the current.
-fn fold_row(guard: &Block, cells: Cells, axis: Axis, y: u32, z: u32, current: &mut Block)
-    requires zone { IsGuard cells guard.now }
-    requires over { IsOver cells current.old }
-    requires y { y < cells.y }
-    requires z { z < cells.z }
-    requires room { AllAtMost most_flux guard.now }
-    ensures shape { IsShaped current.old current.new }
-    ensures here { (f : AxisName → Spot → ℤ) → Holds cells guard.now f → (x : ℕ) → x < cells.x
-        → inner_at current.new axis (record { x = x; y = y; z = z })
-        ≡ wrapped cells (f axis) (record { x = x; y = y; z = z }) }
-    ensures others { (a : AxisName) (p : Triple) → IsWithin p cells
-        → (a ≡ axis → p.y ≡ y → p.z ≡ z → ⊥) → inner_at current.new a p ≡ inner_at current.old a p }
-{
-    let [nx, _, _] = current.zone().size;
-    let mut room = no_sums();
-    let sums = &mut room[..nx as usize];
-    add_layers(guard, cells, axis, y, z, sums);
-    current.set_row(axis, y, z, sums);
-}
-
-/// Makes the components along the line at y and z those of the current.
-fn fold_line(guard: &Block, cells: Cells, y: u32, z: u32, current: &mut Block)
-    requires zone { IsGuard cells guard.now }
-    requires over { IsOver cells current.old }
-    requires y { y < cells.y }
-    requires z { z < cells.z }
-    requires room { AllAtMost most_flux guard.now }
-    ensures shape { IsShaped current.old current.new }
-    ensures here { (f : AxisName → Spot → ℤ) → Holds cells guard.now f → (a : AxisName) (x : ℕ)
-        → x < cells.x → inner_at current.new a (record { x = x; y = y; z = z })
-        ≡ wrapped cells (f a) (record { x = x; y = y; z = z }) }
-    ensures others { (a : AxisName) (p : Triple) → IsWithin p cells → (p.y ≡ y → p.z ≡ z → ⊥)
-        → inner_at current.new a p ≡ inner_at current.old a p }
-{
-    fold_row(guard, cells, Axis::X, y, z, current);
-    fold_row(guard, cells, Axis::Y, y, z, current);
-    fold_row(guard, cells, Axis::Z, y, z, current);
+    [0; ROOM + 3]
 }
 
 /// Makes a block over the grid the current of the periodic grid: at each edge the flux through all
-/// its images.
-pub fn fold(guard: &Block, cells: Cells, current: &mut Block)
-    requires zone { IsGuard cells guard.now }
+/// its images. The guard, which holds the flux, is cleared.
+pub fn fold(guard: &mut Block, cells: Cells, current: &mut Block)
+    requires zone { IsGuard cells guard.old }
     requires over { IsOver cells current.old }
-    requires room { AllAtMost most_flux guard.now }
-    ensures shape { IsShaped current.old current.new }
-    ensures values { (f : AxisName → Spot → ℤ) → Holds cells guard.now f
-        → (a : AxisName) (p : Triple) → IsWithin p cells
-        → inner_at current.new a p ≡ wrapped cells (f a) p }
+    requires room { AllAtMost most_flux guard.old }
+    ensures current { IsShaped current.old current.new }
+    ensures guard { IsShaped guard.old guard.new }
+    ensures values { (a : AxisName) (f : Spot → ℤ) → Holds cells guard.old a f → (p : Triple)
+        → IsWithin p cells → inner_at current.new a p ≡ wrapped cells f p }
+    ensures cleared { AllAtMost 0 guard.new }
 {
-    let [_, ny, nz] = cells.n;
-    for line in 0..ny * nz {
-        fold_line(guard, cells, line % ny, line / ny, current);
-    }
+    let [nx, _, _] = cells.n;
+    let mut room = [0i128; ROOM];
+    let none = zero_row();
+    let sums = &mut room[..nx as usize];
+    let zeros = &none[..nx as usize + 3];
+    current.clear();
+    fold_axis(guard, cells, Axis::X, current, sums, zeros);
+    fold_axis(guard, cells, Axis::Y, current, sums, zeros);
+    fold_axis(guard, cells, Axis::Z, current, sums, zeros);
 }

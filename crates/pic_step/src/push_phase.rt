@@ -41,10 +41,9 @@ pub fn push_phase(
     } = rooms;
     let force_e = forces(scales.e_force, e, force_e);
     let force_b = forces(scales.b_force, b, force_b);
-    guard.clear();
     let sub = Sub::of_bits(12);
     let stop = push_all(sub, kinds, &force_e, &force_b, particles, &mut guard);
-    fold(&guard, e.cells(), &mut current);
+    fold(&mut guard, e.cells(), &mut current);
     let rooms = Rooms {
         force_e,
         force_b,

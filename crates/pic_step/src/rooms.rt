@@ -1,6 +1,7 @@
 //! What a state works with beside its fields, taken once.
 
 ghost use Rattle.std.specs.Prelude.{IfOk};
+ghost use Rattle.pic_grid.specs.Block.{AllAtMost};
 ghost use Rattle.pic_step.specs.Rooms.{AreRooms};
 ghost use Rattle.pic_step.specs.Guard.{IsGuard, IsOver};
 
@@ -46,9 +47,10 @@ fn current_for(alloc: Global, cells: Cells) -> Result<Block, NoMemory>
     Block::new(alloc, zone)
 }
 
-/// A block over the grid, with one layer under it and two over it.
+/// A block of zeros over the grid, with one layer under it and two over it.
 fn guard_for(alloc: Global, cells: Cells) -> Result<Block, NoMemory>
-    ensures { IfOk result (IsGuard cells) }
+    ensures zone { IfOk result (IsGuard cells) }
+    ensures cleared { IfOk result (AllAtMost 0) }
 {
     let [nx, ny, nz] = cells.n;
     let zone = Zone {

@@ -1,36 +1,56 @@
-use Rattle.std.proofs.Common.{◌≡◌, ◌≤◌, ◌*◌, ◌/◌, ◌%◌, ℕ, refl, ap, ◌∙◌, subst}
-use Rattle.pic_num.specs.Space.{Triple}
-use Rattle.pic_grid.specs.Block.{inner_at}
-use Rattle.pic_grid.specs.Current.{wrapped}
-use Rattle.pic_grid.proofs.BlockLaws.{shaped_twice}
-use Rattle.pic_step.proofs.FoldLaws.{folded_none, folded_more, folded_all, over_kept}
+use Rattle.std.proofs.Common.{sym, ap, ◌∙◌, subst}
+use Rattle.pic_num.specs.declared.axis.Axis.TheVariants.{X}
+use Rattle.pic_grid.specs.Block.{BlockValues, AllAtMost}
+use Rattle.pic_grid.specs.Traces.{most_flux}
+use Rattle.pic_grid.proofs.ShapeLaws.{zeros_at_most}
+use Rattle.pic_step.proofs.GuardRowLaws.{row_taken}
+use Rattle.pic_step.proofs.FoldedLaws.{axis_small, small_y, small_z, all_folded, all_cleared}
 use Rattle.pic_step.proofs.fold.fold.Goals as goal
+use Rattle.pic_step.proofs.fold.fold.Goals.{After-clear}
 
-pub loop-line-init : goal.loop-line-init
-loop-line-init c = (record { low = refl; size = refl }, λ f holds. folded_none c.args.cells (λ a p. wrapped c.args.cells (f a) p) c.args.current.now)
+zeros : (c : After-clear) → AllAtMost 0 c.clear.new.self
+zeros c = subst (AllAtMost 0) (sym c.clear.ensures) (zeros_at_most c.args.current.now.low c.args.current.now.size)
 
-pub fold_line-requires-clause-over : goal.fold_line-requires-clause-over
-fold_line-requires-clause-over c = over_kept c.args.cells c.args.current.now c.loop-line.current c.requires.over c.loop-line.invariant.0
+pub fold_axis-requires-clause-zeros : goal.fold_axis-requires-clause-zeros
+fold_axis-requires-clause-zeros c = row_taken 0 _ _ c.zero_row-none.ensures.zeros
 
-pub loop-line-preserved : goal.loop-line-preserved
-loop-line-preserved c =
-    let n = c.args.cells in
-    let i = c.loop-line.line in
-    let now = c.fold_line.new.current in
-    let ny = ap (λ (t : Triple). t.y) c.cells.view_is in (
-      shaped_twice c.args.current.now c.loop-line.current now c.loop-line.invariant.0 c.fold_line.ensures.shape,
-      λ f holds. folded_more n (λ a p. wrapped n (f a) p) c.loop-line.current now i (c.loop-line.invariant.1 f holds)
-          (λ a x below. subst
-          (λ (m : ℕ). inner_at now a (record { x = x; y = i % m; z = i / m }) ≡ wrapped n (f a) (record { x = x; y = i % m; z = i / m })) ny
-          (c.fold_line.ensures.here f holds a x below))
-          (λ a p within off. c.fold_line.ensures.others a p within (λ y z. off (y ∙ ap (λ (m : ℕ). i % m) ny) (z ∙ ap (λ (m : ℕ). i / m) ny))),
-    )
+pub fold_axis-requires-clause-room : goal.fold_axis-requires-clause-room
+fold_axis-requires-clause-room c = axis_small c.args.guard.now most_flux X c.requires.room
 
-pub returns : goal.returns
-returns c =
-    let n = c.args.cells in
-    let end : n.y * n.z ≤ c.loop-line.line = subst (λ (t : Triple). t.y * t.z ≤ c.loop-line.line) c.cells.view_is c.loop-line-test.false in
-    record {
-      shape = c.loop-line.invariant.0;
-      values = λ f holds. folded_all n (λ a p. wrapped n (f a) p) c.loop-line.current c.loop-line.line (c.loop-line.invariant.1 f holds) end;
-    }
+pub fold_axis-requires-2-clause-zeros : goal.fold_axis-requires-2-clause-zeros
+fold_axis-requires-2-clause-zeros c = row_taken 0 _ _ c.zero_row-none.ensures.zeros
+
+pub fold_axis-requires-2-clause-room : goal.fold_axis-requires-2-clause-room
+fold_axis-requires-2-clause-room c = small_y most_flux c.args.guard.now c.fold_axis.new.guard c.fold_axis.ensures.guard c.requires.room
+
+pub fold_axis-requires-2-clause-none : goal.fold_axis-requires-2-clause-none
+fold_axis-requires-2-clause-none c =
+    small_y 0 c.clear.new.self c.fold_axis.new.current c.fold_axis.ensures.current (zeros (goal.at.fold_axis-requires-2-clause-none c).After-clear)
+
+pub fold_axis-requires-3-clause-zeros : goal.fold_axis-requires-3-clause-zeros
+fold_axis-requires-3-clause-zeros c = row_taken 0 _ _ c.zero_row-none.ensures.zeros
+
+pub fold_axis-requires-3-clause-room : goal.fold_axis-requires-3-clause-room
+fold_axis-requires-3-clause-room c =
+    small_z most_flux c.args.guard.now c.fold_axis.new.guard c.fold_axis-2.new.guard c.fold_axis.ensures.guard c.fold_axis-2.ensures.guard c.requires.room
+
+pub fold_axis-requires-3-clause-none : goal.fold_axis-requires-3-clause-none
+fold_axis-requires-3-clause-none c =
+    small_z 0 c.clear.new.self c.fold_axis.new.current c.fold_axis-2.new.current c.fold_axis.ensures.current c.fold_axis-2.ensures.current
+    (zeros (goal.at.fold_axis-requires-3-clause-none c).After-clear)
+
+pub returns-clause-values : goal.returns-clause-values
+returns-clause-values c =
+    all_folded c.args.cells c.args.guard.now c.fold_axis.new.guard c.fold_axis-2.new.guard c.fold_axis-3.new.guard
+    c.clear.new.self c.fold_axis.new.current c.fold_axis-2.new.current c.fold_axis-3.new.current
+    (ap (λ (b : BlockValues). b.size) c.clear.ensures ∙ c.requires.over.size) c.fold_axis.ensures.guard c.fold_axis-2.ensures.guard c.fold_axis-3.ensures.guard
+    c.fold_axis.ensures.current c.fold_axis-2.ensures.current c.fold_axis-3.ensures.current
+    c.fold_axis.ensures.values c.fold_axis-2.ensures.values c.fold_axis-3.ensures.values
+
+pub returns-clause-cleared : goal.returns-clause-cleared
+returns-clause-cleared c =
+    all_cleared c.args.cells c.args.guard.now c.fold_axis.new.guard c.fold_axis-2.new.guard c.fold_axis-3.new.guard
+    c.clear.new.self c.fold_axis.new.current c.fold_axis-2.new.current c.fold_axis-3.new.current
+    (ap (λ (b : BlockValues). b.size) c.clear.ensures ∙ c.requires.over.size) c.fold_axis.ensures.guard c.fold_axis-2.ensures.guard c.fold_axis-3.ensures.guard
+    c.fold_axis.ensures.current c.fold_axis-2.ensures.current c.fold_axis-3.ensures.current
+    c.fold_axis.ensures.cleared c.fold_axis-2.ensures.cleared c.fold_axis-3.ensures.cleared

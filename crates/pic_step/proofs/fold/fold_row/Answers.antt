@@ -1,64 +1,49 @@
-use Rattle.std.proofs.Common.{◌≡◌, ◌≤◌, ◌<◌, length, slice_index, sym, ap, ◌∙◌, rules, subst, arith}
-use Rattle.std.proofs.lemmas.List.{length-take-le}
+use Rattle.std.proofs.Common.{◌≡◌, ◌+◌, ◌<◌, ℕ, ◌^◌, length, get_or, refl, sym, ap, ◌∙◌, subst}
+use Rattle.std.proofs.Math.IntN.{pos, ◌+ℤ◌}
 use Rattle.pic_num.specs.Space.{Triple}
-use Rattle.pic_grid.specs.Block.{BlockValues, inner_at}
-use Rattle.pic_grid.specs.Cells.{IsWithin}
-use Rattle.pic_grid.proofs.RowLaws.{row_here, row_others, row_shape, row_size}
-use Rattle.pic_step.proofs.FoldLaws.{row_taken}
+use Rattle.pic_grid.specs.Traces.{most_flux}
+use Rattle.pic_step.specs.Guard.{images_in, IsRowAtMost}
+use Rattle.pic_step.proofs.FoldRowLaws.{row_at_most, changes, written, cleared, grows, summed_row}
 use Rattle.pic_step.proofs.fold.fold_row.Goals as goal
-use Rattle.pic_step.proofs.fold.fold_row.Goals.{After-set_row}
+use Rattle.pic_step.proofs.fold.fold_row.Goals.{After-set_row-2}
 
-pub add_layers-requires-clause-zeros : goal.add_layers-requires-clause-zeros
-add_layers-requires-clause-zeros c = row_taken 0 _ _ c.no_sums-room.ensures.zeros
+pub add_images-requires-clause-room : goal.add_images-requires-clause-room
+add_images-requires-clause-room c =
+    row_at_most c.args.guard.now c.args.axis c.args.y.number c.args.z.number most_flux c.row-2.result.now c.row-2.ensures.length c.row-2.ensures.values
+    c.requires.y c.requires.z c.requires.room
 
--- where the row stands, and how long it is
-record Known (c : After-set_row) : Type 0 where
-  some : 1 ≤ c.args.current.now.size.x
-  in_y : c.args.y < c.args.current.now.size.y
-  in_z : c.args.z < c.args.current.now.size.z
-  long : length c.add_layers.new.sums ≡ c.args.current.now.size.x
+pub add_images-requires-clause-few : goal.add_images-requires-clause-few
+add_images-requires-clause-few c = subst (IsRowAtMost (2 ^ 120)) (sym c.copy_from_slice.ensures.after)
+    (row_at_most c.args.current.now c.args.axis c.args.y.home c.args.z.home (2 ^ 120) c.row.result.now c.row.ensures.length c.row.ensures.values
+    c.requires.home_y c.requires.home_z c.requires.few)
 
-known : (c : After-set_row) → Known c
-known c =
-    let count = slice_index c.zone.result.size 0 in
-    let size : count ≡ c.args.current.now.size.x = ap (λ (n : Triple). n.x) c.zone.ensures.size in
-    let x = ap (λ (n : Triple). n.x) c.requires.over.size in
-    let y = ap (λ (n : Triple). n.y) c.requires.over.size in
-    let z = ap (λ (n : Triple). n.z) c.requires.over.size in
-    let most : c.args.cells.x ≤ 64 = search rules in
-    let room = c.no_sums-room.ensures.long in
+pub returns : goal.returns
+returns c =
+    let current = c.args.current.now in
+    let guard = c.args.guard.now in
+    let row = c.add_images.new.sums in
+    let before = c.row.result.now in
+    let copied = c.copy_from_slice.ensures.after in
+    let count : length c.copy_from_slice.new.self ≡ current.size.x = ap length copied ∙ c.row.ensures.length in
+    let long : length row ≡ current.size.x = c.add_images.auto.sums ∙ count in
+    let wide : guard.size.x ≡ current.size.x + 3 = ap (λ (m : Triple). m.x) c.requires.zone.size in
+    let zeros : length c.args.zeros.now ≡ guard.size.x = c.requires.wide ∙ sym wide in
+    let here = c.zone-here.ensures in
+    let there = c.zone-there.ensures in
     record {
-      some = c.zone.ensures.limits.layers.x_least;
-      in_y = omega (arith, c.requires.y, y);
-      in_z = omega (arith, c.requires.z, z);
-      long = c.add_layers.auto.sums ∙ length-take-le count c.no_sums-room.result (omega (arith, room, most, size, x)) ∙ size;
+      current = changes current c.set_row.new.self c.args.axis c.args.y.home c.args.z.home row here.shape here.limits.layers.x_least
+          c.requires.home_y c.requires.home_z long c.set_row.ensures;
+      guard = changes guard c.set_row-2.new.self c.args.axis c.args.y.number c.args.z.number c.args.zeros.now there.shape there.limits.layers.x_least
+          c.requires.y c.requires.z zeros c.set_row-2.ensures;
+      added = λ g held x below.
+          let is = c.add_images.ensures.values x (subst (λ (k : ℕ). x < k) (sym count) below) in
+          written current c.set_row.new.self c.args.axis c.args.y.home c.args.z.home row here.shape here.limits.layers.x_least
+          c.requires.home_y c.requires.home_z long c.set_row.ensures x below
+          ∙ summed_row current.size.x current guard c.args.axis c.args.y.home c.args.z.home c.args.y.number c.args.z.number g row before c.row-2.result.now x below
+          refl wide (is ∙ (λ t. get_or (copied t) x (pos 0) +ℤ images_in (count t) c.row-2.result.now x)) c.row.ensures.values c.row-2.ensures.values held;
+      cleared = λ k below. cleared guard c.set_row-2.new.self c.args.axis c.args.y.number c.args.z.number c.args.zeros.now there.shape
+          there.limits.layers.x_least c.requires.y c.requires.z zeros c.set_row-2.ensures c.requires.zeros k below;
+      grows = λ m small. grows current c.set_row.new.self c.args.axis c.args.y.home c.args.z.home row here.shape here.limits.layers.x_least
+          c.requires.home_y c.requires.home_z long c.set_row.ensures before m _
+          (λ few. c.add_images.ensures.grows m (subst (IsRowAtMost m) (sym copied) few)) c.row.ensures.length c.row.ensures.values small;
     }
-
-pub returns-clause-shape : goal.returns-clause-shape
-returns-clause-shape c =
-    let current = c.args.current.now in
-    let is = c.set_row.ensures in
-    record {
-      low = sym (ap (λ (b : BlockValues). b.low) is ∙ row_shape current c.args.axis c.args.y c.args.z c.add_layers.new.sums);
-      size = sym (ap (λ (b : BlockValues). b.size) is ∙ row_size current c.args.axis c.args.y c.args.z c.add_layers.new.sums);
-    }
-
-pub returns-clause-here : goal.returns-clause-here
-returns-clause-here c =
-    let k = known (goal.at.returns-clause-here c).After-set_row in
-    let current = c.args.current.now in
-    let size = ap (λ (n : Triple). n.x) c.requires.over.size in
-    λ f holds x below.
-    let p : Triple = record { x = x; y = c.args.y; z = c.args.z } in
-    ap (λ (b : BlockValues). inner_at b c.args.axis p) c.set_row.ensures
-    ∙ row_here current c.args.axis c.args.y c.args.z c.add_layers.new.sums c.zone.ensures.shape k.some k.in_y k.in_z k.long x (omega (arith, below, size))
-    ∙ c.add_layers.ensures f holds x below
-
-pub returns-clause-others : goal.returns-clause-others
-returns-clause-others c =
-    let k = known (goal.at.returns-clause-others c).After-set_row in
-    let current = c.args.current.now in
-    λ a p within off.
-    ap (λ (b : BlockValues). inner_at b a p) c.set_row.ensures
-    ∙ row_others current c.args.axis c.args.y c.args.z c.add_layers.new.sums c.zone.ensures.shape k.some k.in_y k.in_z k.long a p
-    (subst (λ (n : Triple). IsWithin p n) (sym c.requires.over.size) within) (record { off = off })

@@ -1,12 +1,11 @@
 use Rattle.std.proofs.Common.{◌≡◌, ◌<◌, refl, sym, ap, ◌∙◌, subst, arith}
+use Rattle.pic_num.specs.declared.axis.Axis.{Axis}
 use Rattle.pic_num.specs.Space.{Triple}
 use Rattle.pic_grid.specs.Lattice.{Field, value_at, field_of}
 use Rattle.pic_grid.specs.Gather.{force_of}
 use Rattle.pic_grid.specs.PushPhase.{Surroundings, moved_all, push_stop}
-use Rattle.pic_grid.specs.Block.{BlockValues, AllAtMost}
 use Rattle.pic_flux.specs.Adds.{Adds}
 use Rattle.pic_flux.proofs.AddsLaws.{adds_same}
-use Rattle.pic_grid.proofs.ShapeLaws.{zeros_at_most}
 use Rattle.pic_step.specs.PushRoom.{around_fields}
 use Rattle.pic_grid.specs.Felt.{felt}
 use Rattle.pic_grid.specs.Parts.{one_part}
@@ -44,21 +43,23 @@ returns c =
     (force_of scales.b_force (value_at b)) =
     felt_is kinds n (force_of scales.e_force (value_at e))
     (force_of scales.b_force (value_at b)) c.forces-force_e.result c.forces-force_b.result c.forces-force_e.ensures is_b in
-    let guard = c.clear.new.self in
+    let room = c.requires.rooms in
+    let guard = c.args.rooms.guard in
     let now = c.push_all-stop.new.guard in
     let adds : Adds guard now (traces w old) =
     adds_same guard now (traces (around_lattices kinds n (force_of scales.e_force (value_at e)) (force_of scales.b_force (value_at b))) old) (traces w old)
     (λ a s. traces_same kinds n (force_of scales.e_force (value_at e)) (force_of scales.b_force (value_at b)) old a s)
     (subst (λ (v : Surroundings). Adds guard now (traces v old)) feels c.push_all-stop.ensures.adds) in
-    let zeros : AllAtMost 0 guard = subst (AllAtMost 0) (sym c.clear.ensures) (zeros_at_most c.args.rooms.guard.low c.args.rooms.guard.size) in
     let above : 0 < 4096 = omega arith in
-    let holds : Holds n now (traces w old) = guard_holds w old guard now above c.requires.can zeros c.push_all-stop.ensures.shape adds in
-    let room = c.requires.rooms in
+    let holds : (a : Axis) → Holds n now a (traces w old a) =
+    guard_holds w old guard now above c.requires.can room.cleared c.push_all-stop.ensures.shape adds in
     let same : c.cells.result ≡ n = c.cells.ensures.value in
-    let moved : Holds c.cells.result now (traces w old) = subst (λ (m : Triple). Holds m now (traces w old)) (sym same) holds in
     let current = folded w old c.fold.new.current (λ a p within.
-    c.fold.ensures.values (traces w old) moved a p (subst (IsWithin p) (sym same) within) ∙ ap (λ (m : Triple). wrapped m (traces w old a) p) same) in
-    let shape = c.fold.ensures.shape in
+    c.fold.ensures.values a (traces w old a) (subst (λ (m : Triple). Holds m now a (traces w old a)) (sym same) (holds a)) p
+    (subst (IsWithin p) (sym same) within) ∙ ap (λ (m : Triple). wrapped m (traces w old a) p) same) in
+    let shape = c.fold.ensures.current in
+    let left = c.fold.ensures.guard in
+    let pushed = c.push_all-stop.ensures.shape in
     let over : IsOver n c.fold.new.current = record { low = sym shape.low ∙ room.current.low; size = sym shape.size ∙ room.current.size } in
     record {
       rooms_are = record {
@@ -66,9 +67,10 @@ returns c =
         force_b = record { cells = ap (λ (k : Field). k.cells) is_b; parts = ap (λ (k : Field). k.parts) is_b };
         current = over;
         guard = record {
-          low = sym c.push_all-stop.ensures.shape.low ∙ ap (λ (k : BlockValues). k.low) c.clear.ensures ∙ room.guard.low;
-          size = sym c.push_all-stop.ensures.shape.size ∙ ap (λ (k : BlockValues). k.size) c.clear.ensures ∙ room.guard.size;
+          low = sym left.low ∙ sym pushed.low ∙ room.guard.low;
+          size = sym left.size ∙ sym pushed.size ∙ room.guard.size;
         };
+        cleared = c.fold.ensures.cleared;
       };
       particles = c.push_all-stop.ensures.after ∙ ap (λ (v : Surroundings). moved_all v old) feels
           ∙ moved_same kinds n (force_of scales.e_force (value_at e)) (force_of scales.b_force (value_at b)) old;
