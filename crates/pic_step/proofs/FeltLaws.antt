@@ -1,5 +1,5 @@
 -- Particles feel the lattices of force values as the definition's force values.
-use Rattle.std.proofs.Common.{◌≡◌, List, [], ◌∷◌, refl}
+use Rattle.std.proofs.Common.{◌≡◌, ℕ, List, [], ◌∷◌, refl}
 use Rattle.std.proofs.Math.IntN.{ℤ, ◌+ℤ◌}
 use Rattle.std.specs.Option.{option_or}
 use Rattle.pic_num.specs.declared.motion.Kind.{Kind}
@@ -18,36 +18,40 @@ use Rattle.pic_grid.specs.Parts.{one_part}
 use Rattle.pic_grid.specs.Traces.{trace_of, traces}
 
 -- what is around the particles, by functions
-abbrev pub around_by : List Kind → Triple → (Axis → Triple → ℤ) → (Axis → Triple → ℤ) → Surroundings
-around_by kinds n f g = record { side = 4096; cells = n; kinds = kinds; of_e = f; of_b = g }
+abbrev pub around_by : ℕ → List Kind → Triple → (Axis → Triple → ℤ) → (Axis → Triple → ℤ) → Surroundings
+around_by side kinds n f g = record { side = side; cells = n; kinds = kinds; of_e = f; of_b = g }
 
 -- the same by lattices of these functions' values
-abbrev pub around_lattices : List Kind → Triple → (Axis → Triple → ℤ) → (Axis → Triple → ℤ) → Surroundings
-around_lattices kinds n f g = felt kinds (field_of n one_part f) (field_of n one_part g)
+abbrev pub around_lattices : ℕ → List Kind → Triple → (Axis → Triple → ℤ) → (Axis → Triple → ℤ) → Surroundings
+around_lattices side kinds n f g = felt kinds (field_of side n one_part f) (field_of side n one_part g)
 
-push_same : (kinds : List Kind) (n : Triple) (f g : Axis → Triple → ℤ) (particle : Particle)
-    → push_of (around_lattices kinds n f g) particle ≡ push_of (around_by kinds n f g) particle
+push_same : (side : ℕ) (kinds : List Kind) (n : Triple) (f g : Axis → Triple → ℤ) (particle : Particle)
+    → push_of (around_lattices side kinds n f g) particle ≡ push_of (around_by side kinds n f g) particle
 unfolding push_of
-push_same kinds n f g particle =
-    let e = gathered_e_same 4096 n (value_at (field_of n one_part f)) f (triple particle.x) (λ a p within. value_at-field_of n one_part f a p within) in
-    let b = gathered_b_same 4096 n (value_at (field_of n one_part g)) g (triple particle.x) (λ a p within. value_at-field_of n one_part g a p within) in
-    λ i. pushed 4096 (spot particle.v) (e i) (b i) (kind_of kinds particle).kick (kind_of kinds particle).turn
+push_same side kinds n f g particle =
+    let e = gathered_e_same side n (value_at (field_of side n one_part f)) f (triple particle.x)
+    (λ a p within. value_at-field_of side n one_part f a p within) in
+    let b = gathered_b_same side n (value_at (field_of side n one_part g)) g (triple particle.x)
+    (λ a p within. value_at-field_of side n one_part g a p within) in
+    λ i. pushed side (spot particle.v) (e i) (b i) (kind_of kinds particle).kick (kind_of kinds particle).turn
 
-pub moved_same : (kinds : List Kind) (n : Triple) (f g : Axis → Triple → ℤ) (particles : List Particle)
-    → moved_all (around_lattices kinds n f g) particles ≡ moved_all (around_by kinds n f g) particles
+pub moved_same : (side : ℕ) (kinds : List Kind) (n : Triple) (f g : Axis → Triple → ℤ) (particles : List Particle)
+    → moved_all (around_lattices side kinds n f g) particles ≡ moved_all (around_by side kinds n f g) particles
 unfolding moved_all
-moved_same kinds n f g [] = refl
-moved_same kinds n f g (particle ∷ particles) = λ i. after_push 4096 n particle (push_same kinds n f g particle i) ∷ moved_same kinds n f g particles i
+moved_same side kinds n f g [] = refl
+moved_same side kinds n f g (particle ∷ particles) = λ i.
+    after_push side n particle (push_same side kinds n f g particle i) ∷ moved_same side kinds n f g particles i
 
-pub stop_same : (kinds : List Kind) (n : Triple) (f g : Axis → Triple → ℤ) (particles : List Particle)
-    → push_stop (around_lattices kinds n f g) particles ≡ push_stop (around_by kinds n f g) particles
+pub stop_same : (side : ℕ) (kinds : List Kind) (n : Triple) (f g : Axis → Triple → ℤ) (particles : List Particle)
+    → push_stop (around_lattices side kinds n f g) particles ≡ push_stop (around_by side kinds n f g) particles
 unfolding push_stop first_of
-stop_same kinds n f g [] = refl
-stop_same kinds n f g (particle ∷ particles) = λ i. option_or (halt_of particle (push_same kinds n f g particle i)) (stop_same kinds n f g particles i)
+stop_same side kinds n f g [] = refl
+stop_same side kinds n f g (particle ∷ particles) = λ i.
+    option_or (halt_of particle (push_same side kinds n f g particle i)) (stop_same side kinds n f g particles i)
 
-pub traces_same : (kinds : List Kind) (n : Triple) (f g : Axis → Triple → ℤ) (particles : List Particle) (a : Axis) (c : Spot)
-    → traces (around_lattices kinds n f g) particles a c ≡ traces (around_by kinds n f g) particles a c
+pub traces_same : (side : ℕ) (kinds : List Kind) (n : Triple) (f g : Axis → Triple → ℤ) (particles : List Particle) (a : Axis) (c : Spot)
+    → traces (around_lattices side kinds n f g) particles a c ≡ traces (around_by side kinds n f g) particles a c
 unfolding traces sum_over
-traces_same kinds n f g [] a c = refl
-traces_same kinds n f g (particle ∷ particles) a c = λ i. trace_of 4096 kinds particle
-    (push_same kinds n f g particle i) a c +ℤ traces_same kinds n f g particles a c i
+traces_same side kinds n f g [] a c = refl
+traces_same side kinds n f g (particle ∷ particles) a c = λ i. trace_of side kinds particle
+    (push_same side kinds n f g particle i) a c +ℤ traces_same side kinds n f g particles a c i

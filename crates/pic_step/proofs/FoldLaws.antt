@@ -89,7 +89,8 @@ unfolding wrapped
 wrapped_none n f p =
     sym (images_none n.z (λ z. sum_images n.y (λ y. sum_images n.x (λ x. early n 0 f (record { x = x; y = y; z = z })) p.x) p.y) p.z
     (λ z. sym (images_none n.y (λ y. sum_images n.x (λ x. early n 0 f (record { x = x; y = y; z = z })) p.x) p.y
-    (λ y. sym (images_none n.x (λ x. early n 0 f (record { x = x; y = y; z = z })) p.x (λ x. early_out n 0 f (record { x = x; y = y; z = z }) (omega arith)))))))
+    (λ y. sym (images_none n.x (λ x. early n 0 f (record { x = x; y = y; z = z })) p.x
+    (λ x. early_out n 0 f (record { x = x; y = y; z = z }) (omega arith)))))))
 
 -- f is 0 beyond what paths reach
 module _ (n : Triple) (f : Spot → ℤ) (beyond_y : (c : Spot) → IsBeyond n.y c.y → f c ≡ pos 0) (beyond_z : (c : Spot) → IsBeyond n.z c.z → f c ≡ pos 0)
@@ -110,7 +111,9 @@ module _ (n : Triple) (f : Spot → ℤ) (beyond_y : (c : Spot) → IsBeyond n.y
       where
         all : (c : Spot) → early n i f c ≡ f c
         all c = by_row c (λ none. early_zero n i f c none ∙ sym none)
-            (λ in_y in_z _ _. early_in n i f c (let h = mul-add-lt (unsigned_abs (c.z +ℤ pos 1)) (n.y + 3) (unsigned_abs (c.y +ℤ pos 1)) (n.z + 3) in_z in_y in omega (arith, h, end)))
+            (λ in_y in_z _ _.
+            let h = mul-add-lt (unsigned_abs (c.z +ℤ pos 1)) (n.y + 3) (unsigned_abs (c.y +ℤ pos 1)) (n.z + 3) in_z in_y in
+            early_in n i f c (omega (arith, h, end)))
 
     -- row i is added: that of the layers y and z
     module _ (i : ℕ)
@@ -181,7 +184,8 @@ module _ (n : Triple) (f : Spot → ℤ) (beyond_y : (c : Spot) → IsBeyond n.y
             still_on_y home home_in in_y on other =
                 let a = apart n.y home p.y y home_in in_y on other in
                 λ t. sum_images n.z (λ w. images_still n.y p.y (λ v. rows i v w) (λ v. rows (i + 1) v w)
-                (rows_still (pos p.y -ℤ pos n.y) w (λ e _. a.under e)) (rows_still (pos p.y) w (λ e _. a.here e)) (rows_still (pos p.y +ℤ pos n.y) w (λ e _. a.over e)) t) p.z
+                (rows_still (pos p.y -ℤ pos n.y) w (λ e _. a.under e)) (rows_still (pos p.y) w (λ e _. a.here e))
+                (rows_still (pos p.y +ℤ pos n.y) w (λ e _. a.over e)) t) p.z
 
             pub still_on_z : (home : ℕ) → home < n.z → p.z < n.z → IsLayerOf n.z home z → p.z ≢ home
                 → wrapped n (early n (i + 1) f) p ≡ wrapped n (early n i f) p

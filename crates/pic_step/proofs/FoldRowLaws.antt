@@ -23,7 +23,7 @@ row_at_most b a y z most row long values in_y in_z small = row_small most row (�
     subst (λ (v : ℤ). IsAtMost v most) (sym (values x inside)) (small.at_most (record { x = x; y = y; z = z }) (record { x = inside; y = in_y; z = in_z })))
 
 -- a row of a block is written
-module _ (old new : BlockValues) (axis : Axis) (y z : ℕ) (row : List ℤ) (whole : length old.values ≡ 3 * count_of old.size) (some : 1 ≤ old.size.x)
+module _ (old new : BlockValues) (axis : Axis) (y z : ℕ) (row : List ℤ) (whole : length old.values ≡ 3 * count_of old.size)
     (in_y : y < old.size.y) (in_z : z < old.size.z) (long : length row ≡ old.size.x) (is : new ≡ with_row old axis y z row)
   where
     pub changes : ChangesRow axis y z old new
@@ -31,12 +31,12 @@ module _ (old new : BlockValues) (axis : Axis) (y z : ℕ) (row : List ℤ) (who
       low = sym (ap (λ (b : BlockValues). b.low) is ∙ row_shape old axis y z row);
       size = sym (ap (λ (b : BlockValues). b.size) is ∙ row_size old axis y z row);
       others = λ a p w off. ap (λ (b : BlockValues). inner_at b a p) is
-          ∙ row_others old axis y z row whole some in_y in_z long a p w (record { off = off });
+          ∙ row_others old axis y z row whole in_y in_z long a p w (record { off = off });
     }
 
     pub written : (x : ℕ) → x < old.size.x → inner_at new axis (record { x = x; y = y; z = z }) ≡ slice_index_or row x (pos 0)
     written x below = ap (λ (b : BlockValues). inner_at b axis (record { x = x; y = y; z = z })) is
-        ∙ row_here old axis y z row whole some in_y in_z long x below
+        ∙ row_here old axis y z row whole in_y in_z long x below
 
     pub cleared : IsRowAtMost 0 row → (x : ℕ) → x < old.size.x → inner_at new axis (record { x = x; y = y; z = z }) ≡ pos 0
     cleared zeros x below = written x below ∙ zero (slice_index_or row x (pos 0)) (zeros.at_most x)

@@ -158,7 +158,8 @@ row_held n axis f old now i guard holds cleared inside = record {
       let in_y : i % (n.y + 3) < n.y + 3 = omega arith in
       let in_z : i / (n.y + 3) < n.z + 3 = above_layers (i / (n.y + 3)) (n.y + 3) (n.z + 3) i (omega (arith, whole)) inside in
       let w : IsWithin p old.size =
-      subst (IsWithin p) (sym guard.size) (let r : IsWithin p (record { x = n.x + 3; y = n.y + 3; z = n.z + 3 }) = record { x = below; y = in_y; z = in_z } in r) in
+      let r : IsWithin p (record { x = n.x + 3; y = n.y + 3; z = n.z + 3 }) = record { x = below; y = in_y; z = in_z } in
+      subst (IsWithin p) (sym guard.size) r in
       cleared.rest p w (omega (arith, whole)) ∙ held_at n old axis f p guard holds w;
   beyond = λ j beyond. holds.beyond_x (record { x = j; y = pos (i % (n.y + 3)) -ℤ pos 1; z = pos (i / (n.y + 3)) -ℤ pos 1 }) beyond;
 }

@@ -35,7 +35,8 @@ row_taken most n row small = row_small most (take n row) (λ k below.
     subst (λ (v : ℤ). IsAtMost v most) (sym (get_or-take n row k (pos 0) (omega (arith, below, few, least)))) (small.at_most k))
 
 -- an image under or over the grid is in the row, or beyond
-under_is : (n : ℕ) (line : List ℤ) (g : ℤ → ℤ) (x : ℕ) (b : Bool) → (x + 1 == n) ≡ b → x < n → ((k : ℕ) → k < n + 3 → get_or line k (pos 0) ≡ g (pos k -ℤ pos 1))
+under_is : (n : ℕ) (line : List ℤ) (g : ℤ → ℤ) (x : ℕ) (b : Bool) → (x + 1 == n) ≡ b → x < n
+    → ((k : ℕ) → k < n + 3 → get_or line k (pos 0) ≡ g (pos k -ℤ pos 1))
     → ((j : ℤ) → IsBeyond n j → g j ≡ pos 0) → cond b (get_or line 0 (pos 0)) (pos 0) ≡ g (pos x -ℤ pos n)
 under_is n line g x true e below reads none =
     let last = eqb-true (x + 1) n e in
@@ -107,7 +108,8 @@ added_more row old i now v added inside is = record {
   done = λ x below. elim (cases_lt x i) [
     | inl less ↦ (let other : x ≢ i = λ e. absurd (omega (arith, less, e)) in get_or-set_other now i x v (pos 0) other ∙ added.done x less)
     | inr more ↦ (let same : i ≡ x = omega (arith, below, more) in
-        subst (λ (k : ℕ). get_or (set now i v) k (pos 0) ≡ get_or old k (pos 0) +ℤ get_or row (k + 1) (pos 0)) same (get_or-set_same now i v (pos 0) inside ∙ is))
+        subst (λ (k : ℕ). get_or (set now i v) k (pos 0) ≡ get_or old k (pos 0) +ℤ get_or row (k + 1) (pos 0)) same
+        (get_or-set_same now i v (pos 0) inside ∙ is))
   ];
   rest = λ x more. (let other : x ≢ i = λ e. absurd (omega (arith, more, e)) in get_or-set_other now i x v (pos 0) other ∙ added.rest x (omega (arith, more)));
 }
@@ -134,11 +136,13 @@ module _ (n : ℕ) (row : List ℤ) (x : ℕ)
       | inl none ↦ (let at : n + 1 ≡ x + n + 1 = omega (arith, none) in
           let other : x ≡ 1 → ⊥ = λ e. absurd (omega (arith, e, none)) in
           (λ t. cond (eq-eqb x 0 none t) (get_or row (at t) (pos 0)) (pos 0) +ℤ cond (ne_eqb x 1 other t) (get_or row (n + 2) (pos 0)) (pos 0))
-          ∙ plus_zero (get_or row (x + n + 1) (pos 0)) ∙ sym (ap (λ (b : Bool). cond b (get_or row (x + n + 1) (pos 0)) (pos 0)) (lt-ltb x 2 (omega (arith, none)))))
+          ∙ plus_zero (get_or row (x + n + 1) (pos 0))
+          ∙ sym (ap (λ (b : Bool). cond b (get_or row (x + n + 1) (pos 0)) (pos 0)) (lt-ltb x 2 (omega (arith, none)))))
       | inr some ↦ elim (cases_eq x 1) [
         | inl one ↦ (let at : n + 2 ≡ x + n + 1 = omega (arith, one) in
             (λ t. cond (ne_eqb x 0 some t) (get_or row (n + 1) (pos 0)) (pos 0) +ℤ cond (eq-eqb x 1 one t) (get_or row (at t) (pos 0)) (pos 0))
-            ∙ zero_plus (get_or row (x + n + 1) (pos 0)) ∙ sym (ap (λ (b : Bool). cond b (get_or row (x + n + 1) (pos 0)) (pos 0)) (lt-ltb x 2 (omega (arith, one)))))
+            ∙ zero_plus (get_or row (x + n + 1) (pos 0))
+            ∙ sym (ap (λ (b : Bool). cond b (get_or row (x + n + 1) (pos 0)) (pos 0)) (lt-ltb x 2 (omega (arith, one)))))
         | inr more ↦ (let high : 2 ≤ x = grind (arith, some, more) in
             (λ t. cond (ne_eqb x 0 some t) (get_or row (n + 1) (pos 0)) (pos 0) +ℤ cond (ne_eqb x 1 more t) (get_or row (n + 2) (pos 0)) (pos 0))
             ∙ plus_zero (pos 0) ∙ sym (ap (λ (b : Bool). cond b (get_or row (x + n + 1) (pos 0)) (pos 0)) (le-ltb x 2 high)))

@@ -41,8 +41,8 @@ unfolding half_of
 half_keeps w p cells within =
     let n = w.cells in
     let curl : Axis → Triple → ℤ = curl_e n (λ c q. scaled (value_at w.e c q) w.scales.e_to_b) in
-    div_b_same n (value_at (field_of n w.b.parts (half_at w))) (λ a q. value_at w.b a q -ℤ curl a q) p within
-    (λ a q inside. value_at-field_of n w.b.parts (half_at w) a q inside
+    div_b_same n (value_at (field_of w.side n w.b.parts (half_at w))) (λ a q. value_at w.b a q -ℤ curl a q) p within
+    (λ a q inside. value_at-field_of w.side n w.b.parts (half_at w) a q inside
     ∙ (λ i. value_at w.b a q -ℤ curl_e (cells i) (λ c r. scaled (value_at w.e c r) w.scales.e_to_b) a q))
     ∙ div_b-less n (value_at w.b) curl p
     ∙ ap (λ (k : ℤ). div_b n (value_at w.b) p -ℤ k) (div_b-curl_e n (λ c q. scaled (value_at w.e c q) w.scales.e_to_b) p)

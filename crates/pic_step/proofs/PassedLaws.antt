@@ -7,7 +7,7 @@ use Rattle.std.proofs.lemmas.Int.{ints}
 use Rattle.std.proofs.Math.ListN.{set}
 use Rattle.std.proofs.lemmas.List.{get_or-append_right, get_or-drop, get_or_default, length-append, length-drop, length-take-le, take_all, drop_all}
 use Rattle.std.proofs.lemmas.List.Edits.{map_over_more}
-use Rattle.pic_num.specs.Limits.{most_particles}
+use Rattle.pic_num.specs.Limits.{most_side, most_particles}
 use Rattle.pic_num.specs.declared.motion.Particle.{Particle}
 use Rattle.pic_num.specs.First.{first_of}
 use Rattle.pic_num.proofs.FirstLaws.{first_of_more}
@@ -110,12 +110,13 @@ written w old now i y d below e is =
 
 -- the block has room for one particle more, since it holds the flux of those before
 pub held_size : (w : Surroundings) (old : List Particle) (guard held : BlockValues) (i : ℕ) (now : List Particle) (stop : Option Stop)
-    → w.side ≡ 4096 → All IsKind w.kinds → length old ≤ most_particles → AllAtMost 0 guard → Passed w old guard i now stop held → AllAtMost most_flux held
-held_size w old guard held i now stop side limits few zeros passed = record {
+    → 0 < w.side → w.side ≤ most_side → All IsKind w.kinds → length old ≤ most_particles → AllAtMost 0 guard
+    → Passed w old guard i now stop held → AllAtMost most_flux held
+held_size w old guard held i now stop some side limits few zeros passed = record {
   at_most = λ a c inside. subst (λ (v : ℤ). IsAtMost v most_flux)
       (sym (adds_from_zeros guard held (traces w (take i old)) zeros passed.adds a c
       (in_zone_shaped held guard c (shaped_back guard held passed.shape) inside)))
-      ((front_size w old i side limits few).at_most a c);
+      ((front_size w old most_particles i some side limits few).at_most a c);
 }
 
 -- all particles

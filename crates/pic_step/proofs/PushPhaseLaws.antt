@@ -1,8 +1,8 @@
 -- What the push phase leaves, from what its calls left.
-use Rattle.std.proofs.Common.{◌≡◌, ◌^◌, ◌<◌, ◌≤◌, List, length, sym, ◌∙◌, subst}
+use Rattle.std.proofs.Common.{◌≡◌, ℕ, ◌^◌, ◌<◌, ◌≤◌, List, length, sym, ap, ◌∙◌, subst}
 use Rattle.std.proofs.Math.IntN.{ℤ}
 use Rattle.std.specs.Prelude.{All}
-use Rattle.pic_num.specs.Limits.{most_particles, most_value}
+use Rattle.pic_num.specs.Limits.{most_side, most_particles, most_value}
 use Rattle.pic_num.specs.declared.motion.Kind.{Kind}
 use Rattle.pic_num.specs.declared.motion.Particle.{Particle}
 use Rattle.pic_num.specs.declared.axis.Axis.{Axis}
@@ -26,6 +26,7 @@ use Rattle.pic_gather.specs.Forces.{AreForces}
 use Rattle.pic_grid.specs.Felt.{felt}
 use Rattle.pic_grid.specs.PushPhase.{CanShare}
 use Rattle.pic_grid.specs.Parts.{one_part}
+use Rattle.pic_step.specs.Rooms.{IsRoom}
 use Rattle.pic_step.specs.Sound.{IsSafe}
 use Rattle.pic_grid.specs.Traces.{traces}
 use Rattle.pic_step.specs.Guard.{Holds}
@@ -35,10 +36,11 @@ use Rattle.pic_grid.proofs.ShapeLaws.{shaped_back}
 use Rattle.pic_step.proofs.TraceSizeLaws.{current_size}
 
 -- the force values of a safe field are small enough to be gathered
-pub forces_small : (n : Triple) (by : Multiplier) (f r : Field) → IsSafe n by f → r ≡ field_of n one_part (force_of by (value_at f)) → AreForces r
-forces_small n by f r safe is = subst AreForces (sym is) (record {
+pub forces_small : (side : ℕ) (n : Triple) (by : Multiplier) (f r : Field) → IsSafe side n by f
+    → r ≡ field_of side n one_part (force_of by (value_at f)) → AreForces r
+forces_small side n by f r safe is = subst AreForces (sym is) (record {
   at_most = λ a p within.
-      subst (λ (v : ℤ). IsAtMost v (2 ^ 44)) (sym (value_at-field_of n one_part (force_of by (value_at f)) a p within)) (safe.bounded a p within).force;
+      subst (λ (v : ℤ). IsAtMost v (2 ^ 44)) (sym (value_at-field_of side n one_part (force_of by (value_at f)) a p within)) (safe.bounded a p within).force;
 })
 
 -- on each axis the guard holds the flux of all particles
@@ -57,15 +59,21 @@ pub folded : (w : Surroundings) (particles : List Particle) (j : BlockValues)
     → (a : Axis) (p : Triple) → IsWithin p w.cells → inner_at j a p ≡ current w particles a p
 folded w particles j is a p within = is a p within ∙ sym (current_is w particles a p)
 
-pub folded_small : (w : Surroundings) (particles : List Particle) (j : BlockValues) → w.side ≡ 4096 → All IsKind w.kinds → length particles ≤ most_particles
+pub folded_small : (w : Surroundings) (particles : List Particle) (j : BlockValues) → 0 < w.side → w.side ≤ most_side
+    → All IsKind w.kinds → length particles ≤ most_particles
     → IsOver w.cells j → ((a : Axis) (p : Triple) → IsWithin p w.cells → inner_at j a p ≡ current w particles a p) → AllAtMost most_value j
-folded_small w particles j side limits few over is = record {
+folded_small w particles j some side limits few over is = record {
   at_most = λ a c inside.
       let within : IsWithin (inner_of j.low c) w.cells = subst (IsWithin (inner_of j.low c)) over.size (inner_within j.low j.size c inside) in
-      subst (λ (v : ℤ). IsAtMost v most_value) (sym (is a (inner_of j.low c) within)) (current_size w particles a (inner_of j.low c) side limits few);
+      subst (λ (v : ℤ). IsAtMost v most_value) (sym (is a (inner_of j.low c) within)) (current_size w particles a (inner_of j.low c) some side limits few);
 }
 
 -- what particles feel, by lattices that are given by force values
-pub felt_is : (kinds : List Kind) (n : Triple) (f g : Axis → Triple → ℤ) (e b : Field) → e ≡ field_of n one_part f → b ≡ field_of n one_part g
-    → felt kinds e b ≡ around_lattices kinds n f g
-felt_is kinds n f g e b h k = λ i. felt kinds (h i) (k i)
+pub felt_is : (side : ℕ) (kinds : List Kind) (n : Triple) (f g : Axis → Triple → ℤ) (e b : Field)
+    → e ≡ field_of side n one_part f → b ≡ field_of side n one_part g
+    → felt kinds e b ≡ around_lattices side kinds n f g
+felt_is side kinds n f g e b h k = λ i. felt kinds (h i) (k i)
+
+-- a lattice of force values is a room of the state
+pub room_of : (side : ℕ) (n : Triple) (f : Axis → Triple → ℤ) (r : Field) → r ≡ field_of side n one_part f → IsRoom side n r
+room_of side n f r is = record { cells = ap (λ (k : Field). k.cells) is; side_is = ap (λ (k : Field). k.side) is; parts = ap (λ (k : Field). k.parts) is }

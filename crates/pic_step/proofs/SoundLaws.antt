@@ -35,12 +35,13 @@ pub has_two : (n : Triple) → IsCells n → HasTwo n
 has_two n h = record { x = h.x_least; y = h.y_least; z = h.z_least }
 
 -- a field phase without a stop leaves a safe field
-pub safe_after : (phase : Phase) (by : Multiplier) (n : Triple) (g : Axis → Triple → ℤ) → least_fault phase by origin n g ≡ None
-    → IsSafe n by (field_of n one_part g)
-safe_after phase by n g none = record {
+pub safe_after : (phase : Phase) (by : Multiplier) (side : ℕ) (n : Triple) (g : Axis → Triple → ℤ) → least_fault phase by origin n g ≡ None
+    → IsSafe side n by (field_of side n one_part g)
+safe_after phase by side n g none = record {
   cells = refl;
+  side_is = refl;
   parts = refl;
-  bounded = λ a p within. subst (IsBounded by) (ap (g a) (above_origin p) ∙ sym (value_at-field_of n one_part g a p within))
+  bounded = λ a p within. subst (IsBounded by) (ap (g a) (above_origin p) ∙ sym (value_at-field_of side n one_part g a p within))
       (least_fault-bounded phase by origin n g none a p within);
 }
 
@@ -68,9 +69,9 @@ gauss_kept w sound = record {
       let w4 = before_electric w in
       let j = current_of h in
       let two = has_two n sound.cells in
-      let above : 0 < w.side = omega (arith, sound.side) in
-      let is_full = div_e_same n (value_at (field_of n w.e.parts (full_at j w4))) (full_at j w4) p within
-      (λ a q inside. value_at-field_of n w.e.parts (full_at j w4) a q inside) in
+      let above : 0 < w.side = omega (arith, sound.side_least) in
+      let is_full = div_e_same n (value_at (field_of w.side n w.e.parts (full_at j w4))) (full_at j w4) p within
+      (λ a q inside. value_at-field_of w.side n w.e.parts (full_at j w4) a q inside) in
       let falls = div_full n (value_at w.e) (λ c q. scaled (value_at w4.b c q) w.scales.b_to_e) j p in
       let old = sound.gauss.at_node p within in
       let law = div_current (around h) w.particles p above two within sound.places in
@@ -89,15 +90,17 @@ step_sound w sound none =
     let h = half_on w in
     let stops = no_stop w none in
     let two = has_two n sound.cells in
-    let above : 0 < w.side = omega (arith, sound.side) in
+    let above : 0 < w.side = omega (arith, sound.side_least) in
     let count = length-moved_all (around h) w.particles in
     record {
-      side = sound.side;
+      side_least = sound.side_least;
+      side_most = sound.side_most;
       cells = sound.cells;
-      e = subst (λ (parts : Triple). IsSafe n w.scales.e_force (field_of n parts (full_at (current_of h) (before_electric w)))) (sym sound.e.parts)
-          (safe_after Electric w.scales.e_force n (full_at (current_of h) (before_electric w)) stops.electric);
-      b = subst (λ (parts : Triple). IsSafe n w.scales.b_force (field_of n parts (half_at (push_on h)))) (sym sound.b.parts)
-          (safe_after Half2 w.scales.b_force n (half_at (push_on h)) stops.half2);
+      e = subst (λ (parts : Triple). IsSafe w.side n w.scales.e_force (field_of w.side n parts (full_at (current_of h) (before_electric w))))
+          (sym sound.e.parts)
+          (safe_after Electric w.scales.e_force w.side n (full_at (current_of h) (before_electric w)) stops.electric);
+      b = subst (λ (parts : Triple). IsSafe w.side n w.scales.b_force (field_of w.side n parts (half_at (push_on h)))) (sym sound.b.parts)
+          (safe_after Half2 w.scales.b_force w.side n (half_at (push_on h)) stops.half2);
       species = sound.species;
       kinds = sound.kinds;
       few = subst (λ (k : ℕ). k ≤ most_particles) (sym count) sound.few;

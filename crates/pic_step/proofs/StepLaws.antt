@@ -1,5 +1,5 @@
 -- A step by its four calls: each leaves what the next one needs.
-use Rattle.std.proofs.Common.{◌≡◌, List, Option, None, Ok, sym, ap, ◌∙◌, subst}
+use Rattle.std.proofs.Common.{◌≡◌, ℕ, List, Option, None, Ok, sym, ap, ◌∙◌, subst}
 use Rattle.std.proofs.Math.IntN.{ℤ}
 use Rattle.pic_num.specs.Limits.{most_value}
 use Rattle.pic_num.specs.declared.motion.Kind.{Kind}
@@ -31,8 +31,8 @@ use Rattle.pic_step.proofs.ExitLaws.{no_stop_is, steps_on}
 use Rattle.pic_step.proofs.SoundLaws.{safe_after, step_sound}
 
 -- the values of a safe field are small
-pub safe_small : (n : Triple) (by : Multiplier) (f : Field) → IsSafe n by f → EachAtMost most_value f
-safe_small n by f safe = record { at_most = λ a p within. (safe.bounded a p (subst (IsWithin p) safe.cells within)).value }
+pub safe_small : (side : ℕ) (n : Triple) (by : Multiplier) (f : Field) → IsSafe side n by f → EachAtMost most_value f
+safe_small side n by f safe = record { at_most = λ a p within. (safe.bounded a p (subst (IsWithin p) safe.cells within)).value }
 
 -- what the first half step of B leaves
 pub record IsHalf (w : World) (b : Field) : Type 0 where
@@ -42,22 +42,22 @@ pub record IsHalf (w : World) (b : Field) : Type 0 where
 pub half_stop_of : (w : World) (o : Option Stop) → IsSound w → least_fault Half1 w.scales.b_force origin w.e.cells (half_at w) ≡ o → half_stop Half1 w ≡ o
 half_stop_of w o sound h = (λ i. least_fault Half1 w.scales.b_force origin (sym sound.e.cells i) (half_at w)) ∙ h
 
-pub is_half : (w : World) (b : Field) → IsSound w → b ≡ field_of w.e.cells one_part (half_at w)
+pub is_half : (w : World) (b : Field) → IsSound w → b ≡ field_of w.e.side w.e.cells one_part (half_at w)
     → least_fault Half1 w.scales.b_force origin w.e.cells (half_at w) ≡ None → IsHalf w b
 is_half w b sound is none = record {
-  is = is ∙ (λ i. field_of (sound.e.cells i) (sym sound.b.parts i) (half_at w));
+  is = is ∙ (λ i. field_of (sound.e.side_is i) (sound.e.cells i) (sym sound.b.parts i) (half_at w));
   none = half_stop_of w None sound none;
 }
 
-pub half_safe : (w : World) (b : Field) → IsSound w → IsHalf w b → IsSafe w.cells w.scales.b_force b
-half_safe w b sound half = subst (IsSafe w.cells w.scales.b_force)
-    ((λ i. field_of w.cells (sym sound.b.parts i) (half_at w)) ∙ sym half.is)
-    (safe_after Half1 w.scales.b_force w.cells (half_at w) half.none)
+pub half_safe : (w : World) (b : Field) → IsSound w → IsHalf w b → IsSafe w.side w.cells w.scales.b_force b
+half_safe w b sound half = subst (IsSafe w.side w.cells w.scales.b_force)
+    ((λ i. field_of w.side w.cells (sym sound.b.parts i) (half_at w)) ∙ sym half.is)
+    (safe_after Half1 w.scales.b_force w.side w.cells (half_at w) half.none)
 
 -- the push is that of the definition
 pub around_is : (w : World) (b : Field) → IsSound w → IsHalf w b → around_fields w.scales w.kinds w.e b ≡ around (half_on w)
 around_is w b sound half = λ i. record {
-  side = sym sound.side i;
+  side = sound.e.side_is i;
   cells = sound.e.cells i;
   kinds = w.kinds;
   of_e = force_of w.scales.e_force (value_at w.e);
@@ -84,17 +84,17 @@ pub second_stop_of : (w : World) (b : Field) (o : Option Stop) → IsSound w →
     → least_fault Half2 w.scales.b_force origin w.e.cells (λ a p. half_of w.scales w.e a p (value_at b a p)) ≡ o → half_stop Half2 (push_on (half_on w)) ≡ o
 second_stop_of w b o sound half h = (λ i. least_fault Half2 w.scales.b_force origin (sym sound.e.cells i) (sym (second_same w b half) i)) ∙ h
 
-pub is_before : (w : World) (b c : Field) → IsSound w → IsHalf w b → c ≡ field_of w.e.cells one_part (λ a p. half_of w.scales w.e a p (value_at b a p))
+pub is_before : (w : World) (b c : Field) → IsSound w → IsHalf w b → c ≡ field_of w.e.side w.e.cells one_part (λ a p. half_of w.scales w.e a p (value_at b a p))
     → least_fault Half2 w.scales.b_force origin w.e.cells (λ a p. half_of w.scales w.e a p (value_at b a p)) ≡ None → IsBefore w c
 is_before w b c sound half is none = record {
-  is = is ∙ (λ i. field_of (sound.e.cells i) (sym sound.b.parts i) (second_same w b half i));
+  is = is ∙ (λ i. field_of (sound.e.side_is i) (sound.e.cells i) (sym sound.b.parts i) (second_same w b half i));
   none = second_stop_of w b None sound half none;
 }
 
-pub before_safe : (w : World) (b : Field) → IsSound w → IsBefore w b → IsSafe w.cells w.scales.b_force b
-before_safe w b sound before = subst (IsSafe w.cells w.scales.b_force)
-    ((λ i. field_of w.cells (sym sound.b.parts i) (half_at (push_on (half_on w)))) ∙ sym before.is)
-    (safe_after Half2 w.scales.b_force w.cells (half_at (push_on (half_on w))) before.none)
+pub before_safe : (w : World) (b : Field) → IsSound w → IsBefore w b → IsSafe w.side w.cells w.scales.b_force b
+before_safe w b sound before = subst (IsSafe w.side w.cells w.scales.b_force)
+    ((λ i. field_of w.side w.cells (sym sound.b.parts i) (half_at (push_on (half_on w)))) ∙ sym before.is)
+    (safe_after Half2 w.scales.b_force w.side w.cells (half_at (push_on (half_on w))) before.none)
 
 -- the block holds the current of the push
 abbrev pub IsCurrent : World → BlockValues → Type 0
@@ -120,12 +120,13 @@ last_stop_of w b j o sound before is h =
     ∙ (λ i. least_fault Electric w.scales.e_force origin (cells i) (by_block w b j)) ∙ h
 
 pub e_after : (w : World) (b e : Field) (j : BlockValues) → IsSound w → IsBefore w b → IsCurrent w j
-    → e ≡ field_of b.cells one_part (by_block w b j) → e ≡ field_of w.cells w.e.parts (full_at (current_of (half_on w)) (before_electric w))
+    → e ≡ field_of b.side b.cells one_part (by_block w b j) → e ≡ field_of w.side w.cells w.e.parts (full_at (current_of (half_on w)) (before_electric w))
 e_after w b e j sound before is done =
     let cells : b.cells ≡ w.cells = ap (λ (f : Field). f.cells) before.is in
-    done ∙ (λ i. field_of (cells i) one_part (by_block w b j))
-    ∙ field_same w.cells (by_block w b j) (full_at (current_of (half_on w)) (before_electric w)) (current_same w b j before is)
-    ∙ (λ i. field_of w.cells (sym sound.e.parts i) (full_at (current_of (half_on w)) (before_electric w)))
+    let side : b.side ≡ w.side = ap (λ (f : Field). f.side) before.is in
+    done ∙ (λ i. field_of (side i) (cells i) one_part (by_block w b j))
+    ∙ field_same w.side w.cells (by_block w b j) (full_at (current_of (half_on w)) (before_electric w)) (current_same w b j before is)
+    ∙ (λ i. field_of w.side w.cells (sym sound.e.parts i) (full_at (current_of (half_on w)) (before_electric w)))
 
 -- the state after the step
 pub record IsAfter (w : World) (e b : Field) (particles : List Particle) : Type 0 where
@@ -134,7 +135,8 @@ pub record IsAfter (w : World) (e b : Field) (particles : List Particle) : Type 
 
 pub is_after : (w : World) (b c e : Field) (now particles : List Particle) (rooms : Rooms) → IsSound w → IsHalf w b
     → IsPushed (around (half_on w)) w.particles now None rooms → IsBefore w c → particles ≡ now
-    → e ≡ field_of c.cells one_part (by_block w c rooms.current) → least_fault Electric w.scales.e_force origin c.cells (by_block w c rooms.current) ≡ None
+    → e ≡ field_of c.side c.cells one_part (by_block w c rooms.current)
+    → least_fault Electric w.scales.e_force origin c.cells (by_block w c rooms.current) ≡ None
     → IsAfter w e c particles
 unfolding step_on
 is_after w b c e now particles rooms sound half pushed before same e_is none =

@@ -3,6 +3,7 @@ use Rattle.std.proofs.Common.{◌≡◌, ℕ, ◌≤◌, List, Result, Ok, Err, 
 use Rattle.std.proofs.Math.IntN.{ℤ, pos, ◌-ℤ◌}
 use Rattle.std.specs.Prelude.{unsigned_abs, ◌<ℤ◌, ◌≤ℤ◌, All}
 use Rattle.std.proofs.lemmas.Int.{ints}
+use Rattle.pic_num.specs.Limits.{velocity_unit}
 use Rattle.pic_num.specs.declared.motion.Particle.{Particle}
 use Rattle.pic_num.specs.declared.motion.What.TheVariants.{Far}
 use Rattle.pic_num.specs.declared.axis.Axis.{Axis}
@@ -16,19 +17,19 @@ use Rattle.pic_num.proofs.RoundingLaws.{rounded-is}
 use Rattle.pic_grid.specs.PushPhase.{Surroundings, push_of, after_push, moved, moved_all}
 use Rattle.pic_step.proofs.PushLaws.{none_above, unless_ok, all_kept}
 
--- a number whose rounded 4096th part is at most a side
-on_axis : (side : ℕ) (v : ℤ) → unsigned_abs (rounded v (pos 4096)) ≤ side
+-- a velocity whose rounded move is at most a side
+on_axis : (side : ℕ) (v : ℤ) → unsigned_abs (rounded v (pos velocity_unit)) ≤ side
     → ((pos 0 -ℤ pos (too_fast side)) ≤ℤ v) × (v <ℤ pos (too_fast side))
 on_axis side v size =
-    let is = rounded-is v (pos 4096) (omega (arith, ints)) in (omega (arith, ints, is.above, size), omega (arith, ints, is.below, size))
+    let is = rounded-is v (pos velocity_unit) (omega (arith, ints)) in (omega (arith, ints, is.above, size), omega (arith, ints, is.below, size))
 
-by_axis : (side : ℕ) (v : Spot) → ((a : Axis) → unsigned_abs (along a (each (λ c. rounded c (pos 4096)) v)) ≤ side)
+by_axis : (side : ℕ) (v : Spot) → ((a : Axis) → unsigned_abs (along a (each (λ c. rounded c (pos velocity_unit)) v)) ≤ side)
     → (a : Axis) → ((pos 0 -ℤ pos (too_fast side)) ≤ℤ along a v) × (along a v <ℤ pos (too_fast side))
 by_axis side v far X = on_axis side v.x (far X)
 by_axis side v far Y = on_axis side v.y (far Y)
 by_axis side v far Z = on_axis side v.z (far Z)
 
-kept_of : (side : ℕ) (v : Spot) → ((a : Axis) → unsigned_abs (along a (each (λ c. rounded c (pos 4096)) v)) ≤ side) → IsKeptVelocity side v
+kept_of : (side : ℕ) (v : Spot) → ((a : Axis) → unsigned_abs (along a (each (λ c. rounded c (pos velocity_unit)) v)) ≤ side) → IsKeptVelocity side v
 kept_of side v far = record { least = λ a. (by_axis side v far a).0; most = λ a. (by_axis side v far a).1 }
 
 pub keeps_velocities : PushKeepsVelocities

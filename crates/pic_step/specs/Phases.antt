@@ -1,5 +1,5 @@
 -- What a field phase does to a lattice of one part.
-use Rattle.std.specs.Prelude.{◌≡◌, ℤ, Some, None, Result, Ok, Err}
+use Rattle.std.specs.Prelude.{◌≡◌, ℕ, ℤ, Some, None, Result, Ok, Err}
 use Rattle.pic_num.specs.declared.axis.Axis.{Axis}
 use Rattle.pic_num.specs.Multiplier.{Multiplier}
 use Rattle.pic_num.specs.Space.{Triple}
@@ -11,7 +11,7 @@ use Rattle.pic_grid.specs.Parts.{origin}
 use Rattle.pic_grid.specs.Parts.{one_part}
 
 -- the lattice of the new values that g gives, none of which is a stop, or the stop of the least place
-abbrev pub Advances : Phase → Multiplier → Triple → (Axis → Triple → ℤ) → Result Field Stop → Type 0
-Advances phase by n g (Ok f) =
-    (f ≡ field_of n one_part g) × (least_fault phase by origin n g ≡ None)
-Advances phase by n g (Err stop) = least_fault phase by origin n g ≡ Some stop
+abbrev pub Advances : Phase → Multiplier → ℕ → Triple → (Axis → Triple → ℤ) → Result Field Stop → Type 0
+Advances phase by side n g (Ok f) =
+    (f ≡ field_of side n one_part g) × (least_fault phase by origin n g ≡ None)
+Advances phase by side n g (Err stop) = least_fault phase by origin n g ≡ Some stop

@@ -19,7 +19,7 @@ use Rattle.pic_step.specs.Rooms.{AreRooms}
 -- what is around the particles, by the fields E and B
 abbrev pub around_fields : Scales → List Kind → Field → Field → Surroundings
 around_fields scales kinds e b = record {
-  side = 4096;
+  side = e.side;
   cells = e.cells;
   kinds = kinds;
   of_e = force_of scales.e_force (value_at e);
@@ -29,7 +29,7 @@ around_fields scales kinds e b = record {
 -- the particles are pushed, their stop is known, and the room of the current holds it
 pub record IsPushed (w : Surroundings) (old now : List Particle) (stop : Option Stop)
     (rooms : Rooms) : Type 0 where
-  pub rooms_are : AreRooms w.cells rooms
+  pub rooms_are : AreRooms w.side w.cells rooms
   pub particles : now ≡ moved_all w old
   pub stop_is : stop ≡ push_stop w old
   pub current_is : (a : Axis) (p : Triple) → IsWithin p w.cells

@@ -17,15 +17,15 @@ use Rattle.pic_grid.specs.Parts.{one_part}
 abbrev pub kinds_of : DeckView → List Kind
 kinds_of d = map (λ (s : Species). s.kind) d.species
 
--- the state that a deck begins with, with these particles; a cell has 4096 sub-cells
+-- the state that a deck begins with, with these particles
 abbrev pub start_of : DeckView → List Particle → World
 start_of d particles = record {
-  side = 4096;
+  side = d.side;
   cells = d.cells;
   scales = d.scales;
   kinds = kinds_of d;
-  e = field_of d.cells one_part (initial_e d);
-  b = field_of d.cells one_part (initial_b d);
+  e = field_of d.side d.cells one_part (initial_e d);
+  b = field_of d.side d.cells one_part (initial_b d);
   particles = particles;
 }
 

@@ -51,7 +51,7 @@ full_at j w a p = full_of w.scales w.b a p (value_at w.e a p) (j a p)
 
 -- half a step of B
 abbrev pub half_on : World → World
-half_on w = record w { b = field_of w.cells w.b.parts (half_at w) }
+half_on w = record w { b = field_of w.side w.cells w.b.parts (half_at w) }
 
 -- the push of all particles
 abbrev pub push_on : World → World
@@ -63,7 +63,7 @@ current_of w = current (around w) w.particles
 
 -- a step of E, with the current j
 abbrev pub full_on : (Axis → Triple → ℤ) → World → World
-full_on j w = record w { e = field_of w.cells w.e.parts (full_at j w) }
+full_on j w = record w { e = field_of w.side w.cells w.e.parts (full_at j w) }
 
 -- the state in which E takes its step
 abbrev pub before_electric : World → World

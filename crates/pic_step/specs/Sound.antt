@@ -1,7 +1,7 @@
 -- What the state of a run keeps.
-use Rattle.std.specs.Prelude.{◌≡◌, ◌≤◌, length, map}
+use Rattle.std.specs.Prelude.{◌≡◌, ℕ, ◌≤◌, length, map}
 use Rattle.std.specs.List.{All, range_with_len}
-use Rattle.pic_num.specs.Limits.{most_particles, most_species}
+use Rattle.pic_num.specs.Limits.{least_side, most_side, most_particles, most_species}
 use Rattle.pic_num.specs.declared.axis.Axis.{Axis}
 use Rattle.pic_num.specs.Multiplier.{Multiplier}
 use Rattle.pic_num.specs.Space.{Triple, spot}
@@ -15,20 +15,22 @@ use Rattle.pic_charge.specs.Gauss.{MeetsGauss}
 use Rattle.pic_field.specs.FieldPhases.{IsBounded}
 use Rattle.pic_step.specs.SerialStep.{World}
 
--- a field of these cells, in one part, with no value past its bounds
-pub record IsSafe (n : Triple) (by : Multiplier) (f : Field) : Type 0 where
+-- a field of these cells of this side, in one part, with no value past its bounds
+pub record IsSafe (side : ℕ) (n : Triple) (by : Multiplier) (f : Field) : Type 0 where
   pub cells : f.cells ≡ n
+  pub side_is : f.side ≡ side
   pub parts : f.parts ≡ one_part
   pub bounded : (a : Axis) (p : Triple) → IsWithin p n → IsBounded by (value_at f a p)
 
--- the limits, the census (the identities are 0, 1, .. in order), and Gauss's law at every node: each
--- particle's species is one of the kinds, its position lies in the box, and its velocity is one that
--- a push keeps
+-- the limits, of the side too, the census (the identities are 0, 1, .. in order), and Gauss's law at
+-- every node: each particle's species is one of the kinds, its position lies in the box, and its
+-- velocity is one that a push keeps
 pub record IsSound (w : World) : Type 0 where
-  pub side : w.side ≡ 4096
+  pub side_least : least_side ≤ w.side
+  pub side_most : w.side ≤ most_side
   pub cells : IsCells w.cells
-  pub e : IsSafe w.cells w.scales.e_force w.e
-  pub b : IsSafe w.cells w.scales.b_force w.b
+  pub e : IsSafe w.side w.cells w.scales.e_force w.e
+  pub b : IsSafe w.side w.cells w.scales.b_force w.b
   pub species : length w.kinds ≤ most_species
   pub kinds : All IsKind w.kinds
   pub few : length w.particles ≤ most_particles

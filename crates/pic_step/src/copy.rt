@@ -1,13 +1,13 @@
-//! A lattice made what another one is, place by place, however the two are cut into parts.
+//! A lattice given the values of another one, place by place, however the two are cut into parts.
 
 ghost use Rattle.std.specs.Prelude.{◌≡◌};
 
 use pic_grid::Lattice;
 
-/// Gives a lattice the values of another one. Its parts stay.
+/// Gives a lattice the values of another one. Its side and its parts stay.
 pub fn copy(from: &Lattice, to: &mut Lattice)
     requires { to.old.cells ≡ from.now.cells }
-    ensures { to.new ≡ record from.now { parts = to.old.parts } }
+    ensures { to.new ≡ record from.now { side = to.old.side; parts = to.old.parts } }
 {
     let cells = from.cells();
     let _same = to.cells();

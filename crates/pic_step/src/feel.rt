@@ -20,9 +20,10 @@ pub fn feel(
     force_b: &Lattice,
     particle: &Particle,
 ) -> Result<Moved, Halt>
-    requires side { sub ≡ 4096 }
-    requires can { CanShare 4096 force_e.now.cells kinds.now particle.now }
+    requires side { sub ≡ force_e.now.side }
+    requires can { CanShare force_e.now.side force_e.now.cells kinds.now particle.now }
     requires cells { force_b.now.cells ≡ force_e.now.cells }
+    requires sides { force_b.now.side ≡ force_e.now.side }
     requires parts { force_b.now.parts ≡ force_e.now.parts }
     requires e { AreForces force_e.now }
     requires b { AreForces force_b.now }

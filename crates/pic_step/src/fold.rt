@@ -16,7 +16,7 @@ use pic_grid::{Block, Cells};
 use pic_num::Axis;
 
 /// How many sums a row has room for: as many cells as an axis may have.
-const ROOM: usize = 64;
+const ROOM: usize = 128;
 
 /// How many layers the guard has on an axis beside those of the grid.
 const BEYOND: u32 = 3;
@@ -152,17 +152,17 @@ fn fold_axis(
     sums: &mut [i128],
     zeros: &[i128],
 )
-    requires zone { IsGuard cells guard.old }
-    requires over { IsOver cells current.old }
-    requires long { length sums.old ≡ cells.x }
-    requires wide { length zeros.now ≡ cells.x + 3 }
+    requires zone { IsGuard cells.n guard.old }
+    requires over { IsOver cells.n current.old }
+    requires long { length sums.old ≡ cells.n.x }
+    requires wide { length zeros.now ≡ cells.n.x + 3 }
     requires zeros { IsRowAtMost 0 zeros.now }
     requires room { IsAxisAtMost most_flux axis guard.old }
     requires none { IsAxisAtMost 0 axis current.old }
     ensures current { ChangesAxis axis current.old current.new }
     ensures guard { ChangesAxis axis guard.old guard.new }
-    ensures values { (f : Spot → ℤ) → Holds cells guard.old axis f → (p : Triple)
-        → IsWithin p cells → inner_at current.new axis p ≡ wrapped cells f p }
+    ensures values { (f : Spot → ℤ) → Holds cells.n guard.old axis f → (p : Triple)
+        → IsWithin p cells.n → inner_at current.new axis p ≡ wrapped cells.n f p }
     ensures cleared { IsAxisAtMost 0 axis guard.new }
 {
     let [_, ny, nz] = cells.n;
@@ -175,7 +175,7 @@ fn fold_axis(
 
 /// Zeros for a row of the guard.
 fn zero_row() -> [i128; ROOM + 3]
-    ensures long { length result ≡ 67 }
+    ensures long { length result ≡ 131 }
     ensures zeros { IsRowAtMost 0 result }
 {
     [0; ROOM + 3]
@@ -184,13 +184,13 @@ fn zero_row() -> [i128; ROOM + 3]
 /// Makes a block over the grid the current of the periodic grid: at each edge the flux through all
 /// its images. The guard, which holds the flux, is cleared.
 pub fn fold(guard: &mut Block, cells: Cells, current: &mut Block)
-    requires zone { IsGuard cells guard.old }
-    requires over { IsOver cells current.old }
+    requires zone { IsGuard cells.n guard.old }
+    requires over { IsOver cells.n current.old }
     requires room { AllAtMost most_flux guard.old }
     ensures current { IsShaped current.old current.new }
     ensures guard { IsShaped guard.old guard.new }
-    ensures values { (a : AxisName) (f : Spot → ℤ) → Holds cells guard.old a f → (p : Triple)
-        → IsWithin p cells → inner_at current.new a p ≡ wrapped cells f p }
+    ensures values { (a : AxisName) (f : Spot → ℤ) → Holds cells.n guard.old a f → (p : Triple)
+        → IsWithin p cells.n → inner_at current.new a p ≡ wrapped cells.n f p }
     ensures cleared { AllAtMost 0 guard.new }
 {
     let [nx, _, _] = cells.n;

@@ -62,8 +62,8 @@ fn wrapped_by(side: u32, n: u32, at: u32, d: i32) -> u32
 /// A particle after its move, wrapped into the box.
 #[tactic(auto, unfolding(pic_grid::specs::PushPhase::moved))]
 fn moved(sub: Sub, cells: Cells, particle: &Particle, by: &Moved) -> Particle
-    requires { IsInBox sub cells (triple particle.now.x) }
-    ensures { result ≡ moved sub cells particle.now (shift_of by.now) }
+    requires { IsInBox sub cells.n (triple particle.now.x) }
+    ensures { result ≡ moved sub cells.n particle.now (shift_of by.now) }
 {
     let side = sub.side();
     let [nx, ny, nz] = cells.n;
@@ -112,11 +112,11 @@ pub fn follow(
     by: &Moved,
     guard: &mut Block,
 )
-    requires place { IsInBox sub cells (triple particle.old.x) }
+    requires place { IsInBox sub cells.n (triple particle.old.x) }
     requires limits { IsInLimits sub by.now }
     requires charge { IsAtMost charge most_charge }
     requires room { AllAtMost most_flux guard.old }
-    ensures after { particle.new ≡ moved sub cells particle.old (shift_of by.now) }
+    ensures after { particle.new ≡ moved sub cells.n particle.old (shift_of by.now) }
     ensures shape { IsShaped guard.old guard.new }
     ensures adds { Adds guard.old guard.new
         (path_flux sub charge (path sub (unwrapped (triple particle.old.x)) (spot by.now.d))) }

@@ -25,8 +25,8 @@ pub fn law_of_the_least_halt()
     ensures { LeastHalt }
 {}
 
-/// A push that doesn't halt leaves a velocity that leads at most a cell far: with 4096 sub-cells a
-/// cell it lies in -16779264..=16779263 on each axis.
+/// A push that doesn't halt leaves a velocity that leads at most a cell far: with S sub-cells a cell it
+/// lies in -(4096 S + 2048)..=4096 S + 2047 on each axis.
 pub fn law_of_velocities()
     ensures { PushKeepsVelocities }
 {}

@@ -21,7 +21,7 @@ pub fn half(scales: &Scales, e: &Lattice, b: Lattice, phase: Phase) -> Result<La
     requires parts { b.parts ≡ one_part }
     requires e_small { EachAtMost most_value e.now }
     requires b_small { EachAtMost most_value b }
-    ensures { Advances phase scales.now.b_force e.now.cells
+    ensures { Advances phase scales.now.b_force e.now.side e.now.cells
         (λ a p. half_of scales.now e.now a p (value_at b a p)) result }
 {
     let mut blocks = b.into_blocks();
@@ -37,7 +37,7 @@ pub fn full(scales: &Scales, b: &Lattice, current: &Block, e: Lattice) -> Result
     requires b_small { EachAtMost most_value b.now }
     requires current_small { AllAtMost most_value current.now }
     requires e_small { EachAtMost most_value e }
-    ensures { Advances Phase.Electric scales.now.e_force b.now.cells
+    ensures { Advances Phase.Electric scales.now.e_force b.now.side b.now.cells
         (λ a p. full_of scales.now b.now a p (value_at e a p) (inner_at current.now a p)) result }
 {
     let mut blocks = e.into_blocks();
@@ -50,7 +50,8 @@ pub fn forces(mult: Mult, from: &Lattice, to: Lattice) -> Lattice
     requires cells { to.cells ≡ from.now.cells }
     requires parts { to.parts ≡ one_part }
     requires small { EachAtMost most_value from.now }
-    ensures { result ≡ field_of from.now.cells one_part (force_of mult (value_at from.now)) }
+    ensures { result
+        ≡ field_of from.now.side from.now.cells one_part (force_of mult (value_at from.now)) }
 {
     let mut blocks = to.into_blocks();
     force(mult, from, &mut blocks[0]);

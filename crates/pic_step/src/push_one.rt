@@ -37,21 +37,22 @@ pub fn push_one(
     particle: &mut Particle,
     guard: &mut Block,
 ) -> Option<Stop>
-    requires side { sub ≡ 4096 }
-    requires can { CanShare 4096 force_e.now.cells kinds.now particle.old }
+    requires side { sub ≡ force_e.now.side }
+    requires can { CanShare force_e.now.side force_e.now.cells kinds.now particle.old }
     requires kinds { All IsKind kinds.now }
     requires cells { force_b.now.cells ≡ force_e.now.cells }
+    requires sides { force_b.now.side ≡ force_e.now.side }
     requires parts { force_b.now.parts ≡ force_e.now.parts }
     requires e { AreForces force_e.now }
     requires b { AreForces force_b.now }
     requires room { AllAtMost most_flux guard.old }
     ensures after { let push = push_of (felt kinds.now force_e.now force_b.now) particle.old in
-        particle.new ≡ after_push 4096 force_e.now.cells particle.old push }
+        particle.new ≡ after_push force_e.now.side force_e.now.cells particle.old push }
     ensures stop { let push = push_of (felt kinds.now force_e.now force_b.now) particle.old in
         result ≡ halt_of particle.old push }
     ensures shape { IsShaped guard.old guard.new }
     ensures adds { let push = push_of (felt kinds.now force_e.now force_b.now) particle.old in
-        Adds guard.old guard.new (trace_of 4096 kinds.now particle.old push) }
+        Adds guard.old guard.new (trace_of force_e.now.side kinds.now particle.old push) }
 {
     let charge = charge_of(kinds, particle);
     match feel(sub, kinds, force_e, force_b, particle) {

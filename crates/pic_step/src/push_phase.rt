@@ -13,7 +13,7 @@ use crate::phases::forces;
 use crate::push_all::push_all;
 use crate::rooms::Rooms;
 use pic_grid::{Lattice, Stop};
-use pic_num::{Kind, Particle, Scales, Sub};
+use pic_num::{Kind, Particle, Scales};
 
 /// Pushes all particles by the fields, and finds the current. The rooms come back.
 pub fn push_phase(
@@ -24,12 +24,12 @@ pub fn push_phase(
     particles: &mut [Particle],
     rooms: Rooms,
 ) -> (Rooms, Option<Stop>)
-    requires e { IsSafe e.now.cells scales.now.e_force e.now }
-    requires b { IsSafe e.now.cells scales.now.b_force b.now }
-    requires rooms { AreRooms e.now.cells rooms }
+    requires e { IsSafe e.now.side e.now.cells scales.now.e_force e.now }
+    requires b { IsSafe e.now.side e.now.cells scales.now.b_force b.now }
+    requires rooms { AreRooms e.now.side e.now.cells rooms }
     requires kinds { All IsKind kinds.now }
     requires few { length particles.old ≤ most_particles }
-    requires can { All (CanShare 4096 e.now.cells kinds.now) particles.old }
+    requires can { All (CanShare e.now.side e.now.cells kinds.now) particles.old }
     ensures { IsPushed (around_fields scales.now kinds.now e.now b.now)
         particles.old particles.new result.1 result.0 }
 {
@@ -41,9 +41,11 @@ pub fn push_phase(
     } = rooms;
     let force_e = forces(scales.e_force, e, force_e);
     let force_b = forces(scales.b_force, b, force_b);
-    let sub = Sub::of_bits(12);
+    let cells = e.cells();
+    let sub = cells.sub();
+    let _side = sub.side();
     let stop = push_all(sub, kinds, &force_e, &force_b, particles, &mut guard);
-    fold(&mut guard, e.cells(), &mut current);
+    fold(&mut guard, cells, &mut current);
     let rooms = Rooms {
         force_e,
         force_b,

@@ -21,7 +21,7 @@ pub struct Rooms {
 
 /// Rooms for a grid.
 pub fn rooms_for(alloc: Global, cells: Cells) -> Result<Rooms, NoMemory>
-    ensures { IfOk result (AreRooms cells) }
+    ensures { IfOk result (AreRooms cells.side cells.n) }
 {
     let force_e = Lattice::new(alloc, cells, [1; 3])?;
     let force_b = Lattice::new(alloc, cells, [1; 3])?;
@@ -37,7 +37,7 @@ pub fn rooms_for(alloc: Global, cells: Cells) -> Result<Rooms, NoMemory>
 
 /// A block over the grid.
 fn current_for(alloc: Global, cells: Cells) -> Result<Block, NoMemory>
-    ensures { IfOk result (IsOver cells) }
+    ensures { IfOk result (IsOver cells.n) }
 {
     let [nx, ny, nz] = cells.n;
     let zone = Zone {
@@ -49,7 +49,7 @@ fn current_for(alloc: Global, cells: Cells) -> Result<Block, NoMemory>
 
 /// A block of zeros over the grid, with one layer under it and two over it.
 fn guard_for(alloc: Global, cells: Cells) -> Result<Block, NoMemory>
-    ensures zone { IfOk result (IsGuard cells) }
+    ensures zone { IfOk result (IsGuard cells.n) }
     ensures cleared { IfOk result (AllAtMost 0) }
 {
     let [nx, ny, nz] = cells.n;

@@ -34,8 +34,8 @@ impl Model for State {
     ghost Value = { World };
 
     ghost view = { λ s. record {
-      side = 4096;
-      cells = s.cells;
+      side = s.cells.side;
+      cells = s.cells.n;
       scales = s.scales;
       kinds = s.kinds.items;
       e = s.e;
@@ -44,8 +44,8 @@ impl Model for State {
     } };
 
     ghost invariant = { λ s. IsKept (record {
-      side = 4096;
-      cells = s.cells;
+      side = s.cells.side;
+      cells = s.cells.n;
       scales = s.scales;
       kinds = s.kinds.items;
       e = s.e;
@@ -79,9 +79,10 @@ impl State {
         })
     }
 
-    /// The numbers of cells.
+    /// The numbers of cells and their side.
     pub fn cells(&self) -> Cells
-        ensures value { result ≡ self.now.cells }
+        ensures value { result.n ≡ self.now.cells }
+        ensures side { result.side ≡ self.now.side }
         ensures sound { IsSound self.now }
     {
         let _rooms = &self.rooms;
@@ -109,15 +110,15 @@ impl State {
         self.particles.len() as u32
     }
 
-    /// Fills a snapshot of as many cells and particles: the fields, however the snapshot's are cut into
-    /// parts, and the particles in the order of their identities. It takes no memory.
+    /// Fills a snapshot of as many cells and particles: the fields, whose side and parts stay those of
+    /// the snapshot, and the particles in the order of their identities. It takes no memory.
     pub fn fill(&self, to: &mut Snapshot)
         requires e_cells { to.old.e.cells ≡ self.now.cells }
         requires b_cells { to.old.b.cells ≡ self.now.cells }
         requires count { length to.old.particles.items ≡ length self.now.particles }
         ensures sound { IsSound self.now }
-        ensures e { to.new.e ≡ record self.now.e { parts = to.old.e.parts } }
-        ensures b { to.new.b ≡ record self.now.b { parts = to.old.b.parts } }
+        ensures e { to.new.e ≡ record self.now.e { side = to.old.e.side; parts = to.old.e.parts } }
+        ensures b { to.new.b ≡ record self.now.b { side = to.old.b.side; parts = to.old.b.parts } }
         ensures particles { to.new.particles.items ≡ self.now.particles }
     {
         let _rooms = &self.rooms;
@@ -143,9 +144,9 @@ pub fn kinds_of(alloc: Global, deck: &Deck) -> Result<Vec<Kind>, NoMemory>
 /// The fields that a deck begins with.
 fn fields_of(alloc: Global, deck: &Deck) -> Result<(Lattice, Lattice), NoMemory>
     ensures e { IfOk result (λ both.
-        both.0 ≡ field_of deck.now.cells one_part (initial_e deck.now)) }
+        both.0 ≡ field_of deck.now.side deck.now.cells one_part (initial_e deck.now)) }
     ensures b { IfOk result (λ both.
-        both.1 ≡ field_of deck.now.cells one_part (initial_b deck.now)) }
+        both.1 ≡ field_of deck.now.side deck.now.cells one_part (initial_b deck.now)) }
 {
     let mut e = Lattice::new(alloc, deck.cells(), [1; 3])?;
     let mut b = Lattice::new(alloc, deck.cells(), [1; 3])?;

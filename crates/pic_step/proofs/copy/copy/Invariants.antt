@@ -4,4 +4,4 @@ use Rattle.pic_step.proofs.copy.copy.Given as goal
 
 -- the places so far have the values of the other lattice
 abbrev pub invariant-loop-place : goal.invariant-loop-place
-invariant-loop-place l = Walked l.from.cells l.initial.to.parts (value_at l.from) l.to l.place
+invariant-loop-place l = Walked l.initial.to.side l.from.cells l.initial.to.parts (value_at l.from) l.to l.place

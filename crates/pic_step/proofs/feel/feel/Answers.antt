@@ -20,7 +20,7 @@ returns-clause-pushed c =
     let kind : c.index-kinds-particle.result ≡ kind_of kinds particle =
     get_or_read kinds number c.index-kinds-particle.result c.requires.can.species c.index-kinds-particle.is no_kind in
     let at_e = c.gather.ensures.e in
-    let at_b = c.gather.ensures.b ∙ ap (λ (n : Triple). gathered_b 4096 n (value_at b) (triple particle.x)) c.requires.cells in
+    let at_b = c.gather.ensures.b ∙ (λ i. gathered_b (c.requires.sides i) (c.requires.cells i) (value_at b) (triple particle.x)) in
     let told : pushed c.args.sub (spot particle.v) (spot c.gather.result.e) (spot c.gather.result.b)
     c.index-kinds-particle.result.kick c.index-kinds-particle.result.turn
     ≡ push_of (felt kinds c.args.force_e.now b) particle =

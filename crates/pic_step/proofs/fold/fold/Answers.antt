@@ -41,7 +41,7 @@ fold_axis-requires-3-clause-none c =
 
 pub returns-clause-values : goal.returns-clause-values
 returns-clause-values c =
-    all_folded c.args.cells c.args.guard.now c.fold_axis.new.guard c.fold_axis-2.new.guard c.fold_axis-3.new.guard
+    all_folded c.args.cells.n c.args.guard.now c.fold_axis.new.guard c.fold_axis-2.new.guard c.fold_axis-3.new.guard
     c.clear.new.self c.fold_axis.new.current c.fold_axis-2.new.current c.fold_axis-3.new.current
     (ap (λ (b : BlockValues). b.size) c.clear.ensures ∙ c.requires.over.size) c.fold_axis.ensures.guard c.fold_axis-2.ensures.guard c.fold_axis-3.ensures.guard
     c.fold_axis.ensures.current c.fold_axis-2.ensures.current c.fold_axis-3.ensures.current
@@ -49,7 +49,7 @@ returns-clause-values c =
 
 pub returns-clause-cleared : goal.returns-clause-cleared
 returns-clause-cleared c =
-    all_cleared c.args.cells c.args.guard.now c.fold_axis.new.guard c.fold_axis-2.new.guard c.fold_axis-3.new.guard
+    all_cleared c.args.cells.n c.args.guard.now c.fold_axis.new.guard c.fold_axis-2.new.guard c.fold_axis-3.new.guard
     c.clear.new.self c.fold_axis.new.current c.fold_axis-2.new.current c.fold_axis-3.new.current
     (ap (λ (b : BlockValues). b.size) c.clear.ensures ∙ c.requires.over.size) c.fold_axis.ensures.guard c.fold_axis-2.ensures.guard c.fold_axis-3.ensures.guard
     c.fold_axis.ensures.current c.fold_axis-2.ensures.current c.fold_axis-3.ensures.current

@@ -31,19 +31,20 @@ returns c =
     let here = c.zone-here.ensures in
     let there = c.zone-there.ensures in
     record {
-      current = changes current c.set_row.new.self c.args.axis c.args.y.home c.args.z.home row here.shape here.limits.layers.x_least
+      current = changes current c.set_row.new.self c.args.axis c.args.y.home c.args.z.home row here.shape
           c.requires.home_y c.requires.home_z long c.set_row.ensures;
-      guard = changes guard c.set_row-2.new.self c.args.axis c.args.y.number c.args.z.number c.args.zeros.now there.shape there.limits.layers.x_least
+      guard = changes guard c.set_row-2.new.self c.args.axis c.args.y.number c.args.z.number c.args.zeros.now there.shape
           c.requires.y c.requires.z zeros c.set_row-2.ensures;
       added = λ g held x below.
           let is = c.add_images.ensures.values x (subst (λ (k : ℕ). x < k) (sym count) below) in
-          written current c.set_row.new.self c.args.axis c.args.y.home c.args.z.home row here.shape here.limits.layers.x_least
+          written current c.set_row.new.self c.args.axis c.args.y.home c.args.z.home row here.shape
           c.requires.home_y c.requires.home_z long c.set_row.ensures x below
-          ∙ summed_row current.size.x current guard c.args.axis c.args.y.home c.args.z.home c.args.y.number c.args.z.number g row before c.row-2.result.now x below
+          ∙ summed_row current.size.x current guard c.args.axis c.args.y.home c.args.z.home c.args.y.number c.args.z.number g row before
+          c.row-2.result.now x below
           refl wide (is ∙ (λ t. get_or (copied t) x (pos 0) +ℤ images_in (count t) c.row-2.result.now x)) c.row.ensures.values c.row-2.ensures.values held;
       cleared = λ k below. cleared guard c.set_row-2.new.self c.args.axis c.args.y.number c.args.z.number c.args.zeros.now there.shape
-          there.limits.layers.x_least c.requires.y c.requires.z zeros c.set_row-2.ensures c.requires.zeros k below;
-      grows = λ m small. grows current c.set_row.new.self c.args.axis c.args.y.home c.args.z.home row here.shape here.limits.layers.x_least
+          c.requires.y c.requires.z zeros c.set_row-2.ensures c.requires.zeros k below;
+      grows = λ m small. grows current c.set_row.new.self c.args.axis c.args.y.home c.args.z.home row here.shape
           c.requires.home_y c.requires.home_z long c.set_row.ensures before m _
           (λ few. c.add_images.ensures.grows m (subst (IsRowAtMost m) (sym copied) few)) c.row.ensures.length c.row.ensures.values small;
     }

@@ -17,11 +17,11 @@ force-requires-clause-among c =
 pub of_blocks-requires-clause-zones : goal.of_blocks-requires-clause-zones
 of_blocks-requires-clause-zones c =
     let here = one (goal.at.of_blocks-requires-clause-zones c).After-index_mut in
-    one_zones c.args.from.now.cells c.cells.result c.args.to _ c.index_mut.result.now c.force.new.to here c.force.ensures.shape c.cells.ensures.value
+    one_zones c.args.from.now.cells c.cells.result.n c.args.to _ c.index_mut.result.now c.force.new.to here c.force.ensures.shape c.cells.ensures.value
 
 pub returns : goal.returns
 returns c =
     let here = one (goal.at.returns c).After-index_mut in
-    force_done c.args.mult c.args.from.now c.args.from.now.cells c.cells.result c.args.to c.of_blocks.result _
-    c.index_mut.result.now c.force.new.to here c.cells.ensures.value
+    force_done c.args.mult c.args.from.now c.args.from.now.cells c.args.from.now.side c.cells.result c.args.to c.of_blocks.result _
+    c.index_mut.result.now c.force.new.to here (record { cells = c.cells.ensures.value; side_is = c.cells.ensures.side })
     c.force.ensures.shape c.force.ensures.values c.of_blocks.ensures

@@ -40,7 +40,7 @@ returns-in_err-full_e c =
 pub of_blocks-requires-clause-zones : goal.of_blocks-requires-clause-zones
 of_blocks-requires-clause-zones c =
     let here = one (goal.at.of_blocks-requires-clause-zones c).After-index_mut in
-    one_zones c.args.b.now.cells c.cells.result c.args.e _ c.index_mut.result.now c.full_e.new.e here c.in_ok-full_e.ensures.shape c.cells.ensures.value
+    one_zones c.args.b.now.cells c.cells.result.n c.args.e _ c.index_mut.result.now c.full_e.new.e here c.in_ok-full_e.ensures.shape c.cells.ensures.value
 
 pub returns : goal.returns
 returns c =
@@ -50,7 +50,7 @@ returns c =
     let block = c.index_mut.result.now in
     let j = c.args.current.now in
     let ok = c.in_ok-full_e.ensures in (
-      full_done scales b b.cells c.cells.result c.args.e c.of_blocks.result _ block j c.full_e.new.e
-          here c.requires.over c.cells.ensures.value ok.shape ok.values c.of_blocks.ensures,
+      full_done scales b b.cells b.side c.cells.result c.args.e c.of_blocks.result _ block j c.full_e.new.e
+          here c.requires.over (record { cells = c.cells.ensures.value; side_is = c.cells.ensures.side }) ok.shape ok.values c.of_blocks.ensures,
       sym (full_stop_is scales b scales.e_force b.cells c.args.e _ block j here c.requires.over) ∙ no_stop _ ok.stop,
     )

@@ -34,7 +34,7 @@ returns-in_err-half_b c =
 pub of_blocks-requires-clause-zones : goal.of_blocks-requires-clause-zones
 of_blocks-requires-clause-zones c =
     let here = one (goal.at.of_blocks-requires-clause-zones c).After-index_mut in
-    one_zones c.args.e.now.cells c.cells.result c.args.b _ c.index_mut.result.now c.half_b.new.b here c.in_ok-half_b.ensures.shape c.cells.ensures.value
+    one_zones c.args.e.now.cells c.cells.result.n c.args.b _ c.index_mut.result.now c.half_b.new.b here c.in_ok-half_b.ensures.shape c.cells.ensures.value
 
 pub returns : goal.returns
 returns c =
@@ -43,7 +43,7 @@ returns c =
     let scales = c.args.scales.now in
     let block = c.index_mut.result.now in
     let ok = c.in_ok-half_b.ensures in (
-      half_done scales c.args.e.now n c.cells.result c.args.b c.of_blocks.result _ block c.half_b.new.b here
-          c.cells.ensures.value ok.shape ok.values c.of_blocks.ensures,
+      half_done scales c.args.e.now n c.args.e.now.side c.cells.result c.args.b c.of_blocks.result _ block c.half_b.new.b here
+          (record { cells = c.cells.ensures.value; side_is = c.cells.ensures.side }) ok.shape ok.values c.of_blocks.ensures,
       sym (half_stop_is c.args.phase scales c.args.e.now scales.b_force n c.args.b _ block here) ∙ no_stop _ ok.stop,
     )

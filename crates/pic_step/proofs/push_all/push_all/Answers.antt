@@ -1,7 +1,8 @@
-use Rattle.std.proofs.Common.{◌≡◌, ◌+◌, [], get_or, refl, sym, ap, ◌∙◌, subst}
+use Rattle.std.proofs.Common.{◌≡◌, ◌+◌, ◌<◌, ◌≤◌, [], get_or, refl, sym, ap, ◌∙◌, subst, arith}
 use Rattle.std.proofs.Math.ListN.{set}
 use Rattle.std.specs.Prelude.{Option}
 use Rattle.pic_grid.specs.declared.stop.Stop.{Stop}
+use Rattle.pic_num.specs.Limits.{most_side, most_particles, most_particles_1}
 use Rattle.pic_num.specs.declared.motion.Particle.{Particle}
 use Rattle.pic_grid.specs.PushPhase.{push_of, halt_of, CanShare}
 use Rattle.pic_flux.specs.Adds.{Adds}
@@ -20,14 +21,16 @@ push_one-found-requires-clause-can c =
     let old = c.args.particles.now in
     let none : Particle = record { id = 0; species = 0; x = []; v = [] } in
     let below = c.loop-i-test.true in
-    subst (CanShare 4096 c.args.force_e.now.cells c.args.kinds.now) (sym (next_is w old c.loop-i.particles c.loop-i.i none below c.loop-i.invariant.particles))
+    subst (CanShare c.args.force_e.now.side c.args.force_e.now.cells c.args.kinds.now)
+    (sym (next_is w old c.loop-i.particles c.loop-i.i none below c.loop-i.invariant.particles))
     (c.requires.can c.loop-i.i none below)
 
 pub push_one-found-requires-clause-room : goal.push_one-found-requires-clause-room
 push_one-found-requires-clause-room c =
     let w = felt c.args.kinds.now c.args.force_e.now c.args.force_b.now in
     held_size w c.args.particles.now c.args.guard.now c.loop-i.guard c.loop-i.i c.loop-i.particles c.loop-i.stop
-    refl c.requires.kinds c.requires.few c.requires.zeros c.loop-i.invariant
+    (omega (arith, c.requires.side, c.side-side.ensures.least)) (omega (arith, c.requires.side, c.side-side.ensures.most))
+    c.requires.kinds c.requires.few c.requires.zeros c.loop-i.invariant
 
 pub loop-i-preserved : goal.loop-i-preserved
 loop-i-preserved c =
@@ -40,9 +43,9 @@ loop-i-preserved c =
     let here : get_or now i none ≡ get_or old i none = next_is w old now i none below c.loop-i.invariant.particles in
     let found : c.push_one-found.result ≡ halt_of (get_or old i none) (push_of w (get_or old i none)) =
     c.push_one-found.ensures.stop ∙ ap (λ (particle : Particle). halt_of particle (push_of w particle)) here in
-    let adds : Adds c.loop-i.guard c.push_one-found.new.guard (trace_of 4096 c.args.kinds.now (get_or old i none) (push_of w (get_or old i none))) =
+    let adds : Adds c.loop-i.guard c.push_one-found.new.guard (trace_of w.side w.kinds (get_or old i none) (push_of w (get_or old i none))) =
     subst (λ (particle : Particle). Adds c.loop-i.guard c.push_one-found.new.guard
-    (trace_of 4096 c.args.kinds.now particle (push_of w particle))) here c.push_one-found.ensures.adds in
+    (trace_of w.side w.kinds particle (push_of w particle))) here c.push_one-found.ensures.adds in
     let after = written w old now i c.push_one-found.new.particle none below c.loop-i.invariant.particles c.push_one-found.ensures.after in
     subst (λ (stop : Option Stop). Passed w old c.args.guard.now (i + 1) (set now i c.push_one-found.new.particle) stop c.push_one-found.new.guard)
     (sym c.or-stop.ensures)
@@ -55,13 +58,16 @@ returns c =
     let w = felt c.args.kinds.now c.args.force_e.now c.args.force_b.now in
     let old = c.args.particles.now in
     let guard = c.args.guard.now in
+    let above : 0 < w.side = omega (arith, c.requires.side, c.side-side.ensures.least) in
+    let most : w.side ≤ most_side = omega (arith, c.requires.side, c.side-side.ensures.most) in
     let all = passed_all w old guard c.loop-i.i c.loop-i.particles c.loop-i.stop c.loop-i.guard c.loop-i-test.false c.loop-i.invariant in
     record {
       after = all.particles;
       stop = all.stop_is;
       shape = c.loop-i.invariant.shape;
       adds = all.adds;
-      partial = λ i. front_size w old i refl c.requires.kinds c.requires.few;
+      partial = λ i. front_size w old most_particles i above most c.requires.kinds c.requires.few;
+      partial_1 = λ few i. front_size w old most_particles_1 i above most c.requires.kinds few;
       size = held_size w old guard c.loop-i.guard c.loop-i.i c.loop-i.particles c.loop-i.stop
-          refl c.requires.kinds c.requires.few c.requires.zeros c.loop-i.invariant;
+          above most c.requires.kinds c.requires.few c.requires.zeros c.loop-i.invariant;
     }

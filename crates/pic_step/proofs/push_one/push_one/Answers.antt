@@ -26,7 +26,7 @@ returns-in-Ok-clause-after c =
     let n = c.args.force_e.now.cells in
     c.follow.ensures.after
     ∙ (λ i. moved (c.requires.side i) (c.cells.ensures.value i) particle (shift_of c.in-Ok.by))
-    ∙ ap (λ (r : Result Shift Halting). after_push 4096 n particle r) (sym c.in-Ok.ensures.pushed)
+    ∙ ap (λ (r : Result Shift Halting). after_push c.args.force_e.now.side n particle r) (sym c.in-Ok.ensures.pushed)
 
 pub returns-in-Ok-clause-stop : goal.returns-in-Ok-clause-stop
 unfolding halt_of
@@ -40,19 +40,20 @@ returns-in-Ok-clause-adds c =
     let fits : SFits w32 c.charge_of-charge.result = record { sfits = c.charge_of-charge.type_inv } in
     let charge : to_z w32 (of_z w32 c.charge_of-charge.result) ≡ (kind_of kinds particle).charge = to_z-of_z w32 c.charge_of-charge.result fits
     ∙ c.charge_of-charge.ensures.value in
+    let own = c.args.force_e.now.side in
     let track : ℕ → List Piece = λ side. path side (unwrapped (triple particle.x)) (spot c.in-Ok.by.d) in
-    let by_side : Adds c.args.guard.now c.follow.new.guard (path_flux 4096 (to_z w32 (of_z w32 c.charge_of-charge.result)) (track 4096)) =
+    let by_side : Adds c.args.guard.now c.follow.new.guard (path_flux own (to_z w32 (of_z w32 c.charge_of-charge.result)) (track own)) =
     subst (λ (side : ℕ). Adds c.args.guard.now c.follow.new.guard (path_flux side (to_z w32 (of_z w32 c.charge_of-charge.result)) (track side)))
     c.requires.side c.follow.ensures.adds in
-    let added : Adds c.args.guard.now c.follow.new.guard (path_flux 4096 (kind_of kinds particle).charge (track 4096)) =
-    subst (λ (q : ℤ). Adds c.args.guard.now c.follow.new.guard (path_flux 4096 q (track 4096))) charge by_side in
-    subst (λ (r : Result Shift Halting). Adds c.args.guard.now c.follow.new.guard (λ a e. trace_of 4096 kinds particle r a e))
+    let added : Adds c.args.guard.now c.follow.new.guard (path_flux own (kind_of kinds particle).charge (track own)) =
+    subst (λ (q : ℤ). Adds c.args.guard.now c.follow.new.guard (path_flux own q (track own))) charge by_side in
+    subst (λ (r : Result Shift Halting). Adds c.args.guard.now c.follow.new.guard (λ a e. trace_of own kinds particle r a e))
     (sym c.in-Ok.ensures.pushed) added
 
 pub returns-in-Err-clause-after : goal.returns-in-Err-clause-after
 unfolding after_push
 returns-in-Err-clause-after c =
-    ap (λ (r : Result Shift Halting). after_push 4096 c.args.force_e.now.cells c.args.particle.now r) (sym c.in-Err.ensures.pushed)
+    ap (λ (r : Result Shift Halting). after_push c.args.force_e.now.side c.args.force_e.now.cells c.args.particle.now r) (sym c.in-Err.ensures.pushed)
 
 pub returns-in-Err-clause-stop : goal.returns-in-Err-clause-stop
 unfolding halt_of
@@ -67,7 +68,8 @@ unfolding trace_of
 returns-in-Err-clause-adds c =
     let guard = c.args.guard.now in
     let still : Adds guard guard (λ a e. pos 0) = record { at = λ a e inside. plus_zero (edge_at guard a e) } in
-    subst (λ (r : Result Shift Halting). Adds guard guard (λ a e. trace_of 4096 c.args.kinds.now c.args.particle.now r a e)) (sym c.in-Err.ensures.pushed) still
+    subst (λ (r : Result Shift Halting). Adds guard guard (λ a e. trace_of c.args.force_e.now.side c.args.kinds.now c.args.particle.now r a e))
+    (sym c.in-Err.ensures.pushed) still
 
 pub follow-requires-clause-place : goal.follow-requires-clause-place
 follow-requires-clause-place c =

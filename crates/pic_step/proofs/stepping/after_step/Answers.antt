@@ -1,4 +1,4 @@
-use Rattle.std.proofs.Common.{◌≡◌, length, sym, ap, ◌∙◌, subst, All, Err, None, Option}
+use Rattle.std.proofs.Common.{◌≡◌, ℕ, length, sym, ap, ◌∙◌, subst, All, Err, None, Option}
 use Rattle.std.proofs.lemmas.Result.{err_from_is_err_and}
 use Rattle.std.specs.Vec.{with_items}
 use Rattle.std.proofs.lemmas.List.{with_items_is}
@@ -19,7 +19,7 @@ use Rattle.pic_step.proofs.stepping.after_step.Goals.{In_ok-b, In-None, In_ok-b-
 
 -- the state before the step
 abbrev world : Inside → World
-world k = record { side = 4096; cells = k.cells; scales = k.scales; kinds = k.kinds.items; e = k.e; b = k.b; particles = k.particles.items }
+world k = record { side = k.cells.side; cells = k.cells.n; scales = k.scales; kinds = k.kinds.items; e = k.e; b = k.b; particles = k.particles.items }
 
 -- what the first half step of B left
 half : (c : In_ok-b) → IsHalf (world c.state.inside) c.in_ok-b.b
@@ -64,7 +64,8 @@ push_phase-rooms-requires-clause-b c =
     let k = c.state.inside in
     let first = half (goal.at.push_phase-rooms-requires-clause-b c).In_ok-b in
     let sound = c.state.invariant.sound in
-    subst (λ (n : Triple). IsSafe n k.scales.b_force c.in_ok-b.b) (sym sound.e.cells) (half_safe (world k) c.in_ok-b.b sound first)
+    let on_side = subst (λ (s : ℕ). IsSafe s k.cells.n k.scales.b_force c.in_ok-b.b) (sym sound.e.side_is) (half_safe (world k) c.in_ok-b.b sound first) in
+    subst (λ (n : Triple). IsSafe k.e.side n k.scales.b_force c.in_ok-b.b) (sym sound.e.cells) on_side
 
 pub push_phase-rooms-requires-clause-kinds : goal.push_phase-rooms-requires-clause-kinds
 push_phase-rooms-requires-clause-kinds c = subst (All IsKind) (sym c.deref.ensures.value) c.state.invariant.sound.kinds
@@ -79,13 +80,14 @@ returns-in-Some-clause-steps c =
     ap stepped (sym c.state.view_is) ∙ stops_push w c.in-Some.stop first.none (sym free.stop_is ∙ c.in-Some.is)
 
 pub half-requires-2-clause-e_small : goal.half-requires-2-clause-e_small
-half-requires-2-clause-e_small c = safe_small c.state.inside.cells c.state.inside.scales.e_force c.state.inside.e c.state.invariant.sound.e
+half-requires-2-clause-e_small c =
+    let k = c.state.inside in safe_small k.cells.side k.cells.n k.scales.e_force k.e c.state.invariant.sound.e
 
 pub half-requires-2-clause-b_small : goal.half-requires-2-clause-b_small
 half-requires-2-clause-b_small c =
     let k = c.state.inside in
     let first = half (goal.at.half-requires-2-clause-b_small c).In_ok-b in
-    safe_small k.cells k.scales.b_force c.in_ok-b.b (half_safe (world k) c.in_ok-b.b c.state.invariant.sound first)
+    safe_small k.cells.side k.cells.n k.scales.b_force c.in_ok-b.b (half_safe (world k) c.in_ok-b.b c.state.invariant.sound first)
 
 pub returns-in_err-b-2-clause-steps : goal.returns-in_err-b-2-clause-steps
 returns-in_err-b-2-clause-steps c =
@@ -103,10 +105,11 @@ full-requires-clause-b_small c =
     let k = c.state.inside in
     let at = goal.at.full-requires-clause-b_small c in
     let second = before at.In_ok-b-2 (half at.In_ok-b) in
-    safe_small k.cells k.scales.b_force c.in_ok-b-2.b (before_safe (world k) c.in_ok-b-2.b c.state.invariant.sound second)
+    safe_small k.cells.side k.cells.n k.scales.b_force c.in_ok-b-2.b (before_safe (world k) c.in_ok-b-2.b c.state.invariant.sound second)
 
 pub full-requires-clause-e_small : goal.full-requires-clause-e_small
-full-requires-clause-e_small c = safe_small c.state.inside.cells c.state.inside.scales.e_force c.state.inside.e c.state.invariant.sound.e
+full-requires-clause-e_small c =
+    let k = c.state.inside in safe_small k.cells.side k.cells.n k.scales.e_force k.e c.state.invariant.sound.e
 
 pub returns-in_err-e-clause-steps : goal.returns-in_err-e-clause-steps
 returns-in_err-e-clause-steps c =
