@@ -26,16 +26,16 @@ held v small = to_z-of_z w128 v (code_fits w128 (search codes depth 8) tt)
 pub returns-clause-values : goal.returns-clause-values
 returns-clause-values c = λ x below.
     let old = c.args.sums.now in
-    let row = c.args.row.now in
+    let line = c.args.row.now in
     let n = length old in
     let first = get_or c.add_next.new.sums x (pos 0) in
     let second = get_or c.add_at.new.sums x (pos 0) in
     let third = get_or c.add_at-2.new.sums x (pos 0) in
-    images_added n row x (get_or old x (pos 0)) first second third (get_or c.add_at-3.new.sums x (pos 0)) (omega (arith, c.requires.least))
+    images_added n line x (get_or old x (pos 0)) first second third (get_or c.add_at-3.new.sums x (pos 0)) (omega (arith, c.requires.least))
     (c.add_next.ensures.values x below)
-    (c.add_at.ensures.values x ∙ (λ t. first +ℤ cond (x == 0) (held (get_or row (n + 1) (pos 0)) (c.requires.room.at_most (n + 1)) t) (pos 0)))
-    (c.add_at-2.ensures.values x ∙ (λ t. second +ℤ cond (x == 1) (held (get_or row (n + 2) (pos 0)) (c.requires.room.at_most (n + 2)) t) (pos 0)))
-    (c.add_at-3.ensures.values x ∙ (λ t. third +ℤ cond (x == n - 1) (held (get_or row 0 (pos 0)) (c.requires.room.at_most 0) t) (pos 0)))
+    (c.add_at.ensures.values x ∙ (λ t. first +ℤ cond (x == 0) (held (get_or line (n + 1) (pos 0)) (c.requires.room.at_most (n + 1)) t) (pos 0)))
+    (c.add_at-2.ensures.values x ∙ (λ t. second +ℤ cond (x == 1) (held (get_or line (n + 2) (pos 0)) (c.requires.room.at_most (n + 2)) t) (pos 0)))
+    (c.add_at-3.ensures.values x ∙ (λ t. third +ℤ cond (x == n - 1) (held (get_or line 0 (pos 0)) (c.requires.room.at_most 0) t) (pos 0)))
 
 pub returns-clause-grows : goal.returns-clause-grows
 returns-clause-grows c = λ m small.
