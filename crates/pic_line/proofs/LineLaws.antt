@@ -1,5 +1,5 @@
 -- Numbers of workers, and the command line as a command of `clap`.
-use Rattle.std.proofs.Common.{◌≡◌, ℕ, ◌⊎◌, inl, inr, Bool, true, false, ◌&&◌, List, [], ◌∷◌, Option, Some, None, Result, Ok, Err, if◌then◌else◌, codes, refl, sym, ap, ap₂, ◌∙◌, subst, arith}
+use Rattle.std.proofs.Common.{◌≡◌, ℕ, ◌<◌, ◌^◌, ◌⊎◌, inl, inr, Bool, true, false, ◌&&◌, List, [], ◌∷◌, Option, Some, None, Result, Ok, Err, if◌then◌else◌, codes, option_and_then, refl, sym, ap, ap₂, ◌∙◌, subst, arith}
 use Rattle.std.proofs.Math.Dec.{leb}
 use Rattle.std.proofs.lemmas.Bool.Decides.{leb_tells}
 use Rattle.std.specs.Str.Parse.{ParsesUnsigned, IsNumeral, digits_value, without_leading_plus}
@@ -27,51 +27,61 @@ pub pic_is_simple : is_simple pic_app ≡ true
 unfolding clap_on_literals pic_app
 pic_is_simple = refl
 
--- a text that names no number of workers
-not_in : (text : List ℕ) → (IsUnsignedIn 1 64 text → ⊥) → number_in text ≡ None
+-- a text that names no number from low to high
+not_in : (low high : ℕ) (text : List ℕ) → (IsUnsignedIn low high text → ⊥) → number_in low high text ≡ None
 unfolding number_in
-not_in text other = go (is_unsigned_in 1 64 text) refl
+not_in low high text other = go (is_unsigned_in low high text) refl
   where
-    go : (b : Bool) → is_unsigned_in 1 64 text ≡ b
-        → ◌≡◌ {A = Option ℕ} (if is_unsigned_in 1 64 text then Some (digits_value 10 (without_leading_plus text)) else None) None
-    go true is = absurd (other (accepts-Accepts false (vp.Unsigned 1 64) text is))
+    go : (b : Bool) → is_unsigned_in low high text ≡ b
+        → ◌≡◌ {A = Option ℕ} (if is_unsigned_in low high text then Some (digits_value 10 (without_leading_plus text)) else None) None
+    go true is = absurd (other (accepts-Accepts false (vp.Unsigned low high) text is))
     go false is = λ i. if is i then Some (digits_value 10 (without_leading_plus text)) else None
 
-is_in : (text : List ℕ) → IsUnsignedIn 1 64 text → number_in text ≡ Some (digits_value 10 (without_leading_plus text))
+is_in : (low high : ℕ) (text : List ℕ) → IsUnsignedIn low high text → number_in low high text ≡ Some (digits_value 10 (without_leading_plus text))
 unfolding number_in
-is_in text holds =
-    let is = Accepts-accepts false (vp.Unsigned 1 64) text holds in
+is_in low high text holds =
+    let is = Accepts-accepts false (vp.Unsigned low high) text holds in
     λ i. if is i then Some (digits_value 10 (without_leading_plus text)) else None
 
 -- the number that a text's digits write
-kept_number : (text : List ℕ) (v : ℕ) → IsNumeral 10 (without_leading_plus text) → v ≡ digits_value 10 (without_leading_plus text)
-    → kept (Some v) ≡ number_in text
-kept_number text v numeral is = elim (leb_tells 1 v) [
-  | inl low ↦ elim (leb_tells v 64) [
-    | inl high ↦
-        (let here : ◌≡◌ {A = Option ℕ} (kept (Some v)) (Some v) = λ i. if low.0 i && high.0 i then Some v else None in
-        let least = low.1 in
-        let most = high.1 in
-        here ∙ ap (λ n. Some n) is ∙ sym (is_in text (numeral, omega (arith, is, most), omega (arith, is, least), omega (arith, is, most))))
-    | inr high ↦
-        (let here : ◌≡◌ {A = Option ℕ} (kept (Some v)) None = λ i. if low.0 i && high.0 i then Some v else None in
-        let above = high.1 in
-        here ∙ sym (not_in text (λ within. let most = within.3 in absurd (omega (arith, is, above, most)))))
+kept_number : (low high : ℕ) (text : List ℕ) (v : ℕ) → high < 2 ^ 32 → IsNumeral 10 (without_leading_plus text)
+    → v ≡ digits_value 10 (without_leading_plus text) → kept low high (Some v) ≡ number_in low high text
+kept_number low high text v small numeral is = elim (leb_tells low v) [
+  | inl above ↦ elim (leb_tells v high) [
+    | inl below ↦
+        (let here : ◌≡◌ {A = Option ℕ} (kept low high (Some v)) (Some v) = λ i. if above.0 i && below.0 i then Some v else None in
+        let least = above.1 in
+        let most = below.1 in
+        here ∙ ap (λ n. Some n) is
+        ∙ sym (is_in low high text (numeral, omega (arith, is, most, small), omega (arith, is, least), omega (arith, is, most))))
+    | inr below ↦
+        (let here : ◌≡◌ {A = Option ℕ} (kept low high (Some v)) None = λ i. if above.0 i && below.0 i then Some v else None in
+        let over = below.1 in
+        here ∙ sym (not_in low high text (λ within. let most = within.3 in absurd (omega (arith, is, over, most)))))
   ]
-  | inr low ↦
-      (let here : ◌≡◌ {A = Option ℕ} (kept (Some v)) None = λ i. if low.0 i && leb v 64 then Some v else None in
-      let below = low.1 in
-      here ∙ sym (not_in text (λ within. let least = within.2 in absurd (omega (arith, is, below, least)))))
+  | inr above ↦
+      (let here : ◌≡◌ {A = Option ℕ} (kept low high (Some v)) None = λ i. if above.0 i && leb v high then Some v else None in
+      let under = above.1 in
+      here ∙ sym (not_in low high text (λ within. let least = within.2 in absurd (omega (arith, is, under, least)))))
 ]
 
-pub number_read : {E : Type 0} (reads : List ℕ → Result ℕ E → Type 0) → ((t : List ℕ) (x : Result ℕ E) → reads t x → ParsesUnsigned 32 10 t x)
-    → (text : List ℕ) (r : Option ℕ) → ReadsOne reads text r → kept r ≡ number_in text
-number_read reads weaker text (Some v) read =
+-- a number that `clap` read of a text, or that it couldn't read
+number_read : {E : Type 0} (reads : List ℕ → Result ℕ E → Type 0) → ((t : List ℕ) (x : Result ℕ E) → reads t x → ParsesUnsigned 32 10 t x)
+    → (low high : ℕ) → high < 2 ^ 32 → (text : List ℕ) (r : Option ℕ) → ReadsOne reads text r → kept low high r ≡ number_in low high text
+number_read reads weaker low high small text (Some v) read =
     let parsed = weaker text (Ok v) read in
-    kept_number text v parsed.0.0 parsed.1
-number_read reads weaker text None (e, read) =
+    kept_number low high text v small parsed.0.0 parsed.1
+number_read reads weaker low high small text None (e, read) =
     let other = weaker text (Err e) read in
-    sym (not_in text (λ within. let most = within.3 in other (within.0, omega (arith, most))))
+    sym (not_in low high text (λ within. let most = within.3 in other (within.0, omega (arith, most, small))))
+
+-- the number of an argument, kept
+pub number_named : {E : Type 0} (reads : List ℕ → Result ℕ E → Type 0) → ((t : List ℕ) (x : Result ℕ E) → reads t x → ParsesUnsigned 32 10 t x)
+    → (low high : ℕ) → high < 2 ^ 32 → (o : Option (List ℕ)) (r : Option ℕ) → (o ≡ None → r ≡ None)
+    → ((text : List ℕ) → o ≡ Some text → ReadsOne reads text r) → kept low high r ≡ option_and_then (number_in low high) o
+number_named reads weaker low high small None r none value = ap (kept low high) (none refl)
+number_named reads weaker low high small (Some text) r none value =
+    number_read reads weaker low high small text r (value text refl)
 
 -- a kind of error, but for want of memory, is that of a faulty line
 pub faulty : (kinds : Kinds) (k : ErrorKind) (found : Option Command) → (k ≡ OutOfMemory → ⊥) → (k ≡ OutOfMemory) ⊎ IsAmong k kinds

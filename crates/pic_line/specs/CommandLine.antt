@@ -1,12 +1,12 @@
 -- The command line, as `clap` takes it: what it doesn't take is no command.
-use Rattle.std.specs.Prelude.{ℕ, pos, List, [], ◌∷◌, codes, ◌&&◌, nat_le, bytes_eq, Option, Some, None, option_map, option_and_then, if◌then◌else◌}
+use Rattle.std.specs.Prelude.{ℕ, pos, true, List, [], ◌∷◌, codes, ◌&&◌, nat_le, bytes_eq, Option, Some, None, option_map, option_and_then, if◌then◌else◌}
 use Rattle.std.specs.Str.Parse.{digits_value, without_leading_plus}
 use Rattle.clap.specs.declared.builder.value_parser.ValueParser.TheVariants.{Signed}
 use Rattle.clap.specs.ValueTests.{is_unsigned_in}
 use Rattle.clap.specs.Kinds.{Kinds}
 use Rattle.clap.specs.Words.{App, Row, Rule, Text, fault_of, new_app, new_rule, one_of, subcommand_of, with_rule, with_subcommand}
 use Rattle.pic_line.specs.declared.asked.Command.{Command}
-use Rattle.pic_line.specs.declared.asked.Command.TheVariants.{Check, Run}
+use Rattle.pic_line.specs.declared.asked.Command.TheVariants.{Check, Run, Verify, Demo}
 
 -- `--workers N`, a whole number of 1 to 64, and 1 where it is absent
 abbrev pub workers_rule : Rule
@@ -16,31 +16,62 @@ workers_rule = record (new_rule (codes "workers")) {
   defaults = codes "1" ∷ [];
 }
 
--- the command, with the subcommands `check` and `run`
+-- `SEED`, a word that has to stand there, a whole number of 32 bits
+abbrev pub seed_rule : Rule
+seed_rule = record (new_rule (codes "SEED")) {
+  parser = Some (Signed (pos 0) (pos 4294967295));
+  required = true;
+}
+
+abbrev pub run_app : App
+run_app = with_rule (new_app (codes "run")) workers_rule
+
+abbrev pub demo_app : App
+demo_app = with_rule (with_rule (new_app (codes "demo")) seed_rule) workers_rule
+
+-- the command, with the subcommands `check`, `run`, `verify` and `demo`
 unfoldable pub pic_app : App
 pic_app =
     with_subcommand
-    (with_subcommand (new_app (codes "pic")) (new_app (codes "check")).top)
-    (with_rule (new_app (codes "run")) workers_rule).top
+    (with_subcommand
+    (with_subcommand
+    (with_subcommand (new_app (codes "pic")) (new_app (codes "check")).top) run_app.top)
+    (new_app (codes "verify")).top)
+    demo_app.top
 
--- the number of workers that a text names
-unfoldable pub number_in : Text → Option ℕ
-number_in text =
-    if is_unsigned_in 1 64 text then Some (digits_value 10 (without_leading_plus text)) else None
+-- the number from low to high that a text names
+unfoldable pub number_in : ℕ → ℕ → Text → Option ℕ
+number_in low high text =
+    if is_unsigned_in low high text then Some (digits_value 10 (without_leading_plus text)) else None
 
--- a number, where it is one of workers
-abbrev pub kept : Option ℕ → Option ℕ
-kept None = None
-kept (Some n) = if nat_le 1 n && nat_le n 64 then Some n else None
+-- a number, where it is one from low to high
+abbrev pub kept : ℕ → ℕ → Option ℕ → Option ℕ
+kept low high None = None
+kept low high (Some n) = if nat_le low n && nat_le n high then Some n else None
 
 abbrev pub workers_in : List Row → Option ℕ
-workers_in rows = option_and_then number_in (one_of (codes "workers") rows)
+workers_in rows = option_and_then (number_in 1 64) (one_of (codes "workers") rows)
 
--- the command of a subcommand with its values: none is `check`
+abbrev pub seed_in : List Row → Option ℕ
+seed_in rows = option_and_then (number_in 0 4294967295) (one_of (codes "SEED") rows)
+
+-- a demonstration, where both its numbers are there
+abbrev pub demo_of : Option ℕ → Option ℕ → Option Command
+demo_of (Some seed) (Some workers) = Some (Demo seed workers)
+demo_of seed workers = None
+
+-- the command of a subcommand's name and its values
+abbrev pub command_named : Text → List Row → Option Command
+command_named name rows =
+    if bytes_eq name (codes "run") then option_map Run (workers_in rows)
+    else if bytes_eq name (codes "verify") then Some Verify
+    else if bytes_eq name (codes "demo") then demo_of (seed_in rows) (workers_in rows)
+    else Some Check
+
+-- no subcommand is `check`
 abbrev pub command_from : Option (Text × List Row) → Option Command
 command_from None = Some Check
-command_from (Some (name, rows)) =
-    if bytes_eq name (codes "run") then option_map Run (workers_in rows) else Some Check
+command_from (Some (name, rows)) = command_named name rows
 
 abbrev pub unless_fault : Kinds → Option Command → Option Command
 unless_fault [] found = found

@@ -2,7 +2,7 @@
 
 ghost use Rattle.std.specs.Prelude.{◌≡◌, false, IfOk};
 ghost use Rattle.clap.specs.Words.{app_of, rule_of};
-ghost use Rattle.pic_line.specs.CommandLine.{pic_app, workers_rule};
+ghost use Rattle.pic_line.specs.CommandLine.{pic_app, workers_rule, seed_rule};
 
 use clap::Arg;
 use std::alloc::{AllocError, Global};
@@ -13,8 +13,13 @@ pub fn pic<'a>(alloc: Global) -> Result<clap::Command<'a>, AllocError>
 {
     let check = clap::Command::new(alloc, "check");
     let run = clap::Command::new(alloc, "run").arg(workers(alloc))?;
-    let some = clap::Command::new(alloc, "pic").subcommand(check)?;
-    let all = some.subcommand(run)?;
+    let verify = clap::Command::new(alloc, "verify");
+    let seeded = clap::Command::new(alloc, "demo").arg(seed(alloc))?;
+    let demo = seeded.arg(workers(alloc))?;
+    let one = clap::Command::new(alloc, "pic").subcommand(check)?;
+    let two = one.subcommand(run)?;
+    let three = two.subcommand(verify)?;
+    let all = three.subcommand(demo)?;
     Ok(all)
 }
 
@@ -27,4 +32,14 @@ fn workers<'a>(alloc: Global) -> Arg<'a>
         .long("workers")
         .value_parser(clap::value_parser!(u32).range(1..=64))
         .default_value("1")
+}
+
+// The word `SEED`.
+fn seed<'a>(alloc: Global) -> Arg<'a>
+    ensures rule { rule_of result ≡ seed_rule }
+    ensures own { result.global ≡ false }
+{
+    Arg::new(alloc, "SEED")
+        .value_parser(clap::value_parser!(u32).range(0..=4294967295))
+        .required(true)
 }

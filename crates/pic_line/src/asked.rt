@@ -12,6 +12,10 @@ pub enum Command {
     Check,
     /// Runs the deck, on so many workers, 1 to 64.
     Run { workers: u32 },
+    /// Reads a dump and holds it against Gauss's law.
+    Verify,
+    /// Runs the demonstration of this seed, on so many workers, 1 to 64.
+    Demo { seed: u32, workers: u32 },
 }
 
 /// Why a line has no command.

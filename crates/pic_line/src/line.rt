@@ -2,7 +2,7 @@
 
 ghost use Rattle.std.specs.Prelude.{◌≡◌, None, Some, ◌∷◌, codes, map, string_bytes, IfOk, IfErr};
 ghost use Rattle.clap.specs.Words.{found_of, rows_of, one_of, subcommand_rows_of};
-ghost use Rattle.pic_line.specs.CommandLine.{command_of, command_from, workers_in, kept};
+ghost use Rattle.pic_line.specs.CommandLine.{command_of, command_from, command_named, workers_in, seed_in, demo_of, kept};
 
 use crate::app::pic;
 use crate::asked::{Command, LineFault};
@@ -10,8 +10,13 @@ use clap::ArgMatches;
 use clap::error::ErrorKind;
 use std::alloc::{AllocError, Global};
 
-/// The greatest number of workers.
+const FEWEST_WORKERS: u32 = 1;
+
 const MOST_WORKERS: u32 = 64;
+
+const LEAST_SEED: u32 = 0;
+
+const GREATEST_SEED: u32 = u32::MAX;
 
 /// The command of the words after the program's name. `Usage` comes exactly where they are none, but
 /// for want of memory.
@@ -53,13 +58,31 @@ fn command_from(matches: &ArgMatches<'_>) -> Option<Command>
 {
     match matches.subcommand() {
         None => Some(Command::Check),
-        Some((name, found)) => {
-            if name == "run" {
-                workers_in(found).map(|workers| Command::Run { workers })
-            } else {
-                Some(Command::Check)
-            }
-        }
+        Some((name, found)) => command_named(name, found),
+    }
+}
+
+// The command of a subcommand.
+fn command_named(name: &str, found: &ArgMatches<'_>) -> Option<Command>
+    ensures { result ≡ command_named name.now (rows_of (found_of found.now)) }
+{
+    if name == "run" {
+        workers_in(found).map(|workers| Command::Run { workers })
+    } else if name == "verify" {
+        Some(Command::Verify)
+    } else if name == "demo" {
+        demo_of(seed_in(found), workers_in(found))
+    } else {
+        Some(Command::Check)
+    }
+}
+
+fn demo_of(seed: Option<u32>, workers: Option<u32>) -> Option<Command>
+    ensures { result ≡ demo_of seed workers }
+{
+    match (seed, workers) {
+        (Some(seed), Some(workers)) => Some(Command::Demo { seed, workers }),
+        _ => None,
     }
 }
 
@@ -67,14 +90,25 @@ fn command_from(matches: &ArgMatches<'_>) -> Option<Command>
 fn workers_in(found: &ArgMatches<'_>) -> Option<u32>
     ensures { result ≡ workers_in (rows_of (found_of found.now)) }
 {
-    kept(found.get_one::<u32>("workers"))
+    kept(
+        FEWEST_WORKERS,
+        MOST_WORKERS,
+        found.get_one::<u32>("workers"),
+    )
 }
 
-fn kept(number: Option<u32>) -> Option<u32>
-    ensures { result ≡ kept number }
+// The seed.
+fn seed_in(found: &ArgMatches<'_>) -> Option<u32>
+    ensures { result ≡ seed_in (rows_of (found_of found.now)) }
+{
+    kept(LEAST_SEED, GREATEST_SEED, found.get_one::<u32>("SEED"))
+}
+
+fn kept(low: u32, high: u32, number: Option<u32>) -> Option<u32>
+    ensures { result ≡ kept low high number }
 {
     match number {
-        Some(workers) if workers >= 1 && workers <= MOST_WORKERS => Some(workers),
+        Some(n) if n >= low && n <= high => Some(n),
         Some(_) | None => None,
     }
 }
