@@ -1,30 +1,35 @@
 -- How a command on a deck finishes, from how its deck was opened and how it went on.
-use Rattle.std.proofs.Common.{◌≡◌, List, [], ℕ, Option, Some, None, Result, Ok, Err, inl, refl, sym, ◌∙◌, ap, subst, arith}
-use Rattle.std.specs.Prelude.{unwrap_or}
+use Rattle.std.proofs.Common.{◌≡◌, List, [], ℕ, Option, Some, None, Result, Ok, Err, inl, refl, sym, ◌∙◌, subst, arith}
+use Rattle.std.specs.Prelude.{unwrap_or, option_map, IfSome}
 use Rattle.pic_io.specs.Told.{Told}
 use Rattle.pic_io.specs.Source.{with_front}
 use Rattle.pic_io.specs.Sinks.{Sinks}
 use Rattle.pic_io.proofs.Puts.{wrote_none}
+use Rattle.pic_demo.specs.Demo.{demo_deck}
 use Rattle.pic_deck.specs.Deck.{DeckView}
-use Rattle.pic_load.specs.Loading.{loaded}
 use Rattle.pic_step.specs.SerialRun.{start_of}
 use Rattle.pic_step.specs.Sound.{IsSound}
 use Rattle.pic_line.specs.declared.asked.Command.{Command}
-use Rattle.pic_line.specs.declared.asked.Command.TheVariants.{Check, Run}
+use Rattle.pic_line.specs.declared.asked.Command.TheVariants.{Check, Run, Verify, Demo}
+use Rattle.pic_verify.specs.declared.verify_stop.VerifyStop.{VerifyStop}
+use Rattle.pic_verify.specs.declared.verify_stop.VerifyStop.TheVariants as verify_stop
+use Rattle.pic_verify.specs.Verified.{Verdict, verified}
+use Rattle.pic_verify.specs.Verifies.{Finds, Verifies}
 use Rattle.pic_run.specs.declared.cut.Cut.{Cut}
 use Rattle.pic_run.specs.declared.cut.Cut.TheVariants as cut
 use Rattle.pic_run.specs.declared.early.Early.TheVariants.{Usage}
 use Rattle.pic_run.specs.declared.early.StageStop.{StageStop}
 use Rattle.pic_run.specs.declared.early.StageStop.TheVariants.{Answer, NoMemory}
 use Rattle.pic_run.specs.declared.ended.Ended.{Ended}
+use Rattle.pic_run.specs.declared.ended.Ended.TheVariants.{Verified, ReadFault}
 use Rattle.pic_run.specs.declared.opened.Opened.{Opened}
 use Rattle.pic_line.specs.CommandLine.{command_of}
-use Rattle.pic_run.specs.Early.{Staged}
-use Rattle.pic_run.specs.Opened.{Opens}
-use Rattle.pic_run.specs.Outcome.{Outcome, check_outcome, run_outcome, on_deck, opened, outcome}
+use Rattle.pic_run.specs.Early.{Staged, stop_of_verify}
+use Rattle.pic_run.specs.Opened.{Opens, Tests}
+use Rattle.pic_run.specs.Outcome.{Outcome, check_outcome, run_outcome, demo_outcome, on_deck, opened, tested, demonstrated, verdict_outcome, outcome}
 use Rattle.pic_run.specs.Reading.{deck_limit, TakesAtMost}
 use Rattle.pic_run.specs.Starting.{first_state}
-use Rattle.pic_run.specs.Ends.{Finishes, EndsStopped, Reads, ReadsDeck, OnDeck, Performs}
+use Rattle.pic_run.specs.Ends.{Finishes, EndsStopped, Reads, ReadsDeck, ReadsDump, Takes, IsIdle, OnDeck, OnDump, Demonstrates, Performs}
 use Rattle.pic_run.proofs.OpenedLaws.{gave_known}
 
 with_front_nil : (known : Option (List ℕ)) → known ≡ with_front [] known
@@ -95,6 +100,27 @@ runs words workers source source' before now finish is deck = record {
   reads = rw is deck.reads;
 }
 
+pub verifies : (words : List (List ℕ)) (source source' : Told) (before now : Sinks) (finish : Result Ended Cut) → command_of words ≡ Some Verify
+    → OnDump source source' before now finish → Performs words source source' before now finish
+unfolding outcome
+verifies words source source' before now finish is dump = record {
+  input = dump.input;
+  gave = dump.gave;
+  finishes = rw is dump.finishes;
+  reads = rw is dump.reads;
+}
+
+pub demonstrates : (words : List (List ℕ)) (seed workers : ℕ) (source : Told) (before now : Sinks) (finish : Result Ended Cut)
+    → command_of words ≡ Some (Demo seed workers)
+    → Demonstrates seed before now finish → Performs words source source before now finish
+unfolding outcome
+demonstrates words seed workers source before now finish is shown = record {
+  input = Some (unwrap_or source.bytes []);
+  gave = gave_known source source refl;
+  finishes = rw is shown.finishes;
+  reads = rw is (record { same = refl; sound = shown.sound });
+}
+
 pub is_no_command : (words : List (List ℕ)) (source : Told) (before now : Sinks) (finish : Result Ended Cut) → command_of words ≡ None
     → EndsStopped (Answer Usage) before now finish → Performs words source source before now finish
 unfolding outcome
@@ -125,3 +151,106 @@ starved_words words source before = record {
     none_read None = refl
     none_read (Some Check) = reads_deck
     none_read (Some (Run workers)) = reads_deck
+    none_read (Some Verify) = record { end = λ frames same. cc; fault = λ same. cc }
+    none_read (Some (Demo seed workers)) = record { same = refl; sound = λ whole. absurd (whole refl) }
+
+-- a demonstration was stopped, or it was tested and went on
+pub shown_stopped : (seed : ℕ) (stop : StageStop) (before now : Sinks) (finish : Result Ended Cut) → Tests (demo_deck seed) (Err stop)
+    → EndsStopped stop before now finish → Demonstrates seed before now finish
+unfolding demonstrated
+shown_stopped seed (Answer end) before now finish is ends = record {
+  finishes = subst (λ (s : Staged DeckView). Finishes (on_deck demo_outcome s) before now finish) (sym is) ends;
+  sound = λ _ d e. let other : ◌≡◌ {A = Staged DeckView} (Err end) (Ok d) = sym is ∙ e in cc;
+}
+shown_stopped seed NoMemory before now finish tests (is, wrote) = record {
+  finishes = subst (Finishes (on_deck demo_outcome (tested (demo_deck seed))) before now) (sym is) (inl wrote);
+  sound = λ whole. absurd (whole is);
+}
+
+pub shown : (seed : ℕ) (o : Opened) (before now : Sinks) (finish : Result Ended Cut) → Tests (demo_deck seed) (Ok o)
+    → Finishes (demo_outcome o.deck) before now finish → Demonstrates seed before now finish
+unfolding demonstrated
+shown seed o before now finish is ends = record {
+  finishes = subst (λ (s : Staged DeckView). Finishes (on_deck demo_outcome s) before now finish) (sym is.deck) ends;
+  sound = λ _ d e. subst (λ (k : DeckView). IsSound (first_state k)) (ok_is o.deck d (sym is.deck ∙ e))
+      (subst (λ ps. IsSound (start_of o.deck ps)) is.particles is.sound);
+}
+
+-- what was left in a source is what it held, where it tells its bytes
+left_held : (known : Option (List ℕ)) (held : List ℕ) → known ≡ option_map (λ _. held) known → IfSome known (λ bytes. bytes ≡ held)
+left_held None held is = tt
+left_held (Some bytes) held is = let same : bytes ≡ held = cc in same
+
+-- the verdict on what a source held
+found : (source source' : Told) (before now : Sinks) (finish : Result Ended Cut) (answer : Verdict) → Finds verified source source' answer
+    → Finishes (verdict_outcome answer) before now finish → ReadsDump source source' finish → OnDump source source' before now finish
+found source source' before now finish answer finds ends reads = record {
+  input = Some finds.held;
+  gave = (finds.calm, left_held source.bytes finds.held finds.was);
+  finishes = subst (λ (v : Verdict). Finishes (verdict_outcome v) before now finish) (sym finds.verdict) ends;
+  reads = reads;
+}
+
+answers_as : (o : Outcome) (before now : Sinks) (finish : Result Ended Cut) (answer : Ended) → Finishes o before now finish → finish ≡ Ok answer
+    → o.answer ≡ answer
+answers_as o before now finish answer ends same = let whole = subst (Finishes o before now) same ends in whole.answers
+
+-- a dump was verified to its end
+pub good_dump : (source source' : Told) (before now : Sinks) (finish : Result Ended Cut) (frames : ℕ) → Verifies source source' (Ok frames)
+    → Finishes (verdict_outcome (Ok frames)) before now finish → OnDump source source' before now finish
+good_dump source source' before now finish frames is ends =
+    found source source' before now finish (Ok frames) is.answer.0 ends (record {
+      end = λ _ _. is.answer.1;
+      fault = λ same. let other = answers_as (verdict_outcome (Ok frames)) before now finish ReadFault ends same in cc;
+    })
+
+-- it wasn't
+pub dump_stopped : (source source' : Told) (before now : Sinks) (finish : Result Ended Cut) (stop : VerifyStop) → Verifies source source' (Err stop)
+    → EndsStopped (stop_of_verify stop) before now finish → OnDump source source' before now finish
+dump_stopped source source' before now finish verify_stop.ReadFault is ends = record {
+  input = None;
+  gave = is.answer;
+  finishes = ends;
+  reads = record {
+    end = λ frames same. let other = answers_as (verdict_outcome (Err verify_stop.ReadFault)) before now finish (Verified frames) ends same in cc;
+    fault = λ _. is.answer;
+  };
+}
+dump_stopped source source' before now finish (verify_stop.BadDump place cause) is ends =
+    let o = verdict_outcome (Err (verify_stop.BadDump place cause)) in
+    found source source' before now finish (Err (verify_stop.BadDump place cause)) is.answer ends (record {
+      end = λ frames same. let other = answers_as o before now finish (Verified frames) ends same in cc;
+      fault = λ same. let other = answers_as o before now finish ReadFault ends same in cc;
+    })
+dump_stopped source source' before now finish (verify_stop.Broken frame b) is ends =
+    let o = verdict_outcome (Err (verify_stop.Broken frame b)) in
+    found source source' before now finish (Err (verify_stop.Broken frame b)) is.answer ends (record {
+      end = λ frames same. let other = answers_as o before now finish (Verified frames) ends same in cc;
+      fault = λ same. let other = answers_as o before now finish ReadFault ends same in cc;
+    })
+dump_stopped source source' before now finish verify_stop.NoMemory is (none, wrote) = record {
+  input = Some (unwrap_or source.bytes []);
+  gave = gave_known source source' is.answer;
+  finishes = subst (Finishes (verdict_outcome (verified (unwrap_or source.bytes []))) before now) (sym none) (inl wrote);
+  reads = record {
+    end = λ frames same. let other : ◌≡◌ {A = Result Ended Cut} (Err cut.NoMemory) (Ok (Verified frames)) = sym none ∙ same in cc;
+    fault = λ same. let other : ◌≡◌ {A = Result Ended Cut} (Err cut.NoMemory) (Ok ReadFault) = sym none ∙ same in cc;
+  };
+}
+
+-- how a command read its source says what it took
+pub takes : (c : Option Command) (input : Option (List ℕ)) (source source' : Told) (finish : Result Ended Cut)
+    → Reads c input source source' finish → Takes c source source'
+takes None input source source' finish reads = reads
+takes (Some Check) input source source' finish reads = reads.taken
+takes (Some (Run workers)) input source source' finish reads = reads.taken
+takes (Some Verify) input source source' finish reads = tt
+takes (Some (Demo seed workers)) input source source' finish reads = reads.same
+
+pub idles : (c : Option Command) (input : Option (List ℕ)) (source source' : Told) (finish : Result Ended Cut)
+    → Reads c input source source' finish → IsIdle c → source' ≡ source
+idles None input source source' finish reads idle = reads
+idles (Some Check) input source source' finish reads idle = absurd idle
+idles (Some (Run workers)) input source source' finish reads idle = absurd idle
+idles (Some Verify) input source source' finish reads idle = absurd idle
+idles (Some (Demo seed workers)) input source source' finish reads idle = reads.same

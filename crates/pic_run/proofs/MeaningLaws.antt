@@ -1,8 +1,9 @@
 -- What each answer of a call means.
-use Rattle.std.proofs.Common.{◌≡◌, ℕ, ◌⊎◌, zero, suc, List, [], length, take, Option, Some, None, Result, Ok, Err, inl, inr, refl, sym, ap, ◌∙◌, subst, arith}
-use Rattle.std.specs.Prelude.{IfSome, IsSome, IsOk}
+use Rattle.std.proofs.Common.{◌≡◌, ℕ, ◌⊎◌, zero, suc, List, [], take, Option, Some, None, Result, Ok, Err, inl, inr, refl, sym, ap, ◌∙◌, subst, arith}
+use Rattle.std.specs.Prelude.{IfSome, IsOk}
 use Rattle.pic_io.specs.Told.{Told, Rose, Calm}
-use Rattle.pic_io.specs.Sinks.{Sinks, Wrote, FailedAt, QuietSinks}
+use Rattle.pic_io.specs.Source.{IsAtEnd}
+use Rattle.pic_io.specs.Sinks.{Sinks, FailedAt, QuietSinks}
 use Rattle.pic_io.specs.declared.side.Side.{Side}
 use Rattle.pic_io.specs.declared.side.Side.TheVariants.{Out, Report}
 use Rattle.pic_io.proofs.Puts.{cut_failed}
@@ -20,22 +21,26 @@ use Rattle.pic_deck.specs.Refusal.{ReadDeck}
 use Rattle.pic_deck.specs.Reading.{walk}
 use Rattle.pic_step.specs.SerialStep.{World, stepped}
 use Rattle.pic_step.specs.SerialRun.{after, step_from, stopped_in}
+use Rattle.pic_step.specs.Sound.{IsSound}
+use Rattle.pic_demo.specs.Demo.{demo_deck}
+use Rattle.pic_verify.specs.declared.verify_stop.VerifyStop.TheVariants as verify_stop
+use Rattle.pic_verify.specs.Verified.{Verdict, verified}
 use Rattle.pic_line.specs.declared.asked.Command.{Command}
-use Rattle.pic_line.specs.declared.asked.Command.TheVariants.{Check, Run}
+use Rattle.pic_line.specs.declared.asked.Command.TheVariants.{Check, Run, Verify, Demo}
 use Rattle.pic_run.specs.declared.cut.Cut.{Cut}
 use Rattle.pic_run.specs.declared.cut.Cut.TheVariants as cut
 use Rattle.pic_run.specs.declared.early.Early.{Early}
 use Rattle.pic_run.specs.declared.early.Early.TheVariants as early
 use Rattle.pic_run.specs.declared.ended.Ended.{Ended}
-use Rattle.pic_run.specs.declared.ended.Ended.TheVariants.{Done, Checked, Stopped, Usage, Refused, Gauss, ReadFault, WriteFault, NoMemory}
+use Rattle.pic_run.specs.declared.ended.Ended.TheVariants.{Done, Checked, Verified, Stopped, Usage, Refused, Gauss, ReadFault, WriteFault, NoMemory, BadDump, Broken}
 use Rattle.pic_line.specs.CommandLine.{command_of}
 use Rattle.pic_run.specs.Early.{Staged, ◌>>=◌, ended_early}
 use Rattle.pic_run.specs.Ended.{ended_of}
 use Rattle.pic_run.specs.Frames.{end_where, end_of}
 use Rattle.pic_run.specs.Reading.{deck_limit, Gave}
 use Rattle.pic_run.specs.Starting.{first_state, break_of}
-use Rattle.pic_run.specs.Outcome.{Outcome, pieces_of, answer_of, outcome, command_outcome, unless_refused, unless_broken, accepted, opened, on_deck, check_outcome, run_outcome}
-use Rattle.pic_run.specs.Ends.{Fulfils, HasFrames, Finishes, Reads, ReadsDeck, Takes, Performs, Ends, IsComplete, Held, IsRun, IsRefused, BreaksGauss, IsChecked, IsDone, IsStopped, IsStarved}
+use Rattle.pic_run.specs.Outcome.{Outcome, pieces_of, answer_of, outcome, command_outcome, unless_refused, unless_broken, accepted, tested, opened, demonstrated, verdict_on, verdict_outcome, on_deck, check_outcome, run_outcome, demo_outcome}
+use Rattle.pic_run.specs.Ends.{Fulfils, HasFrames, Finishes, Reads, ReadsDeck, ReadsDump, Performs, Ends, IsComplete, Held, HasDeck, IsRun, IsOnDeck, IsRefused, BreaksGauss, IsChecked, IsVerified, IsDone, IsStopped, IsBadDump, IsBroken, IsStarved}
 use Rattle.pic_run.proofs.StateLaws.{each_gauss}
 use Rattle.pic_run.proofs.StartLaws.{gauss_of}
 
@@ -43,6 +48,7 @@ use Rattle.pic_run.proofs.StartLaws.{gauss_of}
 abbrev pub Means : List (List ℕ) → Told → Told → Sinks → Sinks → Ended → Type 0
 Means words source source' before now (Done steps) = IsDone words source source' steps
 Means words source source' before now (Checked particles) = IsChecked words source source' particles
+Means words source source' before now (Verified frames) = IsVerified words source source' frames
 Means words source source' before now (Stopped step stop) = IsStopped words source source' step stop
 Means words source source' before now Usage = command_of words ≡ None
 Means words source source' before now (Refused refusal) = IsRefused words source refusal
@@ -50,6 +56,8 @@ Means words source source' before now (Gauss b) = BreaksGauss words source sourc
 Means words source source' before now ReadFault = Rose source source' × Calm before.out now.out × Calm before.report now.report
 Means words source source' before now (WriteFault side) = FailedAt side before now
 Means words source source' before now NoMemory = IsStarved words source source' before now
+Means words source source' before now (BadDump place cause) = IsBadDump words source place cause
+Means words source source' before now (Broken frame b) = IsBroken words source frame b
 
 -- where the value of the stages of a deck comes from
 abbrev IsFrom : Option (List ℕ) → Staged DeckView → Type 0
@@ -59,6 +67,8 @@ IsFrom input (Err early.ReadFault) = input ≡ None
 IsFrom input (Err (early.Refused refusal)) = (held : List ℕ) × (input ≡ Some held) × (walk (take deck_limit held) ≡ Err refusal)
 IsFrom input (Err (early.Gauss b)) =
     (held : List ℕ) × (d : DeckView) × (input ≡ Some held) × (walk (take deck_limit held) ≡ Ok d) × (break_of (first_state d) ≡ Some b)
+IsFrom input (Err (early.BadDump place cause)) = ⊥
+IsFrom input (Err (early.Broken frame b)) = ⊥
 
 from : (input : Option (List ℕ)) → IsFrom input (opened input)
 from None = refl
@@ -70,7 +80,7 @@ from (Some held) = go (walk (take deck_limit held)) refl
     test d walked (Some b) is = (held, d, refl, walked, is)
 
     go : (w : ReadDeck) → walk (take deck_limit held) ≡ w
-        → IsFrom (Some held) (unless_refused w >>= (λ d. unless_broken d (break_of (first_state d))))
+        → IsFrom (Some held) (unless_refused w >>= tested)
     go (Err refusal) walked = (held, refl, walked)
     go (Ok d) walked = test d walked (break_of (first_state d)) refl
 
@@ -93,14 +103,24 @@ least_of w b found = first_break_some w.cells (div_e w.cells (value_at w.e)) (ch
 accepted_in : (input : Option (List ℕ)) (held : List ℕ) (d : DeckView) → input ≡ Some held → walk (take deck_limit held) ≡ Ok d → accepted input ≡ Ok d
 accepted_in input held d is walked = ap accepted is ∙ ap unless_refused walked
 
--- the early ends of a deck, and the ends of a command on it
+-- the early ends of a deck that the source gives, and the ends of a command on it
 record IsAnswer (words : List (List ℕ)) (source source' : Told) (before now : Sinks) (input : Option (List ℕ)) (finish : Result Ended Cut) : Type 0 where
-  command : IsSome (command_of words)
+  command : IsOnDeck (command_of words)
+  deck : (d : DeckView) → Held source d → IsAtEnd source' → HasDeck (command_of words) source source' d
   gave : Gave source source' input
   reads : ReadsDeck input source source' finish
   calm_out : Calm before.out now.out
   calm_report : Calm before.report now.report
   whole : (finish ≡ Err cut.NoMemory) → ⊥
+
+-- the deck that the source held
+deck_of : (words : List (List ℕ)) (source source' : Told) (before now : Sinks) (input : Option (List ℕ)) (finish : Result Ended Cut)
+    → IsAnswer words source source' before now input finish → (held : List ℕ) (d : DeckView) → input ≡ Some held → walk (take deck_limit held) ≡ Ok d
+    → HasDeck (command_of words) source source' d
+deck_of words source source' before now input finish is held d same walked =
+    is.deck d
+    (told_held (λ bytes. walk (take deck_limit bytes) ≡ Ok d) source.bytes held (gave_held source source' input held is.gave same) walked)
+    (is.reads.end is.whole d (accepted_in input held d same walked))
 
 means_early : (words : List (List ℕ)) (source source' : Told) (before now : Sinks) (input : Option (List ℕ)) (finish : Result Ended Cut)
     → IsAnswer words source source' before now input finish → (end : Early) → IsFrom input (Err end) → Means words source source' before now (ended_early end)
@@ -112,12 +132,12 @@ means_early words source source' before now input finish is (early.Refused refus
   refused = told_held (λ bytes. walk (take deck_limit bytes) ≡ Err refusal) source.bytes held (gave_held source source' input held is.gave same) walked;
 }
 means_early words source source' before now input finish is (early.Gauss b) (held, d, same, walked, found) = record {
-  command = is.command;
   deck = d;
-  held = told_held (λ bytes. walk (take deck_limit bytes) ≡ Ok d) source.bytes held (gave_held source source' input held is.gave same) walked;
+  held = deck_of words source source' before now input finish is held d same walked;
   least = least_of (first_state d) b found;
-  end = is.reads.end is.whole d (accepted_in input held d same walked);
 }
+means_early words source source' before now input finish is (early.BadDump place cause) none = absurd none
+means_early words source source' before now input finish is (early.Broken frame b) none = absurd none
 
 -- a run stops by a stop alone
 abbrev IsStop : EndMark → Type 0
@@ -140,6 +160,28 @@ stops_by_stop w (suc n) end e = go (after w n) (λ other is. stops_by_stop w n o
     go (Ok v) before e' = last (stepped v) e'
     go (Err other) before e' = let same : other ≡ end = cc in subst IsStop same (before other refl)
 
+-- how a run ends from the first state of its deck
+means_states : (words : List (List ℕ)) (source source' : Told) (before now : Sinks) → IsRun (command_of words) → (d : DeckView)
+    → HasDeck (command_of words) source source' d → IsSound (first_state d)
+    → (r : Result World EndMark) → after (first_state d) d.steps ≡ r → Means words source source' before now (answer_of (end_where d.steps r))
+means_states words source source' before now named d held sound (Ok v) reached = record {
+  command = named;
+  deck = d;
+  held = held;
+  gauss = each_gauss (first_state d) sound;
+  last = refl;
+  reached = subst IsOk (sym reached) refl;
+}
+means_states words source source' before now named d held sound (Err (EndDone other)) stops =
+    absurd (stops_by_stop (first_state d) d.steps (EndDone other) stops)
+means_states words source source' before now named d held sound (Err (EndStopped step stop)) stops = record {
+  command = named;
+  deck = d;
+  held = held;
+  gauss = each_gauss (first_state d) sound;
+  stops = stops;
+}
+
 means_check : (words : List (List ℕ)) (source source' : Told) (before now : Sinks) (input : Option (List ℕ)) (finish : Result Ended Cut)
     → command_of words ≡ Some Check → IsAnswer words source source' before now input finish
     → (s : Staged DeckView) → opened input ≡ s → IsFrom input s → Means words source source' before now (on_deck check_outcome s).answer
@@ -147,10 +189,9 @@ means_check words source source' before now input finish named is (Err end) open
 means_check words source source' before now input finish named is (Ok d) opens (held, same, walked, none) = record {
   command = named;
   deck = d;
-  held = told_held (λ bytes. walk (take deck_limit bytes) ≡ Ok d) source.bytes held (gave_held source source' input held is.gave same) walked;
+  held = deck_of words source source' before now input finish is held d same walked;
   gauss = gauss_of (first_state d) none;
   count = refl;
-  end = is.reads.end is.whole d (accepted_in input held d same walked);
 }
 
 means_run : (words : List (List ℕ)) (source source' : Told) (before now : Sinks) (input : Option (List ℕ)) (finish : Result Ended Cut)
@@ -158,45 +199,94 @@ means_run : (words : List (List ℕ)) (source source' : Told) (before now : Sink
     → (s : Staged DeckView) → opened input ≡ s → IsFrom input s → Means words source source' before now (on_deck run_outcome s).answer
 unfolding end_of
 means_run words source source' before now input finish named is (Err end) opens from = means_early words source source' before now input finish is end from
-means_run words source source' before now input finish named is (Ok d) opens (held, same, walked, none) = go (after (first_state d) d.steps) refl
-  where
-    deck_held : Held source d
-    deck_held = told_held (λ bytes. walk (take deck_limit bytes) ≡ Ok d) source.bytes held (gave_held source source' input held is.gave same) walked
+means_run words source source' before now input finish named is (Ok d) opens (held, same, walked, none) =
+    means_states words source source' before now named d (deck_of words source source' before now input finish is held d same walked)
+    (is.reads.sound is.whole d opens) (after (first_state d) d.steps) refl
 
-    go : (r : Result World EndMark) → after (first_state d) d.steps ≡ r → Means words source source' before now (answer_of (end_where d.steps r))
-    go (Ok v) reached = record {
+-- where the value of a deck's test comes from
+abbrev IsTestOf : DeckView → Staged DeckView → Type 0
+IsTestOf d (Ok other) = other ≡ d
+IsTestOf d (Err early.Usage) = ⊥
+IsTestOf d (Err early.ReadFault) = ⊥
+IsTestOf d (Err (early.Refused refusal)) = ⊥
+IsTestOf d (Err (early.Gauss b)) = break_of (first_state d) ≡ Some b
+IsTestOf d (Err (early.BadDump place cause)) = ⊥
+IsTestOf d (Err (early.Broken frame b)) = ⊥
+
+test_of : (d : DeckView) → IsTestOf d (tested d)
+test_of d = go (break_of (first_state d)) refl
+  where
+    go : (found : Option Break) → break_of (first_state d) ≡ found → IsTestOf d (unless_broken d found)
+    go None is = refl
+    go (Some b) is = is
+
+demo_of : (seed : ℕ) → IsTestOf (demo_deck seed) (demonstrated seed)
+unfolding demonstrated
+demo_of seed = test_of (demo_deck seed)
+
+means_demo : (words : List (List ℕ)) (source source' : Told) (before now : Sinks) (seed workers : ℕ)
+    → command_of words ≡ Some (Demo seed workers) → source' ≡ source
+    → (s : Staged DeckView) → ((d : DeckView) → s ≡ Ok d → IsSound (first_state d)) → IsTestOf (demo_deck seed) s
+    → Means words source source' before now (on_deck demo_outcome s).answer
+unfolding end_of
+means_demo words source source' before now seed workers named same (Err early.Usage) sound none = absurd none
+means_demo words source source' before now seed workers named same (Err early.ReadFault) sound none = absurd none
+means_demo words source source' before now seed workers named same (Err (early.Refused refusal)) sound none = absurd none
+means_demo words source source' before now seed workers named same (Err (early.BadDump place cause)) sound none = absurd none
+means_demo words source source' before now seed workers named same (Err (early.Broken frame b)) sound none = absurd none
+means_demo words source source' before now seed workers named same (Err (early.Gauss b)) sound found = record {
+  deck = demo_deck seed;
+  held = subst (λ (c : Option Command). HasDeck c source source' (demo_deck seed)) (sym named) (refl, same);
+  least = least_of (first_state (demo_deck seed)) b found;
+}
+means_demo words source source' before now seed workers named same (Ok d) sound is =
+    means_states words source source' before now (subst IsRun (sym named) tt) d
+    (subst (λ (c : Option Command). HasDeck c source source' d) (sym named) (is, same))
+    (sound d refl) (after (first_state d) d.steps) refl
+
+means_verify : (words : List (List ℕ)) (source source' : Told) (before now : Sinks) (input : Option (List ℕ)) (answer : Ended)
+    → command_of words ≡ Some Verify → Gave source source' input → ReadsDump source source' (Ok answer)
+    → Fulfils (verdict_outcome (verdict_on input)) before now answer
+    → Means words source source' before now (verdict_outcome (verdict_on input)).answer
+means_verify words source source' before now None answer named gave reads ends = (gave, ends.wrote.calm_out, ends.wrote.calm_report)
+means_verify words source source' before now (Some held) answer named gave reads ends = go (verified held) refl ends
+  where
+    on_held : (v : Verdict) → verified held ≡ v → IfSome source.bytes (λ bytes. verified bytes ≡ v)
+    on_held v is = told_held (λ bytes. verified bytes ≡ v) source.bytes held gave.1 is
+
+    go : (v : Verdict) → verified held ≡ v → Fulfils (verdict_outcome v) before now answer → Means words source source' before now (verdict_outcome v).answer
+    go (Ok frames) is whole = record {
       command = named;
-      deck = d;
-      held = deck_held;
-      gauss = each_gauss (first_state d) (is.reads.sound is.whole d opens);
-      last = refl;
-      reached = subst IsOk (sym reached) refl;
-      end = is.reads.end is.whole d (accepted_in input held d same walked);
+      good = on_held (Ok frames) is;
+      end = reads.end frames (ap (λ (e : Ended). Ok e) (sym whole.answers));
     }
-    go (Err (EndDone other)) stops = absurd (stops_by_stop (first_state d) d.steps (EndDone other) stops)
-    go (Err (EndStopped step stop)) stops = record {
+    go (Err verify_stop.ReadFault) is whole =
+        (reads.fault (ap (λ (e : Ended). Ok e) (sym whole.answers)), whole.wrote.calm_out, whole.wrote.calm_report)
+    go (Err (verify_stop.BadDump place cause)) is whole = record {
       command = named;
-      deck = d;
-      held = deck_held;
-      gauss = each_gauss (first_state d) (is.reads.sound is.whole d opens);
-      stops = stops;
-      end = is.reads.end is.whole d (accepted_in input held d same walked);
+      bad = on_held (Err (verify_stop.BadDump place cause)) is;
     }
+    go (Err (verify_stop.Broken frame b)) is whole = record {
+      command = named;
+      broken = on_held (Err (verify_stop.Broken frame b)) is;
+    }
+    go (Err verify_stop.NoMemory) is whole = inl whole.wrote
 
 -- the answer of the outcome, where the call came to it
 means_answer : (words : List (List ℕ)) (source source' : Told) (before now : Sinks) (answer : Ended)
     → (p : Performs words source source' before now (Ok answer))
     → Means words source source' before now (outcome words p.input).answer
 unfolding outcome
-means_answer words source source' before now answer p = go (command_of words) refl p.reads
+means_answer words source source' before now answer p = go (command_of words) refl p.reads p.finishes
   where
     whole : ◌≡◌ {A = Result Ended Cut} (Ok answer) (Err cut.NoMemory) → ⊥
     whole same = cc
 
-    of_deck : (command : Command) → command_of words ≡ Some command → ReadsDeck p.input source source' (Ok answer)
-        → IsAnswer words source source' before now p.input (Ok answer)
-    of_deck command named reads = record {
-      command = subst IsSome (sym named) refl;
+    of_deck : IsOnDeck (command_of words) → ((d : DeckView) → Held source d → IsAtEnd source' → HasDeck (command_of words) source source' d)
+        → ReadsDeck p.input source source' (Ok answer) → IsAnswer words source source' before now p.input (Ok answer)
+    of_deck command deck reads = record {
+      command = command;
+      deck = deck;
       gave = p.gave;
       reads = reads;
       calm_out = p.finishes.wrote.calm_out;
@@ -205,12 +295,20 @@ means_answer words source source' before now answer p = go (command_of words) re
     }
 
     go : (c : Option Command) → command_of words ≡ c → Reads c p.input source source' (Ok answer)
+        → Fulfils (command_outcome c p.input) before now answer
         → Means words source source' before now (command_outcome c p.input).answer
-    go None named reads = named
-    go (Some Check) named reads =
-        means_check words source source' before now p.input (Ok answer) named (of_deck Check named reads) (opened p.input) refl (from p.input)
-    go (Some (Run workers)) named reads =
-        means_run words source source' before now p.input (Ok answer) (workers, named) (of_deck (Run workers) named reads) (opened p.input) refl (from p.input)
+    go None named reads ends = named
+    go (Some Check) named reads ends =
+        means_check words source source' before now p.input (Ok answer) named
+        (of_deck (subst IsOnDeck (sym named) tt) (λ d held end. subst (λ (c : Option Command). HasDeck c source source' d) (sym named) (held, end)) reads)
+        (opened p.input) refl (from p.input)
+    go (Some (Run workers)) named reads ends =
+        means_run words source source' before now p.input (Ok answer) (subst IsRun (sym named) tt)
+        (of_deck (subst IsOnDeck (sym named) tt) (λ d held end. subst (λ (c : Option Command). HasDeck c source source' d) (sym named) (held, end)) reads)
+        (opened p.input) refl (from p.input)
+    go (Some Verify) named reads ends = means_verify words source source' before now p.input answer named p.gave reads ends
+    go (Some (Demo seed workers)) named reads ends =
+        means_demo words source source' before now seed workers named reads.same (demonstrated seed) (reads.sound whole) (demo_of seed)
 
 -- what memory that was wanting leaves
 no_frames : (a b : Sinks) → HasFrames [] [] a b → ⊥
@@ -225,17 +323,30 @@ starved words source source' before now p = elim p.finishes [ inl none ↦ inl n
     check (Ok d) has = no_frames before now has
     check (Err end) has = no_frames before now has
 
-    go : (c : Option Command) → command_of words ≡ c → HasFrames (command_outcome c p.input).head (command_outcome c p.input).frames before now
+    verify : (v : Verdict) → HasFrames (verdict_outcome v).head (verdict_outcome v).frames before now → ⊥
+    verify (Ok frames) has = no_frames before now has
+    verify (Err verify_stop.ReadFault) has = no_frames before now has
+    verify (Err (verify_stop.BadDump place cause)) has = no_frames before now has
+    verify (Err (verify_stop.Broken frame b)) has = no_frames before now has
+    verify (Err verify_stop.NoMemory) has = no_frames before now has
+
+    left : (c : Option Command) → IsRun c → command_of words ≡ c → HasFrames (command_outcome c p.input).head (command_outcome c p.input).frames before now
         → IsStarved words source source' before now
-    go None named has = absurd (no_frames before now has)
-    go (Some Check) named has = absurd (check (opened p.input) has)
-    go (Some (Run workers)) named has =
+    left c runs named has =
         inr (record {
-          command = (workers, named);
+          command = subst IsRun (sym named) runs;
           input = p.input;
           gave = p.gave;
           frames = subst (λ (c : Option Command). HasFrames (command_outcome c p.input).head (command_outcome c p.input).frames before now) (sym named) has;
         })
+
+    go : (c : Option Command) → command_of words ≡ c → HasFrames (command_outcome c p.input).head (command_outcome c p.input).frames before now
+        → IsStarved words source source' before now
+    go None named has = absurd (no_frames before now has)
+    go (Some Check) named has = absurd (check (opened p.input) has)
+    go (Some Verify) named has = absurd (verify (verdict_on p.input) has)
+    go (Some (Run workers)) named has = left (Some (Run workers)) tt named has
+    go (Some (Demo seed workers)) named has = left (Some (Demo seed workers)) tt named has
 
 -- what each end of a call means
 pub means : (words : List (List ℕ)) (source source' : Told) (before now : Sinks) (finish : Result Ended Cut) → Performs words source source' before now finish

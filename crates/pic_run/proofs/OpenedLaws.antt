@@ -1,7 +1,8 @@
 -- What opening a deck does, from what its stages do.
-use Rattle.std.proofs.Common.{◌≡◌, ℕ, ◌<◌, List, [], length, take, Option, Some, None, Ok, Err, refl, sym, ◌∙◌, ap, subst, arith}
+use Rattle.std.proofs.Common.{◌≡◌, ℕ, ◌<◌, List, [], length, take, Option, Some, None, Result, Ok, Err, refl, sym, ◌∙◌, ap, subst, arith}
 use Rattle.std.specs.Prelude.{IfSome, unwrap_or}
 use Rattle.pic_io.specs.Told.{Told, Calm}
+use Rattle.pic_num.specs.declared.motion.Particle.{Particle}
 use Rattle.pic_charge.specs.declared.breaks.Break.{Break}
 use Rattle.pic_deck.specs.Deck.{DeckView}
 use Rattle.pic_deck.specs.declared.refusal.DeckFault.{DeckFault}
@@ -13,13 +14,14 @@ use Rattle.pic_load.specs.Loading.{loaded}
 use Rattle.pic_step.specs.SerialRun.{start_of}
 use Rattle.pic_step.specs.Sound.{IsSound}
 use Rattle.pic_run.specs.declared.early.Early.TheVariants.{Gauss, Refused}
+use Rattle.pic_run.specs.declared.early.StageStop.{StageStop}
 use Rattle.pic_run.specs.declared.early.StageStop.TheVariants.{Answer, NoMemory}
 use Rattle.pic_run.specs.declared.opened.Opened.{Opened}
 use Rattle.pic_run.specs.declared.reading.ReadStop.{ReadStop}
 use Rattle.pic_run.specs.declared.reading.ReadStop.TheVariants as read_stop
 use Rattle.pic_run.specs.Early.{Staged, ◌>>=◌, stop_of_reading, stop_of_deck}
-use Rattle.pic_run.specs.Opened.{Opens}
-use Rattle.pic_run.specs.Outcome.{accepted, opened, unless_refused, unless_broken}
+use Rattle.pic_run.specs.Opened.{IsTested, Tests, Opens}
+use Rattle.pic_run.specs.Outcome.{accepted, tested, opened, unless_refused, unless_broken}
 use Rattle.pic_run.specs.Reading.{deck_limit, Gave, ReadsAll, TookAll}
 use Rattle.pic_run.specs.Starting.{first_state, break_of}
 
@@ -72,30 +74,38 @@ refused (deck_fault.Refused refusal) a b limit bytes is took walks =
     }
 refused deck_fault.NoMemory a b limit bytes is took walks = starved a b limit bytes took
 
--- a deck that doesn't meet Gauss's law
-pub broken : (a b : Told) (limit : ℕ) (bytes : List ℕ) (d : DeckView) (at : Break) → limit ≡ deck_limit → TookAll a b limit bytes
-    → walk bytes ≡ Ok d → break_of (first_state d) ≡ Some at → Opens a b (Err (Answer (Gauss at)))
-broken a b limit bytes d at is took walks found = record {
+-- a deck that was read, and then tested
+pub read_and_tested : (a b : Told) (limit : ℕ) (bytes : List ℕ) (d : DeckView) (result : Result Opened StageStop) → limit ≡ deck_limit
+    → TookAll a b limit bytes → walk bytes ≡ Ok d → Tests d result → Opens a b result
+read_and_tested a b limit bytes d (Ok o) is took walks tests = record {
   input = Some took.held;
   gave = took.gave;
   opens = record {
-    early = opened_as took.held (Ok d) (walked a b limit bytes is took (Ok d) walks) ∙ ap (unless_broken d) found;
+    deck = opened_as took.held (Ok d) (walked a b limit bytes is took (Ok d) walks) ∙ tests.deck;
+    particles = tests.particles;
+    sound = tests.sound;
+    end = took.end (short_deck bytes d limit is walks);
+  };
+}
+read_and_tested a b limit bytes d (Err (Answer why)) is took walks tests = record {
+  input = Some took.held;
+  gave = took.gave;
+  opens = record {
+    early = opened_as took.held (Ok d) (walked a b limit bytes is took (Ok d) walks) ∙ tests;
     end = λ _ _. took.end (short_deck bytes d limit is walks);
   };
 }
+read_and_tested a b limit bytes d (Err NoMemory) is took walks tests = starved a b limit bytes took
 
--- a deck that can be run
-pub ready : (a b : Told) (limit : ℕ) (bytes : List ℕ) (o : Opened) → limit ≡ deck_limit → TookAll a b limit bytes
-    → walk bytes ≡ Ok o.deck → o.particles.items ≡ loaded o.deck → IsSound (start_of o.deck o.particles.items)
-    → break_of (start_of o.deck o.particles.items) ≡ None → Opens a b (Ok o)
-ready a b limit bytes o is took walks particles sound none = record {
-  input = Some took.held;
-  gave = took.gave;
-  opens = record {
-    deck = opened_as took.held (Ok o.deck) (walked a b limit bytes is took (Ok o.deck) walks)
-        ∙ ap (unless_broken o.deck) (ap (λ ps. break_of (start_of o.deck ps)) (sym particles) ∙ none);
-    particles = particles;
-    sound = sound;
-    end = took.end (short_deck bytes o.deck limit is walks);
-  };
+-- a deck that can be run, and one that doesn't meet Gauss's law
+pub ready : (o : Opened) → o.particles.items ≡ loaded o.deck → IsSound (start_of o.deck o.particles.items)
+    → break_of (start_of o.deck o.particles.items) ≡ None → IsTested o.deck o
+ready o particles sound none = record {
+  deck = ap (unless_broken o.deck) (ap (λ ps. break_of (start_of o.deck ps)) (sym particles) ∙ none);
+  particles = particles;
+  sound = sound;
 }
+
+pub broken : (d : DeckView) (particles : List Particle) (at : Break) → particles ≡ loaded d → break_of (start_of d particles) ≡ Some at
+    → tested d ≡ Err (Gauss at)
+broken d particles at all found = ap (unless_broken d) (ap (λ ps. break_of (start_of d ps)) (sym all) ∙ found)

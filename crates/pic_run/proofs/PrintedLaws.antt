@@ -1,8 +1,8 @@
 -- A path that is put on the report in pieces.
-use Rattle.std.proofs.Common.{◌≡◌, ℕ, ◌<◌, List, [], ◌∷◌, ◌++◌, length, get_or, take, drop, map, Result, refl, sym, ap, ◌∙◌, subst, append_assoc, append-nil}
+use Rattle.std.proofs.Common.{◌≡◌, ℕ, ◌<◌, List, [], ◌∷◌, ◌++◌, length, get_or, take, drop, map, Result, refl, sym, ap, ◌∙◌, subst, append_assoc}
 use Rattle.std.proofs.lemmas.List.{map-append, take-append-drop, take_more, length_push}
 use Rattle.pic_io.specs.declared.side.Side.{Side}
-use Rattle.pic_io.specs.Told.{Told, Calm}
+use Rattle.pic_io.specs.Told.{Told}
 use Rattle.pic_io.specs.Sinks.{LineCut, WritesLine}
 use Rattle.pic_io.proofs.Puts.{appended_none, appended_twice, line_cut_after, line_cut_more, lines_after}
 use Rattle.pic_deck.specs.declared.refusal.Refusal.{Refusal}

@@ -1,5 +1,5 @@
 -- How a run finishes, from how its parts do.
-use Rattle.std.proofs.Common.{◌≡◌, ℕ, List, [], ◌∷◌, ◌++◌, take, Result, Ok, Err, refl, inl, inr, sym, subst, append-nil, append_assoc}
+use Rattle.std.proofs.Common.{ℕ, List, [], ◌∷◌, ◌++◌, take, Result, Ok, Err, refl, inr, sym, subst, append-nil, append_assoc}
 use Rattle.std.proofs.Math.Seq.{take-nil}
 use Rattle.pic_io.specs.declared.side.Side.{Side}
 use Rattle.pic_io.specs.declared.side.Side.TheVariants.{Out}
@@ -14,7 +14,7 @@ use Rattle.pic_run.specs.declared.ended.Ended.{Ended}
 use Rattle.pic_run.specs.declared.output.Output.{Output}
 use Rattle.pic_run.specs.Frames.{end_piece}
 use Rattle.pic_run.specs.Outcome.{Outcome, with_head, answer_of, states_outcome}
-use Rattle.pic_run.specs.Ends.{Fulfils, HasFrames, Finishes}
+use Rattle.pic_run.specs.Ends.{Fulfils, Finishes}
 use Rattle.pic_run.specs.Runs.{WroteFrames, WritesFrames, WritesStates}
 
 -- one piece
@@ -78,3 +78,9 @@ pub head_cut : (o p r : Told) (head : List ℕ) (frames : List Piece) (last : Pi
     → CutAt Out (sinks o r) (sinks p r) (with_head head (frames ++ last ∷ []))
 head_cut o p r [] frames last put rose = none_cut o p r frames last (subst (λ (x : List ℕ). Appended o p x) (take-nil put.0) put.1) rose
 head_cut o p r (byte ∷ head) frames last put rose = cut_out o p r (record { out = byte ∷ head; line = [] }) (frames ++ last ∷ []) put rose
+
+-- a run with no head
+pub without_head : (o : Outcome) (a b : Sinks) (finish : Result Ended Cut) → WritesStates o a b finish → Finishes o a b finish
+without_head o a b (Ok answer) ends = ends
+without_head o a b (Err (Write side)) ends = ends
+without_head o a b (Err NoMemory) ends = inr ends

@@ -3,15 +3,17 @@
 use Rattle.std.specs.Prelude.{ℕ, List, Result, Ok, Err}
 use Rattle.pic_deck.specs.declared.refusal.DeckFault.{DeckFault}
 use Rattle.pic_deck.specs.declared.refusal.DeckFault.TheVariants as deck_fault
+use Rattle.pic_verify.specs.declared.verify_stop.VerifyStop.{VerifyStop}
+use Rattle.pic_verify.specs.declared.verify_stop.VerifyStop.TheVariants as verify_stop
 use Rattle.pic_run.specs.declared.early.Early.{Early}
 use Rattle.pic_run.specs.declared.early.Early.TheVariants as early
 use Rattle.pic_run.specs.declared.early.StageStop.{StageStop}
 use Rattle.pic_run.specs.declared.early.StageStop.TheVariants as stage_stop
 use Rattle.pic_run.specs.declared.ended.Ended.{Ended}
-use Rattle.pic_run.specs.declared.ended.Ended.TheVariants.{Usage, Refused, Gauss, ReadFault}
+use Rattle.pic_run.specs.declared.ended.Ended.TheVariants.{Usage, Refused, Gauss, ReadFault, BadDump, Broken}
 use Rattle.pic_run.specs.declared.reading.ReadStop.{ReadStop}
 use Rattle.pic_run.specs.declared.reading.ReadStop.TheVariants as read_stop
-use Rattle.pic_run.specs.Lines.{gauss_line, usage_line, read_fault_line, refused_line}
+use Rattle.pic_run.specs.Lines.{gauss_line, usage_line, read_fault_line, refused_line, bad_dump_line, broken_line}
 
 -- what a stage gives
 abbrev pub Staged : Type 0 → Type 0
@@ -29,6 +31,8 @@ ended_early early.Usage = Usage
 ended_early early.ReadFault = ReadFault
 ended_early (early.Refused refusal) = Refused refusal
 ended_early (early.Gauss b) = Gauss b
+ended_early (early.BadDump place cause) = BadDump place cause
+ended_early (early.Broken frame b) = Broken frame b
 
 -- its line on the report
 abbrev pub early_line : Early → List ℕ
@@ -36,6 +40,8 @@ early_line early.Usage = usage_line
 early_line early.ReadFault = read_fault_line
 early_line (early.Refused refusal) = refused_line refusal
 early_line (early.Gauss b) = gauss_line b
+early_line (early.BadDump place cause) = bad_dump_line place cause
+early_line (early.Broken frame b) = broken_line frame b
 
 -- what stops the stage of reading
 abbrev pub stop_of_reading : ReadStop → StageStop
@@ -46,3 +52,10 @@ stop_of_reading read_stop.NoMemory = stage_stop.NoMemory
 abbrev pub stop_of_deck : DeckFault → StageStop
 stop_of_deck (deck_fault.Refused refusal) = stage_stop.Answer (early.Refused refusal)
 stop_of_deck deck_fault.NoMemory = stage_stop.NoMemory
+
+-- what stops the stage that verifies a dump
+abbrev pub stop_of_verify : VerifyStop → StageStop
+stop_of_verify verify_stop.ReadFault = stage_stop.Answer early.ReadFault
+stop_of_verify (verify_stop.BadDump place cause) = stage_stop.Answer (early.BadDump place cause)
+stop_of_verify (verify_stop.Broken frame b) = stage_stop.Answer (early.Broken frame b)
+stop_of_verify verify_stop.NoMemory = stage_stop.NoMemory

@@ -1,6 +1,6 @@
 -- How a call ends: what it took from its source, what it put on its sinks, and its answer.
-use Rattle.std.specs.Prelude.{◌≡◌, ◌≢◌, ℕ, ◌≤◌, ◌⊎◌, List, [], ◌++◌, length, take, Option, Some, None, Result, Ok, Err, IfSome, IsSome, IsOk}
-use Rattle.pic_io.specs.Told.{Told, Quiet}
+use Rattle.std.specs.Prelude.{◌≡◌, ◌≢◌, ⊤, ℕ, ◌≤◌, ◌⊎◌, List, [], ◌++◌, length, take, Option, Some, None, Result, Ok, Err, IfSome, IsOk}
+use Rattle.pic_io.specs.Told.{Told, Rose, Quiet}
 use Rattle.pic_io.specs.Source.{IsAtEnd}
 use Rattle.pic_io.specs.Sinks.{Sinks, Wrote, Piece, outs, lines, CutAt, QuietSinks}
 use Rattle.pic_grid.specs.declared.stop.EndMark.TheVariants.{Stopped as EndStopped}
@@ -13,6 +13,7 @@ use Rattle.pic_charge.specs.Gauss.{IsLeastBreak}
 use Rattle.pic_deck.specs.declared.refusal.Refusal.{Refusal}
 use Rattle.pic_deck.specs.Deck.{DeckView}
 use Rattle.pic_deck.specs.Reading.{walk}
+use Rattle.pic_demo.specs.Demo.{demo_deck}
 use Rattle.pic_load.specs.Loading.{loaded}
 use Rattle.pic_step.specs.SerialStep.{World}
 use Rattle.pic_step.specs.SerialRun.{after}
@@ -22,15 +23,17 @@ use Rattle.pic_run.specs.declared.cut.Cut.TheVariants as cut
 use Rattle.pic_run.specs.declared.early.StageStop.{StageStop}
 use Rattle.pic_run.specs.declared.early.StageStop.TheVariants as stage_stop
 use Rattle.pic_run.specs.declared.ended.Ended.{Ended}
-use Rattle.pic_run.specs.declared.ended.Ended.TheVariants.{NoMemory}
+use Rattle.pic_verify.specs.declared.verify_stop.VerifyStop.TheVariants as verify_stop
+use Rattle.pic_verify.specs.Verified.{verified}
+use Rattle.pic_run.specs.declared.ended.Ended.TheVariants.{Verified, ReadFault, NoMemory}
 use Rattle.pic_line.specs.declared.asked.Command.{Command}
-use Rattle.pic_line.specs.declared.asked.Command.TheVariants.{Check, Run}
+use Rattle.pic_line.specs.declared.asked.Command.TheVariants.{Check, Run, Verify, Demo}
 use Rattle.pic_line.specs.CommandLine.{command_of}
 use Rattle.pic_run.specs.Early.{ended_early, early_line}
 use Rattle.pic_run.specs.Ended.{ended_of}
 use Rattle.pic_run.specs.Reading.{deck_limit, Gave, TakesAtMost}
 use Rattle.pic_run.specs.Starting.{first_state, IsGauss, EachGauss}
-use Rattle.pic_run.specs.Outcome.{Outcome, outcome, out_text, report_text, pieces_of, line_alone, accepted, opened, on_deck}
+use Rattle.pic_run.specs.Outcome.{Outcome, outcome, out_text, report_text, pieces_of, line_alone, accepted, opened, demonstrated, verdict_on, verdict_outcome, on_deck, demo_outcome}
 
 -- the outcome's answer, and both its texts whole
 pub record Fulfils (o : Outcome) (before now : Sinks) (answer : Ended) : Type 0 where
@@ -63,9 +66,23 @@ EndsStopped (stage_stop.Answer end) before now finish =
 EndsStopped stage_stop.NoMemory before now finish =
     (finish ≡ Err cut.NoMemory) × Wrote before now [] []
 
--- the command is a run, on any number of workers
+-- the command runs a deck, on any number of workers
 abbrev pub IsRun : Option Command → Type 0
-IsRun c = (workers : ℕ) × (c ≡ Some (Run workers))
+IsRun (Some (Run workers)) = ⊤
+IsRun (Some (Demo seed workers)) = ⊤
+IsRun c = ⊥
+
+-- the command has the deck that its source gives
+abbrev pub IsOnDeck : Option Command → Type 0
+IsOnDeck (Some Check) = ⊤
+IsOnDeck (Some (Run workers)) = ⊤
+IsOnDeck c = ⊥
+
+-- the command, or what is none, takes nothing from its source
+abbrev pub IsIdle : Option Command → Type 0
+IsIdle None = ⊤
+IsIdle (Some (Demo seed workers)) = ⊤
+IsIdle c = ⊥
 
 -- how a deck was read: at most one byte more than a deck may have; and unless memory was wanting, an
 -- accepted deck to its end, and one that meets Gauss's law begins in a sound state
@@ -76,11 +93,26 @@ pub record ReadsDeck (input : Option (List ℕ)) (source source' : Told)
   pub sound : finish ≢ Err cut.NoMemory
       → (d : DeckView) → opened input ≡ Ok d → IsSound (first_state d)
 
+-- how a demonstration was run: it took nothing; and unless memory was wanting, one that meets Gauss's
+-- law begins in a sound state
+pub record ReadsNothing (seed : ℕ) (source source' : Told) (finish : Result Ended Cut) : Type 0 where
+  pub same : source' ≡ source
+  pub sound : finish ≢ Err cut.NoMemory
+      → (d : DeckView) → demonstrated seed ≡ Ok d → IsSound (first_state d)
+
+-- how a dump was read: one whose frames are good to its end; and a read fault is one that the source's
+-- count shows
+pub record ReadsDump (source source' : Told) (finish : Result Ended Cut) : Type 0 where
+  pub end : (frames : ℕ) → finish ≡ Ok (Verified frames) → IsAtEnd source'
+  pub fault : finish ≡ Ok ReadFault → Rose source source'
+
 -- how each command reads its source; words that are no command take nothing from it
 abbrev pub Reads : Option Command → Option (List ℕ) → Told → Told → Result Ended Cut → Type 0
 Reads None input source source' finish = source' ≡ source
 Reads (Some Check) input source source' finish = ReadsDeck input source source' finish
 Reads (Some (Run workers)) input source source' finish = ReadsDeck input source source' finish
+Reads (Some Verify) input source source' finish = ReadsDump source source' finish
+Reads (Some (Demo seed workers)) input source source' finish = ReadsNothing seed source source' finish
 
 -- a command on a deck finishes as it says for what its source held
 pub record OnDeck (performed : DeckView → Outcome) (source source' : Told)
@@ -89,6 +121,19 @@ pub record OnDeck (performed : DeckView → Outcome) (source source' : Told)
   pub gave : Gave source source' input
   pub finishes : Finishes (on_deck performed (opened input)) before now finish
   pub reads : ReadsDeck input source source' finish
+
+-- so does a demonstration, whatever its source held
+pub record Demonstrates (seed : ℕ) (before now : Sinks) (finish : Result Ended Cut) : Type 0 where
+  pub finishes : Finishes (on_deck demo_outcome (demonstrated seed)) before now finish
+  pub sound : finish ≢ Err cut.NoMemory
+      → (d : DeckView) → demonstrated seed ≡ Ok d → IsSound (first_state d)
+
+-- so does the command that verifies a dump
+pub record OnDump (source source' : Told) (before now : Sinks) (finish : Result Ended Cut) : Type 0 where
+  pub input : Option (List ℕ)
+  pub gave : Gave source source' input
+  pub finishes : Finishes (verdict_outcome (verdict_on input)) before now finish
+  pub reads : ReadsDump source source' finish
 
 -- the call finishes as the outcome says for what its source held
 pub record Performs (words : List (List ℕ)) (source source' : Told) (before now : Sinks)
@@ -110,6 +155,8 @@ abbrev pub Takes : Option Command → Told → Told → Type 0
 Takes None source source' = source' ≡ source
 Takes (Some Check) source source' = TakesAtMost deck_limit source source'
 Takes (Some (Run workers)) source source' = TakesAtMost deck_limit source source'
+Takes (Some Verify) source source' = ⊤
+Takes (Some (Demo seed workers)) source source' = source' ≡ source
 
 -- where the source tells its bytes and no fault can be blamed on a count, the call answers the
 -- outcome and puts its texts, or memory was wanting
@@ -123,9 +170,17 @@ IsComplete words source source' before now ended =
 abbrev pub Held : Told → DeckView → Type 0
 Held source d = IfSome source.bytes (λ held. walk (take deck_limit held) ≡ Ok d)
 
--- the words are a command, and the deck of what the source held is refused so
+-- the deck of a command: that of what its source held, which was read to its end; or a
+-- demonstration's, for which nothing was taken
+abbrev pub HasDeck : Option Command → Told → Told → DeckView → Type 0
+HasDeck (Some Check) source source' d = Held source d × IsAtEnd source'
+HasDeck (Some (Run workers)) source source' d = Held source d × IsAtEnd source'
+HasDeck (Some (Demo seed workers)) source source' d = (d ≡ demo_deck seed) × (source' ≡ source)
+HasDeck c source source' d = ⊥
+
+-- the command has a deck, and that of what the source held is refused so
 pub record IsRefused (words : List (List ℕ)) (source : Told) (refusal : Refusal) : Type 0 where
-  pub command : IsSome (command_of words)
+  pub command : IsOnDeck (command_of words)
   pub refused : IfSome source.bytes (λ held. walk (take deck_limit held) ≡ Err refusal)
 
 -- the least node of a state where the divergence of E and the charge differ
@@ -133,42 +188,54 @@ abbrev pub IsLeastBreakOf : World → Break → Type 0
 IsLeastBreakOf w b =
     IsLeastBreak w.cells (div_e w.cells (value_at w.e)) (charge_of w.side w.cells w.kinds w.particles) b
 
--- the words are a command, and this is the least node where the deck's E and its charge differ
+-- this is the least node where the E of the command's deck and its charge differ
 pub record BreaksGauss (words : List (List ℕ)) (source source' : Told) (b : Break) : Type 0 where
-  pub command : IsSome (command_of words)
   pub deck : DeckView
-  pub held : Held source deck
+  pub held : HasDeck (command_of words) source source' deck
   pub least : IsLeastBreakOf (first_state deck) b
-  pub end : IsAtEnd source'
 
 -- the deck meets Gauss's law, and these are its particles
 pub record IsChecked (words : List (List ℕ)) (source source' : Told) (particles : ℕ) : Type 0 where
   pub command : command_of words ≡ Some Check
   pub deck : DeckView
-  pub held : Held source deck
+  pub held : HasDeck (command_of words) source source' deck
   pub gauss : IsGauss (first_state deck)
   pub count : particles ≡ length (loaded deck)
-  pub end : IsAtEnd source'
 
 -- the deck's serial run reaches its last step, and each of its states meets Gauss's law
 pub record IsDone (words : List (List ℕ)) (source source' : Told) (steps : ℕ) : Type 0 where
   pub command : IsRun (command_of words)
   pub deck : DeckView
-  pub held : Held source deck
+  pub held : HasDeck (command_of words) source source' deck
   pub gauss : EachGauss (first_state deck)
   pub last : steps ≡ deck.steps
   pub reached : IsOk (after (first_state deck) deck.steps)
-  pub end : IsAtEnd source'
 
 -- the deck's serial run stops in this step, and each of its states meets Gauss's law
 pub record IsStopped (words : List (List ℕ)) (source source' : Told) (step : ℕ)
     (stop : Stop) : Type 0 where
   pub command : IsRun (command_of words)
   pub deck : DeckView
-  pub held : Held source deck
+  pub held : HasDeck (command_of words) source source' deck
   pub gauss : EachGauss (first_state deck)
   pub stops : after (first_state deck) deck.steps ≡ Err (EndStopped step stop)
+
+-- the dump that the source held has so many frames, each of the format and with Gauss's law, and
+-- nothing behind its end record
+pub record IsVerified (words : List (List ℕ)) (source source' : Told) (frames : ℕ) : Type 0 where
+  pub command : command_of words ≡ Some Verify
+  pub good : IfSome source.bytes (λ held. verified held ≡ Ok frames)
   pub end : IsAtEnd source'
+
+-- this is the first fault of what the source held, all earlier frames being good
+pub record IsBadDump (words : List (List ℕ)) (source : Told) (place cause : ℕ) : Type 0 where
+  pub command : command_of words ≡ Some Verify
+  pub bad : IfSome source.bytes (λ held. verified held ≡ Err (verify_stop.BadDump place cause))
+
+-- this is the first frame of the dump that fails Gauss's law, before any fault, and its least node
+pub record IsBroken (words : List (List ℕ)) (source : Told) (frame : ℕ) (b : Break) : Type 0 where
+  pub command : command_of words ≡ Some Verify
+  pub broken : IfSome source.bytes (λ held. verified held ≡ Err (verify_stop.Broken frame b))
 
 -- a run for which memory was wanting left whole frames
 pub record HasRun (words : List (List ℕ)) (source source' : Told)

@@ -1,4 +1,4 @@
--- The lines of a report: this project's profile. Numbers are plain decimal, and each line ends with
+-- The lines of a call: this project's profile. Numbers are plain decimal, and each line ends with
 -- a line feed.
 use Rattle.std.specs.Prelude.{ℕ, ℤ, List, ◌++◌, ◌&&◌, map, codes, nat_le, if◌then◌else◌}
 use Rattle.std.specs.Fmt.{decimal, signed_decimal}
@@ -18,10 +18,9 @@ unfoldable pub check_line : ℕ → List ℕ
 check_line particles = codes "ok " ++ decimal particles ++ codes " particles\n"
 
 -- a node where the divergence of E and the charge differ, and both
-unfoldable pub gauss_line : Break → List ℕ
-gauss_line b =
-    codes "gauss "
-    ++ decimal (triple b.node).x
+unfoldable pub break_tail : Break → List ℕ
+break_tail b =
+    decimal (triple b.node).x
     ++ codes " "
     ++ decimal (triple b.node).y
     ++ codes " "
@@ -31,6 +30,18 @@ gauss_line b =
     ++ codes " rho "
     ++ signed_decimal b.rho
     ++ codes "\n"
+
+unfoldable pub gauss_line : Break → List ℕ
+gauss_line b = codes "gauss " ++ break_tail b
+
+unfoldable pub verified_line : ℕ → List ℕ
+verified_line frames = codes "verified " ++ decimal frames ++ codes " frames\n"
+
+unfoldable pub bad_dump_line : ℕ → ℕ → List ℕ
+bad_dump_line place cause = codes "bad dump " ++ decimal place ++ codes " " ++ decimal cause ++ codes "\n"
+
+unfoldable pub broken_line : ℕ → Break → List ℕ
+broken_line frame b = codes "broken frame " ++ decimal frame ++ codes " node " ++ break_tail b
 
 -- a character of a path, as it is from `!` to `~`, and `?` in place of any other
 abbrev pub printed_char : ℕ → ℕ

@@ -10,8 +10,20 @@ use Rattle.pic_run.specs.declared.early.Early.{Early}
 use Rattle.pic_run.specs.declared.early.StageStop.{StageStop}
 use Rattle.pic_run.specs.declared.early.StageStop.TheVariants.{Answer, NoMemory}
 use Rattle.pic_run.specs.declared.opened.Opened.{Opened}
-use Rattle.pic_run.specs.Outcome.{accepted, opened}
+use Rattle.pic_run.specs.Outcome.{accepted, tested, opened}
 use Rattle.pic_run.specs.Reading.{Gave}
+
+-- the deck meets Gauss's law; it stands here with its particles, and its first state is sound
+pub record IsTested (d : DeckView) (o : Opened) : Type 0 where
+  pub deck : tested d ≡ Ok o.deck
+  pub particles : o.particles.items ≡ loaded o.deck
+  pub sound : IsSound (start_of o.deck o.particles.items)
+
+-- what testing a deck answers
+abbrev pub Tests : DeckView → Result Opened StageStop → Type 0
+Tests d (Ok o) = IsTested d o
+Tests d (Err (Answer why)) = tested d ≡ Err why
+Tests d (Err NoMemory) = ⊤
 
 -- the deck of the input with its particles; its first state is sound, and the source is at its end
 pub record IsOpened (input : Option (List ℕ)) (now : Told) (o : Opened) : Type 0 where

@@ -8,21 +8,25 @@ use Rattle.pic_grid.specs.declared.stop.EndMark.TheVariants.{Done as EndDone, St
 use Rattle.pic_charge.specs.declared.breaks.Break.{Break}
 use Rattle.pic_deck.specs.Deck.{DeckView}
 use Rattle.pic_deck.specs.Reading.{walk}
+use Rattle.pic_demo.specs.Demo.{demo_deck}
 use Rattle.pic_dump.specs.DumpText.{header_bytes}
 use Rattle.pic_dump.specs.Header.{HeaderView}
 use Rattle.pic_load.specs.Loading.{loaded}
 use Rattle.pic_step.specs.SerialStep.{World}
+use Rattle.pic_run.specs.declared.early.Early.{Early}
 use Rattle.pic_run.specs.declared.early.Early.TheVariants as early
 use Rattle.pic_run.specs.declared.ended.Ended.{Ended}
-use Rattle.pic_run.specs.declared.ended.Ended.TheVariants.{Done, Checked, Stopped}
+use Rattle.pic_verify.specs.declared.verify_stop.VerifyStop.TheVariants as verify_stop
+use Rattle.pic_verify.specs.Verified.{Verdict, verified}
+use Rattle.pic_run.specs.declared.ended.Ended.TheVariants.{Done, Checked, Verified, Stopped, NoMemory}
 use Rattle.pic_line.specs.declared.asked.Command.{Command}
-use Rattle.pic_line.specs.declared.asked.Command.TheVariants.{Check, Run}
+use Rattle.pic_line.specs.declared.asked.Command.TheVariants.{Check, Run, Verify, Demo}
 use Rattle.pic_run.specs.declared.output.Output.{Output}
-use Rattle.pic_run.specs.declared.output.Output.TheVariants.{Dump}
+use Rattle.pic_run.specs.declared.output.Output.TheVariants.{Dump, Lines}
 use Rattle.pic_line.specs.CommandLine.{command_of}
 use Rattle.pic_run.specs.Early.{Staged, ◌>>=◌, ended_early, early_line}
 use Rattle.pic_run.specs.Frames.{frames_of, end_of, end_piece}
-use Rattle.pic_run.specs.Lines.{check_line}
+use Rattle.pic_run.specs.Lines.{check_line, verified_line}
 use Rattle.pic_run.specs.Reading.{deck_limit}
 use Rattle.pic_run.specs.Starting.{first_state, break_of, header_of}
 
@@ -65,8 +69,20 @@ abbrev pub unless_broken : DeckView → Option Break → Staged DeckView
 unless_broken d None = Ok d
 unless_broken d (Some b) = Err (early.Gauss b)
 
+abbrev pub tested : DeckView → Staged DeckView
+tested d = unless_broken d (break_of (first_state d))
+
 abbrev pub opened : Option (List ℕ) → Staged DeckView
-opened input = accepted input >>= (λ d. unless_broken d (break_of (first_state d)))
+opened input = accepted input >>= tested
+
+-- the demonstration of a seed: its deck is written down, so that nothing is read
+unfoldable pub demonstrated : ℕ → Staged DeckView
+demonstrated seed = tested (demo_deck seed)
+
+-- the verdict on the dump that the source held; None: a read failed
+abbrev pub verdict_on : Option (List ℕ) → Verdict
+verdict_on None = Err verify_stop.ReadFault
+verdict_on (Some held) = verified held
 
 -- nothing on out, and one line on report
 abbrev pub line_alone : Ended → List ℕ → Outcome
@@ -77,10 +93,14 @@ line_alone answer line = record {
   last = record { out = []; line = line };
 }
 
+-- an early end, with its line
+abbrev pub early_outcome : Early → Outcome
+early_outcome end = line_alone (ended_early end) (early_line end)
+
 -- what a command makes of its deck, or an early end
 abbrev pub on_deck : (DeckView → Outcome) → Staged DeckView → Outcome
 on_deck performed (Ok d) = performed d
-on_deck performed (Err end) = line_alone (ended_early end) (early_line end)
+on_deck performed (Err end) = early_outcome end
 
 -- a deck that can be run: its number of particles, on out
 abbrev pub check_outcome : DeckView → Outcome
@@ -113,10 +133,32 @@ dump_outcome h w =
 abbrev pub run_outcome : DeckView → Outcome
 run_outcome d = dump_outcome (header_of d) (first_state d)
 
+-- the run of a deck from its first state w, as lines alone, on out
+abbrev pub lines_outcome : DeckView → World → Outcome
+lines_outcome d w = states_outcome Lines [] (frames_of Lines d.steps d.every w) (end_of d.steps w)
+
+abbrev pub demo_outcome : DeckView → Outcome
+demo_outcome d = lines_outcome d (first_state d)
+
+-- a dump whose frames are good: their number, on out; or what was found, on report
+abbrev pub verdict_outcome : Verdict → Outcome
+verdict_outcome (Ok frames) = record {
+  answer = Verified frames;
+  head = [];
+  frames = [];
+  last = record { out = verified_line frames; line = [] };
+}
+verdict_outcome (Err verify_stop.ReadFault) = early_outcome early.ReadFault
+verdict_outcome (Err (verify_stop.BadDump place cause)) = early_outcome (early.BadDump place cause)
+verdict_outcome (Err (verify_stop.Broken frame b)) = early_outcome (early.Broken frame b)
+verdict_outcome (Err verify_stop.NoMemory) = line_alone NoMemory []
+
 abbrev pub command_outcome : Option Command → Option (List ℕ) → Outcome
-command_outcome None input = line_alone (ended_early early.Usage) (early_line early.Usage)
+command_outcome None input = early_outcome early.Usage
 command_outcome (Some Check) input = on_deck check_outcome (opened input)
 command_outcome (Some (Run workers)) input = on_deck run_outcome (opened input)
+command_outcome (Some Verify) input = verdict_outcome (verdict_on input)
+command_outcome (Some (Demo seed workers)) input = on_deck demo_outcome (demonstrated seed)
 
 unfoldable pub outcome : List (List ℕ) → Option (List ℕ) → Outcome
 outcome words input = command_outcome (command_of words) input

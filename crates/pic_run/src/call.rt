@@ -8,19 +8,21 @@ ghost use Rattle.pic_grid.specs.declared.stop.Stop.{Stop as StopName};
 ghost use Rattle.pic_charge.specs.declared.breaks.Break.{Break as BreakName};
 ghost use Rattle.pic_deck.specs.declared.refusal.Refusal.{Refusal as RefusalName};
 ghost use Rattle.pic_line.specs.CommandLine.{command_of};
-ghost use Rattle.pic_run.specs.Ends.{Performs, Ends, Takes, IsComplete, IsDone, IsStopped, IsChecked, BreaksGauss, IsRefused, IsStarved};
+ghost use Rattle.pic_run.specs.Ends.{Performs, Ends, Takes, IsComplete, IsDone, IsStopped, IsChecked, IsVerified, BreaksGauss, IsRefused, IsBadDump, IsBroken, IsIdle, IsStarved};
 
 use crate::check::check;
 use crate::cut::Cut;
+use crate::demo::demo;
 use crate::early::{Early, StageStop, end_early};
 use crate::ended::{Ended, ended_of};
 use crate::run::run;
+use crate::verify::verify;
 use pic_io::{Sink, Source};
 use pic_line::{Command, LineFault, command};
 use std::alloc::Global;
 
-/// The top call: performs the command of the words (those after the program's name), on a deck that
-/// the source gives. The result goes to `out`, and the lines for the reader to `report`.
+/// The top call: performs the command of the words (those after the program's name), on the deck or
+/// the dump that the source gives. The result goes to `out`, and the lines for the reader to `report`.
 ///
 /// `ends` says it all: what the call answers and what it puts on its sinks is the outcome of the
 /// words and of what the source held. The other clauses follow from it.
@@ -50,10 +52,16 @@ pub fn pic<S: Source, O: Sink, R: Sink>(
         → IsStopped (map string_bytes words.now) (S.told source.old) (S.told source.new) step stop }
     ensures checked { (particles : ℕ) → result ≡ Ended.Checked particles
         → IsChecked (map string_bytes words.now) (S.told source.old) (S.told source.new) particles }
+    ensures verified { (frames : ℕ) → result ≡ Ended.Verified frames
+        → IsVerified (map string_bytes words.now) (S.told source.old) (S.told source.new) frames }
+    ensures bad_dump { (place cause : ℕ) → result ≡ Ended.BadDump place cause
+        → IsBadDump (map string_bytes words.now) (S.told source.old) place cause }
+    ensures broken { (frame : ℕ) (b : BreakName) → result ≡ Ended.Broken frame b
+        → IsBroken (map string_bytes words.now) (S.told source.old) frame b }
     ensures gauss { (b : BreakName) → result ≡ Ended.Gauss b
         → BreaksGauss (map string_bytes words.now) (S.told source.old) (S.told source.new) b }
     ensures usage { result ≡ Ended.Usage → command_of (map string_bytes words.now) ≡ None }
-    ensures idle { command_of (map string_bytes words.now) ≡ None
+    ensures idle { IsIdle (command_of (map string_bytes words.now))
         → S.told source.new ≡ S.told source.old }
     ensures refused { (refusal : RefusalName) → result ≡ Ended.Refused refusal
         → IsRefused (map string_bytes words.now) (S.told source.old) refusal }
@@ -85,6 +93,8 @@ fn perform<S: Source, O: Sink, R: Sink>(
     match command(alloc, words) {
         Ok(Command::Check) => check(alloc, source, out, report),
         Ok(Command::Run { workers: _ }) => run(alloc, source, out, report),
+        Ok(Command::Verify) => verify(alloc, source, out, report),
+        Ok(Command::Demo { seed, workers: _ }) => demo(alloc, seed, out, report),
         Err(LineFault::Usage) => end_early(report, StageStop::Answer(Early::Usage)),
         Err(LineFault::NoMemory) => Err(Cut::NoMemory),
     }

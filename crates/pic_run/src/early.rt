@@ -4,18 +4,21 @@ ghost use Rattle.std.specs.Prelude.{◌≡◌};
 ghost use Rattle.pic_io.specs.Told.{Told};
 ghost use Rattle.pic_io.specs.Sinks.{sinks, WritesLine};
 ghost use Rattle.pic_run.specs.declared.early.StageStop.TheVariants as stage_stop;
-ghost use Rattle.pic_run.specs.Early.{ended_early, early_line, stop_of_reading, stop_of_deck};
+ghost use Rattle.pic_run.specs.Early.{ended_early, early_line, stop_of_reading, stop_of_deck, stop_of_verify};
 ghost use Rattle.pic_run.specs.Ends.{EndsStopped};
 
 use crate::cut::Cut;
 use crate::ended::Ended;
-use crate::lines::{line_of_break, line_of_read_fault, line_of_usage};
+use crate::lines::{
+    line_of_bad_dump, line_of_break, line_of_broken, line_of_read_fault, line_of_usage,
+};
 use crate::reading::ReadStop;
 use crate::refusing::put_refusal;
 use crate::writing::put_line;
 use pic_charge::Break;
 use pic_deck::{DeckFault, Refusal};
 use pic_io::{Side, Sink};
+use pic_verify::VerifyStop;
 
 /// An end before a command has put anything. Each has a line of its own, on the report.
 #[derive(Debug, Drop)]
@@ -28,6 +31,10 @@ pub enum Early {
     Refused(Refusal),
     /// The deck's E and its charge don't meet Gauss's law; this is the least node where it fails.
     Gauss(Break),
+    /// The bytes leave the format of a dump at this place, for this cause.
+    BadDump { place: u64, cause: u8 },
+    /// The first frame of a dump, counted from 0, that doesn't meet Gauss's law, and the least node.
+    Broken { frame: u32, at: Break },
 }
 
 /// What ends a stage: an early end of the call, or want of memory.
@@ -55,6 +62,21 @@ impl From<DeckFault> for StageStop {
         match fault {
             DeckFault::Refused(refusal) => StageStop::Answer(Early::Refused(refusal)),
             DeckFault::NoMemory => StageStop::NoMemory,
+        }
+    }
+}
+
+impl From<VerifyStop> for StageStop {
+    ghost from_gives = { λ stop result. result ≡ stop_of_verify stop };
+
+    fn from(stop: VerifyStop) -> StageStop {
+        match stop {
+            VerifyStop::ReadFault => StageStop::Answer(Early::ReadFault),
+            VerifyStop::BadDump { place, cause } => {
+                StageStop::Answer(Early::BadDump { place, cause })
+            }
+            VerifyStop::Broken { frame, at } => StageStop::Answer(Early::Broken { frame, at }),
+            VerifyStop::NoMemory => StageStop::NoMemory,
         }
     }
 }
@@ -89,6 +111,10 @@ fn put_early<R: Sink>(report: &mut R, early: &Early) -> Result<(), Side>
         Early::ReadFault => put_line(report, line_of_read_fault()),
         Early::Refused(refusal) => put_refusal(report, refusal),
         Early::Gauss(at) => put_line(report, line_of_break(*at).bytes()),
+        Early::BadDump { place, cause } => {
+            put_line(report, line_of_bad_dump(*place, *cause).bytes())
+        }
+        Early::Broken { frame, at } => put_line(report, line_of_broken(*frame, *at).bytes()),
     }
 }
 
@@ -100,5 +126,7 @@ fn ended_early(early: Early) -> Ended
         Early::ReadFault => Ended::ReadFault,
         Early::Refused(refusal) => Ended::Refused(refusal),
         Early::Gauss(at) => Ended::Gauss(at),
+        Early::BadDump { place, cause } => Ended::BadDump { place, cause },
+        Early::Broken { frame, at } => Ended::Broken { frame, at },
     }
 }

@@ -16,6 +16,8 @@ pub enum Ended {
     Done { steps: u32 },
     /// The deck can be run; it has so many particles.
     Checked { particles: u32 },
+    /// So many frames of a dump are good, and it was read to its end.
+    Verified { frames: u32 },
     /// The run stopped in a step.
     Stopped { step: u32, stop: Stop },
     /// The words are no command.
@@ -30,6 +32,11 @@ pub enum Ended {
     WriteFault(Side),
     /// Memory was refused.
     NoMemory,
+    /// The bytes leave the format of a dump at this place, for this cause.
+    BadDump { place: u64, cause: u8 },
+    /// The first frame of a dump, counted from 0, that doesn't meet Gauss's law; this is the least node
+    /// where it fails.
+    Broken { frame: u32, at: Break },
 }
 
 impl Ended {
@@ -38,13 +45,15 @@ impl Ended {
         ensures { result ≡ status_of self.now }
     {
         match self {
-            Ended::Done { .. } | Ended::Checked { .. } => 0,
+            Ended::Done { .. } | Ended::Checked { .. } | Ended::Verified { .. } => 0,
             Ended::Stopped { .. } => 1,
             Ended::Usage => 2,
             Ended::Refused(_) | Ended::Gauss(_) => 3,
             Ended::ReadFault => 4,
             Ended::WriteFault(_) => 5,
             Ended::NoMemory => 6,
+            Ended::BadDump { .. } => 7,
+            Ended::Broken { .. } => 8,
         }
     }
 }

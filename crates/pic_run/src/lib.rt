@@ -4,6 +4,7 @@
 mod call;
 mod check;
 mod cut;
+mod demo;
 mod early;
 mod ended;
 mod framing;
@@ -16,6 +17,7 @@ mod reading;
 mod refusing;
 mod run;
 mod starting;
+mod verify;
 mod writing;
 
 pub use call::pic;

@@ -1,13 +1,13 @@
-//! The lines of a report, but for those of refused decks and of frames.
+//! The lines of a call, but for those of refused decks and of frames.
 
-ghost use Rattle.std.specs.Prelude.{◌≡◌};
-ghost use Rattle.pic_run.specs.Lines.{check_line, gauss_line, usage_line, read_fault_line, limit_tail};
+ghost use Rattle.std.specs.Prelude.{◌≡◌, ◌≤◌, length};
+ghost use Rattle.pic_run.specs.Lines.{check_line, verified_line, gauss_line, bad_dump_line, broken_line, usage_line, read_fault_line, break_tail, limit_tail};
 
 use pic_charge::Break;
 use pic_num::Text;
 
 /// Room for the longest line.
-pub const LINE_BYTES: usize = 240;
+pub const LINE_BYTES: usize = 280;
 
 /// The line of words that are no command.
 #[tactic(auto, unfolding(crate::specs::Lines::usage_line))]
@@ -37,14 +37,66 @@ pub fn line_of_check(particles: u32) -> Text<LINE_BYTES>
     text
 }
 
+/// The line of a dump whose frames are good.
+#[tactic(auto, unfolding(crate::specs::Lines::verified_line))]
+pub fn line_of_verified(frames: u32) -> Text<LINE_BYTES>
+    ensures { result ≡ verified_line frames }
+{
+    let mut text = Text::new();
+    text.push(b"verified ");
+    text.push_decimal(u128::from(frames));
+    text.push(b" frames\n");
+    text
+}
+
 /// The line of a deck that doesn't meet Gauss's law.
 #[tactic(auto, unfolding(crate::specs::Lines::gauss_line))]
 pub fn line_of_break(at: Break) -> Text<LINE_BYTES>
     ensures { result ≡ gauss_line at }
 {
-    let [x, y, z] = at.node;
+    let tail = tail_of_break(at);
     let mut text = Text::new();
     text.push(b"gauss ");
+    text.push(tail.bytes());
+    text
+}
+
+/// The line of a dump that leaves the format.
+#[tactic(auto, unfolding(crate::specs::Lines::bad_dump_line))]
+pub fn line_of_bad_dump(place: u64, cause: u8) -> Text<LINE_BYTES>
+    ensures { result ≡ bad_dump_line place cause }
+{
+    let mut text = Text::new();
+    text.push(b"bad dump ");
+    text.push_decimal(u128::from(place));
+    text.push(b" ");
+    text.push_decimal(u128::from(cause));
+    text.push(b"\n");
+    text
+}
+
+/// The line of a dump with a frame that doesn't meet Gauss's law.
+#[tactic(auto, unfolding(crate::specs::Lines::broken_line))]
+pub fn line_of_broken(frame: u32, at: Break) -> Text<LINE_BYTES>
+    ensures { result ≡ broken_line frame at }
+{
+    let tail = tail_of_break(at);
+    let mut text = Text::new();
+    text.push(b"broken frame ");
+    text.push_decimal(u128::from(frame));
+    text.push(b" node ");
+    text.push(tail.bytes());
+    text
+}
+
+// The end of both lines on Gauss's law: the node, and what stands there.
+#[tactic(auto, unfolding(crate::specs::Lines::break_tail))]
+fn tail_of_break(at: Break) -> Text<LINE_BYTES>
+    ensures value { result ≡ break_tail at }
+    ensures len { length result ≤ 213 }
+{
+    let [x, y, z] = at.node;
+    let mut text = Text::new();
     text.push_decimal(u128::from(x));
     text.push(b" ");
     text.push_decimal(u128::from(y));

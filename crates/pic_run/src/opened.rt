@@ -1,7 +1,7 @@
 //! The stages of a deck: it is read and walked, its particles are loaded, Gauss's law is tested.
 
 ghost use Rattle.pic_run.specs.Reading.{deck_limit, TakesAtMost};
-ghost use Rattle.pic_run.specs.Opened.{Opens};
+ghost use Rattle.pic_run.specs.Opened.{Opens, Tests};
 
 use crate::early::{Early, StageStop};
 use crate::reading::{greatest_deck, read_all};
@@ -27,6 +27,13 @@ pub fn open<S: Source>(alloc: Global, source: &mut S) -> Result<Opened, StageSto
     let bytes = read_all(alloc, source, greatest_deck())?;
     let text: &[u8] = &bytes;
     let deck = read_deck(alloc, text)?;
+    test_deck(alloc, deck)
+}
+
+/// The stages of a deck behind its reading: its particles are loaded, and Gauss's law is tested.
+pub fn test_deck(alloc: Global, deck: Deck) -> Result<Opened, StageStop>
+    ensures { Tests deck result }
+{
     let particles = load(alloc, &deck)?;
     match find_break(alloc, &deck, &particles)? {
         None => Ok(Opened { deck, particles }),

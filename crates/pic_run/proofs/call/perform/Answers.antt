@@ -1,6 +1,6 @@
 use Rattle.std.proofs.Common.{map, string_bytes, refl}
 use Rattle.pic_io.specs.Sinks.{sinks}
-use Rattle.pic_run.proofs.EndLaws.{checks, runs, is_no_command, starved_words}
+use Rattle.pic_run.proofs.EndLaws.{checks, runs, verifies, demonstrates, is_no_command, starved_words}
 use Rattle.pic_run.proofs.call.perform.Goals as goal
 
 pub returns-in-Ok-Check : goal.returns-in-Ok-Check
@@ -16,6 +16,20 @@ returns-in-Ok-Run g c =
     let now = sinks (g.O.Sink.told c.run.new.out) (g.R.Sink.told c.run.new.report) in
     runs (map string_bytes c.args.words.now) _ (g.S.Source.told c.args.source.now) (g.S.Source.told c.run.new.source) before now c.run.result
     (rw c.in-Ok-Run.field-0-is at c.in-Ok-Run.ensures.ok) c.run.ensures
+
+pub returns-in-Ok-Verify : goal.returns-in-Ok-Verify
+returns-in-Ok-Verify g c =
+    let before = sinks (g.O.Sink.told c.args.out.now) (g.R.Sink.told c.args.report.now) in
+    let now = sinks (g.O.Sink.told c.verify.new.out) (g.R.Sink.told c.verify.new.report) in
+    verifies (map string_bytes c.args.words.now) (g.S.Source.told c.args.source.now) (g.S.Source.told c.verify.new.source) before now c.verify.result
+    (rw c.in-Ok-Verify.field-0-is at c.in-Ok-Verify.ensures.ok) c.verify.ensures
+
+pub returns-in-Ok-Demo : goal.returns-in-Ok-Demo
+returns-in-Ok-Demo g c =
+    let before = sinks (g.O.Sink.told c.args.out.now) (g.R.Sink.told c.args.report.now) in
+    let now = sinks (g.O.Sink.told c.demo.new.out) (g.R.Sink.told c.demo.new.report) in
+    demonstrates (map string_bytes c.args.words.now) _ _ (g.S.Source.told c.args.source.now) before now c.demo.result
+    (rw c.in-Ok-Demo.field-0-is at c.in-Ok-Demo.ensures.ok) c.demo.ensures
 
 pub returns-in-Err-Usage : goal.returns-in-Err-Usage
 returns-in-Err-Usage g c =

@@ -1,5 +1,7 @@
-use Rattle.std.proofs.Common.{sym}
-use Rattle.pic_run.specs.declared.ended.Ended.TheVariants.{Done, Checked, Stopped, Usage, Refused, Gauss, ReadFault, WriteFault, NoMemory}
+use Rattle.std.proofs.Common.{sym, map, string_bytes}
+use Rattle.pic_line.specs.CommandLine.{command_of}
+use Rattle.pic_run.specs.declared.ended.Ended.TheVariants.{Done, Checked, Verified, Stopped, Usage, Refused, Gauss, ReadFault, WriteFault, NoMemory, BadDump, Broken}
+use Rattle.pic_run.proofs.EndLaws.{takes, idles}
 use Rattle.pic_run.proofs.MeaningLaws.{complete, meant}
 use Rattle.pic_run.proofs.call.pic.Goals as goal
 
@@ -17,6 +19,25 @@ returns-clause-stopped g c = λ step stop. meant (returns-clause-ends g c) (Stop
 
 pub returns-clause-checked : goal.returns-clause-checked
 returns-clause-checked g c = λ particles. meant (returns-clause-ends g c) (Checked particles)
+
+pub returns-clause-verified : goal.returns-clause-verified
+returns-clause-verified g c = λ frames. meant (returns-clause-ends g c) (Verified frames)
+
+pub returns-clause-bad_dump : goal.returns-clause-bad_dump
+returns-clause-bad_dump g c = λ place cause. meant (returns-clause-ends g c) (BadDump place cause)
+
+pub returns-clause-broken : goal.returns-clause-broken
+returns-clause-broken g c = λ frame b. meant (returns-clause-ends g c) (Broken frame b)
+
+pub returns-clause-taken : goal.returns-clause-taken
+returns-clause-taken g c =
+    takes (command_of (map string_bytes c.args.words.now)) c.perform.ensures.input (g.S.Source.told c.args.source.now) (g.S.Source.told c.perform.new.source)
+    c.perform.result c.perform.ensures.reads
+
+pub returns-clause-idle : goal.returns-clause-idle
+returns-clause-idle g c =
+    idles (command_of (map string_bytes c.args.words.now)) c.perform.ensures.input (g.S.Source.told c.args.source.now) (g.S.Source.told c.perform.new.source)
+    c.perform.result c.perform.ensures.reads
 
 pub returns-clause-gauss : goal.returns-clause-gauss
 returns-clause-gauss g c = λ b. meant (returns-clause-ends g c) (Gauss b)

@@ -1,4 +1,4 @@
-use Rattle.std.proofs.Common.{◌≡◌, List, ℕ, [], ◌∷◌, length, sym, ap, subst, ◌∙◌}
+use Rattle.std.proofs.Common.{◌≡◌, List, ℕ, [], length, sym, ap, subst, ◌∙◌}
 use Rattle.pic_io.specs.Sinks.{sinks, Wrote}
 use Rattle.pic_load.specs.Loading.{loaded}
 use Rattle.pic_run.specs.declared.ended.Ended.TheVariants.{Checked}

@@ -1,4 +1,4 @@
-use Rattle.std.proofs.Common.{◌≡◌, List, ℕ, [], ◌∷◌, ◌∙◌, ap, subst, sym}
+use Rattle.std.proofs.Common.{List, ℕ, [], ◌∷◌, ◌∙◌, ap, subst, sym}
 use Rattle.pic_io.specs.Sink.{Appended, AppendedFront}
 use Rattle.pic_io.specs.Sinks.{sinks, CutAt, Writes, WritesLine}
 use Rattle.pic_io.specs.declared.side.Side.TheVariants.{Out}

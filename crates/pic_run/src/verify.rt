@@ -1,0 +1,41 @@
+//! The command `verify`: whether a dump is of the format and meets Gauss's law.
+
+ghost use Rattle.std.specs.Prelude.{Ok};
+ghost use Rattle.pic_io.specs.Told.{Told};
+ghost use Rattle.pic_io.specs.Sinks.{sinks};
+ghost use Rattle.pic_run.specs.Outcome.{verdict_outcome};
+ghost use Rattle.pic_run.specs.Ends.{OnDump, Finishes};
+
+use crate::cut::Cut;
+use crate::early::{StageStop, end_early};
+use crate::ended::Ended;
+use crate::lines::line_of_verified;
+use crate::writing::put_out;
+use pic_io::{Sink, Source};
+use std::alloc::Global;
+
+/// Verifies the dump that the source gives: the number of its frames goes to `out`.
+pub fn verify<S: Source, O: Sink, R: Sink>(
+    alloc: Global,
+    source: &mut S,
+    out: &mut O,
+    report: &mut R,
+) -> Result<Ended, Cut>
+    ensures { OnDump (S.told source.old) (S.told source.new)
+        (sinks (O.told out.old) (R.told report.old))
+        (sinks (O.told out.new) (R.told report.new)) result }
+{
+    match pic_verify::verify(alloc, source) {
+        Ok(frames) => put_frames(out, frames),
+        Err(stop) => end_early(report, StageStop::from(stop)),
+    }
+}
+
+// The number of frames on out.
+fn put_frames<O: Sink>(out: &mut O, frames: u32) -> Result<Ended, Cut>
+    ensures { (r : Told) → Finishes (verdict_outcome (Ok frames))
+        (sinks (O.told out.old) r) (sinks (O.told out.new) r) result }
+{
+    put_out(out, line_of_verified(frames).bytes())?;
+    Ok(Ended::Verified { frames })
+}
