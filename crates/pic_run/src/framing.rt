@@ -67,7 +67,7 @@ fn write_frame<O: Sink, R: Sink>(
     match output {
         Output::Dump => match put_frame(out, step, room, energies) {
             Ok(()) => put_line(report, text),
-            Err(Failed) => Err(Side::Out),
+            Err(Failed) => Err(Side::Out), // and no line follows
         },
         Output::Lines => put_out(out, text),
     }

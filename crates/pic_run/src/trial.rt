@@ -1,0 +1,102 @@
+//! What the tests share: decks in pieces, and a call over memory.
+
+use crate::pic;
+use pic_io::{MemSink, MemSource};
+use std::alloc::Global;
+use std::process::Abort;
+use std::test::Fail;
+
+/// A text, as its pieces one after another.
+pub type Pieces<'a> = &'a [&'a [u8]];
+
+pub const GRID_2: &[u8] = b"version = 1\ngrid = { cells = [2, 2, 2], tiles = [1, 1, 1] }\n";
+
+pub const GRID_4: &[u8] = b"version = 1\ngrid = { cells = [4, 4, 4], tiles = [2, 2, 2] }\n";
+
+pub const NO_STEP: &[u8] = b"run = { steps = 0, every = 1 }\n";
+
+pub const ONE_STEP: &[u8] = b"run = { steps = 1, every = 1 }\n";
+
+/// Multipliers of light waves, and of charges whose fields act on nothing.
+pub const WAVES: &[u8] =
+    b"scale = { e_to_b = [1, 4], b_to_e = [1, 1], e_force = [1, 0], b_force = [1, 0] }\n";
+
+pub const CHARGES: &[u8] =
+    b"scale = { e_to_b = [0, 0], b_to_e = [0, 0], e_force = [1, 20], b_force = [0, 0] }\n";
+
+/// Species, but for their points.
+pub const ION: &[u8] = b"[[species]]\nname = \"ion\"\ncharge = 1\nmass = 1836\n\
+    kick = [0, 0]\nturn = [0, 0]\npoints = ";
+
+pub const ELECTRON: &[u8] = b"[[species]]\nname = \"electron\"\ncharge = -1\nmass = 1\n\
+    kick = [0, 0]\nturn = [0, 0]\npoints = ";
+
+pub const STILL: &[u8] = b"[[1024, 0, 0, 0, 0, 0]]\n";
+
+pub const MOVING: &[u8] = b"[[1024, 0, 0, 8388608, 0, 0]]\n";
+
+/// An empty grid of 2 by 2 by 2 cells, and no step.
+pub const EMPTY: Pieces<'static> = &[GRID_2, NO_STEP, WAVES];
+
+/// An ion and an electron at one point; the electron moves half a cell.
+pub const PAIR: Pieces<'static> = &[GRID_4, ONE_STEP, CHARGES, ION, STILL, ELECTRON, MOVING];
+
+/// The ion alone, with no field: its charge breaks Gauss's law.
+pub const LONE: Pieces<'static> = &[GRID_4, ONE_STEP, CHARGES, ION, STILL];
+
+/// The takes and puts of a call that fail, counted from 0; and how many bytes such a put still takes.
+#[derive(Clone, Copy)]
+pub struct Faults {
+    pub take: u64,
+    pub out: (u64, usize),
+    pub report: (u64, usize),
+}
+
+/// The number of a take or put that never comes.
+pub const NEVER: u64 = 1000000;
+
+pub const CALM: Faults = Faults {
+    take: NEVER,
+    out: (NEVER, 0),
+    report: (NEVER, 0),
+};
+
+/// A call's status, and what stands on out and on report after it.
+#[derive(Drop)]
+pub struct Left {
+    pub status: u8,
+    pub out: MemSink,
+    pub report: MemSink,
+}
+
+pub fn call(alloc: Global, words: &[&str], held: Pieces<'_>, faults: Faults) -> Result<Left, Fail> {
+    let mut all = Vec::new(alloc);
+    for word in words {
+        all.push(word.to_string(alloc)?)?;
+    }
+    let held = joined(alloc, held)?;
+    let mut source = MemSource::new(held, 100, Vec::from_slice(alloc, &[faults.take])?);
+    let mut out = MemSink::new(alloc, 13000, Vec::from_slice(alloc, &[faults.out])?)?;
+    let mut report = MemSink::new(alloc, 1000, Vec::from_slice(alloc, &[faults.report])?)?;
+    let ended = pic(alloc, &all, &mut source, &mut out, &mut report);
+    Ok(Left {
+        status: ended.status(),
+        out,
+        report,
+    })
+}
+
+/// The status of a call, and what stands on out and on report after it.
+pub fn check(rt: &impl Abort, left: &Left, status: u8, out: &[u8], report: &[u8]) {
+    assert_eq!(rt; left.status, status);
+    assert_eq!(rt; left.report.bytes(), report);
+    assert_eq!(rt; left.out.bytes(), out);
+}
+
+fn joined(alloc: Global, pieces: Pieces<'_>) -> Result<Vec<u8>, Fail> {
+    let mut whole = Vec::new(alloc);
+    for piece in pieces {
+        whole.extend_from_slice(piece)?;
+    }
+    Ok(whole)
+}
