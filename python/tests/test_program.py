@@ -1,0 +1,125 @@
+"""The built program: its words, its demonstration, and dumps that it verifies. Skipped where it isn't built (./pic builds it)."""
+
+import subprocess
+import unittest
+from pathlib import Path
+
+from compare import Model
+
+HOME = Path(__file__).parents[2]
+PROGRAM = HOME / "crates" / "pic_prog" / "out" / "pic_prog"
+USAGE = b"usage: pic [check | run [--workers N] | verify | demo SEED [--workers N]]\n"
+
+# The demonstration's deck, with SEED in two places.
+DEMONSTRATION = """
+version = 1
+[grid]
+cells = [16, 16, 16]
+tiles = [4, 4, 4]
+[run]
+steps = 16
+every = 4
+[scale]
+e_to_b = [1, 4]
+b_to_e = [1, 1]
+e_force = [1, 30]
+b_force = [1, 30]
+[[species]]
+name = "electron"
+charge = -1
+mass = 1
+kick = [-1, 2]
+turn = [-1, 0]
+random = { count = 8192, seed = SEED, stream = 54, drift = [0, 0, 0], spread = [1048576, 1048576, 1048576] }
+[[species]]
+name = "ion"
+charge = 1
+mass = 1836
+kick = [1, 10]
+turn = [1, 10]
+pair = { of = "electron", seed = SEED, stream = 55, drift = [0, 0, 0], spread = [16384, 16384, 16384] }
+"""
+
+
+def call(*words, given: bytes = b"") -> tuple[int, bytes, bytes]:
+    """Exit status, standard output and standard error of the program."""
+    done = subprocess.run([PROGRAM, *words], input=given, capture_output=True, timeout=120)
+    return done.returncode, done.stdout, done.stderr
+
+
+def changed(dump: bytes, place: int, new: bytes) -> bytes:
+    return dump[:place] + new + dump[place + len(new):]
+
+
+@unittest.skipUnless(PROGRAM.exists(), "the program isn't built")
+class Program(unittest.TestCase):
+    @classmethod
+    def setUpClass(cls):
+        cls.deck = (HOME / "decks" / "two_charges.toml").read_bytes()
+        cls.dump = call("run", given=cls.deck)[1]
+        assert len(cls.dump) == 12680
+
+    def test_words(self):
+        for words in (["go"], ["demo"], ["help"], ["--help"], ["run", "--workers", "0"], ["run", "--workers", "65"],
+                      ["verify", "x"], ["demo", "4294967296"], ["demo", "7", "--workers", "0"], [b"\xff"]):
+            with self.subTest(words=words):
+                self.assertEqual(call(*words, given=self.deck), (2, b"", USAGE))
+        for words in ([], ["check"], ["--"]):
+            with self.subTest(words=words):
+                self.assertEqual(call(*words, given=self.deck), (0, b"ok 2 particles\n", b""))
+        whole = call("run", given=self.deck)
+        for words in (["--workers", "64"], ["--workers=3"], ["--workers", "+3"], ["--workers", "003"], ["--"]):
+            with self.subTest(words=words):
+                self.assertEqual(call("run", *words, given=self.deck), whole)
+
+    def test_demonstration(self):
+        first = call("demo", "7")
+        self.assertIn(first[0], (0, 1))
+        self.assertEqual(first[2], b"")
+        for words in (["7"], ["--", "7"], ["+7"], ["007"], ["7", "--workers", "64"], ["--workers=3", "7"]):
+            with self.subTest(words=words):
+                self.assertEqual(call("demo", *words, given=b"no deck"), first)
+        text = DEMONSTRATION.replace("SEED", "7")
+        self.assertEqual(call("run", given=text.encode())[2], first[1])
+        self.assertNotEqual(call("demo", "8"), first)
+
+    def test_demonstration_against_the_model(self):
+        model = Model(DEMONSTRATION.replace("SEED", "4294967295"))
+        model.steps = 1
+        model.every = 1
+        status, _, report = model.run()
+        text = DEMONSTRATION.replace("SEED", "4294967295").replace("steps = 16", "steps = 1").replace("every = 4", "every = 1")
+        self.assertEqual(call("run", given=text.encode())[::2], (status, report))
+        self.assertEqual(call("demo", "4294967295")[1].splitlines()[0], report.splitlines()[0])
+
+    def test_dumps(self):
+        good, header, frame = self.dump, 64 + 2 * 60, 53 + 96 * 64 + 24 * 2
+        ion = header + frame + 5 + 96 * 64
+        for name, dump, answer in (
+            ("whole", good, (0, b"verified 2 frames\n", b"")),
+            ("cut", good[:-1], (7, b"", b"bad dump 12679 9\n")),
+            ("longer", good + b"\0", (7, b"", b"bad dump 12680 10\n")),
+            ("empty", b"", (7, b"", b"bad dump 0 9\n")),
+            ("first byte", changed(good, 0, b"\0"), (7, b"", b"bad dump 0 1\n")),
+            ("a place", changed(good, ion + 24, (3073).to_bytes(4, "big")),
+             (8, b"", b"broken frame 1 node 0 0 0 div 412316860416 rho 412518187008\n")),
+            ("a field", changed(good, 204, b"\1"), (8, b"", b"broken frame 0 node 0 0 0 div 1 rho 0\n")),
+        ):
+            with self.subTest(name):
+                self.assertEqual(call("verify", given=dump), answer)
+
+    def test_every_cut(self):
+        for length in [*range(0, 400), *range(400, len(self.dump), 97)]:
+            status, out, report = call("verify", given=self.dump[:length])
+            self.assertEqual((status, out, report), (7, b"", b"bad dump %d 9\n" % length))
+
+    def test_dumps_of_the_decks(self):
+        for path in sorted((HOME / "decks").glob("*.toml")):
+            with self.subTest(path.name):
+                status, dump, report = call("run", given=path.read_bytes())
+                frames = sum(line.startswith(b"frame ") for line in report.splitlines())
+                self.assertEqual(call("verify", given=dump), (0, b"verified %d frames\n" % frames, b""))
+
+
+if __name__ == "__main__":
+    unittest.main()
