@@ -8,15 +8,15 @@ use Rattle.std.proofs.lemmas.List.{get_or-map, length-map}
 use Rattle.std.proofs.lemmas.List.Elements.{All-from_get_or, All-get_or}
 use Rattle.std.proofs.Math.Nat.{le_trans}
 use Rattle.pic_num.specs.declared.axis.Axis.{Axis}
-use Rattle.pic_num.specs.declared.motion.Kind.{Kind}
 use Rattle.pic_num.specs.declared.motion.Particle.{Particle}
 use Rattle.pic_num.specs.Multiplier.{Multiplier}
 use Rattle.pic_num.specs.Push.{unless}
 use Rattle.pic_num.specs.Sizes.{IsAtMost}
-use Rattle.pic_num.specs.Space.{Triple, spot}
+use Rattle.pic_num.specs.Limits.{side_1}
+use Rattle.pic_num.specs.Space.{Triple, Spot, spot, along}
 use Rattle.pic_num.specs.Velocity.{IsKeptVelocity}
 use Rattle.pic_grid.specs.declared.snapshot.Snapshot.{Snapshot}
-use Rattle.pic_grid.specs.Lattice.{value_at, field_of}
+use Rattle.pic_grid.specs.Lattice.{Field, value_at, field_of}
 use Rattle.pic_grid.specs.Cells.{IsWithin}
 use Rattle.pic_grid.specs.PushPhase.{no_kind, moved_all, CanShare}
 use Rattle.pic_grid.specs.Species.{IsKind, AreHeads, no_head}
@@ -28,7 +28,7 @@ use Rattle.pic_energy.specs.declared.amounts.Energies.{Energies}
 use Rattle.pic_dump.specs.DumpText.{frame_bytes}
 use Rattle.pic_deck.specs.declared.species.Species.{Species}
 use Rattle.pic_deck.specs.Deck.{DeckView, IsWithinLimits, heads_of, initial_e, initial_b}
-use Rattle.pic_deck.specs.Species.{head_of, no_species}
+use Rattle.pic_deck.specs.Species.{head_of, no_species, fastest}
 use Rattle.pic_deck.specs.Initial.{IsMild}
 use Rattle.pic_load.specs.Loading.{IsLoaded, AreLoaded}
 use Rattle.pic_step.specs.SerialStep.{World, step_on, stop_of, stepped}
@@ -45,11 +45,12 @@ unfolding break_of
 gauss_of w none = meets_gauss w.side w.cells w.kinds w.particles w.e (charge_of w.side w.cells w.kinds w.particles) (λ p within. refl) none
 
 -- a mild field is safe
-safe_of : (n : Triple) (by : Multiplier) (g : Axis → Triple → ℤ) → IsMild n by g → IsSafe n by (field_of n one_part g)
-safe_of n by g mild = record {
+safe_of : (side : ℕ) (n : Triple) (by : Multiplier) (g : Axis → Triple → ℤ) → IsMild n by g → IsSafe side n by (field_of side n one_part g)
+safe_of side n by g mild = record {
   cells = refl;
+  side_is = refl;
   parts = refl;
-  bounded = λ a p within. subst (IsBounded by) (sym (value_at-field_of n one_part g a p within))
+  bounded = λ a p within. subst (IsBounded by) (sym (value_at-field_of side n one_part g a p within))
       (let small = mild.values a p within in record { value = record { size = le_trans small.size (lit≤ tt) }; force = mild.forces a p within });
 }
 
@@ -64,13 +65,12 @@ kind_at d heads i below =
     let of_kind = get_or-map (λ (s : Species). s.kind) d.species i no_species no_kind inside in
     subst IsKind (ap (λ t. t.kind) of_head ∙ sym of_kind) h
 
-pub kinds_are : (d : DeckView) → AreHeads (heads_of d) → (i : ℕ) (k : Kind) → i < length (kinds_of d) → IsKind (get_or (kinds_of d) i k)
-kinds_are d heads i k below =
-    All-get_or IsKind (kinds_of d) i k below (All-from_get_or IsKind (kinds_of d) no_kind (kind_at d heads))
+pub kinds_are : (d : DeckView) → AreHeads (heads_of d) → All IsKind (kinds_of d)
+kinds_are d heads = All-from_get_or IsKind (kinds_of d) no_kind (kind_at d heads)
 
 -- each particle of the deck has a share
 share_at : (d : DeckView) (particles : List Particle) → AreLoaded d particles → (i : ℕ) (x : Particle) → i < length particles
-    → CanShare 4096 d.cells (kinds_of d) (get_or particles i x)
+    → CanShare d.side d.cells (kinds_of d) (get_or particles i x)
 share_at d particles loaded i x below =
     let h = All-get_or (IsLoaded d) particles i x below loaded.each in
     record {
@@ -78,46 +78,49 @@ share_at d particles loaded i x below =
       place = h.place;
     }
 
-pub shares_are : (d : DeckView) (particles : List Particle) → AreLoaded d particles
-    → (i : ℕ) (x : Particle) → i < length particles → CanShare 4096 d.cells (kinds_of d) (get_or particles i x)
+pub shares_are : (d : DeckView) (particles : List Particle) → AreLoaded d particles → All (CanShare d.side d.cells (kinds_of d)) particles
 shares_are d particles loaded = share_at d particles loaded
 
 -- and a velocity that a push could have left
-speeds_are : (d : DeckView) (particles : List Particle) → AreLoaded d particles
-    → All (λ particle. IsKeptVelocity 4096 (spot particle.v)) particles
-speeds_are d particles loaded i x below =
+kept_at : (side : ℕ) (v : Spot) → side ≡ side_1 → ((a : Axis) → IsAtMost (along a v) fastest) → IsKeptVelocity side v
+kept_at side v is speed = record {
+  least = λ a. let s = speed a in omega (arith, ints, s.size, is);
+  most = λ a. let s = speed a in omega (arith, ints, s.size, is);
+}
+
+speeds_are : (d : DeckView) (particles : List Particle) → d.side ≡ side_1 → AreLoaded d particles
+    → All (λ particle. IsKeptVelocity d.side (spot particle.v)) particles
+speeds_are d particles side loaded i x below =
     let h = All-get_or (IsLoaded d) particles i x below loaded.each in
-    record {
-      least = λ a. let s = h.speed a in omega (arith, ints, s.size);
-      most = λ a. let s = h.speed a in omega (arith, ints, s.size);
-    }
+    kept_at d.side (spot (get_or particles i x).v) side h.speed
 
 -- the first state of a run
 pub sound_start : (d : DeckView) (particles : List Particle) → IsWithinLimits d → AreLoaded d particles
     → break_of (start_of d particles) ≡ None → IsSound (start_of d particles)
 sound_start d particles limits loaded none = record {
-  side = refl;
+  side_least = let side = limits.settings.side in omega (arith, side);
+  side_most = let side = limits.settings.side in omega (arith, side);
   cells = limits.settings.cells;
-  e = safe_of d.cells d.scales.e_force (initial_e d) limits.e;
-  b = safe_of d.cells d.scales.b_force (initial_b d) limits.b;
+  e = safe_of d.side d.cells d.scales.e_force (initial_e d) limits.e;
+  b = safe_of d.side d.cells d.scales.b_force (initial_b d) limits.b;
   species =
       let count = length-map d.species (λ (s : Species). s.kind) in
       let same = length-map d.species head_of in
       let few = limits.heads.few in
       omega (arith, count, same, few);
   kinds = kinds_are d limits.heads;
-  few = loaded.few;
+  few = le_trans loaded.few (lit≤ tt);
   identities = loaded.identities;
   places = shares_are d particles loaded;
-  velocities = speeds_are d particles loaded;
+  velocities = speeds_are d particles limits.settings.side loaded;
   gauss = gauss_of (start_of d particles) none;
 }
 
 -- the initial E is small enough for the sums of Gauss's law
 pub initial_most : (d : DeckView) → IsWithinLimits d → (a : Axis) (p : Triple) → IsWithin p d.cells
-    → IsAtMost (value_at (field_of d.cells one_part (initial_e d)) a p) (2 ^ 90)
+    → IsAtMost (value_at (field_of d.side d.cells one_part (initial_e d)) a p) (2 ^ 90)
 initial_most d limits a p within =
-    let safe = safe_of d.cells d.scales.e_force (initial_e d) limits.e in
+    let safe = safe_of d.side d.cells d.scales.e_force (initial_e d) limits.e in
     let bounded = safe.bounded a p within in
     bounded.value
 
@@ -133,6 +136,10 @@ step_cells : (w : World) → (step_on w).cells ≡ w.cells
 unfolding step_on
 step_cells w = refl
 
+step_side : (w : World) → (step_on w).side ≡ w.side
+unfolding step_on
+step_side w = refl
+
 step_count : (w : World) → length (step_on w).particles ≡ length w.particles
 unfolding step_on moved_all
 step_count w = length-map w.particles _
@@ -142,13 +149,20 @@ pub room_kept : (to : Snapshot) (w v : World) → stepped w ≡ Ok v → HasRoom
 room_kept to w v steps room =
     let is = step_is w v steps in
     let cells = sym (step_cells w) in
+    let side = sym (step_side w) in
     subst (HasRoom to) is (record {
       e_cells = room.e_cells ∙ cells;
+      e_side = room.e_side ∙ side;
       e_parts = room.e_parts;
       b_cells = room.b_cells ∙ cells;
+      b_side = room.b_side ∙ side;
       b_parts = room.b_parts;
       count = room.count ∙ sym (step_count w);
     })
+
+-- a field as it is, with the side and the parts that it has
+pub same_field : (f : Field) (side : ℕ) (parts : Triple) → side ≡ f.side → parts ≡ f.parts → record f { side = side; parts = parts } ≡ f
+same_field f side parts sides cut = λ i. record f { side = sides i; parts = cut i }
 
 -- the frame of a state that stands in a snapshot
 pub frame_is : (step : ℕ) (to : Snapshot) (w : World) (energies : Energies) → IsFilled to w → energies ≡ energies_in w

@@ -37,6 +37,7 @@ EveryStateMeetsGauss = (w : World) → IsSound w → EachGauss w
 abbrev pub header_of : DeckView → HeaderView
 header_of d = record {
   cells = d.cells;
+  side = d.side;
   steps = d.steps;
   every = d.every;
   scales = d.scales;

@@ -4,11 +4,10 @@ use Rattle.pic_io.specs.Sinks.{sinks, CutAt, Writes, WritesLine}
 use Rattle.pic_io.specs.declared.side.Side.TheVariants.{Out}
 use Rattle.pic_io.proofs.Puts.{cut_out, line_after}
 use Rattle.pic_energy.specs.Line.{frame_line}
-use Rattle.pic_step.proofs.SoundLaws.{whole_e, whole_b}
 use Rattle.pic_run.specs.declared.output.Output.{Output}
 use Rattle.pic_run.specs.declared.output.Output.TheVariants.{Dump}
 use Rattle.pic_run.specs.Frames.{frame_piece}
-use Rattle.pic_run.proofs.StartLaws.{frame_is}
+use Rattle.pic_run.proofs.StartLaws.{same_field, frame_is}
 use Rattle.pic_run.proofs.framing.write_frame.Goals as goal
 
 pub returns-in-Ok-clause-writes : goal.returns-in-Ok-clause-writes
@@ -19,11 +18,12 @@ returns-in-Ok-clause-writes g c =
     let r = g.R.Sink.told c.args.report.now in
     let s = g.R.Sink.told c.put_line.new.report in
     let w = c.args.state.now in
+    let sound = c.fill.ensures.sound in
     let measured = c.energies_in-energies.ensures.value in
     let text = frame_is c.args.step c.fill.new.to w c.energies_in-energies.result
     (record {
-      e = c.fill.ensures.e ∙ whole_e w _ c.fill.ensures.sound c.requires.e_parts;
-      b = c.fill.ensures.b ∙ whole_b w _ c.fill.ensures.sound c.requires.b_parts;
+      e = c.fill.ensures.e ∙ same_field w.e _ _ (c.requires.e_side ∙ sym sound.e.side_is) (c.requires.e_parts ∙ sym sound.e.parts);
+      b = c.fill.ensures.b ∙ same_field w.b _ _ (c.requires.b_side ∙ sym sound.b.side_is) (c.requires.b_parts ∙ sym sound.b.parts);
       particles = c.fill.ensures.particles;
     }) measured in
     let put = subst (λ (x : List ℕ). Appended o p x) text c.in-Ok.ensures.bytes in
@@ -39,11 +39,12 @@ returns-in-Err-clause-writes g c =
     let p = g.O.Sink.told c.put_frame.new.out in
     let r = g.R.Sink.told c.args.report.now in
     let w = c.args.state.now in
+    let sound = c.fill.ensures.sound in
     let measured = c.energies_in-energies.ensures.value in
     let text = frame_is c.args.step c.fill.new.to w c.energies_in-energies.result
     (record {
-      e = c.fill.ensures.e ∙ whole_e w _ c.fill.ensures.sound c.requires.e_parts;
-      b = c.fill.ensures.b ∙ whole_b w _ c.fill.ensures.sound c.requires.b_parts;
+      e = c.fill.ensures.e ∙ same_field w.e _ _ (c.requires.e_side ∙ sym sound.e.side_is) (c.requires.e_parts ∙ sym sound.e.parts);
+      b = c.fill.ensures.b ∙ same_field w.b _ _ (c.requires.b_side ∙ sym sound.b.side_is) (c.requires.b_parts ∙ sym sound.b.parts);
       particles = c.fill.ensures.particles;
     }) measured in
     let put = subst (λ (x : List ℕ). AppendedFront o p x) text c.in-Err.ensures.bytes in

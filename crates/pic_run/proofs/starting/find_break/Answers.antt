@@ -1,19 +1,18 @@
-use Rattle.std.proofs.Common.{◌≡◌, ℕ, ◌<◌, ◌^◌, List, length, get_or, sym, ap, ◌∙◌, subst}
+use Rattle.std.proofs.Common.{◌≡◌, ◌^◌, List, sym, ap, ◌∙◌, subst}
+use Rattle.std.specs.Prelude.{All}
 use Rattle.pic_num.specs.declared.motion.Kind.{Kind}
-use Rattle.pic_num.specs.declared.motion.Particle.{Particle}
 use Rattle.pic_num.specs.Sizes.{IsAtMost}
-use Rattle.pic_num.specs.Space.{Triple}
+use Rattle.pic_grid.specs.Cells.{Grid, IsWithin}
 use Rattle.pic_grid.specs.Differences.{div_e}
 use Rattle.pic_grid.specs.Lattice.{Field, value_at, field_of, node_at}
-use Rattle.pic_grid.specs.Cells.{IsWithin}
+use Rattle.pic_grid.specs.Parts.{one_part}
 use Rattle.pic_grid.specs.Species.{IsKind}
 use Rattle.pic_grid.specs.PushPhase.{CanShare}
 use Rattle.pic_charge.specs.Charge.{charge_of}
 use Rattle.pic_charge.specs.Gauss.{first_break}
 use Rattle.pic_charge.proofs.BreakLaws.{first_break-charge}
 use Rattle.pic_charge.proofs.ChargeLaws.{all_charged}
-use Rattle.pic_deck.specs.Deck.{initial_e}
-use Rattle.pic_grid.specs.Parts.{one_part}
+use Rattle.pic_deck.specs.Deck.{deck_grid, initial_e}
 use Rattle.pic_step.specs.SerialRun.{kinds_of}
 use Rattle.pic_run.specs.Starting.{break_of}
 use Rattle.pic_run.proofs.StartLaws.{kinds_are, shares_are, initial_most, sound_start}
@@ -23,44 +22,45 @@ pub charge-requires-clause-limits : goal.charge-requires-clause-limits
 charge-requires-clause-limits c =
     let d = c.args.deck.now in
     let kinds : c.deref.result.now ≡ kinds_of d = c.deref.ensures.value ∙ c.in_ok-kinds.ensures in
-    all_charged c.deref.result.now
-    (subst (λ (ks : List Kind). (i : ℕ) (k : Kind) → i < length ks → IsKind (get_or ks i k)) (sym kinds) (kinds_are d c.cells-cells.ensures.limits.heads))
+    all_charged c.deref.result.now (subst (λ (ks : List Kind). All IsKind ks) (sym kinds) (kinds_are d c.cells-cells.ensures.limits.heads))
 
 pub charge-requires-clause-placed : goal.charge-requires-clause-placed
 charge-requires-clause-placed c =
     let d = c.args.deck.now in
+    let ps = c.args.particles.now in
     let kinds : c.deref.result.now ≡ kinds_of d = c.deref.ensures.value ∙ c.in_ok-kinds.ensures in
-    let cells = c.cells-cells.ensures.value in
-    subst (λ (ks : List Kind). (i : ℕ) (x : Particle) → i < length c.args.particles.now
-    → CanShare 4096 c.cells-cells.result ks (get_or c.args.particles.now i x)) (sym kinds)
-    (subst (λ (n : Triple). (i : ℕ) (x : Particle) → i < length c.args.particles.now
-    → CanShare 4096 n (kinds_of d) (get_or c.args.particles.now i x)) (sym cells)
-    (shares_are d c.args.particles.now c.requires))
+    let cells : c.cells-cells.result ≡ deck_grid d = c.cells-cells.ensures.value in
+    subst (λ (ks : List Kind). All (CanShare c.cells-cells.result.side c.cells-cells.result.n ks) ps) (sym kinds)
+    (subst (λ (g : Grid). All (CanShare g.side g.n (kinds_of d)) ps) (sym cells) (shares_are d ps c.requires))
 
 pub gauss-requires-clause-e_most : goal.gauss-requires-clause-e_most
 gauss-requires-clause-e_most c =
     let d = c.args.deck.now in
-    let cells = c.cells-cells.ensures.value in
+    let cells : c.cells-cells.result ≡ deck_grid d = c.cells-cells.ensures.value in
+    let side = ap (λ (f : Field). f.side) c.in_ok-e.ensures ∙ ap (λ (g : Grid). g.side) cells in
     let parts = ap (λ (f : Field). f.parts) c.in_ok-e.ensures in
-    let e : c.initial.new.e ≡ field_of d.cells one_part (initial_e d) = c.initial.ensures.e ∙ ap (λ (p : Triple). field_of d.cells p (initial_e d)) parts in
+    let e : c.initial.new.e ≡ field_of d.side d.cells one_part (initial_e d) =
+    c.initial.ensures.e ∙ (λ i. field_of (side i) d.cells (parts i) (initial_e d)) in
     λ a p within. subst (λ (f : Field). IsAtMost (value_at f a p) (2 ^ 90)) (sym e)
-    (initial_most d c.cells-cells.ensures.limits a p (subst (IsWithin p) cells within))
+    (initial_most d c.cells-cells.ensures.limits a p (subst (λ (g : Grid). IsWithin p g.n) cells within))
 
 pub returns-clause-value : goal.returns-clause-value
 unfolding break_of
 returns-clause-value c =
     let d = c.args.deck.now in
     let ps = c.args.particles.now in
-    let cells : c.cells-cells.result ≡ d.cells = c.cells-cells.ensures.value in
+    let cells : c.cells-cells.result ≡ deck_grid d = c.cells-cells.ensures.value in
     let kinds : c.deref.result.now ≡ kinds_of d = c.deref.ensures.value ∙ c.in_ok-kinds.ensures in
+    let side = ap (λ (f : Field). f.side) c.in_ok-e.ensures ∙ ap (λ (g : Grid). g.side) cells in
     let parts = ap (λ (f : Field). f.parts) c.in_ok-e.ensures in
-    let e : c.initial.new.e ≡ field_of d.cells one_part (initial_e d) = c.initial.ensures.e ∙ ap (λ (p : Triple). field_of d.cells p (initial_e d)) parts in
-    let n = c.cells-cells.result in
-    let charged : first_break n (div_e n (value_at c.initial.new.e)) (node_at c.charge.new.to) ≡ first_break n (div_e n (value_at c.initial.new.e))
-    (charge_of 4096 n c.deref.result.now ps) =
-    first_break-charge 4096 n c.deref.result.now ps (div_e n (value_at c.initial.new.e)) (node_at c.charge.new.to) c.charge.ensures.values in
+    let e : c.initial.new.e ≡ field_of d.side d.cells one_part (initial_e d) =
+    c.initial.ensures.e ∙ (λ i. field_of (side i) d.cells (parts i) (initial_e d)) in
+    let g = c.cells-cells.result in
+    let charged : first_break g.n (div_e g.n (value_at c.initial.new.e)) (node_at c.charge.new.to)
+    ≡ first_break g.n (div_e g.n (value_at c.initial.new.e)) (charge_of g.side g.n c.deref.result.now ps) =
+    first_break-charge g.side g.n c.deref.result.now ps (div_e g.n (value_at c.initial.new.e)) (node_at c.charge.new.to) c.charge.ensures.values in
     c.gauss.ensures.value ∙ charged
-    ∙ (λ i. first_break (cells i) (div_e (cells i) (value_at (e i))) (charge_of 4096 (cells i) (kinds i) ps))
+    ∙ (λ i. first_break (cells i).n (div_e (cells i).n (value_at (e i))) (charge_of (cells i).side (cells i).n (kinds i) ps))
 
 pub returns-clause-sound : goal.returns-clause-sound
 returns-clause-sound c none =
