@@ -1,5 +1,5 @@
 -- How large the flux of a push can be at an edge.
-use Rattle.std.proofs.Common.{◌≡◌, ℕ, ◌*◌, ◌^◌, ◌<◌, ◌≤◌, List, length, take, Result, Ok, Err, refl, sym, subst, arith}
+use Rattle.std.proofs.Common.{◌≡◌, ℕ, ◌*◌, ◌<◌, ◌≤◌, List, length, take, Result, Ok, Err, refl, sym, subst, arith}
 use Rattle.std.proofs.Math.IntN.{ℤ}
 use Rattle.std.specs.Prelude.{unsigned_abs, All}
 use Rattle.std.proofs.Math.Nat.{min-le_right}

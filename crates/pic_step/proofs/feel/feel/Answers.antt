@@ -1,7 +1,7 @@
-use Rattle.std.proofs.Common.{◌≡◌, ap, ◌∙◌, subst}
+use Rattle.std.proofs.Common.{◌≡◌, ◌∙◌, subst}
 use Rattle.std.proofs.lemmas.List.{get_or_read}
 use Rattle.pic_num.specs.Push.{Shift, Halting, pushed}
-use Rattle.pic_num.specs.Space.{Triple, triple, spot}
+use Rattle.pic_num.specs.Space.{triple, spot}
 use Rattle.std.specs.Prelude.{Result}
 use Rattle.pic_grid.specs.Lattice.{value_at}
 use Rattle.pic_grid.specs.Gather.{gathered_b}
