@@ -1,5 +1,5 @@
 -- Values one after another, each by those before it.
-use Rattle.std.proofs.Common.{◌≡◌, ℕ, zero, suc, ◌+◌, ◌<◌, List, [], ◌∷◌, ◌++◌, Result, Err, IsErrAnd, sym, subst, arith, add-one, inl, inr}
+use Rattle.std.proofs.Common.{◌≡◌, ℕ, zero, suc, ◌+◌, ◌<◌, ◌≤◌, List, [], ◌∷◌, ◌++◌, Result, Err, IsErrAnd, sym, subst, arith, add-one, inl, inr}
 use Rattle.std.proofs.lemmas.Bool.{cases_eq}
 use Rattle.std.proofs.lemmas.Result.{err_from_is_err_and}
 use Rattle.pic_io.specs.Told.{Told}
@@ -20,27 +20,27 @@ read_more n f {s = s} {e = e} {x = x} {z = z} {xs = xs} {a = a} first second =
     subst (λ m. HasRead (each m f) s x (xs ++ a ∷ []) e z) (sym (add-one n))
     (read_then (λ ys. f ys >>= (λ b. done (ys ++ b ∷ []))) first (read_then (λ b. done (xs ++ b ∷ [])) second (read_done (xs ++ a ∷ []) e z)))
 
-stops_next : {A : Type 0} (n : ℕ) (f : List A → Parser A) {s m : ℕ} {x y z : Told} {xs : List A} {stop : ReadStop}
-    → HasRead (each n f) s x xs m y → Stops (f xs) m y z stop → Stops (each (suc n) f) s x z stop
+stops_next : {A : Type 0} (n : ℕ) (f : List A → Parser A) {s m e d : ℕ} {x y z : Told} {xs : List A} {stop : ReadStop}
+    → e ≤ d → HasRead (each n f) s x xs m y → Stops (f xs) m e y z stop → Stops (each (suc n) f) s d x z stop
 unfolding each
-stops_next n f {xs = xs} first second =
-    stops_then (λ ys. f ys >>= (λ b. done (ys ++ b ∷ []))) first (stops_first (λ b. done (xs ++ b ∷ [])) second)
+stops_next n f {xs = xs} less first second =
+    stops_then (λ ys. f ys >>= (λ b. done (ys ++ b ∷ []))) first (stops_first (λ b. done (xs ++ b ∷ [])) less second)
 
-stops_later : {A : Type 0} (n : ℕ) (f : List A → Parser A) {s : ℕ} {x z : Told} {stop : ReadStop} → Stops (each n f) s x z stop → Stops (each (suc n) f) s x z stop
+stops_later : {A : Type 0} (n : ℕ) (f : List A → Parser A) {s e : ℕ} {x z : Told} {stop : ReadStop} → Stops (each n f) s e x z stop → Stops (each (suc n) f) s e x z stop
 unfolding each
-stops_later n f first = stops_first (λ ys. f ys >>= (λ b. done (ys ++ b ∷ []))) first
+stops_later n f first = stops_first (λ ys. f ys >>= (λ b. done (ys ++ b ∷ []))) (omega arith) first
 
 -- where one of the values can't be had, they can't
-pub stops_among : {A : Type 0} (n i : ℕ) (f : List A → Parser A) {s m : ℕ} {x y z : Told} {xs : List A} {stop : ReadStop}
-    → i < n → HasRead (each i f) s x xs m y → Stops (f xs) m y z stop → Stops (each n f) s x z stop
-stops_among zero i f below first second = elim below [ ]
-stops_among (suc n) i f {s = s} {m = m} {x = x} {y = y} {xs = xs} below first second = elim (cases_eq i n) [
-  | inl same ↦ stops_next n f (subst (λ k. HasRead (each k f) s x xs m y) same first) second
-  | inr other ↦ stops_later n f (stops_among n i f (omega (arith, below, other)) first second)
+pub stops_among : {A : Type 0} (n i : ℕ) (f : List A → Parser A) {s m e d : ℕ} {x y z : Told} {xs : List A} {stop : ReadStop}
+    → i < n → e ≤ d → HasRead (each i f) s x xs m y → Stops (f xs) m e y z stop → Stops (each n f) s d x z stop
+stops_among zero i f below less first second = elim below [ ]
+stops_among (suc n) i f {s = s} {m = m} {x = x} {y = y} {xs = xs} below less first second = elim (cases_eq i n) [
+  | inl same ↦ stops_next n f less (subst (λ k. HasRead (each k f) s x xs m y) same first) second
+  | inr other ↦ stops_later n f (stops_among n i f (omega (arith, below, other)) less first second)
 ]
 
 pub exits_among : {A C D : Type 0} (n i : ℕ) (f : List A → Parser A) {view : C → A} {other : D → List A} {s m e d : ℕ} {x y z : Told} {xs : List A} {stop : ReadStop} {r : Result D ReadStop}
-    → IsErrAnd r (λ u. u ≡ stop) → i < n → HasRead (each i f) s x xs m y → Reads view (f xs) m e y z (Err stop) → Reads other (each n f) s d x z r
-exits_among n i f {stop = stop} {r = r} is below first second =
+    → IsErrAnd r (λ u. u ≡ stop) → i < n → e ≤ d → HasRead (each i f) s x xs m y → Reads view (f xs) m e y z (Err stop) → Reads other (each n f) s d x z r
+exits_among n i f {stop = stop} {r = r} is below less first second =
     let q = err_from_is_err_and r is in
-    rw (q.1, q.2) (record { answer = stops_among n i f below first second.answer })
+    rw (q.1, q.2) (record { answer = stops_among n i f below less first second.answer })

@@ -20,18 +20,18 @@ finished_as : {A : Type 0} (a : A) (i : Input) → finished a i ≡ swap a (fini
 unfolding finished
 finished_as a i = ended_as a i.place i.bytes
 
-pub ends_with : {A : Type 0} (a : A) {s : ℕ} {x z : Told} → HasEnded (finished (tt {0})) s x (tt {0}) z → HasEnded (finished a) s x a z
-ends_with a e = record { calm = e.calm; end = e.end; held = e.held; was = e.was; stop = e.stop; reads = finished_as a _ ∙ ap (swap a) e.reads }
+pub ends_with : {A : Type 0} (a : A) {s e : ℕ} {x z : Told} → HasEnded (finished (tt {0})) s e x (tt {0}) z → HasEnded (finished a) s e x a z
+ends_with a h = record { calm = h.calm; moves = h.moves; end = h.end; held = h.held; was = h.was; stop = h.stop; reads = finished_as a _ ∙ ap (swap a) h.reads }
 
 fails_with : {A : Type 0} (a : A) {s : ℕ} {x z : Told} {f : Fault} → Fails (finished (tt {0})) s x f z → Fails (finished a) s x f z
 fails_with a e = record { calm = e.calm; held = e.held; was = e.was; fails = finished_as a _ ∙ ap (swap a) e.fails }
 
-stops_with : {A : Type 0} (a : A) {s : ℕ} {x z : Told} {stop : ReadStop} → Stops (finished (tt {0})) s x z stop → Stops (finished a) s x z stop
-stops_with a {stop = ReadFault} e = record { why = e.why }
-stops_with a {stop = BadDump place cause} e = record { why = fails_with a e.why }
+stops_with : {A : Type 0} (a : A) {s e : ℕ} {x z : Told} {stop : ReadStop} → Stops (finished (tt {0})) s e x z stop → Stops (finished a) s e x z stop
+stops_with a {stop = ReadFault} h = record { why = h.why; moves = h.moves }
+stops_with a {stop = BadDump place cause} h = record { why = fails_with a h.why; moves = h.moves }
 
-pub exits_at_end : {A D : Type 0} (a : A) {other : D → A} {s : ℕ} {x z : Told} {stop : ReadStop} {r : Result D ReadStop}
-    → IsErrAnd r (λ y. y ≡ stop) → ReadsEnd as_it_is (finished (tt {0})) s x z (Err stop) → ReadsEnd other (finished a) s x z r
-exits_at_end a {stop = stop} {r = r} is e =
+pub exits_at_end : {A D : Type 0} (a : A) {other : D → A} {s e : ℕ} {x z : Told} {stop : ReadStop} {r : Result D ReadStop}
+    → IsErrAnd r (λ y. y ≡ stop) → ReadsEnd as_it_is (finished (tt {0})) s e x z (Err stop) → ReadsEnd other (finished a) s e x z r
+exits_at_end a {stop = stop} {r = r} is h =
     let q = err_from_is_err_and r is in
-    rw (q.1, q.2) (record { answer = stops_with a e.answer })
+    rw (q.1, q.2) (record { answer = stops_with a h.answer })

@@ -7,8 +7,8 @@ use Rattle.std.proofs.lemmas.List.{take_all, length-take-le}
 use Rattle.pic_io.specs.Told.{Told}
 use Rattle.pic_io.specs.Source.{with_front, IsAtEnd}
 use Rattle.pic_fields.specs.Parser.{input, fault, field, cut_short, too_many, finished}
-use Rattle.pic_fields.specs.Reads.{Left, HasRead, Fails, HasEnded}
-use Rattle.pic_fields.specs.Fills.{Filled}
+use Rattle.pic_fields.specs.Reads.{Left, Moves, HasRead, Fails, HasEnded}
+use Rattle.pic_fields.specs.Fills.{Filled, Breaks}
 use Rattle.pic_fields.proofs.ReadLaws.{some_rest}
 
 -- what was left before some bytes were taken
@@ -29,6 +29,16 @@ field_cut : (place : ℕ) (bytes : List ℕ) (n : ℕ) → length bytes < n → 
 unfolding field
 field_cut place bytes n short = rw (lt-ltb (length bytes) n short) refl
 
+-- what filling a room took
+pub filled_moves : (before now : Told) (room : List ℕ) (n place count : ℕ) → length room ≡ n → Filled before now room count → Moves place (place + n) before now
+filled_moves before now room n place count is filled =
+    let most = filled.most in
+    let size = length-take-le count room most in
+    record { front = take count room; moved = filled.taken; most = omega (arith, size, most, is) }
+
+pub broken_moves : (before now : Told) (room : List ℕ) (n place : ℕ) → length room ≡ n → Breaks before now room → Moves place (place + n) before now
+broken_moves before now room n place is breaks = let most = breaks.most in record { front = breaks.front; moved = breaks.moved; most = omega (arith, most, is) }
+
 pub read_field : (before now : Told) (room : List ℕ) (n place count : ℕ) → length room ≡ n → Filled before now room count → n ≤ count
     → HasRead (field n) place before room (place + n) now
 read_field before now room n place count is filled all =
@@ -36,6 +46,7 @@ read_field before now room n place count is filled all =
     let taken = filled.taken ∙ ap (λ l. with_front l now.bytes) whole in
     subst (λ m. HasRead (field m) place before room (place + m) now) is (record {
       calm = filled.calm;
+      moves = filled_moves before now room (length room) place count refl filled;
       reads = λ rest left. (room ++ rest, left_before before.bytes now.bytes room rest taken left, field_is place room rest);
     })
 
@@ -62,13 +73,14 @@ fails_field before now room n place count is filled short =
     }
 
 pub ends_here : (before now : Told) (room : List ℕ) (place count : ℕ) → length room ≡ 1 → Filled before now room count → count ≡ 0
-    → HasEnded (finished (tt {0})) place before (tt {0}) now
+    → HasEnded (finished (tt {0})) place (place + 1) before (tt {0}) now
 unfolding finished
 ends_here before now room place count is filled none =
     let end = filled.end (omega (arith, is, none)) in
     let nothing : take count room ≡ [] = rw none refl in
     record {
       calm = filled.calm;
+      moves = filled_moves before now room 1 place count is filled;
       end = end;
       held = [];
       was = all_taken before now [] (filled.taken ∙ ap (λ l. with_front l now.bytes) nothing) end;

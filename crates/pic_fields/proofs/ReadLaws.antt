@@ -1,10 +1,12 @@
 -- What calls gave one after another, held against the format that they read.
-use Rattle.std.proofs.Common.{◌≡◌, ℕ, ◌≤◌, Bool, true, false, List, [], Option, Some, None, Result, Ok, Err, IsErrAnd, refl, ap, subst, ◌∙◌}
+use Rattle.std.proofs.Common.{◌≡◌, ℕ, ◌≤◌, Bool, true, false, List, [], ◌++◌, Option, Some, None, Result, Ok, Err, IsErrAnd, refl, ap, subst, ◌∙◌, arith, length-append}
 use Rattle.std.proofs.lemmas.Result.{err_from_is_err_and}
 use Rattle.std.specs.Prelude.{option_map}
 use Rattle.pic_io.specs.Told.{Told, Rose, Calm, raised}
+use Rattle.pic_io.specs.Source.{with_front}
+use Rattle.pic_io.proofs.Takes.{given_twice}
 use Rattle.pic_fields.specs.Parser.{Input, input, Fault, fault, Parser, done, after, ◌>>=◌, mapped, tested, checked}
-use Rattle.pic_fields.specs.Reads.{Left, HasRead, Fails, HasEnded, Stops, Reads, ReadsEnd}
+use Rattle.pic_fields.specs.Reads.{Left, Moves, HasRead, Fails, HasEnded, Stops, Reads, ReadsEnd}
 use Rattle.pic_fields.specs.declared.read_stop.ReadStop.{ReadStop}
 use Rattle.pic_fields.specs.declared.read_stop.ReadStop.TheVariants.{ReadFault, BadDump}
 
@@ -28,11 +30,31 @@ some_rest t = rest_in t.bytes
 rose_after : (x y z : Told) → Calm x y → Rose y z → Rose x z
 rose_after x y z calm rose = subst (λ n. raised n ≤ z.faults) calm rose
 
+-- what was taken by two calls, one after the other
+pub moves_then : {s m e : ℕ} {x y z : Told} → Moves s m x y → Moves m e y z → Moves s e x z
+moves_then {x = x} {y = y} {z = z} first second =
+    let size = length-append first.front second.front in
+    let one = first.most in
+    let two = second.most in
+    record { front = first.front ++ second.front; moved = given_twice x y z first.front second.front first.moved second.moved; most = omega (arith, size, one, two) }
+
+same_front : (known : Option (List ℕ)) → known ≡ with_front [] known
+same_front None = refl
+same_front (Some bytes) = refl
+
+-- nothing was taken
+pub moves_none : (s : ℕ) (x : Told) → Moves s s x x
+moves_none s x = record { front = []; moved = same_front x.bytes; most = omega arith }
+
+pub moves_up : {s e d : ℕ} {x z : Told} → e ≤ d → Moves s e x z → Moves s d x z
+moves_up less first = let most = first.most in record { front = first.front; moved = first.moved; most = omega (arith, most, less) }
+
 -- a value, and then another
 pub read_then : {A B : Type 0} {p : Parser A} (f : A → Parser B) {s m e : ℕ} {x y z : Told} {a : A} {b : B}
     → HasRead p s x a m y → HasRead (f a) m y b e z → HasRead (p >>= f) s x b e z
 read_then f first second = record {
   calm = second.calm ∙ first.calm;
+  moves = moves_then first.moves second.moves;
   reads = λ rest left. (let (h2, left2, e2) = second.reads rest left in
       let (h1, left1, e1) = first.reads h2 left2 in
       (h1, left1, then_ok _ f _ _ _ e1 ∙ e2));
@@ -50,21 +72,21 @@ fails_then f first second =
     record { calm = second.calm ∙ first.calm; held = held; was = was; fails = then_ok _ f _ _ _ e1 ∙ second.fails }
 
 -- a value, and then the last one
-pub ends_then : {A B : Type 0} {p : Parser A} (f : A → Parser B) {s m : ℕ} {x y z : Told} {a : A} {b : B}
-    → HasRead p s x a m y → HasEnded (f a) m y b z → HasEnded (p >>= f) s x b z
+pub ends_then : {A B : Type 0} {p : Parser A} (f : A → Parser B) {s m e : ℕ} {x y z : Told} {a : A} {b : B}
+    → HasRead p s x a m y → HasEnded (f a) m e y b z → HasEnded (p >>= f) s e x b z
 ends_then f first second =
     let (held, was, e1) = first.reads second.held second.was in
-    record { calm = second.calm ∙ first.calm; end = second.end; held = held; was = was; stop = second.stop; reads = then_ok _ f _ _ _ e1 ∙ second.reads }
+    record { calm = second.calm ∙ first.calm; moves = moves_then first.moves second.moves; end = second.end; held = held; was = was; stop = second.stop; reads = then_ok _ f _ _ _ e1 ∙ second.reads }
 
 -- why a call stopped, where it is the first part, or comes after one
-pub stops_first : {A B : Type 0} {p : Parser A} (f : A → Parser B) {s : ℕ} {x z : Told} {stop : ReadStop} → Stops p s x z stop → Stops (p >>= f) s x z stop
-stops_first f {stop = ReadFault} first = record { why = first.why }
-stops_first f {stop = BadDump place cause} first = record { why = fails_first f first.why }
+pub stops_first : {A B : Type 0} {p : Parser A} (f : A → Parser B) {s e d : ℕ} {x z : Told} {stop : ReadStop} → e ≤ d → Stops p s e x z stop → Stops (p >>= f) s d x z stop
+stops_first f {stop = ReadFault} less first = record { why = first.why; moves = moves_up less first.moves }
+stops_first f {stop = BadDump place cause} less first = record { why = fails_first f first.why; moves = moves_up less first.moves }
 
-pub stops_then : {A B : Type 0} {p : Parser A} (f : A → Parser B) {s m : ℕ} {x y z : Told} {a : A} {stop : ReadStop}
-    → HasRead p s x a m y → Stops (f a) m y z stop → Stops (p >>= f) s x z stop
-stops_then f {x = x} {y = y} {z = z} {stop = ReadFault} first second = record { why = rose_after x y z first.calm second.why }
-stops_then f {stop = BadDump place cause} first second = record { why = fails_then f first second.why }
+pub stops_then : {A B : Type 0} {p : Parser A} (f : A → Parser B) {s m e : ℕ} {x y z : Told} {a : A} {stop : ReadStop}
+    → HasRead p s x a m y → Stops (f a) m e y z stop → Stops (p >>= f) s e x z stop
+stops_then f {x = x} {y = y} {z = z} {stop = ReadFault} first second = record { why = rose_after x y z first.calm second.why; moves = moves_then first.moves second.moves }
+stops_then f {stop = BadDump place cause} first second = record { why = fails_then f first second.why; moves = moves_then first.moves second.moves }
 
 -- a call after a value
 pub goes_on : {A B C : Type 0} {p : Parser A} (f : A → Parser B) {view : C → B} {s m e : ℕ} {x y z : Told} {a : A} {r : Result C ReadStop}
@@ -72,40 +94,40 @@ pub goes_on : {A B C : Type 0} {p : Parser A} (f : A → Parser B) {view : C →
 goes_on f {r = Ok c} first second = record { answer = read_then f first second.answer }
 goes_on f {r = Err stop} first second = record { answer = stops_then f first second.answer }
 
-pub goes_on_to_end : {A B C : Type 0} {p : Parser A} (f : A → Parser B) {view : C → B} {s m : ℕ} {x y z : Told} {a : A} {r : Result C ReadStop}
-    → HasRead p s x a m y → ReadsEnd view (f a) m y z r → ReadsEnd view (p >>= f) s x z r
+pub goes_on_to_end : {A B C : Type 0} {p : Parser A} (f : A → Parser B) {view : C → B} {s m e : ℕ} {x y z : Told} {a : A} {r : Result C ReadStop}
+    → HasRead p s x a m y → ReadsEnd view (f a) m e y z r → ReadsEnd view (p >>= f) s e x z r
 goes_on_to_end f {r = Ok c} first second = record { answer = ends_then f first second.answer }
 goes_on_to_end f {r = Err stop} first second = record { answer = stops_then f first second.answer }
 
 -- a call that stopped as the first part
 pub exits : {A B C D : Type 0} {p : Parser A} (f : A → Parser B) {view : C → A} {other : D → B} {s e d : ℕ} {x z : Told} {stop : ReadStop} {r : Result D ReadStop}
-    → IsErrAnd r (λ y. y ≡ stop) → Reads view p s e x z (Err stop) → Reads other (p >>= f) s d x z r
-exits f {stop = stop} {r = r} is first =
+    → e ≤ d → IsErrAnd r (λ y. y ≡ stop) → Reads view p s e x z (Err stop) → Reads other (p >>= f) s d x z r
+exits f {stop = stop} {r = r} less is first =
     let q = err_from_is_err_and r is in
-    rw (q.1, q.2) (record { answer = stops_first f first.answer })
+    rw (q.1, q.2) (record { answer = stops_first f less first.answer })
 
-pub exits_to_end : {A B C D : Type 0} {p : Parser A} (f : A → Parser B) {view : C → A} {other : D → B} {s e : ℕ} {x z : Told} {stop : ReadStop} {r : Result D ReadStop}
-    → IsErrAnd r (λ y. y ≡ stop) → Reads view p s e x z (Err stop) → ReadsEnd other (p >>= f) s x z r
-exits_to_end f {stop = stop} {r = r} is first =
+pub exits_to_end : {A B C D : Type 0} {p : Parser A} (f : A → Parser B) {view : C → A} {other : D → B} {s e d : ℕ} {x z : Told} {stop : ReadStop} {r : Result D ReadStop}
+    → e ≤ d → IsErrAnd r (λ y. y ≡ stop) → Reads view p s e x z (Err stop) → ReadsEnd other (p >>= f) s d x z r
+exits_to_end f {stop = stop} {r = r} less is first =
     let q = err_from_is_err_and r is in
-    rw (q.1, q.2) (record { answer = stops_first f first.answer })
+    rw (q.1, q.2) (record { answer = stops_first f less first.answer })
 
 -- a value that takes no bytes
 pub read_done : {A : Type 0} (a : A) (s : ℕ) (x : Told) → HasRead (done a) s x a s x
 unfolding done
-read_done a s x = record { calm = refl; reads = λ rest left. (rest, left, refl) }
+read_done a s x = record { calm = refl; moves = moves_none s x; reads = λ rest left. (rest, left, refl) }
 
 -- a value as another
 pub read_as : {A B : Type 0} {p : Parser A} (f : A → B) {s e : ℕ} {x z : Told} {a : A} → HasRead p s x a e z → HasRead (mapped f p) s x (f a) e z
 unfolding mapped done
 read_as f first = read_then (λ b. done (f b)) first (read_done (f _) _ _)
 
-pub stops_as : {A B : Type 0} {p : Parser A} (f : A → B) {s : ℕ} {x z : Told} {stop : ReadStop} → Stops p s x z stop → Stops (mapped f p) s x z stop
+pub stops_as : {A B : Type 0} {p : Parser A} (f : A → B) {s e : ℕ} {x z : Told} {stop : ReadStop} → Stops p s e x z stop → Stops (mapped f p) s e x z stop
 unfolding mapped
-stops_as f first = stops_first (λ b. done (f b)) first
+stops_as f first = stops_first (λ b. done (f b)) (omega arith) first
 
-pub exits_as : {A B C D : Type 0} {p : Parser A} (f : A → B) {view : C → A} {other : D → B} {s e d : ℕ} {x z : Told} {stop : ReadStop} {r : Result D ReadStop}
-    → IsErrAnd r (λ y. y ≡ stop) → Reads view p s e x z (Err stop) → Reads other (mapped f p) s d x z r
+pub exits_as : {A B C D : Type 0} {p : Parser A} (f : A → B) {view : C → A} {other : D → B} {s e : ℕ} {x z : Told} {stop : ReadStop} {r : Result D ReadStop}
+    → IsErrAnd r (λ y. y ≡ stop) → Reads view p s e x z (Err stop) → Reads other (mapped f p) s e x z r
 exits_as f {stop = stop} {r = r} is first =
     let q = err_from_is_err_and r is in
     rw (q.1, q.2) (record { answer = stops_as f first.answer })
@@ -130,12 +152,13 @@ pub passes : {A : Type 0} {p : Parser A} (cause : ℕ) (test : A → Bool) {s e 
 unfolding checked
 passes cause test first is = record {
   calm = first.calm;
+  moves = first.moves;
   reads = λ rest left. (let (held, was, e1) = first.reads rest left in
       (held, was, ap (tested _ cause test) e1 ∙ tested_true _ cause test _ is));
 }
 
 -- one that is not
-pub refused : {A : Type 0} {p : Parser A} (cause : ℕ) (test : A → Bool) {s e : ℕ} {x z : Told} {a : A}
+refused : {A : Type 0} {p : Parser A} (cause : ℕ) (test : A → Bool) {s e : ℕ} {x z : Told} {a : A}
     → HasRead p s x a e z → test a ≡ false → Fails (checked cause test p) s x (fault s cause) z
 unfolding checked
 refused cause test {z = z} first is =
@@ -143,20 +166,36 @@ refused cause test {z = z} first is =
     let (held, was, e1) = first.reads rest left in
     record { calm = first.calm; held = held; was = was; fails = ap (tested _ cause test) e1 ∙ tested_false _ cause test _ is }
 
+-- a call that refuses a value
+pub refuses : {A : Type 0} {p : Parser A} (cause : ℕ) (test : A → Bool) {s e : ℕ} {x z : Told} {a : A}
+    → HasRead p s x a e z → test a ≡ false → Stops (checked cause test p) s e x z (BadDump s cause)
+refuses cause test first is = record { why = refused cause test first is; moves = first.moves }
+
 fails_checked : {A : Type 0} {p : Parser A} (cause : ℕ) (test : A → Bool) {s : ℕ} {x z : Told} {e : Fault} → Fails p s x e z → Fails (checked cause test p) s x e z
 unfolding checked
 fails_checked cause test first = record { calm = first.calm; held = first.held; was = first.was; fails = ap (tested _ cause test) first.fails }
 
-pub stops_checked : {A : Type 0} {p : Parser A} (cause : ℕ) (test : A → Bool) {s : ℕ} {x z : Told} {stop : ReadStop}
-    → Stops p s x z stop → Stops (checked cause test p) s x z stop
-stops_checked cause test {stop = ReadFault} first = record { why = first.why }
-stops_checked cause test {stop = BadDump place c} first = record { why = fails_checked cause test first.why }
+pub stops_checked : {A : Type 0} {p : Parser A} (cause : ℕ) (test : A → Bool) {s e : ℕ} {x z : Told} {stop : ReadStop}
+    → Stops p s e x z stop → Stops (checked cause test p) s e x z stop
+stops_checked cause test {stop = ReadFault} first = record { why = first.why; moves = first.moves }
+stops_checked cause test {stop = BadDump place c} first = record { why = fails_checked cause test first.why; moves = first.moves }
 
-pub exits_checked : {A C D : Type 0} {p : Parser A} (cause : ℕ) (test : A → Bool) {view : C → A} {other : D → A} {s e d : ℕ} {x z : Told} {stop : ReadStop} {r : Result D ReadStop}
-    → IsErrAnd r (λ y. y ≡ stop) → Reads view p s e x z (Err stop) → Reads other (checked cause test p) s d x z r
+pub exits_checked : {A C D : Type 0} {p : Parser A} (cause : ℕ) (test : A → Bool) {view : C → A} {other : D → A} {s e : ℕ} {x z : Told} {stop : ReadStop} {r : Result D ReadStop}
+    → IsErrAnd r (λ y. y ≡ stop) → Reads view p s e x z (Err stop) → Reads other (checked cause test p) s e x z r
 exits_checked cause test {stop = stop} {r = r} is first =
     let q = err_from_is_err_and r is in
     rw (q.1, q.2) (record { answer = stops_checked cause test first.answer })
+
+-- further bytes that a call doesn't take
+pub stops_up : {A : Type 0} {p : Parser A} {s e d : ℕ} {x z : Told} {stop : ReadStop} → e ≤ d → Stops p s e x z stop → Stops p s d x z stop
+stops_up less h = record { why = h.why; moves = moves_up less h.moves }
+
+pub ended_up : {A : Type 0} {p : Parser A} {s e d : ℕ} {x z : Told} {a : A} → e ≤ d → HasEnded p s e x a z → HasEnded p s d x a z
+ended_up less h = record { calm = h.calm; moves = moves_up less h.moves; end = h.end; held = h.held; was = h.was; stop = h.stop; reads = h.reads }
+
+pub ends_up : {A C : Type 0} {p : Parser A} {view : C → A} {s e d : ℕ} {x z : Told} {r : Result C ReadStop} → e ≤ d → ReadsEnd view p s e x z r → ReadsEnd view p s d x z r
+ends_up {r = Ok c} less h = record { answer = ended_up less h.answer }
+ends_up {r = Err stop} less h = record { answer = stops_up less h.answer }
 
 -- another spelling of the value, of the end, or of the start
 pub read_same : {A : Type 0} {p : Parser A} {s e : ℕ} {x z : Told} {a b : A} → a ≡ b → HasRead p s x a e z → HasRead p s x b e z
@@ -164,10 +203,3 @@ read_same {p = p} {s = s} {e = e} {x = x} {z = z} is first = subst (λ c. HasRea
 
 pub read_up_to : {A : Type 0} {p : Parser A} {s d e : ℕ} {x z : Told} {a : A} → d ≡ e → HasRead p s x a d z → HasRead p s x a e z
 read_up_to {p = p} {s = s} {x = x} {z = z} {a = a} is first = subst (λ n. HasRead p s x a n z) is first
-
--- what was read is of the format
-pub read_is : {A : Type 0} {p : Parser A} {s e : ℕ} {x z : Told} {a : A} → HasRead p s x a e z → (held rest : List ℕ) × (p (input s held) ≡ Ok (a, input e rest))
-read_is {z = z} first =
-    let (rest, left) = some_rest z in
-    let (held, was, is) = first.reads rest left in
-    (held, rest, is)

@@ -1,7 +1,7 @@
 -- The next record, and the reader behind it.
 use Rattle.std.proofs.Common.{◌≡◌, ℕ, ◌+◌, ◌^◌, ◌<◌, ◌≤◌, true, false, eqb, List, Option, Some, None, Result, IsErrAnd, inl, inr, refl, arith}
 use Rattle.std.specs.Prelude.{IfSome}
-use Rattle.std.proofs.lemmas.Bool.{cases_lt, lt-ltb, le-ltb, eqb-true}
+use Rattle.std.proofs.lemmas.Bool.{cases_lt, lt-ltb, le-ltb, eqb-true, false≢true}
 use Rattle.std.proofs.lemmas.Result.{err_from_is_err_and}
 use Rattle.pic_io.specs.Told.{Told}
 use Rattle.pic_num.specs.declared.motion.Particle.{Particle}
@@ -9,14 +9,15 @@ use Rattle.pic_grid.specs.Lattice.{Field}
 use Rattle.pic_fields.specs.declared.read_stop.ReadStop.{ReadStop}
 use Rattle.pic_fields.specs.Parser.{mapped}
 use Rattle.pic_fields.specs.Reads.{Stops}
+use Rattle.pic_fields.proofs.ReadLaws.{stops_up}
 use Rattle.pic_reader.specs.declared.dump_reader.Next.{Next}
 use Rattle.pic_dump.specs.Due.{due_after}
 use Rattle.pic_reader.specs.Layout.{LayoutView}
-use Rattle.pic_reader.specs.FrameFields.{frame_at}
+use Rattle.pic_reader.specs.FrameFields.{frame_at, frame_length}
 use Rattle.pic_reader.specs.EndFields.{or_zero, end_at}
 use Rattle.pic_reader.specs.Records.{AFrame, is_tag, last_record, behind_tag, record_at}
 use Rattle.pic_reader.specs.Standing.{Standing, IsStanding, passed}
-use Rattle.pic_reader.specs.NextReads.{NextReads}
+use Rattle.pic_reader.specs.NextReads.{NextReads, most_of, record_most}
 
 -- what stands behind each mark
 pub of_frame : (l : LayoutView) (last due : Option ℕ) (tag : ℕ) → eqb tag 70 ≡ true → behind_tag l last due tag ≡ mapped AFrame (frame_at l (or_zero due))
@@ -27,19 +28,35 @@ pub of_end : (l : LayoutView) (last due : Option ℕ) (tag : ℕ) → eqb tag 70
 unfolding behind_tag
 of_end l last due tag is = rw is refl
 
--- a call that stopped
-pub next_exits : (r : Standing) {x z : Told} {e b : Field} {ps : List Particle} {stop : ReadStop} {res : Result Next ReadStop}
-    → IsErrAnd res (λ y. y ≡ stop) → Stops (record_at r.layout r.last) r.place x z stop → NextReads r x z e b ps res
-next_exits r {res = res} is stops =
-    let q = err_from_is_err_and res is in
-    rw (q.1, q.2) (record { answer = stops })
-
 -- an end record's mark is no frame's
 two_marks : (tag : ℕ) → eqb tag 69 ≡ true → eqb tag 70 ≡ true → ⊥
 two_marks tag end frame =
     let e = eqb-true tag 69 end in
     let f = eqb-true tag 70 frame in
     omega (arith, e, f)
+
+-- a call that stopped
+pub next_exits : (r : Standing) {n : ℕ} {x z : Told} {e b : Field} {ps : List Particle} {stop : ReadStop} {res : Result Next ReadStop}
+    → n ≤ r.place + record_most r → IsErrAnd res (λ y. y ≡ stop) → Stops (record_at r.layout r.last) r.place n x z stop → NextReads r x z e b ps res
+next_exits r {res = res} less is stops =
+    let q = err_from_is_err_and res is in
+    rw (q.1, q.2) (record { answer = stops_up less stops })
+
+-- a frame's mark stands only where a frame is due
+pub due_is : (due last : Option ℕ) (tag : ℕ) → is_tag due last tag ≡ true → eqb tag 70 ≡ true → due ≡ Some (or_zero due)
+due_is None None tag passes frame = absurd (false≢true passes)
+due_is None (Some s) tag passes frame = absurd (two_marks tag passes frame)
+due_is (Some step) last tag passes frame = refl
+
+-- a record has at least so many bytes, and a frame all of its own
+pub most_least : (l : LayoutView) (due : Option ℕ) → 38 ≤ most_of l due
+most_least l None = omega arith
+most_least l (Some step) = omega arith
+
+pub most_frame : (l : LayoutView) (due last : Option ℕ) (tag : ℕ) → is_tag due last tag ≡ true → eqb tag 70 ≡ true → most_of l due ≡ 1 + frame_length l
+most_frame l None None tag passes frame = absurd (false≢true passes)
+most_frame l None (Some s) tag passes frame = absurd (two_marks tag passes frame)
+most_frame l (Some step) last tag passes frame = refl
 
 -- a frame that may stand there comes after the last one
 pub frame_after : (steps every : ℕ) (last : Option ℕ) (tag : ℕ) → 1 ≤ every → is_tag (due_after steps every last) last tag ≡ true → eqb tag 70 ≡ true

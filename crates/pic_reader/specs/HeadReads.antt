@@ -2,15 +2,21 @@
 use Rattle.std.specs.Prelude.{ℕ, Result, Ok, Err}
 use Rattle.pic_io.specs.Told.{Told, Calm}
 use Rattle.pic_fields.specs.Parser.{Parser}
-use Rattle.pic_fields.specs.Reads.{HasRead, Stops}
+use Rattle.pic_fields.specs.Reads.{Moves, HasRead, Stops}
 use Rattle.pic_reader.specs.declared.head_stop.HeadStop.{HeadStop}
 use Rattle.pic_reader.specs.declared.head_stop.HeadStop.TheVariants.{Read, NoMemory}
 
-abbrev pub HeadAnswers : {A B : Type 0} → (B → A) → Parser A → ℕ → (A → ℕ) → Told → Told → Result B HeadStop → Type 0
-HeadAnswers view p start end before now (Ok b) = HasRead p start before (view b) (end (view b)) now
-HeadAnswers view p start end before now (Err (Read stop)) = Stops p start before now stop
-HeadAnswers view p start end before now (Err NoMemory) = Calm before now
+-- memory was wanted, and no byte beyond `most` was taken
+pub record Starves (start most : ℕ) (before now : Told) : Type 0 where
+  pub calm : Calm before now
+  pub moves : Moves start most before now
 
--- the value and where it ends, or the first fault, or a read failed, or want of memory
-pub record HeadReads {A B : Type 0} (view : B → A) (p : Parser A) (start : ℕ) (end : A → ℕ) (before now : Told) (result : Result B HeadStop) : Type 0 where
-  pub answer : HeadAnswers view p start end before now result
+abbrev pub HeadAnswers : {A B : Type 0} → (B → A) → Parser A → ℕ → (A → ℕ) → ℕ → Told → Told → Result B HeadStop → Type 0
+HeadAnswers view p start end most before now (Ok b) = HasRead p start before (view b) (end (view b)) now
+HeadAnswers view p start end most before now (Err (Read stop)) = Stops p start most before now stop
+HeadAnswers view p start end most before now (Err NoMemory) = Starves start most before now
+
+-- the value and where it ends, or the first fault, or a read failed, or want of memory; none of these
+-- took a byte beyond `most`
+pub record HeadReads {A B : Type 0} (view : B → A) (p : Parser A) (start : ℕ) (end : A → ℕ) (most : ℕ) (before now : Told) (result : Result B HeadStop) : Type 0 where
+  pub answer : HeadAnswers view p start end most before now result

@@ -84,6 +84,10 @@ header_at =
     >>= (λ scales. heads_at
     >>= (λ heads. done (record { cells = cells; side = side_1; steps = steps; every = every; scales = scales; species = heads })))))))
 
+-- the bytes of the longest header
+abbrev pub header_most : ℕ
+header_most = 1024
+
 -- a species within the limits, with a name that none of these has, and few enough particles beside theirs
 pub record IsNewHead (heads : List HeadView) (h : HeadView) : Type 0 where
   pub name : IsName h.name

@@ -227,7 +227,7 @@ fn read_push_stop<S: Source>(source: &mut S, place: u64, layout: &Layout) -> Res
 // Reads the end of a run that is done.
 fn read_done<S: Source>(source: &mut S, place: u64, layout: &Layout) -> Result<EndMark, ReadStop>
     requires { place + 64 < 2 ^ 63 }
-    ensures { ReadsEnd (λ m. AnEnd m) (done_at layout.now last_record) place (S.told source.old) (S.told source.new) result }
+    ensures { ReadsEnd (λ m. AnEnd m) (done_at layout.now last_record) place (place + 4 + 1) (S.told source.old) (S.told source.new) result }
 {
     let second = place + 4;
     let steps = read_step(source, place, layout.steps())?;
@@ -244,7 +244,7 @@ fn read_field_end<S: Source>(
     high: u32,
 ) -> Result<EndMark, ReadStop>
     requires { place + 64 < 2 ^ 63 }
-    ensures { ReadsEnd (λ m. AnEnd m) (field_end_at layout.now low high last_record) place (S.told source.old) (S.told source.new) result }
+    ensures { ReadsEnd (λ m. AnEnd m) (field_end_at layout.now low high last_record) place (place + 4 + 31 + 1) (S.told source.old) (S.told source.new) result }
 {
     let second = place + 4;
     let third = second + 31;
@@ -263,7 +263,7 @@ fn read_push_end<S: Source>(
     high: u32,
 ) -> Result<EndMark, ReadStop>
     requires { place + 64 < 2 ^ 63 }
-    ensures { ReadsEnd (λ m. AnEnd m) (push_end_at layout.now low high last_record) place (S.told source.old) (S.told source.new) result }
+    ensures { ReadsEnd (λ m. AnEnd m) (push_end_at layout.now low high last_record) place (place + 4 + 22 + 1) (S.told source.old) (S.told source.new) result }
 {
     let second = place + 4;
     let third = second + 22;
@@ -334,7 +334,7 @@ pub fn read_end_record<S: Source>(
 ) -> Result<EndMark, ReadStop>
     requires place { place + 65 < 2 ^ 63 }
     requires last { IfSome last (λ step. step ≤ 1000000) }
-    ensures { ReadsEnd (λ m. AnEnd m) (end_at layout.now last due last_record) place (S.told source.old) (S.told source.new) result }
+    ensures { ReadsEnd (λ m. AnEnd m) (end_at layout.now last due last_record) place (place + 37) (S.told source.old) (S.told source.new) result }
 {
     let second = place + 1;
     let kind = read_kind(source, place, due)?;

@@ -1,14 +1,14 @@
 //! The header of a dump, read.
 
 ghost use Rattle.std.specs.Prelude.{◌≡◌, ℤ, pos, negsuc, ◌+◌, ◌-◌, ◌*◌, ◌<◌, ◌≤◌, ◌≤ℤ◌, ◌^◌, IsTrue, length, map, IfOk};
-ghost use Rattle.pic_num.specs.Limits.{most_particles_1};
+ghost use Rattle.pic_num.specs.Limits.{most_species, most_particles_1};
 ghost use Rattle.pic_num.specs.Space.{triple};
 ghost use Rattle.pic_grid.specs.Species.{HeadView, IsName, IsKind, AreHeads};
 ghost use Rattle.pic_fields.specs.Parser.{each};
 ghost use Rattle.pic_fields.specs.Reads.{Reads, as_it_is};
 ghost use Rattle.pic_dump.specs.Header.{IsGrid_1, HasLimits};
 ghost use Rattle.pic_reader.specs.Fields.{is_between, between};
-ghost use Rattle.pic_reader.specs.HeaderFields.{IsNewHead, cells_at, mult_at, scales_at, kind_at, name_of, is_name_field, is_new_name_field, name_at, particles_of, head_at, heads_at, header_at};
+ghost use Rattle.pic_reader.specs.HeaderFields.{IsNewHead, cells_at, mult_at, scales_at, kind_at, name_of, is_name_field, is_new_name_field, name_at, particles_of, head_at, heads_at, header_at, header_most};
 ghost use Rattle.pic_reader.specs.HeadReads.{HeadReads};
 
 use crate::head_stop::HeadStop;
@@ -152,7 +152,7 @@ fn read_head<S: Source>(
     requires place { place + 60 < 2 ^ 63 }
     requires count { particles ≡ particles_of earlier.now }
     requires most { particles ≤ most_particles_1 }
-    ensures reads { HeadReads (λ h. h) (head_at earlier.now) place (λ _. place + 60) (S.told source.old) (S.told source.new) result }
+    ensures reads { HeadReads (λ h. h) (head_at earlier.now) place (λ _. place + 60) (place + 60) (S.told source.old) (S.told source.new) result }
     ensures new { IfOk result (λ h. IsNewHead earlier.now h) }
 {
     let second = place + 32;
@@ -180,7 +180,7 @@ fn read_each_head<S: Source>(
 ) -> Result<Vec<Head>, HeadStop>
     requires few { count ≤ 16 }
     requires place { place + 60 * 16 < 2 ^ 63 }
-    ensures reads { HeadReads (λ hs. hs.items) (each count head_at) place (λ hs. place + 60 * length hs) (S.told source.old) (S.told source.new) result }
+    ensures reads { HeadReads (λ hs. hs.items) (each count head_at) place (λ hs. place + 60 * length hs) (place + 60 * count) (S.told source.old) (S.told source.new) result }
     ensures heads { IfOk result (λ hs. AreHeads hs.items) }
 {
     let mut heads = Vec::new(alloc);
@@ -197,7 +197,7 @@ fn read_each_head<S: Source>(
 // Reads the species.
 fn read_heads<S: Source>(alloc: Global, source: &mut S, place: u64) -> Result<Vec<Head>, HeadStop>
     requires { place + 1000 < 2 ^ 63 }
-    ensures reads { HeadReads (λ hs. hs.items) heads_at place (λ hs. place + 4 + 60 * length hs) (S.told source.old) (S.told source.new) result }
+    ensures reads { HeadReads (λ hs. hs.items) heads_at place (λ hs. place + 4 + 60 * length hs) (place + 4 + 60 * 16) (S.told source.old) (S.told source.new) result }
     ensures heads { IfOk result (λ hs. AreHeads hs.items) }
 {
     let first = place + 4;
@@ -207,7 +207,8 @@ fn read_heads<S: Source>(alloc: Global, source: &mut S, place: u64) -> Result<Ve
 
 /// Reads the header.
 pub fn read_header<S: Source>(alloc: Global, source: &mut S) -> Result<Header, HeadStop>
-    ensures { HeadReads (λ h. h) header_at 0 (λ h. 64 + 60 * length h.species) (S.told source.old) (S.told source.new) result }
+    ensures reads { HeadReads (λ h. h) header_at 0 (λ h. 64 + 60 * length h.species) header_most (S.told source.old) (S.told source.new) result }
+    ensures few { IfOk result (λ h. length h.species ≤ most_species) }
 {
     read_exactly(source, 0, WRONG_LETTER, b"PICDUMP1")?;
     let cells = read_cells(source, 8)?;

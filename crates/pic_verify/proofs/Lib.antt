@@ -1,3 +1,4 @@
 pub mod WalkLaws
 pub mod VerdictLaws
 pub mod BreakLaws
+pub mod AllowedLaws

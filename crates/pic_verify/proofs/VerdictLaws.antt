@@ -1,13 +1,16 @@
 -- The verdict on a dump, from that on its records.
-use Rattle.std.proofs.Common.{◌≡◌, ℕ, List, Option, Some, None, Ok, Err, IsErrAnd, sym, ap, ◌∙◌}
+use Rattle.std.proofs.Common.{◌≡◌, ◌+◌, ◌*◌, ◌≤◌, length, subst, arith, inl, inr, ℕ, List, Option, Some, None, Ok, Err, IsErrAnd, sym, ap, ◌∙◌}
 use Rattle.std.specs.Prelude.{option_map}
 use Rattle.std.proofs.lemmas.Result.{err_from_is_err_and}
 use Rattle.pic_io.specs.Told.{Told, Calm}
-use Rattle.pic_fields.specs.Reads.{HasRead}
+use Rattle.pic_fields.specs.Parser.{input}
+use Rattle.pic_fields.specs.Reads.{Moves, HasRead}
+use Rattle.pic_fields.proofs.ReadLaws.{moves_then, some_rest}
+use Rattle.pic_verify.specs.Allowed.{TakesAllowed}
 use Rattle.pic_fields.specs.declared.read_stop.ReadStop.TheVariants as read
 use Rattle.pic_dump.specs.Header.{HeaderView}
 use Rattle.pic_reader.specs.Layout.{layout_of}
-use Rattle.pic_reader.specs.HeaderFields.{header_at}
+use Rattle.pic_reader.specs.HeaderFields.{header_at, header_most}
 use Rattle.pic_reader.specs.HeadReads.{HeadReads}
 use Rattle.pic_reader.specs.Standing.{Standing}
 use Rattle.pic_reader.specs.declared.head_stop.HeadStop.{HeadStop}
@@ -45,17 +48,17 @@ verifies_behind h place r x y z answer first is walks =
     record { answer = answered_behind h place x y z answer first there.answer }
 
 stops_answer : {B : Type 0} (x z : Told) (stop : HeadStop) (view : B → HeaderView) (end : HeaderView → ℕ)
-    → HeadReads view header_at 0 end x z (Err stop) → Answered verified x z (Err (stop_of_head stop))
+    → HeadReads view header_at 0 end header_most x z (Err stop) → Answered verified x z (Err (stop_of_head stop))
 unfolding verified
 stops_answer x z (head.Read read.ReadFault) view end first = first.answer.why
 stops_answer x z (head.Read (read.BadDump place cause)) view end first =
     let fails = first.answer.why in
     record { calm = fails.calm; held = fails.held; was = fails.was; verdict = ap of_header fails.fails }
-stops_answer x z head.NoMemory view end first = first.answer
+stops_answer x z head.NoMemory view end first = first.answer.calm
 
 -- a header that isn't there
 pub verifies_head : {B : Type 0} (view : B → HeaderView) (end : HeaderView → ℕ) (x z : Told) (stop : HeadStop) (result : Verdict)
-    → IsErrAnd result (λ u. u ≡ stop_of_head stop) → HeadReads view header_at 0 end x z (Err stop) → Verifies x z result
+    → IsErrAnd result (λ u. u ≡ stop_of_head stop) → HeadReads view header_at 0 end header_most x z (Err stop) → Verifies x z result
 verifies_head view end x z stop result is first =
     let q = err_from_is_err_and result is in
     rw (q.1, q.2) (record { answer = stops_answer x z stop view end first })
@@ -81,3 +84,34 @@ exact x z (Err ReadFault) v bytes told quiet = absurd (quiet v.answer)
 exact x z (Err (BadDump place cause)) v bytes told quiet = exact_finds x z bytes (Err (BadDump place cause)) told v.answer
 exact x z (Err (Broken frame at)) v bytes told quiet = exact_finds x z bytes (Err (Broken frame at)) told v.answer
 exact x z (Err NoMemory) v bytes told quiet = tt
+
+-- what was taken where there is no header
+takes_head : {B : Type 0} (view : B → HeaderView) (end : HeaderView → ℕ) (x z : Told) (stop : HeadStop) → HeadReads view header_at 0 end header_most x z (Err stop) → Moves 0 header_most x z
+takes_head view end x z (head.Read stop) first = first.answer.moves
+takes_head view end x z head.NoMemory first = first.answer.moves
+
+within_header : (x z : Told) → Moves 0 header_most x z → TakesAllowed x z
+within_header x z moves = let most = moves.most in record { front = moves.front; taken = moves.moved; most = inl (omega (arith, most)) }
+
+pub stops_taken : {B : Type 0} (view : B → HeaderView) (end : HeaderView → ℕ) (x z : Told) (stop : HeadStop) → HeadReads view header_at 0 end header_most x z (Err stop) → TakesAllowed x z
+stops_taken view end x z stop first = within_header x z (takes_head view end x z stop first)
+
+-- behind a header
+pub walks_taken : (h : HeaderView) (r : Standing) (x y z : Told) (answer : Verdict)
+    → HasRead header_at 0 x h (64 + 60 * length h.species) y → r ≡ behind h (64 + 60 * length h.species) → Walks r y z answer → TakesAllowed x z
+walks_taken h r x y z answer first is walks =
+    let there = rw is at walks in
+    let moves = moves_then first.moves there.moves in
+    let most = moves.most in
+    let (rest, left) = some_rest y in
+    let (held, was, reads) = first.reads rest left in
+    record {
+      front = moves.front;
+      taken = moves.moved;
+      most = inr (λ bytes told. record {
+        header = h;
+        rest = input (64 + 60 * length h.species) rest;
+        reads = subst (λ b. header_at (input 0 b) ≡ Ok (h, input (64 + 60 * length h.species) rest)) (same_bytes x.bytes bytes held told was) reads;
+        most = omega (arith, most);
+      });
+    }

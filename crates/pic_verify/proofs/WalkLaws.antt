@@ -1,5 +1,5 @@
 -- The verdict after so many good frames is that of what follows them.
-use Rattle.std.proofs.Common.{◌≡◌, ℕ, suc, ◌+◌, ◌-◌, ◌≤◌, List, [], Option, Some, None, Ok, Err, IsErrAnd, refl, sym, ap, subst, ◌∙◌, arith, add-one}
+use Rattle.std.proofs.Common.{◌≡◌, ℕ, suc, ◌+◌, ◌-◌, ◌*◌, ◌≤◌, List, [], Option, Some, None, Ok, Err, IsErrAnd, refl, sym, ap, subst, ◌∙◌, arith, add-one}
 use Rattle.std.proofs.lemmas.Result.{err_from_is_err_and}
 use Rattle.pic_io.specs.Told.{Told, Rose, Calm, raised}
 use Rattle.pic_num.specs.declared.motion.Particle.{Particle}
@@ -8,15 +8,18 @@ use Rattle.pic_grid.specs.Lattice.{Field}
 use Rattle.pic_energy.specs.declared.amounts.Energies.{Energies}
 use Rattle.pic_charge.specs.declared.breaks.Break.{Break}
 use Rattle.pic_fields.specs.Parser.{Input, input, Fault, fault}
-use Rattle.pic_fields.specs.Reads.{Left, HasEnded, Stops}
+use Rattle.pic_fields.specs.Reads.{Left, Moves, HasEnded, Stops}
 use Rattle.pic_fields.specs.declared.read_stop.ReadStop.{ReadStop}
 use Rattle.pic_fields.specs.declared.read_stop.ReadStop.TheVariants as read
-use Rattle.pic_fields.proofs.ReadLaws.{some_rest}
+use Rattle.pic_fields.proofs.ReadLaws.{some_rest, moves_none, moves_then, moves_up}
 use Rattle.pic_reader.specs.Layout.{LayoutView}
-use Rattle.pic_reader.specs.FrameFields.{FrameView, frame_of}
+use Rattle.pic_reader.specs.FrameFields.{FrameView, frame_of, frame_length}
 use Rattle.pic_reader.specs.Records.{AFrame, AnEnd, record_at}
 use Rattle.pic_reader.specs.Standing.{Standing, passed}
-use Rattle.pic_reader.specs.NextReads.{HasFrame}
+use Rattle.pic_reader.specs.NextReads.{HasFrame, most_of, record_most}
+use Rattle.pic_dump.specs.Due.{due_after}
+use Rattle.pic_verify.specs.Allowed.{records_length}
+use Rattle.pic_verify.proofs.AllowedLaws.{Went, went_more, record_fits, frames_fit}
 use Rattle.pic_verify.specs.declared.verify_stop.VerifyStop.TheVariants.{BadDump, Broken}
 use Rattle.pic_verify.specs.Stops.{stop_of_read}
 use Rattle.pic_verify.specs.Verified.{Verdict, break_of, unless_broken, of_parsed, walked}
@@ -44,6 +47,10 @@ on_records r held = walked (r.layout.steps + 2) r.layout 0 None (input r.place h
 pub record Follows (r : Standing) (before : Told) (k : ℕ) (here : Standing) (now : Told) : Type 0 where
   pub calm : Calm before now
   pub layout : here.layout ≡ r.layout
+  pub moves : Moves r.place here.place before now
+  pub place : here.place ≡ r.place + k * (1 + frame_length r.layout)
+  pub least : 1 ≤ r.layout.every
+  pub went : Went r.layout k here.last
   pub few : k ≤ passed here.last
   pub most : passed here.last ≤ r.layout.steps + 1
   pub n : ℕ
@@ -51,14 +58,18 @@ pub record Follows (r : Standing) (before : Told) (k : ℕ) (here : Standing) (n
   pub follows : (rest : List ℕ) → Left now rest → (held : List ℕ) × Left before held × (on_records r held ≡ walked (suc n) r.layout k here.last (input here.place rest))
 
 -- where reading begins
-pub follows_none : (r : Standing) (before : Told) → r.last ≡ None → Follows r before 0 r before
-follows_none r before start =
+pub follows_none : (r : Standing) (before : Told) → r.last ≡ None → 1 ≤ r.layout.every → Follows r before 0 r before
+follows_none r before start least =
     let steps = r.layout.steps in
     let two : steps + 2 ≡ suc (steps + 1) = omega arith in
     let none : passed r.last ≡ 0 = ap passed start in
     record {
       calm = refl;
       layout = refl;
+      moves = moves_none r.place before;
+      place = omega arith;
+      least = least;
+      went = rw start refl;
       few = omega arith;
       most = omega (arith, none);
       n = steps + 1;
@@ -93,10 +104,17 @@ follows_frame r before y z k here behind e b particles step energies so_far has 
     let most = has.most in
     let count = so_far.left in
     let n = so_far.n in
+    let length_is : frame_length here.layout ≡ frame_length l = ap frame_length so_far.layout in
+    let due = ap (λ (m : LayoutView). due_after m.steps m.every here.last) (sym so_far.layout) ∙ has.due in
+    let went = went_more l k here.last step so_far.least so_far.went due in
     let one_less : n ≡ suc (n - 1) = omega (arith, few, later, most, count, steps) in
     record {
       calm = has.read.calm ∙ so_far.calm;
       layout = has.layout ∙ so_far.layout;
+      moves = moves_then so_far.moves has.read.moves;
+      place = omega (arith, so_far.place, has.place, length_is);
+      least = so_far.least;
+      went = rw has.last went;
       few = omega (arith, passed_is, few, later);
       most = omega (arith, passed_is, most, steps);
       n = n - 1;
@@ -113,43 +131,55 @@ follows_frame r before y z k here behind e b particles step energies so_far has 
           ));
     }
 
+-- the record where a reader stands ends within what the header allows, and a byte
+last_fits : (r : Standing) (before y : Told) (k : ℕ) (here : Standing) (so_far : Follows r before k here y) → here.place + record_most here ≤ r.place + (records_length r.layout + 1)
+last_fits r before y k here so_far =
+    let l = r.layout in
+    let fits = record_fits l k here.last so_far.least so_far.went in
+    let most : record_most here ≡ most_of l (due_after l.steps l.every here.last) = ap (λ (m : LayoutView). most_of m (due_after m.steps m.every here.last)) so_far.layout in
+    omega (arith, fits, most, so_far.place)
+
 -- a frame with a break
 pub breaks_frame : (r : Standing) (before y z : Told) (k : ℕ) (here behind : Standing) (e b : Field) (particles : List Particle) (step : ℕ) (energies : Energies) (at : Break)
-    → Follows r before k here y → HasFrame here y z e b particles behind step energies → break_of r.layout e.values particles ≡ Some at → Finds (on_records r) before z (Err (Broken k at))
+    → Follows r before k here y → HasFrame here y z e b particles behind step energies → break_of r.layout e.values particles ≡ Some at → Walks r before z (Err (Broken k at))
 breaks_frame r before y z k here behind e b particles step energies at so_far has some =
     let (rest, left) = some_rest z in
     let (held, was, is) = frame_read r before y z k here behind e b particles step energies so_far has rest left in
+    let l = r.layout in
+    let length_is : frame_length here.layout ≡ frame_length l = ap frame_length so_far.layout in
+    let due = ap (λ (m : LayoutView). due_after m.steps m.every here.last) (sym so_far.layout) ∙ has.due in
+    let fits = frames_fit l (k + 1) (Some step) so_far.least (went_more l k here.last step so_far.least so_far.went due) in
+    let place : behind.place ≡ r.place + (k + 1) * (1 + frame_length l) = omega (arith, so_far.place, has.place, length_is) in
     record {
-      calm = has.read.calm ∙ so_far.calm;
-      held = held;
-      was = was;
-      verdict = is ∙ ap (λ o. unless_broken k o (walked so_far.n r.layout (suc k) (Some step) (input behind.place rest))) some;
+      moves = moves_up (omega (arith, fits, place)) (moves_then so_far.moves has.read.moves);
+      answer = record {
+        calm = has.read.calm ∙ so_far.calm;
+        held = held;
+        was = was;
+        verdict = is ∙ ap (λ o. unless_broken k o (walked so_far.n r.layout (suc k) (Some step) (input behind.place rest))) some;
+      };
     }
 
 -- the end record
 pub ends_records : (r : Standing) (before y z : Told) (k : ℕ) (here : Standing) (mark : EndMark)
-    → Follows r before k here y → HasEnded (record_at here.layout here.last) here.place y (AnEnd mark) z → Walks r before z (Ok k)
+    → Follows r before k here y → HasEnded (record_at here.layout here.last) here.place (here.place + record_most here) y (AnEnd mark) z → Walks r before z (Ok k)
 ends_records r before y z k here mark so_far has =
     let is = subst (λ l. record_at l here.last (input here.place has.held) ≡ Ok (AnEnd mark, input has.stop [])) so_far.layout has.reads in
     let (held, was, e1) = so_far.follows has.held has.was in
-    record {
-      answer = (
-        record {
-          calm = has.calm ∙ so_far.calm;
-          held = held;
-          was = was;
-          verdict = e1 ∙ walked_end so_far.n r.layout k here.last (input here.place has.held) (input has.stop []) mark is;
-        },
-        has.end,
-      );
-    }
+    let found : Finds (on_records r) before z (Ok k) = record {
+      calm = has.calm ∙ so_far.calm;
+      held = held;
+      was = was;
+      verdict = e1 ∙ walked_end so_far.n r.layout k here.last (input here.place has.held) (input has.stop []) mark is;
+    } in
+    record { moves = moves_up (last_fits r before y k here so_far) (moves_then so_far.moves has.moves); answer = (found, has.end) }
 
 -- a count that stayed and then rose
 pub rose_after : (x y z : Told) → Calm x y → Rose y z → Rose x z
 rose_after x y z calm rose = subst (λ n. raised n ≤ z.faults) calm rose
 
 stops_answer : (r : Standing) (before y z : Told) (k : ℕ) (here : Standing) (stop : ReadStop)
-    → Follows r before k here y → Stops (record_at here.layout here.last) here.place y z stop → Answered (on_records r) before z (Err (stop_of_read stop))
+    → Follows r before k here y → Stops (record_at here.layout here.last) here.place (here.place + record_most here) y z stop → Answered (on_records r) before z (Err (stop_of_read stop))
 stops_answer r before y z k here read.ReadFault so_far stops = rose_after before y z so_far.calm stops.why
 stops_answer r before y z k here (read.BadDump place cause) so_far stops =
     let fails = stops.why in
@@ -164,7 +194,7 @@ stops_answer r before y z k here (read.BadDump place cause) so_far stops =
 
 -- the first fault, or a read that failed
 pub stops_records : (r : Standing) (before y z : Told) (k : ℕ) (here : Standing) (stop : ReadStop) (result : Verdict)
-    → IsErrAnd result (λ u. u ≡ stop_of_read stop) → Follows r before k here y → Stops (record_at here.layout here.last) here.place y z stop → Walks r before z result
+    → IsErrAnd result (λ u. u ≡ stop_of_read stop) → Follows r before k here y → Stops (record_at here.layout here.last) here.place (here.place + record_most here) y z stop → Walks r before z result
 stops_records r before y z k here stop result is so_far stops =
     let q = err_from_is_err_and result is in
-    rw (q.1, q.2) (record { answer = stops_answer r before y z k here stop so_far stops })
+    rw (q.1, q.2) (record { moves = moves_up (last_fits r before y k here so_far) (moves_then so_far.moves stops.moves); answer = stops_answer r before y z k here stop so_far stops })

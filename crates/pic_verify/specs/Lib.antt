@@ -1,3 +1,4 @@
 pub mod Stops
 pub mod Verified
 pub mod Verifies
+pub mod Allowed

@@ -3,9 +3,10 @@ use Rattle.std.specs.Prelude.{◌≡◌, ℕ, ◌+◌, List, None, Some, Ok, Err
 use Rattle.pic_io.specs.Told.{Told, Rose, Calm, Quiet}
 use Rattle.pic_io.specs.Source.{IsAtEnd}
 use Rattle.pic_fields.specs.Parser.{input}
-use Rattle.pic_fields.specs.Reads.{Left}
+use Rattle.pic_fields.specs.Reads.{Left, Moves}
 use Rattle.pic_reader.specs.Standing.{Standing}
 use Rattle.pic_verify.specs.declared.verify_stop.VerifyStop.TheVariants.{ReadFault, BadDump, Broken, NoMemory}
+use Rattle.pic_verify.specs.Allowed.{records_length}
 use Rattle.pic_verify.specs.Verified.{Verdict, walked, verified}
 
 -- the answer is the verdict on the bytes that were left, and no read failed
@@ -27,8 +28,10 @@ Answered of before now (Err NoMemory) = Calm before now
 pub record Verifies (before now : Told) (result : Verdict) : Type 0 where
   pub answer : Answered verified before now result
 
--- the same for the records from where a reader stands, before any frame
+-- the same for the records from where a reader stands, before any frame, and that no more was taken than
+-- the header allows, and a byte
 pub record Walks (r : Standing) (before now : Told) (result : Verdict) : Type 0 where
+  pub moves : Moves r.place (r.place + (records_length r.layout + 1)) before now
   pub answer : Answered (λ held. walked (r.layout.steps + 2) r.layout 0 None (input r.place held)) before now result
 
 -- the verdict, or want of memory

@@ -3,6 +3,7 @@
 ghost use Rattle.std.specs.Prelude.{◌≡◌, length, sum, None};
 ghost use Rattle.pic_reader.specs.FrameFields.{IsHeld};
 ghost use Rattle.pic_reader.specs.Layout.{IsLayout};
+ghost use Rattle.pic_verify.specs.Allowed.{TakesAllowed};
 ghost use Rattle.pic_verify.specs.Verified.{break_of};
 ghost use Rattle.pic_verify.specs.Verifies.{Verifies, IsExact, Walks};
 
@@ -17,9 +18,10 @@ use std::alloc::Global;
 ///
 /// Each frame is read whole, its energies included, and then held against Gauss's law, before the next
 /// record is read: the first fault or the first break is answered. All memory is taken before the first
-/// frame.
+/// frame. At most one byte is taken past the length that the header allows.
 pub fn verify<S: Source>(alloc: Global, source: &mut S) -> Result<u32, VerifyStop>
     ensures verifies { Verifies (S.told source.old) (S.told source.new) result }
+    ensures taken { TakesAllowed (S.told source.old) (S.told source.new) }
     ensures exactly { IsExact (S.told source.old) (S.told source.new) result }
 {
     let (reader, _header) = DumpReader::head(alloc, source)?;

@@ -16,7 +16,7 @@ returns-in_err-read_letter g c =
     let size = length-take-le i text (omega (arith, c.loop-index-test.true)) in
     let stopped : Reads as_it_is (letter c.args.cause text (take i text)) (c.args.place + i) (c.args.place + i + 1) (g.S.Source.told c.loop-index.source)
     (g.S.Source.told c.read_letter.new.source) (Err c.in_err-read_letter.field-0.0) = rw size c.in_err-read_letter.ensures.reads in
-    exits_among (length text) i (letter c.args.cause text) c.from_residual.ensures.1 c.loop-index-test.true c.loop-index.invariant stopped
+    exits_among (length text) i (letter c.args.cause text) c.from_residual.ensures.1 c.loop-index-test.true (omega (arith, c.loop-index-test.true)) c.loop-index.invariant stopped
 
 pub loop-index-init : goal.loop-index-init
 loop-index-init g c = read_up_to (sym (add-zero c.args.place)) (read_none (letter c.args.cause c.args.text.now) c.args.place _)

@@ -1,3 +1,4 @@
+use Rattle.std.proofs.Common.{arith}
 use Rattle.pic_fields.proofs.ReadLaws.{ends_then, goes_on_to_end, exits_to_end}
 use Rattle.pic_fields.proofs.EndLaws.{ends_with, exits_at_end}
 use Rattle.pic_grid.specs.declared.stop.EndMark.TheVariants.{Done}
@@ -9,7 +10,7 @@ pub returns-in_err-steps : goal.returns-in_err-steps
 unfolding done_at last_record
 returns-in_err-steps g c =
     let steps = rw c.steps.ensures.value at c.in_err-steps.ensures in
-    exits_to_end _ c.from_residual.ensures.1 steps
+    exits_to_end _ (omega arith) c.from_residual.ensures.1 steps
 
 pub returns-in_err-read_end : goal.returns-in_err-read_end
 unfolding done_at last_record

@@ -1,10 +1,10 @@
-use Rattle.std.proofs.Common.{◌≡◌, ℕ, eqb, true, false, refl, sym, subst, ◌∙◌, Result}
+use Rattle.std.proofs.Common.{◌≡◌, ℕ, eqb, true, false, refl, sym, subst, ◌∙◌, Result, arith}
 use Rattle.pic_io.specs.Told.{Told}
 use Rattle.pic_grid.specs.declared.stop.EndMark.{EndMark}
 use Rattle.pic_fields.specs.declared.read_stop.ReadStop.{ReadStop}
 use Rattle.pic_fields.specs.Parser.{Parser}
 use Rattle.pic_fields.specs.Reads.{ReadsEnd}
-use Rattle.pic_fields.proofs.ReadLaws.{goes_on_to_end, exits_to_end}
+use Rattle.pic_fields.proofs.ReadLaws.{goes_on_to_end, exits_to_end, ends_up}
 use Rattle.pic_reader.specs.Layout.{LayoutView}
 use Rattle.pic_reader.specs.EndFields.{done_at, field_end_at, push_end_at, end_of_kind, end_at}
 use Rattle.pic_reader.specs.Records.{RecordView}
@@ -26,18 +26,18 @@ unfolding end_of_kind
 of_push l low high next kind other not_one = rw (other, not_one) refl
 
 -- a call that reads by one format reads by another that is the same
-by_same : {A B : Type 0} {p q : Parser A} {view : B → A} {s : ℕ} {x z : Told} {r : Result B ReadStop} → p ≡ q → ReadsEnd view q s x z r → ReadsEnd view p s x z r
-by_same {p = p} {q = q} {view = view} {s = s} {x = x} {z = z} {r = r} is h = subst (λ f. ReadsEnd view f s x z r) (sym is) h
+by_same : {A B : Type 0} {p q : Parser A} {view : B → A} {s e : ℕ} {x z : Told} {r : Result B ReadStop} → p ≡ q → ReadsEnd view q s e x z r → ReadsEnd view p s e x z r
+by_same {p = p} {q = q} {view = view} {s = s} {e = e} {x = x} {z = z} {r = r} is h = subst (λ f. ReadsEnd view f s e x z r) (sym is) h
 
 pub returns-in_err-kind : goal.returns-in_err-kind
 unfolding end_at
-returns-in_err-kind g c = exits_to_end _ c.from_residual.ensures.1 c.in_err-kind.ensures
+returns-in_err-kind g c = exits_to_end _ (omega arith) c.from_residual.ensures.1 c.in_err-kind.ensures
 
 pub returns-then-is_code : goal.returns-then-is_code
 unfolding end_at
 returns-then-is_code g c =
     let zero = sym c.is_code.ensures ∙ c.if-is_code.true in
-    goes_on_to_end _ c.in_ok-kind.ensures.answer (by_same (of_done _ _ _ _ c.in_ok-kind.kind zero) c.read_done.ensures)
+    goes_on_to_end _ c.in_ok-kind.ensures.answer (ends_up (omega arith) (by_same (of_done _ _ _ _ c.in_ok-kind.kind zero) c.read_done.ensures))
 
 pub returns-then-is_code-2 : goal.returns-then-is_code-2
 unfolding end_at
@@ -45,7 +45,7 @@ returns-then-is_code-2 g c =
     let other = sym c.is_code.ensures ∙ c.if-is_code.false in
     let one = sym c.is_code-2.ensures ∙ c.if-is_code-2.true in
     let end = rw (c.first_after.ensures, c.or_zero.ensures) at c.read_field_end.ensures in
-    goes_on_to_end _ c.in_ok-kind.ensures.answer (by_same (of_field _ _ _ _ c.in_ok-kind.kind other one) end)
+    goes_on_to_end _ c.in_ok-kind.ensures.answer (ends_up (omega arith) (by_same (of_field _ _ _ _ c.in_ok-kind.kind other one) end))
 
 pub returns : goal.returns
 unfolding end_at
@@ -53,4 +53,4 @@ returns g c =
     let other = sym c.is_code.ensures ∙ c.if-is_code.false in
     let not_one = sym c.is_code-2.ensures ∙ c.if-is_code-2.false in
     let end = rw (c.first_after-2.ensures, c.or_zero-2.ensures) at c.read_push_end.ensures in
-    goes_on_to_end _ c.in_ok-kind.ensures.answer (by_same (of_push _ _ _ _ c.in_ok-kind.kind other not_one) end)
+    goes_on_to_end _ c.in_ok-kind.ensures.answer (ends_up (omega arith) (by_same (of_push _ _ _ _ c.in_ok-kind.kind other not_one) end))

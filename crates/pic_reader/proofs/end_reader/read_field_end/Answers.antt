@@ -1,3 +1,4 @@
+use Rattle.std.proofs.Common.{arith}
 use Rattle.pic_fields.proofs.ReadLaws.{ends_then, goes_on_to_end, exits_to_end}
 use Rattle.pic_fields.proofs.EndLaws.{ends_with, exits_at_end}
 use Rattle.pic_grid.specs.declared.stop.EndMark.TheVariants.{Stopped}
@@ -7,11 +8,11 @@ use Rattle.pic_reader.proofs.end_reader.read_field_end.Goals as goal
 
 pub returns-in_err-step : goal.returns-in_err-step
 unfolding field_end_at last_record
-returns-in_err-step g c = exits_to_end _ c.from_residual.ensures.1 c.in_err-step.ensures.reads
+returns-in_err-step g c = exits_to_end _ (omega arith) c.from_residual.ensures.1 c.in_err-step.ensures.reads
 
 pub returns-in_err-stop : goal.returns-in_err-stop
 unfolding field_end_at last_record
-returns-in_err-stop g c = goes_on_to_end _ c.in_ok-step.ensures.reads.answer (exits_to_end _ c.from_residual-in_err-stop.ensures.1 c.in_err-stop.ensures)
+returns-in_err-stop g c = goes_on_to_end _ c.in_ok-step.ensures.reads.answer (exits_to_end _ (omega arith) c.from_residual-in_err-stop.ensures.1 c.in_err-stop.ensures)
 
 pub returns-in_err-read_end : goal.returns-in_err-read_end
 unfolding field_end_at last_record

@@ -8,21 +8,21 @@ use Rattle.pic_reader.proofs.end_reader.read_field_stop.Goals as goal
 
 pub returns-in_err-phase : goal.returns-in_err-phase
 unfolding field_stop_at
-returns-in_err-phase g c = exits _ c.from_residual.ensures.1 c.in_err-phase.ensures
+returns-in_err-phase g c = exits _ (omega arith) c.from_residual.ensures.1 c.in_err-phase.ensures
 
 pub returns-in_err-bound : goal.returns-in_err-bound
 unfolding field_stop_at
-returns-in_err-bound g c = goes_on _ c.in_ok-phase.ensures.answer (exits _ c.from_residual-in_err-bound.ensures.1 c.in_err-bound.ensures)
+returns-in_err-bound g c = goes_on _ c.in_ok-phase.ensures.answer (exits _ (omega arith) c.from_residual-in_err-bound.ensures.1 c.in_err-bound.ensures)
 
 pub returns-in_err-axis : goal.returns-in_err-axis
 unfolding field_stop_at
-returns-in_err-axis g c = goes_on _ c.in_ok-phase.ensures.answer (goes_on _ c.in_ok-bound.ensures.answer (exits _ c.from_residual-in_err-axis.ensures.1 c.in_err-axis.ensures))
+returns-in_err-axis g c = goes_on _ c.in_ok-phase.ensures.answer (goes_on _ c.in_ok-bound.ensures.answer (exits _ (omega arith) c.from_residual-in_err-axis.ensures.1 c.in_err-axis.ensures))
 
 pub returns-in_err-cell : goal.returns-in_err-cell
 unfolding field_stop_at
 returns-in_err-cell g c =
     let cell = rw c.cells.ensures.value at c.in_err-cell.ensures in
-    goes_on _ c.in_ok-phase.ensures.answer (goes_on _ c.in_ok-bound.ensures.answer (goes_on _ c.in_ok-axis.ensures.answer (exits _ c.from_residual-in_err-cell.ensures.1 cell)))
+    goes_on _ c.in_ok-phase.ensures.answer (goes_on _ c.in_ok-bound.ensures.answer (goes_on _ c.in_ok-axis.ensures.answer (exits _ (omega arith) c.from_residual-in_err-cell.ensures.1 cell)))
 
 pub returns-in_err-value : goal.returns-in_err-value
 unfolding field_stop_at
@@ -30,7 +30,7 @@ returns-in_err-value g c =
     let cell = rw c.cells.ensures.value at c.in_ok-cell.ensures in
     let value = rw c.bound_limit.ensures at c.in_err-value.ensures in
     goes_on _ c.in_ok-phase.ensures.answer (goes_on _ c.in_ok-bound.ensures.answer (goes_on _ c.in_ok-axis.ensures.answer
-    (goes_on _ cell.answer (exits _ c.from_residual-in_err-value.ensures.1 value))))
+    (goes_on _ cell.answer (exits _ (omega arith) c.from_residual-in_err-value.ensures.1 value))))
 
 pub returns : goal.returns
 unfolding field_stop_at

@@ -1,6 +1,6 @@
 use Rattle.std.proofs.Common.{sym, ◌∙◌}
 use Rattle.pic_reader.specs.EndFields.{code_at}
-use Rattle.pic_fields.proofs.ReadLaws.{passes, refused, exits_checked}
+use Rattle.pic_fields.proofs.ReadLaws.{passes, refuses, exits_checked}
 use Rattle.pic_reader.proofs.end_reader.read_kind.Goals as goal
 
 pub returns-in_err-kind : goal.returns-in_err-kind
@@ -9,7 +9,7 @@ returns-in_err-kind g c = exits_checked _ _ c.from_residual.ensures.1 c.in_err-k
 
 pub returns-then-not-is_kind : goal.returns-then-not-is_kind
 unfolding code_at
-returns-then-not-is_kind g c = record { answer = record { why = refused _ _ c.in_ok-kind.ensures.answer (sym c.is_kind.ensures ∙ c.if-not-is_kind.true) } }
+returns-then-not-is_kind g c = record { answer = refuses _ _ c.in_ok-kind.ensures.answer (sym c.is_kind.ensures ∙ c.if-not-is_kind.true) }
 
 pub returns : goal.returns
 unfolding code_at

@@ -2,7 +2,7 @@ use Rattle.std.proofs.Common.{◌≡◌, ℕ, ℤ, refl, sym, ◌∙◌, rules, 
 use Rattle.std.proofs.lemmas.Int.{to_z-of_z}
 use mir.Syntax.{w128}
 use mir.Val.{SFits}
-use Rattle.pic_fields.proofs.ReadLaws.{passes, refused, exits_checked}
+use Rattle.pic_fields.proofs.ReadLaws.{passes, refuses, exits_checked}
 use Rattle.pic_reader.specs.EndFields.{is_past, past_at}
 use Rattle.pic_reader.proofs.end_reader.read_past.Goals as goal
 
@@ -19,10 +19,8 @@ unfolding past_at
 returns-then-not-is_past g c =
     let fits : SFits w128 c.in_ok-value.value = search rules in
     record {
-      answer = record {
-        why = refused _ (is_past c.args.limit) c.in_ok-value.ensures.answer
-            (sym (code_past c.args.limit c.in_ok-value.value fits) ∙ sym c.is_past.ensures ∙ c.if-not-is_past.true);
-      };
+      answer = refuses _ (is_past c.args.limit) c.in_ok-value.ensures.answer
+          (sym (code_past c.args.limit c.in_ok-value.value fits) ∙ sym c.is_past.ensures ∙ c.if-not-is_past.true);
     }
 
 pub returns : goal.returns

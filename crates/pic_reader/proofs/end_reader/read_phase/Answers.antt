@@ -1,6 +1,6 @@
 use Rattle.std.proofs.Common.{sym, ◌∙◌}
 use Rattle.std.proofs.lemmas.Result.{err_from_is_err_and}
-use Rattle.pic_fields.proofs.ReadLaws.{passes, refused, read_as, read_same, stops_as, stops_checked}
+use Rattle.pic_fields.proofs.ReadLaws.{passes, refuses, read_as, read_same, stops_as, stops_checked}
 use Rattle.pic_reader.specs.EndFields.{is_phase, phase_of, code_at, phase_at}
 use Rattle.pic_reader.proofs.end_reader.read_phase.Goals as goal
 
@@ -13,7 +13,7 @@ returns-in_err-n g c =
 pub returns-then-not-is_phase : goal.returns-then-not-is_phase
 unfolding phase_at code_at
 returns-then-not-is_phase g c =
-    record { answer = stops_as phase_of (record { why = refused _ is_phase c.in_ok-n.ensures.answer (sym c.is_phase.ensures ∙ c.if-not-is_phase.true) }) }
+    record { answer = stops_as phase_of (refuses _ is_phase c.in_ok-n.ensures.answer (sym c.is_phase.ensures ∙ c.if-not-is_phase.true)) }
 
 pub returns : goal.returns
 unfolding phase_at code_at

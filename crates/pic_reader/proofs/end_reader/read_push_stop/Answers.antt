@@ -10,26 +10,26 @@ pub returns-in_err-id : goal.returns-in_err-id
 unfolding push_stop_at below_at
 returns-in_err-id g c =
     let id = rw c.particles.ensures.value at c.in_err-id.ensures.reads in
-    exits _ c.from_residual.ensures.1 id
+    exits _ (omega arith) c.from_residual.ensures.1 id
 
 pub returns-in_err-what : goal.returns-in_err-what
 unfolding push_stop_at below_at
 returns-in_err-what g c =
     let id = rw c.particles.ensures.value at c.in_ok-id.ensures.reads in
-    goes_on _ id.answer (exits _ c.from_residual-in_err-what.ensures.1 c.in_err-what.ensures)
+    goes_on _ id.answer (exits _ (omega arith) c.from_residual-in_err-what.ensures.1 c.in_err-what.ensures)
 
 pub returns-in_err-axis : goal.returns-in_err-axis
 unfolding push_stop_at below_at
 returns-in_err-axis g c =
     let id = rw c.particles.ensures.value at c.in_ok-id.ensures.reads in
-    goes_on _ id.answer (goes_on _ c.in_ok-what.ensures.answer (exits _ c.from_residual-in_err-axis.ensures.1 c.in_err-axis.ensures))
+    goes_on _ id.answer (goes_on _ c.in_ok-what.ensures.answer (exits _ (omega arith) c.from_residual-in_err-axis.ensures.1 c.in_err-axis.ensures))
 
 pub returns-in_err-value : goal.returns-in_err-value
 unfolding push_stop_at below_at
 returns-in_err-value g c =
     let id = rw c.particles.ensures.value at c.in_ok-id.ensures.reads in
     let value = rw (c.what_limit.ensures, c.side.ensures.value) at c.in_err-value.ensures in
-    goes_on _ id.answer (goes_on _ c.in_ok-what.ensures.answer (goes_on _ c.in_ok-axis.ensures.answer (exits _ c.from_residual-in_err-value.ensures.1 value)))
+    goes_on _ id.answer (goes_on _ c.in_ok-what.ensures.answer (goes_on _ c.in_ok-axis.ensures.answer (exits _ (omega arith) c.from_residual-in_err-value.ensures.1 value)))
 
 pub returns : goal.returns
 unfolding push_stop_at below_at

@@ -28,7 +28,7 @@ unfolding field_at value_at
 returns-in_err-value-clause-reads g c =
     let count : c.count.result ≡ count_of c.args.field.now.cells = c.count.ensures.value ∙ ap count_of c.cells-cells.ensures.value in
     let below : c.loop-index.index < 3 * count_of c.args.field.now.cells = omega (arith, count, c.loop-index-test.true) in
-    exits_among (3 * count_of c.args.field.now.cells) c.loop-index.index (value_at c.args.by) c.from_residual.ensures.1 below c.loop-index.invariant.read c.in_err-value.ensures.reads
+    exits_among (3 * count_of c.args.field.now.cells) c.loop-index.index (value_at c.args.by) c.from_residual.ensures.1 below (omega (arith, below)) c.loop-index.invariant.read c.in_err-value.ensures.reads
 
 pub loop-index-preserved : goal.loop-index-preserved
 unfolding value_at

@@ -10,13 +10,13 @@ use Rattle.pic_reader.proofs.frame_reader.read_frame.Goals as goal
 
 pub returns-in_err-read_step-clause-reads : goal.returns-in_err-read_step-clause-reads
 unfolding frame_at
-returns-in_err-read_step-clause-reads g c = exits _ c.from_residual.ensures.1 c.in_err-read_step.ensures
+returns-in_err-read_step-clause-reads g c = exits _ (omega arith) c.from_residual.ensures.1 c.in_err-read_step.ensures
 
 pub returns-in_err-read_field-clause-reads : goal.returns-in_err-read_field-clause-reads
 unfolding frame_at state_at
 returns-in_err-read_field-clause-reads g c =
     let e = rw (c.requires.e, c.scales.ensures.value) at c.in_err-read_field.ensures.reads in
-    goes_on _ c.in_ok-read_step.ensures.answer (exits _ c.from_residual-in_err-read_field.ensures.1 e)
+    goes_on _ c.in_ok-read_step.ensures.answer (exits _ (omega arith) c.from_residual-in_err-read_field.ensures.1 e)
 
 pub returns-in_err-read_field-2-clause-reads : goal.returns-in_err-read_field-2-clause-reads
 unfolding frame_at state_at
@@ -30,7 +30,7 @@ returns-in_err-read_field-2-clause-reads g c =
     let at_e = g.S.Source.told c.read_field.new.source in
     let e : HasRead (field_at l.cells l.scales.e_force) second at_step c.read_field.new.field.values third at_e = read_up_to (omega (arith, count)) e_read.answer in
     let b = rw (c.requires.b, c.scales-2.ensures.value) at c.in_err-read_field-2.ensures.reads in
-    goes_on _ c.in_ok-read_step.ensures.answer (goes_on _ e (exits _ c.from_residual-in_err-read_field-2.ensures.1 b))
+    goes_on _ c.in_ok-read_step.ensures.answer (goes_on _ e (exits _ (omega arith) c.from_residual-in_err-read_field-2.ensures.1 b))
 
 pub returns-in_err-read_particles-clause-reads : goal.returns-in_err-read_particles-clause-reads
 unfolding frame_at state_at
@@ -47,7 +47,7 @@ returns-in_err-read_particles-clause-reads g c =
     let b_read = rw (c.requires.b, c.scales-2.ensures.value) at c.in_ok-read_field-2.ensures.reads in
     let at_b = g.S.Source.told c.read_field-2.new.source in
     let b : HasRead (field_at l.cells l.scales.b_force) third at_e c.read_field-2.new.field.values fourth at_b = read_up_to (omega (arith, count)) b_read.answer in
-    goes_on _ c.in_ok-read_step.ensures.answer (goes_on _ e (goes_on _ b (exits _ c.from_residual-in_err-read_particles.ensures.1 c.in_err-read_particles.ensures.reads)))
+    goes_on _ c.in_ok-read_step.ensures.answer (goes_on _ e (goes_on _ b (exits _ (omega arith) c.from_residual-in_err-read_particles.ensures.1 c.in_err-read_particles.ensures.reads)))
 
 pub returns-clause-reads : goal.returns-clause-reads
 unfolding frame_at state_at

@@ -13,14 +13,14 @@ pub returns-in_err-x-clause-reads : goal.returns-in_err-x-clause-reads
 unfolding particle_of
 returns-in_err-x-clause-reads g c =
     let x = rw (c.cells.ensures.value, c.cells.ensures.side) at c.in_err-x.ensures.reads in
-    exits _ c.from_residual.ensures.1 x
+    exits _ (omega arith) c.from_residual.ensures.1 x
 
 pub returns-in_err-v-clause-reads : goal.returns-in_err-v-clause-reads
 unfolding particle_of
 returns-in_err-v-clause-reads g c =
     let x = rw (c.cells.ensures.value, c.cells.ensures.side) at c.in_ok-x.ensures.reads in
     let v = rw c.side.ensures.value at c.in_err-v.ensures in
-    goes_on _ x.answer (exits _ c.from_residual-in_err-v.ensures.1 v)
+    goes_on _ x.answer (exits _ (omega arith) c.from_residual-in_err-v.ensures.1 v)
 
 pub returns-clause-reads : goal.returns-clause-reads
 unfolding particle_of

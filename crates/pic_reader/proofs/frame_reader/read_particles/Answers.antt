@@ -30,7 +30,7 @@ returns-in_err-particle-clause-reads g c =
     let at = c.args.place + 24 * i in
     let stopped : Reads as_it_is (particle_at l (take i c.loop-index.particles)) at (at + 24) (g.S.Source.told c.loop-index.source) (g.S.Source.told c.read_particle.new.source)
     (Err c.in_err-particle.field-0.0) = rw size c.in_err-particle.ensures.reads in
-    exits_among (sum l.counts) i (particle_at l) c.from_residual.ensures.1 below so_far.read stopped
+    exits_among (sum l.counts) i (particle_at l) c.from_residual.ensures.1 below (omega (arith, below)) so_far.read stopped
 
 pub loop-index-preserved : goal.loop-index-preserved
 unfolding particle_at

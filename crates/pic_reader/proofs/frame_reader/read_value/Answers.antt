@@ -3,7 +3,7 @@ use Rattle.std.proofs.lemmas.Int.{to_z-of_z}
 use mir.Syntax.{w128}
 use mir.Val.{SFits}
 use Rattle.pic_num.specs.Multiplier.{Multiplier}
-use Rattle.pic_fields.proofs.ReadLaws.{passes, refused, exits_checked}
+use Rattle.pic_fields.proofs.ReadLaws.{passes, refuses, exits_checked}
 use Rattle.pic_reader.specs.FrameFields.{is_moderate}
 use Rattle.pic_reader.proofs.frame_reader.read_value.Goals as goal
 
@@ -18,10 +18,8 @@ pub returns-then-not-is_moderate-clause-reads : goal.returns-then-not-is_moderat
 returns-then-not-is_moderate-clause-reads g c =
     let fits : SFits w128 c.in_ok-value.value = search rules in
     record {
-      answer = record {
-        why = refused _ (is_moderate c.args.by) c.in_ok-value.ensures.answer
-            (sym (code_moderate c.args.by c.in_ok-value.value fits) ∙ sym c.is_moderate.ensures ∙ c.if-not-is_moderate.true);
-      };
+      answer = refuses _ (is_moderate c.args.by) c.in_ok-value.ensures.answer
+          (sym (code_moderate c.args.by c.in_ok-value.value fits) ∙ sym c.is_moderate.ensures ∙ c.if-not-is_moderate.true);
     }
 
 pub returns-clause-reads : goal.returns-clause-reads

@@ -8,15 +8,15 @@ use Rattle.pic_reader.proofs.frame_reader.read_velocity.Goals as goal
 
 pub returns-in_err-x : goal.returns-in_err-x
 unfolding velocity_at
-returns-in_err-x g c = exits _ c.from_residual.ensures.1 c.in_err-x.ensures
+returns-in_err-x g c = exits _ (omega arith) c.from_residual.ensures.1 c.in_err-x.ensures
 
 pub returns-in_err-y : goal.returns-in_err-y
 unfolding velocity_at
-returns-in_err-y g c = goes_on _ c.in_ok-x.ensures.answer (exits _ c.from_residual-in_err-y.ensures.1 c.in_err-y.ensures)
+returns-in_err-y g c = goes_on _ c.in_ok-x.ensures.answer (exits _ (omega arith) c.from_residual-in_err-y.ensures.1 c.in_err-y.ensures)
 
 pub returns-in_err-z : goal.returns-in_err-z
 unfolding velocity_at
-returns-in_err-z g c = goes_on _ c.in_ok-x.ensures.answer (goes_on _ c.in_ok-y.ensures.answer (exits _ c.from_residual-in_err-z.ensures.1 c.in_err-z.ensures))
+returns-in_err-z g c = goes_on _ c.in_ok-x.ensures.answer (goes_on _ c.in_ok-y.ensures.answer (exits _ (omega arith) c.from_residual-in_err-z.ensures.1 c.in_err-z.ensures))
 
 pub returns : goal.returns
 unfolding velocity_at

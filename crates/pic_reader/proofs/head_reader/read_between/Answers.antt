@@ -2,7 +2,7 @@ use Rattle.std.proofs.Common.{◌≡◌, ℤ, refl, sym, ◌∙◌, rules, to_z,
 use Rattle.std.proofs.lemmas.Int.{to_z-of_z}
 use mir.Syntax.{w32}
 use mir.Val.{SFits}
-use Rattle.pic_fields.proofs.ReadLaws.{passes, refused, exits_checked}
+use Rattle.pic_fields.proofs.ReadLaws.{passes, refuses, exits_checked}
 use Rattle.pic_reader.specs.Fields.{is_between, between}
 use Rattle.pic_reader.proofs.head_reader.read_between.Goals as goal
 
@@ -22,10 +22,8 @@ returns-then-not-is_between-clause-reads g c =
     let h : SFits w32 c.args.high = search rules in
     let fits : SFits w32 c.in_ok-n.n = search rules in
     record {
-      answer = record {
-        why = refused _ (is_between c.args.low c.args.high) c.in_ok-n.ensures.answer
-            (sym (codes_between c.args.low c.args.high c.in_ok-n.n l h fits) ∙ sym c.is_between.ensures ∙ c.if-not-is_between.true);
-      };
+      answer = refuses _ (is_between c.args.low c.args.high) c.in_ok-n.ensures.answer
+          (sym (codes_between c.args.low c.args.high c.in_ok-n.n l h fits) ∙ sym c.is_between.ensures ∙ c.if-not-is_between.true);
     }
 
 pub returns-clause-reads : goal.returns-clause-reads

@@ -6,15 +6,15 @@ use Rattle.pic_reader.proofs.head_reader.read_cells.Goals as goal
 
 pub returns-in_err-x-clause-reads : goal.returns-in_err-x-clause-reads
 unfolding cells_at
-returns-in_err-x-clause-reads g c = exits _ c.from_residual.ensures.1 c.in_err-x.ensures.reads
+returns-in_err-x-clause-reads g c = exits _ (omega arith) c.from_residual.ensures.1 c.in_err-x.ensures.reads
 
 pub returns-in_err-y-clause-reads : goal.returns-in_err-y-clause-reads
 unfolding cells_at
-returns-in_err-y-clause-reads g c = goes_on _ c.in_ok-x.ensures.reads.answer (exits _ c.from_residual-in_err-y.ensures.1 c.in_err-y.ensures.reads)
+returns-in_err-y-clause-reads g c = goes_on _ c.in_ok-x.ensures.reads.answer (exits _ (omega arith) c.from_residual-in_err-y.ensures.1 c.in_err-y.ensures.reads)
 
 pub returns-in_err-z-clause-reads : goal.returns-in_err-z-clause-reads
 unfolding cells_at
-returns-in_err-z-clause-reads g c = goes_on _ c.in_ok-x.ensures.reads.answer (goes_on _ c.in_ok-y.ensures.reads.answer (exits _ c.from_residual-in_err-z.ensures.1 c.in_err-z.ensures.reads))
+returns-in_err-z-clause-reads g c = goes_on _ c.in_ok-x.ensures.reads.answer (goes_on _ c.in_ok-y.ensures.reads.answer (exits _ (omega arith) c.from_residual-in_err-z.ensures.1 c.in_err-z.ensures.reads))
 
 pub returns-clause-reads : goal.returns-clause-reads
 unfolding cells_at

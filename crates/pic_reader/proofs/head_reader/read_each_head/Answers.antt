@@ -4,7 +4,7 @@ use Rattle.std.proofs.lemmas.List.Sums.{sum_by-append}
 use Rattle.pic_grid.specs.Species.{HeadView}
 use Rattle.pic_fields.specs.Parser.{each}
 use Rattle.pic_fields.specs.Reads.{HasRead}
-use Rattle.pic_fields.proofs.ReadLaws.{read_up_to}
+use Rattle.pic_fields.proofs.ReadLaws.{moves_then, moves_up, read_up_to}
 use Rattle.pic_fields.proofs.EachLaws.{read_none, read_more}
 use Rattle.pic_reader.specs.HeaderFields.{particles_of, head_at}
 use Rattle.pic_reader.proofs.HeadLaws.{heads_none, heads_more}
@@ -18,11 +18,12 @@ loop-index-init g c =
 pub returns-in_err-head-clause-reads : goal.returns-in_err-head-clause-reads
 returns-in_err-head-clause-reads g c =
     let stopped = rw c.as_slice.ensures.value at c.in_err-head.ensures.reads in
-    head_among c.args.count c.loop-index.index head_at c.from_residual.ensures.1 c.loop-index-test.true c.loop-index.invariant.read stopped
+    head_among c.args.count c.loop-index.index head_at c.from_residual.ensures.1 c.loop-index-test.true (omega (arith, c.loop-index-test.true)) c.loop-index.invariant.read stopped
 
 pub returns-in_err-push-clause-reads : goal.returns-in_err-push-clause-reads
 returns-in_err-push-clause-reads g c =
     head_starves _ c.from_residual-in_err-push.ensures.1 (c.in_ok-head.ensures.reads.answer.calm ∙ c.loop-index.invariant.read.calm)
+    (moves_up (omega (arith, c.loop-index-test.true)) (moves_then c.loop-index.invariant.read.moves c.in_ok-head.ensures.reads.answer.moves))
 
 pub loop-index-preserved : goal.loop-index-preserved
 loop-index-preserved g c =

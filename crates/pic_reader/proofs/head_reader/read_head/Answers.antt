@@ -5,7 +5,7 @@ use Rattle.pic_io.specs.Told.{Told}
 use Rattle.pic_fields.specs.declared.read_stop.ReadStop.{ReadStop}
 use Rattle.pic_fields.specs.Number.{within}
 use Rattle.pic_fields.specs.Reads.{Reads, as_it_is}
-use Rattle.pic_fields.proofs.ReadLaws.{read_then, read_done, read_same, read_up_to}
+use Rattle.pic_fields.proofs.ReadLaws.{moves_then, moves_up, read_then, read_done, read_same, read_up_to}
 use Rattle.pic_reader.specs.HeaderFields.{head_at}
 use Rattle.pic_reader.specs.Fields.{out_of_limits}
 use Rattle.pic_num.specs.Limits.{most_particles_1}
@@ -24,20 +24,21 @@ so_many n m is {s} {e} {x} {z} {r} h = subst (λ k. Reads as_it_is (within out_o
 
 pub returns-in_err-name-clause-reads : goal.returns-in_err-name-clause-reads
 unfolding head_at
-returns-in_err-name-clause-reads g c = head_exits _ c.from_residual.ensures.1 c.in_err-name.ensures.reads
+returns-in_err-name-clause-reads g c = head_exits _ (omega arith) c.from_residual.ensures.1 c.in_err-name.ensures.reads
 
 pub returns-in_err-kind-clause-reads : goal.returns-in_err-kind-clause-reads
 unfolding head_at
-returns-in_err-kind-clause-reads g c = head_goes_on _ c.in_ok-name.ensures.reads.answer (head_exits _ c.from_residual-in_err-kind.ensures.1 c.in_err-kind.ensures.reads)
+returns-in_err-kind-clause-reads g c = head_goes_on _ c.in_ok-name.ensures.reads.answer (head_exits _ (omega arith) c.from_residual-in_err-kind.ensures.1 c.in_err-kind.ensures.reads)
 
 pub returns-in_err-count-clause-reads : goal.returns-in_err-count-clause-reads
 unfolding head_at
-returns-in_err-count-clause-reads g c = head_goes_on _ c.in_ok-name.ensures.reads.answer (head_goes_on _ c.in_ok-kind.ensures.reads.answer (head_exits _ c.from_residual-in_err-count.ensures.1 (so_many _ _ c.requires.count c.in_err-count.ensures.reads)))
+returns-in_err-count-clause-reads g c = head_goes_on _ c.in_ok-name.ensures.reads.answer (head_goes_on _ c.in_ok-kind.ensures.reads.answer (head_exits _ (omega arith) c.from_residual-in_err-count.ensures.1 (so_many _ _ c.requires.count c.in_err-count.ensures.reads)))
 
 pub returns-in_err-head-clause-reads : goal.returns-in_err-head-clause-reads
 returns-in_err-head-clause-reads g c =
     head_starves _ c.from_residual-in_err-head.ensures.1
     (c.in_ok-count.ensures.reads.answer.calm ∙ (c.in_ok-kind.ensures.reads.answer.calm ∙ c.in_ok-name.ensures.reads.answer.calm))
+    (moves_up (omega arith) (moves_then c.in_ok-name.ensures.reads.answer.moves (moves_then c.in_ok-kind.ensures.reads.answer.moves c.in_ok-count.ensures.reads.answer.moves)))
 
 pub returns-clause-reads : goal.returns-clause-reads
 unfolding head_at

@@ -8,19 +8,19 @@ use Rattle.pic_reader.proofs.head_reader.read_kind.Goals as goal
 
 pub returns-in_err-charge-clause-reads : goal.returns-in_err-charge-clause-reads
 unfolding kind_at
-returns-in_err-charge-clause-reads g c = exits _ c.from_residual.ensures.1 c.in_err-charge.ensures.reads
+returns-in_err-charge-clause-reads g c = exits _ (omega arith) c.from_residual.ensures.1 c.in_err-charge.ensures.reads
 
 pub returns-in_err-mass-clause-reads : goal.returns-in_err-mass-clause-reads
 unfolding kind_at
-returns-in_err-mass-clause-reads g c = goes_on _ c.in_ok-charge.ensures.reads.answer (exits _ c.from_residual-in_err-mass.ensures.1 c.in_err-mass.ensures.reads)
+returns-in_err-mass-clause-reads g c = goes_on _ c.in_ok-charge.ensures.reads.answer (exits _ (omega arith) c.from_residual-in_err-mass.ensures.1 c.in_err-mass.ensures.reads)
 
 pub returns-in_err-kick-clause-reads : goal.returns-in_err-kick-clause-reads
 unfolding kind_at
-returns-in_err-kick-clause-reads g c = goes_on _ c.in_ok-charge.ensures.reads.answer (goes_on _ c.in_ok-mass.ensures.reads.answer (exits _ c.from_residual-in_err-kick.ensures.1 c.in_err-kick.ensures))
+returns-in_err-kick-clause-reads g c = goes_on _ c.in_ok-charge.ensures.reads.answer (goes_on _ c.in_ok-mass.ensures.reads.answer (exits _ (omega arith) c.from_residual-in_err-kick.ensures.1 c.in_err-kick.ensures))
 
 pub returns-in_err-turn-clause-reads : goal.returns-in_err-turn-clause-reads
 unfolding kind_at
-returns-in_err-turn-clause-reads g c = goes_on _ c.in_ok-charge.ensures.reads.answer (goes_on _ c.in_ok-mass.ensures.reads.answer (goes_on _ c.in_ok-kick.ensures.answer (exits _ c.from_residual-in_err-turn.ensures.1 c.in_err-turn.ensures)))
+returns-in_err-turn-clause-reads g c = goes_on _ c.in_ok-charge.ensures.reads.answer (goes_on _ c.in_ok-mass.ensures.reads.answer (goes_on _ c.in_ok-kick.ensures.answer (exits _ (omega arith) c.from_residual-in_err-turn.ensures.1 c.in_err-turn.ensures)))
 
 pub returns-clause-reads : goal.returns-clause-reads
 unfolding kind_at

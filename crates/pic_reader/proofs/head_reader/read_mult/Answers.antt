@@ -8,11 +8,11 @@ use Rattle.pic_reader.proofs.head_reader.read_mult.Goals as goal
 
 pub returns-in_err-n : goal.returns-in_err-n
 unfolding mult_at
-returns-in_err-n g c = exits _ c.from_residual.ensures.1 c.in_err-n.ensures.reads
+returns-in_err-n g c = exits _ (omega arith) c.from_residual.ensures.1 c.in_err-n.ensures.reads
 
 pub returns-in_err-k : goal.returns-in_err-k
 unfolding mult_at
-returns-in_err-k g c = goes_on _ c.in_ok-n.ensures.reads.answer (exits _ c.from_residual-in_err-k.ensures.1 c.in_err-k.ensures.reads)
+returns-in_err-k g c = goes_on _ c.in_ok-n.ensures.reads.answer (exits _ (omega arith) c.from_residual-in_err-k.ensures.1 c.in_err-k.ensures.reads)
 
 pub returns : goal.returns
 unfolding mult_at

@@ -1,6 +1,6 @@
 use Rattle.std.proofs.Common.{◌++◌, ap, sym, ◌∙◌}
 use Rattle.std.proofs.lemmas.Result.{err_from_is_err_and}
-use Rattle.pic_fields.proofs.ReadLaws.{passes, refused, read_as, read_same, stops_as, stops_checked}
+use Rattle.pic_fields.proofs.ReadLaws.{passes, refuses, read_as, read_same, stops_as, stops_checked}
 use Rattle.pic_reader.specs.HeaderFields.{name_of, is_new_name_field, name_at}
 use Rattle.pic_reader.proofs.name_reader.read_name.Goals as goal
 
@@ -14,10 +14,8 @@ pub returns-then-not-is_new_name_field-clause-reads : goal.returns-then-not-is_n
 unfolding name_at
 returns-then-not-is_new_name_field-clause-reads g c =
     record {
-      answer = stops_as name_of (record {
-        why = refused _ (is_new_name_field c.args.earlier.now) c.in_ok-take_field.ensures.reads.answer
-            (sym c.is_new_name_field.ensures ∙ c.if-not-is_new_name_field.true);
-      });
+      answer = stops_as name_of (refuses _ (is_new_name_field c.args.earlier.now) c.in_ok-take_field.ensures.reads.answer
+          (sym c.is_new_name_field.ensures ∙ c.if-not-is_new_name_field.true));
     }
 
 pub returns-clause-reads : goal.returns-clause-reads

@@ -1,4 +1,4 @@
-use Rattle.pic_verify.proofs.VerdictLaws.{verifies_behind, verifies_head, exact}
+use Rattle.pic_verify.proofs.VerdictLaws.{verifies_behind, verifies_head, exact, stops_taken, walks_taken}
 use Rattle.pic_verify.proofs.verifying.verify.Goals as goal
 
 pub returns-in_err-reader-clause-verifies : goal.returns-in_err-reader-clause-verifies
@@ -12,3 +12,9 @@ returns-clause-verifies g c = verifies_behind _ _ _ _ _ _ _ c.in_ok-reader.ensur
 
 pub returns-clause-exactly : goal.returns-clause-exactly
 returns-clause-exactly g c = exact _ _ _ (verifies_behind _ _ _ _ _ _ _ c.in_ok-reader.ensures.reads.answer c.in_ok-reader.ensures.stands c.walk.ensures)
+
+pub returns-in_err-reader-clause-taken : goal.returns-in_err-reader-clause-taken
+returns-in_err-reader-clause-taken g c = stops_taken _ _ _ _ _ c.in_err-reader.ensures.reads
+
+pub returns-clause-taken : goal.returns-clause-taken
+returns-clause-taken g c = walks_taken _ _ _ _ _ _ c.in_ok-reader.ensures.reads.answer c.in_ok-reader.ensures.stands c.walk.ensures

@@ -8,7 +8,7 @@ use Rattle.pic_verify.proofs.verifying.walk.Goals as goal
 
 pub records-init : goal.records-init
 records-init g c = record {
-  follows = follows_none c.args.reader _ c.requires.start;
+  follows = follows_none c.args.reader _ c.requires.start c.requires.limits.every_least;
   e = c.requires.e;
   b = c.requires.b;
   particles = c.requires.particles;
@@ -28,7 +28,7 @@ returns-in-Some g c =
     let e = c.next.new.state.e.values in
     let particles = c.next.new.state.particles.items in
     let some : break_of c.args.reader.layout e particles ≡ Some c.in-Some.at = ap (λ (l : LayoutView). break_of l e particles) (sym layout) ∙ sym c.in-Some.ensures.value in
-    record { answer = breaks_frame _ _ _ _ _ _ _ _ _ _ _ _ _ so_far has some }
+    breaks_frame _ _ _ _ _ _ _ _ _ _ _ _ _ so_far has some
 
 pub records-preserved : goal.records-preserved
 records-preserved g c =

@@ -1,10 +1,10 @@
-use Rattle.std.proofs.Common.{◌≡◌, ℕ, refl, sym, ap, ◌∙◌, arith}
-use Rattle.pic_fields.proofs.ReadLaws.{read_then, read_same, read_as, read_up_to, ends_then, stops_first, stops_then, stops_as}
+use Rattle.std.proofs.Common.{◌≡◌, ◌+◌, ℕ, Some, refl, sym, ap, ◌∙◌, arith}
+use Rattle.pic_fields.proofs.ReadLaws.{read_then, read_same, read_as, read_up_to, ends_then, ended_up, stops_first, stops_then, stops_as}
 use Rattle.pic_dump.specs.Due.{due_after}
 use Rattle.pic_reader.specs.EndFields.{or_zero}
-use Rattle.pic_reader.specs.FrameFields.{frame_of}
+use Rattle.pic_reader.specs.FrameFields.{frame_of, frame_length}
 use Rattle.pic_reader.specs.Records.{RecordView, AFrame, record_at}
-use Rattle.pic_reader.proofs.NextLaws.{of_frame, of_end, next_exits, frame_after, or_zero_most, stands_behind}
+use Rattle.pic_reader.proofs.NextLaws.{of_frame, of_end, next_exits, due_is, most_least, most_frame, frame_after, or_zero_most, stands_behind}
 use Rattle.pic_reader.proofs.dump_reader.DumpReader.next.Goals as goal
 
 pub returns-in_err-tag-clause-reads : goal.returns-in_err-tag-clause-reads
@@ -13,8 +13,9 @@ returns-in_err-tag-clause-reads g c =
     let l = c.self.inside.layout in
     let last = c.self.inside.last in
     let due : c.due_after-due.result ≡ due_after l.steps l.every last = rw (c.steps.ensures.value, c.every.ensures.value) at c.due_after-due.ensures.value in
+    let least = most_least l (due_after l.steps l.every last) in
     let tag = rw due at c.in_err-tag.ensures.reads in
-    rw (sym c.self.view_is) (next_exits _ c.from_residual.ensures.1 (stops_first _ tag.answer))
+    rw (sym c.self.view_is) (next_exits _ {n = c.self.inside.place + 1} (omega (arith, least)) c.from_residual.ensures.1 (stops_first _ (omega arith) tag.answer))
 
 pub returns-in_err-energies-clause-reads : goal.returns-in_err-energies-clause-reads
 unfolding record_at
@@ -22,18 +23,22 @@ returns-in_err-energies-clause-reads g c =
     let l = c.self.inside.layout in
     let last = c.self.inside.last in
     let due : c.due_after-due.result ≡ due_after l.steps l.every last = rw (c.steps.ensures.value, c.every.ensures.value) at c.due_after-due.ensures.value in
+    let least = most_least l (due_after l.steps l.every last) in
     let tag = rw due at c.in_ok-tag.ensures.reads in
     let frame = sym c.is_code.ensures ∙ c.if-is_code.true in
+    let passes = rw due at c.in_ok-tag.ensures.passes in
+    let whole = most_frame l (due_after l.steps l.every last) last c.in_ok-tag.tag passes frame in
     let stopped = rw (c.or_zero-step.ensures, due) at c.in_err-energies.ensures.reads in
     let wrapped = stops_as AFrame stopped.answer in
     let behind = rw (sym (of_frame l last (due_after l.steps l.every last) c.in_ok-tag.tag frame)) at wrapped in
-    rw (sym c.self.view_is) (next_exits _ c.from_residual-in_err-energies.ensures.1 (stops_then _ tag.answer behind))
+    rw (sym c.self.view_is) (next_exits _ {n = c.self.inside.place + 1 + frame_length l} (omega (arith, whole)) c.from_residual-in_err-energies.ensures.1 (stops_then _ tag.answer behind))
 
 pub invariant_of-reader : goal.invariant_of-reader
 invariant_of-reader g c =
     let l = c.self.inside.layout in
     let last = c.self.inside.last in
     let due : c.due_after-due.result ≡ due_after l.steps l.every last = rw (c.steps.ensures.value, c.every.ensures.value) at c.due_after-due.ensures.value in
+    let least = most_least l (due_after l.steps l.every last) in
     let frame = sym c.is_code.ensures ∙ c.if-is_code.true in
     let tag = rw due at c.in_ok-tag.ensures.passes in
     let step = c.or_zero-step.ensures ∙ ap or_zero due in
@@ -49,6 +54,7 @@ returns-then-is_code-clause-reads g c =
     let l = c.self.inside.layout in
     let last = c.self.inside.last in
     let due : c.due_after-due.result ≡ due_after l.steps l.every last = rw (c.steps.ensures.value, c.every.ensures.value) at c.due_after-due.ensures.value in
+    let least = most_least l (due_after l.steps l.every last) in
     let tag = rw due at c.in_ok-tag.ensures.reads in
     let is_frame = sym c.is_code.ensures ∙ c.if-is_code.true in
     let read = rw (c.or_zero-step.ensures, due) at c.in_ok-energies.ensures.reads in
@@ -65,7 +71,9 @@ returns-then-is_code-clause-reads g c =
       answer = record {
         read = read_same (ap frame (sym step)) (read_up_to (omega (arith, length)) (read_then _ tag.answer behind));
         layout = refl;
+        place = omega (arith, length);
         last = refl;
+        due = due_is (due_after l.steps l.every last) last c.in_ok-tag.tag passes is_frame ∙ ap Some (sym step);
         later = omega (arith, later, step);
         most = omega (arith, limit, c.or_zero-step.ensures, c.steps.ensures.value);
         held = c.in_ok-energies.ensures.held;
@@ -78,11 +86,12 @@ returns-in_err-mark-clause-reads g c =
     let l = c.self.inside.layout in
     let last = c.self.inside.last in
     let due : c.due_after-due.result ≡ due_after l.steps l.every last = rw (c.steps.ensures.value, c.every.ensures.value) at c.due_after-due.ensures.value in
+    let least = most_least l (due_after l.steps l.every last) in
     let tag = rw due at c.in_ok-tag.ensures.reads in
     let end = sym c.is_code.ensures ∙ c.if-is_code.false in
     let stopped = rw due at c.in_err-mark.ensures in
     let behind = rw (sym (of_end l last (due_after l.steps l.every last) c.in_ok-tag.tag end)) at stopped.answer in
-    rw (sym c.self.view_is) (next_exits _ c.from_residual-in_err-mark.ensures.1 (stops_then _ tag.answer behind))
+    rw (sym c.self.view_is) (next_exits _ {n = c.self.inside.place + 1 + 37} (omega (arith, least)) c.from_residual-in_err-mark.ensures.1 (stops_then _ tag.answer behind))
 
 pub returns-clause-reads : goal.returns-clause-reads
 unfolding record_at
@@ -90,8 +99,9 @@ returns-clause-reads g c =
     let l = c.self.inside.layout in
     let last = c.self.inside.last in
     let due : c.due_after-due.result ≡ due_after l.steps l.every last = rw (c.steps.ensures.value, c.every.ensures.value) at c.due_after-due.ensures.value in
+    let least = most_least l (due_after l.steps l.every last) in
     let tag = rw due at c.in_ok-tag.ensures.reads in
     let end = sym c.is_code.ensures ∙ c.if-is_code.false in
     let read = rw due at c.in_ok-mark.ensures in
     let behind = rw (sym (of_end l last (due_after l.steps l.every last) c.in_ok-tag.tag end)) at read.answer in
-    rw (sym c.self.view_is) (record { answer = ends_then _ tag.answer behind })
+    rw (sym c.self.view_is) (record { answer = ended_up {e = c.self.inside.place + 1 + 37} (omega (arith, least)) (ends_then _ tag.answer behind) })
