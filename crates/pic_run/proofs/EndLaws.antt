@@ -13,6 +13,7 @@ use Rattle.pic_line.specs.declared.asked.Command.{Command}
 use Rattle.pic_line.specs.declared.asked.Command.TheVariants.{Check, Run, Verify, Demo}
 use Rattle.pic_verify.specs.declared.verify_stop.VerifyStop.{VerifyStop}
 use Rattle.pic_verify.specs.declared.verify_stop.VerifyStop.TheVariants as verify_stop
+use Rattle.pic_verify.specs.Allowed.{TakesAllowed}
 use Rattle.pic_verify.specs.Verified.{Verdict, verified}
 use Rattle.pic_verify.specs.Verifies.{Finds, Verifies}
 use Rattle.pic_run.specs.declared.cut.Cut.{Cut}
@@ -151,7 +152,11 @@ starved_words words source before = record {
     none_read None = refl
     none_read (Some Check) = reads_deck
     none_read (Some (Run workers)) = reads_deck
-    none_read (Some Verify) = record { end = λ frames same. cc; fault = λ same. cc }
+    none_read (Some Verify) = record {
+      taken = record { front = []; taken = with_front_nil source.bytes; most = inl (omega arith) };
+      end = λ frames same. cc;
+      fault = λ same. cc;
+    }
     none_read (Some (Demo seed workers)) = record { same = refl; sound = λ whole. absurd (whole refl) }
 
 -- a demonstration was stopped, or it was tested and went on
@@ -197,42 +202,49 @@ answers_as o before now finish answer ends same = let whole = subst (Finishes o 
 
 -- a dump was verified to its end
 pub good_dump : (source source' : Told) (before now : Sinks) (finish : Result Ended Cut) (frames : ℕ) → Verifies source source' (Ok frames)
+    → TakesAllowed source source'
     → Finishes (verdict_outcome (Ok frames)) before now finish → OnDump source source' before now finish
-good_dump source source' before now finish frames is ends =
+good_dump source source' before now finish frames is taken ends =
     found source source' before now finish (Ok frames) is.answer.0 ends (record {
+      taken = taken;
       end = λ _ _. is.answer.1;
       fault = λ same. let other = answers_as (verdict_outcome (Ok frames)) before now finish ReadFault ends same in cc;
     })
 
 -- it wasn't
 pub dump_stopped : (source source' : Told) (before now : Sinks) (finish : Result Ended Cut) (stop : VerifyStop) → Verifies source source' (Err stop)
+    → TakesAllowed source source'
     → EndsStopped (stop_of_verify stop) before now finish → OnDump source source' before now finish
-dump_stopped source source' before now finish verify_stop.ReadFault is ends = record {
+dump_stopped source source' before now finish verify_stop.ReadFault is taken ends = record {
   input = None;
   gave = is.answer;
   finishes = ends;
   reads = record {
+    taken = taken;
     end = λ frames same. let other = answers_as (verdict_outcome (Err verify_stop.ReadFault)) before now finish (Verified frames) ends same in cc;
     fault = λ _. is.answer;
   };
 }
-dump_stopped source source' before now finish (verify_stop.BadDump place cause) is ends =
+dump_stopped source source' before now finish (verify_stop.BadDump place cause) is taken ends =
     let o = verdict_outcome (Err (verify_stop.BadDump place cause)) in
     found source source' before now finish (Err (verify_stop.BadDump place cause)) is.answer ends (record {
+      taken = taken;
       end = λ frames same. let other = answers_as o before now finish (Verified frames) ends same in cc;
       fault = λ same. let other = answers_as o before now finish ReadFault ends same in cc;
     })
-dump_stopped source source' before now finish (verify_stop.Broken frame b) is ends =
+dump_stopped source source' before now finish (verify_stop.Broken frame b) is taken ends =
     let o = verdict_outcome (Err (verify_stop.Broken frame b)) in
     found source source' before now finish (Err (verify_stop.Broken frame b)) is.answer ends (record {
+      taken = taken;
       end = λ frames same. let other = answers_as o before now finish (Verified frames) ends same in cc;
       fault = λ same. let other = answers_as o before now finish ReadFault ends same in cc;
     })
-dump_stopped source source' before now finish verify_stop.NoMemory is (none, wrote) = record {
+dump_stopped source source' before now finish verify_stop.NoMemory is taken (none, wrote) = record {
   input = Some (unwrap_or source.bytes []);
   gave = gave_known source source' is.answer;
   finishes = subst (Finishes (verdict_outcome (verified (unwrap_or source.bytes []))) before now) (sym none) (inl wrote);
   reads = record {
+    taken = taken;
     end = λ frames same. let other : ◌≡◌ {A = Result Ended Cut} (Err cut.NoMemory) (Ok (Verified frames)) = sym none ∙ same in cc;
     fault = λ same. let other : ◌≡◌ {A = Result Ended Cut} (Err cut.NoMemory) (Ok ReadFault) = sym none ∙ same in cc;
   };
@@ -244,7 +256,7 @@ pub takes : (c : Option Command) (input : Option (List ℕ)) (source source' : T
 takes None input source source' finish reads = reads
 takes (Some Check) input source source' finish reads = reads.taken
 takes (Some (Run workers)) input source source' finish reads = reads.taken
-takes (Some Verify) input source source' finish reads = tt
+takes (Some Verify) input source source' finish reads = reads.taken
 takes (Some (Demo seed workers)) input source source' finish reads = reads.same
 
 pub idles : (c : Option Command) (input : Option (List ℕ)) (source source' : Told) (finish : Result Ended Cut)

@@ -24,6 +24,7 @@ use Rattle.pic_run.specs.declared.early.StageStop.{StageStop}
 use Rattle.pic_run.specs.declared.early.StageStop.TheVariants as stage_stop
 use Rattle.pic_run.specs.declared.ended.Ended.{Ended}
 use Rattle.pic_verify.specs.declared.verify_stop.VerifyStop.TheVariants as verify_stop
+use Rattle.pic_verify.specs.Allowed.{TakesAllowed}
 use Rattle.pic_verify.specs.Verified.{verified}
 use Rattle.pic_run.specs.declared.ended.Ended.TheVariants.{Verified, ReadFault, NoMemory}
 use Rattle.pic_line.specs.declared.asked.Command.{Command}
@@ -100,9 +101,10 @@ pub record ReadsNothing (seed : ℕ) (source source' : Told) (finish : Result En
   pub sound : finish ≢ Err cut.NoMemory
       → (d : DeckView) → demonstrated seed ≡ Ok d → IsSound (first_state d)
 
--- how a dump was read: one whose frames are good to its end; and a read fault is one that the source's
--- count shows
+-- how a dump was read: at most one byte past the length that its header allows; one whose frames are
+-- good to its end; and a read fault is one that the source's count shows
 pub record ReadsDump (source source' : Told) (finish : Result Ended Cut) : Type 0 where
+  pub taken : TakesAllowed source source'
   pub end : (frames : ℕ) → finish ≡ Ok (Verified frames) → IsAtEnd source'
   pub fault : finish ≡ Ok ReadFault → Rose source source'
 
@@ -155,7 +157,7 @@ abbrev pub Takes : Option Command → Told → Told → Type 0
 Takes None source source' = source' ≡ source
 Takes (Some Check) source source' = TakesAtMost deck_limit source source'
 Takes (Some (Run workers)) source source' = TakesAtMost deck_limit source source'
-Takes (Some Verify) source source' = ⊤
+Takes (Some Verify) source source' = TakesAllowed source source'
 Takes (Some (Demo seed workers)) source source' = source' ≡ source
 
 -- where the source tells its bytes and no fault can be blamed on a count, the call answers the

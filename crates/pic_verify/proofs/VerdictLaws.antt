@@ -1,5 +1,5 @@
 -- The verdict on a dump, from that on its records.
-use Rattle.std.proofs.Common.{◌≡◌, ◌+◌, ◌*◌, ◌≤◌, length, subst, arith, inl, inr, ℕ, List, Option, Some, None, Ok, Err, IsErrAnd, sym, ap, ◌∙◌}
+use Rattle.std.proofs.Common.{◌≡◌, ◌+◌, ◌*◌, length, subst, arith, inl, inr, ℕ, List, Option, Some, None, Ok, Err, IsErrAnd, sym, ap, ◌∙◌}
 use Rattle.std.specs.Prelude.{option_map}
 use Rattle.std.proofs.lemmas.Result.{err_from_is_err_and}
 use Rattle.pic_io.specs.Told.{Told, Calm}

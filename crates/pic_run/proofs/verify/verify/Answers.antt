@@ -9,12 +9,14 @@ pub returns-in-Ok : goal.returns-in-Ok
 returns-in-Ok g c =
     let r = g.R.Sink.told c.args.report.now in
     good_dump (g.S.Source.told c.args.source.now) (g.S.Source.told c.verify.new.source) (sinks (g.O.Sink.told c.args.out.now) r)
-    (sinks (g.O.Sink.told c.put_frames.new.out) r) c.put_frames.result c.in-Ok.frames c.in-Ok.ensures.verifies (c.put_frames.ensures r)
+    (sinks (g.O.Sink.told c.put_frames.new.out) r) c.put_frames.result c.in-Ok.frames
+    c.in-Ok.ensures.verifies c.in-Ok.ensures.taken (c.put_frames.ensures r)
 
 pub returns-in-Err : goal.returns-in-Err
 returns-in-Err g c =
     let o = g.O.Sink.told c.args.out.now in
     let before = sinks o (g.R.Sink.told c.args.report.now) in
     let now = sinks o (g.R.Sink.told c.end_early.new.report) in
-    dump_stopped (g.S.Source.told c.args.source.now) (g.S.Source.told c.verify.new.source) before now c.end_early.result c.in-Err.stop c.in-Err.ensures.verifies
+    dump_stopped (g.S.Source.told c.args.source.now) (g.S.Source.told c.verify.new.source) before now c.end_early.result c.in-Err.stop
+    c.in-Err.ensures.verifies c.in-Err.ensures.taken
     (subst (λ (stop : StageStop). EndsStopped stop before now c.end_early.result) c.from.ensures (c.end_early.ensures o))
