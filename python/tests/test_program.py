@@ -40,6 +40,36 @@ turn = [1, 10]
 pair = { of = "electron", seed = SEED, stream = 55, drift = [0, 0, 0], spread = [16384, 16384, 16384] }
 """
 
+HEAD = """
+version = 1
+[grid]
+cells = [4, 4, 4]
+tiles = [2, 2, 2]
+[run]
+steps = STEPS
+every = 1
+[scale]
+e_to_b = [0, 0]
+b_to_e = [1, 1]
+e_force = [1, 0]
+b_force = [1, 0]
+[field]
+"""
+
+# One step of a field without particles.
+VACUUM = HEAD.replace("STEPS", "1") + "faces = [[2, 0, 0, 0, 8]]\n"
+
+# Two particles that are too fast in the first step.
+TOO_FAST = HEAD.replace("STEPS", "5") + """e = [1, 0, 0]
+[[species]]
+name = "neutral"
+charge = 0
+mass = 1
+kick = [8388608, 0]
+turn = [0, 0]
+points = [[8192, 0, 0, 16777216, 0, 0], [0, 0, 0, 16777216, 0, 0]]
+"""
+
 
 def call(*words, given: bytes = b"") -> tuple[int, bytes, bytes]:
     """Exit status, standard output and standard error of the program."""
@@ -95,12 +125,21 @@ class Program(unittest.TestCase):
     def test_dumps(self):
         good, header, frame = self.dump, 64 + 2 * 60, 53 + 96 * 64 + 24 * 2
         ion = header + frame + 5 + 96 * 64
+        kinetic = (int.from_bytes(good[6381:6397], "big") + 1).to_bytes(16, "big")
         for name, dump, answer in (
             ("whole", good, (0, b"verified 2 frames\n", b"")),
             ("cut", good[:-1], (7, b"", b"bad dump 12679 9\n")),
             ("longer", good + b"\0", (7, b"", b"bad dump 12680 10\n")),
             ("empty", b"", (7, b"", b"bad dump 0 9\n")),
             ("first byte", changed(good, 0, b"\0"), (7, b"", b"bad dump 0 1\n")),
+            ("cells", changed(good, 8, (65).to_bytes(4, "big")), (7, b"", b"bad dump 8 2\n")),
+            ("no frame", changed(good, header, b"E"), (7, b"", b"bad dump 184 3\n")),
+            ("a step", changed(good, header + 1, (1).to_bytes(4, "big")), (7, b"", b"bad dump 185 4\n")),
+            ("a value", changed(good, header + 5, b"\x7f"), (7, b"", b"bad dump 189 5\n")),
+            ("outside the box", changed(good, ion - frame, (16384).to_bytes(4, "big")), (7, b"", b"bad dump 6333 6\n")),
+            ("an energy", changed(good, 6381, kinetic), (7, b"", b"bad dump 6381 7\n")),
+            ("no end", changed(good, 12674, b"F"), (7, b"", b"bad dump 12674 3\n")),
+            ("an end", changed(good, 12675, b"\3"), (7, b"", b"bad dump 12675 8\n")),
             ("a place", changed(good, ion + 24, (3073).to_bytes(4, "big")),
              (8, b"", b"broken frame 1 node 0 0 0 div 412316860416 rho 412518187008\n")),
             ("a field", changed(good, 204, b"\1"), (8, b"", b"broken frame 0 node 0 0 0 div 1 rho 0\n")),
@@ -108,10 +147,29 @@ class Program(unittest.TestCase):
             with self.subTest(name):
                 self.assertEqual(call("verify", given=dump), answer)
 
+    def test_round_the_box(self):
+        # both at x = 100, and the electron goes 200 sub-cells down: out of the box at its low face and in at the high one
+        deck = self.deck.replace(b"points = [[1024, 0, 0, ", b"points = [[100, 0, 0, ").replace(b"8388608", b"-819200")
+        dump, start = call("run", given=deck)[1], 64 + 2 * 60 + 53 + 96 * 64 + 24 * 2 + 5
+        e = [int.from_bytes(dump[start + 16 * n:start + 16 * n + 16], "big", signed=True) for n in range(3 * 64)]
+        self.assertEqual({n: value for n, value in enumerate(e) if value}, {0: -20132659200, 3: -20132659200})
+        electron = start + 96 * 64 + 24
+        self.assertEqual(int.from_bytes(dump[electron:electron + 4], "big"), 16284)
+
     def test_every_cut(self):
         for length in [*range(0, 400), *range(400, len(self.dump), 97)]:
             status, out, report = call("verify", given=self.dump[:length])
             self.assertEqual((status, out, report), (7, b"", b"bad dump %d 9\n" % length))
+
+    def test_dumps_of_whole_runs_and_of_stopped_ones(self):
+        for name, text, status, last, frames in (
+            ("vacuum", VACUUM, 0, b"done 1", 2),
+            ("too fast", TOO_FAST, 1, b"stopped 1 particle 0 far 0 8192", 1),
+        ):
+            with self.subTest(name):
+                ended, dump, report = call("run", given=text.encode())
+                self.assertEqual((ended, report.splitlines()[-1]), (status, last))
+                self.assertEqual(call("verify", given=dump), (0, b"verified %d frames\n" % frames, b""))
 
     def test_dumps_of_the_decks(self):
         for path in sorted((HOME / "decks").glob("*.toml")):
