@@ -1,4 +1,5 @@
-"""The built program: its words, its demonstration, and dumps that it verifies. Skipped where it isn't built (./pic builds it)."""
+"""The built program: its words, its demonstration, and dumps that it verifies. Skipped where it isn't built, or is older than a
+source (./pic builds it)."""
 
 import subprocess
 import unittest
@@ -77,11 +78,20 @@ def call(*words, given: bytes = b"") -> tuple[int, bytes, bytes]:
     return done.returncode, done.stdout, done.stderr
 
 
+def is_built() -> bool:
+    """Whether the program is there and no source is newer."""
+    if not PROGRAM.exists():
+        return False
+    built = PROGRAM.stat().st_mtime
+    folders = [folder for name in ("src", "specs", "proofs") for folder in (HOME / "crates").glob("*/" + name)]
+    return all(path.stat().st_mtime <= built for folder in folders for path in folder.rglob("*") if path.is_file())
+
+
 def changed(dump: bytes, place: int, new: bytes) -> bytes:
     return dump[:place] + new + dump[place + len(new):]
 
 
-@unittest.skipUnless(PROGRAM.exists(), "the program isn't built")
+@unittest.skipUnless(is_built(), "the program isn't built from these sources")
 class Program(unittest.TestCase):
     @classmethod
     def setUpClass(cls):
