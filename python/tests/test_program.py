@@ -12,34 +12,7 @@ PROGRAM = HOME / "crates" / "pic_prog" / "out" / "pic_prog"
 USAGE = b"usage: pic [check | run [--workers N] | verify | demo SEED [--workers N]]\n"
 
 # The demonstration's deck, with SEED in two places.
-DEMONSTRATION = """
-version = 1
-[grid]
-cells = [16, 16, 16]
-tiles = [4, 4, 4]
-[run]
-steps = 16
-every = 4
-[scale]
-e_to_b = [1, 4]
-b_to_e = [1, 1]
-e_force = [1, 30]
-b_force = [1, 30]
-[[species]]
-name = "electron"
-charge = -1
-mass = 1
-kick = [-1, 2]
-turn = [-1, 0]
-random = { count = 8192, seed = SEED, stream = 54, drift = [0, 0, 0], spread = [1048576, 1048576, 1048576] }
-[[species]]
-name = "ion"
-charge = 1
-mass = 1836
-kick = [1, 10]
-turn = [1, 10]
-pair = { of = "electron", seed = SEED, stream = 55, drift = [0, 0, 0], spread = [16384, 16384, 16384] }
-"""
+DEMONSTRATION = (HOME / "decks" / "demo_7.toml").read_text().replace("seed = 7", "seed = SEED")
 
 HEAD = """
 version = 1
