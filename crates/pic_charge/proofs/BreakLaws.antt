@@ -91,13 +91,15 @@ first_break_some n div rho b some =
     least_at n div rho b at.0 (omega (arith, high)) at.1.found (λ j below. at.1.before j (omega arith) below)
 
 -- what is found at a number, with nothing before it, is the first break
-pub first_break_at : (n : Triple) (div rho : Triple → ℤ) (o : Option Break) (i : ℕ) → is_some o ≡ true → o ≡ difference_at div rho (cell_of n i) → i < count_of n
+pub first_break_at : (n : Triple) (div rho : Triple → ℤ) (o : Option Break) (i : ℕ) → is_some o ≡ true → o ≡ difference_at div rho (cell_of n i)
+    → i < count_of n
     → ((j : ℕ) → j < i → difference_at div rho (cell_of n j) ≡ None)
     → o ≡ first_break n div rho
 unfolding first_break
 first_break_at n div rho None i test is inside before = absurd (false≢true test)
 first_break_at n div rho (Some b) i test is inside before =
-    sym (first_of_at (λ k. difference_at div rho (cell_of n k)) 0 (count_of n) i b (omega arith) (omega (arith, inside)) (sym is) (λ j low below. before j below))
+    sym (first_of_at (λ k. difference_at div rho (cell_of n k)) 0 (count_of n) i b (omega arith) (omega (arith, inside)) (sym is)
+    (λ j low below. before j below))
 
 -- the same, where nothing is found at any number
 pub first_break_nowhere : (n : Triple) (div rho : Triple → ℤ) (i : ℕ) → i ≡ count_of n

@@ -1,10 +1,8 @@
 -- Laws of the charge of the particles.
-use Rattle.std.proofs.Common.{◌≡◌, ℕ, ◌+◌, ◌*◌, ◌^◌, ◌<◌, ◌≤◌, List, [], length, get_or, take, All, inl, inr, refl, sym, ◌∙◌, ap, subst, unsigned_abs, arith}
+use Rattle.std.proofs.Common.{◌≡◌, ℕ, ◌+◌, ◌*◌, ◌^◌, ◌<◌, ◌≤◌, List, [], length, get_or, take, All, refl, sym, ◌∙◌, ap, subst, unsigned_abs, arith}
 use Rattle.std.proofs.Math.IntN.{ℤ, pos, ◌+ℤ◌, ◌*ℤ◌}
 use Rattle.std.proofs.Math.Nat.{le_trans}
-use Rattle.std.proofs.lemmas.Bool.{cases_lt}
 use Rattle.std.proofs.lemmas.Int.{ints, unsigned_abs-mul}
-use Rattle.std.proofs.lemmas.List.{get_or_past}
 use Rattle.pic_num.specs.declared.motion.Particle.{Particle}
 use Rattle.pic_num.specs.declared.motion.Kind.{Kind}
 use Rattle.pic_num.specs.Limits.{most_charge, most_particles, most_side}
@@ -14,11 +12,12 @@ use Rattle.pic_num.specs.Space.{Triple, triple}
 use Rattle.pic_grid.specs.Hat.{periodic_hat, weight}
 use Rattle.pic_grid.specs.Lattice.{NodeValues, node_at}
 use Rattle.pic_grid.specs.Cells.{IsWithin}
-use Rattle.pic_grid.specs.PushPhase.{kind_of, no_kind}
+use Rattle.pic_grid.specs.PushPhase.{kind_of}
 use Rattle.pic_grid.specs.Species.{IsKind}
 use Rattle.pic_grid.specs.Sums.{sum_over}
 use Rattle.pic_grid.proofs.HatLaws.{hat_most}
 use Rattle.pic_grid.proofs.OverLaws.{sum_over_more, sum_over_bound}
+use Rattle.pic_grid.proofs.SpeciesLaws.{kind_most, charge_most}
 use Rattle.pic_charge.specs.Charge.{share, charge_of, most_node_charge, IsCharged}
 use Rattle.pic_charge.specs.Spread.{NodesAtMost, Adds}
 
@@ -48,22 +47,9 @@ weight_most side n point node =
     (times_at_most on_x on_y side side (hat_most side (n.x * side) point.x (node.x * side)) (hat_most side (n.y * side) point.y (node.y * side)))
     (hat_most side (n.z * side) point.z (node.z * side))
 
--- a species' charge is at most 2^15 in size
-pub kind_most : (k : Kind) → IsKind k → unsigned_abs k.charge ≤ 2 ^ 15
-kind_most k limits = let low = limits.charge_low in let high = limits.charge_high in omega (arith, ints, low, high)
-
+-- species within their limits are charged within theirs
 pub all_charged : (kinds : List Kind) → All IsKind kinds → All IsCharged kinds
 all_charged kinds limits i k below = record { size = kind_most (get_or kinds i k) (limits i k below) }
-
--- so is that of a particle, whatever its species
-pub charge_most : (kinds : List Kind) (x : Particle) → All IsCharged kinds → unsigned_abs (kind_of kinds x).charge ≤ most_charge
-charge_most kinds x limits = elim (cases_lt x.species (length kinds)) [
-  | inl below ↦ (limits x.species no_kind below).size
-  | inr past ↦ subst (λ (k : Kind). unsigned_abs k.charge ≤ 2 ^ 15) (sym (get_or_past kinds x.species no_kind past)) (omega arith)
-]
-
-pub kind_of_most : (kinds : List Kind) (x : Particle) → All IsKind kinds → unsigned_abs (kind_of kinds x).charge ≤ most_charge
-kind_of_most kinds x limits = charge_most kinds x (all_charged kinds limits)
 
 -- a particle's share is at most 12 * 2^15 times the cube of the side
 pub share_size : (side : ℕ) (n : Triple) (kinds : List Kind) (x : Particle) (node : Triple) → All IsCharged kinds
@@ -93,7 +79,8 @@ charge_of_most side n kinds xs node short limits few =
     let each = times_at_most (12 * most_charge) (side * side * side) (12 * most_charge) (most_side * most_side * most_side) (omega arith) cube in
     record {
       size = le_trans size
-          (times_at_most (length xs) (12 * most_charge * (side * side * side)) most_particles (12 * most_charge * (most_side * most_side * most_side)) few each);
+          (times_at_most (length xs) (12 * most_charge * (side * side * side)) most_particles
+          (12 * most_charge * (most_side * most_side * most_side)) few each);
     }
 
 -- the nodes hold the charge of particles

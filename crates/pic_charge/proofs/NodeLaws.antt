@@ -33,11 +33,14 @@ here_is q amount =
 elsewhere_is : (q p : Triple) (amount : ℤ) → (p ≡ q → ⊥) → spread amount (only_at q.x 1) (only_at q.y 1) (only_at q.z 1) p ≡ pos 0
 unfolding spread
 elsewhere_is q p amount differ = elim (cases_eq p.x q.x) [
-  | inr x ↦ none (only_at q.x 1 p.x) (only_at q.y 1 p.y) (only_at q.z 1 p.z) (zero_first (only_at q.x 1 p.x) (only_at q.y 1 p.y) (only_at q.z 1 p.z) (only_elsewhere q.x p.x x))
+  | inr x ↦ none (only_at q.x 1 p.x) (only_at q.y 1 p.y) (only_at q.z 1 p.z)
+      (zero_first (only_at q.x 1 p.x) (only_at q.y 1 p.y) (only_at q.z 1 p.z) (only_elsewhere q.x p.x x))
   | inl x ↦ elim (cases_eq p.y q.y) [
-    | inr y ↦ none (only_at q.x 1 p.x) (only_at q.y 1 p.y) (only_at q.z 1 p.z) (zero_second (only_at q.x 1 p.x) (only_at q.y 1 p.y) (only_at q.z 1 p.z) (only_elsewhere q.y p.y y))
+    | inr y ↦ none (only_at q.x 1 p.x) (only_at q.y 1 p.y) (only_at q.z 1 p.z)
+        (zero_second (only_at q.x 1 p.x) (only_at q.y 1 p.y) (only_at q.z 1 p.z) (only_elsewhere q.y p.y y))
     | inl y ↦ elim (cases_eq p.z q.z) [
-      | inr z ↦ none (only_at q.x 1 p.x) (only_at q.y 1 p.y) (only_at q.z 1 p.z) (zero_third (only_at q.x 1 p.x) (only_at q.y 1 p.y) (only_at q.z 1 p.z) (only_elsewhere q.z p.z z))
+      | inr z ↦ none (only_at q.x 1 p.x) (only_at q.y 1 p.y) (only_at q.z 1 p.z)
+          (zero_third (only_at q.x 1 p.x) (only_at q.y 1 p.y) (only_at q.z 1 p.z) (only_elsewhere q.z p.z z))
       | inl z ↦ absurd (differ (λ i. record { x = x i; y = y i; z = z i }))
     ]
   ]

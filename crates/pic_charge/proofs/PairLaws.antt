@@ -34,7 +34,8 @@ pub share_is_spread : (side : ℕ) (n : Triple) (kinds : List Kind) (x : Particl
     → (p : Triple) → IsWithin p n → spread amount (weight_in a) (weight_in b) (weight_in c) p ≡ share side n kinds x p
 unfolding spread share weight
 share_is_spread side n kinds x a b c amount is on_x on_y on_z p within =
-    λ i. is i *ℤ pos (sym (node_weight side n.x (triple x.x).x p.x a on_x within.x) i * sym (node_weight side n.y (triple x.x).y p.y b on_y within.y) i * sym (node_weight side n.z (triple x.x).z p.z c on_z within.z) i)
+    λ i. is i *ℤ pos (sym (node_weight side n.x (triple x.x).x p.x a on_x within.x) i * sym (node_weight side n.y (triple x.x).y p.y b on_y within.y) i
+    * sym (node_weight side n.z (triple x.x).z p.z c on_z within.z) i)
 
 -- 12 times a charge, as the code multiplies it
 pub twelve_is : (q r : ℤ) → unsigned_abs q ≤ 2 ^ 15 → r ≡ pos 12 *ℤ to_z w32 (of_z w32 q) → r ≡ pos 12 *ℤ q

@@ -26,10 +26,14 @@ pub struct Break {
 pub fn gauss(cells: Cells, e: &Lattice, rho: &Nodes) -> Option<Break>
     requires e_cells { e.now.cells ≡ cells.n }
     requires rho_cells { rho.now.cells ≡ cells.n }
-    requires e_most { (a : AxisName) (p : Triple) → IsWithin p cells.n → IsAtMost (value_at e.now a p) most_value }
-    ensures value { result ≡ first_break cells.n (div_e cells.n (value_at e.now)) (node_at rho.now) }
-    ensures none { (result ≡ None) ↔ Agree cells.n (div_e cells.n (value_at e.now)) (node_at rho.now) }
-    ensures least { IfSome result (IsLeastBreak cells.n (div_e cells.n (value_at e.now)) (node_at rho.now)) }
+    requires e_most { (a : AxisName) (p : Triple) → IsWithin p cells.n
+        → IsAtMost (value_at e.now a p) most_value }
+    ensures value { result ≡ first_break cells.n (div_e cells.n (value_at e.now))
+        (node_at rho.now) }
+    ensures none { (result ≡ None) ↔ Agree cells.n (div_e cells.n (value_at e.now))
+        (node_at rho.now) }
+    ensures least { IfSome result (IsLeastBreak cells.n (div_e cells.n (value_at e.now))
+        (node_at rho.now)) }
 {
     for index in 0..cells.count() {
         let found = difference(cells, e, rho, cells.cell_at(index as usize));
@@ -45,9 +49,11 @@ pub fn gauss(cells: Cells, e: &Lattice, rho: &Nodes) -> Option<Break>
 fn difference(cells: Cells, e: &Lattice, rho: &Nodes, node: [u32; 3]) -> Option<Break>
     requires e_cells { e.now.cells ≡ cells.n }
     requires rho_cells { rho.now.cells ≡ cells.n }
-    requires e_most { (a : AxisName) (p : Triple) → IsWithin p cells.n → IsAtMost (value_at e.now a p) most_value }
+    requires e_most { (a : AxisName) (p : Triple) → IsWithin p cells.n
+        → IsAtMost (value_at e.now a p) most_value }
     requires within { IsWithin (triple node) cells.n }
-    ensures { result ≡ difference_at (div_e cells.n (value_at e.now)) (node_at rho.now) (triple node) }
+    ensures { result ≡ difference_at (div_e cells.n (value_at e.now)) (node_at rho.now)
+        (triple node) }
 {
     let div = divergence(cells, e, node);
     let rho = rho.at(node);
@@ -65,7 +71,8 @@ fn difference(cells: Cells, e: &Lattice, rho: &Nodes, node: [u32; 3]) -> Option<
 /// The divergence of E at `node`.
 fn divergence(cells: Cells, e: &Lattice, node: [u32; 3]) -> i128
     requires e_cells { e.now.cells ≡ cells.n }
-    requires e_most { (a : AxisName) (p : Triple) → IsWithin p cells.n → IsAtMost (value_at e.now a p) most_value }
+    requires e_most { (a : AxisName) (p : Triple) → IsWithin p cells.n
+        → IsAtMost (value_at e.now a p) most_value }
     requires within { IsWithin (triple node) cells.n }
     ensures { result ≡ div_e cells.n (value_at e.now) (triple node) }
 {
@@ -78,9 +85,11 @@ fn divergence(cells: Cells, e: &Lattice, node: [u32; 3]) -> i128
 /// What leaves `node` along an axis, less what comes in.
 fn outflow(cells: Cells, e: &Lattice, axis: Axis, node: [u32; 3]) -> i128
     requires e_cells { e.now.cells ≡ cells.n }
-    requires e_most { (a : AxisName) (p : Triple) → IsWithin p cells.n → IsAtMost (value_at e.now a p) most_value }
+    requires e_most { (a : AxisName) (p : Triple) → IsWithin p cells.n
+        → IsAtMost (value_at e.now a p) most_value }
     requires within { IsWithin (triple node) cells.n }
-    ensures value { result ≡ value_at e.now axis (triple node) -ℤ value_at e.now axis (down cells.n axis (triple node)) }
+    ensures value { result ≡ value_at e.now axis (triple node)
+        -ℤ value_at e.now axis (down cells.n axis (triple node)) }
     ensures size { IsAtMost result (2 ^ 91) }
 {
     e.at(axis, node) - e.at(axis, cells.down(axis, node))

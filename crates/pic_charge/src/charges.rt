@@ -24,8 +24,10 @@ pub fn charge(cells: Cells, kinds: &[Kind], particles: &[Particle], to: &mut Nod
     requires placed { All (CanShare cells.side cells.n kinds.now) particles.now }
     requires few { length particles.now ≤ most_particles }
     ensures same_cells { to.new.cells ≡ cells.n }
-    ensures values { (p : Triple) → IsWithin p cells.n → node_at to.new p ≡ charge_of cells.side cells.n kinds.now particles.now p }
-    ensures size { (p : Triple) → IsWithin p cells.n → IsAtMost (node_at to.new p) most_node_charge }
+    ensures values { (p : Triple) → IsWithin p cells.n
+        → node_at to.new p ≡ charge_of cells.side cells.n kinds.now particles.now p }
+    ensures size { (p : Triple) → IsWithin p cells.n
+        → IsAtMost (node_at to.new p) most_node_charge }
 {
     let sub = cells.sub();
     let _side = sub.side();

@@ -11,7 +11,7 @@ ghost use Rattle.pic_grid.specs.Cells.{IsWithin};
 ghost use Rattle.pic_charge.specs.Charge.{IsCharged};
 
 use super::*;
-use pic_grid::{Cells, Lattice, Nodes, slow_weight};
+use pic_grid::{Cells, Lattice, Nodes};
 use pic_num::{Axis, Kind, Mult, NoMemory, Particle, Sub};
 use std::alloc::Global;
 
@@ -117,22 +117,6 @@ fn a_charge_is_shared_by_eight_nodes(rt: HostRuntime) -> Result<(), NoMemory> {
 }
 
 #[test]
-fn a_share_is_twelve_times_the_weight_by_distance(rt: HostRuntime) -> Result<(), NoMemory> {
-    let cells = Cells::new([2, 3, 4], Sub::of_bits(12));
-    for x in [[0, 0, 0], [8191, 12287, 16383], [4096, 5000, 9999]] {
-        assert!(rt; is_in_box(cells, x));
-        let mut nodes = Nodes::new(rt.alloc(), cells)?;
-        charge_one(cells, 0, x, &mut nodes);
-        for index in 0..24 {
-            let node = cells.cell_at(index);
-            let weight = slow_weight(4096, [2, 3, 4], x, node);
-            assert_eq!(rt; nodes.at(node), 12 * i128::from(weight), "{x:?} {node:?}");
-        }
-    }
-    Ok(())
-}
-
-#[test]
 fn two_charges_at_one_place_are_none(rt: HostRuntime) -> Result<(), NoMemory> {
     let cells = Cells::new([2, 2, 2], Sub::of_bits(12));
     let mut nodes = Nodes::new(rt.alloc(), cells)?;
@@ -154,7 +138,8 @@ fn lone(
     requires within { IsWithin (triple cell) cells.n }
     requires size { IsAtMost value most_value }
     ensures same_cells { IfOk result (λ e. e.cells ≡ cells.n) }
-    ensures most { IfOk result (λ e. (a : AxisName) (p : Triple) → IsWithin p cells.n → IsAtMost (value_at e a p) most_value) }
+    ensures most { IfOk result (λ e. (a : AxisName) (p : Triple) → IsWithin p cells.n
+        → IsAtMost (value_at e a p) most_value) }
 {
     let mut e = Lattice::new(alloc, cells, [1; 3])?;
     e.set(axis, cell, value);

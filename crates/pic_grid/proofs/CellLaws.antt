@@ -18,7 +18,8 @@ index_of_below n p h =
 pub place_of_below : (n : Triple) (a : Axis) (p : Triple) → IsWithin p n → place_of n a p < 3 * count_of n
 unfolding place_of
 place_of_below n a p h =
-    let all : axis_number a * count_of n + index_of n p < count_of n * 3 = mul-add-lt (axis_number a) (count_of n) (index_of n p) 3 (axis_below a) (index_of_below n p h) in
+    let all : axis_number a * count_of n + index_of n p < count_of n * 3 =
+    mul-add-lt (axis_number a) (count_of n) (index_of n p) 3 (axis_below a) (index_of_below n p h) in
     omega arith
 
 -- equal numbers have one cell

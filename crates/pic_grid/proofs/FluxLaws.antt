@@ -25,12 +25,12 @@ weights_within s a0 a1 b0 b1 h0 h1 k0 k1 =
     let r = mul-le-mul h1 k0 in
     let t = mul-le-mul h1 k1 in omega (arith, p, q, r, t)
 
-flux_of_naturals : (q way : ℤ) (a0 a1 b0 b1 : ℕ)
+pub flux_of_naturals : (q way : ℤ) (a0 a1 b0 b1 : ℕ)
     → simpson q way (pos a0) (pos a1) (pos b0) (pos b1) ≡ q *ℤ way *ℤ pos (2 * (a0 * b0 + (a0 + a1) * (b0 + b1) + a1 * b1))
 unfolding simpson
 flux_of_naturals q way a0 a1 b0 b1 = ring (q ∷ way ∷ pos a0 ∷ pos a1 ∷ pos b0 ∷ pos b1 ∷ []) (search reads depth 40 fits 9000) tt
 
-simpson_size : (s : ℕ) (q way : ℤ) (a0 a1 b0 b1 : ℕ) → a0 ≤ s → a1 ≤ s → b0 ≤ s → b1 ≤ s
+pub simpson_size : (s : ℕ) (q way : ℤ) (a0 a1 b0 b1 : ℕ) → a0 ≤ s → a1 ≤ s → b0 ≤ s → b1 ≤ s
     → unsigned_abs (simpson q way (pos a0) (pos a1) (pos b0) (pos b1)) ≤ unsigned_abs q * unsigned_abs way * (12 * (s * s))
 simpson_size s q way a0 a1 b0 b1 h0 h1 k0 k1 =
     let w = 2 * (a0 * b0 + (a0 + a1) * (b0 + b1) + a1 * b1) in

@@ -119,7 +119,8 @@ module _ (b : BlockValues) (a : Axis) (c : Spot) (p s t : ℕ) (h : InZone b.low
         turn ∙ (λ i. at_third i + to_second i) ∙ sym (place_lifted b.size b.low a second (lifted third c) (between_third b.low b.size a c h k))
 
     place_below : (d : Spot) (q : ℕ) → InZone b.low b.size d → q ≡ place_of b.size a (inner_of b.low d) → q < 3 * count_of b.size
-    place_below d q inside is = subst (λ (m : ℕ). m < 3 * count_of b.size) (sym is) (place_of_below b.size a (inner_of b.low d) (inner_within b.low b.size d inside))
+    place_below d q inside is = subst (λ (m : ℕ). m < 3 * count_of b.size) (sym is)
+        (place_of_below b.size a (inner_of b.low d) (inner_within b.low b.size d inside))
 
     pub second_below : p + s < 3 * count_of b.size
     second_below = place_below (lifted second c) (p + s) (between_second b.low b.size a c h k) at_second
@@ -131,7 +132,8 @@ module _ (b : BlockValues) (a : Axis) (c : Spot) (p s t : ℕ) (h : InZone b.low
     both_below = place_below (lifted second (lifted third c)) (p + s + t) k at_both
 
     steps : AreSteps s t
-    steps = subst (λ (m : ℕ). AreSteps s m) (sym to_third) (subst (λ (m : ℕ). AreSteps m (step_of b.size third)) (sym to_second) (steps_differ b.low b.size a c h k))
+    steps = subst (λ (m : ℕ). AreSteps s m) (sym to_third) (subst (λ (m : ℕ). AreSteps m (step_of b.size third)) (sym to_second)
+        (steps_differ b.low b.size a c h k))
 
     -- the sums written at the four places
     pub four_is : (xs : List ℤ) (v w x y : ℤ) → xs ≡ b.values

@@ -25,7 +25,8 @@ pub value_at-field_of : (side : ℕ) (n parts : Triple) (g : Axis → Triple →
     → value_at (field_of side n parts g) a p ≡ g a p
 unfolding values_of
 value_at-field_of side n parts g a p h =
-    let read = get_or-map-range_with_len (λ i. g (axis_of (i / count_of n)) (cell_of n (i % count_of n))) 0 (3 * count_of n) (place_of n a p) (place_of n a p) (pos 0) (place_of_below n a p h) (omega arith) in
+    let read = get_or-map-range_with_len (λ i. g (axis_of (i / count_of n)) (cell_of n (i % count_of n))) 0 (3 * count_of n) (place_of n a p) (place_of n a p)
+    (pos 0) (place_of_below n a p h) (omega arith) in
     read ∙ (λ i. g (axis_of-place_of n a p h i) (cell_of-place_of n a p h i))
 
 pub length-values_of : (n : Triple) (g : Axis → Triple → ℤ) → length (values_of n g) ≡ 3 * count_of n
@@ -44,9 +45,11 @@ same_values n xs ys hx hy agree =
     subst (λ (j : ℕ). slice_index_or xs j (pos 0) ≡ slice_index_or ys j (pos 0)) number here)
 
 -- a lattice is given by its values
-pub is_field_of : (side : ℕ) (n parts : Triple) (g : Axis → Triple → ℤ) (f : Field) → f.cells ≡ n → f.side ≡ side → f.parts ≡ parts → length f.values ≡ 3 * count_of n
+pub is_field_of : (side : ℕ) (n parts : Triple) (g : Axis → Triple → ℤ) (f : Field) → f.cells ≡ n → f.side ≡ side → f.parts ≡ parts
+    → length f.values ≡ 3 * count_of n
     → ((a : Axis) (p : Triple) → IsWithin p n → value_at f a p ≡ g a p) → f ≡ field_of side n parts g
 is_field_of side n parts g f cells same_side same_parts size values =
     let same : f.values ≡ values_of n g = same_values n f.values (values_of n g) size (length-values_of n g)
-    (λ a p h. subst (λ (m : Triple). slice_index_or f.values (place_of m a p) (pos 0) ≡ g a p) cells (values a p h) ∙ sym (value_at-field_of side n parts g a p h)) in
+    (λ a p h. subst (λ (m : Triple). slice_index_or f.values (place_of m a p) (pos 0) ≡ g a p) cells (values a p h)
+    ∙ sym (value_at-field_of side n parts g a p h)) in
     λ i. record { cells = cells i; side = same_side i; parts = same_parts i; values = same i }

@@ -77,7 +77,11 @@ find w (x ∷ xs) s stop ids e = go (λ ids' found. find w xs (s + 1) stop ids' 
           among = (0, omega arith, refl);
           halts = is;
           named = some_same (Push x.id h.what h.axis h.value) stop found;
-          least = ((λ below. absurd (omega (arith, below))), none_less w xs x.id (subst (λ (k : ℕ). Each (λ y. k ≤ y.id) xs) (sym here) (weaken xs (at_least xs (s + 1) rest.1))));
+          least = (
+            (λ below. absurd (omega (arith, below))),
+            none_less w xs x.id
+                (subst (λ (k : ℕ). Each (λ y. k ≤ y.id) xs) (sym here) (weaken xs (at_least xs (s + 1) rest.1))),
+          );
         }
       where
         weaken : (ys : List Particle) → Each (λ y. s + 1 ≤ y.id) ys → Each (λ y. s ≤ y.id) ys
@@ -101,7 +105,8 @@ unfolding first_of halt_of
 none_found w [] e = tt
 none_found w (x ∷ xs) e = go (λ found. none_found w xs found) (push_of w x) refl e
   where
-    go : (first_of (stops w) xs ≡ None → Each (λ y. IsOk (push_of w y)) xs) → (r : Result Shift Halting) → push_of w x ≡ r → option_or (halt_of x r) (first_of (stops w) xs) ≡ None → Each (λ y. IsOk (push_of w y)) (x ∷ xs)
+    go : (first_of (stops w) xs ≡ None → Each (λ y. IsOk (push_of w y)) xs) → (r : Result Shift Halting) → push_of w x ≡ r
+        → option_or (halt_of x r) (first_of (stops w) xs) ≡ None → Each (λ y. IsOk (push_of w y)) (x ∷ xs)
     go rest (Err h) is found = cc
     go rest (Ok m) is found = (subst IsOk (sym is) refl, rest found)
 
@@ -121,7 +126,8 @@ stop_of_least : (w : Surroundings) (xs : List Particle) (s : ℕ) (p : Particle)
 unfolding first_of halt_of
 stop_of_least w [] s p h ids among halts least = let below = among.1 in absurd (omega (arith, below))
 stop_of_least w (x ∷ xs) s p h ids among halts least =
-    let rest = others x xs s ids in at rest.0 (at_least xs (s + 1) rest.1) (λ there. stop_of_least w xs (s + 1) p h rest.1 there halts least.1) among.0 among.1 among.2
+    let rest = others x xs s ids in at rest.0 (at_least xs (s + 1) rest.1)
+    (λ there. stop_of_least w xs (s + 1) p h rest.1 there halts least.1) among.0 among.1 among.2
   where
     goes_on : (Contains xs p → first_of (stops w) xs ≡ Some (Push p.id h.what h.axis h.value)) → Contains xs p
         → (r : Result Shift Halting) → push_of w x ≡ r → IsOk r → first_of (stops w) (x ∷ xs) ≡ Some (Push p.id h.what h.axis h.value)

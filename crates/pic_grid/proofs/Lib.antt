@@ -1,11 +1,16 @@
 pub mod CellLaws
+pub mod PlaceLaws
 pub mod LatticeLaws
 pub mod BlockLaws
 pub mod ShapeLaws
+pub mod SmallLaws
 pub mod PartLaws
 pub mod RowLaws
+pub mod BlockLayerLaws
+pub mod BlockRowLaws
 pub mod RunLaws
 pub mod SlotLaws
+pub mod FactorLaws
 pub mod FourLaws
 pub mod DifferenceLaws
 pub mod SumLaws
@@ -14,10 +19,9 @@ pub mod HatLaws
 pub mod PairLaws
 pub mod PathLaws
 pub mod TwoHatLaws
-pub mod SlowSums
 pub mod WeightLaws
 pub mod FluxLaws
 pub mod LeastHaltLaws
-mod DifferenceRows
-mod GridRows
-mod PhaseRows
+pub mod ApartLaws
+pub mod FloorLaws
+pub mod SpeciesLaws

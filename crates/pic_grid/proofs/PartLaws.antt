@@ -116,11 +116,13 @@ pub block_has : (n parts : Triple) (blocks : List BlockValues) (p : Triple) → 
 block_has n parts blocks p h k are w =
     let s = part_size n parts in
     let among : IsWithin (part_of s p) parts = part_of_within n parts p h k w in
-    let zone : IsPart s (cell_of parts (number_of n parts p)) (block_of n parts blocks p) = are.zones (number_of n parts p) (index_of_below parts (part_of s p) among) in
+    let zone : IsPart s (cell_of parts (number_of n parts p)) (block_of n parts blocks p) =
+    are.zones (number_of n parts p) (index_of_below parts (part_of s p) among) in
     let number : cell_of parts (number_of n parts p) ≡ part_of s p = cell_of-index_of parts (part_of s p) among in
     let low : (block_of n parts blocks p).low ≡ corner_of s (part_of s p) = zone.low ∙ ap (corner_of s) number in
     let inside : InZone (corner_of s (part_of s p)) s (unwrapped p) = in_part s p (part_size_limits n parts h k) in
-    let sized : InZone (corner_of s (part_of s p)) (block_of n parts blocks p).size (unwrapped p) = subst (λ (m : Triple). InZone (corner_of s (part_of s p)) m (unwrapped p)) (sym zone.size) inside in
+    let sized : InZone (corner_of s (part_of s p)) (block_of n parts blocks p).size (unwrapped p) =
+    subst (λ (m : Triple). InZone (corner_of s (part_of s p)) m (unwrapped p)) (sym zone.size) inside in
     subst (λ (l : Spot). InZone l (block_of n parts blocks p).size (unwrapped p)) (sym low) sized
 
 pub number_below : (n parts : Triple) (blocks : List BlockValues) (p : Triple) → IsCells n → IsParts n parts → ArePartsOf n parts blocks → IsWithin p n
@@ -154,10 +156,13 @@ joined_other n parts blocks a p v f q h k are wp wq other =
     let kp = number_of n parts p in
     let kq = number_of n parts q in
     let after = with_edge b a (unwrapped p) v in
-    elim (cases_eq kq kp) as (λ _. edge_at (slice_index_or (slice_set blocks kp after) kq no_block) f (unwrapped q) ≡ edge_at (slice_index_or blocks kq no_block) f (unwrapped q)) [
+    elim (cases_eq kq kp) as (λ _. edge_at (slice_index_or (slice_set blocks kp after) kq no_block) f (unwrapped q)
+    ≡ edge_at (slice_index_or blocks kq no_block) f (unwrapped q)) [
       | inl e ↦
-          (let written : slice_index_or (slice_set blocks kp after) kq no_block ≡ after = get_or-set_at blocks kp kq after no_block e (number_below n parts blocks p h k are wp) in
-          let zone : InZone b.low b.size (unwrapped q) = subst (λ (m : ℕ). InZone (slice_index_or blocks m no_block).low (slice_index_or blocks m no_block).size (unwrapped q)) e (block_has n parts blocks q h k are wq) in
+          (let written : slice_index_or (slice_set blocks kp after) kq no_block
+          ≡ after = get_or-set_at blocks kp kq after no_block e (number_below n parts blocks p h k are wp) in
+          let zone : InZone b.low b.size (unwrapped q) = subst (λ (m : ℕ). InZone (slice_index_or blocks m no_block).low (slice_index_or blocks m no_block).size
+          (unwrapped q)) e (block_has n parts blocks q h k are wq) in
           let apart : place_of b.size f (inner_of b.low (unwrapped q)) ≢ place_of b.size a (inner_of b.low (unwrapped p)) = λ same.
           (let both = edge_same b f (unwrapped q) a (unwrapped p) zone (block_has n parts blocks p h k are wp) same in
           other (λ i. place_of n (both.0 i) (same_spot q p both.1 i))) in
@@ -180,12 +185,15 @@ joined_set n parts blocks a p v h k are w stored =
     let xs = values_of n (value_in n parts blocks) in
     let size : length xs ≡ 3 * count_of n = length-values_of n (value_in n parts blocks) in
     let below : place_of n a p < 3 * count_of n = place_of_below n a p w in
-    same_values n (values_of n (value_in n parts new)) (slice_set xs (place_of n a p) v) (length-values_of n (value_in n parts new)) (length-set xs (place_of n a p) v ∙ size) (λ f q wq.
+    same_values n (values_of n (value_in n parts new)) (slice_set xs (place_of n a p) v) (length-values_of n (value_in n parts new))
+    (length-set xs (place_of n a p) v ∙ size) (λ f q wq.
     let read = values_of-joined n parts new f q wq in
-    elim (cases_eq (place_of n f q) (place_of n a p)) as (λ _. slice_index_or (values_of n (value_in n parts new)) (place_of n f q) (pos 0) ≡ slice_index_or (slice_set xs (place_of n a p) v) (place_of n f q) (pos 0)) [
+    elim (cases_eq (place_of n f q) (place_of n a p)) as (λ _. slice_index_or (values_of n (value_in n parts new)) (place_of n f q) (pos 0)
+    ≡ slice_index_or (slice_set xs (place_of n a p) v) (place_of n f q) (pos 0)) [
       | inl e ↦
           (let here = values_of-joined n parts new a p w in
-          let written : slice_index_or new (number_of n parts p) no_block ≡ after = get_or-set_at blocks (number_of n parts p) (number_of n parts p) after no_block refl (number_below n parts blocks p h k are w) in
+          let written : slice_index_or new (number_of n parts p) no_block ≡ after =
+          get_or-set_at blocks (number_of n parts p) (number_of n parts p) after no_block refl (number_below n parts blocks p h k are w) in
           ap (λ (j : ℕ). slice_index_or (values_of n (value_in n parts new)) j (pos 0)) e
           ∙ here
           ∙ ap (λ (c : BlockValues). edge_at c a (unwrapped p)) written
@@ -209,8 +217,10 @@ pub laid_more : (n parts : Triple) (i : ℕ) (blocks : List BlockValues) (b : Bl
     → IsLaid n parts (i + 1) (blocks ++ b ∷ [])
 laid_more n parts i blocks b laid here zeros =
     let count : length blocks ≡ i = laid.count in
-    let last : slice_index_or (blocks ++ b ∷ []) i no_block ≡ b = subst (λ (m : ℕ). slice_index_or (blocks ++ b ∷ []) m no_block ≡ b) count (get_or-append_seam blocks b [] no_block) in
-    let left : (j : ℕ) → j < i → slice_index_or (blocks ++ b ∷ []) j no_block ≡ slice_index_or blocks j no_block = λ j h. get_or-append blocks (b ∷ []) no_block j (omega arith) in
+    let last : slice_index_or (blocks ++ b ∷ []) i no_block ≡ b = subst (λ (m : ℕ). slice_index_or (blocks ++ b ∷ []) m no_block ≡ b) count
+    (get_or-append_seam blocks b [] no_block) in
+    let left : (j : ℕ) → j < i → slice_index_or (blocks ++ b ∷ []) j no_block ≡ slice_index_or blocks j no_block =
+    λ j h. get_or-append blocks (b ∷ []) no_block j (omega arith) in
     record {
       count = length-append blocks (b ∷ []) ∙ omega arith;
       zones = below_more (λ j. IsPart (part_size n parts) (cell_of parts j) (slice_index_or (blocks ++ b ∷ []) j no_block)) i
@@ -234,7 +244,8 @@ pub joined_zeros : (n parts : Triple) (blocks : List BlockValues) → IsCells n 
     → ((j : ℕ) → j < count_of parts → (slice_index_or blocks j no_block).values ≡ replicate (3 * count_of (part_size n parts)) (pos 0))
     → values_of n (value_in n parts blocks) ≡ replicate (3 * count_of n) (pos 0)
 joined_zeros n parts blocks h k zeros =
-    same_values n (values_of n (value_in n parts blocks)) (replicate (3 * count_of n) (pos 0)) (length-values_of n (value_in n parts blocks)) (length-replicate (3 * count_of n) (pos 0)) (λ a p w.
+    same_values n (values_of n (value_in n parts blocks)) (replicate (3 * count_of n) (pos 0)) (length-values_of n (value_in n parts blocks))
+    (length-replicate (3 * count_of n) (pos 0)) (λ a p w.
     let b = block_of n parts blocks p in
     let here = zeros (number_of n parts p) (index_of_below parts (part_of (part_size n parts) p) (part_of_within n parts p h k w)) in
     values_of-joined n parts blocks a p w
@@ -254,10 +265,12 @@ are_parts_with n parts blocks k new are low size =
         | inl e ↦
             (let below : k < length blocks = omega arith in
             let written : slice_index_or (slice_set blocks k new) j no_block ≡ new = get_or-set_at blocks k j new no_block e below in
-            let old : IsPart (part_size n parts) (cell_of parts j) b = subst (λ (m : ℕ). IsPart (part_size n parts) (cell_of parts j) (slice_index_or blocks m no_block)) e (are.zones j h) in
+            let old : IsPart (part_size n parts) (cell_of parts j) b = subst
+            (λ (m : ℕ). IsPart (part_size n parts) (cell_of parts j) (slice_index_or blocks m no_block)) e (are.zones j h) in
             let now : IsPart (part_size n parts) (cell_of parts j) new = record { low = low ∙ old.low; size = size ∙ old.size } in
             subst (λ (d : BlockValues). IsPart (part_size n parts) (cell_of parts j) d) (sym written) now)
-        | inr differ ↦ subst (λ (d : BlockValues). IsPart (part_size n parts) (cell_of parts j) d) (sym (get_or-set_other blocks k j new no_block differ)) (are.zones j h)
+        | inr differ ↦ subst (λ (d : BlockValues). IsPart (part_size n parts) (cell_of parts j) d) (sym (get_or-set_other blocks k j new no_block differ))
+            (are.zones j h)
       ];
     }
 
@@ -299,7 +312,8 @@ pub lattice_kept : (n parts s : Triple) (blocks : List BlockValues) (i : ℕ) (a
 lattice_kept n parts s blocks i a c v b new l below read after =
     let here : b ≡ slice_index_or blocks i no_block = get_or_read blocks i b below read no_block in
     let written : new ≡ with_edge (slice_index_or blocks i no_block) a c v = after ∙ ap (λ (d : BlockValues). with_edge d a c v) here in
-    let zones : ArePartsOf n parts (slice_set blocks i new) = are_parts_with n parts blocks i new l.zones (ap (λ (d : BlockValues). d.low) written) (ap (λ (d : BlockValues). d.size) written) in
+    let zones : ArePartsOf n parts (slice_set blocks i new) = are_parts_with n parts blocks i new l.zones (ap (λ (d : BlockValues). d.low) written)
+    (ap (λ (d : BlockValues). d.size) written) in
     record { cells = l.cells; parts_fit = l.parts_fit; layers = l.layers; zones = zones }
 
 -- and is the write of the lattice

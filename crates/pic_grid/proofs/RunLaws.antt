@@ -79,7 +79,8 @@ module _ (n parts : Triple) (blocks : List BlockValues) (p : Triple) (h : IsCell
 
     -- each value before the end is that of the lattice
     pub run_value : (side : ℕ) (a : Axis) (i : ℕ) → p.x + i < part_end s.x p.x
-        → inner_at b a (record (inner_of b.low (unwrapped p)) { x = (inner_of b.low (unwrapped p)).x + i }) ≡ value_at (joined (record { n = n; side = side }) parts blocks) a (record p { x = p.x + i })
+        → inner_at b a (record (inner_of b.low (unwrapped p)) { x = (inner_of b.low (unwrapped p)).x + i })
+        ≡ value_at (joined (record { n = n; side = side }) parts blocks) a (record p { x = p.x + i })
     run_value side a i below =
         let q = record p { x = p.x + i } in
         let in_x : p.x + i < n.x = omega (arith, run_inside) in
@@ -115,8 +116,10 @@ one_inner n s x same below =
 pub one_values : (n parts : Triple) (blocks : List BlockValues) (b : BlockValues) → IsCells n → IsParts n parts → ArePartsOf n parts blocks → length blocks ≡ 1
     → b ≡ slice_index_or blocks 0 no_block → length b.values ≡ 3 * count_of b.size → b.values ≡ values_of n (value_in n parts blocks)
 one_values n parts blocks b h k are one first whole =
-    same_values n b.values (values_of n (value_in n parts blocks)) (whole ∙ ap (λ (m : Triple). 3 * count_of m) size) (length-values_of n (value_in n parts blocks))
-    (λ a p w. sym (value_at-joined (record { n = n; side = 0 }) parts blocks a p w ∙ (λ i. edge_at (of_block p w i) a (unwrapped p)) ∙ (λ i. slice_index_or b.values (place_of (size i) a (inner p w i)) (pos 0))))
+    same_values n b.values (values_of n (value_in n parts blocks)) (whole ∙ ap (λ (m : Triple). 3 * count_of m) size)
+    (length-values_of n (value_in n parts blocks))
+    (λ a p w. sym (value_at-joined (record { n = n; side = 0 }) parts blocks a p w ∙ (λ i. edge_at (of_block p w i) a (unwrapped p))
+    ∙ (λ i. slice_index_or b.values (place_of (size i) a (inner p w i)) (pos 0))))
   where
     count : count_of parts ≡ 1
     count = sym are.count ∙ one
@@ -135,7 +138,8 @@ one_values n parts blocks b h k are one first whole =
 
     of_block : (p : Triple) → IsWithin p n → block_of n parts blocks p ≡ b
     of_block p w =
-        let below : number_of n parts p < 1 = subst (λ (m : ℕ). number_of n parts p < m) count (index_of_below parts (part_of (part_size n parts) p) (part_of_within n parts p h k w)) in
+        let below : number_of n parts p < 1 = subst (λ (m : ℕ). number_of n parts p < m) count
+        (index_of_below parts (part_of (part_size n parts) p) (part_of_within n parts p h k w)) in
         let zero : number_of n parts p ≡ 0 = omega arith in
         ap (λ (m : ℕ). slice_index_or blocks m no_block) zero ∙ sym first
 

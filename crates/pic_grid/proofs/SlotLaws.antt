@@ -98,7 +98,8 @@ module _ (n parts s : Triple) (blocks : List BlockValues) (x y z : Slot) (l : Is
             omega (arith, below, size, at a)
 
         -- and there its value
-        pub slots_value : (side : ℕ) (a : Axis) → slice_index_or b.values (axis_number a * count_of s + place) (pos 0) ≡ value_at (joined (record { n = n; side = side }) parts blocks) a p
+        pub slots_value : (side : ℕ) (a : Axis)
+            → slice_index_or b.values (axis_number a * count_of s + place) (pos 0) ≡ value_at (joined (record { n = n; side = side }) parts blocks) a p
         slots_value side a =
             ap (λ (m : ℕ). slice_index_or b.values m (pos 0)) (at a)
             ∙ ap (λ (c : BlockValues). edge_at c a (unwrapped p)) block

@@ -6,6 +6,8 @@ pub mod Lattice
 pub mod Block
 pub mod Rows
 pub mod Parts
+pub mod BlockLayers
+pub mod Tiles
 pub mod Slot
 pub mod Differences
 pub mod Sums

@@ -1,5 +1,5 @@
 -- A lattice cut into equal parts, one block for each, x fastest.
-use Rattle.std.specs.Prelude.{◌≡◌, ℕ, ℤ, pos, ◌*◌, ◌/◌, ◌<◌, List, [], length, slice_index_or}
+use Rattle.std.specs.Prelude.{◌≡◌, ℕ, ℤ, pos, ◌+◌, ◌*◌, ◌/◌, ◌^◌, ◌<◌, ◌≤◌, List, [], length, slice_index_or}
 use Rattle.pic_num.specs.declared.axis.Axis.{Axis}
 use Rattle.pic_num.specs.Space.{Triple, Spot, unwrapped}
 use Rattle.pic_grid.specs.Cells.{Grid, IsCells, count_of, index_of, cell_of}
@@ -39,12 +39,28 @@ pub record ArePartsOf (n parts : Triple) (blocks : List BlockValues) : Type 0 wh
   pub count : length blocks ≡ count_of parts
   pub zones : (i : ℕ) → i < count_of parts → IsPart (part_size n parts) (cell_of parts i) (slice_index_or blocks i no_block)
 
--- what the type of a lattice keeps: its cells, its parts of s layers, and its blocks fit together
+-- what an index is multiplied by for 2^15 times its part, of so many layers: 2^15 over them, a little
+-- more than that
+pub record IsFactor (layers factor : ℕ) : Type 0 where
+  pub least : 2 ^ 15 ≤ factor * layers
+  pub most : factor * layers ≤ 2 ^ 15 + layers
+
+pub record AreFactors (s factors : Triple) : Type 0 where
+  pub x : IsFactor s.x factors.x
+  pub y : IsFactor s.y factors.y
+  pub z : IsFactor s.z factors.z
+
+-- the cells of a lattice, its parts of s layers, and its blocks fit together
 pub record IsLattice (n parts s : Triple) (blocks : List BlockValues) : Type 0 where
   pub cells : IsCells n
   pub parts_fit : IsParts n parts
   pub layers : s ≡ part_size n parts
   pub zones : ArePartsOf n parts blocks
+
+-- what the type of a lattice keeps: they do, and the factors are those of the layers
+pub record IsDivided (n parts s by : Triple) (blocks : List BlockValues) : Type 0 where
+  pub lattice : IsLattice n parts s blocks
+  pub factors : AreFactors s by
 
 -- a cell's component is that of the block of its part
 unfoldable pub value_in : Triple → Triple → List BlockValues → Axis → Triple → ℤ

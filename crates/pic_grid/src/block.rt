@@ -42,7 +42,11 @@ pub struct Block {
 impl Model for Block {
     ghost Value = { BlockValues };
 
-    ghost view = { λ b. record { low = spot b.zone.low; size = triple b.zone.size; values = b.values.items } };
+    ghost view = { λ b. record {
+      low = spot b.zone.low;
+      size = triple b.zone.size;
+      values = b.values.items;
+    } };
 
     ghost invariant = { λ b. length b.values.items ≡ 3 * count_of (triple b.zone.size) };
 }
@@ -50,7 +54,11 @@ impl Model for Block {
 impl Block {
     /// A block of zeros over any zone.
     pub fn new(alloc: Global, zone: Zone) -> Result<Block, NoMemory>
-        ensures { IfOk result (λ b. b ≡ record { low = spot zone.low; size = triple zone.size; values = replicate (3 * count_of (triple zone.size)) (pos 0) }) }
+        ensures { IfOk result (λ b. b ≡ record {
+          low = spot zone.low;
+          size = triple zone.size;
+          values = replicate (3 * count_of (triple zone.size)) (pos 0);
+        }) }
     {
         let Some(places) = zone.places() else {
             return Err(NoMemory);
@@ -90,8 +98,10 @@ impl Block {
     pub fn add(&mut self, axis: Axis, cell: [i32; 3], value: i128)
         requires within { InZone self.old.low self.old.size (spot cell) }
         requires room { FitsSigned w128 (edge_at self.old axis (spot cell) +ℤ value) }
-        ensures after { self.new ≡ with_edge self.old axis (spot cell) (edge_at self.old axis (spot cell) +ℤ value) }
-        ensures stored { edge_at self.new axis (spot cell) ≡ edge_at self.old axis (spot cell) +ℤ value }
+        ensures after { self.new ≡ with_edge self.old axis (spot cell)
+            (edge_at self.old axis (spot cell) +ℤ value) }
+        ensures stored { edge_at self.new axis (spot cell)
+            ≡ edge_at self.old axis (spot cell) +ℤ value }
     {
         let place = self.place(axis, cell);
         let sum = self.values[place] + value;
@@ -100,7 +110,10 @@ impl Block {
 
     /// Makes every component 0.
     pub fn clear(&mut self)
-        ensures { self.new ≡ record self.old { values = replicate (3 * count_of self.old.size) (pos 0) } }
+        ensures { self.new ≡ record self.old {
+          values = replicate
+              (3 * count_of self.old.size) (pos 0);
+        } }
     {
         zero(self.values.as_mut_slice());
     }

@@ -35,7 +35,8 @@ impl Block {
         requires high_high { FitsSigned w128 (edge_at self.old axis
             (lifted (next_axis axis) (lifted (next_axis (next_axis axis)) (spot cell)))
             +ℤ high_high) }
-        ensures { self.new ≡ four_added self.old axis (spot cell) low_low high_low low_high high_high }
+        ensures { self.new ≡ four_added self.old axis
+            (spot cell) low_low high_low low_high high_high }
     {
         let second = axis.next();
         let third = second.next();

@@ -4,24 +4,24 @@ ghost use Rattle.std.specs.Prelude.{◌≡◌, ℕ, ℤ, pos, ◌*◌, length, r
 ghost use Rattle.pic_num.specs.Space.{triple};
 ghost use Rattle.pic_grid.specs.Cells.{IsCells, IsWithin, count_of};
 ghost use Rattle.pic_grid.specs.Lattice.{Field, grid_of, IsParts, value_at, with_value};
-ghost use Rattle.pic_grid.specs.Parts.{IsLattice, ArePartsOf, joined};
+ghost use Rattle.pic_grid.specs.Parts.{IsDivided, ArePartsOf, joined};
 
 use crate::block::Block;
 use crate::cells::Cells;
-use crate::parts::{blocks_of, guesses_of, layers_of, part_in};
+use crate::parts::{blocks_of, factors_of, layers_of, part_in};
 use pic_num::{Axis, NoMemory};
 use std::alloc::Global;
 use std::marker::Model;
 
 /// Three `i128` components for each cell of the grid, cut into equal parts with one block for each.
 /// Contracts see the cells, their side, the parts and the values in the order of places.
-// `guesses` are what an index is multiplied by for a guess at its part.
+// `factors` are what an index is multiplied by for its part.
 #[derive(Drop)]
 pub struct Lattice {
     pub(crate) cells: Cells,
     pub(crate) parts: [u32; 3],
     pub(crate) layers: [u32; 3],
-    pub(crate) guesses: [u16; 3],
+    pub(crate) factors: [u16; 3],
     pub(crate) blocks: Vec<Block>,
 }
 
@@ -30,14 +30,20 @@ impl Model for Lattice {
 
     ghost view = { λ l. joined l.cells (triple l.parts) l.blocks.items };
 
-    ghost invariant = { λ l. IsLattice l.cells.n (triple l.parts) (triple l.layers) l.blocks.items };
+    ghost invariant = { λ l.
+        IsDivided l.cells.n (triple l.parts) (triple l.layers) (triple l.factors) l.blocks.items };
 }
 
 impl Lattice {
     /// A lattice of zeros. Each axis has at least one part, and its parts have equally many cells.
     pub fn new(alloc: Global, cells: Cells, parts: [u32; 3]) -> Result<Lattice, NoMemory>
         requires { IsParts cells.n (triple parts) }
-        ensures { IfOk result (λ l. l ≡ record { cells = cells.n; side = cells.side; parts = triple parts; values = replicate (3 * count_of cells.n) (pos 0) }) }
+        ensures { IfOk result (λ l. l ≡ record {
+          cells = cells.n;
+          side = cells.side;
+          parts = triple parts;
+          values = replicate (3 * count_of cells.n) (pos 0);
+        }) }
     {
         let layers = layers_of(cells, parts);
         let blocks = blocks_of(alloc, cells, parts)?;
@@ -45,7 +51,7 @@ impl Lattice {
             cells,
             parts,
             layers,
-            guesses: guesses_of(layers),
+            factors: factors_of(layers),
             blocks,
         })
     }
@@ -61,7 +67,7 @@ impl Lattice {
             cells,
             parts,
             layers,
-            guesses: guesses_of(layers),
+            factors: factors_of(layers),
             blocks,
         }
     }
@@ -75,7 +81,7 @@ impl Lattice {
             cells: _,
             parts: _,
             layers: _,
-            guesses: _,
+            factors: _,
             blocks,
         } = self;
         blocks

@@ -5,7 +5,7 @@ mod block;
 mod cells;
 mod fours;
 mod lattice;
-mod laws;
+mod layers;
 mod name;
 mod neighbours;
 mod nodes;
@@ -15,7 +15,6 @@ mod places;
 mod rows;
 mod runs;
 mod slot;
-mod slow;
 mod snapshot;
 mod stop;
 mod track;
@@ -23,15 +22,11 @@ mod track;
 pub use block::{Block, Zone};
 pub use cells::Cells;
 pub use lattice::Lattice;
-pub use laws::{
-    constant_is_gathered, curl_of_b_has_no_divergence, curl_of_e_has_no_divergence, hats_add_up,
-    weights_add_up,
-};
 pub use name::Name;
 pub use nodes::Nodes;
 pub use pair::Pair;
+pub use places::Place;
 pub use slot::Slot;
-pub use slow::{slow_gather, slow_shifted_weight, slow_weight};
 pub use snapshot::Snapshot;
 pub use stop::{Bound, EndMark, Phase, Stop};
 pub use track::{Segment, Track};

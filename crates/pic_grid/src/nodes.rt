@@ -28,7 +28,10 @@ impl Model for Nodes {
 impl Nodes {
     /// Nodes of zeros.
     pub fn new(alloc: Global, cells: Cells) -> Result<Nodes, NoMemory>
-        ensures { IfOk result (λ n. n ≡ record { cells = cells.n; values = replicate (count_of cells.n) (pos 0) }) }
+        ensures { IfOk result (λ n. n ≡ record {
+          cells = cells.n;
+          values = replicate (count_of cells.n) (pos 0);
+        }) }
     {
         let [_, _, _] = cells.n;
         let values = vec![in alloc; 0i128; cells.count() as usize]?;

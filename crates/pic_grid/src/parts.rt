@@ -6,6 +6,7 @@ ghost use Rattle.pic_num.specs.Space.{triple, spot};
 ghost use Rattle.pic_grid.specs.Cells.{IsCells, IsSize, IsWithin, count_of, index_of, cell_of};
 ghost use Rattle.pic_grid.specs.Lattice.{IsParts};
 ghost use Rattle.pic_grid.specs.Parts.{part_size, part_of, corner_of, no_block, ArePartsOf};
+ghost use Rattle.pic_grid.specs.Parts.{IsFactor, AreFactors};
 
 use crate::block::{Block, Zone};
 use crate::cells::Cells;
@@ -26,17 +27,19 @@ pub(crate) fn layers_of(cells: Cells, parts: [u32; 3]) -> [u32; 3]
     [nx / px, ny / py, nz / pz]
 }
 
-/// On each axis 2^15 over the layers of a part: by it the part of an index is guessed without a
-/// division.
-pub(crate) fn guesses_of(layers: [u32; 3]) -> [u16; 3]
+/// On each axis a little more than 2^15 over the layers of a part: by it the part of an index is
+/// found without a division.
+pub(crate) fn factors_of(layers: [u32; 3]) -> [u16; 3]
     requires { IsSize (triple layers) }
+    ensures { AreFactors (triple layers) (triple result) }
 {
     let [nx, ny, nz] = layers;
-    [guess_of(nx), guess_of(ny), guess_of(nz)]
+    [factor_of(nx), factor_of(ny), factor_of(nz)]
 }
 
-fn guess_of(layers: u32) -> u16
+fn factor_of(layers: u32) -> u16
     requires { 0 < layers }
+    ensures { IsFactor layers result }
 {
     (32768 / layers + 1) as u16
 }
@@ -92,7 +95,9 @@ pub(crate) fn blocks_of(
 ) -> Result<Vec<Block>, NoMemory>
     requires { IsParts cells.n (triple parts) }
     ensures zones { IfOk result (λ v. ArePartsOf cells.n (triple parts) v.items) }
-    ensures zeros { IfOk result (λ v. (i : ℕ) → i < count_of (triple parts) → (slice_index_or v.items i no_block).values ≡ replicate (3 * count_of (part_size cells.n (triple parts))) (pos 0)) }
+    ensures zeros { IfOk result (λ v. (i : ℕ) → i < count_of (triple parts)
+        → (slice_index_or v.items i no_block).values
+        ≡ replicate (3 * count_of (part_size cells.n (triple parts))) (pos 0)) }
 {
     let layers = layers_of(cells, parts);
     let count = count_in(parts);

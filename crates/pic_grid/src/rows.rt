@@ -72,7 +72,7 @@ impl Block {
 }
 
 /// The number of the first place of the row on `axis` at the layers `y` and `z` of a box.
-fn row_start(size: [u32; 3], axis: Axis, y: u32, z: u32) -> usize
+pub(crate) fn row_start(size: [u32; 3], axis: Axis, y: u32, z: u32) -> usize
     requires y { y < (triple size).y }
     requires z { z < (triple size).z }
     requires room { 3 * count_of (triple size) < 2 ^ 64 }

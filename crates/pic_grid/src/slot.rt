@@ -1,8 +1,9 @@
 //! Places of a lattice found axis by axis, for readers of many places round one point.
 
-ghost use Rattle.std.specs.Prelude.{◌≡◌, ◌↔◌, ◌+◌, ◌*◌, ◌/◌, ◌%◌, ◌^◌, ◌<◌, ◌≤◌, IsTrue};
+ghost use Rattle.std.specs.Prelude.{◌≡◌, ◌+◌, ◌*◌, ◌/◌, ◌%◌, ◌<◌, ◌≤◌};
 ghost use Rattle.pic_num.specs.Limits.{most_cells_of_axis};
 ghost use Rattle.pic_grid.specs.Lattice.{value_at};
+ghost use Rattle.pic_grid.specs.Parts.{IsFactor};
 ghost use Rattle.pic_grid.specs.Slot.{IsSlotX, IsSlotY, IsSlotZ};
 
 use crate::lattice::Lattice;
@@ -26,8 +27,8 @@ impl Lattice {
         ensures slot { IsSlotX self.now.cells self.now.parts result }
     {
         let [layers, _, _] = self.layers;
-        let [guess, _, _] = self.guesses;
-        slot_on(layers, guess, 1, 1, index)
+        let [factor, _, _] = self.factors;
+        slot_on(layers, factor, 1, 1, index)
     }
 
     /// Where an index of the y axis lies.
@@ -39,8 +40,8 @@ impl Lattice {
     {
         let [parts_x, _, _] = self.parts;
         let [layers_x, layers, _] = self.layers;
-        let [_, guess, _] = self.guesses;
-        slot_on(layers, guess, parts_x, layers_x, index)
+        let [_, factor, _] = self.factors;
+        slot_on(layers, factor, parts_x, layers_x, index)
     }
 
     /// Where an index of the z axis lies.
@@ -52,8 +53,14 @@ impl Lattice {
     {
         let [parts_x, parts_y, _] = self.parts;
         let [layers_x, layers_y, layers] = self.layers;
-        let [_, _, guess] = self.guesses;
-        slot_on(layers, guess, parts_x * parts_y, layers_x * layers_y, index)
+        let [_, _, factor] = self.factors;
+        slot_on(
+            layers,
+            factor,
+            parts_x * parts_y,
+            layers_x * layers_y,
+            index,
+        )
     }
 
     /// The component on `axis` at the cell of three slots.
@@ -62,7 +69,8 @@ impl Lattice {
         requires x { IsSlotX self.now.cells self.now.parts x }
         requires y { IsSlotY self.now.cells self.now.parts y }
         requires z { IsSlotZ self.now.cells self.now.parts z }
-        ensures { result ≡ value_at self.now axis (record { x = x.index; y = y.index; z = z.index }) }
+        ensures { result
+            ≡ value_at self.now axis (record { x = x.index; y = y.index; z = z.index }) }
     {
         let [layers_x, layers_y, layers_z] = self.layers;
         let count = layers_x as usize * layers_y as usize * layers_z as usize;
@@ -75,9 +83,10 @@ impl Lattice {
 
 /// Where an index lies on an axis, one part and one place of which are so many further.
 #[inline(always)]
-fn slot_on(layers: u32, guess: u16, part_step: u32, place_step: u32, index: u32) -> Slot
+fn slot_on(layers: u32, factor: u16, part_step: u32, place_step: u32, index: u32) -> Slot
     requires some { 1 ≤ layers }
     requires most { layers ≤ most_cells_of_axis }
+    requires factor { IsFactor layers factor }
     requires few { index < most_cells_of_axis }
     requires part_step { part_step ≤ most_cells_of_axis * most_cells_of_axis }
     requires place_step { place_step ≤ most_cells_of_axis * most_cells_of_axis }
@@ -85,7 +94,7 @@ fn slot_on(layers: u32, guess: u16, part_step: u32, place_step: u32, index: u32)
     ensures part { result.part ≡ index / layers * part_step }
     ensures place { result.place ≡ index % layers * place_step }
 {
-    let part = part_of(layers, guess, index);
+    let part = part_of(layers, factor, index);
     let inner = index - part * layers;
     Slot {
         index,
@@ -94,35 +103,19 @@ fn slot_on(layers: u32, guess: u16, part_step: u32, place_step: u32, index: u32)
     }
 }
 
-/// The part of an index: a guess that its rest confirms, or else a quotient.
+/// The part of an index, by the factor of a part's layers.
 #[inline(always)]
-fn part_of(layers: u32, guess: u16, index: u32) -> u32
+fn part_of(layers: u32, factor: u16, index: u32) -> u32
     requires some { 1 ≤ layers }
     requires most { layers ≤ most_cells_of_axis }
+    requires factor { IsFactor layers factor }
     requires few { index < most_cells_of_axis }
     ensures value { result ≡ index / layers }
     ensures low { result * layers ≤ index }
     ensures high { index < result * layers + layers }
 {
-    let part = (index * u32::from(guess)) >> 15;
-    let start = part * layers;
-    if is_in(start, layers, index) {
-        return part;
-    }
-    index / layers
-}
-
-/// Whether an index is one of `layers` from `start` on.
-#[inline(always)]
-fn is_in(start: u32, layers: u32, index: u32) -> bool
-    requires start { start < 2 ^ 24 }
-    requires most { layers ≤ most_cells_of_axis }
-    ensures { IsTrue result ↔ ((start ≤ index) × (index < start + layers)) }
-{
-    if start > index {
-        return false;
-    }
-    index < start + layers
+    let _layers = layers;
+    (index * u32::from(factor)) >> 15
 }
 
 #[cfg(test)]

@@ -20,9 +20,21 @@ impl Snapshot {
     /// Fields of zeros, each in one part, and as many particles at rest in the corner of the grid,
     /// with the identity and species 0.
     pub fn new(alloc: Global, cells: Cells, particles: u32) -> Result<Snapshot, NoMemory>
-        ensures e { IfOk result (λ s. s.e ≡ record { cells = cells.n; side = cells.side; parts = record { x = 1; y = 1; z = 1 }; values = replicate (3 * count_of cells.n) (pos 0) }) }
+        ensures e { IfOk result (λ s. s.e ≡ record {
+          cells = cells.n;
+          side = cells.side;
+          parts = record { x = 1; y = 1; z = 1 };
+          values =
+              replicate (3 * count_of cells.n) (pos 0);
+        }) }
         ensures b { IfOk result (λ s. s.b ≡ s.e) }
-        ensures particles { IfOk result (λ s. s.particles.items ≡ replicate particles (record { id = 0; species = 0; x = 0 ∷ 0 ∷ 0 ∷ []; v = pos 0 ∷ pos 0 ∷ pos 0 ∷ [] })) }
+        ensures particles { IfOk result (λ s. s.particles.items
+            ≡ replicate particles (record {
+              id = 0;
+              species = 0;
+              x = 0 ∷ 0 ∷ 0 ∷ [];
+              v = pos 0 ∷ pos 0 ∷ pos 0 ∷ [];
+            })) }
     {
         let none = Particle {
             id: 0,

@@ -22,7 +22,11 @@ impl Model for Segment {
 
     ghost invariant = { λ s. (length s.from ≡ 3) × (length s.to ≡ 3) × (length s.cell ≡ 3) };
 
-    ghost inverse = { λ p. record { from = array_of_spot p.from; to = array_of_spot p.to; cell = array_of_spot p.cell } };
+    ghost inverse = { λ p. record {
+      from = array_of_spot p.from;
+      to = array_of_spot p.to;
+      cell = array_of_spot p.cell;
+    } };
 
     ghost inverse_ok = { λ s h i. record {
       from = Rattle.pic_grid.specs.Arrays.array_of_spot-spot s.from h.0 i;

@@ -8,7 +8,8 @@ use Rattle.pic_charge.proofs.BreakLaws.{first_break_at, first_break_nowhere, non
 use Rattle.pic_charge.proofs.breaks.gauss.Goals as goal
 
 -- where a break is found, it is the first
-found_first : (c : goal.Then-is_some) → c.difference-found.result ≡ first_break c.args.cells.n (div_e c.args.cells.n (value_at c.args.e.now)) (node_at c.args.rho.now)
+found_first : (c : goal.Then-is_some) → c.difference-found.result ≡ first_break c.args.cells.n (div_e c.args.cells.n (value_at c.args.e.now))
+    (node_at c.args.rho.now)
 found_first c =
     let div = div_e c.args.cells.n (value_at c.args.e.now) in
     let rho = node_at c.args.rho.now in
@@ -20,10 +21,12 @@ pub returns-then-is_some-clause-value : goal.returns-then-is_some-clause-value
 returns-then-is_some-clause-value c = found_first c
 
 pub returns-then-is_some-clause-none : goal.returns-then-is_some-clause-none
-returns-then-is_some-clause-none c = none_exactly c.args.cells.n (div_e c.args.cells.n (value_at c.args.e.now)) (node_at c.args.rho.now) c.difference-found.result (found_first c)
+returns-then-is_some-clause-none c = none_exactly c.args.cells.n (div_e c.args.cells.n (value_at c.args.e.now))
+    (node_at c.args.rho.now) c.difference-found.result (found_first c)
 
 pub returns-then-is_some-clause-least : goal.returns-then-is_some-clause-least
-returns-then-is_some-clause-least c = least_where c.args.cells.n (div_e c.args.cells.n (value_at c.args.e.now)) (node_at c.args.rho.now) c.difference-found.result (found_first c)
+returns-then-is_some-clause-least c = least_where c.args.cells.n (div_e c.args.cells.n (value_at c.args.e.now))
+    (node_at c.args.rho.now) c.difference-found.result (found_first c)
 
 pub loop-index-preserved : goal.loop-index-preserved
 loop-index-preserved c =
@@ -37,5 +40,6 @@ pub returns : goal.returns
 returns c =
     let div = div_e c.args.cells.n (value_at c.args.e.now) in
     let rho = node_at c.args.rho.now in
-    let value = first_break_nowhere c.args.cells.n div rho c.loop-index.index (omega (arith, c.loop-index-test.false, c.loop-index.auto.index-end, c.count-index-end.ensures.value)) c.loop-index.invariant in
+    let value = first_break_nowhere c.args.cells.n div rho c.loop-index.index
+    (omega (arith, c.loop-index-test.false, c.loop-index.auto.index-end, c.count-index-end.ensures.value)) c.loop-index.invariant in
     record { value = value; none = none_exactly c.args.cells.n div rho None value; least = tt }

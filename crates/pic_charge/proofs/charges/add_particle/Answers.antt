@@ -6,7 +6,7 @@ use Rattle.pic_grid.specs.Cells.{IsWithin}
 use Rattle.pic_grid.specs.PushPhase.{kind_of, no_kind}
 use Rattle.pic_grid.specs.Pair.{weight_in}
 use Rattle.pic_charge.specs.Spread.{spread}
-use Rattle.pic_charge.proofs.ChargeLaws.{charge_most}
+use Rattle.pic_grid.proofs.SpeciesLaws.{charge_most}
 use Rattle.pic_charge.proofs.PairLaws.{pair_as, share_is_spread, twelve_is}
 use Rattle.pic_charge.proofs.SpreadLaws.{adds_same, kept_is}
 use Rattle.pic_charge.proofs.charges.add_particle.Goals as goal
@@ -24,7 +24,8 @@ returns c =
     let kind = c.index-kinds-particle.result in
     let amount = c.twelvefold-amount.result in
     let kind_is : kind ≡ kind_of kinds x = get_or_read kinds x.species kind c.requires.placed.species c.index-kinds-particle.is no_kind in
-    let small : unsigned_abs kind.charge ≤ 2 ^ 15 = subst (λ (k : Kind). unsigned_abs k.charge ≤ 2 ^ 15) (sym kind_is) (charge_most kinds x c.requires.limits) in
+    let small : unsigned_abs kind.charge ≤ 2 ^ 15 = subst (λ (k : Kind). unsigned_abs k.charge ≤ 2 ^ 15) (sym kind_is)
+    (charge_most kinds x c.requires.limits) in
     let amount_is : amount ≡ pos 12 *ℤ (kind_of kinds x).charge =
     twelve_is kind.charge amount small c.twelvefold-amount.ensures.value ∙ ap (λ (k : Kind). pos 12 *ℤ k.charge) kind_is in
     let size = c.twelvefold-amount.ensures.size.size in

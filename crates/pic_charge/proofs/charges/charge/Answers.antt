@@ -25,17 +25,21 @@ add_particle-requires c =
       limits = c.requires.limits;
       placed = c.requires.placed c.loop-particle.particle-index _ c.loop-particle-test.true;
       room = still_at_most c.loop-particle.to most_node_charge (2 ^ 87)
-          (holds_room c.args.cells.side c.args.cells.n c.args.kinds.now so_far c.loop-particle.to short c.requires.limits (omega (arith, few, fewer)) c.loop-particle.invariant)
+          (holds_room c.args.cells.side c.args.cells.n c.args.kinds.now so_far c.loop-particle.to short c.requires.limits
+          (omega (arith, few, fewer)) c.loop-particle.invariant)
           (lit≤ tt);
     }
 
 pub returns : goal.returns
 returns c =
     let short = short_side _ _ c.sub-sub.ensures c.side-side.ensures.most in
-    let all : take c.loop-particle.particle-index c.args.particles.now ≡ c.args.particles.now = take_all c.loop-particle.particle-index c.args.particles.now (omega (arith, c.loop-particle-test.false)) in
-    let holds : HoldsCharge c.args.cells.side c.args.cells.n c.args.kinds.now c.args.particles.now c.loop-particle.to = subst (λ xs. HoldsCharge c.args.cells.side c.args.cells.n c.args.kinds.now xs c.loop-particle.to) all c.loop-particle.invariant in
+    let all : take c.loop-particle.particle-index c.args.particles.now ≡ c.args.particles.now =
+    take_all c.loop-particle.particle-index c.args.particles.now (omega (arith, c.loop-particle-test.false)) in
+    let holds : HoldsCharge c.args.cells.side c.args.cells.n c.args.kinds.now c.args.particles.now c.loop-particle.to =
+    subst (λ xs. HoldsCharge c.args.cells.side c.args.cells.n c.args.kinds.now xs c.loop-particle.to) all c.loop-particle.invariant in
     record {
       same_cells = holds.cells;
       values = holds.values;
-      size = λ p within. subst (λ (v : ℤ). IsAtMost v most_node_charge) (sym (holds.values p within)) (charge_of_most c.args.cells.side c.args.cells.n c.args.kinds.now c.args.particles.now p short c.requires.limits c.requires.few);
+      size = λ p within. subst (λ (v : ℤ). IsAtMost v most_node_charge) (sym (holds.values p within))
+          (charge_of_most c.args.cells.side c.args.cells.n c.args.kinds.now c.args.particles.now p short c.requires.limits c.requires.few);
     }

@@ -18,5 +18,6 @@ loop-index-preserved c =
 pub returns : goal.returns
 returns c = record {
   same_cells = c.loop-index.invariant.cells;
-  values = cleared_all c.args.cells.n c.loop-index.to c.loop-index.index c.loop-index.invariant (omega (arith, c.loop-index-test.false, c.loop-index.auto.index-end, c.count-index-end.ensures.value));
+  values = cleared_all c.args.cells.n c.loop-index.to c.loop-index.index c.loop-index.invariant
+      (omega (arith, c.loop-index-test.false, c.loop-index.auto.index-end, c.count-index-end.ensures.value));
 }

@@ -61,7 +61,8 @@ below_both c =
     omega (arith, k.whole, k.again, both_below c.args.self.now c.args.axis (spot c.args.cell) _ _ _ c.requires.here c.requires.there k.place k.second k.third)
 
 -- what stands at the four places
-at_here_is : (c : After-as_mut_slice-values) → edge_at c.args.self.now c.args.axis (spot c.args.cell) ≡ slice_index_or c.as_mut_slice-values.result.now c.place_in-here.result (pos 0)
+at_here_is : (c : After-as_mut_slice-values) → edge_at c.args.self.now c.args.axis (spot c.args.cell)
+    ≡ slice_index_or c.as_mut_slice-values.result.now c.place_in-here.result (pos 0)
 at_here_is c = let k = known c in λ i. slice_index_or (sym k.same i) (sym k.place i) (pos 0)
 
 at_second_is : (c : After-as_mut_slice-values) → edge_at c.args.self.now c.args.axis (lifted (next_axis c.args.axis) (spot c.args.cell))

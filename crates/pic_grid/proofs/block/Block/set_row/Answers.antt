@@ -19,7 +19,8 @@ returns c =
     let size : k ≡ b.size.x = omega arith in
     let all : length b.values ≡ 3 * count_of b.size = c.self.invariant in
     let fits : start + k ≤ length values = omega (arith, c.row_start-start.ensures.end, ap length same) in
-    let long : length row ≡ k = ap length c.copy_from_slice.ensures.after ∙ c.requires.length ∙ ap (λ (d : BlockValues). d.size.x) (sym c.self.view_is) ∙ sym size in
+    let long : length row ≡ k = ap length c.copy_from_slice.ensures.after ∙ c.requires.length
+    ∙ ap (λ (d : BlockValues). d.size.x) (sym c.self.view_is) ∙ sym size in
     let items = with_items_is c.self.inside.values written (written_length values row start k fits long ∙ c.as_mut_slice-values.ensures.len) in
     (λ i. record b { values = items i })
     ∙ row_written b values row start k c.args.axis c.args.y c.args.z same c.row_start-start.ensures.value size

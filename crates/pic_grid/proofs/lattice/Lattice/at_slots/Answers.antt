@@ -16,7 +16,7 @@ index-block-requires c =
     let parts = triple c.self.inside.parts in
     let blocks = c.self.inside.blocks.items in
     let on = slots_of c.self.inside.cells parts blocks _ c.args.x c.args.y c.args.z c.self.view_is c.requires.x c.requires.y c.requires.z in
-    let below = slots_below n parts (triple c.self.inside.layers) blocks c.args.x c.args.y c.args.z c.self.invariant on in
+    let below = slots_below n parts (triple c.self.inside.layers) blocks c.args.x c.args.y c.args.z c.self.invariant.lattice on in
     search (rules, below)
 
 pub index-requires : goal.index-requires
@@ -28,7 +28,8 @@ index-requires c =
     let on = slots_of c.self.inside.cells parts blocks _ c.args.x c.args.y c.args.z c.self.view_is c.requires.x c.requires.y c.requires.z in
     let whole = subst (λ (b : BlockValues). length b.values ≡ 3 * count_of b.size) c.block.view_is c.block.invariant in
     let place = c.args.x.place + c.args.y.place + c.args.z.place in
-    let below = slots_place n parts s blocks c.args.x c.args.y c.args.z c.self.invariant on c.index-block.result.now c.index-block.ensures c.args.axis whole in
+    let below = slots_place n parts s blocks c.args.x c.args.y c.args.z c.self.invariant.lattice on
+    c.index-block.result.now c.index-block.ensures c.args.axis whole in
     let room : c.number.result * count_of s + place < length c.block.inside.values.items =
     subst (λ (m : ℕ). m * count_of s + place < length c.block.inside.values.items) (sym c.number.ensures)
     (subst (λ (b : BlockValues). axis_number c.args.axis * count_of s + place < length b.values) (sym c.block.view_is) below) in
@@ -44,7 +45,8 @@ returns c =
     let whole = subst (λ (b : BlockValues). length b.values ≡ 3 * count_of b.size) c.block.view_is c.block.invariant in
     let place = c.args.x.place + c.args.y.place + c.args.z.place in
     let items = c.block.inside.values.items in
-    let below = slots_place n parts s blocks c.args.x c.args.y c.args.z c.self.invariant on c.index-block.result.now c.index-block.ensures c.args.axis whole in
+    let below = slots_place n parts s blocks c.args.x c.args.y c.args.z c.self.invariant.lattice on
+    c.index-block.result.now c.index-block.ensures c.args.axis whole in
     let room : c.number.result * count_of s + place < length items =
     subst (λ (m : ℕ). m * count_of s + place < length items) (sym c.number.ensures)
     (subst (λ (b : BlockValues). axis_number c.args.axis * count_of s + place < length b.values) (sym c.block.view_is) below) in
@@ -53,5 +55,6 @@ returns c =
     ∙ get_or_read items (c.number.result * count_of s + place) c.index.result.now room c.index.ensures (pos 0)
     ∙ ap (λ (m : ℕ). slice_index_or items (m * count_of s + place) (pos 0)) c.number.ensures
     ∙ ap (λ (b : BlockValues). slice_index_or b.values (axis_number c.args.axis * count_of s + place) (pos 0)) c.block.view_is
-    ∙ slots_value n parts s blocks c.args.x c.args.y c.args.z c.self.invariant on c.index-block.result.now c.index-block.ensures c.self.inside.cells.side c.args.axis
+    ∙ slots_value n parts s blocks c.args.x c.args.y c.args.z c.self.invariant.lattice on
+    c.index-block.result.now c.index-block.ensures c.self.inside.cells.side c.args.axis
     ∙ ap (λ (f : Field). value_at f c.args.axis (record { x = c.args.x.index; y = c.args.y.index; z = c.args.z.index })) c.self.view_is

@@ -12,31 +12,44 @@ use Rattle.pic_grid.proofs.lattice.Lattice.set.Goals as goal
 
 pub part_in-part-requires-clause-parts : goal.part_in-part-requires-clause-parts
 part_in-part-requires-clause-parts c =
-    parts_limits c.self.inside.cells.n (triple c.self.inside.parts) c.self.invariant.cells c.self.invariant.parts_fit
+    parts_limits c.self.inside.cells.n (triple c.self.inside.parts) c.self.invariant.lattice.cells c.self.invariant.lattice.parts_fit
 
 pub part_in-part-requires-clause-within : goal.part_in-part-requires-clause-within
 part_in-part-requires-clause-within c =
-    let w : IsWithin (triple c.args.cell) c.self.inside.cells.n = subst (λ (f : Field). IsWithin (triple c.args.cell) f.cells) (sym c.self.view_is) c.requires in
-    lattice_part c.self.inside.cells.n (triple c.self.inside.parts) (triple c.self.inside.layers) c.self.inside.blocks.items (triple c.args.cell) c.self.invariant w
+    let w : IsWithin (triple c.args.cell) c.self.inside.cells.n = subst (λ (f : Field). IsWithin (triple c.args.cell) f.cells)
+    (sym c.self.view_is) c.requires in
+    lattice_part c.self.inside.cells.n (triple c.self.inside.parts) (triple c.self.inside.layers) c.self.inside.blocks.items
+    (triple c.args.cell) c.self.invariant.lattice w
 
 pub index_mut-block-requires : goal.index_mut-block-requires
 index_mut-block-requires c =
-    let w : IsWithin (triple c.args.cell) c.self.inside.cells.n = subst (λ (f : Field). IsWithin (triple c.args.cell) f.cells) (sym c.self.view_is) c.requires in
-    let below = lattice_below c.self.inside.cells.n (triple c.self.inside.parts) (triple c.self.inside.layers) c.self.inside.blocks.items (triple c.args.cell) c.part_in-part.result c.self.invariant w c.part_in-part.ensures in
+    let w : IsWithin (triple c.args.cell) c.self.inside.cells.n = subst (λ (f : Field). IsWithin (triple c.args.cell) f.cells)
+    (sym c.self.view_is) c.requires in
+    let below = lattice_below c.self.inside.cells.n (triple c.self.inside.parts) (triple c.self.inside.layers) c.self.inside.blocks.items
+    (triple c.args.cell) c.part_in-part.result c.self.invariant.lattice w c.part_in-part.ensures in
     search (rules, below)
 
 pub set-requires : goal.set-requires
 set-requires c =
-    let w : IsWithin (triple c.args.cell) c.self.inside.cells.n = subst (λ (f : Field). IsWithin (triple c.args.cell) f.cells) (sym c.self.view_is) c.requires in
-    let block = lattice_block c.self.inside.cells.n (triple c.self.inside.parts) (triple c.self.inside.layers) c.self.inside.blocks.items (triple c.args.cell) c.part_in-part.result c.index_mut-block.result.now c.self.invariant w c.part_in-part.ensures c.index_mut-block.ensures.value in
-    lattice_has c.self.inside.cells.n (triple c.self.inside.parts) (triple c.self.inside.layers) c.self.inside.blocks.items (triple c.args.cell) c.index_mut-block.result.now _ c.self.invariant w block c.unwrapped-at.ensures
+    let w : IsWithin (triple c.args.cell) c.self.inside.cells.n = subst (λ (f : Field). IsWithin (triple c.args.cell) f.cells)
+    (sym c.self.view_is) c.requires in
+    let block = lattice_block c.self.inside.cells.n (triple c.self.inside.parts) (triple c.self.inside.layers) c.self.inside.blocks.items
+    (triple c.args.cell) c.part_in-part.result c.index_mut-block.result.now c.self.invariant.lattice w c.part_in-part.ensures c.index_mut-block.ensures.value in
+    lattice_has c.self.inside.cells.n (triple c.self.inside.parts) (triple c.self.inside.layers) c.self.inside.blocks.items
+    (triple c.args.cell) c.index_mut-block.result.now _ c.self.invariant.lattice w block c.unwrapped-at.ensures
 
 pub invariant_of-self : goal.invariant_of-self
 invariant_of-self c =
-    let w : IsWithin (triple c.args.cell) c.self.inside.cells.n = subst (λ (f : Field). IsWithin (triple c.args.cell) f.cells) (sym c.self.view_is) c.requires in
-    let below = lattice_below c.self.inside.cells.n (triple c.self.inside.parts) (triple c.self.inside.layers) c.self.inside.blocks.items (triple c.args.cell) c.part_in-part.result c.self.invariant w c.part_in-part.ensures in
+    let w : IsWithin (triple c.args.cell) c.self.inside.cells.n = subst (λ (f : Field). IsWithin (triple c.args.cell) f.cells)
+    (sym c.self.view_is) c.requires in
+    let below = lattice_below c.self.inside.cells.n (triple c.self.inside.parts) (triple c.self.inside.layers) c.self.inside.blocks.items
+    (triple c.args.cell) c.part_in-part.result c.self.invariant.lattice w c.part_in-part.ensures in
     let after = c.set.ensures.after in
-    lattice_kept c.self.inside.cells.n (triple c.self.inside.parts) (triple c.self.inside.layers) c.self.inside.blocks.items c.part_in-part.result _ _ _ c.index_mut-block.result.now c.set.new.self c.self.invariant below c.index_mut-block.ensures.value after
+    record {
+      lattice = lattice_kept c.self.inside.cells.n (triple c.self.inside.parts) (triple c.self.inside.layers) c.self.inside.blocks.items
+          c.part_in-part.result _ _ _ c.index_mut-block.result.now c.set.new.self c.self.invariant.lattice below c.index_mut-block.ensures.value after;
+      factors = c.self.invariant.factors;
+    }
 
 pub returns-clause-after : goal.returns-clause-after
 returns-clause-after c =
@@ -48,8 +61,9 @@ returns-clause-after c =
     let block = c.index_mut-block.result.now in
     let after = c.set.ensures.after ∙ ap (λ (v : ℤ). with_edge block c.args.axis (spot c.unwrapped-at.result) v) value in
     let stored = c.set.ensures.stored ∙ value in
-    lattice_set c.self.inside.cells parts (triple c.self.inside.layers) c.self.inside.blocks.items p c.part_in-part.result c.args.axis (spot c.unwrapped-at.result) c.args.value block c.set.new.self
-    c.self.invariant w c.part_in-part.ensures c.index_mut-block.ensures.value c.unwrapped-at.ensures after stored
+    lattice_set c.self.inside.cells parts (triple c.self.inside.layers) c.self.inside.blocks.items p c.part_in-part.result c.args.axis
+    (spot c.unwrapped-at.result) c.args.value block c.set.new.self
+    c.self.invariant.lattice w c.part_in-part.ensures c.index_mut-block.ensures.value c.unwrapped-at.ensures after stored
     ∙ ap (λ (f : Field). with_value f c.args.axis p c.args.value) c.self.view_is
 
 pub returns-clause-stored : goal.returns-clause-stored
@@ -64,6 +78,7 @@ returns-clause-stored c =
     let after = c.set.ensures.after ∙ ap (λ (v : ℤ). with_edge block c.args.axis (spot c.unwrapped-at.result) v) value in
     let stored = c.set.ensures.stored ∙ value in
     ap (λ (f : Field). value_at f c.args.axis p)
-    (lattice_set c.self.inside.cells parts (triple c.self.inside.layers) c.self.inside.blocks.items p c.part_in-part.result c.args.axis (spot c.unwrapped-at.result) c.args.value block c.set.new.self
-    c.self.invariant w c.part_in-part.ensures c.index_mut-block.ensures.value c.unwrapped-at.ensures after stored)
+    (lattice_set c.self.inside.cells parts (triple c.self.inside.layers) c.self.inside.blocks.items p c.part_in-part.result c.args.axis
+    (spot c.unwrapped-at.result) c.args.value block c.set.new.self
+    c.self.invariant.lattice w c.part_in-part.ensures c.index_mut-block.ensures.value c.unwrapped-at.ensures after stored)
     ∙ value_at-same (joined c.self.inside.cells parts c.self.inside.blocks.items) c.args.axis p c.args.value w size

@@ -1,5 +1,0 @@
-use Rattle.pic_grid.proofs.DifferenceLaws.{div_b-curl_e}
-use Rattle.pic_grid.proofs.laws.curl_of_e_has_no_divergence.Goals as goal
-
-pub returns : goal.returns
-returns c = div_b-curl_e

@@ -1,5 +1,0 @@
-use Rattle.pic_grid.proofs.HatLaws as hats
-use Rattle.pic_grid.proofs.laws.hats_add_up.Goals as goal
-
-pub returns : goal.returns
-returns c = hats.hats_add_up

@@ -1,5 +1,0 @@
-use Rattle.pic_grid.proofs.WeightLaws as weights
-use Rattle.pic_grid.proofs.laws.weights_add_up.Goals as goal
-
-pub returns : goal.returns
-returns c = weights.weights_add_up

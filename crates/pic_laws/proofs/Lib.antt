@@ -1,0 +1,4 @@
+pub mod SlowSums
+mod DifferenceRows
+mod GridRows
+mod PhaseRows
