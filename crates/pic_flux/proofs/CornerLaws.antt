@@ -108,7 +108,8 @@ flux_is side q s axis c =
 -- the four edges of a piece's cell along an axis, with what its corners say
 abbrev pub corners : ℕ → ℤ → Piece → Axis → Axis → Spot → ℤ
 corners side q s axis =
-    at_corners axis s.cell (corner side q s axis false false) (corner side q s axis true false) (corner side q s axis false true) (corner side q s axis true true)
+    at_corners axis s.cell (corner side q s axis false false) (corner side q s axis true false)
+    (corner side q s axis false true) (corner side q s axis true true)
 
 -- at an edge along that axis
 corners_here : (side : ℕ) (q : ℤ) (s : Piece) (axis : Axis) (c : Spot) → IsInCell side s → corners side q s axis axis c ≡ flux side q s axis c

@@ -1,13 +1,13 @@
 -- A value at one edge: what it is, and what a write of it does to a block.
 use Rattle.std.proofs.Common.{◌≡◌, ◌≢◌, ℕ, ◌⊎◌, ◌+◌, ◌*◌, ◌^◌, ◌≤◌, length, Bool, true, false, ◌&&◌, unsigned_abs, inl, inr, refl, ap, sym, subst, ◌∙◌, arith}
 use Rattle.std.proofs.Math.IntN.{ℤ, pos, ◌+ℤ◌}
-use Rattle.std.specs.Prelude.{if◌then◌else◌}
+use Rattle.std.specs.Prelude.{if◌then◌else◌, ◌≤ℤ◌, ◌<ℤ◌}
 use Rattle.std.proofs.lemmas.Bool.{cases_Bool, and_parts, and_from, both_ways}
 use Rattle.std.proofs.lemmas.Int.{ints}
 use Rattle.pic_num.specs.declared.axis.Axis.{Axis}
 use Rattle.pic_num.specs.declared.axis.Axis.TheVariants.{X, Y, Z}
 use Rattle.pic_num.specs.Sizes.{IsAtMost}
-use Rattle.pic_num.specs.Space.{Spot, next_axis}
+use Rattle.pic_num.specs.Space.{Triple, Spot, next_axis}
 use Rattle.pic_num.proofs.SizeLaws.{codes, code_fits}
 use Rattle.std.proofs.lemmas.List.{length-set}
 use mir.Syntax.{w128}
@@ -18,10 +18,10 @@ use Rattle.pic_grid.specs.Cells.{count_of, place_of}
 use Rattle.pic_grid.specs.Rows.{added, lifted, four_added}
 use Rattle.pic_grid.proofs.FourLaws.{between_second, between_third}
 use Rattle.pic_grid.specs.Block.{BlockValues, InZone, IsShaped, AllAtMost, inner_of, edge_at, with_edge}
-use Rattle.pic_grid.proofs.BlockLaws.{edge_same, edge_at-same, edge_at-other}
+use Rattle.pic_grid.proofs.BlockLaws.{in_zone_shaped, edge_same, edge_at-same, edge_at-other}
 use Rattle.pic_flux.proofs.AddsLaws.{adds_twice}
 use Rattle.pic_flux.specs.Adds.{Adds}
-use Rattle.pic_flux.specs.Corners.{same_axis, same_spot, at_edge, at_corners, both}
+use Rattle.pic_flux.specs.Corners.{HasEdges, same_axis, same_spot, at_edge, at_corners, both}
 use Rattle.pic_grid.proofs.PathLaws.{same_int-same, same_int-true}
 
 same_axis-true : (a b : Axis) → same_axis a b ≡ true → a ≡ b
@@ -171,6 +171,79 @@ four_adds b a c v w x y long here there =
     (adds_twice b one two (at_edge a c v) (at_edge a (lifted second c) w) (shape_of b a c v) first up_second)
     (adds_twice two three four (at_edge a (lifted third c) x) (at_edge a (lifted second (lifted third c)) y)
     (shape_of two a (lifted third c) x) up_third up_both)
+
+-- two layers are among n from low on
+record HasTwo (low : ℤ) (n : ℕ) (c : ℤ) : Type 0 where
+  near_low : low ≤ℤ c
+  near_high : c <ℤ (low +ℤ pos n)
+  far_low : low ≤ℤ (c +ℤ pos 1)
+  far_high : (c +ℤ pos 1) <ℤ (low +ℤ pos n)
+
+has_two : (low : ℤ) (n : ℕ) (c : ℤ) → low ≤ℤ c → (c +ℤ pos 1) <ℤ (low +ℤ pos n) → HasTwo low n c
+has_two low n c h k = record {
+  near_low = h;
+  near_high = omega (arith, ints, k);
+  far_low = omega (arith, ints, h);
+  far_high = k;
+}
+
+-- a zone has all edges of a cell by its layers
+pub edges_of : (low : Spot) (n : Triple) (c : Spot) → low.x ≤ℤ c.x → (c.x +ℤ pos 1) <ℤ (low.x +ℤ pos n.x)
+    → low.y ≤ℤ c.y → (c.y +ℤ pos 1) <ℤ (low.y +ℤ pos n.y) → low.z ≤ℤ c.z → (c.z +ℤ pos 1) <ℤ (low.z +ℤ pos n.z) → HasEdges low n c
+edges_of low n c x_low x_high y_low y_high z_low z_high =
+    let x = has_two low.x n.x c.x x_low x_high in
+    let y = has_two low.y n.y c.y y_low y_high in
+    let z = has_two low.z n.z c.z z_low z_high in
+    record {
+      near = record {
+        x_low = x.near_low;
+        x_high = x.near_high;
+        y_low = y.near_low;
+        y_high = y.near_high;
+        z_low = z.near_low;
+        z_high = z.near_high;
+      };
+      far = record {
+        x_low = x.far_low;
+        x_high = x.far_high;
+        y_low = y.far_low;
+        y_high = y.far_high;
+        z_low = z.far_low;
+        z_high = z.far_high;
+      };
+    }
+
+-- it has then the far one along each axis
+pub far_edge : (low : Spot) (n : Triple) (a : Axis) (c : Spot) → HasEdges low n c
+    → InZone low n (lifted (next_axis a) (lifted (next_axis (next_axis a)) c))
+far_edge low n X c h = record {
+  x_low = h.near.x_low;
+  x_high = h.near.x_high;
+  y_low = h.far.y_low;
+  y_high = h.far.y_high;
+  z_low = h.far.z_low;
+  z_high = h.far.z_high;
+}
+far_edge low n Y c h = record {
+  x_low = h.far.x_low;
+  x_high = h.far.x_high;
+  y_low = h.near.y_low;
+  y_high = h.near.y_high;
+  z_low = h.far.z_low;
+  z_high = h.far.z_high;
+}
+far_edge low n Z c h = record {
+  x_low = h.far.x_low;
+  x_high = h.far.x_high;
+  y_low = h.far.y_low;
+  y_high = h.far.y_high;
+  z_low = h.near.z_low;
+  z_high = h.near.z_high;
+}
+
+-- and so has each block of that zone
+pub edges_shaped : (old now : BlockValues) (c : Spot) → IsShaped old now → HasEdges old.low old.size c → HasEdges now.low now.size c
+edges_shaped old now c s h = record { near = in_zone_shaped old now c s h.near; far = in_zone_shaped old now (lifted X (lifted Y (lifted Z c))) s h.far }
 
 -- each of the four sums fits
 pub sum_fits : (b : BlockValues) (a : Axis) (c : Spot) (v : ℤ) → AllAtMost (2 ^ 110) b → IsAtMost v (2 ^ 80) → InZone b.low b.size c

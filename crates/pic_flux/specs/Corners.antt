@@ -5,7 +5,8 @@ use Rattle.std.specs.Prelude.{ℤ, pos, ℕ, ◌+ℤ◌, ◌-ℤ◌, ◌*ℤ◌,
 use Rattle.pic_num.specs.declared.axis.Axis.{Axis}
 use Rattle.pic_num.specs.declared.axis.Axis.TheVariants.{X, Y, Z}
 use Rattle.pic_num.specs.Flux.{simpson}
-use Rattle.pic_num.specs.Space.{Spot, along, next_axis}
+use Rattle.pic_num.specs.Space.{Triple, Spot, along, next_axis}
+use Rattle.pic_grid.specs.Block.{InZone}
 use Rattle.pic_grid.specs.Path.{same_int}
 use Rattle.pic_grid.specs.Rows.{lifted}
 use Rattle.pic_grid.specs.Segment.{Piece}
@@ -25,6 +26,11 @@ same_axis Z Z = true
 -- whether two cells are one
 abbrev pub same_spot : Spot → Spot → Bool
 same_spot p q = same_int p.x q.x && (same_int p.y q.y && same_int p.z q.z)
+
+-- a zone has a cell and the next cells up on all axes, and so the twelve edges of the cell
+pub record HasEdges (low : Spot) (size : Triple) (c : Spot) : Type 0 where
+  pub near : InZone low size c
+  pub far : InZone low size (lifted X (lifted Y (lifted Z c)))
 
 -- v at the edge along axis at the cell there, and 0 at every other edge
 unfoldable pub at_edge : Axis → Spot → ℤ → Axis → Spot → ℤ

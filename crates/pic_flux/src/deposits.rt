@@ -8,7 +8,7 @@ ghost use Rattle.pic_grid.specs.Block.{IsShaped};
 ghost use Rattle.pic_grid.specs.Ways.{GoAtMost};
 ghost use Rattle.pic_flux.specs.Adds.{Adds, SumsBelow, GrowsBy};
 
-use crate::edges::deposit_axis;
+use crate::edges::{deposit_axis, has_edges};
 use pic_grid::{Block, Segment, Track};
 use pic_num::{Axis, Sub};
 
@@ -25,9 +25,10 @@ pub fn deposit(sub: Sub, seg: &Segment, q: i32, to: &mut Block)
 {
     let charge = i64::from(q);
     let _side = sub.side();
-    deposit_axis(sub, seg, charge, Axis::X, to);
-    deposit_axis(sub, seg, charge, Axis::Y, to);
-    deposit_axis(sub, seg, charge, Axis::Z, to);
+    let whole = has_edges(to, seg.cell);
+    deposit_axis(sub, seg, charge, Axis::X, whole, to);
+    deposit_axis(sub, seg, charge, Axis::Y, whole, to);
+    deposit_axis(sub, seg, charge, Axis::Z, whole, to);
 }
 
 /// Adds the flux of the charge `q` on all segments of a track, each as `deposit` does, and changes
@@ -37,7 +38,8 @@ pub fn deposit_track(sub: Sub, track: &Track, q: i32, to: &mut Block)
     requires room { (k : ℕ) → SumsBelow to.old (path_flux sub q (take k track.now)) }
     ensures shape { IsShaped to.old to.new }
     ensures values { Adds to.old to.new (path_flux sub q track.now) }
-    ensures grows { (m : ℕ) → GoAtMost m track.now → GrowsBy (unsigned_abs q * m * (12 * (sub * sub))) to.old to.new }
+    ensures grows { (m : ℕ) → GoAtMost m track.now
+        → GrowsBy (unsigned_abs q * m * (12 * (sub * sub))) to.old to.new }
 {
     let segments = track.segments();
     for seg in segments {

@@ -66,7 +66,8 @@ fn is_inside(side: u32, c: i32, p: i32) -> bool
 
 /// Whether both ends of a segment lie in its closed cell, on one axis.
 fn is_inside_on(sub: Sub, seg: &Segment, axis: Axis) -> bool
-    ensures from { IsTrue result → IsInside sub (along axis seg.now.cell) (along axis seg.now.from) }
+    ensures from { IsTrue result
+        → IsInside sub (along axis seg.now.cell) (along axis seg.now.from) }
     ensures to { IsTrue result → IsInside sub (along axis seg.now.cell) (along axis seg.now.to) }
 {
     let c = along(axis, seg.cell);

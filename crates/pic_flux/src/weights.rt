@@ -1,7 +1,7 @@
 //! A segment's weights for the edges of its cell, and its flux through them.
 //!
-//! All four edges along an axis take their weights from the two for the cell's high faces, so that an
-//! axis takes seven products.
+//! All four edges along an axis take their weights from the two for the cell's high faces, so that
+//! an axis takes seven products.
 
 ghost use Rattle.std.specs.Prelude.{◌≡◌, ◌^◌, pos, ◌+ℤ◌, ◌-ℤ◌, ◌*ℤ◌, true};
 ghost use Rattle.pic_num.specs.Sizes.{IsAtMost};

@@ -27,7 +27,8 @@ cells_nested n force f g h =
     let row : (y z : ℕ) → sum_below n.x (λ x. force (record { x = x; y = y; z = z }) *ℤ pos (f x * g y * h z)) ≡ along y z *ℤ (pos (g y) *ℤ pos (h z)) =
     λ y z. (λ i. sum_below n.x (λ x. drawn_out (force (record { x = x; y = y; z = z })) (f x) (g y) (h z) i))
     ∙ sum_times n.x (λ x. force (record { x = x; y = y; z = z }) *ℤ pos (f x)) (pos (g y) *ℤ pos (h z)) in
-    let layer : (z : ℕ) → sum_below n.y (λ y. sum_below n.x (λ x. force (record { x = x; y = y; z = z }) *ℤ pos (f x * g y * h z))) ≡ sum_below n.y (λ y. along y z *ℤ pos (g y)) *ℤ pos (h z) =
+    let layer : (z : ℕ) → sum_below n.y (λ y. sum_below n.x (λ x. force (record { x = x; y = y; z = z }) *ℤ pos (f x * g y * h z)))
+    ≡ sum_below n.y (λ y. along y z *ℤ pos (g y)) *ℤ pos (h z) =
     λ z. (λ i. sum_below n.y (λ y. (row y z ∙ sym (*ℤ_assoc (along y z) (pos (g y)) (pos (h z)))) i))
     ∙ sum_times n.y (λ y. along y z *ℤ pos (g y)) (pos (h z)) in
     λ i. sum_below n.z (λ z. layer z i)
@@ -44,8 +45,9 @@ gathered_is f a offset point in_x in_y in_z of_x of_y of_z =
     let hat_z : ℕ → ℕ = λ j. periodic_hat f.side (n.z * f.side) point.z (j * f.side + offset.z) in
     let row : (y z : ℕ) → sum_below n.x (λ x. value_at f a (record { x = x; y = y; z = z }) *ℤ pos (hat_x x)) ≡ row_sum f a in_x y z =
     λ y z. sum_same n.x _ _ (λ j below. ap (λ (w : ℕ). value_at f a (record { x = j; y = y; z = z }) *ℤ pos w) (of_x.weights j below)) in
-    let layer : (z : ℕ) → sum_below n.y (λ y. sum_below n.x (λ x. value_at f a (record { x = x; y = y; z = z }) *ℤ pos (hat_x x)) *ℤ pos (hat_y y)) ≡ layer_sum f a in_x in_y z =
+    let row_by : ℕ → ℕ → ℤ = λ y z. sum_below n.x (λ x. value_at f a (record { x = x; y = y; z = z }) *ℤ pos (hat_x x)) in
+    let layer : (z : ℕ) → sum_below n.y (λ y. row_by y z *ℤ pos (hat_y y)) ≡ layer_sum f a in_x in_y z =
     λ z. sum_same n.y _ _ (λ j below. λ i. row j z i *ℤ pos (of_y.weights j below i)) in
-    let all : sum_below n.z (λ z. sum_below n.y (λ y. sum_below n.x (λ x. value_at f a (record { x = x; y = y; z = z }) *ℤ pos (hat_x x)) *ℤ pos (hat_y y)) *ℤ pos (hat_z z)) ≡ whole_sum f a in_x in_y in_z =
+    let all : sum_below n.z (λ z. sum_below n.y (λ y. row_by y z *ℤ pos (hat_y y)) *ℤ pos (hat_z z)) ≡ whole_sum f a in_x in_y in_z =
     sum_same n.z _ _ (λ j below. λ i. layer j i *ℤ pos (of_z.weights j below i)) in
     ap (λ (s : ℤ). rounded s (pos (f.side ^ 3))) (cells_nested n (value_at f a) hat_x hat_y hat_z ∙ all)

@@ -1,5 +1,5 @@
--- The places that a point is gathered from, in a lattice of one part: the number of a place is the number
--- of its axis times the number of cells, and what the cell adds on each axis.
+-- The places that a point is gathered from, in a lattice of one part: the number of a place is the
+-- number of its axis times the number of cells, and what the cell adds on each axis.
 use Rattle.std.specs.Prelude.{◌≡◌, ℕ, ◌*◌, ◌/◌, ◌≤◌}
 use Rattle.pic_num.specs.Limits.{most_side}
 use Rattle.pic_num.specs.Space.{Triple}
@@ -25,6 +25,12 @@ IsSideY f = IsSide f.side f.cells.y f.cells.x
 
 abbrev pub IsSideZ : Field → Side → Type 0
 IsSideZ f = IsSide f.side f.cells.z (f.cells.x * f.cells.y)
+
+-- and on all of them
+pub record AreSidesOf (f : Field) (w : Sides) : Type 0 where
+  pub x : IsSideX f w.x
+  pub y : IsSideY f w.y
+  pub z : IsSideZ f w.z
 
 -- and the pair is that of a point
 pub record IsSideOf (side n step offset point : ℕ) (w : Side) : Type 0 where

@@ -30,6 +30,12 @@ IsOnY f = AreOnAxis (IsSlotY f.cells f.parts) f.side f.cells.y
 abbrev pub IsOnZ : Field → Ends → Type 0
 IsOnZ f = AreOnAxis (IsSlotZ f.cells f.parts) f.side f.cells.z
 
+-- and on all of them
+pub record AreOn (f : Field) (w : Three) : Type 0 where
+  pub x : IsOnX f w.x
+  pub y : IsOnY f w.y
+  pub z : IsOnZ f w.z
+
 -- and the pair is that of a point
 pub record AreEnds (On : Slot → Type 0) (side n offset point : ℕ) (w : Ends) : Type 0 where
   pub on : AreOnAxis On side n w

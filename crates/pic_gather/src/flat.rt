@@ -14,8 +14,8 @@ use crate::mix::{mean, narrow_mix, wide_mix};
 use pic_grid::{Cells, Lattice, Pair};
 use pic_num::{Axis, Sub};
 
-/// The two cells of an axis between whose places a point lies, each by what it adds to the number of
-/// a place, and the point's weights for them.
+/// The two cells of an axis between whose places a point lies, each by what it adds to the number
+/// of a place, and the point's weights for them.
 #[derive(Clone, Copy)]
 pub(crate) struct Side {
     pub(crate) pair: Pair,

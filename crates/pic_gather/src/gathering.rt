@@ -1,18 +1,18 @@
 //! The gather of E and of B at a point, apart or together.
 
-ghost use Rattle.std.specs.Prelude.{◌≡◌};
-ghost use Rattle.pic_num.specs.Limits.{most_force};
-ghost use Rattle.pic_num.specs.Space.{triple, spot, AreAtMost};
+ghost use Rattle.std.specs.Prelude.{◌≡◌, ℕ, ◌≤◌};
+ghost use Rattle.pic_num.specs.Limits.{most_force, most_side};
+ghost use Rattle.pic_num.specs.Space.{Triple, triple, spot, AreAtMost};
 ghost use Rattle.pic_grid.specs.Lattice.{value_at};
 ghost use Rattle.pic_grid.specs.Gather.{gathered_e, gathered_b};
 ghost use Rattle.pic_grid.specs.Hat.{IsInBox};
-ghost use Rattle.pic_gather.specs.Forces.{AreForces};
-ghost use Rattle.pic_gather.specs.Sides.{IsFlat};
-ghost use Rattle.pic_gather.specs.Stencil.{IsStencil};
+ghost use Rattle.pic_gather.specs.Forces.{AreForces, gathered_by};
+ghost use Rattle.pic_gather.specs.Sides.{AreSides, AreSidesOf};
+ghost use Rattle.pic_gather.specs.Stencil.{AreOn, AreThree};
 
 use crate::component::component;
-use crate::flat::{Flat, flat_component, flat_of};
-use crate::stencil::{Stencil, stencil_of};
+use crate::flat::{Sides, flat_component, flat_of};
+use crate::stencil::{Three, stencil_of};
 use pic_grid::Lattice;
 use pic_num::{Axis, Sub};
 
@@ -35,8 +35,14 @@ pub fn gather_e(force: &Lattice, point: [u32; 3]) -> [i64; 3]
     let cells = force.cells();
     let sub = cells.sub();
     match force.flat() {
-        Some(values) => flat_e(force, sub, values, point, flat_of(cells, point)),
-        None => e_at(force, sub, point, stencil_of(force, sub, point)),
+        Some(values) => {
+            let at = flat_of(cells, point);
+            flat_components(force, sub, values, at.middles, at.nodes)
+        }
+        None => {
+            let at = stencil_of(force, sub, point);
+            components(force, sub, at.middles, at.nodes)
+        }
     }
 }
 
@@ -52,8 +58,14 @@ pub fn gather_b(force: &Lattice, point: [u32; 3]) -> [i64; 3]
     let cells = force.cells();
     let sub = cells.sub();
     match force.flat() {
-        Some(values) => flat_b(force, sub, values, point, flat_of(cells, point)),
-        None => b_at(force, sub, point, stencil_of(force, sub, point)),
+        Some(values) => {
+            let at = flat_of(cells, point);
+            flat_components(force, sub, values, at.nodes, at.middles)
+        }
+        None => {
+            let at = stencil_of(force, sub, point);
+            components(force, sub, at.nodes, at.middles)
+        }
     }
 }
 
@@ -101,8 +113,8 @@ fn both(force_e: &Lattice, force_b: &Lattice, point: [u32; 3]) -> Gathered
     let sub = force_e.cells().sub();
     let at = stencil_of(force_e, sub, point);
     Gathered {
-        e: e_at(force_e, sub, point, at),
-        b: b_at(force_b, sub, point, at),
+        e: components(force_e, sub, at.middles, at.nodes),
+        b: components(force_b, sub, at.nodes, at.middles),
     }
 }
 
@@ -133,85 +145,59 @@ fn flat_both(
     let sub = cells.sub();
     let at = flat_of(cells, point);
     Gathered {
-        e: flat_e(force_e, sub, e, point, at),
-        b: flat_b(force_b, sub, b, point, at),
+        e: flat_components(force_e, sub, e, at.middles, at.nodes),
+        b: flat_components(force_b, sub, b, at.nodes, at.middles),
     }
 }
 
+/// The three components at a point, each by the ends `own` on its own axis, and by `others` on the
+/// two others.
 #[inline(always)]
-fn e_at(force: &Lattice, sub: Sub, point: [u32; 3], at: Stencil) -> [i64; 3]
+fn components(force: &Lattice, sub: Sub, own: Three, others: Three) -> [i64; 3]
     requires side { sub ≡ force.now.side }
-    requires at { IsStencil force.now.side force.now.cells force.now.parts (triple point) at }
+    requires most { force.now.side ≤ most_side }
     requires small { AreForces force.now }
-    ensures value { spot result
-        ≡ gathered_e force.now.side force.now.cells (value_at force.now) (triple point) }
+    requires own { AreOn force.now own }
+    requires others { AreOn force.now others }
+    ensures value { (a b : ℕ) (point : Triple)
+        → AreThree force.now.side force.now.cells force.now.parts a point own
+        → AreThree force.now.side force.now.cells force.now.parts b point others
+        → spot result
+        ≡ gathered_by force.now.side force.now.cells a b (value_at force.now) point }
     ensures size { AreAtMost (spot result) most_force }
 {
-    let _point = point;
-    let node = at.nodes;
-    let half = at.middles;
     [
-        component(force, sub, Axis::X, half.x, node.y, node.z),
-        component(force, sub, Axis::Y, node.x, half.y, node.z),
-        component(force, sub, Axis::Z, node.x, node.y, half.z),
+        component(force, sub, Axis::X, own.x, others.y, others.z),
+        component(force, sub, Axis::Y, others.x, own.y, others.z),
+        component(force, sub, Axis::Z, others.x, others.y, own.z),
     ]
 }
 
+/// The same in a lattice of one part, of which `values` are all values.
 #[inline(always)]
-fn b_at(force: &Lattice, sub: Sub, point: [u32; 3], at: Stencil) -> [i64; 3]
+fn flat_components(
+    force: &Lattice,
+    sub: Sub,
+    values: &[i128],
+    own: Sides,
+    others: Sides,
+) -> [i64; 3]
     requires side { sub ≡ force.now.side }
-    requires at { IsStencil force.now.side force.now.cells force.now.parts (triple point) at }
+    requires most { force.now.side ≤ most_side }
     requires small { AreForces force.now }
-    ensures value { spot result
-        ≡ gathered_b force.now.side force.now.cells (value_at force.now) (triple point) }
-    ensures size { AreAtMost (spot result) most_force }
-{
-    let _point = point;
-    let node = at.nodes;
-    let half = at.middles;
-    [
-        component(force, sub, Axis::X, node.x, half.y, half.z),
-        component(force, sub, Axis::Y, half.x, node.y, half.z),
-        component(force, sub, Axis::Z, half.x, half.y, node.z),
-    ]
-}
-
-#[inline(always)]
-fn flat_e(force: &Lattice, sub: Sub, values: &[i128], point: [u32; 3], at: Flat) -> [i64; 3]
-    requires side { sub ≡ force.now.side }
     requires values { values.now ≡ force.now.values }
-    requires at { IsFlat force.now.side force.now.cells (triple point) at }
-    requires small { AreForces force.now }
-    ensures value { spot result
-        ≡ gathered_e force.now.side force.now.cells (value_at force.now) (triple point) }
+    requires own { AreSidesOf force.now own }
+    requires others { AreSidesOf force.now others }
+    ensures value { (a b : ℕ) (point : Triple)
+        → AreSides force.now.side force.now.cells a point own
+        → AreSides force.now.side force.now.cells b point others
+        → spot result
+        ≡ gathered_by force.now.side force.now.cells a b (value_at force.now) point }
     ensures size { AreAtMost (spot result) most_force }
 {
-    let _point = point;
-    let node = at.nodes;
-    let half = at.middles;
     [
-        flat_component(force, sub, values, Axis::X, half.x, node.y, node.z),
-        flat_component(force, sub, values, Axis::Y, node.x, half.y, node.z),
-        flat_component(force, sub, values, Axis::Z, node.x, node.y, half.z),
-    ]
-}
-
-#[inline(always)]
-fn flat_b(force: &Lattice, sub: Sub, values: &[i128], point: [u32; 3], at: Flat) -> [i64; 3]
-    requires side { sub ≡ force.now.side }
-    requires values { values.now ≡ force.now.values }
-    requires at { IsFlat force.now.side force.now.cells (triple point) at }
-    requires small { AreForces force.now }
-    ensures value { spot result
-        ≡ gathered_b force.now.side force.now.cells (value_at force.now) (triple point) }
-    ensures size { AreAtMost (spot result) most_force }
-{
-    let _point = point;
-    let node = at.nodes;
-    let half = at.middles;
-    [
-        flat_component(force, sub, values, Axis::X, node.x, half.y, half.z),
-        flat_component(force, sub, values, Axis::Y, half.x, node.y, half.z),
-        flat_component(force, sub, values, Axis::Z, half.x, half.y, node.z),
+        flat_component(force, sub, values, Axis::X, own.x, others.y, others.z),
+        flat_component(force, sub, values, Axis::Y, others.x, own.y, others.z),
+        flat_component(force, sub, values, Axis::Z, others.x, others.y, own.z),
     ]
 }

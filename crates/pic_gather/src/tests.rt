@@ -7,7 +7,7 @@ ghost use Rattle.pic_grid.specs.Lattice.{IsParts};
 ghost use Rattle.pic_gather.specs.Forces.{AreForces};
 
 use crate::{gather, gather_b, gather_e};
-use pic_grid::{Cells, Lattice, slow_gather};
+use pic_grid::{Cells, Lattice};
 use pic_num::{Axis, NoMemory, Sub};
 use std::alloc::Global;
 
@@ -78,19 +78,21 @@ fn eight_in(alloc: Global, sub: Sub, parts: [u32; 3], axis: Axis) -> Result<Latt
 }
 
 #[test]
-fn every_part_is_gathered_as_by_distance(rt: HostRuntime) -> Result<(), NoMemory> {
-    let (n, values) = ([2, 2, 2], [8, 0, 0, 0, 0, 0, 0, 0]);
+fn every_part_is_gathered_alike(rt: HostRuntime) -> Result<(), NoMemory> {
     let sub = Sub::of_bits(12);
-    for point in [[0, 0, 0], [2048, 0, 0], [8191, 4095, 0], [5000, 100, 8191]] {
-        let x = slow_gather(4096, n, [2048, 0, 0], &values, point);
-        let y = slow_gather(4096, n, [2048, 0, 2048], &values, point);
+    for (point, x, y) in [
+        ([0, 0, 0], 4, 2),
+        ([2048, 0, 0], 8, 4),
+        ([8191, 4095, 0], 0, 0),
+        ([5000, 100, 8191], 2, 1),
+    ] {
         for parts in [[1, 1, 1], [2, 1, 2], [2, 2, 2]] {
-            assert!(rt; is_in_box(Cells::new(n, sub), point));
+            assert!(rt; is_in_box(Cells::new([2, 2, 2], sub), point));
             let e = eight_in(rt.alloc(), sub, parts, Axis::X)?;
             let b = eight_in(rt.alloc(), sub, parts, Axis::Y)?;
             let both = gather(&e, &b, point);
-            assert_eq!(rt; i128::from(both.e[0]), x, "{parts:?} {point:?}");
-            assert_eq!(rt; i128::from(both.b[1]), y, "{parts:?} {point:?}");
+            assert_eq!(rt; both.e, [x, 0, 0], "{parts:?} {point:?}");
+            assert_eq!(rt; both.b, [0, y, 0], "{parts:?} {point:?}");
             assert_eq!(rt; both.e, gather_e(&e, point), "{parts:?} {point:?}");
             assert_eq!(rt; both.b, gather_b(&b, point), "{parts:?} {point:?}");
         }

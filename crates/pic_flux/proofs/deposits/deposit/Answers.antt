@@ -1,4 +1,4 @@
-use Rattle.std.proofs.Common.{◌≡◌, ℕ, ◌^◌, ◌+◌, ◌*◌, ◌≤◌, ℤ, unsigned_abs, to_z, of_z, ap, subst, ◌∙◌, arith}
+use Rattle.std.proofs.Common.{◌≡◌, ℕ, ◌^◌, ◌+◌, ◌*◌, ◌≤◌, ℤ, unsigned_abs, IsTrue, to_z, of_z, ap, subst, ◌∙◌, arith}
 use mir.Syntax.{w32, w64}
 use mir.Val.{SFits}
 use Rattle.std.proofs.lemmas.Int.{ints, to_z-of_z}
@@ -10,13 +10,15 @@ use Rattle.pic_grid.specs.Flux.{flux}
 use Rattle.pic_grid.specs.Segment.{Piece, IsInCell}
 use Rattle.pic_grid.specs.Block.{BlockValues, IsShaped, AllAtMost}
 use Rattle.pic_grid.proofs.BlockLaws.{shaped_twice, all_at_most_more}
+use Rattle.pic_grid.proofs.ShapeLaws.{shaped_same}
 use Rattle.pic_flux.specs.Adds.{Adds, flux_limit}
-use Rattle.pic_flux.specs.Corners.{on_axis}
+use Rattle.pic_flux.specs.Corners.{HasEdges, on_axis}
+use Rattle.pic_flux.proofs.EdgeLaws.{edges_shaped}
 use Rattle.pic_flux.proofs.AddsLaws.{adds_grow, room_before}
 use Rattle.pic_flux.proofs.FluxSizeLaws.{flux_most, flux_few, on_axis_most}
 use Rattle.pic_flux.proofs.CornerLaws.{three_added}
 use Rattle.pic_flux.proofs.deposits.deposit.Goals as goal
-use Rattle.pic_flux.proofs.deposits.deposit.Goals.{After-side-side, After-deposit_axis, After-deposit_axis-2}
+use Rattle.pic_flux.proofs.deposits.deposit.Goals.{After-side-side, After-has_edges-whole, After-deposit_axis, After-deposit_axis-2}
 
 small : (q : ℤ) → SFits w32 q → IsAtMost q (2 ^ 31)
 small q fits = record { size = omega (arith, ints, fits.sfits) }
@@ -57,7 +59,8 @@ along_x c =
 
 room_at : (c : After-side-side) → AllAtMost (2 ^ 84) c.args.to.now
 room_at c =
-    all_at_most_more c.args.to.now (flux_limit + unsigned_abs c.args.q * c.args.sub * (12 * (c.args.sub * c.args.sub))) (2 ^ 84) (omega (arith, most c.args.sub c.args.q c.side-side.ensures.most c.ranges.q))
+    let few = most c.args.sub c.args.q c.side-side.ensures.most c.ranges.q in
+    all_at_most_more c.args.to.now (flux_limit + unsigned_abs c.args.q * c.args.sub * (12 * (c.args.sub * c.args.sub))) (2 ^ 84) (omega (arith, few))
     (room_before c.args.to.now (flux c.args.sub c.args.q c.args.seg.now) (unsigned_abs c.args.q * c.args.sub * (12 * (c.args.sub * c.args.sub)))
     (flux_most c.args.sub c.args.q c.args.seg.now c.requires.inside) c.requires.room)
 
@@ -83,6 +86,26 @@ deposit_axis-requires-3-clause-room c =
     all_at_most_more c.deposit_axis-2.new.to (2 ^ 84 + 2 ^ 77 + 2 ^ 77) (2 ^ 110) (omega arith)
     ((along_y (goal.at.deposit_axis-requires-3-clause-room c).After-deposit_axis-2).grown (2 ^ 84 + 2 ^ 77) x)
 
+-- the block keeps all edges of the cell
+whole : (c : After-has_edges-whole) (now : BlockValues) → IsShaped c.args.to.now now → IsTrue c.has_edges-whole.result
+    → HasEdges now.low now.size c.args.seg.now.cell
+whole c now shape all =
+    let cell = ap (λ (t : Piece). t.cell) c.seg.view_is in
+    edges_shaped c.args.to.now now c.args.seg.now.cell shape (subst (HasEdges c.args.to.now.low c.args.to.now.size) cell (c.has_edges-whole.ensures all))
+
+pub deposit_axis-requires-clause-whole : goal.deposit_axis-requires-clause-whole
+deposit_axis-requires-clause-whole c =
+    whole (goal.at.deposit_axis-requires-clause-whole c).After-has_edges-whole c.args.to.now (shaped_same c.args.to.now)
+
+pub deposit_axis-requires-2-clause-whole : goal.deposit_axis-requires-2-clause-whole
+deposit_axis-requires-2-clause-whole c =
+    whole (goal.at.deposit_axis-requires-2-clause-whole c).After-has_edges-whole c.deposit_axis.new.to c.deposit_axis.ensures.shape
+
+pub deposit_axis-requires-3-clause-whole : goal.deposit_axis-requires-3-clause-whole
+deposit_axis-requires-3-clause-whole c =
+    whole (goal.at.deposit_axis-requires-3-clause-whole c).After-has_edges-whole c.deposit_axis-2.new.to
+    (shaped_twice c.args.to.now c.deposit_axis.new.to c.deposit_axis-2.new.to c.deposit_axis.ensures.shape c.deposit_axis-2.ensures.shape)
+
 pub returns : goal.returns
 returns c =
     let old = c.args.to.now in
@@ -101,5 +124,6 @@ returns c =
     record {
       shape = shape;
       values = values;
-      grows = λ n room. adds_grow old now (flux side q s) n (unsigned_abs q * side * (12 * (side * side))) shape values (flux_most side q s c.requires.inside) room;
+      grows = λ n room.
+          adds_grow old now (flux side q s) n (unsigned_abs q * side * (12 * (side * side))) shape values (flux_most side q s c.requires.inside) room;
     }

@@ -7,12 +7,18 @@ use Rattle.pic_num.specs.Sizes.{IsAtMost}
 use Rattle.pic_num.specs.Space.{Spot, along, next_axis}
 use Rattle.pic_num.proofs.SizeLaws.{codes, code_is}
 use Rattle.pic_grid.specs.Flux.{flux}
+use Rattle.pic_grid.specs.Block.{BlockValues}
 use Rattle.pic_grid.specs.Segment.{Piece}
 use Rattle.pic_flux.specs.Adds.{Adds}
-use Rattle.pic_flux.specs.Corners.{at_corners, on_axis, corner}
+use Rattle.pic_flux.specs.Corners.{HasEdges, at_corners, on_axis, corner}
 use Rattle.pic_flux.proofs.AddsLaws.{adds_none}
 use Rattle.pic_flux.proofs.CornerLaws.{axis_added, still}
 use Rattle.pic_flux.proofs.edges.deposit_axis.Goals as goal
+use Rattle.pic_flux.proofs.edges.deposit_axis.Goals.{After-corner-high_high}
+
+-- a flux as the code passes it on
+abbrev held : ℤ → ℤ
+held x = to_z w128 (of_z w128 x)
 
 none_of : (z : ℤ) → SFits w64 z → of_z w64 z ≡ 0 → z ≡ pos 0
 none_of z fits e = sym (to_z-of_z w64 z fits) ∙ ap (to_z w64) e
@@ -42,18 +48,37 @@ add_corners-requires-clause-third c =
     let cell = ap (λ (t : Piece). t.cell) c.seg.view_is in
     subst (λ (p : Spot). IsAtMost (along (next_axis (next_axis c.args.axis)) p) (2 ^ 24)) (sym cell) c.corner-low_low.ensures.third
 
-pub returns-clause-values : goal.returns-clause-values
-returns-clause-values c =
+pub add_inside-requires-clause-edges : goal.add_inside-requires-clause-edges
+add_inside-requires-clause-edges c =
+    let cell = ap (λ (t : Piece). t.cell) c.seg.view_is in
+    subst (HasEdges c.args.to.now.low c.args.to.now.size) (sym cell) (c.requires.whole c.if-whole.true)
+
+-- the four corners' flux, added to a block, is the flux along the axis
+deposited : (c : After-corner-high_high) (now : BlockValues) (cell : Spot) → cell ≡ c.args.seg.now.cell
+    → Adds c.args.to.now now
+    (at_corners c.args.axis cell (held c.corner-low_low.result) (held c.corner-high_low.result)
+    (held c.corner-low_high.result) (held c.corner-high_high.result))
+    → Adds c.args.to.now now (on_axis c.args.axis (flux c.args.sub c.args.q c.args.seg.now c.args.axis))
+deposited c now cell is added =
     let old = c.args.to.now in
-    let now = c.add_corners.new.to in
     let s = c.args.seg.now in
     let side = c.args.sub in
     let q = c.args.q in
     let axis = c.args.axis in
-    let cell = ap (λ (t : Piece). t.cell) c.seg.view_is in
-    let low_low = passed side c.corner-low_low.result q s axis false false c.ranges.q c.corner-low_low.ensures.size c.corner-low_low.ensures.value in
-    let high_low = passed side c.corner-high_low.result q s axis true false c.ranges.q c.corner-high_low.ensures.size c.corner-high_low.ensures.value in
-    let low_high = passed side c.corner-low_high.result q s axis false true c.ranges.q c.corner-low_high.ensures.size c.corner-low_high.ensures.value in
-    let high_high = passed side c.corner-high_high.result q s axis true true c.ranges.q c.corner-high_high.ensures.size c.corner-high_high.ensures.value in
+    let fits = c.ranges.q in
+    let low_low = passed side _ q s axis false false fits c.corner-low_low.ensures.size c.corner-low_low.ensures.value in
+    let high_low = passed side _ q s axis true false fits c.corner-high_low.ensures.size c.corner-high_low.ensures.value in
+    let low_high = passed side _ q s axis false true fits c.corner-low_high.ensures.size c.corner-low_high.ensures.value in
+    let high_high = passed side _ q s axis true true fits c.corner-high_high.ensures.size c.corner-high_high.ensures.value in
     axis_added side q s axis old now c.requires.inside
-    (subst (λ (f : Axis → Spot → ℤ). Adds old now f) (λ i. at_corners axis (cell i) (low_low i) (high_low i) (low_high i) (high_high i)) c.add_corners.ensures.values)
+    (subst (Adds old now) (λ i. at_corners axis (is i) (low_low i) (high_low i) (low_high i) (high_high i)) added)
+
+pub returns-then-whole-clause-values : goal.returns-then-whole-clause-values
+returns-then-whole-clause-values c =
+    deposited (goal.at.returns-then-whole-clause-values c).After-corner-high_high c.add_inside.new.to _ (ap (λ (t : Piece). t.cell) c.seg.view_is)
+    c.add_inside.ensures.values
+
+pub returns-else-whole-clause-values : goal.returns-else-whole-clause-values
+returns-else-whole-clause-values c =
+    deposited (goal.at.returns-else-whole-clause-values c).After-corner-high_high c.add_corners.new.to _ (ap (λ (t : Piece). t.cell) c.seg.view_is)
+    c.add_corners.ensures.values

@@ -9,5 +9,6 @@ use Rattle.pic_flux.proofs.tests.deposit_first.Goals as goal
 pub deposit-requires-clause-room : goal.deposit-requires-clause-room
 deposit-requires-clause-room c =
     let charge = c.requires.charge.size in
+    let few = flux_few c.args.sub (unsigned_abs c.args.q) c.side-side.ensures.most (omega (arith, charge)) in
     subst (λ (q : ℤ). SumsBelow c.args.to.now (flux c.args.sub q c.args.seg.now)) (sym (to_z-of_z w32 c.args.q c.ranges.q))
-    (piece_below c.args.sub c.args.to.now c.args.q c.args.seg.now 0 c.requires.zeros c.requires.inside (omega (arith, flux_few c.args.sub (unsigned_abs c.args.q) c.side-side.ensures.most (omega (arith, charge)))))
+    (piece_below c.args.sub c.args.to.now c.args.q c.args.seg.now 0 c.requires.zeros c.requires.inside (omega (arith, few)))

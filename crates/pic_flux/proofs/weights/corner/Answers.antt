@@ -29,11 +29,16 @@ returns-clause-value c =
     let b0 = passed _ c.weight_from-b0.ensures.size ∙ c.weight_from-b0.ensures.value ∙ ap (λ (a : Axis). weight a s.from) third in
     let b1 = passed _ c.weight_to-b1.ensures.size ∙ c.weight_to-b1.ensures.value ∙ ap (λ (a : Axis). weight a s.to) third in
     let way = passed _ c.way.ensures.size ∙ c.way.ensures.value in
-    let side_is : to_z w64 (of_z w64 c.from-side.result) ≡ pos side = to_z-of_z w64 c.from-side.result (record { sfits = c.from-side.type_inv }) ∙ c.from-side.ensures ∙ ap pos c.side.ensures.value in
+    let side_is : to_z w64 (of_z w64 c.from-side.result) ≡ pos side =
+    to_z-of_z w64 c.from-side.result (record { sfits = c.from-side.type_inv }) ∙ c.from-side.ensures ∙ ap pos c.side.ensures.value in
     let charge : to_z w64 (of_z w64 c.args.q) ≡ c.args.q = code_is (search codes depth 4) tt in
     let held : to_z w128 (of_z w128 c.through.result) ≡ c.through.result = code_is (search codes depth 4) tt in
-    let at : to_z w64 (of_z w64 c.weight-weight.result) ≡ weight_by (pos side) f g (weight (next_axis axis) s.from) (weight (next_axis axis) s.to) (weight (next_axis (next_axis axis)) s.from) (weight (next_axis (next_axis axis)) s.to) =
-    to_z-of_z w64 c.weight-weight.result (record { sfits = c.weight-weight.type_inv }) ∙ c.weight-weight.ensures.value ∙ (λ i. weight_by (side_is i) f g (a0 i) (a1 i) (b0 i) (b1 i)) in
+    let at : to_z w64 (of_z w64 c.weight-weight.result)
+    ≡ weight_by (pos side) f g (weight (next_axis axis) s.from) (weight (next_axis axis) s.to)
+    (weight (next_axis (next_axis axis)) s.from) (weight (next_axis (next_axis axis)) s.to) =
+    to_z-of_z w64 c.weight-weight.result (record { sfits = c.weight-weight.type_inv })
+    ∙ c.weight-weight.ensures.value
+    ∙ (λ i. weight_by (side_is i) f g (a0 i) (a1 i) (b0 i) (b1 i)) in
     held
     ∙ c.through.ensures.value
     ∙ (λ i. charge i *ℤ way i *ℤ at i)
@@ -43,7 +48,8 @@ returns-clause-value c =
 
 pub returns-clause-third : goal.returns-clause-third
 returns-clause-third c =
-    subst (λ (a : Axis). IsAtMost (along a c.args.seg.now.cell) (2 ^ 24)) (c.next-third.ensures ∙ ap next_axis c.next-second.ensures) c.weight_from-b0.ensures.cell
+    let third = c.next-third.ensures ∙ ap next_axis c.next-second.ensures in
+    subst (λ (a : Axis). IsAtMost (along a c.args.seg.now.cell) (2 ^ 24)) third c.weight_from-b0.ensures.cell
 
 pub returns-clause-second : goal.returns-clause-second
 returns-clause-second c =
