@@ -209,7 +209,8 @@ fn quotients(w: Narrow, divisor: i64) -> Narrow
     requires w { AreAtMost (narrow_spot w) (2 ^ 49) }
     requires least { pos (2 ^ 40) ≤ℤ divisor }
     requires size { IsAtMost divisor (2 ^ 42) }
-    ensures value { narrow_spot result ≡ each (λ c. rounded (pos (2 ^ 21) *ℤ c) divisor) (narrow_spot w) }
+    ensures value { narrow_spot result ≡ each (λ c. rounded (pos (2 ^ 21) *ℤ c) divisor)
+        (narrow_spot w) }
     ensures size { AreAtMost (narrow_spot result) (2 ^ 30) }
 {
     let reciprocal = reciprocal(divisor);

@@ -5,7 +5,7 @@ use Rattle.pic_num.specs.declared.mult.Scales.{Scales}
 use Rattle.pic_num.specs.Limits.{most_cells_of_axis_1, side_1}
 use Rattle.pic_num.specs.Multiplier.{IsMultiplier}
 use Rattle.pic_num.specs.Space.{Triple}
-use Rattle.pic_grid.specs.Cells.{IsCells}
+use Rattle.pic_grid.specs.Cells.{Grid, IsCells}
 use Rattle.pic_grid.specs.Species.{HeadView, AreHeads}
 use Rattle.pic_dump.specs.Limits.{most_steps}
 
@@ -18,6 +18,17 @@ pub record HeaderView : Type 0 where
   pub every : ℕ
   pub scales : Scales
   pub species : List HeadView
+
+-- the header of these parts
+abbrev pub header_with : Grid → ℕ → ℕ → Scales → List HeadView → HeaderView
+header_with grid steps every scales species = record {
+  cells = grid.n;
+  side = grid.side;
+  steps = steps;
+  every = every;
+  scales = scales;
+  species = species;
+}
 
 -- the grid of a dump of version 1, which doesn't say the side of a cell
 pub record IsGrid_1 (n : Triple) (side : ℕ) : Type 0 where

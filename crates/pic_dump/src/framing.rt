@@ -32,8 +32,10 @@ pub fn put_frame<O: Sink>(
     state: &Snapshot,
     energies: Energies,
 ) -> Result<(), Failed>
-    requires { map (λ particle. particle.id) state.now.particles.items ≡ range_with_len 0 (length state.now.particles.items) }
-    ensures bytes { Puts (O.told out.old) (O.told out.new) (frame_bytes step state.now.e state.now.b state.now.particles.items energies) result }
+    requires { map (λ particle. particle.id) state.now.particles.items
+        ≡ range_with_len 0 (length state.now.particles.items) }
+    ensures bytes { Puts (O.told out.old) (O.told out.new)
+        (frame_bytes step state.now.e state.now.b state.now.particles.items energies) result }
     ensures cause { HasCause (O.told out.old) (O.told out.new) result }
 {
     let mut room = start(step);
@@ -54,7 +56,8 @@ fn start(step: u32) -> Room
 
 // The fields and the particles.
 fn put_state<O: Sink>(out: &mut O, room: &mut Room, state: &Snapshot) -> Result<(), Failed>
-    ensures bytes { Queues (O.told out.old) (O.told out.new) room.old room.new (state_bytes state.now.e state.now.b state.now.particles.items) result }
+    ensures bytes { Queues (O.told out.old) (O.told out.new) room.old room.new
+        (state_bytes state.now.e state.now.b state.now.particles.items) result }
     ensures cause { HasCause (O.told out.old) (O.told out.new) result }
 {
     put_values(out, room, &state.e)?;
@@ -64,7 +67,8 @@ fn put_state<O: Sink>(out: &mut O, room: &mut Room, state: &Snapshot) -> Result<
 
 // The values of a field, in the order of places.
 fn put_values<O: Sink>(out: &mut O, room: &mut Room, field: &Lattice) -> Result<(), Failed>
-    ensures bytes { Queues (O.told out.old) (O.told out.new) room.old room.new (values_bytes field.now.values) result }
+    ensures bytes { Queues (O.told out.old) (O.told out.new) room.old room.new
+        (values_bytes field.now.values) result }
     ensures cause { HasCause (O.told out.old) (O.told out.new) result }
 {
     let cells = field.cells();
@@ -76,7 +80,8 @@ fn put_values<O: Sink>(out: &mut O, room: &mut Room, field: &Lattice) -> Result<
 }
 
 fn put_value<O: Sink>(out: &mut O, room: &mut Room, value: i128) -> Result<(), Failed>
-    ensures bytes { Queues (O.told out.old) (O.told out.new) room.old room.new (i128_bytes value) result }
+    ensures bytes { Queues (O.told out.old) (O.told out.new) room.old room.new
+        (i128_bytes value) result }
     ensures cause { HasCause (O.told out.old) (O.told out.new) result }
 {
     make_room(out, room, VALUE_BYTES)?;
@@ -90,7 +95,8 @@ fn put_particles<O: Sink>(
     room: &mut Room,
     particles: &[Particle],
 ) -> Result<(), Failed>
-    ensures bytes { Queues (O.told out.old) (O.told out.new) room.old room.new (particles_bytes particles.now) result }
+    ensures bytes { Queues (O.told out.old) (O.told out.new) room.old room.new
+        (particles_bytes particles.now) result }
     ensures cause { HasCause (O.told out.old) (O.told out.new) result }
 {
     for particle in particles {
@@ -100,7 +106,8 @@ fn put_particles<O: Sink>(
 }
 
 fn put_particle<O: Sink>(out: &mut O, room: &mut Room, particle: &Particle) -> Result<(), Failed>
-    ensures bytes { Queues (O.told out.old) (O.told out.new) room.old room.new (particle_bytes particle.now) result }
+    ensures bytes { Queues (O.told out.old) (O.told out.new) room.old room.new
+        (particle_bytes particle.now) result }
     ensures cause { HasCause (O.told out.old) (O.told out.new) result }
 {
     make_room(out, room, PARTICLE_BYTES)?;
@@ -143,7 +150,8 @@ fn push_velocity(room: &mut Room, v: [i32; 3])
 
 // The energies, and with them all that waits.
 fn put_end_of_frame<O: Sink>(out: &mut O, room: &mut Room, energies: Energies) -> Result<(), Failed>
-    ensures bytes { Puts (O.told out.old) (O.told out.new) (room.old ++ energies_bytes energies) result }
+    ensures bytes { Puts (O.told out.old) (O.told out.new)
+        (room.old ++ energies_bytes energies) result }
     ensures cause { HasCause (O.told out.old) (O.told out.new) result }
 {
     make_room(out, room, ENERGIES_BYTES)?;

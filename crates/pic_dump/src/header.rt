@@ -3,7 +3,7 @@
 ghost use Rattle.std.specs.Prelude.{◌≡◌, All};
 ghost use Rattle.pic_num.specs.Multiplier.{IsMultiplier};
 ghost use Rattle.pic_grid.specs.Cells.{IsCells};
-ghost use Rattle.pic_dump.specs.Header.{HeaderView, HasLimits, HasMultipliers, AreMultipliers, IsHeader};
+ghost use Rattle.pic_dump.specs.Header.{HeaderView, header_with, HasLimits, HasMultipliers, AreMultipliers, IsHeader};
 
 use crate::head::{Head, Heads};
 use pic_grid::Cells;
@@ -28,16 +28,16 @@ pub struct Header {
 impl Model for Header {
     ghost Value = { HeaderView };
 
-    ghost view = { λ h. record { cells = h.cells.n; side = h.cells.side; steps = h.steps; every = h.every; scales = h.scales; species = h.species } };
+    ghost view = { λ h. header_with h.cells h.steps h.every h.scales h.species };
 
-    ghost invariant = { λ h. IsHeader (record { cells = h.cells.n; side = h.cells.side; steps = h.steps; every = h.every; scales = h.scales; species = h.species }) };
+    ghost invariant = { λ h. IsHeader (header_with h.cells h.steps h.every h.scales h.species) };
 }
 
 impl Header {
     /// The header of numbers and species within the limits.
     pub fn new(cells: Cells, steps: u32, every: u32, scales: Scales, species: Heads) -> Header
-        requires { HasLimits (record { cells = cells.n; side = cells.side; steps = steps; every = every; scales = scales; species = species }) }
-        ensures { result ≡ record { cells = cells.n; side = cells.side; steps = steps; every = every; scales = scales; species = species } }
+        requires { HasLimits (header_with cells steps every scales species) }
+        ensures { result ≡ header_with cells steps every scales species }
     {
         keep_cells(cells);
         keep_scales(&scales);

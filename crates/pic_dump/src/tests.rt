@@ -93,7 +93,8 @@ fn the_header_of_two_charges(rt: HostRuntime) -> Result<(), Fail> {
 
 // A state of 2 by 2 by 2 cells: the first value of E is 1, the last of B is -1, and one particle.
 fn small_state(alloc: Global) -> Result<Snapshot, Fail>
-    ensures { IfOk result (λ s. map (λ particle. particle.id) s.particles.items ≡ range_with_len 0 (length s.particles.items)) }
+    ensures { IfOk result (λ s. map (λ particle. particle.id) s.particles.items
+        ≡ range_with_len 0 (length s.particles.items)) }
 {
     let cells = Cells::new([2, 2, 2], Sub::of_bits(12));
     let mut e = Lattice::new(alloc, cells, [1, 1, 1])?;

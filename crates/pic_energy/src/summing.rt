@@ -22,7 +22,8 @@ pub fn energies(scales: &Scales, kinds: &[Kind], state: &Snapshot) -> Energies
     requires few { length state.now.particles.items ≤ most_particles }
     requires e_bounded { IsBounded scales.now.e_force state.now.e }
     requires b_bounded { IsBounded scales.now.b_force state.now.b }
-    ensures { result ≡ energies_of scales.now kinds.now state.now.e state.now.b state.now.particles.items }
+    ensures { result ≡ energies_of scales.now kinds.now state.now.e state.now.b
+        state.now.particles.items }
 {
     Energies {
         kinetic: kinetic(kinds, &state.particles),

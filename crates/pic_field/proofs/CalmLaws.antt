@@ -39,5 +39,6 @@ module _ (phase : Phase) (by : Multiplier) (f : Axis → Triple → ℤ) (old ne
         (λ i. least_fault phase by (lowest (shaped.low i)) (shaped.size i) (λ a p. edge_at new a (unwrapped p)))
         ∙ least_fault-same phase by (lowest old.low) old.size (λ a p. edge_at new a (unwrapped p)) f (λ a p w.
         (λ i. edge_at new a (unwrapped (outer_of (sym shaped.low i) p)))
-        ∙ edge_at-outer new n a p (subst (λ (d : BlockValues). IsAmongCells d.low d.size n) (λ i. record { low = sym shaped.low i; size = sym shaped.size i; values = new.values }) among)
+        ∙ edge_at-outer new n a p (subst (λ (d : BlockValues). IsAmongCells d.low d.size n)
+        (λ i. record { low = sym shaped.low i; size = sym shaped.size i; values = new.values }) among)
         ∙ values a p w)

@@ -86,7 +86,8 @@ module _ (f : Field) (by : Multiplier) (low : Spot) (size : Triple) (y z i : ℕ
         pub back_down : IsScaledRow f by a (down n X start) count row → i < count → row_at row i ≡ scaled (value_at f a (down n X here)) by
         back_down is k = is.values i k ∙ ap (λ (x : ℕ). scaled (value_at f a (record here { x = x })) by) at_back
 
-        pub back_down_y : IsScaledRow f by a (down n X (down n Y start)) count row → i + 1 < count → row_at row (i + 1) ≡ scaled (value_at f a (down n Y here)) by
+        pub back_down_y : IsScaledRow f by a (down n X (down n Y start)) count row → i + 1 < count
+            → row_at row (i + 1) ≡ scaled (value_at f a (down n Y here)) by
         back_down_y is k = is.values (i + 1) k ∙ ap (λ (x : ℕ). scaled (value_at f a (record (down n Y here) { x = x })) by) at_own
 
 -- the front of a row
@@ -144,13 +145,15 @@ module _ (scales : Scales) (e : Field) (low : Spot) (size : Triple) (y z count :
     abbrev first : Triple
     first = line_start low y z
 
-    pub half_x : (z_by_y of_z y_by_z of_y : List ℤ) → of_e Z (up e.cells Y first) z_by_y → of_e Z first of_z → of_e Y (up e.cells Z first) y_by_z → of_e Y first of_y
+    pub half_x : (z_by_y of_z y_by_z of_y : List ℤ) → of_e Z (up e.cells Y first) z_by_y → of_e Z first of_z → of_e Y (up e.cells Z first) y_by_z
+        → of_e Y first of_y
         → (a : Axis) (p : Triple) → IsWithin p size → OnRow X y z a p → (v : ℤ)
         → v -ℤ curl_of (row_at (take count z_by_y) p.x) (row_at (take count of_z) p.x) (row_at (take count y_by_z) p.x) (row_at (take count of_y) p.x)
         ≡ half_made scales e low a p v
     half_x z_by_y of_z y_by_z of_y h k l m =
         at_row
-        (λ a p. (v : ℤ) → v -ℤ curl_of (row_at (take count z_by_y) p.x) (row_at (take count of_z) p.x) (row_at (take count y_by_z) p.x) (row_at (take count of_y) p.x)
+        (λ a p. (v : ℤ) → v -ℤ curl_of (row_at (take count z_by_y) p.x) (row_at (take count of_z) p.x) (row_at (take count y_by_z) p.x)
+        (row_at (take count of_y) p.x)
         ≡ half_made scales e low a p v)
         X y z size (λ i below v.
         let inside : i < count = omega arith in
@@ -164,7 +167,8 @@ module _ (scales : Scales) (e : Field) (low : Spot) (size : Triple) (y z count :
     pub half_y : (x_by_z of_x z_on of_z : List ℤ) → of_e X (up e.cells Z first) x_by_z → of_e X first of_x → of_e Z first of_z
         → ((i : ℕ) → i < count → row_at z_on i ≡ row_at of_z (i + 1))
         → (a : Axis) (p : Triple) → IsWithin p size → OnRow Y y z a p → (v : ℤ)
-        → v -ℤ curl_of (row_at (take count x_by_z) p.x) (row_at (take count of_x) p.x) (row_at z_on p.x) (row_at (take count of_z) p.x) ≡ half_made scales e low a p v
+        → v -ℤ curl_of (row_at (take count x_by_z) p.x) (row_at (take count of_x) p.x) (row_at z_on p.x) (row_at (take count of_z) p.x)
+        ≡ half_made scales e low a p v
     half_y x_by_z of_x z_on of_z h k m on =
         at_row
         (λ a p. (v : ℤ) → v -ℤ curl_of (row_at (take count x_by_z) p.x) (row_at (take count of_x) p.x) (row_at z_on p.x) (row_at (take count of_z) p.x)
@@ -181,7 +185,8 @@ module _ (scales : Scales) (e : Field) (low : Spot) (size : Triple) (y z count :
     pub half_z : (y_on of_y x_by_y of_x : List ℤ) → of_e Y first of_y → of_e X (up e.cells Y first) x_by_y → of_e X first of_x
         → ((i : ℕ) → i < count → row_at y_on i ≡ row_at of_y (i + 1))
         → (a : Axis) (p : Triple) → IsWithin p size → OnRow Z y z a p → (v : ℤ)
-        → v -ℤ curl_of (row_at y_on p.x) (row_at (take count of_y) p.x) (row_at (take count x_by_y) p.x) (row_at (take count of_x) p.x) ≡ half_made scales e low a p v
+        → v -ℤ curl_of (row_at y_on p.x) (row_at (take count of_y) p.x) (row_at (take count x_by_y) p.x) (row_at (take count of_x) p.x)
+        ≡ half_made scales e low a p v
     half_z y_on of_y x_by_y of_x k l m on =
         at_row
         (λ a p. (v : ℤ) → v -ℤ curl_of (row_at y_on p.x) (row_at (take count of_y) p.x) (row_at (take count x_by_y) p.x) (row_at (take count of_x) p.x)
@@ -197,7 +202,8 @@ module _ (scales : Scales) (e : Field) (low : Spot) (size : Triple) (y z count :
 
 -- a step of E with the current j on the three rows of a line, from its scaled rows of B; those of
 -- y and z begin a cell back
-module _ (scales : Scales) (b : Field) (j : BlockValues) (low : Spot) (size : Triple) (y z count : ℕ) (among : IsAmongCells low size b.cells) (same : count ≡ size.x)
+module _ (scales : Scales) (b : Field) (j : BlockValues) (low : Spot) (size : Triple) (y z count : ℕ) (among : IsAmongCells low size b.cells)
+    (same : count ≡ size.x)
   where
     abbrev of_b : Axis → Triple → List ℤ → Type 0
     of_b a p row = IsScaledRow b scales.b_to_e a p (count + 1) row
@@ -209,10 +215,12 @@ module _ (scales : Scales) (b : Field) (j : BlockValues) (low : Spot) (size : Tr
     abbrev Follows : List ℤ → List ℤ → Type 0
     Follows on row = (i : ℕ) → i < count → row_at on i ≡ row_at row (i + 1)
 
-    pub full_x : (z_by_y z_by_y_on of_z z_on y_by_z of_y y_on : List ℤ) → of_b Z (down b.cells X (down b.cells Y begin)) z_by_y → of_b Z (down b.cells X begin) of_z
+    pub full_x : (z_by_y z_by_y_on of_z z_on y_by_z of_y y_on : List ℤ) → of_b Z (down b.cells X (down b.cells Y begin)) z_by_y
+        → of_b Z (down b.cells X begin) of_z
         → of_b Y (down b.cells Z begin) y_by_z → of_b Y (down b.cells X begin) of_y → Follows z_by_y_on z_by_y → Follows z_on of_z → Follows y_on of_y
         → (a : Axis) (p : Triple) → IsWithin p size → OnRow X y z a p → (v : ℤ)
-        → v -ℤ inner_at j a p -ℤ curl_of (row_at z_by_y_on p.x) (row_at z_on p.x) (row_at (take count y_by_z) p.x) (row_at y_on p.x) ≡ full_made scales b j low a p v
+        → v -ℤ inner_at j a p -ℤ curl_of (row_at z_by_y_on p.x) (row_at z_on p.x) (row_at (take count y_by_z) p.x) (row_at y_on p.x)
+        ≡ full_made scales b j low a p v
     full_x z_by_y z_by_y_on of_z z_on y_by_z of_y y_on h k l m after_zy after_z after_y =
         at_row
         (λ a p. (v : ℤ) → v -ℤ inner_at j a p -ℤ curl_of (row_at z_by_y_on p.x) (row_at z_on p.x) (row_at (take count y_by_z) p.x) (row_at y_on p.x)
@@ -227,13 +235,15 @@ module _ (scales : Scales) (b : Field) (j : BlockValues) (low : Spot) (size : Tr
         (front y_by_z count i _ inside (row_down_z b scales.b_to_e low size y z i among below Y (count + 1) y_by_z l room))
         (after_y i inside ∙ back_here b scales.b_to_e low size y z i among below Y (count + 1) of_y m more))
 
-    pub full_y : (x_by_z of_x of_z z_on : List ℤ) → of_b X (down b.cells Z begin) x_by_z → of_b X begin of_x → of_b Z (down b.cells X begin) of_z → Follows z_on of_z
+    pub full_y : (x_by_z of_x of_z z_on : List ℤ) → of_b X (down b.cells Z begin) x_by_z → of_b X begin of_x → of_b Z (down b.cells X begin) of_z
+        → Follows z_on of_z
         → (a : Axis) (p : Triple) → IsWithin p size → OnRow Y y z a p → (v : ℤ)
         → v -ℤ inner_at j a p -ℤ curl_of (row_at (take count x_by_z) p.x) (row_at (take count of_x) p.x) (row_at (take count of_z) p.x) (row_at z_on p.x)
         ≡ full_made scales b j low a p v
     full_y x_by_z of_x of_z z_on h k l after_z =
         at_row
-        (λ a p. (v : ℤ) → v -ℤ inner_at j a p -ℤ curl_of (row_at (take count x_by_z) p.x) (row_at (take count of_x) p.x) (row_at (take count of_z) p.x) (row_at z_on p.x)
+        (λ a p. (v : ℤ) → v -ℤ inner_at j a p -ℤ curl_of (row_at (take count x_by_z) p.x) (row_at (take count of_x) p.x) (row_at (take count of_z) p.x)
+        (row_at z_on p.x)
         ≡ full_made scales b j low a p v)
         Y y z size (λ i below v.
         let inside : i < count = omega arith in
@@ -245,13 +255,15 @@ module _ (scales : Scales) (b : Field) (j : BlockValues) (low : Spot) (size : Tr
         (front of_z count i _ inside (back_down b scales.b_to_e low size y z i among below Z (count + 1) of_z l room))
         (after_z i inside ∙ back_here b scales.b_to_e low size y z i among below Z (count + 1) of_z l more))
 
-    pub full_z : (of_y y_on x_by_y of_x : List ℤ) → of_b Y (down b.cells X begin) of_y → of_b X (down b.cells Y begin) x_by_y → of_b X begin of_x → Follows y_on of_y
+    pub full_z : (of_y y_on x_by_y of_x : List ℤ) → of_b Y (down b.cells X begin) of_y → of_b X (down b.cells Y begin) x_by_y → of_b X begin of_x
+        → Follows y_on of_y
         → (a : Axis) (p : Triple) → IsWithin p size → OnRow Z y z a p → (v : ℤ)
         → v -ℤ inner_at j a p -ℤ curl_of (row_at (take count of_y) p.x) (row_at y_on p.x) (row_at (take count x_by_y) p.x) (row_at (take count of_x) p.x)
         ≡ full_made scales b j low a p v
     full_z of_y y_on x_by_y of_x h k l after_y =
         at_row
-        (λ a p. (v : ℤ) → v -ℤ inner_at j a p -ℤ curl_of (row_at (take count of_y) p.x) (row_at y_on p.x) (row_at (take count x_by_y) p.x) (row_at (take count of_x) p.x)
+        (λ a p. (v : ℤ) → v -ℤ inner_at j a p -ℤ curl_of (row_at (take count of_y) p.x) (row_at y_on p.x) (row_at (take count x_by_y) p.x)
+        (row_at (take count of_x) p.x)
         ≡ full_made scales b j low a p v)
         Z y z size (λ i below v.
         let inside : i < count = omega arith in

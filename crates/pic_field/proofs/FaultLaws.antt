@@ -8,15 +8,15 @@ use Rattle.pic_num.specs.First.{first_of}
 use Rattle.pic_num.specs.Multiplier.{Multiplier}
 use Rattle.pic_num.specs.Push.{unless}
 use Rattle.pic_num.specs.Rounding.{scaled}
-use Rattle.pic_num.specs.Space.{Triple}
+use Rattle.pic_num.specs.Space.{Triple, Spot}
 use Rattle.pic_num.proofs.FirstLaws.{first_of_next, first_of_none}
 use Rattle.pic_grid.specs.declared.stop.Phase.{Phase}
 use Rattle.pic_grid.specs.declared.stop.Stop.{Stop}
 use Rattle.pic_grid.specs.Cells.{IsWithin, count_of, place_of}
-use Rattle.pic_grid.specs.Block.{BlockValues, inner_of, inner_at, outer_of}
+use Rattle.pic_grid.specs.Block.{BlockValues, IsAmongCells, inner_of, inner_at, outer_of}
 use Rattle.pic_grid.proofs.CellLaws.{place_of_below, axis_of-place_of, cell_of-place_of}
 use Rattle.pic_grid.proofs.BlockLaws.{inner_within}
-use Rattle.pic_field.proofs.PlaceLaws.{IsHere}
+use Rattle.pic_grid.proofs.PlaceLaws.{IsPlace}
 use Rattle.pic_field.specs.FieldPhases.{fault_of, cell_above, lowest, fault_at, least_fault, IsBounded, AllBounded}
 
 -- neither of two tests holds where neither answer is given
@@ -56,6 +56,24 @@ pub least_fault-bounded : (phase : Phase) (by : Multiplier) (low size : Triple) 
     → (a : Axis) (p : Triple) → IsWithin p size → IsBounded by (f a (cell_above low p))
 least_fault-bounded phase by low size f none a p w =
     fault_of-none phase by a (cell_above low p) (f a (cell_above low p)) (least_fault-none phase by low size f none a p w)
+
+-- in a walk over a block, whose zone lies among n cells, the place of the number i is the component
+-- on an axis at the cell q of the grid, which lies p above the lowest
+pub record IsHere (old : BlockValues) (n : Triple) (i : ℕ) (a : Axis) (p q : Triple) : Type 0 where
+  pub among : IsAmongCells old.low old.size n
+  pub within : IsWithin p old.size
+  pub number : place_of old.size a p ≡ i
+  pub at : q ≡ outer_of old.low p
+
+-- as the code knows it: by its own copy of the zone
+pub is_here : (old : BlockValues) (n : Triple) (i : ℕ) (a : Axis) (p q : Triple) (low : Spot) (size : Triple) → low ≡ old.low → size ≡ old.size
+    → IsAmongCells old.low old.size n → IsPlace size i a p → i < 3 * count_of size → q ≡ outer_of low p → IsHere old n i a p q
+is_here old n i a p q low size same_low same_size among place below at = record {
+  among = among;
+  within = subst (λ (s : Triple). IsWithin p s) same_size (place.within below);
+  number = sym (ap (λ (s : Triple). place_of s a p) same_size) ∙ place.number below;
+  at = at ∙ ap (λ (l : Spot). outer_of l p) same_low;
+}
 
 -- the stop of the places below i
 unfoldable pub fault_below : Phase → Multiplier → (Axis → Triple → ℤ) → BlockValues → ℕ → Option Stop

@@ -1,10 +1,8 @@
-pub mod PlaceLaws
 pub mod ZoneLaws
 pub mod FaultLaws
 pub mod LeastStopLaws
 pub mod WholeLaws
 pub mod CalmLaws
-pub mod SmallLaws
 pub mod RowLaws
 pub mod LineLaws
 pub mod CurlLaws

@@ -58,7 +58,8 @@ module _ (g : Axis → Triple → ℤ → ℤ) (P Q R : Axis → Triple → Type
     }
 
     -- and keeps those of places that it leaves alone
-    pub small_kept : (most : ℕ) → Changed g Q old mid → AreSmall most P old → ((a : Axis) (p : Triple) → R a p → P a p) → ((a : Axis) (p : Triple) → R a p → Q a p → ⊥)
+    pub small_kept : (most : ℕ) → Changed g Q old mid → AreSmall most P old → ((a : Axis) (p : Triple) → R a p → P a p)
+        → ((a : Axis) (p : Triple) → R a p → Q a p → ⊥)
         → AreSmall most R mid
     small_kept most first before in_p apart = record {
       at_most = λ a p w r.
@@ -151,7 +152,8 @@ line_changed g y z b one two three first second third =
     let both = changed_next g (OnRow X y z) (OnRow Y y z) (OnTwo y z) b one two first second (two_rows b.size y z) in
     changed_next g (OnTwo y z) (OnRow Z y z) (OnLine y z) b two three both third (three_rows b.size y z)
 
-pub line_small : (most : ℕ) (g h : Axis → Triple → ℤ → ℤ) (y z : ℕ) (one two three : BlockValues) → Changed g (OnRow Y y z) one two → Changed h (OnRow Z y z) two three
+pub line_small : (most : ℕ) (g h : Axis → Triple → ℤ → ℤ) (y z : ℕ) (one two three : BlockValues) → Changed g (OnRow Y y z) one two
+    → Changed h (OnRow Z y z) two three
     → AreSmall most (OnRow X y z) one → AreSmall most (OnRow Y y z) two → AreSmall most (OnRow Z y z) three → AreSmall most (OnLine y z) three
 line_small most g h y z one two three second third small_x small_y small_z =
     let both = small_next g (OnRow X y z) (OnRow Y y z) (OnTwo y z) one one two most second small_x small_y (two_rows one.size y z) in

@@ -22,7 +22,8 @@ row_more P row i v inside below here =
     (λ k h. let other : k ≢ i = omega arith in subst (P k) (sym (get_or-set_other row i k v (pos 0) other)) (below k h))
     (subst (P i) (sym (get_or-set_same row i v (pos 0) inside)) here)
 
-pub small_more : (most : ℕ) (row : List ℤ) (i : ℕ) (v : ℤ) → i < length row → IsSmallRow most i row → IsAtMost v most → IsSmallRow most (i + 1) (slice_set row i v)
+pub small_more : (most : ℕ) (row : List ℤ) (i : ℕ) (v : ℤ) → i < length row → IsSmallRow most i row → IsAtMost v most
+    → IsSmallRow most (i + 1) (slice_set row i v)
 small_more most row i v inside small here = record { at_most = row_more (λ k z. IsAtMost z most) row i v inside small.at_most here }
 
 -- the part of a row that a run fills, and the row with that part filled
@@ -61,7 +62,8 @@ module _ (f : Field) (by : Multiplier) (a : Axis) (p : Triple) (done more x : �
     run_small most each = record {
       at_most = λ i below.
           let inside : x + i < f.cells.x = omega (arith, fits) in
-          subst (λ (z : ℤ). IsAtMost z most) (sym (values i below)) (each.at_most a (record p { x = x + i }) (record { x = inside; y = within.y; z = within.z }));
+          subst (λ (z : ℤ). IsAtMost z most) (sym (values i below)) (each.at_most a (record p { x = x + i })
+          (record { x = inside; y = within.y; z = within.z }));
     }
 
     -- and scaled they are the next of the row
@@ -105,7 +107,8 @@ module _ (f : Field) (by : Multiplier) (a : Axis) (p : Triple) (done more x : �
             ∙ get_or_append_left part rest (pos 0) (k - done) (omega (arith, long))
 
 -- the front of a scaled row,
-pub front_row : (most count : ℕ) (row : List ℤ) (size : ℕ) → count ≤ length row → IsSmallRow most (count + 1) row → count ≡ size → IsRow most size (take count row)
+pub front_row : (most count : ℕ) (row : List ℤ) (size : ℕ) → count ≤ length row → IsSmallRow most (count + 1) row → count ≡ size
+    → IsRow most size (take count row)
 front_row most count row size room small same = record {
   length_is = length-take-le count row room ∙ same;
   small = record {

@@ -155,7 +155,8 @@ whole_small most grid b whole small = record {
 pub whole_bounded : (by : Multiplier) (grid : Grid) (b : BlockValues) → IsWhole grid.n b → AllBounded by b
     → (a : Axis) (p : Triple) → IsWithin p grid.n → IsBounded by (value_at (joined grid one_part (b ∷ [])) a p)
 whole_bounded by grid b whole all a p w =
-    subst (IsBounded by) (whole_edge grid.n b a p whole ∙ sym (value_at-whole grid b a p whole w)) (all.bounded a (unwrapped p) (whole_inside grid.n b p whole w))
+    subst (IsBounded by) (whole_edge grid.n b a p whole ∙ sym (value_at-whole grid b a p whole w))
+    (all.bounded a (unwrapped p) (whole_inside grid.n b p whole w))
 
 -- equal values have one stop
 pub least_fault-same : (phase : Phase) (by : Multiplier) (low size : Triple) (f g : Axis → Triple → ℤ)

@@ -14,9 +14,9 @@ ghost use Rattle.pic_field.specs.Lines.{HasCells, OnLine, OnLayer, BelowLayer, C
 ghost use Rattle.pic_field.specs.Rows.{IsScaledRow};
 
 use crate::faults::{safe_most, stop_in};
-use crate::place::{cell_in, is_empty, line_length};
 use crate::rooms::{Rooms, full_row};
 use crate::row::{Four, copy_row, scaled_row, shifted};
+use crate::zone::{cell_in, is_empty, line_length};
 use pic_grid::{Block, Lattice, Phase, Stop};
 use pic_num::{Axis, Mult, Scales};
 

@@ -7,8 +7,8 @@ ghost use Rattle.pic_num.specs.Space.{triple, unwrapped};
 ghost use Rattle.pic_grid.specs.Block.{IsAmongCells, edge_at};
 ghost use Rattle.pic_field.specs.FieldPhases.{fault_of, lowest, least_fault, IsBounded};
 
-use crate::place::{Place, cell_in, place_count};
-use pic_grid::{Block, Bound, Cells, Phase, Stop};
+use crate::zone::{cell_in, place_count};
+use pic_grid::{Block, Bound, Cells, Phase, Place, Stop};
 use pic_num::{Axis, Mult, scale};
 
 /// The greatest size of a field's value.

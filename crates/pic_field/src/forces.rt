@@ -9,8 +9,8 @@ ghost use Rattle.pic_grid.specs.Lattice.{EachAtMost, value_at};
 ghost use Rattle.pic_grid.specs.Block.{IsAmongCells, IsShaped, inner_at, outer_of};
 ghost use Rattle.pic_field.specs.Lines.{HasCells, OnRow, OnLine, OnLayer, Changed, force_made};
 
-use crate::place::{cell_in, is_empty, line_length};
 use crate::row::{ROOM, Row, scaled_row};
+use crate::zone::{cell_in, is_empty, line_length};
 use pic_grid::{Block, Lattice};
 use pic_num::{Axis, Mult};
 

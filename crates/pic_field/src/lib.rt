@@ -6,9 +6,9 @@ mod faults;
 mod forces;
 mod laws;
 mod magnetic;
-mod place;
 mod rooms;
 mod row;
+mod zone;
 
 pub use electric::full_e;
 pub use forces::force;

@@ -26,7 +26,8 @@ unfolding each
 stops_next n f {xs = xs} less first second =
     stops_then (λ ys. f ys >>= (λ b. done (ys ++ b ∷ []))) first (stops_first (λ b. done (xs ++ b ∷ [])) less second)
 
-stops_later : {A : Type 0} (n : ℕ) (f : List A → Parser A) {s e : ℕ} {x z : Told} {stop : ReadStop} → Stops (each n f) s e x z stop → Stops (each (suc n) f) s e x z stop
+stops_later : {A : Type 0} (n : ℕ) (f : List A → Parser A) {s e : ℕ} {x z : Told} {stop : ReadStop} → Stops (each n f) s e x z stop
+    → Stops (each (suc n) f) s e x z stop
 unfolding each
 stops_later n f first = stops_first (λ ys. f ys >>= (λ b. done (ys ++ b ∷ []))) (omega arith) first
 
@@ -39,7 +40,8 @@ stops_among (suc n) i f {s = s} {m = m} {x = x} {y = y} {xs = xs} below less fir
   | inr other ↦ stops_later n f (stops_among n i f (omega (arith, below, other)) less first second)
 ]
 
-pub exits_among : {A C D : Type 0} (n i : ℕ) (f : List A → Parser A) {view : C → A} {other : D → List A} {s m e d : ℕ} {x y z : Told} {xs : List A} {stop : ReadStop} {r : Result D ReadStop}
+pub exits_among : {A C D : Type 0} (n i : ℕ) (f : List A → Parser A) {view : C → A} {other : D → List A} {s m e d : ℕ} {x y z : Told} {xs : List A}
+    {stop : ReadStop} {r : Result D ReadStop}
     → IsErrAnd r (λ u. u ≡ stop) → i < n → e ≤ d → HasRead (each i f) s x xs m y → Reads view (f xs) m e y z (Err stop) → Reads other (each n f) s d x z r
 exits_among n i f {stop = stop} {r = r} is below less first second =
     let q = err_from_is_err_and r is in

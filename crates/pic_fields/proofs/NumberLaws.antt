@@ -43,8 +43,10 @@ digit_same : (k j c m : ℕ) → digit k (c * 256 ^ (suc j + k) + m) ≡ digit k
 digit_same k j c m =
     let high : c * 256 ^ (suc j + k) ≡ c * 256 ^ suc j * 256 ^ k = ap (λ p. c * p) (pow-add 256 (suc j) k) ∙ sym (mul_assoc c (256 ^ suc j) (256 ^ k)) in
     let turned : c * 256 ^ (suc j + k) + m ≡ m + c * 256 ^ suc j * 256 ^ k = omega (arith, high) in
-    let divided : (c * 256 ^ (suc j + k) + m) / 256 ^ k ≡ m / 256 ^ k + c * 256 ^ suc j = ap (λ (y : ℕ). y / 256 ^ k) turned ∙ add-mul-div_right m (c * 256 ^ suc j) (pow_pos256 k) in
-    let whole : c * 256 ^ suc j ≡ c * 256 ^ j * 256 = ap (λ e. c * 256 ^ e) (sym (add-one j)) ∙ ap (λ p. c * p) (pow-add 256 j 1) ∙ sym (mul_assoc c (256 ^ j) 256) in
+    let divided : (c * 256 ^ (suc j + k) + m) / 256 ^ k ≡ m / 256 ^ k + c * 256 ^ suc j =
+    ap (λ (y : ℕ). y / 256 ^ k) turned ∙ add-mul-div_right m (c * 256 ^ suc j) (pow_pos256 k) in
+    let whole : c * 256 ^ suc j ≡ c * 256 ^ j * 256 = ap (λ e. c * 256 ^ e) (sym (add-one j)) ∙ ap (λ p. c * p) (pow-add 256 j 1)
+    ∙ sym (mul_assoc c (256 ^ j) 256) in
     digit-pow k (c * 256 ^ (suc j + k) + m) ∙ ap (λ (y : ℕ). y % 256) divided ∙ omega (arith, whole) ∙ sym (digit-pow k m)
 
 bytes_same : (k n c m : ℕ) → k ≤ n → bytes_high_first k (c * 256 ^ n + m) ≡ bytes_high_first k m
@@ -68,7 +70,8 @@ written_back (suc n) (b ∷ bytes) size small =
     let number : big_from 0 (suc n) (b ∷ bytes) ≡ b * 256 ^ n + m = ap (λ (r : ℕ). b * 256 ^ n + r) (big_from-cons 0 n b bytes) in
     let high : (b * 256 ^ n + m) / 256 ^ n % 256 ≡ b = ap (λ (y : ℕ). y % 256) (div-mul-add b (256 ^ n) m below) ∙ omega (arith, first) in
     let head : digit n (b * 256 ^ n + m) ≡ b = digit-pow n (b * 256 ^ n + m) ∙ high in
-    let rest : bytes_high_first n (b * 256 ^ n + m) ≡ bytes = bytes_same n n b m (omega arith) ∙ written_back n bytes (omega (arith, size)) (λ k. small (suc k)) in
+    let rest : bytes_high_first n (b * 256 ^ n + m) ≡ bytes = bytes_same n n b m (omega arith)
+    ∙ written_back n bytes (omega (arith, size)) (λ k. small (suc k)) in
     ap (bytes_high_first (suc n)) number ∙ (λ i. head i ∷ rest i)
 
 -- 16 bytes
@@ -119,7 +122,8 @@ spells_byte =
 pub spells_u32 : Spells u32_at u32_bytes (λ n. n < 2 ^ 32)
 unfolding u32_at u32_of u32_bytes
 spells_u32 =
-    spells_number 4 (from_be_bytes w32) (to_be_bytes w32) (λ n. n < 2 ^ 32) (λ n below. record { size = refl; small = small_bytes 4 n }) from_be_bytes-to_be_bytes_4
+    spells_number 4 (from_be_bytes w32) (to_be_bytes w32) (λ n. n < 2 ^ 32)
+    (λ n below. record { size = refl; small = small_bytes 4 n }) from_be_bytes-to_be_bytes_4
     (λ bytes fits. from_4_below bytes fits.small) to_4_back
 
 pub spells_i32 : Spells i32_at i32_bytes (SFits w32)

@@ -36,7 +36,11 @@ moves_then {x = x} {y = y} {z = z} first second =
     let size = length-append first.front second.front in
     let one = first.most in
     let two = second.most in
-    record { front = first.front ++ second.front; moved = given_twice x y z first.front second.front first.moved second.moved; most = omega (arith, size, one, two) }
+    record {
+      front = first.front ++ second.front;
+      moved = given_twice x y z first.front second.front first.moved second.moved;
+      most = omega (arith, size, one, two);
+    }
 
 same_front : (known : Option (List ℕ)) → known ≡ with_front [] known
 same_front None = refl
@@ -76,16 +80,28 @@ pub ends_then : {A B : Type 0} {p : Parser A} (f : A → Parser B) {s m e : ℕ}
     → HasRead p s x a m y → HasEnded (f a) m e y b z → HasEnded (p >>= f) s e x b z
 ends_then f first second =
     let (held, was, e1) = first.reads second.held second.was in
-    record { calm = second.calm ∙ first.calm; moves = moves_then first.moves second.moves; end = second.end; held = held; was = was; stop = second.stop; reads = then_ok _ f _ _ _ e1 ∙ second.reads }
+    record {
+      calm = second.calm ∙ first.calm;
+      moves = moves_then first.moves second.moves;
+      end = second.end;
+      held = held;
+      was = was;
+      stop = second.stop;
+      reads = then_ok _ f _ _ _ e1 ∙ second.reads;
+    }
 
 -- why a call stopped, where it is the first part, or comes after one
-pub stops_first : {A B : Type 0} {p : Parser A} (f : A → Parser B) {s e d : ℕ} {x z : Told} {stop : ReadStop} → e ≤ d → Stops p s e x z stop → Stops (p >>= f) s d x z stop
+pub stops_first : {A B : Type 0} {p : Parser A} (f : A → Parser B) {s e d : ℕ} {x z : Told} {stop : ReadStop} → e ≤ d → Stops p s e x z stop
+    → Stops (p >>= f) s d x z stop
 stops_first f {stop = ReadFault} less first = record { why = first.why; moves = moves_up less first.moves }
 stops_first f {stop = BadDump place cause} less first = record { why = fails_first f first.why; moves = moves_up less first.moves }
 
 pub stops_then : {A B : Type 0} {p : Parser A} (f : A → Parser B) {s m e : ℕ} {x y z : Told} {a : A} {stop : ReadStop}
     → HasRead p s x a m y → Stops (f a) m e y z stop → Stops (p >>= f) s e x z stop
-stops_then f {x = x} {y = y} {z = z} {stop = ReadFault} first second = record { why = rose_after x y z first.calm second.why; moves = moves_then first.moves second.moves }
+stops_then f {x = x} {y = y} {z = z} {stop = ReadFault} first second = record {
+  why = rose_after x y z first.calm second.why;
+  moves = moves_then first.moves second.moves;
+}
 stops_then f {stop = BadDump place cause} first second = record { why = fails_then f first second.why; moves = moves_then first.moves second.moves }
 
 -- a call after a value
@@ -100,13 +116,15 @@ goes_on_to_end f {r = Ok c} first second = record { answer = ends_then f first s
 goes_on_to_end f {r = Err stop} first second = record { answer = stops_then f first second.answer }
 
 -- a call that stopped as the first part
-pub exits : {A B C D : Type 0} {p : Parser A} (f : A → Parser B) {view : C → A} {other : D → B} {s e d : ℕ} {x z : Told} {stop : ReadStop} {r : Result D ReadStop}
+pub exits : {A B C D : Type 0} {p : Parser A} (f : A → Parser B) {view : C → A} {other : D → B} {s e d : ℕ} {x z : Told} {stop : ReadStop}
+    {r : Result D ReadStop}
     → e ≤ d → IsErrAnd r (λ y. y ≡ stop) → Reads view p s e x z (Err stop) → Reads other (p >>= f) s d x z r
 exits f {stop = stop} {r = r} less is first =
     let q = err_from_is_err_and r is in
     rw (q.1, q.2) (record { answer = stops_first f less first.answer })
 
-pub exits_to_end : {A B C D : Type 0} {p : Parser A} (f : A → Parser B) {view : C → A} {other : D → B} {s e d : ℕ} {x z : Told} {stop : ReadStop} {r : Result D ReadStop}
+pub exits_to_end : {A B C D : Type 0} {p : Parser A} (f : A → Parser B) {view : C → A} {other : D → B} {s e d : ℕ} {x z : Told} {stop : ReadStop}
+    {r : Result D ReadStop}
     → e ≤ d → IsErrAnd r (λ y. y ≡ stop) → Reads view p s e x z (Err stop) → ReadsEnd other (p >>= f) s d x z r
 exits_to_end f {stop = stop} {r = r} less is first =
     let q = err_from_is_err_and r is in
@@ -137,7 +155,8 @@ pub reads_as : {A B C : Type 0} {p : Parser A} (f : A → B) {view : C → A} {s
 reads_as f {r = Ok c} h = record { answer = read_as f h.answer }
 reads_as f {r = Err stop} h = record { answer = stops_as f h.answer }
 
-pub reads_up_to : {A C : Type 0} {p : Parser A} {view : C → A} {s d e : ℕ} {x z : Told} {r : Result C ReadStop} → d ≡ e → Reads view p s d x z r → Reads view p s e x z r
+pub reads_up_to : {A C : Type 0} {p : Parser A} {view : C → A} {s d e : ℕ} {x z : Told} {r : Result C ReadStop} → d ≡ e → Reads view p s d x z r
+    → Reads view p s e x z r
 reads_up_to {p = p} {view = view} {s = s} {x = x} {z = z} {r = r} is h = subst (λ n. Reads view p s n x z r) is h
 
 -- a test that is passed
@@ -171,7 +190,8 @@ pub refuses : {A : Type 0} {p : Parser A} (cause : ℕ) (test : A → Bool) {s e
     → HasRead p s x a e z → test a ≡ false → Stops (checked cause test p) s e x z (BadDump s cause)
 refuses cause test first is = record { why = refused cause test first is; moves = first.moves }
 
-fails_checked : {A : Type 0} {p : Parser A} (cause : ℕ) (test : A → Bool) {s : ℕ} {x z : Told} {e : Fault} → Fails p s x e z → Fails (checked cause test p) s x e z
+fails_checked : {A : Type 0} {p : Parser A} (cause : ℕ) (test : A → Bool) {s : ℕ} {x z : Told} {e : Fault} → Fails p s x e z
+    → Fails (checked cause test p) s x e z
 unfolding checked
 fails_checked cause test first = record { calm = first.calm; held = first.held; was = first.was; fails = ap (tested _ cause test) first.fails }
 
@@ -180,7 +200,8 @@ pub stops_checked : {A : Type 0} {p : Parser A} (cause : ℕ) (test : A → Bool
 stops_checked cause test {stop = ReadFault} first = record { why = first.why; moves = first.moves }
 stops_checked cause test {stop = BadDump place c} first = record { why = fails_checked cause test first.why; moves = first.moves }
 
-pub exits_checked : {A C D : Type 0} {p : Parser A} (cause : ℕ) (test : A → Bool) {view : C → A} {other : D → A} {s e : ℕ} {x z : Told} {stop : ReadStop} {r : Result D ReadStop}
+pub exits_checked : {A C D : Type 0} {p : Parser A} (cause : ℕ) (test : A → Bool) {view : C → A} {other : D → A} {s e : ℕ} {x z : Told} {stop : ReadStop}
+    {r : Result D ReadStop}
     → IsErrAnd r (λ y. y ≡ stop) → Reads view p s e x z (Err stop) → Reads other (checked cause test p) s e x z r
 exits_checked cause test {stop = stop} {r = r} is first =
     let q = err_from_is_err_and r is in
@@ -193,7 +214,8 @@ stops_up less h = record { why = h.why; moves = moves_up less h.moves }
 pub ended_up : {A : Type 0} {p : Parser A} {s e d : ℕ} {x z : Told} {a : A} → e ≤ d → HasEnded p s e x a z → HasEnded p s d x a z
 ended_up less h = record { calm = h.calm; moves = moves_up less h.moves; end = h.end; held = h.held; was = h.was; stop = h.stop; reads = h.reads }
 
-pub ends_up : {A C : Type 0} {p : Parser A} {view : C → A} {s e d : ℕ} {x z : Told} {r : Result C ReadStop} → e ≤ d → ReadsEnd view p s e x z r → ReadsEnd view p s d x z r
+pub ends_up : {A C : Type 0} {p : Parser A} {view : C → A} {s e d : ℕ} {x z : Told} {r : Result C ReadStop} → e ≤ d → ReadsEnd view p s e x z r
+    → ReadsEnd view p s d x z r
 ends_up {r = Ok c} less h = record { answer = ended_up less h.answer }
 ends_up {r = Err stop} less h = record { answer = stops_up less h.answer }
 

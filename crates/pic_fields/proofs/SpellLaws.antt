@@ -24,7 +24,8 @@ same_read {A = A} a b i k is =
     (ap (λ (q : A × Input). q.0) both, ap (λ (q : A × Input). q.1) both)
 
 -- the parts of a value that was read
-pub bind_parts : {A B : Type 0} (p : Parser A) (f : A → Parser B) (i k : Input) (b : B) → (p >>= f) i ≡ Ok (b, k) → (a : A) × (j : Input) × (p i ≡ Ok (a, j)) × (f a j ≡ Ok (b, k))
+pub bind_parts : {A B : Type 0} (p : Parser A) (f : A → Parser B) (i k : Input) (b : B) → (p >>= f) i ≡ Ok (b, k)
+    → (a : A) × (j : Input) × (p i ≡ Ok (a, j)) × (f a j ≡ Ok (b, k))
 unfolding ◌>>=◌
 bind_parts {A = A} {B = B} p f i k b is = go (p i) refl is
   where
@@ -89,7 +90,8 @@ spells_last {F = F} make part parts first =
     (λ a good. (subst F (sym (parts a)) good, ap make (sym (parts a)))) (λ a good. parts a) first
 
 -- a value that passes a test
-pub passed_test : {A : Type 0} (place cause : ℕ) (test : A → Bool) (r : Parsed A) (a : A) (k : Input) → tested place cause test r ≡ Ok (a, k) → (r ≡ Ok (a, k)) × (test a ≡ true)
+pub passed_test : {A : Type 0} (place cause : ℕ) (test : A → Bool) (r : Parsed A) (a : A) (k : Input) → tested place cause test r ≡ Ok (a, k)
+    → (r ≡ Ok (a, k)) × (test a ≡ true)
 passed_test {A = A} place cause test (Err e) a k is = absurd cc
 passed_test {A = A} place cause test (Ok x) a k is = go (test x.0) refl is
   where
@@ -104,7 +106,8 @@ pub spells_checked : {A : Type 0} {p : Parser A} {s : A → List ℕ} {F : A →
     → Spells p s F → Spells (checked cause test p) s (λ a. F a × (test a ≡ true))
 unfolding checked
 spells_checked {p = p} {s = s} cause test first = record {
-  again = λ place rest a fits. ap (tested place cause test) (first.again place rest a fits.0) ∙ passes_test place cause test (a, input (place + length (s a)) rest) fits.1;
+  again = λ place rest a fits. ap (tested place cause test) (first.again place rest a fits.0)
+      ∙ passes_test place cause test (a, input (place + length (s a)) rest) fits.1;
   takes = λ place bytes a k small is. (let (e1, good) = passed_test place cause test (p (input place bytes)) a k is in
       let one = first.takes place bytes a k small e1 in
       record { fits = (one.fits, good); parts = one.parts; small = one.small; place_is = one.place_is });
@@ -147,7 +150,8 @@ spells_field n = record {
 pub spells_by : {A : Type 0} {p q : Parser A} {s : A → List ℕ} {F : A → Type 0} → p ≡ q → Spells q s F → Spells p s F
 spells_by {s = s} {F = F} is h = subst (λ f. Spells f s F) (sym is) h
 
-pub spells_so : {A : Type 0} {p : Parser A} {s t : A → List ℕ} {F G : A → Type 0} → ((a : A) → G a → F a) → ((a : A) → F a → G a) → ((a : A) → F a → t a ≡ s a) → Spells p s F → Spells p t G
+pub spells_so : {A : Type 0} {p : Parser A} {s t : A → List ℕ} {F G : A → Type 0} → ((a : A) → G a → F a) → ((a : A) → F a → G a) → ((a : A) → F a → t a ≡ s a)
+    → Spells p s F → Spells p t G
 spells_so {p = p} {s = s} {t = t} from to is h = record {
   again = λ place rest a fits. (let same = is a (from a fits) in
       subst (λ l. p (input place (l ++ rest)) ≡ Ok (a, input (place + length l) rest)) (sym same) (h.again place rest a (from a fits)));
@@ -218,7 +222,8 @@ spells_each {A = A} f t G (suc n) one =
           let long = ap length text in
           record {
             fits = record { before = ys; last = y; so_far = first.fits; here = second.fits; whole = sym value };
-            parts = first.parts ∙ ap (λ l. flat_map t ys ++ l) second.parts ∙ sym (append_assoc (flat_map t ys) (t y) i.bytes) ∙ ap (λ l. l ++ i.bytes) (sym text)
+            parts = first.parts ∙ ap (λ l. flat_map t ys ++ l) second.parts ∙ sym (append_assoc (flat_map t ys) (t y) i.bytes)
+                ∙ ap (λ l. l ++ i.bytes) (sym text)
                 ∙ ap (λ (m : Input). flat_map t xs ++ m.bytes) input_is;
             small = subst (λ (m : Input). IsBytes m.bytes) input_is second.small;
             place_is = omega (arith, first.place_is, second.place_is, place_is, long, size);
@@ -226,10 +231,12 @@ spells_each {A = A} f t G (suc n) one =
     }
 
 -- values that fit each at its place
-pub fits_each : {A : Type 0} (G : List A → A → Type 0) (d : A) (n : ℕ) (xs : List A) → length xs ≡ n → ((i : ℕ) → i < n → G (take i xs) (get_or xs i d)) → FitsEach G n xs
+pub fits_each : {A : Type 0} (G : List A → A → Type 0) (d : A) (n : ℕ) (xs : List A) → length xs ≡ n → ((i : ℕ) → i < n → G (take i xs) (get_or xs i d))
+    → FitsEach G n xs
 fits_each G d zero xs size each_fits = nil_from_length xs size
 fits_each G d (suc n) xs size each_fits =
-    let whole : xs ≡ take n xs ++ get_or xs n d ∷ [] = sym (take-length xs) ∙ ap (λ m. take m xs) (size ∙ sym (add-one n)) ∙ take_more xs n d (omega (arith, size)) in
+    let whole : xs ≡ take n xs ++ get_or xs n d ∷ [] = sym (take-length xs) ∙ ap (λ m. take m xs) (size ∙ sym (add-one n))
+    ∙ take_more xs n d (omega (arith, size)) in
     record {
       before = take n xs;
       last = get_or xs n d;
@@ -253,7 +260,8 @@ pub right_7 : (a b c d e f g : List ℕ) → a ++ b ++ c ++ d ++ e ++ f ++ g ≡
 right_7 a b c d e f g = append_assoc (a ++ b ++ c ++ d ++ e) f g ∙ right_6 a b c d e (f ++ g)
 
 -- two spellings of which one begins the other are one, of one value
-pub one_spelling : {A : Type 0} {p : Parser A} {s : A → List ℕ} {F : A → Type 0} → Spells p s F → (a b : A) (x y : List ℕ) → F a → F b → s a ++ x ≡ s b ++ y → (a ≡ b) × (x ≡ y)
+pub one_spelling : {A : Type 0} {p : Parser A} {s : A → List ℕ} {F : A → Type 0} → Spells p s F → (a b : A) (x y : List ℕ) → F a → F b → s a ++ x ≡ s b ++ y
+    → (a ≡ b) × (x ≡ y)
 one_spelling {p = p} {s = s} h a b x y fits_a fits_b is =
     let e = sym (h.again 0 x a fits_a) ∙ ap (λ l. p (input 0 l)) is ∙ h.again 0 y b fits_b in
     let (value, input_is) = same_read a b _ _ e in

@@ -12,7 +12,8 @@ use pic_io::Source;
 /// Reads a byte.
 pub fn read_byte<S: Source>(source: &mut S, place: u64) -> Result<u8, ReadStop>
     requires { place + 1 < 2 ^ 63 }
-    ensures { Reads as_it_is byte_at place (place + 1) (S.told source.old) (S.told source.new) result }
+    ensures { Reads as_it_is byte_at place (place + 1) (S.told source.old)
+        (S.told source.new) result }
 {
     let mut room = [0u8; 1];
     take_field(source, place, &mut room)?;
@@ -22,7 +23,8 @@ pub fn read_byte<S: Source>(source: &mut S, place: u64) -> Result<u8, ReadStop>
 /// Reads an unsigned number of 4 bytes.
 pub fn read_u32<S: Source>(source: &mut S, place: u64) -> Result<u32, ReadStop>
     requires { place + 4 < 2 ^ 63 }
-    ensures { Reads as_it_is u32_at place (place + 4) (S.told source.old) (S.told source.new) result }
+    ensures { Reads as_it_is u32_at place (place + 4) (S.told source.old)
+        (S.told source.new) result }
 {
     let mut room = [0u8; 4];
     take_field(source, place, &mut room)?;
@@ -32,7 +34,8 @@ pub fn read_u32<S: Source>(source: &mut S, place: u64) -> Result<u32, ReadStop>
 /// Reads a signed number of 4 bytes.
 pub fn read_i32<S: Source>(source: &mut S, place: u64) -> Result<i32, ReadStop>
     requires { place + 4 < 2 ^ 63 }
-    ensures { Reads as_it_is i32_at place (place + 4) (S.told source.old) (S.told source.new) result }
+    ensures { Reads as_it_is i32_at place (place + 4) (S.told source.old)
+        (S.told source.new) result }
 {
     let mut room = [0u8; 4];
     take_field(source, place, &mut room)?;
@@ -42,7 +45,8 @@ pub fn read_i32<S: Source>(source: &mut S, place: u64) -> Result<i32, ReadStop>
 /// Reads an unsigned number of 16 bytes.
 pub fn read_u128<S: Source>(source: &mut S, place: u64) -> Result<u128, ReadStop>
     requires { place + 16 < 2 ^ 63 }
-    ensures { Reads as_it_is u128_at place (place + 16) (S.told source.old) (S.told source.new) result }
+    ensures { Reads as_it_is u128_at place (place + 16) (S.told source.old)
+        (S.told source.new) result }
 {
     let mut room = [0u8; 16];
     take_field(source, place, &mut room)?;
@@ -52,7 +56,8 @@ pub fn read_u128<S: Source>(source: &mut S, place: u64) -> Result<u128, ReadStop
 /// Reads a signed number of 16 bytes.
 pub fn read_i128<S: Source>(source: &mut S, place: u64) -> Result<i128, ReadStop>
     requires { place + 16 < 2 ^ 63 }
-    ensures { Reads as_it_is i128_at place (place + 16) (S.told source.old) (S.told source.new) result }
+    ensures { Reads as_it_is i128_at place (place + 16) (S.told source.old)
+        (S.told source.new) result }
 {
     let mut room = [0u8; 16];
     take_field(source, place, &mut room)?;

@@ -36,7 +36,8 @@ fn fill<S: Source>(source: &mut S, room: &mut [u8]) -> Result<usize, ReadStop>
 pub fn take_field<S: Source>(source: &mut S, place: u64, room: &mut [u8]) -> Result<(), ReadStop>
     requires { place + length room.old < 2 ^ 63 }
     ensures length { length room.new ≡ length room.old }
-    ensures reads { Reads (always room.new) (field (length room.old)) place (place + length room.old)
+    ensures reads { Reads (always room.new) (field (length room.old)) place
+        (place + length room.old)
         (S.told source.old) (S.told source.new) result }
 {
     let count = fill(source, room)?;
@@ -51,7 +52,8 @@ pub fn take_field<S: Source>(source: &mut S, place: u64, room: &mut [u8]) -> Res
 
 /// Finds the end of the input at `place`; a byte there is cause 10.
 pub fn read_end<S: Source>(source: &mut S, place: u64) -> Result<(), ReadStop>
-    ensures reads { ReadsEnd as_it_is (finished tt) place (place + 1) (S.told source.old) (S.told source.new) result }
+    ensures reads { ReadsEnd as_it_is (finished tt) place (place + 1) (S.told source.old)
+        (S.told source.new) result }
 {
     let mut room = [0u8; 1];
     if fill(source, &mut room)? == 0 {

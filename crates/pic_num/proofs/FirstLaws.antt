@@ -46,10 +46,12 @@ first_of_more g xs i d below =
 pub first_of_next : {A : Type 0} (g : ℕ → Option A) (s n : ℕ)
     → first_of g (range_with_len s (n + 1)) ≡ option_or (first_of g (range_with_len s n)) (g (s + n))
 unfolding first_of
-first_of_next g s zero = ap (λ k. first_of g (range_with_len s k)) (let e : 0 + 1 ≡ suc 0 = omega arith in e) ∙ or_none (g s) ∙ ap g (let e : s ≡ s + 0 = omega arith in e)
+first_of_next g s zero = ap (λ k. first_of g (range_with_len s k)) (let e : 0 + 1 ≡ suc 0 = omega arith in e) ∙ or_none (g s)
+    ∙ ap g (let e : s ≡ s + 0 = omega arith in e)
 first_of_next g s (suc n) =
     ap (λ k. first_of g (range_with_len s k)) (let e : suc n + 1 ≡ suc (n + 1) = omega arith in e)
-    ∙ ap (option_or (g s)) (first_of_next g (s + 1) n ∙ ap (λ k. option_or (first_of g (range_with_len (s + 1) n)) (g k)) (let e : s + 1 + n ≡ s + suc n = omega arith in e))
+    ∙ ap (option_or (g s)) (first_of_next g (s + 1) n ∙ ap (λ k. option_or (first_of g (range_with_len (s + 1) n)) (g k))
+    (let e : s + 1 + n ≡ s + suc n = omega arith in e))
     ∙ sym (or_assoc (g s) (first_of g (range_with_len (s + 1) n)) (g (s + suc n)))
 
 -- functions that find the same at each number of a range find the same first
@@ -68,7 +70,8 @@ unfolding first_of
 first_of_at g s zero i a low high found before = absurd (omega (arith, low, high))
 first_of_at g s (suc n) i a low high found before =
     elim (cases_lt s i) [
-      | inl later ↦ ap (λ o. option_or o (first_of g (range_with_len (s + 1) n))) (before s (omega arith) later) ∙ first_of_at g (s + 1) n i a (omega (arith, later)) (omega (arith, high)) found (λ j k l. before j (omega (arith, k)) l)
+      | inl later ↦ ap (λ o. option_or o (first_of g (range_with_len (s + 1) n))) (before s (omega arith) later)
+          ∙ first_of_at g (s + 1) n i a (omega (arith, later)) (omega (arith, high)) found (λ j k l. before j (omega (arith, k)) l)
       | inr here ↦ (let same : s ≡ i = omega (arith, here, low) in ap (λ o. option_or o (first_of g (range_with_len (s + 1) n))) (ap g same ∙ found))
     ]
 
@@ -110,7 +113,15 @@ first_of_some {A = A} g s (suc n) a is = go (λ found. first_of_some g (s + 1) n
   where
     go : (first_of g (range_with_len (s + 1) n) ≡ Some a → (at : ℕ) × IsFoundAt g (s + 1) n a at)
         → (o : Option A) → g s ≡ o → option_or o (first_of g (range_with_len (s + 1) n)) ≡ Some a → (at : ℕ) × IsFoundAt g s (suc n) a at
-    go later_found (Some b) here found = (s, record { low = omega arith; high = omega arith; found = here ∙ found; before = λ j low high. absurd (omega (arith, low, high)) })
+    go later_found (Some b) here found = (
+      s,
+      record {
+        low = omega arith;
+        high = omega arith;
+        found = here ∙ found;
+        before = λ j low high. absurd (omega (arith, low, high));
+      },
+    )
     go later_found None here found =
         let rest = later_found found in
         let low = rest.1.low in

@@ -160,4 +160,20 @@ literal n t = number n
 abbrev pub minus_literal : (n : ℕ) → T (ltb n (suc n)) → Code (negsuc n)
 minus_literal n t = minus_number n
 
-pub ruleset codes = (of_size, at_most, under, plus, times, minus, cast_w32, cast_w64, cast_w128, wide_w64, wide_w128, wide_under_w64, wide_under_w128, literal, minus_literal)
+pub ruleset codes = (
+  of_size,
+  at_most,
+  under,
+  plus,
+  times,
+  minus,
+  cast_w32,
+  cast_w64,
+  cast_w128,
+  wide_w64,
+  wide_w128,
+  wide_under_w64,
+  wide_under_w128,
+  literal,
+  minus_literal,
+)

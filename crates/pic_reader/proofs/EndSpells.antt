@@ -23,7 +23,8 @@ use Rattle.pic_fields.proofs.SpellLaws.{spells_bind, spells_mapped, spells_last,
 use Rattle.pic_fields.proofs.NumberLaws.{FitsU32, one_byte, spells_byte, spells_i128}
 use Rattle.pic_dump.specs.DumpText.{phase_code, bound_code, what_code}
 use Rattle.pic_reader.specs.Fields.{wrong_end, is_below}
-use Rattle.pic_reader.specs.EndFields.{code_at, below_at, is_phase, phase_of, bound_of, what_of, phase_at, bound_at, what_at, axis_at, cell_at, bound_limit, what_limit, is_past, past_at, field_stop_at, push_stop_at}
+use Rattle.pic_reader.specs.EndFields.{code_at, below_at, is_phase, phase_of, bound_of, what_of, phase_at, bound_at, what_at, axis_at}
+use Rattle.pic_reader.specs.EndFields.{cell_at, bound_limit, what_limit, is_past, past_at, field_stop_at, push_stop_at}
 use Rattle.pic_reader.specs.Layout.{LayoutView}
 use Rattle.pic_reader.proofs.FrameSpells.{three, spells_below}
 
@@ -61,7 +62,8 @@ phase_forth Electric = refl
 
 spells_phase : Spells phase_at (λ p. one_byte (phase_code p)) (λ p. Unit {0})
 unfolding phase_at
-spells_phase = spells_mapped phase_of phase_code (λ p. Unit {0}) (λ p u. phase_fits p) (λ p u. phase_forth p) (λ n f. tt) (λ n f. phase_back n f.1) (spells_code is_phase)
+spells_phase =
+    spells_mapped phase_of phase_code (λ p. Unit {0}) (λ p u. phase_fits p) (λ p u. phase_forth p) (λ n f. tt) (λ n f. phase_back n f.1) (spells_code is_phase)
 
 -- a number between two others
 pub from_to : (low high n : ℕ) → is_from_to low high n ≡ true → (low ≤ n) × (n ≤ high)
@@ -84,7 +86,8 @@ bound_forth Force = refl
 spells_bound : Spells bound_at (λ b. one_byte (bound_code b)) (λ b. Unit {0})
 unfolding bound_at
 spells_bound =
-    spells_mapped bound_of bound_code (λ b. Unit {0}) (λ b u. bound_fits b) (λ b u. bound_forth b) (λ n f. tt) (λ n f. bound_back n f.1) (spells_code (is_from_to 1 2))
+    spells_mapped bound_of bound_code (λ b. Unit {0}) (λ b u. bound_fits b) (λ b u. bound_forth b) (λ n f. tt) (λ n f. bound_back n f.1)
+    (spells_code (is_from_to 1 2))
 
 what_back : (n : ℕ) → is_from_to 1 3 n ≡ true → what_code (what_of n) ≡ n
 what_back zero is = (let h = from_to 1 3 0 is in absurd (omega (arith, h.0)))
@@ -106,7 +109,8 @@ what_forth Far = refl
 spells_what : Spells what_at (λ w. one_byte (what_code w)) (λ w. Unit {0})
 unfolding what_at
 spells_what =
-    spells_mapped what_of what_code (λ w. Unit {0}) (λ w u. what_fits w) (λ w u. what_forth w) (λ n f. tt) (λ n f. what_back n f.1) (spells_code (is_from_to 1 3))
+    spells_mapped what_of what_code (λ w. Unit {0}) (λ w u. what_fits w) (λ w u. what_forth w) (λ n f. tt) (λ n f. what_back n f.1)
+    (spells_code (is_from_to 1 3))
 
 axis_back : (n : ℕ) → is_from_to 0 2 n ≡ true → axis_number (axis_of n) ≡ n
 axis_back zero is = refl
@@ -127,12 +131,14 @@ axis_forth Z = refl
 spells_axis : Spells axis_at (λ a. one_byte (axis_number a)) (λ a. Unit {0})
 unfolding axis_at
 spells_axis =
-    spells_mapped axis_of axis_number (λ a. Unit {0}) (λ a u. axis_fits a) (λ a u. axis_forth a) (λ n f. tt) (λ n f. axis_back n f.1) (spells_code (is_from_to 0 2))
+    spells_mapped axis_of axis_number (λ a. Unit {0}) (λ a u. axis_fits a) (λ a u. axis_forth a) (λ n f. tt) (λ n f. axis_back n f.1)
+    (spells_code (is_from_to 0 2))
 
 -- a cell
 abbrev FitsCell : Triple → List ℕ → Type 0
 FitsCell n l =
-    FitsU32 (is_below n.x) (triple l).x × (FitsU32 (is_below n.y) (triple l).y × (FitsU32 (is_below n.z) (triple l).z × (l ≡ three (triple l).x (triple l).y (triple l).z)))
+    FitsU32 (is_below n.x) (triple l).x × (FitsU32 (is_below n.y) (triple l).y × (FitsU32 (is_below n.z) (triple l).z × (l ≡ three (triple l).x (triple l).y
+    (triple l).z)))
 
 abbrev pub cell_text : List ℕ → List ℕ
 cell_text l = u32_bytes (triple l).x ++ (u32_bytes (triple l).y ++ u32_bytes (triple l).z)
@@ -189,7 +195,9 @@ FitsFieldStop l s =
     × (FitsPast (bound_limit (bound_in s)) (value_in s) × (s ≡ Field (phase_in s) (bound_in s) (axis_in s) (cell_in s) (value_in s))))))
 
 unfoldable pub field_stop_text : Stop → List ℕ
-field_stop_text s = one_byte (phase_code (phase_in s)) ++ (one_byte (bound_code (bound_in s)) ++ (one_byte (axis_number (axis_in s)) ++ (cell_text (cell_in s) ++ i128_bytes (value_in s))))
+field_stop_text s =
+    one_byte (phase_code (phase_in s)) ++ (one_byte (bound_code (bound_in s)) ++ (one_byte (axis_number (axis_in s)) ++ (cell_text (cell_in s)
+    ++ i128_bytes (value_in s))))
 
 pub spells_field_stop : (l : LayoutView) → Spells (field_stop_at l) field_stop_text (FitsFieldStop l)
 unfolding field_stop_at field_stop_text

@@ -36,7 +36,8 @@ pub moderate_more : (by : Multiplier) (f : Field) (a : Axis) (p : Triple) (i : �
 moderate_more by f a p i v w at inside is before here = rw (at, is) (each_set (IsModerate by) f.values i v inside before here)
 
 -- a field of moderate values is bounded
-pub bounded_from : (by : Multiplier) (f : Field) → length f.values ≡ 3 * count_of f.cells → ((k : ℕ) (d : ℤ) → k < length f.values → IsModerate by (get_or f.values k d)) → IsBounded by f
+pub bounded_from : (by : Multiplier) (f : Field) → length f.values ≡ 3 * count_of f.cells
+    → ((k : ℕ) (d : ℤ) → k < length f.values → IsModerate by (get_or f.values k d)) → IsBounded by f
 bounded_from by f shape all = bounded_of_values by f shape (λ k d below. (all k d below).value) (λ k d below. (all k d below).force)
 
 -- the energies depend on the values of the fields alone

@@ -18,7 +18,8 @@ use Rattle.pic_fields.proofs.SpellLaws.{FitsEach, spells_bind, spells_last, spel
 use Rattle.pic_fields.proofs.NumberLaws.{FitsU32, spells_u32, spells_u128, spells_i128}
 use Rattle.pic_dump.specs.DumpText.{values_bytes, position_bytes, velocity_bytes, particle_bytes, particles_bytes, energies_bytes}
 use Rattle.pic_reader.specs.Fields.{strong_value, out_of_range, wrong_energy, is_below, below, is_between}
-use Rattle.pic_reader.specs.FrameFields.{FrameView, is_moderate, value_at, field_at, coordinate_at, position_at, speed_at, velocity_at, particle_of, particle_at, particles_at, energy_at, energies_at, with_values, frame_of, state_at}
+use Rattle.pic_reader.specs.FrameFields.{FrameView, is_moderate, value_at, field_at, coordinate_at, position_at, speed_at, velocity_at, particle_of}
+use Rattle.pic_reader.specs.FrameFields.{particle_at, particles_at, energy_at, energies_at, with_values, frame_of, state_at}
 use Rattle.pic_reader.specs.Layout.{LayoutView, species_of}
 use Rattle.pic_reader.proofs.HeaderSpells.{FitsI32, spells_between}
 
@@ -111,7 +112,8 @@ energies kinetic electric magnetic = record { kinetic = kinetic; electric = elec
 
 abbrev FitsEnergies : Energies → Energies → Type 0
 FitsEnergies want e =
-    FitsEnergy want.kinetic e.kinetic × (FitsEnergy want.electric e.electric × (FitsEnergy want.magnetic e.magnetic × (e ≡ energies e.kinetic e.electric e.magnetic)))
+    FitsEnergy want.kinetic e.kinetic × (FitsEnergy want.electric e.electric × (FitsEnergy want.magnetic e.magnetic
+    × (e ≡ energies e.kinetic e.electric e.magnetic)))
 
 spells_energies : (want : Energies) → Spells (energies_at want) energies_bytes (FitsEnergies want)
 unfolding energies_at energies_bytes
@@ -129,7 +131,8 @@ abbrev pub FitsState : LayoutView → ℕ → FrameView → Type 0
 FitsState l step f =
     FitsField l.cells l.scales.e_force f.e
     × (FitsField l.cells l.scales.b_force f.b
-    × (FitsEach (FitsNext l) (sum l.counts) f.particles × (FitsEnergies (energies_in l f.e f.b f.particles) f.energies × (f ≡ frame_of step f.e f.b f.particles f.energies))))
+    × (FitsEach (FitsNext l) (sum l.counts) f.particles × (FitsEnergies (energies_in l f.e f.b f.particles) f.energies
+    × (f ≡ frame_of step f.e f.b f.particles f.energies))))
 
 unfoldable pub state_text : FrameView → List ℕ
 state_text f = values_bytes f.e ++ values_bytes f.b ++ particles_bytes f.particles ++ energies_bytes f.energies

@@ -47,6 +47,7 @@ heads_more hs h are room new =
       few = omega (arith, size, room);
       names = each_more (λ k. IsName k.name) hs h are.names new.name;
       kinds = each_more (λ k. IsKind k.kind) hs h are.kinds new.kind;
-      differ = λ i j less high. rw (get_or_append_left hs (h ∷ []) no_head i (omega (arith, less, high, size))) (differ_more hs h are.differ new.differs j high i less);
+      differ = λ i j less high. rw (get_or_append_left hs (h ∷ []) no_head i (omega (arith, less, high, size)))
+          (differ_more hs h are.differ new.differs j high i less);
       total = omega (arith, all, total);
     }

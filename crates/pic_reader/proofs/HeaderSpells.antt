@@ -1,5 +1,6 @@
 -- The spelling of a header.
-use Rattle.std.proofs.Common.{◌≡◌, ℕ, ℤ, zero, suc, ◌-◌, Bool, true, false, not, ◌&&◌, eqb, leb, pos, negsuc, List, [], ◌∷◌, ◌++◌, length, drop, replicate, refl, sym, ap, subst, ◌∙◌, arith, append_assoc, if◌then◌else◌}
+use Rattle.std.proofs.Common.{◌≡◌, ℕ, ℤ, zero, suc, ◌-◌, Bool, true, false, not, ◌&&◌, eqb, leb, pos, negsuc, List, [], ◌∷◌, ◌++◌}
+use Rattle.std.proofs.Common.{length, drop, replicate, refl, sym, ap, subst, ◌∙◌, arith, append_assoc, if◌then◌else◌}
 use Rattle.std.specs.Prelude.{codes}
 use Rattle.std.specs.List.{list_all, list_any}
 use Rattle.std.specs.Str.{bytes_eq}
@@ -16,13 +17,15 @@ use Rattle.pic_num.specs.Space.{Triple}
 use Rattle.pic_grid.specs.Species.{HeadView, is_name_byte}
 use Rattle.pic_fields.specs.Number.{is_from_to}
 use Rattle.pic_fields.specs.Spells.{IsBytes, Spells}
-use Rattle.pic_fields.proofs.SpellLaws.{IsField, FitsEach, spells_bind, spells_mapped, spells_last, spells_checked, spells_field, spells_each, spells_so, right_4, right_7}
+use Rattle.pic_fields.proofs.SpellLaws.{IsField, FitsEach, spells_bind, spells_mapped, spells_last, spells_checked}
+use Rattle.pic_fields.proofs.SpellLaws.{spells_field, spells_each, spells_so, right_4, right_7}
 use Rattle.pic_fields.proofs.NumberLaws.{FitsU32, spells_within, spells_i32, spells_exactly}
 use Rattle.pic_dump.specs.DumpText.{mult_bytes, scales_bytes, cells_bytes, front_bytes, name_bytes, kind_bytes, head_bytes, heads_bytes, header_bytes}
 use Rattle.pic_dump.specs.Header.{HeaderView}
 use Rattle.pic_dump.specs.Limits.{most_steps}
 use Rattle.pic_reader.specs.Fields.{out_of_limits, wrong_letter, is_between, between}
-use Rattle.pic_reader.specs.HeaderFields.{cells_at, mult_at, scales_at, kind_at, name_of, is_name_field, is_new_name_field, name_at, particles_of, head_at, heads_at, header_at}
+use Rattle.pic_reader.specs.HeaderFields.{cells_at, mult_at, scales_at, kind_at, name_of, is_name_field}
+use Rattle.pic_reader.specs.HeaderFields.{is_new_name_field, name_at, particles_of, head_at, heads_at, header_at}
 
 -- a signed number that passes a test
 abbrev pub FitsI32 : (ℤ → Bool) → ℤ → Type 0
@@ -62,7 +65,8 @@ cells_of x y z = record { x = x; y = y; z = z }
 abbrev FitsCells : Triple → Type 0
 FitsCells n =
     FitsU32 (is_from_to fewest_cells_of_axis most_cells_of_axis_1) n.x
-    × (FitsU32 (is_from_to fewest_cells_of_axis most_cells_of_axis_1) n.y × (FitsU32 (is_from_to fewest_cells_of_axis most_cells_of_axis_1) n.z × (n ≡ cells_of n.x n.y n.z)))
+    × (FitsU32 (is_from_to fewest_cells_of_axis most_cells_of_axis_1) n.y × (FitsU32 (is_from_to fewest_cells_of_axis most_cells_of_axis_1) n.z
+    × (n ≡ cells_of n.x n.y n.z)))
 
 spells_cells : Spells cells_at cells_bytes FitsCells
 unfolding cells_at cells_bytes
@@ -94,7 +98,8 @@ name_before : (bytes : List ℕ) → name_of bytes ++ drop (length (name_of byte
 name_before [] = refl
 name_before (b ∷ bytes) = go (eqb b 0) (name_before bytes)
   where
-    go : (v : Bool) → name_of bytes ++ drop (length (name_of bytes)) bytes ≡ bytes → (if v then [] else b ∷ name_of bytes) ++ drop (length (if v then [] else b ∷ name_of bytes)) (b ∷ bytes) ≡ b ∷ bytes
+    go : (v : Bool) → name_of bytes ++ drop (length (name_of bytes)) bytes ≡ bytes → (if v then [] else b ∷ name_of bytes)
+        ++ drop (length (if v then [] else b ∷ name_of bytes)) (b ∷ bytes) ≡ b ∷ bytes
     go true rest = refl
     go false rest = ap (λ l. b ∷ l) rest
 
@@ -193,10 +198,12 @@ FitsHeader h =
     × (FitsU32 (is_from_to 1 most_steps) h.every
     × (FitsScales h.scales × (FitsHeads h.species × (h ≡ header_of h.cells h.steps h.every h.scales h.species))))))
 
-in_parts : (h : HeaderView) → header_bytes h ≡ codes "PICDUMP1" ++ (cells_bytes h.cells ++ (u32_bytes h.steps ++ (u32_bytes h.every ++ (scales_bytes h.scales ++ counted_bytes h.species))))
+in_parts : (h : HeaderView) → header_bytes h ≡ codes "PICDUMP1" ++ (cells_bytes h.cells ++ (u32_bytes h.steps ++ (u32_bytes h.every ++ (scales_bytes h.scales
+    ++ counted_bytes h.species))))
 unfolding header_bytes front_bytes counted_bytes
 in_parts h =
-    right_7 (codes "PICDUMP1") (cells_bytes h.cells) (u32_bytes h.steps) (u32_bytes h.every) (scales_bytes h.scales) (u32_bytes (length h.species)) (heads_bytes h.species)
+    right_7 (codes "PICDUMP1") (cells_bytes h.cells) (u32_bytes h.steps) (u32_bytes h.every) (scales_bytes h.scales) (u32_bytes (length h.species))
+    (heads_bytes h.species)
 
 pub spells_header : Spells header_at header_bytes FitsHeader
 unfolding header_at

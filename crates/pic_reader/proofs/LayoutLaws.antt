@@ -37,8 +37,10 @@ layout_fits h are =
       steps = are.limits.steps_most;
       every_least = are.limits.every_least;
       every_most = are.limits.every_most;
-      masses = All-map HasMass (λ (s : HeadView). s.kind) h.species (All-from_get_or (λ (s : HeadView). HasMass s.kind) h.species no_head (λ i below. mass_of_kind _ (heads.kinds i below)));
-      charges = All-map (λ (k : Kind). IsAtMost k.charge most_charge) (λ (s : HeadView). s.kind) h.species (All-from_get_or (λ (s : HeadView). IsAtMost s.kind.charge most_charge) h.species no_head (λ i below. charge_of_kind _ (heads.kinds i below)));
+      masses = All-map HasMass (λ (s : HeadView). s.kind) h.species (All-from_get_or (λ (s : HeadView). HasMass s.kind) h.species no_head
+          (λ i below. mass_of_kind _ (heads.kinds i below)));
+      charges = All-map (λ (k : Kind). IsAtMost k.charge most_charge) (λ (s : HeadView). s.kind) h.species (All-from_get_or
+          (λ (s : HeadView). IsAtMost s.kind.charge most_charge) h.species no_head (λ i below. charge_of_kind _ (heads.kinds i below)));
       species = kinds ∙ sym counts;
       few = omega (arith, counts, few);
       total = omega (arith, sums, total);

@@ -1,6 +1,6 @@
 -- The next record, and the reader behind it.
 use Rattle.std.proofs.Common.{◌≡◌, ℕ, ◌+◌, ◌^◌, ◌<◌, ◌≤◌, true, false, eqb, List, Option, Some, None, Result, IsErrAnd, inl, inr, refl, arith}
-use Rattle.std.specs.Prelude.{IfSome}
+use Rattle.std.specs.Prelude.{IfSome, unwrap_or}
 use Rattle.std.proofs.lemmas.Bool.{cases_lt, lt-ltb, le-ltb, eqb-true, false≢true}
 use Rattle.std.proofs.lemmas.Result.{err_from_is_err_and}
 use Rattle.pic_io.specs.Told.{Told}
@@ -14,13 +14,13 @@ use Rattle.pic_reader.specs.declared.dump_reader.Next.{Next}
 use Rattle.pic_dump.specs.Due.{due_after}
 use Rattle.pic_reader.specs.Layout.{LayoutView}
 use Rattle.pic_reader.specs.FrameFields.{frame_at, frame_length}
-use Rattle.pic_reader.specs.EndFields.{or_zero, end_at}
+use Rattle.pic_reader.specs.EndFields.{end_at}
 use Rattle.pic_reader.specs.Records.{AFrame, is_tag, last_record, behind_tag, record_at}
 use Rattle.pic_reader.specs.Standing.{Standing, IsStanding, passed}
 use Rattle.pic_reader.specs.NextReads.{NextReads, most_of, record_most}
 
 -- what stands behind each mark
-pub of_frame : (l : LayoutView) (last due : Option ℕ) (tag : ℕ) → eqb tag 70 ≡ true → behind_tag l last due tag ≡ mapped AFrame (frame_at l (or_zero due))
+pub of_frame : (l : LayoutView) (last due : Option ℕ) (tag : ℕ) → eqb tag 70 ≡ true → behind_tag l last due tag ≡ mapped AFrame (frame_at l (unwrap_or due 0))
 unfolding behind_tag
 of_frame l last due tag is = rw is refl
 
@@ -43,7 +43,7 @@ next_exits r {res = res} less is stops =
     rw (q.1, q.2) (record { answer = stops_up less stops })
 
 -- a frame's mark stands only where a frame is due
-pub due_is : (due last : Option ℕ) (tag : ℕ) → is_tag due last tag ≡ true → eqb tag 70 ≡ true → due ≡ Some (or_zero due)
+pub due_is : (due last : Option ℕ) (tag : ℕ) → is_tag due last tag ≡ true → eqb tag 70 ≡ true → due ≡ Some (unwrap_or due 0)
 due_is None None tag passes frame = absurd (false≢true passes)
 due_is None (Some s) tag passes frame = absurd (two_marks tag passes frame)
 due_is (Some step) last tag passes frame = refl
@@ -60,20 +60,21 @@ most_frame l (Some step) last tag passes frame = refl
 
 -- a frame that may stand there comes after the last one
 pub frame_after : (steps every : ℕ) (last : Option ℕ) (tag : ℕ) → 1 ≤ every → is_tag (due_after steps every last) last tag ≡ true → eqb tag 70 ≡ true
-    → passed last ≤ or_zero (due_after steps every last)
+    → passed last ≤ unwrap_or (due_after steps every last) 0
 frame_after steps every None tag least passes frame = omega arith
 frame_after steps every (Some s) tag least passes frame = elim (cases_lt s steps) [
   | inl less ↦ rw (lt-ltb s steps less) (omega (arith, less, least))
   | inr over ↦ (let none = rw (le-ltb s steps over) at passes in absurd (two_marks tag none frame))
 ]
 
-pub or_zero_most : (due : Option ℕ) (n : ℕ) → IfSome due (λ step. step ≤ n) → or_zero due ≤ n
-or_zero_most None n most = omega arith
-or_zero_most (Some step) n most = most
+pub due_most : (due : Option ℕ) (n : ℕ) → IfSome due (λ step. step ≤ n) → unwrap_or due 0 ≤ n
+due_most None n most = omega arith
+due_most (Some step) n most = most
 
 -- the reader behind a frame
-pub stands_behind : (r : Standing) (tag count : ℕ) → IsStanding r → count < 2 ^ 29 → is_tag (due_after r.layout.steps r.layout.every r.last) r.last tag ≡ true → eqb tag 70 ≡ true
-    → (step : ℕ) → step ≡ or_zero (due_after r.layout.steps r.layout.every r.last) → step ≤ r.layout.steps
+pub stands_behind : (r : Standing) (tag count : ℕ) → IsStanding r → count < 2 ^ 29 → is_tag (due_after r.layout.steps r.layout.every r.last) r.last tag ≡ true
+    → eqb tag 70 ≡ true
+    → (step : ℕ) → step ≡ unwrap_or (due_after r.layout.steps r.layout.every r.last) 0 → step ≤ r.layout.steps
     → IsStanding (record { layout = r.layout; place = r.place + 1 + count; last = Some step })
 stands_behind r tag count stands small passes frame step is most =
     let later = frame_after r.layout.steps r.layout.every r.last tag stands.layout.every_least passes frame in

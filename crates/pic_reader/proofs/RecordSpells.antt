@@ -1,6 +1,7 @@
 -- The spelling of a record: of every frame and every end record that a header allows, whatever its step.
-use Rattle.std.proofs.Common.{◌≡◌, ℕ, zero, suc, ◌<◌, ◌^◌, Bool, true, false, ◌||◌, ◌&&◌, eqb, pos, List, [], ◌∷◌, ◌++◌, Option, Some, None, Ok, refl, sym, ap, subst, ◌∙◌, arith, append_assoc, inl, inr, if◌then◌else◌}
-use Rattle.std.specs.Prelude.{nat_eq, is_some}
+use Rattle.std.proofs.Common.{◌≡◌, ℕ, zero, suc, ◌<◌, ◌^◌, Bool, true, false, ◌||◌, ◌&&◌, eqb, pos, List, [], ◌∷◌, ◌++◌, Option, Some}
+use Rattle.std.proofs.Common.{None, Ok, refl, sym, ap, subst, ◌∙◌, arith, append_assoc, inl, inr, if◌then◌else◌}
+use Rattle.std.specs.Prelude.{nat_eq, is_some, unwrap_or}
 use Rattle.std.proofs.lemmas.Bool.{eqb-true, and_parts}
 use Rattle.pic_num.specs.declared.motion.What.TheVariants.{Speed}
 use Rattle.pic_num.specs.declared.axis.Axis.TheVariants.{X}
@@ -17,15 +18,17 @@ use Rattle.pic_fields.proofs.ReadLaws.{then_ok}
 use Rattle.pic_fields.proofs.SpellLaws.{spells_bind, spells_last, spells_checked, spells_so, bind_parts, passed_test, passes_test, same_read, right_5}
 use Rattle.pic_fields.proofs.NumberLaws.{one_byte, spells_byte, spells_u32}
 use Rattle.pic_dump.specs.Due.{due_after}
-use Rattle.pic_dump.specs.DumpText.{phase_code, bound_code, what_code, start_bytes, state_bytes, frame_bytes, values_bytes, particles_bytes, energies_bytes, done_bytes, field_stop_bytes, push_stop_bytes, end_bytes}
+use Rattle.pic_dump.specs.DumpText.{phase_code, bound_code, what_code, start_bytes, state_bytes, frame_bytes, values_bytes}
+use Rattle.pic_dump.specs.DumpText.{particles_bytes, energies_bytes, done_bytes, field_stop_bytes, push_stop_bytes, end_bytes}
 use Rattle.pic_reader.specs.Fields.{wrong_end, wrong_tag, wrong_step, the_step}
 use Rattle.pic_reader.specs.FrameFields.{FrameView, state_at, frame_at}
-use Rattle.pic_reader.specs.EndFields.{code_at, is_kind, first_after, or_zero, field_stop_at, push_stop_at, done_at, field_end_at, push_end_at, end_of_kind, end_at}
+use Rattle.pic_reader.specs.EndFields.{code_at, is_kind, first_after, field_stop_at, push_stop_at, done_at, field_end_at, push_end_at, end_of_kind, end_at}
 use Rattle.pic_reader.specs.Records.{RecordView, AFrame, AnEnd, is_tag, last_record, behind_tag, record_at}
 use Rattle.pic_reader.specs.Layout.{LayoutView}
 use Rattle.pic_reader.specs.Spelling.{record_bytes}
 use Rattle.pic_reader.proofs.FrameSpells.{FitsState, state_text, spells_state}
-use Rattle.pic_reader.proofs.EndSpells.{FitsByte, FitsFieldStop, FitsPushStop, field_stop_text, push_stop_text, spells_code, spells_field_stop, spells_push_stop, from_to, or_true}
+use Rattle.pic_reader.proofs.EndSpells.{FitsByte, FitsFieldStop, FitsPushStop, field_stop_text, push_stop_text}
+use Rattle.pic_reader.proofs.EndSpells.{spells_code, spells_field_stop, spells_push_stop, from_to, or_true}
 
 -- the parts of an end mark; a run that is done has no stop
 abbrev steps_in : EndMark → ℕ
@@ -217,8 +220,10 @@ grouped : (u p b a x y z v : List ℕ) → u ++ (p ++ (b ++ (a ++ (x ++ (y ++ (z
 grouped u p b a x y z v = ap (λ l. u ++ (p ++ (b ++ (a ++ l)))) (sym (append_assoc x (y ++ z) v ∙ ap (λ l. x ++ l) (append_assoc y z v)))
 
 record_text : (l : LayoutView) (r : RecordView) → record_bytes l r ≡ one_byte (tag_in r) ++ behind_text r
-unfolding behind_text frame_text end_text state_text rest_text frame_bytes start_bytes state_bytes end_bytes done_bytes field_stop_bytes push_stop_bytes field_stop_text push_stop_text
-record_text l (AFrame f) = ap (λ t. 70 ∷ t) (append_assoc (u32_bytes f.step) (values_bytes f.e ++ values_bytes f.b ++ particles_bytes f.particles) (energies_bytes f.energies))
+unfolding behind_text frame_text end_text state_text rest_text frame_bytes start_bytes state_bytes end_bytes done_bytes field_stop_bytes push_stop_bytes
+    field_stop_text push_stop_text
+record_text l (AFrame f) =
+    ap (λ t. 70 ∷ t) (append_assoc (u32_bytes f.step) (values_bytes f.e ++ values_bytes f.b ++ particles_bytes f.particles) (energies_bytes f.energies))
 record_text l (AnEnd (Done steps)) = refl
 record_text l (AnEnd (Stopped step (Field phase bound axis cell value))) =
     let u = u32_bytes step in
@@ -237,7 +242,8 @@ pub spells_record : (l : LayoutView) → Spells (any_record_at l) (record_bytes 
 unfolding any_record_at
 spells_record l =
     spells_so (λ r f. f) (λ r f. f) (λ r f. record_text l r)
-    (spells_bind tag_in (λ tag r f g. tag_is l tag (eqb tag 70) r refl f.1 g) (spells_checked wrong_tag is_mark spells_byte) (λ tag. spells_behind l (eqb tag 70)))
+    (spells_bind tag_in (λ tag r f g. tag_is l tag (eqb tag 70) r refl f.1 g) (spells_checked wrong_tag is_mark spells_byte) (λ tag. spells_behind l
+    (eqb tag 70)))
 
 -- What a dump's reader takes for a record is one of these.
 both_ok : {A B : Type 0} (p : Parser A) (f : A → Parser B) (i j k : Input) (a : A) (b : B) → p i ≡ Ok (a, j) → f a j ≡ Ok (b, k) → (p >>= f) i ≡ Ok (b, k)
@@ -279,10 +285,12 @@ done_any l i j r is =
     let (value, here) = last_is (Done s) r k j e2 in
     (Done s, value, both_ok u32_at (λ steps. done (Done steps)) i k j s (Done s) read (ap (λ n. Ok (Done s, n)) here))
 
-field_any : (l : LayoutView) (low high : ℕ) (i j : Input) (r : RecordView) → field_end_at l low high last_record i ≡ Ok (r, j) → (m : EndMark) × (AnEnd m ≡ r) × (field_rest_at l i ≡ Ok (m, j))
+field_any : (l : LayoutView) (low high : ℕ) (i j : Input) (r : RecordView) → field_end_at l low high last_record i ≡ Ok (r, j) → (m : EndMark) × (AnEnd m ≡ r)
+    × (field_rest_at l i ≡ Ok (m, j))
 unfolding field_end_at within field_rest_at done
 field_any l low high i j r is =
-    let (s, k, e1, e2) = bind_parts (checked wrong_step (is_from_to low high) u32_at) (λ step. field_stop_at l >>= (λ stop. last_record (Stopped step stop))) i j r is in
+    let (s, k, e1, e2) = bind_parts (checked wrong_step (is_from_to low high) u32_at) (λ step. field_stop_at l >>= (λ stop. last_record (Stopped step stop))) i
+    j r is in
     let (read, good, other) = tested_so wrong_step (is_from_to low high) (λ n. true) u32_at i k s e1 in
     let (stop, n, e3, e4) = bind_parts (field_stop_at l) (λ stop. last_record (Stopped s stop)) k j r e2 in
     let (value, here) = last_is (Stopped s stop) r n j e4 in (
@@ -292,10 +300,12 @@ field_any l low high i j r is =
           (both_ok (field_stop_at l) (λ stop. done (Stopped s stop)) k n j stop (Stopped s stop) e3 (ap (λ m. Ok (Stopped s stop, m)) here)),
     )
 
-push_any : (l : LayoutView) (low high : ℕ) (i j : Input) (r : RecordView) → push_end_at l low high last_record i ≡ Ok (r, j) → (m : EndMark) × (AnEnd m ≡ r) × (push_rest_at l i ≡ Ok (m, j))
+push_any : (l : LayoutView) (low high : ℕ) (i j : Input) (r : RecordView) → push_end_at l low high last_record i ≡ Ok (r, j) → (m : EndMark) × (AnEnd m ≡ r)
+    × (push_rest_at l i ≡ Ok (m, j))
 unfolding push_end_at within push_rest_at done
 push_any l low high i j r is =
-    let (s, k, e1, e2) = bind_parts (checked wrong_step (is_from_to low high) u32_at) (λ step. push_stop_at l >>= (λ stop. last_record (Stopped step stop))) i j r is in
+    let (s, k, e1, e2) = bind_parts (checked wrong_step (is_from_to low high) u32_at) (λ step. push_stop_at l >>= (λ stop. last_record (Stopped step stop))) i
+    j r is in
     let (read, good, other) = tested_so wrong_step (is_from_to low high) (λ n. true) u32_at i k s e1 in
     let (stop, n, e3, e4) = bind_parts (push_stop_at l) (λ stop. last_record (Stopped s stop)) k j r e2 in
     let (value, here) = last_is (Stopped s stop) r n j e4 in (
@@ -306,7 +316,8 @@ push_any l low high i j r is =
     )
 
 of_kind_any : (l : LayoutView) (low high : ℕ) (v w : Bool) (i j : Input) (r : RecordView)
-    → (if v then done_at l last_record else (if w then field_end_at l low high last_record else push_end_at l low high last_record)) i ≡ Ok (r, j) → EndRead l v w i r j
+    → (if v then done_at l last_record else (if w then field_end_at l low high last_record else push_end_at l low high last_record)) i ≡ Ok (r, j)
+    → EndRead l v w i r j
 of_kind_any l low high true w i j r is = done_any l i j r is
 of_kind_any l low high false true i j r is = field_any l low high i j r is
 of_kind_any l low high false false i j r is = push_any l low high i j r is
@@ -318,20 +329,21 @@ kind_small (Some due) kind is = elim (or_true (eqb kind 1) (eqb kind 2) is) [
   | inr two ↦ (let e = eqb-true kind 2 two in rw e refl)
 ]
 
-end_any : (l : LayoutView) (last due : Option ℕ) (i j : Input) (r : RecordView) → end_at l last due last_record i ≡ Ok (r, j) → (m : EndMark) × (AnEnd m ≡ r) × (end_kind_at l i ≡ Ok (m, j))
+end_any : (l : LayoutView) (last due : Option ℕ) (i j : Input) (r : RecordView) → end_at l last due last_record i ≡ Ok (r, j) → (m : EndMark) × (AnEnd m ≡ r)
+    × (end_kind_at l i ≡ Ok (m, j))
 unfolding end_at end_of_kind end_kind_at code_at
 end_any l last due i j r is =
-    let (kind, k, e1, e2) = bind_parts (checked wrong_end (is_kind due) byte_at) (end_of_kind l (first_after last) (or_zero due) last_record) i j r is in
+    let (kind, k, e1, e2) = bind_parts (checked wrong_end (is_kind due) byte_at) (end_of_kind l (first_after last) (unwrap_or due 0) last_record) i j r is in
     let (read, good, other) = tested_so wrong_end (is_kind due) (is_from_to 0 2) byte_at i k kind e1 in
-    let (m, value, rest) = of_kind_any l (first_after last) (or_zero due) (eqb kind 0) (eqb kind 1) k j r e2 in
+    let (m, value, rest) = of_kind_any l (first_after last) (unwrap_or due 0) (eqb kind 0) (eqb kind 1) k j r e2 in
     (m, value, both_ok (checked wrong_end (is_from_to 0 2) byte_at) (λ n. rest_at l (eqb n 0) (eqb n 1)) i k j kind m (other (kind_small due kind good)) rest)
 
 behind_any : (l : LayoutView) (last due : Option ℕ) (v : Bool) (i j : Input) (r : RecordView)
-    → (if v then mapped AFrame (frame_at l (or_zero due)) else end_at l last due last_record) i ≡ Ok (r, j) → behind_at l v i ≡ Ok (r, j)
+    → (if v then mapped AFrame (frame_at l (unwrap_or due 0)) else end_at l last due last_record) i ≡ Ok (r, j) → behind_at l v i ≡ Ok (r, j)
 unfolding mapped done
 behind_any l last due true i j r is =
-    let (f, k, e1, e2) = bind_parts (frame_at l (or_zero due)) (λ f. done (AFrame f)) i j r is in
-    both_ok (frame_step_at l) (λ f. done (AFrame f)) i k j f r (frame_any l (or_zero due) i k f e1) e2
+    let (f, k, e1, e2) = bind_parts (frame_at l (unwrap_or due 0)) (λ f. done (AFrame f)) i j r is in
+    both_ok (frame_step_at l) (λ f. done (AFrame f)) i k j f r (frame_any l (unwrap_or due 0) i k f e1) e2
 behind_any l last due false i j r is =
     let (m, value, read) = end_any l last due i j r is in
     both_ok (end_kind_at l) (λ m. done (AnEnd m)) i j j m r read (ap (λ s. Ok (s, j)) value)
@@ -348,4 +360,5 @@ record_any l last i j r is =
     let due = due_after l.steps l.every last in
     let (tag, k, e1, e2) = bind_parts (checked wrong_tag (is_tag due last) byte_at) (behind_tag l last due) i j r is in
     let (read, good, other) = tested_so wrong_tag (is_tag due last) is_mark byte_at i k tag e1 in
-    both_ok (checked wrong_tag is_mark byte_at) (λ n. behind_at l (eqb n 70)) i k j tag r (other (mark_any due last tag good)) (behind_any l last due (eqb tag 70) k j r e2)
+    both_ok (checked wrong_tag is_mark byte_at) (λ n. behind_at l (eqb n 70)) i k j tag r (other (mark_any due last tag good)) (behind_any l last due
+    (eqb tag 70) k j r e2)

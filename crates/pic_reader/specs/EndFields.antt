@@ -1,5 +1,5 @@
 -- The end record of a dump, field by field: this project's profile.
-use Rattle.std.specs.Prelude.{ℤ, ℕ, suc, ◌||◌, Bool, nat_lt, nat_eq, unsigned_abs, if◌then◌else◌, List, [], ◌∷◌, sum, Option, Some, None}
+use Rattle.std.specs.Prelude.{ℤ, ℕ, suc, ◌||◌, Bool, nat_lt, nat_eq, unsigned_abs, if◌then◌else◌, List, [], ◌∷◌, sum, Option, Some, None, unwrap_or}
 use Rattle.pic_num.specs.declared.motion.What.{What}
 use Rattle.pic_num.specs.declared.motion.What.TheVariants.{Speed, Turn, Far}
 use Rattle.pic_num.specs.declared.axis.Axis.{Axis}
@@ -95,10 +95,6 @@ abbrev pub first_after : Option ℕ → ℕ
 first_after None = 1
 first_after (Some last) = suc last
 
-abbrev pub or_zero : Option ℕ → ℕ
-or_zero None = 0
-or_zero (Some step) = step
-
 -- a run that is done; `next` is what follows the record
 unfoldable pub done_at : {A : Type 0} → LayoutView → (EndMark → Parser A) → Parser A
 done_at l next = the_step l.steps >>= (λ steps. next (Done steps))
@@ -117,4 +113,4 @@ end_of_kind l low high next kind =
 
 -- the end record, behind its mark
 unfoldable pub end_at : {A : Type 0} → LayoutView → Option ℕ → Option ℕ → (EndMark → Parser A) → Parser A
-end_at l last due next = code_at (is_kind due) >>= end_of_kind l (first_after last) (or_zero due) next
+end_at l last due next = code_at (is_kind due) >>= end_of_kind l (first_after last) (unwrap_or due 0) next

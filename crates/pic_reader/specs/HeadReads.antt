@@ -18,5 +18,6 @@ HeadAnswers view p start end most before now (Err NoMemory) = Starves start most
 
 -- the value and where it ends, or the first fault, or a read failed, or want of memory; none of these
 -- took a byte beyond `most`
-pub record HeadReads {A B : Type 0} (view : B → A) (p : Parser A) (start : ℕ) (end : A → ℕ) (most : ℕ) (before now : Told) (result : Result B HeadStop) : Type 0 where
+pub record HeadReads {A B : Type 0} (view : B → A) (p : Parser A) (start : ℕ) (end : A → ℕ) (most : ℕ) (before now : Told) (result : Result B HeadStop) : Type
+    0 where
   pub answer : HeadAnswers view p start end most before now result

@@ -1,5 +1,6 @@
 -- The header of a dump, field by field: this project's profile.
-use Rattle.std.specs.Prelude.{◌≡◌, pos, negsuc, ℕ, ◌-◌, ◌+◌, ◌<◌, ◌≤◌, Bool, not, ◌&&◌, ◌==◌, nat_eq, nat_le, if◌then◌else◌, bytes_eq, List, [], ◌∷◌, length, drop, sum_by, slice_index_or, codes}
+use Rattle.std.specs.Prelude.{◌≡◌, pos, negsuc, ℕ, ◌-◌, ◌+◌, ◌<◌, ◌≤◌, Bool, not, ◌&&◌, ◌==◌, nat_eq, nat_le, if◌then◌else◌}
+use Rattle.std.specs.Prelude.{bytes_eq, List, [], ◌∷◌, length, drop, sum_by, slice_index_or, codes}
 use Rattle.std.specs.List.{list_all, list_any}
 use Rattle.pic_num.specs.declared.motion.Kind.{Kind}
 use Rattle.pic_num.specs.declared.mult.Scales.{Scales}

@@ -5,13 +5,13 @@ use Rattle.pic_num.specs.declared.mult.Scales.{Scales}
 use Rattle.pic_num.specs.Limits.{least_side, most_side, most_species, most_particles, most_charge}
 use Rattle.pic_num.specs.Sizes.{IsAtMost}
 use Rattle.pic_num.specs.Space.{Triple}
-use Rattle.pic_grid.specs.Cells.{IsCells}
+use Rattle.pic_grid.specs.Cells.{Grid, IsCells}
 use Rattle.pic_energy.specs.Energies.{HasMass}
 use Rattle.pic_dump.specs.Header.{HeaderView}
 use Rattle.pic_dump.specs.Limits.{most_steps}
 
--- the numbers of cells, the side of a cell, the steps, after how many of them a frame is due, the multipliers, and the
--- kinds and the numbers of particles of the species
+-- the numbers of cells, the side of a cell, the steps, after how many of them a frame is due, the
+-- multipliers, and the kinds and the numbers of particles of the species
 pub record LayoutView : Type 0 where
   pub cells : Triple
   pub side : ℕ
@@ -20,6 +20,18 @@ pub record LayoutView : Type 0 where
   pub scales : Scales
   pub kinds : List Kind
   pub counts : List ℕ
+
+-- the layout of these parts
+abbrev pub layout_with : Grid → ℕ → ℕ → Scales → List Kind → List ℕ → LayoutView
+layout_with grid steps every scales kinds counts = record {
+  cells = grid.n;
+  side = grid.side;
+  steps = steps;
+  every = every;
+  scales = scales;
+  kinds = kinds;
+  counts = counts;
+}
 
 -- that of a header
 abbrev pub layout_of : HeaderView → LayoutView

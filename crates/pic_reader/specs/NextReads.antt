@@ -15,7 +15,8 @@ use Rattle.pic_reader.specs.Records.{AFrame, AnEnd, record_at}
 use Rattle.pic_reader.specs.Standing.{Standing, passed}
 
 -- a frame was read, of a step after the last one's and among the steps, and the reader stands behind it
-pub record HasFrame (r : Standing) (before now : Told) (e b : Field) (particles : List Particle) (behind : Standing) (step : ℕ) (energies : Energies) : Type 0 where
+pub record HasFrame (r : Standing) (before now : Told) (e b : Field) (particles : List Particle) (behind : Standing) (step : ℕ)
+    (energies : Energies) : Type 0 where
   pub read : HasRead (record_at r.layout r.last) r.place before (AFrame (frame_of step e.values b.values particles energies)) behind.place now
   pub layout : behind.layout ≡ r.layout
   pub place : behind.place ≡ r.place + (1 + frame_length r.layout)

@@ -1,5 +1,5 @@
 -- The records of a dump behind its header: frames, and then one end record.
-use Rattle.std.specs.Prelude.{ℕ, ◌&&◌, ◌||◌, Bool, nat_eq, if◌then◌else◌, is_some, Option}
+use Rattle.std.specs.Prelude.{ℕ, ◌&&◌, ◌||◌, Bool, nat_eq, if◌then◌else◌, is_some, Option, unwrap_or}
 use Rattle.pic_grid.specs.declared.stop.EndMark.{EndMark}
 use Rattle.pic_fields.specs.Parser.{Parser, ◌>>=◌, checked, mapped, finished}
 use Rattle.pic_fields.specs.Number.{byte_at}
@@ -7,7 +7,7 @@ use Rattle.pic_dump.specs.Due.{due_after}
 use Rattle.pic_reader.specs.Fields.{wrong_tag}
 use Rattle.pic_reader.specs.Layout.{LayoutView}
 use Rattle.pic_reader.specs.FrameFields.{FrameView, frame_at}
-use Rattle.pic_reader.specs.EndFields.{or_zero, end_at}
+use Rattle.pic_reader.specs.EndFields.{end_at}
 
 -- a frame, or the end record
 pub data RecordView : Type 0 where
@@ -24,7 +24,7 @@ last_record end = finished (AnEnd end)
 
 -- what stands behind a record's mark
 unfoldable pub behind_tag : LayoutView → Option ℕ → Option ℕ → ℕ → Parser RecordView
-behind_tag l last due tag = if nat_eq tag 70 then mapped AFrame (frame_at l (or_zero due)) else end_at l last due last_record
+behind_tag l last due tag = if nat_eq tag 70 then mapped AFrame (frame_at l (unwrap_or due 0)) else end_at l last due last_record
 
 -- the record after the frame of a step, or after the header
 unfoldable pub record_at : LayoutView → Option ℕ → Parser RecordView

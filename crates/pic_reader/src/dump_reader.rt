@@ -13,7 +13,7 @@ ghost use Rattle.pic_reader.specs.NextReads.{NextReads, IsBehind};
 ghost use Rattle.pic_reader.specs.Records.{is_tag};
 
 use crate::due::due_after;
-use crate::end_reader::{is_code, or_zero, read_end_record};
+use crate::end_reader::read_end_record;
 use crate::frame_reader::read_frame;
 use crate::head_reader::read_header;
 use crate::head_stop::HeadStop;
@@ -51,7 +51,8 @@ impl Model for DumpReader {
 
     ghost view = { λ r. record { layout = r.layout; place = r.place; last = r.last } };
 
-    ghost invariant = { λ r. IsStanding (record { layout = r.layout; place = r.place; last = r.last }) };
+    ghost invariant = { λ r. IsStanding
+        (record { layout = r.layout; place = r.place; last = r.last }) };
 }
 
 /// The next record of a dump.
@@ -67,8 +68,13 @@ pub enum Next {
 impl DumpReader {
     /// Reads the header, and answers it with a reader that stands behind it.
     pub fn head<S: Source>(alloc: Global, source: &mut S) -> Result<(DumpReader, Header), HeadStop>
-        ensures reads { HeadReads (λ r. r.1) header_at 0 (λ h. 64 + 60 * length h.species) header_most (S.told source.old) (S.told source.new) result }
-        ensures stands { IfOk result (λ r. r.0 ≡ record { layout = layout_of r.1; place = 64 + 60 * length r.1.species; last = None }) }
+        ensures reads { HeadReads (λ r. r.1) header_at 0 (λ h. 64 + 60 * length h.species)
+            header_most (S.told source.old) (S.told source.new) result }
+        ensures stands { IfOk result (λ r. r.0 ≡ record {
+          layout = layout_of r.1;
+          place = 64 + 60 * length r.1.species;
+          last = None;
+        }) }
     {
         let header = read_header(alloc, source)?;
         let reader = DumpReader::behind(alloc, &header)?;
@@ -77,7 +83,11 @@ impl DumpReader {
 
     // A reader that stands behind a header.
     fn behind(alloc: Global, header: &Header) -> Result<DumpReader, pic_num::NoMemory>
-        ensures { IfOk result (λ r. r ≡ record { layout = layout_of header.now; place = 64 + 60 * length header.now.species; last = None }) }
+        ensures { IfOk result (λ r. r ≡ record {
+          layout = layout_of header.now;
+          place = 64 + 60 * length header.now.species;
+          last = None;
+        }) }
     {
         let place = 64 + 60 * header.species().as_slice().len() as u64;
         let layout = Layout::of_header(alloc, header)?;
@@ -90,9 +100,12 @@ impl DumpReader {
 
     /// Room for the frames of this dump: a snapshot with its numbers of cells and particles.
     pub fn room(&self, alloc: Global) -> Result<Snapshot, pic_num::NoMemory>
-        ensures e { IfOk result (λ s. (s.e.cells ≡ self.now.layout.cells) × (s.e.side ≡ self.now.layout.side)) }
-        ensures b { IfOk result (λ s. (s.b.cells ≡ self.now.layout.cells) × (s.b.side ≡ self.now.layout.side)) }
-        ensures particles { IfOk result (λ s. length s.particles.items ≡ sum self.now.layout.counts) }
+        ensures e { IfOk result (λ s. (s.e.cells ≡ self.now.layout.cells)
+            × (s.e.side ≡ self.now.layout.side)) }
+        ensures b { IfOk result (λ s. (s.b.cells ≡ self.now.layout.cells)
+            × (s.b.side ≡ self.now.layout.side)) }
+        ensures particles { IfOk result (λ s. length s.particles.items
+            ≡ sum self.now.layout.counts) }
     {
         Snapshot::new(alloc, self.layout.cells(), self.layout.particles())
     }
@@ -114,14 +127,17 @@ impl DumpReader {
         self.layout.kinds()
     }
 
-    /// Reads the next record: a frame into the snapshot, or the end record and the end of the input.
+    /// Reads the next record: a frame into the snapshot, or the end record and the end of the
+    /// input.
     ///
-    /// The snapshot has the header's numbers of cells and particles. At an error the reader is gone.
+    /// The snapshot has the header's numbers of cells and particles. At an error the reader is
+    /// gone.
     pub fn next<S: Source>(self, source: &mut S, state: &mut Snapshot) -> Result<Next, ReadStop>
         requires e { state.old.e.cells ≡ self.layout.cells }
         requires b { state.old.b.cells ≡ self.layout.cells }
         requires particles { length state.old.particles.items ≡ sum self.layout.counts }
-        ensures reads { NextReads self (S.told source.old) (S.told source.new) state.new.e state.new.b state.new.particles.items result }
+        ensures reads { NextReads self (S.told source.old) (S.told source.new)
+            state.new.e state.new.b state.new.particles.items result }
         ensures behind { IfOk result (λ n. IsBehind self n) }
         ensures e { IsSameShape state.old.e state.new.e }
         ensures b { IsSameShape state.old.b state.new.b }
@@ -135,8 +151,8 @@ impl DumpReader {
         let due = due_after(layout.steps(), layout.every(), last);
         let second = place + 1;
         let tag = read_tag(source, place, due, last)?;
-        if is_code(tag, FRAME) {
-            let step = or_zero(due);
+        if tag == FRAME {
+            let step = due.unwrap_or(0);
             let energies = read_frame(source, second, &layout, step, state)?;
             let place = second + frame_length(&layout);
             let reader = DumpReader {
@@ -159,7 +175,8 @@ fn read_tag<S: Source>(
     last: Option<u32>,
 ) -> Result<u8, ReadStop>
     requires { place + 1 < 2 ^ 63 }
-    ensures reads { Reads as_it_is (checked wrong_tag (is_tag due last) byte_at) place (place + 1) (S.told source.old) (S.told source.new) result }
+    ensures reads { Reads as_it_is (checked wrong_tag (is_tag due last) byte_at) place (place + 1)
+        (S.told source.old) (S.told source.new) result }
     ensures passes { IfOk result (λ tag. IsTrue (is_tag due last tag)) }
 {
     let tag = read_byte(source, place)?;

@@ -1,11 +1,11 @@
 //! The end record of a dump, read.
 
-ghost use Rattle.std.specs.Prelude.{◌≡◌, ℕ, List, ◌+◌, ◌-◌, ◌*◌, ◌<◌, ◌≤◌, ◌^◌, nat_eq, sum, Option, IfOk, IfSome};
+ghost use Rattle.std.specs.Prelude.{◌≡◌, ℕ, List, ◌+◌, ◌-◌, ◌*◌, ◌<◌, ◌≤◌, ◌^◌, sum, Option, IfOk, IfSome};
 ghost use Rattle.pic_num.specs.Space.{triple};
 ghost use Rattle.pic_grid.specs.Cells.{IsWithin, axis_of};
 ghost use Rattle.pic_fields.specs.Number.{is_from_to};
 ghost use Rattle.pic_fields.specs.Reads.{Reads, ReadsEnd, as_it_is};
-ghost use Rattle.pic_reader.specs.EndFields.{code_at, below_at, is_phase, phase_of, bound_of, what_of, phase_at, bound_at, what_at, axis_at, cell_at, bound_limit, what_limit, is_past, past_at, field_stop_at, push_stop_at, is_kind, first_after, or_zero, done_at, field_end_at, push_end_at, end_at};
+ghost use Rattle.pic_reader.specs.EndFields.{code_at, below_at, is_phase, phase_of, bound_of, what_of, phase_at, bound_at, what_at, axis_at, cell_at, bound_limit, what_limit, is_past, past_at, field_stop_at, push_stop_at, is_kind, first_after, done_at, field_end_at, push_end_at, end_at};
 ghost use Rattle.pic_reader.specs.Records.{RecordView, AnEnd, last_record};
 
 use crate::frame_reader::{read_below, read_step};
@@ -24,7 +24,8 @@ const WRONG_END: u8 = 8;
 // Reads a byte from `low` to `high`.
 fn read_code<S: Source>(source: &mut S, place: u64, low: u8, high: u8) -> Result<u8, ReadStop>
     requires { place + 1 < 2 ^ 63 }
-    ensures reads { Reads as_it_is (code_at (is_from_to low high)) place (place + 1) (S.told source.old) (S.told source.new) result }
+    ensures reads { Reads as_it_is (code_at (is_from_to low high)) place (place + 1)
+        (S.told source.old) (S.told source.new) result }
     ensures low { IfOk result (λ n. low ≤ n) }
     ensures high { IfOk result (λ n. n ≤ high) }
 {
@@ -46,7 +47,8 @@ fn is_from_to(low: u8, high: u8, n: u8) -> bool
 
 fn read_phase<S: Source>(source: &mut S, place: u64) -> Result<Phase, ReadStop>
     requires { place + 1 < 2 ^ 63 }
-    ensures { Reads as_it_is phase_at place (place + 1) (S.told source.old) (S.told source.new) result }
+    ensures { Reads as_it_is phase_at place (place + 1) (S.told source.old)
+        (S.told source.new) result }
 {
     let n = read_byte(source, place)?;
     if !is_phase(n) {
@@ -78,7 +80,8 @@ fn phase_of(n: u8) -> Phase
 
 fn read_bound<S: Source>(source: &mut S, place: u64) -> Result<Bound, ReadStop>
     requires { place + 1 < 2 ^ 63 }
-    ensures { Reads as_it_is bound_at place (place + 1) (S.told source.old) (S.told source.new) result }
+    ensures { Reads as_it_is bound_at place (place + 1) (S.told source.old)
+        (S.told source.new) result }
 {
     let n = read_code(source, place, 1, 2)?;
     Ok(bound_of(n))
@@ -92,7 +95,8 @@ fn bound_of(n: u8) -> Bound
 
 fn read_what<S: Source>(source: &mut S, place: u64) -> Result<What, ReadStop>
     requires { place + 1 < 2 ^ 63 }
-    ensures { Reads as_it_is what_at place (place + 1) (S.told source.old) (S.told source.new) result }
+    ensures { Reads as_it_is what_at place (place + 1) (S.told source.old)
+        (S.told source.new) result }
 {
     let n = read_code(source, place, 1, 3)?;
     Ok(what_of(n))
@@ -112,7 +116,8 @@ fn what_of(n: u8) -> What
 
 fn read_axis<S: Source>(source: &mut S, place: u64) -> Result<Axis, ReadStop>
     requires { place + 1 < 2 ^ 63 }
-    ensures { Reads as_it_is axis_at place (place + 1) (S.told source.old) (S.told source.new) result }
+    ensures { Reads as_it_is axis_at place (place + 1) (S.told source.old)
+        (S.told source.new) result }
 {
     let n = read_code(source, place, 0, 2)?;
     Ok(axis_of(n))
@@ -130,7 +135,8 @@ fn axis_of(n: u8) -> Axis
 
 fn read_cell<S: Source>(source: &mut S, place: u64, cells: Cells) -> Result<[u32; 3], ReadStop>
     requires { place + 12 < 2 ^ 63 }
-    ensures { Reads as_it_is (cell_at cells.n) place (place + 12) (S.told source.old) (S.told source.new) result }
+    ensures { Reads as_it_is (cell_at cells.n) place (place + 12) (S.told source.old)
+        (S.told source.new) result }
 {
     let second = place + 4;
     let third = second + 4;
@@ -144,7 +150,8 @@ fn read_cell<S: Source>(source: &mut S, place: u64, cells: Cells) -> Result<[u32
 // Reads a number that passes a bound.
 fn read_past<S: Source>(source: &mut S, place: u64, limit: u128) -> Result<i128, ReadStop>
     requires { place + 16 < 2 ^ 63 }
-    ensures { Reads as_it_is (past_at limit) place (place + 16) (S.told source.old) (S.told source.new) result }
+    ensures { Reads as_it_is (past_at limit) place (place + 16) (S.told source.old)
+        (S.told source.new) result }
 {
     let value = read_i128(source, place)?;
     if !is_past(limit, value) {
@@ -184,7 +191,8 @@ fn what_limit(side: u32, what: What) -> u128
 // Reads what stopped a field phase.
 fn read_field_stop<S: Source>(source: &mut S, place: u64, layout: &Layout) -> Result<Stop, ReadStop>
     requires { place + 31 < 2 ^ 63 }
-    ensures { Reads as_it_is (field_stop_at layout.now) place (place + 31) (S.told source.old) (S.told source.new) result }
+    ensures { Reads as_it_is (field_stop_at layout.now) place (place + 31) (S.told source.old)
+        (S.told source.new) result }
 {
     let second = place + 1;
     let third = second + 1;
@@ -207,7 +215,8 @@ fn read_field_stop<S: Source>(source: &mut S, place: u64, layout: &Layout) -> Re
 // Reads what stopped a push.
 fn read_push_stop<S: Source>(source: &mut S, place: u64, layout: &Layout) -> Result<Stop, ReadStop>
     requires { place + 22 < 2 ^ 63 }
-    ensures { Reads as_it_is (push_stop_at layout.now) place (place + 22) (S.told source.old) (S.told source.new) result }
+    ensures { Reads as_it_is (push_stop_at layout.now) place (place + 22) (S.told source.old)
+        (S.told source.new) result }
 {
     let second = place + 4;
     let third = second + 1;
@@ -227,7 +236,8 @@ fn read_push_stop<S: Source>(source: &mut S, place: u64, layout: &Layout) -> Res
 // Reads the end of a run that is done.
 fn read_done<S: Source>(source: &mut S, place: u64, layout: &Layout) -> Result<EndMark, ReadStop>
     requires { place + 64 < 2 ^ 63 }
-    ensures { ReadsEnd (λ m. AnEnd m) (done_at layout.now last_record) place (place + 4 + 1) (S.told source.old) (S.told source.new) result }
+    ensures { ReadsEnd (λ m. AnEnd m) (done_at layout.now last_record) place (place + 4 + 1)
+        (S.told source.old) (S.told source.new) result }
 {
     let second = place + 4;
     let steps = read_step(source, place, layout.steps())?;
@@ -244,7 +254,8 @@ fn read_field_end<S: Source>(
     high: u32,
 ) -> Result<EndMark, ReadStop>
     requires { place + 64 < 2 ^ 63 }
-    ensures { ReadsEnd (λ m. AnEnd m) (field_end_at layout.now low high last_record) place (place + 4 + 31 + 1) (S.told source.old) (S.told source.new) result }
+    ensures { ReadsEnd (λ m. AnEnd m) (field_end_at layout.now low high last_record) place
+        (place + 4 + 31 + 1) (S.told source.old) (S.told source.new) result }
 {
     let second = place + 4;
     let third = second + 31;
@@ -263,7 +274,8 @@ fn read_push_end<S: Source>(
     high: u32,
 ) -> Result<EndMark, ReadStop>
     requires { place + 64 < 2 ^ 63 }
-    ensures { ReadsEnd (λ m. AnEnd m) (push_end_at layout.now low high last_record) place (place + 4 + 22 + 1) (S.told source.old) (S.told source.new) result }
+    ensures { ReadsEnd (λ m. AnEnd m) (push_end_at layout.now low high last_record) place
+        (place + 4 + 22 + 1) (S.told source.old) (S.told source.new) result }
 {
     let second = place + 4;
     let third = second + 22;
@@ -276,7 +288,8 @@ fn read_push_end<S: Source>(
 // Reads the kind of an end record: a run is done where no frame is due any more.
 fn read_kind<S: Source>(source: &mut S, place: u64, due: Option<u32>) -> Result<u8, ReadStop>
     requires { place + 1 < 2 ^ 63 }
-    ensures { Reads as_it_is (code_at (is_kind due)) place (place + 1) (S.told source.old) (S.told source.new) result }
+    ensures { Reads as_it_is (code_at (is_kind due)) place (place + 1) (S.told source.old)
+        (S.told source.new) result }
 {
     let kind = read_byte(source, place)?;
     if !is_kind(due, kind) {
@@ -297,13 +310,6 @@ fn is_kind(due: Option<u32>, kind: u8) -> bool
     }
 }
 
-/// Whether a byte is this one.
-pub fn is_code(byte: u8, code: u8) -> bool
-    ensures { result ≡ nat_eq byte code }
-{
-    byte == code
-}
-
 fn first_after(last: Option<u32>) -> u32
     requires { IfSome last (λ step. step ≤ 1000000) }
     ensures { result ≡ first_after last }
@@ -311,16 +317,6 @@ fn first_after(last: Option<u32>) -> u32
     match last {
         None => 1,
         Some(step) => step + 1,
-    }
-}
-
-/// The step, or 0 where there is none.
-pub fn or_zero(due: Option<u32>) -> u32
-    ensures { result ≡ or_zero due }
-{
-    match due {
-        None => 0,
-        Some(step) => step,
     }
 }
 
@@ -334,15 +330,18 @@ pub fn read_end_record<S: Source>(
 ) -> Result<EndMark, ReadStop>
     requires place { place + 65 < 2 ^ 63 }
     requires last { IfSome last (λ step. step ≤ 1000000) }
-    ensures { ReadsEnd (λ m. AnEnd m) (end_at layout.now last due last_record) place (place + 37) (S.told source.old) (S.told source.new) result }
+    ensures { ReadsEnd (λ m. AnEnd m) (end_at layout.now last due last_record) place (place + 37)
+        (S.told source.old) (S.told source.new) result }
 {
     let second = place + 1;
     let kind = read_kind(source, place, due)?;
-    if is_code(kind, 0) {
+    let low = first_after(last);
+    let high = due.unwrap_or(0);
+    if kind == 0 {
         return read_done(source, second, layout);
     }
-    if is_code(kind, 1) {
-        return read_field_end(source, second, layout, first_after(last), or_zero(due));
+    if kind == 1 {
+        return read_field_end(source, second, layout, low, high);
     }
-    read_push_end(source, second, layout, first_after(last), or_zero(due))
+    read_push_end(source, second, layout, low, high)
 }

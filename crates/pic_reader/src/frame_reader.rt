@@ -47,7 +47,8 @@ const VELOCITY_UNIT: i32 = 4096;
 // Reads a field value.
 fn read_value<S: Source>(source: &mut S, place: u64, by: Mult) -> Result<i128, ReadStop>
     requires { place + 16 < 2 ^ 63 }
-    ensures reads { Reads as_it_is (checked strong_value (is_moderate by) i128_at) place (place + 16) (S.told source.old) (S.told source.new) result }
+    ensures reads { Reads as_it_is (checked strong_value (is_moderate by) i128_at) place
+        (place + 16) (S.told source.old) (S.told source.new) result }
     ensures bounds { IfOk result (λ v. IsModerate by v) }
 {
     let value = read_i128(source, place)?;
@@ -74,7 +75,8 @@ fn read_field<S: Source>(
     field: &mut Lattice,
 ) -> Result<(), ReadStop>
     requires { place + 2 ^ 29 < 2 ^ 63 }
-    ensures reads { Reads (always field.new.values) (field_at field.old.cells by) place (place + 16 * (3 * count_of field.old.cells))
+    ensures reads { Reads (always field.new.values) (field_at field.old.cells by) place
+        (place + 16 * (3 * count_of field.old.cells))
         (S.told source.old) (S.told source.new) result }
     ensures shape { IsSameShape field.old field.new }
     ensures bounds { OnOk result (IsBounded by field.new) }
@@ -96,7 +98,8 @@ pub(crate) fn read_below<S: Source>(
     limit: u32,
 ) -> Result<u32, ReadStop>
     requires { place + 4 < 2 ^ 63 }
-    ensures reads { Reads as_it_is (below cause limit) place (place + 4) (S.told source.old) (S.told source.new) result }
+    ensures reads { Reads as_it_is (below cause limit) place (place + 4) (S.told source.old)
+        (S.told source.new) result }
     ensures below { IfOk result (λ n. n < limit) }
 {
     let n = read_u32(source, place)?;
@@ -122,7 +125,8 @@ fn read_coordinate<S: Source>(
     requires place { place + 4 < 2 ^ 63 }
     requires side { side ≤ most_side }
     requires cells { cells ≤ most_cells_of_axis }
-    ensures reads { Reads as_it_is (coordinate_at side cells) place (place + 4) (S.told source.old) (S.told source.new) result }
+    ensures reads { Reads as_it_is (coordinate_at side cells) place (place + 4) (S.told source.old)
+        (S.told source.new) result }
     ensures below { IfOk result (λ x. x < cells * side) }
 {
     read_below(source, place, OUT_OF_RANGE, cells * side)
@@ -130,7 +134,8 @@ fn read_coordinate<S: Source>(
 
 fn read_position<S: Source>(source: &mut S, place: u64, cells: Cells) -> Result<[u32; 3], ReadStop>
     requires { place + 12 < 2 ^ 63 }
-    ensures reads { Reads as_it_is (position_at cells.side cells.n) place (place + 12) (S.told source.old) (S.told source.new) result }
+    ensures reads { Reads as_it_is (position_at cells.side cells.n) place (place + 12)
+        (S.told source.old) (S.told source.new) result }
     ensures inside { IfOk result (λ x. IsInBox cells.side cells.n (triple x)) }
 {
     let second = place + 4;
@@ -147,7 +152,8 @@ fn read_position<S: Source>(source: &mut S, place: u64, cells: Cells) -> Result<
 fn read_speed<S: Source>(source: &mut S, place: u64, side: u32) -> Result<i32, ReadStop>
     requires place { place + 4 < 2 ^ 63 }
     requires side { side ≤ most_side }
-    ensures { Reads as_it_is (speed_at side) place (place + 4) (S.told source.old) (S.told source.new) result }
+    ensures { Reads as_it_is (speed_at side) place (place + 4) (S.told source.old)
+        (S.told source.new) result }
 {
     let low = slowest(side);
     let high = fastest(side);
@@ -181,7 +187,8 @@ fn fastest(side: u32) -> i32
 fn read_velocity<S: Source>(source: &mut S, place: u64, side: u32) -> Result<[i32; 3], ReadStop>
     requires place { place + 12 < 2 ^ 63 }
     requires side { side ≤ most_side }
-    ensures { Reads as_it_is (velocity_at side) place (place + 12) (S.told source.old) (S.told source.new) result }
+    ensures { Reads as_it_is (velocity_at side) place (place + 12) (S.told source.old)
+        (S.told source.new) result }
 {
     let second = place + 4;
     let third = second + 4;
@@ -200,7 +207,8 @@ fn read_particle<S: Source>(
 ) -> Result<Particle, ReadStop>
     requires place { place + 24 < 2 ^ 63 }
     requires id { id < sum layout.now.counts }
-    ensures reads { Reads as_it_is (particle_of layout.now id) place (place + 24) (S.told source.old) (S.told source.new) result }
+    ensures reads { Reads as_it_is (particle_of layout.now id) place (place + 24)
+        (S.told source.old) (S.told source.new) result }
     ensures species { IfOk result (λ p. IsOfKinds layout.now.kinds p) }
     ensures place { IfOk result (λ p. IsPlaced layout.now.side layout.now.cells p) }
 {
@@ -220,7 +228,8 @@ fn read_particles<S: Source>(
 ) -> Result<(), ReadStop>
     requires place { place + 2 ^ 29 < 2 ^ 63 }
     requires count { length particles.old ≡ sum layout.now.counts }
-    ensures reads { Reads (always particles.new) (particles_at layout.now) place (place + 24 * sum layout.now.counts)
+    ensures reads { Reads (always particles.new) (particles_at layout.now) place
+        (place + 24 * sum layout.now.counts)
         (S.told source.old) (S.told source.new) result }
     ensures length { length particles.new ≡ length particles.old }
     ensures species { OnOk result (All (IsOfKinds layout.now.kinds) particles.new) }
@@ -237,7 +246,8 @@ fn read_particles<S: Source>(
 // Reads an energy, which has to be this one.
 fn read_energy<S: Source>(source: &mut S, place: u64, want: u128) -> Result<u128, ReadStop>
     requires { place + 16 < 2 ^ 63 }
-    ensures { Reads as_it_is (energy_at want) place (place + 16) (S.told source.old) (S.told source.new) result }
+    ensures { Reads as_it_is (energy_at want) place (place + 16) (S.told source.old)
+        (S.told source.new) result }
 {
     let energy = read_u128(source, place)?;
     if !is_same(want, energy) {
@@ -261,7 +271,8 @@ fn read_energies<S: Source>(
     want: Energies,
 ) -> Result<Energies, ReadStop>
     requires { place + 48 < 2 ^ 63 }
-    ensures { Reads as_it_is (energies_at want) place (place + 48) (S.told source.old) (S.told source.new) result }
+    ensures { Reads as_it_is (energies_at want) place (place + 48) (S.told source.old)
+        (S.told source.new) result }
 {
     let second = place + 16;
     let third = second + 16;
@@ -278,7 +289,8 @@ fn read_energies<S: Source>(
 // Reads a step, which has to be this one.
 pub(crate) fn read_step<S: Source>(source: &mut S, place: u64, want: u32) -> Result<u32, ReadStop>
     requires { place + 4 < 2 ^ 63 }
-    ensures { Reads as_it_is (the_step want) place (place + 4) (S.told source.old) (S.told source.new) result }
+    ensures { Reads as_it_is (the_step want) place (place + 4) (S.told source.old)
+        (S.told source.new) result }
 {
     let step = read_u32(source, place)?;
     if !is_same_step(want, step) {
@@ -308,9 +320,11 @@ pub fn read_frame<S: Source>(
     requires e { state.old.e.cells ≡ layout.now.cells }
     requires b { state.old.b.cells ≡ layout.now.cells }
     requires particles { length state.old.particles.items ≡ sum layout.now.counts }
-    ensures reads { Reads (frame_of due state.new.e.values state.new.b.values state.new.particles.items) (frame_at layout.now due)
+    ensures reads { Reads (frame_of due state.new.e.values state.new.b.values
+        state.new.particles.items) (frame_at layout.now due)
         place (place + frame_length layout.now) (S.told source.old) (S.told source.new) result }
-    ensures held { OnOk result (IsHeld layout.now state.new.e state.new.b state.new.particles.items) }
+    ensures held { OnOk result (IsHeld layout.now state.new.e state.new.b
+        state.new.particles.items) }
     ensures e { IsSameShape state.old.e state.new.e }
     ensures b { IsSameShape state.old.b state.new.b }
     ensures particles { length state.new.particles.items ≡ length state.old.particles.items }

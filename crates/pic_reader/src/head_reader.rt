@@ -50,7 +50,8 @@ const MOST_MASS: u32 = 65536;
 
 fn read_cells<S: Source>(source: &mut S, place: u64) -> Result<Cells, ReadStop>
     requires { place + 12 < 2 ^ 63 }
-    ensures reads { Reads (λ c. c.n) cells_at place (place + 12) (S.told source.old) (S.told source.new) result }
+    ensures reads { Reads (λ c. c.n) cells_at place (place + 12) (S.told source.old)
+        (S.told source.new) result }
     ensures grid { IfOk result (λ c. IsGrid_1 c.n c.side) }
 {
     let second = place + 4;
@@ -70,7 +71,8 @@ pub(crate) fn read_between<S: Source>(
     high: i32,
 ) -> Result<i32, ReadStop>
     requires { place + 4 < 2 ^ 63 }
-    ensures reads { Reads as_it_is (between cause low high) place (place + 4) (S.told source.old) (S.told source.new) result }
+    ensures reads { Reads as_it_is (between cause low high) place (place + 4) (S.told source.old)
+        (S.told source.new) result }
     ensures low { IfOk result (λ n. low ≤ℤ n) }
     ensures high { IfOk result (λ n. n ≤ℤ high) }
 {
@@ -89,7 +91,8 @@ fn is_between(low: i32, high: i32, n: i32) -> bool
 
 fn read_mult<S: Source>(source: &mut S, place: u64) -> Result<Mult, ReadStop>
     requires { place + 8 < 2 ^ 63 }
-    ensures { Reads as_it_is mult_at place (place + 8) (S.told source.old) (S.told source.new) result }
+    ensures { Reads as_it_is mult_at place (place + 8) (S.told source.old)
+        (S.told source.new) result }
 {
     let n = read_between(
         source,
@@ -104,7 +107,8 @@ fn read_mult<S: Source>(source: &mut S, place: u64) -> Result<Mult, ReadStop>
 
 fn read_scales<S: Source>(source: &mut S, place: u64) -> Result<Scales, ReadStop>
     requires { place + 32 < 2 ^ 63 }
-    ensures { Reads as_it_is scales_at place (place + 32) (S.told source.old) (S.told source.new) result }
+    ensures { Reads as_it_is scales_at place (place + 32) (S.told source.old)
+        (S.told source.new) result }
 {
     let second = place + 8;
     let third = second + 8;
@@ -123,7 +127,8 @@ fn read_scales<S: Source>(source: &mut S, place: u64) -> Result<Scales, ReadStop
 
 fn read_kind<S: Source>(source: &mut S, place: u64) -> Result<Kind, ReadStop>
     requires { place + 24 < 2 ^ 63 }
-    ensures reads { Reads as_it_is kind_at place (place + 24) (S.told source.old) (S.told source.new) result }
+    ensures reads { Reads as_it_is kind_at place (place + 24) (S.told source.old)
+        (S.told source.new) result }
     ensures limits { IfOk result (λ k. IsKind k) }
 {
     let second = place + 4;
@@ -152,7 +157,8 @@ fn read_head<S: Source>(
     requires place { place + 60 < 2 ^ 63 }
     requires count { particles ≡ particles_of earlier.now }
     requires most { particles ≤ most_particles_1 }
-    ensures reads { HeadReads (λ h. h) (head_at earlier.now) place (λ _. place + 60) (place + 60) (S.told source.old) (S.told source.new) result }
+    ensures reads { HeadReads (λ h. h) (head_at earlier.now) place (λ _. place + 60) (place + 60)
+        (S.told source.old) (S.told source.new) result }
     ensures new { IfOk result (λ h. IsNewHead earlier.now h) }
 {
     let second = place + 32;
@@ -180,7 +186,9 @@ fn read_each_head<S: Source>(
 ) -> Result<Vec<Head>, HeadStop>
     requires few { count ≤ 16 }
     requires place { place + 60 * 16 < 2 ^ 63 }
-    ensures reads { HeadReads (λ hs. hs.items) (each count head_at) place (λ hs. place + 60 * length hs) (place + 60 * count) (S.told source.old) (S.told source.new) result }
+    ensures reads { HeadReads (λ hs. hs.items) (each count head_at) place
+        (λ hs. place + 60 * length hs) (place + 60 * count) (S.told source.old)
+        (S.told source.new) result }
     ensures heads { IfOk result (λ hs. AreHeads hs.items) }
 {
     let mut heads = Vec::new(alloc);
@@ -197,7 +205,8 @@ fn read_each_head<S: Source>(
 // Reads the species.
 fn read_heads<S: Source>(alloc: Global, source: &mut S, place: u64) -> Result<Vec<Head>, HeadStop>
     requires { place + 1000 < 2 ^ 63 }
-    ensures reads { HeadReads (λ hs. hs.items) heads_at place (λ hs. place + 4 + 60 * length hs) (place + 4 + 60 * 16) (S.told source.old) (S.told source.new) result }
+    ensures reads { HeadReads (λ hs. hs.items) heads_at place (λ hs. place + 4 + 60 * length hs)
+        (place + 4 + 60 * 16) (S.told source.old) (S.told source.new) result }
     ensures heads { IfOk result (λ hs. AreHeads hs.items) }
 {
     let first = place + 4;
@@ -207,7 +216,8 @@ fn read_heads<S: Source>(alloc: Global, source: &mut S, place: u64) -> Result<Ve
 
 /// Reads the header.
 pub fn read_header<S: Source>(alloc: Global, source: &mut S) -> Result<Header, HeadStop>
-    ensures reads { HeadReads (λ h. h) header_at 0 (λ h. 64 + 60 * length h.species) header_most (S.told source.old) (S.told source.new) result }
+    ensures reads { HeadReads (λ h. h) header_at 0 (λ h. 64 + 60 * length h.species) header_most
+        (S.told source.old) (S.told source.new) result }
     ensures few { IfOk result (λ h. length h.species ≤ most_species) }
 {
     read_exactly(source, 0, WRONG_LETTER, b"PICDUMP1")?;

@@ -8,8 +8,8 @@ pub fn headers_have_one_spelling()
     ensures apart { NoHeaderBeginsAnother }
 {}
 
-/// Bytes that are read as a frame or an end record begin with its text, and under one header no other
-/// record's text begins it.
+/// Bytes that are read as a frame or an end record begin with its text, and under one header no
+/// other record's text begins it.
 pub fn records_have_one_spelling()
     ensures spelled { RecordsAreSpelled }
     ensures apart { NoRecordBeginsAnother }

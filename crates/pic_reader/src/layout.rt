@@ -10,8 +10,8 @@ use pic_num::{Kind, NoMemory, Scales};
 use std::alloc::Global;
 use std::marker::Model;
 
-/// The numbers of cells and their side, the steps, after how many of them a frame is due, the multipliers, and the
-/// kinds and the numbers of particles of the species.
+/// The numbers of cells and their side, the steps, after how many of them a frame is due, the
+/// multipliers, and the kinds and the numbers of particles of the species.
 #[derive(Debug, Drop)]
 pub struct Layout {
     cells: Cells,
@@ -23,11 +23,14 @@ pub struct Layout {
 }
 
 impl Model for Layout {
+    ghost use Rattle.pic_reader.specs.Layout.{LayoutView, IsLayout, layout_with};
+
     ghost Value = { LayoutView };
 
-    ghost view = { λ l. record { cells = l.cells.n; side = l.cells.side; steps = l.steps; every = l.every; scales = l.scales; kinds = l.kinds.items; counts = l.counts.items } };
+    ghost view = { λ l. layout_with l.cells l.steps l.every l.scales l.kinds.items l.counts.items };
 
-    ghost invariant = { λ l. IsLayout (record { cells = l.cells.n; side = l.cells.side; steps = l.steps; every = l.every; scales = l.scales; kinds = l.kinds.items; counts = l.counts.items }) };
+    ghost invariant = { λ l. IsLayout
+        (layout_with l.cells l.steps l.every l.scales l.kinds.items l.counts.items) };
 }
 
 impl Layout {

@@ -25,8 +25,11 @@ pub fn read_name<S: Source>(
     earlier: &[Head],
 ) -> Result<Text<NAME_BYTES>, ReadStop>
     requires { place + 32 < 2 ^ 63 }
-    ensures reads { Reads as_it_is (name_at earlier.now) place (place + 32) (S.told source.old) (S.told source.new) result }
-    ensures new { IfOk result (λ name. (bytes : List ℕ) × IsTrue (is_new_name_field earlier.now bytes) × (length bytes ≡ 32) × (name ≡ name_of bytes)) }
+    ensures reads { Reads as_it_is (name_at earlier.now) place (place + 32) (S.told source.old)
+        (S.told source.new) result }
+    ensures new { IfOk result (λ name. (bytes : List ℕ)
+        × IsTrue (is_new_name_field earlier.now bytes) × (length bytes ≡ 32)
+        × (name ≡ name_of bytes)) }
 {
     let mut room = [0u8; NAME_BYTES];
     take_field(source, place, &mut room)?;

@@ -18,7 +18,8 @@ fn none() -> Mult {
 
 // A species of one particle.
 fn head(alloc: Global, name: &[u8], charge: i32, mass: u32) -> Result<Head, Fail>
-    ensures { IfOk result (λ h. (h.name ≡ name.now) × (h.kind.charge ≡ charge) × (h.kind.mass ≡ mass) × (h.count ≡ 1)) }
+    ensures { IfOk result (λ h. (h.name ≡ name.now) × (h.kind.charge ≡ charge)
+        × (h.kind.mass ≡ mass) × (h.count ≡ 1)) }
 {
     let kind = Kind {
         charge,
@@ -55,7 +56,8 @@ fn two_charges(alloc: Global) -> Result<Header, Fail> {
 
 // Their state with the electron at x, and this value of E along x in the first cell.
 fn state(alloc: Global, x: u32, value: i128) -> Result<Snapshot, Fail>
-    ensures { IfOk result (λ s. map (λ particle. particle.id) s.particles.items ≡ range_with_len 0 (length s.particles.items)) }
+    ensures { IfOk result (λ s. map (λ particle. particle.id) s.particles.items
+        ≡ range_with_len 0 (length s.particles.items)) }
 {
     let cells = Cells::new([4, 4, 4], Sub::of_bits(12));
     let mut e = Lattice::new(alloc, cells, [1, 1, 1])?;

@@ -50,7 +50,7 @@ flux_is side q s a edge =
 
 -- The flux of a piece through all images of an edge: one Simpson form of the sums over the images.
 
-through_x : (side : ℕ) (n : Triple) (q : ℤ) (s : Piece) (p : Triple)
+pub through_x : (side : ℕ) (n : Triple) (q : ℤ) (s : Piece) (p : Triple)
     → wrapped n (flux side q s X) p
     ≡ simpson q (onlys n.x s.cell.x p.x *ℤ (s.to.x -ℤ s.from.x))
     (shadow side n.y s.from.y p.y) (shadow side n.y s.to.y p.y) (shadow side n.z s.from.z p.z) (shadow side n.z s.to.z p.z)
@@ -66,7 +66,7 @@ through_x side n q s p =
     ∙ images_second n.z (w s.from.z) (w s.to.z) p.z q (sum_images n.x (only s.cell.x) p.x *ℤ d)
     (sum_images n.y (w s.from.y) p.y) (sum_images n.y (w s.to.y) p.y)
 
-through_y : (side : ℕ) (n : Triple) (q : ℤ) (s : Piece) (p : Triple)
+pub through_y : (side : ℕ) (n : Triple) (q : ℤ) (s : Piece) (p : Triple)
     → wrapped n (flux side q s Y) p
     ≡ simpson q (onlys n.y s.cell.y p.y *ℤ (s.to.y -ℤ s.from.y))
     (shadow side n.z s.from.z p.z) (shadow side n.z s.to.z p.z) (shadow side n.x s.from.x p.x) (shadow side n.x s.to.x p.x)
@@ -82,7 +82,7 @@ through_y side n q s p =
     ∙ images_first n.z (w s.from.z) (w s.to.z) p.z q (sum_images n.y (only s.cell.y) p.y *ℤ d)
     (sum_images n.x (w s.from.x) p.x) (sum_images n.x (w s.to.x) p.x)
 
-through_z : (side : ℕ) (n : Triple) (q : ℤ) (s : Piece) (p : Triple)
+pub through_z : (side : ℕ) (n : Triple) (q : ℤ) (s : Piece) (p : Triple)
     → wrapped n (flux side q s Z) p
     ≡ simpson q (onlys n.z s.cell.z p.z *ℤ (s.to.z -ℤ s.from.z))
     (shadow side n.x s.from.x p.x) (shadow side n.x s.to.x p.x) (shadow side n.y s.from.y p.y) (shadow side n.y s.to.y p.y)

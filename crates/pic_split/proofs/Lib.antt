@@ -9,3 +9,4 @@ pub mod ImageHatLaws
 pub mod ContinuityLaws
 pub mod InOrderLaws
 pub mod LoneLaws
+pub mod ImageSizeLaws

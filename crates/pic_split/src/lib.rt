@@ -7,4 +7,4 @@ mod laws;
 mod paths;
 
 pub use laws::{law_of_continuity, law_of_crossings};
-pub use paths::{lone, split};
+pub use paths::{cell, end_of, lone, split};

@@ -82,7 +82,7 @@ fn is_same(a: [i32; 3], b: [i32; 3]) -> bool
 
 /// The end of the path from `p` by `d`.
 #[inline(always)]
-fn end_of(p: [i32; 3], d: [i32; 3]) -> [i32; 3]
+pub fn end_of(p: [i32; 3], d: [i32; 3]) -> [i32; 3]
     requires start { AreAtMost (spot p) (2 ^ 30 - 1) }
     requires small { IsMove (2 ^ 14) (spot d) }
     ensures value { spot result ≡ plus (spot p) (spot d) }
@@ -95,7 +95,7 @@ fn end_of(p: [i32; 3], d: [i32; 3]) -> [i32; 3]
 
 /// The cell of a point.
 #[inline(always)]
-fn cell(sub: Sub, p: [i32; 3]) -> [i32; 3]
+pub fn cell(sub: Sub, p: [i32; 3]) -> [i32; 3]
     requires { AreAtMost (spot p) (2 ^ 30 + 2 ^ 14) }
     ensures value { spot result ≡ floor_cell sub (spot p) }
     ensures size { AreAtMost (spot result) (2 ^ 30 + 2 ^ 15) }

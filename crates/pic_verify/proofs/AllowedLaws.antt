@@ -22,7 +22,8 @@ Went l k None = k ≡ 0
 Went l k (Some s) = WentBy l k s
 
 -- one frame more
-pub went_more : (l : LayoutView) (k : ℕ) (last : Option ℕ) (step : ℕ) → 1 ≤ l.every → Went l k last → due_after l.steps l.every last ≡ Some step → WentBy l (k + 1) step
+pub went_more : (l : LayoutView) (k : ℕ) (last : Option ℕ) (step : ℕ) → 1 ≤ l.every → Went l k last → due_after l.steps l.every last ≡ Some step
+    → WentBy l (k + 1) step
 went_more l k None step least went due =
     let zero_is : 0 ≡ step = cc in
     record { j = 0; count = omega (arith, went); below = omega (arith, least); exact = λ less. omega (arith, zero_is) }

@@ -21,7 +21,8 @@ pub can_share : (l : LayoutView) (e b : Field) (particles : List Particle) → I
 can_share l e b particles held = λ k d below. record { species = (held.species k d below).species; place = (held.places k d below).place }
 
 -- what is found where the nodes hold the charge
-pub break_found : (l : LayoutView) (e : Field) (particles others : List Particle) (kinds : List Kind) (rho : NodeValues) (side : ℕ) (n m : Triple) (found : Option Break)
+pub break_found : (l : LayoutView) (e : Field) (particles others : List Particle) (kinds : List Kind) (rho : NodeValues) (side : ℕ) (n m : Triple)
+    (found : Option Break)
     → e.cells ≡ l.cells → side ≡ l.side → n ≡ l.cells → m ≡ l.cells → kinds ≡ l.kinds → others ≡ particles
     → ((p : Triple) → IsWithin p n → node_at rho p ≡ charge_of side n kinds others p)
     → found ≡ first_break m (div_e m (value_at e)) (node_at rho)

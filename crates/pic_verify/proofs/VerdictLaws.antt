@@ -86,14 +86,16 @@ exact x z (Err (Broken frame at)) v bytes told quiet = exact_finds x z bytes (Er
 exact x z (Err NoMemory) v bytes told quiet = tt
 
 -- what was taken where there is no header
-takes_head : {B : Type 0} (view : B → HeaderView) (end : HeaderView → ℕ) (x z : Told) (stop : HeadStop) → HeadReads view header_at 0 end header_most x z (Err stop) → Moves 0 header_most x z
+takes_head : {B : Type 0} (view : B → HeaderView) (end : HeaderView → ℕ) (x z : Told) (stop : HeadStop)
+    → HeadReads view header_at 0 end header_most x z (Err stop) → Moves 0 header_most x z
 takes_head view end x z (head.Read stop) first = first.answer.moves
 takes_head view end x z head.NoMemory first = first.answer.moves
 
 within_header : (x z : Told) → Moves 0 header_most x z → TakesAllowed x z
 within_header x z moves = let most = moves.most in record { front = moves.front; taken = moves.moved; most = inl (omega (arith, most)) }
 
-pub stops_taken : {B : Type 0} (view : B → HeaderView) (end : HeaderView → ℕ) (x z : Told) (stop : HeadStop) → HeadReads view header_at 0 end header_most x z (Err stop) → TakesAllowed x z
+pub stops_taken : {B : Type 0} (view : B → HeaderView) (end : HeaderView → ℕ) (x z : Told) (stop : HeadStop)
+    → HeadReads view header_at 0 end header_most x z (Err stop) → TakesAllowed x z
 stops_taken view end x z stop first = within_header x z (takes_head view end x z stop first)
 
 -- behind a header

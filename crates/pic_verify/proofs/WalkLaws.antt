@@ -31,11 +31,13 @@ walked_frame : (n : ℕ) (l : LayoutView) (k : ℕ) (last : Option ℕ) (i j : I
 unfolding walked
 walked_frame n l k last i j f is = ap (of_parsed l k (λ step rest. walked n l (suc k) (Some step) rest)) is
 
-walked_end : (n : ℕ) (l : LayoutView) (k : ℕ) (last : Option ℕ) (i j : Input) (mark : EndMark) → record_at l last i ≡ Ok (AnEnd mark, j) → walked (suc n) l k last i ≡ Ok k
+walked_end : (n : ℕ) (l : LayoutView) (k : ℕ) (last : Option ℕ) (i j : Input) (mark : EndMark) → record_at l last i ≡ Ok (AnEnd mark, j)
+    → walked (suc n) l k last i ≡ Ok k
 unfolding walked
 walked_end n l k last i j mark is = ap (of_parsed l k (λ step rest. walked n l (suc k) (Some step) rest)) is
 
-walked_fault : (n : ℕ) (l : LayoutView) (k : ℕ) (last : Option ℕ) (i : Input) (f : Fault) → record_at l last i ≡ Err f → walked (suc n) l k last i ≡ Err (BadDump f.place f.cause)
+walked_fault : (n : ℕ) (l : LayoutView) (k : ℕ) (last : Option ℕ) (i : Input) (f : Fault) → record_at l last i ≡ Err f
+    → walked (suc n) l k last i ≡ Err (BadDump f.place f.cause)
 unfolding walked
 walked_fault n l k last i f is = ap (of_parsed l k (λ step rest. walked n l (suc k) (Some step) rest)) is
 
@@ -55,7 +57,8 @@ pub record Follows (r : Standing) (before : Told) (k : ℕ) (here : Standing) (n
   pub most : passed here.last ≤ r.layout.steps + 1
   pub n : ℕ
   pub left : k + n ≡ r.layout.steps + 1
-  pub follows : (rest : List ℕ) → Left now rest → (held : List ℕ) × Left before held × (on_records r held ≡ walked (suc n) r.layout k here.last (input here.place rest))
+  pub follows : (rest : List ℕ) → Left now rest → (held : List ℕ) × Left before held
+      × (on_records r held ≡ walked (suc n) r.layout k here.last (input here.place rest))
 
 -- where reading begins
 pub follows_none : (r : Standing) (before : Told) → r.last ≡ None → 1 ≤ r.layout.every → Follows r before 0 r before
@@ -82,9 +85,11 @@ follows_none r before start least =
     }
 
 -- a frame, and what is left behind it: the verdict by its break and by what follows
-frame_read : (r : Standing) (before y z : Told) (k : ℕ) (here behind : Standing) (e b : Field) (particles : List Particle) (step : ℕ) (energies : Energies) (so_far : Follows r before k here y)
+frame_read : (r : Standing) (before y z : Told) (k : ℕ) (here behind : Standing) (e b : Field) (particles : List Particle) (step : ℕ) (energies : Energies)
+    (so_far : Follows r before k here y)
     → HasFrame here y z e b particles behind step energies → (rest : List ℕ) → Left z rest
-    → (held : List ℕ) × Left before held × (on_records r held ≡ unless_broken k (break_of r.layout e.values particles) (walked so_far.n r.layout (suc k) (Some step) (input behind.place rest)))
+    → (held : List ℕ) × Left before held × (on_records r held ≡ unless_broken k (break_of r.layout e.values particles)
+    (walked so_far.n r.layout (suc k) (Some step) (input behind.place rest)))
 frame_read r before y z k here behind e b particles step energies so_far has rest left =
     let f = frame_of step e.values b.values particles energies in
     let (h2, left2, e2) = has.read.reads rest left in
@@ -93,8 +98,10 @@ frame_read r before y z k here behind e b particles step energies so_far has res
     (h1, left1, e1 ∙ walked_frame so_far.n r.layout k here.last (input here.place h2) (input behind.place rest) f is)
 
 -- a good frame
-pub follows_frame : (r : Standing) (before y z : Told) (k : ℕ) (here behind : Standing) (e b : Field) (particles : List Particle) (step : ℕ) (energies : Energies)
-    → Follows r before k here y → HasFrame here y z e b particles behind step energies → break_of r.layout e.values particles ≡ None → Follows r before (k + 1) behind z
+pub follows_frame : (r : Standing) (before y z : Told) (k : ℕ) (here behind : Standing) (e b : Field) (particles : List Particle) (step : ℕ)
+    (energies : Energies)
+    → Follows r before k here y → HasFrame here y z e b particles behind step energies → break_of r.layout e.values particles ≡ None
+    → Follows r before (k + 1) behind z
 follows_frame r before y z k here behind e b particles step energies so_far has none =
     let l = r.layout in
     let steps = ap (λ (m : LayoutView). m.steps) so_far.layout in
@@ -132,16 +139,20 @@ follows_frame r before y z k here behind e b particles step energies so_far has 
     }
 
 -- the record where a reader stands ends within what the header allows, and a byte
-last_fits : (r : Standing) (before y : Told) (k : ℕ) (here : Standing) (so_far : Follows r before k here y) → here.place + record_most here ≤ r.place + (records_length r.layout + 1)
+last_fits : (r : Standing) (before y : Told) (k : ℕ) (here : Standing) (so_far : Follows r before k here y)
+    → here.place + record_most here ≤ r.place + (records_length r.layout + 1)
 last_fits r before y k here so_far =
     let l = r.layout in
     let fits = record_fits l k here.last so_far.least so_far.went in
-    let most : record_most here ≡ most_of l (due_after l.steps l.every here.last) = ap (λ (m : LayoutView). most_of m (due_after m.steps m.every here.last)) so_far.layout in
+    let most : record_most here ≡ most_of l (due_after l.steps l.every here.last) =
+    ap (λ (m : LayoutView). most_of m (due_after m.steps m.every here.last)) so_far.layout in
     omega (arith, fits, most, so_far.place)
 
 -- a frame with a break
-pub breaks_frame : (r : Standing) (before y z : Told) (k : ℕ) (here behind : Standing) (e b : Field) (particles : List Particle) (step : ℕ) (energies : Energies) (at : Break)
-    → Follows r before k here y → HasFrame here y z e b particles behind step energies → break_of r.layout e.values particles ≡ Some at → Walks r before z (Err (Broken k at))
+pub breaks_frame : (r : Standing) (before y z : Told) (k : ℕ) (here behind : Standing) (e b : Field) (particles : List Particle) (step : ℕ)
+    (energies : Energies) (at : Break)
+    → Follows r before k here y → HasFrame here y z e b particles behind step energies → break_of r.layout e.values particles ≡ Some at
+    → Walks r before z (Err (Broken k at))
 breaks_frame r before y z k here behind e b particles step energies at so_far has some =
     let (rest, left) = some_rest z in
     let (held, was, is) = frame_read r before y z k here behind e b particles step energies so_far has rest left in
@@ -162,7 +173,8 @@ breaks_frame r before y z k here behind e b particles step energies at so_far ha
 
 -- the end record
 pub ends_records : (r : Standing) (before y z : Told) (k : ℕ) (here : Standing) (mark : EndMark)
-    → Follows r before k here y → HasEnded (record_at here.layout here.last) here.place (here.place + record_most here) y (AnEnd mark) z → Walks r before z (Ok k)
+    → Follows r before k here y → HasEnded (record_at here.layout here.last) here.place (here.place + record_most here) y (AnEnd mark) z
+    → Walks r before z (Ok k)
 ends_records r before y z k here mark so_far has =
     let is = subst (λ l. record_at l here.last (input here.place has.held) ≡ Ok (AnEnd mark, input has.stop [])) so_far.layout has.reads in
     let (held, was, e1) = so_far.follows has.held has.was in
@@ -179,7 +191,8 @@ pub rose_after : (x y z : Told) → Calm x y → Rose y z → Rose x z
 rose_after x y z calm rose = subst (λ n. raised n ≤ z.faults) calm rose
 
 stops_answer : (r : Standing) (before y z : Told) (k : ℕ) (here : Standing) (stop : ReadStop)
-    → Follows r before k here y → Stops (record_at here.layout here.last) here.place (here.place + record_most here) y z stop → Answered (on_records r) before z (Err (stop_of_read stop))
+    → Follows r before k here y → Stops (record_at here.layout here.last) here.place (here.place + record_most here) y z stop
+    → Answered (on_records r) before z (Err (stop_of_read stop))
 stops_answer r before y z k here read.ReadFault so_far stops = rose_after before y z so_far.calm stops.why
 stops_answer r before y z k here (read.BadDump place cause) so_far stops =
     let fails = stops.why in
@@ -194,7 +207,11 @@ stops_answer r before y z k here (read.BadDump place cause) so_far stops =
 
 -- the first fault, or a read that failed
 pub stops_records : (r : Standing) (before y z : Told) (k : ℕ) (here : Standing) (stop : ReadStop) (result : Verdict)
-    → IsErrAnd result (λ u. u ≡ stop_of_read stop) → Follows r before k here y → Stops (record_at here.layout here.last) here.place (here.place + record_most here) y z stop → Walks r before z result
+    → IsErrAnd result (λ u. u ≡ stop_of_read stop) → Follows r before k here y
+    → Stops (record_at here.layout here.last) here.place (here.place + record_most here) y z stop → Walks r before z result
 stops_records r before y z k here stop result is so_far stops =
     let q = err_from_is_err_and result is in
-    rw (q.1, q.2) (record { moves = moves_up (last_fits r before y k here so_far) (moves_then so_far.moves stops.moves); answer = stops_answer r before y z k here stop so_far stops })
+    rw (q.1, q.2) (record {
+      moves = moves_up (last_fits r before y k here so_far) (moves_then so_far.moves stops.moves);
+      answer = stops_answer r before y z k here stop so_far stops;
+    })

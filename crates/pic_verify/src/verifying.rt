@@ -68,7 +68,8 @@ fn first_break(reader: &DumpReader, state: &Snapshot, nodes: &mut Nodes) -> Opti
     requires limits { IsLayout reader.now.layout }
     requires held { IsHeld reader.now.layout state.now.e state.now.b state.now.particles.items }
     requires particles { length state.now.particles.items ≡ sum reader.now.layout.counts }
-    ensures value { result ≡ break_of reader.now.layout state.now.e.values state.now.particles.items }
+    ensures value { result ≡ break_of reader.now.layout state.now.e.values
+        state.now.particles.items }
     ensures nodes { nodes.new.cells ≡ nodes.old.cells }
 {
     charge(reader.cells(), reader.kinds(), &state.particles, nodes);

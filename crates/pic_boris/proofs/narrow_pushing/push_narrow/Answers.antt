@@ -18,7 +18,8 @@ returns-clause-pushed c =
     let turn_by = c.scaled_narrow-turn_by.ensures.value in
     let slow = subst (λ (p : Spot). AreAtMost p (2 ^ 26)) kicked (c.if-not-is_small.ensures refl) in
     let weak = subst (λ (p : Spot). AreAtMost p (2 ^ 20)) turn_by (c.if-not-is_small-2.ensures refl) in
-    let new_v = c.narrow_sum.ensures.value ∙ (λ i. plus (c.narrow_turned.ensures.value i) (half_kick i)) ∙ (λ i. plus (turned (kicked i) (turn_by i)) (each (λ n. scaled n c.args.kick) e)) in
+    let new_v = c.narrow_sum.ensures.value ∙ (λ i. plus (c.narrow_turned.ensures.value i) (half_kick i))
+    ∙ (λ i. plus (turned (kicked i) (turn_by i)) (each (λ n. scaled n c.args.kick) e)) in
     let is : pushed c.args.sub v e b c.args.kick c.args.turn ≡ arrived c.args.sub (narrow_spot c.narrow_sum.result) =
     slow_arrives c.args.sub v e b c.args.kick c.args.turn slow weak ∙ sym (λ i. arrived c.args.sub (new_v i)) in
     subst (λ (r : Result Shift Halting). IfSome c.arrive_narrow.result (λ m. r ≡ Ok (shift_of m))) (sym is) c.arrive_narrow.ensures.pushed

@@ -11,7 +11,8 @@ unfolding turned
 returns-clause-value c =
     let v = narrow_spot c.args.v in
     let t = narrow_spot c.args.t in
-    let crossed : narrow_spot c.narrow_cross.result ≡ cross (half_turned v t) t = c.narrow_cross.ensures.value ∙ (λ i. cross (c.half_turned.ensures.value i) t) in
+    let crossed : narrow_spot c.narrow_cross.result ≡ cross (half_turned v t) t =
+    c.narrow_cross.ensures.value ∙ (λ i. cross (c.half_turned.ensures.value i) t) in
     let divisor : to_z w64 (of_z w64 c.divisor.result) ≡ pos (2 ^ 40) +ℤ dot t t = code_is (search codes depth 4) tt ∙ c.divisor.ensures.value in
     c.turned_to.ensures.value
     ∙ (λ i. plus v (c.quotients.ensures.value i))

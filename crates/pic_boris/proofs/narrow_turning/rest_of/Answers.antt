@@ -12,8 +12,10 @@ widened x r fits e = e ∙ to_z-of_z w64 x fits
 
 pub overflow_sub-result : goal.overflow_sub-result
 overflow_sub-result c =
-    let n : IsAtMost c.from.result (2 ^ 63) = subst (λ (z : ℤ). IsAtMost z (2 ^ 63)) (sym (widened c.args.dividend c.from.result c.ranges.dividend c.from.ensures)) c.requires.dividend in
-    let g : IsAtMost c.from-2.result (2 ^ 52) = subst (λ (z : ℤ). IsAtMost z (2 ^ 52)) (sym (widened c.args.guess c.from-2.result c.ranges.guess c.from-2.ensures)) c.requires.guess in
+    let n : IsAtMost c.from.result (2 ^ 63) = subst (λ (z : ℤ). IsAtMost z (2 ^ 63))
+    (sym (widened c.args.dividend c.from.result c.ranges.dividend c.from.ensures)) c.requires.dividend in
+    let g : IsAtMost c.from-2.result (2 ^ 52) = subst (λ (z : ℤ). IsAtMost z (2 ^ 52))
+    (sym (widened c.args.guess c.from-2.result c.ranges.guess c.from-2.ensures)) c.requires.guess in
     code_fits w128 (search codes depth 14) tt
 
 pub returns : goal.returns

@@ -28,4 +28,5 @@ returns-clause-bytes g c =
     let state = state_bytes s.e s.b s.particles.items in
     let waits = c.put_state.new.room in
     let queued = subst (λ (w : List ℕ). Queued before mid w waits state) c.start-room.ensures c.in_ok-put_state.ensures.bytes.answer in
-    puts_behind before mid now (start_bytes c.args.step) waits state (energies_bytes c.args.energies) c.put_end_of_frame.result queued c.put_end_of_frame.ensures.bytes
+    puts_behind before mid now (start_bytes c.args.step) waits state (energies_bytes c.args.energies) c.put_end_of_frame.result queued
+    c.put_end_of_frame.ensures.bytes

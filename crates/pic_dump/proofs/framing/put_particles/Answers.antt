@@ -21,7 +21,8 @@ returns-in_err-put_particle-clause-bytes g c =
     let now = g.O.Sink.told c.put_particle.new.out in
     let cut = c.in_err-put_particle.ensures.bytes.answer in
     rw (exit.1) (record {
-      answer = cut_of_pieces particle_bytes c.args.particles.now c.loop-particle.particle-index no_particle before mid now c.args.room.now c.loop-particle.room c.loop-particle-test.true c.loop-particle.invariant.queued cut;
+      answer = cut_of_pieces particle_bytes c.args.particles.now c.loop-particle.particle-index no_particle before mid now c.args.room.now c.loop-particle.room
+          c.loop-particle-test.true c.loop-particle.invariant.queued cut;
     })
 
 pub loop-particle-preserved : goal.loop-particle-preserved
@@ -31,7 +32,8 @@ loop-particle-preserved g c =
     let now = g.O.Sink.told c.put_particle.new.out in
     let next = c.in_ok-put_particle.ensures in
     record {
-      queued = queued_more particle_bytes c.args.particles.now c.loop-particle.particle-index no_particle before mid now c.args.room.now c.loop-particle.room c.put_particle.new.room c.loop-particle-test.true c.loop-particle.invariant.queued next.bytes.answer;
+      queued = queued_more particle_bytes c.args.particles.now c.loop-particle.particle-index no_particle before mid now c.args.room.now c.loop-particle.room
+          c.put_particle.new.room c.loop-particle-test.true c.loop-particle.invariant.queued next.bytes.answer;
       calm = next.cause.ok ∙ c.loop-particle.invariant.calm;
     }
 
@@ -42,5 +44,6 @@ returns-clause-bytes g c =
     let all : c.loop-particle.particle-index ≡ length particles = omega (arith, c.loop-particle-test.false, c.loop-particle.auto.particle-index-end) in
     let whole = ap (λ i. take i particles) all ∙ take-length particles in
     record {
-      answer = subst (λ xs. Queued (g.O.Sink.told c.args.out.now) (g.O.Sink.told c.loop-particle.out) c.args.room.now c.loop-particle.room (flat_map particle_bytes xs)) whole c.loop-particle.invariant.queued;
+      answer = subst (λ xs. Queued (g.O.Sink.told c.args.out.now) (g.O.Sink.told c.loop-particle.out) c.args.room.now c.loop-particle.room
+          (flat_map particle_bytes xs)) whole c.loop-particle.invariant.queued;
     }

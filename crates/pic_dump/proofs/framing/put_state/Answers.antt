@@ -48,5 +48,6 @@ returns-clause-bytes g c =
     let e = values_bytes state.e.values in
     let b = values_bytes state.b.values in
     let fields = queued_then before mid next w x y e b c.in_ok-put_values.ensures.bytes.answer c.in_ok-put_values-2.ensures.bytes.answer in
-    let rest = subst (λ (xs : List Particle). Queues next now y z (particles_bytes xs) c.put_particles.result) c.deref.ensures.value c.put_particles.ensures.bytes in
+    let rest = subst (λ (xs : List Particle). Queues next now y z (particles_bytes xs) c.put_particles.result) c.deref.ensures.value
+    c.put_particles.ensures.bytes in
     queues_then before next now w y z (e ++ b) (particles_bytes state.particles.items) c.put_particles.result fields rest

@@ -36,12 +36,16 @@ returns-in_err-put_value-clause-bytes g c =
     let i = c.loop-place.place in
     let count = count_is f c.cells-cells.result.n c.count.result c.cells-cells.ensures.value c.count.ensures.value c.cells-cells.ensures.shape in
     let below : i < length f.values = omega (arith, count, c.loop-place-test.true) in
-    let is = value_is f c.cells-cells.result.n c.place_at-axis.result.0 (triple c.place_at-axis.result.1) i c.at.result c.cells-cells.ensures.value c.place_at-axis.ensures.number c.at.ensures (record { sfits = c.at.type_inv }) in
+    let is = value_is f c.cells-cells.result.n c.place_at-axis.result.0 (triple c.place_at-axis.result.1) i c.at.result c.cells-cells.ensures.value
+    c.place_at-axis.ensures.number c.at.ensures (record { sfits = c.at.type_inv }) in
     let before = g.O.Sink.told c.args.out.now in
     let mid = g.O.Sink.told c.loop-place.out in
     let now = g.O.Sink.told c.put_value.new.out in
     let cut = subst (λ (v : ℤ). AppendedFront mid now (c.loop-place.room ++ i128_bytes v)) is c.in_err-put_value.ensures.bytes.answer in
-    rw (exit.1) (record { answer = cut_of_pieces i128_bytes f.values i (pos 0) before mid now c.args.room.now c.loop-place.room below c.loop-place.invariant.queued cut })
+    rw (exit.1) (record {
+      answer = cut_of_pieces i128_bytes f.values i (pos 0) before mid now c.args.room.now c.loop-place.room below
+          c.loop-place.invariant.queued cut;
+    })
 
 pub loop-place-preserved : goal.loop-place-preserved
 loop-place-preserved g c =
@@ -49,7 +53,8 @@ loop-place-preserved g c =
     let i = c.loop-place.place in
     let count = count_is f c.cells-cells.result.n c.count.result c.cells-cells.ensures.value c.count.ensures.value c.cells-cells.ensures.shape in
     let below : i < length f.values = omega (arith, count, c.loop-place-test.true) in
-    let is = value_is f c.cells-cells.result.n c.place_at-axis.result.0 (triple c.place_at-axis.result.1) i c.at.result c.cells-cells.ensures.value c.place_at-axis.ensures.number c.at.ensures (record { sfits = c.at.type_inv }) in
+    let is = value_is f c.cells-cells.result.n c.place_at-axis.result.0 (triple c.place_at-axis.result.1) i c.at.result c.cells-cells.ensures.value
+    c.place_at-axis.ensures.number c.at.ensures (record { sfits = c.at.type_inv }) in
     let before = g.O.Sink.told c.args.out.now in
     let mid = g.O.Sink.told c.loop-place.out in
     let now = g.O.Sink.told c.put_value.new.out in
@@ -68,5 +73,6 @@ returns-clause-bytes g c =
     let all : c.loop-place.place ≡ length f.values = omega (arith, count, c.loop-place-test.false, c.loop-place.auto.place-end) in
     let whole = ap (λ i. take i f.values) all ∙ take-length f.values in
     record {
-      answer = subst (λ vs. Queued (g.O.Sink.told c.args.out.now) (g.O.Sink.told c.loop-place.out) c.args.room.now c.loop-place.room (flat_map i128_bytes vs)) whole c.loop-place.invariant.queued;
+      answer = subst (λ vs. Queued (g.O.Sink.told c.args.out.now) (g.O.Sink.told c.loop-place.out) c.args.room.now c.loop-place.room (flat_map i128_bytes vs))
+          whole c.loop-place.invariant.queued;
     }

@@ -38,7 +38,8 @@ pub returns-then-full_layers-clause-stop : goal.returns-then-full_layers-clause-
 returns-then-full_layers-clause-stop c =
     let k = (goal.at.returns-then-full_layers-clause-stop c).After-full_layers in
     let none = calm_none Electric c.args.scales.now.e_force (full_in c.args.scales.now c.args.b.now c.args.j.now c.args.e.now) c.args.e.now c.full_layers.new.e
-    c.args.b.now.cells c.requires.among c.full_layers.ensures.changed.shaped (values k) c.safe_most-most.result (c.full_layers.ensures.calm c.if-full_layers.true)
+    c.args.b.now.cells c.requires.among c.full_layers.ensures.changed.shaped (values k) c.safe_most-most.result
+    (c.full_layers.ensures.calm c.if-full_layers.true)
     c.safe_most-most.ensures in
     ap (λ (o : Option Stop). unless o tt) (sym none)
 
@@ -47,12 +48,14 @@ returns-clause-stop c =
     let k = (goal.at.returns-clause-stop c).After-full_layers in
     c.stop_in.ensures
     ∙ ap (λ (o : Option Stop). unless o tt)
-    (new_stop Electric c.args.scales.now.e_force (full_in c.args.scales.now c.args.b.now c.args.j.now c.args.e.now) c.args.e.now c.full_layers.new.e c.args.b.now.cells
+    (new_stop Electric c.args.scales.now.e_force (full_in c.args.scales.now c.args.b.now c.args.j.now c.args.e.now) c.args.e.now c.full_layers.new.e
+    c.args.b.now.cells
     c.requires.among c.full_layers.ensures.changed.shaped (values k))
 
 pub returns-clause-bounded : goal.returns-clause-bounded
 returns-clause-bounded c =
     let k = (goal.at.returns-clause-bounded c).After-full_layers in
     let shaped = c.full_layers.ensures.changed.shaped in
-    bounded_on_ok Electric c.args.scales.now.e_force (full_in c.args.scales.now c.args.b.now c.args.j.now c.args.e.now) c.args.e.now c.full_layers.new.e c.stop_in.result
+    bounded_on_ok Electric c.args.scales.now.e_force (full_in c.args.scales.now c.args.b.now c.args.j.now c.args.e.now) c.args.e.now c.full_layers.new.e
+    c.stop_in.result
     shaped.low shaped.size (values k) (returns-clause-stop c)

@@ -44,9 +44,11 @@ known c =
       y = subst (λ (s : Triple). Of c Y (down n X s) rooms.y) at h.y;
       z = subst (λ (s : Triple). Of c Z (down n X s) rooms.z) at h.z;
       x_by_y = subst (λ (m : ℕ). IsScaledRow c.args.b.now c.args.scales.now.b_to_e X (down n Y (start c)) (m + 1) rooms.x_by_y) (sym same)
-          (subst (λ (row : List ℤ). IsScaledRow c.args.b.now c.args.scales.now.b_to_e X (down n Y (start c)) (c.args.e.now.size.x + 1) row) (sym h.x_by_y) c.requires.x_by_y);
+          (subst (λ (row : List ℤ). IsScaledRow c.args.b.now c.args.scales.now.b_to_e X (down n Y (start c)) (c.args.e.now.size.x + 1) row)
+          (sym h.x_by_y) c.requires.x_by_y);
       z_by_y = subst (λ (m : ℕ). IsScaledRow c.args.b.now c.args.scales.now.b_to_e Z (down n X (down n Y (start c))) (m + 1) rooms.z_by_y) (sym same)
-          (subst (λ (row : List ℤ). IsScaledRow c.args.b.now c.args.scales.now.b_to_e Z (down n X (down n Y (start c))) (c.args.e.now.size.x + 1) row) (sym h.z_by_y)
+          (subst (λ (row : List ℤ). IsScaledRow c.args.b.now c.args.scales.now.b_to_e Z (down n X (down n Y (start c)))
+          (c.args.e.now.size.x + 1) row) (sym h.z_by_y)
           c.requires.z_by_y);
       x_by_z = subst (λ (s : Triple). Of c X (down n Z s) rooms.x_by_z) at h.x_by_z;
       y_by_z = subst (λ (s : Triple). Of c Y (down n Z s) rooms.y_by_z) at h.y_by_z;
@@ -68,12 +70,15 @@ returns-clause-changed c =
     let three = c.full_row-calm_z.new.e in
     let first = changed_as _ (full_made scales b j e.low) (OnRow X y z) e one c.full_row-calm_x.ensures.changed (λ a p w on.
     full_x scales b j e.low e.size y z count c.requires.among k.same rooms.z_by_y c.shifted.result.now rooms.z c.shifted-2.result.now rooms.y_by_z rooms.y
-    c.shifted-3.result.now k.z_by_y k.z k.y_by_z k.y c.shifted.ensures.values c.shifted-2.ensures.values c.shifted-3.ensures.values a p w on (inner_at e a p)) in
+    c.shifted-3.result.now k.z_by_y k.z k.y_by_z k.y c.shifted.ensures.values c.shifted-2.ensures.values c.shifted-3.ensures.values a p w on
+    (inner_at e a p)) in
     let second = changed_as _ (full_made scales b j e.low) (OnRow Y y z) one two c.full_row-calm_y.ensures.changed (λ a p w on.
-    full_y scales b j e.low e.size y z count c.requires.among k.same rooms.x_by_z rooms.x rooms.z c.shifted-4.result.now k.x_by_z k.x k.z c.shifted-4.ensures.values a p
+    full_y scales b j e.low e.size y z count c.requires.among k.same rooms.x_by_z rooms.x rooms.z c.shifted-4.result.now k.x_by_z k.x k.z
+    c.shifted-4.ensures.values a p
     (subst (λ (n : Triple). IsWithin p n) first.shaped.size w) on (inner_at one a p)) in
     let third = changed_as _ (full_made scales b j e.low) (OnRow Z y z) two three c.full_row-calm_z.ensures.changed (λ a p w on.
-    full_z scales b j e.low e.size y z count c.requires.among k.same rooms.y c.shifted-5.result.now rooms.x_by_y rooms.x k.y k.x_by_y k.x c.shifted-5.ensures.values a p
+    full_z scales b j e.low e.size y z count c.requires.among k.same rooms.y c.shifted-5.result.now rooms.x_by_y rooms.x k.y k.x_by_y k.x
+    c.shifted-5.ensures.values a p
     (subst (λ (n : Triple). IsWithin p n) (second.shaped.size ∙ first.shaped.size) w) on (inner_at two a p)) in
     line_changed (full_made scales b j e.low) y z e one two three first second third
 

@@ -18,8 +18,10 @@ returns c =
     let made = c.scaled_row.new.to in
     let size : count ≡ to.size.x = c.line_length-count.ensures.value ∙ ap (λ (n : Triple). n.x) c.zone-zone.ensures.size in
     let inner : Triple = record { x = 0; y = y; z = z } in
-    let at : triple c.cell_in-here.result ≡ line_start to.low y z = c.cell_in-here.ensures.value ∙ ap (λ (l : Spot). outer_of l inner) c.zone-zone.ensures.low in
-    let row : IsScaledRow from c.args.mult c.args.axis (line_start to.low y z) count made = subst (λ (s : Triple). IsScaledRow from c.args.mult c.args.axis s count made) at c.scaled_row.ensures in
+    let at : triple c.cell_in-here.result ≡ line_start to.low y z = c.cell_in-here.ensures.value
+    ∙ ap (λ (l : Spot). outer_of l inner) c.zone-zone.ensures.low in
+    let row : IsScaledRow from c.args.mult c.args.axis (line_start to.low y z) count made =
+    subst (λ (s : Triple). IsScaledRow from c.args.mult c.args.axis s count made) at c.scaled_row.ensures in
     let room : length made ≡ 129 = c.scaled_row.array_long in
     let most = c.line_length-count.ensures.few in
     row_changed (force_made c.args.mult from to.low) to c.set_row.new.self c.args.axis y z (take count made) c.set_row.ensures c.zone-zone.ensures.shape

@@ -27,7 +27,8 @@ pub returns-then-half_layers-clause-stop : goal.returns-then-half_layers-clause-
 returns-then-half_layers-clause-stop c =
     let k = (goal.at.returns-then-half_layers-clause-stop c).After-half_layers in
     let none = calm_none c.args.phase c.args.scales.now.b_force (half_in c.args.scales.now c.args.e.now c.args.b.now) c.args.b.now c.half_layers.new.b
-    c.args.e.now.cells c.requires.among c.half_layers.ensures.changed.shaped (values k) c.safe_most-most.result (c.half_layers.ensures.calm c.if-half_layers.true)
+    c.args.e.now.cells c.requires.among c.half_layers.ensures.changed.shaped (values k) c.safe_most-most.result
+    (c.half_layers.ensures.calm c.if-half_layers.true)
     c.safe_most-most.ensures in
     ap (λ (o : Option Stop). unless o tt) (sym none)
 

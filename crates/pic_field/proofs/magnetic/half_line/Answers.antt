@@ -15,9 +15,12 @@ use Rattle.pic_field.proofs.magnetic.half_line.Goals.{After-half_rows}
 -- the rows of the line, where it begins
 record Known (c : After-half_rows) : Type 0 where
   same : c.line_length-count.result ≡ c.args.b.now.size.x
-  x : IsScaledRow c.args.e.now c.args.scales.now.e_to_b X (line_start c.args.b.now.low c.args.y c.args.z) (c.line_length-count.result + 1) c.half_rows.new.rooms.x
-  y : IsScaledRow c.args.e.now c.args.scales.now.e_to_b Y (line_start c.args.b.now.low c.args.y c.args.z) (c.line_length-count.result + 1) c.half_rows.new.rooms.y
-  z : IsScaledRow c.args.e.now c.args.scales.now.e_to_b Z (line_start c.args.b.now.low c.args.y c.args.z) (c.line_length-count.result + 1) c.half_rows.new.rooms.z
+  x : IsScaledRow c.args.e.now c.args.scales.now.e_to_b X (line_start c.args.b.now.low c.args.y c.args.z)
+      (c.line_length-count.result + 1) c.half_rows.new.rooms.x
+  y : IsScaledRow c.args.e.now c.args.scales.now.e_to_b Y (line_start c.args.b.now.low c.args.y c.args.z)
+      (c.line_length-count.result + 1) c.half_rows.new.rooms.y
+  z : IsScaledRow c.args.e.now c.args.scales.now.e_to_b Z (line_start c.args.b.now.low c.args.y c.args.z)
+      (c.line_length-count.result + 1) c.half_rows.new.rooms.z
   x_by_y : IsScaledRow c.args.e.now c.args.scales.now.e_to_b X (up c.args.e.now.cells Y (line_start c.args.b.now.low c.args.y c.args.z))
       (c.line_length-count.result + 1) c.half_rows.new.rooms.x_by_y
   z_by_y : IsScaledRow c.args.e.now c.args.scales.now.e_to_b Z (up c.args.e.now.cells Y (line_start c.args.b.now.low c.args.y c.args.z))
@@ -36,14 +39,17 @@ known c =
     let count = c.line_length-count.result in
     let same : count ≡ c.args.b.now.size.x = c.line_length-count.ensures.value ∙ ap (λ (n : Triple). n.x) c.zone-zone.ensures.size in
     let inner : Triple = record { x = 0; y = c.args.y; z = c.args.z } in
-    let at : triple c.cell_in-here.result ≡ line_start c.args.b.now.low c.args.y c.args.z = c.cell_in-here.ensures.value ∙ ap (λ (l : Spot). outer_of l inner) c.zone-zone.ensures.low in
+    let at : triple c.cell_in-here.result ≡ line_start c.args.b.now.low c.args.y c.args.z =
+    c.cell_in-here.ensures.value ∙ ap (λ (l : Spot). outer_of l inner) c.zone-zone.ensures.low in
     record {
       same = same;
       x = subst (λ (m : ℕ). IsScaledRow e by X (line_start c.args.b.now.low c.args.y c.args.z) (m + 1) rooms.x) (sym same)
-          (subst (λ (row : List ℤ). IsScaledRow e by X (line_start c.args.b.now.low c.args.y c.args.z) (c.args.b.now.size.x + 1) row) (sym h.x) c.requires.x_row);
+          (subst (λ (row : List ℤ). IsScaledRow e by X (line_start c.args.b.now.low c.args.y c.args.z) (c.args.b.now.size.x + 1) row)
+          (sym h.x) c.requires.x_row);
       y = subst (λ (s : Triple). IsScaledRow e by Y s (count + 1) rooms.y) at h.y;
       z = subst (λ (m : ℕ). IsScaledRow e by Z (line_start c.args.b.now.low c.args.y c.args.z) (m + 1) rooms.z) (sym same)
-          (subst (λ (row : List ℤ). IsScaledRow e by Z (line_start c.args.b.now.low c.args.y c.args.z) (c.args.b.now.size.x + 1) row) (sym h.z) c.requires.z_row);
+          (subst (λ (row : List ℤ). IsScaledRow e by Z (line_start c.args.b.now.low c.args.y c.args.z) (c.args.b.now.size.x + 1) row)
+          (sym h.z) c.requires.z_row);
       x_by_y = subst (λ (s : Triple). IsScaledRow e by X (up e.cells Y s) (count + 1) rooms.x_by_y) at h.x_by_y;
       z_by_y = subst (λ (s : Triple). IsScaledRow e by Z (up e.cells Y s) (count + 1) rooms.z_by_y) at h.z_by_y;
       x_by_z = subst (λ (s : Triple). IsScaledRow e by X (up e.cells Z s) (count + 1) rooms.x_by_z) at h.x_by_z;
@@ -64,12 +70,15 @@ returns-clause-changed c =
     let two = c.half_row-calm_y.new.b in
     let three = c.half_row-calm_z.new.b in
     let first = changed_as _ (half_made scales e b.low) (OnRow X y z) b one c.half_row-calm_x.ensures.changed (λ a p w on.
-    half_x scales e b.low b.size y z count c.requires.among k.same rooms.z_by_y rooms.z rooms.y_by_z rooms.y k.z_by_y k.z k.y_by_z k.y a p w on (inner_at b a p)) in
+    half_x scales e b.low b.size y z count c.requires.among k.same rooms.z_by_y rooms.z rooms.y_by_z rooms.y k.z_by_y k.z k.y_by_z k.y a p w on
+    (inner_at b a p)) in
     let second = changed_as _ (half_made scales e b.low) (OnRow Y y z) one two c.half_row-calm_y.ensures.changed (λ a p w on.
-    half_y scales e b.low b.size y z count c.requires.among k.same rooms.x_by_z rooms.x c.shifted.result.now rooms.z k.x_by_z k.x k.z c.shifted.ensures.values a p
+    half_y scales e b.low b.size y z count c.requires.among k.same rooms.x_by_z rooms.x c.shifted.result.now rooms.z k.x_by_z k.x k.z
+    c.shifted.ensures.values a p
     (subst (λ (n : Triple). IsWithin p n) first.shaped.size w) on (inner_at one a p)) in
     let third = changed_as _ (half_made scales e b.low) (OnRow Z y z) two three c.half_row-calm_z.ensures.changed (λ a p w on.
-    half_z scales e b.low b.size y z count c.requires.among k.same c.shifted-2.result.now rooms.y rooms.x_by_y rooms.x k.y k.x_by_y k.x c.shifted-2.ensures.values a p
+    half_z scales e b.low b.size y z count c.requires.among k.same c.shifted-2.result.now rooms.y rooms.x_by_y rooms.x k.y k.x_by_y k.x
+    c.shifted-2.ensures.values a p
     (subst (λ (n : Triple). IsWithin p n) (second.shaped.size ∙ first.shaped.size) w) on (inner_at two a p)) in
     line_changed (half_made scales e b.low) y z b one two three first second third
 

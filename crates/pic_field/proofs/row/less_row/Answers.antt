@@ -25,6 +25,7 @@ loop-i-preserved c =
     let take = c.requires.take.small.at_most i c.loop-i-test.true in
     let inside : i < length c.loop-i.new = omega arith in
     record {
-      values = row_more (λ k z. z ≡ row_at c.args.from.now k -ℤ row_at c.args.take.now k) c.loop-i.new i _ inside c.loop-i.invariant.values (value_is _ _ from take);
+      values = row_more (λ k z. z ≡ row_at c.args.from.now k -ℤ row_at c.args.take.now k) c.loop-i.new i _ inside c.loop-i.invariant.values
+          (value_is _ _ from take);
       small = small_more (2 ^ 91) c.loop-i.new i _ inside c.loop-i.invariant.small (value_small _ _ from take);
     }

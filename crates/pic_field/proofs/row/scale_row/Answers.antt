@@ -18,7 +18,8 @@ loop-i-preserved c =
     let i = c.loop-i.i in
     let kept : to_z w128 (of_z w128 c.scale.result) ≡ c.scale.result = code_is (search codes depth 6) tt in
     let read : to_z w128 (of_z w128 (row_at c.args.from.now i)) ≡ row_at c.args.from.now i = held c.args.from.now i c.loop-i-test.true c.requires.small in
-    let value : to_z w128 (of_z w128 c.scale.result) ≡ scaled (row_at c.args.from.now i) c.args.by = kept ∙ c.scale.ensures.value ∙ ap (λ (z : ℤ). scaled z c.args.by) read in
+    let value : to_z w128 (of_z w128 c.scale.result) ≡ scaled (row_at c.args.from.now i) c.args.by =
+    kept ∙ c.scale.ensures.value ∙ ap (λ (z : ℤ). scaled z c.args.by) read in
     let inside : i < length c.loop-i.to = omega arith in
     record {
       values = row_more (λ k z. z ≡ scaled (row_at c.args.from.now k) c.args.by) c.loop-i.to i _ inside c.loop-i.invariant.values value;

@@ -1,7 +1,7 @@
 use Rattle.std.proofs.Common.{◌^◌, sym, ◌∙◌, ap, subst}
 use Rattle.pic_grid.specs.Cells.{Grid}
 use Rattle.pic_grid.specs.Lattice.{Field, EachAtMost}
-use Rattle.pic_field.proofs.SmallLaws.{each_zeros}
+use Rattle.pic_grid.proofs.SmallLaws.{each_zeros}
 use Rattle.pic_field.proofs.tests.lattice_of.Goals as goal
 
 pub loop-axis-init : goal.loop-axis-init

@@ -7,4 +7,5 @@ use Rattle.pic_fields.proofs.numbers.read_exactly.Given as goal
 
 abbrev pub invariant-loop-index : goal.invariant-loop-index
 invariant-loop-index g l =
-    HasRead (each l.index (letter l.cause l.text)) l.place (g.S.Source.told l.initial.source) (take l.index l.text) (l.place + l.index) (g.S.Source.told l.source)
+    HasRead (each l.index (letter l.cause l.text)) l.place (g.S.Source.told l.initial.source) (take l.index l.text) (l.place + l.index)
+    (g.S.Source.told l.source)

@@ -12,4 +12,7 @@ returns-in_err-take_field g c = exits_as _ c.from_residual.ensures.1 c.in_err-ta
 
 pub returns : goal.returns
 unfolding i128_at i128_of
-returns g c = record { answer = read_same (sym (to_z-of_z w128 c.from_be_bytes.result (record { sfits = c.from_be_bytes.type_inv }) ∙ c.from_be_bytes.ensures)) (read_as i128_of c.in_ok-take_field.ensures.reads.answer) }
+returns g c = record {
+  answer = read_same (sym (to_z-of_z w128 c.from_be_bytes.result (record { sfits = c.from_be_bytes.type_inv }) ∙ c.from_be_bytes.ensures))
+      (read_as i128_of c.in_ok-take_field.ensures.reads.answer);
+}

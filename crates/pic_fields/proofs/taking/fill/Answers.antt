@@ -32,4 +32,5 @@ fronts_more x y z room part count more so_far most given calm =
 
 pub loop-count-preserved : goal.loop-count-preserved
 loop-count-preserved g c =
-    fronts_more _ _ _ c.loop-count.room c.take.new.room c.loop-count.count c.in-Ok.more c.loop-count.invariant c.in-Ok.ensures.bound c.in-Ok.ensures.bytes.moved c.in-Ok.ensures.cause.ok
+    fronts_more _ _ _ c.loop-count.room c.take.new.room c.loop-count.count c.in-Ok.more c.loop-count.invariant c.in-Ok.ensures.bound c.in-Ok.ensures.bytes.moved
+    c.in-Ok.ensures.cause.ok

@@ -3,7 +3,12 @@ use Rattle.pic_fields.proofs.FieldLaws.{ends_here, more_here, filled_moves}
 use Rattle.pic_fields.proofs.taking.read_end.Goals as goal
 
 pub returns-then-branch-eq0 : goal.returns-then-branch-eq0
-returns-then-branch-eq0 g c = record { reads = record { answer = ends_here _ _ c.fill.new.room _ c.in_ok-fill.field-0 c.fill.ensures.length c.in_ok-fill.ensures.fills (omega (arith, c.if-branch-eq0.true)) } }
+returns-then-branch-eq0 g c = record {
+  reads = record {
+    answer = ends_here _ _ c.fill.new.room _ c.in_ok-fill.field-0 c.fill.ensures.length
+        c.in_ok-fill.ensures.fills (omega (arith, c.if-branch-eq0.true));
+  };
+}
 
 pub returns : goal.returns
 returns g c = record {

@@ -6,10 +6,14 @@ pub returns-then-count-room-clause-reads : goal.returns-then-count-room-clause-r
 returns-then-count-room-clause-reads g c =
     record {
       answer = record {
-        why = fails_field _ _ c.fill.new.room _ _ c.in_ok-count.count c.fill.ensures.length c.in_ok-count.ensures.fills (omega (arith, c.if-count-room.true, c.fill.ensures.length));
+        why = fails_field _ _ c.fill.new.room _ _ c.in_ok-count.count c.fill.ensures.length c.in_ok-count.ensures.fills
+            (omega (arith, c.if-count-room.true, c.fill.ensures.length));
         moves = filled_moves _ _ c.fill.new.room _ _ c.in_ok-count.count c.fill.ensures.length c.in_ok-count.ensures.fills;
       };
     }
 
 pub returns-clause-reads : goal.returns-clause-reads
-returns-clause-reads g c = record { answer = read_field _ _ c.fill.new.room _ _ c.in_ok-count.count c.fill.ensures.length c.in_ok-count.ensures.fills (omega (arith, c.if-count-room.false, c.fill.ensures.length)) }
+returns-clause-reads g c = record {
+  answer = read_field _ _ c.fill.new.room _ _ c.in_ok-count.count c.fill.ensures.length c.in_ok-count.ensures.fills
+      (omega (arith, c.if-count-room.false, c.fill.ensures.length));
+}

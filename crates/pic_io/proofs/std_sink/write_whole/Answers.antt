@@ -22,7 +22,8 @@ front_kept a b c all done rest split appended kept =
     (length done, subst (Appends a c) front (Appends-kept a b c done appended kept))
 
 -- what is done is a front, where the last call wrote n bytes more
-front_more : (a b c : Option (List ℕ)) (all done rest : List ℕ) (n : ℕ) → all ≡ done ++ rest → Appends a b done → Appends b c (take n rest) → (k : ℕ) × Appends a c (take k all)
+front_more : (a b c : Option (List ℕ)) (all done rest : List ℕ) (n : ℕ) → all ≡ done ++ rest → Appends a b done → Appends b c (take n rest)
+    → (k : ℕ) × Appends a c (take k all)
 front_more a b c all done rest n split appended more =
     let front : done ++ take n rest ≡ take (length done + n) all = sym (take-past done rest n) ∙ ap (take (length done + n)) (sym split) in
     (length done + n, subst (Appends a c) front (Appends-trans a b c done (take n rest) appended more))

@@ -15,7 +15,8 @@ pub returns-in-Ok-clause-usage : goal.returns-in-Ok-clause-usage
 returns-in-Ok-clause-usage c =
     let line : map (λ word. word.now) c.as_slice.result.now ≡ codes "pic" ∷ map string_bytes c.args.words.now =
     ap (map (λ word. word.now)) c.as_slice.ensures.value ∙ c.in_ok-line.ensures in
-    λ _. matched (app_of c.in_ok-app.app) (map (λ word. word.now) c.as_slice.result.now) (map string_bytes c.args.words.now) c.in-Ok.matches c.in_ok-app.ensures line
+    λ _. matched (app_of c.in_ok-app.app) (map (λ word. word.now) c.as_slice.result.now)
+    (map string_bytes c.args.words.now) c.in-Ok.matches c.in_ok-app.ensures line
     c.in-Ok.ensures.kinds c.in-Ok.ensures.matches
     ∙ sym c.command_from.ensures ∙ c.in-None.is
 

@@ -16,13 +16,16 @@ returns-in_err-bound g c = goes_on _ c.in_ok-phase.ensures.answer (exits _ (omeg
 
 pub returns-in_err-axis : goal.returns-in_err-axis
 unfolding field_stop_at
-returns-in_err-axis g c = goes_on _ c.in_ok-phase.ensures.answer (goes_on _ c.in_ok-bound.ensures.answer (exits _ (omega arith) c.from_residual-in_err-axis.ensures.1 c.in_err-axis.ensures))
+returns-in_err-axis g c =
+    goes_on _ c.in_ok-phase.ensures.answer (goes_on _ c.in_ok-bound.ensures.answer (exits _ (omega arith) c.from_residual-in_err-axis.ensures.1
+    c.in_err-axis.ensures))
 
 pub returns-in_err-cell : goal.returns-in_err-cell
 unfolding field_stop_at
 returns-in_err-cell g c =
     let cell = rw c.cells.ensures.value at c.in_err-cell.ensures in
-    goes_on _ c.in_ok-phase.ensures.answer (goes_on _ c.in_ok-bound.ensures.answer (goes_on _ c.in_ok-axis.ensures.answer (exits _ (omega arith) c.from_residual-in_err-cell.ensures.1 cell)))
+    goes_on _ c.in_ok-phase.ensures.answer (goes_on _ c.in_ok-bound.ensures.answer (goes_on _ c.in_ok-axis.ensures.answer
+    (exits _ (omega arith) c.from_residual-in_err-cell.ensures.1 cell)))
 
 pub returns-in_err-value : goal.returns-in_err-value
 unfolding field_stop_at
@@ -40,6 +43,7 @@ returns g c =
     let fits : SFits w128 c.in_ok-value.value = search rules in
     rw (to_z-of_z w128 c.in_ok-value.value fits)
     (record {
-      answer = read_up_to (omega arith) (read_then _ c.in_ok-phase.ensures.answer (read_then _ c.in_ok-bound.ensures.answer (read_then _ c.in_ok-axis.ensures.answer
+      answer = read_up_to (omega arith) (read_then _ c.in_ok-phase.ensures.answer (read_then _ c.in_ok-bound.ensures.answer
+          (read_then _ c.in_ok-axis.ensures.answer
           (read_then _ cell.answer (read_then _ value.answer (read_done _ _ _))))));
     })

@@ -18,4 +18,7 @@ returns-then-not-is_phase g c =
 pub returns : goal.returns
 unfolding phase_at code_at
 returns g c =
-    record { answer = read_same (sym c.phase_of.ensures) (read_as phase_of (passes _ is_phase c.in_ok-n.ensures.answer (sym c.is_phase.ensures ∙ c.if-not-is_phase.false))) }
+    record {
+      answer = read_same (sym c.phase_of.ensures) (read_as phase_of (passes _ is_phase c.in_ok-n.ensures.answer (sym c.is_phase.ensures
+          ∙ c.if-not-is_phase.false)));
+    }

@@ -12,12 +12,14 @@ returns-in_err-step g c = exits_to_end _ (omega arith) c.from_residual.ensures.1
 
 pub returns-in_err-stop : goal.returns-in_err-stop
 unfolding push_end_at last_record
-returns-in_err-stop g c = goes_on_to_end _ c.in_ok-step.ensures.reads.answer (exits_to_end _ (omega arith) c.from_residual-in_err-stop.ensures.1 c.in_err-stop.ensures)
+returns-in_err-stop g c =
+    goes_on_to_end _ c.in_ok-step.ensures.reads.answer (exits_to_end _ (omega arith) c.from_residual-in_err-stop.ensures.1 c.in_err-stop.ensures)
 
 pub returns-in_err-read_end : goal.returns-in_err-read_end
 unfolding push_end_at last_record
 returns-in_err-read_end g c =
-    goes_on_to_end _ c.in_ok-step.ensures.reads.answer (goes_on_to_end _ c.in_ok-stop.ensures.answer (exits_at_end _ c.from_residual-in_err-read_end.ensures.1 c.in_err-read_end.ensures.reads))
+    goes_on_to_end _ c.in_ok-step.ensures.reads.answer (goes_on_to_end _ c.in_ok-stop.ensures.answer (exits_at_end _ c.from_residual-in_err-read_end.ensures.1
+    c.in_err-read_end.ensures.reads))
 
 pub returns : goal.returns
 unfolding push_end_at last_record

@@ -29,7 +29,8 @@ unfolding push_stop_at below_at
 returns-in_err-value g c =
     let id = rw c.particles.ensures.value at c.in_ok-id.ensures.reads in
     let value = rw (c.what_limit.ensures, c.side.ensures.value) at c.in_err-value.ensures in
-    goes_on _ id.answer (goes_on _ c.in_ok-what.ensures.answer (goes_on _ c.in_ok-axis.ensures.answer (exits _ (omega arith) c.from_residual-in_err-value.ensures.1 value)))
+    goes_on _ id.answer (goes_on _ c.in_ok-what.ensures.answer (goes_on _ c.in_ok-axis.ensures.answer
+    (exits _ (omega arith) c.from_residual-in_err-value.ensures.1 value)))
 
 pub returns : goal.returns
 unfolding push_stop_at below_at

@@ -28,7 +28,8 @@ unfolding field_at value_at
 returns-in_err-value-clause-reads g c =
     let count : c.count.result ≡ count_of c.args.field.now.cells = c.count.ensures.value ∙ ap count_of c.cells-cells.ensures.value in
     let below : c.loop-index.index < 3 * count_of c.args.field.now.cells = omega (arith, count, c.loop-index-test.true) in
-    exits_among (3 * count_of c.args.field.now.cells) c.loop-index.index (value_at c.args.by) c.from_residual.ensures.1 below (omega (arith, below)) c.loop-index.invariant.read c.in_err-value.ensures.reads
+    exits_among (3 * count_of c.args.field.now.cells) c.loop-index.index (value_at c.args.by) c.from_residual.ensures.1 below
+    (omega (arith, below)) c.loop-index.invariant.read c.in_err-value.ensures.reads
 
 pub loop-index-preserved : goal.loop-index-preserved
 unfolding value_at
@@ -44,10 +45,12 @@ loop-index-preserved g c =
     let is : to_z w128 (of_z w128 v) ≡ v = to_z-of_z w128 v fits in
     let count : c.count.result ≡ count_of c.args.field.now.cells = c.count.ensures.value ∙ ap count_of c.cells-cells.ensures.value in
     let counted = ap count_of so_far.cells in
-    let at : place_of f.cells axis cell ≡ i = ap (λ n. place_of n axis cell) (so_far.cells ∙ sym c.cells-cells.ensures.value) ∙ c.place_at-axis.ensures.number in
+    let at : place_of f.cells axis cell ≡ i = ap (λ n. place_of n axis cell) (so_far.cells ∙ sym c.cells-cells.ensures.value)
+    ∙ c.place_at-axis.ensures.number in
     let inside : i < length f.values = omega (arith, so_far.shape, count, counted, c.loop-index-test.true) in
     rw c.set.ensures.after (record {
-      read = read_up_to (omega arith) (read_same (sym (values_more f axis cell i v (to_z w128 (of_z w128 v)) at inside is)) (read_more i (value_at by) so_far.read c.in_ok-value.ensures.reads.answer));
+      read = read_up_to (omega arith) (read_same (sym (values_more f axis cell i v (to_z w128 (of_z w128 v)) at inside is))
+          (read_more i (value_at by) so_far.read c.in_ok-value.ensures.reads.answer));
       cells = so_far.cells;
       side = so_far.side;
       parts = so_far.parts;
@@ -63,10 +66,14 @@ returns-clause-reads g c =
     let i = c.loop-index.index in
     let count : c.count.result ≡ count_of c.args.field.now.cells = c.count.ensures.value ∙ ap count_of c.cells-cells.ensures.value in
     let all : i ≡ 3 * count_of c.args.field.now.cells = omega (arith, count, c.loop-index-test.false, c.loop-index.auto.index-end) in
-    let whole : take i f.values ≡ f.values = ap (λ n. take n f.values) (all ∙ sym (so_far.shape ∙ ap (λ n. 3 * count_of n) so_far.cells)) ∙ take-length f.values in
+    let whole : take i f.values ≡ f.values = ap (λ n. take n f.values) (all ∙ sym (so_far.shape ∙ ap (λ n. 3 * count_of n) so_far.cells))
+    ∙ take-length f.values in
     let before = g.S.Source.told c.args.source.now in
     let now = g.S.Source.told c.loop-index.source in
-    record { answer = read_same whole (subst (λ n. HasRead (each n (value_at c.args.by)) c.args.place before (take i f.values) (c.args.place + 16 * n) now) all so_far.read) }
+    record {
+      answer = read_same whole (subst (λ n. HasRead (each n (value_at c.args.by)) c.args.place before (take i f.values) (c.args.place + 16 * n) now) all
+          so_far.read);
+    }
 
 pub returns-clause-bounds : goal.returns-clause-bounds
 returns-clause-bounds g c =

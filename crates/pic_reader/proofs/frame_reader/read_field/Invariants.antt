@@ -8,7 +8,8 @@ use Rattle.pic_reader.proofs.frame_reader.read_field.Given as goal
 
 abbrev pub invariant-loop-index : goal.invariant-loop-index
 invariant-loop-index g l = record {
-  read : HasRead (each l.index (value_at l.by)) l.place (g.S.Source.told l.initial.source) (take l.index l.field.values) (l.place + 16 * l.index) (g.S.Source.told l.source);
+  read : HasRead (each l.index (value_at l.by)) l.place (g.S.Source.told l.initial.source) (take l.index l.field.values) (l.place + 16 * l.index)
+      (g.S.Source.told l.source);
   cells : l.field.cells ≡ l.initial.field.cells;
   side : l.field.side ≡ l.initial.field.side;
   parts : l.field.parts ≡ l.initial.field.parts;

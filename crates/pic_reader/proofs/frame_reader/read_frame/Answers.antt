@@ -28,7 +28,8 @@ returns-in_err-read_field-2-clause-reads g c =
     let at_step = g.S.Source.told c.read_step.new.source in
     let e_read = rw (c.requires.e, c.scales.ensures.value) at c.in_ok-read_field.ensures.reads in
     let at_e = g.S.Source.told c.read_field.new.source in
-    let e : HasRead (field_at l.cells l.scales.e_force) second at_step c.read_field.new.field.values third at_e = read_up_to (omega (arith, count)) e_read.answer in
+    let e : HasRead (field_at l.cells l.scales.e_force) second at_step c.read_field.new.field.values third at_e =
+    read_up_to (omega (arith, count)) e_read.answer in
     let b = rw (c.requires.b, c.scales-2.ensures.value) at c.in_err-read_field-2.ensures.reads in
     goes_on _ c.in_ok-read_step.ensures.answer (goes_on _ e (exits _ (omega arith) c.from_residual-in_err-read_field-2.ensures.1 b))
 
@@ -42,12 +43,15 @@ returns-in_err-read_particles-clause-reads g c =
     let at_step = g.S.Source.told c.read_step.new.source in
     let e_read = rw (c.requires.e, c.scales.ensures.value) at c.in_ok-read_field.ensures.reads in
     let at_e = g.S.Source.told c.read_field.new.source in
-    let e : HasRead (field_at l.cells l.scales.e_force) second at_step c.read_field.new.field.values third at_e = read_up_to (omega (arith, count)) e_read.answer in
+    let e : HasRead (field_at l.cells l.scales.e_force) second at_step c.read_field.new.field.values third at_e =
+    read_up_to (omega (arith, count)) e_read.answer in
     let fourth = third + 16 * (3 * c.from-values.result) in
     let b_read = rw (c.requires.b, c.scales-2.ensures.value) at c.in_ok-read_field-2.ensures.reads in
     let at_b = g.S.Source.told c.read_field-2.new.source in
-    let b : HasRead (field_at l.cells l.scales.b_force) third at_e c.read_field-2.new.field.values fourth at_b = read_up_to (omega (arith, count)) b_read.answer in
-    goes_on _ c.in_ok-read_step.ensures.answer (goes_on _ e (goes_on _ b (exits _ (omega arith) c.from_residual-in_err-read_particles.ensures.1 c.in_err-read_particles.ensures.reads)))
+    let b : HasRead (field_at l.cells l.scales.b_force) third at_e c.read_field-2.new.field.values fourth at_b =
+    read_up_to (omega (arith, count)) b_read.answer in
+    goes_on _ c.in_ok-read_step.ensures.answer (goes_on _ e (goes_on _ b (exits _ (omega arith) c.from_residual-in_err-read_particles.ensures.1
+    c.in_err-read_particles.ensures.reads)))
 
 pub returns-clause-reads : goal.returns-clause-reads
 unfolding frame_at state_at
@@ -59,11 +63,13 @@ returns-clause-reads g c =
     let at_step = g.S.Source.told c.read_step.new.source in
     let e_read = rw (c.requires.e, c.scales.ensures.value) at c.in_ok-read_field.ensures.reads in
     let at_e = g.S.Source.told c.read_field.new.source in
-    let e : HasRead (field_at l.cells l.scales.e_force) second at_step c.read_field.new.field.values third at_e = read_up_to (omega (arith, count)) e_read.answer in
+    let e : HasRead (field_at l.cells l.scales.e_force) second at_step c.read_field.new.field.values third at_e =
+    read_up_to (omega (arith, count)) e_read.answer in
     let fourth = third + 16 * (3 * c.from-values.result) in
     let b_read = rw (c.requires.b, c.scales-2.ensures.value) at c.in_ok-read_field-2.ensures.reads in
     let at_b = g.S.Source.told c.read_field-2.new.source in
-    let b : HasRead (field_at l.cells l.scales.b_force) third at_e c.read_field-2.new.field.values fourth at_b = read_up_to (omega (arith, count)) b_read.answer in
+    let b : HasRead (field_at l.cells l.scales.b_force) third at_e c.read_field-2.new.field.values fourth at_b =
+    read_up_to (omega (arith, count)) b_read.answer in
     let fifth = fourth + 24 * c.from.result in
     let at_p = g.S.Source.told c.read_particles.new.source in
     let number : c.from.result ≡ sum l.counts = c.from.ensures ∙ c.particles.ensures.value in
@@ -81,6 +87,8 @@ returns-clause-reads g c =
     ∙ ap (λ k. energies_of l.scales k e_is b_is (take c.args.state.now.particles.len (new ++ rest))) c.kinds.ensures.value
     ∙ ap (λ q. energies_of l.scales l.kinds e_is b_is q) whole
     ∙ same_energies l.scales l.kinds e_is b_is l new in
-    let energies = subst (λ w. Reads as_it_is (energies_at w) fifth (fifth + 48) at_p (g.S.Source.told c.read_energies.new.source) c.read_energies.result) want c.read_energies.ensures in
+    let energies = subst (λ w. Reads as_it_is (energies_at w) fifth (fifth + 48) at_p (g.S.Source.told c.read_energies.new.source) c.read_energies.result) want
+    c.read_energies.ensures in
     let last = reads_as (frame_of c.args.due e_is.values b_is.values new) energies in
-    rw whole (reads_up_to {d = fifth + 48} (omega (arith, count, number)) (goes_on _ c.in_ok-read_step.ensures.answer (goes_on _ e (goes_on _ b (goes_on _ p last)))))
+    rw whole (reads_up_to {d = fifth + 48} (omega (arith, count, number)) (goes_on _ c.in_ok-read_step.ensures.answer
+    (goes_on _ e (goes_on _ b (goes_on _ p last)))))

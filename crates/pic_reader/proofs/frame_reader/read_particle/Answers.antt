@@ -28,8 +28,12 @@ returns-clause-reads g c =
     let x = rw (c.cells.ensures.value, c.cells.ensures.side) at c.in_ok-x.ensures.reads in
     let v = rw c.side.ensures.value at c.in_ok-v.ensures in
     let id = c.args.id in
-    let species : c.species_at-species.result ≡ species_of c.args.layout.now.counts id = c.species_at-species.ensures.value ∙ ap (λ counts. species_of counts id) c.counts.ensures.value in
-    record { answer = read_same (ap (λ s. particle id s c.in_ok-x.x c.in_ok-v.v) (sym species)) (read_up_to (omega arith) (read_then _ x.answer (read_then _ v.answer (read_done _ _ _)))) }
+    let species : c.species_at-species.result ≡ species_of c.args.layout.now.counts id = c.species_at-species.ensures.value
+    ∙ ap (λ counts. species_of counts id) c.counts.ensures.value in
+    record {
+      answer = read_same (ap (λ s. particle id s c.in_ok-x.x c.in_ok-v.v) (sym species)) (read_up_to (omega arith) (read_then _ x.answer
+          (read_then _ v.answer (read_done _ _ _))));
+    }
 
 pub returns-clause-place : goal.returns-clause-place
 returns-clause-place g c = record { place = rw (c.cells.ensures.value, c.cells.ensures.side) at c.in_ok-x.ensures.inside }

@@ -28,7 +28,8 @@ returns-in_err-particle-clause-reads g c =
     let below : i < sum l.counts = omega (arith, c.loop-index-test.true, c.particles-count.ensures.value) in
     let size = length-take-le i c.loop-index.particles (omega (arith, below, so_far.size, c.requires.count)) in
     let at = c.args.place + 24 * i in
-    let stopped : Reads as_it_is (particle_at l (take i c.loop-index.particles)) at (at + 24) (g.S.Source.told c.loop-index.source) (g.S.Source.told c.read_particle.new.source)
+    let stopped : Reads as_it_is (particle_at l (take i c.loop-index.particles)) at (at + 24) (g.S.Source.told c.loop-index.source)
+    (g.S.Source.told c.read_particle.new.source)
     (Err c.in_err-particle.field-0.0) = rw size c.in_err-particle.ensures.reads in
     exits_among (sum l.counts) i (particle_at l) c.from_residual.ensures.1 below (omega (arith, below)) so_far.read stopped
 
@@ -44,7 +45,8 @@ loop-index-preserved g c =
     let inside : i < length ps = omega (arith, below, so_far.size, c.requires.count) in
     let size = length-take-le i ps (omega (arith, inside)) in
     let at = c.args.place + 24 * i in
-    let next : HasRead (particle_at l (take i ps)) at (g.S.Source.told c.loop-index.source) p (at + 24) (g.S.Source.told c.read_particle.new.source) = rw size c.in_ok-particle.ensures.reads.answer in
+    let next : HasRead (particle_at l (take i ps)) at (g.S.Source.told c.loop-index.source) p (at + 24) (g.S.Source.told c.read_particle.new.source) =
+    rw size c.in_ok-particle.ensures.reads.answer in
     record {
       read = read_up_to (omega arith) (read_same (sym (take_more_set ps i p inside)) (read_more i (particle_at l) so_far.read next));
       size = length-set _ _ _ ∙ so_far.size;
@@ -63,7 +65,10 @@ returns-clause-reads g c =
     let whole : take i ps ≡ ps = ap (λ n. take n ps) (all ∙ sym (so_far.size ∙ c.requires.count)) ∙ take-length ps in
     let before = g.S.Source.told c.args.source.now in
     let now = g.S.Source.told c.loop-index.source in
-    record { answer = read_same whole (subst (λ n. HasRead (each n (particle_at l)) c.args.place before (take i ps) (c.args.place + 24 * n) now) all so_far.read) }
+    record {
+      answer = read_same whole (subst (λ n. HasRead (each n (particle_at l)) c.args.place before (take i ps) (c.args.place + 24 * n) now) all
+          so_far.read);
+    }
 
 pub returns-clause-species : goal.returns-clause-species
 returns-clause-species g c =

@@ -9,7 +9,8 @@ use Rattle.pic_reader.proofs.frame_reader.read_particles.Given as goal
 
 abbrev pub invariant-loop-index : goal.invariant-loop-index
 invariant-loop-index g l = record {
-  read : HasRead (each l.index (particle_at l.layout)) l.place (g.S.Source.told l.initial.source) (take l.index l.particles) (l.place + 24 * l.index) (g.S.Source.told l.source);
+  read : HasRead (each l.index (particle_at l.layout)) l.place (g.S.Source.told l.initial.source) (take l.index l.particles) (l.place + 24 * l.index)
+      (g.S.Source.told l.source);
   size : length l.particles ≡ length l.initial.particles;
   species : (k : ℕ) (d : Particle) → k < l.index → IsOfKinds l.layout.kinds (get_or l.particles k d);
   places : (k : ℕ) (d : Particle) → k < l.index → IsPlaced l.layout.side l.layout.cells (get_or l.particles k d);

@@ -16,7 +16,8 @@ returns-in_err-y g c = goes_on _ c.in_ok-x.ensures.answer (exits _ (omega arith)
 
 pub returns-in_err-z : goal.returns-in_err-z
 unfolding velocity_at
-returns-in_err-z g c = goes_on _ c.in_ok-x.ensures.answer (goes_on _ c.in_ok-y.ensures.answer (exits _ (omega arith) c.from_residual-in_err-z.ensures.1 c.in_err-z.ensures))
+returns-in_err-z g c =
+    goes_on _ c.in_ok-x.ensures.answer (goes_on _ c.in_ok-y.ensures.answer (exits _ (omega arith) c.from_residual-in_err-z.ensures.1 c.in_err-z.ensures))
 
 pub returns : goal.returns
 unfolding velocity_at
@@ -25,4 +26,7 @@ returns g c =
     let y : SFits w32 c.in_ok-y.y = search rules in
     let z : SFits w32 c.in_ok-z.z = search rules in
     rw (to_z-of_z w32 c.in_ok-x.x x, to_z-of_z w32 c.in_ok-y.y y, to_z-of_z w32 c.in_ok-z.z z)
-    (record { answer = read_up_to (omega arith) (read_then _ c.in_ok-x.ensures.answer (read_then _ c.in_ok-y.ensures.answer (read_then _ c.in_ok-z.ensures.answer (read_done _ _ _)))) })
+    (record {
+      answer = read_up_to (omega arith) (read_then _ c.in_ok-x.ensures.answer (read_then _ c.in_ok-y.ensures.answer
+          (read_then _ c.in_ok-z.ensures.answer (read_done _ _ _))));
+    })

@@ -14,8 +14,14 @@ returns-in_err-y-clause-reads g c = goes_on _ c.in_ok-x.ensures.reads.answer (ex
 
 pub returns-in_err-z-clause-reads : goal.returns-in_err-z-clause-reads
 unfolding cells_at
-returns-in_err-z-clause-reads g c = goes_on _ c.in_ok-x.ensures.reads.answer (goes_on _ c.in_ok-y.ensures.reads.answer (exits _ (omega arith) c.from_residual-in_err-z.ensures.1 c.in_err-z.ensures.reads))
+returns-in_err-z-clause-reads g c =
+    goes_on _ c.in_ok-x.ensures.reads.answer (goes_on _ c.in_ok-y.ensures.reads.answer (exits _ (omega arith) c.from_residual-in_err-z.ensures.1
+    c.in_err-z.ensures.reads))
 
 pub returns-clause-reads : goal.returns-clause-reads
 unfolding cells_at
-returns-clause-reads g c = record { answer = read_same (sym (ap (λ (grid : Grid). grid.n) c.new.ensures)) (read_up_to (omega arith) (read_then _ c.in_ok-x.ensures.reads.answer (read_then _ c.in_ok-y.ensures.reads.answer (read_then _ c.in_ok-z.ensures.reads.answer (read_done _ _ _))))) }
+returns-clause-reads g c =
+    record {
+      answer = read_same (sym (ap (λ (grid : Grid). grid.n) c.new.ensures)) (read_up_to (omega arith) (read_then _ c.in_ok-x.ensures.reads.answer
+          (read_then _ c.in_ok-y.ensures.reads.answer (read_then _ c.in_ok-z.ensures.reads.answer (read_done _ _ _)))));
+    }

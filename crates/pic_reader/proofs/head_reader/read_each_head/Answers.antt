@@ -18,7 +18,8 @@ loop-index-init g c =
 pub returns-in_err-head-clause-reads : goal.returns-in_err-head-clause-reads
 returns-in_err-head-clause-reads g c =
     let stopped = rw c.as_slice.ensures.value at c.in_err-head.ensures.reads in
-    head_among c.args.count c.loop-index.index head_at c.from_residual.ensures.1 c.loop-index-test.true (omega (arith, c.loop-index-test.true)) c.loop-index.invariant.read stopped
+    head_among c.args.count c.loop-index.index head_at c.from_residual.ensures.1 c.loop-index-test.true (omega (arith, c.loop-index-test.true))
+    c.loop-index.invariant.read stopped
 
 pub returns-in_err-push-clause-reads : goal.returns-in_err-push-clause-reads
 returns-in_err-push-clause-reads g c =
@@ -32,7 +33,8 @@ loop-index-preserved g c =
     let read = rw c.as_slice.ensures.value at c.in_ok-head.ensures.reads in
     let new = rw c.as_slice.ensures.value at c.in_ok-head.ensures.new in
     let all = sum_by-append (λ (h : HeadView). h.count) c.loop-index.heads.items (c.in_ok-head.head ∷ []) in
-    let count : c.loop-index.particles + c.in_ok-head.head.count ≡ particles_of (c.loop-index.heads.items ++ c.in_ok-head.head ∷ []) = omega (arith, all, so_far.count) in
+    let count : c.loop-index.particles + c.in_ok-head.head.count ≡ particles_of (c.loop-index.heads.items ++ c.in_ok-head.head ∷ []) =
+    omega (arith, all, so_far.count) in
     rw c.in_ok-push.ensures.items (record {
       read = read_up_to (omega arith) (read_more c.loop-index.index head_at so_far.read read.answer);
       are = heads_more _ _ so_far.are few new;
@@ -47,4 +49,7 @@ returns-clause-reads g c =
     let before = g.S.Source.told c.args.source.now in
     let now = g.S.Source.told c.loop-index.source in
     let heads = c.loop-index.heads.items in
-    record { answer = read_up_to (omega (arith, so_far.size)) (subst (λ n. HasRead (each n head_at) c.args.place before heads (c.args.place + 60 * c.loop-index.index) now) all so_far.read) }
+    record {
+      answer = read_up_to (omega (arith, so_far.size)) (subst (λ n. HasRead (each n head_at) c.args.place before heads
+          (c.args.place + 60 * c.loop-index.index) now) all so_far.read);
+    }

@@ -28,23 +28,30 @@ returns-in_err-name-clause-reads g c = head_exits _ (omega arith) c.from_residua
 
 pub returns-in_err-kind-clause-reads : goal.returns-in_err-kind-clause-reads
 unfolding head_at
-returns-in_err-kind-clause-reads g c = head_goes_on _ c.in_ok-name.ensures.reads.answer (head_exits _ (omega arith) c.from_residual-in_err-kind.ensures.1 c.in_err-kind.ensures.reads)
+returns-in_err-kind-clause-reads g c =
+    head_goes_on _ c.in_ok-name.ensures.reads.answer (head_exits _ (omega arith) c.from_residual-in_err-kind.ensures.1 c.in_err-kind.ensures.reads)
 
 pub returns-in_err-count-clause-reads : goal.returns-in_err-count-clause-reads
 unfolding head_at
-returns-in_err-count-clause-reads g c = head_goes_on _ c.in_ok-name.ensures.reads.answer (head_goes_on _ c.in_ok-kind.ensures.reads.answer (head_exits _ (omega arith) c.from_residual-in_err-count.ensures.1 (so_many _ _ c.requires.count c.in_err-count.ensures.reads)))
+returns-in_err-count-clause-reads g c =
+    head_goes_on _ c.in_ok-name.ensures.reads.answer (head_goes_on _ c.in_ok-kind.ensures.reads.answer
+    (head_exits _ (omega arith) c.from_residual-in_err-count.ensures.1 (so_many _ _ c.requires.count c.in_err-count.ensures.reads)))
 
 pub returns-in_err-head-clause-reads : goal.returns-in_err-head-clause-reads
 returns-in_err-head-clause-reads g c =
     head_starves _ c.from_residual-in_err-head.ensures.1
     (c.in_ok-count.ensures.reads.answer.calm ∙ (c.in_ok-kind.ensures.reads.answer.calm ∙ c.in_ok-name.ensures.reads.answer.calm))
-    (moves_up (omega arith) (moves_then c.in_ok-name.ensures.reads.answer.moves (moves_then c.in_ok-kind.ensures.reads.answer.moves c.in_ok-count.ensures.reads.answer.moves)))
+    (moves_up (omega arith) (moves_then c.in_ok-name.ensures.reads.answer.moves (moves_then c.in_ok-kind.ensures.reads.answer.moves
+    c.in_ok-count.ensures.reads.answer.moves)))
 
 pub returns-clause-reads : goal.returns-clause-reads
 unfolding head_at
 returns-clause-reads g c =
     let is = c.in_ok-head.ensures ∙ ap (λ (name : List ℕ). head name c.in_ok-kind.kind c.in_ok-count.count) c.bytes.ensures in
-    record { answer = read_same (sym is) (read_up_to (omega arith) (read_then _ c.in_ok-name.ensures.reads.answer (read_then _ c.in_ok-kind.ensures.reads.answer (read_then _ (so_many _ _ c.requires.count c.in_ok-count.ensures.reads).answer (read_done _ _ _))))) }
+    record {
+      answer = read_same (sym is) (read_up_to (omega arith) (read_then _ c.in_ok-name.ensures.reads.answer
+          (read_then _ c.in_ok-kind.ensures.reads.answer (read_then _ (so_many _ _ c.requires.count c.in_ok-count.ensures.reads).answer (read_done _ _ _)))));
+    }
 
 pub returns-clause-new : goal.returns-clause-new
 returns-clause-new g c =

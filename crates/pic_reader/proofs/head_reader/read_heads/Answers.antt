@@ -9,4 +9,5 @@ returns-in_err-count-clause-reads g c = head_exits _ (omega arith) c.from_residu
 
 pub returns-clause-reads : goal.returns-clause-reads
 unfolding heads_at
-returns-clause-reads g c = head_goes_on _ c.in_ok-count.ensures.reads.answer (head_up (omega (arith, c.in_ok-count.ensures.high)) c.read_each_head.ensures.reads)
+returns-clause-reads g c =
+    head_goes_on _ c.in_ok-count.ensures.reads.answer (head_up (omega (arith, c.in_ok-count.ensures.high)) c.read_each_head.ensures.reads)

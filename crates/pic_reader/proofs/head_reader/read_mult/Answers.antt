@@ -18,4 +18,7 @@ pub returns : goal.returns
 unfolding mult_at
 returns g c =
     let fits : SFits w32 c.in_ok-n.n = search rules in
-    rw c.new.ensures (rw (to_z-of_z w32 c.in_ok-n.n fits) (record { answer = read_up_to (omega arith) (read_then _ c.in_ok-n.ensures.reads.answer (read_then _ c.in_ok-k.ensures.reads.answer (read_done _ _ _))) }))
+    rw c.new.ensures (rw (to_z-of_z w32 c.in_ok-n.n fits) (record {
+      answer = read_up_to (omega arith) (read_then _ c.in_ok-n.ensures.reads.answer
+          (read_then _ c.in_ok-k.ensures.reads.answer (read_done _ _ _)));
+    }))

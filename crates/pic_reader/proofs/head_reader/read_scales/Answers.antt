@@ -13,12 +13,20 @@ returns-in_err-b_to_e g c = goes_on _ c.in_ok-e_to_b.ensures.answer (exits _ (om
 
 pub returns-in_err-e_force : goal.returns-in_err-e_force
 unfolding scales_at
-returns-in_err-e_force g c = goes_on _ c.in_ok-e_to_b.ensures.answer (goes_on _ c.in_ok-b_to_e.ensures.answer (exits _ (omega arith) c.from_residual-in_err-e_force.ensures.1 c.in_err-e_force.ensures))
+returns-in_err-e_force g c =
+    goes_on _ c.in_ok-e_to_b.ensures.answer (goes_on _ c.in_ok-b_to_e.ensures.answer (exits _ (omega arith) c.from_residual-in_err-e_force.ensures.1
+    c.in_err-e_force.ensures))
 
 pub returns-in_err-b_force : goal.returns-in_err-b_force
 unfolding scales_at
-returns-in_err-b_force g c = goes_on _ c.in_ok-e_to_b.ensures.answer (goes_on _ c.in_ok-b_to_e.ensures.answer (goes_on _ c.in_ok-e_force.ensures.answer (exits _ (omega arith) c.from_residual-in_err-b_force.ensures.1 c.in_err-b_force.ensures)))
+returns-in_err-b_force g c =
+    goes_on _ c.in_ok-e_to_b.ensures.answer (goes_on _ c.in_ok-b_to_e.ensures.answer (goes_on _ c.in_ok-e_force.ensures.answer
+    (exits _ (omega arith) c.from_residual-in_err-b_force.ensures.1 c.in_err-b_force.ensures)))
 
 pub returns : goal.returns
 unfolding scales_at
-returns g c = record { answer = read_up_to (omega arith) (read_then _ c.in_ok-e_to_b.ensures.answer (read_then _ c.in_ok-b_to_e.ensures.answer (read_then _ c.in_ok-e_force.ensures.answer (read_then _ c.in_ok-b_force.ensures.answer (read_done _ _ _))))) }
+returns g c =
+    record {
+      answer = read_up_to (omega arith) (read_then _ c.in_ok-e_to_b.ensures.answer (read_then _ c.in_ok-b_to_e.ensures.answer
+          (read_then _ c.in_ok-e_force.ensures.answer (read_then _ c.in_ok-b_force.ensures.answer (read_done _ _ _)))));
+    }

@@ -23,5 +23,6 @@ unfolding name_at
 returns-clause-reads g c =
     record {
       answer = read_same (sym (c.push.ensures.bytes ∙ ap (λ l. l ++ c.name_of.result.now) c.new-name.ensures ∙ c.name_of.ensures.name))
-          (read_as name_of (passes _ (is_new_name_field c.args.earlier.now) c.in_ok-take_field.ensures.reads.answer (sym c.is_new_name_field.ensures ∙ c.if-not-is_new_name_field.false)));
+          (read_as name_of (passes _ (is_new_name_field c.args.earlier.now) c.in_ok-take_field.ensures.reads.answer (sym c.is_new_name_field.ensures
+          ∙ c.if-not-is_new_name_field.false)));
     }

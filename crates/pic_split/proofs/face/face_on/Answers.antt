@@ -85,6 +85,7 @@ returns c =
     let at = face (goal.at.returns c).After-max in
     let p_is = to_z-of_z w32 c.args.p c.ranges.p in
     let d_is = to_z-of_z w32 c.args.d c.ranges.d in
-    let way = to_z-of_z w32 c.way_to-way.result (record { sfits = c.way_to-way.type_inv }) ∙ c.way_to-way.ensures ∙ (λ i. at.place i *ℤ side_is (goal.at.returns c).After-max i -ℤ p_is i) in
+    let way = to_z-of_z w32 c.way_to-way.result (record { sfits = c.way_to-way.type_inv }) ∙ c.way_to-way.ensures
+    ∙ (λ i. at.place i *ℤ side_is (goal.at.returns c).After-max i -ℤ p_is i) in
     (λ i. Some (record { axis = c.args.axis; way = way i; whole = d_is i }))
     ∙ crossing_some c.args.sub c.args.axis c.args.p c.args.d at.differ

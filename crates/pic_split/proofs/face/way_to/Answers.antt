@@ -11,7 +11,8 @@ small : (x r : ℤ) → SFits w32 x → r ≡ to_z w32 (of_z w32 x) → IsAtMost
 small x r fits e = subst (λ (z : ℤ). IsAtMost z (2 ^ 31)) (sym (e ∙ to_z-of_z w32 x fits)) (record { size = omega (arith, ints, fits.sfits) })
 
 wide_is : (c : After-from-3)
-    → to_z w64 (of_z w64 (to_z w64 (of_z w64 (to_z w64 (of_z w64 c.from.result) *ℤ to_z w64 (of_z w64 c.from-2.result))) -ℤ to_z w64 (of_z w64 c.from-3.result)))
+    → to_z w64 (of_z w64 (to_z w64 (of_z w64 (to_z w64 (of_z w64 c.from.result) *ℤ to_z w64 (of_z w64 c.from-2.result)))
+    -ℤ to_z w64 (of_z w64 c.from-3.result)))
     ≡ c.args.cell *ℤ pos c.args.side -ℤ c.args.p
 wide_is c =
     let cell = small c.args.cell c.from.result c.ranges.cell c.from.ensures in

@@ -27,7 +27,8 @@ returns-in-Some g c =
     let layout = has.layout ∙ so_far.layout in
     let e = c.next.new.state.e.values in
     let particles = c.next.new.state.particles.items in
-    let some : break_of c.args.reader.layout e particles ≡ Some c.in-Some.at = ap (λ (l : LayoutView). break_of l e particles) (sym layout) ∙ sym c.in-Some.ensures.value in
+    let some : break_of c.args.reader.layout e particles ≡ Some c.in-Some.at =
+    ap (λ (l : LayoutView). break_of l e particles) (sym layout) ∙ sym c.in-Some.ensures.value in
     breaks_frame _ _ _ _ _ _ _ _ _ _ _ _ _ so_far has some
 
 pub records-preserved : goal.records-preserved
@@ -38,7 +39,8 @@ records-preserved g c =
     let layout = has.layout ∙ before.follows.layout in
     let e = c.next.new.state.e.values in
     let particles = c.next.new.state.particles.items in
-    let none : break_of c.args.reader.layout e particles ≡ None = ap (λ (l : LayoutView). break_of l e particles) (sym layout) ∙ sym c.in_default.ensures.value in
+    let none : break_of c.args.reader.layout e particles ≡ None = ap (λ (l : LayoutView). break_of l e particles) (sym layout)
+    ∙ sym c.in_default.ensures.value in
     record {
       follows = follows_frame _ _ _ _ _ _ _ _ _ _ _ _ before.follows has none;
       e = c.in_ok-behind.ensures.e.cells ∙ before.e ∙ ap (λ (l : LayoutView). l.cells) (sym has.layout);

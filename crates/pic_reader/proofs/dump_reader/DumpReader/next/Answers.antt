@@ -1,10 +1,11 @@
 use Rattle.std.proofs.Common.{◌≡◌, ◌+◌, ℕ, Some, refl, sym, ap, ◌∙◌, arith}
 use Rattle.pic_fields.proofs.ReadLaws.{read_then, read_same, read_as, read_up_to, ends_then, ended_up, stops_first, stops_then, stops_as}
 use Rattle.pic_dump.specs.Due.{due_after}
-use Rattle.pic_reader.specs.EndFields.{or_zero}
+use Rattle.std.specs.Prelude.{unwrap_or}
+use Rattle.std.proofs.lemmas.Bool.{eq-eqb, ne_eqb}
 use Rattle.pic_reader.specs.FrameFields.{frame_of, frame_length}
 use Rattle.pic_reader.specs.Records.{RecordView, AFrame, record_at}
-use Rattle.pic_reader.proofs.NextLaws.{of_frame, of_end, next_exits, due_is, most_least, most_frame, frame_after, or_zero_most, stands_behind}
+use Rattle.pic_reader.proofs.NextLaws.{of_frame, of_end, next_exits, due_is, most_least, most_frame, frame_after, due_most, stands_behind}
 use Rattle.pic_reader.proofs.dump_reader.DumpReader.next.Goals as goal
 
 pub returns-in_err-tag-clause-reads : goal.returns-in_err-tag-clause-reads
@@ -15,7 +16,8 @@ returns-in_err-tag-clause-reads g c =
     let due : c.due_after-due.result ≡ due_after l.steps l.every last = rw (c.steps.ensures.value, c.every.ensures.value) at c.due_after-due.ensures.value in
     let least = most_least l (due_after l.steps l.every last) in
     let tag = rw due at c.in_err-tag.ensures.reads in
-    rw (sym c.self.view_is) (next_exits _ {n = c.self.inside.place + 1} (omega (arith, least)) c.from_residual.ensures.1 (stops_first _ (omega arith) tag.answer))
+    rw (sym c.self.view_is) (next_exits _ {n = c.self.inside.place + 1} (omega (arith, least)) c.from_residual.ensures.1 (stops_first _
+    (omega arith) tag.answer))
 
 pub returns-in_err-energies-clause-reads : goal.returns-in_err-energies-clause-reads
 unfolding record_at
@@ -25,13 +27,14 @@ returns-in_err-energies-clause-reads g c =
     let due : c.due_after-due.result ≡ due_after l.steps l.every last = rw (c.steps.ensures.value, c.every.ensures.value) at c.due_after-due.ensures.value in
     let least = most_least l (due_after l.steps l.every last) in
     let tag = rw due at c.in_ok-tag.ensures.reads in
-    let frame = sym c.is_code.ensures ∙ c.if-is_code.true in
+    let frame = eq-eqb _ 70 c.if-tag-eq-FRAME.true in
     let passes = rw due at c.in_ok-tag.ensures.passes in
     let whole = most_frame l (due_after l.steps l.every last) last c.in_ok-tag.tag passes frame in
-    let stopped = rw (c.or_zero-step.ensures, due) at c.in_err-energies.ensures.reads in
+    let stopped = rw (c.unwrap_or-step.ensures, due) at c.in_err-energies.ensures.reads in
     let wrapped = stops_as AFrame stopped.answer in
     let behind = rw (sym (of_frame l last (due_after l.steps l.every last) c.in_ok-tag.tag frame)) at wrapped in
-    rw (sym c.self.view_is) (next_exits _ {n = c.self.inside.place + 1 + frame_length l} (omega (arith, whole)) c.from_residual-in_err-energies.ensures.1 (stops_then _ tag.answer behind))
+    rw (sym c.self.view_is) (next_exits _ {n = c.self.inside.place + 1 + frame_length l} (omega (arith, whole)) c.from_residual-in_err-energies.ensures.1
+    (stops_then _ tag.answer behind))
 
 pub invariant_of-reader : goal.invariant_of-reader
 invariant_of-reader g c =
@@ -39,32 +42,32 @@ invariant_of-reader g c =
     let last = c.self.inside.last in
     let due : c.due_after-due.result ≡ due_after l.steps l.every last = rw (c.steps.ensures.value, c.every.ensures.value) at c.due_after-due.ensures.value in
     let least = most_least l (due_after l.steps l.every last) in
-    let frame = sym c.is_code.ensures ∙ c.if-is_code.true in
+    let frame = eq-eqb _ 70 c.if-tag-eq-FRAME.true in
     let tag = rw due at c.in_ok-tag.ensures.passes in
-    let step = c.or_zero-step.ensures ∙ ap or_zero due in
-    let limit = or_zero_most c.due_after-due.result c.steps.result c.due_after-due.ensures.most in
+    let step = c.unwrap_or-step.ensures ∙ ap (λ o. unwrap_or o 0) due in
+    let limit = due_most c.due_after-due.result c.steps.result c.due_after-due.ensures.most in
     let stands = c.self.invariant in
     stands_behind (record { layout = l; place = c.self.inside.place; last = last }) c.in_ok-tag.tag c.frame_length.result
-    (record { layout = stands.layout; place = stands.place; last = stands.last }) c.frame_length.ensures.most tag frame c.or_zero-step.result step
-    (omega (arith, limit, c.or_zero-step.ensures, c.steps.ensures.value))
+    (record { layout = stands.layout; place = stands.place; last = stands.last }) c.frame_length.ensures.most tag frame c.unwrap_or-step.result step
+    (omega (arith, limit, c.unwrap_or-step.ensures, c.steps.ensures.value))
 
-pub returns-then-is_code-clause-reads : goal.returns-then-is_code-clause-reads
+pub returns-then-tag-eq-FRAME-clause-reads : goal.returns-then-tag-eq-FRAME-clause-reads
 unfolding record_at
-returns-then-is_code-clause-reads g c =
+returns-then-tag-eq-FRAME-clause-reads g c =
     let l = c.self.inside.layout in
     let last = c.self.inside.last in
     let due : c.due_after-due.result ≡ due_after l.steps l.every last = rw (c.steps.ensures.value, c.every.ensures.value) at c.due_after-due.ensures.value in
     let least = most_least l (due_after l.steps l.every last) in
     let tag = rw due at c.in_ok-tag.ensures.reads in
-    let is_frame = sym c.is_code.ensures ∙ c.if-is_code.true in
-    let read = rw (c.or_zero-step.ensures, due) at c.in_ok-energies.ensures.reads in
+    let is_frame = eq-eqb _ 70 c.if-tag-eq-FRAME.true in
+    let read = rw (c.unwrap_or-step.ensures, due) at c.in_ok-energies.ensures.reads in
     let wrapped = read_as AFrame read.answer in
     let behind = rw (sym (of_frame l last (due_after l.steps l.every last) c.in_ok-tag.tag is_frame)) at wrapped in
     let length = c.frame_length.ensures.value in
-    let step : c.or_zero-step.result ≡ or_zero (due_after l.steps l.every last) = c.or_zero-step.ensures ∙ ap or_zero due in
+    let step : c.unwrap_or-step.result ≡ unwrap_or (due_after l.steps l.every last) 0 = c.unwrap_or-step.ensures ∙ ap (λ o. unwrap_or o 0) due in
     let passes = rw due at c.in_ok-tag.ensures.passes in
     let later = frame_after l.steps l.every last c.in_ok-tag.tag c.self.invariant.layout.every_least passes is_frame in
-    let limit = or_zero_most c.due_after-due.result c.steps.result c.due_after-due.ensures.most in
+    let limit = due_most c.due_after-due.result c.steps.result c.due_after-due.ensures.most in
     let after = c.read_frame.new.state in
     let frame : ℕ → RecordView = λ s. AFrame (frame_of s after.e.values after.b.values after.particles.items c.in_ok-energies.energies) in
     rw (sym c.self.view_is) (record {
@@ -75,7 +78,7 @@ returns-then-is_code-clause-reads g c =
         last = refl;
         due = due_is (due_after l.steps l.every last) last c.in_ok-tag.tag passes is_frame ∙ ap Some (sym step);
         later = omega (arith, later, step);
-        most = omega (arith, limit, c.or_zero-step.ensures, c.steps.ensures.value);
+        most = omega (arith, limit, c.unwrap_or-step.ensures, c.steps.ensures.value);
         held = c.in_ok-energies.ensures.held;
       };
     })
@@ -88,10 +91,11 @@ returns-in_err-mark-clause-reads g c =
     let due : c.due_after-due.result ≡ due_after l.steps l.every last = rw (c.steps.ensures.value, c.every.ensures.value) at c.due_after-due.ensures.value in
     let least = most_least l (due_after l.steps l.every last) in
     let tag = rw due at c.in_ok-tag.ensures.reads in
-    let end = sym c.is_code.ensures ∙ c.if-is_code.false in
+    let end = ne_eqb _ 70 c.if-tag-eq-FRAME.false in
     let stopped = rw due at c.in_err-mark.ensures in
     let behind = rw (sym (of_end l last (due_after l.steps l.every last) c.in_ok-tag.tag end)) at stopped.answer in
-    rw (sym c.self.view_is) (next_exits _ {n = c.self.inside.place + 1 + 37} (omega (arith, least)) c.from_residual-in_err-mark.ensures.1 (stops_then _ tag.answer behind))
+    rw (sym c.self.view_is) (next_exits _ {n = c.self.inside.place + 1 + 37} (omega (arith, least)) c.from_residual-in_err-mark.ensures.1
+    (stops_then _ tag.answer behind))
 
 pub returns-clause-reads : goal.returns-clause-reads
 unfolding record_at
@@ -101,7 +105,7 @@ returns-clause-reads g c =
     let due : c.due_after-due.result ≡ due_after l.steps l.every last = rw (c.steps.ensures.value, c.every.ensures.value) at c.due_after-due.ensures.value in
     let least = most_least l (due_after l.steps l.every last) in
     let tag = rw due at c.in_ok-tag.ensures.reads in
-    let end = sym c.is_code.ensures ∙ c.if-is_code.false in
+    let end = ne_eqb _ 70 c.if-tag-eq-FRAME.false in
     let read = rw due at c.in_ok-mark.ensures in
     let behind = rw (sym (of_end l last (due_after l.steps l.every last) c.in_ok-tag.tag end)) at read.answer in
     rw (sym c.self.view_is) (record { answer = ended_up {e = c.self.inside.place + 1 + 37} (omega (arith, least)) (ends_then _ tag.answer behind) })

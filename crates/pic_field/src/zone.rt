@@ -1,64 +1,14 @@
-//! The places of a block in their order.
+//! The cells of a zone that lies among those of a grid.
 
-ghost use Rattle.std.specs.Prelude.{◌≡◌, ◌+◌, ◌*◌, ◌<◌, ◌≤◌};
+ghost use Rattle.std.specs.Prelude.{◌≡◌, ◌*◌, ◌≤◌};
 ghost use Rattle.std.specs.Bool.{OnTrue, OnFalse};
 ghost use Rattle.pic_num.specs.Limits.{most_cells_of_axis};
-ghost use Rattle.pic_num.specs.Space.{triple, spot, axis_number, unwrapped};
-ghost use Rattle.pic_grid.specs.Cells.{IsWithin, count_of, place_of};
+ghost use Rattle.pic_num.specs.Space.{triple, spot, unwrapped};
+ghost use Rattle.pic_grid.specs.Cells.{IsWithin, count_of};
 ghost use Rattle.pic_grid.specs.Block.{InZone, IsAmongCells, outer_of};
 ghost use Rattle.pic_field.specs.Lines.{HasCells};
 
 use pic_grid::{Cells, Zone};
-use pic_num::Axis;
-
-/// A place of a block: the component's axis, and how far its cell lies above the block's lowest.
-#[derive(Clone, Copy)]
-pub(crate) struct Place {
-    pub(crate) axis: Axis,
-    pub(crate) inner: [u32; 3],
-}
-
-impl Place {
-    /// The first place of every block.
-    pub(crate) fn first() -> Place
-        ensures axis { axis_number result.axis ≡ 0 }
-        ensures inner { triple result.inner ≡ record { x = 0; y = 0; z = 0 } }
-    {
-        Place {
-            axis: Axis::X,
-            inner: [0; 3],
-        }
-    }
-
-    /// The place after this one in a block of `size` layers, x fastest, then y, z and the axis.
-    pub(crate) fn following(self, size: [u32; 3]) -> Place
-        requires within { IsWithin (triple self.inner) (triple size) }
-        ensures within { IsWithin (triple result.inner) (triple size) }
-        ensures number { let number = place_of (triple size) self.axis (triple self.inner) in
-            number + 1 < 3 * count_of (triple size)
-            → place_of (triple size) result.axis (triple result.inner) ≡ number + 1 }
-    {
-        let axis = self.axis;
-        let [nx, ny, nz] = size;
-        let [x, y, z] = self.inner;
-        if x + 1 < nx {
-            let inner = [x + 1, y, z];
-            return Place { axis, inner };
-        }
-        if y + 1 < ny {
-            let inner = [0, y + 1, z];
-            return Place { axis, inner };
-        }
-        if z + 1 < nz {
-            let inner = [0, 0, z + 1];
-            return Place { axis, inner };
-        }
-        Place {
-            axis: axis.next(),
-            inner: [0, 0, 0],
-        }
-    }
-}
 
 /// How many places a block has whose zone lies among the cells.
 pub(crate) fn place_count(cells: Cells, zone: Zone) -> u32
