@@ -1,5 +1,5 @@
 -- The least place with a force value above 2^44.
-use Rattle.std.proofs.Common.{◌≡◌, ℕ, ◌+◌, ◌*◌, ◌/◌, ◌%◌, ◌^◌, ◌<◌, true, leb, List, [], ◌∷◌, length, Ok, Option, Some, None, ap, sym, ◌∙◌, refl, inl, inr, arith}
+use Rattle.std.proofs.Common.{◌≡◌, ℕ, ◌+◌, ◌*◌, ◌/◌, ◌%◌, ◌^◌, ◌<◌, true, leb, List, [], ◌∷◌, length, Option, Some, None, ap, sym, ◌∙◌, refl, inl, inr, arith}
 use Rattle.std.proofs.Math.IntN.{ℤ, pos, ◌+ℤ◌, ◌*ℤ◌}
 use Rattle.std.specs.List.{range_with_len}
 use Rattle.std.specs.Prelude.{unsigned_abs}
@@ -21,7 +21,6 @@ use Rattle.pic_grid.proofs.CellLaws.{axis_of-place_of, cell_of-place_of, place_o
 use Rattle.pic_grid.specs.Sums.{sum_over}
 use Rattle.pic_walk.specs.declared.row.Row.{Row}
 use Rattle.pic_deck.specs.Initial.{strong, first_strong, set_up, IsMild}
-use Rattle.pic_deck.specs.Keys.{allowed}
 
 -- what is found at the place of a number
 abbrev pub strong_at : Triple → Multiplier → (Axis → Triple → ℤ) → ℕ → Option ℤ
@@ -107,10 +106,6 @@ zero_set_up u [] e h X p = ap (λ (v : Spot). v.x +ℤ pos 0) e
 zero_set_up u [] e h Y p = ap (λ (v : Spot). v.y +ℤ pos 0) e
 zero_set_up u [] e h Z p = ap (λ (v : Spot). v.z +ℤ pos 0) e
 zero_set_up u (r ∷ rows) e h a p = absurd (omega (arith, h))
-
-pub none_allowed : (path : List ℕ) (o : Option ℤ) → o ≡ None → allowed path o ≡ Ok tt
-unfolding allowed
-none_allowed path o e = rw e
 
 -- the first of a lattice given by its values
 pub first_of_field : (f : Field) (side : ℕ) (m parts n : Triple) (by : Multiplier) (g : Axis → Triple → ℤ) → f ≡ field_of side m parts g → m ≡ n

@@ -1,5 +1,6 @@
 -- The three axes of a grid.
-use Rattle.std.proofs.Common.{◌≡◌, ℤ, pos, ℕ, zero, suc, ◌+◌, ◌<◌, ◌≤◌, ◌≢◌, List, [], ◌∷◌, ◌++◌, length, get_or, set, take, drop, slice_index, ap, ◌∙◌, lit<, ◌/◌, ◌^◌, arith}
+use Rattle.std.proofs.Common.{◌≡◌, ℤ, pos, ℕ, zero, suc, ◌+◌, ◌<◌, ◌≤◌, ◌≢◌, List, [], ◌∷◌, ◌++◌, length, get_or}
+use Rattle.std.proofs.Common.{set, take, drop, slice_index, ap, ◌∙◌, lit<, ◌/◌, ◌^◌, arith}
 use Rattle.std.proofs.lemmas.Int.{ints, to_z-of_z}
 use mir.Syntax.{w64, w128}
 use mir.Val.{SFits, to_z, of_z}
@@ -14,7 +15,8 @@ use Rattle.pic_walk.specs.Walk.{◌>>=◌, each}
 use Rattle.pic_walk.proofs.ArrayLaws.{each_at}
 use Rattle.pic_num.specs.Space.{triple}
 use Rattle.pic_grid.specs.Cells.{IsCells, count_of}
-use Rattle.pic_deck.specs.Deck.{AreFew, IsTiled, AreTiles}
+use Rattle.pic_grid.specs.Tiles.{IsTiled, AreTiles}
+use Rattle.pic_deck.specs.Deck.{AreFew}
 use Rattle.pic_deck.specs.Keys.{cell_limits, next_tiles, axis_tiles}
 
 -- what holds of 0, 1 and 2

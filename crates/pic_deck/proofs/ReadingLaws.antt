@@ -1,5 +1,6 @@
 -- The deck that some bytes are: how the answers of its reader follow from what it finds.
-use Rattle.std.proofs.Common.{◌≡◌, ◌↔◌, ◌<◌, ◌≤◌, ℕ, List, length, true, false, leb, Option, Some, None, Result, Ok, Err, IsErrAnd, inl, inr, ap, sym, ◌∙◌, refl}
+use Rattle.std.proofs.Common.{◌≡◌, ◌↔◌, ◌<◌, ◌≤◌, ℕ, List, length, true, false, leb, Option, Some, None}
+use Rattle.std.proofs.Common.{Result, Ok, Err, IsErrAnd, inl, inr, ap, sym, ◌∙◌, refl}
 use Rattle.std.proofs.lemmas.Bool.{cases_Bool, leb-true, leb-false, le-leb, lt-leb}
 use Rattle.std.proofs.lemmas.Result.{err_from_is_err_and}
 use Rattle.std.proofs.lemmas.Str.{IsUtf8-from_is_utf8, is_utf8-from_IsUtf8}

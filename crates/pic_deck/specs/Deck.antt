@@ -1,13 +1,14 @@
 -- What a deck says, and the limits that its type keeps.
-use Rattle.std.specs.Prelude.{◌≡◌, ℕ, ℤ, List, map, ◌/◌, ◌%◌, ◌≤◌}
+use Rattle.std.specs.Prelude.{◌≡◌, ℕ, ℤ, List, map, ◌≤◌}
 use Rattle.pic_num.specs.declared.mult.Scales.{Scales}
 use Rattle.pic_num.specs.declared.axis.Axis.{Axis}
 use Rattle.pic_num.specs.Limits.{most_cells_of_axis_1, side_1}
 use Rattle.pic_num.specs.Space.{Triple, triple, Spot, spot}
-use Rattle.pic_grid.specs.Cells.{Grid, IsCells, count_of}
+use Rattle.pic_grid.specs.Cells.{Grid, IsCells}
 use Rattle.pic_grid.specs.Species.{HeadView, AreHeads}
+use Rattle.pic_grid.specs.Tiles.{AreTiles}
 use Rattle.pic_walk.specs.declared.row.Row.{Row}
-use Rattle.pic_walk.specs.Bounds.{most_tiles, most_steps}
+use Rattle.pic_walk.specs.Bounds.{most_steps}
 pub use Rattle.pic_walk.specs.Extent.{extent_of, most_extent, IsExtent}
 use Rattle.pic_walk.specs.Rows.{AreRows}
 use Rattle.pic_deck.specs.declared.fields.InitialFields.{InitialFields}
@@ -59,19 +60,6 @@ pub record AreFew (n : Triple) : Type 0 where
   pub x : n.x ≤ most_cells_of_axis_1
   pub y : n.y ≤ most_cells_of_axis_1
   pub z : n.z ≤ most_cells_of_axis_1
-
--- an axis of n cells is cut into t tiles of one size, each of two cells or more
-pub record IsTiled (n t : ℕ) : Type 0 where
-  pub low : 1 ≤ t
-  pub high : t ≤ n / 2
-  pub divides : n % t ≡ 0
-
--- a grid of n cells is cut into tiles, not too many
-pub record AreTiles (n tiles : Triple) : Type 0 where
-  pub x : IsTiled n.x tiles.x
-  pub y : IsTiled n.y tiles.y
-  pub z : IsTiled n.z tiles.z
-  pub most : count_of tiles ≤ most_tiles
 
 -- the value of E that a deck begins with, on an axis at a cell: the uniform part, and what the rows
 -- of that place add up to

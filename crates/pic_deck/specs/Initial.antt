@@ -1,5 +1,6 @@
 -- The fields that a deck begins with, and the test of their force values: this project's profile.
-use Rattle.std.specs.Prelude.{◌≡◌, ℤ, pos, ◌+ℤ◌, ◌*◌, ◌/◌, ◌%◌, ◌^◌, ◌==◌, ◌&&◌, Bool, nat_le, unsigned_abs, if◌then◌else◌, List, slice_index, Option, Some, None}
+use Rattle.std.specs.Prelude.{◌≡◌, ℤ, pos, ◌+ℤ◌, ◌*◌, ◌/◌, ◌%◌, ◌^◌, ◌==◌, ◌&&◌, Bool, nat_le, unsigned_abs}
+use Rattle.std.specs.Prelude.{if◌then◌else◌, List, slice_index, Option, Some, None}
 use Rattle.std.specs.List.{range_with_len}
 use Rattle.pic_num.specs.declared.axis.Axis.{Axis}
 use Rattle.pic_num.specs.First.{first_of}

@@ -7,13 +7,15 @@ use Rattle.pic_num.specs.declared.motion.Kind.{Kind}
 use Rattle.pic_num.specs.Limits.{fewest_cells_of_axis, most_cells_of_axis_1, side_1, most_species, most_particles_1, most_mass, most_force}
 use Rattle.pic_num.specs.Space.{Triple, triple, spot}
 use Rattle.pic_grid.specs.Cells.{Grid, count_of}
-use Rattle.pic_walk.specs.Bounds.{most_tiles, most_steps, least_charge, greatest_charge}
+use Rattle.pic_grid.specs.Tiles.{most_tiles}
+use Rattle.pic_walk.specs.Bounds.{most_steps, least_charge, greatest_charge}
 use Rattle.pic_walk.specs.declared.fault.Fault.TheVariants.{Limit, Name}
 use Rattle.pic_walk.specs.declared.limits.Limits.{Limits}
 use Rattle.pic_walk.specs.Path.{key_at}
 use Rattle.pic_walk.specs.Limits.{from_to}
 use Rattle.pic_walk.specs.Rows.{row_list}
-use Rattle.pic_walk.specs.Walk.{Walked, ◌>>=◌, within, limited, whole, text, elements, count_of_items, each, array_of, numbers, three, any_three, multiplier, listed, table_of, need, optional}
+use Rattle.pic_walk.specs.Walk.{Walked, ◌>>=◌, within, limited, whole, text, elements, count_of_items, each, array_of}
+use Rattle.pic_walk.specs.Walk.{numbers, three, any_three, multiplier, listed, table_of, need, optional}
 use Rattle.pic_deck.specs.declared.fields.InitialFields.{InitialFields}
 use Rattle.pic_deck.specs.declared.settings.Settings.{Settings}
 use Rattle.pic_deck.specs.declared.species.Fill.{Fill}

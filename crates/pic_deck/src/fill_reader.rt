@@ -8,10 +8,10 @@ ghost use Rattle.pic_walk.specs.declared.draw.Draw.{Draw as DrawView};
 ghost use Rattle.pic_walk.specs.declared.sites.Sites.{Sites as SitesView};
 ghost use Rattle.pic_walk.specs.Draw.{IsDraw};
 ghost use Rattle.pic_walk.specs.Sites.{AreSites};
-ghost use Rattle.pic_walk.specs.Walk.{WalksAs, need, table_of};
+ghost use Rattle.pic_walk.specs.Walk.{WalksAs, need};
 ghost use Rattle.pic_deck.specs.declared.species.Fill.{Fill as FillView};
 ghost use Rattle.pic_walk.specs.Source.{source_key};
-ghost use Rattle.pic_deck.specs.Fill.{lattice_keys, lattice, random_keys, random, pair_keys, species_number, pair, at_sites, at_random, in_pairs, fill_by, species_fill};
+ghost use Rattle.pic_deck.specs.Fill.{lattice, random, species_number, pair, at_sites, at_random, in_pairs, fill_by, species_fill};
 ghost use Rattle.pic_deck.specs.Species.{IsFill};
 
 use crate::species::{Fill, Species};
@@ -25,19 +25,6 @@ use toml::{Table, Value};
 
 const MOST_PARTICLES: i64 = 1048576;
 
-fn lattice_table<'v>(
-    alloc: Global,
-    address: Address<'_>,
-    path: &str,
-    value: &'v Value,
-) -> Result<&'v Table, WalkStop>
-    requires { path_of address ≡ path.now }
-    ensures { WalksAs (λ t. table_view t.now) (table_of lattice_keys path.now (view value.now))
-        result }
-{
-    read_table(alloc, address, path, &["first", "gap", "count", "v"], value)
-}
-
 // the sites of a lattice
 fn read_lattice(
     alloc: Global,
@@ -50,27 +37,9 @@ fn read_lattice(
     ensures limits { IfOk result (λ s. AreSites cells s) }
 {
     let path = address.path(alloc)?;
-    let table = lattice_table(alloc, address, path.as_str(), value)?;
+    let keys = ["first", "gap", "count", "v"];
+    let table = read_table(alloc, address, path.as_str(), &keys, value)?;
     read_sites(alloc, path.as_str(), table, cells)
-}
-
-fn random_table<'v>(
-    alloc: Global,
-    address: Address<'_>,
-    path: &str,
-    value: &'v Value,
-) -> Result<&'v Table, WalkStop>
-    requires { path_of address ≡ path.now }
-    ensures { WalksAs (λ t. table_view t.now) (table_of random_keys path.now (view value.now))
-        result }
-{
-    read_table(
-        alloc,
-        address,
-        path,
-        &["count", "seed", "stream", "drift", "spread"],
-        value,
-    )
 }
 
 // how many particles at random places, and how they are drawn
@@ -81,30 +50,12 @@ fn read_random(alloc: Global, address: Address<'_>, value: &Value) -> Result<(u3
     ensures draw { IfOk result (λ r. IsDraw r.1) }
 {
     let path = address.path(alloc)?;
-    let table = random_table(alloc, address, path.as_str(), value)?;
+    let keys = ["count", "seed", "stream", "drift", "spread"];
+    let table = read_table(alloc, address, path.as_str(), &keys, value)?;
     let limits = Limits::new(0, MOST_PARTICLES);
     let count = need_whole(alloc, path.as_str(), "count", table, limits)?;
     let draw = read_draw(alloc, path.as_str(), table)?;
     Ok((count, draw))
-}
-
-fn pair_table<'v>(
-    alloc: Global,
-    address: Address<'_>,
-    path: &str,
-    value: &'v Value,
-) -> Result<&'v Table, WalkStop>
-    requires { path_of address ≡ path.now }
-    ensures { WalksAs (λ t. table_view t.now) (table_of pair_keys path.now (view value.now))
-        result }
-{
-    read_table(
-        alloc,
-        address,
-        path,
-        &["of", "seed", "stream", "drift", "spread"],
-        value,
-    )
 }
 
 // the number of the species of this name
@@ -161,7 +112,8 @@ fn read_pair(
     ensures draw { IfOk result (λ r. IsDraw r.1) }
 {
     let path = address.path(alloc)?;
-    let table = pair_table(alloc, address, path.as_str(), value)?;
+    let keys = ["of", "seed", "stream", "drift", "spread"];
+    let table = read_table(alloc, address, path.as_str(), &keys, value)?;
     let number = need_species_number(alloc, path.as_str(), table, earlier)?;
     let draw = read_draw(alloc, path.as_str(), table)?;
     Ok((number as u32, draw))

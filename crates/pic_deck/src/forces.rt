@@ -1,6 +1,6 @@
 //! The test of the force values of the fields that a deck begins with.
 
-ghost use Rattle.std.specs.Prelude.{◌≡◌, pos, ◌^◌, IsTrue, codes, OnOk};
+ghost use Rattle.std.specs.Prelude.{◌≡◌, pos, ◌^◌, IsTrue, codes, None, IfOk, OnOk};
 ghost use Rattle.pic_num.specs.declared.axis.Axis.{Axis};
 ghost use Rattle.pic_num.specs.Sizes.{IsAtMost};
 ghost use Rattle.pic_num.specs.Space.{Triple, spot};
@@ -16,7 +16,7 @@ use crate::fields::InitialFields;
 use crate::filling::fill;
 use crate::settings::Settings;
 use pic_grid::{Cells, Lattice};
-use pic_num::{Mult, scale};
+use pic_num::{Mult, NoMemory, scale};
 use pic_walk::{Address, Limits, Row, WalkStop};
 use std::alloc::Global;
 
@@ -73,27 +73,30 @@ fn is_zero(numbers: [i64; 3]) -> bool
     x == 0 && y == 0 && z == 0
 }
 
-// refuses the scale at a key where a field that a deck begins with is too strong by it
-fn check_filled(
+// the force value of the least place of a field that a deck begins with, where it is too strong; a
+// field of zeros takes no room
+fn find_strong(
     alloc: Global,
-    key: &str,
     by: Mult,
     cells: Cells,
     numbers: [i64; 3],
     rows: &[Row],
-) -> Result<(), WalkStop>
+) -> Result<Option<i128>, NoMemory>
     requires { AreRows cells.n rows.now }
-    ensures walks { WalksAs (λ _. tt) (allowed (key_at (codes "scale") key.now)
-        (first_strong cells.n by (set_up (spot numbers) rows.now))) result }
-    ensures mild { OnOk result (IsMild cells.n by (set_up (spot numbers) rows.now)) }
+    ensures value { IfOk result (λ found.
+        found ≡ first_strong cells.n by (set_up (spot numbers) rows.now)) }
+    ensures mild { IfOk result (λ found. found ≡ None
+        → IsMild cells.n by (set_up (spot numbers) rows.now)) }
 {
+    if is_zero(numbers) && rows.is_empty() {
+        return Ok(None);
+    }
     let mut field = Lattice::new(alloc, cells, [1; 3])?;
     fill(numbers, rows, &mut field);
-    let first = first_strong(by, &field);
-    check_strong(alloc, key, first)
+    Ok(first_strong(by, &field))
 }
 
-// the same, without the room for a field of zeros
+// refuses the scale at a key where a field that a deck begins with is too strong by it
 fn check_field(
     alloc: Global,
     key: &str,
@@ -107,10 +110,8 @@ fn check_field(
         (first_strong cells.n by (set_up (spot numbers) rows.now))) result }
     ensures mild { OnOk result (IsMild cells.n by (set_up (spot numbers) rows.now)) }
 {
-    if is_zero(numbers) && rows.is_empty() {
-        return Ok(());
-    }
-    check_filled(alloc, key, by, cells, numbers, rows)
+    let found = find_strong(alloc, by, cells, numbers, rows)?;
+    check_strong(alloc, key, found)
 }
 
 /// Refuses a deck whose fields begin with a force value above 2^44 in size: E first, then B.

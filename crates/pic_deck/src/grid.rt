@@ -7,7 +7,8 @@ ghost use Rattle.pic_num.specs.Space.{triple};
 ghost use Rattle.pic_walk.specs.Path.{path_of};
 ghost use Rattle.pic_walk.specs.Walk.{WalksAs, table_of, need, array_of, three};
 ghost use Rattle.pic_grid.specs.Cells.{Grid, IsCells, count_of};
-ghost use Rattle.pic_deck.specs.Deck.{AreFew, IsTiled, AreTiles};
+ghost use Rattle.pic_grid.specs.Tiles.{IsTiled, AreTiles};
+ghost use Rattle.pic_deck.specs.Deck.{AreFew};
 ghost use Rattle.pic_deck.specs.Keys.{grid_keys, grid, cell_limits, axis_tiles, next_tiles, tiles};
 
 use pic_grid::Cells;

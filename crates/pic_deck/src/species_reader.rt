@@ -29,26 +29,9 @@ const MOST_SPECIES: i64 = 16;
 
 const MOST_PARTICLES: i64 = 1048576;
 
-fn species_table<'v>(
-    alloc: Global,
-    address: Address<'_>,
-    path: &str,
-    value: &'v Value,
-) -> Result<&'v Table, WalkStop>
-    requires { path_of address ≡ path.now }
-    ensures { WalksAs (λ t. table_view t.now) (table_of species_keys path.now (view value.now))
-        result }
-{
-    read_table(
-        alloc,
-        address,
-        path,
-        &[
-            "name", "charge", "mass", "kick", "turn", "points", "lattice", "random", "pair",
-        ],
-        value,
-    )
-}
+const SPECIES_KEYS: [&str; 9] = [
+    "name", "charge", "mass", "kick", "turn", "points", "lattice", "random", "pair",
+];
 
 // what the particles of a species have in common
 fn read_kind(alloc: Global, path: &str, table: &Table) -> Result<Kind, WalkStop>
@@ -159,7 +142,7 @@ fn read_species(
     ensures limits { IfOk result (λ s. IsNext cells earlier.now s) }
 {
     let path = address.path(alloc)?;
-    let table = species_table(alloc, address, path.as_str(), value)?;
+    let table = read_table(alloc, address, path.as_str(), &SPECIES_KEYS, value)?;
     species_in(alloc, address, path.as_str(), table, cells, earlier)
 }
 

@@ -7,10 +7,11 @@ use Rattle.pic_num.specs.declared.axis.Axis.TheVariants.{X, Y, Z}
 use Rattle.pic_num.specs.Sizes.{IsAtMost}
 use Rattle.pic_num.specs.Space.{spot, along}
 use Rattle.pic_grid.specs.Species.{IsName, IsKind, AreHeads, no_head}
+use Rattle.pic_grid.specs.Tiles.{IsTiled}
 use Rattle.pic_deck.specs.declared.fields.InitialFields.{InitialFields}
 use Rattle.pic_deck.specs.declared.settings.Settings.{Settings}
 use Rattle.pic_deck.specs.declared.species.Species.{Species}
-use Rattle.pic_deck.specs.Deck.{IsTiled, AreSettings, IsWithinLimits, deck_view, heads_of}
+use Rattle.pic_deck.specs.Deck.{AreSettings, IsWithinLimits, deck_view, heads_of}
 use Rattle.pic_deck.specs.Keys.{no_field}
 use Rattle.pic_deck.specs.Species.{IsFilled, AreFilled, species_at, fastest_drift}
 use Rattle.pic_deck.proofs.ForceLaws.{zero_mild, zero_set_up}

@@ -1,6 +1,6 @@
 -- The walk of the demonstration's table, part by part.
-use Rattle.std.proofs.Common.{◌≡◌, ℕ, true, leb, int_le, [], ◌∷◌, Ok, ◌∙◌, refl, arith}
-use Rattle.std.proofs.Math.IntN.{pos}
+use Rattle.std.proofs.Common.{◌≡◌, ℕ, true, leb, int_le, List, [], ◌∷◌, Option, None, Ok, ◌∙◌, refl, arith}
+use Rattle.std.proofs.Math.IntN.{ℤ, pos}
 use Rattle.std.proofs.lemmas.Bool.{le-leb}
 use Rattle.std.proofs.lemmas.Int.{ints}
 use Rattle.std.specs.Prelude.{⊤, codes}
@@ -16,9 +16,9 @@ use Rattle.pic_walk.proofs.WalkLaws.{then_ok}
 use Rattle.pic_deck.specs.Fill.{random, pair, species_number, species_fill}
 use Rattle.pic_deck.specs.Initial.{set_up}
 use Rattle.pic_deck.specs.Keys.{deck_keys, axis_tiles, next_tiles, tiles, grid, run, scale, settings, fields, no_field, species_name, species_kind}
-use Rattle.pic_deck.specs.Keys.{counted, species_in, one_species, species_list, forces, deck}
+use Rattle.pic_deck.specs.Keys.{counted, species_in, one_species, species_list, allowed, forces, deck}
 use Rattle.pic_deck.specs.Species.{is_name, is_new_name}
-use Rattle.pic_deck.proofs.ForceLaws.{no_forces, none_allowed, zero_set_up}
+use Rattle.pic_deck.proofs.ForceLaws.{no_forces, zero_set_up}
 use Rattle.pic_demo.specs.Demo.{electron, ion, demo_settings}
 use Rattle.pic_demo.specs.Table.{demo_table, DemoIsWalked}
 
@@ -51,6 +51,11 @@ species_walked : (seed : ℕ) → int_le (pos 0) (pos seed) ≡ true → leb see
     → optional [] (species_list demo_settings.cells) (codes "species") [] (demo_table seed) ≡ Ok (electron seed ∷ ion seed ∷ [])
 unfolding heads_read species_list one_species species_in species_fill only alone random pair species_number draw
 species_walked seed some few = rw (some, few)
+
+-- a scale by which no force value is too large
+none_allowed : (path : List ℕ) (o : Option ℤ) → o ≡ None → allowed path o ≡ Ok tt
+unfolding allowed
+none_allowed path o e = rw e
 
 forces_walked : forces demo_settings no_field ≡ Ok tt
 unfolding forces

@@ -5,10 +5,6 @@ use Rattle.std.specs.Prelude.{ℕ, ℤ, pos, negsuc, ◌^◌, ◌-◌}
 abbrev pub most_bytes : ℕ
 most_bytes = 1048576
 
--- the tiles of a grid
-abbrev pub most_tiles : ℕ
-most_tiles = 512
-
 -- the steps of a run, and those from one frame to the next
 abbrev pub most_steps : ℕ
 most_steps = 1000000

@@ -1,13 +1,8 @@
-use Rattle.std.proofs.Common.{refl, sym}
-use Rattle.std.proofs.lemmas.Bool.{eqb-true}
-use Rattle.pic_deck.proofs.ForceLaws.{zero_mild, zero_set_up, no_forces, none_allowed}
+use Rattle.std.proofs.lemmas.Result.{on_ok_weaker}
 use Rattle.pic_deck.proofs.forces.check_field.Goals as goal
 
-pub returns-then-is_empty-clause-walks : goal.returns-then-is_empty-clause-walks
-returns-then-is_empty-clause-walks c =
-    let zero = zero_set_up _ c.args.rows.now (c.if-is_zero.ensures refl) (eqb-true _ _ (sym c.if-is_empty.ensures)) in
-    record { answer = none_allowed _ _ (no_forces c.args.cells.n c.args.by _ zero) }
+pub returns-clause-walks : goal.returns-clause-walks
+returns-clause-walks c = rw c.in_ok-found.ensures.value at c.check_strong.ensures.walks
 
-pub returns-then-is_empty-clause-mild : goal.returns-then-is_empty-clause-mild
-returns-then-is_empty-clause-mild c =
-    zero_mild _ _ _ (zero_set_up _ c.args.rows.now (c.if-is_zero.ensures refl) (eqb-true _ _ (sym c.if-is_empty.ensures)))
+pub returns-clause-mild : goal.returns-clause-mild
+returns-clause-mild c = on_ok_weaker _ c.in_ok-found.ensures.mild c.check_strong.ensures.none

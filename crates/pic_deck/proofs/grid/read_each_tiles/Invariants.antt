@@ -2,7 +2,7 @@ use Rattle.std.proofs.Common.{◌≡◌, ℕ, ◌<◌, slice_index, length, take
 use Rattle.toml.specs.View.{view, items_view}
 use Rattle.pic_walk.specs.Path.{path_of}
 use Rattle.pic_walk.specs.Walk.{array_of, each}
-use Rattle.pic_deck.specs.Deck.{IsTiled}
+use Rattle.pic_grid.specs.Tiles.{IsTiled}
 use Rattle.pic_deck.specs.Keys.{next_tiles}
 use Rattle.pic_deck.proofs.grid.read_each_tiles.Given as goal
 
