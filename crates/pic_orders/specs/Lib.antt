@@ -1,0 +1,5 @@
+pub mod Same
+pub mod Totals
+pub mod InOrder
+pub mod StandFor
+pub mod StopOf

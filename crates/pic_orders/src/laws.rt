@@ -1,0 +1,30 @@
+//! Laws of particles in any order. Each is the contract of a function that does nothing.
+
+ghost use Rattle.pic_orders.specs.InOrder.{AnyOrderIsTheList, CensusIsPutInOrder, WrittenIsInOrder};
+ghost use Rattle.pic_orders.specs.InOrder.{CensusIsARearrangement};
+ghost use Rattle.pic_orders.specs.StopOf.{LeastStopInAnyOrder};
+
+/// A list in the order of identities is found again from its particles in any order.
+pub fn any_order_is_the_list()
+    ensures { AnyOrderIsTheList }
+{}
+
+/// Particles of a census, put in order, are the same, and their identities are 0, 1, .., n - 1.
+pub fn census_is_put_in_order()
+    ensures { CensusIsPutInOrder }
+{}
+
+/// Particles of a census, each written at the place of its identity, make the list in order.
+pub fn written_is_in_order()
+    ensures { WrittenIsInOrder }
+{}
+
+/// The census says that the identities of n particles are a rearrangement of 0, 1, .., n - 1.
+pub fn census_is_a_rearrangement()
+    ensures { CensusIsARearrangement }
+{}
+
+/// The stop of a push is found from the particles in any order.
+pub fn least_stop_in_any_order()
+    ensures { LeastStopInAnyOrder }
+{}
