@@ -6,28 +6,35 @@ use Rattle.pic_num.specs.Space.{Triple, unwrapped}
 use Rattle.pic_grid.specs.Cells.{IsSize, IsWithin, count_of, index_of, cell_of}
 use Rattle.pic_grid.specs.Block.{InZone}
 use Rattle.pic_grid.specs.Parts.{part_of, corner_of}
-use Rattle.pic_grid.proofs.CellLaws.{cell_of-index_of, index_of-cell_of, cell_of_within}
+use Rattle.pic_grid.proofs.CellLaws.{index_of_below, cell_of-index_of, index_of-cell_of, cell_of_within}
 use Rattle.pic_tile.specs.Directions.{directions, steps_of, opposite, ring_step}
-use Rattle.pic_tile.specs.Tiling.{Tiling, IsMap, cells_of, IsInTile, owner_of, stepped, neighbour_of}
+use Rattle.pic_tile.specs.Tiling.{Tiling, IsThick, IsMap, cells_of, IsInTile, owner_of, stepped, neighbour_of}
 use Rattle.pic_tile.proofs.RingLaws.{ring_below, ring_back}
 
 -- a cell's part is one of the tiles
-part_within : (m : Tiling) (c : Triple) → IsMap m → IsWithin c (cells_of m) → IsWithin (part_of m.size c) m.tiles
+pub part_within : (m : Tiling) (c : Triple) → IsThick m.size → IsWithin c (cells_of m) → IsWithin (part_of m.size c) m.tiles
 part_within m c h w =
-    let x : 0 < m.size.x = h.layers.x_least in
-    let y : 0 < m.size.y = h.layers.y_least in
-    let z : 0 < m.size.z = h.layers.z_least in
+    let x : 0 < m.size.x = omega (arith, h.x) in
+    let y : 0 < m.size.y = omega (arith, h.y) in
+    let z : 0 < m.size.z = omega (arith, h.z) in
     record {
       x = div_below c.x m.size.x m.tiles.x x w.x;
       y = div_below c.y m.size.y m.tiles.y y w.y;
       z = div_below c.z m.size.z m.tiles.z z w.z;
     }
 
+-- the place of a cell's tile
+pub owner_place : (m : Tiling) (c : Triple) → IsThick m.size → IsWithin c (cells_of m) → cell_of m.tiles (owner_of m c) ≡ part_of m.size c
+owner_place m c h w = cell_of-index_of m.tiles (part_of m.size c) (part_within m c h w)
+
+pub owner_below : (m : Tiling) (c : Triple) → IsThick m.size → IsWithin c (cells_of m) → owner_of m c < count_of m.tiles
+owner_below m c h w = index_of_below m.tiles (part_of m.size c) (part_within m c h w)
+
 -- a number and the end of its row
-low_end : (c s : ℕ) → pos (c / s * s) ≤ℤ pos c
+pub low_end : (c s : ℕ) → pos (c / s * s) ≤ℤ pos c
 low_end c s = omega (arith, ints, div-add-mod' c s)
 
-high_end : (c s : ℕ) → 0 < s → pos c <ℤ (pos (c / s * s) +ℤ pos s)
+pub high_end : (c s : ℕ) → 0 < s → pos c <ℤ (pos (c / s * s) +ℤ pos s)
 high_end c s h =
     let rest : c % s < s = mod_below c s h in
     omega (arith, ints, div-add-mod' c s)
@@ -46,7 +53,7 @@ in_part s c h = record {
 -- a cell's tile has it
 pub owner_has : (m : Tiling) (c : Triple) → IsMap m → IsWithin c (cells_of m) → IsInTile m (owner_of m c) c
 owner_has m c h w =
-    let part : cell_of m.tiles (owner_of m c) ≡ part_of m.size c = cell_of-index_of m.tiles (part_of m.size c) (part_within m c h w) in
+    let part = owner_place m c h.thick w in
     subst (λ (p : Triple). InZone (corner_of m.size p) m.size (unwrapped c)) (sym part) (in_part m.size c h.layers)
 
 -- the row of a number between its ends
@@ -68,10 +75,10 @@ owner_only m t c h =
     ap (index_of m.tiles) part ∙ index_of-cell_of m.tiles t
 
 -- steps lead to places of tiles, and back
-stepped_within : (n e p : Triple) → IsWithin p n → IsWithin (stepped n e p) n
+pub stepped_within : (n e p : Triple) → IsWithin p n → IsWithin (stepped n e p) n
 stepped_within n e p w = record { x = ring_below n.x e.x p.x w.x; y = ring_below n.y e.y p.y w.y; z = ring_below n.z e.z p.z w.z }
 
-steps_back : (d : ℕ) → d < directions → steps_of (opposite d) ≡ record { x = 2 - d % 3; y = 2 - d / 3 % 3; z = 2 - d / 9 }
+pub steps_back : (d : ℕ) → d < directions → steps_of (opposite d) ≡ record { x = 2 - d % 3; y = 2 - d / 3 % 3; z = 2 - d / 9 }
 steps_back d h =
     let x : (26 - d) % 3 ≡ 2 - d % 3 = omega arith in
     let y : (26 - d) / 3 % 3 ≡ 2 - d / 3 % 3 = omega arith in

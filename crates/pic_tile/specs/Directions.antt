@@ -6,6 +6,10 @@ use Rattle.pic_num.specs.Space.{Triple}
 abbrev pub directions : ℕ
 directions = 27
 
+-- the direction without a step
+abbrev pub here : ℕ
+here = 13
+
 -- the steps of a direction: on each axis 0 is a step down, 1 none, 2 a step up
 abbrev pub steps_of : ℕ → Triple
 steps_of d = record { x = d % 3; y = d / 3 % 3; z = d / 9 }

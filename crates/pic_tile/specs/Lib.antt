@@ -1,2 +1,17 @@
 pub mod Directions
 pub mod Tiling
+pub mod Owners
+pub mod Layers
+pub mod Tile
+pub mod Leaving
+pub mod Parcels
+pub mod Receiving
+pub mod Frame
+pub mod Zones
+pub mod Empty
+pub mod LayerSum
+pub mod Held
+pub mod Pushed
+pub mod CoreState
+pub mod CoreEvents
+pub mod Exchanged

@@ -1,9 +1,10 @@
 -- A grid cut into equal tiles, boxes of cells that are numbered x fastest, then y, then z.
-use Rattle.std.specs.Prelude.{◌≡◌, ℕ, ◌*◌, ◌/◌, ◌%◌, ◌≤◌, List, length}
+use Rattle.std.specs.Prelude.{◌≡◌, ℕ, ◌*◌, ◌≤◌, List, length}
 use Rattle.pic_num.specs.Space.{Triple, triple, unwrapped}
 use Rattle.pic_grid.specs.Cells.{Grid, IsCells, IsSize, count_of, index_of, cell_of}
 use Rattle.pic_grid.specs.Block.{InZone}
 use Rattle.pic_grid.specs.Parts.{part_size, part_of, corner_of}
+use Rattle.pic_grid.specs.Tiles.{most_tiles}
 use Rattle.pic_tile.specs.Directions.{steps_of, ring_step}
 
 -- the numbers of tiles, the layers of cells of each tile, and the side of a cell
@@ -26,23 +27,6 @@ grid_of m = record { n = cells_of m; side = m.side }
 -- a grid cut into so many tiles
 abbrev pub tiles_of : Grid → Triple → Tiling
 tiles_of grid tiles = record { tiles = tiles; size = part_size grid.n tiles; side = grid.side }
-
--- a grid has at most 512 tiles: this project's profile
-abbrev pub most_tiles : ℕ
-most_tiles = 512
-
--- an axis of n cells is cut into t tiles of one size, each of two cells or more
-pub record IsTiled (n t : ℕ) : Type 0 where
-  pub low : 1 ≤ t
-  pub high : t ≤ n / 2
-  pub divides : n % t ≡ 0
-
--- a grid of n cells is cut into tiles, not too many
-pub record AreTiles (n tiles : Triple) : Type 0 where
-  pub x : IsTiled n.x tiles.x
-  pub y : IsTiled n.y tiles.y
-  pub z : IsTiled n.z tiles.z
-  pub most : count_of tiles ≤ most_tiles
 
 -- each axis has two layers or more
 pub record IsThick (size : Triple) : Type 0 where

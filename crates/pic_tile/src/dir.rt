@@ -1,7 +1,9 @@
 //! The directions from a tile to those around it.
 
 ghost use Rattle.std.specs.Prelude.{◌≡◌, ℕ, ◌<◌};
-ghost use Rattle.pic_tile.specs.Directions.{directions};
+ghost use Rattle.pic_num.specs.Space.{triple};
+ghost use Rattle.pic_grid.specs.Cells.{IsWithin};
+ghost use Rattle.pic_tile.specs.Directions.{directions, steps_of};
 
 use std::marker::Model;
 
@@ -45,6 +47,14 @@ impl Dir {
         ensures below { result < directions }
     {
         self.number
+    }
+
+    /// Its steps on x, y and z: 0 is a step down, 1 none, 2 a step up.
+    pub fn steps(&self) -> [u32; 3]
+        ensures value { triple result ≡ steps_of self.now }
+        ensures below { IsWithin (triple result) (record { x = 3; y = 3; z = 3 }) }
+    {
+        [self.number % 3, self.number / 3 % 3, self.number / 9]
     }
 }
 

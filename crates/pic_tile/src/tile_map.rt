@@ -4,8 +4,10 @@ ghost use Rattle.std.specs.Prelude.{◌≡◌, ℕ, ◌-◌, ◌*◌, ◌/◌, �
 ghost use Rattle.pic_num.specs.Space.{triple, spot};
 ghost use Rattle.pic_grid.specs.Cells.{IsWithin, count_of, index_of, cell_of};
 ghost use Rattle.pic_grid.specs.Parts.{corner_of};
+ghost use Rattle.pic_grid.specs.Tiles.{AreTiles, most_tiles};
 ghost use Rattle.pic_tile.specs.Directions.{opposite, ring_step};
-ghost use Rattle.pic_tile.specs.Tiling.{AreTiles, IsMap, most_tiles, cells_of, grid_of, tiles_of, IsInTile, owner_of, neighbour_of};
+ghost use Rattle.pic_tile.specs.Tiling.{IsMap, cells_of, grid_of, tiles_of, IsInTile, owner_of, neighbour_of};
+ghost use Rattle.pic_tile.specs.Zones.{IsTileZone};
 
 use crate::dir::Dir;
 use pic_grid::{Cells, Zone};
@@ -104,6 +106,7 @@ impl TileMap {
         requires { tile < count_of self.now.tiles }
         ensures low { spot result.low ≡ corner_of self.now.size (cell_of self.now.tiles tile) }
         ensures size { triple result.size ≡ self.now.size }
+        ensures tile { IsTileZone (spot result.low) (triple result.size) }
     {
         let [nx, ny, nz] = self.layers;
         let [x, y, z] = place_in(self.tiles, tile);

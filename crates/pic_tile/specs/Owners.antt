@@ -1,0 +1,13 @@
+-- Which tile a particle is of.
+use Rattle.std.specs.Prelude.{ℕ, ◌/◌}
+use Rattle.pic_num.specs.declared.motion.Particle.{Particle}
+use Rattle.pic_num.specs.Space.{Triple, triple}
+use Rattle.pic_tile.specs.Tiling.{Tiling, owner_of}
+
+-- the cell in which a position of the box lies
+abbrev pub cell_at : ℕ → Triple → Triple
+cell_at side point = record { x = point.x / side; y = point.y / side; z = point.z / side }
+
+-- the tile of a particle: that of the cell of its position
+abbrev pub tile_of : Tiling → Particle → ℕ
+tile_of m particle = owner_of m (cell_at m.side (triple particle.x))

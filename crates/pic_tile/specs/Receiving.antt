@@ -1,0 +1,121 @@
+-- A receiver's tile while the parcels that come to it are merged: that of no step first, the others
+-- in any order.
+use Rattle.std.specs.Prelude.{◌≡◌, ℕ, ℤ, ◌<◌, ◌≤◌, List, [], ◌++◌, length, Bool, true, false, Some, None, IsSome, if◌then◌else◌}
+use Rattle.std.specs.List.{All, flat_map, range_with_len}
+use Rattle.pic_num.specs.declared.axis.Axis.{Axis}
+use Rattle.pic_num.specs.declared.motion.Particle.{Particle}
+use Rattle.pic_num.specs.Limits.{most_side, most_particles}
+use Rattle.pic_num.specs.Sizes.{IsAtMost}
+use Rattle.pic_num.specs.Space.{Triple, triple}
+use Rattle.pic_grid.specs.Block.{BlockValues, IsShaped, inner_at}
+use Rattle.pic_grid.specs.BlockLayers.{AddsLayers}
+use Rattle.pic_grid.specs.Cells.{IsWithin, count_of}
+use Rattle.pic_grid.specs.Hat.{IsInBox}
+use Rattle.pic_grid.specs.PushPhase.{Surroundings}
+use Rattle.pic_grid.specs.Species.{IsKind}
+use Rattle.pic_grid.specs.Sums.{sum_below}
+use Rattle.pic_grid.specs.Traces.{traces, most_flux}
+use Rattle.pic_orders.specs.Same.{Same}
+use Rattle.pic_orders.specs.StopOf.{IsStopOf}
+use Rattle.pic_tile.specs.declared.parcel.Parcel.{Parcel}
+use Rattle.pic_tile.specs.Directions.{directions, here}
+use Rattle.pic_tile.specs.Empty.{zeros, empty_parcel}
+use Rattle.pic_tile.specs.Layers.{layers_begin, layers_from, corner, sender_of, pick, given_at}
+use Rattle.pic_tile.specs.LayerSum.{AreSharedOut}
+use Rattle.pic_tile.specs.Leaving.{going}
+use Rattle.pic_tile.specs.Tile.{TileValue, parcel_at, chain_at, flux_at, stop_at}
+use Rattle.pic_tile.specs.Tiling.{Tiling, IsThick, cells_of}
+
+-- One merge.
+
+-- what is left of a parcel whose flux is added to that block: no particles, and no flux over the
+-- layers of the block's own tile
+abbrev pub emptied : BlockValues → Parcel → Parcel
+emptied b parcel =
+    let low = layers_from b.size b.low parcel.dir in
+    record parcel { chain = []; flux = zeros low parcel.flux.size }
+
+-- a tile before and after a parcel is merged into it: that of no step is put in its place; of any
+-- other the particles and the flux go to that of no step, and the rest of it stays in its own place
+pub record Merged (parcel : Parcel) (old new : TileValue) : Type 0 where
+  pub number : new.number ≡ old.number
+  pub there : IsSome (parcel_at new here)
+  pub first : parcel.dir ≡ here → parcel_at new here ≡ Some parcel
+  pub chain : Same (chain_at new here) (parcel.chain ++ chain_at old here)
+  pub shape : (parcel.dir ≡ here → ⊥) → IsShaped (flux_at old here) (flux_at new here)
+  pub flux : (parcel.dir ≡ here → ⊥)
+      → AddsLayers (flux_at old here) (flux_at new here) parcel.flux
+      (layers_begin (flux_at old here).size parcel.dir)
+  pub stop : (parcel.dir ≡ here → ⊥) → stop_at new here ≡ stop_at old here
+  pub left : (parcel.dir ≡ here → ⊥)
+      → parcel_at new parcel.dir ≡ Some (emptied (flux_at old here) parcel)
+  pub others : (d : ℕ) → (d ≡ here → ⊥) → (d ≡ parcel.dir → ⊥) → parcel_at new d ≡ parcel_at old d
+
+-- After the merges of the directions done, where the tile t began its push with the particles
+-- start t.
+
+-- the particles that come to the tile r by those directions, after their push
+unfoldable pub coming : Surroundings → Tiling → (ℕ → List Particle) → (ℕ → Bool) → ℕ → List Particle
+coming w m start done r =
+    flat_map (λ d. if done d then going w m d (start (sender_of m d r)) else [])
+    (range_with_len 0 directions)
+
+-- the flux that they bring to the edge on the axis a that lies q above the tile's lowest
+unfoldable pub brought : Surroundings → Tiling → (ℕ → List Particle) → (ℕ → Bool) → ℕ → Axis → Triple
+    → ℤ
+brought w m start done r a q =
+    sum_below directions
+    (λ d. let s = sender_of m d r in pick (done d) (given_at m s d (traces w (start s) a) q))
+
+-- the tile's parcel of no step has all that they bring, and what stops the tile's own push
+pub record HasMerged (w : Surroundings) (m : Tiling) (start : ℕ → List Particle) (done : ℕ → Bool)
+    (r : ℕ) (parcel : Parcel) : Type 0
+  where
+    pub chain : Same parcel.chain (coming w m start done r)
+    pub low : parcel.flux.low ≡ corner m r
+    pub size : parcel.flux.size ≡ m.size
+    pub flux : (a : Axis) (q : Triple) → IsWithin q m.size
+        → inner_at parcel.flux a q ≡ brought w m start done r a q
+    pub halt : IsStopOf w (start r) parcel.stop
+
+-- the tile r: the direction of no step is the first to be done, and its parcel has all; the others
+-- that are done are empty, and those that aren't have no parcel yet
+pub record IsReceiving (w : Surroundings) (m : Tiling) (start : ℕ → List Particle) (done : ℕ → Bool)
+    (r : ℕ) (t : TileValue) : Type 0
+  where
+    pub number : t.number ≡ r
+    pub first : (d : ℕ) → d < directions → done d ≡ true → done here ≡ true
+    pub there : done here ≡ true → IsSome (parcel_at t here)
+    pub own : (parcel : Parcel) → parcel_at t here ≡ Some parcel → HasMerged w m start done r parcel
+    pub empty : (d : ℕ) → d < directions → (d ≡ here → ⊥) → done d ≡ true
+        → parcel_at t d ≡ Some (empty_parcel m.size (corner m r) d)
+    pub bare : (d : ℕ) → d < directions → done d ≡ false → parcel_at t d ≡ None
+
+-- one direction more is done
+pub record IsOneMore (k : ℕ) (done more : ℕ → Bool) : Type 0 where
+  pub before : done k ≡ false
+  pub now : more k ≡ true
+  pub others : (d : ℕ) → (d ≡ k → ⊥) → more d ≡ done d
+
+-- all directions are done
+abbrev pub AreAllDone : (ℕ → Bool) → Type 0
+AreAllDone done = (d : ℕ) → d < directions → done d ≡ true
+
+-- whichever directions are done first, the flux that has come to an edge is at most what that of
+-- all particles can be at one
+abbrev pub SumsKeepTheBound : Type 0
+SumsKeepTheBound =
+    (w : Surroundings) (m : Tiling) (start : ℕ → List Particle) (particles : List Particle)
+    → (done : ℕ → Bool) (r : ℕ) (a : Axis) (q : Triple)
+    → 0 < m.side
+    → m.side ≤ most_side
+    → w.side ≡ m.side
+    → w.cells ≡ cells_of m
+    → All IsKind w.kinds
+    → IsThick m.size
+    → r < count_of m.tiles
+    → IsWithin q m.size
+    → AreSharedOut m start particles
+    → All (λ x. IsInBox m.side (cells_of m) (triple x.x)) particles
+    → length particles ≤ most_particles
+    → IsAtMost (brought w m start done r a q) most_flux
