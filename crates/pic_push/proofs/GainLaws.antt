@@ -1,0 +1,81 @@
+-- Parcels that gain flux, one direction after another.
+use Rattle.std.proofs.Common.{◌≡◌, ℕ, ◌+◌, ◌<◌, ◌≤◌, inl, inr, Option, Some, None, refl, sym, ap, ◌∙◌, subst, arith}
+use Rattle.std.proofs.Math.IntN.{ℤ, ◌+ℤ◌}
+use Rattle.std.proofs.Math.Decide.{ℕ_discrete}
+use Rattle.std.proofs.lemmas.Bool.{cases_lt}
+use Rattle.pic_num.specs.declared.axis.Axis.{Axis}
+use Rattle.pic_num.specs.Space.{Spot}
+use Rattle.pic_num.proofs.ProductLaws.{plus_zero}
+use Rattle.pic_grid.specs.Block.{edge_at}
+use Rattle.pic_tile.specs.declared.parcel.Parcel.{Parcel}
+use Rattle.pic_tile.specs.Directions.{directions}
+use Rattle.pic_tile.specs.Tile.{TileValue, parcel_at}
+use Rattle.pic_push.specs.Gains.{Gained, HasGained, GainsAt, Gains, IsClear}
+
+-- a parcel that no flux passes gains nothing
+pub gains_nothing : (f : Axis → Spot → ℤ) (p : Parcel) → IsClear f p.flux → Gained f p p
+gains_nothing f p clear = record {
+  dir_is = refl;
+  chain_is = refl;
+  stop_is = refl;
+  shape = record { low = refl; size = refl };
+  adds = record { at = λ a c inside. plus_zero (edge_at p.flux a c) ∙ ap (λ (v : ℤ). edge_at p.flux a c +ℤ v) (sym (clear.at a c inside)) };
+}
+
+pub gains_clear : (f : Axis → Spot → ℤ) (t : TileValue) (d : ℕ) → ((p : Parcel) → parcel_at t d ≡ Some p → IsClear f p.flux) → GainsAt f d t t
+gains_clear f t d clear = record {
+  gained = λ p is. record { parcel = p; there = is; gained = gains_nothing f p (clear p is) };
+  none = λ is. is;
+  others = λ e other. refl;
+  number_is = refl;
+}
+
+-- the parcels of the directions below i have gained, the others are as they were
+pub record Spread (f : Axis → Spot → ℤ) (old : TileValue) (i : ℕ) (now : TileValue) : Type 0 where
+  pub done : (d : ℕ) (p : Parcel) → d < i → parcel_at old d ≡ Some p → HasGained f p (parcel_at now d)
+  pub gone : (d : ℕ) → d < i → parcel_at old d ≡ None → parcel_at now d ≡ None
+  pub rest : (d : ℕ) → i ≤ d → parcel_at now d ≡ parcel_at old d
+  pub number_is : now.number ≡ old.number
+
+-- where no flux passes those before the first
+pub spread_none : (f : Axis → Spot → ℤ) (t : TileValue) (i : ℕ) → ((d : ℕ) (p : Parcel) → d < i → parcel_at t d ≡ Some p → IsClear f p.flux) → Spread f t i t
+spread_none f t i clear = record {
+  done = λ d p below is. record { parcel = p; there = is; gained = gains_nothing f p (clear d p below is) };
+  gone = λ d below is. is;
+  rest = λ d more. refl;
+  number_is = refl;
+}
+
+-- one direction more
+pub spread_more : (f : Axis → Spot → ℤ) (old : TileValue) (i : ℕ) (now now' : TileValue) → Spread f old i now → GainsAt f i now now' → Spread f old (i + 1) now'
+spread_more f old i now now' before at = record {
+  done = λ d p below is. elim (ℕ_discrete d i) [
+    | yes same ↦ subst (λ (k : ℕ). HasGained f p (parcel_at now' k)) (sym same)
+        (at.gained p (before.rest i (omega arith) ∙ ap (parcel_at old) (sym same) ∙ is))
+    | no other ↦ subst (λ (o : Option Parcel). HasGained f p o) (sym (at.others d other)) (before.done d p (less d i below other) is)
+  ];
+  gone = λ d below is. elim (ℕ_discrete d i) [
+    | yes same ↦ ap (parcel_at now') same ∙ at.none (before.rest i (omega arith) ∙ ap (parcel_at old) (sym same) ∙ is)
+    | no other ↦ at.others d other ∙ before.gone d (less d i below other) is
+  ];
+  rest = λ d more. at.others d (apart d i more) ∙ before.rest d (omega (arith, more));
+  number_is = at.number_is ∙ before.number_is;
+}
+  where
+    less : (d k : ℕ) → d < k + 1 → (d ≡ k → ⊥) → d < k
+    less d k h other = elim (cases_lt d k) [ inl l ↦ l | inr m ↦ absurd (other (omega (arith, h, m))) ]
+
+    apart : (d k : ℕ) → k + 1 ≤ d → d ≡ k → ⊥
+    apart d k h same = omega (arith, h, same)
+
+-- where no flux passes those after the last
+pub spread_all : (f : Axis → Spot → ℤ) (old : TileValue) (i : ℕ) (now : TileValue)
+    → ((d : ℕ) (p : Parcel) → d < directions → i ≤ d → parcel_at old d ≡ Some p → IsClear f p.flux) → Spread f old i now → Gains f old now
+spread_all f old i now clear spread = record {
+  gained = λ d p below is. elim (cases_lt d i) [
+    | inl less ↦ spread.done d p less is
+    | inr more ↦ record { parcel = p; there = spread.rest d more ∙ is; gained = gains_nothing f p (clear d p below more is) }
+  ];
+  none = λ d below is. elim (cases_lt d i) [ inl less ↦ spread.gone d less is | inr more ↦ spread.rest d more ∙ is ];
+  number_is = spread.number_is;
+}

@@ -1,0 +1,13 @@
+pub mod PushLaws
+pub mod FitLaws
+pub mod TraceSizeLaws
+pub mod ReachLaws
+pub mod GainLaws
+pub mod UnreachedLaws
+pub mod LayerSumLaws
+pub mod PartialSumLaws
+pub mod WayLaws
+pub mod SendLaws
+pub mod ParcelLaws
+pub mod PushingLaws
+pub mod OneTileLaws

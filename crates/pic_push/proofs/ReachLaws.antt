@@ -1,0 +1,62 @@
+-- Steps and directions from a tile, and which of them a path reaches.
+use Rattle.std.proofs.Common.{◌≡◌, ℕ, ◌+◌, ◌<◌, ◌≤◌, Bool, true, false, cond, refl, sym, ◌∙◌, subst, arith}
+use Rattle.std.proofs.Math.IntN.{ℤ, pos, negsuc, ◌+ℤ◌}
+use Rattle.std.specs.Prelude.{◌≤ℤ◌, ◌<ℤ◌, unsigned_abs, nat_lt}
+use Rattle.std.proofs.lemmas.Bool.Decides.{nat_tests}
+use Rattle.std.proofs.lemmas.Int.{ints}
+use Rattle.pic_num.specs.Space.{Triple, Spot}
+use Rattle.pic_tile.specs.Tiling.{Tiling}
+use Rattle.pic_tile.specs.Layers.{corner}
+use Rattle.pic_tile.specs.Leaving.{step_to, direction_to}
+use Rattle.pic_push.specs.declared.reach.Steps.{Steps}
+use Rattle.pic_push.specs.Reach.{AreStepsOf, direction_from}
+
+when_true : {A : Type 0} (b : Bool) (x y : A) → b ≡ true → cond b x y ≡ x
+when_true true x y h = refl
+when_true false x y h = cc
+
+when_false : {A : Type 0} (b : Bool) (x y : A) → b ≡ false → cond b x y ≡ y
+when_false true x y h = cc
+when_false false x y h = refl
+
+-- the step to a cell below a tile
+pub step_under : (low : ℤ) (n : ℕ) (cell : ℤ) → pos 0 ≤ℤ low → cell <ℤ low → 0 ≡ step_to (unsigned_abs low) n cell
+unfolding step_to
+step_under low n (pos c) h below =
+    let less : c < unsigned_abs low = omega (arith, ints, h, below) in
+    let test : nat_lt c (unsigned_abs low) ≡ true = grind (arith, nat_tests) in
+    sym (when_true (nat_lt c (unsigned_abs low)) 0 _ test)
+step_under low n (negsuc c) h below = refl
+
+-- to one of its own
+pub step_among : (low : ℤ) (n : ℕ) (cell : ℤ) → pos 0 ≤ℤ low → low ≤ℤ cell → cell <ℤ (low +ℤ pos n) → 1 ≡ step_to (unsigned_abs low) n cell
+unfolding step_to
+step_among low n (pos c) h least below =
+    let more : unsigned_abs low ≤ c = omega (arith, ints, h, least) in
+    let less : c < unsigned_abs low + n = omega (arith, ints, h, below) in
+    let first : nat_lt c (unsigned_abs low) ≡ false = grind (arith, nat_tests) in
+    let test : nat_lt c (unsigned_abs low + n) ≡ true = grind (arith, nat_tests) in
+    sym (when_false (nat_lt c (unsigned_abs low)) 0 _ first ∙ when_true (nat_lt c (unsigned_abs low + n)) 1 2 test)
+step_among low n (negsuc c) h least below = absurd (omega (arith, ints, h, least))
+
+-- to one above it
+pub step_over : (low : ℤ) (n : ℕ) (cell : ℤ) → pos 0 ≤ℤ low → (low +ℤ pos n) ≤ℤ cell → 2 ≡ step_to (unsigned_abs low) n cell
+unfolding step_to
+step_over low n (pos c) h least =
+    let more : unsigned_abs low + n ≤ c = omega (arith, ints, h, least) in
+    let first : nat_lt c (unsigned_abs low) ≡ false = grind (arith, nat_tests) in
+    let test : nat_lt c (unsigned_abs low + n) ≡ false = grind (arith, nat_tests) in
+    sym (when_false (nat_lt c (unsigned_abs low)) 0 _ first ∙ when_false (nat_lt c (unsigned_abs low + n)) 1 2 test)
+step_over low n (negsuc c) h least = absurd (omega (arith, ints, h, least))
+
+-- the direction from the layers of a tile is that from the tile
+pub direction_is : (m : Tiling) (tile : ℕ) (low : Spot) (size : Triple) (cell : Spot) → low ≡ corner m tile → size ≡ m.size
+    → direction_from low size cell ≡ direction_to m tile cell
+unfolding direction_to
+direction_is m tile low size cell at thick = λ i. direction_from (at i) (thick i) cell
+
+-- steps of numbers as the code holds them
+pub steps_are : (low from to low' from' to' : ℤ) (n : ℕ) (s : Steps) → low' ≡ low → from' ≡ from → to' ≡ to
+    → AreStepsOf low' n from' to' s → AreStepsOf low n from to s
+steps_are low from to low' from' to' n s l f t h = subst (λ (a : ℤ). AreStepsOf a n from to s) l
+    (subst (λ (a : ℤ). AreStepsOf low' n a to s) f (subst (λ (a : ℤ). AreStepsOf low' n from' a s) t h))

@@ -1,0 +1,7 @@
+pub mod Paths
+pub mod Reach
+pub mod Gains
+pub mod Sends
+pub mod Opened
+pub mod OneTile
+pub mod PartialSums

@@ -1,0 +1,150 @@
+//! Which layers of a tile a path can send flux through, and in which direction it leads.
+
+ghost use Rattle.std.specs.Prelude.{◌≡◌, pos, ◌<◌, ◌≤◌, ◌≤ℤ◌, ◌<ℤ◌, ◌+ℤ◌, unsigned_abs};
+ghost use Rattle.pic_num.specs.Space.{triple, spot};
+ghost use Rattle.pic_tile.specs.Directions.{directions};
+ghost use Rattle.pic_tile.specs.Leaving.{step_to};
+ghost use Rattle.pic_push.specs.Reach.{spans, reaches, IsReach, IsReachOf, AreStepsOf};
+ghost use Rattle.pic_push.specs.Reach.{direction_from, first_of, end_of};
+
+use pic_grid::Zone;
+use pic_tile::Dir;
+
+/// Some steps of an axis, one after another: 0 is a step down, 1 none, 2 a step up.
+#[derive(Clone, Copy)]
+pub(crate) struct Steps {
+    pub first: u32,
+    pub last: u32,
+}
+
+/// The directions whose steps on each axis are among these.
+#[derive(Clone, Copy)]
+pub(crate) struct Reach {
+    pub x: Steps,
+    pub y: Steps,
+    pub z: Steps,
+}
+
+impl Reach {
+    /// The directions whose layers a path from a cell to a cell can send flux through, from the
+    /// tile of a zone.
+    pub fn of(zone: Zone, from: [i32; 3], to: [i32; 3]) -> Reach
+        ensures { IsReachOf (spot zone.low) (triple zone.size) (spot from) (spot to) result }
+    {
+        let [low_x, low_y, low_z] = zone.low;
+        let [nx, ny, nz] = zone.size;
+        let [from_x, from_y, from_z] = from;
+        let [to_x, to_y, to_z] = to;
+        Reach {
+            x: steps_on(low_x, nx, from_x, to_x),
+            y: steps_on(low_y, ny, from_y, to_y),
+            z: steps_on(low_z, nz, from_z, to_z),
+        }
+    }
+
+    /// The number of its first direction.
+    pub fn first(&self) -> u32
+        requires { IsReach self.now }
+        ensures { result ≡ first_of self.now }
+    {
+        self.x.first + 3 * self.y.first + 9 * self.z.first
+    }
+
+    /// The number after its last direction.
+    pub fn end(&self) -> u32
+        requires { IsReach self.now }
+        ensures { result ≡ end_of self.now }
+    {
+        self.x.last + 3 * self.y.last + 9 * self.z.last + 1
+    }
+
+    /// Whether it has a direction.
+    #[tactic(auto, unfolding(crate::specs::Reach::reaches))]
+    pub fn has(&self, dir: Dir) -> bool
+        ensures { result ≡ reaches self.now dir }
+    {
+        let [x, y, z] = dir.steps();
+        self.x.has(x) && (self.y.has(y) && self.z.has(z))
+    }
+}
+
+impl Steps {
+    /// Whether a step is one of them.
+    #[tactic(auto, unfolding(crate::specs::Reach::spans))]
+    fn has(&self, step: u32) -> bool
+        ensures { result ≡ spans self.now step }
+    {
+        self.first <= step && step <= self.last
+    }
+}
+
+/// The steps that a path can reach on an axis where a tile has `size` layers from `low` on.
+fn steps_on(low: i32, size: u32, from: i32, to: i32) -> Steps
+    ensures { AreStepsOf low size from to result }
+{
+    Steps {
+        first: first_step(low, from, to),
+        last: last_step(low, size, from, to),
+    }
+}
+
+/// A step down where one of two cells lies below `low`, else none.
+fn first_step(low: i32, from: i32, to: i32) -> u32
+    ensures most { result ≤ 1 }
+    ensures from { result ≡ 1 → low ≤ℤ from }
+    ensures to { result ≡ 1 → low ≤ℤ to }
+{
+    if from < low {
+        return 0;
+    }
+    if to < low { 0 } else { 1 }
+}
+
+/// A step up where the layer over one of two cells is none of the tile's, else none.
+fn last_step(low: i32, size: u32, from: i32, to: i32) -> u32
+    ensures least { 1 ≤ result }
+    ensures most { result ≤ 2 }
+    ensures from { result ≡ 1 → (from +ℤ pos 1) <ℤ (low +ℤ pos size) }
+    ensures to { result ≡ 1 → (to +ℤ pos 1) <ℤ (low +ℤ pos size) }
+{
+    let end = i64::from(low) + i64::from(size);
+    if i64::from(from) + 1 >= end {
+        return 2;
+    }
+    if i64::from(to) + 1 >= end { 2 } else { 1 }
+}
+
+/// The direction from the tile of a zone to a cell, which isn't wrapped.
+pub(crate) fn way_to(zone: Zone, cell: [i32; 3]) -> Dir
+    requires x { pos 0 ≤ℤ (spot zone.low).x }
+    requires y { pos 0 ≤ℤ (spot zone.low).y }
+    requires z { pos 0 ≤ℤ (spot zone.low).z }
+    ensures value { result ≡ direction_from (spot zone.low) (triple zone.size) (spot cell) }
+    ensures below { result < directions }
+{
+    let [low_x, low_y, low_z] = zone.low;
+    let [nx, ny, nz] = zone.size;
+    let [x, y, z] = cell;
+    let (step_x, step_y, step_z) = (
+        step_on(low_x, nx, x),
+        step_on(low_y, ny, y),
+        step_on(low_z, nz, z),
+    );
+    Dir::of(step_x + 3 * step_y + 9 * step_z)
+}
+
+/// The step from a tile of `size` layers from `low` on to a cell.
+#[tactic(auto, using(crate::proofs::ReachLaws::step_under, crate::proofs::ReachLaws::step_among, crate::proofs::ReachLaws::step_over))]
+fn step_on(low: i32, size: u32, cell: i32) -> u32
+    requires { pos 0 ≤ℤ low }
+    ensures value { result ≡ step_to (unsigned_abs low) size cell }
+    ensures below { result < 3 }
+{
+    if cell < low {
+        return 0;
+    }
+    if i64::from(cell) < i64::from(low) + i64::from(size) {
+        return 1;
+    }
+    2
+}
