@@ -1,0 +1,5 @@
+pub mod Teams
+pub mod HandOver
+pub mod EachTile
+pub mod PushTiles
+pub mod Arrived
