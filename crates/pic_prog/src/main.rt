@@ -19,6 +19,7 @@ fn main(rt: HostRuntime) -> ExitCode {
     let mut report = StdSink::new(rt.stderr());
     let ended = match arguments(&rt) {
         Ok(all) => pic(
+            &rt,
             rt.alloc(),
             after_name(&all),
             &mut source,

@@ -7,7 +7,6 @@ use Rattle.pic_io.specs.Sinks.{Sinks}
 use Rattle.pic_io.proofs.Puts.{wrote_none}
 use Rattle.pic_demo.specs.Demo.{demo_deck}
 use Rattle.pic_deck.specs.Deck.{DeckView}
-use Rattle.pic_step.specs.SerialRun.{start_of}
 use Rattle.pic_step.specs.Sound.{IsSound}
 use Rattle.pic_line.specs.declared.asked.Command.{Command}
 use Rattle.pic_line.specs.declared.asked.Command.TheVariants.{Check, Run, Verify, Demo}
@@ -75,7 +74,7 @@ on_opened performed o source source' before now finish taken opens ends =
         taken = taken;
         end = λ _ d e. is.end;
         sound = λ _ d e. subst (λ (k : DeckView). IsSound (first_state k)) (ok_is o.deck d (sym is.deck ∙ e))
-            (subst (λ ps. IsSound (start_of o.deck ps)) is.particles is.sound);
+            (subst IsSound is.start is.sound);
       };
     }
 
@@ -178,7 +177,7 @@ unfolding demonstrated
 shown seed o before now finish is ends = record {
   finishes = subst (λ (s : Staged DeckView). Finishes (on_deck demo_outcome s) before now finish) (sym is.deck) ends;
   sound = λ _ d e. subst (λ (k : DeckView). IsSound (first_state k)) (ok_is o.deck d (sym is.deck ∙ e))
-      (subst (λ ps. IsSound (start_of o.deck ps)) is.particles is.sound);
+      (subst IsSound is.start is.sound);
 }
 
 -- what was left in a source is what it held, where it tells its bytes

@@ -7,3 +7,4 @@ pub mod StateLaws
 pub mod OpenedLaws
 pub mod EndLaws
 pub mod MeaningLaws
+pub mod WorkerLaws

@@ -32,15 +32,18 @@ use Rattle.pic_run.specs.declared.cut.Cut.TheVariants as cut
 use Rattle.pic_run.specs.declared.early.Early.{Early}
 use Rattle.pic_run.specs.declared.early.Early.TheVariants as early
 use Rattle.pic_run.specs.declared.ended.Ended.{Ended}
-use Rattle.pic_run.specs.declared.ended.Ended.TheVariants.{Done, Checked, Verified, Stopped, Usage, Refused, Gauss, ReadFault, WriteFault, NoMemory, BadDump, Broken}
+use Rattle.pic_run.specs.declared.ended.Ended.TheVariants.{Done, Checked, Verified, Stopped, Usage, Refused, Gauss}
+use Rattle.pic_run.specs.declared.ended.Ended.TheVariants.{ReadFault, WriteFault, NoMemory, BadDump, Broken}
 use Rattle.pic_line.specs.CommandLine.{command_of}
 use Rattle.pic_run.specs.Early.{Staged, ◌>>=◌, ended_early}
 use Rattle.pic_run.specs.Ended.{ended_of}
 use Rattle.pic_run.specs.Frames.{end_where, end_of}
 use Rattle.pic_run.specs.Reading.{deck_limit, Gave}
 use Rattle.pic_run.specs.Starting.{first_state, break_of}
-use Rattle.pic_run.specs.Outcome.{Outcome, pieces_of, answer_of, outcome, command_outcome, unless_refused, unless_broken, accepted, tested, opened, demonstrated, verdict_on, verdict_outcome, on_deck, check_outcome, run_outcome, demo_outcome}
-use Rattle.pic_run.specs.Ends.{Fulfils, HasFrames, Finishes, Reads, ReadsDeck, ReadsDump, Performs, Ends, IsComplete, Held, HasDeck, IsRun, IsOnDeck, IsRefused, BreaksGauss, IsChecked, IsVerified, IsDone, IsStopped, IsBadDump, IsBroken, IsStarved}
+use Rattle.pic_run.specs.Outcome.{Outcome, pieces_of, answer_of, outcome, command_outcome, unless_refused, unless_broken, accepted, tested, opened}
+use Rattle.pic_run.specs.Outcome.{demonstrated, verdict_on, verdict_outcome, on_deck, check_outcome, run_outcome, demo_outcome}
+use Rattle.pic_run.specs.Ends.{Fulfils, HasFrames, Finishes, Reads, ReadsDeck, ReadsDump, Performs, Ends, IsComplete, Held, HasDeck, IsRun, IsOnDeck}
+use Rattle.pic_run.specs.Ends.{IsRefused, BreaksGauss, IsChecked, IsVerified, IsDone, IsStopped, IsBadDump, IsBroken, IsStarved}
 use Rattle.pic_run.proofs.StateLaws.{each_gauss}
 use Rattle.pic_run.proofs.StartLaws.{gauss_of}
 

@@ -2,7 +2,6 @@
 use Rattle.std.proofs.Common.{◌≡◌, ℕ, ◌<◌, List, [], length, take, Option, Some, None, Result, Ok, Err, refl, sym, ◌∙◌, ap, subst, arith}
 use Rattle.std.specs.Prelude.{IfSome, unwrap_or}
 use Rattle.pic_io.specs.Told.{Told, Calm}
-use Rattle.pic_num.specs.declared.motion.Particle.{Particle}
 use Rattle.pic_charge.specs.declared.breaks.Break.{Break}
 use Rattle.pic_deck.specs.Deck.{DeckView}
 use Rattle.pic_deck.specs.declared.refusal.DeckFault.{DeckFault}
@@ -10,9 +9,9 @@ use Rattle.pic_deck.specs.declared.refusal.DeckFault.TheVariants as deck_fault
 use Rattle.pic_deck.specs.Refusal.{ReadDeck, ReadsAs}
 use Rattle.pic_deck.specs.Reading.{walk}
 use Rattle.pic_deck.proofs.ReadingLaws.{deck_size}
-use Rattle.pic_load.specs.Loading.{loaded}
-use Rattle.pic_step.specs.SerialRun.{start_of}
+use Rattle.pic_step.specs.SerialStep.{World}
 use Rattle.pic_step.specs.Sound.{IsSound}
+use Rattle.pic_step.specs.Start.{begun}
 use Rattle.pic_run.specs.declared.early.Early.TheVariants.{Gauss, Refused}
 use Rattle.pic_run.specs.declared.early.StageStop.{StageStop}
 use Rattle.pic_run.specs.declared.early.StageStop.TheVariants.{Answer, NoMemory}
@@ -82,7 +81,7 @@ read_and_tested a b limit bytes d (Ok o) is took walks tests = record {
   gave = took.gave;
   opens = record {
     deck = opened_as took.held (Ok d) (walked a b limit bytes is took (Ok d) walks) ∙ tests.deck;
-    particles = tests.particles;
+    start = tests.start;
     sound = tests.sound;
     end = took.end (short_deck bytes d limit is walks);
   };
@@ -98,14 +97,12 @@ read_and_tested a b limit bytes d (Err (Answer why)) is took walks tests = recor
 read_and_tested a b limit bytes d (Err NoMemory) is took walks tests = starved a b limit bytes took
 
 -- a deck that can be run, and one that doesn't meet Gauss's law
-pub ready : (o : Opened) → o.particles.items ≡ loaded o.deck → IsSound (start_of o.deck o.particles.items)
-    → break_of (start_of o.deck o.particles.items) ≡ None → IsTested o.deck o
-ready o particles sound none = record {
-  deck = ap (unless_broken o.deck) (ap (λ ps. break_of (start_of o.deck ps)) (sym particles) ∙ none);
-  particles = particles;
+pub ready : (o : Opened) → begun o.start ≡ first_state o.deck → IsSound (begun o.start) → break_of (begun o.start) ≡ None → IsTested o.deck o
+ready o start sound none = record {
+  deck = ap (unless_broken o.deck) (ap break_of (sym start) ∙ none);
+  start = start;
   sound = sound;
 }
 
-pub broken : (d : DeckView) (particles : List Particle) (at : Break) → particles ≡ loaded d → break_of (start_of d particles) ≡ Some at
-    → tested d ≡ Err (Gauss at)
-broken d particles at all found = ap (unless_broken d) (ap (λ ps. break_of (start_of d ps)) (sym all) ∙ found)
+pub broken : (d : DeckView) (w : World) (at : Break) → w ≡ first_state d → break_of w ≡ Some at → tested d ≡ Err (Gauss at)
+broken d w at start found = ap (unless_broken d) (ap break_of (sym start) ∙ found)

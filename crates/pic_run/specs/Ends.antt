@@ -34,7 +34,8 @@ use Rattle.pic_run.specs.Early.{ended_early, early_line}
 use Rattle.pic_run.specs.Ended.{ended_of}
 use Rattle.pic_run.specs.Reading.{deck_limit, Gave, TakesAtMost}
 use Rattle.pic_run.specs.Starting.{first_state, IsGauss, EachGauss}
-use Rattle.pic_run.specs.Outcome.{Outcome, outcome, out_text, report_text, pieces_of, line_alone, accepted, opened, demonstrated, verdict_on, verdict_outcome, on_deck, demo_outcome}
+use Rattle.pic_run.specs.Outcome.{Outcome, outcome, out_text, report_text, pieces_of, line_alone, accepted, opened}
+use Rattle.pic_run.specs.Outcome.{demonstrated, verdict_on, verdict_outcome, on_deck, demo_outcome}
 
 -- the outcome's answer, and both its texts whole
 pub record Fulfils (o : Outcome) (before now : Sinks) (answer : Ended) : Type 0 where

@@ -3,21 +3,21 @@ use Rattle.std.specs.Prelude.{◌≡◌, ⊤, ℕ, List, Option, Result, Ok, Err
 use Rattle.pic_io.specs.Told.{Told}
 use Rattle.pic_io.specs.Source.{IsAtEnd}
 use Rattle.pic_deck.specs.Deck.{DeckView}
-use Rattle.pic_load.specs.Loading.{loaded}
-use Rattle.pic_step.specs.SerialRun.{start_of}
 use Rattle.pic_step.specs.Sound.{IsSound}
+use Rattle.pic_step.specs.Start.{begun}
 use Rattle.pic_run.specs.declared.early.Early.{Early}
 use Rattle.pic_run.specs.declared.early.StageStop.{StageStop}
 use Rattle.pic_run.specs.declared.early.StageStop.TheVariants.{Answer, NoMemory}
 use Rattle.pic_run.specs.declared.opened.Opened.{Opened}
 use Rattle.pic_run.specs.Outcome.{accepted, tested, opened}
 use Rattle.pic_run.specs.Reading.{Gave}
+use Rattle.pic_run.specs.Starting.{first_state}
 
--- the deck meets Gauss's law; it stands here with its particles, and its first state is sound
+-- the deck meets Gauss's law; it stands here with what its run begins with, and that is sound
 pub record IsTested (d : DeckView) (o : Opened) : Type 0 where
   pub deck : tested d ≡ Ok o.deck
-  pub particles : o.particles.items ≡ loaded o.deck
-  pub sound : IsSound (start_of o.deck o.particles.items)
+  pub start : begun o.start ≡ first_state o.deck
+  pub sound : IsSound (begun o.start)
 
 -- what testing a deck answers
 abbrev pub Tests : DeckView → Result Opened StageStop → Type 0
@@ -25,11 +25,11 @@ Tests d (Ok o) = IsTested d o
 Tests d (Err (Answer why)) = tested d ≡ Err why
 Tests d (Err NoMemory) = ⊤
 
--- the deck of the input with its particles; its first state is sound, and the source is at its end
+-- the deck of the input with what its run begins with, which is sound; the source is at its end
 pub record IsOpened (input : Option (List ℕ)) (now : Told) (o : Opened) : Type 0 where
   pub deck : opened input ≡ Ok o.deck
-  pub particles : o.particles.items ≡ loaded o.deck
-  pub sound : IsSound (start_of o.deck o.particles.items)
+  pub start : begun o.start ≡ first_state o.deck
+  pub sound : IsSound (begun o.start)
   pub end : IsAtEnd now
 
 -- the early end of the input; where its deck is accepted, the source is at its end

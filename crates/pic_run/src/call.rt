@@ -20,13 +20,17 @@ use crate::verify::verify;
 use pic_io::{Sink, Source};
 use pic_line::{Command, LineFault, command};
 use std::alloc::Global;
+use std::thread::Threads;
 
 /// The top call: performs the command of the words (those after the program's name), on the deck or
 /// the dump that the source gives. The result goes to `out`, and the lines for the reader to `report`.
+/// A run's particles are pushed on as many threads as the words have workers; whatever their number,
+/// the result is that of the serial scheme.
 ///
 /// `ends` says it all: what the call answers and what it puts on its sinks is the outcome of the
 /// words and of what the source held. The other clauses follow from it.
-pub fn pic<S: Source, O: Sink, R: Sink>(
+pub fn pic<H: Threads + Sync, S: Source, O: Sink, R: Sink>(
+    rt: &H,
     alloc: Global,
     words: &[String],
     source: &mut S,
@@ -34,7 +38,8 @@ pub fn pic<S: Source, O: Sink, R: Sink>(
     report: &mut R,
 ) -> Ended
     // where the source and the sinks tell their bytes and none of them failed
-    ensures complete { IsComplete (map string_bytes words.now) (S.told source.old) (S.told source.new)
+    ensures complete { IsComplete (map string_bytes words.now) (S.told source.old)
+        (S.told source.new)
         (sinks (O.told out.old) (R.told report.old))
         (sinks (O.told out.new) (R.told report.new)) result }
 
@@ -75,11 +80,12 @@ pub fn pic<S: Source, O: Sink, R: Sink>(
         (sinks (O.told out.old) (R.told report.old))
         (sinks (O.told out.new) (R.told report.new)) }
 {
-    ended_of(perform(alloc, words, source, out, report))
+    ended_of(perform(rt, alloc, words, source, out, report))
 }
 
 // Performs the command of the words.
-fn perform<S: Source, O: Sink, R: Sink>(
+fn perform<H: Threads + Sync, S: Source, O: Sink, R: Sink>(
+    rt: &H,
     alloc: Global,
     words: &[String],
     source: &mut S,
@@ -92,9 +98,9 @@ fn perform<S: Source, O: Sink, R: Sink>(
 {
     match command(alloc, words) {
         Ok(Command::Check) => check(alloc, source, out, report),
-        Ok(Command::Run { workers: _ }) => run(alloc, source, out, report),
+        Ok(Command::Run { workers }) => run(rt, alloc, source, out, report, workers),
         Ok(Command::Verify) => verify(alloc, source, out, report),
-        Ok(Command::Demo { seed, workers: _ }) => demo(alloc, seed, out, report),
+        Ok(Command::Demo { seed, workers }) => demo(rt, alloc, seed, out, report, workers),
         Err(LineFault::Usage) => end_early(report, StageStop::Answer(Early::Usage)),
         Err(LineFault::NoMemory) => Err(Cut::NoMemory),
     }

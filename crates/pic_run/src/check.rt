@@ -29,7 +29,7 @@ pub fn check<S: Source, O: Sink, R: Sink>(
         (sinks (O.told out.new) (R.told report.new)) result }
 {
     match open(alloc, source) {
-        Ok(opened) => put_count(out, opened.particles.len() as u32),
+        Ok(opened) => put_count(out, opened.start.particles.len() as u32),
         Err(stop) => end_early(report, stop),
     }
 }

@@ -1,9 +1,11 @@
 //! The command `demo`: the run of the deck that a number makes, as lines alone.
 
+ghost use Rattle.std.specs.Prelude.{◌<◌, ◌≤◌};
+ghost use Rattle.pic_exchange.specs.Teams.{most_workers};
 ghost use Rattle.pic_io.specs.Sinks.{sinks};
 ghost use Rattle.pic_demo.specs.Demo.{demo_deck};
-ghost use Rattle.pic_step.specs.SerialRun.{start_of};
 ghost use Rattle.pic_step.specs.Sound.{IsSound};
+ghost use Rattle.pic_step.specs.Start.{begun};
 ghost use Rattle.pic_run.specs.Outcome.{lines_outcome};
 ghost use Rattle.pic_run.specs.Opened.{Tests};
 ghost use Rattle.pic_run.specs.Ends.{Demonstrates, Finishes};
@@ -12,30 +14,33 @@ use crate::cut::Cut;
 use crate::early::{StageStop, end_early};
 use crate::ended::Ended;
 use crate::opened::{Opened, test_deck};
-use crate::output::Output;
+use crate::output::{Output, Plan};
 use crate::run::write_states;
-use pic_deck::Deck;
 use pic_demo::deck_of;
 use pic_grid::Snapshot;
 use pic_io::Sink;
-use pic_num::Particle;
 use pic_step::State;
 use std::alloc::Global;
+use std::thread::Threads;
 
-/// Runs the demonstration of a seed: the lines of its due frames and of its end go to `out`, and no
+/// Runs the demonstration of a seed, on so many workers: the lines of its due frames and of its end go to `out`, and no
 /// dump is written.
-pub fn demo<O: Sink, R: Sink>(
+pub fn demo<H: Threads + Sync, O: Sink, R: Sink>(
+    rt: &H,
     alloc: Global,
     seed: u32,
     out: &mut O,
     report: &mut R,
+    workers: u32,
 ) -> Result<Ended, Cut>
+    requires some { 0 < workers }
+    requires most { workers ≤ most_workers }
     ensures { Demonstrates seed
         (sinks (O.told out.old) (R.told report.old))
         (sinks (O.told out.new) (R.told report.new)) result }
 {
     match open_demo(alloc, seed) {
-        Ok(opened) => show_deck(alloc, &opened.deck, &opened.particles, out, report),
+        Ok(opened) => show_deck(rt, alloc, opened, out, report, workers),
         Err(stop) => end_early(report, stop),
     }
 }
@@ -48,30 +53,30 @@ fn open_demo(alloc: Global, seed: u32) -> Result<Opened, StageStop>
     test_deck(alloc, deck)
 }
 
-// Runs a deck, whose particles these are, and shows its lines. All memory that isn't a step's is taken
-// before the first of them.
-fn show_deck<O: Sink, R: Sink>(
+// Runs a deck and shows its lines. All memory that isn't a step's is taken before the first one.
+fn show_deck<H: Threads + Sync, O: Sink, R: Sink>(
+    rt: &H,
     alloc: Global,
-    deck: &Deck,
-    particles: &[Particle],
+    opened: Opened,
     out: &mut O,
     report: &mut R,
+    workers: u32,
 ) -> Result<Ended, Cut>
-    requires { IsSound (start_of deck.now particles.now) }
-    ensures { Finishes (lines_outcome deck.now (start_of deck.now particles.now))
+    requires some { 0 < workers }
+    requires most { workers ≤ most_workers }
+    requires sound { IsSound (begun opened.start) }
+    ensures { Finishes (lines_outcome opened.deck (begun opened.start))
         (sinks (O.told out.old) (R.told report.old))
         (sinks (O.told out.new) (R.told report.new)) result }
 {
-    let state = State::new(alloc, deck, particles)?;
+    let Opened { deck, start } = opened;
+    let state = State::begin(alloc, start)?;
     let mut room = Snapshot::new(alloc, state.cells(), state.count())?;
-    let every = deck.every();
-    write_states(
-        Output::Lines,
-        out,
-        report,
-        deck.steps(),
-        every,
-        state,
-        &mut room,
-    )
+    let plan = Plan {
+        output: Output::Lines,
+        steps: deck.steps(),
+        every: deck.every(),
+        workers,
+    };
+    write_states(rt, plan, out, report, state, &mut room)
 }

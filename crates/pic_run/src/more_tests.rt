@@ -4,10 +4,11 @@ use crate::trial::{CALM, Faults, Left, PAIR, call, check};
 use std::alloc::Global;
 use std::process::Abort;
 use std::test::Fail;
+use std::thread::Threads;
 
 // The two charges' dump with a byte changed, or cut to a length.
-fn verify(
-    rt: &impl Abort,
+fn verify<H: Abort + Threads + Sync>(
+    rt: &H,
     alloc: Global,
     dump: &[u8],
     place: usize,
@@ -18,12 +19,12 @@ fn verify(
     let rest = dump
         .get(place.wrapping_add(1)..len)
         .expect(rt, "the rest of the dump");
-    call(alloc, &["verify"], &[front, &[byte], rest], CALM)
+    call(rt, alloc, &["verify"], &[front, &[byte], rest], CALM)
 }
 
 #[test]
 fn dumps_that_are_verified(rt: HostRuntime) -> Result<(), Fail> {
-    let written = call(rt.alloc(), &["run"], PAIR, CALM)?;
+    let written = call(&rt, rt.alloc(), &["run"], PAIR, CALM)?;
     let dump = written.out.bytes();
     let whole = verify(&rt, rt.alloc(), dump, 0, b'P', 12680)?;
     check(&rt, &whole, 0, b"verified 2 frames\n", b"");
@@ -54,7 +55,7 @@ fn a_demonstration_that_is_cut(rt: HostRuntime) -> Result<(), Fail> {
         out: (1, 4),
         ..CALM
     };
-    let left = call(rt.alloc(), &["demo", "7"], &[], faults)?;
+    let left = call(&rt, rt.alloc(), &["demo", "7"], &[], faults)?;
     assert_eq!(rt; left.status, 5);
     assert_eq!(rt; left.report.bytes(), b"".as_slice());
     let out = left.out.bytes();

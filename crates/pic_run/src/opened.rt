@@ -9,14 +9,14 @@ use crate::starting::find_break;
 use pic_deck::{Deck, read_deck};
 use pic_io::Source;
 use pic_load::load;
-use pic_num::Particle;
+use pic_step::Start;
 use std::alloc::Global;
 
-/// A deck that can be run, and its particles.
+/// A deck that can be run, and what its run begins with.
 #[derive(Drop)]
 pub struct Opened {
     pub deck: Deck,
-    pub particles: Vec<Particle>,
+    pub start: Start,
 }
 
 /// Opens the deck that the source gives, through all stages up to Gauss's law.
@@ -35,8 +35,9 @@ pub fn test_deck(alloc: Global, deck: Deck) -> Result<Opened, StageStop>
     ensures { Tests deck result }
 {
     let particles = load(alloc, &deck)?;
-    match find_break(alloc, &deck, &particles)? {
-        None => Ok(Opened { deck, particles }),
+    let start = Start::new(alloc, &deck, particles)?;
+    match find_break(alloc, &deck, &start)? {
+        None => Ok(Opened { deck, start }),
         Some(at) => Err(StageStop::Answer(Early::Gauss(at))),
     }
 }

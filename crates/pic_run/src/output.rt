@@ -1,4 +1,4 @@
-//! What a run puts of its states.
+//! What a run puts of its states, and how it goes.
 
 /// What a run puts of its states.
 #[derive(Clone, Copy, Debug, PartialEq, Eq)]
@@ -7,4 +7,14 @@ pub enum Output {
     Dump,
     /// The lines alone, on out.
     Lines,
+}
+
+/// How a run goes: what it puts of its states, how many steps it has, after how many of them a frame is
+/// due, and how many workers push the particles.
+#[derive(Clone, Copy)]
+pub struct Plan {
+    pub output: Output,
+    pub steps: u32,
+    pub every: u32,
+    pub workers: u32,
 }

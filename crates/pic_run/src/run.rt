@@ -1,9 +1,10 @@
 //! The command `run`, and the loop over the states of a run.
 
-ghost use Rattle.std.specs.Prelude.{◌≡◌, ◌≤◌, [], ◌∷◌, IfOk};
+ghost use Rattle.std.specs.Prelude.{◌≡◌, ◌<◌, ◌≤◌, [], ◌∷◌, IfOk};
+ghost use Rattle.pic_exchange.specs.Teams.{most_workers};
 ghost use Rattle.pic_io.specs.Sinks.{sinks, Writes};
-ghost use Rattle.pic_step.specs.SerialRun.{start_of};
 ghost use Rattle.pic_step.specs.Sound.{IsSound};
+ghost use Rattle.pic_step.specs.Start.{begun};
 ghost use Rattle.pic_run.specs.Starting.{header_of};
 ghost use Rattle.pic_run.specs.Frames.{frames_of, end_of, end_piece};
 ghost use Rattle.pic_run.specs.Rooms.{HasRoom};
@@ -16,50 +17,58 @@ use crate::early::end_early;
 use crate::ended::Ended;
 use crate::framing::{is_due, put_last, write_due};
 use crate::heading::header_of;
-use crate::opened::open;
-use crate::output::Output;
+use crate::opened::{Opened, open};
+use crate::output::{Output, Plan};
 use pic_deck::Deck;
 use pic_dump::{Header, put_header};
 use pic_grid::{EndMark, Snapshot};
 use pic_io::{Failed, Side, Sink, Source};
-use pic_num::{NoMemory, Particle};
-use pic_step::{State, StepStop, step};
+use pic_num::NoMemory;
+use pic_step::{Start, State, StepStop, step};
 use std::alloc::Global;
+use std::thread::Threads;
 
-/// Runs the deck that the source gives: header, due frames and end record on `out`, the lines of
-/// frames and end on `report`.
-pub fn run<S: Source, O: Sink, R: Sink>(
+/// Runs the deck that the source gives, on so many workers: header, due frames and end record on `out`,
+/// the lines of frames and end on `report`.
+pub fn run<H: Threads + Sync, S: Source, O: Sink, R: Sink>(
+    rt: &H,
     alloc: Global,
     source: &mut S,
     out: &mut O,
     report: &mut R,
+    workers: u32,
 ) -> Result<Ended, Cut>
+    requires some { 0 < workers }
+    requires most { workers ≤ most_workers }
     ensures { OnDeck run_outcome (S.told source.old) (S.told source.new)
         (sinks (O.told out.old) (R.told report.old))
         (sinks (O.told out.new) (R.told report.new)) result }
 {
     match open(alloc, source) {
-        Ok(opened) => run_deck(alloc, &opened.deck, &opened.particles, out, report),
+        Ok(opened) => run_deck(rt, alloc, opened, out, report, workers),
         Err(stop) => end_early(report, stop),
     }
 }
 
-// Runs a deck, whose particles these are. All memory that isn't a step's is taken before the header
-// is put.
-fn run_deck<O: Sink, R: Sink>(
+// Runs a deck. All memory that isn't a step's is taken before the header is put.
+fn run_deck<H: Threads + Sync, O: Sink, R: Sink>(
+    rt: &H,
     alloc: Global,
-    deck: &Deck,
-    particles: &[Particle],
+    opened: Opened,
     out: &mut O,
     report: &mut R,
+    workers: u32,
 ) -> Result<Ended, Cut>
-    requires { IsSound (start_of deck.now particles.now) }
-    ensures { Finishes (dump_outcome (header_of deck.now) (start_of deck.now particles.now))
+    requires some { 0 < workers }
+    requires most { workers ≤ most_workers }
+    requires sound { IsSound (begun opened.start) }
+    ensures { Finishes (dump_outcome (header_of opened.deck) (begun opened.start))
         (sinks (O.told out.old) (R.told report.old))
         (sinks (O.told out.new) (R.told report.new)) result }
 {
-    let ready = prepare(alloc, deck, particles)?;
-    write_run(out, report, ready)
+    let Opened { deck, start } = opened;
+    let ready = prepare(alloc, &deck, start)?;
+    write_run(rt, out, report, ready, workers)
 }
 
 /// A run that has all its memory: the header of its dump, its first state, and room for a frame.
@@ -71,14 +80,14 @@ struct Ready {
 }
 
 // Takes the memory of a run.
-fn prepare(alloc: Global, deck: &Deck, particles: &[Particle]) -> Result<Ready, NoMemory>
-    requires { IsSound (start_of deck.now particles.now) }
+fn prepare(alloc: Global, deck: &Deck, start: Start) -> Result<Ready, NoMemory>
+    requires { IsSound (begun start) }
     ensures header { IfOk result (λ ready. ready.header ≡ header_of deck.now) }
-    ensures state { IfOk result (λ ready. ready.state ≡ start_of deck.now particles.now) }
+    ensures state { IfOk result (λ ready. ready.state ≡ begun start) }
     ensures room { IfOk result (λ ready. HasRoom ready.room ready.state) }
 {
     let header = header_of(alloc, deck)?;
-    let state = State::new(alloc, deck, particles)?;
+    let state = State::begin(alloc, start)?;
     let room = Snapshot::new(alloc, state.cells(), state.count())?;
     Ok(Ready {
         header,
@@ -87,8 +96,16 @@ fn prepare(alloc: Global, deck: &Deck, particles: &[Particle]) -> Result<Ready, 
     })
 }
 
-fn write_run<O: Sink, R: Sink>(out: &mut O, report: &mut R, ready: Ready) -> Result<Ended, Cut>
-    requires { HasRoom ready.room ready.state }
+fn write_run<H: Threads + Sync, O: Sink, R: Sink>(
+    rt: &H,
+    out: &mut O,
+    report: &mut R,
+    ready: Ready,
+    workers: u32,
+) -> Result<Ended, Cut>
+    requires some { 0 < workers }
+    requires most { workers ≤ most_workers }
+    requires room { HasRoom ready.room ready.state }
     ensures { Finishes (dump_outcome ready.header ready.state)
         (sinks (O.told out.old) (R.told report.old))
         (sinks (O.told out.new) (R.told report.new)) result }
@@ -99,57 +116,66 @@ fn write_run<O: Sink, R: Sink>(out: &mut O, report: &mut R, ready: Ready) -> Res
         mut room,
     } = ready;
     match put_header(out, &header) {
-        Ok(()) => write_states(
-            Output::Dump,
-            out,
-            report,
-            header.steps(),
-            header.every(),
-            state,
-            &mut room,
-        ),
+        Ok(()) => {
+            let plan = Plan {
+                output: Output::Dump,
+                steps: header.steps(),
+                every: header.every(),
+                workers,
+            };
+            write_states(rt, plan, out, report, state, &mut room)
+        }
         Err(Failed) => Err(Cut::Write(Side::Out)),
     }
 }
 
 /// The due frames of a run from this state, and then its end.
-pub fn write_states<O: Sink, R: Sink>(
-    output: Output,
+pub fn write_states<H: Threads + Sync, O: Sink, R: Sink>(
+    rt: &H,
+    plan: Plan,
     out: &mut O,
     report: &mut R,
-    steps: u32,
-    every: u32,
     state: State,
     room: &mut Snapshot,
 ) -> Result<Ended, Cut>
-    requires every { 1 ≤ every }
+    requires every { 1 ≤ plan.every }
+    requires some { 0 < plan.workers }
+    requires most { plan.workers ≤ most_workers }
     requires room { HasRoom room.old state }
     ensures { WritesStates
-        (states_outcome output [] (frames_of output steps every state) (end_of steps state))
+        (states_outcome plan.output [] (frames_of plan.output plan.steps plan.every state)
+        (end_of plan.steps state))
         (sinks (O.told out.old) (R.told report.old))
         (sinks (O.told out.new) (R.told report.new)) result }
 {
-    let end = write_frames(output, out, report, steps, every, state, room)?;
-    put_last(output, out, report, end)?;
+    let end = write_frames(rt, plan, out, report, state, room)?;
+    put_last(plan.output, out, report, end)?;
     Ok(answer_of(end))
 }
 
 // The due frames up to the last step, or to the one that stops.
-fn write_frames<O: Sink, R: Sink>(
-    output: Output,
+fn write_frames<H: Threads + Sync, O: Sink, R: Sink>(
+    rt: &H,
+    plan: Plan,
     out: &mut O,
     report: &mut R,
-    steps: u32,
-    every: u32,
     state: State,
     room: &mut Snapshot,
 ) -> Result<EndMark, Cut>
-    requires every { 1 ≤ every }
+    requires every { 1 ≤ plan.every }
+    requires some { 0 < plan.workers }
+    requires most { plan.workers ≤ most_workers }
     requires room { HasRoom room.old state }
-    ensures { WritesFrames (frames_of output steps every state) (end_of steps state)
+    ensures { WritesFrames (frames_of plan.output plan.steps plan.every state) (end_of plan.steps state)
         (sinks (O.told out.old) (R.told report.old))
         (sinks (O.told out.new) (R.told report.new)) result }
 {
+    let Plan {
+        output,
+        steps,
+        every,
+        workers,
+    } = plan;
     let mut state = state;
     write_due(
         output,
@@ -162,7 +188,7 @@ fn write_frames<O: Sink, R: Sink>(
     )?;
     for done in 0..steps {
         let number = done + 1;
-        state = match step(state) {
+        state = match step(rt, state, workers) {
             Ok(next) => next,
             Err(StepStop::Stop(stop)) => {
                 return Ok(EndMark::Stopped { step: number, stop });

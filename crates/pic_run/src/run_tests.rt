@@ -1,12 +1,14 @@
 //! Whole runs, in values of their dumps.
 
 use crate::trial::{
-    CALM, CHARGES, ELECTRON, GRID_2, GRID_4, ION, ONE_STEP, PAIR, Pieces, WAVES, call,
+    CALM, CHARGES, ELECTRON, GRID_2, GRID_4, ION, Left, MOVING, ONE_STEP, ONE_TILE, PAIR, Pieces,
+    STILL, TWO_TILES, WAVES, call, check,
 };
 use pic_io::MemSink;
 use std::alloc::Global;
 use std::process::Abort;
 use std::test::Fail;
+use std::thread::Threads;
 
 // A face of B; and a step of the fields alone.
 const VACUUM: Pieces<'static> = &[
@@ -29,6 +31,18 @@ const CORNER: Pieces<'static> = &[
     b"[[4095, 4095, 4095, 0, 0, 0], [100, 0, 0, 0, 0, 0], [4096, 0, 0, 0, 0, 0]]\n",
     ELECTRON,
     b"[[4095, 4095, 4095, 8192, 8192, 8192], [100, 0, 0, 0, 0, 0], [4096, 0, 0, 16777216, 0, 0]]\n",
+];
+
+// One tile, which is its own neighbour all round: an electron goes out at one end and comes in at the
+// other.
+const ROUND: Pieces<'static> = &[
+    GRID_2,
+    ONE_STEP,
+    CHARGES,
+    ION,
+    b"[[100, 0, 0, 0, 0, 0]]\n",
+    ELECTRON,
+    b"[[100, 0, 0, -819200, 0, 0]]\n",
 ];
 
 // One face of B, and a step in which E's force value grows too large.
@@ -59,15 +73,15 @@ fn number_at(bytes: &[u8], place: usize, len: usize) -> Option<i128> {
 }
 
 // A run that ends with this status and report, and a dump of this length: the dump.
-fn run(
-    rt: &impl Abort,
+fn run<H: Abort + Threads + Sync>(
+    rt: &H,
     alloc: Global,
     deck: Pieces<'_>,
     status: u8,
     report: &[u8],
     len: usize,
 ) -> Result<MemSink, Fail> {
-    let left = call(alloc, &["run"], deck, CALM)?;
+    let left = call(rt, alloc, &["run"], deck, CALM)?;
     assert_eq!(rt; left.report.bytes(), report);
     assert_eq!(rt; left.status, status);
     assert_eq!(rt; left.out.bytes().len(), len);
@@ -169,5 +183,51 @@ fn runs_that_stop(rt: HostRuntime) -> Result<(), Fail> {
         stopped 1 particle 0 far 0 8192\n";
     let out = run(&rt, rt.alloc(), FAST, 1, push, 6397)?;
     check_numbers(&rt, &out, &[(6381, 16, 8192)]);
+    Ok(())
+}
+
+#[test]
+fn a_step_round_the_grid(rt: HostRuntime) -> Result<(), Fail> {
+    let report = b"frame 0 kinetic 671088640000 electric 0 magnetic 0\n\
+        frame 1 kinetic 671088640000 electric 737280000 magnetic 0\n\
+        done 1\n";
+    let out = run(&rt, rt.alloc(), ROUND, 0, report, 1928)?;
+    // of frame 1: Ex(0,0,0), Ex(1,0,0), Ex(0,1,0), Ey(0,0,0), and the electron's x
+    let first = 1058;
+    check_numbers(
+        &rt,
+        &out,
+        &[
+            (first, 16, -20132659200),
+            (first + 16, 16, -20132659200),
+            (first + 16 * 2, 16, 0),
+            (first + 16 * 8, 16, 0),
+            (first + 16 * 6 * 8 + 24, 4, 8092),
+        ],
+    );
+    Ok(())
+}
+
+// The two charges on a grid in other tiles, on other numbers of workers: the same bytes.
+fn check_tiles<H: Abort + Threads + Sync>(
+    rt: &H,
+    alloc: Global,
+    grid: &[u8],
+    wanted: &Left,
+) -> Result<(), Fail> {
+    let deck = [grid, ONE_STEP, CHARGES, ION, STILL, ELECTRON, MOVING];
+    for workers in ["1", "3", "64"] {
+        let left = call(rt, alloc, &["run", "--workers", workers], &deck, CALM)?;
+        check(rt, &left, 0, wanted.out.bytes(), wanted.report.bytes());
+    }
+    Ok(())
+}
+
+#[test]
+fn tiles_and_workers_change_nothing(rt: HostRuntime) -> Result<(), Fail> {
+    let wanted = call(&rt, rt.alloc(), &["run"], PAIR, CALM)?;
+    for grid in [ONE_TILE, GRID_4, TWO_TILES] {
+        check_tiles(&rt, rt.alloc(), grid, &wanted)?;
+    }
     Ok(())
 }

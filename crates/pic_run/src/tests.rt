@@ -5,6 +5,7 @@ use crate::trial::{CALM, EMPTY, Faults, LONE, NEVER, PAIR, Pieces, call, check};
 use std::alloc::Global;
 use std::process::Abort;
 use std::test::Fail;
+use std::thread::Threads;
 
 // The header of the empty deck's dump, of 64 bytes: the mark, the cells, steps 0, every 1, four
 // multipliers, no species.
@@ -42,7 +43,7 @@ fn calls_without_a_dump(rt: HostRuntime) -> Result<(), Fail> {
         (&["run", "run"], EMPTY, 2, b"", USAGE),
     ];
     for (words, deck, status, out, report) in cases {
-        let left = call(rt.alloc(), words, deck, CALM)?;
+        let left = call(&rt, rt.alloc(), words, deck, CALM)?;
         check(&rt, &left, status, out, report);
     }
     Ok(())
@@ -57,7 +58,7 @@ fn texts_that_are_refused(rt: HostRuntime) -> Result<(), Fail> {
         (b"version = 2", b"refused 5 limit version 2 1 1\n"),
     ];
     for (deck, report) in cases {
-        let left = call(rt.alloc(), &["run"], &[deck], CALM)?;
+        let left = call(&rt, rt.alloc(), &["run"], &[deck], CALM)?;
         check(&rt, &left, 3, b"", report);
     }
     Ok(())
@@ -68,7 +69,7 @@ fn texts_that_are_refused(rt: HostRuntime) -> Result<(), Fail> {
 fn words_that_are_no_command(rt: HostRuntime) -> Result<(), Fail> {
     let faults = Faults { take: 0, ..CALM };
     for word in ["go", "demo"] {
-        let left = call(rt.alloc(), &[word], EMPTY, faults)?;
+        let left = call(&rt, rt.alloc(), &[word], EMPTY, faults)?;
         check(&rt, &left, 2, b"", USAGE);
     }
     Ok(())
@@ -82,7 +83,7 @@ fn a_long_key_is_put_in_pieces(rt: HostRuntime) -> Result<(), Fail> {
         report: (2, 10),
         ..CALM
     };
-    let left = call(rt.alloc(), &["check"], &[&key, b" = 1"], faults)?;
+    let left = call(&rt, rt.alloc(), &["check"], &[&key, b" = 1"], faults)?;
     assert_eq!(rt; left.status, 5);
     assert_eq!(rt; left.report.bytes().len(), 522);
     Ok(())
@@ -108,8 +109,8 @@ const READ_FAULTS: [Cut; 3] = [
     (2, NEVER, 0, 0, 4, 5, 0, 4),
 ];
 
-fn check_cuts(
-    rt: &impl Abort,
+fn check_cuts<H: Abort + Threads + Sync>(
+    rt: &H,
     alloc: Global,
     cuts: &[Cut],
     dump: &[u8],
@@ -121,7 +122,7 @@ fn check_cuts(
             out: (*out, *out_len),
             report: (*report, *report_len),
         };
-        let left = call(alloc, &["run"], EMPTY, faults)?;
+        let left = call(rt, alloc, &["run"], EMPTY, faults)?;
         let front = dump.get(..*dump_left).expect(rt, "a front of the dump");
         let said = lines.get(..*lines_left).expect(rt, "a front of the lines");
         check(rt, &left, *status, front, said);

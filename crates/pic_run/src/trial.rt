@@ -5,6 +5,7 @@ use pic_io::{MemSink, MemSource};
 use std::alloc::Global;
 use std::process::Abort;
 use std::test::Fail;
+use std::thread::Threads;
 
 /// A text, as its pieces one after another.
 pub type Pieces<'a> = &'a [&'a [u8]];
@@ -12,6 +13,11 @@ pub type Pieces<'a> = &'a [&'a [u8]];
 pub const GRID_2: &[u8] = b"version = 1\ngrid = { cells = [2, 2, 2], tiles = [1, 1, 1] }\n";
 
 pub const GRID_4: &[u8] = b"version = 1\ngrid = { cells = [4, 4, 4], tiles = [2, 2, 2] }\n";
+
+/// The same cells in one tile, and in two.
+pub const ONE_TILE: &[u8] = b"version = 1\ngrid = { cells = [4, 4, 4], tiles = [1, 1, 1] }\n";
+
+pub const TWO_TILES: &[u8] = b"version = 1\ngrid = { cells = [4, 4, 4], tiles = [1, 2, 1] }\n";
 
 pub const NO_STEP: &[u8] = b"run = { steps = 0, every = 1 }\n";
 
@@ -69,7 +75,13 @@ pub struct Left {
     pub report: MemSink,
 }
 
-pub fn call(alloc: Global, words: &[&str], held: Pieces<'_>, faults: Faults) -> Result<Left, Fail> {
+pub fn call<H: Threads + Sync>(
+    rt: &H,
+    alloc: Global,
+    words: &[&str],
+    held: Pieces<'_>,
+    faults: Faults,
+) -> Result<Left, Fail> {
     let mut all = Vec::new(alloc);
     for word in words {
         all.push(word.to_string(alloc)?)?;
@@ -78,7 +90,7 @@ pub fn call(alloc: Global, words: &[&str], held: Pieces<'_>, faults: Faults) -> 
     let mut source = MemSource::new(held, 100, Vec::from_slice(alloc, &[faults.take])?);
     let mut out = MemSink::new(alloc, 13000, Vec::from_slice(alloc, &[faults.out])?)?;
     let mut report = MemSink::new(alloc, 1000, Vec::from_slice(alloc, &[faults.report])?)?;
-    let ended = pic(alloc, &all, &mut source, &mut out, &mut report);
+    let ended = pic(rt, alloc, &all, &mut source, &mut out, &mut report);
     Ok(Left {
         status: ended.status(),
         out,

@@ -26,7 +26,7 @@ use Rattle.pic_split.proofs.ImageHatLaws.{IsNear}
 use Rattle.pic_split.proofs.ImageLaws.{wrapped-zero, wrapped-over}
 use Rattle.pic_split.proofs.ContinuityLaws.{IsNearGrid, near_cell, near_start, near_end}
 use Rattle.pic_grid.specs.Traces.{trace_of, traces, IsBeyond}
-use Rattle.pic_step.proofs.PushLaws.{push_move}
+use Rattle.pic_push.proofs.PushLaws.{push_move}
 
 -- an edge beyond is neither that of a near cell nor the next one
 only_beyond : (n : ℕ) (c j : ℤ) → IsNear n c → IsBeyond n j → (only c j ≡ pos 0) × (only (c +ℤ pos 1) j ≡ pos 0)

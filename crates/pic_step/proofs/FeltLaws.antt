@@ -1,5 +1,5 @@
 -- Particles feel the lattices of force values as the definition's force values.
-use Rattle.std.proofs.Common.{◌≡◌, ℕ, List, [], ◌∷◌, refl}
+use Rattle.std.proofs.Common.{◌≡◌, ℕ, List, [], ◌∷◌, Option, refl, ◌∙◌}
 use Rattle.std.proofs.Math.IntN.{ℤ, ◌+ℤ◌}
 use Rattle.std.specs.Option.{option_or}
 use Rattle.pic_num.specs.declared.motion.Kind.{Kind}
@@ -7,7 +7,7 @@ use Rattle.pic_num.specs.declared.motion.Particle.{Particle}
 use Rattle.pic_num.specs.declared.axis.Axis.{Axis}
 use Rattle.pic_num.specs.First.{first_of}
 use Rattle.pic_num.specs.Push.{pushed}
-use Rattle.pic_num.specs.Space.{Triple, Spot, triple, spot}
+use Rattle.pic_num.specs.Space.{Triple, triple, spot}
 use Rattle.pic_grid.specs.Lattice.{value_at, field_of}
 use Rattle.pic_grid.specs.PushPhase.{Surroundings, kind_of, push_of, after_push, moved_all, halt_of, push_stop}
 use Rattle.pic_grid.specs.Sums.{sum_over}
@@ -15,7 +15,10 @@ use Rattle.pic_grid.proofs.LatticeLaws.{value_at-field_of}
 use Rattle.pic_gather.proofs.SameLaws.{gathered_e_same, gathered_b_same}
 use Rattle.pic_grid.specs.Felt.{felt}
 use Rattle.pic_grid.specs.Parts.{one_part}
-use Rattle.pic_grid.specs.Traces.{trace_of, traces}
+use Rattle.pic_grid.specs.declared.stop.Stop.{Stop}
+use Rattle.pic_grid.specs.Block.{BlockValues}
+use Rattle.pic_grid.specs.Current.{flux_after, current}
+use Rattle.pic_step.specs.PushOn.{IsPushed}
 
 -- what is around the particles, by functions
 abbrev pub around_by : ℕ → List Kind → Triple → (Axis → Triple → ℤ) → (Axis → Triple → ℤ) → Surroundings
@@ -49,9 +52,18 @@ stop_same side kinds n f g [] = refl
 stop_same side kinds n f g (particle ∷ particles) = λ i.
     option_or (halt_of particle (push_same side kinds n f g particle i)) (stop_same side kinds n f g particles i)
 
-pub traces_same : (side : ℕ) (kinds : List Kind) (n : Triple) (f g : Axis → Triple → ℤ) (particles : List Particle) (a : Axis) (c : Spot)
-    → traces (around_lattices side kinds n f g) particles a c ≡ traces (around_by side kinds n f g) particles a c
-unfolding traces sum_over
-traces_same side kinds n f g [] a c = refl
-traces_same side kinds n f g (particle ∷ particles) a c = λ i. trace_of side kinds particle
-    (push_same side kinds n f g particle i) a c +ℤ traces_same side kinds n f g particles a c i
+pub current_same : (side : ℕ) (kinds : List Kind) (n : Triple) (f g : Axis → Triple → ℤ) (particles : List Particle) (a : Axis) (p : Triple)
+    → current (around_lattices side kinds n f g) particles a p ≡ current (around_by side kinds n f g) particles a p
+unfolding current sum_over
+current_same side kinds n f g [] a p = refl
+current_same side kinds n f g (particle ∷ particles) a p = λ i. flux_after side n kinds particle a p
+    (push_same side kinds n f g particle i) +ℤ current_same side kinds n f g particles a p i
+
+pub pushed_same : (side : ℕ) (kinds : List Kind) (n : Triple) (f g : Axis → Triple → ℤ) (old now : List Particle) (stop : Option Stop) (j : BlockValues)
+    → IsPushed (around_lattices side kinds n f g) old now stop j → IsPushed (around_by side kinds n f g) old now stop j
+pushed_same side kinds n f g old now stop j pushed = record {
+  particles = pushed.particles ∙ moved_same side kinds n f g old;
+  stop_is = pushed.stop_is ∙ stop_same side kinds n f g old;
+  current_is = λ a p within. pushed.current_is a p within ∙ current_same side kinds n f g old a p;
+  current_small = pushed.current_small;
+}

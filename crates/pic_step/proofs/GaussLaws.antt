@@ -19,7 +19,7 @@ use Rattle.pic_grid.proofs.DifferenceLaws.{div_e-curl_b}
 use Rattle.pic_charge.specs.Charge.{share, charge_of}
 use Rattle.pic_split.proofs.ContinuityLaws.{continuity_of_move}
 use Rattle.pic_split.proofs.ImageLaws.{div_e-zero, div_e-add, div_e-less}
-use Rattle.pic_step.proofs.PushLaws.{push_move}
+use Rattle.pic_push.proofs.PushLaws.{push_move}
 
 -- one particle: the divergence of its current is what its share loses
 pub div_flux : (w : Surroundings) (particle : Particle) (node : Triple) (r : Result Shift Halting) → push_of w particle ≡ r

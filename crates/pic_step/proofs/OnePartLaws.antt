@@ -18,7 +18,7 @@ use Rattle.pic_grid.specs.Lattice.{EachAtMost}
 use Rattle.pic_field.specs.FieldPhases.{half_of, half_in, full_of, full_in, cell_above, least_fault, lowest}
 use Rattle.pic_field.proofs.WholeLaws.{IsWhole, whole_one, whole_block, whole_parts, whole_shaped, whole_among}
 use Rattle.pic_grid.proofs.LatticeLaws.{value_at-field_of, length-values_of, is_field_of}
-use Rattle.pic_step.specs.Guard.{IsOver}
+use Rattle.pic_step.specs.Plasma.{IsOver}
 use Rattle.pic_field.proofs.WholeLaws.{value_at-whole, full_all, least_fault-same}
 use Rattle.std.proofs.Math.IntN.{ℤ}
 use Rattle.pic_field.proofs.WholeLaws.{whole_small, half_whole, half_stop, full_whole, full_stop, force_whole}

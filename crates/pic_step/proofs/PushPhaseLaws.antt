@@ -1,79 +1,93 @@
--- What the push phase leaves, from what its calls left.
-use Rattle.std.proofs.Common.{◌≡◌, ℕ, ◌^◌, ◌<◌, ◌≤◌, List, length, sym, ap, ◌∙◌, subst}
+-- The force values of safe fields, and the push of the particles that feel them.
+use Rattle.std.proofs.Common.{◌≡◌, ◌≤◌, List, length, All, Option, refl, sym, ◌∙◌, subst}
 use Rattle.std.proofs.Math.IntN.{ℤ}
-use Rattle.std.specs.Prelude.{All}
-use Rattle.pic_num.specs.Limits.{most_side, most_particles, most_value}
+use Rattle.pic_num.specs.Limits.{most_force, most_particles}
+use Rattle.pic_num.specs.declared.axis.Axis.{Axis}
 use Rattle.pic_num.specs.declared.motion.Kind.{Kind}
 use Rattle.pic_num.specs.declared.motion.Particle.{Particle}
-use Rattle.pic_num.specs.declared.axis.Axis.{Axis}
+use Rattle.pic_num.specs.declared.mult.Scales.{Scales}
 use Rattle.pic_num.specs.Multiplier.{Multiplier}
 use Rattle.pic_num.specs.Sizes.{IsAtMost}
-use Rattle.pic_num.specs.Space.{Triple}
-use Rattle.pic_grid.specs.Current.{wrapped, current}
-use Rattle.pic_grid.specs.Lattice.{Field, value_at, field_of}
+use Rattle.pic_grid.specs.declared.stop.Stop.{Stop}
+use Rattle.pic_grid.specs.Block.{BlockValues}
 use Rattle.pic_grid.specs.Gather.{force_of}
-use Rattle.pic_grid.specs.PushPhase.{Surroundings}
-use Rattle.pic_grid.specs.Species.{IsKind}
-use Rattle.pic_grid.specs.Block.{BlockValues, IsShaped, AllAtMost, inner_of, inner_at}
-use Rattle.pic_grid.specs.Cells.{IsWithin}
-use Rattle.pic_grid.proofs.BlockLaws.{inner_within}
-use Rattle.pic_step.specs.Guard.{IsOver}
-use Rattle.pic_grid.proofs.LatticeLaws.{value_at-field_of}
-use Rattle.pic_grid.proofs.BlockLaws.{in_zone_shaped}
-use Rattle.pic_flux.specs.Adds.{Adds}
-use Rattle.pic_flux.proofs.AddsLaws.{adds_from_zeros}
-use Rattle.pic_gather.specs.Forces.{AreForces}
-use Rattle.pic_grid.specs.Felt.{felt}
-use Rattle.pic_grid.specs.PushPhase.{CanShare}
+use Rattle.pic_grid.specs.Lattice.{Field, value_at, field_of}
 use Rattle.pic_grid.specs.Parts.{one_part}
-use Rattle.pic_step.specs.Rooms.{IsRoom}
+use Rattle.pic_num.specs.Space.{Triple}
+use Rattle.pic_grid.specs.PushPhase.{Surroundings, CanShare}
+use Rattle.pic_grid.proofs.LatticeLaws.{value_at-field_of}
+use Rattle.pic_orders.specs.InOrder.{AreOrdered}
+use Rattle.pic_tile.specs.CoreState.{particles_of, IsOpening}
+use Rattle.pic_tile.specs.Frame.{FrameValue, IsForceField, felt_in}
+use Rattle.pic_tile.specs.Parcels.{AreFreshTiles}
+use Rattle.pic_tile.specs.Tile.{TileValue}
+use Rattle.pic_tile.specs.Tiling.{Tiling, cells_of, grid_of}
+use Rattle.pic_exchange.specs.HandOver.{AreBare}
+use Rattle.pic_step.specs.declared.plasma.Plasma.{Plasma}
+use Rattle.pic_step.specs.Plasma.{IsOver, IsPlasma}
+use Rattle.pic_step.specs.PushOn.{around_fields, IsPushed}
 use Rattle.pic_step.specs.Sound.{IsSafe}
-use Rattle.pic_grid.specs.Traces.{traces}
-use Rattle.pic_step.specs.Guard.{Holds}
-use Rattle.pic_step.proofs.BeyondLaws.{traces_beyond_x, traces_beyond_y, traces_beyond_z, current_is}
-use Rattle.pic_step.proofs.FeltLaws.{around_lattices}
-use Rattle.pic_grid.proofs.ShapeLaws.{shaped_back}
-use Rattle.pic_step.proofs.TraceSizeLaws.{current_size}
+use Rattle.pic_step.proofs.FeltLaws.{around_by, pushed_same}
 
--- the force values of a safe field are small enough to be gathered
-pub forces_small : (side : ℕ) (n : Triple) (by : Multiplier) (f r : Field) → IsSafe side n by f
-    → r ≡ field_of side n one_part (force_of by (value_at f)) → AreForces r
-forces_small side n by f r safe is = subst AreForces (sym is) (record {
-  at_most = λ a p within.
-      subst (λ (v : ℤ). IsAtMost v (2 ^ 44)) (sym (value_at-field_of side n one_part (force_of by (value_at f)) a p within)) (safe.bounded a p within).force;
+-- the force values of a safe field, on the cells of a map
+pub forced : (m : Tiling) (by : Multiplier) (f r : Field) → IsSafe m.side (cells_of m) by f → r ≡ field_of f.side f.cells one_part (force_of by (value_at f))
+    → r ≡ field_of m.side (cells_of m) one_part (force_of by (value_at f))
+forced m by f r safe is = is ∙ (λ i. field_of (safe.side_is i) (safe.cells i) one_part (force_of by (value_at f)))
+
+-- they are small enough to be gathered
+pub force_field : (m : Tiling) (by : Multiplier) (f r : Field) → IsSafe m.side (cells_of m) by f → r ≡ field_of f.side f.cells one_part (force_of by (value_at f))
+    → IsForceField (grid_of m) r
+force_field m by f r safe is = subst (IsForceField (grid_of m)) (sym (forced m by f r safe is)) (record {
+  cells_are = refl;
+  side = refl;
+  small = record {
+    at_most = λ a p within.
+        subst (λ (v : ℤ). IsAtMost v most_force) (sym (value_at-field_of m.side (cells_of m) one_part (force_of by (value_at f)) a p within))
+        (safe.bounded a p within).force;
+  };
 })
 
--- on each axis the guard holds the flux of all particles
-pub guard_holds : (w : Surroundings) (particles : List Particle) (guard now : BlockValues) → 0 < w.side → All (CanShare w.side w.cells w.kinds) particles
-    → AllAtMost 0 guard → IsShaped guard now → Adds guard now (traces w particles) → (a : Axis) → Holds w.cells now a (traces w particles a)
-guard_holds w particles guard now above all zeros shape adds a = record {
-  inside = λ c inside. adds_from_zeros guard now (traces w particles) zeros adds a c (in_zone_shaped now guard c (shaped_back guard now shape) inside);
-  beyond_x = λ c beyond. traces_beyond_x w particles a c above all beyond;
-  beyond_y = λ c beyond. traces_beyond_y w particles a c above all beyond;
-  beyond_z = λ c beyond. traces_beyond_z w particles a c above all beyond;
+-- the frame of these force values
+abbrev pub with_forces_of : Tiling → List Kind → Scales → Field → Field → FrameValue
+with_forces_of m kinds scales e b = record {
+  cells = grid_of m;
+  map = m;
+  kinds = kinds;
+  force_e = field_of m.side (cells_of m) one_part (force_of scales.e_force (value_at e));
+  force_b = field_of m.side (cells_of m) one_part (force_of scales.b_force (value_at b));
 }
 
--- the folded flux is the current
-pub folded : (w : Surroundings) (particles : List Particle) (j : BlockValues)
-    → ((a : Axis) (p : Triple) → IsWithin p w.cells → inner_at j a p ≡ wrapped w.cells (traces w particles a) p)
-    → (a : Axis) (p : Triple) → IsWithin p w.cells → inner_at j a p ≡ current w particles a p
-folded w particles j is a p within = is a p within ∙ sym (current_is w particles a p)
-
-pub folded_small : (w : Surroundings) (particles : List Particle) (j : BlockValues) → 0 < w.side → w.side ≤ most_side
-    → All IsKind w.kinds → length particles ≤ most_particles
-    → IsOver w.cells j → ((a : Axis) (p : Triple) → IsWithin p w.cells → inner_at j a p ≡ current w particles a p) → AllAtMost most_value j
-folded_small w particles j some side limits few over is = record {
-  at_most = λ a c inside.
-      let within : IsWithin (inner_of j.low c) w.cells = subst (IsWithin (inner_of j.low c)) over.size (inner_within j.low j.size c inside) in
-      subst (λ (v : ℤ). IsAtMost v most_value) (sym (is a (inner_of j.low c) within)) (current_size w particles a (inner_of j.low c) some side limits few);
+-- tiles can be pushed in a frame as in one of the same map and kinds
+pub opening_moves : (f g : FrameValue) (ts us : List TileValue) → g.map ≡ f.map → g.kinds ≡ f.kinds → us ≡ ts → IsOpening f ts → IsOpening g us
+opening_moves f g ts us map kinds same open' = record {
+  fresh = subst (λ (xs : List TileValue). AreFreshTiles g.map (particles_of xs) xs) (sym same)
+      (subst (λ (m : Tiling). AreFreshTiles m (particles_of ts) ts) (sym map) open'.fresh);
+  ordered = subst (λ (xs : List TileValue). AreOrdered (particles_of xs)) (sym same) open'.ordered;
+  can = subst (λ (xs : List TileValue). All (CanShare g.map.side (cells_of g.map) g.kinds) (particles_of xs)) (sym same)
+      (subst (λ (ks : List Kind). All (CanShare g.map.side (cells_of g.map) ks) (particles_of ts)) (sym kinds)
+      (subst (λ (m : Tiling). All (CanShare m.side (cells_of m) f.kinds) (particles_of ts)) (sym map) open'.can));
+  few = subst (λ (xs : List TileValue). length (particles_of xs) ≤ most_particles) (sym same) open'.few;
 }
 
--- what particles feel, by lattices that are given by force values
-pub felt_is : (side : ℕ) (kinds : List Kind) (n : Triple) (f g : Axis → Triple → ℤ) (e b : Field)
-    → e ≡ field_of side n one_part f → b ≡ field_of side n one_part g
-    → felt kinds e b ≡ around_lattices side kinds n f g
-felt_is side kinds n f g e b h k = λ i. felt kinds (h i) (k i)
+-- pushed in that frame, they are pushed by the fields
+pub pushed_by_fields : (m : Tiling) (kinds : List Kind) (scales : Scales) (e b : Field) (f : FrameValue) (old now : List Particle) (stop : Option Stop) (j : BlockValues)
+    → IsSafe m.side (cells_of m) scales.e_force e → f ≡ with_forces_of m kinds scales e b → IsPushed (felt_in f) old now stop j
+    → IsPushed (around_fields scales kinds e b) old now stop j
+pushed_by_fields m kinds scales e b f old now stop j safe is pushed =
+    let of_e : Axis → Triple → ℤ = force_of scales.e_force (value_at e) in
+    let of_b : Axis → Triple → ℤ = force_of scales.b_force (value_at b) in
+    let here : IsPushed (felt_in (with_forces_of m kinds scales e b)) old now stop j = subst (λ (g : FrameValue). IsPushed (felt_in g) old now stop j) is pushed in
+    let by : IsPushed (around_by m.side kinds (cells_of m) of_e of_b) old now stop j = pushed_same m.side kinds (cells_of m) of_e of_b old now stop j here in
+    subst (λ (w : Surroundings). IsPushed w old now stop j)
+    (λ i. around_by (sym safe.side_is i) kinds (sym safe.cells i) of_e of_b) by
 
--- a lattice of force values is a room of the state
-pub room_of : (side : ℕ) (n : Triple) (f : Axis → Triple → ℤ) (r : Field) → r ≡ field_of side n one_part f → IsRoom side n r
-room_of side n f r is = record { cells = ap (λ (k : Field). k.cells) is; side_is = ap (λ (k : Field). k.side) is; parts = ap (λ (k : Field). k.parts) is }
+-- what the push leaves is ready for the next
+pub is_plasma : (p : Plasma) (vs gs : List TileValue) → p.tiles.items ≡ vs → p.got.items ≡ gs → AreFreshTiles p.frame.map (particles_of vs) vs → AreBare p.frame.map gs
+    → p.frame.force_e.parts ≡ one_part → IsOver (cells_of p.frame.map) p.current → p.count ≡ length (particles_of vs) → IsPlasma (particles_of p.tiles.items) p
+is_plasma p vs gs tiles got fresh bare parts over count = record {
+  tiles = subst (λ (ts : List TileValue). AreFreshTiles p.frame.map (particles_of ts) ts) (sym tiles) fresh;
+  bare = subst (AreBare p.frame.map) (sym got) bare;
+  parts = parts;
+  current = over;
+  count = subst (λ (ts : List TileValue). p.count ≡ length (particles_of ts)) (sym tiles) count;
+}

@@ -26,7 +26,7 @@ use Rattle.pic_step.specs.SerialStep.{World, around, half_at, full_at, half_on, 
 use Rattle.pic_grid.specs.Parts.{one_part}
 use Rattle.pic_step.specs.Sound.{IsSafe, IsSound}
 use Rattle.pic_step.proofs.OnePartLaws.{above_origin}
-use Rattle.pic_step.proofs.PushLaws.{ids_kept, length-moved_all, share_kept}
+use Rattle.pic_push.proofs.PushLaws.{ids_kept, length-moved_all, share_kept}
 use Rattle.pic_step.proofs.VelocityLaws.{velocities_kept}
 use Rattle.pic_step.proofs.GaussLaws.{div_current, div_full}
 

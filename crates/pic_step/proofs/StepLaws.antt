@@ -18,8 +18,7 @@ use Rattle.pic_step.proofs.OnePartLaws.{above_origin, field_same}
 use Rattle.pic_grid.specs.Lattice.{EachAtMost}
 use Rattle.pic_field.specs.FieldPhases.{half_of, full_of, least_fault}
 use Rattle.pic_field.proofs.WholeLaws.{least_fault-same}
-use Rattle.pic_step.specs.declared.rooms.Rooms.{Rooms}
-use Rattle.pic_step.specs.PushRoom.{around_fields, IsPushed}
+use Rattle.pic_step.specs.PushOn.{around_fields, IsPushed}
 use Rattle.pic_grid.specs.Parts.{origin}
 use Rattle.pic_step.specs.SerialStep.{World, around, half_at, full_at, half_on, push_on}
 use Rattle.pic_step.specs.SerialStep.{current_of, before_electric, half_stop, full_stop, step_on, stop_of, stepped}
@@ -64,12 +63,12 @@ around_is w b sound half = λ i. record {
   of_b = force_of w.scales.b_force (value_at (half.is i));
 }
 
-pub pushed_on : (w : World) (b : Field) (kinds : List Kind) (old now : List Particle) (stop : Option Stop) (rooms : Rooms) → IsSound w → IsHalf w b
+pub pushed_on : (w : World) (b : Field) (kinds : List Kind) (old now : List Particle) (stop : Option Stop) (j : BlockValues) → IsSound w → IsHalf w b
     → kinds ≡ w.kinds → old ≡ w.particles
-    → IsPushed (around_fields w.scales kinds w.e b) old now stop rooms → IsPushed (around (half_on w)) w.particles now stop rooms
-pushed_on w b kinds old now stop rooms sound half same_kinds same pushed =
-    subst (λ (xs : List Particle). IsPushed (around (half_on w)) xs now stop rooms) same
-    (subst (λ (s : Surroundings). IsPushed s old now stop rooms) ((λ i. around_fields w.scales (same_kinds i) w.e b) ∙ around_is w b sound half) pushed)
+    → IsPushed (around_fields w.scales kinds w.e b) old now stop j → IsPushed (around (half_on w)) w.particles now stop j
+pushed_on w b kinds old now stop j sound half same_kinds same pushed =
+    subst (λ (xs : List Particle). IsPushed (around (half_on w)) xs now stop j) same
+    (subst (λ (s : Surroundings). IsPushed s old now stop j) ((λ i. around_fields w.scales (same_kinds i) w.e b) ∙ around_is w b sound half) pushed)
 
 -- what the second half step of B leaves
 pub record IsBefore (w : World) (b : Field) : Type 0 where
@@ -133,16 +132,16 @@ pub record IsAfter (w : World) (e b : Field) (particles : List Particle) : Type 
   pub none : stop_of w ≡ None
   pub is : record w { e = e; b = b; particles = particles } ≡ step_on w
 
-pub is_after : (w : World) (b c e : Field) (now particles : List Particle) (rooms : Rooms) → IsSound w → IsHalf w b
-    → IsPushed (around (half_on w)) w.particles now None rooms → IsBefore w c → particles ≡ now
-    → e ≡ field_of c.side c.cells one_part (by_block w c rooms.current)
-    → least_fault Electric w.scales.e_force origin c.cells (by_block w c rooms.current) ≡ None
+pub is_after : (w : World) (b c e : Field) (now particles : List Particle) (j : BlockValues) → IsSound w → IsHalf w b
+    → IsPushed (around (half_on w)) w.particles now None j → IsBefore w c → particles ≡ now
+    → e ≡ field_of c.side c.cells one_part (by_block w c j)
+    → least_fault Electric w.scales.e_force origin c.cells (by_block w c j) ≡ None
     → IsAfter w e c particles
 unfolding step_on
-is_after w b c e now particles rooms sound half pushed before same e_is none =
+is_after w b c e now particles j sound half pushed before same e_is none =
     let free : push_stop (around (half_on w)) w.particles ≡ None = sym pushed.stop_is in
-    let still = last_stop_of w c rooms.current None sound before pushed.current_is none in
-    let done = e_after w c e rooms.current sound before pushed.current_is e_is in
+    let still = last_stop_of w c j None sound before pushed.current_is none in
+    let done = e_after w c e j sound before pushed.current_is e_is in
     let moved : particles ≡ (before_electric w).particles = same ∙ pushed.particles in
     record {
       none = no_stop_is w half.none free before.none still;

@@ -15,7 +15,7 @@ use Rattle.pic_num.specs.Velocity.{too_fast, IsKeptVelocity, PushKeepsVelocities
 use Rattle.pic_num.proofs.FirstLaws.{right_none}
 use Rattle.pic_num.proofs.RoundingLaws.{rounded-is}
 use Rattle.pic_grid.specs.PushPhase.{Surroundings, push_of, after_push, moved, moved_all}
-use Rattle.pic_step.proofs.PushLaws.{none_above, unless_ok, all_kept}
+use Rattle.pic_push.proofs.PushLaws.{none_above, unless_ok, all_kept}
 
 -- a velocity whose rounded move is at most a side
 on_axis : (side : ℕ) (v : ℤ) → unsigned_abs (rounded v (pos velocity_unit)) ≤ side

@@ -1,10 +1,11 @@
 pub mod SerialStep
 pub mod Sound
-pub mod Guard
-pub mod Follow
 pub mod SerialRun
+pub mod Start
 pub mod Phases
-pub mod Rooms
-pub mod PushRoom
+pub mod Plasma
+pub mod Kept
+pub mod Collected
+pub mod PushOn
 pub mod Keeps
 pub mod Reach

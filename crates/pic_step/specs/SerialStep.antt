@@ -13,6 +13,7 @@ use Rattle.pic_num.specs.Space.{Triple}
 use Rattle.pic_grid.specs.declared.stop.Phase.{Phase}
 use Rattle.pic_grid.specs.declared.stop.Phase.TheVariants.{Half1, Half2, Electric}
 use Rattle.pic_grid.specs.declared.stop.Stop.{Stop}
+use Rattle.pic_grid.specs.Cells.{Grid}
 use Rattle.pic_grid.specs.Current.{current}
 use Rattle.pic_grid.specs.Lattice.{Field, value_at, field_of}
 use Rattle.pic_grid.specs.Gather.{force_of}
@@ -30,6 +31,18 @@ pub record World : Type 0 where
   pub e : Field
   pub b : Field
   pub particles : List Particle
+
+-- the state of these parts
+abbrev pub world_of : Grid → Scales → List Kind → Field → Field → List Particle → World
+world_of grid scales kinds e b particles = record {
+  side = grid.side;
+  cells = grid.n;
+  scales = scales;
+  kinds = kinds;
+  e = e;
+  b = b;
+  particles = particles;
+}
 
 -- what surrounds the particles: the force values of E and B
 abbrev pub around : World → Surroundings

@@ -1,21 +1,20 @@
 //! The state of a run, and one step of it.
 #![tactic(auto)]
 
+mod collect;
 mod copy;
-mod feel;
-mod fold;
-mod follow;
 mod laws;
 mod phases;
-mod push_all;
-mod push_one;
+mod plasma;
 mod push_phase;
-mod rooms;
+mod start;
 mod state;
 mod stepping;
 #[cfg(test)]
 mod tests;
+mod write;
 
 pub use laws::{law_of_the_least_halt, law_of_the_step, law_of_velocities, three_images_are_all};
-pub use state::{State, kinds_of};
+pub use start::Start;
+pub use state::State;
 pub use stepping::{StepStop, step};

@@ -7,7 +7,7 @@ ghost use Rattle.pic_grid.specs.Gather.{force_of};
 ghost use Rattle.pic_grid.specs.Lattice.{EachAtMost};
 ghost use Rattle.pic_field.specs.FieldPhases.{half_of, full_of};
 ghost use Rattle.pic_grid.specs.Block.{AllAtMost, inner_at};
-ghost use Rattle.pic_step.specs.Guard.{IsOver};
+ghost use Rattle.pic_step.specs.Plasma.{IsOver};
 ghost use Rattle.pic_step.specs.Phases.{Advances};
 ghost use Rattle.pic_grid.specs.Parts.{one_part};
 

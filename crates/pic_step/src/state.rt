@@ -1,13 +1,11 @@
 //! The state of a run: what its type keeps, how it begins, and what it shows.
 
 ghost use Rattle.std.specs.Prelude.{◌≡◌, IfOk, length};
-ghost use Rattle.pic_grid.specs.Lattice.{field_of};
-ghost use Rattle.pic_deck.specs.Deck.{initial_e, initial_b};
-ghost use Rattle.pic_step.specs.SerialRun.{kinds_of};
-ghost use Rattle.pic_grid.specs.Parts.{one_part};
 
 use crate::copy::copy;
-use crate::rooms::{Rooms, rooms_for};
+use crate::plasma::Plasma;
+use crate::start::Start;
+use crate::write::write_tiles;
 use pic_deck::Deck;
 use pic_grid::{Cells, Lattice, Snapshot};
 use pic_num::{Kind, NoMemory, Particle, Scales};
@@ -15,67 +13,61 @@ use std::alloc::Global;
 use std::marker::Model;
 
 /// The state of a run. Its type keeps the limits, that the particles have the identities 0, 1, .. in
-/// order, and Gauss's law at every node.
+/// order, and Gauss's law at every node. The particles are kept in tiles; contracts see them as a list
+/// in the order of their identities.
 #[derive(Drop)]
 pub struct State {
-    pub(crate) cells: Cells,
     pub(crate) scales: Scales,
-    pub(crate) kinds: Vec<Kind>,
     pub(crate) e: Lattice,
     pub(crate) b: Lattice,
-    pub(crate) particles: Vec<Particle>,
-    pub(crate) rooms: Rooms,
+    pub(crate) plasma: Plasma,
 }
 
 impl Model for State {
     ghost use Rattle.pic_step.specs.SerialStep.{World};
-    ghost use Rattle.pic_step.specs.Rooms.{IsKept};
+    ghost use Rattle.pic_step.specs.Kept.{IsKept, seen};
 
     ghost Value = { World };
 
-    ghost view = { λ s. record {
-      side = s.cells.side;
-      cells = s.cells.n;
-      scales = s.scales;
-      kinds = s.kinds.items;
-      e = s.e;
-      b = s.b;
-      particles = s.particles.items;
-    } };
+    ghost view = { λ s. seen s.scales s.e s.b s.plasma };
 
-    ghost invariant = { λ s. IsKept (record {
-      side = s.cells.side;
-      cells = s.cells.n;
-      scales = s.scales;
-      kinds = s.kinds.items;
-      e = s.e;
-      b = s.b;
-      particles = s.particles.items;
-    }) s.rooms };
+    ghost invariant = { λ s. IsKept s.scales s.e s.b s.plasma };
 }
 
 impl State {
     ghost use Rattle.pic_step.specs.SerialRun.{start_of};
     ghost use Rattle.pic_step.specs.Sound.{IsSound};
+    ghost use Rattle.pic_step.specs.Start.{begun};
 
     /// The state that a deck begins with, with these particles.
     pub fn new(alloc: Global, deck: &Deck, particles: &[Particle]) -> Result<State, NoMemory>
         requires { IsSound (start_of deck.now particles.now) }
         ensures { IfOk result (λ s. s ≡ start_of deck.now particles.now) }
     {
-        let cells = deck.cells();
-        let kinds = kinds_of(alloc, deck)?;
-        let (e, b) = fields_of(alloc, deck)?;
         let particles = Vec::from_slice(alloc, particles)?;
-        let rooms = rooms_for(alloc, cells)?;
-        Ok(State {
-            cells,
-            scales: deck.scales(),
+        State::begin(alloc, Start::new(alloc, deck, particles)?)
+    }
+
+    /// The first state of a run that begins so. The fields and the particles are moved into it.
+    pub fn begin(alloc: Global, start: Start) -> Result<State, NoMemory>
+        requires { IsSound (begun start) }
+        ensures { IfOk result (λ s. s ≡ begun start) }
+    {
+        let Start {
+            map,
+            scales,
             kinds,
             e,
             b,
             particles,
-            rooms,
+        } = start;
+        let _map = map.tiles();
+        let plasma = Plasma::new(alloc, map, kinds, particles.as_slice())?;
+        Ok(State {
+            scales,
+            e,
+            b,
+            plasma,
         })
     }
 
@@ -85,8 +77,8 @@ impl State {
         ensures side { result.side ≡ self.now.side }
         ensures sound { IsSound self.now }
     {
-        let _rooms = &self.rooms;
-        self.cells
+        let frame = &self.plasma.frame;
+        frame.map().cells()
     }
 
     /// The multipliers.
@@ -100,14 +92,14 @@ impl State {
     pub fn kinds(&self) -> &[Kind]
         ensures { result.now ≡ self.now.kinds }
     {
-        self.kinds.as_slice()
+        self.plasma.frame.kinds()
     }
 
     /// How many particles there are.
     pub fn count(&self) -> u32
         ensures { result ≡ length self.now.particles }
     {
-        self.particles.len() as u32
+        self.plasma.count
     }
 
     /// Fills a snapshot of as many cells and particles: the fields, whose side and parts stay those of
@@ -121,35 +113,10 @@ impl State {
         ensures b { to.new.b ≡ record self.now.b { side = to.old.b.side; parts = to.old.b.parts } }
         ensures particles { to.new.particles.items ≡ self.now.particles }
     {
-        let _rooms = &self.rooms;
+        let map = self.plasma.frame.map();
+        let _tiles = map.tiles();
         copy(&self.e, &mut to.e);
         copy(&self.b, &mut to.b);
-        to.particles
-            .as_mut_slice()
-            .copy_from_slice(self.particles.as_slice());
+        write_tiles(&self.plasma.tiles, &mut to.particles);
     }
-}
-
-/// What the particles of each species of a deck have in common.
-pub fn kinds_of(alloc: Global, deck: &Deck) -> Result<Vec<Kind>, NoMemory>
-    ensures { IfOk result (λ kinds. kinds.items ≡ kinds_of deck.now) }
-{
-    let mut kinds = Vec::new(alloc);
-    for species in deck.species() {
-        kinds.push(species.kind)?;
-    }
-    Ok(kinds)
-}
-
-/// The fields that a deck begins with.
-fn fields_of(alloc: Global, deck: &Deck) -> Result<(Lattice, Lattice), NoMemory>
-    ensures e { IfOk result (λ both.
-        both.0 ≡ field_of deck.now.side deck.now.cells one_part (initial_e deck.now)) }
-    ensures b { IfOk result (λ both.
-        both.1 ≡ field_of deck.now.side deck.now.cells one_part (initial_b deck.now)) }
-{
-    let mut e = Lattice::new(alloc, deck.cells(), [1; 3])?;
-    let mut b = Lattice::new(alloc, deck.cells(), [1; 3])?;
-    deck.initial(&mut e, &mut b);
-    Ok((e, b))
 }

@@ -2,11 +2,12 @@
 
 ghost use Rattle.std.specs.Prelude.{◌≡◌};
 
-use crate::rooms::rooms_for;
+use crate::start::Start;
 use crate::state::State;
 use crate::stepping::step;
-use pic_grid::{Cells, Lattice};
+use pic_grid::{Cells, Lattice, Snapshot};
 use pic_num::{Axis, Kind, Mult, NoMemory, Particle, Scales, Sub};
+use pic_tile::TileMap;
 use std::alloc::Global;
 
 /// A charge of either sign, which no field drives.
@@ -51,16 +52,16 @@ fn pair_of(alloc: Global, sub: Sub) -> Result<State, NoMemory> {
     let particles = Vec::from_slice(alloc, &[ion, electron])?;
     let e = Lattice::new(alloc, cells, [1; 3])?;
     let b = Lattice::new(alloc, cells, [1; 3])?;
-    let rooms = rooms_for(alloc, cells)?;
-    Ok(State {
-        cells,
+    let map = TileMap::new(cells, [2, 1, 1]);
+    let start = Start {
+        map,
         scales,
         kinds,
         e,
         b,
         particles,
-        rooms,
-    })
+    };
+    State::begin(alloc, start)
 }
 
 /// The value of a lattice at a cell, or 0 outside.
@@ -82,16 +83,16 @@ fn a_step_by_the_side_of_a_cell(rt: HostRuntime) -> Result<(), NoMemory> {
     ];
     for (bits, current, place) in cases {
         if let Some(sub) = Sub::new(bits) {
-            let next = step(pair_of(rt.alloc(), sub)?);
+            let next = step(&rt, pair_of(rt.alloc(), sub)?, 2);
             assert!(rt; next.is_ok());
             if let Ok(state) = next {
+                let mut seen = Snapshot::new(rt.alloc(), state.cells(), state.count())?;
+                state.fill(&mut seen);
                 assert_eq!(rt; state.cells().sub(), sub);
-                assert_eq!(rt; value_in(&state.e, Axis::X, [0, 0, 0]), current);
-                assert_eq!(rt; value_in(&state.e, Axis::X, [1, 0, 0]), 0);
-                assert_eq!(rt; value_in(&state.e, Axis::Y, [0, 0, 0]), 0);
-                if let Some(electron) = state.particles.get(1) {
-                    assert_eq!(rt; electron.x, [place, 0, 0]);
-                }
+                assert_eq!(rt; value_in(&seen.e, Axis::X, [0, 0, 0]), current);
+                assert_eq!(rt; value_in(&seen.e, Axis::X, [1, 0, 0]), 0);
+                assert_eq!(rt; value_in(&seen.e, Axis::Y, [0, 0, 0]), 0);
+                assert_eq!(rt; seen.particles.get(1).map(|p| p.x), Some([place, 0, 0]));
             }
         }
     }

@@ -1,6 +1,7 @@
 use Rattle.std.proofs.Common.{map, string_bytes, refl}
 use Rattle.pic_io.specs.Sinks.{sinks}
 use Rattle.pic_run.proofs.EndLaws.{checks, runs, verifies, demonstrates, is_no_command, starved_words}
+use Rattle.pic_run.proofs.WorkerLaws.{run_workers, demo_workers}
 use Rattle.pic_run.proofs.call.perform.Goals as goal
 
 pub returns-in-Ok-Check : goal.returns-in-Ok-Check
@@ -42,3 +43,19 @@ pub returns-in-Err-NoMemory : goal.returns-in-Err-NoMemory
 returns-in-Err-NoMemory g c =
     starved_words (map string_bytes c.args.words.now) (g.S.Source.told c.args.source.now)
     (sinks (g.O.Sink.told c.args.out.now) (g.R.Sink.told c.args.report.now))
+
+pub run-requires-clause-some : goal.run-requires-clause-some
+run-requires-clause-some g c κs within =
+    let has = run_workers (map string_bytes c.args.words.now) c.in-Ok-Run.workers (rw c.in-Ok-Run.field-0-is at c.in-Ok-Run.ensures.ok) in has.some
+
+pub run-requires-clause-most : goal.run-requires-clause-most
+run-requires-clause-most g c κs within =
+    let has = run_workers (map string_bytes c.args.words.now) c.in-Ok-Run.workers (rw c.in-Ok-Run.field-0-is at c.in-Ok-Run.ensures.ok) in has.most
+
+pub demo-requires-clause-some : goal.demo-requires-clause-some
+demo-requires-clause-some g c κs within =
+    let has = demo_workers (map string_bytes c.args.words.now) c.in-Ok-Demo.seed c.in-Ok-Demo.workers (rw c.in-Ok-Demo.field-0-is at c.in-Ok-Demo.ensures.ok) in has.some
+
+pub demo-requires-clause-most : goal.demo-requires-clause-most
+demo-requires-clause-most g c κs within =
+    let has = demo_workers (map string_bytes c.args.words.now) c.in-Ok-Demo.seed c.in-Ok-Demo.workers (rw c.in-Ok-Demo.field-0-is at c.in-Ok-Demo.ensures.ok) in has.most

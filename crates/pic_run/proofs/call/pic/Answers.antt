@@ -1,6 +1,7 @@
 use Rattle.std.proofs.Common.{sym, map, string_bytes}
 use Rattle.pic_line.specs.CommandLine.{command_of}
-use Rattle.pic_run.specs.declared.ended.Ended.TheVariants.{Done, Checked, Verified, Stopped, Usage, Refused, Gauss, ReadFault, WriteFault, NoMemory, BadDump, Broken}
+use Rattle.pic_run.specs.declared.ended.Ended.TheVariants.{Done, Checked, Verified, Stopped, Usage, Refused, Gauss}
+use Rattle.pic_run.specs.declared.ended.Ended.TheVariants.{ReadFault, WriteFault, NoMemory, BadDump, Broken}
 use Rattle.pic_run.proofs.EndLaws.{takes, idles}
 use Rattle.pic_run.proofs.MeaningLaws.{complete, meant}
 use Rattle.pic_run.proofs.call.pic.Goals as goal

@@ -1,5 +1,6 @@
 use Rattle.std.proofs.Common.{length, ap, arith}
 use Rattle.pic_io.specs.Sinks.{sinks}
+use Rattle.pic_step.specs.SerialStep.{World}
 use Rattle.pic_run.specs.Outcome.{check_outcome}
 use Rattle.pic_run.proofs.EndLaws.{on_stopped, on_opened}
 use Rattle.pic_run.proofs.check.check.Goals as goal
@@ -8,7 +9,7 @@ pub returns-in-Ok : goal.returns-in-Ok
 returns-in-Ok g c =
     let r = g.R.Sink.told c.args.report.now in
     let opens = c.in-Ok.ensures.opens in
-    let count = ap length opens.opens.particles in
+    let count = ap (λ (w : World). length w.particles) opens.opens.start in
     on_opened check_outcome c.in-Ok.opened (g.S.Source.told c.args.source.now) (g.S.Source.told c.open.new.source)
     (sinks (g.O.Sink.told c.args.out.now) r) (sinks (g.O.Sink.told c.put_count.new.out) r) c.put_count.result
     c.in-Ok.ensures.taken opens (c.put_count.ensures c.in-Ok.opened.deck r (omega arith))

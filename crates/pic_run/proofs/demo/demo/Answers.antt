@@ -1,8 +1,6 @@
-use Rattle.std.proofs.Common.{◌≡◌, List, subst, ◌∙◌}
-use Rattle.pic_num.specs.declared.motion.Particle.{Particle}
+use Rattle.std.proofs.Common.{subst}
 use Rattle.pic_io.specs.Sinks.{sinks}
-use Rattle.pic_load.specs.Loading.{loaded}
-use Rattle.pic_step.specs.SerialRun.{start_of}
+use Rattle.pic_step.specs.SerialStep.{World}
 use Rattle.pic_run.specs.Outcome.{lines_outcome}
 use Rattle.pic_run.specs.Ends.{Finishes}
 use Rattle.pic_run.proofs.EndLaws.{shown, shown_stopped}
@@ -13,9 +11,8 @@ returns-in-Ok g c =
     let before = sinks (g.O.Sink.told c.args.out.now) (g.R.Sink.told c.args.report.now) in
     let now = sinks (g.O.Sink.told c.show_deck.new.out) (g.R.Sink.told c.show_deck.new.report) in
     let d = c.in-Ok.opened.deck in
-    let all : c.deref.result.now ≡ loaded d = c.deref.ensures.value ∙ c.in-Ok.ensures.particles in
     shown c.args.seed c.in-Ok.opened before now c.show_deck.result c.in-Ok.ensures
-    (subst (λ (ps : List Particle). Finishes (lines_outcome d (start_of d ps)) before now c.show_deck.result) all c.show_deck.ensures)
+    (subst (λ (w : World). Finishes (lines_outcome d w) before now c.show_deck.result) c.in-Ok.ensures.start c.show_deck.ensures)
 
 pub returns-in-Err : goal.returns-in-Err
 returns-in-Err g c =

@@ -3,7 +3,7 @@ use Rattle.std.proofs.lemmas.Result.{err_from_is_err_and}
 use Rattle.pic_io.specs.Sinks.{sinks}
 use Rattle.pic_io.proofs.Puts.{wrote_none}
 use Rattle.pic_step.specs.SerialStep.{World}
-use Rattle.pic_step.specs.SerialRun.{start_of}
+use Rattle.pic_step.specs.Start.{begun}
 use Rattle.pic_run.specs.declared.output.Output.TheVariants.{Lines}
 use Rattle.pic_run.specs.Frames.{frames_of, end_of}
 use Rattle.pic_run.specs.Outcome.{states_outcome, lines_outcome}
@@ -25,12 +25,12 @@ pub returns : goal.returns
 returns g c =
     let a = sinks (g.O.Sink.told c.args.out.now) (g.R.Sink.told c.args.report.now) in
     let b = sinks (g.O.Sink.told c.write_states.new.out) (g.R.Sink.told c.write_states.new.report) in
-    let d = c.args.deck.now in
+    let d = c.args.opened.deck in
     let result = c.write_states.result in
     let w = c.in_ok-state.state in
-    let steps = subst (λ (steps : ℕ). WritesStates (states_outcome Lines [] (frames_of Lines steps c.every-every.result w) (end_of steps w)) a b result)
+    let steps = subst (λ (steps : ℕ). WritesStates (states_outcome Lines [] (frames_of Lines steps c.every.result w) (end_of steps w)) a b result)
     c.steps.ensures.value c.write_states.ensures in
     let every = subst (λ (every : ℕ). WritesStates (states_outcome Lines [] (frames_of Lines d.steps every w) (end_of d.steps w)) a b result)
-    c.every-every.ensures.value steps in
+    c.every.ensures.value steps in
     let start = subst (λ (v : World). WritesStates (lines_outcome d v) a b result) c.in_ok-state.ensures every in
-    without_head (lines_outcome d (start_of d c.args.particles.now)) a b result start
+    without_head (lines_outcome d (begun c.args.opened.start)) a b result start

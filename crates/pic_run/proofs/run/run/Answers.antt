@@ -1,8 +1,6 @@
-use Rattle.std.proofs.Common.{◌≡◌, List, subst, ◌∙◌}
-use Rattle.pic_num.specs.declared.motion.Particle.{Particle}
+use Rattle.std.proofs.Common.{subst}
 use Rattle.pic_io.specs.Sinks.{sinks}
-use Rattle.pic_load.specs.Loading.{loaded}
-use Rattle.pic_step.specs.SerialRun.{start_of}
+use Rattle.pic_step.specs.SerialStep.{World}
 use Rattle.pic_run.specs.Outcome.{run_outcome, dump_outcome}
 use Rattle.pic_run.specs.Starting.{header_of}
 use Rattle.pic_run.specs.Ends.{Finishes}
@@ -15,10 +13,9 @@ returns-in-Ok g c =
     let now = sinks (g.O.Sink.told c.run_deck.new.out) (g.R.Sink.told c.run_deck.new.report) in
     let opens = c.in-Ok.ensures.opens in
     let d = c.in-Ok.opened.deck in
-    let all : c.deref.result.now ≡ loaded d = c.deref.ensures.value ∙ opens.opens.particles in
     on_opened run_outcome c.in-Ok.opened (g.S.Source.told c.args.source.now) (g.S.Source.told c.open.new.source) before now c.run_deck.result
     c.in-Ok.ensures.taken opens
-    (subst (λ (ps : List Particle). Finishes (dump_outcome (header_of d) (start_of d ps)) before now c.run_deck.result) all c.run_deck.ensures)
+    (subst (λ (w : World). Finishes (dump_outcome (header_of d) w) before now c.run_deck.result) opens.opens.start c.run_deck.ensures)
 
 pub returns-in-Err : goal.returns-in-Err
 returns-in-Err g c =

@@ -18,21 +18,21 @@ returns-in_err-write_due g c =
     let a = sinks (g.O.Sink.told c.args.out.now) (g.R.Sink.told c.args.report.now) in
     let b = sinks (g.O.Sink.told c.write_due.new.out) (g.R.Sink.told c.write_due.new.report) in
     let side = c.in_err-write_due.field-0.0 in
-    let cut = subst (λ (due : Bool). CutAt side a b (due_frame c.args.output due 0 w)) c.is_due.ensures c.in_err-write_due.ensures.writes in
+    let cut = subst (λ (due : Bool). CutAt side a b (due_frame c.args.plan.output due 0 w)) c.is_due.ensures c.in_err-write_due.ensures.writes in
     rw (exit.1 ∙ ap Err exit.2)
-    (more_cut side c.args.output c.args.steps c.args.every w w 0 a a b (omega arith) (after_none w)
-    (none_written c.args.output c.args.steps c.args.every w a (wrote_none a)) cut)
+    (more_cut side c.args.plan.output c.args.plan.steps c.args.plan.every w w 0 a a b (omega arith) (after_none w)
+    (none_written c.args.plan.output c.args.plan.steps c.args.plan.every w a (wrote_none a)) cut)
 
 pub loop-done-init : goal.loop-done-init
 loop-done-init g c =
     let w = c.args.state in
     let a = sinks (g.O.Sink.told c.args.out.now) (g.R.Sink.told c.args.report.now) in
     let b = sinks (g.O.Sink.told c.write_due.new.out) (g.R.Sink.told c.write_due.new.report) in
-    let first = subst (λ (due : Bool). Wrote a b (outs (due_frame c.args.output due 0 w)) (lines
-    (due_frame c.args.output due 0 w))) c.is_due.ensures c.in_ok-write_due.ensures.writes in
+    let first = subst (λ (due : Bool). Wrote a b (outs (due_frame c.args.plan.output due 0 w)) (lines
+    (due_frame c.args.plan.output due 0 w))) c.is_due.ensures c.in_ok-write_due.ensures.writes in
     record {
       reached = after_none w;
-      wrote = more_written c.args.output c.args.steps c.args.every w w 0 a a b (after_none w) (none_written c.args.output c.args.steps c.args.every w a
+      wrote = more_written c.args.plan.output c.args.plan.steps c.args.plan.every w w 0 a a b (after_none w) (none_written c.args.plan.output c.args.plan.steps c.args.plan.every w a
           (wrote_none a)) first;
       room = c.write_due.ensures.room;
     }
@@ -42,17 +42,17 @@ returns-in-Err-Stop g c =
     let a = sinks (g.O.Sink.told c.args.out.now) (g.R.Sink.told c.args.report.now) in
     let b = sinks (g.O.Sink.told c.loop-done.out) (g.R.Sink.told c.loop-done.report) in
     let stops = rw c.in-Err-Stop.field-0-is at c.in-Err-Stop.ensures.steps in
-    let frames = frames_of c.args.output c.args.steps c.args.every c.args.state in
-    let last = end_of c.args.steps c.args.state in
+    let frames = frames_of c.args.plan.output c.args.plan.steps c.args.plan.every c.args.state in
+    let last = end_of c.args.plan.steps c.args.state in
     subst (λ (stop : Stop). WroteFrames frames last (Stopped (c.loop-done.done + 1) stop) a b) (sym c.in-Err-Stop.stop-is)
-    (stopped_written c.args.output c.args.steps c.args.every c.args.state c.loop-done.state c.in-Err-Stop.stop c.loop-done.done a b (omega arith)
+    (stopped_written c.args.plan.output c.args.plan.steps c.args.plan.every c.args.state c.loop-done.state c.in-Err-Stop.stop c.loop-done.done a b (omega arith)
     c.loop-done.invariant.reached stops c.loop-done.invariant.wrote)
 
 pub returns-in-Err-NoMemory : goal.returns-in-Err-NoMemory
 returns-in-Err-NoMemory g c =
     let a = sinks (g.O.Sink.told c.args.out.now) (g.R.Sink.told c.args.report.now) in
     let b = sinks (g.O.Sink.told c.loop-done.out) (g.R.Sink.told c.loop-done.report) in
-    some_written c.args.output c.args.steps c.args.every c.args.state c.loop-done.done a b c.requires.every (omega arith) c.loop-done.invariant.wrote
+    some_written c.args.plan.output c.args.plan.steps c.args.plan.every c.args.state c.loop-done.done a b c.requires.every (omega arith) c.loop-done.invariant.wrote
 
 pub write_due-requires-in-loop-done : goal.write_due-requires-in-loop-done
 write_due-requires-in-loop-done g c =
@@ -69,9 +69,9 @@ returns-in_err-write_due-2 g c =
     let e = sinks (g.O.Sink.told c.write_due-in-loop-done.new.out) (g.R.Sink.told c.write_due-in-loop-done.new.report) in
     let side = c.in_err-write_due-2.field-0.0 in
     let reached = after_step w c.loop-done.state v n c.loop-done.invariant.reached c.in-Ok.ensures.steps in
-    let cut = subst (λ (due : Bool). CutAt side b e (due_frame c.args.output due (n + 1) v)) c.is_due-due.ensures c.in_err-write_due-2.ensures.writes in
+    let cut = subst (λ (due : Bool). CutAt side b e (due_frame c.args.plan.output due (n + 1) v)) c.is_due-due.ensures c.in_err-write_due-2.ensures.writes in
     rw (exit.1 ∙ ap Err exit.2)
-    (more_cut side c.args.output c.args.steps c.args.every w v (n + 1) a b e (omega arith) reached c.loop-done.invariant.wrote cut)
+    (more_cut side c.args.plan.output c.args.plan.steps c.args.plan.every w v (n + 1) a b e (omega arith) reached c.loop-done.invariant.wrote cut)
 
 pub loop-done-preserved : goal.loop-done-preserved
 loop-done-preserved g c =
@@ -82,11 +82,11 @@ loop-done-preserved g c =
     let b = sinks (g.O.Sink.told c.loop-done.out) (g.R.Sink.told c.loop-done.report) in
     let e = sinks (g.O.Sink.told c.write_due-in-loop-done.new.out) (g.R.Sink.told c.write_due-in-loop-done.new.report) in
     let reached = after_step w c.loop-done.state v n c.loop-done.invariant.reached c.in-Ok.ensures.steps in
-    let next = subst (λ (due : Bool). Wrote b e (outs (due_frame c.args.output due (n + 1) v)) (lines (due_frame c.args.output due
+    let next = subst (λ (due : Bool). Wrote b e (outs (due_frame c.args.plan.output due (n + 1) v)) (lines (due_frame c.args.plan.output due
     (n + 1) v))) c.is_due-due.ensures c.in_ok-write_due-2.ensures.writes in
     record {
       reached = reached;
-      wrote = more_written c.args.output c.args.steps c.args.every w v (n + 1) a b e reached c.loop-done.invariant.wrote next;
+      wrote = more_written c.args.plan.output c.args.plan.steps c.args.plan.every w v (n + 1) a b e reached c.loop-done.invariant.wrote next;
       room = c.write_due-in-loop-done.ensures.room;
     }
 
@@ -94,12 +94,12 @@ pub returns : goal.returns
 returns g c =
     let w = c.args.state in
     let v = c.loop-done.state in
-    let steps = c.args.steps in
-    let every = c.args.every in
+    let steps = c.args.plan.steps in
+    let every = c.args.plan.every in
     let a = sinks (g.O.Sink.told c.args.out.now) (g.R.Sink.told c.args.report.now) in
     let b = sinks (g.O.Sink.told c.loop-done.out) (g.R.Sink.told c.loop-done.report) in
     let all : c.loop-done.done ≡ steps = omega arith in
     let reached = subst (λ (k : ℕ). after w k ≡ Ok v) all c.loop-done.invariant.reached in
-    let wrote = subst (λ (k : ℕ). Wrote a b (outs (frames_from c.args.output steps every w 0 (k + 1))) (lines (frames_from c.args.output steps every w 0
+    let wrote = subst (λ (k : ℕ). Wrote a b (outs (frames_from c.args.plan.output steps every w 0 (k + 1))) (lines (frames_from c.args.plan.output steps every w 0
     (k + 1)))) all c.loop-done.invariant.wrote in
-    done_written c.args.output steps every w v a b reached wrote
+    done_written c.args.plan.output steps every w v a b reached wrote

@@ -11,6 +11,6 @@ invariant-loop-done g l =
     record {
       reached : after l.fn.state l.done ≡ Ok l.state;
       wrote : Wrote (sinks (g.O.Sink.told l.fn.out) (g.R.Sink.told l.fn.report)) (sinks (g.O.Sink.told l.out) (g.R.Sink.told l.report))
-          (outs (frames_from l.output l.steps l.every l.fn.state 0 (l.done + 1))) (lines (frames_from l.output l.steps l.every l.fn.state 0 (l.done + 1)));
+          (outs (frames_from l.fn.plan.output l.fn.plan.steps l.fn.plan.every l.fn.state 0 (l.done + 1))) (lines (frames_from l.fn.plan.output l.fn.plan.steps l.fn.plan.every l.fn.state 0 (l.done + 1)));
       room : HasRoom l.room l.state;
     }

@@ -1,84 +1,100 @@
-use Rattle.std.proofs.Common.{◌≡◌, ◌<◌, ◌≤◌, sym, ap, ◌∙◌, subst, arith}
-use Rattle.std.proofs.Math.IntN.{ℤ}
-use Rattle.pic_num.specs.Limits.{most_side}
-use Rattle.pic_num.specs.declared.axis.Axis.{Axis}
-use Rattle.pic_num.specs.Space.{Triple}
-use Rattle.pic_grid.specs.Lattice.{Field, value_at, field_of}
-use Rattle.pic_grid.specs.Gather.{force_of}
-use Rattle.pic_grid.specs.PushPhase.{Surroundings, moved_all, push_stop}
-use Rattle.pic_flux.specs.Adds.{Adds}
-use Rattle.pic_flux.proofs.AddsLaws.{adds_same}
-use Rattle.pic_step.specs.PushRoom.{around_fields}
-use Rattle.pic_grid.specs.Felt.{felt}
-use Rattle.pic_grid.specs.Parts.{one_part}
-use Rattle.pic_grid.specs.Traces.{traces}
-use Rattle.pic_step.specs.Guard.{Holds, IsOver}
-use Rattle.pic_grid.specs.Cells.{IsWithin}
-use Rattle.pic_grid.specs.Current.{wrapped}
-use Rattle.pic_step.proofs.FeltLaws.{around_lattices, moved_same, stop_same, traces_same}
-use Rattle.pic_step.proofs.PushPhaseLaws.{forces_small, guard_holds, folded, folded_small, felt_is, room_of}
+use Rattle.std.proofs.Common.{◌≡◌, ◌<◌, List, length, sym, ap, ◌∙◌, subst}
+use Rattle.std.specs.Vec.{with_items}
+use Rattle.std.proofs.lemmas.List.{with_items_is}
+use Rattle.pic_grid.specs.Cells.{count_of}
+use Rattle.pic_push.proofs.PushLaws.{length-moved_all}
+use Rattle.pic_exchange.specs.HandOver.{AreBare}
+use Rattle.pic_tile.specs.CoreState.{particles_of}
+use Rattle.pic_tile.specs.Frame.{FrameValue, felt_in}
+use Rattle.pic_tile.specs.Tile.{TileValue}
+use Rattle.pic_tile.specs.Tiling.{Tiling, cells_of}
+use Rattle.pic_step.specs.Plasma.{IsOver}
+use Rattle.pic_step.specs.PushOn.{IsPushed}
+use Rattle.pic_step.proofs.PushPhaseLaws.{with_forces_of, opening_moves, pushed_by_fields, is_plasma}
+use Rattle.pic_step.proofs.push_phase.push_phase.Given.{Over}
 use Rattle.pic_step.proofs.push_phase.push_phase.Goals as goal
+use Rattle.pic_step.proofs.push_phase.push_phase.Goals.{After-with_forces-frame, After-push_tiles-stop}
 
-pub push_all-stop-requires-clause-e : goal.push_all-stop-requires-clause-e
-push_all-stop-requires-clause-e c =
-    forces_small c.args.e.now.side c.args.e.now.cells c.args.scales.now.e_force c.args.e.now c.forces-force_e.result c.requires.e c.forces-force_e.ensures
+-- the frame of the force values
+framed : (g : Over) (c : After-with_forces-frame g) → c.with_forces-frame.result
+    ≡ with_forces_of c.args.plasma.frame.map c.args.plasma.frame.kinds c.args.scales.now c.args.e.now c.args.b.now
+framed g c = c.with_forces-frame.ensures
 
-pub push_all-stop-requires-clause-b : goal.push_all-stop-requires-clause-b
-push_all-stop-requires-clause-b c =
-    forces_small c.args.e.now.side c.args.e.now.cells c.args.scales.now.b_force c.args.b.now c.forces-force_b.result c.requires.b
-    (c.forces-force_b.ensures ∙ (λ i. field_of (c.requires.b.side_is i) (c.requires.b.cells i) one_part
-    (force_of c.args.scales.now.b_force (value_at c.args.b.now))))
+map_is : (g : Over) (c : After-with_forces-frame g) → c.with_forces-frame.result.map ≡ c.args.plasma.frame.map
+map_is g c = ap (λ (f : FrameValue). f.map) (framed g c)
 
-pub push_all-stop-requires-clause-parts : goal.push_all-stop-requires-clause-parts
-push_all-stop-requires-clause-parts c = ap (λ (f : Field). f.parts) c.forces-force_b.ensures ∙ sym (ap (λ (f : Field). f.parts) c.forces-force_e.ensures)
+-- the tiles have as many items as before, and so have those that receive
+tiles_are : (g : Over) (c : After-push_tiles-stop g) → c.with_forces-frame.result.map ≡ c.args.plasma.frame.map
+    → (with_items c.args.plasma.tiles c.push_tiles-stop.new.tiles).items ≡ c.push_tiles-stop.new.tiles
+tiles_are g c map =
+    let p = c.args.plasma in
+    with_items_is p.tiles c.push_tiles-stop.new.tiles
+    (c.push_tiles-stop.ensures.tiles.count ∙ ap (λ (m : Tiling). count_of m.tiles) map ∙ sym c.requires.can.plasma.tiles.count
+    ∙ ap length (sym c.deref_mut.ensures.value) ∙ c.deref_mut.ensures.len)
 
-pub returns : goal.returns
-returns c =
-    let scales = c.args.scales.now in
-    let kinds = c.args.kinds.now in
-    let e = c.args.e.now in
-    let b = c.args.b.now in
-    let n = e.cells in
-    let old = c.args.particles.now in
-    let w : Surroundings = around_fields scales kinds e b in
-    let f : Axis → Triple → ℤ = force_of scales.e_force (value_at e) in
-    let g : Axis → Triple → ℤ = force_of scales.b_force (value_at b) in
-    let is_e = c.forces-force_e.ensures in
-    let is_b = c.forces-force_b.ensures ∙ (λ i. field_of (c.requires.b.side_is i) (c.requires.b.cells i) one_part g) in
-    let feels : felt kinds c.forces-force_e.result c.forces-force_b.result ≡ around_lattices e.side kinds n f g =
-    felt_is e.side kinds n f g c.forces-force_e.result c.forces-force_b.result is_e is_b in
-    let side = sym (c.sub-sub.ensures ∙ c.cells-cells.ensures.side) in
-    let above : 0 < e.side = omega (arith, side, c.side-side.ensures.least) in
-    let most : e.side ≤ most_side = omega (arith, side, c.side-side.ensures.most) in
-    let room = c.requires.rooms in
-    let guard = c.args.rooms.guard in
-    let now = c.push_all-stop.new.guard in
-    let adds : Adds guard now (traces w old) =
-    adds_same guard now (traces (around_lattices e.side kinds n f g) old) (traces w old) (λ a s. traces_same e.side kinds n f g old a s)
-    (subst (λ (v : Surroundings). Adds guard now (traces v old)) feels c.push_all-stop.ensures.adds) in
-    let holds : (a : Axis) → Holds n now a (traces w old a) =
-    guard_holds w old guard now above c.requires.can room.cleared c.push_all-stop.ensures.shape adds in
-    let same : c.cells-cells.result.n ≡ n = c.cells-cells.ensures.value in
-    let current = folded w old c.fold.new.current (λ a p within.
-    c.fold.ensures.values a (traces w old a) (subst (λ (m : Triple). Holds m now a (traces w old a)) (sym same) (holds a)) p
-    (subst (IsWithin p) (sym same) within) ∙ ap (λ (m : Triple). wrapped m (traces w old a) p) same) in
-    let shape = c.fold.ensures.current in
-    let left = c.fold.ensures.guard in
-    let pushed = c.push_all-stop.ensures.shape in
-    let over : IsOver n c.fold.new.current = record { low = sym shape.low ∙ room.current.low; size = sym shape.size ∙ room.current.size } in
-    record {
-      rooms_are = record {
-        force_e = room_of e.side n f c.forces-force_e.result is_e;
-        force_b = room_of e.side n g c.forces-force_b.result is_b;
-        current = over;
-        guard = record {
-          low = sym left.low ∙ sym pushed.low ∙ room.guard.low;
-          size = sym left.size ∙ sym pushed.size ∙ room.guard.size;
-        };
-        cleared = c.fold.ensures.cleared;
-      };
-      particles = c.push_all-stop.ensures.after ∙ ap (λ (v : Surroundings). moved_all v old) feels ∙ moved_same e.side kinds n f g old;
-      stop_is = c.push_all-stop.ensures.stop ∙ ap (λ (v : Surroundings). push_stop v old) feels ∙ stop_same e.side kinds n f g old;
-      current_is = current;
-      current_small = folded_small w old c.fold.new.current above most c.requires.kinds c.requires.few over current;
-    }
+got_are : (g : Over) (c : After-push_tiles-stop g) → c.with_forces-frame.result.map ≡ c.args.plasma.frame.map
+    → (with_items c.args.plasma.got c.push_tiles-stop.new.got).items ≡ c.push_tiles-stop.new.got
+got_are g c map =
+    let p = c.args.plasma in
+    with_items_is p.got c.push_tiles-stop.new.got
+    (c.push_tiles-stop.ensures.bare.numbered.count ∙ ap (λ (m : Tiling). count_of m.tiles) map ∙ sym c.requires.can.plasma.bare.numbered.count
+    ∙ ap length (sym c.deref_mut-2.ensures.value) ∙ c.deref_mut-2.ensures.len)
+
+pub push_tiles-stop-requires-clause-side : goal.push_tiles-stop-requires-clause-side
+push_tiles-stop-requires-clause-side g c κs within =
+    subst (λ (m : Tiling). 0 < m.side) (sym (map_is g (goal.at.push_tiles-stop-requires-clause-side g c).After-with_forces-frame)) c.requires.can.side
+
+pub push_tiles-stop-requires-clause-opening : goal.push_tiles-stop-requires-clause-opening
+push_tiles-stop-requires-clause-opening g c κs within =
+    let p = c.args.plasma in
+    let is = framed g (goal.at.push_tiles-stop-requires-clause-opening g c).After-with_forces-frame in
+    opening_moves p.frame c.with_forces-frame.result p.tiles.items c.deref_mut.result.now (ap (λ (f : FrameValue). f.map) is) (ap (λ (f : FrameValue). f.kinds) is)
+    c.deref_mut.ensures.value c.requires.can.opening
+
+pub push_tiles-stop-requires-clause-bare : goal.push_tiles-stop-requires-clause-bare
+push_tiles-stop-requires-clause-bare g c κs within =
+    let p = c.args.plasma in
+    let map = map_is g (goal.at.push_tiles-stop-requires-clause-bare g c).After-with_forces-frame in
+    subst (λ (m : Tiling). AreBare m c.deref_mut-2.result.now) (sym map)
+    (subst (AreBare p.frame.map) (sym c.deref_mut-2.ensures.value) c.requires.can.plasma.bare)
+
+pub push_tiles-stop-requires-clause-over : goal.push_tiles-stop-requires-clause-over
+push_tiles-stop-requires-clause-over g c κs within =
+    subst (λ (m : Tiling). IsOver (cells_of m) c.args.plasma.current)
+    (sym (map_is g (goal.at.push_tiles-stop-requires-clause-over g c).After-with_forces-frame)) c.requires.can.plasma.current
+
+pub returns-clause-plasma : goal.returns-clause-plasma
+returns-clause-plasma g c =
+    let at = goal.at.returns-clause-plasma g c in
+    let p = c.args.plasma in
+    let f = c.with_forces-frame.result in
+    let is = framed g at.After-with_forces-frame in
+    let map = map_is g at.After-with_forces-frame in
+    let left = c.push_tiles-stop.ensures in
+    let count : p.count ≡ length (particles_of c.push_tiles-stop.new.tiles) =
+    c.requires.can.plasma.count ∙ ap (λ (ts : List TileValue). length (particles_of ts)) (sym c.deref_mut.ensures.value)
+    ∙ sym (ap length left.pushed.particles ∙ length-moved_all (felt_in f) (particles_of c.deref_mut.result.now)) in
+    is_plasma (record {
+      frame = f;
+      tiles = with_items p.tiles c.push_tiles-stop.new.tiles;
+      got = with_items p.got c.push_tiles-stop.new.got;
+      current = c.push_tiles-stop.new.current;
+      count = p.count;
+    }) c.push_tiles-stop.new.tiles c.push_tiles-stop.new.got (tiles_are g at.After-push_tiles-stop map) (got_are g at.After-push_tiles-stop map)
+    left.tiles left.bare (ap (λ (h : FrameValue). h.force_e.parts) is) left.over count
+
+pub returns-clause-pushed : goal.returns-clause-pushed
+returns-clause-pushed g c =
+    let at = goal.at.returns-clause-pushed g c in
+    let p = c.args.plasma in
+    let f = c.with_forces-frame.result in
+    let map = map_is g at.After-with_forces-frame in
+    let here = tiles_are g at.After-push_tiles-stop map in
+    let j = c.push_tiles-stop.new.current in
+    let now = particles_of (with_items p.tiles c.push_tiles-stop.new.tiles).items in
+    let moved : IsPushed (felt_in f) (particles_of c.deref_mut.result.now) now c.push_tiles-stop.result j =
+    subst (λ (ts : List TileValue). IsPushed (felt_in f) (particles_of c.deref_mut.result.now) (particles_of ts) c.push_tiles-stop.result j) (sym here)
+    c.push_tiles-stop.ensures.pushed in
+    pushed_by_fields p.frame.map p.frame.kinds c.args.scales.now c.args.e.now c.args.b.now f (particles_of p.tiles.items) now c.push_tiles-stop.result j
+    c.requires.can.safe_e (framed g at.After-with_forces-frame)
+    (subst (λ (ts : List TileValue). IsPushed (felt_in f) (particles_of ts) now c.push_tiles-stop.result j) c.deref_mut.ensures.value moved)

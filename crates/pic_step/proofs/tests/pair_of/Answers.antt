@@ -30,6 +30,7 @@ use Rattle.pic_grid.specs.Sums.{sum_over}
 use Rattle.pic_charge.specs.Charge.{charge_of, share}
 use Rattle.pic_charge.specs.Gauss.{MeetsGauss}
 use Rattle.pic_field.specs.FieldPhases.{IsBounded}
+use Rattle.pic_step.specs.SerialStep.{world_of}
 use Rattle.pic_step.specs.Sound.{IsSafe, IsSound}
 use Rattle.pic_step.proofs.tests.pair_of.Goals as goal
 
@@ -130,8 +131,8 @@ pair_sound side q v scales a b least most at low high a_is a_one b_is b_one = re
   gauss = pair_gauss side four a b (q ∷ 0 ∷ 0 ∷ []) _ _ (zeros side four) refl a_is b_is;
 }
 
-pub invariant_of-result : goal.invariant_of-result
-invariant_of-result c =
+pub begin-requires : goal.begin-requires
+begin-requires c =
     let cells = c.new-cells.ensures in
     let side = c.side-side.ensures in
     let q = c.side-side.result / 4 in
@@ -150,17 +151,5 @@ invariant_of-result c =
     let e = same c.in_ok-e.e c.in_ok-e.ensures in
     let b = same c.in_ok-b.b c.in_ok-b.ensures in
     let particles = c.in_ok-particles.ensures.items ∙ ap (pair q) moves in
-    record {
-      sound = subst IsSound
-          (sym (λ i. record {
-            side = (cells i).side;
-            cells = (cells i).n;
-            scales = scales;
-            kinds = c.in_ok-kinds.ensures.items i;
-            e = e i;
-            b = b i;
-            particles = particles i;
-          }))
-          sound;
-      rooms = c.in_ok-rooms.ensures;
-    }
+    let grid = c.new-map.ensures.cells ∙ cells in
+    subst IsSound (sym (λ i. world_of (grid i) scales (c.in_ok-kinds.ensures.items i) (e i) (b i) (particles i))) sound

@@ -1,0 +1,76 @@
+-- A command that is run has 1 to 64 workers.
+use Rattle.std.proofs.Common.{◌≡◌, ℕ, ◌<◌, ◌≤◌, List, [], ◌∷◌, Bool, true, false, cond, Option, Some, None, refl, subst, arith}
+use Rattle.std.specs.Prelude.{◌&&◌, nat_le, nat_lt, ⊤, option_map, option_and_then}
+use Rattle.std.proofs.lemmas.Bool.Decides.{nat_tests}
+use Rattle.std.specs.Prelude.{codes}
+use Rattle.clap.specs.Words.{fault_of, subcommand_of}
+use Rattle.pic_exchange.specs.Teams.{most_workers}
+use Rattle.pic_line.specs.declared.asked.Command.{Command}
+use Rattle.pic_line.specs.declared.asked.Command.TheVariants.{Check, Run, Verify, Demo}
+use Rattle.pic_line.specs.CommandLine.{pic_app, number_in, workers_in, seed_in, demo_of, command_from, unless_fault, command_of}
+
+-- so many workers
+pub record AreWorkers (n : ℕ) : Type 0 where
+  pub some : 0 < n
+  pub most : n ≤ most_workers
+
+both_ends : (a b : Bool) (n : ℕ) → (a && (b && (nat_le 1 n && nat_le n 64))) ≡ true → AreWorkers n
+both_ends true true n h = record { some = grind (arith, nat_tests); most = grind (arith, nat_tests) }
+both_ends true false n h = absurd (cc)
+both_ends false b n h = absurd (cc)
+
+if_some : (b : Bool) (v n : ℕ) → cond b (Some v) None ≡ Some n → (b ≡ true) × (v ≡ n)
+if_some true v n h = (refl, cc)
+if_some false v n h = absurd (cc)
+
+numbered : (text : List ℕ) (n : ℕ) → number_in 1 64 text ≡ Some n → AreWorkers n
+unfolding number_in
+numbered text n h = let both = if_some _ _ n h in subst AreWorkers both.1 (both_ends _ _ _ both.0)
+
+found : (o : Option (List ℕ)) (n : ℕ) → option_and_then (number_in 1 64) o ≡ Some n → AreWorkers n
+found (Some text) n h = numbered text n h
+found None n h = absurd (cc)
+
+-- what a command's workers are
+abbrev HasWorkers : Command → Type 0
+HasWorkers Check = ⊤
+HasWorkers (Run workers) = AreWorkers workers
+HasWorkers Verify = ⊤
+HasWorkers (Demo seed workers) = AreWorkers workers
+
+plain : (d c : Command) → HasWorkers d → ◌≡◌ {A = Option Command} (Some d) (Some c) → HasWorkers c
+plain d c has h = let same : d ≡ c = cc in subst HasWorkers same has
+
+run_has : (o : Option ℕ) (c : Command) → ((n : ℕ) → o ≡ Some n → AreWorkers n) → option_map Run o ≡ Some c → HasWorkers c
+run_has (Some n) c all h = plain (Run n) c (all n refl) h
+run_has None c all h = absurd (cc)
+
+demo_has : (s o : Option ℕ) (c : Command) → ((n : ℕ) → o ≡ Some n → AreWorkers n) → demo_of s o ≡ Some c → HasWorkers c
+demo_has (Some seed) (Some n) c all h = plain (Demo seed n) c (all n refl) h
+demo_has (Some seed) None c all h = absurd (cc)
+demo_has None o c all h = absurd (cc)
+
+named : (a b d : Bool) (s o : Option ℕ) (c : Command) → ((n : ℕ) → o ≡ Some n → AreWorkers n)
+    → cond a (option_map Run o) (cond b (Some Verify) (cond d (demo_of s o) (Some Check))) ≡ Some c → HasWorkers c
+named true b d s o c all h = run_has o c all h
+named false true d s o c all h = plain Verify c tt h
+named false false true s o c all h = demo_has s o c all h
+named false false false s o c all h = plain Check c tt h
+
+from : (o : _) (c : Command) → command_from o ≡ Some c → HasWorkers c
+from None c h = plain Check c tt h
+from (Some (name, rows)) c h = named _ _ _ (seed_in rows) (workers_in rows) c (λ n. found _ n) h
+
+without_fault : (kinds : _) (o : _) (c : Command) → unless_fault kinds (command_from o) ≡ Some c → HasWorkers c
+without_fault [] o c h = from o c h
+without_fault (kind ∷ kinds) o c h = absurd (cc)
+
+has_workers : (words : List (List ℕ)) (c : Command) → command_of words ≡ Some c → HasWorkers c
+unfolding command_of
+has_workers words c h = without_fault (fault_of pic_app (codes "pic" ∷ words)) (subcommand_of pic_app (codes "pic" ∷ words)) c h
+
+pub run_workers : (words : List (List ℕ)) (n : ℕ) → command_of words ≡ Some (Run n) → AreWorkers n
+run_workers words n h = has_workers words (Run n) h
+
+pub demo_workers : (words : List (List ℕ)) (seed n : ℕ) → command_of words ≡ Some (Demo seed n) → AreWorkers n
+demo_workers words seed n h = has_workers words (Demo seed n) h

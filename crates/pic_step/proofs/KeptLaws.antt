@@ -1,0 +1,99 @@
+-- What the type of a state keeps, from its parts.
+use Rattle.std.proofs.Common.{◌≡◌, ℕ, ◌<◌, List, length, All, sym, ◌∙◌, subst, arith}
+use Rattle.std.proofs.lemmas.List.Elements.{All-weaker}
+use Rattle.pic_num.specs.declared.motion.Kind.{Kind}
+use Rattle.pic_num.specs.declared.motion.Particle.{Particle}
+use Rattle.pic_num.specs.declared.mult.Scales.{Scales}
+use Rattle.pic_num.specs.Space.{triple}
+use Rattle.pic_grid.specs.Hat.{IsInBox}
+use Rattle.pic_grid.specs.Lattice.{Field}
+use Rattle.pic_grid.specs.PushPhase.{CanShare}
+use Rattle.pic_orders.specs.InOrder.{IsCensus, written}
+use Rattle.pic_orders.specs.Same.{Same}
+use Rattle.pic_orders.specs.Totals.{together}
+use Rattle.pic_orders.proofs.InOrderLaws.{ordered_census, same_census, ids_below, written_all}
+use Rattle.pic_orders.proofs.SameLaws.{same_sym, same_length}
+use Rattle.pic_tile.specs.CoreState.{particles_of}
+use Rattle.pic_tile.specs.Held.{chains_of}
+use Rattle.pic_tile.specs.Parcels.{AreFreshTiles}
+use Rattle.pic_tile.specs.Tiling.{Tiling, IsMap, cells_of, grid_of}
+use Rattle.pic_tile.proofs.HeldLaws.{fresh_hold}
+use Rattle.pic_step.specs.declared.plasma.Plasma.{Plasma}
+use Rattle.pic_step.specs.Kept.{IsKept, seen}
+use Rattle.pic_step.specs.Plasma.{IsPlasma}
+use Rattle.pic_step.specs.PushOn.{CanPush}
+use Rattle.pic_step.specs.SerialStep.{World, world_of}
+use Rattle.pic_step.specs.Sound.{IsSafe, IsSound}
+use Rattle.pic_step.proofs.PlasmaLaws.{particles_are}
+
+-- the particles of a sound state lie in the box
+pub inside : (w : World) → IsSound w → All (λ x. IsInBox w.side w.cells (triple x.x)) w.particles
+inside w sound = All-weaker (CanShare w.side w.cells w.kinds) (λ x. IsInBox w.side w.cells (triple x.x)) (λ x can. can.place) w.particles sound.places
+
+pub above_zero : (w : World) → IsSound w → 0 < w.side
+above_zero w sound = let least = sound.side_least in omega (arith, least)
+
+-- where its particles are cut into tiles, the state is that of its parts
+module _ (m : Tiling) (scales : Scales) (kinds : List Kind) (e b : Field) (xs : List Particle) (p : Plasma) (map : IsMap m)
+    (sound : IsSound (world_of (grid_of m) scales kinds e b xs)) (of_map : p.frame.map ≡ m) (of_kinds : p.frame.kinds ≡ kinds) (ready : IsPlasma xs p) where
+  list_is : particles_of p.tiles.items ≡ xs
+  list_is =
+      let w = world_of (grid_of m) scales kinds e b xs in
+      particles_are m xs p.tiles.items (above_zero w sound) map.thick (inside w sound) (record { identities = sound.identities })
+      (subst (λ (n : Tiling). AreFreshTiles n xs p.tiles.items) of_map ready.tiles)
+
+  pub begun_is : seen scales e b p ≡ world_of (grid_of m) scales kinds e b xs
+  begun_is = λ i. world_of (grid_of (of_map i)) scales (of_kinds i) e b (list_is i)
+
+  pub kept : IsKept scales e b p
+  kept = record {
+    sound = subst IsSound (sym begun_is) sound;
+    plasma = subst (λ (ys : List Particle). IsPlasma ys p) (sym list_is) ready;
+  }
+
+-- the census of the tiles of a state
+module _ (scales : Scales) (e b : Field) (p : Plasma) (map : IsMap p.frame.map) (keeps : IsKept scales e b p) where
+  same : Same (together (chains_of p.tiles.items)) (particles_of p.tiles.items)
+  same =
+      let w = seen scales e b p in
+      let held = fresh_hold p.frame.map w.particles p.tiles.items (above_zero w keeps.sound) map.thick (inside w keeps.sound) keeps.plasma.tiles in
+      held.same
+
+  census : IsCensus (together (chains_of p.tiles.items))
+  census =
+      let xs = particles_of p.tiles.items in
+      let all = together (chains_of p.tiles.items) in
+      same_census xs all (same_sym all xs same) (ordered_census xs (record { identities = keeps.sound.identities }))
+
+  -- so they can be written into a list of as many, and make the list of the state
+  pub can_write : (n : ℕ) → n ≡ length (particles_of p.tiles.items) → All (λ x. x.id < n) (together (chains_of p.tiles.items))
+  can_write n is =
+      let all = together (chains_of p.tiles.items) in
+      subst (λ (k : ℕ). All (λ x. x.id < k) all) (same_length all (particles_of p.tiles.items) same ∙ sym is) (ids_below all census)
+
+  pub written_is : (to : List Particle) → length to ≡ length (particles_of p.tiles.items) → written (together (chains_of p.tiles.items)) to ≡ particles_of p.tiles.items
+  written_is to long =
+      let all = together (chains_of p.tiles.items) in
+      written_all all to census (long ∙ sym (same_length all (particles_of p.tiles.items) same))
+
+-- a state's fields and particles can be pushed, B after its first half step
+pub can_push : (scales : Scales) (e b c : Field) (p : Plasma) → IsKept scales e b p → IsSafe p.frame.map.side (cells_of p.frame.map) scales.b_force c → CanPush scales e c p
+can_push scales e b c p keeps safe =
+    let w = seen scales e b p in
+    record {
+      side = above_zero w keeps.sound;
+      safe_e = keeps.sound.e;
+      safe_b = safe;
+      plasma = keeps.plasma;
+      opening = record {
+        fresh = keeps.plasma.tiles;
+        ordered = record { identities = keeps.sound.identities };
+        can = keeps.sound.places;
+        few = keeps.sound.few;
+      };
+    }
+
+-- the state of the parts that a step leaves
+pub next_is : (scales : Scales) (e b e' b' : Field) (p q : Plasma) → q.frame.map ≡ p.frame.map → q.frame.kinds ≡ p.frame.kinds
+    → record (seen scales e b p) { e = e'; b = b'; particles = particles_of q.tiles.items } ≡ seen scales e' b' q
+next_is scales e b e' b' p q map kinds = λ i. world_of (grid_of (sym map i)) scales (sym kinds i) e' b' (particles_of q.tiles.items)

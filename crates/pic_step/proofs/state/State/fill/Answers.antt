@@ -1,0 +1,42 @@
+use Rattle.std.proofs.Common.{◌≡◌, ◌<◌, List, length, All, sym, ap, ◌∙◌, subst}
+use Rattle.std.proofs.lemmas.List.{with_items_is}
+use Rattle.pic_orders.specs.InOrder.{written}
+use Rattle.pic_orders.specs.Totals.{together}
+use Rattle.pic_orders.proofs.InOrderLaws.{length-written}
+use Rattle.pic_tile.specs.CoreState.{particles_of}
+use Rattle.pic_tile.specs.Held.{chains_of}
+use Rattle.pic_tile.specs.Tile.{TileValue}
+use Rattle.pic_tile.specs.Tiling.{IsMap}
+use Rattle.pic_step.specs.SerialStep.{World}
+use Rattle.pic_step.proofs.KeptLaws.{can_write, written_is}
+use Rattle.pic_step.proofs.state.State.fill.Goals as goal
+use Rattle.pic_step.proofs.state.State.fill.Goals.{After-deref_mut, After-tiles-tiles}
+
+-- the map of the state's tiles
+of_map : (c : After-tiles-tiles) → IsMap c.self.inside.plasma.frame.map
+of_map c = subst IsMap c.map-map.ensures.value c.tiles-tiles.ensures.limits
+
+-- the list has as many particles
+as_many : (c : After-deref_mut) → length c.deref_mut.result.now ≡ length (particles_of c.self.inside.plasma.tiles.items)
+as_many c = ap length c.deref_mut.ensures.value ∙ c.requires.count ∙ ap (λ (w : World). length w.particles) (sym c.self.view_is)
+
+pub write_tiles-requires : goal.write_tiles-requires
+write_tiles-requires c =
+    let k = c.self.inside in
+    let at = goal.at.write_tiles-requires c in
+    let n = length c.deref_mut.result.now in
+    subst (λ (ts : List TileValue). All (λ x. x.id < n) (together (chains_of ts))) (sym c.deref.ensures.value)
+    (can_write k.scales k.e k.b k.plasma (of_map at.After-tiles-tiles) c.self.invariant n (as_many at.After-deref_mut))
+
+pub returns-clause-particles : goal.returns-clause-particles
+returns-clause-particles c =
+    let k = c.self.inside in
+    let at = goal.at.returns-clause-particles c in
+    let old = c.deref_mut.result.now in
+    let new = c.write_tiles.new.to in
+    let long : length new ≡ length old = ap length c.write_tiles.ensures ∙ length-written (together (chains_of c.deref.result.now)) old in
+    with_items_is c.args.to.now.particles new (long ∙ c.deref_mut.ensures.len)
+    ∙ c.write_tiles.ensures
+    ∙ ap (λ (ts : List TileValue). written (together (chains_of ts)) old) c.deref.ensures.value
+    ∙ written_is k.scales k.e k.b k.plasma (of_map at.After-tiles-tiles) c.self.invariant old (as_many at.After-deref_mut)
+    ∙ ap (λ (w : World). w.particles) c.self.view_is

@@ -1,0 +1,8 @@
+-- The state that a run begins in.
+use Rattle.pic_tile.specs.Tiling.{grid_of}
+use Rattle.pic_step.specs.declared.start.Start.{Start}
+use Rattle.pic_step.specs.SerialStep.{World, world_of}
+
+-- the state that stands in what a run begins with
+abbrev pub begun : Start → World
+begun s = world_of (grid_of s.map) s.scales s.kinds.items s.e s.b s.particles.items
