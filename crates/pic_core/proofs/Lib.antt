@@ -1,0 +1,15 @@
+pub mod SlotLaws
+pub mod ClaimLaws
+pub mod PostLaws
+pub mod MergeLaws
+pub mod WeightLaws
+pub mod CensusLaws
+pub mod StandLaws
+pub mod OpenLaws
+pub mod EndLaws
+pub mod MadeLaws
+pub mod RunLaws
+pub mod StartLaws
+pub mod TurnLaws
+pub mod AtLaws
+pub mod WorkerLaws

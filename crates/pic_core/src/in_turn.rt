@@ -1,0 +1,122 @@
+//! All events of a push of all tiles, as one worker lets them come.
+
+ghost use Rattle.std.specs.Prelude.{◌≡◌, ◌+◌, ◌*◌, ◌<◌, false};
+ghost use Rattle.pic_tile.specs.CoreState.{AreAllShut, Stands, count_in, slot_of};
+ghost use Rattle.pic_tile.specs.Directions.{directions};
+ghost use Rattle.pic_tile.specs.Tiling.{neighbour_of};
+ghost use Rattle.pic_core.specs.Events.{Allowed, Applied, Ran};
+ghost use Rattle.pic_core.specs.InTurn.{IsAt, IsFinishing, finishing, in_turn, merging};
+ghost use Rattle.pic_core.specs.InTurn.{merging_at, posting, tiling, up_to};
+ghost use Rattle.pic_core.specs.Opened.{HasNotBegun};
+
+use crate::allowed::are_all_marked;
+use crate::event::Event;
+use crate::state::Core;
+use pic_tile::Dir;
+
+impl Core {
+    /// Lets an event come that is allowed.
+    fn must(&mut self, event: Event)
+        requires { Allowed self.old event }
+        ensures applied { Applied self.old event self.new }
+        ensures stood { Stands self.old }
+        ensures stands { Stands self.new }
+    {
+        self.stands();
+        match self.apply(event) {
+            Ok(()) => {}
+            Err(_) => unreachable!(),
+        }
+    }
+
+    /// Merges the parcel of the next direction into the tile to which a tile has posted; that of no
+    /// step is merged.
+    fn merge_next(&mut self, tile: u32, dir: Dir, number: u32)
+        requires tile { tile < count_in self.old }
+        requires dir { dir < directions }
+        requires number { number < directions }
+        requires at { IsFinishing tile dir (up_to number) self.old }
+        ensures at { IsFinishing tile dir (up_to (number + 1)) self.new }
+        ensures ran { Ran self.old
+            (merging_at (neighbour_of self.old.frame.map.tiles tile dir) number) self.new }
+    {
+        if number == 13 {
+            return;
+        }
+        let to = self.frame.map().neighbour(tile, dir);
+        self.must(Event::Merge(to, Dir::of(number)));
+    }
+
+    /// Merges the parcels of all directions but that of no step, which is merged, into the tile to
+    /// which a tile has posted.
+    fn merge_others(&mut self, tile: u32, dir: Dir)
+        requires tile { tile < count_in self.old }
+        requires dir { dir < directions }
+        requires at { IsFinishing tile dir (up_to 0) self.old }
+        ensures at { IsFinishing tile dir (up_to directions) self.new }
+        ensures ran { Ran self.old
+            (merging (neighbour_of self.old.frame.map.tiles tile dir) directions) self.new }
+        ensures stands { Stands self.new }
+    {
+        for number in 0..Dir::COUNT {
+            self.merge_next(tile, dir, number);
+        }
+        self.stands();
+    }
+
+    /// Merges all parcels into the tile to which a tile has posted, and shuts it.
+    fn finish_tile(&mut self, tile: u32, dir: Dir)
+        requires tile { tile < count_in self.old }
+        requires dir { dir < directions }
+        requires at { IsFinishing tile dir (λ _. false) self.old }
+        ensures at { IsAt (tile + 1) (slot_of tile dir + 1) (slot_of tile dir + 1) self.new }
+        ensures ran { Ran self.old
+            (finishing (neighbour_of self.old.frame.map.tiles tile dir)) self.new }
+    {
+        let to = self.frame.map().neighbour(tile, dir);
+        self.must(Event::Merge(to, Dir::HERE));
+        self.merge_others(tile, dir);
+        self.must(Event::Shut(to));
+    }
+
+    /// Posts the next parcel, and finishes its tile where it is the last that leads there.
+    fn post_next(&mut self, tile: u32, dir: Dir)
+        requires tile { tile < count_in self.old }
+        requires dir { dir < directions }
+        requires at { IsAt (tile + 1) (slot_of tile dir) (slot_of tile dir) self.old }
+        ensures at { IsAt (tile + 1) (slot_of tile dir + 1) (slot_of tile dir + 1) self.new }
+        ensures ran { Ran self.old (posting self.old.frame.map tile dir) self.new }
+    {
+        let to = self.frame.map().neighbour(tile, dir);
+        self.must(Event::Post(tile, dir));
+        if are_all_marked(&self.posted, to) {
+            self.finish_tile(tile, dir);
+        }
+    }
+
+    /// Claims the next tile and posts its parcels.
+    fn run_tile(&mut self, tile: u32)
+        requires tile { tile < count_in self.old }
+        requires at { IsAt tile (tile * directions) (tile * directions) self.old }
+        ensures at { IsAt (tile + 1) ((tile + 1) * directions) ((tile + 1) * directions) self.new }
+        ensures ran { Ran self.old (tiling self.old.frame.map tile) self.new }
+    {
+        self.must(Event::Claim(tile));
+        for number in 0..Dir::COUNT {
+            self.post_next(tile, Dir::of(number));
+        }
+    }
+
+    /// Lets all events come from the first on, as one worker does: tile by tile it claims and posts
+    /// the parcels by direction, and as soon as all that lead to a tile are posted it merges them,
+    /// that of no step first, and shuts the tile. It takes no memory.
+    pub fn run_in_turn(&mut self)
+        requires { HasNotBegun self.old }
+        ensures ran { Ran self.old (in_turn self.old.frame.map) self.new }
+        ensures finished { AreAllShut self.new }
+    {
+        for tile in 0..self.count() {
+            self.run_tile(tile);
+        }
+    }
+}

@@ -1,0 +1,16 @@
+//! The push of all tiles as a pure machine: its state, and the events that change it, in any order.
+#![tactic(auto)]
+
+mod allowed;
+mod ending;
+mod event;
+mod in_turn;
+mod opening;
+mod performing;
+mod running;
+mod state;
+#[cfg(test)]
+mod tests;
+
+pub use event::{Event, NotAllowed};
+pub use state::Core;

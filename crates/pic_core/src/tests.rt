@@ -1,0 +1,188 @@
+//! An electron that leaves its tile, under events in several orders.
+
+ghost use Rattle.std.specs.Prelude.{◌≡◌, ◌<◌, IfOk, length};
+ghost use Rattle.pic_tile.specs.Frame.{IsForceField};
+ghost use Rattle.pic_tile.specs.Tiling.{cells_of};
+ghost use Rattle.pic_core.specs.Opened.{HasNotBegun};
+
+use crate::opening::frame_is_sound;
+use crate::{Core, Event};
+use pic_grid::{Cells, Lattice};
+use pic_num::{Axis, Kind, Mult, NoMemory, Particle, Sub};
+use pic_tile::{Dir, Frame, Kinds, Tile, TileMap, cut};
+use std::alloc::Global;
+
+// [4, 4, 4] cells of 4096 sub-cells, in eight tiles
+fn eight_tiles() -> TileMap
+    ensures side { result.side ≡ 4096 }
+    ensures cells { cells_of result ≡ record { x = 4; y = 4; z = 4 } }
+{
+    TileMap::new(Cells::new([4; 3], Sub::of_bits(12)), [2; 3])
+}
+
+// a lattice of force values on these cells
+#[tactic(auto, using(pic_grid::proofs::SmallLaws::each_zeros))]
+fn forces(alloc: Global, cells: Cells) -> Result<Lattice, NoMemory>
+    ensures force { IfOk result (IsForceField cells) }
+    ensures parts { IfOk result (λ f. f.parts ≡ record { x = 1; y = 1; z = 1 }) }
+{
+    let [_, _, _] = cells.numbers();
+    Lattice::new(alloc, cells, [1; 3])
+}
+
+// electrons that feel nothing
+fn free(alloc: Global, map: TileMap) -> Result<Frame, NoMemory>
+    ensures map { IfOk result (λ f. f.map ≡ map) }
+    ensures kinds { IfOk result (λ f. 0 < length f.kinds) }
+{
+    let still = Mult::new(0, 0);
+    let mut kinds = Vec::new(alloc);
+    kinds.push(Kind {
+        charge: -1,
+        mass: 1,
+        kick: still,
+        turn: still,
+    })?;
+    let force_e = forces(alloc, map.cells())?;
+    let force_b = forces(alloc, map.cells())?;
+    Ok(Frame::new(map, Kinds::from_vec(kinds), force_e, force_b))
+}
+
+// an electron at (100, 0, 0) that moves by (-200, 0, 0)
+#[tactic(auto, using(pic_tile::proofs::OwnerLaws::one_in_box))]
+fn begin(alloc: Global) -> Result<Core, NoMemory>
+    ensures { IfOk result HasNotBegun }
+{
+    let electron = Particle {
+        id: 0,
+        species: 0,
+        x: [100, 0, 0],
+        v: [-819200, 0, 0],
+    };
+    let map = eight_tiles();
+    let frame = free(alloc, map)?;
+    let tiles = cut(alloc, &map, &[electron])?;
+    frame_is_sound(&frame);
+    Core::new(alloc, frame, tiles)
+}
+
+// claims all tiles
+fn claim_all(core: &mut Core, descending: bool) {
+    for k in 0..8 {
+        let tile = if descending { 7 - k } else { k };
+        let _answer = core.apply(Event::Claim(tile));
+    }
+}
+
+// posts all parcels, those of one direction first
+fn post_all(core: &mut Core, first: u32) {
+    for k in 0..216 {
+        let dir = Dir::of((k / 8 + first % 27) % 27);
+        let _answer = core.apply(Event::Post(k % 8, dir));
+    }
+}
+
+// merges all parcels, those of no step first
+fn merge_all(core: &mut Core) {
+    for k in 0..216 {
+        let dir = Dir::of((k / 8 + 13) % 27);
+        let _answer = core.apply(Event::Merge(k % 8, dir));
+    }
+}
+
+fn shut_all(core: &mut Core) {
+    for tile in 0..8 {
+        let _answer = core.apply(Event::Shut(tile));
+    }
+}
+
+// the tiles after 448 events
+fn run(alloc: Global, descending: bool, first: u32) -> Result<Vec<Tile>, NoMemory> {
+    let mut core = begin(alloc)?;
+    claim_all(&mut core, descending);
+    post_all(&mut core, first);
+    merge_all(&mut core);
+    shut_all(&mut core);
+    if !core.finished() {
+        return Ok(Vec::new(alloc));
+    }
+    let (_, tiles) = core.close();
+    Ok(tiles)
+}
+
+// the tiles when one worker has let all events come
+fn run_in_turn(alloc: Global) -> Result<Vec<Tile>, NoMemory> {
+    let mut core = begin(alloc)?;
+    core.run_in_turn();
+    let (_, tiles) = core.close();
+    Ok(tiles)
+}
+
+// the position of a tile's first particle
+fn first_of(tiles: &[Tile], number: usize) -> Option<[u32; 3]> {
+    let parcel = tiles.get(number)?.parcel(Dir::HERE)?;
+    parcel.chain.iter().next().map(|electron| electron.x)
+}
+
+// the current of a tile through the edge on x of a cell
+fn current_of(tiles: &[Tile], number: usize, cell: [i32; 3]) -> Option<i128> {
+    let parcel = tiles.get(number)?.parcel(Dir::HERE)?;
+    if !parcel.flux.has(cell) {
+        return None;
+    }
+    Some(parcel.flux.at(Axis::X, cell))
+}
+
+#[test]
+fn each_order_ends_alike(rt: HostRuntime) -> Result<(), NoMemory> {
+    for (descending, first) in [(false, 0), (true, 0), (false, 26)] {
+        let tiles = run(rt.alloc(), descending, first)?;
+        assert_eq!(rt; tiles.len(), 8);
+        assert_eq!(rt; first_of(&tiles, 0), None);
+        assert_eq!(rt; first_of(&tiles, 1), Some([16284, 0, 0]));
+        assert_eq!(rt; current_of(&tiles, 0, [0, 0, 0]), Some(20132659200));
+        assert_eq!(rt; current_of(&tiles, 1, [3, 0, 0]), Some(20132659200));
+        assert_eq!(rt; current_of(&tiles, 1, [2, 0, 0]), Some(0));
+    }
+    Ok(())
+}
+
+#[test]
+fn one_worker_ends_alike(rt: HostRuntime) -> Result<(), NoMemory> {
+    let tiles = run_in_turn(rt.alloc())?;
+    assert_eq!(rt; first_of(&tiles, 0), None);
+    assert_eq!(rt; first_of(&tiles, 1), Some([16284, 0, 0]));
+    assert_eq!(rt; current_of(&tiles, 0, [0, 0, 0]), Some(20132659200));
+    assert_eq!(rt; current_of(&tiles, 1, [3, 0, 0]), Some(20132659200));
+    Ok(())
+}
+
+#[test]
+fn an_event_out_of_turn_is_not_allowed(rt: HostRuntime) -> Result<(), NoMemory> {
+    let mut core = begin(rt.alloc())?;
+    assert!(rt; core.apply(Event::Post(0, Dir::HERE)).is_err());
+    assert!(rt; core.apply(Event::Claim(0)).is_ok());
+    assert!(rt; core.apply(Event::Claim(0)).is_err());
+    assert!(rt; core.apply(Event::Merge(0, Dir::HERE)).is_err());
+    assert!(rt; core.apply(Event::Shut(0)).is_err());
+    assert!(rt; core.apply(Event::Post(0, Dir::HERE)).is_ok());
+    assert!(rt; !core.finished());
+    Ok(())
+}
+
+#[test]
+fn a_run_stops_at_the_first_that_is_not_allowed(rt: HostRuntime) -> Result<(), NoMemory> {
+    let mut core = begin(rt.alloc())?;
+    let events = [
+        Event::Claim(0),
+        Event::Claim(1),
+        Event::Claim(2),
+        Event::Claim(3),
+        Event::Claim(4),
+        Event::Claim(0),
+    ];
+    assert_eq!(rt; core.run_events(&events), Err((5, Event::Claim(0))));
+    let next = [Event::Claim(7), Event::Claim(4)];
+    assert_eq!(rt; core.run_events(&next), Err((1, Event::Claim(4))));
+    Ok(())
+}
