@@ -1,0 +1,177 @@
+-- The numbers of the seats where a seat is made of one number of another, and where one takes in
+-- another.
+use Rattle.std.proofs.Common.{◌≡◌, ℕ, max, ◌<◌, ◌≤◌, ◌⊎◌, List, [], ◌∷◌, ◌++◌, length, Bool, true, eqb, eq-eqb, ne_eqb, if◌then◌else◌, set, inl, inr, refl}
+use Rattle.std.proofs.Common.{sym, ap, ◌∙◌, subst, arith, true≢false}
+use Rattle.std.proofs.lemmas.Bool.{eqb-false}
+use mathlib.Core.Option.{some}
+use lib.ListN.{get_elem?}
+use Rattle.pic_yard.specs.declared.view.View.{View}
+use Rattle.pic_yard.specs.Members.{In, at_else}
+use Rattle.pic_yard.specs.Steps.{gave_number, newcomer, took_in, spent}
+use Rattle.pic_yard.specs.Tickets.{HasNumbers, Tickets}
+use Rattle.pic_yard.proofs.CountLaws.{at_here, at_other}
+use Rattle.pic_yard.proofs.MemberLaws.{was_in, unseen_in, in_parts}
+use Rattle.pic_yard.proofs.ViewLaws.{each_view, at_end}
+
+-- the numbers of the seat i are kept by j from now on
+abbrev handed : ℕ → ℕ → (ℕ → ℕ) → ℕ → ℕ
+handed i j keeper x = if eqb (keeper x) i then j else keeper x
+
+handed_to : (i j : ℕ) (keeper : ℕ → ℕ) (x : ℕ) → keeper x ≡ i → handed i j keeper x ≡ j
+handed_to i j keeper x is = ap (λ (b : Bool). if b then j else keeper x) (eq-eqb (keeper x) i is)
+
+handed_not : (i j : ℕ) (keeper : ℕ → ℕ) (x k : ℕ) → keeper x ≡ k → (k ≡ i → ⊥) → handed i j keeper x ≡ k
+handed_not i j keeper x k is apart = ap (λ (b : Bool). if b then j else keeper x) (ne_eqb (keeper x) i (λ e. apart (sym is ∙ e))) ∙ is
+
+max_left : (a b : ℕ) → a ≤ max a b
+max_left a b = omega arith
+
+max_most : (a b n : ℕ) → a ≤ n → b ≤ n → max a b ≤ n
+max_most a b n first second = omega (arith, first, second)
+
+module _ (tiles seats ticket : ℕ) (views : List View) (t : Tickets tiles seats ticket views) (j : ℕ) (v : View)
+    (there : get_elem? views j ≡ some v) (live : v.live ≡ true) where
+  abbrev Numbers : (ℕ → ℕ) → ℕ → View → Type 0
+  Numbers keeper i x = HasNumbers tiles seats ticket keeper t.told i x
+
+  -- a new seat of the number x
+  pub number_given : (x : ℕ) → In x v.unmade → Tickets tiles seats ticket (set views j (gave_number x v) ++ newcomer v x ∷ [])
+  number_given x is =
+      let n : ℕ = length (set views j (gave_number x v)) in
+      let h = t.each j v there live in
+      let keeper : ℕ → ℕ = at_else x n t.keeper in
+      let other : (y : ℕ) → (y ≡ x → ⊥) → keeper y ≡ t.keeper y = λ y apart. at_other x y n t.keeper apart in
+      let old : (i : ℕ) (u : View) → get_elem? (set views j (gave_number x v)) i ≡ some u → u.live ≡ true → Numbers keeper i u =
+      each_view (Numbers keeper) views j (gave_number x v)
+      (λ lives. record {
+        own = h.own;
+        own_kept = other v.number (λ e. h.made (subst (λ (k : ℕ). In k v.unmade) (sym e) is)) ∙ h.own_kept;
+        own_told = h.own_told;
+        taken = h.taken;
+        taken_kept = λ y had. other y (λ e. true≢false (sym (h.taken_told y had) ∙ ap t.told e ∙ h.unmade_told x is)) ∙ h.taken_kept y had;
+        taken_told = h.taken_told;
+        unmade = λ y had. h.unmade y (was_in (eqb x) y v.unmade had);
+        unmade_kept = λ y had. other y (λ e. eqb-false x y (unseen_in (eqb x) y v.unmade had) (sym e)) ∙ h.unmade_kept y (was_in (eqb x) y v.unmade had);
+        unmade_told = λ y had. h.unmade_told y (was_in (eqb x) y v.unmade had);
+        made = λ had. h.made (was_in (eqb x) v.number v.unmade had);
+        drawn = h.drawn;
+        past = h.past;
+      })
+      (λ i u apart at lives. let g = t.each i u at lives in
+      let differs : (k : ℕ) → t.keeper k ≡ i → k ≡ x → ⊥ = λ k kept e. apart (sym kept ∙ ap t.keeper e ∙ h.unmade_kept x is) in
+      record {
+        own = g.own;
+        own_kept = other u.number (differs u.number g.own_kept) ∙ g.own_kept;
+        own_told = g.own_told;
+        taken = g.taken;
+        taken_kept = λ y had. other y (differs y (g.taken_kept y had)) ∙ g.taken_kept y had;
+        taken_told = g.taken_told;
+        unmade = g.unmade;
+        unmade_kept = λ y had. other y (differs y (g.unmade_kept y had)) ∙ g.unmade_kept y had;
+        unmade_told = g.unmade_told;
+        made = g.made;
+        drawn = g.drawn;
+        past = g.past;
+      }) in
+      let new : Numbers keeper n (newcomer v x) = record {
+        own = h.unmade x is;
+        own_kept = at_here x x n t.keeper refl;
+        own_told = h.unmade_told x is;
+        taken = λ y had. elim had [ ];
+        taken_kept = λ y had. elim had [ ];
+        taken_told = λ y had. elim had [ ];
+        unmade = λ y had. elim had [ ];
+        unmade_kept = λ y had. elim had [ ];
+        unmade_told = λ y had. elim had [ ];
+        made = λ had. had;
+        drawn = omega arith;
+        past = λ told. absurd (true≢false (sym told));
+      } in
+      record {
+        keeper = keeper;
+        told = t.told;
+        bound = t.bound;
+        each = λ i u at lives.
+            let split : (get_elem? (set views j (gave_number x v)) i ≡ some u) ⊎ ((i ≡ n) × (newcomer v x ≡ u)) = at_end (set views j (gave_number x v))
+            (newcomer v x) i u at in
+            elim split [
+              | inl before ↦ old i u before lives
+              | inr last ↦ subst (λ (k : ℕ). Numbers keeper k u) (sym last.0) (subst (λ (w : View). Numbers keeper n w) last.1 new)
+            ];
+      }
+
+  -- a seat that was told that no tile is left is taken in
+  pub seat_taken : (i : ℕ) (u : View) → (i ≡ j → ⊥) → get_elem? views i ≡ some u → u.live ≡ true → u.told ≡ true
+      → Tickets tiles seats ticket (set (set views j (took_in v u)) i spent)
+  seat_taken i u apart at lives over =
+      let h = t.each j v there live in let g = t.each i u at lives in
+      let keeper : ℕ → ℕ = handed i j t.keeper in
+      let stays : (x : ℕ) → t.keeper x ≡ j → keeper x ≡ j = λ x is. handed_not i j t.keeper x j is (λ e. apart (sym e)) in
+      let comes : (x : ℕ) → t.keeper x ≡ i → keeper x ≡ j = λ x is. handed_to i j t.keeper x is in
+      let mine : Numbers keeper j (took_in v u) = record {
+        own = h.own;
+        own_kept = stays v.number h.own_kept;
+        own_told = h.own_told;
+        taken = λ x had. elim had [
+          | inl is ↦ subst (λ (k : ℕ). k < seats) (sym is) g.own
+          | inr more ↦ elim (in_parts x v.taken u.taken more) [ inl a ↦ h.taken x a | inr b ↦ g.taken x b ]
+        ];
+        taken_kept = λ x had. elim had [
+          | inl is ↦ comes x (ap t.keeper is ∙ g.own_kept)
+          | inr more ↦ elim (in_parts x v.taken u.taken more) [ inl a ↦ stays x (h.taken_kept x a) | inr b ↦ comes x (g.taken_kept x b) ]
+        ];
+        taken_told = λ x had. elim had [
+          | inl is ↦ ap t.told is ∙ g.own_told ∙ over
+          | inr more ↦ elim (in_parts x v.taken u.taken more) [ inl a ↦ h.taken_told x a | inr b ↦ g.taken_told x b ]
+        ];
+        unmade = λ x had. elim (in_parts x v.unmade u.unmade had) [ inl a ↦ h.unmade x a | inr b ↦ g.unmade x b ];
+        unmade_kept = λ x had. elim (in_parts x v.unmade u.unmade had) [ inl a ↦ stays x (h.unmade_kept x a) | inr b ↦ comes x (g.unmade_kept x b) ];
+        unmade_told = λ x had. elim (in_parts x v.unmade u.unmade had) [ inl a ↦ h.unmade_told x a | inr b ↦ g.unmade_told x b ];
+        made = λ had. elim (in_parts v.number v.unmade u.unmade had) [
+          | inl a ↦ h.made a
+          | inr b ↦ apart (sym (g.unmade_kept v.number b) ∙ h.own_kept)
+        ];
+        drawn = max_most v.drawn u.drawn ticket h.drawn g.drawn;
+        past = λ told. let a : tiles < v.drawn = h.past told in let b : v.drawn ≤ max v.drawn u.drawn = max_left v.drawn u.drawn in omega (arith, a, b);
+      } in
+      record {
+        keeper = keeper;
+        told = t.told;
+        bound = t.bound;
+        each = each_view (Numbers keeper) (set views j (took_in v u)) i spent
+            (λ alive. absurd (true≢false (sym alive)))
+            (λ k x differs at' alive. each_view (λ (l : ℕ) (y : View). (l ≡ i → ⊥) → Numbers keeper l y) views j (took_in v u)
+            (λ yes_live not. mine)
+            (λ l y ne there' alive' not. let f = t.each l y there' alive' in
+            let same : (z : ℕ) → t.keeper z ≡ l → keeper z ≡ l = λ z is. handed_not i j t.keeper z l is not in
+            record {
+              own = f.own;
+              own_kept = same y.number f.own_kept;
+              own_told = f.own_told;
+              taken = f.taken;
+              taken_kept = λ z had. same z (f.taken_kept z had);
+              taken_told = f.taken_told;
+              unmade = f.unmade;
+              unmade_kept = λ z had. same z (f.unmade_kept z had);
+              unmade_told = f.unmade_told;
+              made = f.made;
+              drawn = f.drawn;
+              past = f.past;
+            })
+            k x at' alive differs);
+      }
+
+  -- Where a seat was told that no tile is left, and all numbers are its own or taken in, the ticket
+  -- is past the last tile, and no other view is live.
+  pub all_taken : v.told ≡ true → ((x : ℕ) → x < seats → (x ≡ v.number) ⊎ In x v.taken)
+      → (tiles < ticket) × ((i : ℕ) (u : View) → get_elem? views i ≡ some u → u.live ≡ true → i ≡ j)
+  all_taken told all =
+      let h = t.each j v there live in
+      let a : tiles < v.drawn = h.past told in let b : v.drawn ≤ ticket = h.drawn in (
+        omega (arith, a, b),
+        λ i u at lives. let g = t.each i u at lives in
+            elim (all u.number g.own) [
+              | inl is ↦ sym g.own_kept ∙ ap t.keeper is ∙ h.own_kept
+              | inr had ↦ sym g.own_kept ∙ h.taken_kept u.number had
+            ],
+      )

@@ -1,0 +1,127 @@
+-- The ticket and the numbers of the seats through a draw.
+use Rattle.std.proofs.Common.{◌≡◌, ℕ, suc, ◌+◌, ◌<◌, ◌≤◌, List, Bool, true, false, set, refl, sym, ap, ◌∙◌, subst, arith}
+use mathlib.Core.Option.{some}
+use lib.ListN.{get_elem?}
+use Rattle.pic_yard.specs.declared.view.View.{View}
+use Rattle.pic_yard.specs.Members.{In, count_below, at_else}
+use Rattle.pic_yard.specs.Steps.{now_has}
+use Rattle.pic_yard.specs.Tickets.{HasNumbers, Tickets}
+use Rattle.pic_yard.proofs.ViewLaws.{each_view}
+use Rattle.pic_yard.proofs.CountLaws.{at_here, at_other, stays_true, count_more}
+
+module _ (tiles seats ticket : ℕ) (views : List View) (t : Tickets tiles seats ticket views) (j : ℕ) (v : View)
+    (there : get_elem? views j ≡ some v) (live : v.live ≡ true) (owes : List (ℕ × ℕ)) (rights : List ℕ) where
+  abbrev Numbers : (ℕ → Bool) → ℕ → View → Type 0
+  Numbers told i x = HasNumbers tiles seats (suc ticket) t.keeper told i x
+
+  -- a draw of a tile's number
+  pub draw_claims : ticket < tiles → Tickets tiles seats (suc ticket) (set views j (now_has v (suc ticket) v.told owes rights))
+  draw_claims below =
+      let h = t.each j v there live in
+      record {
+        keeper = t.keeper;
+        told = t.told;
+        bound = omega (arith, below);
+        each = each_view (Numbers t.told) views j (now_has v (suc ticket) v.told owes rights)
+            (λ lives. record {
+              own = h.own;
+              own_kept = h.own_kept;
+              own_told = h.own_told;
+              taken = h.taken;
+              taken_kept = h.taken_kept;
+              taken_told = h.taken_told;
+              unmade = h.unmade;
+              unmade_kept = h.unmade_kept;
+              unmade_told = h.unmade_told;
+              made = h.made;
+              drawn = omega arith;
+              past = λ told. let a : tiles < v.drawn = h.past told in let b : v.drawn ≤ ticket = h.drawn in omega arith;
+            })
+            (λ i x apart at lives. let g = t.each i x at lives in record {
+              own = g.own;
+              own_kept = g.own_kept;
+              own_told = g.own_told;
+              taken = g.taken;
+              taken_kept = g.taken_kept;
+              taken_told = g.taken_told;
+              unmade = g.unmade;
+              unmade_kept = g.unmade_kept;
+              unmade_told = g.unmade_told;
+              made = g.made;
+              drawn = let b : x.drawn ≤ ticket = g.drawn in omega arith;
+              past = g.past;
+            });
+      }
+
+  -- a draw past the last tile, of a seat that was not told so before
+  pub draw_tells : tiles ≤ ticket → v.told ≡ false → Tickets tiles seats (suc ticket) (set views j (now_has v (suc ticket) true owes rights))
+  draw_tells past before =
+      let h = t.each j v there live in
+      let told : ℕ → Bool = at_else v.number true t.told in
+      let more : count_below told seats ≡ suc (count_below t.told seats) = count_more t.told v.number seats h.own (h.own_told ∙ before) in
+      let most : ticket ≤ tiles + count_below t.told seats = t.bound in
+      let other : (x : ℕ) → (x ≡ v.number → ⊥) → told x ≡ t.told x = λ x apart. at_other v.number x true t.told apart in
+      record {
+        keeper = t.keeper;
+        told = told;
+        bound = omega arith;
+        each = each_view (Numbers told) views j (now_has v (suc ticket) true owes rights)
+            (λ lives. record {
+              own = h.own;
+              own_kept = h.own_kept;
+              own_told = at_here v.number v.number true t.told refl;
+              taken = h.taken;
+              taken_kept = h.taken_kept;
+              taken_told = λ x is. stays_true v.number x t.told (h.taken_told x is);
+              unmade = h.unmade;
+              unmade_kept = h.unmade_kept;
+              unmade_told = λ x is. other x (λ e. h.made (subst (λ (k : ℕ). In k v.unmade) e is)) ∙ h.unmade_told x is;
+              made = h.made;
+              drawn = omega arith;
+              past = λ is. omega (arith, past);
+            })
+            (λ i x apart at lives. let g = t.each i x at lives in
+            let differs : (k : ℕ) → t.keeper k ≡ i → k ≡ v.number → ⊥ = λ k is e. apart (sym is ∙ ap t.keeper e ∙ h.own_kept) in
+            record {
+              own = g.own;
+              own_kept = g.own_kept;
+              own_told = other x.number (differs x.number g.own_kept) ∙ g.own_told;
+              taken = g.taken;
+              taken_kept = g.taken_kept;
+              taken_told = λ k is. stays_true v.number k t.told (g.taken_told k is);
+              unmade = g.unmade;
+              unmade_kept = g.unmade_kept;
+              unmade_told = λ k is. other k (differs k (g.unmade_kept k is)) ∙ g.unmade_told k is;
+              made = g.made;
+              drawn = let b : x.drawn ≤ ticket = g.drawn in omega arith;
+              past = g.past;
+            });
+      }
+
+-- a step that draws no number, and changes only claims and rights
+pub keep_numbers : (tiles seats ticket : ℕ) (views : List View) (t : Tickets tiles seats ticket views) (j : ℕ) (v : View)
+    → get_elem? views j ≡ some v → v.live ≡ true → (owes : List (ℕ × ℕ)) (rights : List ℕ)
+    → Tickets tiles seats ticket (set views j (now_has v v.drawn v.told owes rights))
+keep_numbers tiles seats ticket views t j v there live owes rights =
+    let h = t.each j v there live in
+    record {
+      keeper = t.keeper;
+      told = t.told;
+      bound = t.bound;
+      each = each_view (λ (i : ℕ) (x : View). HasNumbers tiles seats ticket t.keeper t.told i x) views j (now_has v v.drawn v.told owes rights)
+          (λ lives. record {
+            own = h.own;
+            own_kept = h.own_kept;
+            own_told = h.own_told;
+            taken = h.taken;
+            taken_kept = h.taken_kept;
+            taken_told = h.taken_told;
+            unmade = h.unmade;
+            unmade_kept = h.unmade_kept;
+            unmade_told = h.unmade_told;
+            made = h.made;
+            drawn = h.drawn;
+            past = h.past;
+          })
+          (λ i x apart at lives. t.each i x at lives);
+    }

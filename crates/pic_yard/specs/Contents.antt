@@ -1,0 +1,61 @@
+-- What a slot of the board can hold, against what the board began with.
+use Rattle.std.specs.Prelude.{◌≡◌, ℕ, List, true, Option, Some, None}
+use Rattle.pic_num.specs.declared.motion.Particle.{Particle}
+use Rattle.pic_grid.specs.Cells.{count_of}
+use Rattle.pic_tile.specs.declared.parcel.Parcel.{Parcel}
+use Rattle.pic_tile.specs.Directions.{here}
+use Rattle.pic_tile.specs.Frame.{felt_in}
+use Rattle.pic_tile.specs.Layers.{sender_of}
+use Rattle.pic_tile.specs.Parcels as parcels
+use Rattle.pic_tile.specs.Receiving.{IsReceiving}
+use Rattle.pic_tile.specs.Tile.{TileValue, chain_at, tile_in}
+use Rattle.pic_tile.specs.Tiling.{neighbour_of}
+use Rattle.pic_yard.specs.declared.opening.Opening.{Opening}
+use Rattle.pic_yard.specs.declared.piece.Piece.{Piece}
+use Rattle.pic_yard.specs.declared.piece.Piece.TheVariants as piece
+use Rattle.pic_yard.specs.Places.{Kinds}
+
+abbrev pub Slot : Type 0
+Slot = Option Piece
+
+-- how many tiles there are
+abbrev pub tiles_in : Opening → ℕ
+tiles_in o = count_of o.frame.map.tiles
+
+-- the tile to which the parcel of the direction d goes, and the tile from which it comes
+unfoldable pub to_of : Opening → ℕ → ℕ → ℕ
+to_of o t d = neighbour_of o.frame.map.tiles t d
+
+unfoldable pub from_of : Opening → ℕ → ℕ → ℕ
+from_of o r d = sender_of o.frame.map d r
+
+-- the particles with which the tile t begins
+abbrev pub start_at : Opening → ℕ → List Particle
+start_at o t = chain_at (tile_in o.tiles.items t) here
+
+-- the tile t as it was at the start
+abbrev pub tile_at : Opening → ℕ → Slot
+tile_at o t = Some (piece.Tile (tile_in o.tiles.items t))
+
+abbrev pub IsTile : Opening → ℕ → Slot → Type 0
+IsTile o t s = s ≡ tile_at o t
+
+-- the parcel of the direction d that the push of the tile t sends
+pub record IsParcel (o : Opening) (t d : ℕ) (s : Slot) : Type 0 where
+  pub parcel : Parcel
+  pub is : s ≡ Some (piece.Parcel parcel)
+  pub content : parcels.IsParcel (felt_in o.frame) o.frame.map (start_at o t) t d parcel
+
+-- the tile r, into which all parcels that come to it are merged
+pub record IsFinished (o : Opening) (r : ℕ) (s : Slot) : Type 0 where
+  pub tile : TileValue
+  pub is : s ≡ Some (piece.Tile tile)
+  pub content : IsReceiving (felt_in o.frame) o.frame.map (start_at o) (λ d. true) r tile
+
+abbrev pub kinds_of : Opening → Kinds Slot
+kinds_of o = record {
+  IsEmpty = λ s. s ≡ None;
+  IsTile = IsTile o;
+  IsParcel = IsParcel o;
+  IsFinished = IsFinished o;
+}

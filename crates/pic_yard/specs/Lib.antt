@@ -1,0 +1,12 @@
+pub mod Members
+pub mod Tickets
+pub mod Marks
+pub mod Places
+pub mod Contents
+pub mod Rule
+pub mod Steps
+pub mod Acts
+pub mod Sits
+pub mod Arrivals
+pub mod Returns
+pub mod Laws

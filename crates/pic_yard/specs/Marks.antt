@@ -1,0 +1,65 @@
+-- The arrival words, against what the views list. A parcel (r, d) goes to the tile r in the
+-- direction d; `from r d` is the tile that sends it. The tiles below the ticket are claimed.
+use Rattle.std.specs.Prelude.{◌≡◌, ℕ, suc, ◌<◌, List, Bool, true, false, if◌then◌else◌, slice_index}
+use mathlib.Core.Option.{some}
+use lib.ListN.{get_elem?}
+use Rattle.pic_yard.specs.declared.view.View.{View}
+use Rattle.pic_yard.specs.Members.{In, count_below, at_else}
+
+-- the ways between tiles: in each direction another tile or the same, there and back
+pub record AreWays (tiles dirs here : ℕ) (to from : ℕ → ℕ → ℕ) : Type 0 where
+  pub to_below : (t d : ℕ) → t < tiles → d < dirs → to t d < tiles
+  pub from_below : (r d : ℕ) → r < tiles → d < dirs → from r d < tiles
+  pub back : (t d : ℕ) → t < tiles → d < dirs → from (to t d) d ≡ t
+  pub forth : (r d : ℕ) → r < tiles → d < dirs → to (from r d) d ≡ r
+  pub here_below : here < dirs
+  pub stays : (t : ℕ) → t < tiles → to t here ≡ t
+
+-- the view of the seat j is live, and lists something
+pub record Lists (views : List View) (j : ℕ) (What : View → Type 0) : Type 0 where
+  pub view : View
+  pub there : get_elem? views j ≡ some view
+  pub live : view.live ≡ true
+  pub lists : What view
+
+-- the parcel (r, d) is still to be posted by the seat j, which claimed the tile that sends it
+pub record IsOwed (tiles dirs ticket : ℕ) (from : ℕ → ℕ → ℕ) (posted : ℕ → ℕ
+    → Bool) (claimer : ℕ → ℕ) (r d j : ℕ) : Type 0 where
+  pub tile : r < tiles
+  pub dir : d < dirs
+  pub sender : from r d < ticket
+  pub free : posted r d ≡ false
+  pub by : claimer (from r d) ≡ j
+
+-- the seat j may merge what was posted to the tile r
+pub record IsRight (tiles dirs : ℕ) (posted : ℕ → ℕ → Bool) (shut : ℕ → Bool) (finisher : ℕ
+    → ℕ) (r j : ℕ) : Type 0 where
+  pub tile : r < tiles
+  pub all : count_below (posted r) dirs ≡ dirs
+  pub open_yet : shut r ≡ false
+  pub by : finisher r ≡ j
+
+-- The marks of all parcels and tiles. An arrival word counts the parcels posted to its tile; where
+-- the tile is shut it is one more than all. What isn't posted of a claimed tile is owed by the one
+-- seat that claimed it; where all parcels of a tile are posted, one seat has the right to it until
+-- it is shut.
+pub record Marks (tiles dirs ticket : ℕ) (from : ℕ → ℕ → ℕ) (posted : ℕ → ℕ → Bool) (shut : ℕ
+    → Bool) (words : List ℕ) (views : List View) : Type 0 where
+  pub claimer : ℕ → ℕ
+  pub finisher : ℕ → ℕ
+  pub came : (r d : ℕ) → r < tiles → d < dirs → posted r d ≡ true → from r d < ticket
+  pub arrivals : (r : ℕ) → r < tiles
+      → slice_index words (suc r) ≡ (if shut r then suc dirs else count_below (posted r) dirs)
+  pub whole : (r : ℕ) → r < tiles → shut r ≡ true → count_below (posted r) dirs ≡ dirs
+  pub owed : (r d : ℕ) → r < tiles → d < dirs → from r d < ticket → posted r d ≡ false
+      → Lists views (claimer (from r d)) (λ v. In (r, d) v.owes)
+  pub ready : (r : ℕ) → r < tiles → count_below (posted r) dirs ≡ dirs → shut r ≡ false
+      → Lists views (finisher r) (λ v. In r v.rights)
+  pub owes : (j : ℕ) (v : View) → get_elem? views j ≡ some v → v.live ≡ true
+      → (r d : ℕ) → In (r, d) v.owes → IsOwed tiles dirs ticket from posted claimer r d j
+  pub rights : (j : ℕ) (v : View) → get_elem? views j ≡ some v → v.live ≡ true
+      → (r : ℕ) → In r v.rights → IsRight tiles dirs posted shut finisher r j
+
+-- the parcel (r, d) is posted, and those that were before
+abbrev pub posts : (ℕ → ℕ → Bool) → ℕ → ℕ → ℕ → ℕ → Bool
+posts posted r d = at_else r (at_else d true (posted r)) posted

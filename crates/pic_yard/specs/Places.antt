@@ -1,0 +1,58 @@
+-- What lies in the slots that are at home, and which slots are away with a seat. A tile r has a
+-- mailbox `slot r d` for each direction d, and its home slot `slot r dirs`.
+use Rattle.std.specs.Prelude.{◌≡◌, ℕ, suc, ◌+◌, ◌*◌, ◌<◌, ◌≤◌, List, Bool, true, false}
+use mathlib.Core.Option.{Option, none, some}
+use lib.ListN.{get_elem?}
+use Rattle.pic_yard.specs.Members.{count_below}
+
+abbrev pub slot_in : ℕ → ℕ → ℕ → ℕ
+slot_in dirs r k = r * suc dirs + k
+
+-- the slot is at home, and what lies there has P
+pub record IsHome {S : Type 0} (homes : List (Option S)) (slot : ℕ) (P : S → Type 0) : Type 0 where
+  pub value : S
+  pub there : get_elem? homes slot ≡ some (some value)
+  pub is : P value
+
+-- the slot is away
+abbrev pub IsAway : {S : Type 0} → List (Option S) → ℕ → Type 0
+IsAway homes slot = get_elem? homes slot ≡ some none
+
+-- what the values in slots can be: nothing, the tile t as it was, the parcel of the direction d
+-- that the tile t sends, the finished tile r
+pub record Kinds (S : Type 0) : Type 1 where
+  pub IsEmpty : S → Type 0
+  pub IsTile : ℕ → S → Type 0
+  pub IsParcel : ℕ → ℕ → S → Type 0
+  pub IsFinished : ℕ → S → Type 0
+
+-- the slots at home: mailboxes before their sender is claimed and after their receiver is shut, a
+-- posted parcel until the last of its receiver is posted; home slots before the claim, from the
+-- post of no step until the last parcel for the tile is posted, and after the tile is shut
+pub record Places {S : Type 0} (kinds : Kinds S) (tiles dirs here ticket : ℕ) (from : ℕ → ℕ
+    → ℕ) (posted : ℕ → ℕ → Bool) (shut : ℕ → Bool) (homes : List (Option S)) : Type 0 where
+  pub bare : (r d : ℕ) → r < tiles → d < dirs → ticket ≤ from r d
+      → IsHome homes (slot_in dirs r d) kinds.IsEmpty
+  pub full : (r d : ℕ) → r < tiles → d < dirs → posted r d ≡ true
+      → count_below (posted r) dirs < dirs
+      → IsHome homes (slot_in dirs r d) (kinds.IsParcel (from r d) d)
+  pub emptied : (r d : ℕ) → r < tiles → d < dirs → shut r ≡ true
+      → IsHome homes (slot_in dirs r d) kinds.IsEmpty
+  pub opening : (t : ℕ) → t < tiles → ticket ≤ t
+      → IsHome homes (slot_in dirs t dirs) (kinds.IsTile t)
+  pub between : (t : ℕ) → t < tiles → posted t here ≡ true → count_below (posted t) dirs < dirs
+      → IsHome homes (slot_in dirs t dirs) kinds.IsEmpty
+  pub finished : (r : ℕ) → r < tiles → shut r ≡ true
+      → IsHome homes (slot_in dirs r dirs) (kinds.IsFinished r)
+
+-- the slots that are away: a mailbox from the claim of its sender to its post, a home slot from the
+-- claim to the post of no step, and all slots of a tile from the last post to it until it is shut
+pub record Aways {S : Type 0} (tiles dirs here ticket : ℕ) (from : ℕ → ℕ → ℕ) (posted : ℕ → ℕ
+    → Bool) (shut : ℕ → Bool) (homes : List (Option S)) : Type 0 where
+  pub lent : (r d : ℕ) → r < tiles → d < dirs → from r d < ticket → posted r d ≡ false
+      → IsAway homes (slot_in dirs r d)
+  pub left : (t : ℕ) → t < tiles → t < ticket → posted t here ≡ false
+      → IsAway homes (slot_in dirs t dirs)
+  pub held : (r k : ℕ) → r < tiles → k < suc dirs → count_below (posted r) dirs ≡ dirs
+      → shut r ≡ false
+      → IsAway homes (slot_in dirs r k)
