@@ -65,3 +65,17 @@ fn a_demonstration_that_is_cut(rt: HostRuntime) -> Result<(), Fail> {
     assert_eq!(rt; last, b"\nfram".as_slice());
     Ok(())
 }
+
+#[test]
+fn a_demonstration_on_other_workers(rt: HostRuntime) -> Result<(), Fail> {
+    let one = call(&rt, rt.alloc(), &["demo", "7", "--workers", "1"], &[], CALM)?;
+    let many = call(
+        &rt,
+        rt.alloc(),
+        &["demo", "7", "--workers", "64"],
+        &[],
+        CALM,
+    )?;
+    check(&rt, &many, 0, one.out.bytes(), b"");
+    Ok(())
+}
