@@ -16,8 +16,6 @@ mod scale;
 mod settings;
 mod species;
 mod species_reader;
-#[cfg(test)]
-mod tests;
 
 pub use deck::Deck;
 pub use fields::InitialFields;

@@ -1,6 +1,6 @@
 //! Layers of a block: the values of one block added to those of another, row by row.
 
-ghost use Rattle.std.specs.Prelude.{◌≡◌, ℕ, pos, ◌+◌, ◌*◌, ◌^◌, ◌<◌, ◌≤◌, ◌+ℤ◌, ◌⊎◌, length, replicate, slice_index_or, IfOk};
+ghost use Rattle.std.specs.Prelude.{◌≡◌, ℕ, pos, ◌+◌, ◌*◌, ◌^◌, ◌<◌, ◌≤◌, ◌+ℤ◌, ◌⊎◌, length, replicate, slice_index_or};
 ghost use Rattle.pic_num.specs.Space.{triple, spot};
 ghost use Rattle.pic_grid.specs.Block.{AllAtMost, IsShaped};
 ghost use Rattle.pic_grid.specs.BlockLayers.{FitsAt, AddsLayers, AreAtMost, box_of};
@@ -84,72 +84,5 @@ fn add_row(to: &mut [i128], at: usize, from: &[i128], start: usize, count: usize
 {
     for x in 0..count {
         to[at + x] += from[start + x];
-    }
-}
-
-#[cfg(test)]
-mod tests {
-    use super::*;
-    use crate::block::Zone;
-    use pic_num::{Axis, NoMemory};
-    use std::alloc::Global;
-
-    // a block of zeros
-    fn zeros(alloc: Global, low: [i32; 3], size: [u32; 3]) -> Result<Block, NoMemory>
-        ensures low { IfOk result (λ b. b.low ≡ spot low) }
-        ensures size { IfOk result (λ b. b.size ≡ triple size) }
-        ensures small { IfOk result (AllAtMost (2 ^ 120)) }
-    {
-        let block = Block::new(alloc, Zone { low, size })?;
-        Ok(block)
-    }
-
-    // changes a value, where the zone has the cell, to a small one
-    fn put(block: &mut Block, axis: Axis, cell: [i32; 3], value: i128)
-        requires { AllAtMost (2 ^ 120) block.old }
-        ensures shape { IsShaped block.old block.new }
-        ensures small { AllAtMost (2 ^ 120) block.new }
-    {
-        if !block.has(cell) || value.unsigned_abs() > 1 << 120 {
-            return;
-        }
-        block.set(axis, cell, value);
-    }
-
-    // a value, or `None` outside the zone
-    fn read(block: &Block, axis: Axis, cell: [i32; 3]) -> Option<i128> {
-        if block.has(cell) {
-            Some(block.at(axis, cell))
-        } else {
-            None
-        }
-    }
-
-    #[test]
-    fn layers_are_added_where_they_lie(rt: HostRuntime) -> Result<(), NoMemory> {
-        let mut block = zeros(rt.alloc(), [-1, 0, 3], [3, 2, 2])?;
-        put(&mut block, Axis::X, [1, 1, 4], 40);
-        put(&mut block, Axis::Y, [-1, 0, 3], 6);
-        let mut layers = zeros(rt.alloc(), [70, 8, 9], [2, 1, 1])?;
-        put(&mut layers, Axis::X, [71, 8, 9], 2);
-        put(&mut layers, Axis::X, [70, 8, 9], -9);
-        put(&mut layers, Axis::Z, [70, 8, 9], 5);
-        block.add_layers(&layers, [1, 1, 1]);
-        for (axis, cell, value) in [
-            (Axis::X, [1, 1, 4], 42),
-            (Axis::X, [0, 1, 4], -9),
-            (Axis::Z, [0, 1, 4], 5),
-            (Axis::Z, [1, 1, 4], 0),
-            (Axis::X, [-1, 1, 4], 0),
-            (Axis::X, [0, 0, 4], 0),
-            (Axis::X, [0, 1, 3], 0),
-            (Axis::Y, [-1, 0, 3], 6),
-        ] {
-            assert_eq!(rt; read(&block, axis, cell), Some(value), "{axis:?} {cell:?}");
-        }
-        block.clear_at([4, 5, 6]);
-        assert_eq!(rt; block.zone().low, [4, 5, 6]);
-        assert_eq!(rt; read(&block, Axis::X, [6, 6, 7]), Some(0));
-        Ok(())
     }
 }

@@ -57,22 +57,3 @@ fn before(count: u32, number: u32) -> u32
 {
     if number == 0 { count - 1 } else { number - 1 }
 }
-
-#[cfg(test)]
-mod tests {
-    use super::*;
-    use pic_num::Sub;
-
-    #[test]
-    fn cells_follow_each_other_round_an_axis(rt: HostRuntime) {
-        let cells = Cells::new([2, 3, 4], Sub::of_bits(8));
-        for (axis, cell, up, down) in [
-            (Axis::X, [1, 2, 3], [0, 2, 3], [0, 2, 3]),
-            (Axis::Y, [1, 2, 3], [1, 0, 3], [1, 1, 3]),
-            (Axis::Z, [1, 2, 0], [1, 2, 1], [1, 2, 3]),
-        ] {
-            assert_eq!(rt; cells.up(axis, cell), up);
-            assert_eq!(rt; cells.down(axis, cell), down);
-        }
-    }
-}

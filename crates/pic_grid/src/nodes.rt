@@ -66,20 +66,3 @@ impl Nodes {
         self.values[index] = value;
     }
 }
-
-#[cfg(test)]
-mod tests {
-    use super::*;
-    use pic_num::Sub;
-
-    #[test]
-    fn a_node_is_read_back(rt: HostRuntime) -> Result<(), NoMemory> {
-        let cells = Cells::new([2, 3, 4], Sub::of_bits(8));
-        let mut nodes = Nodes::new(rt.alloc(), cells)?;
-        nodes.set([1, 2, 3], 9);
-        assert_eq!(rt; nodes.cells(), cells);
-        assert_eq!(rt; nodes.at([1, 2, 3]), 9);
-        assert_eq!(rt; nodes.at([0, 2, 3]), 0);
-        Ok(())
-    }
-}

@@ -68,29 +68,3 @@ fn shifted_back(sub: Sub, cells: u32, point: u32) -> u32
         point - half
     }
 }
-
-#[cfg(test)]
-mod tests {
-    use super::*;
-
-    #[test]
-    fn a_point_lies_between_two_places(rt: HostRuntime) {
-        let pair = |low, high, low_weight, high_weight| Pair {
-            low,
-            high,
-            low_weight,
-            high_weight,
-        };
-        for (bits, point, nodes, middles) in [
-            (12, 0, pair(0, 1, 4096, 0), pair(3, 0, 2048, 2048)),
-            (12, 2048, pair(0, 1, 2048, 2048), pair(0, 1, 4096, 0)),
-            (12, 16383, pair(3, 0, 1, 4095), pair(3, 0, 2049, 2047)),
-            (8, 1023, pair(3, 0, 1, 255), pair(3, 0, 129, 127)),
-            (14, 16385, pair(1, 2, 16383, 1), pair(0, 1, 8191, 8193)),
-        ] {
-            let sub = Sub::of_bits(bits);
-            assert_eq!(rt; Pair::of_nodes(sub, 4, point), nodes, "{point}");
-            assert_eq!(rt; Pair::of_middles(sub, 4, point), middles, "{point}");
-        }
-    }
-}

@@ -48,19 +48,3 @@ impl Snapshot {
         Ok(Snapshot { e, b, particles })
     }
 }
-
-#[cfg(test)]
-mod tests {
-    use super::*;
-    use pic_num::Sub;
-
-    #[test]
-    fn a_new_snapshot_has_room_for_its_particles(rt: HostRuntime) -> Result<(), NoMemory> {
-        let cells = Cells::new([2, 2, 3], Sub::of_bits(8));
-        let state = Snapshot::new(rt.alloc(), cells, 5)?;
-        assert_eq!(rt; state.e.cells(), cells);
-        assert_eq!(rt; state.b.parts(), [1, 1, 1]);
-        assert_eq!(rt; state.particles.len(), 5);
-        Ok(())
-    }
-}

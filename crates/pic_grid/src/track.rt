@@ -69,30 +69,3 @@ impl Track {
         &self.segments[..self.count]
     }
 }
-
-#[cfg(test)]
-mod tests {
-    use super::*;
-
-    #[test]
-    fn a_track_has_its_segments_in_order(rt: HostRuntime) {
-        let point = [4096, 100, 0];
-        let first = Segment {
-            from: [4000, 100, 0],
-            to: point,
-            cell: [0; 3],
-        };
-        let second = Segment {
-            from: point,
-            to: [4200, 100, 0],
-            cell: [1, 0, 0],
-        };
-        let track = Track::new([first, second, first, first], 2);
-        let segments = track.segments();
-        assert_eq!(rt; segments.len(), 2);
-        let (start, end) = (segments[0], segments[1]);
-        assert_eq!(rt; start.to, point);
-        assert_eq!(rt; end.from, point);
-        assert_eq!(rt; end.cell, [1, 0, 0]);
-    }
-}

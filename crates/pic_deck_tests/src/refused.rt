@@ -1,0 +1,169 @@
+//! Decks that are refused: the first fault of each, in the order of the walk.
+
+use crate::trial::{PAIR, SMALLEST, changed};
+use pic_deck::{DeckFault, Refusal, read_deck};
+use std::process::Abort;
+
+// a part of a deck, what stands in its place, and the refusal: its name, its path, and the three
+// numbers of a limit
+type Case = (&'static str, &'static str, &'static str);
+
+const FAULTS: [Case; 11] = [
+    ("[grid]", "speed = 1\n[grid]", "unknown speed [0, 0, 0]"),
+    (
+        "cells = [2, 2, 2]",
+        "cells = [65, 2, 2]",
+        "limit grid.cells[0] [65, 2, 64]",
+    ),
+    (
+        "cells = [2, 2, 2]",
+        "cells = [65, 2, 2]\nx = 1",
+        "unknown grid.x [0, 0, 0]",
+    ),
+    (
+        "cells = [2, 2, 2]\ntiles = [1, 1, 1]",
+        "cells = [4, 4, 4]\ntiles = [4, 1, 1]",
+        "limit grid.tiles[0] [4, 1, 2]",
+    ),
+    (
+        "cells = [2, 2, 2]\ntiles = [1, 1, 1]",
+        "cells = [9, 2, 2]\ntiles = [2, 1, 1]",
+        "limit grid.tiles[0] [1, 0, 0]",
+    ),
+    (
+        "cells = [2, 2, 2]\ntiles = [1, 1, 1]",
+        "cells = [64, 64, 64]\ntiles = [16, 16, 16]",
+        "limit grid.tiles [4096, 1, 512]",
+    ),
+    (
+        "steps = 0",
+        "steps = -1",
+        "limit run.steps [-1, 0, 1000000]",
+    ),
+    ("[1, 4]", "[1, 63]", "limit scale.e_to_b[1] [63, 0, 62]"),
+    ("[1, 4]", "[1]", "kind scale.e_to_b [0, 0, 0]"),
+    (
+        "b_force = [1, 0]",
+        "b_force = [1, 0]\n[field]\ne = [17592186044417, 0, 0]",
+        "limit scale.e_force [17592186044417, -17592186044416, 17592186044416]",
+    ),
+    (
+        "b_force = [1, 0]",
+        "b_force = [1, 0]\n[field]\nedges = [[0, 2, 0, 0, 1]]",
+        "limit field.edges[0][1] [2, 0, 1]",
+    ),
+];
+
+const SPECIES_FAULTS: [Case; 15] = [
+    (
+        "charge = 1",
+        "charge = 32768",
+        "limit species[0].charge [32768, -32768, 32767]",
+    ),
+    (
+        "charge = 1",
+        "charge = 1\nrandom = {}",
+        "unknown species[0].random [0, 0, 0]",
+    ),
+    (
+        "points = [[1024, 0, 0, 0, 0, 0]]",
+        "",
+        "missing species[0].points [0, 0, 0]",
+    ),
+    (
+        "points = [[1024, 0, 0, 0, 0, 0]]",
+        "random = {}\npair = 1",
+        "unknown species[0].pair [0, 0, 0]",
+    ),
+    (
+        "points = [[1024, 0, 0, 0, 0, 0]]",
+        "random = {}",
+        "missing species[0].random.count [0, 0, 0]",
+    ),
+    (
+        "points = [[1024, 0, 0, 0, 0, 0]]",
+        "pair = { of = \"ion\" }",
+        "name species[0].pair.of [0, 0, 0]",
+    ),
+    (
+        "points = [[1024, 0, 0, 8388608, 0, 0]]",
+        "pair = { of = \"ion\", seed = -1 }",
+        "limit species[1].pair.seed [-1, 0, 9223372036854775807]",
+    ),
+    (
+        "points = [[1024, 0, 0, 0, 0, 0]]",
+        "random = { count = 1, seed = 0, stream = 0, drift = [0, 0, 8388609] }",
+        "limit species[0].random.drift[2] [8388609, -8388608, 8388608]",
+    ),
+    (
+        "points = [[1024, 0, 0, 0, 0, 0]]",
+        "lattice = { first = [0, 0, 0], gap = [0, 0, 0], count = [1024, 1025, 1], v = [0, 0, 0] }",
+        "limit species[0] [1049600, 0, 1048576]",
+    ),
+    (
+        "[1024, 0, 0, 0, 0, 0]",
+        "[1024, 0, 0, 0, 0]",
+        "kind species[0].points[0] [0, 0, 0]",
+    ),
+    (
+        "[1024, 0, 0, 8388608, 0, 0]",
+        "[1024, 0, 16384, 8388608, 0, 0]",
+        "limit species[1].points[0][2] [16384, 0, 16383]",
+    ),
+    ("\"ion\"", "\"\"", "name species[0].name [0, 0, 0]"),
+    ("\"ion\"", "\"io n\"", "name species[0].name [0, 0, 0]"),
+    (
+        "\"ion\"",
+        "\"i23456789_123456789_123456789_123\"",
+        "name species[0].name [0, 0, 0]",
+    ),
+    ("\"electron\"", "\"ion\"", "name species[1].name [0, 0, 0]"),
+];
+
+// the name of a fault, its path, and a limit's three numbers
+fn parts(fault: &DeckFault) -> (&str, &str, [i128; 3]) {
+    match fault {
+        DeckFault::NoMemory => ("memory", "", [0; 3]),
+        DeckFault::Refused(Refusal::Text) => ("text", "", [0; 3]),
+        DeckFault::Refused(Refusal::Unknown { path }) => ("unknown", path.as_str(), [0; 3]),
+        DeckFault::Refused(Refusal::Missing { path }) => ("missing", path.as_str(), [0; 3]),
+        DeckFault::Refused(Refusal::Kind { path }) => ("kind", path.as_str(), [0; 3]),
+        DeckFault::Refused(
+            Refusal::Limit {
+                path,
+                value,
+                low,
+                high,
+            },
+        ) => ("limit", path.as_str(), [*value, *low, *high]),
+        DeckFault::Refused(Refusal::Name { path }) => ("name", path.as_str(), [0; 3]),
+    }
+}
+
+fn refuses(rt: &(impl AllocGlobal + Abort), bytes: &[u8], wanted: &str) {
+    let fault = read_deck(rt.alloc(), bytes).err().expect(rt, "a fault");
+    let (name, path, numbers) = parts(&fault);
+    let found = format!(in rt.alloc(); "{name} {path} {numbers:?}").expect(rt, "memory");
+    assert_eq!(rt; found.as_str(), wanted);
+}
+
+fn check(rt: &(impl AllocGlobal + Abort), deck: &str, cases: &[Case]) {
+    for (old, new, wanted) in cases {
+        refuses(rt, changed(rt, deck, old, new).as_bytes(), wanted);
+    }
+}
+
+#[test]
+fn the_first_fault_is_named(rt: HostRuntime) {
+    check(&rt, SMALLEST, &FAULTS);
+    check(&rt, PAIR, &SPECIES_FAULTS);
+}
+
+#[test]
+fn bytes_that_are_no_deck(rt: HostRuntime) {
+    let long = vec![in rt.alloc(); b' '; 1048577].expect(&rt, "memory");
+    refuses(&rt, b"", "missing version [0, 0, 0]");
+    refuses(&rt, b"\xff", "text  [0, 0, 0]");
+    refuses(&rt, b"version = 1.0", "kind version [0, 0, 0]");
+    refuses(&rt, &long, "limit deck [1048577, 0, 1048576]");
+}
