@@ -7,8 +7,6 @@ mod narrow;
 mod narrow_pushing;
 mod narrow_turning;
 mod pushing;
-#[cfg(test)]
-mod tests;
 mod turning;
 mod vector;
 

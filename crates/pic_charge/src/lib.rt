@@ -5,8 +5,6 @@ mod breaks;
 mod charges;
 mod laws;
 mod spread;
-#[cfg(test)]
-mod tests;
 
 pub use breaks::{Break, gauss};
 pub use charges::charge;

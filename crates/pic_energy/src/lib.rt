@@ -8,6 +8,3 @@ mod summing;
 pub use amounts::Energies;
 pub use line::{Line, end_line, frame_line};
 pub use summing::energies;
-
-#[cfg(test)]
-mod tests;

@@ -14,6 +14,3 @@ pub use electric::full_e;
 pub use forces::force;
 pub use laws::law_of_the_least_stop;
 pub use magnetic::half_b;
-
-#[cfg(test)]
-mod tests;

@@ -6,7 +6,5 @@ mod flat;
 mod gathering;
 mod mix;
 mod stencil;
-#[cfg(test)]
-mod tests;
 
 pub use gathering::{Gathered, gather, gather_b, gather_e};

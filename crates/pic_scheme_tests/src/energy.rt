@@ -5,7 +5,7 @@ ghost use Rattle.pic_num.specs.Multiplier.{Multiplier};
 ghost use Rattle.pic_num.specs.Sizes.{IsAtMost};
 ghost use Rattle.pic_energy.specs.Energies.{IsBounded};
 
-use crate::{end_line, energies, frame_line};
+use pic_energy::{end_line, energies, frame_line};
 use pic_grid::{Bound, Cells, EndMark, Lattice, Phase, Snapshot, Stop};
 use pic_num::{Axis, Kind, Mult, NoMemory, Particle, Scales, Sub, What};
 use std::alloc::Global;
@@ -67,35 +67,38 @@ fn a_frame_has_its_energies(rt: HostRuntime) -> Result<(), Fail> {
     Ok(())
 }
 
+const LINES: [(EndMark, &[u8]); 3] = [
+    (EndMark::Done { steps: 1 }, b"done 1\n"),
+    (
+        EndMark::Stopped {
+            step: 1,
+            stop: Stop::Field {
+                phase: Phase::Electric,
+                bound: Bound::Force,
+                axis: Axis::X,
+                cell: [0, 0, 0],
+                value: 17596481003518,
+            },
+        },
+        b"stopped 1 field electric force 0 0 0 0 17596481003518\n",
+    ),
+    (
+        EndMark::Stopped {
+            step: 1,
+            stop: Stop::Push {
+                id: 0,
+                what: What::Far,
+                axis: Axis::X,
+                value: 8192,
+            },
+        },
+        b"stopped 1 particle 0 far 0 8192\n",
+    ),
+];
+
 #[test]
 fn an_end_has_its_line(rt: HostRuntime) {
-    let field = Stop::Field {
-        phase: Phase::Electric,
-        bound: Bound::Force,
-        axis: Axis::X,
-        cell: [0, 0, 0],
-        value: 17596481003518,
-    };
-    let far = Stop::Push {
-        id: 0,
-        what: What::Far,
-        axis: Axis::X,
-        value: 8192,
-    };
-    assert_eq!(rt;
-        end_line(EndMark::Done { steps: 1 }).bytes(),
-        b"done 1\n".as_slice()
-    );
-    assert_eq!(rt;
-        end_line(EndMark::Stopped {
-            step: 1,
-            stop: field
-        })
-        .bytes(),
-        b"stopped 1 field electric force 0 0 0 0 17596481003518\n".as_slice()
-    );
-    assert_eq!(rt;
-        end_line(EndMark::Stopped { step: 1, stop: far }).bytes(),
-        b"stopped 1 particle 0 far 0 8192\n".as_slice()
-    );
+    for (mark, line) in &LINES {
+        assert_eq!(rt; end_line(*mark).bytes(), *line);
+    }
 }

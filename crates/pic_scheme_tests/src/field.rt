@@ -7,10 +7,11 @@ ghost use Rattle.pic_grid.specs.Cells.{IsCells, IsWithin};
 ghost use Rattle.pic_grid.specs.Block.{InZone, IsAmongCells, IsShaped, AllAtMost};
 ghost use Rattle.pic_grid.specs.Lattice.{EachAtMost};
 
-use crate::{force, full_e, half_b};
+use pic_field::{force, full_e, half_b};
 use pic_grid::{Block, Bound, Cells, Lattice, Phase, Stop, Zone};
 use pic_num::{Axis, Mult, NoMemory, Scales, Sub};
 use std::alloc::Global;
+use std::process::Abort;
 
 // a value of a lattice, and one of a block
 type Value = (Axis, [u32; 3], i128);
@@ -140,93 +141,114 @@ fn around_one_face(axis: Axis, cell: [i32; 3]) -> i128 {
     }
 }
 
+fn check_around(rt: &impl Abort, e: &Block, axis: Axis) {
+    for place in 0..64 {
+        let cell = [place & 3, place >> 2 & 3, place >> 4];
+        let wanted = around_one_face(axis, cell);
+        assert_eq!(rt; read(e, axis, cell), wanted, "{axis:?} {cell:?}");
+    }
+}
+
 #[test]
-fn vacuum_step_of_one_face(rt: HostRuntime) -> Result<(), NoMemory> {
+fn vacuum_step_of_one_face(rt: HostRuntime) {
     let none = Mult::new(0, 0);
     let one = Mult::new(1, 0);
     let scales = scales_of(none, Mult::new(1, 1), one, one);
     let faces = [(Axis::Z, [0, 0, 0], 8)];
-    let (e, answer) = full_step(rt.alloc(), &scales, [4, 4, 4], &faces, &[])?;
+    let (e, answer) = full_step(rt.alloc(), &scales, [4, 4, 4], &faces, &[]).expect(&rt, "memory");
     assert_eq!(rt; answer, Ok(()));
     for axis in [Axis::X, Axis::Y, Axis::Z] {
-        for z in 0..4 {
-            for y in 0..4 {
-                for x in 0..4 {
-                    let cell = [x, y, z];
-                    assert_eq!(rt;
-                        read(&e, axis, cell),
-                        around_one_face(axis, cell),
-                        "{axis:?} {cell:?}"
-                    );
-                }
-            }
-        }
+        check_around(&rt, &e, axis);
     }
-    Ok(())
 }
 
-fn electric(bound: Bound, cell: [u32; 3], value: i128) -> Result<(), Stop> {
-    Err(Stop::Field {
+const GREATEST: i128 = 1237940039285380274899124224;
+
+// the multipliers from B to E and of E's force, the component of B on z in the first cell, the current
+// on x there, the bound that stops the step and the value that does, and the value of E on x there
+type Case = (
+    (i32, u32),
+    (i32, u32),
+    i128,
+    i128,
+    Option<(Bound, i128)>,
+    i128,
+);
+
+// the force value alone is too large; the greatest value, and one more by the current
+const CASES: [Case; 3] = [
+    (
+        (2147483647, 0),
+        (2, 0),
+        4097,
+        0,
+        Some((Bound::Force, 17596481003518)),
+        8798240501759,
+    ),
+    ((1, 0), (0, 0), GREATEST, 0, None, GREATEST),
+    (
+        (1, 0),
+        (0, 0),
+        GREATEST,
+        -1,
+        Some((Bound::Value, GREATEST + 1)),
+        GREATEST + 1,
+    ),
+];
+
+fn electric(bound: Bound, cell: [u32; 3], value: i128) -> Stop {
+    Stop::Field {
         phase: Phase::Electric,
         bound,
         axis: Axis::X,
         cell,
         value,
-    })
-}
-
-#[test]
-fn a_step_of_e_stops_at_its_least_place(rt: HostRuntime) -> Result<(), NoMemory> {
-    let none = Mult::new(0, 0);
-    let one = Mult::new(1, 0);
-    let most = Mult::new(2147483647, 0);
-    let double = Mult::new(2, 0);
-    let greatest = 1237940039285380274899124224;
-    let first = [0, 0, 0];
-    let cases = [
-        // the force value alone is too large
-        (
-            (most, double),
-            (Axis::Z, first, 4097),
-            0,
-            electric(Bound::Force, first, 17596481003518),
-            8798240501759,
-        ),
-        // the greatest value, and one more by the current
-        ((one, none), (Axis::Z, first, greatest), 0, Ok(()), greatest),
-        (
-            (one, none),
-            (Axis::Z, first, greatest),
-            -1,
-            electric(Bound::Value, first, greatest + 1),
-            greatest + 1,
-        ),
-    ];
-    for ((b_to_e, e_force), face, current, answer, value) in cases {
-        let scales = scales_of(none, b_to_e, e_force, none);
-        let current = [(Axis::X, [0, 0, 0], current)];
-        let (e, found) = full_step(rt.alloc(), &scales, [2, 2, 2], &[face], &current)?;
-        assert_eq!(rt; found, answer);
-        assert_eq!(rt; read(&e, Axis::X, [0, 0, 0]), value);
     }
-    // x edges come before all y edges, wherever they lie
-    let scales = scales_of(none, most, one, none);
-    let faces = [(Axis::X, [0, 0, 0], 8193), (Axis::Y, [2, 2, 2], 8193)];
-    let (_, found) = full_step(rt.alloc(), &scales, [4, 4, 4], &faces, &[])?;
-    assert_eq!(rt; found, electric(Bound::Force, [2, 2, 2], -17594333519871));
-    Ok(())
+}
+
+fn check_case(rt: &(impl AllocGlobal + Abort), case: &Case) {
+    let ((n, k), (force_n, force_k), face, current, stop, value) = *case;
+    let b_to_e = Mult::try_new(n, k).expect(rt, "a multiplier");
+    let e_force = Mult::try_new(force_n, force_k).expect(rt, "a multiplier");
+    let none = Mult::new(0, 0);
+    let scales = scales_of(none, b_to_e, e_force, none);
+    let faces = [(Axis::Z, [0, 0, 0], face)];
+    let current = [(Axis::X, [0, 0, 0], current)];
+    let made = full_step(rt.alloc(), &scales, [2, 2, 2], &faces, &current);
+    let (e, found) = made.expect(rt, "memory");
+    let stop = match stop {
+        Some((bound, value)) => Some(electric(bound, [0, 0, 0], value)),
+        None => None,
+    };
+    assert_eq!(rt; found.err(), stop);
+    assert_eq!(rt; read(&e, Axis::X, [0, 0, 0]), value);
 }
 
 #[test]
-fn half_a_step_of_b(rt: HostRuntime) -> Result<(), NoMemory> {
-    let none = Mult::new(0, 0);
-    let one = Mult::new(1, 0);
-    let low = [0, 0, 0];
+fn a_step_of_e_stops(rt: HostRuntime) {
+    for case in &CASES {
+        check_case(&rt, case);
+    }
+}
 
-    // four edges around a face add up to a force value that is too large
-    let scales = scales_of(Mult::new(2147483647, 0), none, none, one);
+// x edges come before all y edges, wherever they lie
+#[test]
+fn a_step_of_e_stops_at_its_least_place(rt: HostRuntime) {
+    let none = Mult::new(0, 0);
+    let scales = scales_of(none, Mult::new(2147483647, 0), Mult::new(1, 0), none);
+    let faces = [(Axis::X, [0, 0, 0], 8193), (Axis::Y, [2, 2, 2], 8193)];
+    let (_, found) = full_step(rt.alloc(), &scales, [4, 4, 4], &faces, &[]).expect(&rt, "memory");
+    let stop = electric(Bound::Force, [2, 2, 2], -17594333519871);
+    assert_eq!(rt; found, Err(stop));
+}
+
+// four edges around a face add up to a force value that is too large
+#[test]
+fn half_a_step_of_b_stops(rt: HostRuntime) {
+    let none = Mult::new(0, 0);
+    let scales = scales_of(Mult::new(2147483647, 0), none, none, Mult::new(1, 0));
     let zone = Zone {
-        low,
+        low: [0, 0, 0],
         size: [4, 4, 4],
     };
     let edges = [
@@ -235,7 +257,7 @@ fn half_a_step_of_b(rt: HostRuntime) -> Result<(), NoMemory> {
         (Axis::Y, [0, 0, 0], -8192),
         (Axis::Y, [1, 0, 0], 8192),
     ];
-    let (_, found) = half_step(rt.alloc(), &scales, zone, &edges, &[])?;
+    let (_, found) = half_step(rt.alloc(), &scales, zone, &edges, &[]).expect(&rt, "memory");
     let stop = Stop::Field {
         phase: Phase::Half1,
         bound: Bound::Force,
@@ -244,9 +266,13 @@ fn half_a_step_of_b(rt: HostRuntime) -> Result<(), NoMemory> {
         value: -70368744144896,
     };
     assert_eq!(rt; found, Err(stop));
+}
 
-    // each value is rounded by itself: 1 and 2 halved are 1 and 1, and -3 halved is -1
-    let scales = scales_of(Mult::new(1, 1), none, none, one);
+// each value is rounded by itself: 1 and 2 halved are 1 and 1, and -3 halved is -1
+#[test]
+fn half_a_step_of_b_is_rounded(rt: HostRuntime) {
+    let none = Mult::new(0, 0);
+    let scales = scales_of(Mult::new(1, 1), none, none, Mult::new(1, 0));
     let zone = Zone {
         low: [1, 0, 2],
         size: [2, 4, 1],
@@ -257,29 +283,27 @@ fn half_a_step_of_b(rt: HostRuntime) -> Result<(), NoMemory> {
         (Axis::X, [1, 1, 2], -3),
     ];
     let faces = [(Axis::Z, [1, 0, 2], 10), (Axis::Z, [2, 3, 2], 7)];
-    let (b, found) = half_step(rt.alloc(), &scales, zone, &edges, &faces)?;
-    assert_eq!(rt; found, Ok(()));
-    for (cell, value) in [
-        ([1, 0, 2], 9),
-        ([1, 1, 2], 1),
-        ([2, 0, 2], 1),
-        ([2, 3, 2], 7),
-    ] {
-        assert_eq!(rt; read(&b, Axis::Z, cell), value, "{cell:?}");
-    }
-    Ok(())
+    let (b, found) = half_step(rt.alloc(), &scales, zone, &edges, &faces).expect(&rt, "memory");
+    let values = [
+        read(&b, Axis::Z, [1, 0, 2]),
+        read(&b, Axis::Z, [1, 1, 2]),
+        read(&b, Axis::Z, [2, 0, 2]),
+        read(&b, Axis::Z, [2, 3, 2]),
+    ];
+    assert!(rt; found.is_ok() && values == [9, 1, 1, 7]);
 }
 
 #[test]
-fn force_values_are_rounded_once(rt: HostRuntime) -> Result<(), NoMemory> {
-    let from = lattice_of(rt.alloc(), [128, 4, 4], &[(Axis::X, [127, 3, 3], 5)])?;
+fn force_values_are_rounded_once(rt: HostRuntime) {
+    let place = [127, 3, 3];
+    let from = lattice_of(rt.alloc(), [128, 4, 4], &[(Axis::X, [127, 3, 3], 5)]).expect(
+        &rt, "memory",
+    );
     let zone = Zone {
         low: [127, 3, 3],
         size: [1, 1, 1],
     };
-    let mut to = block_of(rt.alloc(), zone, &[(Axis::Y, [127, 3, 3], 7)])?;
+    let mut to = block_of(rt.alloc(), zone, &[(Axis::Y, place, 7)]).expect(&rt, "memory");
     force(Mult::new(1, 1), &from, &mut to);
-    assert_eq!(rt; read(&to, Axis::X, [127, 3, 3]), 3);
-    assert_eq!(rt; read(&to, Axis::Y, [127, 3, 3]), 0);
-    Ok(())
+    assert!(rt; read(&to, Axis::X, place) == 3 && read(&to, Axis::Y, place) == 0);
 }

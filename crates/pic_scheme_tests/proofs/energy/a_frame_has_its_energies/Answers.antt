@@ -3,7 +3,7 @@ use Rattle.std.specs.Prelude.{All, unsigned_abs}
 use Rattle.std.proofs.lemmas.List.Elements.{All-cons, All-nil}
 use Rattle.pic_num.specs.Multiplier.{Multiplier}
 use Rattle.pic_energy.specs.Energies.{HasMass, IsOfKinds}
-use Rattle.pic_energy.proofs.tests.a_frame_has_its_energies.Goals as goal
+use Rattle.pic_scheme_tests.proofs.energy.a_frame_has_its_energies.Goals as goal
 
 pub energies-requires-clause-species : goal.energies-requires-clause-species
 energies-requires-clause-species g c =

@@ -10,10 +10,11 @@ ghost use Rattle.pic_grid.specs.Hat.{IsInBox};
 ghost use Rattle.pic_grid.specs.Cells.{IsWithin};
 ghost use Rattle.pic_charge.specs.Charge.{IsCharged};
 
-use super::*;
+use pic_charge::{Break, charge, gauss};
 use pic_grid::{Cells, Lattice, Nodes};
 use pic_num::{Axis, Kind, Mult, NoMemory, Particle, Sub};
 use std::alloc::Global;
+use std::process::Abort;
 
 fn kind(charge: i32) -> Kind
     requires { IsAtMost charge most_charge }
@@ -75,56 +76,62 @@ fn charge_two(cells: Cells, first: [u32; 3], second: [u32; 3], nodes: &mut Nodes
     );
 }
 
-#[test]
-fn a_charge_is_shared_by_eight_nodes(rt: HostRuntime) -> Result<(), NoMemory> {
-    let whole = 824633720832;
-    let cases = [
-        (12, 0, [0, 0, 0], [whole, 0, 0, 0, 0, 0, 0, 0]),
-        (12, 1, [0, 0, 0], [-whole, 0, 0, 0, 0, 0, 0, 0]),
-        (12, 0, [2048, 2048, 2048], [103079215104; 8]),
-        (
-            12,
-            0,
-            [8191, 0, 4096],
-            [0, 0, 0, 0, 824432394240, 201326592, 0, 0],
-        ),
-        (8, 0, [0, 0, 0], [201326592, 0, 0, 0, 0, 0, 0, 0]),
-        (8, 0, [0, 384, 0], [100663296, 0, 100663296, 0, 0, 0, 0, 0]),
-        (14, 0, [0, 0, 0], [52776558133248, 0, 0, 0, 0, 0, 0, 0]),
-        (
-            14,
-            1,
-            [16385, 0, 0],
-            [-3221225472, -52773336907776, 0, 0, 0, 0, 0, 0],
-        ),
-    ];
-    for (bits, species, x, shares) in cases {
-        assert!(rt; bits >= Sub::FEWEST_BITS && bits <= Sub::MOST_BITS && species < 2);
-        let cells = Cells::new([2, 2, 2], Sub::of_bits(bits));
-        assert!(rt; is_in_box(cells, x));
-        let mut nodes = Nodes::new(rt.alloc(), cells)?;
-        nodes.set([1, 1, 0], 99);
-        charge_one(cells, species, x, &mut nodes);
-        for index in 0..8 {
-            assert_eq!(rt;
-                nodes.at(cells.cell_at(index)),
-                shares[index],
-                "{x:?} {index}"
-            );
-        }
+// the values of a grid of eight nodes
+fn check_nodes(rt: &impl Abort, nodes: &Nodes, values: [i128; 8]) {
+    let cells = nodes.cells();
+    assert_eq!(rt; cells.count(), 8);
+    for index in 0..8 {
+        assert_eq!(rt;
+            nodes.at(cells.cell_at(index)),
+            values[index],
+            "node {index}"
+        );
     }
-    Ok(())
+}
+
+const WHOLE: i128 = 824633720832;
+
+// the side of a cell as a power of 2, the species and the place, and what each node has of the charge
+const SHARES: [(u32, u8, [u32; 3], [i128; 8]); 8] = [
+    (12, 0, [0, 0, 0], [WHOLE, 0, 0, 0, 0, 0, 0, 0]),
+    (12, 1, [0, 0, 0], [-WHOLE, 0, 0, 0, 0, 0, 0, 0]),
+    (12, 0, [2048, 2048, 2048], [103079215104; 8]),
+    (
+        12,
+        0,
+        [8191, 0, 4096],
+        [0, 0, 0, 0, 824432394240, 201326592, 0, 0],
+    ),
+    (8, 0, [0, 0, 0], [201326592, 0, 0, 0, 0, 0, 0, 0]),
+    (8, 0, [0, 384, 0], [100663296, 0, 100663296, 0, 0, 0, 0, 0]),
+    (14, 0, [0, 0, 0], [52776558133248, 0, 0, 0, 0, 0, 0, 0]),
+    (
+        14,
+        1,
+        [16385, 0, 0],
+        [-3221225472, -52773336907776, 0, 0, 0, 0, 0, 0],
+    ),
+];
+
+#[test]
+fn a_charge_is_shared_by_eight_nodes(rt: HostRuntime) {
+    for (bits, species, x, shares) in &SHARES {
+        let sub = Sub::new(*bits).expect(&rt, "a side");
+        let cells = Cells::new([2, 2, 2], sub);
+        assert!(rt; *species < 2 && is_in_box(cells, *x));
+        let mut nodes = Nodes::new(rt.alloc(), cells).expect(&rt, "memory");
+        nodes.set([1, 1, 0], 99);
+        charge_one(cells, *species, *x, &mut nodes);
+        check_nodes(&rt, &nodes, *shares);
+    }
 }
 
 #[test]
-fn two_charges_at_one_place_are_none(rt: HostRuntime) -> Result<(), NoMemory> {
+fn two_charges_at_one_place_are_none(rt: HostRuntime) {
     let cells = Cells::new([2, 2, 2], Sub::of_bits(12));
-    let mut nodes = Nodes::new(rt.alloc(), cells)?;
+    let mut nodes = Nodes::new(rt.alloc(), cells).expect(&rt, "memory");
     charge_two(cells, [5000, 100, 7], [5000, 100, 7], &mut nodes);
-    for index in 0..8 {
-        assert_eq!(rt; nodes.at(cells.cell_at(index)), 0);
-    }
-    Ok(())
+    check_nodes(&rt, &nodes, [0; 8]);
 }
 
 // a field that is 0 but for one component
@@ -147,24 +154,23 @@ fn lone(
 }
 
 #[test]
-fn the_least_node_is_named(rt: HostRuntime) -> Result<(), NoMemory> {
+fn the_least_node_is_named(rt: HostRuntime) {
     let cells = Cells::new([2, 2, 2], Sub::of_bits(12));
-    let rho = Nodes::new(rt.alloc(), cells)?;
-    let e = lone(rt.alloc(), cells, Axis::Z, [1, 1, 1], 5)?;
+    let rho = Nodes::new(rt.alloc(), cells).expect(&rt, "memory");
+    let e = lone(rt.alloc(), cells, Axis::Z, [1, 1, 1], 5).expect(&rt, "memory");
     let found = Break {
         node: [1, 1, 0],
         div: -5,
         rho: 0,
     };
     assert_eq!(rt; gauss(cells, &e, &rho), Some(found));
-    Ok(())
 }
 
 #[test]
-fn an_ion_alone_breaks_the_law(rt: HostRuntime) -> Result<(), NoMemory> {
+fn an_ion_alone_breaks_the_law(rt: HostRuntime) {
     let cells = Cells::new([4, 4, 4], Sub::of_bits(12));
-    let mut rho = Nodes::new(rt.alloc(), cells)?;
-    let e = lone(rt.alloc(), cells, Axis::X, [0, 0, 0], 0)?;
+    let mut rho = Nodes::new(rt.alloc(), cells).expect(&rt, "memory");
+    let e = lone(rt.alloc(), cells, Axis::X, [0, 0, 0], 0).expect(&rt, "memory");
     charge_one(cells, 0, [1024, 0, 0], &mut rho);
     let found = Break {
         node: [0, 0, 0],
@@ -172,17 +178,14 @@ fn an_ion_alone_breaks_the_law(rt: HostRuntime) -> Result<(), NoMemory> {
         rho: 618475290624,
     };
     assert_eq!(rt; gauss(cells, &e, &rho), Some(found));
-    Ok(())
 }
 
 #[test]
-fn two_charges_want_their_field(rt: HostRuntime) -> Result<(), NoMemory> {
+fn two_charges_want_their_field(rt: HostRuntime) {
     let cells = Cells::new([4, 4, 4], Sub::of_bits(12));
-    let mut rho = Nodes::new(rt.alloc(), cells)?;
+    let mut rho = Nodes::new(rt.alloc(), cells).expect(&rt, "memory");
     charge_two(cells, [1024, 0, 0], [3072, 0, 0], &mut rho);
-    for (value, found) in [(0, false), (412316860416, true)] {
-        let e = lone(rt.alloc(), cells, Axis::X, [0, 0, 0], value)?;
-        assert_eq!(rt; gauss(cells, &e, &rho).is_none(), found, "{value}");
-    }
-    Ok(())
+    let none = lone(rt.alloc(), cells, Axis::X, [0, 0, 0], 0).expect(&rt, "memory");
+    let e = lone(rt.alloc(), cells, Axis::X, [0, 0, 0], 412316860416).expect(&rt, "memory");
+    assert!(rt; gauss(cells, &none, &rho).is_some() && gauss(cells, &e, &rho).is_none());
 }

@@ -18,7 +18,7 @@ use Rattle.pic_grid.specs.Lattice.{Field, value_at, with_value}
 use Rattle.pic_grid.specs.Cells.{IsWithin, count_of, place_of}
 use Rattle.pic_grid.proofs.CellLaws.{place_of_below}
 use Rattle.pic_energy.specs.Energies.{IsBounded}
-use Rattle.pic_energy.proofs.tests.lone_value.Goals as goal
+use Rattle.pic_scheme_tests.proofs.energy.lone_value.Goals as goal
 
 -- a field of zeros
 abbrev zeros : ℕ → Triple → Triple → Field
