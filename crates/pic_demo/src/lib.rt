@@ -3,8 +3,6 @@
 
 mod demo;
 mod laws;
-#[cfg(test)]
-mod tests;
 
 pub use demo::deck_of;
 pub use laws::the_demonstration_is_walked;

@@ -13,6 +13,3 @@ pub use framing::put_frame;
 pub use head::{Head, Heads};
 pub use header::Header;
 pub use heading::put_header;
-
-#[cfg(test)]
-mod tests;

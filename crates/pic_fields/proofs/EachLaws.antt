@@ -26,7 +26,7 @@ unfolding each
 stops_next n f {xs = xs} less first second =
     stops_then (λ ys. f ys >>= (λ b. done (ys ++ b ∷ []))) first (stops_first (λ b. done (xs ++ b ∷ [])) less second)
 
-stops_later : {A : Type 0} (n : ℕ) (f : List A → Parser A) {s e : ℕ} {x z : Told} {stop : ReadStop} → Stops (each n f) s e x z stop
+pub stops_later : {A : Type 0} (n : ℕ) (f : List A → Parser A) {s e : ℕ} {x z : Told} {stop : ReadStop} → Stops (each n f) s e x z stop
     → Stops (each (suc n) f) s e x z stop
 unfolding each
 stops_later n f first = stops_first (λ ys. f ys >>= (λ b. done (ys ++ b ∷ []))) (omega arith) first

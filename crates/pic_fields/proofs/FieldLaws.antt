@@ -12,7 +12,7 @@ use Rattle.pic_fields.specs.Fills.{Filled, Breaks}
 use Rattle.pic_fields.proofs.ReadLaws.{some_rest}
 
 -- what was left before some bytes were taken
-left_before : (before now : Option (List ℕ)) (front rest : List ℕ) → before ≡ with_front front now → now ≡ option_map (λ _. rest) now
+pub left_before : (before now : Option (List ℕ)) (front rest : List ℕ) → before ≡ with_front front now → now ≡ option_map (λ _. rest) now
     → before ≡ option_map (λ _. front ++ rest) before
 left_before before None front rest taken left = taken ∙ ap (option_map (λ _. front ++ rest)) (sym taken)
 left_before before (Some bytes) front rest taken left =
@@ -55,7 +55,7 @@ left_none : (now : Told) → IsAtEnd now → Left now []
 left_none now end = end
 
 -- what was taken is all there was
-all_taken : (before now : Told) (front : List ℕ) → before.bytes ≡ with_front front now.bytes → IsAtEnd now → Left before front
+pub all_taken : (before now : Told) (front : List ℕ) → before.bytes ≡ with_front front now.bytes → IsAtEnd now → Left before front
 all_taken before now front taken end =
     left_before before.bytes now.bytes front [] taken end ∙ ap (λ l. option_map (λ _. l) before.bytes) (append-nil front)
 

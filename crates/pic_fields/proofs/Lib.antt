@@ -4,3 +4,6 @@ pub mod EachLaws
 pub mod EndLaws
 pub mod SpellLaws
 pub mod NumberLaws
+pub mod LengthLaws
+pub mod PieceLaws
+pub mod BehindLaws

@@ -5,7 +5,7 @@ use Rattle.std.specs.Prelude.{option_map}
 use Rattle.pic_io.specs.Told.{Told, Rose, Calm, raised}
 use Rattle.pic_io.specs.Source.{with_front}
 use Rattle.pic_io.proofs.Takes.{given_twice}
-use Rattle.pic_fields.specs.Parser.{Input, input, Fault, fault, Parser, done, after, ◌>>=◌, mapped, tested, checked}
+use Rattle.pic_fields.specs.Parser.{Input, Fault, fault, Parser, done, after, ◌>>=◌, mapped, tested, checked}
 use Rattle.pic_fields.specs.Reads.{Left, Moves, HasRead, Fails, HasEnded, Stops, Reads, ReadsEnd}
 use Rattle.pic_fields.specs.declared.read_stop.ReadStop.{ReadStop}
 use Rattle.pic_fields.specs.declared.read_stop.ReadStop.TheVariants.{ReadFault, BadDump}

@@ -3,3 +3,4 @@ pub mod Number
 pub mod Reads
 pub mod Fills
 pub mod Spells
+pub mod Pieces

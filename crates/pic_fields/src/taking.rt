@@ -14,8 +14,9 @@ const CUT_SHORT: u8 = 9;
 /// The cause of a byte behind the last field.
 const TOO_MANY: u8 = 10;
 
-// Fills the room from its front, and returns how many bytes came: fewer only at the end of the input.
-fn fill<S: Source>(source: &mut S, room: &mut [u8]) -> Result<usize, ReadStop>
+/// Fills the room from its front, and returns how many bytes came: fewer only at the end of the
+/// input. No more are taken.
+pub fn fill<S: Source>(source: &mut S, room: &mut [u8]) -> Result<usize, ReadStop>
     ensures length { length room.new ≡ length room.old }
     ensures fills { Fills (S.told source.old) (S.told source.new) room.new result }
 {

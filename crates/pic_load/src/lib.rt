@@ -3,7 +3,5 @@
 
 mod drawing;
 mod loading;
-#[cfg(test)]
-mod tests;
 
 pub use loading::load;

@@ -2,6 +2,7 @@ pub mod NameLaws
 pub mod HeadLaws
 pub mod HeadReadLaws
 pub mod FrameLaws
+pub mod PartLaws
 pub mod LayoutLaws
 pub mod NextLaws
 pub mod HeaderSpells

@@ -8,3 +8,4 @@ pub mod HeadReads
 pub mod Standing
 pub mod NextReads
 pub mod Spelling
+pub mod Firsts

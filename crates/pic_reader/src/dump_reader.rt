@@ -130,8 +130,10 @@ impl DumpReader {
     /// Reads the next record: a frame into the snapshot, or the end record and the end of the
     /// input.
     ///
-    /// The snapshot has the header's numbers of cells and particles. At an error the reader is
-    /// gone.
+    /// The record's mark is taken alone, and a frame then in pieces of up to 65536 bytes. No byte
+    /// behind the record is taken, but for one that tells that the input doesn't end there, and no
+    /// memory. The snapshot has the header's numbers of cells and particles. At an error the reader
+    /// is gone.
     pub fn next<S: Source>(self, source: &mut S, state: &mut Snapshot) -> Result<Next, ReadStop>
         requires e { state.old.e.cells ≡ self.layout.cells }
         requires b { state.old.b.cells ≡ self.layout.cells }

@@ -1,34 +1,28 @@
 //! A frame of a dump, read.
 
-ghost use Rattle.std.specs.Prelude.{◌≡◌, ℕ, ℤ, pos, ◌-ℤ◌, ◌+◌, ◌-◌, ◌*◌, ◌<◌, ◌≤◌, ◌^◌, All, List, length, sum, nat_eq, IfOk, OnOk};
+ghost use Rattle.std.specs.Prelude.{◌≡◌, pos, ◌-ℤ◌, ◌+◌, ◌-◌, ◌*◌, ◌<◌, ◌≤◌, ◌^◌, All, take, drop, length, sum, nat_eq, IfOk, OnOk};
 ghost use Rattle.pic_num.specs.Limits.{most_side, most_cells_of_axis};
-ghost use Rattle.pic_num.specs.Sizes.{IsAtMost};
 ghost use Rattle.pic_num.specs.Velocity.{too_fast};
-ghost use Rattle.pic_num.specs.Rounding.{scaled};
 ghost use Rattle.pic_num.specs.Space.{triple};
-ghost use Rattle.pic_grid.specs.Cells.{count_of};
 ghost use Rattle.pic_grid.specs.Hat.{IsInBox};
-ghost use Rattle.pic_fields.specs.Parser.{checked};
-ghost use Rattle.pic_fields.specs.Number.{i128_at};
+ghost use Rattle.pic_fields.specs.Pieces.{each_behind};
 ghost use Rattle.pic_fields.specs.Reads.{Reads, always, as_it_is};
-ghost use Rattle.pic_energy.specs.Energies.{HasMass, IsOfKinds, IsBounded};
-ghost use Rattle.pic_reader.specs.Fields.{strong_value, is_below, below, the_step};
-ghost use Rattle.pic_reader.specs.FrameFields.{FrameView, is_moderate, IsModerate, field_at, coordinate_at, position_at, velocity_at, speed_at, particle_of, particle_at, particles_at, energy_at, energies_at, frame_of, frame_at, frame_length, IsSameShape, IsPlaced, IsHeld};
-ghost use Rattle.pic_reader.specs.Layout.{species_of, IsLayout};
+ghost use Rattle.pic_energy.specs.Energies.{IsOfKinds};
+ghost use Rattle.pic_reader.specs.Fields.{is_below, below, the_step};
+ghost use Rattle.pic_reader.specs.FrameFields.{coordinate_at, position_at, velocity_at, speed_at, particle_of, particle_at, particles_at, energy_at, energies_at, frame_of, frame_at, frame_length, IsSameShape, IsPlaced, IsHeld};
+ghost use Rattle.pic_reader.specs.Firsts.{FirstAre};
 
+use crate::field_reader::read_field;
 use crate::head_reader::read_between;
 use crate::layout::{Layout, species_at};
 use pic_energy::{Energies, energies};
-use pic_fields::{ReadStop, read_i128, read_u32, read_u128};
-use pic_grid::{Cells, Lattice, Snapshot};
+use pic_fields::{Piece, ReadStop, fill, read_u32, read_u128};
+use pic_grid::{Cells, Snapshot};
 use pic_io::Source;
-use pic_num::{Mult, Particle, scale};
+use pic_num::Particle;
 
 /// The cause of a step that isn't the one that is due.
 const WRONG_STEP: u8 = 4;
-
-/// The cause of a field value, or its force value, that is too large.
-const STRONG_VALUE: u8 = 5;
 
 /// The cause of a position outside the box, or a velocity outside its range.
 const OUT_OF_RANGE: u8 = 6;
@@ -36,59 +30,11 @@ const OUT_OF_RANGE: u8 = 6;
 /// The cause of an energy that isn't that of the frame.
 const WRONG_ENERGY: u8 = 7;
 
-/// The greatest size of a field value, 2^90, and of a force value, 2^44.
-const MOST_VALUE: u128 = 1237940039285380274899124224;
-
-const MOST_FORCE: u128 = 17592186044416;
+/// How many particles a piece of 65536 bytes has at most.
+const PARTICLES_OF_A_PIECE: u32 = 2730;
 
 /// How many of its units a velocity of a sub-cell a step has.
 const VELOCITY_UNIT: i32 = 4096;
-
-// Reads a field value.
-fn read_value<S: Source>(source: &mut S, place: u64, by: Mult) -> Result<i128, ReadStop>
-    requires { place + 16 < 2 ^ 63 }
-    ensures reads { Reads as_it_is (checked strong_value (is_moderate by) i128_at) place
-        (place + 16) (S.told source.old) (S.told source.new) result }
-    ensures bounds { IfOk result (λ v. IsModerate by v) }
-{
-    let value = read_i128(source, place)?;
-    if !is_moderate(by, value) {
-        return Err(ReadStop::BadDump {
-            place,
-            cause: STRONG_VALUE,
-        });
-    }
-    Ok(value)
-}
-
-fn is_moderate(by: Mult, value: i128) -> bool
-    ensures { result ≡ is_moderate by value }
-{
-    value.unsigned_abs() <= MOST_VALUE && scale(value, by).unsigned_abs() <= MOST_FORCE
-}
-
-// Reads the values of a field in the order of places.
-fn read_field<S: Source>(
-    source: &mut S,
-    place: u64,
-    by: Mult,
-    field: &mut Lattice,
-) -> Result<(), ReadStop>
-    requires { place + 2 ^ 29 < 2 ^ 63 }
-    ensures reads { Reads (always field.new.values) (field_at field.old.cells by) place
-        (place + 16 * (3 * count_of field.old.cells))
-        (S.told source.old) (S.told source.new) result }
-    ensures shape { IsSameShape field.old field.new }
-    ensures bounds { OnOk result (IsBounded by field.new) }
-{
-    let cells = field.cells();
-    for index in 0..3 * cells.count() as usize {
-        let (axis, cell) = cells.place_at(index);
-        let value = read_value(source, place + 16 * index as u64, by)?;
-        field.set(axis, cell, value);
-    }
-    Ok(())
-}
 
 // Reads a number below another; a fault is of this cause.
 pub(crate) fn read_below<S: Source>(
@@ -219,7 +165,72 @@ fn read_particle<S: Source>(
     Ok(Particle { id, species, x, v })
 }
 
-// Reads the particles.
+// Reads so many particles, behind the first ones.
+fn read_some_particles<S: Source>(
+    source: &mut S,
+    place: u64,
+    layout: &Layout,
+    particles: &mut [Particle],
+    first: u32,
+    count: u32,
+) -> Result<(), ReadStop>
+    requires place { place + 24 * count < 2 ^ 63 }
+    requires end { first + count < 2 ^ 32 }
+    requires count { first + count ≤ sum layout.now.counts }
+    requires length { length particles.old ≡ sum layout.now.counts }
+    requires species { FirstAre (IsOfKinds layout.now.kinds) first particles.old }
+    requires places { FirstAre (IsPlaced layout.now.side layout.now.cells) first particles.old }
+    ensures reads { Reads (always (drop first (take (first + count) particles.new)))
+        (each_behind (take first particles.old) count (particle_at layout.now)) place
+        (place + 24 * count) (S.told source.old) (S.told source.new) result }
+    ensures length { length particles.new ≡ length particles.old }
+    ensures front { take first particles.new ≡ take first particles.old }
+    ensures species { OnOk result
+        (FirstAre (IsOfKinds layout.now.kinds) (first + count) particles.new) }
+    ensures places { OnOk result
+        (FirstAre (IsPlaced layout.now.side layout.now.cells) (first + count) particles.new) }
+{
+    for index in 0..count {
+        let id = first + index;
+        let particle = read_particle(source, place + 24 * index as u64, layout, id)?;
+        particles[id as usize] = particle;
+    }
+    Ok(())
+}
+
+// Takes a piece of the particles into the room, and reads these.
+fn read_piece_of_particles<S: Source>(
+    source: &mut S,
+    room: &mut [u8],
+    place: u64,
+    layout: &Layout,
+    particles: &mut [Particle],
+    first: u32,
+    count: u32,
+) -> Result<(), ReadStop>
+    requires place { place + 24 * count < 2 ^ 63 }
+    requires end { first + count < 2 ^ 32 }
+    requires count { first + count ≤ sum layout.now.counts }
+    requires length { length particles.old ≡ sum layout.now.counts }
+    requires species { FirstAre (IsOfKinds layout.now.kinds) first particles.old }
+    requires places { FirstAre (IsPlaced layout.now.side layout.now.cells) first particles.old }
+    requires room { length room.old ≡ 24 * count }
+    ensures reads { Reads (always (drop first (take (first + count) particles.new)))
+        (each_behind (take first particles.old) count (particle_at layout.now)) place
+        (place + 24 * count) (S.told source.old) (S.told source.new) result }
+    ensures length { length particles.new ≡ length particles.old }
+    ensures front { take first particles.new ≡ take first particles.old }
+    ensures species { OnOk result
+        (FirstAre (IsOfKinds layout.now.kinds) (first + count) particles.new) }
+    ensures places { OnOk result
+        (FirstAre (IsPlaced layout.now.side layout.now.cells) (first + count) particles.new) }
+{
+    let taken = fill(source, room)?;
+    let mut piece = Piece::new(&room[..taken]);
+    read_some_particles(&mut piece, place, layout, particles, first, count)
+}
+
+// Reads the particles, in pieces of up to 65520 bytes.
 fn read_particles<S: Source>(
     source: &mut S,
     place: u64,
@@ -235,10 +246,22 @@ fn read_particles<S: Source>(
     ensures species { OnOk result (All (IsOfKinds layout.now.kinds) particles.new) }
     ensures places { OnOk result (All (IsPlaced layout.now.side layout.now.cells) particles.new) }
 {
-    let count = layout.particles();
-    for index in 0..count {
-        let particle = read_particle(source, place + 24 * index as u64, layout, index)?;
-        particles[index as usize] = particle;
+    let all = layout.particles();
+    let mut room = [0u8; 65536];
+    let mut first = 0u32;
+    while first < all {
+        let count = PARTICLES_OF_A_PIECE.min(all - first);
+        let at = place + 24 * first as u64;
+        read_piece_of_particles(
+            source,
+            &mut room[..24 * count as usize],
+            at,
+            layout,
+            particles,
+            first,
+            count,
+        )?;
+        first += count;
     }
     Ok(())
 }
@@ -286,6 +309,22 @@ fn read_energies<S: Source>(
     })
 }
 
+// Takes the energies as one piece, and reads them.
+fn read_piece_of_energies<S: Source>(
+    source: &mut S,
+    place: u64,
+    want: Energies,
+) -> Result<Energies, ReadStop>
+    requires { place + 48 < 2 ^ 63 }
+    ensures { Reads as_it_is (energies_at want) place (place + 48) (S.told source.old)
+        (S.told source.new) result }
+{
+    let mut room = [0u8; 48];
+    let taken = fill(source, &mut room)?;
+    let mut piece = Piece::new(&room[..taken]);
+    read_energies(&mut piece, place, want)
+}
+
 // Reads a step, which has to be this one.
 pub(crate) fn read_step<S: Source>(source: &mut S, place: u64, want: u32) -> Result<u32, ReadStop>
     requires { place + 4 < 2 ^ 63 }
@@ -308,7 +347,8 @@ fn is_same_step(want: u32, step: u32) -> bool
     want == step
 }
 
-/// Reads the frame of the step that is due, behind its mark, and answers its energies.
+/// Reads the frame of the step that is due, behind its mark, and answers its energies: the step, E, B,
+/// the particles and the energies are taken each by itself, in pieces of up to 65536 bytes.
 pub fn read_frame<S: Source>(
     source: &mut S,
     place: u64,
@@ -339,5 +379,5 @@ pub fn read_frame<S: Source>(
     read_field(source, third, layout.scales().b_force, &mut state.b)?;
     read_particles(source, fourth, layout, state.particles.as_mut_slice())?;
     let want = energies(layout.scales(), layout.kinds(), state);
-    read_energies(source, fifth, want)
+    read_piece_of_energies(source, fifth, want)
 }

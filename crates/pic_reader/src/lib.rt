@@ -4,6 +4,7 @@
 mod due;
 mod dump_reader;
 mod end_reader;
+mod field_reader;
 mod frame_reader;
 mod head_reader;
 mod head_stop;
@@ -15,6 +16,3 @@ pub use dump_reader::{DumpReader, Next};
 pub use head_stop::HeadStop;
 pub use laws::{headers_have_one_spelling, records_have_one_spelling};
 pub use pic_fields::ReadStop;
-
-#[cfg(test)]
-mod tests;

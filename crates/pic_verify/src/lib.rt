@@ -7,6 +7,3 @@ mod verifying;
 
 pub use verify_stop::VerifyStop;
 pub use verifying::verify;
-
-#[cfg(test)]
-mod tests;

@@ -87,8 +87,9 @@ returns-clause-reads g c =
     ∙ ap (λ k. energies_of l.scales k e_is b_is (take c.args.state.now.particles.len (new ++ rest))) c.kinds.ensures.value
     ∙ ap (λ q. energies_of l.scales l.kinds e_is b_is q) whole
     ∙ same_energies l.scales l.kinds e_is b_is l new in
-    let energies = subst (λ w. Reads as_it_is (energies_at w) fifth (fifth + 48) at_p (g.S.Source.told c.read_energies.new.source) c.read_energies.result) want
-    c.read_energies.ensures in
+    let end = g.S.Source.told c.read_piece_of_energies.new.source in
+    let energies = subst (λ w. Reads as_it_is (energies_at w) fifth (fifth + 48) at_p end c.read_piece_of_energies.result) want
+    c.read_piece_of_energies.ensures in
     let last = reads_as (frame_of c.args.due e_is.values b_is.values new) energies in
     rw whole (reads_up_to {d = fifth + 48} (omega (arith, count, number)) (goes_on _ c.in_ok-read_step.ensures.answer
     (goes_on _ e (goes_on _ b (goes_on _ p last)))))

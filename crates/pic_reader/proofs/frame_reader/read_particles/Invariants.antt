@@ -1,17 +1,23 @@
--- The particles so far.
-use Rattle.std.proofs.Common.{◌≡◌, ℕ, ◌+◌, ◌*◌, ◌<◌, length, get_or, take}
-use Rattle.pic_num.specs.declared.motion.Particle.{Particle}
+-- The pieces so far.
+use Rattle.std.proofs.Common.{◌≡◌, ◌+◌, ◌-◌, ◌*◌, ◌≤◌, length, take}
+use Rattle.std.specs.Prelude.{sum}
 use Rattle.pic_energy.specs.Energies.{IsOfKinds}
 use Rattle.pic_fields.specs.Parser.{each}
 use Rattle.pic_fields.specs.Reads.{HasRead}
+use Rattle.pic_reader.specs.Firsts.{FirstAre}
 use Rattle.pic_reader.specs.FrameFields.{particle_at, IsPlaced}
 use Rattle.pic_reader.proofs.frame_reader.read_particles.Given as goal
 
-abbrev pub invariant-loop-index : goal.invariant-loop-index
-invariant-loop-index g l = record {
-  read : HasRead (each l.index (particle_at l.layout)) l.place (g.S.Source.told l.initial.source) (take l.index l.particles) (l.place + 24 * l.index)
+abbrev pub invariant-loop-first : goal.invariant-loop-first
+invariant-loop-first g l = record {
+  read : HasRead (each l.first (particle_at l.layout)) l.place (g.S.Source.told l.initial.source) (take l.first l.particles) (l.place + 24 * l.first)
       (g.S.Source.told l.source);
-  size : length l.particles ≡ length l.initial.particles;
-  species : (k : ℕ) (d : Particle) → k < l.index → IsOfKinds l.layout.kinds (get_or l.particles k d);
-  places : (k : ℕ) (d : Particle) → k < l.index → IsPlaced l.layout.side l.layout.cells (get_or l.particles k d);
+  all : l.all ≡ sum l.layout.counts;
+  most : l.first ≤ l.all;
+  length : length l.particles ≡ length l.initial.particles;
+  species : FirstAre (IsOfKinds l.layout.kinds) l.first l.particles;
+  places : FirstAre (IsPlaced l.layout.side l.layout.cells) l.first l.particles;
 }
+
+abbrev pub decreases-loop-first : goal.decreases-loop-first
+decreases-loop-first g l = l.all - l.first

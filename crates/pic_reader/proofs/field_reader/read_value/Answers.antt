@@ -5,7 +5,7 @@ use mir.Val.{SFits}
 use Rattle.pic_num.specs.Multiplier.{Multiplier}
 use Rattle.pic_fields.proofs.ReadLaws.{passes, refuses, exits_checked}
 use Rattle.pic_reader.specs.FrameFields.{is_moderate}
-use Rattle.pic_reader.proofs.frame_reader.read_value.Goals as goal
+use Rattle.pic_reader.proofs.field_reader.read_value.Goals as goal
 
 -- the code's number is the number
 code_moderate : (by : Multiplier) (v : ℤ) → SFits w128 v → is_moderate by (to_z w128 (of_z w128 v)) ≡ is_moderate by v

@@ -1,14 +1,12 @@
-//! Tests of the verdict: the dump of two charges, whole, cut and changed, and a read that fails.
+//! What the tests share: two charges, and their dump.
 
 ghost use Rattle.std.specs.Prelude.{◌≡◌, ◌≤◌, length, map, IfOk};
 ghost use Rattle.std.specs.List.{range_with_len};
 
-use crate::{VerifyStop, verify};
-use pic_charge::Break;
 use pic_dump::{Head, Header, Heads, put_end, put_frame, put_header};
 use pic_energy::Energies;
 use pic_grid::{Cells, EndMark, Lattice, Name, Snapshot};
-use pic_io::{MemSink, MemSource};
+use pic_io::MemSink;
 use pic_num::{Axis, Kind, Mult, Particle, Scales, Sub};
 use std::alloc::Global;
 use std::test::Fail;
@@ -35,8 +33,8 @@ fn head(alloc: Global, name: &[u8], charge: i32, mass: u32) -> Result<Head, Fail
     })
 }
 
-// An ion, and an electron that moves along x, at most one step.
-fn two_charges(alloc: Global) -> Result<Header, Fail> {
+/// An ion, and an electron that moves along x, at most one step.
+pub fn two_charges(alloc: Global) -> Result<Header, Fail> {
     let scales = Scales {
         e_to_b: none(),
         b_to_e: none(),
@@ -88,8 +86,8 @@ fn energies(electric: u128) -> Energies {
     }
 }
 
-// The bytes of their dump: 184 of the header, two frames of 6245, and 6 of the end record.
-fn dump(alloc: Global) -> Result<Vec<u8>, Fail> {
+/// The bytes of their dump: 184 of the header, two frames of 6245, and 6 of the end record.
+pub fn dump(alloc: Global) -> Result<Vec<u8>, Fail> {
     let mut out = MemSink::new(alloc, 12681, Vec::new(alloc))?;
     put_header(&mut out, &two_charges(alloc)?)?;
     put_frame(&mut out, 0, &state(alloc, 1024, 0)?, energies(0))?;
@@ -101,72 +99,4 @@ fn dump(alloc: Global) -> Result<Vec<u8>, Fail> {
     )?;
     put_end(&mut out, EndMark::Done { steps: 1 })?;
     Ok(Vec::from_slice(alloc, out.bytes())?)
-}
-
-// The first bytes, with one of them changed.
-fn changed(
-    alloc: Global,
-    bytes: &[u8],
-    count: usize,
-    at: usize,
-    byte: u8,
-) -> Result<Vec<u8>, Fail> {
-    let mut made = Vec::new(alloc);
-    for (index, old) in bytes.iter().take(count).enumerate() {
-        made.push(if index == at { byte } else { *old })?;
-    }
-    Ok(made)
-}
-
-fn verdict(alloc: Global, bytes: Vec<u8>) -> Result<u32, VerifyStop> {
-    verify(alloc, &mut MemSource::new(bytes, 4096, Vec::new(alloc)))
-}
-
-fn bad(place: u64, cause: u8) -> Result<u32, VerifyStop> {
-    Err(VerifyStop::BadDump { place, cause })
-}
-
-// A break in the first node.
-fn broken(frame: u32, div: i128, rho: i128) -> Result<u32, VerifyStop> {
-    let at = Break {
-        node: [0, 0, 0],
-        div,
-        rho,
-    };
-    Err(VerifyStop::Broken { frame, at })
-}
-
-// A byte that is changed, how many bytes are left, and the verdict.
-#[test]
-fn two_charges_are_verified_and_changes_found(rt: HostRuntime) -> Result<(), Fail> {
-    let bytes = dump(rt.alloc())?;
-    assert_eq!(rt; bytes.len(), 12680);
-    let cases = [
-        (12680, 0, 80, Ok(2)),
-        (12679, 0, 80, bad(12679, 9)),
-        (12680, 0, 0, bad(0, 1)),
-        (12680, 204, 1, broken(0, 1, 0)),
-        (12680, 12605, 1, broken(1, 412316860416, 412518187008)),
-        (12679, 12605, 1, broken(1, 412316860416, 412518187008)),
-    ];
-    for (count, at, byte, want) in cases {
-        let made = changed(rt.alloc(), &bytes, count, at, byte)?;
-        assert_eq!(rt; verdict(rt.alloc(), made), want);
-    }
-    Ok(())
-}
-
-#[test]
-fn a_byte_behind_the_end_is_found(rt: HostRuntime) -> Result<(), Fail> {
-    let mut bytes = dump(rt.alloc())?;
-    bytes.push(0)?;
-    assert_eq!(rt; verdict(rt.alloc(), bytes), bad(12680, 10));
-    Ok(())
-}
-
-#[test]
-fn a_failed_read_is_a_read_fault(rt: HostRuntime) -> Result<(), Fail> {
-    let mut source = MemSource::new(Vec::new(rt.alloc()), 1, vec![in rt.alloc(); 0]?);
-    assert_eq!(rt; verify(rt.alloc(), &mut source), Err(VerifyStop::ReadFault));
-    Ok(())
 }

@@ -1,0 +1,97 @@
+//! Tests of the verdict: the dump of two charges, whole, cut and changed, and a read that fails.
+
+use crate::trial::dump;
+use pic_charge::Break;
+use pic_io::MemSource;
+use pic_verify::{VerifyStop, verify};
+use std::alloc::Global;
+use std::test::Fail;
+
+// The first bytes, with one of them changed.
+fn changed(
+    alloc: Global,
+    bytes: &[u8],
+    count: usize,
+    at: usize,
+    byte: u8,
+) -> Result<Vec<u8>, Fail> {
+    let mut made = Vec::new(alloc);
+    for (index, old) in bytes.iter().take(count).enumerate() {
+        made.push(if index == at { byte } else { *old })?;
+    }
+    Ok(made)
+}
+
+fn verdict(alloc: Global, bytes: Vec<u8>) -> Result<u32, VerifyStop> {
+    verify(alloc, &mut MemSource::new(bytes, 4096, Vec::new(alloc)))
+}
+
+// In frame 1 the electron stands elsewhere.
+const MOVED: VerifyStop = VerifyStop::Broken {
+    frame: 1,
+    at: Break {
+        node: [0, 0, 0],
+        div: 412316860416,
+        rho: 412518187008,
+    },
+};
+
+// How many bytes are left, one that is changed and what stands there then, and the verdict.
+const CASES: [(usize, usize, u8, Result<u32, VerifyStop>); 6] = [
+    (12680, 0, b'P', Ok(2)),
+    (
+        12679,
+        0,
+        b'P',
+        Err(VerifyStop::BadDump {
+            place: 12679,
+            cause: 9,
+        }),
+    ),
+    (12680, 0, 0, Err(VerifyStop::BadDump { place: 0, cause: 1 })),
+    (
+        12680,
+        204,
+        1,
+        Err(VerifyStop::Broken {
+            frame: 0,
+            at: Break {
+                node: [0, 0, 0],
+                div: 1,
+                rho: 0,
+            },
+        }),
+    ),
+    (12680, 12605, 1, Err(MOVED)),
+    (12679, 12605, 1, Err(MOVED)),
+];
+
+#[test]
+fn two_charges_are_verified_and_changes_found(rt: HostRuntime) -> Result<(), Fail> {
+    let bytes = dump(rt.alloc())?;
+    assert_eq!(rt; bytes.len(), 12680);
+    for (count, at, byte, verdict_of) in &CASES {
+        let made = changed(rt.alloc(), &bytes, *count, *at, *byte)?;
+        assert_eq!(rt; verdict(rt.alloc(), made), *verdict_of);
+    }
+    Ok(())
+}
+
+#[test]
+fn a_byte_behind_the_end_is_found(rt: HostRuntime) -> Result<(), Fail> {
+    let mut bytes = dump(rt.alloc())?;
+    bytes.push(0)?;
+    let behind = VerifyStop::BadDump {
+        place: 12680,
+        cause: 10,
+    };
+    assert_eq!(rt; verdict(rt.alloc(), bytes), Err(behind));
+    Ok(())
+}
+
+#[test]
+fn a_failed_read_is_a_read_fault(rt: HostRuntime) -> Result<(), Fail> {
+    let mut source = MemSource::new(Vec::new(rt.alloc()), 1, vec![in rt.alloc(); 0]?);
+    assert_eq!(rt; verify(rt.alloc(), &mut source), Err(VerifyStop::ReadFault));
+    Ok(())
+}
