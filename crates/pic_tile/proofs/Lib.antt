@@ -6,6 +6,7 @@ pub mod LayerSteps
 pub mod OwnerLaws
 pub mod ZoneLaws
 pub mod CutLaws
+pub mod PlaceLaws
 pub mod ThreeAxesLaws
 pub mod AllTilesLaws
 pub mod GiveLaws

@@ -1,6 +1,7 @@
 pub mod Directions
 pub mod Tiling
 pub mod Owners
+pub mod Places
 pub mod Layers
 pub mod Tile
 pub mod Leaving
