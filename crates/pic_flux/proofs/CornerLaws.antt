@@ -136,7 +136,7 @@ corners_here side q s axis c inside =
     ∙ sym (flux_is side q s axis c)
 
 -- at every edge the four corners say the flux along their axis
-corners_are : (side : ℕ) (q : ℤ) (s : Piece) (axis : Axis) → IsInCell side s → (a : Axis) (c : Spot)
+pub corners_are : (side : ℕ) (q : ℤ) (s : Piece) (axis : Axis) → IsInCell side s → (a : Axis) (c : Spot)
     → corners side q s axis a c ≡ on_axis axis (flux side q s axis) a c
 unfolding both at_edge on_axis
 corners_are side q s X inside X c = corners_here side q s X c inside
@@ -149,12 +149,6 @@ corners_are side q s Y inside Z c = refl
 corners_are side q s Z inside X c = refl
 corners_are side q s Z inside Y c = refl
 
--- so values at a cell's corners that are its corners' flux add the flux along the axis
-pub axis_added : (side : ℕ) (q : ℤ) (s : Piece) (axis : Axis) (old now : BlockValues) → IsInCell side s
-    → Adds old now (corners side q s axis) → Adds old now (on_axis axis (flux side q s axis))
-axis_added side q s axis old now inside added =
-    adds_same old now (corners side q s axis) (on_axis axis (flux side q s axis)) (corners_are side q s axis inside) added
-
 first_of_three : (f : ℤ) → f +ℤ pos 0 +ℤ pos 0 ≡ f
 first_of_three f = omega (arith, ints)
 
@@ -165,7 +159,7 @@ third_of_three : (f : ℤ) → pos 0 +ℤ pos 0 +ℤ f ≡ f
 third_of_three f = omega (arith, ints)
 
 -- the parts along the three axes are the whole
-three_axes : (f : Axis → Spot → ℤ) (a : Axis) (c : Spot)
+pub three_axes : (f : Axis → Spot → ℤ) (a : Axis) (c : Spot)
     → both (both (on_axis X (f X)) (on_axis Y (f Y))) (on_axis Z (f Z)) a c ≡ f a c
 unfolding both on_axis
 three_axes f X c = first_of_three (f X c)

@@ -1,7 +1,7 @@
 -- A value at one edge: what it is, and what a write of it does to a block.
 use Rattle.std.proofs.Common.{◌≡◌, ◌≢◌, ℕ, ◌⊎◌, ◌+◌, ◌*◌, ◌^◌, ◌≤◌, length, Bool, true, false, ◌&&◌, unsigned_abs, inl, inr, refl, ap, sym, subst, ◌∙◌, arith}
 use Rattle.std.proofs.Math.IntN.{ℤ, pos, ◌+ℤ◌}
-use Rattle.std.specs.Prelude.{if◌then◌else◌, ◌≤ℤ◌, ◌<ℤ◌}
+use Rattle.std.specs.Prelude.{if◌then◌else◌, ◌≤ℤ◌, ◌<ℤ◌, ◌↔◌, IsTrue}
 use Rattle.std.proofs.lemmas.Bool.{cases_Bool, and_parts, and_from, both_ways}
 use Rattle.std.proofs.lemmas.Int.{ints}
 use Rattle.pic_num.specs.declared.axis.Axis.{Axis}
@@ -18,8 +18,9 @@ use Rattle.pic_grid.specs.Cells.{count_of, place_of}
 use Rattle.pic_grid.specs.Rows.{added, lifted, four_added}
 use Rattle.pic_grid.proofs.FourLaws.{between_second, between_third}
 use Rattle.pic_grid.specs.Block.{BlockValues, InZone, IsShaped, AllAtMost, inner_of, edge_at, with_edge}
-use Rattle.pic_grid.proofs.BlockLaws.{in_zone_shaped, edge_same, edge_at-same, edge_at-other}
-use Rattle.pic_flux.proofs.AddsLaws.{adds_twice}
+use Rattle.pic_grid.proofs.BlockLaws.{in_zone_shaped, shaped_twice, edge_same, edge_at-same, edge_at-other}
+use Rattle.pic_grid.proofs.ShapeLaws.{shaped_back}
+use Rattle.pic_flux.proofs.AddsLaws.{adds_twice, adds_grow}
 use Rattle.pic_flux.specs.Adds.{Adds}
 use Rattle.pic_flux.specs.Corners.{HasEdges, same_axis, same_spot, at_edge, at_corners, both}
 use Rattle.pic_grid.proofs.PathLaws.{same_int-same, same_int-true}
@@ -97,6 +98,17 @@ unfolding both
 pair_most axis p v r w n m h k a c =
     pair_size (at_edge axis p v a c) (at_edge axis r w a c) n m (at_edge_most axis p v n h a c) (at_edge_most axis r w m k a c)
 
+-- nor four of them
+pub corners_most : (axis : Axis) (p : Spot) (v w x y : ℤ) (n : ℕ) → IsAtMost v n → IsAtMost w n → IsAtMost x n → IsAtMost y n
+    → (a : Axis) (c : Spot) → unsigned_abs (at_corners axis p v w x y a c) ≤ (n + n) + (n + n)
+unfolding both
+corners_most axis p v w x y n h k l m a c =
+    let second = next_axis axis in
+    let high = lifted (next_axis second) p in
+    pair_size (both (at_edge axis p v) (at_edge axis (lifted second p) w) a c)
+    (both (at_edge axis high x) (at_edge axis (lifted second high) y) a c) (n + n) (n + n)
+    (pair_most axis p v (lifted second p) w n n h k a c) (pair_most axis high x (lifted second high) y n n l m a c)
+
 -- a write of the old value plus v adds v at that edge
 pub added_at : (old now : BlockValues) (axis : Axis) (there : Spot) (v w : ℤ) → InZone old.low old.size there
     → now ≡ with_edge old axis there w
@@ -171,6 +183,35 @@ four_adds b a c v w x y long here there =
     (adds_twice b one two (at_edge a c v) (at_edge a (lifted second c) w) (shape_of b a c v) first up_second)
     (adds_twice two three four (at_edge a (lifted third c) x) (at_edge a (lifted second (lifted third c)) y)
     (shape_of two a (lifted third c) x) up_third up_both)
+
+-- a value added to an edge makes no value larger than by it
+pub one_more : (old now : BlockValues) (axis : Axis) (there : Spot) (v : ℤ) (n m : ℕ) → IsShaped old now → Adds old now (at_edge axis there v) → IsAtMost v m
+    → AllAtMost n old → AllAtMost (n + m) now
+one_more old now axis there v n m s added small room = adds_grow old now (at_edge axis there v) n m s added (at_edge_most axis there v m small) room
+
+-- which cells a zone has stays
+pub found_on : (old now : BlockValues) (b : Bool) (c d : Spot) → IsShaped old now → c ≡ d → IsTrue b ↔ InZone old.low old.size d
+    → IsTrue b ↔ InZone now.low now.size c
+found_on old now b c d s e found = (
+  λ yes. subst (λ (p : Spot). InZone now.low now.size p) (sym e) (in_zone_shaped old now d s (found.0 yes)),
+  λ inside. found.1 (in_zone_shaped now old d (shaped_back old now s) (subst (λ (p : Spot). InZone now.low now.size p) e inside)),
+)
+
+-- values added to one edge after the other of the four along an axis round a cell
+pub one_by_one : (old one two three four : BlockValues) (a : Axis) (c : Spot) (v w x y : ℤ)
+    → IsShaped old one → IsShaped one two → IsShaped two three
+    → Adds old one (at_edge a c v)
+    → Adds one two (at_edge a (lifted (next_axis a) c) w)
+    → Adds two three (at_edge a (lifted (next_axis (next_axis a)) c) x)
+    → Adds three four (at_edge a (lifted (next_axis a) (lifted (next_axis (next_axis a)) c)) y)
+    → Adds old four (at_corners a c v w x y)
+one_by_one old one two three four a c v w x y s t u here up high far =
+    let second = next_axis a in
+    let third = next_axis second in
+    adds_twice old two four (both (at_edge a c v) (at_edge a (lifted second c) w))
+    (both (at_edge a (lifted third c) x) (at_edge a (lifted second (lifted third c)) y)) (shaped_twice old one two s t)
+    (adds_twice old one two (at_edge a c v) (at_edge a (lifted second c) w) s here up)
+    (adds_twice two three four (at_edge a (lifted third c) x) (at_edge a (lifted second (lifted third c)) y) u high far)
 
 -- two layers are among n from low on
 record HasTwo (low : ℤ) (n : ℕ) (c : ℤ) : Type 0 where

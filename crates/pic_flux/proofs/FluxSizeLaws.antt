@@ -1,12 +1,15 @@
 -- How large a flux can be where a piece lies in its closed cell.
-use Rattle.std.proofs.Common.{◌≡◌, ℕ, ◌+◌, ◌*◌, ◌^◌, ◌<◌, ◌≤◌, Bool, true, false, unsigned_abs, List, take, mul-le-mul, arith}
+use Rattle.std.proofs.Common.{◌≡◌, ℕ, ◌+◌, ◌*◌, ◌^◌, ◌<◌, ◌≤◌, Bool, true, false, to_z, of_z, ap, ◌∙◌, unsigned_abs, List, take, mul-le-mul, arith}
+use mir.Syntax.{w32, w64}
+use mir.Val.{SFits}
 use Rattle.std.proofs.Math.IntN.{ℤ, pos, ◌+ℤ◌, ◌-ℤ◌, ◌*ℤ◌}
 use Rattle.std.proofs.Math.Nat.{mul-le-mul_left, mul-le-mul_right, le_trans}
 use Rattle.std.specs.Prelude.{if◌then◌else◌, ◌≤ℤ◌}
-use Rattle.std.proofs.lemmas.Int.{ints, unsigned_abs-mul}
+use Rattle.std.proofs.lemmas.Int.{ints, unsigned_abs-mul, to_z-of_z}
 use Rattle.pic_num.specs.declared.axis.Axis.{Axis}
 use Rattle.pic_num.specs.Sizes.{IsAtMost}
 use Rattle.pic_num.specs.Space.{Spot, along}
+use Rattle.pic_num.proofs.SizeLaws.{codes, code_is}
 use Rattle.pic_grid.specs.Block.{BlockValues, AllAtMost, edge_at}
 use Rattle.pic_grid.specs.Flux.{flux, path_flux}
 use Rattle.pic_grid.specs.Segment.{Piece, IsInside, IsInCell}
@@ -42,6 +45,19 @@ flux_few side q h k =
     let r : side * side ≤ 2 ^ 14 * 2 ^ 14 = mul-le-mul h h in
     let t : 12 * (side * side) ≤ 12 * 2 ^ 28 = omega (arith, r) in
     let all : q * side * (12 * (side * side)) ≤ 2 ^ 31 * 2 ^ 14 * (12 * 2 ^ 28) = mul-le-mul p t in omega (arith, all)
+
+-- a charge of the code, and as the code widens it
+pub charge_small : (q : ℤ) → SFits w32 q → IsAtMost q (2 ^ 31)
+charge_small q fits = record { size = omega (arith, ints, fits.sfits) }
+
+pub charge_passed : (q r : ℤ) → SFits w32 q → r ≡ to_z w32 (of_z w32 q) → to_z w64 (of_z w64 r) ≡ q
+charge_passed q r h e =
+    let size = charge_small q h in
+    let widened : to_z w64 (of_z w64 q) ≡ q = code_is (search codes depth 4) tt in
+    ap (λ (z : ℤ). to_z w64 (of_z w64 z)) (e ∙ to_z-of_z w32 q h) ∙ widened
+
+pub charge_few : (side : ℕ) (q : ℤ) → side ≤ 2 ^ 14 → SFits w32 q → unsigned_abs q * side * (12 * (side * side)) ≤ 2 ^ 77
+charge_few side q few fits = flux_few side (unsigned_abs q) few (charge_small q fits).size
 
 -- nor do four pieces of a deck's charge
 pub four_few : (side q : ℕ) → side ≤ 2 ^ 14 → q ≤ 2 ^ 15 → q * (4 * side) * (12 * (side * side)) ≤ 2 ^ 65

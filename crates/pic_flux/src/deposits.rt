@@ -1,13 +1,15 @@
 //! The deposition of a segment's flux, and of a track's.
 
-ghost use Rattle.std.specs.Prelude.{ℕ, ◌*◌, unsigned_abs, take};
+ghost use Rattle.std.specs.Prelude.{ℕ, ◌*◌, ◌^◌, unsigned_abs, take};
 ghost use Rattle.std.specs.List.{All};
 ghost use Rattle.pic_grid.specs.Flux.{flux, path_flux};
 ghost use Rattle.pic_grid.specs.Segment.{IsInCell};
-ghost use Rattle.pic_grid.specs.Block.{IsShaped};
+ghost use Rattle.pic_grid.specs.Block.{IsShaped, AllAtMost};
 ghost use Rattle.pic_grid.specs.Ways.{GoAtMost};
 ghost use Rattle.pic_flux.specs.Adds.{Adds, SumsBelow, GrowsBy};
+ghost use Rattle.pic_flux.specs.Corners.{HasEdges};
 
+use crate::cell_flux::CellFlux;
 use crate::edges::{deposit_axis, has_edges};
 use pic_grid::{Block, Segment, Track};
 use pic_num::{Axis, Sub};
@@ -23,12 +25,28 @@ pub fn deposit(sub: Sub, seg: &Segment, q: i32, to: &mut Block)
     ensures values { Adds to.old to.new (flux sub q seg.now) }
     ensures grows { GrowsBy (unsigned_abs q * sub * (12 * (sub * sub))) to.old to.new }
 {
+    let _side = sub.side();
+    if has_edges(to, seg.cell) {
+        deposit_inside(sub, seg, q, to);
+    } else {
+        CellFlux::of(sub, seg, q).add_to(to);
+    }
+}
+
+/// The same where the zone has all edges of the cell: each axis is added as soon as it is known.
+#[inline(always)]
+fn deposit_inside(sub: Sub, seg: &Segment, q: i32, to: &mut Block)
+    requires inside { IsInCell sub seg.now }
+    requires edges { HasEdges to.old.low to.old.size seg.now.cell }
+    requires room { AllAtMost (2 ^ 100) to.old }
+    ensures shape { IsShaped to.old to.new }
+    ensures values { Adds to.old to.new (flux sub q seg.now) }
+{
     let charge = i64::from(q);
     let _side = sub.side();
-    let whole = has_edges(to, seg.cell);
-    deposit_axis(sub, seg, charge, Axis::X, whole, to);
-    deposit_axis(sub, seg, charge, Axis::Y, whole, to);
-    deposit_axis(sub, seg, charge, Axis::Z, whole, to);
+    deposit_axis(sub, seg, charge, Axis::X, to);
+    deposit_axis(sub, seg, charge, Axis::Y, to);
+    deposit_axis(sub, seg, charge, Axis::Z, to);
 }
 
 /// Adds the flux of the charge `q` on all segments of a track, each as `deposit` does, and changes

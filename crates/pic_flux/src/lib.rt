@@ -2,10 +2,13 @@
 //! inlined, so that each axis has straight code of its own.
 #![tactic(auto)]
 
+mod cell_flux;
 mod deposits;
 mod edges;
+mod four;
 #[cfg(test)]
 mod tests;
 mod weights;
 
+pub use cell_flux::CellFlux;
 pub use deposits::{deposit, deposit_track};

@@ -1,4 +1,4 @@
-use Rattle.std.proofs.Common.{◌≡◌, ◌+ℤ◌, ℤ, to_z, of_z, refl, ap, ◌∙◌}
+use Rattle.std.proofs.Common.{◌≡◌, ◌+ℤ◌, ℤ, to_z, of_z, ap, sym, ◌∙◌}
 use mir.Syntax.{w128}
 use Rattle.std.proofs.lemmas.Bool.{false≢true}
 use Rattle.std.proofs.lemmas.Int.{to_z-of_z}
@@ -10,18 +10,19 @@ use Rattle.pic_flux.proofs.edges.add_edge.Goals as goal
 
 pub add-requires-clause-room : goal.add-requires-clause-room
 add-requires-clause-room c =
-    let inside = c.if-has.ensures.0 refl in
+    let inside = c.requires.found.0 c.if-found.true in
     let held = c.requires.room.at_most c.args.axis (spot c.args.cell) inside in
     code_fits w128 (search codes depth 8) tt
 
-pub returns-then-has-clause-values : goal.returns-then-has-clause-values
-returns-then-has-clause-values c =
-    let inside = c.if-has.ensures.0 refl in
+pub returns-then-found-clause-values : goal.returns-then-found-clause-values
+returns-then-found-clause-values c =
+    let inside = c.requires.found.0 c.if-found.true in
     let there = spot c.args.cell in
     let value : to_z w128 (of_z w128 c.args.value) ≡ c.args.value = to_z-of_z w128 c.args.value c.ranges.value in
     let stored = c.add.ensures.stored ∙ ap (λ (v : ℤ). edge_at c.args.to.now c.args.axis there +ℤ v) value in
     added_at c.args.to.now c.add.new.self c.args.axis there c.args.value _ inside c.add.ensures.after stored
 
-pub returns-else-has-clause-values : goal.returns-else-has-clause-values
-returns-else-has-clause-values c =
-    missed c.args.to.now c.args.axis (spot c.args.cell) c.args.value (λ z. false≢true (c.if-has.ensures.1 z))
+pub returns-else-found-clause-values : goal.returns-else-found-clause-values
+returns-else-found-clause-values c =
+    missed c.args.to.now c.args.axis (spot c.args.cell) c.args.value
+    (λ z. false≢true (sym c.if-found.false ∙ c.requires.found.1 z))

@@ -1,0 +1,67 @@
+-- The flux through the twelve edges of a cell, held as values.
+use Rattle.std.specs.Prelude.{ℕ, ℤ, pos, ◌^◌, ◌+ℤ◌, ◌≤ℤ◌, ◌<ℤ◌, ◌↔◌, Bool, IsTrue}
+use Rattle.pic_num.specs.declared.axis.Axis.{Axis}
+use Rattle.pic_num.specs.declared.axis.Axis.TheVariants.{X, Y, Z}
+use Rattle.pic_num.specs.Sizes.{IsAtMost}
+use Rattle.pic_num.specs.Space.{Triple, Spot, spot, next_axis}
+use Rattle.pic_grid.specs.Block.{InZone}
+use Rattle.pic_grid.specs.Rows.{lifted}
+use Rattle.pic_flux.specs.declared.four.Four.{Four}
+use Rattle.pic_flux.specs.declared.edges.Found.{Found}
+use Rattle.pic_flux.specs.declared.edges.Layers.{Layers}
+use Rattle.pic_flux.specs.declared.cell_flux.CellFlux.{CellFlux}
+use Rattle.pic_flux.specs.Corners.{at_corners, both}
+
+-- four values at the edges along axis round a cell, and 0 at every other edge
+abbrev pub at_four : Axis → Spot → Four → Axis → Spot → ℤ
+at_four axis c f = at_corners axis c f.low_low f.high_low f.low_high f.high_high
+
+-- what the values at the twelve edges of a cell give to each edge: 0 to all others
+abbrev pub edge_flux : CellFlux → Axis → Spot → ℤ
+edge_flux f a c =
+    let cell = spot f.cell in
+    both (both (at_four X cell f.x) (at_four Y cell f.y)) (at_four Z cell f.z) a c
+
+-- four values of a size that sums with them have room for
+pub record AreSmall (f : Four) : Type 0 where
+  pub low_low : IsAtMost f.low_low (2 ^ 80)
+  pub high_low : IsAtMost f.high_low (2 ^ 80)
+  pub low_high : IsAtMost f.low_high (2 ^ 80)
+  pub high_high : IsAtMost f.high_high (2 ^ 80)
+
+-- all twelve are, and so are the indices of the cell
+pub record IsModest (f : CellFlux) : Type 0 where
+  pub at_x : IsAtMost (spot f.cell).x (2 ^ 24)
+  pub at_y : IsAtMost (spot f.cell).y (2 ^ 24)
+  pub at_z : IsAtMost (spot f.cell).z (2 ^ 24)
+  pub x : AreSmall f.x
+  pub y : AreSmall f.y
+  pub z : AreSmall f.z
+
+-- the layer c is one of n from low on
+abbrev pub IsLayer : ℤ → ℕ → ℤ → Type 0
+IsLayer low n c = (low ≤ℤ c) × (c <ℤ (low +ℤ pos n))
+
+-- three tests hold
+pub record AreTrue (a b c : Bool) : Type 0 where
+  pub first : IsTrue a
+  pub second : IsTrue b
+  pub third : IsTrue c
+
+-- which layers of a cell a zone has: the cell's own, and the next ones up
+pub record AreLayers (low : Spot) (size : Triple) (c : Spot) (l : Layers) : Type 0 where
+  pub at_x : IsTrue l.x ↔ IsLayer low.x size.x c.x
+  pub at_y : IsTrue l.y ↔ IsLayer low.y size.y c.y
+  pub at_z : IsTrue l.z ↔ IsLayer low.z size.z c.z
+  pub over_x : IsTrue l.up_x ↔ IsLayer low.x size.x (c.x +ℤ pos 1)
+  pub over_y : IsTrue l.up_y ↔ IsLayer low.y size.y (c.y +ℤ pos 1)
+  pub over_z : IsTrue l.up_z ↔ IsLayer low.z size.z (c.z +ℤ pos 1)
+
+-- which of the four edges along axis round a cell a zone has
+pub record AreFound (low : Spot) (size : Triple) (axis : Axis) (c : Spot) (f : Found) : Type 0 where
+  pub low_low : IsTrue f.low_low ↔ InZone low size c
+  pub high_low : IsTrue f.high_low ↔ InZone low size (lifted (next_axis axis) c)
+  pub low_high : IsTrue f.low_high ↔ InZone low size (lifted (next_axis (next_axis axis)) c)
+  pub high_high :
+      IsTrue f.high_high
+      ↔ InZone low size (lifted (next_axis axis) (lifted (next_axis (next_axis axis)) c))
