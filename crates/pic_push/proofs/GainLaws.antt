@@ -7,6 +7,9 @@ use Rattle.pic_num.specs.declared.axis.Axis.{Axis}
 use Rattle.pic_num.specs.Space.{Spot}
 use Rattle.pic_num.proofs.ProductLaws.{plus_zero}
 use Rattle.pic_grid.specs.Block.{edge_at}
+use Rattle.pic_grid.proofs.BlockLaws.{shaped_twice}
+use Rattle.pic_flux.specs.Corners.{both}
+use Rattle.pic_flux.proofs.AddsLaws.{adds_same, adds_twice}
 use Rattle.pic_tile.specs.declared.parcel.Parcel.{Parcel}
 use Rattle.pic_tile.specs.Directions.{directions}
 use Rattle.pic_tile.specs.Tile.{TileValue, parcel_at}
@@ -27,6 +30,53 @@ gains_clear f t d clear = record {
   gained = λ p is. record { parcel = p; there = is; gained = gains_nothing f p (clear p is) };
   none = λ is. is;
   others = λ e other. refl;
+  number_is = refl;
+}
+
+-- an equal flux serves as well
+pub gained_same : (f g : Axis → Spot → ℤ) (old new : Parcel) → ((a : Axis) (c : Spot) → f a c ≡ g a c) → Gained f old new → Gained g old new
+gained_same f g old new same h = record {
+  dir_is = h.dir_is;
+  chain_is = h.chain_is;
+  stop_is = h.stop_is;
+  shape = h.shape;
+  adds = adds_same old.flux new.flux f g same h.adds;
+}
+
+pub gains_same : (f g : Axis → Spot → ℤ) (old new : TileValue) → ((a : Axis) (c : Spot) → f a c ≡ g a c) → Gains f old new → Gains g old new
+gains_same f g old new same h = record {
+  gained = λ d p below is.
+      let found = h.gained d p below is in
+      record { parcel = found.parcel; there = found.there; gained = gained_same f g p found.parcel same found.gained };
+  none = h.none;
+  number_is = h.number_is;
+}
+
+-- one flux after another
+pub gained_twice : (f g : Axis → Spot → ℤ) (old mid new : Parcel) → Gained f old mid → Gained g mid new → Gained (both f g) old new
+gained_twice f g old mid new h k = record {
+  dir_is = k.dir_is ∙ h.dir_is;
+  chain_is = k.chain_is ∙ h.chain_is;
+  stop_is = k.stop_is ∙ h.stop_is;
+  shape = shaped_twice old.flux mid.flux new.flux h.shape k.shape;
+  adds = adds_twice old.flux mid.flux new.flux f g h.shape h.adds k.adds;
+}
+
+pub gains_twice : (f g : Axis → Spot → ℤ) (old mid new : TileValue) → Gains f old mid → Gains g mid new → Gains (both f g) old new
+gains_twice f g old mid new h k = record {
+  gained = λ d p below is.
+      let first = h.gained d p below is in
+      let then = k.gained d first.parcel below first.there in
+      record { parcel = then.parcel; there = then.there; gained = gained_twice f g p first.parcel then.parcel first.gained then.gained };
+  none = λ d below is. k.none d below (h.none d below is);
+  number_is = k.number_is ∙ h.number_is;
+}
+
+-- no flux at all
+pub gains_still : (f : Axis → Spot → ℤ) (t : TileValue) → ((d : ℕ) (p : Parcel) → d < directions → parcel_at t d ≡ Some p → IsClear f p.flux) → Gains f t t
+gains_still f t clear = record {
+  gained = λ d p below is. record { parcel = p; there = is; gained = gains_nothing f p (clear d p below is) };
+  none = λ d below is. is;
   number_is = refl;
 }
 

@@ -1,8 +1,10 @@
 pub mod PushLaws
+pub mod IdentityLaws
 pub mod FitLaws
 pub mod TraceSizeLaws
 pub mod ReachLaws
 pub mod GainLaws
+pub mod TrackLaws
 pub mod UnreachedLaws
 pub mod LayerSumLaws
 pub mod PartialSumLaws
@@ -10,4 +12,4 @@ pub mod WayLaws
 pub mod SendLaws
 pub mod ParcelLaws
 pub mod PushingLaws
-pub mod OneTileLaws
+pub mod LeastLaws

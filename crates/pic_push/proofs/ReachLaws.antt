@@ -1,4 +1,4 @@
--- Steps and directions from a tile, and which of them a path reaches.
+-- Steps and directions from a tile, and which of them a piece of a path reaches.
 use Rattle.std.proofs.Common.{◌≡◌, ℕ, ◌+◌, ◌<◌, ◌≤◌, Bool, true, false, cond, refl, sym, ◌∙◌, subst, arith}
 use Rattle.std.proofs.Math.IntN.{ℤ, pos, negsuc, ◌+ℤ◌}
 use Rattle.std.specs.Prelude.{◌≤ℤ◌, ◌<ℤ◌, unsigned_abs, nat_lt}
@@ -56,7 +56,5 @@ unfolding direction_to
 direction_is m tile low size cell at thick = λ i. direction_from (at i) (thick i) cell
 
 -- steps of numbers as the code holds them
-pub steps_are : (low from to low' from' to' : ℤ) (n : ℕ) (s : Steps) → low' ≡ low → from' ≡ from → to' ≡ to
-    → AreStepsOf low' n from' to' s → AreStepsOf low n from to s
-steps_are low from to low' from' to' n s l f t h = subst (λ (a : ℤ). AreStepsOf a n from to s) l
-    (subst (λ (a : ℤ). AreStepsOf low' n a to s) f (subst (λ (a : ℤ). AreStepsOf low' n from' a s) t h))
+pub steps_are : (low cell low' cell' : ℤ) (n : ℕ) (s : Steps) → low' ≡ low → cell' ≡ cell → AreStepsOf low' n cell' s → AreStepsOf low n cell s
+steps_are low cell low' cell' n s l e h = subst (λ (a : ℤ). AreStepsOf a n cell s) l (subst (λ (a : ℤ). AreStepsOf low' n a s) e h)

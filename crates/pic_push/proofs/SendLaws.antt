@@ -28,7 +28,7 @@ use Rattle.pic_tile.specs.Leaving.{way_after, way, after, direction_to}
 use Rattle.pic_tile.specs.Owners.{tile_of}
 use Rattle.pic_tile.specs.Tile.{TileValue, parcel_at}
 use Rattle.pic_tile.specs.Tiling.{Tiling}
-use Rattle.pic_push.specs.declared.deposits.Path.{Path}
+use Rattle.pic_push.specs.declared.paths.Path.{Path}
 use Rattle.pic_push.specs.Gains.{Gained, Gains}
 use Rattle.pic_push.specs.Paths.{IsPath, IsPathOf, flux_along, largest_grid, end_of}
 use Rattle.pic_push.specs.Reach.{direction_from}

@@ -1,28 +1,28 @@
--- The layers of the directions that a path doesn't reach: no flux of it passes them.
-use Rattle.std.proofs.Common.{◌≡◌, ℕ, zero, suc, ◌/◌, ◌%◌, ◌<◌, ◌≤◌, ◌⊎◌, inl, inr, Bool, true, false, ◌&&◌, refl, arith}
+-- The layers of the directions that a piece of a path doesn't reach: no flux of it passes them.
+use Rattle.std.proofs.Common.{◌≡◌, ℕ, zero, suc, ◌/◌, ◌%◌, ◌<◌, ◌≤◌, ◌⊎◌, inl, inr, Bool, true, false, ◌&&◌, refl, subst, arith}
 use Rattle.std.proofs.Math.IntN.{ℤ, pos, ◌+ℤ◌}
 use Rattle.std.specs.Prelude.{◌≤ℤ◌, ◌<ℤ◌}
 use Rattle.std.proofs.lemmas.Bool.Decides.{nat_tests}
 use Rattle.std.proofs.lemmas.Int.{ints}
 use Rattle.pic_num.specs.declared.axis.Axis.{Axis}
 use Rattle.pic_num.specs.declared.axis.Axis.TheVariants.{X, Y, Z}
-use Rattle.pic_num.specs.Push.{plus}
 use Rattle.pic_num.specs.Space.{Triple, Spot, along}
 use Rattle.pic_grid.specs.Block.{InZone}
-use Rattle.pic_grid.specs.Flux.{path_flux}
-use Rattle.pic_grid.specs.Path.{floor_cell, path}
-use Rattle.pic_grid.proofs.ApartLaws.{IsApart, path_apart}
-use Rattle.pic_split.specs.Move.{IsMove}
-use Rattle.pic_split.proofs.LeadLaws.{path_leads}
-use Rattle.pic_tile.specs.Directions.{directions, steps_of}
+use Rattle.pic_grid.specs.Flux.{flux}
+use Rattle.pic_grid.specs.Segment.{Piece, IsInCell}
+use Rattle.pic_grid.proofs.ApartLaws.{IsApart, flux_apart}
+use Rattle.pic_tile.specs.Directions.{directions, here, steps_of}
 use Rattle.pic_tile.specs.Layers.{layer_count, layer_low, layers_from, layers_size}
+use Rattle.pic_tile.specs.declared.parcel.Parcel.{Parcel}
+use Rattle.pic_push.specs.Gains.{IsClear}
+use Rattle.pic_push.specs.Sends.{HasLayers}
 use Rattle.pic_push.specs.declared.reach.Steps.{Steps}
 use Rattle.pic_push.specs.declared.reach.Reach.{Reach}
 use Rattle.pic_push.specs.Reach.{spans, reaches, IsReach, AreStepsOf, IsReachOf, first_of, end_of}
 
 -- the steps of a reach
-pub reach_is : (low : Spot) (n : Triple) (from to : Spot) (r : Reach) → IsReachOf low n from to r → IsReach r
-reach_is low n from to r h = record {
+pub reach_is : (low : Spot) (n : Triple) (cell : Spot) (r : Reach) → IsReachOf low n cell r → IsReach r
+reach_is low n cell r h = record {
   x_first = h.x.first;
   y_first = h.y.first;
   z_first = h.z.first;
@@ -36,28 +36,26 @@ not_spanned : (s : Steps) (e : ℕ) → spans s e ≡ false → (e < s.first) �
 unfolding spans
 not_spanned s e h = grind (arith, nat_tests)
 
--- on one axis its layers are apart from the cells of the path's ends
-apart_on : (low : ℤ) (n : ℕ) (from to j : ℤ) (s : Steps) (e : ℕ) → AreStepsOf low n from to s → e < 3 → spans s e ≡ false
-    → layer_low n low e ≤ℤ j → j <ℤ (layer_low n low e +ℤ pos (layer_count n e)) → IsApart from j × IsApart to j
-apart_on low n from to j s zero h few out least most =
+-- on one axis its layers are apart from the piece's cell
+apart_on : (low : ℤ) (n : ℕ) (cell j : ℤ) (s : Steps) (e : ℕ) → AreStepsOf low n cell s → e < 3 → spans s e ≡ false
+    → layer_low n low e ≤ℤ j → j <ℤ (layer_low n low e +ℤ pos (layer_count n e)) → IsApart cell j
+apart_on low n cell j s zero h few out least most =
     let first : s.first ≡ 1 = under (not_spanned s 0 out) in
-    let f = h.under_from first in
-    let t = h.under_to first in
-    (inl (omega (arith, ints, f, most)), inl (omega (arith, ints, t, most)))
+    let f = h.under first in
+    inl (omega (arith, ints, f, most))
   where
     under : (0 < s.first) ⊎ (s.last < 0) → s.first ≡ 1
     under (inl some) = let one = h.first in omega (arith, some, one)
     under (inr none) = absurd (omega (arith, none))
-apart_on low n from to j s (suc zero) h few out least most = absurd (none (not_spanned s 1 out))
+apart_on low n cell j s (suc zero) h few out least most = absurd (none (not_spanned s 1 out))
   where
     none : (1 < s.first) ⊎ (s.last < 1) → ⊥
     none (inl more) = let one = h.first in omega (arith, more, one)
     none (inr less) = let one = h.last_low in omega (arith, less, one)
-apart_on low n from to j s (suc (suc e)) h few out least most =
+apart_on low n cell j s (suc (suc e)) h few out least most =
     let last : s.last ≡ 1 = over (not_spanned s (suc (suc e)) out) in
-    let f = h.over_from last in
-    let t = h.over_to last in
-    (inr (omega (arith, ints, f, least)), inr (omega (arith, ints, t, least)))
+    let f = h.over last in
+    inr (omega (arith, ints, f, least))
   where
     over : (suc (suc e) < s.first) ⊎ (s.last < suc (suc e)) → s.last ≡ 1
     over (inl more) = let one = h.first in absurd (omega (arith, more, one))
@@ -67,36 +65,44 @@ either_false : (a b : Bool) → a && b ≡ false → (a ≡ false) ⊎ (b ≡ fa
 either_false true b h = inr h
 either_false false b h = inl refl
 
--- no flux of a path passes the layers of a direction that it doesn't reach
-pub unreached : (side : ℕ) (q : ℤ) (p d low : Spot) (n : Triple) (r : Reach) (dir : ℕ) → 0 < side → IsMove side d
-    → IsReachOf low n (floor_cell side p) (floor_cell side (plus p d)) r → dir < directions → reaches r dir ≡ false
-    → (a : Axis) (c : Spot) → InZone (layers_from n low dir) (layers_size n dir) c → path_flux side q (path side p d) a c ≡ pos 0
+-- no flux of a piece passes the layers of a direction that it doesn't reach
+pub unreached : (side : ℕ) (q : ℤ) (s : Piece) (low : Spot) (n : Triple) (r : Reach) (dir : ℕ) → IsInCell side s
+    → IsReachOf low n s.cell r → dir < directions → reaches r dir ≡ false
+    → (a : Axis) (c : Spot) → InZone (layers_from n low dir) (layers_size n dir) c → flux side q s a c ≡ pos 0
 unfolding reaches
-unreached side q p d low n r dir some move reach few out a c inside =
+unreached side q s low n r dir at reach few out a c inside =
     by_axis (either_false (spans r.x e.x) (spans r.y e.y && spans r.z e.z) out)
   where
     e : Triple
     e = steps_of dir
 
-    from : Spot
-    from = floor_cell side p
-
-    to : Spot
-    to = floor_cell side (plus p d)
-
     Goal : Type 0
-    Goal = path_flux side q (path side p d) a c ≡ pos 0
+    Goal = flux side q s a c ≡ pos 0
 
-    on : (b : Axis) → IsApart (along b from) (along b c) × IsApart (along b to) (along b c) → Goal
-    on b apart = path_apart side q from to a b c apart.0 apart.1 (path_leads side p d some move)
+    on : (b : Axis) → IsApart (along b s.cell) (along b c) → Goal
+    on b apart = flux_apart side q s a b c at apart
 
     by_rest : (spans r.y e.y ≡ false) ⊎ (spans r.z e.z ≡ false) → Goal
-    by_rest (inl y) = on Y (apart_on low.y n.y from.y to.y c.y r.y (dir / 3 % 3) reach.y (omega arith) y inside.y_low inside.y_high)
-    by_rest (inr z) = on Z (apart_on low.z n.z from.z to.z c.z r.z (dir / 9) reach.z (omega (arith, few)) z inside.z_low inside.z_high)
+    by_rest (inl y) = on Y (apart_on low.y n.y s.cell.y c.y r.y (dir / 3 % 3) reach.y (omega arith) y inside.y_low inside.y_high)
+    by_rest (inr z) = on Z (apart_on low.z n.z s.cell.z c.z r.z (dir / 9) reach.z (omega (arith, few)) z inside.z_low inside.z_high)
 
     by_axis : (spans r.x e.x ≡ false) ⊎ (spans r.y e.y && spans r.z e.z ≡ false) → Goal
-    by_axis (inl x) = on X (apart_on low.x n.x from.x to.x c.x r.x (dir % 3) reach.x (omega arith) x inside.x_low inside.x_high)
+    by_axis (inl x) = on X (apart_on low.x n.x s.cell.x c.x r.x (dir % 3) reach.x (omega arith) x inside.x_low inside.x_high)
     by_axis (inr rest) = by_rest (either_false (spans r.y e.y) (spans r.z e.z) rest)
+
+pub piece_clear : (side : ℕ) (q : ℤ) (s : Piece) (low : Spot) (n : Triple) (r : Reach) (bound d : ℕ) (p : Parcel) → IsInCell side s
+    → IsReachOf low n s.cell r → d < directions → reaches r d ≡ false → HasLayers bound low n d p → IsClear (flux side q s) p.flux
+piece_clear side q s low n r bound d p at reach few out room = record {
+  at = λ a e inside.
+      unreached side q s low n r d at reach few out a e
+      (subst (λ (m : Triple). InZone (layers_from n low d) m e) room.size_is (subst (λ (l : Spot). InZone l p.flux.size e) room.low_is inside));
+}
+
+-- nor those of a direction of another tile, where the reach is that of no step alone
+pub stays_alone : (r : Reach) (d : ℕ) → r.x.first ≡ 1 → r.x.last ≡ 1 → r.y.first ≡ 1 → r.y.last ≡ 1 → r.z.first ≡ 1 → r.z.last ≡ 1
+    → d < directions → (d ≡ here → ⊥) → reaches r d ≡ false
+unfolding reaches spans
+stays_alone r d x_first x_last y_first y_last z_first z_last few other = grind (arith, nat_tests)
 
 -- directions before the first and after the last aren't reached
 pub none_before : (r : Reach) (d : ℕ) → IsReach r → d < first_of r → reaches r d ≡ false

@@ -3,5 +3,4 @@ pub mod Reach
 pub mod Gains
 pub mod Sends
 pub mod Opened
-pub mod OneTile
 pub mod PartialSums

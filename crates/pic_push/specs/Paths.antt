@@ -11,7 +11,7 @@ use Rattle.pic_grid.specs.Hat.{IsInBox}
 use Rattle.pic_grid.specs.Path.{floor_cell, path}
 use Rattle.pic_grid.specs.PushPhase.{Surroundings, kind_of}
 use Rattle.pic_split.specs.Move.{IsMove}
-use Rattle.pic_push.specs.declared.deposits.Path.{Path}
+use Rattle.pic_push.specs.declared.paths.Path.{Path}
 
 -- as many cells on each axis as there may be
 abbrev pub largest_grid : Triple
@@ -28,10 +28,7 @@ pub record IsPath (p : Path) : Type 0 where
 abbrev pub flux_along : Path → Axis → Spot → ℤ
 flux_along p a c = path_flux p.sub p.charge (path p.sub (unwrapped (triple p.from)) (spot p.by)) a c
 
--- the cells of its start and its end, which aren't wrapped
-abbrev pub start_of : Path → Spot
-start_of p = floor_cell p.sub (unwrapped (triple p.from))
-
+-- the cell of its end, which isn't wrapped
 abbrev pub end_of : Path → Spot
 end_of p = floor_cell p.sub (plus (unwrapped (triple p.from)) (spot p.by))
 

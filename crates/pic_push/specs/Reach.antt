@@ -1,4 +1,4 @@
--- Which layers of a tile the path of a particle can send flux through.
+-- Which layers of a tile a piece of a particle's path can send flux through.
 use Rattle.std.specs.Prelude.{◌≡◌, ℕ, ℤ, pos, ◌≤◌, ◌+◌, ◌≤ℤ◌, ◌<ℤ◌, ◌+ℤ◌, Bool, ◌&&◌, nat_le, unsigned_abs}
 use Rattle.pic_num.specs.Space.{Triple, Spot}
 use Rattle.pic_tile.specs.Directions.{steps_of}
@@ -31,23 +31,21 @@ first_of r = direction_by r.x.first r.y.first r.z.first
 abbrev pub end_of : Reach → ℕ
 end_of r = direction_by r.x.last r.y.last r.z.last + 1
 
--- on one axis, where a tile has n layers from low on and a path leads from one cell to another: the
--- path can pass edges of the layer under the tile only where a cell lies there, and of the layers
--- over it only where a cell does or the next one up
-pub record AreStepsOf (low : ℤ) (n : ℕ) (from to : ℤ) (s : Steps) : Type 0 where
+-- on one axis, where a tile has n layers from low on and a piece of a path lies in a cell: it can
+-- pass edges of the layer under the tile only where the cell lies there, and of the layers over it
+-- only where the cell does or the next one up
+pub record AreStepsOf (low : ℤ) (n : ℕ) (cell : ℤ) (s : Steps) : Type 0 where
   pub first : s.first ≤ 1
   pub last_low : 1 ≤ s.last
   pub last_high : s.last ≤ 2
-  pub under_from : s.first ≡ 1 → low ≤ℤ from
-  pub under_to : s.first ≡ 1 → low ≤ℤ to
-  pub over_from : s.last ≡ 1 → (from +ℤ pos 1) <ℤ (low +ℤ pos n)
-  pub over_to : s.last ≡ 1 → (to +ℤ pos 1) <ℤ (low +ℤ pos n)
+  pub under : s.first ≡ 1 → low ≤ℤ cell
+  pub over : s.last ≡ 1 → (cell +ℤ pos 1) <ℤ (low +ℤ pos n)
 
 -- on all three
-pub record IsReachOf (low : Spot) (size : Triple) (from to : Spot) (r : Reach) : Type 0 where
-  pub x : AreStepsOf low.x size.x from.x to.x r.x
-  pub y : AreStepsOf low.y size.y from.y to.y r.y
-  pub z : AreStepsOf low.z size.z from.z to.z r.z
+pub record IsReachOf (low : Spot) (size : Triple) (cell : Spot) (r : Reach) : Type 0 where
+  pub x : AreStepsOf low.x size.x cell.x r.x
+  pub y : AreStepsOf low.y size.y cell.y r.y
+  pub z : AreStepsOf low.z size.z cell.z r.z
 
 -- the direction from a tile of these layers to a cell, which isn't wrapped
 abbrev pub direction_from : Spot → Triple → Spot → ℕ

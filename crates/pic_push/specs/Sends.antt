@@ -1,5 +1,5 @@
 -- What the push of one particle does to the parcels of its tile.
-use Rattle.std.specs.Prelude.{◌≡◌, ℕ, ℤ, ◌<◌, ◌∷◌, ◌==◌, if◌then◌else◌, Option, Some, None, IsSome}
+use Rattle.std.specs.Prelude.{◌≡◌, ℕ, ℤ, ◌<◌, ◌+◌, ◌^◌, ◌∷◌, ◌==◌, if◌then◌else◌, Option, Some, None, IsSome}
 use Rattle.pic_num.specs.declared.axis.Axis.{Axis}
 use Rattle.pic_num.specs.declared.motion.Particle.{Particle}
 use Rattle.pic_num.specs.Space.{Triple, Spot}
@@ -63,16 +63,27 @@ pub record SendsOut (w : Surroundings) (m : Tiling) (x : Particle)
   pub none : parcel_at old here ≡ None → parcel_at new here ≡ None
   pub number_is : new.number ≡ old.number
 
--- a parcel has the layers of its direction, from a tile of these layers, and room there for the
--- flux of a path more
-pub record HasRoom (low : Spot) (size : Triple) (d : ℕ) (p : Parcel) : Type 0 where
+-- a parcel has the layers of its direction, from a tile of these layers, and at most so much flux at
+-- each of their edges
+pub record HasLayers (bound : ℕ) (low : Spot) (size : Triple) (d : ℕ) (p : Parcel) : Type 0 where
   pub low_is : p.flux.low ≡ layers_from size low d
   pub size_is : p.flux.size ≡ layers_size size d
-  pub most : AllAtMost most_flux p.flux
+  pub most : AllAtMost bound p.flux
 
 -- a tile has all its parcels but that of no step, which is held apart
-pub record IsOpen (low : Spot) (size : Triple) (t : TileValue) : Type 0 where
+pub record IsOpenTo (bound : ℕ) (low : Spot) (size : Triple) (t : TileValue) : Type 0 where
   pub whole : (d : ℕ) → d < directions → (d ≡ here → ⊥) → IsSome (parcel_at t d)
   pub room :
-      (d : ℕ) (p : Parcel) → d < directions → parcel_at t d ≡ Some p → HasRoom low size d p
+      (d : ℕ) (p : Parcel) → d < directions → parcel_at t d ≡ Some p → HasLayers bound low size d p
   pub apart : parcel_at t here ≡ None
+
+-- there is room for the flux of a path more
+abbrev pub HasRoom : Spot → Triple → ℕ → Parcel → Type 0
+HasRoom low size d p = HasLayers most_flux low size d p
+
+abbrev pub IsOpen : Spot → Triple → TileValue → Type 0
+IsOpen low size t = IsOpenTo most_flux low size t
+
+-- what flux is at most at an edge while that of a path's pieces is added
+abbrev pub most_sent : ℕ
+most_sent = most_flux + 2 ^ 62

@@ -2,22 +2,20 @@
 //! of the tile's directions.
 #![tactic(auto)]
 
-mod deposits;
 mod feeling;
 mod laws;
 mod leading;
 mod moves;
+mod paths;
 mod pushing;
 mod reach;
 mod sending;
 mod spreading;
 mod stops;
-#[cfg(test)]
-mod tests;
 mod tile_push;
 
 pub use laws::{
     layers_make_the_current, sums_grow_by_particles, sums_keep_the_bound, the_way_leads_to_the_tile,
 };
-pub use stops::lesser;
+pub use stops::{least_stop, lesser};
 pub use tile_push::push_tile;

@@ -58,11 +58,10 @@ fn follow(frame: &Frame, zone: Zone, node: Box<Node>, by: &Moved, tile: &mut Til
         SendsOut w frame.now.map (particle_of node.value) tile.old tile.new }
 {
     let path = path_of(frame, &node.particle(), by);
-    let end = path.end();
-    send_flux(&path, zone, end, tile, own);
+    send_flux(&path, zone, tile, own);
     let mut node = node;
     advance(frame.cells().sub(), frame.cells(), by, &mut node);
-    lead(way_to(zone, end), node, tile, own);
+    lead(way_to(zone, path.end()), node, tile, own);
 }
 
 /// Leaves a particle that halts in its tile as it was.

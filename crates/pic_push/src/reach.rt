@@ -1,8 +1,10 @@
-//! Which layers of a tile a path can send flux through, and in which direction it leads.
+//! Which layers of a tile a piece of a path can send flux through, and in which direction a path
+//! leads.
 
-ghost use Rattle.std.specs.Prelude.{◌≡◌, pos, ◌<◌, ◌≤◌, ◌≤ℤ◌, ◌<ℤ◌, ◌+ℤ◌, unsigned_abs};
+ghost use Rattle.std.specs.Prelude.{◌≡◌, ℕ, pos, ◌<◌, ◌≤◌, ◌≤ℤ◌, ◌<ℤ◌, ◌+ℤ◌, unsigned_abs};
+ghost use Rattle.std.specs.Prelude.{IsTrue, false};
 ghost use Rattle.pic_num.specs.Space.{triple, spot};
-ghost use Rattle.pic_tile.specs.Directions.{directions};
+ghost use Rattle.pic_tile.specs.Directions.{directions, here};
 ghost use Rattle.pic_tile.specs.Leaving.{step_to};
 ghost use Rattle.pic_push.specs.Reach.{spans, reaches, IsReach, IsReachOf, AreStepsOf};
 ghost use Rattle.pic_push.specs.Reach.{direction_from, first_of, end_of};
@@ -26,20 +28,27 @@ pub(crate) struct Reach {
 }
 
 impl Reach {
-    /// The directions whose layers a path from a cell to a cell can send flux through, from the
-    /// tile of a zone.
-    pub fn of(zone: Zone, from: [i32; 3], to: [i32; 3]) -> Reach
-        ensures { IsReachOf (spot zone.low) (triple zone.size) (spot from) (spot to) result }
+    /// The directions whose layers a piece of a path in a cell can send flux through, from the tile
+    /// of a zone.
+    pub fn of(zone: Zone, cell: [i32; 3]) -> Reach
+        ensures { IsReachOf (spot zone.low) (triple zone.size) (spot cell) result }
     {
         let [low_x, low_y, low_z] = zone.low;
         let [nx, ny, nz] = zone.size;
-        let [from_x, from_y, from_z] = from;
-        let [to_x, to_y, to_z] = to;
+        let [x, y, z] = cell;
         Reach {
-            x: steps_on(low_x, nx, from_x, to_x),
-            y: steps_on(low_y, ny, from_y, to_y),
-            z: steps_on(low_z, nz, from_z, to_z),
+            x: steps_on(low_x, nx, x),
+            y: steps_on(low_y, ny, y),
+            z: steps_on(low_z, nz, z),
         }
+    }
+
+    /// Whether that of no step is its only direction.
+    pub fn stays(&self) -> bool
+        ensures { IsTrue result → (d : ℕ) → d < directions → (d ≡ here → ⊥)
+            → reaches self.now d ≡ false }
+    {
+        self.x.stays() && (self.y.stays() && self.z.stays())
     }
 
     /// The number of its first direction.
@@ -69,6 +78,14 @@ impl Reach {
 }
 
 impl Steps {
+    /// Whether no step is the only one of them.
+    fn stays(&self) -> bool
+        ensures first { IsTrue result → self.now.first ≡ 1 }
+        ensures last { IsTrue result → self.now.last ≡ 1 }
+    {
+        self.first == 1 && self.last == 1
+    }
+
     /// Whether a step is one of them.
     #[tactic(auto, unfolding(crate::specs::Reach::spans))]
     fn has(&self, step: u32) -> bool
@@ -78,40 +95,33 @@ impl Steps {
     }
 }
 
-/// The steps that a path can reach on an axis where a tile has `size` layers from `low` on.
-fn steps_on(low: i32, size: u32, from: i32, to: i32) -> Steps
-    ensures { AreStepsOf low size from to result }
+/// The steps that a piece in a cell can reach on an axis where a tile has `size` layers from `low`
+/// on.
+fn steps_on(low: i32, size: u32, cell: i32) -> Steps
+    ensures { AreStepsOf low size cell result }
 {
     Steps {
-        first: first_step(low, from, to),
-        last: last_step(low, size, from, to),
+        first: first_step(low, cell),
+        last: last_step(low, size, cell),
     }
 }
 
-/// A step down where one of two cells lies below `low`, else none.
-fn first_step(low: i32, from: i32, to: i32) -> u32
+/// A step down where a cell lies below `low`, else none.
+fn first_step(low: i32, cell: i32) -> u32
     ensures most { result ≤ 1 }
-    ensures from { result ≡ 1 → low ≤ℤ from }
-    ensures to { result ≡ 1 → low ≤ℤ to }
+    ensures under { result ≡ 1 → low ≤ℤ cell }
 {
-    if from < low {
-        return 0;
-    }
-    if to < low { 0 } else { 1 }
+    if cell < low { 0 } else { 1 }
 }
 
-/// A step up where the layer over one of two cells is none of the tile's, else none.
-fn last_step(low: i32, size: u32, from: i32, to: i32) -> u32
+/// A step up where the layer over a cell is none of the tile's, else none.
+fn last_step(low: i32, size: u32, cell: i32) -> u32
     ensures least { 1 ≤ result }
     ensures most { result ≤ 2 }
-    ensures from { result ≡ 1 → (from +ℤ pos 1) <ℤ (low +ℤ pos size) }
-    ensures to { result ≡ 1 → (to +ℤ pos 1) <ℤ (low +ℤ pos size) }
+    ensures over { result ≡ 1 → (cell +ℤ pos 1) <ℤ (low +ℤ pos size) }
 {
     let end = i64::from(low) + i64::from(size);
-    if i64::from(from) + 1 >= end {
-        return 2;
-    }
-    if i64::from(to) + 1 >= end { 2 } else { 1 }
+    if i64::from(cell) + 1 >= end { 2 } else { 1 }
 }
 
 /// The direction from the tile of a zone to a cell, which isn't wrapped.

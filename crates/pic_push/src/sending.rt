@@ -1,23 +1,31 @@
 //! The flux that a particle's path sends through the layers of its tile.
 
-ghost use Rattle.std.specs.Prelude.{◌≡◌, IfOk};
+ghost use Rattle.std.specs.Prelude.{◌≡◌, ◌^◌, ℕ, IfOk, take};
+ghost use Rattle.std.specs.List.{All};
+ghost use Rattle.pic_num.specs.Limits.{most_charge};
+ghost use Rattle.pic_num.specs.Sizes.{IsAtMost};
 ghost use Rattle.pic_num.specs.Space.{triple, spot};
 ghost use Rattle.pic_boris.specs.Pushes.{shift_of, IsInLimits};
+ghost use Rattle.pic_grid.specs.Flux.{flux, path_flux};
 ghost use Rattle.pic_grid.specs.PushPhase.{CanShare};
+ghost use Rattle.pic_grid.specs.Segment.{IsInCell};
+ghost use Rattle.pic_grid.specs.Traces.{IsFluxAtMost};
 ghost use Rattle.pic_tile.specs.Directions.{here};
 ghost use Rattle.pic_tile.specs.Frame.{felt_in};
 ghost use Rattle.pic_tile.specs.Tiling.{cells_of};
 ghost use Rattle.pic_push.specs.Gains.{Gained, Gains};
-ghost use Rattle.pic_push.specs.Paths.{IsPath, IsPathOf, flux_along, end_of};
-ghost use Rattle.pic_push.specs.Sends.{HasRoom, IsOpen};
+ghost use Rattle.pic_push.specs.Paths.{IsPath, IsPathOf, flux_along};
+ghost use Rattle.pic_push.specs.Sends.{HasRoom, IsOpen, HasLayers, IsOpenTo, most_sent};
 
-use crate::deposits::{Path, deposit_path};
 use crate::feeling::charge_of;
+use crate::paths::Path;
 use crate::reach::Reach;
 use crate::spreading::spread;
 use pic_boris::Moved;
-use pic_grid::Zone;
-use pic_num::Particle;
+use pic_flux::{CellFlux, deposit};
+use pic_grid::{Segment, Track, Zone};
+use pic_num::{Particle, Sub};
+use pic_split::{lone, split};
 use pic_tile::{Frame, Parcel, Tile};
 
 /// The path of a particle's move.
@@ -37,18 +45,66 @@ pub(crate) fn path_of(frame: &Frame, particle: &Particle, by: &Moved) -> Path
     }
 }
 
+/// Adds the flux of the charge `q` on a piece of a path to all parcels of a tile, of which that of
+/// no step is held apart. Most pieces send flux through the tile's own layers alone; for others it
+/// is computed once for all parcels.
+#[inline(always)]
+fn send_piece(sub: Sub, piece: &Segment, q: i32, zone: Zone, tile: &mut Tile, own: &mut Parcel)
+    requires inside { IsInCell sub piece.now }
+    requires charge { IsAtMost q most_charge }
+    requires open { IsOpenTo most_sent (spot zone.low) (triple zone.size) tile.old }
+    requires room { HasLayers most_sent (spot zone.low) (triple zone.size) here own.old }
+    ensures own { Gained (flux sub q piece.now) own.old own.new }
+    ensures others { Gains (flux sub q piece.now) tile.old tile.new }
+{
+    let _side = sub.side();
+    let reach = Reach::of(zone, piece.cell);
+    if reach.stays() {
+        deposit(sub, piece, q, &mut own.flux);
+        return;
+    }
+    let flux = CellFlux::of(sub, piece, q);
+    flux.add_to(&mut own.flux);
+    spread(&flux, &reach, tile);
+}
+
+/// The same for the pieces of a path that crosses faces of cells, one after the other.
+fn send_track(sub: Sub, track: &Track, q: i32, zone: Zone, tile: &mut Tile, own: &mut Parcel)
+    requires inside { All (IsInCell sub) track.now }
+    requires charge { IsAtMost q most_charge }
+    requires short { (k : ℕ) → IsFluxAtMost (2 ^ 62) (path_flux sub q (take k track.now)) }
+    requires open { IsOpen (spot zone.low) (triple zone.size) tile.old }
+    requires room { HasRoom (spot zone.low) (triple zone.size) here own.old }
+    ensures own { Gained (path_flux sub q track.now) own.old own.new }
+    ensures others { Gains (path_flux sub q track.now) tile.old tile.new }
+{
+    let segments = track.segments();
+    for piece in segments {
+        send_piece(sub, piece, q, zone, tile, own);
+    }
+}
+
 /// Adds the flux of a path to all parcels of a tile, of which that of no step is held apart. Most
-/// paths stay inside the tile, and send flux through its own layers alone.
-pub(crate) fn send_flux(path: &Path, zone: Zone, end: [i32; 3], tile: &mut Tile, own: &mut Parcel)
+/// paths stay in a cell.
+pub(crate) fn send_flux(path: &Path, zone: Zone, tile: &mut Tile, own: &mut Parcel)
     requires path { IsPath path.now }
-    requires end { spot end ≡ end_of path.now }
     requires open { IsOpen (spot zone.low) (triple zone.size) tile.old }
     requires room { HasRoom (spot zone.low) (triple zone.size) here own.old }
     ensures own { Gained (flux_along path.now) own.old own.new }
     ensures others { Gains (flux_along path.now) tile.old tile.new }
 {
-    let _side = path.sub.side();
-    let reach = Reach::of(zone, path.start(), end);
-    deposit_path(path, &mut own.flux);
-    spread(path, &reach, tile);
+    let Path {
+        sub,
+        from,
+        by,
+        charge,
+    } = *path;
+    let _side = sub.side();
+    match lone(sub, from, by) {
+        Some(piece) => send_piece(sub, &piece, charge, zone, tile, own),
+        None => {
+            let track = split(sub, from, by);
+            send_track(sub, &track, charge, zone, tile, own);
+        }
+    }
 }

@@ -1,9 +1,13 @@
-//! Of two stops of a push the one of the lesser identity.
+//! Of the stops of a push that of the least identity.
 
 ghost use Rattle.std.specs.Prelude.{◌≡◌};
 ghost use Rattle.pic_orders.specs.StopOf.{lesser, identity_of};
+ghost use Rattle.pic_tile.specs.Directions.{here};
+ghost use Rattle.pic_tile.specs.Exchanged.{least_stop};
+ghost use Rattle.pic_tile.specs.Tile.{stop_at};
 
 use pic_grid::Stop;
+use pic_tile::{Dir, Tile};
 
 /// The identity that a stop of a push names.
 #[tactic(auto, unfolding(pic_orders::specs::StopOf::identity_of))]
@@ -33,4 +37,23 @@ pub fn lesser(first: Option<Stop>, second: Option<Stop>) -> Option<Stop>
     } else {
         Some(one)
     }
+}
+
+/// What stops the push of a tile's own particles.
+fn stop_of(tile: &Tile) -> Option<Stop>
+    ensures { result ≡ stop_at tile.now here }
+{
+    tile.parcel(Dir::HERE)?.stop
+}
+
+/// Of the stops of tiles that of the least identity, or `None` where no tile has one.
+pub fn least_stop(tiles: &[Tile]) -> Option<Stop>
+    ensures { result ≡ least_stop tiles.now }
+{
+    let mut least = None;
+    for done in 0..tiles.len() {
+        let tile = &tiles[tiles.len() - 1 - done];
+        least = lesser(stop_of(tile), least);
+    }
+    least
 }

@@ -41,8 +41,8 @@ known c =
     let node = ap particle_of c.deref_mut.ensures.value in
     record {
       of = path;
-      leads = leads_by w f.map x s c.path_of-path.result c.args.tile.now.number (spot c.args.zone.low) (triple c.args.zone.size) (spot c.end-end.result)
-          c.way_to.result c.requires.push path own c.requires.of.tile_is c.requires.low c.requires.size c.end-end.ensures c.way_to.ensures.value;
+      leads = leads_by w f.map x s c.path_of-path.result c.args.tile.now.number (spot c.args.zone.low) (triple c.args.zone.size) (spot c.end.result)
+          c.way_to.result c.requires.push path own c.requires.of.tile_is c.requires.low c.requires.size c.end.ensures c.way_to.ensures.value;
       moves = c.advance.ensures ∙ (λ i. moved (side i) (cells i) (node i) s) ∙ sym (after_is w x s c.requires.push);
     }
 

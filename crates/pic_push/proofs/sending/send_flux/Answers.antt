@@ -1,28 +1,60 @@
-use Rattle.std.proofs.Common.{subst, arith}
-use Rattle.pic_num.specs.Space.{Triple, Spot, triple, spot, unwrapped}
-use Rattle.pic_grid.specs.Block.{InZone}
-use Rattle.pic_tile.specs.Layers.{layers_from}
-use Rattle.pic_push.specs.Paths.{start_of, end_of}
-use Rattle.pic_push.specs.Reach.{IsReachOf}
-use Rattle.pic_push.proofs.UnreachedLaws.{unreached}
+use Rattle.std.proofs.Common.{◌^◌, take, ap, sym, subst, rules, ◌∙◌, arith}
+use Rattle.std.proofs.Math.IntN.{ℤ}
+use Rattle.std.proofs.lemmas.Int.{to_z-of_z}
+use mir.Syntax.{w32}
+use mir.Val.{SFits}
+use Rattle.pic_num.specs.declared.axis.Axis.{Axis}
+use Rattle.pic_num.specs.Space.{Spot, triple, spot, unwrapped}
+use Rattle.pic_grid.specs.Flux.{flux, path_flux}
+use Rattle.pic_grid.specs.Path.{path}
+use Rattle.pic_grid.specs.Traces.{IsFluxAtMost}
+use Rattle.pic_tile.specs.Directions.{here}
+use Rattle.pic_push.specs.Gains.{Gains}
+use Rattle.pic_push.specs.Paths.{flux_along}
+use Rattle.pic_push.proofs.FitLaws.{pieces_inside, path_short, lone_flux}
+use Rattle.pic_push.proofs.GainLaws.{gained_same, gains_same}
+use Rattle.pic_push.proofs.TrackLaws.{layers_more, open_more}
 use Rattle.pic_push.proofs.sending.send_flux.Goals as goal
 
-pub spread-requires-clause-room : goal.spread-requires-clause-room
-spread-requires-clause-room c = λ d p few at. (c.requires.open.room d p few at).most
+pub send_piece-requires-clause-open : goal.send_piece-requires-clause-open
+send_piece-requires-clause-open c = open_more (spot c.args.zone.low) (triple c.args.zone.size) c.args.tile.now c.requires.open
 
-pub spread-requires-clause-clear : goal.spread-requires-clause-clear
-spread-requires-clause-clear c =
+pub send_piece-requires-clause-room : goal.send_piece-requires-clause-room
+send_piece-requires-clause-room c = layers_more (spot c.args.zone.low) (triple c.args.zone.size) here c.args.own.now c.requires.room
+
+pub send_track-requires-clause-inside : goal.send_track-requires-clause-inside
+send_track-requires-clause-inside c = pieces_inside c.args.path.now.sub c.split-track.ensures.leads
+
+pub send_track-requires-clause-short : goal.send_track-requires-clause-short
+send_track-requires-clause-short c =
     let p = c.args.path.now in
-    let low = spot c.args.zone.low in
-    let size = triple c.args.zone.size in
-    let from = unwrapped (triple p.from) in
-    let ends : IsReachOf low size (start_of p) (end_of p) c.of-reach.result =
-    subst (λ (e : Spot). IsReachOf low size (start_of p) e c.of-reach.result) c.requires.end
-    (subst (λ (s : Spot). IsReachOf low size s (spot c.args.end) c.of-reach.result) c.start.ensures c.of-reach.ensures) in
-    λ d q few out at.
-    let room = c.requires.open.room d q few at in
-    record {
-      at = λ a e inside.
-          unreached p.sub p.charge from (spot p.by) low size c.of-reach.result d (omega (arith, c.side-side.ensures)) c.requires.path.by ends few out a e
-          (subst (λ (n : Triple). InZone (layers_from size low d) n e) room.size_is (subst (λ (l : Spot). InZone l q.flux.size e) room.low_is inside));
-    }
+    let fits : SFits w32 p.charge = search rules in
+    λ k. subst (λ (q : ℤ). IsFluxAtMost (2 ^ 62) (path_flux p.sub q (take k c.split-track.result))) (sym (to_z-of_z w32 p.charge fits))
+    (path_short p.sub (unwrapped (triple p.from)) (spot p.by) p.charge c.split-track.result (omega (arith, c.side-side.ensures))
+    (omega (arith, c.side-side.ensures)) c.split-track.ensures.value c.requires.path.by c.requires.path.charge k)
+
+pub returns-in-Some-clause-own : goal.returns-in-Some-clause-own
+returns-in-Some-clause-own c =
+    let p = c.args.path.now in
+    let fits : SFits w32 p.charge = search rules in
+    let one = sym c.lone.ensures.piece ∙ c.in-Some.is in
+    gained_same _ (flux_along p) c.args.own.now c.send_piece.new.own
+    (λ a e. ap (λ (q : ℤ). flux p.sub q c.in-Some.piece a e) (to_z-of_z w32 p.charge fits)
+    ∙ sym (lone_flux p.sub p.charge (path p.sub (unwrapped (triple p.from)) (spot p.by)) c.in-Some.piece a e one)) c.send_piece.ensures.own
+
+pub returns-in-Some-clause-others : goal.returns-in-Some-clause-others
+returns-in-Some-clause-others c =
+    let p = c.args.path.now in
+    let fits : SFits w32 p.charge = search rules in
+    let one = sym c.lone.ensures.piece ∙ c.in-Some.is in
+    gains_same _ (flux_along p) c.args.tile.now c.send_piece.new.tile
+    (λ a e. ap (λ (q : ℤ). flux p.sub q c.in-Some.piece a e) (to_z-of_z w32 p.charge fits)
+    ∙ sym (lone_flux p.sub p.charge (path p.sub (unwrapped (triple p.from)) (spot p.by)) c.in-Some.piece a e one)) c.send_piece.ensures.others
+
+pub returns-in-None-clause-others : goal.returns-in-None-clause-others
+returns-in-None-clause-others c =
+    let p = c.args.path.now in
+    let fits : SFits w32 p.charge = search rules in
+    let charge = to_z-of_z w32 p.charge fits in
+    subst (λ (f : Axis → Spot → ℤ). Gains f c.args.tile.now c.send_track.new.tile)
+    (λ i. path_flux p.sub (charge i) (c.split-track.ensures.value i)) c.send_track.ensures.others

@@ -1,6 +1,6 @@
 use Rattle.std.proofs.Common.{◌<◌, ◌≤◌, arith}
 use Rattle.pic_tile.specs.Directions.{directions}
-use Rattle.pic_push.specs.Paths.{flux_along}
+use Rattle.pic_flux.specs.CellFlux.{edge_flux}
 use Rattle.pic_push.specs.Reach.{first_of, end_of}
 use Rattle.pic_push.proofs.GainLaws.{spread_none, spread_more, spread_all}
 use Rattle.pic_push.proofs.UnreachedLaws.{none_before, none_after}
@@ -11,7 +11,7 @@ loop-number-init c =
     let r = c.args.reach.now in
     let h = c.requires.reach in
     let is = c.first-number.ensures in
-    spread_none (flux_along c.args.path.now) c.args.tile.now c.first-number.result
+    spread_none (edge_flux c.args.flux.now) c.args.tile.now c.first-number.result
     (λ d p below at.
     let less : d < first_of r = omega (arith, below, is) in
     let few : d < directions = omega (arith, less, h.x_first, h.y_first, h.z_first) in
@@ -19,7 +19,7 @@ loop-number-init c =
 
 pub loop-number-preserved : goal.loop-number-preserved
 loop-number-preserved c =
-    spread_more (flux_along c.args.path.now) c.args.tile.now c.loop-number.number c.loop-number.tile c.add_if_reached.new.tile
+    spread_more (edge_flux c.args.flux.now) c.args.tile.now c.loop-number.number c.loop-number.tile c.add_if_reached.new.tile
     c.loop-number.invariant c.add_if_reached.ensures
 
 pub returns : goal.returns
@@ -27,7 +27,7 @@ returns c =
     let r = c.args.reach.now in
     let is = c.end-number-end.ensures in
     let past = c.loop-number-test.false in
-    spread_all (flux_along c.args.path.now) c.args.tile.now c.loop-number.number c.loop-number.tile
+    spread_all (edge_flux c.args.flux.now) c.args.tile.now c.loop-number.number c.loop-number.tile
     (λ d p few more at.
     let after : end_of r ≤ d = omega (arith, more, is, past) in
     c.requires.clear d p few (none_after r d c.requires.reach few after) at)
