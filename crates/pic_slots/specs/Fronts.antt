@@ -1,5 +1,5 @@
 -- The slots that a seat holds: which value has which slot, and one slot brought to the front.
-use Rattle.std.specs.Prelude.{ℕ, List, [], ◌∷◌, eqb, if◌then◌else◌}
+use Rattle.std.specs.Prelude.{◌≡◌, ℕ, List, [], ◌∷◌, eqb, if◌then◌else◌}
 use mathlib.Core.Option.{Option, none, some}
 
 module _ {S : Type 0} where
@@ -7,6 +7,10 @@ module _ {S : Type 0} where
   abbrev pub seek : ℕ → List (ℕ × S) → Option S
   seek k [] = none
   seek k (x ∷ xs) = if eqb x.0 k then some x.1 else seek k xs
+
+  -- a slot of that number is there
+  abbrev pub IsHeld : ℕ → List (ℕ × S) → Type 0
+  IsHeld k xs = (y : S) × (seek k xs ≡ some y)
 
   -- the slots without the first of that number
   abbrev pub drop_slot : ℕ → List (ℕ × S) → List (ℕ × S)

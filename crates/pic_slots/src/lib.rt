@@ -5,4 +5,4 @@ mod seats;
 #[cfg(test)]
 mod tests;
 
-pub use seats::bring;
+pub use seats::{bring, exchange};

@@ -1,32 +1,45 @@
-//! A seat of a table without a rule.
+//! A seat of a table of two slots, which takes both in one step.
 
-use crate::bring;
-use atomic_table::{Table, TableRule};
+ghost use Rattle.std.specs.Prelude.{◌≡◌, true, false, [], ◌∷◌, None};
+ghost use mathlib.Core.Option.{some};
+ghost use lib.ListN.{get_elem?};
+
+use crate::exchange;
+use atomic_table::{Play, Table, TableRule};
 use std::alloc::Global;
 use std::test::Fail;
 
-// what any table meets
-struct Anything;
+// until the first seat has taken both slots, they are at home and empty
+struct TwoSlots;
 
-impl TableRule<Option<u8>, (), ()> for Anything {
-    ghost holds = { λ _ _. Unit {0} };
+impl TableRule<Option<u8>, bool, ()> for TwoSlots {
+    ghost holds = { λ _ s. get_elem? s.views 0 ≡ some false
+        → s.homes ≡ some None ∷ some None ∷ [] };
 
-    ghost first = { λ _. tt };
+    ghost first = { λ _. false };
+}
+
+impl Play<Option<u8>, bool> for TwoSlots {
+    ghost then = { λ _ old _ new. new ≡ (true, (1, None) ∷ (0, None) ∷ old.1) };
 }
 
 #[test]
-fn a_seat_without_slots_stays_as_it_is(rt: HostRuntime) -> Result<(), Fail> {
-    let (table, mut seat) = Table::<Option<u8>, (), (), Anything, Global>::vacant(
+fn the_slot_that_was_taken_first_is_exchanged(rt: HostRuntime) -> Result<(), Fail> {
+    let (table, mut seat) = Table::<Option<u8>, bool, (), TwoSlots, Global>::vacant(
         rt.alloc(),
         &[5],
         2,
         &(),
     )?;
-    bring(&mut seat, 1);
+    table.shared.fetch_add::<TwoSlots>(&mut seat, 0, 1);
+    let was_first = exchange(&table.shared, &mut seat, 0, Some(3));
+    let was_second = exchange(&table.shared, &mut seat, 1, Some(4));
+    let first = exchange(&table.shared, &mut seat, 0, None);
     let mut closed = table.close();
     let word = closed.word(0);
     let slots = [closed.take(0), closed.take(1)];
     closed.free();
-    assert!(rt; word == 5 && slots == [None, None]);
+    assert!(rt; word == 6 && was_first.is_none() && was_second.is_none());
+    assert!(rt; first == Some(3) && slots == [None, Some(4)]);
     Ok(())
 }
