@@ -1,13 +1,9 @@
 -- The census: no event changes which identities there are.
 use Rattle.std.proofs.Common.{◌≡◌, ℕ, ◌<◌, false, List, length, get_or, map, sum_by, IsPermutation, Some, None, refl, sym, ap, ◌∙◌, subst, arith}
 use Rattle.std.specs.List.{range_with_len}
-use Rattle.std.proofs.lemmas.List.{length-map}
-use Rattle.std.proofs.lemmas.List.FromFn.{length-range_with_len}
 use Rattle.pic_num.specs.declared.motion.Particle.{Particle}
-use Rattle.pic_orders.specs.InOrder.{IsCensus}
 use Rattle.pic_orders.specs.Same.{Same}
-use Rattle.pic_orders.proofs.InOrderLaws.{census_rearranged}
-use Rattle.pic_orders.proofs.SameLaws.{sum_by-map, same_length, permuted_same}
+use Rattle.pic_orders.proofs.SameLaws.{sum_by-map, permuted_same}
 use Rattle.pic_tile.specs.declared.parcel.Parcel.{Parcel}
 use Rattle.pic_tile.specs.CoreEvents.{CanClaim, CanPost, CanMerge, after_claim, after_post, after_merge}
 use Rattle.pic_tile.specs.CoreState.{CoreState, HasCensus, HasPlaces, IsInPlace, IsOpening, count_in, slot_of, mail_at, particles_of, start_of, held}
@@ -18,20 +14,9 @@ use Rattle.pic_tile.specs.Receiving.{Merged}
 use Rattle.pic_tile.specs.Tile.{TileValue, parcel_at, with_parcel, no_tile, tile_in}
 use Rattle.pic_tile.specs.Tiling.{neighbour_of}
 use Rattle.pic_tile.proofs.AllTilesLaws.{neighbour_below}
+use Rattle.pic_push.proofs.IdentityLaws.{census_of, tile_weight, ready_weight, pushed_weight}
 use Rattle.pic_core.proofs.SlotLaws.{slot_below, bounded}
-use Rattle.pic_core.proofs.WeightLaws.{tile_weight, mail_weight, weight_is, ready_weight, pushed_weight, taken_weight, merged_weight, changed_weight}
-
-length-map_id : (xs : List Particle) (n : ℕ) → Same (map (λ x. x.id) xs) (range_with_len 0 n) → length xs ≡ n
-length-map_id xs n s =
-    let ids = same_length (map (λ x. x.id) xs) (range_with_len 0 n) s in
-    sym (length-map xs (λ (x : Particle). x.id)) ∙ ids ∙ length-range_with_len 0 n
-
--- identities that are those of a census
-pub census_of : (xs : List Particle) (n : ℕ) → Same (map (λ x. x.id) xs) (range_with_len 0 n) → IsPermutation (range_with_len 0 n) (map (λ x. x.id) xs)
-census_of xs n s =
-    let long = length-map_id xs n s in
-    let census : IsCensus xs = record { identities = subst (λ (k : ℕ). Same (map (λ x. x.id) xs) (range_with_len 0 k)) (sym long) s } in
-    subst (λ (k : ℕ). IsPermutation (range_with_len 0 k) (map (λ x. x.id) xs)) long ((census_rearranged xs).0 census)
+use Rattle.pic_core.proofs.WeightLaws.{mail_weight, weight_is, taken_weight, merged_weight, changed_weight}
 
 -- the same identities, by weights
 pub kept_census : (s new : CoreState) → new.opening ≡ s.opening → ((v : ℕ → ℕ) → sum_by (λ x. v x.id) (held new) ≡ sum_by (λ x. v x.id) (held s))

@@ -19,9 +19,9 @@ use Rattle.pic_tile.proofs.OpeningLaws.{opening_inside}
 use Rattle.pic_tile.proofs.ReceivingLaws.{receiving_none}
 use Rattle.pic_tile.proofs.TileLaws.{same_there}
 use Rattle.pic_core.specs.Opened.{AreBare, IsOpened}
-use Rattle.pic_core.proofs.CensusLaws.{census_of}
+use Rattle.pic_push.proofs.IdentityLaws.{census_of, tile_weight, ready_weight}
 use Rattle.pic_core.proofs.SlotLaws.{not_both, bounded}
-use Rattle.pic_core.proofs.WeightLaws.{tile_weight, mail_weight, weight_is, ready_weight}
+use Rattle.pic_core.proofs.WeightLaws.{mail_weight, weight_is}
 
 zero_sum : (ts : List TileValue) → sum_by (λ (t : TileValue). 0) ts ≡ 0
 zero_sum [] = refl
@@ -36,8 +36,8 @@ bare_weight v n ts bare =
     sum_by_agree (tile_weight v) (λ t. 0) ts (λ k d within.
     let below : k < n = subst (λ (m : ℕ). k < m) bare.long within in
     ap (tile_weight v) (get_or_default ts k d no_tile within)
-    ∙ ready_weight v (tile_in ts k) (λ e inside apart. ap chain_of (bare.none k e below))
-    ∙ ap (λ (found : Option Parcel). sum_by v (chain_of found)) (bare.none k here below))
+    ∙ ready_weight v (tile_in ts k) (λ e inside apart. ap chain_of (bare.none k e below inside))
+    ∙ ap (λ (found : Option Parcel). sum_by v (chain_of found)) (bare.none k here below (omega arith)))
     ∙ zero_sum ts
 
 module _ (s : CoreState) (o : IsOpened s.frame s.opening s) (sound : IsSound s.frame) (opens : IsOpening s.frame s.opening) where
@@ -83,7 +83,7 @@ module _ (s : CoreState) (o : IsOpened s.frame s.opening s) (sound : IsSound s.f
     sent = λ r d below within on free. absurd (not_both (is_posted s r d) on (unposted r d));
     taken = λ r d below within on. no_mail r d;
     receives = λ r below. receiving_none (felt_in s.frame) s.frame.map (start_of s) _ r (tile_in s.received r) (o.received.numbers r below)
-        (λ d within. bounded d (is_merged s r d) within ∙ unmerged r d) (λ d within. o.received.none r d below);
+        (λ d within. bounded d (is_merged s r d) within ∙ unmerged r d) (λ d within. o.received.none r d below within);
   }
 
   -- the tiles weigh what the list does

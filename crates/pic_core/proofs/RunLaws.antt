@@ -51,6 +51,18 @@ unfolding Ran
 ran_frame s [] next ran = ap (λ (z : CoreState). z.frame) ran
 ran_frame s (e ∷ events) next ran = ran_frame ran.0 events next ran.4 ∙ applied_frame s e ran.0 ran.2
 
+-- nor what the push began with
+applied_opening : (s : CoreState) (e : Event) (next : CoreState) → Applied s e next → next.opening ≡ s.opening
+applied_opening s (Claim t) next done = ap (λ (z : CoreState). z.opening) done.is
+applied_opening s (Post t d) next done = ap (λ (z : CoreState). z.opening) done
+applied_opening s (Merge r d) next done = ap (λ (z : CoreState). z.opening) done.is
+applied_opening s (Shut r) next done = ap (λ (z : CoreState). z.opening) done
+
+pub ran_opening : (s : CoreState) (events : List Event) (next : CoreState) → Ran s events next → next.opening ≡ s.opening
+unfolding Ran
+ran_opening s [] next ran = ap (λ (z : CoreState). z.opening) ran
+ran_opening s (e ∷ events) next ran = ran_opening ran.0 events next ran.4 ∙ applied_opening s e ran.0 ran.2
+
 -- lists of events for each number, one number more
 counting_more : (a n j : ℕ) → a + n ≡ j → range_with_len a (suc n) ≡ range_with_len a n ++ (j ∷ [])
 counting_more a zero j e = let same : a ≡ j = omega (arith, e) in ap (λ (k : ℕ). k ∷ []) same

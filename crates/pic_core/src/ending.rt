@@ -1,10 +1,16 @@
 //! The end of a push of all tiles.
 
-ghost use Rattle.std.specs.Prelude.{◌≡◌, ◌↔◌, IsTrue};
-ghost use Rattle.pic_tile.specs.CoreState.{AreAllShut, particles_of};
+ghost use Rattle.std.specs.Prelude.{◌≡◌, ◌↔◌, ◌<◌, ℕ, IsTrue};
+ghost use Rattle.pic_grid.specs.Block.{AllAtMost};
+ghost use Rattle.pic_grid.specs.Traces.{most_flux};
+ghost use Rattle.pic_tile.specs.CoreState.{AreAllShut, count_in, particles_of};
+ghost use Rattle.pic_tile.specs.Directions.{here};
 ghost use Rattle.pic_tile.specs.Exchanged.{AreExchanged};
 ghost use Rattle.pic_tile.specs.Frame.{felt_in};
+ghost use Rattle.pic_tile.specs.Tile.{flux_at, tile_in};
+ghost use Rattle.pic_core.specs.Opened.{IsRoom};
 
+use crate::room::{Room, make_bare, unmark};
 use crate::state::Core;
 use pic_tile::{Frame, Tile};
 
@@ -30,17 +36,47 @@ impl Core {
         ensures exchanged { AreExchanged (felt_in self.frame) self.frame.map
             (particles_of self.opening) result.1.items }
     {
+        let (frame, tiles, _room) = self.close_with_room();
+        (frame, tiles)
+    }
+
+    /// The same, and the room in which the core worked, ready for the next. The flux of each tile is
+    /// within the bound of a push.
+    pub fn close_with_room(self) -> (Frame, Vec<Tile>, Room)
+        requires { AreAllShut self }
+        ensures frame { result.0 ≡ self.frame }
+        ensures tiles { result.1.items ≡ self.received }
+        ensures room { IsRoom self.frame.map result.2 }
+        ensures exchanged { AreExchanged (felt_in self.frame) self.frame.map
+            (particles_of self.opening) result.1.items }
+        ensures bound { (r : ℕ) → r < count_in self
+            → AllAtMost most_flux (flux_at (tile_in result.1.items r) here) }
+    {
+        let count = self.count();
         let Core {
             frame,
             opening: _,
-            tiles: _,
-            mail: _,
+            mut tiles,
+            mail,
             received,
-            claimed: _,
-            posted: _,
-            merged: _,
-            shut: _,
+            mut claimed,
+            mut posted,
+            mut merged,
+            mut shut,
         } = self;
-        (frame, received)
+        make_bare(&mut tiles, count);
+        unmark(&mut claimed);
+        unmark(&mut posted);
+        unmark(&mut merged);
+        unmark(&mut shut);
+        let room = Room {
+            bare: tiles,
+            mail,
+            claimed,
+            posted,
+            merged,
+            shut,
+        };
+        (frame, received, room)
     }
 }

@@ -12,6 +12,7 @@ ghost use Rattle.pic_core.specs.Opened.{HasNotBegun};
 use crate::allowed::are_all_marked;
 use crate::event::Event;
 use crate::state::Core;
+use pic_gate::{Gate, Point};
 use pic_tile::Dir;
 
 impl Core {
@@ -80,7 +81,7 @@ impl Core {
     }
 
     /// Posts the next parcel, and finishes its tile where it is the last that leads there.
-    fn post_next(&mut self, tile: u32, dir: Dir)
+    fn post_next<G: Gate>(&mut self, tile: u32, dir: Dir, gate: &G)
         requires tile { tile < count_in self.old }
         requires dir { dir < directions }
         requires at { IsAt (tile + 1) (slot_of tile dir) (slot_of tile dir) self.old }
@@ -89,34 +90,37 @@ impl Core {
     {
         let to = self.frame.map().neighbour(tile, dir);
         self.must(Event::Post(tile, dir));
+        gate.pass(0, Point::Posted);
         if are_all_marked(&self.posted, to) {
             self.finish_tile(tile, dir);
         }
     }
 
     /// Claims the next tile and posts its parcels.
-    fn run_tile(&mut self, tile: u32)
+    fn run_tile<G: Gate>(&mut self, tile: u32, gate: &G)
         requires tile { tile < count_in self.old }
         requires at { IsAt tile (tile * directions) (tile * directions) self.old }
         ensures at { IsAt (tile + 1) ((tile + 1) * directions) ((tile + 1) * directions) self.new }
         ensures ran { Ran self.old (tiling self.old.frame.map tile) self.new }
     {
         self.must(Event::Claim(tile));
+        gate.pass(0, Point::Claimed);
         for number in 0..Dir::COUNT {
-            self.post_next(tile, Dir::of(number));
+            self.post_next(tile, Dir::of(number), gate);
         }
     }
 
     /// Lets all events come from the first on, as one worker does: tile by tile it claims and posts
     /// the parcels by direction, and as soon as all that lead to a tile are posted it merges them,
-    /// that of no step first, and shuts the tile. It takes no memory.
-    pub fn run_in_turn(&mut self)
+    /// that of no step first, and shuts the tile. As worker 0 it passes the gate after each claim and
+    /// each post. It takes no memory.
+    pub fn run_in_turn<G: Gate>(&mut self, gate: &G)
         requires { HasNotBegun self.old }
         ensures ran { Ran self.old (in_turn self.old.frame.map) self.new }
         ensures finished { AreAllShut self.new }
     {
         for tile in 0..self.count() {
-            self.run_tile(tile);
+            self.run_tile(tile, gate);
         }
     }
 }

@@ -7,10 +7,12 @@ mod event;
 mod in_turn;
 mod opening;
 mod performing;
+mod room;
 mod running;
 mod state;
 #[cfg(test)]
 mod tests;
 
 pub use event::{Event, NotAllowed};
+pub use room::Room;
 pub use state::Core;

@@ -7,10 +7,12 @@ ghost use Rattle.pic_core.specs.Opened.{HasNotBegun};
 
 use crate::opening::frame_is_sound;
 use crate::{Core, Event};
+use pic_gate::{Gate, Point};
 use pic_grid::{Cells, Lattice};
 use pic_num::{Axis, Kind, Mult, NoMemory, Particle, Sub};
 use pic_tile::{Dir, Frame, Kinds, Tile, TileMap, cut};
 use std::alloc::Global;
+use std::sync::atomic::{AtomicU32, Ordering};
 
 // [4, 4, 4] cells of 4096 sub-cells, in eight tiles
 fn eight_tiles() -> TileMap
@@ -66,54 +68,79 @@ fn begin(alloc: Global) -> Result<Core, NoMemory>
     Core::new(alloc, frame, tiles)
 }
 
-// claims all tiles
-fn claim_all(core: &mut Core, descending: bool) {
+// the claims of all tiles
+fn add_claims(events: &mut Vec<Event>, descending: bool) -> Result<(), NoMemory> {
     for k in 0..8 {
-        let tile = if descending { 7 - k } else { k };
-        let _answer = core.apply(Event::Claim(tile));
+        events.push(Event::Claim(if descending { 7 - k } else { k }))?;
     }
+    Ok(())
 }
 
-// posts all parcels, those of one direction first
-fn post_all(core: &mut Core, first: u32) {
+// the posts of all parcels, those of one direction first
+fn add_posts(events: &mut Vec<Event>, first: u32) -> Result<(), NoMemory> {
     for k in 0..216 {
         let dir = Dir::of((k / 8 + first % 27) % 27);
-        let _answer = core.apply(Event::Post(k % 8, dir));
+        events.push(Event::Post(k % 8, dir))?;
     }
+    Ok(())
 }
 
-// merges all parcels, those of no step first
-fn merge_all(core: &mut Core) {
+// the merges of all parcels, those of no step first
+fn add_merges(events: &mut Vec<Event>) -> Result<(), NoMemory> {
     for k in 0..216 {
         let dir = Dir::of((k / 8 + 13) % 27);
-        let _answer = core.apply(Event::Merge(k % 8, dir));
+        events.push(Event::Merge(k % 8, dir))?;
     }
+    Ok(())
 }
 
-fn shut_all(core: &mut Core) {
+fn add_shuts(events: &mut Vec<Event>) -> Result<(), NoMemory> {
     for tile in 0..8 {
-        let _answer = core.apply(Event::Shut(tile));
+        events.push(Event::Shut(tile))?;
     }
+    Ok(())
 }
 
-// the tiles after 448 events
-fn run(alloc: Global, descending: bool, first: u32) -> Result<Vec<Tile>, NoMemory> {
+// all events of a push of eight tiles
+fn all_events(alloc: Global, descending: bool, first: u32) -> Result<Vec<Event>, NoMemory> {
+    let mut events = Vec::new(alloc);
+    add_claims(&mut events, descending)?;
+    add_posts(&mut events, first)?;
+    add_merges(&mut events)?;
+    add_shuts(&mut events)?;
+    Ok(events)
+}
+
+// the tiles after these events, or none where they don't finish them
+fn run(alloc: Global, events: &[Event]) -> Result<Vec<Tile>, NoMemory> {
     let mut core = begin(alloc)?;
-    claim_all(&mut core, descending);
-    post_all(&mut core, first);
-    merge_all(&mut core);
-    shut_all(&mut core);
-    if !core.finished() {
+    if core.run_events(events).is_err() || !core.finished() {
         return Ok(Vec::new(alloc));
     }
     let (_, tiles) = core.close();
     Ok(tiles)
 }
 
+// a gate that counts how often it is passed
+#[derive(Drop)]
+struct Tally {
+    claimed: AtomicU32,
+    posted: AtomicU32,
+}
+
+impl Gate for Tally {
+    fn pass(&self, _worker: u32, point: Point) {
+        let _before = match point {
+            Point::Claimed => self.claimed.fetch_add(1, Ordering::SeqCst),
+            Point::Posted => self.posted.fetch_add(1, Ordering::SeqCst),
+        };
+    }
+}
+
 // the tiles when one worker has let all events come
-fn run_in_turn(alloc: Global) -> Result<Vec<Tile>, NoMemory> {
+fn run_in_turn(alloc: Global, gate: &Tally) -> Result<Vec<Tile>, NoMemory> {
     let mut core = begin(alloc)?;
-    core.run_in_turn();
+    core.run_in_turn(gate);
     let (_, tiles) = core.close();
     Ok(tiles)
 }
@@ -136,7 +163,9 @@ fn current_of(tiles: &[Tile], number: usize, cell: [i32; 3]) -> Option<i128> {
 #[test]
 fn each_order_ends_alike(rt: HostRuntime) -> Result<(), NoMemory> {
     for (descending, first) in [(false, 0), (true, 0), (false, 26)] {
-        let tiles = run(rt.alloc(), descending, first)?;
+        let events = all_events(rt.alloc(), descending, first)?;
+        assert_eq!(rt; events.len(), 448);
+        let tiles = run(rt.alloc(), &events)?;
         assert_eq!(rt; tiles.len(), 8);
         assert_eq!(rt; first_of(&tiles, 0), None);
         assert_eq!(rt; first_of(&tiles, 1), Some([16284, 0, 0]));
@@ -149,7 +178,13 @@ fn each_order_ends_alike(rt: HostRuntime) -> Result<(), NoMemory> {
 
 #[test]
 fn one_worker_ends_alike(rt: HostRuntime) -> Result<(), NoMemory> {
-    let tiles = run_in_turn(rt.alloc())?;
+    let tally = Tally {
+        claimed: AtomicU32::new(0),
+        posted: AtomicU32::new(0),
+    };
+    let tiles = run_in_turn(rt.alloc(), &tally)?;
+    assert_eq!(rt; tally.claimed.load(Ordering::SeqCst), 8);
+    assert_eq!(rt; tally.posted.load(Ordering::SeqCst), 216);
     assert_eq!(rt; first_of(&tiles, 0), None);
     assert_eq!(rt; first_of(&tiles, 1), Some([16284, 0, 0]));
     assert_eq!(rt; current_of(&tiles, 0, [0, 0, 0]), Some(20132659200));

@@ -8,10 +8,10 @@ use Rattle.pic_core.proofs.WorkerLaws.{marked_all, marked_not, post_ran_last, po
 use Rattle.pic_core.proofs.state.Core.post_next.Goals as goal
 
 pub must-requires : goal.must-requires
-must-requires c = next_post c.args.self.now c.args.tile c.args.dir c.requires.tile c.requires.dir c.requires.at
+must-requires g c = next_post c.args.self.now c.args.tile c.args.dir c.requires.tile c.requires.dir c.requires.at
 
 pub finish_tile-requires-clause-at : goal.finish_tile-requires-clause-at
-finish_tile-requires-clause-at c =
+finish_tile-requires-clause-at g c =
     let all = marked_all c.args.self.now c.args.tile c.args.dir c.neighbour-to.result c.deref.result.now c.requires.tile c.requires.dir c.requires.at
     c.must.ensures.stood (c.neighbour-to.ensures.value ∙ ap (λ (m : Tiling). neighbour_of m.tiles c.args.tile c.args.dir) c.map.ensures.value
     ∙ ap (λ (z : CoreState). neighbour_of z.frame.map.tiles c.args.tile c.args.dir) c.self.view_is)
@@ -21,7 +21,7 @@ finish_tile-requires-clause-at c =
     (posted_last c.args.self.now c.args.tile c.args.dir c.requires.tile c.requires.dir c.requires.at c.must.ensures.stood.places all)
 
 pub returns-then-are_all_marked-clause-ran : goal.returns-then-are_all_marked-clause-ran
-returns-then-are_all_marked-clause-ran c =
+returns-then-are_all_marked-clause-ran g c =
     let all = marked_all c.args.self.now c.args.tile c.args.dir c.neighbour-to.result c.deref.result.now c.requires.tile c.requires.dir c.requires.at
     c.must.ensures.stood (c.neighbour-to.ensures.value ∙ ap (λ (m : Tiling). neighbour_of m.tiles c.args.tile c.args.dir) c.map.ensures.value
     ∙ ap (λ (z : CoreState). neighbour_of z.frame.map.tiles c.args.tile c.args.dir) c.self.view_is)
@@ -32,7 +32,7 @@ returns-then-are_all_marked-clause-ran c =
     c.finish_tile.ensures.ran
 
 pub returns-else-are_all_marked-clause-at : goal.returns-else-are_all_marked-clause-at
-returns-else-are_all_marked-clause-at c =
+returns-else-are_all_marked-clause-at g c =
     let more = marked_not c.args.self.now c.args.tile c.args.dir c.neighbour-to.result c.deref.result.now c.requires.tile c.requires.dir c.requires.at
     c.must.ensures.stood (c.neighbour-to.ensures.value ∙ ap (λ (m : Tiling). neighbour_of m.tiles c.args.tile c.args.dir) c.map.ensures.value
     ∙ ap (λ (z : CoreState). neighbour_of z.frame.map.tiles c.args.tile c.args.dir) c.self.view_is)
@@ -42,7 +42,7 @@ returns-else-are_all_marked-clause-at c =
     (posted_next c.args.self.now c.args.tile c.args.dir c.requires.tile c.requires.dir c.requires.at c.must.ensures.stood.places more)
 
 pub returns-else-are_all_marked-clause-ran : goal.returns-else-are_all_marked-clause-ran
-returns-else-are_all_marked-clause-ran c =
+returns-else-are_all_marked-clause-ran g c =
     let more = marked_not c.args.self.now c.args.tile c.args.dir c.neighbour-to.result c.deref.result.now c.requires.tile c.requires.dir c.requires.at
     c.must.ensures.stood (c.neighbour-to.ensures.value ∙ ap (λ (m : Tiling). neighbour_of m.tiles c.args.tile c.args.dir) c.map.ensures.value
     ∙ ap (λ (z : CoreState). neighbour_of z.frame.map.tiles c.args.tile c.args.dir) c.self.view_is)

@@ -10,10 +10,10 @@ use Rattle.pic_core.proofs.WorkerLaws.{count_same}
 use Rattle.pic_core.proofs.state.Core.run_in_turn.Goals as goal
 
 pub loop-tile-init : goal.loop-tile-init
-loop-tile-init c = record { at = at_start c.args.self.now c.requires; ran = ran_none c.args.self.now }
+loop-tile-init g c = record { at = at_start c.args.self.now c.requires; ran = ran_none c.args.self.now }
 
 pub run_tile-requires-clause-tile : goal.run_tile-requires-clause-tile
-run_tile-requires-clause-tile c =
+run_tile-requires-clause-tile g c =
     let start = c.args.self.now in
     let now = c.loop-tile.self in
     count_same start now c.loop-tile.tile
@@ -21,7 +21,7 @@ run_tile-requires-clause-tile c =
     (subst (λ (n : ℕ). c.loop-tile.tile < n) c.count-tile-end.ensures.value c.loop-tile-test.true)
 
 pub loop-tile-preserved : goal.loop-tile-preserved
-loop-tile-preserved c =
+loop-tile-preserved g c =
     let start = c.args.self.now in
     let now = c.loop-tile.self in
     let i = c.loop-tile.tile in
@@ -34,7 +34,7 @@ loop-tile-preserved c =
     }
 
 pub returns-clause-finished : goal.returns-clause-finished
-returns-clause-finished c =
+returns-clause-finished g c =
     let start = c.args.self.now in
     let now = c.loop-tile.self in
     let i = c.loop-tile.tile in

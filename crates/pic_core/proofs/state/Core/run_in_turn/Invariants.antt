@@ -6,7 +6,7 @@ use Rattle.pic_core.specs.InTurn.{IsAt, tiling}
 use Rattle.pic_core.proofs.state.Core.run_in_turn.Given as goal
 
 abbrev pub invariant-loop-tile : goal.invariant-loop-tile
-invariant-loop-tile l = record {
+invariant-loop-tile g l = record {
   at : IsAt l.tile (l.tile * directions) (l.tile * directions) l.self;
   ran : Ran l.initial.self (flat_map (tiling l.initial.self.frame.map) (range_with_len 0 l.tile)) l.self;
 }

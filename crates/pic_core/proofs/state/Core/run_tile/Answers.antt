@@ -11,13 +11,13 @@ use Rattle.pic_core.proofs.WorkerLaws.{count_same, tile_ran}
 use Rattle.pic_core.proofs.state.Core.run_tile.Goals as goal
 
 pub loop-number-init : goal.loop-number-init
-loop-number-init c = record {
+loop-number-init g c = record {
   at = claimed_next c.args.self.now c.must.new.self c.args.tile c.must.ensures.stood.places c.requires.tile c.requires.at c.must.ensures.applied;
   ran = ran_none c.must.new.self;
 }
 
 pub post_next-requires-clause-tile : goal.post_next-requires-clause-tile
-post_next-requires-clause-tile c =
+post_next-requires-clause-tile g c =
     let one = c.must.new.self in
     let now = c.loop-number.self in
     count_same c.args.self.now now c.args.tile
@@ -25,7 +25,7 @@ post_next-requires-clause-tile c =
     ∙ ap (λ (z : CoreState). z.frame) c.must.ensures.applied.is) c.requires.tile
 
 pub loop-number-preserved : goal.loop-number-preserved
-loop-number-preserved c =
+loop-number-preserved g c =
     let one = c.must.new.self in
     let now = c.loop-number.self in
     let i = c.loop-number.number in
@@ -41,7 +41,7 @@ loop-number-preserved c =
     }
 
 pub returns-clause-ran : goal.returns-clause-ran
-returns-clause-ran c =
+returns-clause-ran g c =
     tile_ran c.args.self.now c.must.new.self c.loop-number.self c.args.tile (next_claim c.args.self.now c.args.tile c.requires.tile c.requires.at)
     c.must.ensures.applied c.must.ensures.stands
     (let all : c.loop-number.number ≡ directions = omega arith in

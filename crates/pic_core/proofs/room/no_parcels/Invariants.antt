@@ -1,5 +1,5 @@
 use Rattle.std.proofs.Common.{◌≡◌, replicate, None}
-use Rattle.pic_core.proofs.opening.no_parcels.Given as goal
+use Rattle.pic_core.proofs.room.no_parcels.Given as goal
 
 abbrev pub invariant-loop : goal.invariant-loop
 invariant-loop l = l.places.items ≡ replicate l.counter None
