@@ -20,10 +20,10 @@ module _ {S : Type 0} (kinds : Kinds S) (tiles dirs here ticket : ℕ) (to from 
   abbrev after : ℕ → ℕ → Bool
   after = posts posted r d
 
-  -- the parcel lies in its mailbox; with that of no step the home slot comes home too, and is empty
+  -- the parcel lies in its mailbox; with that of no step the home slot comes home too, and is vacant
   pub record ComesHome (later : List (Option S)) : Type 0 where
     pub box : IsHome later (slot_in dirs r d) (kinds.IsParcel (from r d) d)
-    pub home : d ≡ here → IsHome later (slot_in dirs r dirs) kinds.IsEmpty
+    pub home : d ≡ here → IsHome later (slot_in dirs r dirs) kinds.IsVacant
     pub others : (at : ℕ) → (at ≡ slot_in dirs r d → ⊥) → (d ≡ here → at ≡ slot_in dirs r dirs → ⊥) → get_elem? later at ≡ get_elem? homes at
 
   -- all slots of r are away
@@ -86,8 +86,8 @@ module _ {S : Type 0} (kinds : Kinds S) (tiles dirs here ticket : ℕ) (to from 
           let at : from r d ≡ r = ap (λ (k : ℕ). from r k) h ∙ own_from tiles dirs here to from ways r inside in omega (arith, at, e, above, sender) in
           home_still homes later (slot_in dirs t dirs) (kinds.IsTile t) (home_same t apart) (places.opening t tile above);
       between = λ t tile is less. elim (which_pair r d t here) [
-        | inl same ↦ subst (λ (k : ℕ). IsHome later (slot_in dirs k dirs) kinds.IsEmpty) (sym same.0) (put.home (sym same.1))
-        | inr apart ↦ home_still homes later (slot_in dirs t dirs) kinds.IsEmpty (home_same t (λ h e. apart (e, sym h)))
+        | inl same ↦ subst (λ (k : ℕ). IsHome later (slot_in dirs k dirs) kinds.IsVacant) (sym same.0) (put.home (sym same.1))
+        | inr apart ↦ home_still homes later (slot_in dirs t dirs) kinds.IsVacant (home_same t (λ h e. apart (e, sym h)))
             (places.between t tile (was t here apart true is) (fewer t less))
       ];
       finished = λ q tile closed.
@@ -141,7 +141,7 @@ module _ {S : Type 0} (kinds : Kinds S) (tiles dirs here ticket : ℕ) (to from 
           home_still homes later (slot_in dirs t dirs) (kinds.IsTile t) (gone.others t dirs apart (omega arith)) (places.opening t tile above);
       between = λ t tile is less.
           let apart : t ≡ r → ⊥ = not_less t less in
-          home_still homes later (slot_in dirs t dirs) kinds.IsEmpty (gone.others t dirs apart (omega arith))
+          home_still homes later (slot_in dirs t dirs) kinds.IsVacant (gone.others t dirs apart (omega arith))
           (places.between t tile (was t here (λ same. apart same.0) true is) (subst (λ (c : ℕ). c < dirs) (count_row posted r d dirs t apart) less));
       finished = λ q tile closed.
           home_still homes later (slot_in dirs q dirs) (kinds.IsFinished q) (gone.others q dirs (not_shut q tile closed) (omega arith))

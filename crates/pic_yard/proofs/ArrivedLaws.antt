@@ -13,7 +13,7 @@ use Rattle.pic_yard.specs.declared.opening.Opening.{Opening}
 use Rattle.pic_yard.specs.declared.view.View.{View}
 use Rattle.pic_yard.specs.Acts.{take_all}
 use Rattle.pic_yard.specs.Arrivals.{behind, post_act, IsLoaded, HasAllMail, Arrived}
-use Rattle.pic_yard.specs.Contents.{Slot, tiles_in, to_of, from_of, IsParcel, kinds_of}
+use Rattle.pic_yard.specs.Contents.{Slot, vacant, tiles_in, to_of, from_of, IsParcel, kinds_of}
 use Rattle.pic_yard.specs.Marks.{Marks, IsOwed, IsRight, posts}
 use Rattle.pic_yard.specs.Members.{count_below}
 use Rattle.pic_yard.specs.Places.{IsHome, Places, Aways}
@@ -72,7 +72,7 @@ module _ (o : Opening) (s : State Slot View) (rule : Rule o s) (id : ℕ) (me : 
   one_home = set s.homes box (some parcel)
 
   abbrev two_home : List (Option Slot)
-  two_home = set one_home home (some None)
+  two_home = set one_home home (some vacant)
 
   given : List (Option Slot)
   given = if eqb d here then two_home else one_home
@@ -91,8 +91,7 @@ module _ (o : Opening) (s : State Slot View) (rule : Rule o s) (id : ℕ) (me : 
     | yes is ↦
         ap (λ (a : Act Slot). homes_after s.homes me.1 a) (act_here d slots is)
         ∙ ap (λ (c : List (ℕ × Slot)). homes_after s.homes c (chain gives gives)) (load.first
-        ∙ ap (λ (c : List (ℕ × Slot)). (box, parcel) ∷ c) (load.home is))
-        ∙ sym (given_here is)
+        ∙ ap (λ (c : List (ℕ × Slot)). (box, parcel) ∷ c) (load.home is)) ∙ sym (given_here is)
     | no apart ↦
         ap (λ (a : Act Slot). homes_after s.homes me.1 a) (act_step d slots apart)
         ∙ ap (λ (c : List (ℕ × Slot)). homes_after s.homes c gives) load.first ∙ sym (given_step apart)
@@ -116,7 +115,7 @@ module _ (o : Opening) (s : State Slot View) (rule : Rule o s) (id : ℕ) (me : 
 
   given_long : length given ≡ length s.homes
   given_long = elim (ℕ_discrete d here) [
-    | yes is ↦ ap (λ (hs : List (Option Slot)). length hs) (given_here is) ∙ length-set one_home home (some None) ∙ length-set s.homes box (some parcel)
+    | yes is ↦ ap (λ (hs : List (Option Slot)). length hs) (given_here is) ∙ length-set one_home home (some vacant) ∙ length-set s.homes box (some parcel)
     | no apart ↦ ap (λ (hs : List (Option Slot)). length hs) (given_step apart) ∙ length-set s.homes box (some parcel)
   ]
 
@@ -133,9 +132,9 @@ module _ (o : Opening) (s : State Slot View) (rule : Rule o s) (id : ℕ) (me : 
     | yes is ↦
         let inside : home < length one_home = below_there one_home home none (set_else s.homes box home (some parcel) home_apart ∙ home_away is) in
         subst (λ (hs : List (Option Slot)). Comes hs) (sym (given_here is)) (record {
-          box = record { value = parcel; there = set_else one_home home box (some None) (λ e. home_apart (sym e)) ∙ one_there; is = load.is };
-          home = λ h. record { value = None; there = set_here one_home home (some None) inside; is = refl };
-          others = λ k not_box not_home. set_else one_home home k (some None) (not_home is) ∙ set_else s.homes box k (some parcel) not_box;
+          box = record { value = parcel; there = set_else one_home home box (some vacant) (λ e. home_apart (sym e)) ∙ one_there; is = load.is };
+          home = λ h. record { value = vacant; there = set_here one_home home (some vacant) inside; is = refl };
+          others = λ k not_box not_home. set_else one_home home k (some vacant) (not_home is) ∙ set_else s.homes box k (some parcel) not_box;
         })
     | no apart ↦
         subst (λ (hs : List (Option Slot)). Comes hs) (sym (given_step apart)) (record {
@@ -207,13 +206,13 @@ module _ (o : Opening) (s : State Slot View) (rule : Rule o s) (id : ℕ) (me : 
   -- The last post: all slots of r are taken.
 
   abbrev mail_by : Bool → ℕ → Slot → Type 0
-  mail_by true k y = y ≡ None
+  mail_by true k y = y ≡ vacant
   mail_by false k y = IsParcel o (from_of o r k) k y
 
   abbrev mail_kind : ℕ → Slot → Type 0
   mail_kind k y = mail_by (eqb k directions) k y
 
-  mail_home : (k : ℕ) (y : Slot) → k ≡ directions → mail_kind k y ≡ (y ≡ None)
+  mail_home : (k : ℕ) (y : Slot) → k ≡ directions → mail_kind k y ≡ (y ≡ vacant)
   mail_home k y is = ap (λ (b : Bool). mail_by b k y) (eq-eqb k directions is)
 
   mail_box : (k : ℕ) (y : Slot) → (k ≡ directions → ⊥) → mail_kind k y ≡ IsParcel o (from_of o r k) k y
@@ -228,10 +227,10 @@ module _ (o : Opening) (s : State Slot View) (rule : Rule o s) (id : ℕ) (me : 
     last_there : (k : ℕ) → k < suc directions → IsHome given (slot_at r k) (mail_kind k)
     last_there k below = elim (ℕ_discrete k directions) [
       | yes is ↦
-          let empty : IsHome given home (λ (y : Slot). y ≡ None) = elim (ℕ_discrete d here) [
+          let empty : IsHome given home (λ (y : Slot). y ≡ vacant) = elim (ℕ_discrete d here) [
             | yes h ↦ comes.home h
             | no apart ↦
-                let old : IsHome s.homes home (λ (y : Slot). y ≡ None) = rule.places.between r owed.tile (others_posted here (omega arith) (λ e. apart
+                let old : IsHome s.homes home (λ (y : Slot). y ≡ vacant) = rule.places.between r owed.tile (others_posted here (omega arith) (λ e. apart
                 (sym e))) less_than_all in
                 record { value = old.value; there = comes.others home home_apart (λ h same. apart h) ∙ old.there; is = old.is }
           ] in
@@ -349,10 +348,11 @@ module _ (o : Opening) (s : State Slot View) (rule : Rule o s) (id : ℕ) (me : 
       mail = λ k dir. takes.found k (omega (arith, dir)) (behind d slots);
       is = λ k dir. subst (λ (A : Type 0). A) (mail_box k (takes.value k) (λ e. omega (arith, e, dir))) (takes.is k (omega (arith, dir)));
       home =
-          let empty : takes.value directions ≡ None = subst (λ (A : Type 0). A) (mail_home directions (takes.value directions) refl)
+          let empty : takes.value directions ≡ vacant = subst (λ (A : Type 0). A) (mail_home directions (takes.value directions) refl)
           (takes.is directions (omega arith)) in
           takes.found directions (omega arith) (behind d slots) ∙ ap (λ (y : Slot). some y) empty;
       others = λ slot not. takes.past slot not (behind d slots);
+      fresh = slot_new;
       once = takes.apart (behind d slots) (once_behind o me r d parcel slots load) slot_new;
     })
 

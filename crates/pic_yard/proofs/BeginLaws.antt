@@ -1,5 +1,6 @@
 -- A board begins with the rule.
-use Rattle.std.proofs.Common.{◌≡◌, ℕ, zero, suc, ◌+◌, ◌^◌, ◌<◌, ◌≤◌, List, [], ◌∷◌, ◌-◌, slice_index, false, Some, None, inl, inr, refl, sym, ap, ◌∙◌, subst, arith, true≢false}
+use Rattle.std.proofs.Common.{◌≡◌, ℕ, zero, suc, ◌+◌, ◌^◌, ◌<◌, ◌≤◌, List, [], ◌∷◌, ◌-◌, slice_index, false, Some, None, inl, inr, refl, sym, ap, ◌∙◌, subst}
+use Rattle.std.proofs.Common.{arith, true≢false}
 use Rattle.std.proofs.lemmas.List.{length-map}
 use mathlib.Core.Option.{some, some-injective, some-ne-none}
 use lib.ListN.{get_elem?}
@@ -11,7 +12,7 @@ use Rattle.pic_yard.specs.declared.opening.Opening.{Opening}
 use Rattle.pic_yard.specs.declared.view.View.{View}
 use Rattle.pic_yard.specs.Contents.{Slot, tiles_in, tile_at}
 use Rattle.pic_yard.specs.Laws.{IsLaid}
-use Rattle.pic_yard.specs.Members.{In, count_below}
+use Rattle.pic_yard.specs.Members.{In, Differ, count_below}
 use Rattle.pic_yard.specs.Rule.{Rule}
 use Rattle.pic_yard.specs.Sits.{slot_at}
 use Rattle.pic_yard.specs.Steps.{ahead, first_view}
@@ -21,7 +22,16 @@ ahead_in : (x k n : ℕ) → In x (ahead k n) → (k ≤ x) × (x < k + n)
 unfolding ahead
 ahead_in x k zero is = elim is [ ]
 ahead_in x k (suc n) (inl same) = (omega (arith, same), omega (arith, same))
-ahead_in x k (suc n) (inr more) = let rest : (suc k ≤ x) × (x < suc k + n) = ahead_in x (suc k) n more in let a : suc k ≤ x = rest.0 in let b : x < suc k + n = rest.1 in (omega arith, omega arith)
+ahead_in x k (suc n) (inr more) =
+    let rest : (suc k ≤ x) × (x < suc k + n) = ahead_in x (suc k) n more in
+    let a : suc k ≤ x = rest.0 in
+    let b : x < suc k + n = rest.1 in
+    (omega arith, omega arith)
+
+ahead_differ : (k n : ℕ) → Differ (ahead k n)
+unfolding ahead
+ahead_differ k zero = tt
+ahead_differ k (suc n) = ((λ more. let a : suc k ≤ k = (ahead_in k (suc k) n more).0 in omega (arith, a)), ahead_differ (suc k) n)
 
 count_nothing : (n : ℕ) → count_below (λ d. false) n ≡ 0
 unfolding count_below
@@ -67,9 +77,13 @@ begins o words slots sound opens some_seats small laid =
               unmade_kept = λ y had. refl;
               unmade_told = λ y had. refl;
               made = λ had. let a : 1 ≤ 0 = (later 0 had).0 in omega (arith, a);
+              apart = λ had. had;
+              taken_differ = tt;
+              unmade_differ = ahead_differ 1 (o.seats - 1);
               drawn = omega arith;
               past = λ told. absurd (true≢false (sym told));
             }) i x there;
+        known = λ x below is. absurd (true≢false (sym is));
       };
       marks = record {
         claimer = λ t. 0;

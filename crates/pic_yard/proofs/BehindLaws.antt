@@ -1,5 +1,5 @@
 -- The slots of a seat behind those that a post gives.
-use Rattle.std.proofs.Common.{◌≡◌, ℕ, List, ◌∷◌, Bool, eq-eqb, ne_eqb, if◌then◌else◌, None, sym, ap, ◌∙◌, subst}
+use Rattle.std.proofs.Common.{◌≡◌, ℕ, List, ◌∷◌, Bool, eq-eqb, ne_eqb, if◌then◌else◌, sym, ap, ◌∙◌, subst}
 use Rattle.std.proofs.Math.Decide.{ℕ_discrete}
 use mathlib.Core.Option.{none, some}
 use Rattle.atomic_table.specs.Table.{Me, chain, gives, rest}
@@ -9,7 +9,7 @@ use Rattle.pic_yard.specs.declared.opening.Opening.{Opening}
 use Rattle.pic_yard.specs.declared.view.View.{View}
 use Rattle.pic_yard.specs.Acts.{Apart}
 use Rattle.pic_yard.specs.Arrivals.{behind, post_act, IsLoaded}
-use Rattle.pic_yard.specs.Contents.{Slot}
+use Rattle.pic_yard.specs.Contents.{Slot, vacant}
 use Rattle.pic_yard.specs.Sits.{slot_at}
 
 module _ (d : ℕ) (slots : List (ℕ × Slot)) where
@@ -46,8 +46,8 @@ module _ (o : Opening) (me : Me Slot View) (r d : ℕ) (parcel : Slot) (slots : 
   pub gone_box : (home ≡ box → ⊥) → seek box (behind d slots) ≡ none
   gone_box differs = elim (ℕ_discrete d here) [
     | yes is ↦
-        let skip : seek box ((home, None) ∷ rest slots) ≡ seek box (rest slots) =
-        ap (λ (b : Bool). if b then some None else seek box (rest slots)) (ne_eqb home box differs) in
+        let skip : seek box ((home, vacant) ∷ rest slots) ≡ seek box (rest slots) =
+        ap (λ (b : Bool). if b then some vacant else seek box (rest slots)) (ne_eqb home box differs) in
         ap (λ (c : List (ℕ × Slot)). seek box c) (behind_here d slots is) ∙ sym skip
         ∙ ap (λ (c : List (ℕ × Slot)). seek box c) (sym (load.home is)) ∙ once.0
     | no apart ↦ ap (λ (c : List (ℕ × Slot)). seek box c) (behind_step d slots apart) ∙ once.0

@@ -197,6 +197,8 @@ module _ (o : Opening) (s : State Slot View) (rule : Rule o s) (id : ℕ) (me : 
             | yes is ↦ not (claimed.claim_home (same ∙ ap place is ∙ at_home))
             | no apart ↦ not (claimed.claim_box k (omega (arith, below, apart)) (same ∙ at_box k apart))
           ]) me.1;
+      fresh = λ d dir.
+          ap (λ (q : ℕ). seek q me.1) (sym (at_box d (λ e. omega (arith, e, dir)))) ∙ slot_new d (omega (arith, dir));
       kept = λ slot y there.
           ap (λ (l : List (ℕ × Slot)). seek slot l) is_carried
           ∙ got.past slot (λ k below same. some-ne-none y (sym there ∙ ap (λ (q : ℕ). seek q me.1) same ∙ slot_new k below)) me.1 ∙ there;

@@ -1,4 +1,5 @@
 pub mod CountLaws
+pub mod CrossLaws
 pub mod MemberLaws
 pub mod ViewLaws
 pub mod TicketLaws
@@ -18,3 +19,20 @@ pub mod ArrivedLaws
 pub mod ReturnLaws
 pub mod TeamLaws
 pub mod BeginLaws
+pub mod TotalLaws
+pub mod BalanceLaws
+pub mod CensusLaws
+pub mod LayLaws
+pub mod SeatingLaws
+pub mod RowLaws
+pub mod CloseLaws
+pub mod SwapLaws
+pub mod ClaimedLaws
+pub mod DrawnLaws
+pub mod WorkLaws
+pub mod LoadLaws
+pub mod PostedLaws
+pub mod PostCalls
+pub mod StackLaws
+pub mod ReceivedLaws
+pub mod ReceiveCalls

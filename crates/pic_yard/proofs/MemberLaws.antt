@@ -2,7 +2,7 @@
 use Rattle.std.proofs.Common.{◌≡◌, ℕ, zero, suc, ◌<◌, ◌⊎◌, List, [], ◌∷◌, ◌++◌, Bool, true, false, ◌&&◌, eqb, eq-eqb, eqb-true, true≢false, if◌then◌else◌}
 use Rattle.std.proofs.Common.{inl, inr, ⊎_elim, refl, sym, ap, ◌∙◌, arith}
 use Rattle.std.proofs.Math.Decide.{ℕ_discrete}
-use Rattle.pic_yard.specs.Members.{In, without, same_pair}
+use Rattle.pic_yard.specs.Members.{In, Differ, without, same_pair}
 use Rattle.pic_yard.specs.Steps.{boxes_of}
 
 module _ {A : Type 0} where
@@ -51,6 +51,23 @@ module _ {A : Type 0} where
       choose true e more rest = rest more
       choose false e (inl same) rest = ap found same ∙ e
       choose false e (inr more) rest = rest more
+
+  -- what is left out of a list leaves no element twice,
+  pub differ_without : (found : A → Bool) (xs : List A) → Differ xs → Differ (without found xs)
+  differ_without found [] apart = tt
+  differ_without found (y ∷ xs) apart = choose (found y) (differ_without found xs apart.1)
+    where
+      choose : (b : Bool) → Differ (without found xs) → Differ (if b then without found xs else y ∷ without found xs)
+      choose true rest = rest
+      choose false rest = ((λ more. apart.0 (was_in found y xs more)), rest)
+
+  -- nor do two lists, one after the other, that have no element in common
+  pub differ_both : (xs ys : List A) → Differ xs → Differ ys → ((x : A) → In x xs → In x ys → ⊥) → Differ (xs ++ ys)
+  differ_both [] ys first second none = second
+  differ_both (x ∷ xs) ys first second none = (
+    (λ more. elim (in_parts x xs ys more) [ inl a ↦ first.0 a | inr b ↦ none x (inl refl) b ]),
+    differ_both xs ys first.1 second (λ z a b. none z (inr a) b),
+  )
 
 -- the mailboxes of a claim
 pub in_boxes : (to : ℕ → ℕ) (d n : ℕ) → d < n → In (to d, d) (boxes_of to n)

@@ -3,15 +3,17 @@
 use Rattle.std.proofs.Common.{◌≡◌, ℕ, max, ◌<◌, ◌≤◌, ◌⊎◌, List, [], ◌∷◌, ◌++◌, length, Bool, true, eqb, eq-eqb, ne_eqb, if◌then◌else◌, set, inl, inr, refl}
 use Rattle.std.proofs.Common.{sym, ap, ◌∙◌, subst, arith, true≢false}
 use Rattle.std.proofs.lemmas.Bool.{eqb-false}
-use mathlib.Core.Option.{some}
+use Rattle.std.proofs.Math.Decide.{ℕ_discrete}
+use mathlib.Core.Option.{some, some-injective}
 use lib.ListN.{get_elem?}
+use Rattle.atomic_table.proofs.Lists.{at_longer, set_else}
 use Rattle.pic_yard.specs.declared.view.View.{View}
 use Rattle.pic_yard.specs.Members.{In, at_else}
 use Rattle.pic_yard.specs.Steps.{gave_number, newcomer, took_in, spent}
 use Rattle.pic_yard.specs.Tickets.{HasNumbers, Tickets}
 use Rattle.pic_yard.proofs.CountLaws.{at_here, at_other}
-use Rattle.pic_yard.proofs.MemberLaws.{was_in, unseen_in, in_parts}
-use Rattle.pic_yard.proofs.ViewLaws.{each_view, at_end}
+use Rattle.pic_yard.proofs.MemberLaws.{was_in, unseen_in, in_parts, in_left, in_right, differ_without, differ_both}
+use Rattle.pic_yard.proofs.ViewLaws.{each_view, at_end, lists_still, lists_now}
 
 -- the numbers of the seat i are kept by j from now on
 abbrev handed : ℕ → ℕ → (ℕ → ℕ) → ℕ → ℕ
@@ -36,7 +38,7 @@ module _ (tiles seats ticket : ℕ) (views : List View) (t : Tickets tiles seats
 
   -- a new seat of the number x
   pub number_given : (x : ℕ) → In x v.unmade → Tickets tiles seats ticket (set views j (gave_number x v) ++ newcomer v x ∷ [])
-  number_given x is =
+  number_given x is_unmade =
       let n : ℕ = length (set views j (gave_number x v)) in
       let h = t.each j v there live in
       let keeper : ℕ → ℕ = at_else x n t.keeper in
@@ -45,20 +47,23 @@ module _ (tiles seats ticket : ℕ) (views : List View) (t : Tickets tiles seats
       each_view (Numbers keeper) views j (gave_number x v)
       (λ lives. record {
         own = h.own;
-        own_kept = other v.number (λ e. h.made (subst (λ (k : ℕ). In k v.unmade) (sym e) is)) ∙ h.own_kept;
+        own_kept = other v.number (λ e. h.made (subst (λ (k : ℕ). In k v.unmade) (sym e) is_unmade)) ∙ h.own_kept;
         own_told = h.own_told;
         taken = h.taken;
-        taken_kept = λ y had. other y (λ e. true≢false (sym (h.taken_told y had) ∙ ap t.told e ∙ h.unmade_told x is)) ∙ h.taken_kept y had;
+        taken_kept = λ y had. other y (λ e. true≢false (sym (h.taken_told y had) ∙ ap t.told e ∙ h.unmade_told x is_unmade)) ∙ h.taken_kept y had;
         taken_told = h.taken_told;
         unmade = λ y had. h.unmade y (was_in (eqb x) y v.unmade had);
         unmade_kept = λ y had. other y (λ e. eqb-false x y (unseen_in (eqb x) y v.unmade had) (sym e)) ∙ h.unmade_kept y (was_in (eqb x) y v.unmade had);
         unmade_told = λ y had. h.unmade_told y (was_in (eqb x) y v.unmade had);
         made = λ had. h.made (was_in (eqb x) v.number v.unmade had);
+        apart = h.apart;
+        taken_differ = h.taken_differ;
+        unmade_differ = differ_without (eqb x) v.unmade h.unmade_differ;
         drawn = h.drawn;
         past = h.past;
       })
       (λ i u apart at lives. let g = t.each i u at lives in
-      let differs : (k : ℕ) → t.keeper k ≡ i → k ≡ x → ⊥ = λ k kept e. apart (sym kept ∙ ap t.keeper e ∙ h.unmade_kept x is) in
+      let differs : (k : ℕ) → t.keeper k ≡ i → k ≡ x → ⊥ = λ k kept e. apart (sym kept ∙ ap t.keeper e ∙ h.unmade_kept x is_unmade) in
       record {
         own = g.own;
         own_kept = other u.number (differs u.number g.own_kept) ∙ g.own_kept;
@@ -70,13 +75,16 @@ module _ (tiles seats ticket : ℕ) (views : List View) (t : Tickets tiles seats
         unmade_kept = λ y had. other y (differs y (g.unmade_kept y had)) ∙ g.unmade_kept y had;
         unmade_told = g.unmade_told;
         made = g.made;
+        apart = g.apart;
+        taken_differ = g.taken_differ;
+        unmade_differ = g.unmade_differ;
         drawn = g.drawn;
         past = g.past;
       }) in
       let new : Numbers keeper n (newcomer v x) = record {
-        own = h.unmade x is;
+        own = h.unmade x is_unmade;
         own_kept = at_here x x n t.keeper refl;
-        own_told = h.unmade_told x is;
+        own_told = h.unmade_told x is_unmade;
         taken = λ y had. elim had [ ];
         taken_kept = λ y had. elim had [ ];
         taken_told = λ y had. elim had [ ];
@@ -84,6 +92,9 @@ module _ (tiles seats ticket : ℕ) (views : List View) (t : Tickets tiles seats
         unmade_kept = λ y had. elim had [ ];
         unmade_told = λ y had. elim had [ ];
         made = λ had. had;
+        apart = λ had. had;
+        taken_differ = tt;
+        unmade_differ = tt;
         drawn = omega arith;
         past = λ told. absurd (true≢false (sym told));
       } in
@@ -98,6 +109,17 @@ module _ (tiles seats ticket : ℕ) (views : List View) (t : Tickets tiles seats
               | inl before ↦ old i u before lives
               | inr last ↦ subst (λ (k : ℕ). Numbers keeper k u) (sym last.0) (subst (λ (w : View). Numbers keeper n w) last.1 new)
             ];
+        known = λ y below is.
+            let What : View → Type 0 = λ w. (y ≡ w.number) ⊎ In y w.taken in
+            let l = lists_still views j v (gave_number x v) (t.keeper y) What there live (λ had. had) (t.known y below is) in
+            let same : keeper y ≡ t.keeper y = other y (λ e. true≢false (sym is ∙ ap t.told e ∙ h.unmade_told x is_unmade)) in
+            record {
+              view = l.view;
+              there = subst (λ (k : ℕ). get_elem? (set views j (gave_number x v) ++ newcomer v x ∷ []) k ≡ some l.view) (sym same)
+                  (at_longer (set views j (gave_number x v)) (newcomer v x ∷ []) (t.keeper y) l.view l.there);
+              live = l.live;
+              lists = l.lists;
+            };
       }
 
   -- a seat that was told that no tile is left is taken in
@@ -131,6 +153,21 @@ module _ (tiles seats ticket : ℕ) (views : List View) (t : Tickets tiles seats
           | inl a ↦ h.made a
           | inr b ↦ apart (sym (g.unmade_kept v.number b) ∙ h.own_kept)
         ];
+        apart = λ had. elim had [
+          | inl is ↦ apart (sym g.own_kept ∙ ap t.keeper (sym is) ∙ h.own_kept)
+          | inr more ↦ elim (in_parts v.number v.taken u.taken more) [
+            | inl a ↦ h.apart a
+            | inr b ↦ apart (sym (g.taken_kept v.number b) ∙ h.own_kept)
+          ]
+        ];
+        taken_differ = (
+          (λ more. elim (in_parts u.number v.taken u.taken more) [
+            | inl a ↦ apart (sym g.own_kept ∙ h.taken_kept u.number a)
+            | inr b ↦ g.apart b
+          ]),
+          differ_both v.taken u.taken h.taken_differ g.taken_differ (λ x a b. apart (sym (g.taken_kept x b) ∙ h.taken_kept x a)),
+        );
+        unmade_differ = differ_both v.unmade u.unmade h.unmade_differ g.unmade_differ (λ x a b. apart (sym (g.unmade_kept x b) ∙ h.unmade_kept x a));
         drawn = max_most v.drawn u.drawn ticket h.drawn g.drawn;
         past = λ told. let a : tiles < v.drawn = h.past told in let b : v.drawn ≤ max v.drawn u.drawn = max_left v.drawn u.drawn in omega (arith, a, b);
       } in
@@ -155,10 +192,42 @@ module _ (tiles seats ticket : ℕ) (views : List View) (t : Tickets tiles seats
               unmade_kept = λ z had. same z (f.unmade_kept z had);
               unmade_told = f.unmade_told;
               made = f.made;
+              apart = f.apart;
+              taken_differ = f.taken_differ;
+              unmade_differ = f.unmade_differ;
               drawn = f.drawn;
               past = f.past;
             })
             k x at' alive differs);
+        known = λ x below is.
+            let What : View → Type 0 = λ w. (x ≡ w.number) ⊎ In x w.taken in
+            let l = t.known x below is in
+            elim (ℕ_discrete (t.keeper x) i) [
+              | yes its ↦
+                  let found : get_elem? views i ≡ some l.view = subst (λ (k : ℕ). get_elem? views k ≡ some l.view) its l.there in
+                  let had : What u = subst What (some-injective l.view u (sym found ∙ at)) l.lists in
+                  let now : In x (took_in v u).taken = elim had [ inl own ↦ inl own | inr a ↦ inr (in_right x v.taken u.taken a) ] in
+                  let m = lists_now views j v (took_in v u) (keeper x) What there live (comes x its) (inr now) in
+                  record {
+                    view = m.view;
+                    there = set_else (set views j (took_in v u)) i (keeper x) spent (λ e. apart (sym e ∙ comes x its)) ∙ m.there;
+                    live = m.live;
+                    lists = m.lists;
+                  }
+              | no differs ↦
+                  let same : keeper x ≡ t.keeper x = handed_not i j t.keeper x (t.keeper x) refl differs in
+                  let m = lists_still views j v (took_in v u) (t.keeper x) What there live (λ had. elim had [
+                    | inl own ↦ inl own
+                    | inr a ↦ inr (inr (in_left x v.taken u.taken a))
+                  ]) l in
+                  record {
+                    view = m.view;
+                    there = set_else (set views j (took_in v u)) i (keeper x) spent (λ e. differs (sym same ∙ e))
+                        ∙ ap (λ (k : ℕ). get_elem? (set views j (took_in v u)) k) same ∙ m.there;
+                    live = m.live;
+                    lists = m.lists;
+                  }
+            ];
       }
 
   -- Where a seat was told that no tile is left, and all numbers are its own or taken in, the ticket

@@ -130,7 +130,7 @@ module _ {S : Type 0} (kinds : Kinds S) (tiles dirs here ticket : ℕ) (to from 
       opening = λ t inside above.
           home_still homes later (slot_in dirs t dirs) (kinds.IsTile t) (home_same t (λ e. omega (arith, above, e))) (places.opening t inside (omega arith));
       between = λ t inside is few. let less : t < ticket = tile_claimed t inside is in
-          home_still homes later (slot_in dirs t dirs) kinds.IsEmpty (home_same t (λ e. omega (arith, less, e))) (places.between t inside is few);
+          home_still homes later (slot_in dirs t dirs) kinds.IsVacant (home_same t (λ e. omega (arith, less, e))) (places.between t inside is few);
       finished = λ r inside closed. let less : r < ticket = shut_own r inside closed in
           home_still homes later (slot_in dirs r dirs) (kinds.IsFinished r) (home_same r (λ e. omega (arith, less, e))) (places.finished r inside closed);
     }
@@ -206,7 +206,7 @@ module _ {S : Type 0} (kinds : Kinds S) (tiles dirs here ticket : ℕ) (to from 
       between = λ t tile is few.
           let apart : t ≡ r → ⊥ = λ e. let all : count_below (posted t) dirs ≡ dirs = ap (λ (k : ℕ). count_below (posted k) dirs) e
           ∙ full in omega (arith, all, few) in
-          home_still homes later (slot_in dirs t dirs) kinds.IsEmpty (back.others t dirs apart (omega arith)) (places.between t tile is few);
+          home_still homes later (slot_in dirs t dirs) kinds.IsVacant (back.others t dirs apart (omega arith)) (places.between t tile is few);
       finished = λ q tile closed. elim (ℕ_discrete q r) [
         | yes is ↦ subst (λ (k : ℕ). IsHome later (slot_in dirs k dirs) (kinds.IsFinished k)) (sym is) back.home
         | no apart ↦ home_still homes later (slot_in dirs q dirs) (kinds.IsFinished q) (back.others q dirs apart (omega arith)) (places.finished q tile

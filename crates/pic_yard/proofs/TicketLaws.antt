@@ -1,18 +1,26 @@
 -- The ticket and the numbers of the seats through a draw.
-use Rattle.std.proofs.Common.{◌≡◌, ℕ, suc, ◌+◌, ◌<◌, ◌≤◌, List, Bool, true, false, set, refl, sym, ap, ◌∙◌, subst, arith}
+use Rattle.std.proofs.Common.{◌≡◌, ℕ, suc, ◌+◌, ◌<◌, ◌≤◌, ◌⊎◌, List, Bool, true, false, set, inl, refl, sym, ap, ◌∙◌, subst, arith}
+use Rattle.std.proofs.Math.Decide.{ℕ_discrete}
 use mathlib.Core.Option.{some}
 use lib.ListN.{get_elem?}
 use Rattle.pic_yard.specs.declared.view.View.{View}
+use Rattle.pic_yard.specs.Marks.{Lists}
 use Rattle.pic_yard.specs.Members.{In, count_below, at_else}
 use Rattle.pic_yard.specs.Steps.{now_has}
 use Rattle.pic_yard.specs.Tickets.{HasNumbers, Tickets}
-use Rattle.pic_yard.proofs.ViewLaws.{each_view}
+use Rattle.pic_yard.proofs.ViewLaws.{each_view, lists_still, lists_now}
 use Rattle.pic_yard.proofs.CountLaws.{at_here, at_other, stays_true, count_more}
 
 module _ (tiles seats ticket : ℕ) (views : List View) (t : Tickets tiles seats ticket views) (j : ℕ) (v : View)
     (there : get_elem? views j ≡ some v) (live : v.live ≡ true) (owes : List (ℕ × ℕ)) (rights : List ℕ) where
   abbrev Numbers : (ℕ → Bool) → ℕ → View → Type 0
   Numbers told i x = HasNumbers tiles seats (suc ticket) t.keeper told i x
+
+  -- a number that is told is still known to be
+  known_still : (drawn : ℕ) (told : Bool) (x : ℕ) → x < seats → t.told x ≡ true
+      → Lists (set views j (now_has v drawn told owes rights)) (t.keeper x) (λ y. (x ≡ y.number) ⊎ In x y.taken)
+  known_still drawn told x below is =
+      lists_still views j v (now_has v drawn told owes rights) (t.keeper x) (λ y. (x ≡ y.number) ⊎ In x y.taken) there live (λ had. had) (t.known x below is)
 
   -- a draw of a tile's number
   pub draw_claims : ticket < tiles → Tickets tiles seats (suc ticket) (set views j (now_has v (suc ticket) v.told owes rights))
@@ -34,6 +42,9 @@ module _ (tiles seats ticket : ℕ) (views : List View) (t : Tickets tiles seats
               unmade_kept = h.unmade_kept;
               unmade_told = h.unmade_told;
               made = h.made;
+              apart = h.apart;
+              taken_differ = h.taken_differ;
+              unmade_differ = h.unmade_differ;
               drawn = omega arith;
               past = λ told. let a : tiles < v.drawn = h.past told in let b : v.drawn ≤ ticket = h.drawn in omega arith;
             })
@@ -48,9 +59,13 @@ module _ (tiles seats ticket : ℕ) (views : List View) (t : Tickets tiles seats
               unmade_kept = g.unmade_kept;
               unmade_told = g.unmade_told;
               made = g.made;
+              apart = g.apart;
+              taken_differ = g.taken_differ;
+              unmade_differ = g.unmade_differ;
               drawn = let b : x.drawn ≤ ticket = g.drawn in omega arith;
               past = g.past;
             });
+        known = known_still (suc ticket) v.told;
       }
 
   -- a draw past the last tile, of a seat that was not told so before
@@ -77,6 +92,9 @@ module _ (tiles seats ticket : ℕ) (views : List View) (t : Tickets tiles seats
               unmade_kept = h.unmade_kept;
               unmade_told = λ x is. other x (λ e. h.made (subst (λ (k : ℕ). In k v.unmade) e is)) ∙ h.unmade_told x is;
               made = h.made;
+              apart = h.apart;
+              taken_differ = h.taken_differ;
+              unmade_differ = h.unmade_differ;
               drawn = omega arith;
               past = λ is. omega (arith, past);
             })
@@ -93,9 +111,18 @@ module _ (tiles seats ticket : ℕ) (views : List View) (t : Tickets tiles seats
               unmade_kept = g.unmade_kept;
               unmade_told = λ k is. other k (differs k (g.unmade_kept k is)) ∙ g.unmade_told k is;
               made = g.made;
+              apart = g.apart;
+              taken_differ = g.taken_differ;
+              unmade_differ = g.unmade_differ;
               drawn = let b : x.drawn ≤ ticket = g.drawn in omega arith;
               past = g.past;
             });
+        known = λ x below is. elim (ℕ_discrete x v.number) [
+          | yes same ↦
+              lists_now views j v (now_has v (suc ticket) true owes rights) (t.keeper x) (λ y. (x ≡ y.number) ⊎ In x y.taken) there live
+              (ap t.keeper same ∙ h.own_kept) (inl same)
+          | no apart ↦ known_still (suc ticket) true x below (sym (other x apart) ∙ is)
+        ];
       }
 
 -- a step that draws no number, and changes only claims and rights
@@ -120,8 +147,14 @@ keep_numbers tiles seats ticket views t j v there live owes rights =
             unmade_kept = h.unmade_kept;
             unmade_told = h.unmade_told;
             made = h.made;
+            apart = h.apart;
+            taken_differ = h.taken_differ;
+            unmade_differ = h.unmade_differ;
             drawn = h.drawn;
             past = h.past;
           })
           (λ i x apart at lives. t.each i x at lives);
+      known = λ x below is.
+          lists_still views j v (now_has v v.drawn v.told owes rights) (t.keeper x) (λ y. (x ≡ y.number) ⊎ In x y.taken) there live (λ had. had)
+          (t.known x below is);
     }

@@ -1,13 +1,13 @@
 -- A post: the seat that owes a parcel lays it into its mailbox, and counts it.
-use Rattle.std.specs.Prelude.{◌≡◌, ℕ, suc, ◌<◌, List, ◌∷◌, true, Some, None, eqb, if◌then◌else◌}
-use mathlib.Core.Option.{some}
+use Rattle.std.specs.Prelude.{◌≡◌, ℕ, suc, ◌<◌, List, ◌∷◌, true, Some, eqb, if◌then◌else◌}
+use mathlib.Core.Option.{none, some}
 use Rattle.atomic_table.specs.Table.{Me, Act, gives, chain, rest}
 use Rattle.pic_slots.specs.Fronts.{seek}
 use Rattle.pic_tile.specs.Directions.{directions, here}
 use Rattle.pic_yard.specs.declared.opening.Opening.{Opening}
 use Rattle.pic_yard.specs.declared.view.View.{View}
 use Rattle.pic_yard.specs.Acts.{Apart}
-use Rattle.pic_yard.specs.Contents.{Slot, from_of, IsParcel}
+use Rattle.pic_yard.specs.Contents.{Slot, vacant, from_of, IsParcel}
 use Rattle.pic_yard.specs.Members.{In}
 use Rattle.pic_yard.specs.Sits.{slot_at, IsMine}
 use Rattle.pic_yard.specs.Steps.{did_post}
@@ -20,7 +20,7 @@ unfoldable pub post_act : ℕ → Act Slot
 post_act d = if eqb d here then chain gives gives else gives
 
 -- a seat that is about to post the parcel (r, d): it lies first, in its mailbox, and behind that of
--- no step the empty home slot
+-- no step the vacant home slot
 pub record IsLoaded (o : Opening) (me : Me Slot View) (r d : ℕ) (parcel : Slot) (slots : List
     (ℕ × Slot)) : Type 0 where
   pub live : me.0.live ≡ true
@@ -28,18 +28,19 @@ pub record IsLoaded (o : Opening) (me : Me Slot View) (r d : ℕ) (parcel : Slot
   pub owes : In (r, d) me.0.owes
   pub first : me.1 ≡ (slot_at r d, parcel) ∷ slots
   pub is : IsParcel o (from_of o r d) d parcel
-  pub home : d ≡ here → slots ≡ (slot_at r directions, None) ∷ rest slots
+  pub home : d ≡ here → slots ≡ (slot_at r directions, vacant) ∷ rest slots
   pub only : (slot : ℕ) (y : Slot) → seek slot (behind d slots) ≡ some y → IsMine me.0 slot
   pub once : Apart me.1
 
--- the slots of r after the last post to it: all parcels, and the empty home slot
+-- the slots of r after the last post to it: all parcels, and the vacant home slot
 pub record HasAllMail (o : Opening) (r : ℕ) (old new : List (ℕ × Slot)) : Type 0 where
   pub parcel : ℕ → Slot
   pub mail : (d : ℕ) → d < directions → seek (slot_at r d) new ≡ some (parcel d)
   pub is : (d : ℕ) → d < directions → IsParcel o (from_of o r d) d (parcel d)
-  pub home : seek (slot_at r directions) new ≡ some None
+  pub home : seek (slot_at r directions) new ≡ some vacant
   pub others : (slot : ℕ) → ((k : ℕ) → k < suc directions → slot ≡ slot_at r k → ⊥)
       → seek slot new ≡ seek slot old
+  pub fresh : (k : ℕ) → k < suc directions → seek (slot_at r k) old ≡ none
   pub once : Apart new
 
 -- what a post tells, where n parcels for r were posted before

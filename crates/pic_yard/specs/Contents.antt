@@ -1,7 +1,9 @@
 -- What a slot of the board can hold, against what the board began with.
 use Rattle.std.specs.Prelude.{◌≡◌, ℕ, List, true, Option, Some, None}
+use mathlib.Core.Option.{some}
 use Rattle.pic_num.specs.declared.motion.Particle.{Particle}
 use Rattle.pic_grid.specs.Cells.{count_of}
+use Rattle.pic_slots.specs.Fronts.{seek}
 use Rattle.pic_tile.specs.declared.parcel.Parcel.{Parcel}
 use Rattle.pic_tile.specs.Directions.{here}
 use Rattle.pic_tile.specs.Frame.{felt_in}
@@ -17,6 +19,15 @@ use Rattle.pic_yard.specs.Places.{Kinds}
 
 abbrev pub Slot : Type 0
 Slot = Option Piece
+
+-- a home slot whose tile is elsewhere: only the tile's place lies there
+abbrev pub vacant : Slot
+vacant = Some (piece.Tile None)
+
+-- the place of a tile lies with a seat, in a home slot
+abbrev pub HasPlace : ℕ → List (ℕ × Slot) → Type 0
+HasPlace slot slots =
+    (tile : Option TileValue) × (seek slot slots ≡ some (Some (piece.Tile tile)))
 
 -- how many tiles there are
 abbrev pub tiles_in : Opening → ℕ
@@ -35,7 +46,7 @@ start_at o t = chain_at (tile_in o.tiles.items t) here
 
 -- the tile t as it was at the start
 abbrev pub tile_at : Opening → ℕ → Slot
-tile_at o t = Some (piece.Tile (tile_in o.tiles.items t))
+tile_at o t = Some (piece.Tile (Some (tile_in o.tiles.items t)))
 
 abbrev pub IsTile : Opening → ℕ → Slot → Type 0
 IsTile o t s = s ≡ tile_at o t
@@ -46,11 +57,15 @@ pub record IsParcel (o : Opening) (t d : ℕ) (s : Slot) : Type 0 where
   pub is : s ≡ Some (piece.Parcel parcel)
   pub content : parcels.IsParcel (felt_in o.frame) o.frame.map (start_at o t) t d parcel
 
--- the tile r, into which all parcels that come to it are merged
+-- all parcels that come to the tile r are merged into it
+abbrev pub IsShut : Opening → ℕ → TileValue → Type 0
+IsShut o r t = IsReceiving (felt_in o.frame) o.frame.map (start_at o) (λ d. true) r t
+
+-- the finished tile r
 pub record IsFinished (o : Opening) (r : ℕ) (s : Slot) : Type 0 where
   pub tile : TileValue
-  pub is : s ≡ Some (piece.Tile tile)
-  pub content : IsReceiving (felt_in o.frame) o.frame.map (start_at o) (λ d. true) r tile
+  pub is : s ≡ Some (piece.Tile (Some tile))
+  pub content : IsShut o r tile
 
 abbrev pub kinds_of : Opening → Kinds Slot
 kinds_of o = record {
@@ -58,4 +73,5 @@ kinds_of o = record {
   IsTile = IsTile o;
   IsParcel = IsParcel o;
   IsFinished = IsFinished o;
+  IsVacant = λ s. s ≡ vacant;
 }

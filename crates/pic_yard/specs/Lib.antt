@@ -9,4 +9,14 @@ pub mod Acts
 pub mod Sits
 pub mod Arrivals
 pub mod Returns
+pub mod Laying
+pub mod Unloading
+pub mod Claims
+pub mod Yards
+pub mod Seats
+pub mod Ended
+pub mod Draws
+pub mod Posts
+pub mod Loads
 pub mod Laws
+pub mod Census

@@ -8,6 +8,11 @@ module _ {A : Type 0} where
   In x [] = ⊥
   In x (y ∷ ys) = (x ≡ y) ⊎ In x ys
 
+  -- no element stands twice in the list
+  abbrev pub Differ : List A → Type 0
+  Differ [] = Unit {0}
+  Differ (x ∷ xs) = (In x xs → ⊥) × Differ xs
+
   -- all of the list that the test does not find
   abbrev pub without : (A → Bool) → List A → List A
   without found [] = []

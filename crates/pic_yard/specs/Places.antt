@@ -19,16 +19,17 @@ abbrev pub IsAway : {S : Type 0} → List (Option S) → ℕ → Type 0
 IsAway homes slot = get_elem? homes slot ≡ some none
 
 -- what the values in slots can be: nothing, the tile t as it was, the parcel of the direction d
--- that the tile t sends, the finished tile r
+-- that the tile t sends, the finished tile r, the place of a tile that is elsewhere
 pub record Kinds (S : Type 0) : Type 1 where
   pub IsEmpty : S → Type 0
   pub IsTile : ℕ → S → Type 0
   pub IsParcel : ℕ → ℕ → S → Type 0
   pub IsFinished : ℕ → S → Type 0
+  pub IsVacant : S → Type 0
 
 -- the slots at home: mailboxes before their sender is claimed and after their receiver is shut, a
--- posted parcel until the last of its receiver is posted; home slots before the claim, from the
--- post of no step until the last parcel for the tile is posted, and after the tile is shut
+-- posted parcel until the last of its receiver is posted; home slots before the claim, vacant from
+-- the post of no step until the last parcel for the tile is posted, and after the tile is shut
 pub record Places {S : Type 0} (kinds : Kinds S) (tiles dirs here ticket : ℕ) (from : ℕ → ℕ
     → ℕ) (posted : ℕ → ℕ → Bool) (shut : ℕ → Bool) (homes : List (Option S)) : Type 0 where
   pub bare : (r d : ℕ) → r < tiles → d < dirs → ticket ≤ from r d
@@ -41,7 +42,7 @@ pub record Places {S : Type 0} (kinds : Kinds S) (tiles dirs here ticket : ℕ) 
   pub opening : (t : ℕ) → t < tiles → ticket ≤ t
       → IsHome homes (slot_in dirs t dirs) (kinds.IsTile t)
   pub between : (t : ℕ) → t < tiles → posted t here ≡ true → count_below (posted t) dirs < dirs
-      → IsHome homes (slot_in dirs t dirs) kinds.IsEmpty
+      → IsHome homes (slot_in dirs t dirs) kinds.IsVacant
   pub finished : (r : ℕ) → r < tiles → shut r ≡ true
       → IsHome homes (slot_in dirs r dirs) (kinds.IsFinished r)
 

@@ -1,6 +1,9 @@
 //! Laws of the board's rule. Each is the contract of a function that does nothing.
 
-ghost use Rattle.pic_yard.specs.Laws.{ABoardBeginsWithTheRule, DrawsKeepTheRule, PostsKeepTheRule, ReturnsKeepTheRule, SplitsKeepTheRule, JoinsKeepTheRule, TheLastSeatEndsAll};
+ghost use Rattle.pic_yard.specs.Census.{ATileIsItsParcels, TheRuleKeepsTheCensus};
+ghost use Rattle.pic_yard.specs.Laws.{ABoardBeginsWithTheRule, DrawsKeepTheRule, PostsKeepTheRule};
+ghost use Rattle.pic_yard.specs.Laws.{ReturnsKeepTheRule, SplitsKeepTheRule, JoinsKeepTheRule};
+ghost use Rattle.pic_yard.specs.Laws.{TheLastSeatEndsAll};
 
 /// A board begins with its rule.
 pub fn a_board_begins_with_the_rule()
@@ -36,4 +39,16 @@ pub fn joins_keep_the_rule()
 /// The one seat that is left and has nothing to do finds all tiles finished.
 pub fn the_last_seat_ends_all()
     ensures { TheLastSeatEndsAll }
+{}
+
+/// Between any two steps, of whichever seats, the particles in all slots and with all seats are
+/// those of the start, each once.
+pub fn the_rule_keeps_the_census()
+    ensures { TheRuleKeepsTheCensus }
+{}
+
+/// A tile has at the start the identities of the parcels that its push makes of it: a claim holds
+/// the same before its push and after.
+pub fn a_tile_is_its_parcels()
+    ensures { ATileIsItsParcels }
 {}

@@ -1,0 +1,46 @@
+-- A board that no seat shares any more: what lies in its slots is taken out.
+use Rattle.std.specs.Prelude.{◌≡◌, ℕ, suc, ◌*◌, ◌<◌, List, Some, length, false, slice_index_or}
+use Rattle.std.specs.Slots.{slots_items, slots_filled, slots_len}
+use Rattle.std.specs.Slots.Ownership.{Filled}
+use Rattle.std.specs.declared.alloc.Global.{Global}
+use mathlib.Core.Option.{some}
+use lib.ListN.{get_elem?}
+use Rattle.atomic_table.specs.declared.owned.Closed.{Closed}
+use Rattle.pic_tile.specs.Directions.{directions}
+use Rattle.pic_tile.specs.Tile.{TileValue}
+use Rattle.pic_yard.specs.declared.piece.Piece.TheVariants as piece
+use Rattle.pic_yard.specs.Contents.{Slot}
+use Rattle.pic_yard.specs.Laying.{LiesHome}
+use Rattle.pic_yard.specs.Sits.{slot_at}
+
+-- what the slots had when the board was closed
+abbrev pub slots_in : Closed Slot Global → List Slot
+slots_in closed = slots_items closed.slots
+
+-- the tile lies in the home slot of the tile t
+abbrev pub LiesThere : List Slot → ℕ → TileValue → Type 0
+LiesThere slots t tile =
+    get_elem? slots (slot_at t directions) ≡ some (Some (piece.Tile (Some tile)))
+
+-- a tile lies in the home slot of the tile t
+pub record HasTile (slots : List Slot) (t : ℕ) : Type 0 where
+  pub tile : TileValue
+  pub lies : LiesThere slots t tile
+
+-- nothing is left in the first n slots, and all others have their values
+pub record AreEmptied (n : ℕ) (closed : Closed Slot Global) : Type 0 where
+  pub gone : (k : ℕ) → k < n → slice_index_or (slots_filled closed.slots) k false ≡ false
+  pub left : Filled (slots_filled closed.slots) n (slots_len closed.slots)
+
+-- what lay in the first n slots is taken out, and nothing else
+pub record IsOut (n : ℕ) (old new : Closed Slot Global) : Type 0 where
+  pub emptied : AreEmptied n new
+  pub items : slots_in new ≡ slots_in old
+  pub long : slots_len new.slots ≡ slots_len old.slots
+
+-- the first n tiles are taken out of their home slots, into a list
+pub record IsUnloading (n : ℕ) (old new : Closed Slot Global)
+    (before after : List TileValue) : Type 0 where
+  pub out : IsOut (n * suc directions) old new
+  pub long : length after ≡ length before
+  pub tiles : (t : ℕ) → t < n → LiesHome after (slots_in old) t

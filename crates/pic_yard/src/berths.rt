@@ -1,0 +1,40 @@
+//! A tile is laid into its place, or taken out of it.
+
+ghost use Rattle.std.specs.Prelude.{◌≡◌, ◌∷◌, Some};
+ghost use mathlib.Core.Option.{some};
+ghost use Rattle.pic_slots.specs.Fronts.{drop_slot, seek};
+ghost use Rattle.pic_yard.specs.Contents.{HasPlace};
+ghost use Rattle.pic_yard.specs.declared.piece.Piece.TheVariants as piece;
+
+use crate::piece::Piece;
+use crate::yard::{Seat, Yard};
+use pic_slots::exchange;
+use pic_tile::Tile;
+
+impl Yard {
+    /// Lays a tile, or none, into the place that lies with the seat in a home slot, and answers
+    /// what lay there.
+    pub(crate) fn exchange_tile(
+        &self,
+        seat: &mut Seat,
+        slot: usize,
+        tile: Option<Tile>,
+    ) -> Option<Tile>
+        requires own { seat.old.table_id ≡ self.now.table.shared.table_id }
+        requires place { HasPlace slot seat.old.me.1 }
+        ensures table { seat.new.table_id ≡ seat.old.table_id }
+        ensures lay { seek slot seat.old.me.1 ≡ some (Some (piece.Tile result)) }
+        ensures lies { seat.new.me
+            ≡ (seat.old.me.0, (slot, Some (piece.Tile tile)) ∷ drop_slot slot seat.old.me.1) }
+    {
+        match exchange(&self.table.shared, seat, slot, None) {
+            Some(Piece::Tile(mut berth)) => {
+                let was = berth.replace(tile);
+                exchange(&self.table.shared, seat, slot, Some(Piece::Tile(berth)));
+                was
+            }
+            Some(Piece::Parcel(_)) => unreachable!(),
+            None => unreachable!(),
+        }
+    }
+}
