@@ -1,0 +1,3 @@
+pub mod TakeLaws
+pub mod SendLaws
+pub mod GatherLaws

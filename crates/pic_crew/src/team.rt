@@ -1,0 +1,90 @@
+//! All workers of a board, each in a thread of its own where one can be made.
+
+ghost use Rattle.std.specs.Prelude.{◌≡◌, ◌<◌, ◌≤◌, ℕ, length, IfOk};
+ghost use Rattle.std.specs.Thread.{IsSync};
+ghost use Rattle.pic_tile.specs.CoreState.{IsOpening, particles_of};
+ghost use Rattle.pic_tile.specs.Exchanged.{AreExchanged};
+ghost use Rattle.pic_tile.specs.Frame.{felt_in};
+ghost use Rattle.pic_grid.specs.Block.{AllAtMost};
+ghost use Rattle.pic_grid.specs.Cells.{count_of};
+ghost use Rattle.pic_grid.specs.Traces.{most_flux};
+ghost use Rattle.pic_tile.specs.Directions.{here};
+ghost use Rattle.pic_tile.specs.Tile.{flux_at, tile_in};
+ghost use Rattle.pic_yard.specs.Seats.{AreNewSeats, HasAllNumbers, HasEnded};
+ghost use Rattle.pic_yard.specs.Yards.{Serves, view_of};
+ghost use Rattle.pic_crew.specs.Teams.{AreDone, CanWork, HasWorked, most_workers};
+
+use crate::working::work_through;
+use pic_gate::Gate;
+use pic_num::NoMemory;
+use pic_tile::{Frame, Tile};
+use pic_yard::{Seat, Yard};
+use std::alloc::Global;
+use std::thread::{self, Threads};
+
+/// Lets all seats work, the worker of each numbered as it is.
+fn all<R: Threads + Sync, G: Gate + Sync>(rt: &R, yard: &Yard, seats: &mut [Seat], gate: &G)
+    requires few { length seats.old ≤ most_workers }
+    requires new { AreNewSeats yard.now seats.old }
+    ensures count { length seats.new ≡ length seats.old }
+    ensures done { AreDone yard.now seats.new }
+{
+    thread::for_each_mut(
+        rt,
+        seats,
+        64,
+        &|i: usize, seat: &mut Seat|
+            requires { IsSync G.row × (i < most_workers) × CanWork yard.now seat.old }
+            ensures { HasWorked yard.entry.now seat.old seat.new }
+        { work_through(yard, seat, i as u32, gate) },
+    );
+}
+
+/// One seat takes in all others.
+fn gather(yard: &Yard, mut seats: Vec<Seat>) -> Seat
+    requires some { 0 < length seats.items }
+    requires done { AreDone yard.now seats.items }
+    ensures serves { Serves yard.now result }
+    ensures ended { HasEnded (view_of result) }
+    ensures all { HasAllNumbers (length seats.items) (view_of result) }
+{
+    let Some(mut seat) = seats.pop() else {
+        unreachable!()
+    };
+    while let Some(other) = seats.pop() {
+        yard.join(&mut seat, other);
+    }
+    seat
+}
+
+/// Pushes the particles of all tiles of a frame, which are in order and before their push, and
+/// moves each to the tile that it leads to, on a board with so many workers, 1 to 64, each in a
+/// thread of its own where one can be made. All memory is taken before the first tile is claimed.
+///
+/// Afterwards each tile has the particles that are its own and, in twelfths of a charge times a
+/// cubic sub-cell, the current at its edges, both in its parcel of no step.
+///
+/// # Errors
+/// `NoMemory` where memory is refused; the frame and the tiles are given up then.
+pub fn on_board<R: Threads + Sync, G: Gate + Sync>(
+    rt: &R,
+    alloc: Global,
+    frame: Frame,
+    tiles: Vec<Tile>,
+    workers: u32,
+    gate: &G,
+) -> Result<(Frame, Vec<Tile>), NoMemory>
+    requires some { 0 < workers }
+    requires most { workers ≤ most_workers }
+    requires opening { IsOpening frame tiles.items }
+    ensures frame { IfOk result (λ r. r.0 ≡ frame) }
+    ensures exchanged { IfOk result (λ r. AreExchanged (felt_in frame) frame.map
+        (particles_of tiles.items) r.1.items) }
+    ensures bound { IfOk result (λ r. (t : ℕ) → t < count_of frame.map.tiles
+        → AllAtMost most_flux (flux_at (tile_in r.1.items t) here)) }
+{
+    let (yard, mut seats) = Yard::start(alloc, frame, tiles, workers)?;
+    all(rt, &yard, seats.as_mut_slice(), gate);
+    let seat = gather(&yard, seats);
+    Ok(yard.close(seat))
+}

@@ -1,0 +1,12 @@
+//! Tests of `pic_yard` and `pic_crew`, in a crate of their own: a crate is proved a second time with
+//! its tests.
+#![tactic(auto)]
+
+#[cfg(test)]
+mod one_tile;
+#[cfg(test)]
+mod opening;
+#[cfg(test)]
+mod seeing;
+#[cfg(test)]
+mod two_threads;
