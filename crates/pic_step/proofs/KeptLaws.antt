@@ -1,5 +1,5 @@
 -- What the type of a state keeps, from its parts.
-use Rattle.std.proofs.Common.{◌≡◌, ℕ, ◌<◌, List, length, All, sym, ◌∙◌, subst, arith}
+use Rattle.std.proofs.Common.{◌≡◌, ℕ, ◌<◌, List, length, All, refl, sym, ◌∙◌, subst, arith}
 use Rattle.std.proofs.lemmas.List.Elements.{All-weaker}
 use Rattle.pic_num.specs.declared.motion.Kind.{Kind}
 use Rattle.pic_num.specs.declared.motion.Particle.{Particle}
@@ -11,6 +11,7 @@ use Rattle.pic_grid.specs.PushPhase.{CanShare}
 use Rattle.pic_orders.specs.InOrder.{IsCensus, written}
 use Rattle.pic_orders.specs.Same.{Same}
 use Rattle.pic_orders.specs.Totals.{together}
+use Rattle.pic_orders.proofs.DiscreteLaws.{particle_discrete, permutes}
 use Rattle.pic_orders.proofs.InOrderLaws.{ordered_census, same_census, ids_below, written_all}
 use Rattle.pic_orders.proofs.SameLaws.{same_sym, same_length}
 use Rattle.pic_tile.specs.CoreState.{particles_of}
@@ -24,6 +25,7 @@ use Rattle.pic_step.specs.Plasma.{IsPlasma}
 use Rattle.pic_step.specs.PushOn.{CanPush}
 use Rattle.pic_step.specs.SerialStep.{World, world_of}
 use Rattle.pic_step.specs.Sound.{IsSafe, IsSound}
+use Rattle.pic_step.specs.Tiled.{AreTilesOf}
 use Rattle.pic_step.proofs.PlasmaLaws.{particles_are}
 
 -- the particles of a sound state lie in the box
@@ -75,6 +77,13 @@ module _ (scales : Scales) (e b : Field) (p : Plasma) (map : IsMap p.frame.map) 
   written_is to long =
       let all = together (chains_of p.tiles.items) in
       written_all all to census (long ∙ sym (same_length all (particles_of p.tiles.items) same))
+
+  -- and each particle is in one of them
+  pub tiled : AreTilesOf (seen scales e b p) p.frame.map p.tiles.items
+  tiled =
+      let xs = particles_of p.tiles.items in
+      let all = together (chains_of p.tiles.items) in
+      record { side = refl; cells = refl; own = keeps.plasma.tiles; once = permutes particle_discrete xs all (same_sym all xs same) }
 
 -- a state's fields and particles can be pushed, B after its first half step
 pub can_push : (scales : Scales) (e b c : Field) (p : Plasma) → IsKept scales e b p → IsSafe p.frame.map.side (cells_of p.frame.map) scales.b_force c → CanPush scales e c p

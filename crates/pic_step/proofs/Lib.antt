@@ -15,3 +15,4 @@ pub mod PushPhaseLaws
 pub mod ExitLaws
 pub mod StepLaws
 pub mod KeepLaws
+pub mod RoomLaws

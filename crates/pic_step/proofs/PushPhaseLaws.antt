@@ -1,5 +1,5 @@
 -- The force values of safe fields, and the push of the particles that feel them.
-use Rattle.std.proofs.Common.{◌≡◌, ◌≤◌, List, length, All, Option, refl, sym, ◌∙◌, subst}
+use Rattle.std.proofs.Common.{◌≡◌, ◌≤◌, List, length, All, Option, refl, sym, ap, ◌∙◌, subst}
 use Rattle.std.proofs.Math.IntN.{ℤ}
 use Rattle.pic_num.specs.Limits.{most_force, most_particles}
 use Rattle.pic_num.specs.declared.axis.Axis.{Axis}
@@ -22,7 +22,7 @@ use Rattle.pic_tile.specs.Frame.{FrameValue, IsForceField, felt_in}
 use Rattle.pic_tile.specs.Parcels.{AreFreshTiles}
 use Rattle.pic_tile.specs.Tile.{TileValue}
 use Rattle.pic_tile.specs.Tiling.{Tiling, cells_of, grid_of}
-use Rattle.pic_exchange.specs.HandOver.{AreBare}
+use Rattle.pic_core.specs.Opened.{IsRoom}
 use Rattle.pic_step.specs.declared.plasma.Plasma.{Plasma}
 use Rattle.pic_step.specs.Plasma.{IsOver, IsPlasma}
 use Rattle.pic_step.specs.PushOn.{around_fields, IsPushed}
@@ -81,13 +81,26 @@ pushed_by_fields m kinds scales e b f old now stop j safe is pushed =
     subst (λ (w : Surroundings). IsPushed w old now stop j)
     (λ i. around_by (sym safe.side_is i) kinds (sym safe.cells i) of_e of_b) by
 
--- what the push leaves is ready for the next
-pub is_plasma : (p : Plasma) (vs gs : List TileValue) → p.tiles.items ≡ vs → p.got.items ≡ gs → AreFreshTiles p.frame.map (particles_of vs) vs → AreBare p.frame.map gs
-    → p.frame.force_e.parts ≡ one_part → IsOver (cells_of p.frame.map) p.current → p.count ≡ length (particles_of vs) → IsPlasma (particles_of p.tiles.items) p
-is_plasma p vs gs tiles got fresh bare parts over count = record {
-  tiles = subst (λ (ts : List TileValue). AreFreshTiles p.frame.map (particles_of ts) ts) (sym tiles) fresh;
-  bare = subst (AreBare p.frame.map) (sym got) bare;
+-- what is ready for a push is so in a frame of the same map
+pub ready_moves : (p : Plasma) (f : FrameValue) (xs : List Particle) → f.map ≡ p.frame.map → f.force_e.parts ≡ one_part → IsPlasma xs p
+    → IsPlasma xs (record p { frame = f })
+ready_moves p f xs map parts ready = record {
+  tiles = subst (λ (m : Tiling). AreFreshTiles m xs p.tiles.items) (sym map) ready.tiles;
+  room = subst (λ (m : Tiling). IsRoom m p.room) (sym map) ready.room;
   parts = parts;
-  current = over;
-  count = subst (λ (ts : List TileValue). p.count ≡ length (particles_of ts)) (sym tiles) count;
+  current = subst (λ (m : Tiling). IsOver (cells_of m) p.current) (sym map) ready.current;
+  count = ready.count;
+}
+
+-- what the push leaves is ready for the next
+pub is_plasma : (p q : Plasma) (vs : List TileValue) → q.frame ≡ p.frame → q.tiles.items ≡ vs → AreFreshTiles p.frame.map (particles_of vs) vs
+    → IsRoom p.frame.map q.room → p.frame.force_e.parts ≡ one_part → IsOver (cells_of p.frame.map) q.current → q.count ≡ length (particles_of vs)
+    → IsPlasma (particles_of q.tiles.items) q
+is_plasma p q vs frame tiles fresh room parts over count = record {
+  tiles = subst (λ (ts : List TileValue). AreFreshTiles q.frame.map (particles_of ts) ts) (sym tiles)
+      (subst (λ (f : FrameValue). AreFreshTiles f.map (particles_of vs) vs) (sym frame) fresh);
+  room = subst (λ (f : FrameValue). IsRoom f.map q.room) (sym frame) room;
+  parts = ap (λ (f : FrameValue). f.force_e.parts) frame ∙ parts;
+  current = subst (λ (f : FrameValue). IsOver (cells_of f.map) q.current) (sym frame) over;
+  count = subst (λ (ts : List TileValue). q.count ≡ length (particles_of ts)) (sym tiles) count;
 }

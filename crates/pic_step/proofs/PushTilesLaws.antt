@@ -46,6 +46,11 @@ have_received w m xs us x small = record {
   small = small;
 }
 
+-- the flux of tiles is as small as that of the same tiles
+pub small_there : (m : Tiling) (us ts : List TileValue) → us ≡ ts → ((r : ℕ) → r < count_of m.tiles → AllAtMost most_value (flux_at (tile_in ts r) here))
+    → (r : ℕ) → r < count_of m.tiles → AllAtMost most_value (flux_at (tile_in us r) here)
+small_there m us ts same small r below = subst (λ (vs : List TileValue). AllAtMost most_value (flux_at (tile_in vs r) here)) (sym same) (small r below)
+
 -- collected, they have the particles as they are pushed
 pub fresh_after : (w : Surroundings) (m : Tiling) (xs : List Particle) (us vs : List TileValue) → AreExchanged w m xs us → AreCollected m us vs
     → AreFreshTiles m (moved_all w xs) vs

@@ -1,5 +1,5 @@
 -- The flux of the tiles after their push, and the current that it is.
-use Rattle.std.specs.Prelude.{◌≡◌, ℕ, ℤ, pos, ◌<◌, List, replicate, None, ◌*◌}
+use Rattle.std.specs.Prelude.{◌≡◌, ℕ, ℤ, pos, ◌<◌, List, length, replicate, None, ◌*◌}
 use Rattle.pic_num.specs.Limits.{most_value}
 use Rattle.pic_num.specs.declared.axis.Axis.{Axis}
 use Rattle.pic_num.specs.Space.{Triple, unwrapped}
@@ -10,7 +10,11 @@ use Rattle.pic_tile.specs.Directions.{directions, here}
 use Rattle.pic_tile.specs.Parcels.{IsReady, IsFresh}
 use Rattle.pic_tile.specs.Tile.{TileValue, chain_at, flux_at, stop_at, tile_in}
 use Rattle.pic_tile.specs.Tiling.{Tiling, owner_of}
-use Rattle.pic_exchange.specs.HandOver.{AreNumbered}
+
+-- tiles in the order of their numbers
+pub record AreNumbered (m : Tiling) (tiles : List TileValue) : Type 0 where
+  pub count : length tiles ≡ count_of m.tiles
+  pub numbers : (i : ℕ) → i < count_of m.tiles → (tile_in tiles i).number ≡ i
 
 -- tiles that have received all parcels: the flux of each stands in that of no step
 pub record HaveReceived (m : Tiling) (tiles : List TileValue) : Type 0 where

@@ -9,3 +9,5 @@ pub mod Collected
 pub mod PushOn
 pub mod Keeps
 pub mod Reach
+pub mod Exchange
+pub mod Tiled

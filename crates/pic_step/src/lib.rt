@@ -3,6 +3,7 @@
 
 mod collect;
 mod copy;
+mod exchanging;
 mod laws;
 mod phases;
 mod plasma;
@@ -10,8 +11,6 @@ mod push_phase;
 mod start;
 mod state;
 mod stepping;
-#[cfg(test)]
-mod tests;
 mod write;
 
 pub use laws::{law_of_the_least_halt, law_of_the_step, law_of_velocities, three_images_are_all};

@@ -9,20 +9,21 @@ ghost use Rattle.pic_tile.specs.Frame.{AreKinds};
 ghost use Rattle.pic_tile.specs.Tiling.{cells_of};
 ghost use Rattle.pic_step.specs.Plasma.{IsOver, IsPlasma};
 
-use pic_exchange::bare_tiles;
+use pic_core::Room;
 use pic_grid::{Block, Lattice, Zone};
 use pic_num::{Kind, NoMemory, Particle};
 use pic_tile::{Frame, Kinds, Tile, TileMap, cut};
 use std::alloc::Global;
 
-/// The particles of a state in tiles, so many in all, and what their push works with: the frame, a bare
-/// tile for each tile, which receives parcels, and the current. All memory is taken once, so that a
-/// step takes none.
+/// The particles of a state in tiles, so many in all, and what their push works with: the frame,
+/// the room in which one worker's tiles receive parcels, and the current. All this memory is taken
+/// once; the board of two or more workers is made anew in each step.
 #[derive(Drop)]
 pub struct Plasma {
+    pub alloc: Global,
     pub frame: Frame,
     pub tiles: Vec<Tile>,
-    pub got: Vec<Tile>,
+    pub room: Room,
     pub current: Block,
     pub count: u32,
 }
@@ -43,13 +44,14 @@ impl Plasma {
         ensures plasma { IfOk result (IsPlasma particles.now) }
     {
         let tiles = cut(alloc, &map, particles)?;
-        let got = bare_tiles(alloc, map)?;
+        let room = Room::new(alloc, map)?;
         let current = current_for(alloc, map)?;
         let frame = frame_for(alloc, map, kinds)?;
         Ok(Plasma {
+            alloc,
             frame,
             tiles,
-            got,
+            room,
             current,
             count: particles.len() as u32,
         })

@@ -1,93 +1,109 @@
 //! The push phase of a state: force values, the push of all particles tile by tile, and the current.
 
-ghost use Rattle.std.specs.Prelude.{◌≡◌, ◌<◌, ◌≤◌};
-ghost use Rattle.pic_exchange.specs.HandOver.{AreBare};
-ghost use Rattle.pic_exchange.specs.Teams.{most_workers};
+ghost use Rattle.std.specs.Prelude.{◌≡◌, ◌<◌, ◌≤◌, IfOk};
+ghost use Rattle.pic_crew.specs.Teams.{most_workers};
 ghost use Rattle.pic_grid.specs.Gather.{force_of};
 ghost use Rattle.pic_grid.specs.Lattice.{value_at, field_of};
 ghost use Rattle.pic_grid.specs.Parts.{one_part};
 ghost use Rattle.pic_tile.specs.CoreState.{particles_of, IsOpening};
 ghost use Rattle.pic_tile.specs.Frame.{felt_in};
-ghost use Rattle.pic_tile.specs.Parcels.{AreFreshTiles};
 ghost use Rattle.pic_tile.specs.Tiling.{cells_of, grid_of};
-ghost use Rattle.pic_step.specs.Plasma.{IsOver, IsPlasma};
+ghost use Rattle.pic_step.specs.Plasma.{IsPlasma};
 ghost use Rattle.pic_step.specs.PushOn.{around_fields, CanPush, IsPushed};
 ghost use Rattle.pic_step.specs.Sound.{IsSafe};
 
 use crate::collect::collect;
+use crate::exchanging::exchange_parcels;
 use crate::phases::forces;
 use crate::plasma::Plasma;
-use pic_exchange::exchange;
-use pic_grid::{Block, Lattice, Stop};
-use pic_num::Scales;
-use pic_tile::{Frame, Tile};
+use pic_gate::Gate;
+use pic_grid::{Lattice, Stop};
+use pic_num::{NoMemory, Scales};
+use pic_push::least_stop;
+use pic_tile::Frame;
 use std::thread::Threads;
 
 /// Pushes all particles by the fields, on so many threads, and finds the current.
-pub fn push_phase<H: Threads + Sync>(
+pub fn push_phase<H: Threads + Sync, G: Gate + Sync>(
     rt: &H,
     scales: &Scales,
     e: &Lattice,
     b: &Lattice,
     plasma: Plasma,
     workers: u32,
-) -> (Plasma, Option<Stop>)
+    gate: &G,
+) -> Result<(Plasma, Option<Stop>), NoMemory>
     requires some { 0 < workers }
     requires most { workers ≤ most_workers }
     requires can { CanPush scales.now e.now b.now plasma }
-    ensures map { result.0.frame.map ≡ plasma.frame.map }
-    ensures kinds { result.0.frame.kinds ≡ plasma.frame.kinds }
-    ensures plasma { IsPlasma (particles_of result.0.tiles.items) result.0 }
-    ensures pushed { IsPushed (around_fields scales.now plasma.frame.kinds e.now b.now)
-        (particles_of plasma.tiles.items) (particles_of result.0.tiles.items)
-        result.1 result.0.current }
+    ensures map { IfOk result (λ r. r.0.frame.map ≡ plasma.frame.map) }
+    ensures kinds { IfOk result (λ r. r.0.frame.kinds ≡ plasma.frame.kinds) }
+    ensures plasma { IfOk result (λ r. IsPlasma (particles_of r.0.tiles.items) r.0) }
+    ensures pushed { IfOk result (λ r.
+        IsPushed (around_fields scales.now plasma.frame.kinds e.now b.now)
+        (particles_of plasma.tiles.items) (particles_of r.0.tiles.items) r.1 r.0.current) }
 {
     let Plasma {
+        alloc,
         frame,
-        mut tiles,
-        mut got,
-        mut current,
+        tiles,
+        room,
+        current,
         count,
     } = plasma;
     let frame = with_forces(scales, e, b, frame);
-    let stop = push_tiles(rt, &frame, &mut tiles, &mut got, &mut current, workers);
     let plasma = Plasma {
+        alloc,
         frame,
         tiles,
-        got,
+        room,
         current,
         count,
     };
-    (plasma, stop)
+    let pushed = push_tiles(rt, plasma, workers, gate)?;
+    Ok(pushed)
 }
 
-/// Pushes the particles of all tiles by force values, and makes a block over the grid their current.
-/// `got` are as many bare tiles, before and after.
-fn push_tiles<H: Threads + Sync>(
+/// Pushes the particles of all tiles by the force values, and finds the current.
+fn push_tiles<H: Threads + Sync, G: Gate + Sync>(
     rt: &H,
-    frame: &Frame,
-    tiles: &mut [Tile],
-    got: &mut [Tile],
-    current: &mut Block,
+    plasma: Plasma,
     workers: u32,
-) -> Option<Stop>
+    gate: &G,
+) -> Result<(Plasma, Option<Stop>), NoMemory>
     requires some { 0 < workers }
     requires most { workers ≤ most_workers }
-    requires side { 0 < frame.now.map.side }
-    requires opening { IsOpening frame.now tiles.old }
-    requires bare { AreBare frame.now.map got.old }
-    requires over { IsOver (cells_of frame.now.map) current.old }
-    ensures tiles { AreFreshTiles frame.now.map (particles_of tiles.new) tiles.new }
-    ensures bare { AreBare frame.now.map got.new }
-    ensures over { IsOver (cells_of frame.now.map) current.new }
-    ensures pushed { IsPushed (felt_in frame.now) (particles_of tiles.old) (particles_of tiles.new)
-        result current.new }
+    requires side { 0 < plasma.frame.map.side }
+    requires opening { IsOpening plasma.frame plasma.tiles.items }
+    requires ready { IsPlasma (particles_of plasma.tiles.items) plasma }
+    ensures frame { IfOk result (λ r. r.0.frame ≡ plasma.frame) }
+    ensures plasma { IfOk result (λ r. IsPlasma (particles_of r.0.tiles.items) r.0) }
+    ensures pushed { IfOk result (λ r.
+        IsPushed (felt_in plasma.frame) (particles_of plasma.tiles.items)
+        (particles_of r.0.tiles.items) r.1 r.0.current) }
 {
+    let plasma = exchange_parcels(rt, plasma, workers, gate)?;
+    let Plasma {
+        alloc,
+        frame,
+        mut tiles,
+        room,
+        mut current,
+        count,
+    } = plasma;
     let map = frame.map();
     let _tiles = map.tiles();
-    let stop = exchange(rt, frame, tiles, got, workers);
-    collect(map, tiles, current);
-    stop
+    let stop = least_stop(&tiles);
+    collect(map, &mut tiles, &mut current);
+    let plasma = Plasma {
+        alloc,
+        frame,
+        tiles,
+        room,
+        current,
+        count,
+    };
+    Ok((plasma, stop))
 }
 
 /// The frame with the force values of these fields.

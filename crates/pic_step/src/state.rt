@@ -9,6 +9,7 @@ use crate::write::write_tiles;
 use pic_deck::Deck;
 use pic_grid::{Cells, Lattice, Snapshot};
 use pic_num::{Kind, NoMemory, Particle, Scales};
+use pic_tile::{Tile, TileMap};
 use std::alloc::Global;
 use std::marker::Model;
 
@@ -38,6 +39,7 @@ impl State {
     ghost use Rattle.pic_step.specs.SerialRun.{start_of};
     ghost use Rattle.pic_step.specs.Sound.{IsSound};
     ghost use Rattle.pic_step.specs.Start.{begun};
+    ghost use Rattle.pic_step.specs.Tiled.{AreTilesOf};
 
     /// The state that a deck begins with, with these particles.
     pub fn new(alloc: Global, deck: &Deck, particles: &[Particle]) -> Result<State, NoMemory>
@@ -100,6 +102,17 @@ impl State {
         ensures { result ≡ length self.now.particles }
     {
         self.plasma.count
+    }
+
+    /// The map of the state's cells, and its tiles in the order of their numbers: each has the
+    /// particles whose cells are its own, and each particle is in one of them. A step leaves it
+    /// so, however many workers push.
+    pub fn tiles(&self) -> (&TileMap, &[Tile])
+        ensures { AreTilesOf self.now result.0.now result.1.now }
+    {
+        let map = self.plasma.frame.map();
+        let _tiles = map.tiles();
+        (map, self.plasma.tiles.as_slice())
     }
 
     /// Fills a snapshot of as many cells and particles: the fields, whose side and parts stay those of

@@ -3,13 +3,15 @@
 ghost use Rattle.std.specs.Prelude.{◌≡◌, ◌<◌, ◌≤◌, IfOk};
 ghost use Rattle.pic_step.specs.Keeps.{Keeps};
 ghost use Rattle.pic_step.specs.SerialRun.{Steps};
-ghost use Rattle.pic_step.specs.SerialStep.{stepped};
-ghost use Rattle.pic_exchange.specs.Teams.{most_workers};
+ghost use Rattle.pic_step.specs.declared.stepping.StepStop.TheVariants as step_stop;
+ghost use Rattle.pic_crew.specs.Teams.{most_workers};
 
 use crate::phases::{full, half};
 use crate::push_phase::push_phase;
 use crate::state::State;
+use pic_gate::Gate;
 use pic_grid::{Phase, Stop};
+use pic_num::NoMemory;
 use std::thread::Threads;
 
 /// What ends a run in a step: a stop of the scheme, or want of memory.
@@ -19,28 +21,41 @@ pub enum StepStop {
     NoMemory,
 }
 
-/// One step of the scheme: half a step of B, the push, another half step of B, a step of E. So many
-/// workers, 1 to 64, push the particles, tile by tile and each on a thread of its own where one can be
-/// made. Whatever the tiles and the workers, the answer is that of the serial step: the state after it,
-/// or the stop of the first phase that has one. The state after it has the same cells, multipliers and
-/// kinds, meets Gauss's law at every node, and the divergence of its B is what it was in every cell.
-pub fn step<H: Threads + Sync>(rt: &H, state: State, workers: u32) -> Result<State, StepStop>
-    requires some { 0 < workers }
-    requires most { workers ≤ most_workers }
-    ensures steps { Steps state result }
-    ensures keeps { IfOk result (Keeps state) }
-{
-    match after_step(rt, state, workers) {
-        Ok(next) => Ok(next),
-        Err(stop) => Err(StepStop::Stop(stop)),
+impl From<Stop> for StepStop {
+    ghost from_gives = { λ stop result. result ≡ step_stop.Stop stop };
+
+    fn from(stop: Stop) -> StepStop {
+        StepStop::Stop(stop)
     }
 }
 
-/// The state after a step, or what stops it.
-fn after_step<H: Threads + Sync>(rt: &H, state: State, workers: u32) -> Result<State, Stop>
+impl From<NoMemory> for StepStop {
+    ghost from_gives = { λ _ result. result ≡ step_stop.NoMemory };
+
+    fn from(_refused: NoMemory) -> StepStop {
+        StepStop::NoMemory
+    }
+}
+
+/// One step of the scheme: half a step of B, the push, another half step of B, a step of E. So many
+/// workers, 1 to 64, push the particles, tile by tile and each on a thread of its own where one can
+/// be made. Each passes the gate after each claim of a tile and each post of a parcel. Whatever the
+/// tiles, the workers and the gate, the answer is that of the serial step: the state after it, or
+/// the stop of the first phase that has one. The state after it has the same cells, multipliers and
+/// kinds, meets Gauss's law at every node, and the divergence of its B is what it was in every cell.
+///
+/// # Errors
+/// `StepStop::Stop` as the serial step has it. `StepStop::NoMemory` where memory is refused to the
+/// board at which two or more workers work. Nothing is handed back then.
+pub fn step<H: Threads + Sync, G: Gate + Sync>(
+    rt: &H,
+    state: State,
+    workers: u32,
+    gate: &G,
+) -> Result<State, StepStop>
     requires some { 0 < workers }
     requires most { workers ≤ most_workers }
-    ensures steps { stepped state ≡ result }
+    ensures steps { Steps state result }
     ensures keeps { IfOk result (Keeps state) }
 {
     let State {
@@ -50,9 +65,10 @@ fn after_step<H: Threads + Sync>(rt: &H, state: State, workers: u32) -> Result<S
         plasma,
     } = state;
     let b = half(&scales, &e, b, Phase::Half1)?;
-    let (plasma, stop) = push_phase(rt, &scales, &e, &b, plasma, workers);
+    let pushed = push_phase(rt, &scales, &e, &b, plasma, workers, gate)?;
+    let (plasma, stop) = pushed;
     match stop {
-        Some(stop) => return Err(stop),
+        Some(stop) => return Err(StepStop::Stop(stop)),
         None => {}
     }
     let b = half(&scales, &e, b, Phase::Half2)?;

@@ -1,63 +1,106 @@
-use Rattle.std.proofs.Common.{◌≡◌, sym, subst}
+use Rattle.std.proofs.Common.{◌≡◌, List, length, sym, ap, ◌∙◌, subst}
+use Rattle.std.specs.Vec.{with_items}
+use Rattle.std.proofs.lemmas.List.{with_items_is}
 use Rattle.pic_num.specs.declared.axis.Axis.{Axis}
 use Rattle.pic_num.specs.Space.{Triple}
 use Rattle.pic_grid.specs.Block.{inner_at}
-use Rattle.pic_grid.specs.Cells.{IsWithin}
-use Rattle.pic_exchange.proofs.FreshLaws.{are_numbered, can_be_pushed}
+use Rattle.pic_grid.specs.Cells.{IsWithin, count_of}
+use Rattle.pic_push.proofs.PushLaws.{length-moved_all}
 use Rattle.pic_tile.specs.CoreState.{particles_of}
-use Rattle.pic_tile.specs.Exchanged.{AreExchanged}
-use Rattle.pic_tile.specs.Frame.{felt_in}
+use Rattle.pic_tile.specs.Exchanged.{AreExchanged, least_stop}
+use Rattle.pic_tile.specs.Frame.{FrameValue, IsFrame, felt_in}
+use Rattle.pic_tile.specs.Tile.{TileValue}
 use Rattle.pic_tile.specs.Tiling.{Tiling, IsMap, cells_of}
 use Rattle.pic_step.specs.Collected.{HaveReceived, AreCollected, flux_in}
-use Rattle.pic_step.specs.Plasma.{IsOver}
-use Rattle.pic_step.proofs.PushTilesLaws.{have_received, ArePushed, are_pushed}
+use Rattle.pic_step.specs.Plasma.{IsOver, IsPlasma}
+use Rattle.pic_step.specs.PushOn.{IsPushed}
+use Rattle.pic_step.proofs.PushTilesLaws.{have_received, ArePushed, are_pushed, small_there}
+use Rattle.pic_step.proofs.PushPhaseLaws.{is_plasma}
 use Rattle.pic_step.proofs.push_phase.push_tiles.Given.{Over}
 use Rattle.pic_step.proofs.push_phase.push_tiles.Goals as goal
-use Rattle.pic_step.proofs.push_phase.push_tiles.Goals.{After-exchange-stop, After-collect}
+use Rattle.pic_step.proofs.push_phase.push_tiles.Goals.{After-deref_mut, After-collect}
 
-exchanged : (g : Over) (c : After-exchange-stop g) → AreExchanged (felt_in c.args.frame.now) c.args.frame.now.map (particles_of c.args.tiles.now) c.exchange-stop.new.tiles
-exchanged g c = let start = c.requires.opening in c.exchange-stop.ensures.exchanged (particles_of c.args.tiles.now) start.fresh start.ordered start.can
+-- the map is that of the frame
+same : (g : Over) (c : After-deref_mut g) → c.map-map.result.now ≡ c.args.plasma.frame.map
+same g c = c.map-map.ensures.value ∙ ap (λ (f : FrameValue). f.map) c.in_ok-plasma.ensures.frame
 
-pushed : (g : Over) (c : After-collect g) → AreExchanged (felt_in c.args.frame.now) c.args.frame.now.map (particles_of c.args.tiles.now) c.exchange-stop.new.tiles
-    → ArePushed c.args.frame.now (particles_of c.args.tiles.now) c.collect.new.tiles c.exchange-stop.result c.collect.new.current
-pushed g c x =
-    let f = c.args.frame.now in
-    let same = c.map-map.ensures.value in
+-- the tiles have received all
+exchanged : (g : Over) (c : After-deref_mut g)
+    → AreExchanged (felt_in c.args.plasma.frame) c.args.plasma.frame.map (particles_of c.args.plasma.tiles.items) c.deref_mut.result.now
+exchanged g c =
+    let p = c.args.plasma in
+    subst (AreExchanged (felt_in p.frame) p.frame.map (particles_of p.tiles.items)) (sym c.deref_mut.ensures.value) c.in_ok-plasma.ensures.tiles
+
+-- they are collected, and the particles are pushed
+pushed : (g : Over) (c : After-collect g) → c.map-map.result.now ≡ c.args.plasma.frame.map
+    → AreExchanged (felt_in c.args.plasma.frame) c.args.plasma.frame.map (particles_of c.args.plasma.tiles.items) c.deref_mut.result.now
+    → ArePushed c.args.plasma.frame (particles_of c.args.plasma.tiles.items) c.collect.new.tiles c.least_stop-stop.result c.collect.new.current
+pushed g c map x =
+    let p = c.args.plasma in
+    let f = p.frame in
+    let h = c.in_ok-plasma.ensures in
     let start = c.requires.opening in
-    let us = c.exchange-stop.new.tiles in
+    let us = c.deref_mut.result.now in
     let j = c.collect.new.current in
-    let values : (a : Axis) (p : Triple) → IsWithin p (cells_of f.map) → inner_at j a p ≡ flux_in f.map us a p =
-    subst (λ (m : Tiling). (a : Axis) (p : Triple) → IsWithin p (cells_of m) → inner_at j a p ≡ flux_in m us a p) same c.collect.ensures.values in
-    are_pushed f (particles_of c.args.tiles.now) us c.collect.new.tiles c.exchange-stop.result j
-    c.map-map.ensures.frame (subst IsMap same c.tiles-tiles.ensures.limits) c.requires.side start.ordered start.can
-    x c.exchange-stop.ensures.small c.exchange-stop.ensures.stop
-    (subst (λ (m : Tiling). AreCollected m us c.collect.new.tiles) same c.collect.ensures.tiles)
-    (subst (λ (m : Tiling). IsOver (cells_of m) j) same c.collect.ensures.over) values
+    let values : (a : Axis) (q : Triple) → IsWithin q (cells_of f.map) → inner_at j a q ≡ flux_in f.map us a q =
+    subst (λ (m : Tiling). (a : Axis) (q : Triple) → IsWithin q (cells_of m) → inner_at j a q ≡ flux_in m us a q) map c.collect.ensures.values in
+    are_pushed f (particles_of p.tiles.items) us c.collect.new.tiles c.least_stop-stop.result j
+    (subst IsFrame h.frame c.map-map.ensures.frame) (subst IsMap map c.tiles-tiles.ensures.limits) c.requires.side start.ordered start.can
+    x (small_there f.map us _ c.deref_mut.ensures.value h.small)
+    (c.least_stop-stop.ensures ∙ ap least_stop (c.deref.ensures.value ∙ sym c.deref_mut.ensures.value))
+    (subst (λ (m : Tiling). AreCollected m us c.collect.new.tiles) map c.collect.ensures.tiles)
+    (subst (λ (m : Tiling). IsOver (cells_of m) j) map c.collect.ensures.over) values
 
-pub exchange-stop-requires-clause-tiles : goal.exchange-stop-requires-clause-tiles
-exchange-stop-requires-clause-tiles g c κs within = are_numbered c.args.frame.now (particles_of c.args.tiles.now) c.args.tiles.now c.requires.opening.fresh
-
-pub exchange-stop-requires-clause-can : goal.exchange-stop-requires-clause-can
-exchange-stop-requires-clause-can g c κs within =
-    let start = c.requires.opening in can_be_pushed c.args.frame.now (particles_of c.args.tiles.now) c.args.tiles.now start.fresh start.can start.few
+-- and stand in the list of tiles
+items : (g : Over) (c : After-collect g) → c.map-map.result.now ≡ c.args.plasma.frame.map
+    → AreExchanged (felt_in c.args.plasma.frame) c.args.plasma.frame.map (particles_of c.args.plasma.tiles.items) c.deref_mut.result.now
+    → (with_items c.in_ok-plasma.plasma.tiles c.collect.new.tiles).items ≡ c.collect.new.tiles
+items g c map x =
+    with_items_is c.in_ok-plasma.plasma.tiles c.collect.new.tiles
+    (c.collect.ensures.tiles.numbered.count ∙ ap (λ (m : Tiling). count_of m.tiles) map ∙ sym x.count ∙ c.deref_mut.ensures.len)
 
 pub collect-requires-clause-tiles : goal.collect-requires-clause-tiles
 collect-requires-clause-tiles g c =
-    let f = c.args.frame.now in
-    subst (λ (m : Tiling). HaveReceived m c.exchange-stop.new.tiles) (sym c.map-map.ensures.value)
-    (have_received (felt_in f) f.map (particles_of c.args.tiles.now) c.exchange-stop.new.tiles
-    (exchanged g (goal.at.collect-requires-clause-tiles g c).After-exchange-stop) c.exchange-stop.ensures.small)
+    let at = (goal.at.collect-requires-clause-tiles g c).After-deref_mut in
+    let p = c.args.plasma in
+    let us = c.deref_mut.result.now in
+    subst (λ (m : Tiling). HaveReceived m us) (sym (same g at))
+    (have_received (felt_in p.frame) p.frame.map (particles_of p.tiles.items) us (exchanged g at)
+    (small_there p.frame.map us _ c.deref_mut.ensures.value c.in_ok-plasma.ensures.small))
 
 pub collect-requires-clause-over : goal.collect-requires-clause-over
-collect-requires-clause-over g c = subst (λ (m : Tiling). IsOver (cells_of m) c.args.current.now) (sym c.map-map.ensures.value) c.requires.over
+collect-requires-clause-over g c =
+    let at = (goal.at.collect-requires-clause-over g c).After-deref_mut in
+    subst (λ (m : Tiling). IsOver (cells_of m) c.in_ok-plasma.plasma.current) (sym (same g at))
+    (subst (λ b. IsOver (cells_of c.args.plasma.frame.map) b) (sym c.in_ok-plasma.ensures.current) c.requires.ready.current)
 
-pub returns-clause-tiles : goal.returns-clause-tiles
-returns-clause-tiles g c =
-    let at = goal.at.returns-clause-tiles g c in (pushed g at.After-collect (exchanged g at.After-exchange-stop)).tiles
-
-pub returns-clause-over : goal.returns-clause-over
-returns-clause-over g c = subst (λ (m : Tiling). IsOver (cells_of m) c.collect.new.current) c.map-map.ensures.value c.collect.ensures.over
+pub returns-clause-plasma : goal.returns-clause-plasma
+returns-clause-plasma g c =
+    let at = goal.at.returns-clause-plasma g c in
+    let p = c.args.plasma in
+    let q = c.in_ok-plasma.plasma in
+    let h = c.in_ok-plasma.ensures in
+    let map = same g at.After-deref_mut in
+    let x = exchanged g at.After-deref_mut in
+    let vs = c.collect.new.tiles in
+    let done = pushed g at.After-collect map x in
+    let count : q.count ≡ length (particles_of vs) =
+    h.count ∙ c.requires.ready.count ∙ sym (ap length done.pushed.particles ∙ length-moved_all (felt_in p.frame) (particles_of p.tiles.items)) in
+    is_plasma p (record {
+      alloc = q.alloc;
+      frame = q.frame;
+      tiles = with_items q.tiles vs;
+      room = q.room;
+      current = c.collect.new.current;
+      count = q.count;
+    }) vs h.frame (items g at.After-collect map x) done.tiles h.room c.requires.ready.parts
+    (subst (λ (m : Tiling). IsOver (cells_of m) c.collect.new.current) map c.collect.ensures.over) count
 
 pub returns-clause-pushed : goal.returns-clause-pushed
 returns-clause-pushed g c =
-    let at = goal.at.returns-clause-pushed g c in (pushed g at.After-collect (exchanged g at.After-exchange-stop)).pushed
+    let at = goal.at.returns-clause-pushed g c in
+    let p = c.args.plasma in
+    let map = same g at.After-deref_mut in
+    let x = exchanged g at.After-deref_mut in
+    subst (λ (ts : List TileValue). IsPushed (felt_in p.frame) (particles_of p.tiles.items) (particles_of ts) c.least_stop-stop.result c.collect.new.current)
+    (sym (items g at.After-collect map x)) (pushed g at.After-collect map x).pushed

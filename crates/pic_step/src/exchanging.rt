@@ -1,0 +1,99 @@
+//! The push of all particles of a state, tile by tile, and the exchange of what leaves their tiles.
+
+ghost use Rattle.std.specs.Prelude.{◌<◌, ◌≤◌, IfOk};
+ghost use Rattle.pic_crew.specs.Teams.{most_workers};
+ghost use Rattle.pic_tile.specs.CoreState.{IsOpening};
+ghost use Rattle.pic_core.specs.Opened.{IsRoom};
+ghost use Rattle.pic_step.specs.Exchange.{HasExchanged};
+
+use crate::plasma::Plasma;
+use pic_core::Core;
+use pic_crew::on_board;
+use pic_gate::Gate;
+use pic_num::NoMemory;
+use std::thread::Threads;
+
+/// Pushes the particles of all tiles, and moves each to the tile that it leads to. One worker lets
+/// the events of a core come, one after another, and takes no memory; more work at a board, each in
+/// a thread of its own where one can be made. Each worker passes the gate.
+///
+/// # Errors
+/// `NoMemory` where it is refused to the board; nothing is handed back then.
+pub(crate) fn exchange_parcels<H: Threads + Sync, G: Gate + Sync>(
+    rt: &H,
+    plasma: Plasma,
+    workers: u32,
+    gate: &G,
+) -> Result<Plasma, NoMemory>
+    requires some { 0 < workers }
+    requires most { workers ≤ most_workers }
+    requires opening { IsOpening plasma.frame plasma.tiles.items }
+    requires room { IsRoom plasma.frame.map plasma.room }
+    ensures { IfOk result (HasExchanged plasma) }
+{
+    if workers == 1 {
+        Ok(in_turn(plasma, gate))
+    } else {
+        at_board(rt, plasma, workers, gate)
+    }
+}
+
+/// The events of a core, as one worker lets them come.
+fn in_turn<G: Gate>(plasma: Plasma, gate: &G) -> Plasma
+    requires opening { IsOpening plasma.frame plasma.tiles.items }
+    requires room { IsRoom plasma.frame.map plasma.room }
+    ensures { HasExchanged plasma result }
+{
+    let Plasma {
+        alloc,
+        frame,
+        tiles,
+        room,
+        current,
+        count,
+    } = plasma;
+    let mut core = Core::begin(frame, tiles, room);
+    core.run_in_turn(gate);
+    let (frame, tiles, room) = core.close_with_room();
+    Plasma {
+        alloc,
+        frame,
+        tiles,
+        room,
+        current,
+        count,
+    }
+}
+
+/// The work of a crew at a board.
+fn at_board<H: Threads + Sync, G: Gate + Sync>(
+    rt: &H,
+    plasma: Plasma,
+    workers: u32,
+    gate: &G,
+) -> Result<Plasma, NoMemory>
+    requires some { 0 < workers }
+    requires most { workers ≤ most_workers }
+    requires opening { IsOpening plasma.frame plasma.tiles.items }
+    requires room { IsRoom plasma.frame.map plasma.room }
+    ensures { IfOk result (HasExchanged plasma) }
+{
+    let Plasma {
+        alloc,
+        frame,
+        tiles,
+        room,
+        current,
+        count,
+    } = plasma;
+    let done = on_board(rt, alloc, frame, tiles, workers, gate)?;
+    let (frame, tiles) = done;
+    Ok(Plasma {
+        alloc,
+        frame,
+        tiles,
+        room,
+        current,
+        count,
+    })
+}

@@ -1,0 +1,120 @@
+//! One step of a pair, by the side of a cell: numbers worked by hand.
+
+ghost use Rattle.std.specs.Prelude.{◌≡◌};
+
+use pic_gate::{Hold, Open};
+use pic_grid::{Cells, Lattice, Snapshot};
+use pic_num::{Axis, Kind, Mult, NoMemory, Particle, Scales, Sub};
+use pic_step::{Start, State, step};
+use pic_tile::{Dir, TileMap};
+use std::alloc::Global;
+
+/// A charge of either sign, which no field drives.
+fn kind_of(charge: i32) -> Kind
+    ensures charge { result.charge ≡ charge }
+    ensures mass { result.mass ≡ 1 }
+{
+    let none = Mult::new(0, 0);
+    Kind {
+        charge,
+        mass: 1,
+        kick: none,
+        turn: none,
+    }
+}
+
+/// An ion at rest and an electron on one place, a quarter of a cell along x. The electron moves half
+/// a cell along x in a step.
+fn pair_of(alloc: Global, sub: Sub) -> Result<State, NoMemory> {
+    let none = Mult::new(0, 0);
+    let scales = Scales {
+        e_to_b: none,
+        b_to_e: none,
+        e_force: none,
+        b_force: none,
+    };
+    let cells = Cells::new([4; 3], sub);
+    let side = sub.side();
+    let ion = Particle {
+        id: 0,
+        species: 0,
+        x: [side / 4, 0, 0],
+        v: [0; 3],
+    };
+    let electron = Particle {
+        id: 1,
+        species: 1,
+        x: [side / 4, 0, 0],
+        v: [side as i32 * 2048, 0, 0],
+    };
+    let kinds = Vec::from_slice(alloc, &[kind_of(1), kind_of(-1)])?;
+    let particles = Vec::from_slice(alloc, &[ion, electron])?;
+    let e = Lattice::new(alloc, cells, [1; 3])?;
+    let b = Lattice::new(alloc, cells, [1; 3])?;
+    let map = TileMap::new(cells, [2, 1, 1]);
+    let start = Start {
+        map,
+        scales,
+        kinds,
+        e,
+        b,
+        particles,
+    };
+    State::begin(alloc, start)
+}
+
+/// The value of a lattice at a cell, or 0 outside.
+fn value_in(field: &Lattice, axis: Axis, cell: [u32; 3]) -> i128 {
+    let [nx, ny, nz] = field.cells().numbers();
+    let [x, y, z] = cell;
+    if x >= nx || y >= ny || z >= nz {
+        return 0;
+    }
+    field.at(axis, cell)
+}
+
+/// Whether a tile has particles.
+fn is_peopled(state: &State, number: usize) -> Option<bool> {
+    let (_, tiles) = state.tiles();
+    let parcel = tiles.get(number)?.parcel(Dir::HERE)?;
+    Some(!parcel.chain.is_empty())
+}
+
+#[test]
+fn a_step_by_the_side_of_a_cell(rt: HostRuntime) -> Result<(), NoMemory> {
+    let cases = [
+        (8, 100663296, 192),
+        (12, 412316860416, 3072),
+        (14, 26388279066624, 12288),
+    ];
+    for (bits, current, place) in cases {
+        let Some(sub) = Sub::new(bits) else {
+            continue;
+        };
+        for workers in 1..3 {
+            let next = step(&rt, pair_of(rt.alloc(), sub)?, workers, &Open);
+            assert!(rt; next.is_ok());
+            if let Ok(state) = next {
+                let mut seen = Snapshot::new(rt.alloc(), state.cells(), state.count())?;
+                state.fill(&mut seen);
+                assert_eq!(rt; state.cells().sub(), sub);
+                assert_eq!(rt; value_in(&seen.e, Axis::X, [0, 0, 0]), current);
+                assert_eq!(rt; value_in(&seen.e, Axis::X, [1, 0, 0]), 0);
+                assert_eq!(rt; value_in(&seen.e, Axis::Y, [0, 0, 0]), 0);
+                assert_eq!(rt; seen.particles.get(1).map(|p| p.x), Some([place, 0, 0]));
+                assert_eq!(rt; is_peopled(&state, 0), Some(true));
+                assert_eq!(rt; is_peopled(&state, 1), Some(false));
+            }
+        }
+    }
+    Ok(())
+}
+
+#[test]
+fn two_workers_are_at_work_at_once(rt: HostRuntime) -> Result<(), NoMemory> {
+    let hold = Hold::new();
+    let next = step(&rt, pair_of(rt.alloc(), Sub::of_bits(12))?, 2, &hold);
+    assert!(rt; next.is_ok());
+    assert!(rt; hold.met());
+    Ok(())
+}
