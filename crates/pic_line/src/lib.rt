@@ -7,6 +7,3 @@ mod line;
 
 pub use asked::{Command, LineFault};
 pub use line::command;
-
-#[cfg(test)]
-mod tests;

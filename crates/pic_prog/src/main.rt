@@ -6,6 +6,7 @@ ghost use Rattle.std.specs.Process.{exit_status};
 ghost use Rattle.pic_line.specs.CommandLine.{command_of};
 ghost use Rattle.pic_run.specs.Ended.{status_of};
 
+use pic_gate::Open;
 use pic_io::{StdSink, StdSource};
 use pic_run::{Ended, pic};
 use std::alloc::{AllocError, Global};
@@ -25,6 +26,7 @@ fn main(rt: HostRuntime) -> ExitCode {
             &mut source,
             &mut out,
             &mut report,
+            &Open,
         ),
         Err(_) => Ended::NoMemory,
     };

@@ -4,7 +4,7 @@ use Rattle.std.specs.Prelude.{◌&&◌, nat_le, nat_lt, ⊤, option_map, option_
 use Rattle.std.proofs.lemmas.Bool.Decides.{nat_tests}
 use Rattle.std.specs.Prelude.{codes}
 use Rattle.clap.specs.Words.{fault_of, subcommand_of}
-use Rattle.pic_exchange.specs.Teams.{most_workers}
+use Rattle.pic_crew.specs.Teams.{most_workers}
 use Rattle.pic_line.specs.declared.asked.Command.{Command}
 use Rattle.pic_line.specs.declared.asked.Command.TheVariants.{Check, Run, Verify, Demo}
 use Rattle.pic_line.specs.CommandLine.{pic_app, number_in, workers_in, seed_in, demo_of, command_from, unless_fault, command_of}

@@ -17,6 +17,7 @@ use crate::early::{Early, StageStop, end_early};
 use crate::ended::{Ended, ended_of};
 use crate::run::run;
 use crate::verify::verify;
+use pic_gate::Gate;
 use pic_io::{Sink, Source};
 use pic_line::{Command, LineFault, command};
 use std::alloc::Global;
@@ -24,18 +25,19 @@ use std::thread::Threads;
 
 /// The top call: performs the command of the words (those after the program's name), on the deck or
 /// the dump that the source gives. The result goes to `out`, and the lines for the reader to `report`.
-/// A run's particles are pushed on as many threads as the words have workers; whatever their number,
-/// the result is that of the serial scheme.
+/// A run's particles are pushed on as many threads as the words have workers; each step passes the
+/// gate. Whatever the number and the gate, the result is that of the serial scheme.
 ///
 /// `ends` says it all: what the call answers and what it puts on its sinks is the outcome of the
 /// words and of what the source held. The other clauses follow from it.
-pub fn pic<H: Threads + Sync, S: Source, O: Sink, R: Sink>(
+pub fn pic<H: Threads + Sync, S: Source, O: Sink, R: Sink, G: Gate + Sync>(
     rt: &H,
     alloc: Global,
     words: &[String],
     source: &mut S,
     out: &mut O,
     report: &mut R,
+    gate: &G,
 ) -> Ended
     // where the source and the sinks tell their bytes and none of them failed
     ensures complete { IsComplete (map string_bytes words.now) (S.told source.old)
@@ -80,17 +82,18 @@ pub fn pic<H: Threads + Sync, S: Source, O: Sink, R: Sink>(
         (sinks (O.told out.old) (R.told report.old))
         (sinks (O.told out.new) (R.told report.new)) }
 {
-    ended_of(perform(rt, alloc, words, source, out, report))
+    ended_of(perform(rt, alloc, words, source, out, report, gate))
 }
 
 // Performs the command of the words.
-fn perform<H: Threads + Sync, S: Source, O: Sink, R: Sink>(
+fn perform<H: Threads + Sync, S: Source, O: Sink, R: Sink, G: Gate + Sync>(
     rt: &H,
     alloc: Global,
     words: &[String],
     source: &mut S,
     out: &mut O,
     report: &mut R,
+    gate: &G,
 ) -> Result<Ended, Cut>
     ensures { Performs (map string_bytes words.now) (S.told source.old) (S.told source.new)
         (sinks (O.told out.old) (R.told report.old))
@@ -98,9 +101,9 @@ fn perform<H: Threads + Sync, S: Source, O: Sink, R: Sink>(
 {
     match command(alloc, words) {
         Ok(Command::Check) => check(alloc, source, out, report),
-        Ok(Command::Run { workers }) => run(rt, alloc, source, out, report, workers),
+        Ok(Command::Run { workers }) => run(rt, alloc, source, out, report, workers, gate),
         Ok(Command::Verify) => verify(alloc, source, out, report),
-        Ok(Command::Demo { seed, workers }) => demo(rt, alloc, seed, out, report, workers),
+        Ok(Command::Demo { seed, workers }) => demo(rt, alloc, seed, out, report, workers, gate),
         Err(LineFault::Usage) => end_early(report, StageStop::Answer(Early::Usage)),
         Err(LineFault::NoMemory) => Err(Cut::NoMemory),
     }

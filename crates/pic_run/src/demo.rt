@@ -1,7 +1,7 @@
 //! The command `demo`: the run of the deck that a number makes, as lines alone.
 
 ghost use Rattle.std.specs.Prelude.{◌<◌, ◌≤◌};
-ghost use Rattle.pic_exchange.specs.Teams.{most_workers};
+ghost use Rattle.pic_crew.specs.Teams.{most_workers};
 ghost use Rattle.pic_io.specs.Sinks.{sinks};
 ghost use Rattle.pic_demo.specs.Demo.{demo_deck};
 ghost use Rattle.pic_step.specs.Sound.{IsSound};
@@ -17,6 +17,7 @@ use crate::opened::{Opened, test_deck};
 use crate::output::{Output, Plan};
 use crate::run::write_states;
 use pic_demo::deck_of;
+use pic_gate::Gate;
 use pic_grid::Snapshot;
 use pic_io::Sink;
 use pic_step::State;
@@ -25,13 +26,14 @@ use std::thread::Threads;
 
 /// Runs the demonstration of a seed, on so many workers: the lines of its due frames and of its end go to `out`, and no
 /// dump is written.
-pub fn demo<H: Threads + Sync, O: Sink, R: Sink>(
+pub fn demo<H: Threads + Sync, O: Sink, R: Sink, G: Gate + Sync>(
     rt: &H,
     alloc: Global,
     seed: u32,
     out: &mut O,
     report: &mut R,
     workers: u32,
+    gate: &G,
 ) -> Result<Ended, Cut>
     requires some { 0 < workers }
     requires most { workers ≤ most_workers }
@@ -40,7 +42,7 @@ pub fn demo<H: Threads + Sync, O: Sink, R: Sink>(
         (sinks (O.told out.new) (R.told report.new)) result }
 {
     match open_demo(alloc, seed) {
-        Ok(opened) => show_deck(rt, alloc, opened, out, report, workers),
+        Ok(opened) => show_deck(rt, alloc, opened, out, report, workers, gate),
         Err(stop) => end_early(report, stop),
     }
 }
@@ -54,13 +56,14 @@ fn open_demo(alloc: Global, seed: u32) -> Result<Opened, StageStop>
 }
 
 // Runs a deck and shows its lines. All memory that isn't a step's is taken before the first one.
-fn show_deck<H: Threads + Sync, O: Sink, R: Sink>(
+fn show_deck<H: Threads + Sync, O: Sink, R: Sink, G: Gate + Sync>(
     rt: &H,
     alloc: Global,
     opened: Opened,
     out: &mut O,
     report: &mut R,
     workers: u32,
+    gate: &G,
 ) -> Result<Ended, Cut>
     requires some { 0 < workers }
     requires most { workers ≤ most_workers }
@@ -78,5 +81,5 @@ fn show_deck<H: Threads + Sync, O: Sink, R: Sink>(
         every: deck.every(),
         workers,
     };
-    write_states(rt, plan, out, report, state, &mut room)
+    write_states(rt, plan, out, report, state, &mut room, gate)
 }

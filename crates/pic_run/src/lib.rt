@@ -23,12 +23,3 @@ mod writing;
 pub use call::pic;
 pub use ended::Ended;
 pub use laws::every_state_meets_gauss;
-
-#[cfg(test)]
-mod more_tests;
-#[cfg(test)]
-mod run_tests;
-#[cfg(test)]
-mod tests;
-#[cfg(test)]
-mod trial;

@@ -1,7 +1,7 @@
 //! The command `run`, and the loop over the states of a run.
 
 ghost use Rattle.std.specs.Prelude.{◌≡◌, ◌<◌, ◌≤◌, [], ◌∷◌, IfOk};
-ghost use Rattle.pic_exchange.specs.Teams.{most_workers};
+ghost use Rattle.pic_crew.specs.Teams.{most_workers};
 ghost use Rattle.pic_io.specs.Sinks.{sinks, Writes};
 ghost use Rattle.pic_step.specs.Sound.{IsSound};
 ghost use Rattle.pic_step.specs.Start.{begun};
@@ -21,6 +21,7 @@ use crate::opened::{Opened, open};
 use crate::output::{Output, Plan};
 use pic_deck::Deck;
 use pic_dump::{Header, put_header};
+use pic_gate::Gate;
 use pic_grid::{EndMark, Snapshot};
 use pic_io::{Failed, Side, Sink, Source};
 use pic_num::NoMemory;
@@ -30,13 +31,14 @@ use std::thread::Threads;
 
 /// Runs the deck that the source gives, on so many workers: header, due frames and end record on `out`,
 /// the lines of frames and end on `report`.
-pub fn run<H: Threads + Sync, S: Source, O: Sink, R: Sink>(
+pub fn run<H: Threads + Sync, S: Source, O: Sink, R: Sink, G: Gate + Sync>(
     rt: &H,
     alloc: Global,
     source: &mut S,
     out: &mut O,
     report: &mut R,
     workers: u32,
+    gate: &G,
 ) -> Result<Ended, Cut>
     requires some { 0 < workers }
     requires most { workers ≤ most_workers }
@@ -45,19 +47,20 @@ pub fn run<H: Threads + Sync, S: Source, O: Sink, R: Sink>(
         (sinks (O.told out.new) (R.told report.new)) result }
 {
     match open(alloc, source) {
-        Ok(opened) => run_deck(rt, alloc, opened, out, report, workers),
+        Ok(opened) => run_deck(rt, alloc, opened, out, report, workers, gate),
         Err(stop) => end_early(report, stop),
     }
 }
 
 // Runs a deck. All memory that isn't a step's is taken before the header is put.
-fn run_deck<H: Threads + Sync, O: Sink, R: Sink>(
+fn run_deck<H: Threads + Sync, O: Sink, R: Sink, G: Gate + Sync>(
     rt: &H,
     alloc: Global,
     opened: Opened,
     out: &mut O,
     report: &mut R,
     workers: u32,
+    gate: &G,
 ) -> Result<Ended, Cut>
     requires some { 0 < workers }
     requires most { workers ≤ most_workers }
@@ -68,7 +71,7 @@ fn run_deck<H: Threads + Sync, O: Sink, R: Sink>(
 {
     let Opened { deck, start } = opened;
     let ready = prepare(alloc, &deck, start)?;
-    write_run(rt, out, report, ready, workers)
+    write_run(rt, out, report, ready, workers, gate)
 }
 
 /// A run that has all its memory: the header of its dump, its first state, and room for a frame.
@@ -96,12 +99,13 @@ fn prepare(alloc: Global, deck: &Deck, start: Start) -> Result<Ready, NoMemory>
     })
 }
 
-fn write_run<H: Threads + Sync, O: Sink, R: Sink>(
+fn write_run<H: Threads + Sync, O: Sink, R: Sink, G: Gate + Sync>(
     rt: &H,
     out: &mut O,
     report: &mut R,
     ready: Ready,
     workers: u32,
+    gate: &G,
 ) -> Result<Ended, Cut>
     requires some { 0 < workers }
     requires most { workers ≤ most_workers }
@@ -123,20 +127,21 @@ fn write_run<H: Threads + Sync, O: Sink, R: Sink>(
                 every: header.every(),
                 workers,
             };
-            write_states(rt, plan, out, report, state, &mut room)
+            write_states(rt, plan, out, report, state, &mut room, gate)
         }
         Err(Failed) => Err(Cut::Write(Side::Out)),
     }
 }
 
 /// The due frames of a run from this state, and then its end.
-pub fn write_states<H: Threads + Sync, O: Sink, R: Sink>(
+pub fn write_states<H: Threads + Sync, O: Sink, R: Sink, G: Gate + Sync>(
     rt: &H,
     plan: Plan,
     out: &mut O,
     report: &mut R,
     state: State,
     room: &mut Snapshot,
+    gate: &G,
 ) -> Result<Ended, Cut>
     requires every { 1 ≤ plan.every }
     requires some { 0 < plan.workers }
@@ -148,19 +153,20 @@ pub fn write_states<H: Threads + Sync, O: Sink, R: Sink>(
         (sinks (O.told out.old) (R.told report.old))
         (sinks (O.told out.new) (R.told report.new)) result }
 {
-    let end = write_frames(rt, plan, out, report, state, room)?;
+    let end = write_frames(rt, plan, out, report, state, room, gate)?;
     put_last(plan.output, out, report, end)?;
     Ok(answer_of(end))
 }
 
 // The due frames up to the last step, or to the one that stops.
-fn write_frames<H: Threads + Sync, O: Sink, R: Sink>(
+fn write_frames<H: Threads + Sync, O: Sink, R: Sink, G: Gate + Sync>(
     rt: &H,
     plan: Plan,
     out: &mut O,
     report: &mut R,
     state: State,
     room: &mut Snapshot,
+    gate: &G,
 ) -> Result<EndMark, Cut>
     requires every { 1 ≤ plan.every }
     requires some { 0 < plan.workers }
@@ -188,7 +194,7 @@ fn write_frames<H: Threads + Sync, O: Sink, R: Sink>(
     )?;
     for done in 0..steps {
         let number = done + 1;
-        state = match step(rt, state, workers) {
+        state = match step(rt, state, workers, gate) {
             Ok(next) => next,
             Err(StepStop::Stop(stop)) => {
                 return Ok(EndMark::Stopped { step: number, stop });

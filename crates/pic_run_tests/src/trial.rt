@@ -1,10 +1,9 @@
 //! What the tests share: decks in pieces, and a call over memory.
 
-use crate::pic;
+use pic_gate::Open;
 use pic_io::{MemSink, MemSource};
-use std::alloc::Global;
+use pic_run::pic;
 use std::process::Abort;
-use std::test::Fail;
 use std::thread::Threads;
 
 /// A text, as its pieces one after another.
@@ -50,7 +49,8 @@ pub const PAIR: Pieces<'static> = &[GRID_4, ONE_STEP, CHARGES, ION, STILL, ELECT
 /// The ion alone, with no field: its charge breaks Gauss's law.
 pub const LONE: Pieces<'static> = &[GRID_4, ONE_STEP, CHARGES, ION, STILL];
 
-/// The takes and puts of a call that fail, counted from 0; and how many bytes such a put still takes.
+/// The takes and puts of a call that fail, counted from 0; and how many bytes such a put still
+/// takes.
 #[derive(Clone, Copy)]
 pub struct Faults {
     pub take: u64,
@@ -75,40 +75,56 @@ pub struct Left {
     pub report: MemSink,
 }
 
-pub fn call<H: Threads + Sync>(
+/// The words of a call.
+pub fn owned(rt: &(impl AllocGlobal + Abort), words: &[&str]) -> Vec<String> {
+    let mut all = Vec::new(rt.alloc());
+    for word in words {
+        let word = word.to_string(rt.alloc()).expect(rt, "memory");
+        all.push(word).expect(rt, "memory");
+    }
+    all
+}
+
+fn source_of(rt: &(impl AllocGlobal + Abort), held: Pieces<'_>, fault: u64) -> MemSource {
+    let bytes = held.concat(rt.alloc()).expect(rt, "memory");
+    let faults = Vec::from_slice(rt.alloc(), &[fault]).expect(rt, "memory");
+    MemSource::new(bytes, 100, faults)
+}
+
+fn sink_of(rt: &(impl AllocGlobal + Abort), room: usize, fault: (u64, usize)) -> MemSink {
+    let faults = Vec::from_slice(rt.alloc(), &[fault]).expect(rt, "memory");
+    MemSink::new(rt.alloc(), room, faults).expect(rt, "memory")
+}
+
+/// A call of the words on a deck or a dump.
+pub fn call<H: AllocGlobal + Abort + Threads + Sync>(
     rt: &H,
-    alloc: Global,
     words: &[&str],
     held: Pieces<'_>,
     faults: Faults,
-) -> Result<Left, Fail> {
-    let mut all = Vec::new(alloc);
-    for word in words {
-        all.push(word.to_string(alloc)?)?;
-    }
-    let held = joined(alloc, held)?;
-    let mut source = MemSource::new(held, 100, Vec::from_slice(alloc, &[faults.take])?);
-    let mut out = MemSink::new(alloc, 13000, Vec::from_slice(alloc, &[faults.out])?)?;
-    let mut report = MemSink::new(alloc, 1000, Vec::from_slice(alloc, &[faults.report])?)?;
-    let ended = pic(rt, alloc, &all, &mut source, &mut out, &mut report);
-    Ok(Left {
+) -> Left {
+    let words = owned(rt, words);
+    let mut source = source_of(rt, held, faults.take);
+    let mut out = sink_of(rt, 13000, faults.out);
+    let mut report = sink_of(rt, 1000, faults.report);
+    let ended = pic(
+        rt,
+        rt.alloc(),
+        &words,
+        &mut source,
+        &mut out,
+        &mut report,
+        &Open,
+    );
+    Left {
         status: ended.status(),
         out,
         report,
-    })
+    }
 }
 
 /// The status of a call, and what stands on out and on report after it.
 pub fn check(rt: &impl Abort, left: &Left, status: u8, out: &[u8], report: &[u8]) {
-    assert_eq!(rt; left.status, status);
     assert_eq!(rt; left.report.bytes(), report);
-    assert_eq!(rt; left.out.bytes(), out);
-}
-
-fn joined(alloc: Global, pieces: Pieces<'_>) -> Result<Vec<u8>, Fail> {
-    let mut whole = Vec::new(alloc);
-    for piece in pieces {
-        whole.extend_from_slice(piece)?;
-    }
-    Ok(whole)
+    assert!(rt; left.status == status && left.out.bytes() == out);
 }

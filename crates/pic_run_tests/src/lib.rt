@@ -1,0 +1,13 @@
+//! Tests of `pic_run`, in a crate of their own: a crate is proved a second time with its tests.
+#![tactic(auto)]
+
+#[cfg(test)]
+mod calls;
+#[cfg(test)]
+mod dumps;
+#[cfg(test)]
+mod runs;
+#[cfg(test)]
+mod trial;
+#[cfg(test)]
+mod words;

@@ -1,0 +1,72 @@
+//! Lines that `clap` takes, and lines that it doesn't.
+
+use crate::trial::owned;
+use pic_line::{Command, LineFault, command};
+
+const SEVEN: Command = Command::Demo {
+    seed: 7,
+    workers: 1,
+};
+
+const COMMANDS: [(&[&str], Command); 14] = [
+    (&[], Command::Check),
+    (&["--"], Command::Check),
+    (&["check"], Command::Check),
+    (&["run"], Command::Run { workers: 1 }),
+    (&["run", "--"], Command::Run { workers: 1 }),
+    (&["run", "--workers", "64"], Command::Run { workers: 64 }),
+    (&["run", "--workers=3"], Command::Run { workers: 3 }),
+    (&["run", "--workers", "+3"], Command::Run { workers: 3 }),
+    (&["run", "--workers", "003"], Command::Run { workers: 3 }),
+    (&["verify"], Command::Verify),
+    (&["demo", "7"], SEVEN),
+    (&["demo", "--", "7"], SEVEN),
+    (
+        &["demo", "--", "-0"],
+        Command::Demo {
+            seed: 0,
+            workers: 1,
+        },
+    ),
+    (
+        &["demo", "--workers", "2", "4294967295"],
+        Command::Demo {
+            seed: 4294967295,
+            workers: 2,
+        },
+    ),
+];
+
+const USAGES: [&[&str]; 15] = [
+    &["go"],
+    &[""],
+    &["help"],
+    &["--help"],
+    &["run", "-h"],
+    &["check", "x"],
+    &["verify", "x"],
+    &["run", "--workers"],
+    &["run", "--workers", "0"],
+    &["run", "--workers", "65"],
+    &["run", "--workers", "-1"],
+    &["run", "--workers", "2", "--workers", "2"],
+    &["demo"],
+    &["demo", "4294967296"],
+    &["demo", "7", "8"],
+];
+
+#[test]
+fn lines_with_a_command(rt: HostRuntime) {
+    for (texts, wanted) in &COMMANDS {
+        let found = command(rt.alloc(), &owned(&rt, texts));
+        assert_eq!(rt; found, Ok(*wanted), "{texts:?}");
+    }
+}
+
+#[test]
+fn lines_without_a_command(rt: HostRuntime) {
+    for texts in &USAGES {
+        let found = command(rt.alloc(), &owned(&rt, texts));
+        assert_eq!(rt; found, Err(LineFault::Usage), "{texts:?}");
+    }
+}
