@@ -25,3 +25,4 @@ pub mod LeastHaltLaws
 pub mod ApartLaws
 pub mod FloorLaws
 pub mod SpeciesLaws
+pub mod CopyLaws

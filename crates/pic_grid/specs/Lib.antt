@@ -22,3 +22,4 @@ pub mod Ways
 pub mod Traces
 pub mod Felt
 pub mod LeastHalt
+pub mod Copying

@@ -109,7 +109,7 @@ impl Lattice {
         requires { IsWithin (triple cell) self.now.cells }
         ensures { result ≡ value_at self.now axis (triple cell) }
     {
-        let part = part_in(self.parts, self.layers, cell);
+        let part = part_in(self.parts, self.layers, self.factors, cell);
         let block = &self.blocks[part];
         block.at(axis, self.cells.unwrapped(cell))
     }
@@ -120,7 +120,7 @@ impl Lattice {
         ensures after { self.new ≡ with_value self.old axis (triple cell) value }
         ensures stored { value_at self.new axis (triple cell) ≡ value }
     {
-        let part = part_in(self.parts, self.layers, cell);
+        let part = part_in(self.parts, self.layers, self.factors, cell);
         let at = self.cells.unwrapped(cell);
         let block = &mut self.blocks[part];
         block.set(axis, at, value);

@@ -3,6 +3,7 @@
 
 mod block;
 mod cells;
+mod copying;
 mod fours;
 mod lattice;
 mod layers;

@@ -11,6 +11,7 @@ ghost use Rattle.pic_grid.specs.Parts.{IsFactor, AreFactors};
 use crate::block::{Block, Zone};
 use crate::cells::Cells;
 use crate::places::{count_in, index_in};
+use crate::slot::part_of as part_on;
 use pic_num::NoMemory;
 use std::alloc::Global;
 
@@ -44,10 +45,14 @@ fn factor_of(layers: u32) -> u16
     (32768 / layers + 1) as u16
 }
 
-/// The number of the part in which a cell lies. One part alone needs no division.
-pub(crate) fn part_in(parts: [u32; 3], layers: [u32; 3], cell: [u32; 3]) -> usize
+/// The number of the part in which a cell lies, by the factors of the parts' layers.
+pub(crate) fn part_in(parts: [u32; 3], layers: [u32; 3], factors: [u16; 3], cell: [u32; 3]) -> usize
     requires parts { IsSize (triple parts) }
     requires layers { IsSize (triple layers) }
+    requires factors { AreFactors (triple layers) (triple factors) }
+    requires x { (triple cell).x < most_cells_of_axis }
+    requires y { (triple cell).y < most_cells_of_axis }
+    requires z { (triple cell).z < most_cells_of_axis }
     requires within { IsWithin (part_of (triple layers) (triple cell)) (triple parts) }
     ensures { result ≡ index_of (triple parts) (part_of (triple layers) (triple cell)) }
 {
@@ -55,8 +60,10 @@ pub(crate) fn part_in(parts: [u32; 3], layers: [u32; 3], cell: [u32; 3]) -> usiz
         return 0;
     }
     let [nx, ny, nz] = layers;
+    let [fx, fy, fz] = factors;
     let [x, y, z] = cell;
-    index_in(parts, [x / nx, y / ny, z / nz])
+    let part = [part_on(nx, fx, x), part_on(ny, fy, y), part_on(nz, fz, z)];
+    index_in(parts, part)
 }
 
 /// The zone of the part of a number.

@@ -22,7 +22,7 @@ impl Lattice {
         ensures values { (i : ℕ) → i < length result.now → slice_index_or result.now i (pos 0)
             ≡ value_at self.now axis (record (triple cell) { x = (triple cell).x + i }) }
     {
-        let part = part_in(self.parts, self.layers, cell);
+        let part = part_in(self.parts, self.layers, self.factors, cell);
         let block = &self.blocks[part];
         block.run(axis, self.cells.unwrapped(cell))
     }

@@ -105,7 +105,7 @@ fn slot_on(layers: u32, factor: u16, part_step: u32, place_step: u32, index: u32
 
 /// The part of an index, by the factor of a part's layers.
 #[inline(always)]
-fn part_of(layers: u32, factor: u16, index: u32) -> u32
+pub(crate) fn part_of(layers: u32, factor: u16, index: u32) -> u32
     requires some { 1 ≤ layers }
     requires most { layers ≤ most_cells_of_axis }
     requires factor { IsFactor layers factor }

@@ -68,6 +68,23 @@ fn blocks_keep_all_values(rt: HostRuntime) -> Result<(), NoMemory> {
 }
 
 #[test]
+fn values_are_copied_into_other_parts(rt: HostRuntime) -> Result<(), NoMemory> {
+    let cells = Cells::new([4, 6, 2], Sub::of_bits(8));
+    let mut from = Lattice::new(rt.alloc(), cells, [2, 3, 1])?;
+    from.set(Axis::Y, [3, 5, 1], 7);
+    from.set(Axis::Y, [1, 0, 0], 8);
+    let mut to = Lattice::new(rt.alloc(), cells, [1, 2, 2])?;
+    to.set(Axis::X, [0, 0, 0], 9);
+    to.copy_from(&from);
+    assert_eq!(rt; (to.cells(), to.parts()), (cells, [1, 2, 2]));
+    let found = (to.at(Axis::Y, [3, 5, 1]), to.at(Axis::Y, [1, 0, 0]));
+    assert_eq!(rt; found, (7, 8));
+    let found = (to.at(Axis::X, [0, 0, 0]), to.at(Axis::Z, [3, 5, 1]));
+    assert_eq!(rt; found, (0, 0));
+    Ok(())
+}
+
+#[test]
 fn nodes_and_states_are_read_back(rt: HostRuntime) -> Result<(), NoMemory> {
     let cells = Cells::new([2, 3, 4], Sub::of_bits(8));
     let mut nodes = Nodes::new(rt.alloc(), cells)?;
