@@ -10,8 +10,8 @@ ghost use Rattle.pic_dump.specs.DumpText.{start_bytes, values_bytes, position_by
 ghost use Rattle.pic_dump.specs.Queues.{Queues};
 
 use crate::room::{Room, make_room};
-use pic_energy::Energies;
-use pic_grid::{Lattice, Snapshot};
+use pic_energy::{Energies, behind_run};
+use pic_grid::{Lattice, Place, Snapshot};
 use pic_io::{Failed, Sink};
 use pic_num::Particle;
 
@@ -65,16 +65,33 @@ fn put_state<O: Sink>(out: &mut O, room: &mut Room, state: &Snapshot) -> Result<
     put_particles(out, room, &state.particles)
 }
 
-// The values of a field, in the order of places.
+// The values of a field, run by run in the order of places.
 fn put_values<O: Sink>(out: &mut O, room: &mut Room, field: &Lattice) -> Result<(), Failed>
     ensures bytes { Queues (O.told out.old) (O.told out.new) room.old room.new
         (values_bytes field.now.values) result }
     ensures cause { HasCause (O.told out.old) (O.told out.new) result }
 {
     let cells = field.cells();
-    for place in 0..3 * cells.count() as usize {
-        let (axis, cell) = cells.place_at(place);
-        put_value(out, room, field.at(axis, cell))?;
+    let all = 3 * cells.count() as usize;
+    let size = cells.numbers();
+    let mut done = 0;
+    let mut place = Place::first();
+    while done < all {
+        let run = field.run(place.axis, place.inner);
+        put_run(out, room, run)?;
+        done += run.len();
+        place = behind_run(place, run.len(), size);
+    }
+    Ok(())
+}
+
+fn put_run<O: Sink>(out: &mut O, room: &mut Room, run: &[i128]) -> Result<(), Failed>
+    ensures bytes { Queues (O.told out.old) (O.told out.new) room.old room.new
+        (values_bytes run.now) result }
+    ensures cause { HasCause (O.told out.old) (O.told out.new) result }
+{
+    for value in run {
+        put_value(out, room, *value)?;
     }
     Ok(())
 }

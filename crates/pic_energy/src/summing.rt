@@ -1,14 +1,16 @@
 //! The sums of energies over particles and field values.
 
 ghost use Rattle.std.specs.Prelude.{◌≡◌, ◌*◌, ◌^◌, ◌<◌, ◌≤◌, All, length};
-ghost use Rattle.pic_num.specs.Limits.{most_mass, most_particles, most_force};
+ghost use Rattle.pic_num.specs.Limits.{most_mass, most_particles, most_value, most_force, most_cells_of_axis};
+ghost use Rattle.pic_num.specs.Rounding.{scaled};
 ghost use Rattle.pic_num.specs.Sizes.{IsAtMost};
 ghost use Rattle.pic_num.specs.Space.{spot};
 ghost use Rattle.pic_grid.specs.PushPhase.{kind_of};
 ghost use Rattle.pic_energy.specs.Energies.{square_of, speed_square, kinetic_of, kinetic_sum, square_sum, energies_of, HasMass, IsOfKinds, IsBounded};
 
 use crate::amounts::Energies;
-use pic_grid::{Lattice, Snapshot};
+use crate::walk::behind_run;
+use pic_grid::{Lattice, Place, Snapshot};
 use pic_num::{Kind, Mult, Particle, Scales, scale};
 
 /// The energies of a state: kinetic is the sum of mass times the square of the velocity over the
@@ -87,16 +89,38 @@ fn component_square(v: i32) -> u128
     size * size
 }
 
-// The sum of the squares of a field's force values.
+// The sum of the squares of a field's force values, run by run.
 fn squares(by: Mult, field: &Lattice) -> u128
     requires { IsBounded by field.now }
     ensures { result ≡ square_sum by field.now.values }
 {
     let cells = field.cells();
+    let all = 3 * cells.count() as usize;
+    let size = cells.numbers();
     let mut total = 0u128;
-    for place in 0..3 * cells.count() as usize {
-        let (axis, cell) = cells.place_at(place);
-        let part = square(scale(field.at(axis, cell), by));
+    let mut done = 0;
+    let mut place = Place::first();
+    while done < all {
+        let run = field.run(place.axis, place.inner);
+        let part = squares_of(by, run);
+        total += part;
+        done += run.len();
+        place = behind_run(place, run.len(), size);
+    }
+    total
+}
+
+// The sum of the squares of the force values of a run.
+fn squares_of(by: Mult, run: &[i128]) -> u128
+    requires few { length run.now ≤ most_cells_of_axis }
+    requires values { All (λ v. IsAtMost v most_value) run.now }
+    requires forces { All (λ v. IsAtMost (scaled v by) most_force) run.now }
+    ensures value { result ≡ square_sum by run.now }
+    ensures most { result ≤ length run.now * 2 ^ 88 }
+{
+    let mut total = 0u128;
+    for value in run {
+        let part = square(scale(*value, by));
         total += part;
     }
     total
