@@ -118,6 +118,19 @@ spread_more f old i now now' before at = record {
     apart : (d k : ℕ) → k + 1 ≤ d → d ≡ k → ⊥
     apart d k h same = omega (arith, h, same)
 
+-- where no flux passes those of the next directions
+pub spread_past : (f : Axis → Spot → ℤ) (old : TileValue) (i j : ℕ) (now : TileValue) → i ≤ j
+    → ((d : ℕ) (p : Parcel) → i ≤ d → d < j → parcel_at old d ≡ Some p → IsClear f p.flux) → Spread f old i now → Spread f old j now
+spread_past f old i j now more clear spread = record {
+  done = λ d p below is. elim (cases_lt d i) [
+    | inl less ↦ spread.done d p less is
+    | inr past ↦ record { parcel = p; there = spread.rest d past ∙ is; gained = gains_nothing f p (clear d p past below is) }
+  ];
+  gone = λ d below is. elim (cases_lt d i) [ inl less ↦ spread.gone d less is | inr past ↦ spread.rest d past ∙ is ];
+  rest = λ d past. spread.rest d (omega (arith, more, past));
+  number_is = spread.number_is;
+}
+
 -- where no flux passes those after the last
 pub spread_all : (f : Axis → Spot → ℤ) (old : TileValue) (i : ℕ) (now : TileValue)
     → ((d : ℕ) (p : Parcel) → d < directions → i ≤ d → parcel_at old d ≡ Some p → IsClear f p.flux) → Spread f old i now → Gains f old now

@@ -1,5 +1,5 @@
 -- The layers of the directions that a piece of a path doesn't reach: no flux of it passes them.
-use Rattle.std.proofs.Common.{◌≡◌, ℕ, zero, suc, ◌/◌, ◌%◌, ◌<◌, ◌≤◌, ◌⊎◌, inl, inr, Bool, true, false, ◌&&◌, refl, subst, arith}
+use Rattle.std.proofs.Common.{◌≡◌, ℕ, zero, suc, ◌+◌, ◌/◌, ◌%◌, ◌<◌, ◌≤◌, ◌⊎◌, inl, inr, Bool, true, false, ◌&&◌, refl, subst, arith}
 use Rattle.std.proofs.Math.IntN.{ℤ, pos, ◌+ℤ◌}
 use Rattle.std.specs.Prelude.{◌≤ℤ◌, ◌<ℤ◌}
 use Rattle.std.proofs.lemmas.Bool.Decides.{nat_tests}
@@ -12,6 +12,7 @@ use Rattle.pic_grid.specs.Flux.{flux}
 use Rattle.pic_grid.specs.Segment.{Piece, IsInCell}
 use Rattle.pic_grid.proofs.ApartLaws.{IsApart, flux_apart}
 use Rattle.pic_tile.specs.Directions.{directions, here, steps_of}
+use Rattle.pic_tile.specs.Leaving.{direction_by}
 use Rattle.pic_tile.specs.Layers.{layer_count, layer_low, layers_from, layers_size}
 use Rattle.pic_tile.specs.declared.parcel.Parcel.{Parcel}
 use Rattle.pic_push.specs.Gains.{IsClear}
@@ -112,3 +113,14 @@ none_before r d h below = grind (arith, nat_tests)
 pub none_after : (r : Reach) (d : ℕ) → IsReach r → d < directions → end_of r ≤ d → reaches r d ≡ false
 unfolding reaches spans
 none_after r d h few more = grind (arith, nat_tests)
+
+-- nor those between one and the next
+pub none_in_row : (r : Reach) (number d : ℕ) → r.x.last ≤ number % 3 → number < d → d < direction_by r.x.first (number / 3 % 3 + 1) (number / 9)
+    → reaches r d ≡ false
+unfolding reaches spans
+none_in_row r number d x more below = grind (arith, nat_tests)
+
+pub none_in_layer : (r : Reach) (number d : ℕ) → r.x.last ≤ number % 3 → r.y.last ≤ number / 3 % 3 → number < d
+    → d < direction_by r.x.first r.y.first (number / 9 + 1) → reaches r d ≡ false
+unfolding reaches spans
+none_in_layer r number d x y more below = grind (arith, nat_tests)

@@ -6,7 +6,7 @@ ghost use Rattle.std.specs.Prelude.{IsTrue, false};
 ghost use Rattle.pic_num.specs.Space.{triple, spot};
 ghost use Rattle.pic_tile.specs.Directions.{directions, here};
 ghost use Rattle.pic_tile.specs.Leaving.{step_to};
-ghost use Rattle.pic_push.specs.Reach.{spans, reaches, IsReach, IsReachOf, AreStepsOf};
+ghost use Rattle.pic_push.specs.Reach.{reaches, IsReach, IsReachOf, AreStepsOf};
 ghost use Rattle.pic_push.specs.Reach.{direction_from, first_of, end_of};
 
 use pic_grid::Zone;
@@ -67,13 +67,25 @@ impl Reach {
         self.x.last + 3 * self.y.last + 9 * self.z.last + 1
     }
 
-    /// Whether it has a direction.
-    #[tactic(auto, unfolding(crate::specs::Reach::reaches))]
-    pub fn has(&self, dir: Dir) -> bool
-        ensures { result ≡ reaches self.now dir }
+    /// The number after one, past those between that aren't its directions'.
+    pub fn after(&self, number: u32) -> u32
+        requires reach { IsReach self.now }
+        requires before { number < end_of self.now }
+        ensures more { number < result }
+        ensures most { result ≤ directions }
+        ensures skipped { (d : ℕ) → number < d → d < result → reaches self.now d ≡ false }
     {
-        let [x, y, z] = dir.steps();
-        self.x.has(x) && (self.y.has(y) && self.z.has(z))
+        let [x, y, z] = Dir::of(number).steps();
+        if x < self.x.last {
+            return number + 1;
+        }
+        if y < self.y.last {
+            return self.x.first + 3 * (y + 1) + 9 * z;
+        }
+        if z < self.z.last {
+            return self.x.first + 3 * self.y.first + 9 * (z + 1);
+        }
+        self.end()
     }
 }
 
@@ -84,14 +96,6 @@ impl Steps {
         ensures last { IsTrue result → self.now.last ≡ 1 }
     {
         self.first == 1 && self.last == 1
-    }
-
-    /// Whether a step is one of them.
-    #[tactic(auto, unfolding(crate::specs::Reach::spans))]
-    fn has(&self, step: u32) -> bool
-        ensures { result ≡ spans self.now step }
-    {
-        self.first <= step && step <= self.last
     }
 }
 

@@ -28,23 +28,18 @@ fn add_to(flux: &CellFlux, dir: Dir, tile: &mut Tile)
     }
 }
 
-/// Adds it where the piece reaches the layers of the direction, which isn't that of no step.
-fn add_if_reached(flux: &CellFlux, reach: &Reach, number: u32, tile: &mut Tile)
+/// Adds it to the parcel of a direction, unless that is the one of no step, which is held apart.
+fn add_outside(flux: &CellFlux, number: u32, tile: &mut Tile)
     requires number { number < directions }
     requires modest { IsModest flux.now }
     requires apart { parcel_at tile.old here ≡ None }
     requires room { (p : Parcel) → parcel_at tile.old number ≡ Some p → AllAtMost (2 ^ 100) p.flux }
-    requires clear { (p : Parcel) → reaches reach.now number ≡ false
-        → parcel_at tile.old number ≡ Some p → IsClear (edge_flux flux.now) p.flux }
     ensures { GainsAt (edge_flux flux.now) number tile.old tile.new }
 {
-    let dir = Dir::of(number);
     if number == Dir::HERE.number() {
         return;
     }
-    if reach.has(dir) {
-        add_to(flux, dir, tile);
-    }
+    add_to(flux, Dir::of(number), tile);
 }
 
 /// Adds it to all parcels of a tile but that of no step, which is held apart: the layers that the
@@ -59,7 +54,10 @@ pub(crate) fn spread(flux: &CellFlux, reach: &Reach, tile: &mut Tile)
         → parcel_at tile.old d ≡ Some p → IsClear (edge_flux flux.now) p.flux }
     ensures { Gains (edge_flux flux.now) tile.old tile.new }
 {
-    for number in reach.first()..reach.end() {
-        add_if_reached(flux, reach, number, tile);
+    let end = reach.end();
+    let mut number = reach.first();
+    while number < end {
+        add_outside(flux, number, tile);
+        number = reach.after(number);
     }
 }
