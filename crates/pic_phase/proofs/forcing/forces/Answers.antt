@@ -1,0 +1,49 @@
+use Rattle.std.proofs.Common.{List, All, sym, ◌∙◌, ap, subst}
+use Rattle.pic_num.specs.Space.{triple}
+use Rattle.pic_grid.specs.Block.{BlockValues}
+use Rattle.pic_grid.specs.Cells.{IsCells}
+use Rattle.pic_grid.specs.Gather.{force_of}
+use Rattle.pic_grid.specs.Lattice.{value_at}
+use Rattle.pic_grid.specs.Parts.{ArePartsOf, joined}
+use Rattle.pic_phase.specs.Blocks.{EachBlock, IsAmong, IsForced}
+use Rattle.pic_phase.proofs.TakenLaws.{has_blocks, given_back, all_among, made_zones, made_is}
+use Rattle.pic_phase.proofs.HalfLaws.{force_made}
+use Rattle.pic_phase.proofs.forcing.forces.Goals as goal
+
+pub force_blocks-requires-clause-among : goal.force_blocks-requires-clause-among
+force_blocks-requires-clause-among g c κs within =
+    let n = c.args.from.now.cells in
+    let taken = c.into_blocks-blocks in
+    let has = has_blocks n c.args.to taken.result.items c.requires.cells (subst IsCells c.cells-cells.ensures.value c.useful-workers.ensures.cells)
+    c.parts-parts.ensures.limits taken.ensures.zones taken.ensures.values in
+    subst (λ (bs : List BlockValues). All (IsAmong n) bs) (sym c.deref_mut.ensures.value) (all_among n c.args.to taken.result.items has)
+
+pub of_blocks-requires-clause-zones : goal.of_blocks-requires-clause-zones
+of_blocks-requires-clause-zones g c =
+    let from = c.args.from.now in
+    let old = c.into_blocks-blocks.result.items in
+    let new = c.force_blocks.new.blocks in
+    let taken = c.into_blocks-blocks in
+    let has = has_blocks from.cells c.args.to old c.requires.cells (subst IsCells c.cells-cells.ensures.value c.useful-workers.ensures.cells)
+    c.parts-parts.ensures.limits taken.ensures.zones taken.ensures.values in
+    let each = subst (λ (bs : List BlockValues). EachBlock (IsForced c.args.mult from) bs new) c.deref_mut.ensures.value c.force_blocks.ensures in
+    let back = given_back taken.result.len new old taken.result.ok.0 each.long in
+    subst (λ (bs : List BlockValues). ArePartsOf c.cells-cells.result.n (triple c.parts-parts.result) bs) (sym back)
+    (made_zones from.cells c.args.to old has new (force_of c.args.mult (value_at from)) (force_made c.args.mult from old new each)
+    c.cells-cells.result (triple c.parts-parts.result) c.cells-cells.ensures.value c.parts-parts.ensures.value)
+
+pub returns : goal.returns
+returns g c =
+    let from = c.args.from.now in
+    let old = c.into_blocks-blocks.result.items in
+    let new = c.force_blocks.new.blocks in
+    let taken = c.into_blocks-blocks in
+    let has = has_blocks from.cells c.args.to old c.requires.cells (subst IsCells c.cells-cells.ensures.value c.useful-workers.ensures.cells)
+    c.parts-parts.ensures.limits taken.ensures.zones taken.ensures.values in
+    let each = subst (λ (bs : List BlockValues). EachBlock (IsForced c.args.mult from) bs new) c.deref_mut.ensures.value c.force_blocks.ensures in
+    let back = given_back taken.result.len new old taken.result.ok.0 each.long in
+    made_is from.cells c.args.to old has new (force_of c.args.mult (value_at from)) (force_made c.args.mult from old new each)
+    c.cells-cells.result from.side (triple c.parts-parts.result) c.of_blocks.result
+    (record { cells = c.cells-cells.ensures.value; side_is = c.cells-cells.ensures.side })
+    c.parts-parts.ensures.value
+    (c.of_blocks.ensures ∙ ap (λ (bs : List BlockValues). joined c.cells-cells.result (triple c.parts-parts.result) bs) back)

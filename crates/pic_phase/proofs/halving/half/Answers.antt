@@ -1,0 +1,66 @@
+use Rattle.std.proofs.Common.{List, All, sym, ◌∙◌, ap, subst}
+use Rattle.pic_num.specs.Space.{triple}
+use Rattle.pic_grid.specs.Block.{BlockValues}
+use Rattle.pic_grid.specs.Cells.{IsCells}
+use Rattle.pic_grid.specs.Parts.{ArePartsOf, joined}
+use Rattle.pic_phase.specs.Blocks.{CanAdvance, EachBlock, IsHalved}
+use Rattle.pic_phase.proofs.TakenLaws.{has_blocks, given_back, all_can, made_zones, made_is}
+use Rattle.pic_phase.proofs.HalfLaws.{half_all, half_made, half_stop_is}
+use Rattle.pic_phase.proofs.halving.half.Goals as goal
+
+pub half_blocks-requires-clause-can : goal.half_blocks-requires-clause-can
+half_blocks-requires-clause-can g c κs within =
+    let n = c.args.e.now.cells in
+    let taken = c.into_blocks-blocks in
+    let has = has_blocks n c.args.b taken.result.items c.requires.cells (subst IsCells c.cells-cells.ensures.value c.useful-workers.ensures.cells)
+    c.parts-parts.ensures.limits taken.ensures.zones taken.ensures.values in
+    subst (λ (bs : List BlockValues). All (CanAdvance n) bs) (sym c.deref_mut.ensures.value)
+    (all_can n c.args.b taken.result.items has c.requires.b_small c.requires.cells)
+
+pub of_blocks-requires-clause-zones : goal.of_blocks-requires-clause-zones
+of_blocks-requires-clause-zones g c =
+    let scales = c.args.scales.now in
+    let e = c.args.e.now in
+    let old = c.into_blocks-blocks.result.items in
+    let new = c.half_blocks.new.blocks in
+    let taken = c.into_blocks-blocks in
+    let has = has_blocks e.cells c.args.b old c.requires.cells (subst IsCells c.cells-cells.ensures.value c.useful-workers.ensures.cells)
+    c.parts-parts.ensures.limits taken.ensures.zones taken.ensures.values in
+    let each = subst (λ (bs : List BlockValues). EachBlock (IsHalved scales e) bs new) c.deref_mut.ensures.value c.half_blocks.ensures.blocks in
+    let back = given_back taken.result.len new old taken.result.ok.0 each.long in
+    subst (λ (bs : List BlockValues). ArePartsOf c.cells-cells.result.n (triple c.parts-parts.result) bs) (sym back)
+    (made_zones e.cells c.args.b old has new (half_all scales e c.args.b) (half_made scales e e.cells c.args.b old new has each)
+    c.cells-cells.result (triple c.parts-parts.result) c.cells-cells.ensures.value c.parts-parts.ensures.value)
+
+pub returns-in-None : goal.returns-in-None
+returns-in-None g c =
+    let scales = c.args.scales.now in
+    let e = c.args.e.now in
+    let old = c.into_blocks-blocks.result.items in
+    let new = c.half_blocks.new.blocks in
+    let taken = c.into_blocks-blocks in
+    let has = has_blocks e.cells c.args.b old c.requires.cells (subst IsCells c.cells-cells.ensures.value c.useful-workers.ensures.cells)
+    c.parts-parts.ensures.limits taken.ensures.zones taken.ensures.values in
+    let each = subst (λ (bs : List BlockValues). EachBlock (IsHalved scales e) bs new) c.deref_mut.ensures.value c.half_blocks.ensures.blocks in
+    let back = given_back taken.result.len new old taken.result.ok.0 each.long in (
+      made_is e.cells c.args.b old has new (half_all scales e c.args.b) (half_made scales e e.cells c.args.b old new has each)
+          c.cells-cells.result e.side (triple c.parts-parts.result) c.of_blocks.result
+          (record { cells = c.cells-cells.ensures.value; side_is = c.cells-cells.ensures.side })
+          c.parts-parts.ensures.value
+          (c.of_blocks.ensures ∙ ap (λ (bs : List BlockValues). joined c.cells-cells.result (triple c.parts-parts.result) bs) back),
+      half_stop_is scales e c.args.phase e.cells c.args.b old c.deref_mut.result.now c.half_blocks.result has c.deref_mut.ensures.value
+          c.half_blocks.ensures.stop
+          ∙ c.in-None.is,
+    )
+
+pub returns-in-Some : goal.returns-in-Some
+returns-in-Some g c =
+    let scales = c.args.scales.now in
+    let e = c.args.e.now in
+    let taken = c.into_blocks-blocks in
+    let old = taken.result.items in
+    let has = has_blocks e.cells c.args.b old c.requires.cells (subst IsCells c.cells-cells.ensures.value c.useful-workers.ensures.cells)
+    c.parts-parts.ensures.limits taken.ensures.zones taken.ensures.values in
+    half_stop_is scales e c.args.phase e.cells c.args.b old c.deref_mut.result.now c.half_blocks.result has c.deref_mut.ensures.value
+    c.half_blocks.ensures.stop
+    ∙ c.in-Some.is

@@ -1,0 +1,4 @@
+pub mod Phases
+pub mod Blocks
+pub mod Spent
+pub mod Driven
