@@ -48,3 +48,8 @@ pub record NextReads (r : Standing) (before now : Told) (e b : Field) (particles
 abbrev pub IsBehind : Standing → Next → Type 0
 IsBehind r (Frame behind step energies) = behind.layout ≡ r.layout
 IsBehind r (End mark) = ⊤
+
+-- so, where the next record is the end
+abbrev pub AtEnd : Next → Type 0 → Type 0
+AtEnd (Frame behind step energies) IsSo = ⊤
+AtEnd (End mark) IsSo = IsSo

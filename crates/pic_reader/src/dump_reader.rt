@@ -9,7 +9,7 @@ ghost use Rattle.pic_reader.specs.FrameFields.{frame_length, IsSameShape};
 ghost use Rattle.pic_reader.specs.HeaderFields.{header_at, header_most};
 ghost use Rattle.pic_reader.specs.HeadReads.{HeadReads};
 ghost use Rattle.pic_reader.specs.Layout.{IsLayout, layout_of};
-ghost use Rattle.pic_reader.specs.NextReads.{NextReads, IsBehind};
+ghost use Rattle.pic_reader.specs.NextReads.{NextReads, IsBehind, AtEnd};
 ghost use Rattle.pic_reader.specs.Records.{is_tag};
 
 use crate::due::due_after;
@@ -132,8 +132,8 @@ impl DumpReader {
     ///
     /// The record's mark is taken alone, and a frame then in pieces of up to 65536 bytes. No byte
     /// behind the record is taken, but for one that tells that the input doesn't end there, and no
-    /// memory. The snapshot has the header's numbers of cells and particles. At an error the reader
-    /// is gone.
+    /// memory. The snapshot has the header's numbers of cells and particles, and the end of the dump
+    /// leaves it as it was. At an error the reader is gone.
     pub fn next<S: Source>(self, source: &mut S, state: &mut Snapshot) -> Result<Next, ReadStop>
         requires e { state.old.e.cells ≡ self.layout.cells }
         requires b { state.old.b.cells ≡ self.layout.cells }
@@ -144,6 +144,8 @@ impl DumpReader {
         ensures e { IsSameShape state.old.e state.new.e }
         ensures b { IsSameShape state.old.b state.new.b }
         ensures particles { length state.new.particles.items ≡ length state.old.particles.items }
+        ensures kept { IfOk result (λ n. AtEnd n ((state.new.e ≡ state.old.e) × (state.new.b ≡ state.old.b)
+            × (state.new.particles.items ≡ state.old.particles.items))) }
     {
         let DumpReader {
             layout,

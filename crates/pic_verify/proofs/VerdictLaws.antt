@@ -86,7 +86,7 @@ exact x z (Err (Broken frame at)) v bytes told quiet = exact_finds x z bytes (Er
 exact x z (Err NoMemory) v bytes told quiet = tt
 
 -- what was taken where there is no header
-takes_head : {B : Type 0} (view : B → HeaderView) (end : HeaderView → ℕ) (x z : Told) (stop : HeadStop)
+pub takes_head : {B : Type 0} (view : B → HeaderView) (end : HeaderView → ℕ) (x z : Told) (stop : HeadStop)
     → HeadReads view header_at 0 end header_most x z (Err stop) → Moves 0 header_most x z
 takes_head view end x z (head.Read stop) first = first.answer.moves
 takes_head view end x z head.NoMemory first = first.answer.moves

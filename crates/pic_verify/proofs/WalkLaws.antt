@@ -1,5 +1,5 @@
 -- The verdict after so many good frames is that of what follows them.
-use Rattle.std.proofs.Common.{◌≡◌, ℕ, suc, ◌+◌, ◌-◌, ◌*◌, ◌≤◌, List, [], Option, Some, None, Ok, Err, IsErrAnd, refl, sym, ap, subst, ◌∙◌, arith, add-one}
+use Rattle.std.proofs.Common.{◌≡◌, ◌≢◌, ℕ, suc, ◌+◌, ◌-◌, ◌*◌, ◌≤◌, List, [], Option, Some, None, Ok, Err, IsErrAnd, refl, sym, ap, subst, ◌∙◌, arith, add-one}
 use Rattle.std.proofs.lemmas.Result.{err_from_is_err_and}
 use Rattle.pic_io.specs.Told.{Told, Rose, Calm, raised}
 use Rattle.pic_num.specs.declared.motion.Particle.{Particle}
@@ -20,7 +20,7 @@ use Rattle.pic_reader.specs.NextReads.{HasFrame, most_of, record_most}
 use Rattle.pic_dump.specs.Due.{due_after}
 use Rattle.pic_verify.specs.Allowed.{records_length}
 use Rattle.pic_verify.proofs.AllowedLaws.{Went, went_more, record_fits, frames_fit}
-use Rattle.pic_verify.specs.declared.verify_stop.VerifyStop.TheVariants.{BadDump, Broken}
+use Rattle.pic_verify.specs.declared.verify_stop.VerifyStop.TheVariants.{BadDump, Broken, NoMemory}
 use Rattle.pic_verify.specs.Stops.{stop_of_read}
 use Rattle.pic_verify.specs.Verified.{Verdict, break_of, unless_broken, of_parsed, walked}
 use Rattle.pic_verify.specs.Verifies.{Finds, Answered, Walks}
@@ -169,6 +169,7 @@ breaks_frame r before y z k here behind e b particles step energies at so_far ha
         was = was;
         verdict = is ∙ ap (λ o. unless_broken k o (walked so_far.n r.layout (suc k) (Some step) (input behind.place rest))) some;
       };
+      no_memory = λ wanted. absurd cc;
     }
 
 -- the end record
@@ -184,7 +185,7 @@ ends_records r before y z k here mark so_far has =
       was = was;
       verdict = e1 ∙ walked_end so_far.n r.layout k here.last (input here.place has.held) (input has.stop []) mark is;
     } in
-    record { moves = moves_up (last_fits r before y k here so_far) (moves_then so_far.moves has.moves); answer = (found, has.end) }
+    record { moves = moves_up (last_fits r before y k here so_far) (moves_then so_far.moves has.moves); answer = (found, has.end); no_memory = λ wanted. absurd cc }
 
 -- a count that stayed and then rose
 pub rose_after : (x y z : Told) → Calm x y → Rose y z → Rose x z
@@ -205,6 +206,11 @@ stops_answer r before y z k here (read.BadDump place cause) so_far stops =
       verdict = e1 ∙ walked_fault so_far.n r.layout k here.last (input here.place fails.held) (fault place cause) is;
     }
 
+-- reading a record wants no memory
+stops_fed : (stop : ReadStop) (result : Verdict) → result ≡ Err (stop_of_read stop) → result ≢ Err NoMemory
+stops_fed read.ReadFault result is = λ wanted. absurd cc
+stops_fed (read.BadDump place cause) result is = λ wanted. absurd cc
+
 -- the first fault, or a read that failed
 pub stops_records : (r : Standing) (before y z : Told) (k : ℕ) (here : Standing) (stop : ReadStop) (result : Verdict)
     → IsErrAnd result (λ u. u ≡ stop_of_read stop) → Follows r before k here y
@@ -214,4 +220,5 @@ stops_records r before y z k here stop result is so_far stops =
     rw (q.1, q.2) (record {
       moves = moves_up (last_fits r before y k here so_far) (moves_then so_far.moves stops.moves);
       answer = stops_answer r before y z k here stop so_far stops;
+      no_memory = stops_fed stop (Err (stop_of_read stop)) refl;
     })

@@ -3,6 +3,7 @@ use Rattle.std.specs.Prelude.{◌≡◌, ℕ, ◌+◌, ◌-◌, ◌*◌, ◌/◌
 use Rattle.pic_io.specs.Told.{Told}
 use Rattle.pic_io.specs.Source.{with_front}
 use Rattle.pic_fields.specs.Parser.{Input, input}
+use Rattle.pic_fields.specs.Reads.{Moves}
 use Rattle.pic_dump.specs.Header.{HeaderView}
 use Rattle.pic_reader.specs.Layout.{LayoutView, layout_of}
 use Rattle.pic_reader.specs.FrameFields.{frame_length}
@@ -26,6 +27,10 @@ pub record IsAllowed (bytes : List ℕ) (count : ℕ) : Type 0 where
   pub rest : Input
   pub reads : header_at (input 0 bytes) ≡ Ok (header, rest)
   pub most : count ≤ allowed header + 1
+
+-- no more bytes were taken than the longest header has
+abbrev pub TakesHeader : Told → Told → Type 0
+TakesHeader before now = Moves 0 header_most before now
 
 -- no more bytes were taken than the longest header has, or at most one past the length that the
 -- header allows with which the source's bytes begin

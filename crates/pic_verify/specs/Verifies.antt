@@ -1,5 +1,5 @@
 -- What a call that verifies a dump answered, held against what the source had.
-use Rattle.std.specs.Prelude.{◌≡◌, ℕ, ◌+◌, List, None, Some, Ok, Err, ⊤}
+use Rattle.std.specs.Prelude.{◌≡◌, ◌≢◌, ℕ, ◌+◌, List, None, Some, Ok, Err, ⊤}
 use Rattle.pic_io.specs.Told.{Told, Rose, Calm, Quiet}
 use Rattle.pic_io.specs.Source.{IsAtEnd}
 use Rattle.pic_fields.specs.Parser.{input}
@@ -28,11 +28,12 @@ Answered of before now (Err NoMemory) = Calm before now
 pub record Verifies (before now : Told) (result : Verdict) : Type 0 where
   pub answer : Answered verified before now result
 
--- the same for the records from where a reader stands, before any frame, and that no more was taken than
--- the header allows, and a byte
+-- the same for the records from where a reader stands, before any frame, that no more was taken than the
+-- header allows, and a byte, and that no memory was wanted
 pub record Walks (r : Standing) (before now : Told) (result : Verdict) : Type 0 where
   pub moves : Moves r.place (r.place + (records_length r.layout + 1)) before now
   pub answer : Answered (λ held. walked (r.layout.steps + 2) r.layout 0 None (input r.place held)) before now result
+  pub no_memory : result ≢ Err NoMemory
 
 -- the verdict, or want of memory
 abbrev pub OrNoMemory : Verdict → Verdict → Type 0

@@ -1,11 +1,12 @@
 //! A dump, verified frame by frame.
 
-ghost use Rattle.std.specs.Prelude.{◌≡◌, length, sum, None};
+ghost use Rattle.std.specs.Prelude.{◌≡◌, length, sum, None, Err};
 ghost use Rattle.pic_reader.specs.FrameFields.{IsHeld};
 ghost use Rattle.pic_reader.specs.Layout.{IsLayout};
-ghost use Rattle.pic_verify.specs.Allowed.{TakesAllowed};
+ghost use Rattle.pic_verify.specs.Allowed.{TakesAllowed, TakesHeader};
 ghost use Rattle.pic_verify.specs.Verified.{break_of};
 ghost use Rattle.pic_verify.specs.Verifies.{Verifies, IsExact, Walks};
+ghost use Rattle.pic_verify.specs.declared.verify_stop.VerifyStop.TheVariants.{NoMemory};
 
 use crate::verify_stop::VerifyStop;
 use pic_charge::{Break, charge, gauss};
@@ -18,11 +19,14 @@ use std::alloc::Global;
 ///
 /// Each frame is read whole, its energies included, and then held against Gauss's law, before the next
 /// record is read: the first fault or the first break is answered. All memory is taken before the first
-/// frame. At most one byte is taken past the length that the header allows.
+/// frame: where it is wanted, no more was taken than the longest header has. At most one byte is taken
+/// past the length that the header allows.
 pub fn verify<S: Source>(alloc: Global, source: &mut S) -> Result<u32, VerifyStop>
     ensures verifies { Verifies (S.told source.old) (S.told source.new) result }
     ensures taken { TakesAllowed (S.told source.old) (S.told source.new) }
     ensures exactly { IsExact (S.told source.old) (S.told source.new) result }
+    ensures no_memory { result ≡ Err NoMemory
+        → TakesHeader (S.told source.old) (S.told source.new) }
 {
     let (reader, _header) = DumpReader::head(alloc, source)?;
     let mut state = reader.room(alloc)?;
