@@ -1,7 +1,7 @@
 -- How a command on a deck finishes, from how its deck was opened and how it went on.
-use Rattle.std.proofs.Common.{◌≡◌, List, [], ℕ, Option, Some, None, Result, Ok, Err, inl, refl, sym, ◌∙◌, subst, arith}
-use Rattle.std.specs.Prelude.{unwrap_or, option_map, IfSome}
-use Rattle.pic_io.specs.Told.{Told}
+use Rattle.std.proofs.Common.{◌≡◌, ◌≢◌, List, [], ℕ, Option, Some, None, Result, Ok, Err, inl, refl, sym, ◌∙◌, subst, arith}
+use Rattle.std.specs.Prelude.{unwrap_or, option_map, IfSome, IsSome}
+use Rattle.pic_io.specs.Told.{Told, Calm}
 use Rattle.pic_io.specs.Source.{with_front}
 use Rattle.pic_io.specs.Sinks.{Sinks}
 use Rattle.pic_io.proofs.Puts.{wrote_none}
@@ -12,12 +12,12 @@ use Rattle.pic_line.specs.declared.asked.Command.{Command}
 use Rattle.pic_line.specs.declared.asked.Command.TheVariants.{Check, Run, Verify, Demo}
 use Rattle.pic_verify.specs.declared.verify_stop.VerifyStop.{VerifyStop}
 use Rattle.pic_verify.specs.declared.verify_stop.VerifyStop.TheVariants as verify_stop
-use Rattle.pic_verify.specs.Allowed.{TakesAllowed}
+use Rattle.pic_verify.specs.Allowed.{TakesAllowed, TakesHeader}
 use Rattle.pic_verify.specs.Verified.{Verdict, verified}
 use Rattle.pic_verify.specs.Verifies.{Finds, Verifies}
 use Rattle.pic_run.specs.declared.cut.Cut.{Cut}
 use Rattle.pic_run.specs.declared.cut.Cut.TheVariants as cut
-use Rattle.pic_run.specs.declared.early.Early.TheVariants.{Usage}
+use Rattle.pic_run.specs.declared.early.Early.TheVariants as early
 use Rattle.pic_run.specs.declared.early.StageStop.{StageStop}
 use Rattle.pic_run.specs.declared.early.StageStop.TheVariants.{Answer, NoMemory}
 use Rattle.pic_run.specs.declared.ended.Ended.{Ended}
@@ -27,51 +27,80 @@ use Rattle.pic_line.specs.CommandLine.{command_of}
 use Rattle.pic_run.specs.Early.{Staged, stop_of_verify}
 use Rattle.pic_run.specs.Opened.{Opens, Tests}
 use Rattle.pic_run.specs.Outcome.{Outcome, check_outcome, run_outcome, demo_outcome, on_deck, opened, tested, demonstrated, verdict_outcome, outcome}
-use Rattle.pic_run.specs.Reading.{deck_limit, TakesAtMost}
+use Rattle.pic_run.specs.Reading.{deck_limit, Gave, TakesAtMost}
 use Rattle.pic_run.specs.Starting.{first_state}
-use Rattle.pic_run.specs.Ends.{Finishes, EndsStopped, Reads, ReadsDeck, ReadsDump, Takes, IsIdle, OnDeck, OnDump, Demonstrates, Performs}
+use Rattle.pic_run.specs.Ends.{Finishes, Announces, EndsStopped, Reads, ReadsDeck, ReadsDump, Takes, IsIdle, OnDeck, OnDump, Demonstrates, Performs}
 use Rattle.pic_run.proofs.OpenedLaws.{gave_known}
 
 with_front_nil : (known : Option (List ℕ)) → known ≡ with_front [] known
 with_front_nil None = refl
 with_front_nil (Some bytes) = refl
 
+-- a call that wants no memory any more
+announced : (workers : ℕ) (o : Outcome) (before now : Sinks) (finish : Result Ended Cut) → Announces o before now finish
+    → Finishes workers o before now finish
+announced workers o before now (Ok answer) ends = ends
+announced workers o before now (Err (cut.Write side)) ends = ends
+announced workers o before now (Err cut.NoMemory) ends = absurd ends
+
+fed : (o : Outcome) (before now : Sinks) (finish : Result Ended Cut) → Announces o before now finish → finish ≢ Err cut.NoMemory
+fed o before now (Ok answer) ends = λ wanted. absurd cc
+fed o before now (Err (cut.Write side)) ends = λ wanted. absurd cc
+fed o before now (Err cut.NoMemory) ends = absurd ends
+
+-- no read failed
+calm_some : (source source' : Told) (input : Option (List ℕ)) → Gave source source' input → IsSome input → Calm source source'
+calm_some source source' None gave some = absurd cc
+calm_some source source' (Some held) gave some = gave.0
+
+calm_opened : (source source' : Told) (input : Option (List ℕ)) (d : DeckView) → Gave source source' input → opened input ≡ Ok d → Calm source source'
+calm_opened source source' None d gave is = let other : ◌≡◌ {A = Staged DeckView} (Err early.ReadFault) (Ok d) = is in absurd cc
+calm_opened source source' (Some held) d gave is = gave.0
+
 -- a stage was stopped
-pub on_stopped : (performed : DeckView → Outcome) (stop : StageStop) (source source' : Told) (before now : Sinks) (finish : Result Ended Cut)
+pub on_stopped : (workers : ℕ) (performed : DeckView → Outcome) (stop : StageStop) (source source' : Told) (before now : Sinks) (finish : Result Ended Cut)
     → TakesAtMost deck_limit source source' → Opens source source' (Err stop) → EndsStopped stop before now finish
-    → OnDeck performed source source' before now finish
-on_stopped performed (Answer end) source source' before now finish taken opens ends = record {
+    → OnDeck workers performed source source' before now finish
+on_stopped workers performed (Answer end) source source' before now finish taken opens ends = record {
   input = opens.input;
   gave = opens.gave;
-  finishes = subst (λ (s : Staged DeckView). Finishes (on_deck performed s) before now finish) (sym opens.opens.early) ends;
+  finishes = subst (λ (s : Staged DeckView). Finishes workers (on_deck performed s) before now finish) (sym opens.opens.early)
+      (announced workers _ before now finish ends);
   reads = record {
     taken = taken;
+    calm = λ wanted. absurd (fed _ before now finish ends wanted);
     end = λ _. opens.opens.end;
     sound = λ _ d e. let other : ◌≡◌ {A = Staged DeckView} (Err end) (Ok d) = sym opens.opens.early ∙ e in cc;
   };
 }
-on_stopped performed NoMemory source source' before now finish taken opens (is, wrote) = record {
+on_stopped workers performed NoMemory source source' before now finish taken opens (is, wrote) = record {
   input = opens.input;
   gave = opens.gave;
-  finishes = subst (Finishes (on_deck performed (opened opens.input)) before now) (sym is) (inl wrote);
-  reads = record { taken = taken; end = λ whole. absurd (whole is); sound = λ whole. absurd (whole is) };
+  finishes = subst (Finishes workers (on_deck performed (opened opens.input)) before now) (sym is) (inl wrote);
+  reads = record {
+    taken = taken;
+    calm = λ _. calm_some source source' opens.input opens.gave opens.opens;
+    end = λ whole. absurd (whole is);
+    sound = λ whole. absurd (whole is);
+  };
 }
 
 ok_is : (d e : DeckView) → ◌≡◌ {A = Staged DeckView} (Ok d) (Ok e) → d ≡ e
 ok_is d e same = cc
 
 -- the deck was opened
-pub on_opened : (performed : DeckView → Outcome) (o : Opened) (source source' : Told) (before now : Sinks) (finish : Result Ended Cut)
-    → TakesAtMost deck_limit source source' → Opens source source' (Ok o) → Finishes (performed o.deck) before now finish
-    → OnDeck performed source source' before now finish
-on_opened performed o source source' before now finish taken opens ends =
+pub on_opened : (workers : ℕ) (performed : DeckView → Outcome) (o : Opened) (source source' : Told) (before now : Sinks) (finish : Result Ended Cut)
+    → TakesAtMost deck_limit source source' → Opens source source' (Ok o) → Finishes workers (performed o.deck) before now finish
+    → OnDeck workers performed source source' before now finish
+on_opened workers performed o source source' before now finish taken opens ends =
     let is = opens.opens in
     record {
       input = opens.input;
       gave = opens.gave;
-      finishes = subst (λ (s : Staged DeckView). Finishes (on_deck performed s) before now finish) (sym is.deck) ends;
+      finishes = subst (λ (s : Staged DeckView). Finishes workers (on_deck performed s) before now finish) (sym is.deck) ends;
       reads = record {
         taken = taken;
+        calm = λ _. calm_opened source source' opens.input o.deck opens.gave is.deck;
         end = λ _ d e. is.end;
         sound = λ _ d e. subst (λ (k : DeckView). IsSound (first_state k)) (ok_is o.deck d (sym is.deck ∙ e))
             (subst IsSound is.start is.sound);
@@ -80,7 +109,7 @@ on_opened performed o source source' before now finish taken opens ends =
 
 -- the command of the words
 pub checks : (words : List (List ℕ)) (source source' : Told) (before now : Sinks) (finish : Result Ended Cut) → command_of words ≡ Some Check
-    → OnDeck check_outcome source source' before now finish → Performs words source source' before now finish
+    → OnDeck 0 check_outcome source source' before now finish → Performs words source source' before now finish
 unfolding outcome
 checks words source source' before now finish is deck = record {
   input = deck.input;
@@ -91,7 +120,7 @@ checks words source source' before now finish is deck = record {
 
 pub runs : (words : List (List ℕ)) (workers : ℕ) (source source' : Told) (before now : Sinks) (finish : Result Ended Cut)
     → command_of words ≡ Some (Run workers)
-    → OnDeck run_outcome source source' before now finish → Performs words source source' before now finish
+    → OnDeck workers run_outcome source source' before now finish → Performs words source source' before now finish
 unfolding outcome
 runs words workers source source' before now finish is deck = record {
   input = deck.input;
@@ -112,7 +141,7 @@ verifies words source source' before now finish is dump = record {
 
 pub demonstrates : (words : List (List ℕ)) (seed workers : ℕ) (source : Told) (before now : Sinks) (finish : Result Ended Cut)
     → command_of words ≡ Some (Demo seed workers)
-    → Demonstrates seed before now finish → Performs words source source before now finish
+    → Demonstrates seed workers before now finish → Performs words source source before now finish
 unfolding outcome
 demonstrates words seed workers source before now finish is shown = record {
   input = Some (unwrap_or source.bytes []);
@@ -122,12 +151,12 @@ demonstrates words seed workers source before now finish is shown = record {
 }
 
 pub is_no_command : (words : List (List ℕ)) (source : Told) (before now : Sinks) (finish : Result Ended Cut) → command_of words ≡ None
-    → EndsStopped (Answer Usage) before now finish → Performs words source source before now finish
+    → EndsStopped (Answer early.Usage) before now finish → Performs words source source before now finish
 unfolding outcome
 is_no_command words source before now finish is ends = record {
   input = Some (unwrap_or source.bytes []);
   gave = gave_known source source refl;
-  finishes = rw is ends;
+  finishes = rw is (announced 0 _ before now finish ends);
   reads = rw is refl;
 }
 
@@ -143,6 +172,7 @@ starved_words words source before = record {
     reads_deck : ReadsDeck (Some (unwrap_or source.bytes [])) source source (Err cut.NoMemory)
     reads_deck = record {
       taken = record { front = []; most = omega arith; taken = with_front_nil source.bytes };
+      calm = λ _. refl;
       end = λ whole. absurd (whole refl);
       sound = λ whole. absurd (whole refl);
     }
@@ -153,29 +183,31 @@ starved_words words source before = record {
     none_read (Some (Run workers)) = reads_deck
     none_read (Some Verify) = record {
       taken = record { front = []; taken = with_front_nil source.bytes; most = inl (omega arith) };
+      calm = λ _. refl;
+      memory = λ _. record { front = []; moved = with_front_nil source.bytes; most = omega arith };
       end = λ frames same. cc;
       fault = λ same. cc;
     }
     none_read (Some (Demo seed workers)) = record { same = refl; sound = λ whole. absurd (whole refl) }
 
 -- a demonstration was stopped, or it was tested and went on
-pub shown_stopped : (seed : ℕ) (stop : StageStop) (before now : Sinks) (finish : Result Ended Cut) → Tests (demo_deck seed) (Err stop)
-    → EndsStopped stop before now finish → Demonstrates seed before now finish
+pub shown_stopped : (seed workers : ℕ) (stop : StageStop) (before now : Sinks) (finish : Result Ended Cut) → Tests (demo_deck seed) (Err stop)
+    → EndsStopped stop before now finish → Demonstrates seed workers before now finish
 unfolding demonstrated
-shown_stopped seed (Answer end) before now finish is ends = record {
-  finishes = subst (λ (s : Staged DeckView). Finishes (on_deck demo_outcome s) before now finish) (sym is) ends;
+shown_stopped seed workers (Answer end) before now finish is ends = record {
+  finishes = subst (λ (s : Staged DeckView). Finishes workers (on_deck demo_outcome s) before now finish) (sym is) (announced workers _ before now finish ends);
   sound = λ _ d e. let other : ◌≡◌ {A = Staged DeckView} (Err end) (Ok d) = sym is ∙ e in cc;
 }
-shown_stopped seed NoMemory before now finish tests (is, wrote) = record {
-  finishes = subst (Finishes (on_deck demo_outcome (tested (demo_deck seed))) before now) (sym is) (inl wrote);
+shown_stopped seed workers NoMemory before now finish tests (is, wrote) = record {
+  finishes = subst (Finishes workers (on_deck demo_outcome (tested (demo_deck seed))) before now) (sym is) (inl wrote);
   sound = λ whole. absurd (whole is);
 }
 
-pub shown : (seed : ℕ) (o : Opened) (before now : Sinks) (finish : Result Ended Cut) → Tests (demo_deck seed) (Ok o)
-    → Finishes (demo_outcome o.deck) before now finish → Demonstrates seed before now finish
+pub shown : (seed workers : ℕ) (o : Opened) (before now : Sinks) (finish : Result Ended Cut) → Tests (demo_deck seed) (Ok o)
+    → Finishes workers (demo_outcome o.deck) before now finish → Demonstrates seed workers before now finish
 unfolding demonstrated
-shown seed o before now finish is ends = record {
-  finishes = subst (λ (s : Staged DeckView). Finishes (on_deck demo_outcome s) before now finish) (sym is.deck) ends;
+shown seed workers o before now finish is ends = record {
+  finishes = subst (λ (s : Staged DeckView). Finishes workers (on_deck demo_outcome s) before now finish) (sym is.deck) ends;
   sound = λ _ d e. subst (λ (k : DeckView). IsSound (first_state k)) (ok_is o.deck d (sym is.deck ∙ e))
       (subst IsSound is.start is.sound);
 }
@@ -187,63 +219,74 @@ left_held (Some bytes) held is = let same : bytes ≡ held = cc in same
 
 -- the verdict on what a source held
 found : (source source' : Told) (before now : Sinks) (finish : Result Ended Cut) (answer : Verdict) → Finds verified source source' answer
-    → Finishes (verdict_outcome answer) before now finish → ReadsDump source source' finish → OnDump source source' before now finish
+    → Finishes 0 (verdict_outcome answer) before now finish → ReadsDump source source' finish → OnDump source source' before now finish
 found source source' before now finish answer finds ends reads = record {
   input = Some finds.held;
   gave = (finds.calm, left_held source.bytes finds.held finds.was);
-  finishes = subst (λ (v : Verdict). Finishes (verdict_outcome v) before now finish) (sym finds.verdict) ends;
+  finishes = subst (λ (v : Verdict). Finishes 0 (verdict_outcome v) before now finish) (sym finds.verdict) ends;
   reads = reads;
 }
 
-answers_as : (o : Outcome) (before now : Sinks) (finish : Result Ended Cut) (answer : Ended) → Finishes o before now finish → finish ≡ Ok answer
+answers_as : (o : Outcome) (before now : Sinks) (finish : Result Ended Cut) (answer : Ended) → Announces o before now finish → finish ≡ Ok answer
     → o.answer ≡ answer
-answers_as o before now finish answer ends same = let whole = subst (Finishes o before now) same ends in whole.answers
+answers_as o before now finish answer ends same = let whole = subst (Announces o before now) same ends in whole.answers
 
 -- a dump was verified to its end
 pub good_dump : (source source' : Told) (before now : Sinks) (finish : Result Ended Cut) (frames : ℕ) → Verifies source source' (Ok frames)
     → TakesAllowed source source'
-    → Finishes (verdict_outcome (Ok frames)) before now finish → OnDump source source' before now finish
+    → Announces (verdict_outcome (Ok frames)) before now finish → OnDump source source' before now finish
 good_dump source source' before now finish frames is taken ends =
-    found source source' before now finish (Ok frames) is.answer.0 ends (record {
+    let o = verdict_outcome (Ok frames) in
+    found source source' before now finish (Ok frames) is.answer.0 (announced 0 o before now finish ends) (record {
       taken = taken;
+      calm = λ _. is.answer.0.calm;
+      memory = λ wanted. absurd (fed o before now finish ends wanted);
       end = λ _ _. is.answer.1;
-      fault = λ same. let other = answers_as (verdict_outcome (Ok frames)) before now finish ReadFault ends same in cc;
+      fault = λ same. let other = answers_as o before now finish ReadFault ends same in cc;
     })
 
 -- it wasn't
 pub dump_stopped : (source source' : Told) (before now : Sinks) (finish : Result Ended Cut) (stop : VerifyStop) → Verifies source source' (Err stop)
-    → TakesAllowed source source'
+    → TakesAllowed source source' → (◌≡◌ {A = Verdict} (Err stop) (Err verify_stop.NoMemory) → TakesHeader source source')
     → EndsStopped (stop_of_verify stop) before now finish → OnDump source source' before now finish
-dump_stopped source source' before now finish verify_stop.ReadFault is taken ends = record {
+dump_stopped source source' before now finish verify_stop.ReadFault is taken moved ends = record {
   input = None;
   gave = is.answer;
-  finishes = ends;
+  finishes = announced 0 _ before now finish ends;
   reads = record {
     taken = taken;
+    calm = λ wanted. absurd (fed _ before now finish ends wanted);
+    memory = λ wanted. absurd (fed _ before now finish ends wanted);
     end = λ frames same. let other = answers_as (verdict_outcome (Err verify_stop.ReadFault)) before now finish (Verified frames) ends same in cc;
     fault = λ _. is.answer;
   };
 }
-dump_stopped source source' before now finish (verify_stop.BadDump place cause) is taken ends =
+dump_stopped source source' before now finish (verify_stop.BadDump place cause) is taken moved ends =
     let o = verdict_outcome (Err (verify_stop.BadDump place cause)) in
-    found source source' before now finish (Err (verify_stop.BadDump place cause)) is.answer ends (record {
+    found source source' before now finish (Err (verify_stop.BadDump place cause)) is.answer (announced 0 o before now finish ends) (record {
       taken = taken;
+      calm = λ wanted. absurd (fed o before now finish ends wanted);
+      memory = λ wanted. absurd (fed o before now finish ends wanted);
       end = λ frames same. let other = answers_as o before now finish (Verified frames) ends same in cc;
       fault = λ same. let other = answers_as o before now finish ReadFault ends same in cc;
     })
-dump_stopped source source' before now finish (verify_stop.Broken frame b) is taken ends =
+dump_stopped source source' before now finish (verify_stop.Broken frame b) is taken moved ends =
     let o = verdict_outcome (Err (verify_stop.Broken frame b)) in
-    found source source' before now finish (Err (verify_stop.Broken frame b)) is.answer ends (record {
+    found source source' before now finish (Err (verify_stop.Broken frame b)) is.answer (announced 0 o before now finish ends) (record {
       taken = taken;
+      calm = λ wanted. absurd (fed o before now finish ends wanted);
+      memory = λ wanted. absurd (fed o before now finish ends wanted);
       end = λ frames same. let other = answers_as o before now finish (Verified frames) ends same in cc;
       fault = λ same. let other = answers_as o before now finish ReadFault ends same in cc;
     })
-dump_stopped source source' before now finish verify_stop.NoMemory is taken (none, wrote) = record {
+dump_stopped source source' before now finish verify_stop.NoMemory is taken moved (none, wrote) = record {
   input = Some (unwrap_or source.bytes []);
   gave = gave_known source source' is.answer;
-  finishes = subst (Finishes (verdict_outcome (verified (unwrap_or source.bytes []))) before now) (sym none) (inl wrote);
+  finishes = subst (Finishes 0 (verdict_outcome (verified (unwrap_or source.bytes []))) before now) (sym none) (inl wrote);
   reads = record {
     taken = taken;
+    calm = λ _. is.answer;
+    memory = λ _. moved refl;
     end = λ frames same. let other : ◌≡◌ {A = Result Ended Cut} (Err cut.NoMemory) (Ok (Verified frames)) = sym none ∙ same in cc;
     fault = λ same. let other : ◌≡◌ {A = Result Ended Cut} (Err cut.NoMemory) (Ok ReadFault) = sym none ∙ same in cc;
   };

@@ -1,7 +1,8 @@
 -- The frames of a run, one after another.
-use Rattle.std.proofs.Common.{◌≡◌, ℕ, zero, suc, ◌+◌, ◌-◌, ◌<◌, ◌≤◌, ◌==◌, ◌||◌, Bool, true, false, List, [], ◌∷◌, ◌++◌, length, take}
+use Rattle.std.proofs.Common.{◌≡◌, ℕ, zero, suc, ◌+◌, ◌-◌, ◌%◌, ◌<◌, ◌≤◌, ◌==◌, ◌||◌, Bool, true, false, Result, List, [], ◌∷◌, ◌++◌, length, take}
 use Rattle.std.proofs.Common.{Ok, Err, refl, sym, ap, ◌∙◌, subst, arith, append-nil, zero-add, length-append}
 use Rattle.std.specs.List.{flat_map, range_with_len}
+use Rattle.std.proofs.lemmas.Bool.{eq-eqb}
 use Rattle.std.proofs.lemmas.Grind.{flat_map-append}
 use Rattle.std.proofs.Math.Nat.{zero-mod}
 use Rattle.std.proofs.Math.Seq.{take-append_seam}
@@ -14,10 +15,13 @@ use Rattle.pic_grid.specs.declared.stop.Stop.{Stop}
 use Rattle.pic_step.specs.SerialStep.{World, stepped}
 use Rattle.pic_step.specs.SerialRun.{after, step_from, stopped_in}
 use Rattle.pic_dump.specs.Due.{is_due}
+use Rattle.pic_run.specs.declared.ended.Ended.TheVariants as ended
 use Rattle.pic_run.specs.declared.output.Output.{Output}
 use Rattle.pic_run.specs.Frames.{frame_piece, due_frame, frame_where, frame_after, frames_from, frames_of, end_where, end_of}
+use Rattle.pic_run.specs.Outcome.{answer_of}
 use Rattle.pic_run.specs.Ends.{HasFrames}
 use Rattle.pic_run.specs.Runs.{WroteFrames}
+use Rattle.pic_run.proofs.StateLaws.{stops_by_stop}
 
 -- numbers, in two parts
 range_split : (a m k n j : ℕ) → m + k ≡ n → a + m ≡ j → range_with_len a n ≡ range_with_len a m ++ range_with_len j k
@@ -160,11 +164,40 @@ first_frame output steps every w n above =
     ∙ frame_of output steps every w w 0 (after_none w)
     ∙ ap (λ due. due_frame output due 0 w) (first_due steps every above))
 
+-- so is the last one's
+last_due : (steps every : ℕ) → is_due steps every steps ≡ true
+last_due steps every = ap (λ (b : Bool). b || steps % every == 0) (eq-eqb steps steps refl)
+
+-- a run that is done comes to its last step
+reached_last : (w : World) (steps s : ℕ) → answer_of (end_of steps w) ≡ ended.Done s → (v : World) × (after w steps ≡ Ok v)
+unfolding end_of
+reached_last w steps s done = go (after w steps) refl done
+  where
+    go : (r : Result World EndMark) → after w steps ≡ r → answer_of (end_where steps r) ≡ ended.Done s → (v : World) × (after w steps ≡ Ok v)
+    go (Ok v) is done' = (v, is)
+    go (Err (Done other)) is done' = absurd (stops_by_stop w steps (Done other) is)
+    go (Err (Stopped step stop)) is done' = absurd cc
+
+-- and has a frame more than those of any step before
+last_left : (output : Output) (steps every : ℕ) (w : World) (n s : ℕ) → n < steps → answer_of (end_of steps w) ≡ ended.Done s
+    → 1 ≤ length (frames_from output steps every w (n + 1) (steps - n))
+last_left output steps every w n s below done =
+    let (v, reached) = reached_last w steps s done in
+    let front = frames_from output steps every w (n + 1) (steps - (n + 1)) in
+    let split = frames_split output steps every w (n + 1) (steps - (n + 1)) 1 (steps - n) steps (omega arith) (omega arith) in
+    let last : frames_from output steps every w steps 1 ≡ frame_piece output steps v ∷ [] =
+    frames_one output steps every w steps
+    ∙ frame_of output steps every w v steps reached
+    ∙ ap (λ due. due_frame output due steps v) (last_due steps every) in
+    let count = ap length split in
+    let one = ap length last in
+    omega (arith, count, length-append front (frames_from output steps every w steps 1), one)
+
 -- memory was wanting in a step: the frames before it stand
-pub some_written : (output : Output) (steps every : ℕ) (w : World) (n : ℕ) (a b : Sinks) → 1 ≤ every → n < steps
+pub some_written : (workers : ℕ) (output : Output) (steps every : ℕ) (w : World) (n : ℕ) (a b : Sinks) → 2 ≤ workers → 1 ≤ every → n < steps
     → Wrote a b (outs (frames_from output steps every w 0 (n + 1))) (lines (frames_from output steps every w 0 (n + 1)))
-    → HasFrames [] (frames_of output steps every w) a b
-some_written output steps every w n a b above below wrote =
+    → HasFrames workers (answer_of (end_of steps w)) [] (frames_of output steps every w) a b
+some_written workers output steps every w n a b many above below wrote =
     let k = steps - n in
     let front = frames_from output steps every w 0 (n + 1) in
     let rest = frames_from output steps every w (n + 1) k in
@@ -172,9 +205,13 @@ some_written output steps every w n a b above below wrote =
     frames_split output steps every w 0 (n + 1) k (steps + 1) (n + 1) (omega arith) (zero-add (n + 1)) in
     let whole : take (length front) (frames_of output steps every w) ≡ front = ap (take (length front)) split ∙ take-append_seam front rest in
     record {
+      many = many;
       number = length front;
       least = let count = ap length (first_frame output steps every w n above) in omega (arith, count);
       most = let count = ap length split in omega (arith, count, length-append front rest);
+      left = λ s done. let count = ap length split in
+          let more = last_left output steps every w n s below done in
+          omega (arith, count, length-append front rest, more);
       wrote = subst (λ (ps : List Piece). Wrote a b (outs ps) (lines ps)) (sym whole) wrote;
     }
 

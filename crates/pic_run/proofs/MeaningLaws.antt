@@ -42,9 +42,9 @@ use Rattle.pic_run.specs.Reading.{deck_limit, Gave}
 use Rattle.pic_run.specs.Starting.{first_state, break_of}
 use Rattle.pic_run.specs.Outcome.{Outcome, pieces_of, answer_of, outcome, command_outcome, unless_refused, unless_broken, accepted, tested, opened}
 use Rattle.pic_run.specs.Outcome.{demonstrated, verdict_on, verdict_outcome, on_deck, check_outcome, run_outcome, demo_outcome}
-use Rattle.pic_run.specs.Ends.{Fulfils, HasFrames, Finishes, Reads, ReadsDeck, ReadsDump, Performs, Ends, IsComplete, Held, HasDeck, IsRun, IsOnDeck}
-use Rattle.pic_run.specs.Ends.{IsRefused, BreaksGauss, IsChecked, IsVerified, IsDone, IsStopped, IsBadDump, IsBroken, IsStarved}
-use Rattle.pic_run.proofs.StateLaws.{each_gauss}
+use Rattle.pic_run.specs.Ends.{Fulfils, HasFrames, Finishes, Reads, ReadsDeck, ReadsDump, Performs, Ends, IsComplete, Held, HasDeck, IsRun, IsOnDeck, workers_of}
+use Rattle.pic_run.specs.Ends.{IsRefused, BreaksGauss, IsChecked, IsVerified, IsDone, IsStopped, IsBadDump, IsBroken, HasRun, IsStarved}
+use Rattle.pic_run.proofs.StateLaws.{each_gauss, stops_by_stop}
 use Rattle.pic_run.proofs.StartLaws.{gauss_of}
 
 -- what each answer means
@@ -141,27 +141,6 @@ means_early words source source' before now input finish is (early.Gauss b) (hel
 }
 means_early words source source' before now input finish is (early.BadDump place cause) none = absurd none
 means_early words source source' before now input finish is (early.Broken frame b) none = absurd none
-
--- a run stops by a stop alone
-abbrev IsStop : EndMark → Type 0
-IsStop (EndDone steps) = ⊥
-IsStop (EndStopped step stop) = Unit {0}
-
-stops_by_stop : (w : World) (n : ℕ) (end : EndMark) → after w n ≡ Err end → IsStop end
-unfolding after
-stops_by_stop w zero end e = cc
-stops_by_stop w (suc n) end e = go (after w n) (λ other is. stops_by_stop w n other is) e
-  where
-    last : (r : Result World Stop) → stopped_in (suc n) r ≡ Err end → IsStop end
-    last (Ok v) e' = cc
-    last (Err stop) e' = named e'
-      where
-        named : ◌≡◌ {A = Result World EndMark} (Err (EndStopped (suc n) stop)) (Err end) → IsStop end
-        named same = let is : EndStopped (suc n) stop ≡ end = cc in subst IsStop is tt
-
-    go : (r : Result World EndMark) → ((other : EndMark) → r ≡ Err other → IsStop other) → step_from (suc n) r ≡ Err end → IsStop end
-    go (Ok v) before e' = last (stepped v) e'
-    go (Err other) before e' = let same : other ≡ end = cc in subst IsStop same (before other refl)
 
 -- how a run ends from the first state of its deck
 means_states : (words : List (List ℕ)) (source source' : Told) (before now : Sinks) → IsRun (command_of words) → (d : DeckView)
@@ -273,7 +252,7 @@ means_verify words source source' before now (Some held) answer named gave reads
       command = named;
       broken = on_held (Err (verify_stop.Broken frame b)) is;
     }
-    go (Err verify_stop.NoMemory) is whole = inl whole.wrote
+    go (Err verify_stop.NoMemory) is whole = record { calm = gave.0; left = inl whole.wrote }
 
 -- the answer of the outcome, where the call came to it
 means_answer : (words : List (List ℕ)) (source source' : Told) (before now : Sinks) (answer : Ended)
@@ -314,38 +293,49 @@ means_answer words source source' before now answer p = go (command_of words) re
         means_demo words source source' before now seed workers named reads.same (demonstrated seed) (reads.sound whole) (demo_of seed)
 
 -- what memory that was wanting leaves
-no_frames : (a b : Sinks) → HasFrames [] [] a b → ⊥
-no_frames a b has = omega (arith, has.least, has.most)
+no_frames : (answer : Ended) (a b : Sinks) → HasFrames 0 answer [] [] a b → ⊥
+no_frames answer a b has = omega (arith, has.least, has.most)
 
 starved : (words : List (List ℕ)) (source source' : Told) (before now : Sinks) → Performs words source source' before now (Err cut.NoMemory)
     → IsStarved words source source' before now
 unfolding outcome
-starved words source source' before now p = elim p.finishes [ inl none ↦ inl none | inr has ↦ go (command_of words) refl has ]
+starved words source source' before now p = record {
+  calm = unfailed (command_of words) p.reads;
+  left = elim p.finishes [ inl none ↦ inl none | inr has ↦ inr (go (command_of words) refl has) ];
+}
   where
-    check : (s : Staged DeckView) → HasFrames (on_deck check_outcome s).head (on_deck check_outcome s).frames before now → ⊥
-    check (Ok d) has = no_frames before now has
-    check (Err end) has = no_frames before now has
+    unfailed : (c : Option Command) → Reads c p.input source source' (Err cut.NoMemory) → Calm source source'
+    unfailed None reads = ap (λ (t : Told). t.faults) reads
+    unfailed (Some Check) reads = reads.calm refl
+    unfailed (Some (Run workers)) reads = reads.calm refl
+    unfailed (Some Verify) reads = reads.calm refl
+    unfailed (Some (Demo seed workers)) reads = ap (λ (t : Told). t.faults) reads.same
 
-    verify : (v : Verdict) → HasFrames (verdict_outcome v).head (verdict_outcome v).frames before now → ⊥
-    verify (Ok frames) has = no_frames before now has
-    verify (Err verify_stop.ReadFault) has = no_frames before now has
-    verify (Err (verify_stop.BadDump place cause)) has = no_frames before now has
-    verify (Err (verify_stop.Broken frame b)) has = no_frames before now has
-    verify (Err verify_stop.NoMemory) has = no_frames before now has
+    check : (s : Staged DeckView) → HasFrames 0 (on_deck check_outcome s).answer (on_deck check_outcome s).head (on_deck check_outcome s).frames before now → ⊥
+    check (Ok d) has = no_frames _ before now has
+    check (Err end) has = no_frames _ before now has
 
-    left : (c : Option Command) → IsRun c → command_of words ≡ c → HasFrames (command_outcome c p.input).head (command_outcome c p.input).frames before now
-        → IsStarved words source source' before now
-    left c runs named has =
-        inr (record {
-          command = subst IsRun (sym named) runs;
-          input = p.input;
-          gave = p.gave;
-          frames = subst (λ (c : Option Command). HasFrames (command_outcome c p.input).head (command_outcome c p.input).frames before now) (sym named) has;
-        })
+    verify : (v : Verdict) → HasFrames 0 (verdict_outcome v).answer (verdict_outcome v).head (verdict_outcome v).frames before now → ⊥
+    verify (Ok frames) has = no_frames _ before now has
+    verify (Err verify_stop.ReadFault) has = no_frames _ before now has
+    verify (Err (verify_stop.BadDump place cause)) has = no_frames _ before now has
+    verify (Err (verify_stop.Broken frame b)) has = no_frames _ before now has
+    verify (Err verify_stop.NoMemory) has = no_frames _ before now has
 
-    go : (c : Option Command) → command_of words ≡ c → HasFrames (command_outcome c p.input).head (command_outcome c p.input).frames before now
-        → IsStarved words source source' before now
-    go None named has = absurd (no_frames before now has)
+    Has : Option Command → Type 0
+    Has c =
+        HasFrames (workers_of c) (command_outcome c p.input).answer (command_outcome c p.input).head (command_outcome c p.input).frames before now
+
+    left : (c : Option Command) → IsRun c → command_of words ≡ c → Has c → HasRun words source source' before now
+    left c runs named has = record {
+      command = subst IsRun (sym named) runs;
+      input = p.input;
+      gave = p.gave;
+      frames = subst Has (sym named) has;
+    }
+
+    go : (c : Option Command) → command_of words ≡ c → Has c → HasRun words source source' before now
+    go None named has = absurd (no_frames _ before now has)
     go (Some Check) named has = absurd (check (opened p.input) has)
     go (Some Verify) named has = absurd (verify (verdict_on p.input) has)
     go (Some (Run workers)) named has = left (Some (Run workers)) tt named has
@@ -369,20 +359,20 @@ failed_quiet : (side : Side) (before now : Sinks) → FailedAt side before now �
 failed_quiet Out before now failed quiet = quiet.out failed.0
 failed_quiet Report before now failed quiet = quiet.report failed.0
 
-finished : (o : Outcome) (before now : Sinks) (finish : Result Ended Cut) → Finishes o before now finish → QuietSinks before now
+finished : (workers : ℕ) (o : Outcome) (before now : Sinks) (finish : Result Ended Cut) → Finishes workers o before now finish → QuietSinks before now
     → (ended_of finish ≡ NoMemory) ⊎ Fulfils o before now (ended_of finish)
-finished o before now (Ok answer) ends quiet = inr ends
-finished o before now (Err (cut.Write side)) ends quiet = absurd (failed_quiet side before now (cut_failed side before now (pieces_of o) ends) quiet)
-finished o before now (Err cut.NoMemory) ends quiet = inl refl
+finished workers o before now (Ok answer) ends quiet = inr ends
+finished workers o before now (Err (cut.Write side)) ends quiet = absurd (failed_quiet side before now (cut_failed side before now (pieces_of o) ends) quiet)
+finished workers o before now (Err cut.NoMemory) ends quiet = inl refl
 
 pub complete : {words : List (List ℕ)} {source source' : Told} {before now : Sinks} {ended : Ended} → Ends words source source' before now ended
     → IsComplete words source source' before now ended
 complete {words} {source} {source'} {before} {now} {ended} ends calm quiet = go ends.performs.input ends.performs.gave ends.performs.finishes
   where
-    go : (input : Option (List ℕ)) → Gave source source' input → Finishes (outcome words input) before now ends.finish
+    go : (input : Option (List ℕ)) → Gave source source' input → Finishes (workers_of (command_of words)) (outcome words input) before now ends.finish
         → IfSome source.bytes (λ h. (ended ≡ NoMemory) ⊎ Fulfils (outcome words (Some h)) before now ended)
     go None gave ends' = absurd (calm gave)
     go (Some b) gave ends' =
         told_held (λ h. (ended ≡ NoMemory) ⊎ Fulfils (outcome words (Some h)) before now ended) source.bytes b gave.1
         (subst (λ (e : Ended). (e ≡ NoMemory) ⊎ Fulfils (outcome words (Some b)) before now e) ends.answer
-        (finished (outcome words (Some b)) before now ends.finish ends' quiet))
+        (finished (workers_of (command_of words)) (outcome words (Some b)) before now ends.finish ends' quiet))

@@ -10,6 +10,7 @@ use Rattle.pic_deck.specs.Refusal.{ReadDeck, ReadsAs}
 use Rattle.pic_deck.specs.Reading.{walk}
 use Rattle.pic_deck.proofs.ReadingLaws.{deck_size}
 use Rattle.pic_step.specs.SerialStep.{World}
+use Rattle.pic_step.specs.Kept.{AreTiled}
 use Rattle.pic_step.specs.Sound.{IsSound}
 use Rattle.pic_step.specs.Start.{begun}
 use Rattle.pic_run.specs.declared.early.Early.TheVariants.{Gauss, Refused}
@@ -39,11 +40,11 @@ short_deck bytes d limit is e = let size = deck_size bytes d e in omega (arith, 
 -- a read that failed, or memory that was wanting while the source was read
 pub unread : (stop : ReadStop) (a b : Told) (limit : ℕ) → ReadsAll a b limit (Err stop) → Opens a b (Err (stop_of_reading stop))
 unread read_stop.Fault a b limit rose = record { input = None; gave = rose; opens = record { early = refl; end = λ d e. cc } }
-unread read_stop.NoMemory a b limit calm = record { input = Some (unwrap_or a.bytes []); gave = gave_known a b calm; opens = tt }
+unread read_stop.NoMemory a b limit calm = record { input = Some (unwrap_or a.bytes []); gave = gave_known a b calm; opens = refl }
 
 -- memory that was wanting later
 pub starved : (a b : Told) (limit : ℕ) (bytes : List ℕ) → TookAll a b limit bytes → Opens a b (Err NoMemory)
-starved a b limit bytes took = record { input = Some took.held; gave = took.gave; opens = tt }
+starved a b limit bytes took = record { input = Some took.held; gave = took.gave; opens = refl }
 
 -- the walk of what the source held is that of the bytes that were taken
 walked : (a b : Told) (limit : ℕ) (bytes : List ℕ) → limit ≡ deck_limit → (took : TookAll a b limit bytes) (w : ReadDeck) → walk bytes ≡ w
@@ -83,6 +84,7 @@ read_and_tested a b limit bytes d (Ok o) is took walks tests = record {
     deck = opened_as took.held (Ok d) (walked a b limit bytes is took (Ok d) walks) ∙ tests.deck;
     start = tests.start;
     sound = tests.sound;
+    tiled = tests.tiled;
     end = took.end (short_deck bytes d limit is walks);
   };
 }
@@ -97,11 +99,13 @@ read_and_tested a b limit bytes d (Err (Answer why)) is took walks tests = recor
 read_and_tested a b limit bytes d (Err NoMemory) is took walks tests = starved a b limit bytes took
 
 -- a deck that can be run, and one that doesn't meet Gauss's law
-pub ready : (o : Opened) → begun o.start ≡ first_state o.deck → IsSound (begun o.start) → break_of (begun o.start) ≡ None → IsTested o.deck o
-ready o start sound none = record {
+pub ready : (o : Opened) → begun o.start ≡ first_state o.deck → IsSound (begun o.start) → AreTiled o.start.map o.start.e o.start.b
+    → break_of (begun o.start) ≡ None → IsTested o.deck o
+ready o start sound tiled none = record {
   deck = ap (unless_broken o.deck) (ap break_of (sym start) ∙ none);
   start = start;
   sound = sound;
+  tiled = tiled;
 }
 
 pub broken : (d : DeckView) (w : World) (at : Break) → w ≡ first_state d → break_of w ≡ Some at → tested d ≡ Err (Gauss at)

@@ -24,22 +24,22 @@ wrote_one a b p wrote =
     (subst (λ (y : List ℕ). Wrote a b (outs (p ∷ [])) y) (append-nil p.line) wrote)
 
 -- frames that were cut off
-pub frames_cut : (output : Output) (frames : List Piece) (last : EndMark) (a b : Sinks) (cut : Cut) → WritesFrames frames last a b (Err cut)
-    → WritesStates (states_outcome output [] frames last) a b (Err cut)
-frames_cut output frames last a b (Write side) cut = cut_more side a b frames (end_piece output last ∷ []) cut
-frames_cut output frames last a b NoMemory has = has
+pub frames_cut : (workers : ℕ) (output : Output) (frames : List Piece) (last : EndMark) (a b : Sinks) (cut : Cut)
+    → WritesFrames workers frames last a b (Err cut) → WritesStates workers (states_outcome output [] frames last) a b (Err cut)
+frames_cut workers output frames last a b (Write side) cut = cut_more side a b frames (end_piece output last ∷ []) cut
+frames_cut workers output frames last a b NoMemory has = has
 
 -- the end of a run, behind its frames: cut off, or whole
-pub last_cut : (output : Output) (frames : List Piece) (last end : EndMark) (side : Side) (a b c : Sinks) → WroteFrames frames last end a b
-    → CutAt side b c (end_piece output end ∷ []) → WritesStates (states_outcome output [] frames last) a c (Err (Write side))
-last_cut output frames last end side a b c wrote cut =
+pub last_cut : (workers : ℕ) (output : Output) (frames : List Piece) (last end : EndMark) (side : Side) (a b c : Sinks) → WroteFrames frames last end a b
+    → CutAt side b c (end_piece output end ∷ []) → WritesStates workers (states_outcome output [] frames last) a c (Err (Write side))
+last_cut workers output frames last end side a b c wrote cut =
     cut_later side a b c frames (end_piece output last ∷ []) wrote.wrote
     (subst (λ (e : EndMark). CutAt side b c (end_piece output e ∷ [])) wrote.ends cut)
 
-pub last_done : (output : Output) (frames : List Piece) (last end : EndMark) (a b c : Sinks) → WroteFrames frames last end a b
+pub last_done : (workers : ℕ) (output : Output) (frames : List Piece) (last end : EndMark) (a b c : Sinks) → WroteFrames frames last end a b
     → Wrote b c (outs (end_piece output end ∷ [])) (lines (end_piece output end ∷ []))
-    → WritesStates (states_outcome output [] frames last) a c (Ok (answer_of end))
-last_done output frames last end a b c wrote put =
+    → WritesStates workers (states_outcome output [] frames last) a c (Ok (answer_of end))
+last_done workers output frames last end a b c wrote put =
     subst (λ (e : EndMark). Fulfils (states_outcome output [] frames e) a c (answer_of end)) wrote.ends (record {
       answers = refl;
       wrote = wrote_twice a b c (outs frames) (lines frames) (end_piece output end).out (end_piece output end).line wrote.wrote
@@ -53,18 +53,21 @@ cut_headed side a b c [] pieces first cut = cut_from side a b c pieces first cut
 cut_headed side a b c (byte ∷ head) pieces first cut = inr (b, first, cut)
 
 -- a head that was written, and a run behind it
-pub headed : (output : Output) (head : List ℕ) (frames : List Piece) (last : EndMark) (a b c : Sinks) (finish : Result Ended Cut) → Wrote a b head []
-    → WritesStates (states_outcome output [] frames last) b c finish → Finishes (states_outcome output head frames last) a c finish
-headed output head frames last a b c (Ok answer) first ends = record {
+pub headed : (workers : ℕ) (output : Output) (head : List ℕ) (frames : List Piece) (last : EndMark) (a b c : Sinks) (finish : Result Ended Cut)
+    → Wrote a b head [] → WritesStates workers (states_outcome output [] frames last) b c finish
+    → Finishes workers (states_outcome output head frames last) a c finish
+headed workers output head frames last a b c (Ok answer) first ends = record {
   answers = ends.answers;
   wrote = subst (λ (x : List ℕ). Wrote a c x (lines frames ++ (end_piece output last).line)) (sym (append_assoc head (outs frames) (end_piece output last).out))
       (wrote_twice a b c head [] (outs frames ++ (end_piece output last).out) (lines frames ++ (end_piece output last).line) first ends.wrote);
 }
-headed output head frames last a b c (Err (Write side)) first ends = cut_headed side a b c head (frames ++ end_piece output last ∷ []) first ends
-headed output head frames last a b c (Err NoMemory) first has = inr (record {
+headed workers output head frames last a b c (Err (Write side)) first ends = cut_headed side a b c head (frames ++ end_piece output last ∷ []) first ends
+headed workers output head frames last a b c (Err NoMemory) first has = inr (record {
+  many = has.many;
   number = has.number;
   least = has.least;
   most = has.most;
+  left = has.left;
   wrote = wrote_twice a b c head [] (outs (take has.number frames)) (lines (take has.number frames)) first has.wrote;
 })
 
@@ -80,7 +83,7 @@ head_cut o p r [] frames last put rose = none_cut o p r frames last (subst (λ (
 head_cut o p r (byte ∷ head) frames last put rose = cut_out o p r (record { out = byte ∷ head; line = [] }) (frames ++ last ∷ []) put rose
 
 -- a run with no head
-pub without_head : (o : Outcome) (a b : Sinks) (finish : Result Ended Cut) → WritesStates o a b finish → Finishes o a b finish
-without_head o a b (Ok answer) ends = ends
-without_head o a b (Err (Write side)) ends = ends
-without_head o a b (Err NoMemory) ends = inr ends
+pub without_head : (workers : ℕ) (o : Outcome) (a b : Sinks) (finish : Result Ended Cut) → WritesStates workers o a b finish → Finishes workers o a b finish
+without_head workers o a b (Ok answer) ends = ends
+without_head workers o a b (Err (Write side)) ends = ends
+without_head workers o a b (Err NoMemory) ends = inr ends

@@ -1,7 +1,8 @@
--- Every state of a serial run is as sound as the first.
+-- The states of a serial run: each is as sound as the first, and a stop alone ends them.
 use Rattle.std.proofs.Common.{◌≡◌, ℕ, zero, suc, Option, Some, None, Result, Ok, Err, refl, subst}
 use Rattle.pic_num.specs.Push.{unless}
 use Rattle.pic_grid.specs.declared.stop.EndMark.{EndMark}
+use Rattle.pic_grid.specs.declared.stop.EndMark.TheVariants.{Done, Stopped}
 use Rattle.pic_grid.specs.declared.stop.Stop.{Stop}
 use Rattle.pic_step.specs.SerialStep.{World, step_on, stop_of, stepped}
 use Rattle.pic_step.specs.SerialRun.{after, step_from, stopped_in}
@@ -36,3 +37,24 @@ after_sound w sound (suc n) v reached = go (after w n) (λ u is. after_sound w s
 
 pub each_gauss : (w : World) → IsSound w → EachGauss w
 each_gauss w sound = record { after_step = λ step v reached. let kept = after_sound w sound step v reached in kept.gauss }
+
+-- a run stops by a stop alone
+abbrev pub IsStop : EndMark → Type 0
+IsStop (Done steps) = ⊥
+IsStop (Stopped step stop) = Unit {0}
+
+pub stops_by_stop : (w : World) (n : ℕ) (end : EndMark) → after w n ≡ Err end → IsStop end
+unfolding after
+stops_by_stop w zero end e = cc
+stops_by_stop w (suc n) end e = go (after w n) (λ other is. stops_by_stop w n other is) e
+  where
+    last : (r : Result World Stop) → stopped_in (suc n) r ≡ Err end → IsStop end
+    last (Ok v) e' = cc
+    last (Err stop) e' = named e'
+      where
+        named : ◌≡◌ {A = Result World EndMark} (Err (Stopped (suc n) stop)) (Err end) → IsStop end
+        named same = let is : Stopped (suc n) stop ≡ end = cc in subst IsStop is tt
+
+    go : (r : Result World EndMark) → ((other : EndMark) → r ≡ Err other → IsStop other) → step_from (suc n) r ≡ Err end → IsStop end
+    go (Ok v) before e' = last (stepped v) e'
+    go (Err other) before e' = let same : other ≡ end = cc in subst IsStop same (before other refl)

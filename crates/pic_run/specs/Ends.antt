@@ -1,6 +1,6 @@
 -- How a call ends: what it took from its source, what it put on its sinks, and its answer.
-use Rattle.std.specs.Prelude.{◌≡◌, ◌≢◌, ⊤, ℕ, ◌≤◌, ◌⊎◌, List, [], ◌++◌, length, take, Option, Some, None, Result, Ok, Err, IfSome, IsOk}
-use Rattle.pic_io.specs.Told.{Told, Rose, Quiet}
+use Rattle.std.specs.Prelude.{◌≡◌, ◌≢◌, ⊤, ℕ, ◌<◌, ◌≤◌, ◌⊎◌, List, [], ◌++◌, length, take, Option, Some, None, Result, Ok, Err, IfSome, IsOk}
+use Rattle.pic_io.specs.Told.{Told, Rose, Calm, Quiet}
 use Rattle.pic_io.specs.Source.{IsAtEnd}
 use Rattle.pic_io.specs.Sinks.{Sinks, Wrote, Piece, outs, lines, CutAt, QuietSinks}
 use Rattle.pic_grid.specs.declared.stop.EndMark.TheVariants.{Stopped as EndStopped}
@@ -24,9 +24,9 @@ use Rattle.pic_run.specs.declared.early.StageStop.{StageStop}
 use Rattle.pic_run.specs.declared.early.StageStop.TheVariants as stage_stop
 use Rattle.pic_run.specs.declared.ended.Ended.{Ended}
 use Rattle.pic_verify.specs.declared.verify_stop.VerifyStop.TheVariants as verify_stop
-use Rattle.pic_verify.specs.Allowed.{TakesAllowed}
+use Rattle.pic_verify.specs.Allowed.{TakesAllowed, TakesHeader}
 use Rattle.pic_verify.specs.Verified.{verified}
-use Rattle.pic_run.specs.declared.ended.Ended.TheVariants.{Verified, ReadFault, NoMemory}
+use Rattle.pic_run.specs.declared.ended.Ended.TheVariants.{Done, Verified, ReadFault, NoMemory}
 use Rattle.pic_line.specs.declared.asked.Command.{Command}
 use Rattle.pic_line.specs.declared.asked.Command.TheVariants.{Check, Run, Verify, Demo}
 use Rattle.pic_line.specs.CommandLine.{command_of}
@@ -42,29 +42,40 @@ pub record Fulfils (o : Outcome) (before now : Sinks) (answer : Ended) : Type 0 
   pub answers : o.answer ≡ answer
   pub wrote : Wrote before now (out_text o) (report_text o)
 
--- the head, the first frame and so many more, whole, with their lines
-pub record HasFrames (head : List ℕ) (frames : List Piece) (before now : Sinks) : Type 0 where
+-- so many workers left the head, the first frame and so many more, whole, with their lines: one
+-- alone wants no memory, and a run that comes to its last step wants none behind it
+pub record HasFrames (workers : ℕ) (answer : Ended) (head : List ℕ) (frames : List Piece)
+    (before now : Sinks) : Type 0 where
+  pub many : 2 ≤ workers
   pub number : ℕ
   pub least : 1 ≤ number
   pub most : number ≤ length frames
+  pub left : (steps : ℕ) → answer ≡ Done steps → number < length frames
   pub wrote : Wrote before now (head ++ outs (take number frames)) (lines (take number frames))
 
 -- nothing on both sinks, or so much: memory is wanted before the head, or by a step
-abbrev pub Starves : Outcome → Sinks → Sinks → Type 0
-Starves o before now = Wrote before now [] [] ⊎ HasFrames o.head o.frames before now
+abbrev pub Starves : ℕ → Outcome → Sinks → Sinks → Type 0
+Starves workers o before now =
+    Wrote before now [] [] ⊎ HasFrames workers o.answer o.head o.frames before now
 
--- A call comes to the outcome's answer, with its texts, or it is cut off: after a put that failed
--- the pieces stand up to it, and nothing of what follows; want of memory leaves nothing or whole
--- frames.
-abbrev pub Finishes : Outcome → Sinks → Sinks → Result Ended Cut → Type 0
-Finishes o before now (Ok answer) = Fulfils o before now answer
-Finishes o before now (Err (cut.Write side)) = CutAt side before now (pieces_of o)
-Finishes o before now (Err cut.NoMemory) = Starves o before now
+-- A call on so many workers comes to the outcome's answer, with its texts, or it is cut off: after
+-- a put that failed the pieces stand up to it, and nothing of what follows; want of memory leaves
+-- nothing or whole frames.
+abbrev pub Finishes : ℕ → Outcome → Sinks → Sinks → Result Ended Cut → Type 0
+Finishes workers o before now (Ok answer) = Fulfils o before now answer
+Finishes workers o before now (Err (cut.Write side)) = CutAt side before now (pieces_of o)
+Finishes workers o before now (Err cut.NoMemory) = Starves workers o before now
+
+-- the same of a call that wants no memory any more
+abbrev pub Announces : Outcome → Sinks → Sinks → Result Ended Cut → Type 0
+Announces o before now (Ok answer) = Fulfils o before now answer
+Announces o before now (Err (cut.Write side)) = CutAt side before now (pieces_of o)
+Announces o before now (Err cut.NoMemory) = ⊥
 
 -- a call whose stage was stopped: an early end comes to its answer
 abbrev pub EndsStopped : StageStop → Sinks → Sinks → Result Ended Cut → Type 0
 EndsStopped (stage_stop.Answer end) before now finish =
-    Finishes (line_alone (ended_early end) (early_line end)) before now finish
+    Announces (line_alone (ended_early end) (early_line end)) before now finish
 EndsStopped stage_stop.NoMemory before now finish =
     (finish ≡ Err cut.NoMemory) × Wrote before now [] []
 
@@ -73,6 +84,12 @@ abbrev pub IsRun : Option Command → Type 0
 IsRun (Some (Run workers)) = ⊤
 IsRun (Some (Demo seed workers)) = ⊤
 IsRun c = ⊥
+
+-- how many workers push the particles of a command; of one that runs no deck, none
+abbrev pub workers_of : Option Command → ℕ
+workers_of (Some (Run workers)) = workers
+workers_of (Some (Demo seed workers)) = workers
+workers_of c = 0
 
 -- the command has the deck that its source gives
 abbrev pub IsOnDeck : Option Command → Type 0
@@ -86,11 +103,13 @@ IsIdle None = ⊤
 IsIdle (Some (Demo seed workers)) = ⊤
 IsIdle c = ⊥
 
--- how a deck was read: at most one byte more than a deck may have; and unless memory was wanting, an
--- accepted deck to its end, and one that meets Gauss's law begins in a sound state
+-- how a deck was read: at most one byte more than a deck may have; where memory was wanting, no
+-- read failed; and else an accepted deck to its end, and one that meets Gauss's law begins in a
+-- sound state
 pub record ReadsDeck (input : Option (List ℕ)) (source source' : Told)
     (finish : Result Ended Cut) : Type 0 where
   pub taken : TakesAtMost deck_limit source source'
+  pub calm : finish ≡ Err cut.NoMemory → Calm source source'
   pub end : finish ≢ Err cut.NoMemory → (d : DeckView) → accepted input ≡ Ok d → IsAtEnd source'
   pub sound : finish ≢ Err cut.NoMemory
       → (d : DeckView) → opened input ≡ Ok d → IsSound (first_state d)
@@ -102,10 +121,13 @@ pub record ReadsNothing (seed : ℕ) (source source' : Told) (finish : Result En
   pub sound : finish ≢ Err cut.NoMemory
       → (d : DeckView) → demonstrated seed ≡ Ok d → IsSound (first_state d)
 
--- how a dump was read: at most one byte past the length that its header allows; one whose frames are
+-- how a dump was read: at most one byte past the length that its header allows; where memory was
+-- wanting, no read failed, and no more was taken than the longest header has; one whose frames are
 -- good to its end; and a read fault is one that the source's count shows
 pub record ReadsDump (source source' : Told) (finish : Result Ended Cut) : Type 0 where
   pub taken : TakesAllowed source source'
+  pub calm : finish ≡ Err cut.NoMemory → Calm source source'
+  pub memory : finish ≡ Err cut.NoMemory → TakesHeader source source'
   pub end : (frames : ℕ) → finish ≡ Ok (Verified frames) → IsAtEnd source'
   pub fault : finish ≡ Ok ReadFault → Rose source source'
 
@@ -118,16 +140,17 @@ Reads (Some Verify) input source source' finish = ReadsDump source source' finis
 Reads (Some (Demo seed workers)) input source source' finish = ReadsNothing seed source source' finish
 
 -- a command on a deck finishes as it says for what its source held
-pub record OnDeck (performed : DeckView → Outcome) (source source' : Told)
+pub record OnDeck (workers : ℕ) (performed : DeckView → Outcome) (source source' : Told)
     (before now : Sinks) (finish : Result Ended Cut) : Type 0 where
   pub input : Option (List ℕ)
   pub gave : Gave source source' input
-  pub finishes : Finishes (on_deck performed (opened input)) before now finish
+  pub finishes : Finishes workers (on_deck performed (opened input)) before now finish
   pub reads : ReadsDeck input source source' finish
 
 -- so does a demonstration, whatever its source held
-pub record Demonstrates (seed : ℕ) (before now : Sinks) (finish : Result Ended Cut) : Type 0 where
-  pub finishes : Finishes (on_deck demo_outcome (demonstrated seed)) before now finish
+pub record Demonstrates (seed workers : ℕ) (before now : Sinks)
+    (finish : Result Ended Cut) : Type 0 where
+  pub finishes : Finishes workers (on_deck demo_outcome (demonstrated seed)) before now finish
   pub sound : finish ≢ Err cut.NoMemory
       → (d : DeckView) → demonstrated seed ≡ Ok d → IsSound (first_state d)
 
@@ -135,7 +158,7 @@ pub record Demonstrates (seed : ℕ) (before now : Sinks) (finish : Result Ended
 pub record OnDump (source source' : Told) (before now : Sinks) (finish : Result Ended Cut) : Type 0 where
   pub input : Option (List ℕ)
   pub gave : Gave source source' input
-  pub finishes : Finishes (verdict_outcome (verdict_on input)) before now finish
+  pub finishes : Finishes 0 (verdict_outcome (verdict_on input)) before now finish
   pub reads : ReadsDump source source' finish
 
 -- the call finishes as the outcome says for what its source held
@@ -143,7 +166,7 @@ pub record Performs (words : List (List ℕ)) (source source' : Told) (before no
     (finish : Result Ended Cut) : Type 0 where
   pub input : Option (List ℕ)
   pub gave : Gave source source' input
-  pub finishes : Finishes (outcome words input) before now finish
+  pub finishes : Finishes (workers_of (command_of words)) (outcome words input) before now finish
   pub reads : Reads (command_of words) input source source' finish
 
 -- the call ends so
@@ -246,9 +269,11 @@ pub record HasRun (words : List (List ℕ)) (source source' : Told)
   pub command : IsRun (command_of words)
   pub input : Option (List ℕ)
   pub gave : Gave source source' input
-  pub frames : HasFrames (outcome words input).head (outcome words input).frames before now
+  pub frames : HasFrames (workers_of (command_of words)) (outcome words input).answer
+      (outcome words input).head (outcome words input).frames before now
 
--- want of memory leaves nothing on both sinks, or whole frames of a run
-abbrev pub IsStarved : List (List ℕ) → Told → Told → Sinks → Sinks → Type 0
-IsStarved words source source' before now =
-    Wrote before now [] [] ⊎ HasRun words source source' before now
+-- want of memory leaves nothing on both sinks, or whole frames of a run; no read failed
+pub record IsStarved (words : List (List ℕ)) (source source' : Told)
+    (before now : Sinks) : Type 0 where
+  pub calm : Calm source source'
+  pub left : Wrote before now [] [] ⊎ HasRun words source source' before now

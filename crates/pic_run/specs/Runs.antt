@@ -1,11 +1,11 @@
 -- What the parts of a run write.
-use Rattle.std.specs.Prelude.{◌≡◌, List, [], Result, Ok, Err}
+use Rattle.std.specs.Prelude.{◌≡◌, ℕ, List, [], Result, Ok, Err}
 use Rattle.pic_io.specs.Sinks.{Sinks, Wrote, Piece, outs, lines, CutAt}
 use Rattle.pic_grid.specs.declared.stop.EndMark.{EndMark}
 use Rattle.pic_run.specs.declared.cut.Cut.{Cut}
 use Rattle.pic_run.specs.declared.cut.Cut.TheVariants.{Write, NoMemory}
 use Rattle.pic_run.specs.declared.ended.Ended.{Ended}
-use Rattle.pic_run.specs.Outcome.{Outcome, pieces_of}
+use Rattle.pic_run.specs.Outcome.{Outcome, pieces_of, answer_of}
 use Rattle.pic_run.specs.Ends.{HasFrames, Fulfils}
 
 -- some frames were written, and the run ended so
@@ -15,13 +15,15 @@ pub record WroteFrames (frames : List Piece) (last end : EndMark)
   pub wrote : Wrote before now (outs frames) (lines frames)
 
 -- all frames are written, or those up to a put that failed, or the first so many
-abbrev pub WritesFrames : List Piece → EndMark → Sinks → Sinks → Result EndMark Cut → Type 0
-WritesFrames frames last before now (Ok end) = WroteFrames frames last end before now
-WritesFrames frames last before now (Err (Write side)) = CutAt side before now frames
-WritesFrames frames last before now (Err NoMemory) = HasFrames [] frames before now
+abbrev pub WritesFrames : ℕ → List Piece → EndMark → Sinks → Sinks → Result EndMark Cut → Type 0
+WritesFrames workers frames last before now (Ok end) = WroteFrames frames last end before now
+WritesFrames workers frames last before now (Err (Write side)) = CutAt side before now frames
+WritesFrames workers frames last before now (Err NoMemory) =
+    HasFrames workers (answer_of last) [] frames before now
 
 -- the same with the end of the run behind them
-abbrev pub WritesStates : Outcome → Sinks → Sinks → Result Ended Cut → Type 0
-WritesStates o before now (Ok answer) = Fulfils o before now answer
-WritesStates o before now (Err (Write side)) = CutAt side before now (pieces_of o)
-WritesStates o before now (Err NoMemory) = HasFrames o.head o.frames before now
+abbrev pub WritesStates : ℕ → Outcome → Sinks → Sinks → Result Ended Cut → Type 0
+WritesStates workers o before now (Ok answer) = Fulfils o before now answer
+WritesStates workers o before now (Err (Write side)) = CutAt side before now (pieces_of o)
+WritesStates workers o before now (Err NoMemory) =
+    HasFrames workers o.answer o.head o.frames before now

@@ -24,7 +24,7 @@ pub fn check<S: Source, O: Sink, R: Sink>(
     out: &mut O,
     report: &mut R,
 ) -> Result<Ended, Cut>
-    ensures { OnDeck check_outcome (S.told source.old) (S.told source.new)
+    ensures { OnDeck 0 check_outcome (S.told source.old) (S.told source.new)
         (sinks (O.told out.old) (R.told report.old))
         (sinks (O.told out.new) (R.told report.new)) result }
 {
@@ -37,7 +37,8 @@ pub fn check<S: Source, O: Sink, R: Sink>(
 // The number of particles on out.
 fn put_count<O: Sink>(out: &mut O, particles: u32) -> Result<Ended, Cut>
     ensures { (d : DeckView) (r : Told) → length (loaded d) ≡ particles
-        → Finishes (check_outcome d) (sinks (O.told out.old) r) (sinks (O.told out.new) r) result }
+        → Finishes 0 (check_outcome d)
+        (sinks (O.told out.old) r) (sinks (O.told out.new) r) result }
 {
     put_out(out, line_of_check(particles).bytes())?;
     Ok(Ended::Checked { particles })

@@ -4,6 +4,7 @@ ghost use Rattle.std.specs.Prelude.{◌<◌, ◌≤◌};
 ghost use Rattle.pic_crew.specs.Teams.{most_workers};
 ghost use Rattle.pic_io.specs.Sinks.{sinks};
 ghost use Rattle.pic_demo.specs.Demo.{demo_deck};
+ghost use Rattle.pic_step.specs.Kept.{AreTiled};
 ghost use Rattle.pic_step.specs.Sound.{IsSound};
 ghost use Rattle.pic_step.specs.Start.{begun};
 ghost use Rattle.pic_run.specs.Outcome.{lines_outcome};
@@ -37,7 +38,7 @@ pub fn demo<H: Threads + Sync, O: Sink, R: Sink, G: Gate + Sync>(
 ) -> Result<Ended, Cut>
     requires some { 0 < workers }
     requires most { workers ≤ most_workers }
-    ensures { Demonstrates seed
+    ensures { Demonstrates seed workers
         (sinks (O.told out.old) (R.told report.old))
         (sinks (O.told out.new) (R.told report.new)) result }
 {
@@ -68,7 +69,8 @@ fn show_deck<H: Threads + Sync, O: Sink, R: Sink, G: Gate + Sync>(
     requires some { 0 < workers }
     requires most { workers ≤ most_workers }
     requires sound { IsSound (begun opened.start) }
-    ensures { Finishes (lines_outcome opened.deck (begun opened.start))
+    requires tiled { AreTiled opened.start.map opened.start.e opened.start.b }
+    ensures { Finishes workers (lines_outcome opened.deck (begun opened.start))
         (sinks (O.told out.old) (R.told report.old))
         (sinks (O.told out.new) (R.told report.new)) result }
 {

@@ -3,6 +3,7 @@
 ghost use Rattle.std.specs.Prelude.{◌≡◌, ◌<◌, ◌≤◌, [], ◌∷◌, IfOk};
 ghost use Rattle.pic_crew.specs.Teams.{most_workers};
 ghost use Rattle.pic_io.specs.Sinks.{sinks, Writes};
+ghost use Rattle.pic_step.specs.Kept.{AreTiled};
 ghost use Rattle.pic_step.specs.Sound.{IsSound};
 ghost use Rattle.pic_step.specs.Start.{begun};
 ghost use Rattle.pic_run.specs.Starting.{header_of};
@@ -42,7 +43,7 @@ pub fn run<H: Threads + Sync, S: Source, O: Sink, R: Sink, G: Gate + Sync>(
 ) -> Result<Ended, Cut>
     requires some { 0 < workers }
     requires most { workers ≤ most_workers }
-    ensures { OnDeck run_outcome (S.told source.old) (S.told source.new)
+    ensures { OnDeck workers run_outcome (S.told source.old) (S.told source.new)
         (sinks (O.told out.old) (R.told report.old))
         (sinks (O.told out.new) (R.told report.new)) result }
 {
@@ -65,7 +66,8 @@ fn run_deck<H: Threads + Sync, O: Sink, R: Sink, G: Gate + Sync>(
     requires some { 0 < workers }
     requires most { workers ≤ most_workers }
     requires sound { IsSound (begun opened.start) }
-    ensures { Finishes (dump_outcome (header_of opened.deck) (begun opened.start))
+    requires tiled { AreTiled opened.start.map opened.start.e opened.start.b }
+    ensures { Finishes workers (dump_outcome (header_of opened.deck) (begun opened.start))
         (sinks (O.told out.old) (R.told report.old))
         (sinks (O.told out.new) (R.told report.new)) result }
 {
@@ -84,7 +86,8 @@ struct Ready {
 
 // Takes the memory of a run.
 fn prepare(alloc: Global, deck: &Deck, start: Start) -> Result<Ready, NoMemory>
-    requires { IsSound (begun start) }
+    requires sound { IsSound (begun start) }
+    requires tiled { AreTiled start.map start.e start.b }
     ensures header { IfOk result (λ ready. ready.header ≡ header_of deck.now) }
     ensures state { IfOk result (λ ready. ready.state ≡ begun start) }
     ensures room { IfOk result (λ ready. HasRoom ready.room ready.state) }
@@ -110,7 +113,7 @@ fn write_run<H: Threads + Sync, O: Sink, R: Sink, G: Gate + Sync>(
     requires some { 0 < workers }
     requires most { workers ≤ most_workers }
     requires room { HasRoom ready.room ready.state }
-    ensures { Finishes (dump_outcome ready.header ready.state)
+    ensures { Finishes workers (dump_outcome ready.header ready.state)
         (sinks (O.told out.old) (R.told report.old))
         (sinks (O.told out.new) (R.told report.new)) result }
 {
@@ -147,7 +150,7 @@ pub fn write_states<H: Threads + Sync, O: Sink, R: Sink, G: Gate + Sync>(
     requires some { 0 < plan.workers }
     requires most { plan.workers ≤ most_workers }
     requires room { HasRoom room.old state }
-    ensures { WritesStates
+    ensures { WritesStates plan.workers
         (states_outcome plan.output [] (frames_of plan.output plan.steps plan.every state)
         (end_of plan.steps state))
         (sinks (O.told out.old) (R.told report.old))
@@ -172,7 +175,8 @@ fn write_frames<H: Threads + Sync, O: Sink, R: Sink, G: Gate + Sync>(
     requires some { 0 < plan.workers }
     requires most { plan.workers ≤ most_workers }
     requires room { HasRoom room.old state }
-    ensures { WritesFrames (frames_of plan.output plan.steps plan.every state) (end_of plan.steps state)
+    ensures { WritesFrames plan.workers
+        (frames_of plan.output plan.steps plan.every state) (end_of plan.steps state)
         (sinks (O.told out.old) (R.told report.old))
         (sinks (O.told out.new) (R.told report.new)) result }
 {

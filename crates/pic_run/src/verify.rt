@@ -4,7 +4,7 @@ ghost use Rattle.std.specs.Prelude.{Ok};
 ghost use Rattle.pic_io.specs.Told.{Told};
 ghost use Rattle.pic_io.specs.Sinks.{sinks};
 ghost use Rattle.pic_run.specs.Outcome.{verdict_outcome};
-ghost use Rattle.pic_run.specs.Ends.{OnDump, Finishes};
+ghost use Rattle.pic_run.specs.Ends.{OnDump, Announces};
 
 use crate::cut::Cut;
 use crate::early::{StageStop, end_early};
@@ -33,7 +33,7 @@ pub fn verify<S: Source, O: Sink, R: Sink>(
 
 // The number of frames on out.
 fn put_frames<O: Sink>(out: &mut O, frames: u32) -> Result<Ended, Cut>
-    ensures { (r : Told) → Finishes (verdict_outcome (Ok frames))
+    ensures { (r : Told) → Announces (verdict_outcome (Ok frames))
         (sinks (O.told out.old) r) (sinks (O.told out.new) r) result }
 {
     put_out(out, line_of_verified(frames).bytes())?;

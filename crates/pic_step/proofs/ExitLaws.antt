@@ -1,10 +1,13 @@
 -- Where a step ends, phase by phase.
-use Rattle.std.proofs.Common.{◌≡◌, Option, Some, None, Ok, Err, ap}
+use Rattle.std.proofs.Common.{◌≡◌, ◌≢◌, Option, Some, None, Result, Ok, Err, IsErrAnd, sym, ap, ◌∙◌}
+use Rattle.std.proofs.lemmas.Result.{err_from_is_err_and}
 use Rattle.std.specs.Option.{option_or}
 use Rattle.pic_num.specs.Push.{unless}
 use Rattle.pic_grid.specs.declared.stop.Phase.TheVariants.{Half1, Half2}
 use Rattle.pic_grid.specs.declared.stop.Stop.{Stop}
 use Rattle.pic_grid.specs.PushPhase.{push_stop}
+use Rattle.pic_step.specs.declared.stepping.StepStop.{StepStop}
+use Rattle.pic_step.specs.declared.stepping.StepStop.TheVariants as step_stop
 use Rattle.pic_step.specs.SerialStep.{World, around, half_on, push_on, current_of, before_electric, half_stop, full_stop, step_on, stop_of, stepped}
 
 ends : (w : World) (o : Option Stop) → stop_of w ≡ o → stepped w ≡ unless o (step_on w)
@@ -39,3 +42,7 @@ no_stop_is w none free clear still = λ i. option_or (none i) (option_or (free i
 
 pub steps_on : (w : World) → stop_of w ≡ None → stepped w ≡ Ok (step_on w)
 steps_on w none = ends w None none
+
+-- what a phase of the fields stops for isn't memory
+pub wants_none : (r : Result World StepStop) (s : Stop) → IsErrAnd r (λ e. e ≡ step_stop.Stop s) → r ≢ Err step_stop.NoMemory
+wants_none r s is wanted = let exit = err_from_is_err_and r is in let both = sym wanted ∙ exit.1 ∙ ap Err exit.2 in absurd cc

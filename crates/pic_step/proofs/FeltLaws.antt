@@ -16,15 +16,16 @@ use Rattle.pic_gather.proofs.SameLaws.{gathered_e_same, gathered_b_same}
 use Rattle.pic_grid.specs.Felt.{felt}
 use Rattle.pic_grid.specs.Parts.{one_part}
 use Rattle.pic_grid.specs.declared.stop.Stop.{Stop}
-use Rattle.pic_grid.specs.Block.{BlockValues}
 use Rattle.pic_grid.specs.Current.{flux_after, current}
+use Rattle.pic_tile.specs.Tile.{TileValue}
+use Rattle.pic_tile.specs.Tiling.{Tiling}
 use Rattle.pic_step.specs.PushOn.{IsPushed}
 
 -- what is around the particles, by functions
 abbrev pub around_by : ℕ → List Kind → Triple → (Axis → Triple → ℤ) → (Axis → Triple → ℤ) → Surroundings
 around_by side kinds n f g = record { side = side; cells = n; kinds = kinds; of_e = f; of_b = g }
 
--- the same by lattices of these functions' values
+-- the same by lattices of these functions' values, whatever their parts
 abbrev pub around_lattices : ℕ → List Kind → Triple → (Axis → Triple → ℤ) → (Axis → Triple → ℤ) → Surroundings
 around_lattices side kinds n f g = felt kinds (field_of side n one_part f) (field_of side n one_part g)
 
@@ -59,11 +60,10 @@ current_same side kinds n f g [] a p = refl
 current_same side kinds n f g (particle ∷ particles) a p = λ i. flux_after side n kinds particle a p
     (push_same side kinds n f g particle i) +ℤ current_same side kinds n f g particles a p i
 
-pub pushed_same : (side : ℕ) (kinds : List Kind) (n : Triple) (f g : Axis → Triple → ℤ) (old now : List Particle) (stop : Option Stop) (j : BlockValues)
-    → IsPushed (around_lattices side kinds n f g) old now stop j → IsPushed (around_by side kinds n f g) old now stop j
-pushed_same side kinds n f g old now stop j pushed = record {
+pub pushed_same : (side : ℕ) (kinds : List Kind) (n : Triple) (f g : Axis → Triple → ℤ) (m : Tiling) (old : List Particle) (tiles : List TileValue)
+    (stop : Option Stop) → IsPushed (around_lattices side kinds n f g) m old tiles stop → IsPushed (around_by side kinds n f g) m old tiles stop
+pushed_same side kinds n f g m old tiles stop pushed = record {
   particles = pushed.particles ∙ moved_same side kinds n f g old;
   stop_is = pushed.stop_is ∙ stop_same side kinds n f g old;
   current_is = λ a p within. pushed.current_is a p within ∙ current_same side kinds n f g old a p;
-  current_small = pushed.current_small;
 }

@@ -20,7 +20,7 @@ use Rattle.pic_tile.specs.Parcels.{AreFreshTiles}
 use Rattle.pic_tile.specs.Tiling.{Tiling, IsMap, cells_of, grid_of}
 use Rattle.pic_tile.proofs.HeldLaws.{fresh_hold}
 use Rattle.pic_step.specs.declared.plasma.Plasma.{Plasma}
-use Rattle.pic_step.specs.Kept.{IsKept, seen}
+use Rattle.pic_step.specs.Kept.{as_one, AreTiled, IsKept, seen}
 use Rattle.pic_step.specs.Plasma.{IsPlasma}
 use Rattle.pic_step.specs.PushOn.{CanPush}
 use Rattle.pic_step.specs.SerialStep.{World, world_of}
@@ -37,19 +37,21 @@ above_zero w sound = let least = sound.side_least in omega (arith, least)
 
 -- where its particles are cut into tiles, the state is that of its parts
 module _ (m : Tiling) (scales : Scales) (kinds : List Kind) (e b : Field) (xs : List Particle) (p : Plasma) (map : IsMap m)
-    (sound : IsSound (world_of (grid_of m) scales kinds e b xs)) (of_map : p.frame.map ≡ m) (of_kinds : p.frame.kinds ≡ kinds) (ready : IsPlasma xs p) where
+    (sound : IsSound (world_of (grid_of m) scales kinds (as_one e) (as_one b) xs)) (tiled : AreTiled m e b) (of_map : p.frame.map ≡ m)
+    (of_kinds : p.frame.kinds ≡ kinds) (ready : IsPlasma xs p) where
   list_is : particles_of p.tiles.items ≡ xs
   list_is =
-      let w = world_of (grid_of m) scales kinds e b xs in
+      let w = world_of (grid_of m) scales kinds (as_one e) (as_one b) xs in
       particles_are m xs p.tiles.items (above_zero w sound) map.thick (inside w sound) (record { identities = sound.identities })
       (subst (λ (n : Tiling). AreFreshTiles n xs p.tiles.items) of_map ready.tiles)
 
-  pub begun_is : seen scales e b p ≡ world_of (grid_of m) scales kinds e b xs
-  begun_is = λ i. world_of (grid_of (of_map i)) scales (of_kinds i) e b (list_is i)
+  pub begun_is : seen scales e b p ≡ world_of (grid_of m) scales kinds (as_one e) (as_one b) xs
+  begun_is = λ i. world_of (grid_of (of_map i)) scales (of_kinds i) (as_one e) (as_one b) (list_is i)
 
   pub kept : IsKept scales e b p
   kept = record {
     sound = subst IsSound (sym begun_is) sound;
+    tiled = subst (λ (n : Tiling). AreTiled n e b) (sym of_map) tiled;
     plasma = subst (λ (ys : List Particle). IsPlasma ys p) (sym list_is) ready;
   }
 
@@ -86,7 +88,8 @@ module _ (scales : Scales) (e b : Field) (p : Plasma) (map : IsMap p.frame.map) 
       record { side = refl; cells = refl; own = keeps.plasma.tiles; once = permutes particle_discrete xs all (same_sym all xs same) }
 
 -- a state's fields and particles can be pushed, B after its first half step
-pub can_push : (scales : Scales) (e b c : Field) (p : Plasma) → IsKept scales e b p → IsSafe p.frame.map.side (cells_of p.frame.map) scales.b_force c → CanPush scales e c p
+pub can_push : (scales : Scales) (e b c : Field) (p : Plasma) → IsKept scales e b p
+    → IsSafe p.frame.map.side (cells_of p.frame.map) scales.b_force (as_one c) → CanPush scales e c p
 can_push scales e b c p keeps safe =
     let w = seen scales e b p in
     record {
@@ -104,5 +107,6 @@ can_push scales e b c p keeps safe =
 
 -- the state of the parts that a step leaves
 pub next_is : (scales : Scales) (e b e' b' : Field) (p q : Plasma) → q.frame.map ≡ p.frame.map → q.frame.kinds ≡ p.frame.kinds
-    → record (seen scales e b p) { e = e'; b = b'; particles = particles_of q.tiles.items } ≡ seen scales e' b' q
-next_is scales e b e' b' p q map kinds = λ i. world_of (grid_of (sym map i)) scales (sym kinds i) e' b' (particles_of q.tiles.items)
+    → record (seen scales e b p) { e = as_one e'; b = as_one b'; particles = particles_of q.tiles.items } ≡ seen scales e' b' q
+next_is scales e b e' b' p q map kinds =
+    λ i. world_of (grid_of (sym map i)) scales (sym kinds i) (as_one e') (as_one b') (particles_of q.tiles.items)

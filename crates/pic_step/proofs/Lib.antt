@@ -1,10 +1,8 @@
-pub mod WalkLaws
 pub mod VelocityLaws
 pub mod GaussLaws
 pub mod SoundLaws
 pub mod BeyondLaws
 pub mod ImageLaws
-pub mod CollectLaws
 pub mod WriteLaws
 pub mod PlasmaLaws
 pub mod KeptLaws
@@ -16,3 +14,4 @@ pub mod ExitLaws
 pub mod StepLaws
 pub mod KeepLaws
 pub mod RoomLaws
+pub mod LayoutLaws

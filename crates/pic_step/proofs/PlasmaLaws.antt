@@ -1,20 +1,83 @@
 -- The list that the tiles of a state stand for.
-use Rattle.std.proofs.Common.{◌≡◌, ◌<◌, List, All}
+use Rattle.std.proofs.Common.{◌≡◌, ℕ, ◌<◌, List, [], length, All, sym, ap, ◌∙◌, subst}
+use Rattle.std.proofs.lemmas.List.{ext_get_or, length-map}
+use Rattle.std.proofs.lemmas.List.Elements.{All-weaker}
 use Rattle.pic_num.specs.declared.motion.Particle.{Particle}
 use Rattle.pic_num.specs.Space.{triple}
+use Rattle.pic_grid.specs.Cells.{count_of}
 use Rattle.pic_grid.specs.Hat.{IsInBox}
-use Rattle.pic_orders.specs.InOrder.{AreOrdered}
+use Rattle.pic_orders.specs.InOrder.{AreOrdered, in_order}
+use Rattle.pic_orders.specs.Same.{Same}
+use Rattle.pic_orders.specs.StandFor.{owned, StandFor}
 use Rattle.pic_orders.specs.Totals.{together}
 use Rattle.pic_orders.proofs.InOrderLaws.{in_order_is}
+use Rattle.pic_orders.proofs.StandForLaws.{stands_together}
 use Rattle.pic_tile.specs.CoreState.{particles_of}
+use Rattle.pic_tile.specs.Directions.{here}
 use Rattle.pic_tile.specs.Held.{chains_of}
+use Rattle.pic_tile.specs.Owners.{tile_of}
 use Rattle.pic_tile.specs.Parcels.{AreFreshTiles}
-use Rattle.pic_tile.specs.Tile.{TileValue}
+use Rattle.pic_tile.specs.Tile.{TileValue, chain_at, tile_in}
 use Rattle.pic_tile.specs.Tiling.{Tiling, IsThick, cells_of}
-use Rattle.pic_tile.proofs.HeldLaws.{fresh_hold}
+use Rattle.pic_tile.proofs.HeldLaws.{chain_in}
+use Rattle.pic_tile.proofs.LeavingLaws.{tile_below}
+use Rattle.pic_core.specs.Opened.{IsRoom}
+use Rattle.pic_step.specs.declared.plasma.Plasma.{Plasma}
+use Rattle.pic_phase.specs.Spent.{AreSpent}
+use Rattle.pic_step.specs.Plasma.{HasFlux, IsPlasma}
+
+-- tiles, each of which has its own of a list, have the list
+pub list_is : (m : Tiling) (xs : List Particle) (ts : List TileValue) → 0 < m.side → IsThick m.size
+    → All (λ x. IsInBox m.side (cells_of m) (triple x.x)) xs → AreOrdered xs → length ts ≡ count_of m.tiles
+    → ((r : ℕ) → r < count_of m.tiles → Same (chain_at (tile_in ts r) here) (owned (tile_of m) r xs)) → particles_of ts ≡ xs
+list_is m xs ts some thick inside ordered count each =
+    let long : length (chains_of ts) ≡ count_of m.tiles = length-map ts (λ (t : TileValue). chain_at t here) ∙ count in
+    let stand : StandFor (tile_of m) (chains_of ts) xs = record {
+      owners = All-weaker (λ x. IsInBox m.side (cells_of m) (triple x.x)) (λ x. tile_of m x < length (chains_of ts))
+          (λ x one. subst (λ (n : ℕ). tile_of m x < n) (sym long) (tile_below m x some thick one)) xs inside;
+      each = λ t within.
+          let below : t < count_of m.tiles = subst (λ (n : ℕ). t < n) long within in
+          subst (λ (c : List Particle). Same c (owned (tile_of m) t xs)) (sym (chain_in ts t (subst (λ (n : ℕ). t < n) (sym count) below))) (each t below);
+    } in
+    in_order_is (together (chains_of ts)) xs (stands_together (tile_of m) (chains_of ts) xs stand) ordered
 
 -- fresh tiles have the list that is cut into them
 pub particles_are : (m : Tiling) (xs : List Particle) (ts : List TileValue) → 0 < m.side → IsThick m.size
     → All (λ x. IsInBox m.side (cells_of m) (triple x.x)) xs → AreOrdered xs → AreFreshTiles m xs ts → particles_of ts ≡ xs
 particles_are m xs ts some thick inside ordered fresh =
-    let held = fresh_hold m xs ts some thick inside fresh in in_order_is (together (chains_of ts)) xs held.same ordered
+    list_is m xs ts some thick inside ordered fresh.count (λ r below.
+    subst (λ (k : ℕ). Same (chain_at (tile_in ts r) here) (owned (tile_of m) k xs)) (fresh.numbers r below) (fresh.stand r below))
+
+-- tiles that are left without their flux have their particles as before,
+pub particles_kept : (m : Tiling) (us vs : List TileValue) → length us ≡ count_of m.tiles → AreSpent m us vs → particles_of vs ≡ particles_of us
+particles_kept m us vs count h =
+    let long_us : length (chains_of us) ≡ count_of m.tiles = length-map us (λ (t : TileValue). chain_at t here) ∙ count in
+    let long_vs : length (chains_of vs) ≡ count_of m.tiles = length-map vs (λ (t : TileValue). chain_at t here) ∙ h.numbered.count in
+    let same : chains_of vs ≡ chains_of us =
+    ext_get_or [] (chains_of vs) (chains_of us) (long_vs ∙ sym long_us) (λ i within.
+    let below : i < count_of m.tiles = subst (λ (n : ℕ). i < n) long_vs within in
+    chain_in vs i (subst (λ (n : ℕ). i < n) (sym h.numbered.count) below) ∙ h.chains i below
+    ∙ sym (chain_in us i (subst (λ (n : ℕ). i < n) (sym count) below))) in
+    ap (λ (cs : List (List Particle)). in_order (together cs)) same
+
+-- and are ready for the next push
+pub ready_again : (p q : Plasma) → HasFlux p → q.frame ≡ p.frame → q.room ≡ p.room → q.count ≡ p.count → AreSpent p.frame.map p.tiles.items q.tiles.items
+    → IsPlasma (particles_of p.tiles.items) q
+ready_again p q flux frame room count h = subst (λ f. IsPlasma (particles_of p.tiles.items) (record q { frame = f })) (sym frame) (record {
+  tiles = record {
+    count = h.numbered.count;
+    numbers = h.numbered.numbers;
+    fresh = h.fresh;
+    stand = λ r below.
+        let m = p.frame.map in
+        let xs = particles_of p.tiles.items in
+        let us = p.tiles.items in
+        let vs = q.tiles.items in
+        let number = flux.received.numbered.numbers r below ∙ sym (h.numbered.numbers r below) in
+        subst (λ (c : List Particle). Same c (owned (tile_of m) (tile_in vs r).number xs)) (sym (h.chains r below))
+        (subst (λ (k : ℕ). Same (chain_at (tile_in us r) here) (owned (tile_of m) k xs)) number (flux.stand r below));
+  };
+  room = subst (λ o. IsRoom p.frame.map o) (sym room) flux.room;
+  parts = flux.parts;
+  count = count ∙ flux.count;
+})

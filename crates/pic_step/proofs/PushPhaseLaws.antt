@@ -9,7 +9,6 @@ use Rattle.pic_num.specs.declared.mult.Scales.{Scales}
 use Rattle.pic_num.specs.Multiplier.{Multiplier}
 use Rattle.pic_num.specs.Sizes.{IsAtMost}
 use Rattle.pic_grid.specs.declared.stop.Stop.{Stop}
-use Rattle.pic_grid.specs.Block.{BlockValues}
 use Rattle.pic_grid.specs.Gather.{force_of}
 use Rattle.pic_grid.specs.Lattice.{Field, value_at, field_of}
 use Rattle.pic_grid.specs.Parts.{one_part}
@@ -24,20 +23,21 @@ use Rattle.pic_tile.specs.Tile.{TileValue}
 use Rattle.pic_tile.specs.Tiling.{Tiling, cells_of, grid_of}
 use Rattle.pic_core.specs.Opened.{IsRoom}
 use Rattle.pic_step.specs.declared.plasma.Plasma.{Plasma}
-use Rattle.pic_step.specs.Plasma.{IsOver, IsPlasma}
-use Rattle.pic_step.specs.PushOn.{around_fields, IsPushed}
+use Rattle.pic_step.specs.Kept.{as_one}
+use Rattle.pic_step.specs.Plasma.{IsPlasma}
+use Rattle.pic_step.specs.PushOn.{around_fields, IsPushed, HasPushed}
 use Rattle.pic_step.specs.Sound.{IsSafe}
 use Rattle.pic_step.proofs.FeltLaws.{around_by, pushed_same}
 
 -- the force values of a safe field, on the cells of a map
-pub forced : (m : Tiling) (by : Multiplier) (f r : Field) → IsSafe m.side (cells_of m) by f → r ≡ field_of f.side f.cells one_part (force_of by (value_at f))
-    → r ≡ field_of m.side (cells_of m) one_part (force_of by (value_at f))
-forced m by f r safe is = is ∙ (λ i. field_of (safe.side_is i) (safe.cells i) one_part (force_of by (value_at f)))
+pub forced : (m : Tiling) (by : Multiplier) (f r : Field) (parts : Triple) → IsSafe m.side (cells_of m) by (as_one f) → parts ≡ one_part
+    → r ≡ field_of f.side f.cells parts (force_of by (value_at f)) → r ≡ field_of m.side (cells_of m) one_part (force_of by (value_at f))
+forced m by f r parts safe cut is = is ∙ (λ i. field_of (safe.side_is i) (safe.cells i) (cut i) (force_of by (value_at f)))
 
 -- they are small enough to be gathered
-pub force_field : (m : Tiling) (by : Multiplier) (f r : Field) → IsSafe m.side (cells_of m) by f → r ≡ field_of f.side f.cells one_part (force_of by (value_at f))
-    → IsForceField (grid_of m) r
-force_field m by f r safe is = subst (IsForceField (grid_of m)) (sym (forced m by f r safe is)) (record {
+pub force_field : (m : Tiling) (by : Multiplier) (f r : Field) → IsSafe m.side (cells_of m) by (as_one f)
+    → r ≡ field_of m.side (cells_of m) one_part (force_of by (value_at f)) → IsForceField (grid_of m) r
+force_field m by f r safe is = subst (IsForceField (grid_of m)) (sym is) (record {
   cells_are = refl;
   side = refl;
   small = record {
@@ -70,16 +70,27 @@ opening_moves f g ts us map kinds same open' = record {
 }
 
 -- pushed in that frame, they are pushed by the fields
-pub pushed_by_fields : (m : Tiling) (kinds : List Kind) (scales : Scales) (e b : Field) (f : FrameValue) (old now : List Particle) (stop : Option Stop) (j : BlockValues)
-    → IsSafe m.side (cells_of m) scales.e_force e → f ≡ with_forces_of m kinds scales e b → IsPushed (felt_in f) old now stop j
-    → IsPushed (around_fields scales kinds e b) old now stop j
-pushed_by_fields m kinds scales e b f old now stop j safe is pushed =
+pub pushed_by_fields : (p q : Plasma) (scales : Scales) (e b : Field) (f : FrameValue) (stop : Option Stop)
+    → IsSafe p.frame.map.side (cells_of p.frame.map) scales.e_force (as_one e) → f ≡ with_forces_of p.frame.map p.frame.kinds scales e b
+    → HasPushed (felt_in f) (record p { frame = f }) q stop → HasPushed (around_fields scales p.frame.kinds e b) p q stop
+pushed_by_fields p q scales e b f stop safe is h =
+    let m = p.frame.map in
+    let kinds = p.frame.kinds in
+    let xs = particles_of p.tiles.items in
+    let us = q.tiles.items in
     let of_e : Axis → Triple → ℤ = force_of scales.e_force (value_at e) in
     let of_b : Axis → Triple → ℤ = force_of scales.b_force (value_at b) in
-    let here : IsPushed (felt_in (with_forces_of m kinds scales e b)) old now stop j = subst (λ (g : FrameValue). IsPushed (felt_in g) old now stop j) is pushed in
-    let by : IsPushed (around_by m.side kinds (cells_of m) of_e of_b) old now stop j = pushed_same m.side kinds (cells_of m) of_e of_b old now stop j here in
-    subst (λ (w : Surroundings). IsPushed w old now stop j)
-    (λ i. around_by (sym safe.side_is i) kinds (sym safe.cells i) of_e of_b) by
+    let here : IsPushed (felt_in (with_forces_of m kinds scales e b)) q.frame.map xs us stop =
+    subst (λ (g : FrameValue). IsPushed (felt_in g) q.frame.map xs us stop) is h.pushed in
+    let by : IsPushed (around_by m.side kinds (cells_of m) of_e of_b) q.frame.map xs us stop =
+    pushed_same m.side kinds (cells_of m) of_e of_b q.frame.map xs us stop here in
+    record {
+      map = h.map ∙ ap (λ (g : FrameValue). g.map) is;
+      kinds = h.kinds ∙ ap (λ (g : FrameValue). g.kinds) is;
+      flux = h.flux;
+      pushed = subst (λ (w : Surroundings). IsPushed w q.frame.map xs us stop)
+          (λ i. around_by (sym safe.side_is i) kinds (sym safe.cells i) of_e of_b) by;
+    }
 
 -- what is ready for a push is so in a frame of the same map
 pub ready_moves : (p : Plasma) (f : FrameValue) (xs : List Particle) → f.map ≡ p.frame.map → f.force_e.parts ≡ one_part → IsPlasma xs p
@@ -88,19 +99,5 @@ ready_moves p f xs map parts ready = record {
   tiles = subst (λ (m : Tiling). AreFreshTiles m xs p.tiles.items) (sym map) ready.tiles;
   room = subst (λ (m : Tiling). IsRoom m p.room) (sym map) ready.room;
   parts = parts;
-  current = subst (λ (m : Tiling). IsOver (cells_of m) p.current) (sym map) ready.current;
   count = ready.count;
-}
-
--- what the push leaves is ready for the next
-pub is_plasma : (p q : Plasma) (vs : List TileValue) → q.frame ≡ p.frame → q.tiles.items ≡ vs → AreFreshTiles p.frame.map (particles_of vs) vs
-    → IsRoom p.frame.map q.room → p.frame.force_e.parts ≡ one_part → IsOver (cells_of p.frame.map) q.current → q.count ≡ length (particles_of vs)
-    → IsPlasma (particles_of q.tiles.items) q
-is_plasma p q vs frame tiles fresh room parts over count = record {
-  tiles = subst (λ (ts : List TileValue). AreFreshTiles q.frame.map (particles_of ts) ts) (sym tiles)
-      (subst (λ (f : FrameValue). AreFreshTiles f.map (particles_of vs) vs) (sym frame) fresh);
-  room = subst (λ (f : FrameValue). IsRoom f.map q.room) (sym frame) room;
-  parts = ap (λ (f : FrameValue). f.force_e.parts) frame ∙ parts;
-  current = subst (λ (f : FrameValue). IsOver (cells_of f.map) q.current) (sym frame) over;
-  count = subst (λ (ts : List TileValue). q.count ≡ length (particles_of ts)) (sym tiles) count;
 }

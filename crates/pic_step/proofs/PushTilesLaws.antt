@@ -1,5 +1,5 @@
--- What the push of all tiles leaves, from what its two calls left: the exchange, and the current collected.
-use Rattle.std.proofs.Common.{◌≡◌, ℕ, ◌+◌, ◌<◌, List, All, Option, unsigned_abs, sym, ap, ◌∙◌, subst, arith}
+-- What the push of all tiles leaves, from what the exchange left.
+use Rattle.std.proofs.Common.{◌≡◌, ℕ, ◌+◌, ◌<◌, List, All, Option, length, unsigned_abs, sym, ap, ◌∙◌, subst, arith}
 use Rattle.std.proofs.Math.IntN.{ℤ, pos, ◌-ℤ◌}
 use Rattle.std.specs.List.{range_with_len}
 use Rattle.std.proofs.lemmas.Int.{ints}
@@ -7,33 +7,36 @@ use Rattle.std.proofs.lemmas.List.Elements.{All-weaker}
 use Rattle.pic_num.specs.Limits.{most_value}
 use Rattle.pic_num.specs.declared.axis.Axis.{Axis}
 use Rattle.pic_num.specs.declared.motion.Particle.{Particle}
-use Rattle.pic_num.specs.Sizes.{IsAtMost}
 use Rattle.pic_num.specs.Space.{Triple, Spot, triple, unwrapped}
 use Rattle.pic_grid.specs.declared.stop.Stop.{Stop}
-use Rattle.pic_grid.specs.Block.{BlockValues, InZone, AllAtMost, inner_of, inner_at, outer_of}
+use Rattle.pic_grid.specs.Block.{AllAtMost, inner_of, inner_at, outer_of}
 use Rattle.pic_grid.specs.Cells.{Grid, IsWithin, count_of}
 use Rattle.pic_grid.specs.Current.{current}
 use Rattle.pic_grid.specs.Hat.{IsInBox, HasTwo}
+use Rattle.pic_grid.specs.Parts.{one_part}
 use Rattle.pic_grid.specs.PushPhase.{Surroundings, CanShare, moved_all}
 use Rattle.pic_grid.proofs.BlockLaws.{inner_within}
 use Rattle.pic_orders.specs.InOrder.{AreOrdered}
 use Rattle.pic_orders.specs.Same.{Same}
 use Rattle.pic_orders.specs.StandFor.{owned}
 use Rattle.pic_push.proofs.PushLaws.{ids_kept, length-moved_all, share_kept}
-use Rattle.pic_tile.specs.CoreState.{particles_of}
+use Rattle.pic_tile.specs.CoreState.{particles_of, IsOpening}
 use Rattle.pic_tile.specs.Directions.{here}
 use Rattle.pic_tile.specs.Exchanged.{least_stop, AreExchanged}
 use Rattle.pic_tile.specs.Frame.{FrameValue, IsFrame, felt_in}
 use Rattle.pic_tile.specs.Layers.{corner}
 use Rattle.pic_tile.specs.Owners.{tile_of}
-use Rattle.pic_tile.specs.Parcels.{AreFreshTiles}
+use Rattle.pic_tile.specs.Parcels.{StandsFor}
 use Rattle.pic_tile.specs.Tile.{TileValue, chain_at, flux_at, tile_in}
 use Rattle.pic_tile.specs.Tiling.{Tiling, IsMap, IsInTile, cells_of, owner_of}
 use Rattle.pic_tile.proofs.TilingLaws.{owner_below, owner_has}
-use Rattle.pic_step.specs.Collected.{HaveReceived, AreCollected, flux_in}
-use Rattle.pic_step.specs.Plasma.{IsOver}
-use Rattle.pic_step.specs.PushOn.{IsPushed}
-use Rattle.pic_step.proofs.PlasmaLaws.{particles_are}
+use Rattle.pic_core.specs.Opened.{IsRoom}
+use Rattle.pic_step.specs.declared.plasma.Plasma.{Plasma}
+use Rattle.pic_phase.specs.Spent.{HaveReceived, flux_in}
+use Rattle.pic_step.specs.Exchange.{HasExchanged}
+use Rattle.pic_step.specs.Plasma.{IsPlasma}
+use Rattle.pic_step.specs.PushOn.{IsPushed, HasPushed}
+use Rattle.pic_step.proofs.PlasmaLaws.{list_is}
 use Rattle.pic_step.proofs.SoundLaws.{has_two}
 
 -- the tiles have received all
@@ -44,23 +47,6 @@ have_received w m xs us x small = record {
   ready = λ r below. (x.each r below).ready;
   quiet = λ r d below. (x.each r below).quiet d;
   small = small;
-}
-
--- the flux of tiles is as small as that of the same tiles
-pub small_there : (m : Tiling) (us ts : List TileValue) → us ≡ ts → ((r : ℕ) → r < count_of m.tiles → AllAtMost most_value (flux_at (tile_in ts r) here))
-    → (r : ℕ) → r < count_of m.tiles → AllAtMost most_value (flux_at (tile_in us r) here)
-small_there m us ts same small r below = subst (λ (vs : List TileValue). AllAtMost most_value (flux_at (tile_in vs r) here)) (sym same) (small r below)
-
--- collected, they have the particles as they are pushed
-pub fresh_after : (w : Surroundings) (m : Tiling) (xs : List Particle) (us vs : List TileValue) → AreExchanged w m xs us → AreCollected m us vs
-    → AreFreshTiles m (moved_all w xs) vs
-fresh_after w m xs us vs x h = record {
-  count = h.numbered.count;
-  numbers = h.numbered.numbers;
-  fresh = h.fresh;
-  stand = λ r below.
-      subst (λ (k : ℕ). Same (chain_at (tile_in vs r) here) (owned (tile_of m) k (moved_all w xs))) (sym (h.numbered.numbers r below))
-      (subst (λ (c : List Particle). Same c (owned (tile_of m) r (moved_all w xs))) (sym (h.chains r below)) (x.each r below).chain);
 }
 
 -- the particles as they are pushed are of the box, and in order
@@ -104,51 +90,50 @@ module _ (w : Surroundings) (m : Tiling) (xs : List Particle) (us : List TileVal
       let back : outer_of (corner m r) q ≡ p = (λ i. record { x = back_x i; y = back_y i; z = back_z i }) in
       ap (λ (l : Spot). inner_at b a (inner_of l (unwrapped p))) low ∙ received.flux a q within_q ∙ ap (current w xs a) back
 
-  flux_small : ((r : ℕ) → r < count_of m.tiles → AllAtMost most_value (flux_at (tile_in us r) here))
-      → (a : Axis) (p : Triple) → IsWithin p (cells_of m) → IsAtMost (flux_in m us a p) most_value
-  flux_small small a p within =
-      let r = owner_of m p in
-      let below = owner_below m p map.thick within in
-      let received = x.each r below in
-      let b = flux_at (tile_in us r) here in
-      let low : b.low ≡ corner m r = received.ready.low ∙ ap (corner m) received.number in
-      (small r below).at_most a (unwrapped p)
-      (subst (λ (n : Triple). InZone b.low n (unwrapped p)) (sym received.ready.size)
-      (subst (λ (l : Spot). InZone l m.size (unwrapped p)) (sym low) (owner_has m p map within)))
-
-  -- the block of the current
-  pub current_small : (j : BlockValues) → ((r : ℕ) → r < count_of m.tiles → AllAtMost most_value (flux_at (tile_in us r) here)) → IsOver (cells_of m) j
-      → ((a : Axis) (p : Triple) → IsWithin p (cells_of m) → inner_at j a p ≡ flux_in m us a p) → AllAtMost most_value j
-  current_small j small over values = record {
-    at_most = λ a c inside.
-        let p = inner_of j.low c in
-        let within : IsWithin p (cells_of m) = subst (IsWithin p) over.size (inner_within j.low j.size c inside) in
-        subst (λ (v : ℤ). IsAtMost v most_value) (sym (values a p within)) (flux_small small a p within);
-  }
-
 -- all together
-pub record ArePushed (f : FrameValue) (xs : List Particle) (vs : List TileValue) (stop : Option Stop) (j : BlockValues) : Type 0 where
-  pub tiles : AreFreshTiles f.map (particles_of vs) vs
-  pub pushed : IsPushed (felt_in f) xs (particles_of vs) stop j
-
-pub are_pushed : (f : FrameValue) (xs : List Particle) (us vs : List TileValue) (stop : Option Stop) (j : BlockValues) → IsFrame f → IsMap f.map → 0 < f.map.side
-    → AreOrdered xs → All (CanShare f.map.side (cells_of f.map) f.kinds) xs
-    → AreExchanged (felt_in f) f.map xs us → ((r : ℕ) → r < count_of f.map.tiles → AllAtMost most_value (flux_at (tile_in us r) here)) → stop ≡ least_stop us
-    → AreCollected f.map us vs → IsOver (cells_of f.map) j → ((a : Axis) (p : Triple) → IsWithin p (cells_of f.map) → inner_at j a p ≡ flux_in f.map us a p)
-    → ArePushed f xs vs stop j
-are_pushed f xs us vs stop j frame map some ordered can x small stopped h over values =
+pub are_pushed : (f : FrameValue) (xs : List Particle) (us : List TileValue) (stop : Option Stop) → IsFrame f → IsMap f.map → 0 < f.map.side
+    → AreOrdered xs → All (CanShare f.map.side (cells_of f.map) f.kinds) xs → AreExchanged (felt_in f) f.map xs us → stop ≡ least_stop us
+    → IsPushed (felt_in f) f.map xs us stop
+are_pushed f xs us stop frame map some ordered can x stopped =
     let w = felt_in f in
-    let ys = moved_all w xs in
     let moved = are_moved f xs frame map some ordered can in
-    let fresh = fresh_after w f.map xs us vs x h in
-    let list : particles_of vs ≡ ys = particles_are f.map ys vs some map.thick moved.inside moved.ordered fresh in
     let cells : w.cells ≡ cells_of f.map = frame.e.cells_are ∙ sym (ap (λ (g : Grid). g.n) frame.map_is) in
     record {
-      tiles = subst (λ (zs : List Particle). AreFreshTiles f.map zs vs) (sym list) fresh;
-      pushed = record {
-        particles = list;
-        stop_is = stopped ∙ x.stop;
-        current_is = λ a p within. let inside = subst (IsWithin p) cells within in values a p inside ∙ flux_is w f.map xs us map x a p inside;
-        current_small = current_small w f.map xs us map x j small over values;
+      particles = list_is f.map (moved_all w xs) us some map.thick moved.inside moved.ordered x.count (λ r below. (x.each r below).chain);
+      stop_is = stopped ∙ x.stop;
+      current_is = λ a p within. flux_is w f.map xs us map x a p (subst (IsWithin p) cells within);
+    }
+
+-- the tiles stand for the particles as they are pushed
+stand_for : (w : Surroundings) (m : Tiling) (xs : List Particle) (us : List TileValue) → AreExchanged w m xs us → particles_of us ≡ moved_all w xs
+    → (r : ℕ) → r < count_of m.tiles → StandsFor m (particles_of us) (tile_in us r)
+stand_for w m xs us x is r below =
+    subst (λ (ys : List Particle). Same (chain_at (tile_in us r) here) (owned (tile_of m) (tile_in us r).number ys)) (sym is)
+    (subst (λ (k : ℕ). Same (chain_at (tile_in us r) here) (owned (tile_of m) k (moved_all w xs))) (sym (x.each r below).number) (x.each r below).chain)
+
+pub has_pushed : (p q : Plasma) (stop : Option Stop) → HasExchanged p q → IsFrame q.frame → IsMap q.frame.map → 0 < p.frame.map.side
+    → IsOpening p.frame p.tiles.items → IsPlasma (particles_of p.tiles.items) p → stop ≡ least_stop q.tiles.items
+    → HasPushed (felt_in p.frame) p q stop
+has_pushed p q stop h frame map some opening ready stopped =
+    let xs = particles_of p.tiles.items in
+    let us = q.tiles.items in
+    let f = q.frame in
+    let back = sym h.frame in
+    let x : AreExchanged (felt_in f) f.map xs us = subst (λ (g : FrameValue). AreExchanged (felt_in g) g.map xs us) back h.tiles in
+    let small : (r : ℕ) → r < count_of f.map.tiles → AllAtMost most_value (flux_at (tile_in us r) here) =
+    subst (λ (g : FrameValue). (r : ℕ) → r < count_of g.map.tiles → AllAtMost most_value (flux_at (tile_in us r) here)) back h.small in
+    let pushed : IsPushed (felt_in f) f.map xs us stop =
+    are_pushed f xs us stop frame map (subst (λ (g : FrameValue). 0 < g.map.side) back some) opening.ordered
+    (subst (λ (g : FrameValue). All (CanShare g.map.side (cells_of g.map) g.kinds) xs) back opening.can) x stopped in
+    record {
+      map = ap (λ (g : FrameValue). g.map) h.frame;
+      kinds = ap (λ (g : FrameValue). g.kinds) h.frame;
+      flux = record {
+        received = have_received (felt_in f) f.map xs us x small;
+        stand = stand_for (felt_in f) f.map xs us x pushed.particles;
+        room = subst (λ (g : FrameValue). IsRoom g.map q.room) back h.room;
+        parts = subst (λ (g : FrameValue). g.force_e.parts ≡ one_part) back ready.parts;
+        count = h.count ∙ ready.count ∙ sym (ap length pushed.particles ∙ length-moved_all (felt_in f) xs);
       };
+      pushed = subst (λ (g : FrameValue). IsPushed (felt_in g) f.map xs us stop) h.frame pushed;
     }

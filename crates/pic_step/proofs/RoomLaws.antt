@@ -1,5 +1,5 @@
 -- A push of all tiles by a core, in the room of a state.
-use Rattle.std.proofs.Common.{◌≡◌, ℕ, ◌<◌, List, sym, ap, ◌∙◌, subst, arith}
+use Rattle.std.proofs.Common.{◌≡◌, ℕ, ◌<◌, List, ap, ◌∙◌, subst, arith}
 use Rattle.pic_num.specs.Limits.{most_value}
 use Rattle.pic_grid.specs.Block.{AllAtMost}
 use Rattle.pic_grid.specs.Cells.{count_of}
@@ -21,8 +21,8 @@ use Rattle.pic_step.specs.Exchange.{HasExchanged}
 pub core_exchanges : (old new : Plasma) (s t : CoreState) (events : List Event) → IsOpened old.frame old.tiles.items s → Ran s events t → new.frame ≡ t.frame
     → AreExchanged (felt_in t.frame) t.frame.map (particles_of t.opening) new.tiles.items
     → ((r : ℕ) → r < count_in t → AllAtMost most_flux (flux_at (tile_in new.tiles.items r) here)) → IsRoom t.frame.map new.room
-    → new.current ≡ old.current → new.count ≡ old.count → HasExchanged old new
-core_exchanges old new s t events opened ran frame exchanged bound room current count =
+    → new.count ≡ old.count → HasExchanged old new
+core_exchanges old new s t events opened ran frame exchanged bound room count =
     let frame_is = ran_frame s events t ran ∙ opened.frame in
     let opening_is = ran_opening s events t ran ∙ opened.opening in
     record {
@@ -32,6 +32,5 @@ core_exchanges old new s t events opened ran frame exchanged bound room current 
       small = subst (λ (f : FrameValue). (r : ℕ) → r < count_of f.map.tiles → AllAtMost most_value (flux_at (tile_in new.tiles.items r) here)) frame_is
           (λ r below. all_at_most_more (flux_at (tile_in new.tiles.items r) here) most_flux most_value (omega arith) (bound r below));
       room = subst (λ (f : FrameValue). IsRoom f.map new.room) frame_is room;
-      current = current;
       count = count;
     }

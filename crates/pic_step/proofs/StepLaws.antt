@@ -1,11 +1,8 @@
 -- A step by its four calls: each leaves what the next one needs.
-use Rattle.std.proofs.Common.{◌≡◌, ℕ, List, Option, None, Ok, sym, ap, ◌∙◌, subst}
+use Rattle.std.proofs.Common.{◌≡◌, List, Option, None, Ok, sym, ap, ◌∙◌, subst}
 use Rattle.std.proofs.Math.IntN.{ℤ}
-use Rattle.pic_num.specs.Limits.{most_value}
-use Rattle.pic_num.specs.declared.motion.Kind.{Kind}
 use Rattle.pic_num.specs.declared.motion.Particle.{Particle}
 use Rattle.pic_num.specs.declared.axis.Axis.{Axis}
-use Rattle.pic_num.specs.Multiplier.{Multiplier}
 use Rattle.pic_num.specs.Space.{Triple}
 use Rattle.pic_grid.specs.declared.stop.Phase.TheVariants.{Half1, Half2, Electric}
 use Rattle.pic_grid.specs.declared.stop.Stop.{Stop}
@@ -13,11 +10,13 @@ use Rattle.pic_grid.specs.Lattice.{Field, value_at, field_of}
 use Rattle.pic_grid.specs.Gather.{force_of}
 use Rattle.pic_grid.specs.Cells.{IsWithin}
 use Rattle.pic_grid.specs.PushPhase.{Surroundings, push_stop}
-use Rattle.pic_grid.specs.Block.{BlockValues, inner_at}
 use Rattle.pic_step.proofs.OnePartLaws.{above_origin, field_same}
-use Rattle.pic_grid.specs.Lattice.{EachAtMost}
 use Rattle.pic_field.specs.FieldPhases.{half_of, full_of, least_fault}
 use Rattle.pic_field.proofs.WholeLaws.{least_fault-same}
+use Rattle.pic_tile.specs.CoreState.{particles_of}
+use Rattle.pic_tile.specs.Tile.{TileValue}
+use Rattle.pic_tile.specs.Tiling.{Tiling}
+use Rattle.pic_phase.specs.Spent.{flux_in}
 use Rattle.pic_step.specs.PushOn.{around_fields, IsPushed}
 use Rattle.pic_grid.specs.Parts.{origin}
 use Rattle.pic_step.specs.SerialStep.{World, around, half_at, full_at, half_on, push_on}
@@ -28,10 +27,6 @@ use Rattle.pic_step.specs.Keeps.{Keeps}
 use Rattle.pic_step.proofs.KeepLaws.{step_keeps}
 use Rattle.pic_step.proofs.ExitLaws.{no_stop_is, steps_on}
 use Rattle.pic_step.proofs.SoundLaws.{safe_after, step_sound}
-
--- the values of a safe field are small
-pub safe_small : (side : ℕ) (n : Triple) (by : Multiplier) (f : Field) → IsSafe side n by f → EachAtMost most_value f
-safe_small side n by f safe = record { at_most = λ a p within. (safe.bounded a p (subst (IsWithin p) safe.cells within)).value }
 
 -- what the first half step of B leaves
 pub record IsHalf (w : World) (b : Field) : Type 0 where
@@ -63,12 +58,9 @@ around_is w b sound half = λ i. record {
   of_b = force_of w.scales.b_force (value_at (half.is i));
 }
 
-pub pushed_on : (w : World) (b : Field) (kinds : List Kind) (old now : List Particle) (stop : Option Stop) (j : BlockValues) → IsSound w → IsHalf w b
-    → kinds ≡ w.kinds → old ≡ w.particles
-    → IsPushed (around_fields w.scales kinds w.e b) old now stop j → IsPushed (around (half_on w)) w.particles now stop j
-pushed_on w b kinds old now stop j sound half same_kinds same pushed =
-    subst (λ (xs : List Particle). IsPushed (around (half_on w)) xs now stop j) same
-    (subst (λ (s : Surroundings). IsPushed s old now stop j) ((λ i. around_fields w.scales (same_kinds i) w.e b) ∙ around_is w b sound half) pushed)
+pub pushed_on : (w : World) (b : Field) (m : Tiling) (tiles : List TileValue) (stop : Option Stop) → IsSound w → IsHalf w b
+    → IsPushed (around_fields w.scales w.kinds w.e b) m w.particles tiles stop → IsPushed (around (half_on w)) m w.particles tiles stop
+pushed_on w b m tiles stop sound half = subst (λ (s : Surroundings). IsPushed s m w.particles tiles stop) (around_is w b sound half)
 
 -- what the second half step of B leaves
 pub record IsBefore (w : World) (b : Field) : Type 0 where
@@ -95,36 +87,36 @@ before_safe w b sound before = subst (IsSafe w.side w.cells w.scales.b_force)
     ((λ i. field_of w.side w.cells (sym sound.b.parts i) (half_at (push_on (half_on w)))) ∙ sym before.is)
     (safe_after Half2 w.scales.b_force w.side w.cells (half_at (push_on (half_on w))) before.none)
 
--- the block holds the current of the push
-abbrev pub IsCurrent : World → BlockValues → Type 0
-IsCurrent w j = (a : Axis) (p : Triple) → IsWithin p w.cells → inner_at j a p ≡ current_of (half_on w) a p
+-- the flux is the current of the push
+abbrev pub IsCurrent : World → (Axis → Triple → ℤ) → Type 0
+IsCurrent w j = (a : Axis) (p : Triple) → IsWithin p w.cells → j a p ≡ current_of (half_on w) a p
 
--- E by the block of the current is E by the current
-abbrev pub by_block : World → Field → BlockValues → Axis → Triple → ℤ
-by_block w b j a p = full_of w.scales b a p (value_at w.e a p) (inner_at j a p)
+-- E by that flux is E by the current
+abbrev pub by_flux : World → Field → (Axis → Triple → ℤ) → Axis → Triple → ℤ
+by_flux w b j a p = full_of w.scales b a p (value_at w.e a p) (j a p)
 
-current_same : (w : World) (b : Field) (j : BlockValues) → IsBefore w b → IsCurrent w j
-    → (a : Axis) (p : Triple) → IsWithin p w.cells → by_block w b j a p ≡ full_at (current_of (half_on w)) (before_electric w) a p
+current_same : (w : World) (b : Field) (j : Axis → Triple → ℤ) → IsBefore w b → IsCurrent w j
+    → (a : Axis) (p : Triple) → IsWithin p w.cells → by_flux w b j a p ≡ full_at (current_of (half_on w)) (before_electric w) a p
 current_same w b j before is a p within =
     λ i. full_of w.scales (before.is i) a p (value_at w.e a p) (is a p within i)
 
-pub last_stop_of : (w : World) (b : Field) (j : BlockValues) (o : Option Stop) → IsSound w → IsBefore w b → IsCurrent w j
-    → least_fault Electric w.scales.e_force origin b.cells (by_block w b j) ≡ o → full_stop (current_of (half_on w)) (before_electric w) ≡ o
+pub last_stop_of : (w : World) (b : Field) (j : Axis → Triple → ℤ) (o : Option Stop) → IsSound w → IsBefore w b → IsCurrent w j
+    → least_fault Electric w.scales.e_force origin b.cells (by_flux w b j) ≡ o → full_stop (current_of (half_on w)) (before_electric w) ≡ o
 last_stop_of w b j o sound before is h =
     let cells : w.cells ≡ b.cells = sym (ap (λ (f : Field). f.cells) before.is) in
-    least_fault-same Electric w.scales.e_force origin w.cells (full_at (current_of (half_on w)) (before_electric w)) (by_block w b j)
+    least_fault-same Electric w.scales.e_force origin w.cells (full_at (current_of (half_on w)) (before_electric w)) (by_flux w b j)
     (λ a p within. ap (full_at (current_of (half_on w)) (before_electric w) a) (above_origin p)
     ∙ sym (current_same w b j before is a p within)
-    ∙ ap (by_block w b j a) (sym (above_origin p)))
-    ∙ (λ i. least_fault Electric w.scales.e_force origin (cells i) (by_block w b j)) ∙ h
+    ∙ ap (by_flux w b j a) (sym (above_origin p)))
+    ∙ (λ i. least_fault Electric w.scales.e_force origin (cells i) (by_flux w b j)) ∙ h
 
-pub e_after : (w : World) (b e : Field) (j : BlockValues) → IsSound w → IsBefore w b → IsCurrent w j
-    → e ≡ field_of b.side b.cells one_part (by_block w b j) → e ≡ field_of w.side w.cells w.e.parts (full_at (current_of (half_on w)) (before_electric w))
+pub e_after : (w : World) (b e : Field) (j : Axis → Triple → ℤ) → IsSound w → IsBefore w b → IsCurrent w j
+    → e ≡ field_of b.side b.cells one_part (by_flux w b j) → e ≡ field_of w.side w.cells w.e.parts (full_at (current_of (half_on w)) (before_electric w))
 e_after w b e j sound before is done =
     let cells : b.cells ≡ w.cells = ap (λ (f : Field). f.cells) before.is in
     let side : b.side ≡ w.side = ap (λ (f : Field). f.side) before.is in
-    done ∙ (λ i. field_of (side i) (cells i) one_part (by_block w b j))
-    ∙ field_same w.side w.cells (by_block w b j) (full_at (current_of (half_on w)) (before_electric w)) (current_same w b j before is)
+    done ∙ (λ i. field_of (side i) (cells i) one_part (by_flux w b j))
+    ∙ field_same w.side w.cells (by_flux w b j) (full_at (current_of (half_on w)) (before_electric w)) (current_same w b j before is)
     ∙ (λ i. field_of w.side w.cells (sym sound.e.parts i) (full_at (current_of (half_on w)) (before_electric w)))
 
 -- the state after the step
@@ -132,13 +124,14 @@ pub record IsAfter (w : World) (e b : Field) (particles : List Particle) : Type 
   pub none : stop_of w ≡ None
   pub is : record w { e = e; b = b; particles = particles } ≡ step_on w
 
-pub is_after : (w : World) (b c e : Field) (now particles : List Particle) (j : BlockValues) → IsSound w → IsHalf w b
-    → IsPushed (around (half_on w)) w.particles now None j → IsBefore w c → particles ≡ now
-    → e ≡ field_of c.side c.cells one_part (by_block w c j)
-    → least_fault Electric w.scales.e_force origin c.cells (by_block w c j) ≡ None
+pub is_after : (w : World) (b c e : Field) (m : Tiling) (tiles : List TileValue) (particles : List Particle) → IsSound w → IsHalf w b
+    → IsPushed (around (half_on w)) m w.particles tiles None → IsBefore w c → particles ≡ particles_of tiles
+    → e ≡ field_of c.side c.cells one_part (by_flux w c (flux_in m tiles))
+    → least_fault Electric w.scales.e_force origin c.cells (by_flux w c (flux_in m tiles)) ≡ None
     → IsAfter w e c particles
 unfolding step_on
-is_after w b c e now particles j sound half pushed before same e_is none =
+is_after w b c e m tiles particles sound half pushed before same e_is none =
+    let j = flux_in m tiles in
     let free : push_stop (around (half_on w)) w.particles ≡ None = sym pushed.stop_is in
     let still = last_stop_of w c j None sound before pushed.current_is none in
     let done = e_after w c e j sound before pushed.current_is e_is in

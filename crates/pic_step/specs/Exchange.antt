@@ -1,5 +1,6 @@
 -- The push of all particles of a state, and the exchange of what leaves their tiles.
-use Rattle.std.specs.Prelude.{◌≡◌, ℕ, ◌<◌}
+use Rattle.std.specs.Prelude.{◌≡◌, ℕ, ◌<◌, Result, Ok, Err}
+use Rattle.pic_num.specs.declared.no_memory.NoMemory.{NoMemory}
 use Rattle.pic_num.specs.Limits.{most_value}
 use Rattle.pic_grid.specs.Block.{AllAtMost}
 use Rattle.pic_grid.specs.Cells.{count_of}
@@ -20,5 +21,9 @@ pub record HasExchanged (old new : Plasma) : Type 0 where
   pub small : (r : ℕ) → r < count_of old.frame.map.tiles
       → AllAtMost most_value (flux_at (tile_in new.tiles.items r) here)
   pub room : IsRoom old.frame.map new.room
-  pub current : new.current ≡ old.current
   pub count : new.count ≡ old.count
+
+-- what so many workers answer: want of memory more than one alone
+abbrev pub Exchanges : Plasma → ℕ → Result Plasma NoMemory → Type 0
+Exchanges old workers (Ok new) = HasExchanged old new
+Exchanges old workers (Err refused) = 1 < workers

@@ -2,10 +2,8 @@ pub mod SerialStep
 pub mod Sound
 pub mod SerialRun
 pub mod Start
-pub mod Phases
 pub mod Plasma
 pub mod Kept
-pub mod Collected
 pub mod PushOn
 pub mod Keeps
 pub mod Reach

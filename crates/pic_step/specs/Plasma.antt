@@ -1,24 +1,28 @@
 -- The particles of a state in tiles, and what their push works with.
-use Rattle.std.specs.Prelude.{◌≡◌, pos, List, length}
+use Rattle.std.specs.Prelude.{◌≡◌, ℕ, ◌<◌, List, length}
 use Rattle.pic_num.specs.declared.motion.Particle.{Particle}
-use Rattle.pic_num.specs.Space.{Triple}
-use Rattle.pic_grid.specs.Block.{BlockValues}
+use Rattle.pic_grid.specs.Cells.{count_of}
 use Rattle.pic_grid.specs.Parts.{one_part}
-use Rattle.pic_tile.specs.Parcels.{AreFreshTiles}
-use Rattle.pic_tile.specs.Tiling.{cells_of}
+use Rattle.pic_tile.specs.CoreState.{particles_of}
+use Rattle.pic_tile.specs.Parcels.{AreFreshTiles, StandsFor}
+use Rattle.pic_tile.specs.Tile.{tile_in}
 use Rattle.pic_core.specs.Opened.{IsRoom}
 use Rattle.pic_step.specs.declared.plasma.Plasma.{Plasma}
-
--- a block over all cells of the grid
-pub record IsOver (n : Triple) (b : BlockValues) : Type 0 where
-  pub low : b.low ≡ record { x = pos 0; y = pos 0; z = pos 0 }
-  pub size : b.size ≡ n
+use Rattle.pic_phase.specs.Spent.{HaveReceived}
 
 -- particles are ready for their push: they are cut into tiles; beside these there are the room for
--- what they will receive, lattices of one part, and a block over the grid
+-- what they will receive, and lattices of one part for the force values
 pub record IsPlasma (particles : List Particle) (p : Plasma) : Type 0 where
   pub tiles : AreFreshTiles p.frame.map particles p.tiles.items
   pub room : IsRoom p.frame.map p.room
   pub parts : p.frame.force_e.parts ≡ one_part
-  pub current : IsOver (cells_of p.frame.map) p.current
   pub count : p.count ≡ length particles
+
+-- they are pushed: each tile has its own of them and its flux; all else is ready for the next push
+pub record HasFlux (p : Plasma) : Type 0 where
+  pub received : HaveReceived p.frame.map p.tiles.items
+  pub stand : (r : ℕ) → r < count_of p.frame.map.tiles
+      → StandsFor p.frame.map (particles_of p.tiles.items) (tile_in p.tiles.items r)
+  pub room : IsRoom p.frame.map p.room
+  pub parts : p.frame.force_e.parts ≡ one_part
+  pub count : p.count ≡ length (particles_of p.tiles.items)

@@ -1,22 +1,23 @@
 -- What the push phase of a state leaves.
 use Rattle.std.specs.Prelude.{◌≡◌, ◌<◌, List, Option}
-use Rattle.pic_num.specs.Limits.{most_value}
 use Rattle.pic_num.specs.declared.motion.Kind.{Kind}
 use Rattle.pic_num.specs.declared.motion.Particle.{Particle}
 use Rattle.pic_num.specs.declared.axis.Axis.{Axis}
 use Rattle.pic_num.specs.declared.mult.Scales.{Scales}
 use Rattle.pic_num.specs.Space.{Triple}
 use Rattle.pic_grid.specs.declared.stop.Stop.{Stop}
-use Rattle.pic_grid.specs.Block.{BlockValues, AllAtMost, inner_at}
 use Rattle.pic_grid.specs.Cells.{IsWithin}
 use Rattle.pic_grid.specs.Current.{current}
 use Rattle.pic_grid.specs.Lattice.{Field, value_at}
 use Rattle.pic_grid.specs.Gather.{force_of}
 use Rattle.pic_grid.specs.PushPhase.{Surroundings, moved_all, push_stop}
 use Rattle.pic_tile.specs.CoreState.{particles_of, IsOpening}
-use Rattle.pic_tile.specs.Tiling.{cells_of}
+use Rattle.pic_tile.specs.Tile.{TileValue}
+use Rattle.pic_tile.specs.Tiling.{Tiling, cells_of}
 use Rattle.pic_step.specs.declared.plasma.Plasma.{Plasma}
-use Rattle.pic_step.specs.Plasma.{IsPlasma}
+use Rattle.pic_phase.specs.Spent.{flux_in}
+use Rattle.pic_step.specs.Kept.{as_one}
+use Rattle.pic_step.specs.Plasma.{IsPlasma, HasFlux}
 use Rattle.pic_step.specs.Sound.{IsSafe}
 
 -- what is around the particles, by the fields E and B
@@ -33,15 +34,22 @@ around_fields scales kinds e b = record {
 -- and the particles are ready, within the limits and in the order of identities
 pub record CanPush (scales : Scales) (e b : Field) (p : Plasma) : Type 0 where
   pub side : 0 < p.frame.map.side
-  pub safe_e : IsSafe p.frame.map.side (cells_of p.frame.map) scales.e_force e
-  pub safe_b : IsSafe p.frame.map.side (cells_of p.frame.map) scales.b_force b
+  pub safe_e : IsSafe p.frame.map.side (cells_of p.frame.map) scales.e_force (as_one e)
+  pub safe_b : IsSafe p.frame.map.side (cells_of p.frame.map) scales.b_force (as_one b)
   pub plasma : IsPlasma (particles_of p.tiles.items) p
   pub opening : IsOpening p.frame p.tiles.items
 
--- the particles are pushed, their stop is known, and a block holds their current
-pub record IsPushed (w : Surroundings) (old now : List Particle) (stop : Option Stop)
-    (j : BlockValues) : Type 0 where
-  pub particles : now ≡ moved_all w old
+-- the particles are pushed, their stop is known, and the flux of their tiles is the current
+pub record IsPushed (w : Surroundings) (m : Tiling) (old : List Particle) (tiles : List TileValue)
+    (stop : Option Stop) : Type 0 where
+  pub particles : particles_of tiles ≡ moved_all w old
   pub stop_is : stop ≡ push_stop w old
-  pub current_is : (a : Axis) (p : Triple) → IsWithin p w.cells → inner_at j a p ≡ current w old a p
-  pub current_small : AllAtMost most_value j
+  pub current_is : (a : Axis) (p : Triple) → IsWithin p w.cells
+      → flux_in m tiles a p ≡ current w old a p
+
+-- before and after the push: the map and the kinds stay, and the tiles have received all
+pub record HasPushed (w : Surroundings) (old new : Plasma) (stop : Option Stop) : Type 0 where
+  pub map : new.frame.map ≡ old.frame.map
+  pub kinds : new.frame.kinds ≡ old.frame.kinds
+  pub flux : HasFlux new
+  pub pushed : IsPushed w new.frame.map (particles_of old.tiles.items) new.tiles.items stop

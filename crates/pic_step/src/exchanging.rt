@@ -4,7 +4,7 @@ ghost use Rattle.std.specs.Prelude.{◌<◌, ◌≤◌, IfOk};
 ghost use Rattle.pic_crew.specs.Teams.{most_workers};
 ghost use Rattle.pic_tile.specs.CoreState.{IsOpening};
 ghost use Rattle.pic_core.specs.Opened.{IsRoom};
-ghost use Rattle.pic_step.specs.Exchange.{HasExchanged};
+ghost use Rattle.pic_step.specs.Exchange.{HasExchanged, Exchanges};
 
 use crate::plasma::Plasma;
 use pic_core::Core;
@@ -18,7 +18,7 @@ use std::thread::Threads;
 /// a thread of its own where one can be made. Each worker passes the gate.
 ///
 /// # Errors
-/// `NoMemory` where it is refused to the board; nothing is handed back then.
+/// `NoMemory` where it is refused to the board of two or more workers; nothing is handed back then.
 pub(crate) fn exchange_parcels<H: Threads + Sync, G: Gate + Sync>(
     rt: &H,
     plasma: Plasma,
@@ -29,7 +29,7 @@ pub(crate) fn exchange_parcels<H: Threads + Sync, G: Gate + Sync>(
     requires most { workers ≤ most_workers }
     requires opening { IsOpening plasma.frame plasma.tiles.items }
     requires room { IsRoom plasma.frame.map plasma.room }
-    ensures { IfOk result (HasExchanged plasma) }
+    ensures { Exchanges plasma workers result }
 {
     if workers == 1 {
         Ok(in_turn(plasma, gate))
@@ -49,7 +49,6 @@ fn in_turn<G: Gate>(plasma: Plasma, gate: &G) -> Plasma
         frame,
         tiles,
         room,
-        current,
         count,
     } = plasma;
     let mut core = Core::begin(frame, tiles, room);
@@ -60,7 +59,6 @@ fn in_turn<G: Gate>(plasma: Plasma, gate: &G) -> Plasma
         frame,
         tiles,
         room,
-        current,
         count,
     }
 }
@@ -83,7 +81,6 @@ fn at_board<H: Threads + Sync, G: Gate + Sync>(
         frame,
         tiles,
         room,
-        current,
         count,
     } = plasma;
     let done = on_board(rt, alloc, frame, tiles, workers, gate)?;
@@ -93,7 +90,6 @@ fn at_board<H: Threads + Sync, G: Gate + Sync>(
         frame,
         tiles,
         room,
-        current,
         count,
     })
 }

@@ -1,11 +1,8 @@
 //! The state of a run, and one step of it.
 #![tactic(auto)]
 
-mod collect;
-mod copy;
 mod exchanging;
 mod laws;
-mod phases;
 mod plasma;
 mod push_phase;
 mod start;

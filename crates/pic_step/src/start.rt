@@ -2,7 +2,6 @@
 
 ghost use Rattle.std.specs.Prelude.{◌≡◌, IfOk};
 ghost use Rattle.pic_grid.specs.Lattice.{field_of};
-ghost use Rattle.pic_grid.specs.Parts.{one_part};
 ghost use Rattle.pic_deck.specs.Deck.{initial_e, initial_b};
 ghost use Rattle.pic_step.specs.SerialRun.{kinds_of};
 
@@ -14,7 +13,7 @@ use std::alloc::Global;
 
 /// What a run begins with: the cells and their tiles, the multipliers, the kinds of the species, E, B
 /// and the particles. Its type keeps no more than theirs do: whether Gauss's law holds has to be
-/// tested.
+/// tested. A state begins with fields that have one part for each tile.
 #[derive(Drop)]
 pub struct Start {
     pub map: TileMap,
@@ -26,12 +25,14 @@ pub struct Start {
 }
 
 impl Start {
+    ghost use Rattle.pic_step.specs.Kept.{AreTiled};
     ghost use Rattle.pic_step.specs.SerialRun.{start_of};
     ghost use Rattle.pic_step.specs.Start.{begun};
 
     /// What a deck's run begins with, with these particles.
     pub fn new(alloc: Global, deck: &Deck, particles: Vec<Particle>) -> Result<Start, NoMemory>
-        ensures { IfOk result (λ start. begun start ≡ start_of deck.now particles.items) }
+        ensures tiled { IfOk result (λ start. AreTiled start.map start.e start.b) }
+        ensures start { IfOk result (λ start. begun start ≡ start_of deck.now particles.items) }
     {
         let kinds = kinds_of(alloc, deck)?;
         let (e, b) = fields_of(alloc, deck)?;
@@ -57,15 +58,15 @@ fn kinds_of(alloc: Global, deck: &Deck) -> Result<Vec<Kind>, NoMemory>
     Ok(kinds)
 }
 
-// the fields that a deck begins with
+// the fields that a deck begins with, with one part for each tile
 fn fields_of(alloc: Global, deck: &Deck) -> Result<(Lattice, Lattice), NoMemory>
     ensures e { IfOk result (λ both.
-        both.0 ≡ field_of deck.now.side deck.now.cells one_part (initial_e deck.now)) }
+        both.0 ≡ field_of deck.now.side deck.now.cells deck.now.tiles (initial_e deck.now)) }
     ensures b { IfOk result (λ both.
-        both.1 ≡ field_of deck.now.side deck.now.cells one_part (initial_b deck.now)) }
+        both.1 ≡ field_of deck.now.side deck.now.cells deck.now.tiles (initial_b deck.now)) }
 {
-    let mut e = Lattice::new(alloc, deck.cells(), [1; 3])?;
-    let mut b = Lattice::new(alloc, deck.cells(), [1; 3])?;
+    let mut e = Lattice::new(alloc, deck.cells(), deck.tiles())?;
+    let mut b = Lattice::new(alloc, deck.cells(), deck.tiles())?;
     deck.initial(&mut e, &mut b);
     Ok((e, b))
 }

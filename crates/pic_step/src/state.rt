@@ -2,7 +2,6 @@
 
 ghost use Rattle.std.specs.Prelude.{◌≡◌, IfOk, length};
 
-use crate::copy::copy;
 use crate::plasma::Plasma;
 use crate::start::Start;
 use crate::write::write_tiles;
@@ -14,8 +13,8 @@ use std::alloc::Global;
 use std::marker::Model;
 
 /// The state of a run. Its type keeps the limits, that the particles have the identities 0, 1, .. in
-/// order, and Gauss's law at every node. The particles are kept in tiles; contracts see them as a list
-/// in the order of their identities.
+/// order, and Gauss's law at every node. The particles are kept in tiles, and the fields have one part
+/// for each tile; contracts see a list in the order of identities, and fields of one part.
 #[derive(Drop)]
 pub struct State {
     pub(crate) scales: Scales,
@@ -36,6 +35,7 @@ impl Model for State {
 }
 
 impl State {
+    ghost use Rattle.pic_step.specs.Kept.{AreTiled};
     ghost use Rattle.pic_step.specs.SerialRun.{start_of};
     ghost use Rattle.pic_step.specs.Sound.{IsSound};
     ghost use Rattle.pic_step.specs.Start.{begun};
@@ -50,9 +50,11 @@ impl State {
         State::begin(alloc, Start::new(alloc, deck, particles)?)
     }
 
-    /// The first state of a run that begins so. The fields and the particles are moved into it.
+    /// The first state of a run that begins so. The fields, which have one part for each tile, and
+    /// the particles are moved into it.
     pub fn begin(alloc: Global, start: Start) -> Result<State, NoMemory>
-        requires { IsSound (begun start) }
+        requires sound { IsSound (begun start) }
+        requires tiled { AreTiled start.map start.e start.b }
         ensures { IfOk result (λ s. s ≡ begun start) }
     {
         let Start {
@@ -128,8 +130,8 @@ impl State {
     {
         let map = self.plasma.frame.map();
         let _tiles = map.tiles();
-        copy(&self.e, &mut to.e);
-        copy(&self.b, &mut to.b);
+        to.e.copy_from(&self.e);
+        to.b.copy_from(&self.b);
         write_tiles(&self.plasma.tiles, &mut to.particles);
     }
 }

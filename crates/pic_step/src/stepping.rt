@@ -1,17 +1,19 @@
 //! One step of the scheme, by its phases.
 
-ghost use Rattle.std.specs.Prelude.{◌≡◌, ◌<◌, ◌≤◌, IfOk};
+ghost use Rattle.std.specs.Prelude.{◌≡◌, ◌<◌, ◌≤◌, None, Err, IfOk};
+ghost use Rattle.pic_grid.specs.declared.stop.Phase.TheVariants.{Half1};
 ghost use Rattle.pic_step.specs.Keeps.{Keeps};
 ghost use Rattle.pic_step.specs.SerialRun.{Steps};
+ghost use Rattle.pic_step.specs.SerialStep.{half_stop};
 ghost use Rattle.pic_step.specs.declared.stepping.StepStop.TheVariants as step_stop;
 ghost use Rattle.pic_crew.specs.Teams.{most_workers};
 
-use crate::phases::{full, half};
 use crate::push_phase::push_phase;
 use crate::state::State;
 use pic_gate::Gate;
 use pic_grid::{Phase, Stop};
 use pic_num::NoMemory;
+use pic_phase::half;
 use std::thread::Threads;
 
 /// What ends a run in a step: a stop of the scheme, or want of memory.
@@ -46,7 +48,8 @@ impl From<NoMemory> for StepStop {
 ///
 /// # Errors
 /// `StepStop::Stop` as the serial step has it. `StepStop::NoMemory` where memory is refused to the
-/// board at which two or more workers work. Nothing is handed back then.
+/// board at which two or more workers work, behind the first half step of B. Nothing is handed back
+/// then.
 pub fn step<H: Threads + Sync, G: Gate + Sync>(
     rt: &H,
     state: State,
@@ -57,6 +60,8 @@ pub fn step<H: Threads + Sync, G: Gate + Sync>(
     requires most { workers ≤ most_workers }
     ensures steps { Steps state result }
     ensures keeps { IfOk result (Keeps state) }
+    ensures memory { result ≡ Err step_stop.NoMemory
+        → (1 < workers) × (half_stop Half1 state ≡ None) }
 {
     let State {
         scales,
@@ -64,15 +69,15 @@ pub fn step<H: Threads + Sync, G: Gate + Sync>(
         b,
         plasma,
     } = state;
-    let b = half(&scales, &e, b, Phase::Half1)?;
+    let b = half(rt, &scales, &e, b, Phase::Half1, workers)?;
     let pushed = push_phase(rt, &scales, &e, &b, plasma, workers, gate)?;
-    let (plasma, stop) = pushed;
+    let (mut plasma, stop) = pushed;
     match stop {
         Some(stop) => return Err(StepStop::Stop(stop)),
         None => {}
     }
-    let b = half(&scales, &e, b, Phase::Half2)?;
-    let e = full(&scales, &b, &plasma.current, e)?;
+    let b = half(rt, &scales, &e, b, Phase::Half2, workers)?;
+    let e = plasma.advance_e(rt, &scales, &b, e, workers)?;
     Ok(State {
         scales,
         e,

@@ -49,8 +49,8 @@ fn pair_of(alloc: Global, sub: Sub) -> Result<State, NoMemory> {
     };
     let kinds = Vec::from_slice(alloc, &[kind_of(1), kind_of(-1)])?;
     let particles = Vec::from_slice(alloc, &[ion, electron])?;
-    let e = Lattice::new(alloc, cells, [1; 3])?;
-    let b = Lattice::new(alloc, cells, [1; 3])?;
+    let e = Lattice::new(alloc, cells, [2, 1, 1])?;
+    let b = Lattice::new(alloc, cells, [2, 1, 1])?;
     let map = TileMap::new(cells, [2, 1, 1]);
     let start = Start {
         map,

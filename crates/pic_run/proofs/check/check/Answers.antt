@@ -10,13 +10,13 @@ returns-in-Ok g c =
     let r = g.R.Sink.told c.args.report.now in
     let opens = c.in-Ok.ensures.opens in
     let count = ap (λ (w : World). length w.particles) opens.opens.start in
-    on_opened check_outcome c.in-Ok.opened (g.S.Source.told c.args.source.now) (g.S.Source.told c.open.new.source)
+    on_opened 0 check_outcome c.in-Ok.opened (g.S.Source.told c.args.source.now) (g.S.Source.told c.open.new.source)
     (sinks (g.O.Sink.told c.args.out.now) r) (sinks (g.O.Sink.told c.put_count.new.out) r) c.put_count.result
     c.in-Ok.ensures.taken opens (c.put_count.ensures c.in-Ok.opened.deck r (omega arith))
 
 pub returns-in-Err : goal.returns-in-Err
 returns-in-Err g c =
     let o = g.O.Sink.told c.args.out.now in
-    on_stopped check_outcome c.in-Err.stop (g.S.Source.told c.args.source.now) (g.S.Source.told c.open.new.source)
+    on_stopped 0 check_outcome c.in-Err.stop (g.S.Source.told c.args.source.now) (g.S.Source.told c.open.new.source)
     (sinks o (g.R.Sink.told c.args.report.now)) (sinks o (g.R.Sink.told c.end_early.new.report)) c.end_early.result
     c.in-Err.ensures.taken c.in-Err.ensures.opens (c.end_early.ensures o)

@@ -23,13 +23,13 @@ returns-in_err-find_break c =
 pub returns-in-None : goal.returns-in-None
 returns-in-None c =
     let d = c.args.deck in
-    let start = c.in_ok-start.ensures ∙ ap (start_of d) c.in_ok-particles.ensures.value in
+    let start = c.in_ok-start.ensures.start ∙ ap (start_of d) c.in_ok-particles.ensures.value in
     let found = rw c.in-None.is at c.in_ok-find_break.ensures in
-    ready (record { deck = d; start = c.in_ok-start.start }) start (found.sound refl) (sym found.value)
+    ready (record { deck = d; start = c.in_ok-start.start }) start (found.sound refl) c.in_ok-start.ensures.tiled (sym found.value)
 
 pub returns-in-Some : goal.returns-in-Some
 returns-in-Some c =
     let d = c.args.deck in
-    let start = c.in_ok-start.ensures ∙ ap (start_of d) c.in_ok-particles.ensures.value in
+    let start = c.in_ok-start.ensures.start ∙ ap (start_of d) c.in_ok-particles.ensures.value in
     let found = rw c.in-Some.is at c.in_ok-find_break.ensures in
     broken d (begun c.in_ok-start.start) c.in-Some.at start (sym found.value)

@@ -13,13 +13,13 @@ returns-in-Ok g c =
     let now = sinks (g.O.Sink.told c.run_deck.new.out) (g.R.Sink.told c.run_deck.new.report) in
     let opens = c.in-Ok.ensures.opens in
     let d = c.in-Ok.opened.deck in
-    on_opened run_outcome c.in-Ok.opened (g.S.Source.told c.args.source.now) (g.S.Source.told c.open.new.source) before now c.run_deck.result
+    on_opened c.args.workers run_outcome c.in-Ok.opened (g.S.Source.told c.args.source.now) (g.S.Source.told c.open.new.source) before now c.run_deck.result
     c.in-Ok.ensures.taken opens
-    (subst (λ (w : World). Finishes (dump_outcome (header_of d) w) before now c.run_deck.result) opens.opens.start c.run_deck.ensures)
+    (subst (λ (w : World). Finishes c.args.workers (dump_outcome (header_of d) w) before now c.run_deck.result) opens.opens.start c.run_deck.ensures)
 
 pub returns-in-Err : goal.returns-in-Err
 returns-in-Err g c =
     let o = g.O.Sink.told c.args.out.now in
-    on_stopped run_outcome c.in-Err.stop (g.S.Source.told c.args.source.now) (g.S.Source.told c.open.new.source)
+    on_stopped c.args.workers run_outcome c.in-Err.stop (g.S.Source.told c.args.source.now) (g.S.Source.told c.open.new.source)
     (sinks o (g.R.Sink.told c.args.report.now)) (sinks o (g.R.Sink.told c.end_early.new.report)) c.end_early.result
     c.in-Err.ensures.taken c.in-Err.ensures.opens (c.end_early.ensures o)

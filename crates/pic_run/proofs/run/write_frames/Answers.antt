@@ -1,4 +1,4 @@
-use Rattle.std.proofs.Common.{◌≡◌, ℕ, ◌+◌, Bool, Ok, Err, ap, sym, ◌∙◌, subst, arith}
+use Rattle.std.proofs.Common.{◌≡◌, ℕ, ◌+◌, Bool, Ok, Err, refl, ap, sym, ◌∙◌, subst, arith}
 use Rattle.std.proofs.lemmas.Result.{err_from_is_err_and}
 use Rattle.pic_io.specs.Sinks.{sinks, Wrote, outs, lines, CutAt}
 use Rattle.pic_io.proofs.Puts.{wrote_none}
@@ -52,7 +52,10 @@ pub returns-in-Err-NoMemory : goal.returns-in-Err-NoMemory
 returns-in-Err-NoMemory g c =
     let a = sinks (g.O.Sink.told c.args.out.now) (g.R.Sink.told c.args.report.now) in
     let b = sinks (g.O.Sink.told c.loop-done.out) (g.R.Sink.told c.loop-done.report) in
-    some_written c.args.plan.output c.args.plan.steps c.args.plan.every c.args.state c.loop-done.done a b c.requires.every (omega arith) c.loop-done.invariant.wrote
+    let memory = rw c.in-Err-NoMemory.field-0-is at c.in-Err-NoMemory.ensures.memory in
+    let many = (memory refl).0 in
+    some_written c.args.plan.workers c.args.plan.output c.args.plan.steps c.args.plan.every c.args.state c.loop-done.done a b (omega (arith, many))
+    c.requires.every (omega arith) c.loop-done.invariant.wrote
 
 pub write_due-requires-in-loop-done : goal.write_due-requires-in-loop-done
 write_due-requires-in-loop-done g c =

@@ -18,11 +18,11 @@ returns-in-Ok g c =
     let e = sinks (g.O.Sink.told c.write_states.new.out) (g.R.Sink.told c.write_states.new.report) in
     let h = c.args.ready.header in
     let w = c.args.ready.state in
-    let states = subst (λ (every : ℕ). WritesStates (states_outcome Dump [] (frames_of Dump h.steps every w)
+    let states = subst (λ (every : ℕ). WritesStates c.args.workers (states_outcome Dump [] (frames_of Dump h.steps every w)
     (end_of h.steps w)) b e c.write_states.result) c.every.ensures.value
-    (subst (λ (steps : ℕ). WritesStates (states_outcome Dump [] (frames_of Dump steps c.every.result w)
+    (subst (λ (steps : ℕ). WritesStates c.args.workers (states_outcome Dump [] (frames_of Dump steps c.every.result w)
     (end_of steps w)) b e c.write_states.result) c.steps.ensures.value c.write_states.ensures) in
-    headed Dump (header_bytes h) (frames_of Dump h.steps h.every w) (end_of h.steps w) (sinks o r) b e c.write_states.result
+    headed c.args.workers Dump (header_bytes h) (frames_of Dump h.steps h.every w) (end_of h.steps w) (sinks o r) b e c.write_states.result
     (wrote_out o p r (header_bytes h) c.in-Ok.ensures.bytes c.in-Ok.ensures.cause.ok) states
 
 pub returns : goal.returns

@@ -18,5 +18,5 @@ returns-in-Err g c =
     let before = sinks o (g.R.Sink.told c.args.report.now) in
     let now = sinks o (g.R.Sink.told c.end_early.new.report) in
     dump_stopped (g.S.Source.told c.args.source.now) (g.S.Source.told c.verify.new.source) before now c.end_early.result c.in-Err.stop
-    c.in-Err.ensures.verifies c.in-Err.ensures.taken
+    c.in-Err.ensures.verifies c.in-Err.ensures.taken c.in-Err.ensures.no_memory
     (subst (λ (stop : StageStop). EndsStopped stop before now c.end_early.result) c.from.ensures (c.end_early.ensures o))

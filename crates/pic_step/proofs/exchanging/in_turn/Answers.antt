@@ -13,7 +13,6 @@ returns g c =
       frame = c.close_with_room-frame.result.0;
       tiles = c.close_with_room-frame.result.1;
       room = c.close_with_room-frame.result.2;
-      current = p.current;
       count = p.count;
     }) s t (in_turn s.frame.map) c.begin-core.ensures.opened c.run_in_turn.ensures.ran c.close_with_room-frame.ensures.frame
-    c.close_with_room-frame.ensures.exchanged c.close_with_room-frame.ensures.bound c.close_with_room-frame.ensures.room refl refl
+    c.close_with_room-frame.ensures.exchanged c.close_with_room-frame.ensures.bound c.close_with_room-frame.ensures.room refl

@@ -1,7 +1,6 @@
-use Rattle.std.proofs.Common.{◌≡◌, ◌<◌, refl, sym, ap, ◌∙◌, subst}
+use Rattle.std.proofs.Common.{◌≡◌, ◌<◌, refl, sym, ap, subst}
 use Rattle.pic_tile.specs.CoreState.{particles_of}
 use Rattle.pic_tile.specs.Frame.{FrameValue}
-use Rattle.pic_tile.specs.Tiling.{Tiling}
 use Rattle.pic_step.proofs.PushPhaseLaws.{with_forces_of, opening_moves, ready_moves, pushed_by_fields}
 use Rattle.pic_step.proofs.push_phase.push_phase.Given.{Over}
 use Rattle.pic_step.proofs.push_phase.push_phase.Goals as goal
@@ -12,12 +11,10 @@ framed : (g : Over) (c : After-with_forces-frame g) → c.with_forces-frame.resu
     ≡ with_forces_of c.args.plasma.frame.map c.args.plasma.frame.kinds c.args.scales.now c.args.e.now c.args.b.now
 framed g c = c.with_forces-frame.ensures
 
-map_is : (g : Over) (c : After-with_forces-frame g) → c.with_forces-frame.result.map ≡ c.args.plasma.frame.map
-map_is g c = ap (λ (f : FrameValue). f.map) (framed g c)
-
 pub push_tiles-requires-clause-side : goal.push_tiles-requires-clause-side
 push_tiles-requires-clause-side g c κs within =
-    subst (λ (m : Tiling). 0 < m.side) (sym (map_is g (goal.at.push_tiles-requires-clause-side g c).After-with_forces-frame)) c.requires.can.side
+    let is = framed g (goal.at.push_tiles-requires-clause-side g c).After-with_forces-frame in
+    subst (λ (f : FrameValue). 0 < f.map.side) (sym is) c.requires.can.side
 
 pub push_tiles-requires-clause-opening : goal.push_tiles-requires-clause-opening
 push_tiles-requires-clause-opening g c κs within =
@@ -33,17 +30,7 @@ push_tiles-requires-clause-ready g c κs within =
     ready_moves p c.with_forces-frame.result (particles_of p.tiles.items) (ap (λ (f : FrameValue). f.map) is) (ap (λ (f : FrameValue). f.force_e.parts) is)
     c.requires.can.plasma
 
-pub returns-clause-map : goal.returns-clause-map
-returns-clause-map g c =
-    ap (λ (f : FrameValue). f.map) c.in_ok-pushed.ensures.frame ∙ map_is g (goal.at.returns-clause-map g c).After-with_forces-frame
-
-pub returns-clause-kinds : goal.returns-clause-kinds
-returns-clause-kinds g c =
-    ap (λ (f : FrameValue). f.kinds) (c.in_ok-pushed.ensures.frame ∙ framed g (goal.at.returns-clause-kinds g c).After-with_forces-frame)
-
 pub returns-clause-pushed : goal.returns-clause-pushed
 returns-clause-pushed g c =
-    let p = c.args.plasma in
-    pushed_by_fields p.frame.map p.frame.kinds c.args.scales.now c.args.e.now c.args.b.now c.with_forces-frame.result (particles_of p.tiles.items)
-    (particles_of c.in_ok-pushed.pushed.0.tiles.items) c.in_ok-pushed.pushed.1 c.in_ok-pushed.pushed.0.current
+    pushed_by_fields c.args.plasma c.in_ok-pushed.pushed.0 c.args.scales.now c.args.e.now c.args.b.now c.with_forces-frame.result c.in_ok-pushed.pushed.1
     c.requires.can.safe_e (framed g (goal.at.returns-clause-pushed g c).After-with_forces-frame) c.in_ok-pushed.ensures.pushed

@@ -1,24 +1,49 @@
-use Rattle.std.proofs.Common.{sym, ◌∙◌, subst}
+use Rattle.std.proofs.Common.{◌≡◌, sym, ap, ◌∙◌, subst}
+use Rattle.pic_grid.specs.Gather.{force_of}
+use Rattle.pic_grid.specs.Lattice.{value_at, field_of}
+use Rattle.pic_grid.specs.Parts.{one_part}
 use Rattle.pic_tile.specs.Frame.{IsForceField}
-use Rattle.pic_tile.specs.Tiling.{Tiling, grid_of}
+use Rattle.pic_tile.specs.Tiling.{Tiling, cells_of, grid_of}
 use Rattle.pic_step.proofs.PushPhaseLaws.{forced, force_field}
+use Rattle.pic_step.proofs.push_phase.with_forces.Given.{Over}
 use Rattle.pic_step.proofs.push_phase.with_forces.Goals as goal
+use Rattle.pic_step.proofs.push_phase.with_forces.Goals.{After-forces-force_e, After-forces-force_b}
+
+-- the force values of E, and those of B, on the cells of the map
+of_e : (g : Over) (c : After-forces-force_e g) → c.forces-force_e.result ≡ field_of c.args.frame.map.side (cells_of c.args.frame.map) one_part
+    (force_of c.args.scales.now.e_force (value_at c.args.e.now))
+of_e g c =
+    forced c.args.frame.map c.args.scales.now.e_force c.args.e.now c.forces-force_e.result c.into_parts-kinds.result.1.parts c.requires.e
+    (ap (λ f. f.parts) c.into_parts-kinds.ensures.e ∙ c.requires.parts) c.forces-force_e.ensures
+
+of_b : (g : Over) (c : After-forces-force_b g) → c.forces-force_b.result ≡ field_of c.args.frame.map.side (cells_of c.args.frame.map) one_part
+    (force_of c.args.scales.now.b_force (value_at c.args.b.now))
+of_b g c =
+    forced c.args.frame.map c.args.scales.now.b_force c.args.b.now c.forces-force_b.result c.into_parts-kinds.result.2.parts c.requires.b
+    (ap (λ f. f.parts) c.into_parts-kinds.ensures.b ∙ c.into_parts-kinds.ensures.frame.parts ∙ c.requires.parts) c.forces-force_b.ensures
 
 pub new-requires-clause-e : goal.new-requires-clause-e
-new-requires-clause-e c =
+new-requires-clause-e g c =
     subst (λ (m : Tiling). IsForceField (grid_of m) c.forces-force_e.result) (sym c.map-map.ensures.value)
-    (force_field c.args.frame.map c.args.scales.now.e_force c.args.e.now c.forces-force_e.result c.requires.e c.forces-force_e.ensures)
+    (force_field c.args.frame.map c.args.scales.now.e_force c.args.e.now c.forces-force_e.result c.requires.e
+    (of_e g (goal.at.new-requires-clause-e g c).After-forces-force_e))
 
 pub new-requires-clause-b : goal.new-requires-clause-b
-new-requires-clause-b c =
+new-requires-clause-b g c =
     subst (λ (m : Tiling). IsForceField (grid_of m) c.forces-force_b.result) (sym c.map-map.ensures.value)
-    (force_field c.args.frame.map c.args.scales.now.b_force c.args.b.now c.forces-force_b.result c.requires.b c.forces-force_b.ensures)
+    (force_field c.args.frame.map c.args.scales.now.b_force c.args.b.now c.forces-force_b.result c.requires.b
+    (of_b g (goal.at.new-requires-clause-b g c).After-forces-force_b))
+
+pub new-requires-clause-parts : goal.new-requires-clause-parts
+new-requires-clause-parts g c =
+    let at = goal.at.new-requires-clause-parts g c in
+    ap (λ f. f.parts) (of_b g at.After-forces-force_b) ∙ sym (ap (λ f. f.parts) (of_e g at.After-forces-force_e))
 
 pub returns : goal.returns
-returns c =
-    let m = c.args.frame.map in
-    let is_e = forced m c.args.scales.now.e_force c.args.e.now c.forces-force_e.result c.requires.e c.forces-force_e.ensures in
-    let is_b = forced m c.args.scales.now.b_force c.args.b.now c.forces-force_b.result c.requires.b c.forces-force_b.ensures in
+returns g c =
+    let at = goal.at.returns g c in
+    let is_e = of_e g at.After-forces-force_e in
+    let is_b = of_b g at.After-forces-force_b in
     let map = c.map-map.ensures.value in
     c.new.ensures ∙ (λ i. record {
       cells = grid_of (map i);

@@ -1,21 +1,26 @@
 use Rattle.std.proofs.Common.{◌≡◌, refl, sym, ap, ◌∙◌, subst, Result, Ok, Err, None, Option}
 use Rattle.std.proofs.lemmas.Result.{err_from_is_err_and}
 use Rattle.pic_num.specs.Space.{Triple}
+use Rattle.pic_grid.specs.declared.stop.Phase.TheVariants.{Half1, Half2, Electric}
 use Rattle.pic_grid.specs.declared.stop.Stop.{Stop}
+use Rattle.pic_grid.specs.Lattice.{Field}
 use Rattle.pic_tile.specs.CoreState.{particles_of}
-use Rattle.pic_tile.specs.Tiling.{cells_of}
+use Rattle.pic_tile.specs.Tiling.{Tiling, cells_of}
+use Rattle.pic_step.specs.declared.plasma.Plasma.{Plasma}
 use Rattle.pic_step.specs.declared.state.State.TheInside.{Inside}
 use Rattle.pic_step.specs.declared.stepping.StepStop.{StepStop}
+use Rattle.pic_phase.specs.Spent.{flux_in}
 use Rattle.pic_step.specs.Keeps.{Keeps}
-use Rattle.pic_step.specs.Kept.{seen}
-use Rattle.pic_step.specs.Plasma.{IsOver}
+use Rattle.pic_step.specs.Kept.{as_one, seen}
+use Rattle.pic_step.specs.Plasma.{IsPlasma}
 use Rattle.pic_step.specs.PushOn.{IsPushed}
 use Rattle.pic_step.specs.SerialRun.{Steps}
-use Rattle.pic_step.specs.SerialStep.{World, around, half_on, stepped}
+use Rattle.pic_step.specs.SerialStep.{World, around, half_on, half_stop, stepped}
 use Rattle.pic_step.specs.Sound.{IsSound}
-use Rattle.pic_step.proofs.ExitLaws.{stops_first, stops_push, stops_second, stops_last}
+use Rattle.pic_step.proofs.ExitLaws.{stops_first, stops_push, stops_second, stops_last, wants_none}
 use Rattle.pic_step.proofs.KeptLaws.{can_push, next_is}
-use Rattle.pic_step.proofs.StepLaws.{safe_small, IsHalf, is_half, half_stop_of, half_safe, pushed_on, IsBefore, is_before}
+use Rattle.pic_step.proofs.OnePartLaws.{half_one, full_one, safe_small}
+use Rattle.pic_step.proofs.StepLaws.{IsHalf, is_half, half_stop_of, half_safe, pushed_on, IsBefore, is_before}
 use Rattle.pic_step.proofs.StepLaws.{second_stop_of, before_safe, last_stop_of, IsAfter, is_after, sound_after, stepped_after, keeps_after}
 use Rattle.pic_step.proofs.stepping.step.Given.{Over}
 use Rattle.pic_step.proofs.stepping.step.Goals as goal
@@ -26,60 +31,70 @@ abbrev world : Inside → World
 world k = seen k.scales k.e k.b k.plasma
 
 -- what the first half step of B left
-half : (g : Over) (c : In_ok-b g) → IsHalf (world c.state.inside) c.in_ok-b.b
-half g c = is_half (world c.state.inside) c.in_ok-b.b c.state.invariant.sound c.in_ok-b.ensures.0 c.in_ok-b.ensures.1
+half : (g : Over) (c : In_ok-b g) → IsHalf (world c.state.inside) (as_one c.in_ok-b.b)
+half g c =
+    let k = c.state.inside in
+    let done = half_one Half1 k.scales k.e k.b (Ok c.in_ok-b.b) c.in_ok-b.ensures in
+    is_half (world k) (as_one c.in_ok-b.b) c.state.invariant.sound done.0 done.1
 
 -- what the push left
-pushed : (g : Over) (c : In-None g) → IsHalf (world c.state.inside) c.in_ok-b.b
-    → IsPushed (around (half_on (world c.state.inside))) (world c.state.inside).particles (particles_of c.in_ok-pushed.pushed.0.tiles.items) None
-    c.in_ok-pushed.pushed.0.current
+pushed : (g : Over) (c : In-None g) → IsHalf (world c.state.inside) (as_one c.in_ok-b.b)
+    → IsPushed (around (half_on (world c.state.inside))) c.in_ok-pushed.pushed.0.frame.map (world c.state.inside).particles
+    c.in_ok-pushed.pushed.0.tiles.items None
 pushed g c first =
     let w = world c.state.inside in
-    let now = particles_of c.in_ok-pushed.pushed.0.tiles.items in
-    let j = c.in_ok-pushed.pushed.0.current in
-    subst (λ (o : Option Stop). IsPushed (around (half_on w)) w.particles now o j) c.in-None.is
-    (pushed_on w c.in_ok-b.b w.kinds w.particles now c.in_ok-pushed.pushed.1 j c.state.invariant.sound first refl refl c.in_ok-pushed.ensures.pushed)
+    let q = c.in_ok-pushed.pushed.0 in
+    subst (λ (o : Option Stop). IsPushed (around (half_on w)) q.frame.map w.particles q.tiles.items o) c.in-None.is
+    (pushed_on w (as_one c.in_ok-b.b) q.frame.map q.tiles.items c.in_ok-pushed.pushed.1 c.state.invariant.sound first c.in_ok-pushed.ensures.pushed.pushed)
 
 -- what the second half step of B left
-before : (g : Over) (c : In_ok-b-2 g) → IsHalf (world c.state.inside) c.in_ok-b.b → IsBefore (world c.state.inside) c.in_ok-b-2.b
-before g c first = is_before (world c.state.inside) c.in_ok-b.b c.in_ok-b-2.b c.state.invariant.sound first c.in_ok-b-2.ensures.0 c.in_ok-b-2.ensures.1
+before : (g : Over) (c : In_ok-b-2 g) → IsHalf (world c.state.inside) (as_one c.in_ok-b.b) → IsBefore (world c.state.inside) (as_one c.in_ok-b-2.b)
+before g c first =
+    let k = c.state.inside in
+    let done = half_one Half2 k.scales k.e c.in_ok-b.b (Ok c.in_ok-b-2.b) c.in_ok-b-2.ensures in
+    is_before (world k) (as_one c.in_ok-b.b) (as_one c.in_ok-b-2.b) c.state.invariant.sound first done.0 done.1
 
 -- and the step of E: the state after the step
-after : (g : Over) (c : In_ok-e g) → IsHalf (world c.state.inside) c.in_ok-b.b
-    → IsPushed (around (half_on (world c.state.inside))) (world c.state.inside).particles (particles_of c.in_ok-pushed.pushed.0.tiles.items) None
-    c.in_ok-pushed.pushed.0.current
-    → IsBefore (world c.state.inside) c.in_ok-b-2.b
-    → IsAfter (world c.state.inside) c.in_ok-e.e c.in_ok-b-2.b (particles_of c.in_ok-pushed.pushed.0.tiles.items)
+after : (g : Over) (c : In_ok-e g) → IsHalf (world c.state.inside) (as_one c.in_ok-b.b)
+    → IsPushed (around (half_on (world c.state.inside))) c.in_ok-pushed.pushed.0.frame.map (world c.state.inside).particles
+    c.in_ok-pushed.pushed.0.tiles.items None
+    → IsBefore (world c.state.inside) (as_one c.in_ok-b-2.b)
+    → IsAfter (world c.state.inside) (as_one c.in_ok-e.e) (as_one c.in_ok-b-2.b) (particles_of c.advance_e.new.self.tiles.items)
 after g c first free second =
     let k = c.state.inside in
-    let now = particles_of c.in_ok-pushed.pushed.0.tiles.items in
-    is_after (world k) c.in_ok-b.b c.in_ok-b-2.b c.in_ok-e.e now now c.in_ok-pushed.pushed.0.current c.state.invariant.sound first free
-    second refl c.in_ok-e.ensures.0 c.in_ok-e.ensures.1
+    let q = c.in_ok-pushed.pushed.0 in
+    let done = full_one Electric k.scales c.in_ok-b-2.b k.e (flux_in q.frame.map q.tiles.items) (Ok c.in_ok-e.e) c.in_ok-e.ensures.fields in
+    is_after (world k) (as_one c.in_ok-b.b) (as_one c.in_ok-b-2.b) (as_one c.in_ok-e.e) q.frame.map q.tiles.items
+    (particles_of c.advance_e.new.self.tiles.items) c.state.invariant.sound first free second c.in_ok-e.ensures.particles done.0 done.1
 
 -- the state after the step, by its parts
 next : (g : Over) (c : In_ok-e g) → record (world c.state.inside) {
-  e = c.in_ok-e.e;
-  b = c.in_ok-b-2.b;
-  particles = particles_of c.in_ok-pushed.pushed.0.tiles.items;
-} ≡ seen c.state.inside.scales c.in_ok-e.e c.in_ok-b-2.b c.in_ok-pushed.pushed.0
+  e = as_one c.in_ok-e.e;
+  b = as_one c.in_ok-b-2.b;
+  particles = particles_of c.advance_e.new.self.tiles.items;
+} ≡ seen c.state.inside.scales c.in_ok-e.e c.in_ok-b-2.b c.advance_e.new.self
 next g c =
     let k = c.state.inside in
-    next_is k.scales k.e k.b c.in_ok-e.e c.in_ok-b-2.b k.plasma c.in_ok-pushed.pushed.0 c.in_ok-pushed.ensures.map c.in_ok-pushed.ensures.kinds
+    let frame = c.in_ok-e.ensures.frame in
+    next_is k.scales k.e k.b c.in_ok-e.e c.in_ok-b-2.b k.plasma c.advance_e.new.self
+    (ap (λ f. f.map) frame ∙ c.in_ok-pushed.ensures.pushed.map) (ap (λ f. f.kinds) frame ∙ c.in_ok-pushed.ensures.pushed.kinds)
 
 pub returns-in_err-b-clause-steps : goal.returns-in_err-b-clause-steps
 returns-in_err-b-clause-steps g c =
-    let w = world c.state.inside in
+    let k = c.state.inside in
+    let w = world k in
     let exit = err_from_is_err_and c.from_residual.result c.from_residual.ensures.1 in
     subst (λ (r : Result World StepStop). Steps c.args.state r) (sym (exit.1 ∙ ap Err exit.2))
-    (ap stepped (sym c.state.view_is) ∙ stops_first w _ (half_stop_of w _ c.state.invariant.sound c.in_err-b.ensures))
+    (ap stepped (sym c.state.view_is)
+    ∙ stops_first w _ (half_stop_of w _ c.state.invariant.sound (half_one Half1 k.scales k.e k.b (Err _) c.in_err-b.ensures)))
 
 pub half-requires-clause-e_small : goal.half-requires-clause-e_small
-half-requires-clause-e_small g c =
+half-requires-clause-e_small g c κs within =
     let k = c.state.inside in
     safe_small k.plasma.frame.map.side (cells_of k.plasma.frame.map) k.scales.e_force k.e c.state.invariant.sound.e
 
 pub half-requires-clause-b_small : goal.half-requires-clause-b_small
-half-requires-clause-b_small g c =
+half-requires-clause-b_small g c κs within =
     let k = c.state.inside in
     safe_small k.plasma.frame.map.side (cells_of k.plasma.frame.map) k.scales.b_force k.b c.state.invariant.sound.b
 
@@ -87,7 +102,7 @@ pub push_phase-requires-clause-can : goal.push_phase-requires-clause-can
 push_phase-requires-clause-can g c κs within =
     let k = c.state.inside in
     let first = half g (goal.at.push_phase-requires-clause-can g c).In_ok-b in
-    can_push k.scales k.e k.b c.in_ok-b.b k.plasma c.state.invariant (half_safe (world k) c.in_ok-b.b c.state.invariant.sound first)
+    can_push k.scales k.e k.b c.in_ok-b.b k.plasma c.state.invariant (half_safe (world k) (as_one c.in_ok-b.b) c.state.invariant.sound first)
 
 pub returns-in_err-pushed-clause-steps : goal.returns-in_err-pushed-clause-steps
 returns-in_err-pushed-clause-steps g c =
@@ -97,46 +112,68 @@ returns-in_err-pushed-clause-steps g c =
 pub returns-in-Some-clause-steps : goal.returns-in-Some-clause-steps
 returns-in-Some-clause-steps g c =
     let w = world c.state.inside in
+    let q = c.in_ok-pushed.pushed.0 in
     let first = half g (goal.at.returns-in-Some-clause-steps g c).In_ok-b in
-    let free = pushed_on w c.in_ok-b.b w.kinds w.particles (particles_of c.in_ok-pushed.pushed.0.tiles.items) c.in_ok-pushed.pushed.1
-    c.in_ok-pushed.pushed.0.current c.state.invariant.sound first refl refl c.in_ok-pushed.ensures.pushed in
+    let free = pushed_on w (as_one c.in_ok-b.b) q.frame.map q.tiles.items c.in_ok-pushed.pushed.1 c.state.invariant.sound first
+    c.in_ok-pushed.ensures.pushed.pushed in
     ap stepped (sym c.state.view_is) ∙ stops_push w c.in-Some.stop first.none (sym free.stop_is ∙ c.in-Some.is)
 
 pub half-requires-2-clause-e_small : goal.half-requires-2-clause-e_small
-half-requires-2-clause-e_small g c =
+half-requires-2-clause-e_small g c κs within =
     let k = c.state.inside in safe_small k.plasma.frame.map.side (cells_of k.plasma.frame.map) k.scales.e_force k.e c.state.invariant.sound.e
 
 pub half-requires-2-clause-b_small : goal.half-requires-2-clause-b_small
-half-requires-2-clause-b_small g c =
+half-requires-2-clause-b_small g c κs within =
     let k = c.state.inside in
     let first = half g (goal.at.half-requires-2-clause-b_small g c).In_ok-b in
-    safe_small k.plasma.frame.map.side (cells_of k.plasma.frame.map) k.scales.b_force c.in_ok-b.b (half_safe (world k) c.in_ok-b.b c.state.invariant.sound first)
+    safe_small k.plasma.frame.map.side (cells_of k.plasma.frame.map) k.scales.b_force c.in_ok-b.b
+    (half_safe (world k) (as_one c.in_ok-b.b) c.state.invariant.sound first)
 
 pub returns-in_err-b-2-clause-steps : goal.returns-in_err-b-2-clause-steps
 returns-in_err-b-2-clause-steps g c =
-    let w = world c.state.inside in
+    let k = c.state.inside in
+    let w = world k in
     let at = goal.at.returns-in_err-b-2-clause-steps g c in
     let first = half g at.In_ok-b in
     let free = pushed g at.In-None first in
     let exit = err_from_is_err_and c.from_residual-in_err-b-2.result c.from_residual-in_err-b-2.ensures.1 in
     subst (λ (r : Result World StepStop). Steps c.args.state r) (sym (exit.1 ∙ ap Err exit.2))
     (ap stepped (sym c.state.view_is)
-    ∙ stops_second w _ first.none (sym free.stop_is) (second_stop_of w c.in_ok-b.b _ c.state.invariant.sound first c.in_err-b-2.ensures))
+    ∙ stops_second w _ first.none (sym free.stop_is) (second_stop_of w (as_one c.in_ok-b.b) _ c.state.invariant.sound first
+    (half_one Half2 k.scales k.e c.in_ok-b.b (Err _) c.in_err-b-2.ensures)))
 
-pub full-requires-clause-b_small : goal.full-requires-clause-b_small
-full-requires-clause-b_small g c =
-    let k = c.state.inside in
-    let at = goal.at.full-requires-clause-b_small g c in
+-- E takes its step on the cells and the tiles of the map
+pub advance_e-requires-clause-b_cells : goal.advance_e-requires-clause-b_cells
+advance_e-requires-clause-b_cells g c κs within =
+    let at = goal.at.advance_e-requires-clause-b_cells g c in
     let second = before g at.In_ok-b-2 (half g at.In_ok-b) in
-    safe_small k.plasma.frame.map.side (cells_of k.plasma.frame.map) k.scales.b_force c.in_ok-b-2.b (before_safe (world k) c.in_ok-b-2.b c.state.invariant.sound second)
+    let safe = before_safe (world c.state.inside) (as_one c.in_ok-b-2.b) c.state.invariant.sound second in
+    safe.cells ∙ sym (ap cells_of c.in_ok-pushed.ensures.pushed.map)
 
-pub full-requires-clause-e_small : goal.full-requires-clause-e_small
-full-requires-clause-e_small g c =
+pub advance_e-requires-clause-e_cells : goal.advance_e-requires-clause-e_cells
+advance_e-requires-clause-e_cells g c κs within = c.state.invariant.sound.e.cells ∙ sym (ap cells_of c.in_ok-pushed.ensures.pushed.map)
+
+pub advance_e-requires-clause-parts : goal.advance_e-requires-clause-parts
+advance_e-requires-clause-parts g c κs within = c.state.invariant.tiled.e_parts ∙ sym (ap (λ (m : Tiling). m.tiles) c.in_ok-pushed.ensures.pushed.map)
+
+pub advance_e-requires-clause-b_small : goal.advance_e-requires-clause-b_small
+advance_e-requires-clause-b_small g c κs within =
+    let k = c.state.inside in
+    let at = goal.at.advance_e-requires-clause-b_small g c in
+    let second = before g at.In_ok-b-2 (half g at.In_ok-b) in
+    safe_small k.plasma.frame.map.side (cells_of k.plasma.frame.map) k.scales.b_force c.in_ok-b-2.b
+    (before_safe (world k) (as_one c.in_ok-b-2.b) c.state.invariant.sound second)
+
+pub advance_e-requires-clause-e_small : goal.advance_e-requires-clause-e_small
+advance_e-requires-clause-e_small g c κs within =
     let k = c.state.inside in safe_small k.plasma.frame.map.side (cells_of k.plasma.frame.map) k.scales.e_force k.e c.state.invariant.sound.e
 
 pub returns-in_err-e-clause-steps : goal.returns-in_err-e-clause-steps
 returns-in_err-e-clause-steps g c =
-    let w = world c.state.inside in
+    let k = c.state.inside in
+    let w = world k in
+    let q = c.in_ok-pushed.pushed.0 in
+    let j = flux_in q.frame.map q.tiles.items in
     let at = goal.at.returns-in_err-e-clause-steps g c in
     let first = half g at.In_ok-b in
     let free = pushed g at.In-None first in
@@ -145,25 +182,29 @@ returns-in_err-e-clause-steps g c =
     subst (λ (r : Result World StepStop). Steps c.args.state r) (sym (exit.1 ∙ ap Err exit.2))
     (ap stepped (sym c.state.view_is)
     ∙ stops_last w _ first.none (sym free.stop_is) second.none
-    (last_stop_of w c.in_ok-b-2.b c.in_ok-pushed.pushed.0.current _ c.state.invariant.sound second free.current_is c.in_err-e.ensures))
-
-pub full-requires-clause-over : goal.full-requires-clause-over
-full-requires-clause-over g c =
-    let at = goal.at.full-requires-clause-over g c in
-    let second = before g at.In_ok-b-2 (half g at.In_ok-b) in
-    let cells = (before_safe (world c.state.inside) c.in_ok-b-2.b c.state.invariant.sound second).cells in
-    subst (λ (n : Triple). IsOver n c.in_ok-pushed.pushed.0.current) (ap cells_of c.in_ok-pushed.ensures.map ∙ sym cells) c.in_ok-pushed.ensures.plasma.current
+    (last_stop_of w (as_one c.in_ok-b-2.b) j _ c.state.invariant.sound second free.current_is
+    (full_one Electric k.scales c.in_ok-b-2.b k.e j (Err _) c.in_err-e.ensures.fields)))
 
 pub invariant_of-result : goal.invariant_of-result
 invariant_of-result g c =
-    let w = world c.state.inside in
+    let k = c.state.inside in
+    let w = world k in
+    let q = c.advance_e.new.self in
     let at = goal.at.invariant_of-result g c in
     let first = half g at.In_ok-b in
     let free = pushed g at.In-None first in
+    let same : k.plasma.frame.map ≡ q.frame.map = sym (ap (λ f. f.map) c.in_ok-e.ensures.frame ∙ c.in_ok-pushed.ensures.pushed.map) in
+    let tiles = ap (λ (m : Tiling). m.tiles) same in
+    let cut : Field → Triple = λ f. f.parts in
     record {
       sound = subst IsSound (next g at.In_ok-e)
-          (sound_after w c.in_ok-e.e c.in_ok-b-2.b _ c.state.invariant.sound (after g at.In_ok-e first free (before g at.In_ok-b-2 first)));
-      plasma = c.in_ok-pushed.ensures.plasma;
+          (sound_after w (as_one c.in_ok-e.e) (as_one c.in_ok-b-2.b) _ c.state.invariant.sound
+          (after g at.In_ok-e first free (before g at.In_ok-b-2 first)));
+      tiled = record {
+        e_parts = ap cut c.in_ok-e.ensures.fields.0 ∙ c.state.invariant.tiled.e_parts ∙ tiles;
+        b_parts = ap cut c.in_ok-b-2.ensures.0 ∙ ap cut c.in_ok-b.ensures.0 ∙ c.state.invariant.tiled.b_parts ∙ tiles;
+      };
+      plasma = subst (λ xs. IsPlasma xs q) (sym c.in_ok-e.ensures.particles) c.in_ok-e.ensures.plasma;
     }
 
 pub returns-clause-steps : goal.returns-clause-steps
@@ -172,7 +213,8 @@ returns-clause-steps g c =
     let at = goal.at.returns-clause-steps g c in
     let first = half g at.In_ok-b in
     ap stepped (sym c.state.view_is)
-    ∙ stepped_after w c.in_ok-e.e c.in_ok-b-2.b _ (after g at.In_ok-e first (pushed g at.In-None first) (before g at.In_ok-b-2 first))
+    ∙ stepped_after w (as_one c.in_ok-e.e) (as_one c.in_ok-b-2.b) _
+    (after g at.In_ok-e first (pushed g at.In-None first) (before g at.In_ok-b-2 first))
     ∙ ap (λ (v : World). Ok v) (next g at.In_ok-e)
 
 pub returns-clause-keeps : goal.returns-clause-keeps
@@ -181,5 +223,19 @@ returns-clause-keeps g c =
     let at = goal.at.returns-clause-keeps g c in
     let first = half g at.In_ok-b in
     let after' = after g at.In_ok-e first (pushed g at.In-None first) (before g at.In_ok-b-2 first) in
-    subst (λ (v : World). Keeps v (seen c.state.inside.scales c.in_ok-e.e c.in_ok-b-2.b c.in_ok-pushed.pushed.0)) c.state.view_is
-    (subst (Keeps w) (next g at.In_ok-e) (keeps_after w c.in_ok-e.e c.in_ok-b-2.b _ c.state.invariant.sound after'))
+    subst (λ (v : World). Keeps v (seen c.state.inside.scales c.in_ok-e.e c.in_ok-b-2.b c.advance_e.new.self)) c.state.view_is
+    (subst (Keeps w) (next g at.In_ok-e) (keeps_after w (as_one c.in_ok-e.e) (as_one c.in_ok-b-2.b) _ c.state.invariant.sound after'))
+
+pub returns-in_err-b-clause-memory : goal.returns-in_err-b-clause-memory
+returns-in_err-b-clause-memory g c wanted = absurd (wants_none _ _ c.from_residual.ensures.1 wanted)
+
+pub returns-in_err-pushed-clause-memory : goal.returns-in_err-pushed-clause-memory
+returns-in_err-pushed-clause-memory g c wanted =
+    let first = half g (goal.at.returns-in_err-pushed-clause-memory g c).In_ok-b in
+    (c.in_err-pushed.ensures.alone refl, ap (half_stop Half1) (sym c.state.view_is) ∙ first.none)
+
+pub returns-in_err-b-2-clause-memory : goal.returns-in_err-b-2-clause-memory
+returns-in_err-b-2-clause-memory g c wanted = absurd (wants_none _ _ c.from_residual-in_err-b-2.ensures.1 wanted)
+
+pub returns-in_err-e-clause-memory : goal.returns-in_err-e-clause-memory
+returns-in_err-e-clause-memory g c wanted = absurd (wants_none _ _ c.from_residual-in_err-e.ensures.1 wanted)

@@ -30,6 +30,8 @@ use Rattle.pic_grid.specs.Sums.{sum_over}
 use Rattle.pic_charge.specs.Charge.{charge_of, share}
 use Rattle.pic_charge.specs.Gauss.{MeetsGauss}
 use Rattle.pic_field.specs.FieldPhases.{IsBounded}
+use Rattle.pic_tile.specs.Tiling.{Tiling}
+use Rattle.pic_step.specs.Kept.{as_one}
 use Rattle.pic_step.specs.SerialStep.{world_of}
 use Rattle.pic_step.specs.Sound.{IsSafe, IsSound}
 use Rattle.pic_step_tests.proofs.steps.pair_of.Goals as goal
@@ -131,8 +133,16 @@ pair_sound side q v scales a b least most at low high a_is a_one b_is b_one = re
   gauss = pair_gauss side four a b (q ∷ 0 ∷ 0 ∷ []) _ _ (zeros side four) refl a_is b_is;
 }
 
-pub begin-requires : goal.begin-requires
-begin-requires c =
+pub begin-requires-clause-tiled : goal.begin-requires-clause-tiled
+begin-requires-clause-tiled c =
+    let tiles = ap (λ (m : Tiling). m.tiles) (sym c.new-map.ensures.value) in
+    record {
+      e_parts = ap (λ (f : Field). f.parts) c.in_ok-e.ensures ∙ tiles;
+      b_parts = ap (λ (f : Field). f.parts) c.in_ok-b.ensures ∙ tiles;
+    }
+
+pub begin-requires-clause-sound : goal.begin-requires-clause-sound
+begin-requires-clause-sound c =
     let cells = c.new-cells.ensures in
     let side = c.side-side.ensures in
     let q = c.side-side.result / 4 in
@@ -146,10 +156,10 @@ begin-requires c =
     let sound = pair_sound c.args.sub q (pos (s * 2048)) scales c.kind_of.result c.kind_of-2.result side.least side.most
     (omega (arith, side.value, side.least)) (omega (arith, ints)) (omega (arith, ints, side.value, side.least))
     c.kind_of.ensures.charge c.kind_of.ensures.mass c.kind_of-2.ensures.charge c.kind_of-2.ensures.mass in
-    let same : (f : Field) → f ≡ zeros c.new-cells.result.side c.new-cells.result.n → f ≡ zeros c.args.sub four =
+    let same : (f : Field) → as_one f ≡ zeros c.new-cells.result.side c.new-cells.result.n → as_one f ≡ zeros c.args.sub four =
     λ f is. is ∙ (λ i. zeros (cells i).side (cells i).n) in
-    let e = same c.in_ok-e.e c.in_ok-e.ensures in
-    let b = same c.in_ok-b.b c.in_ok-b.ensures in
+    let e = same c.in_ok-e.e (ap as_one c.in_ok-e.ensures) in
+    let b = same c.in_ok-b.b (ap as_one c.in_ok-b.ensures) in
     let particles = c.in_ok-particles.ensures.items ∙ ap (pair q) moves in
     let grid = c.new-map.ensures.cells ∙ cells in
     subst IsSound (sym (λ i. world_of (grid i) scales (c.in_ok-kinds.ensures.items i) (e i) (b i) (particles i))) sound

@@ -8,12 +8,14 @@ pub returns : goal.returns
 returns c =
     let s = c.args.start in
     let p = c.in_ok-plasma.plasma in
-    begun_is s.map s.scales s.kinds.items s.e s.b s.particles.items p c.tiles-map.ensures.limits c.requires c.in_ok-plasma.ensures.map c.in_ok-plasma.ensures.kinds
+    begun_is s.map s.scales s.kinds.items s.e s.b s.particles.items p c.tiles-map.ensures.limits c.requires.sound c.requires.tiled
+    c.in_ok-plasma.ensures.map c.in_ok-plasma.ensures.kinds
     (subst (λ (xs : List Particle). IsPlasma xs p) c.as_slice.ensures.value c.in_ok-plasma.ensures.plasma)
 
 pub invariant_of-result : goal.invariant_of-result
 invariant_of-result c =
     let s = c.args.start in
     let p = c.in_ok-plasma.plasma in
-    kept s.map s.scales s.kinds.items s.e s.b s.particles.items p c.tiles-map.ensures.limits c.requires c.in_ok-plasma.ensures.map c.in_ok-plasma.ensures.kinds
+    kept s.map s.scales s.kinds.items s.e s.b s.particles.items p c.tiles-map.ensures.limits c.requires.sound c.requires.tiled
+    c.in_ok-plasma.ensures.map c.in_ok-plasma.ensures.kinds
     (subst (λ (xs : List Particle). IsPlasma xs p) c.as_slice.ensures.value c.in_ok-plasma.ensures.plasma)
