@@ -36,8 +36,10 @@ const MOVED: VerifyStop = VerifyStop::Broken {
     },
 };
 
-// How many bytes are left, one that is changed and what stands there then, and the verdict.
-const CASES: [(usize, usize, u8, Result<u32, VerifyStop>); 6] = [
+// How many bytes are left, one that is changed and what stands there then, and the verdict. The last
+// rows: 65 cells on x; an end where a frame is due; another step; a value of E; the ion's x at the
+// end of the box; the kinetic energy; a frame where none is due; a kind of end.
+const CASES: [(usize, usize, u8, Result<u32, VerifyStop>); 14] = [
     (12680, 0, b'P', Ok(2)),
     (
         12679,
@@ -64,6 +66,75 @@ const CASES: [(usize, usize, u8, Result<u32, VerifyStop>); 6] = [
     ),
     (12680, 12605, 1, Err(MOVED)),
     (12679, 12605, 1, Err(MOVED)),
+    (
+        12680,
+        11,
+        65,
+        Err(VerifyStop::BadDump { place: 8, cause: 2 }),
+    ),
+    (
+        12680,
+        184,
+        b'E',
+        Err(VerifyStop::BadDump {
+            place: 184,
+            cause: 3,
+        }),
+    ),
+    (
+        12680,
+        188,
+        1,
+        Err(VerifyStop::BadDump {
+            place: 185,
+            cause: 4,
+        }),
+    ),
+    (
+        12680,
+        189,
+        0x7f,
+        Err(VerifyStop::BadDump {
+            place: 189,
+            cause: 5,
+        }),
+    ),
+    (
+        12680,
+        6335,
+        0x40,
+        Err(VerifyStop::BadDump {
+            place: 6333,
+            cause: 6,
+        }),
+    ),
+    (
+        12680,
+        6396,
+        1,
+        Err(VerifyStop::BadDump {
+            place: 6381,
+            cause: 7,
+        }),
+    ),
+    (
+        12680,
+        12674,
+        b'F',
+        Err(VerifyStop::BadDump {
+            place: 12674,
+            cause: 3,
+        }),
+    ),
+    (
+        12680,
+        12675,
+        3,
+        Err(VerifyStop::BadDump {
+            place: 12675,
+            cause: 8,
+        }),
+    ),
 ];
 
 #[test]
@@ -73,6 +144,18 @@ fn two_charges_are_verified_and_changes_found(rt: HostRuntime) -> Result<(), Fai
     for (count, at, byte, verdict_of) in &CASES {
         let made = changed(rt.alloc(), &bytes, *count, *at, *byte)?;
         assert_eq!(rt; verdict(rt.alloc(), made), *verdict_of);
+    }
+    Ok(())
+}
+
+#[test]
+fn a_cut_is_found_at_every_length(rt: HostRuntime) -> Result<(), Fail> {
+    let bytes = dump(rt.alloc())?;
+    for len in 0..12680 {
+        let front = Vec::from_slice(rt.alloc(), bytes.get(..len).expect(&rt, "a front"))?;
+        let place = u64::try_from(len).expect(&rt, "a length");
+        let cut = VerifyStop::BadDump { place, cause: 9 };
+        assert_eq!(rt; verdict(rt.alloc(), front), Err(cut));
     }
     Ok(())
 }

@@ -2,9 +2,17 @@
 #![tactic(auto)]
 
 #[cfg(test)]
+mod bounds;
+#[cfg(test)]
 mod calls;
 #[cfg(test)]
 mod dumps;
+#[cfg(test)]
+mod faults;
+#[cfg(test)]
+mod pieces;
+#[cfg(test)]
+mod rooms;
 #[cfg(test)]
 mod runs;
 #[cfg(test)]

@@ -1,8 +1,8 @@
 //! Whole runs, in values of their dumps.
 
 use crate::trial::{
-    CALM, CHARGES, ELECTRON, GRID_2, GRID_4, ION, MOVING, ONE_STEP, ONE_TILE, PAIR, Pieces, STILL,
-    TWO_TILES, WAVES, call, check,
+    CALM, CHARGES, ELECTRON, GRID_2, GRID_4, ION, MOVING, ONE_STEP, ONE_TILE, PAIR, PAIR_REPORT,
+    Pieces, STILL, TWO_TILES, WAVES, call, check,
 };
 use std::process::Abort;
 use std::thread::Threads;
@@ -54,9 +54,7 @@ const VACUUM: Run = Run {
 const TWO: Run = Run {
     deck: PAIR,
     status: 0,
-    report: b"frame 0 kinetic 70368744177664 electric 0 magnetic 0\n\
-        frame 1 kinetic 70368744177664 electric 154618822656 magnetic 0\n\
-        done 1\n",
+    report: PAIR_REPORT,
     len: 12680,
     numbers: &[
         (6434, 16, 412316860416),
@@ -138,6 +136,19 @@ const STRONG: Run = Run {
     numbers: &[(906, 16, 17596481003518)],
 };
 
+// The two charges, and two faces of B whose curl makes E's force values too large, in the first tile
+// and in the last: the step stops at the least place of all, which lies in the last tile.
+const CURLED: Pieces<'static> = &[
+    GRID_4,
+    ONE_STEP,
+    b"scale = { e_to_b = [0, 0], b_to_e = [2147483647, 0], e_force = [1, 0], b_force = [0, 0] }\n\
+    field = { faces = [[0, 0, 0, 0, 8193], [1, 2, 2, 2, 8193]] }\n",
+    ION,
+    STILL,
+    ELECTRON,
+    MOVING,
+];
+
 // Two uncharged particles, both too fast.
 const FAST: Run = Run {
     deck: &[
@@ -197,5 +208,19 @@ fn check_tiles<H: AllocGlobal + Abort + Threads + Sync>(rt: &H, grid: &[u8]) {
 fn tiles_and_workers_change_nothing(rt: HostRuntime) {
     for grid in [ONE_TILE, GRID_4, TWO_TILES] {
         check_tiles(&rt, grid);
+    }
+}
+
+#[test]
+fn the_least_place_stops_a_field_phase(rt: HostRuntime) {
+    for workers in ["1", "3", "64"] {
+        let left = call(&rt, &["run", "--workers", workers], CURLED, CALM);
+        assert_eq!(rt; left.status, 1);
+        assert_eq!(rt;
+            left.report.bytes(),
+            b"frame 0 kinetic 70368744177664 electric 0 magnetic 0\n\
+            stopped 1 field electric force 0 2 2 2 -17594333519871\n"
+                .as_slice()
+        );
     }
 }

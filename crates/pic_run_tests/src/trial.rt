@@ -46,6 +46,11 @@ pub const EMPTY: Pieces<'static> = &[GRID_2, NO_STEP, WAVES];
 /// An ion and an electron at one point; the electron moves half a cell.
 pub const PAIR: Pieces<'static> = &[GRID_4, ONE_STEP, CHARGES, ION, STILL, ELECTRON, MOVING];
 
+/// The report of their run.
+pub const PAIR_REPORT: &[u8] = b"frame 0 kinetic 70368744177664 electric 0 magnetic 0\n\
+    frame 1 kinetic 70368744177664 electric 154618822656 magnetic 0\n\
+    done 1\n";
+
 /// The ion alone, with no field: its charge breaks Gauss's law.
 pub const LONE: Pieces<'static> = &[GRID_4, ONE_STEP, CHARGES, ION, STILL];
 
@@ -67,6 +72,18 @@ pub const CALM: Faults = Faults {
     report: (NEVER, 0),
 };
 
+/// How many bytes a take gives at most, and how many `out` has room for.
+#[derive(Clone, Copy)]
+pub struct Sizes {
+    pub piece: usize,
+    pub room: usize,
+}
+
+pub const SMALL: Sizes = Sizes {
+    piece: 100,
+    room: 13000,
+};
+
 /// A call's status, and what stands on out and on report after it.
 #[derive(Drop)]
 pub struct Left {
@@ -85,10 +102,15 @@ pub fn owned(rt: &(impl AllocGlobal + Abort), words: &[&str]) -> Vec<String> {
     all
 }
 
-fn source_of(rt: &(impl AllocGlobal + Abort), held: Pieces<'_>, fault: u64) -> MemSource {
+fn source_of(
+    rt: &(impl AllocGlobal + Abort),
+    held: Pieces<'_>,
+    piece: usize,
+    fault: u64,
+) -> MemSource {
     let bytes = held.concat(rt.alloc()).expect(rt, "memory");
     let faults = Vec::from_slice(rt.alloc(), &[fault]).expect(rt, "memory");
-    MemSource::new(bytes, 100, faults)
+    MemSource::new(bytes, piece.max(1), faults)
 }
 
 fn sink_of(rt: &(impl AllocGlobal + Abort), room: usize, fault: (u64, usize)) -> MemSink {
@@ -103,9 +125,20 @@ pub fn call<H: AllocGlobal + Abort + Threads + Sync>(
     held: Pieces<'_>,
     faults: Faults,
 ) -> Left {
+    call_in(rt, words, held, SMALL, faults)
+}
+
+/// The same on a source and a sink of other sizes.
+pub fn call_in<H: AllocGlobal + Abort + Threads + Sync>(
+    rt: &H,
+    words: &[&str],
+    held: Pieces<'_>,
+    sizes: Sizes,
+    faults: Faults,
+) -> Left {
     let words = owned(rt, words);
-    let mut source = source_of(rt, held, faults.take);
-    let mut out = sink_of(rt, 13000, faults.out);
+    let mut source = source_of(rt, held, sizes.piece, faults.take);
+    let mut out = sink_of(rt, sizes.room, faults.out);
     let mut report = sink_of(rt, 1000, faults.report);
     let ended = pic(
         rt,
