@@ -2,9 +2,10 @@
 
     python3 tools/hostile.py [--program PROGRAM] [GROUP ..]
 
-Without a group all of them: decks, dumps, pipes, disks, slow, reads, room, growths, threads. A line is printed for each test: what
-is done, how many cases there are, how they ended, and the seconds. The exit status is 0 where each case ended as docs/FORMATS.md
-says, else 1, with the cases that didn't. It needs Linux, Python 3.11 and, for growths and threads, a C compiler (cc).
+Without a group all of them: decks, dumps, changes, reads, takes, puts, pipes, disks, slow, growths, room, threads (the last three,
+takes and puts are those of refused.py). A table is printed at the end, with a line for each test: what is done, how many cases there
+are, how they ended, and the seconds. The exit status is 0 where each case ended as docs/FORMATS.md says, else 1, with the cases that
+didn't. It needs Linux, Python 3.11 and a C compiler (cc).
 """
 
 import argparse
@@ -12,76 +13,81 @@ import fcntl
 import os
 import random
 import resource
-import subprocess
 import sys
 import tempfile
 import time
-import tomllib
 from pathlib import Path
 
-from program import HOME, NEVER_SO_LONG, Program, Run, Test
+import answers
+from program import BUILT, HOME, NEVER_SO_LONG, Program, Run, Test
+from refused import PAGE, growths, puts, room, takes, threads
 
-SET_PIPE_SIZE, PAGE = 1031, 4096
-MOST_LIMITS, MOST_GROWTHS = 400, 400
-
-
-def reads_as_document(deck):
-    try:
-        tomllib.loads(deck.decode())
-        return True
-    except (UnicodeDecodeError, tomllib.TOMLDecodeError):
-        return False
+SET_PIPE_SIZE = 1031
 
 
-def is_checked(deck, ended):
-    """Whether an answer of `check` is one, and speaks of the text exactly where Python's reader finds no document either."""
-    status, out, report = ended
-    if status == 0:
-        return out.startswith(b"ok ") and out.count(b"\n") == 1 and not report and reads_as_document(deck)
-    one_line = report.endswith(b"\n") and report.count(b"\n") == 1 and not out
-    if status != 3 or not one_line or not report.startswith((b"refused ", b"gauss ")):
-        return False
-    return (report == b"refused 1 text\n") != reads_as_document(deck)
+def check_all(program, test, cases):
+    """Each deck of the cases is checked, and the answer has to be that of the model. `cases` are names and decks."""
+    for (name, deck), ended in program.each(lambda case: program.call("check", given=case[1]), cases):
+        fits = ended == answers.check(deck) or answers.is_newer(deck) and not answers.has_no_cause("check", ended)
+        test.case(name, fits, ended)
+    test.end()
 
 
 def decks(program):
     for path in sorted((HOME / "decks").glob("*.toml")):
         deck = path.read_bytes()
-        if len(deck) > 4000:
-            continue
-        test = Test(f"check, {path.name} cut at every byte")
-        for length in range(len(deck) + 1):
-            ended = program.call("check", given=deck[:length])
-            test.case(f"{length} bytes", is_checked(deck[:length], ended), ended)
-        test.end()
+        if len(deck) <= 4000:
+            cuts = ((f"{length} bytes", deck[:length]) for length in range(len(deck) + 1))
+            check_all(program, Test(f"check, {path.name} cut at every byte"), cuts)
     deck = (HOME / "decks" / "two_charges.toml").read_bytes()
     for value in b"\xff", b"\x00", b"9", b"[", b'"':
-        test = Test(f"check, two_charges.toml with each byte in turn {value!r}")
-        for place in range(len(deck)):
-            changed = deck[:place] + value + deck[place + 1:]
-            ended = program.call("check", given=changed)
-            fits = is_checked(changed, ended) and (value != b"\xff" or ended[2] == b"refused 1 text\n")
-            test.case(f"byte {place}", fits, ended)
-        test.end()
+        changed = ((f"byte {place}", deck[:place] + value + deck[place + 1:]) for place in range(len(deck)))
+        check_all(program, Test(f"check, two_charges.toml with each byte in turn {value!r}"), changed)
+
+
+def verify_all(program, test, cases):
+    """Each dump of the cases is verified, and the answer has to be that of the model."""
+    for (name, dump), ended in program.each(lambda case: program.call("verify", given=case[1]), cases):
+        test.case(name, ended == answers.verify(dump), ended)
+    test.end()
 
 
 def dumps(program):
     run = Run(program, "two_charges")
     test = Test("verify, the dump of two_charges.toml cut at every length")
-    for length in range(len(run.dump)):
-        ended = program.call("verify", given=run.dump[:length])
+    for length, ended in program.each(lambda length: program.call("verify", given=run.dump[:length]), range(len(run.dump))):
         test.case(f"{length} bytes", ended == (7, b"", b"bad dump %d 9\n" % length), ended)
     test.end()
-    test = Test("verify, the same dump with each byte in turn another")
     dice = random.Random(1)
-    for place in range(len(run.dump)):
-        changed = bytearray(run.dump)
-        changed[place] ^= dice.randint(1, 255)
-        ended = status, out, report = program.call("verify", given=bytes(changed))
-        good = status == 0 and out == b"verified 2 frames\n" and not report
-        bad = status == 7 and report.startswith(b"bad dump ") and int(report.split()[2]) <= len(run.dump) and not out
-        broken = status == 8 and report.startswith(b"broken frame ") and not out
-        test.case(f"byte {place}", (good or bad or broken) and report.count(b"\n") == (status > 0), ended)
+    changed = [(place, dice.randint(1, 255)) for place in range(len(run.dump))]
+    verify_all(program, Test("verify, the same dump with each byte in turn another"), (
+        (f"byte {place}", run.dump[:place] + bytes([run.dump[place] ^ by]) + run.dump[place + 1:]) for place, by in changed))
+
+
+# Changes of the dump of two_charges.toml: what is changed, the place, the bytes that stand there then, status and report.
+CHANGES = [
+    ("65 cells on x", 8, b"\0\0\0\x41", 7, "bad dump 8 2"),
+    ("E where a frame is due", 184, b"E", 7, "bad dump 184 3"),
+    ("step 1 in frame 0", 185, b"\0\0\0\1", 7, "bad dump 185 4"),
+    ("a value of E above 2^90", 189, b"\x7f", 7, "bad dump 189 5"),
+    ("a value of E that is 1", 204, b"\1", 8, "broken frame 0 node 0 0 0 div 1 rho 0"),
+    ("the ion's x at the end of the box", 6333, b"\0\0\x40\0", 7, "bad dump 6333 6"),
+    ("one more kinetic energy", 6381, (70368744177665).to_bytes(16, "big"), 7, "bad dump 6381 7"),
+    ("F where no frame is due", 12674, b"F", 7, "bad dump 12674 3"),
+    ("a kind of end that is none", 12675, b"\3", 7, "bad dump 12675 8"),
+    ("the electron's x in frame 1", 12602, b"\0\0\x0c\1", 8, "broken frame 1 node 0 0 0 div 412316860416 rho 412518187008"),
+    ("another first byte", 0, b"\0", 7, "bad dump 0 1"),
+    ("a byte more", 12680, b"\0", 7, "bad dump 12680 10"),
+]
+
+
+def changes(program):
+    run = Run(program, "two_charges")
+    test = Test("verify, the dump of two_charges.toml with one field another")
+    for name, place, field, status, line in CHANGES:
+        changed = run.dump[:place] + field + run.dump[place + len(field):]
+        ended = program.call("verify", given=changed)
+        test.case(name, ended == (status, b"", f"{line}\n".encode()) == answers.verify(changed), ended)
     test.end()
 
 
@@ -237,103 +243,13 @@ def reads(program):
     test.end()
 
 
-def is_short_of_memory(words, run, ended):
-    """Whether the texts are those that a call leaves which finds no memory."""
-    status, out, report = ended
-    if status != 6:
-        return False
-    if words[0] == "demo":
-        return b"".join(run.report).startswith(out) and (not out or out.endswith(b"\n")) and not report
-    if words[0] == "run" and out:
-        return run.dump.startswith(out) and len(out) in (64 + 60 * 2, *run.frame_ends) and report == run.lines_of(len(out))
-    return not out and not report
-
-
-def has_no_start(ended):
-    """Whether the loader found no memory before the program began: 127 is no status of the program."""
-    return ended[0] == 127 and not ended[1]
-
-
-def memory_calls(program):
-    """Calls that take memory: name, words, the run that they are about, input."""
-    for name, words in ("two_charges", ["check"]), ("two_charges", ["run"]), ("two_charges", ["run", "--workers", "4"]), (
-            "two_charges", ["verify"]), ("demo_7", ["run"]), ("demo_7", ["run", "--workers", "4"]), ("demo_7", ["demo", "7"]):
-        run = Run(program, name)
-        yield f"{' '.join(words)}, {name}.toml", words, run, {"verify": run.dump, "demo": b""}.get(words[0], run.deck)
-
-
-def room(program):
-    for name, words, run, given in memory_calls(program):
-        whole = program.call(*words, given=given)
-
-        def call(pages):
-            def limit():
-                resource.setrlimit(resource.RLIMIT_AS, (pages * PAGE, pages * PAGE))
-            return program.call(*words, given=given, preexec_fn=limit)
-
-        test = Test(f"{name}, with room (ulimit -v) from the least that it starts with to enough")
-        most = 1
-        while call(most) != whole:
-            most *= 2
-        least = 1
-        while call(least)[0] in (-9, -11, 127):         # the system kills what it can't begin
-            least += 1
-        for pages in range(least, most + 1, max(1, (most - least) // MOST_LIMITS)):
-            ended = call(pages)
-            if has_no_start(ended):
-                test.case(f"{pages} pages", True, ended, "not started")
-            else:
-                test.case(f"{pages} pages", ended == whole or is_short_of_memory(words, run, ended), ended)
-        test.end()
-
-
-def refusing(folder):
-    """The library that refuses memory and threads, built in a folder."""
-    library = f"{folder}/refuse.so"
-    subprocess.run(["cc", "-O2", "-shared", "-fPIC", "-o", library, HOME / "tools" / "refuse.c"], check=True)
-    return library
-
-
-def growths(program):
-    with tempfile.TemporaryDirectory() as folder:
-        refuse, count = refusing(folder), Path(folder) / "count"
-
-        def call(number):
-            count.write_bytes(bytes(8))
-            surroundings = os.environ | {"LD_PRELOAD": refuse, "REFUSE": str(number), "REFUSE_COUNT": str(count)}
-            return program.call(*words, given=given, env=surroundings)
-
-        for name, words, run, given in memory_calls(program):
-            whole = call(0)
-            number = int.from_bytes(count.read_bytes(), sys.byteorder)
-            spread = {1 + n * number // MOST_GROWTHS for n in range(MOST_GROWTHS)}
-            refused = sorted(spread | set(range(1, min(number, MOST_GROWTHS) + 1)))
-            test = Test(f"{name}, with one of {number} requests for memory refused in turn")
-            for n in refused:
-                ended = call(n)
-                test.case(f"request {n}", ended == whole or is_short_of_memory(words, run, ended), ended)
-            test.end()
-
-
-def threads(program):
-    run = Run(program, "demo_7")
-    test = Test("run, demo_7.toml, on 1 to 64 workers, with all threads refused but the first so many")
-    with tempfile.TemporaryDirectory() as folder:
-        refuse = refusing(folder)
-        for workers in 1, 2, 3, 4, 63, 64:
-            for most in 0, 1, 2, 3, 5, 70, 1000:
-                surroundings = os.environ | {"LD_PRELOAD": refuse, "REFUSE_THREADS": str(most)}
-                ended = program.call("run", "--workers", str(workers), given=run.deck, env=surroundings)
-                test.case(f"{workers} workers, {most} threads", ended == (0, run.dump, b"".join(run.report)), ended)
-    test.end()
-
-
-GROUPS = {f.__name__: f for f in (decks, dumps, pipes, disks, slow, reads, room, growths, threads)}
+GROUPS = {f.__name__: f for f in (decks, dumps, changes, reads, takes, puts, pipes, disks, slow, growths, room, threads)}
 
 
 def main():
     words = argparse.ArgumentParser(description=__doc__, formatter_class=argparse.RawDescriptionHelpFormatter)
-    words.add_argument("--program", default=HOME / "crates" / "pic_prog" / "out" / "pic_prog", type=Path)
+    words.add_argument("--program", default=BUILT, type=Path)
+    words.add_argument("--jobs", default=2, type=int, help="calls at once (default: 2)")
     words.add_argument("groups", nargs="*", metavar="GROUP", help=", ".join(GROUPS))
     chosen = words.parse_args()
     if set(chosen.groups) - set(GROUPS):
@@ -341,9 +257,8 @@ def main():
     if not chosen.program.exists():
         sys.exit(f"there is no program {chosen.program}; ./pic builds it")
     for name in chosen.groups or GROUPS:
-        GROUPS[name](Program(chosen.program))
-    print("all cases ended as they may" if not Test.wrong else f"{Test.wrong} cases ended otherwise")
-    return Test.wrong > 0
+        GROUPS[name](Program(chosen.program.resolve(), chosen.jobs))
+    return not Test.table()
 
 
 if __name__ == "__main__":

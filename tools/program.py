@@ -1,19 +1,22 @@
-"""Calls of the built program for tools/hostile.py: the program, a test's count of how its cases ended, and a deck's whole run."""
+"""Calls of the built program for the tools beside this: the program, a test's count of how its cases ended, a deck's whole run."""
 
 import subprocess
+import sys
 import time
 from collections import Counter
+from concurrent.futures import ThreadPoolExecutor
 from pathlib import Path
 
 HOME = Path(__file__).parents[1]
-NEVER_SO_LONG = 300
+BUILT = HOME / "crates" / "pic_prog" / "out" / "pic_prog"
+NEVER_SO_LONG = 600
 
 
 class Program:
     """The program, and how a call of it ended: exit status (below 0: the signal), standard output, standard error."""
 
-    def __init__(self, path):
-        self.path = path
+    def __init__(self, path, jobs=1):
+        self.path, self.jobs = path, jobs
 
     def call(self, *words, given=b"", **others):
         streams = {"stdout": subprocess.PIPE, "stderr": subprocess.PIPE, **others}
@@ -26,41 +29,64 @@ class Program:
         streams = {"stdin": subprocess.PIPE, "stdout": subprocess.PIPE, "stderr": subprocess.PIPE, **others}
         return subprocess.Popen([self.path, *words], **streams)
 
+    def each(self, call, items):
+        """The items, each with what the call gives for it, so many calls at once as there are jobs."""
+        items = list(items)
+        with ThreadPoolExecutor(self.jobs) as pool:
+            yield from zip(items, pool.map(call, items))
+
 
 class Test:
     """Counts how the cases of a test ended, and keeps those that ended otherwise than they may."""
 
-    wrong = 0
+    rows, wrong = [], 0
 
     def __init__(self, what):
-        self.what, self.ends, self.since = what, Counter(), time.monotonic()
+        self.what, self.ends, self.wrong, self.since = what, Counter(), 0, time.monotonic()
 
     def case(self, name, fits, ended, word=None):
         self.ends[word or f"status {ended[0]}"] += 1
         if not fits:
-            Test.wrong += 1
-            print(f"WRONG: {self.what}, {name}: status {ended[0]}, {ended[1][-200:]!r}, {ended[2][-200:]!r}")
+            self.wrong += 1
+            texts = [text[-200:] if text else text for text in ended[1:]]
+            print(f"WRONG: {self.what}, {name}: status {ended[0]}, {texts[0]!r}, {texts[1]!r}", flush=True)
 
     def end(self):
         ends = ", ".join(f"{count} {word}" for word, count in sorted(self.ends.items()))
-        print(f"{self.what} | {sum(self.ends.values())} cases | {ends} | {time.monotonic() - self.since:.1f} s", flush=True)
+        took = time.monotonic() - self.since
+        Test.wrong += self.wrong
+        Test.rows.append(f"| {self.what} | {sum(self.ends.values())} | {ends} | {self.wrong} | {took:.1f} |")
+        print(f"{self.what}: {ends}, {self.wrong} wrong, {took:.1f} s", file=sys.stderr, flush=True)
+
+    @classmethod
+    def table(cls):
+        """The table of all tests, and whether all cases ended as they may."""
+        print("\n| what | cases | how they ended | wrong | seconds |\n|---|---|---|---|---|")
+        print(*cls.rows, sep="\n")
+        print("\nall cases ended as they may" if not cls.wrong else f"\n{cls.wrong} cases ended otherwise")
+        return cls.wrong == 0
 
 
 class Run:
     """A deck and its whole run: the dump, the report's lines, and where the frames end in the dump."""
 
     def __init__(self, program, name):
-        self.deck = (HOME / "decks" / f"{name}.toml").read_bytes()
+        self.name, self.deck = name, (HOME / "decks" / f"{name}.toml").read_bytes()
         status, self.dump, report = program.call("run", given=self.deck)
         assert status == 0, f"{name} doesn't run"
         self.report = report.splitlines(keepends=True)
-        header = 64 + 60 * int.from_bytes(self.dump[60:64], "big")
+        self.header = 64 + 60 * int.from_bytes(self.dump[60:64], "big")
         frames = len(self.report) - 1
-        frame = (len(self.dump) - 6 - header) // frames
-        self.frame_ends = [header + (n + 1) * frame for n in range(frames)]
+        frame = (len(self.dump) - 6 - self.header) // frames
+        self.frame_ends = [self.header + (n + 1) * frame for n in range(frames)]
 
     def lines_of(self, length):
         """The lines of the frames that so long a front of the dump has whole; all lines where it is the whole dump."""
         if length >= len(self.dump):
             return b"".join(self.report)
         return b"".join(self.report[:sum(end <= length for end in self.frame_ends)])
+
+    def lines(self):
+        """Where the lines begin in the report, and how long the dump is before each."""
+        starts = [sum(map(len, self.report[:n])) for n in range(len(self.report))]
+        return list(zip(starts, [*self.frame_ends, len(self.dump)]))

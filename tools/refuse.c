@@ -1,6 +1,8 @@
 /* Preloaded into a program, refuses one of its requests for memory: the one whose number, from 1 on, stands in REFUSE. How many
    there were is kept in the file that REFUSE_COUNT names, 8 bytes long. Refuses each thread but the first so many, where
-   REFUSE_THREADS is such a number. It needs the GNU C library. For tools/hostile.py. */
+   REFUSE_THREADS is such a number. Fails the read of standard input whose number, from 0 on, is FAIL_READ; and the write whose
+   number on the stream FAIL_STREAM (1 or 2) is FAIL_WRITE, which takes FAIL_TAKES bytes first. A short write and the write of what
+   is left count as one. It needs the GNU C library. For tools/hostile.py. */
 #define _GNU_SOURCE
 #include <dlfcn.h>
 #include <errno.h>
@@ -61,4 +63,40 @@ int pthread_create(pthread_t *to, const pthread_attr_t *how, void *(*body)(void 
     if (most && atomic_fetch_add(&begun, 1) >= strtoull(most, 0, 10)) return EAGAIN;
     if (!create) *(void **)&create = dlsym(RTLD_NEXT, "pthread_create");
     return create(to, how, body, argument);
+}
+
+static long number_of(const char *name)
+{
+    const char *text = getenv(name);
+    return text ? atol(text) : -1;
+}
+
+ssize_t read(int file, void *to, size_t size)
+{
+    static _Atomic long reads;
+    static ssize_t (*real)(int, void *, size_t);
+    if (!real) *(void **)&real = dlsym(RTLD_NEXT, "read");
+    if (file == 0 && atomic_fetch_add(&reads, 1) == number_of("FAIL_READ")) {
+        errno = EIO;
+        return -1;
+    }
+    return real(file, to, size);
+}
+
+ssize_t write(int file, const void *from, size_t size)
+{
+    static _Atomic long writes;
+    static _Atomic int is_short;
+    static ssize_t (*real)(int, const void *, size_t);
+    if (!real) *(void **)&real = dlsym(RTLD_NEXT, "write");
+    if (file != number_of("FAIL_STREAM") || size == 0) return real(file, from, size);
+    long takes = number_of("FAIL_TAKES");
+    if (!is_short && atomic_fetch_add(&writes, 1) != number_of("FAIL_WRITE")) return real(file, from, size);
+    if (!is_short && takes > 0) {
+        is_short = 1;
+        return real(file, from, (size_t)takes < size ? (size_t)takes : size);
+    }
+    is_short = 0;
+    errno = EIO;
+    return -1;
 }

@@ -1,0 +1,277 @@
+"""What `check`, `run` and `verify` answer to some bytes: a model of its own, after docs/FORMATS.md, which shares no code with pic.
+
+    check(deck), run(deck), verify(dump)        each gives status, standard output, standard error
+    has_no_cause(word, ended)                   whether an answer of a command is none that docs/FORMATS.md has for it
+    is_newer(deck)                              whether a text may be TOML 1.1 and not 1.0
+
+Documents are read by Python's tomllib, which knows TOML 1.0; pic's reader knows 1.1. Dumps are those of verdicts.py, runs those of
+examples/compare.py.
+"""
+
+import re
+import sys
+import tomllib
+from math import isinf
+from pathlib import Path
+
+from verdicts import MOST_FACTOR, MOST_FORCE, MOST_PARTICLES, MOST_SHIFT, MOST_SPECIES, MOST_STEPS, verify
+
+sys.path.insert(0, str(Path(__file__).parents[1] / "examples"))
+from compare import Halt, Model, scaled
+
+__all__ = ["Refused", "check", "has_no_cause", "is_newer", "run", "verify", "walk"]
+
+MOST_BYTES, MOST_TILES = 2**20, 512
+WHOLE = (-(2**63), 2**63 - 1)
+SOURCES = {"points": (), "lattice": ("first", "gap", "count", "v"), "random": ("count", "seed", "stream", "drift", "spread"),
+           "pair": ("of", "seed", "stream", "drift", "spread")}
+
+
+class Refused(Exception):
+    """A deck is refused, with this line."""
+
+
+def limit(path, value, low, high):
+    if not low <= value <= high:
+        raise Refused(f"refused 5 limit {path} {value} {low} {high}")
+
+
+def kind(path, value, wanted):
+    if type(value) is not wanted:
+        raise Refused(f"refused 4 kind {path}")
+    return value
+
+
+def numbers(path, value, *limits):
+    """An array of whole numbers, one for each of the limits."""
+    if len(kind(path, value, list)) != len(limits):
+        raise Refused(f"refused 4 kind {path}")
+    for n, (low, high) in enumerate(limits):
+        limit(f"{path}[{n}]", kind(f"{path}[{n}]", value[n], int), low, high)
+    return value
+
+
+def multiplier(path, value):
+    return numbers(path, value, (-MOST_FACTOR, MOST_FACTOR), (0, MOST_SHIFT))
+
+
+def joined(path, key):
+    return f"{path}.{key}" if path else key
+
+
+def table(path, value, keys):
+    """A table of no keys but these."""
+    for key in sorted(set(kind(path, value, dict)) - set(keys), key=str.encode):
+        raise Refused(f"refused 2 unknown {joined(path, key)}")
+    return value
+
+
+def needed(path, value, key):
+    if key not in value:
+        raise Refused(f"refused 3 missing {joined(path, key)}")
+    return value[key]
+
+
+def number(path, value, key, low, high):
+    found = needed(path, value, key)
+    limit(f"{joined(path, key)}", kind(joined(path, key), found, int), low, high)
+    return found
+
+
+def has_wide(value):
+    """Whether a document has a number outside 64 bits."""
+    if type(value) in (dict, list):
+        return any(has_wide(each) for each in (value.values() if type(value) is dict else value))
+    return type(value) is int and not WHOLE[0] <= value <= WHOLE[1]
+
+
+def float_of(text):
+    """A float, which the reader of pic refuses where 64 bits don't hold it."""
+    if isinf(float(text)) and "inf" not in text:
+        raise ValueError("too large")
+    return float(text)
+
+
+def document(deck):
+    if len(deck) > MOST_BYTES:
+        raise Refused(f"refused 5 limit deck {MOST_BYTES + 1} 0 {MOST_BYTES}")
+    try:
+        text = deck.decode()
+        found = tomllib.loads(text.removeprefix("\ufeff"), parse_float=float_of)
+        if not has_wide(found):
+            return found
+    except (UnicodeDecodeError, tomllib.TOMLDecodeError, RecursionError, ValueError):
+        pass
+    raise Refused("refused 1 text")
+
+
+def is_newer(deck):
+    """Whether a text may be a document of TOML 1.1 and none of 1.0: an inline table over lines or with a last comma, an escape
+    of two digits, a time without seconds. So deep a nesting is here too that the two readers may differ."""
+    return bool(re.search(rb"\{[^}]*[\n,]\s*(\}|#|\n)|\{[^}]*\n|\\[xe]|\d:\d\d(?!:)|[\[{]{40}", deck, re.S))
+
+
+def walk_grid(grid):
+    table("grid", grid, ("cells", "tiles"))
+    cells = numbers("grid.cells", needed("grid", grid, "cells"), *[(2, 64)] * 3)
+    tiles = needed("grid", grid, "tiles")
+    if len(kind("grid.tiles", tiles, list)) != 3:
+        raise Refused("refused 4 kind grid.tiles")
+    for n, (tile, most) in enumerate(zip(tiles, cells)):
+        limit(f"grid.tiles[{n}]", kind(f"grid.tiles[{n}]", tile, int), 1, most // 2)
+        limit(f"grid.tiles[{n}]", most % tile, 0, 0)
+    limit("grid.tiles", tiles[0] * tiles[1] * tiles[2], 1, MOST_TILES)
+    return cells
+
+
+def rows(path, value, *limits):
+    for n, row in enumerate(kind(path, value, list)):
+        numbers(f"{path}[{n}]", row, *limits)
+    return value
+
+
+def walk_field(field, cells):
+    table("field", field, ("e", "b", "edges", "faces"))
+    for name in "e", "b":
+        numbers(f"field.{name}", field.get(name, [0, 0, 0]), WHOLE, WHOLE, WHOLE)
+    for name in "edges", "faces":
+        rows(f"field.{name}", field.get(name, []), (0, 2), *[(0, n - 1) for n in cells], WHOLE)
+
+
+def walk_draw(path, value):
+    for name in "seed", "stream":
+        number(path, value, name, 0, 2**63 - 1)
+    numbers(f"{path}.drift", needed(path, value, "drift"), *[(-(2**23), 2**23)] * 3)
+    numbers(f"{path}.spread", needed(path, value, "spread"), *[(0, 2**20)] * 3)
+
+
+def walk_source(path, species, box, counts):
+    """How many particles a species has. `counts` has those of the earlier ones, by name."""
+    given = [key for key in SOURCES if key in species]
+    if len(given) > 1:
+        raise Refused(f"refused 2 unknown {path}.{given[1]}")
+    if not given:
+        raise Refused(f"refused 3 missing {path}.points")
+    name, speeds = given[0], [(-(2**24), 2**24)] * 3
+    path, value = f"{path}.{name}", species[name]
+    if name == "points":
+        return len(rows(path, value, *box, *speeds))
+    table(path, value, SOURCES[name])
+    if name == "lattice":
+        numbers(f"{path}.first", needed(path, value, "first"), *box)
+        numbers(f"{path}.gap", needed(path, value, "gap"), *[(0, 262144)] * 3)
+        count = numbers(f"{path}.count", needed(path, value, "count"), *[(1, MOST_PARTICLES)] * 3)
+        numbers(f"{path}.v", needed(path, value, "v"), *speeds)
+        return count[0] * count[1] * count[2]
+    if name == "random":
+        count = number(path, value, "count", 0, MOST_PARTICLES)
+    elif kind(f"{path}.of", needed(path, value, "of"), str) in counts:
+        count = counts[value["of"]]
+    else:
+        raise Refused(f"refused 6 name {path}.of")
+    walk_draw(path, value)
+    return count
+
+
+def walk_species(path, species, box, counts):
+    table(path, species, ("name", "charge", "mass", "kick", "turn", *SOURCES))
+    name = kind(f"{path}.name", needed(path, species, "name"), str)
+    if not re.fullmatch("[A-Za-z0-9_]{1,32}", name) or name in counts:
+        raise Refused(f"refused 6 name {path}.name")
+    number(path, species, "charge", -32768, 32767)
+    number(path, species, "mass", 1, 65536)
+    for key in "kick", "turn":
+        multiplier(f"{path}.{key}", needed(path, species, key))
+    counts[name] = walk_source(path, species, box, counts)
+
+
+def test_force(name, multiplier, uniform, changed, cells):
+    """That no force value at the start is too large: the first place whose is. Most places have the uniform value alone."""
+    places = {}
+    for axis, i, j, k, value in changed:
+        places[axis, k, j, i] = places.get((axis, k, j, i), uniform[axis]) + value
+    for axis in range(3):
+        plain = next(((axis, k, j, i) for k in range(cells[2]) for j in range(cells[1]) for i in range(cells[0])
+                      if (axis, k, j, i) not in places), None)
+        if plain:
+            places[plain] = uniform[axis]
+    for place in sorted(places):
+        limit(f"scale.{name}", scaled(places[place], multiplier), -MOST_FORCE, MOST_FORCE)
+
+
+def walk(deck):
+    """The deck's document and the number of its particles."""
+    found = table("", document(deck), ("version", "grid", "run", "scale", "field", "species"))
+    number("", found, "version", 1, 1)
+    cells = walk_grid(kind("grid", needed("", found, "grid"), dict))
+    run = table("run", needed("", found, "run"), ("steps", "every"))
+    number("run", run, "steps", 0, MOST_STEPS)
+    number("run", run, "every", 1, MOST_STEPS)
+    names = "e_to_b", "b_to_e", "e_force", "b_force"
+    scale = table("scale", needed("", found, "scale"), names)
+    for name in names:
+        multiplier(f"scale.{name}", needed("scale", scale, name))
+    field = found.get("field", {})
+    walk_field(field, cells)
+    species, counts = kind("species", found.get("species", []), list), {}
+    limit("species", len(species), 0, MOST_SPECIES)
+    for n, each in enumerate(species):
+        walk_species(f"species[{n}]", each, [(0, 4096 * c - 1) for c in cells], counts)
+        limit(f"species[{n}]", sum(counts.values()), 0, MOST_PARTICLES)
+    for name, part, changed in ("e_force", "e", "edges"), ("b_force", "b", "faces"):
+        test_force(name, scale[name], field.get(part, [0, 0, 0]), field.get(changed, []), cells)
+    return found, sum(counts.values())
+
+
+def printed(line):
+    """A line of the report: each character of a path that isn't from ! to ~ is a question mark."""
+    head = "refused 2 unknown "
+    if line.startswith(head):
+        line = head + re.sub("[^!-~]", "?", line[len(head):])
+    return f"{line}\n".encode()
+
+
+def answered(deck, go):
+    try:
+        found, count = walk(deck)
+        return go(deck.decode().removeprefix("\ufeff"), count)
+    except Refused as line:
+        return 3, b"", printed(line.args[0])
+    except Halt as end:
+        return end.args[0], b"", f"{end.args[1]}\n".encode()
+
+
+def checked(text, count):
+    Model(text).test_gauss()
+    return 0, f"ok {count} particles\n".encode(), b""
+
+
+def ran(text, count):
+    return Model(text).run()
+
+
+def check(deck):
+    return answered(deck, checked)
+
+
+def run(deck):
+    return answered(deck, ran)
+
+
+CAUSES = {
+    (0, "check"): rb"ok \d+ particles\n", (0, "verify"): rb"verified \d+ frames\n",
+    (0, "run"): rb"(frame \d+ kinetic \d+ electric \d+ magnetic \d+\n)+done \d+\n",
+    (1, "run"): rb"(frame \d+ kinetic \d+ electric \d+ magnetic \d+\n)+stopped \d+ (field (half1|half2|electric) (value|force) "
+                rb"[012] \d+ \d+ \d+|particle \d+ (speed|turn|far) [012]) -?\d+\n",
+    (3, "check"): rb"refused (1 text|2 unknown [!-~]*|3 missing [!-~]+|4 kind [!-~]+|5 limit [!-~]+( -?\d+){3}|6 name [!-~]+)\n"
+                  rb"|gauss( \d+){3} div -?\d+ rho -?\d+\n",
+    (7, "verify"): rb"bad dump \d+ ([1-9]|10)\n", (8, "verify"): rb"broken frame \d+ node( \d+){3} div -?\d+ rho -?\d+\n"}
+CAUSES[3, "run"] = CAUSES[3, "check"]
+
+
+def has_no_cause(word, ended):
+    """Whether an answer is none of those that docs/FORMATS.md has for the command, each of which has its cause in its line."""
+    status, out, report = ended
+    texts = (report, out) if status or word == "run" else (out, report)
+    wanted = CAUSES.get((status, word))
+    return wanted is None or not re.fullmatch(wanted, texts[0]) or (word != "run" or status == 3) and texts[1] != b""

@@ -1,0 +1,145 @@
+"""What `verify` answers to a dump, for answers.py: the first fault of its bytes, or the first frame that breaks Gauss's law."""
+
+import re
+import sys
+from pathlib import Path
+from struct import unpack_from
+
+sys.path.insert(0, str(Path(__file__).parents[1] / "examples"))
+from compare import FAULTS, Halt, Model, scaled
+
+MOST_PARTICLES, MOST_FORCE, MOST_VALUE = 2**20, 2**44, 2**90
+MOST_FACTOR, MOST_SHIFT, MOST_STEPS, MOST_SPECIES = 2**31 - 1, 62, 1000000, 16
+
+
+class Bad(Exception):
+    """The bytes leave a dump's format: place and cause."""
+
+
+class Broken(Exception):
+    """A frame doesn't meet Gauss's law: its line of the report."""
+
+
+class Dump:
+    """A dump, read field by field from its front."""
+
+    def __init__(self, held):
+        self.held, self.place = held, 0
+
+    def field(self, form, size, cause, fits):
+        """A number, which has to fit. A field that the end cuts has another fault."""
+        if self.place + size > len(self.held):
+            raise Bad(len(self.held), 9)
+        if form == "wide":
+            value = int.from_bytes(self.held[self.place:self.place + 16], "big", signed=True)
+        else:
+            value = unpack_from(f">{form}", self.held, self.place)[0]
+        if not fits(value):
+            raise Bad(self.place, cause)
+        self.place += size
+        return value
+
+    def small(self, cause, fits):
+        return self.field("B", 1, cause, fits)
+
+    def natural(self, cause, fits):
+        return self.field("I", 4, cause, fits)
+
+    def signed(self, cause, fits):
+        return self.field("i", 4, cause, fits)
+
+    def factor(self):
+        return [self.signed(2, lambda n: abs(n) <= MOST_FACTOR), self.natural(2, lambda k: k <= MOST_SHIFT)]
+
+    def header(self):
+        for byte in b"PICDUMP1":
+            self.small(1, lambda found: found == byte)
+        self.cells = [self.natural(2, lambda n: 2 <= n <= 64) for _ in range(3)]
+        self.steps = self.natural(2, lambda n: n <= MOST_STEPS)
+        self.every = self.natural(2, lambda n: 1 <= n <= MOST_STEPS)
+        self.scale = {name: self.factor() for name in ("e_to_b", "b_to_e", "e_force", "b_force")}
+        self.species, names, total = [], set(), 0
+        for _ in range(self.natural(2, lambda n: n <= MOST_SPECIES)):
+            name = self.field("32s", 32, 2, lambda name: re.fullmatch(rb"[A-Za-z0-9_]{1,32}\0*", name) and name not in names)
+            names.add(name)
+            charge, mass = self.signed(2, lambda n: -32768 <= n <= 32767), self.natural(2, lambda n: 1 <= n <= 65536)
+            self.factor(), self.factor()
+            count = self.natural(2, lambda n: total + n <= MOST_PARTICLES)
+            total += count
+            self.species.append({"charge": charge, "mass": mass, "count": count})
+
+    def values(self, name):
+        """The three components of a field."""
+        def fits(value):
+            return abs(value) <= MOST_VALUE and abs(scaled(value, self.scale[name])) <= MOST_FORCE
+
+        nodes = self.cells[0] * self.cells[1] * self.cells[2]
+        return [[self.field("wide", 16, 5, fits) for _ in range(nodes)] for _ in range(3)]
+
+    def frame(self, due):
+        self.natural(4, lambda step: step == due)
+        self.electric, self.magnetic = self.values("e_force"), self.values("b_force")
+        self.particles = []
+        for kind in self.species:
+            for _ in range(kind["count"]):
+                position = [self.natural(6, lambda x: x < 4096 * n) for n in self.cells]
+                velocity = [self.signed(6, lambda v: -16779264 <= v <= 16779263) for _ in range(3)]
+                self.particles.append((kind, position, velocity))
+        kinetic = sum(kind["mass"] * sum(c * c for c in velocity) for kind, _, velocity in self.particles)
+        squares = (sum(scaled(v, self.scale[name]) ** 2 for part in field for v in part)
+                   for field, name in ((self.electric, "e_force"), (self.magnetic, "b_force")))
+        for energy in kinetic, *squares:
+            self.field("wide", 16, 7, lambda found: found % 2**128 == energy)
+
+    def test_gauss(self, number):
+        model = object.__new__(Model)
+        model.cells, model.side, model.electric, model.particles = self.cells, 4096, self.electric, self.particles
+        nx, ny, nz = self.cells
+        model.places = [(i, j, k) for k in range(nz) for j in range(ny) for i in range(nx)]
+        model.down = [[model.at(*(c - (b == a) for b, c in enumerate(p))) for p in model.places] for a in range(3)]
+        try:
+            model.test_gauss()
+        except Halt as end:
+            raise Broken(end.args[1].replace("gauss ", f"broken frame {number} node "))
+
+    def end(self, last, following):
+        """The end record, after the frame of step `last` and before that of `following`, where one is due."""
+        ended = self.small(8, lambda kind: kind in ((1, 2) if following else (0,)))
+        self.natural(4, lambda step: last < step <= following if ended else step == self.steps)
+        if ended == 1:
+            self.small(8, lambda phase: phase in (1, 3, 4))
+            bound = self.small(8, lambda bound: bound in (1, 2))
+            self.small(8, lambda axis: axis < 3)
+            for n in self.cells:
+                self.natural(8, lambda index: index < n)
+            self.field("wide", 16, 8, lambda value: abs(value) > (MOST_VALUE if bound == 1 else MOST_FORCE))
+        if ended == 2:
+            self.natural(8, lambda identity: identity < sum(kind["count"] for kind in self.species))
+            what = self.small(8, lambda what: 0 < what < len(FAULTS))
+            self.small(8, lambda axis: axis < 3)
+            self.field("wide", 16, 8, lambda value: abs(value) > (2**40, 2**24, 4096)[what - 1])
+        if self.place < len(self.held):
+            raise Bad(self.place, 10)
+
+    def frames(self):
+        """Reads all, and counts the frames."""
+        self.header()
+        last, due, number = None, 0, 0
+        while True:
+            marks = ([70] if due is not None else []) + ([69] if number else [])
+            if self.small(3, lambda mark: mark in marks) == 69:
+                self.end(last, due)
+                return number
+            self.frame(due)
+            self.test_gauss(number)
+            last, number = due, number + 1
+            due = min(last - last % self.every + self.every, self.steps) if last < self.steps else None
+
+
+def verify(dump):
+    try:
+        return 0, b"verified %d frames\n" % Dump(dump).frames(), b""
+    except Bad as fault:
+        return 7, b"", b"bad dump %d %d\n" % fault.args
+    except Broken as line:
+        return 8, b"", f"{line.args[0]}\n".encode()
