@@ -13,7 +13,8 @@ ghost use Rattle.pic_charge.specs.Gauss.{difference_at, first_break, Agree, IsLe
 use pic_grid::{Cells, Lattice, Nodes};
 use pic_num::Axis;
 
-/// A node where the divergence of E and the charge differ, and the two numbers.
+/// A node where the divergence of E and the charge differ, and the two numbers, in 12 times the
+/// unit of charge times the cube of a cell's side.
 #[derive(Clone, Copy, Debug, PartialEq, Eq)]
 pub struct Break {
     pub node: [u32; 3],

@@ -70,7 +70,10 @@ fn size_fault(alloc: Global, size: usize) -> DeckFault
     DeckFault::from(Address::new("", "deck").limit_fault(alloc, size as i128, limits))
 }
 
-/// The deck that some bytes are, or the one refusal that the walk of them meets first.
+/// The deck that some bytes are.
+///
+/// # Errors
+/// `Refused`, with the one refusal that the walk of them meets first, or `NoMemory`.
 #[tactic(auto, using(crate::proofs::ReadingLaws::text_exactly))]
 pub fn read_deck(alloc: Global, bytes: &[u8]) -> Result<Deck, DeckFault>
     ensures walks { ReadsAs (walk bytes.now) result }

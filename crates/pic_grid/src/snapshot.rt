@@ -8,7 +8,8 @@ use crate::lattice::Lattice;
 use pic_num::{NoMemory, Particle};
 use std::alloc::Global;
 
-/// One state: the fields and the particles.
+/// One state: the fields and the particles, in the order of their identities. E and positions are
+/// those of a step, B and velocities half a step before.
 #[derive(Drop)]
 pub struct Snapshot {
     pub e: Lattice,

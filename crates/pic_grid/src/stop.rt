@@ -29,7 +29,8 @@ pub enum Stop {
         cell: [u32; 3],
         value: i128,
     },
-    /// The push of the particle `id` stops, at the number `value` on an axis.
+    /// The push of the particle `id` stops, at the number `value` on an axis: a velocity in 1/4096
+    /// sub-cell per step (`Speed`), a turn in 2^-20 (`Turn`) or a move in sub-cells (`Far`).
     Push {
         id: u32,
         what: What,
@@ -38,7 +39,8 @@ pub enum Stop {
     },
 }
 
-/// How a run ends: at its last step, or stopped in a step.
+/// How a run ends: at its last step, or stopped in a step. Steps count from 1; the state before the
+/// first is that of step 0.
 #[derive(Clone, Copy, Debug, PartialEq, Eq)]
 pub enum EndMark {
     Done { steps: u32 },

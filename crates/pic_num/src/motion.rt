@@ -12,8 +12,10 @@ pub struct Particle {
     pub v: [i32; 3],
 }
 
-/// What the particles of one species have in common: charge, mass, and the multipliers of the
-/// gathered E and B in a push.
+/// What the particles of one species have in common. The charge is in whole units; 12 times it and
+/// the cube of a cell's side is what a particle gives to the nodes. The mass, 1 to 65536, counts in
+/// the kinetic energy alone. `kick` makes of the gathered E half a step's change of velocity, in
+/// 1/4096 sub-cell per step, and `turn` of the gathered B half a step's turn, in 2^-20.
 #[derive(Clone, Copy, Debug, PartialEq, Eq)]
 pub struct Kind {
     pub charge: i32,

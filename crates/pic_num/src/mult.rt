@@ -30,6 +30,7 @@ impl Mult {
     /// The greatest `k`.
     pub const GREATEST_K: u32 = 62;
 
+    /// The multiplier `n / 2^k` of numbers within the limits.
     pub fn new(n: i32, k: u32) -> Mult
         requires { IsMultiplier (record { n = n; k = k }) }
         ensures { result ≡ record { n = n; k = k } }
@@ -48,6 +49,7 @@ impl Mult {
         Some(Mult { n, k })
     }
 
+    /// The numerator.
     pub fn n(self) -> i32
         ensures value { result ≡ self.n }
         ensures size { IsAtMost result (2 ^ 31 - 1) }
@@ -55,6 +57,7 @@ impl Mult {
         self.n
     }
 
+    /// The power of two in the denominator.
     pub fn k(self) -> u32
         ensures value { result ≡ self.k }
         ensures most { result ≤ 62 }
@@ -63,8 +66,9 @@ impl Mult {
     }
 }
 
-/// The four multipliers of a deck: what half a step takes from E to B and a step from B to E, and
-/// what the force values of E and B are.
+/// The four multipliers of a deck. `e_to_b`: B falls in half a step by the curl of E times it;
+/// `b_to_e`: E rises in a step by the curl of B times it; `e_force`, `b_force`: the force value is
+/// the value of E, of B, times it.
 #[derive(Clone, Copy, Debug, PartialEq, Eq)]
 pub struct Scales {
     pub e_to_b: Mult,

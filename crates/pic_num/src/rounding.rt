@@ -6,7 +6,8 @@ ghost use Rattle.pic_num.specs.Rounding.{IsRounded, rounded, scaled, IsTruncated
 
 use crate::mult::Mult;
 
-/// The nearest whole number to `n / d`, a half going up.
+/// The nearest whole number to `n / d`, a half going up. `d` is above 0, and both are below 2^125
+/// in size.
 pub fn rdiv(n: i128, d: i128) -> i128
     requires n_in_range { IsAtMost n (2 ^ 125 - 1) }
     requires d_above_zero { pos 0 <ℤ d }
@@ -19,7 +20,8 @@ pub fn rdiv(n: i128, d: i128) -> i128
     (2 * n + d).div_euclid(2 * d)
 }
 
-/// `v` times the multiplier `by`, rounded once to the nearest whole number, a half going up.
+/// `v` times the multiplier `by`, rounded once to the nearest whole number, a half going up. `v` is
+/// at most 2^90 in size, and the result at most 2^121.
 pub fn scale(v: i128, by: Mult) -> i128
     requires { IsAtMost v (2 ^ 90) }
     ensures value { result ≡ scaled v by }
@@ -32,7 +34,7 @@ pub fn scale(v: i128, by: Mult) -> i128
     (2 * v * n + (1 << k)) >> (k + 1)
 }
 
-/// `n / d` with its fraction dropped towards 0.
+/// `n / d` with its fraction dropped towards 0. `d` isn't 0, and both are below 2^125 in size.
 pub fn trunc_div(n: i128, d: i128) -> i128
     requires n_in_range { IsAtMost n (2 ^ 125 - 1) }
     requires d_not_zero { 0 < unsigned_abs d }
@@ -44,7 +46,8 @@ pub fn trunc_div(n: i128, d: i128) -> i128
     n / d
 }
 
-/// The place of `p` on a periodic axis of `len` places: its residue.
+/// The place of `p` on a periodic axis of `len` places, of which there is at least one: its
+/// residue.
 pub fn wrap(p: i64, len: u32) -> u32
     requires { 0 < len }
     ensures value { result ≡ residue p len }

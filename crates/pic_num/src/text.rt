@@ -20,6 +20,7 @@ impl<const N: usize> Model for Text<N> {
 }
 
 impl<const N: usize> Text<N> {
+    /// An empty text.
     pub fn new() -> Text<N>
         ensures { result ≡ [] }
     {
@@ -28,12 +29,14 @@ impl<const N: usize> Text<N> {
         }
     }
 
+    /// Its bytes.
     pub fn bytes(&self) -> &[u8]
         ensures { result.now ≡ self.now }
     {
         self.bytes.as_slice()
     }
 
+    /// Appends a piece. The room has to suffice.
     pub fn push(&mut self, piece: &[u8])
         requires { length self.old + length piece.now ≤ N }
         ensures bytes { self.new ≡ self.old ++ piece.now }
@@ -42,6 +45,7 @@ impl<const N: usize> Text<N> {
         self.bytes.try_extend_from_slice(piece).unwrap();
     }
 
+    /// Appends a byte.
     pub fn push_byte(&mut self, byte: u8)
         requires { length self.old + 1 ≤ N }
         ensures bytes { self.new ≡ self.old ++ byte ∷ [] }
@@ -51,6 +55,7 @@ impl<const N: usize> Text<N> {
     }
 
     #[tactic(auto, unfolding(crate::specs::Bytes::u32_bytes))]
+    /// Appends four bytes, big-endian.
     pub fn push_u32(&mut self, n: u32)
         requires { length self.old + 4 ≤ N }
         ensures bytes { self.new ≡ self.old ++ u32_bytes n }
@@ -60,6 +65,7 @@ impl<const N: usize> Text<N> {
     }
 
     #[tactic(auto, unfolding(crate::specs::Bytes::i32_bytes))]
+    /// Appends four bytes, big-endian, in two's complement.
     pub fn push_i32(&mut self, n: i32)
         requires { length self.old + 4 ≤ N }
         ensures bytes { self.new ≡ self.old ++ i32_bytes n }
@@ -69,6 +75,7 @@ impl<const N: usize> Text<N> {
     }
 
     #[tactic(auto, unfolding(crate::specs::Bytes::u128_bytes))]
+    /// Appends sixteen bytes, big-endian.
     pub fn push_u128(&mut self, n: u128)
         requires { length self.old + 16 ≤ N }
         ensures bytes { self.new ≡ self.old ++ u128_bytes n }
@@ -78,6 +85,7 @@ impl<const N: usize> Text<N> {
     }
 
     #[tactic(auto, unfolding(crate::specs::Bytes::i128_bytes))]
+    /// Appends sixteen bytes, big-endian, in two's complement.
     pub fn push_i128(&mut self, n: i128)
         requires { length self.old + 16 ≤ N }
         ensures bytes { self.new ≡ self.old ++ i128_bytes n }

@@ -10,7 +10,7 @@ pub enum Output {
 }
 
 /// How a run goes: what it puts of its states, how many steps it has, after how many of them a frame is
-/// due, and how many workers push the particles.
+/// due, and how many workers push the particles and step the fields.
 #[derive(Clone, Copy)]
 pub struct Plan {
     pub output: Output,

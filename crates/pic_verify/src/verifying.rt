@@ -21,6 +21,11 @@ use std::alloc::Global;
 /// record is read: the first fault or the first break is answered. All memory is taken before the first
 /// frame: where it is wanted, no more was taken than the longest header has. At most one byte is taken
 /// past the length that the header allows.
+///
+/// # Errors
+/// `VerifyStop` with the first fault of the bytes (its place, counted from 0, and its cause), or the
+/// first break of Gauss's law (its frame, counted from 0, and its least node); a failed read; or want of
+/// memory.
 pub fn verify<S: Source>(alloc: Global, source: &mut S) -> Result<u32, VerifyStop>
     ensures verifies { Verifies (S.told source.old) (S.told source.new) result }
     ensures taken { TakesAllowed (S.told source.old) (S.told source.new) }

@@ -16,8 +16,8 @@ const FASTEST_DRIFT: i64 = 8388608;
 
 const WIDEST_SPREAD: i64 = 1048576;
 
-/// How particles are drawn at random: the generator by its seed and its stream, and on each axis the
-/// mean and the spread of the velocities.
+/// How particles are drawn at random: the generator by its seed and its stream, and on each axis
+/// the mean of the velocities and their spread (standard deviation), in 1/4096 sub-cell per step.
 #[derive(Clone, Copy, Debug, PartialEq, Eq)]
 pub struct Draw {
     pub seed: u64,

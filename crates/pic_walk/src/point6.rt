@@ -2,7 +2,8 @@
 
 use pic_num::Listed;
 
-/// A particle that a deck gives: its position in sub-cells and its velocity.
+/// A particle that a deck gives: its position in sub-cells and its velocity in 1/4096 sub-cell per
+/// step.
 #[derive(Clone, Copy, Debug, PartialEq, Eq)]
 pub struct Point6 {
     pub x: [u32; 3],

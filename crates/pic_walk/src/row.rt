@@ -2,7 +2,8 @@
 
 use pic_num::{Axis, Listed};
 
-/// A value that is added to the component of E or of B on an axis at a cell.
+/// A value, in the field's own unit, that is added to the component of E or of B on an axis at a
+/// cell.
 #[derive(Clone, Copy, Debug, PartialEq, Eq)]
 pub struct Row {
     pub axis: Axis,

@@ -23,8 +23,9 @@ const MOST_SITES: i64 = 1048576;
 
 const FASTEST: i64 = 16777216;
 
-/// The sites of a lattice on which particles stand: the first of them, the way from one to the next
-/// on each axis, how many there are on each axis, and the velocity of all.
+/// The sites of a lattice on which particles stand: the first of them and the way from one to the
+/// next on each axis, in sub-cells, how many there are on each axis, and the velocity of all, in
+/// 1/4096 sub-cell per step.
 #[derive(Clone, Copy, Debug, PartialEq, Eq)]
 pub struct Sites {
     pub first: [u32; 3],
