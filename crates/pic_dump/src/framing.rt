@@ -10,7 +10,7 @@ ghost use Rattle.pic_dump.specs.DumpText.{start_bytes, values_bytes, position_by
 ghost use Rattle.pic_dump.specs.Queues.{Queues};
 
 use crate::room::{Room, make_room};
-use pic_energy::{Energies, behind_run};
+use pic_energy::Energies;
 use pic_grid::{Lattice, Place, Snapshot};
 use pic_io::{Failed, Sink};
 use pic_num::Particle;
@@ -80,7 +80,7 @@ fn put_values<O: Sink>(out: &mut O, room: &mut Room, field: &Lattice) -> Result<
         let run = field.run(place.axis, place.inner);
         put_run(out, room, run)?;
         done += run.len();
-        place = behind_run(place, run.len(), size);
+        place = place.behind_run(run.len(), size);
     }
     Ok(())
 }

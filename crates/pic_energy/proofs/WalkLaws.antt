@@ -8,12 +8,7 @@ use Rattle.pic_num.specs.Space.{Triple}
 use Rattle.pic_grid.specs.Cells.{IsWithin, count_of, index_of, place_of}
 use Rattle.pic_grid.specs.Lattice.{Field, value_at}
 use Rattle.pic_grid.proofs.CellLaws.{place_of_below}
-use Rattle.pic_grid.proofs.PlaceLaws.{IsPlace}
-
--- the number of a place further along its row
-pub further : (n : Triple) (a : Axis) (p : Triple) (i : ℕ) → place_of n a (record p { x = p.x + i }) ≡ place_of n a p + i
-unfolding place_of index_of
-further n a p i = omega arith
+use Rattle.pic_grid.proofs.PlaceLaws.{IsPlace, further}
 
 -- the values of a run stand side by side in the order of places
 pub record IsRun (f : Field) (a : Axis) (p : Triple) (run : List ℤ) : Type 0 where

@@ -4,9 +4,7 @@
 mod amounts;
 mod line;
 mod summing;
-mod walk;
 
 pub use amounts::Energies;
 pub use line::{Line, end_line, frame_line};
 pub use summing::energies;
-pub use walk::behind_run;

@@ -9,7 +9,6 @@ ghost use Rattle.pic_grid.specs.PushPhase.{kind_of};
 ghost use Rattle.pic_energy.specs.Energies.{square_of, speed_square, kinetic_of, kinetic_sum, square_sum, energies_of, HasMass, IsOfKinds, IsBounded};
 
 use crate::amounts::Energies;
-use crate::walk::behind_run;
 use pic_grid::{Lattice, Place, Snapshot};
 use pic_num::{Kind, Mult, Particle, Scales, scale};
 
@@ -105,7 +104,7 @@ fn squares(by: Mult, field: &Lattice) -> u128
         let part = squares_of(by, run);
         total += part;
         done += run.len();
-        place = behind_run(place, run.len(), size);
+        place = place.behind_run(run.len(), size);
     }
     total
 }

@@ -2,5 +2,5 @@ pub mod TwoTermLaws
 pub mod NestedLaws
 pub mod MixLaws
 pub mod SameLaws
-pub mod FlatLaws
+pub mod LayeredLaws
 pub mod HalfLaws

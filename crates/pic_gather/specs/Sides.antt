@@ -1,13 +1,14 @@
--- The places that a point is gathered from, in a lattice of one part: the number of a place is the
--- number of its axis times the number of cells, and what the cell adds on each axis.
+-- The places that a point is gathered from, in a lattice with a part for each layer of z: the number
+-- of a place in its layer is the number of its axis times the number of the layer's cells, and what
+-- the cell adds on x and y.
 use Rattle.std.specs.Prelude.{◌≡◌, ℕ, ◌*◌, ◌/◌, ◌≤◌}
 use Rattle.pic_num.specs.Limits.{most_side}
 use Rattle.pic_num.specs.Space.{Triple}
 use Rattle.pic_grid.specs.Lattice.{Field}
 use Rattle.pic_grid.specs.Pair.{IsPair, IsPairOf}
-use Rattle.pic_gather.specs.declared.flat.Side.{Side}
-use Rattle.pic_gather.specs.declared.flat.Sides.{Sides}
-use Rattle.pic_gather.specs.declared.flat.Flat.{Flat}
+use Rattle.pic_gather.specs.declared.layered.Side.{Side}
+use Rattle.pic_gather.specs.declared.layered.Sides.{Sides}
+use Rattle.pic_gather.specs.declared.layered.Layered.{Layered}
 
 -- what the two cells of a pair add on an axis of n cells, of side sub-cells each, where one cell
 -- further adds step
@@ -16,21 +17,18 @@ pub record IsSide (side n step : ℕ) (w : Side) : Type 0 where
   pub low : w.low ≡ w.pair.low * step
   pub high : w.high ≡ w.pair.high * step
 
--- the same on each axis of a lattice
+-- the same on the axes of a layer
 abbrev pub IsSideX : Field → Side → Type 0
 IsSideX f = IsSide f.side f.cells.x 1
 
 abbrev pub IsSideY : Field → Side → Type 0
 IsSideY f = IsSide f.side f.cells.y f.cells.x
 
-abbrev pub IsSideZ : Field → Side → Type 0
-IsSideZ f = IsSide f.side f.cells.z (f.cells.x * f.cells.y)
-
--- and on all of them
+-- and on all axes
 pub record AreSidesOf (f : Field) (w : Sides) : Type 0 where
   pub x : IsSideX f w.x
   pub y : IsSideY f w.y
-  pub z : IsSideZ f w.z
+  pub z : IsPair f.side f.cells.z w.z
 
 -- and the pair is that of a point
 pub record IsSideOf (side n step offset point : ℕ) (w : Side) : Type 0 where
@@ -41,10 +39,10 @@ pub record IsSideOf (side n step offset point : ℕ) (w : Side) : Type 0 where
 pub record AreSides (side : ℕ) (n : Triple) (offset : ℕ) (point : Triple) (w : Sides) : Type 0 where
   pub x : IsSideOf side n.x 1 offset point.x w.x
   pub y : IsSideOf side n.y n.x offset point.y w.y
-  pub z : IsSideOf side n.z (n.x * n.y) offset point.z w.z
+  pub z : IsPairOf side n.z offset point.z w.z
 
 -- a point's places, under a side that is none too long
-pub record IsFlat (side : ℕ) (n point : Triple) (w : Flat) : Type 0 where
+pub record IsLayered (side : ℕ) (n point : Triple) (w : Layered) : Type 0 where
   pub most : side ≤ most_side
   pub nodes : AreSides side n 0 point w.nodes
   pub middles : AreSides side n (side / 2) point w.middles

@@ -6,12 +6,13 @@ ghost use Rattle.pic_num.specs.Space.{Triple, triple, spot, AreAtMost};
 ghost use Rattle.pic_grid.specs.Lattice.{value_at};
 ghost use Rattle.pic_grid.specs.Gather.{gathered_e, gathered_b};
 ghost use Rattle.pic_grid.specs.Hat.{IsInBox};
+ghost use Rattle.pic_grid.specs.Parts.{layered};
 ghost use Rattle.pic_gather.specs.Forces.{AreForces, gathered_by};
 ghost use Rattle.pic_gather.specs.Sides.{AreSides, AreSidesOf};
 ghost use Rattle.pic_gather.specs.Stencil.{AreOn, AreThree};
 
 use crate::component::component;
-use crate::flat::{Sides, flat_component, flat_of};
+use crate::layered::{Sides, layered_component, layered_of};
 use crate::stencil::{Three, stencil_of};
 use pic_grid::Lattice;
 use pic_num::{Axis, Sub};
@@ -34,15 +35,12 @@ pub fn gather_e(force: &Lattice, point: [u32; 3]) -> [i64; 3]
 {
     let cells = force.cells();
     let sub = cells.sub();
-    match force.flat() {
-        Some(values) => {
-            let at = flat_of(cells, point);
-            flat_components(force, sub, values, at.middles, at.nodes)
-        }
-        None => {
-            let at = stencil_of(force, sub, point);
-            components(force, sub, at.middles, at.nodes)
-        }
+    if force.is_layered() {
+        let at = layered_of(cells, point);
+        layered_components(force, sub, at.middles, at.nodes)
+    } else {
+        let at = stencil_of(force, sub, point);
+        components(force, sub, at.middles, at.nodes)
     }
 }
 
@@ -57,15 +55,12 @@ pub fn gather_b(force: &Lattice, point: [u32; 3]) -> [i64; 3]
 {
     let cells = force.cells();
     let sub = cells.sub();
-    match force.flat() {
-        Some(values) => {
-            let at = flat_of(cells, point);
-            flat_components(force, sub, values, at.nodes, at.middles)
-        }
-        None => {
-            let at = stencil_of(force, sub, point);
-            components(force, sub, at.nodes, at.middles)
-        }
+    if force.is_layered() {
+        let at = layered_of(cells, point);
+        layered_components(force, sub, at.nodes, at.middles)
+    } else {
+        let at = stencil_of(force, sub, point);
+        components(force, sub, at.nodes, at.middles)
     }
 }
 
@@ -86,12 +81,10 @@ pub fn gather(force_e: &Lattice, force_b: &Lattice, point: [u32; 3]) -> Gathered
     ensures size_e { AreAtMost (spot result.e) most_force }
     ensures size_b { AreAtMost (spot result.b) most_force }
 {
-    match force_e.flat() {
-        Some(e) => match force_b.flat() {
-            Some(b) => flat_both(force_e, e, force_b, b, point),
-            None => both(force_e, force_b, point),
-        },
-        None => both(force_e, force_b, point),
+    if force_e.is_layered() {
+        layered_both(force_e, force_b, point)
+    } else {
+        both(force_e, force_b, point)
     }
 }
 
@@ -118,20 +111,14 @@ fn both(force_e: &Lattice, force_b: &Lattice, point: [u32; 3]) -> Gathered
     }
 }
 
-/// Both in lattices of one part, of which these are all values.
+/// Both in lattices with a part for each layer of z.
 #[inline(always)]
-fn flat_both(
-    force_e: &Lattice,
-    e: &[i128],
-    force_b: &Lattice,
-    b: &[i128],
-    point: [u32; 3],
-) -> Gathered
-    requires e { e.now ≡ force_e.now.values }
-    requires b { b.now ≡ force_b.now.values }
+fn layered_both(force_e: &Lattice, force_b: &Lattice, point: [u32; 3]) -> Gathered
+    requires parts { force_e.now.parts ≡ layered force_e.now.cells }
     requires in_box { IsInBox force_e.now.side force_e.now.cells (triple point) }
     requires cells { force_b.now.cells ≡ force_e.now.cells }
     requires side { force_b.now.side ≡ force_e.now.side }
+    requires parts_b { force_b.now.parts ≡ force_e.now.parts }
     requires small_e { AreForces force_e.now }
     requires small_b { AreForces force_b.now }
     ensures e { spot result.e
@@ -143,10 +130,10 @@ fn flat_both(
 {
     let cells = force_e.cells();
     let sub = cells.sub();
-    let at = flat_of(cells, point);
+    let at = layered_of(cells, point);
     Gathered {
-        e: flat_components(force_e, sub, e, at.middles, at.nodes),
-        b: flat_components(force_b, sub, b, at.nodes, at.middles),
+        e: layered_components(force_e, sub, at.middles, at.nodes),
+        b: layered_components(force_b, sub, at.nodes, at.middles),
     }
 }
 
@@ -173,19 +160,14 @@ fn components(force: &Lattice, sub: Sub, own: Three, others: Three) -> [i64; 3]
     ]
 }
 
-/// The same in a lattice of one part, of which `values` are all values.
+/// The same in a lattice with a part for each layer of z: two layers have the places of the nodes on
+/// z, and two those of the middles.
 #[inline(always)]
-fn flat_components(
-    force: &Lattice,
-    sub: Sub,
-    values: &[i128],
-    own: Sides,
-    others: Sides,
-) -> [i64; 3]
+fn layered_components(force: &Lattice, sub: Sub, own: Sides, others: Sides) -> [i64; 3]
+    requires parts { force.now.parts ≡ layered force.now.cells }
     requires side { sub ≡ force.now.side }
     requires most { force.now.side ≤ most_side }
     requires small { AreForces force.now }
-    requires values { values.now ≡ force.now.values }
     requires own { AreSidesOf force.now own }
     requires others { AreSidesOf force.now others }
     ensures value { (a b : ℕ) (point : Triple)
@@ -195,9 +177,22 @@ fn flat_components(
         ≡ gathered_by force.now.side force.now.cells a b (value_at force.now) point }
     ensures size { AreAtMost (spot result) most_force }
 {
+    let low = force.layer(others.z.low);
+    let high = force.layer(others.z.high);
+    let own_low = force.layer(own.z.low);
+    let own_high = force.layer(own.z.high);
     [
-        flat_component(force, sub, values, Axis::X, own.x, others.y, others.z),
-        flat_component(force, sub, values, Axis::Y, others.x, own.y, others.z),
-        flat_component(force, sub, values, Axis::Z, others.x, others.y, own.z),
+        layered_component(force, sub, low, high, Axis::X, own.x, others.y, others.z),
+        layered_component(force, sub, low, high, Axis::Y, others.x, own.y, others.z),
+        layered_component(
+            force,
+            sub,
+            own_low,
+            own_high,
+            Axis::Z,
+            others.x,
+            others.y,
+            own.z,
+        ),
     ]
 }

@@ -2,8 +2,8 @@
 #![tactic(auto)]
 
 mod component;
-mod flat;
 mod gathering;
+mod layered;
 mod mix;
 mod stencil;
 

@@ -9,6 +9,7 @@ pub mod RowLaws
 pub mod BlockLayerLaws
 pub mod BlockRowLaws
 pub mod RunLaws
+pub mod LayeredLaws
 pub mod SlotLaws
 pub mod FactorLaws
 pub mod FourLaws

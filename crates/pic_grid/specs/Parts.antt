@@ -1,9 +1,9 @@
 -- A lattice cut into equal parts, one block for each, x fastest.
 use Rattle.std.specs.Prelude.{◌≡◌, ℕ, ℤ, pos, ◌+◌, ◌*◌, ◌/◌, ◌^◌, ◌<◌, ◌≤◌, List, [], length, slice_index_or}
 use Rattle.pic_num.specs.declared.axis.Axis.{Axis}
-use Rattle.pic_num.specs.Space.{Triple, Spot, unwrapped}
+use Rattle.pic_num.specs.Space.{Triple, Spot, unwrapped, axis_number}
 use Rattle.pic_grid.specs.Cells.{Grid, IsCells, count_of, index_of, cell_of}
-use Rattle.pic_grid.specs.Lattice.{Field, IsParts, field_of}
+use Rattle.pic_grid.specs.Lattice.{Field, IsParts, value_at, field_of}
 use Rattle.pic_grid.specs.Block.{BlockValues, edge_at}
 
 -- one part on each axis, and the lowest cell of the grid
@@ -12,6 +12,10 @@ one_part = record { x = 1; y = 1; z = 1 }
 
 abbrev pub origin : Triple
 origin = record { x = 0; y = 0; z = 0 }
+
+-- a part for each layer of z
+abbrev pub layered : Triple → Triple
+layered n = record { x = 1; y = 1; z = n.z }
 
 -- the layers of each part of n cells
 abbrev pub part_size : Triple → Triple → Triple
@@ -70,3 +74,10 @@ value_in n parts blocks a p =
 -- the lattice of the blocks
 abbrev pub joined : Grid → Triple → List BlockValues → Field
 joined grid parts blocks = field_of grid.side grid.n parts (value_in grid.n parts blocks)
+
+-- the components of a lattice in a layer of z: x fastest, then y and the axis
+pub record IsLayer (f : Field) (z : ℕ) (values : List ℤ) : Type 0 where
+  pub long : length values ≡ 3 * (f.cells.x * f.cells.y)
+  pub at : (a : Axis) (x y : ℕ) → x < f.cells.x → y < f.cells.y
+      → slice_index_or values (axis_number a * (f.cells.x * f.cells.y) + y * f.cells.x + x) (pos 0)
+      ≡ value_at f a (record { x = x; y = y; z = z })

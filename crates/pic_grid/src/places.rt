@@ -1,6 +1,6 @@
 //! The order of places in a box of cells.
 
-ghost use Rattle.std.specs.Prelude.{◌≡◌, ◌+◌, ◌*◌, ◌^◌, ◌<◌};
+ghost use Rattle.std.specs.Prelude.{◌≡◌, ◌+◌, ◌*◌, ◌^◌, ◌<◌, ◌≤◌};
 ghost use Rattle.pic_num.specs.Space.{triple, axis_number};
 ghost use Rattle.pic_grid.specs.Cells.{IsWithin, count_of, index_of, place_of};
 
@@ -54,6 +54,25 @@ impl Place {
             axis: axis.next(),
             inner: [0, 0, 0],
         }
+    }
+
+    /// The place behind a run of `len` places from this one on, in a box of `size` layers. Behind the
+    /// last place it is one of the box again.
+    pub fn behind_run(self, len: usize, size: [u32; 3]) -> Place
+        requires some { 0 < len }
+        requires within { IsWithin (triple self.inner) (triple size) }
+        requires inside { (triple self.inner).x + len ≤ (triple size).x }
+        ensures within { IsWithin (triple result.inner) (triple size) }
+        ensures number { let behind = place_of (triple size) self.axis (triple self.inner) + len in
+            behind < 3 * count_of (triple size)
+            → place_of (triple size) result.axis (triple result.inner) ≡ behind }
+    {
+        let [x, y, z] = self.inner;
+        let last = Place {
+            axis: self.axis,
+            inner: [x + (len - 1) as u32, y, z],
+        };
+        last.following(size)
     }
 }
 

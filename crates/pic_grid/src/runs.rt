@@ -1,10 +1,11 @@
-//! Runs of a lattice: the places of one component side by side in x, up to the end of their part.
+//! Runs of a lattice: the places of one component side by side in x, up to the end of their part; and
+//! its layers, where each is a part.
 
-ghost use Rattle.std.specs.Prelude.{◌≡◌, ◌↔◌, ℕ, pos, ◌+◌, ◌<◌, ◌≤◌, length, slice_index_or, IsSome, IfSome};
+ghost use Rattle.std.specs.Prelude.{◌≡◌, ◌↔◌, ℕ, pos, ◌+◌, ◌<◌, ◌≤◌, length, slice_index_or, IsTrue};
 ghost use Rattle.pic_num.specs.Space.{triple};
-ghost use Rattle.pic_grid.specs.Cells.{IsWithin, count_of};
+ghost use Rattle.pic_grid.specs.Cells.{IsWithin};
 ghost use Rattle.pic_grid.specs.Lattice.{value_at};
-ghost use Rattle.pic_grid.specs.Parts.{part_size};
+ghost use Rattle.pic_grid.specs.Parts.{part_size, layered, IsLayer};
 ghost use Rattle.pic_grid.specs.Rows.{part_end};
 
 use crate::lattice::Lattice;
@@ -27,15 +28,26 @@ impl Lattice {
         block.run(axis, self.cells.unwrapped(cell))
     }
 
-    /// All components in the order of places, where there is one part.
-    pub fn flat(&self) -> Option<&[i128]>
-        ensures one { IsSome result ↔ (count_of self.now.parts ≡ 1) }
-        ensures values { IfSome result (λ v. v.now ≡ self.now.values) }
+    /// Whether each layer of z is a part of its own.
+    #[inline(always)]
+    pub fn is_layered(&self) -> bool
+        ensures { IsTrue result ↔ (self.now.parts ≡ layered self.now.cells) }
     {
-        if self.blocks.len() != 1 {
-            return None;
-        }
-        let block = &self.blocks[0];
-        Some(block.values.as_slice())
+        let cells = self.cells;
+        let [_, _, nz] = cells.n;
+        let [px, py, pz] = self.parts;
+        px == 1 && py == 1 && pz == nz
+    }
+
+    /// The components in a layer of z, where each is a part of its own: x fastest, then y and the
+    /// axis.
+    #[inline(always)]
+    pub fn layer(&self, z: u32) -> &[i128]
+        requires parts { self.now.parts ≡ layered self.now.cells }
+        requires below { z < self.now.cells.z }
+        ensures { IsLayer self.now z result.now }
+    {
+        let block = &self.blocks[z as usize];
+        block.values.as_slice()
     }
 }

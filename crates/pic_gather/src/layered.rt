@@ -1,5 +1,5 @@
-//! One component at a point, in a lattice of one part: all values stand in one list, and the number
-//! of a place in it is a sum of three numbers.
+//! One component at a point, in a lattice with a part for each layer of z: the values of a layer
+//! stand in one list, and the number of a place in it is a sum of three numbers.
 
 ghost use Rattle.std.specs.Prelude.{◌≡◌, pos, ◌+◌, ◌*◌, ◌/◌, ◌^◌, ◌<◌, ◌≤◌, ◌+ℤ◌, ◌*ℤ◌, slice_index_or};
 ghost use Rattle.pic_num.specs.Limits.{most_force, most_side, most_cells_of_axis};
@@ -7,15 +7,17 @@ ghost use Rattle.pic_num.specs.Rounding.{rounded};
 ghost use Rattle.pic_num.specs.Sizes.{IsAtMost};
 ghost use Rattle.pic_num.specs.Space.{triple};
 ghost use Rattle.pic_grid.specs.Hat.{IsInBox};
+ghost use Rattle.pic_grid.specs.Pair.{IsPair};
+ghost use Rattle.pic_grid.specs.Parts.{IsLayer};
 ghost use Rattle.pic_gather.specs.Forces.{AreForces, IsForce, whole_sum};
-ghost use Rattle.pic_gather.specs.Sides.{IsSideX, IsSideY, IsSideZ, AreSides, IsFlat};
+ghost use Rattle.pic_gather.specs.Sides.{IsSideX, IsSideY, AreSides, IsLayered};
 
 use crate::mix::{mean, narrow_mix, wide_mix};
 use pic_grid::{Cells, Lattice, Pair};
 use pic_num::{Axis, Sub};
 
 /// The two cells of an axis between whose places a point lies, each by what it adds to the number
-/// of a place, and the point's weights for them.
+/// of a place in its layer, and the point's weights for them.
 #[derive(Clone, Copy)]
 pub(crate) struct Side {
     pub(crate) pair: Pair,
@@ -23,17 +25,17 @@ pub(crate) struct Side {
     pub(crate) high: usize,
 }
 
-/// A point's sides on the three axes.
+/// A point's sides on x and y, and the two layers of z between whose places it lies.
 #[derive(Clone, Copy)]
 pub(crate) struct Sides {
     pub(crate) x: Side,
     pub(crate) y: Side,
-    pub(crate) z: Side,
+    pub(crate) z: Pair,
 }
 
 /// A point's sides where the places are the nodes, and where they stand in the middle between them.
 #[derive(Clone, Copy)]
-pub(crate) struct Flat {
+pub(crate) struct Layered {
     pub(crate) nodes: Sides,
     pub(crate) middles: Sides,
 }
@@ -43,7 +45,7 @@ pub(crate) struct Flat {
 fn side_of(pair: Pair, step: u32) -> Side
     requires low { pair.low < most_cells_of_axis }
     requires high { pair.high < most_cells_of_axis }
-    requires step { step ≤ most_cells_of_axis * most_cells_of_axis }
+    requires step { step ≤ most_cells_of_axis }
     ensures pair { result.pair ≡ pair }
     ensures low { result.low ≡ pair.low * step }
     ensures high { result.high ≡ pair.high * step }
@@ -70,7 +72,7 @@ fn nodes(cells: Cells, point: [u32; 3]) -> Sides
     Sides {
         x: side_of(on_x, 1),
         y: side_of(on_y, nx),
-        z: side_of(on_z, nx * ny),
+        z: on_z,
     }
 }
 
@@ -89,18 +91,18 @@ fn middles(cells: Cells, point: [u32; 3]) -> Sides
     Sides {
         x: side_of(on_x, 1),
         y: side_of(on_y, nx),
-        z: side_of(on_z, nx * ny),
+        z: on_z,
     }
 }
 
-/// The places of a point, in sub-cells, in each lattice of these cells and one part.
+/// The places of a point, in sub-cells, in each lattice of these cells with a part for each layer.
 #[inline(always)]
-pub(crate) fn flat_of(cells: Cells, point: [u32; 3]) -> Flat
+pub(crate) fn layered_of(cells: Cells, point: [u32; 3]) -> Layered
     requires { IsInBox cells.side cells.n (triple point) }
-    ensures { IsFlat cells.side cells.n (triple point) result }
+    ensures { IsLayered cells.side cells.n (triple point) result }
 {
     let _side = cells.sub().side();
-    Flat {
+    Layered {
         nodes: nodes(cells, point),
         middles: middles(cells, point),
     }
@@ -122,33 +124,37 @@ fn row(values: &[i128], start: usize, x: Side) -> i64
     narrow_mix(low, high, x.pair)
 }
 
-/// One component of `force` at the point of three pairs; `values` are all its values.
+/// One component of `force` at the point of three pairs; `low` and `high` are the values of the two
+/// layers of `z`.
 #[inline(always)]
-pub(crate) fn flat_component(
+pub(crate) fn layered_component(
     force: &Lattice,
     sub: Sub,
-    values: &[i128],
+    low: &[i128],
+    high: &[i128],
     axis: Axis,
     x: Side,
     y: Side,
-    z: Side,
+    z: Pair,
 ) -> i64
-    requires values { values.now ≡ force.now.values }
+    requires low { IsLayer force.now z.low low.now }
+    requires high { IsLayer force.now z.high high.now }
     requires side { sub ≡ force.now.side }
     requires most { force.now.side ≤ most_side }
     requires small { AreForces force.now }
     requires x_on { IsSideX force.now x }
     requires y_on { IsSideY force.now y }
-    requires z_on { IsSideZ force.now z }
+    requires z_on { IsPair force.now.side force.now.cells.z z }
     ensures value { result
-        ≡ rounded (whole_sum force.now axis x.pair y.pair z.pair) (pos (force.now.side ^ 3)) }
+        ≡ rounded (whole_sum force.now axis x.pair y.pair z) (pos (force.now.side ^ 3)) }
     ensures size { IsAtMost result most_force }
 {
-    let first = axis.number() as usize * force.cells().count() as usize;
-    let low_low = row(values, first + z.low + y.low, x);
-    let high_low = row(values, first + z.low + y.high, x);
-    let low_high = row(values, first + z.high + y.low, x);
-    let high_high = row(values, first + z.high + y.high, x);
-    let sum = wide_mix(low_low, high_low, low_high, high_high, y.pair, z.pair);
+    let [nx, ny, _] = force.cells().numbers();
+    let first = axis.number() as usize * (nx as usize * ny as usize);
+    let low_low = row(low, first + y.low, x);
+    let high_low = row(low, first + y.high, x);
+    let low_high = row(high, first + y.low, x);
+    let high_high = row(high, first + y.high, x);
+    let sum = wide_mix(low_low, high_low, low_high, high_high, y.pair, z);
     mean(sub, sum)
 }
