@@ -140,13 +140,16 @@ last_start low size n y z among inside =
 module _ (scales : Scales) (e : Field) (low : Spot) (size : Triple) (y z count : ℕ) (among : IsAmongCells low size e.cells) (same : count ≡ size.x)
   where
     abbrev of_e : Axis → Triple → List ℤ → Type 0
-    of_e a p row = IsScaledRow e scales.e_to_b a p (count + 1) row
+    of_e a p row = IsScaledRow e scales.e_to_b a p count row
+
+    abbrev more_of_e : Axis → Triple → List ℤ → Type 0
+    more_of_e a p row = IsScaledRow e scales.e_to_b a p (count + 1) row
 
     abbrev first : Triple
     first = line_start low y z
 
-    pub half_x : (z_by_y of_z y_by_z of_y : List ℤ) → of_e Z (up e.cells Y first) z_by_y → of_e Z first of_z → of_e Y (up e.cells Z first) y_by_z
-        → of_e Y first of_y
+    pub half_x : (z_by_y of_z y_by_z of_y : List ℤ) → more_of_e Z (up e.cells Y first) z_by_y → more_of_e Z first of_z
+        → of_e Y (up e.cells Z first) y_by_z → more_of_e Y first of_y
         → (a : Axis) (p : Triple) → IsWithin p size → OnRow X y z a p → (v : ℤ)
         → v -ℤ curl_of (row_at (take count z_by_y) p.x) (row_at (take count of_z) p.x) (row_at (take count y_by_z) p.x) (row_at (take count of_y) p.x)
         ≡ half_made scales e low a p v
@@ -161,10 +164,10 @@ module _ (scales : Scales) (e : Field) (low : Spot) (size : Triple) (y z count :
         half_is scales e X (outer_of low (record { x = i; y = y; z = z })) v _ _ _ _
         (front z_by_y count i _ inside (row_up_y e scales.e_to_b low size y z i among below Z (count + 1) z_by_y h room))
         (front of_z count i _ inside (row_here e scales.e_to_b low size y z i among below Z (count + 1) of_z k room))
-        (front y_by_z count i _ inside (row_up_z e scales.e_to_b low size y z i among below Y (count + 1) y_by_z l room))
+        (front y_by_z count i _ inside (row_up_z e scales.e_to_b low size y z i among below Y count y_by_z l inside))
         (front of_y count i _ inside (row_here e scales.e_to_b low size y z i among below Y (count + 1) of_y m room)))
 
-    pub half_y : (x_by_z of_x z_on of_z : List ℤ) → of_e X (up e.cells Z first) x_by_z → of_e X first of_x → of_e Z first of_z
+    pub half_y : (x_by_z of_x z_on of_z : List ℤ) → of_e X (up e.cells Z first) x_by_z → of_e X first of_x → more_of_e Z first of_z
         → ((i : ℕ) → i < count → row_at z_on i ≡ row_at of_z (i + 1))
         → (a : Axis) (p : Triple) → IsWithin p size → OnRow Y y z a p → (v : ℤ)
         → v -ℤ curl_of (row_at (take count x_by_z) p.x) (row_at (take count of_x) p.x) (row_at z_on p.x) (row_at (take count of_z) p.x)
@@ -177,12 +180,12 @@ module _ (scales : Scales) (e : Field) (low : Spot) (size : Triple) (y z count :
         let inside : i < count = omega arith in
         let room : i < count + 1 = omega arith in
         half_is scales e Y (outer_of low (record { x = i; y = y; z = z })) v _ _ _ _
-        (front x_by_z count i _ inside (row_up_z e scales.e_to_b low size y z i among below X (count + 1) x_by_z h room))
-        (front of_x count i _ inside (row_here e scales.e_to_b low size y z i among below X (count + 1) of_x k room))
+        (front x_by_z count i _ inside (row_up_z e scales.e_to_b low size y z i among below X count x_by_z h inside))
+        (front of_x count i _ inside (row_here e scales.e_to_b low size y z i among below X count of_x k inside))
         (on i inside ∙ row_up e scales.e_to_b low size y z i among below Z (count + 1) of_z m (omega arith))
         (front of_z count i _ inside (row_here e scales.e_to_b low size y z i among below Z (count + 1) of_z m room)))
 
-    pub half_z : (y_on of_y x_by_y of_x : List ℤ) → of_e Y first of_y → of_e X (up e.cells Y first) x_by_y → of_e X first of_x
+    pub half_z : (y_on of_y x_by_y of_x : List ℤ) → more_of_e Y first of_y → of_e X (up e.cells Y first) x_by_y → of_e X first of_x
         → ((i : ℕ) → i < count → row_at y_on i ≡ row_at of_y (i + 1))
         → (a : Axis) (p : Triple) → IsWithin p size → OnRow Z y z a p → (v : ℤ)
         → v -ℤ curl_of (row_at y_on p.x) (row_at (take count of_y) p.x) (row_at (take count x_by_y) p.x) (row_at (take count of_x) p.x)
@@ -197,8 +200,8 @@ module _ (scales : Scales) (e : Field) (low : Spot) (size : Triple) (y z count :
         half_is scales e Z (outer_of low (record { x = i; y = y; z = z })) v _ _ _ _
         (on i inside ∙ row_up e scales.e_to_b low size y z i among below Y (count + 1) of_y k (omega arith))
         (front of_y count i _ inside (row_here e scales.e_to_b low size y z i among below Y (count + 1) of_y k room))
-        (front x_by_y count i _ inside (row_up_y e scales.e_to_b low size y z i among below X (count + 1) x_by_y l room))
-        (front of_x count i _ inside (row_here e scales.e_to_b low size y z i among below X (count + 1) of_x m room)))
+        (front x_by_y count i _ inside (row_up_y e scales.e_to_b low size y z i among below X count x_by_y l inside))
+        (front of_x count i _ inside (row_here e scales.e_to_b low size y z i among below X count of_x m inside)))
 
 -- a step of E with the current j on the three rows of a line, from its scaled rows of B; those of
 -- y and z begin a cell back
@@ -206,7 +209,10 @@ module _ (scales : Scales) (b : Field) (j : BlockValues) (low : Spot) (size : Tr
     (same : count ≡ size.x)
   where
     abbrev of_b : Axis → Triple → List ℤ → Type 0
-    of_b a p row = IsScaledRow b scales.b_to_e a p (count + 1) row
+    of_b a p row = IsScaledRow b scales.b_to_e a p count row
+
+    abbrev more_of_b : Axis → Triple → List ℤ → Type 0
+    more_of_b a p row = IsScaledRow b scales.b_to_e a p (count + 1) row
 
     abbrev begin : Triple
     begin = line_start low y z
@@ -215,9 +221,9 @@ module _ (scales : Scales) (b : Field) (j : BlockValues) (low : Spot) (size : Tr
     abbrev Follows : List ℤ → List ℤ → Type 0
     Follows on row = (i : ℕ) → i < count → row_at on i ≡ row_at row (i + 1)
 
-    pub full_x : (z_by_y z_by_y_on of_z z_on y_by_z of_y y_on : List ℤ) → of_b Z (down b.cells X (down b.cells Y begin)) z_by_y
-        → of_b Z (down b.cells X begin) of_z
-        → of_b Y (down b.cells Z begin) y_by_z → of_b Y (down b.cells X begin) of_y → Follows z_by_y_on z_by_y → Follows z_on of_z → Follows y_on of_y
+    pub full_x : (z_by_y z_by_y_on of_z z_on y_by_z of_y y_on : List ℤ) → more_of_b Z (down b.cells X (down b.cells Y begin)) z_by_y
+        → more_of_b Z (down b.cells X begin) of_z
+        → of_b Y (down b.cells Z begin) y_by_z → more_of_b Y (down b.cells X begin) of_y → Follows z_by_y_on z_by_y → Follows z_on of_z → Follows y_on of_y
         → (a : Axis) (p : Triple) → IsWithin p size → OnRow X y z a p → (v : ℤ)
         → v -ℤ inner_at j a p -ℤ curl_of (row_at z_by_y_on p.x) (row_at z_on p.x) (row_at (take count y_by_z) p.x) (row_at y_on p.x)
         ≡ full_made scales b j low a p v
@@ -227,15 +233,14 @@ module _ (scales : Scales) (b : Field) (j : BlockValues) (low : Spot) (size : Tr
         ≡ full_made scales b j low a p v)
         X y z size (λ i below v.
         let inside : i < count = omega arith in
-        let room : i < count + 1 = omega arith in
         let more : i + 1 < count + 1 = omega arith in
         full_is scales b X (outer_of low (record { x = i; y = y; z = z })) v (inner_at j X (record { x = i; y = y; z = z })) _ _ _ _
         (after_zy i inside ∙ back_down_y b scales.b_to_e low size y z i among below Z (count + 1) z_by_y h more)
         (after_z i inside ∙ back_here b scales.b_to_e low size y z i among below Z (count + 1) of_z k more)
-        (front y_by_z count i _ inside (row_down_z b scales.b_to_e low size y z i among below Y (count + 1) y_by_z l room))
+        (front y_by_z count i _ inside (row_down_z b scales.b_to_e low size y z i among below Y count y_by_z l inside))
         (after_y i inside ∙ back_here b scales.b_to_e low size y z i among below Y (count + 1) of_y m more))
 
-    pub full_y : (x_by_z of_x of_z z_on : List ℤ) → of_b X (down b.cells Z begin) x_by_z → of_b X begin of_x → of_b Z (down b.cells X begin) of_z
+    pub full_y : (x_by_z of_x of_z z_on : List ℤ) → of_b X (down b.cells Z begin) x_by_z → of_b X begin of_x → more_of_b Z (down b.cells X begin) of_z
         → Follows z_on of_z
         → (a : Axis) (p : Triple) → IsWithin p size → OnRow Y y z a p → (v : ℤ)
         → v -ℤ inner_at j a p -ℤ curl_of (row_at (take count x_by_z) p.x) (row_at (take count of_x) p.x) (row_at (take count of_z) p.x) (row_at z_on p.x)
@@ -250,12 +255,12 @@ module _ (scales : Scales) (b : Field) (j : BlockValues) (low : Spot) (size : Tr
         let room : i < count + 1 = omega arith in
         let more : i + 1 < count + 1 = omega arith in
         full_is scales b Y (outer_of low (record { x = i; y = y; z = z })) v (inner_at j Y (record { x = i; y = y; z = z })) _ _ _ _
-        (front x_by_z count i _ inside (row_down_z b scales.b_to_e low size y z i among below X (count + 1) x_by_z h room))
-        (front of_x count i _ inside (row_here b scales.b_to_e low size y z i among below X (count + 1) of_x k room))
+        (front x_by_z count i _ inside (row_down_z b scales.b_to_e low size y z i among below X count x_by_z h inside))
+        (front of_x count i _ inside (row_here b scales.b_to_e low size y z i among below X count of_x k inside))
         (front of_z count i _ inside (back_down b scales.b_to_e low size y z i among below Z (count + 1) of_z l room))
         (after_z i inside ∙ back_here b scales.b_to_e low size y z i among below Z (count + 1) of_z l more))
 
-    pub full_z : (of_y y_on x_by_y of_x : List ℤ) → of_b Y (down b.cells X begin) of_y → of_b X (down b.cells Y begin) x_by_y → of_b X begin of_x
+    pub full_z : (of_y y_on x_by_y of_x : List ℤ) → more_of_b Y (down b.cells X begin) of_y → of_b X (down b.cells Y begin) x_by_y → of_b X begin of_x
         → Follows y_on of_y
         → (a : Axis) (p : Triple) → IsWithin p size → OnRow Z y z a p → (v : ℤ)
         → v -ℤ inner_at j a p -ℤ curl_of (row_at (take count of_y) p.x) (row_at y_on p.x) (row_at (take count x_by_y) p.x) (row_at (take count of_x) p.x)
@@ -272,5 +277,5 @@ module _ (scales : Scales) (b : Field) (j : BlockValues) (low : Spot) (size : Tr
         full_is scales b Z (outer_of low (record { x = i; y = y; z = z })) v (inner_at j Z (record { x = i; y = y; z = z })) _ _ _ _
         (front of_y count i _ inside (back_down b scales.b_to_e low size y z i among below Y (count + 1) of_y h room))
         (after_y i inside ∙ back_here b scales.b_to_e low size y z i among below Y (count + 1) of_y h more)
-        (front x_by_y count i _ inside (row_down_y b scales.b_to_e low size y z i among below X (count + 1) x_by_y k room))
-        (front of_x count i _ inside (row_here b scales.b_to_e low size y z i among below X (count + 1) of_x l room)))
+        (front x_by_y count i _ inside (row_down_y b scales.b_to_e low size y z i among below X count x_by_y k inside))
+        (front of_x count i _ inside (row_here b scales.b_to_e low size y z i among below X count of_x l inside)))

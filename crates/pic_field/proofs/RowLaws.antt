@@ -106,16 +106,19 @@ module _ (f : Field) (by : Multiplier) (a : Axis) (p : Triple) (done more x : �
             get_or-append_right (take done row) (part ++ rest) done k (pos 0) front least
             ∙ get_or_append_left part rest (pos 0) (k - done) (omega (arith, long))
 
--- the front of a scaled row,
-pub front_row : (most count : ℕ) (row : List ℤ) (size : ℕ) → count ≤ length row → IsSmallRow most (count + 1) row → count ≡ size
+-- a row's first values are as small as more of them
+pub fewer_small : (most count : ℕ) (row : List ℤ) → IsSmallRow most (count + 1) row → IsSmallRow most count row
+fewer_small most count row small = record { at_most = λ i below. small.at_most i (omega arith) }
+
+-- the front of a row,
+pub front_row : (most count : ℕ) (row : List ℤ) (size : ℕ) → count ≤ length row → IsSmallRow most count row → count ≡ size
     → IsRow most size (take count row)
 front_row most count row size room small same = record {
   length_is = length-take-le count row room ∙ same;
   small = record {
     at_most = λ i below.
         let inside : i < count = omega arith in
-        let more : i < count + 1 = omega arith in
-        subst (λ (z : ℤ). IsAtMost z most) (sym (get_or-take count row i (pos 0) inside)) (small.at_most i more);
+        subst (λ (z : ℤ). IsAtMost z most) (sym (get_or-take count row i (pos 0) inside)) (small.at_most i inside);
   };
 }
 
@@ -133,12 +136,12 @@ shifted_row most count row on size long after small same = record {
 }
 
 -- a copy of a scaled row is one
-pub copied_row : (f : Field) (by : Multiplier) (a : Axis) (p : Triple) (count size : ℕ) (row new : List ℤ) → IsScaledRow f by a p (count + 1) row
-    → ((i : ℕ) → i < count + 1 → row_at new i ≡ row_at row i) → count ≡ size → IsScaledRow f by a p (size + 1) new
+pub copied_row : (f : Field) (by : Multiplier) (a : Axis) (p : Triple) (count size : ℕ) (row new : List ℤ) → IsScaledRow f by a p count row
+    → ((i : ℕ) → i < count → row_at new i ≡ row_at row i) → count ≡ size → IsScaledRow f by a p size new
 copied_row f by a p count size row new is copy same = record {
-  values = λ i below. let inside : i < count + 1 = omega arith in copy i inside ∙ is.values i inside;
+  values = λ i below. let inside : i < count = omega arith in copy i inside ∙ is.values i inside;
   small = record {
-    at_most = λ i below. let inside : i < count + 1 = omega arith in subst (λ (z : ℤ). IsAtMost z (2 ^ 121)) (sym (copy i inside)) (is.small.at_most i inside);
+    at_most = λ i below. let inside : i < count = omega arith in subst (λ (z : ℤ). IsAtMost z (2 ^ 121)) (sym (copy i inside)) (is.small.at_most i inside);
   };
 }
 

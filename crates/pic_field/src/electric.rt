@@ -2,6 +2,7 @@
 
 ghost use Rattle.std.specs.Prelude.{◌≡◌, ◌+◌, ◌^◌, ◌<◌, ◌≤◌, OnOk, IsTrue};
 ghost use Rattle.pic_num.specs.declared.axis.Axis.{Axis as AxisName};
+ghost use Rattle.pic_num.specs.Limits.{most_cells_of_axis};
 ghost use Rattle.pic_num.specs.Push.{unless};
 ghost use Rattle.pic_num.specs.Space.{Triple, triple};
 ghost use Rattle.pic_grid.specs.declared.stop.Phase.TheVariants.{Electric};
@@ -42,9 +43,33 @@ pub fn full_e(scales: &Scales, b: &Lattice, j: &Block, e: &mut Block) -> Result<
         e.old.size (full_in scales.now b.now j.now e.old)) tt }
     ensures bounded { OnOk result (AllBounded scales.now.e_force e.new) }
 {
+    full_e_in(scales, b, j, e, &mut Rooms::new())
+}
+
+/// As `full_e`, in rooms that are lent.
+pub fn full_e_in(
+    scales: &Scales,
+    b: &Lattice,
+    j: &Block,
+    e: &mut Block,
+    rooms: &mut Rooms,
+) -> Result<(), Stop>
+    requires among { IsAmongCells e.old.low e.old.size b.now.cells }
+    requires j_shape { IsShaped j.now e.old }
+    requires b_small { EachAtMost (2 ^ 90) b.now }
+    requires j_small { AllAtMost (2 ^ 90) j.now }
+    requires e_small { AllAtMost (2 ^ 90) e.old }
+    ensures shape { IsShaped e.new e.old }
+    ensures values { (a : AxisName) → (p : Triple) → IsWithin p e.old.size
+        → inner_at e.new a p
+        ≡ full_of scales.now b.now a (outer_of e.old.low p) (inner_at e.old a p)
+        (inner_at j.now a p) }
+    ensures stop { result ≡ unless (least_fault Phase.Electric scales.now.e_force (lowest e.old.low)
+        e.old.size (full_in scales.now b.now j.now e.old)) tt }
+    ensures bounded { OnOk result (AllBounded scales.now.e_force e.new) }
+{
     let most = safe_most(scales.e_force);
-    let mut rooms = Rooms::new();
-    if full_layers(scales, b, j, e, most, &mut rooms) {
+    if full_layers(scales, b, j, e, most, rooms) {
         return Ok(());
     }
     stop_in(Phase::Electric, scales.e_force, b.cells(), e)
@@ -103,12 +128,19 @@ fn full_layer(
     ensures calm { IsTrue result → AreSmall most (OnLayer z) e.new }
 {
     let zone = e.zone();
-    let count = line_length(b.cells(), zone) + 1;
+    let count = line_length(b.cells(), zone);
     let first = cell_in(b.cells(), zone, [0, 0, z]);
     let by_y = b.cells().down(Axis::Y, first);
     let back = b.cells().down(Axis::X, by_y);
     scaled_row(b, scales.b_to_e, Axis::X, by_y, count, &mut rooms.x_by_y);
-    scaled_row(b, scales.b_to_e, Axis::Z, back, count, &mut rooms.z_by_y);
+    scaled_row(
+        b,
+        scales.b_to_e,
+        Axis::Z,
+        back,
+        count + 1,
+        &mut rooms.z_by_y,
+    );
     let mut calm = true;
     for y in 0..zone.size[1] {
         let found = full_line(scales, b, j, e, y, z, most, rooms);
@@ -138,12 +170,12 @@ fn full_line(
     requires j_small { AreSmall (2 ^ 90) (OnLine y z) j.now }
     requires e_small { AreSmall (2 ^ 90) (OnLine y z) e.old }
     requires x_by_y { IsScaledRow b.now scales.now.b_to_e Axis.X
-        (down b.now.cells Axis.Y (line_start e.old.low y z)) (e.old.size.x + 1) rooms.old.x_by_y }
+        (down b.now.cells Axis.Y (line_start e.old.low y z)) e.old.size.x rooms.old.x_by_y }
     requires z_by_y { IsScaledRow b.now scales.now.b_to_e Axis.Z
         (down b.now.cells Axis.X (down b.now.cells Axis.Y (line_start e.old.low y z)))
         (e.old.size.x + 1) rooms.old.z_by_y }
     ensures x_by_y { IsScaledRow b.now scales.now.b_to_e Axis.X (line_start e.old.low y z)
-        (e.old.size.x + 1) rooms.new.x_by_y }
+        e.old.size.x rooms.new.x_by_y }
     ensures z_by_y { IsScaledRow b.now scales.now.b_to_e Axis.Z
         (down b.now.cells Axis.X (line_start e.old.low y z)) (e.old.size.x + 1) rooms.new.z_by_y }
     ensures changed { Changed (full_made scales.now b.now j.now e.old.low) (OnLine y z)
@@ -153,75 +185,45 @@ fn full_line(
     let zone = e.zone();
     let count = line_length(b.cells(), zone);
     let here = cell_in(b.cells(), zone, [0, y, z]);
-    full_rows(scales.b_to_e, b, here, count + 1, rooms);
+    full_rows(scales.b_to_e, b, here, count, rooms);
     let on_x = Four {
         far_third: shifted(&rooms.z_by_y[..], count),
         near_third: shifted(&rooms.z[..], count),
         far_second: &rooms.y_by_z[..count],
         near_second: shifted(&rooms.y[..], count),
     };
-    let calm_x = full_row(
-        e,
-        j,
-        Axis::X,
-        y,
-        z,
-        &on_x,
-        most,
-        &mut rooms.less,
-        &mut rooms.made,
-    );
+    let calm_x = full_row(e, j, Axis::X, y, z, &on_x, most, &mut rooms.made);
     let on_y = Four {
         far_third: &rooms.x_by_z[..count],
         near_third: &rooms.x[..count],
         far_second: &rooms.z[..count],
         near_second: shifted(&rooms.z[..], count),
     };
-    let calm_y = full_row(
-        e,
-        j,
-        Axis::Y,
-        y,
-        z,
-        &on_y,
-        most,
-        &mut rooms.less,
-        &mut rooms.made,
-    );
+    let calm_y = full_row(e, j, Axis::Y, y, z, &on_y, most, &mut rooms.made);
     let on_z = Four {
         far_third: &rooms.y[..count],
         near_third: shifted(&rooms.y[..], count),
         far_second: &rooms.x_by_y[..count],
         near_second: &rooms.x[..count],
     };
-    let calm_z = full_row(
-        e,
-        j,
-        Axis::Z,
-        y,
-        z,
-        &on_z,
-        most,
-        &mut rooms.less,
-        &mut rooms.made,
-    );
-    copy_row(&rooms.x, count + 1, &mut rooms.x_by_y);
+    let calm_z = full_row(e, j, Axis::Z, y, z, &on_z, most, &mut rooms.made);
+    copy_row(&rooms.x, count, &mut rooms.x_by_y);
     copy_row(&rooms.z, count + 1, &mut rooms.z_by_y);
     calm_x & calm_y & calm_z
 }
 
-/// The rows of scaled B that a line needs beside those of the last line in y: its own, and those of
-/// the last line in z.
+/// The rows of scaled B that a line of `count` cells needs beside those of the last line in y: its own,
+/// and those of the last line in z. Those that begin a cell back have one value more.
 fn full_rows(by: Mult, b: &Lattice, here: [u32; 3], count: usize, rooms: &mut Rooms)
     requires within { IsWithin (triple here) b.now.cells }
-    requires few { count ≤ 129 }
+    requires few { count ≤ most_cells_of_axis }
     requires b_small { EachAtMost (2 ^ 90) b.now }
     ensures x_by_y { rooms.new.x_by_y ≡ rooms.old.x_by_y }
     ensures z_by_y { rooms.new.z_by_y ≡ rooms.old.z_by_y }
     ensures x { IsScaledRow b.now by Axis.X (triple here) count rooms.new.x }
-    ensures y { IsScaledRow b.now by Axis.Y (down b.now.cells Axis.X (triple here)) count
+    ensures y { IsScaledRow b.now by Axis.Y (down b.now.cells Axis.X (triple here)) (count + 1)
         rooms.new.y }
-    ensures z { IsScaledRow b.now by Axis.Z (down b.now.cells Axis.X (triple here)) count
+    ensures z { IsScaledRow b.now by Axis.Z (down b.now.cells Axis.X (triple here)) (count + 1)
         rooms.new.z }
     ensures x_by_z { IsScaledRow b.now by Axis.X (down b.now.cells Axis.Z (triple here)) count
         rooms.new.x_by_z }
@@ -231,8 +233,8 @@ fn full_rows(by: Mult, b: &Lattice, here: [u32; 3], count: usize, rooms: &mut Ro
     let back = b.cells().down(Axis::X, here);
     let by_z = b.cells().down(Axis::Z, here);
     scaled_row(b, by, Axis::X, here, count, &mut rooms.x);
-    scaled_row(b, by, Axis::Y, back, count, &mut rooms.y);
-    scaled_row(b, by, Axis::Z, back, count, &mut rooms.z);
+    scaled_row(b, by, Axis::Y, back, count + 1, &mut rooms.y);
+    scaled_row(b, by, Axis::Z, back, count + 1, &mut rooms.z);
     scaled_row(b, by, Axis::X, by_z, count, &mut rooms.x_by_z);
     scaled_row(b, by, Axis::Y, by_z, count, &mut rooms.y_by_z);
 }

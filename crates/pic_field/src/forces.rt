@@ -9,7 +9,8 @@ ghost use Rattle.pic_grid.specs.Lattice.{EachAtMost, value_at};
 ghost use Rattle.pic_grid.specs.Block.{IsAmongCells, IsShaped, inner_at, outer_of};
 ghost use Rattle.pic_field.specs.Lines.{HasCells, OnRow, OnLine, OnLayer, Changed, force_made};
 
-use crate::row::{ROOM, Row, scaled_row};
+use crate::rooms::Rooms;
+use crate::row::{Row, scaled_row};
 use crate::zone::{cell_in, is_empty, line_length};
 use pic_grid::{Block, Lattice};
 use pic_num::{Axis, Mult};
@@ -24,13 +25,23 @@ pub fn force(mult: Mult, from: &Lattice, to: &mut Block)
     ensures values { (a : AxisName) → (p : Triple) → IsWithin p to.old.size
         → inner_at to.new a p ≡ scaled (value_at from.now a (outer_of to.old.low p)) mult }
 {
+    force_in(mult, from, to, &mut Rooms::new());
+}
+
+/// As `force`, in rooms that are lent.
+pub fn force_in(mult: Mult, from: &Lattice, to: &mut Block, rooms: &mut Rooms)
+    requires among { IsAmongCells to.old.low to.old.size from.now.cells }
+    requires small { EachAtMost (2 ^ 90) from.now }
+    ensures shape { IsShaped to.new to.old }
+    ensures values { (a : AxisName) → (p : Triple) → IsWithin p to.old.size
+        → inner_at to.new a p ≡ scaled (value_at from.now a (outer_of to.old.low p)) mult }
+{
     let zone = to.zone();
     if is_empty(zone) {
         return;
     }
-    let mut made = [0; ROOM];
     for z in 0..zone.size[2] {
-        force_layer(mult, from, to, z, &mut made);
+        force_layer(mult, from, to, z, &mut rooms.made);
     }
 }
 

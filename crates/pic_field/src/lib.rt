@@ -10,7 +10,8 @@ mod rooms;
 mod row;
 mod zone;
 
-pub use electric::full_e;
-pub use forces::force;
+pub use electric::{full_e, full_e_in};
+pub use forces::{force, force_in};
 pub use laws::law_of_the_least_stop;
-pub use magnetic::half_b;
+pub use magnetic::{half_b, half_b_in};
+pub use rooms::Rooms;

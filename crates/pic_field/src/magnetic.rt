@@ -2,6 +2,7 @@
 
 ghost use Rattle.std.specs.Prelude.{◌≡◌, ◌+◌, ◌^◌, ◌<◌, ◌≤◌, OnOk, IsTrue};
 ghost use Rattle.pic_num.specs.declared.axis.Axis.{Axis as AxisName};
+ghost use Rattle.pic_num.specs.Limits.{most_cells_of_axis};
 ghost use Rattle.pic_num.specs.Push.{unless};
 ghost use Rattle.pic_num.specs.Space.{Triple, triple};
 ghost use Rattle.pic_grid.specs.Cells.{IsWithin};
@@ -37,9 +38,30 @@ pub fn half_b(scales: &Scales, e: &Lattice, b: &mut Block, phase: Phase) -> Resu
         b.old.size (half_in scales.now e.now b.old)) tt }
     ensures bounded { OnOk result (AllBounded scales.now.b_force b.new) }
 {
+    half_b_in(scales, e, b, phase, &mut Rooms::new())
+}
+
+/// As `half_b`, in rooms that are lent.
+pub fn half_b_in(
+    scales: &Scales,
+    e: &Lattice,
+    b: &mut Block,
+    phase: Phase,
+    rooms: &mut Rooms,
+) -> Result<(), Stop>
+    requires among { IsAmongCells b.old.low b.old.size e.now.cells }
+    requires e_small { EachAtMost (2 ^ 90) e.now }
+    requires b_small { AllAtMost (2 ^ 90) b.old }
+    ensures shape { IsShaped b.new b.old }
+    ensures values { (a : AxisName) → (p : Triple) → IsWithin p b.old.size
+        → inner_at b.new a p
+        ≡ half_of scales.now e.now a (outer_of b.old.low p) (inner_at b.old a p) }
+    ensures stop { result ≡ unless (least_fault phase scales.now.b_force (lowest b.old.low)
+        b.old.size (half_in scales.now e.now b.old)) tt }
+    ensures bounded { OnOk result (AllBounded scales.now.b_force b.new) }
+{
     let most = safe_most(scales.b_force);
-    let mut rooms = Rooms::new();
-    if half_layers(scales, e, b, most, &mut rooms) {
+    if half_layers(scales, e, b, most, rooms) {
         return Ok(());
     }
     stop_in(phase, scales.b_force, e.cells(), b)
@@ -86,10 +108,10 @@ fn half_layer(
     ensures calm { IsTrue result → AreSmall most (OnLayer z) b.new }
 {
     let zone = b.zone();
-    let count = line_length(e.cells(), zone) + 1;
+    let count = line_length(e.cells(), zone);
     let first = cell_in(e.cells(), zone, [0, 0, z]);
     scaled_row(e, scales.e_to_b, Axis::X, first, count, &mut rooms.x);
-    scaled_row(e, scales.e_to_b, Axis::Z, first, count, &mut rooms.z);
+    scaled_row(e, scales.e_to_b, Axis::Z, first, count + 1, &mut rooms.z);
     let mut calm = true;
     for y in 0..zone.size[1] {
         let found = half_line(scales, e, b, y, z, most, rooms);
@@ -116,11 +138,11 @@ fn half_line(
     requires z { z < b.old.size.z }
     requires b_small { AreSmall (2 ^ 90) (OnLine y z) b.old }
     requires x_row { IsScaledRow e.now scales.now.e_to_b Axis.X (line_start b.old.low y z)
-        (b.old.size.x + 1) rooms.old.x }
+        b.old.size.x rooms.old.x }
     requires z_row { IsScaledRow e.now scales.now.e_to_b Axis.Z (line_start b.old.low y z)
         (b.old.size.x + 1) rooms.old.z }
     ensures x_row { IsScaledRow e.now scales.now.e_to_b Axis.X
-        (up e.now.cells Axis.Y (line_start b.old.low y z)) (b.old.size.x + 1) rooms.new.x }
+        (up e.now.cells Axis.Y (line_start b.old.low y z)) b.old.size.x rooms.new.x }
     ensures z_row { IsScaledRow e.now scales.now.e_to_b Axis.Z
         (up e.now.cells Axis.Y (line_start b.old.low y z)) (b.old.size.x + 1) rooms.new.z }
     ensures changed { Changed (half_made scales.now e.now b.old.low) (OnLine y z) b.old b.new }
@@ -129,7 +151,7 @@ fn half_line(
     let zone = b.zone();
     let count = line_length(e.cells(), zone);
     let here = cell_in(e.cells(), zone, [0, y, z]);
-    half_rows(scales.e_to_b, e, here, count + 1, rooms);
+    half_rows(scales.e_to_b, e, here, count, rooms);
     let on_x = Four {
         far_third: &rooms.z_by_y[..count],
         near_third: &rooms.z[..count],
@@ -151,23 +173,23 @@ fn half_line(
         near_second: &rooms.x[..count],
     };
     let calm_z = half_row(b, Axis::Z, y, z, &on_z, most, &mut rooms.made);
-    copy_row(&rooms.x_by_y, count + 1, &mut rooms.x);
+    copy_row(&rooms.x_by_y, count, &mut rooms.x);
     copy_row(&rooms.z_by_y, count + 1, &mut rooms.z);
     calm_x & calm_y & calm_z
 }
 
-/// The rows of scaled E that a line needs beside its own x and z: its y, and those of the next lines
-/// in y and in z.
+/// The rows of scaled E that a line of `count` cells needs beside its own x and z: its y, and those of
+/// the next lines in y and in z. Those that are read a cell further have one value more.
 fn half_rows(by: Mult, e: &Lattice, here: [u32; 3], count: usize, rooms: &mut Rooms)
     requires within { IsWithin (triple here) e.now.cells }
-    requires few { count ≤ 129 }
+    requires few { count ≤ most_cells_of_axis }
     requires e_small { EachAtMost (2 ^ 90) e.now }
     ensures x { rooms.new.x ≡ rooms.old.x }
     ensures z { rooms.new.z ≡ rooms.old.z }
-    ensures y { IsScaledRow e.now by Axis.Y (triple here) count rooms.new.y }
+    ensures y { IsScaledRow e.now by Axis.Y (triple here) (count + 1) rooms.new.y }
     ensures x_by_y { IsScaledRow e.now by Axis.X (up e.now.cells Axis.Y (triple here)) count
         rooms.new.x_by_y }
-    ensures z_by_y { IsScaledRow e.now by Axis.Z (up e.now.cells Axis.Y (triple here)) count
+    ensures z_by_y { IsScaledRow e.now by Axis.Z (up e.now.cells Axis.Y (triple here)) (count + 1)
         rooms.new.z_by_y }
     ensures x_by_z { IsScaledRow e.now by Axis.X (up e.now.cells Axis.Z (triple here)) count
         rooms.new.x_by_z }
@@ -176,9 +198,9 @@ fn half_rows(by: Mult, e: &Lattice, here: [u32; 3], count: usize, rooms: &mut Ro
 {
     let by_y = e.cells().up(Axis::Y, here);
     let by_z = e.cells().up(Axis::Z, here);
-    scaled_row(e, by, Axis::Y, here, count, &mut rooms.y);
+    scaled_row(e, by, Axis::Y, here, count + 1, &mut rooms.y);
     scaled_row(e, by, Axis::X, by_y, count, &mut rooms.x_by_y);
-    scaled_row(e, by, Axis::Z, by_y, count, &mut rooms.z_by_y);
+    scaled_row(e, by, Axis::Z, by_y, count + 1, &mut rooms.z_by_y);
     scaled_row(e, by, Axis::X, by_z, count, &mut rooms.x_by_z);
     scaled_row(e, by, Axis::Y, by_z, count, &mut rooms.y_by_z);
 }

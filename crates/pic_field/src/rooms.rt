@@ -5,15 +5,16 @@ ghost use Rattle.pic_grid.specs.Block.{IsShaped, inner_at};
 ghost use Rattle.pic_field.specs.Lines.{OnRow, Changed, AreSmall};
 ghost use Rattle.pic_field.specs.Rows.{row_at, curl_of, IsRow};
 
-use crate::row::{Four, ROOM, Row, less_row, lessen_row};
+use crate::row::{Four, ROOM, Row, lessen_row, lessen_row_by};
 use pic_grid::Block;
 use pic_num::Axis;
 
-/// Rooms for the rows of a line: the scaled components of a field along the line, along the next
-/// line in y (`_by_y`) and in z (`_by_z`), and new values. A walk makes them once and lends them to
-/// every line.
+/// Rooms that a phase works in, one row of values in each: what it scales, and what it makes. Who
+/// goes over many blocks makes them once and lends them to each: what they held is of no matter.
+// The scaled components of a field along a line, along the next line in y (`_by_y`) and in z
+// (`_by_z`), and new values.
 #[derive(Drop)]
-pub(crate) struct Rooms {
+pub struct Rooms {
     pub(crate) x: Row,
     pub(crate) y: Row,
     pub(crate) z: Row,
@@ -21,13 +22,12 @@ pub(crate) struct Rooms {
     pub(crate) z_by_y: Row,
     pub(crate) x_by_z: Row,
     pub(crate) y_by_z: Row,
-    pub(crate) less: Row,
     pub(crate) made: Row,
 }
 
 impl Rooms {
     /// Rooms whose values are of no matter.
-    pub(crate) fn new() -> Rooms {
+    pub fn new() -> Rooms {
         let row = [0; ROOM];
         Rooms {
             x: row,
@@ -37,7 +37,6 @@ impl Rooms {
             z_by_y: row,
             x_by_z: row,
             y_by_z: row,
-            less: row,
             made: row,
         }
     }
@@ -87,7 +86,6 @@ pub(crate) fn full_row(
     z: u32,
     four: &Four,
     most: u128,
-    less: &mut Row,
     new: &mut Row,
 ) -> bool
     requires j_shape { IsShaped j.now e.old }
@@ -108,8 +106,9 @@ pub(crate) fn full_row(
 {
     let zone = e.zone();
     let count = zone.size[0] as usize;
-    less_row(e.row(axis, y, z), j.row(axis, y, z), &mut less[..count]);
-    let calm = lessen_row(&less[..count], four, most, &mut new[..count]);
+    let old = e.row(axis, y, z);
+    let take = j.row(axis, y, z);
+    let calm = lessen_row_by(old, take, four, most, &mut new[..count]);
     e.set_row(axis, y, z, &new[..count]);
     calm
 }

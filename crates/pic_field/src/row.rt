@@ -83,7 +83,7 @@ fn scale_row(from: &[i128], by: Mult, to: &mut [i128])
 /// are at most `most` in size.
 pub(crate) fn lessen_row(old: &[i128], four: &Four, most: u128, new: &mut [i128]) -> bool
     requires length { length new.old ≡ length old.now }
-    requires small { IsSmallRow (2 ^ 91) (length old.now) old.now }
+    requires small { IsSmallRow (2 ^ 90) (length old.now) old.now }
     requires far_third { IsRow (2 ^ 121) (length old.now) four.now.far_third.now }
     requires near_third { IsRow (2 ^ 121) (length old.now) four.now.near_third.now }
     requires far_second { IsRow (2 ^ 121) (length old.now) four.now.far_second.now }
@@ -104,18 +104,37 @@ pub(crate) fn lessen_row(old: &[i128], four: &Four, most: u128, new: &mut [i128]
     calm
 }
 
-/// Makes every value of `new` that of one row less that of another.
-pub(crate) fn less_row(from: &[i128], take: &[i128], new: &mut [i128])
-    requires length { length new.old ≡ length from.now }
-    requires from { IsSmallRow (2 ^ 90) (length from.now) from.now }
-    requires take { IsRow (2 ^ 90) (length from.now) take.now }
-    ensures values { (i : ℕ) → i < length from.now
-        → row_at new.new i ≡ row_at from.now i -ℤ row_at take.now i }
-    ensures small { IsSmallRow (2 ^ 91) (length from.now) new.new }
+/// Makes every value of `new` that of `old` less that of `take` and the curl of four rows, and
+/// answers whether all are at most `most` in size.
+pub(crate) fn lessen_row_by(
+    old: &[i128],
+    take: &[i128],
+    four: &Four,
+    most: u128,
+    new: &mut [i128],
+) -> bool
+    requires length { length new.old ≡ length old.now }
+    requires small { IsSmallRow (2 ^ 90) (length old.now) old.now }
+    requires take { IsRow (2 ^ 90) (length old.now) take.now }
+    requires far_third { IsRow (2 ^ 121) (length old.now) four.now.far_third.now }
+    requires near_third { IsRow (2 ^ 121) (length old.now) four.now.near_third.now }
+    requires far_second { IsRow (2 ^ 121) (length old.now) four.now.far_second.now }
+    requires near_second { IsRow (2 ^ 121) (length old.now) four.now.near_second.now }
+    ensures values { (i : ℕ) → i < length old.now
+        → row_at new.new i ≡ row_at old.now i -ℤ row_at take.now i -ℤ
+        curl_of (row_at four.now.far_third.now i) (row_at four.now.near_third.now i)
+        (row_at four.now.far_second.now i) (row_at four.now.near_second.now i) }
+    ensures calm { IsTrue result → IsSmallRow most (length old.now) new.new }
 {
-    for i in 0..from.len() {
-        new[i] = from[i] - take[i];
+    let mut calm = true;
+    for i in 0..old.len() {
+        let curl = four.far_third[i] - four.near_third[i] - four.far_second[i]
+            + four.near_second[i];
+        let value = old[i] - take[i] - curl;
+        new[i] = value;
+        calm = calm & (value.unsigned_abs() <= most);
     }
+    calm
 }
 
 /// The `count` values of a row that follow its first.

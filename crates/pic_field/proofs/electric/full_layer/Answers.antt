@@ -24,9 +24,9 @@ loop-y-preserved c =
     record {
       x_by_y = λ below.
           subst (λ (m : Triple). IsScaledRow c.args.b.now c.args.scales.now.b_to_e X (down n Y (line_start old.low (y + 1) z))
-          (m.x + 1) c.full_line-found.new.rooms.x_by_y)
+          m.x c.full_line-found.new.rooms.x_by_y)
           before.shaped.size
-          (subst (λ (s : Triple). IsScaledRow c.args.b.now c.args.scales.now.b_to_e X s (mid.size.x + 1) c.full_line-found.new.rooms.x_by_y) (start below)
+          (subst (λ (s : Triple). IsScaledRow c.args.b.now c.args.scales.now.b_to_e X s mid.size.x c.full_line-found.new.rooms.x_by_y) (start below)
           c.full_line-found.ensures.x_by_y);
       z_by_y = λ below.
           subst (λ (m : Triple). IsScaledRow c.args.b.now c.args.scales.now.b_to_e Z (down n X (down n Y (line_start old.low (y + 1) z))) (m.x + 1)

@@ -9,12 +9,15 @@ use Rattle.pic_field.specs.Lines.{OnRow, full_made, line_start}
 use Rattle.pic_field.specs.Rows.{IsScaledRow}
 use Rattle.pic_field.proofs.CurlLaws.{full_x, full_y, full_z}
 use Rattle.pic_field.proofs.LineLaws.{both_true, changed_as, line_changed, line_small}
-use Rattle.pic_field.proofs.RowLaws.{front_row, shifted_row, copied_row}
+use Rattle.pic_field.proofs.RowLaws.{fewer_small, front_row, shifted_row, copied_row}
 use Rattle.pic_field.proofs.electric.full_line.Goals as goal
 use Rattle.pic_field.proofs.electric.full_line.Goals.{After-full_rows}
 
 abbrev Of : After-full_rows → Axis → Triple → List ℤ → Type 0
-Of c a p row = IsScaledRow c.args.b.now c.args.scales.now.b_to_e a p (c.line_length-count.result + 1) row
+Of c a p row = IsScaledRow c.args.b.now c.args.scales.now.b_to_e a p c.line_length-count.result row
+
+abbrev MoreOf : After-full_rows → Axis → Triple → List ℤ → Type 0
+MoreOf c a p row = IsScaledRow c.args.b.now c.args.scales.now.b_to_e a p (c.line_length-count.result + 1) row
 
 abbrev start : After-full_rows → Triple
 start c = line_start c.args.e.now.low c.args.y c.args.z
@@ -23,10 +26,10 @@ start c = line_start c.args.e.now.low c.args.y c.args.z
 record Known (c : After-full_rows) : Type 0 where
   same : c.line_length-count.result ≡ c.args.e.now.size.x
   x : Of c X (start c) c.full_rows.new.rooms.x
-  y : Of c Y (down c.args.b.now.cells X (start c)) c.full_rows.new.rooms.y
-  z : Of c Z (down c.args.b.now.cells X (start c)) c.full_rows.new.rooms.z
+  y : MoreOf c Y (down c.args.b.now.cells X (start c)) c.full_rows.new.rooms.y
+  z : MoreOf c Z (down c.args.b.now.cells X (start c)) c.full_rows.new.rooms.z
   x_by_y : Of c X (down c.args.b.now.cells Y (start c)) c.full_rows.new.rooms.x_by_y
-  z_by_y : Of c Z (down c.args.b.now.cells X (down c.args.b.now.cells Y (start c))) c.full_rows.new.rooms.z_by_y
+  z_by_y : MoreOf c Z (down c.args.b.now.cells X (down c.args.b.now.cells Y (start c))) c.full_rows.new.rooms.z_by_y
   x_by_z : Of c X (down c.args.b.now.cells Z (start c)) c.full_rows.new.rooms.x_by_z
   y_by_z : Of c Y (down c.args.b.now.cells Z (start c)) c.full_rows.new.rooms.y_by_z
 
@@ -41,10 +44,10 @@ known c =
     record {
       same = same;
       x = subst (λ (s : Triple). Of c X s rooms.x) at h.x;
-      y = subst (λ (s : Triple). Of c Y (down n X s) rooms.y) at h.y;
-      z = subst (λ (s : Triple). Of c Z (down n X s) rooms.z) at h.z;
-      x_by_y = subst (λ (m : ℕ). IsScaledRow c.args.b.now c.args.scales.now.b_to_e X (down n Y (start c)) (m + 1) rooms.x_by_y) (sym same)
-          (subst (λ (row : List ℤ). IsScaledRow c.args.b.now c.args.scales.now.b_to_e X (down n Y (start c)) (c.args.e.now.size.x + 1) row)
+      y = subst (λ (s : Triple). MoreOf c Y (down n X s) rooms.y) at h.y;
+      z = subst (λ (s : Triple). MoreOf c Z (down n X s) rooms.z) at h.z;
+      x_by_y = subst (λ (m : ℕ). IsScaledRow c.args.b.now c.args.scales.now.b_to_e X (down n Y (start c)) m rooms.x_by_y) (sym same)
+          (subst (λ (row : List ℤ). IsScaledRow c.args.b.now c.args.scales.now.b_to_e X (down n Y (start c)) c.args.e.now.size.x row)
           (sym h.x_by_y) c.requires.x_by_y);
       z_by_y = subst (λ (m : ℕ). IsScaledRow c.args.b.now c.args.scales.now.b_to_e Z (down n X (down n Y (start c))) (m + 1) rooms.z_by_y) (sym same)
           (subst (λ (row : List ℤ). IsScaledRow c.args.b.now c.args.scales.now.b_to_e Z (down n X (down n Y (start c)))
@@ -85,7 +88,8 @@ returns-clause-changed c =
 pub full_row-calm_y-requires-clause-far_second : goal.full_row-calm_y-requires-clause-far_second
 full_row-calm_y-requires-clause-far_second c =
     let k = known (goal.at.full_row-calm_y-requires-clause-far_second c).After-full_rows in
-    front_row (2 ^ 121) (c.line_length-count.result) c.full_rows.new.rooms.z c.full_row-calm_x.new.e.size.x (omega arith) k.z.small
+    front_row (2 ^ 121) (c.line_length-count.result) c.full_rows.new.rooms.z c.full_row-calm_x.new.e.size.x (omega arith)
+    (fewer_small (2 ^ 121) c.line_length-count.result c.full_rows.new.rooms.z k.z.small)
     (k.same ∙ sym (ap (λ (n : Triple). n.x) c.full_row-calm_x.ensures.changed.shaped.size))
 
 pub full_row-calm_y-requires-clause-near_second : goal.full_row-calm_y-requires-clause-near_second
@@ -97,7 +101,8 @@ full_row-calm_y-requires-clause-near_second c =
 pub full_row-calm_z-requires-clause-far_third : goal.full_row-calm_z-requires-clause-far_third
 full_row-calm_z-requires-clause-far_third c =
     let k = known (goal.at.full_row-calm_z-requires-clause-far_third c).After-full_rows in
-    front_row (2 ^ 121) (c.line_length-count.result) c.full_rows.new.rooms.y c.full_row-calm_y.new.e.size.x (omega arith) k.y.small
+    front_row (2 ^ 121) (c.line_length-count.result) c.full_rows.new.rooms.y c.full_row-calm_y.new.e.size.x (omega arith)
+    (fewer_small (2 ^ 121) c.line_length-count.result c.full_rows.new.rooms.y k.y.small)
     (k.same ∙ sym (ap (λ (n : Triple). n.x) (c.full_row-calm_y.ensures.changed.shaped.size ∙ c.full_row-calm_x.ensures.changed.shaped.size)))
 
 pub full_row-calm_z-requires-clause-near_third : goal.full_row-calm_z-requires-clause-near_third
@@ -123,8 +128,8 @@ returns-clause-x_by_y c =
 pub returns-clause-z_by_y : goal.returns-clause-z_by_y
 returns-clause-z_by_y c =
     let k = known (goal.at.returns-clause-z_by_y c).After-full_rows in
-    copied_row c.args.b.now c.args.scales.now.b_to_e Z (down c.args.b.now.cells X (line_start c.args.e.now.low c.args.y c.args.z)) (c.line_length-count.result)
-    c.args.e.now.size.x c.full_rows.new.rooms.z c.copy_row-2.new.to k.z c.copy_row-2.ensures k.same
+    copied_row c.args.b.now c.args.scales.now.b_to_e Z (down c.args.b.now.cells X (line_start c.args.e.now.low c.args.y c.args.z)) (c.line_length-count.result + 1)
+    (c.args.e.now.size.x + 1) c.full_rows.new.rooms.z c.copy_row-2.new.to k.z c.copy_row-2.ensures (ap (λ (m : ℕ). m + 1) k.same)
 
 pub returns-clause-calm : goal.returns-clause-calm
 returns-clause-calm c = λ all.

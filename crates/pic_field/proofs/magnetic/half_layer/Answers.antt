@@ -22,9 +22,9 @@ loop-y-preserved c =
     c.half_line-found.ensures.changed in
     record {
       x_row = λ below.
-          subst (λ (n : Triple). IsScaledRow c.args.e.now c.args.scales.now.e_to_b X (line_start old.low (y + 1) z) (n.x + 1) c.half_line-found.new.rooms.x)
+          subst (λ (n : Triple). IsScaledRow c.args.e.now c.args.scales.now.e_to_b X (line_start old.low (y + 1) z) n.x c.half_line-found.new.rooms.x)
           before.shaped.size
-          (subst (λ (s : Triple). IsScaledRow c.args.e.now c.args.scales.now.e_to_b X s (mid.size.x + 1) c.half_line-found.new.rooms.x)
+          (subst (λ (s : Triple). IsScaledRow c.args.e.now c.args.scales.now.e_to_b X s mid.size.x c.half_line-found.new.rooms.x)
           (start below) c.half_line-found.ensures.x_row);
       z_row = λ below.
           subst (λ (n : Triple). IsScaledRow c.args.e.now c.args.scales.now.e_to_b Z (line_start old.low (y + 1) z) (n.x + 1) c.half_line-found.new.rooms.z)

@@ -16,19 +16,19 @@ use Rattle.pic_field.proofs.magnetic.half_line.Goals.{After-half_rows}
 record Known (c : After-half_rows) : Type 0 where
   same : c.line_length-count.result ≡ c.args.b.now.size.x
   x : IsScaledRow c.args.e.now c.args.scales.now.e_to_b X (line_start c.args.b.now.low c.args.y c.args.z)
-      (c.line_length-count.result + 1) c.half_rows.new.rooms.x
+      c.line_length-count.result c.half_rows.new.rooms.x
   y : IsScaledRow c.args.e.now c.args.scales.now.e_to_b Y (line_start c.args.b.now.low c.args.y c.args.z)
       (c.line_length-count.result + 1) c.half_rows.new.rooms.y
   z : IsScaledRow c.args.e.now c.args.scales.now.e_to_b Z (line_start c.args.b.now.low c.args.y c.args.z)
       (c.line_length-count.result + 1) c.half_rows.new.rooms.z
   x_by_y : IsScaledRow c.args.e.now c.args.scales.now.e_to_b X (up c.args.e.now.cells Y (line_start c.args.b.now.low c.args.y c.args.z))
-      (c.line_length-count.result + 1) c.half_rows.new.rooms.x_by_y
+      c.line_length-count.result c.half_rows.new.rooms.x_by_y
   z_by_y : IsScaledRow c.args.e.now c.args.scales.now.e_to_b Z (up c.args.e.now.cells Y (line_start c.args.b.now.low c.args.y c.args.z))
       (c.line_length-count.result + 1) c.half_rows.new.rooms.z_by_y
   x_by_z : IsScaledRow c.args.e.now c.args.scales.now.e_to_b X (up c.args.e.now.cells Z (line_start c.args.b.now.low c.args.y c.args.z))
-      (c.line_length-count.result + 1) c.half_rows.new.rooms.x_by_z
+      c.line_length-count.result c.half_rows.new.rooms.x_by_z
   y_by_z : IsScaledRow c.args.e.now c.args.scales.now.e_to_b Y (up c.args.e.now.cells Z (line_start c.args.b.now.low c.args.y c.args.z))
-      (c.line_length-count.result + 1) c.half_rows.new.rooms.y_by_z
+      c.line_length-count.result c.half_rows.new.rooms.y_by_z
 
 known : (c : After-half_rows) → Known c
 known c =
@@ -43,17 +43,17 @@ known c =
     c.cell_in-here.ensures.value ∙ ap (λ (l : Spot). outer_of l inner) c.zone-zone.ensures.low in
     record {
       same = same;
-      x = subst (λ (m : ℕ). IsScaledRow e by X (line_start c.args.b.now.low c.args.y c.args.z) (m + 1) rooms.x) (sym same)
-          (subst (λ (row : List ℤ). IsScaledRow e by X (line_start c.args.b.now.low c.args.y c.args.z) (c.args.b.now.size.x + 1) row)
+      x = subst (λ (m : ℕ). IsScaledRow e by X (line_start c.args.b.now.low c.args.y c.args.z) m rooms.x) (sym same)
+          (subst (λ (row : List ℤ). IsScaledRow e by X (line_start c.args.b.now.low c.args.y c.args.z) c.args.b.now.size.x row)
           (sym h.x) c.requires.x_row);
       y = subst (λ (s : Triple). IsScaledRow e by Y s (count + 1) rooms.y) at h.y;
       z = subst (λ (m : ℕ). IsScaledRow e by Z (line_start c.args.b.now.low c.args.y c.args.z) (m + 1) rooms.z) (sym same)
           (subst (λ (row : List ℤ). IsScaledRow e by Z (line_start c.args.b.now.low c.args.y c.args.z) (c.args.b.now.size.x + 1) row)
           (sym h.z) c.requires.z_row);
-      x_by_y = subst (λ (s : Triple). IsScaledRow e by X (up e.cells Y s) (count + 1) rooms.x_by_y) at h.x_by_y;
+      x_by_y = subst (λ (s : Triple). IsScaledRow e by X (up e.cells Y s) count rooms.x_by_y) at h.x_by_y;
       z_by_y = subst (λ (s : Triple). IsScaledRow e by Z (up e.cells Y s) (count + 1) rooms.z_by_y) at h.z_by_y;
-      x_by_z = subst (λ (s : Triple). IsScaledRow e by X (up e.cells Z s) (count + 1) rooms.x_by_z) at h.x_by_z;
-      y_by_z = subst (λ (s : Triple). IsScaledRow e by Y (up e.cells Z s) (count + 1) rooms.y_by_z) at h.y_by_z;
+      x_by_z = subst (λ (s : Triple). IsScaledRow e by X (up e.cells Z s) count rooms.x_by_z) at h.x_by_z;
+      y_by_z = subst (λ (s : Triple). IsScaledRow e by Y (up e.cells Z s) count rooms.y_by_z) at h.y_by_z;
     }
 
 pub returns-clause-changed : goal.returns-clause-changed
@@ -86,13 +86,14 @@ pub returns-clause-x_row : goal.returns-clause-x_row
 returns-clause-x_row c =
     let k = known (goal.at.returns-clause-x_row c).After-half_rows in
     copied_row c.args.e.now c.args.scales.now.e_to_b X (up c.args.e.now.cells Y (line_start c.args.b.now.low c.args.y c.args.z))
-    (c.line_length-count.result) c.args.b.now.size.x c.half_rows.new.rooms.x_by_y c.copy_row.new.to k.x_by_y c.copy_row.ensures k.same
+    c.line_length-count.result c.args.b.now.size.x c.half_rows.new.rooms.x_by_y c.copy_row.new.to k.x_by_y c.copy_row.ensures k.same
 
 pub returns-clause-z_row : goal.returns-clause-z_row
 returns-clause-z_row c =
     let k = known (goal.at.returns-clause-z_row c).After-half_rows in
     copied_row c.args.e.now c.args.scales.now.e_to_b Z (up c.args.e.now.cells Y (line_start c.args.b.now.low c.args.y c.args.z))
-    (c.line_length-count.result) c.args.b.now.size.x c.half_rows.new.rooms.z_by_y c.copy_row-2.new.to k.z_by_y c.copy_row-2.ensures k.same
+    (c.line_length-count.result + 1) (c.args.b.now.size.x + 1) c.half_rows.new.rooms.z_by_y c.copy_row-2.new.to k.z_by_y c.copy_row-2.ensures
+    (ap (λ (m : ℕ). m + 1) k.same)
 
 pub returns-clause-calm : goal.returns-clause-calm
 returns-clause-calm c = λ all.

@@ -11,7 +11,7 @@ use Rattle.pic_field.proofs.row.lessen_row.Goals as goal
 use Rattle.pic_field.proofs.row.lessen_row.Goals.{After-loop-i}
 
 -- the value at a place: the old one less the curl, as the code computes it
-module _ (o a b c d : ℤ) (old : IsAtMost o (2 ^ 91)) (far_third : IsAtMost a (2 ^ 121)) (near_third : IsAtMost b (2 ^ 121)) (far_second : IsAtMost c (2 ^ 121))
+module _ (o a b c d : ℤ) (old : IsAtMost o (2 ^ 90)) (far_third : IsAtMost a (2 ^ 121)) (near_third : IsAtMost b (2 ^ 121)) (far_second : IsAtMost c (2 ^ 121))
     (near_second : IsAtMost d (2 ^ 121))
   where
     abbrev word : ℤ → ℤ

@@ -10,8 +10,8 @@ use Rattle.pic_field.specs.Lines.{BelowLayer}
 use Rattle.pic_field.proofs.CalmLaws.{all_small, calm_none, new_stop}
 use Rattle.pic_field.proofs.FaultLaws.{bounded_on_ok}
 use Rattle.pic_field.proofs.ZoneLaws.{edge_at-outer}
-use Rattle.pic_field.proofs.magnetic.half_b.Goals as goal
-use Rattle.pic_field.proofs.magnetic.half_b.Goals.{After-half_layers}
+use Rattle.pic_field.proofs.magnetic.half_b_in.Goals as goal
+use Rattle.pic_field.proofs.magnetic.half_b_in.Goals.{After-half_layers}
 
 pub half_layers-requires-clause-b_small : goal.half_layers-requires-clause-b_small
 half_layers-requires-clause-b_small c = all_small (2 ^ 90) (BelowLayer c.args.b.now.size.z) c.args.b.now c.args.e.now.cells c.requires.among c.requires.b_small

@@ -11,8 +11,8 @@ use Rattle.pic_field.specs.Lines.{BelowLayer}
 use Rattle.pic_field.proofs.CalmLaws.{all_small, calm_none, new_stop}
 use Rattle.pic_field.proofs.FaultLaws.{bounded_on_ok}
 use Rattle.pic_field.proofs.ZoneLaws.{edge_at-outer, edge_at-shaped}
-use Rattle.pic_field.proofs.electric.full_e.Goals as goal
-use Rattle.pic_field.proofs.electric.full_e.Goals.{After-full_layers}
+use Rattle.pic_field.proofs.electric.full_e_in.Goals as goal
+use Rattle.pic_field.proofs.electric.full_e_in.Goals.{After-full_layers}
 
 pub full_layers-requires-clause-e_small : goal.full_layers-requires-clause-e_small
 full_layers-requires-clause-e_small c = all_small (2 ^ 90) (BelowLayer c.args.e.now.size.z) c.args.e.now c.args.b.now.cells c.requires.among c.requires.e_small

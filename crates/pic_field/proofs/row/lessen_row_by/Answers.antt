@@ -1,0 +1,63 @@
+use Rattle.std.proofs.Common.{◌≡◌, ◌^◌, ◌<◌, ◌≤◌, ◌+ℤ◌, ◌-ℤ◌, ℕ, ℤ, length, to_z, of_z, subst, arith}
+use Rattle.std.proofs.lemmas.Bool.{leb-true}
+use mir.Syntax.{w128}
+use mir.Val.{SFits}
+use Rattle.pic_num.specs.Sizes.{IsAtMost}
+use Rattle.pic_num.proofs.SizeLaws.{codes, code_is, code_fits}
+use Rattle.pic_field.specs.Rows.{row_at, curl_of}
+use Rattle.pic_field.proofs.LineLaws.{both_true}
+use Rattle.pic_field.proofs.RowLaws.{row_more, small_more}
+use Rattle.pic_field.proofs.row.lessen_row_by.Goals as goal
+use Rattle.pic_field.proofs.row.lessen_row_by.Goals.{After-loop-i}
+
+-- the value at a place: the old one less what is taken and the curl, as the code computes it
+module _ (o t a b c d : ℤ) (old : IsAtMost o (2 ^ 90)) (take : IsAtMost t (2 ^ 90)) (far_third : IsAtMost a (2 ^ 121)) (near_third : IsAtMost b (2 ^ 121)) (far_second : IsAtMost c (2 ^ 121))
+    (near_second : IsAtMost d (2 ^ 121))
+  where
+    abbrev word : ℤ → ℤ
+    word z = to_z w128 (of_z w128 z)
+
+    abbrev curl : ℤ
+    curl = word (word (word a -ℤ word b) -ℤ word c) +ℤ word d
+
+    curl_fits : SFits w128 curl
+    curl_fits = code_fits w128 (search codes depth 20) tt
+
+    value_fits : SFits w128 (word (word o -ℤ word t) -ℤ word curl)
+    value_fits = code_fits w128 (search codes depth 24) tt
+
+    value_is : word (word (word o -ℤ word t) -ℤ word curl) ≡ o -ℤ t -ℤ curl_of a b c d
+    value_is = code_is (search codes depth 24) tt
+
+pub overflow_add-curl : goal.overflow_add-curl
+overflow_add-curl c =
+    let i = c.loop-i.i in
+    let h = c.requires in
+    curl_fits (row_at c.args.old.now i) (row_at c.args.take.now i) _ _ _ _ (h.small.at_most i c.loop-i-test.true)
+    (h.take.small.at_most i c.loop-i-test.true) (h.far_third.small.at_most i c.loop-i-test.true)
+    (h.near_third.small.at_most i c.loop-i-test.true) (h.far_second.small.at_most i c.loop-i-test.true) (h.near_second.small.at_most i c.loop-i-test.true)
+
+pub overflow_sub-value-in-loop-i : goal.overflow_sub-value-in-loop-i
+overflow_sub-value-in-loop-i c =
+    let i = c.loop-i.i in
+    let h = c.requires in
+    value_fits _ _ _ _ _ _ (h.small.at_most i c.loop-i-test.true) (h.take.small.at_most i c.loop-i-test.true) (h.far_third.small.at_most i c.loop-i-test.true)
+    (h.near_third.small.at_most i c.loop-i-test.true) (h.far_second.small.at_most i c.loop-i-test.true) (h.near_second.small.at_most i c.loop-i-test.true)
+
+pub loop-i-preserved : goal.loop-i-preserved
+loop-i-preserved c =
+    let i = c.loop-i.i in
+    let h = c.requires in
+    let value = value_is _ _ _ _ _ _ (h.small.at_most i c.loop-i-test.true) (h.take.small.at_most i c.loop-i-test.true) (h.far_third.small.at_most i c.loop-i-test.true)
+    (h.near_third.small.at_most i c.loop-i-test.true) (h.far_second.small.at_most i c.loop-i-test.true) (h.near_second.small.at_most i c.loop-i-test.true) in
+    let inside : i < length c.loop-i.new = omega arith in
+    record {
+      values = row_more
+          (λ k z. z ≡ row_at c.args.old.now k -ℤ row_at c.args.take.now k -ℤ curl_of (row_at c.args.four.now.far_third.now k) (row_at c.args.four.now.near_third.now k)
+          (row_at c.args.four.now.far_second.now k) (row_at c.args.four.now.near_second.now k))
+          c.loop-i.new i _ inside c.loop-i.invariant.values value;
+      calm = λ e.
+          let both = both_true c.loop-i.calm _ e in
+          small_more c.args.most c.loop-i.new i _ inside (c.loop-i.invariant.calm both.0)
+          (record { size = subst (λ (m : ℕ). m ≤ c.args.most) c.unsigned_abs.ensures.value (leb-true c.unsigned_abs.result c.args.most both.1) });
+    }
