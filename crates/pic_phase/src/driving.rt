@@ -14,14 +14,20 @@ ghost use Rattle.pic_phase.specs.Phases.{Advances};
 
 use crate::shares::{share, useful};
 use crate::stops::earlier;
-use pic_field::full_e;
+use pic_field::{Rooms, full_e_in};
 use pic_grid::{Block, Lattice, Phase, Stop};
 use pic_num::Scales;
 use pic_tile::{Dir, Tile, TileMap};
 use std::thread::{Threads, join_mut};
 
 /// A step of E in the block of a tile, by the tile's flux. The tile is left without flux and stop.
-fn full_tile(scales: &Scales, b: &Lattice, tile: &mut Tile, e: &mut Block) -> Option<Stop>
+fn full_tile(
+    scales: &Scales,
+    b: &Lattice,
+    tile: &mut Tile,
+    e: &mut Block,
+    rooms: &mut Rooms,
+) -> Option<Stop>
     requires can { CanDrive b.now.cells tile.old e.old }
     requires b_small { EachAtMost most_value b.now }
     ensures driven { IsDriven scales.now b.now tile.old e.old tile.new e.new }
@@ -29,7 +35,7 @@ fn full_tile(scales: &Scales, b: &Lattice, tile: &mut Tile, e: &mut Block) -> Op
 {
     match tile.take_parcel(Dir::HERE) {
         Some(mut parcel) => {
-            let stop = full_e(scales, b, &parcel.flux, e).err();
+            let stop = full_e_in(scales, b, &parcel.flux, e, rooms).err();
             parcel.flux.clear();
             parcel.stop = None;
             tile.put_parcel(parcel);
@@ -50,9 +56,10 @@ fn full_in_turn(
     requires b_small { EachAtMost most_value b.now }
     ensures { AreDriven scales.now b.now tiles.old blocks.old tiles.new blocks.new result }
 {
+    let mut rooms = Rooms::new();
     let mut least = None;
     for i in 0..tiles.len() {
-        let stop = full_tile(scales, b, &mut tiles[i], &mut blocks[i]);
+        let stop = full_tile(scales, b, &mut tiles[i], &mut blocks[i], &mut rooms);
         least = earlier(least, stop);
     }
     least

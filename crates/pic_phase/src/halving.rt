@@ -12,7 +12,7 @@ ghost use Rattle.pic_phase.specs.Phases.{Advances};
 
 use crate::shares::{share, useful};
 use crate::stops::earlier;
-use pic_field::half_b;
+use pic_field::{Rooms, half_b_in};
 use pic_grid::{Block, Lattice, Phase, Stop};
 use pic_num::Scales;
 use std::thread::{Threads, join_mut};
@@ -24,9 +24,10 @@ fn half_in_turn(scales: &Scales, e: &Lattice, phase: Phase, blocks: &mut [Block]
     ensures blocks { EachBlock (IsHalved scales.now e.now) blocks.old blocks.new }
     ensures stop { result ≡ halved_stop phase scales.now e.now blocks.old }
 {
+    let mut rooms = Rooms::new();
     let mut least = None;
     for i in 0..blocks.len() {
-        let stop = half_b(scales, e, &mut blocks[i], phase).err();
+        let stop = half_b_in(scales, e, &mut blocks[i], phase, &mut rooms).err();
         least = earlier(least, stop);
     }
     least

@@ -5,4 +5,4 @@ use Rattle.pic_phase.proofs.driving.full_tile.Goals as goal
 pub returns-clause-stop : goal.returns-clause-stop
 returns-clause-stop c =
     c.err-stop.ensures.value
-    ∙ taken_stop c.args.scales.now c.args.b.now c.args.tile.now c.args.e.now c.in-Some.parcel _ c.in-Some.ensures.taken c.full_e.ensures.stop
+    ∙ taken_stop c.args.scales.now c.args.b.now c.args.tile.now c.args.e.now c.in-Some.parcel _ c.in-Some.ensures.taken c.full_e_in.ensures.stop

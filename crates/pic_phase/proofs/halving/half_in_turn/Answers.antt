@@ -13,8 +13,8 @@ use Rattle.pic_phase.proofs.halving.half_in_turn.Goals as goal
 pub loop-i-init : goal.loop-i-init
 loop-i-init c = (stepping_none (IsHalved c.args.scales.now c.args.e.now) c.args.blocks.now, sym (earliest_zero _))
 
-pub half_b-requires-clause-b_small : goal.half_b-requires-clause-b_small
-half_b-requires-clause-b_small c =
+pub half_b_in-requires-clause-b_small : goal.half_b_in-requires-clause-b_small
+half_b_in-requires-clause-b_small c =
     let bs = c.loop-i.blocks in
     let i = c.loop-i.i in
     let below : i < length bs = omega arith in
@@ -29,14 +29,14 @@ loop-i-preserved c =
     let e = c.args.e.now in
     let bs = c.loop-i.blocks in
     let i = c.loop-i.i in
-    let u = c.half_b.new.b in
+    let u = c.half_b_in.new.b in
     let was = get_or bs i c.index-blocks-i.result in
     let below : i < length bs = omega arith in
     let at : was ≡ block_in bs i = get_or_default bs i c.index-blocks-i.result no_block below in
     let from_start : was ≡ block_in c.args.blocks.now i = at ∙ c.loop-i.invariant.0.rest i (omega arith) in
-    let one : IsHalved scales e was u = record { shaped = c.half_b.ensures.shape; values = c.half_b.ensures.values } in
+    let one : IsHalved scales e was u = record { shaped = c.half_b_in.ensures.shape; values = c.half_b_in.ensures.values } in
     let stop = c.err-stop.ensures.value
-    ∙ stop_of (block_stop c.args.phase scales.b_force (half_in scales e was) was) c.half_b.result c.half_b.ensures.stop
+    ∙ stop_of (block_stop c.args.phase scales.b_force (half_in scales e was) was) c.half_b_in.result c.half_b_in.ensures.stop
     ∙ ap (λ (b : BlockValues). block_stop c.args.phase scales.b_force (half_in scales e b) b) from_start in
     let least = c.loop-i.invariant.1 in (
       stepping_more (IsHalved scales e) c.args.blocks.now bs i u below c.loop-i.invariant.0 (subst (λ (b : BlockValues). IsHalved scales e b u) at one),
