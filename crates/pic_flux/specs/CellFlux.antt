@@ -1,5 +1,5 @@
 -- The flux through the twelve edges of a cell, held as values.
-use Rattle.std.specs.Prelude.{ℕ, ℤ, pos, ◌^◌, ◌+ℤ◌, ◌≤ℤ◌, ◌<ℤ◌, ◌↔◌, Bool, IsTrue}
+use Rattle.std.specs.Prelude.{ℕ, ℤ, pos, ◌^◌, ◌+ℤ◌, ◌≤ℤ◌, ◌<ℤ◌, ◌↔◌, Bool, true, false, IsTrue}
 use Rattle.pic_num.specs.declared.axis.Axis.{Axis}
 use Rattle.pic_num.specs.declared.axis.Axis.TheVariants.{X, Y, Z}
 use Rattle.pic_num.specs.Sizes.{IsAtMost}
@@ -15,6 +15,10 @@ use Rattle.pic_flux.specs.Corners.{at_corners, both}
 -- four values at the edges along axis round a cell, and 0 at every other edge
 abbrev pub at_four : Axis → Spot → Four → Axis → Spot → ℤ
 at_four axis c f = at_corners axis c f.low_low f.high_low f.low_high f.high_high
+
+-- the cell
+abbrev pub flux_cell : CellFlux → Spot
+flux_cell f = spot f.cell
 
 -- what the values at the twelve edges of a cell give to each edge: 0 to all others
 abbrev pub edge_flux : CellFlux → Axis → Spot → ℤ
@@ -56,6 +60,18 @@ pub record AreLayers (low : Spot) (size : Triple) (c : Spot) (l : Layers) : Type
   pub over_x : IsTrue l.up_x ↔ IsLayer low.x size.x (c.x +ℤ pos 1)
   pub over_y : IsTrue l.up_y ↔ IsLayer low.y size.y (c.y +ℤ pos 1)
   pub over_z : IsTrue l.up_z ↔ IsLayer low.z size.z (c.z +ℤ pos 1)
+
+-- every layer of a cell but the next one up on an axis
+abbrev pub near_layers : Axis → Layers
+near_layers X = record { x = true; y = true; z = true; up_x = false; up_y = true; up_z = true }
+near_layers Y = record { x = true; y = true; z = true; up_x = true; up_y = false; up_z = true }
+near_layers Z = record { x = true; y = true; z = true; up_x = true; up_y = true; up_z = false }
+
+-- every one but the cell's own on an axis
+abbrev pub far_layers : Axis → Layers
+far_layers X = record { x = false; y = true; z = true; up_x = true; up_y = true; up_z = true }
+far_layers Y = record { x = true; y = false; z = true; up_x = true; up_y = true; up_z = true }
+far_layers Z = record { x = true; y = true; z = false; up_x = true; up_y = true; up_z = true }
 
 -- which of the four edges along axis round a cell a zone has
 pub record AreFound (low : Spot) (size : Triple) (axis : Axis) (c : Spot) (f : Found) : Type 0 where

@@ -7,9 +7,9 @@ ghost use Rattle.pic_grid.specs.Flux.{flux};
 ghost use Rattle.pic_grid.specs.Segment.{IsInCell};
 ghost use Rattle.pic_grid.specs.Block.{IsShaped, AllAtMost};
 ghost use Rattle.pic_flux.specs.Adds.{Adds};
-ghost use Rattle.pic_flux.specs.CellFlux.{edge_flux, IsModest};
+ghost use Rattle.pic_flux.specs.CellFlux.{edge_flux, flux_cell, IsModest, AreLayers, near_layers, far_layers};
 
-use crate::edges::{add_corners, edges_in, layers_in};
+use crate::edges::{Layers, add_corners, edges_in, far_layers, layers_in, near_layers};
 use crate::four::{Four, four_of};
 use pic_grid::{Block, Segment};
 use pic_num::{Axis, Sub};
@@ -31,6 +31,7 @@ impl CellFlux {
         requires { IsInCell sub seg.now }
         ensures flux { (a : Axis) (c : Spot) → edge_flux result a c ≡ flux sub q seg.now a c }
         ensures modest { IsModest result }
+        ensures cell { flux_cell result ≡ seg.now.cell }
     {
         let charge = i64::from(q);
         let x = four_of(sub, seg, charge, Axis::X);
@@ -52,12 +53,48 @@ impl CellFlux {
         ensures shape { IsShaped to.old to.new }
         ensures values { Adds to.old to.new (edge_flux self.now) }
     {
+        let layers = layers_in(to, self.cell);
+        self.add_by(&layers, to);
+    }
+
+    /// The same for a block that has every layer of the cell but the next one up on an axis.
+    #[inline(always)]
+    pub fn add_near(&self, axis: Axis, to: &mut Block)
+        requires modest { IsModest self.now }
+        requires near { AreLayers to.old.low to.old.size (flux_cell self.now) (near_layers axis) }
+        requires room { AllAtMost (2 ^ 100) to.old }
+        ensures shape { IsShaped to.old to.new }
+        ensures values { Adds to.old to.new (edge_flux self.now) }
+    {
+        self.add_by(&near_layers(axis), to);
+    }
+
+    /// The same for a block that has every layer of the cell but its own on an axis.
+    #[inline(always)]
+    pub fn add_far(&self, axis: Axis, to: &mut Block)
+        requires modest { IsModest self.now }
+        requires far { AreLayers to.old.low to.old.size (flux_cell self.now) (far_layers axis) }
+        requires room { AllAtMost (2 ^ 100) to.old }
+        ensures shape { IsShaped to.old to.new }
+        ensures values { Adds to.old to.new (edge_flux self.now) }
+    {
+        self.add_by(&far_layers(axis), to);
+    }
+
+    /// The same for a block that has these layers of the cell.
+    #[inline(always)]
+    fn add_by(&self, layers: &Layers, to: &mut Block)
+        requires modest { IsModest self.now }
+        requires layers { AreLayers to.old.low to.old.size (flux_cell self.now) layers.now }
+        requires room { AllAtMost (2 ^ 100) to.old }
+        ensures shape { IsShaped to.old to.new }
+        ensures values { Adds to.old to.new (edge_flux self.now) }
+    {
         let cell = self.cell;
         let (x, y, z) = (self.x, self.y, self.z);
-        let layers = layers_in(to, cell);
-        let in_x = edges_in(to, Axis::X, cell, &layers);
-        let in_y = edges_in(to, Axis::Y, cell, &layers);
-        let in_z = edges_in(to, Axis::Z, cell, &layers);
+        let in_x = edges_in(to, Axis::X, cell, layers);
+        let in_y = edges_in(to, Axis::Y, cell, layers);
+        let in_z = edges_in(to, Axis::Z, cell, layers);
         add_corners(to, Axis::X, cell, &in_x, &x);
         add_corners(to, Axis::Y, cell, &in_y, &y);
         add_corners(to, Axis::Z, cell, &in_z, &z);

@@ -1,13 +1,13 @@
 //! The deposition of a segment's flux along one axis.
 
-ghost use Rattle.std.specs.Prelude.{pos, ◌^◌, ◌+ℤ◌, ◌≤ℤ◌, ◌<ℤ◌, ◌↔◌, IsTrue};
+ghost use Rattle.std.specs.Prelude.{◌≡◌, pos, ◌^◌, ◌+ℤ◌, ◌≤ℤ◌, ◌<ℤ◌, ◌↔◌, IsTrue};
 ghost use Rattle.pic_num.specs.Sizes.{IsAtMost};
 ghost use Rattle.pic_num.specs.Space.{spot, along, next_axis};
 ghost use Rattle.pic_grid.specs.Flux.{flux};
 ghost use Rattle.pic_grid.specs.Segment.{IsInCell};
 ghost use Rattle.pic_grid.specs.Block.{InZone, IsShaped, AllAtMost};
 ghost use Rattle.pic_flux.specs.Adds.{Adds};
-ghost use Rattle.pic_flux.specs.CellFlux.{at_four, AreFound, AreSmall, IsLayer, AreLayers, AreTrue};
+ghost use Rattle.pic_flux.specs.CellFlux.{at_four, AreFound, AreSmall, IsLayer, AreLayers, AreTrue, near_layers, far_layers};
 ghost use Rattle.pic_flux.specs.Corners.{HasEdges, at_edge, on_axis, at_corners};
 
 use crate::four::{Four, four_of};
@@ -49,6 +49,52 @@ fn is_among(low: i32, size: u32, c: i64) -> bool
         return false;
     }
     true
+}
+
+/// Every layer of a cell but the next one up on an axis.
+#[inline(always)]
+pub(crate) fn near_layers(axis: Axis) -> Layers
+    ensures { result ≡ near_layers axis }
+{
+    match axis {
+        Axis::X => layers_by(true, true, true, false, true, true),
+        Axis::Y => layers_by(true, true, true, true, false, true),
+        Axis::Z => layers_by(true, true, true, true, true, false),
+    }
+}
+
+/// Every layer of a cell but its own on an axis.
+#[inline(always)]
+pub(crate) fn far_layers(axis: Axis) -> Layers
+    ensures { result ≡ far_layers axis }
+{
+    match axis {
+        Axis::X => layers_by(false, true, true, true, true, true),
+        Axis::Y => layers_by(true, false, true, true, true, true),
+        Axis::Z => layers_by(true, true, false, true, true, true),
+    }
+}
+
+/// Layers by the tests of each.
+#[inline(always)]
+fn layers_by(x: bool, y: bool, z: bool, up_x: bool, up_y: bool, up_z: bool) -> Layers
+    ensures { result ≡ record {
+      x = x;
+      y = y;
+      z = z;
+      up_x = up_x;
+      up_y = up_y;
+      up_z = up_z;
+    } }
+{
+    Layers {
+        x,
+        y,
+        z,
+        up_x,
+        up_y,
+        up_z,
+    }
 }
 
 /// Which of the layers of a cell and of the next ones up a block has: all edges of the cell share
@@ -191,9 +237,9 @@ fn are_among(low: i32, size: u32, c: i32) -> bool
     above >= 0 && above + 1 < i64::from(size)
 }
 
-/// Whether a zone has all edges of a cell.
+/// Whether a block has all edges of a cell.
 #[inline(always)]
-pub(crate) fn has_edges(to: &Block, cell: [i32; 3]) -> bool
+pub fn has_edges(to: &Block, cell: [i32; 3]) -> bool
     ensures { IsTrue result → HasEdges to.now.low to.now.size (spot cell) }
 {
     let Zone { low, size } = to.zone();

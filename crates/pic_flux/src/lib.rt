@@ -11,4 +11,5 @@ mod tests;
 mod weights;
 
 pub use cell_flux::CellFlux;
-pub use deposits::{deposit, deposit_track};
+pub use deposits::{deposit, deposit_inside, deposit_track};
+pub use edges::has_edges;

@@ -13,3 +13,4 @@ pub mod SendLaws
 pub mod ParcelLaws
 pub mod PushingLaws
 pub mod LeastLaws
+pub mod SideLaws

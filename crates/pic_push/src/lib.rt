@@ -10,6 +10,7 @@ mod paths;
 mod pushing;
 mod reach;
 mod sending;
+mod sides;
 mod spreading;
 mod stops;
 mod tile_push;

@@ -2,9 +2,9 @@
 //! leads.
 
 ghost use Rattle.std.specs.Prelude.{◌≡◌, ℕ, pos, ◌<◌, ◌≤◌, ◌≤ℤ◌, ◌<ℤ◌, ◌+ℤ◌, unsigned_abs};
-ghost use Rattle.std.specs.Prelude.{IsTrue, false};
+ghost use Rattle.std.specs.Prelude.{false};
 ghost use Rattle.pic_num.specs.Space.{triple, spot};
-ghost use Rattle.pic_tile.specs.Directions.{directions, here};
+ghost use Rattle.pic_tile.specs.Directions.{directions};
 ghost use Rattle.pic_tile.specs.Leaving.{step_to};
 ghost use Rattle.pic_push.specs.Reach.{reaches, IsReach, IsReachOf, AreStepsOf};
 ghost use Rattle.pic_push.specs.Reach.{direction_from, first_of, end_of};
@@ -43,14 +43,6 @@ impl Reach {
         }
     }
 
-    /// Whether that of no step is its only direction.
-    pub fn stays(&self) -> bool
-        ensures { IsTrue result → (d : ℕ) → d < directions → (d ≡ here → ⊥)
-            → reaches self.now d ≡ false }
-    {
-        self.x.stays() && (self.y.stays() && self.z.stays())
-    }
-
     /// The number of its first direction.
     pub fn first(&self) -> u32
         requires { IsReach self.now }
@@ -86,16 +78,6 @@ impl Reach {
             return self.x.first + 3 * self.y.first + 9 * (z + 1);
         }
         self.end()
-    }
-}
-
-impl Steps {
-    /// Whether no step is the only one of them.
-    fn stays(&self) -> bool
-        ensures first { IsTrue result → self.now.first ≡ 1 }
-        ensures last { IsTrue result → self.now.last ≡ 1 }
-    {
-        self.first == 1 && self.last == 1
     }
 }
 

@@ -20,9 +20,10 @@ ghost use Rattle.pic_push.specs.Sends.{HasRoom, IsOpen, HasLayers, IsOpenTo, mos
 use crate::feeling::charge_of;
 use crate::paths::Path;
 use crate::reach::Reach;
-use crate::spreading::spread;
+use crate::sides::side_of;
+use crate::spreading::{add_beyond, spread};
 use pic_boris::Moved;
-use pic_flux::{CellFlux, deposit};
+use pic_flux::{CellFlux, deposit_inside, has_edges};
 use pic_grid::{Segment, Track, Zone};
 use pic_num::{Particle, Sub};
 use pic_split::{lone, split};
@@ -46,8 +47,7 @@ pub(crate) fn path_of(frame: &Frame, particle: &Particle, by: &Moved) -> Path
 }
 
 /// Adds the flux of the charge `q` on a piece of a path to all parcels of a tile, of which that of
-/// no step is held apart. Most pieces send flux through the tile's own layers alone; for others it
-/// is computed once for all parcels.
+/// no step is held apart. Most pieces send flux through the tile's own layers alone.
 #[inline(always)]
 fn send_piece(sub: Sub, piece: &Segment, q: i32, zone: Zone, tile: &mut Tile, own: &mut Parcel)
     requires inside { IsInCell sub piece.now }
@@ -57,15 +57,35 @@ fn send_piece(sub: Sub, piece: &Segment, q: i32, zone: Zone, tile: &mut Tile, ow
     ensures own { Gained (flux sub q piece.now) own.old own.new }
     ensures others { Gains (flux sub q piece.now) tile.old tile.new }
 {
-    let _side = sub.side();
-    let reach = Reach::of(zone, piece.cell);
-    if reach.stays() {
-        deposit(sub, piece, q, &mut own.flux);
+    if has_edges(&own.flux, piece.cell) {
+        deposit_inside(sub, piece, q, &mut own.flux);
         return;
     }
+    send_widely(sub, piece, q, zone, tile, own);
+}
+
+/// The same for any piece: its flux is computed once for all parcels. Most are those at one side of
+/// the tile, whose edges need no test of their own.
+fn send_widely(sub: Sub, piece: &Segment, q: i32, zone: Zone, tile: &mut Tile, own: &mut Parcel)
+    requires inside { IsInCell sub piece.now }
+    requires charge { IsAtMost q most_charge }
+    requires open { IsOpenTo most_sent (spot zone.low) (triple zone.size) tile.old }
+    requires room { HasLayers most_sent (spot zone.low) (triple zone.size) here own.old }
+    ensures own { Gained (flux sub q piece.now) own.old own.new }
+    ensures others { Gains (flux sub q piece.now) tile.old tile.new }
+{
     let flux = CellFlux::of(sub, piece, q);
-    flux.add_to(&mut own.flux);
-    spread(&flux, &reach, tile);
+    match side_of(zone, piece.cell) {
+        Some(axis) => {
+            flux.add_near(axis, &mut own.flux);
+            add_beyond(&flux, axis, tile);
+        }
+        None => {
+            let reach = Reach::of(zone, piece.cell);
+            flux.add_to(&mut own.flux);
+            spread(&flux, &reach, tile);
+        }
+    }
 }
 
 /// The same for the pieces of a path that crosses faces of cells, one after the other.

@@ -2,15 +2,17 @@
 
 ghost use Rattle.std.specs.Prelude.{◌≡◌, ℕ, ◌<◌, ◌^◌, false};
 ghost use Rattle.pic_grid.specs.Block.{AllAtMost};
-ghost use Rattle.pic_flux.specs.CellFlux.{edge_flux, IsModest};
+ghost use Rattle.pic_flux.specs.CellFlux.{edge_flux, flux_cell, IsModest, AreLayers, far_layers};
 ghost use Rattle.pic_tile.specs.declared.parcel.Parcel.{Parcel};
 ghost use Rattle.pic_tile.specs.Directions.{directions, here};
 ghost use Rattle.pic_tile.specs.Tile.{parcel_at};
 ghost use Rattle.pic_push.specs.Gains.{GainsAt, Gains, IsClear};
 ghost use Rattle.pic_push.specs.Reach.{IsReach, reaches};
+ghost use Rattle.pic_push.specs.Sides.{number_up};
 
 use crate::reach::Reach;
 use pic_flux::CellFlux;
+use pic_num::Axis;
 use pic_tile::{Dir, Tile};
 
 /// Adds the flux of a piece to a tile's parcel of a direction, if it is there.
@@ -22,6 +24,37 @@ fn add_to(flux: &CellFlux, dir: Dir, tile: &mut Tile)
     match tile.take_parcel(dir) {
         Some(mut parcel) => {
             flux.add_to(&mut parcel.flux);
+            tile.put_parcel(parcel);
+        }
+        None => {}
+    }
+}
+
+/// The direction of a step up on an axis.
+fn dir_up(axis: Axis) -> Dir
+    ensures { result ≡ number_up axis }
+{
+    match axis {
+        Axis::X => Dir::of(14),
+        Axis::Y => Dir::of(16),
+        Axis::Z => Dir::of(22),
+    }
+}
+
+/// Adds it to the parcel of a step up on an axis, if it is there: it has every layer of the piece's
+/// cell but the cell's own on that axis.
+#[inline(always)]
+pub(crate) fn add_beyond(flux: &CellFlux, axis: Axis, tile: &mut Tile)
+    requires modest { IsModest flux.now }
+    requires room { (p : Parcel) → parcel_at tile.old (number_up axis) ≡ Some p
+        → AllAtMost (2 ^ 100) p.flux }
+    requires far { (p : Parcel) → parcel_at tile.old (number_up axis) ≡ Some p
+        → AreLayers p.flux.low p.flux.size (flux_cell flux.now) (far_layers axis) }
+    ensures { GainsAt (edge_flux flux.now) (number_up axis) tile.old tile.new }
+{
+    match tile.take_parcel(dir_up(axis)) {
+        Some(mut parcel) => {
+            flux.add_far(axis, &mut parcel.flux);
             tile.put_parcel(parcel);
         }
         None => {}

@@ -22,3 +22,6 @@ returns-clause-flux c =
     (λ i. at_four X (cell i) c.four_of-x.result a p +ℤ at_four Y (cell i) c.four_of-y.result a p +ℤ at_four Z (cell i) c.four_of-z.result a p)
     ∙ (λ i. x i +ℤ y i +ℤ z i)
     ∙ three_axes (flux side c.args.q s) a p
+
+pub returns-clause-cell : goal.returns-clause-cell
+returns-clause-cell c = ap (λ (t : Piece). t.cell) c.seg.view_is
