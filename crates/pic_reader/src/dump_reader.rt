@@ -144,7 +144,8 @@ impl DumpReader {
         ensures e { IsSameShape state.old.e state.new.e }
         ensures b { IsSameShape state.old.b state.new.b }
         ensures particles { length state.new.particles.items ≡ length state.old.particles.items }
-        ensures kept { IfOk result (λ n. AtEnd n ((state.new.e ≡ state.old.e) × (state.new.b ≡ state.old.b)
+        ensures kept { IfOk result (λ n. AtEnd n ((state.new.e ≡ state.old.e)
+            × (state.new.b ≡ state.old.b)
             × (state.new.particles.items ≡ state.old.particles.items))) }
     {
         let DumpReader {

@@ -2,3 +2,5 @@ pub mod WalkLaws
 pub mod VerdictLaws
 pub mod BreakLaws
 pub mod AllowedLaws
+pub mod FormatLaws
+pub mod MeaningLaws

@@ -26,17 +26,17 @@ use Rattle.pic_verify.specs.Verified.{Verdict, break_of, unless_broken, of_parse
 use Rattle.pic_verify.specs.Verifies.{Finds, Answered, Walks}
 
 -- a record of each kind
-walked_frame : (n : ℕ) (l : LayoutView) (k : ℕ) (last : Option ℕ) (i j : Input) (f : FrameView) → record_at l last i ≡ Ok (AFrame f, j)
+pub walked_frame : (n : ℕ) (l : LayoutView) (k : ℕ) (last : Option ℕ) (i j : Input) (f : FrameView) → record_at l last i ≡ Ok (AFrame f, j)
     → walked (suc n) l k last i ≡ unless_broken k (break_of l f.e f.particles) (walked n l (suc k) (Some f.step) j)
 unfolding walked
 walked_frame n l k last i j f is = ap (of_parsed l k (λ step rest. walked n l (suc k) (Some step) rest)) is
 
-walked_end : (n : ℕ) (l : LayoutView) (k : ℕ) (last : Option ℕ) (i j : Input) (mark : EndMark) → record_at l last i ≡ Ok (AnEnd mark, j)
+pub walked_end : (n : ℕ) (l : LayoutView) (k : ℕ) (last : Option ℕ) (i j : Input) (mark : EndMark) → record_at l last i ≡ Ok (AnEnd mark, j)
     → walked (suc n) l k last i ≡ Ok k
 unfolding walked
 walked_end n l k last i j mark is = ap (of_parsed l k (λ step rest. walked n l (suc k) (Some step) rest)) is
 
-walked_fault : (n : ℕ) (l : LayoutView) (k : ℕ) (last : Option ℕ) (i : Input) (f : Fault) → record_at l last i ≡ Err f
+pub walked_fault : (n : ℕ) (l : LayoutView) (k : ℕ) (last : Option ℕ) (i : Input) (f : Fault) → record_at l last i ≡ Err f
     → walked (suc n) l k last i ≡ Err (BadDump f.place f.cause)
 unfolding walked
 walked_fault n l k last i f is = ap (of_parsed l k (λ step rest. walked n l (suc k) (Some step) rest)) is

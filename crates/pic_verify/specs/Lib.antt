@@ -2,3 +2,4 @@ pub mod Stops
 pub mod Verified
 pub mod Verifies
 pub mod Allowed
+pub mod Meaning

@@ -23,13 +23,13 @@ Answered of before now (Err (BadDump place cause)) = Finds of before now (Err (B
 Answered of before now (Err (Broken frame at)) = Finds of before now (Err (Broken frame at))
 Answered of before now (Err NoMemory) = Calm before now
 
--- so many good frames, and the source was read to its end; or the first fault, or the first break; or a
--- read failed, or want of memory
+-- so many good frames, and the source was read to its end; or the first fault, or the first break; or
+-- a read failed, or want of memory
 pub record Verifies (before now : Told) (result : Verdict) : Type 0 where
   pub answer : Answered verified before now result
 
--- the same for the records from where a reader stands, before any frame, that no more was taken than the
--- header allows, and a byte, and that no memory was wanted
+-- the same for the records from where a reader stands, before any frame, that no more was taken than
+-- the header allows, and a byte, and that no memory was wanted
 pub record Walks (r : Standing) (before now : Told) (result : Verdict) : Type 0 where
   pub moves : Moves r.place (r.place + (records_length r.layout + 1)) before now
   pub answer : Answered (λ held. walked (r.layout.steps + 2) r.layout 0 None (input r.place held)) before now result

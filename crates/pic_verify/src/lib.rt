@@ -2,8 +2,10 @@
 //! Gauss's law.
 #![tactic(auto)]
 
+mod laws;
 mod verify_stop;
 mod verifying;
 
+pub use laws::law_of_the_verdict;
 pub use verify_stop::VerifyStop;
 pub use verifying::verify;
