@@ -4,3 +4,4 @@ pub mod BreakLaws
 pub mod AllowedLaws
 pub mod FormatLaws
 pub mod MeaningLaws
+pub mod ReachedLaws

@@ -37,7 +37,7 @@ no_break : (l : LayoutView) (f : FrameView) → MeetsGauss l.side l.cells l.kind
 unfolding break_of
 no_break l f law = gauss_none l.side l.cells l.kinds f.particles (with_values l f.e) (charge_of l.side l.cells l.kinds f.particles) (λ p within. refl) law
 
-is_gauss : (l : LayoutView) (f : FrameView) → break_of l f.e f.particles ≡ None → MeetsGauss l.side l.cells l.kinds f.particles (with_values l f.e)
+pub is_gauss : (l : LayoutView) (f : FrameView) → break_of l f.e f.particles ≡ None → MeetsGauss l.side l.cells l.kinds f.particles (with_values l f.e)
 unfolding break_of
 is_gauss l f none = meets_gauss l.side l.cells l.kinds f.particles (with_values l f.e) (charge_of l.side l.cells l.kinds f.particles) (λ p within. refl) none
 
@@ -47,7 +47,7 @@ unfolding break_of
 is_least l f b some = first_break_some l.cells (div_e l.cells (value_at (with_values l f.e))) (charge_of l.side l.cells l.kinds f.particles) b some
 
 -- the step that is due after those before
-due_is_step : (l : LayoutView) (k s : ℕ) → due_after l.steps l.every (step_before l k) ≡ Some s → s ≡ due_step l k
+pub due_is_step : (l : LayoutView) (k s : ℕ) → due_after l.steps l.every (step_before l k) ≡ Some s → s ≡ due_step l k
 due_is_step l zero s due = let same : 0 ≡ s = cc in omega (arith, same)
 due_is_step l (suc k) s due = elim (cases_lt (due_step l k) l.steps) [
   | inl less ↦ (let next = rw (lt-ltb (due_step l k) l.steps less) at due in
@@ -94,11 +94,11 @@ frame_end bytes h k f j small is =
     let far : j.place ≡ record_place h (suc k) = omega (arith, end, more) in
     behind_text bytes text j.bytes place (1 + frame_length l) j.place took.parts size end ∙ ap (λ p. bytes_from bytes p) far
 
-record HeaderRead (bytes : List ℕ) (h : HeaderView) (j : Input) : Type 0 where
-  end : j ≡ bytes_from bytes (record_place h 0)
-  least : 1 ≤ h.every
+pub record HeaderRead (bytes : List ℕ) (h : HeaderView) (j : Input) : Type 0 where
+  pub end : j ≡ bytes_from bytes (record_place h 0)
+  pub least : 1 ≤ h.every
 
-header_end : (bytes : List ℕ) (h : HeaderView) (j : Input) → IsBytes bytes → header_at (input 0 bytes) ≡ Ok (h, j) → HeaderRead bytes h j
+pub header_end : (bytes : List ℕ) (h : HeaderView) (j : Input) → IsBytes bytes → header_at (input 0 bytes) ≡ Ok (h, j) → HeaderRead bytes h j
 header_end bytes h j small is =
     let took = spells_header.takes 0 bytes h j small is in
     let place_is = took.place_is in

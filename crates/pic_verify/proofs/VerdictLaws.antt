@@ -70,7 +70,7 @@ starves x z result is calm =
     rw (q.1, q.2) (record { answer = calm })
 
 -- what a source told is what it held
-same_bytes : (before : Option (List ℕ)) (bytes held : List ℕ) → before ≡ Some bytes → before ≡ option_map (λ _. held) before → held ≡ bytes
+pub same_bytes : (before : Option (List ℕ)) (bytes held : List ℕ) → before ≡ Some bytes → before ≡ option_map (λ _. held) before → held ≡ bytes
 same_bytes None bytes held told was = cc
 same_bytes (Some known) bytes held told was = cc
 

@@ -3,3 +3,4 @@ pub mod Verified
 pub mod Verifies
 pub mod Allowed
 pub mod Meaning
+pub mod Reached

@@ -4,6 +4,7 @@ ghost use Rattle.std.specs.Prelude.{◌≡◌, length, sum, None, Err};
 ghost use Rattle.pic_reader.specs.FrameFields.{IsHeld};
 ghost use Rattle.pic_reader.specs.Layout.{IsLayout};
 ghost use Rattle.pic_verify.specs.Allowed.{TakesAllowed, TakesHeader};
+ghost use Rattle.pic_verify.specs.Reached.{Reaches, TakesToRecord};
 ghost use Rattle.pic_verify.specs.Verified.{break_of};
 ghost use Rattle.pic_verify.specs.Verifies.{Verifies, IsExact, Walks};
 ghost use Rattle.pic_verify.specs.declared.verify_stop.VerifyStop.TheVariants.{NoMemory};
@@ -20,7 +21,7 @@ use std::alloc::Global;
 /// Each frame is read whole, its energies included, and then held against Gauss's law, before the next
 /// record is read: the first fault or the first break is answered. All memory is taken before the first
 /// frame: where it is wanted, no more was taken than the longest header has. At most one byte is taken
-/// past the length that the header allows.
+/// past the length that the header allows, and none behind the first record with a fault or a break.
 ///
 /// # Errors
 /// `VerifyStop` with the first fault of the bytes (its place, counted from 0, and its cause), or the
@@ -29,6 +30,7 @@ use std::alloc::Global;
 pub fn verify<S: Source>(alloc: Global, source: &mut S) -> Result<u32, VerifyStop>
     ensures verifies { Verifies (S.told source.old) (S.told source.new) result }
     ensures taken { TakesAllowed (S.told source.old) (S.told source.new) }
+    ensures reached { TakesToRecord (S.told source.old) (S.told source.new) }
     ensures exactly { IsExact (S.told source.old) (S.told source.new) result }
     ensures no_memory { result ≡ Err NoMemory
         → TakesHeader (S.told source.old) (S.told source.new) }
@@ -52,7 +54,8 @@ fn walk<S: Source>(
     requires nodes { nodes.old.cells ≡ reader.layout.cells }
     requires limits { IsLayout reader.layout }
     requires start { reader.last ≡ None }
-    ensures { Walks reader (S.told source.old) (S.told source.new) result }
+    ensures walks { Walks reader (S.told source.old) (S.told source.new) result }
+    ensures reaches { Reaches reader (S.told source.old) (S.told source.new) }
 {
     let mut reader = reader;
     let mut frame = 0u32;

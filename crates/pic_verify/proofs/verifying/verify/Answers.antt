@@ -1,4 +1,5 @@
 use Rattle.pic_verify.proofs.VerdictLaws.{verifies_behind, verifies_head, exact, stops_taken, walks_taken}
+use Rattle.pic_verify.proofs.ReachedLaws.{stops_reached, reached_behind}
 use Rattle.pic_verify.proofs.verifying.verify.Goals as goal
 
 pub returns-in_err-reader-clause-verifies : goal.returns-in_err-reader-clause-verifies
@@ -8,13 +9,19 @@ pub returns-in_err-reader-clause-exactly : goal.returns-in_err-reader-clause-exa
 returns-in_err-reader-clause-exactly g c = exact _ _ _ (verifies_head _ _ _ _ _ _ c.from_residual.ensures.1 c.in_err-reader.ensures.reads)
 
 pub returns-clause-verifies : goal.returns-clause-verifies
-returns-clause-verifies g c = verifies_behind _ _ _ _ _ _ _ c.in_ok-reader.ensures.reads.answer c.in_ok-reader.ensures.stands c.walk.ensures
+returns-clause-verifies g c = verifies_behind _ _ _ _ _ _ _ c.in_ok-reader.ensures.reads.answer c.in_ok-reader.ensures.stands c.walk.ensures.walks
 
 pub returns-clause-exactly : goal.returns-clause-exactly
-returns-clause-exactly g c = exact _ _ _ (verifies_behind _ _ _ _ _ _ _ c.in_ok-reader.ensures.reads.answer c.in_ok-reader.ensures.stands c.walk.ensures)
+returns-clause-exactly g c = exact _ _ _ (verifies_behind _ _ _ _ _ _ _ c.in_ok-reader.ensures.reads.answer c.in_ok-reader.ensures.stands c.walk.ensures.walks)
 
 pub returns-in_err-reader-clause-taken : goal.returns-in_err-reader-clause-taken
 returns-in_err-reader-clause-taken g c = stops_taken _ _ _ _ _ c.in_err-reader.ensures.reads
 
 pub returns-clause-taken : goal.returns-clause-taken
-returns-clause-taken g c = walks_taken _ _ _ _ _ _ c.in_ok-reader.ensures.reads.answer c.in_ok-reader.ensures.stands c.walk.ensures
+returns-clause-taken g c = walks_taken _ _ _ _ _ _ c.in_ok-reader.ensures.reads.answer c.in_ok-reader.ensures.stands c.walk.ensures.walks
+
+pub returns-in_err-reader-clause-reached : goal.returns-in_err-reader-clause-reached
+returns-in_err-reader-clause-reached g c = stops_reached _ _ _ _ _ c.in_err-reader.ensures.reads
+
+pub returns-clause-reached : goal.returns-clause-reached
+returns-clause-reached g c = reached_behind _ _ _ _ _ _ c.in_ok-reader.ensures.reads.answer c.in_ok-reader.ensures.stands c.walk.ensures.reaches

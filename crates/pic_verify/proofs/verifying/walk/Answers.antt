@@ -4,6 +4,7 @@ use Rattle.pic_reader.specs.Layout.{LayoutView, IsLayout}
 use Rattle.pic_reader.specs.NextReads.{HasFrame}
 use Rattle.pic_verify.specs.Verified.{break_of}
 use Rattle.pic_verify.proofs.WalkLaws.{follows_none, follows_frame, breaks_frame, ends_records, stops_records}
+use Rattle.pic_verify.proofs.ReachedLaws.{good_none, good_frame, reached_record, reached_frame}
 use Rattle.pic_verify.proofs.verifying.walk.Goals as goal
 
 pub records-init : goal.records-init
@@ -14,13 +15,14 @@ records-init g c = record {
   particles = c.requires.particles;
   nodes = c.requires.nodes;
   limits = c.requires.limits;
+  good = good_none c.args.reader _ c.requires.start;
 }
 
-pub returns-in_err-behind : goal.returns-in_err-behind
-returns-in_err-behind g c = stops_records _ _ _ _ _ _ _ _ c.from_residual.ensures.1 c.records.invariant.follows c.in_err-behind.ensures.reads.answer
+pub returns-in_err-behind-clause-walks : goal.returns-in_err-behind-clause-walks
+returns-in_err-behind-clause-walks g c = stops_records _ _ _ _ _ _ _ _ c.from_residual.ensures.1 c.records.invariant.follows c.in_err-behind.ensures.reads.answer
 
-pub returns-in-Some : goal.returns-in-Some
-returns-in-Some g c =
+pub returns-in-Some-clause-walks : goal.returns-in-Some-clause-walks
+returns-in-Some-clause-walks g c =
     let reads = rw c.in-Frame.is at c.in_ok-behind.ensures.reads in
     let has : HasFrame _ _ _ _ _ _ _ _ _ = reads.answer in
     let so_far = c.records.invariant.follows in
@@ -48,9 +50,25 @@ records-preserved g c =
       particles = c.in_ok-behind.ensures.particles ∙ before.particles ∙ ap (λ (l : LayoutView). sum l.counts) (sym has.layout);
       nodes = c.first_break.ensures.nodes ∙ before.nodes ∙ ap (λ (l : LayoutView). l.cells) (sym has.layout);
       limits = subst IsLayout (sym has.layout) before.limits;
+      good = good_frame _ _ _ _ _ _ _ _ _ _ _ _ before.good before.follows has none;
     }
 
-pub returns-in-End : goal.returns-in-End
-returns-in-End g c =
+pub returns-in-End-clause-walks : goal.returns-in-End-clause-walks
+returns-in-End-clause-walks g c =
     let reads = rw c.in-End.is at c.in_ok-behind.ensures.reads in
     ends_records _ _ _ _ _ _ _ c.records.invariant.follows reads.answer
+
+pub returns-in_err-behind-clause-reaches : goal.returns-in_err-behind-clause-reaches
+returns-in_err-behind-clause-reaches g c =
+    reached_record _ _ _ _ _ _ c.records.invariant.good c.records.invariant.follows c.in_err-behind.ensures.reads.answer.moves
+
+pub returns-in-Some-clause-reaches : goal.returns-in-Some-clause-reaches
+returns-in-Some-clause-reaches g c =
+    let reads = rw c.in-Frame.is at c.in_ok-behind.ensures.reads in
+    let has : HasFrame _ _ _ _ _ _ _ _ _ = reads.answer in
+    reached_frame _ _ _ _ _ _ _ _ _ _ _ _ c.records.invariant.good c.records.invariant.follows has
+
+pub returns-in-End-clause-reaches : goal.returns-in-End-clause-reaches
+returns-in-End-clause-reaches g c =
+    let reads = rw c.in-End.is at c.in_ok-behind.ensures.reads in
+    reached_record _ _ _ _ _ _ c.records.invariant.good c.records.invariant.follows reads.answer.moves

@@ -1,0 +1,212 @@
+-- How far a dump was read.
+use Rattle.std.proofs.Common.{◌≡◌, ℕ, zero, suc, ◌+◌, ◌*◌, ◌<◌, ◌≤◌, List, [], ◌++◌, length, drop, Option, Some, None, Ok, Err, inl, inr, refl, sym, ap, subst, ◌∙◌, arith, length-append, add-one}
+use Rattle.std.specs.Prelude.{option_map}
+use Rattle.std.proofs.Math.Seq.{drop-append_seam}
+use Rattle.std.proofs.lemmas.Bool.{cases_lt}
+use Rattle.std.proofs.lemmas.List.{drop-drop}
+use Rattle.pic_io.specs.Told.{Told}
+use Rattle.pic_io.specs.Source.{with_front}
+use Rattle.pic_num.specs.declared.motion.Particle.{Particle}
+use Rattle.pic_grid.specs.declared.stop.EndMark.{EndMark}
+use Rattle.pic_grid.specs.Lattice.{Field}
+use Rattle.pic_energy.specs.declared.amounts.Energies.{Energies}
+use Rattle.pic_fields.specs.Parser.{Input, input}
+use Rattle.pic_fields.specs.Reads.{Left, Moves, HasRead}
+use Rattle.pic_fields.specs.Spells.{IsBytes}
+use Rattle.pic_fields.proofs.ReadLaws.{moves_then, some_rest}
+use Rattle.pic_dump.specs.Due.{due_after}
+use Rattle.pic_dump.specs.Header.{HeaderView}
+use Rattle.pic_reader.specs.FrameFields.{FrameView, frame_of, frame_length}
+use Rattle.pic_reader.specs.HeaderFields.{header_at, header_most}
+use Rattle.pic_reader.specs.HeadReads.{HeadReads}
+use Rattle.pic_reader.specs.declared.head_stop.HeadStop.{HeadStop}
+use Rattle.pic_reader.specs.Layout.{LayoutView, layout_of}
+use Rattle.pic_reader.specs.NextReads.{HasFrame, most_of, record_most}
+use Rattle.pic_reader.specs.Records.{RecordView, AFrame, record_at}
+use Rattle.pic_reader.specs.Standing.{Standing}
+use Rattle.pic_verify.specs.Verified.{break_of}
+use Rattle.pic_verify.specs.Meaning.{due_step, step_before, record_place, bytes_from, IsGood, Begins}
+use Rattle.pic_verify.specs.Reached.{most_at, ReachesRecord, TakesToRecord, IsGoodAt, Reaches}
+use Rattle.pic_verify.proofs.FormatLaws.{frame_read}
+use Rattle.pic_verify.proofs.MeaningLaws.{header_end, due_is_step, is_gauss}
+use Rattle.pic_verify.proofs.VerdictLaws.{behind, same_bytes, takes_head}
+use Rattle.pic_verify.proofs.WalkLaws.{Follows}
+
+-- so many good frames were read, and these bytes are left
+pub record GoodSoFar (l : LayoutView) (place : ℕ) (bytes : List ℕ) (k : ℕ) (now : Told) : Type 0 where
+  pub frames : (j : ℕ) → j < k → IsGoodAt l (place + j * (1 + frame_length l)) (drop (j * (1 + frame_length l)) bytes) j
+  pub left : now.bytes ≡ Some (drop (k * (1 + frame_length l)) bytes)
+
+pub record AreGood (r : Standing) (before : Told) (k : ℕ) (here : Standing) (now : Told) : Type 0 where
+  pub last : here.last ≡ step_before r.layout k
+  pub so_far : (bytes : List ℕ) → before.bytes ≡ Some bytes → GoodSoFar r.layout r.place bytes k now
+
+pub good_none : (r : Standing) (before : Told) → r.last ≡ None → AreGood r before 0 r before
+good_none r before start = record {
+  last = start;
+  so_far = λ bytes told. (let none : 0 ≡ 0 * (1 + frame_length r.layout) = omega arith in
+      record { frames = λ j less. absurd (omega (arith, less)); left = told ∙ ap (λ n. Some (drop n bytes)) none });
+}
+
+-- what is known of a front that was taken
+front_taken : (front d : List ℕ) (known : Option (List ℕ)) → Some d ≡ with_front front known → (rest : List ℕ) × (known ≡ Some rest) × (d ≡ front ++ rest)
+front_taken front d None is = absurd cc
+front_taken front d (Some rest) is = (rest, refl, let same : d ≡ front ++ rest = cc in same)
+
+one_more : (place k f : ℕ) → place + (k + 1) * f ≡ place + k * f + f
+one_more place k f = let more : (k + 1) * f ≡ k * f + f = omega arith in omega (arith, more)
+
+-- a frame that was read stands where the format says
+record Stood (l : LayoutView) (place : ℕ) (d : List ℕ) (k : ℕ) (step : ℕ) (now : Told) : Type 0 where
+  good : IsGoodAt l place d k
+  left : now.bytes ≡ Some (drop (1 + frame_length l) d)
+  due : step ≡ due_step l k
+
+stood : (l : LayoutView) (place end : ℕ) (d rest front : List ℕ) (k : ℕ) (f : FrameView) (z : Told)
+    → record_at l (step_before l k) (input place d) ≡ Ok (AFrame f, input end rest) → Some d ≡ with_front front z.bytes → Left z rest
+    → end ≡ place + (1 + frame_length l) → break_of l f.e f.particles ≡ None → Stood l place d k f.step z
+stood l place end d rest front k f z is moved left far none =
+    let read = frame_read l (step_before l k) (input place d) (input end rest) f is in
+    let size = read.size in
+    let (back, known, parts) = front_taken front d z.bytes moved in
+    let same : rest ≡ back = same_bytes z.bytes back rest known left in
+    let both : length d ≡ length front + length back = ap (λ (b : List ℕ). length b) parts ∙ length-append front back in
+    let so : length front ≡ 1 + frame_length l = omega (arith, both, size, ap (λ (b : List ℕ). length b) same) in
+    let there : drop (1 + frame_length l) d ≡ back =
+    ap (λ b. drop (1 + frame_length l) b) parts ∙ ap (λ n. drop n (front ++ back)) (sym so) ∙ drop-append_seam front back in
+    let due = due_is_step l k f.step read.due in
+    record {
+      good = record {
+        frame = f;
+        reads = is ∙ ap (λ n. Ok (AFrame f, input n rest)) far ∙ ap (λ b. Ok (AFrame f, input (place + (1 + frame_length l)) b)) (same ∙ sym there);
+        step = due;
+        gauss = is_gauss l f none;
+      };
+      left = known ∙ ap (λ b. Some b) (sym there);
+      due = due;
+    }
+
+more_good : (l : LayoutView) (place : ℕ) (bytes : List ℕ) (k step : ℕ) (y z : Told) → GoodSoFar l place bytes k y
+    → Stood l (place + k * (1 + frame_length l)) (drop (k * (1 + frame_length l)) bytes) k step z → GoodSoFar l place bytes (k + 1) z
+more_good l place bytes k step y z before here =
+    let f = 1 + frame_length l in
+    let more : (k + 1) * f ≡ k * f + f = omega arith in
+    record {
+      frames = λ j less. elim (cases_lt j k) [
+        | inl under ↦ before.frames j under
+        | inr over ↦ (let same : k ≡ j = omega (arith, less, over) in subst (λ i. IsGoodAt l (place + i * f) (drop (i * f) bytes) i) same here.good)
+      ];
+      left = here.left ∙ ap (λ b. Some b) (drop-drop f (k * f) bytes ∙ ap (λ n. drop n bytes) (sym more));
+    }
+
+pub good_frame : (r : Standing) (before y z : Told) (k : ℕ) (here back : Standing) (e b : Field) (particles : List Particle) (step : ℕ) (energies : Energies)
+    → AreGood r before k here y → Follows r before k here y → HasFrame here y z e b particles back step energies
+    → break_of r.layout e.values particles ≡ None → AreGood r before (k + 1) back z
+good_frame r before y z k here back e b particles step energies good follows has none =
+    let l = r.layout in
+    let f = 1 + frame_length l in
+    let frame = frame_of step e.values b.values particles energies in
+    let length_is : frame_length here.layout ≡ frame_length l = ap frame_length follows.layout in
+    let end : back.place ≡ r.place + k * f + f = omega (arith, follows.place, has.place, length_is) in
+    let due = ap (λ (m : LayoutView). due_after m.steps m.every here.last) (sym follows.layout) ∙ has.due in
+    let step_is = due_is_step l k step (ap (due_after l.steps l.every) (sym good.last) ∙ due) in
+    let next : step_before l (k + 1) ≡ Some (due_step l k) = ap (step_before l) (add-one k) in
+    record {
+      last = has.last ∙ ap (λ s. Some s) step_is ∙ sym next;
+      so_far = λ bytes told. (let so_far = good.so_far bytes told in
+          let d = drop (k * f) bytes in
+          let (rest, left) = some_rest z in
+          let (h, was, reads) = has.read.reads rest left in
+          let same : h ≡ d = same_bytes y.bytes d h so_far.left was in
+          let is = subst (λ (i : List ℕ). record_at l (step_before l k) (input (r.place + k * f) i) ≡ Ok (AFrame frame, input back.place rest)) same
+          (subst (λ (n : ℕ). record_at l (step_before l k) (input n h) ≡ Ok (AFrame frame, input back.place rest)) follows.place
+          (subst (λ (o : Option ℕ). record_at l o (input here.place h) ≡ Ok (AFrame frame, input back.place rest)) good.last
+          (subst (λ (m : LayoutView). record_at m here.last (input here.place h) ≡ Ok (AFrame frame, input back.place rest)) follows.layout reads))) in
+          more_good l r.place bytes k step y z so_far
+          (stood l (r.place + k * f) back.place d rest has.read.moves.front k frame z is (sym so_far.left ∙ has.read.moves.moved) left end none));
+    }
+
+-- where reading ended: with the record where a reader stands, or behind a frame
+pub reached_record : (r : Standing) (before y z : Told) (k : ℕ) (here : Standing) → AreGood r before k here y → Follows r before k here y
+    → Moves here.place (here.place + record_most here) y z → Reaches r before z
+reached_record r before y z k here good follows moves =
+    let l = r.layout in
+    let most : record_most here ≡ most_at l k =
+    ap (λ (m : LayoutView). most_of m (due_after m.steps m.every here.last)) follows.layout
+    ∙ ap (λ (o : Option ℕ). most_of l (due_after l.steps l.every o)) good.last in
+    let end : here.place + record_most here ≡ r.place + k * (1 + frame_length l) + most_at l k = omega (arith, follows.place, most) in
+    record {
+      number = k;
+      frames = λ bytes told. (good.so_far bytes told).frames;
+      moves = subst (λ n. Moves r.place n before z) end (moves_then follows.moves moves);
+    }
+
+pub reached_frame : (r : Standing) (before y z : Told) (k : ℕ) (here back : Standing) (e b : Field) (particles : List Particle) (step : ℕ) (energies : Energies)
+    → AreGood r before k here y → Follows r before k here y → HasFrame here y z e b particles back step energies → Reaches r before z
+reached_frame r before y z k here back e b particles step energies good follows has =
+    let most : record_most here ≡ 1 + frame_length here.layout = ap (λ (o : Option ℕ). most_of here.layout o) has.due in
+    let end : back.place ≡ here.place + record_most here = omega (arith, has.place, most) in
+    reached_record r before y z k here good follows (subst (λ n. Moves here.place n y z) end has.read.moves)
+
+-- from the start of the input
+good_in : (bytes : List ℕ) (h : HeaderView) (rest : List ℕ) (place k : ℕ) → place ≡ record_place h 0 → rest ≡ drop (record_place h 0) bytes
+    → IsGoodAt (layout_of h) (place + k * (1 + frame_length (layout_of h))) (drop (k * (1 + frame_length (layout_of h))) rest) k → IsGood bytes h k
+good_in bytes h rest place k place_is rest_is good =
+    let f = 1 + frame_length (layout_of h) in
+    let here : place + k * f ≡ record_place h k = omega (arith, place_is) in
+    let sum : record_place h 0 + k * f ≡ record_place h k = omega arith in
+    let left : drop (k * f) rest ≡ drop (record_place h k) bytes = ap (drop (k * f)) rest_is ∙ drop-drop (k * f) (record_place h 0) bytes ∙ ap (λ n. drop n bytes) sum in
+    let at = subst (λ (b : List ℕ). IsGoodAt (layout_of h) (record_place h k) b k) left
+    (subst (λ (n : ℕ). IsGoodAt (layout_of h) n (drop (k * f) rest) k) here good) in
+    let more : suc k * f ≡ k * f + f = omega arith in
+    let next : record_place h k + f ≡ record_place h (suc k) = omega (arith, more) in
+    record {
+      frame = at.frame;
+      is = record {
+        reads = at.reads
+            ∙ ap (λ b. Ok (AFrame at.frame, input (record_place h k + f) b)) (drop-drop f (record_place h k) bytes)
+            ∙ ap (λ n. Ok (AFrame at.frame, bytes_from bytes n)) next;
+        step = at.step;
+      };
+      gauss = at.gauss;
+    }
+
+-- no byte behind the longest header
+pub within_longest : (x z : Told) → Moves 0 header_most x z → TakesToRecord x z
+within_longest x z moves = let most = moves.most in record { front = moves.front; taken = moves.moved; most = inl (omega (arith, most)) }
+
+pub stops_reached : {B : Type 0} (view : B → HeaderView) (end : HeaderView → ℕ) (x z : Told) (stop : HeadStop)
+    → HeadReads view header_at 0 end header_most x z (Err stop) → TakesToRecord x z
+stops_reached view end x z stop first = within_longest x z (takes_head view end x z stop first)
+
+-- behind a header
+pub reached_behind : (h : HeaderView) (place : ℕ) (r : Standing) (x y z : Told) → HasRead header_at 0 x h place y → r ≡ behind h place → Reaches r y z
+    → TakesToRecord x z
+reached_behind h place r x y z first is reaches =
+    let there = rw is at reaches in
+    let moves = moves_then first.moves there.moves in
+    let most = moves.most in
+    let (rest, left) = some_rest y in
+    let (held, was, reads) = first.reads rest left in
+    record {
+      front = moves.front;
+      taken = moves.moved;
+      most = inr (λ bytes told small. (let same : held ≡ bytes = same_bytes x.bytes bytes held told was in
+          let read = subst (λ b. header_at (input 0 b) ≡ Ok (h, input place rest)) same reads in
+          let end = (header_end bytes h (input place rest) small read).end in
+          let place_is : place ≡ record_place h 0 = ap (λ (i : Input). i.place) end in
+          let rest_is : rest ≡ drop (record_place h 0) bytes = ap (λ (i : Input). i.bytes) end in
+          let (back, known, parts) = front_taken first.moves.front bytes y.bytes (sym told ∙ first.moves.moved) in
+          let here : y.bytes ≡ Some rest = known ∙ ap (λ b. Some b) (sym (same_bytes y.bytes back rest known left)) in
+          let number = there.number in
+          let base : record_place h number ≡ place + number * (1 + frame_length (layout_of h)) = omega (arith, place_is) in
+          record {
+            header = h;
+            number = number;
+            begins = record {
+              header = read ∙ ap (λ i. Ok (h, i)) end;
+              good = λ k less. good_in bytes h rest place k place_is rest_is (there.frames rest here k less);
+            };
+            most = omega (arith, most, base);
+          }));
+    }

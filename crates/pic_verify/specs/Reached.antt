@@ -1,0 +1,51 @@
+-- How far a call that verifies a dump reads: no byte behind the first record that isn't good.
+use Rattle.std.specs.Prelude.{◌≡◌, ℕ, ◌+◌, ◌*◌, ◌<◌, ◌≤◌, ◌⊎◌, List, length, drop, Some, Ok}
+use Rattle.pic_io.specs.Told.{Told}
+use Rattle.pic_io.specs.Source.{with_front}
+use Rattle.pic_fields.specs.Parser.{input}
+use Rattle.pic_fields.specs.Reads.{Moves}
+use Rattle.pic_fields.specs.Spells.{IsBytes}
+use Rattle.pic_charge.specs.Gauss.{MeetsGauss}
+use Rattle.pic_dump.specs.Due.{due_after}
+use Rattle.pic_dump.specs.Header.{HeaderView}
+use Rattle.pic_reader.specs.FrameFields.{FrameView, frame_length, with_values}
+use Rattle.pic_reader.specs.HeaderFields.{header_most}
+use Rattle.pic_reader.specs.Layout.{LayoutView, layout_of}
+use Rattle.pic_reader.specs.NextReads.{most_of}
+use Rattle.pic_reader.specs.Records.{AFrame, record_at}
+use Rattle.pic_reader.specs.Standing.{Standing}
+use Rattle.pic_verify.specs.Meaning.{due_step, step_before, record_place, Begins}
+
+-- how many bytes record k has at most: those of a frame where one is due, and else those of the longest
+-- end record and one behind it
+abbrev pub most_at : LayoutView → ℕ → ℕ
+most_at l k = most_of l (due_after l.steps l.every (step_before l k))
+
+-- some bytes begin with a header and so many good frames, and a count of them ends with the next record
+pub record ReachesRecord (bytes : List ℕ) (count : ℕ) : Type 0 where
+  pub header : HeaderView
+  pub number : ℕ
+  pub begins : Begins bytes header number
+  pub most : count ≤ record_place header number + most_at (layout_of header) number
+
+-- no byte was taken behind the longest header, or none behind the first record that isn't good
+pub record TakesToRecord (before now : Told) : Type 0 where
+  pub front : List ℕ
+  pub taken : before.bytes ≡ with_front front now.bytes
+  pub most : (length front ≤ header_most)
+      ⊎ ((bytes : List ℕ) → before.bytes ≡ Some bytes → IsBytes bytes → ReachesRecord bytes (length front))
+
+-- at a place these bytes begin with a good frame, of the step that is due as record k
+pub record IsGoodAt (l : LayoutView) (place : ℕ) (bytes : List ℕ) (k : ℕ) : Type 0 where
+  pub frame : FrameView
+  pub reads : record_at l (step_before l k) (input place bytes)
+      ≡ Ok (AFrame frame, input (place + (1 + frame_length l)) (drop (1 + frame_length l) bytes))
+  pub step : frame.step ≡ due_step l k
+  pub gauss : MeetsGauss l.side l.cells l.kinds frame.particles (with_values l frame.e)
+
+-- the same from where a reader stands behind a header
+pub record Reaches (r : Standing) (before now : Told) : Type 0 where
+  pub number : ℕ
+  pub frames : (bytes : List ℕ) → before.bytes ≡ Some bytes → (k : ℕ) → k < number
+      → IsGoodAt r.layout (r.place + k * (1 + frame_length r.layout)) (drop (k * (1 + frame_length r.layout)) bytes) k
+  pub moves : Moves r.place (r.place + number * (1 + frame_length r.layout) + most_at r.layout number) before now
