@@ -1,23 +1,19 @@
 -- What the format alone says of a record that was read: of a frame, its step and its length, and of an
 -- end record, that nothing is behind it.
-use Rattle.std.proofs.Common.{◌≡◌, ℕ, ◌+◌, ◌*◌, Bool, true, false, List, [], ◌∷◌, ◌++◌, length, drop, Option, Some, None, Ok, Err, refl, sym, ap, subst, ◌∙◌, arith, eqb, length-append, if◌then◌else◌}
+use Rattle.std.proofs.Common.{◌≡◌, ℕ, ◌+◌, ◌*◌, Bool, true, false, List, [], ◌∷◌, length, Option, Some, Ok, refl, sym, ap, subst, ◌∙◌, arith, eqb, if◌then◌else◌}
 use Rattle.std.specs.Prelude.{nat_eq, sum, unwrap_or}
-use Rattle.std.proofs.Math.Seq.{drop-append_seam}
-use Rattle.std.proofs.lemmas.Bool.{eqb-true}
-use Rattle.std.proofs.lemmas.List.{get_or-drop, drop-drop}
 use Rattle.pic_grid.specs.Cells.{count_of}
 use Rattle.pic_grid.specs.declared.stop.EndMark.{EndMark}
 use Rattle.pic_grid.specs.declared.stop.EndMark.TheVariants.{Done, Stopped}
-use Rattle.pic_fields.specs.Parser.{Input, input, Parsed, Parser, done, ◌>>=◌, mapped, checked, ended, finished}
-use Rattle.pic_fields.specs.Number.{byte_of, byte_at, u32_of, u32_at, within, is_from_to}
-use Rattle.pic_fields.specs.Spells.{IsBytes}
+use Rattle.pic_fields.specs.Parser.{Input, input, Parser, done, ◌>>=◌, mapped, checked, ended, finished}
+use Rattle.pic_fields.specs.Number.{byte_of, byte_at, u32_of, u32_at}
 use Rattle.pic_fields.proofs.LengthLaws.{IsOfLength, of_length, of_then, of_mapped, of_field, of_checked, Leaves}
 use Rattle.pic_fields.proofs.SpellLaws.{same_read, bind_parts, passed_test}
 use Rattle.pic_dump.specs.Due.{due_after}
-use Rattle.pic_reader.specs.Fields.{wrong_tag, wrong_step, wrong_end, the_step}
+use Rattle.pic_reader.specs.Fields.{wrong_tag, wrong_step, the_step}
 use Rattle.pic_reader.specs.Layout.{LayoutView}
 use Rattle.pic_reader.specs.FrameFields.{FrameView, frame_of, field_at, particles_at, energies_at, state_at, frame_at, frame_length}
-use Rattle.pic_reader.specs.EndFields.{code_at, is_kind, first_after, field_stop_at, push_stop_at, done_at, field_end_at, push_end_at, end_of_kind, end_at}
+use Rattle.pic_reader.specs.EndFields.{first_after, done_at, field_end_at, push_end_at, end_of_kind, end_at}
 use Rattle.pic_reader.specs.Records.{RecordView, AFrame, AnEnd, is_tag, last_record, behind_tag, record_at}
 use Rattle.pic_reader.proofs.PartLaws.{of_values, of_particles, of_energies}
 use Rattle.pic_reader.proofs.NextLaws.{of_frame, of_end, due_is}

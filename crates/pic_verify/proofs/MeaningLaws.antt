@@ -1,5 +1,5 @@
 -- What a verdict means, record by record.
-use Rattle.std.proofs.Common.{◌≡◌, ◌↔◌, ℕ, zero, suc, ◌+◌, ◌-◌, ◌*◌, ◌<◌, ◌≤◌, List, [], ◌++◌, length, get_or, drop, Option, Some, None, Ok, Err, inl, inr, refl, sym, ap, subst, ◌∙◌, arith, length-append}
+use Rattle.std.proofs.Common.{◌≡◌, ℕ, zero, suc, ◌+◌, ◌-◌, ◌*◌, ◌<◌, ◌≤◌, List, [], ◌++◌, length, drop, Option, Some, None, Ok, Err, inl, inr, refl, sym, ap, subst, ◌∙◌, arith, length-append}
 use Rattle.std.specs.Prelude.{min}
 use Rattle.std.proofs.Math.Nat.{mul-le-mul_left}
 use Rattle.std.proofs.Math.Seq.{drop-append_seam}
@@ -7,7 +7,6 @@ use Rattle.std.proofs.lemmas.Bool.{cases_lt, lt-ltb, le-ltb}
 use Rattle.std.proofs.lemmas.List.{get_or-drop, drop-drop}
 use Rattle.pic_grid.specs.Differences.{div_e}
 use Rattle.pic_grid.specs.Lattice.{value_at}
-use Rattle.pic_grid.specs.declared.stop.EndMark.{EndMark}
 use Rattle.pic_charge.specs.declared.breaks.Break.{Break}
 use Rattle.pic_charge.specs.Charge.{charge_of}
 use Rattle.pic_charge.specs.Gauss.{MeetsGauss, IsLeastBreak}
@@ -20,15 +19,14 @@ use Rattle.pic_dump.specs.Header.{HeaderView}
 use Rattle.pic_reader.specs.Layout.{LayoutView, layout_of}
 use Rattle.pic_reader.specs.FrameFields.{FrameView, frame_length, with_values}
 use Rattle.pic_reader.specs.HeaderFields.{header_at}
-use Rattle.pic_reader.specs.Records.{RecordView, AFrame, AnEnd, record_at}
+use Rattle.pic_reader.specs.Records.{RecordView, AFrame, AnEnd}
 use Rattle.pic_reader.specs.Spelling.{record_bytes}
 use Rattle.pic_reader.proofs.EndSpells.{from_to}
 use Rattle.pic_reader.proofs.HeaderSpells.{spells_header}
 use Rattle.pic_reader.proofs.RecordSpells.{spells_record, record_any}
-use Rattle.pic_verify.specs.declared.verify_stop.VerifyStop.{VerifyStop}
 use Rattle.pic_verify.specs.declared.verify_stop.VerifyStop.TheVariants.{ReadFault, BadDump, Broken, NoMemory}
 use Rattle.pic_verify.specs.Verified.{Verdict, break_of, unless_broken, of_parsed, walked, of_header, verified}
-use Rattle.pic_verify.specs.Meaning.{due_step, step_before, record_place, bytes_from, record_of, IsFrame, IsGood, Begins, IsWhole, FailsBehind, IsFirstBreak, Means, VerdictLaw}
+use Rattle.pic_verify.specs.Meaning.{due_step, step_before, record_place, bytes_from, record_of, IsFrame, IsGood, Begins, Means, VerdictLaw}
 use Rattle.pic_verify.proofs.FormatLaws.{frame_read, end_read}
 use Rattle.pic_verify.proofs.WalkLaws.{walked_frame, walked_end, walked_fault}
 
@@ -125,8 +123,8 @@ frame_is bytes h n f j small is = record {
 }
 
 -- what the walk finds behind n good frames
-after_break : (bytes : List ℕ) (h : HeaderView) (n : ℕ) (f : FrameView) (j : Input) (rest : Verdict) (o : Option Break) → break_of (layout_of h) f.e f.particles ≡ o
-    → IsFrame bytes h n f → Begins bytes h n → (IsGood bytes h n → Means bytes rest)
+after_break : (bytes : List ℕ) (h : HeaderView) (n : ℕ) (f : FrameView) (j : Input) (rest : Verdict) (o : Option Break)
+    → break_of (layout_of h) f.e f.particles ≡ o → IsFrame bytes h n f → Begins bytes h n → (IsGood bytes h n → Means bytes rest)
     → Means bytes (unless_broken n o rest)
 after_break bytes h n f j rest None is frame begins go = go (record { frame = f; is = frame; gauss = is_gauss (layout_of h) f is })
 after_break bytes h n f j rest (Some b) is frame begins go =

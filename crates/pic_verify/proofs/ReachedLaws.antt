@@ -1,18 +1,15 @@
 -- How far a dump was read.
-use Rattle.std.proofs.Common.{◌≡◌, ℕ, zero, suc, ◌+◌, ◌*◌, ◌<◌, ◌≤◌, List, [], ◌++◌, length, drop, Option, Some, None, Ok, Err, inl, inr, refl, sym, ap, subst, ◌∙◌, arith, length-append, add-one}
-use Rattle.std.specs.Prelude.{option_map}
+use Rattle.std.proofs.Common.{◌≡◌, ℕ, suc, ◌+◌, ◌*◌, ◌<◌, List, ◌++◌, length, drop, Option, Some, None, Ok, Err, inl, inr, refl, sym, ap, subst, ◌∙◌, arith, length-append, add-one}
 use Rattle.std.proofs.Math.Seq.{drop-append_seam}
 use Rattle.std.proofs.lemmas.Bool.{cases_lt}
 use Rattle.std.proofs.lemmas.List.{drop-drop}
 use Rattle.pic_io.specs.Told.{Told}
 use Rattle.pic_io.specs.Source.{with_front}
 use Rattle.pic_num.specs.declared.motion.Particle.{Particle}
-use Rattle.pic_grid.specs.declared.stop.EndMark.{EndMark}
 use Rattle.pic_grid.specs.Lattice.{Field}
 use Rattle.pic_energy.specs.declared.amounts.Energies.{Energies}
 use Rattle.pic_fields.specs.Parser.{Input, input}
 use Rattle.pic_fields.specs.Reads.{Left, Moves, HasRead}
-use Rattle.pic_fields.specs.Spells.{IsBytes}
 use Rattle.pic_fields.proofs.ReadLaws.{moves_then, some_rest}
 use Rattle.pic_dump.specs.Due.{due_after}
 use Rattle.pic_dump.specs.Header.{HeaderView}
@@ -22,11 +19,11 @@ use Rattle.pic_reader.specs.HeadReads.{HeadReads}
 use Rattle.pic_reader.specs.declared.head_stop.HeadStop.{HeadStop}
 use Rattle.pic_reader.specs.Layout.{LayoutView, layout_of}
 use Rattle.pic_reader.specs.NextReads.{HasFrame, most_of, record_most}
-use Rattle.pic_reader.specs.Records.{RecordView, AFrame, record_at}
+use Rattle.pic_reader.specs.Records.{AFrame, record_at}
 use Rattle.pic_reader.specs.Standing.{Standing}
 use Rattle.pic_verify.specs.Verified.{break_of}
-use Rattle.pic_verify.specs.Meaning.{due_step, step_before, record_place, bytes_from, IsGood, Begins}
-use Rattle.pic_verify.specs.Reached.{most_at, ReachesRecord, TakesToRecord, IsGoodAt, Reaches}
+use Rattle.pic_verify.specs.Meaning.{due_step, step_before, record_place, bytes_from, IsGood}
+use Rattle.pic_verify.specs.Reached.{most_at, TakesToRecord, IsGoodAt, Reaches}
 use Rattle.pic_verify.proofs.FormatLaws.{frame_read}
 use Rattle.pic_verify.proofs.MeaningLaws.{header_end, due_is_step, is_gauss}
 use Rattle.pic_verify.proofs.VerdictLaws.{behind, same_bytes, takes_head}
@@ -155,7 +152,8 @@ good_in bytes h rest place k place_is rest_is good =
     let f = 1 + frame_length (layout_of h) in
     let here : place + k * f ≡ record_place h k = omega (arith, place_is) in
     let sum : record_place h 0 + k * f ≡ record_place h k = omega arith in
-    let left : drop (k * f) rest ≡ drop (record_place h k) bytes = ap (drop (k * f)) rest_is ∙ drop-drop (k * f) (record_place h 0) bytes ∙ ap (λ n. drop n bytes) sum in
+    let left : drop (k * f) rest ≡ drop (record_place h k) bytes =
+    ap (drop (k * f)) rest_is ∙ drop-drop (k * f) (record_place h 0) bytes ∙ ap (λ n. drop n bytes) sum in
     let at = subst (λ (b : List ℕ). IsGoodAt (layout_of h) (record_place h k) b k) left
     (subst (λ (n : ℕ). IsGoodAt (layout_of h) n (drop (k * f) rest) k) here good) in
     let more : suc k * f ≡ k * f + f = omega arith in

@@ -1,8 +1,7 @@
 -- The law of the verdict on a dump, said of each record by itself: where it begins, after which step
 -- it is due, and whether its E and its charge meet Gauss's law (Birdsall and Langdon, "Plasma Physics
 -- via Computer Simulation").
-use Rattle.std.specs.Prelude.{◌≡◌, ◌↔◌, ℕ, zero, suc, ◌+◌, ◌*◌, ◌<◌, ◌⊎◌, min, List, [], length, drop, map, Option, Some, None, Ok, Err}
-use Rattle.pic_num.specs.declared.motion.Kind.{Kind}
+use Rattle.std.specs.Prelude.{◌≡◌, ◌↔◌, ℕ, zero, suc, ◌+◌, ◌*◌, ◌<◌, ◌⊎◌, min, List, [], length, drop, Option, Some, None, Ok, Err}
 use Rattle.pic_grid.specs.declared.stop.EndMark.{EndMark}
 use Rattle.pic_grid.specs.Differences.{div_e}
 use Rattle.pic_grid.specs.Lattice.{value_at}
