@@ -1,6 +1,7 @@
 -- Puts, one after another, on one sink and on two.
-use Rattle.std.proofs.Common.{◌≡◌, ℕ, ◌+◌, ◌≤◌, List, [], ◌∷◌, ◌++◌, length, take, drop, Option, Some, None, Result, Ok, Err, inl, inr, refl, ap, sym, subst, ◌∙◌, append_assoc, append-nil, take-append-drop}
+use Rattle.std.proofs.Common.{◌≡◌, ℕ, ◌+◌, ◌<◌, ◌≤◌, arith, List, [], ◌∷◌, ◌++◌, length, take, drop, Option, Some, None, Result, Ok, Err, inl, inr, refl, ap, sym, subst, ◌∙◌, append_assoc, append-nil, take-append-drop}
 use Rattle.std.proofs.Math.Seq.{take-add, take-append_seam, drop-append_seam}
+use Rattle.std.proofs.lemmas.List.{length-append}
 use Rattle.pic_io.specs.Told.{Told, raised, Rose, Calm}
 use Rattle.pic_io.specs.Sink.{with_back, Appended, AppendedFront, Puts}
 use Rattle.pic_io.specs.Sinks.{Sinks, sinks, Wrote, FailedAt, Piece, outs, lines, Front, CutAt, Writes, LineCut, WritesLine}
@@ -99,6 +100,7 @@ front_from Report a b c p none front =
 pub cut_from : (side : Side) (a b c : Sinks) (ps : List Piece) → Wrote a b [] [] → CutAt side b c ps → CutAt side a c ps
 cut_from side a b c [] none cut = absurd cut
 cut_from side a b c (p ∷ ps) none (inl cut) = inl (record {
+  some = cut.some;
   failed = failed_after side a b c none.calm_out none.calm_report cut.failed;
   front = front_from side a b c p none cut.front;
 })
@@ -130,8 +132,9 @@ cut_later side a b c (p ∷ ps) qs first second =
     inr (after_piece a p, wrote_piece a p, cut_later side (after_piece a p) b c ps qs (wrote_rest a b p (outs ps) (lines ps) first) second)
 
 -- the text of a piece was cut on out
-pub cut_out : (o p r : Told) (piece : Piece) (others : List Piece) → AppendedFront o p piece.out → Rose o p → CutAt Out (sinks o r) (sinks p r) (piece ∷ others)
-cut_out o p r piece others put rose = inl (record { failed = (rose, refl); front = (put, appended_none r) })
+pub cut_out : (o p r : Told) (piece : Piece) (others : List Piece) → 0 < length piece.out → AppendedFront o p piece.out → Rose o p
+    → CutAt Out (sinks o r) (sinks p r) (piece ∷ others)
+cut_out o p r piece others some put rose = inl (record { some = some; failed = (rose, refl); front = (put, appended_none r) })
 
 -- the text of a piece stands on out, and its line on report, or a front of it
 pub line_after : {T : Type 0} (o p r s : Told) (piece : Piece) (result : Result T Side) → Appended o p piece.out → Calm o p
@@ -143,17 +146,24 @@ line_after o p r s piece (Ok _) put calm line = record {
   calm_report = line.1;
 }
 line_after o p r s piece (Err Out) put calm line = absurd line
-line_after o p r s piece (Err Report) put calm line = inl (record { failed = (line.1, calm); front = (put, line.0) })
+line_after o p r s piece (Err Report) put calm line = inl (record { some = line.0; failed = (line.2, calm); front = (put, line.1) })
+
+-- a text with a byte in one of its two parts
+some_behind : (x y : List ℕ) → 0 < length y → 0 < length (x ++ y)
+some_behind x y some = let both = length-append x y in omega (arith, both, some)
+
+some_before : (x y : List ℕ) → 0 < length x → 0 < length (x ++ y)
+some_before x y some = let both = length-append x y in omega (arith, both, some)
 
 -- a line put in two parts
 pub line_cut_after : (side : Side) (a b c : Told) (x y : List ℕ) → Appended a b x × Calm a b → LineCut side b c y → LineCut side a c (x ++ y)
 line_cut_after Out a b c x y first second = second
 line_cut_after Report a b c x y first second =
-    (front_after a b c x y first.0 second.0, subst (λ n. raised n ≤ c.faults) first.1 second.1)
+    (some_behind x y second.0, front_after a b c x y first.0 second.1, subst (λ n. raised n ≤ c.faults) first.1 second.2)
 
 pub line_cut_more : (side : Side) (a b : Told) (x y : List ℕ) → LineCut side a b x → LineCut side a b (x ++ y)
 line_cut_more Out a b x y cut = cut
-line_cut_more Report a b x y cut = (front_of_more a b x y cut.0, cut.1)
+line_cut_more Report a b x y cut = (some_before x y cut.0, front_of_more a b x y cut.1, cut.2)
 
 pub lines_after : {T : Type 0} (a b c : Told) (x y : List ℕ) (result : Result T Side)
     → Appended a b x × Calm a b → WritesLine b c y result → WritesLine a c (x ++ y) result

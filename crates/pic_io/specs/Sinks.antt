@@ -1,4 +1,4 @@
-use Rattle.std.specs.Prelude.{ℕ, List, [], ◌∷◌, ◌⊎◌, Result, Ok, Err}
+use Rattle.std.specs.Prelude.{ℕ, ◌<◌, List, [], ◌∷◌, length, ◌⊎◌, Result, Ok, Err}
 use Rattle.std.specs.List.{flat_map}
 use Rattle.pic_io.specs.Told.{Told, Rose, Calm, Quiet}
 use Rattle.pic_io.specs.Sink.{Appended, AppendedFront}
@@ -45,8 +45,14 @@ abbrev pub Front : Side → Sinks → Sinks → Piece → Type 0
 Front Out before now p = AppendedFront before.out now.out p.out × Appended before.report now.report []
 Front Report before now p = Appended before.out now.out p.out × AppendedFront before.report now.report p.line
 
--- a put of this piece failed on this side
+-- what of a piece goes to a side
+abbrev pub part_of : Side → Piece → List ℕ
+part_of Out p = p.out
+part_of Report p = p.line
+
+-- a put of this piece failed on this side, for which it has a byte at least
 pub record IsCut (side : Side) (before now : Sinks) (p : Piece) : Type 0 where
+  pub some : 0 < length (part_of side p)
   pub failed : FailedAt side before now
   pub front : Front side before now p
 
@@ -61,10 +67,10 @@ abbrev pub Writes : {T : Type 0} → Sinks → Sinks → List Piece → Result T
 Writes before now pieces (Ok _) = Wrote before now (outs pieces) (lines pieces)
 Writes before now pieces (Err side) = CutAt side before now pieces
 
--- a put of a line failed, on the report alone
+-- a put of a line failed, which has a byte at least, on the report alone
 abbrev pub LineCut : Side → Told → Told → List ℕ → Type 0
 LineCut Out before now line = ⊥
-LineCut Report before now line = AppendedFront before now line × Rose before now
+LineCut Report before now line = (0 < length line) × AppendedFront before now line × Rose before now
 
 -- what a call that puts a line on the report does
 abbrev pub WritesLine : {T : Type 0} → Told → Told → List ℕ → Result T Side → Type 0

@@ -1,13 +1,19 @@
 -- How a run finishes, from how its parts do.
-use Rattle.std.proofs.Common.{ℕ, List, [], ◌∷◌, ◌++◌, take, Result, Ok, Err, refl, inr, sym, subst, append-nil, append_assoc}
-use Rattle.std.proofs.Math.Seq.{take-nil}
+use Rattle.std.proofs.Common.{ℕ, ◌<◌, List, [], ◌∷◌, ◌++◌, length, take, Result, Ok, Err, refl, inr, sym, subst, append-nil, append_assoc, arith}
 use Rattle.pic_io.specs.declared.side.Side.{Side}
 use Rattle.pic_io.specs.declared.side.Side.TheVariants.{Out}
 use Rattle.pic_io.specs.Told.{Told, Rose}
-use Rattle.pic_io.specs.Sink.{Appended, AppendedFront}
+use Rattle.pic_io.specs.Sink.{AppendedFront}
 use Rattle.pic_io.specs.Sinks.{Sinks, sinks, Wrote, Piece, outs, lines, CutAt}
 use Rattle.pic_io.proofs.Puts.{wrote_twice, cut_from, cut_more, cut_later, cut_out}
+use Rattle.pic_num.specs.declared.motion.Particle.{Particle}
+use Rattle.pic_grid.specs.declared.stop.Stop.TheVariants.{Field as FieldStop, Push}
 use Rattle.pic_grid.specs.declared.stop.EndMark.{EndMark}
+use Rattle.pic_grid.specs.declared.stop.EndMark.TheVariants.{Done, Stopped}
+use Rattle.pic_grid.specs.Lattice.{Field}
+use Rattle.pic_energy.specs.declared.amounts.Energies.{Energies}
+use Rattle.pic_dump.specs.Header.{HeaderView}
+use Rattle.pic_dump.specs.DumpText.{header_bytes, front_bytes, frame_bytes, start_bytes, end_bytes, done_bytes, field_stop_bytes, push_stop_bytes}
 use Rattle.pic_run.specs.declared.cut.Cut.{Cut}
 use Rattle.pic_run.specs.declared.cut.Cut.TheVariants.{Write, NoMemory}
 use Rattle.pic_run.specs.declared.ended.Ended.{Ended}
@@ -71,16 +77,26 @@ headed workers output head frames last a b c (Err NoMemory) first has = inr (rec
   wrote = wrote_twice a b c head [] (outs (take has.number frames)) (lines (take has.number frames)) first has.wrote;
 })
 
--- a put of no bytes that failed: a front of the first piece
-none_cut : (o p r : Told) (frames : List Piece) (last : Piece) → Appended o p [] → Rose o p → CutAt Out (sinks o r) (sinks p r) (frames ++ last ∷ [])
-none_cut o p r [] last put rose = cut_out o p r last [] (0, put) rose
-none_cut o p r (frame ∷ frames) last put rose = cut_out o p r frame (frames ++ last ∷ []) (0, put) rose
-
 -- a head that was cut
-pub head_cut : (o p r : Told) (head : List ℕ) (frames : List Piece) (last : Piece) → AppendedFront o p head → Rose o p
+pub head_cut : (o p r : Told) (head : List ℕ) (frames : List Piece) (last : Piece) → 0 < length head → AppendedFront o p head → Rose o p
     → CutAt Out (sinks o r) (sinks p r) (with_head head (frames ++ last ∷ []))
-head_cut o p r [] frames last put rose = none_cut o p r frames last (subst (λ (x : List ℕ). Appended o p x) (take-nil put.0) put.1) rose
-head_cut o p r (byte ∷ head) frames last put rose = cut_out o p r (record { out = byte ∷ head; line = [] }) (frames ++ last ∷ []) put rose
+head_cut o p r [] frames last some put rose = absurd (omega (arith, some))
+head_cut o p r (byte ∷ head) frames last some put rose = cut_out o p r (record { out = byte ∷ head; line = [] }) (frames ++ last ∷ []) some put rose
+
+-- each record of a dump has a byte at least
+pub header_some : (h : HeaderView) → 0 < length (header_bytes h)
+unfolding header_bytes front_bytes
+header_some h = omega arith
+
+pub frame_some : (step : ℕ) (e b : Field) (particles : List Particle) (energies : Energies) → 0 < length (frame_bytes step e b particles energies)
+unfolding frame_bytes start_bytes
+frame_some step e b particles energies = omega arith
+
+pub end_some : (end : EndMark) → 0 < length (end_bytes end)
+unfolding end_bytes done_bytes field_stop_bytes push_stop_bytes
+end_some (Done steps) = omega arith
+end_some (Stopped step (FieldStop phase bound axis cell value)) = omega arith
+end_some (Stopped step (Push id what axis value)) = omega arith
 
 -- a run with no head
 pub without_head : (workers : ℕ) (o : Outcome) (a b : Sinks) (finish : Result Ended Cut) → WritesStates workers o a b finish → Finishes workers o a b finish

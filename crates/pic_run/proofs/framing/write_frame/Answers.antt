@@ -6,7 +6,8 @@ use Rattle.pic_io.proofs.Puts.{cut_out, line_after}
 use Rattle.pic_energy.specs.Line.{frame_line}
 use Rattle.pic_run.specs.declared.output.Output.{Output}
 use Rattle.pic_run.specs.declared.output.Output.TheVariants.{Dump}
-use Rattle.pic_run.specs.Frames.{frame_piece}
+use Rattle.pic_run.specs.Frames.{energies_in, frame_piece}
+use Rattle.pic_run.proofs.RunLaws.{frame_some}
 use Rattle.pic_run.proofs.StartLaws.{same_field, frame_is}
 use Rattle.pic_run.proofs.framing.write_frame.Goals as goal
 
@@ -49,7 +50,7 @@ returns-in-Err-clause-writes g c =
     }) measured in
     let put = subst (λ (x : List ℕ). AppendedFront o p x) text c.in-Err.ensures.bytes in
     subst (λ (output : Output). CutAt Out (sinks o r) (sinks p r) (frame_piece output c.args.step w ∷ [])) (sym c.in-Dump.is)
-    (cut_out o p r (frame_piece Dump c.args.step w) [] put c.in-Err.ensures.cause.err)
+    (cut_out o p r (frame_piece Dump c.args.step w) [] (frame_some c.args.step w.e w.b w.particles (energies_in w)) put c.in-Err.ensures.cause.err)
 
 pub returns-in-Lines-clause-writes : goal.returns-in-Lines-clause-writes
 unfolding frame_piece

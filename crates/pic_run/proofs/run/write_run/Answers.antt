@@ -6,7 +6,7 @@ use Rattle.pic_run.specs.declared.output.Output.TheVariants.{Dump}
 use Rattle.pic_run.specs.Frames.{frames_of, end_of, end_piece}
 use Rattle.pic_run.specs.Outcome.{states_outcome}
 use Rattle.pic_run.specs.Runs.{WritesStates}
-use Rattle.pic_run.proofs.RunLaws.{headed, head_cut}
+use Rattle.pic_run.proofs.RunLaws.{headed, header_some, head_cut}
 use Rattle.pic_run.proofs.run.write_run.Goals as goal
 
 pub returns-in-Ok : goal.returns-in-Ok
@@ -32,4 +32,4 @@ returns g c =
     let r = g.R.Sink.told c.args.report.now in
     let h = c.args.ready.header in
     let w = c.args.ready.state in
-    head_cut o p r (header_bytes h) (frames_of Dump h.steps h.every w) (end_piece Dump (end_of h.steps w)) c.in-Err.ensures.bytes c.in-Err.ensures.cause.err
+    head_cut o p r (header_bytes h) (frames_of Dump h.steps h.every w) (end_piece Dump (end_of h.steps w)) (header_some h) c.in-Err.ensures.bytes c.in-Err.ensures.cause.err
