@@ -14,7 +14,7 @@ use Rattle.pic_grid.specs.Sums.{sum_over}
 use Rattle.pic_grid.proofs.LatticeLaws.{value_at-field_of}
 use Rattle.pic_gather.proofs.SameLaws.{gathered_e_same, gathered_b_same}
 use Rattle.pic_grid.specs.Felt.{felt}
-use Rattle.pic_grid.specs.Parts.{one_part}
+use Rattle.pic_grid.specs.Parts.{layered}
 use Rattle.pic_grid.specs.declared.stop.Stop.{Stop}
 use Rattle.pic_grid.specs.Current.{flux_after, current}
 use Rattle.pic_tile.specs.Tile.{TileValue}
@@ -25,18 +25,18 @@ use Rattle.pic_step.specs.PushOn.{IsPushed}
 abbrev pub around_by : ℕ → List Kind → Triple → (Axis → Triple → ℤ) → (Axis → Triple → ℤ) → Surroundings
 around_by side kinds n f g = record { side = side; cells = n; kinds = kinds; of_e = f; of_b = g }
 
--- the same by lattices of these functions' values, whatever their parts
+-- the same by lattices of these functions' values, with a part for each layer of z
 abbrev pub around_lattices : ℕ → List Kind → Triple → (Axis → Triple → ℤ) → (Axis → Triple → ℤ) → Surroundings
-around_lattices side kinds n f g = felt kinds (field_of side n one_part f) (field_of side n one_part g)
+around_lattices side kinds n f g = felt kinds (field_of side n (layered n) f) (field_of side n (layered n) g)
 
 push_same : (side : ℕ) (kinds : List Kind) (n : Triple) (f g : Axis → Triple → ℤ) (particle : Particle)
     → push_of (around_lattices side kinds n f g) particle ≡ push_of (around_by side kinds n f g) particle
 unfolding push_of
 push_same side kinds n f g particle =
-    let e = gathered_e_same side n (value_at (field_of side n one_part f)) f (triple particle.x)
-    (λ a p within. value_at-field_of side n one_part f a p within) in
-    let b = gathered_b_same side n (value_at (field_of side n one_part g)) g (triple particle.x)
-    (λ a p within. value_at-field_of side n one_part g a p within) in
+    let e = gathered_e_same side n (value_at (field_of side n (layered n) f)) f (triple particle.x)
+    (λ a p within. value_at-field_of side n (layered n) f a p within) in
+    let b = gathered_b_same side n (value_at (field_of side n (layered n) g)) g (triple particle.x)
+    (λ a p within. value_at-field_of side n (layered n) g a p within) in
     λ i. pushed side (spot particle.v) (e i) (b i) (kind_of kinds particle).kick (kind_of kinds particle).turn
 
 pub moved_same : (side : ℕ) (kinds : List Kind) (n : Triple) (f g : Axis → Triple → ℤ) (particles : List Particle)

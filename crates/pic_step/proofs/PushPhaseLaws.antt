@@ -11,7 +11,7 @@ use Rattle.pic_num.specs.Sizes.{IsAtMost}
 use Rattle.pic_grid.specs.declared.stop.Stop.{Stop}
 use Rattle.pic_grid.specs.Gather.{force_of}
 use Rattle.pic_grid.specs.Lattice.{Field, value_at, field_of}
-use Rattle.pic_grid.specs.Parts.{one_part}
+use Rattle.pic_grid.specs.Parts.{layered}
 use Rattle.pic_num.specs.Space.{Triple}
 use Rattle.pic_grid.specs.PushPhase.{Surroundings, CanShare}
 use Rattle.pic_grid.proofs.LatticeLaws.{value_at-field_of}
@@ -30,19 +30,19 @@ use Rattle.pic_step.specs.Sound.{IsSafe}
 use Rattle.pic_step.proofs.FeltLaws.{around_by, pushed_same}
 
 -- the force values of a safe field, on the cells of a map
-pub forced : (m : Tiling) (by : Multiplier) (f r : Field) (parts : Triple) → IsSafe m.side (cells_of m) by (as_one f) → parts ≡ one_part
-    → r ≡ field_of f.side f.cells parts (force_of by (value_at f)) → r ≡ field_of m.side (cells_of m) one_part (force_of by (value_at f))
+pub forced : (m : Tiling) (by : Multiplier) (f r : Field) (parts : Triple) → IsSafe m.side (cells_of m) by (as_one f) → parts ≡ layered (cells_of m)
+    → r ≡ field_of f.side f.cells parts (force_of by (value_at f)) → r ≡ field_of m.side (cells_of m) (layered (cells_of m)) (force_of by (value_at f))
 forced m by f r parts safe cut is = is ∙ (λ i. field_of (safe.side_is i) (safe.cells i) (cut i) (force_of by (value_at f)))
 
 -- they are small enough to be gathered
 pub force_field : (m : Tiling) (by : Multiplier) (f r : Field) → IsSafe m.side (cells_of m) by (as_one f)
-    → r ≡ field_of m.side (cells_of m) one_part (force_of by (value_at f)) → IsForceField (grid_of m) r
+    → r ≡ field_of m.side (cells_of m) (layered (cells_of m)) (force_of by (value_at f)) → IsForceField (grid_of m) r
 force_field m by f r safe is = subst (IsForceField (grid_of m)) (sym is) (record {
   cells_are = refl;
   side = refl;
   small = record {
     at_most = λ a p within.
-        subst (λ (v : ℤ). IsAtMost v most_force) (sym (value_at-field_of m.side (cells_of m) one_part (force_of by (value_at f)) a p within))
+        subst (λ (v : ℤ). IsAtMost v most_force) (sym (value_at-field_of m.side (cells_of m) (layered (cells_of m)) (force_of by (value_at f)) a p within))
         (safe.bounded a p within).force;
   };
 })
@@ -53,8 +53,8 @@ with_forces_of m kinds scales e b = record {
   cells = grid_of m;
   map = m;
   kinds = kinds;
-  force_e = field_of m.side (cells_of m) one_part (force_of scales.e_force (value_at e));
-  force_b = field_of m.side (cells_of m) one_part (force_of scales.b_force (value_at b));
+  force_e = field_of m.side (cells_of m) (layered (cells_of m)) (force_of scales.e_force (value_at e));
+  force_b = field_of m.side (cells_of m) (layered (cells_of m)) (force_of scales.b_force (value_at b));
 }
 
 -- tiles can be pushed in a frame as in one of the same map and kinds
@@ -93,11 +93,12 @@ pushed_by_fields p q scales e b f stop safe is h =
     }
 
 -- what is ready for a push is so in a frame of the same map
-pub ready_moves : (p : Plasma) (f : FrameValue) (xs : List Particle) → f.map ≡ p.frame.map → f.force_e.parts ≡ one_part → IsPlasma xs p
+pub ready_moves : (p : Plasma) (f : FrameValue) (xs : List Particle) → f.map ≡ p.frame.map → f.force_e.parts ≡ layered (cells_of p.frame.map)
+    → IsPlasma xs p
     → IsPlasma xs (record p { frame = f })
 ready_moves p f xs map parts ready = record {
   tiles = subst (λ (m : Tiling). AreFreshTiles m xs p.tiles.items) (sym map) ready.tiles;
   room = subst (λ (m : Tiling). IsRoom m p.room) (sym map) ready.room;
-  parts = parts;
+  parts = parts ∙ ap (λ (m : Tiling). layered (cells_of m)) (sym map);
   count = ready.count;
 }

@@ -13,7 +13,7 @@ use Rattle.pic_grid.specs.Block.{AllAtMost, inner_of, inner_at, outer_of}
 use Rattle.pic_grid.specs.Cells.{Grid, IsWithin, count_of}
 use Rattle.pic_grid.specs.Current.{current}
 use Rattle.pic_grid.specs.Hat.{IsInBox, HasTwo}
-use Rattle.pic_grid.specs.Parts.{one_part}
+use Rattle.pic_grid.specs.Parts.{layered}
 use Rattle.pic_grid.specs.PushPhase.{Surroundings, CanShare, moved_all}
 use Rattle.pic_grid.proofs.BlockLaws.{inner_within}
 use Rattle.pic_orders.specs.InOrder.{AreOrdered}
@@ -132,7 +132,7 @@ has_pushed p q stop h frame map some opening ready stopped =
         received = have_received (felt_in f) f.map xs us x small;
         stand = stand_for (felt_in f) f.map xs us x pushed.particles;
         room = subst (λ (g : FrameValue). IsRoom g.map q.room) back h.room;
-        parts = subst (λ (g : FrameValue). g.force_e.parts ≡ one_part) back ready.parts;
+        parts = subst (λ (g : FrameValue). g.force_e.parts ≡ layered (cells_of g.map)) back ready.parts;
         count = h.count ∙ ready.count ∙ sym (ap length pushed.particles ∙ length-moved_all (felt_in f) xs);
       };
       pushed = subst (λ (g : FrameValue). IsPushed (felt_in g) f.map xs us stop) h.frame pushed;

@@ -2,20 +2,21 @@
 use Rattle.std.specs.Prelude.{◌≡◌, ℕ, ◌<◌, List, length}
 use Rattle.pic_num.specs.declared.motion.Particle.{Particle}
 use Rattle.pic_grid.specs.Cells.{count_of}
-use Rattle.pic_grid.specs.Parts.{one_part}
+use Rattle.pic_grid.specs.Parts.{layered}
 use Rattle.pic_tile.specs.CoreState.{particles_of}
 use Rattle.pic_tile.specs.Parcels.{AreFreshTiles, StandsFor}
 use Rattle.pic_tile.specs.Tile.{tile_in}
+use Rattle.pic_tile.specs.Tiling.{cells_of}
 use Rattle.pic_core.specs.Opened.{IsRoom}
 use Rattle.pic_step.specs.declared.plasma.Plasma.{Plasma}
 use Rattle.pic_phase.specs.Spent.{HaveReceived}
 
 -- particles are ready for their push: they are cut into tiles; beside these there are the room for
--- what they will receive, and lattices of one part for the force values
+-- what they will receive, and lattices with a part for each layer of z for the force values
 pub record IsPlasma (particles : List Particle) (p : Plasma) : Type 0 where
   pub tiles : AreFreshTiles p.frame.map particles p.tiles.items
   pub room : IsRoom p.frame.map p.room
-  pub parts : p.frame.force_e.parts ≡ one_part
+  pub parts : p.frame.force_e.parts ≡ layered (cells_of p.frame.map)
   pub count : p.count ≡ length particles
 
 -- they are pushed: each tile has its own of them and its flux; all else is ready for the next push
@@ -24,5 +25,5 @@ pub record HasFlux (p : Plasma) : Type 0 where
   pub stand : (r : ℕ) → r < count_of p.frame.map.tiles
       → StandsFor p.frame.map (particles_of p.tiles.items) (tile_in p.tiles.items r)
   pub room : IsRoom p.frame.map p.room
-  pub parts : p.frame.force_e.parts ≡ one_part
+  pub parts : p.frame.force_e.parts ≡ layered (cells_of p.frame.map)
   pub count : p.count ≡ length (particles_of p.tiles.items)

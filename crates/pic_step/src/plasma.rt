@@ -6,7 +6,7 @@ ghost use Rattle.pic_num.specs.Limits.{most_particles, most_value};
 ghost use Rattle.pic_num.specs.Space.{triple};
 ghost use Rattle.pic_grid.specs.Hat.{IsInBox};
 ghost use Rattle.pic_grid.specs.Lattice.{EachAtMost, value_at};
-ghost use Rattle.pic_grid.specs.Parts.{one_part};
+ghost use Rattle.pic_grid.specs.Parts.{layered};
 ghost use Rattle.pic_field.specs.FieldPhases.{full_of};
 ghost use Rattle.pic_tile.specs.CoreState.{particles_of};
 ghost use Rattle.pic_tile.specs.Frame.{AreKinds};
@@ -90,14 +90,17 @@ impl Plasma {
     }
 }
 
-/// A frame without forces, on lattices of one part: in these a gather finds its places soonest.
+/// A frame without forces, on lattices with a part for each layer of z: in these a gather finds its
+/// places soonest, and workers share the layers out.
 fn frame_for(alloc: Global, map: TileMap, kinds: Vec<Kind>) -> Result<Frame, NoMemory>
     requires { AreKinds kinds.items }
     ensures map { IfOk result (λ f. f.map ≡ map) }
     ensures kinds { IfOk result (λ f. f.kinds ≡ kinds.items) }
-    ensures parts { IfOk result (λ f. f.force_e.parts ≡ one_part) }
+    ensures parts { IfOk result (λ f. f.force_e.parts ≡ layered (cells_of map)) }
 {
-    let force_e = Lattice::new(alloc, map.cells(), [1; 3])?;
-    let force_b = Lattice::new(alloc, map.cells(), [1; 3])?;
+    let cells = map.cells();
+    let [_, _, nz] = cells.numbers();
+    let force_e = Lattice::new(alloc, cells, [1, 1, nz])?;
+    let force_b = Lattice::new(alloc, cells, [1, 1, nz])?;
     Ok(Frame::new(map, Kinds::from_vec(kinds), force_e, force_b))
 }

@@ -4,7 +4,7 @@ ghost use Rattle.std.specs.Prelude.{◌≡◌, ◌<◌, ◌≤◌, IfOk, IsErr};
 ghost use Rattle.pic_crew.specs.Teams.{most_workers};
 ghost use Rattle.pic_grid.specs.Gather.{force_of};
 ghost use Rattle.pic_grid.specs.Lattice.{value_at, field_of};
-ghost use Rattle.pic_grid.specs.Parts.{one_part};
+ghost use Rattle.pic_grid.specs.Parts.{layered};
 ghost use Rattle.pic_tile.specs.CoreState.{particles_of, IsOpening};
 ghost use Rattle.pic_tile.specs.Frame.{felt_in};
 ghost use Rattle.pic_tile.specs.Tiling.{cells_of, grid_of};
@@ -93,14 +93,14 @@ fn with_forces<H: Threads + Sync>(
     requires some { 0 < workers }
     requires e { IsSafe frame.map.side (cells_of frame.map) scales.now.e_force (as_one e.now) }
     requires b { IsSafe frame.map.side (cells_of frame.map) scales.now.b_force (as_one b.now) }
-    requires parts { frame.force_e.parts ≡ one_part }
+    requires parts { frame.force_e.parts ≡ layered (cells_of frame.map) }
     ensures { let m = frame.map in result ≡ record {
       cells = grid_of m;
       map = m;
       kinds = frame.kinds;
-      force_e = field_of m.side (cells_of m) one_part
+      force_e = field_of m.side (cells_of m) (layered (cells_of m))
           (force_of scales.now.e_force (value_at e.now));
-      force_b = field_of m.side (cells_of m) one_part
+      force_b = field_of m.side (cells_of m) (layered (cells_of m))
           (force_of scales.now.b_force (value_at b.now));
     } }
 {

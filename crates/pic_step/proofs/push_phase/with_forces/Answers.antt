@@ -1,7 +1,7 @@
 use Rattle.std.proofs.Common.{◌≡◌, sym, ap, ◌∙◌, subst}
 use Rattle.pic_grid.specs.Gather.{force_of}
 use Rattle.pic_grid.specs.Lattice.{value_at, field_of}
-use Rattle.pic_grid.specs.Parts.{one_part}
+use Rattle.pic_grid.specs.Parts.{layered}
 use Rattle.pic_tile.specs.Frame.{IsForceField}
 use Rattle.pic_tile.specs.Tiling.{Tiling, cells_of, grid_of}
 use Rattle.pic_step.proofs.PushPhaseLaws.{forced, force_field}
@@ -10,13 +10,15 @@ use Rattle.pic_step.proofs.push_phase.with_forces.Goals as goal
 use Rattle.pic_step.proofs.push_phase.with_forces.Goals.{After-forces-force_e, After-forces-force_b}
 
 -- the force values of E, and those of B, on the cells of the map
-of_e : (g : Over) (c : After-forces-force_e g) → c.forces-force_e.result ≡ field_of c.args.frame.map.side (cells_of c.args.frame.map) one_part
+of_e : (g : Over) (c : After-forces-force_e g) → c.forces-force_e.result
+    ≡ field_of c.args.frame.map.side (cells_of c.args.frame.map) (layered (cells_of c.args.frame.map))
     (force_of c.args.scales.now.e_force (value_at c.args.e.now))
 of_e g c =
     forced c.args.frame.map c.args.scales.now.e_force c.args.e.now c.forces-force_e.result c.into_parts-kinds.result.1.parts c.requires.e
     (ap (λ f. f.parts) c.into_parts-kinds.ensures.e ∙ c.requires.parts) c.forces-force_e.ensures
 
-of_b : (g : Over) (c : After-forces-force_b g) → c.forces-force_b.result ≡ field_of c.args.frame.map.side (cells_of c.args.frame.map) one_part
+of_b : (g : Over) (c : After-forces-force_b g) → c.forces-force_b.result
+    ≡ field_of c.args.frame.map.side (cells_of c.args.frame.map) (layered (cells_of c.args.frame.map))
     (force_of c.args.scales.now.b_force (value_at c.args.b.now))
 of_b g c =
     forced c.args.frame.map c.args.scales.now.b_force c.args.b.now c.forces-force_b.result c.into_parts-kinds.result.2.parts c.requires.b
