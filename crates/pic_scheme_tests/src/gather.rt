@@ -12,14 +12,14 @@ use pic_num::{Axis, NoMemory, Sub};
 use std::alloc::Global;
 use std::process::Abort;
 
-/// A lattice of one part with one value, in the first cell.
+/// A lattice with a part for each layer of z and one value, in the first cell.
 fn lone(alloc: Global, cells: Cells, axis: Axis, value: i32) -> Result<Lattice, NoMemory>
     ensures forces { IfOk result AreForces }
     ensures cells { IfOk result (λ f. f.cells ≡ cells.n) }
     ensures side { IfOk result (λ f. f.side ≡ cells.side) }
 {
-    let [_, _, _] = cells.numbers();
-    let mut force = Lattice::new(alloc, cells, [1; 3])?;
+    let [_, _, nz] = cells.numbers();
+    let mut force = Lattice::new(alloc, cells, [1, 1, nz])?;
     force.set(axis, [0, 0, 0], i128::from(value));
     Ok(force)
 }
@@ -138,6 +138,7 @@ fn every_part_is_gathered_alike(rt: HostRuntime) {
         ([5000, 100, 8191], 2, 1),
     ] {
         check_alike(&rt, [1, 1, 1], point, x, y);
+        check_alike(&rt, [1, 1, 2], point, x, y);
         check_alike(&rt, [2, 1, 2], point, x, y);
         check_alike(&rt, [2, 2, 2], point, x, y);
     }
