@@ -5,6 +5,8 @@
 #[cfg(test)]
 mod counting;
 #[cfg(test)]
+mod holding;
+#[cfg(test)]
 mod one_tile;
 #[cfg(test)]
 mod opening;
