@@ -12,7 +12,7 @@ use Rattle.pic_line.specs.declared.asked.Command.{Command}
 use Rattle.pic_line.specs.declared.asked.Command.TheVariants.{Check, Run, Verify, Demo}
 use Rattle.pic_verify.specs.declared.verify_stop.VerifyStop.{VerifyStop}
 use Rattle.pic_verify.specs.declared.verify_stop.VerifyStop.TheVariants as verify_stop
-use Rattle.pic_verify.specs.Allowed.{TakesAllowed, TakesHeader}
+use Rattle.pic_verify.specs.Allowed.{TakesHeader}
 use Rattle.pic_verify.specs.Verified.{Verdict, verified}
 use Rattle.pic_verify.specs.Verifies.{Finds, Verifies}
 use Rattle.pic_run.specs.declared.cut.Cut.{Cut}
@@ -30,6 +30,7 @@ use Rattle.pic_run.specs.Outcome.{Outcome, check_outcome, run_outcome, demo_outc
 use Rattle.pic_run.specs.Reading.{deck_limit, Gave, TakesAtMost}
 use Rattle.pic_run.specs.Starting.{first_state}
 use Rattle.pic_run.specs.Ends.{Finishes, Announces, EndsStopped, Reads, ReadsDeck, ReadsDump, Takes, IsIdle, OnDeck, OnDump, Demonstrates, Performs}
+use Rattle.pic_run.specs.Ends.{TakesOfDump}
 use Rattle.pic_run.proofs.OpenedLaws.{gave_known}
 
 with_front_nil : (known : Option (List ℕ)) → known ≡ with_front [] known
@@ -70,6 +71,7 @@ on_stopped workers performed (Answer end) source source' before now finish taken
     taken = taken;
     calm = λ wanted. absurd (fed _ before now finish ends wanted);
     end = λ _. opens.opens.end;
+    short = λ _. opens.opens.short;
     sound = λ _ d e. let other : ◌≡◌ {A = Staged DeckView} (Err end) (Ok d) = sym opens.opens.early ∙ e in cc;
   };
 }
@@ -81,6 +83,7 @@ on_stopped workers performed NoMemory source source' before now finish taken ope
     taken = taken;
     calm = λ _. calm_some source source' opens.input opens.gave opens.opens;
     end = λ whole. absurd (whole is);
+    short = λ whole. absurd (whole is);
     sound = λ whole. absurd (whole is);
   };
 }
@@ -102,6 +105,7 @@ on_opened workers performed o source source' before now finish taken opens ends 
         taken = taken;
         calm = λ _. calm_opened source source' opens.input o.deck opens.gave is.deck;
         end = λ _ d e. is.end;
+        short = λ _ _ _ _. is.end;
         sound = λ _ d e. subst (λ (k : DeckView). IsSound (first_state k)) (ok_is o.deck d (sym is.deck ∙ e))
             (subst IsSound is.start is.sound);
       };
@@ -174,6 +178,7 @@ starved_words words source before = record {
       taken = record { front = []; most = omega arith; taken = with_front_nil source.bytes };
       calm = λ _. refl;
       end = λ whole. absurd (whole refl);
+      short = λ whole. absurd (whole refl);
       sound = λ whole. absurd (whole refl);
     }
 
@@ -182,7 +187,10 @@ starved_words words source before = record {
     none_read (Some Check) = reads_deck
     none_read (Some (Run workers)) = reads_deck
     none_read (Some Verify) = record {
-      taken = record { front = []; taken = with_front_nil source.bytes; most = inl (omega arith) };
+      taken = record {
+        allowed = record { front = []; taken = with_front_nil source.bytes; most = inl (omega arith) };
+        reached = record { front = []; taken = with_front_nil source.bytes; most = inl (omega arith) };
+      };
       calm = λ _. refl;
       memory = λ _. record { front = []; moved = with_front_nil source.bytes; most = omega arith };
       end = λ frames same. cc;
@@ -233,7 +241,7 @@ answers_as o before now finish answer ends same = let whole = subst (Announces o
 
 -- a dump was verified to its end
 pub good_dump : (source source' : Told) (before now : Sinks) (finish : Result Ended Cut) (frames : ℕ) → Verifies source source' (Ok frames)
-    → TakesAllowed source source'
+    → TakesOfDump source source'
     → Announces (verdict_outcome (Ok frames)) before now finish → OnDump source source' before now finish
 good_dump source source' before now finish frames is taken ends =
     let o = verdict_outcome (Ok frames) in
@@ -247,7 +255,7 @@ good_dump source source' before now finish frames is taken ends =
 
 -- it wasn't
 pub dump_stopped : (source source' : Told) (before now : Sinks) (finish : Result Ended Cut) (stop : VerifyStop) → Verifies source source' (Err stop)
-    → TakesAllowed source source' → (◌≡◌ {A = Verdict} (Err stop) (Err verify_stop.NoMemory) → TakesHeader source source')
+    → TakesOfDump source source' → (◌≡◌ {A = Verdict} (Err stop) (Err verify_stop.NoMemory) → TakesHeader source source')
     → EndsStopped (stop_of_verify stop) before now finish → OnDump source source' before now finish
 dump_stopped source source' before now finish verify_stop.ReadFault is taken moved ends = record {
   input = None;

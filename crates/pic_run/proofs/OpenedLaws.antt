@@ -1,6 +1,8 @@
 -- What opening a deck does, from what its stages do.
-use Rattle.std.proofs.Common.{◌≡◌, ℕ, ◌<◌, List, [], length, take, Option, Some, None, Result, Ok, Err, refl, sym, ◌∙◌, ap, subst, arith}
+use Rattle.std.proofs.Common.{◌≡◌, ℕ, ◌<◌, min, List, [], length, take, Option, Some, None, Result, Ok, Err, refl, sym, ◌∙◌, ap, subst, arith}
 use Rattle.std.specs.Prelude.{IfSome, unwrap_or}
+use Rattle.std.proofs.lemmas.List.{length-take}
+use Rattle.pic_io.specs.Source.{IsAtEnd}
 use Rattle.pic_io.specs.Told.{Told, Calm}
 use Rattle.pic_charge.specs.declared.breaks.Break.{Break}
 use Rattle.pic_deck.specs.Deck.{DeckView}
@@ -37,9 +39,18 @@ short_deck : (bytes : List ℕ) (d : DeckView) (limit : ℕ) → limit ≡ deck_
 unfolding deck_limit
 short_deck bytes d limit is e = let size = deck_size bytes d e in omega (arith, size, is)
 
+-- a source that held less than a deck may have is at its end
+all_taken : (a b : Told) (limit : ℕ) (bytes held : List ℕ) → limit ≡ deck_limit → (took : TookAll a b limit bytes)
+    → ◌≡◌ {A = Option (List ℕ)} (Some took.held) (Some held) → length held < deck_limit → IsAtEnd b
+all_taken a b limit bytes held is took same short =
+    let here : took.held ≡ held = cc in
+    let size : length bytes ≡ min limit (length held) =
+    sym (ap length took.front) ∙ length-take limit took.held ∙ ap (λ (xs : List ℕ). min limit (length xs)) here in
+    took.end (omega (arith, size, short, is))
+
 -- a read that failed, or memory that was wanting while the source was read
 pub unread : (stop : ReadStop) (a b : Told) (limit : ℕ) → ReadsAll a b limit (Err stop) → Opens a b (Err (stop_of_reading stop))
-unread read_stop.Fault a b limit rose = record { input = None; gave = rose; opens = record { early = refl; end = λ d e. cc } }
+unread read_stop.Fault a b limit rose = record { input = None; gave = rose; opens = record { early = refl; end = λ d e. cc; short = λ held same. cc } }
 unread read_stop.NoMemory a b limit calm = record { input = Some (unwrap_or a.bytes []); gave = gave_known a b calm; opens = refl }
 
 -- memory that was wanting later
@@ -70,6 +81,7 @@ refused (deck_fault.Refused refusal) a b limit bytes is took walks =
       opens = record {
         early = opened_as took.held (Err refusal) w;
         end = λ d e. let other : ◌≡◌ {A = Staged DeckView} (Err (Refused refusal)) (Ok d) = sym (accepted_as took.held (Err refusal) w) ∙ e in cc;
+        short = λ held. all_taken a b limit bytes held is took;
       };
     }
 refused deck_fault.NoMemory a b limit bytes is took walks = starved a b limit bytes took
@@ -94,6 +106,7 @@ read_and_tested a b limit bytes d (Err (Answer why)) is took walks tests = recor
   opens = record {
     early = opened_as took.held (Ok d) (walked a b limit bytes is took (Ok d) walks) ∙ tests;
     end = λ _ _. took.end (short_deck bytes d limit is walks);
+    short = λ held. all_taken a b limit bytes held is took;
   };
 }
 read_and_tested a b limit bytes d (Err NoMemory) is took walks tests = starved a b limit bytes took

@@ -25,6 +25,7 @@ use Rattle.pic_run.specs.declared.early.StageStop.TheVariants as stage_stop
 use Rattle.pic_run.specs.declared.ended.Ended.{Ended}
 use Rattle.pic_verify.specs.declared.verify_stop.VerifyStop.TheVariants as verify_stop
 use Rattle.pic_verify.specs.Allowed.{TakesAllowed, TakesHeader}
+use Rattle.pic_verify.specs.Reached.{TakesToRecord}
 use Rattle.pic_verify.specs.Verified.{verified}
 use Rattle.pic_run.specs.declared.ended.Ended.TheVariants.{Done, Verified, ReadFault, NoMemory}
 use Rattle.pic_line.specs.declared.asked.Command.{Command}
@@ -104,13 +105,15 @@ IsIdle (Some (Demo seed workers)) = ⊤
 IsIdle c = ⊥
 
 -- how a deck was read: at most one byte more than a deck may have; where memory was wanting, no
--- read failed; and else an accepted deck to its end, and one that meets Gauss's law begins in a
--- sound state
+-- read failed; and else a deck that is accepted, or refused and not too long, to its end, and one
+-- that meets Gauss's law begins in a sound state
 pub record ReadsDeck (input : Option (List ℕ)) (source source' : Told)
     (finish : Result Ended Cut) : Type 0 where
   pub taken : TakesAtMost deck_limit source source'
   pub calm : finish ≡ Err cut.NoMemory → Calm source source'
   pub end : finish ≢ Err cut.NoMemory → (d : DeckView) → accepted input ≡ Ok d → IsAtEnd source'
+  pub short : finish ≢ Err cut.NoMemory
+      → (held : List ℕ) → input ≡ Some held → length held < deck_limit → IsAtEnd source'
   pub sound : finish ≢ Err cut.NoMemory
       → (d : DeckView) → opened input ≡ Ok d → IsSound (first_state d)
 
@@ -121,11 +124,17 @@ pub record ReadsNothing (seed : ℕ) (source source' : Told) (finish : Result En
   pub sound : finish ≢ Err cut.NoMemory
       → (d : DeckView) → demonstrated seed ≡ Ok d → IsSound (first_state d)
 
--- how a dump was read: at most one byte past the length that its header allows; where memory was
--- wanting, no read failed, and no more was taken than the longest header has; one whose frames are
--- good to its end; and a read fault is one that the source's count shows
+-- what is taken of a dump: at most one byte past the length that its header allows, and none behind
+-- the most that the first record that isn't good can have
+pub record TakesOfDump (source source' : Told) : Type 0 where
+  pub allowed : TakesAllowed source source'
+  pub reached : TakesToRecord source source'
+
+-- how a dump was read: no more of it than that; where memory was wanting, no read failed, and no more
+-- was taken than the longest header has; one whose frames are good to its end; and a read fault is one
+-- that the source's count shows
 pub record ReadsDump (source source' : Told) (finish : Result Ended Cut) : Type 0 where
-  pub taken : TakesAllowed source source'
+  pub taken : TakesOfDump source source'
   pub calm : finish ≡ Err cut.NoMemory → Calm source source'
   pub memory : finish ≡ Err cut.NoMemory → TakesHeader source source'
   pub end : (frames : ℕ) → finish ≡ Ok (Verified frames) → IsAtEnd source'
@@ -181,7 +190,7 @@ abbrev pub Takes : Option Command → Told → Told → Type 0
 Takes None source source' = source' ≡ source
 Takes (Some Check) source source' = TakesAtMost deck_limit source source'
 Takes (Some (Run workers)) source source' = TakesAtMost deck_limit source source'
-Takes (Some Verify) source source' = TakesAllowed source source'
+Takes (Some Verify) source source' = TakesOfDump source source'
 Takes (Some (Demo seed workers)) source source' = source' ≡ source
 
 -- where the source tells its bytes and no fault can be blamed on a count, the call answers the

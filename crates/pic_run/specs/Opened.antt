@@ -1,5 +1,5 @@
 -- What opening a deck does.
-use Rattle.std.specs.Prelude.{◌≡◌, ⊤, ℕ, List, Option, Result, Ok, Err, IsSome}
+use Rattle.std.specs.Prelude.{◌≡◌, ⊤, ℕ, ◌<◌, List, length, Option, Some, Result, Ok, Err, IsSome}
 use Rattle.pic_io.specs.Told.{Told}
 use Rattle.pic_io.specs.Source.{IsAtEnd}
 use Rattle.pic_deck.specs.Deck.{DeckView}
@@ -11,7 +11,7 @@ use Rattle.pic_run.specs.declared.early.StageStop.{StageStop}
 use Rattle.pic_run.specs.declared.early.StageStop.TheVariants.{Answer, NoMemory}
 use Rattle.pic_run.specs.declared.opened.Opened.{Opened}
 use Rattle.pic_run.specs.Outcome.{accepted, tested, opened}
-use Rattle.pic_run.specs.Reading.{Gave}
+use Rattle.pic_run.specs.Reading.{deck_limit, Gave}
 use Rattle.pic_run.specs.Starting.{first_state}
 
 -- the deck meets Gauss's law; it stands here with what its run begins with, and that is sound, its
@@ -36,10 +36,12 @@ pub record IsOpened (input : Option (List ℕ)) (now : Told) (o : Opened) : Type
   pub tiled : AreTiled o.start.map o.start.e o.start.b
   pub end : IsAtEnd now
 
--- the early end of the input; where its deck is accepted, the source is at its end
+-- the early end of the input; where its deck is accepted, and where it is no longer than a deck may be,
+-- the source is at its end
 pub record IsEarly (input : Option (List ℕ)) (now : Told) (why : Early) : Type 0 where
   pub early : opened input ≡ Err why
   pub end : (d : DeckView) → accepted input ≡ Ok d → IsAtEnd now
+  pub short : (held : List ℕ) → input ≡ Some held → length held < deck_limit → IsAtEnd now
 
 -- want of memory comes only where no read failed
 abbrev pub OpensAs : Option (List ℕ) → Told → Result Opened StageStop → Type 0
