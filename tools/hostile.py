@@ -124,8 +124,8 @@ def pipes(program):
     test = Test("run, the pipe of the dump closed when so many bytes were read (head -c)")
     for length in sorted(places):
         ended = status, got, report = closed_early(program, run, length)
-        # What stood in the pipe when it was closed isn't known: a page, or a little less.
-        may = {run.lines_of(length), run.lines_of(length + PAGE)}
+        # What stood in the pipe when it was closed isn't known: a page at the most.
+        may = {run.lines_of(put) for put in range(length, length + PAGE + 1)}
         stopped = status == 5 and report in may or status == 0 and length + PAGE >= len(run.dump)
         test.case(f"{length} bytes", stopped and got == run.dump[:length], ended)
     test.end()

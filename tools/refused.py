@@ -160,7 +160,8 @@ def growths(program):
             return ended, counted
 
         whole, number = call(0)
-        refused = {n for n in range(1, number + 1) if n <= AT_ENDS or n > number - AT_ENDS or number <= 2 * SPREAD}
+        is_each = number <= 2 * SPREAD or "--workers" not in words
+        refused = {n for n in range(1, number + 1) if is_each or n <= AT_ENDS or n > number - AT_ENDS}
         refused |= {1 + n * number // SPREAD for n in range(SPREAD)}
         test = Test(f"{name}, with one of {number} requests for memory refused in turn")
         for n, (ended, _) in program.each(call, sorted(refused)):
