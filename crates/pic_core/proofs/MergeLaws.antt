@@ -6,7 +6,7 @@ use Rattle.std.proofs.lemmas.List.{length-set, get_or-set_same, get_or-set_other
 use Rattle.std.proofs.lemmas.Grind.{get_or-set_at}
 use Rattle.pic_tile.specs.declared.parcel.Parcel.{Parcel}
 use Rattle.pic_tile.specs.CoreEvents.{CanMerge, CanShut, after_merge, after_shut}
-use Rattle.pic_tile.specs.CoreState.{CoreState, HasPlaces, IsInTurn, IsInPlace, IsSound, count_in, slot_of}
+use Rattle.pic_tile.specs.CoreState.{CoreState, HasPlaces, IsInTurn, IsInPlace, IsSoundFrame, count_in, slot_of}
 use Rattle.pic_tile.specs.CoreState.{is_posted, is_merged, merged_into, is_shut, mail_at, start_of}
 use Rattle.pic_tile.specs.Directions.{directions, here}
 use Rattle.pic_tile.specs.Frame.{felt_in}
@@ -50,7 +50,7 @@ module _ (s : CoreState) (r d : ℕ) (places : HasPlaces s) (turn : IsInTurn s) 
   pub merge_sent : IsSent (felt_in s.frame) s.frame.map (start_of s (sender_of s.frame.map d r)) (sender_of s.frame.map d r) d (mail_at s r d)
   merge_sent = place.sent r d can.tile can.dir (can.ready d can.dir) can.free
 
-  module _ (u : TileValue) (p : Parcel) (there : mail_at s r d ≡ Some p) (merged : Merged p (tile_in s.received r) u) (sound : IsSound s.frame) where
+  module _ (u : TileValue) (p : Parcel) (there : mail_at s r d ≡ Some p) (merged : Merged p (tile_in s.received r) u) (sound : IsSoundFrame s.frame) where
     abbrev new : CoreState
     new = after_merge s r d u
 

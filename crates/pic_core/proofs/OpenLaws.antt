@@ -7,7 +7,7 @@ use Rattle.pic_num.specs.declared.motion.Particle.{Particle}
 use Rattle.pic_orders.proofs.SameLaws.{sum_by-map, sum_by-together, sum_by_agree}
 use Rattle.pic_orders.proofs.StandForLaws.{stands_together}
 use Rattle.pic_tile.specs.declared.parcel.Parcel.{Parcel}
-use Rattle.pic_tile.specs.CoreState.{CoreState, Stands, HasCensus, HasPlaces, IsInPlace, IsInTurn, IsOpening, IsSound, count_in, slot_of}
+use Rattle.pic_tile.specs.CoreState.{CoreState, Stands, HasCensus, HasPlaces, IsInPlace, IsInTurn, IsOpening, IsSoundFrame, count_in, slot_of}
 use Rattle.pic_tile.specs.CoreState.{mark, is_claimed, is_posted, is_merged, is_shut, mail_at, particles_of, start_of, held}
 use Rattle.pic_tile.specs.Directions.{directions, here}
 use Rattle.pic_tile.specs.Frame.{felt_in}
@@ -40,7 +40,7 @@ bare_weight v n ts bare =
     ∙ ap (λ (found : Option Parcel). sum_by v (chain_of found)) (bare.none k here below (omega arith)))
     ∙ zero_sum ts
 
-module _ (s : CoreState) (o : IsOpened s.frame s.opening s) (sound : IsSound s.frame) (opens : IsOpening s.frame s.opening) where
+module _ (s : CoreState) (o : IsOpened s.frame s.opening s) (sound : IsSoundFrame s.frame) (opens : IsOpening s.frame s.opening) where
   unclaimed : (t : ℕ) → is_claimed s t ≡ false
   unclaimed t = ap (λ (ms : List Bool). mark ms t) o.marks.claimed ∙ same_there (count_in s) t false
 
@@ -125,7 +125,7 @@ module _ (s : CoreState) (o : IsOpened s.frame s.opening s) (sound : IsSound s.f
 -- so does the state that is made of these parts
 pub opened_made : (s : CoreState) (ts : List TileValue) (n : ℕ) → n ≡ count_in s → s.opening ≡ ts → s.tiles ≡ ts → s.mail ≡ replicate (n * directions) None
     → AreBare n s.received → s.claimed ≡ replicate n false → s.posted ≡ replicate (n * directions) false → s.merged ≡ replicate (n * directions) false
-    → s.shut ≡ replicate n false → IsSound s.frame → IsOpening s.frame ts → Stands s
+    → s.shut ≡ replicate n false → IsSoundFrame s.frame → IsOpening s.frame ts → Stands s
 opened_made s ts n count opening tiles mail received claimed posted merged shut sound opens =
     opened_stands s (record {
       frame = refl;

@@ -8,7 +8,7 @@ use Rattle.pic_grid.specs.Hat.{IsInBox}
 use Rattle.pic_grid.specs.PushPhase.{CanShare}
 use Rattle.pic_orders.specs.InOrder.{AreOrdered}
 use Rattle.pic_orders.proofs.StandForLaws.{stands_list}
-use Rattle.pic_tile.specs.CoreState.{IsOpening, IsSound, particles_of}
+use Rattle.pic_tile.specs.CoreState.{IsOpening, IsSoundFrame, particles_of}
 use Rattle.pic_tile.specs.Frame.{FrameValue}
 use Rattle.pic_tile.specs.Held.{chains_of}
 use Rattle.pic_tile.specs.Owners.{tile_of}
@@ -18,7 +18,7 @@ use Rattle.pic_tile.specs.Tiling.{Tiling, cells_of}
 use Rattle.pic_tile.proofs.HeldLaws.{fresh_stand}
 
 -- fresh tiles of a list within the limits can be pushed, and the list is found from them
-pub opening_of : (f : FrameValue) (xs : List Particle) (ts : List TileValue) → IsSound f → AreFreshTiles f.map xs ts → AreOrdered xs
+pub opening_of : (f : FrameValue) (xs : List Particle) (ts : List TileValue) → IsSoundFrame f → AreFreshTiles f.map xs ts → AreOrdered xs
     → All (CanShare f.map.side (cells_of f.map) f.kinds) xs → length xs ≤ most_particles → IsOpening f ts
 opening_of f xs ts sound fresh ordered can few =
     let some : 0 < f.map.side = (let least = sound.least in omega (arith, least)) in
@@ -34,7 +34,7 @@ opening_of f xs ts sound fresh ordered can few =
     }
 
 -- the tiles of one particle can be
-pub opening_one : (f : FrameValue) (m : Tiling) (x : Particle) (ts : List TileValue) → IsSound f → f.map ≡ m → AreFreshTiles m (x ∷ []) ts
+pub opening_one : (f : FrameValue) (m : Tiling) (x : Particle) (ts : List TileValue) → IsSoundFrame f → f.map ≡ m → AreFreshTiles m (x ∷ []) ts
     → x.id ≡ 0 → x.species < length f.kinds → IsInBox m.side (cells_of m) (triple x.x) → IsOpening f ts
 opening_one f m x ts sound same fresh first species place =
     opening_of f (x ∷ []) ts sound (subst (λ (n : Tiling). AreFreshTiles n (x ∷ []) ts) (sym same) fresh)

@@ -1,7 +1,7 @@
 //! The start of a push of all tiles.
 
 ghost use Rattle.std.specs.Prelude.{IfOk};
-ghost use Rattle.pic_tile.specs.CoreState.{HasCensus, IsOpening, IsSound};
+ghost use Rattle.pic_tile.specs.CoreState.{HasCensus, IsOpening, IsSoundFrame};
 ghost use Rattle.pic_core.specs.Opened.{HasNotBegun, IsOpened, IsRoom};
 
 use crate::room::Room;
@@ -13,7 +13,7 @@ use std::snapshot::Snapshot;
 
 /// What a frame's type keeps.
 pub(crate) fn frame_is_sound(frame: &Frame)
-    ensures { IsSound frame.now }
+    ensures { IsSoundFrame frame.now }
 {
     let _tiles = frame.map().tiles();
     let _side = frame.cells().sub().side();

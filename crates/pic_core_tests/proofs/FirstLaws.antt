@@ -7,7 +7,7 @@ use Rattle.pic_num.specs.declared.motion.Particle.{Particle}
 use Rattle.pic_num.specs.Space.{Triple, triple}
 use Rattle.pic_grid.specs.Hat.{IsInBox}
 use Rattle.pic_grid.specs.PushPhase.{CanShare, no_kind}
-use Rattle.pic_tile.specs.CoreState.{IsOpening, IsSound}
+use Rattle.pic_tile.specs.CoreState.{IsOpening, IsSoundFrame}
 use Rattle.pic_tile.specs.Directions.{directions}
 use Rattle.pic_tile.specs.Frame.{FrameValue}
 use Rattle.pic_tile.specs.Parcels.{AreFreshTiles}
@@ -44,7 +44,7 @@ first_inside m n xs side cells first =
     (subst (λ (c : Triple). IsInBox 4096 c (triple p.x)) (sym cells) can.place)) xs first.can
 
 -- and their tiles can be pushed
-pub opening_first : (f : FrameValue) (m : Tiling) (xs : List Particle) (ts : List TileValue) → IsSound f → f.map ≡ m → m.side ≡ 4096
+pub opening_first : (f : FrameValue) (m : Tiling) (xs : List Particle) (ts : List TileValue) → IsSoundFrame f → f.map ≡ m → m.side ≡ 4096
     → cells_of m ≡ four → 2 ≤ length f.kinds → AreFreshTiles m xs ts → AreFirst directions xs → IsOpening f ts
 opening_first f m xs ts sound same side cells two fresh first =
     let Can : Particle → Type 0 = λ p. CanShare f.map.side (cells_of f.map) f.kinds p in

@@ -2,7 +2,7 @@
 
 ghost use Rattle.std.specs.Prelude.{◌≡◌, ◌∷◌, ◌<◌, ◌≤◌, [], IfOk, length};
 ghost use Rattle.pic_grid.specs.PushPhase.{CanShare, no_kind};
-ghost use Rattle.pic_tile.specs.CoreState.{IsSound};
+ghost use Rattle.pic_tile.specs.CoreState.{IsSoundFrame};
 ghost use Rattle.pic_tile.specs.Directions.{directions};
 ghost use Rattle.pic_tile.specs.Frame.{IsForceField};
 ghost use Rattle.pic_tile.specs.Tiling.{cells_of};
@@ -17,7 +17,7 @@ use std::alloc::Global;
 
 // what a frame's type keeps
 fn frame_is_sound(frame: &Frame)
-    ensures { IsSound frame.now }
+    ensures { IsSoundFrame frame.now }
 {
     let _tiles = frame.map().tiles();
     let _side = frame.cells().sub().side();

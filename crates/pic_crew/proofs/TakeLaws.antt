@@ -6,7 +6,7 @@ use Rattle.atomic_table.specs.declared.shared.Seat.{Seat}
 use Rattle.pic_num.specs.Limits.{most_particles}
 use Rattle.pic_grid.specs.Traces.{most_flux, traces, IsFluxAtMost}
 use Rattle.pic_tile.specs.declared.parcel.Parcel.{Parcel}
-use Rattle.pic_tile.specs.CoreState.{IsOpening, IsSound}
+use Rattle.pic_tile.specs.CoreState.{IsOpening, IsSoundFrame}
 use Rattle.pic_tile.specs.Directions.{directions, here}
 use Rattle.pic_tile.specs.Frame.{felt_in}
 use Rattle.pic_tile.specs.Parcels.{IsParcel}
@@ -21,41 +21,41 @@ use Rattle.pic_yard.specs.declared.view.View.{View}
 use Rattle.pic_yard.specs.declared.yard.Yard.{Yard}
 use Rattle.pic_yard.specs.Contents.{Slot, IsShut, from_of, start_at, tiles_in}
 use Rattle.pic_yard.specs.Yards.{AreReceived, IsReceived, IsSentBy, MailWaits, Serves, mail_of, opening_of, view_of}
-use Rattle.pic_crew.specs.Finishing.{CanTake, IsInOrder, IsReceivingOf, IsTaking, Takes, none_done, up_to}
+use Rattle.pic_crew.specs.Finishing.{CanTake, IsInOrder, IsReceivingOf, IsTaking, Takes, none_done, finished_up_to}
 
 -- what is done at first, with one more, and in the end
 none_yet : (d : ℕ) → d < directions → none_done d ≡ false
 none_yet d below = grind (arith, nat_tests)
 
-pub first_more : IsOneMore here none_done (up_to 0)
+pub first_more : IsOneMore here none_done (finished_up_to 0)
 first_more = record {
   before = refl;
   now = refl;
   others = λ d apart. others d apart;
 }
   where
-    others : (d : ℕ) → (d ≡ here → ⊥) → up_to 0 d ≡ none_done d
+    others : (d : ℕ) → (d ≡ here → ⊥) → finished_up_to 0 d ≡ none_done d
     others d apart = grind (arith, nat_tests)
 
-next_before : (d : ℕ) → d < directions → (d ≡ here → ⊥) → up_to d d ≡ false
+next_before : (d : ℕ) → d < directions → (d ≡ here → ⊥) → finished_up_to d d ≡ false
 next_before d below apart = grind (arith, nat_tests)
 
-next_now : (d : ℕ) → up_to (d + 1) d ≡ true
+next_now : (d : ℕ) → finished_up_to (d + 1) d ≡ true
 next_now d = grind (arith, nat_tests)
 
-next_others : (d e : ℕ) → (e ≡ d → ⊥) → up_to (d + 1) e ≡ up_to d e
+next_others : (d e : ℕ) → (e ≡ d → ⊥) → finished_up_to (d + 1) e ≡ finished_up_to d e
 next_others d e apart = grind (arith, nat_tests)
 
-pub next_more : (d : ℕ) → d < directions → (d ≡ here → ⊥) → IsOneMore d (up_to d) (up_to (d + 1))
+pub next_more : (d : ℕ) → d < directions → (d ≡ here → ⊥) → IsOneMore d (finished_up_to d) (finished_up_to (d + 1))
 next_more d below apart = record { before = next_before d below apart; now = next_now d; others = λ e differ. next_others d e differ }
 
-past_here : (d e : ℕ) → d ≡ here → up_to d e ≡ up_to (d + 1) e
+past_here : (d e : ℕ) → d ≡ here → finished_up_to d e ≡ finished_up_to (d + 1) e
 past_here d e is = grind (arith, nat_tests)
 
-last_done : (n d : ℕ) → n ≡ directions → up_to n d ≡ true
+last_done : (n d : ℕ) → n ≡ directions → finished_up_to n d ≡ true
 last_done n d is = grind (arith, nat_tests)
 
-pub here_done : (n : ℕ) → up_to n here ≡ true
+pub here_done : (n : ℕ) → finished_up_to n here ≡ true
 here_done n = refl
 
 same_parcel : (p q : Parcel) → Some p ≡ Some q → q ≡ p
@@ -66,7 +66,7 @@ pub sent_parcel : (o : Opening) (t d : ℕ) (p : Parcel) → IsSentBy o t d (Som
 sent_parcel o t d p sent =
     subst (λ (q : Parcel). IsParcel (felt_in o.frame) o.frame.map (start_at o t) t d q) (same_parcel p sent.parcel sent.there) sent.is
 
-module _ (o : Opening) (sound : IsSound o.frame) (opens : IsOpening o.frame o.tiles.items) (r d : ℕ) (tile : TileValue) (p : Parcel) (among : r < tiles_in o)
+module _ (o : Opening) (sound : IsSoundFrame o.frame) (opens : IsOpening o.frame o.tiles.items) (r d : ℕ) (tile : TileValue) (p : Parcel) (among : r < tiles_in o)
     (below : d < directions) (sent : IsSentBy o (from_of o r d) d (Some p))
   where
     sends_most : (t : ℕ) → IsFluxAtMost most_flux (traces (felt_in o.frame) (start_at o t))
@@ -128,15 +128,15 @@ module _ (yard : Yard) (r : ℕ) (old : Seat Slot View) where
   }
 
   -- or it was that of no step
-  pub taking_past : (d : ℕ) (seat : Seat Slot View) (tile : TileValue) → d ≡ here → IsTaking yard r (up_to d) old seat tile
-      → IsTaking yard r (up_to (d + 1)) old seat tile
+  pub taking_past : (d : ℕ) (seat : Seat Slot View) (tile : TileValue) → d ≡ here → IsTaking yard r (finished_up_to d) old seat tile
+      → IsTaking yard r (finished_up_to (d + 1)) old seat tile
   taking_past d seat tile is taking =
-      let same : up_to d ≡ up_to (d + 1) = (λ i e. past_here d e is i) in
+      let same : finished_up_to d ≡ finished_up_to (d + 1) = (λ i e. past_here d e is i) in
       subst (λ (done : ℕ → Bool). IsTaking yard r done old seat tile) same taking
 
   -- all are done
-  pub taking_all : (n : ℕ) (seat : Seat Slot View) (tile : TileValue) → n ≡ directions → IsTaking yard r (up_to n) old seat tile
+  pub taking_all : (n : ℕ) (seat : Seat Slot View) (tile : TileValue) → n ≡ directions → IsTaking yard r (finished_up_to n) old seat tile
       → AreReceived seat r × IsShut (opening_of yard) r tile
   taking_all n seat tile all taking =
-      let same : up_to n ≡ (λ d. true) = (λ i e. last_done n e all i) in
+      let same : finished_up_to n ≡ (λ d. true) = (λ i e. last_done n e all i) in
       (λ d below. taking.received d below (last_done n d all), subst (λ (done : ℕ → Bool). IsReceivingOf (opening_of yard) done r tile) same taking.receives)

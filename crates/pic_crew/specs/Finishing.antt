@@ -37,8 +37,8 @@ abbrev pub none_done : ℕ → Bool
 none_done d = not (nat_lt d directions)
 
 -- that of no step is done, and those below a number
-abbrev pub up_to : ℕ → ℕ → Bool
-up_to number d = (nat_eq d here || nat_lt d number) || none_done d
+abbrev pub finished_up_to : ℕ → ℕ → Bool
+finished_up_to number d = (nat_eq d here || nat_lt d number) || none_done d
 
 -- a seat with the right to the tile r, which has its view from before: the parcels of the
 -- directions done are received and merged, the others wait

@@ -8,7 +8,7 @@ use Rattle.pic_tile.specs.declared.parcel.Parcel.{Parcel}
 use Rattle.pic_tile.specs.Directions.{directions, here}
 use Rattle.pic_tile.specs.Layers.{corner, IsLayers}
 use Rattle.pic_tile.specs.Parcels.{no_flux, IsReady, IsFresh}
-use Rattle.pic_tile.specs.Tile.{TileValue, parcel_at, chain_of, flux_of, stop_of, chain_at, flux_at, stop_at, tile_in}
+use Rattle.pic_tile.specs.Tile.{TileValue, parcel_at, chain_of, flux_of, stop_of_parcel, chain_at, flux_at, stop_at, tile_in}
 use Rattle.pic_tile.specs.Tiling.{Tiling}
 use Rattle.pic_tile.proofs.ReceivingLaws.{some_there}
 use Rattle.pic_tile.proofs.TileLaws.{same_there}
@@ -44,8 +44,8 @@ fresh_spent m t u ready quiet spent =
             ap (λ (o : Option Parcel). edge_at (flux_of o) a c) r.there ∙ same_there (3 * count_of n) (place_of n a (inner_of p.flux.low c)) (pos 0);
       };
       quiet = λ d below. elim (ℕ_discrete d here) [
-        | yes same ↦ ap (stop_at u) same ∙ ap stop_of r.there
-        | no apart ↦ ap stop_of (r.others d apart) ∙ quiet d below apart
+        | yes same ↦ ap (stop_at u) same ∙ ap stop_of_parcel r.there
+        | no apart ↦ ap stop_of_parcel (r.others d apart) ∙ quiet d below apart
       ];
     }
 

@@ -15,7 +15,7 @@ use Rattle.pic_tile.specs.declared.parcel.Parcel.{Parcel}
 use Rattle.pic_tile.specs.Directions.{directions, here}
 use Rattle.pic_tile.specs.Layers.{corner, IsLayers}
 use Rattle.pic_tile.specs.Parcels.{IsParcel, IsFresh, no_flux}
-use Rattle.pic_tile.specs.Tile.{TileValue, parcel_at, with_parcel, chain_of, flux_of, stop_of}
+use Rattle.pic_tile.specs.Tile.{TileValue, parcel_at, with_parcel, chain_of, flux_of, stop_of_parcel}
 use Rattle.pic_tile.specs.Tiling.{Tiling}
 use Rattle.pic_tile.proofs.TileLaws.{none_left}
 use Rattle.pic_tile.specs.Pushed.{IsOfTile, IsSent, IsPushed}
@@ -138,7 +138,7 @@ fresh_at m t d p fresh below at dir = record {
     | yes same ↦ subst (λ (e : ℕ). IsLayers m t.number e no_flux (flux_of (parcel_at t e))) (sym same) fresh.empty
     | no other ↦ fresh.ready.empty d below other
   ]);
-  quiet = ap stop_of (sym at) ∙ fresh.quiet d below;
+  quiet = ap stop_of_parcel (sym at) ∙ fresh.quiet d below;
 }
 
 pub opened : (m : Tiling) (t u : TileValue) (own : Parcel) → IsFresh m t → ((d : ℕ) (p : Parcel) → parcel_at t d ≡ Some p → p.dir ≡ d)

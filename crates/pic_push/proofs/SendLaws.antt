@@ -30,7 +30,7 @@ use Rattle.pic_tile.specs.Tile.{TileValue, parcel_at}
 use Rattle.pic_tile.specs.Tiling.{Tiling}
 use Rattle.pic_push.specs.declared.paths.Path.{Path}
 use Rattle.pic_push.specs.Gains.{Gained, Gains}
-use Rattle.pic_push.specs.Paths.{IsPath, IsPathOf, flux_along, largest_grid, end_of}
+use Rattle.pic_push.specs.Paths.{IsPath, IsPathOf, flux_along, largest_grid, path_end}
 use Rattle.pic_push.specs.Reach.{direction_from}
 use Rattle.pic_push.proofs.ReachLaws.{direction_is}
 use Rattle.pic_push.specs.Sends.{received, Receives, trace, Sends, SendsOut}
@@ -72,7 +72,7 @@ unfolding way
 way_is w m x s is = ap (λ (r : Result Shift Halting). way_after m x r) is
 
 pub leads_by : (w : Surroundings) (m : Tiling) (x : Particle) (s : Shift) (p : Path) (tile : ℕ) (low : Spot) (size : Triple) (cell : Spot) (dir : ℕ)
-    → push_of w x ≡ Ok s → IsPathOf w x s p → w.side ≡ m.side → tile_of m x ≡ tile → low ≡ corner m tile → size ≡ m.size → cell ≡ end_of p
+    → push_of w x ≡ Ok s → IsPathOf w x s p → w.side ≡ m.side → tile_of m x ≡ tile → low ≡ corner m tile → size ≡ m.size → cell ≡ path_end p
     → dir ≡ direction_from low size cell → dir ≡ way w m x
 leads_by w m x s p tile low size cell dir is of same own at thick end leads =
     let side : p.sub ≡ m.side = of.sub_is ∙ same in

@@ -29,8 +29,8 @@ abbrev pub flux_along : Path → Axis → Spot → ℤ
 flux_along p a c = path_flux p.sub p.charge (path p.sub (unwrapped (triple p.from)) (spot p.by)) a c
 
 -- the cell of its end, which isn't wrapped
-abbrev pub end_of : Path → Spot
-end_of p = floor_cell p.sub (plus (unwrapped (triple p.from)) (spot p.by))
+abbrev pub path_end : Path → Spot
+path_end p = floor_cell p.sub (plus (unwrapped (triple p.from)) (spot p.by))
 
 -- it is that of a particle's move
 pub record IsPathOf (w : Surroundings) (x : Particle) (s : Shift) (p : Path) : Type 0 where

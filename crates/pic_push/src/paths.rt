@@ -2,7 +2,7 @@
 
 ghost use Rattle.std.specs.Prelude.{◌≡◌};
 ghost use Rattle.pic_num.specs.Space.{spot};
-ghost use Rattle.pic_push.specs.Paths.{IsPath, end_of};
+ghost use Rattle.pic_push.specs.Paths.{IsPath, path_end};
 
 use pic_num::{Sub, unwrapped};
 use pic_split::{cell, end_of};
@@ -21,7 +21,7 @@ impl Path {
     /// The cell of its end, which isn't wrapped.
     pub(crate) fn end(&self) -> [i32; 3]
         requires { IsPath self.now }
-        ensures { spot result ≡ end_of self.now }
+        ensures { spot result ≡ path_end self.now }
     {
         let _side = self.sub.side();
         cell(self.sub, end_of(unwrapped(self.from), self.by))

@@ -17,7 +17,7 @@ use Rattle.pic_step.specs.SerialRun.{after, step_from, stopped_in}
 use Rattle.pic_dump.specs.Due.{is_due}
 use Rattle.pic_run.specs.declared.ended.Ended.TheVariants as ended
 use Rattle.pic_run.specs.declared.output.Output.{Output}
-use Rattle.pic_run.specs.Frames.{frame_piece, due_frame, frame_where, frame_after, frames_from, frames_of, end_where, end_of}
+use Rattle.pic_run.specs.Frames.{frame_piece, due_frame, frame_where, frame_after, frames_from, frames_of, end_where, end_of_run}
 use Rattle.pic_run.specs.Outcome.{answer_of}
 use Rattle.pic_run.specs.Ends.{HasFrames}
 use Rattle.pic_run.specs.Runs.{WroteFrames}
@@ -102,12 +102,12 @@ no_frames output steps every w end first (suc count) stopped =
     ap (λ t. t ++ flat_map (frame_after output steps every w) (range_with_len (first + 1) count)) here
     ∙ no_frames output steps every w end (first + 1) count (after_stays w end first 1 (first + 1) refl stopped)
 
-end_done : (steps : ℕ) (w v : World) → after w steps ≡ Ok v → Done steps ≡ end_of steps w
-unfolding end_of
+end_done : (steps : ℕ) (w v : World) → after w steps ≡ Ok v → Done steps ≡ end_of_run steps w
+unfolding end_of_run
 end_done steps w v reached = sym (ap (end_where steps) reached)
 
-end_stopped : (steps : ℕ) (w : World) (end : EndMark) → after w steps ≡ Err end → end ≡ end_of steps w
-unfolding end_of
+end_stopped : (steps : ℕ) (w : World) (end : EndMark) → after w steps ≡ Err end → end ≡ end_of_run steps w
+unfolding end_of_run
 end_stopped steps w end stopped = sym (ap (end_where steps) stopped)
 
 -- some pieces were written, and then others
@@ -169,8 +169,8 @@ last_due : (steps every : ℕ) → is_due steps every steps ≡ true
 last_due steps every = ap (λ (b : Bool). b || steps % every == 0) (eq-eqb steps steps refl)
 
 -- a run that is done comes to its last step
-reached_last : (w : World) (steps s : ℕ) → answer_of (end_of steps w) ≡ ended.Done s → (v : World) × (after w steps ≡ Ok v)
-unfolding end_of
+reached_last : (w : World) (steps s : ℕ) → answer_of (end_of_run steps w) ≡ ended.Done s → (v : World) × (after w steps ≡ Ok v)
+unfolding end_of_run
 reached_last w steps s done = go (after w steps) refl done
   where
     go : (r : Result World EndMark) → after w steps ≡ r → answer_of (end_where steps r) ≡ ended.Done s → (v : World) × (after w steps ≡ Ok v)
@@ -179,7 +179,7 @@ reached_last w steps s done = go (after w steps) refl done
     go (Err (Stopped step stop)) is done' = absurd cc
 
 -- and has a frame more than those of any step before
-last_left : (output : Output) (steps every : ℕ) (w : World) (n s : ℕ) → n < steps → answer_of (end_of steps w) ≡ ended.Done s
+last_left : (output : Output) (steps every : ℕ) (w : World) (n s : ℕ) → n < steps → answer_of (end_of_run steps w) ≡ ended.Done s
     → 1 ≤ length (frames_from output steps every w (n + 1) (steps - n))
 last_left output steps every w n s below done =
     let (v, reached) = reached_last w steps s done in
@@ -196,7 +196,7 @@ last_left output steps every w n s below done =
 -- memory was wanting in a step: the frames before it stand
 pub some_written : (workers : ℕ) (output : Output) (steps every : ℕ) (w : World) (n : ℕ) (a b : Sinks) → 2 ≤ workers → 1 ≤ every → n < steps
     → Wrote a b (outs (frames_from output steps every w 0 (n + 1))) (lines (frames_from output steps every w 0 (n + 1)))
-    → HasFrames workers (answer_of (end_of steps w)) [] (frames_of output steps every w) a b
+    → HasFrames workers (answer_of (end_of_run steps w)) [] (frames_of output steps every w) a b
 some_written workers output steps every w n a b many above below wrote =
     let k = steps - n in
     let front = frames_from output steps every w 0 (n + 1) in
@@ -219,7 +219,7 @@ some_written workers output steps every w n a b many above below wrote =
 pub stopped_written : (output : Output) (steps every : ℕ) (w v : World) (stop : Stop) (n : ℕ) (a b : Sinks) → n < steps → after w n ≡ Ok v
     → stepped v ≡ Err stop
     → Wrote a b (outs (frames_from output steps every w 0 (n + 1))) (lines (frames_from output steps every w 0 (n + 1)))
-    → WroteFrames (frames_of output steps every w) (end_of steps w) (Stopped (n + 1) stop) a b
+    → WroteFrames (frames_of output steps every w) (end_of_run steps w) (Stopped (n + 1) stop) a b
 stopped_written output steps every w v stop n a b below reached stops wrote =
     let k = steps - n in
     let here = after_stop w v stop n reached stops in
@@ -235,5 +235,5 @@ stopped_written output steps every w v stop n a b below reached stops wrote =
 -- the last step was done
 pub done_written : (output : Output) (steps every : ℕ) (w v : World) (a b : Sinks) → after w steps ≡ Ok v
     → Wrote a b (outs (frames_from output steps every w 0 (steps + 1))) (lines (frames_from output steps every w 0 (steps + 1)))
-    → WroteFrames (frames_of output steps every w) (end_of steps w) (Done steps) a b
+    → WroteFrames (frames_of output steps every w) (end_of_run steps w) (Done steps) a b
 done_written output steps every w v a b reached wrote = record { ends = end_done steps w v reached; wrote = wrote }

@@ -37,7 +37,7 @@ use Rattle.pic_run.specs.declared.ended.Ended.TheVariants.{ReadFault, WriteFault
 use Rattle.pic_line.specs.CommandLine.{command_of}
 use Rattle.pic_run.specs.Early.{Staged, ◌>>=◌, ended_early}
 use Rattle.pic_run.specs.Ended.{ended_of}
-use Rattle.pic_run.specs.Frames.{end_where, end_of}
+use Rattle.pic_run.specs.Frames.{end_where, end_of_run}
 use Rattle.pic_run.specs.Reading.{deck_limit, Gave}
 use Rattle.pic_run.specs.Starting.{first_state, break_of}
 use Rattle.pic_run.specs.Outcome.{Outcome, pieces_of, answer_of, outcome, command_outcome, unless_refused, unless_broken, accepted, tested, opened}
@@ -179,7 +179,7 @@ means_check words source source' before now input finish named is (Ok d) opens (
 means_run : (words : List (List ℕ)) (source source' : Told) (before now : Sinks) (input : Option (List ℕ)) (finish : Result Ended Cut)
     → IsRun (command_of words) → IsAnswer words source source' before now input finish
     → (s : Staged DeckView) → opened input ≡ s → IsFrom input s → Means words source source' before now (on_deck run_outcome s).answer
-unfolding end_of
+unfolding end_of_run
 means_run words source source' before now input finish named is (Err end) opens from = means_early words source source' before now input finish is end from
 means_run words source source' before now input finish named is (Ok d) opens (held, same, walked, none) =
     means_states words source source' before now named d (deck_of words source source' before now input finish is held d same walked)
@@ -210,7 +210,7 @@ means_demo : (words : List (List ℕ)) (source source' : Told) (before now : Sin
     → command_of words ≡ Some (Demo seed workers) → source' ≡ source
     → (s : Staged DeckView) → ((d : DeckView) → s ≡ Ok d → IsSound (first_state d)) → IsTestOf (demo_deck seed) s
     → Means words source source' before now (on_deck demo_outcome s).answer
-unfolding end_of
+unfolding end_of_run
 means_demo words source source' before now seed workers named same (Err early.Usage) sound none = absurd none
 means_demo words source source' before now seed workers named same (Err early.ReadFault) sound none = absurd none
 means_demo words source source' before now seed workers named same (Err (early.Refused refusal)) sound none = absurd none

@@ -31,7 +31,7 @@ use Rattle.pic_deck.specs.Deck.{DeckView, IsWithinLimits, heads_of, initial_e, i
 use Rattle.pic_deck.specs.Species.{head_of, no_species, fastest}
 use Rattle.pic_deck.specs.Initial.{IsMild}
 use Rattle.pic_load.specs.Loading.{IsLoaded, AreLoaded}
-use Rattle.pic_step.specs.SerialStep.{World, step_on, stop_of, stepped}
+use Rattle.pic_step.specs.SerialStep.{World, next_world, stop_of_step, stepped}
 use Rattle.pic_grid.specs.Parts.{one_part}
 use Rattle.pic_step.specs.Sound.{IsSafe, IsSound}
 use Rattle.pic_step.specs.SerialRun.{kinds_of, start_of}
@@ -128,20 +128,20 @@ unless_ok : {A S : Type 0} (o : Option S) (a b : A) → unless o a ≡ Ok b → 
 unless_ok None a b h = cc
 unless_ok (Some s) a b h = cc
 
-step_is : (w v : World) → stepped w ≡ Ok v → step_on w ≡ v
+step_is : (w v : World) → stepped w ≡ Ok v → next_world w ≡ v
 unfolding stepped
-step_is w v steps = unless_ok (stop_of w) (step_on w) v steps
+step_is w v steps = unless_ok (stop_of_step w) (next_world w) v steps
 
-step_cells : (w : World) → (step_on w).cells ≡ w.cells
-unfolding step_on
+step_cells : (w : World) → (next_world w).cells ≡ w.cells
+unfolding next_world
 step_cells w = refl
 
-step_side : (w : World) → (step_on w).side ≡ w.side
-unfolding step_on
+step_side : (w : World) → (next_world w).side ≡ w.side
+unfolding next_world
 step_side w = refl
 
-step_count : (w : World) → length (step_on w).particles ≡ length w.particles
-unfolding step_on moved_all
+step_count : (w : World) → length (next_world w).particles ≡ length w.particles
+unfolding next_world moved_all
 step_count w = length-map w.particles _
 
 -- room for a state is room for the next

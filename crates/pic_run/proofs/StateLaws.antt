@@ -4,7 +4,7 @@ use Rattle.pic_num.specs.Push.{unless}
 use Rattle.pic_grid.specs.declared.stop.EndMark.{EndMark}
 use Rattle.pic_grid.specs.declared.stop.EndMark.TheVariants.{Done, Stopped}
 use Rattle.pic_grid.specs.declared.stop.Stop.{Stop}
-use Rattle.pic_step.specs.SerialStep.{World, step_on, stop_of, stepped}
+use Rattle.pic_step.specs.SerialStep.{World, next_world, stop_of_step, stepped}
 use Rattle.pic_step.specs.SerialRun.{after, step_from, stopped_in}
 use Rattle.pic_step.specs.Sound.{IsSound}
 use Rattle.pic_step.proofs.SoundLaws.{step_sound}
@@ -18,7 +18,7 @@ unless_is (Some s) a b h = cc
 next_sound : (w v : World) → IsSound w → stepped w ≡ Ok v → IsSound v
 unfolding stepped
 next_sound w v sound steps =
-    let is = unless_is (stop_of w) (step_on w) v steps in
+    let is = unless_is (stop_of_step w) (next_world w) v steps in
     subst IsSound is.1 (step_sound w sound is.0)
 
 -- so does a run

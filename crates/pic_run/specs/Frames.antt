@@ -55,8 +55,8 @@ abbrev pub end_where : ℕ → Result World EndMark → EndMark
 end_where steps (Ok w) = Done steps
 end_where steps (Err end) = end
 
-unfoldable pub end_of : ℕ → World → EndMark
-end_of steps w = end_where steps (after w steps)
+unfoldable pub end_of_run : ℕ → World → EndMark
+end_of_run steps w = end_where steps (after w steps)
 
 -- what a run puts of its end
 abbrev pub end_piece : Output → EndMark → Piece

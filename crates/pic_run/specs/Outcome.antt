@@ -25,7 +25,7 @@ use Rattle.pic_run.specs.declared.output.Output.{Output}
 use Rattle.pic_run.specs.declared.output.Output.TheVariants.{Dump, Lines}
 use Rattle.pic_line.specs.CommandLine.{command_of}
 use Rattle.pic_run.specs.Early.{Staged, ◌>>=◌, ended_early, early_line}
-use Rattle.pic_run.specs.Frames.{frames_of, end_of, end_piece}
+use Rattle.pic_run.specs.Frames.{frames_of, end_of_run, end_piece}
 use Rattle.pic_run.specs.Lines.{check_line, verified_line}
 use Rattle.pic_run.specs.Reading.{deck_limit}
 use Rattle.pic_run.specs.Starting.{first_state, break_of, header_of}
@@ -128,14 +128,14 @@ states_outcome output head frames end = record {
 -- the run that a header is of, from its first state w
 abbrev pub dump_outcome : HeaderView → World → Outcome
 dump_outcome h w =
-    states_outcome Dump (header_bytes h) (frames_of Dump h.steps h.every w) (end_of h.steps w)
+    states_outcome Dump (header_bytes h) (frames_of Dump h.steps h.every w) (end_of_run h.steps w)
 
 abbrev pub run_outcome : DeckView → Outcome
 run_outcome d = dump_outcome (header_of d) (first_state d)
 
 -- the run of a deck from its first state w, as lines alone, on out
 abbrev pub lines_outcome : DeckView → World → Outcome
-lines_outcome d w = states_outcome Lines [] (frames_of Lines d.steps d.every w) (end_of d.steps w)
+lines_outcome d w = states_outcome Lines [] (frames_of Lines d.steps d.every w) (end_of_run d.steps w)
 
 abbrev pub demo_outcome : DeckView → Outcome
 demo_outcome d = lines_outcome d (first_state d)

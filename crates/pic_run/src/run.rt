@@ -7,7 +7,7 @@ ghost use Rattle.pic_step.specs.Kept.{AreTiled};
 ghost use Rattle.pic_step.specs.Sound.{IsSound};
 ghost use Rattle.pic_step.specs.Start.{begun};
 ghost use Rattle.pic_run.specs.Starting.{header_of};
-ghost use Rattle.pic_run.specs.Frames.{frames_of, end_of, end_piece};
+ghost use Rattle.pic_run.specs.Frames.{frames_of, end_of_run, end_piece};
 ghost use Rattle.pic_run.specs.Rooms.{HasRoom};
 ghost use Rattle.pic_run.specs.Outcome.{run_outcome, dump_outcome, states_outcome, answer_of};
 ghost use Rattle.pic_run.specs.Ends.{OnDeck, Finishes};
@@ -152,7 +152,7 @@ pub fn write_states<H: Threads + Sync, O: Sink, R: Sink, G: Gate + Sync>(
     requires room { HasRoom room.old state }
     ensures { WritesStates plan.workers
         (states_outcome plan.output [] (frames_of plan.output plan.steps plan.every state)
-        (end_of plan.steps state))
+        (end_of_run plan.steps state))
         (sinks (O.told out.old) (R.told report.old))
         (sinks (O.told out.new) (R.told report.new)) result }
 {
@@ -176,7 +176,7 @@ fn write_frames<H: Threads + Sync, O: Sink, R: Sink, G: Gate + Sync>(
     requires most { plan.workers ≤ most_workers }
     requires room { HasRoom room.old state }
     ensures { WritesFrames plan.workers
-        (frames_of plan.output plan.steps plan.every state) (end_of plan.steps state)
+        (frames_of plan.output plan.steps plan.every state) (end_of_run plan.steps state)
         (sinks (O.told out.old) (R.told report.old))
         (sinks (O.told out.new) (R.told report.new)) result }
 {

@@ -19,7 +19,7 @@ use Rattle.pic_grid.specs.declared.stop.Stop.{Stop}
 use Rattle.pic_grid.specs.Current.{flux_after, current}
 use Rattle.pic_tile.specs.Tile.{TileValue}
 use Rattle.pic_tile.specs.Tiling.{Tiling}
-use Rattle.pic_step.specs.PushOn.{IsPushed}
+use Rattle.pic_step.specs.PushOn.{ArePushed}
 
 -- what is around the particles, by functions
 abbrev pub around_by : ℕ → List Kind → Triple → (Axis → Triple → ℤ) → (Axis → Triple → ℤ) → Surroundings
@@ -61,7 +61,7 @@ current_same side kinds n f g (particle ∷ particles) a p = λ i. flux_after si
     (push_same side kinds n f g particle i) +ℤ current_same side kinds n f g particles a p i
 
 pub pushed_same : (side : ℕ) (kinds : List Kind) (n : Triple) (f g : Axis → Triple → ℤ) (m : Tiling) (old : List Particle) (tiles : List TileValue)
-    (stop : Option Stop) → IsPushed (around_lattices side kinds n f g) m old tiles stop → IsPushed (around_by side kinds n f g) m old tiles stop
+    (stop : Option Stop) → ArePushed (around_lattices side kinds n f g) m old tiles stop → ArePushed (around_by side kinds n f g) m old tiles stop
 pushed_same side kinds n f g m old tiles stop pushed = record {
   particles = pushed.particles ∙ moved_same side kinds n f g old;
   stop_is = pushed.stop_is ∙ stop_same side kinds n f g old;

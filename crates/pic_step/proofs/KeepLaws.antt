@@ -14,7 +14,7 @@ use Rattle.pic_grid.proofs.DifferenceLaws.{div_b-curl_e}
 use Rattle.pic_grid.proofs.LatticeLaws.{value_at-field_of}
 use Rattle.pic_field.specs.FieldPhases.{half_of}
 use Rattle.pic_step.specs.Keeps.{Keeps}
-use Rattle.pic_step.specs.SerialStep.{World, half_at, half_on, push_on, step_on}
+use Rattle.pic_step.specs.SerialStep.{World, half_at, half_on, push_on, next_world}
 use Rattle.pic_step.specs.Sound.{IsSound}
 use Rattle.pic_step.proofs.SoundLaws.{gauss_kept}
 
@@ -51,8 +51,8 @@ half_keeps w p cells within =
     none : (k : ℤ) → k -ℤ pos 0 ≡ k
     none k = omega (arith, ints)
 
-pub step_keeps : (w : World) → IsSound w → Keeps w (step_on w)
-unfolding step_on
+pub step_keeps : (w : World) → IsSound w → Keeps w (next_world w)
+unfolding next_world
 step_keeps w sound = record {
   side = refl;
   cells = refl;

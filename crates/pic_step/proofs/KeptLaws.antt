@@ -17,7 +17,7 @@ use Rattle.pic_orders.proofs.SameLaws.{same_sym, same_length}
 use Rattle.pic_tile.specs.CoreState.{particles_of}
 use Rattle.pic_tile.specs.Held.{chains_of}
 use Rattle.pic_tile.specs.Parcels.{AreFreshTiles}
-use Rattle.pic_tile.specs.Tiling.{Tiling, IsMap, cells_of, grid_of}
+use Rattle.pic_tile.specs.Tiling.{Tiling, IsMap, cells_of, grid_of_tiling}
 use Rattle.pic_tile.proofs.HeldLaws.{fresh_hold}
 use Rattle.pic_step.specs.declared.plasma.Plasma.{Plasma}
 use Rattle.pic_step.specs.Kept.{as_one, AreTiled, IsKept, seen}
@@ -37,16 +37,16 @@ above_zero w sound = let least = sound.side_least in omega (arith, least)
 
 -- where its particles are cut into tiles, the state is that of its parts
 module _ (m : Tiling) (scales : Scales) (kinds : List Kind) (e b : Field) (xs : List Particle) (p : Plasma) (map : IsMap m)
-    (sound : IsSound (world_of (grid_of m) scales kinds (as_one e) (as_one b) xs)) (tiled : AreTiled m e b) (of_map : p.frame.map ≡ m)
+    (sound : IsSound (world_of (grid_of_tiling m) scales kinds (as_one e) (as_one b) xs)) (tiled : AreTiled m e b) (of_map : p.frame.map ≡ m)
     (of_kinds : p.frame.kinds ≡ kinds) (ready : IsPlasma xs p) where
   list_is : particles_of p.tiles.items ≡ xs
   list_is =
-      let w = world_of (grid_of m) scales kinds (as_one e) (as_one b) xs in
+      let w = world_of (grid_of_tiling m) scales kinds (as_one e) (as_one b) xs in
       particles_are m xs p.tiles.items (above_zero w sound) map.thick (inside w sound) (record { identities = sound.identities })
       (subst (λ (n : Tiling). AreFreshTiles n xs p.tiles.items) of_map ready.tiles)
 
-  pub begun_is : seen scales e b p ≡ world_of (grid_of m) scales kinds (as_one e) (as_one b) xs
-  begun_is = λ i. world_of (grid_of (of_map i)) scales (of_kinds i) (as_one e) (as_one b) (list_is i)
+  pub begun_is : seen scales e b p ≡ world_of (grid_of_tiling m) scales kinds (as_one e) (as_one b) xs
+  begun_is = λ i. world_of (grid_of_tiling (of_map i)) scales (of_kinds i) (as_one e) (as_one b) (list_is i)
 
   pub kept : IsKept scales e b p
   kept = record {
@@ -109,4 +109,4 @@ can_push scales e b c p keeps safe =
 pub next_is : (scales : Scales) (e b e' b' : Field) (p q : Plasma) → q.frame.map ≡ p.frame.map → q.frame.kinds ≡ p.frame.kinds
     → record (seen scales e b p) { e = as_one e'; b = as_one b'; particles = particles_of q.tiles.items } ≡ seen scales e' b' q
 next_is scales e b e' b' p q map kinds =
-    λ i. world_of (grid_of (sym map i)) scales (sym kinds i) (as_one e') (as_one b') (particles_of q.tiles.items)
+    λ i. world_of (grid_of_tiling (sym map i)) scales (sym kinds i) (as_one e') (as_one b') (particles_of q.tiles.items)

@@ -20,12 +20,12 @@ use Rattle.pic_tile.specs.CoreState.{particles_of, IsOpening}
 use Rattle.pic_tile.specs.Frame.{FrameValue, IsForceField, felt_in}
 use Rattle.pic_tile.specs.Parcels.{AreFreshTiles}
 use Rattle.pic_tile.specs.Tile.{TileValue}
-use Rattle.pic_tile.specs.Tiling.{Tiling, cells_of, grid_of}
+use Rattle.pic_tile.specs.Tiling.{Tiling, cells_of, grid_of_tiling}
 use Rattle.pic_core.specs.Opened.{IsRoom}
 use Rattle.pic_step.specs.declared.plasma.Plasma.{Plasma}
 use Rattle.pic_step.specs.Kept.{as_one}
 use Rattle.pic_step.specs.Plasma.{IsPlasma}
-use Rattle.pic_step.specs.PushOn.{around_fields, IsPushed, HasPushed}
+use Rattle.pic_step.specs.PushOn.{around_fields, ArePushed, HasPushed}
 use Rattle.pic_step.specs.Sound.{IsSafe}
 use Rattle.pic_step.proofs.FeltLaws.{around_by, pushed_same}
 
@@ -36,8 +36,8 @@ forced m by f r parts safe cut is = is ∙ (λ i. field_of (safe.side_is i) (saf
 
 -- they are small enough to be gathered
 pub force_field : (m : Tiling) (by : Multiplier) (f r : Field) → IsSafe m.side (cells_of m) by (as_one f)
-    → r ≡ field_of m.side (cells_of m) (layered (cells_of m)) (force_of by (value_at f)) → IsForceField (grid_of m) r
-force_field m by f r safe is = subst (IsForceField (grid_of m)) (sym is) (record {
+    → r ≡ field_of m.side (cells_of m) (layered (cells_of m)) (force_of by (value_at f)) → IsForceField (grid_of_tiling m) r
+force_field m by f r safe is = subst (IsForceField (grid_of_tiling m)) (sym is) (record {
   cells_are = refl;
   side = refl;
   small = record {
@@ -50,7 +50,7 @@ force_field m by f r safe is = subst (IsForceField (grid_of m)) (sym is) (record
 -- the frame of these force values
 abbrev pub with_forces_of : Tiling → List Kind → Scales → Field → Field → FrameValue
 with_forces_of m kinds scales e b = record {
-  cells = grid_of m;
+  cells = grid_of_tiling m;
   map = m;
   kinds = kinds;
   force_e = field_of m.side (cells_of m) (layered (cells_of m)) (force_of scales.e_force (value_at e));
@@ -80,15 +80,15 @@ pushed_by_fields p q scales e b f stop safe is h =
     let us = q.tiles.items in
     let of_e : Axis → Triple → ℤ = force_of scales.e_force (value_at e) in
     let of_b : Axis → Triple → ℤ = force_of scales.b_force (value_at b) in
-    let here : IsPushed (felt_in (with_forces_of m kinds scales e b)) q.frame.map xs us stop =
-    subst (λ (g : FrameValue). IsPushed (felt_in g) q.frame.map xs us stop) is h.pushed in
-    let by : IsPushed (around_by m.side kinds (cells_of m) of_e of_b) q.frame.map xs us stop =
+    let here : ArePushed (felt_in (with_forces_of m kinds scales e b)) q.frame.map xs us stop =
+    subst (λ (g : FrameValue). ArePushed (felt_in g) q.frame.map xs us stop) is h.pushed in
+    let by : ArePushed (around_by m.side kinds (cells_of m) of_e of_b) q.frame.map xs us stop =
     pushed_same m.side kinds (cells_of m) of_e of_b q.frame.map xs us stop here in
     record {
       map = h.map ∙ ap (λ (g : FrameValue). g.map) is;
       kinds = h.kinds ∙ ap (λ (g : FrameValue). g.kinds) is;
       flux = h.flux;
-      pushed = subst (λ (w : Surroundings). IsPushed w q.frame.map xs us stop)
+      pushed = subst (λ (w : Surroundings). ArePushed w q.frame.map xs us stop)
           (λ i. around_by (sym safe.side_is i) kinds (sym safe.cells i) of_e of_b) by;
     }
 

@@ -35,7 +35,7 @@ use Rattle.pic_step.specs.declared.plasma.Plasma.{Plasma}
 use Rattle.pic_phase.specs.Spent.{HaveReceived, flux_in}
 use Rattle.pic_step.specs.Exchange.{HasExchanged}
 use Rattle.pic_step.specs.Plasma.{IsPlasma}
-use Rattle.pic_step.specs.PushOn.{IsPushed, HasPushed}
+use Rattle.pic_step.specs.PushOn.{ArePushed, HasPushed}
 use Rattle.pic_step.proofs.PlasmaLaws.{list_is}
 use Rattle.pic_step.proofs.SoundLaws.{has_two}
 
@@ -93,7 +93,7 @@ module _ (w : Surroundings) (m : Tiling) (xs : List Particle) (us : List TileVal
 -- all together
 pub are_pushed : (f : FrameValue) (xs : List Particle) (us : List TileValue) (stop : Option Stop) → IsFrame f → IsMap f.map → 0 < f.map.side
     → AreOrdered xs → All (CanShare f.map.side (cells_of f.map) f.kinds) xs → AreExchanged (felt_in f) f.map xs us → stop ≡ least_stop us
-    → IsPushed (felt_in f) f.map xs us stop
+    → ArePushed (felt_in f) f.map xs us stop
 are_pushed f xs us stop frame map some ordered can x stopped =
     let w = felt_in f in
     let moved = are_moved f xs frame map some ordered can in
@@ -122,7 +122,7 @@ has_pushed p q stop h frame map some opening ready stopped =
     let x : AreExchanged (felt_in f) f.map xs us = subst (λ (g : FrameValue). AreExchanged (felt_in g) g.map xs us) back h.tiles in
     let small : (r : ℕ) → r < count_of f.map.tiles → AllAtMost most_value (flux_at (tile_in us r) here) =
     subst (λ (g : FrameValue). (r : ℕ) → r < count_of g.map.tiles → AllAtMost most_value (flux_at (tile_in us r) here)) back h.small in
-    let pushed : IsPushed (felt_in f) f.map xs us stop =
+    let pushed : ArePushed (felt_in f) f.map xs us stop =
     are_pushed f xs us stop frame map (subst (λ (g : FrameValue). 0 < g.map.side) back some) opening.ordered
     (subst (λ (g : FrameValue). All (CanShare g.map.side (cells_of g.map) g.kinds) xs) back opening.can) x stopped in
     record {
@@ -135,5 +135,5 @@ has_pushed p q stop h frame map some opening ready stopped =
         parts = subst (λ (g : FrameValue). g.force_e.parts ≡ layered (cells_of g.map)) back ready.parts;
         count = h.count ∙ ready.count ∙ sym (ap length pushed.particles ∙ length-moved_all (felt_in f) xs);
       };
-      pushed = subst (λ (g : FrameValue). IsPushed (felt_in g) f.map xs us stop) h.frame pushed;
+      pushed = subst (λ (g : FrameValue). ArePushed (felt_in g) f.map xs us stop) h.frame pushed;
     }

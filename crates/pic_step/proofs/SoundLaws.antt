@@ -22,7 +22,7 @@ use Rattle.pic_field.specs.FieldPhases.{full_of, least_fault, IsBounded}
 use Rattle.pic_field.proofs.FaultLaws.{least_fault-bounded}
 use Rattle.pic_split.proofs.ImageLaws.{div_e_same}
 use Rattle.pic_grid.specs.Parts.{origin}
-use Rattle.pic_step.specs.SerialStep.{World, around, half_at, full_at, half_on, push_on, current_of, before_electric, half_stop, full_stop, step_on, stop_of}
+use Rattle.pic_step.specs.SerialStep.{World, around, half_at, full_at, half_on, push_on, current_of, before_electric, half_stop, full_stop, next_world, stop_of_step}
 use Rattle.pic_grid.specs.Parts.{one_part}
 use Rattle.pic_step.specs.Sound.{IsSafe, IsSound}
 use Rattle.pic_step.proofs.OnePartLaws.{above_origin}
@@ -52,16 +52,16 @@ pub record HasNoStop (w : World) : Type 0 where
   pub half2 : half_stop Half2 (push_on (half_on w)) ≡ None
   pub electric : full_stop (current_of (half_on w)) (before_electric w) ≡ None
 
-pub no_stop : (w : World) → stop_of w ≡ None → HasNoStop w
-unfolding stop_of
+pub no_stop : (w : World) → stop_of_step w ≡ None → HasNoStop w
+unfolding stop_of_step
 no_stop w none =
     let second = right_none _ _ none in
     let third = right_none _ _ second in
     record { half1 = left_none _ _ none; push = left_none _ _ second; half2 = left_none _ _ third; electric = right_none _ _ third }
 
 -- Gauss's law after a step
-pub gauss_kept : (w : World) → IsSound w → MeetsGauss w.side w.cells w.kinds (push_on (half_on w)).particles (step_on w).e
-unfolding step_on full_of
+pub gauss_kept : (w : World) → IsSound w → MeetsGauss w.side w.cells w.kinds (push_on (half_on w)).particles (next_world w).e
+unfolding next_world full_of
 gauss_kept w sound = record {
   at_node = λ p within.
       let n = w.cells in
@@ -83,8 +83,8 @@ gauss_kept w sound = record {
     cancel a b = omega (arith, ints)
 
 -- a step without a stop keeps all
-pub step_sound : (w : World) → IsSound w → stop_of w ≡ None → IsSound (step_on w)
-unfolding step_on
+pub step_sound : (w : World) → IsSound w → stop_of_step w ≡ None → IsSound (next_world w)
+unfolding next_world
 step_sound w sound none =
     let n = w.cells in
     let h = half_on w in

@@ -17,10 +17,10 @@ use Rattle.pic_tile.specs.CoreState.{particles_of}
 use Rattle.pic_tile.specs.Tile.{TileValue}
 use Rattle.pic_tile.specs.Tiling.{Tiling}
 use Rattle.pic_phase.specs.Spent.{flux_in}
-use Rattle.pic_step.specs.PushOn.{around_fields, IsPushed}
+use Rattle.pic_step.specs.PushOn.{around_fields, ArePushed}
 use Rattle.pic_grid.specs.Parts.{origin}
 use Rattle.pic_step.specs.SerialStep.{World, around, half_at, full_at, half_on, push_on}
-use Rattle.pic_step.specs.SerialStep.{current_of, before_electric, half_stop, full_stop, step_on, stop_of, stepped}
+use Rattle.pic_step.specs.SerialStep.{current_of, before_electric, half_stop, full_stop, next_world, stop_of_step, stepped}
 use Rattle.pic_grid.specs.Parts.{one_part}
 use Rattle.pic_step.specs.Sound.{IsSafe, IsSound}
 use Rattle.pic_step.specs.Keeps.{Keeps}
@@ -59,8 +59,8 @@ around_is w b sound half = λ i. record {
 }
 
 pub pushed_on : (w : World) (b : Field) (m : Tiling) (tiles : List TileValue) (stop : Option Stop) → IsSound w → IsHalf w b
-    → IsPushed (around_fields w.scales w.kinds w.e b) m w.particles tiles stop → IsPushed (around (half_on w)) m w.particles tiles stop
-pushed_on w b m tiles stop sound half = subst (λ (s : Surroundings). IsPushed s m w.particles tiles stop) (around_is w b sound half)
+    → ArePushed (around_fields w.scales w.kinds w.e b) m w.particles tiles stop → ArePushed (around (half_on w)) m w.particles tiles stop
+pushed_on w b m tiles stop sound half = subst (λ (s : Surroundings). ArePushed s m w.particles tiles stop) (around_is w b sound half)
 
 -- what the second half step of B leaves
 pub record IsBefore (w : World) (b : Field) : Type 0 where
@@ -121,15 +121,15 @@ e_after w b e j sound before is done =
 
 -- the state after the step
 pub record IsAfter (w : World) (e b : Field) (particles : List Particle) : Type 0 where
-  pub none : stop_of w ≡ None
-  pub is : record w { e = e; b = b; particles = particles } ≡ step_on w
+  pub none : stop_of_step w ≡ None
+  pub is : record w { e = e; b = b; particles = particles } ≡ next_world w
 
 pub is_after : (w : World) (b c e : Field) (m : Tiling) (tiles : List TileValue) (particles : List Particle) → IsSound w → IsHalf w b
-    → IsPushed (around (half_on w)) m w.particles tiles None → IsBefore w c → particles ≡ particles_of tiles
+    → ArePushed (around (half_on w)) m w.particles tiles None → IsBefore w c → particles ≡ particles_of tiles
     → e ≡ field_of c.side c.cells one_part (by_flux w c (flux_in m tiles))
     → least_fault Electric w.scales.e_force origin c.cells (by_flux w c (flux_in m tiles)) ≡ None
     → IsAfter w e c particles
-unfolding step_on
+unfolding next_world
 is_after w b c e m tiles particles sound half pushed before same e_is none =
     let j = flux_in m tiles in
     let free : push_stop (around (half_on w)) w.particles ≡ None = sym pushed.stop_is in

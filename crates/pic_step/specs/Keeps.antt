@@ -5,7 +5,7 @@ use Rattle.pic_grid.specs.Differences.{div_b}
 use Rattle.pic_grid.specs.Lattice.{value_at}
 use Rattle.pic_grid.specs.Cells.{IsWithin}
 use Rattle.pic_charge.specs.Gauss.{MeetsGauss}
-use Rattle.pic_step.specs.SerialStep.{World, step_on}
+use Rattle.pic_step.specs.SerialStep.{World, next_world}
 use Rattle.pic_step.specs.Sound.{IsSound}
 
 -- from a state to the next: the side of a cell, the numbers of cells, the multipliers and the species
@@ -21,4 +21,4 @@ pub record Keeps (w next : World) : Type 0 where
 
 -- so does every step of a sound state, whether it stops or not
 abbrev pub EveryStepKeeps : Type 0
-EveryStepKeeps = (w : World) → IsSound w → Keeps w (step_on w)
+EveryStepKeeps = (w : World) → IsSound w → Keeps w (next_world w)

@@ -4,7 +4,7 @@ use Rattle.pic_num.specs.declared.mult.Scales.{Scales}
 use Rattle.pic_grid.specs.Lattice.{Field}
 use Rattle.pic_grid.specs.Parts.{one_part}
 use Rattle.pic_tile.specs.CoreState.{particles_of}
-use Rattle.pic_tile.specs.Tiling.{Tiling, grid_of}
+use Rattle.pic_tile.specs.Tiling.{Tiling, grid_of_tiling}
 use Rattle.pic_step.specs.declared.plasma.Plasma.{Plasma}
 use Rattle.pic_step.specs.Plasma.{IsPlasma}
 use Rattle.pic_step.specs.SerialStep.{World, world_of}
@@ -23,7 +23,7 @@ pub record AreTiled (m : Tiling) (e b : Field) : Type 0 where
 -- the order of their identities
 abbrev pub seen : Scales → Field → Field → Plasma → World
 seen scales e b p =
-    world_of (grid_of p.frame.map) scales p.frame.kinds (as_one e) (as_one b)
+    world_of (grid_of_tiling p.frame.map) scales p.frame.kinds (as_one e) (as_one b)
     (particles_of p.tiles.items)
 
 -- it is sound, its fields lie in the tiles, and its particles are ready for their push

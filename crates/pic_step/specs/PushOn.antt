@@ -40,7 +40,7 @@ pub record CanPush (scales : Scales) (e b : Field) (p : Plasma) : Type 0 where
   pub opening : IsOpening p.frame p.tiles.items
 
 -- the particles are pushed, their stop is known, and the flux of their tiles is the current
-pub record IsPushed (w : Surroundings) (m : Tiling) (old : List Particle) (tiles : List TileValue)
+pub record ArePushed (w : Surroundings) (m : Tiling) (old : List Particle) (tiles : List TileValue)
     (stop : Option Stop) : Type 0 where
   pub particles : particles_of tiles ≡ moved_all w old
   pub stop_is : stop ≡ push_stop w old
@@ -52,4 +52,4 @@ pub record HasPushed (w : Surroundings) (old new : Plasma) (stop : Option Stop) 
   pub map : new.frame.map ≡ old.frame.map
   pub kinds : new.frame.kinds ≡ old.frame.kinds
   pub flux : HasFlux new
-  pub pushed : IsPushed w new.frame.map (particles_of old.tiles.items) new.tiles.items stop
+  pub pushed : ArePushed w new.frame.map (particles_of old.tiles.items) new.tiles.items stop

@@ -83,8 +83,8 @@ abbrev pub before_electric : World → World
 before_electric w = half_on (push_on (half_on w))
 
 -- the state after a step
-unfoldable pub step_on : World → World
-step_on w = full_on (current_of (half_on w)) (before_electric w)
+unfoldable pub next_world : World → World
+next_world w = full_on (current_of (half_on w)) (before_electric w)
 
 -- what stops half a step of B
 abbrev pub half_stop : Phase → World → Option Stop
@@ -95,8 +95,8 @@ abbrev pub full_stop : (Axis → Triple → ℤ) → World → Option Stop
 full_stop j w = least_fault Electric w.scales.e_force origin w.cells (full_at j w)
 
 -- what stops a step: the stop of the first phase that has one
-unfoldable pub stop_of : World → Option Stop
-stop_of w =
+unfoldable pub stop_of_step : World → Option Stop
+stop_of_step w =
     option_or (half_stop Half1 w)
     (option_or (push_stop (around (half_on w)) w.particles)
     (option_or (half_stop Half2 (push_on (half_on w)))
@@ -104,4 +104,4 @@ stop_of w =
 
 -- the state after a step, or what stops it
 unfoldable pub stepped : World → Result World Stop
-stepped w = unless (stop_of w) (step_on w)
+stepped w = unless (stop_of_step w) (next_world w)

@@ -7,7 +7,7 @@ ghost use Rattle.pic_grid.specs.Lattice.{value_at, field_of};
 ghost use Rattle.pic_grid.specs.Parts.{layered};
 ghost use Rattle.pic_tile.specs.CoreState.{particles_of, IsOpening};
 ghost use Rattle.pic_tile.specs.Frame.{felt_in};
-ghost use Rattle.pic_tile.specs.Tiling.{cells_of, grid_of};
+ghost use Rattle.pic_tile.specs.Tiling.{cells_of, grid_of_tiling};
 ghost use Rattle.pic_step.specs.Kept.{as_one};
 ghost use Rattle.pic_step.specs.Plasma.{IsPlasma};
 ghost use Rattle.pic_step.specs.PushOn.{around_fields, CanPush, HasPushed};
@@ -95,7 +95,7 @@ fn with_forces<H: Threads + Sync>(
     requires b { IsSafe frame.map.side (cells_of frame.map) scales.now.b_force (as_one b.now) }
     requires parts { frame.force_e.parts ≡ layered (cells_of frame.map) }
     ensures { let m = frame.map in result ≡ record {
-      cells = grid_of m;
+      cells = grid_of_tiling m;
       map = m;
       kinds = frame.kinds;
       force_e = field_of m.side (cells_of m) (layered (cells_of m))

@@ -26,7 +26,7 @@ use Rattle.pic_tile.specs.Leaving.{WayLeads}
 use Rattle.pic_tile.specs.Owners.{tile_of}
 use Rattle.pic_tile.specs.Parcels.{AreFreshTiles}
 use Rattle.pic_tile.specs.Receiving.{HasMerged, IsReceiving, AreAllDone, coming}
-use Rattle.pic_tile.specs.Tile.{TileValue, parcel_at, chain_of, flux_of, stop_of, chain_at, stop_at, tile_in}
+use Rattle.pic_tile.specs.Tile.{TileValue, parcel_at, chain_of, flux_of, stop_of_parcel, chain_at, stop_at, tile_in}
 use Rattle.pic_tile.specs.Tiling.{Tiling, IsThick, cells_of}
 use Rattle.pic_tile.proofs.ArrivalLaws.{coming_all}
 use Rattle.pic_tile.proofs.HeldLaws.{Leads, chain_in, fresh_stand}
@@ -76,7 +76,7 @@ module _ (law : LayersMakeTheCurrent) (leads : WayLeads) (w : Surroundings) (m :
           chain = subst (λ (o : Option Parcel). Same (chain_of o) (owned (tile_of m) r (moved_all w xs))) (sym own.1) mine;
           flux = λ a q within. ap (λ (o : Option Parcel). inner_at (flux_of o) a q) own.1
               ∙ merged_is_current law w m start done r own.0 xs a q all has some side cells thick below within shared_out inside;
-          quiet = λ d within apart. ap stop_of (h.empty d within apart (all d within));
+          quiet = λ d within apart. ap stop_of_parcel (h.empty d within apart (all d within));
         }
 
     -- its stop is that of the particles with which it started
@@ -84,7 +84,7 @@ module _ (law : LayersMakeTheCurrent) (leads : WayLeads) (w : Surroundings) (m :
         → IsStopOf w (starts opening r) (stop_at t here)
     stop_received r t done all h =
         let own = some_there (parcel_at t here) (h.there (all here (omega arith))) in
-        subst (λ (o : Option Parcel). IsStopOf w (starts opening r) (stop_of o)) (sym own.1) (h.own own.0 own.1).halt
+        subst (λ (o : Option Parcel). IsStopOf w (starts opening r) (stop_of_parcel o)) (sym own.1) (h.own own.0 own.1).halt
 
     -- where nothing stops the push, nothing stops that of a part
     quiet_owned : (r : ℕ) (stop : Option Stop) → AreOrdered xs → push_stop w xs ≡ None → r < count_of m.tiles → IsStopOf w (starts opening r) stop → stop ≡ None

@@ -14,13 +14,13 @@ use Rattle.pic_orders.specs.Same.{Same}
 use Rattle.pic_orders.specs.StandFor.{owned}
 use Rattle.pic_orders.proofs.DiscreteLaws.{particle_discrete, all_same}
 use Rattle.pic_orders.proofs.SameLaws.{same_sym, same_length}
-use Rattle.pic_tile.specs.CoreState.{IsOpening, IsSound, particles_of}
+use Rattle.pic_tile.specs.CoreState.{IsOpening, IsSoundFrame, particles_of}
 use Rattle.pic_tile.specs.Directions.{here}
 use Rattle.pic_tile.specs.Frame.{FrameValue, felt_in}
 use Rattle.pic_tile.specs.Owners.{tile_of}
 use Rattle.pic_tile.specs.Pushed.{IsOfTile}
 use Rattle.pic_tile.specs.Tile.{TileValue, chain_at, no_tile, tile_in}
-use Rattle.pic_tile.specs.Tiling.{Tiling, grid_of, cells_of}
+use Rattle.pic_tile.specs.Tiling.{Tiling, grid_of_tiling, cells_of}
 
 -- the particles of one tile, among all
 owned_all : (f : FrameValue) (t : ℕ) (xs : List Particle) → All (CanShare f.map.side (cells_of f.map) f.kinds) xs
@@ -86,8 +86,8 @@ module _ (f : FrameValue) (ts : List TileValue) (opens : IsOpening f ts) where
       All-weaker (CanShare f.map.side (cells_of f.map) f.kinds) (λ x. IsInBox f.map.side (cells_of f.map) (triple x.x)) (λ x can. can.place) (particles_of ts) opens.can
 
 -- what surrounds particles in a frame is over its map's grid
-pub felt_side : (f : FrameValue) → IsSound f → (felt_in f).side ≡ f.map.side
+pub felt_side : (f : FrameValue) → IsSoundFrame f → (felt_in f).side ≡ f.map.side
 felt_side f sound = sound.frame.e.side ∙ ap (λ (g : Grid). g.side) (sym sound.frame.map_is)
 
-pub felt_cells : (f : FrameValue) → IsSound f → (felt_in f).cells ≡ cells_of f.map
+pub felt_cells : (f : FrameValue) → IsSoundFrame f → (felt_in f).cells ≡ cells_of f.map
 felt_cells f sound = sound.frame.e.cells_are ∙ ap (λ (g : Grid). g.n) (sym sound.frame.map_is)

@@ -24,12 +24,12 @@ use Rattle.std.proofs.Math.Decide.{ℕ_discrete}
 use Rattle.pic_orders.proofs.SumLaws.{total_changed, sum_changed, sum_none, total_same, total_none, sum_by-flat_map}
 use Rattle.pic_tile.specs.declared.parcel.Parcel.{Parcel}
 use Rattle.pic_tile.specs.Directions.{directions, here}
-use Rattle.pic_tile.specs.Empty.{zeros, empty_parcel}
+use Rattle.pic_tile.specs.Empty.{zero_block, empty_parcel}
 use Rattle.pic_tile.specs.Layers.{IsLayers, layers_begin, layers_from, layers_size, corner, sender_of, pick, given_at}
 use Rattle.pic_tile.specs.Leaving.{going}
 use Rattle.pic_tile.specs.Parcels.{IsParcel}
 use Rattle.pic_tile.specs.Receiving.{Merged, emptied, coming, brought, HasMerged, IsReceiving, IsOneMore}
-use Rattle.pic_tile.specs.Tile.{TileValue, parcel_at, chain_of, flux_of, stop_of, chain_at, flux_at}
+use Rattle.pic_tile.specs.Tile.{TileValue, parcel_at, chain_of, flux_of, stop_of_parcel, chain_at, flux_at}
 use Rattle.pic_tile.specs.Tiling.{Tiling, IsThick}
 use Rattle.pic_tile.proofs.GiveLaws.{layers_give}
 use Rattle.pic_tile.proofs.LeavingLaws.{neighbour_here}
@@ -186,7 +186,7 @@ module _ (w : Surroundings) (m : Tiling) (start : ℕ → List Particle) (r : �
             size = ap (λ (b : BlockValues). b.size) (sym flux) ∙ sent_here.flux.size;
             flux = λ a c within. ap (λ (b : BlockValues). inner_at b a c) (sym flux)
                 ∙ flux_first done more s p.flux a c thick one_here refl (undone same) sent_here.flux within;
-            halt = subst (λ (o : Option Stop). IsStopOf w (start r) o) (ap stop_of found)
+            halt = subst (λ (o : Option Stop). IsStopOf w (start r) o) (ap stop_of_parcel found)
                 (subst (λ (j : ℕ). IsStopOf w (start j) p.stop) self (sent_here.halt refl));
           }
 
@@ -210,7 +210,7 @@ module _ (w : Surroundings) (m : Tiling) (start : ℕ → List Particle) (r : �
             flux = λ a c within. ap (λ (b : BlockValues). inner_at b a c) (sym flux)
                 ∙ flux_more k done more (flux_at t here) (flux_at u here) p.flux a c below thick one size
                 (ap (λ (o : Option Parcel). inner_at (flux_of o) a c) own.1 ∙ had.flux a c within) added sent_is.flux within;
-            halt = subst (λ (o : Option Stop). IsStopOf w (start r) o) (sym (sym (ap stop_of is) ∙ merged.stop other ∙ ap stop_of own.1)) had.halt;
+            halt = subst (λ (o : Option Stop). IsStopOf w (start r) o) (sym (sym (ap stop_of_parcel is) ∙ merged.stop other ∙ ap stop_of_parcel own.1)) had.halt;
           }
 
       -- and in the others
@@ -231,7 +231,7 @@ module _ (w : Surroundings) (m : Tiling) (start : ℕ → List Particle) (r : �
           ∙ (λ i. Some (record {
             dir = dir i;
             chain = [];
-            flux = zeros (layers_from (size i) (low i) (dir i)) (layers i);
+            flux = zero_block (layers_from (size i) (low i) (dir i)) (layers i);
             stop = quiet i;
           }))
 

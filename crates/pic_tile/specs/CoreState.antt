@@ -82,7 +82,7 @@ pub record IsOpening (f : FrameValue) (tiles : List TileValue) : Type 0 where
   pub few : length (particles_of tiles) ≤ most_particles
 
 -- what the frame and its map keep
-pub record IsSound (f : FrameValue) : Type 0 where
+pub record IsSoundFrame (f : FrameValue) : Type 0 where
   pub frame : IsFrame f
   pub map : IsMap f.map
   pub least : least_side ≤ f.map.side
@@ -145,7 +145,7 @@ pub record IsInPlace (s : CoreState) : Type 0 where
 
 -- a state that events can lead to
 pub record Stands (s : CoreState) : Type 0 where
-  pub frame : IsSound s.frame
+  pub frame : IsSoundFrame s.frame
   pub opening : IsOpening s.frame s.opening
   pub places : HasPlaces s
   pub turn : IsInTurn s

@@ -8,7 +8,7 @@ use Rattle.pic_grid.specs.Felt.{felt}
 use Rattle.pic_grid.specs.Lattice.{Field, EachAtMost}
 use Rattle.pic_grid.specs.PushPhase.{Surroundings}
 use Rattle.pic_grid.specs.Species.{IsKind}
-use Rattle.pic_tile.specs.Tiling.{Tiling, grid_of}
+use Rattle.pic_tile.specs.Tiling.{Tiling, grid_of_tiling}
 
 -- the species of a run, within the limits
 pub record AreKinds (kinds : List Kind) : Type 0 where
@@ -32,7 +32,7 @@ pub record IsForceField (cells : Grid) (force : Field) : Type 0 where
 -- what the type of a frame keeps: the tiles are those of its cells, and so are the lattices, which
 -- have the same parts; no force value passes its bound
 pub record IsFrame (f : FrameValue) : Type 0 where
-  pub map_is : grid_of f.map ≡ f.cells
+  pub map_is : grid_of_tiling f.map ≡ f.cells
   pub kinds_are : AreKinds f.kinds
   pub e : IsForceField f.cells f.force_e
   pub b : IsForceField f.cells f.force_b

@@ -19,7 +19,7 @@ use Rattle.pic_orders.specs.Same.{Same}
 use Rattle.pic_orders.specs.StopOf.{IsStopOf}
 use Rattle.pic_tile.specs.declared.parcel.Parcel.{Parcel}
 use Rattle.pic_tile.specs.Directions.{directions, here}
-use Rattle.pic_tile.specs.Empty.{zeros, empty_parcel}
+use Rattle.pic_tile.specs.Empty.{zero_block, empty_parcel}
 use Rattle.pic_tile.specs.Layers.{layers_begin, layers_from, corner, sender_of, pick, given_at}
 use Rattle.pic_tile.specs.LayerSum.{AreSharedOut}
 use Rattle.pic_tile.specs.Leaving.{going}
@@ -33,7 +33,7 @@ use Rattle.pic_tile.specs.Tiling.{Tiling, IsThick, cells_of}
 abbrev pub emptied : BlockValues → Parcel → Parcel
 emptied b parcel =
     let low = layers_from b.size b.low parcel.dir in
-    record parcel { chain = []; flux = zeros low parcel.flux.size }
+    record parcel { chain = []; flux = zero_block low parcel.flux.size }
 
 -- a tile before and after a parcel is merged into it: that of no step is put in its place; of any
 -- other the particles and the flux go to that of no step, and the rest of it stays in its own place

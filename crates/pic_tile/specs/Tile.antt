@@ -34,9 +34,9 @@ abbrev pub flux_of : Option Parcel → BlockValues
 flux_of None = no_block
 flux_of (Some parcel) = parcel.flux
 
-abbrev pub stop_of : Option Parcel → Option Stop
-stop_of None = None
-stop_of (Some parcel) = parcel.stop
+abbrev pub stop_of_parcel : Option Parcel → Option Stop
+stop_of_parcel None = None
+stop_of_parcel (Some parcel) = parcel.stop
 
 -- what a tile has for a direction
 abbrev pub chain_at : TileValue → ℕ → List Particle
@@ -46,7 +46,7 @@ abbrev pub flux_at : TileValue → ℕ → BlockValues
 flux_at t d = flux_of (parcel_at t d)
 
 abbrev pub stop_at : TileValue → ℕ → Option Stop
-stop_at t d = stop_of (parcel_at t d)
+stop_at t d = stop_of_parcel (parcel_at t d)
 
 -- a tile that isn't there, and the tile of a number in a list of them
 abbrev pub no_tile : TileValue

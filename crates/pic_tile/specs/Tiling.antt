@@ -21,8 +21,8 @@ abbrev pub cells_of : Tiling → Triple
 cells_of m = record { x = m.tiles.x * m.size.x; y = m.tiles.y * m.size.y; z = m.tiles.z * m.size.z }
 
 -- its grid
-abbrev pub grid_of : Tiling → Grid
-grid_of m = record { n = cells_of m; side = m.side }
+abbrev pub grid_of_tiling : Tiling → Grid
+grid_of_tiling m = record { n = cells_of m; side = m.side }
 
 -- a grid cut into so many tiles
 abbrev pub tiles_of : Grid → Triple → Tiling
@@ -42,7 +42,7 @@ pub record IsMap (m : Tiling) : Type 0 where
   pub cells : IsCells (cells_of m)
   pub most : count_of m.tiles ≤ most_tiles
 
-pub record IsKept (cells : Grid) (tiles layers : List ℕ) : Type 0 where
+pub record IsTileMap (cells : Grid) (tiles layers : List ℕ) : Type 0 where
   pub map : IsMap (tiling_of cells.side tiles layers)
   pub whole : cells_of (tiling_of cells.side tiles layers) ≡ cells.n
   pub tiles_long : length tiles ≡ 3

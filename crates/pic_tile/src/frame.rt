@@ -2,7 +2,7 @@
 
 ghost use Rattle.std.specs.Prelude.{◌≡◌, IfOk};
 ghost use Rattle.pic_tile.specs.Frame.{IsForceField, IsFrame};
-ghost use Rattle.pic_tile.specs.Tiling.{grid_of};
+ghost use Rattle.pic_tile.specs.Tiling.{grid_of_tiling};
 
 use crate::kinds::Kinds;
 use crate::tile_map::TileMap;
@@ -47,11 +47,11 @@ impl Frame {
     /// The frame of a map, whose cells the two lattices have, in the same parts, with force values
     /// within their bound; it takes no memory.
     pub fn new(map: TileMap, kinds: Kinds, force_e: Lattice, force_b: Lattice) -> Frame
-        requires e { IsForceField (grid_of map) force_e }
-        requires b { IsForceField (grid_of map) force_b }
+        requires e { IsForceField (grid_of_tiling map) force_e }
+        requires b { IsForceField (grid_of_tiling map) force_b }
         requires parts { force_b.parts ≡ force_e.parts }
         ensures { result ≡ record {
-          cells = grid_of map;
+          cells = grid_of_tiling map;
           map = map;
           kinds = kinds;
           force_e = force_e;

@@ -6,7 +6,7 @@ ghost use Rattle.pic_grid.specs.Cells.{IsWithin, count_of, index_of, cell_of};
 ghost use Rattle.pic_grid.specs.Parts.{corner_of};
 ghost use Rattle.pic_grid.specs.Tiles.{AreTiles, most_tiles};
 ghost use Rattle.pic_tile.specs.Directions.{opposite, ring_step};
-ghost use Rattle.pic_tile.specs.Tiling.{IsMap, cells_of, grid_of, tiles_of, IsInTile, owner_of, neighbour_of};
+ghost use Rattle.pic_tile.specs.Tiling.{IsMap, cells_of, grid_of_tiling, tiles_of, IsInTile, owner_of, neighbour_of};
 ghost use Rattle.pic_tile.specs.Zones.{IsTileZone};
 
 use crate::dir::Dir;
@@ -24,16 +24,16 @@ pub struct TileMap {
 
 impl Model for TileMap {
     ghost use Rattle.pic_grid.specs.Arrays.{array_of_triple};
-    ghost use Rattle.pic_tile.specs.Tiling.{Tiling, IsKept, tiling_of, grid_of};
+    ghost use Rattle.pic_tile.specs.Tiling.{Tiling, IsTileMap, tiling_of, grid_of_tiling};
 
     ghost Value = { Tiling };
 
     ghost view = { λ m. tiling_of m.cells.side m.tiles m.layers };
 
-    ghost invariant = { λ m. IsKept m.cells m.tiles m.layers };
+    ghost invariant = { λ m. IsTileMap m.cells m.tiles m.layers };
 
     ghost inverse = { λ t. record {
-      cells = grid_of t;
+      cells = grid_of_tiling t;
       tiles = array_of_triple t.tiles;
       layers = array_of_triple t.size;
     } };
@@ -51,7 +51,7 @@ impl TileMap {
     pub fn new(cells: Cells, tiles: [u32; 3]) -> TileMap
         requires { AreTiles cells.n (triple tiles) }
         ensures value { result ≡ tiles_of cells (triple tiles) }
-        ensures cells { grid_of result ≡ cells }
+        ensures cells { grid_of_tiling result ≡ cells }
     {
         let [nx, ny, nz] = cells.numbers();
         let [tx, ty, tz] = tiles;
@@ -65,7 +65,7 @@ impl TileMap {
 
     /// The cells.
     pub fn cells(&self) -> Cells
-        ensures { result ≡ grid_of self.now }
+        ensures { result ≡ grid_of_tiling self.now }
     {
         self.cells
     }

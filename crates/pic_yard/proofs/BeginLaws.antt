@@ -6,7 +6,7 @@ use mathlib.Core.Option.{some, some-injective, some-ne-none}
 use lib.ListN.{get_elem?}
 use Rattle.atomic_table.specs.Table.{opening}
 use Rattle.atomic_table.proofs.Lists.{at_map}
-use Rattle.pic_tile.specs.CoreState.{IsOpening, IsSound}
+use Rattle.pic_tile.specs.CoreState.{IsOpening, IsSoundFrame}
 use Rattle.pic_tile.specs.Directions.{directions}
 use Rattle.pic_yard.specs.declared.opening.Opening.{Opening}
 use Rattle.pic_yard.specs.declared.view.View.{View}
@@ -46,7 +46,7 @@ only_view P v is (suc i) x there = absurd (some-ne-none x (sym there))
 none_posted : count_below (λ d. false) directions ≡ directions → ⊥
 none_posted full = let is : 0 ≡ directions = sym (count_nothing directions) ∙ full in omega (arith, is)
 
-pub begins : (o : Opening) (words : List ℕ) (slots : List Slot) → IsSound o.frame → IsOpening o.frame o.tiles.items → 0 < o.seats
+pub begins : (o : Opening) (words : List ℕ) (slots : List Slot) → IsSoundFrame o.frame → IsOpening o.frame o.tiles.items → 0 < o.seats
     → tiles_in o + o.seats + 1 < 2 ^ 64 → IsLaid o words slots → Rule o (opening words slots (first_view o))
 begins o words slots sound opens some_seats small laid =
     let v : View = first_view o in

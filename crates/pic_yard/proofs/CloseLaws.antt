@@ -6,7 +6,7 @@ use Rattle.atomic_table.specs.Table.{State, Final, Seen}
 use Rattle.pic_grid.specs.Block.{AllAtMost}
 use Rattle.pic_grid.specs.Traces.{most_flux}
 use Rattle.pic_tile.specs.declared.parcel.Parcel.{Parcel}
-use Rattle.pic_tile.specs.CoreState.{IsOpening, IsSound, particles_of}
+use Rattle.pic_tile.specs.CoreState.{IsOpening, IsSoundFrame, particles_of}
 use Rattle.pic_tile.specs.Directions.{directions, here}
 use Rattle.pic_tile.specs.Frame.{felt_in}
 use Rattle.pic_tile.specs.Tile.{TileValue, flux_of, parcel_at, tile_in}
@@ -61,7 +61,7 @@ all_merged o slots tiles finished count lie = record {
       (tile_is f.tile (tile_in tiles r) (sym f.lies ∙ lie r (omega (arith, below, count)))) f.content;
 }
 
-module _ (o : Opening) (sound : IsSound o.frame) (opens : IsOpening o.frame o.tiles.items) (tiles : List TileValue) (merged : AreMerged o tiles) where
+module _ (o : Opening) (sound : IsSoundFrame o.frame) (opens : IsOpening o.frame o.tiles.items) (tiles : List TileValue) (merged : AreMerged o tiles) where
   pub have_exchanged : HaveExchanged o tiles
   have_exchanged =
       are_exchanged layers_current leads (felt_in o.frame) o.frame.map (particles_of o.tiles.items) o.tiles.items

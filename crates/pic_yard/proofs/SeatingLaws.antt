@@ -2,7 +2,7 @@
 use Rattle.std.proofs.Common.{◌≡◌, ℕ, List, [], ◌∷◌, true, Bool, eq-eqb, if◌then◌else◌, Some, refl, sym, ap, subst}
 use mathlib.Core.Option.{some, some-ne-none}
 use Rattle.pic_slots.specs.Fronts.{seek}
-use Rattle.pic_tile.specs.CoreState.{IsOpening, IsSound}
+use Rattle.pic_tile.specs.CoreState.{IsOpening, IsSoundFrame}
 use Rattle.pic_tile.specs.Directions.{here}
 use Rattle.pic_yard.specs.declared.opening.Opening.{Opening}
 use Rattle.pic_yard.specs.declared.view.View.{View}
@@ -42,7 +42,7 @@ sits_same o v u slots sits live opened owes rights =
     }
 
 -- a new seat has no slots
-pub new_sits : (o : Opening) (v : View) → IsSound o.frame → IsOpening o.frame o.tiles.items → v.live ≡ true → v.opening ≡ Some o → v.owes ≡ []
+pub new_sits : (o : Opening) (v : View) → IsSoundFrame o.frame → IsOpening o.frame o.tiles.items → v.live ≡ true → v.opening ≡ Some o → v.owes ≡ []
     → v.rights ≡ [] → Sits o (v, [])
 new_sits o v sound opens live opened owes rights =
     let none_owed : (r d : ℕ) → In (r, d) v.owes → ⊥ = λ r d is. subst (λ (ps : List (ℕ × ℕ)). In (r, d) ps) owes is in

@@ -6,7 +6,7 @@ use Rattle.std.specs.Prelude.{slice_index}
 use mathlib.Core.Option.{some}
 use lib.ListN.{get_elem?}
 use Rattle.atomic_table.specs.Table.{State, Me, opening, Allows, Splits, Joins}
-use Rattle.pic_tile.specs.CoreState.{IsOpening, IsSound}
+use Rattle.pic_tile.specs.CoreState.{IsOpening, IsSoundFrame}
 use Rattle.pic_tile.specs.Directions.{directions}
 use Rattle.pic_yard.specs.declared.opening.Opening.{Opening}
 use Rattle.pic_yard.specs.declared.view.View.{View}
@@ -32,7 +32,7 @@ pub record IsLaid (o : Opening) (words : List ℕ) (slots : List Slot) : Type 0 
 abbrev pub ABoardBeginsWithTheRule : Type 0
 ABoardBeginsWithTheRule =
     (o : Opening) (words : List ℕ) (slots : List Slot)
-    → IsSound o.frame
+    → IsSoundFrame o.frame
     → IsOpening o.frame o.tiles.items
     → 0 < o.seats
     → tiles_in o + o.seats + 1 < 2 ^ 64

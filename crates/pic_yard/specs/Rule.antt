@@ -7,7 +7,7 @@ use Rattle.std.specs.Prelude.{slice_index}
 use mathlib.Core.Option.{some}
 use lib.ListN.{get_elem?}
 use Rattle.atomic_table.specs.Table.{State}
-use Rattle.pic_tile.specs.CoreState.{IsOpening, IsSound}
+use Rattle.pic_tile.specs.CoreState.{IsOpening, IsSoundFrame}
 use Rattle.pic_tile.specs.Directions.{directions, here}
 use Rattle.pic_yard.specs.declared.opening.Opening.{Opening}
 use Rattle.pic_yard.specs.declared.view.View.{View}
@@ -23,7 +23,7 @@ ticket_of s = slice_index s.words 0
 pub record Rule (o : Opening) (s : State Slot View) : Type 0 where
   pub posted : ℕ → ℕ → Bool
   pub shut : ℕ → Bool
-  pub sound : IsSound o.frame
+  pub sound : IsSoundFrame o.frame
   pub opens : IsOpening o.frame o.tiles.items
   pub small : tiles_in o + o.seats + 1 < 2 ^ 64
   pub words : length s.words ≡ suc (tiles_in o)

@@ -3,7 +3,7 @@ use Rattle.std.specs.Prelude.{◌≡◌, ℕ, suc, ◌<◌, ◌≤◌, ◌⊎◌
 use mathlib.Core.Option.{none, some}
 use Rattle.atomic_table.specs.Table.{Me}
 use Rattle.pic_slots.specs.Fronts.{seek}
-use Rattle.pic_tile.specs.CoreState.{IsOpening, IsSound}
+use Rattle.pic_tile.specs.CoreState.{IsOpening, IsSoundFrame}
 use Rattle.pic_tile.specs.Directions.{directions, here}
 use Rattle.pic_yard.specs.declared.opening.Opening.{Opening}
 use Rattle.pic_yard.specs.declared.view.View.{View}
@@ -44,7 +44,7 @@ pub record Carries (o : Opening) (v : View) (slots : List (ℕ × Slot)) : Type 
 
 -- a seat of a board that began so
 pub record Sits (o : Opening) (me : Me Slot View) : Type 0 where
-  pub sound : IsSound o.frame
+  pub sound : IsSoundFrame o.frame
   pub opens : IsOpening o.frame o.tiles.items
   pub live : me.0.live ≡ true
   pub opened : me.0.opening ≡ Some o

@@ -1,7 +1,7 @@
 //! The start of a board.
 
 ghost use Rattle.std.specs.Prelude.{◌≡◌, ◌<◌, ◌≤◌, length, IfOk};
-ghost use Rattle.pic_tile.specs.CoreState.{IsOpening, IsSound};
+ghost use Rattle.pic_tile.specs.CoreState.{IsOpening, IsSoundFrame};
 ghost use Rattle.pic_yard.specs.Seats.{AreNewSeats, most_seats};
 ghost use Rattle.pic_yard.specs.Yards.{opening_of};
 
@@ -16,7 +16,7 @@ use std::snapshot::Snapshot;
 
 /// What a frame's type keeps.
 fn frame_is_sound(frame: &Frame)
-    ensures { IsSound frame.now }
+    ensures { IsSoundFrame frame.now }
 {
     let _tiles = frame.map().tiles();
     let _side = frame.cells().sub().side();

@@ -5,7 +5,7 @@ use Rattle.pic_num.specs.declared.motion.Particle.{Particle}
 use Rattle.pic_num.specs.Space.{Triple, triple}
 use Rattle.pic_grid.specs.Hat.{HasTwo, IsInBox}
 use Rattle.pic_grid.specs.PushPhase.{CanShare}
-use Rattle.pic_tile.specs.CoreState.{IsOpening, IsSound}
+use Rattle.pic_tile.specs.CoreState.{IsOpening, IsSoundFrame}
 use Rattle.pic_tile.specs.Frame.{FrameValue}
 use Rattle.pic_tile.specs.Parcels.{AreFreshTiles}
 use Rattle.pic_tile.specs.Tile.{TileValue}
@@ -28,7 +28,7 @@ two_in_box m x y first second =
     let In : Particle → Type 0 = λ p. IsInBox m.side (cells_of m) (triple p.x) in
     All-cons In x (y ∷ []) first (All-cons In y [] second (All-nil In))
 
-pub opening_two : (f : FrameValue) (m : Tiling) (x y : Particle) (ts : List TileValue) → IsSound f → f.map ≡ m → AreFreshTiles m (x ∷ y ∷ []) ts
+pub opening_two : (f : FrameValue) (m : Tiling) (x y : Particle) (ts : List TileValue) → IsSoundFrame f → f.map ≡ m → AreFreshTiles m (x ∷ y ∷ []) ts
     → x.id ≡ 0 → y.id ≡ 1 → x.species < length f.kinds → y.species < length f.kinds
     → IsInBox m.side (cells_of m) (triple x.x) → IsInBox m.side (cells_of m) (triple y.x) → IsOpening f ts
 opening_two f m x y ts sound same fresh first second own other near also =

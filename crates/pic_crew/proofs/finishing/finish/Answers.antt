@@ -5,7 +5,7 @@ use Rattle.pic_tile.specs.Tile.{TileValue}
 use Rattle.pic_yard.specs.declared.view.View.{View}
 use Rattle.pic_yard.specs.Contents.{Slot, IsShut}
 use Rattle.pic_yard.specs.Yards.{IsReceived, mail_of, opening_of}
-use Rattle.pic_crew.specs.Finishing.{IsTaking, Takes, none_done, up_to}
+use Rattle.pic_crew.specs.Finishing.{IsTaking, Takes, none_done, finished_up_to}
 use Rattle.pic_crew.proofs.TakeLaws.{can_take, first_more, here_done, next_more, taking_none, taking_more, taking_past, taking_all}
 use Rattle.pic_crew.proofs.finishing.finish.Goals as goal
 use Rattle.pic_crew.proofs.finishing.finish.Goals.{then-ne, else-ne}
@@ -32,7 +32,7 @@ loop-number-init c =
     let none = taking_none c.args.yard.now c.args.right c.args.seat.now c.bare-tile.result c.requires.serves c.requires.mail
     (c.bare-tile.ensures.number ∙ c.tile.ensures) c.bare-tile.ensures.none in (
       e.right,
-      taking_more c.args.yard.now c.args.right c.args.seat.now none_done (up_to 0) here c.args.seat.now c.take_one.new.seat c.bare-tile.result
+      taking_more c.args.yard.now c.args.right c.args.seat.now none_done (finished_up_to 0) here c.args.seat.now c.take_one.new.seat c.bare-tile.result
           c.take_one.new.tile none (inl refl) first_more e.serves e.view e.received e.others e.tile,
     )
 
@@ -62,16 +62,16 @@ loop-number-preserved c =
           let takes : Takes (opening_of y) r d t x =
           subst (λ (k : ℕ). Takes (opening_of y) k d t x) kept (subst (λ (k : ℕ). Takes (opening_of y) c.loop-number.right k t x) k_is e.tile) in (
             w.right-is ∙ e.right ∙ kept,
-            subst (λ (v : Seat Slot View). IsTaking y r (up_to (d + 1)) s0 v c.if-ne.tile) (sym w.seat-is)
-                (subst (λ (v : TileValue). IsTaking y r (up_to (d + 1)) s0 u v) (sym w.tile-is)
-                (taking_more y r s0 (up_to d) (up_to (d + 1)) d s u t x taking (inr (here_done d)) (next_more d below apart) e.serves e.view received others
+            subst (λ (v : Seat Slot View). IsTaking y r (finished_up_to (d + 1)) s0 v c.if-ne.tile) (sym w.seat-is)
+                (subst (λ (v : TileValue). IsTaking y r (finished_up_to (d + 1)) s0 u v) (sym w.tile-is)
+                (taking_more y r s0 (finished_up_to d) (finished_up_to (d + 1)) d s u t x taking (inr (here_done d)) (next_more d below apart) e.serves e.view received others
                 takes)),
           )
           )
       | else-ne w ↦ (
         w.right-is ∙ c.loop-number.invariant.0,
-        subst (λ (u : Seat Slot View). IsTaking y r (up_to (d + 1)) s0 u c.if-ne.tile) (sym w.seat-is)
-            (subst (λ (x : TileValue). IsTaking y r (up_to (d + 1)) s0 s x) (sym w.tile-is)
+        subst (λ (u : Seat Slot View). IsTaking y r (finished_up_to (d + 1)) s0 u c.if-ne.tile) (sym w.seat-is)
+            (subst (λ (x : TileValue). IsTaking y r (finished_up_to (d + 1)) s0 s x) (sym w.tile-is)
             (taking_past y r s0 d s t (is_here c.ne.result d dir w.if-ne.false) taking)),
       )
     ]

@@ -1,6 +1,6 @@
 use Rattle.std.proofs.Common.{◌≡◌}
-use Rattle.pic_crew.specs.Finishing.{IsTaking, up_to}
+use Rattle.pic_crew.specs.Finishing.{IsTaking, finished_up_to}
 use Rattle.pic_crew.proofs.finishing.finish.Given as goal
 
 abbrev pub invariant-loop-number : goal.invariant-loop-number
-invariant-loop-number l = (l.right ≡ l.fn.right) × IsTaking l.yard l.fn.right (up_to l.number) l.fn.seat l.seat l.tile
+invariant-loop-number l = (l.right ≡ l.fn.right) × IsTaking l.yard l.fn.right (finished_up_to l.number) l.fn.seat l.seat l.tile

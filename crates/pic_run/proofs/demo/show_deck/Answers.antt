@@ -5,7 +5,7 @@ use Rattle.pic_io.proofs.Puts.{wrote_none}
 use Rattle.pic_step.specs.SerialStep.{World}
 use Rattle.pic_step.specs.Start.{begun}
 use Rattle.pic_run.specs.declared.output.Output.TheVariants.{Lines}
-use Rattle.pic_run.specs.Frames.{frames_of, end_of}
+use Rattle.pic_run.specs.Frames.{frames_of, end_of_run}
 use Rattle.pic_run.specs.Outcome.{states_outcome, lines_outcome}
 use Rattle.pic_run.specs.Runs.{WritesStates}
 use Rattle.pic_run.proofs.RunLaws.{without_head}
@@ -28,9 +28,9 @@ returns g c =
     let d = c.args.opened.deck in
     let result = c.write_states.result in
     let w = c.in_ok-state.state in
-    let steps = subst (λ (steps : ℕ). WritesStates c.args.workers (states_outcome Lines [] (frames_of Lines steps c.every.result w) (end_of steps w)) a b result)
+    let steps = subst (λ (steps : ℕ). WritesStates c.args.workers (states_outcome Lines [] (frames_of Lines steps c.every.result w) (end_of_run steps w)) a b result)
     c.steps.ensures.value c.write_states.ensures in
-    let every = subst (λ (every : ℕ). WritesStates c.args.workers (states_outcome Lines [] (frames_of Lines d.steps every w) (end_of d.steps w)) a b result)
+    let every = subst (λ (every : ℕ). WritesStates c.args.workers (states_outcome Lines [] (frames_of Lines d.steps every w) (end_of_run d.steps w)) a b result)
     c.every.ensures.value steps in
     let start = subst (λ (v : World). WritesStates c.args.workers (lines_outcome d v) a b result) c.in_ok-state.ensures every in
     without_head c.args.workers (lines_outcome d (begun c.args.opened.start)) a b result start

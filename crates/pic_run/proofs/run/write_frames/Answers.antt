@@ -5,7 +5,7 @@ use Rattle.pic_io.proofs.Puts.{wrote_none}
 use Rattle.pic_step.specs.SerialRun.{after}
 use Rattle.pic_grid.specs.declared.stop.EndMark.TheVariants.{Stopped}
 use Rattle.pic_grid.specs.declared.stop.Stop.{Stop}
-use Rattle.pic_run.specs.Frames.{due_frame, frames_from, frames_of, end_of}
+use Rattle.pic_run.specs.Frames.{due_frame, frames_from, frames_of, end_of_run}
 use Rattle.pic_run.specs.Runs.{WroteFrames}
 use Rattle.pic_run.proofs.FrameLaws.{after_none, after_step, none_written, more_written, more_cut, some_written, stopped_written, done_written}
 use Rattle.pic_run.proofs.StartLaws.{room_kept}
@@ -43,7 +43,7 @@ returns-in-Err-Stop g c =
     let b = sinks (g.O.Sink.told c.loop-done.out) (g.R.Sink.told c.loop-done.report) in
     let stops = rw c.in-Err-Stop.field-0-is at c.in-Err-Stop.ensures.steps in
     let frames = frames_of c.args.plan.output c.args.plan.steps c.args.plan.every c.args.state in
-    let last = end_of c.args.plan.steps c.args.state in
+    let last = end_of_run c.args.plan.steps c.args.state in
     subst (λ (stop : Stop). WroteFrames frames last (Stopped (c.loop-done.done + 1) stop) a b) (sym c.in-Err-Stop.stop-is)
     (stopped_written c.args.plan.output c.args.plan.steps c.args.plan.every c.args.state c.loop-done.state c.in-Err-Stop.stop c.loop-done.done a b (omega arith)
     c.loop-done.invariant.reached stops c.loop-done.invariant.wrote)

@@ -3,7 +3,7 @@ use Rattle.pic_io.specs.Sinks.{sinks}
 use Rattle.pic_io.proofs.Puts.{wrote_out}
 use Rattle.pic_dump.specs.DumpText.{header_bytes}
 use Rattle.pic_run.specs.declared.output.Output.TheVariants.{Dump}
-use Rattle.pic_run.specs.Frames.{frames_of, end_of, end_piece}
+use Rattle.pic_run.specs.Frames.{frames_of, end_of_run, end_piece}
 use Rattle.pic_run.specs.Outcome.{states_outcome}
 use Rattle.pic_run.specs.Runs.{WritesStates}
 use Rattle.pic_run.proofs.RunLaws.{headed, header_some, head_cut}
@@ -19,10 +19,10 @@ returns-in-Ok g c =
     let h = c.args.ready.header in
     let w = c.args.ready.state in
     let states = subst (λ (every : ℕ). WritesStates c.args.workers (states_outcome Dump [] (frames_of Dump h.steps every w)
-    (end_of h.steps w)) b e c.write_states.result) c.every.ensures.value
+    (end_of_run h.steps w)) b e c.write_states.result) c.every.ensures.value
     (subst (λ (steps : ℕ). WritesStates c.args.workers (states_outcome Dump [] (frames_of Dump steps c.every.result w)
-    (end_of steps w)) b e c.write_states.result) c.steps.ensures.value c.write_states.ensures) in
-    headed c.args.workers Dump (header_bytes h) (frames_of Dump h.steps h.every w) (end_of h.steps w) (sinks o r) b e c.write_states.result
+    (end_of_run steps w)) b e c.write_states.result) c.steps.ensures.value c.write_states.ensures) in
+    headed c.args.workers Dump (header_bytes h) (frames_of Dump h.steps h.every w) (end_of_run h.steps w) (sinks o r) b e c.write_states.result
     (wrote_out o p r (header_bytes h) c.in-Ok.ensures.bytes c.in-Ok.ensures.cause.ok) states
 
 pub returns : goal.returns
@@ -32,4 +32,4 @@ returns g c =
     let r = g.R.Sink.told c.args.report.now in
     let h = c.args.ready.header in
     let w = c.args.ready.state in
-    head_cut o p r (header_bytes h) (frames_of Dump h.steps h.every w) (end_piece Dump (end_of h.steps w)) (header_some h) c.in-Err.ensures.bytes c.in-Err.ensures.cause.err
+    head_cut o p r (header_bytes h) (frames_of Dump h.steps h.every w) (end_piece Dump (end_of_run h.steps w)) (header_some h) c.in-Err.ensures.bytes c.in-Err.ensures.cause.err

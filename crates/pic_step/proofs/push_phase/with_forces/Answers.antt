@@ -3,7 +3,7 @@ use Rattle.pic_grid.specs.Gather.{force_of}
 use Rattle.pic_grid.specs.Lattice.{value_at, field_of}
 use Rattle.pic_grid.specs.Parts.{layered}
 use Rattle.pic_tile.specs.Frame.{IsForceField}
-use Rattle.pic_tile.specs.Tiling.{Tiling, cells_of, grid_of}
+use Rattle.pic_tile.specs.Tiling.{Tiling, cells_of, grid_of_tiling}
 use Rattle.pic_step.proofs.PushPhaseLaws.{forced, force_field}
 use Rattle.pic_step.proofs.push_phase.with_forces.Given.{Over}
 use Rattle.pic_step.proofs.push_phase.with_forces.Goals as goal
@@ -26,13 +26,13 @@ of_b g c =
 
 pub new-requires-clause-e : goal.new-requires-clause-e
 new-requires-clause-e g c =
-    subst (λ (m : Tiling). IsForceField (grid_of m) c.forces-force_e.result) (sym c.map-map.ensures.value)
+    subst (λ (m : Tiling). IsForceField (grid_of_tiling m) c.forces-force_e.result) (sym c.map-map.ensures.value)
     (force_field c.args.frame.map c.args.scales.now.e_force c.args.e.now c.forces-force_e.result c.requires.e
     (of_e g (goal.at.new-requires-clause-e g c).After-forces-force_e))
 
 pub new-requires-clause-b : goal.new-requires-clause-b
 new-requires-clause-b g c =
-    subst (λ (m : Tiling). IsForceField (grid_of m) c.forces-force_b.result) (sym c.map-map.ensures.value)
+    subst (λ (m : Tiling). IsForceField (grid_of_tiling m) c.forces-force_b.result) (sym c.map-map.ensures.value)
     (force_field c.args.frame.map c.args.scales.now.b_force c.args.b.now c.forces-force_b.result c.requires.b
     (of_b g (goal.at.new-requires-clause-b g c).After-forces-force_b))
 
@@ -48,7 +48,7 @@ returns g c =
     let is_b = of_b g at.After-forces-force_b in
     let map = c.map-map.ensures.value in
     c.new.ensures ∙ (λ i. record {
-      cells = grid_of (map i);
+      cells = grid_of_tiling (map i);
       map = map i;
       kinds = c.into_parts-kinds.ensures.kinds i;
       force_e = is_e i;

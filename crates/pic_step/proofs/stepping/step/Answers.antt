@@ -13,7 +13,7 @@ use Rattle.pic_phase.specs.Spent.{flux_in}
 use Rattle.pic_step.specs.Keeps.{Keeps}
 use Rattle.pic_step.specs.Kept.{as_one, seen}
 use Rattle.pic_step.specs.Plasma.{IsPlasma}
-use Rattle.pic_step.specs.PushOn.{IsPushed}
+use Rattle.pic_step.specs.PushOn.{ArePushed}
 use Rattle.pic_step.specs.SerialRun.{Steps}
 use Rattle.pic_step.specs.SerialStep.{World, around, half_on, half_stop, stepped}
 use Rattle.pic_step.specs.Sound.{IsSound}
@@ -39,12 +39,12 @@ half g c =
 
 -- what the push left
 pushed : (g : Over) (c : In-None g) → IsHalf (world c.state.inside) (as_one c.in_ok-b.b)
-    → IsPushed (around (half_on (world c.state.inside))) c.in_ok-pushed.pushed.0.frame.map (world c.state.inside).particles
+    → ArePushed (around (half_on (world c.state.inside))) c.in_ok-pushed.pushed.0.frame.map (world c.state.inside).particles
     c.in_ok-pushed.pushed.0.tiles.items None
 pushed g c first =
     let w = world c.state.inside in
     let q = c.in_ok-pushed.pushed.0 in
-    subst (λ (o : Option Stop). IsPushed (around (half_on w)) q.frame.map w.particles q.tiles.items o) c.in-None.is
+    subst (λ (o : Option Stop). ArePushed (around (half_on w)) q.frame.map w.particles q.tiles.items o) c.in-None.is
     (pushed_on w (as_one c.in_ok-b.b) q.frame.map q.tiles.items c.in_ok-pushed.pushed.1 c.state.invariant.sound first c.in_ok-pushed.ensures.pushed.pushed)
 
 -- what the second half step of B left
@@ -56,7 +56,7 @@ before g c first =
 
 -- and the step of E: the state after the step
 after : (g : Over) (c : In_ok-e g) → IsHalf (world c.state.inside) (as_one c.in_ok-b.b)
-    → IsPushed (around (half_on (world c.state.inside))) c.in_ok-pushed.pushed.0.frame.map (world c.state.inside).particles
+    → ArePushed (around (half_on (world c.state.inside))) c.in_ok-pushed.pushed.0.frame.map (world c.state.inside).particles
     c.in_ok-pushed.pushed.0.tiles.items None
     → IsBefore (world c.state.inside) (as_one c.in_ok-b-2.b)
     → IsAfter (world c.state.inside) (as_one c.in_ok-e.e) (as_one c.in_ok-b-2.b) (particles_of c.advance_e.new.self.tiles.items)
