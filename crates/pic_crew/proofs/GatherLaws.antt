@@ -10,7 +10,8 @@ use Rattle.pic_yard.specs.Seats.{HasEnded, HasNumber}
 use Rattle.pic_yard.specs.Steps.{took_in}
 use Rattle.pic_yard.specs.Yards.{Serves, view_of}
 use Rattle.pic_yard.proofs.MemberLaws.{in_left}
-use Rattle.pic_crew.specs.Teams.{AreDone, IsDone, IsGathering}
+use Rattle.pic_crew.specs.Teams.{AreDone, IsDone}
+use Rattle.pic_crew.proofs.Turns.{IsGathering}
 
 -- the last seat, and those before it
 pub last_done : (yard : Yard) (seats left : List (Seat Slot View)) (seat : Seat Slot View) → AreDone yard seats → seats ≡ left ++ seat ∷ []

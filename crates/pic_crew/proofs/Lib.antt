@@ -1,3 +1,4 @@
+pub mod Turns
 pub mod TakeLaws
 pub mod SendLaws
 pub mod GatherLaws

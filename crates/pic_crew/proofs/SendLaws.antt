@@ -14,7 +14,8 @@ use Rattle.pic_yard.specs.Seats.{IsIdle}
 use Rattle.pic_yard.specs.Steps.{boxes_of, did_claim}
 use Rattle.pic_yard.specs.Yards.{IsSentBy, Serves, opening_of, view_of}
 use Rattle.pic_yard.proofs.MemberLaws.{in_left, in_parts, in_boxes, boxes_in, kept, was_in, unseen_in, pair_apart, pair_other}
-use Rattle.pic_crew.specs.Posting.{HasPostedAll, HasPostedSome, IsSending, OwesAll, OwesFrom, posted}
+use Rattle.pic_crew.specs.Posting.{HasPostedAll, HasPostedSome, OwesAll, OwesFrom, posted}
+use Rattle.pic_crew.proofs.Turns.{IsSending}
 
 -- after a claim by a seat that lists nothing
 pub owes_claim : (o : Opening) (n : ℕ) (old new : View) → n < tiles_in o → IsIdle old → new ≡ did_claim (to_of o) directions n old → OwesAll o n new

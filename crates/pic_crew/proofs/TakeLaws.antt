@@ -21,7 +21,8 @@ use Rattle.pic_yard.specs.declared.view.View.{View}
 use Rattle.pic_yard.specs.declared.yard.Yard.{Yard}
 use Rattle.pic_yard.specs.Contents.{Slot, IsShut, from_of, start_at, tiles_in}
 use Rattle.pic_yard.specs.Yards.{AreReceived, IsReceived, IsSentBy, MailWaits, Serves, mail_of, opening_of, view_of}
-use Rattle.pic_crew.specs.Finishing.{CanTake, IsInOrder, IsReceivingOf, IsTaking, Takes, none_done, finished_up_to}
+use Rattle.pic_crew.specs.Finishing.{CanTake, IsInOrder, IsReceivingOf, Takes, none_done}
+use Rattle.pic_crew.proofs.Turns.{IsTaking, finished_up_to}
 
 -- what is done at first, with one more, and in the end
 none_yet : (d : ℕ) → d < directions → none_done d ≡ false

@@ -1,15 +1,11 @@
 -- A tile whose parcels are received and merged.
-use Rattle.std.specs.Prelude.{◌≡◌, ℕ, ◌<◌, ◌⊎◌, Bool, true, false, not, ◌||◌, nat_eq, nat_lt}
-use Rattle.atomic_table.specs.declared.shared.Seat.{Seat}
+use Rattle.std.specs.Prelude.{◌≡◌, ℕ, ◌⊎◌, Bool, true, false, not, nat_lt}
 use Rattle.pic_tile.specs.Directions.{directions, here}
 use Rattle.pic_tile.specs.Frame.{felt_in}
 use Rattle.pic_tile.specs.Receiving.{IsOneMore, IsReceiving}
 use Rattle.pic_tile.specs.Tile.{TileValue}
 use Rattle.pic_yard.specs.declared.opening.Opening.{Opening}
-use Rattle.pic_yard.specs.declared.view.View.{View}
-use Rattle.pic_yard.specs.declared.yard.Yard.{Yard}
-use Rattle.pic_yard.specs.Contents.{Slot, start_at}
-use Rattle.pic_yard.specs.Yards.{IsReceived, MailWaits, Serves, opening_of, view_of}
+use Rattle.pic_yard.specs.Contents.{start_at}
 
 -- the tile r, into which the parcels of the directions done are merged
 abbrev pub IsReceivingOf : Opening → (ℕ → Bool) → ℕ → TileValue → Type 0
@@ -35,17 +31,3 @@ Takes o r d old new =
 -- of the directions none is done
 abbrev pub none_done : ℕ → Bool
 none_done d = not (nat_lt d directions)
-
--- that of no step is done, and those below a number
-abbrev pub finished_up_to : ℕ → ℕ → Bool
-finished_up_to number d = (nat_eq d here || nat_lt d number) || none_done d
-
--- a seat with the right to the tile r, which has its view from before: the parcels of the
--- directions done are received and merged, the others wait
-pub record IsTaking (yard : Yard) (r : ℕ) (done : ℕ → Bool) (old new : Seat Slot View)
-    (tile : TileValue) : Type 0 where
-  pub serves : Serves yard new
-  pub view : view_of new ≡ view_of old
-  pub waits : (d : ℕ) → d < directions → done d ≡ false → MailWaits (opening_of yard) new r d
-  pub received : (d : ℕ) → d < directions → done d ≡ true → IsReceived new r d
-  pub receives : IsReceivingOf (opening_of yard) done r tile

@@ -1,16 +1,11 @@
 -- The parcels of a worked tile are posted one after another.
 use Rattle.std.specs.Prelude.{◌≡◌, ℕ, ◌<◌, ◌≤◌, []}
-use Rattle.atomic_table.specs.declared.shared.Seat.{Seat}
 use Rattle.pic_tile.specs.Directions.{directions}
-use Rattle.pic_tile.specs.Tile.{parcel_at}
 use Rattle.pic_yard.specs.declared.opening.Opening.{Opening}
 use Rattle.pic_yard.specs.declared.view.View.{View}
-use Rattle.pic_yard.specs.declared.yard.Yard.{Yard}
-use Rattle.pic_yard.specs.Claims.{ClaimValue}
-use Rattle.pic_yard.specs.Contents.{Slot, tiles_in, to_of}
+use Rattle.pic_yard.specs.Contents.{tiles_in, to_of}
 use Rattle.pic_yard.specs.Members.{In, same_pair, without}
 use Rattle.pic_yard.specs.Seats.{IsIdle}
-use Rattle.pic_yard.specs.Yards.{IsSentBy, Serves, opening_of, view_of}
 
 -- a seat that posted the parcel (r, d), and has no right afterwards
 abbrev pub posted : ℕ → ℕ → View → View
@@ -44,14 +39,3 @@ pub record HasPostedSome (old new : View) : Type 0 where
 pub record HasPostedAll (old new : View) : Type 0 where
   pub some : HasPostedSome old new
   pub idle : IsIdle new
-
--- a seat posts the parcels of its claim in the order of their directions; from the direction d on
--- they are as the push sends them
-pub record IsSending (yard : Yard) (t d : ℕ) (old new : Seat Slot View)
-    (claim : ClaimValue) : Type 0 where
-  pub serves : Serves yard new
-  pub number : claim.number ≡ t
-  pub owes : OwesFrom (opening_of yard) t d (view_of new)
-  pub worked : (e : ℕ) → d ≤ e → e < directions
-      → IsSentBy (opening_of yard) t e (parcel_at claim.held e)
-  pub some : HasPostedSome (view_of old) (view_of new)

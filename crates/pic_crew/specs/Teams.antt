@@ -1,10 +1,10 @@
 -- All seats of a board, before and after their work.
-use Rattle.std.specs.Prelude.{◌≡◌, ℕ, ◌<◌, ◌≤◌, List, length, false, slice_index_or}
+use Rattle.std.specs.Prelude.{◌≡◌, ℕ, ◌<◌, List, length, false, slice_index_or}
 use Rattle.atomic_table.specs.declared.shared.Seat.{Seat}
 use Rattle.pic_yard.specs.declared.view.View.{View}
 use Rattle.pic_yard.specs.declared.yard.Yard.{Yard}
 use Rattle.pic_yard.specs.Contents.{Slot}
-use Rattle.pic_yard.specs.Seats.{HasEnded, HasNumber, IsIdle}
+use Rattle.pic_yard.specs.Seats.{HasEnded, IsIdle}
 use Rattle.pic_yard.specs.Yards.{Serves, view_of}
 use Rattle.pic_crew.specs.Posting.{IsSameSeat}
 
@@ -17,11 +17,6 @@ pub record CanWork (yard : Yard) (seat : Seat Slot View) : Type 0 where
   pub serves : Serves yard seat
   pub fresh : (view_of seat).told ≡ false
   pub idle : IsIdle (view_of seat)
-
--- a seat before its work, and between two claims
-pub record IsWorking (yard : Yard) (old new : Seat Slot View) : Type 0 where
-  pub can : CanWork yard new
-  pub same : IsSameSeat (view_of old) (view_of new)
 
 -- a seat before and after its work
 pub record HasWorked (yard : Yard) (old new : Seat Slot View) : Type 0 where
@@ -39,11 +34,3 @@ pub record IsDone (yard : Yard) (number : ℕ) (seat : Seat Slot View) : Type 0 
 abbrev pub AreDone : Yard → List (Seat Slot View) → Type 0
 AreDone yard seats =
     (i : ℕ) (seat : Seat Slot View) → i < length seats → IsDone yard i (slice_index_or seats i seat)
-
--- one of n seats takes in the others, of which these are left
-pub record IsGathering (yard : Yard) (n : ℕ) (others : List (Seat Slot View))
-    (seat : Seat Slot View) : Type 0 where
-  pub left : AreDone yard others
-  pub serves : Serves yard seat
-  pub ended : HasEnded (view_of seat)
-  pub numbers : (x : ℕ) → length others ≤ x → x < n → HasNumber (view_of seat) x

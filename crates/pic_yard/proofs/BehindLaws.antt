@@ -1,16 +1,20 @@
 -- The slots of a seat behind those that a post gives.
-use Rattle.std.proofs.Common.{◌≡◌, ℕ, List, ◌∷◌, Bool, eq-eqb, ne_eqb, if◌then◌else◌, sym, ap, ◌∙◌, subst}
+use Rattle.std.proofs.Common.{◌≡◌, ℕ, List, ◌∷◌, Bool, eqb, eq-eqb, ne_eqb, if◌then◌else◌, sym, ap, ◌∙◌, subst}
 use Rattle.std.proofs.Math.Decide.{ℕ_discrete}
 use mathlib.Core.Option.{none, some}
-use Rattle.atomic_table.specs.Table.{Me, chain, gives, rest}
+use Rattle.atomic_table.specs.Table.{Me, Act, chain, gives, rest}
 use Rattle.pic_slots.specs.Fronts.{seek}
 use Rattle.pic_tile.specs.Directions.{directions, here}
 use Rattle.pic_yard.specs.declared.opening.Opening.{Opening}
 use Rattle.pic_yard.specs.declared.view.View.{View}
 use Rattle.pic_yard.specs.Acts.{Apart}
-use Rattle.pic_yard.specs.Arrivals.{behind, post_act, IsLoaded}
+use Rattle.pic_yard.specs.Arrivals.{behind, IsLoaded}
 use Rattle.pic_yard.specs.Contents.{Slot, vacant}
 use Rattle.pic_yard.specs.Sits.{slot_at}
+
+-- how often a post gives its first slot: with the parcel of no step the home slot goes too
+unfoldable pub post_act : ℕ → Act Slot
+post_act d = if eqb d here then chain gives gives else gives
 
 module _ (d : ℕ) (slots : List (ℕ × Slot)) where
   pub behind_here : d ≡ here → behind d slots ≡ rest slots

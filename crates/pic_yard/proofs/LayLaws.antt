@@ -11,7 +11,8 @@ use Rattle.pic_tile.proofs.TileLaws.{same_there}
 use Rattle.pic_yard.specs.declared.opening.Opening.{Opening}
 use Rattle.pic_yard.specs.declared.piece.Piece.TheVariants as piece
 use Rattle.pic_yard.specs.Contents.{Slot, tiles_in}
-use Rattle.pic_yard.specs.Laying.{AreLaid, HasBoxes, IsLaying}
+use Rattle.pic_yard.specs.Laying.{AreLaid, HasBoxes}
+use Rattle.pic_yard.proofs.Turns.{IsLaying}
 use Rattle.pic_yard.specs.Laws.{IsLaid}
 use Rattle.pic_yard.specs.Sits.{slot_at}
 

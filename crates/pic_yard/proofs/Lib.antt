@@ -1,3 +1,5 @@
+pub mod Ways
+pub mod Turns
 pub mod CountLaws
 pub mod CrossLaws
 pub mod MemberLaws

@@ -6,7 +6,8 @@ use lib.ListN.{get_elem?}
 use Rattle.pic_yard.specs.declared.view.View.{View}
 use Rattle.pic_yard.specs.Members.{In, at_else}
 use Rattle.pic_yard.specs.Steps.{now_has, boxes_of, did_claim}
-use Rattle.pic_yard.specs.Marks.{AreWays, Lists, IsOwed, IsRight, Marks}
+use Rattle.pic_yard.specs.Marks.{Lists, IsOwed, IsRight, Marks}
+use Rattle.pic_yard.proofs.Ways.{AreWays}
 use Rattle.pic_yard.proofs.CountLaws.{at_here, at_other}
 use Rattle.pic_yard.proofs.MemberLaws.{in_left, in_right, in_parts, in_boxes, boxes_in}
 use Rattle.pic_yard.proofs.ViewLaws.{each_view, lists_still, lists_now}

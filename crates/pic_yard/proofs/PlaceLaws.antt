@@ -6,7 +6,7 @@ use Rattle.std.proofs.Math.Decide.{ℕ_discrete}
 use mathlib.Core.Option.{Option, none, some}
 use lib.ListN.{get_elem?}
 use Rattle.pic_yard.specs.Members.{count_below, at_else}
-use Rattle.pic_yard.specs.Marks.{AreWays}
+use Rattle.pic_yard.proofs.Ways.{AreWays}
 use Rattle.pic_yard.specs.Places.{slot_in, IsHome, Kinds, Places, Aways}
 use Rattle.pic_yard.proofs.CountLaws.{at_here, at_other, count_all}
 use Rattle.pic_yard.proofs.CollectLaws.{slot_row, slot_place, cleared, Collected, collect}

@@ -8,7 +8,8 @@ use Rattle.pic_yard.specs.declared.view.View.{View}
 use Rattle.pic_yard.specs.declared.yard.Yard.{Yard}
 use Rattle.pic_yard.specs.Contents.{Slot}
 use Rattle.pic_yard.specs.Members.{without}
-use Rattle.pic_yard.specs.Seats.{AreMade, AreNewSeats, HasNext, IsNewSeat, gave_next, new_view, next_seat}
+use Rattle.pic_yard.specs.Seats.{AreNewSeats, HasNext, IsNewSeat, gave_next, new_view, next_seat}
+use Rattle.pic_yard.proofs.Turns.{AreMade}
 use Rattle.pic_yard.specs.Steps.{ahead}
 use Rattle.pic_yard.specs.Yards.{opening_of, view_of, Serves}
 

@@ -7,7 +7,8 @@ use Rattle.atomic_table.proofs.Lists.{at_longer, set_else}
 use Rattle.pic_yard.specs.declared.view.View.{View}
 use Rattle.pic_yard.specs.Members.{In, count_below}
 use Rattle.pic_yard.specs.Steps.{gave_number, newcomer, took_in, spent}
-use Rattle.pic_yard.specs.Marks.{AreWays, Lists, IsOwed, IsRight, Marks}
+use Rattle.pic_yard.specs.Marks.{Lists, IsOwed, IsRight, Marks}
+use Rattle.pic_yard.proofs.Ways.{AreWays}
 use Rattle.pic_yard.proofs.CountLaws.{all_counted}
 use Rattle.pic_yard.proofs.ViewLaws.{each_view, at_end, lists_still}
 

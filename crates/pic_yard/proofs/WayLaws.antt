@@ -7,7 +7,7 @@ use Rattle.pic_tile.proofs.LeavingLaws.{neighbour_here}
 use Rattle.pic_tile.proofs.TilingLaws.{neighbour_back}
 use Rattle.pic_yard.specs.declared.opening.Opening.{Opening}
 use Rattle.pic_yard.specs.Contents.{tiles_in, to_of, from_of}
-use Rattle.pic_yard.specs.Marks.{AreWays}
+use Rattle.pic_yard.proofs.Ways.{AreWays}
 
 pub ways_of : (o : Opening) → AreWays (tiles_in o) directions here (to_of o) (from_of o)
 unfolding to_of from_of

@@ -1,7 +1,7 @@
 -- A post: the seat that owes a parcel lays it into its mailbox, and counts it.
 use Rattle.std.specs.Prelude.{◌≡◌, ℕ, suc, ◌<◌, List, ◌∷◌, true, Some, eqb, if◌then◌else◌}
 use mathlib.Core.Option.{none, some}
-use Rattle.atomic_table.specs.Table.{Me, Act, gives, chain, rest}
+use Rattle.atomic_table.specs.Table.{Me, rest}
 use Rattle.pic_slots.specs.Fronts.{seek}
 use Rattle.pic_tile.specs.Directions.{directions, here}
 use Rattle.pic_yard.specs.declared.opening.Opening.{Opening}
@@ -15,9 +15,6 @@ use Rattle.pic_yard.specs.Steps.{did_post}
 -- with the parcel of no step the home slot goes too
 unfoldable pub behind : ℕ → List (ℕ × Slot) → List (ℕ × Slot)
 behind d slots = if eqb d here then rest slots else slots
-
-unfoldable pub post_act : ℕ → Act Slot
-post_act d = if eqb d here then chain gives gives else gives
 
 -- a seat that is about to post the parcel (r, d): it lies first, in its mailbox, and behind that of
 -- no step the vacant home slot

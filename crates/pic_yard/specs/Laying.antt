@@ -1,5 +1,5 @@
 -- The slots of a board at its start.
-use Rattle.std.specs.Prelude.{◌≡◌, ℕ, suc, ◌+◌, ◌*◌, ◌<◌, ◌≤◌, List, Some, None, length}
+use Rattle.std.specs.Prelude.{◌≡◌, ℕ, suc, ◌+◌, ◌*◌, ◌<◌, List, Some, None, length}
 use mathlib.Core.Option.{some}
 use lib.ListN.{get_elem?}
 use Rattle.pic_tile.specs.Directions.{directions}
@@ -24,9 +24,3 @@ pub record HasBoxes (n : ℕ) (old new : List Slot) : Type 0 where
   pub long : length new ≡ length old + n
   pub boxes : (d : ℕ) → d < n → get_elem? new (length old + d) ≡ some None
   pub others : (slot : ℕ) (y : Slot) → get_elem? old slot ≡ some y → get_elem? new slot ≡ some y
-
--- slots are laid for the first n of some tiles, which are taken out of their list
-pub record IsLaying (tiles left : List TileValue) (n : ℕ) (slots : List Slot) : Type 0 where
-  pub laid : AreLaid tiles n slots
-  pub long : length left ≡ length tiles
-  pub rest : (t : ℕ) → n ≤ t → tile_in left t ≡ tile_in tiles t

@@ -6,15 +6,6 @@ use lib.ListN.{get_elem?}
 use Rattle.pic_yard.specs.declared.view.View.{View}
 use Rattle.pic_yard.specs.Members.{In, count_below, at_else}
 
--- the ways between tiles: in each direction another tile or the same, there and back
-pub record AreWays (tiles dirs here : ℕ) (to from : ℕ → ℕ → ℕ) : Type 0 where
-  pub to_below : (t d : ℕ) → t < tiles → d < dirs → to t d < tiles
-  pub from_below : (r d : ℕ) → r < tiles → d < dirs → from r d < tiles
-  pub back : (t d : ℕ) → t < tiles → d < dirs → from (to t d) d ≡ t
-  pub forth : (r d : ℕ) → r < tiles → d < dirs → to (from r d) d ≡ r
-  pub here_below : here < dirs
-  pub stays : (t : ℕ) → t < tiles → to t here ≡ t
-
 -- the view of the seat j is live, and lists something
 pub record Lists (views : List View) (j : ℕ) (What : View → Type 0) : Type 0 where
   pub view : View

@@ -1,12 +1,12 @@
 -- The seats of a board: those that it begins with, those that are done, and what they are numbered.
-use Rattle.std.specs.Prelude.{◌≡◌, ℕ, ◌-◌, ◌<◌, ◌⊎◌, List, [], ◌∷◌, length, true, false, Some, slice_index_or}
+use Rattle.std.specs.Prelude.{◌≡◌, ℕ, ◌<◌, ◌⊎◌, List, [], ◌∷◌, length, true, false, Some, slice_index_or}
 use Rattle.atomic_table.specs.declared.shared.Seat.{Seat}
 use Rattle.pic_yard.specs.declared.opening.Opening.{Opening}
 use Rattle.pic_yard.specs.declared.view.View.{View}
 use Rattle.pic_yard.specs.declared.yard.Yard.{Yard}
 use Rattle.pic_yard.specs.Contents.{Slot}
 use Rattle.pic_yard.specs.Members.{In}
-use Rattle.pic_yard.specs.Steps.{ahead, gave_number, newcomer}
+use Rattle.pic_yard.specs.Steps.{gave_number, newcomer}
 use Rattle.pic_yard.specs.Yards.{opening_of, view_of, Serves}
 
 -- at most so many seats
@@ -72,12 +72,3 @@ gave_next v = gave_number (next_of v.unmade) v
 
 abbrev pub next_seat : View → View
 next_seat v = newcomer v (next_of v.unmade)
-
--- the first k of n seats are made; the first of them is still to make the others
-pub record AreMade (yard : Yard) (n k : ℕ) (seats : List (Seat Slot View)) : Type 0 where
-  pub count : length seats ≡ k
-  pub some : 0 < k
-  pub first : (seat : Seat Slot View)
-      → IsNewSeat yard 0 (ahead k (n - k)) (slice_index_or seats 0 seat)
-  pub others : (i : ℕ) (seat : Seat Slot View) → 0 < i → i < k
-      → IsNewSeat yard i [] (slice_index_or seats i seat)

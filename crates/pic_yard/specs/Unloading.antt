@@ -1,5 +1,5 @@
 -- A board that no seat shares any more: what lies in its slots is taken out.
-use Rattle.std.specs.Prelude.{◌≡◌, ℕ, suc, ◌*◌, ◌<◌, List, Some, length, false, slice_index_or}
+use Rattle.std.specs.Prelude.{◌≡◌, ℕ, ◌<◌, List, Some, false, slice_index_or}
 use Rattle.std.specs.Slots.{slots_items, slots_filled, slots_len}
 use Rattle.std.specs.Slots.Ownership.{Filled}
 use Rattle.std.specs.declared.alloc.Global.{Global}
@@ -10,7 +10,6 @@ use Rattle.pic_tile.specs.Directions.{directions}
 use Rattle.pic_tile.specs.Tile.{TileValue}
 use Rattle.pic_yard.specs.declared.piece.Piece.TheVariants as piece
 use Rattle.pic_yard.specs.Contents.{Slot}
-use Rattle.pic_yard.specs.Laying.{LiesHome}
 use Rattle.pic_yard.specs.Sits.{slot_at}
 
 -- what the slots had when the board was closed
@@ -37,10 +36,3 @@ pub record IsOut (n : ℕ) (old new : Closed Slot Global) : Type 0 where
   pub emptied : AreEmptied n new
   pub items : slots_in new ≡ slots_in old
   pub long : slots_len new.slots ≡ slots_len old.slots
-
--- the first n tiles are taken out of their home slots, into a list
-pub record IsUnloading (n : ℕ) (old new : Closed Slot Global)
-    (before after : List TileValue) : Type 0 where
-  pub out : IsOut (n * suc directions) old new
-  pub long : length after ≡ length before
-  pub tiles : (t : ℕ) → t < n → LiesHome after (slots_in old) t

@@ -5,7 +5,8 @@ use Rattle.pic_tile.specs.Tile.{TileValue}
 use Rattle.pic_yard.specs.declared.view.View.{View}
 use Rattle.pic_yard.specs.Contents.{Slot, IsShut}
 use Rattle.pic_yard.specs.Yards.{IsReceived, mail_of, opening_of}
-use Rattle.pic_crew.specs.Finishing.{IsTaking, Takes, none_done, finished_up_to}
+use Rattle.pic_crew.specs.Finishing.{Takes, none_done}
+use Rattle.pic_crew.proofs.Turns.{IsTaking, finished_up_to}
 use Rattle.pic_crew.proofs.TakeLaws.{can_take, first_more, here_done, next_more, taking_none, taking_more, taking_past, taking_all}
 use Rattle.pic_crew.proofs.finishing.finish.Goals as goal
 use Rattle.pic_crew.proofs.finishing.finish.Goals.{then-ne, else-ne}

@@ -1,5 +1,5 @@
 use Rattle.std.proofs.Common.{◌≡◌}
-use Rattle.pic_crew.specs.Finishing.{IsTaking, finished_up_to}
+use Rattle.pic_crew.proofs.Turns.{IsTaking, finished_up_to}
 use Rattle.pic_crew.proofs.finishing.finish.Given as goal
 
 abbrev pub invariant-loop-number : goal.invariant-loop-number

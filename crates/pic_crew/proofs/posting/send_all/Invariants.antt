@@ -1,4 +1,4 @@
-use Rattle.pic_crew.specs.Posting.{IsSending}
+use Rattle.pic_crew.proofs.Turns.{IsSending}
 use Rattle.pic_crew.proofs.posting.send_all.Given as goal
 
 abbrev pub invariant-loop-number : goal.invariant-loop-number

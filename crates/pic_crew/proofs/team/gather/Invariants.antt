@@ -1,5 +1,5 @@
 use Rattle.std.proofs.Common.{length}
-use Rattle.pic_crew.specs.Teams.{IsGathering}
+use Rattle.pic_crew.proofs.Turns.{IsGathering}
 use Rattle.pic_crew.proofs.team.gather.Given as goal
 
 abbrev pub invariant-loop-other : goal.invariant-loop-other

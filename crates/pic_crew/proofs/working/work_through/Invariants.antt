@@ -1,7 +1,7 @@
 use Rattle.std.proofs.Common.{◌-◌}
 use Rattle.pic_yard.specs.Contents.{tiles_in}
 use Rattle.pic_yard.specs.Yards.{opening_of, view_of}
-use Rattle.pic_crew.specs.Teams.{IsWorking}
+use Rattle.pic_crew.proofs.Turns.{IsWorking}
 use Rattle.pic_crew.proofs.working.work_through.Given as goal
 
 abbrev pub invariant-loop-claim : goal.invariant-loop-claim

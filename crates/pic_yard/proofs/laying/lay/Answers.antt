@@ -3,7 +3,7 @@ use Rattle.std.proofs.lemmas.List.{get_or_default}
 use Rattle.pic_tile.specs.Tile.{TileValue, no_tile, tile_in}
 use Rattle.pic_yard.specs.declared.piece.Piece.TheVariants as piece
 use Rattle.pic_yard.specs.Contents.{Slot}
-use Rattle.pic_yard.specs.Laying.{IsLaying}
+use Rattle.pic_yard.proofs.Turns.{IsLaying}
 use Rattle.pic_yard.proofs.LayLaws.{laying_none, laying_more}
 use Rattle.pic_yard.proofs.laying.lay.Goals as goal
 

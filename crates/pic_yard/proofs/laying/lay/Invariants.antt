@@ -1,4 +1,4 @@
-use Rattle.pic_yard.specs.Laying.{IsLaying}
+use Rattle.pic_yard.proofs.Turns.{IsLaying}
 use Rattle.pic_yard.proofs.laying.lay.Given as goal
 
 abbrev pub invariant-loop-t : goal.invariant-loop-t

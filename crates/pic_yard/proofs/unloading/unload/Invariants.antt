@@ -1,4 +1,4 @@
-use Rattle.pic_yard.specs.Unloading.{IsUnloading}
+use Rattle.pic_yard.proofs.Turns.{IsUnloading}
 use Rattle.pic_yard.proofs.unloading.unload.Given as goal
 
 abbrev pub invariant-loop-t : goal.invariant-loop-t

@@ -2,7 +2,8 @@ use Rattle.std.proofs.Common.{◌+◌, List, sym, ap, ◌∙◌, subst, arith}
 use Rattle.atomic_table.specs.declared.shared.Seat.{Seat}
 use Rattle.pic_yard.specs.declared.view.View.{View}
 use Rattle.pic_yard.specs.Contents.{Slot}
-use Rattle.pic_yard.specs.Seats.{AreMade, gave_next, next_seat}
+use Rattle.pic_yard.specs.Seats.{gave_next, next_seat}
+use Rattle.pic_yard.proofs.Turns.{AreMade}
 use Rattle.pic_yard.specs.Yards.{opening_of, view_of}
 use Rattle.pic_yard.proofs.RowLaws.{has_next, made_more, all_made}
 use Rattle.pic_yard.proofs.yard.Yard.seats_of.Goals as goal

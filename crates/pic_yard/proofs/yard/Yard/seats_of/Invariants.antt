@@ -1,4 +1,4 @@
-use Rattle.pic_yard.specs.Seats.{AreMade}
+use Rattle.pic_yard.proofs.Turns.{AreMade}
 use Rattle.pic_yard.proofs.yard.Yard.seats_of.Given as goal
 
 abbrev pub invariant-loop : goal.invariant-loop
