@@ -1,10 +1,10 @@
 -- The flux of a push at the edges of the unbounded lattice, before edges wrap to one edge of the
 -- periodic grid (J. Villasenor and O. Buneman, Comput. Phys. Commun. 69, 1992, 306).
-use Rattle.std.specs.Prelude.{ℕ, suc, ℤ, pos, negsuc, ◌<ℤ◌, ◌≤ℤ◌, ◌⊎◌, List, Result, Ok, Err}
+use Rattle.std.specs.Prelude.{ℕ, suc, ℤ, pos, negsuc, ◌<ℤ◌, ◌⊎◌, List, Result, Ok, Err}
 use Rattle.pic_num.specs.declared.motion.Kind.{Kind}
 use Rattle.pic_num.specs.declared.motion.Particle.{Particle}
 use Rattle.pic_num.specs.declared.axis.Axis.{Axis}
-use Rattle.pic_num.specs.Limits.{most_particles, most_particles_1, most_flux_of}
+use Rattle.pic_num.specs.Limits.{most_particles, most_flux_of}
 use Rattle.pic_num.specs.Push.{Shift, Halting}
 use Rattle.pic_num.specs.Sizes.{IsAtMost}
 use Rattle.pic_num.specs.Space.{Spot, triple, unwrapped}
@@ -29,18 +29,10 @@ traces w particles a c =
 abbrev pub IsBeyond : ℕ → ℤ → Type 0
 IsBeyond n j = (j <ℤ negsuc 0) ⊎ (pos (suc n) <ℤ j)
 
--- a coordinate that is not beyond
-pub record IsReached (n : ℕ) (j : ℤ) : Type 0 where
-  pub low : negsuc 0 ≤ℤ j
-  pub high : j ≤ℤ pos (suc n)
-
 -- the most that the flux of all particles can be at an edge, in twelfths of a charge times a cubic
--- sub-cell: below 2^83, and below 2^81 with as many particles as version 1 has
+-- sub-cell: below 2^83
 abbrev pub most_flux : ℕ
 most_flux = most_flux_of most_particles
-
-abbrev pub most_flux_1 : ℕ
-most_flux_1 = most_flux_of most_particles_1
 
 -- a flux is at most so large at every edge
 pub record IsFluxAtMost (most : ℕ) (f : Axis → Spot → ℤ) : Type 0 where
