@@ -11,7 +11,7 @@ use Rattle.pic_grid.specs.Block.{InZone}
 use Rattle.pic_grid.specs.Flux.{flux}
 use Rattle.pic_grid.specs.Segment.{Piece, IsInCell}
 use Rattle.pic_grid.proofs.ApartLaws.{IsApart, flux_apart}
-use Rattle.pic_tile.specs.Directions.{directions, here, steps_of}
+use Rattle.pic_tile.specs.Directions.{directions, steps_of}
 use Rattle.pic_tile.specs.Leaving.{direction_by}
 use Rattle.pic_tile.specs.Layers.{layer_count, layer_low, layers_from, layers_size}
 use Rattle.pic_tile.specs.declared.parcel.Parcel.{Parcel}
@@ -98,12 +98,6 @@ piece_clear side q s low n r bound d p at reach few out room = record {
       unreached side q s low n r d at reach few out a e
       (subst (λ (m : Triple). InZone (layers_from n low d) m e) room.size_is (subst (λ (l : Spot). InZone l p.flux.size e) room.low_is inside));
 }
-
--- nor those of a direction of another tile, where the reach is that of no step alone
-pub stays_alone : (r : Reach) (d : ℕ) → r.x.first ≡ 1 → r.x.last ≡ 1 → r.y.first ≡ 1 → r.y.last ≡ 1 → r.z.first ≡ 1 → r.z.last ≡ 1
-    → d < directions → (d ≡ here → ⊥) → reaches r d ≡ false
-unfolding reaches spans
-stays_alone r d x_first x_last y_first y_last z_first z_last few other = grind (arith, nat_tests)
 
 -- directions before the first and after the last aren't reached
 pub none_before : (r : Reach) (d : ℕ) → IsReach r → d < first_of r → reaches r d ≡ false
