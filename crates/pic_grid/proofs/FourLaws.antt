@@ -1,155 +1,172 @@
--- Four components on an axis round a cell: where they stand, and what adding to all of them makes.
-use Rattle.std.proofs.Common.{◌≡◌, ◌≢◌, ℕ, ℤ, pos, ◌+◌, ◌*◌, ◌<◌, ◌≤◌, ◌+ℤ◌, ◌-ℤ◌, ◌≤ℤ◌, ◌<ℤ◌, List, slice_index_or, slice_set, unsigned_abs, sym, ◌∙◌, ap, subst, arith}
-use Rattle.std.proofs.lemmas.Int.{ints}
-use Rattle.std.proofs.lemmas.List.{get_or-set_other}
-use Rattle.std.proofs.Math.Nat.{le-mul_of_pos_right, mul-le-mul_left}
+-- Four components on an axis round a cell: where they stand, and what adding to them makes.
+use Rattle.std.proofs.Common.{◌≡◌, ℕ, ℤ, pos, ◌+◌, ◌*◌, ◌^◌, ◌<◌, ◌≤◌, ◌+ℤ◌, ◌-ℤ◌, ◌*ℤ◌, ◌≤ℤ◌, Bool, true, false, List, length, slice_index_or, slice_set, unsigned_abs, inl, inr, refl, sym, ◌∙◌, ap, subst, arith}
+use Rattle.std.specs.Prelude.{◌↔◌, IsTrue}
+use Rattle.std.specs.Int.{w64, int_wrap}
+use Rattle.std.proofs.lemmas.Bool.{cases_eq}
+use Rattle.std.proofs.lemmas.Int.{ints, int_wrap_fits, int_wrap-add_left, int_wrap-add_right, fits_signed_from_abs}
+use Rattle.std.proofs.lemmas.List.{get_or-set_same, get_or-set_other, length-set}
 use Rattle.pic_num.specs.declared.axis.Axis.{Axis}
 use Rattle.pic_num.specs.declared.axis.Axis.TheVariants.{X, Y, Z}
-use Rattle.pic_num.specs.Space.{Triple, Spot, next_axis}
+use Rattle.pic_num.specs.Sizes.{IsAtMost}
+use Rattle.pic_num.specs.Space.{Triple, Spot, spot, axis_number}
+use Rattle.pic_num.proofs.ProductLaws.{+ℤ-*ℤ}
+use Rattle.pic_num.proofs.SizeLaws.{at_most_more}
 use Rattle.pic_grid.specs.Cells.{count_of, index_of, place_of}
-use Rattle.pic_grid.specs.Block.{BlockValues, InZone, inner_of}
-use Rattle.pic_grid.specs.Rows.{step_of, lifted, four_added}
-use Rattle.pic_grid.proofs.CellLaws.{place_of_below}
+use Rattle.pic_grid.specs.Block.{InZone, inner_of}
+use Rattle.pic_grid.specs.BlockLayers.{AreAtMost}
+use Rattle.pic_grid.specs.Fours.{IsBase, number_from, first_of, step_by, added_in}
+use Rattle.pic_grid.specs.Rows.{step_of, lifted}
+use Rattle.pic_grid.specs.declared.base.Base.{Base}
 use Rattle.pic_grid.proofs.BlockLaws.{inner_within}
+use Rattle.pic_grid.proofs.BlockLayerLaws.{sums_small}
+use Rattle.pic_grid.proofs.CellLaws.{place_of_below}
 
--- numbers added to four places of a list: each is added to what stood there before
-pub add_each : (xs : List ℤ) (p q r s : ℕ) (a b c d : ℤ) → q ≢ p → r ≢ p → r ≢ q → s ≢ p → s ≢ q → s ≢ r
-    → (let one = slice_set xs p (slice_index_or xs p (pos 0) +ℤ a) in
-    let two = slice_set one q (slice_index_or one q (pos 0) +ℤ b) in
-    let three = slice_set two r (slice_index_or two r (pos 0) +ℤ c) in
-    slice_set (slice_set (slice_set one q (slice_index_or xs q (pos 0) +ℤ b)) r (slice_index_or xs r (pos 0) +ℤ c)) s (slice_index_or xs s (pos 0) +ℤ d)
-    ≡ slice_set three s (slice_index_or three s (pos 0) +ℤ d))
-add_each xs p q r s a b c d qp rp rq sp sq sr =
-    let x = slice_index_or xs p (pos 0) +ℤ a in
-    let one = slice_set xs p x in
-    let y = slice_index_or one q (pos 0) +ℤ b in
-    let two = slice_set one q y in
-    let z = slice_index_or two r (pos 0) +ℤ c in
-    let at_q = get_or-set_other xs p q x (pos 0) qp in
-    let at_r = get_or-set_other one q r y (pos 0) rq ∙ get_or-set_other xs p r x (pos 0) rp in
-    let at_s = get_or-set_other two r s z (pos 0) sr ∙ get_or-set_other one q s y (pos 0) sq ∙ get_or-set_other xs p s x (pos 0) sp in
-    λ i. slice_set (slice_set (slice_set one q (sym at_q i +ℤ b)) r (sym at_r i +ℤ c)) s (sym at_s i +ℤ d)
+-- the number of the place of the component on an axis at a cell, were the zone to have it
+abbrev pub number_on : Spot → Triple → Axis → Spot → ℤ
+number_on low n a c = number_from low n c +ℤ pos (axis_number a) *ℤ (pos n.x *ℤ pos n.y *ℤ pos n.z)
 
-above_one : (low c : ℤ) → low ≤ℤ c → unsigned_abs (c +ℤ pos 1 -ℤ low) ≡ unsigned_abs (c -ℤ low) + 1
-above_one low c h = omega (arith, ints)
+above_is : (low c : ℤ) → low ≤ℤ c → c -ℤ low ≡ pos (unsigned_abs (c -ℤ low))
+above_is low c h = omega (arith, ints)
 
--- the place of the next cell up an axis is a step further
-pub place_lifted : (n : Triple) (low : Spot) (a g : Axis) (c : Spot) → InZone low n c
-    → place_of n a (inner_of low (lifted g c)) ≡ place_of n a (inner_of low c) + step_of n g
+-- where the zone has it, that is its place's
+pub number_is : (low : Spot) (n : Triple) (a : Axis) (c : Spot) → InZone low n c → number_on low n a c ≡ pos (place_of n a (inner_of low c))
 unfolding place_of index_of
-place_lifted n low a X c h = let up = above_one low.x c.x h.x_low in omega (arith, up)
-place_lifted n low a Y c h =
-    let up = above_one low.y c.y h.y_low in
+number_is low n a c h =
     let p = inner_of low c in
-    let row : (p.z * n.y + unsigned_abs (c.y +ℤ pos 1 -ℤ low.y)) * n.x ≡ (p.z * n.y + (p.y + 1)) * n.x = ap (λ (y : ℕ). (p.z * n.y + y) * n.x) up in
-    omega (arith, row)
-place_lifted n low a Z c h =
-    let up = above_one low.z c.z h.z_low in
-    let p = inner_of low c in
-    let row : (unsigned_abs (c.z +ℤ pos 1 -ℤ low.z) * n.y + p.y) * n.x ≡ ((p.z + 1) * n.y + p.y) * n.x = ap (λ (z : ℕ). (z * n.y + p.y) * n.x) up in
-    omega (arith, row)
+    let x = above_is low.x c.x h.x_low in
+    let y = above_is low.y c.y h.y_low in
+    let z = above_is low.z c.z h.z_low in
+    let same : p.z * (n.x * n.y) + p.y * n.x + p.x + axis_number a * (n.x * n.y * n.z) ≡ axis_number a * (n.x * n.y * n.z) + ((p.z * n.y + p.y) * n.x + p.x) =
+    omega arith in
+    (λ i. z i *ℤ (pos n.x *ℤ pos n.y) +ℤ y i *ℤ pos n.x +ℤ x i +ℤ pos (axis_number a) *ℤ (pos n.x *ℤ pos n.y *ℤ pos n.z))
+    ∙ ap pos same
 
--- a box has two layers on an axis where a cell and the next one up lie in it
-two_layers : (low c : ℤ) (n : ℕ) → low ≤ℤ c → (c +ℤ pos 1) <ℤ (low +ℤ pos n) → 2 ≤ n
-two_layers low c n h k = omega (arith, ints)
+over_one : (c low : ℤ) → c +ℤ pos 1 -ℤ low ≡ (c -ℤ low) +ℤ pos 1
+over_one c low = omega (arith, ints)
 
-some_layers : (low c : ℤ) (n : ℕ) → low ≤ℤ c → c <ℤ (low +ℤ pos n) → 1 ≤ n
-some_layers low c n h k = omega (arith, ints)
+one_more : (d m : ℤ) → (d +ℤ pos 1) *ℤ m ≡ d *ℤ m +ℤ m
+one_more d m = let e = +ℤ-*ℤ d (pos 1) m in omega (arith, ints, e)
 
--- the neighbours up the second axis, and up the third, lie in the zone
-pub between_second : (low : Spot) (n : Triple) (a : Axis) (c : Spot) → InZone low n c → InZone low n (lifted (next_axis a) (lifted (next_axis (next_axis a)) c))
-    → InZone low n (lifted (next_axis a) c)
-between_second low n X c h k = record { x_low = h.x_low; x_high = h.x_high; y_low = k.y_low; y_high = k.y_high; z_low = h.z_low; z_high = h.z_high }
-between_second low n Y c h k = record { x_low = h.x_low; x_high = h.x_high; y_low = h.y_low; y_high = h.y_high; z_low = k.z_low; z_high = k.z_high }
-between_second low n Z c h k = record { x_low = k.x_low; x_high = k.x_high; y_low = h.y_low; y_high = h.y_high; z_low = h.z_low; z_high = h.z_high }
+more_x : (z y d r : ℤ) → z +ℤ y +ℤ (d +ℤ pos 1) +ℤ r ≡ (z +ℤ y +ℤ d +ℤ r) +ℤ pos 1
+more_x z y d r = omega (arith, ints)
 
-pub between_third : (low : Spot) (n : Triple) (a : Axis) (c : Spot) → InZone low n c → InZone low n (lifted (next_axis a) (lifted (next_axis (next_axis a)) c))
-    → InZone low n (lifted (next_axis (next_axis a)) c)
-between_third low n X c h k = record { x_low = h.x_low; x_high = h.x_high; y_low = h.y_low; y_high = h.y_high; z_low = k.z_low; z_high = k.z_high }
-between_third low n Y c h k = record { x_low = k.x_low; x_high = k.x_high; y_low = h.y_low; y_high = h.y_high; z_low = h.z_low; z_high = h.z_high }
-between_third low n Z c h k = record { x_low = h.x_low; x_high = h.x_high; y_low = k.y_low; y_high = k.y_high; z_low = h.z_low; z_high = h.z_high }
+more_y : (z d m x r : ℤ) → z +ℤ (d +ℤ pos 1) *ℤ m +ℤ x +ℤ r ≡ (z +ℤ d *ℤ m +ℤ x +ℤ r) +ℤ m
+more_y z d m x r = let e = one_more d m in omega (arith, ints, e)
 
--- the steps of the other two axes are different numbers, and neither is 0
-pub record AreSteps (second third : ℕ) : Type 0 where
-  pub some_second : 1 ≤ second
-  pub some_third : 1 ≤ third
-  pub differ : second ≢ third
+more_z : (d m y x r : ℤ) → (d +ℤ pos 1) *ℤ m +ℤ y +ℤ x +ℤ r ≡ (d *ℤ m +ℤ y +ℤ x +ℤ r) +ℤ m
+more_z d m y x r = let e = one_more d m in omega (arith, ints, e)
 
-layer_steps : (x y : ℕ) → 1 ≤ x → 2 ≤ y → AreSteps x (x * y)
-layer_steps x y some two =
-    let more : x * 2 ≤ x * y = mul-le-mul_left x two in
-    record { some_second = some; some_third = omega arith; differ = λ e. absurd (omega arith) }
+-- the number of the next cell up an axis is a step further
+pub number_lifted : (low : Spot) (n : Triple) (a g : Axis) (c : Spot) → number_on low n a (lifted g c) ≡ number_on low n a c +ℤ pos (step_of n g)
+number_lifted low n a X c =
+    (λ i. (c.z -ℤ low.z) *ℤ (pos n.x *ℤ pos n.y) +ℤ (c.y -ℤ low.y) *ℤ pos n.x +ℤ over_one c.x low.x i +ℤ pos (axis_number a) *ℤ (pos n.x *ℤ pos n.y *ℤ pos n.z))
+    ∙ more_x ((c.z -ℤ low.z) *ℤ (pos n.x *ℤ pos n.y)) ((c.y -ℤ low.y) *ℤ pos n.x) (c.x -ℤ low.x) (pos (axis_number a) *ℤ (pos n.x *ℤ pos n.y *ℤ pos n.z))
+number_lifted low n a Y c =
+    (λ i. (c.z -ℤ low.z) *ℤ (pos n.x *ℤ pos n.y) +ℤ over_one c.y low.y i *ℤ pos n.x +ℤ (c.x -ℤ low.x) +ℤ pos (axis_number a) *ℤ (pos n.x *ℤ pos n.y *ℤ pos n.z))
+    ∙ more_y ((c.z -ℤ low.z) *ℤ (pos n.x *ℤ pos n.y)) (c.y -ℤ low.y) (pos n.x) (c.x -ℤ low.x) (pos (axis_number a) *ℤ (pos n.x *ℤ pos n.y *ℤ pos n.z))
+number_lifted low n a Z c =
+    (λ i. over_one c.z low.z i *ℤ (pos n.x *ℤ pos n.y) +ℤ (c.y -ℤ low.y) *ℤ pos n.x +ℤ (c.x -ℤ low.x) +ℤ pos (axis_number a) *ℤ (pos n.x *ℤ pos n.y *ℤ pos n.z))
+    ∙ more_z (c.z -ℤ low.z) (pos n.x *ℤ pos n.y) ((c.y -ℤ low.y) *ℤ pos n.x) (c.x -ℤ low.x) (pos (axis_number a) *ℤ (pos n.x *ℤ pos n.y *ℤ pos n.z))
 
-turned : (s t : ℕ) → AreSteps s t → AreSteps t s
-turned s t h = record { some_second = h.some_third; some_third = h.some_second; differ = λ e. h.differ (sym e) }
+-- a sum in 64 bits of numbers in 64 bits
+pub sums_wrap : (y z m k : ℤ) → y ≡ int_wrap w64 m → z ≡ int_wrap w64 k → int_wrap w64 (y +ℤ z) ≡ int_wrap w64 (m +ℤ k)
+sums_wrap y z m k h e = (λ i. int_wrap w64 (h i +ℤ e i)) ∙ int_wrap-add_left w64 m (int_wrap w64 k) ∙ int_wrap-add_right w64 m k
 
-pub steps_differ : (low : Spot) (n : Triple) (a : Axis) (c : Spot) → InZone low n c → InZone low n (lifted (next_axis a) (lifted (next_axis (next_axis a)) c))
-    → AreSteps (step_of n (next_axis a)) (step_of n (next_axis (next_axis a)))
-steps_differ low n X c h k =
-    layer_steps n.x n.y (some_layers low.x c.x n.x h.x_low h.x_high) (two_layers low.y c.y n.y h.y_low k.y_high)
-steps_differ low n Y c h k =
-    let two : 2 ≤ n.x = two_layers low.x c.x n.x h.x_low k.x_high in
-    let some : 1 ≤ n.y = some_layers low.y c.y n.y h.y_low h.y_high in
-    let more : n.x ≤ n.x * n.y = le-mul_of_pos_right n.x (omega arith) in
-    record { some_second = omega arith; some_third = omega arith; differ = λ e. absurd (omega arith) }
-steps_differ low n Z c h k =
-    let two : 2 ≤ n.x = two_layers low.x c.x n.x h.x_low k.x_high in
-    record { some_second = omega arith; some_third = omega arith; differ = λ e. absurd (omega arith) }
+-- what a base tells of its cell
+once : (n k : ℤ) → n +ℤ k ≡ n +ℤ pos 1 *ℤ k
+once n k = omega (arith, ints)
 
--- what a block of four added components is made of: the places of the four, with steps s and t
-module _ (b : BlockValues) (a : Axis) (c : Spot) (p s t : ℕ) (h : InZone b.low b.size c)
-    (k : InZone b.low b.size (lifted (next_axis a) (lifted (next_axis (next_axis a)) c))) (at : p ≡ place_of b.size a (inner_of b.low c))
-    (to_second : s ≡ step_of b.size (next_axis a)) (to_third : t ≡ step_of b.size (next_axis (next_axis a)))
-  where
-    abbrev second : Axis
-    second = next_axis a
+twice : (n k : ℤ) → n +ℤ k +ℤ k ≡ n +ℤ pos 2 *ℤ k
+twice n k = omega (arith, ints)
 
-    abbrev third : Axis
-    third = next_axis second
+never : (n k : ℤ) → n ≡ n +ℤ pos 0 *ℤ k
+never n k = omega (arith, ints)
 
-    pub at_second : p + s ≡ place_of b.size a (inner_of b.low (lifted second c))
-    at_second = (λ i. at i + to_second i) ∙ sym (place_lifted b.size b.low a second c h)
+pub first_is : (low : Spot) (n : Triple) (b : Base) (a : Axis) → IsBase low n b → first_of b a ≡ int_wrap w64 (number_on low n a (spot b.cell))
+first_is low n b X h = h.here ∙ ap (int_wrap w64) (never (number_from low n (spot b.cell)) (pos n.x *ℤ pos n.y *ℤ pos n.z))
+first_is low n b Y h =
+    let all = pos n.x *ℤ pos n.y *ℤ pos n.z in
+    let from = number_from low n (spot b.cell) in
+    sums_wrap b.here b.count from all h.here h.count ∙ ap (int_wrap w64) (once from all)
+first_is low n b Z h =
+    let all = pos n.x *ℤ pos n.y *ℤ pos n.z in
+    let from = number_from low n (spot b.cell) in
+    sums_wrap (int_wrap w64 (b.here +ℤ b.count)) b.count (from +ℤ all) all (sums_wrap b.here b.count from all h.here h.count) h.count
+    ∙ ap (int_wrap w64) (twice from all)
 
-    pub at_third : p + t ≡ place_of b.size a (inner_of b.low (lifted third c))
-    at_third = (λ i. at i + to_third i) ∙ sym (place_lifted b.size b.low a third c h)
+pub step_is : (low : Spot) (n : Triple) (b : Base) (g : Axis) → IsBase low n b → step_by b g ≡ int_wrap w64 (pos (step_of n g))
+step_is low n b X h = sym (int_wrap_fits w64 (pos 1) (fits_signed_from_abs w64 (pos 1) (omega arith)))
+step_is low n b Y h = h.row
+step_is low n b Z h = h.layer
 
-    pub at_both : p + s + t ≡ place_of b.size a (inner_of b.low (lifted second (lifted third c)))
-    at_both =
-        let turn : p + s + t ≡ p + t + s = omega arith in
-        turn ∙ (λ i. at_third i + to_second i) ∙ sym (place_lifted b.size b.low a second (lifted third c) (between_third b.low b.size a c h k))
+-- a step further, in 64 bits
+pub up_is : (low : Spot) (n : Triple) (b : Base) (a g : Axis) (c : Spot) (z : ℤ) → IsBase low n b → z ≡ int_wrap w64 (number_on low n a c)
+    → int_wrap w64 (z +ℤ step_by b g) ≡ int_wrap w64 (number_on low n a (lifted g c))
+up_is low n b a g c z h e =
+    sums_wrap z (step_by b g) (number_on low n a c) (pos (step_of n g)) e (step_is low n b g h)
+    ∙ ap (int_wrap w64) (sym (number_lifted low n a g c))
 
-    place_below : (d : Spot) (q : ℕ) → InZone b.low b.size d → q ≡ place_of b.size a (inner_of b.low d) → q < 3 * count_of b.size
-    place_below d q inside is = subst (λ (m : ℕ). m < 3 * count_of b.size) (sym is)
-        (place_of_below b.size a (inner_of b.low d) (inner_within b.low b.size d inside))
+-- where the zone has the cell, the number in 64 bits is that of the place
+pub place_is : (low : Spot) (n : Triple) (a : Axis) (c : Spot) (z : ℤ) → InZone low n c → z ≡ int_wrap w64 (number_on low n a c)
+    → place_of n a (inner_of low c) < 2 ^ 60 → z ≡ pos (place_of n a (inner_of low c))
+place_is low n a c z inside e few =
+    let p = place_of n a (inner_of low c) in
+    e ∙ ap (int_wrap w64) (number_is low n a c inside) ∙ int_wrap_fits w64 (pos p) (fits_signed_from_abs w64 (pos p) (omega (arith, few)))
 
-    pub second_below : p + s < 3 * count_of b.size
-    second_below = place_below (lifted second c) (p + s) (between_second b.low b.size a c h k) at_second
+-- where a component stands that a zone has where it is found
+pub record StandsAt (n : Triple) (found : Bool) (q : ℕ) (z : ℤ) : Type 0 where
+  pub least : IsTrue found → pos 0 ≤ℤ z
+  pub below : IsTrue found → unsigned_abs z < 3 * count_of n
+  pub same : IsTrue found → unsigned_abs z ≡ q
 
-    pub third_below : p + t < 3 * count_of b.size
-    third_below = place_below (lifted third c) (p + t) (between_third b.low b.size a c h k) at_third
+at_place : (z : ℤ) (p : ℕ) → z ≡ pos p → (pos 0 ≤ℤ z) × (unsigned_abs z ≡ p)
+at_place z p e = (omega (arith, ints, e), ap unsigned_abs e)
 
-    pub both_below : p + s + t < 3 * count_of b.size
-    both_below = place_below (lifted second (lifted third c)) (p + s + t) k at_both
+pub stands_at : (low : Spot) (n : Triple) (a : Axis) (c : Spot) (found : Bool) (z : ℤ) → IsTrue found ↔ InZone low n c
+    → z ≡ int_wrap w64 (number_on low n a c) → 3 * count_of n < 2 ^ 60 → StandsAt n found (place_of n a (inner_of low c)) z
+stands_at low n a c found z has e few =
+    let p = place_of n a (inner_of low c) in
+    let below : IsTrue found → p < 3 * count_of n = λ yes. place_of_below n a (inner_of low c) (inner_within low n c (has.0 yes)) in
+    let there : IsTrue found → (pos 0 ≤ℤ z) × (unsigned_abs z ≡ p) =
+    λ yes. let less = below yes in at_place z p (place_is low n a c z (has.0 yes) e (omega (arith, few, less))) in
+    record {
+      least = λ yes. (there yes).0;
+      below = λ yes. subst (λ (k : ℕ). k < 3 * count_of n) (sym (there yes).1) (below yes);
+      same = λ yes. (there yes).1;
+    }
 
-    steps : AreSteps s t
-    steps = subst (λ (m : ℕ). AreSteps s m) (sym to_third) (subst (λ (m : ℕ). AreSteps m (step_of b.size third)) (sym to_second)
-        (steps_differ b.low b.size a c h k))
+-- a bound of the numbers of a list, made wider
+pub are_at_most_more : (xs : List ℤ) (m n : ℕ) → m ≤ n → AreAtMost m xs → AreAtMost n xs
+are_at_most_more xs m n more small = record { at_most = λ k. at_most_more (slice_index_or xs k (pos 0)) m n more (small.at_most k) }
 
-    -- the sums written at the four places
-    pub four_is : (xs : List ℤ) (v w x y : ℤ) → xs ≡ b.values
-        → record b {
-          values = slice_set (slice_set (slice_set (slice_set xs p (slice_index_or xs p (pos 0) +ℤ v)) (p + s) (slice_index_or xs (p + s) (pos 0) +ℤ w))
-              (p + t) (slice_index_or xs (p + t) (pos 0) +ℤ x)) (p + s + t) (slice_index_or xs (p + s + t) (pos 0) +ℤ y);
-        }
-        ≡ four_added b a c v w x y
-    four_is xs v w x y same =
-        let some_s : 1 ≤ s = steps.some_second in
-        let some_t : 1 ≤ t = steps.some_third in
-        let each = add_each xs p (p + s) (p + t) (p + s + t) v w x y (λ e. absurd (omega arith)) (λ e. absurd (omega arith))
-        (λ e. steps.differ (omega arith)) (λ e. absurd (omega arith)) (λ e. absurd (omega arith)) (λ e. absurd (omega arith)) in
-        (λ i. record b { values = each i })
-        ∙ (λ i.
-        let one = slice_set (same i) (at i) (slice_index_or (same i) (at i) (pos 0) +ℤ v) in
-        let two = slice_set one (at_second i) (slice_index_or one (at_second i) (pos 0) +ℤ w) in
-        let three = slice_set two (at_third i) (slice_index_or two (at_third i) (pos 0) +ℤ x) in
-        record b { values = slice_set three (at_both i) (slice_index_or three (at_both i) (pos 0) +ℤ y) })
+-- a number added at a place of a list: it can be told otherwise, where it is found,
+pub added_in_at : (found : Bool) (xs : List ℤ) (p q : ℕ) (v : ℤ) → (IsTrue found → p ≡ q) → added_in found xs p v ≡ added_in found xs q v
+unfolding added_in
+added_in_at true xs p q v same = let e = same refl in ap (λ (k : ℕ). slice_set xs k (slice_index_or xs k (pos 0) +ℤ v)) e
+added_in_at false xs p q v same = refl
+
+-- the list keeps its length,
+pub length-added_in : (found : Bool) (xs : List ℤ) (p : ℕ) (v : ℤ) → length (added_in found xs p v) ≡ length xs
+unfolding added_in
+length-added_in true xs p v = length-set xs p (slice_index_or xs p (pos 0) +ℤ v)
+length-added_in false xs p v = refl
+
+-- and its numbers grow by no more
+pub added_in_small : (found : Bool) (xs : List ℤ) (p : ℕ) (v : ℤ) (m n : ℕ) → (IsTrue found → p < length xs) → IsAtMost v n → AreAtMost m xs
+    → AreAtMost (m + n) (added_in found xs p v)
+unfolding added_in
+added_in_small false xs p v m n below small room =
+    record { at_most = λ k. at_most_more (slice_index_or xs k (pos 0)) m (m + n) (omega arith) (room.at_most k) }
+added_in_small true xs p v m n below small room = record {
+  at_most = λ k. elim (cases_eq k p) [
+    | inl same ↦
+        (let there : slice_index_or (slice_set xs p (slice_index_or xs p (pos 0) +ℤ v)) p (pos 0) ≡ slice_index_or xs p (pos 0) +ℤ v =
+        get_or-set_same xs p (slice_index_or xs p (pos 0) +ℤ v) (pos 0) (below refl) in
+        let read : slice_index_or (slice_set xs p (slice_index_or xs p (pos 0) +ℤ v)) k (pos 0) ≡ slice_index_or xs p (pos 0) +ℤ v =
+        ap (λ (j : ℕ). slice_index_or (slice_set xs p (slice_index_or xs p (pos 0) +ℤ v)) j (pos 0)) same ∙ there in
+        subst (λ (y : ℤ). IsAtMost y (m + n)) (sym read) (sums_small (slice_index_or xs p (pos 0)) v m n (room.at_most p) small))
+    | inr other ↦
+        (let read = get_or-set_other xs p k (slice_index_or xs p (pos 0) +ℤ v) (pos 0) other in
+        subst (λ (y : ℤ). IsAtMost y (m + n)) (sym read) (at_most_more (slice_index_or xs k (pos 0)) m (m + n) (omega arith) (room.at_most k)))
+  ];
+}

@@ -5,6 +5,7 @@ pub mod Arrays
 pub mod Lattice
 pub mod Block
 pub mod Rows
+pub mod Fours
 pub mod Parts
 pub mod BlockLayers
 pub mod Tiles

@@ -2,9 +2,9 @@
 use Rattle.std.specs.Prelude.{ℕ, ℤ, pos, ◌+◌, ◌*◌, ◌/◌, ◌+ℤ◌, List, ◌++◌, take, drop}
 use Rattle.pic_num.specs.declared.axis.Axis.{Axis}
 use Rattle.pic_num.specs.declared.axis.Axis.TheVariants.{X, Y, Z}
-use Rattle.pic_num.specs.Space.{Triple, Spot, next_axis}
+use Rattle.pic_num.specs.Space.{Triple, Spot}
 use Rattle.pic_grid.specs.Cells.{place_of}
-use Rattle.pic_grid.specs.Block.{BlockValues, edge_at, with_edge}
+use Rattle.pic_grid.specs.Block.{BlockValues}
 
 -- the number of the first place of the row on an axis at the layers y and z
 abbrev pub row_of : Triple → Axis → ℕ → ℕ → ℕ
@@ -31,18 +31,3 @@ abbrev pub lifted : Axis → Spot → Spot
 lifted X c = record c { x = c.x +ℤ pos 1 }
 lifted Y c = record c { y = c.y +ℤ pos 1 }
 lifted Z c = record c { z = c.z +ℤ pos 1 }
-
--- the block with v added to the component on an axis at a cell of the zone
-abbrev pub added : BlockValues → Axis → Spot → ℤ → BlockValues
-added b a c v = with_edge b a c (edge_at b a c +ℤ v)
-
--- numbers added to four components on an axis: those at a cell, at the next cell up the axis after
--- that one (high_low), up the axis after both (low_high), and up both
-abbrev pub four_added : BlockValues → Axis → Spot → ℤ → ℤ → ℤ → ℤ → BlockValues
-four_added b a c low_low high_low low_high high_high =
-    let second = next_axis a in
-    let third = next_axis second in
-    let one = added b a c low_low in
-    let two = added one a (lifted second c) high_low in
-    let three = added two a (lifted third c) low_high in
-    added three a (lifted second (lifted third c)) high_high

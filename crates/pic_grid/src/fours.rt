@@ -1,71 +1,71 @@
-//! Four components of a block at once: those on one axis round a cell.
+//! Four components of a block at once: those on one axis round a cell, of which it has some.
 
-ghost use Rattle.std.specs.Prelude.{◌≡◌, ◌*◌, ◌+ℤ◌, length, FitsSigned};
-ghost use Rattle.std.specs.Int.{w128};
-ghost use Rattle.pic_num.specs.Space.{triple, spot, next_axis};
+ghost use Rattle.std.specs.Prelude.{◌≡◌, pos, ◌*◌, ◌^◌, ◌<◌, ◌≤ℤ◌, length, unsigned_abs, IsTrue};
+ghost use Rattle.pic_num.specs.Sizes.{IsAtMost};
+ghost use Rattle.pic_grid.specs.Block.{AllAtMost};
+ghost use Rattle.pic_grid.specs.BlockLayers.{AreAtMost};
 ghost use Rattle.pic_grid.specs.Cells.{count_of};
-ghost use Rattle.pic_grid.specs.Block.{InZone, edge_at};
-ghost use Rattle.pic_grid.specs.Rows.{lifted, four_added, step_of};
+ghost use Rattle.pic_grid.specs.Fours.{IsBase, base_cell, AreSmall, AreFound, added_in, four_added};
 
+use crate::base::{Base, sum};
 use crate::block::Block;
-use crate::places::place_in;
 use pic_num::Axis;
 
+/// Numbers for the four components on one axis round a cell: those low and high on the next axis, and
+/// on the third.
+#[derive(Clone, Copy)]
+pub struct Four {
+    pub low_low: i128,
+    pub high_low: i128,
+    pub low_high: i128,
+    pub high_high: i128,
+}
+
+/// Which of the four components on one axis round a cell a block has.
+#[derive(Clone, Copy)]
+pub struct Found {
+    pub low_low: bool,
+    pub high_low: bool,
+    pub low_high: bool,
+    pub high_high: bool,
+}
+
 impl Block {
-    /// Adds to four components on `axis`: at `cell`, at the next cell up the axis after `axis`
-    /// (`high_low`), up the axis after both (`low_high`), and up both. All four cells are the
-    /// zone's, and each sum fits an `i128`.
-    pub fn add_four(
-        &mut self,
-        axis: Axis,
-        cell: [i32; 3],
-        low_low: i128,
-        high_low: i128,
-        low_high: i128,
-        high_high: i128,
-    )
-        requires here { InZone self.old.low self.old.size (spot cell) }
-        requires there { InZone self.old.low self.old.size
-            (lifted (next_axis axis) (lifted (next_axis (next_axis axis)) (spot cell))) }
-        requires low_low { FitsSigned w128 (edge_at self.old axis (spot cell) +ℤ low_low) }
-        requires high_low { FitsSigned w128
-            (edge_at self.old axis (lifted (next_axis axis) (spot cell)) +ℤ high_low) }
-        requires low_high { FitsSigned w128
-            (edge_at self.old axis (lifted (next_axis (next_axis axis)) (spot cell)) +ℤ low_high) }
-        requires high_high { FitsSigned w128 (edge_at self.old axis
-            (lifted (next_axis axis) (lifted (next_axis (next_axis axis)) (spot cell)))
-            +ℤ high_high) }
-        ensures { self.new ≡ four_added self.old axis
-            (spot cell) low_low high_low low_high high_high }
+    /// Adds to the four components on `axis` round a cell, of those that are found: the place is that
+    /// of the cell in this block. Numbers are at most 2^80 in size, and the block's at most 2^110.
+    #[inline(always)]
+    pub fn add_four(&mut self, axis: Axis, at: &Base, found: &Found, four: &Four)
+        requires base { IsBase self.old.low self.old.size at.now }
+        requires found { AreFound self.old.low self.old.size axis (base_cell at.now) found.now }
+        requires small { AreSmall four.now }
+        requires room { AllAtMost (2 ^ 110) self.old }
+        ensures shape { length self.old.values ≡ 3 * count_of self.old.size }
+        ensures values { self.new ≡ four_added self.old axis (base_cell at.now) found.now four.now }
     {
         let second = axis.next();
         let third = second.next();
-        let here = place_in(self.zone.size, axis, self.inner(cell));
-        let up_second = here + self.step(second);
-        let up_third = here + self.step(third);
-        let up_both = up_second + self.step(third);
+        let here = at.first(axis);
+        let up = sum(here, at.step(second));
+        let high = sum(here, at.step(third));
+        let far = sum(high, at.step(second));
         let values = self.values.as_mut_slice();
-        let low_low = values[here] + low_low;
-        let high_low = values[up_second] + high_low;
-        let low_high = values[up_third] + low_high;
-        let high_high = values[up_both] + high_high;
-        values[here] = low_low;
-        values[up_second] = high_low;
-        values[up_third] = low_high;
-        values[up_both] = high_high;
+        add_at(values, here, found.low_low, four.low_low);
+        add_at(values, up, found.high_low, four.high_low);
+        add_at(values, high, found.low_high, four.low_high);
+        add_at(values, far, found.high_high, four.high_high);
     }
+}
 
-    /// How far apart the numbers of two places are whose cells follow each other on `axis`.
-    fn step(&self, axis: Axis) -> usize
-        ensures value { result ≡ step_of self.now.size axis }
-        ensures shape { length self.now.values ≡ 3 * count_of self.now.size }
-    {
-        let _values = &self.values;
-        let [nx, ny, _] = self.zone.size;
-        match axis {
-            Axis::X => 1,
-            Axis::Y => nx as usize,
-            Axis::Z => nx as usize * ny as usize,
-        }
+/// Adds `value` to the number at a place, where it is found.
+#[inline(always)]
+fn add_at(values: &mut [i128], place: i64, found: bool, value: i128)
+    requires least { IsTrue found → pos 0 ≤ℤ place }
+    requires below { IsTrue found → unsigned_abs place < length values.old }
+    requires value { IsAtMost value (2 ^ 80) }
+    requires room { AreAtMost (2 ^ 120) values.old }
+    ensures { values.new ≡ added_in found values.old (unsigned_abs place) value }
+{
+    if found {
+        values[place as usize] += value;
     }
 }

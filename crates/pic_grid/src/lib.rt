@@ -1,6 +1,7 @@
 //! The grid: the types that fields, charges and paths live on, and the definitions of the scheme.
 #![tactic(auto)]
 
+mod base;
 mod block;
 mod cells;
 mod copying;
@@ -20,8 +21,10 @@ mod snapshot;
 mod stop;
 mod track;
 
+pub use base::Base;
 pub use block::{Block, Zone};
 pub use cells::Cells;
+pub use fours::{Found, Four};
 pub use lattice::Lattice;
 pub use name::Name;
 pub use nodes::Nodes;

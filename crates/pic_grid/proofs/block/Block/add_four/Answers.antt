@@ -1,201 +1,225 @@
-use Rattle.std.proofs.Common.{◌≡◌, ◌+◌, ◌*◌, ◌<◌, ◌+ℤ◌, ℕ, ℤ, pos, List, to_z, of_z, length, slice_index_or, slice_set, rules, sym, ◌∙◌, ap, subst, arith}
-use Rattle.std.proofs.lemmas.Int.{to_z-of_z}
-use Rattle.std.proofs.lemmas.List.{with_items_is, length-set}
+use Rattle.std.proofs.Common.{◌≡◌, ◌+◌, ◌*◌, ◌^◌, ◌<◌, ◌+ℤ◌, ℕ, ℤ, Bool, List, to_z, of_z, length, unsigned_abs, sym, ◌∙◌, ap, subst, arith}
+use Rattle.std.specs.Prelude.{IsTrue}
+use Rattle.std.specs.Int.{w64, int_wrap}
 use Rattle.std.specs.Vec.{with_items}
-use mir.Syntax.{w64, w128}
-use mir.Val.{Fits, SFits}
-use Rattle.pic_num.specs.Space.{spot, next_axis}
+use Rattle.std.proofs.lemmas.Int.{to_z-of_z, fits_signed_from_abs}
+use Rattle.std.proofs.lemmas.List.{with_items_is}
+use mir.Syntax.{w128}
+use mir.Val.{SFits}
+use Rattle.pic_num.specs.Sizes.{IsAtMost}
+use Rattle.pic_num.specs.Space.{Spot, Triple, spot, next_axis}
+use Rattle.pic_grid.specs.Block.{BlockValues, inner_of}
+use Rattle.pic_grid.specs.BlockLayers.{AreAtMost}
 use Rattle.pic_grid.specs.Cells.{count_of, place_of}
-use Rattle.pic_grid.specs.Block.{BlockValues, inner_of, edge_at}
-use Rattle.pic_grid.specs.Rows.{step_of, lifted}
-use Rattle.pic_grid.proofs.FourLaws.{at_second, at_third, at_both, second_below, third_below, both_below, four_is}
+use Rattle.pic_grid.specs.Fours.{added_in, step_by}
+use Rattle.pic_grid.specs.Rows.{lifted}
+use Rattle.pic_grid.proofs.FourLaws.{StandsAt, stands_at, first_is, up_is, added_in_at, length-added_in, added_in_small, are_at_most_more}
+use Rattle.pic_grid.proofs.BlockLayerLaws.{all_numbers}
 use Rattle.pic_grid.proofs.block.Block.add_four.Goals as goal
 use Rattle.pic_grid.proofs.block.Block.add_four.Goals.{After-as_mut_slice-values}
 
--- what is known once the places are: the first of the four, the steps to the others, and the values
+-- a number of 64 bits as the code passes it on
+held : (z : ℤ) → SFits w64 z → to_z w64 (of_z w64 z) ≡ z
+held z fits = to_z-of_z w64 z fits
+
+-- a step from a number
+stepped : (s y z w : ℤ) → SFits w64 y → SFits w64 z → s ≡ int_wrap w64 (to_z w64 (of_z w64 y) +ℤ to_z w64 (of_z w64 z)) → z ≡ w → s ≡ int_wrap w64 (y +ℤ w)
+stepped s y z w first second is e = is ∙ (λ i. int_wrap w64 (held y first i +ℤ (held z second ∙ e) i))
+
+-- what is known once the numbers are: the four in 64 bits, and the values
 record Known (c : After-as_mut_slice-values) : Type 0 where
-  place : c.place_in-here.result ≡ place_of c.args.self.now.size c.args.axis (inner_of c.args.self.now.low (spot c.args.cell))
-  second : c.step.result ≡ step_of c.args.self.now.size (next_axis c.args.axis)
-  third : c.step-2.result ≡ step_of c.args.self.now.size (next_axis (next_axis c.args.axis))
-  again : c.step-3.result ≡ c.step-2.result
   same : c.as_mut_slice-values.result.now ≡ c.args.self.now.values
   whole : length c.as_mut_slice-values.result.now ≡ 3 * count_of c.args.self.now.size
+  few : 3 * count_of c.args.self.now.size < 2 ^ 60
+  room : AreAtMost (2 ^ 110) c.as_mut_slice-values.result.now
+  low_low : StandsAt c.args.self.now.size c.args.found.now.low_low
+      (place_of c.args.self.now.size c.args.axis (inner_of c.args.self.now.low (spot c.args.at.now.cell))) (to_z w64 (of_z w64 c.first-here.result))
+  high_low : StandsAt c.args.self.now.size c.args.found.now.high_low
+      (place_of c.args.self.now.size c.args.axis (inner_of c.args.self.now.low (lifted (next_axis c.args.axis) (spot c.args.at.now.cell))))
+      (to_z w64 (of_z w64 c.sum-up.result))
+  low_high : StandsAt c.args.self.now.size c.args.found.now.low_high
+      (place_of c.args.self.now.size c.args.axis (inner_of c.args.self.now.low (lifted (next_axis (next_axis c.args.axis)) (spot c.args.at.now.cell))))
+      (to_z w64 (of_z w64 c.sum-high.result))
+  high_high : StandsAt c.args.self.now.size c.args.found.now.high_high
+      (place_of c.args.self.now.size c.args.axis
+      (inner_of c.args.self.now.low (lifted (next_axis c.args.axis) (lifted (next_axis (next_axis c.args.axis)) (spot c.args.at.now.cell)))))
+      (to_z w64 (of_z w64 c.sum-far.result))
 
 known : (c : After-as_mut_slice-values) → Known c
 known c =
+    let b = c.args.self.now in
+    let a = c.args.axis in
+    let at = c.args.at.now in
+    let cell = spot at.cell in
+    let base = c.requires.base in
     let second = c.next-second.ensures in
-    let third : c.next-third.result ≡ next_axis (next_axis c.args.axis) = c.next-third.ensures ∙ ap next_axis second in
+    let third : c.next-third.result ≡ next_axis (next_axis a) = c.next-third.ensures ∙ ap next_axis second in
     let same = c.as_mut_slice-values.ensures.value ∙ ap (λ (d : BlockValues). d.values) c.self.view_is in
+    let long : length b.values ≡ 3 * count_of b.size = subst (λ (d : BlockValues). length d.values ≡ 3 * count_of d.size) c.self.view_is c.self.invariant in
+    let whole = ap length same ∙ long in
+    let few : 3 * count_of b.size < 2 ^ 60 = omega (arith, whole, c.as_mut_slice-values.type_inv.1) in
+    let fits_here : SFits w64 c.first-here.result = record { sfits = c.first-here.type_inv } in
+    let fits_up : SFits w64 c.sum-up.result = record { sfits = c.sum-up.type_inv } in
+    let fits_high : SFits w64 c.sum-high.result = record { sfits = c.sum-high.type_inv } in
+    let fits_far : SFits w64 c.sum-far.result = record { sfits = c.sum-far.type_inv } in
+    let fits_step : SFits w64 c.step.result = record { sfits = c.step.type_inv } in
+    let fits_step_2 : SFits w64 c.step-2.result = record { sfits = c.step-2.type_inv } in
+    let fits_step_3 : SFits w64 c.step-3.result = record { sfits = c.step-3.type_inv } in
+    let here = c.first-here.ensures ∙ first_is b.low b.size at a base in
+    let up = stepped c.sum-up.result _ _ _ fits_here fits_step c.sum-up.ensures (c.step.ensures ∙ ap (step_by at) second)
+    ∙ up_is b.low b.size at a (next_axis a) cell c.first-here.result base here in
+    let high = stepped c.sum-high.result _ _ _ fits_here fits_step_2 c.sum-high.ensures (c.step-2.ensures ∙ ap (step_by at) third)
+    ∙ up_is b.low b.size at a (next_axis (next_axis a)) cell c.first-here.result base here in
+    let far = stepped c.sum-far.result _ _ _ fits_high fits_step_3 c.sum-far.ensures (c.step-3.ensures ∙ ap (step_by at) second)
+    ∙ up_is b.low b.size at a (next_axis a) (lifted (next_axis (next_axis a)) cell) c.sum-high.result base high in
     record {
-      place = c.place_in-here.ensures.value ∙ (λ i. place_of (c.self.view_is i).size c.args.axis (c.inner.ensures.value i));
-      second = c.step.ensures.value ∙ ap (step_of c.args.self.now.size) second;
-      third = c.step-2.ensures.value ∙ ap (step_of c.args.self.now.size) third;
-      again = c.step-3.ensures.value ∙ sym c.step-2.ensures.value;
       same = same;
-      whole = ap length same ∙ c.step-3.ensures.shape;
+      whole = whole;
+      few = few;
+      room = all_numbers b (2 ^ 110) _ same long c.requires.room;
+      low_low = stands_at b.low b.size a cell c.args.found.now.low_low _ c.requires.found.low_low (held _ fits_here ∙ here) few;
+      high_low = stands_at b.low b.size a (lifted (next_axis a) cell) c.args.found.now.high_low _ c.requires.found.high_low (held _ fits_up ∙ up) few;
+      low_high = stands_at b.low b.size a (lifted (next_axis (next_axis a)) cell) c.args.found.now.low_high _ c.requires.found.low_high
+          (held _ fits_high ∙ high) few;
+      high_high = stands_at b.low b.size a (lifted (next_axis a) (lifted (next_axis (next_axis a)) cell)) c.args.found.now.high_high _
+          c.requires.found.high_high (held _ fits_far ∙ far) few;
     }
 
--- a sum of what two words hold fits where that of the numbers does
-held_fits : (x y e : ℤ) → SFits w128 x → SFits w128 y → e ≡ x → SFits w128 (e +ℤ y) → SFits w128 (to_z w128 (of_z w128 x) +ℤ to_z w128 (of_z w128 y))
-held_fits x y e h k same sum =
-    subst (SFits w128) (λ i. (same ∙ sym (to_z-of_z w128 x h)) i +ℤ sym (to_z-of_z w128 y k) i) sum
+-- what an addition at the place q, which the code knows as z, leaves of a list of len numbers
+record Step (found : Bool) (xs ys : List ℤ) (q : ℕ) (v : ℤ) (len m : ℕ) : Type 0 where
+  is : ys ≡ added_in found xs q v
+  long : length ys ≡ len
+  room : AreAtMost (m + 2 ^ 80) ys
 
-held_sum : (x y e : ℤ) → SFits w128 x → SFits w128 y → e ≡ x → SFits w128 (e +ℤ y)
-    → to_z w128 (of_z w128 (to_z w128 (of_z w128 x) +ℤ to_z w128 (of_z w128 y))) ≡ x +ℤ y
-held_sum x y e h k same sum =
-    to_z-of_z w128 _ (held_fits x y e h k same sum) ∙ (λ i. to_z-of_z w128 x h i +ℤ to_z-of_z w128 y k i)
+below_of : (n : Triple) (found : Bool) (q : ℕ) (z : ℤ) (xs : List ℤ) → length xs ≡ 3 * count_of n → StandsAt n found q z → IsTrue found → unsigned_abs z < length xs
+below_of n found q z xs e h has = subst (λ (k : ℕ). unsigned_abs z < k) (sym e) (h.below has)
 
-below_second : (c : After-as_mut_slice-values) → c.place_in-here.result + c.step.result < length c.as_mut_slice-values.result.now
-below_second c =
-    let k = known c in
-    omega (arith, k.whole, second_below c.args.self.now c.args.axis (spot c.args.cell) _ _ _ c.requires.here c.requires.there k.place k.second k.third)
+step : (n : Triple) (found : Bool) (q : ℕ) (z : ℤ) (xs ys : List ℤ) (v : ℤ) (m : ℕ) → StandsAt n found q z → IsAtMost v (2 ^ 80)
+    → length xs ≡ 3 * count_of n → AreAtMost m xs → ys ≡ added_in found xs (unsigned_abs z) (to_z w128 (of_z w128 v))
+    → Step found xs ys q v (3 * count_of n) m
+step n found q z xs ys v m at small long room e =
+    let fits = fits_signed_from_abs w128 v (let size = small.size in omega (arith, size)) in
+    let is : ys ≡ added_in found xs (unsigned_abs z) v = e ∙ ap (added_in found xs (unsigned_abs z)) (to_z-of_z w128 v fits) in
+    record {
+      is = is ∙ added_in_at found xs (unsigned_abs z) q v at.same;
+      long = ap length is ∙ length-added_in found xs (unsigned_abs z) v ∙ long;
+      room = subst (AreAtMost (m + 2 ^ 80)) (sym is) (added_in_small found xs (unsigned_abs z) v m (2 ^ 80) (below_of n found q z xs long at) small room);
+    }
 
-below_third : (c : After-as_mut_slice-values) → c.place_in-here.result + c.step-2.result < length c.as_mut_slice-values.result.now
-below_third c =
-    let k = known c in
-    omega (arith, k.whole, third_below c.args.self.now c.args.axis (spot c.args.cell) _ _ _ c.requires.here c.requires.there k.place k.second k.third)
+-- the places of the four
+abbrev place : After-as_mut_slice-values → Spot → ℕ
+place c d = place_of c.args.self.now.size c.args.axis (inner_of c.args.self.now.low d)
 
-below_both : (c : After-as_mut_slice-values) → c.place_in-here.result + c.step.result + c.step-3.result < length c.as_mut_slice-values.result.now
-below_both c =
-    let k = known c in
-    omega (arith, k.whole, k.again, both_below c.args.self.now c.args.axis (spot c.args.cell) _ _ _ c.requires.here c.requires.there k.place k.second k.third)
+first : (c : After-as_mut_slice-values) (ys : List ℤ)
+    → ys ≡ added_in c.args.found.now.low_low c.as_mut_slice-values.result.now (unsigned_abs (to_z w64 (of_z w64 c.first-here.result))) (to_z w128 (of_z w128 c.args.four.now.low_low))
+    → Step c.args.found.now.low_low c.as_mut_slice-values.result.now ys (place c (spot c.args.at.now.cell))
+    c.args.four.now.low_low (3 * count_of c.args.self.now.size) (2 ^ 110)
+first c ys e = let k = known c in step c.args.self.now.size _ _ _ _ ys _ (2 ^ 110) k.low_low c.requires.small.low_low k.whole k.room e
 
--- what stands at the four places
-at_here_is : (c : After-as_mut_slice-values) → edge_at c.args.self.now c.args.axis (spot c.args.cell)
-    ≡ slice_index_or c.as_mut_slice-values.result.now c.place_in-here.result (pos 0)
-at_here_is c = let k = known c in λ i. slice_index_or (sym k.same i) (sym k.place i) (pos 0)
+second : (c : After-as_mut_slice-values) (xs : List ℤ) (ys : List ℤ) → length xs ≡ 3 * count_of c.args.self.now.size → AreAtMost (2 ^ 110 + 2 ^ 80) xs
+    → ys ≡ added_in c.args.found.now.high_low xs (unsigned_abs (to_z w64 (of_z w64 c.sum-up.result))) (to_z w128 (of_z w128 c.args.four.now.high_low))
+    → Step c.args.found.now.high_low xs ys (place c (lifted (next_axis c.args.axis) (spot c.args.at.now.cell)))
+    c.args.four.now.high_low (3 * count_of c.args.self.now.size) (2 ^ 110 + 2 ^ 80)
+second c xs ys long room e = let k = known c in step c.args.self.now.size _ _ _ xs ys _ (2 ^ 110 + 2 ^ 80) k.high_low c.requires.small.high_low long room e
 
-at_second_is : (c : After-as_mut_slice-values) → edge_at c.args.self.now c.args.axis (lifted (next_axis c.args.axis) (spot c.args.cell))
-    ≡ slice_index_or c.as_mut_slice-values.result.now (c.place_in-here.result + c.step.result) (pos 0)
-at_second_is c =
-    let k = known c in
-    let at = at_second c.args.self.now c.args.axis (spot c.args.cell) _ _ _ c.requires.here c.requires.there k.place k.second k.third in
-    λ i. slice_index_or (sym k.same i) (sym at i) (pos 0)
+third : (c : After-as_mut_slice-values) (xs : List ℤ) (ys : List ℤ) → length xs ≡ 3 * count_of c.args.self.now.size → AreAtMost (2 ^ 110 + 2 ^ 80 + 2 ^ 80) xs
+    → ys ≡ added_in c.args.found.now.low_high xs (unsigned_abs (to_z w64 (of_z w64 c.sum-high.result))) (to_z w128 (of_z w128 c.args.four.now.low_high))
+    → Step c.args.found.now.low_high xs ys (place c (lifted (next_axis (next_axis c.args.axis)) (spot c.args.at.now.cell)))
+    c.args.four.now.low_high (3 * count_of c.args.self.now.size) (2 ^ 110 + 2 ^ 80 + 2 ^ 80)
+third c xs ys long room e = let k = known c in step c.args.self.now.size _ _ _ xs ys _ (2 ^ 110 + 2 ^ 80 + 2 ^ 80) k.low_high c.requires.small.low_high long room e
 
-at_third_is : (c : After-as_mut_slice-values) → edge_at c.args.self.now c.args.axis (lifted (next_axis (next_axis c.args.axis)) (spot c.args.cell))
-    ≡ slice_index_or c.as_mut_slice-values.result.now (c.place_in-here.result + c.step-2.result) (pos 0)
-at_third_is c =
-    let k = known c in
-    let at = at_third c.args.self.now c.args.axis (spot c.args.cell) _ _ _ c.requires.here c.requires.there k.place k.second k.third in
-    λ i. slice_index_or (sym k.same i) (sym at i) (pos 0)
+fourth : (c : After-as_mut_slice-values) (xs : List ℤ) (ys : List ℤ) → length xs ≡ 3 * count_of c.args.self.now.size → AreAtMost (2 ^ 110 + 2 ^ 80 + 2 ^ 80 + 2 ^ 80) xs
+    → ys ≡ added_in c.args.found.now.high_high xs (unsigned_abs (to_z w64 (of_z w64 c.sum-far.result))) (to_z w128 (of_z w128 c.args.four.now.high_high))
+    → Step c.args.found.now.high_high xs ys (place c (lifted (next_axis c.args.axis) (lifted (next_axis (next_axis c.args.axis)) (spot c.args.at.now.cell))))
+    c.args.four.now.high_high (3 * count_of c.args.self.now.size) (2 ^ 110 + 2 ^ 80 + 2 ^ 80 + 2 ^ 80)
+fourth c xs ys long room e = let k = known c in step c.args.self.now.size _ _ _ xs ys _ (2 ^ 110 + 2 ^ 80 + 2 ^ 80 + 2 ^ 80) k.high_high c.requires.small.high_high long room e
 
-at_both_is : (c : After-as_mut_slice-values)
-    → edge_at c.args.self.now c.args.axis (lifted (next_axis c.args.axis) (lifted (next_axis (next_axis c.args.axis)) (spot c.args.cell)))
-    ≡ slice_index_or c.as_mut_slice-values.result.now (c.place_in-here.result + c.step.result + c.step-3.result) (pos 0)
-at_both_is c =
-    let k = known c in
-    let at = at_both c.args.self.now c.args.axis (spot c.args.cell) _ _ _ c.requires.here c.requires.there k.place k.second k.third in
-    λ i. slice_index_or (sym k.same i) ((sym at ∙ ap (λ (t : ℕ). c.place_in-here.result + c.step.result + t) (sym k.again)) i) (pos 0)
+pub add_at-requires-clause-least : goal.add_at-requires-clause-least
+add_at-requires-clause-least c = (known (goal.at.add_at-requires-clause-least c).After-as_mut_slice-values).low_low.least
 
-pub slice_copy_out-high_low : goal.slice_copy_out-high_low
-slice_copy_out-high_low c = below_second (goal.at.slice_copy_out-high_low c).After-as_mut_slice-values
+pub add_at-requires-clause-below : goal.add_at-requires-clause-below
+add_at-requires-clause-below c =
+    let j = (goal.at.add_at-requires-clause-below c).After-as_mut_slice-values in
+    below_of c.args.self.now.size _ _ _ c.as_mut_slice-values.result.now (known j).whole (known j).low_low
 
-pub overflow_add-high_low : goal.overflow_add-high_low
-overflow_add-high_low c =
-    let here = at_second_is (goal.at.overflow_add-high_low c).After-as_mut_slice-values in
-    held_fits _ c.args.high_low _ (search rules) c.ranges.high_low here c.requires.high_low
+pub add_at-requires-clause-room : goal.add_at-requires-clause-room
+add_at-requires-clause-room c =
+    let j = (goal.at.add_at-requires-clause-room c).After-as_mut_slice-values in
+    are_at_most_more c.as_mut_slice-values.result.now (2 ^ 110) (2 ^ 120) (omega arith) (known j).room
 
-pub slice_copy_out-low_high : goal.slice_copy_out-low_high
-slice_copy_out-low_high c = below_third (goal.at.slice_copy_out-low_high c).After-as_mut_slice-values
+pub add_at-requires-2-clause-least : goal.add_at-requires-2-clause-least
+add_at-requires-2-clause-least c = (known (goal.at.add_at-requires-2-clause-least c).After-as_mut_slice-values).high_low.least
 
-pub overflow_add-low_high : goal.overflow_add-low_high
-overflow_add-low_high c =
-    let here = at_third_is (goal.at.overflow_add-low_high c).After-as_mut_slice-values in
-    held_fits _ c.args.low_high _ (search rules) c.ranges.low_high here c.requires.low_high
+pub add_at-requires-2-clause-below : goal.add_at-requires-2-clause-below
+add_at-requires-2-clause-below c =
+    let j = (goal.at.add_at-requires-2-clause-below c).After-as_mut_slice-values in
+    let one = first j c.add_at.new.values c.add_at.ensures in
+    below_of c.args.self.now.size _ _ _ c.add_at.new.values one.long (known j).high_low
 
-pub slice_copy_out-high_high : goal.slice_copy_out-high_high
-slice_copy_out-high_high c = below_both (goal.at.slice_copy_out-high_high c).After-as_mut_slice-values
+pub add_at-requires-2-clause-room : goal.add_at-requires-2-clause-room
+add_at-requires-2-clause-room c =
+    let j = (goal.at.add_at-requires-2-clause-room c).After-as_mut_slice-values in
+    let one = first j c.add_at.new.values c.add_at.ensures in
+    are_at_most_more c.add_at.new.values (2 ^ 110 + 2 ^ 80) (2 ^ 120) (omega arith) one.room
 
-pub overflow_add-high_high : goal.overflow_add-high_high
-overflow_add-high_high c =
-    let here = at_both_is (goal.at.overflow_add-high_high c).After-as_mut_slice-values in
-    held_fits _ c.args.high_high _ (search rules) c.ranges.high_high here c.requires.high_high
+pub add_at-requires-3-clause-least : goal.add_at-requires-3-clause-least
+add_at-requires-3-clause-least c = (known (goal.at.add_at-requires-3-clause-least c).After-as_mut_slice-values).low_high.least
 
-set_below : (xs : List ℤ) (i j : ℕ) (v : ℤ) → i < length xs → i < length (slice_set xs j v)
-set_below xs i j v h = subst (λ (n : ℕ). i < n) (sym (length-set xs j v)) h
+pub add_at-requires-3-clause-below : goal.add_at-requires-3-clause-below
+add_at-requires-3-clause-below c =
+    let j = (goal.at.add_at-requires-3-clause-below c).After-as_mut_slice-values in
+    let one = first j c.add_at.new.values c.add_at.ensures in
+    let two = second j c.add_at.new.values c.add_at-2.new.values one.long one.room c.add_at-2.ensures in
+    below_of c.args.self.now.size _ _ _ c.add_at-2.new.values two.long (known j).low_high
 
-pub bounds-values-up_second : goal.bounds-values-up_second
-bounds-values-up_second c = set_below _ _ _ _ (below_second (goal.at.bounds-values-up_second c).After-as_mut_slice-values)
+pub add_at-requires-3-clause-room : goal.add_at-requires-3-clause-room
+add_at-requires-3-clause-room c =
+    let j = (goal.at.add_at-requires-3-clause-room c).After-as_mut_slice-values in
+    let one = first j c.add_at.new.values c.add_at.ensures in
+    let two = second j c.add_at.new.values c.add_at-2.new.values one.long one.room c.add_at-2.ensures in
+    are_at_most_more c.add_at-2.new.values (2 ^ 110 + 2 ^ 80 + 2 ^ 80) (2 ^ 120) (omega arith) two.room
 
-pub bounds-values-up_third : goal.bounds-values-up_third
-bounds-values-up_third c = set_below _ _ _ _ (set_below _ _ _ _ (below_third (goal.at.bounds-values-up_third c).After-as_mut_slice-values))
+pub add_at-requires-4-clause-least : goal.add_at-requires-4-clause-least
+add_at-requires-4-clause-least c = (known (goal.at.add_at-requires-4-clause-least c).After-as_mut_slice-values).high_high.least
 
-pub bounds-values-up_both : goal.bounds-values-up_both
-bounds-values-up_both c =
-    set_below _ _ _ _ (set_below _ _ _ _ (set_below _ _ _ _ (below_both (goal.at.bounds-values-up_both c).After-as_mut_slice-values)))
+pub add_at-requires-4-clause-below : goal.add_at-requires-4-clause-below
+add_at-requires-4-clause-below c =
+    let j = (goal.at.add_at-requires-4-clause-below c).After-as_mut_slice-values in
+    let one = first j c.add_at.new.values c.add_at.ensures in
+    let two = second j c.add_at.new.values c.add_at-2.new.values one.long one.room c.add_at-2.ensures in
+    let three = third j c.add_at-2.new.values c.add_at-3.new.values two.long two.room c.add_at-3.ensures in
+    below_of c.args.self.now.size _ _ _ c.add_at-3.new.values three.long (known j).high_high
 
--- an index of the values, times their size in bytes
-fits_at : (c : After-as_mut_slice-values) (i : ℕ) → i < length c.as_mut_slice-values.result.now → Fits w64 (i * 16)
-fits_at c i h = record { fits = omega (arith, h, c.as_mut_slice-values.type_inv.1) }
+pub add_at-requires-4-clause-room : goal.add_at-requires-4-clause-room
+add_at-requires-4-clause-room c =
+    let j = (goal.at.add_at-requires-4-clause-room c).After-as_mut_slice-values in
+    let one = first j c.add_at.new.values c.add_at.ensures in
+    let two = second j c.add_at.new.values c.add_at-2.new.values one.long one.room c.add_at-2.ensures in
+    let three = third j c.add_at-2.new.values c.add_at-3.new.values two.long two.room c.add_at-3.ensures in
+    are_at_most_more c.add_at-3.new.values (2 ^ 110 + 2 ^ 80 + 2 ^ 80 + 2 ^ 80) (2 ^ 120) (omega arith) three.room
 
-pub offset_bounds-values-up_second : goal.offset_bounds-values-up_second
-offset_bounds-values-up_second c = let here = (goal.at.offset_bounds-values-up_second c).After-as_mut_slice-values in fits_at here _ (below_second here)
-
-pub offset_bounds-values-up_third : goal.offset_bounds-values-up_third
-offset_bounds-values-up_third c = let here = (goal.at.offset_bounds-values-up_third c).After-as_mut_slice-values in fits_at here _ (below_third here)
-
-pub offset_bounds-values-up_both : goal.offset_bounds-values-up_both
-offset_bounds-values-up_both c = let here = (goal.at.offset_bounds-values-up_both c).After-as_mut_slice-values in fits_at here _ (below_both here)
-
-pub offset_bounds-values-up_second-2 : goal.offset_bounds-values-up_second-2
-offset_bounds-values-up_second-2 c = let here = (goal.at.offset_bounds-values-up_second-2 c).After-as_mut_slice-values in fits_at here _ (below_second here)
-
-pub offset_bounds-values-up_third-2 : goal.offset_bounds-values-up_third-2
-offset_bounds-values-up_third-2 c = let here = (goal.at.offset_bounds-values-up_third-2 c).After-as_mut_slice-values in fits_at here _ (below_third here)
-
-pub offset_bounds-values-up_both-2 : goal.offset_bounds-values-up_both-2
-offset_bounds-values-up_both-2 c = let here = (goal.at.offset_bounds-values-up_both-2 c).After-as_mut_slice-values in fits_at here _ (below_both here)
-
--- the values with four of them changed
-abbrev written : List ℤ → ℕ → ℕ → ℕ → ℕ → ℤ → ℤ → ℤ → ℤ → List ℤ
-written xs p q r s a b c d = slice_set (slice_set (slice_set (slice_set xs p a) q b) r c) s d
-
--- the sum of what two words hold, in a word
-abbrev held : ℤ → ℤ → ℤ
-held x y = to_z w128 (of_z w128 (to_z w128 (of_z w128 x) +ℤ to_z w128 (of_z w128 y)))
-
-abbrev at : (c : After-as_mut_slice-values) → ℕ → ℤ
-at c p = slice_index_or c.as_mut_slice-values.result.now p (pos 0)
-
-abbrev new_values : After-as_mut_slice-values → List ℤ
-new_values c =
-    let p = c.place_in-here.result in
-    let q = p + c.step.result in
-    let r = p + c.step-2.result in
-    let s = q + c.step-3.result in
-    written c.as_mut_slice-values.result.now p q r s (held (at c p) c.args.low_low) (held (at c q) c.args.high_low) (held (at c r) c.args.low_high)
-    (held (at c s) c.args.high_high)
-
-written_length : (xs : List ℤ) (p q r s : ℕ) (a b c d : ℤ) → length (written xs p q r s a b c d) ≡ length xs
-written_length xs p q r s a b c d = length-set _ s d ∙ length-set _ r c ∙ length-set _ q b ∙ length-set xs p a
-
-items : (c : After-as_mut_slice-values) → (with_items c.self.inside.values (new_values c)).items ≡ new_values c
-items c = with_items_is c.self.inside.values (new_values c) (written_length _ _ _ _ _ _ _ _ _ ∙ c.as_mut_slice-values.ensures.len)
-
-pub invariant_of-self : goal.invariant_of-self
-invariant_of-self c =
-    let k = (goal.at.invariant_of-self c).After-as_mut_slice-values in
-    ap length (items k) ∙ written_length _ _ _ _ _ _ _ _ _ ∙ ap length c.as_mut_slice-values.ensures.value ∙ c.self.invariant
-
-pub returns : goal.returns
-returns c =
-    let j = (goal.at.returns c).After-as_mut_slice-values in
-    let k = known j in
+pub returns-clause-values : goal.returns-clause-values
+returns-clause-values c =
+    let j = (goal.at.returns-clause-values c).After-as_mut_slice-values in
     let b = c.args.self.now in
-    let xs = c.as_mut_slice-values.result.now in
-    let p = c.place_in-here.result in
-    let q = p + c.step.result in
-    let r = p + c.step-2.result in
-    let s = q + c.step-3.result in
-    let first = held_sum (at j p) c.args.low_low _ (search rules) c.ranges.low_low (at_here_is j) c.requires.low_low in
-    let second = held_sum (at j q) c.args.high_low _ (search rules) c.ranges.high_low (at_second_is j) c.requires.high_low in
-    let third = held_sum (at j r) c.args.low_high _ (search rules) c.ranges.low_high (at_third_is j) c.requires.low_high in
-    let fourth = held_sum (at j s) c.args.high_high _ (search rules) c.ranges.high_high (at_both_is j) c.requires.high_high in
-    let sums = items j ∙ (λ i. written xs p q r s (first i) (second i) (third i) (fourth i)) in
-    (λ i. record { low = (c.self.view_is i).low; size = (c.self.view_is i).size; values = sums i })
-    ∙ (λ i. record b {
-      values = written xs p q r (q + k.again i) (at j p +ℤ c.args.low_low) (at j q +ℤ c.args.high_low) (at j r +ℤ c.args.low_high)
-          (at j (q + k.again i) +ℤ c.args.high_high);
-    })
-    ∙ four_is b c.args.axis (spot c.args.cell) p c.step.result c.step-2.result c.requires.here c.requires.there k.place k.second k.third xs c.args.low_low
-    c.args.high_low c.args.low_high c.args.high_high k.same
+    let a = c.args.axis in
+    let cell = spot c.args.at.now.cell in
+    let f = c.args.found.now in
+    let v = c.args.four.now in
+    let one = first j c.add_at.new.values c.add_at.ensures in
+    let two = second j c.add_at.new.values c.add_at-2.new.values one.long one.room c.add_at-2.ensures in
+    let three = third j c.add_at-2.new.values c.add_at-3.new.values two.long two.room c.add_at-3.ensures in
+    let four = fourth j c.add_at-3.new.values c.add_at-4.new.values three.long three.room c.add_at-4.ensures in
+    let second = next_axis a in
+    let third = next_axis second in
+    let q = place j (lifted second cell) in
+    let r = place j (lifted third cell) in
+    let s = place j (lifted second (lifted third cell)) in
+    let sums = four.is
+    ∙ ap (λ (xs : List ℤ). added_in f.high_high xs s v.high_high) (three.is
+    ∙ ap (λ (xs : List ℤ). added_in f.low_high xs r v.low_high) (two.is
+    ∙ ap (λ (xs : List ℤ). added_in f.high_low xs q v.high_low) (one.is
+    ∙ ap (λ (xs : List ℤ). added_in f.low_low xs (place j cell) v.low_low) (known j).same))) in
+    let items : (with_items c.self.inside.values c.add_at-4.new.values).items ≡ c.add_at-4.new.values =
+    with_items_is c.self.inside.values c.add_at-4.new.values (four.long ∙ sym (known j).whole ∙ c.as_mut_slice-values.ensures.len) in
+    λ i. record { low = (c.self.view_is i).low; size = (c.self.view_is i).size; values = (items ∙ sums) i }
