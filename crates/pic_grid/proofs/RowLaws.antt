@@ -3,12 +3,13 @@ use Rattle.std.proofs.Common.{◌≡◌, ℕ, ℤ, pos, ◌+◌, ◌-◌, ◌*�
 use Rattle.std.proofs.lemmas.Bool.{cases_lt}
 use Rattle.std.proofs.Math.Nat.{mul-le-mul_right}
 use Rattle.std.proofs.lemmas.Nat.{mul-add-lt}
-use Rattle.std.proofs.lemmas.List.{length-append, length-take-le, length-drop, get_or-take, get_or-drop, get_or_append_left, get_or-append_right, drop-drop}
+use Rattle.std.proofs.lemmas.List.{length-append, length-take-le, length-drop, get_or-take, get_or-drop, get_or_append_left, get_or-append_right, drop-drop, take_at}
 use Rattle.pic_num.specs.declared.axis.Axis.{Axis}
 use Rattle.pic_num.specs.Space.{Triple, axis_number}
 use Rattle.pic_num.proofs.AxisLaws.{axis_below}
 use Rattle.pic_grid.specs.Cells.{IsWithin, count_of, index_of, place_of}
 use Rattle.pic_grid.specs.Block.{BlockValues, inner_at}
+use Rattle.pic_grid.specs.Lending.{with_values}
 use Rattle.pic_grid.specs.Rows.{row_of, with_row}
 use Rattle.pic_grid.proofs.CellLaws.{place_of_same}
 
@@ -16,6 +17,9 @@ use Rattle.pic_grid.proofs.CellLaws.{place_of_same}
 pub place_of-row : (n : Triple) (a : Axis) (x y z : ℕ) → place_of n a (record { x = x; y = y; z = z }) ≡ row_of n a y z + x
 unfolding place_of index_of
 place_of-row n a x y z = omega arith
+
+pub place_of-along : (n : Triple) (a : Axis) (p : Triple) (i : ℕ) → place_of n a (record p { x = p.x + i }) ≡ place_of n a p + i
+place_of-along n a p i = let row = place_of-row n a (p.x + i) p.y p.z in let first = place_of-row n a p.x p.y p.z in omega (arith, row, first)
 
 -- and end among those of the box
 pub row_fits : (n : Triple) (a : Axis) (y z : ℕ) → y < n.y → z < n.z → row_of n a y z + n.x ≤ 3 * count_of n
@@ -31,8 +35,15 @@ pub row_start : (n : Triple) (a : Axis) (y z : ℕ) → row_of n a y z ≡ (axis
 unfolding place_of index_of
 row_start n a y z = omega arith
 
-part_at : (xs : List ℤ) (start k i : ℕ) → i < k → slice_index_or (take k (drop start xs)) i (pos 0) ≡ slice_index_or xs (start + i) (pos 0)
+-- what is read of a part,
+pub part_at : (xs : List ℤ) (start k i : ℕ) → i < k → slice_index_or (take k (drop start xs)) i (pos 0) ≡ slice_index_or xs (start + i) (pos 0)
 part_at xs start k i h = get_or-take k (drop start xs) i (pos 0) h ∙ get_or-drop start xs i (pos 0)
+
+-- and how long it is
+pub part_long : (xs : List ℤ) (start k : ℕ) → start + k ≤ length xs → length (take (start + k - start) (drop start xs)) ≡ k
+part_long xs start k fits =
+    let rest = length-drop start xs in
+    length-take-le (start + k - start) (drop start xs) (omega (arith, rest)) ∙ omega arith
 
 -- what is read of a row
 pub row_value : (b : BlockValues) (values : List ℤ) (start k : ℕ) (a : Axis) (x y z : ℕ) → values ≡ b.values → start ≡ row_of b.size a y z → x < k
@@ -59,6 +70,15 @@ written_length values row start k fits size =
     let behind = length-drop start values in
     let all = length-append (take start values) (row ++ drop k (drop start values)) in
     omega (arith, front, rest, behind, all, length-append row (drop k (drop start values)))
+
+-- and of a block whose values were lent for it
+pub row_given : (b : BlockValues) (values row : List ℤ) (start k : ℕ) (a : Axis) (y z : ℕ) → values ≡ b.values → start ≡ row_of b.size a y z → k ≡ b.size.x
+    → start + k ≤ length values → length row ≡ k → with_values b (take start values ++ (row ++ drop k (drop start values))) ≡ with_row b a y z row
+row_given b values row start k a y z same at size fits long =
+    let written = take start values ++ (row ++ drop k (drop start values)) in
+    let whole : length written ≡ length b.values = written_length values row start k fits long ∙ ap length same in
+    let all = take_at written (drop (length written) b.values) (length b.values) whole in
+    (λ i. record b { values = all i }) ∙ row_written b values row start k a y z same at size
 
 -- a component isn't one of the row on an axis at the layers y and z
 pub record IsOff (axis : Axis) (y z : ℕ) (a : Axis) (p : Triple) : Type 0 where

@@ -1,7 +1,7 @@
 -- Runs of a lattice: the cells from one to the end of its part lie in one block, side by side.
-use Rattle.std.proofs.Common.{◌≡◌, ℕ, ℤ, pos, ◌+◌, ◌*◌, ◌/◌, ◌%◌, ◌<◌, ◌≤◌, ◌-ℤ◌, List, length, slice_index_or, unsigned_abs, sym, ◌∙◌, ap, subst, arith}
+use Rattle.std.proofs.Common.{◌≡◌, ℕ, ℤ, pos, ◌+◌, ◌*◌, ◌/◌, ◌%◌, ◌<◌, ◌≤◌, ◌-ℤ◌, List, slice_index_or, unsigned_abs, sym, ◌∙◌, ap, subst, arith}
 use Rattle.std.proofs.lemmas.Int.{ints}
-use Rattle.std.proofs.lemmas.Nat.{div-add-mod', div-mul-add, mod_below}
+use Rattle.std.proofs.lemmas.Nat.{div-add-mod', div-mul-add}
 use Rattle.std.proofs.Math.Nat.{mul-le-mul_right}
 use Rattle.pic_num.specs.declared.axis.Axis.{Axis}
 use Rattle.pic_num.specs.Space.{Triple, Spot, unwrapped}
@@ -53,22 +53,7 @@ module _ (n parts : Triple) (blocks : List BlockValues) (p : Triple) (h : IsCell
     low : b.low.x ≡ pos (p.x / s.x * s.x)
     low = ap (λ (l : Spot). l.x) here.low
 
-    -- a run from the cell p ends with the part,
-    pub run_end : (length : ℕ) → (inner_of b.low (unwrapped p)).x + length ≡ b.size.x → p.x + length ≡ part_end s.x p.x
-    run_end length end =
-        let whole : p.x / s.x * s.x + p.x % s.x ≡ p.x = div-add-mod' p.x s.x in
-        let inner : (inner_of b.low (unwrapped p)).x ≡ p.x % s.x = ap (λ (l : ℤ). unsigned_abs (pos p.x -ℤ l)) low ∙ above_corner s.x p.x in
-        let size : b.size.x ≡ s.x = ap (λ (m : Triple). m.x) here.size in
-        omega arith
-
-    -- which has the cell,
-    pub run_some : p.x < part_end s.x p.x
-    run_some =
-        let whole : p.x / s.x * s.x + p.x % s.x ≡ p.x = div-add-mod' p.x s.x in
-        let rest : p.x % s.x < s.x = mod_below p.x s.x (omega (arith, some)) in
-        omega arith
-
-    -- and lies among the cells
+    -- the part of the cell p ends among the cells, as does a run from there,
     pub run_inside : part_end s.x p.x ≤ n.x
     run_inside =
         let part : p.x / s.x < parts.x = (part_of_within n parts p h k w).x in

@@ -1,18 +1,21 @@
 -- Places of a lattice by three slots: the sums of their shares are the number of the cell's part and
 -- the number of its place in the part's block.
-use Rattle.std.proofs.Common.{◌≡◌, ℕ, pos, ◌+◌, ◌*◌, ◌/◌, ◌%◌, ◌<◌, List, length, slice_index_or, sym, ◌∙◌, ap, subst, arith}
+use Rattle.std.proofs.Common.{◌≡◌, ℕ, pos, ◌+◌, ◌-◌, ◌*◌, ◌/◌, ◌%◌, ◌<◌, ◌≤◌, List, length, drop, take, slice_index_or, sym, ◌∙◌, ap, subst, arith}
+use Rattle.std.proofs.lemmas.Nat.{div-add-mod'}
 use Rattle.pic_num.specs.declared.axis.Axis.{Axis}
-use Rattle.pic_num.specs.Space.{Triple, axis_number, unwrapped}
+use Rattle.pic_num.specs.Space.{Triple, Spot, axis_number, unwrapped}
 use Rattle.pic_grid.specs.declared.slot.Slot.{Slot}
-use Rattle.pic_grid.specs.Block.{BlockValues, inner_of, edge_at}
+use Rattle.pic_grid.specs.Block.{BlockValues, inner_of, edge_at, inner_at}
 use Rattle.pic_grid.specs.Cells.{Grid, IsWithin, count_of, index_of, place_of}
 use Rattle.pic_grid.specs.Lattice.{Field, value_at}
 use Rattle.pic_grid.specs.Parts.{part_size, part_of, corner_of, IsPart, IsLattice, joined}
+use Rattle.pic_grid.specs.Rows.{part_end}
 use Rattle.pic_grid.specs.Slot.{IsSlotX, IsSlotY, IsSlotZ}
 use Rattle.pic_grid.proofs.BlockLaws.{inner_within}
 use Rattle.pic_grid.proofs.CellLaws.{place_of_below}
 use Rattle.pic_grid.proofs.PartLaws.{block_of, block_has, lattice_below, lattice_block, value_at-joined}
-use Rattle.pic_grid.proofs.RunLaws.{here, above_corner}
+use Rattle.pic_grid.proofs.RowLaws.{place_of-row, place_of-along, row_fits, part_at}
+use Rattle.pic_grid.proofs.RunLaws.{here, above_corner, run_inside, run_value}
 
 number_sum : (a b c px py : ℕ) → a * 1 + b * px + c * (px * py) ≡ (c * py + b) * px + a
 number_sum a b c px py = omega arith
@@ -89,11 +92,14 @@ module _ (n parts s : Triple) (blocks : List BlockValues) (x y z : Slot) (l : Is
             ∙ ap (place_of (part_size n parts) a) (sym inner_is)
             ∙ sym (λ i. place_of (zone.size i) a (inner_of (zone.low i) (unwrapped p)))
 
+        has : IsWithin (inner_of b.low (unwrapped p)) b.size
+        has =
+            subst (λ (c : BlockValues). IsWithin (inner_of c.low (unwrapped p)) c.size) (sym block)
+            (inner_within _ _ (unwrapped p) (block_has n parts blocks p l.cells l.parts_fit l.zones slots_within))
+
         -- which has the cell's place,
         pub slots_place : (a : Axis) → length b.values ≡ 3 * count_of b.size → axis_number a * count_of s + place < length b.values
         slots_place a size =
-            let has = subst (λ (c : BlockValues). IsWithin (inner_of c.low (unwrapped p)) c.size) (sym block)
-            (inner_within _ _ (unwrapped p) (block_has n parts blocks p l.cells l.parts_fit l.zones slots_within)) in
             let below = place_of_below b.size a (inner_of b.low (unwrapped p)) has in
             omega (arith, below, size, at a)
 
@@ -104,3 +110,44 @@ module _ (n parts s : Triple) (blocks : List BlockValues) (x y z : Slot) (l : Is
             ap (λ (m : ℕ). slice_index_or b.values m (pos 0)) (at a)
             ∙ ap (λ (c : BlockValues). edge_at c a (unwrapped p)) block
             ∙ sym (value_at-joined (record { n = n; side = side }) parts blocks a p slots_within)
+
+        inner_x : (inner_of b.low (unwrapped p)).x ≡ x.place
+        inner_x =
+            let own : x.index % (part_size n parts).x ≡ x.place = omega (arith, on.x.place) in
+            ap (λ (low : Spot). (inner_of low (unwrapped p)).x) zone.low ∙ ap (λ (m : Triple). m.x) inner_is ∙ own
+
+        size_x : b.size.x ≡ s.x
+        size_x = ap (λ (m : Triple). m.x) zone.size ∙ ap (λ (m : Triple). m.x) (sym l.layers)
+
+        place_in : x.place < s.x
+        place_in = omega (arith, has.x, inner_x, size_x)
+
+        -- the row from there on ends among the block's places,
+        pub slots_row : (a : Axis) → length b.values ≡ 3 * count_of b.size → axis_number a * count_of s + place + (s.x - x.place) ≤ length b.values
+        slots_row a size =
+            let q = inner_of b.low (unwrapped p) in
+            let first = place_of-row b.size a q.x q.y q.z in
+            let fits = row_fits b.size a q.y q.z has.y has.z in
+            omega (arith, at a, first, fits, size, inner_x, size_x, place_in)
+
+        -- with the part,
+        pub slots_end : x.index + (s.x - x.place) ≡ part_end (part_size n parts).x x.index
+        slots_end =
+            let whole : x.index / (part_size n parts).x * (part_size n parts).x + x.index % (part_size n parts).x ≡ x.index =
+            div-add-mod' x.index (part_size n parts).x in
+            let layers : s.x ≡ (part_size n parts).x = ap (λ (m : Triple). m.x) l.layers in
+            omega (arith, on.x.place, place_in)
+
+        pub slots_inside : x.index + (s.x - x.place) ≤ n.x
+        slots_inside = subst (λ (m : ℕ). m ≤ n.x) (sym slots_end) (run_inside n parts blocks p l.cells l.parts_fit l.zones slots_within)
+
+        -- and has the values of the lattice
+        pub slots_run : (side : ℕ) (a : Axis) (k i : ℕ) → i < k → x.index + i < part_end (part_size n parts).x x.index
+            → slice_index_or (take k (drop (axis_number a * count_of s + place) b.values)) i (pos 0)
+            ≡ value_at (joined (record { n = n; side = side }) parts blocks) a (record p { x = x.index + i })
+        slots_run side a k i below inside =
+            part_at b.values (axis_number a * count_of s + place) k i below
+            ∙ ap (λ (m : ℕ). slice_index_or b.values (m + i) (pos 0)) (at a)
+            ∙ ap (λ (m : ℕ). slice_index_or b.values m (pos 0)) (sym (place_of-along b.size a (inner_of b.low (unwrapped p)) i))
+            ∙ ap (λ (c : BlockValues). inner_at c a (record (inner_of c.low (unwrapped p)) { x = (inner_of c.low (unwrapped p)).x + i })) block
+            ∙ run_value n parts blocks p l.cells l.parts_fit l.zones slots_within side a i inside

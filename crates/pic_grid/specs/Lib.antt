@@ -6,6 +6,7 @@ pub mod Lattice
 pub mod Block
 pub mod Rows
 pub mod Fours
+pub mod Lending
 pub mod Parts
 pub mod BlockLayers
 pub mod Tiles

@@ -1,9 +1,11 @@
 //! Rows of a block: the places of one component side by side in x.
 
 ghost use Rattle.std.specs.Prelude.{◌≡◌, ℕ, pos, ◌+◌, ◌*◌, ◌^◌, ◌<◌, ◌≤◌, length, slice_index_or};
+ghost use Rattle.std.specs.Borrow.{sem};
 ghost use Rattle.pic_num.specs.Space.{triple, spot};
 ghost use Rattle.pic_grid.specs.Cells.{IsWithin, count_of};
 ghost use Rattle.pic_grid.specs.Block.{InZone, inner_of, inner_at};
+ghost use Rattle.pic_grid.specs.Lending.{LendsValues};
 ghost use Rattle.pic_grid.specs.Rows.{row_of, with_row};
 
 use crate::block::{Block, above};
@@ -34,11 +36,33 @@ impl Block {
         requires length { length row.now ≡ self.old.size.x }
         ensures { self.new ≡ with_row self.old axis y z row.now }
     {
-        let start = row_start(self.zone.size, axis, y, z);
-        let [nx, _, _] = self.zone.size;
-        let values = self.values.as_mut_slice();
-        let part = &mut values[start..start + nx as usize];
-        part.copy_from_slice(row);
+        let start = self.row_start(axis, y, z);
+        let values = self.values_mut();
+        values[start..start + row.len()].copy_from_slice(row);
+    }
+
+    /// The number, among the block's components, of the first on `axis` along the row at the layers `y`
+    /// and `z`, counted from the zone's lowest.
+    #[inline(always)]
+    pub fn row_start(&self, axis: Axis, y: u32, z: u32) -> usize
+        requires y { y < self.now.size.y }
+        requires z { z < self.now.size.z }
+        ensures value { result ≡ row_of self.now.size axis y z }
+        ensures end { result + self.now.size.x ≤ length self.now.values }
+    {
+        let _count = self.values.len();
+        row_start(self.zone.size, axis, y, z)
+    }
+
+    /// The components, for writing: x fastest, then y, z and the axis. The rows stand where `row_start`
+    /// finds them.
+    #[inline(always)]
+    pub fn values_mut(&mut self) -> &mut [i128]
+        ensures* writes_back { sem 𝓛 (LendsValues self.entry result) }
+        ensures value { result.now ≡ self.old.values }
+        ensures shape { length result.now ≡ 3 * count_of self.old.size }
+    {
+        self.values.as_mut_slice()
     }
 
     /// The components on `axis` from `cell`, one of the zone's, to the end of its row.

@@ -7,9 +7,10 @@ ghost use Rattle.pic_grid.specs.Cells.{IsWithin};
 ghost use Rattle.pic_grid.specs.Lattice.{value_at};
 ghost use Rattle.pic_grid.specs.Parts.{part_size, layered, IsLayer};
 ghost use Rattle.pic_grid.specs.Rows.{part_end};
+ghost use Rattle.pic_grid.specs.Slot.{IsSlotX, IsSlotY, IsSlotZ};
 
 use crate::lattice::Lattice;
-use crate::parts::part_in;
+use crate::slot::Slot;
 use pic_num::Axis;
 
 impl Lattice {
@@ -23,9 +24,32 @@ impl Lattice {
         ensures values { (i : ℕ) → i < length result.now → slice_index_or result.now i (pos 0)
             ≡ value_at self.now axis (record (triple cell) { x = (triple cell).x + i }) }
     {
-        let part = part_in(self.parts, self.layers, self.factors, cell);
+        let [x, y, z] = cell;
+        self.run_at(axis, self.slot_x(x), self.slot_y(y), self.slot_z(z))
+    }
+
+    /// The components on `axis` from the cell of three slots along its row to the end of its part, found
+    /// by what the slots add and not by a division.
+    #[inline(always)]
+    pub fn run_at(&self, axis: Axis, x: Slot, y: Slot, z: Slot) -> &[i128]
+        requires x { IsSlotX self.now.cells self.now.parts x }
+        requires y { IsSlotY self.now.cells self.now.parts y }
+        requires z { IsSlotZ self.now.cells self.now.parts z }
+        ensures end { x.index + length result.now
+            ≡ part_end (part_size self.now.cells self.now.parts).x x.index }
+        ensures some { 0 < length result.now }
+        ensures inside { x.index + length result.now ≤ self.now.cells.x }
+        ensures values { (i : ℕ) → i < length result.now → slice_index_or result.now i (pos 0)
+            ≡ value_at self.now axis (record { x = x.index + i; y = y.index; z = z.index }) }
+    {
+        let [layers_x, layers_y, layers_z] = self.layers;
+        let count = layers_x as usize * layers_y as usize * layers_z as usize;
+        let part = x.part as usize + y.part as usize + z.part as usize;
+        let place = x.place as usize + y.place as usize + z.place as usize;
         let block = &self.blocks[part];
-        block.run(axis, self.cells.unwrapped(cell))
+        let values = block.values.as_slice();
+        let start = axis.number() as usize * count + place;
+        &values[start..start + (layers_x - x.place) as usize]
     }
 
     /// Whether each layer of z is a part of its own.
