@@ -1,27 +1,27 @@
 -- A value at one edge: what it is, and what a write of it does to a block.
-use Rattle.std.proofs.Common.{◌≡◌, ◌≢◌, ℕ, ◌⊎◌, ◌+◌, ◌*◌, ◌^◌, ◌≤◌, length, Bool, true, false, ◌&&◌, unsigned_abs, inl, inr, refl, ap, sym, subst, ◌∙◌, arith}
+use Rattle.std.proofs.Common.{◌≡◌, ◌≢◌, ℕ, ◌⊎◌, ◌+◌, ◌*◌, ◌≤◌, length, Bool, true, false, ◌&&◌, unsigned_abs, inl, inr, refl, ap, sym, subst, ◌∙◌, arith}
 use Rattle.std.proofs.Math.IntN.{ℤ, pos, ◌+ℤ◌}
 use Rattle.std.specs.Prelude.{if◌then◌else◌, ◌≤ℤ◌, ◌<ℤ◌, ◌↔◌, IsTrue}
-use Rattle.std.proofs.lemmas.Bool.{cases_Bool, and_parts, and_from, both_ways}
+use Rattle.std.proofs.lemmas.Bool.{cases_Bool, and_parts, and_from, both_ways, false≢true}
 use Rattle.std.proofs.lemmas.Int.{ints}
 use Rattle.pic_num.specs.declared.axis.Axis.{Axis}
 use Rattle.pic_num.specs.declared.axis.Axis.TheVariants.{X, Y, Z}
 use Rattle.pic_num.specs.Sizes.{IsAtMost}
 use Rattle.pic_num.specs.Space.{Triple, Spot, next_axis}
-use Rattle.pic_num.proofs.SizeLaws.{codes, code_fits}
-use Rattle.std.proofs.lemmas.List.{length-set}
-use mir.Syntax.{w128}
-use mir.Val.{SFits}
 use Rattle.pic_num.proofs.ProductLaws.{plus_none}
 use Rattle.pic_grid.specs.Path.{same_int}
 use Rattle.pic_grid.specs.Cells.{count_of, place_of}
-use Rattle.pic_grid.specs.Rows.{added, lifted, four_added}
-use Rattle.pic_grid.proofs.FourLaws.{between_second, between_third}
-use Rattle.pic_grid.specs.Block.{BlockValues, InZone, IsShaped, AllAtMost, inner_of, edge_at, with_edge}
-use Rattle.pic_grid.proofs.BlockLaws.{in_zone_shaped, shaped_twice, edge_same, edge_at-same, edge_at-other}
-use Rattle.pic_grid.proofs.ShapeLaws.{shaped_back}
-use Rattle.pic_flux.proofs.AddsLaws.{adds_twice, adds_grow}
+use Rattle.pic_grid.specs.Fours.{IsBase, AreFound, added_in, added_where, four_added}
+use Rattle.pic_grid.specs.Rows.{lifted}
+use Rattle.pic_grid.specs.declared.base.Base.{Base}
+use Rattle.pic_grid.specs.declared.fours.Four.{Four}
+use Rattle.pic_grid.specs.declared.fours.Found.{Found}
+use Rattle.pic_grid.proofs.FourLaws.{length-added_in}
+use Rattle.pic_grid.specs.Block.{BlockValues, InZone, IsShaped, inner_of, edge_at, with_edge}
+use Rattle.pic_grid.proofs.BlockLaws.{in_zone_shaped, edge_same, edge_at-same, edge_at-other}
+use Rattle.pic_flux.proofs.AddsLaws.{adds_twice}
 use Rattle.pic_flux.specs.Adds.{Adds}
+use Rattle.pic_flux.specs.CellFlux.{at_four, all_four}
 use Rattle.pic_flux.specs.Corners.{HasEdges, same_axis, same_spot, at_edge, at_corners, both}
 use Rattle.pic_grid.proofs.PathLaws.{same_int-same, same_int-true}
 
@@ -149,69 +149,53 @@ missed b axis there v outside = record { at = λ a c z. go a c z (cases_Bool (is
     go a c z (inr e) =
         plus_none (edge_at b a c) (at_edge axis there v a c) (at_edge-elsewhere axis there v a c e)
 
--- values added to the four edges along an axis round a cell, one after the other
-shape_of : (b : BlockValues) (a : Axis) (c : Spot) (v : ℤ) → IsShaped b (added b a c v)
-shape_of b a c v = record { low = refl; size = refl }
+-- a value added where a test holds, which tells whether the zone has the edge
+added_true : (b : BlockValues) (a : Axis) (c : Spot) (v : ℤ) → added_where true b a c v ≡ with_edge b a c (edge_at b a c +ℤ v)
+unfolding added_in
+added_true b a c v = refl
 
-length_of : (b : BlockValues) (a : Axis) (c : Spot) (v : ℤ) → length b.values ≡ 3 * count_of b.size → length (added b a c v).values ≡ 3 * count_of b.size
-length_of b a c v long = length-set b.values (place_of b.size a (inner_of b.low c)) (edge_at b a c +ℤ v) ∙ long
+added_false : (b : BlockValues) (a : Axis) (c : Spot) (v : ℤ) → added_where false b a c v ≡ b
+unfolding added_in
+added_false b a c v = refl
 
-one_added : (b : BlockValues) (a : Axis) (c : Spot) (v : ℤ) → InZone b.low b.size c → length b.values ≡ 3 * count_of b.size
-    → Adds b (added b a c v) (at_edge a c v)
-one_added b a c v inside long =
-    added_at b (added b a c v) a c v (edge_at b a c +ℤ v) inside refl (edge_at-same b a c (edge_at b a c +ℤ v) inside long)
+where_adds : (found : Bool) (b : BlockValues) (a : Axis) (c : Spot) (v : ℤ) → length b.values ≡ 3 * count_of b.size → IsTrue found ↔ InZone b.low b.size c
+    → Adds b (added_where found b a c v) (at_edge a c v)
+where_adds true b a c v long has =
+    let inside = has.0 refl in
+    let stored = edge_at-same b a c (edge_at b a c +ℤ v) inside long in
+    added_at b (added_where true b a c v) a c v (edge_at b a c +ℤ v) inside (added_true b a c v)
+    (ap (λ (d : BlockValues). edge_at d a c) (added_true b a c v) ∙ stored)
+where_adds false b a c v long has =
+    subst (λ (d : BlockValues). Adds b d (at_edge a c v)) (sym (added_false b a c v)) (missed b a c v (λ z. false≢true (has.1 z)))
 
-pub four_adds : (b : BlockValues) (a : Axis) (c : Spot) (v w x y : ℤ) → length b.values ≡ 3 * count_of b.size → InZone b.low b.size c
-    → InZone b.low b.size (lifted (next_axis a) (lifted (next_axis (next_axis a)) c))
-    → Adds b (four_added b a c v w x y) (at_corners a c v w x y)
-four_adds b a c v w x y long here there =
+-- values added to the four edges along an axis round a cell, of those that are found
+pub four_adds : (b : BlockValues) (a : Axis) (c : Spot) (found : Found) (f : Four) → length b.values ≡ 3 * count_of b.size
+    → AreFound b.low b.size a c found → Adds b (four_added b a c found f) (at_four a c f)
+four_adds b a c found f long has =
     let second = next_axis a in
     let third = next_axis second in
-    let one = added b a c v in
-    let two = added one a (lifted second c) w in
-    let three = added two a (lifted third c) x in
-    let four = added three a (lifted second (lifted third c)) y in
-    let one_long = length_of b a c v long in
-    let two_long = length_of one a (lifted second c) w one_long in
-    let three_long = length_of two a (lifted third c) x two_long in
-    let first = one_added b a c v here long in
-    let up_second = one_added one a (lifted second c) w (between_second b.low b.size a c here there) one_long in
-    let up_third = one_added two a (lifted third c) x (between_third b.low b.size a c here there) two_long in
-    let up_both = one_added three a (lifted second (lifted third c)) y there three_long in
-    adds_twice b two four (both (at_edge a c v) (at_edge a (lifted second c) w))
-    (both (at_edge a (lifted third c) x) (at_edge a (lifted second (lifted third c)) y)) (record { low = refl; size = refl })
-    (adds_twice b one two (at_edge a c v) (at_edge a (lifted second c) w) (shape_of b a c v) first up_second)
-    (adds_twice two three four (at_edge a (lifted third c) x) (at_edge a (lifted second (lifted third c)) y)
-    (shape_of two a (lifted third c) x) up_third up_both)
+    let up = lifted second c in
+    let high = lifted third c in
+    let far = lifted second high in
+    let one = added_where found.low_low b a c f.low_low in
+    let two = added_where found.high_low one a up f.high_low in
+    let three = added_where found.low_high two a high f.low_high in
+    let four = added_where found.high_high three a far f.high_high in
+    let one_long = length-added_in found.low_low b.values (place_of b.size a (inner_of b.low c)) f.low_low ∙ long in
+    let two_long = length-added_in found.high_low one.values (place_of b.size a (inner_of b.low up)) f.high_low ∙ one_long in
+    let three_long = length-added_in found.low_high two.values (place_of b.size a (inner_of b.low high)) f.low_high ∙ two_long in
+    adds_twice b two four (both (at_edge a c f.low_low) (at_edge a up f.high_low))
+    (both (at_edge a high f.low_high) (at_edge a far f.high_high)) (record { low = refl; size = refl })
+    (adds_twice b one two (at_edge a c f.low_low) (at_edge a up f.high_low) (record { low = refl; size = refl })
+    (where_adds found.low_low b a c f.low_low long has.low_low)
+    (where_adds found.high_low one a up f.high_low one_long has.high_low))
+    (adds_twice two three four (at_edge a high f.low_high) (at_edge a far f.high_high) (record { low = refl; size = refl })
+    (where_adds found.low_high two a high f.low_high two_long has.low_high)
+    (where_adds found.high_high three a far f.high_high three_long has.high_high))
 
--- a value added to an edge makes no value larger than by it
-pub one_more : (old now : BlockValues) (axis : Axis) (there : Spot) (v : ℤ) (n m : ℕ) → IsShaped old now → Adds old now (at_edge axis there v) → IsAtMost v m
-    → AllAtMost n old → AllAtMost (n + m) now
-one_more old now axis there v n m s added small room = adds_grow old now (at_edge axis there v) n m s added (at_edge_most axis there v m small) room
-
--- which cells a zone has stays
-pub found_on : (old now : BlockValues) (b : Bool) (c d : Spot) → IsShaped old now → c ≡ d → IsTrue b ↔ InZone old.low old.size d
-    → IsTrue b ↔ InZone now.low now.size c
-found_on old now b c d s e found = (
-  λ yes. subst (λ (p : Spot). InZone now.low now.size p) (sym e) (in_zone_shaped old now d s (found.0 yes)),
-  λ inside. found.1 (in_zone_shaped now old d (shaped_back old now s) (subst (λ (p : Spot). InZone now.low now.size p) e inside)),
-)
-
--- values added to one edge after the other of the four along an axis round a cell
-pub one_by_one : (old one two three four : BlockValues) (a : Axis) (c : Spot) (v w x y : ℤ)
-    → IsShaped old one → IsShaped one two → IsShaped two three
-    → Adds old one (at_edge a c v)
-    → Adds one two (at_edge a (lifted (next_axis a) c) w)
-    → Adds two three (at_edge a (lifted (next_axis (next_axis a)) c) x)
-    → Adds three four (at_edge a (lifted (next_axis a) (lifted (next_axis (next_axis a)) c)) y)
-    → Adds old four (at_corners a c v w x y)
-one_by_one old one two three four a c v w x y s t u here up high far =
-    let second = next_axis a in
-    let third = next_axis second in
-    adds_twice old two four (both (at_edge a c v) (at_edge a (lifted second c) w))
-    (both (at_edge a (lifted third c) x) (at_edge a (lifted second (lifted third c)) y)) (shaped_twice old one two s t)
-    (adds_twice old one two (at_edge a c v) (at_edge a (lifted second c) w) s here up)
-    (adds_twice two three four (at_edge a (lifted third c) x) (at_edge a (lifted second (lifted third c)) y) u high far)
+-- blocks of one zone share what is told of a cell, and which edges they have
+pub base_shaped : (old now : BlockValues) (at : Base) → IsShaped old now → IsBase old.low old.size at → IsBase now.low now.size at
+base_shaped old now at s base = subst (λ (n : Triple). IsBase now.low n at) s.size (subst (λ (l : Spot). IsBase l old.size at) s.low base)
 
 -- two layers are among n from low on
 record HasTwo (low : ℤ) (n : ℕ) (c : ℤ) : Type 0 where
@@ -254,9 +238,8 @@ edges_of low n c x_low x_high y_low y_high z_low z_high =
       };
     }
 
--- it has then the far one along each axis
-pub far_edge : (low : Spot) (n : Triple) (a : Axis) (c : Spot) → HasEdges low n c
-    → InZone low n (lifted (next_axis a) (lifted (next_axis (next_axis a)) c))
+-- it has then the four along each axis
+far_edge : (low : Spot) (n : Triple) (a : Axis) (c : Spot) → HasEdges low n c → InZone low n (lifted (next_axis a) (lifted (next_axis (next_axis a)) c))
 far_edge low n X c h = record {
   x_low = h.near.x_low;
   x_high = h.near.x_high;
@@ -282,12 +265,40 @@ far_edge low n Z c h = record {
   z_high = h.near.z_high;
 }
 
+up_edge : (low : Spot) (n : Triple) (a : Axis) (c : Spot) → HasEdges low n c → InZone low n (lifted a c)
+up_edge low n X c h = record {
+  x_low = h.far.x_low;
+  x_high = h.far.x_high;
+  y_low = h.near.y_low;
+  y_high = h.near.y_high;
+  z_low = h.near.z_low;
+  z_high = h.near.z_high;
+}
+up_edge low n Y c h = record {
+  x_low = h.near.x_low;
+  x_high = h.near.x_high;
+  y_low = h.far.y_low;
+  y_high = h.far.y_high;
+  z_low = h.near.z_low;
+  z_high = h.near.z_high;
+}
+up_edge low n Z c h = record {
+  x_low = h.near.x_low;
+  x_high = h.near.x_high;
+  y_low = h.near.y_low;
+  y_high = h.near.y_high;
+  z_low = h.far.z_low;
+  z_high = h.far.z_high;
+}
+
+pub all_found : (low : Spot) (n : Triple) (a : Axis) (c : Spot) → HasEdges low n c → AreFound low n a c all_four
+all_found low n a c h = record {
+  low_low = (λ t. h.near, λ z. refl);
+  high_low = (λ t. up_edge low n (next_axis a) c h, λ z. refl);
+  low_high = (λ t. up_edge low n (next_axis (next_axis a)) c h, λ z. refl);
+  high_high = (λ t. far_edge low n a c h, λ z. refl);
+}
+
 -- and so has each block of that zone
 pub edges_shaped : (old now : BlockValues) (c : Spot) → IsShaped old now → HasEdges old.low old.size c → HasEdges now.low now.size c
 edges_shaped old now c s h = record { near = in_zone_shaped old now c s h.near; far = in_zone_shaped old now (lifted X (lifted Y (lifted Z c))) s h.far }
-
--- each of the four sums fits
-pub sum_fits : (b : BlockValues) (a : Axis) (c : Spot) (v : ℤ) → AllAtMost (2 ^ 110) b → IsAtMost v (2 ^ 80) → InZone b.low b.size c
-    → SFits w128 (edge_at b a c +ℤ v)
-sum_fits b a c v room small inside =
-    let held = room.at_most a c inside in code_fits w128 (search codes depth 8) tt

@@ -3,11 +3,10 @@ use Rattle.std.specs.Prelude.{ℕ, ℤ, pos, ◌^◌, ◌+ℤ◌, ◌≤ℤ◌, 
 use Rattle.pic_num.specs.declared.axis.Axis.{Axis}
 use Rattle.pic_num.specs.declared.axis.Axis.TheVariants.{X, Y, Z}
 use Rattle.pic_num.specs.Sizes.{IsAtMost}
-use Rattle.pic_num.specs.Space.{Triple, Spot, spot, next_axis}
-use Rattle.pic_grid.specs.Block.{InZone}
-use Rattle.pic_grid.specs.Rows.{lifted}
-use Rattle.pic_flux.specs.declared.four.Four.{Four}
-use Rattle.pic_flux.specs.declared.edges.Found.{Found}
+use Rattle.pic_num.specs.Space.{Triple, Spot, spot}
+use Rattle.pic_grid.specs.Fours.{AreSmall}
+use Rattle.pic_grid.specs.declared.fours.Four.{Four}
+use Rattle.pic_grid.specs.declared.fours.Found.{Found}
 use Rattle.pic_flux.specs.declared.edges.Layers.{Layers}
 use Rattle.pic_flux.specs.declared.cell_flux.CellFlux.{CellFlux}
 use Rattle.pic_flux.specs.Corners.{at_corners, both}
@@ -26,14 +25,7 @@ edge_flux f a c =
     let cell = spot f.cell in
     both (both (at_four X cell f.x) (at_four Y cell f.y)) (at_four Z cell f.z) a c
 
--- four values of a size that sums with them have room for
-pub record AreSmall (f : Four) : Type 0 where
-  pub low_low : IsAtMost f.low_low (2 ^ 80)
-  pub high_low : IsAtMost f.high_low (2 ^ 80)
-  pub low_high : IsAtMost f.low_high (2 ^ 80)
-  pub high_high : IsAtMost f.high_high (2 ^ 80)
-
--- all twelve are, and so are the indices of the cell
+-- all twelve are of a size that sums have room for, and so are the indices of the cell
 pub record IsModest (f : CellFlux) : Type 0 where
   pub at_x : IsAtMost (spot f.cell).x (2 ^ 24)
   pub at_y : IsAtMost (spot f.cell).y (2 ^ 24)
@@ -73,11 +65,6 @@ far_layers X = record { x = false; y = true; z = true; up_x = true; up_y = true;
 far_layers Y = record { x = true; y = false; z = true; up_x = true; up_y = true; up_z = true }
 far_layers Z = record { x = true; y = true; z = false; up_x = true; up_y = true; up_z = true }
 
--- which of the four edges along axis round a cell a zone has
-pub record AreFound (low : Spot) (size : Triple) (axis : Axis) (c : Spot) (f : Found) : Type 0 where
-  pub low_low : IsTrue f.low_low ↔ InZone low size c
-  pub high_low : IsTrue f.high_low ↔ InZone low size (lifted (next_axis axis) c)
-  pub low_high : IsTrue f.low_high ↔ InZone low size (lifted (next_axis (next_axis axis)) c)
-  pub high_high :
-      IsTrue f.high_high
-      ↔ InZone low size (lifted (next_axis axis) (lifted (next_axis (next_axis axis)) c))
+-- all four edges along an axis round a cell
+abbrev pub all_four : Found
+all_four = record { low_low = true; high_low = true; low_high = true; high_high = true }

@@ -10,8 +10,8 @@ ghost use Rattle.pic_flux.specs.Adds.{Adds};
 ghost use Rattle.pic_flux.specs.CellFlux.{edge_flux, flux_cell, IsModest, AreLayers, near_layers, far_layers};
 
 use crate::edges::{Layers, add_corners, edges_in, far_layers, layers_in, near_layers};
-use crate::four::{Four, four_of};
-use pic_grid::{Block, Segment};
+use crate::four::four_of;
+use pic_grid::{Block, Four, Segment};
 use pic_num::{Axis, Sub};
 
 /// The flux through the twelve edges of a cell, in twelfths of a charge times a cubic sub-cell: it
@@ -91,12 +91,13 @@ impl CellFlux {
         ensures values { Adds to.old to.new (edge_flux self.now) }
     {
         let cell = self.cell;
+        let at = to.base(cell);
         let (x, y, z) = (self.x, self.y, self.z);
         let in_x = edges_in(to, Axis::X, cell, layers);
         let in_y = edges_in(to, Axis::Y, cell, layers);
         let in_z = edges_in(to, Axis::Z, cell, layers);
-        add_corners(to, Axis::X, cell, &in_x, &x);
-        add_corners(to, Axis::Y, cell, &in_y, &y);
-        add_corners(to, Axis::Z, cell, &in_z, &z);
+        add_corners(to, Axis::X, &at, &in_x, &x);
+        add_corners(to, Axis::Y, &at, &in_y, &y);
+        add_corners(to, Axis::Z, &at, &in_z, &z);
     }
 }

@@ -43,9 +43,10 @@ pub fn deposit_inside(sub: Sub, seg: &Segment, q: i32, to: &mut Block)
 {
     let charge = i64::from(q);
     let _side = sub.side();
-    deposit_axis(sub, seg, charge, Axis::X, to);
-    deposit_axis(sub, seg, charge, Axis::Y, to);
-    deposit_axis(sub, seg, charge, Axis::Z, to);
+    let at = to.base(seg.cell);
+    deposit_axis(sub, seg, charge, Axis::X, &at, to);
+    deposit_axis(sub, seg, charge, Axis::Y, &at, to);
+    deposit_axis(sub, seg, charge, Axis::Z, &at, to);
 }
 
 /// Adds the flux of the charge `q` on all segments of a track, each as `deposit` does, and changes

@@ -2,27 +2,19 @@
 
 ghost use Rattle.std.specs.Prelude.{◌≡◌, pos, ◌^◌, ◌+ℤ◌, ◌≤ℤ◌, ◌<ℤ◌, ◌↔◌, IsTrue};
 ghost use Rattle.pic_num.specs.Sizes.{IsAtMost};
-ghost use Rattle.pic_num.specs.Space.{spot, along, next_axis};
+ghost use Rattle.pic_num.specs.Space.{spot};
 ghost use Rattle.pic_grid.specs.Flux.{flux};
 ghost use Rattle.pic_grid.specs.Segment.{IsInCell};
-ghost use Rattle.pic_grid.specs.Block.{InZone, IsShaped, AllAtMost};
+ghost use Rattle.pic_grid.specs.Block.{IsShaped, AllAtMost};
+ghost use Rattle.pic_grid.specs.Fours.{IsBase, base_cell, AreFound, AreSmall};
 ghost use Rattle.pic_flux.specs.Adds.{Adds};
-ghost use Rattle.pic_flux.specs.CellFlux.{at_four, AreFound, AreSmall, IsLayer, AreLayers, AreTrue, near_layers, far_layers};
-ghost use Rattle.pic_flux.specs.Corners.{HasEdges, at_edge, on_axis, at_corners};
+ghost use Rattle.pic_flux.specs.CellFlux.{at_four, all_four, IsLayer, AreLayers, AreTrue, near_layers, far_layers};
+ghost use Rattle.pic_flux.specs.Corners.{HasEdges, on_axis};
 
-use crate::four::{Four, four_of};
-use crate::weights::{raised, way};
-use pic_grid::{Block, Segment, Zone};
+use crate::four::four_of;
+use crate::weights::way;
+use pic_grid::{Base, Block, Found, Four, Segment, Zone};
 use pic_num::{Axis, Sub};
-
-/// Which of the four edges along one axis round a cell a zone has.
-#[derive(Clone, Copy)]
-pub(crate) struct Found {
-    pub low_low: bool,
-    pub high_low: bool,
-    pub low_high: bool,
-    pub high_high: bool,
-}
 
 /// Whether a zone has a cell's own layer on each axis, and the next one up.
 #[derive(Clone, Copy)]
@@ -168,63 +160,30 @@ pub(crate) fn edges_in(to: &Block, axis: Axis, cell: [i32; 3], layers: &Layers) 
     }
 }
 
-/// Adds `value` to the edge along `axis` at `cell`, if the zone has that cell.
-#[inline(always)]
-fn add_edge(to: &mut Block, axis: Axis, cell: [i32; 3], found: bool, value: i128)
-    requires found { IsTrue found ↔ InZone to.old.low to.old.size (spot cell) }
-    requires value { IsAtMost value (2 ^ 80) }
-    requires room { AllAtMost (2 ^ 120) to.old }
-    ensures shape { IsShaped to.old to.new }
-    ensures values { Adds to.old to.new (at_edge axis (spot cell) value) }
-{
-    if found {
-        to.add(axis, cell, value);
-    }
-}
-
 /// Adds to the four edges along `axis` round a cell, of which the zone has those that are found.
 #[inline(always)]
-pub(crate) fn add_corners(to: &mut Block, axis: Axis, cell: [i32; 3], found: &Found, flux: &Four)
-    requires second { IsAtMost (along (next_axis axis) (spot cell)) (2 ^ 24) }
-    requires third { IsAtMost (along (next_axis (next_axis axis)) (spot cell)) (2 ^ 24) }
-    requires found { AreFound to.old.low to.old.size axis (spot cell) found.now }
+pub(crate) fn add_corners(to: &mut Block, axis: Axis, at: &Base, found: &Found, flux: &Four)
+    requires base { IsBase to.old.low to.old.size at.now }
+    requires found { AreFound to.old.low to.old.size axis (base_cell at.now) found.now }
     requires small { AreSmall flux.now }
     requires room { AllAtMost (2 ^ 110) to.old }
     ensures shape { IsShaped to.old to.new }
-    ensures values { Adds to.old to.new (at_four axis (spot cell) flux.now) }
+    ensures values { Adds to.old to.new (at_four axis (base_cell at.now) flux.now) }
 {
-    let second = axis.next();
-    let high = raised(second.next(), cell);
-    let (up, far) = (raised(second, cell), raised(second, high));
-    add_edge(to, axis, cell, found.low_low, flux.low_low);
-    add_edge(to, axis, up, found.high_low, flux.high_low);
-    add_edge(to, axis, high, found.low_high, flux.low_high);
-    add_edge(to, axis, far, found.high_high, flux.high_high);
+    to.add_four(axis, at, found, flux);
 }
 
-/// Adds to the four edges along `axis` round a cell, all of whose edges the zone has.
+/// All four edges along an axis round a cell.
 #[inline(always)]
-fn add_inside(
-    to: &mut Block,
-    axis: Axis,
-    cell: [i32; 3],
-    low_low: i128,
-    high_low: i128,
-    low_high: i128,
-    high_high: i128,
-)
-    requires edges { HasEdges to.old.low to.old.size (spot cell) }
-    requires low_low { IsAtMost low_low (2 ^ 80) }
-    requires high_low { IsAtMost high_low (2 ^ 80) }
-    requires low_high { IsAtMost low_high (2 ^ 80) }
-    requires high_high { IsAtMost high_high (2 ^ 80) }
-    requires room { AllAtMost (2 ^ 110) to.old }
-    ensures shape { IsShaped to.old to.new }
-    ensures values { Adds to.old to.new
-        (at_corners axis (spot cell) low_low high_low low_high high_high) }
+fn all_four() -> Found
+    ensures { result ≡ all_four }
 {
-    let _zone = to.zone();
-    to.add_four(axis, cell, low_low, high_low, low_high, high_high);
+    Found {
+        low_low: true,
+        high_low: true,
+        low_high: true,
+        high_high: true,
+    }
 }
 
 /// Whether `c` and the next layer up are among `size` layers from `low` on.
@@ -258,9 +217,11 @@ pub fn has_edges(to: &Block, cell: [i32; 3]) -> bool
 /// Adds the flux of the charge `q` on a segment to the four edges of its cell along `axis`, all of
 /// which the zone has.
 #[inline(always)]
-pub(crate) fn deposit_axis(sub: Sub, seg: &Segment, q: i64, axis: Axis, to: &mut Block)
+pub(crate) fn deposit_axis(sub: Sub, seg: &Segment, q: i64, axis: Axis, at: &Base, to: &mut Block)
     requires inside { IsInCell sub seg.now }
     requires charge { IsAtMost q (2 ^ 31) }
+    requires base { IsBase to.old.low to.old.size at.now }
+    requires cell { base_cell at.now ≡ seg.now.cell }
     requires edges { HasEdges to.old.low to.old.size seg.now.cell }
     requires room { AllAtMost (2 ^ 110) to.old }
     ensures shape { IsShaped to.old to.new }
@@ -269,11 +230,6 @@ pub(crate) fn deposit_axis(sub: Sub, seg: &Segment, q: i64, axis: Axis, to: &mut
     if way(sub, seg, axis) == 0 {
         return;
     }
-    let Four {
-        low_low,
-        high_low,
-        low_high,
-        high_high,
-    } = four_of(sub, seg, q, axis);
-    add_inside(to, axis, seg.cell, low_low, high_low, low_high, high_high);
+    let flux = four_of(sub, seg, q, axis);
+    add_corners(to, axis, at, &all_four(), &flux);
 }

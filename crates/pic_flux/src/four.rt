@@ -8,21 +8,12 @@ ghost use Rattle.pic_grid.specs.Segment.{IsInCell};
 ghost use Rattle.pic_num.specs.declared.axis.Axis.{Axis};
 ghost use Rattle.pic_num.specs.Space.{Spot};
 ghost use Rattle.pic_flux.specs.Corners.{on_axis};
-ghost use Rattle.pic_flux.specs.CellFlux.{at_four, AreSmall};
+ghost use Rattle.pic_grid.specs.Fours.{AreSmall};
+ghost use Rattle.pic_flux.specs.CellFlux.{at_four};
 
 use crate::weights::corner;
-use pic_grid::Segment;
+use pic_grid::{Four, Segment};
 use pic_num::{Axis, Sub};
-
-/// The flux through the four edges along one axis round a cell: those low and high on the next
-/// axis, and on the third.
-#[derive(Clone, Copy)]
-pub(crate) struct Four {
-    pub low_low: i128,
-    pub high_low: i128,
-    pub low_high: i128,
-    pub high_high: i128,
-}
 
 /// The flux of the charge `q` on a segment through the four edges of its cell along `axis`.
 #[inline(always)]

@@ -6,7 +6,6 @@
 ghost use Rattle.std.specs.Prelude.{◌≡◌, ◌^◌, pos, ◌+ℤ◌, ◌-ℤ◌, ◌*ℤ◌, true};
 ghost use Rattle.pic_num.specs.Sizes.{IsAtMost};
 ghost use Rattle.pic_num.specs.Space.{spot, along, next_axis};
-ghost use Rattle.pic_grid.specs.Rows.{lifted};
 ghost use Rattle.pic_grid.specs.Segment.{IsInside, IsInCell};
 ghost use Rattle.pic_flux.specs.Corners.{face_weight, weight_of, corner, both_high, weight_by};
 
@@ -23,20 +22,6 @@ pub fn along(axis: Axis, p: [i32; 3]) -> i32
         Axis::X => x,
         Axis::Y => y,
         Axis::Z => z,
-    }
-}
-
-/// The next cell up along `axis`.
-#[inline(always)]
-pub fn raised(axis: Axis, cell: [i32; 3]) -> [i32; 3]
-    requires { IsAtMost (along axis (spot cell)) (2 ^ 24) }
-    ensures { spot result ≡ lifted axis (spot cell) }
-{
-    let [x, y, z] = cell;
-    match axis {
-        Axis::X => [x + 1, y, z],
-        Axis::Y => [x, y + 1, z],
-        Axis::Z => [x, y, z + 1],
     }
 }
 

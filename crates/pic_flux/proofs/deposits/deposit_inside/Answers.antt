@@ -45,6 +45,9 @@ along_y c =
     (charge_passed c.args.q c.from-charge.result c.ranges.q c.from-charge.ensures) c.requires.inside c.deposit_axis-2.ensures.shape
     c.deposit_axis-2.ensures.values
 
+pub deposit_axis-requires-clause-room : goal.deposit_axis-requires-clause-room
+deposit_axis-requires-clause-room c = all_at_most_more c.args.to.now (2 ^ 100) (2 ^ 110) (omega arith) c.requires.room
+
 pub deposit_axis-requires-2-clause-room : goal.deposit_axis-requires-2-clause-room
 deposit_axis-requires-2-clause-room c =
     all_at_most_more c.deposit_axis.new.to (2 ^ 100 + 2 ^ 77) (2 ^ 110) (omega arith)

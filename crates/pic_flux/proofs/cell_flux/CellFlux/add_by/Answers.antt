@@ -1,12 +1,13 @@
-use Rattle.std.proofs.Common.{ℕ, ◌+◌, ◌^◌, arith}
+use Rattle.std.proofs.Common.{ℕ, ◌+◌, ◌^◌, subst, arith}
 use Rattle.pic_num.specs.declared.axis.Axis.{Axis}
 use Rattle.pic_num.specs.declared.axis.Axis.TheVariants.{X, Y, Z}
-use Rattle.pic_num.specs.Space.{Spot, spot}
+use Rattle.pic_num.specs.Space.{Spot}
 use Rattle.pic_grid.specs.Block.{BlockValues, IsShaped, AllAtMost}
 use Rattle.pic_grid.proofs.BlockLaws.{all_at_most_more, shaped_twice}
 use Rattle.pic_flux.specs.Adds.{Adds}
-use Rattle.pic_flux.specs.CellFlux.{at_four, AreSmall}
-use Rattle.pic_flux.specs.declared.four.Four.{Four}
+use Rattle.pic_grid.specs.Fours.{base_cell, AreSmall}
+use Rattle.pic_grid.specs.declared.fours.Four.{Four}
+use Rattle.pic_flux.specs.CellFlux.{at_four}
 use Rattle.pic_flux.specs.Corners.{both}
 use Rattle.pic_flux.proofs.AddsLaws.{adds_twice, adds_grow}
 use Rattle.pic_flux.proofs.EdgeLaws.{corners_most}
@@ -23,27 +24,29 @@ pub add_corners-requires-2-clause-room : goal.add_corners-requires-2-clause-room
 add_corners-requires-2-clause-room c =
     let f = c.args.self.now in
     all_at_most_more c.add_corners.new.to (2 ^ 100 + 2 ^ 82) (2 ^ 110) (omega arith)
-    (grown c.args.to.now c.add_corners.new.to X (spot f.cell) f.x (2 ^ 100) c.requires.modest.x c.add_corners.ensures.shape c.add_corners.ensures.values
+    (grown c.args.to.now c.add_corners.new.to X (base_cell c.base-at.result) f.x (2 ^ 100) c.requires.modest.x c.add_corners.ensures.shape c.add_corners.ensures.values
     c.requires.room)
 
 pub add_corners-requires-3-clause-room : goal.add_corners-requires-3-clause-room
 add_corners-requires-3-clause-room c =
     let f = c.args.self.now in
-    let x = grown c.args.to.now c.add_corners.new.to X (spot f.cell) f.x (2 ^ 100) c.requires.modest.x c.add_corners.ensures.shape
+    let x = grown c.args.to.now c.add_corners.new.to X (base_cell c.base-at.result) f.x (2 ^ 100) c.requires.modest.x c.add_corners.ensures.shape
     c.add_corners.ensures.values c.requires.room in
     all_at_most_more c.add_corners-2.new.to (2 ^ 100 + 2 ^ 82 + 2 ^ 82) (2 ^ 110) (omega arith)
-    (grown c.add_corners.new.to c.add_corners-2.new.to Y (spot f.cell) f.y (2 ^ 100 + 2 ^ 82) c.requires.modest.y c.add_corners-2.ensures.shape
+    (grown c.add_corners.new.to c.add_corners-2.new.to Y (base_cell c.base-at.result) f.y (2 ^ 100 + 2 ^ 82) c.requires.modest.y c.add_corners-2.ensures.shape
     c.add_corners-2.ensures.values x)
 
 pub returns-clause-values : goal.returns-clause-values
 returns-clause-values c =
     let f = c.args.self.now in
-    let cell = spot f.cell in
+    let cell = base_cell c.base-at.result in
     let old = c.args.to.now in
     let x = c.add_corners.new.to in
     let y = c.add_corners-2.new.to in
     let now = c.add_corners-3.new.to in
+    let all : Adds old now (both (both (at_four X cell f.x) (at_four Y cell f.y)) (at_four Z cell f.z)) =
     adds_twice old y now (both (at_four X cell f.x) (at_four Y cell f.y)) (at_four Z cell f.z)
     (shaped_twice old x y c.add_corners.ensures.shape c.add_corners-2.ensures.shape)
     (adds_twice old x y (at_four X cell f.x) (at_four Y cell f.y) c.add_corners.ensures.shape c.add_corners.ensures.values c.add_corners-2.ensures.values)
-    c.add_corners-3.ensures.values
+    c.add_corners-3.ensures.values in
+    subst (λ (d : Spot). Adds old now (both (both (at_four X d f.x) (at_four Y d f.y)) (at_four Z d f.z))) c.base-at.ensures.cell all
