@@ -2,8 +2,9 @@
 //! leads.
 
 ghost use Rattle.std.specs.Prelude.{◌≡◌, ℕ, pos, ◌<◌, ◌≤◌, ◌≤ℤ◌, ◌<ℤ◌, ◌+ℤ◌, unsigned_abs};
-ghost use Rattle.std.specs.Prelude.{false};
+ghost use Rattle.std.specs.Prelude.{false, IsTrue};
 ghost use Rattle.pic_num.specs.Space.{triple, spot};
+ghost use Rattle.pic_grid.specs.Block.{InZone};
 ghost use Rattle.pic_tile.specs.Directions.{directions};
 ghost use Rattle.pic_tile.specs.Leaving.{step_to};
 ghost use Rattle.pic_push.specs.Reach.{reaches, IsReach, IsReachOf, AreStepsOf};
@@ -110,7 +111,8 @@ fn last_step(low: i32, size: u32, cell: i32) -> u32
     if i64::from(cell) + 1 >= end { 2 } else { 1 }
 }
 
-/// The direction from the tile of a zone to a cell, which isn't wrapped.
+/// The direction from the tile of a zone to a cell, which isn't wrapped: most cells are the zone's.
+#[inline(always)]
 pub(crate) fn way_to(zone: Zone, cell: [i32; 3]) -> Dir
     requires x { pos 0 ≤ℤ (spot zone.low).x }
     requires y { pos 0 ≤ℤ (spot zone.low).y }
@@ -118,6 +120,9 @@ pub(crate) fn way_to(zone: Zone, cell: [i32; 3]) -> Dir
     ensures value { result ≡ direction_from (spot zone.low) (triple zone.size) (spot cell) }
     ensures below { result < directions }
 {
+    if is_here(zone, cell) {
+        return Dir::HERE;
+    }
     let [low_x, low_y, low_z] = zone.low;
     let [nx, ny, nz] = zone.size;
     let [x, y, z] = cell;
@@ -127,6 +132,27 @@ pub(crate) fn way_to(zone: Zone, cell: [i32; 3]) -> Dir
         step_on(low_z, nz, z),
     );
     Dir::of(step_x + 3 * step_y + 9 * step_z)
+}
+
+/// Whether a cell is one of a zone's, by one test.
+#[inline(always)]
+fn is_here(zone: Zone, cell: [i32; 3]) -> bool
+    ensures { IsTrue result → InZone (spot zone.low) (triple zone.size) (spot cell) }
+{
+    let [low_x, low_y, low_z] = zone.low;
+    let [nx, ny, nz] = zone.size;
+    let [x, y, z] = cell;
+    is_among(low_x, nx, x) & is_among(low_y, ny, y) & is_among(low_z, nz, z)
+}
+
+/// Whether the layer of a cell is one of `size` layers from `low` on.
+#[inline(always)]
+fn is_among(low: i32, size: u32, cell: i32) -> bool
+    ensures least { IsTrue result → low ≤ℤ cell }
+    ensures below { IsTrue result → cell <ℤ (low +ℤ pos size) }
+{
+    let over = i64::from(cell) - i64::from(low);
+    over >= 0 && over < i64::from(size)
 }
 
 /// The step from a tile of `size` layers from `low` on to a cell.
