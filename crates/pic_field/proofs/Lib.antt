@@ -5,4 +5,5 @@ pub mod WholeLaws
 pub mod CalmLaws
 pub mod RowLaws
 pub mod LineLaws
+pub mod LentLaws
 pub mod CurlLaws

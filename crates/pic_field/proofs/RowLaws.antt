@@ -14,6 +14,13 @@ use Rattle.pic_grid.specs.Cells.{IsWithin}
 use Rattle.pic_grid.specs.Lattice.{Field, value_at, EachAtMost}
 use Rattle.pic_field.specs.Rows.{row_at, along_x, IsSmallRow, IsRow, IsScaledRow}
 
+-- no value of a row is scaled at first
+pub row_none : (f : Field) (by : Multiplier) (a : Axis) (p : Triple) (row : List ℤ) → IsScaledRow f by a p 0 row
+row_none f by a p row = record {
+  values = λ i below. absurd (omega (arith, below));
+  small = record { at_most = λ i below. absurd (omega (arith, below)) };
+}
+
 -- a fact of every value below i holds below i + 1 once it holds of the value written there
 pub row_more : (P : ℕ → ℤ → Type 0) (row : List ℤ) (i : ℕ) (v : ℤ) → i < length row → ((k : ℕ) → k < i → P k (row_at row k)) → P i v
     → (k : ℕ) → k < i + 1 → P k (row_at (slice_set row i v) k)
@@ -26,12 +33,14 @@ pub small_more : (most : ℕ) (row : List ℤ) (i : ℕ) (v : ℤ) → i < lengt
     → IsSmallRow most (i + 1) (slice_set row i v)
 small_more most row i v inside small here = record { at_most = row_more (λ k z. IsAtMost z most) row i v inside small.at_most here }
 
--- the part of a row that a run fills, and the row with that part filled
-pub part_long : (row : List ℤ) (done more : ℕ) → done + more ≤ length row → length (take (done + more - done) (drop done row)) ≡ more
-part_long row done more fits =
-    let rest = length-drop done row in
-    length-take-le (done + more - done) (drop done row) (omega (arith, rest)) ∙ omega arith
+-- the values from i + 1 on stay as they were
+pub row_rest : (first row : List ℤ) (i : ℕ) (v : ℤ) → ((k : ℕ) → i ≤ k → row_at row k ≡ row_at first k)
+    → (k : ℕ) → i + 1 ≤ k → row_at (slice_set row i v) k ≡ row_at first k
+row_rest first row i v rest k above =
+    let other : k ≢ i = omega arith in
+    get_or-set_other row i k v (pos 0) other ∙ rest k (omega arith)
 
+-- a row with a part filled
 pub filled_long : (row part : List ℤ) (done more : ℕ) → done + more ≤ length row → length part ≡ more
     → length (take done row ++ (part ++ drop (done + more - done) (drop done row))) ≡ length row
 filled_long row part done more fits long =

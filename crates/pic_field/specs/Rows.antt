@@ -6,6 +6,8 @@ use Rattle.pic_num.specs.Rounding.{scaled}
 use Rattle.pic_num.specs.Sizes.{IsAtMost}
 use Rattle.pic_num.specs.Space.{Triple}
 use Rattle.pic_grid.specs.Lattice.{Field, value_at}
+use Rattle.pic_grid.specs.Slot.{IsSlotY, IsSlotZ}
+use Rattle.pic_field.specs.declared.row.Start.{Start}
 
 -- the value at an index of a row
 abbrev pub row_at : List ℤ → ℕ → ℤ
@@ -19,6 +21,16 @@ pub record IsSmallRow (most count : ℕ) (row : List ℤ) : Type 0 where
 pub record IsRow (most count : ℕ) (row : List ℤ) : Type 0 where
   pub length_is : length row ≡ count
   pub small : IsSmallRow most count row
+
+-- the cell where a row begins
+abbrev pub start_cell : Start → Triple
+start_cell s = record { x = s.x; y = s.y.index; z = s.z.index }
+
+-- it is one of a field's, and the slots are those of its y and z
+pub record IsStart (f : Field) (s : Start) : Type 0 where
+  pub x : s.x < f.cells.x
+  pub y : IsSlotY f.cells f.parts s.y
+  pub z : IsSlotZ f.cells f.parts s.z
 
 -- the cell i further in x than p on a periodic grid
 abbrev pub along_x : Triple → Triple → ℕ → Triple

@@ -16,7 +16,7 @@ ghost use Rattle.pic_field.specs.Rows.{IsScaledRow};
 
 use crate::faults::{safe_most, stop_in};
 use crate::rooms::{Rooms, full_row};
-use crate::row::{Four, copy_row, scaled_row, shifted};
+use crate::row::{Four, copy_row, scaled_row, shifted, start_at};
 use crate::zone::{cell_in, is_empty, line_length};
 use pic_grid::{Block, Lattice, Phase, Stop};
 use pic_num::{Axis, Mult, Scales};
@@ -131,7 +131,8 @@ fn full_layer(
     let count = line_length(b.cells(), zone);
     let first = cell_in(b.cells(), zone, [0, 0, z]);
     let by_y = b.cells().down(Axis::Y, first);
-    let back = b.cells().down(Axis::X, by_y);
+    let back = start_at(b, b.cells().down(Axis::X, by_y));
+    let by_y = start_at(b, by_y);
     scaled_row(b, scales.b_to_e, Axis::X, by_y, count, &mut rooms.x_by_y);
     scaled_row(
         b,
@@ -192,28 +193,28 @@ fn full_line(
         far_second: &rooms.y_by_z[..count],
         near_second: shifted(&rooms.y[..], count),
     };
-    let calm_x = full_row(e, j, Axis::X, y, z, &on_x, most, &mut rooms.made);
+    let calm_x = full_row(e, j, Axis::X, y, z, &on_x, most);
     let on_y = Four {
         far_third: &rooms.x_by_z[..count],
         near_third: &rooms.x[..count],
         far_second: &rooms.z[..count],
         near_second: shifted(&rooms.z[..], count),
     };
-    let calm_y = full_row(e, j, Axis::Y, y, z, &on_y, most, &mut rooms.made);
+    let calm_y = full_row(e, j, Axis::Y, y, z, &on_y, most);
     let on_z = Four {
         far_third: &rooms.y[..count],
         near_third: shifted(&rooms.y[..], count),
         far_second: &rooms.x_by_y[..count],
         near_second: &rooms.x[..count],
     };
-    let calm_z = full_row(e, j, Axis::Z, y, z, &on_z, most, &mut rooms.made);
+    let calm_z = full_row(e, j, Axis::Z, y, z, &on_z, most);
     copy_row(&rooms.x, count, &mut rooms.x_by_y);
     copy_row(&rooms.z, count + 1, &mut rooms.z_by_y);
     calm_x & calm_y & calm_z
 }
 
-/// The rows of scaled B that a line of `count` cells needs beside those of the last line in y: its own,
-/// and those of the last line in z. Those that begin a cell back have one value more.
+/// The rows of scaled B that a line of `count` cells needs beside those of the last line in y: its
+/// own, and those of the last line in z. Those that begin a cell back have one value more.
 fn full_rows(by: Mult, b: &Lattice, here: [u32; 3], count: usize, rooms: &mut Rooms)
     requires within { IsWithin (triple here) b.now.cells }
     requires few { count ≤ most_cells_of_axis }
@@ -230,8 +231,9 @@ fn full_rows(by: Mult, b: &Lattice, here: [u32; 3], count: usize, rooms: &mut Ro
     ensures y_by_z { IsScaledRow b.now by Axis.Y (down b.now.cells Axis.Z (triple here)) count
         rooms.new.y_by_z }
 {
-    let back = b.cells().down(Axis::X, here);
-    let by_z = b.cells().down(Axis::Z, here);
+    let back = start_at(b, b.cells().down(Axis::X, here));
+    let by_z = start_at(b, b.cells().down(Axis::Z, here));
+    let here = start_at(b, here);
     scaled_row(b, by, Axis::X, here, count, &mut rooms.x);
     scaled_row(b, by, Axis::Y, back, count + 1, &mut rooms.y);
     scaled_row(b, by, Axis::Z, back, count + 1, &mut rooms.z);

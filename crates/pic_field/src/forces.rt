@@ -7,10 +7,11 @@ ghost use Rattle.pic_num.specs.Space.{Triple};
 ghost use Rattle.pic_grid.specs.Cells.{IsWithin};
 ghost use Rattle.pic_grid.specs.Lattice.{EachAtMost, value_at};
 ghost use Rattle.pic_grid.specs.Block.{IsAmongCells, IsShaped, inner_at, outer_of};
-ghost use Rattle.pic_field.specs.Lines.{HasCells, OnRow, OnLine, OnLayer, Changed, force_made};
+ghost use Rattle.pic_field.specs.Lines.{HasCells, OnRow, OnLine, OnLayer, Changed, force_made, line_start};
+ghost use Rattle.pic_field.specs.Rows.{start_cell, IsStart};
 
 use crate::rooms::Rooms;
-use crate::row::{Row, scaled_row};
+use crate::row::{Start, scaled_row, start_at};
 use crate::zone::{cell_in, is_empty, line_length};
 use pic_grid::{Block, Lattice};
 use pic_num::{Axis, Mult};
@@ -25,28 +26,28 @@ pub fn force(mult: Mult, from: &Lattice, to: &mut Block)
     ensures values { (a : AxisName) → (p : Triple) → IsWithin p to.old.size
         → inner_at to.new a p ≡ scaled (value_at from.now a (outer_of to.old.low p)) mult }
 {
-    force_in(mult, from, to, &mut Rooms::new());
+    let zone = to.zone();
+    if is_empty(zone) {
+        return;
+    }
+    for z in 0..zone.size[2] {
+        force_layer(mult, from, to, z);
+    }
 }
 
-/// As `force`, in rooms that are lent.
-pub fn force_in(mult: Mult, from: &Lattice, to: &mut Block, rooms: &mut Rooms)
+/// As `force`, for callers that lend rooms to every phase. It has no need of them.
+pub fn force_in(mult: Mult, from: &Lattice, to: &mut Block, _rooms: &mut Rooms)
     requires among { IsAmongCells to.old.low to.old.size from.now.cells }
     requires small { EachAtMost (2 ^ 90) from.now }
     ensures shape { IsShaped to.new to.old }
     ensures values { (a : AxisName) → (p : Triple) → IsWithin p to.old.size
         → inner_at to.new a p ≡ scaled (value_at from.now a (outer_of to.old.low p)) mult }
 {
-    let zone = to.zone();
-    if is_empty(zone) {
-        return;
-    }
-    for z in 0..zone.size[2] {
-        force_layer(mult, from, to, z, &mut rooms.made);
-    }
+    force(mult, from, to);
 }
 
 /// The force values of a layer, line by line.
-fn force_layer(mult: Mult, from: &Lattice, to: &mut Block, z: u32, made: &mut Row)
+fn force_layer(mult: Mult, from: &Lattice, to: &mut Block, z: u32)
     requires among { IsAmongCells to.old.low to.old.size from.now.cells }
     requires some { HasCells to.old.size }
     requires small { EachAtMost (2 ^ 90) from.now }
@@ -55,12 +56,12 @@ fn force_layer(mult: Mult, from: &Lattice, to: &mut Block, z: u32, made: &mut Ro
 {
     let zone = to.zone();
     for y in 0..zone.size[1] {
-        force_line(mult, from, to, y, z, made);
+        force_line(mult, from, to, y, z);
     }
 }
 
 /// The force values of a line.
-fn force_line(mult: Mult, from: &Lattice, to: &mut Block, y: u32, z: u32, made: &mut Row)
+fn force_line(mult: Mult, from: &Lattice, to: &mut Block, y: u32, z: u32)
     requires among { IsAmongCells to.old.low to.old.size from.now.cells }
     requires some { HasCells to.old.size }
     requires small { EachAtMost (2 ^ 90) from.now }
@@ -68,23 +69,25 @@ fn force_line(mult: Mult, from: &Lattice, to: &mut Block, y: u32, z: u32, made: 
     requires z { z < to.old.size.z }
     ensures { Changed (force_made mult from.now to.old.low) (OnLine y z) to.old to.new }
 {
-    force_row(mult, from, to, Axis::X, y, z, made);
-    force_row(mult, from, to, Axis::Y, y, z, made);
-    force_row(mult, from, to, Axis::Z, y, z, made);
+    let cell = cell_in(from.cells(), to.zone(), [0, y, z]);
+    let start = start_at(from, cell);
+    force_row(mult, from, start, to, Axis::X, y, z);
+    force_row(mult, from, start, to, Axis::Y, y, z);
+    force_row(mult, from, start, to, Axis::Z, y, z);
 }
 
-/// The force values of the component on `axis` along a line.
-fn force_row(mult: Mult, from: &Lattice, to: &mut Block, axis: Axis, y: u32, z: u32, made: &mut Row)
+/// The force values of the component on `axis` along the line that begins at `start`.
+fn force_row(mult: Mult, from: &Lattice, start: Start, to: &mut Block, axis: Axis, y: u32, z: u32)
     requires among { IsAmongCells to.old.low to.old.size from.now.cells }
-    requires some { HasCells to.old.size }
     requires small { EachAtMost (2 ^ 90) from.now }
+    requires start { IsStart from.now start }
+    requires cell { start_cell start ≡ line_start to.old.low y z }
     requires y { y < to.old.size.y }
     requires z { z < to.old.size.z }
     ensures { Changed (force_made mult from.now to.old.low) (OnRow axis y z) to.old to.new }
 {
-    let zone = to.zone();
-    let count = line_length(from.cells(), zone);
-    let here = cell_in(from.cells(), zone, [0, y, z]);
-    scaled_row(from, mult, axis, here, count, made);
-    to.set_row(axis, y, z, &made[..count]);
+    let count = line_length(from.cells(), to.zone());
+    let at = to.row_start(axis, y, z);
+    let values = to.values_mut();
+    scaled_row(from, mult, axis, start, count, &mut values[at..at + count]);
 }

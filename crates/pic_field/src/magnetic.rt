@@ -15,7 +15,7 @@ ghost use Rattle.pic_field.specs.Rows.{IsScaledRow};
 
 use crate::faults::{safe_most, stop_in};
 use crate::rooms::{Rooms, half_row};
-use crate::row::{Four, copy_row, scaled_row, shifted};
+use crate::row::{Four, copy_row, scaled_row, shifted, start_at};
 use crate::zone::{cell_in, is_empty, line_length};
 use pic_grid::{Block, Lattice, Phase, Stop};
 use pic_num::{Axis, Mult, Scales};
@@ -109,7 +109,7 @@ fn half_layer(
 {
     let zone = b.zone();
     let count = line_length(e.cells(), zone);
-    let first = cell_in(e.cells(), zone, [0, 0, z]);
+    let first = start_at(e, cell_in(e.cells(), zone, [0, 0, z]));
     scaled_row(e, scales.e_to_b, Axis::X, first, count, &mut rooms.x);
     scaled_row(e, scales.e_to_b, Axis::Z, first, count + 1, &mut rooms.z);
     let mut calm = true;
@@ -158,28 +158,28 @@ fn half_line(
         far_second: &rooms.y_by_z[..count],
         near_second: &rooms.y[..count],
     };
-    let calm_x = half_row(b, Axis::X, y, z, &on_x, most, &mut rooms.made);
+    let calm_x = half_row(b, Axis::X, y, z, &on_x, most);
     let on_y = Four {
         far_third: &rooms.x_by_z[..count],
         near_third: &rooms.x[..count],
         far_second: shifted(&rooms.z[..], count),
         near_second: &rooms.z[..count],
     };
-    let calm_y = half_row(b, Axis::Y, y, z, &on_y, most, &mut rooms.made);
+    let calm_y = half_row(b, Axis::Y, y, z, &on_y, most);
     let on_z = Four {
         far_third: shifted(&rooms.y[..], count),
         near_third: &rooms.y[..count],
         far_second: &rooms.x_by_y[..count],
         near_second: &rooms.x[..count],
     };
-    let calm_z = half_row(b, Axis::Z, y, z, &on_z, most, &mut rooms.made);
+    let calm_z = half_row(b, Axis::Z, y, z, &on_z, most);
     copy_row(&rooms.x_by_y, count, &mut rooms.x);
     copy_row(&rooms.z_by_y, count + 1, &mut rooms.z);
     calm_x & calm_y & calm_z
 }
 
-/// The rows of scaled E that a line of `count` cells needs beside its own x and z: its y, and those of
-/// the next lines in y and in z. Those that are read a cell further have one value more.
+/// The rows of scaled E that a line of `count` cells needs beside its own x and z: its y, and those
+/// of the next lines in y and in z. Those that are read a cell further have one value more.
 fn half_rows(by: Mult, e: &Lattice, here: [u32; 3], count: usize, rooms: &mut Rooms)
     requires within { IsWithin (triple here) e.now.cells }
     requires few { count ≤ most_cells_of_axis }
@@ -196,8 +196,9 @@ fn half_rows(by: Mult, e: &Lattice, here: [u32; 3], count: usize, rooms: &mut Ro
     ensures y_by_z { IsScaledRow e.now by Axis.Y (up e.now.cells Axis.Z (triple here)) count
         rooms.new.y_by_z }
 {
-    let by_y = e.cells().up(Axis::Y, here);
-    let by_z = e.cells().up(Axis::Z, here);
+    let by_y = start_at(e, e.cells().up(Axis::Y, here));
+    let by_z = start_at(e, e.cells().up(Axis::Z, here));
+    let here = start_at(e, here);
     scaled_row(e, by, Axis::Y, here, count + 1, &mut rooms.y);
     scaled_row(e, by, Axis::X, by_y, count, &mut rooms.x_by_y);
     scaled_row(e, by, Axis::Z, by_y, count + 1, &mut rooms.z_by_y);

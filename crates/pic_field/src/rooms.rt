@@ -9,10 +9,10 @@ use crate::row::{Four, ROOM, Row, lessen_row, lessen_row_by};
 use pic_grid::Block;
 use pic_num::Axis;
 
-/// Rooms that a phase works in, one row of values in each: what it scales, and what it makes. Who
-/// goes over many blocks makes them once and lends them to each: what they held is of no matter.
-// The scaled components of a field along a line, along the next line in y (`_by_y`) and in z
-// (`_by_z`), and new values.
+/// Rooms that a phase works in, one row of scaled values in each. Who goes over many blocks makes
+/// them once and lends them to each: what they held is of no matter.
+// The scaled components of a field along a line, and along the next or the last line in y (`_by_y`)
+// and in z (`_by_z`).
 #[derive(Drop)]
 pub struct Rooms {
     pub(crate) x: Row,
@@ -22,7 +22,6 @@ pub struct Rooms {
     pub(crate) z_by_y: Row,
     pub(crate) x_by_z: Row,
     pub(crate) y_by_z: Row,
-    pub(crate) made: Row,
 }
 
 impl Rooms {
@@ -37,25 +36,15 @@ impl Rooms {
             z_by_y: row,
             x_by_z: row,
             y_by_z: row,
-            made: row,
         }
     }
 }
 
 /// Lessens the components of a block on `axis` along the row at the layers `y` and `z` by the curl
 /// of four rows, and answers whether all new values are at most `most` in size.
-pub(crate) fn half_row(
-    b: &mut Block,
-    axis: Axis,
-    y: u32,
-    z: u32,
-    four: &Four,
-    most: u128,
-    new: &mut Row,
-) -> bool
+pub(crate) fn half_row(b: &mut Block, axis: Axis, y: u32, z: u32, four: &Four, most: u128) -> bool
     requires y { y < b.old.size.y }
     requires z { z < b.old.size.z }
-    requires few { b.old.size.x ≤ 129 }
     requires small { AreSmall (2 ^ 90) (OnRow axis y z) b.old }
     requires far_third { IsRow (2 ^ 121) b.old.size.x four.now.far_third.now }
     requires near_third { IsRow (2 ^ 121) b.old.size.x four.now.near_third.now }
@@ -69,15 +58,14 @@ pub(crate) fn half_row(
 {
     let zone = b.zone();
     let count = zone.size[0] as usize;
-    let old = b.row(axis, y, z);
-    let calm = lessen_row(old, four, most, &mut new[..count]);
-    b.set_row(axis, y, z, &new[..count]);
-    calm
+    let start = b.row_start(axis, y, z);
+    let values = b.values_mut();
+    lessen_row(&mut values[start..start + count], four, most)
 }
 
 /// Lessens the components of a block on `axis` along the row at the layers `y` and `z` by those of
-/// another block of its zone and by the curl of four rows, and answers whether all new values are at
-/// most `most` in size.
+/// another block of its zone and by the curl of four rows, and answers whether all new values are
+/// at most `most` in size.
 pub(crate) fn full_row(
     e: &mut Block,
     j: &Block,
@@ -86,12 +74,10 @@ pub(crate) fn full_row(
     z: u32,
     four: &Four,
     most: u128,
-    new: &mut Row,
 ) -> bool
     requires j_shape { IsShaped j.now e.old }
     requires y { y < e.old.size.y }
     requires z { z < e.old.size.z }
-    requires few { e.old.size.x ≤ 129 }
     requires j_small { AreSmall (2 ^ 90) (OnRow axis y z) j.now }
     requires small { AreSmall (2 ^ 90) (OnRow axis y z) e.old }
     requires far_third { IsRow (2 ^ 121) e.old.size.x four.now.far_third.now }
@@ -106,9 +92,8 @@ pub(crate) fn full_row(
 {
     let zone = e.zone();
     let count = zone.size[0] as usize;
-    let old = e.row(axis, y, z);
     let take = j.row(axis, y, z);
-    let calm = lessen_row_by(old, take, four, most, &mut new[..count]);
-    e.set_row(axis, y, z, &new[..count]);
-    calm
+    let start = e.row_start(axis, y, z);
+    let values = e.values_mut();
+    lessen_row_by(&mut values[start..start + count], take, four, most)
 }

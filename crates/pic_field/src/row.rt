@@ -6,9 +6,9 @@ ghost use Rattle.pic_num.specs.Sizes.{IsAtMost};
 ghost use Rattle.pic_num.specs.Space.{triple};
 ghost use Rattle.pic_grid.specs.Cells.{IsWithin};
 ghost use Rattle.pic_grid.specs.Lattice.{EachAtMost};
-ghost use Rattle.pic_field.specs.Rows.{row_at, curl_of, IsSmallRow, IsRow, IsScaledRow};
+ghost use Rattle.pic_field.specs.Rows.{row_at, curl_of, start_cell, IsSmallRow, IsRow, IsStart, IsScaledRow};
 
-use pic_grid::Lattice;
+use pic_grid::{Lattice, Slot};
 use pic_num::{Axis, Mult, scale};
 
 /// How many values a row has room for: one more than the most cells of an axis.
@@ -27,26 +27,50 @@ pub(crate) struct Four<'a> {
     pub(crate) near_second: &'a [i128],
 }
 
-/// The first `count` values of the component on `axis` along the row from `cell` on, round the
+/// The cell of a field where a row begins: its layer of x, and the slots of its y and z, which
+/// serve the whole row.
+#[derive(Clone, Copy)]
+pub(crate) struct Start {
+    pub(crate) x: u32,
+    pub(crate) y: Slot,
+    pub(crate) z: Slot,
+}
+
+/// The start of the row from `cell` on.
+#[inline(always)]
+pub(crate) fn start_at(field: &Lattice, cell: [u32; 3]) -> Start
+    requires { IsWithin (triple cell) field.now.cells }
+    ensures cell { start_cell result ≡ triple cell }
+    ensures slots { IsStart field.now result }
+{
+    let [x, y, z] = cell;
+    Start {
+        x,
+        y: field.slot_y(y),
+        z: field.slot_z(z),
+    }
+}
+
+/// The first `count` values of the component on `axis` along the row from `start` on, round the
 /// grid, each scaled once.
 pub(crate) fn scaled_row(
     field: &Lattice,
     by: Mult,
     axis: Axis,
-    cell: [u32; 3],
+    start: Start,
     count: usize,
-    to: &mut Row,
+    to: &mut [i128],
 )
-    requires within { IsWithin (triple cell) field.now.cells }
-    requires few { count ≤ 129 }
+    requires start { IsStart field.now start }
+    requires room { count ≤ length to.old }
     requires small { EachAtMost (2 ^ 90) field.now }
-    ensures { IsScaledRow field.now by axis (triple cell) count to.new }
+    ensures { IsScaledRow field.now by axis (start_cell start) count to.new }
 {
     let [nx, _, _] = field.cells().numbers();
-    let [mut x, y, z] = cell;
+    let Start { mut x, y, z } = start;
     let mut done = 0;
     while done < count {
-        let run = field.run(axis, [x, y, z]);
+        let run = field.run_at(axis, field.slot_x(x), y, z);
         let more = run.len().min(count - done);
         scale_row(&run[..more], by, &mut to[done..done + more]);
         done = done + more;
@@ -79,59 +103,51 @@ fn scale_row(from: &[i128], by: Mult, to: &mut [i128])
     }
 }
 
-/// Makes every value of `new` that of `old` less the curl of four rows, and answers whether all
-/// are at most `most` in size.
-pub(crate) fn lessen_row(old: &[i128], four: &Four, most: u128, new: &mut [i128]) -> bool
-    requires length { length new.old ≡ length old.now }
-    requires small { IsSmallRow (2 ^ 90) (length old.now) old.now }
-    requires far_third { IsRow (2 ^ 121) (length old.now) four.now.far_third.now }
-    requires near_third { IsRow (2 ^ 121) (length old.now) four.now.near_third.now }
-    requires far_second { IsRow (2 ^ 121) (length old.now) four.now.far_second.now }
-    requires near_second { IsRow (2 ^ 121) (length old.now) four.now.near_second.now }
-    ensures values { (i : ℕ) → i < length old.now → row_at new.new i ≡ row_at old.now i -ℤ
+/// Lessens every value of a row by the curl of four rows, and answers whether all are then at most
+/// `most` in size.
+pub(crate) fn lessen_row(row: &mut [i128], four: &Four, most: u128) -> bool
+    requires small { IsSmallRow (2 ^ 90) (length row.old) row.old }
+    requires far_third { IsRow (2 ^ 121) (length row.old) four.now.far_third.now }
+    requires near_third { IsRow (2 ^ 121) (length row.old) four.now.near_third.now }
+    requires far_second { IsRow (2 ^ 121) (length row.old) four.now.far_second.now }
+    requires near_second { IsRow (2 ^ 121) (length row.old) four.now.near_second.now }
+    ensures values { (i : ℕ) → i < length row.old → row_at row.new i ≡ row_at row.old i -ℤ
         curl_of (row_at four.now.far_third.now i) (row_at four.now.near_third.now i)
         (row_at four.now.far_second.now i) (row_at four.now.near_second.now i) }
-    ensures calm { IsTrue result → IsSmallRow most (length old.now) new.new }
+    ensures calm { IsTrue result → IsSmallRow most (length row.old) row.new }
 {
     let mut calm = true;
-    for i in 0..old.len() {
+    for i in 0..row.len() {
         let curl = four.far_third[i] - four.near_third[i] - four.far_second[i]
             + four.near_second[i];
-        let value = old[i] - curl;
-        new[i] = value;
+        let value = row[i] - curl;
+        row[i] = value;
         calm = calm & (value.unsigned_abs() <= most);
     }
     calm
 }
 
-/// Makes every value of `new` that of `old` less that of `take` and the curl of four rows, and
-/// answers whether all are at most `most` in size.
-pub(crate) fn lessen_row_by(
-    old: &[i128],
-    take: &[i128],
-    four: &Four,
-    most: u128,
-    new: &mut [i128],
-) -> bool
-    requires length { length new.old ≡ length old.now }
-    requires small { IsSmallRow (2 ^ 90) (length old.now) old.now }
-    requires take { IsRow (2 ^ 90) (length old.now) take.now }
-    requires far_third { IsRow (2 ^ 121) (length old.now) four.now.far_third.now }
-    requires near_third { IsRow (2 ^ 121) (length old.now) four.now.near_third.now }
-    requires far_second { IsRow (2 ^ 121) (length old.now) four.now.far_second.now }
-    requires near_second { IsRow (2 ^ 121) (length old.now) four.now.near_second.now }
-    ensures values { (i : ℕ) → i < length old.now
-        → row_at new.new i ≡ row_at old.now i -ℤ row_at take.now i -ℤ
+/// Lessens every value of a row by that of `take` and the curl of four rows, and answers whether
+/// all are then at most `most` in size.
+pub(crate) fn lessen_row_by(row: &mut [i128], take: &[i128], four: &Four, most: u128) -> bool
+    requires small { IsSmallRow (2 ^ 90) (length row.old) row.old }
+    requires take { IsRow (2 ^ 90) (length row.old) take.now }
+    requires far_third { IsRow (2 ^ 121) (length row.old) four.now.far_third.now }
+    requires near_third { IsRow (2 ^ 121) (length row.old) four.now.near_third.now }
+    requires far_second { IsRow (2 ^ 121) (length row.old) four.now.far_second.now }
+    requires near_second { IsRow (2 ^ 121) (length row.old) four.now.near_second.now }
+    ensures values { (i : ℕ) → i < length row.old
+        → row_at row.new i ≡ row_at row.old i -ℤ row_at take.now i -ℤ
         curl_of (row_at four.now.far_third.now i) (row_at four.now.near_third.now i)
         (row_at four.now.far_second.now i) (row_at four.now.near_second.now i) }
-    ensures calm { IsTrue result → IsSmallRow most (length old.now) new.new }
+    ensures calm { IsTrue result → IsSmallRow most (length row.old) row.new }
 {
     let mut calm = true;
-    for i in 0..old.len() {
+    for i in 0..row.len() {
         let curl = four.far_third[i] - four.near_third[i] - four.far_second[i]
             + four.near_second[i];
-        let value = old[i] - take[i] - curl;
-        new[i] = value;
+        let value = row[i] - take[i] - curl;
+        row[i] = value;
         calm = calm & (value.unsigned_abs() <= most);
     }
     calm

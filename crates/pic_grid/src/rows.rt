@@ -41,8 +41,8 @@ impl Block {
         values[start..start + row.len()].copy_from_slice(row);
     }
 
-    /// The number, among the block's components, of the first on `axis` along the row at the layers `y`
-    /// and `z`, counted from the zone's lowest.
+    /// The number, among the block's components, of the first on `axis` along the row at the layers
+    /// `y` and `z`, counted from the zone's lowest.
     #[inline(always)]
     pub fn row_start(&self, axis: Axis, y: u32, z: u32) -> usize
         requires y { y < self.now.size.y }
@@ -54,8 +54,8 @@ impl Block {
         row_start(self.zone.size, axis, y, z)
     }
 
-    /// The components, for writing: x fastest, then y, z and the axis. The rows stand where `row_start`
-    /// finds them.
+    /// The components, for writing: x fastest, then y, z and the axis. The rows stand where
+    /// `row_start` finds them.
     #[inline(always)]
     pub fn values_mut(&mut self) -> &mut [i128]
         ensures* writes_back { sem 𝓛 (LendsValues self.entry result) }

@@ -28,8 +28,8 @@ impl Lattice {
         self.run_at(axis, self.slot_x(x), self.slot_y(y), self.slot_z(z))
     }
 
-    /// The components on `axis` from the cell of three slots along its row to the end of its part, found
-    /// by what the slots add and not by a division.
+    /// The components on `axis` from the cell of three slots along its row to the end of its part:
+    /// for readers that find the slots of y and z once for a whole row.
     #[inline(always)]
     pub fn run_at(&self, axis: Axis, x: Slot, y: Slot, z: Slot) -> &[i128]
         requires x { IsSlotX self.now.cells self.now.parts x }

@@ -1,48 +1,43 @@
-use Rattle.std.proofs.Common.{◌≡◌, ◌<◌, ◌-ℤ◌, ℕ, length, slice_index, ◌∙◌, ap, subst, arith}
-use Rattle.std.proofs.lemmas.List.{take_at, length-take-le}
+use Rattle.std.proofs.Common.{◌≡◌, ◌^◌, ◌<◌, ◌-ℤ◌, ℤ, slice_index, ◌∙◌, ap, arith}
 use Rattle.pic_num.specs.Space.{Triple}
-use Rattle.pic_grid.specs.Rows.{with_row}
-use Rattle.pic_field.specs.Rows.{row_at, curl_of, IsSmallRow}
-use Rattle.pic_field.proofs.LineLaws.{row_changed, row_small}
+use Rattle.pic_grid.specs.Block.{inner_at}
+use Rattle.pic_field.specs.Rows.{row_at, curl_of}
+use Rattle.pic_field.proofs.LentLaws.{IsLent, lent as row, lent_below, lent_small, lent_changed, lent_calm}
 use Rattle.pic_field.proofs.rooms.full_row.Goals as goal
-use Rattle.pic_field.proofs.rooms.full_row.Goals.{After-set_row}
+use Rattle.pic_field.proofs.rooms.full_row.Goals.{After-values_mut-values}
 
--- the row that was written has the new values
-record Known (c : After-set_row) : Type 0 where
-  is : c.set_row.new.self ≡ with_row c.args.e.now c.args.axis c.args.y c.args.z c.lessen_row_by-calm.new.new
-  long : length c.lessen_row_by-calm.new.new ≡ c.args.e.now.size.x
-  same : length c.row-old.result.now ≡ c.args.e.now.size.x
+-- the row that is lent
+lent : (c : After-values_mut-values) → IsLent c.args.e.now c.args.axis c.args.y c.args.z c.values_mut-values.result.now c.row_start-start.result
+    (slice_index c.zone-zone.result.size 0)
+lent c = record {
+  shape = c.zone-zone.ensures.shape;
+  in_y = c.requires.y;
+  in_z = c.requires.z;
+  same = c.values_mut-values.ensures.value;
+  at = c.row_start-start.ensures.value;
+  end = c.row_start-start.ensures.end;
+  size = ap (λ (n : Triple). n.x) c.zone-zone.ensures.size;
+}
 
-known : (c : After-set_row) → Known c
-known c =
-    let count = slice_index c.zone-zone.result.size 0 in
-    let size : count ≡ c.args.e.now.size.x = ap (λ (n : Triple). n.x) c.zone-zone.ensures.size in
-    let told = c.told-new in
-    let room : length c.args.new.now ≡ 129 = omega arith in
-    let long : length c.lessen_row_by-calm.new.new ≡ count = c.lessen_row_by-calm.auto.new ∙ length-take-le count c.args.new.now (omega arith) in
-    record {
-      is = c.set_row.ensures ∙ ap (with_row c.args.e.now c.args.axis c.args.y c.args.z) (take_at c.lessen_row_by-calm.new.new _ count long);
-      long = long ∙ size;
-      same = c.row-old.ensures.length;
-    }
+pub lessen_row_by-requires-clause-small : goal.lessen_row_by-requires-clause-small
+lessen_row_by-requires-clause-small c =
+    lent_small _ _ _ _ _ _ _ (lent (goal.at.lessen_row_by-requires-clause-small c).After-values_mut-values) (2 ^ 90) c.requires.small
 
 pub returns-clause-changed : goal.returns-clause-changed
 returns-clause-changed c =
-    let k = known (goal.at.returns-clause-changed c).After-set_row in
-    let e = c.args.e.now in
-    let of_j : c.args.j.now.size.x ≡ e.size.x = ap (λ (n : Triple). n.x) c.requires.j_shape.size in
-    row_changed _ e c.set_row.new.self c.args.axis c.args.y c.args.z c.lessen_row_by-calm.new.new k.is c.zone-zone.ensures.shape c.requires.y c.requires.z
-    k.long
+    let is = lent (goal.at.returns-clause-changed c).After-values_mut-values in
+    lent_changed _ _ _ _ _ _ _ is c.lessen_row_by.new.row c.lessen_row_by.auto.row
+    (λ a p v. v -ℤ inner_at c.args.j.now a p -ℤ curl_of (row_at c.args.four.now.far_third.now p.x) (row_at c.args.four.now.near_third.now p.x)
+    (row_at c.args.four.now.far_second.now p.x) (row_at c.args.four.now.near_second.now p.x))
     (λ x below.
-    let in_j : x < c.args.j.now.size.x = omega arith in
-    c.lessen_row_by-calm.ensures.values x (omega (arith, k.same))
-    ∙ (λ i. c.row-old.ensures.values x below i -ℤ c.row-take.ensures.values x in_j i
+    let of_j : c.args.j.now.size.x ≡ c.args.e.now.size.x = ap (λ (n : Triple). n.x) c.requires.j_shape.size in
+    let in_j : x < c.args.j.now.size.x = omega (arith, lent_below _ _ _ _ _ _ _ is x below) in
+    c.lessen_row_by.ensures.values x below
+    ∙ ap (λ (v : ℤ). row_at (row _ _ _ _ _ _ _ is) x -ℤ v
     -ℤ curl_of (row_at c.args.four.now.far_third.now x) (row_at c.args.four.now.near_third.now x) (row_at c.args.four.now.far_second.now x)
-    (row_at c.args.four.now.near_second.now x)))
+    (row_at c.args.four.now.near_second.now x)) (c.row-take.ensures.values x in_j))
 
 pub returns-clause-calm : goal.returns-clause-calm
 returns-clause-calm c = λ calm.
-    let k = known (goal.at.returns-clause-calm c).After-set_row in
-    let e = c.args.e.now in
-    row_small c.args.most e c.set_row.new.self c.args.axis c.args.y c.args.z c.lessen_row_by-calm.new.new k.is c.zone-zone.ensures.shape c.requires.y
-    c.requires.z k.long (subst (λ (n : ℕ). IsSmallRow c.args.most n c.lessen_row_by-calm.new.new) k.same (c.lessen_row_by-calm.ensures.calm calm))
+    lent_calm _ _ _ _ _ _ _ (lent (goal.at.returns-clause-calm c).After-values_mut-values) c.lessen_row_by.new.row c.lessen_row_by.auto.row c.args.most
+    (c.lessen_row_by.ensures.calm calm)

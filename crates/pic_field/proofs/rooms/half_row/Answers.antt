@@ -1,43 +1,32 @@
-use Rattle.std.proofs.Common.{◌≡◌, ◌-ℤ◌, ℕ, ℤ, length, slice_index, ◌∙◌, ap, subst, arith}
-use Rattle.std.proofs.lemmas.List.{take_at, length-take-le}
+use Rattle.std.proofs.Common.{◌^◌, slice_index, ap}
 use Rattle.pic_num.specs.Space.{Triple}
-use Rattle.pic_grid.specs.Rows.{with_row}
-use Rattle.pic_field.specs.Rows.{row_at, curl_of, IsSmallRow}
-use Rattle.pic_field.proofs.LineLaws.{row_changed, row_small}
+use Rattle.pic_field.proofs.LentLaws.{IsLent, lent_small, lent_changed, lent_calm}
 use Rattle.pic_field.proofs.rooms.half_row.Goals as goal
-use Rattle.pic_field.proofs.rooms.half_row.Goals.{After-set_row}
+use Rattle.pic_field.proofs.rooms.half_row.Goals.{After-values_mut-values}
 
--- the row that was written has the new values
-record Known (c : After-set_row) : Type 0 where
-  is : c.set_row.new.self ≡ with_row c.args.b.now c.args.axis c.args.y c.args.z c.lessen_row-calm.new.new
-  long : length c.lessen_row-calm.new.new ≡ c.args.b.now.size.x
-  same : length c.row-old.result.now ≡ c.args.b.now.size.x
+-- the row that is lent
+lent : (c : After-values_mut-values) → IsLent c.args.b.now c.args.axis c.args.y c.args.z c.values_mut-values.result.now c.row_start-start.result
+    (slice_index c.zone-zone.result.size 0)
+lent c = record {
+  shape = c.zone-zone.ensures.shape;
+  in_y = c.requires.y;
+  in_z = c.requires.z;
+  same = c.values_mut-values.ensures.value;
+  at = c.row_start-start.ensures.value;
+  end = c.row_start-start.ensures.end;
+  size = ap (λ (n : Triple). n.x) c.zone-zone.ensures.size;
+}
 
-known : (c : After-set_row) → Known c
-known c =
-    let count = slice_index c.zone-zone.result.size 0 in
-    let size : count ≡ c.args.b.now.size.x = ap (λ (n : Triple). n.x) c.zone-zone.ensures.size in
-    let told = c.told-new in
-    let room : length c.args.new.now ≡ 129 = omega arith in
-    let long : length c.lessen_row-calm.new.new ≡ count = c.lessen_row-calm.auto.new ∙ length-take-le count c.args.new.now (omega arith) in
-    record {
-      is = c.set_row.ensures ∙ ap (with_row c.args.b.now c.args.axis c.args.y c.args.z) (take_at c.lessen_row-calm.new.new _ count long);
-      long = long ∙ size;
-      same = c.row-old.ensures.length;
-    }
+pub lessen_row-requires-clause-small : goal.lessen_row-requires-clause-small
+lessen_row-requires-clause-small c =
+    lent_small _ _ _ _ _ _ _ (lent (goal.at.lessen_row-requires-clause-small c).After-values_mut-values) (2 ^ 90) c.requires.small
 
 pub returns-clause-changed : goal.returns-clause-changed
 returns-clause-changed c =
-    let k = known (goal.at.returns-clause-changed c).After-set_row in
-    let b = c.args.b.now in
-    row_changed _ b c.set_row.new.self c.args.axis c.args.y c.args.z c.lessen_row-calm.new.new k.is c.zone-zone.ensures.shape c.requires.y c.requires.z k.long
-    (λ x below. c.lessen_row-calm.ensures.values x (omega (arith, k.same))
-    ∙ ap (λ (v : ℤ). v -ℤ curl_of (row_at c.args.four.now.far_third.now x) (row_at c.args.four.now.near_third.now x) (row_at c.args.four.now.far_second.now x)
-    (row_at c.args.four.now.near_second.now x)) (c.row-old.ensures.values x below))
+    lent_changed _ _ _ _ _ _ _ (lent (goal.at.returns-clause-changed c).After-values_mut-values) c.lessen_row.new.row c.lessen_row.auto.row _
+    c.lessen_row.ensures.values
 
 pub returns-clause-calm : goal.returns-clause-calm
 returns-clause-calm c = λ calm.
-    let k = known (goal.at.returns-clause-calm c).After-set_row in
-    let b = c.args.b.now in
-    row_small c.args.most b c.set_row.new.self c.args.axis c.args.y c.args.z c.lessen_row-calm.new.new k.is c.zone-zone.ensures.shape c.requires.y c.requires.z
-    k.long (subst (λ (n : ℕ). IsSmallRow c.args.most n c.lessen_row-calm.new.new) k.same (c.lessen_row-calm.ensures.calm calm))
+    lent_calm _ _ _ _ _ _ _ (lent (goal.at.returns-clause-calm c).After-values_mut-values) c.lessen_row.new.row c.lessen_row.auto.row c.args.most
+    (c.lessen_row.ensures.calm calm)

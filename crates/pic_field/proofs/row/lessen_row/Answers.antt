@@ -1,4 +1,4 @@
-use Rattle.std.proofs.Common.{◌≡◌, ◌^◌, ◌<◌, ◌≤◌, ◌+ℤ◌, ◌-ℤ◌, ℕ, ℤ, length, to_z, of_z, subst, arith}
+use Rattle.std.proofs.Common.{◌≡◌, ◌^◌, ◌<◌, ◌≤◌, ◌+ℤ◌, ◌-ℤ◌, ℕ, ℤ, length, to_z, of_z, sym, ◌∙◌, ap, subst, arith}
 use Rattle.std.proofs.lemmas.Bool.{leb-true}
 use mir.Syntax.{w128}
 use mir.Val.{SFits}
@@ -6,9 +6,8 @@ use Rattle.pic_num.specs.Sizes.{IsAtMost}
 use Rattle.pic_num.proofs.SizeLaws.{codes, code_is, code_fits}
 use Rattle.pic_field.specs.Rows.{row_at, curl_of}
 use Rattle.pic_field.proofs.LineLaws.{both_true}
-use Rattle.pic_field.proofs.RowLaws.{row_more, small_more}
+use Rattle.pic_field.proofs.RowLaws.{row_more, row_rest, small_more}
 use Rattle.pic_field.proofs.row.lessen_row.Goals as goal
-use Rattle.pic_field.proofs.row.lessen_row.Goals.{After-loop-i}
 
 -- the value at a place: the old one less the curl, as the code computes it
 module _ (o a b c d : ℤ) (old : IsAtMost o (2 ^ 90)) (far_third : IsAtMost a (2 ^ 121)) (near_third : IsAtMost b (2 ^ 121)) (far_second : IsAtMost c (2 ^ 121))
@@ -33,30 +32,37 @@ pub overflow_add-curl : goal.overflow_add-curl
 overflow_add-curl c =
     let i = c.loop-i.i in
     let h = c.requires in
-    curl_fits (row_at c.args.old.now i) _ _ _ _ (h.small.at_most i c.loop-i-test.true) (h.far_third.small.at_most i c.loop-i-test.true)
+    curl_fits (row_at c.args.row.now i) _ _ _ _ (h.small.at_most i c.loop-i-test.true) (h.far_third.small.at_most i c.loop-i-test.true)
     (h.near_third.small.at_most i c.loop-i-test.true) (h.far_second.small.at_most i c.loop-i-test.true) (h.near_second.small.at_most i c.loop-i-test.true)
 
 pub overflow_sub-value : goal.overflow_sub-value
 overflow_sub-value c =
     let i = c.loop-i.i in
     let h = c.requires in
-    value_fits _ _ _ _ _ (h.small.at_most i c.loop-i-test.true) (h.far_third.small.at_most i c.loop-i-test.true)
+    let own : IsAtMost (row_at c.loop-i.row i) (2 ^ 90) =
+    subst (λ (v : ℤ). IsAtMost v (2 ^ 90)) (sym (c.loop-i.invariant.rest i (omega arith))) (h.small.at_most i c.loop-i-test.true) in
+    value_fits _ _ _ _ _ own (h.far_third.small.at_most i c.loop-i-test.true)
     (h.near_third.small.at_most i c.loop-i-test.true) (h.far_second.small.at_most i c.loop-i-test.true) (h.near_second.small.at_most i c.loop-i-test.true)
 
 pub loop-i-preserved : goal.loop-i-preserved
 loop-i-preserved c =
     let i = c.loop-i.i in
     let h = c.requires in
-    let value = value_is _ _ _ _ _ (h.small.at_most i c.loop-i-test.true) (h.far_third.small.at_most i c.loop-i-test.true)
+    let as_it_was = c.loop-i.invariant.rest i (omega arith) in
+    let own : IsAtMost (row_at c.loop-i.row i) (2 ^ 90) = subst (λ (v : ℤ). IsAtMost v (2 ^ 90)) (sym as_it_was) (h.small.at_most i c.loop-i-test.true) in
+    let value = value_is _ _ _ _ _ own (h.far_third.small.at_most i c.loop-i-test.true)
     (h.near_third.small.at_most i c.loop-i-test.true) (h.far_second.small.at_most i c.loop-i-test.true) (h.near_second.small.at_most i c.loop-i-test.true) in
-    let inside : i < length c.loop-i.new = omega arith in
+    let inside : i < length c.loop-i.row = omega arith in
     record {
       values = row_more
-          (λ k z. z ≡ row_at c.args.old.now k -ℤ curl_of (row_at c.args.four.now.far_third.now k) (row_at c.args.four.now.near_third.now k)
+          (λ k z. z ≡ row_at c.args.row.now k -ℤ curl_of (row_at c.args.four.now.far_third.now k) (row_at c.args.four.now.near_third.now k)
           (row_at c.args.four.now.far_second.now k) (row_at c.args.four.now.near_second.now k))
-          c.loop-i.new i _ inside c.loop-i.invariant.values value;
+          c.loop-i.row i _ inside c.loop-i.invariant.values (value
+          ∙ ap (λ (v : ℤ). v -ℤ curl_of (row_at c.args.four.now.far_third.now i) (row_at c.args.four.now.near_third.now i)
+          (row_at c.args.four.now.far_second.now i) (row_at c.args.four.now.near_second.now i)) as_it_was);
+      rest = row_rest c.args.row.now c.loop-i.row i _ c.loop-i.invariant.rest;
       calm = λ e.
           let both = both_true c.loop-i.calm _ e in
-          small_more c.args.most c.loop-i.new i _ inside (c.loop-i.invariant.calm both.0)
+          small_more c.args.most c.loop-i.row i _ inside (c.loop-i.invariant.calm both.0)
           (record { size = subst (λ (m : ℕ). m ≤ c.args.most) c.unsigned_abs.ensures.value (leb-true c.unsigned_abs.result c.args.most both.1) });
     }

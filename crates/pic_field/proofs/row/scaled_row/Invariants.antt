@@ -1,16 +1,15 @@
 use Rattle.std.proofs.Common.{◌-◌, ◌≡◌, ◌+◌, ◌%◌, ◌<◌, ◌≤◌, length}
-use Rattle.pic_num.specs.Space.{triple}
-use Rattle.pic_field.specs.Rows.{IsScaledRow}
+use Rattle.pic_field.specs.Rows.{start_cell, IsScaledRow}
 use Rattle.pic_field.proofs.row.scaled_row.Given as goal
 
 -- the row is filled up to `done`, and the next run begins at the layer x
 abbrev pub invariant-loop-done : goal.invariant-loop-done
 invariant-loop-done l = record {
-  at : l.x ≡ ((triple l.fn.cell).x + l.done) % l.field.cells.x;
+  at : l.x ≡ (l.fn.start.x + l.done) % l.field.cells.x;
   below : l.x < l.field.cells.x;
   most : l.done ≤ l.count;
-  room : length l.to ≡ 129;
-  row : IsScaledRow l.field l.by l.axis (triple l.fn.cell) l.done l.to;
+  room : length l.to ≡ length l.initial.to;
+  row : IsScaledRow l.field l.by l.axis (start_cell l.fn.start) l.done l.to;
 }
 
 abbrev pub decreases-loop-done : goal.decreases-loop-done

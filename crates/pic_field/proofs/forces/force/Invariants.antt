@@ -1,5 +1,5 @@
 use Rattle.pic_field.specs.Lines.{BelowLayer, Changed, force_made}
-use Rattle.pic_field.proofs.forces.force_in.Given as goal
+use Rattle.pic_field.proofs.forces.force.Given as goal
 
 -- the layers below z are done
 abbrev pub invariant-loop-z : goal.invariant-loop-z
