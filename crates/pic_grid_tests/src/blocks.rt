@@ -51,8 +51,7 @@ fn a_block_is_changed_at_one_place(rt: HostRuntime) -> Result<(), NoMemory> {
     };
     let mut block = Block::new(rt.alloc(), zone)?;
     assert_eq!(rt; block.zone(), zone);
-    block.add(Axis::Y, [-1, 2, 3], 40);
-    block.add(Axis::Y, [-1, 2, 3], 2);
+    block.set(Axis::Y, [-1, 2, 3], 42);
     block.set(Axis::Z, [0, 0, 3], -5);
     check(
         &rt,
@@ -74,31 +73,23 @@ fn a_block_is_changed_at_one_place(rt: HostRuntime) -> Result<(), NoMemory> {
     Ok(())
 }
 
-// the components on y of the row at y and z, and from a cell on
-fn check_row(
-    rt: &impl Abort,
-    block: &Block,
-    y: u32,
-    z: u32,
-    row: &[i128],
-    cell: [i32; 3],
-    run: &[i128],
-) {
+// the components on y of the row at y and z
+fn check_row(rt: &impl Abort, block: &Block, y: u32, z: u32, row: &[i128]) {
     let [_, ny, nz] = block.zone().size;
-    assert!(rt; y < ny && z < nz && block.has(cell));
+    assert!(rt; y < ny && z < nz);
     assert_eq!(rt; block.row(Axis::Y, y, z), row);
-    assert_eq!(rt; block.run(Axis::Y, cell), run);
 }
 
 #[test]
-fn a_row_is_read_back(rt: HostRuntime) -> Result<(), NoMemory> {
+fn a_row_that_is_written_is_read_back(rt: HostRuntime) -> Result<(), NoMemory> {
     let zone = Zone {
         low: [-1, 0, 3],
         size: [2, 3, 1],
     };
     let mut block = Block::new(rt.alloc(), zone)?;
-    block.set_row(Axis::Y, 2, 0, &[5, 6]);
-    check_row(&rt, &block, 2, 0, &[5, 6], [0, 2, 3], &[6]);
+    let start = block.row_start(Axis::Y, 2, 0);
+    block.values_mut()[start..start + 2].copy_from_slice(&[5, 6]);
+    check_row(&rt, &block, 2, 0, &[5, 6]);
     check(
         &rt,
         &block,
