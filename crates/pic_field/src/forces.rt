@@ -10,7 +10,6 @@ ghost use Rattle.pic_grid.specs.Block.{IsAmongCells, IsShaped, inner_at, outer_o
 ghost use Rattle.pic_field.specs.Lines.{HasCells, OnRow, OnLine, OnLayer, Changed, force_made, line_start};
 ghost use Rattle.pic_field.specs.Rows.{start_cell, IsStart};
 
-use crate::rooms::Rooms;
 use crate::row::{Start, scaled_row, start_at};
 use crate::zone::{cell_in, is_empty, line_length};
 use pic_grid::{Block, Lattice};
@@ -33,17 +32,6 @@ pub fn force(mult: Mult, from: &Lattice, to: &mut Block)
     for z in 0..zone.size[2] {
         force_layer(mult, from, to, z);
     }
-}
-
-/// As `force`, for callers that lend rooms to every phase. It has no need of them.
-pub fn force_in(mult: Mult, from: &Lattice, to: &mut Block, _rooms: &mut Rooms)
-    requires among { IsAmongCells to.old.low to.old.size from.now.cells }
-    requires small { EachAtMost (2 ^ 90) from.now }
-    ensures shape { IsShaped to.new to.old }
-    ensures values { (a : AxisName) → (p : Triple) → IsWithin p to.old.size
-        → inner_at to.new a p ≡ scaled (value_at from.now a (outer_of to.old.low p)) mult }
-{
-    force(mult, from, to);
 }
 
 /// The force values of a layer, line by line.

@@ -11,7 +11,7 @@ mod row;
 mod zone;
 
 pub use electric::{full_e, full_e_in};
-pub use forces::{force, force_in};
+pub use forces::force;
 pub use laws::law_of_the_least_stop;
 pub use magnetic::{half_b, half_b_in};
 pub use rooms::Rooms;

@@ -10,7 +10,7 @@ ghost use Rattle.pic_grid.specs.Lattice.{EachAtMost, field_of, value_at};
 ghost use Rattle.pic_phase.specs.Blocks.{EachBlock, IsAmong, IsForced};
 
 use crate::shares::{share, useful};
-use pic_field::{Rooms, force_in};
+use pic_field::force;
 use pic_grid::{Block, Lattice};
 use pic_num::Mult;
 use std::thread::{Threads, join_mut};
@@ -21,9 +21,8 @@ fn force_in_turn(mult: Mult, from: &Lattice, blocks: &mut [Block])
     requires small { EachAtMost most_value from.now }
     ensures { EachBlock (IsForced mult from.now) blocks.old blocks.new }
 {
-    let mut rooms = Rooms::new();
     for i in 0..blocks.len() {
-        force_in(mult, from, &mut blocks[i], &mut rooms);
+        force(mult, from, &mut blocks[i]);
     }
 }
 
