@@ -6,6 +6,9 @@ ghost use Rattle.pic_num.specs.Rounding.{IsRounded, rounded, scaled, IsTruncated
 
 use crate::mult::Mult;
 
+/// The bits of a word of the machine. A shift that is seen to be less takes no test.
+const WORD: u32 = 64;
+
 /// The nearest whole number to `n / d`, a half going up. `d` is above 0, and both are below 2^125
 /// in size.
 pub fn rdiv(n: i128, d: i128) -> i128
@@ -31,7 +34,8 @@ pub fn scale(v: i128, by: Mult) -> i128
 {
     let n = i128::from(by.n());
     let k = by.k();
-    (2 * v * n + (1 << k)) >> (k + 1)
+    let bits = (k + 1) % WORD;
+    (2 * v * n + (1 << k)) >> bits
 }
 
 /// `n / d` with its fraction dropped towards 0. `d` isn't 0, and both are below 2^125 in size.

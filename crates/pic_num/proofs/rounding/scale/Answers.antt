@@ -1,4 +1,4 @@
-use Rattle.std.proofs.Common.{◌≡◌, ℤ, pos, ◌^◌, ◌-◌, ◌+◌, ◌*◌, ◌%◌, ◌+ℤ◌, ◌*ℤ◌, to_z, of_z, subst, sym, ◌∙◌, ap, arith}
+use Rattle.std.proofs.Common.{◌≡◌, ℕ, ℤ, pos, ◌^◌, ◌-◌, ◌+◌, ◌*◌, ◌%◌, ◌+ℤ◌, ◌*ℤ◌, to_z, of_z, subst, sym, ◌∙◌, ap, arith}
 use mathlib.Core.Path.{ap₂}
 use lib.Signed.{shr_z}
 use mir.Syntax.{w32, w128}
@@ -44,7 +44,7 @@ returns c =
     ap (λ (z : ℤ). to_z w128 (of_z w128 z))
     (ap₂ shr_z
     ((λ i. to_z w128 (of_z w128 (twice i +ℤ added i))) ∙ sum)
-    (ap (λ k. 2 ^ (k + 1)) c.k-k.ensures.value)
+    (ap (λ (s : ℕ). 2 ^ s) (omega (arith, c.k-k.ensures.most)) ∙ ap (λ k. 2 ^ (k + 1)) c.k-k.ensures.value)
     ∙ scaled-shr v by)
     ∙ held
     in
