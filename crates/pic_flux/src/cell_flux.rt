@@ -92,12 +92,11 @@ impl CellFlux {
     {
         let cell = self.cell;
         let at = to.base(cell);
-        let (x, y, z) = (self.x, self.y, self.z);
         let in_x = edges_in(to, Axis::X, cell, layers);
         let in_y = edges_in(to, Axis::Y, cell, layers);
         let in_z = edges_in(to, Axis::Z, cell, layers);
-        add_corners(to, Axis::X, &at, &in_x, &x);
-        add_corners(to, Axis::Y, &at, &in_y, &y);
-        add_corners(to, Axis::Z, &at, &in_z, &z);
+        add_corners(to, Axis::X, &at, &in_x, &self.x);
+        add_corners(to, Axis::Y, &at, &in_y, &self.y);
+        add_corners(to, Axis::Z, &at, &in_z, &self.z);
     }
 }
