@@ -15,7 +15,7 @@ use Rattle.pic_grid.specs.Block.{BlockValues, IsShaped}
 use Rattle.pic_grid.proofs.TwoHatLaws.{only}
 use Rattle.pic_flux.specs.Adds.{Adds}
 use Rattle.pic_grid.specs.Rows.{lifted}
-use Rattle.pic_flux.specs.Corners.{same_axis, at_edge, at_corners, on_axis, both, face_weight, corner}
+use Rattle.pic_flux.specs.Corners.{at_edge, at_corners, on_axis, both, face_weight, corner}
 use Rattle.pic_grid.proofs.BlockLaws.{shaped_twice}
 use Rattle.pic_flux.proofs.AddsLaws.{adds_same, adds_twice}
 use Rattle.pic_flux.proofs.OnlyLaws.{one, if_is, face_hats}
@@ -173,27 +173,3 @@ three_added f old x y now s t h k m =
     let two = both (on_axis X (f X)) (on_axis Y (f Y)) in
     adds_same old now (both two (on_axis Z (f Z))) f (three_axes f)
     (adds_twice old y now two (on_axis Z (f Z)) (shaped_twice old x y s t) (adds_twice old x y (on_axis X (f X)) (on_axis Y (f Y)) s h k) m)
-
-no_way : (o q d a0 a1 b0 b1 : ℤ) → d ≡ pos 0 → o *ℤ simpson q d a0 a1 b0 b1 ≡ pos 0
-unfolding simpson
-no_way o q d a0 a1 b0 b1 e = rw e (ring (o ∷ q ∷ a0 ∷ a1 ∷ b0 ∷ b1 ∷ []) (search reads depth 40 fits 9000) tt)
-
-still_here : (side : ℕ) (q : ℤ) (s : Piece) (axis : Axis) → along axis s.to -ℤ along axis s.from ≡ pos 0 → (c : Spot) → flux side q s axis c ≡ pos 0
-still_here side q s axis none c =
-    let second = next_axis axis in
-    let third = next_axis second in
-    flux_is side q s axis c
-    ∙ no_way (level axis s.cell c) q (along axis s.to -ℤ along axis s.from)
-    (edge_weight side second s.from c) (edge_weight side second s.to c)
-    (edge_weight side third s.from c) (edge_weight side third s.to c)
-    none
-
-either_none : (b : Bool) (t : ℤ) → t ≡ pos 0 → (if b then t else pos 0) ≡ pos 0
-either_none true t e = e
-either_none false t e = refl
-
--- a piece that doesn't move along an axis has no flux there
-pub still : (side : ℕ) (q : ℤ) (s : Piece) (axis : Axis) → along axis s.to -ℤ along axis s.from ≡ pos 0
-    → (a : Axis) (c : Spot) → on_axis axis (flux side q s axis) a c ≡ pos 0
-unfolding on_axis
-still side q s axis none a c = either_none (same_axis axis a) (flux side q s axis c) (still_here side q s axis none c)

@@ -11,14 +11,13 @@ use Rattle.pic_num.specs.Space.{Triple, Spot, next_axis}
 use Rattle.pic_num.proofs.ProductLaws.{plus_none}
 use Rattle.pic_grid.specs.Path.{same_int}
 use Rattle.pic_grid.specs.Cells.{count_of, place_of}
-use Rattle.pic_grid.specs.Fours.{IsBase, AreFound, added_in, added_where, four_added}
+use Rattle.pic_grid.specs.Fours.{AreFound, added_in, added_where, four_added}
 use Rattle.pic_grid.specs.Rows.{lifted}
-use Rattle.pic_grid.specs.declared.base.Base.{Base}
 use Rattle.pic_grid.specs.declared.fours.Four.{Four}
 use Rattle.pic_grid.specs.declared.fours.Found.{Found}
 use Rattle.pic_grid.proofs.FourLaws.{length-added_in}
-use Rattle.pic_grid.specs.Block.{BlockValues, InZone, IsShaped, inner_of, edge_at, with_edge}
-use Rattle.pic_grid.proofs.BlockLaws.{in_zone_shaped, edge_same, edge_at-same, edge_at-other}
+use Rattle.pic_grid.specs.Block.{BlockValues, InZone, inner_of, edge_at, with_edge}
+use Rattle.pic_grid.proofs.BlockLaws.{edge_same, edge_at-same, edge_at-other}
 use Rattle.pic_flux.proofs.AddsLaws.{adds_twice}
 use Rattle.pic_flux.specs.Adds.{Adds}
 use Rattle.pic_flux.specs.CellFlux.{at_four, all_four}
@@ -193,10 +192,6 @@ four_adds b a c found f long has =
     (where_adds found.low_high two a high f.low_high two_long has.low_high)
     (where_adds found.high_high three a far f.high_high three_long has.high_high))
 
--- blocks of one zone share what is told of a cell, and which edges they have
-pub base_shaped : (old now : BlockValues) (at : Base) → IsShaped old now → IsBase old.low old.size at → IsBase now.low now.size at
-base_shaped old now at s base = subst (λ (n : Triple). IsBase now.low n at) s.size (subst (λ (l : Spot). IsBase l old.size at) s.low base)
-
 -- two layers are among n from low on
 record HasTwo (low : ℤ) (n : ℕ) (c : ℤ) : Type 0 where
   near_low : low ≤ℤ c
@@ -298,7 +293,3 @@ all_found low n a c h = record {
   low_high = (λ t. up_edge low n (next_axis (next_axis a)) c h, λ z. refl);
   high_high = (λ t. far_edge low n a c h, λ z. refl);
 }
-
--- and so has each block of that zone
-pub edges_shaped : (old now : BlockValues) (c : Spot) → IsShaped old now → HasEdges old.low old.size c → HasEdges now.low now.size c
-edges_shaped old now c s h = record { near = in_zone_shaped old now c s h.near; far = in_zone_shaped old now (lifted X (lifted Y (lifted Z c))) s h.far }

@@ -4,3 +4,4 @@ pub mod EdgeLaws
 pub mod CornerLaws
 pub mod FluxSizeLaws
 pub mod WeightLaws
+pub mod SpanLaws

@@ -1,3 +1,4 @@
 pub mod Adds
 pub mod CellFlux
 pub mod Corners
+pub mod Spans

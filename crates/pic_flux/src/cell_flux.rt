@@ -11,6 +11,7 @@ ghost use Rattle.pic_flux.specs.CellFlux.{edge_flux, flux_cell, IsModest, AreLay
 
 use crate::edges::{Layers, add_corners, edges_in, far_layers, layers_in, near_layers};
 use crate::four::four_of;
+use crate::spans::Spans;
 use pic_grid::{Block, Four, Segment};
 use pic_num::{Axis, Sub};
 
@@ -34,9 +35,10 @@ impl CellFlux {
         ensures cell { flux_cell result ≡ seg.now.cell }
     {
         let charge = i64::from(q);
-        let x = four_of(sub, seg, charge, Axis::X);
-        let y = four_of(sub, seg, charge, Axis::Y);
-        let z = four_of(sub, seg, charge, Axis::Z);
+        let spans = Spans::of(sub, seg);
+        let x = four_of(&spans, charge, Axis::X);
+        let y = four_of(&spans, charge, Axis::Y);
+        let z = four_of(&spans, charge, Axis::Z);
         CellFlux {
             cell: seg.cell,
             x,

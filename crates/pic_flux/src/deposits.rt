@@ -11,6 +11,7 @@ ghost use Rattle.pic_flux.specs.Corners.{HasEdges};
 
 use crate::cell_flux::CellFlux;
 use crate::edges::{deposit_axis, has_edges};
+use crate::spans::Spans;
 use pic_grid::{Block, Segment, Track};
 use pic_num::{Axis, Sub};
 
@@ -43,10 +44,11 @@ pub fn deposit_inside(sub: Sub, seg: &Segment, q: i32, to: &mut Block)
 {
     let charge = i64::from(q);
     let _side = sub.side();
+    let spans = Spans::of(sub, seg);
     let at = to.base(seg.cell);
-    deposit_axis(sub, seg, charge, Axis::X, &at, to);
-    deposit_axis(sub, seg, charge, Axis::Y, &at, to);
-    deposit_axis(sub, seg, charge, Axis::Z, &at, to);
+    deposit_axis(&spans, charge, Axis::X, &at, to);
+    deposit_axis(&spans, charge, Axis::Y, &at, to);
+    deposit_axis(&spans, charge, Axis::Z, &at, to);
 }
 
 /// Adds the flux of the charge `q` on all segments of a track, each as `deposit` does, and changes

@@ -1,20 +1,19 @@
-//! The deposition of a segment's flux along one axis.
+//! The deposition of a segment's flux along one axis, and which edges of its cell a block has.
 
 ghost use Rattle.std.specs.Prelude.{◌≡◌, pos, ◌^◌, ◌+ℤ◌, ◌≤ℤ◌, ◌<ℤ◌, ◌↔◌, IsTrue};
 ghost use Rattle.pic_num.specs.Sizes.{IsAtMost};
 ghost use Rattle.pic_num.specs.Space.{spot};
-ghost use Rattle.pic_grid.specs.Flux.{flux};
-ghost use Rattle.pic_grid.specs.Segment.{IsInCell};
 ghost use Rattle.pic_grid.specs.Block.{IsShaped, AllAtMost};
 ghost use Rattle.pic_grid.specs.Fours.{IsBase, base_cell, AreFound, AreSmall};
 ghost use Rattle.pic_flux.specs.Adds.{Adds};
 ghost use Rattle.pic_flux.specs.CellFlux.{at_four, all_four, IsLayer, AreLayers, AreTrue, near_layers, far_layers};
-ghost use Rattle.pic_flux.specs.Corners.{HasEdges, on_axis};
+ghost use Rattle.pic_flux.specs.Corners.{HasEdges};
+ghost use Rattle.pic_flux.specs.Spans.{IsShort, four_by};
 
 use crate::four::four_of;
-use crate::weights::way;
-use pic_grid::{Base, Block, Found, Four, Segment, Zone};
-use pic_num::{Axis, Sub};
+use crate::spans::Spans;
+use pic_grid::{Base, Block, Found, Four, Zone};
+use pic_num::Axis;
 
 /// Whether a zone has a cell's own layer on each axis, and the next one up.
 #[derive(Clone, Copy)]
@@ -214,22 +213,21 @@ pub fn has_edges(to: &Block, cell: [i32; 3]) -> bool
     are_among(low_z, nz, z)
 }
 
-/// Adds the flux of the charge `q` on a segment to the four edges of its cell along `axis`, all of
-/// which the zone has.
+/// Adds the flux of the charge `q` on a segment of these spans to the four edges of its cell along
+/// `axis`, all of which the zone has.
 #[inline(always)]
-pub(crate) fn deposit_axis(sub: Sub, seg: &Segment, q: i64, axis: Axis, at: &Base, to: &mut Block)
-    requires inside { IsInCell sub seg.now }
+pub(crate) fn deposit_axis(spans: &Spans, q: i64, axis: Axis, at: &Base, to: &mut Block)
+    requires short { IsShort spans.now }
     requires charge { IsAtMost q (2 ^ 31) }
     requires base { IsBase to.old.low to.old.size at.now }
-    requires cell { base_cell at.now ≡ seg.now.cell }
-    requires edges { HasEdges to.old.low to.old.size seg.now.cell }
+    requires edges { HasEdges to.old.low to.old.size (base_cell at.now) }
     requires room { AllAtMost (2 ^ 110) to.old }
     ensures shape { IsShaped to.old to.new }
-    ensures values { Adds to.old to.new (on_axis axis (flux sub q seg.now axis)) }
+    ensures values { Adds to.old to.new (at_four axis (base_cell at.now) (four_by spans.now q axis)) }
 {
-    if way(sub, seg, axis) == 0 {
+    if spans.on(axis).way == 0 {
         return;
     }
-    let flux = four_of(sub, seg, q, axis);
+    let flux = four_of(spans, q, axis);
     add_corners(to, axis, at, &all_four(), &flux);
 }

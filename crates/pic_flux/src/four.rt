@@ -1,39 +1,94 @@
 //! A segment's flux through the four edges of its cell along one axis.
 
-ghost use Rattle.std.specs.Prelude.{◌≡◌, ◌^◌};
+ghost use Rattle.std.specs.Prelude.{◌≡◌, pos, ◌*◌, ◌^◌, ◌+ℤ◌, ◌-ℤ◌, ◌*ℤ◌};
 ghost use Rattle.pic_num.specs.Sizes.{IsAtMost};
-ghost use Rattle.pic_num.specs.Space.{along, next_axis};
-ghost use Rattle.pic_grid.specs.Flux.{flux};
-ghost use Rattle.pic_grid.specs.Segment.{IsInCell};
-ghost use Rattle.pic_num.specs.declared.axis.Axis.{Axis};
-ghost use Rattle.pic_num.specs.Space.{Spot};
-ghost use Rattle.pic_flux.specs.Corners.{on_axis};
 ghost use Rattle.pic_grid.specs.Fours.{AreSmall};
-ghost use Rattle.pic_flux.specs.CellFlux.{at_four};
+ghost use Rattle.pic_flux.specs.Spans.{IsShort, four_by};
 
-use crate::weights::corner;
-use pic_grid::{Four, Segment};
-use pic_num::{Axis, Sub};
+use crate::spans::Spans;
+use pic_grid::Four;
+use pic_num::Axis;
 
-/// The flux of the charge `q` on a segment through the four edges of its cell along `axis`.
+/// The flux of the charge `q` on a segment through the four edges of its cell along `axis`, of which
+/// two take their weights from the one that is high on both other axes, and one from all three.
 #[inline(always)]
-pub(crate) fn four_of(sub: Sub, seg: &Segment, q: i64, axis: Axis) -> Four
-    requires inside { IsInCell sub seg.now }
+pub(crate) fn four_of(spans: &Spans, q: i64, axis: Axis) -> Four
+    requires short { IsShort spans.now }
     requires charge { IsAtMost q (2 ^ 31) }
-    ensures value { (a : Axis) (c : Spot) → at_four axis seg.now.cell result a c
-        ≡ on_axis axis (flux sub q seg.now axis) a c }
+    ensures value { result ≡ four_by spans.now q axis }
     ensures small { AreSmall result }
-    ensures second { IsAtMost (along (next_axis axis) seg.now.cell) (2 ^ 24) }
-    ensures third { IsAtMost (along (next_axis (next_axis axis)) seg.now.cell) (2 ^ 24) }
 {
-    let low_low = corner(sub, seg, q, axis, false, false);
-    let high_low = corner(sub, seg, q, axis, true, false);
-    let low_high = corner(sub, seg, q, axis, false, true);
-    let high_high = corner(sub, seg, q, axis, true, true);
+    let second = axis.next();
+    let (a, b) = (spans.on(second), spans.on(second.next()));
+    let both = both_high(a.sum, b.sum, a.way, b.way);
+    let high_a = one_high(a.part, both);
+    let high_b = one_high(b.part, both);
+    let none = none_high(spans.whole, high_a, high_b, both);
+    let carried = carried(q, spans.on(axis).way);
     Four {
-        low_low,
-        high_low,
-        low_high,
-        high_high,
+        low_low: wide_product(carried, none),
+        high_low: wide_product(carried, high_a),
+        low_high: wide_product(carried, high_b),
+        high_high: wide_product(carried, both),
     }
+}
+
+/// What a charge carries along a way.
+#[inline(always)]
+fn carried(q: i64, way: i64) -> i64
+    requires q { IsAtMost q (2 ^ 31) }
+    requires way { IsAtMost way (2 ^ 14) }
+    ensures value { result ≡ q *ℤ way }
+    ensures size { IsAtMost result (2 ^ 45) }
+{
+    q * way
+}
+
+/// The product of what is carried along a way and a weight.
+#[inline(always)]
+fn wide_product(carried: i64, weight: i64) -> i128
+    requires carried { IsAtMost carried (2 ^ 45) }
+    requires weight { IsAtMost weight (2 ^ 35) }
+    ensures value { result ≡ carried *ℤ weight }
+    ensures size { IsAtMost result (2 ^ 80) }
+{
+    i128::from(carried) * i128::from(weight)
+}
+
+/// The weight of the edge that is high on both other axes, 12 times: the mean weights and the
+/// correction for how they change together.
+#[inline(always)]
+fn both_high(a: i64, b: i64, way_a: i64, way_b: i64) -> i64
+    requires a { IsAtMost a (2 ^ 15) }
+    requires b { IsAtMost b (2 ^ 15) }
+    requires way_a { IsAtMost way_a (2 ^ 14) }
+    requires way_b { IsAtMost way_b (2 ^ 14) }
+    ensures value { result ≡ pos 3 *ℤ a *ℤ b +ℤ way_a *ℤ way_b }
+    ensures size { IsAtMost result (2 ^ 32) }
+{
+    3 * a * b + way_a * way_b
+}
+
+/// The weight of an edge that is high on one axis alone.
+#[inline(always)]
+fn one_high(part: i64, both: i64) -> i64
+    requires part { IsAtMost part (3 * 2 ^ 30) }
+    requires both { IsAtMost both (2 ^ 32) }
+    ensures value { result ≡ part -ℤ both }
+    ensures size { IsAtMost result (2 ^ 33) }
+{
+    part - both
+}
+
+/// The weight of the edge that is low on both axes.
+#[inline(always)]
+fn none_high(whole: i64, high_a: i64, high_b: i64, both: i64) -> i64
+    requires whole { IsAtMost whole (3 * 2 ^ 30) }
+    requires high_a { IsAtMost high_a (2 ^ 33) }
+    requires high_b { IsAtMost high_b (2 ^ 33) }
+    requires both { IsAtMost both (2 ^ 32) }
+    ensures value { result ≡ whole -ℤ high_a -ℤ high_b -ℤ both }
+    ensures size { IsAtMost result (2 ^ 35) }
+{
+    whole - high_a - high_b - both
 }

@@ -6,6 +6,7 @@ mod cell_flux;
 mod deposits;
 mod edges;
 mod four;
+mod spans;
 #[cfg(test)]
 mod tests;
 mod weights;

@@ -1,4 +1,4 @@
-use Rattle.std.proofs.Common.{◌≡◌, ℕ, ◌^◌, ◌+◌, ◌*◌, ◌≤◌, ℤ, unsigned_abs, subst, arith}
+use Rattle.std.proofs.Common.{◌≡◌, ℕ, ◌^◌, ◌+◌, ◌*◌, ◌≤◌, ℤ, unsigned_abs, ap, subst, ◌∙◌, arith}
 use mir.Syntax.{w32}
 use mir.Val.{SFits}
 use Rattle.pic_num.specs.declared.axis.Axis.{Axis}
@@ -8,8 +8,14 @@ use Rattle.pic_grid.specs.Segment.{Piece, IsInCell}
 use Rattle.pic_grid.specs.Block.{BlockValues, IsShaped, AllAtMost}
 use Rattle.pic_grid.proofs.BlockLaws.{all_at_most_more}
 use Rattle.pic_flux.specs.Adds.{Adds}
+use Rattle.pic_flux.specs.CellFlux.{at_four}
 use Rattle.pic_flux.specs.Corners.{on_axis}
-use Rattle.pic_flux.proofs.AddsLaws.{adds_grow}
+use Rattle.pic_flux.specs.Spans.{AreSpans, four_by}
+use Rattle.pic_flux.specs.declared.spans.Spans.{Spans}
+use Rattle.pic_grid.specs.Fours.{base_cell}
+use Rattle.pic_grid.specs.declared.base.Base.{Base}
+use Rattle.pic_flux.proofs.SpanLaws.{four_is}
+use Rattle.pic_flux.proofs.AddsLaws.{adds_grow, adds_same}
 use Rattle.pic_flux.proofs.FluxSizeLaws.{on_axis_most, charge_passed, charge_few}
 use Rattle.pic_flux.proofs.CornerLaws.{three_added}
 use Rattle.pic_flux.proofs.deposits.deposit_inside.Goals as goal
@@ -21,10 +27,12 @@ record Along (side : ℕ) (old now : BlockValues) (q : ℤ) (s : Piece) (axis : 
   added : Adds old now (on_axis axis (flux side q s axis))
   grown : (n : ℕ) → AllAtMost n old → AllAtMost (n + 2 ^ 77) now
 
-along : (side : ℕ) (old now : BlockValues) (q r : ℤ) (s : Piece) (axis : Axis) → side ≤ 2 ^ 14 → SFits w32 q → r ≡ q → IsInCell side s → IsShaped old now
-    → Adds old now (on_axis axis (flux side r s axis)) → Along side old now q s axis
-along side old now q r s axis few fits e inside shape h =
-    let added = subst (λ (p : ℤ). Adds old now (on_axis axis (flux side p s axis))) e h in
+along : (side : ℕ) (old now : BlockValues) (q r : ℤ) (s : Piece) (p : Spans) (at : Base) (axis : Axis) → side ≤ 2 ^ 14 → SFits w32 q → r ≡ q → base_cell at ≡ s.cell
+    → IsInCell side s → AreSpans side s p → IsShaped old now → Adds old now (at_four axis (base_cell at) (four_by p r axis)) → Along side old now q s axis
+along side old now q r s p at axis few fits e cell inside spans shape h =
+    let there : Adds old now (at_four axis s.cell (four_by p q axis)) =
+    subst (Adds old now) (λ i. at_four axis (cell i) (four_by p (e i) axis)) h in
+    let added = adds_same old now (at_four axis s.cell (four_by p q axis)) (on_axis axis (flux side q s axis)) (four_is side q s p axis spans inside) there in
     record {
       shape = shape;
       added = added;
@@ -34,16 +42,24 @@ along side old now q r s axis few fits e inside shape h =
           all_at_most_more now (n + unsigned_abs q * side * (12 * (side * side))) (n + 2 ^ 77) (omega (arith, charge_few side q few fits)) grow;
     }
 
+-- the cell that the base tells of
+cell_is : (c : After-deposit_axis) → base_cell c.base-at.result ≡ c.args.seg.now.cell
+cell_is c = c.base-at.ensures.cell ∙ ap (λ (t : Piece). t.cell) c.seg.view_is
+
+cell_is_2 : (c : After-deposit_axis-2) → base_cell c.base-at.result ≡ c.args.seg.now.cell
+cell_is_2 c = c.base-at.ensures.cell ∙ ap (λ (t : Piece). t.cell) c.seg.view_is
+
 along_x : (c : After-deposit_axis) → Along c.args.sub c.args.to.now c.deposit_axis.new.to c.args.q c.args.seg.now X
 along_x c =
-    along c.args.sub _ _ c.args.q _ c.args.seg.now X c.side-side.ensures.most c.ranges.q
-    (charge_passed c.args.q c.from-charge.result c.ranges.q c.from-charge.ensures) c.requires.inside c.deposit_axis.ensures.shape c.deposit_axis.ensures.values
+    along c.args.sub _ _ c.args.q _ c.args.seg.now c.of-spans.result c.base-at.result X c.side-side.ensures.most c.ranges.q
+    (charge_passed c.args.q c.from-charge.result c.ranges.q c.from-charge.ensures) (cell_is c) c.requires.inside c.of-spans.ensures.spans
+    c.deposit_axis.ensures.shape c.deposit_axis.ensures.values
 
 along_y : (c : After-deposit_axis-2) → Along c.args.sub c.deposit_axis.new.to c.deposit_axis-2.new.to c.args.q c.args.seg.now Y
 along_y c =
-    along c.args.sub _ _ c.args.q _ c.args.seg.now Y c.side-side.ensures.most c.ranges.q
-    (charge_passed c.args.q c.from-charge.result c.ranges.q c.from-charge.ensures) c.requires.inside c.deposit_axis-2.ensures.shape
-    c.deposit_axis-2.ensures.values
+    along c.args.sub _ _ c.args.q _ c.args.seg.now c.of-spans.result c.base-at.result Y c.side-side.ensures.most c.ranges.q
+    (charge_passed c.args.q c.from-charge.result c.ranges.q c.from-charge.ensures) (cell_is_2 c) c.requires.inside c.of-spans.ensures.spans
+    c.deposit_axis-2.ensures.shape c.deposit_axis-2.ensures.values
 
 pub deposit_axis-requires-clause-room : goal.deposit_axis-requires-clause-room
 deposit_axis-requires-clause-room c = all_at_most_more c.args.to.now (2 ^ 100) (2 ^ 110) (omega arith) c.requires.room
@@ -70,6 +86,7 @@ returns-clause-values c =
     let side = c.args.sub in
     let on_x = along_x (goal.at.returns-clause-values c).After-deposit_axis in
     let on_y = along_y (goal.at.returns-clause-values c).After-deposit_axis-2 in
-    let on_z = along side y now q _ s Z c.side-side.ensures.most c.ranges.q (charge_passed q c.from-charge.result c.ranges.q c.from-charge.ensures)
-    c.requires.inside c.deposit_axis-3.ensures.shape c.deposit_axis-3.ensures.values in
+    let on_z = along side y now q _ s c.of-spans.result c.base-at.result Z c.side-side.ensures.most c.ranges.q
+    (charge_passed q c.from-charge.result c.ranges.q c.from-charge.ensures) (c.base-at.ensures.cell ∙ ap (λ (t : Piece). t.cell) c.seg.view_is)
+    c.requires.inside c.of-spans.ensures.spans c.deposit_axis-3.ensures.shape c.deposit_axis-3.ensures.values in
     three_added (flux side q s) old x y now on_x.shape on_y.shape on_x.added on_y.added on_z.added

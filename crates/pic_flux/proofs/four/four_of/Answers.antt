@@ -1,32 +1,64 @@
-use Rattle.std.proofs.Common.{◌≡◌, ◌^◌, ℕ, ℤ, Bool, true, false, to_z, of_z, ap, ◌∙◌}
+use Rattle.std.proofs.Common.{◌≡◌, ◌<◌, ◌*◌, ◌^◌, ◌+ℤ◌, ◌-ℤ◌, ◌*ℤ◌, ℕ, ℤ, pos, to_z, of_z, ap, ◌∙◌, arith}
 use mir.Syntax.{w64, w128}
-use mir.Val.{SFits}
-use Rattle.std.proofs.lemmas.Int.{to_z-of_z}
-use Rattle.pic_num.specs.declared.axis.Axis.{Axis}
+use Rattle.std.proofs.lemmas.Int.{to_z-of_z, fits_signed_from_abs}
 use Rattle.pic_num.specs.Sizes.{IsAtMost}
-use Rattle.pic_num.proofs.SizeLaws.{codes, code_is}
-use Rattle.pic_grid.specs.Segment.{Piece}
-use Rattle.pic_flux.specs.Corners.{at_corners, corner}
-use Rattle.pic_flux.proofs.CornerLaws.{corners_are}
+use Rattle.pic_num.specs.Space.{next_axis}
+use Rattle.pic_num.proofs.SizeLaws.{codes, code_at_most}
+use Rattle.pic_flux.specs.Spans.{ends_on, both_of}
+use Rattle.pic_flux.specs.declared.spans.Ends.{Ends}
 use Rattle.pic_flux.proofs.four.four_of.Goals as goal
 
--- a corner's flux as the code passes it on
-passed : (side : ℕ) (x q : ℤ) (s : Piece) (axis : Axis) (f g : Bool) → SFits w64 q → IsAtMost x (2 ^ 80)
-    → x ≡ corner side (to_z w64 (of_z w64 q)) s axis f g → to_z w128 (of_z w128 x) ≡ corner side q s axis f g
-passed side x q s axis f g fits h e =
-    let held : to_z w128 (of_z w128 x) ≡ x = code_is (search codes depth 4) tt in
-    held ∙ e ∙ ap (λ (p : ℤ). corner side p s axis f g) (to_z-of_z w64 q fits)
+-- a number as the code passes it on
+held : (x : ℤ) (n : ℕ) → IsAtMost x n → n < 2 ^ 63 → to_z w64 (of_z w64 x) ≡ x
+held x n h few = let size = h.size in to_z-of_z w64 x (fits_signed_from_abs w64 x (omega (arith, size, few)))
+
+held_wide : (x : ℤ) → IsAtMost x (2 ^ 80) → to_z w128 (of_z w128 x) ≡ x
+held_wide x h = let size = h.size in to_z-of_z w128 x (fits_signed_from_abs w128 x (omega (arith, size)))
+
+pub one_high-high_b-requires-clause-part : goal.one_high-high_b-requires-clause-part
+one_high-high_b-requires-clause-part c =
+    let part = (c.on-b.ensures.short c.requires.short).part in code_at_most (search codes depth 4) tt
+
+pub carried-carried-requires-clause-way : goal.carried-carried-requires-clause-way
+carried-carried-requires-clause-way c =
+    let way = (c.on.ensures.short c.requires.short).way in code_at_most (search codes depth 4) tt
 
 pub returns-clause-value : goal.returns-clause-value
 returns-clause-value c =
-    let s = c.args.seg.now in
-    let side = c.args.sub in
-    let q = c.args.q in
+    let p = c.args.spans.now in
     let axis = c.args.axis in
-    let fits = c.ranges.q in
-    let low_low = passed side _ q s axis false false fits c.corner-low_low.ensures.size c.corner-low_low.ensures.value in
-    let high_low = passed side _ q s axis true false fits c.corner-high_low.ensures.size c.corner-high_low.ensures.value in
-    let low_high = passed side _ q s axis false true fits c.corner-low_high.ensures.size c.corner-low_high.ensures.value in
-    let high_high = passed side _ q s axis true true fits c.corner-high_high.ensures.size c.corner-high_high.ensures.value in
-    λ a p.
-    (λ i. at_corners axis s.cell (low_low i) (high_low i) (low_high i) (high_high i) a p) ∙ corners_are side q s axis c.requires.inside a p
+    let second = c.next-second.ensures in
+    let third = c.next.ensures ∙ ap next_axis second in
+    let a = ends_on p (next_axis axis) in
+    let b = ends_on p (next_axis (next_axis axis)) in
+    let a_is : c.on-a.result ≡ a = c.on-a.ensures.value ∙ ap (ends_on p) second in
+    let b_is : c.on-b.result ≡ b = c.on-b.ensures.value ∙ ap (ends_on p) third in
+    let a_short = c.on-a.ensures.short c.requires.short in
+    let b_short = c.on-b.ensures.short c.requires.short in
+    let a_sum = held c.on-a.result.sum (2 ^ 15) a_short.sum (omega arith) ∙ ap (λ (e : Ends). e.sum) a_is in
+    let b_sum = held c.on-b.result.sum (2 ^ 15) b_short.sum (omega arith) ∙ ap (λ (e : Ends). e.sum) b_is in
+    let a_way = held c.on-a.result.way (2 ^ 14) a_short.way (omega arith) ∙ ap (λ (e : Ends). e.way) a_is in
+    let b_way = held c.on-b.result.way (2 ^ 14) b_short.way (omega arith) ∙ ap (λ (e : Ends). e.way) b_is in
+    let a_part = held c.on-a.result.part (3 * 2 ^ 30) a_short.part (omega arith) ∙ ap (λ (e : Ends). e.part) a_is in
+    let b_part = held c.on-b.result.part (3 * 2 ^ 30) b_short.part (omega arith) ∙ ap (λ (e : Ends). e.part) b_is in
+    let whole = held p.whole (3 * 2 ^ 30) c.requires.short.whole (omega arith) in
+    let both : to_z w64 (of_z w64 c.both_high-both.result) ≡ both_of a b =
+    held c.both_high-both.result (2 ^ 32) c.both_high-both.ensures.size (omega arith) ∙ c.both_high-both.ensures.value
+    ∙ (λ i. pos 3 *ℤ a_sum i *ℤ b_sum i +ℤ a_way i *ℤ b_way i) in
+    let high_a : to_z w64 (of_z w64 c.one_high-high_a.result) ≡ a.part -ℤ both_of a b =
+    held c.one_high-high_a.result (2 ^ 33) c.one_high-high_a.ensures.size (omega arith) ∙ c.one_high-high_a.ensures.value ∙ (λ i. a_part i -ℤ both i) in
+    let high_b : to_z w64 (of_z w64 c.one_high-high_b.result) ≡ b.part -ℤ both_of a b =
+    held c.one_high-high_b.result (2 ^ 33) c.one_high-high_b.ensures.size (omega arith) ∙ c.one_high-high_b.ensures.value ∙ (λ i. b_part i -ℤ both i) in
+    let none : to_z w64 (of_z w64 c.none_high-none.result) ≡ p.whole -ℤ (a.part -ℤ both_of a b) -ℤ (b.part -ℤ both_of a b) -ℤ both_of a b =
+    held c.none_high-none.result (2 ^ 35) c.none_high-none.ensures.size (omega arith) ∙ c.none_high-none.ensures.value
+    ∙ (λ i. whole i -ℤ high_a i -ℤ high_b i -ℤ both i) in
+    let way = held c.on.result.way (2 ^ 14) (c.on.ensures.short c.requires.short).way (omega arith) ∙ ap (λ (e : Ends). e.way) c.on.ensures.value in
+    let charge = held c.args.q (2 ^ 31) c.requires.charge (omega arith) in
+    let carried : to_z w64 (of_z w64 c.carried-carried.result) ≡ c.args.q *ℤ (ends_on p axis).way =
+    held c.carried-carried.result (2 ^ 45) c.carried-carried.ensures.size (omega arith) ∙ c.carried-carried.ensures.value ∙ (λ i. charge i *ℤ way i) in
+    λ i. record {
+      low_low = (held_wide c.wide_product.result c.wide_product.ensures.size ∙ c.wide_product.ensures.value ∙ (λ j. carried j *ℤ none j)) i;
+      high_low = (held_wide c.wide_product-2.result c.wide_product-2.ensures.size ∙ c.wide_product-2.ensures.value ∙ (λ j. carried j *ℤ high_a j)) i;
+      low_high = (held_wide c.wide_product-3.result c.wide_product-3.ensures.size ∙ c.wide_product-3.ensures.value ∙ (λ j. carried j *ℤ high_b j)) i;
+      high_high = (held_wide c.wide_product-4.result c.wide_product-4.ensures.size ∙ c.wide_product-4.ensures.value ∙ (λ j. carried j *ℤ both j)) i;
+    }

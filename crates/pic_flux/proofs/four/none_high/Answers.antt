@@ -1,0 +1,9 @@
+use mir.Syntax.{w64}
+use Rattle.pic_num.proofs.SizeLaws.{codes, code_fits, code_is, code_at_most}
+use Rattle.pic_flux.proofs.four.none_high.Goals as goal
+
+pub overflow_sub-result-3 : goal.overflow_sub-result-3
+overflow_sub-result-3 c = code_fits w64 (search codes depth 24) tt
+
+pub returns : goal.returns
+returns c = record { value = code_is (search codes depth 24) tt; size = code_at_most (search codes depth 24) tt }
