@@ -86,7 +86,9 @@ module _ (side : ℕ) (q : ℤ) (s : Piece) (p : Spans) (axis : Axis) (h : AreSp
 
     corner_is : (f g : Bool) → q *ℤ way *ℤ weight_by (pos side) f g a0 a1 b0 b1 ≡ corner side q s axis f g
     unfolding corner
-    corner_is f g = weighed side q way f g (along second s.cell) (along second s.from) (along second s.to) (along third s.cell) (along third s.from) (along third s.to)
+    corner_is f g =
+        weighed side q way f g (along second s.cell) (along second s.from) (along second s.to)
+        (along third s.cell) (along third s.from) (along third s.to)
 
     high_high_is : (four_by p q axis).high_high ≡ corner side q s axis true true
     unfolding weight_by
@@ -127,7 +129,8 @@ at_nothing axis there v a c e = none_either (same_axis axis a && same_spot c the
 no_sum : (v w x y : ℤ) → v ≡ pos 0 → w ≡ pos 0 → x ≡ pos 0 → y ≡ pos 0 → (v +ℤ w) +ℤ (x +ℤ y) ≡ pos 0
 no_sum v w x y h k l m = omega (arith, ints, h, k, l, m)
 
-pub still_adds : (b : BlockValues) (p : Spans) (q : ℤ) (axis : Axis) (cell : Spot) → (ends_on p axis).way ≡ pos 0 → Adds b b (at_four axis cell (four_by p q axis))
+pub still_adds : (b : BlockValues) (p : Spans) (q : ℤ) (axis : Axis) (cell : Spot) → (ends_on p axis).way ≡ pos 0
+    → Adds b b (at_four axis cell (four_by p q axis))
 unfolding both
 still_adds b p q axis cell none = adds_none b (at_four axis cell (four_by p q axis)) (λ a c.
     let high = lifted (next_axis (next_axis axis)) cell in

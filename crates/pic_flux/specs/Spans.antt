@@ -1,6 +1,6 @@
--- What a piece's flux through the edges of its cell is made of (J. Villasenor and O. Buneman, Comput.
--- Phys. Commun. 69, 1992, 306): on each axis the weights of its ends for the cell's high face, and
--- how far it goes.
+-- What a piece's flux through the edges of its cell is made of (J. Villasenor and O. Buneman,
+-- Comput. Phys. Commun. 69, 1992, 306): on each axis the weights of its ends for the cell's high
+-- face, and how far it goes.
 use Rattle.std.specs.Prelude.{◌≡◌, ℕ, ℤ, pos, ◌*◌, ◌^◌, ◌+ℤ◌, ◌-ℤ◌, ◌*ℤ◌, true}
 use Rattle.pic_num.specs.declared.axis.Axis.{Axis}
 use Rattle.pic_num.specs.declared.axis.Axis.TheVariants.{X, Y, Z}
@@ -12,8 +12,8 @@ use Rattle.pic_flux.specs.Corners.{weight_of}
 use Rattle.pic_flux.specs.declared.spans.Ends.{Ends}
 use Rattle.pic_flux.specs.declared.spans.Spans.{Spans}
 
--- on one axis: the weights of both ends added up, the way between them, and six sides of a cell times
--- that sum
+-- on one axis: the weights of both ends added up, the way between them, and six sides of a cell
+-- times that sum
 pub record AreEnds (side : ℕ) (s : Piece) (axis : Axis) (e : Ends) : Type 0 where
   pub sum :
       e.sum ≡ weight_of side s.cell true axis s.from +ℤ weight_of side s.cell true axis s.to

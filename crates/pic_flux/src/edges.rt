@@ -223,7 +223,8 @@ pub(crate) fn deposit_axis(spans: &Spans, q: i64, axis: Axis, at: &Base, to: &mu
     requires edges { HasEdges to.old.low to.old.size (base_cell at.now) }
     requires room { AllAtMost (2 ^ 110) to.old }
     ensures shape { IsShaped to.old to.new }
-    ensures values { Adds to.old to.new (at_four axis (base_cell at.now) (four_by spans.now q axis)) }
+    ensures values { Adds to.old to.new
+        (at_four axis (base_cell at.now) (four_by spans.now q axis)) }
 {
     if spans.on(axis).way == 0 {
         return;

@@ -9,8 +9,8 @@ use crate::spans::Spans;
 use pic_grid::Four;
 use pic_num::Axis;
 
-/// The flux of the charge `q` on a segment through the four edges of its cell along `axis`, of which
-/// two take their weights from the one that is high on both other axes, and one from all three.
+/// The flux of the charge `q` on a segment through the four edges of its cell along `axis`. The
+/// weight of the one that is high on both other axes takes two products; the others' take none.
 #[inline(always)]
 pub(crate) fn four_of(spans: &Spans, q: i64, axis: Axis) -> Four
     requires short { IsShort spans.now }

@@ -1,4 +1,4 @@
-//! What a segment's flux through the edges of its cell is made of: it is computed once for all axes.
+//! What a segment's flux through the edges of its cell is made of, computed once for all axes.
 
 ghost use Rattle.std.specs.Prelude.{◌≡◌, pos, ◌*◌, ◌^◌, ◌+ℤ◌, ◌*ℤ◌};
 ghost use Rattle.pic_num.specs.Sizes.{IsAtMost};
@@ -10,8 +10,8 @@ use crate::weights::{way, weight_from, weight_to};
 use pic_grid::Segment;
 use pic_num::{Axis, Sub};
 
-/// Of one axis: the sum of the weights of a segment's ends for the high face of its cell, how far the
-/// segment goes, and six sides of a cell times that sum.
+/// Of one axis, in sub-cells: the sum of the weights of a segment's ends for the high face of its
+/// cell, how far the segment goes, and six sides of a cell times that sum.
 #[derive(Clone, Copy)]
 pub(crate) struct Ends {
     pub sum: i64,
@@ -19,7 +19,8 @@ pub(crate) struct Ends {
     pub part: i64,
 }
 
-/// Of all axes, and the weight of all four edges along an axis together, 12 times.
+/// Of all axes, and the weight of the four edges along an axis together, 12 times, in square
+/// sub-cells.
 #[derive(Clone, Copy)]
 pub(crate) struct Spans {
     pub x: Ends,

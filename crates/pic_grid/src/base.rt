@@ -9,8 +9,8 @@ ghost use Rattle.pic_grid.specs.Fours.{IsBase, base_cell, first_of, step_by};
 use crate::block::Block;
 use pic_num::Axis;
 
-/// A cell, the number of its place on x in a block, and the block's numbers of places for a component
-/// in a row, in a layer and in all. It serves all blocks of one zone.
+/// A cell, the number of its place on x in a block, and how many places the block has for a
+/// component in a row, in a layer and in all. It serves all blocks of one zone.
 #[derive(Clone, Copy)]
 pub struct Base {
     cell: [i32; 3],

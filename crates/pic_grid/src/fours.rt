@@ -11,8 +11,8 @@ use crate::base::{Base, sum};
 use crate::block::Block;
 use pic_num::Axis;
 
-/// Numbers for the four components on one axis round a cell: those low and high on the next axis, and
-/// on the third.
+/// Numbers for the four components on one axis round a cell: those low and high on the next axis,
+/// and on the third.
 #[derive(Clone, Copy)]
 pub struct Four {
     pub low_low: i128,
@@ -31,8 +31,8 @@ pub struct Found {
 }
 
 impl Block {
-    /// Adds to the four components on `axis` round a cell, of those that are found: the place is that
-    /// of the cell in this block. Numbers are at most 2^80 in size, and the block's at most 2^110.
+    /// Adds to the components on `axis` round a cell, of those that are found, and changes nothing
+    /// else. Numbers are at most 2^80 in size, and the block's at most 2^110.
     #[inline(always)]
     pub fn add_four(&mut self, axis: Axis, at: &Base, found: &Found, four: &Four)
         requires base { IsBase self.old.low self.old.size at.now }

@@ -135,7 +135,8 @@ run_outcome d = dump_outcome (header_of d) (first_state d)
 
 -- the run of a deck from its first state w, as lines alone, on out
 abbrev pub lines_outcome : DeckView → World → Outcome
-lines_outcome d w = states_outcome Lines [] (frames_of Lines d.steps d.every w) (end_of_run d.steps w)
+lines_outcome d w =
+    states_outcome Lines [] (frames_of Lines d.steps d.every w) (end_of_run d.steps w)
 
 abbrev pub demo_outcome : DeckView → Outcome
 demo_outcome d = lines_outcome d (first_state d)

@@ -7,4 +7,5 @@ use Rattle.pic_step.specs.SerialStep.{World, world_of}
 -- the state that stands in what a run begins with, its fields seen whole
 abbrev pub begun : Start → World
 begun s =
-    world_of (grid_of_tiling s.map) s.scales s.kinds.items (as_one s.e) (as_one s.b) s.particles.items
+    world_of (grid_of_tiling s.map) s.scales s.kinds.items (as_one s.e) (as_one s.b)
+    s.particles.items

@@ -11,12 +11,21 @@ use Rattle.pic_tile.specs.Tiling.{Tiling}
 
 -- a block of zeros
 abbrev pub zero_block : Spot → Triple → BlockValues
-zero_block low size = record { low = low; size = size; values = replicate (3 * count_of size) (pos 0) }
+zero_block low size = record {
+  low = low;
+  size = size;
+  values = replicate (3 * count_of size) (pos 0);
+}
 
 -- the empty parcel of a direction, for a tile of n layers whose lowest cell is low
 abbrev pub empty_parcel : Triple → Spot → ℕ → Parcel
 empty_parcel n low d =
-    record { dir = d; chain = []; flux = zero_block (layers_from n low d) (layers_size n d); stop = None }
+    record {
+      dir = d;
+      chain = [];
+      flux = zero_block (layers_from n low d) (layers_size n d);
+      stop = None;
+    }
 
 -- a tile with the empty parcels of the directions below until, and no other
 pub record HasEmpty (n : Triple) (low : Spot) (until : ℕ) (t : TileValue) : Type 0 where

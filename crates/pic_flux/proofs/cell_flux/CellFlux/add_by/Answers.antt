@@ -24,8 +24,8 @@ pub add_corners-requires-2-clause-room : goal.add_corners-requires-2-clause-room
 add_corners-requires-2-clause-room c =
     let f = c.args.self.now in
     all_at_most_more c.add_corners.new.to (2 ^ 100 + 2 ^ 82) (2 ^ 110) (omega arith)
-    (grown c.args.to.now c.add_corners.new.to X (base_cell c.base-at.result) f.x (2 ^ 100) c.requires.modest.x c.add_corners.ensures.shape c.add_corners.ensures.values
-    c.requires.room)
+    (grown c.args.to.now c.add_corners.new.to X (base_cell c.base-at.result) f.x (2 ^ 100) c.requires.modest.x c.add_corners.ensures.shape
+    c.add_corners.ensures.values c.requires.room)
 
 pub add_corners-requires-3-clause-room : goal.add_corners-requires-3-clause-room
 add_corners-requires-3-clause-room c =

@@ -91,7 +91,8 @@ record Step (found : Bool) (xs ys : List ℤ) (q : ℕ) (v : ℤ) (len m : ℕ) 
   long : length ys ≡ len
   room : AreAtMost (m + 2 ^ 80) ys
 
-below_of : (n : Triple) (found : Bool) (q : ℕ) (z : ℤ) (xs : List ℤ) → length xs ≡ 3 * count_of n → StandsAt n found q z → IsTrue found → unsigned_abs z < length xs
+below_of : (n : Triple) (found : Bool) (q : ℕ) (z : ℤ) (xs : List ℤ) → length xs ≡ 3 * count_of n → StandsAt n found q z → IsTrue found
+    → unsigned_abs z < length xs
 below_of n found q z xs e h has = subst (λ (k : ℕ). unsigned_abs z < k) (sym e) (h.below has)
 
 step : (n : Triple) (found : Bool) (q : ℕ) (z : ℤ) (xs ys : List ℤ) (v : ℤ) (m : ℕ) → StandsAt n found q z → IsAtMost v (2 ^ 80)
@@ -110,29 +111,45 @@ step n found q z xs ys v m at small long room e =
 abbrev place : After-as_mut_slice-values → Spot → ℕ
 place c d = place_of c.args.self.now.size c.args.axis (inner_of c.args.self.now.low d)
 
+-- what the additions leave, one after the other
 first : (c : After-as_mut_slice-values) (ys : List ℤ)
-    → ys ≡ added_in c.args.found.now.low_low c.as_mut_slice-values.result.now (unsigned_abs (to_z w64 (of_z w64 c.first-here.result))) (to_z w128 (of_z w128 c.args.four.now.low_low))
+    → ys ≡ added_in c.args.found.now.low_low c.as_mut_slice-values.result.now (unsigned_abs (to_z w64 (of_z w64 c.first-here.result)))
+    (to_z w128 (of_z w128 c.args.four.now.low_low))
     → Step c.args.found.now.low_low c.as_mut_slice-values.result.now ys (place c (spot c.args.at.now.cell))
     c.args.four.now.low_low (3 * count_of c.args.self.now.size) (2 ^ 110)
-first c ys e = let k = known c in step c.args.self.now.size _ _ _ _ ys _ (2 ^ 110) k.low_low c.requires.small.low_low k.whole k.room e
+first c ys e =
+    let k = known c in
+    step c.args.self.now.size _ _ _ _ ys _ (2 ^ 110) k.low_low c.requires.small.low_low k.whole k.room e
 
-second : (c : After-as_mut_slice-values) (xs : List ℤ) (ys : List ℤ) → length xs ≡ 3 * count_of c.args.self.now.size → AreAtMost (2 ^ 110 + 2 ^ 80) xs
-    → ys ≡ added_in c.args.found.now.high_low xs (unsigned_abs (to_z w64 (of_z w64 c.sum-up.result))) (to_z w128 (of_z w128 c.args.four.now.high_low))
+second : (c : After-as_mut_slice-values) (xs ys : List ℤ) → length xs ≡ 3 * count_of c.args.self.now.size
+    → AreAtMost (2 ^ 110 + 2 ^ 80) xs
+    → ys ≡ added_in c.args.found.now.high_low xs (unsigned_abs (to_z w64 (of_z w64 c.sum-up.result)))
+    (to_z w128 (of_z w128 c.args.four.now.high_low))
     → Step c.args.found.now.high_low xs ys (place c (lifted (next_axis c.args.axis) (spot c.args.at.now.cell)))
     c.args.four.now.high_low (3 * count_of c.args.self.now.size) (2 ^ 110 + 2 ^ 80)
-second c xs ys long room e = let k = known c in step c.args.self.now.size _ _ _ xs ys _ (2 ^ 110 + 2 ^ 80) k.high_low c.requires.small.high_low long room e
+second c xs ys long room e =
+    let k = known c in
+    step c.args.self.now.size _ _ _ xs ys _ (2 ^ 110 + 2 ^ 80) k.high_low c.requires.small.high_low long room e
 
-third : (c : After-as_mut_slice-values) (xs : List ℤ) (ys : List ℤ) → length xs ≡ 3 * count_of c.args.self.now.size → AreAtMost (2 ^ 110 + 2 ^ 80 + 2 ^ 80) xs
-    → ys ≡ added_in c.args.found.now.low_high xs (unsigned_abs (to_z w64 (of_z w64 c.sum-high.result))) (to_z w128 (of_z w128 c.args.four.now.low_high))
+third : (c : After-as_mut_slice-values) (xs ys : List ℤ) → length xs ≡ 3 * count_of c.args.self.now.size
+    → AreAtMost (2 ^ 110 + 2 ^ 80 + 2 ^ 80) xs
+    → ys ≡ added_in c.args.found.now.low_high xs (unsigned_abs (to_z w64 (of_z w64 c.sum-high.result)))
+    (to_z w128 (of_z w128 c.args.four.now.low_high))
     → Step c.args.found.now.low_high xs ys (place c (lifted (next_axis (next_axis c.args.axis)) (spot c.args.at.now.cell)))
     c.args.four.now.low_high (3 * count_of c.args.self.now.size) (2 ^ 110 + 2 ^ 80 + 2 ^ 80)
-third c xs ys long room e = let k = known c in step c.args.self.now.size _ _ _ xs ys _ (2 ^ 110 + 2 ^ 80 + 2 ^ 80) k.low_high c.requires.small.low_high long room e
+third c xs ys long room e =
+    let k = known c in
+    step c.args.self.now.size _ _ _ xs ys _ (2 ^ 110 + 2 ^ 80 + 2 ^ 80) k.low_high c.requires.small.low_high long room e
 
-fourth : (c : After-as_mut_slice-values) (xs : List ℤ) (ys : List ℤ) → length xs ≡ 3 * count_of c.args.self.now.size → AreAtMost (2 ^ 110 + 2 ^ 80 + 2 ^ 80 + 2 ^ 80) xs
-    → ys ≡ added_in c.args.found.now.high_high xs (unsigned_abs (to_z w64 (of_z w64 c.sum-far.result))) (to_z w128 (of_z w128 c.args.four.now.high_high))
+fourth : (c : After-as_mut_slice-values) (xs ys : List ℤ) → length xs ≡ 3 * count_of c.args.self.now.size
+    → AreAtMost (2 ^ 110 + 2 ^ 80 + 2 ^ 80 + 2 ^ 80) xs
+    → ys ≡ added_in c.args.found.now.high_high xs (unsigned_abs (to_z w64 (of_z w64 c.sum-far.result)))
+    (to_z w128 (of_z w128 c.args.four.now.high_high))
     → Step c.args.found.now.high_high xs ys (place c (lifted (next_axis c.args.axis) (lifted (next_axis (next_axis c.args.axis)) (spot c.args.at.now.cell))))
     c.args.four.now.high_high (3 * count_of c.args.self.now.size) (2 ^ 110 + 2 ^ 80 + 2 ^ 80 + 2 ^ 80)
-fourth c xs ys long room e = let k = known c in step c.args.self.now.size _ _ _ xs ys _ (2 ^ 110 + 2 ^ 80 + 2 ^ 80 + 2 ^ 80) k.high_high c.requires.small.high_high long room e
+fourth c xs ys long room e =
+    let k = known c in
+    step c.args.self.now.size _ _ _ xs ys _ (2 ^ 110 + 2 ^ 80 + 2 ^ 80 + 2 ^ 80) k.high_high c.requires.small.high_high long room e
 
 pub add_at-requires-clause-least : goal.add_at-requires-clause-least
 add_at-requires-clause-least c = (known (goal.at.add_at-requires-clause-least c).After-as_mut_slice-values).low_low.least
