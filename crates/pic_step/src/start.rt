@@ -2,8 +2,9 @@
 
 ghost use Rattle.std.specs.Prelude.{◌≡◌, IfOk};
 ghost use Rattle.pic_grid.specs.Lattice.{field_of};
-ghost use Rattle.pic_deck.specs.Deck.{initial_e, initial_b};
+ghost use Rattle.pic_deck.specs.Deck.{initial_e, initial_b, deck_grid};
 ghost use Rattle.pic_step.specs.SerialRun.{kinds_of};
+ghost use Rattle.pic_tile.specs.Tiling.{tiles_of};
 
 use pic_deck::Deck;
 use pic_grid::Lattice;
@@ -31,6 +32,8 @@ impl Start {
 
     /// What a deck's run begins with, with these particles.
     pub fn new(alloc: Global, deck: &Deck, particles: Vec<Particle>) -> Result<Start, NoMemory>
+        ensures map { IfOk result
+            (λ start. start.map ≡ tiles_of (deck_grid deck.now) deck.now.tiles) }
         ensures tiled { IfOk result (λ start. AreTiled start.map start.e start.b) }
         ensures start { IfOk result (λ start. begun start ≡ start_of deck.now particles.items) }
     {
