@@ -1,5 +1,5 @@
 -- Layers of a block that are laid over another: where they are, how large they are, and what they add.
-use Rattle.std.proofs.Common.{◌≡◌, ℕ, ◌+◌, ◌*◌, ◌/◌, ◌%◌, ◌<◌, ◌≤◌, ◌&&◌, inl, inr, Bool, true, false, cond, List, length, get_or, refl, sym, ap, subst, arith}
+use Rattle.std.proofs.Common.{◌≡◌, ℕ, ◌+◌, ◌*◌, ◌/◌, ◌%◌, ◌<◌, ◌≤◌, ◌&&◌, inl, inr, Bool, true, false, cond, List, length, get_or, replicate, refl, sym, ◌∙◌, ap, subst, arith}
 use Rattle.std.proofs.Math.IntN.{ℤ, pos, ◌+ℤ◌, ◌-ℤ◌}
 use Rattle.std.specs.Prelude.{unsigned_abs}
 use Rattle.std.proofs.lemmas.Bool.{cases_lt, false≢true}
@@ -14,7 +14,7 @@ use Rattle.pic_grid.specs.BlockLayers.{AddsLayers, AreAtMost, is_from, is_over, 
 use Rattle.pic_grid.specs.Cells.{IsWithin, count_of, axis_of, cell_of, place_of}
 use Rattle.pic_grid.proofs.BlockLaws.{inner_within, in_zone_shaped}
 use Rattle.pic_grid.proofs.CellLaws.{place_of-number, place_within}
-use Rattle.pic_grid.proofs.ShapeLaws.{shaped_back}
+use Rattle.pic_grid.proofs.ShapeLaws.{shaped_back, zero_read}
 
 -- a block's numbers are small where its components are,
 pub numbers_small : (n : Triple) (most : ℕ) (xs : List ℤ) → length xs ≡ 3 * count_of n
@@ -98,6 +98,16 @@ no_layers b from o none = record { at = λ a p w. add_none (inner_at b a p) (lay
   where
     off : (a : Axis) (p : Triple) (t : Bool) → is_over o from.size p ≡ t → layer_of from.size from.values o a p ≡ pos 0
     off a p true e = (let over = over_tells o from.size p e in let low = over.above_x in let high = over.below_x in absurd (omega (arith, low, high, none)))
+    off a p false e = layer_off from.size from.values o a p e
+
+-- zeros add nothing, wherever they are laid
+pub zeros_add_none : (b from : BlockValues) (o : Triple) → from.values ≡ replicate (3 * count_of from.size) (pos 0) → AddsLayers b b from o
+zeros_add_none b from o zeros = record { at = λ a p w. add_none (inner_at b a p) (layer_of from.size from.values o a p) (off a p (is_over o from.size p) refl) }
+  where
+    off : (a : Axis) (p : Triple) (t : Bool) → is_over o from.size p ≡ t → layer_of from.size from.values o a p ≡ pos 0
+    off a p true e =
+        let k = place_of from.size a (lowered_by o p) in
+        layer_over from.size from.values o a p e ∙ ap (λ (xs : List ℤ). get_or xs k (pos 0)) zeros ∙ zero_read (3 * count_of from.size) k
     off a p false e = layer_off from.size from.values o a p e
 
 -- the cell that lies p above the lowest of a block

@@ -1,14 +1,19 @@
-use Rattle.std.specs.Prelude.{◌≡◌, ℕ, ℤ, pos, ◌+◌, ◌≤◌, ◌≤ℤ◌, ◌<ℤ◌, ◌+ℤ◌, ◌-ℤ◌, List, slice_index_or, slice_set, unsigned_abs}
+use Rattle.std.specs.Prelude.{◌≡◌, ℕ, ℤ, pos, ◌+◌, ◌*◌, ◌≤◌, ◌≤ℤ◌, ◌<ℤ◌, ◌+ℤ◌, ◌-ℤ◌, Bool, IsTrue, List, length, replicate, slice_index_or, slice_set, unsigned_abs}
 use Rattle.pic_num.specs.declared.axis.Axis.{Axis}
 use Rattle.pic_num.specs.Sizes.{IsAtMost}
 use Rattle.pic_num.specs.Space.{Triple, Spot}
-use Rattle.pic_grid.specs.Cells.{place_of}
+use Rattle.pic_grid.specs.Cells.{count_of, place_of}
 
 -- a block: its lowest cell, its layers of cells, and its values in the order of places
 pub record BlockValues : Type 0 where
   pub low : Spot
   pub size : Triple
   pub values : List ℤ
+
+-- a zone's layers have these values, three for each cell, and all are 0 where they are known to be
+pub record IsFilled (size : Triple) (values : List ℤ) (blank : Bool) : Type 0 where
+  pub long : length values ≡ 3 * count_of size
+  pub zeros : IsTrue blank → values ≡ replicate (3 * count_of size) (pos 0)
 
 -- the cell c, which isn't wrapped, is one of a zone's
 pub record InZone (low : Spot) (size : Triple) (c : Spot) : Type 0 where

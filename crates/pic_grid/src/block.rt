@@ -3,7 +3,7 @@
 ghost use Rattle.std.specs.Prelude.{◌≡◌, ◌↔◌, ℕ, ℤ, pos, ◌*◌, ◌<◌, ◌+ℤ◌, ◌-ℤ◌, ◌≤ℤ◌, ◌<ℤ◌, length, replicate, unsigned_abs, IsTrue, IfOk, IfSome};
 ghost use Rattle.pic_num.specs.Space.{triple, spot};
 ghost use Rattle.pic_grid.specs.Cells.{IsWithin, count_of, place_of};
-ghost use Rattle.pic_grid.specs.Block.{BlockValues, InZone, inner_of, edge_at, with_edge};
+ghost use Rattle.pic_grid.specs.Block.{BlockValues, IsFilled, InZone, inner_of, edge_at, with_edge};
 
 use crate::places::place_in;
 use pic_num::{Axis, NoMemory};
@@ -32,10 +32,12 @@ impl Zone {
 }
 
 /// Three `i128` components for each cell of a zone.
+// Where `blank` is true, all of them are 0.
 #[derive(Drop)]
 pub struct Block {
     pub(crate) zone: Zone,
     pub(crate) values: Vec<i128>,
+    pub(crate) blank: bool,
 }
 
 impl Model for Block {
@@ -47,7 +49,7 @@ impl Model for Block {
       values = b.values.items;
     } };
 
-    ghost invariant = { λ b. length b.values.items ≡ 3 * count_of (triple b.zone.size) };
+    ghost invariant = { λ b. IsFilled (triple b.zone.size) b.values.items b.blank };
 }
 
 impl Block {
@@ -63,7 +65,11 @@ impl Block {
             return Err(NoMemory);
         };
         let values = vec![in alloc; 0i128; places]?;
-        Ok(Block { zone, values })
+        Ok(Block {
+            zone,
+            values,
+            blank: true,
+        })
     }
 
     /// The zone.
@@ -74,6 +80,15 @@ impl Block {
     {
         let _values = &self.values;
         self.zone
+    }
+
+    /// Whether it is known to have no component but 0. It may be false for a block of zeros, as where
+    /// a 0 was written.
+    pub fn is_blank(&self) -> bool
+        ensures { IsTrue result
+            → self.now.values ≡ replicate (3 * count_of self.now.size) (pos 0) }
+    {
+        self.blank
     }
 
     /// Whether `cell` is one of the zone's.
@@ -99,7 +114,11 @@ impl Block {
               (3 * count_of self.old.size) (pos 0);
         } }
     {
+        if self.blank {
+            return;
+        }
         zero(self.values.as_mut_slice());
+        self.blank = true;
     }
 
     /// Changes the component on `axis` at `cell`, one of the zone's, to `value`, and nothing else.
@@ -110,6 +129,7 @@ impl Block {
     {
         let place = self.place(axis, cell);
         self.values[place] = value;
+        self.blank = false;
     }
 
     fn place(&self, axis: Axis, cell: [i32; 3]) -> usize

@@ -45,6 +45,7 @@ impl Block {
             return;
         }
         let low = lowest_of(self.zone, from);
+        self.blank = false;
         copy_rows(from, low, self.zone.size, self.values.as_mut_slice());
     }
 }

@@ -20,12 +20,16 @@ impl Block {
         ensures shape { IsShaped self.old self.new }
         ensures values { AddsLayers self.old self.new from.now (triple offset) }
     {
+        if from.is_blank() {
+            return;
+        }
         let n = from.zone.size;
         let [nx, _, _] = n;
         if nx == 0 {
             return;
         }
         let size = self.zone.size;
+        self.blank = false;
         add_rows(
             self.values.as_mut_slice(),
             size,

@@ -49,6 +49,7 @@ impl Block {
         ensures value { result.now ≡ self.old.values }
         ensures shape { length result.now ≡ 3 * count_of self.old.size }
     {
+        self.blank = false;
         self.values.as_mut_slice()
     }
 }

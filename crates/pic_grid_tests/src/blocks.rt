@@ -135,3 +135,38 @@ fn layers_are_added_where_they_lie(rt: HostRuntime) -> Result<(), NoMemory> {
     );
     Ok(())
 }
+
+#[test]
+fn a_block_is_blank_until_it_is_written(rt: HostRuntime) -> Result<(), NoMemory> {
+    let mut block = zeros(rt.alloc(), [-1, 0, 3], [3, 2, 2])?;
+    assert!(rt; block.is_blank());
+    put(&mut block, Axis::X, [1, 1, 4], 40);
+    assert!(rt; !block.is_blank());
+    let mut layers = zeros(rt.alloc(), [70, 8, 9], [2, 1, 1])?;
+    block.add_layers(&layers, [1, 1, 1]);
+    check(
+        &rt,
+        &block,
+        &[
+            (Axis::X, [1, 1, 4], Some(40)),
+            (Axis::X, [0, 1, 4], Some(0)),
+            (Axis::Y, [-1, 0, 3], Some(0)),
+        ],
+    );
+    put(&mut layers, Axis::X, [71, 8, 9], 0);
+    assert!(rt; !layers.is_blank());
+    layers.clear();
+    assert!(rt; layers.is_blank());
+    block.clear_at([4, 5, 6]);
+    assert!(rt; block.is_blank());
+    check(
+        &rt,
+        &block,
+        &[(Axis::X, [3, 6, 7], None), (Axis::X, [6, 6, 7], Some(0))],
+    );
+    block.add_layers(&layers, [0, 0, 0]);
+    assert!(rt; block.is_blank());
+    let _values = block.values_mut();
+    assert!(rt; !block.is_blank());
+    Ok(())
+}

@@ -2,6 +2,7 @@ use Rattle.std.proofs.Common.{◌≡◌, ◌+◌, ◌*◌, ◌^◌, ◌<◌, ◌
 use Rattle.std.specs.Prelude.{IsTrue}
 use Rattle.std.specs.Int.{w64, int_wrap}
 use Rattle.std.specs.Vec.{with_items}
+use Rattle.std.proofs.lemmas.Bool.{false≢true}
 use Rattle.std.proofs.lemmas.Int.{to_z-of_z, fits_signed_from_abs}
 use Rattle.std.proofs.lemmas.List.{with_items_is}
 use mir.Syntax.{w128}
@@ -55,7 +56,7 @@ known c =
     let second = c.next-second.ensures in
     let third : c.next-third.result ≡ next_axis (next_axis a) = c.next-third.ensures ∙ ap next_axis second in
     let same = c.as_mut_slice-values.ensures.value ∙ ap (λ (d : BlockValues). d.values) c.self.view_is in
-    let long : length b.values ≡ 3 * count_of b.size = subst (λ (d : BlockValues). length d.values ≡ 3 * count_of d.size) c.self.view_is c.self.invariant in
+    let long : length b.values ≡ 3 * count_of b.size = subst (λ (d : BlockValues). length d.values ≡ 3 * count_of d.size) c.self.view_is c.self.invariant.long in
     let whole = ap length same ∙ long in
     let few : 3 * count_of b.size < 2 ^ 60 = omega (arith, whole, c.as_mut_slice-values.type_inv.1) in
     let fits_here : SFits w64 c.first-here.result = record { sfits = c.first-here.type_inv } in
@@ -214,6 +215,20 @@ add_at-requires-4-clause-room c =
     let two = second j c.add_at.new.values c.add_at-2.new.values one.long one.room c.add_at-2.ensures in
     let three = third j c.add_at-2.new.values c.add_at-3.new.values two.long two.room c.add_at-3.ensures in
     are_at_most_more c.add_at-3.new.values (2 ^ 110 + 2 ^ 80 + 2 ^ 80 + 2 ^ 80) (2 ^ 120) (omega arith) three.room
+
+pub invariant_of-self : goal.invariant_of-self
+invariant_of-self c =
+    let j = (goal.at.invariant_of-self c).After-as_mut_slice-values in
+    let one = first j c.add_at.new.values c.add_at.ensures in
+    let two = second j c.add_at.new.values c.add_at-2.new.values one.long one.room c.add_at-2.ensures in
+    let three = third j c.add_at-2.new.values c.add_at-3.new.values two.long two.room c.add_at-3.ensures in
+    let four = fourth j c.add_at-3.new.values c.add_at-4.new.values three.long three.room c.add_at-4.ensures in
+    let items : (with_items c.self.inside.values c.add_at-4.new.values).items ≡ c.add_at-4.new.values =
+    with_items_is c.self.inside.values c.add_at-4.new.values (four.long ∙ sym (known j).whole ∙ c.as_mut_slice-values.ensures.len) in
+    record {
+      long = ap length items ∙ four.long ∙ ap (λ (b : BlockValues). 3 * count_of b.size) (sym c.self.view_is);
+      zeros = λ never. absurd (false≢true never);
+    }
 
 pub returns-clause-values : goal.returns-clause-values
 returns-clause-values c =

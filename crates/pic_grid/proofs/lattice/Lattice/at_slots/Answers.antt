@@ -26,7 +26,7 @@ index-requires c =
     let s = triple c.self.inside.layers in
     let blocks = c.self.inside.blocks.items in
     let on = slots_of c.self.inside.cells parts blocks _ c.args.x c.args.y c.args.z c.self.view_is c.requires.x c.requires.y c.requires.z in
-    let whole = subst (λ (b : BlockValues). length b.values ≡ 3 * count_of b.size) c.block.view_is c.block.invariant in
+    let whole = subst (λ (b : BlockValues). length b.values ≡ 3 * count_of b.size) c.block.view_is c.block.invariant.long in
     let place = c.args.x.place + c.args.y.place + c.args.z.place in
     let below = slots_place n parts s blocks c.args.x c.args.y c.args.z c.self.invariant.lattice on
     c.index-block.result.now c.index-block.ensures c.args.axis whole in
@@ -42,7 +42,7 @@ returns c =
     let s = triple c.self.inside.layers in
     let blocks = c.self.inside.blocks.items in
     let on = slots_of c.self.inside.cells parts blocks _ c.args.x c.args.y c.args.z c.self.view_is c.requires.x c.requires.y c.requires.z in
-    let whole = subst (λ (b : BlockValues). length b.values ≡ 3 * count_of b.size) c.block.view_is c.block.invariant in
+    let whole = subst (λ (b : BlockValues). length b.values ≡ 3 * count_of b.size) c.block.view_is c.block.invariant.long in
     let place = c.args.x.place + c.args.y.place + c.args.z.place in
     let items = c.block.inside.values.items in
     let below = slots_place n parts s blocks c.args.x c.args.y c.args.z c.self.invariant.lattice on

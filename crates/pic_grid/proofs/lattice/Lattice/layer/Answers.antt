@@ -33,7 +33,7 @@ returns c =
     let b = c.index-block.result.now in
     let below = layer_below grid parts blocks l.cells l.parts_fit l.zones (parts_are c) c.args.z (in_z c) in
     let of = get_or_read blocks c.args.z b below c.index-block.ensures no_block in
-    let whole = subst (λ (d : BlockValues). length d.values ≡ 3 * count_of d.size) c.block.view_is c.block.invariant in
+    let whole = subst (λ (d : BlockValues). length d.values ≡ 3 * count_of d.size) c.block.view_is c.block.invariant.long in
     let layer = is_layer grid parts blocks l.cells l.parts_fit l.zones (parts_are c) c.args.z b (in_z c) of whole in
     let values = c.as_slice.ensures.value ∙ ap (λ (d : BlockValues). d.values) c.block.view_is in
     subst (λ (f : Field). IsLayer f c.args.z c.as_slice.result.now) c.self.view_is

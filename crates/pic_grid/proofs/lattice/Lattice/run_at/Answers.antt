@@ -46,7 +46,7 @@ known c =
     let b = c.index-block.result.now in
     let read = c.index-block.ensures in
     let on = slots_of c.self.inside.cells parts blocks _ c.args.x c.args.y c.args.z c.self.view_is c.requires.x c.requires.y c.requires.z in
-    let whole = subst (λ (d : BlockValues). length d.values ≡ 3 * count_of d.size) c.block.view_is c.block.invariant in
+    let whole = subst (λ (d : BlockValues). length d.values ≡ 3 * count_of d.size) c.block.view_is c.block.invariant.long in
     let same : b.values ≡ c.as_slice-values.result.now = sym (c.as_slice-values.ensures.value ∙ ap (λ (d : BlockValues). d.values) c.block.view_is) in
     let at : axis_number c.args.axis * count_of s + (c.args.x.place + c.args.y.place + c.args.z.place) ≡ start c =
     ap (λ (m : ℕ). m * count_of s + (c.args.x.place + c.args.y.place + c.args.z.place)) (sym c.number.ensures) in
