@@ -13,11 +13,16 @@ use pic_num::Axis;
 /// component in a row, in a layer and in all. It serves all blocks of one zone.
 #[derive(Clone, Copy)]
 pub struct Base {
-    cell: [i32; 3],
-    here: i64,
-    row: i64,
-    layer: i64,
-    count: i64,
+    /// The cell, which isn't wrapped.
+    pub cell: [i32; 3],
+    /// The number of its place on x, in 64 bits.
+    pub here: i64,
+    /// How many places a component has in a row.
+    pub row: i64,
+    /// How many it has in a layer of z.
+    pub layer: i64,
+    /// How many it has in all.
+    pub count: i64,
 }
 
 impl Base {
