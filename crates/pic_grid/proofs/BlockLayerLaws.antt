@@ -74,17 +74,6 @@ pub layer_off : (n : Triple) (xs : List ℤ) (o : Triple) (a : Axis) (p : Triple
 unfolding layer_of
 layer_off n xs o a p off = ap (λ (b : Bool). cond b (get_or xs (place_of n a (lowered_by o p)) (pos 0)) (pos 0)) off
 
--- tests of small numbers
-pub cond_small : (b : Bool) (v : ℤ) (most : ℕ) → IsAtMost v most → IsAtMost (cond b v (pos 0)) most
-cond_small true v most small = small
-cond_small false v most small = record { size = omega (arith, ints) }
-
--- it is small
-pub layer_small : (n : Triple) (xs : List ℤ) (o : Triple) (a : Axis) (p : Triple) (most : ℕ) → AreAtMost most xs → IsAtMost (layer_of n xs o a p) most
-unfolding layer_of
-layer_small n xs o a p most small =
-    let k = place_of n a (lowered_by o p) in cond_small (is_over o n p) (get_or xs k (pos 0)) most (small.at_most k)
-
 -- nothing added
 pub add_none : (v w : ℤ) → w ≡ pos 0 → v ≡ v +ℤ w
 add_none v w e = omega (arith, ints, e)
@@ -92,23 +81,21 @@ add_none v w e = omega (arith, ints, e)
 pub sums_small : (u v : ℤ) (m n : ℕ) → IsAtMost u m → IsAtMost v n → IsAtMost (u +ℤ v) (m + n)
 sums_small u v m n h k = let p = h.size in let q = k.size in record { size = omega (arith, ints, p, q) }
 
--- where there is no layer, nothing is added
-pub no_layers : (b from : BlockValues) (o : Triple) → from.size.x ≡ 0 → AddsLayers b b from o
-no_layers b from o none = record { at = λ a p w. add_none (inner_at b a p) (layer_of from.size from.values o a p) (off a p (is_over o from.size p) refl) }
+-- values that are all 0 add nothing, wherever they are laid
+pub none_added : (b from : BlockValues) (o : Triple) → ((k : ℕ) → get_or from.values k (pos 0) ≡ pos 0) → AddsLayers b b from o
+none_added b from o zeros = record { at = λ a p w. add_none (inner_at b a p) (layer_of from.size from.values o a p) (off a p (is_over o from.size p) refl) }
   where
     off : (a : Axis) (p : Triple) (t : Bool) → is_over o from.size p ≡ t → layer_of from.size from.values o a p ≡ pos 0
-    off a p true e = (let over = over_tells o from.size p e in let low = over.above_x in let high = over.below_x in absurd (omega (arith, low, high, none)))
+    off a p true e = layer_over from.size from.values o a p e ∙ zeros (place_of from.size a (lowered_by o p))
     off a p false e = layer_off from.size from.values o a p e
 
--- zeros add nothing, wherever they are laid
+-- as those of a blank block, and of one without cells
 pub zeros_add_none : (b from : BlockValues) (o : Triple) → from.values ≡ replicate (3 * count_of from.size) (pos 0) → AddsLayers b b from o
-zeros_add_none b from o zeros = record { at = λ a p w. add_none (inner_at b a p) (layer_of from.size from.values o a p) (off a p (is_over o from.size p) refl) }
-  where
-    off : (a : Axis) (p : Triple) (t : Bool) → is_over o from.size p ≡ t → layer_of from.size from.values o a p ≡ pos 0
-    off a p true e =
-        let k = place_of from.size a (lowered_by o p) in
-        layer_over from.size from.values o a p e ∙ ap (λ (xs : List ℤ). get_or xs k (pos 0)) zeros ∙ zero_read (3 * count_of from.size) k
-    off a p false e = layer_off from.size from.values o a p e
+zeros_add_none b from o zeros =
+    none_added b from o (λ k. ap (λ (xs : List ℤ). get_or xs k (pos 0)) zeros ∙ zero_read (3 * count_of from.size) k)
+
+pub no_layers : (b from : BlockValues) (o : Triple) → length from.values ≡ 0 → AddsLayers b b from o
+no_layers b from o none = none_added b from o (λ k. get_or_past from.values k (pos 0) (omega (arith, none)))
 
 -- the cell that lies p above the lowest of a block
 abbrev pub cell_in : BlockValues → Triple → Spot

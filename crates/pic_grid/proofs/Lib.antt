@@ -8,6 +8,7 @@ pub mod PartLaws
 pub mod RowLaws
 pub mod BlockLayerLaws
 pub mod BlockRowLaws
+pub mod LayerLaws
 pub mod RunLaws
 pub mod LayeredLaws
 pub mod SlotLaws

@@ -82,8 +82,8 @@ impl Block {
         self.zone
     }
 
-    /// Whether it is known to have no component but 0. It may be false for a block of zeros, as where
-    /// a 0 was written.
+    /// Whether it is known to have no component but 0. It may be false for a block of zeros, as
+    /// where a 0 was written.
     pub fn is_blank(&self) -> bool
         ensures { IsTrue result
             → self.now.values ≡ replicate (3 * count_of self.now.size) (pos 0) }
