@@ -56,7 +56,7 @@ module _ (n parts s : Triple) (blocks : List BlockValues) (x y z : Slot) (l : Is
     number = part_is ∙ ap (λ (m : Triple). index_of parts (part_of m p)) (sym l.layers)
 
     -- their part is one of the parts
-    pub slots_below : part < length blocks
+    slots_below : part < length blocks
     slots_below = lattice_below n parts s blocks p part l slots_within number
 
     abbrev inner : Triple
@@ -151,3 +151,10 @@ module _ (n parts s : Triple) (blocks : List BlockValues) (x y z : Slot) (l : Is
             ∙ ap (λ (m : ℕ). slice_index_or b.values m (pos 0)) (sym (place_of-along b.size a (inner_of b.low (unwrapped p)) i))
             ∙ ap (λ (c : BlockValues). inner_at c a (record (inner_of c.low (unwrapped p)) { x = (inner_of c.low (unwrapped p)).x + i })) block
             ∙ run_value n parts blocks p l.cells l.parts_fit l.zones slots_within side a i inside
+
+-- the part of three slots of a lattice is one of its parts, as the code has them
+pub slots_index : (grid : Grid) (parts s : Triple) (blocks : List BlockValues) (f : Field) (x y z : Slot) → IsLattice grid.n parts s blocks
+    → joined grid parts blocks ≡ f → IsSlotX f.cells f.parts x → IsSlotY f.cells f.parts y → IsSlotZ f.cells f.parts z
+    → x.part + y.part + z.part < length blocks
+slots_index grid parts s blocks f x y z l view on_x on_y on_z =
+    slots_below grid.n parts s blocks x y z l (slots_of grid parts blocks f x y z view on_x on_y on_z)

@@ -7,16 +7,13 @@ use Rattle.pic_num.specs.Space.{triple, axis_number}
 use Rattle.pic_grid.specs.Block.{BlockValues}
 use Rattle.pic_grid.specs.Cells.{count_of}
 use Rattle.pic_grid.specs.Lattice.{Field, value_at}
-use Rattle.pic_grid.proofs.SlotLaws.{slots_of, slots_below, slots_place, slots_value}
+use Rattle.pic_grid.proofs.SlotLaws.{slots_of, slots_index, slots_place, slots_value}
 use Rattle.pic_grid.proofs.lattice.Lattice.at_slots.Goals as goal
 
 pub index-block-requires : goal.index-block-requires
 index-block-requires c =
-    let n = c.self.inside.cells.n in
-    let parts = triple c.self.inside.parts in
-    let blocks = c.self.inside.blocks.items in
-    let on = slots_of c.self.inside.cells parts blocks _ c.args.x c.args.y c.args.z c.self.view_is c.requires.x c.requires.y c.requires.z in
-    let below = slots_below n parts (triple c.self.inside.layers) blocks c.args.x c.args.y c.args.z c.self.invariant.lattice on in
+    let below = slots_index c.self.inside.cells (triple c.self.inside.parts) (triple c.self.inside.layers) c.self.inside.blocks.items _
+    c.args.x c.args.y c.args.z c.self.invariant.lattice c.self.view_is c.requires.x c.requires.y c.requires.z in
     search (rules, below)
 
 pub index-requires : goal.index-requires
