@@ -149,7 +149,7 @@ module _ (scales : Scales) (e : Field) (low : Spot) (size : Triple) (y z count :
     first = line_start low y z
 
     pub half_x : (z_by_y of_z y_by_z of_y : List ℤ) → more_of_e Z (up e.cells Y first) z_by_y → more_of_e Z first of_z
-        → of_e Y (up e.cells Z first) y_by_z → more_of_e Y first of_y
+        → more_of_e Y (up e.cells Z first) y_by_z → more_of_e Y first of_y
         → (a : Axis) (p : Triple) → IsWithin p size → OnRow X y z a p → (v : ℤ)
         → v -ℤ curl_of (row_at (take count z_by_y) p.x) (row_at (take count of_z) p.x) (row_at (take count y_by_z) p.x) (row_at (take count of_y) p.x)
         ≡ half_made scales e low a p v
@@ -164,7 +164,7 @@ module _ (scales : Scales) (e : Field) (low : Spot) (size : Triple) (y z count :
         half_is scales e X (outer_of low (record { x = i; y = y; z = z })) v _ _ _ _
         (front z_by_y count i _ inside (row_up_y e scales.e_to_b low size y z i among below Z (count + 1) z_by_y h room))
         (front of_z count i _ inside (row_here e scales.e_to_b low size y z i among below Z (count + 1) of_z k room))
-        (front y_by_z count i _ inside (row_up_z e scales.e_to_b low size y z i among below Y count y_by_z l inside))
+        (front y_by_z count i _ inside (row_up_z e scales.e_to_b low size y z i among below Y (count + 1) y_by_z l room))
         (front of_y count i _ inside (row_here e scales.e_to_b low size y z i among below Y (count + 1) of_y m room)))
 
     pub half_y : (x_by_z of_x z_on of_z : List ℤ) → of_e X (up e.cells Z first) x_by_z → of_e X first of_x → more_of_e Z first of_z

@@ -1,6 +1,6 @@
 -- How a phase goes over a block: row by row, three rows to a line of cells in x, line by line and
 -- layer by layer. Places are counted from the block's lowest cell.
-use Rattle.std.specs.Prelude.{◌≡◌, ℕ, ℤ, ◌<◌}
+use Rattle.std.specs.Prelude.{◌≡◌, ℕ, ℤ, ◌<◌, ◌≤◌}
 use Rattle.pic_num.specs.declared.mult.Scales.{Scales}
 use Rattle.pic_num.specs.declared.axis.Axis.{Axis}
 use Rattle.pic_num.specs.Multiplier.{Multiplier}
@@ -38,8 +38,20 @@ pub record BelowLine (y z : ℕ) (a : Axis) (p : Triple) : Type 0 where
 pub record OnLayer (z : ℕ) (a : Axis) (p : Triple) : Type 0 where
   pub z_is : p.z ≡ z
 
--- of the layers below it
+-- of the layers below it,
 pub record BelowLayer (z : ℕ) (a : Axis) (p : Triple) : Type 0 where
+  pub z_below : p.z < z
+
+-- of the lines of its layer from one on and below another: those of a strip,
+pub record OnLines (from to z : ℕ) (a : Axis) (p : Triple) : Type 0 where
+  pub y_from : from ≤ p.y
+  pub y_below : p.y < to
+  pub z_is : p.z ≡ z
+
+-- of the lines of a strip in the layers below z
+pub record OnStrip (from to z : ℕ) (a : Axis) (p : Triple) : Type 0 where
+  pub y_from : from ≤ p.y
+  pub y_below : p.y < to
   pub z_below : p.z < z
 
 -- the places of P have new values, which g makes of their old ones; all others stay

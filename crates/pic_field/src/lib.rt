@@ -6,6 +6,7 @@ mod faults;
 mod forces;
 mod laws;
 mod magnetic;
+mod plane;
 mod rooms;
 mod row;
 mod zone;

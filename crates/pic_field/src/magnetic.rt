@@ -1,24 +1,24 @@
-//! Half a step of B in one block, line by line.
+//! Half a step of B in one block, strip by strip of lines.
 
-ghost use Rattle.std.specs.Prelude.{◌≡◌, ◌+◌, ◌^◌, ◌<◌, ◌≤◌, OnOk, IsTrue};
+ghost use Rattle.std.specs.Prelude.{◌≡◌, ◌+◌, ◌-◌, ◌^◌, ◌<◌, ◌≤◌, Bool, true, false, OnOk, IsTrue};
 ghost use Rattle.pic_num.specs.declared.axis.Axis.{Axis as AxisName};
-ghost use Rattle.pic_num.specs.Limits.{most_cells_of_axis};
 ghost use Rattle.pic_num.specs.Push.{unless};
-ghost use Rattle.pic_num.specs.Space.{Triple, triple};
+ghost use Rattle.pic_num.specs.Space.{Triple};
 ghost use Rattle.pic_grid.specs.Cells.{IsWithin};
 ghost use Rattle.pic_grid.specs.Differences.{up};
 ghost use Rattle.pic_grid.specs.Lattice.{EachAtMost};
 ghost use Rattle.pic_grid.specs.Block.{IsAmongCells, IsShaped, AllAtMost, inner_at, outer_of};
 ghost use Rattle.pic_field.specs.FieldPhases.{half_of, half_in, lowest, least_fault, AllBounded};
-ghost use Rattle.pic_field.specs.Lines.{HasCells, OnLine, OnLayer, BelowLayer, Changed, AreSmall, half_made, line_start};
-ghost use Rattle.pic_field.specs.Rows.{IsScaledRow};
+ghost use Rattle.pic_field.specs.Lines.{HasCells, OnLine, OnLines, OnStrip, BelowLayer, Changed, AreSmall, half_made, line_start};
+ghost use Rattle.pic_field.specs.Planes.{IsScaledPlane, AreRowsUp, plane_at};
 
 use crate::faults::{safe_most, stop_in};
+use crate::plane::{Line, Plane, fill_plane, strip_end};
 use crate::rooms::{Rooms, half_row};
-use crate::row::{Four, copy_row, scaled_row, shifted, start_at};
+use crate::row::{Four, shifted};
 use crate::zone::{cell_in, is_empty, line_length};
 use pic_grid::{Block, Lattice, Phase, Stop};
-use pic_num::{Axis, Mult, Scales};
+use pic_num::{Axis, Scales};
 
 /// Half a step of B at every place of a block: each value less the curl of the scaled E. The zone
 /// of the block lies among the cells of `e`, and all values are at most 2^90 in size.
@@ -61,15 +61,15 @@ pub fn half_b_in(
     ensures bounded { OnOk result (AllBounded scales.now.b_force b.new) }
 {
     let most = safe_most(scales.b_force);
-    if half_layers(scales, e, b, most, rooms) {
+    if half_strips(scales, e, b, most, rooms) {
         return Ok(());
     }
     stop_in(phase, scales.b_force, e.cells(), b)
 }
 
-/// Half a step of B at every place, layer by layer, and whether all new values are at most `most`
+/// Half a step of B at every place, strip by strip, and whether all new values are at most `most`
 /// in size.
-fn half_layers(scales: &Scales, e: &Lattice, b: &mut Block, most: u128, rooms: &mut Rooms) -> bool
+fn half_strips(scales: &Scales, e: &Lattice, b: &mut Block, most: u128, rooms: &mut Rooms) -> bool
     requires among { IsAmongCells b.old.low b.old.size e.now.cells }
     requires e_small { EachAtMost (2 ^ 90) e.now }
     requires b_small { AreSmall (2 ^ 90) (BelowLayer b.old.size.z) b.old }
@@ -82,46 +82,158 @@ fn half_layers(scales: &Scales, e: &Lattice, b: &mut Block, most: u128, rooms: &
         return true;
     }
     let mut calm = true;
-    for z in 0..zone.size[2] {
-        let found = half_layer(scales, e, b, z, most, rooms);
+    let mut from = 0;
+    while from < zone.size[1] {
+        let to = strip_end(from, zone.size[1]);
+        let found = half_strip(scales, e, b, from, to, most, rooms);
         calm = calm & found;
+        from = to;
     }
     calm
 }
 
-/// Half a step of B at every place of a layer, line by line. The rows that one line has in common
-/// with the next are scaled once.
-fn half_layer(
+/// Half a step of B on the lines of a strip, layer by layer. A plane of scaled rows serves the
+/// layer below it and then its own.
+fn half_strip(
     scales: &Scales,
     e: &Lattice,
     b: &mut Block,
-    z: u32,
+    from: u32,
+    to: u32,
     most: u128,
     rooms: &mut Rooms,
 ) -> bool
     requires among { IsAmongCells b.old.low b.old.size e.now.cells }
     requires some { HasCells b.old.size }
     requires e_small { EachAtMost (2 ^ 90) e.now }
-    requires z { z < b.old.size.z }
-    requires b_small { AreSmall (2 ^ 90) (OnLayer z) b.old }
-    ensures changed { Changed (half_made scales.now e.now b.old.low) (OnLayer z) b.old b.new }
-    ensures calm { IsTrue result → AreSmall most (OnLayer z) b.new }
+    requires from { from < to }
+    requires few { to ≤ from + 8 }
+    requires to { to ≤ b.old.size.y }
+    requires b_small { AreSmall (2 ^ 90) (OnStrip from to b.old.size.z) b.old }
+    ensures changed { Changed (half_made scales.now e.now b.old.low)
+        (OnStrip from to b.old.size.z) b.old b.new }
+    ensures calm { IsTrue result → AreSmall most (OnStrip from to b.old.size.z) b.new }
 {
     let zone = b.zone();
     let count = line_length(e.cells(), zone);
-    let first = start_at(e, cell_in(e.cells(), zone, [0, 0, z]));
-    scaled_row(e, scales.e_to_b, Axis::X, first, count, &mut rooms.x);
-    scaled_row(e, scales.e_to_b, Axis::Z, first, count + 1, &mut rooms.z);
+    let first = cell_in(e.cells(), zone, [0, from, 0]);
+    let lines = (to - from) as usize;
+    let to_b = scales.e_to_b;
+    fill_plane(
+        e,
+        to_b,
+        first,
+        first[0],
+        count,
+        lines + 1,
+        lines,
+        true,
+        &mut rooms.planes[0],
+    );
+    let mut near = 0;
     let mut calm = true;
-    for y in 0..zone.size[1] {
-        let found = half_line(scales, e, b, y, z, most, rooms);
+    for z in 0..zone.size[2] {
+        let found = half_layer(scales, e, b, from, to, z, near, most, rooms);
+        calm = calm & found;
+        near = 1 - near;
+    }
+    calm
+}
+
+/// Half a step of B on the lines of a strip in a layer, whose plane of scaled rows is that at
+/// `near`. The other room has the plane of the next layer then.
+fn half_layer(
+    scales: &Scales,
+    e: &Lattice,
+    b: &mut Block,
+    from: u32,
+    to: u32,
+    z: u32,
+    near: usize,
+    most: u128,
+    rooms: &mut Rooms,
+) -> bool
+    requires among { IsAmongCells b.old.low b.old.size e.now.cells }
+    requires some { HasCells b.old.size }
+    requires e_small { EachAtMost (2 ^ 90) e.now }
+    requires from { from < to }
+    requires few { to ≤ from + 8 }
+    requires to { to ≤ b.old.size.y }
+    requires z { z < b.old.size.z }
+    requires b_small { AreSmall (2 ^ 90) (OnLines from to z) b.old }
+    requires near { near < 2 }
+    requires plane { IsScaledPlane e.now scales.now.e_to_b (line_start b.old.low from z)
+        (line_start b.old.low from z).x b.old.size.x (to - from + 1) (to - from) true
+        (plane_at rooms.old.planes near) }
+    ensures next { z + 1 < b.old.size.z → IsScaledPlane e.now scales.now.e_to_b
+        (line_start b.old.low from (z + 1)) (line_start b.old.low from (z + 1)).x b.old.size.x
+        (to - from + 1) (to - from) true (plane_at rooms.new.planes (1 - near)) }
+    ensures changed { Changed (half_made scales.now e.now b.old.low) (OnLines from to z)
+        b.old b.new }
+    ensures calm { IsTrue result → AreSmall most (OnLines from to z) b.new }
+{
+    let zone = b.zone();
+    let count = line_length(e.cells(), zone);
+    let above = e
+        .cells()
+        .up(Axis::Z, cell_in(e.cells(), zone, [0, from, z]));
+    let lines = (to - from) as usize;
+    let more = z + 1 < zone.size[2];
+    let far = 1 - near;
+    let to_b = scales.e_to_b;
+    fill_plane(
+        e,
+        to_b,
+        above,
+        above[0],
+        count,
+        lines + 1,
+        lines,
+        more,
+        &mut rooms.planes[far],
+    );
+    let planes = &rooms.planes;
+    half_lines(scales, e, b, from, to, z, most, &planes[near], &planes[far])
+}
+
+/// Half a step of B on the lines of a strip in a layer, from the scaled rows of the layer and the
+/// next.
+fn half_lines(
+    scales: &Scales,
+    e: &Lattice,
+    b: &mut Block,
+    from: u32,
+    to: u32,
+    z: u32,
+    most: u128,
+    near: &Plane,
+    far: &Plane,
+) -> bool
+    requires among { IsAmongCells b.old.low b.old.size e.now.cells }
+    requires from { from < to }
+    requires few { to ≤ from + 8 }
+    requires to { to ≤ b.old.size.y }
+    requires z { z < b.old.size.z }
+    requires b_small { AreSmall (2 ^ 90) (OnLines from to z) b.old }
+    requires near { IsScaledPlane e.now scales.now.e_to_b (line_start b.old.low from z)
+        (line_start b.old.low from z).x b.old.size.x (to - from + 1) (to - from) true near.now }
+    requires far { IsScaledPlane e.now scales.now.e_to_b
+        (up e.now.cells Axis.Z (line_start b.old.low from z))
+        (line_start b.old.low from z).x b.old.size.x (to - from + 1) (to - from) false far.now }
+    ensures changed { Changed (half_made scales.now e.now b.old.low) (OnLines from to z)
+        b.old b.new }
+    ensures calm { IsTrue result → AreSmall most (OnLines from to z) b.new }
+{
+    let mut calm = true;
+    for y in from..to {
+        let j = (y - from) as usize;
+        let found = half_line(scales, e, b, y, z, most, &near[j], &near[j + 1], &far[j]);
         calm = calm & found;
     }
     calm
 }
 
-/// Half a step of B along a line. The rooms `x` and `z` hold the line's own rows, and then those of
-/// the next line in y.
+/// Half a step of B along a line, from its scaled rows and those of the next lines in y and in z.
 fn half_line(
     scales: &Scales,
     e: &Lattice,
@@ -129,79 +241,40 @@ fn half_line(
     y: u32,
     z: u32,
     most: u128,
-    rooms: &mut Rooms,
+    own: &Line,
+    by_y: &Line,
+    by_z: &Line,
 ) -> bool
     requires among { IsAmongCells b.old.low b.old.size e.now.cells }
-    requires some { HasCells b.old.size }
-    requires e_small { EachAtMost (2 ^ 90) e.now }
     requires y { y < b.old.size.y }
     requires z { z < b.old.size.z }
     requires b_small { AreSmall (2 ^ 90) (OnLine y z) b.old }
-    requires x_row { IsScaledRow e.now scales.now.e_to_b Axis.X (line_start b.old.low y z)
-        b.old.size.x rooms.old.x }
-    requires z_row { IsScaledRow e.now scales.now.e_to_b Axis.Z (line_start b.old.low y z)
-        (b.old.size.x + 1) rooms.old.z }
-    ensures x_row { IsScaledRow e.now scales.now.e_to_b Axis.X
-        (up e.now.cells Axis.Y (line_start b.old.low y z)) b.old.size.x rooms.new.x }
-    ensures z_row { IsScaledRow e.now scales.now.e_to_b Axis.Z
-        (up e.now.cells Axis.Y (line_start b.old.low y z)) (b.old.size.x + 1) rooms.new.z }
+    requires rows { AreRowsUp e.now scales.now.e_to_b (line_start b.old.low y z) b.old.size.x
+        own.now by_y.now by_z.now }
     ensures changed { Changed (half_made scales.now e.now b.old.low) (OnLine y z) b.old b.new }
     ensures calm { IsTrue result → AreSmall most (OnLine y z) b.new }
 {
-    let zone = b.zone();
-    let count = line_length(e.cells(), zone);
-    let here = cell_in(e.cells(), zone, [0, y, z]);
-    half_rows(scales.e_to_b, e, here, count, rooms);
+    let count = line_length(e.cells(), b.zone());
     let on_x = Four {
-        far_third: &rooms.z_by_y[..count],
-        near_third: &rooms.z[..count],
-        far_second: &rooms.y_by_z[..count],
-        near_second: &rooms.y[..count],
+        far_third: &by_y.z[..count],
+        near_third: &own.z[..count],
+        far_second: &by_z.y[..count],
+        near_second: &own.y[..count],
     };
     let calm_x = half_row(b, Axis::X, y, z, &on_x, most);
     let on_y = Four {
-        far_third: &rooms.x_by_z[..count],
-        near_third: &rooms.x[..count],
-        far_second: shifted(&rooms.z[..], count),
-        near_second: &rooms.z[..count],
+        far_third: &by_z.x[..count],
+        near_third: &own.x[..count],
+        far_second: shifted(&own.z[..], count),
+        near_second: &own.z[..count],
     };
     let calm_y = half_row(b, Axis::Y, y, z, &on_y, most);
     let on_z = Four {
-        far_third: shifted(&rooms.y[..], count),
-        near_third: &rooms.y[..count],
-        far_second: &rooms.x_by_y[..count],
-        near_second: &rooms.x[..count],
+        far_third: shifted(&own.y[..], count),
+        near_third: &own.y[..count],
+        far_second: &by_y.x[..count],
+        near_second: &own.x[..count],
     };
     let calm_z = half_row(b, Axis::Z, y, z, &on_z, most);
-    copy_row(&rooms.x_by_y, count, &mut rooms.x);
-    copy_row(&rooms.z_by_y, count + 1, &mut rooms.z);
     calm_x & calm_y & calm_z
-}
-
-/// The rows of scaled E that a line of `count` cells needs beside its own x and z: its y, and those
-/// of the next lines in y and in z. Those that are read a cell further have one value more.
-fn half_rows(by: Mult, e: &Lattice, here: [u32; 3], count: usize, rooms: &mut Rooms)
-    requires within { IsWithin (triple here) e.now.cells }
-    requires few { count ≤ most_cells_of_axis }
-    requires e_small { EachAtMost (2 ^ 90) e.now }
-    ensures x { rooms.new.x ≡ rooms.old.x }
-    ensures z { rooms.new.z ≡ rooms.old.z }
-    ensures y { IsScaledRow e.now by Axis.Y (triple here) (count + 1) rooms.new.y }
-    ensures x_by_y { IsScaledRow e.now by Axis.X (up e.now.cells Axis.Y (triple here)) count
-        rooms.new.x_by_y }
-    ensures z_by_y { IsScaledRow e.now by Axis.Z (up e.now.cells Axis.Y (triple here)) (count + 1)
-        rooms.new.z_by_y }
-    ensures x_by_z { IsScaledRow e.now by Axis.X (up e.now.cells Axis.Z (triple here)) count
-        rooms.new.x_by_z }
-    ensures y_by_z { IsScaledRow e.now by Axis.Y (up e.now.cells Axis.Z (triple here)) count
-        rooms.new.y_by_z }
-{
-    let by_y = start_at(e, e.cells().up(Axis::Y, here));
-    let by_z = start_at(e, e.cells().up(Axis::Z, here));
-    let here = start_at(e, here);
-    scaled_row(e, by, Axis::Y, here, count + 1, &mut rooms.y);
-    scaled_row(e, by, Axis::X, by_y, count, &mut rooms.x_by_y);
-    scaled_row(e, by, Axis::Z, by_y, count + 1, &mut rooms.z_by_y);
-    scaled_row(e, by, Axis::X, by_z, count, &mut rooms.x_by_z);
-    scaled_row(e, by, Axis::Y, by_z, count, &mut rooms.y_by_z);
 }

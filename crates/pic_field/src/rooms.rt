@@ -5,6 +5,7 @@ ghost use Rattle.pic_grid.specs.Block.{IsShaped, inner_at};
 ghost use Rattle.pic_field.specs.Lines.{OnRow, Changed, AreSmall};
 ghost use Rattle.pic_field.specs.Rows.{row_at, curl_of, IsRow};
 
+use crate::plane::{Line, PLANE, Plane};
 use crate::row::{Four, ROOM, Row, lessen_row, lessen_row_by};
 use pic_grid::Block;
 use pic_num::Axis;
@@ -22,12 +23,18 @@ pub struct Rooms {
     pub(crate) z_by_y: Row,
     pub(crate) x_by_z: Row,
     pub(crate) y_by_z: Row,
+    pub(crate) planes: [Plane; 2],
 }
 
 impl Rooms {
     /// Rooms whose values are of no matter.
     pub fn new() -> Rooms {
         let row = [0; ROOM];
+        let plane = [Line {
+            x: row,
+            y: row,
+            z: row,
+        }; PLANE];
         Rooms {
             x: row,
             y: row,
@@ -36,6 +43,7 @@ impl Rooms {
             z_by_y: row,
             x_by_z: row,
             y_by_z: row,
+            planes: [plane; 2],
         }
     }
 }

@@ -79,7 +79,7 @@ pub(crate) fn scaled_row(
 }
 
 /// The layer that follows a run of `more` layers from `x` on, of `count` periodic ones.
-fn after_run(count: u32, x: u32, more: usize) -> u32
+pub(crate) fn after_run(count: u32, x: u32, more: usize) -> u32
     requires count { count < 2 ^ 31 }
     requires x { x < count }
     requires run { x + more ≤ count }

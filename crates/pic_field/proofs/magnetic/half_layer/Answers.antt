@@ -1,40 +1,34 @@
-use Rattle.std.proofs.Common.{◌≡◌, ◌+◌, ◌<◌, ◌∙◌, ap, subst}
-use Rattle.pic_num.specs.declared.axis.Axis.TheVariants.{X, Y, Z}
-use Rattle.pic_num.specs.Space.{Triple, Spot}
+use Rattle.std.proofs.Common.{◌≡◌, ◌+◌, ◌-◌, ◌<◌, ℕ, Bool, true, nat_lt, slice_index, sym, ◌∙◌, ap, subst, arith}
+use Rattle.std.proofs.lemmas.Bool.{lt-ltb}
+use Rattle.pic_num.specs.declared.axis.Axis.TheVariants.{Z}
+use Rattle.pic_num.specs.Space.{Triple, Spot, triple}
 use Rattle.pic_grid.specs.Differences.{up}
-use Rattle.pic_field.specs.Lines.{OnLine, BelowLine, Changed, half_made, line_start}
-use Rattle.pic_field.specs.Rows.{IsScaledRow}
-use Rattle.pic_field.proofs.CurlLaws.{next_start}
-use Rattle.pic_field.proofs.LineLaws.{both_true, changed_next, small_next, lines_more}
+use Rattle.pic_grid.specs.Block.{outer_of}
+use Rattle.pic_field.specs.Lines.{line_start}
+use Rattle.pic_field.specs.Planes.{IsScaledPlane}
+use Rattle.pic_field.proofs.PlaneLaws.{next_layer, plane_filled}
 use Rattle.pic_field.proofs.magnetic.half_layer.Goals as goal
 
-pub loop-y-preserved : goal.loop-y-preserved
-loop-y-preserved c =
-    let y = c.loop-y.y in
+pub returns-clause-next : goal.returns-clause-next
+returns-clause-next c = λ more.
+    let e = c.args.e.now in
+    let by = c.args.scales.now.e_to_b in
+    let b = c.args.b.now in
+    let from = c.args.from in
     let z = c.args.z in
-    let old = c.args.b.now in
-    let mid = c.loop-y.b in
-    let before = c.loop-y.invariant.changed in
-    let start : (below : y + 1 < old.size.y) → up c.args.e.now.cells Y (line_start mid.low y z) ≡ line_start old.low (y + 1) z = λ below.
-    ap (λ (l : Spot). up c.args.e.now.cells Y (line_start l y z)) before.shaped.low
-    ∙ next_start old.low old.size c.args.e.now.cells y z c.requires.among below in
-    let then = subst (λ (l : Spot). Changed (half_made c.args.scales.now c.args.e.now l) (OnLine y z) mid c.half_line-found.new.b) before.shaped.low
-    c.half_line-found.ensures.changed in
-    record {
-      x_row = λ below.
-          subst (λ (n : Triple). IsScaledRow c.args.e.now c.args.scales.now.e_to_b X (line_start old.low (y + 1) z) n.x c.half_line-found.new.rooms.x)
-          before.shaped.size
-          (subst (λ (s : Triple). IsScaledRow c.args.e.now c.args.scales.now.e_to_b X s mid.size.x c.half_line-found.new.rooms.x)
-          (start below) c.half_line-found.ensures.x_row);
-      z_row = λ below.
-          subst (λ (n : Triple). IsScaledRow c.args.e.now c.args.scales.now.e_to_b Z (line_start old.low (y + 1) z) (n.x + 1) c.half_line-found.new.rooms.z)
-          before.shaped.size
-          (subst (λ (s : Triple). IsScaledRow c.args.e.now c.args.scales.now.e_to_b Z s (mid.size.x + 1) c.half_line-found.new.rooms.z)
-          (start below) c.half_line-found.ensures.z_row);
-      changed = changed_next _ (BelowLine y z) (OnLine y z) (BelowLine (y + 1) z) old mid c.half_line-found.new.b before then (lines_more old.size y z);
-      calm = λ both.
-          let each = both_true c.loop-y.calm c.half_line-found.result both in
-          small_next (half_made c.args.scales.now c.args.e.now old.low) (BelowLine y z) (OnLine y z)
-          (BelowLine (y + 1) z) mid mid c.half_line-found.new.b c.args.most then
-          (c.loop-y.invariant.calm each.0) (c.half_line-found.ensures.calm each.1) (lines_more mid.size y z);
-    }
+    let lines : ℕ = c.args.to - from in
+    let count = c.line_length-count.result in
+    let filled = c.fill_plane.new.to in
+    let inner : Triple = record { x = 0; y = from; z = z } in
+    let here : triple c.cell_in.result ≡ line_start b.low from z = c.cell_in.ensures.value ∙ ap (λ (l : Spot). outer_of l inner) c.zone-zone.ensures.low in
+    let at : triple c.up-above.result ≡ line_start b.low from (z + 1) =
+    c.up-above.ensures.value ∙ (λ i. up (c.cells-2.ensures.value i) Z (here i)) ∙ next_layer b.low b.size e.cells from z c.requires.among more in
+    let same : count ≡ b.size.x = c.line_length-count.ensures.value ∙ ap (λ (n : Triple). n.x) c.zone-zone.ensures.size in
+    let size_z : slice_index c.zone-zone.result.size 2 ≡ b.size.z = ap (λ (n : Triple). n.z) c.zone-zone.ensures.size in
+    let has : Bool = nat_lt (z + 1) (slice_index c.zone-zone.result.size 2) in
+    let with_z : has ≡ true = lt-ltb (z + 1) (slice_index c.zone-zone.result.size 2) (omega (arith, more, size_z)) in
+    subst (IsScaledPlane e by (line_start b.low from (z + 1)) (line_start b.low from (z + 1)).x b.size.x (lines + 1) lines true)
+    (sym (plane_filled c.args.rooms.now.planes (1 - c.args.near) _ (omega arith)))
+    (subst (λ (w : Bool). IsScaledPlane e by (line_start b.low from (z + 1)) (line_start b.low from (z + 1)).x b.size.x (lines + 1) lines w filled) with_z
+    (subst (λ (m : ℕ). IsScaledPlane e by (line_start b.low from (z + 1)) (line_start b.low from (z + 1)).x m (lines + 1) lines has filled) same
+    (subst (λ (p : Triple). IsScaledPlane e by p p.x count (lines + 1) lines has filled) at c.fill_plane.ensures)))

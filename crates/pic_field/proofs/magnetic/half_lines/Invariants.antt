@@ -1,0 +1,10 @@
+use Rattle.std.proofs.Common.{◌≡◌, true}
+use Rattle.pic_field.specs.Lines.{OnLines, Changed, AreSmall, half_made}
+use Rattle.pic_field.proofs.magnetic.half_lines.Given as goal
+
+-- the lines below y are done
+abbrev pub invariant-loop-y : goal.invariant-loop-y
+invariant-loop-y l = record {
+  changed : Changed (half_made l.scales l.e l.initial.b.low) (OnLines l.from l.y l.z) l.initial.b l.b;
+  calm : l.calm ≡ true → AreSmall l.most (OnLines l.from l.y l.z) l.b;
+}
