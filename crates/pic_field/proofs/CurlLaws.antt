@@ -1,5 +1,5 @@
 -- What the scaled rows of a line hold at a place of it, and what their curl makes of a value there.
-use Rattle.std.proofs.Common.{◌≡◌, ℕ, ℤ, pos, ◌+◌, ◌-◌, ◌%◌, ◌<◌, ◌≤◌, ◌+ℤ◌, ◌-ℤ◌, List, [], ◌∷◌, take, unsigned_abs, refl, sym, ◌∙◌, ap, subst, arith}
+use Rattle.std.proofs.Common.{◌≡◌, ℕ, ℤ, pos, ◌+◌, ◌-◌, ◌%◌, ◌<◌, ◌+ℤ◌, ◌-ℤ◌, List, [], ◌∷◌, take, refl, sym, ◌∙◌, ap, subst, arith}
 use Rattle.std.proofs.lemmas.List.{get_or-take}
 use Rattle.std.proofs.Math.Nat.{mod-eq_of_lt, add-mod_right}
 use Rattle.pic_num.specs.declared.mult.Scales.{Scales}
@@ -90,6 +90,10 @@ module _ (f : Field) (by : Multiplier) (low : Spot) (size : Triple) (y z i : ℕ
             → row_at row (i + 1) ≡ scaled (value_at f a (down n Y here)) by
         back_down_y is k = is.values (i + 1) k ∙ ap (λ (x : ℕ). scaled (value_at f a (record (down n Y here) { x = x })) by) at_own
 
+        pub back_down_z : IsScaledRow f by a (down n X (down n Z start)) count row → i + 1 < count
+            → row_at row (i + 1) ≡ scaled (value_at f a (down n Z here)) by
+        back_down_z is k = is.values (i + 1) k ∙ ap (λ (x : ℕ). scaled (value_at f a (record (down n Z here) { x = x })) by) at_own
+
 -- the front of a row
 pub front : (row : List ℤ) (count i : ℕ) (v : ℤ) → i < count → row_at row i ≡ v → row_at (take count row) i ≡ v
 front row count i v below is = get_or-take count row i (pos 0) below ∙ is
@@ -119,22 +123,6 @@ pub full_is : (scales : Scales) (b : Field) (a : Axis) (q : Triple) (v j far_thi
 unfolding full_of
 full_is scales b a q v j far_third near_third far_second near_second h k l m =
     full_sum v j far_third near_third far_second near_second ∙ (λ i. v +ℤ (k i -ℤ h i -ℤ m i +ℤ l i) -ℤ j)
-
--- the line after another begins a cell up from it
-pub next_start : (low : Spot) (size n : Triple) (y z : ℕ) → IsAmongCells low size n → y + 1 < size.y → up n Y (line_start low y z) ≡ line_start low (y + 1) z
-next_start low size n y z among inside =
-    let below : unsigned_abs low.y + y + 1 < n.y = omega (arith, among.y_high) in
-    let at : (unsigned_abs low.y + y + 1) % n.y ≡ unsigned_abs low.y + (y + 1) = mod-eq_of_lt below ∙ omega arith in
-    λ i. record (line_start low y z) { y = at i }
-
--- a line begins a cell up from the one before it
-pub last_start : (low : Spot) (size n : Triple) (y z : ℕ) → IsAmongCells low size n → y + 1 < size.y → down n Y (line_start low (y + 1) z) ≡ line_start low y z
-last_start low size n y z among inside =
-    let high : unsigned_abs low.y + size.y ≤ n.y = among.y_high in
-    let sum : unsigned_abs low.y + (y + 1) + (n.y - 1) ≡ unsigned_abs low.y + y + n.y = omega arith in
-    let at : (unsigned_abs low.y + (y + 1) + (n.y - 1)) % n.y ≡ unsigned_abs low.y + y =
-    ap (λ (m : ℕ). m % n.y) sum ∙ add-mod_right (unsigned_abs low.y + y) n.y ∙ mod-eq_of_lt (omega arith) in
-    λ i. record (line_start low y z) { y = at i }
 
 -- half a step of B on the three rows of a line, from its scaled rows of E
 module _ (scales : Scales) (e : Field) (low : Spot) (size : Triple) (y z count : ℕ) (among : IsAmongCells low size e.cells) (same : count ≡ size.x)
@@ -221,15 +209,16 @@ module _ (scales : Scales) (b : Field) (j : BlockValues) (low : Spot) (size : Tr
     abbrev Follows : List ℤ → List ℤ → Type 0
     Follows on row = (i : ℕ) → i < count → row_at on i ≡ row_at row (i + 1)
 
-    pub full_x : (z_by_y z_by_y_on of_z z_on y_by_z of_y y_on : List ℤ) → more_of_b Z (down b.cells X (down b.cells Y begin)) z_by_y
+    pub full_x : (z_by_y z_by_y_on of_z z_on y_by_z y_by_z_on of_y y_on : List ℤ) → more_of_b Z (down b.cells X (down b.cells Y begin)) z_by_y
         → more_of_b Z (down b.cells X begin) of_z
-        → of_b Y (down b.cells Z begin) y_by_z → more_of_b Y (down b.cells X begin) of_y → Follows z_by_y_on z_by_y → Follows z_on of_z → Follows y_on of_y
+        → more_of_b Y (down b.cells X (down b.cells Z begin)) y_by_z → more_of_b Y (down b.cells X begin) of_y → Follows z_by_y_on z_by_y
+        → Follows z_on of_z → Follows y_by_z_on y_by_z → Follows y_on of_y
         → (a : Axis) (p : Triple) → IsWithin p size → OnRow X y z a p → (v : ℤ)
-        → v -ℤ inner_at j a p -ℤ curl_of (row_at z_by_y_on p.x) (row_at z_on p.x) (row_at (take count y_by_z) p.x) (row_at y_on p.x)
+        → v -ℤ inner_at j a p -ℤ curl_of (row_at z_by_y_on p.x) (row_at z_on p.x) (row_at y_by_z_on p.x) (row_at y_on p.x)
         ≡ full_made scales b j low a p v
-    full_x z_by_y z_by_y_on of_z z_on y_by_z of_y y_on h k l m after_zy after_z after_y =
+    full_x z_by_y z_by_y_on of_z z_on y_by_z y_by_z_on of_y y_on h k l m after_zy after_z after_yz after_y =
         at_row
-        (λ a p. (v : ℤ) → v -ℤ inner_at j a p -ℤ curl_of (row_at z_by_y_on p.x) (row_at z_on p.x) (row_at (take count y_by_z) p.x) (row_at y_on p.x)
+        (λ a p. (v : ℤ) → v -ℤ inner_at j a p -ℤ curl_of (row_at z_by_y_on p.x) (row_at z_on p.x) (row_at y_by_z_on p.x) (row_at y_on p.x)
         ≡ full_made scales b j low a p v)
         X y z size (λ i below v.
         let inside : i < count = omega arith in
@@ -237,7 +226,7 @@ module _ (scales : Scales) (b : Field) (j : BlockValues) (low : Spot) (size : Tr
         full_is scales b X (outer_of low (record { x = i; y = y; z = z })) v (inner_at j X (record { x = i; y = y; z = z })) _ _ _ _
         (after_zy i inside ∙ back_down_y b scales.b_to_e low size y z i among below Z (count + 1) z_by_y h more)
         (after_z i inside ∙ back_here b scales.b_to_e low size y z i among below Z (count + 1) of_z k more)
-        (front y_by_z count i _ inside (row_down_z b scales.b_to_e low size y z i among below Y count y_by_z l inside))
+        (after_yz i inside ∙ back_down_z b scales.b_to_e low size y z i among below Y (count + 1) y_by_z l more)
         (after_y i inside ∙ back_here b scales.b_to_e low size y z i among below Y (count + 1) of_y m more))
 
     pub full_y : (x_by_z of_x of_z z_on : List ℤ) → of_b X (down b.cells Z begin) x_by_z → of_b X begin of_x → more_of_b Z (down b.cells X begin) of_z

@@ -7,4 +7,4 @@ pub mod RowLaws
 pub mod LineLaws
 pub mod LentLaws
 pub mod CurlLaws
-mod PlaneLaws
+pub mod PlaneLaws

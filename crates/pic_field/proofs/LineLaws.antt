@@ -9,7 +9,7 @@ use Rattle.pic_grid.specs.Cells.{IsWithin, count_of}
 use Rattle.pic_grid.specs.Block.{BlockValues, inner_at}
 use Rattle.pic_grid.specs.Rows.{with_row}
 use Rattle.pic_grid.proofs.RowLaws.{IsOff, row_here, row_others, row_shape, row_size}
-use Rattle.pic_field.specs.Lines.{HasCells, OnRow, OnLine, BelowLine, OnLines, OnStrip, BelowLayer, Changed, AreSmall}
+use Rattle.pic_field.specs.Lines.{HasCells, OnRow, OnLine, BelowLine, OnLines, OnStrip, Changed, AreSmall}
 use Rattle.pic_field.specs.Rows.{row_at, IsSmallRow}
 
 -- a zone that a place lies in has a cell
@@ -183,7 +183,7 @@ strip_more n from y z past = record {
   right = λ a p h. let same : p.y ≡ y = h.y_is in record { y_from = omega arith; y_below = omega arith; z_is = h.z_is };
 }
 
--- the layers of a strip,
+-- and the layers of a strip
 pub layers_more : (n : Triple) (from to z : ℕ) → IsJoined n (OnStrip from to z) (OnLines from to z) (OnStrip from to (z + 1))
 layers_more n from to z = record {
   apart = λ a p h k. let below : p.z < z = h.z_below in let same : p.z ≡ z = k.z_is in absurd (omega arith);
@@ -196,30 +196,4 @@ layers_more n from to z = record {
   ];
   left = λ a p h. let below : p.z < z = h.z_below in record { y_from = h.y_from; y_below = h.y_below; z_below = omega arith };
   right = λ a p h. let same : p.z ≡ z = h.z_is in record { y_from = h.y_from; y_below = h.y_below; z_below = omega arith };
-}
-
--- and the strips of a block
-pub strips_more : (n : Triple) (from to z : ℕ) → from ≤ to → IsJoined n (OnStrip 0 from z) (OnStrip from to z) (OnStrip 0 to z)
-strips_more n from to z past = record {
-  apart = λ a p h k. let below : p.y < from = h.y_below in let least : from ≤ p.y = k.y_from in absurd (omega arith);
-  either = λ a p w r. elim (cases_lt p.y from) [
-    | inl below ↦ inl (record { y_from = r.y_from; y_below = below; z_below = r.z_below })
-    | inr least ↦ inr (record { y_from = least; y_below = r.y_below; z_below = r.z_below })
-  ];
-  left = λ a p h. let below : p.y < from = h.y_below in record { y_from = h.y_from; y_below = omega arith; z_below = h.z_below };
-  right = λ a p h. record { y_from = omega arith; y_below = h.y_below; z_below = h.z_below };
-}
-
--- the lines of all layers are the layers
-pub changed_all : (g : Axis → Triple → ℤ → ℤ) (to : ℕ) (old new : BlockValues) → old.size.y ≤ to → Changed g (OnStrip 0 to old.size.z) old new
-    → Changed g (BelowLayer old.size.z) old new
-changed_all g to old new all change = record {
-  shaped = change.shaped;
-  done = λ a p w here. change.done a p w (record { y_from = omega arith; y_below = omega (arith, w.y, all); z_below = here.z_below });
-  rest = λ a p w none. change.rest a p w (λ h. none (record { z_below = h.z_below }));
-}
-
-pub small_all : (most to z : ℕ) (b : BlockValues) → b.size.y ≤ to → AreSmall most (OnStrip 0 to z) b → AreSmall most (BelowLayer z) b
-small_all most to z b all small = record {
-  at_most = λ a p w here. small.at_most a p w (record { y_from = omega arith; y_below = omega (arith, w.y, all); z_below = here.z_below });
 }

@@ -144,16 +144,6 @@ shifted_row most count row on size long after small same = record {
   };
 }
 
--- a copy of a scaled row is one
-pub copied_row : (f : Field) (by : Multiplier) (a : Axis) (p : Triple) (count size : ℕ) (row new : List ℤ) → IsScaledRow f by a p count row
-    → ((i : ℕ) → i < count → row_at new i ≡ row_at row i) → count ≡ size → IsScaledRow f by a p size new
-copied_row f by a p count size row new is copy same = record {
-  values = λ i below. let inside : i < count = omega arith in copy i inside ∙ is.values i inside;
-  small = record {
-    at_most = λ i below. let inside : i < count = omega arith in subst (λ (z : ℤ). IsAtMost z (2 ^ 121)) (sym (copy i inside)) (is.small.at_most i inside);
-  };
-}
-
 -- what a part of a room holds that was filled from its first value on
 pub taken_at : (part rest : List ℤ) (n x : ℕ) → length part ≡ n → row_at (take n (part ++ rest)) x ≡ row_at part x
 taken_at part rest n x long = ap (λ (row : List ℤ). row_at row x) (take_at part rest n long)

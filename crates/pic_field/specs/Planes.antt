@@ -3,7 +3,7 @@ use Rattle.std.specs.Prelude.{◌≡◌, ℕ, ◌+◌, ◌%◌, ◌<◌, Bool, I
 use Rattle.pic_num.specs.declared.axis.Axis.TheVariants.{X, Y, Z}
 use Rattle.pic_num.specs.Multiplier.{Multiplier}
 use Rattle.pic_num.specs.Space.{Triple}
-use Rattle.pic_grid.specs.Differences.{up}
+use Rattle.pic_grid.specs.Differences.{up, down}
 use Rattle.pic_grid.specs.Lattice.{Field}
 use Rattle.pic_field.specs.Rows.{IsScaledRow}
 use Rattle.pic_field.specs.declared.plane.Line.{Line}
@@ -51,3 +51,15 @@ pub record AreRowsUp (f : Field) (by : Multiplier) (p : Triple) (count : ℕ)
   pub z_by_y : IsScaledRow f by Z (up f.cells Y p) (count + 1) by_y.z
   pub x_by_z : IsScaledRow f by X (up f.cells Z p) count by_z.x
   pub y_by_z : IsScaledRow f by Y (up f.cells Z p) (count + 1) by_z.y
+
+-- the scaled rows of the line that begins at the cell p, of the last one in y and of the last in z:
+-- what the curl of B has along it. Those of y and z begin a cell back.
+pub record AreRowsDown (f : Field) (by : Multiplier) (p : Triple) (count : ℕ)
+    (own by_y by_z : Line) : Type 0 where
+  pub x : IsScaledRow f by X p count own.x
+  pub y : IsScaledRow f by Y (down f.cells X p) (count + 1) own.y
+  pub z : IsScaledRow f by Z (down f.cells X p) (count + 1) own.z
+  pub x_by_y : IsScaledRow f by X (down f.cells Y p) count by_y.x
+  pub z_by_y : IsScaledRow f by Z (down f.cells X (down f.cells Y p)) (count + 1) by_y.z
+  pub x_by_z : IsScaledRow f by X (down f.cells Z p) count by_z.x
+  pub y_by_z : IsScaledRow f by Y (down f.cells X (down f.cells Z p)) (count + 1) by_z.y

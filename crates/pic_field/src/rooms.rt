@@ -1,4 +1,4 @@
-//! Rooms for the rows of a line, and a row of a block that is lessened by a curl.
+//! Rooms for planes of scaled rows, and a row of a block that is lessened by a curl.
 
 ghost use Rattle.std.specs.Prelude.{◌≡◌, pos, ◌+◌, ◌*◌, ◌^◌, ◌<◌, ◌≤◌, ◌-ℤ◌, IsTrue};
 ghost use Rattle.pic_grid.specs.Block.{IsShaped, inner_at};
@@ -6,23 +6,16 @@ ghost use Rattle.pic_field.specs.Lines.{OnRow, Changed, AreSmall};
 ghost use Rattle.pic_field.specs.Rows.{row_at, curl_of, IsRow};
 
 use crate::plane::{Line, PLANE, Plane};
-use crate::row::{Four, ROOM, Row, lessen_row, lessen_row_by};
+use crate::row::{Four, ROOM, lessen_row, lessen_row_by};
 use pic_grid::Block;
 use pic_num::Axis;
 
-/// Rooms that a phase works in, one row of scaled values in each. Who goes over many blocks makes
-/// them once and lends them to each: what they held is of no matter.
-// The scaled components of a field along a line, and along the next or the last line in y (`_by_y`)
-// and in z (`_by_z`).
+/// Rooms that a phase works in, for scaled values. Who goes over many blocks makes them once and
+/// lends them to each: what they held is of no matter.
+// Two planes of scaled rows of a field, of layers that follow one another: of each two layers, the
+// even and the odd have a room each.
 #[derive(Drop)]
 pub struct Rooms {
-    pub(crate) x: Row,
-    pub(crate) y: Row,
-    pub(crate) z: Row,
-    pub(crate) x_by_y: Row,
-    pub(crate) z_by_y: Row,
-    pub(crate) x_by_z: Row,
-    pub(crate) y_by_z: Row,
     pub(crate) planes: [Plane; 2],
 }
 
@@ -30,20 +23,13 @@ impl Rooms {
     /// Rooms whose values are of no matter.
     pub fn new() -> Rooms {
         let row = [0; ROOM];
-        let plane = [Line {
+        let line = Line {
             x: row,
             y: row,
             z: row,
-        }; PLANE];
+        };
         Rooms {
-            x: row,
-            y: row,
-            z: row,
-            x_by_y: row,
-            z_by_y: row,
-            x_by_z: row,
-            y_by_z: row,
-            planes: [plane; 2],
+            planes: [[line; PLANE]; 2],
         }
     }
 }

@@ -161,11 +161,3 @@ pub(crate) fn shifted(row: &[i128], count: usize) -> &[i128]
 {
     &row[1..count + 1]
 }
-
-/// Copies the first `count` values of a row.
-pub(crate) fn copy_row(from: &Row, count: usize, to: &mut Row)
-    requires { count ≤ 129 }
-    ensures { (i : ℕ) → i < count → row_at to.new i ≡ row_at from.now i }
-{
-    to[..count].copy_from_slice(&from[..count]);
-}

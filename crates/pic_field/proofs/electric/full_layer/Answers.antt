@@ -1,43 +1,34 @@
-use Rattle.std.proofs.Common.{◌≡◌, ◌+◌, ◌<◌, sym, ◌∙◌, ap, subst}
+use Rattle.std.proofs.Common.{◌≡◌, ◌+◌, ◌-◌, ℕ, false, true, sym, ◌∙◌, ap, subst, arith}
 use Rattle.pic_num.specs.declared.axis.Axis.TheVariants.{X, Y, Z}
-use Rattle.pic_num.specs.Space.{Triple, Spot}
+use Rattle.pic_num.specs.Space.{Triple, Spot, triple}
 use Rattle.pic_grid.specs.Differences.{down}
-use Rattle.pic_field.specs.Lines.{OnLine, BelowLine, Changed, full_made, line_start}
-use Rattle.pic_field.specs.Rows.{IsScaledRow}
-use Rattle.pic_field.proofs.CurlLaws.{last_start}
-use Rattle.pic_field.proofs.LineLaws.{both_true, changed_next, small_next, lines_more}
+use Rattle.pic_grid.specs.Block.{outer_of}
+use Rattle.pic_field.specs.Lines.{line_start}
+use Rattle.pic_field.specs.Planes.{IsScaledPlane}
+use Rattle.pic_field.proofs.PlaneLaws.{last_layer, plane_filled, plane_without_z}
 use Rattle.pic_field.proofs.electric.full_layer.Goals as goal
 
-pub loop-y-preserved : goal.loop-y-preserved
-loop-y-preserved c =
-    let y = c.loop-y.y in
+pub returns-clause-next : goal.returns-clause-next
+returns-clause-next c = λ more.
+    let b = c.args.b.now in
+    let by = c.args.scales.now.b_to_e in
+    let e = c.args.e.now in
+    let n = b.cells in
+    let from = c.args.from in
     let z = c.args.z in
-    let old = c.args.e.now in
-    let mid = c.loop-y.e in
-    let n = c.args.b.now.cells in
-    let before = c.loop-y.invariant.changed in
-    let start : (below : y + 1 < old.size.y) → line_start mid.low y z ≡ down n Y (line_start old.low (y + 1) z) = λ below.
-    ap (λ (l : Spot). line_start l y z) before.shaped.low ∙ sym (last_start old.low old.size n y z c.requires.among below) in
-    let then = subst (λ (l : Spot). Changed (full_made c.args.scales.now c.args.b.now c.args.j.now l) (OnLine y z) mid c.full_line-found.new.e)
-    before.shaped.low
-    c.full_line-found.ensures.changed in
-    record {
-      x_by_y = λ below.
-          subst (λ (m : Triple). IsScaledRow c.args.b.now c.args.scales.now.b_to_e X (down n Y (line_start old.low (y + 1) z))
-          m.x c.full_line-found.new.rooms.x_by_y)
-          before.shaped.size
-          (subst (λ (s : Triple). IsScaledRow c.args.b.now c.args.scales.now.b_to_e X s mid.size.x c.full_line-found.new.rooms.x_by_y) (start below)
-          c.full_line-found.ensures.x_by_y);
-      z_by_y = λ below.
-          subst (λ (m : Triple). IsScaledRow c.args.b.now c.args.scales.now.b_to_e Z (down n X (down n Y (line_start old.low (y + 1) z))) (m.x + 1)
-          c.full_line-found.new.rooms.z_by_y) before.shaped.size
-          (subst (λ (s : Triple). IsScaledRow c.args.b.now c.args.scales.now.b_to_e Z (down n X s)
-          (mid.size.x + 1) c.full_line-found.new.rooms.z_by_y) (start below)
-          c.full_line-found.ensures.z_by_y);
-      changed = changed_next _ (BelowLine y z) (OnLine y z) (BelowLine (y + 1) z) old mid c.full_line-found.new.e before then (lines_more old.size y z);
-      calm = λ both.
-          let each = both_true c.loop-y.calm c.full_line-found.result both in
-          small_next (full_made c.args.scales.now c.args.b.now c.args.j.now old.low) (BelowLine y z) (OnLine y z)
-          (BelowLine (y + 1) z) mid mid c.full_line-found.new.e
-          c.args.most then (c.loop-y.invariant.calm each.0) (c.full_line-found.ensures.calm each.1) (lines_more mid.size y z);
-    }
+    let lines : ℕ = c.args.to - from in
+    let count = c.line_length-count.result in
+    let filled = c.fill_plane.new.to in
+    let next : Triple = line_start e.low from (z + 1) in
+    let inner : Triple = record { x = 0; y = from; z = z } in
+    let here : triple c.cell_in-here.result ≡ down n Z next =
+    c.cell_in-here.ensures.value ∙ ap (λ (l : Spot). outer_of l inner) c.zone-zone.ensures.low ∙ sym (last_layer e.low e.size n from z c.requires.among more) in
+    let side : triple c.down-side.result ≡ down n X (down n Z next) = c.down-side.ensures.value ∙ (λ i. down (c.cells-3.ensures.value i) X (here i)) in
+    let first : triple c.down-first.result ≡ down n Y (down n Z next) = c.down-first.ensures.value ∙ (λ i. down (c.cells-4.ensures.value i) Y (here i)) in
+    let same : count ≡ e.size.x = c.line_length-count.ensures.value ∙ ap (λ (m : Triple). m.x) c.zone-zone.ensures.size in
+    subst (IsScaledPlane b by (down n Z (down n Y next)) (down n X next).x e.size.x (lines + 1) 0 false)
+    (sym (plane_filled c.args.rooms.now.planes (1 - c.args.far) _ (omega arith)))
+    (plane_without_z b by (down n Z (down n Y next)) (down n X next).x e.size.x (lines + 1) 0 true filled
+    (subst (λ (m : ℕ). IsScaledPlane b by (down n Z (down n Y next)) (down n X next).x m (lines + 1) 0 true filled) same
+    (subst (λ (p : Triple). IsScaledPlane b by p (down n X next).x count (lines + 1) 0 true filled) first
+    (subst (λ (p : Triple). IsScaledPlane b by (triple c.down-first.result) p.x count (lines + 1) 0 true filled) side c.fill_plane.ensures))))

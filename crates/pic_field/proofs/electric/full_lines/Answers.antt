@@ -1,0 +1,54 @@
+use Rattle.std.proofs.Common.{◌≡◌, ◌+◌, ◌-◌, ℕ, sym, subst, arith}
+use Rattle.pic_num.specs.Space.{Triple, Spot}
+use Rattle.pic_field.specs.Lines.{OnLine, OnLines, Changed, full_made, line_start}
+use Rattle.pic_field.specs.Planes.{line_at, AreRowsDown}
+use Rattle.pic_field.proofs.LineLaws.{both_true, changed_next, small_next, strip_more}
+use Rattle.pic_field.proofs.PlaneLaws.{rows_down}
+use Rattle.pic_field.proofs.electric.full_lines.Goals as goal
+
+pub full_line-found-requires-clause-rows : goal.full_line-found-requires-clause-rows
+full_line-found-requires-clause-rows c =
+    let b = c.args.b.now in
+    let by = c.args.scales.now.b_to_e in
+    let from = c.args.from in
+    let y = c.loop-y.y in
+    let z = c.args.z in
+    let old = c.args.e.now in
+    let near = c.args.near.now in
+    let far = c.args.far.now in
+    let shaped = c.loop-y.invariant.changed.shaped in
+    subst (λ (l : Spot). AreRowsDown b by (line_start l y z) c.loop-y.e.size.x (line_at near (y - from + 1)) (line_at near (y - from))
+    (line_at far (y - from + 1)))
+    (sym shaped.low)
+    (subst (λ (n : Triple). AreRowsDown b by (line_start old.low y z) n.x (line_at near (y - from + 1)) (line_at near (y - from))
+    (line_at far (y - from + 1)))
+    (sym shaped.size)
+    (rows_down b by old.low old.size old.size.x from c.args.to y z near far c.requires.among (omega arith) (omega arith) (omega arith) c.requires.near
+    c.requires.far))
+
+pub loop-y-preserved : goal.loop-y-preserved
+loop-y-preserved c =
+    let y = c.loop-y.y in
+    let z = c.args.z in
+    let from = c.args.from in
+    let old = c.args.e.now in
+    let mid = c.loop-y.e in
+    let before = c.loop-y.invariant.changed in
+    let then = subst (λ (l : Spot). Changed (full_made c.args.scales.now c.args.b.now c.args.j.now l) (OnLine y z) mid c.full_line-found.new.e)
+    before.shaped.low
+    c.full_line-found.ensures.changed in
+    record {
+      changed = changed_next _ (OnLines from y z) (OnLine y z) (OnLines from (y + 1) z) old mid c.full_line-found.new.e before then
+          (strip_more old.size from y z (omega arith));
+      calm = λ both.
+          let each = both_true c.loop-y.calm c.full_line-found.result both in
+          small_next (full_made c.args.scales.now c.args.b.now c.args.j.now old.low) (OnLines from y z) (OnLine y z) (OnLines from (y + 1) z) mid mid
+          c.full_line-found.new.e c.args.most then (c.loop-y.invariant.calm each.0) (c.full_line-found.ensures.calm each.1)
+          (strip_more mid.size from y z (omega arith));
+    }
+
+pub returns-clause-changed : goal.returns-clause-changed
+returns-clause-changed c =
+    let end : c.loop-y.y ≡ c.args.to = omega arith in
+    subst (λ (y : ℕ). Changed (full_made c.args.scales.now c.args.b.now c.args.j.now c.args.e.now.low) (OnLines c.args.from y c.args.z) c.args.e.now
+    c.loop-y.e) end c.loop-y.invariant.changed
