@@ -1,6 +1,6 @@
 //! A step of E in one block, strip by strip of lines.
 
-ghost use Rattle.std.specs.Prelude.{◌≡◌, ◌+◌, ◌-◌, ◌^◌, ◌<◌, ◌≤◌, Bool, true, false, OnOk, IsTrue};
+ghost use Rattle.std.specs.Prelude.{◌≡◌, ◌+◌, ◌-◌, ◌^◌, ◌<◌, ◌≤◌, true, false, OnOk, IsTrue};
 ghost use Rattle.pic_num.specs.declared.axis.Axis.{Axis as AxisName};
 ghost use Rattle.pic_num.specs.Push.{unless};
 ghost use Rattle.pic_num.specs.Space.{Triple};
@@ -162,8 +162,8 @@ fn full_strip(
     calm
 }
 
-/// A step of E on the lines of a strip in a layer, where the plane of scaled rows of the layer below
-/// is that at `far`. The other room has the plane of the layer itself then.
+/// A step of E on the lines of a strip in a layer, where the plane of scaled rows of the layer
+/// below is that at `far`. The other room has the plane of the layer itself then.
 fn full_layer(
     scales: &Scales,
     b: &Lattice,

@@ -1,7 +1,6 @@
 //! Planes of scaled rows: those of a strip of lines at one layer of z, each row scaled once.
 
 ghost use Rattle.std.specs.Prelude.{◌≡◌, ◌+◌, ◌<◌, ◌≤◌, ◌^◌, IsTrue};
-ghost use Rattle.pic_num.specs.declared.axis.Axis.{Axis as AxisName};
 ghost use Rattle.pic_num.specs.Limits.{most_cells_of_axis};
 ghost use Rattle.pic_num.specs.Space.{triple};
 ghost use Rattle.pic_grid.specs.Cells.{IsWithin};
@@ -42,7 +41,8 @@ pub(crate) fn strip_end(from: u32, count: u32) -> u32
 
 /// Scales the rows of `lines` lines one after another in y, periodically, the first of which
 /// begins at the cell `first`: `count` values of x, and a value more of y and z, which begin at the
-/// layer `side` of x. The row of y of the line `without` is left out, and those of z if not `with_z`.
+/// layer `side` of x. The row of y of the line `without` is left out, and those of z if not
+/// `with_z`.
 pub(crate) fn fill_plane(
     field: &Lattice,
     by: Mult,
