@@ -59,7 +59,7 @@ pub(crate) fn half_row(b: &mut Block, axis: Axis, y: u32, z: u32, four: &Four, m
 
 /// Lessens the components of a block on `axis` along the row at the layers `y` and `z` by those of
 /// another block of its zone and by the curl of four rows, and answers whether all new values are
-/// at most `most` in size.
+/// at most `most` in size. Where no flux was sent the other block is blank, and isn't read.
 pub(crate) fn full_row(
     e: &mut Block,
     j: &Block,
@@ -84,6 +84,9 @@ pub(crate) fn full_row(
         (OnRow axis y z) e.old e.new }
     ensures calm { IsTrue result → AreSmall most (OnRow axis y z) e.new }
 {
+    if j.is_blank() {
+        return half_row(e, axis, y, z, four, most);
+    }
     let zone = e.zone();
     let count = zone.size[0] as usize;
     let take = j.row(axis, y, z);

@@ -1,7 +1,12 @@
-use Rattle.std.proofs.Common.{◌≡◌, ◌^◌, ◌<◌, ◌-ℤ◌, ℤ, slice_index, ◌∙◌, ap, arith}
+use Rattle.std.proofs.Common.{◌≡◌, ◌*◌, ◌^◌, ◌<◌, ◌-ℤ◌, ℤ, pos, List, slice_index, slice_index_or, ◌∙◌, ap, arith}
+use Rattle.std.proofs.lemmas.Int.{ints}
 use Rattle.pic_num.specs.Space.{Triple}
 use Rattle.pic_grid.specs.Block.{inner_at}
+use Rattle.pic_grid.specs.Cells.{count_of, place_of}
+use Rattle.pic_grid.proofs.ShapeLaws.{zero_read}
+use Rattle.pic_field.specs.Lines.{OnRow}
 use Rattle.pic_field.specs.Rows.{row_at, curl_of}
+use Rattle.pic_field.proofs.LineLaws.{changed_as}
 use Rattle.pic_field.proofs.LentLaws.{IsLent, lent as row, lent_below, lent_small, lent_changed, lent_calm}
 use Rattle.pic_field.proofs.rooms.full_row.Goals as goal
 use Rattle.pic_field.proofs.rooms.full_row.Goals.{After-values_mut-values}
@@ -18,6 +23,21 @@ lent c = record {
   end = c.row_start-start.ensures.end;
   size = ap (λ (n : Triple). n.x) c.zone-zone.ensures.size;
 }
+
+-- where the other block is blank
+pub returns-then-is_blank-clause-changed : goal.returns-then-is_blank-clause-changed
+returns-then-is_blank-clause-changed c =
+    let f = c.args.four.now in
+    let j = c.args.j.now in
+    let curl : Triple → ℤ =
+    λ p. curl_of (row_at f.far_third.now p.x) (row_at f.near_third.now p.x) (row_at f.far_second.now p.x) (row_at f.near_second.now p.x) in
+    let zeros = c.is_blank.ensures c.if-is_blank.true in
+    changed_as (λ a p v. v -ℤ curl p) (λ a p v. v -ℤ inner_at j a p -ℤ curl p) (OnRow c.args.axis c.args.y c.args.z) c.args.e.now c.half_row.new.b
+    c.half_row.ensures.changed
+    (λ a p within on.
+    let none : inner_at j a p ≡ pos 0 =
+    ap (λ (values : List ℤ). slice_index_or values (place_of j.size a p) (pos 0)) zeros ∙ zero_read (3 * count_of j.size) (place_of j.size a p) in
+    omega (arith, ints, none))
 
 pub lessen_row_by-requires-clause-small : goal.lessen_row_by-requires-clause-small
 lessen_row_by-requires-clause-small c =
