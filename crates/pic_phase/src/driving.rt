@@ -1,5 +1,7 @@
 //! A step of E over the blocks of a lattice, each by the flux of the tile that it lies over, by
-//! workers, each in a thread of its own where one can be made.
+//! workers, each in a thread of its own where one can be made. One thread starts all others, one
+//! after another, and does the last share itself: threads that are started by several at the same
+//! moment often share a core.
 
 ghost use Rattle.std.specs.Prelude.{◌≡◌, ◌<◌};
 ghost use Rattle.std.specs.Thread.{IsSync};
@@ -65,8 +67,8 @@ fn full_in_turn(
     least
 }
 
-/// A step of E in the blocks of tiles that are shared out over workers. The answer is their least
-/// stop.
+/// A step of E in the blocks of tiles that are shared out over workers: the first of them has its
+/// share in a new thread, and this one goes on for the others. The answer is their least stop.
 #[cycle(steps)]
 fn full_tiles<H: Threads + Sync>(
     rt: &H,
@@ -84,40 +86,37 @@ fn full_tiles<H: Threads + Sync>(
     if workers == 1 {
         return full_in_turn(scales, b, tiles, blocks);
     }
-    let low = workers / 2;
-    let middle = share(tiles.len(), workers, low);
+    let middle = share(tiles.len(), workers);
     let (front, back) = tiles.split_at_mut(middle);
     let (front_blocks, back_blocks) = blocks.split_at_mut(middle);
-    let high = workers - low;
+    let others = workers - 1;
     let (first, second) = full_both(
         rt,
         scales,
         b,
-        low,
         front,
         front_blocks,
-        high,
+        others,
         back,
         back_blocks,
     );
     earlier(first, second)
 }
 
-/// A step of E in the blocks of the tiles of two groups of workers at the same time.
+/// A step of E in the blocks of the tiles of one worker, in a new thread, and in those of the
+/// others at the same time. The answers are their least stops.
 #[cycle(steps)]
 fn full_both<H: Threads + Sync>(
     rt: &H,
     scales: &Scales,
     b: &Lattice,
-    low: usize,
     front: &mut [Tile],
     front_blocks: &mut [Block],
-    high: usize,
+    others: usize,
     back: &mut [Tile],
     back_blocks: &mut [Block],
 ) -> (Option<Stop>, Option<Stop>)
-    requires low { 0 < low }
-    requires high { 0 < high }
+    requires some { 0 < others }
     requires b_small { EachAtMost most_value b.now }
     requires front_can { AllCanDrive b.now.cells front.old front_blocks.old }
     requires back_can { AllCanDrive b.now.cells back.old back_blocks.old }
@@ -127,17 +126,17 @@ fn full_both<H: Threads + Sync>(
         back_blocks.new result.1 }
 {
     let mut left = ||
-        requires { IsSync H.row × (0 < low) × EachAtMost most_value b.now
+        requires { EachAtMost most_value b.now
             × AllCanDrive b.now.cells front.now front_blocks.now }
         ensures { AreDriven scales.entry.now b.entry.now front.entry.now front_blocks.entry.now
             front.exit.now front_blocks.exit.now result }
-    { full_tiles(rt, scales, b, low, front, front_blocks) };
+    { full_in_turn(scales, b, front, front_blocks) };
     let mut right = ||
-        requires { IsSync H.row × (0 < high) × EachAtMost most_value b.now
+        requires { IsSync H.row × (0 < others) × EachAtMost most_value b.now
             × AllCanDrive b.now.cells back.now back_blocks.now }
         ensures { AreDriven scales.entry.now b.entry.now back.entry.now back_blocks.entry.now
             back.exit.now back_blocks.exit.now result }
-    { full_tiles(rt, scales, b, high, back, back_blocks) };
+    { full_tiles(rt, scales, b, others, back, back_blocks) };
     join_mut(rt, &mut left, &mut right)
 }
 

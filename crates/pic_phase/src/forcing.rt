@@ -1,5 +1,6 @@
 //! The force values of a field over the blocks of a lattice, by workers, each in a thread of its
-//! own where one can be made.
+//! own where one can be made. One thread starts all others, one after another, and does the last
+//! share itself: threads that are started by several at the same moment often share a core.
 
 ghost use Rattle.std.specs.Prelude.{◌≡◌, ◌<◌};
 ghost use Rattle.std.specs.List.{All};
@@ -26,7 +27,8 @@ fn force_in_turn(mult: Mult, from: &Lattice, blocks: &mut [Block])
     }
 }
 
-/// The force values of a field in blocks that are shared out over workers.
+/// The force values of a field in blocks that are shared out over workers: the first of them has
+/// its share in a new thread, and this one goes on for the others.
 #[cycle(forces)]
 fn force_blocks<H: Threads + Sync>(
     rt: &H,
@@ -44,24 +46,22 @@ fn force_blocks<H: Threads + Sync>(
         force_in_turn(mult, from, blocks);
         return;
     }
-    let low = workers / 2;
-    let (front, back) = blocks.split_at_mut(share(blocks.len(), workers, low));
-    force_both(rt, mult, from, low, front, workers - low, back);
+    let (front, back) = blocks.split_at_mut(share(blocks.len(), workers));
+    force_both(rt, mult, from, front, workers - 1, back);
 }
 
-/// The force values of a field in the blocks of two groups of workers at the same time.
+/// The force values of a field in the blocks of one worker, in a new thread, and in those of the
+/// others at the same time.
 #[cycle(forces)]
 fn force_both<H: Threads + Sync>(
     rt: &H,
     mult: Mult,
     from: &Lattice,
-    low: usize,
     front: &mut [Block],
-    high: usize,
+    others: usize,
     back: &mut [Block],
 )
-    requires low { 0 < low }
-    requires high { 0 < high }
+    requires some { 0 < others }
     requires small { EachAtMost most_value from.now }
     requires front_among { All (IsAmong from.now.cells) front.old }
     requires back_among { All (IsAmong from.now.cells) back.old }
@@ -69,15 +69,14 @@ fn force_both<H: Threads + Sync>(
     ensures back { EachBlock (IsForced mult from.now) back.old back.new }
 {
     let mut left = ||
-        requires { IsSync H.row × (0 < low) × EachAtMost most_value from.now
-            × All (IsAmong from.now.cells) front.now }
+        requires { EachAtMost most_value from.now × All (IsAmong from.now.cells) front.now }
         ensures { EachBlock (IsForced mult from.entry.now) front.entry.now front.exit.now }
-    { force_blocks(rt, mult, from, low, front) };
+    { force_in_turn(mult, from, front) };
     let mut right = ||
-        requires { IsSync H.row × (0 < high) × EachAtMost most_value from.now
+        requires { IsSync H.row × (0 < others) × EachAtMost most_value from.now
             × All (IsAmong from.now.cells) back.now }
         ensures { EachBlock (IsForced mult from.entry.now) back.entry.now back.exit.now }
-    { force_blocks(rt, mult, from, high, back) };
+    { force_blocks(rt, mult, from, others, back) };
     join_mut(rt, &mut left, &mut right);
 }
 

@@ -1,5 +1,6 @@
 //! Half a step of B over the blocks of a lattice, by workers, each in a thread of its own where one
-//! can be made.
+//! can be made. One thread starts all others, one after another, and does the last share itself:
+//! threads that are started by several at the same moment often share a core.
 
 ghost use Rattle.std.specs.Prelude.{◌≡◌, ◌<◌};
 ghost use Rattle.std.specs.List.{All};
@@ -33,7 +34,8 @@ fn half_in_turn(scales: &Scales, e: &Lattice, phase: Phase, blocks: &mut [Block]
     least
 }
 
-/// Half a step of B in blocks that are shared out over workers. The answer is their least stop.
+/// Half a step of B in blocks that are shared out over workers: the first of them has its share in
+/// a new thread, and this one goes on for the others. The answer is their least stop.
 #[cycle(halves)]
 fn half_blocks<H: Threads + Sync>(
     rt: &H,
@@ -52,25 +54,23 @@ fn half_blocks<H: Threads + Sync>(
     if workers == 1 {
         return half_in_turn(scales, e, phase, blocks);
     }
-    let low = workers / 2;
-    let (front, back) = blocks.split_at_mut(share(blocks.len(), workers, low));
-    half_both(rt, scales, e, phase, low, front, workers - low, back)
+    let (front, back) = blocks.split_at_mut(share(blocks.len(), workers));
+    half_both(rt, scales, e, phase, front, workers - 1, back)
 }
 
-/// Half a step of B in the blocks of two groups of workers at the same time.
+/// Half a step of B in the blocks of one worker, in a new thread, and in those of the others at the
+/// same time. The answer is their least stop.
 #[cycle(halves)]
 fn half_both<H: Threads + Sync>(
     rt: &H,
     scales: &Scales,
     e: &Lattice,
     phase: Phase,
-    low: usize,
     front: &mut [Block],
-    high: usize,
+    others: usize,
     back: &mut [Block],
 ) -> Option<Stop>
-    requires low { 0 < low }
-    requires high { 0 < high }
+    requires some { 0 < others }
     requires e_small { EachAtMost most_value e.now }
     requires front_can { All (CanAdvance e.now.cells) front.old }
     requires back_can { All (CanAdvance e.now.cells) back.old }
@@ -80,17 +80,16 @@ fn half_both<H: Threads + Sync>(
         (halved_stop phase scales.now e.now back.old) }
 {
     let mut left = ||
-        requires { IsSync H.row × (0 < low) × EachAtMost most_value e.now
-            × All (CanAdvance e.now.cells) front.now }
+        requires { EachAtMost most_value e.now × All (CanAdvance e.now.cells) front.now }
         ensures { EachBlock (IsHalved scales.entry.now e.entry.now) front.entry.now front.exit.now
             × (result ≡ halved_stop phase scales.entry.now e.entry.now front.entry.now) }
-    { half_blocks(rt, scales, e, phase, low, front) };
+    { half_in_turn(scales, e, phase, front) };
     let mut right = ||
-        requires { IsSync H.row × (0 < high) × EachAtMost most_value e.now
+        requires { IsSync H.row × (0 < others) × EachAtMost most_value e.now
             × All (CanAdvance e.now.cells) back.now }
         ensures { EachBlock (IsHalved scales.entry.now e.entry.now) back.entry.now back.exit.now
             × (result ≡ halved_stop phase scales.entry.now e.entry.now back.entry.now) }
-    { half_blocks(rt, scales, e, phase, high, back) };
+    { half_blocks(rt, scales, e, phase, others, back) };
     let (first, second) = join_mut(rt, &mut left, &mut right);
     earlier(first, second)
 }

@@ -1,6 +1,6 @@
 //! How blocks are shared out over workers.
 
-ghost use Rattle.std.specs.Prelude.{◌≡◌, ◌+◌, ◌*◌, ◌/◌, ◌%◌, ◌<◌, ◌≤◌, min, max};
+ghost use Rattle.std.specs.Prelude.{◌≡◌, ◌+◌, ◌/◌, ◌%◌, ◌<◌, ◌≤◌, min, max};
 ghost use Rattle.pic_grid.specs.Cells.{IsCells};
 
 use pic_grid::Cells;
@@ -21,12 +21,12 @@ pub(crate) fn useful(workers: u32, cells: Cells, blocks: usize) -> usize
     (workers.min(most) as usize).min(blocks).max(1)
 }
 
-/// How many of the blocks the first `low` of the workers take. No worker takes more than one block
-/// more than another.
-pub(crate) fn share(blocks: usize, workers: usize, low: usize) -> usize
-    requires { low < workers }
-    ensures value { result ≡ blocks / workers * low + min (blocks % workers) low }
+/// How many of the blocks the first of the workers takes, if the others share out the rest in the
+/// same way: no worker takes more than one block more than another then.
+pub(crate) fn share(blocks: usize, workers: usize) -> usize
+    requires { 0 < workers }
+    ensures value { result ≡ blocks / workers + min (blocks % workers) 1 }
     ensures most { result ≤ blocks }
 {
-    blocks / workers * low + (blocks % workers).min(low)
+    blocks.div_ceil(workers)
 }
