@@ -2,3 +2,5 @@ pub mod Turns
 pub mod TakeLaws
 pub mod SendLaws
 pub mod GatherLaws
+pub mod TeamLaws
+pub mod CrossLaws

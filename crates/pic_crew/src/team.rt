@@ -1,6 +1,7 @@
 //! All workers of a board, each in a thread of its own where one can be made.
 
-ghost use Rattle.std.specs.Prelude.{◌≡◌, ◌<◌, ◌≤◌, ℕ, length, IfOk};
+ghost use Rattle.std.specs.Prelude.{◌≡◌, ◌+◌, ◌<◌, ◌≤◌, ℕ, length, IfOk};
+ghost use Rattle.std.specs.List.{All, AllZip};
 ghost use Rattle.std.specs.Thread.{IsSync};
 ghost use Rattle.pic_tile.specs.CoreState.{IsOpening, particles_of};
 ghost use Rattle.pic_tile.specs.Exchanged.{AreExchanged};
@@ -20,24 +21,70 @@ use pic_num::NoMemory;
 use pic_tile::{Frame, Tile};
 use pic_yard::{Seat, Yard};
 use std::alloc::Global;
-use std::thread::{self, Threads};
+use std::thread::{Threads, join_mut};
 
-/// Lets all seats work, the worker of each numbered as it is.
+/// Lets seats work, the worker of each numbered as its place, from a number on: that of the first
+/// in a new thread, and this one goes on for the others. The last of them works in this one.
+#[cycle(seats)]
+fn work_from<R: Threads + Sync, G: Gate + Sync>(
+    rt: &R,
+    yard: &Yard,
+    gate: &G,
+    number: u32,
+    seats: &mut [Seat],
+)
+    requires few { number + length seats.old ≤ most_workers }
+    requires can { All (CanWork yard.now) seats.old }
+    ensures { AllZip (HasWorked yard.now) seats.old seats.new }
+{
+    let Some((seat, others)) = seats.split_first_mut() else {
+        return;
+    };
+    if others.is_empty() {
+        work_through(yard, seat, number, gate);
+    } else {
+        work_both(rt, yard, gate, number, seat, others);
+    }
+}
+
+/// Lets a seat work, in a new thread, and others at the same time.
+#[cycle(seats)]
+fn work_both<R: Threads + Sync, G: Gate + Sync>(
+    rt: &R,
+    yard: &Yard,
+    gate: &G,
+    number: u32,
+    seat: &mut Seat,
+    others: &mut [Seat],
+)
+    requires few { number + 1 + length others.old ≤ most_workers }
+    requires one { CanWork yard.now seat.old }
+    requires rest { All (CanWork yard.now) others.old }
+    ensures one { HasWorked yard.now seat.old seat.new }
+    ensures rest { AllZip (HasWorked yard.now) others.old others.new }
+{
+    let next = number + 1;
+    let mut left = ||
+        requires { CanWork yard.now seat.now }
+        ensures { HasWorked yard.entry.now seat.entry.now seat.exit.now }
+    { work_through(yard, seat, number, gate) };
+    let mut right = ||
+        requires { IsSync R.row × IsSync G.row × (next + length others.now ≤ most_workers)
+            × All (CanWork yard.now) others.now }
+        ensures { AllZip (HasWorked yard.entry.now) others.entry.now others.exit.now }
+    { work_from(rt, yard, gate, next, others) };
+    join_mut(rt, &mut left, &mut right);
+}
+
+/// Lets all seats work, the worker of each numbered as it is. One thread starts all others, one
+/// after another: threads that are started by several at the same moment often share a core.
 fn all<R: Threads + Sync, G: Gate + Sync>(rt: &R, yard: &Yard, seats: &mut [Seat], gate: &G)
     requires few { length seats.old ≤ most_workers }
     requires new { AreNewSeats yard.now seats.old }
     ensures count { length seats.new ≡ length seats.old }
     ensures done { AreDone yard.now seats.new }
 {
-    thread::for_each_mut(
-        rt,
-        seats,
-        64,
-        &|i: usize, seat: &mut Seat|
-            requires { IsSync G.row × (i < most_workers) × CanWork yard.now seat.old }
-            ensures { HasWorked yard.entry.now seat.old seat.new }
-        { work_through(yard, seat, i as u32, gate) },
-    );
+    work_from(rt, yard, gate, 0, seats);
 }
 
 /// One seat takes in all others.
