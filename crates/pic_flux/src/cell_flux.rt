@@ -68,7 +68,11 @@ impl CellFlux {
         ensures shape { IsShaped to.old to.new }
         ensures values { Adds to.old to.new (edge_flux self.now) }
     {
-        self.add_by(&near_layers(axis), to);
+        match axis {
+            Axis::X => self.add_by(&near_layers(Axis::X), to),
+            Axis::Y => self.add_by(&near_layers(Axis::Y), to),
+            Axis::Z => self.add_by(&near_layers(Axis::Z), to),
+        }
     }
 
     /// The same for a block that has every layer of the cell but its own on an axis.
@@ -80,7 +84,11 @@ impl CellFlux {
         ensures shape { IsShaped to.old to.new }
         ensures values { Adds to.old to.new (edge_flux self.now) }
     {
-        self.add_by(&far_layers(axis), to);
+        match axis {
+            Axis::X => self.add_by(&far_layers(Axis::X), to),
+            Axis::Y => self.add_by(&far_layers(Axis::Y), to),
+            Axis::Z => self.add_by(&far_layers(Axis::Z), to),
+        }
     }
 
     /// The same for a block that has these layers of the cell.
