@@ -25,6 +25,10 @@ parcel_at t d = slice_index_or t.parcels d None
 abbrev pub with_parcel : TileValue → ℕ → Option Parcel → TileValue
 with_parcel t d p = record t { parcels = slice_set t.parcels d p }
 
+-- the tile whose parcel p of a direction has that flux
+abbrev pub with_flux : TileValue → ℕ → Parcel → BlockValues → TileValue
+with_flux t d p flux = with_parcel t d (Some (record p { flux = flux }))
+
 -- what a parcel has, or where there is none no particles, no block and no stop
 abbrev pub chain_of : Option Parcel → List Particle
 chain_of None = []

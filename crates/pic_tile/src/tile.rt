@@ -1,10 +1,13 @@
 //! A tile: a parcel for each direction.
 
 ghost use Rattle.std.specs.Prelude.{◌≡◌, ℕ, MatchOption, IfSome, IfOk};
-ghost use Rattle.pic_tile.specs.Tile.{parcel_at, with_parcel};
+ghost use Rattle.std.specs.Fn.{FnOnceTakesAtMut, FnOnceReturnsAtMut};
+ghost use Rattle.pic_grid.specs.Block.{BlockValues};
+ghost use Rattle.pic_tile.specs.Tile.{parcel_at, with_parcel, with_flux};
 
 use crate::dir::Dir;
 use crate::parcel::Parcel;
+use pic_grid::Block;
 use std::marker::Model;
 
 /// A tile has a number, and for each direction a parcel or none yet.
@@ -73,6 +76,23 @@ impl Tile {
         self.parcels[place].take()
     }
 
+    /// Changes the flux of its parcel of a direction by a call, where one is there, and nothing else.
+    #[inline(always)]
+    pub fn change_flux<F: FnOnce(&mut Block)>(&mut self, dir: Dir, change: F)
+        requires { (p : Parcel) → parcel_at self.old dir ≡ Some p
+            → FnOnceTakesAtMut F.FnOnce change p.flux }
+        ensures none { parcel_at self.old dir ≡ None → self.new ≡ self.old }
+        ensures changed { (p : Parcel) → parcel_at self.old dir ≡ Some p
+            → (flux : BlockValues) × FnOnceReturnsAtMut F.FnOnce change p.flux tt flux
+            × (self.new ≡ with_flux self.old dir p flux) }
+    {
+        let place = dir.number() as usize;
+        match &mut self.parcels[place] {
+            Some(parcel) => change(&mut parcel.flux),
+            None => {}
+        }
+    }
+
     /// Puts a parcel in its place, where none of its direction is there.
     pub fn put_parcel(&mut self, parcel: Parcel)
         requires { parcel_at self.old parcel.dir ≡ None }
@@ -88,8 +108,8 @@ impl Tile {
 mod tests {
     use super::*;
     use pic_chain::Chain;
-    use pic_grid::{Block, Zone};
-    use pic_num::NoMemory;
+    use pic_grid::Zone;
+    use pic_num::{Axis, NoMemory};
     use std::alloc::Global;
 
     // a parcel over one cell
@@ -121,6 +141,36 @@ mod tests {
         let dir = tile.take_parcel(Dir::of(12)).map(|parcel| parcel.dir);
         assert_eq!(rt; dir, Some(Dir::of(12)));
         assert!(rt; tile.parcel(Dir::of(12)).is_none());
+        Ok(())
+    }
+
+    // sets a block's first value, if it has one
+    fn put(block: &mut Block, value: i128) {
+        if block.has([0; 3]) {
+            block.set(Axis::X, [0; 3], value);
+        }
+    }
+
+    // the first value of the flux of a tile's parcel, where there is one
+    fn read(tile: &Tile, dir: Dir) -> Option<i128> {
+        let flux = &tile.parcel(dir)?.flux;
+        if flux.has([0; 3]) {
+            Some(flux.at(Axis::X, [0; 3]))
+        } else {
+            None
+        }
+    }
+
+    #[test]
+    fn a_parcels_flux_is_changed_in_its_place(rt: HostRuntime) -> Result<(), NoMemory> {
+        let mut tile = Tile::bare(3);
+        tile.put_parcel(parcel(rt.alloc(), Dir::of(12))?);
+        tile.put_parcel(parcel(rt.alloc(), Dir::HERE)?);
+        tile.change_flux(Dir::of(12), |flux| put(flux, 5));
+        tile.change_flux(Dir::of(14), |flux| put(flux, 6));
+        assert_eq!(rt; read(&tile, Dir::of(12)), Some(5));
+        assert_eq!(rt; read(&tile, Dir::of(14)), None);
+        assert_eq!(rt; read(&tile, Dir::HERE), Some(0));
         Ok(())
     }
 }
