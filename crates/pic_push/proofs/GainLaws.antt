@@ -1,18 +1,20 @@
 -- Parcels that gain flux, one direction after another.
-use Rattle.std.proofs.Common.{◌≡◌, ℕ, ◌+◌, ◌<◌, ◌≤◌, inl, inr, Option, Some, None, refl, sym, ap, ◌∙◌, subst, arith}
+use Rattle.std.proofs.Common.{◌≡◌, ℕ, ◌+◌, ◌<◌, ◌≤◌, inl, inr, length, Option, Some, None, refl, sym, ap, ◌∙◌, subst, arith}
 use Rattle.std.proofs.Math.IntN.{ℤ, ◌+ℤ◌}
 use Rattle.std.proofs.Math.Decide.{ℕ_discrete}
 use Rattle.std.proofs.lemmas.Bool.{cases_lt}
+use Rattle.std.proofs.lemmas.List.{get_or_past, get_or-set_same, get_or-set_other}
 use Rattle.pic_num.specs.declared.axis.Axis.{Axis}
 use Rattle.pic_num.specs.Space.{Spot}
 use Rattle.pic_num.proofs.ProductLaws.{plus_zero}
-use Rattle.pic_grid.specs.Block.{edge_at}
+use Rattle.pic_grid.specs.Block.{BlockValues, IsShaped, edge_at}
 use Rattle.pic_grid.proofs.BlockLaws.{shaped_twice}
+use Rattle.pic_flux.specs.Adds.{Adds}
 use Rattle.pic_flux.specs.Corners.{both}
 use Rattle.pic_flux.proofs.AddsLaws.{adds_same, adds_twice}
 use Rattle.pic_tile.specs.declared.parcel.Parcel.{Parcel}
 use Rattle.pic_tile.specs.Directions.{directions}
-use Rattle.pic_tile.specs.Tile.{TileValue, parcel_at}
+use Rattle.pic_tile.specs.Tile.{TileValue, parcel_at, with_flux}
 use Rattle.pic_push.specs.Gains.{Gained, HasGained, GainsAt, Gains, IsClear}
 
 -- a parcel that no flux passes gains nothing
@@ -32,6 +34,60 @@ gains_clear f t d clear = record {
   others = λ e other. refl;
   number_is = refl;
 }
+
+-- the parcel p of a direction is now one of another flux, which has gained f
+pub record HasFlux (f : Axis → Spot → ℤ) (d : ℕ) (p : Parcel) (old new : TileValue) : Type 0 where
+  pub flux : BlockValues
+  pub shape : IsShaped p.flux flux
+  pub adds : Adds p.flux flux f
+  pub after : new ≡ with_flux old d p flux
+
+-- what a call does to the flux that stands there
+pub called_flux : (f : Axis → Spot → ℤ) (d : ℕ) (p : Parcel) (flux shown left : BlockValues) (old new : TileValue) → shown ≡ p.flux → left ≡ flux
+    → IsShaped shown left → Adds shown left f → new ≡ with_flux old d p flux → HasFlux f d p old new
+called_flux f d p flux shown left old new shows leaves shape adds after = record {
+  flux = flux;
+  shape = subst (λ (b : BlockValues). IsShaped b flux) shows (subst (IsShaped shown) leaves shape);
+  adds = subst (λ (b : BlockValues). Adds b flux f) shows (subst (λ (b : BlockValues). Adds shown b f) leaves adds);
+  after = after;
+}
+
+no_parcel : (p : Parcel) → ◌≡◌ {A = Option Parcel} None (Some p) → ⊥
+no_parcel p h = cc
+
+-- where a flux is changed in its place, its parcel gains
+pub gains_changed : (f : Axis → Spot → ℤ) (d : ℕ) (old new : TileValue) → (parcel_at old d ≡ None → new ≡ old)
+    → ((p : Parcel) → parcel_at old d ≡ Some p → HasFlux f d p old new) → GainsAt f d old new
+gains_changed f d old new none some = by (parcel_at old d) refl
+  where
+    within : (p : Parcel) → parcel_at old d ≡ Some p → d < length old.parcels
+    within p is = elim (cases_lt d (length old.parcels)) [
+      | inl less ↦ less
+      | inr more ↦ absurd (no_parcel p (sym (get_or_past {X = Option Parcel} old.parcels d None more) ∙ is))
+    ]
+
+    gained : (p : Parcel) → parcel_at old d ≡ Some p → HasGained f p (parcel_at new d)
+    gained p is =
+        let h = some p is in
+        let now : Parcel = record p { flux = h.flux } in
+        record {
+          parcel = now;
+          there = ap (λ (t : TileValue). parcel_at t d) h.after ∙ get_or-set_same {A = Option Parcel} old.parcels d (Some now) None (within p is);
+          gained = record { dir_is = refl; chain_is = refl; stop_is = refl; shape = h.shape; adds = h.adds };
+        }
+
+    by : (o : Option Parcel) → parcel_at old d ≡ o → GainsAt f d old new
+    by None is = subst (GainsAt f d old) (sym (none is)) (gains_clear f old d (λ p at. absurd (no_parcel p (sym is ∙ at))))
+    by (Some p) is =
+        let h = some p is in
+        record {
+          gained = gained;
+          none = λ at. absurd (no_parcel p (sym at ∙ is));
+          others = λ e other.
+              ap (λ (t : TileValue). parcel_at t e) h.after
+              ∙ get_or-set_other {A = Option Parcel} old.parcels d e (Some (record p { flux = h.flux })) None other;
+          number_is = ap (λ (t : TileValue). t.number) h.after;
+        }
 
 -- an equal flux serves as well
 pub gained_same : (f g : Axis → Spot → ℤ) (old new : Parcel) → ((a : Axis) (c : Spot) → f a c ≡ g a c) → Gained f old new → Gained g old new

@@ -21,13 +21,7 @@ fn add_to(flux: &CellFlux, dir: Dir, tile: &mut Tile)
     requires room { (p : Parcel) → parcel_at tile.old dir ≡ Some p → AllAtMost (2 ^ 100) p.flux }
     ensures { GainsAt (edge_flux flux.now) dir tile.old tile.new }
 {
-    match tile.take_parcel(dir) {
-        Some(mut parcel) => {
-            flux.add_to(&mut parcel.flux);
-            tile.put_parcel(parcel);
-        }
-        None => {}
-    }
+    tile.change_flux(dir, |to| flux.add_to(to));
 }
 
 /// The direction of a step up on an axis.
@@ -52,13 +46,7 @@ pub(crate) fn add_beyond(flux: &CellFlux, axis: Axis, tile: &mut Tile)
         → AreLayers p.flux.low p.flux.size (flux_cell flux.now) (far_layers axis) }
     ensures { GainsAt (edge_flux flux.now) (number_up axis) tile.old tile.new }
 {
-    match tile.take_parcel(dir_up(axis)) {
-        Some(mut parcel) => {
-            flux.add_far(axis, &mut parcel.flux);
-            tile.put_parcel(parcel);
-        }
-        None => {}
-    }
+    tile.change_flux(dir_up(axis), |to| flux.add_far(axis, to));
 }
 
 /// Adds it to the parcel of a direction, unless that is the one of no step, which is held apart.
