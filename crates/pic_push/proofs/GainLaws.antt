@@ -138,16 +138,17 @@ gains_still f t clear = record {
 
 -- the parcels of the directions below i have gained, the others are as they were
 pub record Spread (f : Axis → Spot → ℤ) (old : TileValue) (i : ℕ) (now : TileValue) : Type 0 where
-  pub done : (d : ℕ) (p : Parcel) → d < i → parcel_at old d ≡ Some p → HasGained f p (parcel_at now d)
-  pub gone : (d : ℕ) → d < i → parcel_at old d ≡ None → parcel_at now d ≡ None
+  pub done : (d : ℕ) (p : Parcel) → d < directions → d < i → parcel_at old d ≡ Some p → HasGained f p (parcel_at now d)
+  pub gone : (d : ℕ) → d < directions → d < i → parcel_at old d ≡ None → parcel_at now d ≡ None
   pub rest : (d : ℕ) → i ≤ d → parcel_at now d ≡ parcel_at old d
   pub number_is : now.number ≡ old.number
 
 -- where no flux passes those before the first
-pub spread_none : (f : Axis → Spot → ℤ) (t : TileValue) (i : ℕ) → ((d : ℕ) (p : Parcel) → d < i → parcel_at t d ≡ Some p → IsClear f p.flux) → Spread f t i t
+pub spread_none : (f : Axis → Spot → ℤ) (t : TileValue) (i : ℕ)
+    → ((d : ℕ) (p : Parcel) → d < directions → d < i → parcel_at t d ≡ Some p → IsClear f p.flux) → Spread f t i t
 spread_none f t i clear = record {
-  done = λ d p below is. record { parcel = p; there = is; gained = gains_nothing f p (clear d p below is) };
-  gone = λ d below is. is;
+  done = λ d p few below is. record { parcel = p; there = is; gained = gains_nothing f p (clear d p few below is) };
+  gone = λ d few below is. is;
   rest = λ d more. refl;
   number_is = refl;
 }
@@ -155,14 +156,14 @@ spread_none f t i clear = record {
 -- one direction more
 pub spread_more : (f : Axis → Spot → ℤ) (old : TileValue) (i : ℕ) (now now' : TileValue) → Spread f old i now → GainsAt f i now now' → Spread f old (i + 1) now'
 spread_more f old i now now' before at = record {
-  done = λ d p below is. elim (ℕ_discrete d i) [
+  done = λ d p few below is. elim (ℕ_discrete d i) [
     | yes same ↦ subst (λ (k : ℕ). HasGained f p (parcel_at now' k)) (sym same)
         (at.gained p (before.rest i (omega arith) ∙ ap (parcel_at old) (sym same) ∙ is))
-    | no other ↦ subst (λ (o : Option Parcel). HasGained f p o) (sym (at.others d other)) (before.done d p (less d i below other) is)
+    | no other ↦ subst (λ (o : Option Parcel). HasGained f p o) (sym (at.others d other)) (before.done d p few (less d i below other) is)
   ];
-  gone = λ d below is. elim (ℕ_discrete d i) [
+  gone = λ d few below is. elim (ℕ_discrete d i) [
     | yes same ↦ ap (parcel_at now') same ∙ at.none (before.rest i (omega arith) ∙ ap (parcel_at old) (sym same) ∙ is)
-    | no other ↦ at.others d other ∙ before.gone d (less d i below other) is
+    | no other ↦ at.others d other ∙ before.gone d few (less d i below other) is
   ];
   rest = λ d more. at.others d (apart d i more) ∙ before.rest d (omega (arith, more));
   number_is = at.number_is ∙ before.number_is;
@@ -176,13 +177,13 @@ spread_more f old i now now' before at = record {
 
 -- where no flux passes those of the next directions
 pub spread_past : (f : Axis → Spot → ℤ) (old : TileValue) (i j : ℕ) (now : TileValue) → i ≤ j
-    → ((d : ℕ) (p : Parcel) → i ≤ d → d < j → parcel_at old d ≡ Some p → IsClear f p.flux) → Spread f old i now → Spread f old j now
+    → ((d : ℕ) (p : Parcel) → d < directions → i ≤ d → d < j → parcel_at old d ≡ Some p → IsClear f p.flux) → Spread f old i now → Spread f old j now
 spread_past f old i j now more clear spread = record {
-  done = λ d p below is. elim (cases_lt d i) [
-    | inl less ↦ spread.done d p less is
-    | inr past ↦ record { parcel = p; there = spread.rest d past ∙ is; gained = gains_nothing f p (clear d p past below is) }
+  done = λ d p few below is. elim (cases_lt d i) [
+    | inl less ↦ spread.done d p few less is
+    | inr past ↦ record { parcel = p; there = spread.rest d past ∙ is; gained = gains_nothing f p (clear d p few past below is) }
   ];
-  gone = λ d below is. elim (cases_lt d i) [ inl less ↦ spread.gone d less is | inr past ↦ spread.rest d past ∙ is ];
+  gone = λ d few below is. elim (cases_lt d i) [ inl less ↦ spread.gone d few less is | inr past ↦ spread.rest d past ∙ is ];
   rest = λ d past. spread.rest d (omega (arith, more, past));
   number_is = spread.number_is;
 }
@@ -191,10 +192,10 @@ spread_past f old i j now more clear spread = record {
 pub spread_all : (f : Axis → Spot → ℤ) (old : TileValue) (i : ℕ) (now : TileValue)
     → ((d : ℕ) (p : Parcel) → d < directions → i ≤ d → parcel_at old d ≡ Some p → IsClear f p.flux) → Spread f old i now → Gains f old now
 spread_all f old i now clear spread = record {
-  gained = λ d p below is. elim (cases_lt d i) [
-    | inl less ↦ spread.done d p less is
-    | inr more ↦ record { parcel = p; there = spread.rest d more ∙ is; gained = gains_nothing f p (clear d p below more is) }
+  gained = λ d p few is. elim (cases_lt d i) [
+    | inl less ↦ spread.done d p few less is
+    | inr more ↦ record { parcel = p; there = spread.rest d more ∙ is; gained = gains_nothing f p (clear d p few more is) }
   ];
-  none = λ d below is. elim (cases_lt d i) [ inl less ↦ spread.gone d less is | inr more ↦ spread.rest d more ∙ is ];
+  none = λ d few is. elim (cases_lt d i) [ inl less ↦ spread.gone d few less is | inr more ↦ spread.rest d more ∙ is ];
   number_is = spread.number_is;
 }

@@ -19,7 +19,7 @@ use Rattle.pic_push.specs.Gains.{IsClear}
 use Rattle.pic_push.specs.Sends.{HasLayers}
 use Rattle.pic_push.specs.declared.reach.Steps.{Steps}
 use Rattle.pic_push.specs.declared.reach.Reach.{Reach}
-use Rattle.pic_push.specs.Reach.{spans, reaches, IsReach, AreStepsOf, IsReachOf, first_of, end_of}
+use Rattle.pic_push.specs.Reach.{spans, reaches, IsReach, AreStepsOf, IsReachOf, first_of, number_of}
 
 -- the steps of a reach
 pub reach_is : (low : Spot) (n : Triple) (cell : Spot) (r : Reach) → IsReachOf low n cell r → IsReach r
@@ -100,13 +100,13 @@ piece_clear side q s low n r bound d p at reach few out room = record {
 }
 
 -- directions before the first and after the last aren't reached
-pub none_before : (r : Reach) (d : ℕ) → IsReach r → d < first_of r → reaches r d ≡ false
+pub none_before : (r : Reach) (d : ℕ) → IsReach r → d < number_of (first_of r) → reaches r d ≡ false
 unfolding reaches spans
 none_before r d h below = grind (arith, nat_tests)
 
-pub none_after : (r : Reach) (d : ℕ) → IsReach r → d < directions → end_of r ≤ d → reaches r d ≡ false
+pub none_after : (r : Reach) (d : ℕ) → r.z.last < d / 9 → reaches r d ≡ false
 unfolding reaches spans
-none_after r d h few more = grind (arith, nat_tests)
+none_after r d more = grind (arith, nat_tests)
 
 -- nor those between one and the next
 pub none_in_row : (r : Reach) (number d : ℕ) → r.x.last ≤ number % 3 → number < d → d < direction_by r.x.first (number / 3 % 3 + 1) (number / 9)

@@ -1,9 +1,10 @@
 -- Which layers of a tile a piece of a particle's path can send flux through.
-use Rattle.std.specs.Prelude.{◌≡◌, ℕ, ℤ, pos, ◌≤◌, ◌+◌, ◌≤ℤ◌, ◌<ℤ◌, ◌+ℤ◌, Bool, ◌&&◌, nat_le, unsigned_abs}
+use Rattle.std.specs.Prelude.{◌≡◌, ℕ, ℤ, pos, ◌≤◌, ◌≤ℤ◌, ◌<ℤ◌, ◌+ℤ◌, Bool, ◌&&◌, nat_le, unsigned_abs}
 use Rattle.pic_num.specs.Space.{Triple, Spot}
 use Rattle.pic_tile.specs.Directions.{steps_of}
 use Rattle.pic_tile.specs.Leaving.{step_to, direction_by}
 use Rattle.pic_push.specs.declared.reach.Steps.{Steps}
+use Rattle.pic_push.specs.declared.reach.Turn.{Turn}
 use Rattle.pic_push.specs.declared.reach.Reach.{Reach}
 
 -- a step is one of those from the first to the last
@@ -24,12 +25,18 @@ pub record IsReach (r : Reach) : Type 0 where
   pub y_last : r.y.last ≤ 2
   pub z_last : r.z.last ≤ 2
 
--- the first of its directions, and the number after the last
-abbrev pub first_of : Reach → ℕ
-first_of r = direction_by r.x.first r.y.first r.z.first
+-- the first of its directions
+abbrev pub first_of : Reach → Turn
+first_of r = record { x = r.x.first; y = r.y.first; z = r.z.first }
 
-abbrev pub end_of : Reach → ℕ
-end_of r = direction_by r.x.last r.y.last r.z.last + 1
+-- the number of a direction
+abbrev pub number_of : Turn → ℕ
+number_of t = direction_by t.x t.y t.z
+
+-- what a direction has on x and y are steps; on z it may have one more, after the last direction
+pub record AreSteps (t : Turn) : Type 0 where
+  pub x : t.x ≤ 2
+  pub y : t.y ≤ 2
 
 -- on one axis, where a tile has n layers from low on and a piece of a path lies in a cell: it can
 -- pass edges of the layer under the tile only where the cell lies there, and of the layers over it

@@ -1,14 +1,14 @@
 //! Which layers of a tile a piece of a path can send flux through, and in which direction a path
 //! leads.
 
-ghost use Rattle.std.specs.Prelude.{◌≡◌, ℕ, pos, ◌<◌, ◌≤◌, ◌≤ℤ◌, ◌<ℤ◌, ◌+ℤ◌, unsigned_abs};
+ghost use Rattle.std.specs.Prelude.{◌≡◌, ℕ, pos, ◌+◌, ◌<◌, ◌≤◌, ◌≤ℤ◌, ◌<ℤ◌, ◌+ℤ◌, unsigned_abs};
 ghost use Rattle.std.specs.Prelude.{false, IsTrue};
 ghost use Rattle.pic_num.specs.Space.{triple, spot};
 ghost use Rattle.pic_grid.specs.Block.{InZone};
 ghost use Rattle.pic_tile.specs.Directions.{directions};
 ghost use Rattle.pic_tile.specs.Leaving.{step_to};
-ghost use Rattle.pic_push.specs.Reach.{reaches, IsReach, IsReachOf, AreStepsOf};
-ghost use Rattle.pic_push.specs.Reach.{direction_from, first_of, end_of};
+ghost use Rattle.pic_push.specs.Reach.{reaches, IsReach, IsReachOf, AreStepsOf, direction_from};
+ghost use Rattle.pic_push.specs.Reach.{number_of, AreSteps, first_of};
 
 use pic_grid::Zone;
 use pic_tile::Dir;
@@ -18,6 +18,27 @@ use pic_tile::Dir;
 pub(crate) struct Steps {
     pub first: u32,
     pub last: u32,
+}
+
+/// A direction by its steps on each axis: 0 is a step down, 1 none, 2 a step up.
+#[derive(Clone, Copy)]
+pub(crate) struct Turn {
+    pub x: u32,
+    pub y: u32,
+    pub z: u32,
+}
+
+impl Turn {
+    /// The number of the direction.
+    #[inline(always)]
+    pub fn number(&self) -> u32
+        requires steps { AreSteps self.now }
+        requires z { self.now.z ≤ 2 }
+        ensures value { result ≡ number_of self.now }
+        ensures below { result < directions }
+    {
+        self.x + 3 * self.y + 9 * self.z
+    }
 }
 
 /// The directions whose steps on each axis are among these.
@@ -44,41 +65,50 @@ impl Reach {
         }
     }
 
-    /// The number of its first direction.
-    pub fn first(&self) -> u32
-        requires { IsReach self.now }
+    /// Its first direction.
+    #[inline(always)]
+    pub fn first(&self) -> Turn
         ensures { result ≡ first_of self.now }
     {
-        self.x.first + 3 * self.y.first + 9 * self.z.first
+        Turn {
+            x: self.x.first,
+            y: self.y.first,
+            z: self.z.first,
+        }
     }
 
-    /// The number after its last direction.
-    pub fn end(&self) -> u32
-        requires { IsReach self.now }
-        ensures { result ≡ end_of self.now }
-    {
-        self.x.last + 3 * self.y.last + 9 * self.z.last + 1
-    }
-
-    /// The number after one, past those between that aren't its directions'.
-    pub fn after(&self, number: u32) -> u32
+    /// The direction after one, past those between that aren't its own. After its last one that of
+    /// a step more on z.
+    #[inline(always)]
+    pub fn after(&self, at: &Turn) -> Turn
         requires reach { IsReach self.now }
-        requires before { number < end_of self.now }
-        ensures more { number < result }
-        ensures most { result ≤ directions }
-        ensures skipped { (d : ℕ) → number < d → d < result → reaches self.now d ≡ false }
+        requires steps { AreSteps at.now }
+        requires z { at.now.z ≤ self.now.z.last }
+        ensures steps { AreSteps result }
+        ensures z { result.z ≤ at.now.z + 1 }
+        ensures more { number_of at.now < number_of result }
+        ensures skipped { (d : ℕ) → number_of at.now < d → d < number_of result
+            → reaches self.now d ≡ false }
     {
-        let [x, y, z] = Dir::of(number).steps();
-        if x < self.x.last {
-            return number + 1;
+        if at.x < self.x.last {
+            return Turn {
+                x: at.x + 1,
+                y: at.y,
+                z: at.z,
+            };
         }
-        if y < self.y.last {
-            return self.x.first + 3 * (y + 1) + 9 * z;
+        if at.y < self.y.last {
+            return Turn {
+                x: self.x.first,
+                y: at.y + 1,
+                z: at.z,
+            };
         }
-        if z < self.z.last {
-            return self.x.first + 3 * self.y.first + 9 * (z + 1);
+        Turn {
+            x: self.x.first,
+            y: self.y.first,
+            z: at.z + 1,
         }
-        self.end()
     }
 }
 

@@ -75,10 +75,9 @@ pub(crate) fn spread(flux: &CellFlux, reach: &Reach, tile: &mut Tile)
         → parcel_at tile.old d ≡ Some p → IsClear (edge_flux flux.now) p.flux }
     ensures { Gains (edge_flux flux.now) tile.old tile.new }
 {
-    let end = reach.end();
-    let mut number = reach.first();
-    while number < end {
-        add_outside(flux, number, tile);
-        number = reach.after(number);
+    let mut at = reach.first();
+    while at.z <= reach.z.last {
+        add_outside(flux, at.number(), tile);
+        at = reach.after(&at);
     }
 }
