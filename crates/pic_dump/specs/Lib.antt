@@ -3,3 +3,4 @@ pub mod Header
 pub mod DumpText
 pub mod Queues
 pub mod Due
+pub mod DueInTurn

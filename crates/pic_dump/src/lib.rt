@@ -6,6 +6,7 @@ mod framing;
 mod head;
 mod header;
 mod heading;
+mod laws;
 mod room;
 
 pub use ending::put_end;
@@ -13,3 +14,4 @@ pub use framing::put_frame;
 pub use head::{Head, Heads};
 pub use header::Header;
 pub use heading::put_header;
+pub use laws::frames_are_due_in_turn;
