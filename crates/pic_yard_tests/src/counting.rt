@@ -25,7 +25,7 @@ impl Gate for Counting {
 
 #[test]
 fn each_claim_and_each_post_passes_the_gate_once(rt: HostRuntime) -> Result<(), NoMemory> {
-    for workers in [1, 3] {
+    for workers in [1, 2, 3, 5, 64] {
         let gate = Counting {
             claimed: AtomicU32::new(0),
             posted: AtomicU32::new(0),
