@@ -155,7 +155,7 @@ module _ (scales : Scales) (e : Field) (low : Spot) (size : Triple) (y z count :
         (front y_by_z count i _ inside (row_up_z e scales.e_to_b low size y z i among below Y (count + 1) y_by_z l room))
         (front of_y count i _ inside (row_here e scales.e_to_b low size y z i among below Y (count + 1) of_y m room)))
 
-    pub half_y : (x_by_z of_x z_on of_z : List ℤ) → of_e X (up e.cells Z first) x_by_z → of_e X first of_x → more_of_e Z first of_z
+    pub half_y : (x_by_z of_x z_on of_z : List ℤ) → more_of_e X (up e.cells Z first) x_by_z → more_of_e X first of_x → more_of_e Z first of_z
         → ((i : ℕ) → i < count → row_at z_on i ≡ row_at of_z (i + 1))
         → (a : Axis) (p : Triple) → IsWithin p size → OnRow Y y z a p → (v : ℤ)
         → v -ℤ curl_of (row_at (take count x_by_z) p.x) (row_at (take count of_x) p.x) (row_at z_on p.x) (row_at (take count of_z) p.x)
@@ -168,12 +168,12 @@ module _ (scales : Scales) (e : Field) (low : Spot) (size : Triple) (y z count :
         let inside : i < count = omega arith in
         let room : i < count + 1 = omega arith in
         half_is scales e Y (outer_of low (record { x = i; y = y; z = z })) v _ _ _ _
-        (front x_by_z count i _ inside (row_up_z e scales.e_to_b low size y z i among below X count x_by_z h inside))
-        (front of_x count i _ inside (row_here e scales.e_to_b low size y z i among below X count of_x k inside))
+        (front x_by_z count i _ inside (row_up_z e scales.e_to_b low size y z i among below X (count + 1) x_by_z h room))
+        (front of_x count i _ inside (row_here e scales.e_to_b low size y z i among below X (count + 1) of_x k room))
         (on i inside ∙ row_up e scales.e_to_b low size y z i among below Z (count + 1) of_z m (omega arith))
         (front of_z count i _ inside (row_here e scales.e_to_b low size y z i among below Z (count + 1) of_z m room)))
 
-    pub half_z : (y_on of_y x_by_y of_x : List ℤ) → more_of_e Y first of_y → of_e X (up e.cells Y first) x_by_y → of_e X first of_x
+    pub half_z : (y_on of_y x_by_y of_x : List ℤ) → more_of_e Y first of_y → more_of_e X (up e.cells Y first) x_by_y → more_of_e X first of_x
         → ((i : ℕ) → i < count → row_at y_on i ≡ row_at of_y (i + 1))
         → (a : Axis) (p : Triple) → IsWithin p size → OnRow Z y z a p → (v : ℤ)
         → v -ℤ curl_of (row_at y_on p.x) (row_at (take count of_y) p.x) (row_at (take count x_by_y) p.x) (row_at (take count of_x) p.x)
@@ -188,8 +188,8 @@ module _ (scales : Scales) (e : Field) (low : Spot) (size : Triple) (y z count :
         half_is scales e Z (outer_of low (record { x = i; y = y; z = z })) v _ _ _ _
         (on i inside ∙ row_up e scales.e_to_b low size y z i among below Y (count + 1) of_y k (omega arith))
         (front of_y count i _ inside (row_here e scales.e_to_b low size y z i among below Y (count + 1) of_y k room))
-        (front x_by_y count i _ inside (row_up_y e scales.e_to_b low size y z i among below X count x_by_y l inside))
-        (front of_x count i _ inside (row_here e scales.e_to_b low size y z i among below X count of_x m inside)))
+        (front x_by_y count i _ inside (row_up_y e scales.e_to_b low size y z i among below X (count + 1) x_by_y l room))
+        (front of_x count i _ inside (row_here e scales.e_to_b low size y z i among below X (count + 1) of_x m room)))
 
 -- a step of E with the current j on the three rows of a line, from its scaled rows of B; those of
 -- y and z begin a cell back
@@ -229,14 +229,15 @@ module _ (scales : Scales) (b : Field) (j : BlockValues) (low : Spot) (size : Tr
         (after_yz i inside ∙ back_down_z b scales.b_to_e low size y z i among below Y (count + 1) y_by_z l more)
         (after_y i inside ∙ back_here b scales.b_to_e low size y z i among below Y (count + 1) of_y m more))
 
-    pub full_y : (x_by_z of_x of_z z_on : List ℤ) → of_b X (down b.cells Z begin) x_by_z → of_b X begin of_x → more_of_b Z (down b.cells X begin) of_z
-        → Follows z_on of_z
+    pub full_y : (x_by_z x_by_z_on of_x x_on of_z z_on : List ℤ) → more_of_b X (down b.cells X (down b.cells Z begin)) x_by_z
+        → more_of_b X (down b.cells X begin) of_x → more_of_b Z (down b.cells X begin) of_z
+        → Follows x_by_z_on x_by_z → Follows x_on of_x → Follows z_on of_z
         → (a : Axis) (p : Triple) → IsWithin p size → OnRow Y y z a p → (v : ℤ)
-        → v -ℤ inner_at j a p -ℤ curl_of (row_at (take count x_by_z) p.x) (row_at (take count of_x) p.x) (row_at (take count of_z) p.x) (row_at z_on p.x)
+        → v -ℤ inner_at j a p -ℤ curl_of (row_at x_by_z_on p.x) (row_at x_on p.x) (row_at (take count of_z) p.x) (row_at z_on p.x)
         ≡ full_made scales b j low a p v
-    full_y x_by_z of_x of_z z_on h k l after_z =
+    full_y x_by_z x_by_z_on of_x x_on of_z z_on h k l after_xz after_x after_z =
         at_row
-        (λ a p. (v : ℤ) → v -ℤ inner_at j a p -ℤ curl_of (row_at (take count x_by_z) p.x) (row_at (take count of_x) p.x) (row_at (take count of_z) p.x)
+        (λ a p. (v : ℤ) → v -ℤ inner_at j a p -ℤ curl_of (row_at x_by_z_on p.x) (row_at x_on p.x) (row_at (take count of_z) p.x)
         (row_at z_on p.x)
         ≡ full_made scales b j low a p v)
         Y y z size (λ i below v.
@@ -244,20 +245,21 @@ module _ (scales : Scales) (b : Field) (j : BlockValues) (low : Spot) (size : Tr
         let room : i < count + 1 = omega arith in
         let more : i + 1 < count + 1 = omega arith in
         full_is scales b Y (outer_of low (record { x = i; y = y; z = z })) v (inner_at j Y (record { x = i; y = y; z = z })) _ _ _ _
-        (front x_by_z count i _ inside (row_down_z b scales.b_to_e low size y z i among below X count x_by_z h inside))
-        (front of_x count i _ inside (row_here b scales.b_to_e low size y z i among below X count of_x k inside))
+        (after_xz i inside ∙ back_down_z b scales.b_to_e low size y z i among below X (count + 1) x_by_z h more)
+        (after_x i inside ∙ back_here b scales.b_to_e low size y z i among below X (count + 1) of_x k more)
         (front of_z count i _ inside (back_down b scales.b_to_e low size y z i among below Z (count + 1) of_z l room))
         (after_z i inside ∙ back_here b scales.b_to_e low size y z i among below Z (count + 1) of_z l more))
 
-    pub full_z : (of_y y_on x_by_y of_x : List ℤ) → more_of_b Y (down b.cells X begin) of_y → of_b X (down b.cells Y begin) x_by_y → of_b X begin of_x
-        → Follows y_on of_y
+    pub full_z : (of_y y_on x_by_y x_by_y_on of_x x_on : List ℤ) → more_of_b Y (down b.cells X begin) of_y
+        → more_of_b X (down b.cells X (down b.cells Y begin)) x_by_y → more_of_b X (down b.cells X begin) of_x
+        → Follows y_on of_y → Follows x_by_y_on x_by_y → Follows x_on of_x
         → (a : Axis) (p : Triple) → IsWithin p size → OnRow Z y z a p → (v : ℤ)
-        → v -ℤ inner_at j a p -ℤ curl_of (row_at (take count of_y) p.x) (row_at y_on p.x) (row_at (take count x_by_y) p.x) (row_at (take count of_x) p.x)
+        → v -ℤ inner_at j a p -ℤ curl_of (row_at (take count of_y) p.x) (row_at y_on p.x) (row_at x_by_y_on p.x) (row_at x_on p.x)
         ≡ full_made scales b j low a p v
-    full_z of_y y_on x_by_y of_x h k l after_y =
+    full_z of_y y_on x_by_y x_by_y_on of_x x_on h k l after_y after_xy after_x =
         at_row
-        (λ a p. (v : ℤ) → v -ℤ inner_at j a p -ℤ curl_of (row_at (take count of_y) p.x) (row_at y_on p.x) (row_at (take count x_by_y) p.x)
-        (row_at (take count of_x) p.x)
+        (λ a p. (v : ℤ) → v -ℤ inner_at j a p -ℤ curl_of (row_at (take count of_y) p.x) (row_at y_on p.x) (row_at x_by_y_on p.x)
+        (row_at x_on p.x)
         ≡ full_made scales b j low a p v)
         Z y z size (λ i below v.
         let inside : i < count = omega arith in
@@ -266,5 +268,5 @@ module _ (scales : Scales) (b : Field) (j : BlockValues) (low : Spot) (size : Tr
         full_is scales b Z (outer_of low (record { x = i; y = y; z = z })) v (inner_at j Z (record { x = i; y = y; z = z })) _ _ _ _
         (front of_y count i _ inside (back_down b scales.b_to_e low size y z i among below Y (count + 1) of_y h room))
         (after_y i inside ∙ back_here b scales.b_to_e low size y z i among below Y (count + 1) of_y h more)
-        (front x_by_y count i _ inside (row_down_y b scales.b_to_e low size y z i among below X count x_by_y k inside))
-        (front of_x count i _ inside (row_here b scales.b_to_e low size y z i among below X count of_x l inside)))
+        (after_xy i inside ∙ back_down_y b scales.b_to_e low size y z i among below X (count + 1) x_by_y k more)
+        (after_x i inside ∙ back_here b scales.b_to_e low size y z i among below X (count + 1) of_x l more))

@@ -57,12 +57,12 @@ module _ (f : Field) (by : Multiplier) (p : Triple) (side count lines without : 
         (subst (P lines) (sym (get_or-set_same plane lines line no_line inside)) here)
 
     -- a plane with a line more
-    pub plane_more : (line : Line) → lines < length plane → IsScaledRow f by X (along_y f.cells p lines) count line.x
+    pub plane_more : (line : Line) → lines < length plane → IsScaledRow f by X (beside side (along_y f.cells p lines)) (count + 1) line.x
         → ((lines ≡ without → ⊥) → IsScaledRow f by Y (beside side (along_y f.cells p lines)) (count + 1) line.y)
         → (IsTrue with_z → IsScaledRow f by Z (beside side (along_y f.cells p lines)) (count + 1) line.z)
         → IsScaledPlane f by p side count (lines + 1) without with_z (slice_set plane lines line)
     plane_more line inside of_x of_y of_z = record {
-      x = more (λ k l. IsScaledRow f by X (along_y f.cells p k) count l.x) line inside before.x of_x;
+      x = more (λ k l. IsScaledRow f by X (beside side (along_y f.cells p k)) (count + 1) l.x) line inside before.x of_x;
       y = more (λ k l. (k ≡ without → ⊥) → IsScaledRow f by Y (beside side (along_y f.cells p k)) (count + 1) l.y) line inside before.y of_y;
       z = λ is. more (λ k l. IsScaledRow f by Z (beside side (along_y f.cells p k)) (count + 1) l.z) line inside (before.z is) (of_z is);
     }
@@ -92,12 +92,12 @@ rows_up f by low size count from to y z near far among past below within here ab
     let at : along_y f.cells first j ≡ line_start low y z = line_in_strip low size f.cells from j z among inside ∙ ap (λ (m : ℕ). line_start low m z) sum in
     let next : along_y f.cells first (j + 1) ≡ up f.cells Y (line_start low y z) = sym (along_y_next f.cells first j) ∙ ap (up f.cells Y) at in
     record {
-      x = subst (λ (p : Triple). IsScaledRow f by X p count (line_at near j).x) at (here.x j in_strip);
+      x = subst (λ (p : Triple). IsScaledRow f by X p (count + 1) (line_at near j).x) at (here.x j in_strip);
       y = subst (λ (p : Triple). IsScaledRow f by Y p (count + 1) (line_at near j).y) at (here.y j in_strip not_last);
       z = subst (λ (p : Triple). IsScaledRow f by Z p (count + 1) (line_at near j).z) at (here.z refl j in_strip);
-      x_by_y = subst (λ (p : Triple). IsScaledRow f by X p count (line_at near (j + 1)).x) next (here.x (j + 1) next_in_strip);
+      x_by_y = subst (λ (p : Triple). IsScaledRow f by X p (count + 1) (line_at near (j + 1)).x) next (here.x (j + 1) next_in_strip);
       z_by_y = subst (λ (p : Triple). IsScaledRow f by Z p (count + 1) (line_at near (j + 1)).z) next (here.z refl (j + 1) next_in_strip);
-      x_by_z = subst (λ (p : Triple). IsScaledRow f by X p count (line_at far j).x) (ap (up f.cells Z) at) (above.x j in_strip);
+      x_by_z = subst (λ (p : Triple). IsScaledRow f by X p (count + 1) (line_at far j).x) (ap (up f.cells Z) at) (above.x j in_strip);
       y_by_z = subst (λ (p : Triple). IsScaledRow f by Y p (count + 1) (line_at far j).y) (ap (up f.cells Z) at) (above.y j in_strip not_last);
     }
 
@@ -130,12 +130,13 @@ rows_down f by low size count from to y z near far among past below within here 
     round_on n.y first.y (n.y - 1) before.y j refl ∙ ap (λ (m : ℕ). m % n.y) last_sum in
     let last : along_y n before j ≡ down n Y line = λ i. record line { y = last_y i } in
     record {
-      x = subst (λ (p : Triple). IsScaledRow f by X p count (line_at near (j + 1)).x) own (here.x (j + 1) own_in_strip);
+      x = subst (λ (p : Triple). IsScaledRow f by X (beside side p) (count + 1) (line_at near (j + 1)).x) own (here.x (j + 1) own_in_strip);
       y = subst (λ (p : Triple). IsScaledRow f by Y (beside side p) (count + 1) (line_at near (j + 1)).y) own (here.y (j + 1) own_in_strip not_first);
       z = subst (λ (p : Triple). IsScaledRow f by Z (beside side p) (count + 1) (line_at near (j + 1)).z) own (here.z refl (j + 1) own_in_strip);
-      x_by_y = subst (λ (p : Triple). IsScaledRow f by X p count (line_at near j).x) last (here.x j in_strip);
+      x_by_y = subst (λ (p : Triple). IsScaledRow f by X (beside side p) (count + 1) (line_at near j).x) last (here.x j in_strip);
       z_by_y = subst (λ (p : Triple). IsScaledRow f by Z (beside side p) (count + 1) (line_at near j).z) last (here.z refl j in_strip);
-      x_by_z = subst (λ (p : Triple). IsScaledRow f by X p count (line_at far (j + 1)).x) (ap (down n Z) own) (under.x (j + 1) own_in_strip);
+      x_by_z = subst (λ (p : Triple). IsScaledRow f by X (beside side p) (count + 1) (line_at far (j + 1)).x) (ap (down n Z) own)
+          (under.x (j + 1) own_in_strip);
       y_by_z = subst (λ (p : Triple). IsScaledRow f by Y (beside side p) (count + 1) (line_at far (j + 1)).y) (ap (down n Z) own)
           (under.y (j + 1) own_in_strip not_first);
     }

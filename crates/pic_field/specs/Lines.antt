@@ -1,5 +1,5 @@
--- How a phase goes over a block: row by row, three rows to a line of cells in x, line by line and
--- layer by layer. Places are counted from the block's lowest cell.
+-- How a phase goes over a block: row by row, three rows to a line of cells in x, strip by strip of
+-- lines and layer by layer. Places are counted from the block's lowest cell.
 use Rattle.std.specs.Prelude.{◌≡◌, ℕ, ℤ, ◌<◌, ◌≤◌}
 use Rattle.pic_num.specs.declared.mult.Scales.{Scales}
 use Rattle.pic_num.specs.declared.axis.Axis.{Axis}

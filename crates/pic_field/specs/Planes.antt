@@ -29,37 +29,37 @@ abbrev pub beside : ℕ → Triple → Triple
 beside side p = record p { x = side }
 
 -- the first lines lines of a plane are the scaled rows of the lines of a field from that at the cell p
--- on, round the grid: count values of x, and a value more of y and of z from the layer side of x on.
--- The line without has no y, and none has z if not with_z.
+-- on, round the grid: a value more than count of each component, from the layer side of x on. The
+-- line without has no y, and none has z if not with_z.
 pub record IsScaledPlane (f : Field) (by : Multiplier) (p : Triple) (side count lines without : ℕ)
     (with_z : Bool) (plane : List Line) : Type 0 where
   pub x : (j : ℕ) → j < lines
-      → IsScaledRow f by X (along_y f.cells p j) count (line_at plane j).x
+      → IsScaledRow f by X (beside side (along_y f.cells p j)) (count + 1) (line_at plane j).x
   pub y : (j : ℕ) → j < lines → (j ≡ without → ⊥)
       → IsScaledRow f by Y (beside side (along_y f.cells p j)) (count + 1) (line_at plane j).y
   pub z : IsTrue with_z → (j : ℕ) → j < lines
       → IsScaledRow f by Z (beside side (along_y f.cells p j)) (count + 1) (line_at plane j).z
 
--- the scaled rows of the line that begins at the cell p, of the next one in y and of the next in z:
--- what the curl of E has along it
+-- the scaled rows of the line of count cells that begins at p, of the next one in y and of the next
+-- in z, each a value longer: what the curl of E has along it
 pub record AreRowsUp (f : Field) (by : Multiplier) (p : Triple) (count : ℕ)
     (own by_y by_z : Line) : Type 0 where
-  pub x : IsScaledRow f by X p count own.x
+  pub x : IsScaledRow f by X p (count + 1) own.x
   pub y : IsScaledRow f by Y p (count + 1) own.y
   pub z : IsScaledRow f by Z p (count + 1) own.z
-  pub x_by_y : IsScaledRow f by X (up f.cells Y p) count by_y.x
+  pub x_by_y : IsScaledRow f by X (up f.cells Y p) (count + 1) by_y.x
   pub z_by_y : IsScaledRow f by Z (up f.cells Y p) (count + 1) by_y.z
-  pub x_by_z : IsScaledRow f by X (up f.cells Z p) count by_z.x
+  pub x_by_z : IsScaledRow f by X (up f.cells Z p) (count + 1) by_z.x
   pub y_by_z : IsScaledRow f by Y (up f.cells Z p) (count + 1) by_z.y
 
--- the scaled rows of the line that begins at the cell p, of the last one in y and of the last in z:
--- what the curl of B has along it. Those of y and z begin a cell back.
+-- the scaled rows of the line of count cells that begins at p, of the last one in y and of the last
+-- in z, each from a cell back: what the curl of B has along it
 pub record AreRowsDown (f : Field) (by : Multiplier) (p : Triple) (count : ℕ)
     (own by_y by_z : Line) : Type 0 where
-  pub x : IsScaledRow f by X p count own.x
+  pub x : IsScaledRow f by X (down f.cells X p) (count + 1) own.x
   pub y : IsScaledRow f by Y (down f.cells X p) (count + 1) own.y
   pub z : IsScaledRow f by Z (down f.cells X p) (count + 1) own.z
-  pub x_by_y : IsScaledRow f by X (down f.cells Y p) count by_y.x
+  pub x_by_y : IsScaledRow f by X (down f.cells X (down f.cells Y p)) (count + 1) by_y.x
   pub z_by_y : IsScaledRow f by Z (down f.cells X (down f.cells Y p)) (count + 1) by_y.z
-  pub x_by_z : IsScaledRow f by X (down f.cells Z p) count by_z.x
+  pub x_by_z : IsScaledRow f by X (down f.cells X (down f.cells Z p)) (count + 1) by_z.x
   pub y_by_z : IsScaledRow f by Y (down f.cells X (down f.cells Z p)) (count + 1) by_z.y

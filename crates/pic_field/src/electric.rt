@@ -287,8 +287,8 @@ fn full_lines(
     calm
 }
 
-/// A step of E along a line, from its scaled rows and those of the last lines in y and in z. The
-/// rows of y and z begin a cell back.
+/// A step of E along a line, from its scaled rows and those of the last lines in y and in z. Rows
+/// begin a cell back.
 fn full_line(
     scales: &Scales,
     b: &Lattice,
@@ -322,8 +322,8 @@ fn full_line(
     };
     let calm_x = full_row(e, j, Axis::X, y, z, &on_x, most);
     let on_y = Four {
-        far_third: &by_z.x[..count],
-        near_third: &own.x[..count],
+        far_third: shifted(&by_z.x[..], count),
+        near_third: shifted(&own.x[..], count),
         far_second: &own.z[..count],
         near_second: shifted(&own.z[..], count),
     };
@@ -331,8 +331,8 @@ fn full_line(
     let on_z = Four {
         far_third: &own.y[..count],
         near_third: shifted(&own.y[..], count),
-        far_second: &by_y.x[..count],
-        near_second: &own.x[..count],
+        far_second: shifted(&by_y.x[..], count),
+        near_second: shifted(&own.x[..], count),
     };
     let calm_z = full_row(e, j, Axis::Z, y, z, &on_z, most);
     calm_x & calm_y & calm_z

@@ -5,10 +5,10 @@ ghost use Rattle.pic_num.specs.Limits.{most_cells_of_axis};
 ghost use Rattle.pic_num.specs.Space.{triple};
 ghost use Rattle.pic_grid.specs.Cells.{IsWithin};
 ghost use Rattle.pic_grid.specs.Lattice.{EachAtMost};
-ghost use Rattle.pic_field.specs.Rows.{IsScaledRow};
+ghost use Rattle.pic_field.specs.Rows.{start_cell, IsStart, IsScaledRow};
 ghost use Rattle.pic_field.specs.Planes.{beside, IsScaledPlane};
 
-use crate::row::{Row, Start, after_run, scaled_row, start_at};
+use crate::row::{Row, Start, after_run, scale_row, start_at};
 use pic_grid::Lattice;
 use pic_num::{Axis, Mult};
 
@@ -40,9 +40,8 @@ pub(crate) fn strip_end(from: u32, count: u32) -> u32
 }
 
 /// Scales the rows of `lines` lines one after another in y, periodically, the first of which
-/// begins at the cell `first`: `count` values of x, and a value more of y and z, which begin at the
-/// layer `side` of x. The row of y of the line `without` is left out, and those of z if not
-/// `with_z`.
+/// begins at the cell `first`: a value more than `count` of each component, from the layer `side` of
+/// x on. The row of y of the line `without` is left out, and those of z if not `with_z`.
 pub(crate) fn fill_plane(
     field: &Lattice,
     by: Mult,
@@ -70,7 +69,7 @@ pub(crate) fn fill_plane(
             by,
             [x, y, z],
             side,
-            count,
+            count + 1,
             j != without,
             with_z,
             &mut to[j],
@@ -79,8 +78,8 @@ pub(crate) fn fill_plane(
     }
 }
 
-/// Scales the rows of a line that begins at the cell `at`: `count` values of x, and a value more of
-/// y and z if they are wanted, which begin at the layer `side` of x.
+/// Scales the rows of a line that begins at the layer `side` of x beside the cell `at`: `count`
+/// values of x, and of y and z if they are wanted.
 fn scale_line(
     field: &Lattice,
     by: Mult,
@@ -93,23 +92,67 @@ fn scale_line(
 )
     requires within { IsWithin (triple at) field.now.cells }
     requires side { side < field.now.cells.x }
-    requires few { count ≤ most_cells_of_axis }
+    requires few { count ≤ 129 }
     requires small { EachAtMost (2 ^ 90) field.now }
-    ensures x { IsScaledRow field.now by Axis.X (triple at) count to.new.x }
-    ensures y { IsTrue with_y → IsScaledRow field.now by Axis.Y (beside side (triple at))
-        (count + 1) to.new.y }
-    ensures z { IsTrue with_z → IsScaledRow field.now by Axis.Z (beside side (triple at))
-        (count + 1) to.new.z }
+    ensures x { IsScaledRow field.now by Axis.X (beside side (triple at)) count to.new.x }
+    ensures y { IsTrue with_y
+        → IsScaledRow field.now by Axis.Y (beside side (triple at)) count to.new.y }
+    ensures z { IsTrue with_z
+        → IsScaledRow field.now by Axis.Z (beside side (triple at)) count to.new.z }
 {
-    let Start { x, y, z } = start_at(field, at);
-    let of_y = wanted(with_y, count + 1);
-    let of_z = wanted(with_z, count + 1);
-    scaled_row(field, by, Axis::X, Start { x, y, z }, count, &mut to.x);
-    scaled_row(field, by, Axis::Y, Start { x: side, y, z }, of_y, &mut to.y);
-    scaled_row(field, by, Axis::Z, Start { x: side, y, z }, of_z, &mut to.z);
+    let Start { x: _, y, z } = start_at(field, at);
+    scale_rows(
+        field,
+        by,
+        Start { x: side, y, z },
+        count,
+        with_y,
+        with_z,
+        to,
+    );
+}
+
+/// The same from a start on, round the grid. The runs of the three components lie at the same place
+/// of a part, which is found once for them.
+fn scale_rows(
+    field: &Lattice,
+    by: Mult,
+    start: Start,
+    count: usize,
+    with_y: bool,
+    with_z: bool,
+    to: &mut Line,
+)
+    requires start { IsStart field.now start }
+    requires few { count ≤ 129 }
+    requires small { EachAtMost (2 ^ 90) field.now }
+    ensures x { IsScaledRow field.now by Axis.X (start_cell start) count to.new.x }
+    ensures y { IsTrue with_y
+        → IsScaledRow field.now by Axis.Y (start_cell start) count to.new.y }
+    ensures z { IsTrue with_z
+        → IsScaledRow field.now by Axis.Z (start_cell start) count to.new.z }
+{
+    let [nx, _, _] = field.cells().numbers();
+    let Start { mut x, y, z } = start;
+    let mut done = 0;
+    while done < count {
+        let here = field.slot_x(x);
+        let of_x = field.run_at(Axis::X, here, y, z);
+        let of_y = field.run_at(Axis::Y, here, y, z);
+        let of_z = field.run_at(Axis::Z, here, y, z);
+        let more = of_x.len().min(count - done);
+        let more_y = wanted(with_y, more);
+        let more_z = wanted(with_z, more);
+        scale_row(&of_x[..more], by, &mut to.x[done..done + more]);
+        scale_row(&of_y[..more_y], by, &mut to.y[done..done + more_y]);
+        scale_row(&of_z[..more_z], by, &mut to.z[done..done + more_z]);
+        done = done + more;
+        x = after_run(nx, x, more);
+    }
 }
 
 /// A count, or 0 where nothing is wanted.
+#[inline(always)]
 fn wanted(is: bool, count: usize) -> usize
     ensures all { IsTrue is → result ≡ count }
     ensures most { result ≤ count }

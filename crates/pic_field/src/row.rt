@@ -91,7 +91,8 @@ pub(crate) fn after_run(count: u32, x: u32, more: usize) -> u32
 }
 
 /// Scales every value of a row.
-fn scale_row(from: &[i128], by: Mult, to: &mut [i128])
+#[inline(always)]
+pub(crate) fn scale_row(from: &[i128], by: Mult, to: &mut [i128])
     requires length { length to.old ≡ length from.now }
     requires small { IsSmallRow (2 ^ 90) (length from.now) from.now }
     ensures values { (i : ℕ) → i < length from.now

@@ -28,7 +28,7 @@ loop-j-preserved c =
       room = length-set c.loop-j.to j _ ∙ c.loop-j.invariant.room;
       below = subst (λ (m : ℕ). c.after_run-y.result < m) cells c.after_run-y.ensures.below;
       plane = plane_more f by first side count j c.args.without c.args.with_z c.loop-j.to c.loop-j.invariant.plane _ (omega (arith, c.told-to))
-          (subst (λ (p : Triple). IsScaledRow f by X p count line.x) at c.scale_line.ensures.x)
+          (subst (λ (p : Triple). IsScaledRow f by X (beside side p) (count + 1) line.x) at c.scale_line.ensures.x)
           (λ other.
           let differs : IsTrue (not (j == c.args.without)) = subst (λ (t : Bool). IsTrue (not t)) (sym (ne_eqb j c.args.without other)) refl in
           subst (λ (p : Triple). IsScaledRow f by Y (beside side p) (count + 1) line.y) at (c.scale_line.ensures.y differs))

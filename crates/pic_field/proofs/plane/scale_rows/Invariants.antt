@@ -1,0 +1,21 @@
+use Rattle.std.proofs.Common.{◌-◌, ◌≡◌, ◌+◌, ◌%◌, ◌<◌, ◌≤◌, IsTrue, length}
+use Rattle.pic_num.specs.declared.axis.Axis.TheVariants.{X, Y, Z}
+use Rattle.pic_field.specs.Rows.{start_cell, IsScaledRow}
+use Rattle.pic_field.proofs.plane.scale_rows.Given as goal
+
+-- the rows are filled up to `done`, and the next runs begin at the layer x
+abbrev pub invariant-loop-done : goal.invariant-loop-done
+invariant-loop-done l = record {
+  at : l.x ≡ (l.fn.start.x + l.done) % l.field.cells.x;
+  below : l.x < l.field.cells.x;
+  most : l.done ≤ l.count;
+  room_x : length l.to.x ≡ 129;
+  room_y : length l.to.y ≡ 129;
+  room_z : length l.to.z ≡ 129;
+  of_x : IsScaledRow l.field l.by X (start_cell l.fn.start) l.done l.to.x;
+  of_y : IsTrue l.with_y → IsScaledRow l.field l.by Y (start_cell l.fn.start) l.done l.to.y;
+  of_z : IsTrue l.with_z → IsScaledRow l.field l.by Z (start_cell l.fn.start) l.done l.to.z;
+}
+
+abbrev pub decreases-loop-done : goal.decreases-loop-done
+decreases-loop-done l = l.count - l.done
