@@ -24,10 +24,8 @@ impl Core {
         ensures stands { Stands self.new }
     {
         self.stands();
-        match self.apply(event) {
-            Ok(()) => {}
-            Err(_) => unreachable!(),
-        }
+        self.perform(event);
+        self.stands();
     }
 
     /// Merges the parcel of the next direction into the tile to which a tile has posted; that of no

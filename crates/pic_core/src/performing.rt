@@ -53,7 +53,8 @@ impl Core {
         self.shut[tile as usize] = true;
     }
 
-    fn perform(&mut self, event: Event)
+    /// What an event changes that is allowed.
+    pub(crate) fn perform(&mut self, event: Event)
         requires { Allowed self.old event }
         ensures { Applied self.old event self.new }
     {
