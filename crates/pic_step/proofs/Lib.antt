@@ -1,4 +1,5 @@
 pub mod VelocityLaws
+mod UnpushedLaws
 pub mod GaussLaws
 pub mod SoundLaws
 pub mod BeyondLaws

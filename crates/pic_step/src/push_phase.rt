@@ -23,7 +23,8 @@ use pic_push::least_stop;
 use pic_tile::Frame;
 use std::thread::Threads;
 
-/// Pushes all particles by the fields, on so many threads. Their flux is left in their tiles.
+/// Pushes all particles by the fields, on so many threads. Their flux is left in their tiles. Where
+/// there are none, nothing is done: no force value is needed and no parcel is sent.
 pub fn push_phase<H: Threads + Sync, G: Gate + Sync>(
     rt: &H,
     scales: &Scales,
@@ -40,6 +41,11 @@ pub fn push_phase<H: Threads + Sync, G: Gate + Sync>(
         HasPushed (around_fields scales.now plasma.frame.kinds e.now b.now) plasma r.0 r.1) }
     ensures alone { IsErr result → 1 < workers }
 {
+    if plasma.count == 0 {
+        let map = plasma.frame.map();
+        let _tiles = map.tiles();
+        return Ok((plasma, None));
+    }
     let Plasma {
         alloc,
         frame,

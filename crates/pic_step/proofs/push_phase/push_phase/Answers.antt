@@ -1,7 +1,10 @@
-use Rattle.std.proofs.Common.{◌≡◌, ◌<◌, refl, sym, ap, subst}
+use Rattle.std.proofs.Common.{◌≡◌, ◌<◌, refl, sym, ap, subst, arith}
 use Rattle.pic_tile.specs.CoreState.{particles_of}
 use Rattle.pic_tile.specs.Frame.{FrameValue}
+use Rattle.pic_tile.specs.Tiling.{IsMap}
+use Rattle.pic_step.specs.PushOn.{around_fields}
 use Rattle.pic_step.proofs.PushPhaseLaws.{with_forces_of, opening_moves, ready_moves, pushed_by_fields}
+use Rattle.pic_step.proofs.UnpushedLaws.{none_pushed}
 use Rattle.pic_step.proofs.push_phase.push_phase.Given.{Over}
 use Rattle.pic_step.proofs.push_phase.push_phase.Goals as goal
 use Rattle.pic_step.proofs.push_phase.push_phase.Goals.{After-with_forces-frame}
@@ -34,3 +37,10 @@ pub returns-clause-pushed : goal.returns-clause-pushed
 returns-clause-pushed g c =
     pushed_by_fields c.args.plasma c.in_ok-pushed.pushed.0 c.args.scales.now c.args.e.now c.args.b.now c.with_forces-frame.result c.in_ok-pushed.pushed.1
     c.requires.can.safe_e (framed g (goal.at.returns-clause-pushed g c).After-with_forces-frame) c.in_ok-pushed.ensures.pushed
+
+pub returns-then-plasma-eq0-clause-pushed : goal.returns-then-plasma-eq0-clause-pushed
+returns-then-plasma-eq0-clause-pushed g c =
+    let p = c.args.plasma in
+    let none : p.count ≡ 0 = omega (arith, c.if-plasma-eq0.true) in
+    none_pushed (around_fields c.args.scales.now p.frame.kinds c.args.e.now c.args.b.now) p (subst IsMap c.map-map.ensures.value c.tiles-tiles.ensures.limits)
+    c.requires.can.safe_e.cells c.requires.can.plasma none
