@@ -5,3 +5,10 @@ pub mod AllowedLaws
 pub mod FormatLaws
 pub mod MeaningLaws
 pub mod ReachedLaws
+pub mod FitLaws
+pub mod ReadableHeader
+pub mod EnergyLaws
+pub mod ReadableFrame
+pub mod ReadableEnd
+pub mod ReadableDump
+pub mod SmallDumpLaws

@@ -31,7 +31,7 @@ use Rattle.pic_verify.proofs.FormatLaws.{frame_read, end_read}
 use Rattle.pic_verify.proofs.WalkLaws.{walked_frame, walked_end, walked_fault}
 
 -- Gauss's law at every node is that no break is found
-no_break : (l : LayoutView) (f : FrameView) → MeetsGauss l.side l.cells l.kinds f.particles (with_values l f.e) → break_of l f.e f.particles ≡ None
+pub no_break : (l : LayoutView) (f : FrameView) → MeetsGauss l.side l.cells l.kinds f.particles (with_values l f.e) → break_of l f.e f.particles ≡ None
 unfolding break_of
 no_break l f law = gauss_none l.side l.cells l.kinds f.particles (with_values l f.e) (charge_of l.side l.cells l.kinds f.particles) (λ p within. refl) law
 
@@ -56,7 +56,7 @@ due_is_step l (suc k) s due = elim (cases_lt (due_step l k) l.steps) [
 ]
 
 -- there is no frame more than the steps, and one
-few_due : (l : LayoutView) (k s : ℕ) → 1 ≤ l.every → due_after l.steps l.every (step_before l k) ≡ Some s → k ≤ l.steps
+pub few_due : (l : LayoutView) (k s : ℕ) → 1 ≤ l.every → due_after l.steps l.every (step_before l k) ≡ Some s → k ≤ l.steps
 few_due l zero s least due = omega arith
 few_due l (suc k) s least due = elim (cases_lt (due_step l k) l.steps) [
   | inl less ↦ (let more = mul-le-mul_left k least in omega (arith, less, more))

@@ -4,3 +4,5 @@ pub mod Verifies
 pub mod Allowed
 pub mod Meaning
 pub mod Reached
+pub mod Readable
+pub mod SmallDump
