@@ -1,5 +1,5 @@
 -- The flux through the twelve edges of a cell, held as values.
-use Rattle.std.specs.Prelude.{ℕ, ℤ, pos, ◌^◌, ◌+ℤ◌, ◌≤ℤ◌, ◌<ℤ◌, ◌↔◌, Bool, true, false, IsTrue}
+use Rattle.std.specs.Prelude.{ℕ, ℤ, pos, ◌^◌, ◌+ℤ◌, ◌≤ℤ◌, ◌<ℤ◌, ◌↔◌, Bool, true, IsTrue}
 use Rattle.pic_num.specs.declared.axis.Axis.{Axis}
 use Rattle.pic_num.specs.declared.axis.Axis.TheVariants.{X, Y, Z}
 use Rattle.pic_num.specs.Sizes.{IsAtMost}
@@ -52,18 +52,6 @@ pub record AreLayers (low : Spot) (size : Triple) (c : Spot) (l : Layers) : Type
   pub over_x : IsTrue l.up_x ↔ IsLayer low.x size.x (c.x +ℤ pos 1)
   pub over_y : IsTrue l.up_y ↔ IsLayer low.y size.y (c.y +ℤ pos 1)
   pub over_z : IsTrue l.up_z ↔ IsLayer low.z size.z (c.z +ℤ pos 1)
-
--- every layer of a cell but the next one up on an axis
-abbrev pub near_layers : Axis → Layers
-near_layers X = record { x = true; y = true; z = true; up_x = false; up_y = true; up_z = true }
-near_layers Y = record { x = true; y = true; z = true; up_x = true; up_y = false; up_z = true }
-near_layers Z = record { x = true; y = true; z = true; up_x = true; up_y = true; up_z = false }
-
--- every one but the cell's own on an axis
-abbrev pub far_layers : Axis → Layers
-far_layers X = record { x = false; y = true; z = true; up_x = true; up_y = true; up_z = true }
-far_layers Y = record { x = true; y = false; z = true; up_x = true; up_y = true; up_z = true }
-far_layers Z = record { x = true; y = true; z = false; up_x = true; up_y = true; up_z = true }
 
 -- all four edges along an axis round a cell
 abbrev pub all_four : Found

@@ -7,9 +7,9 @@ ghost use Rattle.pic_grid.specs.Flux.{flux};
 ghost use Rattle.pic_grid.specs.Segment.{IsInCell};
 ghost use Rattle.pic_grid.specs.Block.{IsShaped, AllAtMost};
 ghost use Rattle.pic_flux.specs.Adds.{Adds};
-ghost use Rattle.pic_flux.specs.CellFlux.{edge_flux, flux_cell, IsModest, AreLayers, near_layers, far_layers};
+ghost use Rattle.pic_flux.specs.CellFlux.{edge_flux, flux_cell, IsModest, AreLayers};
 
-use crate::edges::{Layers, add_corners, edges_in, far_layers, layers_in, near_layers};
+use crate::edges::{Layers, add_corners, edges_in, layers_in};
 use crate::four::four_of;
 use crate::spans::Spans;
 use pic_grid::{Block, Four, Segment};
@@ -56,44 +56,13 @@ impl CellFlux {
         ensures values { Adds to.old to.new (edge_flux self.now) }
     {
         let layers = layers_in(to, self.cell);
-        self.add_by(&layers, to);
+        self.add_to_layers(&layers, to);
     }
 
-    /// The same for a block that has every layer of the cell but the next one up on an axis.
+    /// The same for a block that has these layers of the cell: where they are known as the program
+    /// is built, no edge is tested for.
     #[inline(always)]
-    pub fn add_near(&self, axis: Axis, to: &mut Block)
-        requires modest { IsModest self.now }
-        requires near { AreLayers to.old.low to.old.size (flux_cell self.now) (near_layers axis) }
-        requires room { AllAtMost (2 ^ 100) to.old }
-        ensures shape { IsShaped to.old to.new }
-        ensures values { Adds to.old to.new (edge_flux self.now) }
-    {
-        match axis {
-            Axis::X => self.add_by(&near_layers(Axis::X), to),
-            Axis::Y => self.add_by(&near_layers(Axis::Y), to),
-            Axis::Z => self.add_by(&near_layers(Axis::Z), to),
-        }
-    }
-
-    /// The same for a block that has every layer of the cell but its own on an axis.
-    #[inline(always)]
-    pub fn add_far(&self, axis: Axis, to: &mut Block)
-        requires modest { IsModest self.now }
-        requires far { AreLayers to.old.low to.old.size (flux_cell self.now) (far_layers axis) }
-        requires room { AllAtMost (2 ^ 100) to.old }
-        ensures shape { IsShaped to.old to.new }
-        ensures values { Adds to.old to.new (edge_flux self.now) }
-    {
-        match axis {
-            Axis::X => self.add_by(&far_layers(Axis::X), to),
-            Axis::Y => self.add_by(&far_layers(Axis::Y), to),
-            Axis::Z => self.add_by(&far_layers(Axis::Z), to),
-        }
-    }
-
-    /// The same for a block that has these layers of the cell.
-    #[inline(always)]
-    fn add_by(&self, layers: &Layers, to: &mut Block)
+    pub fn add_to_layers(&self, layers: &Layers, to: &mut Block)
         requires modest { IsModest self.now }
         requires layers { AreLayers to.old.low to.old.size (flux_cell self.now) layers.now }
         requires room { AllAtMost (2 ^ 100) to.old }

@@ -6,7 +6,7 @@ ghost use Rattle.pic_num.specs.Space.{spot};
 ghost use Rattle.pic_grid.specs.Block.{IsShaped, AllAtMost};
 ghost use Rattle.pic_grid.specs.Fours.{IsBase, base_cell, AreFound, AreSmall};
 ghost use Rattle.pic_flux.specs.Adds.{Adds};
-ghost use Rattle.pic_flux.specs.CellFlux.{at_four, all_four, IsLayer, AreLayers, AreTrue, near_layers, far_layers};
+ghost use Rattle.pic_flux.specs.CellFlux.{at_four, all_four, IsLayer, AreLayers, AreTrue};
 ghost use Rattle.pic_flux.specs.Corners.{HasEdges};
 ghost use Rattle.pic_flux.specs.Spans.{IsShort, four_by};
 
@@ -15,9 +15,9 @@ use crate::spans::Spans;
 use pic_grid::{Base, Block, Found, Four, Zone};
 use pic_num::Axis;
 
-/// Whether a zone has a cell's own layer on each axis, and the next one up.
+/// Which layers of a cell a block has: on each axis the cell's own, and the next one up.
 #[derive(Clone, Copy)]
-pub(crate) struct Layers {
+pub struct Layers {
     pub x: bool,
     pub y: bool,
     pub z: bool,
@@ -40,52 +40,6 @@ fn is_among(low: i32, size: u32, c: i64) -> bool
         return false;
     }
     true
-}
-
-/// Every layer of a cell but the next one up on an axis.
-#[inline(always)]
-pub(crate) fn near_layers(axis: Axis) -> Layers
-    ensures { result ≡ near_layers axis }
-{
-    match axis {
-        Axis::X => layers_by(true, true, true, false, true, true),
-        Axis::Y => layers_by(true, true, true, true, false, true),
-        Axis::Z => layers_by(true, true, true, true, true, false),
-    }
-}
-
-/// Every layer of a cell but its own on an axis.
-#[inline(always)]
-pub(crate) fn far_layers(axis: Axis) -> Layers
-    ensures { result ≡ far_layers axis }
-{
-    match axis {
-        Axis::X => layers_by(false, true, true, true, true, true),
-        Axis::Y => layers_by(true, false, true, true, true, true),
-        Axis::Z => layers_by(true, true, false, true, true, true),
-    }
-}
-
-/// Layers by the tests of each.
-#[inline(always)]
-fn layers_by(x: bool, y: bool, z: bool, up_x: bool, up_y: bool, up_z: bool) -> Layers
-    ensures { result ≡ record {
-      x = x;
-      y = y;
-      z = z;
-      up_x = up_x;
-      up_y = up_y;
-      up_z = up_z;
-    } }
-{
-    Layers {
-        x,
-        y,
-        z,
-        up_x,
-        up_y,
-        up_z,
-    }
 }
 
 /// Which of the layers of a cell and of the next ones up a block has: all edges of the cell share
@@ -197,7 +151,7 @@ fn are_among(low: i32, size: u32, c: i32) -> bool
 
 /// Whether a block has all edges of a cell.
 #[inline(always)]
-pub fn has_edges(to: &Block, cell: [i32; 3]) -> bool
+pub(crate) fn has_edges(to: &Block, cell: [i32; 3]) -> bool
     ensures { IsTrue result → HasEdges to.now.low to.now.size (spot cell) }
 {
     let Zone { low, size } = to.zone();

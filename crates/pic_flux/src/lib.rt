@@ -13,4 +13,4 @@ mod weights;
 
 pub use cell_flux::CellFlux;
 pub use deposits::{deposit, deposit_inside, deposit_track};
-pub use edges::has_edges;
+pub use edges::Layers;

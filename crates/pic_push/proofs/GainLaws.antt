@@ -1,5 +1,5 @@
 -- Parcels that gain flux, one direction after another.
-use Rattle.std.proofs.Common.{◌≡◌, ℕ, ◌+◌, ◌<◌, ◌≤◌, inl, inr, length, Option, Some, None, refl, sym, ap, ◌∙◌, subst, arith}
+use Rattle.std.proofs.Common.{◌≡◌, ℕ, ◌+◌, ◌<◌, ◌≤◌, ◌⊎◌, inl, inr, length, Option, Some, None, refl, sym, ap, ◌∙◌, subst, arith}
 use Rattle.std.proofs.Math.IntN.{ℤ, ◌+ℤ◌}
 use Rattle.std.proofs.Math.Decide.{ℕ_discrete}
 use Rattle.std.proofs.lemmas.Bool.{cases_lt}
@@ -136,66 +136,102 @@ gains_still f t clear = record {
   number_is = refl;
 }
 
--- the parcels of the directions below i have gained, the others are as they were
-pub record Spread (f : Axis → Spot → ℤ) (old : TileValue) (i : ℕ) (now : TileValue) : Type 0 where
-  pub done : (d : ℕ) (p : Parcel) → d < directions → d < i → parcel_at old d ≡ Some p → HasGained f p (parcel_at now d)
-  pub gone : (d : ℕ) → d < directions → d < i → parcel_at old d ≡ None → parcel_at now d ≡ None
-  pub rest : (d : ℕ) → i ≤ d → parcel_at now d ≡ parcel_at old d
+-- all parcels have gained but those of the directions that `away` holds of, which are as they were
+pub record GainsBut (f : Axis → Spot → ℤ) (away : ℕ → Type 0) (old now : TileValue) : Type 0 where
+  pub either : (d : ℕ) → d < directions → away d ⊎ ((p : Parcel) → parcel_at old d ≡ Some p → HasGained f p (parcel_at now d))
+  pub none : (d : ℕ) → parcel_at old d ≡ None → parcel_at now d ≡ None
+  pub rest : (d : ℕ) → away d → parcel_at now d ≡ parcel_at old d
   pub number_is : now.number ≡ old.number
 
--- where no flux passes those before the first
-pub spread_none : (f : Axis → Spot → ℤ) (t : TileValue) (i : ℕ)
-    → ((d : ℕ) (p : Parcel) → d < directions → d < i → parcel_at t d ≡ Some p → IsClear f p.flux) → Spread f t i t
-spread_none f t i clear = record {
-  done = λ d p few below is. record { parcel = p; there = is; gained = gains_nothing f p (clear d p few below is) };
-  gone = λ d few below is. is;
-  rest = λ d more. refl;
-  number_is = refl;
-}
+abbrev pub all_away : ℕ → Type 0
+all_away d = d ≡ d
 
--- one direction more
-pub spread_more : (f : Axis → Spot → ℤ) (old : TileValue) (i : ℕ) (now now' : TileValue) → Spread f old i now → GainsAt f i now now' → Spread f old (i + 1) now'
-spread_more f old i now now' before at = record {
-  done = λ d p few below is. elim (ℕ_discrete d i) [
-    | yes same ↦ subst (λ (k : ℕ). HasGained f p (parcel_at now' k)) (sym same)
-        (at.gained p (before.rest i (omega arith) ∙ ap (parcel_at old) (sym same) ∙ is))
-    | no other ↦ subst (λ (o : Option Parcel). HasGained f p o) (sym (at.others d other)) (before.done d p few (less d i below other) is)
+-- one direction more than those
+abbrev pub but : ℕ → (ℕ → Type 0) → ℕ → Type 0
+but e away d = (d ≡ e → ⊥) × away d
+
+pub gains_none : (f : Axis → Spot → ℤ) (t : TileValue) → GainsBut f all_away t t
+gains_none f t = record { either = λ d few. inl refl; none = λ d is. is; rest = λ d is. refl; number_is = refl }
+
+pub gains_also : (f : Axis → Spot → ℤ) (away : ℕ → Type 0) (e : ℕ) (old mid new : TileValue) → away e → GainsBut f away old mid → GainsAt f e mid new
+    → GainsBut f (but e away) old new
+gains_also f away e old mid new there before at = record {
+  either = λ d few. elim (ℕ_discrete d e) [
+    | yes same ↦ inr (λ p is. subst (λ (k : ℕ). HasGained f p (parcel_at new k)) (sym same)
+        (at.gained p (before.rest e there ∙ ap (parcel_at old) (sym same) ∙ is)))
+    | no other ↦ elim (before.either d few) [
+      | inl still ↦ inl (other, still)
+      | inr done ↦ inr (λ p is. subst (λ (o : Option Parcel). HasGained f p o) (sym (at.others d other)) (done p is))
+    ]
   ];
-  gone = λ d few below is. elim (ℕ_discrete d i) [
-    | yes same ↦ ap (parcel_at now') same ∙ at.none (before.rest i (omega arith) ∙ ap (parcel_at old) (sym same) ∙ is)
-    | no other ↦ at.others d other ∙ before.gone d few (less d i below other) is
+  none = λ d is. elim (ℕ_discrete d e) [
+    | yes same ↦ ap (parcel_at new) same ∙ at.none (before.none e (ap (parcel_at old) (sym same) ∙ is))
+    | no other ↦ at.others d other ∙ before.none d is
   ];
-  rest = λ d more. at.others d (apart d i more) ∙ before.rest d (omega (arith, more));
+  rest = λ d still. at.others d still.0 ∙ before.rest d still.1;
   number_is = at.number_is ∙ before.number_is;
 }
-  where
-    less : (d k : ℕ) → d < k + 1 → (d ≡ k → ⊥) → d < k
-    less d k h other = elim (cases_lt d k) [ inl l ↦ l | inr m ↦ absurd (other (omega (arith, h, m))) ]
 
-    apart : (d k : ℕ) → k + 1 ≤ d → d ≡ k → ⊥
-    apart d k h same = omega (arith, h, same)
+-- where no flux passes the others
+pub gains_but : (f : Axis → Spot → ℤ) (away : ℕ → Type 0) (old now : TileValue)
+    → ((d : ℕ) (p : Parcel) → d < directions → away d → parcel_at old d ≡ Some p → IsClear f p.flux) → GainsBut f away old now → Gains f old now
+gains_but f away old now clear h = record {
+  gained = λ d p few is. elim (h.either d few) [
+    | inl still ↦ record { parcel = p; there = h.rest d still ∙ is; gained = gains_nothing f p (clear d p few still is) }
+    | inr done ↦ done p is
+  ];
+  none = λ d few is. h.none d is;
+  number_is = h.number_is;
+}
+
+-- where no flux passes some of the others, they have gained as well
+pub gains_past : (f : Axis → Spot → ℤ) (away still : ℕ → Type 0) (old now : TileValue) → ((d : ℕ) → still d → away d)
+    → ((d : ℕ) → d < directions → away d → still d ⊎ ((p : Parcel) → parcel_at old d ≡ Some p → IsClear f p.flux)) → GainsBut f away old now
+    → GainsBut f still old now
+gains_past f away still old now fewer clear h = record {
+  either = λ d few. elim (h.either d few) [
+    | inr done ↦ inr done
+    | inl is ↦ elim (clear d few is) [
+      | inl left ↦ inl left
+      | inr none ↦ inr (λ p at. record { parcel = p; there = h.rest d is ∙ at; gained = gains_nothing f p (none p at) })
+    ]
+  ];
+  none = h.none;
+  rest = λ d is. h.rest d (fewer d is);
+  number_is = h.number_is;
+}
+
+-- the parcels of the directions below i have gained, the others are as they were
+abbrev pub Spread : (Axis → Spot → ℤ) → TileValue → ℕ → TileValue → Type 0
+Spread f old i now = GainsBut f (λ d. i ≤ d) old now
 
 -- where no flux passes those of the next directions
 pub spread_past : (f : Axis → Spot → ℤ) (old : TileValue) (i j : ℕ) (now : TileValue) → i ≤ j
     → ((d : ℕ) (p : Parcel) → d < directions → i ≤ d → d < j → parcel_at old d ≡ Some p → IsClear f p.flux) → Spread f old i now → Spread f old j now
-spread_past f old i j now more clear spread = record {
-  done = λ d p few below is. elim (cases_lt d i) [
-    | inl less ↦ spread.done d p few less is
-    | inr past ↦ record { parcel = p; there = spread.rest d past ∙ is; gained = gains_nothing f p (clear d p few past below is) }
-  ];
-  gone = λ d few below is. elim (cases_lt d i) [ inl less ↦ spread.gone d few less is | inr past ↦ spread.rest d past ∙ is ];
-  rest = λ d past. spread.rest d (omega (arith, more, past));
-  number_is = spread.number_is;
-}
+spread_past f old i j now more clear spread =
+    gains_past f (λ d. i ≤ d) (λ d. j ≤ d) old now (λ d is. omega (arith, more, is))
+    (λ d few is. elim (cases_lt d j) [ inl less ↦ inr (λ p at. clear d p few is less at) | inr past ↦ inl past ]) spread
+
+-- nor those before the first
+pub spread_none : (f : Axis → Spot → ℤ) (t : TileValue) (i : ℕ)
+    → ((d : ℕ) (p : Parcel) → d < directions → d < i → parcel_at t d ≡ Some p → IsClear f p.flux) → Spread f t i t
+spread_none f t i clear =
+    spread_past f t 0 i t (omega arith) (λ d p few is. clear d p few)
+    (gains_past f all_away (λ d. 0 ≤ d) t t (λ d is. refl) (λ d few is. inl (omega arith)) (gains_none f t))
+
+-- one direction more
+pub spread_more : (f : Axis → Spot → ℤ) (old : TileValue) (i : ℕ) (now now' : TileValue) → Spread f old i now → GainsAt f i now now' → Spread f old (i + 1) now'
+spread_more f old i now now' before at =
+    gains_past f (but i (λ d. i ≤ d)) (λ d. i + 1 ≤ d) old now' (λ d is. (apart d is, omega (arith, is))) (λ d few is. inl (above d is.0 is.1))
+    (gains_also f (λ d. i ≤ d) i old now now' (omega arith) before at)
+  where
+    apart : (d : ℕ) → i + 1 ≤ d → d ≡ i → ⊥
+    apart d is same = omega (arith, is, same)
+
+    above : (d : ℕ) → (d ≡ i → ⊥) → i ≤ d → i + 1 ≤ d
+    above d other is = elim (cases_lt i d) [ inl less ↦ omega (arith, less) | inr most ↦ absurd (other (omega (arith, is, most))) ]
 
 -- where no flux passes those after the last
 pub spread_all : (f : Axis → Spot → ℤ) (old : TileValue) (i : ℕ) (now : TileValue)
     → ((d : ℕ) (p : Parcel) → d < directions → i ≤ d → parcel_at old d ≡ Some p → IsClear f p.flux) → Spread f old i now → Gains f old now
-spread_all f old i now clear spread = record {
-  gained = λ d p few is. elim (cases_lt d i) [
-    | inl less ↦ spread.done d p few less is
-    | inr more ↦ record { parcel = p; there = spread.rest d more ∙ is; gained = gains_nothing f p (clear d p few more is) }
-  ];
-  none = λ d few is. elim (cases_lt d i) [ inl less ↦ spread.gone d few less is | inr more ↦ spread.rest d more ∙ is ];
-  number_is = spread.number_is;
-}
+spread_all f old i now clear spread = gains_but f (λ d. i ≤ d) old now clear spread

@@ -13,4 +13,5 @@ pub mod SendLaws
 pub mod ParcelLaws
 pub mod PushingLaws
 pub mod LeastLaws
-pub mod SideLaws
+pub mod RegionLaws
+pub mod TakeLaws

@@ -18,8 +18,9 @@ use Rattle.pic_tile.specs.declared.parcel.Parcel.{Parcel}
 use Rattle.pic_push.specs.Gains.{IsClear}
 use Rattle.pic_push.specs.Sends.{HasLayers}
 use Rattle.pic_push.specs.declared.reach.Steps.{Steps}
+use Rattle.pic_push.specs.declared.reach.Turn.{Turn}
 use Rattle.pic_push.specs.declared.reach.Reach.{Reach}
-use Rattle.pic_push.specs.Reach.{spans, reaches, IsReach, AreStepsOf, IsReachOf, first_of, number_of}
+use Rattle.pic_push.specs.Reach.{spans, reaches, IsReach, AreStepsOf, IsReachOf, AreSteps, first_of, number_of}
 
 -- the steps of a reach
 pub reach_is : (low : Spot) (n : Triple) (cell : Spot) (r : Reach) → IsReachOf low n cell r → IsReach r
@@ -99,22 +100,23 @@ piece_clear side q s low n r bound d p at reach few out room = record {
       (subst (λ (m : Triple). InZone (layers_from n low d) m e) room.size_is (subst (λ (l : Spot). InZone l p.flux.size e) room.low_is inside));
 }
 
--- directions before the first and after the last aren't reached
+-- directions before the first aren't reached
 pub none_before : (r : Reach) (d : ℕ) → IsReach r → d < number_of (first_of r) → reaches r d ≡ false
 unfolding reaches spans
 none_before r d h below = grind (arith, nat_tests)
 
-pub none_after : (r : Reach) (d : ℕ) → r.z.last < d / 9 → reaches r d ≡ false
-unfolding reaches spans
-none_after r d more = grind (arith, nat_tests)
-
 -- nor those between one and the next
-pub none_in_row : (r : Reach) (number d : ℕ) → r.x.last ≤ number % 3 → number < d → d < direction_by r.x.first (number / 3 % 3 + 1) (number / 9)
+pub none_in_row : (r : Reach) (t : Turn) (d : ℕ) → AreSteps t → r.x.last ≤ t.x → number_of t < d → d < direction_by r.x.first (t.y + 1) t.z
     → reaches r d ≡ false
 unfolding reaches spans
-none_in_row r number d x more below = grind (arith, nat_tests)
+none_in_row r t d s x more below = let sx = s.x in let sy = s.y in grind (arith, nat_tests)
 
-pub none_in_layer : (r : Reach) (number d : ℕ) → r.x.last ≤ number % 3 → r.y.last ≤ number / 3 % 3 → number < d
-    → d < direction_by r.x.first r.y.first (number / 9 + 1) → reaches r d ≡ false
+pub none_in_layer : (r : Reach) (t : Turn) (d : ℕ) → AreSteps t → r.x.last ≤ t.x → r.y.last ≤ t.y → number_of t < d
+    → d < direction_by r.x.first r.y.first (t.z + 1) → reaches r d ≡ false
 unfolding reaches spans
-none_in_layer r number d x y more below = grind (arith, nat_tests)
+none_in_layer r t d s x y more below = let sx = s.x in let sy = s.y in grind (arith, nat_tests)
+
+-- nor those after the last
+pub none_after : (r : Reach) (t : Turn) (d : ℕ) → AreSteps t → r.x.last ≤ t.x → r.y.last ≤ t.y → r.z.last ≤ t.z → number_of t < d → reaches r d ≡ false
+unfolding reaches spans
+none_after r t d s x y z more = let sx = s.x in let sy = s.y in grind (arith, nat_tests)

@@ -2,6 +2,6 @@ pub mod Paths
 pub mod Reach
 pub mod Gains
 pub mod Sends
-pub mod Sides
+pub mod Region
 pub mod Opened
 pub mod PartialSums

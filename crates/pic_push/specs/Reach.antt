@@ -33,10 +33,11 @@ first_of r = record { x = r.x.first; y = r.y.first; z = r.z.first }
 abbrev pub number_of : Turn → ℕ
 number_of t = direction_by t.x t.y t.z
 
--- what a direction has on x and y are steps; on z it may have one more, after the last direction
+-- what a direction has on each axis is a step
 pub record AreSteps (t : Turn) : Type 0 where
   pub x : t.x ≤ 2
   pub y : t.y ≤ 2
+  pub z : t.z ≤ 2
 
 -- on one axis, where a tile has n layers from low on and a piece of a path lies in a cell: it can
 -- pass edges of the layer under the tile only where the cell lies there, and of the layers over it

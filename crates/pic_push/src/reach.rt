@@ -2,7 +2,7 @@
 //! leads.
 
 ghost use Rattle.std.specs.Prelude.{◌≡◌, ℕ, pos, ◌+◌, ◌<◌, ◌≤◌, ◌≤ℤ◌, ◌<ℤ◌, ◌+ℤ◌, unsigned_abs};
-ghost use Rattle.std.specs.Prelude.{false, IsTrue};
+ghost use Rattle.std.specs.Prelude.{false, IsTrue, IfSome};
 ghost use Rattle.pic_num.specs.Space.{triple, spot};
 ghost use Rattle.pic_grid.specs.Block.{InZone};
 ghost use Rattle.pic_tile.specs.Directions.{directions};
@@ -32,8 +32,7 @@ impl Turn {
     /// The number of the direction.
     #[inline(always)]
     pub fn number(&self) -> u32
-        requires steps { AreSteps self.now }
-        requires z { self.now.z ≤ 2 }
+        requires { AreSteps self.now }
         ensures value { result ≡ number_of self.now }
         ensures below { result < directions }
     {
@@ -77,38 +76,30 @@ impl Reach {
         }
     }
 
-    /// The direction after one, past those between that aren't its own. After its last one that of
-    /// a step more on z.
+    /// The next direction after one of its own, past those between that aren't; none after its
+    /// last.
     #[inline(always)]
-    pub fn after(&self, at: &Turn) -> Turn
+    pub fn after(&self, at: &Turn) -> Option<Turn>
         requires reach { IsReach self.now }
         requires steps { AreSteps at.now }
-        requires z { at.now.z ≤ self.now.z.last }
-        ensures steps { AreSteps result }
-        ensures z { result.z ≤ at.now.z + 1 }
-        ensures more { number_of at.now < number_of result }
-        ensures skipped { (d : ℕ) → number_of at.now < d → d < number_of result
-            → reaches self.now d ≡ false }
+        ensures steps { IfSome result AreSteps }
+        ensures more { IfSome result (λ next. number_of at.now < number_of next) }
+        ensures skipped { (d : ℕ) → number_of at.now < d
+            → IfSome result (λ next. d < number_of next) → reaches self.now d ≡ false }
     {
-        if at.x < self.x.last {
-            return Turn {
-                x: at.x + 1,
-                y: at.y,
-                z: at.z,
-            };
+        let Turn { x, y, z } = *at;
+        if x < self.x.last {
+            return Some(Turn { x: x + 1, y, z });
         }
-        if at.y < self.y.last {
-            return Turn {
-                x: self.x.first,
-                y: at.y + 1,
-                z: at.z,
-            };
+        let x = self.x.first;
+        if y < self.y.last {
+            return Some(Turn { x, y: y + 1, z });
         }
-        Turn {
-            x: self.x.first,
-            y: self.y.first,
-            z: at.z + 1,
+        let y = self.y.first;
+        if z < self.z.last {
+            return Some(Turn { x, y, z: z + 1 });
         }
+        None
     }
 }
 

@@ -6,6 +6,7 @@ ghost use Rattle.pic_num.specs.Limits.{most_charge};
 ghost use Rattle.pic_num.specs.Sizes.{IsAtMost};
 ghost use Rattle.pic_num.specs.Space.{triple, spot};
 ghost use Rattle.pic_boris.specs.Pushes.{shift_of, IsInLimits};
+ghost use Rattle.pic_grid.specs.Block.{AllAtMost};
 ghost use Rattle.pic_grid.specs.Flux.{flux, path_flux};
 ghost use Rattle.pic_grid.specs.PushPhase.{CanShare};
 ghost use Rattle.pic_grid.specs.Segment.{IsInCell};
@@ -15,15 +16,15 @@ ghost use Rattle.pic_tile.specs.Frame.{felt_in};
 ghost use Rattle.pic_tile.specs.Tiling.{cells_of};
 ghost use Rattle.pic_push.specs.Gains.{Gained, Gains};
 ghost use Rattle.pic_push.specs.Paths.{IsPath, IsPathOf, flux_along};
+ghost use Rattle.pic_push.specs.Region.{LiesIn};
 ghost use Rattle.pic_push.specs.Sends.{HasRoom, IsOpen, HasLayers, IsOpenTo, most_sent};
 
 use crate::feeling::charge_of;
 use crate::paths::Path;
-use crate::reach::Reach;
-use crate::sides::side_of;
-use crate::spreading::{add_beyond, spread};
+use crate::region::{Region, region_of};
+use crate::spreading::add_at;
 use pic_boris::Moved;
-use pic_flux::{CellFlux, deposit_inside, has_edges};
+use pic_flux::{CellFlux, deposit_inside};
 use pic_grid::{Segment, Track, Zone};
 use pic_num::{Particle, Sub};
 use pic_split::{lone, split};
@@ -57,35 +58,25 @@ fn send_piece(sub: Sub, piece: &Segment, q: i32, zone: Zone, tile: &mut Tile, ow
     ensures own { Gained (flux sub q piece.now) own.old own.new }
     ensures others { Gains (flux sub q piece.now) tile.old tile.new }
 {
-    if has_edges(&own.flux, piece.cell) {
-        deposit_inside(sub, piece, q, &mut own.flux);
-        return;
+    let region = region_of(zone, piece.cell);
+    match region {
+        Region::Inside => deposit_inside(sub, piece, q, &mut own.flux),
+        _ => send_widely(sub, piece, q, region, tile, own),
     }
-    send_widely(sub, piece, q, zone, tile, own);
 }
 
-/// The same for any piece: its flux is computed once for all parcels. Most are those at one side of
-/// the tile, whose edges need no test of their own.
-fn send_widely(sub: Sub, piece: &Segment, q: i32, zone: Zone, tile: &mut Tile, own: &mut Parcel)
+/// The same for a piece whose cell lies in any region: its flux is computed once for all parcels.
+fn send_widely(sub: Sub, piece: &Segment, q: i32, region: Region, tile: &mut Tile, own: &mut Parcel)
     requires inside { IsInCell sub piece.now }
     requires charge { IsAtMost q most_charge }
-    requires open { IsOpenTo most_sent (spot zone.low) (triple zone.size) tile.old }
-    requires room { HasLayers most_sent (spot zone.low) (triple zone.size) here own.old }
+    requires region { LiesIn region own.old.flux.low own.old.flux.size piece.now.cell }
+    requires open { IsOpenTo most_sent own.old.flux.low own.old.flux.size tile.old }
+    requires room { AllAtMost most_sent own.old.flux }
     ensures own { Gained (flux sub q piece.now) own.old own.new }
     ensures others { Gains (flux sub q piece.now) tile.old tile.new }
 {
     let flux = CellFlux::of(sub, piece, q);
-    match side_of(zone, piece.cell) {
-        Some(axis) => {
-            flux.add_near(axis, &mut own.flux);
-            add_beyond(&flux, axis, tile);
-        }
-        None => {
-            let reach = Reach::of(zone, piece.cell);
-            flux.add_to(&mut own.flux);
-            spread(&flux, &reach, tile);
-        }
-    }
+    add_at(&flux, region, piece.cell, tile, own);
 }
 
 /// The same for the pieces of a path that crosses faces of cells, one after the other.

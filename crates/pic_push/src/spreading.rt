@@ -1,19 +1,22 @@
 //! The flux of a piece of a path, spread over the parcels of a tile.
 
 ghost use Rattle.std.specs.Prelude.{◌≡◌, ℕ, ◌<◌, ◌^◌, false};
-ghost use Rattle.pic_grid.specs.Block.{AllAtMost};
-ghost use Rattle.pic_flux.specs.CellFlux.{edge_flux, flux_cell, IsModest, AreLayers, far_layers};
+ghost use Rattle.pic_num.specs.Space.{spot};
+ghost use Rattle.pic_grid.specs.Block.{IsShaped, AllAtMost};
+ghost use Rattle.pic_flux.specs.Adds.{Adds};
+ghost use Rattle.pic_flux.specs.CellFlux.{edge_flux, flux_cell, IsModest};
 ghost use Rattle.pic_tile.specs.declared.parcel.Parcel.{Parcel};
 ghost use Rattle.pic_tile.specs.Directions.{directions, here};
 ghost use Rattle.pic_tile.specs.Tile.{parcel_at};
-ghost use Rattle.pic_push.specs.Gains.{GainsAt, Gains, IsClear};
+ghost use Rattle.pic_push.specs.Gains.{Gained, GainsAt, Gains, IsClear};
+ghost use Rattle.pic_push.specs.Region.{IsUp, AreUps, IsLastOn, LiesIn, CanGain, CanTake};
 ghost use Rattle.pic_push.specs.Reach.{IsReach, reaches};
-ghost use Rattle.pic_push.specs.Sides.{number_up};
 
 use crate::reach::Reach;
+use crate::region::{HERE, Region, UP_X, UP_XY, UP_XZ, UP_Y, UP_YZ, UP_Z, layers_at};
 use pic_flux::CellFlux;
-use pic_num::Axis;
-use pic_tile::{Dir, Tile};
+use pic_grid::Block;
+use pic_tile::{Dir, Parcel, Tile};
 
 /// Adds the flux of a piece to a tile's parcel of a direction, if it is there.
 fn add_to(flux: &CellFlux, dir: Dir, tile: &mut Tile)
@@ -24,29 +27,65 @@ fn add_to(flux: &CellFlux, dir: Dir, tile: &mut Tile)
     tile.change_flux(dir, |to| flux.add_to(to));
 }
 
-/// The direction of a step up on an axis.
-fn dir_up(axis: Axis) -> Dir
-    ensures { result ≡ number_up axis }
+/// Adds it to the block of the direction `UP`, for a cell that is in the tile's last layer on the
+/// axes on which `LAST` steps up. The numbers are no arguments, so that each pair of them has
+/// straight code of its own.
+#[inline(always)]
+fn add_layers<const LAST: u32, const UP: u32>(flux: &CellFlux, to: &mut Block)
+    requires { CanGain LAST UP flux.now to.old }
+    ensures shape { IsShaped to.old to.new }
+    ensures values { Adds to.old to.new (edge_flux flux.now) }
 {
-    match axis {
-        Axis::X => Dir::of(14),
-        Axis::Y => Dir::of(16),
-        Axis::Z => Dir::of(22),
-    }
+    flux.add_to_layers(&layers_at(Dir::of(LAST), Dir::of(UP)), to);
 }
 
-/// Adds it to the parcel of a step up on an axis, if it is there: it has every layer of the piece's
-/// cell but the cell's own on that axis.
+/// The same for the tile's parcel of that direction, if it is there.
 #[inline(always)]
-pub(crate) fn add_beyond(flux: &CellFlux, axis: Axis, tile: &mut Tile)
-    requires modest { IsModest flux.now }
-    requires room { (p : Parcel) → parcel_at tile.old (number_up axis) ≡ Some p
-        → AllAtMost (2 ^ 100) p.flux }
-    requires far { (p : Parcel) → parcel_at tile.old (number_up axis) ≡ Some p
-        → AreLayers p.flux.low p.flux.size (flux_cell flux.now) (far_layers axis) }
-    ensures { GainsAt (edge_flux flux.now) (number_up axis) tile.old tile.new }
+fn add_up<const LAST: u32, const UP: u32>(flux: &CellFlux, tile: &mut Tile)
+    requires up { UP < directions }
+    requires can { (p : Parcel) → parcel_at tile.old UP ≡ Some p → CanGain LAST UP flux.now p.flux }
+    ensures { GainsAt (edge_flux flux.now) UP tile.old tile.new }
 {
-    tile.change_flux(dir_up(axis), |to| flux.add_far(axis, to));
+    let add = |to: &mut Block|
+        requires { CanGain LAST UP flux.now to.old }
+        ensures shape { IsShaped to.old to.new }
+        ensures values { Adds to.old to.new (edge_flux flux.entry.now) }
+    { add_layers::<LAST, UP>(flux, to) };
+    tile.change_flux(Dir::of(UP), add);
+}
+
+/// Adds it to all parcels of a tile, of which that of no step is held apart, for a cell at a face:
+/// `UP` steps over it.
+#[inline(always)]
+fn add_at_face<const UP: u32>(flux: &CellFlux, tile: &mut Tile, own: &mut Parcel)
+    requires up { IsUp UP }
+    requires can { CanTake flux.now own.old tile.old }
+    requires face { IsLastOn UP own.old.flux.low own.old.flux.size (flux_cell flux.now) }
+    ensures own { Gained (edge_flux flux.now) own.old own.new }
+    ensures others { Gains (edge_flux flux.now) tile.old tile.new }
+{
+    add_layers::<UP, HERE>(flux, &mut own.flux);
+    add_up::<UP, UP>(flux, tile);
+}
+
+/// The same for a cell at an edge: `SECOND` and `THIRD` step over its two faces, and `FAR` over
+/// both.
+#[inline(always)]
+fn add_at_edge<const SECOND: u32, const THIRD: u32, const FAR: u32>(
+    flux: &CellFlux,
+    tile: &mut Tile,
+    own: &mut Parcel,
+)
+    requires ups { AreUps SECOND THIRD FAR }
+    requires can { CanTake flux.now own.old tile.old }
+    requires edge { IsLastOn FAR own.old.flux.low own.old.flux.size (flux_cell flux.now) }
+    ensures own { Gained (edge_flux flux.now) own.old own.new }
+    ensures others { Gains (edge_flux flux.now) tile.old tile.new }
+{
+    add_layers::<FAR, HERE>(flux, &mut own.flux);
+    add_up::<FAR, SECOND>(flux, tile);
+    add_up::<FAR, THIRD>(flux, tile);
+    add_up::<FAR, FAR>(flux, tile);
 }
 
 /// Adds it to the parcel of a direction, unless that is the one of no step, which is held apart.
@@ -75,9 +114,40 @@ pub(crate) fn spread(flux: &CellFlux, reach: &Reach, tile: &mut Tile)
         → parcel_at tile.old d ≡ Some p → IsClear (edge_flux flux.now) p.flux }
     ensures { Gains (edge_flux flux.now) tile.old tile.new }
 {
-    let mut at = reach.first();
-    while at.z <= reach.z.last {
+    let mut next = Some(reach.first());
+    while let Some(at) = next {
         add_outside(flux, at.number(), tile);
-        at = reach.after(&at);
+        next = reach.after(&at);
+    }
+}
+
+/// Adds it to all parcels of a tile, of which that of no step is held apart, by the region of its
+/// cell there: each face and each edge has straight code of its own.
+#[inline(always)]
+pub(crate) fn add_at(
+    flux: &CellFlux,
+    region: Region,
+    cell: [i32; 3],
+    tile: &mut Tile,
+    own: &mut Parcel,
+)
+    requires can { CanTake flux.now own.old tile.old }
+    requires cell { flux_cell flux.now ≡ spot cell }
+    requires region { LiesIn region own.old.flux.low own.old.flux.size (flux_cell flux.now) }
+    ensures own { Gained (edge_flux flux.now) own.old own.new }
+    ensures others { Gains (edge_flux flux.now) tile.old tile.new }
+{
+    match region {
+        Region::FaceX => add_at_face::<UP_X>(flux, tile, own),
+        Region::FaceY => add_at_face::<UP_Y>(flux, tile, own),
+        Region::FaceZ => add_at_face::<UP_Z>(flux, tile, own),
+        Region::EdgeX => add_at_edge::<UP_Y, UP_Z, UP_YZ>(flux, tile, own),
+        Region::EdgeY => add_at_edge::<UP_Z, UP_X, UP_XZ>(flux, tile, own),
+        Region::EdgeZ => add_at_edge::<UP_X, UP_Y, UP_XY>(flux, tile, own),
+        Region::Inside | Region::Elsewhere => {
+            let reach = Reach::of(own.flux.zone(), cell);
+            flux.add_to(&mut own.flux);
+            spread(flux, &reach, tile);
+        }
     }
 }

@@ -1,25 +1,15 @@
-use Rattle.std.proofs.Common.{◌≡◌, ◌/◌, ◌%◌, arith}
-use Rattle.pic_push.specs.Reach.{number_of}
-use Rattle.pic_push.proofs.UnreachedLaws.{none_in_row, none_in_layer}
+use Rattle.std.proofs.Common.{arith}
+use Rattle.pic_push.proofs.UnreachedLaws.{none_in_row, none_in_layer, none_after}
 use Rattle.pic_push.proofs.reach.Reach.after.Goals as goal
 
-pub returns-then-at-self-2-clause-skipped : goal.returns-then-at-self-2-clause-skipped
-returns-then-at-self-2-clause-skipped c =
-    let t = c.args.at.now in
-    let n = number_of t in
-    let s = c.requires.steps in
-    let x : n % 3 ≡ t.x = omega (arith, s.x, s.y) in
-    let y : n / 3 % 3 ≡ t.y = omega (arith, s.x, s.y) in
-    let z : n / 9 ≡ t.z = omega (arith, s.x, s.y) in
-    λ d more below. none_in_row c.args.self.now n d (omega (arith, x, c.if-at-self.false)) more (omega (arith, below, y, z))
+pub returns-then-y-self-clause-skipped : goal.returns-then-y-self-clause-skipped
+returns-then-y-self-clause-skipped c = λ d. none_in_row c.args.self.now c.args.at.now d c.requires.steps (omega (arith, c.if-x-self.false))
+
+pub returns-then-z-self-clause-skipped : goal.returns-then-z-self-clause-skipped
+returns-then-z-self-clause-skipped c = λ d.
+    none_in_layer c.args.self.now c.args.at.now d c.requires.steps (omega (arith, c.if-x-self.false)) (omega (arith, c.if-y-self.false))
 
 pub returns-clause-skipped : goal.returns-clause-skipped
-returns-clause-skipped c =
-    let t = c.args.at.now in
-    let n = number_of t in
-    let s = c.requires.steps in
-    let x : n % 3 ≡ t.x = omega (arith, s.x, s.y) in
-    let y : n / 3 % 3 ≡ t.y = omega (arith, s.x, s.y) in
-    let z : n / 9 ≡ t.z = omega (arith, s.x, s.y) in
-    λ d more below.
-    none_in_layer c.args.self.now n d (omega (arith, x, c.if-at-self.false)) (omega (arith, y, c.if-at-self-2.false)) more (omega (arith, below, z))
+returns-clause-skipped c = λ d more none.
+    none_after c.args.self.now c.args.at.now d c.requires.steps (omega (arith, c.if-x-self.false)) (omega (arith, c.if-y-self.false))
+    (omega (arith, c.if-z-self.false)) more

@@ -11,7 +11,7 @@ use Rattle.pic_flux.specs.CellFlux.{at_four}
 use Rattle.pic_flux.specs.Corners.{both}
 use Rattle.pic_flux.proofs.AddsLaws.{adds_twice, adds_grow}
 use Rattle.pic_flux.proofs.EdgeLaws.{corners_most}
-use Rattle.pic_flux.proofs.cell_flux.CellFlux.add_by.Goals as goal
+use Rattle.pic_flux.proofs.cell_flux.CellFlux.add_to_layers.Goals as goal
 
 -- how far values may grow by those of four edges
 grown : (old now : BlockValues) (axis : Axis) (cell : Spot) (f : Four) (n : ℕ) → AreSmall f → IsShaped old now → Adds old now (at_four axis cell f)
