@@ -1,0 +1,3 @@
+pub mod SpeciesOfIdentity
+pub mod ParticlesOfSpecies
+pub mod LeastStrong
