@@ -1,0 +1,16 @@
+pub mod Listed
+pub mod ScaledSizes
+pub mod StateFits
+pub mod GoodFrames
+pub mod DueRuns
+pub mod TurnsLaws
+pub mod RunLaws
+pub mod FieldStops
+pub mod CurrentSizes
+pub mod PushSizes
+pub mod PushStops
+pub mod StepStops
+pub mod DrawnSizes
+pub mod LoadedLaws
+pub mod StartLaws
+pub mod RunsAreVerified

@@ -1,0 +1,64 @@
+-- A run of a deck that its type keeps begins in a good state, and its header is one that its type keeps.
+use Rattle.std.proofs.Common.{◌≡◌, List, [], ◌∷◌, map, Option, Some, None, Ok, refl, sym, ap, ◌∙◌}
+use Rattle.std.proofs.lemmas.List.Elements.{All-map}
+use Rattle.std.proofs.lemmas.List.Sums.{sum-map}
+use Rattle.pic_charge.specs.declared.breaks.Break.{Break}
+use Rattle.pic_grid.specs.Species.{HeadView}
+use Rattle.pic_grid.proofs.LatticeLaws.{length-values_of}
+use Rattle.pic_deck.specs.declared.species.Species.{Species}
+use Rattle.pic_deck.specs.Deck.{DeckView, heads_of, initial_e, initial_b}
+use Rattle.pic_deck.specs.Species.{head_of}
+use Rattle.pic_deck.proofs.HeadLaws.{particles_of-heads}
+use Rattle.pic_dump.specs.Header.{IsHeader, HasMultipliers}
+use Rattle.pic_load.specs.Loading.{loaded}
+use Rattle.pic_reader.specs.Layout.{layout_of}
+use Rattle.pic_run.specs.Outcome.{unless_broken, tested}
+use Rattle.pic_run.specs.Starting.{first_state, break_of, header_of}
+use Rattle.pic_run.proofs.StartLaws.{sound_start}
+use Rattle.pic_run_laws.specs.KeptDecks.{IsKeptDeck}
+use Rattle.pic_run_laws.proofs.StateFits.{IsGoodState}
+use Rattle.pic_run_laws.proofs.LoadedLaws.{are_loaded, are_listed}
+
+-- the header
+pub header_kept : (d : DeckView) → IsKeptDeck d → IsHeader (header_of d)
+header_kept d kept =
+    let settings = kept.limits.settings in
+    record {
+      limits = record {
+        grid = record { x = settings.few.x; y = settings.few.y; z = settings.few.z; same_side = settings.side };
+        steps_most = settings.steps;
+        every_least = settings.every_low;
+        every_most = settings.every_high;
+        heads = kept.limits.heads;
+      };
+      cells = settings.cells;
+      scales = kept.scales;
+      kinds = All-map (λ (h : HeadView). HasMultipliers h.kind) head_of d.species kept.kinds;
+    }
+
+-- the kinds of its layout
+same_kinds : (ss : List Species) → map (λ (s : Species). s.kind) ss ≡ map (λ (h : HeadView). h.kind) (map head_of ss)
+same_kinds [] = refl
+same_kinds (s ∷ ss) = ap (λ ks. s.kind ∷ ks) (same_kinds ss)
+
+no_break : (d : DeckView) (o : Option Break) → unless_broken d o ≡ Ok d → o ≡ None
+no_break d None is = refl
+no_break d (Some b) is = absurd cc
+
+-- the first state
+pub start_good : (d : DeckView) → IsKeptDeck d → tested d ≡ Ok d → IsGoodState (layout_of (header_of d)) (first_state d)
+start_good d kept passes =
+    let are = are_loaded d kept in
+    record {
+      sound = sound_start d (loaded d) kept.limits are (no_break d (break_of (first_state d)) passes);
+      of = record {
+        side = refl;
+        cells = refl;
+        scales = refl;
+        kinds = same_kinds d.species;
+        e_count = length-values_of d.cells (initial_e d);
+        b_count = length-values_of d.cells (initial_b d);
+        count = are.count ∙ sym (sum-map (λ (h : HeadView). h.count) (heads_of d) ∙ particles_of-heads d.species);
+        listed = are_listed d kept;
+      };
+    }

@@ -1,0 +1,83 @@
+-- What the states of a run have in common with the layout of its dump: the first has it, and each step
+-- keeps it.
+use Rattle.std.proofs.Common.{◌≡◌, ℕ, zero, suc, ◌*◌, List, length, sum, All, Result, Ok, Err, refl, ◌∙◌, subst}
+use Rattle.pic_num.specs.declared.motion.Particle.{Particle}
+use Rattle.pic_num.specs.Push.{Shift, Halting}
+use Rattle.pic_num.specs.Space.{Triple}
+use Rattle.pic_grid.specs.declared.stop.EndMark.{EndMark}
+use Rattle.pic_grid.specs.declared.stop.Stop.{Stop}
+use Rattle.pic_grid.specs.Cells.{count_of}
+use Rattle.pic_grid.specs.PushPhase.{push_of, after_push, moved}
+use Rattle.pic_grid.proofs.LatticeLaws.{length-values_of}
+use Rattle.pic_push.proofs.PushLaws.{unless_ok, length-moved_all, all_kept}
+use Rattle.pic_reader.specs.Layout.{LayoutView}
+use Rattle.pic_step.specs.SerialStep.{World, around, half_at, full_at, half_on, push_on, current_of, before_electric, next_world, stop_of_step, stepped}
+use Rattle.pic_step.specs.SerialRun.{after, step_from, stopped_in}
+use Rattle.pic_step.specs.Sound.{IsSound}
+use Rattle.pic_step.proofs.SoundLaws.{step_sound}
+use Rattle.pic_verify.specs.Readable.{IsReadableStop}
+use Rattle.pic_run_laws.proofs.Listed.{IsListed}
+
+-- a state of a dump: the numbers that its header says, as many values and particles, and such particles
+pub record IsOfLayout (l : LayoutView) (w : World) : Type 0 where
+  pub side : w.side ≡ l.side
+  pub cells : w.cells ≡ l.cells
+  pub scales : w.scales ≡ l.scales
+  pub kinds : w.kinds ≡ l.kinds
+  pub e_count : length w.e.values ≡ 3 * count_of w.cells
+  pub b_count : length w.b.values ≡ 3 * count_of w.cells
+  pub count : length w.particles ≡ sum l.counts
+  pub listed : All (IsListed l.counts) w.particles
+
+-- a sound state of a dump
+pub record IsGoodState (l : LayoutView) (w : World) : Type 0 where
+  pub sound : IsSound w
+  pub of : IsOfLayout l w
+
+-- what stops a step of such a state is a stop that its dump can say
+abbrev pub StopsFit : LayoutView → Type 0
+StopsFit l = (w : World) (stop : Stop) → IsGoodState l w → stepped w ≡ Err stop → IsReadableStop l stop
+
+-- a push leaves three numbers each, and the identity and the species as they were
+listed_after : (counts : List ℕ) (side : ℕ) (n : Triple) (particle : Particle) (r : Result Shift Halting) → IsListed counts particle
+    → IsListed counts (after_push side n particle r)
+unfolding after_push moved
+listed_after counts side n particle (Ok s) is = record { axes = refl; speeds = refl; species = is.species }
+listed_after counts side n particle (Err h) is = is
+
+-- so a step keeps all
+next_of_layout : (l : LayoutView) (w : World) → IsOfLayout l w → IsOfLayout l (next_world w)
+unfolding next_world
+next_of_layout l w of =
+    let h = half_on w in
+    record {
+      side = of.side;
+      cells = of.cells;
+      scales = of.scales;
+      kinds = of.kinds;
+      e_count = length-values_of w.cells (full_at (current_of h) (before_electric w));
+      b_count = length-values_of w.cells (half_at (push_on h));
+      count = length-moved_all (around h) w.particles ∙ of.count;
+      listed = all_kept (around h) (IsListed l.counts) w.particles
+          (λ particle is. listed_after l.counts w.side w.cells particle (push_of (around h) particle) is) of.listed;
+    }
+
+next_good : (l : LayoutView) (w v : World) → IsGoodState l w → stepped w ≡ Ok v → IsGoodState l v
+unfolding stepped
+next_good l w v good steps =
+    let is = unless_ok (stop_of_step w) (next_world w) v steps in
+    subst (IsGoodState l) is.1 (record { sound = step_sound w good.sound is.0; of = next_of_layout l w good.of })
+
+-- every state of a run that begins in such a state is one
+pub good_after : (l : LayoutView) (w : World) → IsGoodState l w → (n : ℕ) (v : World) → after w n ≡ Ok v → IsGoodState l v
+unfolding after
+good_after l w good zero v reached = let same : w ≡ v = cc in subst (IsGoodState l) same good
+good_after l w good (suc n) v reached = go (after w n) (λ u is. good_after l w good n u is) reached
+  where
+    last : (u : World) → IsGoodState l u → (r : Result World Stop) → stepped u ≡ r → stopped_in (suc n) r ≡ Ok v → IsGoodState l v
+    last u good' (Ok next) is e = let same : next ≡ v = cc in subst (IsGoodState l) same (next_good l u next good' is)
+    last u good' (Err stop) is e = cc
+
+    go : (r : Result World EndMark) → ((u : World) → r ≡ Ok u → IsGoodState l u) → step_from (suc n) r ≡ Ok v → IsGoodState l v
+    go (Ok u) before e = last u (before u refl) (stepped u) refl e
+    go (Err end) before e = cc

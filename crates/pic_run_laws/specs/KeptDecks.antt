@@ -1,0 +1,27 @@
+-- What the type of a deck keeps.
+use Rattle.std.specs.Prelude.{◌≡◌, length, All, ⊤}
+use Rattle.pic_dump.specs.Header.{AreMultipliers, HasMultipliers}
+use Rattle.pic_deck.specs.declared.species.Fill.{Fill}
+use Rattle.pic_deck.specs.declared.species.Fill.TheVariants.{Points, Lattice, Random, Pair}
+use Rattle.pic_deck.specs.Deck.{DeckView, IsWithinLimits}
+use Rattle.pic_deck.specs.Species.{Point6}
+
+-- a particle of a deck: its position and its velocity have three numbers each
+pub record IsSixfold (point : Point6) : Type 0 where
+  pub place : length point.x ≡ 3
+  pub speed : length point.v ≡ 3
+
+-- what fills a species says its particles' numbers by threes
+abbrev pub IsByThrees : Fill → Type 0
+IsByThrees (Points points) = All IsSixfold points
+IsByThrees (Lattice first gap count v) = length v ≡ 3
+IsByThrees (Random count seed stream drift spread) = ⊤
+IsByThrees (Pair named seed stream drift spread) = ⊤
+
+-- a deck as its type keeps it: all that it says is within its limits, each multiplier too, and its
+-- particles' numbers are said by threes
+pub record IsKeptDeck (d : DeckView) : Type 0 where
+  pub limits : IsWithinLimits d
+  pub scales : AreMultipliers d.scales
+  pub kinds : All (λ s. HasMultipliers s.kind) d.species
+  pub fills : All (λ s. IsByThrees s.fill) d.species

@@ -1,0 +1,2 @@
+pub mod KeptDecks
+pub mod RunsAreVerified

@@ -1,0 +1,43 @@
+-- What `run` writes of a deck `verify` finds good.
+use Rattle.std.specs.Prelude.{◌≡◌, ℕ, List, length, ⊤, Option, Some, Ok}
+use Rattle.pic_deck.specs.Deck.{DeckView}
+use Rattle.pic_line.specs.declared.asked.Command.TheVariants.{Run, Verify}
+use Rattle.pic_line.specs.CommandLine.{command_of}
+use Rattle.pic_run.specs.declared.ended.Ended.{Ended}
+use Rattle.pic_run.specs.declared.ended.Ended.TheVariants.{Done, Checked, Verified, Stopped, Usage, Refused, Gauss, ReadFault, WriteFault, NoMemory, BadDump, Broken}
+use Rattle.pic_run.specs.Outcome.{out_text, accepted, tested, run_outcome, outcome}
+use Rattle.pic_verify.specs.Verified.{verified}
+use Rattle.pic_run_laws.specs.KeptDecks.{IsKeptDeck}
+
+-- the dump of a deck's run is verified, with the number of its frames
+abbrev pub RunsAreVerified : Type 0
+RunsAreVerified =
+    (d : DeckView) → IsKeptDeck d → tested d ≡ Ok d
+    → verified (out_text (run_outcome d)) ≡ Ok (length (run_outcome d).frames)
+
+-- the answer of a run that came to its last step, or stopped in one
+abbrev pub IsOfRun : Ended → Type 0
+IsOfRun (Done steps) = ⊤
+IsOfRun (Stopped step stop) = ⊤
+IsOfRun (Checked particles) = ⊥
+IsOfRun (Verified frames) = ⊥
+IsOfRun Usage = ⊥
+IsOfRun (Refused refusal) = ⊥
+IsOfRun (Gauss at) = ⊥
+IsOfRun ReadFault = ⊥
+IsOfRun (WriteFault side) = ⊥
+IsOfRun NoMemory = ⊥
+IsOfRun (BadDump place cause) = ⊥
+IsOfRun (Broken frame at) = ⊥
+
+-- where the command `run` ends so, over a source whose deck is one that its type keeps, the command
+-- `verify` answers the number of frames over a source that holds what `run` put on out
+abbrev pub RunsAreFoundGood : Type 0
+RunsAreFoundGood =
+    (run_words verify_words : List (List ℕ)) (workers : ℕ) (input : Option (List ℕ))
+    → command_of run_words ≡ Some (Run workers)
+    → command_of verify_words ≡ Some Verify
+    → ((d : DeckView) → accepted input ≡ Ok d → IsKeptDeck d)
+    → IsOfRun (outcome run_words input).answer
+    → (outcome verify_words (Some (out_text (outcome run_words input)))).answer
+    ≡ Verified (length (outcome run_words input).frames)

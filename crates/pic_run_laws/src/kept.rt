@@ -1,0 +1,102 @@
+//! What the type of a deck keeps, as facts. None of these functions changes anything.
+
+ghost use Rattle.std.specs.Prelude.{◌≡◌, Ok, All, length, OnOk};
+ghost use Rattle.pic_num.specs.Multiplier.{IsMultiplier};
+ghost use Rattle.pic_deck.specs.Deck.{DeckView};
+ghost use Rattle.pic_deck.specs.Reading.{walk};
+ghost use Rattle.pic_dump.specs.Header.{AreMultipliers, HasMultipliers};
+ghost use Rattle.pic_run_laws.specs.KeptDecks.{IsSixfold, IsByThrees, IsKeptDeck};
+
+use pic_deck::{Deck, DeckFault, Fill, Point6, Species, read_deck};
+use pic_num::{Kind, Mult, NoMemory, Scales};
+use std::alloc::Global;
+
+/// Every deck is one as its type keeps it: it meets the condition of the laws of runs.
+pub fn keep_deck(deck: &Deck)
+    ensures { IsKeptDeck deck.now }
+{
+    keep_scales(deck.scales());
+    keep_kinds(deck.species());
+    keep_fills(deck.species());
+}
+
+/// The deck that some bytes are, where they are one, is as its type keeps it; or memory is wanting.
+pub fn keep_read(alloc: Global, bytes: &[u8]) -> Result<(), NoMemory>
+    ensures { OnOk result ((d : DeckView) → walk bytes.now ≡ Ok d → IsKeptDeck d) }
+{
+    match read_deck(alloc, bytes) {
+        Ok(deck) => {
+            keep_deck(&deck);
+            Ok(())
+        }
+        Err(DeckFault::Refused(_)) => Ok(()),
+        Err(DeckFault::NoMemory) => Err(NoMemory),
+    }
+}
+
+fn keep_mult(by: Mult)
+    ensures { IsMultiplier by }
+{
+    let _numbers = (by.n(), by.k());
+}
+
+fn keep_scales(scales: Scales)
+    ensures { AreMultipliers scales }
+{
+    keep_mult(scales.e_to_b);
+    keep_mult(scales.b_to_e);
+    keep_mult(scales.e_force);
+    keep_mult(scales.b_force);
+}
+
+fn keep_kind(kind: Kind)
+    ensures { HasMultipliers kind }
+{
+    keep_mult(kind.kick);
+    keep_mult(kind.turn);
+}
+
+fn keep_kinds(species: &[Species])
+    ensures { All (λ s. HasMultipliers s.kind) species.now }
+{
+    for one in species {
+        keep_kind(one.kind);
+    }
+}
+
+fn keep_point(point: Point6)
+    ensures { IsSixfold point }
+{
+    let _place = point.x;
+    let _speed = point.v;
+}
+
+fn keep_points(points: &[Point6])
+    ensures { All IsSixfold points.now }
+{
+    for point in points {
+        keep_point(*point);
+    }
+}
+
+fn keep_velocity(v: [i32; 3])
+    ensures { length v ≡ 3 }
+{}
+
+fn keep_fill(fill: &Fill)
+    ensures { IsByThrees fill.now }
+{
+    match fill {
+        Fill::Points(points) => keep_points(points.as_slice()),
+        Fill::Lattice { v, .. } => keep_velocity(*v),
+        Fill::Random { .. } | Fill::Pair { .. } => (),
+    }
+}
+
+fn keep_fills(species: &[Species])
+    ensures { All (λ s. IsByThrees s.fill) species.now }
+{
+    for one in species {
+        keep_fill(&one.fill);
+    }
+}
