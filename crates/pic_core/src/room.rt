@@ -4,7 +4,7 @@ ghost use Rattle.std.specs.Prelude.{◌≡◌, IfOk, length, replicate, None, fa
 ghost use Rattle.pic_core.specs.Opened.{AreBare, IsRoom};
 
 use pic_num::NoMemory;
-use pic_tile::{Parcel, Tile, TileMap};
+use pic_tile::{ParcelBox, Tile, TileMap};
 use std::alloc::Global;
 
 /// The room that a push of all tiles of a map needs beside them: for each a bare tile that receives
@@ -13,7 +13,7 @@ use std::alloc::Global;
 #[derive(Drop)]
 pub struct Room {
     pub bare: Vec<Tile>,
-    pub(crate) mail: Vec<Option<Parcel>>,
+    pub(crate) mail: Vec<Option<ParcelBox>>,
     pub(crate) claimed: Vec<bool>,
     pub(crate) posted: Vec<bool>,
     pub(crate) merged: Vec<bool>,
@@ -48,7 +48,7 @@ impl Room {
 }
 
 /// As many places for parcels, all of them empty.
-fn no_parcels(alloc: Global, count: usize) -> Result<Vec<Option<Parcel>>, NoMemory>
+fn no_parcels(alloc: Global, count: usize) -> Result<Vec<Option<ParcelBox>>, NoMemory>
     ensures { IfOk result (λ v. v.items ≡ replicate count None) }
 {
     let mut places = Vec::new(alloc);

@@ -3,7 +3,7 @@
 ghost use Rattle.std.specs.Prelude.{◌≡◌};
 ghost use Rattle.pic_tile.specs.CoreState.{HasCensus, Stands, count_in};
 
-use pic_tile::{Frame, Parcel, Tile};
+use pic_tile::{Frame, ParcelBox, Tile};
 use std::marker::Model;
 use std::snapshot::Snapshot;
 
@@ -14,7 +14,7 @@ pub struct Core {
     pub(crate) frame: Frame,
     pub(crate) opening: Snapshot<Vec<Tile>>,
     pub(crate) tiles: Vec<Tile>,
-    pub(crate) mail: Vec<Option<Parcel>>,
+    pub(crate) mail: Vec<Option<ParcelBox>>,
     pub(crate) received: Vec<Tile>,
     pub(crate) claimed: Vec<bool>,
     pub(crate) posted: Vec<bool>,

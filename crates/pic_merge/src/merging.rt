@@ -18,13 +18,13 @@ ghost use Rattle.pic_tile.specs.Zones.{IsTileZone};
 
 use pic_chain::Chain;
 use pic_grid::{Block, Zone};
-use pic_tile::{Dir, Parcel, Tile, layers_begin, layers_zone};
+use pic_tile::{Dir, Parcel, ParcelBox, Tile, layers_begin, layers_zone};
 
 /// Merges a parcel into the tile that it goes to. That of no step is the first, and is put in its
 /// place. Of any other the flux is added to that of no step and the particles join its particles; it
 /// stays as the tile's parcel of its direction, without particles, and with no flux over this tile's
 /// layers. The values of both blocks are at most 2^120 in size. No memory is taken.
-pub fn merge(tile: &mut Tile, parcel: Parcel)
+pub fn merge(tile: &mut Tile, parcel: ParcelBox)
     requires free { parcel_at tile.old parcel.dir ≡ None }
     requires order { (parcel.dir ≡ here) ⊎ IsSome (parcel_at tile.old here) }
     requires zone { (parcel.dir ≡ here → ⊥)
@@ -39,20 +39,11 @@ pub fn merge(tile: &mut Tile, parcel: Parcel)
         tile.put_parcel(parcel);
         return;
     }
-    let Parcel {
-        dir,
-        mut chain,
-        mut flux,
-        stop,
-    } = parcel;
-    let zone = pour(tile, dir, &mut chain, &flux);
-    flux.clear_at(layers_zone(zone, dir).low);
-    tile.put_parcel(Parcel {
-        dir,
-        chain,
-        flux,
-        stop,
-    });
+    let mut parcel = parcel;
+    let zone = pour(tile, &mut parcel);
+    let low = layers_zone(zone, parcel.dir).low;
+    parcel.flux.clear_at(low);
+    tile.put_parcel(parcel);
 }
 
 /// Closes a tile into which the parcels of all directions are merged. It stays as it is: ready for
@@ -70,24 +61,25 @@ pub fn shut(tile: &mut Tile)
     let _parcels = tile;
 }
 
-/// Adds the flux that comes in a direction to that of the parcel of no step, whose zone it answers,
-/// and moves the particles into its chain.
-fn pour(tile: &mut Tile, dir: Dir, chain: &mut Chain, flux: &Block) -> Zone
+/// Adds the flux of a parcel that comes in its direction to that of the parcel of no step, whose zone
+/// it answers, and moves the particles into its chain.
+fn pour(tile: &mut Tile, from: &mut Parcel) -> Zone
     requires there { IsSome (parcel_at tile.old here) }
     requires zone { IsTileZone (flux_at tile.old here).low (flux_at tile.old here).size }
-    requires layers { flux.now.size ≡ layers_size (flux_at tile.old here).size dir }
+    requires layers { from.old.flux.size ≡ layers_size (flux_at tile.old here).size from.old.dir }
     requires room { AllAtMost (2 ^ 120) (flux_at tile.old here) }
-    requires small { AllAtMost (2 ^ 120) flux.now }
+    requires small { AllAtMost (2 ^ 120) from.old.flux }
     ensures low { spot result.low ≡ (flux_at tile.old here).low }
     ensures size { triple result.size ≡ (flux_at tile.old here).size }
-    ensures left { chain.new ≡ [] }
-    ensures poured { Poured dir chain.old flux.now tile.old tile.new }
+    ensures left { from.new ≡ record from.old { chain = [] } }
+    ensures poured { Poured from.old.dir from.old.chain from.old.flux tile.old tile.new }
 {
     match tile.take_parcel(Dir::HERE) {
         Some(mut parcel) => {
             let zone = parcel.flux.zone();
-            parcel.flux.add_layers(flux, layers_begin(zone, dir));
-            pour_chain(chain, &mut parcel.chain);
+            let begin = layers_begin(zone, from.dir);
+            parcel.flux.add_layers(&from.flux, begin);
+            pour_chain(&mut from.chain, &mut parcel.chain);
             tile.put_parcel(parcel);
             zone
         }
@@ -140,7 +132,7 @@ mod tests {
     }
 
     // a parcel for the tile of the zone, with one particle and one value of flux
-    fn parcel(alloc: Global, number: u32, value: i128) -> Result<Parcel, NoMemory>
+    fn parcel(alloc: Global, number: u32, value: i128) -> Result<ParcelBox, NoMemory>
         requires { number < directions }
         ensures dir { IfOk result (λ p. p.dir ≡ number) }
         ensures low { IfOk result (λ p. p.flux.low ≡ layers_from (record { x = 2; y = 3; z = 2 })
@@ -161,12 +153,13 @@ mod tests {
                 v: [0; 3],
             },
         )?);
-        Ok(Parcel {
+        let parcel = Parcel {
             dir,
             chain,
             flux,
             stop: None,
-        })
+        };
+        ParcelBox::new(alloc, parcel)
     }
 
     // the tile of the zone after two merges

@@ -1,5 +1,5 @@
 -- Tiles that can be pushed: what a frame and the particles of an opening keep.
-use Rattle.std.proofs.Common.{◌≡◌, ℕ, ◌+◌, ◌<◌, ◌≤◌, Bool, true, false, nat_eq, cond, All, List, [], ◌∷◌, length, filter, get_or, inl, inr, refl, sym, ap, ◌∙◌, subst, arith, eq-eqb, ne_eqb}
+use Rattle.std.proofs.Common.{◌≡◌, ℕ, ◌<◌, ◌≤◌, Bool, true, false, nat_eq, cond, All, List, [], ◌∷◌, length, filter, inl, inr, sym, ap, ◌∙◌, subst, arith, eq-eqb, ne_eqb}
 use Rattle.std.proofs.Math.Decide.{ℕ_discrete}
 use Rattle.std.proofs.lemmas.Bool.{cases_lt}
 use Rattle.std.proofs.lemmas.List.{get_or_past}
@@ -20,7 +20,7 @@ use Rattle.pic_tile.specs.Frame.{FrameValue, felt_in}
 use Rattle.pic_tile.specs.Owners.{tile_of}
 use Rattle.pic_tile.specs.Pushed.{IsOfTile}
 use Rattle.pic_tile.specs.Tile.{TileValue, chain_at, no_tile, tile_in}
-use Rattle.pic_tile.specs.Tiling.{Tiling, grid_of_tiling, cells_of}
+use Rattle.pic_tile.specs.Tiling.{cells_of}
 
 -- the particles of one tile, among all
 owned_all : (f : FrameValue) (t : ℕ) (xs : List Particle) → All (CanShare f.map.side (cells_of f.map) f.kinds) xs

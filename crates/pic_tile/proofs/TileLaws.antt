@@ -1,7 +1,6 @@
 -- Tiles: what stands at a direction after a parcel is put or taken.
-use Rattle.std.proofs.Common.{◌≡◌, ◌<◌, ℕ, List, length, Option, None, Some, slice_index_or, slice_set, inl, inr, arith, sym, ◌∙◌, ap, IfSome, Bor}
+use Rattle.std.proofs.Common.{◌≡◌, ◌<◌, ℕ, List, length, Option, None, Some, slice_index_or, slice_set, inl, inr, arith, sym, ◌∙◌, ap, IfSome}
 use Rattle.std.specs.Prelude.{replicate}
-use Rattle.std.specs.Option.{option_copied}
 use Rattle.std.proofs.lemmas.List.{get_or-replicate, get_or_past, get_or_default, length-replicate, length-set}
 use Rattle.std.proofs.lemmas.Bool.{cases_lt}
 use Rattle.std.proofs.lemmas.Grind.{get_or-set_at}
@@ -20,11 +19,6 @@ pub dir_found : (ps : List (Option Parcel)) (d e : ℕ) (x o : Option Parcel)
     → AreParcels ps → d < length ps → d ≡ e → o ≡ slice_index_or ps d x → IfSome o (λ p. p.dir ≡ e)
 dir_found ps d e x None h l k i = tt
 dir_found ps d e x (Some p) h l k i = h.dirs d p (get_or_default ps d None x l ∙ sym i) ∙ k
-
-pub dir_lent : (ps : List (Option Parcel)) (d e : ℕ) (x : Option Parcel) (o : Option (Bor Parcel))
-    → AreParcels ps → d < length ps → d ≡ e → option_copied o ≡ slice_index_or ps d x → IfSome o (λ p. p.now.dir ≡ e)
-dir_lent ps d e x None h l k i = tt
-dir_lent ps d e x (Some p) h l k i = dir_found ps d e x (Some p.now) h l k i
 
 -- where a parcel is taken none is left
 pub none_left : (t u : TileValue) (d e : ℕ) → u ≡ with_parcel t d None → e ≡ d → parcel_at u e ≡ None

@@ -4,6 +4,7 @@ pub mod Owners
 pub mod Places
 pub mod Layers
 pub mod Tile
+pub mod Lending
 pub mod Leaving
 pub mod Parcels
 pub mod Receiving

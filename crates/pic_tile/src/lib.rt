@@ -17,6 +17,6 @@ pub use frame::Frame;
 pub use kinds::Kinds;
 pub use laws::fresh_tiles_hold_the_list;
 pub use layers::{layers_begin, layers_zone};
-pub use parcel::Parcel;
+pub use parcel::{Parcel, ParcelBox};
 pub use tile::Tile;
 pub use tile_map::TileMap;

@@ -6,7 +6,7 @@ ghost use Rattle.pic_grid.specs.Block.{BlockValues};
 ghost use Rattle.pic_tile.specs.Tile.{parcel_at, with_parcel, with_flux};
 
 use crate::dir::Dir;
-use crate::parcel::Parcel;
+use crate::parcel::{Parcel, ParcelBox};
 use pic_grid::Block;
 use std::marker::Model;
 
@@ -14,7 +14,7 @@ use std::marker::Model;
 #[derive(Drop)]
 pub struct Tile {
     number: u32,
-    parcels: [Option<Parcel>; 27],
+    parcels: [Option<ParcelBox>; 27],
 }
 
 impl Model for Tile {
@@ -63,11 +63,14 @@ impl Tile {
         ensures dir { IfSome result (λ parcel. parcel.now.dir ≡ dir) }
     {
         let at = dir.number() as usize;
-        self.parcels[at].as_ref()
+        match &self.parcels[at] {
+            Some(parcel) => Some(parcel),
+            None => None,
+        }
     }
 
     /// Takes its parcel of a direction, or answers `None` exactly where none is there.
-    pub fn take_parcel(&mut self, dir: Dir) -> Option<Parcel>
+    pub fn take_parcel(&mut self, dir: Dir) -> Option<ParcelBox>
         ensures taken { result ≡ parcel_at self.old dir }
         ensures after { self.new ≡ with_parcel self.old dir None }
         ensures dir { IfSome result (λ parcel. parcel.dir ≡ dir) }
@@ -94,7 +97,7 @@ impl Tile {
     }
 
     /// Puts a parcel in its place, where none of its direction is there.
-    pub fn put_parcel(&mut self, parcel: Parcel)
+    pub fn put_parcel(&mut self, parcel: ParcelBox)
         requires { parcel_at self.old parcel.dir ≡ None }
         ensures after { self.new ≡ with_parcel self.old parcel.dir (Some parcel) }
         ensures stored { parcel_at self.new parcel.dir ≡ Some parcel }
@@ -113,7 +116,7 @@ mod tests {
     use std::alloc::Global;
 
     // a parcel over one cell
-    fn parcel(alloc: Global, dir: Dir) -> Result<Parcel, NoMemory>
+    fn parcel(alloc: Global, dir: Dir) -> Result<ParcelBox, NoMemory>
         ensures { IfOk result (λ p. p.dir ≡ dir) }
     {
         let zone = Zone {
@@ -121,12 +124,13 @@ mod tests {
             size: [1; 3],
         };
         let flux = Block::new(alloc, zone)?;
-        Ok(Parcel {
+        let parcel = Parcel {
             dir,
             chain: Chain::new(),
             flux,
             stop: None,
-        })
+        };
+        ParcelBox::new(alloc, parcel)
     }
 
     #[test]

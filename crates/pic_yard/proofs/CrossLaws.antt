@@ -21,6 +21,7 @@ use Rattle.pic_grid.proofs.stop.Stop.TheSendSync as stop
 use Rattle.pic_tile.proofs.dir.Dir.TheSendSync as dir
 use Rattle.pic_tile.proofs.frame.Frame.TheSendSync as frame
 use Rattle.pic_tile.specs.contracts.parcel.Parcel as parcel
+use Rattle.pic_tile.specs.contracts.parcel.ParcelBox as boxed
 use Rattle.pic_tile.specs.contracts.tile.Tile as tile
 use Rattle.pic_yard.specs.contracts.piece.Berth as berth
 use Rattle.pic_yard.specs.contracts.piece.Piece as piece
@@ -33,8 +34,11 @@ parcel_send = search (sendable, std.crosses, knot.send-Node, block.the_send, sto
 parcel_sync : IsSync (parcel.the_field).row
 parcel_sync = search (sendable, std.crosses, knot.sync-Node, block.the_sync, stop.the_sync, dir.the_sync) depth 30 fits 4000
 
+boxed_send : IsSend (boxed.the_field).row
+boxed_send = search (sendable, std.crosses, parcel_send) depth 30 fits 4000
+
 tile_send : IsSend tile.the_row
-tile_send = search (sendable, std.crosses, parcel_send) depth 30 fits 4000
+tile_send = search (sendable, std.crosses, boxed_send) depth 30 fits 4000
 
 tile_sync : IsSync tile.the_row
 tile_sync = search (sendable, std.crosses, parcel_sync) depth 30 fits 4000
@@ -44,7 +48,7 @@ berth_send = search (sendable, std.crosses, tile_send) depth 30 fits 4000
 
 piece_send : IsSend piece.the_row
 piece_send =
-    let whole : IsSend (Enum (shape_of piece.the_type)) = enum_send (shape_of piece.the_type) ((berth_send, tt), ((parcel_send, tt), tt)) in
+    let whole : IsSend (Enum (shape_of piece.the_type)) = enum_send (shape_of piece.the_type) ((berth_send, tt), ((boxed_send, tt), tt)) in
     recorded_send _ _ _ (piece.the_type).to_one whole
 
 pub yard_sync : IsSync yard.the_row

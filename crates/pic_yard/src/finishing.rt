@@ -17,7 +17,7 @@ use crate::view::View;
 use crate::yard::{Seat, Yard};
 use atomic_table::Play;
 use pic_slots::{bring, exchange};
-use pic_tile::{Dir, Parcel, Tile};
+use pic_tile::{Dir, ParcelBox, Tile};
 
 /// A tile that is given back.
 pub struct GiveBack;
@@ -53,7 +53,7 @@ impl Yard {
     }
 
     /// The parcel of a direction that was posted to the tile of a right and is not yet received.
-    pub fn receive(&self, seat: &mut Seat, right: &mut Right, dir: Dir) -> Parcel
+    pub fn receive(&self, seat: &mut Seat, right: &mut Right, dir: Dir) -> ParcelBox
         requires serves { Serves self.now seat.old }
         requires right { In right.old (view_of seat.old).rights }
         requires waits { MailWaits (opening_of self.now) seat.old right.old dir }

@@ -3,7 +3,7 @@
 ghost use Rattle.std.specs.Prelude.{◌≡◌, Some, IfOk};
 
 use pic_num::NoMemory;
-use pic_tile::{Parcel, Tile};
+use pic_tile::{ParcelBox, Tile};
 use std::alloc::Global;
 use std::marker::Model;
 use std::mem;
@@ -28,7 +28,7 @@ impl Model for Berth {
 #[derive(Drop)]
 pub enum Piece {
     Tile(Berth),
-    Parcel(Parcel),
+    Parcel(ParcelBox),
 }
 
 impl Berth {

@@ -17,7 +17,7 @@ use crate::view::View;
 use crate::yard::{Seat, Yard};
 use atomic_table::Play;
 use pic_slots::{bring, exchange};
-use pic_tile::{Dir, Parcel};
+use pic_tile::{Dir, ParcelBox};
 
 /// The arrival of a parcel.
 pub struct Arrive;
@@ -41,7 +41,7 @@ fn answer(to: u32, arrived: u64) -> Posted
 impl Yard {
     /// Lays a parcel into the mailbox where the seat owes it. That comes first among the seat's
     /// slots, and then, for a parcel of no step, the home slot, which goes home with it.
-    fn load(&self, seat: &mut Seat, to: u32, dir: Dir, parcel: Parcel)
+    fn load(&self, seat: &mut Seat, to: u32, dir: Dir, parcel: ParcelBox)
         requires serves { Serves self.now seat.old }
         requires lists { In (to, dir) (view_of seat.old).owes }
         requires parcel { let o = opening_of self.now in
@@ -54,7 +54,7 @@ impl Yard {
     }
 
     /// Lays a parcel that the seat owes into its mailbox, and counts it.
-    fn send(&self, seat: &mut Seat, to: u32, dir: Dir, parcel: Parcel) -> Posted
+    fn send(&self, seat: &mut Seat, to: u32, dir: Dir, parcel: ParcelBox) -> Posted
         requires serves { Serves self.now seat.old }
         requires lists { In (to, dir) (view_of seat.old).owes }
         requires parcel { let o = opening_of self.now in
