@@ -10,6 +10,8 @@ mod load;
 #[cfg(test)]
 mod reader;
 #[cfg(test)]
+mod texts;
+#[cfg(test)]
 mod trial;
 #[cfg(test)]
 mod verify;
