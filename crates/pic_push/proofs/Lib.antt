@@ -15,3 +15,4 @@ pub mod PushingLaws
 pub mod LeastLaws
 pub mod RegionLaws
 pub mod TakeLaws
+pub mod PieceLaws

@@ -1,9 +1,9 @@
 -- A piece in a region of its tile: which layers of its cell the tile's blocks have, and which
 -- directions it reaches.
-use Rattle.std.proofs.Common.{◌≡◌, ℕ, zero, suc, ◌+◌, ◌*◌, ◌/◌, ◌%◌, ◌<◌, ◌≤◌, Bool, true, false, ◌&&◌, not, ◌||◌, ◌==◌, refl, subst, arith}
+use Rattle.std.proofs.Common.{◌≡◌, ℕ, zero, suc, ◌+◌, ◌*◌, ◌/◌, ◌%◌, ◌<◌, ◌≤◌, ◌⊎◌, inl, inr, Bool, true, false, ◌&&◌, not, ◌||◌, ◌==◌, refl, subst, arith}
 use Rattle.std.proofs.Math.IntN.{ℤ, pos, ◌+ℤ◌}
 use Rattle.std.specs.Prelude.{◌≤ℤ◌, ◌<ℤ◌, ◌↔◌, IsTrue, nat_le}
-use Rattle.std.proofs.lemmas.Bool.{false≢true}
+use Rattle.std.proofs.lemmas.Bool.{false≢true, cases_lt}
 use Rattle.std.proofs.lemmas.Bool.Decides.{nat_tests}
 use Rattle.std.proofs.lemmas.Int.{ints}
 use Rattle.pic_num.specs.Space.{Triple, Spot}
@@ -14,7 +14,7 @@ use Rattle.pic_tile.specs.Layers.{layer_count, layer_low, layers_from, layers_si
 use Rattle.pic_push.specs.declared.reach.Steps.{Steps}
 use Rattle.pic_push.specs.declared.reach.Reach.{Reach}
 use Rattle.pic_push.specs.Reach.{spans, reaches, AreStepsOf, IsReachOf}
-use Rattle.pic_push.specs.Region.{IsInner, IsLevel, IsLastIf, IsLastOn, layers_at}
+use Rattle.pic_push.specs.Region.{IsInner, IsLast, IsLevel, IsLastIf, IsLastOn, layers_at}
 
 -- a test that holds says what holds, and one that fails what doesn't
 is_yes : (low : ℤ) (n : ℕ) (c : ℤ) → IsLayer low n c → IsTrue true ↔ IsLayer low n c
@@ -199,6 +199,45 @@ by_number last low n c x y z to at_x at_y at_z is =
       y = by_level (last / 3 % 3) low.y n.y c.y y to.y at_y (omega (arith, mx, my, mz, ux, ex, uy, ey, uz, ez, is));
       z = by_level (last / 9) low.z n.z c.z z to.z at_z (omega (arith, mx, my, mz, ux, ex, uy, ey, uz, ez, is));
     }
+
+-- the level by two tests of how far a cell lies above the lowest layer
+pub level_by : (low : ℤ) (n : ℕ) (cell above count above' count' : ℤ) (a b : ℕ) → above +ℤ low ≡ cell → count ≡ pos n → above' ≡ above
+    → count' +ℤ pos 1 ≡ count → a ≤ 1 → (a ≡ 0 → (pos 0 ≤ℤ above) × (above <ℤ count)) → (a ≡ 1 → (above <ℤ pos 0) ⊎ (count ≤ℤ above)) → b ≤ 1
+    → (b ≡ 0 → (pos 0 ≤ℤ above') × (above' <ℤ count')) → (b ≡ 1 → (above' <ℤ pos 0) ⊎ (count' ≤ℤ above')) → IsLevel low n cell (a + b)
+level_by low n cell above count above' count' a b at size same less a_most a_none a_one b_most b_none b_one = record {
+  most = omega (arith, a_most, b_most);
+  inner = λ is.
+      let h = b_none (omega (arith, is)) in
+      let h0 = h.0 in
+      let h1 = h.1 in
+      record { least = omega (arith, ints, h0, at, same); most = omega (arith, ints, h1, at, size, same, less) };
+  last = λ is. elim (cases_lt 0 a) [
+    | inl some ↦ absurd (both_not (omega (arith, is, some)) (omega (arith, some, a_most)))
+    | inr none ↦ only_next (omega (arith, none)) (omega (arith, none, is))
+  ];
+}
+  where
+    both_not : b ≡ 0 → a ≡ 1 → ⊥
+    both_not none one =
+        let h0 = (b_none none).0 in
+        let h1 = (b_none none).1 in
+        elim (a_one one) [
+          | inl under ↦ omega (arith, ints, h0, under, same)
+          | inr over ↦ omega (arith, ints, h1, over, same, less)
+        ]
+
+    only_next : a ≡ 0 → b ≡ 1 → IsLast low n cell
+    only_next none one =
+        let h0 = (a_none none).0 in
+        let h1 = (a_none none).1 in
+        record {
+          least = omega (arith, ints, h0, at);
+          below = omega (arith, ints, h1, at, size);
+          end = elim (b_one one) [
+            | inl under ↦ absurd (omega (arith, ints, h0, under, same))
+            | inr over ↦ omega (arith, ints, over, at, size, same, less)
+          ];
+        }
 
 -- levels of numbers as the code holds them
 pub level_is : (low cell low' cell' : ℤ) (n level : ℕ) → low' ≡ low → cell' ≡ cell → IsLevel low' n cell' level → IsLevel low n cell level

@@ -1,6 +1,6 @@
 //! Where a piece of a path lies in its tile, and which layers of its cell the tile's blocks have.
 
-ghost use Rattle.std.specs.Prelude.{◌≡◌};
+ghost use Rattle.std.specs.Prelude.{◌≡◌, ◌⊎◌, pos, ◌≤◌, ◌≤ℤ◌, ◌<ℤ◌};
 ghost use Rattle.pic_num.specs.Space.{triple, spot};
 ghost use Rattle.pic_push.specs.Region.{IsLevel, LiesIn, layers_at};
 
@@ -71,13 +71,18 @@ fn level_on(low: i32, size: u32, cell: i32) -> u32
     ensures { IsLevel low size cell result }
 {
     let above = i64::from(cell) - i64::from(low);
-    if above < 0 {
-        return 2;
-    }
-    if above >= i64::from(size) {
-        return 2;
-    }
-    if above + 1 >= i64::from(size) { 1 } else { 0 }
+    let count = i64::from(size);
+    outside(above, count) + outside(above, count - 1)
+}
+
+/// 0 for one of the first `count` numbers from 0 on, and 1 for any other.
+#[inline(always)]
+fn outside(number: i64, count: i64) -> u32
+    ensures most { result ≤ 1 }
+    ensures none { result ≡ 0 → (pos 0 ≤ℤ number) × (number <ℤ count) }
+    ensures one { result ≡ 1 → (number <ℤ pos 0) ⊎ (count ≤ℤ number) }
+{
+    u32::from((number < 0) | (number >= count))
 }
 
 /// Which layers the block of a direction has of a cell, where on each axis the direction steps up

@@ -16,13 +16,13 @@ ghost use Rattle.pic_tile.specs.Frame.{felt_in};
 ghost use Rattle.pic_tile.specs.Tiling.{cells_of};
 ghost use Rattle.pic_push.specs.Gains.{Gained, Gains};
 ghost use Rattle.pic_push.specs.Paths.{IsPath, IsPathOf, flux_along};
-ghost use Rattle.pic_push.specs.Region.{LiesIn};
+ghost use Rattle.pic_push.specs.Region.{IsUp, AreUps, IsLastOn};
 ghost use Rattle.pic_push.specs.Sends.{HasRoom, IsOpen, HasLayers, IsOpenTo, most_sent};
 
 use crate::feeling::charge_of;
 use crate::paths::Path;
-use crate::region::{Region, region_of};
-use crate::spreading::add_at;
+use crate::region::{Region, UP_X, UP_XY, UP_XZ, UP_Y, UP_YZ, UP_Z, region_of};
+use crate::spreading::{add_anywhere, add_at_edge, add_at_face};
 use pic_boris::Moved;
 use pic_flux::{CellFlux, deposit_inside};
 use pic_grid::{Segment, Track, Zone};
@@ -58,25 +58,66 @@ fn send_piece(sub: Sub, piece: &Segment, q: i32, zone: Zone, tile: &mut Tile, ow
     ensures own { Gained (flux sub q piece.now) own.old own.new }
     ensures others { Gains (flux sub q piece.now) tile.old tile.new }
 {
-    let region = region_of(zone, piece.cell);
-    match region {
+    match region_of(zone, piece.cell) {
         Region::Inside => deposit_inside(sub, piece, q, &mut own.flux),
-        _ => send_widely(sub, piece, q, region, tile, own),
+        Region::FaceX => send_at_face::<UP_X>(sub, piece, q, tile, own),
+        Region::FaceY => send_at_face::<UP_Y>(sub, piece, q, tile, own),
+        Region::FaceZ => send_at_face::<UP_Z>(sub, piece, q, tile, own),
+        Region::EdgeX => send_at_edge::<UP_Y, UP_Z, UP_YZ>(sub, piece, q, tile, own),
+        Region::EdgeY => send_at_edge::<UP_Z, UP_X, UP_XZ>(sub, piece, q, tile, own),
+        Region::EdgeZ => send_at_edge::<UP_X, UP_Y, UP_XY>(sub, piece, q, tile, own),
+        Region::Elsewhere => send_anywhere(sub, piece, q, tile, own),
     }
 }
 
-/// The same for a piece whose cell lies in any region: its flux is computed once for all parcels.
-fn send_widely(sub: Sub, piece: &Segment, q: i32, region: Region, tile: &mut Tile, own: &mut Parcel)
+/// The same for a piece whose cell is at a face of the tile, over which `UP` steps.
+fn send_at_face<const UP: u32>(sub: Sub, piece: &Segment, q: i32, tile: &mut Tile, own: &mut Parcel)
     requires inside { IsInCell sub piece.now }
     requires charge { IsAtMost q most_charge }
-    requires region { LiesIn region own.old.flux.low own.old.flux.size piece.now.cell }
+    requires up { IsUp UP }
+    requires face { IsLastOn UP own.old.flux.low own.old.flux.size piece.now.cell }
     requires open { IsOpenTo most_sent own.old.flux.low own.old.flux.size tile.old }
     requires room { AllAtMost most_sent own.old.flux }
     ensures own { Gained (flux sub q piece.now) own.old own.new }
     ensures others { Gains (flux sub q piece.now) tile.old tile.new }
 {
     let flux = CellFlux::of(sub, piece, q);
-    add_at(&flux, region, piece.cell, tile, own);
+    add_at_face::<UP>(&flux, tile, own);
+}
+
+/// The same for one whose cell is at an edge of it: `SECOND` and `THIRD` step over the two faces
+/// there, and `FAR` over both.
+fn send_at_edge<const SECOND: u32, const THIRD: u32, const FAR: u32>(
+    sub: Sub,
+    piece: &Segment,
+    q: i32,
+    tile: &mut Tile,
+    own: &mut Parcel,
+)
+    requires inside { IsInCell sub piece.now }
+    requires charge { IsAtMost q most_charge }
+    requires ups { AreUps SECOND THIRD FAR }
+    requires edge { IsLastOn FAR own.old.flux.low own.old.flux.size piece.now.cell }
+    requires open { IsOpenTo most_sent own.old.flux.low own.old.flux.size tile.old }
+    requires room { AllAtMost most_sent own.old.flux }
+    ensures own { Gained (flux sub q piece.now) own.old own.new }
+    ensures others { Gains (flux sub q piece.now) tile.old tile.new }
+{
+    let flux = CellFlux::of(sub, piece, q);
+    add_at_edge::<SECOND, THIRD, FAR>(&flux, tile, own);
+}
+
+/// The same for one whose cell is anywhere.
+fn send_anywhere(sub: Sub, piece: &Segment, q: i32, tile: &mut Tile, own: &mut Parcel)
+    requires inside { IsInCell sub piece.now }
+    requires charge { IsAtMost q most_charge }
+    requires open { IsOpenTo most_sent own.old.flux.low own.old.flux.size tile.old }
+    requires room { AllAtMost most_sent own.old.flux }
+    ensures own { Gained (flux sub q piece.now) own.old own.new }
+    ensures others { Gains (flux sub q piece.now) tile.old tile.new }
+{
+    let flux = CellFlux::of(sub, piece, q);
+    add_anywhere(&flux, piece.cell, tile, own);
 }
 
 /// The same for the pieces of a path that crosses faces of cells, one after the other.

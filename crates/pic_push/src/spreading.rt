@@ -9,11 +9,11 @@ ghost use Rattle.pic_tile.specs.declared.parcel.Parcel.{Parcel};
 ghost use Rattle.pic_tile.specs.Directions.{directions, here};
 ghost use Rattle.pic_tile.specs.Tile.{parcel_at};
 ghost use Rattle.pic_push.specs.Gains.{Gained, GainsAt, Gains, IsClear};
-ghost use Rattle.pic_push.specs.Region.{IsUp, AreUps, IsLastOn, LiesIn, CanGain, CanTake};
+ghost use Rattle.pic_push.specs.Region.{IsUp, AreUps, IsLastOn, CanGain, CanTake};
 ghost use Rattle.pic_push.specs.Reach.{IsReach, reaches};
 
 use crate::reach::Reach;
-use crate::region::{HERE, Region, UP_X, UP_XY, UP_XZ, UP_Y, UP_YZ, UP_Z, layers_at};
+use crate::region::{HERE, layers_at};
 use pic_flux::CellFlux;
 use pic_grid::Block;
 use pic_tile::{Dir, Parcel, Tile};
@@ -57,7 +57,7 @@ fn add_up<const LAST: u32, const UP: u32>(flux: &CellFlux, tile: &mut Tile)
 /// Adds it to all parcels of a tile, of which that of no step is held apart, for a cell at a face:
 /// `UP` steps over it.
 #[inline(always)]
-fn add_at_face<const UP: u32>(flux: &CellFlux, tile: &mut Tile, own: &mut Parcel)
+pub(crate) fn add_at_face<const UP: u32>(flux: &CellFlux, tile: &mut Tile, own: &mut Parcel)
     requires up { IsUp UP }
     requires can { CanTake flux.now own.old tile.old }
     requires face { IsLastOn UP own.old.flux.low own.old.flux.size (flux_cell flux.now) }
@@ -71,7 +71,7 @@ fn add_at_face<const UP: u32>(flux: &CellFlux, tile: &mut Tile, own: &mut Parcel
 /// The same for a cell at an edge: `SECOND` and `THIRD` step over its two faces, and `FAR` over
 /// both.
 #[inline(always)]
-fn add_at_edge<const SECOND: u32, const THIRD: u32, const FAR: u32>(
+pub(crate) fn add_at_edge<const SECOND: u32, const THIRD: u32, const FAR: u32>(
     flux: &CellFlux,
     tile: &mut Tile,
     own: &mut Parcel,
@@ -121,33 +121,14 @@ pub(crate) fn spread(flux: &CellFlux, reach: &Reach, tile: &mut Tile)
     }
 }
 
-/// Adds it to all parcels of a tile, of which that of no step is held apart, by the region of its
-/// cell there: each face and each edge has straight code of its own.
-#[inline(always)]
-pub(crate) fn add_at(
-    flux: &CellFlux,
-    region: Region,
-    cell: [i32; 3],
-    tile: &mut Tile,
-    own: &mut Parcel,
-)
+/// Adds it to all parcels of a tile, of which that of no step is held apart, wherever its cell lies.
+pub(crate) fn add_anywhere(flux: &CellFlux, cell: [i32; 3], tile: &mut Tile, own: &mut Parcel)
     requires can { CanTake flux.now own.old tile.old }
     requires cell { flux_cell flux.now ≡ spot cell }
-    requires region { LiesIn region own.old.flux.low own.old.flux.size (flux_cell flux.now) }
     ensures own { Gained (edge_flux flux.now) own.old own.new }
     ensures others { Gains (edge_flux flux.now) tile.old tile.new }
 {
-    match region {
-        Region::FaceX => add_at_face::<UP_X>(flux, tile, own),
-        Region::FaceY => add_at_face::<UP_Y>(flux, tile, own),
-        Region::FaceZ => add_at_face::<UP_Z>(flux, tile, own),
-        Region::EdgeX => add_at_edge::<UP_Y, UP_Z, UP_YZ>(flux, tile, own),
-        Region::EdgeY => add_at_edge::<UP_Z, UP_X, UP_XZ>(flux, tile, own),
-        Region::EdgeZ => add_at_edge::<UP_X, UP_Y, UP_XY>(flux, tile, own),
-        Region::Inside | Region::Elsewhere => {
-            let reach = Reach::of(own.flux.zone(), cell);
-            flux.add_to(&mut own.flux);
-            spread(flux, &reach, tile);
-        }
-    }
+    let reach = Reach::of(own.flux.zone(), cell);
+    flux.add_to(&mut own.flux);
+    spread(flux, &reach, tile);
 }
