@@ -11,10 +11,10 @@ ghost use Rattle.pic_grid.specs.Lattice.{EachAtMost};
 ghost use Rattle.pic_grid.specs.Block.{IsAmongCells, IsShaped, AllAtMost, inner_at, outer_of};
 ghost use Rattle.pic_field.specs.FieldPhases.{full_of, full_in, lowest, least_fault, AllBounded};
 ghost use Rattle.pic_field.specs.Lines.{HasCells, OnLine, OnLines, OnStrip, BelowLayer, Changed, AreSmall, full_made, line_start};
-ghost use Rattle.pic_field.specs.Planes.{IsScaledPlane, AreRowsDown, plane_at};
+ghost use Rattle.pic_field.specs.Planes.{IsScaledPlane, IsNextPlane, AreRowsDown, corner_before, down_span, plane_at};
 
 use crate::faults::{safe_most, stop_in};
-use crate::plane::{Line, Plane, fill_plane, strip_end};
+use crate::plane::{Line, Plane, fill_next_plane, fill_plane, span_down, strip_end};
 use crate::rooms::{Rooms, full_row};
 use crate::row::{Four, shifted};
 use crate::zone::{cell_in, is_empty, line_length};
@@ -135,23 +135,12 @@ fn full_strip(
     ensures calm { IsTrue result → AreSmall most (OnStrip from to e.old.size.z) e.new }
 {
     let zone = e.zone();
-    let count = line_length(b.cells(), zone);
+    let span = span_down(line_length(b.cells(), zone));
     let here = cell_in(b.cells(), zone, [0, from, 0]);
-    let side = b.cells().down(Axis::X, here);
-    let first = b.cells().down(Axis::Z, b.cells().down(Axis::Y, here));
+    let corner = b.cells().down(Axis::X, b.cells().down(Axis::Y, here));
+    let below = b.cells().down(Axis::Z, corner);
     let lines = (to - from) as usize;
-    let to_e = scales.b_to_e;
-    fill_plane(
-        b,
-        to_e,
-        first,
-        side[0],
-        count,
-        lines + 1,
-        0,
-        false,
-        &mut rooms.planes[0],
-    );
+    fill_next_plane(b, scales.b_to_e, below, span, lines, &mut rooms.planes[0]);
     let mut far = 0;
     let mut calm = true;
     for z in 0..zone.size[2] {
@@ -187,35 +176,28 @@ fn full_layer(
     requires j_small { AreSmall (2 ^ 90) (OnLines from to z) j.now }
     requires e_small { AreSmall (2 ^ 90) (OnLines from to z) e.old }
     requires far { far < 2 }
-    requires plane { IsScaledPlane b.now scales.now.b_to_e
-        (down b.now.cells Axis.Z (down b.now.cells Axis.Y (line_start e.old.low from z)))
-        (down b.now.cells Axis.X (line_start e.old.low from z)).x e.old.size.x (to - from + 1)
-        0 false (plane_at rooms.old.planes far) }
-    ensures next { z + 1 < e.old.size.z → IsScaledPlane b.now scales.now.b_to_e
-        (down b.now.cells Axis.Z (down b.now.cells Axis.Y (line_start e.old.low from (z + 1))))
-        (down b.now.cells Axis.X (line_start e.old.low from (z + 1))).x e.old.size.x
-        (to - from + 1) 0 false (plane_at rooms.new.planes (1 - far)) }
+    requires plane { IsNextPlane b.now scales.now.b_to_e
+        (down b.now.cells Axis.Z (corner_before b.now.cells (line_start e.old.low from z)))
+        (down_span e.old.size.x) (to - from) (plane_at rooms.old.planes far) }
+    ensures next { z + 1 < e.old.size.z → IsNextPlane b.now scales.now.b_to_e
+        (down b.now.cells Axis.Z (corner_before b.now.cells (line_start e.old.low from (z + 1))))
+        (down_span e.old.size.x) (to - from) (plane_at rooms.new.planes (1 - far)) }
     ensures changed { Changed (full_made scales.now b.now j.now e.old.low) (OnLines from to z)
         e.old e.new }
     ensures calm { IsTrue result → AreSmall most (OnLines from to z) e.new }
 {
     let zone = e.zone();
-    let count = line_length(b.cells(), zone);
+    let span = span_down(line_length(b.cells(), zone));
     let here = cell_in(b.cells(), zone, [0, from, z]);
-    let side = b.cells().down(Axis::X, here);
-    let first = b.cells().down(Axis::Y, here);
+    let corner = b.cells().down(Axis::X, b.cells().down(Axis::Y, here));
     let lines = (to - from) as usize;
     let near = 1 - far;
-    let to_e = scales.b_to_e;
     fill_plane(
         b,
-        to_e,
-        first,
-        side[0],
-        count,
-        lines + 1,
-        0,
-        true,
+        scales.b_to_e,
+        corner,
+        span,
+        lines,
         &mut rooms.planes[near],
     );
     let planes = &rooms.planes;
@@ -256,13 +238,11 @@ fn full_lines(
     requires j_small { AreSmall (2 ^ 90) (OnLines from to z) j.now }
     requires e_small { AreSmall (2 ^ 90) (OnLines from to z) e.old }
     requires near { IsScaledPlane b.now scales.now.b_to_e
-        (down b.now.cells Axis.Y (line_start e.old.low from z))
-        (down b.now.cells Axis.X (line_start e.old.low from z)).x e.old.size.x (to - from + 1)
-        0 true near.now }
-    requires far { IsScaledPlane b.now scales.now.b_to_e
-        (down b.now.cells Axis.Z (down b.now.cells Axis.Y (line_start e.old.low from z)))
-        (down b.now.cells Axis.X (line_start e.old.low from z)).x e.old.size.x (to - from + 1)
-        0 false far.now }
+        (corner_before b.now.cells (line_start e.old.low from z))
+        (down_span e.old.size.x) (to - from) near.now }
+    requires far { IsNextPlane b.now scales.now.b_to_e
+        (down b.now.cells Axis.Z (corner_before b.now.cells (line_start e.old.low from z)))
+        (down_span e.old.size.x) (to - from) far.now }
     ensures changed { Changed (full_made scales.now b.now j.now e.old.low) (OnLines from to z)
         e.old e.new }
     ensures calm { IsTrue result → AreSmall most (OnLines from to z) e.new }

@@ -10,10 +10,10 @@ ghost use Rattle.pic_grid.specs.Lattice.{EachAtMost};
 ghost use Rattle.pic_grid.specs.Block.{IsAmongCells, IsShaped, AllAtMost, inner_at, outer_of};
 ghost use Rattle.pic_field.specs.FieldPhases.{half_of, half_in, lowest, least_fault, AllBounded};
 ghost use Rattle.pic_field.specs.Lines.{HasCells, OnLine, OnLines, OnStrip, BelowLayer, Changed, AreSmall, half_made, line_start};
-ghost use Rattle.pic_field.specs.Planes.{IsScaledPlane, AreRowsUp, plane_at};
+ghost use Rattle.pic_field.specs.Planes.{IsScaledPlane, IsNextPlane, AreRowsUp, plane_at, up_span};
 
 use crate::faults::{safe_most, stop_in};
-use crate::plane::{Line, Plane, fill_plane, strip_end};
+use crate::plane::{Line, Plane, fill_plane, fill_plane_behind, span_up, strip_end};
 use crate::rooms::{Rooms, half_row};
 use crate::row::{Four, shifted};
 use crate::zone::{cell_in, is_empty, line_length};
@@ -115,21 +115,10 @@ fn half_strip(
     ensures calm { IsTrue result → AreSmall most (OnStrip from to b.old.size.z) b.new }
 {
     let zone = b.zone();
-    let count = line_length(e.cells(), zone);
+    let span = span_up(line_length(e.cells(), zone));
     let first = cell_in(e.cells(), zone, [0, from, 0]);
     let lines = (to - from) as usize;
-    let to_b = scales.e_to_b;
-    fill_plane(
-        e,
-        to_b,
-        first,
-        first[0],
-        count,
-        lines + 1,
-        lines,
-        true,
-        &mut rooms.planes[0],
-    );
+    fill_plane(e, scales.e_to_b, first, span, lines, &mut rooms.planes[0]);
     let mut near = 0;
     let mut calm = true;
     for z in 0..zone.size[2] {
@@ -163,35 +152,24 @@ fn half_layer(
     requires b_small { AreSmall (2 ^ 90) (OnLines from to z) b.old }
     requires near { near < 2 }
     requires plane { IsScaledPlane e.now scales.now.e_to_b (line_start b.old.low from z)
-        (line_start b.old.low from z).x b.old.size.x (to - from + 1) (to - from) true
-        (plane_at rooms.old.planes near) }
+        (up_span b.old.size.x) (to - from) (plane_at rooms.old.planes near) }
     ensures next { z + 1 < b.old.size.z → IsScaledPlane e.now scales.now.e_to_b
-        (line_start b.old.low from (z + 1)) (line_start b.old.low from (z + 1)).x b.old.size.x
-        (to - from + 1) (to - from) true (plane_at rooms.new.planes (1 - near)) }
+        (line_start b.old.low from (z + 1)) (up_span b.old.size.x) (to - from)
+        (plane_at rooms.new.planes (1 - near)) }
     ensures changed { Changed (half_made scales.now e.now b.old.low) (OnLines from to z)
         b.old b.new }
     ensures calm { IsTrue result → AreSmall most (OnLines from to z) b.new }
 {
     let zone = b.zone();
-    let count = line_length(e.cells(), zone);
+    let span = span_up(line_length(e.cells(), zone));
     let above = e
         .cells()
         .up(Axis::Z, cell_in(e.cells(), zone, [0, from, z]));
     let lines = (to - from) as usize;
     let more = z + 1 < zone.size[2];
     let far = 1 - near;
-    let to_b = scales.e_to_b;
-    fill_plane(
-        e,
-        to_b,
-        above,
-        above[0],
-        count,
-        lines + 1,
-        lines,
-        more,
-        &mut rooms.planes[far],
-    );
+    let room = &mut rooms.planes[far];
+    fill_plane_behind(e, scales.e_to_b, above, span, lines, more, room);
     let planes = &rooms.planes;
     half_lines(scales, e, b, from, to, z, most, &planes[near], &planes[far])
 }
@@ -216,10 +194,10 @@ fn half_lines(
     requires z { z < b.old.size.z }
     requires b_small { AreSmall (2 ^ 90) (OnLines from to z) b.old }
     requires near { IsScaledPlane e.now scales.now.e_to_b (line_start b.old.low from z)
-        (line_start b.old.low from z).x b.old.size.x (to - from + 1) (to - from) true near.now }
-    requires far { IsScaledPlane e.now scales.now.e_to_b
+        (up_span b.old.size.x) (to - from) near.now }
+    requires far { IsNextPlane e.now scales.now.e_to_b
         (up e.now.cells Axis.Z (line_start b.old.low from z))
-        (line_start b.old.low from z).x b.old.size.x (to - from + 1) (to - from) false far.now }
+        (up_span b.old.size.x) (to - from) far.now }
     ensures changed { Changed (half_made scales.now e.now b.old.low) (OnLines from to z)
         b.old b.new }
     ensures calm { IsTrue result → AreSmall most (OnLines from to z) b.new }

@@ -40,15 +40,15 @@ returns-clause-changed c =
     let three = c.full_row-calm_z.new.e in
     let first = changed_as _ (full_made scales b j e.low) (OnRow X y z) e one c.full_row-calm_x.ensures.changed (λ a p w on.
     full_x scales b j e.low e.size y z count c.requires.among (same at) by_y.z c.shifted.result.now own.z c.shifted-2.result.now by_z.y
-    c.shifted-3.result.now own.y c.shifted-4.result.now k.z_by_y k.z k.y_by_z k.y c.shifted.ensures.values c.shifted-2.ensures.values
+    c.shifted-3.result.now own.y c.shifted-4.result.now k.in_y.z k.here.z k.in_z.y k.here.y c.shifted.ensures.values c.shifted-2.ensures.values
     c.shifted-3.ensures.values c.shifted-4.ensures.values a p w on (inner_at e a p)) in
     let second = changed_as _ (full_made scales b j e.low) (OnRow Y y z) one two c.full_row-calm_y.ensures.changed (λ a p w on.
     full_y scales b j e.low e.size y z count c.requires.among (same at) by_z.x c.shifted-5.result.now own.x c.shifted-6.result.now own.z
-    c.shifted-7.result.now k.x_by_z k.x k.z c.shifted-5.ensures.values c.shifted-6.ensures.values c.shifted-7.ensures.values a p
+    c.shifted-7.result.now k.in_z.x k.here.x k.here.z c.shifted-5.ensures.values c.shifted-6.ensures.values c.shifted-7.ensures.values a p
     (subst (λ (n : Triple). IsWithin p n) first.shaped.size w) on (inner_at one a p)) in
     let third = changed_as _ (full_made scales b j e.low) (OnRow Z y z) two three c.full_row-calm_z.ensures.changed (λ a p w on.
     full_z scales b j e.low e.size y z count c.requires.among (same at) own.y c.shifted-8.result.now by_y.x c.shifted-9.result.now own.x
-    c.shifted-10.result.now k.y k.x_by_y k.x c.shifted-8.ensures.values c.shifted-9.ensures.values c.shifted-10.ensures.values a p
+    c.shifted-10.result.now k.here.y k.in_y.x k.here.x c.shifted-8.ensures.values c.shifted-9.ensures.values c.shifted-10.ensures.values a p
     (subst (λ (n : Triple). IsWithin p n) (second.shaped.size ∙ first.shaped.size) w) on (inner_at two a p)) in
     line_changed (full_made scales b j e.low) y z e one two three first second third
 

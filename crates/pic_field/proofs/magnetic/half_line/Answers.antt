@@ -38,14 +38,14 @@ returns-clause-changed c =
     let two = c.half_row-calm_y.new.b in
     let three = c.half_row-calm_z.new.b in
     let first = changed_as _ (half_made scales e b.low) (OnRow X y z) b one c.half_row-calm_x.ensures.changed (λ a p w on.
-    half_x scales e b.low b.size y z count c.requires.among (same at) by_y.z own.z by_z.y own.y k.z_by_y k.z k.y_by_z k.y a p w on
+    half_x scales e b.low b.size y z count c.requires.among (same at) by_y.z own.z by_z.y own.y k.in_y.z k.here.z k.in_z.y k.here.y a p w on
     (inner_at b a p)) in
     let second = changed_as _ (half_made scales e b.low) (OnRow Y y z) one two c.half_row-calm_y.ensures.changed (λ a p w on.
-    half_y scales e b.low b.size y z count c.requires.among (same at) by_z.x own.x c.shifted.result.now own.z k.x_by_z k.x k.z
+    half_y scales e b.low b.size y z count c.requires.among (same at) by_z.x own.x c.shifted.result.now own.z k.in_z.x k.here.x k.here.z
     c.shifted.ensures.values a p
     (subst (λ (n : Triple). IsWithin p n) first.shaped.size w) on (inner_at one a p)) in
     let third = changed_as _ (half_made scales e b.low) (OnRow Z y z) two three c.half_row-calm_z.ensures.changed (λ a p w on.
-    half_z scales e b.low b.size y z count c.requires.among (same at) c.shifted-2.result.now own.y by_y.x own.x k.y k.x_by_y k.x
+    half_z scales e b.low b.size y z count c.requires.among (same at) c.shifted-2.result.now own.y by_y.x own.x k.here.y k.in_y.x k.here.x
     c.shifted-2.ensures.values a p
     (subst (λ (n : Triple). IsWithin p n) (second.shaped.size ∙ first.shaped.size) w) on (inner_at two a p)) in
     line_changed (half_made scales e b.low) y z b one two three first second third

@@ -1,5 +1,4 @@
 use Rattle.std.proofs.Common.{rules, ◌≡◌, ◌+◌, ◌-◌, ◌%◌, ◌^◌, ◌<◌, ◌≤◌, ℕ, ℤ, pos, List, ◌++◌, length, take, drop, slice_index, slice_index_or, sym, ◌∙◌, ap, subst, arith}
-use Rattle.std.proofs.Math.Nat.{mod-eq_of_lt}
 use Rattle.std.proofs.lemmas.List.{length-take-le, get_or-take}
 use Rattle.pic_num.specs.declared.axis.Axis.{Axis}
 use Rattle.pic_num.specs.declared.axis.Axis.TheVariants.{X, Y, Z}
@@ -15,21 +14,22 @@ use Rattle.pic_field.proofs.plane.scale_rows.Goals.{After-wanted-more_z}
 
 pub loop-done-init : goal.loop-done-init
 loop-done-init c =
-    let x = c.args.start.x in
-    let same : x + 0 ≡ x = omega arith in
     let f = c.args.field.now in
     let by = c.args.by in
+    let first = c.args.first in
     let start = start_cell c.args.start in
+    let cells : slice_index c.numbers.result 0 ≡ f.cells.x = ap (λ (m : Triple). m.x) (c.numbers.ensures.value ∙ c.cells.ensures.value) in
     record {
-      at = sym (ap (λ (m : ℕ). m % f.cells.x) same ∙ mod-eq_of_lt c.requires.start.x);
-      below = c.requires.start.x;
+      at = c.after_run-x.ensures.value ∙ ap (λ (m : ℕ). (c.args.start.x + first) % m) cells;
+      below = subst (λ (m : ℕ). c.after_run-x.result < m) cells c.after_run-x.ensures.below;
+      least = omega arith;
       most = omega arith;
       room_x = search rules;
       room_y = search rules;
       room_z = search rules;
-      of_x = row_none f by X start c.args.to.now.x;
-      of_y = λ is. row_none f by Y start c.args.to.now.y;
-      of_z = λ is. row_none f by Z start c.args.to.now.z;
+      of_x = row_none f by X start first c.args.to.now.x;
+      of_y = λ is. row_none f by Y start first c.args.to.now.y;
+      of_z = λ is. row_none f by Z start first c.args.to.now.z;
     }
 
 within : (c : After-wanted-more_z) → IsWithin (start_cell c.args.start) c.args.field.now.cells
@@ -85,13 +85,13 @@ small c a run more k =
 
 -- and scaled they are the next of a row
 next : (c : After-wanted-more_z) (a : Axis) (run : List ℤ) (more : ℕ) → Front c a run more → (row part rest : List ℤ) → c.loop-done.done ≤ length row
-    → length part ≡ more → IsScaledRow c.args.field.now c.args.by a (start_cell c.args.start) c.loop-done.done row
+    → length part ≡ more → IsScaledRow c.args.field.now c.args.by a (start_cell c.args.start) c.args.first c.loop-done.done row
     → ((i : ℕ) → i < length (take more run) → row_at part i ≡ scaled (row_at (take more run) i) c.args.by)
     → IsSmallRow (2 ^ 121) (length (take more run)) part
-    → IsScaledRow c.args.field.now c.args.by a (start_cell c.args.start) (c.loop-done.done + more) (take c.loop-done.done row ++ (part ++ rest))
+    → IsScaledRow c.args.field.now c.args.by a (start_cell c.args.start) c.args.first (c.loop-done.done + more) (take c.loop-done.done row ++ (part ++ rest))
 next c a run more k row part rest room long before values small =
     more_scaled c.args.field.now c.args.by a (start_cell c.args.start) c.loop-done.done more c.loop-done.x c.loop-done.invariant.at (within c) k.inside
-    (take more run) k.values row part rest room long before (λ i below. values i (omega (arith, below, k.long)))
+    (take more run) k.values c.args.first row part rest room long before (λ i below. values i (omega (arith, below, k.long)))
     (subst (λ (m : ℕ). IsSmallRow (2 ^ 121) m part) k.long small)
 
 pub scale_row-requires-clause-small : goal.scale_row-requires-clause-small
@@ -131,8 +131,9 @@ loop-done-preserved c =
     let all_y : List ℤ = take done to.y ++ (c.scale_row-in-loop-done.new.to ++ rest_y) in
     let all_z : List ℤ = take done to.z ++ (c.scale_row-in-loop-done-2.new.to ++ rest_z) in
     record {
-      at = c.after_run-x.ensures.value ∙ ap (λ (m : ℕ). (c.loop-done.x + more) % m) cells ∙ round_on n.x c.args.start.x done c.loop-done.x more h.at;
-      below = subst (λ (m : ℕ). c.after_run-x.result < m) cells c.after_run-x.ensures.below;
+      at = c.after_run-x-in-loop-done.ensures.value ∙ ap (λ (m : ℕ). (c.loop-done.x + more) % m) cells ∙ round_on n.x c.args.start.x done c.loop-done.x more h.at;
+      below = subst (λ (m : ℕ). c.after_run-x-in-loop-done.result < m) cells c.after_run-x-in-loop-done.ensures.below;
+      least = omega arith;
       most = omega arith;
       room_x = filled_long to.x c.scale_row.new.to done more fits_x part_x ∙ h.room_x;
       room_y = filled_long to.y c.scale_row-in-loop-done.new.to done more_y fits_y part_y ∙ h.room_y;
@@ -140,11 +141,11 @@ loop-done-preserved c =
       of_x = next here X c.run_at-of_x.result.now more (of_x here) to.x c.scale_row.new.to _ (omega (arith, fits_x)) part_x h.of_x c.scale_row.ensures.values
           c.scale_row.ensures.small;
       of_y = λ is.
-          subst (λ (m : ℕ). IsScaledRow c.args.field.now c.args.by Y (start_cell c.args.start) (done + m) all_y) (c.wanted-more_y.ensures.all is)
+          subst (λ (m : ℕ). IsScaledRow c.args.field.now c.args.by Y (start_cell c.args.start) c.args.first (done + m) all_y) (c.wanted-more_y.ensures.all is)
           (next here Y c.run_at-of_y.result.now more_y (of_y here) to.y c.scale_row-in-loop-done.new.to rest_y (omega (arith, fits_y)) part_y (h.of_y is)
           c.scale_row-in-loop-done.ensures.values c.scale_row-in-loop-done.ensures.small);
       of_z = λ is.
-          subst (λ (m : ℕ). IsScaledRow c.args.field.now c.args.by Z (start_cell c.args.start) (done + m) all_z) (c.wanted-more_z.ensures.all is)
+          subst (λ (m : ℕ). IsScaledRow c.args.field.now c.args.by Z (start_cell c.args.start) c.args.first (done + m) all_z) (c.wanted-more_z.ensures.all is)
           (next here Z c.run_at-of_z.result.now more_z (of_z here) to.z c.scale_row-in-loop-done-2.new.to rest_z (omega (arith, fits_z)) part_z (h.of_z is)
           c.scale_row-in-loop-done-2.ensures.values c.scale_row-in-loop-done-2.ensures.small);
     }
