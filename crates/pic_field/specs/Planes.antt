@@ -43,8 +43,8 @@ up_span cells = record { first = 0; edge = cells; cells = cells }
 abbrev pub down_span : ℕ → Span
 down_span cells = record { first = 1; edge = 0; cells = cells }
 
--- the scaled rows of a line are there that a curl has along the line itself: x at its cells, y and z
--- also at the edge. The rooms begin with the cell p.
+-- the scaled rows of a line are there that a curl has along the line itself: x at its cells, y and
+-- z also at the edge. The rooms begin with the cell p.
 pub record IsOwnLine (f : Field) (by : Multiplier) (p : Triple) (s : Span) (line : Line)
     : Type 0 where
   pub x : IsScaledRow f by X p s.first (s.first + s.cells) line.x
@@ -63,15 +63,16 @@ pub record IsNextLine (f : Field) (by : Multiplier) (p : Triple) (s : Span) (lin
   pub x : IsScaledRow f by X p s.first (s.first + s.cells) line.x
   pub y : IsScaledRow f by Y p s.first (s.first + s.cells) line.y
 
--- a plane has a strip of lines lines in its own layer, and the line beside the strip: before it where
--- rows begin before their cells, and else behind it. The plane begins with the line of the cell p.
+-- a plane has a strip of so many lines in its own layer, and the line beside the strip: before it
+-- where rows begin before their cells, and else behind it. The plane begins with the line of the
+-- cell p.
 pub record IsScaledPlane (f : Field) (by : Multiplier) (p : Triple) (s : Span) (lines : ℕ)
     (plane : List Line) : Type 0 where
   pub own : (j : ℕ) → s.first ≤ j → j < s.first + lines
       → IsOwnLine f by (along_y f.cells p j) s (line_at plane j)
   pub side : (j : ℕ) → j < lines + 1 → IsSideLine f by (along_y f.cells p j) s (line_at plane j)
 
--- a plane has the lines that lie beside a strip of lines lines in z
+-- a plane has the lines that lie beside a strip of so many lines in z
 pub record IsNextPlane (f : Field) (by : Multiplier) (p : Triple) (s : Span) (lines : ℕ)
     (plane : List Line) : Type 0 where
   pub next : (j : ℕ) → s.first ≤ j → j < s.first + lines
@@ -85,8 +86,8 @@ pub record AreRows (f : Field) (by : Multiplier) (s : Span) (p q r : Triple) (ow
   pub in_y : IsSideLine f by q s by_y
   pub in_z : IsNextLine f by r s by_z
 
--- those of the curl of E along the line of count cells that begins at p: of the next lines, with the
--- next cell in x,
+-- those of the curl of E along the line of count cells that begins at p: of the next lines, with
+-- the next cell in x,
 abbrev pub AreRowsUp : Field → Multiplier → Triple → ℕ → Line → Line → Line → Type 0
 AreRowsUp f by p count own by_y by_z =
     AreRows f by (up_span count) p (up f.cells Y p) (up f.cells Z p) own by_y by_z

@@ -36,7 +36,7 @@ pub record IsStart (f : Field) (s : Start) : Type 0 where
 abbrev pub along_x : Triple → Triple → ℕ → Triple
 along_x n p i = record p { x = (p.x + i) % n.x }
 
--- the values of a row at the indices from first on and below past are those of the field's component
+-- the values of a row at the indices from first on and below past are those of a field's component
 -- on an axis, each scaled once. The value at the index 0 would be that of the cell p, and each next
 -- one is that of the next cell in x, round the grid.
 pub record IsScaledRow (f : Field) (by : Multiplier) (a : Axis) (p : Triple) (first past : ℕ)

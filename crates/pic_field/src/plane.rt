@@ -35,7 +35,8 @@ pub(crate) type Plane = [Line; PLANE];
 /// Where the values of a row stand in its room.
 #[derive(Clone, Copy)]
 pub(crate) struct Span {
-    /// The index of the value of the row's first cell. In a plane also that of a strip's first line.
+    /// The index of the value of the row's first cell. In a plane also that of a strip's first
+    /// line.
     pub(crate) first: usize,
     /// The index of the value of the cell beside the row, before or behind it.
     pub(crate) edge: usize,
@@ -79,9 +80,9 @@ pub(crate) fn strip_end(from: u32, count: u32) -> u32
     from + LINES.min(count - from)
 }
 
-/// Scales what a curl reads of the plane of a strip of `lines` lines in the strip's own layer, and the
-/// layer beside it: of the strip's lines and the one beside them in y. The plane begins with the line
-/// whose rooms begin with the cell `at`.
+/// Scales what a curl reads of the plane of a strip of `lines` lines in the strip's own layer and
+/// the one beside it: of the strip's lines, and of that beside them in y. The plane begins with the
+/// line whose rooms begin with the cell `at`.
 pub(crate) fn fill_plane(
     field: &Lattice,
     by: Mult,
@@ -169,8 +170,8 @@ fn is_own(first: usize, lines: usize, j: usize) -> bool
     j < first + lines
 }
 
-/// Scales what a curl reads of a line whose rooms begin with the cell `at`: one of a strip's own, or
-/// else the line beside it in y.
+/// Scales what a curl reads of a line whose rooms begin with the cell `at`: one of a strip's own,
+/// or else the line beside it in y.
 fn scale_line(field: &Lattice, by: Mult, at: [u32; 3], span: Span, own: bool, to: &mut Line)
     requires within { IsWithin (triple at) field.now.cells }
     requires span { IsSpan span }
@@ -183,7 +184,8 @@ fn scale_line(field: &Lattice, by: Mult, at: [u32; 3], span: Span, own: bool, to
         return scale_own(field, by, at, span, to);
     }
     let start = start_at(field, at);
-    scale_rows(field, by, start, span.first, span.cells, false, true, to)
+    let wanted = Wanted { y: false, z: true };
+    scale_rows(field, by, start, span, wanted, to)
 }
 
 /// Scales what a curl reads of the line that it is along.
@@ -196,7 +198,8 @@ fn scale_own(field: &Lattice, by: Mult, at: [u32; 3], span: Span, to: &mut Line)
 {
     let [nx, _, _] = field.cells().numbers();
     let start = start_at(field, at);
-    scale_rows(field, by, start, span.first, span.cells, true, true, to);
+    let wanted = Wanted { y: true, z: true };
+    scale_rows(field, by, start, span, wanted, to);
     let edge = field.slot_x(after_run(nx, start.x, span.edge));
     let of_y = scaled_at(field, by, Axis::Y, edge, start.y, start.z);
     let of_z = scaled_at(field, by, Axis::Z, edge, start.y, start.z);
@@ -212,7 +215,8 @@ fn scale_next(field: &Lattice, by: Mult, at: [u32; 3], span: Span, to: &mut Line
     ensures { IsNextLine field.now by (triple at) span to.new }
 {
     let start = start_at(field, at);
-    scale_rows(field, by, start, span.first, span.cells, true, false, to);
+    let wanted = Wanted { y: true, z: false };
+    scale_rows(field, by, start, span, wanted, to);
 }
 
 /// The component on `axis` at the cell of three slots, scaled.
@@ -230,41 +234,46 @@ fn scaled_at(field: &Lattice, by: Mult, axis: Axis, x: Slot, y: Slot, z: Slot) -
     scale(run[0], by)
 }
 
-/// Scales the rows of `count` cells in rooms that begin with the start, from the index `first` on and
-/// round the grid: of x, and of y and z if they are wanted. The runs of the three components lie at
-/// the same place of a part, which is found once for them.
+/// Which rows of a line are wanted beside that of x.
+#[derive(Clone, Copy)]
+struct Wanted {
+    y: bool,
+    z: bool,
+}
+
+/// Scales the values at the cells of a line whose rooms begin with the start, round the grid: of x,
+/// and of y and z if they are wanted. The runs of the three components lie at the same place of a
+/// part, which is found once for them.
 fn scale_rows(
     field: &Lattice,
     by: Mult,
     start: Start,
-    first: usize,
-    count: usize,
-    with_y: bool,
-    with_z: bool,
+    span: Span,
+    wanted: Wanted,
     to: &mut Line,
 )
     requires start { IsStart field.now start }
-    requires first { first ≤ 1 }
-    requires few { count ≤ most_cells_of_axis }
+    requires span { IsSpan span }
     requires small { EachAtMost (2 ^ 90) field.now }
-    ensures x { IsScaledRow field.now by Axis.X (start_cell start) first (first + count) to.new.x }
-    ensures y { IsTrue with_y
-        → IsScaledRow field.now by Axis.Y (start_cell start) first (first + count) to.new.y }
-    ensures z { IsTrue with_z
-        → IsScaledRow field.now by Axis.Z (start_cell start) first (first + count) to.new.z }
+    ensures x { IsScaledRow field.now by Axis.X (start_cell start) span.first
+        (span.first + span.cells) to.new.x }
+    ensures y { IsTrue wanted.y → IsScaledRow field.now by Axis.Y (start_cell start) span.first
+        (span.first + span.cells) to.new.y }
+    ensures z { IsTrue wanted.z → IsScaledRow field.now by Axis.Z (start_cell start) span.first
+        (span.first + span.cells) to.new.z }
 {
     let [nx, _, _] = field.cells().numbers();
     let Start { x: begin, y, z } = start;
-    let mut x = after_run(nx, begin, first);
-    let mut done = first;
-    while done < first + count {
+    let mut x = after_run(nx, begin, span.first);
+    let mut done = span.first;
+    while done < span.first + span.cells {
         let here = field.slot_x(x);
         let of_x = field.run_at(Axis::X, here, y, z);
         let of_y = field.run_at(Axis::Y, here, y, z);
         let of_z = field.run_at(Axis::Z, here, y, z);
-        let more = of_x.len().min(first + count - done);
-        let more_y = wanted(with_y, more);
-        let more_z = wanted(with_z, more);
+        let more = of_x.len().min(span.first + span.cells - done);
+        let more_y = count_if(wanted.y, more);
+        let more_z = count_if(wanted.z, more);
         scale_row(&of_x[..more], by, &mut to.x[done..done + more]);
         scale_row(&of_y[..more_y], by, &mut to.y[done..done + more_y]);
         scale_row(&of_z[..more_z], by, &mut to.z[done..done + more_z]);
@@ -275,7 +284,7 @@ fn scale_rows(
 
 /// A count, or 0 where nothing is wanted.
 #[inline(always)]
-fn wanted(is: bool, count: usize) -> usize
+fn count_if(is: bool, count: usize) -> usize
     ensures all { IsTrue is → result ≡ count }
     ensures most { result ≤ count }
 {
