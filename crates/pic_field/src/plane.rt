@@ -244,14 +244,7 @@ struct Wanted {
 /// Scales the values at the cells of a line whose rooms begin with the start, round the grid: of x,
 /// and of y and z if they are wanted. The runs of the three components lie at the same place of a
 /// part, which is found once for them.
-fn scale_rows(
-    field: &Lattice,
-    by: Mult,
-    start: Start,
-    span: Span,
-    wanted: Wanted,
-    to: &mut Line,
-)
+fn scale_rows(field: &Lattice, by: Mult, start: Start, span: Span, wanted: Wanted, to: &mut Line)
     requires start { IsStart field.now start }
     requires span { IsSpan span }
     requires small { EachAtMost (2 ^ 90) field.now }

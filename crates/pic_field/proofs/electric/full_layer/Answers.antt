@@ -11,8 +11,8 @@ use Rattle.pic_field.proofs.electric.full_layer.Goals as goal
 
 pub returns-clause-next : goal.returns-clause-next
 returns-clause-next c = λ more.
-    let b = c.args.b.now in
-    let by = c.args.scales.now.b_to_e in
+    let b = c.args.step.now.b.now in
+    let by = c.args.step.now.scales.now.b_to_e in
     let e = c.args.e.now in
     let n = b.cells in
     let from = c.args.from in

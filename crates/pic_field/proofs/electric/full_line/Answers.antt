@@ -15,19 +15,19 @@ same : (c : After-line_length-count) → c.line_length-count.result ≡ c.args.e
 same c = c.line_length-count.ensures.value ∙ ap (λ (n : Triple). n.x) c.zone.ensures.size
 
 -- so many values of its rows
-known : (c : After-line_length-count) → AreRowsDown c.args.b.now c.args.scales.now.b_to_e (line_start c.args.e.now.low c.args.y c.args.z)
+known : (c : After-line_length-count) → AreRowsDown c.args.step.now.b.now c.args.step.now.scales.now.b_to_e (line_start c.args.e.now.low c.args.y c.args.z)
     c.line_length-count.result c.args.own.now c.args.by_y.now c.args.by_z.now
 known c =
-    subst (λ (m : ℕ). AreRowsDown c.args.b.now c.args.scales.now.b_to_e (line_start c.args.e.now.low c.args.y c.args.z) m c.args.own.now c.args.by_y.now
-    c.args.by_z.now) (sym (same c)) c.requires.rows
+    subst (λ (m : ℕ). AreRowsDown c.args.step.now.b.now c.args.step.now.scales.now.b_to_e (line_start c.args.e.now.low c.args.y c.args.z) m
+    c.args.own.now c.args.by_y.now c.args.by_z.now) (sym (same c)) c.requires.rows
 
 pub returns-clause-changed : goal.returns-clause-changed
 returns-clause-changed c =
     let at = (goal.at.returns-clause-changed c).After-line_length-count in
     let k = known at in
-    let b = c.args.b.now in
-    let j = c.args.j.now in
-    let scales = c.args.scales.now in
+    let b = c.args.step.now.b.now in
+    let j = c.args.step.now.j.now in
+    let scales = c.args.step.now.scales.now in
     let e = c.args.e.now in
     let y = c.args.y in
     let z = c.args.z in
@@ -56,5 +56,6 @@ pub returns-clause-calm : goal.returns-clause-calm
 returns-clause-calm c = λ all.
     let last = both_true (c.full_row-calm_x.result && c.full_row-calm_y.result) c.full_row-calm_z.result all in
     let first = both_true c.full_row-calm_x.result c.full_row-calm_y.result last.0 in
-    line_small c.args.most _ _ c.args.y c.args.z c.full_row-calm_x.new.e c.full_row-calm_y.new.e c.full_row-calm_z.new.e c.full_row-calm_y.ensures.changed
+    line_small c.args.step.now.most _ _ c.args.y c.args.z c.full_row-calm_x.new.e c.full_row-calm_y.new.e c.full_row-calm_z.new.e
+    c.full_row-calm_y.ensures.changed
     c.full_row-calm_z.ensures.changed (c.full_row-calm_x.ensures.calm first.0) (c.full_row-calm_y.ensures.calm first.1) (c.full_row-calm_z.ensures.calm last.1)

@@ -9,9 +9,9 @@ use Rattle.pic_field.proofs.electric.full_strip.Goals as goal
 
 pub loop-z-preserved : goal.loop-z-preserved
 loop-z-preserved c =
-    let b = c.args.b.now in
+    let b = c.args.step.now.b.now in
     let n = b.cells in
-    let by = c.args.scales.now.b_to_e in
+    let by = c.args.step.now.scales.now.b_to_e in
     let from = c.args.from in
     let to = c.args.to in
     let z = c.loop-z.z in
@@ -21,7 +21,7 @@ loop-z-preserved c =
     let before = c.loop-z.invariant.changed in
     let plane = plane_at c.full_layer-found.new.rooms.planes (1 - c.loop-z.far) in
     let size_z : mid.size.z ≡ old.size.z = ap (λ (m : Triple). m.z) before.shaped.size in
-    let then = subst (λ (l : Spot). Changed (full_made c.args.scales.now b c.args.j.now l) (OnLines from to z) mid new) before.shaped.low
+    let then = subst (λ (l : Spot). Changed (full_made c.args.step.now.scales.now b c.args.step.now.j.now l) (OnLines from to z) mid new) before.shaped.low
     c.full_layer-found.ensures.changed in
     record {
       far = omega arith;
@@ -34,6 +34,7 @@ loop-z-preserved c =
       changed = changed_next _ (OnStrip from to z) (OnLines from to z) (OnStrip from to (z + 1)) old mid new before then (layers_more old.size from to z);
       calm = λ both.
           let each = both_true c.loop-z.calm c.full_layer-found.result both in
-          small_next (full_made c.args.scales.now b c.args.j.now old.low) (OnStrip from to z) (OnLines from to z) (OnStrip from to (z + 1)) mid mid new
-          c.args.most then (c.loop-z.invariant.calm each.0) (c.full_layer-found.ensures.calm each.1) (layers_more mid.size from to z);
+          small_next (full_made c.args.step.now.scales.now b c.args.step.now.j.now old.low) (OnStrip from to z) (OnLines from to z) (OnStrip from to (z + 1))
+          mid mid new
+          c.args.step.now.most then (c.loop-z.invariant.calm each.0) (c.full_layer-found.ensures.calm each.1) (layers_more mid.size from to z);
     }

@@ -12,8 +12,8 @@ use Rattle.pic_field.proofs.magnetic.half_layer.Goals as goal
 
 pub returns-clause-next : goal.returns-clause-next
 returns-clause-next c = λ more.
-    let e = c.args.e.now in
-    let by = c.args.scales.now.e_to_b in
+    let e = c.args.step.now.e.now in
+    let by = c.args.step.now.scales.now.e_to_b in
     let b = c.args.b.now in
     let from = c.args.from in
     let z = c.args.z in

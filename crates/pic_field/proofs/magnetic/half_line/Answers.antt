@@ -15,18 +15,18 @@ same : (c : After-line_length-count) → c.line_length-count.result ≡ c.args.b
 same c = c.line_length-count.ensures.value ∙ ap (λ (n : Triple). n.x) c.zone.ensures.size
 
 -- so many values of its rows
-known : (c : After-line_length-count) → AreRowsUp c.args.e.now c.args.scales.now.e_to_b (line_start c.args.b.now.low c.args.y c.args.z)
+known : (c : After-line_length-count) → AreRowsUp c.args.step.now.e.now c.args.step.now.scales.now.e_to_b (line_start c.args.b.now.low c.args.y c.args.z)
     c.line_length-count.result c.args.own.now c.args.by_y.now c.args.by_z.now
 known c =
-    subst (λ (m : ℕ). AreRowsUp c.args.e.now c.args.scales.now.e_to_b (line_start c.args.b.now.low c.args.y c.args.z) m c.args.own.now c.args.by_y.now
-    c.args.by_z.now) (sym (same c)) c.requires.rows
+    subst (λ (m : ℕ). AreRowsUp c.args.step.now.e.now c.args.step.now.scales.now.e_to_b (line_start c.args.b.now.low c.args.y c.args.z) m
+    c.args.own.now c.args.by_y.now c.args.by_z.now) (sym (same c)) c.requires.rows
 
 pub returns-clause-changed : goal.returns-clause-changed
 returns-clause-changed c =
     let at = (goal.at.returns-clause-changed c).After-line_length-count in
     let k = known at in
-    let e = c.args.e.now in
-    let scales = c.args.scales.now in
+    let e = c.args.step.now.e.now in
+    let scales = c.args.step.now.scales.now in
     let b = c.args.b.now in
     let y = c.args.y in
     let z = c.args.z in
@@ -54,5 +54,6 @@ pub returns-clause-calm : goal.returns-clause-calm
 returns-clause-calm c = λ all.
     let last = both_true (c.half_row-calm_x.result && c.half_row-calm_y.result) c.half_row-calm_z.result all in
     let first = both_true c.half_row-calm_x.result c.half_row-calm_y.result last.0 in
-    line_small c.args.most _ _ c.args.y c.args.z c.half_row-calm_x.new.b c.half_row-calm_y.new.b c.half_row-calm_z.new.b c.half_row-calm_y.ensures.changed
+    line_small c.args.step.now.most _ _ c.args.y c.args.z c.half_row-calm_x.new.b c.half_row-calm_y.new.b c.half_row-calm_z.new.b
+    c.half_row-calm_y.ensures.changed
     c.half_row-calm_z.ensures.changed (c.half_row-calm_x.ensures.calm first.0) (c.half_row-calm_y.ensures.calm first.1) (c.half_row-calm_z.ensures.calm last.1)

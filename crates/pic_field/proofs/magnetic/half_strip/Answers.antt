@@ -7,8 +7,8 @@ use Rattle.pic_field.proofs.magnetic.half_strip.Goals as goal
 
 pub loop-z-preserved : goal.loop-z-preserved
 loop-z-preserved c =
-    let e = c.args.e.now in
-    let by = c.args.scales.now.e_to_b in
+    let e = c.args.step.now.e.now in
+    let by = c.args.step.now.scales.now.e_to_b in
     let from = c.args.from in
     let to = c.args.to in
     let z = c.loop-z.z in
@@ -18,7 +18,7 @@ loop-z-preserved c =
     let before = c.loop-z.invariant.changed in
     let plane = plane_at c.half_layer-found.new.rooms.planes (1 - c.loop-z.near) in
     let size_z : mid.size.z ≡ old.size.z = ap (λ (n : Triple). n.z) before.shaped.size in
-    let then = subst (λ (l : Spot). Changed (half_made c.args.scales.now e l) (OnLines from to z) mid new) before.shaped.low
+    let then = subst (λ (l : Spot). Changed (half_made c.args.step.now.scales.now e l) (OnLines from to z) mid new) before.shaped.low
     c.half_layer-found.ensures.changed in
     record {
       near = omega arith;
@@ -29,6 +29,6 @@ loop-z-preserved c =
       changed = changed_next _ (OnStrip from to z) (OnLines from to z) (OnStrip from to (z + 1)) old mid new before then (layers_more old.size from to z);
       calm = λ both.
           let each = both_true c.loop-z.calm c.half_layer-found.result both in
-          small_next (half_made c.args.scales.now e old.low) (OnStrip from to z) (OnLines from to z) (OnStrip from to (z + 1)) mid mid new
-          c.args.most then (c.loop-z.invariant.calm each.0) (c.half_layer-found.ensures.calm each.1) (layers_more mid.size from to z);
+          small_next (half_made c.args.step.now.scales.now e old.low) (OnStrip from to z) (OnLines from to z) (OnStrip from to (z + 1)) mid mid new
+          c.args.step.now.most then (c.loop-z.invariant.calm each.0) (c.half_layer-found.ensures.calm each.1) (layers_more mid.size from to z);
     }
