@@ -1,5 +1,5 @@
 -- What the scaled rows of a line hold at a place of it, and what their curl makes of a value there.
-use Rattle.std.proofs.Common.{◌≡◌, ℕ, ℤ, pos, ◌+◌, ◌-◌, ◌%◌, ◌<◌, ◌+ℤ◌, ◌-ℤ◌, List, [], ◌∷◌, take, refl, sym, ◌∙◌, ap, subst, arith}
+use Rattle.std.proofs.Common.{◌≡◌, ℕ, ℤ, pos, ◌+◌, ◌-◌, ◌%◌, ◌<◌, ◌≤◌, ◌+ℤ◌, ◌-ℤ◌, List, [], ◌∷◌, take, refl, sym, ◌∙◌, ap, subst, arith}
 use Rattle.std.proofs.lemmas.List.{get_or-take}
 use Rattle.std.proofs.Math.Nat.{mod-eq_of_lt, add-mod_right}
 use Rattle.pic_num.specs.declared.mult.Scales.{Scales}
@@ -60,39 +60,39 @@ module _ (f : Field) (by : Multiplier) (low : Spot) (size : Triple) (y z i : ℕ
         ∙ add-mod_right (start.x + i) n.x
         ∙ at_x
 
-    module _ (a : Axis) (count : ℕ) (row : List ℤ)
+    module _ (a : Axis) (first past : ℕ) (row : List ℤ)
       where
-        pub row_here : IsScaledRow f by a start count row → i < count → row_at row i ≡ scaled (value_at f a here) by
-        row_here is k = is.values i k ∙ ap (λ (x : ℕ). scaled (value_at f a (record here { x = x })) by) at_x
+        pub row_here : IsScaledRow f by a start first past row → first ≤ i → i < past → row_at row i ≡ scaled (value_at f a here) by
+        row_here is from k = is.values i from k ∙ ap (λ (x : ℕ). scaled (value_at f a (record here { x = x })) by) at_x
 
-        pub row_up : IsScaledRow f by a start count row → i + 1 < count → row_at row (i + 1) ≡ scaled (value_at f a (up n X here)) by
-        row_up is k = is.values (i + 1) k ∙ ap (λ (x : ℕ). scaled (value_at f a (record here { x = x })) by) at_up
+        pub row_up : IsScaledRow f by a start first past row → first ≤ i + 1 → i + 1 < past → row_at row (i + 1) ≡ scaled (value_at f a (up n X here)) by
+        row_up is from k = is.values (i + 1) from k ∙ ap (λ (x : ℕ). scaled (value_at f a (record here { x = x })) by) at_up
 
-        pub row_up_y : IsScaledRow f by a (up n Y start) count row → i < count → row_at row i ≡ scaled (value_at f a (up n Y here)) by
-        row_up_y is k = is.values i k ∙ ap (λ (x : ℕ). scaled (value_at f a (record (up n Y here) { x = x })) by) at_x
+        pub row_up_y : IsScaledRow f by a (up n Y start) first past row → first ≤ i → i < past → row_at row i ≡ scaled (value_at f a (up n Y here)) by
+        row_up_y is from k = is.values i from k ∙ ap (λ (x : ℕ). scaled (value_at f a (record (up n Y here) { x = x })) by) at_x
 
-        pub row_up_z : IsScaledRow f by a (up n Z start) count row → i < count → row_at row i ≡ scaled (value_at f a (up n Z here)) by
-        row_up_z is k = is.values i k ∙ ap (λ (x : ℕ). scaled (value_at f a (record (up n Z here) { x = x })) by) at_x
+        pub row_up_z : IsScaledRow f by a (up n Z start) first past row → first ≤ i → i < past → row_at row i ≡ scaled (value_at f a (up n Z here)) by
+        row_up_z is from k = is.values i from k ∙ ap (λ (x : ℕ). scaled (value_at f a (record (up n Z here) { x = x })) by) at_x
 
-        pub row_down_y : IsScaledRow f by a (down n Y start) count row → i < count → row_at row i ≡ scaled (value_at f a (down n Y here)) by
-        row_down_y is k = is.values i k ∙ ap (λ (x : ℕ). scaled (value_at f a (record (down n Y here) { x = x })) by) at_x
+        pub row_down_y : IsScaledRow f by a (down n Y start) first past row → first ≤ i → i < past → row_at row i ≡ scaled (value_at f a (down n Y here)) by
+        row_down_y is from k = is.values i from k ∙ ap (λ (x : ℕ). scaled (value_at f a (record (down n Y here) { x = x })) by) at_x
 
-        pub row_down_z : IsScaledRow f by a (down n Z start) count row → i < count → row_at row i ≡ scaled (value_at f a (down n Z here)) by
-        row_down_z is k = is.values i k ∙ ap (λ (x : ℕ). scaled (value_at f a (record (down n Z here) { x = x })) by) at_x
+        pub row_down_z : IsScaledRow f by a (down n Z start) first past row → first ≤ i → i < past → row_at row i ≡ scaled (value_at f a (down n Z here)) by
+        row_down_z is from k = is.values i from k ∙ ap (λ (x : ℕ). scaled (value_at f a (record (down n Z here) { x = x })) by) at_x
 
-        pub back_here : IsScaledRow f by a (down n X start) count row → i + 1 < count → row_at row (i + 1) ≡ scaled (value_at f a here) by
-        back_here is k = is.values (i + 1) k ∙ ap (λ (x : ℕ). scaled (value_at f a (record here { x = x })) by) at_own
+        pub back_here : IsScaledRow f by a (down n X start) first past row → first ≤ i + 1 → i + 1 < past → row_at row (i + 1) ≡ scaled (value_at f a here) by
+        back_here is from k = is.values (i + 1) from k ∙ ap (λ (x : ℕ). scaled (value_at f a (record here { x = x })) by) at_own
 
-        pub back_down : IsScaledRow f by a (down n X start) count row → i < count → row_at row i ≡ scaled (value_at f a (down n X here)) by
-        back_down is k = is.values i k ∙ ap (λ (x : ℕ). scaled (value_at f a (record here { x = x })) by) at_back
+        pub back_down : IsScaledRow f by a (down n X start) first past row → first ≤ i → i < past → row_at row i ≡ scaled (value_at f a (down n X here)) by
+        back_down is from k = is.values i from k ∙ ap (λ (x : ℕ). scaled (value_at f a (record here { x = x })) by) at_back
 
-        pub back_down_y : IsScaledRow f by a (down n X (down n Y start)) count row → i + 1 < count
+        pub back_down_y : IsScaledRow f by a (down n X (down n Y start)) first past row → first ≤ i + 1 → i + 1 < past
             → row_at row (i + 1) ≡ scaled (value_at f a (down n Y here)) by
-        back_down_y is k = is.values (i + 1) k ∙ ap (λ (x : ℕ). scaled (value_at f a (record (down n Y here) { x = x })) by) at_own
+        back_down_y is from k = is.values (i + 1) from k ∙ ap (λ (x : ℕ). scaled (value_at f a (record (down n Y here) { x = x })) by) at_own
 
-        pub back_down_z : IsScaledRow f by a (down n X (down n Z start)) count row → i + 1 < count
+        pub back_down_z : IsScaledRow f by a (down n X (down n Z start)) first past row → first ≤ i + 1 → i + 1 < past
             → row_at row (i + 1) ≡ scaled (value_at f a (down n Z here)) by
-        back_down_z is k = is.values (i + 1) k ∙ ap (λ (x : ℕ). scaled (value_at f a (record (down n Z here) { x = x })) by) at_own
+        back_down_z is from k = is.values (i + 1) from k ∙ ap (λ (x : ℕ). scaled (value_at f a (record (down n Z here) { x = x })) by) at_own
 
 -- the front of a row
 pub front : (row : List ℤ) (count i : ℕ) (v : ℤ) → i < count → row_at row i ≡ v → row_at (take count row) i ≡ v
@@ -128,16 +128,16 @@ full_is scales b a q v j far_third near_third far_second near_second h k l m =
 module _ (scales : Scales) (e : Field) (low : Spot) (size : Triple) (y z count : ℕ) (among : IsAmongCells low size e.cells) (same : count ≡ size.x)
   where
     abbrev of_e : Axis → Triple → List ℤ → Type 0
-    of_e a p row = IsScaledRow e scales.e_to_b a p count row
+    of_e a p row = IsScaledRow e scales.e_to_b a p 0 (0 + count) row
 
     abbrev more_of_e : Axis → Triple → List ℤ → Type 0
-    more_of_e a p row = IsScaledRow e scales.e_to_b a p (count + 1) row
+    more_of_e a p row = IsScaledRow e scales.e_to_b a p 0 (count + 1) row
 
     abbrev first : Triple
     first = line_start low y z
 
-    pub half_x : (z_by_y of_z y_by_z of_y : List ℤ) → more_of_e Z (up e.cells Y first) z_by_y → more_of_e Z first of_z
-        → more_of_e Y (up e.cells Z first) y_by_z → more_of_e Y first of_y
+    pub half_x : (z_by_y of_z y_by_z of_y : List ℤ) → of_e Z (up e.cells Y first) z_by_y → more_of_e Z first of_z
+        → of_e Y (up e.cells Z first) y_by_z → more_of_e Y first of_y
         → (a : Axis) (p : Triple) → IsWithin p size → OnRow X y z a p → (v : ℤ)
         → v -ℤ curl_of (row_at (take count z_by_y) p.x) (row_at (take count of_z) p.x) (row_at (take count y_by_z) p.x) (row_at (take count of_y) p.x)
         ≡ half_made scales e low a p v
@@ -148,14 +148,16 @@ module _ (scales : Scales) (e : Field) (low : Spot) (size : Triple) (y z count :
         ≡ half_made scales e low a p v)
         X y z size (λ i below v.
         let inside : i < count = omega arith in
+        let zero : 0 ≤ i = omega arith in
+        let body : i < 0 + count = omega arith in
         let room : i < count + 1 = omega arith in
         half_is scales e X (outer_of low (record { x = i; y = y; z = z })) v _ _ _ _
-        (front z_by_y count i _ inside (row_up_y e scales.e_to_b low size y z i among below Z (count + 1) z_by_y h room))
-        (front of_z count i _ inside (row_here e scales.e_to_b low size y z i among below Z (count + 1) of_z k room))
-        (front y_by_z count i _ inside (row_up_z e scales.e_to_b low size y z i among below Y (count + 1) y_by_z l room))
-        (front of_y count i _ inside (row_here e scales.e_to_b low size y z i among below Y (count + 1) of_y m room)))
+        (front z_by_y count i _ inside (row_up_y e scales.e_to_b low size y z i among below Z 0 (0 + count) z_by_y h zero body))
+        (front of_z count i _ inside (row_here e scales.e_to_b low size y z i among below Z 0 (count + 1) of_z k zero room))
+        (front y_by_z count i _ inside (row_up_z e scales.e_to_b low size y z i among below Y 0 (0 + count) y_by_z l zero body))
+        (front of_y count i _ inside (row_here e scales.e_to_b low size y z i among below Y 0 (count + 1) of_y m zero room)))
 
-    pub half_y : (x_by_z of_x z_on of_z : List ℤ) → more_of_e X (up e.cells Z first) x_by_z → more_of_e X first of_x → more_of_e Z first of_z
+    pub half_y : (x_by_z of_x z_on of_z : List ℤ) → of_e X (up e.cells Z first) x_by_z → of_e X first of_x → more_of_e Z first of_z
         → ((i : ℕ) → i < count → row_at z_on i ≡ row_at of_z (i + 1))
         → (a : Axis) (p : Triple) → IsWithin p size → OnRow Y y z a p → (v : ℤ)
         → v -ℤ curl_of (row_at (take count x_by_z) p.x) (row_at (take count of_x) p.x) (row_at z_on p.x) (row_at (take count of_z) p.x)
@@ -166,14 +168,16 @@ module _ (scales : Scales) (e : Field) (low : Spot) (size : Triple) (y z count :
         ≡ half_made scales e low a p v)
         Y y z size (λ i below v.
         let inside : i < count = omega arith in
+        let zero : 0 ≤ i = omega arith in
+        let body : i < 0 + count = omega arith in
         let room : i < count + 1 = omega arith in
         half_is scales e Y (outer_of low (record { x = i; y = y; z = z })) v _ _ _ _
-        (front x_by_z count i _ inside (row_up_z e scales.e_to_b low size y z i among below X (count + 1) x_by_z h room))
-        (front of_x count i _ inside (row_here e scales.e_to_b low size y z i among below X (count + 1) of_x k room))
-        (on i inside ∙ row_up e scales.e_to_b low size y z i among below Z (count + 1) of_z m (omega arith))
-        (front of_z count i _ inside (row_here e scales.e_to_b low size y z i among below Z (count + 1) of_z m room)))
+        (front x_by_z count i _ inside (row_up_z e scales.e_to_b low size y z i among below X 0 (0 + count) x_by_z h zero body))
+        (front of_x count i _ inside (row_here e scales.e_to_b low size y z i among below X 0 (0 + count) of_x k zero body))
+        (on i inside ∙ row_up e scales.e_to_b low size y z i among below Z 0 (count + 1) of_z m (omega arith) (omega arith))
+        (front of_z count i _ inside (row_here e scales.e_to_b low size y z i among below Z 0 (count + 1) of_z m zero room)))
 
-    pub half_z : (y_on of_y x_by_y of_x : List ℤ) → more_of_e Y first of_y → more_of_e X (up e.cells Y first) x_by_y → more_of_e X first of_x
+    pub half_z : (y_on of_y x_by_y of_x : List ℤ) → more_of_e Y first of_y → of_e X (up e.cells Y first) x_by_y → of_e X first of_x
         → ((i : ℕ) → i < count → row_at y_on i ≡ row_at of_y (i + 1))
         → (a : Axis) (p : Triple) → IsWithin p size → OnRow Z y z a p → (v : ℤ)
         → v -ℤ curl_of (row_at y_on p.x) (row_at (take count of_y) p.x) (row_at (take count x_by_y) p.x) (row_at (take count of_x) p.x)
@@ -184,12 +188,14 @@ module _ (scales : Scales) (e : Field) (low : Spot) (size : Triple) (y z count :
         ≡ half_made scales e low a p v)
         Z y z size (λ i below v.
         let inside : i < count = omega arith in
+        let zero : 0 ≤ i = omega arith in
+        let body : i < 0 + count = omega arith in
         let room : i < count + 1 = omega arith in
         half_is scales e Z (outer_of low (record { x = i; y = y; z = z })) v _ _ _ _
-        (on i inside ∙ row_up e scales.e_to_b low size y z i among below Y (count + 1) of_y k (omega arith))
-        (front of_y count i _ inside (row_here e scales.e_to_b low size y z i among below Y (count + 1) of_y k room))
-        (front x_by_y count i _ inside (row_up_y e scales.e_to_b low size y z i among below X (count + 1) x_by_y l room))
-        (front of_x count i _ inside (row_here e scales.e_to_b low size y z i among below X (count + 1) of_x m room)))
+        (on i inside ∙ row_up e scales.e_to_b low size y z i among below Y 0 (count + 1) of_y k (omega arith) (omega arith))
+        (front of_y count i _ inside (row_here e scales.e_to_b low size y z i among below Y 0 (count + 1) of_y k zero room))
+        (front x_by_y count i _ inside (row_up_y e scales.e_to_b low size y z i among below X 0 (0 + count) x_by_y l zero body))
+        (front of_x count i _ inside (row_here e scales.e_to_b low size y z i among below X 0 (0 + count) of_x m zero body)))
 
 -- a step of E with the current j on the three rows of a line, from its scaled rows of B; those of
 -- y and z begin a cell back
@@ -197,10 +203,10 @@ module _ (scales : Scales) (b : Field) (j : BlockValues) (low : Spot) (size : Tr
     (same : count ≡ size.x)
   where
     abbrev of_b : Axis → Triple → List ℤ → Type 0
-    of_b a p row = IsScaledRow b scales.b_to_e a p count row
+    of_b a p row = IsScaledRow b scales.b_to_e a p 1 (1 + count) row
 
     abbrev more_of_b : Axis → Triple → List ℤ → Type 0
-    more_of_b a p row = IsScaledRow b scales.b_to_e a p (count + 1) row
+    more_of_b a p row = IsScaledRow b scales.b_to_e a p 0 (count + 1) row
 
     abbrev begin : Triple
     begin = line_start low y z
@@ -209,9 +215,9 @@ module _ (scales : Scales) (b : Field) (j : BlockValues) (low : Spot) (size : Tr
     abbrev Follows : List ℤ → List ℤ → Type 0
     Follows on row = (i : ℕ) → i < count → row_at on i ≡ row_at row (i + 1)
 
-    pub full_x : (z_by_y z_by_y_on of_z z_on y_by_z y_by_z_on of_y y_on : List ℤ) → more_of_b Z (down b.cells X (down b.cells Y begin)) z_by_y
+    pub full_x : (z_by_y z_by_y_on of_z z_on y_by_z y_by_z_on of_y y_on : List ℤ) → of_b Z (down b.cells X (down b.cells Y begin)) z_by_y
         → more_of_b Z (down b.cells X begin) of_z
-        → more_of_b Y (down b.cells X (down b.cells Z begin)) y_by_z → more_of_b Y (down b.cells X begin) of_y → Follows z_by_y_on z_by_y
+        → of_b Y (down b.cells X (down b.cells Z begin)) y_by_z → more_of_b Y (down b.cells X begin) of_y → Follows z_by_y_on z_by_y
         → Follows z_on of_z → Follows y_by_z_on y_by_z → Follows y_on of_y
         → (a : Axis) (p : Triple) → IsWithin p size → OnRow X y z a p → (v : ℤ)
         → v -ℤ inner_at j a p -ℤ curl_of (row_at z_by_y_on p.x) (row_at z_on p.x) (row_at y_by_z_on p.x) (row_at y_on p.x)
@@ -223,14 +229,16 @@ module _ (scales : Scales) (b : Field) (j : BlockValues) (low : Spot) (size : Tr
         X y z size (λ i below v.
         let inside : i < count = omega arith in
         let more : i + 1 < count + 1 = omega arith in
+        let one : 1 ≤ i + 1 = omega arith in
+        let body : i + 1 < 1 + count = omega arith in
         full_is scales b X (outer_of low (record { x = i; y = y; z = z })) v (inner_at j X (record { x = i; y = y; z = z })) _ _ _ _
-        (after_zy i inside ∙ back_down_y b scales.b_to_e low size y z i among below Z (count + 1) z_by_y h more)
-        (after_z i inside ∙ back_here b scales.b_to_e low size y z i among below Z (count + 1) of_z k more)
-        (after_yz i inside ∙ back_down_z b scales.b_to_e low size y z i among below Y (count + 1) y_by_z l more)
-        (after_y i inside ∙ back_here b scales.b_to_e low size y z i among below Y (count + 1) of_y m more))
+        (after_zy i inside ∙ back_down_y b scales.b_to_e low size y z i among below Z 1 (1 + count) z_by_y h one body)
+        (after_z i inside ∙ back_here b scales.b_to_e low size y z i among below Z 0 (count + 1) of_z k (omega arith) more)
+        (after_yz i inside ∙ back_down_z b scales.b_to_e low size y z i among below Y 1 (1 + count) y_by_z l one body)
+        (after_y i inside ∙ back_here b scales.b_to_e low size y z i among below Y 0 (count + 1) of_y m (omega arith) more))
 
-    pub full_y : (x_by_z x_by_z_on of_x x_on of_z z_on : List ℤ) → more_of_b X (down b.cells X (down b.cells Z begin)) x_by_z
-        → more_of_b X (down b.cells X begin) of_x → more_of_b Z (down b.cells X begin) of_z
+    pub full_y : (x_by_z x_by_z_on of_x x_on of_z z_on : List ℤ) → of_b X (down b.cells X (down b.cells Z begin)) x_by_z
+        → of_b X (down b.cells X begin) of_x → more_of_b Z (down b.cells X begin) of_z
         → Follows x_by_z_on x_by_z → Follows x_on of_x → Follows z_on of_z
         → (a : Axis) (p : Triple) → IsWithin p size → OnRow Y y z a p → (v : ℤ)
         → v -ℤ inner_at j a p -ℤ curl_of (row_at x_by_z_on p.x) (row_at x_on p.x) (row_at (take count of_z) p.x) (row_at z_on p.x)
@@ -244,14 +252,16 @@ module _ (scales : Scales) (b : Field) (j : BlockValues) (low : Spot) (size : Tr
         let inside : i < count = omega arith in
         let room : i < count + 1 = omega arith in
         let more : i + 1 < count + 1 = omega arith in
+        let one : 1 ≤ i + 1 = omega arith in
+        let body : i + 1 < 1 + count = omega arith in
         full_is scales b Y (outer_of low (record { x = i; y = y; z = z })) v (inner_at j Y (record { x = i; y = y; z = z })) _ _ _ _
-        (after_xz i inside ∙ back_down_z b scales.b_to_e low size y z i among below X (count + 1) x_by_z h more)
-        (after_x i inside ∙ back_here b scales.b_to_e low size y z i among below X (count + 1) of_x k more)
-        (front of_z count i _ inside (back_down b scales.b_to_e low size y z i among below Z (count + 1) of_z l room))
-        (after_z i inside ∙ back_here b scales.b_to_e low size y z i among below Z (count + 1) of_z l more))
+        (after_xz i inside ∙ back_down_z b scales.b_to_e low size y z i among below X 1 (1 + count) x_by_z h one body)
+        (after_x i inside ∙ back_here b scales.b_to_e low size y z i among below X 1 (1 + count) of_x k one body)
+        (front of_z count i _ inside (back_down b scales.b_to_e low size y z i among below Z 0 (count + 1) of_z l (omega arith) room))
+        (after_z i inside ∙ back_here b scales.b_to_e low size y z i among below Z 0 (count + 1) of_z l (omega arith) more))
 
     pub full_z : (of_y y_on x_by_y x_by_y_on of_x x_on : List ℤ) → more_of_b Y (down b.cells X begin) of_y
-        → more_of_b X (down b.cells X (down b.cells Y begin)) x_by_y → more_of_b X (down b.cells X begin) of_x
+        → of_b X (down b.cells X (down b.cells Y begin)) x_by_y → of_b X (down b.cells X begin) of_x
         → Follows y_on of_y → Follows x_by_y_on x_by_y → Follows x_on of_x
         → (a : Axis) (p : Triple) → IsWithin p size → OnRow Z y z a p → (v : ℤ)
         → v -ℤ inner_at j a p -ℤ curl_of (row_at (take count of_y) p.x) (row_at y_on p.x) (row_at x_by_y_on p.x) (row_at x_on p.x)
@@ -265,8 +275,10 @@ module _ (scales : Scales) (b : Field) (j : BlockValues) (low : Spot) (size : Tr
         let inside : i < count = omega arith in
         let room : i < count + 1 = omega arith in
         let more : i + 1 < count + 1 = omega arith in
+        let one : 1 ≤ i + 1 = omega arith in
+        let body : i + 1 < 1 + count = omega arith in
         full_is scales b Z (outer_of low (record { x = i; y = y; z = z })) v (inner_at j Z (record { x = i; y = y; z = z })) _ _ _ _
-        (front of_y count i _ inside (back_down b scales.b_to_e low size y z i among below Y (count + 1) of_y h room))
-        (after_y i inside ∙ back_here b scales.b_to_e low size y z i among below Y (count + 1) of_y h more)
-        (after_xy i inside ∙ back_down_y b scales.b_to_e low size y z i among below X (count + 1) x_by_y k more)
-        (after_x i inside ∙ back_here b scales.b_to_e low size y z i among below X (count + 1) of_x l more))
+        (front of_y count i _ inside (back_down b scales.b_to_e low size y z i among below Y 0 (count + 1) of_y h (omega arith) room))
+        (after_y i inside ∙ back_here b scales.b_to_e low size y z i among below Y 0 (count + 1) of_y h (omega arith) more)
+        (after_xy i inside ∙ back_down_y b scales.b_to_e low size y z i among below X 1 (1 + count) x_by_y k one body)
+        (after_x i inside ∙ back_here b scales.b_to_e low size y z i among below X 1 (1 + count) of_x l one body))

@@ -1,5 +1,5 @@
 -- Rows filled value by value, and run by run round the grid.
-use Rattle.std.proofs.Common.{◌≡◌, ◌≢◌, ℕ, ℤ, pos, ◌+◌, ◌-◌, ◌*◌, ◌/◌, ◌%◌, ◌^◌, ◌<◌, ◌≤◌, List, ◌++◌, length, take, drop, slice_set, inl, inr, sym, ◌∙◌, ap, subst, arith}
+use Rattle.std.proofs.Common.{◌≡◌, ◌≢◌, ℕ, ℤ, pos, ◌+◌, ◌-◌, ◌*◌, ◌/◌, ◌%◌, ◌^◌, ◌<◌, ◌≤◌, ◌⊎◌, List, ◌++◌, length, take, drop, slice_set, inl, inr, sym, ◌∙◌, ap, subst, arith}
 use Rattle.std.proofs.lemmas.Bool.{cases_lt}
 use Rattle.std.proofs.lemmas.List.{get_or-set_same, get_or-set_other, get_or-take, get_or_append_left, get_or-append_right, length-append, length-drop, length-take-le, take_at}
 use Rattle.std.proofs.lemmas.Nat.{div-add-mod', mod-mul-add}
@@ -12,13 +12,15 @@ use Rattle.pic_num.specs.Sizes.{IsAtMost}
 use Rattle.pic_num.specs.Space.{Triple}
 use Rattle.pic_grid.specs.Cells.{IsWithin}
 use Rattle.pic_grid.specs.Lattice.{Field, value_at, EachAtMost}
-use Rattle.pic_field.specs.Rows.{row_at, along_x, IsSmallRow, IsRow, IsScaledRow}
+use Rattle.pic_field.specs.declared.plane.Span.{Span}
+use Rattle.pic_field.specs.Rows.{row_at, along_x, IsSmallRow, IsScaledRow}
+use Rattle.pic_field.specs.Planes.{IsSpan}
 
 -- no value of a row is scaled at first
-pub row_none : (f : Field) (by : Multiplier) (a : Axis) (p : Triple) (row : List ℤ) → IsScaledRow f by a p 0 row
-row_none f by a p row = record {
-  values = λ i below. absurd (omega (arith, below));
-  small = record { at_most = λ i below. absurd (omega (arith, below)) };
+pub row_none : (f : Field) (by : Multiplier) (a : Axis) (p : Triple) (first : ℕ) (row : List ℤ) → IsScaledRow f by a p first first row
+row_none f by a p first row = record {
+  values = λ i past below. absurd (omega (arith, past, below));
+  small = λ i past below. absurd (omega (arith, past, below));
 }
 
 -- a fact of every value below i holds below i + 1 once it holds of the value written there
@@ -76,12 +78,12 @@ module _ (f : Field) (by : Multiplier) (a : Axis) (p : Triple) (done more x : �
     }
 
     -- and scaled they are the next of the row
-    pub more_scaled : (row part rest : List ℤ) → done ≤ length row → length part ≡ more → IsScaledRow f by a p done row
+    pub more_scaled : (first : ℕ) (row part rest : List ℤ) → done ≤ length row → length part ≡ more → IsScaledRow f by a p first done row
         → ((i : ℕ) → i < more → row_at part i ≡ scaled (row_at run i) by) → IsSmallRow (2 ^ 121) more part
-        → IsScaledRow f by a p (done + more) (take done row ++ (part ++ rest))
-    more_scaled row part rest room long before scaled_part small = record {
-      values = λ k below. elim (cases_lt k done) as (λ _. row_at all k ≡ scaled (value_at f a (along_x f.cells p k)) by) [
-        | inl less ↦ left k less ∙ before.values k less
+        → IsScaledRow f by a p first (done + more) (take done row ++ (part ++ rest))
+    more_scaled first row part rest room long before scaled_part small = record {
+      values = λ k past below. elim (cases_lt k done) as (λ _. row_at all k ≡ scaled (value_at f a (along_x f.cells p k)) by) [
+        | inl less ↦ left k less ∙ before.values k past less
         | inr least ↦
             (let j : k - done < more = omega arith in
             let next : (p.x + (done + (k - done))) % f.cells.x ≡ x + (k - done) = round_next f.cells.x p.x done x (k - done) at (omega (arith, fits)) in
@@ -91,14 +93,12 @@ module _ (f : Field) (by : Multiplier) (a : Axis) (p : Triple) (done more x : �
             ∙ ap (λ (z : ℤ). scaled z by) (values (k - done) j)
             ∙ sym (ap (λ (m : ℕ). scaled (value_at f a (record p { x = m })) by) (ap (λ (m : ℕ). m % f.cells.x) same ∙ next)))
       ];
-      small = record {
-        at_most = λ k below. elim (cases_lt k done) as (λ _. IsAtMost (row_at all k) (2 ^ 121)) [
-          | inl less ↦ subst (λ (z : ℤ). IsAtMost z (2 ^ 121)) (sym (left k less)) (before.small.at_most k less)
-          | inr least ↦
-              (let j : k - done < more = omega arith in
-              subst (λ (z : ℤ). IsAtMost z (2 ^ 121)) (sym (right k least j)) (small.at_most (k - done) j))
-        ];
-      };
+      small = λ k past below. elim (cases_lt k done) as (λ _. IsAtMost (row_at all k) (2 ^ 121)) [
+        | inl less ↦ subst (λ (z : ℤ). IsAtMost z (2 ^ 121)) (sym (left k less)) (before.small k past less)
+        | inr least ↦
+            (let j : k - done < more = omega arith in
+            subst (λ (z : ℤ). IsAtMost z (2 ^ 121)) (sym (right k least j)) (small.at_most (k - done) j))
+      ];
     }
       where
         all : List ℤ
@@ -115,33 +115,46 @@ module _ (f : Field) (by : Multiplier) (a : Axis) (p : Triple) (done more x : �
             get_or-append_right (take done row) (part ++ rest) done k (pos 0) front least
             ∙ get_or_append_left part rest (pos 0) (k - done) (omega (arith, long))
 
--- a row's first values are as small as more of them
-pub fewer_small : (most count : ℕ) (row : List ℤ) → IsSmallRow most (count + 1) row → IsSmallRow most count row
-fewer_small most count row small = record { at_most = λ i below. small.at_most i (omega arith) }
-
--- the front of a row,
-pub front_row : (most count : ℕ) (row : List ℤ) (size : ℕ) → count ≤ length row → IsSmallRow most count row → count ≡ size
-    → IsRow most size (take count row)
-front_row most count row size room small same = record {
-  length_is = length-take-le count row room ∙ same;
-  small = record {
-    at_most = λ i below.
-        let inside : i < count = omega arith in
-        subst (λ (z : ℤ). IsAtMost z most) (sym (get_or-take count row i (pos 0) inside)) (small.at_most i inside);
-  };
+-- some values of a row
+pub row_part : (f : Field) (by : Multiplier) (a : Axis) (p : Triple) (count first past : ℕ) (row : List ℤ) → past ≤ count + 1
+    → IsScaledRow f by a p 0 (count + 1) row → IsScaledRow f by a p first past row
+row_part f by a p count first past row fits is = record {
+  values = λ i from below. is.values i (omega arith) (omega (arith, below, fits));
+  small = λ i from below. is.small i (omega arith) (omega (arith, below, fits));
 }
 
--- and what follows its first value
-pub shifted_row : (most count : ℕ) (row on : List ℤ) (size : ℕ) → length on ≡ count → ((i : ℕ) → i < count → row_at on i ≡ row_at row (i + 1))
-    → IsSmallRow most (count + 1) row → count ≡ size → IsRow most size on
-shifted_row most count row on size long after small same = record {
-  length_is = long ∙ same;
-  small = record {
-    at_most = λ i below.
-        let inside : i < count = omega arith in
-        let more : i + 1 < count + 1 = omega arith in
-        subst (λ (z : ℤ). IsAtMost z most) (sym (after i inside)) (small.at_most (i + 1) more);
-  };
+-- a number is another one or it isn't
+same_or_other : (i e : ℕ) → (i ≡ e) ⊎ (i ≢ e)
+same_or_other i e = elim (cases_lt i e) [
+  | inl less ↦ inr (omega (arith, less))
+  | inr least ↦ elim (cases_lt e i) [
+    | inl more ↦ inr (omega (arith, more))
+    | inr most ↦ inl (omega (arith, least, most))
+  ]
+]
+
+-- the values of a row's cells and that at its edge
+pub with_edge : (f : Field) (by : Multiplier) (a : Axis) (p : Triple) (s : Span) (row : List ℤ) (v : ℤ) → IsSpan s → s.edge < length row
+    → IsScaledRow f by a p s.first (s.first + s.cells) row → v ≡ scaled (value_at f a (along_x f.cells p s.edge)) by → IsAtMost v (2 ^ 121)
+    → IsScaledRow f by a p 0 (s.cells + 1) (slice_set row s.edge v)
+with_edge f by a p s row v span inside is at small = record {
+  values = λ i from below. elim (same_or_other i s.edge) as (λ _. row_at (slice_set row s.edge v) i ≡ scaled (value_at f a (along_x f.cells p i)) by) [
+    | inl same ↦
+        ap (row_at (slice_set row s.edge v)) same
+        ∙ get_or-set_same row s.edge v (pos 0) inside
+        ∙ at
+        ∙ sym (ap (λ (m : ℕ). scaled (value_at f a (along_x f.cells p m)) by) same)
+    | inr other ↦
+        (let among = span.covers i below other in
+        get_or-set_other row s.edge i v (pos 0) other ∙ is.values i among.0 among.1)
+  ];
+  small = λ i from below. elim (same_or_other i s.edge) as (λ _. IsAtMost (row_at (slice_set row s.edge v) i) (2 ^ 121)) [
+    | inl same ↦
+        subst (λ (z : ℤ). IsAtMost z (2 ^ 121)) (sym (ap (row_at (slice_set row s.edge v)) same ∙ get_or-set_same row s.edge v (pos 0) inside)) small
+    | inr other ↦
+        (let among = span.covers i below other in
+        subst (λ (z : ℤ). IsAtMost z (2 ^ 121)) (sym (get_or-set_other row s.edge i v (pos 0) other)) (is.small i among.0 among.1))
+  ];
 }
 
 -- what a part of a room holds that was filled from its first value on

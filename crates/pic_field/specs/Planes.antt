@@ -1,5 +1,7 @@
--- Planes of scaled rows: those of some lines of cells, one after another in y at one layer of z.
-use Rattle.std.specs.Prelude.{◌≡◌, ℕ, ◌+◌, ◌%◌, ◌<◌, Bool, IsTrue, List, [], slice_index_or}
+-- Planes of scaled rows: those of some lines of cells, one after another in y at one layer of z. Of
+-- each line a plane has what the curl reads.
+use Rattle.std.specs.Prelude.{◌≡◌, ℕ, ◌+◌, ◌%◌, ◌<◌, ◌≤◌, List, [], slice_index_or}
+use Rattle.pic_num.specs.Limits.{most_cells_of_axis}
 use Rattle.pic_num.specs.declared.axis.Axis.TheVariants.{X, Y, Z}
 use Rattle.pic_num.specs.Multiplier.{Multiplier}
 use Rattle.pic_num.specs.Space.{Triple}
@@ -7,6 +9,7 @@ use Rattle.pic_grid.specs.Differences.{up, down}
 use Rattle.pic_grid.specs.Lattice.{Field}
 use Rattle.pic_field.specs.Rows.{IsScaledRow}
 use Rattle.pic_field.specs.declared.plane.Line.{Line}
+use Rattle.pic_field.specs.declared.plane.Span.{Span}
 
 -- no line
 abbrev pub no_line : Line
@@ -24,42 +27,77 @@ plane_at planes i = slice_index_or planes i []
 abbrev pub along_y : Triple → Triple → ℕ → Triple
 along_y n p j = record p { y = (p.y + j) % n.y }
 
--- the cell at the layer side of x beside p
-abbrev pub beside : ℕ → Triple → Triple
-beside side p = record p { x = side }
+-- a span fits a room: its cells are few, and its edge stands right before or right behind them
+pub record IsSpan (s : Span) : Type 0 where
+  pub few : s.cells ≤ most_cells_of_axis
+  pub first : s.first ≤ 1
+  pub edge : s.edge ≤ s.cells
+  pub covers : (i : ℕ) → i < s.cells + 1 → (i ≡ s.edge → ⊥)
+      → (s.first ≤ i) × (i < s.first + s.cells)
 
--- the first lines lines of a plane are the scaled rows of the lines of a field from that at the cell p
--- on, round the grid: a value more than count of each component, from the layer side of x on. The
--- line without has no y, and none has z if not with_z.
-pub record IsScaledPlane (f : Field) (by : Multiplier) (p : Triple) (side count lines without : ℕ)
-    (with_z : Bool) (plane : List Line) : Type 0 where
-  pub x : (j : ℕ) → j < lines
-      → IsScaledRow f by X (beside side (along_y f.cells p j)) (count + 1) (line_at plane j).x
-  pub y : (j : ℕ) → j < lines → (j ≡ without → ⊥)
-      → IsScaledRow f by Y (beside side (along_y f.cells p j)) (count + 1) (line_at plane j).y
-  pub z : IsTrue with_z → (j : ℕ) → j < lines
-      → IsScaledRow f by Z (beside side (along_y f.cells p j)) (count + 1) (line_at plane j).z
+-- the span of rows of so many cells that end with the next cell in x,
+abbrev pub up_span : ℕ → Span
+up_span cells = record { first = 0; edge = cells; cells = cells }
 
--- the scaled rows of the line of count cells that begins at p, of the next one in y and of the next
--- in z, each a value longer: what the curl of E has along it
-pub record AreRowsUp (f : Field) (by : Multiplier) (p : Triple) (count : ℕ)
-    (own by_y by_z : Line) : Type 0 where
-  pub x : IsScaledRow f by X p (count + 1) own.x
-  pub y : IsScaledRow f by Y p (count + 1) own.y
-  pub z : IsScaledRow f by Z p (count + 1) own.z
-  pub x_by_y : IsScaledRow f by X (up f.cells Y p) (count + 1) by_y.x
-  pub z_by_y : IsScaledRow f by Z (up f.cells Y p) (count + 1) by_y.z
-  pub x_by_z : IsScaledRow f by X (up f.cells Z p) (count + 1) by_z.x
-  pub y_by_z : IsScaledRow f by Y (up f.cells Z p) (count + 1) by_z.y
+-- and that begin with the last one
+abbrev pub down_span : ℕ → Span
+down_span cells = record { first = 1; edge = 0; cells = cells }
 
--- the scaled rows of the line of count cells that begins at p, of the last one in y and of the last
--- in z, each from a cell back: what the curl of B has along it
-pub record AreRowsDown (f : Field) (by : Multiplier) (p : Triple) (count : ℕ)
-    (own by_y by_z : Line) : Type 0 where
-  pub x : IsScaledRow f by X (down f.cells X p) (count + 1) own.x
-  pub y : IsScaledRow f by Y (down f.cells X p) (count + 1) own.y
-  pub z : IsScaledRow f by Z (down f.cells X p) (count + 1) own.z
-  pub x_by_y : IsScaledRow f by X (down f.cells X (down f.cells Y p)) (count + 1) by_y.x
-  pub z_by_y : IsScaledRow f by Z (down f.cells X (down f.cells Y p)) (count + 1) by_y.z
-  pub x_by_z : IsScaledRow f by X (down f.cells X (down f.cells Z p)) (count + 1) by_z.x
-  pub y_by_z : IsScaledRow f by Y (down f.cells X (down f.cells Z p)) (count + 1) by_z.y
+-- the scaled rows of a line are there that a curl has along the line itself: x at its cells, y and
+-- z also at the edge. The rooms begin with the cell p.
+pub record IsOwnLine (f : Field) (by : Multiplier) (p : Triple) (s : Span) (line : Line)
+    : Type 0 where
+  pub x : IsScaledRow f by X p s.first (s.first + s.cells) line.x
+  pub y : IsScaledRow f by Y p 0 (s.cells + 1) line.y
+  pub z : IsScaledRow f by Z p 0 (s.cells + 1) line.z
+
+-- those that it has along the line beside it in y,
+pub record IsSideLine (f : Field) (by : Multiplier) (p : Triple) (s : Span) (line : Line)
+    : Type 0 where
+  pub x : IsScaledRow f by X p s.first (s.first + s.cells) line.x
+  pub z : IsScaledRow f by Z p s.first (s.first + s.cells) line.z
+
+-- and along the line beside it in z
+pub record IsNextLine (f : Field) (by : Multiplier) (p : Triple) (s : Span) (line : Line)
+    : Type 0 where
+  pub x : IsScaledRow f by X p s.first (s.first + s.cells) line.x
+  pub y : IsScaledRow f by Y p s.first (s.first + s.cells) line.y
+
+-- a plane has a strip of so many lines in its own layer, and the line beside the strip: before it
+-- where rows begin before their cells, and else behind it. The plane begins with the line of the
+-- cell p.
+pub record IsScaledPlane (f : Field) (by : Multiplier) (p : Triple) (s : Span) (lines : ℕ)
+    (plane : List Line) : Type 0 where
+  pub own : (j : ℕ) → s.first ≤ j → j < s.first + lines
+      → IsOwnLine f by (along_y f.cells p j) s (line_at plane j)
+  pub side : (j : ℕ) → j < lines + 1 → IsSideLine f by (along_y f.cells p j) s (line_at plane j)
+
+-- a plane has the lines that lie beside a strip of so many lines in z
+pub record IsNextPlane (f : Field) (by : Multiplier) (p : Triple) (s : Span) (lines : ℕ)
+    (plane : List Line) : Type 0 where
+  pub next : (j : ℕ) → s.first ≤ j → j < s.first + lines
+      → IsNextLine f by (along_y f.cells p j) s (line_at plane j)
+
+-- all the scaled rows that a curl has along a line: of the line itself, whose rooms begin with the
+-- cell p, of that beside it in y, whose rooms begin with q, and of that beside it in z, with r
+pub record AreRows (f : Field) (by : Multiplier) (s : Span) (p q r : Triple) (own by_y by_z : Line)
+    : Type 0 where
+  pub here : IsOwnLine f by p s own
+  pub in_y : IsSideLine f by q s by_y
+  pub in_z : IsNextLine f by r s by_z
+
+-- those of the curl of E along the line of count cells that begins at p: of the next lines, with
+-- the next cell in x,
+abbrev pub AreRowsUp : Field → Multiplier → Triple → ℕ → Line → Line → Line → Type 0
+AreRowsUp f by p count own by_y by_z =
+    AreRows f by (up_span count) p (up f.cells Y p) (up f.cells Z p) own by_y by_z
+
+-- and of the curl of B: of the last lines, with the last cell in x
+abbrev pub AreRowsDown : Field → Multiplier → Triple → ℕ → Line → Line → Line → Type 0
+AreRowsDown f by p count own by_y by_z =
+    AreRows f by (down_span count) (down f.cells X p) (down f.cells X (down f.cells Y p))
+    (down f.cells X (down f.cells Z p)) own by_y by_z
+
+-- where the planes for the curl of B begin: a cell before in x and a line before in y
+abbrev pub corner_before : Triple → Triple → Triple
+corner_before n p = down n X (down n Y p)

@@ -1,5 +1,5 @@
 -- Rows of a phase: the values of one component along a line of cells in x, scaled once.
-use Rattle.std.specs.Prelude.{◌≡◌, ℕ, ℤ, pos, ◌+◌, ◌%◌, ◌^◌, ◌<◌, ◌+ℤ◌, ◌-ℤ◌, List, length, slice_index_or}
+use Rattle.std.specs.Prelude.{◌≡◌, ℕ, ℤ, pos, ◌+◌, ◌%◌, ◌^◌, ◌<◌, ◌≤◌, ◌+ℤ◌, ◌-ℤ◌, List, length, slice_index_or}
 use Rattle.pic_num.specs.declared.axis.Axis.{Axis}
 use Rattle.pic_num.specs.Multiplier.{Multiplier}
 use Rattle.pic_num.specs.Rounding.{scaled}
@@ -36,12 +36,14 @@ pub record IsStart (f : Field) (s : Start) : Type 0 where
 abbrev pub along_x : Triple → Triple → ℕ → Triple
 along_x n p i = record p { x = (p.x + i) % n.x }
 
--- the first count values of a row are those of the field's component on an axis from the cell p on,
--- round the grid, each scaled once
-pub record IsScaledRow (f : Field) (by : Multiplier) (a : Axis) (p : Triple) (count : ℕ)
+-- the values of a row at the indices from first on and below past are those of a field's component
+-- on an axis, each scaled once. The value at the index 0 would be that of the cell p, and each next
+-- one is that of the next cell in x, round the grid.
+pub record IsScaledRow (f : Field) (by : Multiplier) (a : Axis) (p : Triple) (first past : ℕ)
     (row : List ℤ) : Type 0 where
-  pub values : (i : ℕ) → i < count → row_at row i ≡ scaled (value_at f a (along_x f.cells p i)) by
-  pub small : IsSmallRow (2 ^ 121) count row
+  pub values : (i : ℕ) → first ≤ i → i < past
+      → row_at row i ≡ scaled (value_at f a (along_x f.cells p i)) by
+  pub small : (i : ℕ) → first ≤ i → i < past → IsAtMost (row_at row i) (2 ^ 121)
 
 -- a curl from the values of four rows
 abbrev pub curl_of : ℤ → ℤ → ℤ → ℤ → ℤ

@@ -11,15 +11,26 @@ ghost use Rattle.pic_grid.specs.Lattice.{EachAtMost};
 ghost use Rattle.pic_grid.specs.Block.{IsAmongCells, IsShaped, AllAtMost, inner_at, outer_of};
 ghost use Rattle.pic_field.specs.FieldPhases.{full_of, full_in, lowest, least_fault, AllBounded};
 ghost use Rattle.pic_field.specs.Lines.{HasCells, OnLine, OnLines, OnStrip, BelowLayer, Changed, AreSmall, full_made, line_start};
-ghost use Rattle.pic_field.specs.Planes.{IsScaledPlane, AreRowsDown, plane_at};
+ghost use Rattle.pic_field.specs.Planes.{IsScaledPlane, IsNextPlane, AreRowsDown, corner_before, down_span, plane_at};
 
 use crate::faults::{safe_most, stop_in};
-use crate::plane::{Line, Plane, fill_plane, strip_end};
+use crate::plane::{Line, Plane, fill_next_plane, fill_plane, span_down, strip_end};
 use crate::rooms::{Rooms, full_row};
 use crate::row::{Four, shifted};
 use crate::zone::{cell_in, is_empty, line_length};
 use pic_grid::{Block, Lattice, Phase, Stop};
 use pic_num::{Axis, Scales};
+
+/// What a step of E of a block is made from.
+#[derive(Clone, Copy)]
+struct FullStep<'a> {
+    scales: &'a Scales,
+    b: &'a Lattice,
+    /// The current in the zone of the block.
+    j: &'a Block,
+    /// A size up to which no new value passes a bound.
+    most: u128,
+}
 
 /// A step of E at every place of a block: each value and the curl of the scaled B, less the current
 /// `j`. The zone of the block lies among the cells of `b` and is that of `j`, and all values are at
@@ -69,30 +80,25 @@ pub fn full_e_in(
     ensures bounded { OnOk result (AllBounded scales.now.e_force e.new) }
 {
     let most = safe_most(scales.e_force);
-    if full_strips(scales, b, j, e, most, rooms) {
+    let step = FullStep { scales, b, j, most };
+    if full_strips(&step, e, rooms) {
         return Ok(());
     }
     stop_in(Phase::Electric, scales.e_force, b.cells(), e)
 }
 
-/// A step of E at every place, strip by strip, and whether all new values are at most `most` in
-/// size.
-fn full_strips(
-    scales: &Scales,
-    b: &Lattice,
-    j: &Block,
-    e: &mut Block,
-    most: u128,
-    rooms: &mut Rooms,
-) -> bool
-    requires among { IsAmongCells e.old.low e.old.size b.now.cells }
-    requires j_shape { IsShaped j.now e.old }
-    requires b_small { EachAtMost (2 ^ 90) b.now }
-    requires j_small { AreSmall (2 ^ 90) (BelowLayer e.old.size.z) j.now }
+/// A step of E at every place, strip by strip, and whether all new values are at most the
+/// step's `most` in size.
+fn full_strips(step: &FullStep, e: &mut Block, rooms: &mut Rooms) -> bool
+    requires among { IsAmongCells e.old.low e.old.size step.now.b.now.cells }
+    requires j_shape { IsShaped step.now.j.now e.old }
+    requires b_small { EachAtMost (2 ^ 90) step.now.b.now }
+    requires j_small { AreSmall (2 ^ 90) (BelowLayer e.old.size.z) step.now.j.now }
     requires e_small { AreSmall (2 ^ 90) (BelowLayer e.old.size.z) e.old }
-    ensures changed { Changed (full_made scales.now b.now j.now e.old.low)
+    ensures changed { Changed
+        (full_made step.now.scales.now step.now.b.now step.now.j.now e.old.low)
         (BelowLayer e.old.size.z) e.old e.new }
-    ensures calm { IsTrue result → AreSmall most (BelowLayer e.old.size.z) e.new }
+    ensures calm { IsTrue result → AreSmall step.now.most (BelowLayer e.old.size.z) e.new }
 {
     let zone = e.zone();
     if is_empty(zone) {
@@ -102,7 +108,7 @@ fn full_strips(
     let mut from = 0;
     while from < zone.size[1] {
         let to = strip_end(from, zone.size[1]);
-        let found = full_strip(scales, b, j, e, from, to, most, rooms);
+        let found = full_strip(step, e, from, to, rooms);
         calm = calm & found;
         from = to;
     }
@@ -111,51 +117,42 @@ fn full_strips(
 
 /// A step of E on the lines of a strip, layer by layer. A plane of scaled rows serves its own layer
 /// and then the one above it.
-fn full_strip(
-    scales: &Scales,
-    b: &Lattice,
-    j: &Block,
-    e: &mut Block,
-    from: u32,
-    to: u32,
-    most: u128,
-    rooms: &mut Rooms,
-) -> bool
-    requires among { IsAmongCells e.old.low e.old.size b.now.cells }
-    requires j_shape { IsShaped j.now e.old }
+fn full_strip(step: &FullStep, e: &mut Block, from: u32, to: u32, rooms: &mut Rooms) -> bool
+    requires among { IsAmongCells e.old.low e.old.size step.now.b.now.cells }
+    requires j_shape { IsShaped step.now.j.now e.old }
     requires some { HasCells e.old.size }
-    requires b_small { EachAtMost (2 ^ 90) b.now }
+    requires b_small { EachAtMost (2 ^ 90) step.now.b.now }
     requires from { from < to }
     requires few { to ≤ from + 8 }
     requires to { to ≤ e.old.size.y }
-    requires j_small { AreSmall (2 ^ 90) (OnStrip from to e.old.size.z) j.now }
+    requires j_small { AreSmall (2 ^ 90) (OnStrip from to e.old.size.z) step.now.j.now }
     requires e_small { AreSmall (2 ^ 90) (OnStrip from to e.old.size.z) e.old }
-    ensures changed { Changed (full_made scales.now b.now j.now e.old.low)
+    ensures changed { Changed
+        (full_made step.now.scales.now step.now.b.now step.now.j.now e.old.low)
         (OnStrip from to e.old.size.z) e.old e.new }
-    ensures calm { IsTrue result → AreSmall most (OnStrip from to e.old.size.z) e.new }
+    ensures calm { IsTrue result → AreSmall step.now.most (OnStrip from to e.old.size.z) e.new }
 {
     let zone = e.zone();
-    let count = line_length(b.cells(), zone);
-    let here = cell_in(b.cells(), zone, [0, from, 0]);
-    let side = b.cells().down(Axis::X, here);
-    let first = b.cells().down(Axis::Z, b.cells().down(Axis::Y, here));
+    let span = span_down(line_length(step.b.cells(), zone));
+    let here = cell_in(step.b.cells(), zone, [0, from, 0]);
+    let corner = step
+        .b
+        .cells()
+        .down(Axis::X, step.b.cells().down(Axis::Y, here));
+    let below = step.b.cells().down(Axis::Z, corner);
     let lines = (to - from) as usize;
-    let to_e = scales.b_to_e;
-    fill_plane(
-        b,
-        to_e,
-        first,
-        side[0],
-        count,
-        lines + 1,
-        0,
-        false,
+    fill_next_plane(
+        step.b,
+        step.scales.b_to_e,
+        below,
+        span,
+        lines,
         &mut rooms.planes[0],
     );
     let mut far = 0;
     let mut calm = true;
     for z in 0..zone.size[2] {
-        let found = full_layer(scales, b, j, e, from, to, z, far, most, rooms);
+        let found = full_layer(step, e, from, to, z, far, rooms);
         calm = calm & found;
         far = 1 - far;
     }
@@ -165,123 +162,94 @@ fn full_strip(
 /// A step of E on the lines of a strip in a layer, where the plane of scaled rows of the layer
 /// below is that at `far`. The other room has the plane of the layer itself then.
 fn full_layer(
-    scales: &Scales,
-    b: &Lattice,
-    j: &Block,
+    step: &FullStep,
     e: &mut Block,
     from: u32,
     to: u32,
     z: u32,
     far: usize,
-    most: u128,
     rooms: &mut Rooms,
 ) -> bool
-    requires among { IsAmongCells e.old.low e.old.size b.now.cells }
-    requires j_shape { IsShaped j.now e.old }
+    requires among { IsAmongCells e.old.low e.old.size step.now.b.now.cells }
+    requires j_shape { IsShaped step.now.j.now e.old }
     requires some { HasCells e.old.size }
-    requires b_small { EachAtMost (2 ^ 90) b.now }
+    requires b_small { EachAtMost (2 ^ 90) step.now.b.now }
     requires from { from < to }
     requires few { to ≤ from + 8 }
     requires to { to ≤ e.old.size.y }
     requires z { z < e.old.size.z }
-    requires j_small { AreSmall (2 ^ 90) (OnLines from to z) j.now }
+    requires j_small { AreSmall (2 ^ 90) (OnLines from to z) step.now.j.now }
     requires e_small { AreSmall (2 ^ 90) (OnLines from to z) e.old }
     requires far { far < 2 }
-    requires plane { IsScaledPlane b.now scales.now.b_to_e
-        (down b.now.cells Axis.Z (down b.now.cells Axis.Y (line_start e.old.low from z)))
-        (down b.now.cells Axis.X (line_start e.old.low from z)).x e.old.size.x (to - from + 1)
-        0 false (plane_at rooms.old.planes far) }
-    ensures next { z + 1 < e.old.size.z → IsScaledPlane b.now scales.now.b_to_e
-        (down b.now.cells Axis.Z (down b.now.cells Axis.Y (line_start e.old.low from (z + 1))))
-        (down b.now.cells Axis.X (line_start e.old.low from (z + 1))).x e.old.size.x
-        (to - from + 1) 0 false (plane_at rooms.new.planes (1 - far)) }
-    ensures changed { Changed (full_made scales.now b.now j.now e.old.low) (OnLines from to z)
-        e.old e.new }
-    ensures calm { IsTrue result → AreSmall most (OnLines from to z) e.new }
+    requires plane { IsNextPlane step.now.b.now step.now.scales.now.b_to_e
+        (down step.now.b.now.cells Axis.Z
+        (corner_before step.now.b.now.cells (line_start e.old.low from z)))
+        (down_span e.old.size.x) (to - from) (plane_at rooms.old.planes far) }
+    ensures next { z + 1 < e.old.size.z → IsNextPlane step.now.b.now step.now.scales.now.b_to_e
+        (down step.now.b.now.cells Axis.Z
+        (corner_before step.now.b.now.cells (line_start e.old.low from (z + 1))))
+        (down_span e.old.size.x) (to - from) (plane_at rooms.new.planes (1 - far)) }
+    ensures changed { Changed
+        (full_made step.now.scales.now step.now.b.now step.now.j.now e.old.low)
+        (OnLines from to z) e.old e.new }
+    ensures calm { IsTrue result → AreSmall step.now.most (OnLines from to z) e.new }
 {
     let zone = e.zone();
-    let count = line_length(b.cells(), zone);
-    let here = cell_in(b.cells(), zone, [0, from, z]);
-    let side = b.cells().down(Axis::X, here);
-    let first = b.cells().down(Axis::Y, here);
+    let span = span_down(line_length(step.b.cells(), zone));
+    let here = cell_in(step.b.cells(), zone, [0, from, z]);
+    let corner = step
+        .b
+        .cells()
+        .down(Axis::X, step.b.cells().down(Axis::Y, here));
     let lines = (to - from) as usize;
     let near = 1 - far;
-    let to_e = scales.b_to_e;
     fill_plane(
-        b,
-        to_e,
-        first,
-        side[0],
-        count,
-        lines + 1,
-        0,
-        true,
+        step.b,
+        step.scales.b_to_e,
+        corner,
+        span,
+        lines,
         &mut rooms.planes[near],
     );
     let planes = &rooms.planes;
-    full_lines(
-        scales,
-        b,
-        j,
-        e,
-        from,
-        to,
-        z,
-        most,
-        &planes[near],
-        &planes[far],
-    )
+    full_lines(step, e, from, to, z, &planes[near], &planes[far])
 }
 
 /// A step of E on the lines of a strip in a layer, from the scaled rows of the layer and the one
 /// below. A plane begins with the line before the strip.
 fn full_lines(
-    scales: &Scales,
-    b: &Lattice,
-    j: &Block,
+    step: &FullStep,
     e: &mut Block,
     from: u32,
     to: u32,
     z: u32,
-    most: u128,
     near: &Plane,
     far: &Plane,
 ) -> bool
-    requires among { IsAmongCells e.old.low e.old.size b.now.cells }
-    requires j_shape { IsShaped j.now e.old }
+    requires among { IsAmongCells e.old.low e.old.size step.now.b.now.cells }
+    requires j_shape { IsShaped step.now.j.now e.old }
     requires from { from < to }
     requires few { to ≤ from + 8 }
     requires to { to ≤ e.old.size.y }
     requires z { z < e.old.size.z }
-    requires j_small { AreSmall (2 ^ 90) (OnLines from to z) j.now }
+    requires j_small { AreSmall (2 ^ 90) (OnLines from to z) step.now.j.now }
     requires e_small { AreSmall (2 ^ 90) (OnLines from to z) e.old }
-    requires near { IsScaledPlane b.now scales.now.b_to_e
-        (down b.now.cells Axis.Y (line_start e.old.low from z))
-        (down b.now.cells Axis.X (line_start e.old.low from z)).x e.old.size.x (to - from + 1)
-        0 true near.now }
-    requires far { IsScaledPlane b.now scales.now.b_to_e
-        (down b.now.cells Axis.Z (down b.now.cells Axis.Y (line_start e.old.low from z)))
-        (down b.now.cells Axis.X (line_start e.old.low from z)).x e.old.size.x (to - from + 1)
-        0 false far.now }
-    ensures changed { Changed (full_made scales.now b.now j.now e.old.low) (OnLines from to z)
-        e.old e.new }
-    ensures calm { IsTrue result → AreSmall most (OnLines from to z) e.new }
+    requires near { IsScaledPlane step.now.b.now step.now.scales.now.b_to_e
+        (corner_before step.now.b.now.cells (line_start e.old.low from z))
+        (down_span e.old.size.x) (to - from) near.now }
+    requires far { IsNextPlane step.now.b.now step.now.scales.now.b_to_e
+        (down step.now.b.now.cells Axis.Z
+        (corner_before step.now.b.now.cells (line_start e.old.low from z)))
+        (down_span e.old.size.x) (to - from) far.now }
+    ensures changed { Changed
+        (full_made step.now.scales.now step.now.b.now step.now.j.now e.old.low)
+        (OnLines from to z) e.old e.new }
+    ensures calm { IsTrue result → AreSmall step.now.most (OnLines from to z) e.new }
 {
     let mut calm = true;
     for y in from..to {
         let k = (y - from) as usize;
-        let found = full_line(
-            scales,
-            b,
-            j,
-            e,
-            y,
-            z,
-            most,
-            &near[k + 1],
-            &near[k],
-            &far[k + 1],
-        );
+        let found = full_line(step, e, y, z, &near[k + 1], &near[k], &far[k + 1]);
         calm = calm & found;
     }
     calm
@@ -290,50 +258,48 @@ fn full_lines(
 /// A step of E along a line, from its scaled rows and those of the last lines in y and in z. Rows
 /// begin a cell back.
 fn full_line(
-    scales: &Scales,
-    b: &Lattice,
-    j: &Block,
+    step: &FullStep,
     e: &mut Block,
     y: u32,
     z: u32,
-    most: u128,
     own: &Line,
     by_y: &Line,
     by_z: &Line,
 ) -> bool
-    requires among { IsAmongCells e.old.low e.old.size b.now.cells }
-    requires j_shape { IsShaped j.now e.old }
+    requires among { IsAmongCells e.old.low e.old.size step.now.b.now.cells }
+    requires j_shape { IsShaped step.now.j.now e.old }
     requires y { y < e.old.size.y }
     requires z { z < e.old.size.z }
-    requires j_small { AreSmall (2 ^ 90) (OnLine y z) j.now }
+    requires j_small { AreSmall (2 ^ 90) (OnLine y z) step.now.j.now }
     requires e_small { AreSmall (2 ^ 90) (OnLine y z) e.old }
-    requires rows { AreRowsDown b.now scales.now.b_to_e (line_start e.old.low y z) e.old.size.x
-        own.now by_y.now by_z.now }
-    ensures changed { Changed (full_made scales.now b.now j.now e.old.low) (OnLine y z)
-        e.old e.new }
-    ensures calm { IsTrue result → AreSmall most (OnLine y z) e.new }
+    requires rows { AreRowsDown step.now.b.now step.now.scales.now.b_to_e
+        (line_start e.old.low y z) e.old.size.x own.now by_y.now by_z.now }
+    ensures changed { Changed
+        (full_made step.now.scales.now step.now.b.now step.now.j.now e.old.low)
+        (OnLine y z) e.old e.new }
+    ensures calm { IsTrue result → AreSmall step.now.most (OnLine y z) e.new }
 {
-    let count = line_length(b.cells(), e.zone());
+    let count = line_length(step.b.cells(), e.zone());
     let on_x = Four {
         far_third: shifted(&by_y.z[..], count),
         near_third: shifted(&own.z[..], count),
         far_second: shifted(&by_z.y[..], count),
         near_second: shifted(&own.y[..], count),
     };
-    let calm_x = full_row(e, j, Axis::X, y, z, &on_x, most);
+    let calm_x = full_row(e, step.j, Axis::X, y, z, &on_x, step.most);
     let on_y = Four {
         far_third: shifted(&by_z.x[..], count),
         near_third: shifted(&own.x[..], count),
         far_second: &own.z[..count],
         near_second: shifted(&own.z[..], count),
     };
-    let calm_y = full_row(e, j, Axis::Y, y, z, &on_y, most);
+    let calm_y = full_row(e, step.j, Axis::Y, y, z, &on_y, step.most);
     let on_z = Four {
         far_third: &own.y[..count],
         near_third: shifted(&own.y[..], count),
         far_second: shifted(&by_y.x[..], count),
         near_second: shifted(&own.x[..], count),
     };
-    let calm_z = full_row(e, j, Axis::Z, y, z, &on_z, most);
+    let calm_z = full_row(e, step.j, Axis::Z, y, z, &on_z, step.most);
     calm_x & calm_y & calm_z
 }

@@ -10,15 +10,24 @@ ghost use Rattle.pic_grid.specs.Lattice.{EachAtMost};
 ghost use Rattle.pic_grid.specs.Block.{IsAmongCells, IsShaped, AllAtMost, inner_at, outer_of};
 ghost use Rattle.pic_field.specs.FieldPhases.{half_of, half_in, lowest, least_fault, AllBounded};
 ghost use Rattle.pic_field.specs.Lines.{HasCells, OnLine, OnLines, OnStrip, BelowLayer, Changed, AreSmall, half_made, line_start};
-ghost use Rattle.pic_field.specs.Planes.{IsScaledPlane, AreRowsUp, plane_at};
+ghost use Rattle.pic_field.specs.Planes.{IsScaledPlane, IsNextPlane, AreRowsUp, plane_at, up_span};
 
 use crate::faults::{safe_most, stop_in};
-use crate::plane::{Line, Plane, fill_plane, strip_end};
+use crate::plane::{Line, Plane, fill_plane, fill_plane_behind, span_up, strip_end};
 use crate::rooms::{Rooms, half_row};
 use crate::row::{Four, shifted};
 use crate::zone::{cell_in, is_empty, line_length};
 use pic_grid::{Block, Lattice, Phase, Stop};
 use pic_num::{Axis, Scales};
+
+/// What half a step of B of a block is made from.
+#[derive(Clone, Copy)]
+struct HalfStep<'a> {
+    scales: &'a Scales,
+    e: &'a Lattice,
+    /// A size up to which no new value passes a bound.
+    most: u128,
+}
 
 /// Half a step of B at every place of a block: each value less the curl of the scaled E. The zone
 /// of the block lies among the cells of `e`, and all values are at most 2^90 in size.
@@ -61,21 +70,22 @@ pub fn half_b_in(
     ensures bounded { OnOk result (AllBounded scales.now.b_force b.new) }
 {
     let most = safe_most(scales.b_force);
-    if half_strips(scales, e, b, most, rooms) {
+    let step = HalfStep { scales, e, most };
+    if half_strips(&step, b, rooms) {
         return Ok(());
     }
     stop_in(phase, scales.b_force, e.cells(), b)
 }
 
-/// Half a step of B at every place, strip by strip, and whether all new values are at most `most`
-/// in size.
-fn half_strips(scales: &Scales, e: &Lattice, b: &mut Block, most: u128, rooms: &mut Rooms) -> bool
-    requires among { IsAmongCells b.old.low b.old.size e.now.cells }
-    requires e_small { EachAtMost (2 ^ 90) e.now }
+/// Half a step of B at every place, strip by strip, and whether all new values are at most the
+/// step's `most` in size.
+fn half_strips(step: &HalfStep, b: &mut Block, rooms: &mut Rooms) -> bool
+    requires among { IsAmongCells b.old.low b.old.size step.now.e.now.cells }
+    requires e_small { EachAtMost (2 ^ 90) step.now.e.now }
     requires b_small { AreSmall (2 ^ 90) (BelowLayer b.old.size.z) b.old }
-    ensures changed { Changed (half_made scales.now e.now b.old.low)
+    ensures changed { Changed (half_made step.now.scales.now step.now.e.now b.old.low)
         (BelowLayer b.old.size.z) b.old b.new }
-    ensures calm { IsTrue result → AreSmall most (BelowLayer b.old.size.z) b.new }
+    ensures calm { IsTrue result → AreSmall step.now.most (BelowLayer b.old.size.z) b.new }
 {
     let zone = b.zone();
     if is_empty(zone) {
@@ -85,7 +95,7 @@ fn half_strips(scales: &Scales, e: &Lattice, b: &mut Block, most: u128, rooms: &
     let mut from = 0;
     while from < zone.size[1] {
         let to = strip_end(from, zone.size[1]);
-        let found = half_strip(scales, e, b, from, to, most, rooms);
+        let found = half_strip(step, b, from, to, rooms);
         calm = calm & found;
         from = to;
     }
@@ -94,46 +104,34 @@ fn half_strips(scales: &Scales, e: &Lattice, b: &mut Block, most: u128, rooms: &
 
 /// Half a step of B on the lines of a strip, layer by layer. A plane of scaled rows serves the
 /// layer below it and then its own.
-fn half_strip(
-    scales: &Scales,
-    e: &Lattice,
-    b: &mut Block,
-    from: u32,
-    to: u32,
-    most: u128,
-    rooms: &mut Rooms,
-) -> bool
-    requires among { IsAmongCells b.old.low b.old.size e.now.cells }
+fn half_strip(step: &HalfStep, b: &mut Block, from: u32, to: u32, rooms: &mut Rooms) -> bool
+    requires among { IsAmongCells b.old.low b.old.size step.now.e.now.cells }
     requires some { HasCells b.old.size }
-    requires e_small { EachAtMost (2 ^ 90) e.now }
+    requires e_small { EachAtMost (2 ^ 90) step.now.e.now }
     requires from { from < to }
     requires few { to ≤ from + 8 }
     requires to { to ≤ b.old.size.y }
     requires b_small { AreSmall (2 ^ 90) (OnStrip from to b.old.size.z) b.old }
-    ensures changed { Changed (half_made scales.now e.now b.old.low)
+    ensures changed { Changed (half_made step.now.scales.now step.now.e.now b.old.low)
         (OnStrip from to b.old.size.z) b.old b.new }
-    ensures calm { IsTrue result → AreSmall most (OnStrip from to b.old.size.z) b.new }
+    ensures calm { IsTrue result → AreSmall step.now.most (OnStrip from to b.old.size.z) b.new }
 {
     let zone = b.zone();
-    let count = line_length(e.cells(), zone);
-    let first = cell_in(e.cells(), zone, [0, from, 0]);
+    let span = span_up(line_length(step.e.cells(), zone));
+    let first = cell_in(step.e.cells(), zone, [0, from, 0]);
     let lines = (to - from) as usize;
-    let to_b = scales.e_to_b;
     fill_plane(
-        e,
-        to_b,
+        step.e,
+        step.scales.e_to_b,
         first,
-        first[0],
-        count,
-        lines + 1,
+        span,
         lines,
-        true,
         &mut rooms.planes[0],
     );
     let mut near = 0;
     let mut calm = true;
     for z in 0..zone.size[2] {
-        let found = half_layer(scales, e, b, from, to, z, near, most, rooms);
+        let found = half_layer(step, b, from, to, z, near, rooms);
         calm = calm & found;
         near = 1 - near;
     }
@@ -143,91 +141,78 @@ fn half_strip(
 /// Half a step of B on the lines of a strip in a layer, whose plane of scaled rows is that at
 /// `near`. The other room has the plane of the next layer then.
 fn half_layer(
-    scales: &Scales,
-    e: &Lattice,
+    step: &HalfStep,
     b: &mut Block,
     from: u32,
     to: u32,
     z: u32,
     near: usize,
-    most: u128,
     rooms: &mut Rooms,
 ) -> bool
-    requires among { IsAmongCells b.old.low b.old.size e.now.cells }
+    requires among { IsAmongCells b.old.low b.old.size step.now.e.now.cells }
     requires some { HasCells b.old.size }
-    requires e_small { EachAtMost (2 ^ 90) e.now }
+    requires e_small { EachAtMost (2 ^ 90) step.now.e.now }
     requires from { from < to }
     requires few { to ≤ from + 8 }
     requires to { to ≤ b.old.size.y }
     requires z { z < b.old.size.z }
     requires b_small { AreSmall (2 ^ 90) (OnLines from to z) b.old }
     requires near { near < 2 }
-    requires plane { IsScaledPlane e.now scales.now.e_to_b (line_start b.old.low from z)
-        (line_start b.old.low from z).x b.old.size.x (to - from + 1) (to - from) true
+    requires plane { IsScaledPlane step.now.e.now step.now.scales.now.e_to_b
+        (line_start b.old.low from z) (up_span b.old.size.x) (to - from)
         (plane_at rooms.old.planes near) }
-    ensures next { z + 1 < b.old.size.z → IsScaledPlane e.now scales.now.e_to_b
-        (line_start b.old.low from (z + 1)) (line_start b.old.low from (z + 1)).x b.old.size.x
-        (to - from + 1) (to - from) true (plane_at rooms.new.planes (1 - near)) }
-    ensures changed { Changed (half_made scales.now e.now b.old.low) (OnLines from to z)
-        b.old b.new }
-    ensures calm { IsTrue result → AreSmall most (OnLines from to z) b.new }
+    ensures next { z + 1 < b.old.size.z → IsScaledPlane step.now.e.now step.now.scales.now.e_to_b
+        (line_start b.old.low from (z + 1)) (up_span b.old.size.x) (to - from)
+        (plane_at rooms.new.planes (1 - near)) }
+    ensures changed { Changed (half_made step.now.scales.now step.now.e.now b.old.low)
+        (OnLines from to z) b.old b.new }
+    ensures calm { IsTrue result → AreSmall step.now.most (OnLines from to z) b.new }
 {
     let zone = b.zone();
-    let count = line_length(e.cells(), zone);
-    let above = e
+    let span = span_up(line_length(step.e.cells(), zone));
+    let above = step
+        .e
         .cells()
-        .up(Axis::Z, cell_in(e.cells(), zone, [0, from, z]));
+        .up(Axis::Z, cell_in(step.e.cells(), zone, [0, from, z]));
     let lines = (to - from) as usize;
     let more = z + 1 < zone.size[2];
     let far = 1 - near;
-    let to_b = scales.e_to_b;
-    fill_plane(
-        e,
-        to_b,
-        above,
-        above[0],
-        count,
-        lines + 1,
-        lines,
-        more,
-        &mut rooms.planes[far],
-    );
+    let room = &mut rooms.planes[far];
+    fill_plane_behind(step.e, step.scales.e_to_b, above, span, lines, more, room);
     let planes = &rooms.planes;
-    half_lines(scales, e, b, from, to, z, most, &planes[near], &planes[far])
+    half_lines(step, b, from, to, z, &planes[near], &planes[far])
 }
 
 /// Half a step of B on the lines of a strip in a layer, from the scaled rows of the layer and the
 /// next.
 fn half_lines(
-    scales: &Scales,
-    e: &Lattice,
+    step: &HalfStep,
     b: &mut Block,
     from: u32,
     to: u32,
     z: u32,
-    most: u128,
     near: &Plane,
     far: &Plane,
 ) -> bool
-    requires among { IsAmongCells b.old.low b.old.size e.now.cells }
+    requires among { IsAmongCells b.old.low b.old.size step.now.e.now.cells }
     requires from { from < to }
     requires few { to ≤ from + 8 }
     requires to { to ≤ b.old.size.y }
     requires z { z < b.old.size.z }
     requires b_small { AreSmall (2 ^ 90) (OnLines from to z) b.old }
-    requires near { IsScaledPlane e.now scales.now.e_to_b (line_start b.old.low from z)
-        (line_start b.old.low from z).x b.old.size.x (to - from + 1) (to - from) true near.now }
-    requires far { IsScaledPlane e.now scales.now.e_to_b
-        (up e.now.cells Axis.Z (line_start b.old.low from z))
-        (line_start b.old.low from z).x b.old.size.x (to - from + 1) (to - from) false far.now }
-    ensures changed { Changed (half_made scales.now e.now b.old.low) (OnLines from to z)
-        b.old b.new }
-    ensures calm { IsTrue result → AreSmall most (OnLines from to z) b.new }
+    requires near { IsScaledPlane step.now.e.now step.now.scales.now.e_to_b
+        (line_start b.old.low from z) (up_span b.old.size.x) (to - from) near.now }
+    requires far { IsNextPlane step.now.e.now step.now.scales.now.e_to_b
+        (up step.now.e.now.cells Axis.Z (line_start b.old.low from z))
+        (up_span b.old.size.x) (to - from) far.now }
+    ensures changed { Changed (half_made step.now.scales.now step.now.e.now b.old.low)
+        (OnLines from to z) b.old b.new }
+    ensures calm { IsTrue result → AreSmall step.now.most (OnLines from to z) b.new }
 {
     let mut calm = true;
     for y in from..to {
         let j = (y - from) as usize;
-        let found = half_line(scales, e, b, y, z, most, &near[j], &near[j + 1], &far[j]);
+        let found = half_line(step, b, y, z, &near[j], &near[j + 1], &far[j]);
         calm = calm & found;
     }
     calm
@@ -235,46 +220,45 @@ fn half_lines(
 
 /// Half a step of B along a line, from its scaled rows and those of the next lines in y and in z.
 fn half_line(
-    scales: &Scales,
-    e: &Lattice,
+    step: &HalfStep,
     b: &mut Block,
     y: u32,
     z: u32,
-    most: u128,
     own: &Line,
     by_y: &Line,
     by_z: &Line,
 ) -> bool
-    requires among { IsAmongCells b.old.low b.old.size e.now.cells }
+    requires among { IsAmongCells b.old.low b.old.size step.now.e.now.cells }
     requires y { y < b.old.size.y }
     requires z { z < b.old.size.z }
     requires b_small { AreSmall (2 ^ 90) (OnLine y z) b.old }
-    requires rows { AreRowsUp e.now scales.now.e_to_b (line_start b.old.low y z) b.old.size.x
-        own.now by_y.now by_z.now }
-    ensures changed { Changed (half_made scales.now e.now b.old.low) (OnLine y z) b.old b.new }
-    ensures calm { IsTrue result → AreSmall most (OnLine y z) b.new }
+    requires rows { AreRowsUp step.now.e.now step.now.scales.now.e_to_b
+        (line_start b.old.low y z) b.old.size.x own.now by_y.now by_z.now }
+    ensures changed { Changed (half_made step.now.scales.now step.now.e.now b.old.low)
+        (OnLine y z) b.old b.new }
+    ensures calm { IsTrue result → AreSmall step.now.most (OnLine y z) b.new }
 {
-    let count = line_length(e.cells(), b.zone());
+    let count = line_length(step.e.cells(), b.zone());
     let on_x = Four {
         far_third: &by_y.z[..count],
         near_third: &own.z[..count],
         far_second: &by_z.y[..count],
         near_second: &own.y[..count],
     };
-    let calm_x = half_row(b, Axis::X, y, z, &on_x, most);
+    let calm_x = half_row(b, Axis::X, y, z, &on_x, step.most);
     let on_y = Four {
         far_third: &by_z.x[..count],
         near_third: &own.x[..count],
         far_second: shifted(&own.z[..], count),
         near_second: &own.z[..count],
     };
-    let calm_y = half_row(b, Axis::Y, y, z, &on_y, most);
+    let calm_y = half_row(b, Axis::Y, y, z, &on_y, step.most);
     let on_z = Four {
         far_third: shifted(&own.y[..], count),
         near_third: &own.y[..count],
         far_second: &by_y.x[..count],
         near_second: &own.x[..count],
     };
-    let calm_z = half_row(b, Axis::Z, y, z, &on_z, most);
+    let calm_z = half_row(b, Axis::Z, y, z, &on_z, step.most);
     calm_x & calm_y & calm_z
 }

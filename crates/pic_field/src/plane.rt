@@ -2,15 +2,18 @@
 
 ghost use Rattle.std.specs.Prelude.{◌≡◌, ◌+◌, ◌<◌, ◌≤◌, ◌^◌, IsTrue};
 ghost use Rattle.pic_num.specs.Limits.{most_cells_of_axis};
+ghost use Rattle.pic_num.specs.Rounding.{scaled};
+ghost use Rattle.pic_num.specs.Sizes.{IsAtMost};
 ghost use Rattle.pic_num.specs.Space.{triple};
 ghost use Rattle.pic_grid.specs.Cells.{IsWithin};
-ghost use Rattle.pic_grid.specs.Lattice.{EachAtMost};
+ghost use Rattle.pic_grid.specs.Lattice.{EachAtMost, value_at};
+ghost use Rattle.pic_grid.specs.Slot.{IsSlotX, IsSlotY, IsSlotZ};
 ghost use Rattle.pic_field.specs.Rows.{start_cell, IsStart, IsScaledRow};
-ghost use Rattle.pic_field.specs.Planes.{beside, IsScaledPlane};
+ghost use Rattle.pic_field.specs.Planes.{up_span, down_span, IsSpan, IsOwnLine, IsSideLine, IsNextLine, IsScaledPlane, IsNextPlane};
 
 use crate::row::{Row, Start, after_run, scale_row, start_at};
-use pic_grid::Lattice;
-use pic_num::{Axis, Mult};
+use pic_grid::{Lattice, Slot};
+use pic_num::{Axis, Mult, scale};
 
 /// How many lines a strip has at most.
 pub(crate) const LINES: u32 = 8;
@@ -29,6 +32,44 @@ pub(crate) struct Line {
 /// A room for the scaled rows of a plane.
 pub(crate) type Plane = [Line; PLANE];
 
+/// Where the values of a row stand in its room.
+#[derive(Clone, Copy)]
+pub(crate) struct Span {
+    /// The index of the value of the row's first cell. In a plane also that of a strip's first
+    /// line.
+    pub(crate) first: usize,
+    /// The index of the value of the cell beside the row, before or behind it.
+    pub(crate) edge: usize,
+    /// How many cells the row has.
+    pub(crate) cells: usize,
+}
+
+/// The span of rows that end with the value of the next cell.
+pub(crate) fn span_up(cells: usize) -> Span
+    requires { cells ≤ most_cells_of_axis }
+    ensures value { result ≡ up_span cells }
+    ensures is { IsSpan result }
+{
+    Span {
+        first: 0,
+        edge: cells,
+        cells,
+    }
+}
+
+/// The span of rows that begin with the value of the last cell.
+pub(crate) fn span_down(cells: usize) -> Span
+    requires { cells ≤ most_cells_of_axis }
+    ensures value { result ≡ down_span cells }
+    ensures is { IsSpan result }
+{
+    Span {
+        first: 1,
+        edge: 0,
+        cells,
+    }
+}
+
 /// The line behind a strip that begins at the line `from`, of a zone of `count` lines.
 pub(crate) fn strip_end(from: u32, count: u32) -> u32
     requires { from < count }
@@ -39,110 +80,193 @@ pub(crate) fn strip_end(from: u32, count: u32) -> u32
     from + LINES.min(count - from)
 }
 
-/// Scales the rows of `lines` lines one after another in y, periodically, the first of which
-/// begins at the cell `first`: a value more than `count` of each component, from the layer `side` of
-/// x on. The row of y of the line `without` is left out, and those of z if not `with_z`.
+/// Scales what a curl reads of the plane of a strip of `lines` lines in the strip's own layer and
+/// the one beside it: of the strip's lines, and of that beside them in y. The plane begins with the
+/// line whose rooms begin with the cell `at`.
 pub(crate) fn fill_plane(
     field: &Lattice,
     by: Mult,
-    first: [u32; 3],
-    side: u32,
-    count: usize,
+    at: [u32; 3],
+    span: Span,
     lines: usize,
-    without: usize,
-    with_z: bool,
     to: &mut Plane,
 )
-    requires within { IsWithin (triple first) field.now.cells }
-    requires side { side < field.now.cells.x }
-    requires few { count ≤ most_cells_of_axis }
-    requires lines { lines ≤ 9 }
+    requires within { IsWithin (triple at) field.now.cells }
+    requires span { IsSpan span }
+    requires edge { (triple at).x + span.edge ≤ field.now.cells.x }
+    requires lines { lines ≤ 8 }
     requires small { EachAtMost (2 ^ 90) field.now }
-    ensures { IsScaledPlane field.now by (triple first) side count lines without with_z to.new }
+    ensures { IsScaledPlane field.now by (triple at) span lines to.new }
 {
     let [_, ny, _] = field.cells().numbers();
-    let [x, start, z] = first;
+    let [x, start, z] = at;
     let mut y = start;
-    for j in 0..lines {
-        scale_line(
-            field,
-            by,
-            [x, y, z],
-            side,
-            count + 1,
-            j != without,
-            with_z,
-            &mut to[j],
-        );
+    for j in 0..lines + 1 {
+        let own = is_own(span.first, lines, j);
+        scale_line(field, by, [x, y, z], span, own, &mut to[j]);
         y = after_run(ny, y, 1);
     }
 }
 
-/// Scales the rows of a line that begins at the layer `side` of x beside the cell `at`: `count`
-/// values of x, and of y and z if they are wanted.
-fn scale_line(
+/// Scales what a curl reads of the plane of a strip of `lines` lines in the layer beside it alone.
+pub(crate) fn fill_next_plane(
     field: &Lattice,
     by: Mult,
     at: [u32; 3],
-    side: u32,
-    count: usize,
-    with_y: bool,
-    with_z: bool,
-    to: &mut Line,
+    span: Span,
+    lines: usize,
+    to: &mut Plane,
 )
     requires within { IsWithin (triple at) field.now.cells }
-    requires side { side < field.now.cells.x }
-    requires few { count ≤ 129 }
+    requires span { IsSpan span }
+    requires lines { lines ≤ 8 }
     requires small { EachAtMost (2 ^ 90) field.now }
-    ensures x { IsScaledRow field.now by Axis.X (beside side (triple at)) count to.new.x }
-    ensures y { IsTrue with_y
-        → IsScaledRow field.now by Axis.Y (beside side (triple at)) count to.new.y }
-    ensures z { IsTrue with_z
-        → IsScaledRow field.now by Axis.Z (beside side (triple at)) count to.new.z }
+    ensures { IsNextPlane field.now by (triple at) span lines to.new }
 {
-    let Start { x: _, y, z } = start_at(field, at);
-    scale_rows(
-        field,
-        by,
-        Start { x: side, y, z },
-        count,
-        with_y,
-        with_z,
-        to,
-    );
+    let [_, ny, _] = field.cells().numbers();
+    let [x, start, z] = at;
+    let mut y = after_run(ny, start, span.first);
+    for j in span.first..span.first + lines {
+        scale_next(field, by, [x, y, z], span, &mut to[j]);
+        y = after_run(ny, y, 1);
+    }
 }
 
-/// The same from a start on, round the grid. The runs of the three components lie at the same place
-/// of a part, which is found once for them.
-fn scale_rows(
+/// Scales what a curl reads of the plane of the layer behind a strip's: as that of the strip's next
+/// layer if it has one.
+pub(crate) fn fill_plane_behind(
     field: &Lattice,
     by: Mult,
-    start: Start,
-    count: usize,
-    with_y: bool,
-    with_z: bool,
-    to: &mut Line,
+    at: [u32; 3],
+    span: Span,
+    lines: usize,
+    has_next: bool,
+    to: &mut Plane,
 )
-    requires start { IsStart field.now start }
-    requires few { count ≤ 129 }
+    requires within { IsWithin (triple at) field.now.cells }
+    requires span { IsSpan span }
+    requires edge { (triple at).x + span.edge ≤ field.now.cells.x }
+    requires lines { lines ≤ 8 }
     requires small { EachAtMost (2 ^ 90) field.now }
-    ensures x { IsScaledRow field.now by Axis.X (start_cell start) count to.new.x }
-    ensures y { IsTrue with_y
-        → IsScaledRow field.now by Axis.Y (start_cell start) count to.new.y }
-    ensures z { IsTrue with_z
-        → IsScaledRow field.now by Axis.Z (start_cell start) count to.new.z }
+    ensures own { IsTrue has_next → IsScaledPlane field.now by (triple at) span lines to.new }
+    ensures next { IsNextPlane field.now by (triple at) span lines to.new }
+{
+    if has_next {
+        return fill_plane(field, by, at, span, lines, to);
+    }
+    fill_next_plane(field, by, at, span, lines, to)
+}
+
+/// Whether the line at the index `j` of a plane is one of the strip's.
+#[inline(always)]
+fn is_own(first: usize, lines: usize, j: usize) -> bool
+    requires first { first ≤ 1 }
+    requires lines { lines ≤ 8 }
+    ensures { first ≤ j → j < first + lines → IsTrue result }
+{
+    if j < first {
+        return false;
+    }
+    j < first + lines
+}
+
+/// Scales what a curl reads of a line whose rooms begin with the cell `at`: one of a strip's own,
+/// or else the line beside it in y.
+fn scale_line(field: &Lattice, by: Mult, at: [u32; 3], span: Span, own: bool, to: &mut Line)
+    requires within { IsWithin (triple at) field.now.cells }
+    requires span { IsSpan span }
+    requires edge { (triple at).x + span.edge ≤ field.now.cells.x }
+    requires small { EachAtMost (2 ^ 90) field.now }
+    ensures own { IsTrue own → IsOwnLine field.now by (triple at) span to.new }
+    ensures side { IsSideLine field.now by (triple at) span to.new }
+{
+    if own {
+        return scale_own(field, by, at, span, to);
+    }
+    let start = start_at(field, at);
+    let wanted = Wanted { y: false, z: true };
+    scale_rows(field, by, start, span, wanted, to)
+}
+
+/// Scales what a curl reads of the line that it is along.
+fn scale_own(field: &Lattice, by: Mult, at: [u32; 3], span: Span, to: &mut Line)
+    requires within { IsWithin (triple at) field.now.cells }
+    requires span { IsSpan span }
+    requires edge { (triple at).x + span.edge ≤ field.now.cells.x }
+    requires small { EachAtMost (2 ^ 90) field.now }
+    ensures { IsOwnLine field.now by (triple at) span to.new }
 {
     let [nx, _, _] = field.cells().numbers();
-    let Start { mut x, y, z } = start;
-    let mut done = 0;
-    while done < count {
+    let start = start_at(field, at);
+    let wanted = Wanted { y: true, z: true };
+    scale_rows(field, by, start, span, wanted, to);
+    let edge = field.slot_x(after_run(nx, start.x, span.edge));
+    let of_y = scaled_at(field, by, Axis::Y, edge, start.y, start.z);
+    let of_z = scaled_at(field, by, Axis::Z, edge, start.y, start.z);
+    to.y[span.edge] = of_y;
+    to.z[span.edge] = of_z;
+}
+
+/// Scales what a curl reads of a line beside it in z.
+fn scale_next(field: &Lattice, by: Mult, at: [u32; 3], span: Span, to: &mut Line)
+    requires within { IsWithin (triple at) field.now.cells }
+    requires span { IsSpan span }
+    requires small { EachAtMost (2 ^ 90) field.now }
+    ensures { IsNextLine field.now by (triple at) span to.new }
+{
+    let start = start_at(field, at);
+    let wanted = Wanted { y: true, z: false };
+    scale_rows(field, by, start, span, wanted, to);
+}
+
+/// The component on `axis` at the cell of three slots, scaled.
+#[inline(always)]
+fn scaled_at(field: &Lattice, by: Mult, axis: Axis, x: Slot, y: Slot, z: Slot) -> i128
+    requires x { IsSlotX field.now.cells field.now.parts x }
+    requires y { IsSlotY field.now.cells field.now.parts y }
+    requires z { IsSlotZ field.now.cells field.now.parts z }
+    requires small { EachAtMost (2 ^ 90) field.now }
+    ensures value { result
+        ≡ scaled (value_at field.now axis (record { x = x.index; y = y.index; z = z.index })) by }
+    ensures size { IsAtMost result (2 ^ 121) }
+{
+    let run = field.run_at(axis, x, y, z);
+    scale(run[0], by)
+}
+
+/// Which rows of a line are wanted beside that of x.
+#[derive(Clone, Copy)]
+struct Wanted {
+    y: bool,
+    z: bool,
+}
+
+/// Scales the values at the cells of a line whose rooms begin with the start, round the grid: of x,
+/// and of y and z if they are wanted. The runs of the three components lie at the same place of a
+/// part, which is found once for them.
+fn scale_rows(field: &Lattice, by: Mult, start: Start, span: Span, wanted: Wanted, to: &mut Line)
+    requires start { IsStart field.now start }
+    requires span { IsSpan span }
+    requires small { EachAtMost (2 ^ 90) field.now }
+    ensures x { IsScaledRow field.now by Axis.X (start_cell start) span.first
+        (span.first + span.cells) to.new.x }
+    ensures y { IsTrue wanted.y → IsScaledRow field.now by Axis.Y (start_cell start) span.first
+        (span.first + span.cells) to.new.y }
+    ensures z { IsTrue wanted.z → IsScaledRow field.now by Axis.Z (start_cell start) span.first
+        (span.first + span.cells) to.new.z }
+{
+    let [nx, _, _] = field.cells().numbers();
+    let Start { x: begin, y, z } = start;
+    let mut x = after_run(nx, begin, span.first);
+    let mut done = span.first;
+    while done < span.first + span.cells {
         let here = field.slot_x(x);
         let of_x = field.run_at(Axis::X, here, y, z);
         let of_y = field.run_at(Axis::Y, here, y, z);
         let of_z = field.run_at(Axis::Z, here, y, z);
-        let more = of_x.len().min(count - done);
-        let more_y = wanted(with_y, more);
-        let more_z = wanted(with_z, more);
+        let more = of_x.len().min(span.first + span.cells - done);
+        let more_y = count_if(wanted.y, more);
+        let more_z = count_if(wanted.z, more);
         scale_row(&of_x[..more], by, &mut to.x[done..done + more]);
         scale_row(&of_y[..more_y], by, &mut to.y[done..done + more_y]);
         scale_row(&of_z[..more_z], by, &mut to.z[done..done + more_z]);
@@ -153,7 +277,7 @@ fn scale_rows(
 
 /// A count, or 0 where nothing is wanted.
 #[inline(always)]
-fn wanted(is: bool, count: usize) -> usize
+fn count_if(is: bool, count: usize) -> usize
     ensures all { IsTrue is → result ≡ count }
     ensures most { result ≤ count }
 {

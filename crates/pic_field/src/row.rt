@@ -64,7 +64,7 @@ pub(crate) fn scaled_row(
     requires start { IsStart field.now start }
     requires room { count ≤ length to.old }
     requires small { EachAtMost (2 ^ 90) field.now }
-    ensures { IsScaledRow field.now by axis (start_cell start) count to.new }
+    ensures { IsScaledRow field.now by axis (start_cell start) 0 count to.new }
 {
     let [nx, _, _] = field.cells().numbers();
     let Start { mut x, y, z } = start;

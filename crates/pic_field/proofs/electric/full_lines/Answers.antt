@@ -8,8 +8,8 @@ use Rattle.pic_field.proofs.electric.full_lines.Goals as goal
 
 pub full_line-found-requires-clause-rows : goal.full_line-found-requires-clause-rows
 full_line-found-requires-clause-rows c =
-    let b = c.args.b.now in
-    let by = c.args.scales.now.b_to_e in
+    let b = c.args.step.now.b.now in
+    let by = c.args.step.now.scales.now.b_to_e in
     let from = c.args.from in
     let y = c.loop-y.y in
     let z = c.args.z in
@@ -34,7 +34,8 @@ loop-y-preserved c =
     let old = c.args.e.now in
     let mid = c.loop-y.e in
     let before = c.loop-y.invariant.changed in
-    let then = subst (λ (l : Spot). Changed (full_made c.args.scales.now c.args.b.now c.args.j.now l) (OnLine y z) mid c.full_line-found.new.e)
+    let then = subst (λ (l : Spot). Changed (full_made c.args.step.now.scales.now c.args.step.now.b.now c.args.step.now.j.now l) (OnLine y z)
+    mid c.full_line-found.new.e)
     before.shaped.low
     c.full_line-found.ensures.changed in
     record {
@@ -42,13 +43,14 @@ loop-y-preserved c =
           (strip_more old.size from y z (omega arith));
       calm = λ both.
           let each = both_true c.loop-y.calm c.full_line-found.result both in
-          small_next (full_made c.args.scales.now c.args.b.now c.args.j.now old.low) (OnLines from y z) (OnLine y z) (OnLines from (y + 1) z) mid mid
-          c.full_line-found.new.e c.args.most then (c.loop-y.invariant.calm each.0) (c.full_line-found.ensures.calm each.1)
+          small_next (full_made c.args.step.now.scales.now c.args.step.now.b.now c.args.step.now.j.now old.low) (OnLines from y z) (OnLine y z)
+          (OnLines from (y + 1) z) mid mid
+          c.full_line-found.new.e c.args.step.now.most then (c.loop-y.invariant.calm each.0) (c.full_line-found.ensures.calm each.1)
           (strip_more mid.size from y z (omega arith));
     }
 
 pub returns-clause-changed : goal.returns-clause-changed
 returns-clause-changed c =
     let end : c.loop-y.y ≡ c.args.to = omega arith in
-    subst (λ (y : ℕ). Changed (full_made c.args.scales.now c.args.b.now c.args.j.now c.args.e.now.low) (OnLines c.args.from y c.args.z) c.args.e.now
-    c.loop-y.e) end c.loop-y.invariant.changed
+    subst (λ (y : ℕ). Changed (full_made c.args.step.now.scales.now c.args.step.now.b.now c.args.step.now.j.now c.args.e.now.low)
+    (OnLines c.args.from y c.args.z) c.args.e.now c.loop-y.e) end c.loop-y.invariant.changed

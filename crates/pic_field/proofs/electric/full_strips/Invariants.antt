@@ -5,8 +5,8 @@ use Rattle.pic_field.proofs.electric.full_strips.Given as goal
 -- the strips below the line `from` are done
 abbrev pub invariant-loop-from : goal.invariant-loop-from
 invariant-loop-from l = record {
-  changed : Changed (full_made l.scales l.b l.j l.initial.e.low) (OnStrip 0 l.from l.initial.e.size.z) l.initial.e l.e;
-  calm : l.calm ≡ true → AreSmall l.most (OnStrip 0 l.from l.initial.e.size.z) l.e;
+  changed : Changed (full_made l.step.scales.now l.step.b.now l.step.j.now l.initial.e.low) (OnStrip 0 l.from l.initial.e.size.z) l.initial.e l.e;
+  calm : l.calm ≡ true → AreSmall l.step.most (OnStrip 0 l.from l.initial.e.size.z) l.e;
 }
 
 abbrev pub decreases-loop-from : goal.decreases-loop-from

@@ -15,18 +15,18 @@ same : (c : After-line_length-count) → c.line_length-count.result ≡ c.args.b
 same c = c.line_length-count.ensures.value ∙ ap (λ (n : Triple). n.x) c.zone.ensures.size
 
 -- so many values of its rows
-known : (c : After-line_length-count) → AreRowsUp c.args.e.now c.args.scales.now.e_to_b (line_start c.args.b.now.low c.args.y c.args.z)
+known : (c : After-line_length-count) → AreRowsUp c.args.step.now.e.now c.args.step.now.scales.now.e_to_b (line_start c.args.b.now.low c.args.y c.args.z)
     c.line_length-count.result c.args.own.now c.args.by_y.now c.args.by_z.now
 known c =
-    subst (λ (m : ℕ). AreRowsUp c.args.e.now c.args.scales.now.e_to_b (line_start c.args.b.now.low c.args.y c.args.z) m c.args.own.now c.args.by_y.now
-    c.args.by_z.now) (sym (same c)) c.requires.rows
+    subst (λ (m : ℕ). AreRowsUp c.args.step.now.e.now c.args.step.now.scales.now.e_to_b (line_start c.args.b.now.low c.args.y c.args.z) m
+    c.args.own.now c.args.by_y.now c.args.by_z.now) (sym (same c)) c.requires.rows
 
 pub returns-clause-changed : goal.returns-clause-changed
 returns-clause-changed c =
     let at = (goal.at.returns-clause-changed c).After-line_length-count in
     let k = known at in
-    let e = c.args.e.now in
-    let scales = c.args.scales.now in
+    let e = c.args.step.now.e.now in
+    let scales = c.args.step.now.scales.now in
     let b = c.args.b.now in
     let y = c.args.y in
     let z = c.args.z in
@@ -38,14 +38,14 @@ returns-clause-changed c =
     let two = c.half_row-calm_y.new.b in
     let three = c.half_row-calm_z.new.b in
     let first = changed_as _ (half_made scales e b.low) (OnRow X y z) b one c.half_row-calm_x.ensures.changed (λ a p w on.
-    half_x scales e b.low b.size y z count c.requires.among (same at) by_y.z own.z by_z.y own.y k.z_by_y k.z k.y_by_z k.y a p w on
+    half_x scales e b.low b.size y z count c.requires.among (same at) by_y.z own.z by_z.y own.y k.in_y.z k.here.z k.in_z.y k.here.y a p w on
     (inner_at b a p)) in
     let second = changed_as _ (half_made scales e b.low) (OnRow Y y z) one two c.half_row-calm_y.ensures.changed (λ a p w on.
-    half_y scales e b.low b.size y z count c.requires.among (same at) by_z.x own.x c.shifted.result.now own.z k.x_by_z k.x k.z
+    half_y scales e b.low b.size y z count c.requires.among (same at) by_z.x own.x c.shifted.result.now own.z k.in_z.x k.here.x k.here.z
     c.shifted.ensures.values a p
     (subst (λ (n : Triple). IsWithin p n) first.shaped.size w) on (inner_at one a p)) in
     let third = changed_as _ (half_made scales e b.low) (OnRow Z y z) two three c.half_row-calm_z.ensures.changed (λ a p w on.
-    half_z scales e b.low b.size y z count c.requires.among (same at) c.shifted-2.result.now own.y by_y.x own.x k.y k.x_by_y k.x
+    half_z scales e b.low b.size y z count c.requires.among (same at) c.shifted-2.result.now own.y by_y.x own.x k.here.y k.in_y.x k.here.x
     c.shifted-2.ensures.values a p
     (subst (λ (n : Triple). IsWithin p n) (second.shaped.size ∙ first.shaped.size) w) on (inner_at two a p)) in
     line_changed (half_made scales e b.low) y z b one two three first second third
@@ -54,5 +54,6 @@ pub returns-clause-calm : goal.returns-clause-calm
 returns-clause-calm c = λ all.
     let last = both_true (c.half_row-calm_x.result && c.half_row-calm_y.result) c.half_row-calm_z.result all in
     let first = both_true c.half_row-calm_x.result c.half_row-calm_y.result last.0 in
-    line_small c.args.most _ _ c.args.y c.args.z c.half_row-calm_x.new.b c.half_row-calm_y.new.b c.half_row-calm_z.new.b c.half_row-calm_y.ensures.changed
+    line_small c.args.step.now.most _ _ c.args.y c.args.z c.half_row-calm_x.new.b c.half_row-calm_y.new.b c.half_row-calm_z.new.b
+    c.half_row-calm_y.ensures.changed
     c.half_row-calm_z.ensures.changed (c.half_row-calm_x.ensures.calm first.0) (c.half_row-calm_y.ensures.calm first.1) (c.half_row-calm_z.ensures.calm last.1)

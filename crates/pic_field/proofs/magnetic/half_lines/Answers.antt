@@ -8,8 +8,8 @@ use Rattle.pic_field.proofs.magnetic.half_lines.Goals as goal
 
 pub half_line-found-requires-clause-rows : goal.half_line-found-requires-clause-rows
 half_line-found-requires-clause-rows c =
-    let e = c.args.e.now in
-    let by = c.args.scales.now.e_to_b in
+    let e = c.args.step.now.e.now in
+    let by = c.args.step.now.scales.now.e_to_b in
     let from = c.args.from in
     let y = c.loop-y.y in
     let z = c.args.z in
@@ -32,20 +32,22 @@ loop-y-preserved c =
     let old = c.args.b.now in
     let mid = c.loop-y.b in
     let before = c.loop-y.invariant.changed in
-    let then = subst (λ (l : Spot). Changed (half_made c.args.scales.now c.args.e.now l) (OnLine y z) mid c.half_line-found.new.b) before.shaped.low
+    let then = subst (λ (l : Spot). Changed (half_made c.args.step.now.scales.now c.args.step.now.e.now l) (OnLine y z) mid c.half_line-found.new.b)
+    before.shaped.low
     c.half_line-found.ensures.changed in
     record {
       changed = changed_next _ (OnLines from y z) (OnLine y z) (OnLines from (y + 1) z) old mid c.half_line-found.new.b before then
           (strip_more old.size from y z (omega arith));
       calm = λ both.
           let each = both_true c.loop-y.calm c.half_line-found.result both in
-          small_next (half_made c.args.scales.now c.args.e.now old.low) (OnLines from y z) (OnLine y z) (OnLines from (y + 1) z) mid mid
-          c.half_line-found.new.b c.args.most then (c.loop-y.invariant.calm each.0) (c.half_line-found.ensures.calm each.1)
+          small_next (half_made c.args.step.now.scales.now c.args.step.now.e.now old.low) (OnLines from y z) (OnLine y z) (OnLines from (y + 1) z) mid mid
+          c.half_line-found.new.b c.args.step.now.most then (c.loop-y.invariant.calm each.0) (c.half_line-found.ensures.calm each.1)
           (strip_more mid.size from y z (omega arith));
     }
 
 pub returns-clause-changed : goal.returns-clause-changed
 returns-clause-changed c =
     let end : c.loop-y.y ≡ c.args.to = omega arith in
-    subst (λ (y : ℕ). Changed (half_made c.args.scales.now c.args.e.now c.args.b.now.low) (OnLines c.args.from y c.args.z) c.args.b.now c.loop-y.b) end
+    subst (λ (y : ℕ). Changed (half_made c.args.step.now.scales.now c.args.step.now.e.now c.args.b.now.low) (OnLines c.args.from y c.args.z)
+    c.args.b.now c.loop-y.b) end
     c.loop-y.invariant.changed

@@ -1,14 +1,14 @@
-use Rattle.std.proofs.Common.{◌≡◌, ◌+◌, ◌-◌, ◌<◌, true}
+use Rattle.std.proofs.Common.{◌≡◌, ◌-◌, ◌<◌, true}
 use Rattle.pic_field.specs.Lines.{OnStrip, Changed, AreSmall, half_made, line_start}
-use Rattle.pic_field.specs.Planes.{IsScaledPlane, plane_at}
+use Rattle.pic_field.specs.Planes.{up_span, IsScaledPlane, plane_at}
 use Rattle.pic_field.proofs.magnetic.half_strip.Given as goal
 
 -- the layers below z are done, and the plane at `near` is that of the layer z
 abbrev pub invariant-loop-z : goal.invariant-loop-z
 invariant-loop-z l = record {
   near : l.near < 2;
-  plane : l.z < l.initial.b.size.z → IsScaledPlane l.e l.scales.e_to_b (line_start l.initial.b.low l.from l.z)
-      (line_start l.initial.b.low l.from l.z).x l.initial.b.size.x (l.to - l.from + 1) (l.to - l.from) true (plane_at l.rooms.planes l.near);
-  changed : Changed (half_made l.scales l.e l.initial.b.low) (OnStrip l.from l.to l.z) l.initial.b l.b;
-  calm : l.calm ≡ true → AreSmall l.most (OnStrip l.from l.to l.z) l.b;
+  plane : l.z < l.initial.b.size.z → IsScaledPlane l.step.e.now l.step.scales.now.e_to_b (line_start l.initial.b.low l.from l.z) (up_span l.initial.b.size.x)
+      (l.to - l.from) (plane_at l.rooms.planes l.near);
+  changed : Changed (half_made l.step.scales.now l.step.e.now l.initial.b.low) (OnStrip l.from l.to l.z) l.initial.b l.b;
+  calm : l.calm ≡ true → AreSmall l.step.most (OnStrip l.from l.to l.z) l.b;
 }

@@ -5,8 +5,8 @@ use Rattle.pic_field.proofs.magnetic.half_strips.Given as goal
 -- the strips below the line `from` are done
 abbrev pub invariant-loop-from : goal.invariant-loop-from
 invariant-loop-from l = record {
-  changed : Changed (half_made l.scales l.e l.initial.b.low) (OnStrip 0 l.from l.initial.b.size.z) l.initial.b l.b;
-  calm : l.calm ≡ true → AreSmall l.most (OnStrip 0 l.from l.initial.b.size.z) l.b;
+  changed : Changed (half_made l.step.scales.now l.step.e.now l.initial.b.low) (OnStrip 0 l.from l.initial.b.size.z) l.initial.b l.b;
+  calm : l.calm ≡ true → AreSmall l.step.most (OnStrip 0 l.from l.initial.b.size.z) l.b;
 }
 
 abbrev pub decreases-loop-from : goal.decreases-loop-from

@@ -1,5 +1,4 @@
 use Rattle.std.proofs.Common.{rules, ◌≡◌, ◌+◌, ◌-◌, ◌%◌, ◌^◌, ◌<◌, ◌≤◌, ℕ, ℤ, pos, List, ◌++◌, length, take, drop, slice_index, slice_index_or, sym, ◌∙◌, ap, subst, arith}
-use Rattle.std.proofs.Math.Nat.{mod-eq_of_lt}
 use Rattle.std.proofs.lemmas.List.{length-take-le, get_or-take}
 use Rattle.pic_num.specs.declared.axis.Axis.{Axis}
 use Rattle.pic_num.specs.declared.axis.Axis.TheVariants.{X, Y, Z}
@@ -11,38 +10,39 @@ use Rattle.pic_field.specs.Rows.{row_at, start_cell, IsSmallRow, IsScaledRow}
 use Rattle.pic_grid.proofs.RowLaws.{part_long}
 use Rattle.pic_field.proofs.RowLaws.{row_none, filled_long, round_on, run_small, more_scaled}
 use Rattle.pic_field.proofs.plane.scale_rows.Goals as goal
-use Rattle.pic_field.proofs.plane.scale_rows.Goals.{After-wanted-more_z}
+use Rattle.pic_field.proofs.plane.scale_rows.Goals.{After-count_if-more_z}
 
 pub loop-done-init : goal.loop-done-init
 loop-done-init c =
-    let x = c.args.start.x in
-    let same : x + 0 ≡ x = omega arith in
     let f = c.args.field.now in
     let by = c.args.by in
+    let first = c.args.span.first in
     let start = start_cell c.args.start in
+    let cells : slice_index c.numbers.result 0 ≡ f.cells.x = ap (λ (m : Triple). m.x) (c.numbers.ensures.value ∙ c.cells.ensures.value) in
     record {
-      at = sym (ap (λ (m : ℕ). m % f.cells.x) same ∙ mod-eq_of_lt c.requires.start.x);
-      below = c.requires.start.x;
+      at = c.after_run-x.ensures.value ∙ ap (λ (m : ℕ). (c.args.start.x + first) % m) cells;
+      below = subst (λ (m : ℕ). c.after_run-x.result < m) cells c.after_run-x.ensures.below;
+      least = omega arith;
       most = omega arith;
       room_x = search rules;
       room_y = search rules;
       room_z = search rules;
-      of_x = row_none f by X start c.args.to.now.x;
-      of_y = λ is. row_none f by Y start c.args.to.now.y;
-      of_z = λ is. row_none f by Z start c.args.to.now.z;
+      of_x = row_none f by X start first c.args.to.now.x;
+      of_y = λ is. row_none f by Y start first c.args.to.now.y;
+      of_z = λ is. row_none f by Z start first c.args.to.now.z;
     }
 
-within : (c : After-wanted-more_z) → IsWithin (start_cell c.args.start) c.args.field.now.cells
+within : (c : After-count_if-more_z) → IsWithin (start_cell c.args.start) c.args.field.now.cells
 within c = record { x = c.requires.start.x; y = c.requires.start.y.within; z = c.requires.start.z.within }
 
 -- the first so many values of a run on an axis
-record Front (c : After-wanted-more_z) (a : Axis) (run : List ℤ) (more : ℕ) : Type 0 where
+record Front (c : After-count_if-more_z) (a : Axis) (run : List ℤ) (more : ℕ) : Type 0 where
   inside : c.loop-done.x + more ≤ c.args.field.now.cells.x
   long : length (take more run) ≡ more
   values : (i : ℕ) → i < more
       → row_at (take more run) i ≡ value_at c.args.field.now a (record (start_cell c.args.start) { x = c.loop-done.x + i })
 
-front : (c : After-wanted-more_z) (a : Axis) (run : List ℤ) (more : ℕ) → more ≤ length run
+front : (c : After-count_if-more_z) (a : Axis) (run : List ℤ) (more : ℕ) → more ≤ length run
     → c.slot_x-here.result.index + length run ≤ c.args.field.now.cells.x
     → ((i : ℕ) → i < length run → slice_index_or run i (pos 0)
     ≡ value_at c.args.field.now a (record (start_cell c.args.start) { x = c.slot_x-here.result.index + i }))
@@ -56,73 +56,74 @@ front c a run more in_run inside values = record {
       ∙ ap (λ (m : ℕ). value_at c.args.field.now a (record (start_cell c.args.start) { x = m + i })) c.slot_x-here.ensures.index;
 }
 
-of_x : (c : After-wanted-more_z) → Front c X c.run_at-of_x.result.now c.min-more.result
+of_x : (c : After-count_if-more_z) → Front c X c.run_at-of_x.result.now c.min-more.result
 of_x c = front c X c.run_at-of_x.result.now c.min-more.result (omega arith) c.run_at-of_x.ensures.inside c.run_at-of_x.ensures.values
 
 -- the runs are equally long
-in_y : (c : After-wanted-more_z) → c.min-more.result ≤ length c.run_at-of_y.result.now
+in_y : (c : After-count_if-more_z) → c.min-more.result ≤ length c.run_at-of_y.result.now
 in_y c = omega (arith, c.run_at-of_x.ensures.end, c.run_at-of_y.ensures.end)
 
-in_z : (c : After-wanted-more_z) → c.min-more.result ≤ length c.run_at-of_z.result.now
+in_z : (c : After-count_if-more_z) → c.min-more.result ≤ length c.run_at-of_z.result.now
 in_z c = omega (arith, c.run_at-of_x.ensures.end, c.run_at-of_z.ensures.end)
 
-of_y : (c : After-wanted-more_z) → Front c Y c.run_at-of_y.result.now c.wanted-more_y.result
+of_y : (c : After-count_if-more_z) → Front c Y c.run_at-of_y.result.now c.count_if-more_y.result
 of_y c =
-    front c Y c.run_at-of_y.result.now c.wanted-more_y.result (omega (arith, in_y c, c.wanted-more_y.ensures.most)) c.run_at-of_y.ensures.inside
+    front c Y c.run_at-of_y.result.now c.count_if-more_y.result (omega (arith, in_y c, c.count_if-more_y.ensures.most)) c.run_at-of_y.ensures.inside
     c.run_at-of_y.ensures.values
 
-of_z : (c : After-wanted-more_z) → Front c Z c.run_at-of_z.result.now c.wanted-more_z.result
+of_z : (c : After-count_if-more_z) → Front c Z c.run_at-of_z.result.now c.count_if-more_z.result
 of_z c =
-    front c Z c.run_at-of_z.result.now c.wanted-more_z.result (omega (arith, in_z c, c.wanted-more_z.ensures.most)) c.run_at-of_z.ensures.inside
+    front c Z c.run_at-of_z.result.now c.count_if-more_z.result (omega (arith, in_z c, c.count_if-more_z.ensures.most)) c.run_at-of_z.ensures.inside
     c.run_at-of_z.ensures.values
 
 -- they are small,
-small : (c : After-wanted-more_z) (a : Axis) (run : List ℤ) (more : ℕ) → Front c a run more → IsSmallRow (2 ^ 90) (length (take more run)) (take more run)
+small : (c : After-count_if-more_z) (a : Axis) (run : List ℤ) (more : ℕ) → Front c a run more → IsSmallRow (2 ^ 90) (length (take more run)) (take more run)
 small c a run more k =
     subst (λ (m : ℕ). IsSmallRow (2 ^ 90) m (take more run)) (sym k.long)
     (run_small c.args.field.now c.args.by a (start_cell c.args.start) c.loop-done.done more c.loop-done.x c.loop-done.invariant.at (within c) k.inside
     (take more run) k.values (2 ^ 90) c.requires.small)
 
 -- and scaled they are the next of a row
-next : (c : After-wanted-more_z) (a : Axis) (run : List ℤ) (more : ℕ) → Front c a run more → (row part rest : List ℤ) → c.loop-done.done ≤ length row
-    → length part ≡ more → IsScaledRow c.args.field.now c.args.by a (start_cell c.args.start) c.loop-done.done row
+next : (c : After-count_if-more_z) (a : Axis) (run : List ℤ) (more : ℕ) → Front c a run more → (row part rest : List ℤ) → c.loop-done.done ≤ length row
+    → length part ≡ more → IsScaledRow c.args.field.now c.args.by a (start_cell c.args.start) c.args.span.first c.loop-done.done row
     → ((i : ℕ) → i < length (take more run) → row_at part i ≡ scaled (row_at (take more run) i) c.args.by)
     → IsSmallRow (2 ^ 121) (length (take more run)) part
-    → IsScaledRow c.args.field.now c.args.by a (start_cell c.args.start) (c.loop-done.done + more) (take c.loop-done.done row ++ (part ++ rest))
+    → IsScaledRow c.args.field.now c.args.by a (start_cell c.args.start) c.args.span.first (c.loop-done.done + more)
+    (take c.loop-done.done row ++ (part ++ rest))
 next c a run more k row part rest room long before values small =
     more_scaled c.args.field.now c.args.by a (start_cell c.args.start) c.loop-done.done more c.loop-done.x c.loop-done.invariant.at (within c) k.inside
-    (take more run) k.values row part rest room long before (λ i below. values i (omega (arith, below, k.long)))
+    (take more run) k.values c.args.span.first row part rest room long before (λ i below. values i (omega (arith, below, k.long)))
     (subst (λ (m : ℕ). IsSmallRow (2 ^ 121) m part) k.long small)
 
 pub scale_row-requires-clause-small : goal.scale_row-requires-clause-small
 scale_row-requires-clause-small c =
-    let at = (goal.at.scale_row-requires-clause-small c).After-wanted-more_z in small at X c.run_at-of_x.result.now c.min-more.result (of_x at)
+    let at = (goal.at.scale_row-requires-clause-small c).After-count_if-more_z in small at X c.run_at-of_x.result.now c.min-more.result (of_x at)
 
 pub scale_row-requires-in-loop-done-clause-small : goal.scale_row-requires-in-loop-done-clause-small
 scale_row-requires-in-loop-done-clause-small c =
-    let at = (goal.at.scale_row-requires-in-loop-done-clause-small c).After-wanted-more_z in
-    small at Y c.run_at-of_y.result.now c.wanted-more_y.result (of_y at)
+    let at = (goal.at.scale_row-requires-in-loop-done-clause-small c).After-count_if-more_z in
+    small at Y c.run_at-of_y.result.now c.count_if-more_y.result (of_y at)
 
 pub scale_row-requires-in-loop-done-2-clause-small : goal.scale_row-requires-in-loop-done-2-clause-small
 scale_row-requires-in-loop-done-2-clause-small c =
-    let at = (goal.at.scale_row-requires-in-loop-done-2-clause-small c).After-wanted-more_z in
-    small at Z c.run_at-of_z.result.now c.wanted-more_z.result (of_z at)
+    let at = (goal.at.scale_row-requires-in-loop-done-2-clause-small c).After-count_if-more_z in
+    small at Z c.run_at-of_z.result.now c.count_if-more_z.result (of_z at)
 
 pub loop-done-preserved : goal.loop-done-preserved
 loop-done-preserved c =
-    let here = (goal.at.loop-done-preserved c).After-wanted-more_z in
+    let here = (goal.at.loop-done-preserved c).After-count_if-more_z in
     let n = c.args.field.now.cells in
     let done = c.loop-done.done in
     let more = c.min-more.result in
-    let more_y = c.wanted-more_y.result in
-    let more_z = c.wanted-more_z.result in
+    let more_y = c.count_if-more_y.result in
+    let more_z = c.count_if-more_z.result in
     let h = c.loop-done.invariant in
     let to = c.loop-done.to in
     let cells : slice_index c.numbers.result 0 ≡ n.x = ap (λ (m : Triple). m.x) (c.numbers.ensures.value ∙ c.cells.ensures.value) in
-    let fits : done + more ≤ 129 = omega arith in
+    let fits : done + more ≤ 129 = omega (arith, c.requires.span.first, c.requires.span.few) in
     let fits_x : done + more ≤ length to.x = omega (arith, fits, h.room_x) in
-    let fits_y : done + more_y ≤ length to.y = omega (arith, fits, h.room_y, c.wanted-more_y.ensures.most) in
-    let fits_z : done + more_z ≤ length to.z = omega (arith, fits, h.room_z, c.wanted-more_z.ensures.most) in
+    let fits_y : done + more_y ≤ length to.y = omega (arith, fits, h.room_y, c.count_if-more_y.ensures.most) in
+    let fits_z : done + more_z ≤ length to.z = omega (arith, fits, h.room_z, c.count_if-more_z.ensures.most) in
     let part_x : length c.scale_row.new.to ≡ more = c.scale_row.auto.to ∙ part_long to.x done more fits_x in
     let part_y : length c.scale_row-in-loop-done.new.to ≡ more_y = c.scale_row-in-loop-done.auto.to ∙ part_long to.y done more_y fits_y in
     let part_z : length c.scale_row-in-loop-done-2.new.to ≡ more_z = c.scale_row-in-loop-done-2.auto.to ∙ part_long to.z done more_z fits_z in
@@ -131,8 +132,11 @@ loop-done-preserved c =
     let all_y : List ℤ = take done to.y ++ (c.scale_row-in-loop-done.new.to ++ rest_y) in
     let all_z : List ℤ = take done to.z ++ (c.scale_row-in-loop-done-2.new.to ++ rest_z) in
     record {
-      at = c.after_run-x.ensures.value ∙ ap (λ (m : ℕ). (c.loop-done.x + more) % m) cells ∙ round_on n.x c.args.start.x done c.loop-done.x more h.at;
-      below = subst (λ (m : ℕ). c.after_run-x.result < m) cells c.after_run-x.ensures.below;
+      at = c.after_run-x-in-loop-done.ensures.value
+          ∙ ap (λ (m : ℕ). (c.loop-done.x + more) % m) cells
+          ∙ round_on n.x c.args.start.x done c.loop-done.x more h.at;
+      below = subst (λ (m : ℕ). c.after_run-x-in-loop-done.result < m) cells c.after_run-x-in-loop-done.ensures.below;
+      least = omega arith;
       most = omega arith;
       room_x = filled_long to.x c.scale_row.new.to done more fits_x part_x ∙ h.room_x;
       room_y = filled_long to.y c.scale_row-in-loop-done.new.to done more_y fits_y part_y ∙ h.room_y;
@@ -140,11 +144,13 @@ loop-done-preserved c =
       of_x = next here X c.run_at-of_x.result.now more (of_x here) to.x c.scale_row.new.to _ (omega (arith, fits_x)) part_x h.of_x c.scale_row.ensures.values
           c.scale_row.ensures.small;
       of_y = λ is.
-          subst (λ (m : ℕ). IsScaledRow c.args.field.now c.args.by Y (start_cell c.args.start) (done + m) all_y) (c.wanted-more_y.ensures.all is)
+          subst (λ (m : ℕ). IsScaledRow c.args.field.now c.args.by Y (start_cell c.args.start) c.args.span.first (done + m) all_y)
+          (c.count_if-more_y.ensures.all is)
           (next here Y c.run_at-of_y.result.now more_y (of_y here) to.y c.scale_row-in-loop-done.new.to rest_y (omega (arith, fits_y)) part_y (h.of_y is)
           c.scale_row-in-loop-done.ensures.values c.scale_row-in-loop-done.ensures.small);
       of_z = λ is.
-          subst (λ (m : ℕ). IsScaledRow c.args.field.now c.args.by Z (start_cell c.args.start) (done + m) all_z) (c.wanted-more_z.ensures.all is)
+          subst (λ (m : ℕ). IsScaledRow c.args.field.now c.args.by Z (start_cell c.args.start) c.args.span.first (done + m) all_z)
+          (c.count_if-more_z.ensures.all is)
           (next here Z c.run_at-of_z.result.now more_z (of_z here) to.z c.scale_row-in-loop-done-2.new.to rest_z (omega (arith, fits_z)) part_z (h.of_z is)
           c.scale_row-in-loop-done-2.ensures.values c.scale_row-in-loop-done-2.ensures.small);
     }

@@ -8,14 +8,15 @@ abbrev pub invariant-loop-done : goal.invariant-loop-done
 invariant-loop-done l = record {
   at : l.x ≡ (l.fn.start.x + l.done) % l.field.cells.x;
   below : l.x < l.field.cells.x;
-  most : l.done ≤ l.count;
+  least : l.span.first ≤ l.done;
+  most : l.done ≤ l.span.first + l.span.cells;
   room_x : length l.to.x ≡ 129;
   room_y : length l.to.y ≡ 129;
   room_z : length l.to.z ≡ 129;
-  of_x : IsScaledRow l.field l.by X (start_cell l.fn.start) l.done l.to.x;
-  of_y : IsTrue l.with_y → IsScaledRow l.field l.by Y (start_cell l.fn.start) l.done l.to.y;
-  of_z : IsTrue l.with_z → IsScaledRow l.field l.by Z (start_cell l.fn.start) l.done l.to.z;
+  of_x : IsScaledRow l.field l.by X (start_cell l.fn.start) l.span.first l.done l.to.x;
+  of_y : IsTrue l.wanted.y → IsScaledRow l.field l.by Y (start_cell l.fn.start) l.span.first l.done l.to.y;
+  of_z : IsTrue l.wanted.z → IsScaledRow l.field l.by Z (start_cell l.fn.start) l.span.first l.done l.to.z;
 }
 
 abbrev pub decreases-loop-done : goal.decreases-loop-done
-decreases-loop-done l = l.count - l.done
+decreases-loop-done l = l.span.first + l.span.cells - l.done

@@ -19,7 +19,7 @@ loop-done-init c =
       below = c.requires.start.x;
       most = omega arith;
       room = refl;
-      row = row_none c.args.field.now c.args.by c.args.axis (start_cell c.args.start) c.args.to.now;
+      row = row_none c.args.field.now c.args.by c.args.axis (start_cell c.args.start) 0 c.args.to.now;
     }
 
 -- where the loop stands: the run fits the row, and is not empty
@@ -81,7 +81,7 @@ loop-done-preserved c =
       most = k.in_row;
       room = filled_long c.loop-done.to c.scale_row.new.to done more fits part ∙ h.room;
       row = more_scaled c.args.field.now c.args.by c.args.axis (start_cell c.args.start) done more c.loop-done.x h.at (within here) k.inside
-          (take more c.run_at-run.result.now) k.values c.loop-done.to c.scale_row.new.to _ room part h.row
+          (take more c.run_at-run.result.now) k.values 0 c.loop-done.to c.scale_row.new.to _ room part h.row
           (λ i below. c.scale_row.ensures.values i (omega (arith, k.long)))
           (subst (λ (m : ℕ). IsSmallRow (2 ^ 121) m c.scale_row.new.to) k.long c.scale_row.ensures.small);
     }

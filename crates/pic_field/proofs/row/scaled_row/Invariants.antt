@@ -9,7 +9,7 @@ invariant-loop-done l = record {
   below : l.x < l.field.cells.x;
   most : l.done ≤ l.count;
   room : length l.to ≡ length l.initial.to;
-  row : IsScaledRow l.field l.by l.axis (start_cell l.fn.start) l.done l.to;
+  row : IsScaledRow l.field l.by l.axis (start_cell l.fn.start) 0 l.done l.to;
 }
 
 abbrev pub decreases-loop-done : goal.decreases-loop-done

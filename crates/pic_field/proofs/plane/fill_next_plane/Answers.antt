@@ -1,0 +1,42 @@
+use Rattle.std.proofs.Common.{◌≡◌, ◌+◌, ◌%◌, ◌<◌, ◌≤◌, ℕ, slice_index, refl, ◌∙◌, ap, subst, arith}
+use Rattle.std.proofs.lemmas.List.{length-set}
+use Rattle.pic_num.specs.Space.{Triple, triple}
+use Rattle.pic_field.specs.Planes.{along_y, IsNextLine}
+use Rattle.pic_field.proofs.RowLaws.{round_on}
+use Rattle.pic_field.proofs.PlaneLaws.{line_more}
+use Rattle.pic_field.proofs.plane.fill_next_plane.Goals as goal
+
+pub loop-j-init : goal.loop-j-init
+loop-j-init c =
+    let f = c.args.field.now in
+    let first : Triple = triple c.args.at in
+    let s = c.args.span in
+    let numbers : triple c.numbers.result ≡ f.cells = c.numbers.ensures.value ∙ c.cells.ensures.value in
+    let cells : slice_index c.numbers.result 1 ≡ f.cells.y = ap (λ (n : Triple). n.y) numbers in
+    record {
+      at = c.after_run-y.ensures.value ∙ ap (λ (m : ℕ). (first.y + s.first) % m) cells;
+      room = refl;
+      below = subst (λ (m : ℕ). c.after_run-y.result < m) cells c.after_run-y.ensures.below;
+      next = λ k below past. absurd (omega (arith, below, past));
+    }
+
+pub loop-j-preserved : goal.loop-j-preserved
+loop-j-preserved c =
+    let f = c.args.field.now in
+    let by = c.args.by in
+    let j = c.loop-j.j in
+    let first : Triple = triple c.args.at in
+    let s = c.args.span in
+    let numbers : triple c.numbers.result ≡ f.cells = c.numbers.ensures.value ∙ c.cells.ensures.value in
+    let cells : slice_index c.numbers.result 1 ≡ f.cells.y = ap (λ (n : Triple). n.y) numbers in
+    let line = c.scale_next.new.to in
+    let at : record first { y = c.loop-j.y } ≡ along_y f.cells first j = λ i. record first { y = c.loop-j.invariant.at i } in
+    record {
+      at = c.after_run-y-in-loop-j.ensures.value
+          ∙ ap (λ (m : ℕ). (c.loop-j.y + 1) % m) cells
+          ∙ round_on f.cells.y first.y j c.loop-j.y 1 c.loop-j.invariant.at;
+      room = length-set c.loop-j.to j _ ∙ c.loop-j.invariant.room;
+      below = subst (λ (m : ℕ). c.after_run-y-in-loop-j.result < m) cells c.after_run-y-in-loop-j.ensures.below;
+      next = line_more (λ k l. s.first ≤ k → IsNextLine f by (along_y f.cells first k) s l) c.loop-j.to j line
+          (omega (arith, c.told-to)) c.loop-j.invariant.next (λ past. subst (λ (p : Triple). IsNextLine f by p s line) at c.scale_next.ensures);
+    }

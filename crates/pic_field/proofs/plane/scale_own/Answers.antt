@@ -1,0 +1,42 @@
+use Rattle.std.proofs.Common.{rules, ◌≡◌, ◌+◌, ◌%◌, ◌^◌, ℤ, length, to_z, of_z, slice_index, refl, sym, ◌∙◌, ap, subst, arith}
+use mir.Syntax.{w128}
+use Rattle.pic_num.specs.declared.axis.Axis.TheVariants.{X, Y, Z}
+use Rattle.pic_num.specs.Rounding.{scaled}
+use Rattle.pic_num.specs.Sizes.{IsAtMost}
+use Rattle.pic_num.specs.Space.{Triple, triple}
+use Rattle.pic_num.proofs.SizeLaws.{codes, code_is}
+use Rattle.pic_grid.specs.Lattice.{value_at}
+use Rattle.pic_field.specs.Rows.{start_cell, along_x, IsScaledRow}
+use Rattle.pic_field.proofs.RowLaws.{with_edge}
+use Rattle.pic_field.proofs.plane.scale_own.Goals as goal
+
+pub returns : goal.returns
+returns c =
+    let f = c.args.field.now in
+    let by = c.args.by in
+    let s = c.args.span in
+    let at : Triple = triple c.args.at in
+    let line = c.scale_rows.new.to in
+    let start : start_cell c.start_at-start.result ≡ at = c.start_at-start.ensures.cell in
+    let cells : slice_index c.numbers.result 0 ≡ f.cells.x = ap (λ (m : Triple). m.x) (c.numbers.ensures.value ∙ c.cells.ensures.value) in
+    let layer : c.slot_x-edge.result.index ≡ (at.x + s.edge) % f.cells.x =
+    c.slot_x-edge.ensures.index ∙ c.after_run.ensures.value ∙ (λ i. ((start i).x + s.edge) % cells i) in
+    let edge : record { x = c.slot_x-edge.result.index; y = c.start_at-start.result.y.index; z = c.start_at-start.result.z.index } ≡ along_x f.cells at s.edge =
+    λ i. record { x = layer i; y = (start i).y; z = (start i).z } in
+    let long_y : length line.y ≡ 129 = search rules in
+    let long_z : length line.z ≡ 129 = search rules in
+    let size_y : IsAtMost c.scaled_at-of_y.result (2 ^ 121) = c.scaled_at-of_y.ensures.size in
+    let size_z : IsAtMost c.scaled_at-of_z.result (2 ^ 121) = c.scaled_at-of_z.ensures.size in
+    let kept_y : to_z w128 (of_z w128 c.scaled_at-of_y.result) ≡ c.scaled_at-of_y.result = code_is (search codes depth 6) tt in
+    let kept_z : to_z w128 (of_z w128 c.scaled_at-of_z.result) ≡ c.scaled_at-of_z.result = code_is (search codes depth 6) tt in
+    record {
+      x = subst (λ (p : Triple). IsScaledRow f by X p s.first (s.first + s.cells) line.x) start c.scale_rows.ensures.x;
+      y = with_edge f by Y at s line.y _ c.requires.span (omega (arith, long_y, c.requires.span.edge, c.requires.span.few))
+          (subst (λ (p : Triple). IsScaledRow f by Y p s.first (s.first + s.cells) line.y) start (c.scale_rows.ensures.y refl))
+          (kept_y ∙ c.scaled_at-of_y.ensures.value ∙ ap (λ (p : Triple). scaled (value_at f Y p) by) edge)
+          (subst (λ (v : ℤ). IsAtMost v (2 ^ 121)) (sym kept_y) size_y);
+      z = with_edge f by Z at s line.z _ c.requires.span (omega (arith, long_z, c.requires.span.edge, c.requires.span.few))
+          (subst (λ (p : Triple). IsScaledRow f by Z p s.first (s.first + s.cells) line.z) start (c.scale_rows.ensures.z refl))
+          (kept_z ∙ c.scaled_at-of_z.ensures.value ∙ ap (λ (p : Triple). scaled (value_at f Z p) by) edge)
+          (subst (λ (v : ℤ). IsAtMost v (2 ^ 121)) (sym kept_z) size_z);
+    }
