@@ -1,6 +1,8 @@
 pub mod NameLaws
 pub mod HeadLaws
 pub mod HeadReadLaws
+pub mod RunLaws
+pub mod WithinLaws
 pub mod FrameLaws
 pub mod PartLaws
 pub mod LayoutLaws

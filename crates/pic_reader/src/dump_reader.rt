@@ -7,7 +7,7 @@ ghost use Rattle.pic_fields.specs.Reads.{Reads, as_it_is};
 ghost use Rattle.pic_reader.specs.Fields.{wrong_tag};
 ghost use Rattle.pic_reader.specs.FrameFields.{frame_length, IsSameShape};
 ghost use Rattle.pic_reader.specs.HeaderFields.{header_at, header_most};
-ghost use Rattle.pic_reader.specs.HeadReads.{HeadReads};
+ghost use Rattle.pic_reader.specs.HeadReads.{HeadReads, TakesWithin};
 ghost use Rattle.pic_reader.specs.Layout.{IsLayout, layout_of};
 ghost use Rattle.pic_reader.specs.NextReads.{NextReads, IsBehind, AtEnd};
 ghost use Rattle.pic_reader.specs.Records.{is_tag};
@@ -67,9 +67,14 @@ pub enum Next {
 
 impl DumpReader {
     /// Reads the header, and answers it with a reader that stands behind it.
+    ///
+    /// The header is taken field by field: however the call ends, no byte behind a header that is good
+    /// was taken, and of one that isn't none more than the longest field has, a name of 32 bytes,
+    /// beyond the place of its first fault.
     pub fn head<S: Source>(alloc: Global, source: &mut S) -> Result<(DumpReader, Header), HeadStop>
         ensures reads { HeadReads (λ r. r.1) header_at 0 (λ h. 64 + 60 * length h.species)
             header_most (S.told source.old) (S.told source.new) result }
+        ensures within { TakesWithin header_at 0 (S.told source.old) (S.told source.new) }
         ensures stands { IfOk result (λ r. r.0 ≡ record {
           layout = layout_of r.1;
           place = 64 + 60 * length r.1.species;

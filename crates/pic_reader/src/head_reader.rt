@@ -9,7 +9,7 @@ ghost use Rattle.pic_fields.specs.Reads.{Reads, as_it_is};
 ghost use Rattle.pic_dump.specs.Header.{IsGrid_1, HasLimits};
 ghost use Rattle.pic_reader.specs.Fields.{is_between, between};
 ghost use Rattle.pic_reader.specs.HeaderFields.{IsNewHead, cells_at, mult_at, scales_at, kind_at, name_of, is_name_field, is_new_name_field, name_at, particles_of, head_at, heads_at, header_at, header_most};
-ghost use Rattle.pic_reader.specs.HeadReads.{HeadReads};
+ghost use Rattle.pic_reader.specs.HeadReads.{HeadReads, TakesWithin};
 
 use crate::head_stop::HeadStop;
 use crate::name_reader::{OUT_OF_LIMITS, read_name};
@@ -159,6 +159,8 @@ fn read_head<S: Source>(
     requires most { particles ≤ most_particles_1 }
     ensures reads { HeadReads (λ h. h) (head_at earlier.now) place (λ _. place + 60) (place + 60)
         (S.told source.old) (S.told source.new) result }
+    ensures within { TakesWithin (head_at earlier.now) place (S.told source.old)
+        (S.told source.new) }
     ensures new { IfOk result (λ h. IsNewHead earlier.now h) }
 {
     let second = place + 32;
@@ -189,6 +191,8 @@ fn read_each_head<S: Source>(
     ensures reads { HeadReads (λ hs. hs.items) (each count head_at) place
         (λ hs. place + 60 * length hs) (place + 60 * count) (S.told source.old)
         (S.told source.new) result }
+    ensures within { TakesWithin (each count head_at) place (S.told source.old)
+        (S.told source.new) }
     ensures heads { IfOk result (λ hs. AreHeads hs.items) }
 {
     let mut heads = Vec::new(alloc);
@@ -207,6 +211,7 @@ fn read_heads<S: Source>(alloc: Global, source: &mut S, place: u64) -> Result<Ve
     requires { place + 1000 < 2 ^ 63 }
     ensures reads { HeadReads (λ hs. hs.items) heads_at place (λ hs. place + 4 + 60 * length hs)
         (place + 4 + 60 * 16) (S.told source.old) (S.told source.new) result }
+    ensures within { TakesWithin heads_at place (S.told source.old) (S.told source.new) }
     ensures heads { IfOk result (λ hs. AreHeads hs.items) }
 {
     let first = place + 4;
@@ -214,10 +219,11 @@ fn read_heads<S: Source>(alloc: Global, source: &mut S, place: u64) -> Result<Ve
     read_each_head(alloc, source, first, count)
 }
 
-/// Reads the header.
+/// Reads the header, field by field.
 pub fn read_header<S: Source>(alloc: Global, source: &mut S) -> Result<Header, HeadStop>
     ensures reads { HeadReads (λ h. h) header_at 0 (λ h. 64 + 60 * length h.species) header_most
         (S.told source.old) (S.told source.new) result }
+    ensures within { TakesWithin header_at 0 (S.told source.old) (S.told source.new) }
     ensures few { IfOk result (λ h. length h.species ≤ most_species) }
 {
     read_exactly(source, 0, WRONG_LETTER, b"PICDUMP1")?;

@@ -1,5 +1,6 @@
 -- How far a dump was read.
-use Rattle.std.proofs.Common.{◌≡◌, ℕ, suc, ◌+◌, ◌*◌, ◌<◌, List, ◌++◌, length, drop, Option, Some, None, Ok, Err, inl, inr, refl, sym, ap, subst, ◌∙◌, arith, length-append, add-one}
+use Rattle.std.proofs.Common.{◌≡◌, ℕ, suc, ◌+◌, ◌*◌, ◌<◌, ◌≤◌, ◌⊎◌, List, ◌++◌, length, drop, Option, Some, None, Ok, Err, inl, inr}
+use Rattle.std.proofs.Common.{refl, sym, ap, subst, ◌∙◌, arith, length-append, add-one}
 use Rattle.std.proofs.Math.Seq.{drop-append_seam}
 use Rattle.std.proofs.lemmas.Bool.{cases_lt}
 use Rattle.std.proofs.lemmas.List.{drop-drop}
@@ -8,14 +9,15 @@ use Rattle.pic_io.specs.Source.{with_front}
 use Rattle.pic_num.specs.declared.motion.Particle.{Particle}
 use Rattle.pic_grid.specs.Lattice.{Field}
 use Rattle.pic_energy.specs.declared.amounts.Energies.{Energies}
-use Rattle.pic_fields.specs.Parser.{Input, input}
+use Rattle.pic_fields.specs.Parser.{Input, input, Parsed}
 use Rattle.pic_fields.specs.Reads.{Left, Moves, HasRead}
+use Rattle.pic_fields.specs.Spells.{IsBytes}
 use Rattle.pic_fields.proofs.ReadLaws.{moves_then, some_rest}
 use Rattle.pic_dump.specs.Due.{due_after}
 use Rattle.pic_dump.specs.Header.{HeaderView}
 use Rattle.pic_reader.specs.FrameFields.{FrameView, frame_of, frame_length}
 use Rattle.pic_reader.specs.HeaderFields.{header_at, header_most}
-use Rattle.pic_reader.specs.HeadReads.{HeadReads}
+use Rattle.pic_reader.specs.HeadReads.{HeadReads, reach_of, TakesWithin}
 use Rattle.pic_reader.specs.declared.head_stop.HeadStop.{HeadStop}
 use Rattle.pic_reader.specs.Layout.{LayoutView, layout_of}
 use Rattle.pic_reader.specs.NextReads.{HasFrame, most_of, record_most}
@@ -23,10 +25,11 @@ use Rattle.pic_reader.specs.Records.{AFrame, record_at}
 use Rattle.pic_reader.specs.Standing.{Standing}
 use Rattle.pic_verify.specs.Verified.{break_of}
 use Rattle.pic_verify.specs.Meaning.{due_step, step_before, record_place, bytes_from, IsGood}
-use Rattle.pic_verify.specs.Reached.{most_at, TakesToRecord, IsGoodAt, Reaches}
+use Rattle.pic_verify.specs.Allowed.{IsInHeader}
+use Rattle.pic_verify.specs.Reached.{most_at, ReachesRecord, TakesToRecord, IsGoodAt, Reaches}
 use Rattle.pic_verify.proofs.FormatLaws.{frame_read}
 use Rattle.pic_verify.proofs.MeaningLaws.{header_end, due_is_step, is_gauss}
-use Rattle.pic_verify.proofs.VerdictLaws.{behind, same_bytes, takes_head}
+use Rattle.pic_verify.proofs.VerdictLaws.{behind, same_bytes, takes_head, taken_size}
 use Rattle.pic_verify.proofs.WalkLaws.{Follows}
 
 -- so many good frames were read, and these bytes are left
@@ -169,13 +172,51 @@ good_in bytes h rest place k place_is rest_is good =
       gauss = at.gauss;
     }
 
--- no byte behind the longest header
-pub within_longest : (x z : Told) → Moves 0 header_most x z → TakesToRecord x z
-within_longest x z moves = let most = moves.most in record { front = moves.front; taken = moves.moved; most = inl (omega (arith, most)) }
+-- no byte behind a header
+by_record : (bytes : List ℕ) (n : ℕ) (r : Parsed HeaderView) → header_at (input 0 bytes) ≡ r → n ≤ header_most → n ≤ reach_of r → IsBytes bytes
+    → IsInHeader bytes n ⊎ ReachesRecord bytes n
+by_record bytes n (Ok x) is most near small =
+    let end = (header_end bytes x.0 x.1 small is).end in
+    let place_is : x.1.place ≡ record_place x.0 0 = ap (λ (i : Input). i.place) end in
+    inr (record {
+      header = x.0;
+      number = 0;
+      begins = record { header = is ∙ ap (λ i. Ok (x.0, i)) end; good = λ k less. absurd (omega (arith, less)) };
+      most = omega (arith, near, place_is);
+    })
+by_record bytes n (Err f) is most near small = inl (record { fault = f; fails = is; most = most; near = near })
 
 pub stops_reached : {B : Type 0} (view : B → HeaderView) (end : HeaderView → ℕ) (x z : Told) (stop : HeadStop)
-    → HeadReads view header_at 0 end header_most x z (Err stop) → TakesToRecord x z
-stops_reached view end x z stop first = within_longest x z (takes_head view end x z stop first)
+    → HeadReads view header_at 0 end header_most x z (Err stop) → TakesWithin header_at 0 x z → TakesToRecord x z
+stops_reached view end x z stop first within =
+    let moves = takes_head view end x z stop first in
+    let most = moves.most in
+    record {
+      front = moves.front;
+      taken = moves.moved;
+      most = λ bytes told small. by_record bytes (length moves.front) (header_at (input 0 bytes)) refl (omega (arith, most))
+          (taken_size x z moves bytes within told) small;
+    }
+
+pub reached_head : (h : HeaderView) (place : ℕ) (x y : Told) → HasRead header_at 0 x h place y → TakesToRecord x y
+reached_head h place x y first =
+    let most = first.moves.most in
+    let (rest, left) = some_rest y in
+    let (held, was, reads) = first.reads rest left in
+    record {
+      front = first.moves.front;
+      taken = first.moves.moved;
+      most = λ bytes told small. inr (let same : held ≡ bytes = same_bytes x.bytes bytes held told was in
+          let read = subst (λ b. header_at (input 0 b) ≡ Ok (h, input place rest)) same reads in
+          let end = (header_end bytes h (input place rest) small read).end in
+          let place_is : place ≡ record_place h 0 = ap (λ (i : Input). i.place) end in
+          record {
+            header = h;
+            number = 0;
+            begins = record { header = read ∙ ap (λ i. Ok (h, i)) end; good = λ k less. absurd (omega (arith, less)) };
+            most = omega (arith, most, place_is);
+          });
+    }
 
 -- behind a header
 pub reached_behind : (h : HeaderView) (place : ℕ) (r : Standing) (x y z : Told) → HasRead header_at 0 x h place y → r ≡ behind h place → Reaches r y z
@@ -189,7 +230,7 @@ reached_behind h place r x y z first is reaches =
     record {
       front = moves.front;
       taken = moves.moved;
-      most = inr (λ bytes told small. (let same : held ≡ bytes = same_bytes x.bytes bytes held told was in
+      most = λ bytes told small. inr (let same : held ≡ bytes = same_bytes x.bytes bytes held told was in
           let read = subst (λ b. header_at (input 0 b) ≡ Ok (h, input place rest)) same reads in
           let end = (header_end bytes h (input place rest) small read).end in
           let place_is : place ≡ record_place h 0 = ap (λ (i : Input). i.place) end in
@@ -206,5 +247,5 @@ reached_behind h place r x y z first is reaches =
               good = λ k less. good_in bytes h rest place k place_is rest_is (there.frames rest here k less);
             };
             most = omega (arith, most, base);
-          }));
+          });
     }

@@ -1,17 +1,20 @@
 -- The verdict on a dump, from that on its records.
-use Rattle.std.proofs.Common.{◌≡◌, ◌+◌, ◌*◌, length, subst, arith, inl, inr, ℕ, List, Option, Some, None, Ok, Err, IsErrAnd, sym, ap, ◌∙◌}
+use Rattle.std.proofs.Common.{◌≡◌, ℕ, ◌+◌, ◌*◌, ◌≤◌, ◌⊎◌, List, ◌++◌, length, length-append, Option, Some, None, Ok, Err, IsErrAnd, inl, inr}
+use Rattle.std.proofs.Common.{refl, sym, ap, subst, ◌∙◌, arith}
 use Rattle.std.specs.Prelude.{option_map}
 use Rattle.std.proofs.lemmas.Result.{err_from_is_err_and}
 use Rattle.pic_io.specs.Told.{Told, Calm}
-use Rattle.pic_fields.specs.Parser.{input}
+use Rattle.pic_io.specs.Source.{with_front}
+use Rattle.pic_fields.specs.Parser.{input, Parsed}
 use Rattle.pic_fields.specs.Reads.{Moves, HasRead}
 use Rattle.pic_fields.proofs.ReadLaws.{moves_then, some_rest}
-use Rattle.pic_verify.specs.Allowed.{TakesAllowed}
+use Rattle.pic_verify.specs.Allowed.{IsAllowed, IsInHeader, TakesAllowed}
 use Rattle.pic_fields.specs.declared.read_stop.ReadStop.TheVariants as read
 use Rattle.pic_dump.specs.Header.{HeaderView}
 use Rattle.pic_reader.specs.Layout.{layout_of}
 use Rattle.pic_reader.specs.HeaderFields.{header_at, header_most}
-use Rattle.pic_reader.specs.HeadReads.{HeadReads}
+use Rattle.pic_reader.specs.HeadReads.{HeadReads, reach_of, TakesWithin}
+use Rattle.pic_reader.proofs.RunLaws.{header_place}
 use Rattle.pic_reader.specs.Standing.{Standing}
 use Rattle.pic_reader.specs.declared.head_stop.HeadStop.{HeadStop}
 use Rattle.pic_reader.specs.declared.head_stop.HeadStop.TheVariants as head
@@ -91,14 +94,61 @@ pub takes_head : {B : Type 0} (view : B → HeaderView) (end : HeaderView → �
 takes_head view end x z (head.Read stop) first = first.answer.moves
 takes_head view end x z head.NoMemory first = first.answer.moves
 
-within_header : (x z : Told) → Moves 0 header_most x z → TakesAllowed x z
-within_header x z moves = let most = moves.most in record { front = moves.front; taken = moves.moved; most = inl (omega (arith, most)) }
+-- two fronts of the same bytes are of one length
+same_size : (known now : Option (List ℕ)) (front other bytes : List ℕ) → known ≡ Some bytes → known ≡ with_front front now → known ≡ with_front other now
+    → length front ≡ length other
+same_size known None front other bytes told one two = absurd cc
+same_size known (Some rest) front other bytes told one two =
+    let both : front ++ rest ≡ other ++ rest = cc in
+    let size : length (front ++ rest) ≡ length (other ++ rest) = ap (λ l. length l) both in
+    omega (arith, size, length-append front rest, length-append other rest)
+
+-- so many bytes were taken at most, by the header with which the source's bytes begin
+pub taken_size : (x z : Told) (moves : Moves 0 header_most x z) (bytes : List ℕ) → TakesWithin header_at 0 x z → x.bytes ≡ Some bytes
+    → length moves.front ≤ reach_of (header_at (input 0 bytes))
+taken_size x z moves bytes within told =
+    let other = within.moves bytes told in
+    let most = other.most in
+    let same = same_size x.bytes z.bytes moves.front other.front bytes told moves.moved other.moved in
+    omega (arith, most, same)
+
+by_header : (bytes : List ℕ) (n : ℕ) (r : Parsed HeaderView) → header_at (input 0 bytes) ≡ r → n ≤ header_most → n ≤ reach_of r
+    → IsInHeader bytes n ⊎ IsAllowed bytes n
+by_header bytes n (Ok x) is most near =
+    let place = header_place (input 0 bytes) x.1 x.0 is in
+    inr (record { header = x.0; rest = x.1; reads = is; most = omega (arith, near, place) })
+by_header bytes n (Err f) is most near = inl (record { fault = f; fails = is; most = most; near = near })
 
 pub stops_taken : {B : Type 0} (view : B → HeaderView) (end : HeaderView → ℕ) (x z : Told) (stop : HeadStop)
-    → HeadReads view header_at 0 end header_most x z (Err stop) → TakesAllowed x z
-stops_taken view end x z stop first = within_header x z (takes_head view end x z stop first)
+    → HeadReads view header_at 0 end header_most x z (Err stop) → TakesWithin header_at 0 x z → TakesAllowed x z
+stops_taken view end x z stop first within =
+    let moves = takes_head view end x z stop first in
+    let most = moves.most in
+    record {
+      front = moves.front;
+      taken = moves.moved;
+      most = λ bytes told. by_header bytes (length moves.front) (header_at (input 0 bytes)) refl (omega (arith, most))
+          (taken_size x z moves bytes within told);
+    }
 
--- behind a header
+-- right behind a header
+pub head_taken : (h : HeaderView) (x y : Told) → HasRead header_at 0 x h (64 + 60 * length h.species) y → TakesAllowed x y
+head_taken h x y first =
+    let most = first.moves.most in
+    let (rest, left) = some_rest y in
+    let (held, was, reads) = first.reads rest left in
+    record {
+      front = first.moves.front;
+      taken = first.moves.moved;
+      most = λ bytes told. inr (record {
+        header = h;
+        rest = input (64 + 60 * length h.species) rest;
+        reads = subst (λ b. header_at (input 0 b) ≡ Ok (h, input (64 + 60 * length h.species) rest)) (same_bytes x.bytes bytes held told was) reads;
+        most = omega (arith, most);
+      });
+    }
+
+-- behind records
 pub walks_taken : (h : HeaderView) (r : Standing) (x y z : Told) (answer : Verdict)
     → HasRead header_at 0 x h (64 + 60 * length h.species) y → r ≡ behind h (64 + 60 * length h.species) → Walks r y z answer → TakesAllowed x z
 walks_taken h r x y z answer first is walks =
@@ -110,7 +160,7 @@ walks_taken h r x y z answer first is walks =
     record {
       front = moves.front;
       taken = moves.moved;
-      most = inr (λ bytes told. record {
+      most = λ bytes told. inr (record {
         header = h;
         rest = input (64 + 60 * length h.species) rest;
         reads = subst (λ b. header_at (input 0 b) ≡ Ok (h, input (64 + 60 * length h.species) rest)) (same_bytes x.bytes bytes held told was) reads;

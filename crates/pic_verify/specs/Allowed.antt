@@ -1,13 +1,15 @@
 -- How many bytes a header allows, and how many a call that verifies takes at most.
-use Rattle.std.specs.Prelude.{◌≡◌, ℕ, ◌+◌, ◌-◌, ◌*◌, ◌/◌, ◌≤◌, ◌⊎◌, List, length, Some, Ok}
+use Rattle.std.specs.Prelude.{◌≡◌, ℕ, ◌+◌, ◌-◌, ◌*◌, ◌/◌, ◌≤◌, ◌⊎◌, List, length, Some, Ok, Err}
 use Rattle.pic_io.specs.Told.{Told}
 use Rattle.pic_io.specs.Source.{with_front}
-use Rattle.pic_fields.specs.Parser.{Input, input}
+use Rattle.pic_fields.specs.Parser.{Input, input, Fault}
 use Rattle.pic_fields.specs.Reads.{Moves}
 use Rattle.pic_dump.specs.Header.{HeaderView}
+use Rattle.pic_dump.specs.Limits.{most_letters}
 use Rattle.pic_reader.specs.Layout.{LayoutView, layout_of}
 use Rattle.pic_reader.specs.FrameFields.{frame_length}
 use Rattle.pic_reader.specs.HeaderFields.{header_at, header_most}
+use Rattle.pic_reader.specs.HeadReads.{TakesWithin}
 
 -- how many frames are due: one after no step, one after each so many steps, and one after the last
 abbrev pub frames_due : LayoutView → ℕ
@@ -28,13 +30,27 @@ pub record IsAllowed (bytes : List ℕ) (count : ℕ) : Type 0 where
   pub reads : header_at (input 0 bytes) ≡ Ok (header, rest)
   pub most : count ≤ allowed header + 1
 
--- no more bytes were taken than the longest header has
-abbrev pub TakesHeader : Told → Told → Type 0
-TakesHeader before now = Moves 0 header_most before now
+-- some bytes begin with no header, and so many are no more than the longest header has, and no more
+-- than the longest field, a name, beyond the place of the first fault
+pub record IsInHeader (bytes : List ℕ) (count : ℕ) : Type 0 where
+  pub fault : Fault
+  pub fails : header_at (input 0 bytes) ≡ Err fault
+  pub most : count ≤ header_most
+  pub near : count ≤ fault.place + most_letters
 
--- no more bytes were taken than the longest header has, or at most one past the length that the
--- header allows with which the source's bytes begin
+-- what is taken of a source where memory was wanting
+pub record TakesHeader (before now : Told) : Type 0 where
+  -- no more bytes than the longest header has,
+  pub longest : Moves 0 header_most before now
+  -- and none behind the header with which the source's bytes begin
+  pub own : TakesWithin header_at 0 before now
+
+-- What is taken of a source: where its bytes begin with a header, at most one byte past the length
+-- that this header allows; where they begin with none, no more than was read to find that.
 pub record TakesAllowed (before now : Told) : Type 0 where
+  -- the bytes that were taken
   pub front : List ℕ
   pub taken : before.bytes ≡ with_front front now.bytes
-  pub most : (length front ≤ header_most) ⊎ ((bytes : List ℕ) → before.bytes ≡ Some bytes → IsAllowed bytes (length front))
+  -- so many at most
+  pub most : (bytes : List ℕ) → before.bytes ≡ Some bytes
+      → IsInHeader bytes (length front) ⊎ IsAllowed bytes (length front)

@@ -9,11 +9,11 @@ use Rattle.pic_charge.specs.Gauss.{MeetsGauss}
 use Rattle.pic_dump.specs.Due.{due_after}
 use Rattle.pic_dump.specs.Header.{HeaderView}
 use Rattle.pic_reader.specs.FrameFields.{FrameView, frame_length, with_values}
-use Rattle.pic_reader.specs.HeaderFields.{header_most}
 use Rattle.pic_reader.specs.Layout.{LayoutView, layout_of}
 use Rattle.pic_reader.specs.NextReads.{most_of}
 use Rattle.pic_reader.specs.Records.{AFrame, record_at}
 use Rattle.pic_reader.specs.Standing.{Standing}
+use Rattle.pic_verify.specs.Allowed.{IsInHeader}
 use Rattle.pic_verify.specs.Meaning.{due_step, step_before, record_place, Begins}
 
 -- how many bytes record k has at most: those of a frame where one is due, and else those of the longest
@@ -28,12 +28,15 @@ pub record ReachesRecord (bytes : List ℕ) (count : ℕ) : Type 0 where
   pub begins : Begins bytes header number
   pub most : count ≤ record_place header number + most_at (layout_of header) number
 
--- no byte was taken behind the longest header, or none behind the first record that isn't good
+-- What is taken of a source: where its bytes begin with a header, no byte behind the first record
+-- that isn't good; where they begin with none, no more than was read to find that.
 pub record TakesToRecord (before now : Told) : Type 0 where
+  -- the bytes that were taken
   pub front : List ℕ
   pub taken : before.bytes ≡ with_front front now.bytes
-  pub most : (length front ≤ header_most)
-      ⊎ ((bytes : List ℕ) → before.bytes ≡ Some bytes → IsBytes bytes → ReachesRecord bytes (length front))
+  -- so many at most
+  pub most : (bytes : List ℕ) → before.bytes ≡ Some bytes → IsBytes bytes
+      → IsInHeader bytes (length front) ⊎ ReachesRecord bytes (length front)
 
 -- at a place these bytes begin with a good frame, of the step that is due as record k
 pub record IsGoodAt (l : LayoutView) (place : ℕ) (bytes : List ℕ) (k : ℕ) : Type 0 where

@@ -5,11 +5,11 @@ use Rattle.std.proofs.lemmas.Bool.{eqb-false}
 use mathlib.Core.Option.{some}
 use lib.ListN.{get_elem?}
 use Rattle.pic_yard.specs.declared.view.View.{View}
-use Rattle.pic_yard.specs.Members.{In, count_below, at_else}
+use Rattle.pic_yard.specs.Members.{In, Differ, count_below, at_else}
 use Rattle.pic_yard.specs.Steps.{gave_back}
 use Rattle.pic_yard.specs.Marks.{IsOwed, IsRight, Marks}
 use Rattle.pic_yard.proofs.CountLaws.{at_here, at_other}
-use Rattle.pic_yard.proofs.MemberLaws.{kept, was_in, unseen_in}
+use Rattle.pic_yard.proofs.MemberLaws.{kept, was_in, unseen_in, differ_without}
 use Rattle.pic_yard.proofs.PostLaws.{OneArrives}
 use Rattle.pic_yard.proofs.ViewLaws.{each_view, lists_still}
 
@@ -65,4 +65,7 @@ module _ (tiles dirs ticket : ℕ) (from : ℕ → ℕ → ℕ) (posted : ℕ �
             (λ i x else_one at lives a had.
             let o : IsRight tiles dirs posted shut m.finisher a i = m.rights i x at lives a had in
             right_else i a (λ e. else_one (sym o.by ∙ ap m.finisher e ∙ right.by)) o);
+        once_owed = each_view (λ i x. Differ x.owes) views j u (λ lives. m.once_owed j v there live) (λ i x else_one at lives. m.once_owed i x at lives);
+        once_right = each_view (λ i x. Differ x.rights) views j u (λ lives. differ_without (eqb r) v.rights (m.once_right j v there live))
+            (λ i x else_one at lives. m.once_right i x at lives);
       }

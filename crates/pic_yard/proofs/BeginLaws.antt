@@ -95,6 +95,8 @@ begins o words slots sound opens some_seats small laid =
         ready = λ r tile full open_yet. absurd (none_posted full);
         owes = λ i x there live r d had. absurd (only_view (λ (k : ℕ) (y : View). In (r, d) y.owes → ⊥) v (λ is. is) i x there had);
         rights = λ i x there live r had. absurd (only_view (λ (k : ℕ) (y : View). In r y.rights → ⊥) v (λ is. is) i x there had);
+        once_owed = λ i x there live. only_view (λ (k : ℕ) (y : View). Differ y.owes) v tt i x there;
+        once_right = λ i x there live. only_view (λ (k : ℕ) (y : View). Differ y.rights) v tt i x there;
       };
       places = record {
         bare = λ r d tile dir sender. record { value = None; there = at_map some slots (slot_at r d) None (laid.boxes r d tile dir); is = refl };

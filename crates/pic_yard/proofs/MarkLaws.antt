@@ -4,12 +4,12 @@ use Rattle.std.proofs.Math.Decide.{ℕ_discrete}
 use mathlib.Core.Option.{some}
 use lib.ListN.{get_elem?}
 use Rattle.pic_yard.specs.declared.view.View.{View}
-use Rattle.pic_yard.specs.Members.{In, at_else}
+use Rattle.pic_yard.specs.Members.{In, Differ, at_else}
 use Rattle.pic_yard.specs.Steps.{now_has, boxes_of, did_claim}
 use Rattle.pic_yard.specs.Marks.{Lists, IsOwed, IsRight, Marks}
 use Rattle.pic_yard.proofs.Ways.{AreWays}
 use Rattle.pic_yard.proofs.CountLaws.{at_here, at_other}
-use Rattle.pic_yard.proofs.MemberLaws.{in_left, in_right, in_parts, in_boxes, boxes_in}
+use Rattle.pic_yard.proofs.MemberLaws.{in_left, in_right, in_parts, in_boxes, boxes_in, boxes_differ, differ_both}
 use Rattle.pic_yard.proofs.ViewLaws.{each_view, lists_still, lists_now}
 
 -- all arrival words stay
@@ -24,6 +24,14 @@ module _ (tiles dirs here ticket : ℕ) (to from : ℕ → ℕ → ℕ) (ways : 
 
   abbrev Rights : ℕ → View → Type 0
   Rights i x = (r : ℕ) → In r x.rights → IsRight tiles dirs posted shut m.finisher r i
+
+  -- what the view owed is of tiles claimed earlier, so no mailbox of this claim is among it
+  apart_boxes : ticket < tiles → (x : ℕ × ℕ) → In x (boxes_of (to ticket) dirs) → In x v.owes → ⊥
+  apart_boxes below x box old =
+      let is : (x.1 < dirs) × (x.0 ≡ to ticket x.1) = boxes_in (to ticket) x.0 x.1 dirs box in
+      let sender : from x.0 x.1 ≡ ticket = ap (λ (q : ℕ). from q x.1) is.1 ∙ ways.back ticket x.1 below is.0 in
+      let less : from x.0 x.1 < ticket = (m.owes j v there live x.0 x.1 old).sender in
+      omega (arith, sender, less)
 
   -- the number drawn is that of a tile
   pub claim_marks : ticket < tiles → Marks tiles dirs (suc ticket) from posted shut later (set views j (did_claim to dirs ticket v))
@@ -72,6 +80,10 @@ module _ (tiles dirs here ticket : ℕ) (to from : ℕ → ℕ → ℕ) (ways : 
             ])
             (λ i x apart at lives r d had. later_owed i r d (m.owes i x at lives r d had));
         rights = each_view Rights views j u (λ lives r had. m.rights j v there live r had) (λ i x apart at lives r had. m.rights i x at lives r had);
+        once_owed = each_view (λ i x. Differ x.owes) views j u
+            (λ lives. differ_both boxes v.owes (boxes_differ (to ticket) dirs) (m.once_owed j v there live) (apart_boxes below))
+            (λ i x apart at lives. m.once_owed i x at lives);
+        once_right = each_view (λ i x. Differ x.rights) views j u (λ lives. m.once_right j v there live) (λ i x apart at lives. m.once_right i x at lives);
       }
     where
       not_true : (b : Bool) → (b ≡ true → ⊥) → b ≡ false
@@ -110,6 +122,8 @@ module _ (tiles dirs here ticket : ℕ) (to from : ℕ → ℕ → ℕ) (ways : 
             (λ lives r d had. more_owed j r d (m.owes j v there live r d had))
             (λ i x apart at lives r d had. more_owed i r d (m.owes i x at lives r d had));
         rights = each_view Rights views j u (λ lives r had. m.rights j v there live r had) (λ i x apart at lives r had. m.rights i x at lives r had);
+        once_owed = each_view (λ i x. Differ x.owes) views j u (λ lives. m.once_owed j v there live) (λ i x apart at lives. m.once_owed i x at lives);
+        once_right = each_view (λ i x. Differ x.rights) views j u (λ lives. m.once_right j v there live) (λ i x apart at lives. m.once_right i x at lives);
       }
     where
       more_owed : (i r d : ℕ) → IsOwed tiles dirs ticket from posted m.claimer r d i → IsOwed tiles dirs (suc ticket) from posted m.claimer r d i

@@ -88,6 +88,12 @@ boxes_in to r d (suc n) (inl same) =
     (omega (arith, dir), ap (λ (p : ℕ × ℕ). p.0) same ∙ ap to (sym dir))
 boxes_in to r d (suc n) (inr more) = let rest : (d < n) × (r ≡ to d) = boxes_in to r d n more in let below : d < n = rest.0 in (omega arith, rest.1)
 
+-- which differ, since their directions do
+pub boxes_differ : (to : ℕ → ℕ) (n : ℕ) → Differ (boxes_of to n)
+unfolding boxes_of
+boxes_differ to zero = tt
+boxes_differ to (suc n) = ((λ more. let below : n < n = (boxes_in to (to n) n n more).0 in omega (arith, below)), boxes_differ to n)
+
 -- the test for one pair
 pub pair_here : (r d : ℕ) → same_pair r d (r, d) ≡ true
 pair_here r d = ap (λ (b : Bool). b && eqb d d) (eq-eqb r r refl) ∙ eq-eqb d d refl

@@ -5,11 +5,11 @@ use Rattle.std.proofs.Math.Decide.{ℕ_discrete}
 use mathlib.Core.Option.{some}
 use lib.ListN.{get_elem?}
 use Rattle.pic_yard.specs.declared.view.View.{View}
-use Rattle.pic_yard.specs.Members.{In, same_pair, count_below, at_else}
+use Rattle.pic_yard.specs.Members.{In, Differ, same_pair, count_below, at_else}
 use Rattle.pic_yard.specs.Steps.{did_post}
 use Rattle.pic_yard.specs.Marks.{Lists, IsOwed, IsRight, Marks, posts}
 use Rattle.pic_yard.proofs.CountLaws.{at_here, at_other, count_le, count_more, count_all}
-use Rattle.pic_yard.proofs.MemberLaws.{kept, was_in, unseen_in, pair_other, pair_apart}
+use Rattle.pic_yard.proofs.MemberLaws.{kept, was_in, unseen_in, differ_without, pair_other, pair_apart}
 use Rattle.pic_yard.proofs.ViewLaws.{each_view, lists_still, lists_now}
 
 abbrev pub IsPair : ℕ → ℕ → ℕ → ℕ → Type 0
@@ -104,6 +104,14 @@ module _ (tiles dirs ticket : ℕ) (from : ℕ → ℕ → ℕ) (posted : ℕ �
       choose true e (inr more) = inr more
       choose false e more = inr more
 
+  -- a right gained is a new one, since not all parcels for its tile were posted
+  rights_differ : Differ more_rights
+  rights_differ = choose (eqb (suc n) dirs)
+    where
+      choose : (b : Bool) → Differ (if b then r ∷ v.rights else v.rights)
+      choose true = ((λ had. not_all (m.rights j v there live r had).all), m.once_right j v there live)
+      choose false = m.once_right j v there live
+
   abbrev after : ℕ → ℕ → Bool
   after = posts posted r d
 
@@ -181,4 +189,7 @@ module _ (tiles dirs ticket : ℕ) (from : ℕ → ℕ → ℕ) (posted : ℕ �
             let o : IsOwed tiles dirs ticket from posted m.claimer a b i = m.owes i x at lives a b had in
             owed_else i a b (λ same. else_one (sym o.by ∙ ap m.claimer (λ k. from (same.0 k) (same.1 k)) ∙ owed.by)) o);
         rights = each_view Rights views j u (λ lives. mine_rights) (λ i x else_one at lives a had. right_else i a (m.rights i x at lives a had));
+        once_owed = each_view (λ i x. Differ x.owes) views j u (λ lives. differ_without (same_pair r d) v.owes (m.once_owed j v there live))
+            (λ i x else_one at lives. m.once_owed i x at lives);
+        once_right = each_view (λ i x. Differ x.rights) views j u (λ lives. rights_differ) (λ i x else_one at lives. m.once_right i x at lives);
       }

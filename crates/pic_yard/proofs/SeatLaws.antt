@@ -5,7 +5,7 @@ use mathlib.Core.Option.{some, some-injective}
 use lib.ListN.{get_elem?}
 use Rattle.atomic_table.proofs.Lists.{at_longer, set_else}
 use Rattle.pic_yard.specs.declared.view.View.{View}
-use Rattle.pic_yard.specs.Members.{In, count_below}
+use Rattle.pic_yard.specs.Members.{In, Differ, count_below}
 use Rattle.pic_yard.specs.Steps.{gave_number, newcomer, took_in, spent}
 use Rattle.pic_yard.specs.Marks.{Lists, IsOwed, IsRight, Marks}
 use Rattle.pic_yard.proofs.Ways.{AreWays}
@@ -47,6 +47,8 @@ module _ (tiles dirs ticket : ℕ) (from : ℕ → ℕ → ℕ) (posted : ℕ �
             (m.ready a tile full open_yet));
         owes = all Owed (λ a b had. m.owes j v there live a b had) (λ i y at lives a b had. m.owes i y at lives a b had) (λ i a b had. elim had [ ]);
         rights = all Rights (λ a had. m.rights j v there live a had) (λ i y at lives a had. m.rights i y at lives a had) (λ i a had. elim had [ ]);
+        once_owed = all (λ i y. Differ y.owes) (m.once_owed j v there live) m.once_owed (λ i. tt);
+        once_right = all (λ i y. Differ y.rights) (m.once_right j v there live) m.once_right (λ i. tt);
       }
 
   -- a seat that lists nothing is taken in
@@ -78,6 +80,8 @@ module _ (tiles dirs ticket : ℕ) (from : ℕ → ℕ → ℕ) (posted : ℕ �
             others (m.finisher a) (λ y. In a y.rights) (λ had. had) (λ had. subst (λ (l : List ℕ). In a l) no_rights had) (m.ready a tile full open_yet);
         owes = all Owed (λ a b had. m.owes j v there live a b had) (λ k y at' lives a b had. m.owes k y at' lives a b had);
         rights = all Rights (λ a had. m.rights j v there live a had) (λ k y at' lives a had. m.rights k y at' lives a had);
+        once_owed = all (λ k y. Differ y.owes) (m.once_owed j v there live) m.once_owed;
+        once_right = all (λ k y. Differ y.rights) (m.once_right j v there live) m.once_right;
       }
 
   -- Where all tiles are claimed, and the one live view lists nothing, all tiles are shut.

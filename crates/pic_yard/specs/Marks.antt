@@ -4,7 +4,7 @@ use Rattle.std.specs.Prelude.{◌≡◌, ℕ, suc, ◌<◌, List, Bool, true, fa
 use mathlib.Core.Option.{some}
 use lib.ListN.{get_elem?}
 use Rattle.pic_yard.specs.declared.view.View.{View}
-use Rattle.pic_yard.specs.Members.{In, count_below, at_else}
+use Rattle.pic_yard.specs.Members.{In, Differ, count_below, at_else}
 
 -- the view of the seat j is live, and lists something
 pub record Lists (views : List View) (j : ℕ) (What : View → Type 0) : Type 0 where
@@ -33,7 +33,7 @@ pub record IsRight (tiles dirs : ℕ) (posted : ℕ → ℕ → Bool) (shut : �
 -- The marks of all parcels and tiles. An arrival word counts the parcels posted to its tile; where
 -- the tile is shut it is one more than all. What isn't posted of a claimed tile is owed by the one
 -- seat that claimed it; where all parcels of a tile are posted, one seat has the right to it until
--- it is shut.
+-- it is shut. No live view lists the same parcel or the same tile twice.
 pub record Marks (tiles dirs ticket : ℕ) (from : ℕ → ℕ → ℕ) (posted : ℕ → ℕ → Bool) (shut : ℕ
     → Bool) (words : List ℕ) (views : List View) : Type 0 where
   pub claimer : ℕ → ℕ
@@ -50,6 +50,10 @@ pub record Marks (tiles dirs ticket : ℕ) (from : ℕ → ℕ → ℕ) (posted 
       → (r d : ℕ) → In (r, d) v.owes → IsOwed tiles dirs ticket from posted claimer r d j
   pub rights : (j : ℕ) (v : View) → get_elem? views j ≡ some v → v.live ≡ true
       → (r : ℕ) → In r v.rights → IsRight tiles dirs posted shut finisher r j
+  -- each parcel that a live view owes stands in it once,
+  pub once_owed : (j : ℕ) (v : View) → get_elem? views j ≡ some v → v.live ≡ true → Differ v.owes
+  -- and so does each tile to which it has the right
+  pub once_right : (j : ℕ) (v : View) → get_elem? views j ≡ some v → v.live ≡ true → Differ v.rights
 
 -- the parcel (r, d) is posted, and those that were before
 abbrev pub posts : (ℕ → ℕ → Bool) → ℕ → ℕ → ℕ → ℕ → Bool

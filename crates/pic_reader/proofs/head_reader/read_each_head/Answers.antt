@@ -9,6 +9,9 @@ use Rattle.pic_fields.proofs.EachLaws.{read_none, read_more}
 use Rattle.pic_reader.specs.HeaderFields.{particles_of, head_at}
 use Rattle.pic_reader.proofs.HeadLaws.{heads_none, heads_more}
 use Rattle.pic_reader.proofs.HeadReadLaws.{head_among, head_starves}
+use Rattle.pic_reader.proofs.RunLaws.{goes_on_by, runs_head}
+use Rattle.pic_reader.proofs.WithinLaws.{within_among, within_read}
+use Rattle.pic_reader.specs.HeadReads.{TakesWithin}
 use Rattle.pic_reader.proofs.head_reader.read_each_head.Goals as goal
 
 pub loop-index-init : goal.loop-index-init
@@ -53,3 +56,21 @@ returns-clause-reads g c =
       answer = read_up_to (omega (arith, so_far.size)) (subst (λ n. HasRead (each n head_at) c.args.place before heads
           (c.args.place + 60 * c.loop-index.index) now) all so_far.read);
     }
+
+pub returns-in_err-head-clause-within : goal.returns-in_err-head-clause-within
+returns-in_err-head-clause-within g c =
+    let stopped = rw c.as_slice.ensures.value at c.in_err-head.ensures.within in
+    within_among c.args.count c.loop-index.index head_at (λ hs. goes_on_by 60 (runs_head hs)) c.loop-index-test.true c.loop-index.invariant.read stopped
+
+pub returns-in_err-push-clause-within : goal.returns-in_err-push-clause-within
+returns-in_err-push-clause-within g c =
+    let read = rw c.as_slice.ensures.value at c.in_ok-head.ensures.within in
+    within_among c.args.count c.loop-index.index head_at (λ hs. goes_on_by 60 (runs_head hs)) c.loop-index-test.true c.loop-index.invariant.read read
+
+pub returns-clause-within : goal.returns-clause-within
+returns-clause-within g c =
+    let so_far = c.loop-index.invariant in
+    let all : c.loop-index.index ≡ c.args.count = omega (arith, c.loop-index-test.false, c.loop-index.auto.index-end) in
+    let before = g.S.Source.told c.args.source.now in
+    let now = g.S.Source.told c.loop-index.source in
+    subst (λ n. TakesWithin (each n head_at) c.args.place before now) all (within_read so_far.read)

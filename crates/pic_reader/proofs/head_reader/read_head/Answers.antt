@@ -11,6 +11,8 @@ use Rattle.pic_reader.specs.Fields.{out_of_limits}
 use Rattle.pic_num.specs.Limits.{most_particles_1}
 use Rattle.pic_reader.proofs.NameLaws.{name_from, new_from}
 use Rattle.pic_reader.proofs.HeadReadLaws.{head_goes_on, head_exits, head_starves}
+use Rattle.pic_reader.proofs.RunLaws.{goes_on_by, goes_then, goes_done, runs_within, runs_kind, runs_name}
+use Rattle.pic_reader.proofs.WithinLaws.{within_short, within_first, within_then, within_done}
 use Rattle.pic_reader.proofs.head_reader.read_head.Goals as goal
 
 -- a species of these parts
@@ -64,3 +66,33 @@ returns-clause-new g c =
       differs = λ i below equal. free i below (equal ∙ same);
       total = omega (arith, c.requires.count, c.requires.most, c.in_ok-count.ensures.high);
     })
+
+pub returns-in_err-name-clause-within : goal.returns-in_err-name-clause-within
+unfolding head_at
+returns-in_err-name-clause-within g c =
+    within_first _ (λ name. goes_then (goes_on_by 24 runs_kind) (λ kind. goes_then (goes_on_by 4 (runs_within _ _ _)) (λ count. goes_done _)))
+    (within_short 32 (runs_name _) (omega arith) c.in_err-name.ensures.reads.answer.moves)
+
+pub returns-in_err-kind-clause-within : goal.returns-in_err-kind-clause-within
+unfolding head_at
+returns-in_err-kind-clause-within g c =
+    within_then _ c.in_ok-name.ensures.reads.answer (within_first _ (λ kind. goes_then (goes_on_by 4 (runs_within _ _ _)) (λ count. goes_done _))
+    (within_short 24 runs_kind (omega arith) c.in_err-kind.ensures.reads.answer.moves))
+
+pub returns-in_err-count-clause-within : goal.returns-in_err-count-clause-within
+unfolding head_at
+returns-in_err-count-clause-within g c =
+    within_then _ c.in_ok-name.ensures.reads.answer (within_then _ c.in_ok-kind.ensures.reads.answer (within_first _ (λ count. goes_done _)
+    (within_short 4 (runs_within _ _ _) (omega arith) c.in_err-count.ensures.reads.answer.moves)))
+
+pub returns-in_err-head-clause-within : goal.returns-in_err-head-clause-within
+unfolding head_at
+returns-in_err-head-clause-within g c =
+    within_then _ c.in_ok-name.ensures.reads.answer (within_then _ c.in_ok-kind.ensures.reads.answer
+    (within_then _ (so_many _ _ c.requires.count c.in_ok-count.ensures.reads).answer (within_done _ _ _)))
+
+pub returns-clause-within : goal.returns-clause-within
+unfolding head_at
+returns-clause-within g c =
+    within_then _ c.in_ok-name.ensures.reads.answer (within_then _ c.in_ok-kind.ensures.reads.answer
+    (within_then _ (so_many _ _ c.requires.count c.in_ok-count.ensures.reads).answer (within_done _ _ _)))
