@@ -2,7 +2,6 @@
 use Rattle.std.proofs.Common.{◌≡◌, ◌≢◌, List, [], ℕ, Option, Some, None, Result, Ok, Err, inl, refl, sym, ◌∙◌, subst, arith}
 use Rattle.std.specs.Prelude.{unwrap_or, option_map, IfSome, IsSome}
 use Rattle.pic_io.specs.Told.{Told, Calm}
-use Rattle.pic_io.specs.Source.{with_front}
 use Rattle.pic_io.specs.Sinks.{Sinks}
 use Rattle.pic_io.proofs.Puts.{wrote_none}
 use Rattle.pic_demo.specs.Demo.{demo_deck}
@@ -15,6 +14,7 @@ use Rattle.pic_verify.specs.declared.verify_stop.VerifyStop.TheVariants as verif
 use Rattle.pic_verify.specs.Allowed.{TakesHeader}
 use Rattle.pic_verify.specs.Verified.{Verdict, verified}
 use Rattle.pic_verify.specs.Verifies.{Finds, Verifies}
+use Rattle.pic_verify.proofs.UntakenLaws.{with_front_nil, none_allowed, none_reached, none_header}
 use Rattle.pic_run.specs.declared.cut.Cut.{Cut}
 use Rattle.pic_run.specs.declared.cut.Cut.TheVariants as cut
 use Rattle.pic_run.specs.declared.early.Early.TheVariants as early
@@ -32,10 +32,6 @@ use Rattle.pic_run.specs.Starting.{first_state}
 use Rattle.pic_run.specs.Ends.{Finishes, Announces, EndsStopped, Reads, ReadsDeck, ReadsDump, Takes, IsIdle, OnDeck, OnDump, Demonstrates, Performs}
 use Rattle.pic_run.specs.Ends.{TakesOfDump}
 use Rattle.pic_run.proofs.OpenedLaws.{gave_known}
-
-with_front_nil : (known : Option (List ℕ)) → known ≡ with_front [] known
-with_front_nil None = refl
-with_front_nil (Some bytes) = refl
 
 -- a call that wants no memory any more
 announced : (workers : ℕ) (o : Outcome) (before now : Sinks) (finish : Result Ended Cut) → Announces o before now finish
@@ -188,11 +184,11 @@ starved_words words source before = record {
     none_read (Some (Run workers)) = reads_deck
     none_read (Some Verify) = record {
       taken = record {
-        allowed = record { front = []; taken = with_front_nil source.bytes; most = inl (omega arith) };
-        reached = record { front = []; taken = with_front_nil source.bytes; most = inl (omega arith) };
+        allowed = none_allowed source;
+        reached = none_reached source;
       };
       calm = λ _. refl;
-      memory = λ _. record { front = []; moved = with_front_nil source.bytes; most = omega arith };
+      memory = λ _. none_header source;
       end = λ frames same. cc;
       fault = λ same. cc;
     }

@@ -130,9 +130,9 @@ pub record TakesOfDump (source source' : Told) : Type 0 where
   pub allowed : TakesAllowed source source'
   pub reached : TakesToRecord source source'
 
--- how a dump was read: no more of it than that; where memory was wanting, no read failed, and no more
--- was taken than the longest header has; one whose frames are good to its end; and a read fault is one
--- that the source's count shows
+-- how a dump was read: no more of it than that; where memory was wanting, no read failed, and no byte
+-- behind its header was taken; one whose frames are good to its end; and a read fault is one that the
+-- source's count shows
 pub record ReadsDump (source source' : Told) (finish : Result Ended Cut) : Type 0 where
   pub taken : TakesOfDump source source'
   pub calm : finish ≡ Err cut.NoMemory → Calm source source'

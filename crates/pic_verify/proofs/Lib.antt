@@ -12,3 +12,4 @@ pub mod ReadableFrame
 pub mod ReadableEnd
 pub mod ReadableDump
 pub mod SmallDumpLaws
+pub mod UntakenLaws
