@@ -1,3 +1,4 @@
 pub mod SpeciesOfIdentity
 pub mod ParticlesOfSpecies
 pub mod LeastStrong
+pub mod FirstHalt

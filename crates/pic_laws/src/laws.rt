@@ -4,6 +4,7 @@
 ghost use Rattle.pic_grid.specs.Differences.{CurlOfEHasNoDivergence, CurlOfBHasNoDivergence};
 ghost use Rattle.pic_grid.specs.Gather.{ConstantIsGathered};
 ghost use Rattle.pic_grid.specs.Hat.{HatsAddUp, WeightsAddUp};
+ghost use Rattle.pic_laws.specs.FirstHalt.{LawOfTheFirstHalt};
 ghost use Rattle.pic_laws.specs.LeastStrong.{LeastStrong};
 ghost use Rattle.pic_laws.specs.ParticlesOfSpecies.{ParticlesAreThoseOfTheirSpecies};
 ghost use Rattle.pic_laws.specs.SpeciesOfIdentity.{EachIdentityHasOneSpecies};
@@ -54,4 +55,13 @@ pub fn particles_are_those_of_their_species()
 /// one too large.
 pub fn law_of_the_least_strong_force()
     ensures { LeastStrong }
+{}
+
+/// A push is halted by the first of its three tests that fails: the velocity behind half the kick
+/// against the greatest speed, then the turn against the greatest turn, then the move against the
+/// side of a cell. It halts exactly where a component is above its limit in size, and names that
+/// test, the first axis on which it fails, and the component there. It gives its new velocity and
+/// move exactly where no component of the three is above its limit.
+pub fn law_of_the_first_halt()
+    ensures { LawOfTheFirstHalt }
 {}

@@ -14,3 +14,4 @@ pub mod DrawnSizes
 pub mod LoadedLaws
 pub mod StartLaws
 pub mod RunsAreVerified
+pub mod CutTextsLaws

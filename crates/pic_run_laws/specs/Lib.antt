@@ -1,2 +1,3 @@
 pub mod KeptDecks
 pub mod RunsAreVerified
+pub mod CutTexts

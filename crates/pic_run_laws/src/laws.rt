@@ -1,5 +1,6 @@
-//! The law of what runs write. It is the contract of a function that does nothing.
+//! Laws of what runs write. Each is the contract of a function that does nothing.
 
+ghost use Rattle.pic_run_laws.specs.CutTexts.{CutBehindWholePieces, CutsLeaveFronts};
 ghost use Rattle.pic_run_laws.specs.RunsAreVerified.{RunsAreVerified, RunsAreFoundGood};
 
 /// What `run` puts on `out` of a deck that its type keeps and that meets Gauss's law is a dump that
@@ -8,4 +9,13 @@ ghost use Rattle.pic_run_laws.specs.RunsAreVerified.{RunsAreVerified, RunsAreFou
 pub fn runs_are_verified()
     ensures verified { RunsAreVerified }
     ensures found { RunsAreFoundGood }
+{}
+
+/// Where a put fails among pieces that are put one after another, the pieces before one of them
+/// stand whole on both sinks, with their lines, and that one is cut: a front of its text and no
+/// line, or its whole text and a front of its line. So where a put of a command's texts fails, each
+/// sink has a front of its whole text.
+pub fn law_of_the_cut()
+    ensures whole { CutBehindWholePieces }
+    ensures fronts { CutsLeaveFronts }
 {}
