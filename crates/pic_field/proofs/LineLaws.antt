@@ -9,12 +9,8 @@ use Rattle.pic_grid.specs.Cells.{IsWithin, count_of}
 use Rattle.pic_grid.specs.Block.{BlockValues, inner_at}
 use Rattle.pic_grid.specs.Rows.{with_row}
 use Rattle.pic_grid.proofs.RowLaws.{IsOff, row_here, row_others, row_shape, row_size}
-use Rattle.pic_field.specs.Lines.{HasCells, OnRow, OnLine, BelowLine, OnLines, OnStrip, Changed, AreSmall}
+use Rattle.pic_field.specs.Lines.{OnRow, OnLine, OnLines, OnStrip, Changed, AreSmall}
 use Rattle.pic_field.specs.Rows.{row_at, IsSmallRow}
-
--- a zone that a place lies in has a cell
-pub has_cells : (size p : Triple) → IsWithin p size → HasCells size
-has_cells size p w = record { x = omega (arith, w.x); y = omega (arith, w.y); z = omega (arith, w.z) }
 
 -- two answers that are both yes
 pub both_true : (s t : Bool) → (s && t) ≡ true → (s ≡ true) × (t ≡ true)
@@ -75,17 +71,6 @@ changed_as g h P old new change same = record {
   done = λ a p w here. change.done a p w here ∙ same a p w here;
   rest = change.rest;
 }
-
--- of a zone without cells nothing is changed, and all of it is small
-pub changed_none : (g : Axis → Triple → ℤ → ℤ) (P : Axis → Triple → Type 0) (b : BlockValues) → (HasCells b.size → ⊥) → Changed g P b b
-changed_none g P b none = record {
-  shaped = record { low = refl; size = refl };
-  done = λ a p w here. absurd (none (has_cells b.size p w));
-  rest = λ a p w here. refl;
-}
-
-pub small_none : (most : ℕ) (P : Axis → Triple → Type 0) (b : BlockValues) → (HasCells b.size → ⊥) → AreSmall most P b
-small_none most P b none = record { at_most = λ a p w here. absurd (none (has_cells b.size p w)) }
 
 -- a row that is written is a change of its places
 pub row_changed : (g : Axis → Triple → ℤ → ℤ) (b new : BlockValues) (axis : Axis) (y z : ℕ) (row : List ℤ) → new ≡ with_row b axis y z row
@@ -158,6 +143,11 @@ pub line_small : (most : ℕ) (g h : Axis → Triple → ℤ → ℤ) (y z : ℕ
 line_small most g h y z one two three second third small_x small_y small_z =
     let both = small_next g (OnRow X y z) (OnRow Y y z) (OnTwo y z) one one two most second small_x small_y (two_rows one.size y z) in
     small_next h (OnTwo y z) (OnRow Z y z) (OnLine y z) one two three most third both small_z (three_rows two.size y z)
+
+-- a place is one of the lines of a layer below one
+pub record BelowLine (y z : ℕ) (a : Axis) (p : Triple) : Type 0 where
+  pub y_below : p.y < y
+  pub z_is : p.z ≡ z
 
 -- the lines of a layer
 pub lines_more : (n : Triple) (y z : ℕ) → IsJoined n (BelowLine y z) (OnLine y z) (BelowLine (y + 1) z)
