@@ -1,7 +1,8 @@
 //! A step of E in one block, strip by strip of lines.
 
-ghost use Rattle.std.specs.Prelude.{◌≡◌, ◌+◌, ◌-◌, ◌^◌, ◌<◌, ◌≤◌, true, false, OnOk, IsTrue};
+ghost use Rattle.std.specs.Prelude.{◌≡◌, ◌+◌, ◌-◌, ◌<◌, ◌≤◌, true, false, OnOk, IsTrue};
 ghost use Rattle.pic_num.specs.declared.axis.Axis.{Axis as AxisName};
+ghost use Rattle.pic_num.specs.Limits.{most_value};
 ghost use Rattle.pic_num.specs.Push.{unless};
 ghost use Rattle.pic_num.specs.Space.{Triple};
 ghost use Rattle.pic_grid.specs.declared.stop.Phase.TheVariants.{Electric};
@@ -42,9 +43,9 @@ struct FullStep<'a> {
 pub fn full_e(scales: &Scales, b: &Lattice, j: &Block, e: &mut Block) -> Result<(), Stop>
     requires among { IsAmongCells e.old.low e.old.size b.now.cells }
     requires j_shape { IsShaped j.now e.old }
-    requires b_small { EachAtMost (2 ^ 90) b.now }
-    requires j_small { AllAtMost (2 ^ 90) j.now }
-    requires e_small { AllAtMost (2 ^ 90) e.old }
+    requires b_small { EachAtMost most_value b.now }
+    requires j_small { AllAtMost most_value j.now }
+    requires e_small { AllAtMost most_value e.old }
     ensures shape { IsShaped e.new e.old }
     ensures values { (a : AxisName) → (p : Triple) → IsWithin p e.old.size
         → inner_at e.new a p
@@ -67,9 +68,9 @@ pub fn full_e_in(
 ) -> Result<(), Stop>
     requires among { IsAmongCells e.old.low e.old.size b.now.cells }
     requires j_shape { IsShaped j.now e.old }
-    requires b_small { EachAtMost (2 ^ 90) b.now }
-    requires j_small { AllAtMost (2 ^ 90) j.now }
-    requires e_small { AllAtMost (2 ^ 90) e.old }
+    requires b_small { EachAtMost most_value b.now }
+    requires j_small { AllAtMost most_value j.now }
+    requires e_small { AllAtMost most_value e.old }
     ensures shape { IsShaped e.new e.old }
     ensures values { (a : AxisName) → (p : Triple) → IsWithin p e.old.size
         → inner_at e.new a p
@@ -92,9 +93,9 @@ pub fn full_e_in(
 fn full_strips(step: &FullStep, e: &mut Block, rooms: &mut Rooms) -> bool
     requires among { IsAmongCells e.old.low e.old.size step.now.b.now.cells }
     requires j_shape { IsShaped step.now.j.now e.old }
-    requires b_small { EachAtMost (2 ^ 90) step.now.b.now }
-    requires j_small { AreSmall (2 ^ 90) (BelowLayer e.old.size.z) step.now.j.now }
-    requires e_small { AreSmall (2 ^ 90) (BelowLayer e.old.size.z) e.old }
+    requires b_small { EachAtMost most_value step.now.b.now }
+    requires j_small { AreSmall most_value (BelowLayer e.old.size.z) step.now.j.now }
+    requires e_small { AreSmall most_value (BelowLayer e.old.size.z) e.old }
     ensures changed { Changed
         (full_made step.now.scales.now step.now.b.now step.now.j.now e.old.low)
         (BelowLayer e.old.size.z) e.old e.new }
@@ -121,12 +122,12 @@ fn full_strip(step: &FullStep, e: &mut Block, from: u32, to: u32, rooms: &mut Ro
     requires among { IsAmongCells e.old.low e.old.size step.now.b.now.cells }
     requires j_shape { IsShaped step.now.j.now e.old }
     requires some { HasCells e.old.size }
-    requires b_small { EachAtMost (2 ^ 90) step.now.b.now }
+    requires b_small { EachAtMost most_value step.now.b.now }
     requires from { from < to }
     requires few { to ≤ from + 8 }
     requires to { to ≤ e.old.size.y }
-    requires j_small { AreSmall (2 ^ 90) (OnStrip from to e.old.size.z) step.now.j.now }
-    requires e_small { AreSmall (2 ^ 90) (OnStrip from to e.old.size.z) e.old }
+    requires j_small { AreSmall most_value (OnStrip from to e.old.size.z) step.now.j.now }
+    requires e_small { AreSmall most_value (OnStrip from to e.old.size.z) e.old }
     ensures changed { Changed
         (full_made step.now.scales.now step.now.b.now step.now.j.now e.old.low)
         (OnStrip from to e.old.size.z) e.old e.new }
@@ -173,13 +174,13 @@ fn full_layer(
     requires among { IsAmongCells e.old.low e.old.size step.now.b.now.cells }
     requires j_shape { IsShaped step.now.j.now e.old }
     requires some { HasCells e.old.size }
-    requires b_small { EachAtMost (2 ^ 90) step.now.b.now }
+    requires b_small { EachAtMost most_value step.now.b.now }
     requires from { from < to }
     requires few { to ≤ from + 8 }
     requires to { to ≤ e.old.size.y }
     requires z { z < e.old.size.z }
-    requires j_small { AreSmall (2 ^ 90) (OnLines from to z) step.now.j.now }
-    requires e_small { AreSmall (2 ^ 90) (OnLines from to z) e.old }
+    requires j_small { AreSmall most_value (OnLines from to z) step.now.j.now }
+    requires e_small { AreSmall most_value (OnLines from to z) e.old }
     requires far { far < 2 }
     requires plane { IsNextPlane step.now.b.now step.now.scales.now.b_to_e
         (down step.now.b.now.cells Axis.Z
@@ -232,8 +233,8 @@ fn full_lines(
     requires few { to ≤ from + 8 }
     requires to { to ≤ e.old.size.y }
     requires z { z < e.old.size.z }
-    requires j_small { AreSmall (2 ^ 90) (OnLines from to z) step.now.j.now }
-    requires e_small { AreSmall (2 ^ 90) (OnLines from to z) e.old }
+    requires j_small { AreSmall most_value (OnLines from to z) step.now.j.now }
+    requires e_small { AreSmall most_value (OnLines from to z) e.old }
     requires near { IsScaledPlane step.now.b.now step.now.scales.now.b_to_e
         (corner_before step.now.b.now.cells (line_start e.old.low from z))
         (down_span e.old.size.x) (to - from) near.now }
@@ -270,8 +271,8 @@ fn full_line(
     requires j_shape { IsShaped step.now.j.now e.old }
     requires y { y < e.old.size.y }
     requires z { z < e.old.size.z }
-    requires j_small { AreSmall (2 ^ 90) (OnLine y z) step.now.j.now }
-    requires e_small { AreSmall (2 ^ 90) (OnLine y z) e.old }
+    requires j_small { AreSmall most_value (OnLine y z) step.now.j.now }
+    requires e_small { AreSmall most_value (OnLine y z) e.old }
     requires rows { AreRowsDown step.now.b.now step.now.scales.now.b_to_e
         (line_start e.old.low y z) e.old.size.x own.now by_y.now by_z.now }
     ensures changed { Changed

@@ -1,7 +1,8 @@
 //! Half a step of B in one block, strip by strip of lines.
 
-ghost use Rattle.std.specs.Prelude.{◌≡◌, ◌+◌, ◌-◌, ◌^◌, ◌<◌, ◌≤◌, true, false, OnOk, IsTrue};
+ghost use Rattle.std.specs.Prelude.{◌≡◌, ◌+◌, ◌-◌, ◌<◌, ◌≤◌, true, false, OnOk, IsTrue};
 ghost use Rattle.pic_num.specs.declared.axis.Axis.{Axis as AxisName};
+ghost use Rattle.pic_num.specs.Limits.{most_value};
 ghost use Rattle.pic_num.specs.Push.{unless};
 ghost use Rattle.pic_num.specs.Space.{Triple};
 ghost use Rattle.pic_grid.specs.Cells.{IsWithin};
@@ -37,8 +38,8 @@ struct HalfStep<'a> {
 /// 2^44.
 pub fn half_b(scales: &Scales, e: &Lattice, b: &mut Block, phase: Phase) -> Result<(), Stop>
     requires among { IsAmongCells b.old.low b.old.size e.now.cells }
-    requires e_small { EachAtMost (2 ^ 90) e.now }
-    requires b_small { AllAtMost (2 ^ 90) b.old }
+    requires e_small { EachAtMost most_value e.now }
+    requires b_small { AllAtMost most_value b.old }
     ensures shape { IsShaped b.new b.old }
     ensures values { (a : AxisName) → (p : Triple) → IsWithin p b.old.size
         → inner_at b.new a p
@@ -59,8 +60,8 @@ pub fn half_b_in(
     rooms: &mut Rooms,
 ) -> Result<(), Stop>
     requires among { IsAmongCells b.old.low b.old.size e.now.cells }
-    requires e_small { EachAtMost (2 ^ 90) e.now }
-    requires b_small { AllAtMost (2 ^ 90) b.old }
+    requires e_small { EachAtMost most_value e.now }
+    requires b_small { AllAtMost most_value b.old }
     ensures shape { IsShaped b.new b.old }
     ensures values { (a : AxisName) → (p : Triple) → IsWithin p b.old.size
         → inner_at b.new a p
@@ -81,8 +82,8 @@ pub fn half_b_in(
 /// step's `most` in size.
 fn half_strips(step: &HalfStep, b: &mut Block, rooms: &mut Rooms) -> bool
     requires among { IsAmongCells b.old.low b.old.size step.now.e.now.cells }
-    requires e_small { EachAtMost (2 ^ 90) step.now.e.now }
-    requires b_small { AreSmall (2 ^ 90) (BelowLayer b.old.size.z) b.old }
+    requires e_small { EachAtMost most_value step.now.e.now }
+    requires b_small { AreSmall most_value (BelowLayer b.old.size.z) b.old }
     ensures changed { Changed (half_made step.now.scales.now step.now.e.now b.old.low)
         (BelowLayer b.old.size.z) b.old b.new }
     ensures calm { IsTrue result → AreSmall step.now.most (BelowLayer b.old.size.z) b.new }
@@ -107,11 +108,11 @@ fn half_strips(step: &HalfStep, b: &mut Block, rooms: &mut Rooms) -> bool
 fn half_strip(step: &HalfStep, b: &mut Block, from: u32, to: u32, rooms: &mut Rooms) -> bool
     requires among { IsAmongCells b.old.low b.old.size step.now.e.now.cells }
     requires some { HasCells b.old.size }
-    requires e_small { EachAtMost (2 ^ 90) step.now.e.now }
+    requires e_small { EachAtMost most_value step.now.e.now }
     requires from { from < to }
     requires few { to ≤ from + 8 }
     requires to { to ≤ b.old.size.y }
-    requires b_small { AreSmall (2 ^ 90) (OnStrip from to b.old.size.z) b.old }
+    requires b_small { AreSmall most_value (OnStrip from to b.old.size.z) b.old }
     ensures changed { Changed (half_made step.now.scales.now step.now.e.now b.old.low)
         (OnStrip from to b.old.size.z) b.old b.new }
     ensures calm { IsTrue result → AreSmall step.now.most (OnStrip from to b.old.size.z) b.new }
@@ -151,12 +152,12 @@ fn half_layer(
 ) -> bool
     requires among { IsAmongCells b.old.low b.old.size step.now.e.now.cells }
     requires some { HasCells b.old.size }
-    requires e_small { EachAtMost (2 ^ 90) step.now.e.now }
+    requires e_small { EachAtMost most_value step.now.e.now }
     requires from { from < to }
     requires few { to ≤ from + 8 }
     requires to { to ≤ b.old.size.y }
     requires z { z < b.old.size.z }
-    requires b_small { AreSmall (2 ^ 90) (OnLines from to z) b.old }
+    requires b_small { AreSmall most_value (OnLines from to z) b.old }
     requires near { near < 2 }
     requires plane { IsScaledPlane step.now.e.now step.now.scales.now.e_to_b
         (line_start b.old.low from z) (up_span b.old.size.x) (to - from)
@@ -199,7 +200,7 @@ fn half_lines(
     requires few { to ≤ from + 8 }
     requires to { to ≤ b.old.size.y }
     requires z { z < b.old.size.z }
-    requires b_small { AreSmall (2 ^ 90) (OnLines from to z) b.old }
+    requires b_small { AreSmall most_value (OnLines from to z) b.old }
     requires near { IsScaledPlane step.now.e.now step.now.scales.now.e_to_b
         (line_start b.old.low from z) (up_span b.old.size.x) (to - from) near.now }
     requires far { IsNextPlane step.now.e.now step.now.scales.now.e_to_b
@@ -231,7 +232,7 @@ fn half_line(
     requires among { IsAmongCells b.old.low b.old.size step.now.e.now.cells }
     requires y { y < b.old.size.y }
     requires z { z < b.old.size.z }
-    requires b_small { AreSmall (2 ^ 90) (OnLine y z) b.old }
+    requires b_small { AreSmall most_value (OnLine y z) b.old }
     requires rows { AreRowsUp step.now.e.now step.now.scales.now.e_to_b
         (line_start b.old.low y z) b.old.size.x own.now by_y.now by_z.now }
     ensures changed { Changed (half_made step.now.scales.now step.now.e.now b.old.low)

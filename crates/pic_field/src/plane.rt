@@ -1,7 +1,7 @@
 //! Planes of scaled rows: those of a strip of lines at one layer of z, each row scaled once.
 
 ghost use Rattle.std.specs.Prelude.{◌≡◌, ◌+◌, ◌<◌, ◌≤◌, ◌^◌, IsTrue};
-ghost use Rattle.pic_num.specs.Limits.{most_cells_of_axis};
+ghost use Rattle.pic_num.specs.Limits.{most_cells_of_axis, most_value};
 ghost use Rattle.pic_num.specs.Rounding.{scaled};
 ghost use Rattle.pic_num.specs.Sizes.{IsAtMost};
 ghost use Rattle.pic_num.specs.Space.{triple};
@@ -95,7 +95,7 @@ pub(crate) fn fill_plane(
     requires span { IsSpan span }
     requires edge { (triple at).x + span.edge ≤ field.now.cells.x }
     requires lines { lines ≤ 8 }
-    requires small { EachAtMost (2 ^ 90) field.now }
+    requires small { EachAtMost most_value field.now }
     ensures { IsScaledPlane field.now by (triple at) span lines to.new }
 {
     let [_, ny, _] = field.cells().numbers();
@@ -120,7 +120,7 @@ pub(crate) fn fill_next_plane(
     requires within { IsWithin (triple at) field.now.cells }
     requires span { IsSpan span }
     requires lines { lines ≤ 8 }
-    requires small { EachAtMost (2 ^ 90) field.now }
+    requires small { EachAtMost most_value field.now }
     ensures { IsNextPlane field.now by (triple at) span lines to.new }
 {
     let [_, ny, _] = field.cells().numbers();
@@ -147,7 +147,7 @@ pub(crate) fn fill_plane_behind(
     requires span { IsSpan span }
     requires edge { (triple at).x + span.edge ≤ field.now.cells.x }
     requires lines { lines ≤ 8 }
-    requires small { EachAtMost (2 ^ 90) field.now }
+    requires small { EachAtMost most_value field.now }
     ensures own { IsTrue has_next → IsScaledPlane field.now by (triple at) span lines to.new }
     ensures next { IsNextPlane field.now by (triple at) span lines to.new }
 {
@@ -176,7 +176,7 @@ fn scale_line(field: &Lattice, by: Mult, at: [u32; 3], span: Span, own: bool, to
     requires within { IsWithin (triple at) field.now.cells }
     requires span { IsSpan span }
     requires edge { (triple at).x + span.edge ≤ field.now.cells.x }
-    requires small { EachAtMost (2 ^ 90) field.now }
+    requires small { EachAtMost most_value field.now }
     ensures own { IsTrue own → IsOwnLine field.now by (triple at) span to.new }
     ensures side { IsSideLine field.now by (triple at) span to.new }
 {
@@ -193,7 +193,7 @@ fn scale_own(field: &Lattice, by: Mult, at: [u32; 3], span: Span, to: &mut Line)
     requires within { IsWithin (triple at) field.now.cells }
     requires span { IsSpan span }
     requires edge { (triple at).x + span.edge ≤ field.now.cells.x }
-    requires small { EachAtMost (2 ^ 90) field.now }
+    requires small { EachAtMost most_value field.now }
     ensures { IsOwnLine field.now by (triple at) span to.new }
 {
     let [nx, _, _] = field.cells().numbers();
@@ -211,7 +211,7 @@ fn scale_own(field: &Lattice, by: Mult, at: [u32; 3], span: Span, to: &mut Line)
 fn scale_next(field: &Lattice, by: Mult, at: [u32; 3], span: Span, to: &mut Line)
     requires within { IsWithin (triple at) field.now.cells }
     requires span { IsSpan span }
-    requires small { EachAtMost (2 ^ 90) field.now }
+    requires small { EachAtMost most_value field.now }
     ensures { IsNextLine field.now by (triple at) span to.new }
 {
     let start = start_at(field, at);
@@ -225,7 +225,7 @@ fn scaled_at(field: &Lattice, by: Mult, axis: Axis, x: Slot, y: Slot, z: Slot) -
     requires x { IsSlotX field.now.cells field.now.parts x }
     requires y { IsSlotY field.now.cells field.now.parts y }
     requires z { IsSlotZ field.now.cells field.now.parts z }
-    requires small { EachAtMost (2 ^ 90) field.now }
+    requires small { EachAtMost most_value field.now }
     ensures value { result
         ≡ scaled (value_at field.now axis (record { x = x.index; y = y.index; z = z.index })) by }
     ensures size { IsAtMost result (2 ^ 121) }
@@ -247,7 +247,7 @@ struct Wanted {
 fn scale_rows(field: &Lattice, by: Mult, start: Start, span: Span, wanted: Wanted, to: &mut Line)
     requires start { IsStart field.now start }
     requires span { IsSpan span }
-    requires small { EachAtMost (2 ^ 90) field.now }
+    requires small { EachAtMost most_value field.now }
     ensures x { IsScaledRow field.now by Axis.X (start_cell start) span.first
         (span.first + span.cells) to.new.x }
     ensures y { IsTrue wanted.y → IsScaledRow field.now by Axis.Y (start_cell start) span.first

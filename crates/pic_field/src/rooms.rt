@@ -1,6 +1,7 @@
 //! Rooms for planes of scaled rows, and a row of a block that is lessened by a curl.
 
 ghost use Rattle.std.specs.Prelude.{◌≡◌, pos, ◌+◌, ◌*◌, ◌^◌, ◌<◌, ◌≤◌, ◌-ℤ◌, IsTrue};
+ghost use Rattle.pic_num.specs.Limits.{most_value};
 ghost use Rattle.pic_grid.specs.Block.{IsShaped, inner_at};
 ghost use Rattle.pic_field.specs.Lines.{OnRow, Changed, AreSmall};
 ghost use Rattle.pic_field.specs.Rows.{row_at, curl_of, IsRow};
@@ -39,7 +40,7 @@ impl Rooms {
 pub(crate) fn half_row(b: &mut Block, axis: Axis, y: u32, z: u32, four: &Four, most: u128) -> bool
     requires y { y < b.old.size.y }
     requires z { z < b.old.size.z }
-    requires small { AreSmall (2 ^ 90) (OnRow axis y z) b.old }
+    requires small { AreSmall most_value (OnRow axis y z) b.old }
     requires far_third { IsRow (2 ^ 121) b.old.size.x four.now.far_third.now }
     requires near_third { IsRow (2 ^ 121) b.old.size.x four.now.near_third.now }
     requires far_second { IsRow (2 ^ 121) b.old.size.x four.now.far_second.now }
@@ -72,8 +73,8 @@ pub(crate) fn full_row(
     requires j_shape { IsShaped j.now e.old }
     requires y { y < e.old.size.y }
     requires z { z < e.old.size.z }
-    requires j_small { AreSmall (2 ^ 90) (OnRow axis y z) j.now }
-    requires small { AreSmall (2 ^ 90) (OnRow axis y z) e.old }
+    requires j_small { AreSmall most_value (OnRow axis y z) j.now }
+    requires small { AreSmall most_value (OnRow axis y z) e.old }
     requires far_third { IsRow (2 ^ 121) e.old.size.x four.now.far_third.now }
     requires near_third { IsRow (2 ^ 121) e.old.size.x four.now.near_third.now }
     requires far_second { IsRow (2 ^ 121) e.old.size.x four.now.far_second.now }
