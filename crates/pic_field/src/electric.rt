@@ -17,7 +17,7 @@ ghost use Rattle.pic_field.specs.Planes.{IsScaledPlane, IsNextPlane, AreRowsDown
 use crate::faults::{safe_most, stop_in};
 use crate::plane::{Line, Plane, fill_next_plane, fill_plane, span_down, strip_end};
 use crate::rooms::{Rooms, full_row};
-use crate::row::{Four, shifted};
+use crate::row::{CurlRows, shifted};
 use crate::zone::{cell_in, is_empty, line_length};
 use pic_grid::{Block, Lattice, Phase, Stop};
 use pic_num::{Axis, Scales};
@@ -281,21 +281,21 @@ fn full_line(
     ensures calm { IsTrue result → AreSmall step.now.most (OnLine y z) e.new }
 {
     let count = line_length(step.b.cells(), e.zone());
-    let on_x = Four {
+    let on_x = CurlRows {
         far_third: shifted(&by_y.z[..], count),
         near_third: shifted(&own.z[..], count),
         far_second: shifted(&by_z.y[..], count),
         near_second: shifted(&own.y[..], count),
     };
     let calm_x = full_row(e, step.j, Axis::X, y, z, &on_x, step.most);
-    let on_y = Four {
+    let on_y = CurlRows {
         far_third: shifted(&by_z.x[..], count),
         near_third: shifted(&own.x[..], count),
         far_second: &own.z[..count],
         near_second: shifted(&own.z[..], count),
     };
     let calm_y = full_row(e, step.j, Axis::Y, y, z, &on_y, step.most);
-    let on_z = Four {
+    let on_z = CurlRows {
         far_third: &own.y[..count],
         near_third: shifted(&own.y[..], count),
         far_second: shifted(&by_y.x[..], count),

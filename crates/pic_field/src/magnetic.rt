@@ -16,7 +16,7 @@ ghost use Rattle.pic_field.specs.Planes.{IsScaledPlane, IsNextPlane, AreRowsUp, 
 use crate::faults::{safe_most, stop_in};
 use crate::plane::{Line, Plane, fill_plane, fill_plane_behind, span_up, strip_end};
 use crate::rooms::{Rooms, half_row};
-use crate::row::{Four, shifted};
+use crate::row::{CurlRows, shifted};
 use crate::zone::{cell_in, is_empty, line_length};
 use pic_grid::{Block, Lattice, Phase, Stop};
 use pic_num::{Axis, Scales};
@@ -240,21 +240,21 @@ fn half_line(
     ensures calm { IsTrue result → AreSmall step.now.most (OnLine y z) b.new }
 {
     let count = line_length(step.e.cells(), b.zone());
-    let on_x = Four {
+    let on_x = CurlRows {
         far_third: &by_y.z[..count],
         near_third: &own.z[..count],
         far_second: &by_z.y[..count],
         near_second: &own.y[..count],
     };
     let calm_x = half_row(b, Axis::X, y, z, &on_x, step.most);
-    let on_y = Four {
+    let on_y = CurlRows {
         far_third: &by_z.x[..count],
         near_third: &own.x[..count],
         far_second: shifted(&own.z[..], count),
         near_second: &own.z[..count],
     };
     let calm_y = half_row(b, Axis::Y, y, z, &on_y, step.most);
-    let on_z = Four {
+    let on_z = CurlRows {
         far_third: shifted(&own.y[..], count),
         near_third: &own.y[..count],
         far_second: &by_y.x[..count],

@@ -16,10 +16,10 @@ use pic_grid::{Lattice, Slot};
 use pic_num::{Axis, Mult, scale};
 
 /// How many lines a strip has at most.
-pub(crate) const LINES: u32 = 8;
+pub(crate) const LINES_OF_STRIP: u32 = 8;
 
 /// How many lines a plane has room for: those of a strip, and one beside it.
-pub(crate) const PLANE: usize = 9;
+pub(crate) const LINES_OF_PLANE: usize = 9;
 
 /// The scaled rows of a line of cells, one for each component.
 #[derive(Clone, Copy)]
@@ -30,7 +30,7 @@ pub(crate) struct Line {
 }
 
 /// A room for the scaled rows of a plane.
-pub(crate) type Plane = [Line; PLANE];
+pub(crate) type Plane = [Line; LINES_OF_PLANE];
 
 /// Where the values of a row stand in its room.
 #[derive(Clone, Copy)]
@@ -77,7 +77,7 @@ pub(crate) fn strip_end(from: u32, count: u32) -> u32
     ensures few { result ≤ from + 8 }
     ensures within { result ≤ count }
 {
-    from + LINES.min(count - from)
+    from + LINES_OF_STRIP.min(count - from)
 }
 
 /// Scales what a curl reads of the plane of a strip of `lines` lines in the strip's own layer and
