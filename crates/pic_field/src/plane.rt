@@ -70,6 +70,13 @@ pub(crate) fn span_down(cells: usize) -> Span
     }
 }
 
+/// The lines of a strip in a zone: from one on and below another.
+#[derive(Clone, Copy)]
+pub(crate) struct Strip {
+    pub(crate) from: u32,
+    pub(crate) to: u32,
+}
+
 /// The line behind a strip that begins at the line `from`, of a zone of `count` lines.
 pub(crate) fn strip_end(from: u32, count: u32) -> u32
     requires { from < count }

@@ -10,7 +10,7 @@ pub full_line-found-requires-clause-rows : goal.full_line-found-requires-clause-
 full_line-found-requires-clause-rows c =
     let b = c.args.step.now.b.now in
     let by = c.args.step.now.scales.now.b_to_e in
-    let from = c.args.from in
+    let from = c.args.strip.from in
     let y = c.loop-y.y in
     let z = c.args.z in
     let old = c.args.e.now in
@@ -23,14 +23,14 @@ full_line-found-requires-clause-rows c =
     (subst (λ (n : Triple). AreRowsDown b by (line_start old.low y z) n.x (line_at near (y - from + 1)) (line_at near (y - from))
     (line_at far (y - from + 1)))
     (sym shaped.size)
-    (rows_down b by old.low old.size old.size.x from c.args.to y z near far c.requires.among (omega arith) (omega arith) (omega arith) c.requires.near
-    c.requires.far))
+    (rows_down b by old.low old.size old.size.x from c.args.strip.to y z near far c.requires.among (omega arith) (omega arith) c.requires.strip.within
+    c.requires.near c.requires.far))
 
 pub loop-y-preserved : goal.loop-y-preserved
 loop-y-preserved c =
     let y = c.loop-y.y in
     let z = c.args.z in
-    let from = c.args.from in
+    let from = c.args.strip.from in
     let old = c.args.e.now in
     let mid = c.loop-y.e in
     let before = c.loop-y.invariant.changed in
@@ -51,6 +51,6 @@ loop-y-preserved c =
 
 pub returns-clause-changed : goal.returns-clause-changed
 returns-clause-changed c =
-    let end : c.loop-y.y ≡ c.args.to = omega arith in
+    let end : c.loop-y.y ≡ c.args.strip.to = omega (arith, c.requires.strip.some) in
     subst (λ (y : ℕ). Changed (full_made c.args.step.now.scales.now c.args.step.now.b.now c.args.step.now.j.now c.args.e.now.low)
-    (OnLines c.args.from y c.args.z) c.args.e.now c.loop-y.e) end c.loop-y.invariant.changed
+    (OnLines c.args.strip.from y c.args.z) c.args.e.now c.loop-y.e) end c.loop-y.invariant.changed

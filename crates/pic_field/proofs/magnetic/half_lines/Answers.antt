@@ -10,7 +10,7 @@ pub half_line-found-requires-clause-rows : goal.half_line-found-requires-clause-
 half_line-found-requires-clause-rows c =
     let e = c.args.step.now.e.now in
     let by = c.args.step.now.scales.now.e_to_b in
-    let from = c.args.from in
+    let from = c.args.strip.from in
     let y = c.loop-y.y in
     let z = c.args.z in
     let old = c.args.b.now in
@@ -21,14 +21,14 @@ half_line-found-requires-clause-rows c =
     (sym shaped.low)
     (subst (λ (n : Triple). AreRowsUp e by (line_start old.low y z) n.x (line_at near (y - from)) (line_at near (y - from + 1)) (line_at far (y - from)))
     (sym shaped.size)
-    (rows_up e by old.low old.size old.size.x from c.args.to y z near far c.requires.among (omega arith) (omega arith) (omega arith) c.requires.near
-    c.requires.far))
+    (rows_up e by old.low old.size old.size.x from c.args.strip.to y z near far c.requires.among (omega arith) (omega arith) c.requires.strip.within
+    c.requires.near c.requires.far))
 
 pub loop-y-preserved : goal.loop-y-preserved
 loop-y-preserved c =
     let y = c.loop-y.y in
     let z = c.args.z in
-    let from = c.args.from in
+    let from = c.args.strip.from in
     let old = c.args.b.now in
     let mid = c.loop-y.b in
     let before = c.loop-y.invariant.changed in
@@ -47,7 +47,7 @@ loop-y-preserved c =
 
 pub returns-clause-changed : goal.returns-clause-changed
 returns-clause-changed c =
-    let end : c.loop-y.y ≡ c.args.to = omega arith in
-    subst (λ (y : ℕ). Changed (half_made c.args.step.now.scales.now c.args.step.now.e.now c.args.b.now.low) (OnLines c.args.from y c.args.z)
+    let end : c.loop-y.y ≡ c.args.strip.to = omega (arith, c.requires.strip.some) in
+    subst (λ (y : ℕ). Changed (half_made c.args.step.now.scales.now c.args.step.now.e.now c.args.b.now.low) (OnLines c.args.strip.from y c.args.z)
     c.args.b.now c.loop-y.b) end
     c.loop-y.invariant.changed

@@ -9,8 +9,8 @@ pub loop-z-preserved : goal.loop-z-preserved
 loop-z-preserved c =
     let e = c.args.step.now.e.now in
     let by = c.args.step.now.scales.now.e_to_b in
-    let from = c.args.from in
-    let to = c.args.to in
+    let from = c.args.strip.from in
+    let to = c.args.strip.to in
     let z = c.loop-z.z in
     let old = c.args.b.now in
     let mid = c.loop-z.b in
