@@ -18,7 +18,7 @@ use crate::faults::{safe_most, stop_in};
 use crate::plane::{Line, Plane, Strip, fill_next_plane, fill_plane, span_down, strip_end};
 use crate::rooms::{Rooms, full_row};
 use crate::row::{CurlRows, shifted};
-use crate::zone::{cell_in, is_empty, line_length};
+use crate::zone::{corner_in, is_empty, line_length};
 use pic_grid::{Block, Lattice, Phase, Stop};
 use pic_num::{Axis, Scales};
 
@@ -135,11 +135,7 @@ fn full_strip(step: &FullStep, e: &mut Block, strip: Strip, rooms: &mut Rooms) -
 {
     let zone = e.zone();
     let span = span_down(line_length(step.b.cells(), zone));
-    let here = cell_in(step.b.cells(), zone, [0, strip.from, 0]);
-    let corner = step
-        .b
-        .cells()
-        .down(Axis::X, step.b.cells().down(Axis::Y, here));
+    let corner = corner_in(step.b.cells(), zone, strip.from, 0);
     let below = step.b.cells().down(Axis::Z, corner);
     let lines = (strip.to - strip.from) as usize;
     fill_next_plane(
@@ -194,11 +190,7 @@ fn full_layer(
 {
     let zone = e.zone();
     let span = span_down(line_length(step.b.cells(), zone));
-    let here = cell_in(step.b.cells(), zone, [0, strip.from, z]);
-    let corner = step
-        .b
-        .cells()
-        .down(Axis::X, step.b.cells().down(Axis::Y, here));
+    let corner = corner_in(step.b.cells(), zone, strip.from, z);
     let lines = (strip.to - strip.from) as usize;
     let near = 1 - far;
     fill_plane(
