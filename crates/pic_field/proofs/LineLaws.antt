@@ -53,6 +53,11 @@ module _ (g : Axis → Triple → ℤ → ℤ) (P Q R : Axis → Triple → Type
           ];
     }
 
+    -- so it does where two answers that are both yes say so,
+    pub calm_next : (most : ℕ) (s t : Bool) → Changed g Q mid new → (s ≡ true → AreSmall most P mid) → (t ≡ true → AreSmall most Q new)
+        → IsJoined mid.size P Q R → (s && t) ≡ true → AreSmall most R new
+    calm_next most s t then first now join both = let each = both_true s t both in small_next most then (first each.0) (now each.1) join
+
     -- and keeps those of places that it leaves alone
     pub small_kept : (most : ℕ) → Changed g Q old mid → AreSmall most P old → ((a : Axis) (p : Triple) → R a p → P a p)
         → ((a : Axis) (p : Triple) → R a p → Q a p → ⊥)
@@ -143,6 +148,15 @@ pub line_small : (most : ℕ) (g h : Axis → Triple → ℤ → ℤ) (y z : ℕ
 line_small most g h y z one two three second third small_x small_y small_z =
     let both = small_next g (OnRow X y z) (OnRow Y y z) (OnTwo y z) one one two most second small_x small_y (two_rows one.size y z) in
     small_next h (OnTwo y z) (OnRow Z y z) (OnLine y z) one two three most third both small_z (three_rows two.size y z)
+
+-- so it is small where three answers that are all yes say so
+pub line_calm : (most : ℕ) (g h : Axis → Triple → ℤ → ℤ) (y z : ℕ) (one two three : BlockValues) (s t u : Bool) → Changed g (OnRow Y y z) one two
+    → Changed h (OnRow Z y z) two three → (s ≡ true → AreSmall most (OnRow X y z) one) → (t ≡ true → AreSmall most (OnRow Y y z) two)
+    → (u ≡ true → AreSmall most (OnRow Z y z) three) → ((s && t) && u) ≡ true → AreSmall most (OnLine y z) three
+line_calm most g h y z one two three s t u second third small_x small_y small_z all =
+    let last = both_true (s && t) u all in
+    let first = both_true s t last.0 in
+    line_small most g h y z one two three second third (small_x first.0) (small_y first.1) (small_z last.1)
 
 -- a place is one of the lines of a layer below one
 pub record BelowLine (y z : ℕ) (a : Axis) (p : Triple) : Type 0 where

@@ -2,7 +2,7 @@ use Rattle.std.proofs.Common.{◌≡◌, ◌+◌, ◌-◌, ℕ, sym, subst, arit
 use Rattle.pic_num.specs.Space.{Triple, Spot}
 use Rattle.pic_field.specs.Lines.{OnLine, OnLines, Changed, full_made, line_start}
 use Rattle.pic_field.specs.Planes.{line_at, AreRowsDown}
-use Rattle.pic_field.proofs.LineLaws.{both_true, changed_next, small_next, strip_more}
+use Rattle.pic_field.proofs.LineLaws.{changed_next, calm_next, strip_more}
 use Rattle.pic_field.proofs.PlaneLaws.{rows_down}
 use Rattle.pic_field.proofs.electric.full_lines.Goals as goal
 
@@ -41,12 +41,9 @@ loop-y-preserved c =
     record {
       changed = changed_next _ (OnLines from y z) (OnLine y z) (OnLines from (y + 1) z) old mid c.full_line-found.new.e before then
           (strip_more old.size from y z (omega arith));
-      calm = λ both.
-          let each = both_true c.loop-y.calm c.full_line-found.result both in
-          small_next (full_made c.args.step.now.scales.now c.args.step.now.b.now c.args.step.now.j.now old.low) (OnLines from y z) (OnLine y z)
-          (OnLines from (y + 1) z) mid mid
-          c.full_line-found.new.e c.args.step.now.most then (c.loop-y.invariant.calm each.0) (c.full_line-found.ensures.calm each.1)
-          (strip_more mid.size from y z (omega arith));
+      calm = calm_next (full_made c.args.step.now.scales.now c.args.step.now.b.now c.args.step.now.j.now old.low) (OnLines from y z) (OnLine y z)
+          (OnLines from (y + 1) z) mid mid c.full_line-found.new.e c.args.step.now.most c.loop-y.calm c.full_line-found.result then
+          c.loop-y.invariant.calm c.full_line-found.ensures.calm (strip_more mid.size from y z (omega arith));
     }
 
 pub returns-clause-changed : goal.returns-clause-changed

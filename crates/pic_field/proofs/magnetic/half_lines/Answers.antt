@@ -2,7 +2,7 @@ use Rattle.std.proofs.Common.{◌≡◌, ◌+◌, ◌-◌, ℕ, sym, subst, arit
 use Rattle.pic_num.specs.Space.{Triple, Spot}
 use Rattle.pic_field.specs.Lines.{OnLine, OnLines, Changed, half_made, line_start}
 use Rattle.pic_field.specs.Planes.{line_at, AreRowsUp}
-use Rattle.pic_field.proofs.LineLaws.{both_true, changed_next, small_next, strip_more}
+use Rattle.pic_field.proofs.LineLaws.{changed_next, calm_next, strip_more}
 use Rattle.pic_field.proofs.PlaneLaws.{rows_up}
 use Rattle.pic_field.proofs.magnetic.half_lines.Goals as goal
 
@@ -38,11 +38,9 @@ loop-y-preserved c =
     record {
       changed = changed_next _ (OnLines from y z) (OnLine y z) (OnLines from (y + 1) z) old mid c.half_line-found.new.b before then
           (strip_more old.size from y z (omega arith));
-      calm = λ both.
-          let each = both_true c.loop-y.calm c.half_line-found.result both in
-          small_next (half_made c.args.step.now.scales.now c.args.step.now.e.now old.low) (OnLines from y z) (OnLine y z) (OnLines from (y + 1) z) mid mid
-          c.half_line-found.new.b c.args.step.now.most then (c.loop-y.invariant.calm each.0) (c.half_line-found.ensures.calm each.1)
-          (strip_more mid.size from y z (omega arith));
+      calm = calm_next (half_made c.args.step.now.scales.now c.args.step.now.e.now old.low) (OnLines from y z) (OnLine y z)
+          (OnLines from (y + 1) z) mid mid c.half_line-found.new.b c.args.step.now.most c.loop-y.calm c.half_line-found.result then
+          c.loop-y.invariant.calm c.half_line-found.ensures.calm (strip_more mid.size from y z (omega arith));
     }
 
 pub returns-clause-changed : goal.returns-clause-changed
