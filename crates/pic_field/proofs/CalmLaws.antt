@@ -1,18 +1,31 @@
 -- Where every new value is small there is no stop, and else the stop is that of the new values.
-use Rattle.std.proofs.Common.{◌≡◌, ℕ, ℤ, None, sym, ◌∙◌, subst}
+use Rattle.std.proofs.Common.{◌≡◌, ℕ, ℤ, ◌*◌, ◌/◌, ◌%◌, ◌<◌, None, sym, ◌∙◌, ap, subst, arith}
 use Rattle.pic_num.specs.declared.axis.Axis.{Axis}
 use Rattle.pic_num.specs.Multiplier.{Multiplier}
 use Rattle.pic_num.specs.Sizes.{IsAtMost}
 use Rattle.pic_num.specs.Space.{Triple, unwrapped}
+use Rattle.pic_num.proofs.FirstLaws.{first_of_same}
 use Rattle.pic_grid.specs.declared.stop.Phase.{Phase}
-use Rattle.pic_grid.specs.Cells.{IsWithin}
+use Rattle.pic_grid.specs.Cells.{IsWithin, count_of, cell_of, axis_of}
 use Rattle.pic_grid.specs.Block.{BlockValues, IsAmongCells, IsShaped, AllAtMost, inner_at, edge_at, outer_of}
-use Rattle.pic_field.specs.FieldPhases.{lowest, least_fault, IsBounded}
+use Rattle.pic_grid.proofs.CellLaws.{place_within}
+use Rattle.pic_field.specs.FieldPhases.{lowest, cell_above, fault_of, fault_at, least_fault, IsBounded}
 use Rattle.pic_field.specs.LeastStop.{EachBounded}
 use Rattle.pic_field.specs.Lines.{BelowLayer, AreSmall}
 use Rattle.pic_field.proofs.LeastStopLaws.{least_stop}
-use Rattle.pic_field.proofs.WholeLaws.{least_fault-same}
 use Rattle.pic_field.proofs.ZoneLaws.{edge_at-outer, outer_inside}
+
+-- equal values have one stop
+pub least_fault-same : (phase : Phase) (by : Multiplier) (low size : Triple) (f g : Axis → Triple → ℤ)
+    → ((a : Axis) (p : Triple) → IsWithin p size → f a (cell_above low p) ≡ g a (cell_above low p))
+    → least_fault phase by low size f ≡ least_fault phase by low size g
+unfolding least_fault
+least_fault-same phase by low size f g same =
+    first_of_same (fault_at phase by low size f) (fault_at phase by low size g) 0 (3 * count_of size) (λ i least below.
+    let a = axis_of (i / count_of size) in
+    let p = cell_of size (i % count_of size) in
+    let inside : i < 3 * count_of size = omega (arith, below) in
+    ap (fault_of phase by a (cell_above low p)) (same a p (place_within size i inside)))
 
 -- values of a block that are all small are small at some places
 pub all_small : (most : ℕ) (P : Axis → Triple → Type 0) (b : BlockValues) (n : Triple) → IsAmongCells b.low b.size n → AllAtMost most b → AreSmall most P b

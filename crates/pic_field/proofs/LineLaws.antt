@@ -9,12 +9,8 @@ use Rattle.pic_grid.specs.Cells.{IsWithin, count_of}
 use Rattle.pic_grid.specs.Block.{BlockValues, inner_at}
 use Rattle.pic_grid.specs.Rows.{with_row}
 use Rattle.pic_grid.proofs.RowLaws.{IsOff, row_here, row_others, row_shape, row_size}
-use Rattle.pic_field.specs.Lines.{HasCells, OnRow, OnLine, BelowLine, OnLines, OnStrip, Changed, AreSmall}
+use Rattle.pic_field.specs.Lines.{OnRow, OnLine, OnLines, OnStrip, Changed, AreSmall}
 use Rattle.pic_field.specs.Rows.{row_at, IsSmallRow}
-
--- a zone that a place lies in has a cell
-pub has_cells : (size p : Triple) → IsWithin p size → HasCells size
-has_cells size p w = record { x = omega (arith, w.x); y = omega (arith, w.y); z = omega (arith, w.z) }
 
 -- two answers that are both yes
 pub both_true : (s t : Bool) → (s && t) ≡ true → (s ≡ true) × (t ≡ true)
@@ -57,6 +53,11 @@ module _ (g : Axis → Triple → ℤ → ℤ) (P Q R : Axis → Triple → Type
           ];
     }
 
+    -- so it does where two answers that are both yes say so,
+    pub calm_next : (most : ℕ) (s t : Bool) → Changed g Q mid new → (s ≡ true → AreSmall most P mid) → (t ≡ true → AreSmall most Q new)
+        → IsJoined mid.size P Q R → (s && t) ≡ true → AreSmall most R new
+    calm_next most s t then first now join both = let each = both_true s t both in small_next most then (first each.0) (now each.1) join
+
     -- and keeps those of places that it leaves alone
     pub small_kept : (most : ℕ) → Changed g Q old mid → AreSmall most P old → ((a : Axis) (p : Triple) → R a p → P a p)
         → ((a : Axis) (p : Triple) → R a p → Q a p → ⊥)
@@ -75,17 +76,6 @@ changed_as g h P old new change same = record {
   done = λ a p w here. change.done a p w here ∙ same a p w here;
   rest = change.rest;
 }
-
--- of a zone without cells nothing is changed, and all of it is small
-pub changed_none : (g : Axis → Triple → ℤ → ℤ) (P : Axis → Triple → Type 0) (b : BlockValues) → (HasCells b.size → ⊥) → Changed g P b b
-changed_none g P b none = record {
-  shaped = record { low = refl; size = refl };
-  done = λ a p w here. absurd (none (has_cells b.size p w));
-  rest = λ a p w here. refl;
-}
-
-pub small_none : (most : ℕ) (P : Axis → Triple → Type 0) (b : BlockValues) → (HasCells b.size → ⊥) → AreSmall most P b
-small_none most P b none = record { at_most = λ a p w here. absurd (none (has_cells b.size p w)) }
 
 -- a row that is written is a change of its places
 pub row_changed : (g : Axis → Triple → ℤ → ℤ) (b new : BlockValues) (axis : Axis) (y z : ℕ) (row : List ℤ) → new ≡ with_row b axis y z row
@@ -158,6 +148,20 @@ pub line_small : (most : ℕ) (g h : Axis → Triple → ℤ → ℤ) (y z : ℕ
 line_small most g h y z one two three second third small_x small_y small_z =
     let both = small_next g (OnRow X y z) (OnRow Y y z) (OnTwo y z) one one two most second small_x small_y (two_rows one.size y z) in
     small_next h (OnTwo y z) (OnRow Z y z) (OnLine y z) one two three most third both small_z (three_rows two.size y z)
+
+-- so it is small where three answers that are all yes say so
+pub line_calm : (most : ℕ) (g h : Axis → Triple → ℤ → ℤ) (y z : ℕ) (one two three : BlockValues) (s t u : Bool) → Changed g (OnRow Y y z) one two
+    → Changed h (OnRow Z y z) two three → (s ≡ true → AreSmall most (OnRow X y z) one) → (t ≡ true → AreSmall most (OnRow Y y z) two)
+    → (u ≡ true → AreSmall most (OnRow Z y z) three) → ((s && t) && u) ≡ true → AreSmall most (OnLine y z) three
+line_calm most g h y z one two three s t u second third small_x small_y small_z all =
+    let last = both_true (s && t) u all in
+    let first = both_true s t last.0 in
+    line_small most g h y z one two three second third (small_x first.0) (small_y first.1) (small_z last.1)
+
+-- a place is one of the lines of a layer below one
+pub record BelowLine (y z : ℕ) (a : Axis) (p : Triple) : Type 0 where
+  pub y_below : p.y < y
+  pub z_is : p.z ≡ z
 
 -- the lines of a layer
 pub lines_more : (n : Triple) (y z : ℕ) → IsJoined n (BelowLine y z) (OnLine y z) (BelowLine (y + 1) z)

@@ -53,11 +53,7 @@ line_more P plane j line inside below here =
     (λ k h. let other : k ≢ j = omega arith in subst (P k) (sym (get_or-set_other plane j k line no_line other)) (below k h))
     (subst (P j) (sym (get_or-set_same plane j line no_line inside)) here)
 
--- what is read along a line has what is read of it beside another in y,
-pub own_side : (f : Field) (by : Multiplier) (p : Triple) (s : Span) (line : Line) → s.first ≤ 1 → IsOwnLine f by p s line → IsSideLine f by p s line
-own_side f by p s line first own = record { x = own.x; z = row_part f by Z p s.cells s.first (s.first + s.cells) line.z (omega (arith, first)) own.z }
-
--- and in z
+-- what is read along a line has what is read of it beside another in z
 own_next : (f : Field) (by : Multiplier) (p : Triple) (s : Span) (line : Line) → s.first ≤ 1 → IsOwnLine f by p s line → IsNextLine f by p s line
 own_next f by p s line first own = record { x = own.x; y = row_part f by Y p s.cells s.first (s.first + s.cells) line.y (omega (arith, first)) own.y }
 

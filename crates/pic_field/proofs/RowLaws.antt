@@ -1,7 +1,7 @@
 -- Rows filled value by value, and run by run round the grid.
-use Rattle.std.proofs.Common.{◌≡◌, ◌≢◌, ℕ, ℤ, pos, ◌+◌, ◌-◌, ◌*◌, ◌/◌, ◌%◌, ◌^◌, ◌<◌, ◌≤◌, ◌⊎◌, List, ◌++◌, length, take, drop, slice_set, inl, inr, sym, ◌∙◌, ap, subst, arith}
+use Rattle.std.proofs.Common.{◌≡◌, ◌≢◌, ℕ, ℤ, pos, ◌+◌, ◌-◌, ◌*◌, ◌/◌, ◌%◌, ◌^◌, ◌<◌, ◌≤◌, ◌⊎◌, List, ◌++◌, length, take, slice_set, inl, inr, sym, ◌∙◌, ap, subst, arith}
 use Rattle.std.proofs.lemmas.Bool.{cases_lt}
-use Rattle.std.proofs.lemmas.List.{get_or-set_same, get_or-set_other, get_or-take, get_or_append_left, get_or-append_right, length-append, length-drop, length-take-le, take_at}
+use Rattle.std.proofs.lemmas.List.{get_or-set_same, get_or-set_other, get_or-take, get_or_append_left, get_or-append_right, length-take-le}
 use Rattle.std.proofs.lemmas.Nat.{div-add-mod', mod-mul-add}
 use Rattle.std.proofs.Math.Nat.{mul-add-mod_self_right}
 use borrow.Author.Count.{below_more}
@@ -41,16 +41,6 @@ pub row_rest : (first row : List ℤ) (i : ℕ) (v : ℤ) → ((k : ℕ) → i �
 row_rest first row i v rest k above =
     let other : k ≢ i = omega arith in
     get_or-set_other row i k v (pos 0) other ∙ rest k (omega arith)
-
--- a row with a part filled
-pub filled_long : (row part : List ℤ) (done more : ℕ) → done + more ≤ length row → length part ≡ more
-    → length (take done row ++ (part ++ drop (done + more - done) (drop done row))) ≡ length row
-filled_long row part done more fits long =
-    let front = length-take-le done row (omega arith) in
-    let rest = length-drop (done + more - done) (drop done row) in
-    let behind = length-drop done row in
-    let all = length-append (take done row) (part ++ drop (done + more - done) (drop done row)) in
-    omega (arith, front, rest, behind, all, length-append part (drop (done + more - done) (drop done row)))
 
 -- the layer j further than one that lies d round from s, where it doesn't pass the last
 pub round_next : (n s d x j : ℕ) → x ≡ (s + d) % n → x + j < n → (s + (d + j)) % n ≡ x + j
@@ -156,15 +146,3 @@ with_edge f by a p s row v span inside is at small = record {
         subst (λ (z : ℤ). IsAtMost z (2 ^ 121)) (sym (get_or-set_other row s.edge i v (pos 0) other)) (is.small i among.0 among.1))
   ];
 }
-
--- what a part of a room holds that was filled from its first value on
-pub taken_at : (part rest : List ℤ) (n x : ℕ) → length part ≡ n → row_at (take n (part ++ rest)) x ≡ row_at part x
-taken_at part rest n x long = ap (λ (row : List ℤ). row_at row x) (take_at part rest n long)
-
-pub taken_below : (part rest : List ℤ) (n x : ℕ) → length part ≡ n → x < n → x < length (take n (part ++ rest))
-taken_below part rest n x long below = subst (λ (m : ℕ). x < m) (sym (ap length (take_at part rest n long) ∙ long)) below
-
-pub taken_small : (part rest : List ℤ) (n size most : ℕ) (row : List ℤ) → length part ≡ n → n ≡ size → IsSmallRow most (length (take n (part ++ rest))) row
-    → IsSmallRow most size row
-taken_small part rest n size most row long same small =
-    subst (λ (m : ℕ). IsSmallRow most m row) (ap length (take_at part rest n long) ∙ long ∙ same) small

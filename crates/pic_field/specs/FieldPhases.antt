@@ -2,11 +2,12 @@
 -- 1966, 302): B and E advance in turn, each by the curl of the other. A value is scaled and rounded
 -- once and only then differenced. The roundings, the two bounds of a new value and the order of
 -- stops are this project's profile.
-use Rattle.std.specs.Prelude.{ℤ, ℕ, ◌+◌, ◌*◌, ◌/◌, ◌%◌, ◌^◌, ◌+ℤ◌, ◌-ℤ◌, unsigned_abs, nat_lt, if◌then◌else◌, [], ◌∷◌, Option, Some, None}
+use Rattle.std.specs.Prelude.{ℤ, ℕ, ◌+◌, ◌*◌, ◌/◌, ◌%◌, ◌+ℤ◌, ◌-ℤ◌, unsigned_abs, nat_lt, if◌then◌else◌, [], ◌∷◌, Option, Some, None}
 use Rattle.std.specs.List.{range_with_len}
 use Rattle.pic_num.specs.declared.mult.Scales.{Scales}
 use Rattle.pic_num.specs.declared.axis.Axis.{Axis}
 use Rattle.pic_num.specs.First.{first_of}
+use Rattle.pic_num.specs.Limits.{most_value, most_force}
 use Rattle.pic_num.specs.Multiplier.{Multiplier}
 use Rattle.pic_num.specs.Rounding.{scaled}
 use Rattle.pic_num.specs.Sizes.{IsAtMost}
@@ -45,8 +46,8 @@ unfoldable pub fault_of : Phase → Multiplier → Axis → Triple → ℤ → O
 fault_of phase by a p v =
     let cell = p.x ∷ p.y ∷ p.z ∷ [] in
     let force = scaled v by in
-    if nat_lt (2 ^ 90) (unsigned_abs v) then Some (field_stop phase Value a cell v)
-    else (if nat_lt (2 ^ 44) (unsigned_abs force) then Some (field_stop phase Force a cell force)
+    if nat_lt most_value (unsigned_abs v) then Some (field_stop phase Value a cell v)
+    else (if nat_lt most_force (unsigned_abs force) then Some (field_stop phase Force a cell force)
     else None)
 
 -- the cell of the grid that lies p above low
@@ -73,8 +74,8 @@ least_fault phase by low size f =
 
 -- a value passes neither bound: it is at most 2^90 in size, and its force value at most 2^44
 pub record IsBounded (by : Multiplier) (v : ℤ) : Type 0 where
-  pub value : IsAtMost v (2 ^ 90)
-  pub force : IsAtMost (scaled v by) (2 ^ 44)
+  pub value : IsAtMost v most_value
+  pub force : IsAtMost (scaled v by) most_force
 
 -- no value of a block passes a bound
 pub record AllBounded (by : Multiplier) (b : BlockValues) : Type 0 where

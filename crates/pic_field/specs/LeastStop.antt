@@ -1,8 +1,9 @@
 -- What the stop of a box says of its values, with no walk along its places: there is none exactly
 -- where no value passes a bound, and else it names the least place where one does. The order of
 -- places is this project's profile: the axis first, then z, then y, then x.
-use Rattle.std.specs.Prelude.{◌≡◌, ◌↔◌, ℤ, ◌^◌, ◌<◌, unsigned_abs, Some, None}
+use Rattle.std.specs.Prelude.{◌≡◌, ◌↔◌, ℤ, ◌<◌, unsigned_abs, Some, None}
 use Rattle.pic_num.specs.declared.axis.Axis.{Axis}
+use Rattle.pic_num.specs.Limits.{most_value, most_force}
 use Rattle.pic_num.specs.Multiplier.{Multiplier}
 use Rattle.pic_num.specs.Rounding.{scaled}
 use Rattle.pic_num.specs.Sizes.{IsAtMost}
@@ -23,8 +24,8 @@ pub record EachBounded (by : Multiplier) (low size : Triple) (f : Axis → Tripl
 -- the bound that a value v passes, and the number that is too large: v itself where it is above
 -- 2^90 in size, else its force value where that is above 2^44
 pub data Passes (by : Multiplier) (v : ℤ) : Bound → ℤ → Type 0 where
-  value_passes : 2 ^ 90 < unsigned_abs v → Passes by v Value v
-  force_passes : IsAtMost v (2 ^ 90) → 2 ^ 44 < unsigned_abs (scaled v by)
+  value_passes : most_value < unsigned_abs v → Passes by v Value v
+  force_passes : IsAtMost v most_value → most_force < unsigned_abs (scaled v by)
       → Passes by v Force (scaled v by)
 
 -- the component on b at the cell q comes before that on a at p: its axis is less, or else its z, or

@@ -29,11 +29,6 @@ pub record OnLine (y z : ℕ) (a : Axis) (p : Triple) : Type 0 where
   pub y_is : p.y ≡ y
   pub z_is : p.z ≡ z
 
--- of the lines below it in its layer,
-pub record BelowLine (y z : ℕ) (a : Axis) (p : Triple) : Type 0 where
-  pub y_below : p.y < y
-  pub z_is : p.z ≡ z
-
 -- of a layer,
 pub record OnLayer (z : ℕ) (a : Axis) (p : Triple) : Type 0 where
   pub z_is : p.z ≡ z

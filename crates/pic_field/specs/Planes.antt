@@ -10,6 +10,7 @@ use Rattle.pic_grid.specs.Lattice.{Field}
 use Rattle.pic_field.specs.Rows.{IsScaledRow}
 use Rattle.pic_field.specs.declared.plane.Line.{Line}
 use Rattle.pic_field.specs.declared.plane.Span.{Span}
+use Rattle.pic_field.specs.declared.plane.Strip.{Strip}
 
 -- no line
 abbrev pub no_line : Line
@@ -34,6 +35,12 @@ pub record IsSpan (s : Span) : Type 0 where
   pub edge : s.edge ≤ s.cells
   pub covers : (i : ℕ) → i < s.cells + 1 → (i ≡ s.edge → ⊥)
       → (s.first ≤ i) × (i < s.first + s.cells)
+
+-- a strip has at least one line, and few of the lines of a zone
+pub record IsStrip (s : Strip) (lines : ℕ) : Type 0 where
+  pub some : s.from < s.to
+  pub few : s.to ≤ s.from + 8
+  pub within : s.to ≤ lines
 
 -- the span of rows of so many cells that end with the next cell in x,
 abbrev pub up_span : ℕ → Span
@@ -80,8 +87,8 @@ pub record IsNextPlane (f : Field) (by : Multiplier) (p : Triple) (s : Span) (li
 
 -- all the scaled rows that a curl has along a line: of the line itself, whose rooms begin with the
 -- cell p, of that beside it in y, whose rooms begin with q, and of that beside it in z, with r
-pub record AreRows (f : Field) (by : Multiplier) (s : Span) (p q r : Triple) (own by_y by_z : Line)
-    : Type 0 where
+pub record AreCurlRows (f : Field) (by : Multiplier) (s : Span) (p q r : Triple)
+    (own by_y by_z : Line) : Type 0 where
   pub here : IsOwnLine f by p s own
   pub in_y : IsSideLine f by q s by_y
   pub in_z : IsNextLine f by r s by_z
@@ -90,12 +97,12 @@ pub record AreRows (f : Field) (by : Multiplier) (s : Span) (p q r : Triple) (ow
 -- the next cell in x,
 abbrev pub AreRowsUp : Field → Multiplier → Triple → ℕ → Line → Line → Line → Type 0
 AreRowsUp f by p count own by_y by_z =
-    AreRows f by (up_span count) p (up f.cells Y p) (up f.cells Z p) own by_y by_z
+    AreCurlRows f by (up_span count) p (up f.cells Y p) (up f.cells Z p) own by_y by_z
 
 -- and of the curl of B: of the last lines, with the last cell in x
 abbrev pub AreRowsDown : Field → Multiplier → Triple → ℕ → Line → Line → Line → Type 0
 AreRowsDown f by p count own by_y by_z =
-    AreRows f by (down_span count) (down f.cells X p) (down f.cells X (down f.cells Y p))
+    AreCurlRows f by (down_span count) (down f.cells X p) (down f.cells X (down f.cells Y p))
     (down f.cells X (down f.cells Z p)) own by_y by_z
 
 -- where the planes for the curl of B begin: a cell before in x and a line before in y

@@ -18,7 +18,7 @@ pub record IsSmallRow (most count : ℕ) (row : List ℤ) : Type 0 where
   pub at_most : (i : ℕ) → i < count → IsAtMost (row_at row i) most
 
 -- a row of count values that are at most most in size
-pub record IsRow (most count : ℕ) (row : List ℤ) : Type 0 where
+pub record IsValueRow (most count : ℕ) (row : List ℤ) : Type 0 where
   pub length_is : length row ≡ count
   pub small : IsSmallRow most count row
 

@@ -1,7 +1,8 @@
 //! A step of E in one block, strip by strip of lines.
 
-ghost use Rattle.std.specs.Prelude.{◌≡◌, ◌+◌, ◌-◌, ◌^◌, ◌<◌, ◌≤◌, true, false, OnOk, IsTrue};
+ghost use Rattle.std.specs.Prelude.{◌≡◌, ◌+◌, ◌-◌, ◌<◌, ◌≤◌, true, false, OnOk, IsTrue};
 ghost use Rattle.pic_num.specs.declared.axis.Axis.{Axis as AxisName};
+ghost use Rattle.pic_num.specs.Limits.{most_value};
 ghost use Rattle.pic_num.specs.Push.{unless};
 ghost use Rattle.pic_num.specs.Space.{Triple};
 ghost use Rattle.pic_grid.specs.declared.stop.Phase.TheVariants.{Electric};
@@ -11,13 +12,13 @@ ghost use Rattle.pic_grid.specs.Lattice.{EachAtMost};
 ghost use Rattle.pic_grid.specs.Block.{IsAmongCells, IsShaped, AllAtMost, inner_at, outer_of};
 ghost use Rattle.pic_field.specs.FieldPhases.{full_of, full_in, lowest, least_fault, AllBounded};
 ghost use Rattle.pic_field.specs.Lines.{HasCells, OnLine, OnLines, OnStrip, BelowLayer, Changed, AreSmall, full_made, line_start};
-ghost use Rattle.pic_field.specs.Planes.{IsScaledPlane, IsNextPlane, AreRowsDown, corner_before, down_span, plane_at};
+ghost use Rattle.pic_field.specs.Planes.{IsStrip, IsScaledPlane, IsNextPlane, AreRowsDown, corner_before, down_span, plane_at};
 
 use crate::faults::{safe_most, stop_in};
-use crate::plane::{Line, Plane, fill_next_plane, fill_plane, span_down, strip_end};
+use crate::plane::{Line, Plane, Strip, fill_next_plane, fill_plane, span_down, strip_end};
 use crate::rooms::{Rooms, full_row};
-use crate::row::{Four, shifted};
-use crate::zone::{cell_in, is_empty, line_length};
+use crate::row::{CurlRows, shifted};
+use crate::zone::{corner_in, is_empty, line_length};
 use pic_grid::{Block, Lattice, Phase, Stop};
 use pic_num::{Axis, Scales};
 
@@ -42,9 +43,9 @@ struct FullStep<'a> {
 pub fn full_e(scales: &Scales, b: &Lattice, j: &Block, e: &mut Block) -> Result<(), Stop>
     requires among { IsAmongCells e.old.low e.old.size b.now.cells }
     requires j_shape { IsShaped j.now e.old }
-    requires b_small { EachAtMost (2 ^ 90) b.now }
-    requires j_small { AllAtMost (2 ^ 90) j.now }
-    requires e_small { AllAtMost (2 ^ 90) e.old }
+    requires b_small { EachAtMost most_value b.now }
+    requires j_small { AllAtMost most_value j.now }
+    requires e_small { AllAtMost most_value e.old }
     ensures shape { IsShaped e.new e.old }
     ensures values { (a : AxisName) → (p : Triple) → IsWithin p e.old.size
         → inner_at e.new a p
@@ -67,9 +68,9 @@ pub fn full_e_in(
 ) -> Result<(), Stop>
     requires among { IsAmongCells e.old.low e.old.size b.now.cells }
     requires j_shape { IsShaped j.now e.old }
-    requires b_small { EachAtMost (2 ^ 90) b.now }
-    requires j_small { AllAtMost (2 ^ 90) j.now }
-    requires e_small { AllAtMost (2 ^ 90) e.old }
+    requires b_small { EachAtMost most_value b.now }
+    requires j_small { AllAtMost most_value j.now }
+    requires e_small { AllAtMost most_value e.old }
     ensures shape { IsShaped e.new e.old }
     ensures values { (a : AxisName) → (p : Triple) → IsWithin p e.old.size
         → inner_at e.new a p
@@ -92,9 +93,9 @@ pub fn full_e_in(
 fn full_strips(step: &FullStep, e: &mut Block, rooms: &mut Rooms) -> bool
     requires among { IsAmongCells e.old.low e.old.size step.now.b.now.cells }
     requires j_shape { IsShaped step.now.j.now e.old }
-    requires b_small { EachAtMost (2 ^ 90) step.now.b.now }
-    requires j_small { AreSmall (2 ^ 90) (BelowLayer e.old.size.z) step.now.j.now }
-    requires e_small { AreSmall (2 ^ 90) (BelowLayer e.old.size.z) e.old }
+    requires b_small { EachAtMost most_value step.now.b.now }
+    requires j_small { AreSmall most_value (BelowLayer e.old.size.z) step.now.j.now }
+    requires e_small { AreSmall most_value (BelowLayer e.old.size.z) e.old }
     ensures changed { Changed
         (full_made step.now.scales.now step.now.b.now step.now.j.now e.old.low)
         (BelowLayer e.old.size.z) e.old e.new }
@@ -108,7 +109,7 @@ fn full_strips(step: &FullStep, e: &mut Block, rooms: &mut Rooms) -> bool
     let mut from = 0;
     while from < zone.size[1] {
         let to = strip_end(from, zone.size[1]);
-        let found = full_strip(step, e, from, to, rooms);
+        let found = full_strip(step, e, Strip { from, to }, rooms);
         calm = calm & found;
         from = to;
     }
@@ -117,30 +118,26 @@ fn full_strips(step: &FullStep, e: &mut Block, rooms: &mut Rooms) -> bool
 
 /// A step of E on the lines of a strip, layer by layer. A plane of scaled rows serves its own layer
 /// and then the one above it.
-fn full_strip(step: &FullStep, e: &mut Block, from: u32, to: u32, rooms: &mut Rooms) -> bool
+fn full_strip(step: &FullStep, e: &mut Block, strip: Strip, rooms: &mut Rooms) -> bool
     requires among { IsAmongCells e.old.low e.old.size step.now.b.now.cells }
     requires j_shape { IsShaped step.now.j.now e.old }
     requires some { HasCells e.old.size }
-    requires b_small { EachAtMost (2 ^ 90) step.now.b.now }
-    requires from { from < to }
-    requires few { to ≤ from + 8 }
-    requires to { to ≤ e.old.size.y }
-    requires j_small { AreSmall (2 ^ 90) (OnStrip from to e.old.size.z) step.now.j.now }
-    requires e_small { AreSmall (2 ^ 90) (OnStrip from to e.old.size.z) e.old }
+    requires b_small { EachAtMost most_value step.now.b.now }
+    requires strip { IsStrip strip e.old.size.y }
+    requires j_small { AreSmall most_value (OnStrip strip.from strip.to e.old.size.z)
+        step.now.j.now }
+    requires e_small { AreSmall most_value (OnStrip strip.from strip.to e.old.size.z) e.old }
     ensures changed { Changed
         (full_made step.now.scales.now step.now.b.now step.now.j.now e.old.low)
-        (OnStrip from to e.old.size.z) e.old e.new }
-    ensures calm { IsTrue result → AreSmall step.now.most (OnStrip from to e.old.size.z) e.new }
+        (OnStrip strip.from strip.to e.old.size.z) e.old e.new }
+    ensures calm { IsTrue result
+        → AreSmall step.now.most (OnStrip strip.from strip.to e.old.size.z) e.new }
 {
     let zone = e.zone();
     let span = span_down(line_length(step.b.cells(), zone));
-    let here = cell_in(step.b.cells(), zone, [0, from, 0]);
-    let corner = step
-        .b
-        .cells()
-        .down(Axis::X, step.b.cells().down(Axis::Y, here));
+    let corner = corner_in(step.b.cells(), zone, strip.from, 0);
     let below = step.b.cells().down(Axis::Z, corner);
-    let lines = (to - from) as usize;
+    let lines = (strip.to - strip.from) as usize;
     fill_next_plane(
         step.b,
         step.scales.b_to_e,
@@ -152,7 +149,7 @@ fn full_strip(step: &FullStep, e: &mut Block, from: u32, to: u32, rooms: &mut Ro
     let mut far = 0;
     let mut calm = true;
     for z in 0..zone.size[2] {
-        let found = full_layer(step, e, from, to, z, far, rooms);
+        let found = full_layer(step, e, strip, z, far, rooms);
         calm = calm & found;
         far = 1 - far;
     }
@@ -164,8 +161,7 @@ fn full_strip(step: &FullStep, e: &mut Block, from: u32, to: u32, rooms: &mut Ro
 fn full_layer(
     step: &FullStep,
     e: &mut Block,
-    from: u32,
-    to: u32,
+    strip: Strip,
     z: u32,
     far: usize,
     rooms: &mut Rooms,
@@ -173,35 +169,29 @@ fn full_layer(
     requires among { IsAmongCells e.old.low e.old.size step.now.b.now.cells }
     requires j_shape { IsShaped step.now.j.now e.old }
     requires some { HasCells e.old.size }
-    requires b_small { EachAtMost (2 ^ 90) step.now.b.now }
-    requires from { from < to }
-    requires few { to ≤ from + 8 }
-    requires to { to ≤ e.old.size.y }
+    requires b_small { EachAtMost most_value step.now.b.now }
+    requires strip { IsStrip strip e.old.size.y }
     requires z { z < e.old.size.z }
-    requires j_small { AreSmall (2 ^ 90) (OnLines from to z) step.now.j.now }
-    requires e_small { AreSmall (2 ^ 90) (OnLines from to z) e.old }
+    requires j_small { AreSmall most_value (OnLines strip.from strip.to z) step.now.j.now }
+    requires e_small { AreSmall most_value (OnLines strip.from strip.to z) e.old }
     requires far { far < 2 }
     requires plane { IsNextPlane step.now.b.now step.now.scales.now.b_to_e
         (down step.now.b.now.cells Axis.Z
-        (corner_before step.now.b.now.cells (line_start e.old.low from z)))
-        (down_span e.old.size.x) (to - from) (plane_at rooms.old.planes far) }
+        (corner_before step.now.b.now.cells (line_start e.old.low strip.from z)))
+        (down_span e.old.size.x) (strip.to - strip.from) (plane_at rooms.old.planes far) }
     ensures next { z + 1 < e.old.size.z → IsNextPlane step.now.b.now step.now.scales.now.b_to_e
         (down step.now.b.now.cells Axis.Z
-        (corner_before step.now.b.now.cells (line_start e.old.low from (z + 1))))
-        (down_span e.old.size.x) (to - from) (plane_at rooms.new.planes (1 - far)) }
+        (corner_before step.now.b.now.cells (line_start e.old.low strip.from (z + 1))))
+        (down_span e.old.size.x) (strip.to - strip.from) (plane_at rooms.new.planes (1 - far)) }
     ensures changed { Changed
         (full_made step.now.scales.now step.now.b.now step.now.j.now e.old.low)
-        (OnLines from to z) e.old e.new }
-    ensures calm { IsTrue result → AreSmall step.now.most (OnLines from to z) e.new }
+        (OnLines strip.from strip.to z) e.old e.new }
+    ensures calm { IsTrue result → AreSmall step.now.most (OnLines strip.from strip.to z) e.new }
 {
     let zone = e.zone();
     let span = span_down(line_length(step.b.cells(), zone));
-    let here = cell_in(step.b.cells(), zone, [0, from, z]);
-    let corner = step
-        .b
-        .cells()
-        .down(Axis::X, step.b.cells().down(Axis::Y, here));
-    let lines = (to - from) as usize;
+    let corner = corner_in(step.b.cells(), zone, strip.from, z);
+    let lines = (strip.to - strip.from) as usize;
     let near = 1 - far;
     fill_plane(
         step.b,
@@ -212,7 +202,7 @@ fn full_layer(
         &mut rooms.planes[near],
     );
     let planes = &rooms.planes;
-    full_lines(step, e, from, to, z, &planes[near], &planes[far])
+    full_lines(step, e, strip, z, &planes[near], &planes[far])
 }
 
 /// A step of E on the lines of a strip in a layer, from the scaled rows of the layer and the one
@@ -220,35 +210,32 @@ fn full_layer(
 fn full_lines(
     step: &FullStep,
     e: &mut Block,
-    from: u32,
-    to: u32,
+    strip: Strip,
     z: u32,
     near: &Plane,
     far: &Plane,
 ) -> bool
     requires among { IsAmongCells e.old.low e.old.size step.now.b.now.cells }
     requires j_shape { IsShaped step.now.j.now e.old }
-    requires from { from < to }
-    requires few { to ≤ from + 8 }
-    requires to { to ≤ e.old.size.y }
+    requires strip { IsStrip strip e.old.size.y }
     requires z { z < e.old.size.z }
-    requires j_small { AreSmall (2 ^ 90) (OnLines from to z) step.now.j.now }
-    requires e_small { AreSmall (2 ^ 90) (OnLines from to z) e.old }
+    requires j_small { AreSmall most_value (OnLines strip.from strip.to z) step.now.j.now }
+    requires e_small { AreSmall most_value (OnLines strip.from strip.to z) e.old }
     requires near { IsScaledPlane step.now.b.now step.now.scales.now.b_to_e
-        (corner_before step.now.b.now.cells (line_start e.old.low from z))
-        (down_span e.old.size.x) (to - from) near.now }
+        (corner_before step.now.b.now.cells (line_start e.old.low strip.from z))
+        (down_span e.old.size.x) (strip.to - strip.from) near.now }
     requires far { IsNextPlane step.now.b.now step.now.scales.now.b_to_e
         (down step.now.b.now.cells Axis.Z
-        (corner_before step.now.b.now.cells (line_start e.old.low from z)))
-        (down_span e.old.size.x) (to - from) far.now }
+        (corner_before step.now.b.now.cells (line_start e.old.low strip.from z)))
+        (down_span e.old.size.x) (strip.to - strip.from) far.now }
     ensures changed { Changed
         (full_made step.now.scales.now step.now.b.now step.now.j.now e.old.low)
-        (OnLines from to z) e.old e.new }
-    ensures calm { IsTrue result → AreSmall step.now.most (OnLines from to z) e.new }
+        (OnLines strip.from strip.to z) e.old e.new }
+    ensures calm { IsTrue result → AreSmall step.now.most (OnLines strip.from strip.to z) e.new }
 {
     let mut calm = true;
-    for y in from..to {
-        let k = (y - from) as usize;
+    for y in strip.from..strip.to {
+        let k = (y - strip.from) as usize;
         let found = full_line(step, e, y, z, &near[k + 1], &near[k], &far[k + 1]);
         calm = calm & found;
     }
@@ -270,8 +257,8 @@ fn full_line(
     requires j_shape { IsShaped step.now.j.now e.old }
     requires y { y < e.old.size.y }
     requires z { z < e.old.size.z }
-    requires j_small { AreSmall (2 ^ 90) (OnLine y z) step.now.j.now }
-    requires e_small { AreSmall (2 ^ 90) (OnLine y z) e.old }
+    requires j_small { AreSmall most_value (OnLine y z) step.now.j.now }
+    requires e_small { AreSmall most_value (OnLine y z) e.old }
     requires rows { AreRowsDown step.now.b.now step.now.scales.now.b_to_e
         (line_start e.old.low y z) e.old.size.x own.now by_y.now by_z.now }
     ensures changed { Changed
@@ -280,21 +267,21 @@ fn full_line(
     ensures calm { IsTrue result → AreSmall step.now.most (OnLine y z) e.new }
 {
     let count = line_length(step.b.cells(), e.zone());
-    let on_x = Four {
+    let on_x = CurlRows {
         far_third: shifted(&by_y.z[..], count),
         near_third: shifted(&own.z[..], count),
         far_second: shifted(&by_z.y[..], count),
         near_second: shifted(&own.y[..], count),
     };
     let calm_x = full_row(e, step.j, Axis::X, y, z, &on_x, step.most);
-    let on_y = Four {
+    let on_y = CurlRows {
         far_third: shifted(&by_z.x[..], count),
         near_third: shifted(&own.x[..], count),
         far_second: &own.z[..count],
         near_second: shifted(&own.z[..], count),
     };
     let calm_y = full_row(e, step.j, Axis::Y, y, z, &on_y, step.most);
-    let on_z = Four {
+    let on_z = CurlRows {
         far_third: &own.y[..count],
         near_third: shifted(&own.y[..], count),
         far_second: shifted(&by_y.x[..], count),

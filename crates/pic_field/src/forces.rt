@@ -1,7 +1,8 @@
 //! The force values of a field in one block, line by line.
 
-ghost use Rattle.std.specs.Prelude.{◌≡◌, ◌^◌, ◌<◌};
+ghost use Rattle.std.specs.Prelude.{◌≡◌, ◌<◌};
 ghost use Rattle.pic_num.specs.declared.axis.Axis.{Axis as AxisName};
+ghost use Rattle.pic_num.specs.Limits.{most_value};
 ghost use Rattle.pic_num.specs.Rounding.{scaled};
 ghost use Rattle.pic_num.specs.Space.{Triple};
 ghost use Rattle.pic_grid.specs.Cells.{IsWithin};
@@ -20,7 +21,7 @@ use pic_num::{Axis, Mult};
 /// `from`, whose values are at most 2^90 in size.
 pub fn force(mult: Mult, from: &Lattice, to: &mut Block)
     requires among { IsAmongCells to.old.low to.old.size from.now.cells }
-    requires small { EachAtMost (2 ^ 90) from.now }
+    requires small { EachAtMost most_value from.now }
     ensures shape { IsShaped to.new to.old }
     ensures values { (a : AxisName) → (p : Triple) → IsWithin p to.old.size
         → inner_at to.new a p ≡ scaled (value_at from.now a (outer_of to.old.low p)) mult }
@@ -38,7 +39,7 @@ pub fn force(mult: Mult, from: &Lattice, to: &mut Block)
 fn force_layer(mult: Mult, from: &Lattice, to: &mut Block, z: u32)
     requires among { IsAmongCells to.old.low to.old.size from.now.cells }
     requires some { HasCells to.old.size }
-    requires small { EachAtMost (2 ^ 90) from.now }
+    requires small { EachAtMost most_value from.now }
     requires z { z < to.old.size.z }
     ensures { Changed (force_made mult from.now to.old.low) (OnLayer z) to.old to.new }
 {
@@ -52,7 +53,7 @@ fn force_layer(mult: Mult, from: &Lattice, to: &mut Block, z: u32)
 fn force_line(mult: Mult, from: &Lattice, to: &mut Block, y: u32, z: u32)
     requires among { IsAmongCells to.old.low to.old.size from.now.cells }
     requires some { HasCells to.old.size }
-    requires small { EachAtMost (2 ^ 90) from.now }
+    requires small { EachAtMost most_value from.now }
     requires y { y < to.old.size.y }
     requires z { z < to.old.size.z }
     ensures { Changed (force_made mult from.now to.old.low) (OnLine y z) to.old to.new }
@@ -67,7 +68,7 @@ fn force_line(mult: Mult, from: &Lattice, to: &mut Block, y: u32, z: u32)
 /// The force values of the component on `axis` along the line that begins at `start`.
 fn force_row(mult: Mult, from: &Lattice, start: Start, to: &mut Block, axis: Axis, y: u32, z: u32)
     requires among { IsAmongCells to.old.low to.old.size from.now.cells }
-    requires small { EachAtMost (2 ^ 90) from.now }
+    requires small { EachAtMost most_value from.now }
     requires start { IsStart from.now start }
     requires cell { start_cell start ≡ line_start to.old.low y z }
     requires y { y < to.old.size.y }

@@ -1,7 +1,8 @@
 //! Half a step of B in one block, strip by strip of lines.
 
-ghost use Rattle.std.specs.Prelude.{◌≡◌, ◌+◌, ◌-◌, ◌^◌, ◌<◌, ◌≤◌, true, false, OnOk, IsTrue};
+ghost use Rattle.std.specs.Prelude.{◌≡◌, ◌+◌, ◌-◌, ◌<◌, ◌≤◌, true, false, OnOk, IsTrue};
 ghost use Rattle.pic_num.specs.declared.axis.Axis.{Axis as AxisName};
+ghost use Rattle.pic_num.specs.Limits.{most_value};
 ghost use Rattle.pic_num.specs.Push.{unless};
 ghost use Rattle.pic_num.specs.Space.{Triple};
 ghost use Rattle.pic_grid.specs.Cells.{IsWithin};
@@ -10,12 +11,12 @@ ghost use Rattle.pic_grid.specs.Lattice.{EachAtMost};
 ghost use Rattle.pic_grid.specs.Block.{IsAmongCells, IsShaped, AllAtMost, inner_at, outer_of};
 ghost use Rattle.pic_field.specs.FieldPhases.{half_of, half_in, lowest, least_fault, AllBounded};
 ghost use Rattle.pic_field.specs.Lines.{HasCells, OnLine, OnLines, OnStrip, BelowLayer, Changed, AreSmall, half_made, line_start};
-ghost use Rattle.pic_field.specs.Planes.{IsScaledPlane, IsNextPlane, AreRowsUp, plane_at, up_span};
+ghost use Rattle.pic_field.specs.Planes.{IsStrip, IsScaledPlane, IsNextPlane, AreRowsUp, plane_at, up_span};
 
 use crate::faults::{safe_most, stop_in};
-use crate::plane::{Line, Plane, fill_plane, fill_plane_behind, span_up, strip_end};
+use crate::plane::{Line, Plane, Strip, fill_plane, fill_plane_behind, span_up, strip_end};
 use crate::rooms::{Rooms, half_row};
-use crate::row::{Four, shifted};
+use crate::row::{CurlRows, shifted};
 use crate::zone::{cell_in, is_empty, line_length};
 use pic_grid::{Block, Lattice, Phase, Stop};
 use pic_num::{Axis, Scales};
@@ -37,8 +38,8 @@ struct HalfStep<'a> {
 /// 2^44.
 pub fn half_b(scales: &Scales, e: &Lattice, b: &mut Block, phase: Phase) -> Result<(), Stop>
     requires among { IsAmongCells b.old.low b.old.size e.now.cells }
-    requires e_small { EachAtMost (2 ^ 90) e.now }
-    requires b_small { AllAtMost (2 ^ 90) b.old }
+    requires e_small { EachAtMost most_value e.now }
+    requires b_small { AllAtMost most_value b.old }
     ensures shape { IsShaped b.new b.old }
     ensures values { (a : AxisName) → (p : Triple) → IsWithin p b.old.size
         → inner_at b.new a p
@@ -59,8 +60,8 @@ pub fn half_b_in(
     rooms: &mut Rooms,
 ) -> Result<(), Stop>
     requires among { IsAmongCells b.old.low b.old.size e.now.cells }
-    requires e_small { EachAtMost (2 ^ 90) e.now }
-    requires b_small { AllAtMost (2 ^ 90) b.old }
+    requires e_small { EachAtMost most_value e.now }
+    requires b_small { AllAtMost most_value b.old }
     ensures shape { IsShaped b.new b.old }
     ensures values { (a : AxisName) → (p : Triple) → IsWithin p b.old.size
         → inner_at b.new a p
@@ -81,8 +82,8 @@ pub fn half_b_in(
 /// step's `most` in size.
 fn half_strips(step: &HalfStep, b: &mut Block, rooms: &mut Rooms) -> bool
     requires among { IsAmongCells b.old.low b.old.size step.now.e.now.cells }
-    requires e_small { EachAtMost (2 ^ 90) step.now.e.now }
-    requires b_small { AreSmall (2 ^ 90) (BelowLayer b.old.size.z) b.old }
+    requires e_small { EachAtMost most_value step.now.e.now }
+    requires b_small { AreSmall most_value (BelowLayer b.old.size.z) b.old }
     ensures changed { Changed (half_made step.now.scales.now step.now.e.now b.old.low)
         (BelowLayer b.old.size.z) b.old b.new }
     ensures calm { IsTrue result → AreSmall step.now.most (BelowLayer b.old.size.z) b.new }
@@ -95,7 +96,7 @@ fn half_strips(step: &HalfStep, b: &mut Block, rooms: &mut Rooms) -> bool
     let mut from = 0;
     while from < zone.size[1] {
         let to = strip_end(from, zone.size[1]);
-        let found = half_strip(step, b, from, to, rooms);
+        let found = half_strip(step, b, Strip { from, to }, rooms);
         calm = calm & found;
         from = to;
     }
@@ -104,22 +105,21 @@ fn half_strips(step: &HalfStep, b: &mut Block, rooms: &mut Rooms) -> bool
 
 /// Half a step of B on the lines of a strip, layer by layer. A plane of scaled rows serves the
 /// layer below it and then its own.
-fn half_strip(step: &HalfStep, b: &mut Block, from: u32, to: u32, rooms: &mut Rooms) -> bool
+fn half_strip(step: &HalfStep, b: &mut Block, strip: Strip, rooms: &mut Rooms) -> bool
     requires among { IsAmongCells b.old.low b.old.size step.now.e.now.cells }
     requires some { HasCells b.old.size }
-    requires e_small { EachAtMost (2 ^ 90) step.now.e.now }
-    requires from { from < to }
-    requires few { to ≤ from + 8 }
-    requires to { to ≤ b.old.size.y }
-    requires b_small { AreSmall (2 ^ 90) (OnStrip from to b.old.size.z) b.old }
+    requires e_small { EachAtMost most_value step.now.e.now }
+    requires strip { IsStrip strip b.old.size.y }
+    requires b_small { AreSmall most_value (OnStrip strip.from strip.to b.old.size.z) b.old }
     ensures changed { Changed (half_made step.now.scales.now step.now.e.now b.old.low)
-        (OnStrip from to b.old.size.z) b.old b.new }
-    ensures calm { IsTrue result → AreSmall step.now.most (OnStrip from to b.old.size.z) b.new }
+        (OnStrip strip.from strip.to b.old.size.z) b.old b.new }
+    ensures calm { IsTrue result
+        → AreSmall step.now.most (OnStrip strip.from strip.to b.old.size.z) b.new }
 {
     let zone = b.zone();
     let span = span_up(line_length(step.e.cells(), zone));
-    let first = cell_in(step.e.cells(), zone, [0, from, 0]);
-    let lines = (to - from) as usize;
+    let first = cell_in(step.e.cells(), zone, [0, strip.from, 0]);
+    let lines = (strip.to - strip.from) as usize;
     fill_plane(
         step.e,
         step.scales.e_to_b,
@@ -131,7 +131,7 @@ fn half_strip(step: &HalfStep, b: &mut Block, from: u32, to: u32, rooms: &mut Ro
     let mut near = 0;
     let mut calm = true;
     for z in 0..zone.size[2] {
-        let found = half_layer(step, b, from, to, z, near, rooms);
+        let found = half_layer(step, b, strip, z, near, rooms);
         calm = calm & found;
         near = 1 - near;
     }
@@ -143,44 +143,41 @@ fn half_strip(step: &HalfStep, b: &mut Block, from: u32, to: u32, rooms: &mut Ro
 fn half_layer(
     step: &HalfStep,
     b: &mut Block,
-    from: u32,
-    to: u32,
+    strip: Strip,
     z: u32,
     near: usize,
     rooms: &mut Rooms,
 ) -> bool
     requires among { IsAmongCells b.old.low b.old.size step.now.e.now.cells }
     requires some { HasCells b.old.size }
-    requires e_small { EachAtMost (2 ^ 90) step.now.e.now }
-    requires from { from < to }
-    requires few { to ≤ from + 8 }
-    requires to { to ≤ b.old.size.y }
+    requires e_small { EachAtMost most_value step.now.e.now }
+    requires strip { IsStrip strip b.old.size.y }
     requires z { z < b.old.size.z }
-    requires b_small { AreSmall (2 ^ 90) (OnLines from to z) b.old }
+    requires b_small { AreSmall most_value (OnLines strip.from strip.to z) b.old }
     requires near { near < 2 }
     requires plane { IsScaledPlane step.now.e.now step.now.scales.now.e_to_b
-        (line_start b.old.low from z) (up_span b.old.size.x) (to - from)
+        (line_start b.old.low strip.from z) (up_span b.old.size.x) (strip.to - strip.from)
         (plane_at rooms.old.planes near) }
     ensures next { z + 1 < b.old.size.z → IsScaledPlane step.now.e.now step.now.scales.now.e_to_b
-        (line_start b.old.low from (z + 1)) (up_span b.old.size.x) (to - from)
+        (line_start b.old.low strip.from (z + 1)) (up_span b.old.size.x) (strip.to - strip.from)
         (plane_at rooms.new.planes (1 - near)) }
     ensures changed { Changed (half_made step.now.scales.now step.now.e.now b.old.low)
-        (OnLines from to z) b.old b.new }
-    ensures calm { IsTrue result → AreSmall step.now.most (OnLines from to z) b.new }
+        (OnLines strip.from strip.to z) b.old b.new }
+    ensures calm { IsTrue result → AreSmall step.now.most (OnLines strip.from strip.to z) b.new }
 {
     let zone = b.zone();
     let span = span_up(line_length(step.e.cells(), zone));
     let above = step
         .e
         .cells()
-        .up(Axis::Z, cell_in(step.e.cells(), zone, [0, from, z]));
-    let lines = (to - from) as usize;
+        .up(Axis::Z, cell_in(step.e.cells(), zone, [0, strip.from, z]));
+    let lines = (strip.to - strip.from) as usize;
     let more = z + 1 < zone.size[2];
     let far = 1 - near;
     let room = &mut rooms.planes[far];
     fill_plane_behind(step.e, step.scales.e_to_b, above, span, lines, more, room);
     let planes = &rooms.planes;
-    half_lines(step, b, from, to, z, &planes[near], &planes[far])
+    half_lines(step, b, strip, z, &planes[near], &planes[far])
 }
 
 /// Half a step of B on the lines of a strip in a layer, from the scaled rows of the layer and the
@@ -188,30 +185,28 @@ fn half_layer(
 fn half_lines(
     step: &HalfStep,
     b: &mut Block,
-    from: u32,
-    to: u32,
+    strip: Strip,
     z: u32,
     near: &Plane,
     far: &Plane,
 ) -> bool
     requires among { IsAmongCells b.old.low b.old.size step.now.e.now.cells }
-    requires from { from < to }
-    requires few { to ≤ from + 8 }
-    requires to { to ≤ b.old.size.y }
+    requires strip { IsStrip strip b.old.size.y }
     requires z { z < b.old.size.z }
-    requires b_small { AreSmall (2 ^ 90) (OnLines from to z) b.old }
+    requires b_small { AreSmall most_value (OnLines strip.from strip.to z) b.old }
     requires near { IsScaledPlane step.now.e.now step.now.scales.now.e_to_b
-        (line_start b.old.low from z) (up_span b.old.size.x) (to - from) near.now }
+        (line_start b.old.low strip.from z) (up_span b.old.size.x) (strip.to - strip.from)
+        near.now }
     requires far { IsNextPlane step.now.e.now step.now.scales.now.e_to_b
-        (up step.now.e.now.cells Axis.Z (line_start b.old.low from z))
-        (up_span b.old.size.x) (to - from) far.now }
+        (up step.now.e.now.cells Axis.Z (line_start b.old.low strip.from z))
+        (up_span b.old.size.x) (strip.to - strip.from) far.now }
     ensures changed { Changed (half_made step.now.scales.now step.now.e.now b.old.low)
-        (OnLines from to z) b.old b.new }
-    ensures calm { IsTrue result → AreSmall step.now.most (OnLines from to z) b.new }
+        (OnLines strip.from strip.to z) b.old b.new }
+    ensures calm { IsTrue result → AreSmall step.now.most (OnLines strip.from strip.to z) b.new }
 {
     let mut calm = true;
-    for y in from..to {
-        let j = (y - from) as usize;
+    for y in strip.from..strip.to {
+        let j = (y - strip.from) as usize;
         let found = half_line(step, b, y, z, &near[j], &near[j + 1], &far[j]);
         calm = calm & found;
     }
@@ -231,7 +226,7 @@ fn half_line(
     requires among { IsAmongCells b.old.low b.old.size step.now.e.now.cells }
     requires y { y < b.old.size.y }
     requires z { z < b.old.size.z }
-    requires b_small { AreSmall (2 ^ 90) (OnLine y z) b.old }
+    requires b_small { AreSmall most_value (OnLine y z) b.old }
     requires rows { AreRowsUp step.now.e.now step.now.scales.now.e_to_b
         (line_start b.old.low y z) b.old.size.x own.now by_y.now by_z.now }
     ensures changed { Changed (half_made step.now.scales.now step.now.e.now b.old.low)
@@ -239,21 +234,21 @@ fn half_line(
     ensures calm { IsTrue result → AreSmall step.now.most (OnLine y z) b.new }
 {
     let count = line_length(step.e.cells(), b.zone());
-    let on_x = Four {
+    let on_x = CurlRows {
         far_third: &by_y.z[..count],
         near_third: &own.z[..count],
         far_second: &by_z.y[..count],
         near_second: &own.y[..count],
     };
     let calm_x = half_row(b, Axis::X, y, z, &on_x, step.most);
-    let on_y = Four {
+    let on_y = CurlRows {
         far_third: &by_z.x[..count],
         near_third: &own.x[..count],
         far_second: shifted(&own.z[..], count),
         near_second: &own.z[..count],
     };
     let calm_y = half_row(b, Axis::Y, y, z, &on_y, step.most);
-    let on_z = Four {
+    let on_z = CurlRows {
         far_third: shifted(&own.y[..], count),
         near_third: &own.y[..count],
         far_second: &by_y.x[..count],

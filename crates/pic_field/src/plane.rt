@@ -1,7 +1,7 @@
 //! Planes of scaled rows: those of a strip of lines at one layer of z, each row scaled once.
 
 ghost use Rattle.std.specs.Prelude.{◌≡◌, ◌+◌, ◌<◌, ◌≤◌, ◌^◌, IsTrue};
-ghost use Rattle.pic_num.specs.Limits.{most_cells_of_axis};
+ghost use Rattle.pic_num.specs.Limits.{most_cells_of_axis, most_value};
 ghost use Rattle.pic_num.specs.Rounding.{scaled};
 ghost use Rattle.pic_num.specs.Sizes.{IsAtMost};
 ghost use Rattle.pic_num.specs.Space.{triple};
@@ -16,10 +16,10 @@ use pic_grid::{Lattice, Slot};
 use pic_num::{Axis, Mult, scale};
 
 /// How many lines a strip has at most.
-pub(crate) const LINES: u32 = 8;
+pub(crate) const LINES_OF_STRIP: u32 = 8;
 
 /// How many lines a plane has room for: those of a strip, and one beside it.
-pub(crate) const PLANE: usize = 9;
+pub(crate) const LINES_OF_PLANE: usize = 9;
 
 /// The scaled rows of a line of cells, one for each component.
 #[derive(Clone, Copy)]
@@ -30,7 +30,7 @@ pub(crate) struct Line {
 }
 
 /// A room for the scaled rows of a plane.
-pub(crate) type Plane = [Line; PLANE];
+pub(crate) type Plane = [Line; LINES_OF_PLANE];
 
 /// Where the values of a row stand in its room.
 #[derive(Clone, Copy)]
@@ -70,6 +70,13 @@ pub(crate) fn span_down(cells: usize) -> Span
     }
 }
 
+/// The lines of a strip in a zone: from one on and below another.
+#[derive(Clone, Copy)]
+pub(crate) struct Strip {
+    pub(crate) from: u32,
+    pub(crate) to: u32,
+}
+
 /// The line behind a strip that begins at the line `from`, of a zone of `count` lines.
 pub(crate) fn strip_end(from: u32, count: u32) -> u32
     requires { from < count }
@@ -77,7 +84,7 @@ pub(crate) fn strip_end(from: u32, count: u32) -> u32
     ensures few { result ≤ from + 8 }
     ensures within { result ≤ count }
 {
-    from + LINES.min(count - from)
+    from + LINES_OF_STRIP.min(count - from)
 }
 
 /// Scales what a curl reads of the plane of a strip of `lines` lines in the strip's own layer and
@@ -95,7 +102,7 @@ pub(crate) fn fill_plane(
     requires span { IsSpan span }
     requires edge { (triple at).x + span.edge ≤ field.now.cells.x }
     requires lines { lines ≤ 8 }
-    requires small { EachAtMost (2 ^ 90) field.now }
+    requires small { EachAtMost most_value field.now }
     ensures { IsScaledPlane field.now by (triple at) span lines to.new }
 {
     let [_, ny, _] = field.cells().numbers();
@@ -120,7 +127,7 @@ pub(crate) fn fill_next_plane(
     requires within { IsWithin (triple at) field.now.cells }
     requires span { IsSpan span }
     requires lines { lines ≤ 8 }
-    requires small { EachAtMost (2 ^ 90) field.now }
+    requires small { EachAtMost most_value field.now }
     ensures { IsNextPlane field.now by (triple at) span lines to.new }
 {
     let [_, ny, _] = field.cells().numbers();
@@ -147,7 +154,7 @@ pub(crate) fn fill_plane_behind(
     requires span { IsSpan span }
     requires edge { (triple at).x + span.edge ≤ field.now.cells.x }
     requires lines { lines ≤ 8 }
-    requires small { EachAtMost (2 ^ 90) field.now }
+    requires small { EachAtMost most_value field.now }
     ensures own { IsTrue has_next → IsScaledPlane field.now by (triple at) span lines to.new }
     ensures next { IsNextPlane field.now by (triple at) span lines to.new }
 {
@@ -176,7 +183,7 @@ fn scale_line(field: &Lattice, by: Mult, at: [u32; 3], span: Span, own: bool, to
     requires within { IsWithin (triple at) field.now.cells }
     requires span { IsSpan span }
     requires edge { (triple at).x + span.edge ≤ field.now.cells.x }
-    requires small { EachAtMost (2 ^ 90) field.now }
+    requires small { EachAtMost most_value field.now }
     ensures own { IsTrue own → IsOwnLine field.now by (triple at) span to.new }
     ensures side { IsSideLine field.now by (triple at) span to.new }
 {
@@ -193,7 +200,7 @@ fn scale_own(field: &Lattice, by: Mult, at: [u32; 3], span: Span, to: &mut Line)
     requires within { IsWithin (triple at) field.now.cells }
     requires span { IsSpan span }
     requires edge { (triple at).x + span.edge ≤ field.now.cells.x }
-    requires small { EachAtMost (2 ^ 90) field.now }
+    requires small { EachAtMost most_value field.now }
     ensures { IsOwnLine field.now by (triple at) span to.new }
 {
     let [nx, _, _] = field.cells().numbers();
@@ -211,7 +218,7 @@ fn scale_own(field: &Lattice, by: Mult, at: [u32; 3], span: Span, to: &mut Line)
 fn scale_next(field: &Lattice, by: Mult, at: [u32; 3], span: Span, to: &mut Line)
     requires within { IsWithin (triple at) field.now.cells }
     requires span { IsSpan span }
-    requires small { EachAtMost (2 ^ 90) field.now }
+    requires small { EachAtMost most_value field.now }
     ensures { IsNextLine field.now by (triple at) span to.new }
 {
     let start = start_at(field, at);
@@ -225,7 +232,7 @@ fn scaled_at(field: &Lattice, by: Mult, axis: Axis, x: Slot, y: Slot, z: Slot) -
     requires x { IsSlotX field.now.cells field.now.parts x }
     requires y { IsSlotY field.now.cells field.now.parts y }
     requires z { IsSlotZ field.now.cells field.now.parts z }
-    requires small { EachAtMost (2 ^ 90) field.now }
+    requires small { EachAtMost most_value field.now }
     ensures value { result
         ≡ scaled (value_at field.now axis (record { x = x.index; y = y.index; z = z.index })) by }
     ensures size { IsAtMost result (2 ^ 121) }
@@ -247,7 +254,7 @@ struct Wanted {
 fn scale_rows(field: &Lattice, by: Mult, start: Start, span: Span, wanted: Wanted, to: &mut Line)
     requires start { IsStart field.now start }
     requires span { IsSpan span }
-    requires small { EachAtMost (2 ^ 90) field.now }
+    requires small { EachAtMost most_value field.now }
     ensures x { IsScaledRow field.now by Axis.X (start_cell start) span.first
         (span.first + span.cells) to.new.x }
     ensures y { IsTrue wanted.y → IsScaledRow field.now by Axis.Y (start_cell start) span.first

@@ -1,12 +1,13 @@
 //! Rooms for planes of scaled rows, and a row of a block that is lessened by a curl.
 
 ghost use Rattle.std.specs.Prelude.{◌≡◌, pos, ◌+◌, ◌*◌, ◌^◌, ◌<◌, ◌≤◌, ◌-ℤ◌, IsTrue};
+ghost use Rattle.pic_num.specs.Limits.{most_value};
 ghost use Rattle.pic_grid.specs.Block.{IsShaped, inner_at};
 ghost use Rattle.pic_field.specs.Lines.{OnRow, Changed, AreSmall};
-ghost use Rattle.pic_field.specs.Rows.{row_at, curl_of, IsRow};
+ghost use Rattle.pic_field.specs.Rows.{row_at, curl_of, IsValueRow};
 
-use crate::plane::{Line, PLANE, Plane};
-use crate::row::{Four, ROOM, lessen_row, lessen_row_by};
+use crate::plane::{LINES_OF_PLANE, Line, Plane};
+use crate::row::{CurlRows, VALUES_OF_ROW, lessen_row, lessen_row_by};
 use pic_grid::Block;
 use pic_num::Axis;
 
@@ -22,28 +23,35 @@ pub struct Rooms {
 impl Rooms {
     /// Rooms whose values are of no matter.
     pub fn new() -> Rooms {
-        let row = [0; ROOM];
+        let row = [0; VALUES_OF_ROW];
         let line = Line {
             x: row,
             y: row,
             z: row,
         };
         Rooms {
-            planes: [[line; PLANE]; 2],
+            planes: [[line; LINES_OF_PLANE]; 2],
         }
     }
 }
 
 /// Lessens the components of a block on `axis` along the row at the layers `y` and `z` by the curl
 /// of four rows, and answers whether all new values are at most `most` in size.
-pub(crate) fn half_row(b: &mut Block, axis: Axis, y: u32, z: u32, four: &Four, most: u128) -> bool
+pub(crate) fn half_row(
+    b: &mut Block,
+    axis: Axis,
+    y: u32,
+    z: u32,
+    four: &CurlRows,
+    most: u128,
+) -> bool
     requires y { y < b.old.size.y }
     requires z { z < b.old.size.z }
-    requires small { AreSmall (2 ^ 90) (OnRow axis y z) b.old }
-    requires far_third { IsRow (2 ^ 121) b.old.size.x four.now.far_third.now }
-    requires near_third { IsRow (2 ^ 121) b.old.size.x four.now.near_third.now }
-    requires far_second { IsRow (2 ^ 121) b.old.size.x four.now.far_second.now }
-    requires near_second { IsRow (2 ^ 121) b.old.size.x four.now.near_second.now }
+    requires small { AreSmall most_value (OnRow axis y z) b.old }
+    requires far_third { IsValueRow (2 ^ 121) b.old.size.x four.now.far_third.now }
+    requires near_third { IsValueRow (2 ^ 121) b.old.size.x four.now.near_third.now }
+    requires far_second { IsValueRow (2 ^ 121) b.old.size.x four.now.far_second.now }
+    requires near_second { IsValueRow (2 ^ 121) b.old.size.x four.now.near_second.now }
     ensures changed { Changed (λ a p v. v -ℤ curl_of
         (row_at four.now.far_third.now p.x) (row_at four.now.near_third.now p.x)
         (row_at four.now.far_second.now p.x) (row_at four.now.near_second.now p.x))
@@ -66,18 +74,18 @@ pub(crate) fn full_row(
     axis: Axis,
     y: u32,
     z: u32,
-    four: &Four,
+    four: &CurlRows,
     most: u128,
 ) -> bool
     requires j_shape { IsShaped j.now e.old }
     requires y { y < e.old.size.y }
     requires z { z < e.old.size.z }
-    requires j_small { AreSmall (2 ^ 90) (OnRow axis y z) j.now }
-    requires small { AreSmall (2 ^ 90) (OnRow axis y z) e.old }
-    requires far_third { IsRow (2 ^ 121) e.old.size.x four.now.far_third.now }
-    requires near_third { IsRow (2 ^ 121) e.old.size.x four.now.near_third.now }
-    requires far_second { IsRow (2 ^ 121) e.old.size.x four.now.far_second.now }
-    requires near_second { IsRow (2 ^ 121) e.old.size.x four.now.near_second.now }
+    requires j_small { AreSmall most_value (OnRow axis y z) j.now }
+    requires small { AreSmall most_value (OnRow axis y z) e.old }
+    requires far_third { IsValueRow (2 ^ 121) e.old.size.x four.now.far_third.now }
+    requires near_third { IsValueRow (2 ^ 121) e.old.size.x four.now.near_third.now }
+    requires far_second { IsValueRow (2 ^ 121) e.old.size.x four.now.far_second.now }
+    requires near_second { IsValueRow (2 ^ 121) e.old.size.x four.now.near_second.now }
     ensures changed { Changed (λ a p v. v -ℤ inner_at j.now a p -ℤ curl_of
         (row_at four.now.far_third.now p.x) (row_at four.now.near_third.now p.x)
         (row_at four.now.far_second.now p.x) (row_at four.now.near_second.now p.x))

@@ -1,26 +1,27 @@
 //! Rows of values: a field's values along a line of cells, scaled, and what a curl makes of them.
 
 ghost use Rattle.std.specs.Prelude.{◌≡◌, ℕ, pos, ◌+◌, ◌%◌, ◌^◌, ◌<◌, ◌≤◌, ◌-ℤ◌, IsTrue, length};
+ghost use Rattle.pic_num.specs.Limits.{most_value};
 ghost use Rattle.pic_num.specs.Rounding.{scaled};
 ghost use Rattle.pic_num.specs.Sizes.{IsAtMost};
 ghost use Rattle.pic_num.specs.Space.{triple};
 ghost use Rattle.pic_grid.specs.Cells.{IsWithin};
 ghost use Rattle.pic_grid.specs.Lattice.{EachAtMost};
-ghost use Rattle.pic_field.specs.Rows.{row_at, curl_of, start_cell, IsSmallRow, IsRow, IsStart, IsScaledRow};
+ghost use Rattle.pic_field.specs.Rows.{row_at, curl_of, start_cell, IsSmallRow, IsValueRow, IsStart, IsScaledRow};
 
 use pic_grid::{Lattice, Slot};
 use pic_num::{Axis, Mult, scale};
 
 /// How many values a row has room for: one more than the most cells of an axis.
-pub(crate) const ROOM: usize = 129;
+pub(crate) const VALUES_OF_ROW: usize = 129;
 
 /// A room for a row.
-pub(crate) type Row = [i128; ROOM];
+pub(crate) type Row = [i128; VALUES_OF_ROW];
 
 /// The four rows that make a curl: of the two other components, each where the curl is (`near`) and
 /// a cell further (`far`).
 #[derive(Clone, Copy)]
-pub(crate) struct Four<'a> {
+pub(crate) struct CurlRows<'a> {
     pub(crate) far_third: &'a [i128],
     pub(crate) near_third: &'a [i128],
     pub(crate) far_second: &'a [i128],
@@ -63,7 +64,7 @@ pub(crate) fn scaled_row(
 )
     requires start { IsStart field.now start }
     requires room { count ≤ length to.old }
-    requires small { EachAtMost (2 ^ 90) field.now }
+    requires small { EachAtMost most_value field.now }
     ensures { IsScaledRow field.now by axis (start_cell start) 0 count to.new }
 {
     let [nx, _, _] = field.cells().numbers();
@@ -94,7 +95,7 @@ pub(crate) fn after_run(count: u32, x: u32, more: usize) -> u32
 #[inline(always)]
 pub(crate) fn scale_row(from: &[i128], by: Mult, to: &mut [i128])
     requires length { length to.old ≡ length from.now }
-    requires small { IsSmallRow (2 ^ 90) (length from.now) from.now }
+    requires small { IsSmallRow most_value (length from.now) from.now }
     ensures values { (i : ℕ) → i < length from.now
         → row_at to.new i ≡ scaled (row_at from.now i) by }
     ensures small { IsSmallRow (2 ^ 121) (length from.now) to.new }
@@ -106,12 +107,12 @@ pub(crate) fn scale_row(from: &[i128], by: Mult, to: &mut [i128])
 
 /// Lessens every value of a row by the curl of four rows, and answers whether all are then at most
 /// `most` in size.
-pub(crate) fn lessen_row(row: &mut [i128], four: &Four, most: u128) -> bool
-    requires small { IsSmallRow (2 ^ 90) (length row.old) row.old }
-    requires far_third { IsRow (2 ^ 121) (length row.old) four.now.far_third.now }
-    requires near_third { IsRow (2 ^ 121) (length row.old) four.now.near_third.now }
-    requires far_second { IsRow (2 ^ 121) (length row.old) four.now.far_second.now }
-    requires near_second { IsRow (2 ^ 121) (length row.old) four.now.near_second.now }
+pub(crate) fn lessen_row(row: &mut [i128], four: &CurlRows, most: u128) -> bool
+    requires small { IsSmallRow most_value (length row.old) row.old }
+    requires far_third { IsValueRow (2 ^ 121) (length row.old) four.now.far_third.now }
+    requires near_third { IsValueRow (2 ^ 121) (length row.old) four.now.near_third.now }
+    requires far_second { IsValueRow (2 ^ 121) (length row.old) four.now.far_second.now }
+    requires near_second { IsValueRow (2 ^ 121) (length row.old) four.now.near_second.now }
     ensures values { (i : ℕ) → i < length row.old → row_at row.new i ≡ row_at row.old i -ℤ
         curl_of (row_at four.now.far_third.now i) (row_at four.now.near_third.now i)
         (row_at four.now.far_second.now i) (row_at four.now.near_second.now i) }
@@ -130,13 +131,13 @@ pub(crate) fn lessen_row(row: &mut [i128], four: &Four, most: u128) -> bool
 
 /// Lessens every value of a row by that of `take` and the curl of four rows, and answers whether
 /// all are then at most `most` in size.
-pub(crate) fn lessen_row_by(row: &mut [i128], take: &[i128], four: &Four, most: u128) -> bool
-    requires small { IsSmallRow (2 ^ 90) (length row.old) row.old }
-    requires take { IsRow (2 ^ 90) (length row.old) take.now }
-    requires far_third { IsRow (2 ^ 121) (length row.old) four.now.far_third.now }
-    requires near_third { IsRow (2 ^ 121) (length row.old) four.now.near_third.now }
-    requires far_second { IsRow (2 ^ 121) (length row.old) four.now.far_second.now }
-    requires near_second { IsRow (2 ^ 121) (length row.old) four.now.near_second.now }
+pub(crate) fn lessen_row_by(row: &mut [i128], take: &[i128], four: &CurlRows, most: u128) -> bool
+    requires small { IsSmallRow most_value (length row.old) row.old }
+    requires take { IsValueRow most_value (length row.old) take.now }
+    requires far_third { IsValueRow (2 ^ 121) (length row.old) four.now.far_third.now }
+    requires near_third { IsValueRow (2 ^ 121) (length row.old) four.now.near_third.now }
+    requires far_second { IsValueRow (2 ^ 121) (length row.old) four.now.far_second.now }
+    requires near_second { IsValueRow (2 ^ 121) (length row.old) four.now.near_second.now }
     ensures values { (i : ℕ) → i < length row.old
         → row_at row.new i ≡ row_at row.old i -ℤ row_at take.now i -ℤ
         curl_of (row_at four.now.far_third.now i) (row_at four.now.near_third.now i)

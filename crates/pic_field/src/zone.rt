@@ -6,9 +6,11 @@ ghost use Rattle.pic_num.specs.Limits.{most_cells_of_axis};
 ghost use Rattle.pic_num.specs.Space.{triple, spot, unwrapped};
 ghost use Rattle.pic_grid.specs.Cells.{IsWithin, count_of};
 ghost use Rattle.pic_grid.specs.Block.{InZone, IsAmongCells, outer_of};
-ghost use Rattle.pic_field.specs.Lines.{HasCells};
+ghost use Rattle.pic_field.specs.Lines.{HasCells, line_start};
+ghost use Rattle.pic_field.specs.Planes.{corner_before};
 
 use pic_grid::{Cells, Zone};
+use pic_num::Axis;
 
 /// How many places a block has whose zone lies among the cells.
 pub(crate) fn place_count(cells: Cells, zone: Zone) -> u32
@@ -58,4 +60,17 @@ pub(crate) fn cell_in(cells: Cells, zone: Zone, inner: [u32; 3]) -> [u32; 3]
     let [low_x, low_y, low_z] = zone.low;
     let [x, y, z] = inner;
     [low_x as u32 + x, low_y as u32 + y, low_z as u32 + z]
+}
+
+/// The cell of the grid where the planes for the curl of B begin that are of the line `y` and the
+/// layer `z` of a zone: a cell before it in x and a line before it in y.
+pub(crate) fn corner_in(cells: Cells, zone: Zone, y: u32, z: u32) -> [u32; 3]
+    requires among { IsAmongCells (spot zone.low) (triple zone.size) cells.n }
+    requires within { IsWithin (record { x = 0; y = y; z = z }) (triple zone.size) }
+    ensures value { triple result ≡ corner_before cells.n (line_start (spot zone.low) y z) }
+    ensures within { IsWithin (triple result) cells.n }
+{
+    let here = cell_in(cells, zone, [0, y, z]);
+    let before = cells.down(Axis::Y, here);
+    cells.down(Axis::X, before)
 }

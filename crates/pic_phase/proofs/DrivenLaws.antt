@@ -19,18 +19,13 @@ use Rattle.pic_tile.specs.Directions.{here}
 use Rattle.pic_tile.specs.Tile.{TileValue, parcel_at, flux_of, no_tile, tile_in}
 use Rattle.pic_phase.specs.Blocks.{block_in, earlier, earliest, block_stop}
 use Rattle.pic_phase.specs.Driven.{CanDrive, AllCanDrive, IsDriven, AreDriven, driven_stop}
-use Rattle.pic_phase.proofs.EarliestLaws.{earliest_zero, earliest_more, earliest_both, earliest_same}
+use Rattle.pic_phase.proofs.EarliestLaws.{stop_of, earliest_zero, earliest_more, earliest_both, earliest_same}
 
--- the error of an answer is the stop
-err_is : (o : Option Stop) (r : Result (Unit {0}) Stop) → r ≡ unless o tt → result_err r ≡ o
-err_is None r e = ap result_err e
-err_is (Some stop) r e = ap result_err e
-
--- so is that of a tile's block, by the parcel that is taken from the tile
+-- the error of an answer is the stop of a tile's block, by the parcel that is taken from the tile
 pub taken_stop : (scales : Scales) (b : Field) (t : TileValue) (e : BlockValues) (p : Parcel) (r : Result (Unit {0}) Stop) → Some p ≡ parcel_at t here
     → r ≡ unless (block_stop Electric scales.e_force (full_in scales b p.flux e) e) tt → result_err r ≡ driven_stop scales b t e
 taken_stop scales b t e p r taken is =
-    err_is (block_stop Electric scales.e_force (full_in scales b p.flux e) e) r is
+    stop_of (block_stop Electric scales.e_force (full_in scales b p.flux e) e) r is
     ∙ ap (λ (o : Option Parcel). block_stop Electric scales.e_force (full_in scales b (flux_of o) e) e) taken
 
 -- the tiles before i have driven their blocks, and the others and theirs are as they were

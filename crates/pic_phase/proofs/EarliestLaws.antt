@@ -1,9 +1,16 @@
 -- Of two stops the earlier, and of many: in which order and grouping they are compared makes no
 -- difference.
-use Rattle.std.proofs.Common.{◌≡◌, ℕ, zero, suc, ◌+◌, ◌<◌, ◌≤◌, Bool, cond, Option, Some, None, inl, inr, refl, sym, ◌∙◌, ap, subst, arith}
+use Rattle.std.proofs.Common.{◌≡◌, ℕ, zero, suc, ◌+◌, ◌<◌, ◌≤◌, Bool, cond, Option, Some, None, Result, inl, inr, refl, sym, ◌∙◌, ap, subst, arith}
+use Rattle.std.specs.Result.{result_err}
 use Rattle.std.proofs.lemmas.Bool.{cases_lt, lt-ltb, le-ltb}
+use Rattle.pic_num.specs.Push.{unless}
 use Rattle.pic_grid.specs.declared.stop.Stop.{Stop}
 use Rattle.pic_phase.specs.Blocks.{place_number, earlier, earliest}
+
+-- the error of an answer is the stop
+pub stop_of : (o : Option Stop) (r : Result (Unit {0}) Stop) → r ≡ unless o tt → result_err r ≡ o
+stop_of None r is = ap result_err is
+stop_of (Some stop) r is = ap result_err is
 
 -- the stop of the lesser place is the earlier,
 earlier-less : (a b : Stop) → place_number b < place_number a → earlier (Some a) (Some b) ≡ Some b

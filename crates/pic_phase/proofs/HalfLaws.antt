@@ -1,10 +1,8 @@
 -- Half a step of B and force values over all blocks of a lattice.
-use Rattle.std.proofs.Common.{◌≡◌, ℤ, ◌<◌, List, ◌++◌, length, Option, Some, None, Result, sym, ◌∙◌, ap, arith}
-use Rattle.std.specs.Result.{result_err}
+use Rattle.std.proofs.Common.{◌≡◌, ℤ, ◌<◌, List, ◌++◌, length, Option, sym, ◌∙◌, ap, arith}
 use Rattle.pic_num.specs.declared.axis.Axis.{Axis}
 use Rattle.pic_num.specs.declared.mult.Scales.{Scales}
 use Rattle.pic_num.specs.Multiplier.{Multiplier}
-use Rattle.pic_num.specs.Push.{unless}
 use Rattle.pic_num.specs.Space.{Triple}
 use Rattle.pic_grid.specs.declared.stop.Phase.{Phase}
 use Rattle.pic_grid.specs.declared.stop.Stop.{Stop}
@@ -18,11 +16,6 @@ use Rattle.pic_phase.specs.Blocks.{block_in, EachBlock, IsHalved, IsForced, earl
 use Rattle.pic_phase.proofs.EachLaws.{stop_append}
 use Rattle.pic_phase.proofs.RowStopLaws.{row_stop_is}
 use Rattle.pic_phase.proofs.TakenLaws.{HasBlocks, IsMade, taken_edge, taken_value}
-
--- what the answer of a phase in a block says of its stop
-pub stop_of : (o : Option Stop) (r : Result (Unit {0}) Stop) → r ≡ unless o tt → result_err r ≡ o
-stop_of None r is = ap result_err is
-stop_of (Some stop) r is = ap result_err is
 
 -- the values of B after half a step, by those of the lattice
 abbrev pub half_all : Scales → Field → Field → Axis → Triple → ℤ

@@ -18,7 +18,7 @@ use Rattle.pic_grid.proofs.PartLaws.{number_of as part_number, block_has, number
 use Rattle.pic_field.specs.FieldPhases.{cell_above, lowest, least_fault, IsBounded}
 use Rattle.pic_field.specs.LeastStop.{Passes, IsBefore, less_axis, less_z, less_y, less_x}
 use Rattle.pic_field.proofs.LeastStopLaws.{least_stop}
-use Rattle.pic_field.proofs.WholeLaws.{least_fault-same}
+use Rattle.pic_field.proofs.CalmLaws.{least_fault-same}
 use Rattle.pic_phase.specs.Blocks.{block_in, number_of, place_number, earliest, block_stop, row_stop}
 use Rattle.pic_phase.proofs.EarliestLaws.{IsEarliest, earliest_some, earliest_none, earliest_same}
 use Rattle.pic_phase.proofs.OrderLaws.{IsNear, before_less, less_before}

@@ -12,7 +12,7 @@ use Rattle.pic_grid.specs.Cells.{IsWithin}
 use Rattle.pic_grid.specs.PushPhase.{Surroundings, push_stop}
 use Rattle.pic_step.proofs.OnePartLaws.{above_origin, field_same}
 use Rattle.pic_field.specs.FieldPhases.{half_of, full_of, least_fault}
-use Rattle.pic_field.proofs.WholeLaws.{least_fault-same}
+use Rattle.pic_field.proofs.CalmLaws.{least_fault-same}
 use Rattle.pic_tile.specs.CoreState.{particles_of}
 use Rattle.pic_tile.specs.Tile.{TileValue}
 use Rattle.pic_tile.specs.Tiling.{Tiling}

@@ -1,4 +1,4 @@
-use Rattle.std.proofs.Common.{◌≡◌, ◌&&◌, ℕ, sym, ◌∙◌, ap, subst}
+use Rattle.std.proofs.Common.{◌≡◌, ℕ, sym, ◌∙◌, ap, subst}
 use Rattle.pic_num.specs.declared.axis.Axis.TheVariants.{X, Y, Z}
 use Rattle.pic_num.specs.Space.{Triple}
 use Rattle.pic_grid.specs.Cells.{IsWithin}
@@ -6,7 +6,7 @@ use Rattle.pic_grid.specs.Block.{inner_at}
 use Rattle.pic_field.specs.Lines.{OnRow, full_made, line_start}
 use Rattle.pic_field.specs.Planes.{AreRowsDown}
 use Rattle.pic_field.proofs.CurlLaws.{full_x, full_y, full_z}
-use Rattle.pic_field.proofs.LineLaws.{both_true, changed_as, line_changed, line_small}
+use Rattle.pic_field.proofs.LineLaws.{changed_as, line_changed, line_calm}
 use Rattle.pic_field.proofs.electric.full_line.Goals as goal
 use Rattle.pic_field.proofs.electric.full_line.Goals.{After-line_length-count}
 
@@ -53,9 +53,7 @@ returns-clause-changed c =
     line_changed (full_made scales b j e.low) y z e one two three first second third
 
 pub returns-clause-calm : goal.returns-clause-calm
-returns-clause-calm c = λ all.
-    let last = both_true (c.full_row-calm_x.result && c.full_row-calm_y.result) c.full_row-calm_z.result all in
-    let first = both_true c.full_row-calm_x.result c.full_row-calm_y.result last.0 in
-    line_small c.args.step.now.most _ _ c.args.y c.args.z c.full_row-calm_x.new.e c.full_row-calm_y.new.e c.full_row-calm_z.new.e
-    c.full_row-calm_y.ensures.changed
-    c.full_row-calm_z.ensures.changed (c.full_row-calm_x.ensures.calm first.0) (c.full_row-calm_y.ensures.calm first.1) (c.full_row-calm_z.ensures.calm last.1)
+returns-clause-calm c =
+    line_calm c.args.step.now.most _ _ c.args.y c.args.z c.full_row-calm_x.new.e c.full_row-calm_y.new.e c.full_row-calm_z.new.e
+    c.full_row-calm_x.result c.full_row-calm_y.result c.full_row-calm_z.result c.full_row-calm_y.ensures.changed c.full_row-calm_z.ensures.changed
+    c.full_row-calm_x.ensures.calm c.full_row-calm_y.ensures.calm c.full_row-calm_z.ensures.calm

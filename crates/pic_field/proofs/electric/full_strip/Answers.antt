@@ -4,7 +4,7 @@ use Rattle.pic_num.specs.Space.{Triple, Spot}
 use Rattle.pic_grid.specs.Differences.{down}
 use Rattle.pic_field.specs.Lines.{OnLines, OnStrip, Changed, full_made, line_start}
 use Rattle.pic_field.specs.Planes.{corner_before, down_span, IsNextPlane, plane_at}
-use Rattle.pic_field.proofs.LineLaws.{both_true, changed_next, small_next, layers_more}
+use Rattle.pic_field.proofs.LineLaws.{changed_next, calm_next, layers_more}
 use Rattle.pic_field.proofs.electric.full_strip.Goals as goal
 
 pub loop-z-preserved : goal.loop-z-preserved
@@ -12,8 +12,8 @@ loop-z-preserved c =
     let b = c.args.step.now.b.now in
     let n = b.cells in
     let by = c.args.step.now.scales.now.b_to_e in
-    let from = c.args.from in
-    let to = c.args.to in
+    let from = c.args.strip.from in
+    let to = c.args.strip.to in
     let z = c.loop-z.z in
     let old = c.args.e.now in
     let mid = c.loop-z.e in
@@ -32,9 +32,7 @@ loop-z-preserved c =
           before.shaped.size
           (c.full_layer-found.ensures.next (omega (arith, below, size_z))));
       changed = changed_next _ (OnStrip from to z) (OnLines from to z) (OnStrip from to (z + 1)) old mid new before then (layers_more old.size from to z);
-      calm = λ both.
-          let each = both_true c.loop-z.calm c.full_layer-found.result both in
-          small_next (full_made c.args.step.now.scales.now b c.args.step.now.j.now old.low) (OnStrip from to z) (OnLines from to z) (OnStrip from to (z + 1))
-          mid mid new
-          c.args.step.now.most then (c.loop-z.invariant.calm each.0) (c.full_layer-found.ensures.calm each.1) (layers_more mid.size from to z);
+      calm = calm_next (full_made c.args.step.now.scales.now b c.args.step.now.j.now old.low) (OnStrip from to z) (OnLines from to z)
+          (OnStrip from to (z + 1)) mid mid new c.args.step.now.most c.loop-z.calm c.full_layer-found.result then
+          c.loop-z.invariant.calm c.full_layer-found.ensures.calm (layers_more mid.size from to z);
     }

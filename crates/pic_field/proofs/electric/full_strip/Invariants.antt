@@ -10,8 +10,8 @@ abbrev pub invariant-loop-z : goal.invariant-loop-z
 invariant-loop-z l = record {
   far : l.far < 2;
   plane : l.z < l.initial.e.size.z → IsNextPlane l.step.b.now l.step.scales.now.b_to_e
-      (down l.step.b.now.cells Z (corner_before l.step.b.now.cells (line_start l.initial.e.low l.from l.z)))
-      (down_span l.initial.e.size.x) (l.to - l.from) (plane_at l.rooms.planes l.far);
-  changed : Changed (full_made l.step.scales.now l.step.b.now l.step.j.now l.initial.e.low) (OnStrip l.from l.to l.z) l.initial.e l.e;
-  calm : l.calm ≡ true → AreSmall l.step.most (OnStrip l.from l.to l.z) l.e;
+      (down l.step.b.now.cells Z (corner_before l.step.b.now.cells (line_start l.initial.e.low l.strip.from l.z)))
+      (down_span l.initial.e.size.x) (l.strip.to - l.strip.from) (plane_at l.rooms.planes l.far);
+  changed : Changed (full_made l.step.scales.now l.step.b.now l.step.j.now l.initial.e.low) (OnStrip l.strip.from l.strip.to l.z) l.initial.e l.e;
+  calm : l.calm ≡ true → AreSmall l.step.most (OnStrip l.strip.from l.strip.to l.z) l.e;
 }

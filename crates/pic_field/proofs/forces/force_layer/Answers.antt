@@ -1,7 +1,7 @@
 use Rattle.std.proofs.Common.{◌+◌, subst}
 use Rattle.pic_num.specs.Space.{Spot}
-use Rattle.pic_field.specs.Lines.{OnLine, BelowLine, Changed, force_made}
-use Rattle.pic_field.proofs.LineLaws.{changed_next, lines_more}
+use Rattle.pic_field.specs.Lines.{OnLine, Changed, force_made}
+use Rattle.pic_field.proofs.LineLaws.{BelowLine, changed_next, lines_more}
 use Rattle.pic_field.proofs.forces.force_layer.Goals as goal
 
 pub loop-y-preserved : goal.loop-y-preserved

@@ -1,4 +1,5 @@
-use Rattle.pic_field.specs.Lines.{BelowLine, Changed, force_made}
+use Rattle.pic_field.specs.Lines.{Changed, force_made}
+use Rattle.pic_field.proofs.LineLaws.{BelowLine}
 use Rattle.pic_field.proofs.forces.force_layer.Given as goal
 
 -- the lines below y are done

@@ -1,4 +1,4 @@
-use Rattle.std.proofs.Common.{◌≡◌, ◌&&◌, ℕ, sym, ◌∙◌, ap, subst}
+use Rattle.std.proofs.Common.{◌≡◌, ℕ, sym, ◌∙◌, ap, subst}
 use Rattle.pic_num.specs.declared.axis.Axis.TheVariants.{X, Y, Z}
 use Rattle.pic_num.specs.Space.{Triple}
 use Rattle.pic_grid.specs.Cells.{IsWithin}
@@ -6,7 +6,7 @@ use Rattle.pic_grid.specs.Block.{inner_at}
 use Rattle.pic_field.specs.Lines.{OnRow, half_made, line_start}
 use Rattle.pic_field.specs.Planes.{AreRowsUp}
 use Rattle.pic_field.proofs.CurlLaws.{half_x, half_y, half_z}
-use Rattle.pic_field.proofs.LineLaws.{both_true, changed_as, line_changed, line_small}
+use Rattle.pic_field.proofs.LineLaws.{changed_as, line_changed, line_calm}
 use Rattle.pic_field.proofs.magnetic.half_line.Goals as goal
 use Rattle.pic_field.proofs.magnetic.half_line.Goals.{After-line_length-count}
 
@@ -51,9 +51,7 @@ returns-clause-changed c =
     line_changed (half_made scales e b.low) y z b one two three first second third
 
 pub returns-clause-calm : goal.returns-clause-calm
-returns-clause-calm c = λ all.
-    let last = both_true (c.half_row-calm_x.result && c.half_row-calm_y.result) c.half_row-calm_z.result all in
-    let first = both_true c.half_row-calm_x.result c.half_row-calm_y.result last.0 in
-    line_small c.args.step.now.most _ _ c.args.y c.args.z c.half_row-calm_x.new.b c.half_row-calm_y.new.b c.half_row-calm_z.new.b
-    c.half_row-calm_y.ensures.changed
-    c.half_row-calm_z.ensures.changed (c.half_row-calm_x.ensures.calm first.0) (c.half_row-calm_y.ensures.calm first.1) (c.half_row-calm_z.ensures.calm last.1)
+returns-clause-calm c =
+    line_calm c.args.step.now.most _ _ c.args.y c.args.z c.half_row-calm_x.new.b c.half_row-calm_y.new.b c.half_row-calm_z.new.b
+    c.half_row-calm_x.result c.half_row-calm_y.result c.half_row-calm_z.result c.half_row-calm_y.ensures.changed c.half_row-calm_z.ensures.changed
+    c.half_row-calm_x.ensures.calm c.half_row-calm_y.ensures.calm c.half_row-calm_z.ensures.calm

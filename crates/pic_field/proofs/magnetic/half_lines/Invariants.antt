@@ -5,6 +5,6 @@ use Rattle.pic_field.proofs.magnetic.half_lines.Given as goal
 -- the lines below y are done
 abbrev pub invariant-loop-y : goal.invariant-loop-y
 invariant-loop-y l = record {
-  changed : Changed (half_made l.step.scales.now l.step.e.now l.initial.b.low) (OnLines l.from l.y l.z) l.initial.b l.b;
-  calm : l.calm ≡ true → AreSmall l.step.most (OnLines l.from l.y l.z) l.b;
+  changed : Changed (half_made l.step.scales.now l.step.e.now l.initial.b.low) (OnLines l.strip.from l.y l.z) l.initial.b l.b;
+  calm : l.calm ≡ true → AreSmall l.step.most (OnLines l.strip.from l.y l.z) l.b;
 }

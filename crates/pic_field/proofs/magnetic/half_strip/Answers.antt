@@ -2,15 +2,15 @@ use Rattle.std.proofs.Common.{◌≡◌, ◌+◌, ◌-◌, ap, subst, arith}
 use Rattle.pic_num.specs.Space.{Triple, Spot}
 use Rattle.pic_field.specs.Lines.{OnLines, OnStrip, Changed, half_made, line_start}
 use Rattle.pic_field.specs.Planes.{up_span, IsScaledPlane, plane_at}
-use Rattle.pic_field.proofs.LineLaws.{both_true, changed_next, small_next, layers_more}
+use Rattle.pic_field.proofs.LineLaws.{changed_next, calm_next, layers_more}
 use Rattle.pic_field.proofs.magnetic.half_strip.Goals as goal
 
 pub loop-z-preserved : goal.loop-z-preserved
 loop-z-preserved c =
     let e = c.args.step.now.e.now in
     let by = c.args.step.now.scales.now.e_to_b in
-    let from = c.args.from in
-    let to = c.args.to in
+    let from = c.args.strip.from in
+    let to = c.args.strip.to in
     let z = c.loop-z.z in
     let old = c.args.b.now in
     let mid = c.loop-z.b in
@@ -27,8 +27,7 @@ loop-z-preserved c =
           (subst (λ (n : Triple). IsScaledPlane e by (line_start mid.low from (z + 1)) (up_span n.x) (to - from) plane) before.shaped.size
           (c.half_layer-found.ensures.next (omega (arith, below, size_z))));
       changed = changed_next _ (OnStrip from to z) (OnLines from to z) (OnStrip from to (z + 1)) old mid new before then (layers_more old.size from to z);
-      calm = λ both.
-          let each = both_true c.loop-z.calm c.half_layer-found.result both in
-          small_next (half_made c.args.step.now.scales.now e old.low) (OnStrip from to z) (OnLines from to z) (OnStrip from to (z + 1)) mid mid new
-          c.args.step.now.most then (c.loop-z.invariant.calm each.0) (c.half_layer-found.ensures.calm each.1) (layers_more mid.size from to z);
+      calm = calm_next (half_made c.args.step.now.scales.now e old.low) (OnStrip from to z) (OnLines from to z)
+          (OnStrip from to (z + 1)) mid mid new c.args.step.now.most c.loop-z.calm c.half_layer-found.result then
+          c.loop-z.invariant.calm c.half_layer-found.ensures.calm (layers_more mid.size from to z);
     }

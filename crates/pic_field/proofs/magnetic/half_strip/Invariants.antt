@@ -7,8 +7,8 @@ use Rattle.pic_field.proofs.magnetic.half_strip.Given as goal
 abbrev pub invariant-loop-z : goal.invariant-loop-z
 invariant-loop-z l = record {
   near : l.near < 2;
-  plane : l.z < l.initial.b.size.z → IsScaledPlane l.step.e.now l.step.scales.now.e_to_b (line_start l.initial.b.low l.from l.z) (up_span l.initial.b.size.x)
-      (l.to - l.from) (plane_at l.rooms.planes l.near);
-  changed : Changed (half_made l.step.scales.now l.step.e.now l.initial.b.low) (OnStrip l.from l.to l.z) l.initial.b l.b;
-  calm : l.calm ≡ true → AreSmall l.step.most (OnStrip l.from l.to l.z) l.b;
+  plane : l.z < l.initial.b.size.z → IsScaledPlane l.step.e.now l.step.scales.now.e_to_b (line_start l.initial.b.low l.strip.from l.z)
+      (up_span l.initial.b.size.x) (l.strip.to - l.strip.from) (plane_at l.rooms.planes l.near);
+  changed : Changed (half_made l.step.scales.now l.step.e.now l.initial.b.low) (OnStrip l.strip.from l.strip.to l.z) l.initial.b l.b;
+  calm : l.calm ≡ true → AreSmall l.step.most (OnStrip l.strip.from l.strip.to l.z) l.b;
 }

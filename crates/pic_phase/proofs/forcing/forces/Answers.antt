@@ -6,16 +6,24 @@ use Rattle.pic_grid.specs.Gather.{force_of}
 use Rattle.pic_grid.specs.Lattice.{value_at}
 use Rattle.pic_grid.specs.Parts.{ArePartsOf, joined}
 use Rattle.pic_phase.specs.Blocks.{EachBlock, IsAmong, IsForced}
-use Rattle.pic_phase.proofs.TakenLaws.{has_blocks, given_back, all_among, made_zones, made_is}
+use Rattle.pic_phase.proofs.TakenLaws.{HasBlocks, has_blocks, given_back, all_among, made_zones, made_is}
 use Rattle.pic_phase.proofs.HalfLaws.{force_made}
+use Rattle.pic_phase.proofs.forcing.forces.Given.{Over}
 use Rattle.pic_phase.proofs.forcing.forces.Goals as goal
+use Rattle.pic_phase.proofs.forcing.forces.Goals.{After-deref_mut}
+
+-- the blocks of the lattice that is written
+have : (g : Over) (c : After-deref_mut g) → HasBlocks c.args.from.now.cells c.args.to c.into_blocks-blocks.result.items
+have g c =
+    let taken = c.into_blocks-blocks in
+    has_blocks c.args.from.now.cells c.args.to taken.result.items c.requires.cells (subst IsCells c.cells-cells.ensures.value c.useful-workers.ensures.cells)
+    c.parts-parts.ensures.limits taken.ensures.zones taken.ensures.values
 
 pub force_blocks-requires-clause-among : goal.force_blocks-requires-clause-among
 force_blocks-requires-clause-among g c κs within =
     let n = c.args.from.now.cells in
     let taken = c.into_blocks-blocks in
-    let has = has_blocks n c.args.to taken.result.items c.requires.cells (subst IsCells c.cells-cells.ensures.value c.useful-workers.ensures.cells)
-    c.parts-parts.ensures.limits taken.ensures.zones taken.ensures.values in
+    let has = have g (goal.at.force_blocks-requires-clause-among g c).After-deref_mut in
     subst (λ (bs : List BlockValues). All (IsAmong n) bs) (sym c.deref_mut.ensures.value) (all_among n c.args.to taken.result.items has)
 
 pub of_blocks-requires-clause-zones : goal.of_blocks-requires-clause-zones
@@ -24,8 +32,7 @@ of_blocks-requires-clause-zones g c =
     let old = c.into_blocks-blocks.result.items in
     let new = c.force_blocks.new.blocks in
     let taken = c.into_blocks-blocks in
-    let has = has_blocks from.cells c.args.to old c.requires.cells (subst IsCells c.cells-cells.ensures.value c.useful-workers.ensures.cells)
-    c.parts-parts.ensures.limits taken.ensures.zones taken.ensures.values in
+    let has = have g (goal.at.of_blocks-requires-clause-zones g c).After-deref_mut in
     let each = subst (λ (bs : List BlockValues). EachBlock (IsForced c.args.mult from) bs new) c.deref_mut.ensures.value c.force_blocks.ensures in
     let back = given_back taken.result.len new old taken.result.ok.0 each.long in
     subst (λ (bs : List BlockValues). ArePartsOf c.cells-cells.result.n (triple c.parts-parts.result) bs) (sym back)
@@ -38,8 +45,7 @@ returns g c =
     let old = c.into_blocks-blocks.result.items in
     let new = c.force_blocks.new.blocks in
     let taken = c.into_blocks-blocks in
-    let has = has_blocks from.cells c.args.to old c.requires.cells (subst IsCells c.cells-cells.ensures.value c.useful-workers.ensures.cells)
-    c.parts-parts.ensures.limits taken.ensures.zones taken.ensures.values in
+    let has = have g (goal.at.returns g c).After-deref_mut in
     let each = subst (λ (bs : List BlockValues). EachBlock (IsForced c.args.mult from) bs new) c.deref_mut.ensures.value c.force_blocks.ensures in
     let back = given_back taken.result.len new old taken.result.ok.0 each.long in
     made_is from.cells c.args.to old has new (force_of c.args.mult (value_at from)) (force_made c.args.mult from old new each)

@@ -4,16 +4,24 @@ use Rattle.pic_grid.specs.Block.{BlockValues}
 use Rattle.pic_grid.specs.Cells.{IsCells}
 use Rattle.pic_grid.specs.Parts.{ArePartsOf, joined}
 use Rattle.pic_phase.specs.Blocks.{CanAdvance, EachBlock, IsHalved}
-use Rattle.pic_phase.proofs.TakenLaws.{has_blocks, given_back, all_can, made_zones, made_is}
+use Rattle.pic_phase.proofs.TakenLaws.{HasBlocks, has_blocks, given_back, all_can, made_zones, made_is}
 use Rattle.pic_phase.proofs.HalfLaws.{half_all, half_made, half_stop_is}
+use Rattle.pic_phase.proofs.halving.half.Given.{Over}
 use Rattle.pic_phase.proofs.halving.half.Goals as goal
+use Rattle.pic_phase.proofs.halving.half.Goals.{After-deref_mut}
+
+-- the blocks of B
+have : (g : Over) (c : After-deref_mut g) → HasBlocks c.args.e.now.cells c.args.b c.into_blocks-blocks.result.items
+have g c =
+    let taken = c.into_blocks-blocks in
+    has_blocks c.args.e.now.cells c.args.b taken.result.items c.requires.cells (subst IsCells c.cells-cells.ensures.value c.useful-workers.ensures.cells)
+    c.parts-parts.ensures.limits taken.ensures.zones taken.ensures.values
 
 pub half_blocks-requires-clause-can : goal.half_blocks-requires-clause-can
 half_blocks-requires-clause-can g c κs within =
     let n = c.args.e.now.cells in
     let taken = c.into_blocks-blocks in
-    let has = has_blocks n c.args.b taken.result.items c.requires.cells (subst IsCells c.cells-cells.ensures.value c.useful-workers.ensures.cells)
-    c.parts-parts.ensures.limits taken.ensures.zones taken.ensures.values in
+    let has = have g (goal.at.half_blocks-requires-clause-can g c).After-deref_mut in
     subst (λ (bs : List BlockValues). All (CanAdvance n) bs) (sym c.deref_mut.ensures.value)
     (all_can n c.args.b taken.result.items has c.requires.b_small c.requires.cells)
 
@@ -24,8 +32,7 @@ of_blocks-requires-clause-zones g c =
     let old = c.into_blocks-blocks.result.items in
     let new = c.half_blocks.new.blocks in
     let taken = c.into_blocks-blocks in
-    let has = has_blocks e.cells c.args.b old c.requires.cells (subst IsCells c.cells-cells.ensures.value c.useful-workers.ensures.cells)
-    c.parts-parts.ensures.limits taken.ensures.zones taken.ensures.values in
+    let has = have g (goal.at.of_blocks-requires-clause-zones g c).After-deref_mut in
     let each = subst (λ (bs : List BlockValues). EachBlock (IsHalved scales e) bs new) c.deref_mut.ensures.value c.half_blocks.ensures.blocks in
     let back = given_back taken.result.len new old taken.result.ok.0 each.long in
     subst (λ (bs : List BlockValues). ArePartsOf c.cells-cells.result.n (triple c.parts-parts.result) bs) (sym back)
@@ -39,8 +46,7 @@ returns-in-None g c =
     let old = c.into_blocks-blocks.result.items in
     let new = c.half_blocks.new.blocks in
     let taken = c.into_blocks-blocks in
-    let has = has_blocks e.cells c.args.b old c.requires.cells (subst IsCells c.cells-cells.ensures.value c.useful-workers.ensures.cells)
-    c.parts-parts.ensures.limits taken.ensures.zones taken.ensures.values in
+    let has = have g (goal.at.returns-in-None g c).After-deref_mut in
     let each = subst (λ (bs : List BlockValues). EachBlock (IsHalved scales e) bs new) c.deref_mut.ensures.value c.half_blocks.ensures.blocks in
     let back = given_back taken.result.len new old taken.result.ok.0 each.long in (
       made_is e.cells c.args.b old has new (half_all scales e c.args.b) (half_made scales e e.cells c.args.b old new has each)
@@ -59,8 +65,7 @@ returns-in-Some g c =
     let e = c.args.e.now in
     let taken = c.into_blocks-blocks in
     let old = taken.result.items in
-    let has = has_blocks e.cells c.args.b old c.requires.cells (subst IsCells c.cells-cells.ensures.value c.useful-workers.ensures.cells)
-    c.parts-parts.ensures.limits taken.ensures.zones taken.ensures.values in
+    let has = have g (goal.at.returns-in-Some g c).After-deref_mut in
     half_stop_is scales e c.args.phase e.cells c.args.b old c.deref_mut.result.now c.half_blocks.result has c.deref_mut.ensures.value
     c.half_blocks.ensures.stop
     ∙ c.in-Some.is

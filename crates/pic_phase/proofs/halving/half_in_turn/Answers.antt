@@ -6,8 +6,7 @@ use Rattle.pic_grid.specs.Parts.{no_block}
 use Rattle.pic_field.specs.FieldPhases.{half_in}
 use Rattle.pic_phase.specs.Blocks.{CanAdvance, IsHalved, block_in, block_stop, earlier}
 use Rattle.pic_phase.proofs.EachLaws.{stepping_none, stepping_more}
-use Rattle.pic_phase.proofs.EarliestLaws.{earliest_zero, earliest_more}
-use Rattle.pic_phase.proofs.HalfLaws.{stop_of}
+use Rattle.pic_phase.proofs.EarliestLaws.{stop_of, earliest_zero, earliest_more}
 use Rattle.pic_phase.proofs.halving.half_in_turn.Goals as goal
 
 pub loop-i-init : goal.loop-i-init
