@@ -160,7 +160,7 @@ pub reads_up_to : {A C : Type 0} {p : Parser A} {view : C → A} {s d e : ℕ} {
 reads_up_to {p = p} {view = view} {s = s} {x = x} {z = z} {r = r} is h = subst (λ n. Reads view p s n x z r) is h
 
 -- a test that is passed
-tested_true : {A : Type 0} (place cause : ℕ) (test : A → Bool) (x : A × Input) → test x.0 ≡ true → tested place cause test (Ok x) ≡ Ok x
+pub tested_true : {A : Type 0} (place cause : ℕ) (test : A → Bool) (x : A × Input) → test x.0 ≡ true → tested place cause test (Ok x) ≡ Ok x
 tested_true place cause test x e = rw e refl
 
 tested_false : {A : Type 0} (place cause : ℕ) (test : A → Bool) (x : A × Input) → test x.0 ≡ false → tested place cause test (Ok x) ≡ Err (fault place cause)

@@ -18,7 +18,7 @@ use Rattle.pic_grid.specs.declared.stop.Bound.TheVariants.{Value, Force}
 use Rattle.pic_grid.specs.declared.stop.Stop.{Stop}
 use Rattle.pic_grid.specs.declared.stop.Stop.TheVariants.{Field, Push}
 use Rattle.pic_fields.specs.Number.{is_from_to}
-use Rattle.pic_fields.specs.Spells.{Spells}
+use Rattle.pic_fields.proofs.Spells.{Spells}
 use Rattle.pic_fields.proofs.SpellLaws.{spells_bind, spells_mapped, spells_last, spells_checked}
 use Rattle.pic_fields.proofs.NumberLaws.{FitsU32, one_byte, spells_byte, spells_i128}
 use Rattle.pic_dump.specs.DumpText.{phase_code, bound_code, what_code}

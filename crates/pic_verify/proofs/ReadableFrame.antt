@@ -22,7 +22,7 @@ use Rattle.pic_energy.specs.Energies.{energies_of}
 use Rattle.pic_energy.specs.declared.amounts.Energies.{Energies}
 use Rattle.pic_fields.specs.Parser.{input, done, ◌>>=◌, mapped, checked}
 use Rattle.pic_fields.specs.Number.{byte_at}
-use Rattle.pic_fields.specs.Spells.{Spells}
+use Rattle.pic_fields.proofs.Spells.{Spells}
 use Rattle.pic_fields.proofs.NumberLaws.{FitsU32, spells_byte, spells_u32}
 use Rattle.pic_fields.proofs.ReadLaws.{then_ok}
 use Rattle.pic_fields.proofs.SpellLaws.{FitsEach, fits_each, spells_bind, spells_checked}
