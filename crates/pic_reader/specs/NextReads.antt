@@ -7,6 +7,7 @@ use Rattle.pic_energy.specs.declared.amounts.Energies.{Energies}
 use Rattle.pic_fields.specs.declared.read_stop.ReadStop.{ReadStop}
 use Rattle.pic_fields.specs.Reads.{HasRead, HasEnded, Stops}
 use Rattle.pic_dump.specs.Due.{due_after}
+use Rattle.pic_dump.specs.Limits.{longest_end}
 use Rattle.pic_reader.specs.Layout.{LayoutView}
 use Rattle.pic_reader.specs.declared.dump_reader.Next.{Next}
 use Rattle.pic_reader.specs.declared.dump_reader.Next.TheVariants.{Frame, End}
@@ -29,7 +30,7 @@ pub record HasFrame (r : Standing) (before now : Told) (e b : Field) (particles 
 -- how many bytes may be taken for the next record: those of a frame where one is due, and else those of
 -- the longest end record and one behind it
 abbrev pub most_of : LayoutView → Option ℕ → ℕ
-most_of l None = 38
+most_of l None = longest_end + 1
 most_of l (Some step) = 1 + frame_length l
 
 abbrev pub record_most : Standing → ℕ

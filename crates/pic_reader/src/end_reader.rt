@@ -5,21 +5,25 @@ ghost use Rattle.pic_num.specs.Space.{triple};
 ghost use Rattle.pic_grid.specs.Cells.{IsWithin, axis_of};
 ghost use Rattle.pic_fields.specs.Number.{is_from_to};
 ghost use Rattle.pic_fields.specs.Reads.{Reads, ReadsEnd, as_it_is};
+ghost use Rattle.pic_dump.specs.Limits.{most_steps, longest_end};
 ghost use Rattle.pic_reader.specs.EndFields.{code_at, below_at, is_phase, phase_of, bound_of, what_of, phase_at, bound_at, what_at, axis_at, cell_at, bound_limit, what_limit, is_past, past_at, field_stop_at, push_stop_at, is_kind, first_after, done_at, field_end_at, push_end_at, end_at};
 ghost use Rattle.pic_reader.specs.Records.{RecordView, AnEnd, last_record};
 
-use crate::frame_reader::{read_below, read_step};
+use crate::field_reader::{MOST_FORCE, MOST_VALUE};
+use crate::frame_reader::{WRONG_STEP, read_below, read_step};
 use crate::layout::Layout;
 use pic_fields::{ReadStop, read_byte, read_end, read_i128, read_within};
 use pic_grid::{Bound, Cells, EndMark, Phase, Stop};
 use pic_io::Source;
 use pic_num::{Axis, What};
 
-/// The cause of a step that may not stand there.
-const WRONG_STEP: u8 = 4;
-
 /// The cause of a field of the end record outside its values.
 const WRONG_END: u8 = 8;
+
+/// The greatest size of a velocity, and of a turn, that a push doesn't stop at.
+const MOST_SPEED: u128 = 1 << 40;
+
+const MOST_TURN: u128 = 1 << 24;
 
 // Reads a byte from `low` to `high`.
 fn read_code<S: Source>(source: &mut S, place: u64, low: u8, high: u8) -> Result<u8, ReadStop>
@@ -173,8 +177,8 @@ fn bound_limit(bound: Bound) -> u128
     ensures { result ≡ bound_limit bound }
 {
     match bound {
-        Bound::Value => 1237940039285380274899124224,
-        Bound::Force => 17592186044416,
+        Bound::Value => MOST_VALUE,
+        Bound::Force => MOST_FORCE,
     }
 }
 
@@ -182,8 +186,8 @@ fn what_limit(side: u32, what: What) -> u128
     ensures { result ≡ what_limit side what }
 {
     match what {
-        What::Speed => 1099511627776,
-        What::Turn => 16777216,
+        What::Speed => MOST_SPEED,
+        What::Turn => MOST_TURN,
         What::Far => u128::from(side),
     }
 }
@@ -311,7 +315,7 @@ fn is_kind(due: Option<u32>, kind: u8) -> bool
 }
 
 fn first_after(last: Option<u32>) -> u32
-    requires { IfSome last (λ step. step ≤ 1000000) }
+    requires { IfSome last (λ step. step ≤ most_steps) }
     ensures { result ≡ first_after last }
 {
     match last {
@@ -320,7 +324,8 @@ fn first_after(last: Option<u32>) -> u32
     }
 }
 
-/// Reads the end record behind its mark, and the end of the input.
+/// Reads the end record behind its mark, and the end of the input: at most what is left of the longest
+/// end record is taken, and one byte behind it.
 pub fn read_end_record<S: Source>(
     source: &mut S,
     place: u64,
@@ -329,9 +334,9 @@ pub fn read_end_record<S: Source>(
     due: Option<u32>,
 ) -> Result<EndMark, ReadStop>
     requires place { place + 65 < 2 ^ 63 }
-    requires last { IfSome last (λ step. step ≤ 1000000) }
-    ensures { ReadsEnd (λ m. AnEnd m) (end_at layout.now last due last_record) place (place + 37)
-        (S.told source.old) (S.told source.new) result }
+    requires last { IfSome last (λ step. step ≤ most_steps) }
+    ensures { ReadsEnd (λ m. AnEnd m) (end_at layout.now last due last_record) place
+        (place + longest_end) (S.told source.old) (S.told source.new) result }
 {
     let second = place + 1;
     let kind = read_kind(source, place, due)?;

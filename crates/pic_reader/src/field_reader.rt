@@ -20,9 +20,9 @@ use pic_num::{Mult, scale};
 const STRONG_VALUE: u8 = 5;
 
 /// The greatest size of a field value, 2^90, and of a force value, 2^44.
-const MOST_VALUE: u128 = 1237940039285380274899124224;
+pub const MOST_VALUE: u128 = 1 << 90;
 
-const MOST_FORCE: u128 = 17592186044416;
+pub const MOST_FORCE: u128 = 1 << 44;
 
 /// How many values a piece of 65536 bytes has.
 const VALUES_OF_A_PIECE: usize = 4096;

@@ -21,8 +21,8 @@ use pic_grid::{Cells, Snapshot};
 use pic_io::Source;
 use pic_num::Particle;
 
-/// The cause of a step that isn't the one that is due.
-const WRONG_STEP: u8 = 4;
+/// The cause of a step that isn't the one that is due, or may not stand there.
+pub const WRONG_STEP: u8 = 4;
 
 /// The cause of a position outside the box, or a velocity outside its range.
 const OUT_OF_RANGE: u8 = 6;

@@ -7,6 +7,7 @@ ghost use Rattle.pic_grid.specs.Species.{HeadView, IsName, IsKind, AreHeads};
 ghost use Rattle.pic_fields.specs.Parser.{each};
 ghost use Rattle.pic_fields.specs.Reads.{Reads, as_it_is};
 ghost use Rattle.pic_dump.specs.Header.{IsGrid_1, HasLimits};
+ghost use Rattle.pic_dump.specs.Limits.{header_length};
 ghost use Rattle.pic_reader.specs.Fields.{is_between, between};
 ghost use Rattle.pic_reader.specs.HeaderFields.{IsNewHead, cells_at, mult_at, scales_at, kind_at, name_of, is_name_field, is_new_name_field, name_at, particles_of, head_at, heads_at, header_at, header_most};
 ghost use Rattle.pic_reader.specs.HeadReads.{HeadReads, TakesWithin};
@@ -23,8 +24,11 @@ use std::alloc::Global;
 /// The cause of a wrong byte in the mark of a dump.
 const WRONG_LETTER: u8 = 1;
 
+/// The bytes before the species.
+pub const FRONT_BYTES: u64 = 64;
+
 /// The bytes of a species.
-const HEAD_BYTES: u64 = 60;
+pub const HEAD_BYTES: u64 = 60;
 
 /// The most steps of a run.
 const MOST_STEPS: u32 = 1000000;
@@ -221,8 +225,8 @@ fn read_heads<S: Source>(alloc: Global, source: &mut S, place: u64) -> Result<Ve
 
 /// Reads the header, field by field.
 pub fn read_header<S: Source>(alloc: Global, source: &mut S) -> Result<Header, HeadStop>
-    ensures reads { HeadReads (λ h. h) header_at 0 (λ h. 64 + 60 * length h.species) header_most
-        (S.told source.old) (S.told source.new) result }
+    ensures reads { HeadReads (λ h. h) header_at 0 (λ h. header_length (length h.species))
+        header_most (S.told source.old) (S.told source.new) result }
     ensures within { TakesWithin header_at 0 (S.told source.old) (S.told source.new) }
     ensures few { IfOk result (λ h. length h.species ≤ most_species) }
 {
