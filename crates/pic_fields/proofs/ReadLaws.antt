@@ -27,7 +27,7 @@ pub some_rest : (t : Told) → (rest : List ℕ) × Left t rest
 some_rest t = rest_in t.bytes
 
 -- a count that stayed and then rose
-rose_after : (x y z : Told) → Calm x y → Rose y z → Rose x z
+pub rose_after : (x y z : Told) → Calm x y → Rose y z → Rose x z
 rose_after x y z calm rose = subst (λ n. raised n ≤ z.faults) calm rose
 
 -- what was taken by two calls, one after the other
@@ -42,7 +42,7 @@ moves_then {x = x} {y = y} {z = z} first second =
       most = omega (arith, size, one, two);
     }
 
-same_front : (known : Option (List ℕ)) → known ≡ with_front [] known
+pub same_front : (known : Option (List ℕ)) → known ≡ with_front [] known
 same_front None = refl
 same_front (Some bytes) = refl
 

@@ -144,10 +144,7 @@ spells_field n = record {
   ];
 }
 
--- a format that is the same, and a spelling that is the same
-pub spells_by : {A : Type 0} {p q : Parser A} {s : A → List ℕ} {F : A → Type 0} → p ≡ q → Spells q s F → Spells p s F
-spells_by {s = s} {F = F} is h = subst (λ f. Spells f s F) (sym is) h
-
+-- a spelling that is the same
 pub spells_so : {A : Type 0} {p : Parser A} {s t : A → List ℕ} {F G : A → Type 0} → ((a : A) → G a → F a) → ((a : A) → F a → G a) → ((a : A) → F a → t a ≡ s a)
     → Spells p s F → Spells p t G
 spells_so {p = p} {s = s} {t = t} from to is h = record {
