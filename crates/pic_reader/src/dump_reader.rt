@@ -170,12 +170,12 @@ impl DumpReader {
             last,
         } = self;
         let due = due_after(layout.steps(), layout.every(), last);
-        let second = place + 1;
+        let body_place = place + 1;
         let tag = read_tag(source, place, due, last)?;
         if tag == FRAME {
             let step = due.unwrap_or(0);
-            let energies = read_frame(source, second, &layout, step, state)?;
-            let place = second + frame_length(&layout);
+            let energies = read_frame(source, body_place, &layout, step, state)?;
+            let place = body_place + frame_length(&layout);
             let reader = DumpReader {
                 layout,
                 place,
@@ -183,7 +183,7 @@ impl DumpReader {
             };
             return Ok(Next::Frame(reader, step, energies));
         }
-        let mark = read_end_record(source, second, &layout, last, due)?;
+        let mark = read_end_record(source, body_place, &layout, last, due)?;
         Ok(Next::End(mark))
     }
 }

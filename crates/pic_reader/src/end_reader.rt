@@ -142,12 +142,12 @@ fn read_cell<S: Source>(source: &mut S, place: u64, cells: Cells) -> Result<[u32
     ensures { Reads as_it_is (cell_at cells.n) place (place + 12) (S.told source.old)
         (S.told source.new) result }
 {
-    let second = place + 4;
-    let third = second + 4;
+    let y_place = place + 4;
+    let z_place = y_place + 4;
     let [nx, ny, nz] = cells.numbers();
     let x = read_below(source, place, WRONG_END, nx)?;
-    let y = read_below(source, second, WRONG_END, ny)?;
-    let z = read_below(source, third, WRONG_END, nz)?;
+    let y = read_below(source, y_place, WRONG_END, ny)?;
+    let z = read_below(source, z_place, WRONG_END, nz)?;
     Ok([x, y, z])
 }
 
@@ -198,15 +198,15 @@ fn read_field_stop<S: Source>(source: &mut S, place: u64, layout: &Layout) -> Re
     ensures { Reads as_it_is (field_stop_at layout.now) place (place + 31) (S.told source.old)
         (S.told source.new) result }
 {
-    let second = place + 1;
-    let third = second + 1;
-    let fourth = third + 1;
-    let fifth = fourth + 12;
+    let bound_place = place + 1;
+    let axis_place = bound_place + 1;
+    let cell_place = axis_place + 1;
+    let value_place = cell_place + 12;
     let phase = read_phase(source, place)?;
-    let bound = read_bound(source, second)?;
-    let axis = read_axis(source, third)?;
-    let cell = read_cell(source, fourth, layout.cells())?;
-    let value = read_past(source, fifth, bound_limit(bound))?;
+    let bound = read_bound(source, bound_place)?;
+    let axis = read_axis(source, axis_place)?;
+    let cell = read_cell(source, cell_place, layout.cells())?;
+    let value = read_past(source, value_place, bound_limit(bound))?;
     Ok(Stop::Field {
         phase,
         bound,
@@ -222,13 +222,13 @@ fn read_push_stop<S: Source>(source: &mut S, place: u64, layout: &Layout) -> Res
     ensures { Reads as_it_is (push_stop_at layout.now) place (place + 22) (S.told source.old)
         (S.told source.new) result }
 {
-    let second = place + 4;
-    let third = second + 1;
-    let fourth = third + 1;
+    let what_place = place + 4;
+    let axis_place = what_place + 1;
+    let value_place = axis_place + 1;
     let id = read_below(source, place, WRONG_END, layout.particles())?;
-    let what = read_what(source, second)?;
-    let axis = read_axis(source, third)?;
-    let value = read_past(source, fourth, what_limit(layout.side(), what))?;
+    let what = read_what(source, what_place)?;
+    let axis = read_axis(source, axis_place)?;
+    let value = read_past(source, value_place, what_limit(layout.side(), what))?;
     Ok(Stop::Push {
         id,
         what,
@@ -243,9 +243,9 @@ fn read_done<S: Source>(source: &mut S, place: u64, layout: &Layout) -> Result<E
     ensures { ReadsEnd (λ m. AnEnd m) (done_at layout.now last_record) place (place + 4 + 1)
         (S.told source.old) (S.told source.new) result }
 {
-    let second = place + 4;
+    let end_place = place + 4;
     let steps = read_step(source, place, layout.steps())?;
-    read_end(source, second)?;
+    read_end(source, end_place)?;
     Ok(EndMark::Done { steps })
 }
 
@@ -261,11 +261,11 @@ fn read_field_end<S: Source>(
     ensures { ReadsEnd (λ m. AnEnd m) (field_end_at layout.now low high last_record) place
         (place + 4 + 31 + 1) (S.told source.old) (S.told source.new) result }
 {
-    let second = place + 4;
-    let third = second + 31;
+    let stop_place = place + 4;
+    let end_place = stop_place + 31;
     let step = read_within(source, place, WRONG_STEP, low, high)?;
-    let stop = read_field_stop(source, second, layout)?;
-    read_end(source, third)?;
+    let stop = read_field_stop(source, stop_place, layout)?;
+    read_end(source, end_place)?;
     Ok(EndMark::Stopped { step, stop })
 }
 
@@ -281,11 +281,11 @@ fn read_push_end<S: Source>(
     ensures { ReadsEnd (λ m. AnEnd m) (push_end_at layout.now low high last_record) place
         (place + 4 + 22 + 1) (S.told source.old) (S.told source.new) result }
 {
-    let second = place + 4;
-    let third = second + 22;
+    let stop_place = place + 4;
+    let end_place = stop_place + 22;
     let step = read_within(source, place, WRONG_STEP, low, high)?;
-    let stop = read_push_stop(source, second, layout)?;
-    read_end(source, third)?;
+    let stop = read_push_stop(source, stop_place, layout)?;
+    read_end(source, end_place)?;
     Ok(EndMark::Stopped { step, stop })
 }
 
@@ -338,15 +338,15 @@ pub fn read_end_record<S: Source>(
     ensures { ReadsEnd (λ m. AnEnd m) (end_at layout.now last due last_record) place
         (place + longest_end) (S.told source.old) (S.told source.new) result }
 {
-    let second = place + 1;
+    let step_place = place + 1;
     let kind = read_kind(source, place, due)?;
     let low = first_after(last);
     let high = due.unwrap_or(0);
     if kind == 0 {
-        return read_done(source, second, layout);
+        return read_done(source, step_place, layout);
     }
     if kind == 1 {
-        return read_field_end(source, second, layout, low, high);
+        return read_field_end(source, step_place, layout, low, high);
     }
-    read_push_end(source, second, layout, low, high)
+    read_push_end(source, step_place, layout, low, high)
 }

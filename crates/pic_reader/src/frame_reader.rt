@@ -84,13 +84,13 @@ fn read_position<S: Source>(source: &mut S, place: u64, cells: Cells) -> Result<
         (S.told source.old) (S.told source.new) result }
     ensures inside { IfOk result (λ x. IsInBox cells.side cells.n (triple x)) }
 {
-    let second = place + 4;
-    let third = second + 4;
+    let y_place = place + 4;
+    let z_place = y_place + 4;
     let [nx, ny, nz] = cells.numbers();
     let side = cells.sub().side();
     let x = read_coordinate(source, place, side, nx)?;
-    let y = read_coordinate(source, second, side, ny)?;
-    let z = read_coordinate(source, third, side, nz)?;
+    let y = read_coordinate(source, y_place, side, ny)?;
+    let z = read_coordinate(source, z_place, side, nz)?;
     Ok([x, y, z])
 }
 
@@ -136,11 +136,11 @@ fn read_velocity<S: Source>(source: &mut S, place: u64, side: u32) -> Result<[i3
     ensures { Reads as_it_is (velocity_at side) place (place + 12) (S.told source.old)
         (S.told source.new) result }
 {
-    let second = place + 4;
-    let third = second + 4;
+    let y_place = place + 4;
+    let z_place = y_place + 4;
     let x = read_speed(source, place, side)?;
-    let y = read_speed(source, second, side)?;
-    let z = read_speed(source, third, side)?;
+    let y = read_speed(source, y_place, side)?;
+    let z = read_speed(source, z_place, side)?;
     Ok([x, y, z])
 }
 
@@ -158,10 +158,10 @@ fn read_particle<S: Source>(
     ensures species { IfOk result (λ p. IsOfKinds layout.now.kinds p) }
     ensures place { IfOk result (λ p. IsPlaced layout.now.side layout.now.cells p) }
 {
-    let second = place + 12;
+    let velocity_place = place + 12;
     let species = species_at(layout.counts(), id);
     let x = read_position(source, place, layout.cells())?;
-    let v = read_velocity(source, second, layout.side())?;
+    let v = read_velocity(source, velocity_place, layout.side())?;
     Ok(Particle { id, species, x, v })
 }
 
@@ -297,11 +297,11 @@ fn read_energies<S: Source>(
     ensures { Reads as_it_is (energies_at want) place (place + 48) (S.told source.old)
         (S.told source.new) result }
 {
-    let second = place + 16;
-    let third = second + 16;
+    let electric_place = place + 16;
+    let magnetic_place = electric_place + 16;
     let kinetic = read_energy(source, place, want.kinetic)?;
-    let electric = read_energy(source, second, want.electric)?;
-    let magnetic = read_energy(source, third, want.magnetic)?;
+    let electric = read_energy(source, electric_place, want.electric)?;
+    let magnetic = read_energy(source, magnetic_place, want.magnetic)?;
     Ok(Energies {
         kinetic,
         electric,
@@ -370,14 +370,19 @@ pub fn read_frame<S: Source>(
     ensures particles { length state.new.particles.items ≡ length state.old.particles.items }
 {
     let values = 3 * u64::from(layout.cells().count());
-    let second = place + 4;
-    let third = second + 16 * values;
-    let fourth = third + 16 * values;
-    let fifth = fourth + 24 * u64::from(layout.particles());
+    let e_place = place + 4;
+    let b_place = e_place + 16 * values;
+    let particles_place = b_place + 16 * values;
+    let energies_place = particles_place + 24 * u64::from(layout.particles());
     read_step(source, place, due)?;
-    read_field(source, second, layout.scales().e_force, &mut state.e)?;
-    read_field(source, third, layout.scales().b_force, &mut state.b)?;
-    read_particles(source, fourth, layout, state.particles.as_mut_slice())?;
+    read_field(source, e_place, layout.scales().e_force, &mut state.e)?;
+    read_field(source, b_place, layout.scales().b_force, &mut state.b)?;
+    read_particles(
+        source,
+        particles_place,
+        layout,
+        state.particles.as_mut_slice(),
+    )?;
     let want = energies(layout.scales(), layout.kinds(), state);
-    read_piece_of_energies(source, fifth, want)
+    read_piece_of_energies(source, energies_place, want)
 }
