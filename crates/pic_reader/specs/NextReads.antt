@@ -45,11 +45,6 @@ NextOf r before now e b particles (Err stop) = Stops (record_at r.layout r.last)
 pub record NextReads (r : Standing) (before now : Told) (e b : Field) (particles : List Particle) (result : Result Next ReadStop) : Type 0 where
   pub answer : NextOf r before now e b particles result
 
--- the reader behind a frame reads the same dump
-abbrev pub IsBehind : Standing → Next → Type 0
-IsBehind r (Frame behind step energies) = behind.layout ≡ r.layout
-IsBehind r (End mark) = ⊤
-
 -- so, where the next record is the end
 abbrev pub AtEnd : Next → Type 0 → Type 0
 AtEnd (Frame behind step energies) IsSo = ⊤

@@ -10,7 +10,7 @@ ghost use Rattle.pic_reader.specs.FrameFields.{frame_length, IsSameShape};
 ghost use Rattle.pic_reader.specs.HeaderFields.{header_at, header_most};
 ghost use Rattle.pic_reader.specs.HeadReads.{HeadReads, TakesWithin};
 ghost use Rattle.pic_reader.specs.Layout.{IsLayout, layout_of};
-ghost use Rattle.pic_reader.specs.NextReads.{NextReads, IsBehind, AtEnd};
+ghost use Rattle.pic_reader.specs.NextReads.{NextReads, AtEnd};
 ghost use Rattle.pic_reader.specs.Records.{is_tag};
 
 use crate::due::due_after;
@@ -156,7 +156,6 @@ impl DumpReader {
         requires particles { length state.old.particles.items ≡ sum self.layout.counts }
         ensures reads { NextReads self (S.told source.old) (S.told source.new)
             state.new.e state.new.b state.new.particles.items result }
-        ensures behind { IfOk result (λ n. IsBehind self n) }
         ensures e { IsSameShape state.old.e state.new.e }
         ensures b { IsSameShape state.old.b state.new.b }
         ensures particles { length state.new.particles.items ≡ length state.old.particles.items }
