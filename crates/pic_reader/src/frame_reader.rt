@@ -1,16 +1,15 @@
 //! A frame of a dump, read.
 
-ghost use Rattle.std.specs.Prelude.{◌≡◌, pos, ◌-ℤ◌, ◌+◌, ◌-◌, ◌*◌, ◌<◌, ◌≤◌, ◌^◌, All, take, drop, length, sum, nat_eq, IfOk, OnOk};
+ghost use Rattle.std.specs.Prelude.{◌≡◌, pos, ◌-ℤ◌, ◌+◌, ◌-◌, ◌*◌, ◌<◌, ◌≤◌, ◌^◌, All, length, sum, nat_eq, IfOk, OnOk};
 ghost use Rattle.pic_num.specs.Limits.{most_side, most_cells_of_axis};
 ghost use Rattle.pic_num.specs.Velocity.{too_fast};
 ghost use Rattle.pic_num.specs.Space.{triple};
 ghost use Rattle.pic_grid.specs.Hat.{IsInBox};
-ghost use Rattle.pic_fields.specs.Pieces.{each_behind};
 ghost use Rattle.pic_fields.specs.Reads.{Reads, always, as_it_is};
 ghost use Rattle.pic_energy.specs.Energies.{IsOfKinds};
 ghost use Rattle.pic_reader.specs.Fields.{is_below, below, the_step};
 ghost use Rattle.pic_reader.specs.FrameFields.{coordinate_at, position_at, velocity_at, speed_at, particle_of, particle_at, particles_at, energy_at, energies_at, frame_of, frame_at, frame_length, IsSameShape, IsPlaced, IsHeld};
-ghost use Rattle.pic_reader.specs.Firsts.{FirstAre};
+ghost use Rattle.pic_reader.specs.Parts.{ReadsPart, FirstAreHeld};
 
 use crate::field_reader::read_field;
 use crate::head_reader::read_between;
@@ -178,17 +177,10 @@ fn read_some_particles<S: Source>(
     requires end { first + count < 2 ^ 32 }
     requires count { first + count ≤ sum layout.now.counts }
     requires length { length particles.old ≡ sum layout.now.counts }
-    requires species { FirstAre (IsOfKinds layout.now.kinds) first particles.old }
-    requires places { FirstAre (IsPlaced layout.now.side layout.now.cells) first particles.old }
-    ensures reads { Reads (always (drop first (take (first + count) particles.new)))
-        (each_behind (take first particles.old) count (particle_at layout.now)) place
-        (place + 24 * count) (S.told source.old) (S.told source.new) result }
-    ensures length { length particles.new ≡ length particles.old }
-    ensures front { take first particles.new ≡ take first particles.old }
-    ensures species { OnOk result
-        (FirstAre (IsOfKinds layout.now.kinds) (first + count) particles.new) }
-    ensures places { OnOk result
-        (FirstAre (IsPlaced layout.now.side layout.now.cells) (first + count) particles.new) }
+    requires held { FirstAreHeld layout.now first particles.old }
+    ensures part { ReadsPart (particle_at layout.now) 24 first count place
+        (S.told source.old) (S.told source.new) particles.old particles.new result }
+    ensures held { OnOk result (FirstAreHeld layout.now (first + count) particles.new) }
 {
     for index in 0..count {
         let id = first + index;
@@ -212,18 +204,11 @@ fn read_piece_of_particles<S: Source>(
     requires end { first + count < 2 ^ 32 }
     requires count { first + count ≤ sum layout.now.counts }
     requires length { length particles.old ≡ sum layout.now.counts }
-    requires species { FirstAre (IsOfKinds layout.now.kinds) first particles.old }
-    requires places { FirstAre (IsPlaced layout.now.side layout.now.cells) first particles.old }
+    requires held { FirstAreHeld layout.now first particles.old }
     requires room { length room.old ≡ 24 * count }
-    ensures reads { Reads (always (drop first (take (first + count) particles.new)))
-        (each_behind (take first particles.old) count (particle_at layout.now)) place
-        (place + 24 * count) (S.told source.old) (S.told source.new) result }
-    ensures length { length particles.new ≡ length particles.old }
-    ensures front { take first particles.new ≡ take first particles.old }
-    ensures species { OnOk result
-        (FirstAre (IsOfKinds layout.now.kinds) (first + count) particles.new) }
-    ensures places { OnOk result
-        (FirstAre (IsPlaced layout.now.side layout.now.cells) (first + count) particles.new) }
+    ensures part { ReadsPart (particle_at layout.now) 24 first count place
+        (S.told source.old) (S.told source.new) particles.old particles.new result }
+    ensures held { OnOk result (FirstAreHeld layout.now (first + count) particles.new) }
 {
     let taken = fill(source, room)?;
     let mut piece = Piece::new(&room[..taken]);
