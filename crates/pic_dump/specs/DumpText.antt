@@ -65,9 +65,16 @@ heads_bytes heads = flat_map head_bytes heads
 unfoldable pub header_bytes : HeaderView → List ℕ
 header_bytes h = front_bytes h ++ heads_bytes h.species
 
+-- the marks of a frame, F, and of the end record, E
+abbrev pub frame_tag : ℕ
+frame_tag = 70
+
+abbrev pub end_tag : ℕ
+end_tag = 69
+
 -- the mark of a frame, and its step
 unfoldable pub start_bytes : ℕ → List ℕ
-start_bytes step = codes "F" ++ u32_bytes step
+start_bytes step = frame_tag ∷ [] ++ u32_bytes step
 
 -- the values of a field, in the order of places
 unfoldable pub values_bytes : List ℤ → List ℕ
@@ -116,13 +123,13 @@ what_code Far = 3
 
 -- the end of a run that is done: the mark, kind 0, and the steps
 unfoldable pub done_bytes : ℕ → List ℕ
-done_bytes steps = codes "E" ++ 0 ∷ [] ++ u32_bytes steps
+done_bytes steps = end_tag ∷ [] ++ 0 ∷ [] ++ u32_bytes steps
 
 -- of one that a field value stopped: the mark, kind 1, the step, the phase, the bound, the axis, the
 -- cell, and the value or force value
 unfoldable pub field_stop_bytes : ℕ → Phase → Bound → Axis → Triple → ℤ → List ℕ
 field_stop_bytes step phase bound axis cell value =
-    codes "E"
+    end_tag ∷ []
     ++ 1 ∷ []
     ++ u32_bytes step
     ++ phase_code phase ∷ []
@@ -137,7 +144,7 @@ field_stop_bytes step phase bound axis cell value =
 -- large, the axis, and the number there
 unfoldable pub push_stop_bytes : ℕ → ℕ → What → Axis → ℤ → List ℕ
 push_stop_bytes step id what axis value =
-    codes "E"
+    end_tag ∷ []
     ++ 2 ∷ []
     ++ u32_bytes step
     ++ u32_bytes id

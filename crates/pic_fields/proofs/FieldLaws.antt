@@ -8,7 +8,7 @@ use Rattle.pic_io.specs.Told.{Told}
 use Rattle.pic_io.specs.Source.{with_front, IsAtEnd}
 use Rattle.pic_fields.specs.Parser.{input, fault, field, cut_short, too_many, finished}
 use Rattle.pic_fields.specs.Reads.{Left, Moves, HasRead, Fails, HasEnded}
-use Rattle.pic_fields.specs.Fills.{Filled, Breaks}
+use Rattle.pic_fields.specs.Fills.{Filled}
 use Rattle.pic_fields.proofs.ReadLaws.{some_rest}
 
 -- what was left before some bytes were taken
@@ -36,9 +36,6 @@ filled_moves before now room n place count is filled =
     let size = length-take-le count room most in
     record { front = take count room; moved = filled.taken; most = omega (arith, size, most, is) }
 
-pub broken_moves : (before now : Told) (room : List ℕ) (n place : ℕ) → length room ≡ n → Breaks before now room → Moves place (place + n) before now
-broken_moves before now room n place is breaks = let most = breaks.most in record { front = breaks.front; moved = breaks.moved; most = omega (arith, most, is) }
-
 pub read_field : (before now : Told) (room : List ℕ) (n place count : ℕ) → length room ≡ n → Filled before now room count → n ≤ count
     → HasRead (field n) place before room (place + n) now
 read_field before now room n place count is filled all =
@@ -49,10 +46,6 @@ read_field before now room n place count is filled all =
       moves = filled_moves before now room (length room) place count refl filled;
       reads = λ rest left. (room ++ rest, left_before before.bytes now.bytes room rest taken left, field_is place room rest);
     })
-
--- at the end nothing is left
-left_none : (now : Told) → IsAtEnd now → Left now []
-left_none now end = end
 
 -- what was taken is all there was
 pub all_taken : (before now : Told) (front : List ℕ) → before.bytes ≡ with_front front now.bytes → IsAtEnd now → Left before front

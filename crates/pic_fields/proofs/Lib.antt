@@ -1,7 +1,9 @@
 pub mod ReadLaws
+pub mod Fronts
 pub mod FieldLaws
 pub mod EachLaws
 pub mod EndLaws
+pub mod Spells
 pub mod SpellLaws
 pub mod NumberLaws
 pub mod LengthLaws

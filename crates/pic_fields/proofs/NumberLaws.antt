@@ -15,7 +15,8 @@ use mir.Val.{SFits}
 use Rattle.pic_num.specs.Bytes.{u32_bytes, i32_bytes, u128_bytes, i128_bytes}
 use Rattle.pic_fields.specs.Parser.{mapped, field}
 use Rattle.pic_fields.specs.Number.{byte_of, u32_of, i32_of, u128_of, i128_of, byte_at, u32_at, i32_at, u128_at, i128_at, is_from_to, within, letter, exactly}
-use Rattle.pic_fields.specs.Spells.{IsBytes, Spells}
+use Rattle.pic_fields.specs.Bytes.{IsBytes}
+use Rattle.pic_fields.proofs.Spells.{Spells}
 use Rattle.pic_fields.proofs.SpellLaws.{IsField, FitsEach, spells_field, spells_mapped, spells_checked, spells_so, spells_each, fits_each}
 
 -- bytes of one length that a value is read from

@@ -27,7 +27,7 @@ pub some_rest : (t : Told) → (rest : List ℕ) × Left t rest
 some_rest t = rest_in t.bytes
 
 -- a count that stayed and then rose
-rose_after : (x y z : Told) → Calm x y → Rose y z → Rose x z
+pub rose_after : (x y z : Told) → Calm x y → Rose y z → Rose x z
 rose_after x y z calm rose = subst (λ n. raised n ≤ z.faults) calm rose
 
 -- what was taken by two calls, one after the other
@@ -42,7 +42,7 @@ moves_then {x = x} {y = y} {z = z} first second =
       most = omega (arith, size, one, two);
     }
 
-same_front : (known : Option (List ℕ)) → known ≡ with_front [] known
+pub same_front : (known : Option (List ℕ)) → known ≡ with_front [] known
 same_front None = refl
 same_front (Some bytes) = refl
 
@@ -160,7 +160,7 @@ pub reads_up_to : {A C : Type 0} {p : Parser A} {view : C → A} {s d e : ℕ} {
 reads_up_to {p = p} {view = view} {s = s} {x = x} {z = z} {r = r} is h = subst (λ n. Reads view p s n x z r) is h
 
 -- a test that is passed
-tested_true : {A : Type 0} (place cause : ℕ) (test : A → Bool) (x : A × Input) → test x.0 ≡ true → tested place cause test (Ok x) ≡ Ok x
+pub tested_true : {A : Type 0} (place cause : ℕ) (test : A → Bool) (x : A × Input) → test x.0 ≡ true → tested place cause test (Ok x) ≡ Ok x
 tested_true place cause test x e = rw e refl
 
 tested_false : {A : Type 0} (place cause : ℕ) (test : A → Bool) (x : A × Input) → test x.0 ≡ false → tested place cause test (Ok x) ≡ Err (fault place cause)

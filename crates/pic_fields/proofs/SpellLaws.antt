@@ -6,8 +6,9 @@ use Rattle.std.proofs.lemmas.Grind.{flat_map-append}
 use Rattle.std.proofs.Math.Seq.{take-length}
 use Rattle.std.proofs.lemmas.List.{get_or-take, get_or-drop, get_or_past, length-take-le, take-append-drop, take-take, take_more, nil_from_length}
 use Rattle.pic_fields.specs.Parser.{Input, input, Parsed, Parser, fault, done, after, ◌>>=◌, mapped, field, tested, checked, each}
-use Rattle.pic_fields.specs.Spells.{IsBytes, Spells}
-use Rattle.pic_fields.proofs.ReadLaws.{then_ok}
+use Rattle.pic_fields.specs.Bytes.{IsBytes}
+use Rattle.pic_fields.proofs.Spells.{Spells}
+use Rattle.pic_fields.proofs.ReadLaws.{then_ok, tested_true}
 use Rattle.pic_fields.proofs.FieldLaws.{field_is}
 
 -- a value that was read, and what is left
@@ -99,15 +100,12 @@ passed_test {A = A} place cause test (Ok x) a k is = go (test x.0) refl is
     go true e h = (h, ap test (sym (same_read x.0 a x.1 k h).0) ∙ e)
     go false e h = absurd cc
 
-pub passes_test : {A : Type 0} (place cause : ℕ) (test : A → Bool) (x : A × Input) → test x.0 ≡ true → tested place cause test (Ok x) ≡ Ok x
-passes_test place cause test x is = rw is refl
-
 pub spells_checked : {A : Type 0} {p : Parser A} {s : A → List ℕ} {F : A → Type 0} (cause : ℕ) (test : A → Bool)
     → Spells p s F → Spells (checked cause test p) s (λ a. F a × (test a ≡ true))
 unfolding checked
 spells_checked {p = p} {s = s} cause test first = record {
   again = λ place rest a fits. ap (tested place cause test) (first.again place rest a fits.0)
-      ∙ passes_test place cause test (a, input (place + length (s a)) rest) fits.1;
+      ∙ tested_true place cause test (a, input (place + length (s a)) rest) fits.1;
   takes = λ place bytes a k small is. (let (e1, good) = passed_test place cause test (p (input place bytes)) a k is in
       let one = first.takes place bytes a k small e1 in
       record { fits = (one.fits, good); parts = one.parts; small = one.small; place_is = one.place_is });
@@ -146,10 +144,7 @@ spells_field n = record {
   ];
 }
 
--- a format that is the same, and a spelling that is the same
-pub spells_by : {A : Type 0} {p q : Parser A} {s : A → List ℕ} {F : A → Type 0} → p ≡ q → Spells q s F → Spells p s F
-spells_by {s = s} {F = F} is h = subst (λ f. Spells f s F) (sym is) h
-
+-- a spelling that is the same
 pub spells_so : {A : Type 0} {p : Parser A} {s t : A → List ℕ} {F G : A → Type 0} → ((a : A) → G a → F a) → ((a : A) → F a → G a) → ((a : A) → F a → t a ≡ s a)
     → Spells p s F → Spells p t G
 spells_so {p = p} {s = s} {t = t} from to is h = record {

@@ -5,12 +5,6 @@ use Rattle.pic_io.specs.Source.{with_front, IsAtEnd}
 use Rattle.pic_fields.specs.declared.read_stop.ReadStop.{ReadStop}
 use Rattle.pic_fields.specs.declared.read_stop.ReadStop.TheVariants.{ReadFault, BadDump}
 
--- the first n bytes of the room were taken
-pub record Fronts (before now : Told) (room : List ℕ) (n : ℕ) : Type 0 where
-  pub most : n ≤ length room
-  pub taken : before.bytes ≡ with_front (take n room) now.bytes
-  pub calm : Calm before now
-
 -- the first n bytes of the room were taken, fewer than it has only at the end of the input
 pub record Filled (before now : Told) (room : List ℕ) (n : ℕ) : Type 0 where
   pub most : n ≤ length room

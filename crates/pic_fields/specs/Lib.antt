@@ -2,5 +2,5 @@ pub mod Parser
 pub mod Number
 pub mod Reads
 pub mod Fills
-pub mod Spells
+pub mod Bytes
 pub mod Pieces

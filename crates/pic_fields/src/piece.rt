@@ -1,6 +1,6 @@
 //! A piece of the input that was taken ahead, as a source.
 
-ghost use Rattle.std.specs.Prelude.{◌≡◌, ◌≤◌, length, IfOk};
+ghost use Rattle.std.specs.Prelude.{◌≡◌, ◌≤◌, length, min, IfOk};
 ghost use Rattle.pic_io.specs.Told.{HasCause};
 ghost use Rattle.pic_io.specs.Source.{Takes};
 ghost use Rattle.pic_fields.specs.Pieces.{piece_told};
@@ -38,6 +38,8 @@ impl<'a> Source for Piece<'a> {
         ensures bound { IfOk result (λ n. n ≤ length room.new) }
         ensures bytes { Takes (piece_told self.old) (piece_told self.new) room.new result }
         ensures cause { HasCause (piece_told self.old) (piece_told self.new) result }
+
+        ensures count { IfOk result (λ n. n ≡ min (length room.old) (length self.old)) }
     {
         let count = room.len().min(self.bytes.len());
         room[..count].copy_from_slice(&self.bytes[..count]);

@@ -11,6 +11,7 @@ use Rattle.pic_num.specs.declared.axis.Axis.TheVariants.{X, Y, Z}
 use Rattle.pic_num.specs.Bytes.{u32_bytes, i128_bytes}
 use Rattle.pic_num.specs.Space.{Triple, triple, axis_number}
 use Rattle.pic_grid.specs.Cells.{axis_of}
+use Rattle.pic_grid.proofs.CellLaws.{axis_of-number}
 use Rattle.pic_grid.specs.declared.stop.Phase.{Phase}
 use Rattle.pic_grid.specs.declared.stop.Phase.TheVariants.{Half1, Half2, Electric}
 use Rattle.pic_grid.specs.declared.stop.Bound.{Bound}
@@ -18,7 +19,7 @@ use Rattle.pic_grid.specs.declared.stop.Bound.TheVariants.{Value, Force}
 use Rattle.pic_grid.specs.declared.stop.Stop.{Stop}
 use Rattle.pic_grid.specs.declared.stop.Stop.TheVariants.{Field, Push}
 use Rattle.pic_fields.specs.Number.{is_from_to}
-use Rattle.pic_fields.specs.Spells.{Spells}
+use Rattle.pic_fields.proofs.Spells.{Spells}
 use Rattle.pic_fields.proofs.SpellLaws.{spells_bind, spells_mapped, spells_last, spells_checked}
 use Rattle.pic_fields.proofs.NumberLaws.{FitsU32, one_byte, spells_byte, spells_i128}
 use Rattle.pic_dump.specs.DumpText.{phase_code, bound_code, what_code}
@@ -123,15 +124,10 @@ axis_fits X = (omega arith, refl)
 axis_fits Y = (omega arith, refl)
 axis_fits Z = (omega arith, refl)
 
-axis_forth : (a : Axis) → axis_of (axis_number a) ≡ a
-axis_forth X = refl
-axis_forth Y = refl
-axis_forth Z = refl
-
 spells_axis : Spells axis_at (λ a. one_byte (axis_number a)) (λ a. Unit {0})
 unfolding axis_at
 spells_axis =
-    spells_mapped axis_of axis_number (λ a. Unit {0}) (λ a u. axis_fits a) (λ a u. axis_forth a) (λ n f. tt) (λ n f. axis_back n f.1)
+    spells_mapped axis_of axis_number (λ a. Unit {0}) (λ a u. axis_fits a) (λ a u. axis_of-number a) (λ n f. tt) (λ n f. axis_back n f.1)
     (spells_code (is_from_to 0 2))
 
 -- a cell

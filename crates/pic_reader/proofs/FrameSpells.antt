@@ -13,7 +13,7 @@ use Rattle.pic_grid.specs.Cells.{count_of}
 use Rattle.pic_energy.specs.declared.amounts.Energies.{Energies}
 use Rattle.pic_energy.specs.Energies.{energies_of}
 use Rattle.pic_fields.specs.Parser.{mapped}
-use Rattle.pic_fields.specs.Spells.{Spells}
+use Rattle.pic_fields.proofs.Spells.{Spells}
 use Rattle.pic_fields.proofs.SpellLaws.{FitsEach, spells_bind, spells_last, spells_checked, spells_each, spells_so, right_4}
 use Rattle.pic_fields.proofs.NumberLaws.{FitsU32, spells_u32, spells_u128, spells_i128}
 use Rattle.pic_dump.specs.DumpText.{values_bytes, position_bytes, velocity_bytes, particle_bytes, particles_bytes, energies_bytes}

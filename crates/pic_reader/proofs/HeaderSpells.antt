@@ -16,7 +16,8 @@ use Rattle.pic_num.specs.Multiplier.{Multiplier}
 use Rattle.pic_num.specs.Space.{Triple}
 use Rattle.pic_grid.specs.Species.{HeadView, is_name_byte}
 use Rattle.pic_fields.specs.Number.{is_from_to}
-use Rattle.pic_fields.specs.Spells.{IsBytes, Spells}
+use Rattle.pic_fields.specs.Bytes.{IsBytes}
+use Rattle.pic_fields.proofs.Spells.{Spells}
 use Rattle.pic_fields.proofs.SpellLaws.{IsField, FitsEach, spells_bind, spells_mapped, spells_last, spells_checked}
 use Rattle.pic_fields.proofs.SpellLaws.{spells_field, spells_each, spells_so, right_4, right_7}
 use Rattle.pic_fields.proofs.NumberLaws.{FitsU32, spells_within, spells_i32, spells_exactly}

@@ -11,7 +11,9 @@ use Rattle.pic_fields.specs.Parser.{mapped}
 use Rattle.pic_fields.specs.Reads.{Stops}
 use Rattle.pic_fields.proofs.ReadLaws.{stops_up}
 use Rattle.pic_reader.specs.declared.dump_reader.Next.{Next}
+use Rattle.pic_dump.specs.DumpText.{frame_tag, end_tag}
 use Rattle.pic_dump.specs.Due.{due_after}
+use Rattle.pic_dump.specs.Limits.{longest_end}
 use Rattle.pic_reader.specs.Layout.{LayoutView}
 use Rattle.pic_reader.specs.FrameFields.{frame_at, frame_length}
 use Rattle.pic_reader.specs.EndFields.{end_at}
@@ -20,19 +22,20 @@ use Rattle.pic_reader.specs.Standing.{Standing, IsStanding, passed}
 use Rattle.pic_reader.specs.NextReads.{NextReads, most_of, record_most}
 
 -- what stands behind each mark
-pub of_frame : (l : LayoutView) (last due : Option ℕ) (tag : ℕ) → eqb tag 70 ≡ true → behind_tag l last due tag ≡ mapped AFrame (frame_at l (unwrap_or due 0))
+pub of_frame : (l : LayoutView) (last due : Option ℕ) (tag : ℕ) → eqb tag frame_tag ≡ true
+    → behind_tag l last due tag ≡ mapped AFrame (frame_at l (unwrap_or due 0))
 unfolding behind_tag
 of_frame l last due tag is = rw is refl
 
-pub of_end : (l : LayoutView) (last due : Option ℕ) (tag : ℕ) → eqb tag 70 ≡ false → behind_tag l last due tag ≡ end_at l last due last_record
+pub of_end : (l : LayoutView) (last due : Option ℕ) (tag : ℕ) → eqb tag frame_tag ≡ false → behind_tag l last due tag ≡ end_at l last due last_record
 unfolding behind_tag
 of_end l last due tag is = rw is refl
 
 -- an end record's mark is no frame's
-two_marks : (tag : ℕ) → eqb tag 69 ≡ true → eqb tag 70 ≡ true → ⊥
+two_marks : (tag : ℕ) → eqb tag end_tag ≡ true → eqb tag frame_tag ≡ true → ⊥
 two_marks tag end frame =
-    let e = eqb-true tag 69 end in
-    let f = eqb-true tag 70 frame in
+    let e = eqb-true tag end_tag end in
+    let f = eqb-true tag frame_tag frame in
     omega (arith, e, f)
 
 -- a call that stopped
@@ -43,23 +46,23 @@ next_exits r {res = res} less is stops =
     rw (q.1, q.2) (record { answer = stops_up less stops })
 
 -- a frame's mark stands only where a frame is due
-pub due_is : (due last : Option ℕ) (tag : ℕ) → is_tag due last tag ≡ true → eqb tag 70 ≡ true → due ≡ Some (unwrap_or due 0)
+pub due_is : (due last : Option ℕ) (tag : ℕ) → is_tag due last tag ≡ true → eqb tag frame_tag ≡ true → due ≡ Some (unwrap_or due 0)
 due_is None None tag passes frame = absurd (false≢true passes)
 due_is None (Some s) tag passes frame = absurd (two_marks tag passes frame)
 due_is (Some step) last tag passes frame = refl
 
 -- a record has at least so many bytes, and a frame all of its own
-pub most_least : (l : LayoutView) (due : Option ℕ) → 38 ≤ most_of l due
+pub most_least : (l : LayoutView) (due : Option ℕ) → longest_end + 1 ≤ most_of l due
 most_least l None = omega arith
 most_least l (Some step) = omega arith
 
-pub most_frame : (l : LayoutView) (due last : Option ℕ) (tag : ℕ) → is_tag due last tag ≡ true → eqb tag 70 ≡ true → most_of l due ≡ 1 + frame_length l
+pub most_frame : (l : LayoutView) (due last : Option ℕ) (tag : ℕ) → is_tag due last tag ≡ true → eqb tag frame_tag ≡ true → most_of l due ≡ 1 + frame_length l
 most_frame l None None tag passes frame = absurd (false≢true passes)
 most_frame l None (Some s) tag passes frame = absurd (two_marks tag passes frame)
 most_frame l (Some step) last tag passes frame = refl
 
 -- a frame that may stand there comes after the last one
-pub frame_after : (steps every : ℕ) (last : Option ℕ) (tag : ℕ) → 1 ≤ every → is_tag (due_after steps every last) last tag ≡ true → eqb tag 70 ≡ true
+pub frame_after : (steps every : ℕ) (last : Option ℕ) (tag : ℕ) → 1 ≤ every → is_tag (due_after steps every last) last tag ≡ true → eqb tag frame_tag ≡ true
     → passed last ≤ unwrap_or (due_after steps every last) 0
 frame_after steps every None tag least passes frame = omega arith
 frame_after steps every (Some s) tag least passes frame = elim (cases_lt s steps) [
@@ -73,7 +76,7 @@ due_most (Some step) n most = most
 
 -- the reader behind a frame
 pub stands_behind : (r : Standing) (tag count : ℕ) → IsStanding r → count < 2 ^ 29 → is_tag (due_after r.layout.steps r.layout.every r.last) r.last tag ≡ true
-    → eqb tag 70 ≡ true
+    → eqb tag frame_tag ≡ true
     → (step : ℕ) → step ≡ unwrap_or (due_after r.layout.steps r.layout.every r.last) 0 → step ≤ r.layout.steps
     → IsStanding (record { layout = r.layout; place = r.place + 1 + count; last = Some step })
 stands_behind r tag count stands small passes frame step is most =

@@ -13,12 +13,12 @@ use Rattle.pic_grid.specs.declared.stop.EndMark.{EndMark}
 use Rattle.pic_grid.specs.declared.stop.EndMark.TheVariants.{Done, Stopped}
 use Rattle.pic_fields.specs.Parser.{Parser, Input, input, done, ◌>>=◌, mapped, tested, checked, ended, finished}
 use Rattle.pic_fields.specs.Number.{byte_at, u32_at, is_from_to, within}
-use Rattle.pic_fields.specs.Spells.{Spells}
-use Rattle.pic_fields.proofs.ReadLaws.{then_ok}
-use Rattle.pic_fields.proofs.SpellLaws.{spells_bind, spells_last, spells_checked, spells_so, bind_parts, passed_test, passes_test, same_read, right_5}
+use Rattle.pic_fields.proofs.Spells.{Spells}
+use Rattle.pic_fields.proofs.ReadLaws.{then_ok, tested_true}
+use Rattle.pic_fields.proofs.SpellLaws.{spells_bind, spells_last, spells_checked, spells_so, bind_parts, passed_test, same_read, right_5}
 use Rattle.pic_fields.proofs.NumberLaws.{one_byte, spells_byte, spells_u32}
 use Rattle.pic_dump.specs.Due.{due_after}
-use Rattle.pic_dump.specs.DumpText.{phase_code, bound_code, what_code, start_bytes, state_bytes, frame_bytes, values_bytes}
+use Rattle.pic_dump.specs.DumpText.{phase_code, bound_code, what_code, frame_tag, end_tag, start_bytes, state_bytes, frame_bytes, values_bytes}
 use Rattle.pic_dump.specs.DumpText.{particles_bytes, energies_bytes, done_bytes, field_stop_bytes, push_stop_bytes, end_bytes}
 use Rattle.pic_reader.specs.Fields.{wrong_end, wrong_tag, wrong_step, the_step}
 use Rattle.pic_reader.specs.FrameFields.{FrameView, state_at, frame_at}
@@ -174,15 +174,15 @@ end_in (AFrame f) = Done 0
 end_in (AnEnd m) = m
 
 abbrev tag_in : RecordView → ℕ
-tag_in (AFrame f) = 70
-tag_in (AnEnd m) = 69
+tag_in (AFrame f) = frame_tag
+tag_in (AnEnd m) = end_tag
 
 unfoldable pub behind_text : RecordView → List ℕ
 behind_text (AFrame f) = frame_text f
 behind_text (AnEnd m) = end_text m
 
 abbrev is_mark : ℕ → Bool
-is_mark tag = eqb tag 70 || eqb tag 69
+is_mark tag = eqb tag frame_tag || eqb tag end_tag
 
 abbrev behind_at : LayoutView → Bool → Parser RecordView
 behind_at l true = mapped AFrame (frame_step_at l)
@@ -198,14 +198,14 @@ spells_behind l true = spells_so (λ r f. f) (λ r f. f) (λ r f. ap behind_text
 spells_behind l false = spells_so (λ r f. f) (λ r f. f) (λ r f. ap behind_text f.1) (spells_last AnEnd end_in (λ m. refl) (spells_end l))
 
 pub any_record_at : LayoutView → Parser RecordView
-any_record_at l = checked wrong_tag is_mark byte_at >>= (λ tag. behind_at l (eqb tag 70))
+any_record_at l = checked wrong_tag is_mark byte_at >>= (λ tag. behind_at l (eqb tag frame_tag))
 
-tag_is : (l : LayoutView) (tag : ℕ) (v : Bool) (r : RecordView) → eqb tag 70 ≡ v → is_mark tag ≡ true → FitsBehind l v r → tag_in r ≡ tag
-tag_is l tag true r e mark g = ap tag_in g.1 ∙ sym (eqb-true tag 70 e)
-tag_is l tag false r e mark g = ap tag_in g.1 ∙ sym (eqb-true tag 69 (rw e at mark))
+tag_is : (l : LayoutView) (tag : ℕ) (v : Bool) (r : RecordView) → eqb tag frame_tag ≡ v → is_mark tag ≡ true → FitsBehind l v r → tag_in r ≡ tag
+tag_is l tag true r e mark g = ap tag_in g.1 ∙ sym (eqb-true tag frame_tag e)
+tag_is l tag false r e mark g = ap tag_in g.1 ∙ sym (eqb-true tag end_tag (rw e at mark))
 
 abbrev pub FitsRecord : LayoutView → RecordView → Type 0
-FitsRecord l r = FitsByte is_mark (tag_in r) × FitsBehind l (eqb (tag_in r) 70) r
+FitsRecord l r = FitsByte is_mark (tag_in r) × FitsBehind l (eqb (tag_in r) frame_tag) r
 
 -- the text of a record is its mark and what stands behind it
 right_8 : (a b c d e f g h : List ℕ) → a ++ b ++ c ++ d ++ e ++ f ++ g ++ h ≡ a ++ (b ++ (c ++ (d ++ (e ++ (f ++ (g ++ h))))))
@@ -223,7 +223,7 @@ record_text : (l : LayoutView) (r : RecordView) → record_bytes l r ≡ one_byt
 unfolding behind_text frame_text end_text state_text rest_text frame_bytes start_bytes state_bytes end_bytes done_bytes field_stop_bytes push_stop_bytes
     field_stop_text push_stop_text
 record_text l (AFrame f) =
-    ap (λ t. 70 ∷ t) (append_assoc (u32_bytes f.step) (values_bytes f.e ++ values_bytes f.b ++ particles_bytes f.particles) (energies_bytes f.energies))
+    ap (λ t. frame_tag ∷ t) (append_assoc (u32_bytes f.step) (values_bytes f.e ++ values_bytes f.b ++ particles_bytes f.particles) (energies_bytes f.energies))
 record_text l (AnEnd (Done steps)) = refl
 record_text l (AnEnd (Stopped step (Field phase bound axis cell value))) =
     let u = u32_bytes step in
@@ -234,16 +234,16 @@ record_text l (AnEnd (Stopped step (Field phase bound axis cell value))) =
     let p = one_byte (phase_code phase) in
     let b = one_byte (bound_code bound) in
     let a = one_byte (axis_number axis) in
-    ap (λ t. 69 ∷ 1 ∷ t) (right_8 u p b a x y z v ∙ grouped u p b a x y z v)
+    ap (λ t. end_tag ∷ 1 ∷ t) (right_8 u p b a x y z v ∙ grouped u p b a x y z v)
 record_text l (AnEnd (Stopped step (Push id what axis value))) =
-    ap (λ t. 69 ∷ 2 ∷ t) (right_5 (u32_bytes step) (u32_bytes id) (one_byte (what_code what)) (one_byte (axis_number axis)) (i128_bytes value))
+    ap (λ t. end_tag ∷ 2 ∷ t) (right_5 (u32_bytes step) (u32_bytes id) (one_byte (what_code what)) (one_byte (axis_number axis)) (i128_bytes value))
 
 pub spells_record : (l : LayoutView) → Spells (any_record_at l) (record_bytes l) (FitsRecord l)
 unfolding any_record_at
 spells_record l =
     spells_so (λ r f. f) (λ r f. f) (λ r f. record_text l r)
-    (spells_bind tag_in (λ tag r f g. tag_is l tag (eqb tag 70) r refl f.1 g) (spells_checked wrong_tag is_mark spells_byte) (λ tag. spells_behind l
-    (eqb tag 70)))
+    (spells_bind tag_in (λ tag r f g. tag_is l tag (eqb tag frame_tag) r refl f.1 g) (spells_checked wrong_tag is_mark spells_byte) (λ tag. spells_behind l
+    (eqb tag frame_tag)))
 
 -- What a dump's reader takes for a record is one of these.
 both_ok : {A B : Type 0} (p : Parser A) (f : A → Parser B) (i j k : Input) (a : A) (b : B) → p i ≡ Ok (a, j) → f a j ≡ Ok (b, k) → (p >>= f) i ≡ Ok (b, k)
@@ -254,7 +254,7 @@ tested_so : {A : Type 0} (cause : ℕ) (test other : A → Bool) (p : Parser A) 
 unfolding checked
 tested_so cause test other p i j a is =
     let (read, good) = passed_test i.place cause test (p i) a j is in
-    (read, good, λ passes. ap (tested i.place cause other) read ∙ passes_test i.place cause other (a, j) passes)
+    (read, good, λ passes. ap (tested i.place cause other) read ∙ tested_true i.place cause other (a, j) passes)
 
 -- the end of the bytes
 ended_is : {A : Type 0} (a r : A) (place : ℕ) (bytes : List ℕ) (j : Input) → ended a place bytes ≡ Ok (r, j) → (a ≡ r) × (input place bytes ≡ j)
@@ -349,9 +349,9 @@ behind_any l last due false i j r is =
     both_ok (end_kind_at l) (λ m. done (AnEnd m)) i j j m r read (ap (λ s. Ok (s, j)) value)
 
 mark_any : (due last : Option ℕ) (tag : ℕ) → is_tag due last tag ≡ true → is_mark tag ≡ true
-mark_any due last tag is = elim (or_true (is_some due && eqb tag 70) (is_some last && eqb tag 69) is) [
-  | inl frame ↦ (let e = eqb-true tag 70 (and_parts (is_some due) (eqb tag 70) frame).1 in rw e refl)
-  | inr end ↦ (let e = eqb-true tag 69 (and_parts (is_some last) (eqb tag 69) end).1 in rw e refl)
+mark_any due last tag is = elim (or_true (is_some due && eqb tag frame_tag) (is_some last && eqb tag end_tag) is) [
+  | inl frame ↦ (let e = eqb-true tag frame_tag (and_parts (is_some due) (eqb tag frame_tag) frame).1 in rw e refl)
+  | inr end ↦ (let e = eqb-true tag end_tag (and_parts (is_some last) (eqb tag end_tag) end).1 in rw e refl)
 ]
 
 pub record_any : (l : LayoutView) (last : Option ℕ) (i j : Input) (r : RecordView) → record_at l last i ≡ Ok (r, j) → any_record_at l i ≡ Ok (r, j)
@@ -360,5 +360,5 @@ record_any l last i j r is =
     let due = due_after l.steps l.every last in
     let (tag, k, e1, e2) = bind_parts (checked wrong_tag (is_tag due last) byte_at) (behind_tag l last due) i j r is in
     let (read, good, other) = tested_so wrong_tag (is_tag due last) is_mark byte_at i k tag e1 in
-    both_ok (checked wrong_tag is_mark byte_at) (λ n. behind_at l (eqb n 70)) i k j tag r (other (mark_any due last tag good)) (behind_any l last due
-    (eqb tag 70) k j r e2)
+    both_ok (checked wrong_tag is_mark byte_at) (λ n. behind_at l (eqb n frame_tag)) i k j tag r (other (mark_any due last tag good)) (behind_any l last due
+    (eqb tag frame_tag) k j r e2)

@@ -5,7 +5,7 @@ use Rattle.std.proofs.lemmas.Bool.{cases_eq}
 use Rattle.pic_io.specs.Told.{Told}
 use Rattle.pic_io.specs.Source.{with_front}
 use Rattle.pic_fields.specs.Parser.{input, Parsed, Parser, done, after, ◌>>=◌, each}
-use Rattle.pic_fields.specs.Reads.{Moves, HasRead}
+use Rattle.pic_fields.specs.Reads.{Left, Moves, HasRead}
 use Rattle.pic_fields.proofs.ReadLaws.{then_ok, moves_then, moves_none, moves_up, some_rest}
 use Rattle.pic_reader.specs.HeadReads.{reach_of, TakesWithin}
 use Rattle.pic_reader.proofs.RunLaws.{RunsTo, Runs, IsNotBefore, GoesOn, goes_done, goes_then}
@@ -43,7 +43,7 @@ left_known front bytes None is = absurd cc
 left_known front bytes (Some rest) is = (rest, refl)
 
 -- what a source told is what it held
-told_held : (before : Option (List ℕ)) (bytes held : List ℕ) → before ≡ Some bytes → before ≡ option_map (λ _. held) before → held ≡ bytes
+pub told_held : (before : Option (List ℕ)) (bytes held : List ℕ) → before ≡ Some bytes → before ≡ option_map (λ _. held) before → held ≡ bytes
 told_held None bytes held told was = cc
 told_held (Some known) bytes held told was = cc
 
@@ -62,12 +62,18 @@ within_then {p = p} f {s = s} {m = m} {x = x} {y = y} {z = z} {a = a} first seco
       subst (λ r. Moves s (reach_of r) x z) (sym is) (moves_then first.moves (second.moves rest known)));
 }
 
+-- what a part that was read says of the bytes that the source told
+pub read_told : {A : Type 0} {p : Parser A} {s e : ℕ} {x z : Told} {a : A} (bytes : List ℕ) → HasRead p s x a e z → x.bytes ≡ Some bytes
+    → (rest : List ℕ) × Left z rest × (p (input s bytes) ≡ Ok (a, input e rest))
+read_told {p = p} {s = s} {x = x} {z = z} bytes first told =
+    let (rest, left) = some_rest z in
+    let (held, was, e1) = first.reads rest left in
+    (rest, left, ap (λ b. p (input s b)) (sym (told_held x.bytes bytes held told was)) ∙ e1)
+
 -- all of it was read
 pub within_read : {A : Type 0} {p : Parser A} {s e : ℕ} {x z : Told} {a : A} → HasRead p s x a e z → TakesWithin p s x z
-within_read {p = p} {s = s} {e = e} {x = x} {z = z} {a = a} first = record {
-  moves = λ bytes told. (let (rest, left) = some_rest z in
-      let (held, was, e1) = first.reads rest left in
-      let is : p (input s bytes) ≡ Ok (a, input e rest) = ap (λ b. p (input s b)) (sym (told_held x.bytes bytes held told was)) ∙ e1 in
+within_read {s = s} {x = x} {z = z} first = record {
+  moves = λ bytes told. (let (rest, left, is) = read_told bytes first told in
       subst (λ r. Moves s (reach_of r) x z) (sym is) first.moves);
 }
 

@@ -97,7 +97,8 @@ state_at l step =
 unfoldable pub frame_at : LayoutView → ℕ → Parser FrameView
 frame_at l due = the_step due >>= (λ step. state_at l due)
 
--- how many bytes a frame has, behind its mark
+-- how many bytes a frame has, behind its mark: 52 for its step and its energies, 96 for the values of E
+-- and B in a cell, and 24 for a particle
 abbrev pub frame_length : LayoutView → ℕ
 frame_length l = 52 + 96 * count_of l.cells + 24 * sum l.counts
 

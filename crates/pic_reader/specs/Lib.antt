@@ -9,3 +9,4 @@ pub mod Standing
 pub mod NextReads
 pub mod Spelling
 pub mod Firsts
+pub mod Parts

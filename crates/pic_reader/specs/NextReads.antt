@@ -7,6 +7,7 @@ use Rattle.pic_energy.specs.declared.amounts.Energies.{Energies}
 use Rattle.pic_fields.specs.declared.read_stop.ReadStop.{ReadStop}
 use Rattle.pic_fields.specs.Reads.{HasRead, HasEnded, Stops}
 use Rattle.pic_dump.specs.Due.{due_after}
+use Rattle.pic_dump.specs.Limits.{longest_end}
 use Rattle.pic_reader.specs.Layout.{LayoutView}
 use Rattle.pic_reader.specs.declared.dump_reader.Next.{Next}
 use Rattle.pic_reader.specs.declared.dump_reader.Next.TheVariants.{Frame, End}
@@ -29,7 +30,7 @@ pub record HasFrame (r : Standing) (before now : Told) (e b : Field) (particles 
 -- how many bytes may be taken for the next record: those of a frame where one is due, and else those of
 -- the longest end record and one behind it
 abbrev pub most_of : LayoutView → Option ℕ → ℕ
-most_of l None = 38
+most_of l None = longest_end + 1
 most_of l (Some step) = 1 + frame_length l
 
 abbrev pub record_most : Standing → ℕ
@@ -43,11 +44,6 @@ NextOf r before now e b particles (Err stop) = Stops (record_at r.layout r.last)
 -- the next record, the first fault, or that a read failed
 pub record NextReads (r : Standing) (before now : Told) (e b : Field) (particles : List Particle) (result : Result Next ReadStop) : Type 0 where
   pub answer : NextOf r before now e b particles result
-
--- the reader behind a frame reads the same dump
-abbrev pub IsBehind : Standing → Next → Type 0
-IsBehind r (Frame behind step energies) = behind.layout ≡ r.layout
-IsBehind r (End mark) = ⊤
 
 -- so, where the next record is the end
 abbrev pub AtEnd : Next → Type 0 → Type 0

@@ -3,6 +3,7 @@ use Rattle.std.specs.Prelude.{ℕ, ◌&&◌, ◌||◌, Bool, nat_eq, if◌then�
 use Rattle.pic_grid.specs.declared.stop.EndMark.{EndMark}
 use Rattle.pic_fields.specs.Parser.{Parser, ◌>>=◌, checked, mapped, finished}
 use Rattle.pic_fields.specs.Number.{byte_at}
+use Rattle.pic_dump.specs.DumpText.{frame_tag, end_tag}
 use Rattle.pic_dump.specs.Due.{due_after}
 use Rattle.pic_reader.specs.Fields.{wrong_tag}
 use Rattle.pic_reader.specs.Layout.{LayoutView}
@@ -16,7 +17,7 @@ pub data RecordView : Type 0 where
 
 -- F where a frame is due, and E where one went before
 abbrev pub is_tag : Option ℕ → Option ℕ → ℕ → Bool
-is_tag due last tag = (is_some due && nat_eq tag 70) || (is_some last && nat_eq tag 69)
+is_tag due last tag = (is_some due && nat_eq tag frame_tag) || (is_some last && nat_eq tag end_tag)
 
 -- the end record is the last one
 unfoldable pub last_record : EndMark → Parser RecordView
@@ -24,7 +25,7 @@ last_record end = finished (AnEnd end)
 
 -- what stands behind a record's mark
 unfoldable pub behind_tag : LayoutView → Option ℕ → Option ℕ → ℕ → Parser RecordView
-behind_tag l last due tag = if nat_eq tag 70 then mapped AFrame (frame_at l (unwrap_or due 0)) else end_at l last due last_record
+behind_tag l last due tag = if nat_eq tag frame_tag then mapped AFrame (frame_at l (unwrap_or due 0)) else end_at l last due last_record
 
 -- the record after the frame of a step, or after the header
 unfoldable pub record_at : LayoutView → Option ℕ → Parser RecordView

@@ -1,7 +1,7 @@
 -- Laws of a dump's format: a header and each record have one spelling, and none begins another's.
 use Rattle.std.specs.Prelude.{◌≡◌, ℕ, List, ◌++◌, Option, Ok}
 use Rattle.pic_fields.specs.Parser.{Input, input}
-use Rattle.pic_fields.specs.Spells.{IsBytes}
+use Rattle.pic_fields.specs.Bytes.{IsBytes}
 use Rattle.pic_dump.specs.DumpText.{header_bytes, frame_bytes, end_bytes}
 use Rattle.pic_dump.specs.Header.{HeaderView}
 use Rattle.pic_reader.specs.Layout.{LayoutView}

@@ -2,11 +2,12 @@
 
 ghost use Rattle.std.specs.Prelude.{◌≡◌, ◌≤◌, IfSome};
 ghost use Rattle.pic_dump.specs.Due.{due_after};
+ghost use Rattle.pic_dump.specs.Limits.{most_steps};
 
 /// The step of the next frame, after the frame of such a step or at the start.
 pub fn due_after(steps: u32, every: u32, last: Option<u32>) -> Option<u32>
-    requires steps { steps ≤ 1000000 }
-    requires every { every ≤ 1000000 }
+    requires steps { steps ≤ most_steps }
+    requires every { every ≤ most_steps }
     ensures value { result ≡ due_after steps every last }
     ensures most { IfSome result (λ step. step ≤ steps) }
 {

@@ -1,6 +1,7 @@
 //! A dump, read record by record.
 
 ghost use Rattle.std.specs.Prelude.{◌≡◌, ◌+◌, ◌*◌, ◌<◌, ◌≤◌, ◌^◌, length, sum, Option, Some, None, IfOk, IfSome, IsTrue};
+ghost use Rattle.pic_dump.specs.Limits.{header_length};
 ghost use Rattle.pic_fields.specs.Parser.{checked};
 ghost use Rattle.pic_fields.specs.Number.{byte_at};
 ghost use Rattle.pic_fields.specs.Reads.{Reads, as_it_is};
@@ -9,13 +10,13 @@ ghost use Rattle.pic_reader.specs.FrameFields.{frame_length, IsSameShape};
 ghost use Rattle.pic_reader.specs.HeaderFields.{header_at, header_most};
 ghost use Rattle.pic_reader.specs.HeadReads.{HeadReads, TakesWithin};
 ghost use Rattle.pic_reader.specs.Layout.{IsLayout, layout_of};
-ghost use Rattle.pic_reader.specs.NextReads.{NextReads, IsBehind, AtEnd};
+ghost use Rattle.pic_reader.specs.NextReads.{NextReads, AtEnd};
 ghost use Rattle.pic_reader.specs.Records.{is_tag};
 
 use crate::due::due_after;
 use crate::end_reader::read_end_record;
 use crate::frame_reader::read_frame;
-use crate::head_reader::read_header;
+use crate::head_reader::{FRONT_BYTES, HEAD_BYTES, read_header};
 use crate::head_stop::HeadStop;
 use crate::layout::Layout;
 use pic_dump::Header;
@@ -31,10 +32,19 @@ use std::marker::Model;
 const WRONG_TAG: u8 = 3;
 
 /// The mark of a frame.
-const FRAME: u8 = 70;
+const FRAME: u8 = b'F';
 
 /// The mark of an end record.
-const END: u8 = 69;
+const END: u8 = b'E';
+
+/// The bytes of a frame's step and its energies.
+const STEP_AND_ENERGIES_BYTES: u64 = 52;
+
+/// The bytes of the values of E and B in a cell.
+const CELL_BYTES: u64 = 96;
+
+/// The bytes of a particle.
+const PARTICLE_BYTES: u64 = 24;
 
 /// A reader of a dump, which stands behind the header or a frame.
 #[derive(Debug, Drop)]
@@ -72,12 +82,13 @@ impl DumpReader {
     /// was taken, and of one that isn't none more than the longest field has, a name of 32 bytes,
     /// beyond the place of its first fault.
     pub fn head<S: Source>(alloc: Global, source: &mut S) -> Result<(DumpReader, Header), HeadStop>
-        ensures reads { HeadReads (λ r. r.1) header_at 0 (λ h. 64 + 60 * length h.species)
-            header_most (S.told source.old) (S.told source.new) result }
+        ensures reads { HeadReads (λ r. r.1) header_at 0
+            (λ h. header_length (length h.species)) header_most
+            (S.told source.old) (S.told source.new) result }
         ensures within { TakesWithin header_at 0 (S.told source.old) (S.told source.new) }
         ensures stands { IfOk result (λ r. r.0 ≡ record {
           layout = layout_of r.1;
-          place = 64 + 60 * length r.1.species;
+          place = header_length (length r.1.species);
           last = None;
         }) }
     {
@@ -90,11 +101,11 @@ impl DumpReader {
     fn behind(alloc: Global, header: &Header) -> Result<DumpReader, pic_num::NoMemory>
         ensures { IfOk result (λ r. r ≡ record {
           layout = layout_of header.now;
-          place = 64 + 60 * length header.now.species;
+          place = header_length (length header.now.species);
           last = None;
         }) }
     {
-        let place = 64 + 60 * header.species().as_slice().len() as u64;
+        let place = FRONT_BYTES + HEAD_BYTES * header.species().as_slice().len() as u64;
         let layout = Layout::of_header(alloc, header)?;
         Ok(DumpReader {
             layout,
@@ -145,7 +156,6 @@ impl DumpReader {
         requires particles { length state.old.particles.items ≡ sum self.layout.counts }
         ensures reads { NextReads self (S.told source.old) (S.told source.new)
             state.new.e state.new.b state.new.particles.items result }
-        ensures behind { IfOk result (λ n. IsBehind self n) }
         ensures e { IsSameShape state.old.e state.new.e }
         ensures b { IsSameShape state.old.b state.new.b }
         ensures particles { length state.new.particles.items ≡ length state.old.particles.items }
@@ -159,12 +169,12 @@ impl DumpReader {
             last,
         } = self;
         let due = due_after(layout.steps(), layout.every(), last);
-        let second = place + 1;
+        let body_place = place + 1;
         let tag = read_tag(source, place, due, last)?;
         if tag == FRAME {
             let step = due.unwrap_or(0);
-            let energies = read_frame(source, second, &layout, step, state)?;
-            let place = second + frame_length(&layout);
+            let energies = read_frame(source, body_place, &layout, step, state)?;
+            let place = body_place + frame_length(&layout);
             let reader = DumpReader {
                 layout,
                 place,
@@ -172,7 +182,7 @@ impl DumpReader {
             };
             return Ok(Next::Frame(reader, step, energies));
         }
-        let mark = read_end_record(source, second, &layout, last, due)?;
+        let mark = read_end_record(source, body_place, &layout, last, due)?;
         Ok(Next::End(mark))
     }
 }
@@ -210,5 +220,7 @@ fn frame_length(layout: &Layout) -> u64
     ensures value { result ≡ frame_length layout.now }
     ensures most { result < 2 ^ 29 }
 {
-    52 + 96 * u64::from(layout.cells().count()) + 24 * u64::from(layout.particles())
+    STEP_AND_ENERGIES_BYTES
+        + CELL_BYTES * u64::from(layout.cells().count())
+        + PARTICLE_BYTES * u64::from(layout.particles())
 }

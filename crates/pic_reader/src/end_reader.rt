@@ -5,21 +5,25 @@ ghost use Rattle.pic_num.specs.Space.{triple};
 ghost use Rattle.pic_grid.specs.Cells.{IsWithin, axis_of};
 ghost use Rattle.pic_fields.specs.Number.{is_from_to};
 ghost use Rattle.pic_fields.specs.Reads.{Reads, ReadsEnd, as_it_is};
+ghost use Rattle.pic_dump.specs.Limits.{most_steps, longest_end};
 ghost use Rattle.pic_reader.specs.EndFields.{code_at, below_at, is_phase, phase_of, bound_of, what_of, phase_at, bound_at, what_at, axis_at, cell_at, bound_limit, what_limit, is_past, past_at, field_stop_at, push_stop_at, is_kind, first_after, done_at, field_end_at, push_end_at, end_at};
 ghost use Rattle.pic_reader.specs.Records.{RecordView, AnEnd, last_record};
 
-use crate::frame_reader::{read_below, read_step};
+use crate::field_reader::{MOST_FORCE, MOST_VALUE};
+use crate::frame_reader::{WRONG_STEP, read_below, read_step};
 use crate::layout::Layout;
 use pic_fields::{ReadStop, read_byte, read_end, read_i128, read_within};
 use pic_grid::{Bound, Cells, EndMark, Phase, Stop};
 use pic_io::Source;
 use pic_num::{Axis, What};
 
-/// The cause of a step that may not stand there.
-const WRONG_STEP: u8 = 4;
-
 /// The cause of a field of the end record outside its values.
 const WRONG_END: u8 = 8;
+
+/// The greatest size of a velocity, and of a turn, that a push doesn't stop at.
+const MOST_SPEED: u128 = 1 << 40;
+
+const MOST_TURN: u128 = 1 << 24;
 
 // Reads a byte from `low` to `high`.
 fn read_code<S: Source>(source: &mut S, place: u64, low: u8, high: u8) -> Result<u8, ReadStop>
@@ -138,12 +142,12 @@ fn read_cell<S: Source>(source: &mut S, place: u64, cells: Cells) -> Result<[u32
     ensures { Reads as_it_is (cell_at cells.n) place (place + 12) (S.told source.old)
         (S.told source.new) result }
 {
-    let second = place + 4;
-    let third = second + 4;
+    let y_place = place + 4;
+    let z_place = y_place + 4;
     let [nx, ny, nz] = cells.numbers();
     let x = read_below(source, place, WRONG_END, nx)?;
-    let y = read_below(source, second, WRONG_END, ny)?;
-    let z = read_below(source, third, WRONG_END, nz)?;
+    let y = read_below(source, y_place, WRONG_END, ny)?;
+    let z = read_below(source, z_place, WRONG_END, nz)?;
     Ok([x, y, z])
 }
 
@@ -173,8 +177,8 @@ fn bound_limit(bound: Bound) -> u128
     ensures { result ≡ bound_limit bound }
 {
     match bound {
-        Bound::Value => 1237940039285380274899124224,
-        Bound::Force => 17592186044416,
+        Bound::Value => MOST_VALUE,
+        Bound::Force => MOST_FORCE,
     }
 }
 
@@ -182,8 +186,8 @@ fn what_limit(side: u32, what: What) -> u128
     ensures { result ≡ what_limit side what }
 {
     match what {
-        What::Speed => 1099511627776,
-        What::Turn => 16777216,
+        What::Speed => MOST_SPEED,
+        What::Turn => MOST_TURN,
         What::Far => u128::from(side),
     }
 }
@@ -194,15 +198,15 @@ fn read_field_stop<S: Source>(source: &mut S, place: u64, layout: &Layout) -> Re
     ensures { Reads as_it_is (field_stop_at layout.now) place (place + 31) (S.told source.old)
         (S.told source.new) result }
 {
-    let second = place + 1;
-    let third = second + 1;
-    let fourth = third + 1;
-    let fifth = fourth + 12;
+    let bound_place = place + 1;
+    let axis_place = bound_place + 1;
+    let cell_place = axis_place + 1;
+    let value_place = cell_place + 12;
     let phase = read_phase(source, place)?;
-    let bound = read_bound(source, second)?;
-    let axis = read_axis(source, third)?;
-    let cell = read_cell(source, fourth, layout.cells())?;
-    let value = read_past(source, fifth, bound_limit(bound))?;
+    let bound = read_bound(source, bound_place)?;
+    let axis = read_axis(source, axis_place)?;
+    let cell = read_cell(source, cell_place, layout.cells())?;
+    let value = read_past(source, value_place, bound_limit(bound))?;
     Ok(Stop::Field {
         phase,
         bound,
@@ -218,13 +222,13 @@ fn read_push_stop<S: Source>(source: &mut S, place: u64, layout: &Layout) -> Res
     ensures { Reads as_it_is (push_stop_at layout.now) place (place + 22) (S.told source.old)
         (S.told source.new) result }
 {
-    let second = place + 4;
-    let third = second + 1;
-    let fourth = third + 1;
+    let what_place = place + 4;
+    let axis_place = what_place + 1;
+    let value_place = axis_place + 1;
     let id = read_below(source, place, WRONG_END, layout.particles())?;
-    let what = read_what(source, second)?;
-    let axis = read_axis(source, third)?;
-    let value = read_past(source, fourth, what_limit(layout.side(), what))?;
+    let what = read_what(source, what_place)?;
+    let axis = read_axis(source, axis_place)?;
+    let value = read_past(source, value_place, what_limit(layout.side(), what))?;
     Ok(Stop::Push {
         id,
         what,
@@ -239,9 +243,9 @@ fn read_done<S: Source>(source: &mut S, place: u64, layout: &Layout) -> Result<E
     ensures { ReadsEnd (λ m. AnEnd m) (done_at layout.now last_record) place (place + 4 + 1)
         (S.told source.old) (S.told source.new) result }
 {
-    let second = place + 4;
+    let end_place = place + 4;
     let steps = read_step(source, place, layout.steps())?;
-    read_end(source, second)?;
+    read_end(source, end_place)?;
     Ok(EndMark::Done { steps })
 }
 
@@ -257,11 +261,11 @@ fn read_field_end<S: Source>(
     ensures { ReadsEnd (λ m. AnEnd m) (field_end_at layout.now low high last_record) place
         (place + 4 + 31 + 1) (S.told source.old) (S.told source.new) result }
 {
-    let second = place + 4;
-    let third = second + 31;
+    let stop_place = place + 4;
+    let end_place = stop_place + 31;
     let step = read_within(source, place, WRONG_STEP, low, high)?;
-    let stop = read_field_stop(source, second, layout)?;
-    read_end(source, third)?;
+    let stop = read_field_stop(source, stop_place, layout)?;
+    read_end(source, end_place)?;
     Ok(EndMark::Stopped { step, stop })
 }
 
@@ -277,11 +281,11 @@ fn read_push_end<S: Source>(
     ensures { ReadsEnd (λ m. AnEnd m) (push_end_at layout.now low high last_record) place
         (place + 4 + 22 + 1) (S.told source.old) (S.told source.new) result }
 {
-    let second = place + 4;
-    let third = second + 22;
+    let stop_place = place + 4;
+    let end_place = stop_place + 22;
     let step = read_within(source, place, WRONG_STEP, low, high)?;
-    let stop = read_push_stop(source, second, layout)?;
-    read_end(source, third)?;
+    let stop = read_push_stop(source, stop_place, layout)?;
+    read_end(source, end_place)?;
     Ok(EndMark::Stopped { step, stop })
 }
 
@@ -311,7 +315,7 @@ fn is_kind(due: Option<u32>, kind: u8) -> bool
 }
 
 fn first_after(last: Option<u32>) -> u32
-    requires { IfSome last (λ step. step ≤ 1000000) }
+    requires { IfSome last (λ step. step ≤ most_steps) }
     ensures { result ≡ first_after last }
 {
     match last {
@@ -320,7 +324,8 @@ fn first_after(last: Option<u32>) -> u32
     }
 }
 
-/// Reads the end record behind its mark, and the end of the input.
+/// Reads the end record behind its mark, and the end of the input: at most what is left of the longest
+/// end record is taken, and one byte behind it.
 pub fn read_end_record<S: Source>(
     source: &mut S,
     place: u64,
@@ -329,19 +334,19 @@ pub fn read_end_record<S: Source>(
     due: Option<u32>,
 ) -> Result<EndMark, ReadStop>
     requires place { place + 65 < 2 ^ 63 }
-    requires last { IfSome last (λ step. step ≤ 1000000) }
-    ensures { ReadsEnd (λ m. AnEnd m) (end_at layout.now last due last_record) place (place + 37)
-        (S.told source.old) (S.told source.new) result }
+    requires last { IfSome last (λ step. step ≤ most_steps) }
+    ensures { ReadsEnd (λ m. AnEnd m) (end_at layout.now last due last_record) place
+        (place + longest_end) (S.told source.old) (S.told source.new) result }
 {
-    let second = place + 1;
+    let step_place = place + 1;
     let kind = read_kind(source, place, due)?;
     let low = first_after(last);
     let high = due.unwrap_or(0);
     if kind == 0 {
-        return read_done(source, second, layout);
+        return read_done(source, step_place, layout);
     }
     if kind == 1 {
-        return read_field_end(source, second, layout, low, high);
+        return read_field_end(source, step_place, layout, low, high);
     }
-    read_push_end(source, second, layout, low, high)
+    read_push_end(source, step_place, layout, low, high)
 }

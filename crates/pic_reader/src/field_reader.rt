@@ -1,15 +1,15 @@
 //! The values of a field of a dump, read in pieces.
 
-ghost use Rattle.std.specs.Prelude.{◌≡◌, ◌+◌, ◌*◌, ◌<◌, ◌≤◌, ◌^◌, length, take, drop, IfOk, OnOk};
+ghost use Rattle.std.specs.Prelude.{◌≡◌, ◌+◌, ◌*◌, ◌<◌, ◌≤◌, ◌^◌, length, IfOk, OnOk};
 ghost use Rattle.pic_grid.specs.Cells.{count_of};
 ghost use Rattle.pic_fields.specs.Parser.{checked};
 ghost use Rattle.pic_fields.specs.Number.{i128_at};
-ghost use Rattle.pic_fields.specs.Pieces.{each_behind};
 ghost use Rattle.pic_fields.specs.Reads.{Reads, always, as_it_is};
 ghost use Rattle.pic_energy.specs.Energies.{IsBounded};
 ghost use Rattle.pic_reader.specs.Fields.{strong_value};
 ghost use Rattle.pic_reader.specs.FrameFields.{is_moderate, IsModerate, value_at, field_at, IsSameShape};
 ghost use Rattle.pic_reader.specs.Firsts.{FirstAre};
+ghost use Rattle.pic_reader.specs.Parts.{ReadsPart};
 
 use pic_fields::{Piece, ReadStop, fill, read_i128};
 use pic_grid::Lattice;
@@ -20,9 +20,9 @@ use pic_num::{Mult, scale};
 const STRONG_VALUE: u8 = 5;
 
 /// The greatest size of a field value, 2^90, and of a force value, 2^44.
-const MOST_VALUE: u128 = 1237940039285380274899124224;
+pub const MOST_VALUE: u128 = 1 << 90;
 
-const MOST_FORCE: u128 = 17592186044416;
+pub const MOST_FORCE: u128 = 1 << 44;
 
 /// How many values a piece of 65536 bytes has.
 const VALUES_OF_A_PIECE: usize = 4096;
@@ -62,12 +62,9 @@ fn read_values<S: Source>(
     requires place { place + 16 * count < 2 ^ 63 }
     requires count { first + count ≤ 3 * count_of field.old.cells }
     requires moderate { FirstAre (IsModerate by) first field.old.values }
-    ensures reads { Reads (always (drop first (take (first + count) field.new.values)))
-        (each_behind (take first field.old.values) count (value_at by)) place (place + 16 * count)
-        (S.told source.old) (S.told source.new) result }
+    ensures part { ReadsPart (value_at by) 16 first count place (S.told source.old)
+        (S.told source.new) field.old.values field.new.values result }
     ensures shape { IsSameShape field.old field.new }
-    ensures length { length field.new.values ≡ length field.old.values }
-    ensures front { take first field.new.values ≡ take first field.old.values }
     ensures moderate { OnOk result (FirstAre (IsModerate by) (first + count) field.new.values) }
 {
     let cells = field.cells();
@@ -93,12 +90,9 @@ fn read_piece_of_values<S: Source>(
     requires count { first + count ≤ 3 * count_of field.old.cells }
     requires moderate { FirstAre (IsModerate by) first field.old.values }
     requires room { length room.old ≡ 16 * count }
-    ensures reads { Reads (always (drop first (take (first + count) field.new.values)))
-        (each_behind (take first field.old.values) count (value_at by)) place (place + 16 * count)
-        (S.told source.old) (S.told source.new) result }
+    ensures part { ReadsPart (value_at by) 16 first count place (S.told source.old)
+        (S.told source.new) field.old.values field.new.values result }
     ensures shape { IsSameShape field.old field.new }
-    ensures length { length field.new.values ≡ length field.old.values }
-    ensures front { take first field.new.values ≡ take first field.old.values }
     ensures moderate { OnOk result (FirstAre (IsModerate by) (first + count) field.new.values) }
 {
     let taken = fill(source, room)?;

@@ -1,16 +1,15 @@
 //! A frame of a dump, read.
 
-ghost use Rattle.std.specs.Prelude.{◌≡◌, pos, ◌-ℤ◌, ◌+◌, ◌-◌, ◌*◌, ◌<◌, ◌≤◌, ◌^◌, All, take, drop, length, sum, nat_eq, IfOk, OnOk};
+ghost use Rattle.std.specs.Prelude.{◌≡◌, pos, ◌-ℤ◌, ◌+◌, ◌-◌, ◌*◌, ◌<◌, ◌≤◌, ◌^◌, All, length, sum, nat_eq, IfOk, OnOk};
 ghost use Rattle.pic_num.specs.Limits.{most_side, most_cells_of_axis};
 ghost use Rattle.pic_num.specs.Velocity.{too_fast};
 ghost use Rattle.pic_num.specs.Space.{triple};
 ghost use Rattle.pic_grid.specs.Hat.{IsInBox};
-ghost use Rattle.pic_fields.specs.Pieces.{each_behind};
 ghost use Rattle.pic_fields.specs.Reads.{Reads, always, as_it_is};
 ghost use Rattle.pic_energy.specs.Energies.{IsOfKinds};
 ghost use Rattle.pic_reader.specs.Fields.{is_below, below, the_step};
 ghost use Rattle.pic_reader.specs.FrameFields.{coordinate_at, position_at, velocity_at, speed_at, particle_of, particle_at, particles_at, energy_at, energies_at, frame_of, frame_at, frame_length, IsSameShape, IsPlaced, IsHeld};
-ghost use Rattle.pic_reader.specs.Firsts.{FirstAre};
+ghost use Rattle.pic_reader.specs.Parts.{ReadsPart, FirstAreHeld};
 
 use crate::field_reader::read_field;
 use crate::head_reader::read_between;
@@ -21,8 +20,8 @@ use pic_grid::{Cells, Snapshot};
 use pic_io::Source;
 use pic_num::Particle;
 
-/// The cause of a step that isn't the one that is due.
-const WRONG_STEP: u8 = 4;
+/// The cause of a step that isn't the one that is due, or may not stand there.
+pub const WRONG_STEP: u8 = 4;
 
 /// The cause of a position outside the box, or a velocity outside its range.
 const OUT_OF_RANGE: u8 = 6;
@@ -84,13 +83,13 @@ fn read_position<S: Source>(source: &mut S, place: u64, cells: Cells) -> Result<
         (S.told source.old) (S.told source.new) result }
     ensures inside { IfOk result (λ x. IsInBox cells.side cells.n (triple x)) }
 {
-    let second = place + 4;
-    let third = second + 4;
+    let y_place = place + 4;
+    let z_place = y_place + 4;
     let [nx, ny, nz] = cells.numbers();
     let side = cells.sub().side();
     let x = read_coordinate(source, place, side, nx)?;
-    let y = read_coordinate(source, second, side, ny)?;
-    let z = read_coordinate(source, third, side, nz)?;
+    let y = read_coordinate(source, y_place, side, ny)?;
+    let z = read_coordinate(source, z_place, side, nz)?;
     Ok([x, y, z])
 }
 
@@ -136,11 +135,11 @@ fn read_velocity<S: Source>(source: &mut S, place: u64, side: u32) -> Result<[i3
     ensures { Reads as_it_is (velocity_at side) place (place + 12) (S.told source.old)
         (S.told source.new) result }
 {
-    let second = place + 4;
-    let third = second + 4;
+    let y_place = place + 4;
+    let z_place = y_place + 4;
     let x = read_speed(source, place, side)?;
-    let y = read_speed(source, second, side)?;
-    let z = read_speed(source, third, side)?;
+    let y = read_speed(source, y_place, side)?;
+    let z = read_speed(source, z_place, side)?;
     Ok([x, y, z])
 }
 
@@ -158,10 +157,10 @@ fn read_particle<S: Source>(
     ensures species { IfOk result (λ p. IsOfKinds layout.now.kinds p) }
     ensures place { IfOk result (λ p. IsPlaced layout.now.side layout.now.cells p) }
 {
-    let second = place + 12;
+    let velocity_place = place + 12;
     let species = species_at(layout.counts(), id);
     let x = read_position(source, place, layout.cells())?;
-    let v = read_velocity(source, second, layout.side())?;
+    let v = read_velocity(source, velocity_place, layout.side())?;
     Ok(Particle { id, species, x, v })
 }
 
@@ -178,17 +177,10 @@ fn read_some_particles<S: Source>(
     requires end { first + count < 2 ^ 32 }
     requires count { first + count ≤ sum layout.now.counts }
     requires length { length particles.old ≡ sum layout.now.counts }
-    requires species { FirstAre (IsOfKinds layout.now.kinds) first particles.old }
-    requires places { FirstAre (IsPlaced layout.now.side layout.now.cells) first particles.old }
-    ensures reads { Reads (always (drop first (take (first + count) particles.new)))
-        (each_behind (take first particles.old) count (particle_at layout.now)) place
-        (place + 24 * count) (S.told source.old) (S.told source.new) result }
-    ensures length { length particles.new ≡ length particles.old }
-    ensures front { take first particles.new ≡ take first particles.old }
-    ensures species { OnOk result
-        (FirstAre (IsOfKinds layout.now.kinds) (first + count) particles.new) }
-    ensures places { OnOk result
-        (FirstAre (IsPlaced layout.now.side layout.now.cells) (first + count) particles.new) }
+    requires held { FirstAreHeld layout.now first particles.old }
+    ensures part { ReadsPart (particle_at layout.now) 24 first count place
+        (S.told source.old) (S.told source.new) particles.old particles.new result }
+    ensures held { OnOk result (FirstAreHeld layout.now (first + count) particles.new) }
 {
     for index in 0..count {
         let id = first + index;
@@ -212,18 +204,11 @@ fn read_piece_of_particles<S: Source>(
     requires end { first + count < 2 ^ 32 }
     requires count { first + count ≤ sum layout.now.counts }
     requires length { length particles.old ≡ sum layout.now.counts }
-    requires species { FirstAre (IsOfKinds layout.now.kinds) first particles.old }
-    requires places { FirstAre (IsPlaced layout.now.side layout.now.cells) first particles.old }
+    requires held { FirstAreHeld layout.now first particles.old }
     requires room { length room.old ≡ 24 * count }
-    ensures reads { Reads (always (drop first (take (first + count) particles.new)))
-        (each_behind (take first particles.old) count (particle_at layout.now)) place
-        (place + 24 * count) (S.told source.old) (S.told source.new) result }
-    ensures length { length particles.new ≡ length particles.old }
-    ensures front { take first particles.new ≡ take first particles.old }
-    ensures species { OnOk result
-        (FirstAre (IsOfKinds layout.now.kinds) (first + count) particles.new) }
-    ensures places { OnOk result
-        (FirstAre (IsPlaced layout.now.side layout.now.cells) (first + count) particles.new) }
+    ensures part { ReadsPart (particle_at layout.now) 24 first count place
+        (S.told source.old) (S.told source.new) particles.old particles.new result }
+    ensures held { OnOk result (FirstAreHeld layout.now (first + count) particles.new) }
 {
     let taken = fill(source, room)?;
     let mut piece = Piece::new(&room[..taken]);
@@ -297,11 +282,11 @@ fn read_energies<S: Source>(
     ensures { Reads as_it_is (energies_at want) place (place + 48) (S.told source.old)
         (S.told source.new) result }
 {
-    let second = place + 16;
-    let third = second + 16;
+    let electric_place = place + 16;
+    let magnetic_place = electric_place + 16;
     let kinetic = read_energy(source, place, want.kinetic)?;
-    let electric = read_energy(source, second, want.electric)?;
-    let magnetic = read_energy(source, third, want.magnetic)?;
+    let electric = read_energy(source, electric_place, want.electric)?;
+    let magnetic = read_energy(source, magnetic_place, want.magnetic)?;
     Ok(Energies {
         kinetic,
         electric,
@@ -370,14 +355,19 @@ pub fn read_frame<S: Source>(
     ensures particles { length state.new.particles.items ≡ length state.old.particles.items }
 {
     let values = 3 * u64::from(layout.cells().count());
-    let second = place + 4;
-    let third = second + 16 * values;
-    let fourth = third + 16 * values;
-    let fifth = fourth + 24 * u64::from(layout.particles());
+    let e_place = place + 4;
+    let b_place = e_place + 16 * values;
+    let particles_place = b_place + 16 * values;
+    let energies_place = particles_place + 24 * u64::from(layout.particles());
     read_step(source, place, due)?;
-    read_field(source, second, layout.scales().e_force, &mut state.e)?;
-    read_field(source, third, layout.scales().b_force, &mut state.b)?;
-    read_particles(source, fourth, layout, state.particles.as_mut_slice())?;
+    read_field(source, e_place, layout.scales().e_force, &mut state.e)?;
+    read_field(source, b_place, layout.scales().b_force, &mut state.b)?;
+    read_particles(
+        source,
+        particles_place,
+        layout,
+        state.particles.as_mut_slice(),
+    )?;
     let want = energies(layout.scales(), layout.kinds(), state);
-    read_piece_of_energies(source, fifth, want)
+    read_piece_of_energies(source, energies_place, want)
 }

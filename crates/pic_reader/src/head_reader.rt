@@ -7,6 +7,7 @@ ghost use Rattle.pic_grid.specs.Species.{HeadView, IsName, IsKind, AreHeads};
 ghost use Rattle.pic_fields.specs.Parser.{each};
 ghost use Rattle.pic_fields.specs.Reads.{Reads, as_it_is};
 ghost use Rattle.pic_dump.specs.Header.{IsGrid_1, HasLimits};
+ghost use Rattle.pic_dump.specs.Limits.{header_length};
 ghost use Rattle.pic_reader.specs.Fields.{is_between, between};
 ghost use Rattle.pic_reader.specs.HeaderFields.{IsNewHead, cells_at, mult_at, scales_at, kind_at, name_of, is_name_field, is_new_name_field, name_at, particles_of, head_at, heads_at, header_at, header_most};
 ghost use Rattle.pic_reader.specs.HeadReads.{HeadReads, TakesWithin};
@@ -23,8 +24,11 @@ use std::alloc::Global;
 /// The cause of a wrong byte in the mark of a dump.
 const WRONG_LETTER: u8 = 1;
 
+/// The bytes before the species.
+pub const FRONT_BYTES: u64 = 64;
+
 /// The bytes of a species.
-const HEAD_BYTES: u64 = 60;
+pub const HEAD_BYTES: u64 = 60;
 
 /// The most steps of a run.
 const MOST_STEPS: u32 = 1000000;
@@ -54,11 +58,11 @@ fn read_cells<S: Source>(source: &mut S, place: u64) -> Result<Cells, ReadStop>
         (S.told source.new) result }
     ensures grid { IfOk result (λ c. IsGrid_1 c.n c.side) }
 {
-    let second = place + 4;
-    let third = second + 4;
+    let y_place = place + 4;
+    let z_place = y_place + 4;
     let x = read_within(source, place, OUT_OF_LIMITS, Cells::FEWEST, MOST_CELLS)?;
-    let y = read_within(source, second, OUT_OF_LIMITS, Cells::FEWEST, MOST_CELLS)?;
-    let z = read_within(source, third, OUT_OF_LIMITS, Cells::FEWEST, MOST_CELLS)?;
+    let y = read_within(source, y_place, OUT_OF_LIMITS, Cells::FEWEST, MOST_CELLS)?;
+    let z = read_within(source, z_place, OUT_OF_LIMITS, Cells::FEWEST, MOST_CELLS)?;
     Ok(Cells::new([x, y, z], Sub::of_bits(BITS)))
 }
 
@@ -110,13 +114,13 @@ fn read_scales<S: Source>(source: &mut S, place: u64) -> Result<Scales, ReadStop
     ensures { Reads as_it_is scales_at place (place + 32) (S.told source.old)
         (S.told source.new) result }
 {
-    let second = place + 8;
-    let third = second + 8;
-    let fourth = third + 8;
+    let b_to_e_place = place + 8;
+    let e_force_place = b_to_e_place + 8;
+    let b_force_place = e_force_place + 8;
     let e_to_b = read_mult(source, place)?;
-    let b_to_e = read_mult(source, second)?;
-    let e_force = read_mult(source, third)?;
-    let b_force = read_mult(source, fourth)?;
+    let b_to_e = read_mult(source, b_to_e_place)?;
+    let e_force = read_mult(source, e_force_place)?;
+    let b_force = read_mult(source, b_force_place)?;
     Ok(Scales {
         e_to_b,
         b_to_e,
@@ -131,13 +135,13 @@ fn read_kind<S: Source>(source: &mut S, place: u64) -> Result<Kind, ReadStop>
         (S.told source.new) result }
     ensures limits { IfOk result (λ k. IsKind k) }
 {
-    let second = place + 4;
-    let third = second + 4;
-    let fourth = third + 8;
+    let mass_place = place + 4;
+    let kick_place = mass_place + 4;
+    let turn_place = kick_place + 8;
     let charge = read_between(source, place, OUT_OF_LIMITS, LEAST_CHARGE, MOST_CHARGE)?;
-    let mass = read_within(source, second, OUT_OF_LIMITS, 1, MOST_MASS)?;
-    let kick = read_mult(source, third)?;
-    let turn = read_mult(source, fourth)?;
+    let mass = read_within(source, mass_place, OUT_OF_LIMITS, 1, MOST_MASS)?;
+    let kick = read_mult(source, kick_place)?;
+    let turn = read_mult(source, turn_place)?;
     Ok(Kind {
         charge,
         mass,
@@ -163,11 +167,17 @@ fn read_head<S: Source>(
         (S.told source.new) }
     ensures new { IfOk result (λ h. IsNewHead earlier.now h) }
 {
-    let second = place + 32;
-    let third = second + 24;
+    let kind_place = place + 32;
+    let count_place = kind_place + 24;
     let name = read_name(source, place, earlier)?;
-    let kind = read_kind(source, second)?;
-    let count = read_within(source, third, OUT_OF_LIMITS, 0, MOST_PARTICLES - particles)?;
+    let kind = read_kind(source, kind_place)?;
+    let count = read_within(
+        source,
+        count_place,
+        OUT_OF_LIMITS,
+        0,
+        MOST_PARTICLES - particles,
+    )?;
     let head = make_head(alloc, name.bytes(), kind, count)?;
     Ok(head)
 }
@@ -214,15 +224,15 @@ fn read_heads<S: Source>(alloc: Global, source: &mut S, place: u64) -> Result<Ve
     ensures within { TakesWithin heads_at place (S.told source.old) (S.told source.new) }
     ensures heads { IfOk result (λ hs. AreHeads hs.items) }
 {
-    let first = place + 4;
+    let heads_place = place + 4;
     let count = read_within(source, place, OUT_OF_LIMITS, 0, MOST_SPECIES)?;
-    read_each_head(alloc, source, first, count)
+    read_each_head(alloc, source, heads_place, count)
 }
 
 /// Reads the header, field by field.
 pub fn read_header<S: Source>(alloc: Global, source: &mut S) -> Result<Header, HeadStop>
-    ensures reads { HeadReads (λ h. h) header_at 0 (λ h. 64 + 60 * length h.species) header_most
-        (S.told source.old) (S.told source.new) result }
+    ensures reads { HeadReads (λ h. h) header_at 0 (λ h. header_length (length h.species))
+        header_most (S.told source.old) (S.told source.new) result }
     ensures within { TakesWithin header_at 0 (S.told source.old) (S.told source.new) }
     ensures few { IfOk result (λ h. length h.species ≤ most_species) }
 {

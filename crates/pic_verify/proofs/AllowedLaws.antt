@@ -5,6 +5,7 @@ use Rattle.std.proofs.Math.Nat.{mul-le-mul_right}
 use Rattle.std.proofs.lemmas.Bool.{cases_lt, lt-ltb, le-ltb}
 use Rattle.std.proofs.lemmas.Nat.{le-div}
 use Rattle.pic_dump.specs.Due.{due_after}
+use Rattle.pic_dump.specs.Limits.{longest_end}
 use Rattle.pic_reader.specs.Layout.{LayoutView}
 use Rattle.pic_reader.specs.FrameFields.{frame_length}
 use Rattle.pic_reader.specs.NextReads.{most_of}
@@ -49,7 +50,7 @@ went_most l k (Some s) least went = let most = frames_left l went.j least went.b
 next_fits : (l : LayoutView) (k f d : ℕ) → suc k ≤ d → k * f + f ≤ d * f
 next_fits l k f d less = let h = mul-le-mul_right f less in omega (arith, h)
 
-end_fits : (k f d : ℕ) → k ≤ d → k * f + 38 ≤ d * f + 38
+end_fits : (k f d : ℕ) → k ≤ d → k * f + (longest_end + 1) ≤ d * f + (longest_end + 1)
 end_fits k f d less = let h = mul-le-mul_right f less in omega (arith, h)
 
 pub record_fits : (l : LayoutView) (k : ℕ) (last : Option ℕ) → 1 ≤ l.every → Went l k last

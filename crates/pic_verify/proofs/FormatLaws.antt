@@ -9,6 +9,7 @@ use Rattle.pic_fields.specs.Parser.{Input, input, Parser, done, ◌>>=◌, mappe
 use Rattle.pic_fields.specs.Number.{byte_of, byte_at, u32_of, u32_at}
 use Rattle.pic_fields.proofs.LengthLaws.{IsOfLength, of_length, of_then, of_mapped, of_field, of_checked, Leaves}
 use Rattle.pic_fields.proofs.SpellLaws.{same_read, bind_parts, passed_test}
+use Rattle.pic_dump.specs.DumpText.{frame_tag}
 use Rattle.pic_dump.specs.Due.{due_after}
 use Rattle.pic_reader.specs.Fields.{wrong_tag, wrong_step, the_step}
 use Rattle.pic_reader.specs.Layout.{LayoutView}
@@ -103,7 +104,7 @@ left_of : {A : Type 0} (p : Parser A) (n : ℕ) (i j : Input) (a : A) → IsOfLe
 left_of p n i j a size is = subst (Leaves n (length i.bytes)) is (size.leaves i)
 
 -- a record by its mark
-behind_frame : (l : LayoutView) (last : Option ℕ) (i k j : Input) (f : FrameView) (tag : ℕ) (v : Bool) → eqb tag 70 ≡ v
+behind_frame : (l : LayoutView) (last : Option ℕ) (i k j : Input) (f : FrameView) (tag : ℕ) (v : Bool) → eqb tag frame_tag ≡ v
     → is_tag (due_after l.steps l.every last) last tag ≡ true → length k.bytes + 1 ≡ length i.bytes
     → behind_tag l last (due_after l.steps l.every last) tag k ≡ Ok (AFrame f, j) → FrameRead l last i j f
 unfolding mapped done
@@ -131,9 +132,9 @@ frame_read l last i j f is =
     let due = due_after l.steps l.every last in
     let (tag, k, e1, e2) = bind_parts (checked wrong_tag (is_tag due last) byte_at) (behind_tag l last due) i j (AFrame f) is in
     let (read, good) = passed_test i.place wrong_tag (is_tag due last) (byte_at i) tag k e1 in
-    behind_frame l last i k j f tag (eqb tag 70) refl good (left_of _ 1 i k tag (tag_size last due) e1) e2
+    behind_frame l last i k j f tag (eqb tag frame_tag) refl good (left_of _ 1 i k tag (tag_size last due) e1) e2
 
-behind_end : (l : LayoutView) (last due : Option ℕ) (k j : Input) (m : EndMark) (tag : ℕ) (v : Bool) → eqb tag 70 ≡ v
+behind_end : (l : LayoutView) (last due : Option ℕ) (k j : Input) (m : EndMark) (tag : ℕ) (v : Bool) → eqb tag frame_tag ≡ v
     → behind_tag l last due tag k ≡ Ok (AnEnd m, j) → j.bytes ≡ []
 unfolding mapped done
 behind_end l last due k j m tag true e is =
@@ -149,4 +150,4 @@ unfolding record_at
 end_read l last i j m is =
     let due = due_after l.steps l.every last in
     let (tag, k, e1, e2) = bind_parts (checked wrong_tag (is_tag due last) byte_at) (behind_tag l last due) i j (AnEnd m) is in
-    behind_end l last due k j m tag (eqb tag 70) refl e2
+    behind_end l last due k j m tag (eqb tag frame_tag) refl e2

@@ -12,7 +12,7 @@ use Rattle.pic_charge.specs.Charge.{charge_of}
 use Rattle.pic_charge.specs.Gauss.{MeetsGauss, IsLeastBreak}
 use Rattle.pic_charge.proofs.BreakLaws.{meets_gauss, gauss_none, first_break_some}
 use Rattle.pic_fields.specs.Parser.{Input, input, Fault, fault, Parsed}
-use Rattle.pic_fields.specs.Spells.{IsBytes}
+use Rattle.pic_fields.specs.Bytes.{IsBytes}
 use Rattle.pic_dump.specs.Due.{due_after}
 use Rattle.pic_dump.specs.DumpText.{header_bytes}
 use Rattle.pic_dump.specs.Header.{HeaderView}

@@ -11,7 +11,7 @@ use Rattle.pic_grid.specs.Lattice.{Field}
 use Rattle.pic_energy.specs.declared.amounts.Energies.{Energies}
 use Rattle.pic_fields.specs.Parser.{Input, input, Parsed}
 use Rattle.pic_fields.specs.Reads.{Left, Moves, HasRead}
-use Rattle.pic_fields.specs.Spells.{IsBytes}
+use Rattle.pic_fields.specs.Bytes.{IsBytes}
 use Rattle.pic_fields.proofs.ReadLaws.{moves_then, some_rest}
 use Rattle.pic_dump.specs.Due.{due_after}
 use Rattle.pic_dump.specs.Header.{HeaderView}
@@ -23,13 +23,14 @@ use Rattle.pic_reader.specs.Layout.{LayoutView, layout_of}
 use Rattle.pic_reader.specs.NextReads.{HasFrame, most_of, record_most}
 use Rattle.pic_reader.specs.Records.{AFrame, record_at}
 use Rattle.pic_reader.specs.Standing.{Standing}
+use Rattle.pic_reader.proofs.WithinLaws.{told_held, read_told}
 use Rattle.pic_verify.specs.Verified.{break_of}
 use Rattle.pic_verify.specs.Meaning.{due_step, step_before, record_place, bytes_from, IsGood}
 use Rattle.pic_verify.specs.Allowed.{IsInHeader}
 use Rattle.pic_verify.specs.Reached.{most_at, ReachesRecord, TakesToRecord, IsGoodAt, Reaches}
 use Rattle.pic_verify.proofs.FormatLaws.{frame_read}
 use Rattle.pic_verify.proofs.MeaningLaws.{header_end, due_is_step, is_gauss}
-use Rattle.pic_verify.proofs.VerdictLaws.{behind, same_bytes, takes_head, taken_size}
+use Rattle.pic_verify.proofs.VerdictLaws.{behind, takes_head, taken_size}
 use Rattle.pic_verify.proofs.WalkLaws.{Follows}
 
 -- so many good frames were read, and these bytes are left
@@ -69,7 +70,7 @@ stood l place end d rest front k f z is moved left far none =
     let read = frame_read l (step_before l k) (input place d) (input end rest) f is in
     let size = read.size in
     let (back, known, parts) = front_taken front d z.bytes moved in
-    let same : rest ≡ back = same_bytes z.bytes back rest known left in
+    let same : rest ≡ back = told_held z.bytes back rest known left in
     let both : length d ≡ length front + length back = ap (λ (b : List ℕ). length b) parts ∙ length-append front back in
     let so : length front ≡ 1 + frame_length l = omega (arith, both, size, ap (λ (b : List ℕ). length b) same) in
     let there : drop (1 + frame_length l) d ≡ back =
@@ -117,7 +118,7 @@ good_frame r before y z k here back e b particles step energies good follows has
           let d = drop (k * f) bytes in
           let (rest, left) = some_rest z in
           let (h, was, reads) = has.read.reads rest left in
-          let same : h ≡ d = same_bytes y.bytes d h so_far.left was in
+          let same : h ≡ d = told_held y.bytes d h so_far.left was in
           let is = subst (λ (i : List ℕ). record_at l (step_before l k) (input (r.place + k * f) i) ≡ Ok (AFrame frame, input back.place rest)) same
           (subst (λ (n : ℕ). record_at l (step_before l k) (input n h) ≡ Ok (AFrame frame, input back.place rest)) follows.place
           (subst (λ (o : Option ℕ). record_at l o (input here.place h) ≡ Ok (AFrame frame, input back.place rest)) good.last
@@ -201,13 +202,10 @@ stops_reached view end x z stop first within =
 pub reached_head : (h : HeaderView) (place : ℕ) (x y : Told) → HasRead header_at 0 x h place y → TakesToRecord x y
 reached_head h place x y first =
     let most = first.moves.most in
-    let (rest, left) = some_rest y in
-    let (held, was, reads) = first.reads rest left in
     record {
       front = first.moves.front;
       taken = first.moves.moved;
-      most = λ bytes told small. inr (let same : held ≡ bytes = same_bytes x.bytes bytes held told was in
-          let read = subst (λ b. header_at (input 0 b) ≡ Ok (h, input place rest)) same reads in
+      most = λ bytes told small. inr (let (rest, left, read) = read_told bytes first told in
           let end = (header_end bytes h (input place rest) small read).end in
           let place_is : place ≡ record_place h 0 = ap (λ (i : Input). i.place) end in
           record {
@@ -225,18 +223,15 @@ reached_behind h place r x y z first is reaches =
     let there = rw is at reaches in
     let moves = moves_then first.moves there.moves in
     let most = moves.most in
-    let (rest, left) = some_rest y in
-    let (held, was, reads) = first.reads rest left in
     record {
       front = moves.front;
       taken = moves.moved;
-      most = λ bytes told small. inr (let same : held ≡ bytes = same_bytes x.bytes bytes held told was in
-          let read = subst (λ b. header_at (input 0 b) ≡ Ok (h, input place rest)) same reads in
+      most = λ bytes told small. inr (let (rest, left, read) = read_told bytes first told in
           let end = (header_end bytes h (input place rest) small read).end in
           let place_is : place ≡ record_place h 0 = ap (λ (i : Input). i.place) end in
           let rest_is : rest ≡ drop (record_place h 0) bytes = ap (λ (i : Input). i.bytes) end in
           let (back, known, parts) = front_taken first.moves.front bytes y.bytes (sym told ∙ first.moves.moved) in
-          let here : y.bytes ≡ Some rest = known ∙ ap (λ b. Some b) (sym (same_bytes y.bytes back rest known left)) in
+          let here : y.bytes ≡ Some rest = known ∙ ap (λ b. Some b) (sym (told_held y.bytes back rest known left)) in
           let number = there.number in
           let base : record_place h number ≡ place + number * (1 + frame_length (layout_of h)) = omega (arith, place_is) in
           record {

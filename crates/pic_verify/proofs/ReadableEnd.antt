@@ -23,7 +23,7 @@ use Rattle.pic_fields.proofs.NumberLaws.{FitsU32, one_byte, spells_u32, spells_w
 use Rattle.pic_fields.proofs.ReadLaws.{then_ok}
 use Rattle.pic_fields.proofs.SpellLaws.{spells_checked, right_5}
 use Rattle.pic_dump.specs.Due.{due_after}
-use Rattle.pic_dump.specs.DumpText.{phase_code, bound_code, what_code, done_bytes, field_stop_bytes, push_stop_bytes, end_bytes}
+use Rattle.pic_dump.specs.DumpText.{end_tag, phase_code, bound_code, what_code, done_bytes, field_stop_bytes, push_stop_bytes, end_bytes}
 use Rattle.pic_reader.specs.Fields.{the_step, wrong_step}
 use Rattle.pic_reader.specs.EndFields.{is_kind, is_past, bound_limit, what_limit, field_stop_at, push_stop_at, done_at, field_end_at, push_end_at}
 use Rattle.pic_reader.specs.EndFields.{code_at, end_of_kind, end_at}
@@ -73,21 +73,21 @@ grouped : (s p b a x y z v : List ℕ) → s ++ p ++ b ++ a ++ x ++ y ++ z ++ v 
 grouped s p b a x y z v = simp append_assoc refl
 
 field_text : (step : ℕ) (phase : Phase) (bound : Bound) (axis : Axis) (cell : List ℕ) (v : ℤ)
-    → end_bytes (Stopped step (Field phase bound axis cell v)) ≡ 69 ∷ 1 ∷ (u32_bytes step ++ field_stop_text (Field phase bound axis cell v))
+    → end_bytes (Stopped step (Field phase bound axis cell v)) ≡ end_tag ∷ 1 ∷ (u32_bytes step ++ field_stop_text (Field phase bound axis cell v))
 unfolding end_bytes field_stop_bytes field_stop_text
 field_text step phase bound axis cell v =
     let at = triple cell in
-    ap (λ t. 69 ∷ 1 ∷ t)
+    ap (λ t. end_tag ∷ 1 ∷ t)
     (grouped (u32_bytes step) (one_byte (phase_code phase)) (one_byte (bound_code bound)) (one_byte (axis_number axis)) (u32_bytes at.x) (u32_bytes at.y)
     (u32_bytes at.z) (i128_bytes v))
 
 push_text : (step id : ℕ) (what : What) (axis : Axis) (v : ℤ)
-    → end_bytes (Stopped step (Push id what axis v)) ≡ 69 ∷ 2 ∷ (u32_bytes step ++ push_stop_text (Push id what axis v))
+    → end_bytes (Stopped step (Push id what axis v)) ≡ end_tag ∷ 2 ∷ (u32_bytes step ++ push_stop_text (Push id what axis v))
 unfolding end_bytes push_stop_bytes push_stop_text
 push_text step id what axis v =
-    ap (λ t. 69 ∷ 2 ∷ t) (right_5 (u32_bytes step) (u32_bytes id) (one_byte (what_code what)) (one_byte (axis_number axis)) (i128_bytes v))
+    ap (λ t. end_tag ∷ 2 ∷ t) (right_5 (u32_bytes step) (u32_bytes id) (one_byte (what_code what)) (one_byte (axis_number axis)) (i128_bytes v))
 
-done_text : (steps : ℕ) → end_bytes (Done steps) ≡ 69 ∷ 0 ∷ u32_bytes steps
+done_text : (steps : ℕ) → end_bytes (Done steps) ≡ end_tag ∷ 0 ∷ u32_bytes steps
 unfolding end_bytes done_bytes
 done_text steps = refl
 
@@ -97,16 +97,16 @@ unfolding last_record finished
 last_read m place = refl
 
 -- the mark and the kind of an end record
-may_end : (due : Option ℕ) (last : ℕ) → is_tag due (Some last) 69 ≡ true
+may_end : (due : Option ℕ) (last : ℕ) → is_tag due (Some last) end_tag ≡ true
 may_end None last = refl
 may_end (Some step) last = refl
 
 kind_read : (l : LayoutView) (last : ℕ) (due : Option ℕ) (kind place : ℕ) (rest : List ℕ) → due_after l.steps l.every (Some last) ≡ due → kind < 256
     → is_kind due kind ≡ true
-    → record_at l (Some last) (input place (69 ∷ kind ∷ rest)) ≡ end_of_kind l (suc last) (unwrap_or due 0) last_record kind (input (place + 1 + 1) rest)
+    → record_at l (Some last) (input place (end_tag ∷ kind ∷ rest)) ≡ end_of_kind l (suc last) (unwrap_or due 0) last_record kind (input (place + 1 + 1) rest)
 unfolding behind_tag end_at
 kind_read l last due kind place rest is small passes =
-    marked l (Some last) due 69 place (kind ∷ rest) is (omega arith) (may_end due last)
+    marked l (Some last) due end_tag place (kind ∷ rest) is (omega arith) (may_end due last)
     ∙ then_ok (code_at (is_kind due)) (end_of_kind l (suc last) (unwrap_or due 0) last_record) _ _ kind
     ((spells_code (is_kind due)).again (place + 1) rest kind (small, passes))
 
@@ -156,7 +156,7 @@ stop_end : (l : LayoutView) (q : Parser Stop) (text : List ℕ) (stop : Stop) (l
     → due_after l.steps l.every (Some last) ≡ next → last < step → IsSomeAnd next (λ due. step ≤ due)
     → ((due : ℕ) (i : Input) → end_of_kind l (suc last) due last_record kind i
     ≡ (within wrong_step (suc last) due >>= (λ n. q >>= (λ s. last_record (Stopped n s)))) i)
-    → kind < 256 → ((due : ℕ) → is_kind (Some due) kind ≡ true) → end_bytes (Stopped step stop) ≡ 69 ∷ kind ∷ (u32_bytes step ++ text)
+    → kind < 256 → ((due : ℕ) → is_kind (Some due) kind ≡ true) → end_bytes (Stopped step stop) ≡ end_tag ∷ kind ∷ (u32_bytes step ++ text)
     → IsReadFrom q text stop → IsEndRead l last (Stopped step stop)
 stop_end l q text stop last step kind None layout is behind before of_kind small passes same read place = absurd before
 stop_end l q text stop last step kind (Some due) layout is behind before of_kind small passes same read place =

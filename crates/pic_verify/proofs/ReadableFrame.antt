@@ -22,12 +22,12 @@ use Rattle.pic_energy.specs.Energies.{energies_of}
 use Rattle.pic_energy.specs.declared.amounts.Energies.{Energies}
 use Rattle.pic_fields.specs.Parser.{input, done, ◌>>=◌, mapped, checked}
 use Rattle.pic_fields.specs.Number.{byte_at}
-use Rattle.pic_fields.specs.Spells.{Spells}
+use Rattle.pic_fields.proofs.Spells.{Spells}
 use Rattle.pic_fields.proofs.NumberLaws.{FitsU32, spells_byte, spells_u32}
 use Rattle.pic_fields.proofs.ReadLaws.{then_ok}
 use Rattle.pic_fields.proofs.SpellLaws.{FitsEach, fits_each, spells_bind, spells_checked}
 use Rattle.pic_dump.specs.Due.{due_after}
-use Rattle.pic_dump.specs.DumpText.{start_bytes, state_bytes, frame_bytes, values_bytes, particles_bytes, energies_bytes}
+use Rattle.pic_dump.specs.DumpText.{frame_tag, start_bytes, state_bytes, frame_bytes, values_bytes, particles_bytes, energies_bytes}
 use Rattle.pic_reader.specs.Fields.{is_below, is_between, the_step, wrong_step, wrong_tag}
 use Rattle.pic_reader.specs.FrameFields.{FrameView, is_moderate, IsModerate, with_values, frame_at}
 use Rattle.pic_reader.specs.Layout.{LayoutView, IsLayout, species_of}
@@ -157,10 +157,10 @@ spells_due l due =
     spells_bind (λ (f : FrameView). f.step) (λ step f is g. ap (λ (o : FrameView). o.step) g.1.1.1.1 ∙ eqb-true due step is.1)
     (spells_checked wrong_step (nat_eq due) spells_u32) (λ step. spells_state l due)
 
-frame_text : (l : LayoutView) (f : FrameView) → record_bytes l (AFrame f) ≡ 70 ∷ (u32_bytes f.step ++ state_text f)
+frame_text : (l : LayoutView) (f : FrameView) → record_bytes l (AFrame f) ≡ frame_tag ∷ (u32_bytes f.step ++ state_text f)
 unfolding frame_bytes start_bytes state_bytes state_text
 frame_text l f =
-    ap (λ t. 70 ∷ t) (append_assoc (u32_bytes f.step) (values_bytes f.e ++ values_bytes f.b ++ particles_bytes f.particles) (energies_bytes f.energies))
+    ap (λ t. frame_tag ∷ t) (append_assoc (u32_bytes f.step) (values_bytes f.e ++ values_bytes f.b ++ particles_bytes f.particles) (energies_bytes f.energies))
 
 -- the mark of a record
 pub marked : (l : LayoutView) (last due : Option ℕ) (mark place : ℕ) (rest : List ℕ) → due_after l.steps l.every last ≡ due → mark < 256
@@ -172,7 +172,7 @@ marked l last due mark place rest is small passes =
     ((spells_checked wrong_tag (is_tag due last) spells_byte).again place rest mark (small, passes))
 
 due_read : (l : LayoutView) (last : Option ℕ) (f : FrameView) (place : ℕ) (rest : List ℕ) → FitsDue l f.step f
-    → behind_tag l last (Some f.step) 70 (input place ((u32_bytes f.step ++ state_text f) ++ rest))
+    → behind_tag l last (Some f.step) frame_tag (input place ((u32_bytes f.step ++ state_text f) ++ rest))
     ≡ Ok (AFrame f, input (place + length (u32_bytes f.step ++ state_text f)) rest)
 unfolding behind_tag mapped done
 due_read l last f place rest fits = then_ok (frame_at l f.step) (λ g. done (AFrame g)) _ _ f ((spells_due l f.step).again place rest f fits)
@@ -198,6 +198,6 @@ frames_are_read l last f layout due is place rest =
     let fits : FitsDue l f.step f = ((small, eq-eqb f.step f.step refl), frame_fits l f layout is) in
     let end : place + 1 + length text ≡ place + length (record_bytes l (AFrame f)) = omega (arith, size) in
     ap (λ t. record_at l last (input place (t ++ rest))) same
-    ∙ marked l last (Some f.step) 70 place (text ++ rest) due (omega arith) refl
+    ∙ marked l last (Some f.step) frame_tag place (text ++ rest) due (omega arith) refl
     ∙ due_read l last f (place + 1) rest fits
     ∙ ap (λ n. Ok (AFrame f, input n rest)) end

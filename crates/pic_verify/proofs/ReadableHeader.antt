@@ -16,7 +16,7 @@ use Rattle.pic_num.specs.Multiplier.{Multiplier, IsMultiplier}
 use Rattle.pic_num.specs.Limits.{fewest_cells_of_axis, most_cells_of_axis_1, most_particles_1, most_mass, most_species}
 use Rattle.pic_grid.specs.Species.{HeadView, no_head, IsName, IsKind, is_name_byte}
 use Rattle.pic_fields.specs.Number.{is_from_to}
-use Rattle.pic_fields.specs.Spells.{IsBytes}
+use Rattle.pic_fields.specs.Bytes.{IsBytes}
 use Rattle.pic_fields.proofs.NumberLaws.{FitsU32}
 use Rattle.pic_fields.proofs.SpellLaws.{fits_each}
 use Rattle.pic_dump.specs.DumpText.{name_bytes}

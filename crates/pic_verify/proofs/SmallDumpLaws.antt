@@ -13,6 +13,7 @@ use Rattle.pic_grid.specs.Differences.{div_e, down}
 use Rattle.pic_grid.specs.Hat.{weight}
 use Rattle.pic_grid.specs.Lattice.{value_at}
 use Rattle.pic_grid.specs.Sums.{sum_over}
+use Rattle.pic_grid.proofs.ShapeLaws.{zero_read}
 use Rattle.pic_grid.specs.Species.{HeadView, no_head, IsName, IsKind}
 use Rattle.pic_charge.specs.Charge.{share, charge_of}
 use Rattle.pic_charge.specs.Gauss.{MeetsGauss}
@@ -98,20 +99,15 @@ unfolding energies_of kinetic_sum kinetic_of square_sum square_of scaled rounded
 frame_is = record { e = field_is; b = field_is; identities = refl; particles = particles_are; energies = refl }
 
 -- there is no field, and the charges of the two cancel
-zero_at : (n i : ℕ) → get_or (replicate n (pos 0)) i (pos 0) ≡ pos 0
-zero_at zero i = refl
-zero_at (suc n) zero = refl
-zero_at (suc n) (suc i) = zero_at n i
-
 no_divergence : (p : Triple) → div_e small_layout.cells (value_at (with_values small_layout small_frame.e)) p ≡ pos 0
 no_divergence p =
     let n = small_layout.cells in
-    let x = zero_at 24 (place_of n X p) in
-    let y = zero_at 24 (place_of n Y p) in
-    let z = zero_at 24 (place_of n Z p) in
-    let x_down = zero_at 24 (place_of n X (down n X p)) in
-    let y_down = zero_at 24 (place_of n Y (down n Y p)) in
-    let z_down = zero_at 24 (place_of n Z (down n Z p)) in
+    let x = zero_read 24 (place_of n X p) in
+    let y = zero_read 24 (place_of n Y p) in
+    let z = zero_read 24 (place_of n Z p) in
+    let x_down = zero_read 24 (place_of n X (down n X p)) in
+    let y_down = zero_read 24 (place_of n Y (down n Y p)) in
+    let z_down = zero_read 24 (place_of n Z (down n Z p)) in
     omega (arith, ints, x, y, z, x_down, y_down, z_down)
 
 cancel : (w : ℕ) → pos 12 *ℤ pos 1 *ℤ pos w +ℤ (pos 12 *ℤ negsuc 0 *ℤ pos w +ℤ pos 0) ≡ pos 0

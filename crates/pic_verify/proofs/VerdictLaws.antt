@@ -1,20 +1,21 @@
 -- The verdict on a dump, from that on its records.
 use Rattle.std.proofs.Common.{◌≡◌, ℕ, ◌+◌, ◌*◌, ◌≤◌, ◌⊎◌, List, ◌++◌, length, length-append, Option, Some, None, Ok, Err, IsErrAnd, inl, inr}
 use Rattle.std.proofs.Common.{refl, sym, ap, subst, ◌∙◌, arith}
-use Rattle.std.specs.Prelude.{option_map}
 use Rattle.std.proofs.lemmas.Result.{err_from_is_err_and}
-use Rattle.pic_io.specs.Told.{Told, Calm}
+use Rattle.pic_io.specs.Told.{Told}
 use Rattle.pic_io.specs.Source.{with_front}
 use Rattle.pic_fields.specs.Parser.{input, Parsed}
 use Rattle.pic_fields.specs.Reads.{Moves, HasRead}
-use Rattle.pic_fields.proofs.ReadLaws.{moves_then, some_rest}
-use Rattle.pic_verify.specs.Allowed.{IsAllowed, IsInHeader, TakesAllowed}
+use Rattle.pic_fields.proofs.ReadLaws.{rose_after, moves_then}
+use Rattle.pic_verify.specs.Allowed.{records_length, allowed, IsAllowed, IsInHeader, TakesAllowed}
 use Rattle.pic_fields.specs.declared.read_stop.ReadStop.TheVariants as read
 use Rattle.pic_dump.specs.Header.{HeaderView}
+use Rattle.pic_dump.specs.Limits.{header_length}
 use Rattle.pic_reader.specs.Layout.{layout_of}
 use Rattle.pic_reader.specs.HeaderFields.{header_at, header_most}
 use Rattle.pic_reader.specs.HeadReads.{HeadReads, reach_of, TakesWithin}
 use Rattle.pic_reader.proofs.RunLaws.{header_place}
+use Rattle.pic_reader.proofs.WithinLaws.{told_held, read_told}
 use Rattle.pic_reader.specs.Standing.{Standing}
 use Rattle.pic_reader.specs.declared.head_stop.HeadStop.{HeadStop}
 use Rattle.pic_reader.specs.declared.head_stop.HeadStop.TheVariants as head
@@ -22,7 +23,7 @@ use Rattle.pic_verify.specs.declared.verify_stop.VerifyStop.TheVariants.{ReadFau
 use Rattle.pic_verify.specs.Stops.{stop_of_head}
 use Rattle.pic_verify.specs.Verified.{Verdict, of_header, verified}
 use Rattle.pic_verify.specs.Verifies.{Finds, Answered, Verifies, Walks, IsExact}
-use Rattle.pic_verify.proofs.WalkLaws.{on_records, rose_after}
+use Rattle.pic_verify.proofs.WalkLaws.{on_records}
 
 -- where a reader stands behind a header
 abbrev pub behind : HeaderView → ℕ → Standing
@@ -66,19 +67,8 @@ verifies_head view end x z stop result is first =
     let q = err_from_is_err_and result is in
     rw (q.1, q.2) (record { answer = stops_answer x z stop view end first })
 
--- want of memory behind the header
-pub starves : (x z : Told) (result : Verdict) → IsErrAnd result (λ u. u ≡ NoMemory) → Calm x z → Verifies x z result
-starves x z result is calm =
-    let q = err_from_is_err_and result is in
-    rw (q.1, q.2) (record { answer = calm })
-
--- what a source told is what it held
-pub same_bytes : (before : Option (List ℕ)) (bytes held : List ℕ) → before ≡ Some bytes → before ≡ option_map (λ _. held) before → held ≡ bytes
-same_bytes None bytes held told was = cc
-same_bytes (Some known) bytes held told was = cc
-
 exact_finds : (x z : Told) (bytes : List ℕ) (answer : Verdict) → x.bytes ≡ Some bytes → Finds verified x z answer → answer ≡ verified bytes
-exact_finds x z bytes answer told finds = sym finds.verdict ∙ ap verified (same_bytes x.bytes bytes finds.held told finds.was)
+exact_finds x z bytes answer told finds = sym finds.verdict ∙ ap verified (told_held x.bytes bytes finds.held told finds.was)
 
 -- an answer that the bytes decide
 pub exact : (x z : Told) (answer : Verdict) → Verifies x z answer → IsExact x z answer
@@ -131,39 +121,24 @@ stops_taken view end x z stop first within =
           (taken_size x z moves bytes within told);
     }
 
--- right behind a header
-pub head_taken : (h : HeaderView) (x y : Told) → HasRead header_at 0 x h (64 + 60 * length h.species) y → TakesAllowed x y
-head_taken h x y first =
-    let most = first.moves.most in
-    let (rest, left) = some_rest y in
-    let (held, was, reads) = first.reads rest left in
-    record {
-      front = first.moves.front;
-      taken = first.moves.moved;
-      most = λ bytes told. inr (record {
-        header = h;
-        rest = input (64 + 60 * length h.species) rest;
-        reads = subst (λ b. header_at (input 0 b) ≡ Ok (h, input (64 + 60 * length h.species) rest)) (same_bytes x.bytes bytes held told was) reads;
-        most = omega (arith, most);
-      });
-    }
-
--- behind records
-pub walks_taken : (h : HeaderView) (r : Standing) (x y z : Told) (answer : Verdict)
-    → HasRead header_at 0 x h (64 + 60 * length h.species) y → r ≡ behind h (64 + 60 * length h.species) → Walks r y z answer → TakesAllowed x z
-walks_taken h r x y z answer first is walks =
-    let there = rw is at walks in
-    let moves = moves_then first.moves there.moves in
+-- behind a header
+behind_taken : (h : HeaderView) (x y z : Told) (n : ℕ) → HasRead header_at 0 x h (header_length (length h.species)) y → Moves 0 n x z → n ≤ allowed h + 1
+    → TakesAllowed x z
+behind_taken h x y z n first moves fits =
     let most = moves.most in
-    let (rest, left) = some_rest y in
-    let (held, was, reads) = first.reads rest left in
     record {
       front = moves.front;
       taken = moves.moved;
-      most = λ bytes told. inr (record {
-        header = h;
-        rest = input (64 + 60 * length h.species) rest;
-        reads = subst (λ b. header_at (input 0 b) ≡ Ok (h, input (64 + 60 * length h.species) rest)) (same_bytes x.bytes bytes held told was) reads;
-        most = omega (arith, most);
-      });
+      most = λ bytes told. inr (let (rest, left, reads) = read_told bytes first told in
+          record { header = h; rest = input (header_length (length h.species)) rest; reads = reads; most = omega (arith, most, fits) });
     }
+
+pub head_taken : (h : HeaderView) (x y : Told) → HasRead header_at 0 x h (header_length (length h.species)) y → TakesAllowed x y
+head_taken h x y first = behind_taken h x y y (header_length (length h.species)) first first.moves (omega arith)
+
+-- behind records
+pub walks_taken : (h : HeaderView) (r : Standing) (x y z : Told) (answer : Verdict)
+    → HasRead header_at 0 x h (header_length (length h.species)) y → r ≡ behind h (header_length (length h.species)) → Walks r y z answer → TakesAllowed x z
+walks_taken h r x y z answer first is walks =
+    let there = rw is at walks in
+    behind_taken h x y z (header_length (length h.species) + (records_length (layout_of h) + 1)) first (moves_then first.moves there.moves) (omega arith)

@@ -1,7 +1,7 @@
 -- The verdict after so many good frames is that of what follows them.
 use Rattle.std.proofs.Common.{◌≡◌, ◌≢◌, ℕ, suc, ◌+◌, ◌-◌, ◌*◌, ◌≤◌, List, [], Option, Some, None, Ok, Err, IsErrAnd, refl, sym, ap, subst, ◌∙◌, arith, add-one}
 use Rattle.std.proofs.lemmas.Result.{err_from_is_err_and}
-use Rattle.pic_io.specs.Told.{Told, Rose, Calm, raised}
+use Rattle.pic_io.specs.Told.{Told, Calm}
 use Rattle.pic_num.specs.declared.motion.Particle.{Particle}
 use Rattle.pic_grid.specs.declared.stop.EndMark.{EndMark}
 use Rattle.pic_grid.specs.Lattice.{Field}
@@ -11,7 +11,7 @@ use Rattle.pic_fields.specs.Parser.{Input, input, Fault, fault}
 use Rattle.pic_fields.specs.Reads.{Left, Moves, HasEnded, Stops}
 use Rattle.pic_fields.specs.declared.read_stop.ReadStop.{ReadStop}
 use Rattle.pic_fields.specs.declared.read_stop.ReadStop.TheVariants as read
-use Rattle.pic_fields.proofs.ReadLaws.{some_rest, moves_none, moves_then, moves_up}
+use Rattle.pic_fields.proofs.ReadLaws.{some_rest, rose_after, moves_none, moves_then, moves_up}
 use Rattle.pic_reader.specs.Layout.{LayoutView}
 use Rattle.pic_reader.specs.FrameFields.{FrameView, frame_of, frame_length}
 use Rattle.pic_reader.specs.Records.{AFrame, AnEnd, record_at}
@@ -186,10 +186,6 @@ ends_records r before y z k here mark so_far has =
       verdict = e1 ∙ walked_end so_far.n r.layout k here.last (input here.place has.held) (input has.stop []) mark is;
     } in
     record { moves = moves_up (last_fits r before y k here so_far) (moves_then so_far.moves has.moves); answer = (found, has.end); no_memory = λ wanted. absurd cc }
-
--- a count that stayed and then rose
-pub rose_after : (x y z : Told) → Calm x y → Rose y z → Rose x z
-rose_after x y z calm rose = subst (λ n. raised n ≤ z.faults) calm rose
 
 stops_answer : (r : Standing) (before y z : Told) (k : ℕ) (here : Standing) (stop : ReadStop)
     → Follows r before k here y → Stops (record_at here.layout here.last) here.place (here.place + record_most here) y z stop

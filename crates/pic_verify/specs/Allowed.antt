@@ -5,7 +5,7 @@ use Rattle.pic_io.specs.Source.{with_front}
 use Rattle.pic_fields.specs.Parser.{Input, input, Fault}
 use Rattle.pic_fields.specs.Reads.{Moves}
 use Rattle.pic_dump.specs.Header.{HeaderView}
-use Rattle.pic_dump.specs.Limits.{most_letters}
+use Rattle.pic_dump.specs.Limits.{most_letters, header_length, longest_end}
 use Rattle.pic_reader.specs.Layout.{LayoutView, layout_of}
 use Rattle.pic_reader.specs.FrameFields.{frame_length}
 use Rattle.pic_reader.specs.HeaderFields.{header_at, header_most}
@@ -17,11 +17,11 @@ frames_due l = (l.steps + (l.every - 1)) / l.every + 1
 
 -- the bytes of all frames that are due, and of the longest end record
 abbrev pub records_length : LayoutView → ℕ
-records_length l = frames_due l * (1 + frame_length l) + 37
+records_length l = frames_due l * (1 + frame_length l) + longest_end
 
 -- the length that a header allows
 abbrev pub allowed : HeaderView → ℕ
-allowed h = 64 + 60 * length h.species + records_length (layout_of h)
+allowed h = header_length (length h.species) + records_length (layout_of h)
 
 -- some bytes begin with a header, and so many are at most one more than it allows
 pub record IsAllowed (bytes : List ℕ) (count : ℕ) : Type 0 where

@@ -9,7 +9,7 @@ use Rattle.pic_charge.specs.declared.breaks.Break.{Break}
 use Rattle.pic_charge.specs.Charge.{charge_of}
 use Rattle.pic_charge.specs.Gauss.{MeetsGauss, IsLeastBreak}
 use Rattle.pic_fields.specs.Parser.{Input, input, Fault, fault, Parsed}
-use Rattle.pic_fields.specs.Spells.{IsBytes}
+use Rattle.pic_fields.specs.Bytes.{IsBytes}
 use Rattle.pic_dump.specs.DumpText.{header_bytes}
 use Rattle.pic_dump.specs.Header.{HeaderView}
 use Rattle.pic_reader.specs.Layout.{LayoutView, layout_of}

@@ -4,7 +4,7 @@ use Rattle.pic_io.specs.Told.{Told}
 use Rattle.pic_io.specs.Source.{with_front}
 use Rattle.pic_fields.specs.Parser.{input}
 use Rattle.pic_fields.specs.Reads.{Moves}
-use Rattle.pic_fields.specs.Spells.{IsBytes}
+use Rattle.pic_fields.specs.Bytes.{IsBytes}
 use Rattle.pic_charge.specs.Gauss.{MeetsGauss}
 use Rattle.pic_dump.specs.Due.{due_after}
 use Rattle.pic_dump.specs.Header.{HeaderView}

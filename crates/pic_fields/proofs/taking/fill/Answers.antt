@@ -6,7 +6,7 @@ use Rattle.pic_io.specs.Told.{Told, Calm}
 use Rattle.pic_io.specs.Source.{with_front}
 use Rattle.pic_io.proofs.Puts.{take-past}
 use Rattle.pic_io.proofs.Takes.{given_twice}
-use Rattle.pic_fields.specs.Fills.{Fronts}
+use Rattle.pic_fields.proofs.Fronts.{Fronts}
 use Rattle.pic_fields.proofs.taking.fill.Goals as goal
 use borrow.Rule.Slice.PartMut.{put_mid}
 

@@ -1,6 +1,6 @@
 -- `fill` ends with the room, and what stands in its front was taken.
 use Rattle.std.proofs.Common.{◌-◌, length}
-use Rattle.pic_fields.specs.Fills.{Fronts}
+use Rattle.pic_fields.proofs.Fronts.{Fronts}
 use Rattle.pic_fields.proofs.taking.fill.Given as goal
 
 abbrev pub invariant-loop-count : goal.invariant-loop-count

@@ -32,7 +32,7 @@ returns-in_err-read_piece_of_values-clause-reads g c =
     let n = 3 * count_of c.args.field.now.cells in
     let fits : first + count ≤ n = omega (arith, so_far.all, so_far.most, c.min-count.ensures) in
     exits_behind (value_at c.args.by) first count n c.from_residual.ensures.1 fits (omega (arith, fits)) so_far.read
-    c.in_err-read_piece_of_values.ensures.reads
+    c.in_err-read_piece_of_values.ensures.part.reads
 
 pub loop-first-preserved : goal.loop-first-preserved
 loop-first-preserved g c =
@@ -43,14 +43,14 @@ loop-first-preserved g c =
     let new = c.read_piece_of_values.new.field.values in
     let piece = c.in_ok-read_piece_of_values.ensures in
     record {
-      read = read_up_to (omega arith) (read_same (part_whole first count old new piece.front)
-          (read_behind (value_at c.args.by) first count so_far.read piece.reads.answer));
+      read = read_up_to (omega arith) (read_same (part_whole first count old new piece.part.front)
+          (read_behind (value_at c.args.by) first count so_far.read piece.part.reads.answer));
       all = so_far.all;
       most = omega (arith, so_far.most, c.min-count.ensures);
       cells = piece.shape.cells ∙ so_far.cells;
       side = piece.shape.side ∙ so_far.side;
       parts = piece.shape.parts ∙ so_far.parts;
-      length = piece.length ∙ so_far.length;
+      length = piece.part.whole ∙ so_far.length;
       moderate = piece.moderate;
     }
 

@@ -3,12 +3,16 @@ use Rattle.pic_fields.proofs.PieceLaws.{reads_piece}
 use Rattle.pic_reader.proofs.PartLaws.{of_values}
 use Rattle.pic_reader.proofs.field_reader.read_piece_of_values.Goals as goal
 
-pub returns-clause-reads : goal.returns-clause-reads
-returns-clause-reads g c =
+pub returns-clause-part : goal.returns-clause-part
+returns-clause-part g c =
     let room = c.fill.new.room in
     let taken = c.in_ok-taken.taken in
     let size : length room ≡ c.args.count * 16 = omega (arith, c.fill.ensures.length) in
     let piece : c.new-piece.result ≡ take taken room = c.new-piece.ensures in
-    let reads = rw piece at c.read_values.ensures.reads in
-    reads_piece (c.args.count * 16) taken room _ (of_values c.args.by (take c.args.first c.args.field.now.values) c.args.count) size (omega arith)
-    c.in_ok-taken.ensures.fills reads
+    let part = rw piece at c.read_values.ensures.part in
+    record {
+      reads = reads_piece (c.args.count * 16) taken room _ (of_values c.args.by (take c.args.first c.args.field.now.values) c.args.count) size (omega arith)
+          c.in_ok-taken.ensures.fills part.reads;
+      whole = part.whole;
+      front = part.front;
+    }

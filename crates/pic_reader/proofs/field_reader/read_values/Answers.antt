@@ -1,10 +1,11 @@
-use Rattle.std.proofs.Common.{◌≡◌, ◌+◌, ◌<◌, ◌++◌, length, take, refl, sym, ap, ◌∙◌, arith, rules, to_z, of_z, length-set}
+use Rattle.std.proofs.Common.{◌≡◌, ◌+◌, ◌*◌, ◌<◌, ◌++◌, length, take, drop, refl, sym, ap, ◌∙◌, subst, arith, rules, to_z, of_z, length-set}
 use Rattle.std.proofs.lemmas.Int.{to_z-of_z}
 use mir.Syntax.{w128}
 use mir.Val.{SFits}
 use Rattle.pic_num.specs.Space.{triple}
 use Rattle.pic_grid.specs.Cells.{place_of}
 use Rattle.pic_fields.specs.Pieces.{each_behind}
+use Rattle.pic_fields.specs.Reads.{HasRead}
 use Rattle.pic_fields.proofs.ReadLaws.{read_same, read_up_to}
 use Rattle.pic_fields.proofs.EachLaws.{read_none, read_more, exits_among}
 use Rattle.pic_reader.specs.FrameFields.{IsModerate, value_at}
@@ -27,13 +28,17 @@ loop-index-init g c =
       moderate = λ k d below. c.requires.moderate k d (omega (arith, below));
     }
 
-pub returns-in_err-value-clause-reads : goal.returns-in_err-value-clause-reads
+pub returns-in_err-value-clause-part : goal.returns-in_err-value-clause-part
 unfolding value_at
-returns-in_err-value-clause-reads g c =
+returns-in_err-value-clause-part g c =
     let xs = c.args.field.now.values in
     let first = c.args.first in
-    exits_among c.args.count c.loop-index.index (λ ys. value_at c.args.by (take first xs ++ ys)) c.from_residual.ensures.1 c.loop-index-test.true
-    (omega (arith, c.loop-index-test.true)) c.loop-index.invariant.read c.in_err-value.ensures.reads
+    record {
+      reads = exits_among c.args.count c.loop-index.index (λ ys. value_at c.args.by (take first xs ++ ys)) c.from_residual.ensures.1
+          c.loop-index-test.true (omega (arith, c.loop-index-test.true)) c.loop-index.invariant.read c.in_err-value.ensures.reads;
+      whole = c.loop-index.invariant.length;
+      front = c.loop-index.invariant.front;
+    }
 
 pub loop-index-preserved : goal.loop-index-preserved
 unfolding value_at
@@ -63,3 +68,21 @@ loop-index-preserved g c =
       front = front_stays first i f.values v ∙ so_far.front;
       moderate = λ k d below. each_set (IsModerate by) f.values m v inside so_far.moderate c.in_ok-value.ensures.bounds k d (omega (arith, below, next));
     })
+
+pub returns-clause-part : goal.returns-clause-part
+returns-clause-part g c =
+    let so_far = c.loop-index.invariant in
+    let xs = c.args.field.now.values in
+    let new = c.loop-index.field.values in
+    let first = c.args.first in
+    let before = g.S.Source.told c.args.source.now in
+    let now = g.S.Source.told c.loop-index.source in
+    let all : c.loop-index.index ≡ c.args.count = omega (arith, c.loop-index-test.false, c.loop-index.auto.index-end) in
+    record {
+      reads = record {
+        answer = subst (λ n. HasRead (each_behind (take first xs) n (value_at c.args.by)) c.args.place before (drop first (take (first + n) new))
+            (c.args.place + 16 * n) now) all so_far.read;
+      };
+      whole = so_far.length;
+      front = so_far.front;
+    }

@@ -29,7 +29,7 @@ returns-in_err-read_piece_of_particles-clause-reads g c =
     let n = sum c.args.layout.now.counts in
     let fits : first + count ≤ n = omega (arith, so_far.all, so_far.most, c.min-count.ensures) in
     exits_behind (particle_at c.args.layout.now) first count n c.from_residual.ensures.1 fits (omega (arith, fits)) so_far.read
-    c.in_err-read_piece_of_particles.ensures.reads
+    c.in_err-read_piece_of_particles.ensures.part.reads
 
 pub loop-first-preserved : goal.loop-first-preserved
 loop-first-preserved g c =
@@ -40,13 +40,13 @@ loop-first-preserved g c =
     let new = c.read_piece_of_particles.new.particles in
     let piece = c.in_ok-read_piece_of_particles.ensures in
     record {
-      read = read_up_to (omega arith) (read_same (part_whole first count old new piece.front)
-          (read_behind (particle_at c.args.layout.now) first count so_far.read piece.reads.answer));
+      read = read_up_to (omega arith) (read_same (part_whole first count old new piece.part.front)
+          (read_behind (particle_at c.args.layout.now) first count so_far.read piece.part.reads.answer));
       all = so_far.all;
       most = omega (arith, so_far.most, c.min-count.ensures);
-      length = piece.length ∙ so_far.length;
-      species = piece.species;
-      places = piece.places;
+      length = piece.part.whole ∙ so_far.length;
+      species = piece.held.species;
+      places = piece.held.places;
     }
 
 pub returns-clause-reads : goal.returns-clause-reads

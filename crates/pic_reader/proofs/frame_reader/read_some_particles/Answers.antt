@@ -1,4 +1,4 @@
-use Rattle.std.proofs.Common.{◌≡◌, ◌+◌, ◌*◌, ◌<◌, ◌++◌, Err, length, take, drop, refl, sym, ◌∙◌, arith, length-set}
+use Rattle.std.proofs.Common.{◌≡◌, ◌+◌, ◌*◌, ◌<◌, ◌++◌, Err, length, take, drop, refl, sym, ◌∙◌, subst, arith, length-set}
 use Rattle.pic_energy.specs.Energies.{IsOfKinds}
 use Rattle.pic_fields.specs.Pieces.{each_behind}
 use Rattle.pic_fields.specs.Reads.{HasRead, Reads, as_it_is}
@@ -19,13 +19,13 @@ loop-index-init g c =
       read = read_same {p = each_behind (take first xs) 0 (particle_at l)} (sym (part_none first xs)) (read_up_to (omega arith) none);
       length = refl;
       front = refl;
-      species = λ k d below. c.requires.species k d (omega (arith, below));
-      places = λ k d below. c.requires.places k d (omega (arith, below));
+      species = λ k d below. c.requires.held.species k d (omega (arith, below));
+      places = λ k d below. c.requires.held.places k d (omega (arith, below));
     }
 
-pub returns-in_err-particle-clause-reads : goal.returns-in_err-particle-clause-reads
+pub returns-in_err-particle-clause-part : goal.returns-in_err-particle-clause-part
 unfolding particle_at
-returns-in_err-particle-clause-reads g c =
+returns-in_err-particle-clause-part g c =
     let so_far = c.loop-index.invariant in
     let i = c.loop-index.index in
     let l = c.args.layout.now in
@@ -38,8 +38,12 @@ returns-in_err-particle-clause-reads g c =
     let stopped : Reads as_it_is (particle_at l (front ++ part)) at (at + 24) (g.S.Source.told c.loop-index.source)
     (g.S.Source.told c.read_particle.new.source)
     (Err c.in_err-particle.field-0.0) = rw size c.in_err-particle.ensures.reads in
-    exits_among c.args.count i (λ ys. particle_at l (front ++ ys)) c.from_residual.ensures.1 c.loop-index-test.true
-    (omega (arith, c.loop-index-test.true)) so_far.read stopped
+    record {
+      reads = exits_among c.args.count i (λ ys. particle_at l (front ++ ys)) c.from_residual.ensures.1 c.loop-index-test.true
+          (omega (arith, c.loop-index-test.true)) so_far.read stopped;
+      whole = so_far.length;
+      front = so_far.front;
+    }
 
 pub loop-index-preserved : goal.loop-index-preserved
 unfolding particle_at
@@ -65,4 +69,32 @@ loop-index-preserved g c =
       front = front_stays first i ps p ∙ so_far.front;
       species = λ k d below. each_set (IsOfKinds l.kinds) ps m p inside so_far.species c.in_ok-particle.ensures.species k d (omega (arith, below, assoc));
       places = λ k d below. each_set (IsPlaced l.side l.cells) ps m p inside so_far.places c.in_ok-particle.ensures.place k d (omega (arith, below, assoc));
+    }
+
+pub returns-clause-part : goal.returns-clause-part
+returns-clause-part g c =
+    let so_far = c.loop-index.invariant in
+    let xs = c.args.particles.now in
+    let new = c.loop-index.particles in
+    let l = c.args.layout.now in
+    let first = c.args.first in
+    let before = g.S.Source.told c.args.source.now in
+    let now = g.S.Source.told c.loop-index.source in
+    let all : c.loop-index.index ≡ c.args.count = omega (arith, c.loop-index-test.false, c.loop-index.auto.index-end) in
+    record {
+      reads = record {
+        answer = subst (λ n. HasRead (each_behind (take first xs) n (particle_at l)) c.args.place before (drop first (take (first + n) new))
+            (c.args.place + 24 * n) now) all so_far.read;
+      };
+      whole = so_far.length;
+      front = so_far.front;
+    }
+
+pub returns-clause-held : goal.returns-clause-held
+returns-clause-held g c =
+    let so_far = c.loop-index.invariant in
+    let all : c.loop-index.index ≡ c.args.count = omega (arith, c.loop-index-test.false, c.loop-index.auto.index-end) in
+    record {
+      species = λ k d below. so_far.species k d (omega (arith, below, all));
+      places = λ k d below. so_far.places k d (omega (arith, below, all));
     }

@@ -1,6 +1,8 @@
 use Rattle.std.proofs.Common.{◌≡◌, ◌+◌, ℕ, Some, refl, sym, ap, ◌∙◌, arith}
 use Rattle.pic_fields.proofs.ReadLaws.{read_then, read_same, read_as, read_up_to, ends_then, ended_up, stops_first, stops_then, stops_as}
+use Rattle.pic_dump.specs.DumpText.{frame_tag}
 use Rattle.pic_dump.specs.Due.{due_after}
+use Rattle.pic_dump.specs.Limits.{longest_end}
 use Rattle.std.specs.Prelude.{unwrap_or}
 use Rattle.std.proofs.lemmas.Bool.{eq-eqb, ne_eqb}
 use Rattle.pic_reader.specs.FrameFields.{frame_of, frame_length}
@@ -27,7 +29,7 @@ returns-in_err-energies-clause-reads g c =
     let due : c.due_after-due.result ≡ due_after l.steps l.every last = rw (c.steps.ensures.value, c.every.ensures.value) at c.due_after-due.ensures.value in
     let least = most_least l (due_after l.steps l.every last) in
     let tag = rw due at c.in_ok-tag.ensures.reads in
-    let frame = eq-eqb _ 70 c.if-tag-eq-FRAME.true in
+    let frame = eq-eqb _ frame_tag c.if-tag-eq-FRAME.true in
     let passes = rw due at c.in_ok-tag.ensures.passes in
     let whole = most_frame l (due_after l.steps l.every last) last c.in_ok-tag.tag passes frame in
     let stopped = rw (c.unwrap_or-step.ensures, due) at c.in_err-energies.ensures.reads in
@@ -42,7 +44,7 @@ invariant_of-reader g c =
     let last = c.self.inside.last in
     let due : c.due_after-due.result ≡ due_after l.steps l.every last = rw (c.steps.ensures.value, c.every.ensures.value) at c.due_after-due.ensures.value in
     let least = most_least l (due_after l.steps l.every last) in
-    let frame = eq-eqb _ 70 c.if-tag-eq-FRAME.true in
+    let frame = eq-eqb _ frame_tag c.if-tag-eq-FRAME.true in
     let tag = rw due at c.in_ok-tag.ensures.passes in
     let step = c.unwrap_or-step.ensures ∙ ap (λ o. unwrap_or o 0) due in
     let limit = due_most c.due_after-due.result c.steps.result c.due_after-due.ensures.most in
@@ -59,7 +61,7 @@ returns-then-tag-eq-FRAME-clause-reads g c =
     let due : c.due_after-due.result ≡ due_after l.steps l.every last = rw (c.steps.ensures.value, c.every.ensures.value) at c.due_after-due.ensures.value in
     let least = most_least l (due_after l.steps l.every last) in
     let tag = rw due at c.in_ok-tag.ensures.reads in
-    let is_frame = eq-eqb _ 70 c.if-tag-eq-FRAME.true in
+    let is_frame = eq-eqb _ frame_tag c.if-tag-eq-FRAME.true in
     let read = rw (c.unwrap_or-step.ensures, due) at c.in_ok-energies.ensures.reads in
     let wrapped = read_as AFrame read.answer in
     let behind = rw (sym (of_frame l last (due_after l.steps l.every last) c.in_ok-tag.tag is_frame)) at wrapped in
@@ -91,10 +93,10 @@ returns-in_err-mark-clause-reads g c =
     let due : c.due_after-due.result ≡ due_after l.steps l.every last = rw (c.steps.ensures.value, c.every.ensures.value) at c.due_after-due.ensures.value in
     let least = most_least l (due_after l.steps l.every last) in
     let tag = rw due at c.in_ok-tag.ensures.reads in
-    let end = ne_eqb _ 70 c.if-tag-eq-FRAME.false in
+    let end = ne_eqb _ frame_tag c.if-tag-eq-FRAME.false in
     let stopped = rw due at c.in_err-mark.ensures in
     let behind = rw (sym (of_end l last (due_after l.steps l.every last) c.in_ok-tag.tag end)) at stopped.answer in
-    rw (sym c.self.view_is) (next_exits _ {n = c.self.inside.place + 1 + 37} (omega (arith, least)) c.from_residual-in_err-mark.ensures.1
+    rw (sym c.self.view_is) (next_exits _ {n = c.self.inside.place + 1 + longest_end} (omega (arith, least)) c.from_residual-in_err-mark.ensures.1
     (stops_then _ tag.answer behind))
 
 pub returns-clause-reads : goal.returns-clause-reads
@@ -105,7 +107,7 @@ returns-clause-reads g c =
     let due : c.due_after-due.result ≡ due_after l.steps l.every last = rw (c.steps.ensures.value, c.every.ensures.value) at c.due_after-due.ensures.value in
     let least = most_least l (due_after l.steps l.every last) in
     let tag = rw due at c.in_ok-tag.ensures.reads in
-    let end = ne_eqb _ 70 c.if-tag-eq-FRAME.false in
+    let end = ne_eqb _ frame_tag c.if-tag-eq-FRAME.false in
     let read = rw due at c.in_ok-mark.ensures in
     let behind = rw (sym (of_end l last (due_after l.steps l.every last) c.in_ok-tag.tag end)) at read.answer in
-    rw (sym c.self.view_is) (record { answer = ended_up {e = c.self.inside.place + 1 + 37} (omega (arith, least)) (ends_then _ tag.answer behind) })
+    rw (sym c.self.view_is) (record { answer = ended_up {e = c.self.inside.place + 1 + longest_end} (omega (arith, least)) (ends_then _ tag.answer behind) })

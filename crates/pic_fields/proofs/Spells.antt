@@ -1,10 +1,7 @@
 -- The spelling of a format's values.
-use Rattle.std.specs.Prelude.{◌≡◌, ℕ, ◌+◌, ◌<◌, List, ◌++◌, length, get_or, Ok}
+use Rattle.std.proofs.Common.{◌≡◌, ℕ, ◌+◌, List, ◌++◌, length, Ok}
+use Rattle.pic_fields.specs.Bytes.{IsBytes}
 use Rattle.pic_fields.specs.Parser.{Parser, Input, input}
-
--- numbers that are bytes
-abbrev pub IsBytes : List ℕ → Type 0
-IsBytes bytes = (i : ℕ) → get_or bytes i 0 < 256
 
 -- what was taken is the spelling of a value that fits
 pub record IsSpelled {A : Type 0} (spell : A → List ℕ) (Fits : A → Type 0) (place : ℕ) (bytes : List ℕ) (a : A) (i : Input) : Type 0 where
