@@ -13,12 +13,12 @@ use Rattle.pic_tile.specs.Layers.{layers_from}
 use Rattle.pic_tile.specs.Tile.{TileValue, parcel_at}
 use Rattle.pic_push.specs.Gains.{IsClear}
 use Rattle.pic_push.specs.Reach.{spans, reaches}
-use Rattle.pic_push.specs.Region.{up_on, up_beside, IsUp, AreUps, IsLastOn, layers_at, CanGain, CanTake}
+use Rattle.pic_push.specs.Region.{up_on, up_beside, IsUp, AreUps, IsLastOn, layers_at, CanGain, CanGainAll}
 use Rattle.pic_push.proofs.RegionLaws.{AreUpTo, up_to, layers_are, reach_to, reached}
 use Rattle.pic_push.proofs.TrackLaws.{wide_room}
 
 -- the parcel of a direction that steps up where the last does, or not at all
-pub can_gain : (f : CellFlux) (own : Parcel) (t : TileValue) (up last : ℕ) (p : Parcel) → CanTake f own t
+pub can_gain : (f : CellFlux) (own : Parcel) (t : TileValue) (up last : ℕ) (p : Parcel) → CanGainAll f own t
     → IsLastOn last own.flux.low own.flux.size (flux_cell f) → last < directions → AreUpTo up last → up < directions → parcel_at t up ≡ Some p
     → CanGain last up f p.flux
 can_gain f own t up last p h at last_few to few is =
@@ -29,7 +29,7 @@ can_gain f own t up last p h at last_few to few is =
     record { last_few = last_few; up_few = few; modest = h.modest; room = wide_room p.flux room.most; layers = layers }
 
 -- the own one
-pub own_gains : (f : CellFlux) (own : Parcel) (t : TileValue) (last : ℕ) → CanTake f own t → IsLastOn last own.flux.low own.flux.size (flux_cell f)
+pub own_gains : (f : CellFlux) (own : Parcel) (t : TileValue) (last : ℕ) → CanGainAll f own t → IsLastOn last own.flux.low own.flux.size (flux_cell f)
     → last < directions → AreUpTo here last → CanGain last here f own.flux
 own_gains f own t last h at few to = record {
   last_few = few;
@@ -43,7 +43,7 @@ no_some : (p : Parcel) → ◌≡◌ {A = Option Parcel} None (Some p) → ⊥
 no_some p h = cc
 
 -- no flux passes the parcels that aren't reached; the own one is held apart
-pub unreached_clear : (f : CellFlux) (own : Parcel) (t : TileValue) (last d : ℕ) (p : Parcel) → CanTake f own t
+pub unreached_clear : (f : CellFlux) (own : Parcel) (t : TileValue) (last d : ℕ) (p : Parcel) → CanGainAll f own t
     → IsLastOn last own.flux.low own.flux.size (flux_cell f) → AreUpTo here last → d < directions → ((d ≡ here → ⊥) → reaches (reach_to last) d ≡ false)
     → parcel_at t d ≡ Some p → IsClear (edge_flux f) p.flux
 unreached_clear f own t last d p h at to few out is = elim (ℕ_discrete d here) [

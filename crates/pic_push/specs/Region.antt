@@ -113,7 +113,7 @@ pub record CanGain (last up : ℕ) (f : CellFlux) (b : BlockValues) : Type 0 whe
 
 -- a flux can be added to a tile's parcels, of which the own one is held apart: there is room, and
 -- nothing of it passes the layers that its cell doesn't reach
-pub record CanTake (f : CellFlux) (own : Parcel) (t : TileValue) : Type 0 where
+pub record CanGainAll (f : CellFlux) (own : Parcel) (t : TileValue) : Type 0 where
   pub modest : IsModest f
   pub opened : IsOpenTo most_sent own.flux.low own.flux.size t
   pub most : AllAtMost most_sent own.flux

@@ -9,7 +9,7 @@ ghost use Rattle.pic_tile.specs.declared.parcel.Parcel.{Parcel};
 ghost use Rattle.pic_tile.specs.Directions.{directions, here};
 ghost use Rattle.pic_tile.specs.Tile.{parcel_at};
 ghost use Rattle.pic_push.specs.Gains.{Gained, GainsAt, Gains, IsClear};
-ghost use Rattle.pic_push.specs.Region.{IsUp, AreUps, IsLastOn, CanGain, CanTake};
+ghost use Rattle.pic_push.specs.Region.{IsUp, AreUps, IsLastOn, CanGain, CanGainAll};
 ghost use Rattle.pic_push.specs.Reach.{IsReach, reaches};
 
 use crate::reach::Reach;
@@ -59,7 +59,7 @@ fn add_up<const LAST: u32, const UP: u32>(flux: &CellFlux, tile: &mut Tile)
 #[inline(always)]
 pub(crate) fn add_at_face<const UP: u32>(flux: &CellFlux, tile: &mut Tile, own: &mut Parcel)
     requires up { IsUp UP }
-    requires can { CanTake flux.now own.old tile.old }
+    requires can { CanGainAll flux.now own.old tile.old }
     requires face { IsLastOn UP own.old.flux.low own.old.flux.size (flux_cell flux.now) }
     ensures own { Gained (edge_flux flux.now) own.old own.new }
     ensures others { Gains (edge_flux flux.now) tile.old tile.new }
@@ -77,7 +77,7 @@ pub(crate) fn add_at_edge<const SECOND: u32, const THIRD: u32, const FAR: u32>(
     own: &mut Parcel,
 )
     requires ups { AreUps SECOND THIRD FAR }
-    requires can { CanTake flux.now own.old tile.old }
+    requires can { CanGainAll flux.now own.old tile.old }
     requires edge { IsLastOn FAR own.old.flux.low own.old.flux.size (flux_cell flux.now) }
     ensures own { Gained (edge_flux flux.now) own.old own.new }
     ensures others { Gains (edge_flux flux.now) tile.old tile.new }
@@ -123,7 +123,7 @@ pub(crate) fn spread(flux: &CellFlux, reach: &Reach, tile: &mut Tile)
 
 /// Adds it to all parcels of a tile, of which that of no step is held apart, wherever its cell lies.
 pub(crate) fn add_anywhere(flux: &CellFlux, cell: [i32; 3], tile: &mut Tile, own: &mut Parcel)
-    requires can { CanTake flux.now own.old tile.old }
+    requires can { CanGainAll flux.now own.old tile.old }
     requires cell { flux_cell flux.now ≡ spot cell }
     ensures own { Gained (edge_flux flux.now) own.old own.new }
     ensures others { Gains (edge_flux flux.now) tile.old tile.new }
