@@ -3,6 +3,7 @@ use Rattle.std.specs.Prelude.{MatchOption}
 use Rattle.std.proofs.Math.IntN.{ℤ}
 use Rattle.pic_num.specs.declared.axis.Axis.{Axis}
 use Rattle.pic_num.specs.Space.{Spot}
+use Rattle.pic_tile.specs.Directions.{directions}
 use Rattle.pic_tile.specs.Tile.{TileValue}
 use Rattle.pic_flux.specs.CellFlux.{edge_flux}
 use Rattle.pic_push.specs.declared.reach.Direction.{Direction}
@@ -21,7 +22,7 @@ invariant-loop-next l = Before (edge_flux l.flux) l.initial.tile l.next l.tile
 -- how many numbers of directions are left
 abbrev pub numbers_left : Option Direction → ℕ
 numbers_left None = 0
-numbers_left (Some at) = 27 - direction_number at
+numbers_left (Some at) = directions - direction_number at
 
 abbrev pub decreases-loop-next : goal.decreases-loop-next
 decreases-loop-next l = numbers_left l.next
