@@ -1,5 +1,5 @@
 -- What parcels gain of a piece in a region of its tile.
-use Rattle.std.proofs.Common.{◌≡◌, ℕ, ◌<◌, false, Option, Some, None, refl, sym, ap, subst, ◌∙◌, arith}
+use Rattle.std.proofs.Common.{◌≡◌, ℕ, ◌<◌, false, Some, refl, sym, ap, subst, ◌∙◌, arith}
 use Rattle.std.proofs.Math.Decide.{ℕ_discrete}
 use Rattle.std.proofs.lemmas.Bool.Decides.{nat_tests}
 use Rattle.pic_num.specs.declared.axis.Axis.{Axis}
@@ -14,6 +14,7 @@ use Rattle.pic_tile.specs.Tile.{TileValue, parcel_at}
 use Rattle.pic_push.specs.Gains.{IsClear}
 use Rattle.pic_push.specs.Reach.{spans, reaches}
 use Rattle.pic_push.specs.Region.{up_on, up_beside, IsUp, AreUps, IsLastOn, layers_at, CanGain, CanGainAll}
+use Rattle.pic_push.proofs.GainLaws.{no_parcel}
 use Rattle.pic_push.proofs.RegionLaws.{AreUpTo, up_to, layers_are, reach_to, reached}
 use Rattle.pic_push.proofs.TrackLaws.{wide_room}
 
@@ -39,15 +40,12 @@ own_gains f own t last h at few to = record {
   layers = layers_are here last own.flux.low own.flux.size (flux_cell f) to at;
 }
 
-no_some : (p : Parcel) → ◌≡◌ {A = Option Parcel} None (Some p) → ⊥
-no_some p h = cc
-
 -- no flux passes the parcels that aren't reached; the own one is held apart
 pub unreached_clear : (f : CellFlux) (own : Parcel) (t : TileValue) (last d : ℕ) (p : Parcel) → CanGainAll f own t
     → IsLastOn last own.flux.low own.flux.size (flux_cell f) → AreUpTo here last → d < directions → ((d ≡ here → ⊥) → reaches (reach_to last) d ≡ false)
     → parcel_at t d ≡ Some p → IsClear (edge_flux f) p.flux
 unreached_clear f own t last d p h at to few out is = elim (ℕ_discrete d here) [
-  | yes same ↦ absurd (no_some p (sym h.opened.apart ∙ ap (parcel_at t) (sym same) ∙ is))
+  | yes same ↦ absurd (no_parcel p (sym h.opened.apart ∙ ap (parcel_at t) (sym same) ∙ is))
   | no away ↦ h.clear (reach_to last) d p (reached last own.flux.low own.flux.size (flux_cell f) to at) few (out away) is
 ]
 

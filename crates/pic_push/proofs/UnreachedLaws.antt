@@ -22,17 +22,6 @@ use Rattle.pic_push.specs.declared.reach.Direction.{Direction}
 use Rattle.pic_push.specs.declared.reach.Reach.{Reach}
 use Rattle.pic_push.specs.Reach.{spans, reaches, IsReach, AreStepsOf, IsReachOf, AreSteps, first_direction, direction_number}
 
--- the steps of a reach
-pub reach_is : (low : Spot) (n : Triple) (cell : Spot) (r : Reach) → IsReachOf low n cell r → IsReach r
-reach_is low n cell r h = record {
-  x_first = h.x.first;
-  y_first = h.y.first;
-  z_first = h.z.first;
-  x_last = h.x.last_high;
-  y_last = h.y.last_high;
-  z_last = h.z.last_high;
-}
-
 -- a step that isn't spanned is under the first or over the last
 not_spanned : (s : Steps) (e : ℕ) → spans s e ≡ false → (e < s.first) ⊎ (s.last < e)
 unfolding spans
