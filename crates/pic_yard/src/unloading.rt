@@ -8,8 +8,8 @@ ghost use Rattle.pic_yard.specs.Laying.{LiesHome};
 ghost use Rattle.pic_yard.specs.Sits.{slot_at};
 ghost use Rattle.pic_yard.specs.Unloading.{AreEmptied, HasTile, IsOut, LiesThere, slots_in};
 
-use crate::laying::SLOTS;
 use crate::piece::Piece;
+use crate::places::SLOTS;
 use atomic_table::Closed;
 use pic_tile::{Dir, Tile};
 use std::alloc::Global;
