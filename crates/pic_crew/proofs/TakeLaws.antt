@@ -24,8 +24,8 @@ use Rattle.pic_yard.specs.Members.{In}
 use Rattle.pic_yard.specs.Steps.{gave_back}
 use Rattle.pic_yard.specs.Yards.{AreReceived, IsReceived, IsSentBy, KeepsMail, MailWaits, Serves, mail_of, opening_of, view_of}
 use Rattle.pic_yard.proofs.MemberLaws.{unseen_in}
-use Rattle.pic_crew.specs.Finishing.{CanTake, IsInOrder, IsReceivingOf, Takes, none_done}
-use Rattle.pic_crew.proofs.Turns.{IsTaking, finished_up_to}
+use Rattle.pic_crew.specs.Finishing.{CanTake, IsInOrder, IsReceivingOf, Takes}
+use Rattle.pic_crew.proofs.Turns.{IsTaking, finished_up_to, none_done}
 
 -- what is done at first, with one more, and in the end
 none_yet : (d : ℕ) → d < directions → none_done d ≡ false

@@ -1,6 +1,6 @@
 -- What holds at each turn of the loops of a crew: a tile whose parcels are merged, a claim whose parcels are posted, a seat at
 -- work, and one that takes in the others.
-use Rattle.std.specs.Prelude.{◌≡◌, ℕ, ◌<◌, ◌≤◌, ◌||◌, Bool, true, false, List, length, nat_eq, nat_lt}
+use Rattle.std.specs.Prelude.{◌≡◌, ℕ, ◌<◌, ◌≤◌, ◌||◌, Bool, true, false, List, length, not, nat_eq, nat_lt}
 use Rattle.atomic_table.specs.declared.shared.Seat.{Seat}
 use Rattle.pic_tile.specs.Directions.{directions, here}
 use Rattle.pic_tile.specs.Tile.{TileValue, parcel_at}
@@ -10,9 +10,13 @@ use Rattle.pic_yard.specs.Claims.{ClaimValue}
 use Rattle.pic_yard.specs.Contents.{Slot}
 use Rattle.pic_yard.specs.Seats.{HasEnded, HasNumber}
 use Rattle.pic_yard.specs.Yards.{IsReceived, IsSentBy, MailWaits, Serves, mail_of, opening_of, view_of}
-use Rattle.pic_crew.specs.Finishing.{IsReceivingOf, none_done}
+use Rattle.pic_crew.specs.Finishing.{IsReceivingOf}
 use Rattle.pic_crew.specs.Posting.{HasPostedSome, IsSameSeat, OwesFrom}
 use Rattle.pic_crew.specs.Teams.{AreDone, CanWork}
+
+-- of the directions none is done
+abbrev pub none_done : ℕ → Bool
+none_done d = not (nat_lt d directions)
 
 -- that of no step is done, and those below a number
 abbrev pub finished_up_to : ℕ → ℕ → Bool

@@ -5,11 +5,11 @@ use mathlib.Core.Option.{some}
 use lib.ListN.{get_elem?}
 use Rattle.pic_yard.specs.declared.view.View.{View}
 use Rattle.pic_yard.specs.Marks.{Lists}
-use Rattle.pic_yard.specs.Members.{In, count_below, at_else}
+use Rattle.pic_yard.specs.Members.{In, count_below}
 use Rattle.pic_yard.specs.Steps.{now_has}
 use Rattle.pic_yard.specs.Tickets.{HasNumbers, Tickets}
 use Rattle.pic_yard.proofs.ViewLaws.{each_view, lists_still, lists_now}
-use Rattle.pic_yard.proofs.CountLaws.{at_here, at_other, stays_true, count_more}
+use Rattle.pic_yard.proofs.CountLaws.{at_else, at_here, at_other, stays_true, count_more}
 
 module _ (tiles seats ticket : ℕ) (views : List View) (t : Tickets tiles seats ticket views) (j : ℕ) (v : View)
     (there : get_elem? views j ≡ some v) (live : v.live ≡ true) (owes : List (ℕ × ℕ)) (rights : List ℕ) where

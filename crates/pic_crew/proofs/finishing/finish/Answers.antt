@@ -6,8 +6,8 @@ use Rattle.pic_yard.specs.declared.view.View.{View}
 use Rattle.pic_yard.specs.Contents.{Slot, IsShut}
 use Rattle.pic_yard.specs.Steps.{gave_back}
 use Rattle.pic_yard.specs.Yards.{IsReceived, mail_of, opening_of, view_of}
-use Rattle.pic_crew.specs.Finishing.{Takes, none_done}
-use Rattle.pic_crew.proofs.Turns.{IsTaking, finished_up_to}
+use Rattle.pic_crew.specs.Finishing.{Takes}
+use Rattle.pic_crew.proofs.Turns.{IsTaking, finished_up_to, none_done}
 use Rattle.pic_crew.proofs.TakeLaws.{can_take, first_more, here_done, next_more, taking_none, taking_more, taking_past, taking_all, mail_kept}
 use Rattle.pic_crew.proofs.finishing.finish.Goals as goal
 use Rattle.pic_crew.proofs.finishing.finish.Goals.{then-ne, else-ne}
