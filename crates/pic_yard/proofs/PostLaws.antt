@@ -52,9 +52,6 @@ count_row posted r d dirs x apart = ap (λ (f : ℕ → Bool). count_below f dir
 if_false : {A : Type 0} (b : Bool) (x y : A) → b ≡ false → (if b then x else y) ≡ y
 if_false b x y is = ap (λ (c : Bool). if c then x else y) is
 
-if_true : {A : Type 0} (b : Bool) (x y : A) → b ≡ true → (if b then x else y) ≡ x
-if_true b x y is = ap (λ (c : Bool). if c then x else y) is
-
 -- all arrival words but that of r stay, and that of r has the number n
 pub record OneArrives (tiles r n : ℕ) (words later : List ℕ) : Type 0 where
   pub now : slice_index later (suc r) ≡ n
