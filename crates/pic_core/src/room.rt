@@ -4,7 +4,7 @@ ghost use Rattle.std.specs.Prelude.{◌≡◌, IfOk, length, replicate, None, fa
 ghost use Rattle.pic_core.specs.Opened.{AreBare, IsRoom};
 
 use pic_num::NoMemory;
-use pic_tile::{ParcelBox, Tile, TileMap};
+use pic_tile::{Dir, ParcelBox, Tile, TileMap};
 use std::alloc::Global;
 
 /// The room that a push of all tiles of a map needs beside them: for each a bare tile that receives
@@ -29,7 +29,7 @@ impl Room {
         ensures { IfOk result (IsRoom map) }
     {
         let count = map.count();
-        let parcels = count as usize * 27;
+        let parcels = count as usize * Dir::COUNT as usize;
         let mail = no_parcels(alloc, parcels)?;
         let bare = bare_tiles(alloc, count)?;
         let claimed = vec![in alloc; false; count as usize]?;
