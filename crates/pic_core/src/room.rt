@@ -12,7 +12,7 @@ use std::alloc::Global;
 /// back, so that the next takes no memory.
 #[derive(Drop)]
 pub struct Room {
-    pub bare: Vec<Tile>,
+    pub(crate) bare: Vec<Tile>,
     pub(crate) mail: Vec<Option<ParcelBox>>,
     pub(crate) claimed: Vec<bool>,
     pub(crate) posted: Vec<bool>,
