@@ -1,7 +1,6 @@
 -- One worker's events, joined: what each of its functions does.
 use Rattle.std.proofs.Common.{◌≡◌, ℕ, ◌+◌, ◌<◌, inl, inr, Bool, true, false, ◌||◌, nat_eq, nat_lt, List}
 use Rattle.std.proofs.Common.{[], ◌∷◌, ◌++◌, cond, flat_map, refl, sym, ap, ◌∙◌, subst, arith, eq-eqb, ne_eqb}
-use Rattle.std.proofs.Math.Decide.{ℕ_discrete}
 use Rattle.std.proofs.lemmas.Bool.{false≢true}
 use Rattle.std.specs.List.{range_with_len}
 use Rattle.pic_tile.specs.CoreEvents.{CanClaim, CanPost, CanMerge, CanShut, Claims, Merges, after_post, after_shut}
@@ -95,22 +94,6 @@ module _ (s : CoreState) (t d to : ℕ) (is : to ≡ goal_of s t d) (below : t <
       shut_next s t d (up_to directions) below within at next stands.places up_all (done ∙ ap (after_shut s) is)
 
 -- that of no step is passed over
-pub merge_passed : (s : CoreState) (t d i : ℕ) → i ≡ here → IsFinishing t d (up_to i) s → IsFinishing t d (up_to (i + 1)) s
-merge_passed s t d i same at = record {
-  claimed = at.claimed;
-  posted = at.posted;
-  others = at.others;
-  own = λ e inside. at.own e inside ∙ sym (passed e);
-  shut = at.shut;
-  all = at.all;
-}
-  where
-    passed : (e : ℕ) → up_to (i + 1) e ≡ up_to i e
-    passed e = elim (ℕ_discrete e i) [
-      | yes is ↦ ap (up_to (i + 1)) (is ∙ same) ∙ up_here (i + 1) ∙ sym (up_here i) ∙ ap (up_to i) (sym (is ∙ same))
-      | no apart ↦ up_other i e apart
-    ]
-
 pub passed_ran : (s : CoreState) (r i : ℕ) → i ≡ here → Ran s (merging_at r i) s
 passed_ran s r i same =
     subst (λ (es : List Event). Ran s es s) (ap (λ (b : Bool). cond b [] (Merge r i ∷ [])) (sym (eq-eqb i here same))) (ran_none s)

@@ -17,7 +17,7 @@ pub(crate) fn slot(tile: u32, dir: Dir) -> usize
     ensures value { result ≡ slot_of tile dir }
     ensures dir { dir < directions }
 {
-    tile as usize * 27 + dir.number() as usize
+    tile as usize * Dir::COUNT as usize + dir.number() as usize
 }
 
 /// Whether the marks of all parcels to a tile are set.
@@ -25,8 +25,8 @@ pub(crate) fn are_all_marked(marks: &[bool], tile: u32) -> bool
     requires { tile * directions + directions ≤ length marks.now }
     ensures { IsTrue result ↔ AreAllDone (λ d. mark marks.now (slot_of tile d)) }
 {
-    let first = tile as usize * 27;
-    for d in 0..27usize {
+    let first = tile as usize * Dir::COUNT as usize;
+    for d in 0..Dir::COUNT as usize {
         if !marks[first + d] {
             return false;
         }

@@ -39,7 +39,7 @@ impl Core {
         ensures ran { Ran self.old
             (merging_at (neighbour_of self.old.frame.map.tiles tile dir) number) self.new }
     {
-        if number == 13 {
+        if number == Dir::HERE.number() {
             return;
         }
         let to = self.frame.map().neighbour(tile, dir);

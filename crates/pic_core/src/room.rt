@@ -4,7 +4,7 @@ ghost use Rattle.std.specs.Prelude.{◌≡◌, IfOk, length, replicate, None, fa
 ghost use Rattle.pic_core.specs.Opened.{AreBare, IsRoom};
 
 use pic_num::NoMemory;
-use pic_tile::{ParcelBox, Tile, TileMap};
+use pic_tile::{Dir, ParcelBox, Tile, TileMap};
 use std::alloc::Global;
 
 /// The room that a push of all tiles of a map needs beside them: for each a bare tile that receives
@@ -12,7 +12,7 @@ use std::alloc::Global;
 /// back, so that the next takes no memory.
 #[derive(Drop)]
 pub struct Room {
-    pub bare: Vec<Tile>,
+    pub(crate) bare: Vec<Tile>,
     pub(crate) mail: Vec<Option<ParcelBox>>,
     pub(crate) claimed: Vec<bool>,
     pub(crate) posted: Vec<bool>,
@@ -29,7 +29,7 @@ impl Room {
         ensures { IfOk result (IsRoom map) }
     {
         let count = map.count();
-        let parcels = count as usize * 27;
+        let parcels = count as usize * Dir::COUNT as usize;
         let mail = no_parcels(alloc, parcels)?;
         let bare = bare_tiles(alloc, count)?;
         let claimed = vec![in alloc; false; count as usize]?;

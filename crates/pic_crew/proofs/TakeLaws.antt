@@ -1,5 +1,5 @@
 -- A tile is finished: its parcels are received and merged, that of no step first and then the others in order.
-use Rattle.std.proofs.Common.{◌≡◌, ℕ, ◌+◌, ◌<◌, Bool, true, false, Some, None, refl, sym, ◌∙◌, ap, subst, arith, true≢false}
+use Rattle.std.proofs.Common.{◌≡◌, ℕ, ◌+◌, ◌<◌, eqb, eq-eqb, Bool, true, false, Some, None, refl, sym, ◌∙◌, ap, subst, arith, true≢false}
 use Rattle.std.proofs.Math.Decide.{ℕ_discrete}
 use Rattle.std.proofs.lemmas.Bool.Decides.{nat_tests}
 use Rattle.atomic_table.specs.declared.shared.Seat.{Seat}
@@ -20,9 +20,12 @@ use Rattle.pic_yard.specs.declared.opening.Opening.{Opening}
 use Rattle.pic_yard.specs.declared.view.View.{View}
 use Rattle.pic_yard.specs.declared.yard.Yard.{Yard}
 use Rattle.pic_yard.specs.Contents.{Slot, IsShut, from_of, start_at, tiles_in}
-use Rattle.pic_yard.specs.Yards.{AreReceived, IsReceived, IsSentBy, MailWaits, Serves, mail_of, opening_of, view_of}
-use Rattle.pic_crew.specs.Finishing.{CanTake, IsInOrder, IsReceivingOf, Takes, none_done}
-use Rattle.pic_crew.proofs.Turns.{IsTaking, finished_up_to}
+use Rattle.pic_yard.specs.Members.{In}
+use Rattle.pic_yard.specs.Steps.{gave_back}
+use Rattle.pic_yard.specs.Yards.{AreReceived, IsReceived, IsSentBy, KeepsMail, MailWaits, Serves, mail_of, opening_of, view_of}
+use Rattle.pic_yard.proofs.MemberLaws.{unseen_in}
+use Rattle.pic_crew.specs.Finishing.{CanTake, IsInOrder, IsReceivingOf, Takes}
+use Rattle.pic_crew.proofs.Turns.{IsTaking, finished_up_to, none_done}
 
 -- what is done at first, with one more, and in the end
 none_yet : (d : ℕ) → d < directions → none_done d ≡ false
@@ -102,6 +105,7 @@ module _ (yard : Yard) (r : ℕ) (old : Seat Slot View) where
         waits = λ d below undone. mail d below;
         received = λ d below is. absurd (let none = none_yet d below in true≢false (sym is ∙ none));
         receives = receiving_none (felt_in o.frame) o.frame.map (start_at o) none_done r tile number none_yet (λ d below. bare d);
+        others = λ q d apart below. refl;
       }
 
   -- the tile of the right is ready for one more
@@ -112,7 +116,7 @@ module _ (yard : Yard) (r : ℕ) (old : Seat Slot View) where
   -- one more is received and merged
   pub taking_more : (done more : ℕ → Bool) (d : ℕ) (seat new : Seat Slot View) (tile tile' : TileValue) → IsTaking yard r done old seat tile
       → IsInOrder done d → IsOneMore d done more → Serves yard new → view_of new ≡ view_of seat → IsReceived new r d
-      → ((e : ℕ) → e < directions → (e ≡ d → ⊥) → mail_of new r e ≡ mail_of seat r e) → Takes (opening_of yard) r d tile tile'
+      → ((q e : ℕ) → e < directions → ((q ≡ r) × (e ≡ d) → ⊥) → mail_of new q e ≡ mail_of seat q e) → Takes (opening_of yard) r d tile tile'
       → IsTaking yard r more old new tile'
   taking_more done more d seat new tile tile' taking order one serves view received others takes = record {
     serves = serves;
@@ -120,12 +124,13 @@ module _ (yard : Yard) (r : ℕ) (old : Seat Slot View) where
     waits = λ e below undone.
         let apart : e ≡ d → ⊥ = λ is. true≢false (sym one.now ∙ ap more (sym is) ∙ undone) in
         let w = taking.waits e below (sym (one.others e apart) ∙ undone) in
-        record { parcel = w.parcel; there = others e below apart ∙ w.there; is = w.is };
+        record { parcel = w.parcel; there = others r e below (λ is. apart is.1) ∙ w.there; is = w.is };
     received = λ e below is. elim (ℕ_discrete e d) [
       | yes same ↦ subst (λ (k : ℕ). IsReceived new r k) (sym same) received
-      | no apart ↦ others e below apart ∙ taking.received e below (sym (one.others e apart) ∙ is)
+      | no apart ↦ others r e below (λ both. apart both.1) ∙ taking.received e below (sym (one.others e apart) ∙ is)
     ];
     receives = takes done more taking.receives order one;
+    others = λ q e apart below. others q e below (λ is. apart is.0) ∙ taking.others q e apart below;
   }
 
   -- or it was that of no step
@@ -141,3 +146,11 @@ module _ (yard : Yard) (r : ℕ) (old : Seat Slot View) where
   taking_all n seat tile all taking =
       let same : finished_up_to n ≡ (λ d. true) = (λ i e. last_done n e all i) in
       (λ d below. taking.received d below (last_done n d all), subst (λ (done : ℕ → Bool). IsReceivingOf (opening_of yard) done r tile) same taking.receives)
+
+  -- the tile is given back: the mail of the other rights is as it was
+  pub mail_kept : (done : ℕ → Bool) (seat new : Seat Slot View) (tile : TileValue) → IsTaking yard r done old seat tile
+      → view_of new ≡ gave_back r (view_of seat) → KeepsMail (view_of new) seat new → KeepsMail (view_of new) old new
+  mail_kept done seat new tile taking view kept q e is below =
+      let left : In q (gave_back r (view_of seat)).rights = subst (λ (v : View). In q v.rights) view is in
+      let apart : q ≡ r → ⊥ = λ same. true≢false (sym (eq-eqb r q (sym same)) ∙ unseen_in (eqb r) q (view_of seat).rights left) in
+      kept q e is below ∙ taking.others q e apart below

@@ -1,6 +1,6 @@
 -- A tile whose parcels are received and merged.
-use Rattle.std.specs.Prelude.{◌≡◌, ℕ, ◌⊎◌, Bool, true, false, not, nat_lt}
-use Rattle.pic_tile.specs.Directions.{directions, here}
+use Rattle.std.specs.Prelude.{◌≡◌, ℕ, ◌⊎◌, Bool, true, false}
+use Rattle.pic_tile.specs.Directions.{here}
 use Rattle.pic_tile.specs.Frame.{felt_in}
 use Rattle.pic_tile.specs.Receiving.{IsOneMore, IsReceiving}
 use Rattle.pic_tile.specs.Tile.{TileValue}
@@ -27,7 +27,3 @@ abbrev pub Takes : Opening → ℕ → ℕ → TileValue → TileValue → Type 
 Takes o r d old new =
     (done more : ℕ → Bool) → IsReceivingOf o done r old → IsInOrder done d
     → IsOneMore d done more → IsReceivingOf o more r new
-
--- of the directions none is done
-abbrev pub none_done : ℕ → Bool
-none_done d = not (nat_lt d directions)

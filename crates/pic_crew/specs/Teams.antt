@@ -4,13 +4,13 @@ use Rattle.atomic_table.specs.declared.shared.Seat.{Seat}
 use Rattle.pic_yard.specs.declared.view.View.{View}
 use Rattle.pic_yard.specs.declared.yard.Yard.{Yard}
 use Rattle.pic_yard.specs.Contents.{Slot}
-use Rattle.pic_yard.specs.Seats.{HasEnded, IsIdle}
+use Rattle.pic_yard.specs.Seats.{HasEnded, IsIdle, most_seats}
 use Rattle.pic_yard.specs.Yards.{Serves, view_of}
 use Rattle.pic_crew.specs.Posting.{IsSameSeat}
 
--- at most so many workers
+-- at most so many workers: each has a seat
 abbrev pub most_workers : ℕ
-most_workers = 64
+most_workers = most_seats
 
 -- a seat that was not told that no tile is left, and lists nothing
 pub record CanWork (yard : Yard) (seat : Seat Slot View) : Type 0 where

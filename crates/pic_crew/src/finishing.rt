@@ -4,7 +4,8 @@ ghost use Rattle.std.specs.Prelude.{◌≡◌, ℕ, ◌<◌};
 ghost use Rattle.pic_tile.specs.Directions.{directions};
 ghost use Rattle.pic_yard.specs.Members.{In};
 ghost use Rattle.pic_yard.specs.Steps.{gave_back};
-ghost use Rattle.pic_yard.specs.Yards.{IsReceived, MailWaits, Serves, mail_of, opening_of, view_of};
+ghost use Rattle.pic_yard.specs.Yards.{IsReceived, KeepsMail, MailWaits, Serves, mail_of};
+ghost use Rattle.pic_yard.specs.Yards.{opening_of, view_of};
 ghost use Rattle.pic_crew.specs.Finishing.{CanTake, Takes};
 
 use pic_merge::{merge, shut};
@@ -21,8 +22,8 @@ fn take_one(yard: &Yard, seat: &mut Seat, right: &mut Right, tile: &mut Tile, di
     ensures right { right.new ≡ right.old }
     ensures view { view_of seat.new ≡ view_of seat.old }
     ensures received { IsReceived seat.new right.old dir }
-    ensures others { (d : ℕ) → d < directions → (d ≡ dir → ⊥)
-        → mail_of seat.new right.old d ≡ mail_of seat.old right.old d }
+    ensures others { (r d : ℕ) → d < directions → ((r ≡ right.old) × (d ≡ dir) → ⊥)
+        → mail_of seat.new r d ≡ mail_of seat.old r d }
     ensures tile { Takes (opening_of yard.now) right.old dir tile.old tile.new }
 {
     let parcel = yard.receive(seat, right, dir);
@@ -30,13 +31,15 @@ fn take_one(yard: &Yard, seat: &mut Seat, right: &mut Right, tile: &mut Tile, di
 }
 
 /// Receives all parcels that were posted to the tile of a right, merges them into a tile, that of
-/// no step first, and gives the finished tile back. It takes no memory.
+/// no step first, and gives the finished tile back. The mail of the seat's other rights stays. It
+/// takes no memory.
 pub fn finish(yard: &Yard, seat: &mut Seat, mut right: Right)
     requires serves { Serves yard.now seat.old }
     requires right { In right (view_of seat.old).rights }
     requires mail { (d : ℕ) → d < directions → MailWaits (opening_of yard.now) seat.old right d }
     ensures serves { Serves yard.now seat.new }
     ensures view { view_of seat.new ≡ gave_back right (view_of seat.old) }
+    ensures kept { KeepsMail (view_of seat.new) seat.old seat.new }
 {
     let mut tile = Tile::bare(right.tile());
     take_one(yard, seat, &mut right, &mut tile, Dir::HERE);

@@ -1,12 +1,11 @@
 -- The path of a particle can be deposited.
-use Rattle.std.proofs.Common.{◌≡◌, ◌*◌, ◌^◌, Option, Some, [], ◌∷◌, unsigned_abs, ◌∙◌, ℕ, zero, suc, ◌<◌, ◌≤◌, List, take, ap, arith, sym, subst}
+use Rattle.std.proofs.Common.{◌≡◌, ◌*◌, ◌^◌, Option, Some, [], ◌∷◌, unsigned_abs, ◌∙◌, ℕ, zero, suc, ◌<◌, ◌≤◌, List, take, ap, arith}
 use Rattle.std.proofs.Math.IntN.{ℤ}
 use Rattle.std.specs.Prelude.{All}
 use Rattle.pic_num.specs.Limits.{most_charge}
 use Rattle.pic_num.specs.declared.axis.Axis.{Axis}
 use Rattle.pic_num.specs.Sizes.{IsAtMost}
 use Rattle.pic_num.specs.Space.{Spot}
-use Rattle.pic_grid.specs.Block.{BlockValues, AllAtMost}
 use Rattle.pic_grid.specs.Flux.{flux, path_flux}
 use Rattle.pic_grid.specs.Sums.{sum_over}
 use Rattle.pic_grid.proofs.OverLaws.{sum_over-one}
@@ -16,9 +15,6 @@ use Rattle.pic_grid.specs.Segment.{Piece, IsInCell, Leads, arrived, onward}
 use Rattle.pic_grid.specs.Traces.{IsFluxAtMost}
 use Rattle.pic_grid.proofs.FluxLaws.{front_flux_size}
 use Rattle.pic_grid.specs.Ways.{ways}
-use Rattle.pic_flux.specs.Adds.{SumsBelow}
-use Rattle.pic_flux.proofs.FluxSizeLaws.{piece_below}
-use Rattle.pic_push.specs.Sends.{most_sent}
 use Rattle.pic_split.specs.Move.{IsMove, lone_piece}
 use Rattle.pic_split.proofs.LeadLaws.{move_along}
 use Rattle.pic_split.proofs.WayLaws.{path_ways}
@@ -62,10 +58,3 @@ pub lone_flux : (side : ℕ) (q : ℤ) (ss : List Piece) (s : Piece) (a : Axis) 
 unfolding path_flux
 lone_flux side q ss s a c one =
     ap (λ (ts : List Piece). sum_over (λ t. flux side q t a c) ts) (lone_is ss s one) ∙ sum_over-one (λ t. flux side q t a c) s
-
--- the room that a piece needs beside the flux of all particles and of the pieces before
-pub piece_room : (side : ℕ) (q : ℤ) (s : Piece) (b : BlockValues) (held : ℤ) → side ≤ 2 ^ 14 → IsAtMost q most_charge → IsInCell side s
-    → AllAtMost most_sent b → held ≡ q → SumsBelow b (flux side held s)
-piece_room side q s b held most charge inside room same =
-    let few = charged_few side q most charge in
-    subst (λ (v : ℤ). SumsBelow b (flux side v s)) (sym same) (piece_below side b q s most_sent room inside (omega (arith, few)))

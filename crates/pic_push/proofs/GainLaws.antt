@@ -52,7 +52,7 @@ called_flux f d p flux shown left old new shows leaves shape adds after = record
   after = after;
 }
 
-no_parcel : (p : Parcel) → ◌≡◌ {A = Option Parcel} None (Some p) → ⊥
+pub no_parcel : (p : Parcel) → ◌≡◌ {A = Option Parcel} None (Some p) → ⊥
 no_parcel p h = cc
 
 -- where a flux is changed in its place, its parcel gains

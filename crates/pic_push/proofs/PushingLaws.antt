@@ -17,10 +17,12 @@ use Rattle.pic_tile.specs.Layers.{corner, IsLayers}
 use Rattle.pic_tile.specs.Parcels.{IsParcel, IsFresh, no_flux}
 use Rattle.pic_tile.specs.Tile.{TileValue, parcel_at, with_parcel, chain_of, flux_of, stop_of_parcel}
 use Rattle.pic_tile.specs.Tiling.{Tiling}
+use Rattle.pic_tile.proofs.ReceivingLaws.{some_there}
 use Rattle.pic_tile.proofs.TileLaws.{none_left}
 use Rattle.pic_tile.specs.Pushed.{IsOfTile, IsSent, IsPushed}
 use Rattle.pic_push.specs.Opened.{IsFreshParcel, IsOpened, IsSentOut}
 use Rattle.pic_push.specs.Sends.{Sends, SendsOut, HasRoom, IsOpen}
+use Rattle.pic_push.proofs.GainLaws.{no_parcel}
 use Rattle.pic_push.proofs.ParcelLaws.{parcel_more, parcel_none, parcel_room}
 
 -- from a start on, those done have been sent, the rest follow
@@ -110,7 +112,7 @@ pub still_open : (w : Surroundings) (m : Tiling) (kinds : List Kind) (start rest
 still_open w m kinds start rest tile own t low size some side limits few at thick p = record {
   whole = λ d below other. subst (λ (o : Option Parcel). IsSome o) (sym (p.sent.others d below other).there) refl;
   room = λ d q below found. elim (ℕ_discrete d here) [
-    | yes same ↦ absurd (no_some q (sym p.sent.apart ∙ ap (parcel_at t) (sym same) ∙ found))
+    | yes same ↦ absurd (no_parcel q (sym p.sent.apart ∙ ap (parcel_at t) (sym same) ∙ found))
     | no other ↦
         (let sent = p.sent.others d below other in
         subst (HasRoom low size d) (one_some (parcel_at t d) sent.parcel q sent.there found)
@@ -119,17 +121,10 @@ still_open w m kinds start rest tile own t low size some side limits few at thic
   apart = p.sent.apart;
 }
   where
-    no_some : (x : Parcel) → ◌≡◌ {A = Option Parcel} None (Some x) → ⊥
-    no_some x e = cc
-
     one_some : (o : Option Parcel) (x y : Parcel) → o ≡ Some x → o ≡ Some y → x ≡ y
     one_some o x y h k = cc
 
 -- a tile opened: the parcel of no step is taken out
-some_parcel : (o : Option Parcel) → IsSome o → (p : Parcel) × (o ≡ Some p)
-some_parcel None h = cc
-some_parcel (Some p) h = (p, refl)
-
 fresh_at : (m : Tiling) (t : TileValue) (d : ℕ) (p : Parcel) → IsFresh m t → d < directions → parcel_at t d ≡ Some p → p.dir ≡ d → IsFreshParcel m t.number d p
 fresh_at m t d p fresh below at dir = record {
   dir_is = dir;
@@ -147,7 +142,7 @@ opened m t u own fresh dirs taken found = record {
   apart = none_left t u here here taken refl;
   own_is = subst (λ (n : ℕ). IsFreshParcel m n here own) number (fresh_at m t here own fresh (omega arith) (sym found) (dirs here own (sym found)));
   others = λ d below other.
-      let some = some_parcel (parcel_at t d) (fresh.ready.whole d below) in record {
+      let some = some_there (parcel_at t d) (fresh.ready.whole d below) in record {
         parcel = some.0;
         there = ap (λ (x : TileValue). parcel_at x d) taken ∙ get_or-set_other {A = Option Parcel} t.parcels here d None None other ∙ some.1;
         is = subst (λ (n : ℕ). IsFreshParcel m n d some.0) number (fresh_at m t d some.0 fresh below some.1 (dirs d some.0 some.1));

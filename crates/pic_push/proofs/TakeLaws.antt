@@ -1,5 +1,5 @@
 -- What parcels gain of a piece in a region of its tile.
-use Rattle.std.proofs.Common.{◌≡◌, ℕ, ◌<◌, false, Option, Some, None, refl, sym, ap, subst, ◌∙◌, arith}
+use Rattle.std.proofs.Common.{◌≡◌, ℕ, ◌<◌, false, Some, refl, sym, ap, subst, ◌∙◌, arith}
 use Rattle.std.proofs.Math.Decide.{ℕ_discrete}
 use Rattle.std.proofs.lemmas.Bool.Decides.{nat_tests}
 use Rattle.pic_num.specs.declared.axis.Axis.{Axis}
@@ -13,12 +13,13 @@ use Rattle.pic_tile.specs.Layers.{layers_from}
 use Rattle.pic_tile.specs.Tile.{TileValue, parcel_at}
 use Rattle.pic_push.specs.Gains.{IsClear}
 use Rattle.pic_push.specs.Reach.{spans, reaches}
-use Rattle.pic_push.specs.Region.{up_on, up_beside, IsUp, AreUps, IsLastOn, layers_at, CanGain, CanTake}
+use Rattle.pic_push.specs.Region.{up_on, up_beside, IsUp, AreUps, IsLastOn, layers_at, CanGain, CanGainAll}
+use Rattle.pic_push.proofs.GainLaws.{no_parcel}
 use Rattle.pic_push.proofs.RegionLaws.{AreUpTo, up_to, layers_are, reach_to, reached}
 use Rattle.pic_push.proofs.TrackLaws.{wide_room}
 
 -- the parcel of a direction that steps up where the last does, or not at all
-pub can_gain : (f : CellFlux) (own : Parcel) (t : TileValue) (up last : ℕ) (p : Parcel) → CanTake f own t
+pub can_gain : (f : CellFlux) (own : Parcel) (t : TileValue) (up last : ℕ) (p : Parcel) → CanGainAll f own t
     → IsLastOn last own.flux.low own.flux.size (flux_cell f) → last < directions → AreUpTo up last → up < directions → parcel_at t up ≡ Some p
     → CanGain last up f p.flux
 can_gain f own t up last p h at last_few to few is =
@@ -29,7 +30,7 @@ can_gain f own t up last p h at last_few to few is =
     record { last_few = last_few; up_few = few; modest = h.modest; room = wide_room p.flux room.most; layers = layers }
 
 -- the own one
-pub own_gains : (f : CellFlux) (own : Parcel) (t : TileValue) (last : ℕ) → CanTake f own t → IsLastOn last own.flux.low own.flux.size (flux_cell f)
+pub own_gains : (f : CellFlux) (own : Parcel) (t : TileValue) (last : ℕ) → CanGainAll f own t → IsLastOn last own.flux.low own.flux.size (flux_cell f)
     → last < directions → AreUpTo here last → CanGain last here f own.flux
 own_gains f own t last h at few to = record {
   last_few = few;
@@ -39,15 +40,12 @@ own_gains f own t last h at few to = record {
   layers = layers_are here last own.flux.low own.flux.size (flux_cell f) to at;
 }
 
-no_some : (p : Parcel) → ◌≡◌ {A = Option Parcel} None (Some p) → ⊥
-no_some p h = cc
-
 -- no flux passes the parcels that aren't reached; the own one is held apart
-pub unreached_clear : (f : CellFlux) (own : Parcel) (t : TileValue) (last d : ℕ) (p : Parcel) → CanTake f own t
+pub unreached_clear : (f : CellFlux) (own : Parcel) (t : TileValue) (last d : ℕ) (p : Parcel) → CanGainAll f own t
     → IsLastOn last own.flux.low own.flux.size (flux_cell f) → AreUpTo here last → d < directions → ((d ≡ here → ⊥) → reaches (reach_to last) d ≡ false)
     → parcel_at t d ≡ Some p → IsClear (edge_flux f) p.flux
 unreached_clear f own t last d p h at to few out is = elim (ℕ_discrete d here) [
-  | yes same ↦ absurd (no_some p (sym h.opened.apart ∙ ap (parcel_at t) (sym same) ∙ is))
+  | yes same ↦ absurd (no_parcel p (sym h.opened.apart ∙ ap (parcel_at t) (sym same) ∙ is))
   | no away ↦ h.clear (reach_to last) d p (reached last own.flux.low own.flux.size (flux_cell f) to at) few (out away) is
 ]
 
@@ -64,20 +62,20 @@ face_by : (a : Axis) → AtFace (up_on a)
 unfolding reaches spans
 face_by X = record {
   few = omega arith;
-  own = up_to here 14 refl refl refl;
-  self = up_to 14 14 refl refl refl;
+  own = up_to here (up_on X) refl refl refl;
+  self = up_to (up_on X) (up_on X) refl refl refl;
   alone = λ d few own up. grind (arith, nat_tests);
 }
 face_by Y = record {
   few = omega arith;
-  own = up_to here 16 refl refl refl;
-  self = up_to 16 16 refl refl refl;
+  own = up_to here (up_on Y) refl refl refl;
+  self = up_to (up_on Y) (up_on Y) refl refl refl;
   alone = λ d few own up. grind (arith, nat_tests);
 }
 face_by Z = record {
   few = omega arith;
-  own = up_to here 22 refl refl refl;
-  self = up_to 22 22 refl refl refl;
+  own = up_to here (up_on Z) refl refl refl;
+  self = up_to (up_on Z) (up_on Z) refl refl refl;
   alone = λ d few own up. grind (arith, nat_tests);
 }
 
@@ -105,10 +103,10 @@ edge_by X = record {
   second_few = omega arith;
   third_few = omega arith;
   far_few = omega arith;
-  own = up_to here 25 refl refl refl;
-  second_to = up_to 16 25 refl refl refl;
-  third_to = up_to 22 25 refl refl refl;
-  self = up_to 25 25 refl refl refl;
+  own = up_to here (up_beside X) refl refl refl;
+  second_to = up_to (up_on Y) (up_beside X) refl refl refl;
+  third_to = up_to (up_on Z) (up_beside X) refl refl refl;
+  self = up_to (up_beside X) (up_beside X) refl refl refl;
   third_apart = λ is. omega (arith, is);
   far_apart = λ is. omega (arith, is);
   far_apart_third = λ is. omega (arith, is);
@@ -118,10 +116,10 @@ edge_by Y = record {
   second_few = omega arith;
   third_few = omega arith;
   far_few = omega arith;
-  own = up_to here 23 refl refl refl;
-  second_to = up_to 22 23 refl refl refl;
-  third_to = up_to 14 23 refl refl refl;
-  self = up_to 23 23 refl refl refl;
+  own = up_to here (up_beside Y) refl refl refl;
+  second_to = up_to (up_on Z) (up_beside Y) refl refl refl;
+  third_to = up_to (up_on X) (up_beside Y) refl refl refl;
+  self = up_to (up_beside Y) (up_beside Y) refl refl refl;
   third_apart = λ is. omega (arith, is);
   far_apart = λ is. omega (arith, is);
   far_apart_third = λ is. omega (arith, is);
@@ -131,10 +129,10 @@ edge_by Z = record {
   second_few = omega arith;
   third_few = omega arith;
   far_few = omega arith;
-  own = up_to here 17 refl refl refl;
-  second_to = up_to 14 17 refl refl refl;
-  third_to = up_to 16 17 refl refl refl;
-  self = up_to 17 17 refl refl refl;
+  own = up_to here (up_beside Z) refl refl refl;
+  second_to = up_to (up_on X) (up_beside Z) refl refl refl;
+  third_to = up_to (up_on Y) (up_beside Z) refl refl refl;
+  self = up_to (up_beside Z) (up_beside Z) refl refl refl;
   third_apart = λ is. omega (arith, is);
   far_apart = λ is. omega (arith, is);
   far_apart_third = λ is. omega (arith, is);

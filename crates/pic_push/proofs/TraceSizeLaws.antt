@@ -1,8 +1,6 @@
 -- How large the flux of a push can be at an edge.
-use Rattle.std.proofs.Common.{◌≡◌, ℕ, ◌*◌, ◌<◌, ◌≤◌, List, length, take, Result, Ok, Err, refl, arith}
+use Rattle.std.proofs.Common.{◌≡◌, ℕ, ◌*◌, ◌<◌, ◌≤◌, List, length, Result, Ok, Err, refl, arith}
 use Rattle.std.specs.Prelude.{unsigned_abs, All}
-use Rattle.std.proofs.Math.Nat.{min-le_right}
-use Rattle.std.proofs.lemmas.List.{length-take}
 use Rattle.std.proofs.lemmas.Int.{ints}
 use Rattle.pic_num.specs.Limits.{most_charge, most_side, most_flux_of}
 use Rattle.pic_num.specs.declared.motion.Particle.{Particle}
@@ -53,11 +51,3 @@ flux_size w particles count some side limits few = record {
       (λ particle. trace_size w particle (push_of w particle) a c refl some side limits) in
       record { size = omega (arith, all, few) };
 }
-
--- the flux of the first so many
-pub front_size : (w : Surroundings) (particles : List Particle) (count i : ℕ) → 0 < w.side → w.side ≤ most_side → All IsKind w.kinds
-    → length particles ≤ count → IsFluxAtMost (most_flux_of count) (traces w (take i particles))
-front_size w particles count i some side limits few =
-    let size = length-take i particles in
-    let fewer = min-le_right i (length particles) in
-    flux_size w (take i particles) count some side limits (omega (arith, few, fewer, size))

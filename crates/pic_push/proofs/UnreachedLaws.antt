@@ -18,20 +18,9 @@ use Rattle.pic_tile.specs.declared.parcel.Parcel.{Parcel}
 use Rattle.pic_push.specs.Gains.{IsClear}
 use Rattle.pic_push.specs.Sends.{HasLayers}
 use Rattle.pic_push.specs.declared.reach.Steps.{Steps}
-use Rattle.pic_push.specs.declared.reach.Turn.{Turn}
+use Rattle.pic_push.specs.declared.reach.Direction.{Direction}
 use Rattle.pic_push.specs.declared.reach.Reach.{Reach}
-use Rattle.pic_push.specs.Reach.{spans, reaches, IsReach, AreStepsOf, IsReachOf, AreSteps, first_of, number_of}
-
--- the steps of a reach
-pub reach_is : (low : Spot) (n : Triple) (cell : Spot) (r : Reach) → IsReachOf low n cell r → IsReach r
-reach_is low n cell r h = record {
-  x_first = h.x.first;
-  y_first = h.y.first;
-  z_first = h.z.first;
-  x_last = h.x.last_high;
-  y_last = h.y.last_high;
-  z_last = h.z.last_high;
-}
+use Rattle.pic_push.specs.Reach.{spans, reaches, IsReach, AreStepsOf, IsReachOf, AreSteps, first_direction, direction_number}
 
 -- a step that isn't spanned is under the first or over the last
 not_spanned : (s : Steps) (e : ℕ) → spans s e ≡ false → (e < s.first) ⊎ (s.last < e)
@@ -101,22 +90,22 @@ piece_clear side q s low n r bound d p at reach few out room = record {
 }
 
 -- directions before the first aren't reached
-pub none_before : (r : Reach) (d : ℕ) → IsReach r → d < number_of (first_of r) → reaches r d ≡ false
+pub none_before : (r : Reach) (d : ℕ) → IsReach r → d < direction_number (first_direction r) → reaches r d ≡ false
 unfolding reaches spans
 none_before r d h below = grind (arith, nat_tests)
 
 -- nor those between one and the next
-pub none_in_row : (r : Reach) (t : Turn) (d : ℕ) → AreSteps t → r.x.last ≤ t.x → number_of t < d → d < direction_by r.x.first (t.y + 1) t.z
+pub none_in_row : (r : Reach) (t : Direction) (d : ℕ) → AreSteps t → r.x.last ≤ t.x → direction_number t < d → d < direction_by r.x.first (t.y + 1) t.z
     → reaches r d ≡ false
 unfolding reaches spans
 none_in_row r t d s x more below = let sx = s.x in let sy = s.y in grind (arith, nat_tests)
 
-pub none_in_layer : (r : Reach) (t : Turn) (d : ℕ) → AreSteps t → r.x.last ≤ t.x → r.y.last ≤ t.y → number_of t < d
+pub none_in_layer : (r : Reach) (t : Direction) (d : ℕ) → AreSteps t → r.x.last ≤ t.x → r.y.last ≤ t.y → direction_number t < d
     → d < direction_by r.x.first r.y.first (t.z + 1) → reaches r d ≡ false
 unfolding reaches spans
 none_in_layer r t d s x y more below = let sx = s.x in let sy = s.y in grind (arith, nat_tests)
 
 -- nor those after the last
-pub none_after : (r : Reach) (t : Turn) (d : ℕ) → AreSteps t → r.x.last ≤ t.x → r.y.last ≤ t.y → r.z.last ≤ t.z → number_of t < d → reaches r d ≡ false
+pub none_after : (r : Reach) (t : Direction) (d : ℕ) → AreSteps t → r.x.last ≤ t.x → r.y.last ≤ t.y → r.z.last ≤ t.z → direction_number t < d → reaches r d ≡ false
 unfolding reaches spans
 none_after r t d s x y z more = let sx = s.x in let sy = s.y in grind (arith, nat_tests)

@@ -1,14 +1,11 @@
 -- The direction in which a push leads a particle leads to the tile of its new place.
-use Rattle.std.proofs.Common.{◌≡◌, ℕ, ◌<◌, All, List, Ok, subst}
-use Rattle.std.proofs.lemmas.List.Elements.{All-weaker}
+use Rattle.std.proofs.Common.{◌≡◌, ℕ, Ok, subst}
 use Rattle.pic_num.specs.declared.motion.Particle.{Particle}
 use Rattle.pic_num.specs.Push.{Shift}
-use Rattle.pic_num.specs.Space.{triple, AreAtMost}
-use Rattle.pic_grid.specs.Hat.{IsInBox}
+use Rattle.pic_num.specs.Space.{AreAtMost}
 use Rattle.pic_grid.specs.PushPhase.{Surroundings, push_of}
 use Rattle.pic_tile.specs.Leaving.{WayLeads}
-use Rattle.pic_tile.specs.Tiling.{Tiling, IsThick, cells_of}
-use Rattle.pic_tile.proofs.HeldLaws.{Leads}
+use Rattle.pic_tile.specs.Tiling.{Tiling}
 use Rattle.pic_tile.proofs.LeavingLaws.{way_leads}
 use Rattle.pic_push.proofs.PushLaws.{push_move}
 
@@ -20,9 +17,3 @@ most_moved w m x s side is =
 
 pub leads : WayLeads
 leads w m x side cells some thick inside = way_leads w m x side cells some thick inside (λ s is. most_moved w m x s side is)
-
--- so it is of all particles of a list
-pub all_lead : (w : Surroundings) (m : Tiling) (xs : List Particle) → w.side ≡ m.side → w.cells ≡ cells_of m → 0 < m.side → IsThick m.size
-    → All (λ x. IsInBox m.side (cells_of m) (triple x.x)) xs → All (Leads w m) xs
-all_lead w m xs side cells some thick inside =
-    All-weaker (λ x. IsInBox m.side (cells_of m) (triple x.x)) (Leads w m) (λ x one. leads w m x side cells some thick one) xs inside

@@ -4,7 +4,7 @@ use Rattle.pic_num.specs.Space.{Triple, Spot}
 use Rattle.pic_tile.specs.Directions.{steps_of}
 use Rattle.pic_tile.specs.Leaving.{step_to, direction_by}
 use Rattle.pic_push.specs.declared.reach.Steps.{Steps}
-use Rattle.pic_push.specs.declared.reach.Turn.{Turn}
+use Rattle.pic_push.specs.declared.reach.Direction.{Direction}
 use Rattle.pic_push.specs.declared.reach.Reach.{Reach}
 
 -- a step is one of those from the first to the last
@@ -26,15 +26,15 @@ pub record IsReach (r : Reach) : Type 0 where
   pub z_last : r.z.last ≤ 2
 
 -- the first of its directions
-abbrev pub first_of : Reach → Turn
-first_of r = record { x = r.x.first; y = r.y.first; z = r.z.first }
+abbrev pub first_direction : Reach → Direction
+first_direction r = record { x = r.x.first; y = r.y.first; z = r.z.first }
 
 -- the number of a direction
-abbrev pub number_of : Turn → ℕ
-number_of t = direction_by t.x t.y t.z
+abbrev pub direction_number : Direction → ℕ
+direction_number t = direction_by t.x t.y t.z
 
 -- what a direction has on each axis is a step
-pub record AreSteps (t : Turn) : Type 0 where
+pub record AreSteps (t : Direction) : Type 0 where
   pub x : t.x ≤ 2
   pub y : t.y ≤ 2
   pub z : t.z ≤ 2

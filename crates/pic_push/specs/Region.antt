@@ -1,7 +1,7 @@
 -- Where a piece of a path lies in its tile: on each axis its cell is in the tile's last layer, or
 -- before. So its flux passes edges of the tile's own layers, and of those over them on the axes on
 -- which it is in the last.
-use Rattle.std.specs.Prelude.{◌≡◌, ℕ, zero, suc, ℤ, pos, ◌<◌, ◌≤◌, ◌^◌, ◌≤ℤ◌, ◌<ℤ◌, ◌+ℤ◌, ◌==◌, false, not, ◌||◌, Option, Some, None, IfSome}
+use Rattle.std.specs.Prelude.{◌≡◌, ℕ, zero, suc, ℤ, pos, ◌<◌, ◌≤◌, ◌≤ℤ◌, ◌<ℤ◌, ◌+ℤ◌, ◌==◌, false, not, ◌||◌, Option, Some, None, IfSome}
 use Rattle.pic_num.specs.declared.axis.Axis.{Axis}
 use Rattle.pic_num.specs.declared.axis.Axis.TheVariants.{X, Y, Z}
 use Rattle.pic_num.specs.Space.{Triple, Spot, next_axis}
@@ -11,24 +11,25 @@ use Rattle.pic_flux.specs.declared.edges.Layers.{Layers}
 use Rattle.pic_flux.specs.CellFlux.{edge_flux, flux_cell, IsModest, AreLayers}
 use Rattle.pic_tile.specs.declared.parcel.Parcel.{Parcel}
 use Rattle.pic_tile.specs.Directions.{directions, here, steps_of}
+use Rattle.pic_tile.specs.Leaving.{direction_by}
 use Rattle.pic_tile.specs.Tile.{TileValue, parcel_at}
 use Rattle.pic_push.specs.declared.region.Region.{Region}
 use Rattle.pic_push.specs.declared.region.Region.TheVariants.{Inside, FaceX, FaceY, FaceZ, EdgeX, EdgeY, EdgeZ, Elsewhere}
 use Rattle.pic_push.specs.declared.reach.Reach.{Reach}
-use Rattle.pic_push.specs.Gains.{IsClear}
+use Rattle.pic_push.specs.Gains.{IsClear, most_in_block}
 use Rattle.pic_push.specs.Reach.{reaches, IsReachOf}
 use Rattle.pic_push.specs.Sends.{IsOpenTo, most_sent}
 
 -- the direction of a step up on an axis, and of steps up on both others
 abbrev pub up_on : Axis → ℕ
-up_on X = 14
-up_on Y = 16
-up_on Z = 22
+up_on X = direction_by 2 1 1
+up_on Y = direction_by 1 2 1
+up_on Z = direction_by 1 1 2
 
 abbrev pub up_beside : Axis → ℕ
-up_beside X = 25
-up_beside Y = 23
-up_beside Z = 17
+up_beside X = direction_by 1 2 2
+up_beside Y = direction_by 2 1 2
+up_beside Z = direction_by 2 2 1
 
 -- a direction of a step up on one axis alone
 pub record IsUp (dir : ℕ) : Type 0 where
@@ -108,12 +109,12 @@ pub record CanGain (last up : ℕ) (f : CellFlux) (b : BlockValues) : Type 0 whe
   pub last_few : last < directions
   pub up_few : up < directions
   pub modest : IsModest f
-  pub room : AllAtMost (2 ^ 100) b
+  pub room : AllAtMost most_in_block b
   pub layers : AreLayers b.low b.size (flux_cell f) (layers_at last up)
 
 -- a flux can be added to a tile's parcels, of which the own one is held apart: there is room, and
 -- nothing of it passes the layers that its cell doesn't reach
-pub record CanTake (f : CellFlux) (own : Parcel) (t : TileValue) : Type 0 where
+pub record CanGainAll (f : CellFlux) (own : Parcel) (t : TileValue) : Type 0 where
   pub modest : IsModest f
   pub opened : IsOpenTo most_sent own.flux.low own.flux.size t
   pub most : AllAtMost most_sent own.flux

@@ -84,6 +84,10 @@ HasRoom low size d p = HasLayers most_flux low size d p
 abbrev pub IsOpen : Spot → Triple → TileValue → Type 0
 IsOpen low size t = IsOpenTo most_flux low size t
 
+-- what the flux of the first pieces of a path is at most at an edge
+abbrev pub most_path_flux : ℕ
+most_path_flux = 2 ^ 62
+
 -- what flux is at most at an edge while that of a path's pieces is added
 abbrev pub most_sent : ℕ
-most_sent = most_flux + 2 ^ 62
+most_sent = most_flux + most_path_flux

@@ -8,7 +8,7 @@ ghost use Rattle.pic_grid.specs.Block.{InZone};
 ghost use Rattle.pic_tile.specs.Directions.{directions};
 ghost use Rattle.pic_tile.specs.Leaving.{step_to};
 ghost use Rattle.pic_push.specs.Reach.{reaches, IsReach, IsReachOf, AreStepsOf, direction_from};
-ghost use Rattle.pic_push.specs.Reach.{number_of, AreSteps, first_of};
+ghost use Rattle.pic_push.specs.Reach.{direction_number, AreSteps, first_direction};
 
 use pic_grid::Zone;
 use pic_tile::Dir;
@@ -22,18 +22,18 @@ pub(crate) struct Steps {
 
 /// A direction by its steps on each axis: 0 is a step down, 1 none, 2 a step up.
 #[derive(Clone, Copy)]
-pub(crate) struct Turn {
+pub(crate) struct Direction {
     pub x: u32,
     pub y: u32,
     pub z: u32,
 }
 
-impl Turn {
+impl Direction {
     /// The number of the direction.
     #[inline(always)]
     pub fn number(&self) -> u32
         requires { AreSteps self.now }
-        ensures value { result ≡ number_of self.now }
+        ensures value { result ≡ direction_number self.now }
         ensures below { result < directions }
     {
         self.x + 3 * self.y + 9 * self.z
@@ -66,10 +66,10 @@ impl Reach {
 
     /// Its first direction.
     #[inline(always)]
-    pub fn first(&self) -> Turn
-        ensures { result ≡ first_of self.now }
+    pub fn first(&self) -> Direction
+        ensures { result ≡ first_direction self.now }
     {
-        Turn {
+        Direction {
             x: self.x.first,
             y: self.y.first,
             z: self.z.first,
@@ -79,25 +79,25 @@ impl Reach {
     /// The next direction after one of its own, past those between that aren't; none after its
     /// last.
     #[inline(always)]
-    pub fn after(&self, at: &Turn) -> Option<Turn>
+    pub fn after(&self, at: &Direction) -> Option<Direction>
         requires reach { IsReach self.now }
         requires steps { AreSteps at.now }
         ensures steps { IfSome result AreSteps }
-        ensures more { IfSome result (λ next. number_of at.now < number_of next) }
-        ensures skipped { (d : ℕ) → number_of at.now < d
-            → IfSome result (λ next. d < number_of next) → reaches self.now d ≡ false }
+        ensures more { IfSome result (λ next. direction_number at.now < direction_number next) }
+        ensures skipped { (d : ℕ) → direction_number at.now < d
+            → IfSome result (λ next. d < direction_number next) → reaches self.now d ≡ false }
     {
-        let Turn { x, y, z } = *at;
+        let Direction { x, y, z } = *at;
         if x < self.x.last {
-            return Some(Turn { x: x + 1, y, z });
+            return Some(Direction { x: x + 1, y, z });
         }
         let x = self.x.first;
         if y < self.y.last {
-            return Some(Turn { x, y: y + 1, z });
+            return Some(Direction { x, y: y + 1, z });
         }
         let y = self.y.first;
         if z < self.z.last {
-            return Some(Turn { x, y, z: z + 1 });
+            return Some(Direction { x, y, z: z + 1 });
         }
         None
     }

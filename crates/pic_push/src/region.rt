@@ -11,18 +11,23 @@ use pic_tile::Dir;
 /// The number of the direction without a step.
 pub(crate) const HERE: u32 = 13;
 
-/// The number of the direction of a step up on x, and so on.
+/// The number of the direction of a step up on x alone.
 pub(crate) const UP_X: u32 = 14;
 
+/// That of a step up on y alone.
 pub(crate) const UP_Y: u32 = 16;
 
+/// That of a step up on z alone.
 pub(crate) const UP_Z: u32 = 22;
 
-/// The number of the direction of a step up on both y and z, and so on.
+/// That of steps up on y and z, with none on x.
+/// That of a step up on y alone.
 pub(crate) const UP_YZ: u32 = 25;
 
+/// That of steps up on x and z, with none on y.
 pub(crate) const UP_XZ: u32 = 23;
 
+/// That of steps up on x and y, with none on z.
 pub(crate) const UP_XY: u32 = 17;
 
 /// Where a cell lies in its tile: in the tile's last layer on one axis at a face, and on the two

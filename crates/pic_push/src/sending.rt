@@ -1,6 +1,6 @@
 //! The flux that a particle's path sends through the layers of its tile.
 
-ghost use Rattle.std.specs.Prelude.{◌≡◌, ◌^◌, ℕ, IfOk, take};
+ghost use Rattle.std.specs.Prelude.{◌≡◌, ℕ, IfOk, take};
 ghost use Rattle.std.specs.List.{All};
 ghost use Rattle.pic_num.specs.Limits.{most_charge};
 ghost use Rattle.pic_num.specs.Sizes.{IsAtMost};
@@ -17,7 +17,7 @@ ghost use Rattle.pic_tile.specs.Tiling.{cells_of};
 ghost use Rattle.pic_push.specs.Gains.{Gained, Gains};
 ghost use Rattle.pic_push.specs.Paths.{IsPath, IsPathOf, flux_along};
 ghost use Rattle.pic_push.specs.Region.{IsUp, AreUps, IsLastOn};
-ghost use Rattle.pic_push.specs.Sends.{HasRoom, IsOpen, HasLayers, IsOpenTo, most_sent};
+ghost use Rattle.pic_push.specs.Sends.{HasRoom, IsOpen, HasLayers, IsOpenTo, most_path_flux, most_sent};
 
 use crate::feeling::charge_of;
 use crate::paths::Path;
@@ -124,7 +124,7 @@ fn send_anywhere(sub: Sub, piece: &Segment, q: i32, tile: &mut Tile, own: &mut P
 fn send_track(sub: Sub, track: &Track, q: i32, zone: Zone, tile: &mut Tile, own: &mut Parcel)
     requires inside { All (IsInCell sub) track.now }
     requires charge { IsAtMost q most_charge }
-    requires short { (k : ℕ) → IsFluxAtMost (2 ^ 62) (path_flux sub q (take k track.now)) }
+    requires short { (k : ℕ) → IsFluxAtMost most_path_flux (path_flux sub q (take k track.now)) }
     requires open { IsOpen (spot zone.low) (triple zone.size) tile.old }
     requires room { HasRoom (spot zone.low) (triple zone.size) here own.old }
     ensures own { Gained (path_flux sub q track.now) own.old own.new }

@@ -1,6 +1,6 @@
 //! The flux of a piece of a path, spread over the parcels of a tile.
 
-ghost use Rattle.std.specs.Prelude.{◌≡◌, ℕ, ◌<◌, ◌^◌, false};
+ghost use Rattle.std.specs.Prelude.{◌≡◌, ℕ, ◌<◌, false};
 ghost use Rattle.pic_num.specs.Space.{spot};
 ghost use Rattle.pic_grid.specs.Block.{IsShaped, AllAtMost};
 ghost use Rattle.pic_flux.specs.Adds.{Adds};
@@ -8,8 +8,8 @@ ghost use Rattle.pic_flux.specs.CellFlux.{edge_flux, flux_cell, IsModest};
 ghost use Rattle.pic_tile.specs.declared.parcel.Parcel.{Parcel};
 ghost use Rattle.pic_tile.specs.Directions.{directions, here};
 ghost use Rattle.pic_tile.specs.Tile.{parcel_at};
-ghost use Rattle.pic_push.specs.Gains.{Gained, GainsAt, Gains, IsClear};
-ghost use Rattle.pic_push.specs.Region.{IsUp, AreUps, IsLastOn, CanGain, CanTake};
+ghost use Rattle.pic_push.specs.Gains.{Gained, GainsAt, Gains, IsClear, most_in_block};
+ghost use Rattle.pic_push.specs.Region.{IsUp, AreUps, IsLastOn, CanGain, CanGainAll};
 ghost use Rattle.pic_push.specs.Reach.{IsReach, reaches};
 
 use crate::reach::Reach;
@@ -21,7 +21,7 @@ use pic_tile::{Dir, Parcel, Tile};
 /// Adds the flux of a piece to a tile's parcel of a direction, if it is there.
 fn add_to(flux: &CellFlux, dir: Dir, tile: &mut Tile)
     requires modest { IsModest flux.now }
-    requires room { (p : Parcel) → parcel_at tile.old dir ≡ Some p → AllAtMost (2 ^ 100) p.flux }
+    requires room { (p : Parcel) → parcel_at tile.old dir ≡ Some p → AllAtMost most_in_block p.flux }
     ensures { GainsAt (edge_flux flux.now) dir tile.old tile.new }
 {
     tile.change_flux(dir, |to| flux.add_to(to));
@@ -59,7 +59,7 @@ fn add_up<const LAST: u32, const UP: u32>(flux: &CellFlux, tile: &mut Tile)
 #[inline(always)]
 pub(crate) fn add_at_face<const UP: u32>(flux: &CellFlux, tile: &mut Tile, own: &mut Parcel)
     requires up { IsUp UP }
-    requires can { CanTake flux.now own.old tile.old }
+    requires can { CanGainAll flux.now own.old tile.old }
     requires face { IsLastOn UP own.old.flux.low own.old.flux.size (flux_cell flux.now) }
     ensures own { Gained (edge_flux flux.now) own.old own.new }
     ensures others { Gains (edge_flux flux.now) tile.old tile.new }
@@ -77,7 +77,7 @@ pub(crate) fn add_at_edge<const SECOND: u32, const THIRD: u32, const FAR: u32>(
     own: &mut Parcel,
 )
     requires ups { AreUps SECOND THIRD FAR }
-    requires can { CanTake flux.now own.old tile.old }
+    requires can { CanGainAll flux.now own.old tile.old }
     requires edge { IsLastOn FAR own.old.flux.low own.old.flux.size (flux_cell flux.now) }
     ensures own { Gained (edge_flux flux.now) own.old own.new }
     ensures others { Gains (edge_flux flux.now) tile.old tile.new }
@@ -93,7 +93,7 @@ fn add_outside(flux: &CellFlux, number: u32, tile: &mut Tile)
     requires number { number < directions }
     requires modest { IsModest flux.now }
     requires apart { parcel_at tile.old here ≡ None }
-    requires room { (p : Parcel) → parcel_at tile.old number ≡ Some p → AllAtMost (2 ^ 100) p.flux }
+    requires room { (p : Parcel) → parcel_at tile.old number ≡ Some p → AllAtMost most_in_block p.flux }
     ensures { GainsAt (edge_flux flux.now) number tile.old tile.new }
 {
     if number == Dir::HERE.number() {
@@ -109,7 +109,7 @@ pub(crate) fn spread(flux: &CellFlux, reach: &Reach, tile: &mut Tile)
     requires reach { IsReach reach.now }
     requires apart { parcel_at tile.old here ≡ None }
     requires room { (d : ℕ) (p : Parcel) → d < directions → parcel_at tile.old d ≡ Some p
-        → AllAtMost (2 ^ 100) p.flux }
+        → AllAtMost most_in_block p.flux }
     requires clear { (d : ℕ) (p : Parcel) → d < directions → reaches reach.now d ≡ false
         → parcel_at tile.old d ≡ Some p → IsClear (edge_flux flux.now) p.flux }
     ensures { Gains (edge_flux flux.now) tile.old tile.new }
@@ -123,7 +123,7 @@ pub(crate) fn spread(flux: &CellFlux, reach: &Reach, tile: &mut Tile)
 
 /// Adds it to all parcels of a tile, of which that of no step is held apart, wherever its cell lies.
 pub(crate) fn add_anywhere(flux: &CellFlux, cell: [i32; 3], tile: &mut Tile, own: &mut Parcel)
-    requires can { CanTake flux.now own.old tile.old }
+    requires can { CanGainAll flux.now own.old tile.old }
     requires cell { flux_cell flux.now ≡ spot cell }
     ensures own { Gained (edge_flux flux.now) own.old own.new }
     ensures others { Gains (edge_flux flux.now) tile.old tile.new }

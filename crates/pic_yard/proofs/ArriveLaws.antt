@@ -4,13 +4,12 @@ use Rattle.std.proofs.Math.Decide.{ℕ_discrete}
 use mathlib.Core.Option.{Option, none, some}
 use lib.ListN.{get_elem?}
 use Rattle.pic_yard.specs.Members.{count_below}
-use Rattle.pic_yard.specs.Marks.{posts}
 use Rattle.pic_yard.proofs.Ways.{AreWays}
 use Rattle.pic_yard.specs.Places.{slot_in, IsHome, Kinds, Places, Aways}
 use Rattle.pic_yard.proofs.CountLaws.{count_all}
 use Rattle.pic_yard.proofs.CollectLaws.{slot_row, slot_place}
 use Rattle.pic_yard.proofs.PlaceLaws.{own_from, home_still}
-use Rattle.pic_yard.proofs.PostLaws.{IsPair, which_pair, posts_it, posts_other, count_posts, count_row}
+use Rattle.pic_yard.proofs.PostLaws.{posts, IsPair, which_pair, posts_it, posts_other, count_posts, count_row}
 
 module _ {S : Type 0} (kinds : Kinds S) (tiles dirs here ticket : ℕ) (to from : ℕ → ℕ → ℕ) (ways : AreWays tiles dirs here to from)
     (posted : ℕ → ℕ → Bool) (shut : ℕ → Bool) (homes : List (Option S))

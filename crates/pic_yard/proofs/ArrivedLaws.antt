@@ -11,10 +11,9 @@ use Rattle.pic_slots.specs.Fronts.{seek}
 use Rattle.pic_tile.specs.Directions.{directions, here}
 use Rattle.pic_yard.specs.declared.opening.Opening.{Opening}
 use Rattle.pic_yard.specs.declared.view.View.{View}
-use Rattle.pic_yard.specs.Acts.{take_all}
 use Rattle.pic_yard.specs.Arrivals.{behind, IsLoaded, HasAllMail, Arrived}
 use Rattle.pic_yard.specs.Contents.{Slot, vacant, tiles_in, to_of, from_of, IsParcel, kinds_of}
-use Rattle.pic_yard.specs.Marks.{Marks, IsOwed, IsRight, posts}
+use Rattle.pic_yard.specs.Marks.{Marks, IsOwed, IsRight}
 use Rattle.pic_yard.specs.Members.{count_below}
 use Rattle.pic_yard.specs.Places.{IsHome, Places, Aways}
 use Rattle.pic_yard.specs.Rule.{Rule, ticket_of}
@@ -24,9 +23,9 @@ use Rattle.pic_yard.specs.Tickets.{Tickets}
 use Rattle.pic_yard.proofs.ArriveLaws.{ComesHome, GoesAway, post_places, post_aways, last_places, last_aways}
 use Rattle.pic_yard.proofs.CountLaws.{count_le, count_all}
 use Rattle.pic_yard.proofs.BehindLaws.{post_act, behind_here, behind_step, act_here, act_step, gone_box, gone_home, once_behind}
-use Rattle.pic_yard.proofs.CollectLaws.{Collected, collect, cleared, homes_cleared, all_carried, slot_row, slot_place}
+use Rattle.pic_yard.proofs.CollectLaws.{take_all, Collected, collect, cleared, homes_cleared, all_carried, slot_row, slot_place}
 use Rattle.pic_yard.proofs.PlaceLaws.{own_from}
-use Rattle.pic_yard.proofs.PostLaws.{OneArrives, post_marks, not_full, found_word, posts_other, count_posts}
+use Rattle.pic_yard.proofs.PostLaws.{posts, OneArrives, post_marks, not_full, found_word, posts_other, count_posts}
 use Rattle.pic_yard.proofs.TicketLaws.{keep_numbers}
 use Rattle.pic_yard.proofs.ViewLaws.{each_view, below_there}
 use Rattle.pic_yard.proofs.WayLaws.{ways_of}

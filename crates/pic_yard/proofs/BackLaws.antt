@@ -5,10 +5,10 @@ use Rattle.std.proofs.lemmas.Bool.{eqb-false}
 use mathlib.Core.Option.{some}
 use lib.ListN.{get_elem?}
 use Rattle.pic_yard.specs.declared.view.View.{View}
-use Rattle.pic_yard.specs.Members.{In, Differ, count_below, at_else}
+use Rattle.pic_yard.specs.Members.{In, Differ, count_below}
 use Rattle.pic_yard.specs.Steps.{gave_back}
 use Rattle.pic_yard.specs.Marks.{IsOwed, IsRight, Marks}
-use Rattle.pic_yard.proofs.CountLaws.{at_here, at_other}
+use Rattle.pic_yard.proofs.CountLaws.{at_else, at_here, at_other}
 use Rattle.pic_yard.proofs.MemberLaws.{kept, was_in, unseen_in, differ_without}
 use Rattle.pic_yard.proofs.PostLaws.{OneArrives}
 use Rattle.pic_yard.proofs.ViewLaws.{each_view, lists_still}

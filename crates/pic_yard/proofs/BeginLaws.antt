@@ -59,7 +59,7 @@ begins o words slots sound opens some_seats small laid =
       opens = opens;
       small = small;
       words = laid.words_long;
-      slots = length-map slots some ∙ laid.slots_long;
+      slots = length-map slots some ∙ laid.laid.long;
       opened = λ i x there live. only_view (λ (k : ℕ) (y : View). y.opening ≡ Some o) v refl i x there;
       tickets = record {
         keeper = λ x. 0;
@@ -99,10 +99,10 @@ begins o words slots sound opens some_seats small laid =
         once_right = λ i x there live. only_view (λ (k : ℕ) (y : View). Differ y.rights) v tt i x there;
       };
       places = record {
-        bare = λ r d tile dir sender. record { value = None; there = at_map some slots (slot_at r d) None (laid.boxes r d tile dir); is = refl };
+        bare = λ r d tile dir sender. record { value = None; there = at_map some slots (slot_at r d) None (laid.laid.boxes r d tile dir); is = refl };
         full = λ r d tile dir is few. absurd (true≢false (sym is));
         emptied = λ r d tile dir closed. absurd (true≢false (sym closed));
-        opening = λ t tile above. record { value = tile_at o t; there = at_map some slots (slot_at t directions) (tile_at o t) (laid.homes t tile); is = refl };
+        opening = λ t tile above. record { value = tile_at o t; there = at_map some slots (slot_at t directions) (tile_at o t) (laid.laid.homes t tile); is = refl };
         between = λ t tile is few. absurd (true≢false (sym is));
         finished = λ r tile closed. absurd (true≢false (sym closed));
       };

@@ -23,11 +23,10 @@ use Rattle.pic_yard.specs.declared.view.View.{View}
 use Rattle.pic_yard.specs.Contents.{IsShut, Slot, start_at, tiles_in}
 use Rattle.pic_yard.specs.Ended.{AreMerged, HaveExchanged, KeepTheBound}
 use Rattle.pic_yard.specs.Laws.{IsOver}
-use Rattle.pic_yard.specs.Laying.{LiesHome}
+use Rattle.pic_yard.specs.Laying.{LiesHome, LiesThere}
 use Rattle.pic_yard.specs.Rule.{Rule}
 use Rattle.pic_yard.specs.Seats.{HasAllNumbers, HasEnded}
 use Rattle.pic_yard.specs.Sits.{slot_at}
-use Rattle.pic_yard.specs.Unloading.{LiesThere}
 use Rattle.pic_yard.proofs.TeamLaws.{over}
 
 pub tile_is : (a b : TileValue) → some (Some (piece.Tile (Some a))) ≡ some (Some (piece.Tile (Some b))) → a ≡ b

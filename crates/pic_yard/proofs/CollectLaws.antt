@@ -4,11 +4,11 @@ use Rattle.std.proofs.Common.{set, inl, inr, refl, sym, ap, ◌∙◌, subst, ar
 use Rattle.std.proofs.Math.Decide.{ℕ_discrete}
 use mathlib.Core.Option.{Option, none, some}
 use lib.ListN.{get_elem?}
-use Rattle.atomic_table.specs.Table.{Valid, homes_after, carried_after}
+use Rattle.atomic_table.specs.Table.{Act, Valid, keeps, takes, chain, homes_after, carried_after}
 use Rattle.atomic_table.proofs.Lists.{set_here, set_else}
 use Rattle.pic_slots.specs.Fronts.{seek}
 use Rattle.pic_tile.proofs.ZoneLaws.{row_end}
-use Rattle.pic_yard.specs.Acts.{take_all, Apart}
+use Rattle.pic_yard.specs.Acts.{Apart}
 use Rattle.pic_yard.specs.Places.{IsHome, slot_in}
 use Rattle.pic_yard.proofs.ViewLaws.{below_there}
 
@@ -41,6 +41,11 @@ which_place (suc n) place at = elim (ℕ_discrete at (place n)) [
 ]
 
 module _ {S : Type 0} where
+  -- all these slots are taken, each with its value; the first of the list comes to lie first
+  abbrev pub take_all : List (ℕ × S) → Act S
+  take_all [] = keeps
+  take_all (x ∷ xs) = chain (take_all xs) (takes x.0 x.1)
+
   abbrev pub cleared : List (Option S) → List (ℕ × S) → List (Option S)
   cleared homes [] = homes
   cleared homes (x ∷ xs) = set (cleared homes xs) x.0 none

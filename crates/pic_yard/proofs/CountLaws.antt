@@ -1,7 +1,11 @@
 -- How many numbers pass a test, and functions that are changed at one number.
-use Rattle.std.proofs.Common.{◌≡◌, ℕ, zero, suc, ◌+◌, ◌<◌, ◌≤◌, Bool, true, false, if◌then◌else◌, eq-eqb, ne_eqb, refl, sym, ap, ◌∙◌, subst, arith}
+use Rattle.std.proofs.Common.{◌≡◌, ℕ, zero, suc, ◌+◌, ◌<◌, ◌≤◌, Bool, true, false, eqb, if◌then◌else◌, eq-eqb, ne_eqb, refl, sym, ap, ◌∙◌, subst, arith}
 use Rattle.std.proofs.Math.Decide.{ℕ_discrete}
-use Rattle.pic_yard.specs.Members.{count_below, at_else}
+use Rattle.pic_yard.specs.Members.{count_below}
+
+-- f, but a at k
+abbrev pub at_else : {A : Type 0} → ℕ → A → (ℕ → A) → ℕ → A
+at_else k a f x = if eqb x k then a else f x
 
 pub at_here : {A : Type 0} (k x : ℕ) (a : A) (f : ℕ → A) → x ≡ k → at_else k a f x ≡ a
 at_here k x a f is = ap (λ (b : Bool). if b then a else f x) (eq-eqb x k is)

@@ -1,5 +1,5 @@
 -- A board may be shared by threads, and a seat at it may go to another.
-use denote.Param.Send.{IsSend, IsSync, sendable, enum_send, recorded_send, recorded_sync, struct_send, struct_sync}
+use denote.Param.Send.{IsSend, IsSync, sendable, enum_send, recorded_send, struct_send}
 use denote.Enum.Declared.{shape as shape_of}
 use denote.Enum.Enum.{Enum}
 use denote.RattleType.{RattleType}
@@ -58,12 +58,7 @@ yard_sync = search (sendable, std.crosses, piece_send, tile_sync, frame.the_sync
 pub seat_send : IsSend (seat.the_row (option.the_row piece.the_row) view.the_row)
 seat_send = search (sendable, std.crosses, seats.the_send, piece_send) depth 30 fits 4000
 
--- so may a closure with two things that each may be shared, or go
-pub pair_sync : (name : Sym) (A B : RattleType) → IsSync A → IsSync B → IsSync (TupleAt name (A ∷ B ∷ []))
-pair_sync name A B a b =
-    let kind : Declared = type_at name (A ∷ B ∷ []) in
-    recorded_sync (Struct (shape kind)) kind.D kind.to kind.to_one (struct_sync (shape kind) (a, (b, tt)))
-
+-- so may a closure with two things that each may go
 pub pair_send : (name : Sym) (A B : RattleType) → IsSend A → IsSend B → IsSend (TupleAt name (A ∷ B ∷ []))
 pair_send name A B a b =
     let kind : Declared = type_at name (A ∷ B ∷ []) in

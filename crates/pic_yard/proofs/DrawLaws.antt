@@ -11,7 +11,7 @@ use Rattle.pic_slots.specs.Fronts.{seek}
 use Rattle.pic_tile.specs.Directions.{directions, here}
 use Rattle.pic_yard.specs.declared.opening.Opening.{Opening}
 use Rattle.pic_yard.specs.declared.view.View.{View}
-use Rattle.pic_yard.specs.Acts.{take_all, Apart}
+use Rattle.pic_yard.specs.Acts.{Apart}
 use Rattle.pic_yard.specs.Contents.{Slot, tiles_in, to_of, from_of, tile_at, kinds_of}
 use Rattle.pic_yard.specs.Marks.{IsOwed, IsRight, Marks}
 use Rattle.pic_yard.specs.Tickets.{Tickets}
@@ -22,7 +22,7 @@ use Rattle.pic_yard.specs.Sits.{slot_at, IsMine, a_box, a_home, of_right, Sits, 
 use Rattle.pic_yard.specs.Sits as claimed
 use Rattle.pic_yard.specs.Steps.{did_claim, was_told}
 use Rattle.pic_yard.proofs.CountLaws.{count_le, count_all}
-use Rattle.pic_yard.proofs.CollectLaws.{Collected, which_place, cleared, homes_cleared, all_carried, slot_row, slot_place}
+use Rattle.pic_yard.proofs.CollectLaws.{take_all, Collected, which_place, cleared, homes_cleared, all_carried, slot_row, slot_place}
 use Rattle.pic_yard.proofs.MarkLaws.{ArrivalsStay, claim_marks, told_marks}
 use Rattle.pic_yard.proofs.PlaceLaws.{claim_slot, claim_kind, claim_home, claim_box, kind_home, kind_box, claim_takes, claim_places, claim_aways, told_places}
 use Rattle.pic_yard.proofs.PlaceLaws.{told_aways, own_from}

@@ -80,11 +80,8 @@ laying_more tiles left n old new bare inside laying has = record {
 pub laid_of : (o : Opening) (words : List ℕ) (slots : List Slot) → length o.tiles.items ≡ tiles_in o → words ≡ replicate (tiles_in o + 1) 0
     → AreLaid o.tiles.items (length o.tiles.items) slots → IsLaid o words slots
 laid_of o words slots count zeros laid =
-    let all : AreLaid o.tiles.items (tiles_in o) slots = subst (λ (n : ℕ). AreLaid o.tiles.items n slots) count laid in
     record {
       words_long = ap (λ (ws : List ℕ). length ws) zeros ∙ length-replicate (tiles_in o + 1) 0 ∙ omega arith;
       zero = λ i. ap (λ (ws : List ℕ). get_or ws i 0) zeros ∙ same_there (tiles_in o + 1) i 0;
-      slots_long = all.long;
-      boxes = all.boxes;
-      homes = all.homes;
+      laid = subst (λ (n : ℕ). AreLaid o.tiles.items n slots) count laid;
     }

@@ -4,11 +4,11 @@ use Rattle.std.proofs.Math.Decide.{ℕ_discrete}
 use mathlib.Core.Option.{some}
 use lib.ListN.{get_elem?}
 use Rattle.pic_yard.specs.declared.view.View.{View}
-use Rattle.pic_yard.specs.Members.{In, Differ, at_else}
+use Rattle.pic_yard.specs.Members.{In, Differ}
 use Rattle.pic_yard.specs.Steps.{now_has, boxes_of, did_claim}
 use Rattle.pic_yard.specs.Marks.{Lists, IsOwed, IsRight, Marks}
 use Rattle.pic_yard.proofs.Ways.{AreWays}
-use Rattle.pic_yard.proofs.CountLaws.{at_here, at_other}
+use Rattle.pic_yard.proofs.CountLaws.{at_else, at_here, at_other}
 use Rattle.pic_yard.proofs.MemberLaws.{in_left, in_right, in_parts, in_boxes, boxes_in, boxes_differ, differ_both}
 use Rattle.pic_yard.proofs.ViewLaws.{each_view, lists_still, lists_now}
 

@@ -8,10 +8,10 @@ use mathlib.Core.Option.{some, some-injective}
 use lib.ListN.{get_elem?}
 use Rattle.atomic_table.proofs.Lists.{at_longer, set_else}
 use Rattle.pic_yard.specs.declared.view.View.{View}
-use Rattle.pic_yard.specs.Members.{In, at_else}
+use Rattle.pic_yard.specs.Members.{In}
 use Rattle.pic_yard.specs.Steps.{gave_number, newcomer, took_in, spent}
 use Rattle.pic_yard.specs.Tickets.{HasNumbers, Tickets}
-use Rattle.pic_yard.proofs.CountLaws.{at_here, at_other}
+use Rattle.pic_yard.proofs.CountLaws.{at_else, at_here, at_other}
 use Rattle.pic_yard.proofs.MemberLaws.{was_in, unseen_in, in_parts, in_left, in_right, differ_without, differ_both}
 use Rattle.pic_yard.proofs.ViewLaws.{each_view, at_end, lists_still, lists_now}
 

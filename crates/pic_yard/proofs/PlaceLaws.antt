@@ -5,10 +5,10 @@ use Rattle.std.proofs.Common.{true≢false}
 use Rattle.std.proofs.Math.Decide.{ℕ_discrete}
 use mathlib.Core.Option.{Option, none, some}
 use lib.ListN.{get_elem?}
-use Rattle.pic_yard.specs.Members.{count_below, at_else}
+use Rattle.pic_yard.specs.Members.{count_below}
 use Rattle.pic_yard.proofs.Ways.{AreWays}
 use Rattle.pic_yard.specs.Places.{slot_in, IsHome, Kinds, Places, Aways}
-use Rattle.pic_yard.proofs.CountLaws.{at_here, at_other, count_all}
+use Rattle.pic_yard.proofs.CountLaws.{at_else, at_here, at_other, count_all}
 use Rattle.pic_yard.proofs.CollectLaws.{slot_row, slot_place, cleared, Collected, collect}
 
 pub own_from : (tiles dirs here : ℕ) (to from : ℕ → ℕ → ℕ) → AreWays tiles dirs here to from → (t : ℕ) → t < tiles → from t here ≡ t

@@ -5,10 +5,10 @@ use Rattle.std.proofs.Math.Decide.{ℕ_discrete}
 use mathlib.Core.Option.{some}
 use lib.ListN.{get_elem?}
 use Rattle.pic_yard.specs.declared.view.View.{View}
-use Rattle.pic_yard.specs.Members.{In, Differ, same_pair, count_below, at_else}
+use Rattle.pic_yard.specs.Members.{In, Differ, same_pair, count_below}
 use Rattle.pic_yard.specs.Steps.{did_post}
-use Rattle.pic_yard.specs.Marks.{Lists, IsOwed, IsRight, Marks, posts}
-use Rattle.pic_yard.proofs.CountLaws.{at_here, at_other, count_le, count_more, count_all}
+use Rattle.pic_yard.specs.Marks.{Lists, IsOwed, IsRight, Marks}
+use Rattle.pic_yard.proofs.CountLaws.{at_else, at_here, at_other, count_le, count_more, count_all}
 use Rattle.pic_yard.proofs.MemberLaws.{kept, was_in, unseen_in, differ_without, pair_other, pair_apart}
 use Rattle.pic_yard.proofs.ViewLaws.{each_view, lists_still, lists_now}
 
@@ -20,6 +20,10 @@ which_pair r d x y = elim (ℕ_discrete x r) [
   | yes first ↦ elim (ℕ_discrete y d) [ yes second ↦ inl (first, second) | no apart ↦ inr (λ is. apart is.1) ]
   | no apart ↦ inr (λ is. apart is.0)
 ]
+
+-- the parcel (r, d) is posted, and those that were before
+abbrev pub posts : (ℕ → ℕ → Bool) → ℕ → ℕ → ℕ → ℕ → Bool
+posts posted r d = at_else r (at_else d true (posted r)) posted
 
 pub posts_it : (posted : ℕ → ℕ → Bool) (r d x y : ℕ) → IsPair r d x y → posts posted r d x y ≡ true
 posts_it posted r d x y is =
@@ -47,9 +51,6 @@ count_row posted r d dirs x apart = ap (λ (f : ℕ → Bool). count_below f dir
 
 if_false : {A : Type 0} (b : Bool) (x y : A) → b ≡ false → (if b then x else y) ≡ y
 if_false b x y is = ap (λ (c : Bool). if c then x else y) is
-
-if_true : {A : Type 0} (b : Bool) (x y : A) → b ≡ true → (if b then x else y) ≡ x
-if_true b x y is = ap (λ (c : Bool). if c then x else y) is
 
 -- all arrival words but that of r stay, and that of r has the number n
 pub record OneArrives (tiles r n : ℕ) (words later : List ℕ) : Type 0 where

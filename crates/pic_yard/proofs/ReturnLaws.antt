@@ -3,15 +3,13 @@ use Rattle.std.proofs.Common.{◌≡◌, ℕ, zero, suc, ◌<◌, ◌≤◌, Lis
 use Rattle.std.proofs.Math.Decide.{ℕ_discrete}
 use mathlib.Core.Option.{Option, none, some}
 use lib.ListN.{get_elem?}
-use Rattle.atomic_table.specs.Table.{State, Me, Act, chain, gives, Valid, Allows, stepped, homes_after, carried_after}
+use Rattle.atomic_table.specs.Table.{State, Me, Act, keeps, chain, gives, Valid, Allows, stepped, homes_after, carried_after}
 use Rattle.atomic_table.proofs.Lists.{set_here, set_else}
 use Rattle.pic_tile.specs.Directions.{directions, here}
 use Rattle.pic_yard.specs.declared.opening.Opening.{Opening}
 use Rattle.pic_yard.specs.declared.view.View.{View}
-use Rattle.pic_yard.specs.Acts.{give_all}
 use Rattle.pic_yard.specs.Contents.{Slot, tiles_in, to_of, from_of, kinds_of}
 use Rattle.pic_yard.specs.Marks.{Marks, IsRight}
-use Rattle.pic_yard.specs.Members.{at_else}
 use Rattle.pic_yard.specs.Places.{Places, Aways}
 use Rattle.pic_yard.specs.Returns.{boxes_on, IsStacked, Returned}
 use Rattle.pic_yard.specs.Rule.{Rule, ticket_of}
@@ -19,6 +17,7 @@ use Rattle.pic_yard.specs.Sits.{slot_at}
 use Rattle.pic_yard.specs.Steps.{gave_back}
 use Rattle.pic_yard.specs.Tickets.{Tickets}
 use Rattle.pic_yard.proofs.BackLaws.{back_marks}
+use Rattle.pic_yard.proofs.CountLaws.{at_else}
 use Rattle.pic_yard.proofs.CollectLaws.{slot_row, slot_place}
 use Rattle.pic_yard.proofs.PlaceLaws.{ComesBack, back_places, back_aways}
 use Rattle.pic_yard.proofs.PostLaws.{OneArrives}
@@ -26,6 +25,11 @@ use Rattle.pic_yard.proofs.TicketLaws.{keep_numbers}
 use Rattle.pic_yard.proofs.ViewLaws.{each_view, below_there}
 use Rattle.pic_yard.proofs.WayLaws.{ways_of}
 use Rattle.pic_yard.proofs.WordLaws.{word_now, word_still}
+
+-- the n slots that lie first are given back
+unfoldable give_all : {S : Type 0} → ℕ → Act S
+give_all zero = keeps
+give_all (suc n) = chain gives (give_all n)
 
 -- The first n mailboxes of r come home.
 

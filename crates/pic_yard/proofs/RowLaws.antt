@@ -45,14 +45,6 @@ gave o n k v below is =
 made : (o : Opening) (n k : ℕ) (v : View) → k < n → v ≡ new_view o 0 (ahead k (n - k)) → next_seat v ≡ new_view o k []
 made o n k v below is = ap next_seat (next_is o n k v below is)
 
-pub made_first : (yard : Yard) (n : ℕ) (first : Seat Slot View) → IsNewSeat yard 0 (ahead 1 (n - 1)) first → AreMade yard n 1 ([] ++ first ∷ [])
-made_first yard n first new = record {
-  count = refl;
-  some = omega arith;
-  first = λ seat. new;
-  others = λ i seat above below. absurd (omega (arith, above, below));
-}
-
 pub made_more : (yard : Yard) (n k : ℕ) (seats : List (Seat Slot View)) (d first next : Seat Slot View) → AreMade yard n k seats → k < n
     → Serves yard first → view_of first ≡ gave_next (view_of (get_or seats 0 d)) → Serves yard next → view_of next ≡ next_seat (view_of (get_or seats 0 d))
     → AreMade yard n (k + 1) (set seats 0 first ++ next ∷ [])

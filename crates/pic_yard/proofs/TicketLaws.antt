@@ -5,11 +5,33 @@ use mathlib.Core.Option.{some}
 use lib.ListN.{get_elem?}
 use Rattle.pic_yard.specs.declared.view.View.{View}
 use Rattle.pic_yard.specs.Marks.{Lists}
-use Rattle.pic_yard.specs.Members.{In, count_below, at_else}
+use Rattle.pic_yard.specs.Members.{In, count_below}
 use Rattle.pic_yard.specs.Steps.{now_has}
 use Rattle.pic_yard.specs.Tickets.{HasNumbers, Tickets}
 use Rattle.pic_yard.proofs.ViewLaws.{each_view, lists_still, lists_now}
-use Rattle.pic_yard.proofs.CountLaws.{at_here, at_other, stays_true, count_more}
+use Rattle.pic_yard.proofs.CountLaws.{at_else, at_here, at_other, stays_true, count_more}
+
+-- a view that drew another number, and has other claims and rights, keeps its numbers
+numbers_with : (tiles seats ticket ticket' : ℕ) (keeper : ℕ → ℕ) (told : ℕ → Bool) (j : ℕ) (v : View) → HasNumbers tiles seats ticket keeper told j v
+    → (drawn : ℕ) (owes : List (ℕ × ℕ)) (rights : List ℕ) → drawn ≤ ticket' → (v.told ≡ true → tiles < drawn)
+    → HasNumbers tiles seats ticket' keeper told j (now_has v drawn v.told owes rights)
+numbers_with tiles seats ticket ticket' keeper told j v h drawn owes rights few past = record {
+  own = h.own;
+  own_kept = h.own_kept;
+  own_told = h.own_told;
+  taken = h.taken;
+  taken_kept = h.taken_kept;
+  taken_told = h.taken_told;
+  unmade = h.unmade;
+  unmade_kept = h.unmade_kept;
+  unmade_told = h.unmade_told;
+  made = h.made;
+  apart = h.apart;
+  taken_differ = h.taken_differ;
+  unmade_differ = h.unmade_differ;
+  drawn = few;
+  past = past;
+}
 
 module _ (tiles seats ticket : ℕ) (views : List View) (t : Tickets tiles seats ticket views) (j : ℕ) (v : View)
     (there : get_elem? views j ≡ some v) (live : v.live ≡ true) (owes : List (ℕ × ℕ)) (rights : List ℕ) where
@@ -31,40 +53,11 @@ module _ (tiles seats ticket : ℕ) (views : List View) (t : Tickets tiles seats
         told = t.told;
         bound = omega (arith, below);
         each = each_view (Numbers t.told) views j (now_has v (suc ticket) v.told owes rights)
-            (λ lives. record {
-              own = h.own;
-              own_kept = h.own_kept;
-              own_told = h.own_told;
-              taken = h.taken;
-              taken_kept = h.taken_kept;
-              taken_told = h.taken_told;
-              unmade = h.unmade;
-              unmade_kept = h.unmade_kept;
-              unmade_told = h.unmade_told;
-              made = h.made;
-              apart = h.apart;
-              taken_differ = h.taken_differ;
-              unmade_differ = h.unmade_differ;
-              drawn = omega arith;
-              past = λ told. let a : tiles < v.drawn = h.past told in let b : v.drawn ≤ ticket = h.drawn in omega arith;
-            })
-            (λ i x apart at lives. let g = t.each i x at lives in record {
-              own = g.own;
-              own_kept = g.own_kept;
-              own_told = g.own_told;
-              taken = g.taken;
-              taken_kept = g.taken_kept;
-              taken_told = g.taken_told;
-              unmade = g.unmade;
-              unmade_kept = g.unmade_kept;
-              unmade_told = g.unmade_told;
-              made = g.made;
-              apart = g.apart;
-              taken_differ = g.taken_differ;
-              unmade_differ = g.unmade_differ;
-              drawn = let b : x.drawn ≤ ticket = g.drawn in omega arith;
-              past = g.past;
-            });
+            (λ lives. numbers_with tiles seats ticket (suc ticket) t.keeper t.told j v h (suc ticket) owes rights (omega arith)
+            (λ told. let a : tiles < v.drawn = h.past told in let b : v.drawn ≤ ticket = h.drawn in omega arith))
+            (λ i x apart at lives. let g = t.each i x at lives in
+            numbers_with tiles seats ticket (suc ticket) t.keeper t.told i x g x.drawn x.owes x.rights
+            (let b : x.drawn ≤ ticket = g.drawn in omega arith) g.past);
         known = known_still (suc ticket) v.told;
       }
 
@@ -136,23 +129,7 @@ keep_numbers tiles seats ticket views t j v there live owes rights =
       told = t.told;
       bound = t.bound;
       each = each_view (λ (i : ℕ) (x : View). HasNumbers tiles seats ticket t.keeper t.told i x) views j (now_has v v.drawn v.told owes rights)
-          (λ lives. record {
-            own = h.own;
-            own_kept = h.own_kept;
-            own_told = h.own_told;
-            taken = h.taken;
-            taken_kept = h.taken_kept;
-            taken_told = h.taken_told;
-            unmade = h.unmade;
-            unmade_kept = h.unmade_kept;
-            unmade_told = h.unmade_told;
-            made = h.made;
-            apart = h.apart;
-            taken_differ = h.taken_differ;
-            unmade_differ = h.unmade_differ;
-            drawn = h.drawn;
-            past = h.past;
-          })
+          (λ lives. numbers_with tiles seats ticket ticket t.keeper t.told j v h v.drawn owes rights h.drawn h.past)
           (λ i x apart at lives. t.each i x at lives);
       known = λ x below is.
           lists_still views j v (now_has v v.drawn v.told owes rights) (t.keeper x) (λ y. (x ≡ y.number) ⊎ In x y.taken) there live (λ had. had)

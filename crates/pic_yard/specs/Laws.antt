@@ -1,6 +1,6 @@
 -- The laws of the board: each kind of step keeps its rule, whatever the other seats do in between,
 -- and what it tells its seat; and what holds when the last seat is done.
-use Rattle.std.specs.Prelude.{length, ◌*◌, None}
+use Rattle.std.specs.Prelude.{length}
 use Rattle.std.specs.Prelude.{◌≡◌, ℕ, suc, ◌+◌, ◌%◌, ◌^◌, ◌<◌, ◌⊎◌, List, [], true, false, Some}
 use Rattle.std.specs.Prelude.{slice_index}
 use mathlib.Core.Option.{some}
@@ -11,7 +11,8 @@ use Rattle.pic_tile.specs.Directions.{directions}
 use Rattle.pic_yard.specs.declared.opening.Opening.{Opening}
 use Rattle.pic_yard.specs.declared.view.View.{View}
 use Rattle.pic_yard.specs.Arrivals.{IsLoaded, Arrived}
-use Rattle.pic_yard.specs.Contents.{Slot, tiles_in, tile_at, IsFinished}
+use Rattle.pic_yard.specs.Contents.{Slot, tiles_in, IsFinished}
+use Rattle.pic_yard.specs.Laying.{AreLaid}
 use Rattle.pic_yard.specs.Members.{In}
 use Rattle.pic_yard.specs.Places.{IsHome}
 use Rattle.pic_yard.specs.Returns.{IsStacked, Returned}
@@ -24,9 +25,7 @@ use Rattle.pic_yard.specs.Steps.{first_view, gave_number, newcomer, took_in, spe
 pub record IsLaid (o : Opening) (words : List ℕ) (slots : List Slot) : Type 0 where
   pub words_long : length words ≡ suc (tiles_in o)
   pub zero : (i : ℕ) → slice_index words i ≡ 0
-  pub slots_long : length slots ≡ tiles_in o * suc directions
-  pub boxes : (r d : ℕ) → r < tiles_in o → d < directions → get_elem? slots (slot_at r d) ≡ some None
-  pub homes : (t : ℕ) → t < tiles_in o → get_elem? slots (slot_at t directions) ≡ some (tile_at o t)
+  pub laid : AreLaid o.tiles.items (tiles_in o) slots
 
 -- a board begins with the rule
 abbrev pub ABoardBeginsWithTheRule : Type 0

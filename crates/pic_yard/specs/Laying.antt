@@ -8,10 +8,14 @@ use Rattle.pic_yard.specs.declared.piece.Piece.TheVariants as piece
 use Rattle.pic_yard.specs.Contents.{Slot}
 use Rattle.pic_yard.specs.Sits.{slot_at}
 
+-- the tile lies in the home slot of the tile t
+abbrev pub LiesThere : List Slot → ℕ → TileValue → Type 0
+LiesThere slots t tile =
+    get_elem? slots (slot_at t directions) ≡ some (Some (piece.Tile (Some tile)))
+
 -- the tile t of a list lies in its home slot
 abbrev pub LiesHome : List TileValue → List Slot → ℕ → Type 0
-LiesHome tiles slots t =
-    get_elem? slots (slot_at t directions) ≡ some (Some (piece.Tile (Some (tile_in tiles t))))
+LiesHome tiles slots t = LiesThere slots t (tile_in tiles t)
 
 -- the slots of the first n tiles of a list: their mailboxes empty, and each in its home slot
 pub record AreLaid (tiles : List TileValue) (n : ℕ) (slots : List Slot) : Type 0 where

@@ -4,7 +4,7 @@ use Rattle.std.specs.Prelude.{◌≡◌, ℕ, suc, ◌<◌, List, Bool, true, fa
 use mathlib.Core.Option.{some}
 use lib.ListN.{get_elem?}
 use Rattle.pic_yard.specs.declared.view.View.{View}
-use Rattle.pic_yard.specs.Members.{In, Differ, count_below, at_else}
+use Rattle.pic_yard.specs.Members.{In, Differ, count_below}
 
 -- the view of the seat j is live, and lists something
 pub record Lists (views : List View) (j : ℕ) (What : View → Type 0) : Type 0 where
@@ -54,7 +54,3 @@ pub record Marks (tiles dirs ticket : ℕ) (from : ℕ → ℕ → ℕ) (posted 
   pub once_owed : (j : ℕ) (v : View) → get_elem? views j ≡ some v → v.live ≡ true → Differ v.owes
   -- and so does each tile to which it has the right
   pub once_right : (j : ℕ) (v : View) → get_elem? views j ≡ some v → v.live ≡ true → Differ v.rights
-
--- the parcel (r, d) is posted, and those that were before
-abbrev pub posts : (ℕ → ℕ → Bool) → ℕ → ℕ → ℕ → ℕ → Bool
-posts posted r d = at_else r (at_else d true (posted r)) posted

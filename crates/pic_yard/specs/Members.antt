@@ -26,7 +26,3 @@ same_pair r d pair = eqb pair.0 r && eqb pair.1 d
 unfoldable pub count_below : (ℕ → Bool) → ℕ → ℕ
 count_below test zero = zero
 count_below test (suc n) = (if test n then 1 else 0) + count_below test n
-
--- f, but a at k
-abbrev pub at_else : {A : Type 0} → ℕ → A → (ℕ → A) → ℕ → A
-at_else k a f x = if eqb x k then a else f x

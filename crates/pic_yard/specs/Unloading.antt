@@ -1,25 +1,16 @@
 -- A board that no seat shares any more: what lies in its slots is taken out.
-use Rattle.std.specs.Prelude.{◌≡◌, ℕ, ◌<◌, List, Some, false, slice_index_or}
+use Rattle.std.specs.Prelude.{◌≡◌, ℕ, ◌<◌, List, false, slice_index_or}
 use Rattle.std.specs.Slots.{slots_items, slots_filled, slots_len}
 use Rattle.std.specs.Slots.Ownership.{Filled}
 use Rattle.std.specs.declared.alloc.Global.{Global}
-use mathlib.Core.Option.{some}
-use lib.ListN.{get_elem?}
 use Rattle.atomic_table.specs.declared.owned.Closed.{Closed}
-use Rattle.pic_tile.specs.Directions.{directions}
 use Rattle.pic_tile.specs.Tile.{TileValue}
-use Rattle.pic_yard.specs.declared.piece.Piece.TheVariants as piece
 use Rattle.pic_yard.specs.Contents.{Slot}
-use Rattle.pic_yard.specs.Sits.{slot_at}
+use Rattle.pic_yard.specs.Laying.{LiesThere}
 
 -- what the slots had when the board was closed
 abbrev pub slots_in : Closed Slot Global → List Slot
 slots_in closed = slots_items closed.slots
-
--- the tile lies in the home slot of the tile t
-abbrev pub LiesThere : List Slot → ℕ → TileValue → Type 0
-LiesThere slots t tile =
-    get_elem? slots (slot_at t directions) ≡ some (Some (piece.Tile (Some tile)))
 
 -- a tile lies in the home slot of the tile t
 pub record HasTile (slots : List Slot) (t : ℕ) : Type 0 where

@@ -12,7 +12,7 @@ ghost use Rattle.pic_yard.specs.Yards.{Serves, mail_of, opening_of, view_of};
 
 use crate::claim::Right;
 use crate::piece::Piece;
-use crate::places::{home, mailbox};
+use crate::places::{SLOTS, home, mailbox};
 use crate::view::View;
 use crate::yard::{Seat, Yard};
 use atomic_table::Play;
@@ -34,7 +34,7 @@ fn stack(seat: &mut Seat, tile: u32)
     ensures slots { seat.new.me
         ≡ (seat.old.me.0, boxes_on tile directions (shed tile directions seat.old.me.1)) }
 {
-    for number in 0..27 {
+    for number in 0..Dir::COUNT {
         bring(seat, mailbox(tile, Dir::of(number)));
     }
 }
@@ -87,6 +87,6 @@ impl Yard {
         self.put_home(seat, right.number, tile);
         self.table
             .shared
-            .store::<GiveBack>(seat, right.number as usize + 1, 28);
+            .store::<GiveBack>(seat, right.number as usize + 1, SLOTS as u64);
     }
 }

@@ -6,13 +6,11 @@ ghost use Rattle.pic_tile.specs.Directions.{directions};
 ghost use Rattle.pic_yard.specs.Laying.{AreLaid, HasBoxes};
 
 use crate::piece::{Berth, Piece};
+use crate::places::SLOTS;
 use pic_num::NoMemory;
 use pic_tile::{Dir, Tile};
 use std::alloc::Global;
 use std::mem;
-
-// how many slots a tile has
-pub(crate) const SLOTS: usize = 28;
 
 /// Lays the empty mailboxes of a tile.
 fn lay_boxes(slots: &mut Vec<Option<Piece>>) -> Result<(), NoMemory>

@@ -31,7 +31,7 @@ fn answer(to: u32, arrived: u64) -> Posted
     requires { arrived < directions }
     ensures { IsAnswer to arrived result }
 {
-    if arrived + 1 == 27 {
+    if arrived + 1 == Dir::COUNT as u64 {
         Posted::Ready(Right { number: to })
     } else {
         Posted::Counted

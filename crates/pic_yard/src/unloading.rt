@@ -4,12 +4,12 @@ ghost use Rattle.std.specs.Prelude.{◌≡◌, ℕ, ◌*◌, ◌<◌, ◌≤◌,
 ghost use Rattle.std.specs.Slots.{slots_len, IsFull};
 ghost use Rattle.pic_grid.specs.Tiles.{most_tiles};
 ghost use Rattle.pic_tile.specs.Directions.{directions};
-ghost use Rattle.pic_yard.specs.Laying.{LiesHome};
+ghost use Rattle.pic_yard.specs.Laying.{LiesHome, LiesThere};
 ghost use Rattle.pic_yard.specs.Sits.{slot_at};
-ghost use Rattle.pic_yard.specs.Unloading.{AreEmptied, HasTile, IsOut, LiesThere, slots_in};
+ghost use Rattle.pic_yard.specs.Unloading.{AreEmptied, HasTile, IsOut, slots_in};
 
-use crate::laying::SLOTS;
 use crate::piece::Piece;
+use crate::places::SLOTS;
 use atomic_table::Closed;
 use pic_tile::{Dir, Tile};
 use std::alloc::Global;

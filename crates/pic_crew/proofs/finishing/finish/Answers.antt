@@ -4,10 +4,11 @@ use Rattle.pic_tile.specs.Directions.{directions, here}
 use Rattle.pic_tile.specs.Tile.{TileValue}
 use Rattle.pic_yard.specs.declared.view.View.{View}
 use Rattle.pic_yard.specs.Contents.{Slot, IsShut}
-use Rattle.pic_yard.specs.Yards.{IsReceived, mail_of, opening_of}
-use Rattle.pic_crew.specs.Finishing.{Takes, none_done}
-use Rattle.pic_crew.proofs.Turns.{IsTaking, finished_up_to}
-use Rattle.pic_crew.proofs.TakeLaws.{can_take, first_more, here_done, next_more, taking_none, taking_more, taking_past, taking_all}
+use Rattle.pic_yard.specs.Steps.{gave_back}
+use Rattle.pic_yard.specs.Yards.{IsReceived, mail_of, opening_of, view_of}
+use Rattle.pic_crew.specs.Finishing.{Takes}
+use Rattle.pic_crew.proofs.Turns.{IsTaking, finished_up_to, none_done}
+use Rattle.pic_crew.proofs.TakeLaws.{can_take, first_more, here_done, next_more, taking_none, taking_more, taking_past, taking_all, mail_kept}
 use Rattle.pic_crew.proofs.finishing.finish.Goals as goal
 use Rattle.pic_crew.proofs.finishing.finish.Goals.{then-ne, else-ne}
 
@@ -58,8 +59,8 @@ loop-number-preserved c =
           let x = w.take_one-then-ne.new.tile in
           let received : IsReceived u r d =
           subst (λ (k : ℕ). IsReceived u k d) kept (subst (λ (k : ℕ). IsReceived u c.loop-number.right k) k_is e.received) in
-          let others : (f : ℕ) → f < directions → (f ≡ d → ⊥) → mail_of u r f ≡ mail_of s r f = λ f inside other.
-          subst (λ (k : ℕ). mail_of u k f ≡ mail_of s k f) kept (e.others f inside (λ same. other (same ∙ k_is))) in
+          let others : (q f : ℕ) → f < directions → ((q ≡ r) × (f ≡ d) → ⊥) → mail_of u q f ≡ mail_of s q f = λ q f inside other.
+          e.others q f inside (λ same. other (same.0 ∙ kept, same.1 ∙ k_is)) in
           let takes : Takes (opening_of y) r d t x =
           subst (λ (k : ℕ). Takes (opening_of y) k d t x) kept (subst (λ (k : ℕ). Takes (opening_of y) c.loop-number.right k t x) k_is e.tile) in (
             w.right-is ∙ e.right ∙ kept,
@@ -83,3 +84,9 @@ give_back-requires-clause-finished c =
     let all = taking_all y c.args.right c.args.seat.now c.loop-number.number c.loop-number.seat c.loop-number.tile (omega arith) c.loop-number.invariant.1 in
     subst (λ (r : ℕ). IsShut (opening_of y) r c.shut.new.tile) (sym c.loop-number.invariant.0)
     (subst (λ (t : TileValue). IsShut (opening_of y) c.args.right t) (sym c.shut.ensures.same) all.1)
+
+pub returns-clause-kept : goal.returns-clause-kept
+returns-clause-kept c =
+    mail_kept c.args.yard.now c.args.right c.args.seat.now (finished_up_to c.loop-number.number) c.loop-number.seat c.give_back.new.seat c.loop-number.tile
+    c.loop-number.invariant.1 (c.give_back.ensures.view ∙ ap (λ (k : ℕ). gave_back k (view_of c.loop-number.seat)) c.loop-number.invariant.0)
+    c.give_back.ensures.kept

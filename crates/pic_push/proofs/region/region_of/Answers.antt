@@ -2,9 +2,10 @@ use Rattle.std.proofs.Common.{◌≡◌, ℕ, ◌+◌, ◌*◌, refl, rules, ari
 use Rattle.std.proofs.lemmas.Int.{to_z-of_z}
 use mir.Syntax.{w32}
 use mir.Val.{SFits}
+use Rattle.pic_num.specs.declared.axis.Axis.TheVariants.{X, Y, Z}
 use Rattle.pic_num.specs.Space.{triple, spot}
 use Rattle.pic_tile.specs.Directions.{here}
-use Rattle.pic_push.specs.Region.{IsLastOn}
+use Rattle.pic_push.specs.Region.{IsLastOn, up_on, up_beside}
 use Rattle.pic_push.proofs.RegionLaws.{AreUpTo, up_to, by_number, level_is}
 use Rattle.pic_push.proofs.region.region_of.Goals as goal
 use Rattle.pic_push.proofs.region.region_of.Goals.{After-level_on-z}
@@ -30,19 +31,19 @@ pub returns-in-0 : goal.returns-in-0
 returns-in-0 c = placed (goal.at.returns-in-0 c).After-level_on-z here (up_to here here refl refl refl) (omega (arith, c.in-0.is))
 
 pub returns-in-1 : goal.returns-in-1
-returns-in-1 c = placed (goal.at.returns-in-1 c).After-level_on-z 14 (up_to here 14 refl refl refl) (omega (arith, c.in-1.is))
+returns-in-1 c = placed (goal.at.returns-in-1 c).After-level_on-z (up_on X) (up_to here (up_on X) refl refl refl) (omega (arith, c.in-1.is))
 
 pub returns-in-3 : goal.returns-in-3
-returns-in-3 c = placed (goal.at.returns-in-3 c).After-level_on-z 16 (up_to here 16 refl refl refl) (omega (arith, c.in-3.is))
+returns-in-3 c = placed (goal.at.returns-in-3 c).After-level_on-z (up_on Y) (up_to here (up_on Y) refl refl refl) (omega (arith, c.in-3.is))
 
 pub returns-in-9 : goal.returns-in-9
-returns-in-9 c = placed (goal.at.returns-in-9 c).After-level_on-z 22 (up_to here 22 refl refl refl) (omega (arith, c.in-9.is))
+returns-in-9 c = placed (goal.at.returns-in-9 c).After-level_on-z (up_on Z) (up_to here (up_on Z) refl refl refl) (omega (arith, c.in-9.is))
 
 pub returns-in-12 : goal.returns-in-12
-returns-in-12 c = placed (goal.at.returns-in-12 c).After-level_on-z 25 (up_to here 25 refl refl refl) (omega (arith, c.in-12.is))
+returns-in-12 c = placed (goal.at.returns-in-12 c).After-level_on-z (up_beside X) (up_to here (up_beside X) refl refl refl) (omega (arith, c.in-12.is))
 
 pub returns-in-10 : goal.returns-in-10
-returns-in-10 c = placed (goal.at.returns-in-10 c).After-level_on-z 23 (up_to here 23 refl refl refl) (omega (arith, c.in-10.is))
+returns-in-10 c = placed (goal.at.returns-in-10 c).After-level_on-z (up_beside Y) (up_to here (up_beside Y) refl refl refl) (omega (arith, c.in-10.is))
 
 pub returns-in-4 : goal.returns-in-4
-returns-in-4 c = placed (goal.at.returns-in-4 c).After-level_on-z 17 (up_to here 17 refl refl refl) (omega (arith, c.in-4.is))
+returns-in-4 c = placed (goal.at.returns-in-4 c).After-level_on-z (up_beside Z) (up_to here (up_beside Z) refl refl refl) (omega (arith, c.in-4.is))

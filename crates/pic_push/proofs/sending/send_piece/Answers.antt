@@ -1,15 +1,14 @@
-use Rattle.std.proofs.Common.{◌≡◌, Option, Some, None, ap, sym, subst, ◌∙◌}
+use Rattle.std.proofs.Common.{◌≡◌, ap, sym, subst, ◌∙◌}
 use Rattle.std.proofs.Math.Decide.{ℕ_discrete}
 use Rattle.pic_num.specs.Space.{Spot, Triple, triple, spot}
 use Rattle.pic_grid.specs.Flux.{flux}
 use Rattle.pic_grid.specs.Segment.{Piece}
-use Rattle.pic_tile.specs.declared.parcel.Parcel.{Parcel}
 use Rattle.pic_tile.specs.Directions.{here}
 use Rattle.pic_tile.specs.Tile.{parcel_at}
 use Rattle.pic_push.specs.declared.region.Region.{Region}
 use Rattle.pic_push.specs.Region.{LiesIn}
 use Rattle.pic_push.specs.Sends.{IsOpenTo, most_sent}
-use Rattle.pic_push.proofs.GainLaws.{gains_still}
+use Rattle.pic_push.proofs.GainLaws.{no_parcel, gains_still}
 use Rattle.pic_push.proofs.RegionLaws.{inside_up, reach_to, reached, inside_alone, inside_edges}
 use Rattle.pic_push.proofs.TrackLaws.{wide_room}
 use Rattle.pic_push.proofs.UnreachedLaws.{piece_clear}
@@ -43,9 +42,6 @@ deposit_inside-requires-clause-edges c =
 pub deposit_inside-requires-clause-room : goal.deposit_inside-requires-clause-room
 deposit_inside-requires-clause-room c = wide_room c.args.own.now.flux c.requires.room.most
 
-no_some : (p : Parcel) → ◌≡◌ {A = Option Parcel} None (Some p) → ⊥
-no_some p h = cc
-
 pub returns-in-Inside-clause-others : goal.returns-in-Inside-clause-others
 returns-in-Inside-clause-others c =
     let low = spot c.args.zone.low in
@@ -54,7 +50,7 @@ returns-in-Inside-clause-others c =
     let at = subst (λ (p : Region). LiesIn p low size s.cell) c.in-Inside.is (region_is (goal.at.returns-in-Inside-clause-others c).After-region_of) in
     gains_still (flux c.args.sub c.args.q s) c.args.tile.now
     (λ d p few is. elim (ℕ_discrete d here) [
-      | yes same ↦ absurd (no_some p (sym c.requires.open.apart ∙ ap (parcel_at c.args.tile.now) (sym same) ∙ is))
+      | yes same ↦ absurd (no_parcel p (sym c.requires.open.apart ∙ ap (parcel_at c.args.tile.now) (sym same) ∙ is))
       | no other ↦
           piece_clear c.args.sub c.args.q s low size (reach_to here) most_sent d p c.requires.inside (reached here low size s.cell inside_up at) few
           (inside_alone d few other) (c.requires.open.room d p few is)
