@@ -73,7 +73,7 @@ fn run_deck<H: Threads + Sync, O: Sink, R: Sink, G: Gate + Sync>(
 {
     let Opened { deck, start } = opened;
     let ready = prepare(alloc, &deck, start)?;
-    write_run(rt, out, report, ready, workers, gate)
+    write_run(rt, alloc, out, report, ready, workers, gate)
 }
 
 /// A run that has all its memory: the header of its dump, its first state, and room for a frame.
@@ -104,6 +104,7 @@ fn prepare(alloc: Global, deck: &Deck, start: Start) -> Result<Ready, NoMemory>
 
 fn write_run<H: Threads + Sync, O: Sink, R: Sink, G: Gate + Sync>(
     rt: &H,
+    alloc: Global,
     out: &mut O,
     report: &mut R,
     ready: Ready,
@@ -130,7 +131,7 @@ fn write_run<H: Threads + Sync, O: Sink, R: Sink, G: Gate + Sync>(
                 every: header.every(),
                 workers,
             };
-            write_states(rt, plan, out, report, state, &mut room, gate)
+            write_states(rt, alloc, plan, out, report, state, &mut room, gate)
         }
         Err(Failed) => Err(Cut::Write(Side::Out)),
     }
@@ -139,6 +140,7 @@ fn write_run<H: Threads + Sync, O: Sink, R: Sink, G: Gate + Sync>(
 /// The due frames of a run from this state, and then its end.
 pub fn write_states<H: Threads + Sync, O: Sink, R: Sink, G: Gate + Sync>(
     rt: &H,
+    alloc: Global,
     plan: Plan,
     out: &mut O,
     report: &mut R,
@@ -156,7 +158,7 @@ pub fn write_states<H: Threads + Sync, O: Sink, R: Sink, G: Gate + Sync>(
         (sinks (O.told out.old) (R.told report.old))
         (sinks (O.told out.new) (R.told report.new)) result }
 {
-    let end = write_frames(rt, plan, out, report, state, room, gate)?;
+    let end = write_frames(rt, alloc, plan, out, report, state, room, gate)?;
     put_last(plan.output, out, report, end)?;
     Ok(answer_of(end))
 }
@@ -164,6 +166,7 @@ pub fn write_states<H: Threads + Sync, O: Sink, R: Sink, G: Gate + Sync>(
 // The due frames up to the last step, or to the one that stops.
 fn write_frames<H: Threads + Sync, O: Sink, R: Sink, G: Gate + Sync>(
     rt: &H,
+    alloc: Global,
     plan: Plan,
     out: &mut O,
     report: &mut R,
@@ -198,7 +201,7 @@ fn write_frames<H: Threads + Sync, O: Sink, R: Sink, G: Gate + Sync>(
     )?;
     for done in 0..steps {
         let number = done + 1;
-        state = match step(rt, state, workers, gate) {
+        state = match step(rt, alloc, state, workers, gate) {
             Ok(next) => next,
             Err(StepStop::Stop(stop)) => {
                 return Ok(EndMark::Stopped { step: number, stop });

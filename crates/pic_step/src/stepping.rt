@@ -14,6 +14,7 @@ use pic_gate::Gate;
 use pic_grid::{Phase, Stop};
 use pic_num::NoMemory;
 use pic_phase::half;
+use std::alloc::Global;
 use std::thread::Threads;
 
 /// What ends a run in a step: a stop of the scheme, or want of memory.
@@ -52,6 +53,7 @@ impl From<NoMemory> for StepStop {
 /// then.
 pub fn step<H: Threads + Sync, G: Gate + Sync>(
     rt: &H,
+    alloc: Global,
     state: State,
     workers: u32,
     gate: &G,
@@ -70,7 +72,7 @@ pub fn step<H: Threads + Sync, G: Gate + Sync>(
         plasma,
     } = state;
     let b = half(rt, &scales, &e, b, Phase::Half1, workers)?;
-    let pushed = push_phase(rt, &scales, &e, &b, plasma, workers, gate)?;
+    let pushed = push_phase(rt, alloc, &scales, &e, &b, plasma, workers, gate)?;
     let (mut plasma, stop) = pushed;
     match stop {
         Some(stop) => return Err(StepStop::Stop(stop)),
