@@ -89,8 +89,8 @@ fn prepare(alloc: Global, deck: &Deck, start: Start) -> Result<Ready, NoMemory>
     requires sound { IsSound (begun start) }
     requires tiled { AreTiled start.map start.e start.b }
     ensures header { IfOk result (λ ready. ready.header ≡ header_of deck.now) }
-    ensures state { IfOk result (λ ready. ready.state ≡ begun start) }
-    ensures room { IfOk result (λ ready. HasRoom ready.room ready.state) }
+    ensures state { IfOk result (λ ready. ready.state.world ≡ begun start) }
+    ensures room { IfOk result (λ ready. HasRoom ready.room ready.state.world) }
 {
     let header = header_of(alloc, deck)?;
     let state = State::begin(alloc, start)?;
@@ -113,8 +113,8 @@ fn write_run<H: Threads + Sync, O: Sink, R: Sink, G: Gate + Sync>(
 ) -> Result<Ended, Cut>
     requires some { 0 < workers }
     requires most { workers ≤ most_workers }
-    requires room { HasRoom ready.room ready.state }
-    ensures { Finishes workers (dump_outcome ready.header ready.state)
+    requires room { HasRoom ready.room ready.state.world }
+    ensures { Finishes workers (dump_outcome ready.header ready.state.world)
         (sinks (O.told out.old) (R.told report.old))
         (sinks (O.told out.new) (R.told report.new)) result }
 {
@@ -151,10 +151,10 @@ pub fn write_states<H: Threads + Sync, O: Sink, R: Sink, G: Gate + Sync>(
     requires every { 1 ≤ plan.every }
     requires some { 0 < plan.workers }
     requires most { plan.workers ≤ most_workers }
-    requires room { HasRoom room.old state }
+    requires room { HasRoom room.old state.world }
     ensures { WritesStates plan.workers
-        (states_outcome plan.output [] (frames_of plan.output plan.steps plan.every state)
-        (end_of_run plan.steps state))
+        (states_outcome plan.output [] (frames_of plan.output plan.steps plan.every state.world)
+        (end_of_run plan.steps state.world))
         (sinks (O.told out.old) (R.told report.old))
         (sinks (O.told out.new) (R.told report.new)) result }
 {
@@ -177,9 +177,10 @@ fn write_frames<H: Threads + Sync, O: Sink, R: Sink, G: Gate + Sync>(
     requires every { 1 ≤ plan.every }
     requires some { 0 < plan.workers }
     requires most { plan.workers ≤ most_workers }
-    requires room { HasRoom room.old state }
+    requires room { HasRoom room.old state.world }
     ensures { WritesFrames plan.workers
-        (frames_of plan.output plan.steps plan.every state) (end_of_run plan.steps state)
+        (frames_of plan.output plan.steps plan.every state.world)
+        (end_of_run plan.steps state.world)
         (sinks (O.told out.old) (R.told report.old))
         (sinks (O.told out.new) (R.told report.new)) result }
 {

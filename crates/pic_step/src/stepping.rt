@@ -44,8 +44,9 @@ impl From<NoMemory> for StepStop {
 /// workers, 1 to 64, push the particles, tile by tile and each on a thread of its own where one can
 /// be made. Each passes the gate after each claim of a tile and each post of a parcel. Whatever the
 /// tiles, the workers and the gate, the answer is that of the serial step: the state after it, or
-/// the stop of the first phase that has one. The state after it has the same cells, multipliers and
-/// kinds, meets Gauss's law at every node, and the divergence of its B is what it was in every cell.
+/// the stop of the first phase that has one. The state after it has the same cells, multipliers,
+/// kinds and tiles, meets Gauss's law at every node, and the divergence of its B is what it was in
+/// every cell.
 ///
 /// # Errors
 /// `StepStop::Stop` as the serial step has it. `StepStop::NoMemory` where memory is refused to the
@@ -60,10 +61,11 @@ pub fn step<H: Threads + Sync, G: Gate + Sync>(
 ) -> Result<State, StepStop>
     requires some { 0 < workers }
     requires most { workers ≤ most_workers }
-    ensures steps { Steps state result }
-    ensures keeps { IfOk result (Keeps state) }
+    ensures steps { Steps state.world result }
+    ensures keeps { IfOk result (λ next. Keeps state.world next.world) }
+    ensures map { IfOk result (λ next. next.map ≡ state.map) }
     ensures memory { result ≡ Err step_stop.NoMemory
-        → (1 < workers) × (half_stop Half1 state ≡ None) }
+        → (1 < workers) × (half_stop Half1 state.world ≡ None) }
 {
     let State {
         scales,
