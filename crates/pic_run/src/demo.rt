@@ -83,5 +83,5 @@ fn show_deck<H: Threads + Sync, O: Sink, R: Sink, G: Gate + Sync>(
         every: deck.every(),
         workers,
     };
-    write_states(rt, plan, out, report, state, &mut room, gate)
+    write_states(rt, alloc, plan, out, report, state, &mut room, gate)
 }

@@ -33,11 +33,11 @@ pub fn write_due<O: Sink, R: Sink>(
     state: &State,
     room: &mut Snapshot,
 ) -> Result<(), Side>
-    requires { HasRoom room.old state.now }
+    requires { HasRoom room.old state.now.world }
     ensures writes { Writes (sinks (O.told out.old) (R.told report.old))
         (sinks (O.told out.new) (R.told report.new))
-        (due_frame output due step state.now) result }
-    ensures room { HasRoom room.new state.now }
+        (due_frame output due step state.now.world) result }
+    ensures room { HasRoom room.new state.now.world }
 {
     if due {
         write_frame(output, out, report, step, state, room)
@@ -54,11 +54,11 @@ fn write_frame<O: Sink, R: Sink>(
     state: &State,
     room: &mut Snapshot,
 ) -> Result<(), Side>
-    requires { HasRoom room.old state.now }
+    requires { HasRoom room.old state.now.world }
     ensures writes { Writes (sinks (O.told out.old) (R.told report.old))
         (sinks (O.told out.new) (R.told report.new))
-        (frame_piece output step state.now ∷ []) result }
-    ensures room { HasRoom room.new state.now }
+        (frame_piece output step state.now.world ∷ []) result }
+    ensures room { HasRoom room.new state.now.world }
 {
     state.fill(room);
     let energies = energies_in(state, room);
@@ -75,9 +75,9 @@ fn write_frame<O: Sink, R: Sink>(
 
 // The energies of a state that stands in the room.
 fn energies_in(state: &State, room: &Snapshot) -> Energies
-    requires { IsFilled room.now state.now }
-    ensures value { result ≡ energies_in state.now }
-    ensures sound { IsSound state.now }
+    requires { IsFilled room.now state.now.world }
+    ensures value { result ≡ energies_in state.now.world }
+    ensures sound { IsSound state.now.world }
 {
     let _cells = state.cells();
     energies(&state.scales(), state.kinds(), room)

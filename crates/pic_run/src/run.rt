@@ -73,7 +73,7 @@ fn run_deck<H: Threads + Sync, O: Sink, R: Sink, G: Gate + Sync>(
 {
     let Opened { deck, start } = opened;
     let ready = prepare(alloc, &deck, start)?;
-    write_run(rt, out, report, ready, workers, gate)
+    write_run(rt, alloc, out, report, ready, workers, gate)
 }
 
 /// A run that has all its memory: the header of its dump, its first state, and room for a frame.
@@ -89,8 +89,8 @@ fn prepare(alloc: Global, deck: &Deck, start: Start) -> Result<Ready, NoMemory>
     requires sound { IsSound (begun start) }
     requires tiled { AreTiled start.map start.e start.b }
     ensures header { IfOk result (λ ready. ready.header ≡ header_of deck.now) }
-    ensures state { IfOk result (λ ready. ready.state ≡ begun start) }
-    ensures room { IfOk result (λ ready. HasRoom ready.room ready.state) }
+    ensures state { IfOk result (λ ready. ready.state.world ≡ begun start) }
+    ensures room { IfOk result (λ ready. HasRoom ready.room ready.state.world) }
 {
     let header = header_of(alloc, deck)?;
     let state = State::begin(alloc, start)?;
@@ -104,6 +104,7 @@ fn prepare(alloc: Global, deck: &Deck, start: Start) -> Result<Ready, NoMemory>
 
 fn write_run<H: Threads + Sync, O: Sink, R: Sink, G: Gate + Sync>(
     rt: &H,
+    alloc: Global,
     out: &mut O,
     report: &mut R,
     ready: Ready,
@@ -112,8 +113,8 @@ fn write_run<H: Threads + Sync, O: Sink, R: Sink, G: Gate + Sync>(
 ) -> Result<Ended, Cut>
     requires some { 0 < workers }
     requires most { workers ≤ most_workers }
-    requires room { HasRoom ready.room ready.state }
-    ensures { Finishes workers (dump_outcome ready.header ready.state)
+    requires room { HasRoom ready.room ready.state.world }
+    ensures { Finishes workers (dump_outcome ready.header ready.state.world)
         (sinks (O.told out.old) (R.told report.old))
         (sinks (O.told out.new) (R.told report.new)) result }
 {
@@ -130,7 +131,7 @@ fn write_run<H: Threads + Sync, O: Sink, R: Sink, G: Gate + Sync>(
                 every: header.every(),
                 workers,
             };
-            write_states(rt, plan, out, report, state, &mut room, gate)
+            write_states(rt, alloc, plan, out, report, state, &mut room, gate)
         }
         Err(Failed) => Err(Cut::Write(Side::Out)),
     }
@@ -139,6 +140,7 @@ fn write_run<H: Threads + Sync, O: Sink, R: Sink, G: Gate + Sync>(
 /// The due frames of a run from this state, and then its end.
 pub fn write_states<H: Threads + Sync, O: Sink, R: Sink, G: Gate + Sync>(
     rt: &H,
+    alloc: Global,
     plan: Plan,
     out: &mut O,
     report: &mut R,
@@ -149,14 +151,14 @@ pub fn write_states<H: Threads + Sync, O: Sink, R: Sink, G: Gate + Sync>(
     requires every { 1 ≤ plan.every }
     requires some { 0 < plan.workers }
     requires most { plan.workers ≤ most_workers }
-    requires room { HasRoom room.old state }
+    requires room { HasRoom room.old state.world }
     ensures { WritesStates plan.workers
-        (states_outcome plan.output [] (frames_of plan.output plan.steps plan.every state)
-        (end_of_run plan.steps state))
+        (states_outcome plan.output [] (frames_of plan.output plan.steps plan.every state.world)
+        (end_of_run plan.steps state.world))
         (sinks (O.told out.old) (R.told report.old))
         (sinks (O.told out.new) (R.told report.new)) result }
 {
-    let end = write_frames(rt, plan, out, report, state, room, gate)?;
+    let end = write_frames(rt, alloc, plan, out, report, state, room, gate)?;
     put_last(plan.output, out, report, end)?;
     Ok(answer_of(end))
 }
@@ -164,6 +166,7 @@ pub fn write_states<H: Threads + Sync, O: Sink, R: Sink, G: Gate + Sync>(
 // The due frames up to the last step, or to the one that stops.
 fn write_frames<H: Threads + Sync, O: Sink, R: Sink, G: Gate + Sync>(
     rt: &H,
+    alloc: Global,
     plan: Plan,
     out: &mut O,
     report: &mut R,
@@ -174,9 +177,10 @@ fn write_frames<H: Threads + Sync, O: Sink, R: Sink, G: Gate + Sync>(
     requires every { 1 ≤ plan.every }
     requires some { 0 < plan.workers }
     requires most { plan.workers ≤ most_workers }
-    requires room { HasRoom room.old state }
+    requires room { HasRoom room.old state.world }
     ensures { WritesFrames plan.workers
-        (frames_of plan.output plan.steps plan.every state) (end_of_run plan.steps state)
+        (frames_of plan.output plan.steps plan.every state.world)
+        (end_of_run plan.steps state.world)
         (sinks (O.told out.old) (R.told report.old))
         (sinks (O.told out.new) (R.told report.new)) result }
 {
@@ -198,7 +202,7 @@ fn write_frames<H: Threads + Sync, O: Sink, R: Sink, G: Gate + Sync>(
     )?;
     for done in 0..steps {
         let number = done + 1;
-        state = match step(rt, state, workers, gate) {
+        state = match step(rt, alloc, state, workers, gate) {
             Ok(next) => next,
             Err(StepStop::Stop(stop)) => {
                 return Ok(EndMark::Stopped { step: number, stop });

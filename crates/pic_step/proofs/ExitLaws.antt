@@ -9,6 +9,7 @@ use Rattle.pic_grid.specs.PushPhase.{push_stop}
 use Rattle.pic_step.specs.declared.stepping.StepStop.{StepStop}
 use Rattle.pic_step.specs.declared.stepping.StepStop.TheVariants as step_stop
 use Rattle.pic_step.specs.SerialStep.{World, around, half_on, push_on, current_of, before_electric, half_stop, full_stop, next_world, stop_of_step, stepped}
+use Rattle.pic_step.specs.StateView.{StateView}
 
 ends : (w : World) (o : Option Stop) → stop_of_step w ≡ o → stepped w ≡ unless o (next_world w)
 unfolding stepped
@@ -44,5 +45,5 @@ pub steps_on : (w : World) → stop_of_step w ≡ None → stepped w ≡ Ok (nex
 steps_on w none = ends w None none
 
 -- what a phase of the fields stops for isn't memory
-pub wants_none : (r : Result World StepStop) (s : Stop) → IsErrAnd r (λ e. e ≡ step_stop.Stop s) → r ≢ Err step_stop.NoMemory
+pub wants_none : (r : Result StateView StepStop) (s : Stop) → IsErrAnd r (λ e. e ≡ step_stop.Stop s) → r ≢ Err step_stop.NoMemory
 wants_none r s is wanted = let exit = err_from_is_err_and r is in let both = sym wanted ∙ exit.1 ∙ ap Err exit.2 in absurd cc

@@ -1,4 +1,5 @@
 pub mod SerialStep
+pub mod StateView
 pub mod Sound
 pub mod SerialRun
 pub mod Start

@@ -11,6 +11,7 @@ use Rattle.pic_deck.specs.Deck.{DeckView, initial_e, initial_b}
 use Rattle.pic_step.specs.declared.stepping.StepStop.{StepStop}
 use Rattle.pic_step.specs.declared.stepping.StepStop.TheVariants as step_stop
 use Rattle.pic_step.specs.SerialStep.{World, stepped}
+use Rattle.pic_step.specs.StateView.{StateView}
 use Rattle.pic_grid.specs.Parts.{one_part}
 
 -- what the particles of each species of a deck have in common
@@ -30,8 +31,8 @@ start_of d particles = record {
 }
 
 -- a step answers the state after it, or what stops it, or want of memory
-abbrev pub Steps : World → Result World StepStop → Type 0
-Steps w (Ok next) = stepped w ≡ Ok next
+abbrev pub Steps : World → Result StateView StepStop → Type 0
+Steps w (Ok next) = stepped w ≡ Ok next.world
 Steps w (Err (step_stop.Stop stop)) = stepped w ≡ Err stop
 Steps w (Err step_stop.NoMemory) = ⊤
 

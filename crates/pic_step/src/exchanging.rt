@@ -11,6 +11,7 @@ use pic_core::Core;
 use pic_crew::on_board;
 use pic_gate::Gate;
 use pic_num::NoMemory;
+use std::alloc::Global;
 use std::thread::Threads;
 
 /// Pushes the particles of all tiles, and moves each to the tile that it leads to. One worker lets
@@ -21,6 +22,7 @@ use std::thread::Threads;
 /// `NoMemory` where it is refused to the board of two or more workers; nothing is handed back then.
 pub(crate) fn exchange_parcels<H: Threads + Sync, G: Gate + Sync>(
     rt: &H,
+    alloc: Global,
     plasma: Plasma,
     workers: u32,
     gate: &G,
@@ -34,7 +36,7 @@ pub(crate) fn exchange_parcels<H: Threads + Sync, G: Gate + Sync>(
     if workers == 1 {
         Ok(in_turn(plasma, gate))
     } else {
-        at_board(rt, plasma, workers, gate)
+        at_board(rt, alloc, plasma, workers, gate)
     }
 }
 
@@ -45,7 +47,6 @@ fn in_turn<G: Gate>(plasma: Plasma, gate: &G) -> Plasma
     ensures { HasExchanged plasma result }
 {
     let Plasma {
-        alloc,
         frame,
         tiles,
         room,
@@ -55,7 +56,6 @@ fn in_turn<G: Gate>(plasma: Plasma, gate: &G) -> Plasma
     core.run_in_turn(gate);
     let (frame, tiles, room) = core.close_with_room();
     Plasma {
-        alloc,
         frame,
         tiles,
         room,
@@ -66,6 +66,7 @@ fn in_turn<G: Gate>(plasma: Plasma, gate: &G) -> Plasma
 /// The work of a crew at a board.
 fn at_board<H: Threads + Sync, G: Gate + Sync>(
     rt: &H,
+    alloc: Global,
     plasma: Plasma,
     workers: u32,
     gate: &G,
@@ -77,7 +78,6 @@ fn at_board<H: Threads + Sync, G: Gate + Sync>(
     ensures { IfOk result (HasExchanged plasma) }
 {
     let Plasma {
-        alloc,
         frame,
         tiles,
         room,
@@ -86,7 +86,6 @@ fn at_board<H: Threads + Sync, G: Gate + Sync>(
     let done = on_board(rt, alloc, frame, tiles, workers, gate)?;
     let (frame, tiles) = done;
     Ok(Plasma {
-        alloc,
         frame,
         tiles,
         room,

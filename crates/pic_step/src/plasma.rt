@@ -28,7 +28,6 @@ use std::thread::Threads;
 /// two or more workers is made anew in each step.
 #[derive(Drop)]
 pub struct Plasma {
-    pub alloc: Global,
     pub frame: Frame,
     pub tiles: Vec<Tile>,
     pub room: Room,
@@ -54,7 +53,6 @@ impl Plasma {
         let room = Room::new(alloc, map)?;
         let frame = frame_for(alloc, map, kinds)?;
         Ok(Plasma {
-            alloc,
             frame,
             tiles,
             room,

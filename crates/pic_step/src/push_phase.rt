@@ -21,12 +21,14 @@ use pic_num::{NoMemory, Scales};
 use pic_phase::forces;
 use pic_push::least_stop;
 use pic_tile::Frame;
+use std::alloc::Global;
 use std::thread::Threads;
 
 /// Pushes all particles by the fields, on so many threads. Their flux is left in their tiles. Where
 /// there are none, nothing is done: no force value is needed and no parcel is sent.
 pub fn push_phase<H: Threads + Sync, G: Gate + Sync>(
     rt: &H,
+    alloc: Global,
     scales: &Scales,
     e: &Lattice,
     b: &Lattice,
@@ -47,7 +49,6 @@ pub fn push_phase<H: Threads + Sync, G: Gate + Sync>(
         return Ok((plasma, None));
     }
     let Plasma {
-        alloc,
         frame,
         tiles,
         room,
@@ -55,19 +56,19 @@ pub fn push_phase<H: Threads + Sync, G: Gate + Sync>(
     } = plasma;
     let frame = with_forces(rt, scales, e, b, frame, workers);
     let plasma = Plasma {
-        alloc,
         frame,
         tiles,
         room,
         count,
     };
-    let pushed = push_tiles(rt, plasma, workers, gate)?;
+    let pushed = push_tiles(rt, alloc, plasma, workers, gate)?;
     Ok(pushed)
 }
 
 /// Pushes the particles of all tiles by the force values, and finds what stops them.
 fn push_tiles<H: Threads + Sync, G: Gate + Sync>(
     rt: &H,
+    alloc: Global,
     plasma: Plasma,
     workers: u32,
     gate: &G,
@@ -80,7 +81,7 @@ fn push_tiles<H: Threads + Sync, G: Gate + Sync>(
     ensures pushed { IfOk result (λ r. HasPushed (felt_in plasma.frame) plasma r.0 r.1) }
     ensures alone { IsErr result → 1 < workers }
 {
-    let plasma = exchange_parcels(rt, plasma, workers, gate)?;
+    let plasma = exchange_parcels(rt, alloc, plasma, workers, gate)?;
     let map = plasma.frame.map();
     let _tiles = map.tiles();
     let stop = least_stop(&plasma.tiles);

@@ -14,7 +14,8 @@ use std::marker::Model;
 
 /// The state of a run. Its type keeps the limits, that the particles have the identities 0, 1, .. in
 /// order, and Gauss's law at every node. The particles are kept in tiles, and the fields have one part
-/// for each tile; contracts see a list in the order of identities, and fields of one part.
+/// for each tile; contracts see a list in the order of identities, fields of one part, and the map of
+/// the tiles.
 #[derive(Drop)]
 pub struct State {
     pub(crate) scales: Scales,
@@ -24,17 +25,22 @@ pub struct State {
 }
 
 impl Model for State {
-    ghost use Rattle.pic_step.specs.SerialStep.{World};
+    ghost use Rattle.pic_step.specs.StateView.{StateView};
     ghost use Rattle.pic_step.specs.Kept.{IsKept, seen};
 
-    ghost Value = { World };
+    ghost Value = { StateView };
 
-    ghost view = { λ s. seen s.scales s.e s.b s.plasma };
+    ghost view = { λ s. record {
+      world = seen s.scales s.e s.b s.plasma;
+      map = s.plasma.frame.map;
+    } };
 
     ghost invariant = { λ s. IsKept s.scales s.e s.b s.plasma };
 }
 
 impl State {
+    ghost use Rattle.pic_deck.specs.Deck.{deck_grid};
+    ghost use Rattle.pic_tile.specs.Tiling.{tiles_of};
     ghost use Rattle.pic_step.specs.Kept.{AreTiled};
     ghost use Rattle.pic_step.specs.SerialRun.{start_of};
     ghost use Rattle.pic_step.specs.Sound.{IsSound};
@@ -44,7 +50,8 @@ impl State {
     /// The state that a deck begins with, with these particles.
     pub fn new(alloc: Global, deck: &Deck, particles: &[Particle]) -> Result<State, NoMemory>
         requires { IsSound (start_of deck.now particles.now) }
-        ensures { IfOk result (λ s. s ≡ start_of deck.now particles.now) }
+        ensures world { IfOk result (λ s. s.world ≡ start_of deck.now particles.now) }
+        ensures map { IfOk result (λ s. s.map ≡ tiles_of (deck_grid deck.now) deck.now.tiles) }
     {
         let particles = Vec::from_slice(alloc, particles)?;
         State::begin(alloc, Start::new(alloc, deck, particles)?)
@@ -55,7 +62,8 @@ impl State {
     pub fn begin(alloc: Global, start: Start) -> Result<State, NoMemory>
         requires sound { IsSound (begun start) }
         requires tiled { AreTiled start.map start.e start.b }
-        ensures { IfOk result (λ s. s ≡ begun start) }
+        ensures world { IfOk result (λ s. s.world ≡ begun start) }
+        ensures map { IfOk result (λ s. s.map ≡ start.map) }
     {
         let Start {
             map,
@@ -77,9 +85,9 @@ impl State {
 
     /// The numbers of cells and their side.
     pub fn cells(&self) -> Cells
-        ensures value { result.n ≡ self.now.cells }
-        ensures side { result.side ≡ self.now.side }
-        ensures sound { IsSound self.now }
+        ensures value { result.n ≡ self.now.world.cells }
+        ensures side { result.side ≡ self.now.world.side }
+        ensures sound { IsSound self.now.world }
     {
         let frame = &self.plasma.frame;
         frame.map().cells()
@@ -87,21 +95,21 @@ impl State {
 
     /// The multipliers.
     pub fn scales(&self) -> Scales
-        ensures { result ≡ self.now.scales }
+        ensures { result ≡ self.now.world.scales }
     {
         self.scales
     }
 
     /// What the particles of each species have in common.
     pub fn kinds(&self) -> &[Kind]
-        ensures { result.now ≡ self.now.kinds }
+        ensures { result.now ≡ self.now.world.kinds }
     {
         self.plasma.frame.kinds()
     }
 
     /// How many particles there are.
     pub fn count(&self) -> u32
-        ensures { result ≡ length self.now.particles }
+        ensures { result ≡ length self.now.world.particles }
     {
         self.plasma.count
     }
@@ -110,7 +118,8 @@ impl State {
     /// particles whose cells are its own, and each particle is in one of them. A step leaves it
     /// so, however many workers push.
     pub fn tiles(&self) -> (&TileMap, &[Tile])
-        ensures { AreTilesOf self.now result.0.now result.1.now }
+        ensures map { result.0.now ≡ self.now.map }
+        ensures tiles { AreTilesOf self.now.world self.now.map result.1.now }
     {
         let map = self.plasma.frame.map();
         let _tiles = map.tiles();
@@ -120,13 +129,15 @@ impl State {
     /// Fills a snapshot of as many cells and particles: the fields, whose side and parts stay those of
     /// the snapshot, and the particles in the order of their identities. It takes no memory.
     pub fn fill(&self, to: &mut Snapshot)
-        requires e_cells { to.old.e.cells ≡ self.now.cells }
-        requires b_cells { to.old.b.cells ≡ self.now.cells }
-        requires count { length to.old.particles.items ≡ length self.now.particles }
-        ensures sound { IsSound self.now }
-        ensures e { to.new.e ≡ record self.now.e { side = to.old.e.side; parts = to.old.e.parts } }
-        ensures b { to.new.b ≡ record self.now.b { side = to.old.b.side; parts = to.old.b.parts } }
-        ensures particles { to.new.particles.items ≡ self.now.particles }
+        requires e_cells { to.old.e.cells ≡ self.now.world.cells }
+        requires b_cells { to.old.b.cells ≡ self.now.world.cells }
+        requires count { length to.old.particles.items ≡ length self.now.world.particles }
+        ensures sound { IsSound self.now.world }
+        ensures e { to.new.e ≡
+            record self.now.world.e { side = to.old.e.side; parts = to.old.e.parts } }
+        ensures b { to.new.b ≡
+            record self.now.world.b { side = to.old.b.side; parts = to.old.b.parts } }
+        ensures particles { to.new.particles.items ≡ self.now.world.particles }
     {
         let map = self.plasma.frame.map();
         let _tiles = map.tiles();

@@ -14,6 +14,7 @@ use pic_gate::Gate;
 use pic_grid::{Phase, Stop};
 use pic_num::NoMemory;
 use pic_phase::half;
+use std::alloc::Global;
 use std::thread::Threads;
 
 /// What ends a run in a step: a stop of the scheme, or want of memory.
@@ -43,8 +44,9 @@ impl From<NoMemory> for StepStop {
 /// workers, 1 to 64, push the particles, tile by tile and each on a thread of its own where one can
 /// be made. Each passes the gate after each claim of a tile and each post of a parcel. Whatever the
 /// tiles, the workers and the gate, the answer is that of the serial step: the state after it, or
-/// the stop of the first phase that has one. The state after it has the same cells, multipliers and
-/// kinds, meets Gauss's law at every node, and the divergence of its B is what it was in every cell.
+/// the stop of the first phase that has one. The state after it has the same cells, multipliers,
+/// kinds and tiles, meets Gauss's law at every node, and the divergence of its B is what it was in
+/// every cell.
 ///
 /// # Errors
 /// `StepStop::Stop` as the serial step has it. `StepStop::NoMemory` where memory is refused to the
@@ -52,16 +54,18 @@ impl From<NoMemory> for StepStop {
 /// then.
 pub fn step<H: Threads + Sync, G: Gate + Sync>(
     rt: &H,
+    alloc: Global,
     state: State,
     workers: u32,
     gate: &G,
 ) -> Result<State, StepStop>
     requires some { 0 < workers }
     requires most { workers ≤ most_workers }
-    ensures steps { Steps state result }
-    ensures keeps { IfOk result (Keeps state) }
+    ensures steps { Steps state.world result }
+    ensures keeps { IfOk result (λ next. Keeps state.world next.world) }
+    ensures map { IfOk result (λ next. next.map ≡ state.map) }
     ensures memory { result ≡ Err step_stop.NoMemory
-        → (1 < workers) × (half_stop Half1 state ≡ None) }
+        → (1 < workers) × (half_stop Half1 state.world ≡ None) }
 {
     let State {
         scales,
@@ -70,7 +74,7 @@ pub fn step<H: Threads + Sync, G: Gate + Sync>(
         plasma,
     } = state;
     let b = half(rt, &scales, &e, b, Phase::Half1, workers)?;
-    let pushed = push_phase(rt, &scales, &e, &b, plasma, workers, gate)?;
+    let pushed = push_phase(rt, alloc, &scales, &e, &b, plasma, workers, gate)?;
     let (mut plasma, stop) = pushed;
     match stop {
         Some(stop) => return Err(StepStop::Stop(stop)),

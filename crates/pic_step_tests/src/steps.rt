@@ -92,7 +92,7 @@ fn a_step_by_the_side_of_a_cell(rt: HostRuntime) -> Result<(), NoMemory> {
             continue;
         };
         for workers in 1..3 {
-            let next = step(&rt, pair_of(rt.alloc(), sub)?, workers, &Open);
+            let next = step(&rt, rt.alloc(), pair_of(rt.alloc(), sub)?, workers, &Open);
             assert!(rt; next.is_ok());
             if let Ok(state) = next {
                 let mut seen = Snapshot::new(rt.alloc(), state.cells(), state.count())?;
@@ -113,7 +113,13 @@ fn a_step_by_the_side_of_a_cell(rt: HostRuntime) -> Result<(), NoMemory> {
 #[test]
 fn two_workers_are_at_work_at_once(rt: HostRuntime) -> Result<(), NoMemory> {
     let hold = Hold::new();
-    let next = step(&rt, pair_of(rt.alloc(), Sub::of_bits(12))?, 2, &hold);
+    let next = step(
+        &rt,
+        rt.alloc(),
+        pair_of(rt.alloc(), Sub::of_bits(12))?,
+        2,
+        &hold,
+    );
     assert!(rt; next.is_ok());
     assert!(rt; hold.met());
     Ok(())

@@ -27,10 +27,10 @@ returns g c =
     let b = sinks (g.O.Sink.told c.write_states.new.out) (g.R.Sink.told c.write_states.new.report) in
     let d = c.args.opened.deck in
     let result = c.write_states.result in
-    let w = c.in_ok-state.state in
+    let w = c.in_ok-state.state.world in
     let steps = subst (λ (steps : ℕ). WritesStates c.args.workers (states_outcome Lines [] (frames_of Lines steps c.every.result w) (end_of_run steps w)) a b result)
     c.steps.ensures.value c.write_states.ensures in
     let every = subst (λ (every : ℕ). WritesStates c.args.workers (states_outcome Lines [] (frames_of Lines d.steps every w) (end_of_run d.steps w)) a b result)
     c.every.ensures.value steps in
-    let start = subst (λ (v : World). WritesStates c.args.workers (lines_outcome d v) a b result) c.in_ok-state.ensures every in
+    let start = subst (λ (v : World). WritesStates c.args.workers (lines_outcome d v) a b result) c.in_ok-state.ensures.world every in
     without_head c.args.workers (lines_outcome d (begun c.args.opened.start)) a b result start

@@ -18,7 +18,7 @@ returns-in-Ok-clause-writes g c =
     let p = g.O.Sink.told c.put_frame.new.out in
     let r = g.R.Sink.told c.args.report.now in
     let s = g.R.Sink.told c.put_line.new.report in
-    let w = c.args.state.now in
+    let w = c.args.state.now.world in
     let sound = c.fill.ensures.sound in
     let measured = c.energies_in-energies.ensures.value in
     let text = frame_is c.args.step c.fill.new.to w c.energies_in-energies.result
@@ -39,7 +39,7 @@ returns-in-Err-clause-writes g c =
     let o = g.O.Sink.told c.args.out.now in
     let p = g.O.Sink.told c.put_frame.new.out in
     let r = g.R.Sink.told c.args.report.now in
-    let w = c.args.state.now in
+    let w = c.args.state.now.world in
     let sound = c.fill.ensures.sound in
     let measured = c.energies_in-energies.ensures.value in
     let text = frame_is c.args.step c.fill.new.to w c.energies_in-energies.result
@@ -58,7 +58,7 @@ returns-in-Lines-clause-writes g c =
     let r = g.R.Sink.told c.args.report.now in
     let a = sinks (g.O.Sink.told c.args.out.now) r in
     let b = sinks (g.O.Sink.told c.put_out.new.out) r in
-    let w = c.args.state.now in
+    let w = c.args.state.now.world in
     let said = c.bytes-text.ensures ∙ c.frame_line-line.ensures ∙ ap (frame_line c.args.step) c.energies_in-energies.ensures.value in
     subst (λ (output : Output). Writes a b (frame_piece output c.args.step w ∷ []) c.put_out.result) (sym c.in-Lines.is)
     (subst (λ (t : List ℕ). Writes a b (record { out = t; line = [] } ∷ []) c.put_out.result) said (c.put_out.ensures r))

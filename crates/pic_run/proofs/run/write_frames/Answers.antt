@@ -14,7 +14,7 @@ use Rattle.pic_run.proofs.run.write_frames.Goals as goal
 pub returns-in_err-write_due : goal.returns-in_err-write_due
 returns-in_err-write_due g c =
     let exit = err_from_is_err_and c.from_residual.result c.from_residual.ensures.1 in
-    let w = c.args.state in
+    let w = c.args.state.world in
     let a = sinks (g.O.Sink.told c.args.out.now) (g.R.Sink.told c.args.report.now) in
     let b = sinks (g.O.Sink.told c.write_due.new.out) (g.R.Sink.told c.write_due.new.report) in
     let side = c.in_err-write_due.field-0.0 in
@@ -25,7 +25,7 @@ returns-in_err-write_due g c =
 
 pub loop-done-init : goal.loop-done-init
 loop-done-init g c =
-    let w = c.args.state in
+    let w = c.args.state.world in
     let a = sinks (g.O.Sink.told c.args.out.now) (g.R.Sink.told c.args.report.now) in
     let b = sinks (g.O.Sink.told c.write_due.new.out) (g.R.Sink.told c.write_due.new.report) in
     let first = subst (λ (due : Bool). Wrote a b (outs (due_frame c.args.plan.output due 0 w)) (lines
@@ -42,11 +42,11 @@ returns-in-Err-Stop g c =
     let a = sinks (g.O.Sink.told c.args.out.now) (g.R.Sink.told c.args.report.now) in
     let b = sinks (g.O.Sink.told c.loop-done.out) (g.R.Sink.told c.loop-done.report) in
     let stops = rw c.in-Err-Stop.field-0-is at c.in-Err-Stop.ensures.steps in
-    let frames = frames_of c.args.plan.output c.args.plan.steps c.args.plan.every c.args.state in
-    let last = end_of_run c.args.plan.steps c.args.state in
+    let frames = frames_of c.args.plan.output c.args.plan.steps c.args.plan.every c.args.state.world in
+    let last = end_of_run c.args.plan.steps c.args.state.world in
     subst (λ (stop : Stop). WroteFrames frames last (Stopped (c.loop-done.done + 1) stop) a b) (sym c.in-Err-Stop.stop-is)
-    (stopped_written c.args.plan.output c.args.plan.steps c.args.plan.every c.args.state c.loop-done.state c.in-Err-Stop.stop c.loop-done.done a b (omega arith)
-    c.loop-done.invariant.reached stops c.loop-done.invariant.wrote)
+    (stopped_written c.args.plan.output c.args.plan.steps c.args.plan.every c.args.state.world c.loop-done.state.world c.in-Err-Stop.stop
+    c.loop-done.done a b (omega arith) c.loop-done.invariant.reached stops c.loop-done.invariant.wrote)
 
 pub returns-in-Err-NoMemory : goal.returns-in-Err-NoMemory
 returns-in-Err-NoMemory g c =
@@ -54,37 +54,37 @@ returns-in-Err-NoMemory g c =
     let b = sinks (g.O.Sink.told c.loop-done.out) (g.R.Sink.told c.loop-done.report) in
     let memory = rw c.in-Err-NoMemory.field-0-is at c.in-Err-NoMemory.ensures.memory in
     let many = (memory refl).0 in
-    some_written c.args.plan.workers c.args.plan.output c.args.plan.steps c.args.plan.every c.args.state c.loop-done.done a b (omega (arith, many))
+    some_written c.args.plan.workers c.args.plan.output c.args.plan.steps c.args.plan.every c.args.state.world c.loop-done.done a b (omega (arith, many))
     c.requires.every (omega arith) c.loop-done.invariant.wrote
 
 pub write_due-requires-in-loop-done : goal.write_due-requires-in-loop-done
 write_due-requires-in-loop-done g c =
-    room_kept c.loop-done.room c.loop-done.state c.in-Ok.next c.in-Ok.ensures.steps c.loop-done.invariant.room
+    room_kept c.loop-done.room c.loop-done.state.world c.in-Ok.next.world c.in-Ok.ensures.steps c.loop-done.invariant.room
 
 pub returns-in_err-write_due-2 : goal.returns-in_err-write_due-2
 returns-in_err-write_due-2 g c =
     let exit = err_from_is_err_and c.from_residual-in_err-write_due-2.result c.from_residual-in_err-write_due-2.ensures.1 in
-    let w = c.args.state in
-    let v = c.in-Ok.next in
+    let w = c.args.state.world in
+    let v = c.in-Ok.next.world in
     let n = c.loop-done.done in
     let a = sinks (g.O.Sink.told c.args.out.now) (g.R.Sink.told c.args.report.now) in
     let b = sinks (g.O.Sink.told c.loop-done.out) (g.R.Sink.told c.loop-done.report) in
     let e = sinks (g.O.Sink.told c.write_due-in-loop-done.new.out) (g.R.Sink.told c.write_due-in-loop-done.new.report) in
     let side = c.in_err-write_due-2.field-0.0 in
-    let reached = after_step w c.loop-done.state v n c.loop-done.invariant.reached c.in-Ok.ensures.steps in
+    let reached = after_step w c.loop-done.state.world v n c.loop-done.invariant.reached c.in-Ok.ensures.steps in
     let cut = subst (λ (due : Bool). CutAt side b e (due_frame c.args.plan.output due (n + 1) v)) c.is_due-due.ensures c.in_err-write_due-2.ensures.writes in
     rw (exit.1 ∙ ap Err exit.2)
     (more_cut side c.args.plan.output c.args.plan.steps c.args.plan.every w v (n + 1) a b e (omega arith) reached c.loop-done.invariant.wrote cut)
 
 pub loop-done-preserved : goal.loop-done-preserved
 loop-done-preserved g c =
-    let w = c.args.state in
-    let v = c.in-Ok.next in
+    let w = c.args.state.world in
+    let v = c.in-Ok.next.world in
     let n = c.loop-done.done in
     let a = sinks (g.O.Sink.told c.args.out.now) (g.R.Sink.told c.args.report.now) in
     let b = sinks (g.O.Sink.told c.loop-done.out) (g.R.Sink.told c.loop-done.report) in
     let e = sinks (g.O.Sink.told c.write_due-in-loop-done.new.out) (g.R.Sink.told c.write_due-in-loop-done.new.report) in
-    let reached = after_step w c.loop-done.state v n c.loop-done.invariant.reached c.in-Ok.ensures.steps in
+    let reached = after_step w c.loop-done.state.world v n c.loop-done.invariant.reached c.in-Ok.ensures.steps in
     let next = subst (λ (due : Bool). Wrote b e (outs (due_frame c.args.plan.output due (n + 1) v)) (lines (due_frame c.args.plan.output due
     (n + 1) v))) c.is_due-due.ensures c.in_ok-write_due-2.ensures.writes in
     record {
@@ -95,8 +95,8 @@ loop-done-preserved g c =
 
 pub returns : goal.returns
 returns g c =
-    let w = c.args.state in
-    let v = c.loop-done.state in
+    let w = c.args.state.world in
+    let v = c.loop-done.state.world in
     let steps = c.args.plan.steps in
     let every = c.args.plan.every in
     let a = sinks (g.O.Sink.told c.args.out.now) (g.R.Sink.told c.args.report.now) in

@@ -9,8 +9,9 @@ use Rattle.pic_run.proofs.run.write_frames.Given as goal
 abbrev pub invariant-loop-done : goal.invariant-loop-done
 invariant-loop-done g l =
     record {
-      reached : after l.fn.state l.done ≡ Ok l.state;
+      reached : after l.fn.state.world l.done ≡ Ok l.state.world;
       wrote : Wrote (sinks (g.O.Sink.told l.fn.out) (g.R.Sink.told l.fn.report)) (sinks (g.O.Sink.told l.out) (g.R.Sink.told l.report))
-          (outs (frames_from l.fn.plan.output l.fn.plan.steps l.fn.plan.every l.fn.state 0 (l.done + 1))) (lines (frames_from l.fn.plan.output l.fn.plan.steps l.fn.plan.every l.fn.state 0 (l.done + 1)));
-      room : HasRoom l.room l.state;
+          (outs (frames_from l.fn.plan.output l.fn.plan.steps l.fn.plan.every l.fn.state.world 0 (l.done + 1)))
+          (lines (frames_from l.fn.plan.output l.fn.plan.steps l.fn.plan.every l.fn.state.world 0 (l.done + 1)));
+      room : HasRoom l.room l.state.world;
     }

@@ -17,7 +17,7 @@ returns-in-Ok g c =
     let b = sinks p r in
     let e = sinks (g.O.Sink.told c.write_states.new.out) (g.R.Sink.told c.write_states.new.report) in
     let h = c.args.ready.header in
-    let w = c.args.ready.state in
+    let w = c.args.ready.state.world in
     let states = subst (λ (every : ℕ). WritesStates c.args.workers (states_outcome Dump [] (frames_of Dump h.steps every w)
     (end_of_run h.steps w)) b e c.write_states.result) c.every.ensures.value
     (subst (λ (steps : ℕ). WritesStates c.args.workers (states_outcome Dump [] (frames_of Dump steps c.every.result w)
@@ -31,5 +31,5 @@ returns g c =
     let p = g.O.Sink.told c.put_header.new.out in
     let r = g.R.Sink.told c.args.report.now in
     let h = c.args.ready.header in
-    let w = c.args.ready.state in
+    let w = c.args.ready.state.world in
     head_cut o p r (header_bytes h) (frames_of Dump h.steps h.every w) (end_piece Dump (end_of_run h.steps w)) (header_some h) c.in-Err.ensures.bytes c.in-Err.ensures.cause.err

@@ -13,9 +13,9 @@ returns-in_err-end g c =
     let exit = err_from_is_err_and c.from_residual.result c.from_residual.ensures.1 in
     let a = sinks (g.O.Sink.told c.args.out.now) (g.R.Sink.told c.args.report.now) in
     let b = sinks (g.O.Sink.told c.write_frames.new.out) (g.R.Sink.told c.write_frames.new.report) in
-    let frames = frames_of c.args.plan.output c.args.plan.steps c.args.plan.every c.args.state in
+    let frames = frames_of c.args.plan.output c.args.plan.steps c.args.plan.every c.args.state.world in
     rw (exit.1 ∙ ap Err exit.2)
-    (frames_cut c.args.plan.workers c.args.plan.output frames (end_of_run c.args.plan.steps c.args.state) a b c.in_err-end.field-0.0 c.in_err-end.ensures)
+    (frames_cut c.args.plan.workers c.args.plan.output frames (end_of_run c.args.plan.steps c.args.state.world) a b c.in_err-end.field-0.0 c.in_err-end.ensures)
 
 pub returns-in_err-put_last : goal.returns-in_err-put_last
 returns-in_err-put_last g c =
@@ -23,17 +23,17 @@ returns-in_err-put_last g c =
     let a = sinks (g.O.Sink.told c.args.out.now) (g.R.Sink.told c.args.report.now) in
     let b = sinks (g.O.Sink.told c.write_frames.new.out) (g.R.Sink.told c.write_frames.new.report) in
     let e = sinks (g.O.Sink.told c.put_last.new.out) (g.R.Sink.told c.put_last.new.report) in
-    let frames = frames_of c.args.plan.output c.args.plan.steps c.args.plan.every c.args.state in
+    let frames = frames_of c.args.plan.output c.args.plan.steps c.args.plan.every c.args.state.world in
     rw (exit.1 ∙ ap Err exit.2)
     (last_cut c.args.plan.workers c.args.plan.output frames
-    (end_of_run c.args.plan.steps c.args.state) c.in_ok-end.end c.in_err-put_last.field-0.0 a b e c.in_ok-end.ensures c.in_err-put_last.ensures)
+    (end_of_run c.args.plan.steps c.args.state.world) c.in_ok-end.end c.in_err-put_last.field-0.0 a b e c.in_ok-end.ensures c.in_err-put_last.ensures)
 
 pub returns : goal.returns
 returns g c =
     let a = sinks (g.O.Sink.told c.args.out.now) (g.R.Sink.told c.args.report.now) in
     let b = sinks (g.O.Sink.told c.write_frames.new.out) (g.R.Sink.told c.write_frames.new.report) in
     let e = sinks (g.O.Sink.told c.put_last.new.out) (g.R.Sink.told c.put_last.new.report) in
-    let frames = frames_of c.args.plan.output c.args.plan.steps c.args.plan.every c.args.state in
-    let last = end_of_run c.args.plan.steps c.args.state in
+    let frames = frames_of c.args.plan.output c.args.plan.steps c.args.plan.every c.args.state.world in
+    let last = end_of_run c.args.plan.steps c.args.state.world in
     subst (λ (answer : Ended). WritesStates c.args.plan.workers (states_outcome c.args.plan.output [] frames last) a e (Ok answer)) (sym c.answer_of.ensures)
     (last_done c.args.plan.workers c.args.plan.output frames last c.in_ok-end.end a b e c.in_ok-end.ensures c.in_ok-put_last.ensures)

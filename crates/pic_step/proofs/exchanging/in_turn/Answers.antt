@@ -9,7 +9,6 @@ returns g c =
     let t = c.run_in_turn.new.self in
     let p = c.args.plasma in
     core_exchanges p (record {
-      alloc = p.alloc;
       frame = c.close_with_room-frame.result.0;
       tiles = c.close_with_room-frame.result.1;
       room = c.close_with_room-frame.result.2;

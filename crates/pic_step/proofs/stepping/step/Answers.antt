@@ -17,6 +17,7 @@ use Rattle.pic_step.specs.PushOn.{ArePushed}
 use Rattle.pic_step.specs.SerialRun.{Steps}
 use Rattle.pic_step.specs.SerialStep.{World, around, half_on, half_stop, stepped}
 use Rattle.pic_step.specs.Sound.{IsSound}
+use Rattle.pic_step.specs.StateView.{StateView}
 use Rattle.pic_step.proofs.ExitLaws.{stops_first, stops_push, stops_second, stops_last, wants_none}
 use Rattle.pic_step.proofs.KeptLaws.{can_push, next_is}
 use Rattle.pic_step.proofs.OnePartLaws.{half_one, full_one, safe_small}
@@ -84,8 +85,8 @@ returns-in_err-b-clause-steps g c =
     let k = c.state.inside in
     let w = world k in
     let exit = err_from_is_err_and c.from_residual.result c.from_residual.ensures.1 in
-    subst (λ (r : Result World StepStop). Steps c.args.state r) (sym (exit.1 ∙ ap Err exit.2))
-    (ap stepped (sym c.state.view_is)
+    subst (λ (r : Result StateView StepStop). Steps c.args.state.world r) (sym (exit.1 ∙ ap Err exit.2))
+    (ap (λ (v : StateView). stepped v.world) (sym c.state.view_is)
     ∙ stops_first w _ (half_stop_of w _ c.state.invariant.sound (half_one Half1 k.scales k.e k.b (Err _) c.in_err-b.ensures)))
 
 pub half-requires-clause-e_small : goal.half-requires-clause-e_small
@@ -107,7 +108,7 @@ push_phase-requires-clause-can g c κs within =
 pub returns-in_err-pushed-clause-steps : goal.returns-in_err-pushed-clause-steps
 returns-in_err-pushed-clause-steps g c =
     let exit = err_from_is_err_and c.from_residual-in_err-pushed.result c.from_residual-in_err-pushed.ensures.1 in
-    subst (λ (r : Result World StepStop). Steps c.args.state r) (sym (exit.1 ∙ ap Err exit.2)) tt
+    subst (λ (r : Result StateView StepStop). Steps c.args.state.world r) (sym (exit.1 ∙ ap Err exit.2)) tt
 
 pub returns-in-Some-clause-steps : goal.returns-in-Some-clause-steps
 returns-in-Some-clause-steps g c =
@@ -116,7 +117,7 @@ returns-in-Some-clause-steps g c =
     let first = half g (goal.at.returns-in-Some-clause-steps g c).In_ok-b in
     let free = pushed_on w (as_one c.in_ok-b.b) q.frame.map q.tiles.items c.in_ok-pushed.pushed.1 c.state.invariant.sound first
     c.in_ok-pushed.ensures.pushed.pushed in
-    ap stepped (sym c.state.view_is) ∙ stops_push w c.in-Some.stop first.none (sym free.stop_is ∙ c.in-Some.is)
+    ap (λ (v : StateView). stepped v.world) (sym c.state.view_is) ∙ stops_push w c.in-Some.stop first.none (sym free.stop_is ∙ c.in-Some.is)
 
 pub half-requires-2-clause-e_small : goal.half-requires-2-clause-e_small
 half-requires-2-clause-e_small g c κs within =
@@ -137,8 +138,8 @@ returns-in_err-b-2-clause-steps g c =
     let first = half g at.In_ok-b in
     let free = pushed g at.In-None first in
     let exit = err_from_is_err_and c.from_residual-in_err-b-2.result c.from_residual-in_err-b-2.ensures.1 in
-    subst (λ (r : Result World StepStop). Steps c.args.state r) (sym (exit.1 ∙ ap Err exit.2))
-    (ap stepped (sym c.state.view_is)
+    subst (λ (r : Result StateView StepStop). Steps c.args.state.world r) (sym (exit.1 ∙ ap Err exit.2))
+    (ap (λ (v : StateView). stepped v.world) (sym c.state.view_is)
     ∙ stops_second w _ first.none (sym free.stop_is) (second_stop_of w (as_one c.in_ok-b.b) _ c.state.invariant.sound first
     (half_one Half2 k.scales k.e c.in_ok-b.b (Err _) c.in_err-b-2.ensures)))
 
@@ -179,8 +180,8 @@ returns-in_err-e-clause-steps g c =
     let free = pushed g at.In-None first in
     let second = before g at.In_ok-b-2 first in
     let exit = err_from_is_err_and c.from_residual-in_err-e.result c.from_residual-in_err-e.ensures.1 in
-    subst (λ (r : Result World StepStop). Steps c.args.state r) (sym (exit.1 ∙ ap Err exit.2))
-    (ap stepped (sym c.state.view_is)
+    subst (λ (r : Result StateView StepStop). Steps c.args.state.world r) (sym (exit.1 ∙ ap Err exit.2))
+    (ap (λ (v : StateView). stepped v.world) (sym c.state.view_is)
     ∙ stops_last w _ first.none (sym free.stop_is) second.none
     (last_stop_of w (as_one c.in_ok-b-2.b) j _ c.state.invariant.sound second free.current_is
     (full_one Electric k.scales c.in_ok-b-2.b k.e j (Err _) c.in_err-e.ensures.fields)))
@@ -212,7 +213,7 @@ returns-clause-steps g c =
     let w = world c.state.inside in
     let at = goal.at.returns-clause-steps g c in
     let first = half g at.In_ok-b in
-    ap stepped (sym c.state.view_is)
+    ap (λ (v : StateView). stepped v.world) (sym c.state.view_is)
     ∙ stepped_after w (as_one c.in_ok-e.e) (as_one c.in_ok-b-2.b) _
     (after g at.In_ok-e first (pushed g at.In-None first) (before g at.In_ok-b-2 first))
     ∙ ap (λ (v : World). Ok v) (next g at.In_ok-e)
@@ -223,8 +224,12 @@ returns-clause-keeps g c =
     let at = goal.at.returns-clause-keeps g c in
     let first = half g at.In_ok-b in
     let after' = after g at.In_ok-e first (pushed g at.In-None first) (before g at.In_ok-b-2 first) in
-    subst (λ (v : World). Keeps v (seen c.state.inside.scales c.in_ok-e.e c.in_ok-b-2.b c.advance_e.new.self)) c.state.view_is
+    subst (λ (v : StateView). Keeps v.world (seen c.state.inside.scales c.in_ok-e.e c.in_ok-b-2.b c.advance_e.new.self)) c.state.view_is
     (subst (Keeps w) (next g at.In_ok-e) (keeps_after w (as_one c.in_ok-e.e) (as_one c.in_ok-b-2.b) _ c.state.invariant.sound after'))
+
+pub returns-clause-map : goal.returns-clause-map
+returns-clause-map g c =
+    ap (λ f. f.map) c.in_ok-e.ensures.frame ∙ c.in_ok-pushed.ensures.pushed.map ∙ ap (λ (v : StateView). v.map) c.state.view_is
 
 pub returns-in_err-b-clause-memory : goal.returns-in_err-b-clause-memory
 returns-in_err-b-clause-memory g c wanted = absurd (wants_none _ _ c.from_residual.ensures.1 wanted)
@@ -232,7 +237,7 @@ returns-in_err-b-clause-memory g c wanted = absurd (wants_none _ _ c.from_residu
 pub returns-in_err-pushed-clause-memory : goal.returns-in_err-pushed-clause-memory
 returns-in_err-pushed-clause-memory g c wanted =
     let first = half g (goal.at.returns-in_err-pushed-clause-memory g c).In_ok-b in
-    (c.in_err-pushed.ensures.alone refl, ap (half_stop Half1) (sym c.state.view_is) ∙ first.none)
+    (c.in_err-pushed.ensures.alone refl, ap (λ (v : StateView). half_stop Half1 v.world) (sym c.state.view_is) ∙ first.none)
 
 pub returns-in_err-b-2-clause-memory : goal.returns-in_err-b-2-clause-memory
 returns-in_err-b-2-clause-memory g c wanted = absurd (wants_none _ _ c.from_residual-in_err-b-2.ensures.1 wanted)

@@ -4,13 +4,16 @@ use Rattle.pic_step.specs.Plasma.{IsPlasma}
 use Rattle.pic_step.proofs.KeptLaws.{begun_is, kept}
 use Rattle.pic_step.proofs.state.State.begin.Goals as goal
 
-pub returns : goal.returns
-returns c =
+pub returns-clause-world : goal.returns-clause-world
+returns-clause-world c =
     let s = c.args.start in
     let p = c.in_ok-plasma.plasma in
     begun_is s.map s.scales s.kinds.items s.e s.b s.particles.items p c.tiles-map.ensures.limits c.requires.sound c.requires.tiled
     c.in_ok-plasma.ensures.map c.in_ok-plasma.ensures.kinds
     (subst (λ (xs : List Particle). IsPlasma xs p) c.as_slice.ensures.value c.in_ok-plasma.ensures.plasma)
+
+pub returns-clause-map : goal.returns-clause-map
+returns-clause-map c = c.in_ok-plasma.ensures.map
 
 pub invariant_of-result : goal.invariant_of-result
 invariant_of-result c =

@@ -7,7 +7,7 @@ use Rattle.pic_tile.specs.CoreState.{particles_of}
 use Rattle.pic_tile.specs.Held.{chains_of}
 use Rattle.pic_tile.specs.Tile.{TileValue}
 use Rattle.pic_tile.specs.Tiling.{IsMap}
-use Rattle.pic_step.specs.SerialStep.{World}
+use Rattle.pic_step.specs.StateView.{StateView}
 use Rattle.pic_step.proofs.KeptLaws.{can_write, written_is}
 use Rattle.pic_step.proofs.state.State.fill.Goals as goal
 use Rattle.pic_step.proofs.state.State.fill.Goals.{After-deref_mut, After-tiles-tiles}
@@ -18,7 +18,7 @@ of_map c = subst IsMap c.map-map.ensures.value c.tiles-tiles.ensures.limits
 
 -- the list has as many particles
 as_many : (c : After-deref_mut) → length c.deref_mut.result.now ≡ length (particles_of c.self.inside.plasma.tiles.items)
-as_many c = ap length c.deref_mut.ensures.value ∙ c.requires.count ∙ ap (λ (w : World). length w.particles) (sym c.self.view_is)
+as_many c = ap length c.deref_mut.ensures.value ∙ c.requires.count ∙ ap (λ (v : StateView). length v.world.particles) (sym c.self.view_is)
 
 pub write_tiles-requires : goal.write_tiles-requires
 write_tiles-requires c =
@@ -39,4 +39,4 @@ returns-clause-particles c =
     ∙ c.write_tiles.ensures
     ∙ ap (λ (ts : List TileValue). written (together (chains_of ts)) old) c.deref.ensures.value
     ∙ written_is k.scales k.e k.b k.plasma (of_map at.After-tiles-tiles) c.self.invariant old (as_many at.After-deref_mut)
-    ∙ ap (λ (w : World). w.particles) c.self.view_is
+    ∙ ap (λ (v : StateView). v.world.particles) c.self.view_is
