@@ -27,7 +27,7 @@ const MOST_SPEED: u64 = 67108864;
 const MOST_TURN: u64 = 1048576;
 
 /// A velocity is in 1 / 2^12 sub-cell per step.
-const SPEED_BITS: u32 = 12;
+pub const SPEED_BITS: u32 = 12;
 
 /// Whether three numbers are at most `most` in size.
 #[inline(always)]

@@ -8,16 +8,11 @@ ghost use Rattle.pic_num.specs.Space.{AreAtMost};
 ghost use Rattle.pic_boris.specs.Narrow.{narrow_spot};
 
 use crate::narrow::{Narrow, narrow_cross, narrow_shift, narrow_sum};
+use crate::turning::{TURN_BITS, TWO};
 use pic_num::rdiv;
 
-/// A turn is in units of 1 / 2^20.
-const TURN_BITS: u32 = 20;
-
-/// One, squared, in those units.
+/// One, squared, in units of a turn.
 const ONE_SQUARED: i64 = 1099511627776;
-
-/// Two, in those units.
-const TWO: i128 = 2097152;
 
 /// Four, in those units.
 const FOUR: i64 = 4194304;

@@ -10,7 +10,7 @@ ghost use Rattle.pic_boris.specs.Vector.{spot_of};
 
 use crate::halt::{Halt, halt_above};
 use crate::moved::Moved;
-use crate::narrow_pushing::push_narrow;
+use crate::narrow_pushing::{SPEED_BITS, push_narrow};
 use crate::turning::turned_by;
 use crate::vector::{Vector, rounded_shift, scaled_by, sum_of, widened};
 use pic_num::{Mult, Sub, What};
@@ -20,9 +20,6 @@ const MOST_SPEED: u128 = 1099511627776;
 
 /// The most that a turn may be in size, in units of 1 / 2^20.
 const MOST_TURN: u128 = 16777216;
-
-/// A velocity is in 1 / 2^12 sub-cell per step.
-const SPEED_BITS: u32 = 12;
 
 /// Pushes a particle of the velocity `v` by the gathered `e` and `b` with its species' multipliers:
 /// half of the electric kick, the turn by the magnetic field, the other half (Boris 1970).

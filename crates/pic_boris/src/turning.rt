@@ -11,13 +11,13 @@ use crate::vector::{Vector, rounded_shift};
 use pic_num::rdiv;
 
 /// A turn is in units of 1 / 2^20.
-const TURN_BITS: u32 = 20;
+pub const TURN_BITS: u32 = 20;
 
 /// One, squared, in those units.
 const ONE_SQUARED: i128 = 1099511627776;
 
 /// Two, in those units.
-const TWO: i128 = 2097152;
+pub const TWO: i128 = 2097152;
 
 /// A minor of two vectors: one component of their cross product.
 fn minor(a: i128, b: i128, c: i128, d: i128) -> i128

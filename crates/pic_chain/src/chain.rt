@@ -81,10 +81,7 @@ impl Chain {
     pub fn is_empty(&self) -> bool
         ensures { IsTrue result ↔ (self.now ≡ []) }
     {
-        match self.head {
-            Some(_) => false,
-            None => true,
-        }
+        self.head.is_none()
     }
 
     /// Its particles, the front first.

@@ -13,7 +13,7 @@ use Rattle.pic_grid.specs.Lattice.{NodeValues, node_at}
 use Rattle.pic_grid.specs.Cells.{IsWithin}
 use Rattle.pic_grid.specs.declared.pair.Pair.{Pair}
 use Rattle.pic_grid.specs.Hat.{only_at}
-use Rattle.pic_grid.specs.Pair.{weight_in, IsPair}
+use Rattle.pic_grid.specs.Pair.{weight_in}
 use Rattle.pic_charge.specs.Spread.{spread, CanSpread, NodesAtMost, Adds}
 
 -- a lone value is a multiple of a lone 1
@@ -28,13 +28,6 @@ weight_in_most n s j pair =
     let low = only_most s.low s.low_weight j in
     let high = only_most s.high s.high_weight j in
     let most = pair.most in omega (arith, low, high, most)
-
--- the pair of a point on an axis, under a side that is none too long
-pub can_spread : (side n m : ℕ) (s : Pair) → IsPair side n s → n ≡ m → side ≤ most_side → CanSpread m s
-can_spread side n m s pair same most =
-    let low = pair.low in
-    let high = pair.high in
-    let whole = pair.whole in record { low = omega (arith, low, same); high = omega (arith, high, same); most = omega (arith, whole, most) }
 
 weight_in_is : (s : Pair) (j : ℕ) → s.low_weight * only_at s.low 1 j + s.high_weight * only_at s.high 1 j ≡ weight_in s j
 weight_in_is s j = λ i. sym (only_is s.low s.low_weight j) i + sym (only_is s.high s.high_weight j) i

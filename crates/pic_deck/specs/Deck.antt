@@ -2,13 +2,12 @@
 use Rattle.std.specs.Prelude.{◌≡◌, ℕ, ℤ, List, map, ◌≤◌}
 use Rattle.pic_num.specs.declared.mult.Scales.{Scales}
 use Rattle.pic_num.specs.declared.axis.Axis.{Axis}
-use Rattle.pic_num.specs.Limits.{most_cells_of_axis_1, side_1}
+use Rattle.pic_num.specs.Limits.{most_cells_of_axis_1, side_1, most_steps}
 use Rattle.pic_num.specs.Space.{Triple, triple, Spot, spot}
 use Rattle.pic_grid.specs.Cells.{Grid, IsCells}
 use Rattle.pic_grid.specs.Species.{HeadView, AreHeads}
 use Rattle.pic_grid.specs.Tiles.{AreTiles}
 use Rattle.pic_walk.specs.declared.row.Row.{Row}
-use Rattle.pic_walk.specs.Bounds.{most_steps}
 pub use Rattle.pic_walk.specs.Extent.{extent_of, most_extent, IsExtent}
 use Rattle.pic_walk.specs.Rows.{AreRows}
 use Rattle.pic_deck.specs.declared.fields.InitialFields.{InitialFields}

@@ -4,11 +4,10 @@ use Rattle.std.specs.Prelude.{ℤ, pos, neg_ℤ, ℕ, ◌+◌, ◌/◌, ◌%◌,
 use Rattle.toml.specs.Data.{Data, Members}
 use Rattle.pic_num.specs.declared.mult.Scales.{Scales}
 use Rattle.pic_num.specs.declared.motion.Kind.{Kind}
-use Rattle.pic_num.specs.Limits.{fewest_cells_of_axis, most_cells_of_axis_1, side_1, most_species, most_particles_1, most_mass, most_force}
+use Rattle.pic_num.specs.Limits.{fewest_cells_of_axis, most_cells_of_axis_1, side_1, most_species, most_particles_1, most_mass, most_force, most_steps, least_charge, greatest_charge}
 use Rattle.pic_num.specs.Space.{Triple, triple, spot}
 use Rattle.pic_grid.specs.Cells.{Grid, count_of}
 use Rattle.pic_grid.specs.Tiles.{most_tiles}
-use Rattle.pic_walk.specs.Bounds.{most_steps, least_charge, greatest_charge}
 use Rattle.pic_walk.specs.declared.fault.Fault.TheVariants.{Limit, Name}
 use Rattle.pic_walk.specs.declared.limits.Limits.{Limits}
 use Rattle.pic_walk.specs.Path.{key_at}

@@ -9,6 +9,7 @@ pub use Rattle.pic_walk.specs.Points.{no_point, IsPoint, ArePoints}
 pub use Rattle.pic_walk.specs.Draw.{IsDraw}
 pub use Rattle.pic_walk.specs.Sites.{AreSites}
 pub use Rattle.pic_num.specs.Limits.{most_particles_1, most_species}
+use Rattle.pic_num.specs.Limits.{most_letters}
 pub use Rattle.pic_walk.specs.Bounds.{fastest, fastest_drift, widest_spread}
 use Rattle.pic_deck.specs.declared.species.Fill.{Fill}
 use Rattle.pic_deck.specs.declared.species.Fill.TheVariants.{Points, Lattice, Random, Pair}
@@ -16,7 +17,7 @@ use Rattle.pic_deck.specs.declared.species.Species.{Species}
 
 -- whether a text is a name: 1 to 32 bytes, each a letter, a digit or `_`
 unfoldable pub is_name : List ℕ → Bool
-is_name name = (nat_le 1 (length name) && nat_le (length name) 32) && list_all is_name_byte name
+is_name name = (nat_le 1 (length name) && nat_le (length name) most_letters) && list_all is_name_byte name
 
 -- whether one of some species has a name
 abbrev pub is_taken : List Species → List ℕ → Bool

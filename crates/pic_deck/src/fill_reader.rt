@@ -23,7 +23,8 @@ use pic_walk::{
 use std::alloc::Global;
 use toml::{Table, Value};
 
-const MOST_PARTICLES: i64 = 1048576;
+/// The most particles of a species, and of a deck.
+pub const MOST_PARTICLES: i64 = 1048576;
 
 // the sites of a lattice
 fn read_lattice(

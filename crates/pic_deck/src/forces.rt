@@ -1,6 +1,7 @@
 //! The test of the force values of the fields that a deck begins with.
 
 ghost use Rattle.std.specs.Prelude.{◌≡◌, pos, ◌^◌, IsTrue, codes, None, IfOk, OnOk};
+ghost use Rattle.pic_num.specs.Limits.{most_value};
 ghost use Rattle.pic_num.specs.declared.axis.Axis.{Axis};
 ghost use Rattle.pic_num.specs.Sizes.{IsAtMost};
 ghost use Rattle.pic_num.specs.Space.{Triple, spot};
@@ -25,7 +26,7 @@ const STRONGEST: i64 = 17592186044416;
 // the force value of a value, where it is too large
 #[tactic(auto, unfolding(crate::specs::Initial::strong))]
 fn strong(by: Mult, value: i128) -> Option<i128>
-    requires { IsAtMost value (2 ^ 90) }
+    requires { IsAtMost value most_value }
     ensures { result ≡ strong by value }
 {
     let force = scale(value, by);
@@ -39,7 +40,7 @@ fn strong(by: Mult, value: i128) -> Option<i128>
 // the force value of the least place that has one too large
 fn first_strong(by: Mult, field: &Lattice) -> Option<i128>
     requires { (a : Axis) (p : Triple) → IsWithin p field.now.cells
-        → IsAtMost (value_at field.now a p) (2 ^ 90) }
+        → IsAtMost (value_at field.now a p) most_value }
     ensures { result ≡ first_strong field.now.cells by (value_at field.now) }
 {
     let cells = field.cells();

@@ -2,7 +2,7 @@
 
 ghost use Rattle.std.specs.Prelude.{ℕ, ◌≤◌, [], codes, IfOk};
 ghost use Rattle.toml.specs.View.{table_view};
-ghost use Rattle.pic_walk.specs.Bounds.{most_steps};
+ghost use Rattle.pic_num.specs.Limits.{most_steps};
 ghost use Rattle.pic_walk.specs.Walk.{WalksAs, table_of, need};
 ghost use Rattle.pic_deck.specs.Keys.{run_keys, run};
 

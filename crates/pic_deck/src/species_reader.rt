@@ -12,7 +12,7 @@ ghost use Rattle.pic_deck.specs.declared.species.Species.{Species as SpeciesView
 ghost use Rattle.pic_deck.specs.Species.{IsNext, AreFilled, count_in, particles_of, head_of};
 ghost use Rattle.pic_deck.specs.Keys.{species_keys, species_kind, counted, species_in, one_species, species_list};
 
-use crate::fill_reader::read_fill;
+use crate::fill_reader::{MOST_PARTICLES, read_fill};
 use crate::naming::need_name;
 use crate::species::{Fill, Species, SpeciesList};
 use pic_grid::Cells;
@@ -26,8 +26,6 @@ use toml::value::Array;
 use toml::{Table, Value};
 
 const MOST_SPECIES: i64 = 16;
-
-const MOST_PARTICLES: i64 = 1048576;
 
 const SPECIES_KEYS: [&str; 9] = [
     "name", "charge", "mass", "kick", "turn", "points", "lattice", "random", "pair",

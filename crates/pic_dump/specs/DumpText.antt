@@ -1,6 +1,7 @@
 -- The text of a dump, version 1: this project's profile. All numbers are big-endian.
 use Rattle.std.specs.Prelude.{ℤ, ℕ, ◌-◌, List, [], ◌∷◌, ◌++◌, length, replicate, codes}
 use Rattle.std.specs.List.{flat_map}
+use Rattle.pic_num.specs.Limits.{most_letters}
 use Rattle.pic_num.specs.declared.motion.Kind.{Kind}
 use Rattle.pic_num.specs.declared.motion.Particle.{Particle}
 use Rattle.pic_num.specs.declared.motion.What.{What}
@@ -45,9 +46,9 @@ front_bytes h =
     ++ scales_bytes h.scales
     ++ u32_bytes (length h.species)
 
--- a name of at most 32 bytes, filled with zeros
+-- a name, filled with zeros
 unfoldable pub name_bytes : List ℕ → List ℕ
-name_bytes name = name ++ replicate (32 - length name) 0
+name_bytes name = name ++ replicate (most_letters - length name) 0
 
 -- what the particles of a species have in common
 unfoldable pub kind_bytes : Kind → List ℕ

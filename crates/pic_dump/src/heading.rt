@@ -2,6 +2,7 @@
 
 ghost use Rattle.std.specs.Prelude.{◌≡◌, ◌+◌, ◌*◌, ◌≤◌, ◌++◌, length};
 ghost use Rattle.std.specs.List.{flat_map};
+ghost use Rattle.pic_num.specs.Limits.{most_letters};
 ghost use Rattle.pic_io.specs.Told.{HasCause};
 ghost use Rattle.pic_io.specs.Sink.{Puts};
 ghost use Rattle.pic_grid.specs.Species.{HeadView, AreHeads};
@@ -107,7 +108,7 @@ fn push_heads(text: &mut HeaderText, heads: &[Head])
 #[tactic(auto, unfolding(crate::specs::DumpText::head_bytes))]
 fn push_head(text: &mut HeaderText, head: &Head)
     requires room { length text.old + 60 ≤ 1024 }
-    requires name { length head.now.name ≤ 32 }
+    requires name { length head.now.name ≤ most_letters }
     ensures bytes { text.new ≡ text.old ++ head_bytes head.now }
     ensures len { length text.new ≡ length text.old + 60 }
 {
@@ -119,7 +120,7 @@ fn push_head(text: &mut HeaderText, head: &Head)
 // A name, and zeros behind it.
 fn push_name(text: &mut HeaderText, name: &[u8])
     requires room { length text.old + 32 ≤ 1024 }
-    requires name { length name.now ≤ 32 }
+    requires name { length name.now ≤ most_letters }
     ensures bytes { text.new ≡ text.old ++ name_bytes name.now }
     ensures len { length text.new ≡ length text.old + 32 }
 {

@@ -3,12 +3,13 @@ use Rattle.std.proofs.Common.{◌≡◌, ℕ, ℤ, pos, ◌+◌, ◌-◌, ◌*�
 use Rattle.std.proofs.lemmas.List.{length-take-le, length-drop, get_or-take, get_or-drop, ext_get_or}
 use Rattle.std.proofs.lemmas.List.Elements.{All-from_get_or}
 use Rattle.std.specs.Prelude.{All}
+use Rattle.pic_grid.proofs.RowLaws.{place_of-along}
 use Rattle.pic_num.specs.declared.axis.Axis.{Axis}
 use Rattle.pic_num.specs.Space.{Triple}
 use Rattle.pic_grid.specs.Cells.{IsWithin, count_of, place_of}
 use Rattle.pic_grid.specs.Lattice.{Field, value_at}
 use Rattle.pic_grid.proofs.CellLaws.{place_of_below}
-use Rattle.pic_grid.proofs.PlaceLaws.{IsPlace, further}
+use Rattle.pic_grid.proofs.PlaceLaws.{IsPlace}
 
 -- the values of a run stand side by side in the order of places
 pub record IsRun (f : Field) (a : Axis) (p : Triple) (run : List ℤ) : Type 0 where
@@ -28,7 +29,7 @@ module _ (f : Field) (a : Axis) (p : Triple) (done : ℕ) (run : List ℤ) (shap
         let i : ℕ = length run - 1 in
         let below : i < length run = omega (arith, is.some) in
         let last = place_of_below f.cells a (record p { x = p.x + i }) (run_within i below) in
-        omega (arith, shape, at, last, further f.cells a p i, is.some)
+        omega (arith, shape, at, last, place_of-along f.cells a p i, is.some)
 
     -- a run is a part of the list of values
     pub run_is : run ≡ take (length run) (drop done f.values)
@@ -38,7 +39,7 @@ module _ (f : Field) (a : Axis) (p : Triple) (done : ℕ) (run : List ℤ) (shap
         ext_get_or (pos 0) run (take (length run) (drop done f.values)) (sym (length-take-le (length run) (drop done f.values) (omega (arith, fits, rest))))
         (λ i below.
         is.values i below
-        ∙ ap (λ j. slice_index_or f.values j (pos 0)) (further f.cells a p i ∙ ap (λ k. k + i) at)
+        ∙ ap (λ j. slice_index_or f.values j (pos 0)) (place_of-along f.cells a p i ∙ ap (λ k. k + i) at)
         ∙ sym (get_or-take (length run) (drop done f.values) i (pos 0) below ∙ get_or-drop done f.values i (pos 0)))
 
     -- what holds of each value of a lattice holds of a run's

@@ -7,7 +7,7 @@ use Rattle.pic_num.specs.declared.axis.Axis.{Axis}
 use Rattle.pic_num.specs.Space.{Spot}
 use Rattle.pic_num.proofs.ProductLaws.{plus_none}
 use Rattle.pic_grid.specs.Sums.{sum_over}
-use Rattle.pic_grid.specs.Block.{BlockValues, InZone, IsShaped, AllAtMost, edge_at}
+use Rattle.pic_grid.specs.Block.{BlockValues, IsShaped, AllAtMost, edge_at}
 use Rattle.pic_grid.proofs.OverLaws.{sum_over_more}
 use Rattle.pic_grid.proofs.BlockLaws.{in_zone_shaped}
 use Rattle.pic_grid.proofs.ShapeLaws.{shaped_back}
@@ -52,15 +52,6 @@ adds_more old mid now f xs i d below s h k =
     (λ a c. sum_over (λ x. f x a c) (take (i + 1) xs))
     (λ a c. sym (sum_over_more (λ x. f x a c) xs i d below))
     (adds_twice old mid now (λ a c. sum_over (λ x. f x a c) (take i xs)) (f (get_or xs i d)) s h k)
-
-from_none : (x y f : ℤ) → y ≡ x +ℤ f → unsigned_abs x ≤ 0 → y ≡ f
-from_none x y f e none = omega (arith, ints)
-
--- from a block of zeros on, the values are what was added
-pub adds_from_zeros : (old now : BlockValues) (f : Axis → Spot → ℤ) → AllAtMost 0 old → Adds old now f
-    → (a : Axis) (c : Spot) → InZone old.low old.size c → edge_at now a c ≡ f a c
-adds_from_zeros old now f zeros h a c z =
-    from_none (edge_at old a c) (edge_at now a c) (f a c) (h.at a c z) ((zeros.at_most a c z).size)
 
 grown : (x y f : ℤ) (n m : ℕ) → y ≡ x +ℤ f → unsigned_abs x ≤ n → unsigned_abs f ≤ m → unsigned_abs y ≤ n + m
 grown x y f n m e h k = omega (arith, ints)

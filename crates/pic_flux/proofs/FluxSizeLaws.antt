@@ -1,10 +1,10 @@
 -- How large a flux can be where a piece lies in its closed cell.
-use Rattle.std.proofs.Common.{◌≡◌, ℕ, ◌+◌, ◌*◌, ◌^◌, ◌<◌, ◌≤◌, Bool, true, false, to_z, of_z, ap, ◌∙◌, unsigned_abs, List, take, mul-le-mul, arith}
+use Rattle.std.proofs.Common.{◌≡◌, ℕ, ◌+◌, ◌*◌, ◌^◌, ◌<◌, ◌≤◌, to_z, of_z, ap, ◌∙◌, unsigned_abs, List, take, mul-le-mul, arith}
 use mir.Syntax.{w32, w64}
 use mir.Val.{SFits}
 use Rattle.std.proofs.Math.IntN.{ℤ, pos, ◌+ℤ◌, ◌-ℤ◌, ◌*ℤ◌}
 use Rattle.std.proofs.Math.Nat.{mul-le-mul_left, mul-le-mul_right, le_trans}
-use Rattle.std.specs.Prelude.{if◌then◌else◌, ◌≤ℤ◌}
+use Rattle.std.specs.Prelude.{◌≤ℤ◌}
 use Rattle.std.proofs.lemmas.Int.{ints, unsigned_abs-mul, to_z-of_z}
 use Rattle.pic_num.specs.declared.axis.Axis.{Axis}
 use Rattle.pic_num.specs.Sizes.{IsAtMost}
@@ -14,7 +14,7 @@ use Rattle.pic_grid.specs.Block.{BlockValues, AllAtMost, edge_at}
 use Rattle.pic_grid.specs.Flux.{flux, path_flux}
 use Rattle.pic_grid.specs.Segment.{Piece, IsInside, IsInCell}
 use Rattle.pic_grid.specs.Ways.{GoAtMost}
-use Rattle.pic_grid.proofs.FluxLaws.{flux_size, front_flux_size, way_most}
+use Rattle.pic_grid.proofs.FluxLaws.{flux_size, front_flux_size, way_most, chosen_size}
 use Rattle.pic_flux.specs.Adds.{SumsBelow, flux_limit}
 use Rattle.pic_flux.specs.Corners.{same_axis, on_axis}
 
@@ -68,16 +68,12 @@ four_few side q h k =
     let t : 12 * (side * side) ≤ 12 * 2 ^ 28 = omega (arith, r) in
     let all : q * (4 * side) * (12 * (side * side)) ≤ 2 ^ 15 * (4 * 2 ^ 14) * (12 * 2 ^ 28) = mul-le-mul p t in omega (arith, all)
 
-either_size : (b : Bool) (x : ℤ) (n : ℕ) → unsigned_abs x ≤ n → unsigned_abs (if b then x else pos 0) ≤ n
-either_size true x n h = h
-either_size false x n h = omega arith
-
 -- the part of it along one axis
 pub on_axis_most : (side : ℕ) (q : ℤ) (s : Piece) (axis : Axis) → IsInCell side s → (a : Axis) (c : Spot)
     → unsigned_abs (on_axis axis (flux side q s axis) a c) ≤ unsigned_abs q * side * (12 * (side * side))
 unfolding on_axis
 on_axis_most side q s axis inside a c =
-    either_size (same_axis axis a) (flux side q s axis c) (unsigned_abs q * side * (12 * (side * side))) (flux_most side q s inside axis c)
+    chosen_size (same_axis axis a) (flux side q s axis c) (unsigned_abs q * side * (12 * (side * side))) (flux_most side q s inside axis c)
 
 sum_below : (x f : ℤ) (n m l : ℕ) → unsigned_abs x ≤ n → unsigned_abs f ≤ m → n + m < l → unsigned_abs (x +ℤ f) < l
 sum_below x f n m l h k more = omega (arith, ints)

@@ -25,6 +25,10 @@ edge_flux f a c =
     let cell = spot f.cell in
     both (both (at_four X cell f.x) (at_four Y cell f.y)) (at_four Z cell f.z) a c
 
+-- where flux is added to a block, its components are at most 2^100 in size
+abbrev pub most_before_flux : ℕ
+most_before_flux = 2 ^ 100
+
 -- all twelve are of a size that sums have room for, and so are the indices of the cell
 pub record IsModest (f : CellFlux) : Type 0 where
   pub at_x : IsAtMost (spot f.cell).x (2 ^ 24)

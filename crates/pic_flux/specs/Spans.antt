@@ -2,6 +2,7 @@
 -- Comput. Phys. Commun. 69, 1992, 306): on each axis the weights of its ends for the cell's high
 -- face, and how far it goes.
 use Rattle.std.specs.Prelude.{◌≡◌, ℕ, ℤ, pos, ◌*◌, ◌^◌, ◌+ℤ◌, ◌-ℤ◌, ◌*ℤ◌, true}
+use Rattle.pic_num.specs.Limits.{most_side}
 use Rattle.pic_num.specs.declared.axis.Axis.{Axis}
 use Rattle.pic_num.specs.declared.axis.Axis.TheVariants.{X, Y, Z}
 use Rattle.pic_num.specs.Sizes.{IsAtMost}
@@ -30,7 +31,7 @@ pub record AreSpans (side : ℕ) (s : Piece) (p : Spans) : Type 0 where
 -- numbers of a size that products of them have room for
 pub record AreShort (e : Ends) : Type 0 where
   pub sum : IsAtMost e.sum (2 ^ 15)
-  pub way : IsAtMost e.way (2 ^ 14)
+  pub way : IsAtMost e.way most_side
   pub part : IsAtMost e.part (3 * 2 ^ 30)
 
 pub record IsShort (p : Spans) : Type 0 where

@@ -7,7 +7,7 @@ ghost use Rattle.pic_grid.specs.Flux.{flux};
 ghost use Rattle.pic_grid.specs.Segment.{IsInCell};
 ghost use Rattle.pic_grid.specs.Block.{IsShaped, AllAtMost};
 ghost use Rattle.pic_flux.specs.Adds.{Adds};
-ghost use Rattle.pic_flux.specs.CellFlux.{edge_flux, flux_cell, IsModest, AreLayers};
+ghost use Rattle.pic_flux.specs.CellFlux.{edge_flux, flux_cell, IsModest, AreLayers, most_before_flux};
 
 use crate::edges::{Layers, add_corners, edges_in, layers_in};
 use crate::four::four_of;
@@ -51,7 +51,7 @@ impl CellFlux {
     /// else.
     pub fn add_to(&self, to: &mut Block)
         requires modest { IsModest self.now }
-        requires room { AllAtMost (2 ^ 100) to.old }
+        requires room { AllAtMost most_before_flux to.old }
         ensures shape { IsShaped to.old to.new }
         ensures values { Adds to.old to.new (edge_flux self.now) }
     {
@@ -65,7 +65,7 @@ impl CellFlux {
     pub fn add_to_layers(&self, layers: &Layers, to: &mut Block)
         requires modest { IsModest self.now }
         requires layers { AreLayers to.old.low to.old.size (flux_cell self.now) layers.now }
-        requires room { AllAtMost (2 ^ 100) to.old }
+        requires room { AllAtMost most_before_flux to.old }
         ensures shape { IsShaped to.old to.new }
         ensures values { Adds to.old to.new (edge_flux self.now) }
     {

@@ -2,6 +2,7 @@
 
 ghost use Rattle.std.specs.Prelude.{ℕ, ◌*◌, ◌^◌, unsigned_abs, take};
 ghost use Rattle.std.specs.List.{All};
+ghost use Rattle.pic_flux.specs.CellFlux.{most_before_flux};
 ghost use Rattle.pic_grid.specs.Flux.{flux, path_flux};
 ghost use Rattle.pic_grid.specs.Segment.{IsInCell};
 ghost use Rattle.pic_grid.specs.Block.{IsShaped, AllAtMost};
@@ -38,7 +39,7 @@ pub fn deposit(sub: Sub, seg: &Segment, q: i32, to: &mut Block)
 pub fn deposit_inside(sub: Sub, seg: &Segment, q: i32, to: &mut Block)
     requires inside { IsInCell sub seg.now }
     requires edges { HasEdges to.old.low to.old.size seg.now.cell }
-    requires room { AllAtMost (2 ^ 100) to.old }
+    requires room { AllAtMost most_before_flux to.old }
     ensures shape { IsShaped to.old to.new }
     ensures values { Adds to.old to.new (flux sub q seg.now) }
 {

@@ -41,19 +41,19 @@ unfolding same_int
 other_cell c j (inl low) = let some : 0 < unsigned_abs (j -ℤ c) = omega (arith, ints, low) in grind (arith, nat_tests)
 other_cell c j (inr high) = let some : 0 < unsigned_abs (j -ℤ c) = omega (arith, ints, high) in grind (arith, nat_tests)
 
-when_false : (b : Bool) (t : ℤ) → b ≡ false → cond b t (pos 0) ≡ pos 0
+pub when_false : (b : Bool) (t : ℤ) → b ≡ false → cond b t (pos 0) ≡ pos 0
 when_false true t h = cc
 when_false false t h = refl
 
-when_zero : (b : Bool) (t : ℤ) → t ≡ pos 0 → cond b t (pos 0) ≡ pos 0
+pub when_zero : (b : Bool) (t : ℤ) → t ≡ pos 0 → cond b t (pos 0) ≡ pos 0
 when_zero true t h = h
 when_zero false t h = refl
 
-no_first : (q way a0 a1 b0 b1 : ℤ) → a0 ≡ pos 0 → a1 ≡ pos 0 → simpson q way a0 a1 b0 b1 ≡ pos 0
+pub no_first : (q way a0 a1 b0 b1 : ℤ) → a0 ≡ pos 0 → a1 ≡ pos 0 → simpson q way a0 a1 b0 b1 ≡ pos 0
 unfolding simpson
 no_first q way a0 a1 b0 b1 h k = (λ i. simpson q way (h i) (k i) b0 b1) ∙ ring (q ∷ way ∷ b0 ∷ b1 ∷ []) (search reads depth 14) tt
 
-no_second : (q way a0 a1 b0 b1 : ℤ) → b0 ≡ pos 0 → b1 ≡ pos 0 → simpson q way a0 a1 b0 b1 ≡ pos 0
+pub no_second : (q way a0 a1 b0 b1 : ℤ) → b0 ≡ pos 0 → b1 ≡ pos 0 → simpson q way a0 a1 b0 b1 ≡ pos 0
 unfolding simpson
 no_second q way a0 a1 b0 b1 h k = (λ i. simpson q way a0 a1 (h i) (k i)) ∙ ring (q ∷ way ∷ a0 ∷ a1 ∷ []) (search reads depth 14) tt
 

@@ -9,16 +9,15 @@ use Rattle.std.proofs.lemmas.List.{get_or_past}
 use Rattle.pic_num.specs.declared.axis.Axis.{Axis}
 use Rattle.pic_num.specs.Sizes.{IsAtMost}
 use Rattle.pic_num.specs.Space.{Triple, Spot}
-use Rattle.pic_grid.specs.Block.{BlockValues, InZone, IsShaped, AllAtMost, inner_of, inner_at, edge_at}
-use Rattle.pic_grid.specs.BlockLayers.{AddsLayers, AreAtMost, is_from, is_over, lowered_by, layer_of}
+use Rattle.pic_grid.specs.Block.{BlockValues, InZone, AllAtMost, inner_at, edge_at}
+use Rattle.pic_grid.specs.BlockLayers.{AddsLayers, NumbersAtMost, is_from, is_over, lowered_by, layer_of}
 use Rattle.pic_grid.specs.Cells.{IsWithin, count_of, axis_of, cell_of, place_of}
-use Rattle.pic_grid.proofs.BlockLaws.{inner_within, in_zone_shaped}
 use Rattle.pic_grid.proofs.CellLaws.{place_of-number, place_within}
-use Rattle.pic_grid.proofs.ShapeLaws.{shaped_back, zero_read}
+use Rattle.pic_grid.proofs.ShapeLaws.{zero_read}
 
 -- a block's numbers are small where its components are,
 pub numbers_small : (n : Triple) (most : ℕ) (xs : List ℤ) → length xs ≡ 3 * count_of n
-    → ((a : Axis) (p : Triple) → IsWithin p n → IsAtMost (get_or xs (place_of n a p) (pos 0)) most) → AreAtMost most xs
+    → ((a : Axis) (p : Triple) → IsWithin p n → IsAtMost (get_or xs (place_of n a p) (pos 0)) most) → NumbersAtMost most xs
 numbers_small n most xs long small = record {
   at_most = λ k. elim (cases_lt k (3 * count_of n)) [
     | inl below ↦ subst (λ (j : ℕ). IsAtMost (get_or xs j (pos 0)) most) (place_of-number n k below)
@@ -122,37 +121,6 @@ pub inner_small : (b : BlockValues) (most : ℕ) (a : Axis) (p : Triple) → All
 inner_small b most a p small w = subst (λ (v : ℤ). IsAtMost v most) (sym (inner_edge b a p)) (small.at_most a (cell_in b p) (in_zone b p w))
 
 -- and so are all its numbers
-pub all_numbers : (b : BlockValues) (most : ℕ) (xs : List ℤ) → xs ≡ b.values → length b.values ≡ 3 * count_of b.size → AllAtMost most b → AreAtMost most xs
+pub all_numbers : (b : BlockValues) (most : ℕ) (xs : List ℤ) → xs ≡ b.values → length b.values ≡ 3 * count_of b.size → AllAtMost most b → NumbersAtMost most xs
 all_numbers b most xs same long small =
-    subst (AreAtMost most) (sym same) (numbers_small b.size most b.values long (λ a p w. inner_small b most a p small w))
-
--- where the layers and a block are small, so is their sum
-pub added_small : (old now from : BlockValues) (o : Triple) (most more : ℕ) → IsShaped old now → AddsLayers old now from o → AllAtMost most old
-    → AllAtMost more from → AllAtMost (most + more) now
-added_small old now from o most more shape added before small = record {
-  at_most = λ a c inside.
-      let here = in_zone_shaped now old c (shaped_back old now shape) inside in
-      let q = inner_of old.low c in
-      let w = inner_within old.low old.size c here in
-      let sum = sums_small (inner_at old a q) (layer_of from.size from.values o a q) most more (inner_small old most a q before w)
-      (layer a q (is_over o from.size q) refl) in
-      let same = added.at a q w in
-      subst (λ (l : Spot). IsAtMost (inner_at now a (inner_of l c)) (most + more)) shape.low (subst (λ (v : ℤ). IsAtMost v (most + more)) (sym same) sum);
-}
-  where
-    layer : (a : Axis) (p : Triple) (t : Bool) → is_over o from.size p ≡ t → IsAtMost (layer_of from.size from.values o a p) more
-    layer a p true e =
-        let over = over_tells o from.size p e in
-        let x = over.above_x in
-        let y = over.above_y in
-        let z = over.above_z in
-        let below_x = over.below_x in
-        let below_y = over.below_y in
-        let below_z = over.below_z in
-        let within : IsWithin (lowered_by o p) from.size = record {
-          x = omega (arith, x, below_x);
-          y = omega (arith, y, below_y);
-          z = omega (arith, z, below_z);
-        } in
-        subst (λ (v : ℤ). IsAtMost v more) (sym (layer_over from.size from.values o a p e)) (inner_small from more a (lowered_by o p) small within)
-    layer a p false e = subst (λ (v : ℤ). IsAtMost v more) (sym (layer_off from.size from.values o a p e)) (record { size = omega (arith, ints) })
+    subst (NumbersAtMost most) (sym same) (numbers_small b.size most b.values long (λ a p w. inner_small b most a p small w))

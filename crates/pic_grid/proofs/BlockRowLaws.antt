@@ -1,5 +1,5 @@
 -- Rows of numbers added to those of a list, and how many rows a block has.
-use Rattle.std.proofs.Common.{◌≡◌, ◌≢◌, ℕ, ◌+◌, ◌-◌, ◌*◌, ◌<◌, ◌≤◌, ◌⊎◌, inl, inr, List, length, get_or, refl, ap, ◌∙◌, subst, arith}
+use Rattle.std.proofs.Common.{◌≡◌, ◌≢◌, ℕ, ◌+◌, ◌-◌, ◌*◌, ◌<◌, ◌≤◌, ◌⊎◌, inl, inr, List, length, get_or, ap, ◌∙◌, subst, arith}
 use Rattle.std.proofs.Math.IntN.{ℤ, pos, ◌+ℤ◌}
 use Rattle.std.proofs.Math.ListN.{set}
 use Rattle.std.proofs.Math.Nat.{mul-le-mul_right}
@@ -12,9 +12,6 @@ use Rattle.pic_grid.specs.Cells.{count_of}
 pub record RowAdded (from old : List ℤ) (at start x : ℕ) (now : List ℤ) : Type 0 where
   pub done : (k : ℕ) → k < x → get_or now (at + k) (pos 0) ≡ get_or old (at + k) (pos 0) +ℤ get_or from (start + k) (pos 0)
   pub rest : (k : ℕ) → (k < at) ⊎ (at + x ≤ k) → get_or now k (pos 0) ≡ get_or old k (pos 0)
-
-pub row_none : (from old : List ℤ) (at start : ℕ) → RowAdded from old at start 0 old
-row_none from old at start = record { done = λ k below. absurd (omega (arith, below)); rest = λ k other. refl }
 
 pub row_more : (from old : List ℤ) (at start x : ℕ) (now : List ℤ) (v : ℤ) → RowAdded from old at start x now → at + x < length now
     → v ≡ get_or old (at + x) (pos 0) +ℤ get_or from (start + x) (pos 0) → RowAdded from old at start (x + 1) (set now (at + x) v)
@@ -48,9 +45,6 @@ pub record LayerAdded (from old : List ℤ) (at step start count y : ℕ) (now :
   pub done : (x j : ℕ) → x < count → j < y
       → get_or now (at + j * step + x) (pos 0) ≡ get_or old (at + j * step + x) (pos 0) +ℤ get_or from (start + j * count + x) (pos 0)
   pub rest : (k : ℕ) → ((x j : ℕ) → x < count → j < y → k ≢ at + j * step + x) → get_or now k (pos 0) ≡ get_or old k (pos 0)
-
-pub layer_none : (from old : List ℤ) (at step start count : ℕ) → LayerAdded from old at step start count 0 old
-layer_none from old at step start count = record { done = λ x j h below. absurd (omega (arith, below)); rest = λ k off. refl }
 
 -- a row ends before the next ones
 row_before : (at step count x j y : ℕ) → count ≤ step → x < count → j < y → at + j * step + x < at + y * step

@@ -1,9 +1,8 @@
 -- Values of a lattice, copied run by run into rows, and row by row into blocks.
-use Rattle.std.proofs.Common.{◌≡◌, ◌≢◌, ℕ, ℤ, pos, ◌+◌, ◌-◌, ◌*◌, ◌/◌, ◌<◌, ◌≤◌, ◌-ℤ◌, List, ◌++◌, length, take, drop, slice_set, slice_index_or, unsigned_abs, inl, inr, refl, sym, ◌∙◌, ap, subst, arith}
-use Rattle.std.proofs.lemmas.Bool.{cases_lt, cases_eq}
+use Rattle.std.proofs.Common.{◌≡◌, ℕ, ℤ, pos, ◌+◌, ◌-◌, ◌*◌, ◌/◌, ◌<◌, ◌≤◌, ◌-ℤ◌, List, ◌++◌, length, take, drop, slice_index_or, unsigned_abs, inl, inr, refl, sym, ◌∙◌, ap, subst, arith}
+use Rattle.std.proofs.lemmas.Bool.{cases_lt}
 use Rattle.std.proofs.lemmas.Int.{ints}
-use Rattle.std.proofs.lemmas.Grind.{get_or-set_at}
-use Rattle.std.proofs.lemmas.List.{get_or-set_other, get_or-take, get_or_append_left, get_or-append_right, length-append, length-drop, length-take-le, length-set}
+use Rattle.std.proofs.lemmas.List.{get_or-take, get_or_append_left, get_or-append_right, length-append, length-drop, length-take-le}
 use Rattle.std.proofs.lemmas.Nat.{mul-add-lt}
 use Rattle.std.proofs.Math.Nat.{mul-le-mul_right}
 use Rattle.pic_num.specs.declared.axis.Axis.{Axis}
@@ -46,12 +45,6 @@ filled_long row part done more fits long =
     let behind = length-drop done row in
     let all = length-append (take done row) (part ++ drop (done + more - done) (drop done row)) in
     omega (arith, front, rest, behind, all, length-append part (drop (done + more - done) (drop done row)))
-
--- and so is the part that is written
-pub row_long : (values : List ℤ) (start n : ℕ) → start + n ≤ length values → length (take (start + n - start) (drop start values)) ≡ n
-row_long values start n fits =
-    let rest = length-drop start values in
-    length-take-le (start + n - start) (drop start values) (omega (arith, rest)) ∙ omega arith
 
 pub as_long : (f : Field) (a : Axis) (p : Triple) (count n : ℕ) (row : List ℤ) → count ≡ n → IsRunOf f a p count row → IsRunOf f a p n row
 as_long f a p count n row same = subst (λ (k : ℕ). IsRunOf f a p k row) same
@@ -149,27 +142,6 @@ pub record BlocksCopied (f : Field) (old : List BlockValues) (i : ℕ) (now : Li
   pub long : length now ≡ length old
   pub done : (k : ℕ) → k < i → IsCopied f (slice_index_or old k no_block) (slice_index_or now k no_block)
   pub left : (k : ℕ) → i ≤ k → slice_index_or now k no_block ≡ slice_index_or old k no_block
-
-pub blocks_none : (f : Field) (old : List BlockValues) → BlocksCopied f old 0 old
-blocks_none f old = record { long = refl; done = λ k below. absurd (omega (arith, below)); left = λ k past. refl }
-
-pub blocks_more : (f : Field) (old now : List BlockValues) (i : ℕ) (b new : BlockValues) → BlocksCopied f old i now → i < length now
-    → b ≡ slice_index_or now i no_block → IsCopied f b new → BlocksCopied f old (i + 1) (slice_set now i new)
-blocks_more f old now i b new h inside is copied = record {
-  long = length-set now i new ∙ h.long;
-  done = λ k below. elim (cases_eq k i) [
-    | inl e ↦ subst (λ (j : ℕ). IsCopied f (slice_index_or old j no_block) (slice_index_or (slice_set now i new) j no_block)) (sym e)
-        (subst (λ (c : BlockValues). IsCopied f (slice_index_or old i no_block) c) (sym (get_or-set_at now i i new no_block refl inside))
-        (subst (λ (c : BlockValues). IsCopied f c new) (is ∙ h.left i (omega arith)) copied))
-    | inr apart ↦ subst (IsCopied f (slice_index_or old k no_block)) (sym (get_or-set_other now i k new no_block apart))
-        (h.done k (omega (arith, below, apart)))
-  ];
-  left = λ k past.
-      (let apart : k ≢ i = λ e. absurd (omega (arith, past, e)) in get_or-set_other now i k new no_block apart) ∙ h.left k (omega (arith, past));
-}
-
-pub blocks_all : (f : Field) (old now : List BlockValues) (i : ℕ) → BlocksCopied f old i now → length old ≤ i → AreCopied f old now
-blocks_all f old now i h end = record { long = h.long; each = λ k below. h.done k (omega (arith, below, end)) }
 
 -- the blocks of a lattice lie among its cells
 axis_among : (n k part s : ℕ) (low : ℤ) → IsAxisCut n k → s ≡ n / k → part < k → low ≡ pos (part * s) → unsigned_abs low + s ≤ n

@@ -50,7 +50,7 @@ unfolding hat_of
 hat_within side p g = omega arith
 
 -- what a test lets through is no larger
-chosen_size : (t : Bool) (x : ℤ) (n : ℕ) → unsigned_abs x ≤ n → unsigned_abs (if t then x else pos 0) ≤ n
+pub chosen_size : (t : Bool) (x : ℤ) (n : ℕ) → unsigned_abs x ≤ n → unsigned_abs (if t then x else pos 0) ≤ n
 chosen_size true x n h = h
 chosen_size false x n h = omega arith
 

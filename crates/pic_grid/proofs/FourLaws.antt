@@ -13,7 +13,7 @@ use Rattle.pic_num.proofs.ProductLaws.{+ℤ-*ℤ}
 use Rattle.pic_num.proofs.SizeLaws.{at_most_more}
 use Rattle.pic_grid.specs.Cells.{count_of, index_of, place_of}
 use Rattle.pic_grid.specs.Block.{InZone, inner_of}
-use Rattle.pic_grid.specs.BlockLayers.{AreAtMost}
+use Rattle.pic_grid.specs.BlockLayers.{NumbersAtMost}
 use Rattle.pic_grid.specs.Fours.{IsBase, number_from, first_of, step_by, added_in}
 use Rattle.pic_grid.specs.Rows.{step_of, lifted}
 use Rattle.pic_grid.specs.declared.base.Base.{Base}
@@ -136,7 +136,7 @@ stands_at low n a c found z has e few =
     }
 
 -- a bound of the numbers of a list, made wider
-pub are_at_most_more : (xs : List ℤ) (m n : ℕ) → m ≤ n → AreAtMost m xs → AreAtMost n xs
+pub are_at_most_more : (xs : List ℤ) (m n : ℕ) → m ≤ n → NumbersAtMost m xs → NumbersAtMost n xs
 are_at_most_more xs m n more small = record { at_most = λ k. at_most_more (slice_index_or xs k (pos 0)) m n more (small.at_most k) }
 
 -- a number added at a place of a list: it can be told otherwise, where it is found,
@@ -152,8 +152,8 @@ length-added_in true xs p v = length-set xs p (slice_index_or xs p (pos 0) +ℤ 
 length-added_in false xs p v = refl
 
 -- and its numbers grow by no more
-pub added_in_small : (found : Bool) (xs : List ℤ) (p : ℕ) (v : ℤ) (m n : ℕ) → (IsTrue found → p < length xs) → IsAtMost v n → AreAtMost m xs
-    → AreAtMost (m + n) (added_in found xs p v)
+pub added_in_small : (found : Bool) (xs : List ℤ) (p : ℕ) (v : ℤ) (m n : ℕ) → (IsTrue found → p < length xs) → IsAtMost v n → NumbersAtMost m xs
+    → NumbersAtMost (m + n) (added_in found xs p v)
 unfolding added_in
 added_in_small false xs p v m n below small room =
     record { at_most = λ k. at_most_more (slice_index_or xs k (pos 0)) m (m + n) (omega arith) (room.at_most k) }

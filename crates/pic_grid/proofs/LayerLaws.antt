@@ -10,7 +10,7 @@ use Rattle.pic_num.specs.Space.{Triple}
 use Rattle.pic_grid.specs.BlockLayers.{FitsAt, AddsOnAxis, is_over, lowered_by, layer_of}
 use Rattle.pic_grid.specs.Cells.{IsWithin, count_of, index_of, place_of}
 use Rattle.pic_grid.specs.Rows.{row_of}
-use Rattle.pic_grid.proofs.BlockLayerLaws.{over_tells, tells_over, layer_over, layer_off, add_none}
+use Rattle.pic_grid.proofs.BlockLayerLaws.{over_tells, tells_over, layer_over, layer_off}
 use Rattle.pic_grid.proofs.CellLaws.{place_of_same}
 use Rattle.pic_grid.proofs.RowLaws.{place_of-row, row_fits}
 
@@ -23,17 +23,6 @@ pub record LayersAdded (m n o : Triple) (axis : Axis) (from old : List ℤ) (z :
 cond_none : (b : Bool) → cond b (pos 0) (pos 0) ≡ pos 0
 cond_none true = refl
 cond_none false = refl
-
--- none is at first
-pub layers_none : (m n o : Triple) (axis : Axis) (from old : List ℤ) → LayersAdded m n o axis from old 0 old
-layers_none m n o axis from old = record {
-  here = λ p w.
-      let k = p.z - o.z in
-      let early : ltb k 0 ≡ false = grind (arith, nat_tests) in
-      add_none (get_or old (place_of m axis p) (pos 0)) (cond (ltb k 0) (layer_of n from o axis p) (pos 0))
-      (ap (λ (b : Bool). cond b (layer_of n from o axis p) (pos 0)) early);
-  others = λ a p w other. refl;
-}
 
 -- and all are in the end
 pub layers_all : (m n o : Triple) (axis : Axis) (from old : List ℤ) (z : ℕ) (now : List ℤ) → z ≡ n.z → LayersAdded m n o axis from old z now

@@ -1,6 +1,6 @@
 -- Laws of sums over lists.
-use Rattle.std.proofs.Common.{◌≡◌, ℕ, ◌+◌, ◌*◌, ◌<◌, ◌≤◌, unsigned_abs, List, [], ◌∷◌, ◌++◌, length, get_or, take, map, refl, ap, ◌∙◌, arith}
-use Rattle.std.proofs.Math.IntN.{ℤ, ◌+ℤ◌, ◌-ℤ◌}
+use Rattle.std.proofs.Common.{◌≡◌, ℕ, ◌+◌, ◌*◌, ◌<◌, ◌≤◌, unsigned_abs, List, [], ◌∷◌, ◌++◌, length, get_or, take, refl, ap, ◌∙◌, arith}
+use Rattle.std.proofs.Math.IntN.{ℤ, ◌+ℤ◌}
 use Rattle.std.proofs.lemmas.Int.{ints}
 use Rattle.std.proofs.lemmas.List.{take_more}
 use Rattle.pic_grid.specs.Sums.{sum_over}
@@ -35,18 +35,6 @@ pub sum_over_plus : {A : Type 0} (f g : A → ℤ) (xs : List A) → sum_over (�
 unfolding sum_over
 sum_over_plus f g [] = omega (arith, ints)
 sum_over_plus f g (x ∷ xs) = let h = sum_over_plus f g xs in omega (arith, ints, h)
-
--- the sum of differences is the difference of both
-pub sum_over_less : {A : Type 0} (f g : A → ℤ) (xs : List A) → sum_over (λ x. f x -ℤ g x) xs ≡ sum_over f xs -ℤ sum_over g xs
-unfolding sum_over
-sum_over_less f g [] = omega (arith, ints)
-sum_over_less f g (x ∷ xs) = let h = sum_over_less f g xs in omega (arith, ints, h)
-
--- over a list that is made element by element
-pub sum_over-map : {A B : Type 0} (f : B → ℤ) (g : A → B) (xs : List A) → sum_over f (map g xs) ≡ sum_over (λ x. f (g x)) xs
-unfolding sum_over
-sum_over-map f g [] = refl
-sum_over-map f g (x ∷ xs) = ap (λ (t : ℤ). f (g x) +ℤ t) (sum_over-map f g xs)
 
 -- n numbers of at most most in size
 pub sum_over_bound : {A : Type 0} (f : A → ℤ) (xs : List A) (most : ℕ) → ((x : A) → unsigned_abs (f x) ≤ most)

@@ -1,6 +1,6 @@
 -- A lattice of blocks: its cells lie in the blocks of their parts, and a write in one block is a
 -- write in the lattice.
-use Rattle.std.proofs.Common.{◌≡◌, ◌≢◌, ℕ, ℤ, pos, ◌+◌, ◌*◌, ◌^◌, ◌/◌, ◌%◌, ◌<◌, ◌≤◌, ◌+ℤ◌, ◌≤ℤ◌, ◌<ℤ◌, List, [], ◌∷◌, ◌++◌, length, length-append, replicate, slice_index_or, slice_set, unsigned_abs, inl, inr, refl, sym, ◌∙◌, ap, subst, arith}
+use Rattle.std.proofs.Common.{◌≡◌, ◌≢◌, ℕ, ℤ, pos, ◌+◌, ◌*◌, ◌/◌, ◌%◌, ◌<◌, ◌≤◌, ◌+ℤ◌, ◌≤ℤ◌, ◌<ℤ◌, List, [], ◌∷◌, ◌++◌, length, length-append, replicate, slice_index_or, slice_set, unsigned_abs, inl, inr, refl, sym, ◌∙◌, ap, subst, arith}
 use Rattle.std.proofs.lemmas.Bool.{cases_eq, cases_lt}
 use Rattle.std.proofs.lemmas.Grind.{get_or-set_at}
 use Rattle.std.proofs.lemmas.Int.{ints}
@@ -10,10 +10,9 @@ use Rattle.std.proofs.Math.ListN.{get_or-append}
 use Rattle.std.proofs.Math.Nat.{div-le_self, le-mul_of_pos_right}
 use Rattle.std.proofs.Math.Seq.{get_or-append_seam}
 use borrow.Author.Count.{below_more}
-use Rattle.pic_num.specs.Limits.{most_cells, most_cells_of_axis}
+use Rattle.pic_num.specs.Limits.{most_cells_of_axis}
 use Rattle.pic_num.specs.declared.axis.Axis.{Axis}
 use Rattle.pic_num.specs.Space.{Triple, Spot, unwrapped}
-use Rattle.pic_num.proofs.SizeLaws.{times_at_most}
 use Rattle.pic_grid.specs.Cells.{Grid, IsCells, IsSize, IsWithin, count_of, index_of, cell_of, place_of}
 use Rattle.pic_grid.specs.Lattice.{IsParts, value_at, with_value, values_of}
 use Rattle.pic_grid.specs.Block.{BlockValues, InZone, inner_of, edge_at, with_edge}
@@ -66,13 +65,6 @@ parts_limits n parts h k =
     let z : parts.z ≤ most_cells_of_axis = c.z.few in
     record { x_least = k.x_least; x_most = omega arith; y_least = k.y_least; y_most = omega arith; z_least = k.z_least; z_most = omega arith }
 
--- the places of a box of so few layers have numbers of 64 bits
-pub size_room : (n : Triple) → IsSize n → 3 * count_of n < 2 ^ 64
-size_room n h =
-    let layer : n.x * n.y ≤ most_cells_of_axis * most_cells_of_axis = times_at_most n.x n.y _ _ h.x_most h.y_most in
-    let all : n.x * n.y * n.z ≤ most_cells = times_at_most (n.x * n.y) n.z _ _ layer h.z_most in
-    omega (arith, all)
-
 axis_part : (n k p : ℕ) → IsAxisCut n k → p < n → p / (n / k) < k
 axis_part n k p c h =
     let whole : k * (n / k) ≡ n = c.whole in
@@ -85,15 +77,17 @@ part_of_within n parts p h k w =
     let c = cut n parts h k in
     record { x = axis_part n.x parts.x p.x c.x w.x; y = axis_part n.y parts.y p.y c.y w.y; z = axis_part n.z parts.z p.z c.z w.z }
 
-low_end : (p s : ℕ) → pos (p / s * s) ≤ℤ pos p
+-- a number and the end of its row
+pub low_end : (p s : ℕ) → pos (p / s * s) ≤ℤ pos p
 low_end p s = omega (arith, ints, div-add-mod' p s)
 
-high_end : (p s : ℕ) → 1 ≤ s → pos p <ℤ (pos (p / s * s) +ℤ pos s)
+pub high_end : (p s : ℕ) → 1 ≤ s → pos p <ℤ (pos (p / s * s) +ℤ pos s)
 high_end p s h =
     let rest : p % s < s = mod_below p s (omega arith) in
     omega (arith, ints, div-add-mod' p s)
 
-in_part : (s p : Triple) → IsSize s → InZone (corner_of s (part_of s p)) s (unwrapped p)
+-- a cell lies in the box of its part
+pub in_part : (s p : Triple) → IsSize s → InZone (corner_of s (part_of s p)) s (unwrapped p)
 in_part s p h = record {
   x_low = low_end p.x s.x;
   x_high = high_end p.x s.x h.x_least;

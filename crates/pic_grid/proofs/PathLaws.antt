@@ -6,7 +6,6 @@ use Rattle.std.proofs.lemmas.Int.{ints}
 use Rattle.std.specs.Prelude.{◌<ℤ◌, ◌≤ℤ◌}
 use Rattle.pic_num.proofs.RoundingLaws.{floor-lower, floor-upper}
 use Rattle.pic_grid.specs.Path.{same_int, floor_of}
-use Rattle.pic_grid.specs.Segment.{IsInside}
 
 -- equal numbers pass the test
 pub same_int-same : (i j : ℤ) → i ≡ j → same_int i j ≡ true
@@ -26,8 +25,3 @@ floor_low side p some = floor-lower p (pos side) (omega (arith, ints, some))
 pub floor_high : (side : ℕ) (p : ℤ) → 0 < side → p <ℤ (floor_of side p *ℤ pos side +ℤ pos side)
 unfolding floor_of
 floor_high side p some = floor-upper p (pos side) (omega (arith, ints, some))
-
-pub floor_inside : (side : ℕ) (p : ℤ) → 0 < side → IsInside side (floor_of side p) p
-floor_inside side p some =
-    let low = floor_low side p some in
-    let high = floor_high side p some in record { low = low; high = omega (arith, ints, high) }

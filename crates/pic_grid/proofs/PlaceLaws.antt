@@ -10,12 +10,7 @@ pub record IsPlace (n : Triple) (i : ℕ) (a : Axis) (p : Triple) : Type 0 where
   pub within : i < 3 * count_of n → IsWithin p n
   pub number : i < 3 * count_of n → place_of n a p ≡ i
 
--- the number of a place further along its row,
-pub further : (n : Triple) (a : Axis) (p : Triple) (i : ℕ) → place_of n a (record p { x = p.x + i }) ≡ place_of n a p + i
-unfolding place_of index_of
-further n a p i = omega arith
-
--- of the next place at the end of a row,
+-- the number of the next place at the end of a row,
 pub row_end : (n : Triple) (a : Axis) (p : Triple) → p.x + 1 ≡ n.x
     → place_of n a (record { x = 0; y = p.y + 1; z = p.z }) ≡ place_of n a p + 1
 unfolding place_of index_of

@@ -1,5 +1,5 @@
 -- Layers of a block: the values of one block laid over some of another's.
-use Rattle.std.specs.Prelude.{◌≡◌, ◌≢◌, ℕ, ℤ, pos, ◌+◌, ◌-◌, ◌≤◌, ◌+ℤ◌, ◌&&◌, Bool, nat_le, nat_lt, if◌then◌else◌, List, slice_index_or}
+use Rattle.std.specs.Prelude.{◌≡◌, ◌≢◌, ℕ, ℤ, pos, ◌+◌, ◌-◌, ◌≤◌, ◌+ℤ◌, ◌&&◌, Bool, nat_le, nat_lt, if◌then◌else◌, List, slice_index_or, ◌^◌}
 use Rattle.pic_num.specs.declared.axis.Axis.{Axis}
 use Rattle.pic_num.specs.Sizes.{IsAtMost}
 use Rattle.pic_num.specs.Space.{Triple}
@@ -47,6 +47,10 @@ pub record AddsOnAxis (m n offset : Triple) (axis : Axis) (from old now : List �
   pub others : (a : Axis) (p : Triple) → IsWithin p m → a ≢ axis
       → inner_at (box_of m now) a p ≡ inner_at (box_of m old) a p
 
+-- where blocks are added, the components of both are at most 2^120 in size
+abbrev pub most_of_layer : ℕ
+most_of_layer = 2 ^ 120
+
 -- each of these numbers is at most most in size
-pub record AreAtMost (most : ℕ) (numbers : List ℤ) : Type 0 where
+pub record NumbersAtMost (most : ℕ) (numbers : List ℤ) : Type 0 where
   pub at_most : (k : ℕ) → IsAtMost (slice_index_or numbers k (pos 0)) most

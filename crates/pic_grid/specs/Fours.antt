@@ -40,12 +40,19 @@ step_by b X = pos 1
 step_by b Y = b.row
 step_by b Z = b.layer
 
--- four values of a size that sums with them have room for
+-- what is added to a component is at most 2^80 in size, and the component itself at most 2^110
+abbrev pub most_of_four : ℕ
+most_of_four = 2 ^ 80
+
+abbrev pub most_before_four : ℕ
+most_before_four = 2 ^ 110
+
+-- four values of that size
 pub record AreSmall (f : Four) : Type 0 where
-  pub low_low : IsAtMost f.low_low (2 ^ 80)
-  pub high_low : IsAtMost f.high_low (2 ^ 80)
-  pub low_high : IsAtMost f.low_high (2 ^ 80)
-  pub high_high : IsAtMost f.high_high (2 ^ 80)
+  pub low_low : IsAtMost f.low_low most_of_four
+  pub high_low : IsAtMost f.high_low most_of_four
+  pub low_high : IsAtMost f.low_high most_of_four
+  pub high_high : IsAtMost f.high_high most_of_four
 
 -- which of the four edges along axis round a cell a zone has
 pub record AreFound (low : Spot) (size : Triple) (axis : Axis) (c : Spot) (f : Found) : Type 0 where

@@ -1,20 +1,20 @@
 -- What a deck and a dump say of each species, and its limits: this project's profile.
-use Rattle.std.specs.Prelude.{◌≡◌, ℕ, pos, negsuc, ◌<◌, ◌≤◌, ◌≤ℤ◌, IsTrue, List, [], length, sum_by, slice_index_or}
+use Rattle.std.specs.Prelude.{◌≡◌, ℕ, pos, ◌<◌, ◌≤◌, ◌≤ℤ◌, IsTrue, List, [], length, sum_by, slice_index_or}
 use Rattle.std.specs.List.{list_all}
 use Rattle.pic_num.specs.declared.motion.Kind.{Kind}
-use Rattle.pic_num.specs.Limits.{most_mass, most_species, most_particles_1}
+use Rattle.pic_num.specs.Limits.{most_mass, most_species, most_particles_1, most_letters, least_charge, greatest_charge}
 pub use Rattle.pic_num.specs.Names.{is_name_byte}
 
 -- a name has 1 to 32 bytes, each a letter, a digit or `_`
 pub record IsName (name : List ℕ) : Type 0 where
   pub least : 1 ≤ length name
-  pub most : length name ≤ 32
+  pub most : length name ≤ most_letters
   pub bytes : IsTrue (list_all is_name_byte name)
 
 -- the limits of charge and mass
 pub record IsKind (k : Kind) : Type 0 where
-  pub charge_low : negsuc 32767 ≤ℤ k.charge
-  pub charge_high : k.charge ≤ℤ pos 32767
+  pub charge_low : least_charge ≤ℤ k.charge
+  pub charge_high : k.charge ≤ℤ greatest_charge
   pub mass_low : 1 ≤ k.mass
   pub mass_high : k.mass ≤ most_mass
 

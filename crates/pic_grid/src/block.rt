@@ -1,6 +1,7 @@
 //! Boxes of cells, and three components for each cell of one.
 
-ghost use Rattle.std.specs.Prelude.{◌≡◌, ◌↔◌, ℕ, ℤ, pos, ◌*◌, ◌<◌, ◌+ℤ◌, ◌-ℤ◌, ◌≤ℤ◌, ◌<ℤ◌, length, replicate, unsigned_abs, IsTrue, IfOk, IfSome};
+ghost use Rattle.std.specs.Prelude.{◌≡◌, ◌↔◌, ℕ, ℤ, pos, ◌*◌, ◌<◌, ◌+ℤ◌, ◌-ℤ◌, ◌≤ℤ◌, ◌<ℤ◌, length, replicate, unsigned_abs, FitsSigned, IsTrue, IfOk, IfSome};
+ghost use Rattle.std.specs.Int.{w128};
 ghost use Rattle.pic_num.specs.Space.{triple, spot};
 ghost use Rattle.pic_grid.specs.Cells.{IsWithin, count_of, place_of};
 ghost use Rattle.pic_grid.specs.Block.{BlockValues, IsFilled, InZone, inner_of, edge_at, with_edge};
@@ -105,6 +106,20 @@ impl Block {
     {
         let place = self.place(axis, cell);
         self.values[place]
+    }
+
+    /// Adds `value` to the component on `axis` at `cell`, one of the zone's, and changes nothing else.
+    /// The sum fits an `i128`.
+    pub fn add(&mut self, axis: Axis, cell: [i32; 3], value: i128)
+        requires within { InZone self.old.low self.old.size (spot cell) }
+        requires room { FitsSigned w128 (edge_at self.old axis (spot cell) +ℤ value) }
+        ensures after { self.new ≡ with_edge self.old axis (spot cell)
+            (edge_at self.old axis (spot cell) +ℤ value) }
+        ensures stored { edge_at self.new axis (spot cell)
+            ≡ edge_at self.old axis (spot cell) +ℤ value }
+    {
+        let sum = self.at(axis, cell) + value;
+        self.set(axis, cell, sum);
     }
 
     /// Makes every component 0.

@@ -3,9 +3,9 @@
 ghost use Rattle.std.specs.Prelude.{◌≡◌, pos, ◌*◌, ◌^◌, ◌<◌, ◌≤ℤ◌, length, unsigned_abs, IsTrue};
 ghost use Rattle.pic_num.specs.Sizes.{IsAtMost};
 ghost use Rattle.pic_grid.specs.Block.{AllAtMost};
-ghost use Rattle.pic_grid.specs.BlockLayers.{AreAtMost};
+ghost use Rattle.pic_grid.specs.BlockLayers.{NumbersAtMost, most_of_layer};
 ghost use Rattle.pic_grid.specs.Cells.{count_of};
-ghost use Rattle.pic_grid.specs.Fours.{IsBase, base_cell, AreSmall, AreFound, added_in, four_added};
+ghost use Rattle.pic_grid.specs.Fours.{IsBase, base_cell, AreSmall, AreFound, added_in, four_added, most_before_four, most_of_four};
 
 use crate::base::{Base, sum};
 use crate::block::Block;
@@ -38,7 +38,7 @@ impl Block {
         requires base { IsBase self.old.low self.old.size at.now }
         requires found { AreFound self.old.low self.old.size axis (base_cell at.now) found.now }
         requires small { AreSmall four.now }
-        requires room { AllAtMost (2 ^ 110) self.old }
+        requires room { AllAtMost most_before_four self.old }
         ensures shape { length self.old.values ≡ 3 * count_of self.old.size }
         ensures values { self.new ≡ four_added self.old axis (base_cell at.now) found.now four.now }
     {
@@ -62,8 +62,8 @@ impl Block {
 fn add_at(values: &mut [i128], place: i64, found: bool, value: i128)
     requires least { IsTrue found → pos 0 ≤ℤ place }
     requires below { IsTrue found → unsigned_abs place < length values.old }
-    requires value { IsAtMost value (2 ^ 80) }
-    requires room { AreAtMost (2 ^ 120) values.old }
+    requires value { IsAtMost value most_of_four }
+    requires room { NumbersAtMost most_of_layer values.old }
     ensures { values.new ≡ added_in found values.old (unsigned_abs place) value }
 {
     if found {

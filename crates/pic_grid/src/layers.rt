@@ -4,7 +4,7 @@ ghost use Rattle.std.specs.Prelude.{◌≡◌, ℕ, pos, ◌+◌, ◌*◌, ◌^�
 ghost use Rattle.pic_num.specs.Sizes.{IsAtMost};
 ghost use Rattle.pic_num.specs.Space.{Triple, triple, spot};
 ghost use Rattle.pic_grid.specs.Block.{AllAtMost, IsShaped, inner_at};
-ghost use Rattle.pic_grid.specs.BlockLayers.{FitsAt, AddsLayers, AddsOnAxis, AreAtMost, box_of};
+ghost use Rattle.pic_grid.specs.BlockLayers.{FitsAt, AddsLayers, AddsOnAxis, NumbersAtMost, box_of, most_of_layer};
 ghost use Rattle.pic_grid.specs.Cells.{IsWithin, count_of};
 
 use crate::block::Block;
@@ -16,8 +16,8 @@ impl Block {
     /// and z, where `from` fits into this block. The values of both are at most 2^120 in size.
     pub fn add_layers(&mut self, from: &Block, offset: [u32; 3])
         requires fits { FitsAt (triple offset) from.now.size self.old.size }
-        requires room { AllAtMost (2 ^ 120) self.old }
-        requires small { AllAtMost (2 ^ 120) from.now }
+        requires room { AllAtMost most_of_layer self.old }
+        requires small { AllAtMost most_of_layer from.now }
         ensures shape { IsShaped self.old self.new }
         ensures values { AddsLayers self.old self.new from.now (triple offset) }
     {
@@ -57,8 +57,8 @@ fn add_values(to: &mut [i128], size: [u32; 3], from: &[i128], n: [u32; 3], offse
     requires some { 0 < count_of (triple n) }
     requires to_long { length to.old ≡ 3 * count_of (triple size) }
     requires from_long { length from.now ≡ 3 * count_of (triple n) }
-    requires room { AreAtMost (2 ^ 120) to.old }
-    requires small { AreAtMost (2 ^ 120) from.now }
+    requires room { NumbersAtMost most_of_layer to.old }
+    requires small { NumbersAtMost most_of_layer from.now }
     ensures { AddsLayers (box_of (triple size) to.old) (box_of (triple size) to.new)
         (box_of (triple n) from.now) (triple offset) }
 {
@@ -82,8 +82,8 @@ fn add_axis(
     requires to_long { length to.old ≡ 3 * count_of (triple size) }
     requires from_long { length from.now ≡ 3 * count_of (triple n) }
     requires room { (p : Triple) → IsWithin p (triple size)
-        → IsAtMost (inner_at (box_of (triple size) to.old) axis p) (2 ^ 120) }
-    requires small { AreAtMost (2 ^ 120) from.now }
+        → IsAtMost (inner_at (box_of (triple size) to.old) axis p) most_of_layer }
+    requires small { NumbersAtMost most_of_layer from.now }
     ensures { AddsOnAxis (triple size) (triple n) (triple offset) axis from.now to.old to.new }
 {
     let [nx, ny, nz] = n;
@@ -112,8 +112,8 @@ fn add_layer(
     requires to_room { length to.old + step < 2 ^ 64 }
     requires from_end { start + rows * count ≤ length from.now }
     requires room { (x y : ℕ) → x < count → y < rows
-        → IsAtMost (slice_index_or to.old (at + y * step + x) (pos 0)) (2 ^ 120) }
-    requires small { AreAtMost (2 ^ 120) from.now }
+        → IsAtMost (slice_index_or to.old (at + y * step + x) (pos 0)) most_of_layer }
+    requires small { NumbersAtMost most_of_layer from.now }
     ensures inside { (x y : ℕ) → x < count → y < rows
         → slice_index_or to.new (at + y * step + x) (pos 0)
         ≡ slice_index_or to.old (at + y * step + x) (pos 0)
@@ -136,8 +136,8 @@ fn add_row(to: &mut [i128], at: usize, from: &[i128], start: usize, count: usize
     requires to_end { at + count ≤ length to.old }
     requires from_end { start + count ≤ length from.now }
     requires room { (x : ℕ) → x < count
-        → IsAtMost (slice_index_or to.old (at + x) (pos 0)) (2 ^ 120) }
-    requires small { AreAtMost (2 ^ 120) from.now }
+        → IsAtMost (slice_index_or to.old (at + x) (pos 0)) most_of_layer }
+    requires small { NumbersAtMost most_of_layer from.now }
     ensures inside { (x : ℕ) → x < count → slice_index_or to.new (at + x) (pos 0)
         ≡ slice_index_or to.old (at + x) (pos 0) +ℤ slice_index_or from.now (start + x) (pos 0) }
     ensures outside { (k : ℕ) → (k < at) ⊎ (at + count ≤ k)

@@ -39,12 +39,12 @@ impl Nodes {
     }
 
     /// The numbers of cells.
-    pub fn cells(&self) -> Cells
-        ensures value { result.n ≡ self.now.cells }
+    pub fn cells(&self) -> [u32; 3]
+        ensures value { triple result ≡ self.now.cells }
         ensures shape { length self.now.values ≡ count_of self.now.cells }
     {
         let _values = &self.values;
-        self.cells
+        self.cells.numbers()
     }
 
     /// The value of `node`, one of the nodes.

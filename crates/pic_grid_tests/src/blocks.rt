@@ -51,7 +51,8 @@ fn a_block_is_changed_at_one_place(rt: HostRuntime) -> Result<(), NoMemory> {
     };
     let mut block = Block::new(rt.alloc(), zone)?;
     assert_eq!(rt; block.zone(), zone);
-    block.set(Axis::Y, [-1, 2, 3], 42);
+    block.set(Axis::Y, [-1, 2, 3], 40);
+    block.add(Axis::Y, [-1, 2, 3], 2);
     block.set(Axis::Z, [0, 0, 3], -5);
     check(
         &rt,

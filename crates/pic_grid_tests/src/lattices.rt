@@ -103,7 +103,7 @@ fn nodes_and_states_are_read_back(rt: HostRuntime) -> Result<(), NoMemory> {
     let mut nodes = Nodes::new(rt.alloc(), cells)?;
     nodes.set([1, 2, 3], 9);
     let found = (nodes.cells(), nodes.at([1, 2, 3]), nodes.at([0, 2, 3]));
-    assert_eq!(rt; found, (cells, 9, 0));
+    assert_eq!(rt; found, ([2, 3, 4], 9, 0));
     let state = Snapshot::new(rt.alloc(), cells, 5)?;
     let found = (state.e.cells(), state.b.parts(), state.particles.len());
     assert_eq!(rt; found, (cells, [1, 1, 1], 5));

@@ -12,7 +12,7 @@ use Rattle.pic_num.specs.Multiplier.{Multiplier}
 use Rattle.pic_num.specs.Push.{Shift, Halting, first_above, unless, pushed}
 use Rattle.pic_num.specs.Sizes.{IsAtMost}
 use Rattle.pic_num.specs.Space.{Spot, along, axis_number}
-use Rattle.pic_laws.specs.FirstHalt.{new_velocity, move_of, tested, limit_of, test_number, Passes, Keeps, IsEarlier, earlier_test, less_axis, IsFirstHalt, IsWholePush, LawOfTheFirstHalt}
+use Rattle.pic_laws.specs.FirstHalt.{new_velocity, move_of, tested_vector, limit_of, test_number, PassesLimit, KeepsLimit, IsEarlier, earlier_test, less_axis, IsFirstHalt, IsWholePush, LawOfTheFirstHalt}
 
 -- One test. What is found on an axis
 halt_on : What → Spot → Axis → Halting
@@ -110,37 +110,37 @@ module _ (side : ℕ) (vectors : What → Spot) where
 
   -- a test's first axis is the first halt, where no axis of an earlier test passes
   first_halt : (what : What) (a : Axis) → FirstOf what a
-      → ((other : What) → test_number other < test_number what → (b : Axis) → Keeps side vectors other b)
+      → ((other : What) → test_number other < test_number what → (b : Axis) → KeepsLimit side vectors other b)
       → IsFirstHalt side vectors (halt_on what (vectors what) a)
   unfolding halt_on
   first_halt what a found earlier = record { passes = found.passes; value = refl; first = before }
     where
-      before : (other : What) (b : Axis) → IsEarlier other b what a → Keeps side vectors other b
+      before : (other : What) (b : Axis) → IsEarlier other b what a → KeepsLimit side vectors other b
       before other b (earlier_test less) = earlier other less b
       before other b (less_axis same less) =
-          subst (λ (w : What). Keeps side vectors w b) (sym same) (found.first b less)
+          subst (λ (w : What). KeepsLimit side vectors w b) (sym same) (found.first b less)
 
-  before_speed : (other : What) → test_number other < 0 → (b : Axis) → Keeps side vectors other b
+  before_speed : (other : What) → test_number other < 0 → (b : Axis) → KeepsLimit side vectors other b
   before_speed other less = absurd (omega (arith, less))
 
-  before_turn : NoneOf Speed → (other : What) → test_number other < 1 → (b : Axis) → Keeps side vectors other b
+  before_turn : NoneOf Speed → (other : What) → test_number other < 1 → (b : Axis) → KeepsLimit side vectors other b
   before_turn speed Speed less = speed.keeps
   before_turn speed Turn less = absurd (omega (arith, less))
   before_turn speed Far less = absurd (omega (arith, less))
 
-  before_far : NoneOf Speed → NoneOf Turn → (other : What) → test_number other < 2 → (b : Axis) → Keeps side vectors other b
+  before_far : NoneOf Speed → NoneOf Turn → (other : What) → test_number other < 2 → (b : Axis) → KeepsLimit side vectors other b
   before_far speed turn Speed less = speed.keeps
   before_far speed turn Turn less = turn.keeps
   before_far speed turn Far less = absurd (omega (arith, less))
 
-  none_passes : NoneOf Speed → NoneOf Turn → NoneOf Far → (what : What) (a : Axis) → Keeps side vectors what a
+  none_passes : NoneOf Speed → NoneOf Turn → NoneOf Far → (what : What) (a : Axis) → KeepsLimit side vectors what a
   none_passes speed turn far Speed = speed.keeps
   none_passes speed turn far Turn = turn.keeps
   none_passes speed turn far Far = far.keeps
 
   -- either nothing halts, or the first halt does
   abbrev Nothing : Type 0
-  Nothing = (halt ≡ None) × ((what : What) (a : Axis) → Keeps side vectors what a)
+  Nothing = (halt ≡ None) × ((what : What) (a : Axis) → KeepsLimit side vectors what a)
 
   abbrev Something : Type 0
   Something = (h : Halting) × (halt ≡ Some h) × IsFirstHalt side vectors h
@@ -220,7 +220,7 @@ order w a u b = elim (cases_lt (test_number w) (test_number u)) [
     ]
 
 -- a component cannot pass its limit and keep to it
-not_both : (side : ℕ) (vectors : What → Spot) (what : What) (a : Axis) → Passes side vectors what a → Keeps side vectors what a → ⊥
+not_both : (side : ℕ) (vectors : What → Spot) (what : What) (a : Axis) → PassesLimit side vectors what a → KeepsLimit side vectors what a → ⊥
 not_both side vectors what a passes keeps = let size = keeps.size in omega (arith, passes, size)
 
 one_first : (side : ℕ) (vectors : What → Spot) (h k : Halting) → IsFirstHalt side vectors h → IsFirstHalt side vectors k → h ≡ k
@@ -236,7 +236,7 @@ one_first side vectors h k is_h is_k = go (order h.what h.axis k.what k.axis)
 -- The law
 module _ (side : ℕ) (v e b : Spot) (kick turn : Multiplier) where
   abbrev vectors : What → Spot
-  vectors = tested v e b kick turn
+  vectors = tested_vector v e b kick turn
 
   abbrev whole : Shift
   whole = record { v = new_velocity v e b kick turn; d = vectors Far }

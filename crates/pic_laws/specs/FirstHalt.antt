@@ -33,10 +33,10 @@ abbrev pub move_of : Spot → Spot
 move_of v = each (λ c. rounded c (pos velocity_unit)) v
 
 -- the vector that a test looks at: the kicked velocity, the turn, or the move
-abbrev pub tested : Spot → Spot → Spot → Multiplier → Multiplier → What → Spot
-tested v e b kick turn Speed = kicked v e kick
-tested v e b kick turn Turn = turn_by b turn
-tested v e b kick turn Far = move_of (new_velocity v e b kick turn)
+abbrev pub tested_vector : Spot → Spot → Spot → Multiplier → Multiplier → What → Spot
+tested_vector v e b kick turn Speed = kicked v e kick
+tested_vector v e b kick turn Turn = turn_by b turn
+tested_vector v e b kick turn Far = move_of (new_velocity v e b kick turn)
 
 -- what a component may be at most in size: a move goes no further than the side of a cell
 abbrev pub limit_of : ℕ → What → ℕ
@@ -51,12 +51,12 @@ test_number Turn = 1
 test_number Far = 2
 
 -- the vector of a test passes its limit on an axis
-abbrev pub Passes : ℕ → (What → Spot) → What → Axis → Type 0
-Passes side vectors what a = limit_of side what < unsigned_abs (along a (vectors what))
+abbrev pub PassesLimit : ℕ → (What → Spot) → What → Axis → Type 0
+PassesLimit side vectors what a = limit_of side what < unsigned_abs (along a (vectors what))
 
 -- it keeps to its limit there
-abbrev pub Keeps : ℕ → (What → Spot) → What → Axis → Type 0
-Keeps side vectors what a = IsAtMost (along a (vectors what)) (limit_of side what)
+abbrev pub KeepsLimit : ℕ → (What → Spot) → What → Axis → Type 0
+KeepsLimit side vectors what a = IsAtMost (along a (vectors what)) (limit_of side what)
 
 -- a test and an axis come before others: the test is earlier, or it is the same one and the axis is
 -- less
@@ -67,13 +67,14 @@ pub data IsEarlier (what : What) (a : Axis) (other : What) (b : Axis) : Type 0 w
 -- a halt names a test and an axis on which its vector passes its limit, and the component there; at
 -- none that come before them does a vector pass its limit
 pub record IsFirstHalt (side : ℕ) (vectors : What → Spot) (h : Halting) : Type 0 where
-  pub passes : Passes side vectors h.what h.axis
+  pub passes : PassesLimit side vectors h.what h.axis
   pub value : h.value ≡ along h.axis (vectors h.what)
-  pub first : (what : What) (a : Axis) → IsEarlier what a h.what h.axis → Keeps side vectors what a
+  pub first : (what : What) (a : Axis) → IsEarlier what a h.what h.axis
+      → KeepsLimit side vectors what a
 
 -- no vector passes its limit on any axis, and the shift is the new velocity and its move
 pub record IsWholePush (side : ℕ) (v e b : Spot) (kick turn : Multiplier) (s : Shift) : Type 0 where
-  pub keeps : (what : What) (a : Axis) → Keeps side (tested v e b kick turn) what a
+  pub keeps : (what : What) (a : Axis) → KeepsLimit side (tested_vector v e b kick turn) what a
   pub velocity : s.v ≡ new_velocity v e b kick turn
   pub move : s.d ≡ move_of s.v
 
@@ -83,5 +84,5 @@ abbrev pub LawOfTheFirstHalt : Type 0
 LawOfTheFirstHalt =
     (side : ℕ) (v e b : Spot) (kick turn : Multiplier)
     → ((h : Halting) → (pushed side v e b kick turn ≡ Err h)
-    ↔ IsFirstHalt side (tested v e b kick turn) h)
+    ↔ IsFirstHalt side (tested_vector v e b kick turn) h)
     × ((s : Shift) → (pushed side v e b kick turn ≡ Ok s) ↔ IsWholePush side v e b kick turn s)

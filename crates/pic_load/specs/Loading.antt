@@ -4,6 +4,7 @@ use Rattle.std.specs.Prelude.{◌≡◌, ℕ, ℤ, ◌+◌, ◌*◌, ◌%◌, �
 use Rattle.std.specs.List.{All, range_with_len}
 use Rattle.rand_pcg.specs.Lcg.{Lcg}
 use Rattle.pic_num.specs.declared.motion.Particle.{Particle}
+pub use Rattle.pic_num.specs.NoParticle.{no_particle}
 use Rattle.pic_num.specs.declared.axis.Axis.{Axis}
 use Rattle.pic_num.specs.Sizes.{IsAtMost}
 use Rattle.pic_num.specs.Space.{Triple, triple, spot, along}
@@ -16,10 +17,6 @@ use Rattle.pic_deck.specs.Deck.{DeckView, deck_grid}
 use Rattle.pic_deck.specs.Species.{Point6, no_point, most_particles_1, fastest, particles_of}
 use Rattle.pic_load.specs.Generator.{generator, after}
 use Rattle.pic_load.specs.Drawing.{drawn_place, drawn_velocity}
-
--- a particle that isn't there
-abbrev pub no_particle : Particle
-no_particle = record { id = 0; species = 0; x = []; v = [] }
 
 -- a particle of a species, with its identity
 abbrev pub particle_of : ℕ → ℕ → Point6 → Particle

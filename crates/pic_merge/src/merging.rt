@@ -1,6 +1,7 @@
 //! A parcel merged into the tile that it goes to, and a tile that has all of them.
 
 ghost use Rattle.std.specs.Prelude.{◌≡◌, ◌^◌, ◌++◌, ◌⊎◌, ℕ, pos, ◌<◌, Bool, List, [], Some, None, IsSome, IfOk};
+ghost use Rattle.pic_grid.specs.BlockLayers.{most_of_layer};
 ghost use Rattle.pic_num.specs.declared.motion.Particle.{Particle};
 ghost use Rattle.pic_num.specs.Space.{triple, spot};
 ghost use Rattle.pic_grid.specs.Block.{AllAtMost, IsShaped};
@@ -31,8 +32,8 @@ pub fn merge(tile: &mut Tile, parcel: ParcelBox)
         → IsTileZone (flux_at tile.old here).low (flux_at tile.old here).size }
     requires layers { (parcel.dir ≡ here → ⊥)
         → parcel.flux.size ≡ layers_size (flux_at tile.old here).size parcel.dir }
-    requires room { (parcel.dir ≡ here → ⊥) → AllAtMost (2 ^ 120) (flux_at tile.old here) }
-    requires small { (parcel.dir ≡ here → ⊥) → AllAtMost (2 ^ 120) parcel.flux }
+    requires room { (parcel.dir ≡ here → ⊥) → AllAtMost most_of_layer (flux_at tile.old here) }
+    requires small { (parcel.dir ≡ here → ⊥) → AllAtMost most_of_layer parcel.flux }
     ensures { Merged parcel tile.old tile.new }
 {
     if parcel.dir == Dir::HERE {
@@ -67,8 +68,8 @@ fn pour(tile: &mut Tile, from: &mut Parcel) -> Zone
     requires there { IsSome (parcel_at tile.old here) }
     requires zone { IsTileZone (flux_at tile.old here).low (flux_at tile.old here).size }
     requires layers { from.old.flux.size ≡ layers_size (flux_at tile.old here).size from.old.dir }
-    requires room { AllAtMost (2 ^ 120) (flux_at tile.old here) }
-    requires small { AllAtMost (2 ^ 120) from.old.flux }
+    requires room { AllAtMost most_of_layer (flux_at tile.old here) }
+    requires small { AllAtMost most_of_layer from.old.flux }
     ensures low { spot result.low ≡ (flux_at tile.old here).low }
     ensures size { triple result.size ≡ (flux_at tile.old here).size }
     ensures left { from.new ≡ record from.old { chain = [] } }

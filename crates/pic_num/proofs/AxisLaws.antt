@@ -1,9 +1,8 @@
 -- Axes and their numbers.
-use Rattle.std.proofs.Common.{◌≡◌, ◌<◌, List, slice_index_or, refl, arith}
-use Rattle.std.proofs.Math.IntN.{ℤ, pos}
+use Rattle.std.proofs.Common.{◌≡◌, ◌<◌, refl, arith}
 use Rattle.pic_num.specs.declared.axis.Axis.{Axis}
 use Rattle.pic_num.specs.declared.axis.Axis.TheVariants.{X, Y, Z}
-use Rattle.pic_num.specs.Space.{spot, along, axis_number}
+use Rattle.pic_num.specs.Space.{axis_number}
 
 pub axis_below : (a : Axis) → axis_number a < 3
 axis_below X = omega arith
@@ -20,9 +19,3 @@ same_axis_number Y X e = absurd (omega arith)
 same_axis_number Y Z e = absurd (omega arith)
 same_axis_number Z X e = absurd (omega arith)
 same_axis_number Z Y e = absurd (omega arith)
-
--- the number that stands on an axis, in an array and in the spot that it stands for
-pub along-spot : (a : Axis) (numbers : List ℤ) → slice_index_or numbers (axis_number a) (pos 0) ≡ along a (spot numbers)
-along-spot X numbers = refl
-along-spot Y numbers = refl
-along-spot Z numbers = refl

@@ -1,8 +1,7 @@
 -- What is found first along a list.
-use Rattle.std.proofs.Common.{◌≡◌, ℕ, zero, suc, ◌+◌, ◌<◌, ◌≤◌, List, [], ◌∷◌, ◌++◌, length, get_or, take, Option, Some, None, refl, sym, ap, ◌∙◌, inl, inr, arith}
+use Rattle.std.proofs.Common.{◌≡◌, ℕ, zero, suc, ◌+◌, ◌<◌, ◌≤◌, Option, Some, None, refl, sym, ap, ◌∙◌, inl, inr, arith}
 use Rattle.std.specs.Option.{option_or}
 use Rattle.std.specs.List.{range_with_len}
-use Rattle.std.proofs.lemmas.List.{take_more}
 use Rattle.std.proofs.lemmas.Bool.{cases_lt}
 use Rattle.pic_num.specs.First.{first_of}
 
@@ -22,25 +21,6 @@ left_none (Some a) p h = h
 pub right_none : {A : Type 0} (o p : Option A) → option_or o p ≡ None → p ≡ None
 right_none None p h = h
 right_none (Some a) p h = cc
-
--- along two lists in a row
-pub first_of-append : {X A : Type 0} (g : X → Option A) (xs ys : List X) → first_of g (xs ++ ys) ≡ option_or (first_of g xs) (first_of g ys)
-unfolding first_of
-first_of-append g [] ys = refl
-first_of-append g (x ∷ xs) ys = ap (option_or (g x)) (first_of-append g xs ys) ∙ sym (or_assoc (g x) (first_of g xs) (first_of g ys))
-
--- along a list with one element
-pub first_of-one : {X A : Type 0} (g : X → Option A) (x : X) → first_of g (x ∷ []) ≡ g x
-unfolding first_of
-first_of-one g x = or_none (g x)
-
--- a loop's step: one element more
-pub first_of_more : {X A : Type 0} (g : X → Option A) (xs : List X) (i : ℕ) (d : X) → i < length xs
-    → first_of g (take (i + 1) xs) ≡ option_or (first_of g (take i xs)) (g (get_or xs i d))
-first_of_more g xs i d below =
-    ap (first_of g) (take_more xs i d below)
-    ∙ first_of-append g (take i xs) (get_or xs i d ∷ [])
-    ∙ ap (option_or (first_of g (take i xs))) (first_of-one g (get_or xs i d))
 
 -- the same over the numbers from s on
 pub first_of_next : {A : Type 0} (g : ℕ → Option A) (s n : ℕ)

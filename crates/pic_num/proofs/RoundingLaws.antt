@@ -64,13 +64,6 @@ rounded-unique n d r h k =
     let up = rounded-below n d r (rounded n d) h is.above k.below in
     let down = rounded-below n d (rounded n d) r h k.above is.below in omega (arith, ints, up, down)
 
--- a larger number is rounded to no smaller one
-pub rounded-mono : (m n d : ℤ) → pos 0 <ℤ d → m ≤ℤ n → rounded m d ≤ℤ rounded n d
-rounded-mono m n d h k =
-    let of_m = rounded-is m d h in
-    let of_n = rounded-is n d h in
-    rounded-below n d (rounded m d) (rounded n d) h of_n.above (omega (arith, ints, of_m.below, k))
-
 pub rounded-at_most : (n d k : ℤ) → pos 0 <ℤ d → n ≤ℤ (k *ℤ d) → rounded n d ≤ℤ k
 rounded-at_most n d k h u =
     let is = rounded-is n d h in

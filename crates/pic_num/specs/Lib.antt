@@ -10,3 +10,4 @@ pub mod Flux
 pub mod Bytes
 pub mod Velocity
 pub mod Names
+pub mod NoParticle

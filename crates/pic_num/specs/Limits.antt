@@ -1,6 +1,6 @@
 -- The limits of the scheme: this project's profile. A deck and a dump of version 1 keep to the
 -- narrower ones whose names end in `_1`.
-use Rattle.std.specs.Prelude.{ℕ, ◌*◌, ◌^◌}
+use Rattle.std.specs.Prelude.{ℕ, ℤ, pos, negsuc, ◌-◌, ◌*◌, ◌^◌}
 
 -- a grid has 2 to 128 cells on an axis, so at most 2097152 in all
 abbrev pub fewest_cells_of_axis : ℕ
@@ -44,7 +44,28 @@ most_particles = 4194304
 abbrev pub most_particles_1 : ℕ
 most_particles_1 = 1048576
 
--- a species' charge is at most 2^15 in size, its mass 1 to 65536
+-- a run has at most 1000000 steps, and so many from one frame to the next
+abbrev pub most_steps : ℕ
+most_steps = 1000000
+
+-- a multiplier n / 2^k has an n of at most 2^31 - 1 in size, and a k of at most 62
+abbrev pub most_numerator : ℕ
+most_numerator = 2 ^ 31 - 1
+
+abbrev pub most_shift : ℕ
+most_shift = 62
+
+-- the name of a species has at most 32 bytes
+abbrev pub most_letters : ℕ
+most_letters = 32
+
+-- a species' charge is -2^15 to 2^15 - 1, its mass 1 to 65536
+abbrev pub least_charge : ℤ
+least_charge = negsuc 32767
+
+abbrev pub greatest_charge : ℤ
+greatest_charge = pos 32767
+
 abbrev pub most_charge : ℕ
 most_charge = 2 ^ 15
 
@@ -57,6 +78,10 @@ most_value = 2 ^ 90
 
 abbrev pub most_force : ℕ
 most_force = 2 ^ 44
+
+-- a multiple of a value is at most 2^121 in size, which leaves room to add some
+abbrev pub most_scaled : ℕ
+most_scaled = 2 ^ 121
 
 -- a velocity is in this part of a sub-cell per step
 abbrev pub velocity_unit : ℕ

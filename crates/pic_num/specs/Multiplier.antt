@@ -1,4 +1,5 @@
-use Rattle.std.specs.Prelude.{ℤ, ℕ, ◌-◌, ◌^◌, ◌≤◌}
+use Rattle.std.specs.Prelude.{ℤ, ℕ, ◌≤◌}
+use Rattle.pic_num.specs.Limits.{most_numerator, most_shift}
 use Rattle.pic_num.specs.Sizes.{IsAtMost}
 
 -- a multiplier stands for the fraction n / 2^k
@@ -8,5 +9,5 @@ pub record Multiplier : Type 0 where
 
 -- what the type of a multiplier keeps
 pub record IsMultiplier (m : Multiplier) : Type 0 where
-  pub n_in_range : IsAtMost m.n (2 ^ 31 - 1)
-  pub k_in_range : m.k ≤ 62
+  pub n_in_range : IsAtMost m.n most_numerator
+  pub k_in_range : m.k ≤ most_shift

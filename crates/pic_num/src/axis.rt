@@ -1,6 +1,6 @@
 //! The three axes, and three numbers by axis.
 
-ghost use Rattle.std.specs.Prelude.{◌≡◌, ◌^◌, ◌<◌, EachIndex, slice_index, slice_index_or};
+ghost use Rattle.std.specs.Prelude.{◌≡◌, ◌^◌, ◌<◌, EachIndex, slice_index};
 ghost use Rattle.pic_num.specs.Space.{triple, spot, axis_number, next_axis, unwrapped};
 
 /// One of the three axes, in the order x, y, z.
@@ -32,19 +32,6 @@ impl Axis {
             0 => Axis::X,
             1 => Axis::Y,
             _ => Axis::Z,
-        }
-    }
-
-    /// The one of three numbers by axis that stands on this axis.
-    #[inline(always)]
-    pub fn of<T: Copy>(self, numbers: [T; 3]) -> T
-        ensures { (d : T) → result ≡ slice_index_or numbers (axis_number self) d }
-    {
-        let [x, y, z] = numbers;
-        match self {
-            Axis::X => x,
-            Axis::Y => y,
-            Axis::Z => z,
         }
     }
 
@@ -84,7 +71,6 @@ mod tests {
             assert_eq!(rt; axis.number(), number);
             assert_eq!(rt; axis.next(), next);
             assert_eq!(rt; Axis::of_number(number), axis);
-            assert_eq!(rt; axis.of([0i32, 1, 2]), number as i32);
         }
     }
 

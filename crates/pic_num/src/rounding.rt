@@ -1,6 +1,7 @@
 //! Roundings: to the nearest, towards 0, and the residue of a position.
 
 ghost use Rattle.std.specs.Prelude.{◌≡◌, ℤ, pos, ℕ, ◌-◌, ◌*◌, ◌^◌, ◌<◌, ◌≤◌, ◌*ℤ◌, ◌<ℤ◌, unsigned_abs};
+ghost use Rattle.pic_num.specs.Limits.{most_value, most_scaled};
 ghost use Rattle.pic_num.specs.Sizes.{IsAtMost};
 ghost use Rattle.pic_num.specs.Rounding.{IsRounded, rounded, scaled, IsTruncated, truncated, IsResidue, residue};
 
@@ -26,11 +27,11 @@ pub fn rdiv(n: i128, d: i128) -> i128
 /// `v` times the multiplier `by`, rounded once to the nearest whole number, a half going up. `v` is
 /// at most 2^90 in size, and the result at most 2^121.
 pub fn scale(v: i128, by: Mult) -> i128
-    requires { IsAtMost v (2 ^ 90) }
+    requires { IsAtMost v most_value }
     ensures value { result ≡ scaled v by }
     ensures nearest { IsRounded (v *ℤ by.n) (pos (2 ^ by.k)) result }
     ensures only { (r : ℤ) → IsRounded (v *ℤ by.n) (pos (2 ^ by.k)) r → r ≡ result }
-    ensures size { IsAtMost result (2 ^ 121) }
+    ensures size { IsAtMost result most_scaled }
 {
     let n = i128::from(by.n());
     let k = by.k();

@@ -1,5 +1,5 @@
 -- Lists with the same elements in any order: what keeps them the same.
-use Rattle.std.proofs.Common.{◌≡◌, ℕ, suc, ◌+◌, ◌<◌, Bool, true, false, cond, List, [], ◌∷◌, ◌++◌, length, get_or, map, filter, sum_by, All, IsPermutation, refl, sym, ap, ◌∙◌, arith}
+use Rattle.std.proofs.Common.{◌≡◌, ℕ, ◌+◌, Bool, true, false, cond, List, [], ◌∷◌, ◌++◌, length, map, filter, sum_by, All, IsPermutation, refl, sym, ap, ◌∙◌, arith}
 use Rattle.std.proofs.lemmas.List.{nil_from_length}
 use Rattle.std.proofs.lemmas.List.Sums.{sum_by-cons, sum_by-append}
 use Rattle.std.proofs.lemmas.List.Elements.{All-head, All-tail}
@@ -67,17 +67,6 @@ same_sym xs ys s = record { sums = λ w. sym (s.sums w) }
 pub same_trans : {X : Type 0} (xs ys zs : List X) → Same xs ys → Same ys zs → Same xs zs
 same_trans xs ys zs s t = record { sums = λ w. s.sums w ∙ t.sums w }
 
--- each of two parts in another order
-pub same_append : {X : Type 0} (xs ys us vs : List X) → Same xs ys → Same us vs → Same (xs ++ us) (ys ++ vs)
-same_append xs ys us vs s t = record {
-  sums = λ w.
-      let a = s.sums w in
-      let b = t.sums w in
-      let one = sum_by-append w xs us in
-      let other = sum_by-append w ys vs in
-      omega arith;
-}
-
 -- two parts the other way round
 pub same_swap : {X : Type 0} (xs ys : List X) → Same (xs ++ ys) (ys ++ xs)
 same_swap xs ys = record {
@@ -96,17 +85,6 @@ same_rest x xs ys s = record {
   sums = λ w. let a = s.sums w in let one = sum_by-cons w x xs in let other = sum_by-cons w x ys in omega arith;
 }
 
--- an element from the middle to the front, as where a loop passes it from what is left to what is done
-pub same_to_front : {X : Type 0} (x : X) (xs ys : List X) → Same ((x ∷ xs) ++ ys) (xs ++ (x ∷ ys))
-same_to_front x xs ys = record {
-  sums = λ w.
-      let all = sum_by-cons w x (xs ++ ys) in
-      let both = sum_by-append w xs ys in
-      let other = sum_by-append w xs (x ∷ ys) in
-      let rest = sum_by-cons w x ys in
-      omega arith;
-}
-
 pub same_map : {A B : Type 0} (f : A → B) (xs ys : List A) → Same xs ys → Same (map f xs) (map f ys)
 same_map f xs ys s = record { sums = λ w. sum_by-map w f xs ∙ s.sums (λ x. w (f x)) ∙ sym (sum_by-map w f ys) }
 
@@ -114,26 +92,6 @@ pub same_filter : {X : Type 0} (p : X → Bool) (xs ys : List X) → Same xs ys 
 same_filter p xs ys s = record {
   sums = λ w. sum_by-filter w p xs ∙ s.sums (λ x. cond (p x) (w x) 0) ∙ sym (sum_by-filter w p ys);
 }
-
--- as many lists in a row, each in another order
-pub same_together : {X : Type 0} (xs ys : List (List X)) → length xs ≡ length ys
-    → ((t : ℕ) → t < length xs → Same (get_or xs t []) (get_or ys t [])) → Same (together xs) (together ys)
-same_together {X = X} xs ys long each = record {
-  sums = λ w. sum_by-together w xs ∙ sums w xs ys long (λ t below. (each t below).sums w) ∙ sym (sum_by-together w ys);
-}
-  where
-    sums : (w : X → ℕ) (us vs : List (List X)) → length us ≡ length vs
-        → ((t : ℕ) → t < length us → sum_by w (get_or us t []) ≡ sum_by w (get_or vs t []))
-        → sum_by (λ zs. sum_by w zs) us ≡ sum_by (λ zs. sum_by w zs) vs
-    sums w [] [] e at = refl
-    sums w [] (v ∷ vs) e at = absurd (omega (arith, e))
-    sums w (u ∷ us) [] e at = absurd (omega (arith, e))
-    sums w (u ∷ us) (v ∷ vs) e at =
-        let here : sum_by w u ≡ sum_by w v = at 0 (omega arith) in
-        let rest = sums w us vs (omega (arith, e)) (λ t below. at (suc t) (omega (arith, below))) in
-        let one = sum_by-cons (λ zs. sum_by w zs) u us in
-        let other = sum_by-cons (λ zs. sum_by w zs) v vs in
-        omega arith
 
 pub same_length : {X : Type 0} (xs ys : List X) → Same xs ys → length xs ≡ length ys
 same_length xs ys s = sym (sum_by-ones xs) ∙ s.sums (λ x. 1) ∙ sum_by-ones ys

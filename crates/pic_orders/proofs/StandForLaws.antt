@@ -1,31 +1,16 @@
 -- Particles shared out over owners: all chains together, and one particle more.
-use Rattle.std.proofs.Common.{◌≡◌, ℕ, suc, ◌+◌, ◌<◌, Bool, true, false, cond, nat_eq, nat_lt, nat_le, ◌&&◌, List, [], ◌∷◌, ◌++◌, length, get_or, filter, sum_by, All, flat_map, refl, sym, ap, ◌∙◌, subst, arith, append-nil, eq-eqb, ne_eqb}
-use Rattle.std.specs.List.{range_with_len}
-use Rattle.std.proofs.Math.Decide.{ℕ_discrete}
+use Rattle.std.proofs.Common.{◌≡◌, ℕ, suc, ◌+◌, ◌<◌, Bool, true, false, cond, nat_eq, nat_lt, nat_le, ◌&&◌, List, [], ◌∷◌, ◌++◌, length, get_or, filter, sum_by, All, refl, sym, ap, ◌∙◌, subst, arith, append-nil, eq-eqb, ne_eqb}
 use Rattle.std.proofs.lemmas.Bool.Decides.{nat_tests}
-use Rattle.std.proofs.lemmas.List.Elements.{All-nil, All-push, All-weaker, filter-append}
+use Rattle.std.proofs.lemmas.List.Elements.{All-weaker, filter-append}
 use Rattle.std.proofs.lemmas.List.Sums.{sum_by-cons}
 use Rattle.pic_num.specs.declared.motion.Particle.{Particle}
 use Rattle.pic_orders.specs.Same.{Same}
 use Rattle.pic_orders.specs.Totals.{together, total_below}
-use Rattle.pic_orders.specs.InOrder.{in_order, AreOrdered, IsCensus}
+use Rattle.pic_orders.specs.InOrder.{in_order, AreOrdered}
 use Rattle.pic_orders.specs.StandFor.{owned, StandFor}
-use Rattle.pic_orders.proofs.SameLaws.{sum_by-filter, sum_by-plus, sum_by_agree, sum_by-together, same_is, same_sym, same_trans, same_filter, same_cons, same_swap}
-use Rattle.pic_orders.proofs.DiscreteLaws.{particle_discrete, all_same}
-use Rattle.pic_orders.proofs.SumLaws.{total-sum_by, one_total, sum_by-flat_map}
-use Rattle.pic_orders.proofs.InOrderLaws.{in_order_is, same_census}
-
--- an owner's particles, of a list in another order
-pub same_owned : (own : Particle → ℕ) (t : ℕ) (xs ys : List Particle) → Same xs ys → Same (owned own t xs) (owned own t ys)
-unfolding owned
-same_owned own t xs ys s = same_filter (λ x. nat_eq (own x) t) xs ys s
-
--- a list in another order is shared out alike
-pub stands_same : (own : Particle → ℕ) (chains : List (List Particle)) (xs ys : List Particle) → Same xs ys → StandFor own chains xs → StandFor own chains ys
-stands_same own chains xs ys s stand = record {
-  owners = all_same particle_discrete (λ x. own x < length chains) xs ys s stand.owners;
-  each = λ t below. same_trans (get_or chains t []) (owned own t xs) (owned own t ys) (stand.each t below) (same_owned own t xs ys s);
-}
+use Rattle.pic_orders.proofs.SameLaws.{sum_by-filter, sum_by-plus, sum_by_agree, sum_by-together}
+use Rattle.pic_orders.proofs.SumLaws.{total-sum_by, one_total}
+use Rattle.pic_orders.proofs.InOrderLaws.{in_order_is}
 
 -- a particle whose owner is one of n from s on
 abbrev among : ℕ → ℕ → ℕ → Bool
@@ -90,19 +75,6 @@ pub stands_list : (own : Particle → ℕ) (chains : List (List Particle)) (xs :
     → StandFor own chains xs → AreOrdered xs → in_order (together chains) ≡ xs
 stands_list own chains xs stand o = in_order_is (together chains) xs (stands_together own chains xs stand) o
 
--- and the census holds of them
-pub stands_census : (own : Particle → ℕ) (chains : List (List Particle)) (xs : List Particle)
-    → StandFor own chains xs → IsCensus xs → IsCensus (together chains)
-stands_census own chains xs stand census = same_census xs (together chains) (same_sym (together chains) xs (stands_together own chains xs stand)) census
-
--- empty chains stand for no particle
-pub stands_none : (own : Particle → ℕ) (chains : List (List Particle)) → ((t : ℕ) → t < length chains → get_or chains t [] ≡ []) → StandFor own chains []
-unfolding owned
-stands_none own chains empty = record {
-  owners = All-nil (λ x. own x < length chains);
-  each = λ t below. same_is (get_or chains t []) [] (empty t below);
-}
-
 pub owned_own : (own : Particle → ℕ) (t : ℕ) (xs : List Particle) (x : Particle) → own x ≡ t → owned own t (xs ++ (x ∷ [])) ≡ owned own t xs ++ (x ∷ [])
 unfolding owned
 owned_own own t xs x is =
@@ -115,37 +87,6 @@ owned_other own t xs x apart =
     filter-append (λ y. nat_eq (own y) t) xs (x ∷ [])
     ∙ ap (λ (b : Bool). filter (λ y. nat_eq (own y) t) xs ++ cond b (x ∷ []) []) (ne_eqb (own x) t apart)
     ∙ append-nil (filter (λ y. nat_eq (own y) t) xs)
-
--- one chain has one particle more, and the others are as they were
-pub record OneMore (before after : List (List Particle)) (t : ℕ) (x : Particle) : Type 0 where
-  pub long : length after ≡ length before
-  pub there : t < length before
-  pub more : Same (get_or after t []) (x ∷ get_or before t [])
-  pub others : (s : ℕ) → s < length before → (s ≡ t → ⊥) → get_or after s [] ≡ get_or before s []
-
--- a loop's step: the next particle goes to its owner's chain
-pub stands_more : (own : Particle → ℕ) (before after : List (List Particle)) (xs : List Particle) (x : Particle)
-    → StandFor own before xs → OneMore before after (own x) x → StandFor own after (xs ++ (x ∷ []))
-stands_more own before after xs x stand one = record {
-  owners = subst (λ (n : ℕ). All (λ y. own y < n) (xs ++ (x ∷ []))) (sym one.long) (All-push (λ y. own y < length before) xs x stand.owners one.there);
-  each = λ t within.
-      let below : t < length before = subst (λ (n : ℕ). t < n) one.long within in
-      elim (ℕ_discrete (own x) t) [
-        | yes is ↦ (
-            let more : Same (get_or after t []) (x ∷ get_or before t []) = subst (λ (k : ℕ). Same (get_or after k []) (x ∷ get_or before k [])) is one.more in
-            let now : Same (x ∷ get_or before t []) (owned own t xs ++ (x ∷ [])) =
-            same_trans (x ∷ get_or before t []) (x ∷ owned own t xs) (owned own t xs ++ (x ∷ []))
-            (same_cons x (get_or before t []) (owned own t xs) (stand.each t below)) (same_swap (x ∷ []) (owned own t xs)) in
-            subst (λ (ys : List Particle). Same (get_or after t []) ys) (sym (owned_own own t xs x is))
-            (same_trans (get_or after t []) (x ∷ get_or before t []) (owned own t xs ++ (x ∷ [])) more now)
-            )
-        | no apart ↦ (
-            let still = one.others t below (λ e. apart (sym e)) in
-            subst (λ (ys : List Particle). Same (get_or after t []) ys) (sym (owned_other own t xs x apart))
-            (subst (λ (ys : List Particle). Same ys (owned own t xs)) (sym still) (stand.each t below))
-            )
-      ];
-}
 
 -- A particle goes a way out of n. One goes to a receiver where its owner is the sender by its way: so
 -- what each sender sends by each way is what goes to the receiver.
@@ -178,15 +119,3 @@ regroup_total n own way sender goes xs w all =
         (λ d below other. nothing (nat_eq (own x) (sender d)) (nat_eq (way x) d) (w x) (ne_eqb (way x) d (λ e. other (sym e))))
         ∙ ap (λ (b : Bool). cond (nat_eq (own x) (sender (way x))) (cond b (w x) 0) 0) (eq-eqb (way x) (way x) refl)
         ∙ ap (λ (b : Bool). cond b (w x) 0) (sym g.goes_is)
-
--- the same as lists
-pub regroup : (n : ℕ) (own way : Particle → ℕ) (sender : ℕ → ℕ) (goes : Particle → Bool) (xs : List Particle)
-    → All (Goes n own way sender goes) xs
-    → Same (flat_map (λ d. filter (λ x. nat_eq (way x) d) (owned own (sender d) xs)) (range_with_len 0 n)) (filter goes xs)
-regroup n own way sender goes xs all = record {
-  sums = λ w.
-      sum_by-flat_map w (λ d. filter (λ x. nat_eq (way x) d) (owned own (sender d) xs)) n
-      ∙ (λ i. total_below n (λ d. sum_by-filter w (λ x. nat_eq (way x) d) (owned own (sender d) xs) i))
-      ∙ regroup_total n own way sender goes xs w all
-      ∙ sym (sum_by-filter w goes xs);
-}

@@ -1,5 +1,5 @@
 -- What stops the push of particles in any order.
-use Rattle.std.proofs.Common.{◌≡◌, ℕ, ◌+◌, ◌<◌, ◌≤◌, Bool, true, false, cond, nat_lt, List, [], ◌∷◌, ◌++◌, length, get_or, take, filter, All, Option, None, Some, Result, Ok, Err, IsOk, refl, sym, ap, subst, arith, append-nil}
+use Rattle.std.proofs.Common.{◌≡◌, ℕ, ◌+◌, ◌<◌, ◌≤◌, Bool, true, false, cond, nat_lt, List, [], ◌∷◌, ◌++◌, filter, All, Option, None, Some, Result, Ok, Err, IsOk, refl, sym, ap, subst, arith}
 use Rattle.std.proofs.lemmas.Bool.{ltb-true, ltb-false}
 use Rattle.std.proofs.lemmas.List.Elements.{All-nil, All-cons, All-append, All-weaker, All-filter, All-contains, Contains-append_left, Contains-append_right}
 use Rattle.pic_num.specs.declared.motion.Particle.{Particle}
@@ -10,11 +10,9 @@ use Rattle.pic_grid.specs.PushPhase.{Surroundings, push_of, halt_of, push_stop}
 use Rattle.pic_grid.specs.LeastHalt.{IsLeastHalt}
 use Rattle.pic_grid.proofs.LeastHaltLaws.{least_halt}
 use Rattle.pic_orders.specs.Same.{Same}
-use Rattle.pic_orders.specs.Totals.{together}
 use Rattle.pic_orders.specs.InOrder.{AreOrdered}
-use Rattle.pic_orders.specs.StopOf.{IsStopOf, identity_of, lesser, StoppedSoFar, LeastStopInAnyOrder}
-use Rattle.pic_orders.proofs.SameLaws.{same_refl, same_is, same_sym, same_trans, same_to_front}
-use Rattle.pic_orders.proofs.SumLaws.{together_more}
+use Rattle.pic_orders.specs.StopOf.{IsStopOf, identity_of, lesser, LeastStopInAnyOrder}
+use Rattle.pic_orders.proofs.SameLaws.{same_sym}
 use Rattle.pic_orders.proofs.DiscreteLaws.{particle_discrete, contains_same, all_same}
 
 abbrev GoesOn : Surroundings → Particle → Type 0
@@ -130,13 +128,6 @@ quiet_part w ys part p stop o quiet s is =
     let all : All (GoesOn w) ys = (least_halt w ys o.identities).none.0 quiet in
     stop_quiet w part stop (all_same particle_discrete (GoesOn w) (filter p ys) part (same_sym part (filter p ys) s) (All-filter p (GoesOn w) ys all)) is
 
--- a loop's step over parts: one part more
-pub stop_together_more : (w : Surroundings) (parts : List (List Particle)) (i : ℕ) (a b : Option Stop) → i < length parts
-    → IsStopOf w (together (take i parts)) a → IsStopOf w (get_or parts i []) b → IsStopOf w (together (take (i + 1) parts)) (lesser a b)
-stop_together_more w parts i a b below so_far next =
-    subst (λ (xs : List Particle). IsStopOf w xs (lesser a b)) (sym (together_more parts i below))
-    (stop_append w (together (take i parts)) (get_or parts i []) a b so_far next)
-
 -- the stop of one particle
 pub stop_one : (w : Surroundings) (x : Particle) → IsStopOf w (x ∷ []) (halt_of x (push_of w x))
 unfolding halt_of
@@ -155,23 +146,3 @@ stop_one w x = at (push_of w x) refl
       named = refl;
       least = All-cons (NoLesser w x.id) x [] (λ below. absurd (omega (arith, below))) (All-nil (NoLesser w x.id));
     })
-
--- a loop over particles: nothing is done at the start
-pub stopped_none : (w : Surroundings) (start : List Particle) → StoppedSoFar w start start None
-stopped_none w start = record { done = []; all = same_refl start; stop_is = stop_none w [] (All-nil (GoesOn w)) }
-
--- its step: the next particle's stop against that so far
-pub stopped_more : (w : Surroundings) (start rest : List Particle) (x : Particle) (stop : Option Stop)
-    → StoppedSoFar w start (x ∷ rest) stop → StoppedSoFar w start rest (lesser (halt_of x (push_of w x)) stop)
-stopped_more w start rest x stop so_far = record {
-  done = x ∷ so_far.done;
-  all = same_trans ((x ∷ so_far.done) ++ rest) (so_far.done ++ (x ∷ rest)) start (same_to_front x so_far.done rest) so_far.all;
-  stop_is = stop_append w (x ∷ []) so_far.done (halt_of x (push_of w x)) stop (stop_one w x) so_far.stop_is;
-}
-
--- its end: nothing is left
-pub stopped_all : (w : Surroundings) (start : List Particle) (stop : Option Stop) → StoppedSoFar w start [] stop → IsStopOf w start stop
-stopped_all w start stop so_far =
-    stop_same w so_far.done start stop
-    (same_trans so_far.done (so_far.done ++ []) start (same_is so_far.done (so_far.done ++ []) (sym (append-nil so_far.done))) so_far.all)
-    so_far.stop_is

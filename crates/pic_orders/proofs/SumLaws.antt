@@ -9,7 +9,6 @@ use Rattle.std.proofs.lemmas.List.Concat.{flat_map-append}
 use Rattle.std.proofs.lemmas.List.Sums.{sum_by-cons, sum_by-append}
 use Rattle.pic_grid.specs.Sums.{sum_over, sum_below}
 use Rattle.pic_grid.proofs.SumLaws.{sum_same}
-use Rattle.pic_grid.proofs.OverLaws.{sum_over-append}
 use Rattle.pic_orders.specs.Same.{Same}
 use Rattle.pic_orders.specs.Totals.{total_below, together}
 
@@ -44,11 +43,6 @@ sum_over_any_order f xs ys s =
     let one = sum_over_is f xs in
     let other = sum_over_is f ys in
     omega (arith, ints)
-
-pub sum_over-together : {X : Type 0} (f : X → ℤ) (lists : List (List X)) → sum_over f (together lists) ≡ sum_over (λ xs. sum_over f xs) lists
-unfolding together sum_over
-sum_over-together f [] = refl
-sum_over-together f (xs ∷ lists) = sum_over-append f xs (together lists) ∙ ap (λ (t : ℤ). sum_over f xs +ℤ t) (sum_over-together f lists)
 
 pub together-append : {X : Type 0} (xss yss : List (List X)) → together (xss ++ yss) ≡ together xss ++ together yss
 unfolding together
@@ -140,12 +134,6 @@ one_total n k f below zeros =
     let changed = total_changed n k f (λ j. 0) below zeros in
     let none = total_none n in
     omega (arith, changed, none)
-
-pub one_sum : (n k : ℕ) (f : ℕ → ℤ) → k < n → ((j : ℕ) → j < n → (j ≡ k → ⊥) → f j ≡ pos 0) → sum_below n f ≡ f k
-one_sum n k f below zeros =
-    let changed = sum_changed n k f (λ j. pos 0) below zeros in
-    let none = sum_none n in
-    omega (arith, ints, changed, none)
 
 -- sums over a list and over numbers, the one inside the other
 pub total-sum_by : {X : Type 0} (n : ℕ) (f : ℕ → X → ℕ) (xs : List X)

@@ -1,5 +1,5 @@
 -- What stops the push phase, for particles in any order.
-use Rattle.std.specs.Prelude.{◌≡◌, ℕ, List, ◌++◌, nat_lt, if◌then◌else◌, Option, Some, None, IsOk}
+use Rattle.std.specs.Prelude.{◌≡◌, ℕ, List, nat_lt, if◌then◌else◌, Option, Some, None, IsOk}
 use Rattle.std.specs.List.{All}
 use Rattle.pic_num.specs.declared.motion.Particle.{Particle}
 use Rattle.pic_grid.specs.declared.stop.Stop.{Stop}
@@ -25,13 +25,6 @@ unfoldable pub lesser : Option Stop → Option Stop → Option Stop
 lesser None b = b
 lesser (Some a) None = Some a
 lesser (Some a) (Some b) = if nat_lt (identity_of b) (identity_of a) then Some b else Some a
-
--- while particles are pushed one after another: those done have this stop, and with the rest they are
--- those of the start
-pub record StoppedSoFar (w : Surroundings) (start rest : List Particle) (stop : Option Stop) : Type 0 where
-  pub done : List Particle
-  pub all : Same (done ++ rest) start
-  pub stop_is : IsStopOf w done stop
 
 -- the stop of a list in the order of identities is found from its particles in any order
 abbrev pub LeastStopInAnyOrder : Type 0

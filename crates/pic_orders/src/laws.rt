@@ -1,7 +1,7 @@
 //! Laws of particles in any order. Each is the contract of a function that does nothing.
 
 ghost use Rattle.pic_orders.specs.InOrder.{AnyOrderIsTheList, CensusIsPutInOrder, WrittenIsInOrder};
-ghost use Rattle.pic_orders.specs.InOrder.{CensusIsARearrangement};
+ghost use Rattle.pic_orders.specs.InOrder.{CensusIsARearrangement, SameIsARearrangement};
 ghost use Rattle.pic_orders.specs.StopOf.{LeastStopInAnyOrder};
 
 /// A list in the order of identities is found again from its particles in any order.
@@ -17,6 +17,11 @@ pub fn census_is_put_in_order()
 /// Particles of a census, each written at the place of its identity, make the list in order.
 pub fn written_is_in_order()
     ensures { WrittenIsInOrder }
+{}
+
+/// Two lists have the same particles in any order exactly where one is a rearrangement of the other.
+pub fn same_is_a_rearrangement()
+    ensures { SameIsARearrangement }
 {}
 
 /// The census says that the identities of n particles are a rearrangement of 0, 1, .., n - 1.

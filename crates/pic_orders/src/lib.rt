@@ -6,5 +6,5 @@ mod laws;
 
 pub use laws::{
     any_order_is_the_list, census_is_a_rearrangement, census_is_put_in_order,
-    least_stop_in_any_order, written_is_in_order,
+    least_stop_in_any_order, same_is_a_rearrangement, written_is_in_order,
 };

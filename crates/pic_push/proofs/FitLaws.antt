@@ -5,7 +5,7 @@ use Rattle.std.specs.Prelude.{All}
 use Rattle.pic_num.specs.Limits.{most_charge}
 use Rattle.pic_num.specs.declared.axis.Axis.{Axis}
 use Rattle.pic_num.specs.Sizes.{IsAtMost}
-use Rattle.pic_num.specs.Space.{Spot}
+use Rattle.pic_num.specs.Space.{Spot, AreAtMost}
 use Rattle.pic_grid.specs.Flux.{flux, path_flux}
 use Rattle.pic_grid.specs.Sums.{sum_over}
 use Rattle.pic_grid.proofs.OverLaws.{sum_over-one}
@@ -15,7 +15,7 @@ use Rattle.pic_grid.specs.Segment.{Piece, IsInCell, Leads, arrived, onward}
 use Rattle.pic_grid.specs.Traces.{IsFluxAtMost}
 use Rattle.pic_grid.proofs.FluxLaws.{front_flux_size}
 use Rattle.pic_grid.specs.Ways.{ways}
-use Rattle.pic_split.specs.Move.{IsMove, lone_piece}
+use Rattle.pic_split.specs.Move.{lone_piece}
 use Rattle.pic_split.proofs.LeadLaws.{move_along}
 use Rattle.pic_split.proofs.WayLaws.{path_ways}
 
@@ -34,7 +34,7 @@ charged_few side q most charge =
     omega (arith, whole)
 
 -- the flux of the first pieces of a path of a particle, whose charge is within the limits
-pub path_short : (side : ℕ) (p d : Spot) (q : ℤ) (ss : List Piece) → 0 < side → side ≤ 2 ^ 14 → ss ≡ path side p d → IsMove side d
+pub path_short : (side : ℕ) (p d : Spot) (q : ℤ) (ss : List Piece) → 0 < side → side ≤ 2 ^ 14 → ss ≡ path side p d → AreAtMost d side
     → IsAtMost q most_charge → (k : ℕ) → IsFluxAtMost (2 ^ 62) (path_flux side q (take k ss))
 path_short side p d q ss some most is move charge k =
     let short : (a : Axis) → ways a ss ≤ side =

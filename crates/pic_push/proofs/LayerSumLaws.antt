@@ -4,15 +4,16 @@ use Rattle.std.proofs.Math.IntN.{ℤ, pos, ◌+ℤ◌, ◌-ℤ◌}
 use Rattle.std.specs.Prelude.{◌≤ℤ◌, unsigned_abs}
 use Rattle.std.proofs.lemmas.Int.{ints}
 use Rattle.std.proofs.lemmas.List.Elements.{All-weaker}
+use Rattle.pic_grid.proofs.PartLaws.{low_end, high_end}
 use Rattle.pic_num.specs.declared.axis.Axis.{Axis}
 use Rattle.pic_num.specs.declared.axis.Axis.TheVariants.{X, Y, Z}
 use Rattle.pic_num.specs.declared.motion.Particle.{Particle}
 use Rattle.pic_num.specs.Push.{Shift, Halting, plus}
-use Rattle.pic_num.specs.Space.{Triple, Spot, triple, unwrapped, along}
+use Rattle.pic_num.specs.Space.{Triple, Spot, triple, unwrapped, along, AreAtMost}
 use Rattle.pic_grid.specs.Block.{outer_of}
 use Rattle.pic_grid.specs.Cells.{cell_of}
 use Rattle.pic_grid.specs.Current.{wrapped, flux_after, current}
-use Rattle.pic_grid.specs.Hat.{IsInBox}
+use Rattle.pic_grid.specs.Hat.{IsInBox, HasTwo}
 use Rattle.pic_grid.specs.Path.{floor_of, floor_cell}
 use Rattle.pic_grid.specs.PushPhase.{Surroundings, kind_of, push_of}
 use Rattle.pic_grid.specs.Traces.{trace_of, traces}
@@ -20,16 +21,15 @@ use Rattle.pic_grid.proofs.ApartLaws.{IsApart, path_apart}
 use Rattle.pic_grid.proofs.OverLaws.{sum_over_same}
 use Rattle.pic_grid.proofs.FloorLaws.{floor_is, floors_next}
 use Rattle.pic_grid.specs.Parts.{part_of}
-use Rattle.pic_split.specs.Move.{IsMove}
 use Rattle.pic_split.proofs.ImageLaws.{wrapped-zero}
 use Rattle.pic_split.proofs.LeadLaws.{path_leads}
 use Rattle.pic_tile.specs.Layers.{IsBeyondTile, StaysByTile, corner}
 use Rattle.pic_tile.specs.LayerSum.{LayersMakeTheCurrent}
 use Rattle.pic_tile.specs.Owners.{cell_at, tile_of}
-use Rattle.pic_tile.specs.Tiling.{Tiling, IsThick, cells_of}
+use Rattle.pic_tile.specs.Tiling.{Tiling, cells_of}
 use Rattle.pic_tile.proofs.AllTilesLaws.{IsByItsTile, all_tiles}
 use Rattle.pic_tile.proofs.OwnerLaws.{cell_within}
-use Rattle.pic_tile.proofs.TilingLaws.{low_end, high_end, owner_place, owner_below}
+use Rattle.pic_tile.proofs.TilingLaws.{owner_place, owner_below}
 use Rattle.pic_push.proofs.PushLaws.{push_move}
 
 -- On one axis: a path from a cell of a tile reaches at most one cell out of it.
@@ -61,7 +61,7 @@ end_apart side n p d j above some small beyond =
 
 -- it is 0 at an edge that on an axis is apart from the cells of a path's start and end
 trace_apart : (w : Surroundings) (x : Particle) (r : Result Shift Halting) (a b : Axis) (c : Spot) → push_of w x ≡ r → 0 < w.side
-    → ((d : Spot) → IsMove w.side d
+    → ((d : Spot) → AreAtMost d w.side
     → IsApart (along b (floor_cell w.side (unwrapped (triple x.x)))) (along b c)
     × IsApart (along b (floor_cell w.side (plus (unwrapped (triple x.x)) d))) (along b c))
     → trace_of w.side w.kinds x r a c ≡ pos 0
@@ -75,7 +75,7 @@ trace_apart w x (Ok s) a b c is some apart =
     (path_leads w.side from s.d some move)
 
 -- it stays by the particle's tile
-pub trace_stays : (w : Surroundings) (m : Tiling) (x : Particle) (a : Axis) → 0 < m.side → w.side ≡ m.side → IsThick m.size
+pub trace_stays : (w : Surroundings) (m : Tiling) (x : Particle) (a : Axis) → 0 < m.side → w.side ≡ m.side → HasTwo m.size
     → IsInBox m.side (cells_of m) (triple x.x) → StaysByTile m (tile_of m x) (trace_of w.side w.kinds x (push_of w x) a)
 trace_stays w m x a some same thick inside = record {
   x = λ c beyond.

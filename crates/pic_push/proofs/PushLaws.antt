@@ -12,13 +12,13 @@ use Rattle.pic_num.specs.First.{first_of}
 use Rattle.pic_num.proofs.FirstLaws.{left_none, right_none}
 use Rattle.pic_num.specs.Multiplier.{Multiplier}
 use Rattle.pic_num.specs.Push.{Shift, Halting, pushed, first_above, unless, plus}
-use Rattle.pic_num.specs.Space.{Triple, Spot, triple, along, unwrapped}
+use Rattle.pic_num.specs.Space.{Triple, Spot, triple, along, unwrapped, AreAtMost}
 use Rattle.pic_grid.specs.Hat.{HasTwo, IsInBox}
 use Rattle.pic_num.proofs.RoundingLaws.{residue-is}
 use Rattle.std.proofs.lemmas.Bool.Decides.{nat_tests}
 use Rattle.pic_grid.specs.PushPhase.{Surroundings, push_of, after_push, moved, moved_all}
 use Rattle.pic_grid.specs.PushPhase.{CanShare}
-use Rattle.pic_split.specs.Move.{IsMove, wrapped_point}
+use Rattle.pic_split.specs.Move.{wrapped_point}
 
 pub unless_ok : {A S : Type 0} (o : Option S) (a b : A) → unless o a ≡ Ok b → (o ≡ None) × (a ≡ b)
 unless_ok None a b h = (refl, cc)
@@ -39,16 +39,16 @@ none_above what most p none Y = not_above most (unsigned_abs p.y) (cond_none _ _
 none_above what most p none Z = not_above most (unsigned_abs p.z) (cond_none _ _ (left_none _ _ (right_none _ _ (right_none _ _ none))))
 
 -- a push that doesn't halt moves by at most a side
-pub pushed_move : (side : ℕ) (v e b : Spot) (kick turn : Multiplier) (s : Shift) → pushed side v e b kick turn ≡ Ok s → IsMove side s.d
+pub pushed_move : (side : ℕ) (v e b : Spot) (kick turn : Multiplier) (s : Shift) → pushed side v e b kick turn ≡ Ok s → AreAtMost s.d side
 unfolding pushed
 pushed_move side v e b kick turn s h =
     let both = unless_ok _ _ s h in
     let far = none_above Far side _ (right_none _ _ (right_none _ _ both.0)) in
-    subst (λ (t : Shift). IsMove side t.d) both.1
+    subst (λ (t : Shift). AreAtMost t.d side) both.1
     (record { x = record { size = far X }; y = record { size = far Y }; z = record { size = far Z } })
 
 -- the push of a particle that doesn't halt
-pub push_move : (w : Surroundings) (particle : Particle) (s : Shift) → push_of w particle ≡ Ok s → IsMove w.side s.d
+pub push_move : (w : Surroundings) (particle : Particle) (s : Shift) → push_of w particle ≡ Ok s → AreAtMost s.d w.side
 unfolding push_of
 push_move w particle s h = pushed_move w.side _ _ _ _ _ s h
 

@@ -11,9 +11,7 @@ use Rattle.pic_push.proofs.PushLaws.{push_move}
 
 -- a push that doesn't halt moves by at most a side
 most_moved : (w : Surroundings) (m : Tiling) (x : Particle) (s : Shift) → w.side ≡ m.side → push_of w x ≡ Ok s → AreAtMost s.d m.side
-most_moved w m x s side is =
-    let move = push_move w x s is in
-    subst (λ (n : ℕ). AreAtMost s.d n) side (record { x = move.x; y = move.y; z = move.z })
+most_moved w m x s side is = subst (λ (n : ℕ). AreAtMost s.d n) side (push_move w x s is)
 
 pub leads : WayLeads
 leads w m x side cells some thick inside = way_leads w m x side cells some thick inside (λ s is. most_moved w m x s side is)

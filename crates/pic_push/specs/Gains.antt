@@ -1,5 +1,5 @@
 -- What parcels gain of a flux.
-use Rattle.std.specs.Prelude.{◌≡◌, ℕ, ℤ, pos, ◌<◌, ◌^◌, Option, Some, None}
+use Rattle.std.specs.Prelude.{◌≡◌, ℕ, ℤ, pos, ◌<◌, Option, Some, None}
 use Rattle.pic_num.specs.declared.axis.Axis.{Axis}
 use Rattle.pic_num.specs.Space.{Spot}
 use Rattle.pic_grid.specs.Block.{BlockValues, IsShaped, InZone}
@@ -38,10 +38,6 @@ pub record Gains (f : Axis → Spot → ℤ) (old new : TileValue) : Type 0 wher
       → HasGained f p (parcel_at new d)
   pub none : (d : ℕ) → d < directions → parcel_at old d ≡ None → parcel_at new d ≡ None
   pub number_is : new.number ≡ old.number
-
--- what a block may have at an edge where the flux of a piece is added: more than a push can bring there
-abbrev pub most_in_block : ℕ
-most_in_block = 2 ^ 100
 
 -- no flux of f passes the edges of a block
 pub record IsClear (f : Axis → Spot → ℤ) (b : BlockValues) : Type 0 where

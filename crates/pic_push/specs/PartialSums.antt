@@ -6,12 +6,12 @@ use Rattle.pic_num.specs.Limits.{most_side, most_flux_of}
 use Rattle.pic_num.specs.Sizes.{IsAtMost}
 use Rattle.pic_num.specs.Space.{Triple, triple}
 use Rattle.pic_grid.specs.Cells.{IsWithin, count_of}
-use Rattle.pic_grid.specs.Hat.{IsInBox}
+use Rattle.pic_grid.specs.Hat.{IsInBox, HasTwo}
 use Rattle.pic_grid.specs.PushPhase.{Surroundings}
 use Rattle.pic_grid.specs.Species.{IsKind}
 use Rattle.pic_tile.specs.LayerSum.{AreSharedOut}
 use Rattle.pic_tile.specs.Receiving.{brought}
-use Rattle.pic_tile.specs.Tiling.{Tiling, IsThick, cells_of}
+use Rattle.pic_tile.specs.Tiling.{Tiling, cells_of}
 
 -- whichever directions are done first, the flux that has come to an edge is at most what so many
 -- particles can have at one: below 2^81 where there are 1048576 of them at most
@@ -24,7 +24,7 @@ SumsGrowByParticles =
     → w.side ≡ m.side
     → w.cells ≡ cells_of m
     → All IsKind w.kinds
-    → IsThick m.size
+    → HasTwo m.size
     → r < count_of m.tiles
     → IsWithin q m.size
     → AreSharedOut m start particles

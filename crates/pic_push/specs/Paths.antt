@@ -5,12 +5,11 @@ use Rattle.pic_num.specs.declared.axis.Axis.{Axis}
 use Rattle.pic_num.specs.declared.motion.Particle.{Particle}
 use Rattle.pic_num.specs.Push.{Shift, plus}
 use Rattle.pic_num.specs.Sizes.{IsAtMost}
-use Rattle.pic_num.specs.Space.{Triple, Spot, triple, spot, unwrapped}
+use Rattle.pic_num.specs.Space.{Triple, Spot, triple, spot, unwrapped, AreAtMost}
 use Rattle.pic_grid.specs.Flux.{path_flux}
 use Rattle.pic_grid.specs.Hat.{IsInBox}
 use Rattle.pic_grid.specs.Path.{floor_cell, path}
 use Rattle.pic_grid.specs.PushPhase.{Surroundings, kind_of}
-use Rattle.pic_split.specs.Move.{IsMove}
 use Rattle.pic_push.specs.declared.paths.Path.{Path}
 
 -- as many cells on each axis as there may be
@@ -21,7 +20,7 @@ largest_grid = record { x = most_cells_of_axis; y = most_cells_of_axis; z = most
 -- is within the limits
 pub record IsPath (p : Path) : Type 0 where
   pub from : IsInBox p.sub largest_grid (triple p.from)
-  pub by : IsMove p.sub (spot p.by)
+  pub by : AreAtMost (spot p.by) p.sub
   pub charge : IsAtMost p.charge most_charge
 
 -- the flux that it carries through the edges

@@ -8,7 +8,7 @@ use Rattle.pic_num.specs.Space.{Triple, Spot, next_axis}
 use Rattle.pic_grid.specs.Block.{BlockValues, AllAtMost}
 use Rattle.pic_flux.specs.declared.cell_flux.CellFlux.{CellFlux}
 use Rattle.pic_flux.specs.declared.edges.Layers.{Layers}
-use Rattle.pic_flux.specs.CellFlux.{edge_flux, flux_cell, IsModest, AreLayers}
+use Rattle.pic_flux.specs.CellFlux.{edge_flux, flux_cell, IsModest, AreLayers, most_before_flux}
 use Rattle.pic_tile.specs.declared.parcel.Parcel.{Parcel}
 use Rattle.pic_tile.specs.Directions.{directions, here, steps_of}
 use Rattle.pic_tile.specs.Leaving.{direction_by}
@@ -16,7 +16,7 @@ use Rattle.pic_tile.specs.Tile.{TileValue, parcel_at}
 use Rattle.pic_push.specs.declared.region.Region.{Region}
 use Rattle.pic_push.specs.declared.region.Region.TheVariants.{Inside, FaceX, FaceY, FaceZ, EdgeX, EdgeY, EdgeZ, Elsewhere}
 use Rattle.pic_push.specs.declared.reach.Reach.{Reach}
-use Rattle.pic_push.specs.Gains.{IsClear, most_in_block}
+use Rattle.pic_push.specs.Gains.{IsClear}
 use Rattle.pic_push.specs.Reach.{reaches, IsReachOf}
 use Rattle.pic_push.specs.Sends.{IsOpenTo, most_sent}
 
@@ -109,7 +109,7 @@ pub record CanGain (last up : ℕ) (f : CellFlux) (b : BlockValues) : Type 0 whe
   pub last_few : last < directions
   pub up_few : up < directions
   pub modest : IsModest f
-  pub room : AllAtMost most_in_block b
+  pub room : AllAtMost most_before_flux b
   pub layers : AreLayers b.low b.size (flux_cell f) (layers_at last up)
 
 -- a flux can be added to a tile's parcels, of which the own one is held apart: there is room, and

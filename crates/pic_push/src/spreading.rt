@@ -4,11 +4,11 @@ ghost use Rattle.std.specs.Prelude.{◌≡◌, ℕ, ◌<◌, false};
 ghost use Rattle.pic_num.specs.Space.{spot};
 ghost use Rattle.pic_grid.specs.Block.{IsShaped, AllAtMost};
 ghost use Rattle.pic_flux.specs.Adds.{Adds};
-ghost use Rattle.pic_flux.specs.CellFlux.{edge_flux, flux_cell, IsModest};
+ghost use Rattle.pic_flux.specs.CellFlux.{edge_flux, flux_cell, IsModest, most_before_flux};
 ghost use Rattle.pic_tile.specs.declared.parcel.Parcel.{Parcel};
 ghost use Rattle.pic_tile.specs.Directions.{directions, here};
 ghost use Rattle.pic_tile.specs.Tile.{parcel_at};
-ghost use Rattle.pic_push.specs.Gains.{Gained, GainsAt, Gains, IsClear, most_in_block};
+ghost use Rattle.pic_push.specs.Gains.{Gained, GainsAt, Gains, IsClear};
 ghost use Rattle.pic_push.specs.Region.{IsUp, AreUps, IsLastOn, CanGain, CanGainAll};
 ghost use Rattle.pic_push.specs.Reach.{IsReach, reaches};
 
@@ -21,7 +21,7 @@ use pic_tile::{Dir, Parcel, Tile};
 /// Adds the flux of a piece to a tile's parcel of a direction, if it is there.
 fn add_to(flux: &CellFlux, dir: Dir, tile: &mut Tile)
     requires modest { IsModest flux.now }
-    requires room { (p : Parcel) → parcel_at tile.old dir ≡ Some p → AllAtMost most_in_block p.flux }
+    requires room { (p : Parcel) → parcel_at tile.old dir ≡ Some p → AllAtMost most_before_flux p.flux }
     ensures { GainsAt (edge_flux flux.now) dir tile.old tile.new }
 {
     tile.change_flux(dir, |to| flux.add_to(to));
@@ -93,7 +93,7 @@ fn add_outside(flux: &CellFlux, number: u32, tile: &mut Tile)
     requires number { number < directions }
     requires modest { IsModest flux.now }
     requires apart { parcel_at tile.old here ≡ None }
-    requires room { (p : Parcel) → parcel_at tile.old number ≡ Some p → AllAtMost most_in_block p.flux }
+    requires room { (p : Parcel) → parcel_at tile.old number ≡ Some p → AllAtMost most_before_flux p.flux }
     ensures { GainsAt (edge_flux flux.now) number tile.old tile.new }
 {
     if number == Dir::HERE.number() {
@@ -109,7 +109,7 @@ pub(crate) fn spread(flux: &CellFlux, reach: &Reach, tile: &mut Tile)
     requires reach { IsReach reach.now }
     requires apart { parcel_at tile.old here ≡ None }
     requires room { (d : ℕ) (p : Parcel) → d < directions → parcel_at tile.old d ≡ Some p
-        → AllAtMost most_in_block p.flux }
+        → AllAtMost most_before_flux p.flux }
     requires clear { (d : ℕ) (p : Parcel) → d < directions → reaches reach.now d ≡ false
         → parcel_at tile.old d ≡ Some p → IsClear (edge_flux flux.now) p.flux }
     ensures { Gains (edge_flux flux.now) tile.old tile.new }

@@ -12,9 +12,11 @@ use Rattle.pic_reader.specs.FrameFields.{IsPlaced}
 use Rattle.pic_reader.specs.Layout.{LayoutView}
 
 -- so many elements, of so many bytes each, were read behind the first ones, which stay
-pub record ReadsPart {A B : Type 0} (f : List A → Parser A) (bytes first count place : ℕ) (before now : Told) (old new : List A) (result : Result B ReadStop) : Type
-    0 where
-  pub reads : Reads (always (drop first (take (first + count) new))) (each_behind (take first old) count f) place (place + bytes * count) before now result
+pub record ReadsPart {A B : Type 0} (f : List A → Parser A) (bytes first count place : ℕ)
+    (before now : Told) (old new : List A) (result : Result B ReadStop) : Type 0 where
+  pub reads :
+      Reads (always (drop first (take (first + count) new))) (each_behind (take first old) count f)
+      place (place + bytes * count) before now result
   pub whole : length new ≡ length old
   pub front : take first new ≡ take first old
 

@@ -29,7 +29,7 @@ use Rattle.pic_run.specs.Opened.{Opens, Tests}
 use Rattle.pic_run.specs.Outcome.{Outcome, check_outcome, run_outcome, demo_outcome, on_deck, opened, tested, demonstrated, verdict_outcome, outcome}
 use Rattle.pic_run.specs.Reading.{deck_limit, Gave, TakesAtMost}
 use Rattle.pic_run.specs.Starting.{first_state}
-use Rattle.pic_run.specs.Ends.{Finishes, Announces, EndsStopped, Reads, ReadsDeck, ReadsDump, Takes, IsIdle, OnDeck, OnDump, Demonstrates, Performs}
+use Rattle.pic_run.specs.Ends.{Finishes, Announces, EndsStopped, CommandReads, ReadsDeck, ReadsDump, CommandTakes, IsIdle, OnDeck, OnDump, Demonstrates, Performs}
 use Rattle.pic_run.specs.Ends.{TakesOfDump}
 use Rattle.pic_run.proofs.OpenedLaws.{gave_known}
 
@@ -178,7 +178,7 @@ starved_words words source before = record {
       sound = λ whole. absurd (whole refl);
     }
 
-    none_read : (c : Option Command) → Reads c (Some (unwrap_or source.bytes [])) source source (Err cut.NoMemory)
+    none_read : (c : Option Command) → CommandReads c (Some (unwrap_or source.bytes [])) source source (Err cut.NoMemory)
     none_read None = refl
     none_read (Some Check) = reads_deck
     none_read (Some (Run workers)) = reads_deck
@@ -298,7 +298,7 @@ dump_stopped source source' before now finish verify_stop.NoMemory is taken move
 
 -- how a command read its source says what it took
 pub takes : (c : Option Command) (input : Option (List ℕ)) (source source' : Told) (finish : Result Ended Cut)
-    → Reads c input source source' finish → Takes c source source'
+    → CommandReads c input source source' finish → CommandTakes c source source'
 takes None input source source' finish reads = reads
 takes (Some Check) input source source' finish reads = reads.taken
 takes (Some (Run workers)) input source source' finish reads = reads.taken
@@ -306,7 +306,7 @@ takes (Some Verify) input source source' finish reads = reads.taken
 takes (Some (Demo seed workers)) input source source' finish reads = reads.same
 
 pub idles : (c : Option Command) (input : Option (List ℕ)) (source source' : Told) (finish : Result Ended Cut)
-    → Reads c input source source' finish → IsIdle c → source' ≡ source
+    → CommandReads c input source source' finish → IsIdle c → source' ≡ source
 idles None input source source' finish reads idle = reads
 idles (Some Check) input source source' finish reads idle = absurd idle
 idles (Some (Run workers)) input source source' finish reads idle = absurd idle

@@ -39,10 +39,10 @@ use Rattle.pic_run.specs.Early.{Staged, ◌>>=◌, ended_early}
 use Rattle.pic_run.specs.Ended.{ended_of}
 use Rattle.pic_run.specs.Frames.{end_where, end_of_run}
 use Rattle.pic_run.specs.Reading.{deck_limit, Gave}
-use Rattle.pic_run.specs.Starting.{first_state, break_of}
-use Rattle.pic_run.specs.Outcome.{Outcome, pieces_of, answer_of, outcome, command_outcome, unless_refused, unless_broken, accepted, tested, opened}
+use Rattle.pic_run.specs.Starting.{first_state, state_break}
+use Rattle.pic_run.specs.Outcome.{Outcome, pieces_of, answer_of, outcome, command_outcome, unless_refused, unless_gauss_fails, accepted, tested, opened}
 use Rattle.pic_run.specs.Outcome.{demonstrated, verdict_on, verdict_outcome, on_deck, check_outcome, run_outcome, demo_outcome}
-use Rattle.pic_run.specs.Ends.{Fulfils, HasFrames, Finishes, Reads, ReadsDeck, ReadsDump, Performs, Ends, IsComplete, Held, HasDeck, IsRun, IsOnDeck, workers_of}
+use Rattle.pic_run.specs.Ends.{Fulfils, HasFrames, Finishes, CommandReads, ReadsDeck, ReadsDump, Performs, Ends, IsComplete, Held, HasDeck, IsRun, IsOnDeck, workers_of}
 use Rattle.pic_run.specs.Ends.{IsRefused, BreaksGauss, IsChecked, IsVerified, IsDone, IsStopped, IsBadDump, IsBroken, HasRun, IsStarved}
 use Rattle.pic_run.proofs.StateLaws.{each_gauss, stops_by_stop}
 use Rattle.pic_run.proofs.StartLaws.{gauss_of}
@@ -64,12 +64,12 @@ Means words source source' before now (Broken frame b) = IsBroken words source f
 
 -- where the value of the stages of a deck comes from
 abbrev IsFrom : Option (List ℕ) → Staged DeckView → Type 0
-IsFrom input (Ok d) = (held : List ℕ) × (input ≡ Some held) × (walk (take deck_limit held) ≡ Ok d) × (break_of (first_state d) ≡ None)
+IsFrom input (Ok d) = (held : List ℕ) × (input ≡ Some held) × (walk (take deck_limit held) ≡ Ok d) × (state_break (first_state d) ≡ None)
 IsFrom input (Err early.Usage) = ⊥
 IsFrom input (Err early.ReadFault) = input ≡ None
 IsFrom input (Err (early.Refused refusal)) = (held : List ℕ) × (input ≡ Some held) × (walk (take deck_limit held) ≡ Err refusal)
 IsFrom input (Err (early.Gauss b)) =
-    (held : List ℕ) × (d : DeckView) × (input ≡ Some held) × (walk (take deck_limit held) ≡ Ok d) × (break_of (first_state d) ≡ Some b)
+    (held : List ℕ) × (d : DeckView) × (input ≡ Some held) × (walk (take deck_limit held) ≡ Ok d) × (state_break (first_state d) ≡ Some b)
 IsFrom input (Err (early.BadDump place cause)) = ⊥
 IsFrom input (Err (early.Broken frame b)) = ⊥
 
@@ -77,15 +77,15 @@ from : (input : Option (List ℕ)) → IsFrom input (opened input)
 from None = refl
 from (Some held) = go (walk (take deck_limit held)) refl
   where
-    test : (d : DeckView) → walk (take deck_limit held) ≡ Ok d → (b : Option Break) → break_of (first_state d) ≡ b
-        → IsFrom (Some held) (unless_broken d b)
+    test : (d : DeckView) → walk (take deck_limit held) ≡ Ok d → (b : Option Break) → state_break (first_state d) ≡ b
+        → IsFrom (Some held) (unless_gauss_fails d b)
     test d walked None is = (held, refl, walked, is)
     test d walked (Some b) is = (held, d, refl, walked, is)
 
     go : (w : ReadDeck) → walk (take deck_limit held) ≡ w
         → IsFrom (Some held) (unless_refused w >>= tested)
     go (Err refusal) walked = (held, refl, walked)
-    go (Ok d) walked = test d walked (break_of (first_state d)) refl
+    go (Ok d) walked = test d walked (state_break (first_state d)) refl
 
 -- what holds for the held bytes holds for those that the source tells
 told_held : (P : List ℕ → Type 0) (bytes : Option (List ℕ)) (held : List ℕ) → IfSome bytes (λ h. h ≡ held) → P held → IfSome bytes P
@@ -98,9 +98,9 @@ gave_held source source' None held gave is = cc
 gave_held source source' (Some h) held gave is =
     let same : h ≡ held = cc in subst (λ (x : List ℕ). IfSome source.bytes (λ b. b ≡ x)) same gave.1
 
-least_of : (w : World) (b : Break) → break_of w ≡ Some b
+least_of : (w : World) (b : Break) → state_break w ≡ Some b
     → IsLeastBreak w.cells (div_e w.cells (value_at w.e)) (charge_of w.side w.cells w.kinds w.particles) b
-unfolding break_of
+unfolding state_break
 least_of w b found = first_break_some w.cells (div_e w.cells (value_at w.e)) (charge_of w.side w.cells w.kinds w.particles) b found
 
 accepted_in : (input : Option (List ℕ)) (held : List ℕ) (d : DeckView) → input ≡ Some held → walk (take deck_limit held) ≡ Ok d → accepted input ≡ Ok d
@@ -191,14 +191,14 @@ IsTestOf d (Ok other) = other ≡ d
 IsTestOf d (Err early.Usage) = ⊥
 IsTestOf d (Err early.ReadFault) = ⊥
 IsTestOf d (Err (early.Refused refusal)) = ⊥
-IsTestOf d (Err (early.Gauss b)) = break_of (first_state d) ≡ Some b
+IsTestOf d (Err (early.Gauss b)) = state_break (first_state d) ≡ Some b
 IsTestOf d (Err (early.BadDump place cause)) = ⊥
 IsTestOf d (Err (early.Broken frame b)) = ⊥
 
 test_of : (d : DeckView) → IsTestOf d (tested d)
-test_of d = go (break_of (first_state d)) refl
+test_of d = go (state_break (first_state d)) refl
   where
-    go : (found : Option Break) → break_of (first_state d) ≡ found → IsTestOf d (unless_broken d found)
+    go : (found : Option Break) → state_break (first_state d) ≡ found → IsTestOf d (unless_gauss_fails d found)
     go None is = refl
     go (Some b) is = is
 
@@ -276,7 +276,7 @@ means_answer words source source' before now answer p = go (command_of words) re
       whole = whole;
     }
 
-    go : (c : Option Command) → command_of words ≡ c → Reads c p.input source source' (Ok answer)
+    go : (c : Option Command) → command_of words ≡ c → CommandReads c p.input source source' (Ok answer)
         → Fulfils (command_outcome c p.input) before now answer
         → Means words source source' before now (command_outcome c p.input).answer
     go None named reads ends = named
@@ -304,7 +304,7 @@ starved words source source' before now p = record {
   left = elim p.finishes [ inl none ↦ inl none | inr has ↦ inr (go (command_of words) refl has) ];
 }
   where
-    unfailed : (c : Option Command) → Reads c p.input source source' (Err cut.NoMemory) → Calm source source'
+    unfailed : (c : Option Command) → CommandReads c p.input source source' (Err cut.NoMemory) → Calm source source'
     unfailed None reads = ap (λ (t : Told). t.faults) reads
     unfailed (Some Check) reads = reads.calm refl
     unfailed (Some (Run workers)) reads = reads.calm refl

@@ -19,13 +19,13 @@ use Rattle.pic_run.specs.declared.early.Early.TheVariants.{Gauss, Refused}
 use Rattle.pic_run.specs.declared.early.StageStop.{StageStop}
 use Rattle.pic_run.specs.declared.early.StageStop.TheVariants.{Answer, NoMemory}
 use Rattle.pic_run.specs.declared.opened.Opened.{Opened}
-use Rattle.pic_run.specs.declared.reading.ReadStop.{ReadStop}
-use Rattle.pic_run.specs.declared.reading.ReadStop.TheVariants as read_stop
+use Rattle.pic_run.specs.declared.reading.SourceStop.{SourceStop}
+use Rattle.pic_run.specs.declared.reading.SourceStop.TheVariants as source_stop
 use Rattle.pic_run.specs.Early.{Staged, ◌>>=◌, stop_of_reading, stop_of_deck}
 use Rattle.pic_run.specs.Opened.{IsTested, Tests, Opens}
-use Rattle.pic_run.specs.Outcome.{accepted, tested, opened, unless_refused, unless_broken}
+use Rattle.pic_run.specs.Outcome.{accepted, tested, opened, unless_refused, unless_gauss_fails}
 use Rattle.pic_run.specs.Reading.{deck_limit, Gave, ReadsAll, TookAll}
-use Rattle.pic_run.specs.Starting.{first_state, break_of}
+use Rattle.pic_run.specs.Starting.{first_state, state_break}
 
 pub gave_known : (a b : Told) → Calm a b → Gave a b (Some (unwrap_or a.bytes []))
 gave_known a b calm = (calm, known a.bytes)
@@ -49,9 +49,9 @@ all_taken a b limit bytes held is took same short =
     took.end (omega (arith, size, short, is))
 
 -- a read that failed, or memory that was wanting while the source was read
-pub unread : (stop : ReadStop) (a b : Told) (limit : ℕ) → ReadsAll a b limit (Err stop) → Opens a b (Err (stop_of_reading stop))
-unread read_stop.Fault a b limit rose = record { input = None; gave = rose; opens = record { early = refl; end = λ d e. cc; short = λ held same. cc } }
-unread read_stop.NoMemory a b limit calm = record { input = Some (unwrap_or a.bytes []); gave = gave_known a b calm; opens = refl }
+pub unread : (stop : SourceStop) (a b : Told) (limit : ℕ) → ReadsAll a b limit (Err stop) → Opens a b (Err (stop_of_reading stop))
+unread source_stop.Fault a b limit rose = record { input = None; gave = rose; opens = record { early = refl; end = λ d e. cc; short = λ held same. cc } }
+unread source_stop.NoMemory a b limit calm = record { input = Some (unwrap_or a.bytes []); gave = gave_known a b calm; opens = refl }
 
 -- memory that was wanting later
 pub starved : (a b : Told) (limit : ℕ) (bytes : List ℕ) → TookAll a b limit bytes → Opens a b (Err NoMemory)
@@ -67,8 +67,8 @@ accepted_as : (held : List ℕ) (w : ReadDeck) → walk (take deck_limit held) �
 accepted_as held w e = ap unless_refused e
 
 opened_as : (held : List ℕ) (w : ReadDeck) → walk (take deck_limit held) ≡ w
-    → opened (Some held) ≡ unless_refused w >>= (λ d. unless_broken d (break_of (first_state d)))
-opened_as held w e = ap (λ (s : Staged DeckView). s >>= (λ d. unless_broken d (break_of (first_state d)))) (accepted_as held w e)
+    → opened (Some held) ≡ unless_refused w >>= (λ d. unless_gauss_fails d (state_break (first_state d)))
+opened_as held w e = ap (λ (s : Staged DeckView). s >>= (λ d. unless_gauss_fails d (state_break (first_state d)))) (accepted_as held w e)
 
 -- a text that is no accepted deck
 pub refused : (fault : DeckFault) (a b : Told) (limit : ℕ) (bytes : List ℕ) → limit ≡ deck_limit → TookAll a b limit bytes
@@ -113,13 +113,13 @@ read_and_tested a b limit bytes d (Err NoMemory) is took walks tests = starved a
 
 -- a deck that can be run, and one that doesn't meet Gauss's law
 pub ready : (o : Opened) → begun o.start ≡ first_state o.deck → IsSound (begun o.start) → AreTiled o.start.map o.start.e o.start.b
-    → break_of (begun o.start) ≡ None → IsTested o.deck o
+    → state_break (begun o.start) ≡ None → IsTested o.deck o
 ready o start sound tiled none = record {
-  deck = ap (unless_broken o.deck) (ap break_of (sym start) ∙ none);
+  deck = ap (unless_gauss_fails o.deck) (ap state_break (sym start) ∙ none);
   start = start;
   sound = sound;
   tiled = tiled;
 }
 
-pub broken : (d : DeckView) (w : World) (at : Break) → w ≡ first_state d → break_of w ≡ Some at → tested d ≡ Err (Gauss at)
-broken d w at start found = ap (unless_broken d) (ap break_of (sym start) ∙ found)
+pub broken : (d : DeckView) (w : World) (at : Break) → w ≡ first_state d → state_break w ≡ Some at → tested d ≡ Err (Gauss at)
+broken d w at start found = ap (unless_gauss_fails d) (ap state_break (sym start) ∙ found)

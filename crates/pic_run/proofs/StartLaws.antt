@@ -37,11 +37,11 @@ use Rattle.pic_step.specs.Sound.{IsSafe, IsSound}
 use Rattle.pic_step.specs.SerialRun.{kinds_of, start_of}
 use Rattle.pic_run.specs.Frames.{energies_in}
 use Rattle.pic_run.specs.Rooms.{HasRoom, IsFilled}
-use Rattle.pic_run.specs.Starting.{break_of, IsGauss}
+use Rattle.pic_run.specs.Starting.{state_break, IsGauss}
 
 -- no break is Gauss's law
-pub gauss_of : (w : World) → break_of w ≡ None → IsGauss w
-unfolding break_of
+pub gauss_of : (w : World) → state_break w ≡ None → IsGauss w
+unfolding state_break
 gauss_of w none = meets_gauss w.side w.cells w.kinds w.particles w.e (charge_of w.side w.cells w.kinds w.particles) (λ p within. refl) none
 
 -- a mild field is safe
@@ -96,7 +96,7 @@ speeds_are d particles side loaded i x below =
 
 -- the first state of a run
 pub sound_start : (d : DeckView) (particles : List Particle) → IsWithinLimits d → AreLoaded d particles
-    → break_of (start_of d particles) ≡ None → IsSound (start_of d particles)
+    → state_break (start_of d particles) ≡ None → IsSound (start_of d particles)
 sound_start d particles limits loaded none = record {
   side_least = let side = limits.settings.side in omega (arith, side);
   side_most = let side = limits.settings.side in omega (arith, side);

@@ -11,8 +11,8 @@ use Rattle.pic_run.specs.declared.early.StageStop.{StageStop}
 use Rattle.pic_run.specs.declared.early.StageStop.TheVariants as stage_stop
 use Rattle.pic_run.specs.declared.ended.Ended.{Ended}
 use Rattle.pic_run.specs.declared.ended.Ended.TheVariants.{Usage, Refused, Gauss, ReadFault, BadDump, Broken}
-use Rattle.pic_run.specs.declared.reading.ReadStop.{ReadStop}
-use Rattle.pic_run.specs.declared.reading.ReadStop.TheVariants as read_stop
+use Rattle.pic_run.specs.declared.reading.SourceStop.{SourceStop}
+use Rattle.pic_run.specs.declared.reading.SourceStop.TheVariants as source_stop
 use Rattle.pic_run.specs.Lines.{gauss_line, usage_line, read_fault_line, refused_line, bad_dump_line, broken_line}
 
 -- what a stage gives
@@ -44,9 +44,9 @@ early_line (early.BadDump place cause) = bad_dump_line place cause
 early_line (early.Broken frame b) = broken_line frame b
 
 -- what stops the stage of reading
-abbrev pub stop_of_reading : ReadStop → StageStop
-stop_of_reading read_stop.Fault = stage_stop.Answer early.ReadFault
-stop_of_reading read_stop.NoMemory = stage_stop.NoMemory
+abbrev pub stop_of_reading : SourceStop → StageStop
+stop_of_reading source_stop.Fault = stage_stop.Answer early.ReadFault
+stop_of_reading source_stop.NoMemory = stage_stop.NoMemory
 
 -- what stops the stage of the deck
 abbrev pub stop_of_deck : DeckFault → StageStop

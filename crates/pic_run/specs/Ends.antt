@@ -55,8 +55,8 @@ pub record HasFrames (workers : ℕ) (answer : Ended) (head : List ℕ) (frames 
   pub wrote : Wrote before now (head ++ outs (take number frames)) (lines (take number frames))
 
 -- nothing on both sinks, or so much: memory is wanted before the head, or by a step
-abbrev pub Starves : ℕ → Outcome → Sinks → Sinks → Type 0
-Starves workers o before now =
+abbrev pub LeavesWhole : ℕ → Outcome → Sinks → Sinks → Type 0
+LeavesWhole workers o before now =
     Wrote before now [] [] ⊎ HasFrames workers o.answer o.head o.frames before now
 
 -- A call on so many workers comes to the outcome's answer, with its texts, or it is cut off: after
@@ -65,7 +65,7 @@ Starves workers o before now =
 abbrev pub Finishes : ℕ → Outcome → Sinks → Sinks → Result Ended Cut → Type 0
 Finishes workers o before now (Ok answer) = Fulfils o before now answer
 Finishes workers o before now (Err (cut.Write side)) = CutAt side before now (pieces_of o)
-Finishes workers o before now (Err cut.NoMemory) = Starves workers o before now
+Finishes workers o before now (Err cut.NoMemory) = LeavesWhole workers o before now
 
 -- the same of a call that wants no memory any more
 abbrev pub Announces : Outcome → Sinks → Sinks → Result Ended Cut → Type 0
@@ -141,12 +141,12 @@ pub record ReadsDump (source source' : Told) (finish : Result Ended Cut) : Type 
   pub fault : finish ≡ Ok ReadFault → Rose source source'
 
 -- how each command reads its source; words that are no command take nothing from it
-abbrev pub Reads : Option Command → Option (List ℕ) → Told → Told → Result Ended Cut → Type 0
-Reads None input source source' finish = source' ≡ source
-Reads (Some Check) input source source' finish = ReadsDeck input source source' finish
-Reads (Some (Run workers)) input source source' finish = ReadsDeck input source source' finish
-Reads (Some Verify) input source source' finish = ReadsDump source source' finish
-Reads (Some (Demo seed workers)) input source source' finish = ReadsNothing seed source source' finish
+abbrev pub CommandReads : Option Command → Option (List ℕ) → Told → Told → Result Ended Cut → Type 0
+CommandReads None input source source' finish = source' ≡ source
+CommandReads (Some Check) input source source' finish = ReadsDeck input source source' finish
+CommandReads (Some (Run workers)) input source source' finish = ReadsDeck input source source' finish
+CommandReads (Some Verify) input source source' finish = ReadsDump source source' finish
+CommandReads (Some (Demo seed workers)) input source source' finish = ReadsNothing seed source source' finish
 
 -- a command on a deck finishes as it says for what its source held
 pub record OnDeck (workers : ℕ) (performed : DeckView → Outcome) (source source' : Told)
@@ -176,7 +176,7 @@ pub record Performs (words : List (List ℕ)) (source source' : Told) (before no
   pub input : Option (List ℕ)
   pub gave : Gave source source' input
   pub finishes : Finishes (workers_of (command_of words)) (outcome words input) before now finish
-  pub reads : Reads (command_of words) input source source' finish
+  pub reads : CommandReads (command_of words) input source source' finish
 
 -- the call ends so
 pub record Ends (words : List (List ℕ)) (source source' : Told) (before now : Sinks)
@@ -186,12 +186,12 @@ pub record Ends (words : List (List ℕ)) (source source' : Told) (before now : 
   pub answer : ended_of finish ≡ ended
 
 -- what each command takes of its source at most
-abbrev pub Takes : Option Command → Told → Told → Type 0
-Takes None source source' = source' ≡ source
-Takes (Some Check) source source' = TakesAtMost deck_limit source source'
-Takes (Some (Run workers)) source source' = TakesAtMost deck_limit source source'
-Takes (Some Verify) source source' = TakesOfDump source source'
-Takes (Some (Demo seed workers)) source source' = source' ≡ source
+abbrev pub CommandTakes : Option Command → Told → Told → Type 0
+CommandTakes None source source' = source' ≡ source
+CommandTakes (Some Check) source source' = TakesAtMost deck_limit source source'
+CommandTakes (Some (Run workers)) source source' = TakesAtMost deck_limit source source'
+CommandTakes (Some Verify) source source' = TakesOfDump source source'
+CommandTakes (Some (Demo seed workers)) source source' = source' ≡ source
 
 -- where the source tells its bytes and no fault can be blamed on a count, the call answers the
 -- outcome and puts its texts, or memory was wanting

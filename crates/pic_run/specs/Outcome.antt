@@ -28,7 +28,7 @@ use Rattle.pic_run.specs.Early.{Staged, ◌>>=◌, ended_early, early_line}
 use Rattle.pic_run.specs.Frames.{frames_of, end_of_run, end_piece}
 use Rattle.pic_run.specs.Lines.{check_line, verified_line}
 use Rattle.pic_run.specs.Reading.{deck_limit}
-use Rattle.pic_run.specs.Starting.{first_state, break_of, header_of}
+use Rattle.pic_run.specs.Starting.{first_state, state_break, header_of}
 
 -- an answer, and what goes to the two sinks: the head of a dump, frames, and what comes last
 pub record Outcome : Type 0 where
@@ -65,12 +65,12 @@ abbrev pub accepted : Option (List ℕ) → Staged DeckView
 accepted input = taken input >>= (λ text. unless_refused (walk text))
 
 -- a deck that meets Gauss's law, or the least node where it fails
-abbrev pub unless_broken : DeckView → Option Break → Staged DeckView
-unless_broken d None = Ok d
-unless_broken d (Some b) = Err (early.Gauss b)
+abbrev pub unless_gauss_fails : DeckView → Option Break → Staged DeckView
+unless_gauss_fails d None = Ok d
+unless_gauss_fails d (Some b) = Err (early.Gauss b)
 
 abbrev pub tested : DeckView → Staged DeckView
-tested d = unless_broken d (break_of (first_state d))
+tested d = unless_gauss_fails d (state_break (first_state d))
 
 abbrev pub opened : Option (List ℕ) → Staged DeckView
 opened input = accepted input >>= tested

@@ -3,8 +3,8 @@ use Rattle.std.specs.Prelude.{◌≡◌, ℕ, ◌<◌, ◌≤◌, List, length, 
 use Rattle.std.specs.declared.alloc.Global.{Global}
 use Rattle.pic_io.specs.Told.{Told, Calm, Rose}
 use Rattle.pic_io.specs.Source.{with_front, IsAtEnd}
-use Rattle.pic_run.specs.declared.reading.ReadStop.{ReadStop}
-use Rattle.pic_run.specs.declared.reading.ReadStop.TheVariants.{Fault, NoMemory}
+use Rattle.pic_run.specs.declared.reading.SourceStop.{SourceStop}
+use Rattle.pic_run.specs.declared.reading.SourceStop.TheVariants.{Fault, NoMemory}
 
 -- the greatest number of bytes that are taken for a deck: one more than a deck may have
 unfoldable pub deck_limit : ℕ
@@ -29,7 +29,7 @@ pub record TookAll (before now : Told) (limit : ℕ) (bytes : List ℕ) : Type 0
   pub end : length bytes < limit → IsAtEnd now
 
 -- what a whole reading does: Ok has the bytes, and a fault is one that the source's count shows
-abbrev pub ReadsAll : Told → Told → ℕ → Result (Vec ℕ Global) ReadStop → Type 0
+abbrev pub ReadsAll : Told → Told → ℕ → Result (Vec ℕ Global) SourceStop → Type 0
 ReadsAll before now limit (Ok bytes) = TookAll before now limit bytes.items
 ReadsAll before now limit (Err Fault) = Gave before now None
 ReadsAll before now limit (Err NoMemory) = Calm before now

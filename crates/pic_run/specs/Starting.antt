@@ -17,8 +17,8 @@ abbrev pub first_state : DeckView → World
 first_state d = start_of d (loaded d)
 
 -- the least node of a state, x fastest, where the divergence of E and the charge differ
-unfoldable pub break_of : World → Option Break
-break_of w =
+unfoldable pub state_break : World → Option Break
+state_break w =
     first_break w.cells (div_e w.cells (value_at w.e)) (charge_of w.side w.cells w.kinds w.particles)
 
 -- Gauss's law, at every node of a state

@@ -8,7 +8,7 @@ ghost use Rattle.pic_grid.specs.declared.stop.Stop.{Stop as StopName};
 ghost use Rattle.pic_charge.specs.declared.breaks.Break.{Break as BreakName};
 ghost use Rattle.pic_deck.specs.declared.refusal.Refusal.{Refusal as RefusalName};
 ghost use Rattle.pic_line.specs.CommandLine.{command_of};
-ghost use Rattle.pic_run.specs.Ends.{Performs, Ends, Takes, IsComplete, IsDone, IsStopped, IsChecked, IsVerified, BreaksGauss, IsRefused, IsBadDump, IsBroken, IsIdle, IsStarved};
+ghost use Rattle.pic_run.specs.Ends.{Performs, Ends, CommandTakes, IsComplete, IsDone, IsStopped, IsChecked, IsVerified, BreaksGauss, IsRefused, IsBadDump, IsBroken, IsIdle, IsStarved};
 
 use crate::check::check;
 use crate::cut::Cut;
@@ -49,7 +49,7 @@ pub fn pic<H: Threads + Sync, S: Source, O: Sink, R: Sink, G: Gate + Sync>(
     ensures ends { Ends (map string_bytes words.now) (S.told source.old) (S.told source.new)
         (sinks (O.told out.old) (R.told report.old))
         (sinks (O.told out.new) (R.told report.new)) result }
-    ensures taken { Takes (command_of (map string_bytes words.now))
+    ensures taken { CommandTakes (command_of (map string_bytes words.now))
         (S.told source.old) (S.told source.new) }
 
     // what each answer means

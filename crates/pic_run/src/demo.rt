@@ -25,8 +25,8 @@ use pic_step::State;
 use std::alloc::Global;
 use std::thread::Threads;
 
-/// Runs the demonstration of a seed, on so many workers: the lines of its due frames and of its end go to `out`, and no
-/// dump is written.
+/// Runs the demonstration of a seed, on so many workers: the lines of its due frames and of its end
+/// go to `out`, and no dump is written.
 pub fn demo<H: Threads + Sync, O: Sink, R: Sink, G: Gate + Sync>(
     rt: &H,
     alloc: Global,

@@ -12,7 +12,7 @@ use crate::ended::Ended;
 use crate::lines::{
     line_of_bad_dump, line_of_break, line_of_broken, line_of_read_fault, line_of_usage,
 };
-use crate::reading::ReadStop;
+use crate::reading::SourceStop;
 use crate::refusing::put_refusal;
 use crate::writing::put_line;
 use pic_charge::Break;
@@ -44,13 +44,13 @@ pub enum StageStop {
     NoMemory,
 }
 
-impl From<ReadStop> for StageStop {
+impl From<SourceStop> for StageStop {
     ghost from_gives = { λ stop result. result ≡ stop_of_reading stop };
 
-    fn from(stop: ReadStop) -> StageStop {
+    fn from(stop: SourceStop) -> StageStop {
         match stop {
-            ReadStop::Fault => StageStop::Answer(Early::ReadFault),
-            ReadStop::NoMemory => StageStop::NoMemory,
+            SourceStop::Fault => StageStop::Answer(Early::ReadFault),
+            SourceStop::NoMemory => StageStop::NoMemory,
         }
     }
 }

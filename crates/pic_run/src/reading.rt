@@ -4,23 +4,23 @@ ghost use Rattle.std.specs.Prelude.{◌≡◌, ◌≤◌, ◌<◌, length, IfOk}
 ghost use Rattle.pic_io.specs.Told.{HasCause};
 ghost use Rattle.pic_io.specs.Source.{Takes};
 ghost use Rattle.pic_run.specs.Reading.{deck_limit, ReadsAll, TakesAtMost};
-ghost use Rattle.pic_run.specs.declared.reading.ReadStop.TheVariants.{NoMemory};
+ghost use Rattle.pic_run.specs.declared.reading.SourceStop.TheVariants.{NoMemory};
 
 use pic_io::{Failed, Source};
 use std::alloc::{AllocError, Global};
 
 /// What ends a reading early.
 #[derive(Clone, Copy, Debug, PartialEq, Eq)]
-pub enum ReadStop {
+pub enum SourceStop {
     Fault,
     NoMemory,
 }
 
-impl From<AllocError> for ReadStop {
+impl From<AllocError> for SourceStop {
     ghost from_gives = { λ _ stop. stop ≡ NoMemory };
 
-    fn from(_refused: AllocError) -> ReadStop {
-        ReadStop::NoMemory
+    fn from(_refused: AllocError) -> SourceStop {
+        SourceStop::NoMemory
     }
 }
 
@@ -35,7 +35,11 @@ pub fn greatest_deck() -> usize
 }
 
 /// Reads the source to its end, or until so many bytes were taken.
-pub fn read_all<S: Source>(alloc: Global, source: &mut S, limit: usize) -> Result<Vec<u8>, ReadStop>
+pub fn read_all<S: Source>(
+    alloc: Global,
+    source: &mut S,
+    limit: usize,
+) -> Result<Vec<u8>, SourceStop>
     ensures reads { ReadsAll (S.told source.old) (S.told source.new) limit result }
     ensures taken { TakesAtMost limit (S.told source.old) (S.told source.new) }
 {
@@ -46,7 +50,7 @@ pub fn read_all<S: Source>(alloc: Global, source: &mut S, limit: usize) -> Resul
         match take_some(source, &mut room, most) {
             Ok(0) => return Ok(bytes),
             Ok(count) => bytes.extend_from_slice(&room[..count])?,
-            Err(Failed) => return Err(ReadStop::Fault),
+            Err(Failed) => return Err(SourceStop::Fault),
         }
     }
     Ok(bytes)

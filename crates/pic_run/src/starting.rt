@@ -5,7 +5,7 @@ ghost use Rattle.pic_load.specs.Loading.{AreLoaded};
 ghost use Rattle.pic_step.specs.SerialRun.{start_of};
 ghost use Rattle.pic_step.specs.Sound.{IsSound};
 ghost use Rattle.pic_step.specs.Start.{begun};
-ghost use Rattle.pic_run.specs.Starting.{break_of};
+ghost use Rattle.pic_run.specs.Starting.{state_break};
 
 use pic_charge::{Break, charge, gauss};
 use pic_deck::Deck;
@@ -19,7 +19,7 @@ use std::alloc::Global;
 pub fn find_break(alloc: Global, deck: &Deck, start: &Start) -> Result<Option<Break>, NoMemory>
     requires start { begun start.now ≡ start_of deck.now start.now.particles.items }
     requires loaded { AreLoaded deck.now start.now.particles.items }
-    ensures value { IfOk result (λ found. found ≡ break_of (begun start.now)) }
+    ensures value { IfOk result (λ found. found ≡ state_break (begun start.now)) }
     ensures sound { IfOk result (λ found. found ≡ None → IsSound (begun start.now)) }
 {
     let cells = deck.cells();

@@ -41,11 +41,6 @@ down_within n X p h = let x = h.x in record { x = mod_below (p.x + (n.x - 1)) n.
 down_within n Y p h = let y = h.y in record { x = h.x; y = mod_below (p.y + (n.y - 1)) n.y (omega (arith, y)); z = h.z }
 down_within n Z p h = let z = h.z in record { x = h.x; y = h.y; z = mod_below (p.z + (n.z - 1)) n.z (omega (arith, z)) }
 
--- the values of a field, and those times a multiplier
-value_size : (side : ℕ) (n : Triple) (by : Multiplier) (f : Field) (a : Axis) (p : Triple) → IsSafe side n by f → IsWithin p n
-    → IsAtMost (value_at f a p) (2 ^ 90)
-value_size side n by f a p safe within = (safe.bounded a p within).value
-
 -- a new value of B
 pub half_size : (side : ℕ) (n : Triple) (scales : Scales) (e b : Field) (a : Axis) (p : Triple) → IsMultiplier scales.e_to_b
     → IsSafe side n scales.e_force e → IsSafe side n scales.b_force b → IsWithin p n → IsAtMost (half_of scales e a p (value_at b a p)) (2 ^ 124)

@@ -13,8 +13,8 @@ use Rattle.pic_run.specs.declared.early.Early.{Early}
 use Rattle.pic_run.specs.declared.early.Early.TheVariants as early
 use Rattle.pic_run.specs.declared.ended.Ended.TheVariants.{Verified}
 use Rattle.pic_run.specs.Early.{Staged, ◌>>=◌, ended_early}
-use Rattle.pic_run.specs.Outcome.{Outcome, out_text, accepted, unless_broken, tested, on_deck, run_outcome, verdict_outcome, command_outcome, outcome}
-use Rattle.pic_run.specs.Starting.{header_of, first_state, break_of}
+use Rattle.pic_run.specs.Outcome.{Outcome, out_text, accepted, unless_gauss_fails, tested, on_deck, run_outcome, verdict_outcome, command_outcome, outcome}
+use Rattle.pic_run.specs.Starting.{header_of, first_state, state_break}
 use Rattle.pic_verify.specs.Verified.{Verdict, verified}
 use Rattle.pic_run_laws.specs.KeptDecks.{IsKeptDeck}
 use Rattle.pic_run_laws.specs.RunsAreVerified.{RunsAreVerified, IsOfRun, RunsAreFoundGood}
@@ -39,7 +39,7 @@ not_early (early.BadDump place cause) of = of
 not_early (early.Broken frame b) of = of
 
 -- a deck that passes the test is the deck that is run
-same_deck : (d e : DeckView) (o : Option Break) → unless_broken d o ≡ Ok e → d ≡ e
+same_deck : (d e : DeckView) (o : Option Break) → unless_gauss_fails d o ≡ Ok e → d ≡ e
 same_deck d e None is = cc
 same_deck d e (Some b) is = absurd cc
 
@@ -58,7 +58,7 @@ tested_good : (verify_words : List (List ℕ)) (d : DeckView) (r : Staged DeckVi
 unfolding VerifiesAs
 tested_good verify_words d (Err end) verify_is kept is of = absurd (not_early end of)
 tested_good verify_words d (Ok e) verify_is kept is of =
-    let same = same_deck d e (break_of (first_state d)) is in
+    let same = same_deck d e (state_break (first_state d)) is in
     let passes : tested d ≡ Ok d = is ∙ ap (λ (g : DeckView). Ok g) (sym same) in
     subst (λ (g : DeckView). VerifiesAs verify_words (run_outcome g)) same
     (verifies verify_words (out_text (run_outcome d)) (length (run_outcome d).frames) verify_is (runs_are_verified d kept passes))

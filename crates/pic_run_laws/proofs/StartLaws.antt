@@ -12,8 +12,8 @@ use Rattle.pic_deck.proofs.HeadLaws.{particles_of-heads}
 use Rattle.pic_dump.specs.Header.{IsHeader, HasMultipliers}
 use Rattle.pic_load.specs.Loading.{loaded}
 use Rattle.pic_reader.specs.Layout.{layout_of}
-use Rattle.pic_run.specs.Outcome.{unless_broken, tested}
-use Rattle.pic_run.specs.Starting.{first_state, break_of, header_of}
+use Rattle.pic_run.specs.Outcome.{unless_gauss_fails, tested}
+use Rattle.pic_run.specs.Starting.{first_state, state_break, header_of}
 use Rattle.pic_run.proofs.StartLaws.{sound_start}
 use Rattle.pic_run_laws.specs.KeptDecks.{IsKeptDeck}
 use Rattle.pic_run_laws.proofs.StateFits.{IsGoodState}
@@ -41,7 +41,7 @@ same_kinds : (ss : List Species) → map (λ (s : Species). s.kind) ss ≡ map (
 same_kinds [] = refl
 same_kinds (s ∷ ss) = ap (λ ks. s.kind ∷ ks) (same_kinds ss)
 
-no_break : (d : DeckView) (o : Option Break) → unless_broken d o ≡ Ok d → o ≡ None
+no_break : (d : DeckView) (o : Option Break) → unless_gauss_fails d o ≡ Ok d → o ≡ None
 no_break d None is = refl
 no_break d (Some b) is = absurd cc
 
@@ -50,7 +50,7 @@ pub start_good : (d : DeckView) → IsKeptDeck d → tested d ≡ Ok d → IsGoo
 start_good d kept passes =
     let are = are_loaded d kept in
     record {
-      sound = sound_start d (loaded d) kept.limits are (no_break d (break_of (first_state d)) passes);
+      sound = sound_start d (loaded d) kept.limits are (no_break d (state_break (first_state d)) passes);
       of = record {
         side = refl;
         cells = refl;

@@ -77,8 +77,9 @@ fn charge_two(cells: Cells, first: [u32; 3], second: [u32; 3], nodes: &mut Nodes
 }
 
 // the values of a grid of eight nodes
-fn check_nodes(rt: &impl Abort, nodes: &Nodes, values: [i128; 8]) {
-    let cells = nodes.cells();
+fn check_nodes(rt: &impl Abort, cells: Cells, nodes: &Nodes, values: [i128; 8])
+    requires { nodes.now.cells ≡ cells.n }
+{
     assert_eq!(rt; cells.count(), 8);
     for index in 0..8 {
         assert_eq!(rt;
@@ -122,7 +123,7 @@ fn a_charge_is_shared_by_eight_nodes(rt: HostRuntime) {
         let mut nodes = Nodes::new(rt.alloc(), cells).expect(&rt, "memory");
         nodes.set([1, 1, 0], 99);
         charge_one(cells, *species, *x, &mut nodes);
-        check_nodes(&rt, &nodes, *shares);
+        check_nodes(&rt, cells, &nodes, *shares);
     }
 }
 
@@ -131,7 +132,7 @@ fn two_charges_at_one_place_are_none(rt: HostRuntime) {
     let cells = Cells::new([2, 2, 2], Sub::of_bits(12));
     let mut nodes = Nodes::new(rt.alloc(), cells).expect(&rt, "memory");
     charge_two(cells, [5000, 100, 7], [5000, 100, 7], &mut nodes);
-    check_nodes(&rt, &nodes, [0; 8]);
+    check_nodes(&rt, cells, &nodes, [0; 8]);
 }
 
 // a field that is 0 but for one component

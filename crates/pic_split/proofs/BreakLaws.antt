@@ -9,6 +9,7 @@ use Rattle.std.proofs.lemmas.Int.{ints, by_lt_z, int_max_is}
 use Rattle.std.proofs.lemmas.Nat.{le-div}
 use Rattle.std.specs.Prelude.{◌<ℤ◌, ◌≤ℤ◌}
 use Rattle.std.specs.Int.{int_max}
+use Rattle.pic_grid.proofs.PathLaws.{floor_low, floor_high}
 use Rattle.pic_num.specs.declared.axis.Axis.{Axis}
 use Rattle.pic_num.specs.declared.axis.Axis.TheVariants.{X, Y, Z}
 use Rattle.pic_num.specs.Rounding.{truncated}
@@ -168,9 +169,7 @@ record IsFloor (side : ℕ) (c p : ℤ) : Type 0 where
   pub high : p <ℤ (c *ℤ pos side +ℤ pos side)
 
 floor_is : (side : ℕ) (p : ℤ) → 0 < side → IsFloor side (floor_of side p) p
-unfolding floor_of
-floor_is side (pos a) some = record { low = omega (arith, ints, some); high = omega (arith, ints, some) }
-floor_is side (negsuc a) some = record { low = omega (arith, ints, some); high = omega (arith, ints, some) }
+floor_is side p some = record { low = floor_low side p some; high = floor_high side p some }
 
 pub floor_inside : (side : ℕ) (p : ℤ) → 0 < side → IsInside side (floor_of side p) p
 floor_inside side p some =

@@ -7,7 +7,7 @@ use Rattle.pic_num.specs.declared.axis.Axis.{Axis}
 use Rattle.pic_num.specs.declared.axis.Axis.TheVariants.{X, Y, Z}
 use Rattle.pic_num.specs.Flux.{simpson}
 use Rattle.pic_num.specs.Push.{plus}
-use Rattle.pic_num.specs.Space.{Triple, Spot, along, next_axis, unwrapped}
+use Rattle.pic_num.specs.Space.{Triple, Spot, along, next_axis, unwrapped, AreAtMost}
 use Rattle.pic_num.proofs.Ring.{ring, reads}
 use Rattle.pic_num.proofs.Simpson.{continuity}
 use Rattle.pic_grid.specs.Current.{sum_images, wrapped}
@@ -19,7 +19,7 @@ use Rattle.pic_grid.specs.Segment.{Piece, IsInCell, IsOfCells, Leads, arrived, o
 use Rattle.pic_grid.specs.Cells.{IsWithin}
 use Rattle.pic_grid.specs.Sums.{sum_over}
 use Rattle.pic_split.specs.Continuity.{Continuity}
-use Rattle.pic_split.specs.Move.{IsMove, wrapped_point}
+use Rattle.pic_split.specs.Move.{wrapped_point}
 use Rattle.pic_grid.proofs.TwoHatLaws.{only}
 use Rattle.pic_split.proofs.ImageHatLaws.{onlys, shadow, IsNear, shadows_change, shadow_wrapped, shadow_inside, floor_near, moved_low, moved_high}
 use Rattle.pic_split.proofs.ImageLaws.{images_way, images_first, images_second, wrapped-add, wrapped-zero, div_e-add, div_e-zero}
@@ -213,7 +213,7 @@ image_weight-inside side n from node two within inside =
 
 -- the end of a move from a position of the box
 image_weight-wrapped : (side : ℕ) (n from : Triple) (d : Spot) (node : Triple)
-    → 0 < side → HasTwo n → IsWithin node n → IsInBox side n from → IsMove side d
+    → 0 < side → HasTwo n → IsWithin node n → IsInBox side n from → AreAtMost d side
     → image_weight side n (plus (unwrapped from) d) node ≡ pos (weight side n (wrapped_point side n (plus (unwrapped from) d)) node)
 unfolding image_weight weight
 image_weight-wrapped side n from d node some two within inside move =
@@ -233,7 +233,7 @@ near_start side n from some inside = record {
 }
 
 -- the cell of the end of a move from there
-pub near_end : (side : ℕ) (n from : Triple) (d : Spot) → 0 < side → IsInBox side n from → IsMove side d
+pub near_end : (side : ℕ) (n from : Triple) (d : Spot) → 0 < side → IsInBox side n from → AreAtMost d side
     → IsNearGrid n (floor_cell side (plus (unwrapped from) d))
 near_end side n from d some inside move = record {
   x = floor_near side n.x (pos from.x +ℤ d.x) some (moved_low side from.x d.x move.x.size) (moved_high side (n.x * side) from.x d.x inside.x move.x.size);
@@ -243,7 +243,7 @@ near_end side n from d some inside move = record {
 
 -- the law of pieces that lead from a position of the box to the end of a move
 pub continuity_of_path : (side : ℕ) (n : Triple) (q : ℤ) (from : Triple) (d : Spot) (node : Triple) (pieces : List Piece)
-    → 0 < side → HasTwo n → IsWithin node n → IsInBox side n from → IsMove side d
+    → 0 < side → HasTwo n → IsWithin node n → IsInBox side n from → AreAtMost d side
     → Leads side (floor_cell side (unwrapped from)) (floor_cell side (plus (unwrapped from) d)) (unwrapped from) pieces (plus (unwrapped from) d)
     → div_e n (λ a p. wrapped n (path_flux side q pieces a) p) node
     ≡ pos 12 *ℤ q *ℤ pos (weight side n from node)

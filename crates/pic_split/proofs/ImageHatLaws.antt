@@ -6,6 +6,7 @@ use Rattle.std.proofs.Math.Nat.{mul-le-mul_right, add-mod_right, mod-eq_of_lt}
 use Rattle.std.proofs.lemmas.Bool.{cases_lt}
 use Rattle.std.proofs.lemmas.Int.{ints, by_lt_z}
 use Rattle.std.specs.Prelude.{◌<ℤ◌, ◌≤ℤ◌, ◌==◌, unsigned_abs, if◌then◌else◌}
+use Rattle.pic_grid.proofs.PathLaws.{floor_low, floor_high}
 use Rattle.pic_num.specs.Rounding.{IsResidue, residue}
 use Rattle.pic_num.proofs.Ring.{ring, reads}
 use Rattle.pic_num.proofs.RoundingLaws.{residue-unique}
@@ -164,17 +165,6 @@ shadow_inside s n r i two below small =
     let long : s + s ≤ n * s = two_sides s n two in
     let node : i * s + s ≤ n * s = times_one s i n (omega (arith, below)) in
     shadow_at s n (pos r) i ∙ box_hats s (n * s) (i * s) r long node small
-
--- the cell of a coordinate: at most the side of a cell below it
-floor_low : (s : ℕ) (p : ℤ) → 0 < s → (floor_of s p *ℤ pos s) ≤ℤ p
-unfolding floor_of
-floor_low s (pos a) some = omega (arith, ints, some)
-floor_low s (negsuc a) some = omega (arith, ints, some)
-
-floor_high : (s : ℕ) (p : ℤ) → 0 < s → p <ℤ (floor_of s p *ℤ pos s +ℤ pos s)
-unfolding floor_of
-floor_high s (pos a) some = omega (arith, ints, some)
-floor_high s (negsuc a) some = omega (arith, ints, some)
 
 -- a point at most one cell out of the box has its cell at most one out of the grid
 pub floor_near : (s n : ℕ) (p : ℤ) → 0 < s → (pos 0 -ℤ pos s) ≤ℤ p → p <ℤ (pos (n * s) +ℤ pos s) → IsNear n (floor_of s p)

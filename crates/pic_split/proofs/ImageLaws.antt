@@ -1,5 +1,5 @@
 -- Laws of sums over the images of an edge, and of the divergence.
-use Rattle.std.proofs.Common.{◌≡◌, ℕ, ◌+◌, ◌-◌, ◌*◌, ◌≤◌, unsigned_abs, ◌∙◌, List, [], ◌∷◌, arith}
+use Rattle.std.proofs.Common.{◌≡◌, ℕ, ◌+◌, ◌-◌, ◌*◌, ◌∙◌, List, [], ◌∷◌, arith}
 use Rattle.std.proofs.Math.IntN.{ℤ, pos, ◌+ℤ◌, ◌-ℤ◌, ◌*ℤ◌}
 use Rattle.std.proofs.lemmas.Int.{ints}
 use Rattle.std.proofs.lemmas.Nat.{mod_below}
@@ -23,15 +23,6 @@ images_plus n f g i = omega (arith, ints)
 pub images_zero : (n i : ℕ) → sum_images n (λ j. pos 0) i ≡ pos 0
 unfolding sum_images
 images_zero n i = omega (arith, ints)
-
--- three numbers of at most most in size
-pub images_size : (n : ℕ) (f : ℤ → ℤ) (i most : ℕ) → ((j : ℤ) → unsigned_abs (f j) ≤ most)
-    → unsigned_abs (sum_images n f i) ≤ 3 * most
-unfolding sum_images
-images_size n f i most small =
-    let low = small (pos i -ℤ pos n) in
-    let mid = small (pos i) in
-    let high = small (pos i +ℤ pos n) in omega (arith, ints, low, mid, high)
 
 -- The flux of a segment is linear in its way, in the first pair of weights and in the second.
 
@@ -58,10 +49,6 @@ images_second n f g i q way a0 a1 =
     (search reads depth 40 fits 9000) tt
 
 -- The sum over the images of an edge.
-
--- of equal numbers
-pub wrapped_same : (n : Triple) (f g : Spot → ℤ) (p : Triple) → ((c : Spot) → f c ≡ g c) → wrapped n f p ≡ wrapped n g p
-wrapped_same n f g p same = λ t. wrapped n (λ c. same c t) p
 
 -- of a sum
 pub wrapped-add : (n : Triple) (f g : Spot → ℤ) (p : Triple) → wrapped n (λ c. f c +ℤ g c) p ≡ wrapped n f p +ℤ wrapped n g p
@@ -93,16 +80,6 @@ wrapped-over n f (x ∷ xs) p =
     wrapped-add n (f x) (λ c. sum_over (λ y. f y c) xs) p
     ∙ (λ t. wrapped n (f x) p +ℤ wrapped-over n f xs p t)
 
--- 27 numbers of at most most in size
-pub wrapped_size : (n : Triple) (f : Spot → ℤ) (p : Triple) (most : ℕ) → ((c : Spot) → unsigned_abs (f c) ≤ most)
-    → unsigned_abs (wrapped n f p) ≤ 27 * most
-unfolding wrapped
-wrapped_size n f p most small =
-    let all = images_size n.z (λ z. sum_images n.y (λ y. sum_images n.x (λ x. f (record { x = x; y = y; z = z })) p.x) p.y) p.z (3 * (3 * most))
-    (λ z. images_size n.y (λ y. sum_images n.x (λ x. f (record { x = x; y = y; z = z })) p.x) p.y (3 * most)
-    (λ y. images_size n.x (λ x. f (record { x = x; y = y; z = z })) p.x most (λ x. small (record { x = x; y = y; z = z })))) in
-    omega (arith, all)
-
 -- The divergence.
 
 -- the next cell down is one of the grid's
@@ -131,12 +108,3 @@ div_e-less n e f node = omega (arith, ints)
 -- of a field that is 0 everywhere
 pub div_e-zero : (n node : Triple) → div_e n (λ a p. pos 0) node ≡ pos 0
 div_e-zero n node = omega (arith, ints)
-
--- of a sum of fields over a list
-pub div_e-over : {A : Type 0} (n : Triple) (f : A → Axis → Triple → ℤ) (xs : List A) (node : Triple)
-    → div_e n (λ a p. sum_over (λ x. f x a p) xs) node ≡ sum_over (λ x. div_e n (f x) node) xs
-unfolding sum_over
-div_e-over n f [] node = div_e-zero n node
-div_e-over n f (x ∷ xs) node =
-    div_e-add n (f x) (λ a p. sum_over (λ y. f y a p) xs) node
-    ∙ (λ t. div_e n (f x) node +ℤ div_e-over n f xs node t)

@@ -7,10 +7,9 @@ use Rattle.std.specs.List.{AllByRecursion as Each}
 use Rattle.pic_num.specs.declared.axis.Axis.{Axis}
 use Rattle.pic_num.specs.declared.axis.Axis.TheVariants.{X, Y, Z}
 use Rattle.pic_num.specs.Push.{plus}
-use Rattle.pic_num.specs.Space.{Spot, along}
+use Rattle.pic_num.specs.Space.{Spot, along, AreAtMost}
 use Rattle.pic_grid.specs.Path.{Crossing, crossing, crossings, floor_of, floor_cell, break_on, break_at, step_on, cell_after, walk, path}
 use Rattle.pic_grid.specs.Segment.{Piece, IsInside, Leads}
-use Rattle.pic_split.specs.Move.{IsMove}
 use Rattle.pic_split.proofs.BreakLaws.{IsSound, IsUpTo, Passing, point_at, part, break_is, part_within, part_upto, part_own, at_start, at_end}
 use Rattle.pic_split.proofs.BreakLaws.{between, floor_inside}
 use Rattle.pic_split.proofs.OrderLaws.{IsOther, HasOne, Holds, Sorted, Tells, crossing_tells, crossings_sound, crossings_hold}
@@ -148,13 +147,13 @@ walk_leads side c e p d x cell (k ∷ ks) fits =
     subst (λ (i : ℤ). Fits side a (along a c) (along a e) (along a p) (along a d) (along a (break_at p d k)) i ks) (sym (cell_along a k cell))
     (subst (λ (y : ℤ). Fits side a (along a c) (along a e) (along a p) (along a d) y (step_on a k (along a cell)) ks) (sym (break_along a p d k)) (fits a).3)))
 
-pub move_along : (side : ℕ) (a : Axis) (d : Spot) → IsMove side d → unsigned_abs (along a d) ≤ side
+pub move_along : (side : ℕ) (a : Axis) (d : Spot) → AreAtMost d side → unsigned_abs (along a d) ≤ side
 move_along side X d small = small.x.size
 move_along side Y d small = small.y.size
 move_along side Z d small = small.z.size
 
 -- the path leads from its start to its end without a gap, each piece in its closed cell
-pub path_leads : (side : ℕ) (p d : Spot) → 0 < side → IsMove side d
+pub path_leads : (side : ℕ) (p d : Spot) → 0 < side → AreAtMost d side
     → Leads side (floor_cell side p) (floor_cell side (plus p d)) p (path side p d) (plus p d)
 unfolding path
 path_leads side p d above small =

@@ -4,10 +4,10 @@ use Rattle.std.proofs.Math.IntN.{ℤ, ◌+ℤ◌}
 use Rattle.pic_num.specs.declared.axis.Axis.{Axis}
 use Rattle.pic_num.specs.declared.axis.Axis.TheVariants.{X, Y, Z}
 use Rattle.pic_num.specs.Push.{plus}
-use Rattle.pic_num.specs.Space.{Spot}
+use Rattle.pic_num.specs.Space.{Spot, AreAtMost}
 use Rattle.pic_grid.specs.Path.{Crossing, crossing, crossings, is_before, put, put_some, floor_of, floor_cell, walk, path}
 use Rattle.pic_grid.specs.Segment.{Piece, IsInCell, Leads, onward}
-use Rattle.pic_split.specs.Move.{IsMove, lone_piece}
+use Rattle.pic_split.specs.Move.{lone_piece}
 use Rattle.pic_split.proofs.CrossingLaws.{crossing_none}
 use Rattle.pic_split.proofs.OrderLaws.{Tells, crossing_tells}
 
@@ -29,7 +29,7 @@ still : (side : ℕ) (a : Axis) (p d : ℤ) → 0 < side → unsigned_abs d ≤ 
 still side a p d some small e = subst (Tells side a p d) e (crossing_tells side a p d some small)
 
 -- where a path has no crossing, its start and its end are in one cell
-pub none_crossed : (side : ℕ) (p d : Spot) → 0 < side → IsMove side d → crossings side p d ≡ [] → floor_cell side p ≡ floor_cell side (plus p d)
+pub none_crossed : (side : ℕ) (p d : Spot) → 0 < side → AreAtMost d side → crossings side p d ≡ [] → floor_cell side p ≡ floor_cell side (plus p d)
 unfolding crossings
 none_crossed side p d some small e =
     let x = none_put (crossing side X p.x d.x) (put_some (crossing side Y p.y d.y) (put_some (crossing side Z p.z d.z) [])) e in
@@ -55,7 +55,7 @@ unfolding walk
 two_pieces p d start cell k [] = refl
 two_pieces p d start cell k (l ∷ ls) = refl
 
-pub none_lone : (side : ℕ) (p d : Spot) → 0 < side → IsMove side d → (floor_cell side p ≡ floor_cell side (plus p d) → ⊥) → lone_piece (path side p d) ≡ None
+pub none_lone : (side : ℕ) (p d : Spot) → 0 < side → AreAtMost d side → (floor_cell side p ≡ floor_cell side (plus p d) → ⊥) → lone_piece (path side p d) ≡ None
 unfolding path
 none_lone side p d some small differ = go (crossings side p d) refl
   where

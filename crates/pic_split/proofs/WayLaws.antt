@@ -5,12 +5,11 @@ use Rattle.std.proofs.lemmas.Int.{ints}
 use Rattle.std.specs.List.{AllByRecursion as Each}
 use Rattle.pic_num.specs.declared.axis.Axis.{Axis}
 use Rattle.pic_num.specs.Push.{plus}
-use Rattle.pic_num.specs.Space.{Spot, along}
+use Rattle.pic_num.specs.Space.{Spot, along, AreAtMost}
 use Rattle.pic_grid.specs.Flux.{path_flux}
 use Rattle.pic_grid.specs.Path.{Crossing, crossings, floor_cell, break_at, cell_after, walk, path}
 use Rattle.pic_grid.specs.Ways.{ways}
 use Rattle.pic_grid.proofs.FluxLaws.{ways_flux_size}
-use Rattle.pic_split.specs.Move.{IsMove}
 use Rattle.pic_split.proofs.BreakLaws.{IsSound, point_at, part, break_is, part_within, at_start, at_end}
 use Rattle.pic_split.proofs.OrderLaws.{Sorted, crossings_sound}
 use Rattle.pic_split.proofs.RankLaws.{crossings_sorted}
@@ -43,7 +42,7 @@ walk_ways side a p d x cell u (k ∷ ks) is upto sound sorted late =
     omega (arith, e, way, rest)
 
 -- on each axis the sizes of the ways of a path's pieces add up to the size of the move
-pub path_ways : (side : ℕ) (p d : Spot) (a : Axis) → 0 < side → IsMove side d → ways a (path side p d) ≡ unsigned_abs (along a d)
+pub path_ways : (side : ℕ) (p d : Spot) (a : Axis) → 0 < side → AreAtMost d side → ways a (path side p d) ≡ unsigned_abs (along a d)
 unfolding path
 path_ways side p d a some small =
     let e = walk_ways side a p d p (floor_cell side p) 0 (crossings side p d) (sym (at_start (along a p) (along a d))) (omega arith)
@@ -52,7 +51,7 @@ path_ways side p d a some small =
 
 -- the flux of a path through an edge that isn't wrapped is at most |q| times the size of the move along
 -- the edge, times 12 side^2
-pub path_flux_size : (side : ℕ) (q : ℤ) (p d : Spot) (a : Axis) (edge : Spot) → 0 < side → IsMove side d
+pub path_flux_size : (side : ℕ) (q : ℤ) (p d : Spot) (a : Axis) (edge : Spot) → 0 < side → AreAtMost d side
     → unsigned_abs (path_flux side q (path side p d) a edge) ≤ unsigned_abs q * unsigned_abs (along a d) * (12 * (side * side))
 path_flux_size side q p d a edge some small =
     subst (λ (n : ℕ). unsigned_abs (path_flux side q (path side p d) a edge) ≤ unsigned_abs q * n * (12 * (side * side)))

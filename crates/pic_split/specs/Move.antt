@@ -2,16 +2,9 @@
 use Rattle.std.specs.Prelude.{ℕ, ◌*◌, List, [], ◌∷◌, Option, Some, None}
 use Rattle.pic_num.specs.Push.{plus}
 use Rattle.pic_num.specs.Rounding.{residue}
-use Rattle.pic_num.specs.Sizes.{IsAtMost}
 use Rattle.pic_num.specs.Space.{Triple, Spot}
 use Rattle.pic_grid.specs.Path.{floor_cell}
 use Rattle.pic_grid.specs.Segment.{Piece, Leads}
-
--- a move of at most a cell's side on each axis
-pub record IsMove (side : ℕ) (d : Spot) : Type 0 where
-  pub x : IsAtMost d.x side
-  pub y : IsAtMost d.y side
-  pub z : IsAtMost d.z side
 
 -- a point that isn't wrapped, as a position in the box of n cells
 abbrev pub wrapped_point : ℕ → Triple → Spot → Triple

@@ -1,12 +1,12 @@
 //! The faces between cells that a path passes.
 
 ghost use Rattle.std.specs.Prelude.{◌≡◌, ℤ, pos, ℕ, ◌^◌, ◌<◌, ◌≤◌, ◌+◌, ◌-◌, ◌+ℤ◌, ◌-ℤ◌, ◌*ℤ◌, unsigned_abs, option_map, Option, Some, None};
+ghost use Rattle.pic_num.specs.Limits.{most_side};
 ghost use Rattle.pic_num.specs.Sizes.{IsAtMost};
 ghost use Rattle.pic_num.specs.Rounding.{truncated};
 ghost use Rattle.pic_num.specs.Space.{spot, AreAtMost};
 ghost use Rattle.pic_grid.specs.Path.{Crossing, floor_of, floor_cell, crossing, break_on, break_at, step_on, cell_after};
 ghost use Rattle.pic_split.specs.Face.{IsSmall};
-ghost use Rattle.pic_split.specs.Move.{IsMove};
 
 use pic_num::{Axis, Sub};
 use std::marker::Model;
@@ -43,7 +43,7 @@ pub(crate) fn cell_of(sub: Sub, p: i32) -> i32
 #[inline(always)]
 pub(crate) fn end_on(p: i32, d: i32) -> i32
     requires start { IsAtMost p (2 ^ 30 - 1) }
-    requires small { IsAtMost d (2 ^ 14) }
+    requires small { IsAtMost d most_side }
     ensures value { result ≡ p +ℤ d }
     ensures size { IsAtMost result (2 ^ 30 + 2 ^ 14) }
 {
@@ -52,8 +52,8 @@ pub(crate) fn end_on(p: i32, d: i32) -> i32
 
 /// The signed way from `p` to the lower face of a cell.
 fn way_to(side: u32, cell: i32, p: i32) -> i32
-    requires near { IsAtMost (cell *ℤ pos side -ℤ p) (2 ^ 14) }
-    requires side { side ≤ 2 ^ 14 }
+    requires near { IsAtMost (cell *ℤ pos side -ℤ p) most_side }
+    requires side { side ≤ most_side }
     ensures { result ≡ cell *ℤ pos side -ℤ p }
 {
     (i64::from(cell) * i64::from(side) - i64::from(p)) as i32
@@ -94,9 +94,9 @@ fn quotient(n: i32, d: i32) -> i32
 /// A coordinate of the path from `p` by `d` at a face, rounded towards the start.
 #[tactic(auto, unfolding(pic_grid::specs::Path::break_on))]
 fn break_on(face: Face, p: i32, d: i32) -> i32
-    requires face { IsSmall (2 ^ 14) face }
+    requires face { IsSmall most_side face }
     requires start { IsAtMost p (2 ^ 30) }
-    requires small { IsAtMost d (2 ^ 14) }
+    requires small { IsAtMost d most_side }
     ensures { result ≡ break_on face p d }
 {
     let n = face.way * d;
@@ -105,9 +105,9 @@ fn break_on(face: Face, p: i32, d: i32) -> i32
 
 /// The point at which the path from `p` by `d` passes a face.
 pub(crate) fn break_at(face: Face, p: [i32; 3], d: [i32; 3]) -> [i32; 3]
-    requires face { IsSmall (2 ^ 14) face }
+    requires face { IsSmall most_side face }
     requires start { AreAtMost (spot p) (2 ^ 30) }
-    requires small { IsMove (2 ^ 14) (spot d) }
+    requires small { AreAtMost (spot d) most_side }
     ensures { spot result ≡ break_at (spot p) (spot d) face }
 {
     let [x, y, z] = p;

@@ -16,13 +16,14 @@ ghost use Rattle.std.specs.Prelude.{
   ◌↔◌,
 };
 ghost use Rattle.std.specs.List.{All};
+ghost use Rattle.pic_num.specs.Limits.{most_side};
 ghost use Rattle.pic_num.specs.Push.{plus};
 ghost use Rattle.pic_num.specs.Space.{triple, spot, AreAtMost, unwrapped};
 ghost use Rattle.pic_grid.specs.Path.{floor_cell, walk, path};
 ghost use Rattle.pic_grid.specs.Segment.{IsInCell};
 ghost use Rattle.pic_split.specs.Faces.{list_of};
 ghost use Rattle.pic_split.specs.Face.{IsSmall};
-ghost use Rattle.pic_split.specs.Move.{IsMove, LeadBy, lone_piece};
+ghost use Rattle.pic_split.specs.Move.{LeadBy, lone_piece};
 
 use crate::face::{break_at, cell_after, cell_of, end_on};
 use crate::faces::{Faces, crossings};
@@ -33,7 +34,7 @@ use pic_num::{Sub, unwrapped};
 /// another; in sub-cells, of which a cell's side has `sub`. Nothing is wrapped.
 pub fn split(sub: Sub, p0: [u32; 3], d: [i32; 3]) -> Track
     requires start { EachIndex p0 (λ k. slice_index p0 k < 2 ^ 30) }
-    requires small { IsMove sub (spot d) }
+    requires small { AreAtMost (spot d) sub }
     ensures value { result ≡ path sub (unwrapped (triple p0)) (spot d) }
     ensures leads { LeadBy sub (unwrapped (triple p0)) (spot d) result }
 {
@@ -47,7 +48,7 @@ pub fn split(sub: Sub, p0: [u32; 3], d: [i32; 3]) -> Track
 #[inline(always)]
 pub fn lone(sub: Sub, p0: [u32; 3], d: [i32; 3]) -> Option<Segment>
     requires start { EachIndex p0 (λ k. slice_index p0 k < 2 ^ 30) }
-    requires small { IsMove sub (spot d) }
+    requires small { AreAtMost (spot d) sub }
     ensures piece { result ≡ lone_piece (path sub (unwrapped (triple p0)) (spot d)) }
     ensures inside { IfSome result (IsInCell sub) }
 {
@@ -84,7 +85,7 @@ fn is_same(a: [i32; 3], b: [i32; 3]) -> bool
 #[inline(always)]
 pub fn end_of(p: [i32; 3], d: [i32; 3]) -> [i32; 3]
     requires start { AreAtMost (spot p) (2 ^ 30 - 1) }
-    requires small { IsMove (2 ^ 14) (spot d) }
+    requires small { AreAtMost (spot d) most_side }
     ensures value { spot result ≡ plus (spot p) (spot d) }
     ensures size { AreAtMost (spot result) (2 ^ 30 + 2 ^ 14) }
 {
@@ -115,10 +116,10 @@ fn segment(from: [i32; 3], to: [i32; 3], cell: [i32; 3]) -> Segment
 #[tactic(auto, unfolding(pic_grid::specs::Path::walk))]
 fn cut(p: [i32; 3], d: [i32; 3], end: [i32; 3], cell: [i32; 3], faces: Faces) -> Track
     requires start { AreAtMost (spot p) (2 ^ 30 - 1) }
-    requires small { IsMove (2 ^ 14) (spot d) }
+    requires small { AreAtMost (spot d) most_side }
     requires end { spot end ≡ plus (spot p) (spot d) }
     requires cell { AreAtMost (spot cell) (2 ^ 30 + 2 ^ 15) }
-    requires faces { All (IsSmall (2 ^ 14)) (list_of faces) }
+    requires faces { All (IsSmall most_side) (list_of faces) }
     ensures { result ≡ walk (spot p) (spot d) (spot p) (spot cell) (list_of faces) }
 {
     match faces {
@@ -164,7 +165,7 @@ mod tests {
     /// The path from `p0` by `d` has these pieces.
     fn expect_path(rt: &impl Abort, sub: Sub, p0: [u32; 3], d: [i32; 3], pieces: &[Segment])
         requires start { EachIndex p0 (λ k. slice_index p0 k < 2 ^ 30) }
-        requires small { IsMove sub (spot d) }
+        requires small { AreAtMost (spot d) sub }
     {
         let track = split(sub, p0, d);
         let segments = track.segments();

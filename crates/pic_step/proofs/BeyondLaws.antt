@@ -1,14 +1,14 @@
 -- No path from the box reaches beyond the layer under the grid and the two layers over it.
-use Rattle.std.proofs.Common.{◌≡◌, ℕ, ◌<◌, inl, inr, Bool, true, false, cond, List, [], ◌∷◌, Result, Ok, Err, refl, sym, ◌∙◌, arith}
+use Rattle.std.proofs.Common.{◌≡◌, ℕ, ◌<◌, inl, inr, false, List, [], ◌∷◌, Result, Ok, Err, refl, sym, ◌∙◌, arith}
 use Rattle.std.proofs.Math.IntN.{ℤ, pos, ◌+ℤ◌, ◌-ℤ◌, ◌*ℤ◌}
 use Rattle.std.specs.Prelude.{unsigned_abs, All}
 use Rattle.std.proofs.lemmas.List.Elements.{All-head, All-tail}
 use Rattle.std.proofs.lemmas.Bool.Decides.{nat_tests}
 use Rattle.std.proofs.lemmas.Int.{ints}
+use Rattle.pic_grid.proofs.ApartLaws.{when_false, when_zero, no_first, no_second}
 use Rattle.pic_num.specs.declared.motion.Particle.{Particle}
 use Rattle.pic_num.specs.declared.axis.Axis.{Axis}
 use Rattle.pic_num.specs.declared.axis.Axis.TheVariants.{X, Y, Z}
-use Rattle.pic_num.specs.Flux.{simpson}
 use Rattle.pic_num.specs.Push.{Shift, Halting, plus}
 use Rattle.pic_num.specs.Space.{Triple, Spot, triple, unwrapped}
 use Rattle.pic_num.proofs.Ring.{ring, reads}
@@ -50,22 +50,6 @@ other_cell : (n : ℕ) (c j : ℤ) → IsNear n c → IsBeyond n j → same_int 
 unfolding same_int
 other_cell n c j near (inl low) = let l = near.low in let some : 0 < unsigned_abs (j -ℤ c) = omega (arith, ints, low, l) in grind (arith, nat_tests)
 other_cell n c j near (inr high) = let h = near.high in let some : 0 < unsigned_abs (j -ℤ c) = omega (arith, ints, high, h) in grind (arith, nat_tests)
-
-when_false : (b : Bool) (t : ℤ) → b ≡ false → cond b t (pos 0) ≡ pos 0
-when_false true t h = cc
-when_false false t h = refl
-
-when_zero : (b : Bool) (t : ℤ) → t ≡ pos 0 → cond b t (pos 0) ≡ pos 0
-when_zero true t h = h
-when_zero false t h = refl
-
-no_first : (q way a0 a1 b0 b1 : ℤ) → a0 ≡ pos 0 → a1 ≡ pos 0 → simpson q way a0 a1 b0 b1 ≡ pos 0
-unfolding simpson
-no_first q way a0 a1 b0 b1 h k = (λ i. simpson q way (h i) (k i) b0 b1) ∙ ring (q ∷ way ∷ b0 ∷ b1 ∷ []) (search reads depth 14) tt
-
-no_second : (q way a0 a1 b0 b1 : ℤ) → b0 ≡ pos 0 → b1 ≡ pos 0 → simpson q way a0 a1 b0 b1 ≡ pos 0
-unfolding simpson
-no_second q way a0 a1 b0 b1 h k = (λ i. simpson q way a0 a1 (h i) (k i)) ∙ ring (q ∷ way ∷ a0 ∷ a1 ∷ []) (search reads depth 14) tt
 
 -- a piece has no flux through an edge that is beyond on x
 flux_beyond_x : (side : ℕ) (n : Triple) (q : ℤ) (s : Piece) (a : Axis) (c : Spot) → IsNearGrid n s.cell → IsInCell side s → IsBeyond n.x c.x

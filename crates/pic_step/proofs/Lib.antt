@@ -15,4 +15,3 @@ pub mod ExitLaws
 pub mod StepLaws
 pub mod KeepLaws
 pub mod RoomLaws
-pub mod LayoutLaws

@@ -5,7 +5,7 @@ use Rattle.std.proofs.lemmas.List.Elements.{All-weaker}
 use Rattle.pic_num.specs.declared.motion.Particle.{Particle}
 use Rattle.pic_num.specs.Space.{triple}
 use Rattle.pic_grid.specs.Cells.{count_of}
-use Rattle.pic_grid.specs.Hat.{IsInBox}
+use Rattle.pic_grid.specs.Hat.{IsInBox, HasTwo}
 use Rattle.pic_orders.specs.InOrder.{AreOrdered, in_order}
 use Rattle.pic_orders.specs.Same.{Same}
 use Rattle.pic_orders.specs.StandFor.{owned, StandFor}
@@ -18,7 +18,7 @@ use Rattle.pic_tile.specs.Held.{chains_of}
 use Rattle.pic_tile.specs.Owners.{tile_of}
 use Rattle.pic_tile.specs.Parcels.{AreFreshTiles}
 use Rattle.pic_tile.specs.Tile.{TileValue, chain_at, tile_in}
-use Rattle.pic_tile.specs.Tiling.{Tiling, IsThick, cells_of}
+use Rattle.pic_tile.specs.Tiling.{Tiling, cells_of}
 use Rattle.pic_tile.proofs.HeldLaws.{chain_in}
 use Rattle.pic_tile.proofs.LeavingLaws.{tile_below}
 use Rattle.pic_core.specs.Opened.{IsRoom}
@@ -27,7 +27,7 @@ use Rattle.pic_phase.specs.Spent.{AreSpent}
 use Rattle.pic_step.specs.Plasma.{HasFlux, IsPlasma}
 
 -- tiles, each of which has its own of a list, have the list
-pub list_is : (m : Tiling) (xs : List Particle) (ts : List TileValue) → 0 < m.side → IsThick m.size
+pub list_is : (m : Tiling) (xs : List Particle) (ts : List TileValue) → 0 < m.side → HasTwo m.size
     → All (λ x. IsInBox m.side (cells_of m) (triple x.x)) xs → AreOrdered xs → length ts ≡ count_of m.tiles
     → ((r : ℕ) → r < count_of m.tiles → Same (chain_at (tile_in ts r) here) (owned (tile_of m) r xs)) → particles_of ts ≡ xs
 list_is m xs ts some thick inside ordered count each =
@@ -42,7 +42,7 @@ list_is m xs ts some thick inside ordered count each =
     in_order_is (together (chains_of ts)) xs (stands_together (tile_of m) (chains_of ts) xs stand) ordered
 
 -- fresh tiles have the list that is cut into them
-pub particles_are : (m : Tiling) (xs : List Particle) (ts : List TileValue) → 0 < m.side → IsThick m.size
+pub particles_are : (m : Tiling) (xs : List Particle) (ts : List TileValue) → 0 < m.side → HasTwo m.size
     → All (λ x. IsInBox m.side (cells_of m) (triple x.x)) xs → AreOrdered xs → AreFreshTiles m xs ts → particles_of ts ≡ xs
 particles_are m xs ts some thick inside ordered fresh =
     list_is m xs ts some thick inside ordered fresh.count (λ r below.

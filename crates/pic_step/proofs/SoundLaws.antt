@@ -109,10 +109,3 @@ step_sound w sound none =
       velocities = velocities_kept (around h) w.particles sound.velocities;
       gauss = gauss_kept w sound;
     }
-
--- a sound state's fields are of one part
-pub whole_e : (w : World) (parts : Triple) → IsSound w → parts ≡ one_part → record w.e { parts = parts } ≡ w.e
-whole_e w parts sound one = λ i. record w.e { parts = (one ∙ sym sound.e.parts) i }
-
-pub whole_b : (w : World) (parts : Triple) → IsSound w → parts ≡ one_part → record w.b { parts = parts } ≡ w.b
-whole_b w parts sound one = λ i. record w.b { parts = (one ∙ sym sound.b.parts) i }

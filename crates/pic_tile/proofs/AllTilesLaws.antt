@@ -7,6 +7,7 @@ use Rattle.std.proofs.lemmas.Bool.Decides.{nat_tests}
 use Rattle.std.proofs.lemmas.Int.{ints}
 use Rattle.std.proofs.lemmas.List.Elements.{All-head, All-tail, All-weaker}
 use Rattle.std.specs.Prelude.{◌==◌, ◌/◌, ◌%◌}
+use Rattle.pic_grid.specs.Hat.{HasTwo}
 use Rattle.pic_num.specs.declared.motion.Particle.{Particle}
 use Rattle.pic_num.specs.Space.{Triple, Spot}
 use Rattle.pic_grid.specs.Block.{outer_of}
@@ -21,7 +22,7 @@ use Rattle.pic_orders.specs.StandFor.{owned}
 use Rattle.pic_orders.proofs.SumLaws.{sum_over_any_order}
 use Rattle.pic_tile.specs.Directions.{directions, steps_of, opposite}
 use Rattle.pic_tile.specs.Layers.{layer_at, at_some, pick, corner, sender_of, given_at, StaysByTile}
-use Rattle.pic_tile.specs.Tiling.{neighbour_of, Tiling, IsThick, cells_of, stepped}
+use Rattle.pic_tile.specs.Tiling.{neighbour_of, Tiling, cells_of, stepped}
 use Rattle.pic_tile.proofs.OneAxisLaws.{pick_same}
 use Rattle.pic_tile.proofs.ThreeAxesLaws.{three_axes}
 use Rattle.pic_tile.proofs.TilingLaws.{stepped_within}
@@ -109,7 +110,7 @@ pub record IsByItsTile (m : Tiling) (own : Particle → ℕ) (f : Particle → S
   pub stays : StaysByTile m (own x) (f x)
 
 pub all_tiles : (m : Tiling) (own : Particle → ℕ) (f : Particle → Spot → ℤ) (start : ℕ → List Particle) (xs : List Particle) (r : ℕ) (q : Triple)
-    → IsThick m.size → r < count_of m.tiles → IsWithin q m.size
+    → HasTwo m.size → r < count_of m.tiles → IsWithin q m.size
     → ((t : ℕ) → t < count_of m.tiles → Same (start t) (owned own t xs)) → All (IsByItsTile m own f) xs
     → sum_below directions (λ d. given_at m (sender_of m d r) d (λ c. sum_over (λ x. f x c) (start (sender_of m d r))) q)
     ≡ sum_over (λ x. wrapped (cells_of m) (f x) (outer_of (corner m r) q)) xs

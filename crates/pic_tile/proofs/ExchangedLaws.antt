@@ -7,7 +7,7 @@ use Rattle.pic_num.specs.Space.{triple}
 use Rattle.pic_grid.specs.declared.stop.Stop.{Stop}
 use Rattle.pic_grid.specs.Block.{inner_at}
 use Rattle.pic_grid.specs.Cells.{count_of}
-use Rattle.pic_grid.specs.Hat.{IsInBox}
+use Rattle.pic_grid.specs.Hat.{IsInBox, HasTwo}
 use Rattle.pic_grid.specs.PushPhase.{Surroundings, push_of, push_stop, moved_all}
 use Rattle.pic_orders.specs.InOrder.{AreOrdered}
 use Rattle.pic_orders.specs.Same.{Same}
@@ -27,7 +27,7 @@ use Rattle.pic_tile.specs.Owners.{tile_of}
 use Rattle.pic_tile.specs.Parcels.{AreFreshTiles}
 use Rattle.pic_tile.specs.Receiving.{HasMerged, IsReceiving, AreAllDone, coming}
 use Rattle.pic_tile.specs.Tile.{TileValue, parcel_at, chain_of, flux_of, stop_of_parcel, chain_at, stop_at, tile_in}
-use Rattle.pic_tile.specs.Tiling.{Tiling, IsThick, cells_of}
+use Rattle.pic_tile.specs.Tiling.{Tiling, cells_of}
 use Rattle.pic_tile.proofs.ArrivalLaws.{coming_all}
 use Rattle.pic_tile.proofs.HeldLaws.{Leads, chain_in, fresh_stand}
 use Rattle.pic_tile.proofs.LeavingLaws.{tile_below}
@@ -50,7 +50,7 @@ abbrev starts : List TileValue → ℕ → List Particle
 starts opening t = chain_at (tile_in opening t) here
 
 module _ (law : LayersMakeTheCurrent) (leads : WayLeads) (w : Surroundings) (m : Tiling) (xs : List Particle) (opening : List TileValue)
-    (some : 0 < m.side) (thick : IsThick m.size) (side : w.side ≡ m.side) (cells : w.cells ≡ cells_of m)
+    (some : 0 < m.side) (thick : HasTwo m.size) (side : w.side ≡ m.side) (cells : w.cells ≡ cells_of m)
     (inside : All (λ x. IsInBox m.side (cells_of m) (triple x.x)) xs) (fresh : AreFreshTiles m xs opening)
   where
     pub shared_out : AreSharedOut m (starts opening) xs

@@ -4,6 +4,7 @@ use Rattle.std.proofs.Math.IntN.{ℤ, pos, ◌+ℤ◌, ◌-ℤ◌}
 use Rattle.std.proofs.lemmas.Bool.Decides.{nat_tests}
 use Rattle.std.proofs.lemmas.Int.{ints}
 use Rattle.std.specs.Prelude.{◌&&◌, nat_lt, ◌==◌}
+use Rattle.pic_grid.specs.Hat.{HasTwo}
 use Rattle.pic_num.specs.declared.axis.Axis.{Axis}
 use Rattle.pic_num.specs.Space.{Triple, Spot}
 use Rattle.pic_grid.specs.Block.{BlockValues, inner_at}
@@ -12,7 +13,7 @@ use Rattle.pic_grid.specs.Cells.{IsWithin}
 use Rattle.pic_grid.proofs.BlockLayerLaws.{over_tells, cell_in, in_zone, inner_edge}
 use Rattle.pic_tile.specs.Directions.{steps_of}
 use Rattle.pic_tile.specs.Layers.{layer_count, layer_low, layer_begin, layer_at, layers_size, layers_from, layers_begin, corner, IsLayers, at_some, pick, given_at}
-use Rattle.pic_tile.specs.Tiling.{Tiling, IsThick}
+use Rattle.pic_tile.specs.Tiling.{Tiling}
 use Rattle.pic_tile.proofs.OneAxisLaws.{pick_same}
 
 some_same : (b c : Bool) (i j : ℤ) → b ≡ c → (b ≡ true → i ≡ j) → cond b (Some i) None ≡ cond c (Some j) None
@@ -48,7 +49,7 @@ three_some false false true x y z g = refl
 three_some false false false x y z g = refl
 
 -- what is given, by where the layers are laid
-given_is : (m : Tiling) (t d : ℕ) (g : Spot → ℤ) (q : Triple) → IsThick m.size → IsWithin q m.size
+given_is : (m : Tiling) (t d : ℕ) (g : Spot → ℤ) (q : Triple) → HasTwo m.size → IsWithin q m.size
     → given_at m t d g q
     ≡ (let low = layers_from m.size (corner m t) d in
     let p = lowered_by (layers_begin m.size d) q in
@@ -67,7 +68,7 @@ given_is m t d g q thick inner =
     (from.x +ℤ pos (q.x - begin.x)) (from.y +ℤ pos (q.y - begin.y)) (from.z +ℤ pos (q.z - begin.z)) g
 
 -- a block of layers gives what its flux gives
-pub layers_give : (m : Tiling) (t d : ℕ) (f : Axis → Spot → ℤ) (b : BlockValues) (a : Axis) (q : Triple) → IsThick m.size → IsWithin q m.size
+pub layers_give : (m : Tiling) (t d : ℕ) (f : Axis → Spot → ℤ) (b : BlockValues) (a : Axis) (q : Triple) → HasTwo m.size → IsWithin q m.size
     → IsLayers m t d f b → layer_of b.size b.values (layers_begin m.size d) a q ≡ given_at m t d (f a) q
 unfolding layer_of
 layers_give m t d f b a q thick inner is =

@@ -7,7 +7,7 @@ use Rattle.std.proofs.lemmas.List.Elements.{All-weaker}
 use Rattle.pic_num.specs.declared.motion.Particle.{Particle}
 use Rattle.pic_num.specs.Space.{Triple, triple}
 use Rattle.pic_grid.specs.Cells.{count_of}
-use Rattle.pic_grid.specs.Hat.{IsInBox}
+use Rattle.pic_grid.specs.Hat.{IsInBox, HasTwo}
 use Rattle.pic_grid.specs.PushPhase.{Surroundings}
 use Rattle.pic_orders.specs.Same.{Same}
 use Rattle.pic_orders.specs.StandFor.{owned, StandFor}
@@ -24,7 +24,7 @@ use Rattle.pic_tile.specs.Leaving.{way, after, going}
 use Rattle.pic_tile.specs.Owners.{tile_of}
 use Rattle.pic_tile.specs.Parcels.{AreFreshTiles}
 use Rattle.pic_tile.specs.Tile.{TileValue, chain_at, no_tile, tile_in}
-use Rattle.pic_tile.specs.Tiling.{Tiling, IsThick, cells_of, neighbour_of}
+use Rattle.pic_tile.specs.Tiling.{Tiling, cells_of, neighbour_of}
 use Rattle.pic_tile.proofs.AllTilesLaws.{sender_below}
 use Rattle.pic_tile.proofs.LeavingLaws.{tile_below, way_below}
 use Rattle.pic_tile.proofs.TilingLaws.{neighbour_back}
@@ -34,7 +34,7 @@ pub chain_in : (tiles : List TileValue) (i : ℕ) → i < length tiles → get_o
 chain_in tiles i below = get_or-map (λ (t : TileValue). chain_at t here) tiles i no_tile [] below
 
 -- the chains of fresh tiles stand for the list
-pub fresh_stand : (m : Tiling) (xs : List Particle) (ts : List TileValue) → 0 < m.side → IsThick m.size → All (λ x. IsInBox m.side (cells_of m) (triple x.x)) xs
+pub fresh_stand : (m : Tiling) (xs : List Particle) (ts : List TileValue) → 0 < m.side → HasTwo m.size → All (λ x. IsInBox m.side (cells_of m) (triple x.x)) xs
     → AreFreshTiles m xs ts → StandFor (tile_of m) (chains_of ts) xs
 fresh_stand m xs ts some thick inside h =
     let long : length (chains_of ts) ≡ count_of m.tiles = length-map ts (λ (t : TileValue). chain_at t here) ∙ h.count in
@@ -48,7 +48,7 @@ fresh_stand m xs ts some thick inside h =
     }
 
 -- so they have its particles
-pub fresh_hold : (m : Tiling) (xs : List Particle) (ts : List TileValue) → 0 < m.side → IsThick m.size → All (λ x. IsInBox m.side (cells_of m) (triple x.x)) xs
+pub fresh_hold : (m : Tiling) (xs : List Particle) (ts : List TileValue) → 0 < m.side → HasTwo m.size → All (λ x. IsInBox m.side (cells_of m) (triple x.x)) xs
     → AreFreshTiles m xs ts → HoldTheList xs ts
 fresh_hold m xs ts some thick inside h =
     let all = together (chains_of ts) in

@@ -6,7 +6,7 @@ use Rattle.pic_num.specs.declared.motion.Particle.{Particle}
 use Rattle.pic_num.specs.Push.{Shift, Halting, plus}
 use Rattle.pic_num.specs.Space.{Triple, Spot, triple, unwrapped, AreAtMost}
 use Rattle.pic_grid.specs.Cells.{count_of, index_of, cell_of}
-use Rattle.pic_grid.specs.Hat.{IsInBox}
+use Rattle.pic_grid.specs.Hat.{IsInBox, HasTwo}
 use Rattle.pic_grid.specs.Parts.{part_of}
 use Rattle.pic_grid.specs.Path.{floor_cell}
 use Rattle.pic_grid.specs.PushPhase.{Surroundings, push_of, after_push, moved}
@@ -14,7 +14,7 @@ use Rattle.pic_grid.proofs.CellLaws.{cell_of_within, index_of-cell_of}
 use Rattle.pic_tile.specs.Directions.{directions, here, steps_of, ring_step}
 use Rattle.pic_tile.specs.Leaving.{step_to, direction_by, direction_to, way_after, way, after}
 use Rattle.pic_tile.specs.Owners.{cell_at, tile_of}
-use Rattle.pic_tile.specs.Tiling.{Tiling, IsThick, cells_of, stepped, neighbour_of}
+use Rattle.pic_tile.specs.Tiling.{Tiling, cells_of, stepped, neighbour_of}
 use Rattle.pic_tile.proofs.OwnerLaws.{cell_within}
 use Rattle.pic_tile.proofs.RingLaws.{ring_stays}
 use Rattle.pic_tile.proofs.StepLaws.{axis_leads}
@@ -64,12 +64,12 @@ neighbour_here n tile below =
 
 -- A particle of the box.
 
-pub tile_place : (m : Tiling) (particle : Particle) → 0 < m.side → IsThick m.size → IsInBox m.side (cells_of m) (triple particle.x)
+pub tile_place : (m : Tiling) (particle : Particle) → 0 < m.side → HasTwo m.size → IsInBox m.side (cells_of m) (triple particle.x)
     → cell_of m.tiles (tile_of m particle) ≡ part_of m.size (cell_at m.side (triple particle.x))
 tile_place m particle some thick inside =
     owner_place m (cell_at m.side (triple particle.x)) thick (cell_within m.side (cells_of m) (triple particle.x) some inside)
 
-pub tile_below : (m : Tiling) (particle : Particle) → 0 < m.side → IsThick m.size → IsInBox m.side (cells_of m) (triple particle.x)
+pub tile_below : (m : Tiling) (particle : Particle) → 0 < m.side → HasTwo m.size → IsInBox m.side (cells_of m) (triple particle.x)
     → tile_of m particle < count_of m.tiles
 tile_below m particle some thick inside =
     owner_below m (cell_at m.side (triple particle.x)) thick (cell_within m.side (cells_of m) (triple particle.x) some inside)
@@ -99,7 +99,7 @@ neighbour_is m tile c p e =
     ∙ ap (λ (q : Triple). index_of m.tiles (stepped m.tiles steps q)) e
 
 -- a move of at most a side
-move_leads : (m : Tiling) (particle : Particle) (s : Shift) → 0 < m.side → IsThick m.size → IsInBox m.side (cells_of m) (triple particle.x)
+move_leads : (m : Tiling) (particle : Particle) (s : Shift) → 0 < m.side → HasTwo m.size → IsInBox m.side (cells_of m) (triple particle.x)
     → AreAtMost s.d m.side
     → tile_of m (moved m.side (cells_of m) particle s) ≡ neighbour_of m.tiles (tile_of m particle) (way_after m particle (Ok s))
 unfolding moved
@@ -123,7 +123,7 @@ unfolding after_push
 after_halt side n particle h = refl
 
 -- a push that moves by at most a side, or halts
-pub way_leads : (w : Surroundings) (m : Tiling) (particle : Particle) → w.side ≡ m.side → w.cells ≡ cells_of m → 0 < m.side → IsThick m.size
+pub way_leads : (w : Surroundings) (m : Tiling) (particle : Particle) → w.side ≡ m.side → w.cells ≡ cells_of m → 0 < m.side → HasTwo m.size
     → IsInBox m.side (cells_of m) (triple particle.x) → ((s : Shift) → push_of w particle ≡ Ok s → AreAtMost s.d m.side)
     → tile_of m (after w particle) ≡ neighbour_of m.tiles (tile_of m particle) (way w m particle)
 unfolding way after

@@ -18,3 +18,4 @@ pub mod HeldLaws
 pub mod ArrivalLaws
 pub mod ExchangedLaws
 pub mod OpeningLaws
+pub mod LeastOfTilesLaws

@@ -1,19 +1,20 @@
 -- The tile of a receiver when all has come, and what a merge asks for.
 use Rattle.std.proofs.Common.{◌≡◌, ℕ, zero, suc, ◌*◌, ◌^◌, ◌<◌, ◌≤◌, ◌⊎◌, inl, inr, Bool, true, false, List, length, Option, None, Some, refl, sym, ap, ◌∙◌, subst, arith}
 use Rattle.std.proofs.Math.Decide.{ℕ_discrete}
-use Rattle.std.proofs.Math.IntN.{ℤ, pos}
+use Rattle.std.proofs.Math.IntN.{ℤ}
 use Rattle.std.specs.Prelude.{IsSome}
 use Rattle.std.specs.List.{All}
 use Rattle.std.proofs.lemmas.Int.{ints}
+use Rattle.pic_tile.proofs.CutLaws.{empty_layers}
 use Rattle.pic_num.specs.declared.axis.Axis.{Axis}
 use Rattle.pic_num.specs.declared.motion.Particle.{Particle}
 use Rattle.pic_num.specs.Limits.{most_side, most_particles}
 use Rattle.pic_num.specs.Sizes.{IsAtMost}
 use Rattle.pic_num.specs.Space.{Triple, Spot, triple}
 use Rattle.pic_grid.specs.Block.{BlockValues, AllAtMost, inner_of, inner_at, outer_of}
-use Rattle.pic_grid.specs.Cells.{IsWithin, count_of, place_of}
+use Rattle.pic_grid.specs.Cells.{IsWithin, count_of}
 use Rattle.pic_grid.specs.Current.{current}
-use Rattle.pic_grid.specs.Hat.{IsInBox}
+use Rattle.pic_grid.specs.Hat.{IsInBox, HasTwo}
 use Rattle.pic_grid.specs.PushPhase.{Surroundings}
 use Rattle.pic_grid.specs.Species.{IsKind}
 use Rattle.pic_grid.specs.Sums.{sum_below}
@@ -22,26 +23,15 @@ use Rattle.pic_grid.proofs.BlockLaws.{inner_within, all_at_most_more}
 use Rattle.pic_grid.proofs.SumLaws.{sum_same}
 use Rattle.pic_tile.specs.declared.parcel.Parcel.{Parcel}
 use Rattle.pic_tile.specs.Directions.{directions, here, steps_of}
-use Rattle.pic_tile.specs.Empty.{empty_parcel}
-use Rattle.pic_tile.specs.Layers.{IsLayers, layer_at, layers_from, layers_size, corner, sender_of, at_some, pick, given_at}
+use Rattle.pic_tile.specs.Layers.{IsLayers, layer_at, layers_size, corner, sender_of, at_some, pick, given_at}
 use Rattle.pic_tile.specs.LayerSum.{AreSharedOut, LayersMakeTheCurrent}
 use Rattle.pic_tile.specs.Parcels.{IsParcel, IsReady, no_flux}
 use Rattle.pic_tile.specs.Receiving.{brought, HasMerged, IsReceiving, SumsKeepTheBound}
 use Rattle.pic_tile.specs.Tile.{TileValue, parcel_at, chain_of, flux_of, flux_at}
-use Rattle.pic_tile.specs.Tiling.{Tiling, IsThick, IsMap, cells_of}
+use Rattle.pic_tile.specs.Tiling.{Tiling, IsMap, cells_of}
 use Rattle.pic_tile.specs.Zones.{IsTileZone}
 use Rattle.pic_tile.proofs.ReceivingLaws.{some_there}
-use Rattle.pic_tile.proofs.TileLaws.{same_there}
 use Rattle.pic_tile.proofs.ZoneLaws.{tile_zone}
-
--- an empty parcel has no flux over its layers
-empty_layers : (m : Tiling) (r d : ℕ) → IsLayers m r d no_flux (empty_parcel m.size (corner m r) d).flux
-empty_layers m r d = record {
-  low = refl;
-  size = refl;
-  values = λ a c inside. same_there (3 * count_of (layers_size m.size d))
-      (place_of (layers_size m.size d) a (inner_of (layers_from m.size (corner m r) d) c)) (pos 0);
-}
 
 -- where all directions are done, the tile is ready
 pub ready_received : (w : Surroundings) (m : Tiling) (start : ℕ → List Particle) (done : ℕ → Bool) (r : ℕ) (t : TileValue)
@@ -65,7 +55,7 @@ ready_received w m start done r t all h =
 -- and the flux is the current, by the law of the layers
 pub merged_is_current : LayersMakeTheCurrent → (w : Surroundings) (m : Tiling) (start : ℕ → List Particle) (done : ℕ → Bool) (r : ℕ) (parcel : Parcel)
     (particles : List Particle) (a : Axis) (q : Triple) → ((d : ℕ) → d < directions → done d ≡ true) → HasMerged w m start done r parcel
-    → 0 < m.side → w.side ≡ m.side → w.cells ≡ cells_of m → IsThick m.size → r < count_of m.tiles → IsWithin q m.size → AreSharedOut m start particles
+    → 0 < m.side → w.side ≡ m.side → w.cells ≡ cells_of m → HasTwo m.size → r < count_of m.tiles → IsWithin q m.size → AreSharedOut m start particles
     → All (λ x. IsInBox m.side (cells_of m) (triple x.x)) particles → inner_at parcel.flux a q ≡ current w particles a (outer_of (corner m r) q)
 unfolding brought
 merged_is_current law w m start done r parcel particles a q all has some side cells thick among within shared inside =
@@ -132,7 +122,7 @@ merged_small w m start done r parcel most small has = record {
 
 -- by the law of the partial sums it is at most what the flux of all particles can be at one edge
 pub merged_in_bound : SumsKeepTheBound → (w : Surroundings) (m : Tiling) (start : ℕ → List Particle) (particles : List Particle) (done : ℕ → Bool) (r : ℕ)
-    (parcel : Parcel) → 0 < m.side → m.side ≤ most_side → w.side ≡ m.side → w.cells ≡ cells_of m → All IsKind w.kinds → IsThick m.size → r < count_of m.tiles
+    (parcel : Parcel) → 0 < m.side → m.side ≤ most_side → w.side ≡ m.side → w.cells ≡ cells_of m → All IsKind w.kinds → HasTwo m.size → r < count_of m.tiles
     → AreSharedOut m start particles → All (λ x. IsInBox m.side (cells_of m) (triple x.x)) particles → length particles ≤ most_particles
     → HasMerged w m start done r parcel → AllAtMost most_flux parcel.flux
 merged_in_bound law w m start particles done r parcel some side same cells limits thick among shared inside few has = record {

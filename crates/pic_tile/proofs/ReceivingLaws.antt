@@ -6,6 +6,7 @@ use Rattle.std.specs.List.{sum_by}
 use Rattle.std.proofs.lemmas.Bool.{false≢true}
 use Rattle.std.proofs.lemmas.Int.{ints}
 use Rattle.std.proofs.lemmas.List.Sums.{sum_by-append}
+use Rattle.pic_grid.specs.Hat.{HasTwo}
 use Rattle.pic_num.specs.declared.axis.Axis.{Axis}
 use Rattle.pic_num.specs.declared.motion.Particle.{Particle}
 use Rattle.pic_num.specs.Space.{Triple}
@@ -30,7 +31,7 @@ use Rattle.pic_tile.specs.Leaving.{going}
 use Rattle.pic_tile.specs.Parcels.{IsParcel}
 use Rattle.pic_tile.specs.Receiving.{Merged, emptied, coming, brought, HasMerged, IsReceiving, IsOneMore}
 use Rattle.pic_tile.specs.Tile.{TileValue, parcel_at, chain_of, flux_of, stop_of_parcel, chain_at, flux_at}
-use Rattle.pic_tile.specs.Tiling.{Tiling, IsThick}
+use Rattle.pic_tile.specs.Tiling.{Tiling}
 use Rattle.pic_tile.proofs.GiveLaws.{layers_give}
 use Rattle.pic_tile.proofs.LeavingLaws.{neighbour_here}
 
@@ -124,7 +125,7 @@ module _ (w : Surroundings) (m : Tiling) (start : ℕ → List Particle) (r : �
   none_comes done undone = record { sums = λ v. sym (coming_none done undone v) }
 
   -- the flux of a parcel that is the first,
-  flux_first : (done more : ℕ → Bool) (s : ℕ) (b : BlockValues) (a : Axis) (q : Triple) → IsThick m.size → IsOneMore here done more → s ≡ sender_of m here r
+  flux_first : (done more : ℕ → Bool) (s : ℕ) (b : BlockValues) (a : Axis) (q : Triple) → HasTwo m.size → IsOneMore here done more → s ≡ sender_of m here r
       → ((d : ℕ) → d < directions → done d ≡ false) → IsLayers m s here (traces w (start s)) b → IsWithin q m.size
       → inner_at b a q ≡ brought w m start more r a q
   flux_first done more s b a q thick one is undone layers within =
@@ -149,7 +150,7 @@ module _ (w : Surroundings) (m : Tiling) (start : ℕ → List Particle) (r : �
       omega (arith, ints, sym place ∙ sym laid ∙ gives ∙ same, all, none)
 
   -- and of any other
-  flux_more : (k : ℕ) (done more : ℕ → Bool) (old now b : BlockValues) (a : Axis) (q : Triple) → k < directions → IsThick m.size → IsOneMore k done more
+  flux_more : (k : ℕ) (done more : ℕ → Bool) (old now b : BlockValues) (a : Axis) (q : Triple) → k < directions → HasTwo m.size → IsOneMore k done more
       → old.size ≡ m.size → inner_at old a q ≡ brought w m start done r a q → AddsLayers old now b (layers_begin old.size k)
       → IsLayers m (sender_of m k r) k (traces w (start (sender_of m k r))) b → IsWithin q m.size → inner_at now a q ≡ brought w m start more r a q
   flux_more k done more old now b a q below thick one size before added layers within =
@@ -160,7 +161,7 @@ module _ (w : Surroundings) (m : Tiling) (start : ℕ → List Particle) (r : �
       omega (arith, ints, sum, before, begin, gives, all)
 
   -- what stands in the place of no step,
-  module _ (k : ℕ) (done more : ℕ → Bool) (p : Parcel) (t u : TileValue) (thick : IsThick m.size) (among : r < count_of m.tiles) (below : k < directions)
+  module _ (k : ℕ) (done more : ℕ → Bool) (p : Parcel) (t u : TileValue) (thick : HasTwo m.size) (among : r < count_of m.tiles) (below : k < directions)
       (one : IsOneMore k done more) (receiving : IsReceiving w m start done r t)
       (sent_is : IsParcel w m (start (sender_of m k r)) (sender_of m k r) k p) (merged : Merged p t u)
     where

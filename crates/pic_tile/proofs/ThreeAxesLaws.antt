@@ -5,6 +5,7 @@ use Rattle.std.proofs.Math.IntN.{ℤ, pos, ◌+ℤ◌, ◌-ℤ◌}
 use Rattle.std.proofs.lemmas.Bool.{cases_Bool, and_parts, eqb-true, eq-eqb, false_from_ne_true, true≢false}
 use Rattle.std.proofs.lemmas.Int.{ints}
 use Rattle.std.specs.Prelude.{◌==◌, ◌&&◌}
+use Rattle.pic_grid.specs.Hat.{HasTwo}
 use Rattle.pic_num.specs.Space.{Triple, Spot}
 use Rattle.pic_grid.specs.Block.{outer_of}
 use Rattle.pic_grid.specs.Cells.{IsWithin, count_of, index_of, cell_of}
@@ -15,7 +16,7 @@ use Rattle.pic_grid.proofs.SumLaws.{sum_same}
 use Rattle.pic_orders.proofs.SumLaws.{sum_none}
 use Rattle.pic_tile.specs.Directions.{directions, ring_step}
 use Rattle.pic_tile.specs.Layers.{layer_at, at_some, pick, IsBeyondTile, corner, sender_of, given_at, StaysByTile}
-use Rattle.pic_tile.specs.Tiling.{Tiling, IsThick, cells_of, stepped}
+use Rattle.pic_tile.specs.Tiling.{Tiling, cells_of, stepped}
 use Rattle.pic_tile.proofs.OneAxisLaws.{axis_part, one_axis}
 use Rattle.pic_tile.proofs.TilingLaws.{stepped_within, steps_back}
 
@@ -99,7 +100,7 @@ sender_test m t r d below among =
 
 -- The sum over the directions.
 
-pub three_axes : (m : Tiling) (t r : ℕ) (q : Triple) (f : Spot → ℤ) → IsThick m.size → t < count_of m.tiles → r < count_of m.tiles → IsWithin q m.size
+pub three_axes : (m : Tiling) (t r : ℕ) (q : Triple) (f : Spot → ℤ) → HasTwo m.size → t < count_of m.tiles → r < count_of m.tiles → IsWithin q m.size
     → StaysByTile m t f
     → sum_below directions (λ d. pick (sender_of m d r == t) (given_at m t d f q)) ≡ wrapped (cells_of m) f (outer_of (corner m r) q)
 unfolding given_at wrapped

@@ -1,18 +1,20 @@
 -- Tiles: each cell is in one, and a neighbour's neighbour by the direction back is the tile itself.
 use Rattle.std.proofs.Common.{◌≡◌, ℕ, pos, ◌+◌, ◌-◌, ◌*◌, ◌/◌, ◌%◌, ◌<◌, ◌≤◌, ◌+ℤ◌, ◌≤ℤ◌, ◌<ℤ◌, sym, ◌∙◌, ap, subst, arith}
 use Rattle.std.proofs.lemmas.Int.{ints}
-use Rattle.std.proofs.lemmas.Nat.{div-add-mod', div-mul-add, div_below, mod_below}
+use Rattle.std.proofs.lemmas.Nat.{div-mul-add, div_below}
+use Rattle.pic_grid.proofs.PartLaws.{in_part}
+use Rattle.pic_grid.specs.Hat.{HasTwo}
 use Rattle.pic_num.specs.Space.{Triple, unwrapped}
-use Rattle.pic_grid.specs.Cells.{IsSize, IsWithin, count_of, index_of, cell_of}
+use Rattle.pic_grid.specs.Cells.{IsWithin, count_of, index_of, cell_of}
 use Rattle.pic_grid.specs.Block.{InZone}
 use Rattle.pic_grid.specs.Parts.{part_of, corner_of}
 use Rattle.pic_grid.proofs.CellLaws.{index_of_below, cell_of-index_of, index_of-cell_of, cell_of_within}
 use Rattle.pic_tile.specs.Directions.{directions, steps_of, opposite, ring_step}
-use Rattle.pic_tile.specs.Tiling.{Tiling, IsThick, IsMap, cells_of, IsInTile, owner_of, stepped, neighbour_of}
+use Rattle.pic_tile.specs.Tiling.{Tiling, IsMap, cells_of, IsInTile, owner_of, stepped, neighbour_of}
 use Rattle.pic_tile.proofs.RingLaws.{ring_below, ring_back}
 
 -- a cell's part is one of the tiles
-pub part_within : (m : Tiling) (c : Triple) → IsThick m.size → IsWithin c (cells_of m) → IsWithin (part_of m.size c) m.tiles
+pub part_within : (m : Tiling) (c : Triple) → HasTwo m.size → IsWithin c (cells_of m) → IsWithin (part_of m.size c) m.tiles
 part_within m c h w =
     let x : 0 < m.size.x = omega (arith, h.x) in
     let y : 0 < m.size.y = omega (arith, h.y) in
@@ -24,31 +26,11 @@ part_within m c h w =
     }
 
 -- the place of a cell's tile
-pub owner_place : (m : Tiling) (c : Triple) → IsThick m.size → IsWithin c (cells_of m) → cell_of m.tiles (owner_of m c) ≡ part_of m.size c
+pub owner_place : (m : Tiling) (c : Triple) → HasTwo m.size → IsWithin c (cells_of m) → cell_of m.tiles (owner_of m c) ≡ part_of m.size c
 owner_place m c h w = cell_of-index_of m.tiles (part_of m.size c) (part_within m c h w)
 
-pub owner_below : (m : Tiling) (c : Triple) → IsThick m.size → IsWithin c (cells_of m) → owner_of m c < count_of m.tiles
+pub owner_below : (m : Tiling) (c : Triple) → HasTwo m.size → IsWithin c (cells_of m) → owner_of m c < count_of m.tiles
 owner_below m c h w = index_of_below m.tiles (part_of m.size c) (part_within m c h w)
-
--- a number and the end of its row
-pub low_end : (c s : ℕ) → pos (c / s * s) ≤ℤ pos c
-low_end c s = omega (arith, ints, div-add-mod' c s)
-
-pub high_end : (c s : ℕ) → 0 < s → pos c <ℤ (pos (c / s * s) +ℤ pos s)
-high_end c s h =
-    let rest : c % s < s = mod_below c s h in
-    omega (arith, ints, div-add-mod' c s)
-
--- a cell lies in the box of its part
-in_part : (s c : Triple) → IsSize s → InZone (corner_of s (part_of s c)) s (unwrapped c)
-in_part s c h = record {
-  x_low = low_end c.x s.x;
-  x_high = high_end c.x s.x h.x_least;
-  y_low = low_end c.y s.y;
-  y_high = high_end c.y s.y h.y_least;
-  z_low = low_end c.z s.z;
-  z_high = high_end c.z s.z h.z_least;
-}
 
 -- a cell's tile has it
 pub owner_has : (m : Tiling) (c : Triple) → IsMap m → IsWithin c (cells_of m) → IsInTile m (owner_of m c) c

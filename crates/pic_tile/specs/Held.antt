@@ -3,14 +3,14 @@ use Rattle.std.specs.Prelude.{◌<◌, List, length, map, IsPermutation}
 use Rattle.std.specs.List.{All, range_with_len}
 use Rattle.pic_num.specs.declared.motion.Particle.{Particle}
 use Rattle.pic_num.specs.Space.{triple}
-use Rattle.pic_grid.specs.Hat.{IsInBox}
+use Rattle.pic_grid.specs.Hat.{IsInBox, HasTwo}
 use Rattle.pic_orders.specs.InOrder.{IsCensus}
 use Rattle.pic_orders.specs.Same.{Same}
 use Rattle.pic_orders.specs.Totals.{together}
 use Rattle.pic_tile.specs.Directions.{here}
 use Rattle.pic_tile.specs.Parcels.{AreFreshTiles}
 use Rattle.pic_tile.specs.Tile.{TileValue, chain_at}
-use Rattle.pic_tile.specs.Tiling.{Tiling, IsThick, cells_of}
+use Rattle.pic_tile.specs.Tiling.{Tiling, cells_of}
 
 -- the chains of no step, tile after tile
 abbrev pub chains_of : List TileValue → List (List Particle)
@@ -28,7 +28,7 @@ abbrev pub FreshTilesHoldTheList : Type 0
 FreshTilesHoldTheList =
     (m : Tiling) (particles : List Particle) (tiles : List TileValue)
     → 0 < m.side
-    → IsThick m.size
+    → HasTwo m.size
     → All (λ x. IsInBox m.side (cells_of m) (triple x.x)) particles
     → AreFreshTiles m particles tiles
     → HoldTheList particles tiles

@@ -7,7 +7,7 @@ use Rattle.pic_num.specs.Space.{Triple, triple}
 use Rattle.pic_grid.specs.Block.{outer_of}
 use Rattle.pic_grid.specs.Cells.{IsWithin, count_of}
 use Rattle.pic_grid.specs.Current.{current}
-use Rattle.pic_grid.specs.Hat.{IsInBox}
+use Rattle.pic_grid.specs.Hat.{IsInBox, HasTwo}
 use Rattle.pic_grid.specs.PushPhase.{Surroundings}
 use Rattle.pic_grid.specs.Sums.{sum_below}
 use Rattle.pic_grid.specs.Traces.{traces}
@@ -16,7 +16,7 @@ use Rattle.pic_orders.specs.StandFor.{owned}
 use Rattle.pic_tile.specs.Directions.{directions}
 use Rattle.pic_tile.specs.Layers.{corner, sender_of, given_at}
 use Rattle.pic_tile.specs.Owners.{tile_of}
-use Rattle.pic_tile.specs.Tiling.{Tiling, IsThick, cells_of}
+use Rattle.pic_tile.specs.Tiling.{Tiling, cells_of}
 
 -- each tile has its own of these particles, in any order
 abbrev pub AreSharedOut : Tiling → (ℕ → List Particle) → List Particle → Type 0
@@ -32,7 +32,7 @@ LayersMakeTheCurrent =
     → 0 < m.side
     → w.side ≡ m.side
     → w.cells ≡ cells_of m
-    → IsThick m.size
+    → HasTwo m.size
     → r < count_of m.tiles
     → IsWithin q m.size
     → AreSharedOut m start particles

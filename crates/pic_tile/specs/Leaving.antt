@@ -4,12 +4,12 @@ use Rattle.pic_num.specs.declared.motion.Particle.{Particle}
 use Rattle.pic_num.specs.Push.{Shift, Halting, plus}
 use Rattle.pic_num.specs.Space.{Spot, triple, unwrapped}
 use Rattle.pic_grid.specs.Cells.{cell_of}
-use Rattle.pic_grid.specs.Hat.{IsInBox}
+use Rattle.pic_grid.specs.Hat.{IsInBox, HasTwo}
 use Rattle.pic_grid.specs.Path.{floor_cell}
 use Rattle.pic_grid.specs.PushPhase.{Surroundings, push_of, after_push}
 use Rattle.pic_tile.specs.Directions.{here}
 use Rattle.pic_tile.specs.Owners.{tile_of}
-use Rattle.pic_tile.specs.Tiling.{Tiling, IsThick, cells_of, neighbour_of}
+use Rattle.pic_tile.specs.Tiling.{Tiling, cells_of, neighbour_of}
 
 -- the step on one axis from a tile of n layers from low on to a cell, which isn't wrapped
 unfoldable pub step_to : ℕ → ℕ → ℤ → ℕ
@@ -53,6 +53,6 @@ WayLeads =
     → w.side ≡ m.side
     → w.cells ≡ cells_of m
     → 0 < m.side
-    → IsThick m.size
+    → HasTwo m.size
     → IsInBox m.side (cells_of m) (triple particle.x)
     → tile_of m (after w particle) ≡ neighbour_of m.tiles (tile_of m particle) (way w m particle)

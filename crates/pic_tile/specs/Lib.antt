@@ -17,3 +17,4 @@ pub mod Pushed
 pub mod CoreState
 pub mod CoreEvents
 pub mod Exchanged
+pub mod LeastOfTiles

@@ -10,7 +10,7 @@ use Rattle.pic_num.specs.Space.{Triple, triple}
 use Rattle.pic_grid.specs.Block.{BlockValues, IsShaped, inner_at}
 use Rattle.pic_grid.specs.BlockLayers.{AddsLayers}
 use Rattle.pic_grid.specs.Cells.{IsWithin, count_of}
-use Rattle.pic_grid.specs.Hat.{IsInBox}
+use Rattle.pic_grid.specs.Hat.{IsInBox, HasTwo}
 use Rattle.pic_grid.specs.PushPhase.{Surroundings}
 use Rattle.pic_grid.specs.Species.{IsKind}
 use Rattle.pic_grid.specs.Sums.{sum_below}
@@ -24,7 +24,7 @@ use Rattle.pic_tile.specs.Layers.{layers_begin, layers_from, corner, sender_of, 
 use Rattle.pic_tile.specs.LayerSum.{AreSharedOut}
 use Rattle.pic_tile.specs.Leaving.{going}
 use Rattle.pic_tile.specs.Tile.{TileValue, parcel_at, chain_at, flux_at, stop_at}
-use Rattle.pic_tile.specs.Tiling.{Tiling, IsThick, cells_of}
+use Rattle.pic_tile.specs.Tiling.{Tiling, cells_of}
 
 -- One merge.
 
@@ -112,7 +112,7 @@ SumsKeepTheBound =
     → w.side ≡ m.side
     → w.cells ≡ cells_of m
     → All IsKind w.kinds
-    → IsThick m.size
+    → HasTwo m.size
     → r < count_of m.tiles
     → IsWithin q m.size
     → AreSharedOut m start particles

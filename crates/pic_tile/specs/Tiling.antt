@@ -1,5 +1,6 @@
 -- A grid cut into equal tiles, boxes of cells that are numbered x fastest, then y, then z.
 use Rattle.std.specs.Prelude.{◌≡◌, ℕ, ◌*◌, ◌≤◌, List, length}
+use Rattle.pic_grid.specs.Hat.{HasTwo}
 use Rattle.pic_num.specs.Space.{Triple, triple, unwrapped}
 use Rattle.pic_grid.specs.Cells.{Grid, IsCells, IsSize, count_of, index_of, cell_of}
 use Rattle.pic_grid.specs.Block.{InZone}
@@ -28,17 +29,11 @@ grid_of_tiling m = record { n = cells_of m; side = m.side }
 abbrev pub tiles_of : Grid → Triple → Tiling
 tiles_of grid tiles = record { tiles = tiles; size = part_size grid.n tiles; side = grid.side }
 
--- each axis has two layers or more
-pub record IsThick (size : Triple) : Type 0 where
-  pub x : 2 ≤ size.x
-  pub y : 2 ≤ size.y
-  pub z : 2 ≤ size.z
-
 -- what the type of a map of tiles keeps: equal tiles of a grid, within the limits
 pub record IsMap (m : Tiling) : Type 0 where
   pub tiles : IsSize m.tiles
   pub layers : IsSize m.size
-  pub thick : IsThick m.size
+  pub thick : HasTwo m.size
   pub cells : IsCells (cells_of m)
   pub most : count_of m.tiles ≤ most_tiles
 

@@ -15,7 +15,7 @@ pub use cutting::cut;
 pub use dir::Dir;
 pub use frame::Frame;
 pub use kinds::Kinds;
-pub use laws::fresh_tiles_hold_the_list;
+pub use laws::{fresh_tiles_hold_the_list, law_of_the_least_of_tiles};
 pub use layers::{layers_begin, layers_zone};
 pub use parcel::{Parcel, ParcelBox};
 pub use tile::Tile;

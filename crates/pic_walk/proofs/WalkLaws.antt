@@ -69,9 +69,3 @@ pub given_none : {A C : Type 0} (a : A) (f : List ℕ → Data → Walked A) (pa
     ≡ None → WalksAs t (Ok a) r → WalksAs t (given a f path o) r
 unfolding given
 given_none a f path o e h = rw e h
-
--- want of memory answers every walk
-pub forgets : {A C : Type 0} (w : Walked A) {t : C → A} {r : Result C WalkStop} → IsErrAnd r (λ y. y ≡ NoMemory) → WalksAs t w r
-forgets w {t} {r} h =
-    let p = err_from_is_err_and r h in
-    rw (p.1, p.2) (record { answer = tt })

@@ -3,12 +3,12 @@
 use Rattle.std.specs.Prelude.{◌≡◌, ⊤, ℤ, pos, neg_ℤ, ℕ, suc, Bool, true, not, ◌&&◌, ◌==◌, unsigned_abs, if◌then◌else◌, List, [], ◌∷◌, ◌++◌, length, map, find, bytes_eq, slice_index_or, Option, Some, None, Result, Ok, Err}
 use Rattle.std.specs.List.{list_any}
 use Rattle.toml.specs.Data.{Data, Items, no_items, item, Members, no_members, member, as_str, as_integer, as_array, as_table, get_member, is_before}
+use Rattle.pic_num.specs.Limits.{most_numerator, most_shift}
 use Rattle.pic_num.specs.Multiplier.{Multiplier}
 use Rattle.pic_walk.specs.declared.fault.Fault.{Fault}
 use Rattle.pic_walk.specs.declared.fault.Fault.TheVariants.{Unknown, Missing, Kind, Limit}
 use Rattle.pic_walk.specs.declared.fault.WalkStop.{WalkStop}
 use Rattle.pic_walk.specs.declared.fault.WalkStop.TheVariants.{Found, NoMemory}
-use Rattle.pic_walk.specs.Bounds.{greatest_n, greatest_k}
 use Rattle.pic_walk.specs.declared.limits.Limits.{Limits}
 use Rattle.pic_walk.specs.Limits.{from_to, is_within, limits_at, any_limits}
 use Rattle.pic_walk.specs.Path.{key_at, element_at}
@@ -101,7 +101,7 @@ text path d = some_or (Kind path) (as_str d)
 
 -- the limits of n and k in [n, k], a multiplier
 abbrev pub multiplier_limits : List Limits
-multiplier_limits = from_to (neg_ℤ (pos greatest_n)) (pos greatest_n) ∷ from_to (pos 0) (pos greatest_k) ∷ []
+multiplier_limits = from_to (neg_ℤ (pos most_numerator)) (pos most_numerator) ∷ from_to (pos 0) (pos most_shift) ∷ []
 
 -- an array [n, k] as the multiplier n / 2^k
 unfoldable pub multiplier : List ℕ → Data → Walked Multiplier

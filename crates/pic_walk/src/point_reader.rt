@@ -18,7 +18,8 @@ use pic_grid::Cells;
 use std::alloc::Global;
 use toml::Value;
 
-const FASTEST: i64 = 16777216;
+/// The most that a velocity may be in size on an axis, in 1/4096 sub-cell per step.
+pub const FASTEST: i64 = 16777216;
 
 fn point_limits(cells: Cells) -> [Limits; 6]
     ensures { result ≡ point_limits cells }

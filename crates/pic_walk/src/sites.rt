@@ -12,6 +12,7 @@ ghost use Rattle.pic_walk.specs.Walk.{WalksAs};
 use crate::extents::extent;
 use crate::fault::WalkStop;
 use crate::limits::Limits;
+use crate::point_reader::FASTEST;
 use crate::tables::{need_signed_three, need_three};
 use pic_grid::Cells;
 use std::alloc::Global;
@@ -20,8 +21,6 @@ use toml::Table;
 const WIDEST_GAP: i64 = 262144;
 
 const MOST_SITES: i64 = 1048576;
-
-const FASTEST: i64 = 16777216;
 
 /// The sites of a lattice on which particles stand: the first of them and the way from one to the
 /// next on each axis, in sub-cells, how many there are on each axis, and the velocity of all, in

@@ -1,5 +1,5 @@
 -- Two particles at the begin of a push.
-use Rattle.std.proofs.Common.{◌≡◌, ℕ, ◌<◌, ◌≤◌, All, List, [], ◌∷◌, length, sym, subst, arith}
+use Rattle.std.proofs.Common.{◌≡◌, ℕ, ◌<◌, ◌≤◌, List, [], ◌∷◌, length, sym, subst, arith}
 use Rattle.std.proofs.lemmas.List.Elements.{All-nil, All-cons}
 use Rattle.pic_num.specs.declared.motion.Particle.{Particle}
 use Rattle.pic_num.specs.Space.{Triple, triple}
@@ -21,12 +21,6 @@ near_in_box m a side two near =
     let z : 2 ≤ n.z = two.z in
     subst (λ (s : ℕ). IsInBox s n (triple (a ∷ 0 ∷ 0 ∷ []))) (sym side)
     (record { x = omega (arith, x, near); y = omega (arith, y); z = omega (arith, z) })
-
-pub two_in_box : (m : Tiling) (x y : Particle) → IsInBox m.side (cells_of m) (triple x.x) → IsInBox m.side (cells_of m) (triple y.x)
-    → All (λ p. IsInBox m.side (cells_of m) (triple p.x)) (x ∷ y ∷ [])
-two_in_box m x y first second =
-    let In : Particle → Type 0 = λ p. IsInBox m.side (cells_of m) (triple p.x) in
-    All-cons In x (y ∷ []) first (All-cons In y [] second (All-nil In))
 
 pub opening_two : (f : FrameValue) (m : Tiling) (x y : Particle) (ts : List TileValue) → IsSoundFrame f → f.map ≡ m → AreFreshTiles m (x ∷ y ∷ []) ts
     → x.id ≡ 0 → y.id ≡ 1 → x.species < length f.kinds → y.species < length f.kinds

@@ -1,8 +1,9 @@
 use Rattle.std.proofs.Common.{◌+◌, ◌*◌, ◌<◌, ◌≤◌, length, ◌∙◌, arith}
+use Rattle.pic_grid.proofs.RowLaws.{part_long}
 use Rattle.pic_num.specs.Space.{triple}
 use Rattle.pic_grid.specs.Cells.{count_of}
 use Rattle.pic_grid.proofs.BlockRowLaws.{rows_of, rows_count}
-use Rattle.pic_grid.proofs.CopyLaws.{rows_none, rows_more, rows_all, row_long, as_long}
+use Rattle.pic_grid.proofs.CopyLaws.{rows_none, rows_more, rows_all, as_long}
 use Rattle.pic_grid.proofs.PlaceLaws.{first_place, next_place}
 use Rattle.pic_grid.proofs.copying.copy_rows.Goals as goal
 
@@ -26,8 +27,8 @@ loop-row-preserved c =
     record {
       place = next_place (rows_of n) i a r _ _ c.loop-row.invariant.place below c.following-place.ensures.within c.following-place.ensures.number;
       copied = rows_more c.args.from.now (triple c.args.low) n c.loop-row.to c.copy_row.new.to _ i start a r within number c.row_start-start.ensures.value
-          (omega (arith, fits)) (c.copy_row.auto.to ∙ row_long c.loop-row.to start n.x fits)
-          (as_long c.args.from.now a _ _ n.x c.copy_row.new.to (row_long c.loop-row.to start n.x fits) c.copy_row.ensures) c.loop-row.invariant.copied;
+          (omega (arith, fits)) (c.copy_row.auto.to ∙ part_long c.loop-row.to start n.x fits)
+          (as_long c.args.from.now a _ _ n.x c.copy_row.new.to (part_long c.loop-row.to start n.x fits) c.copy_row.ensures) c.loop-row.invariant.copied;
     }
 
 pub returns : goal.returns

@@ -16,7 +16,7 @@ use Rattle.pic_step.specs.SerialStep.{World}
 use Rattle.pic_step.specs.SerialRun.{kinds_of}
 use Rattle.pic_step.specs.Sound.{IsSound}
 use Rattle.pic_step.specs.Start.{begun}
-use Rattle.pic_run.specs.Starting.{break_of}
+use Rattle.pic_run.specs.Starting.{state_break}
 use Rattle.pic_run.proofs.StartLaws.{kinds_are, shares_are, initial_most, sound_start}
 use Rattle.pic_run.proofs.starting.find_break.Goals as goal
 
@@ -45,7 +45,7 @@ gauss-requires-clause-e_most c =
     (initial_most d c.cells-cells.ensures.limits a p (subst (λ (g : Grid). IsWithin p g.n) cells within))
 
 pub returns-clause-value : goal.returns-clause-value
-unfolding break_of
+unfolding state_break
 returns-clause-value c =
     let w = begun c.args.start.now in
     let kinds : c.deref.result.now ≡ w.kinds = c.deref.ensures.value in
@@ -62,5 +62,5 @@ pub returns-clause-sound : goal.returns-clause-sound
 returns-clause-sound c none =
     let d = c.args.deck.now in
     let is = c.requires.start in
-    let whole = sym (ap break_of is) ∙ sym (returns-clause-value c) ∙ none in
+    let whole = sym (ap state_break is) ∙ sym (returns-clause-value c) ∙ none in
     subst IsSound (sym is) (sound_start d c.args.start.now.particles.items c.cells-cells.ensures.limits c.requires.loaded whole)

@@ -10,7 +10,7 @@ use mir.Val.{SFits}
 use Rattle.pic_num.specs.Sizes.{IsAtMost}
 use Rattle.pic_num.specs.Space.{Spot, Triple, spot, next_axis}
 use Rattle.pic_grid.specs.Block.{BlockValues, inner_of}
-use Rattle.pic_grid.specs.BlockLayers.{AreAtMost}
+use Rattle.pic_grid.specs.BlockLayers.{NumbersAtMost}
 use Rattle.pic_grid.specs.Cells.{count_of, place_of}
 use Rattle.pic_grid.specs.Fours.{added_in, step_by}
 use Rattle.pic_grid.specs.Rows.{lifted}
@@ -32,7 +32,7 @@ record Known (c : After-as_mut_slice-values) : Type 0 where
   same : c.as_mut_slice-values.result.now ≡ c.args.self.now.values
   whole : length c.as_mut_slice-values.result.now ≡ 3 * count_of c.args.self.now.size
   few : 3 * count_of c.args.self.now.size < 2 ^ 60
-  room : AreAtMost (2 ^ 110) c.as_mut_slice-values.result.now
+  room : NumbersAtMost (2 ^ 110) c.as_mut_slice-values.result.now
   low_low : StandsAt c.args.self.now.size c.args.found.now.low_low
       (place_of c.args.self.now.size c.args.axis (inner_of c.args.self.now.low (spot c.args.at.now.cell))) (to_z w64 (of_z w64 c.first-here.result))
   high_low : StandsAt c.args.self.now.size c.args.found.now.high_low
@@ -90,14 +90,14 @@ known c =
 record Step (found : Bool) (xs ys : List ℤ) (q : ℕ) (v : ℤ) (len m : ℕ) : Type 0 where
   is : ys ≡ added_in found xs q v
   long : length ys ≡ len
-  room : AreAtMost (m + 2 ^ 80) ys
+  room : NumbersAtMost (m + 2 ^ 80) ys
 
 below_of : (n : Triple) (found : Bool) (q : ℕ) (z : ℤ) (xs : List ℤ) → length xs ≡ 3 * count_of n → StandsAt n found q z → IsTrue found
     → unsigned_abs z < length xs
 below_of n found q z xs e h has = subst (λ (k : ℕ). unsigned_abs z < k) (sym e) (h.below has)
 
 step : (n : Triple) (found : Bool) (q : ℕ) (z : ℤ) (xs ys : List ℤ) (v : ℤ) (m : ℕ) → StandsAt n found q z → IsAtMost v (2 ^ 80)
-    → length xs ≡ 3 * count_of n → AreAtMost m xs → ys ≡ added_in found xs (unsigned_abs z) (to_z w128 (of_z w128 v))
+    → length xs ≡ 3 * count_of n → NumbersAtMost m xs → ys ≡ added_in found xs (unsigned_abs z) (to_z w128 (of_z w128 v))
     → Step found xs ys q v (3 * count_of n) m
 step n found q z xs ys v m at small long room e =
     let fits = fits_signed_from_abs w128 v (let size = small.size in omega (arith, size)) in
@@ -105,7 +105,7 @@ step n found q z xs ys v m at small long room e =
     record {
       is = is ∙ added_in_at found xs (unsigned_abs z) q v at.same;
       long = ap length is ∙ length-added_in found xs (unsigned_abs z) v ∙ long;
-      room = subst (AreAtMost (m + 2 ^ 80)) (sym is) (added_in_small found xs (unsigned_abs z) v m (2 ^ 80) (below_of n found q z xs long at) small room);
+      room = subst (NumbersAtMost (m + 2 ^ 80)) (sym is) (added_in_small found xs (unsigned_abs z) v m (2 ^ 80) (below_of n found q z xs long at) small room);
     }
 
 -- the places of the four
@@ -123,7 +123,7 @@ first c ys e =
     step c.args.self.now.size _ _ _ _ ys _ (2 ^ 110) k.low_low c.requires.small.low_low k.whole k.room e
 
 second : (c : After-as_mut_slice-values) (xs ys : List ℤ) → length xs ≡ 3 * count_of c.args.self.now.size
-    → AreAtMost (2 ^ 110 + 2 ^ 80) xs
+    → NumbersAtMost (2 ^ 110 + 2 ^ 80) xs
     → ys ≡ added_in c.args.found.now.high_low xs (unsigned_abs (to_z w64 (of_z w64 c.sum-up.result)))
     (to_z w128 (of_z w128 c.args.four.now.high_low))
     → Step c.args.found.now.high_low xs ys (place c (lifted (next_axis c.args.axis) (spot c.args.at.now.cell)))
@@ -133,7 +133,7 @@ second c xs ys long room e =
     step c.args.self.now.size _ _ _ xs ys _ (2 ^ 110 + 2 ^ 80) k.high_low c.requires.small.high_low long room e
 
 third : (c : After-as_mut_slice-values) (xs ys : List ℤ) → length xs ≡ 3 * count_of c.args.self.now.size
-    → AreAtMost (2 ^ 110 + 2 ^ 80 + 2 ^ 80) xs
+    → NumbersAtMost (2 ^ 110 + 2 ^ 80 + 2 ^ 80) xs
     → ys ≡ added_in c.args.found.now.low_high xs (unsigned_abs (to_z w64 (of_z w64 c.sum-high.result)))
     (to_z w128 (of_z w128 c.args.four.now.low_high))
     → Step c.args.found.now.low_high xs ys (place c (lifted (next_axis (next_axis c.args.axis)) (spot c.args.at.now.cell)))
@@ -143,7 +143,7 @@ third c xs ys long room e =
     step c.args.self.now.size _ _ _ xs ys _ (2 ^ 110 + 2 ^ 80 + 2 ^ 80) k.low_high c.requires.small.low_high long room e
 
 fourth : (c : After-as_mut_slice-values) (xs ys : List ℤ) → length xs ≡ 3 * count_of c.args.self.now.size
-    → AreAtMost (2 ^ 110 + 2 ^ 80 + 2 ^ 80 + 2 ^ 80) xs
+    → NumbersAtMost (2 ^ 110 + 2 ^ 80 + 2 ^ 80 + 2 ^ 80) xs
     → ys ≡ added_in c.args.found.now.high_high xs (unsigned_abs (to_z w64 (of_z w64 c.sum-far.result)))
     (to_z w128 (of_z w128 c.args.four.now.high_high))
     → Step c.args.found.now.high_high xs ys (place c (lifted (next_axis c.args.axis) (lifted (next_axis (next_axis c.args.axis)) (spot c.args.at.now.cell))))

@@ -1,11 +1,12 @@
 use Rattle.std.proofs.Common.{◌≡◌, ◌+◌, ◌∙◌, arith}
+use Rattle.pic_grid.proofs.RowLaws.{place_of-along}
 use Rattle.pic_num.specs.Space.{triple}
 use Rattle.pic_grid.specs.Cells.{place_of}
-use Rattle.pic_grid.proofs.PlaceLaws.{further, row_end, layer_end, axis_end}
+use Rattle.pic_grid.proofs.PlaceLaws.{row_end, layer_end, axis_end}
 use Rattle.pic_grid.proofs.places.Place.following.Goals as goal
 
 pub returns-then-x-nx-clause-number : goal.returns-then-x-nx-clause-number
-returns-then-x-nx-clause-number c = λ h. further (triple c.args.size) c.args.self.axis (triple c.args.self.inner) 1
+returns-then-x-nx-clause-number c = λ h. place_of-along (triple c.args.size) c.args.self.axis (triple c.args.self.inner) 1
 
 pub returns-then-y-ny-clause-number : goal.returns-then-y-ny-clause-number
 returns-then-y-ny-clause-number c = λ h.
