@@ -10,8 +10,6 @@ mod performing;
 mod room;
 mod running;
 mod state;
-#[cfg(test)]
-mod tests;
 
 pub use event::{Event, NotAllowed};
 pub use room::Room;

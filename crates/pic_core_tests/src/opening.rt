@@ -16,7 +16,7 @@ use pic_tile::{Dir, Frame, Kinds, TileMap, cut};
 use std::alloc::Global;
 
 // what a frame's type keeps
-fn frame_is_sound(frame: &Frame)
+pub(crate) fn frame_is_sound(frame: &Frame)
     ensures { IsSoundFrame frame.now }
 {
     let _tiles = frame.map().tiles();
@@ -24,7 +24,7 @@ fn frame_is_sound(frame: &Frame)
 }
 
 // [4, 4, 4] cells of 4096 sub-cells, in eight tiles
-fn eight_tiles() -> TileMap
+pub(crate) fn eight_tiles() -> TileMap
     ensures side { result.side ≡ 4096 }
     ensures cells { cells_of result ≡ four }
 {
@@ -41,22 +41,22 @@ fn no_force(alloc: Global, cells: Cells) -> Result<Lattice, NoMemory>
     Lattice::new(alloc, cells, [1; 3])
 }
 
-// two species that feel nothing
-fn free(alloc: Global, map: TileMap) -> Result<Frame, NoMemory>
+// electrons and ions that feel nothing
+pub(crate) fn free(alloc: Global, map: TileMap) -> Result<Frame, NoMemory>
     ensures map { IfOk result (λ f. f.map ≡ map) }
     ensures kinds { IfOk result (λ f. 2 ≤ length f.kinds) }
 {
     let still = Mult::new(0, 0);
     let mut kinds = Vec::new(alloc);
     kinds.push(Kind {
-        charge: 3,
-        mass: 1836,
+        charge: -1,
+        mass: 1,
         kick: still,
         turn: still,
     })?;
     kinds.push(Kind {
-        charge: -1,
-        mass: 1,
+        charge: 3,
+        mass: 1836,
         kick: still,
         turn: still,
     })?;

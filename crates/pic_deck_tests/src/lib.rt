@@ -1,6 +1,8 @@
-//! Tests of `pic_deck`, in a crate of their own: a crate is proved a second time with its tests.
+//! Tests of `pic_deck` and `pic_walk`, in a crate of their own: a crate is proved a second time with its tests.
 #![tactic(auto)]
 
+#[cfg(test)]
+mod extents;
 #[cfg(test)]
 mod read;
 #[cfg(test)]

@@ -57,16 +57,3 @@ impl Dir {
         [self.number % 3, self.number / 3 % 3, self.number / 9]
     }
 }
-
-#[cfg(test)]
-mod tests {
-    use super::*;
-
-    #[test]
-    fn a_direction_has_its_number(rt: HostRuntime) {
-        for number in 0..Dir::COUNT {
-            assert_eq!(rt; Dir::of(number).number(), number);
-        }
-        assert_eq!(rt; Dir::HERE.number(), 13);
-    }
-}

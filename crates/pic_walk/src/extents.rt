@@ -30,16 +30,3 @@ pub fn extent(cells: Cells) -> [u32; 3]
     let [nx, ny, nz] = cells.numbers();
     [along(nx, sub), along(ny, sub), along(nz, sub)]
 }
-
-#[cfg(test)]
-mod tests {
-    use super::*;
-
-    #[test]
-    fn a_box_reaches_as_far_as_its_cells(rt: HostRuntime) {
-        let coarse = Cells::new([2, 3, 128], Sub::of_bits(8));
-        assert_eq!(rt; extent(coarse), [512, 768, 32768]);
-        let fine = Cells::new([2, 3, 128], Sub::of_bits(14));
-        assert_eq!(rt; extent(fine), [32768, 49152, 2097152]);
-    }
-}

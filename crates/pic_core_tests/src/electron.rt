@@ -1,54 +1,15 @@
 //! An electron that leaves its tile, under events in several orders.
 
-ghost use Rattle.std.specs.Prelude.{◌≡◌, ◌<◌, IfOk, length};
-ghost use Rattle.pic_tile.specs.Frame.{IsForceField};
-ghost use Rattle.pic_tile.specs.Tiling.{cells_of};
+ghost use Rattle.std.specs.Prelude.{IfOk};
 ghost use Rattle.pic_core.specs.Opened.{HasNotBegun};
 
-use crate::opening::frame_is_sound;
-use crate::{Core, Event};
+use crate::opening::{eight_tiles, frame_is_sound, free};
+use pic_core::{Core, Event};
 use pic_gate::{Gate, Point};
-use pic_grid::{Cells, Lattice};
-use pic_num::{Axis, Kind, Mult, NoMemory, Particle, Sub};
-use pic_tile::{Dir, Frame, Kinds, Tile, TileMap, cut};
+use pic_num::{Axis, NoMemory, Particle};
+use pic_tile::{Dir, Tile, cut};
 use std::alloc::Global;
 use std::sync::atomic::{AtomicU32, Ordering};
-
-// [4, 4, 4] cells of 4096 sub-cells, in eight tiles
-fn eight_tiles() -> TileMap
-    ensures side { result.side ≡ 4096 }
-    ensures cells { cells_of result ≡ record { x = 4; y = 4; z = 4 } }
-{
-    TileMap::new(Cells::new([4; 3], Sub::of_bits(12)), [2; 3])
-}
-
-// a lattice of force values on these cells
-#[tactic(auto, using(pic_grid::proofs::SmallLaws::each_zeros))]
-fn forces(alloc: Global, cells: Cells) -> Result<Lattice, NoMemory>
-    ensures force { IfOk result (IsForceField cells) }
-    ensures parts { IfOk result (λ f. f.parts ≡ record { x = 1; y = 1; z = 1 }) }
-{
-    let [_, _, _] = cells.numbers();
-    Lattice::new(alloc, cells, [1; 3])
-}
-
-// electrons that feel nothing
-fn free(alloc: Global, map: TileMap) -> Result<Frame, NoMemory>
-    ensures map { IfOk result (λ f. f.map ≡ map) }
-    ensures kinds { IfOk result (λ f. 0 < length f.kinds) }
-{
-    let still = Mult::new(0, 0);
-    let mut kinds = Vec::new(alloc);
-    kinds.push(Kind {
-        charge: -1,
-        mass: 1,
-        kick: still,
-        turn: still,
-    })?;
-    let force_e = forces(alloc, map.cells())?;
-    let force_b = forces(alloc, map.cells())?;
-    Ok(Frame::new(map, Kinds::from_vec(kinds), force_e, force_b))
-}
 
 // an electron at (100, 0, 0) that moves by (-200, 0, 0)
 #[tactic(auto, using(pic_tile::proofs::OwnerLaws::one_in_box))]
