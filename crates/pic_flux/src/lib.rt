@@ -7,8 +7,6 @@ mod deposits;
 mod edges;
 mod four;
 mod spans;
-#[cfg(test)]
-mod tests;
 mod weights;
 
 pub use cell_flux::CellFlux;

@@ -56,26 +56,3 @@ pub fn unwrapped(p: [u32; 3]) -> [i32; 3]
     let [x, y, z] = p;
     [x as i32, y as i32, z as i32]
 }
-
-#[cfg(test)]
-mod tests {
-    use super::*;
-
-    #[test]
-    fn axes_follow_each_other(rt: HostRuntime) {
-        for (axis, number, next) in [
-            (Axis::X, 0, Axis::Y),
-            (Axis::Y, 1, Axis::Z),
-            (Axis::Z, 2, Axis::X),
-        ] {
-            assert_eq!(rt; axis.number(), number);
-            assert_eq!(rt; axis.next(), next);
-            assert_eq!(rt; Axis::of_number(number), axis);
-        }
-    }
-
-    #[test]
-    fn a_cell_is_unwrapped(rt: HostRuntime) {
-        assert_eq!(rt; unwrapped([0, 63, 2147483647]), [0, 63, 2147483647]);
-    }
-}

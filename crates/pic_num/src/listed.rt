@@ -41,17 +41,3 @@ impl<T> Listed<T> {
         items
     }
 }
-
-#[cfg(test)]
-mod tests {
-    use super::*;
-
-    #[test]
-    fn a_list_is_its_items(rt: HostRuntime) -> Result<(), std::alloc::AllocError> {
-        let list = Listed::from_vec(Vec::from_slice(rt.alloc(), &[3, 1, 2])?);
-        assert_eq!(rt; list.as_slice(), [3, 1, 2].as_slice());
-        let items = list.into_vec();
-        assert_eq!(rt; items.as_slice(), [3, 1, 2].as_slice());
-        Ok(())
-    }
-}

@@ -76,25 +76,3 @@ pub struct Scales {
     pub e_force: Mult,
     pub b_force: Mult,
 }
-
-#[cfg(test)]
-mod tests {
-    use super::*;
-
-    #[test]
-    fn a_multiplier_keeps_its_limits(rt: HostRuntime) {
-        let cases = [
-            (2147483647, 62, true),
-            (-2147483647, 0, true),
-            (-2147483648, 0, false),
-            (1, 63, false),
-        ];
-        for (n, k, good) in cases {
-            let made = Mult::try_new(n, k);
-            assert_eq!(rt; made.is_some(), good, "{n} / 2^{k}");
-            if let Some(m) = made {
-                assert_eq!(rt; (m.n(), m.k()), (n, k));
-            }
-        }
-    }
-}

@@ -19,23 +19,3 @@ pub fn are_name_bytes(bytes: &[u8]) -> bool
 {
     bytes.iter().all(|byte| is_name_byte(*byte))
 }
-
-#[cfg(test)]
-mod tests {
-    use super::*;
-
-    #[test]
-    fn letters_digits_and_a_line_are_name_bytes(rt: HostRuntime) {
-        let cases = [
-            ("AZ_az09", true),
-            ("", true),
-            ("e-", false),
-            ("a b", false),
-            ("@", false),
-            ("é", false),
-        ];
-        for (text, good) in cases {
-            assert_eq!(rt; are_name_bytes(text.as_bytes()), good, "{text}");
-        }
-    }
-}

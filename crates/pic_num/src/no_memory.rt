@@ -27,23 +27,3 @@ impl<T: Drop> From<AllocFailed<T>> for NoMemory {
         NoMemory
     }
 }
-
-#[cfg(test)]
-mod tests {
-    use super::*;
-    use std::alloc::Global;
-
-    // both ways in which memory is refused become `NoMemory` by `?`
-    fn one_byte(alloc: Global, byte: u8) -> Result<Vec<u8>, NoMemory> {
-        let mut bytes = Vec::with_capacity(alloc, 1)?;
-        bytes.push(byte)?;
-        Ok(bytes)
-    }
-
-    #[test]
-    fn a_growth_answers_its_value(rt: HostRuntime) -> Result<(), NoMemory> {
-        let bytes = one_byte(rt.alloc(), 7)?;
-        assert_eq!(rt; bytes.as_slice(), [7].as_slice());
-        Ok(())
-    }
-}

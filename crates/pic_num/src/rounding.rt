@@ -62,38 +62,3 @@ pub fn wrap(p: i64, len: u32) -> u32
 {
     p.rem_euclid(i64::from(len)) as u32
 }
-
-#[cfg(test)]
-mod tests {
-    use super::*;
-
-    #[test]
-    fn quotients_are_rounded_to_the_nearest(rt: HostRuntime) {
-        for (n, d, nearest) in [(1, 2, 1), (-1, 2, 0), (-3, 2, -1)] {
-            assert_eq!(rt; rdiv(n, d), nearest, "{n} / {d}");
-        }
-    }
-
-    #[test]
-    fn a_multiplier_is_rounded_once(rt: HostRuntime) {
-        assert_eq!(rt; scale(-5, Mult::new(1, 1)), -2);
-    }
-
-    #[test]
-    fn truncation_goes_towards_zero(rt: HostRuntime) {
-        for (n, d, whole) in [(7, 2, 3), (-7, 2, -3), (7, -2, -3), (-7, -2, 3), (-1, 2, 0)] {
-            assert_eq!(rt; trunc_div(n, d), whole, "{n} / {d}");
-        }
-    }
-
-    #[test]
-    fn a_position_is_wrapped_into_the_box(rt: HostRuntime) {
-        for (p, len, place) in [
-            (-100, 16384, 16284),
-            (16384, 16384, 0),
-            (16383, 16384, 16383),
-        ] {
-            assert_eq!(rt; wrap(p, len), place, "{p} modulo {len}");
-        }
-    }
-}

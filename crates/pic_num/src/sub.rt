@@ -71,24 +71,3 @@ impl Sub {
         1 << self.bits
     }
 }
-
-#[cfg(test)]
-mod tests {
-    use super::*;
-
-    #[test]
-    fn a_side_is_a_power_of_two_within_its_limits(rt: HostRuntime) {
-        for (bits, side) in [(8, 256), (12, 4096), (14, 16384)] {
-            let made = Sub::new(bits);
-            assert!(rt; made.is_some(), "{bits}");
-            if let Some(sub) = made {
-                assert_eq!(rt; sub.side(), side);
-                assert_eq!(rt; sub.bits(), bits);
-            }
-        }
-        for bits in [0, 7, 15] {
-            assert!(rt; Sub::new(bits).is_none(), "{bits}");
-        }
-        assert_eq!(rt; Sub::of_bits(12).side(), 4096);
-    }
-}

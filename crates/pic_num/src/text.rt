@@ -114,29 +114,3 @@ impl<const N: usize> Text<N> {
         self.push(digits.format(n).as_bytes());
     }
 }
-
-#[cfg(test)]
-mod tests {
-    use super::*;
-
-    #[test]
-    fn numbers_are_spelled(rt: HostRuntime) {
-        let mut text = Text::<120>::new();
-        text.push_byte(b'-');
-        text.push_u32(258);
-        text.push_i32(-2);
-        text.push_decimal(340282366920938463463374607431768211455);
-        text.push_signed(-7);
-        assert_eq!(rt;
-            text.bytes(),
-            b"-\0\0\x01\x02\xff\xff\xff\xfe340282366920938463463374607431768211455-7".as_slice()
-        );
-        let mut wide = Text::<32>::new();
-        wide.push_u128(1);
-        wide.push_i128(-1);
-        assert_eq!(rt;
-            wide.bytes(),
-            b"\0\0\0\0\0\0\0\0\0\0\0\0\0\0\0\x01\xff\xff\xff\xff\xff\xff\xff\xff\xff\xff\xff\xff\xff\xff\xff\xff".as_slice()
-        );
-    }
-}

@@ -1,4 +1,4 @@
-//! Worked rows of the deposition.
+//! Worked rows of the deposition of currents.
 
 ghost use Rattle.std.specs.Prelude.{◌≡◌, ◌^◌, ◌≤◌, ◌+ℤ◌, ◌*ℤ◌, ◌≤ℤ◌, pos, IsTrue, IfOk};
 ghost use Rattle.pic_num.specs.Sizes.{IsAtMost};
@@ -7,8 +7,7 @@ ghost use Rattle.std.specs.List.{All};
 ghost use Rattle.pic_grid.specs.Segment.{IsInside, IsInCell};
 ghost use Rattle.pic_grid.specs.Block.{AllAtMost};
 
-use crate::weights::along;
-use crate::{deposit, deposit_track};
+use pic_flux::{deposit, deposit_track};
 use pic_grid::{Block, Segment, Track, Zone};
 use pic_num::{Axis, NoMemory, Sub};
 use std::alloc::Global;
@@ -29,6 +28,18 @@ fn zeros(alloc: Global, zone: Zone) -> Result<Block, NoMemory>
     ensures { IfOk result (AllAtMost 0) }
 {
     Block::new(alloc, zone)
+}
+
+/// The coordinate on `axis`.
+fn along(axis: Axis, p: [i32; 3]) -> i32
+    ensures { result ≡ along axis (spot p) }
+{
+    let [x, y, z] = p;
+    match axis {
+        Axis::X => x,
+        Axis::Y => y,
+        Axis::Z => z,
+    }
 }
 
 /// The low face of the cell `c`.

@@ -4,7 +4,7 @@ use Rattle.std.proofs.lemmas.Int.{to_z-of_z}
 use Rattle.pic_grid.specs.Flux.{flux}
 use Rattle.pic_flux.specs.Adds.{SumsBelow}
 use Rattle.pic_flux.proofs.FluxSizeLaws.{piece_below, flux_few}
-use Rattle.pic_flux.proofs.tests.deposit_first.Goals as goal
+use Rattle.pic_base_tests.proofs.deposits.deposit_first.Goals as goal
 
 pub deposit-requires-clause-room : goal.deposit-requires-clause-room
 deposit-requires-clause-room c =

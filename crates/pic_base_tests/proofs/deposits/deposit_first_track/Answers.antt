@@ -6,7 +6,7 @@ use Rattle.pic_grid.specs.Flux.{path_flux}
 use Rattle.pic_flux.specs.Adds.{SumsBelow}
 use Rattle.pic_grid.proofs.FluxLaws.{ways_most}
 use Rattle.pic_flux.proofs.FluxSizeLaws.{fronts_below, four_few}
-use Rattle.pic_flux.proofs.tests.deposit_first_track.Goals as goal
+use Rattle.pic_base_tests.proofs.deposits.deposit_first_track.Goals as goal
 
 pub deposit_track-requires-clause-room : goal.deposit_track-requires-clause-room
 deposit_track-requires-clause-room c =

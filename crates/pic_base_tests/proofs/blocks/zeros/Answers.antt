@@ -1,7 +1,7 @@
 use Rattle.std.proofs.Common.{◌^◌, sym, subst}
 use Rattle.pic_grid.specs.Block.{AllAtMost}
 use Rattle.pic_grid.proofs.SmallLaws.{all_zeros}
-use Rattle.pic_grid_tests.proofs.blocks.zeros.Goals as goal
+use Rattle.pic_base_tests.proofs.blocks.zeros.Goals as goal
 
 pub returns-clause-small : goal.returns-clause-small
 returns-clause-small c = subst (AllAtMost (2 ^ 120)) (sym c.in_ok-block.ensures) (all_zeros (2 ^ 120) _ _)

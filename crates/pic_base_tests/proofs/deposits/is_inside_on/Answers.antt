@@ -3,7 +3,7 @@ use mir.Syntax.{w32}
 use Rattle.std.proofs.lemmas.Int.{to_z-of_z}
 use Rattle.pic_num.specs.Space.{along}
 use Rattle.pic_grid.specs.Segment.{Piece, IsInside}
-use Rattle.pic_flux.proofs.tests.is_inside_on.Goals as goal
+use Rattle.pic_base_tests.proofs.deposits.is_inside_on.Goals as goal
 
 pub returns-clause-to : goal.returns-clause-to
 returns-clause-to c =

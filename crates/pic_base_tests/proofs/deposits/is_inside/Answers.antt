@@ -2,7 +2,7 @@ use Rattle.std.proofs.Common.{◌≡◌, ℤ, pos, ◌+ℤ◌, ◌*ℤ◌, to_z,
 use Rattle.std.specs.Prelude.{◌≤ℤ◌}
 use mir.Syntax.{w32, w64}
 use Rattle.std.proofs.lemmas.Int.{to_z-of_z}
-use Rattle.pic_flux.proofs.tests.is_inside.Goals as goal
+use Rattle.pic_base_tests.proofs.deposits.is_inside.Goals as goal
 
 pub returns : goal.returns
 returns c =

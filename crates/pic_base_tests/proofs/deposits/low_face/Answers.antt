@@ -4,7 +4,7 @@ use mir.Val.{SFits}
 use Rattle.std.proofs.lemmas.Int.{ints, to_z-of_z}
 use Rattle.pic_num.specs.Sizes.{IsAtMost}
 use Rattle.pic_num.proofs.SizeLaws.{codes, code_is, code_at_most}
-use Rattle.pic_flux.proofs.tests.low_face.Goals as goal
+use Rattle.pic_base_tests.proofs.deposits.low_face.Goals as goal
 
 sized : (x r : ℤ) → SFits w32 x → r ≡ x → IsAtMost r (2 ^ 31)
 sized x r fits e = subst (λ (z : ℤ). IsAtMost z (2 ^ 31)) (sym e) (record { size = omega (arith, ints, fits.sfits) })

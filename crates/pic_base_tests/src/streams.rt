@@ -3,7 +3,9 @@
 ghost use Rattle.std.specs.Prelude.{◌⊎◌, IsOk, OnErr};
 ghost use Rattle.pic_io.specs.Told.{Rose};
 
-use crate::{Failed, MemSink, MemSource, NeverSink, NeverSource, Sink, Source, StdSink, StdSource};
+use pic_io::{
+    Failed, MemSink, MemSource, NeverSink, NeverSource, Sink, Source, StdSink, StdSource,
+};
 use std::alloc::Global;
 use std::io;
 use std::io::{Read, Write};
