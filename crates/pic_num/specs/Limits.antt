@@ -1,6 +1,7 @@
 -- The limits of the scheme: this project's profile. A deck and a dump of version 1 keep to the
--- narrower ones whose names end in `_1`.
-use Rattle.std.specs.Prelude.{ℕ, ℤ, pos, negsuc, ◌-◌, ◌*◌, ◌^◌}
+-- narrower ones whose names end in `_1`; what each version allows is one table, `allowance_of`.
+use Rattle.std.specs.Prelude.{ℕ, ℤ, pos, negsuc, ◌-◌, ◌*◌, ◌^◌, ◌==◌, if◌then◌else◌}
+use Rattle.pic_num.specs.declared.limits.Allowance.{Allowance}
 
 -- a grid has 2 to 128 cells on an axis, so at most 2097152 in all
 abbrev pub fewest_cells_of_axis : ℕ
@@ -43,6 +44,12 @@ most_particles = 4194304
 
 abbrev pub most_particles_1 : ℕ
 most_particles_1 = 1048576
+
+-- what a version of decks and dumps allows: version 1 less than the scheme, version 2 all of it
+abbrev pub allowance_of : ℕ → Allowance
+allowance_of version =
+    if version == 1 then record { cells = most_cells_of_axis_1; particles = most_particles_1; least_bits = bits_1; greatest_bits = bits_1 }
+    else record { cells = most_cells_of_axis; particles = most_particles; least_bits = fewest_bits; greatest_bits = most_bits }
 
 -- a run has at most 1000000 steps, and so many from one frame to the next
 abbrev pub most_steps : ℕ

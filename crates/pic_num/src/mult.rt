@@ -4,6 +4,7 @@ ghost use Rattle.std.specs.Prelude.{◌≡◌, ◌-◌, ◌^◌, ◌≤◌, ◌�
 ghost use Rattle.pic_num.specs.Sizes.{IsAtMost};
 ghost use Rattle.pic_num.specs.Multiplier.{Multiplier, IsMultiplier};
 
+use crate::limits::{MAX_NUMERATOR, MAX_SHIFT};
 use std::marker::Model;
 
 /// A factor `n / 2^k`, with `n` in -2147483647..=2147483647 and `k` in 0..=62.
@@ -24,12 +25,6 @@ impl Model for Mult {
 }
 
 impl Mult {
-    /// The greatest size of `n`.
-    pub const GREATEST_N: i32 = 2147483647;
-
-    /// The greatest `k`.
-    pub const GREATEST_K: u32 = 62;
-
     /// The multiplier `n / 2^k` of numbers within the limits.
     pub fn new(n: i32, k: u32) -> Mult
         requires { IsMultiplier (record { n = n; k = k }) }
@@ -43,7 +38,7 @@ impl Mult {
         ensures valid { IsSome result ↔ IsMultiplier (record { n = n; k = k }) }
         ensures value { IfSome result (λ m. m ≡ record { n = n; k = k }) }
     {
-        if n < -Mult::GREATEST_N || k > Mult::GREATEST_K {
+        if n < -MAX_NUMERATOR || k > MAX_SHIFT {
             return None;
         }
         Some(Mult { n, k })

@@ -4,6 +4,7 @@ ghost use Rattle.std.specs.Prelude.{◌≡◌, ℕ, ◌^◌, ◌≤◌, ◌↔�
 ghost use Rattle.pic_num.specs.Limits.{fewest_bits, most_bits, least_side, most_side};
 ghost use Rattle.pic_num.specs.Sub.{bits_of};
 
+use crate::limits::{MAX_BITS, MIN_BITS};
 use std::marker::Model;
 
 /// How many sub-cells lie along a cell: a power of two, 2^8 to 2^14. Contracts see that number.
@@ -25,18 +26,12 @@ impl Model for Sub {
 }
 
 impl Sub {
-    /// The least power of two.
-    pub const FEWEST_BITS: u32 = 8;
-
-    /// The greatest power of two.
-    pub const MOST_BITS: u32 = 14;
-
     /// The side of a power of two from outside, or `None` where it passes the limits.
     pub fn new(bits: u32) -> Option<Sub>
         ensures valid { IsSome result ↔ ((fewest_bits ≤ bits) × (bits ≤ most_bits)) }
         ensures value { IfSome result (λ s. s ≡ 2 ^ bits) }
     {
-        if bits < Sub::FEWEST_BITS || bits > Sub::MOST_BITS {
+        if bits < MIN_BITS || bits > MAX_BITS {
             return None;
         }
         Some(Sub { bits })
