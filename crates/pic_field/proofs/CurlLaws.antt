@@ -5,7 +5,6 @@ use Rattle.std.proofs.Math.Nat.{mod-eq_of_lt, add-mod_right}
 use Rattle.pic_num.specs.declared.mult.Scales.{Scales}
 use Rattle.pic_num.specs.declared.axis.Axis.{Axis}
 use Rattle.pic_num.specs.declared.axis.Axis.TheVariants.{X, Y, Z}
-use Rattle.pic_num.specs.Multiplier.{Multiplier}
 use Rattle.pic_num.specs.Rounding.{scaled}
 use Rattle.pic_num.specs.Space.{Triple, Spot, next_axis}
 use Rattle.pic_num.proofs.Ring.{ring, reads}
@@ -15,7 +14,7 @@ use Rattle.pic_grid.specs.Lattice.{Field, value_at}
 use Rattle.pic_grid.specs.Block.{BlockValues, IsAmongCells, inner_at, outer_of}
 use Rattle.pic_field.specs.FieldPhases.{half_of, full_of}
 use Rattle.pic_field.specs.Lines.{OnRow, line_start, half_made, full_made}
-use Rattle.pic_field.specs.Rows.{row_at, curl_of, IsScaledRow}
+use Rattle.pic_field.specs.Rows.{scaled_of, row_at, curl_of, IsScaledRow}
 use Rattle.pic_field.proofs.RowLaws.{round_on}
 
 -- what holds along a row holds at each place of it
@@ -26,11 +25,8 @@ at_row P axis y z n along a p w on =
     subst (λ (c : Axis). P c p) (sym on.axis_is) (subst (λ (q : Triple). P axis q) at (along p.x w.x))
 
 -- the place of the index i of the line at the layers y and z, in a zone among the cells of a field
-module _ (f : Field) (by : Multiplier) (low : Spot) (size : Triple) (y z i : ℕ) (among : IsAmongCells low size f.cells) (inside : i < size.x)
+module _ (n : Triple) (g : Axis → Triple → ℤ) (low : Spot) (size : Triple) (y z i : ℕ) (among : IsAmongCells low size n) (inside : i < size.x)
   where
-    abbrev n : Triple
-    n = f.cells
-
     abbrev start : Triple
     start = line_start low y z
 
@@ -62,37 +58,37 @@ module _ (f : Field) (by : Multiplier) (low : Spot) (size : Triple) (y z i : ℕ
 
     module _ (a : Axis) (first past : ℕ) (row : List ℤ)
       where
-        pub row_here : IsScaledRow f by a start first past row → first ≤ i → i < past → row_at row i ≡ scaled (value_at f a here) by
-        row_here is from k = is.values i from k ∙ ap (λ (x : ℕ). scaled (value_at f a (record here { x = x })) by) at_x
+        pub row_here : IsScaledRow n g a start first past row → first ≤ i → i < past → row_at row i ≡ g a here
+        row_here is from k = is.values i from k ∙ ap (λ (x : ℕ). g a (record here { x = x })) at_x
 
-        pub row_up : IsScaledRow f by a start first past row → first ≤ i + 1 → i + 1 < past → row_at row (i + 1) ≡ scaled (value_at f a (up n X here)) by
-        row_up is from k = is.values (i + 1) from k ∙ ap (λ (x : ℕ). scaled (value_at f a (record here { x = x })) by) at_up
+        pub row_up : IsScaledRow n g a start first past row → first ≤ i + 1 → i + 1 < past → row_at row (i + 1) ≡ g a (up n X here)
+        row_up is from k = is.values (i + 1) from k ∙ ap (λ (x : ℕ). g a (record here { x = x })) at_up
 
-        pub row_up_y : IsScaledRow f by a (up n Y start) first past row → first ≤ i → i < past → row_at row i ≡ scaled (value_at f a (up n Y here)) by
-        row_up_y is from k = is.values i from k ∙ ap (λ (x : ℕ). scaled (value_at f a (record (up n Y here) { x = x })) by) at_x
+        pub row_up_y : IsScaledRow n g a (up n Y start) first past row → first ≤ i → i < past → row_at row i ≡ g a (up n Y here)
+        row_up_y is from k = is.values i from k ∙ ap (λ (x : ℕ). g a (record (up n Y here) { x = x })) at_x
 
-        pub row_up_z : IsScaledRow f by a (up n Z start) first past row → first ≤ i → i < past → row_at row i ≡ scaled (value_at f a (up n Z here)) by
-        row_up_z is from k = is.values i from k ∙ ap (λ (x : ℕ). scaled (value_at f a (record (up n Z here) { x = x })) by) at_x
+        pub row_up_z : IsScaledRow n g a (up n Z start) first past row → first ≤ i → i < past → row_at row i ≡ g a (up n Z here)
+        row_up_z is from k = is.values i from k ∙ ap (λ (x : ℕ). g a (record (up n Z here) { x = x })) at_x
 
-        pub row_down_y : IsScaledRow f by a (down n Y start) first past row → first ≤ i → i < past → row_at row i ≡ scaled (value_at f a (down n Y here)) by
-        row_down_y is from k = is.values i from k ∙ ap (λ (x : ℕ). scaled (value_at f a (record (down n Y here) { x = x })) by) at_x
+        pub row_down_y : IsScaledRow n g a (down n Y start) first past row → first ≤ i → i < past → row_at row i ≡ g a (down n Y here)
+        row_down_y is from k = is.values i from k ∙ ap (λ (x : ℕ). g a (record (down n Y here) { x = x })) at_x
 
-        pub row_down_z : IsScaledRow f by a (down n Z start) first past row → first ≤ i → i < past → row_at row i ≡ scaled (value_at f a (down n Z here)) by
-        row_down_z is from k = is.values i from k ∙ ap (λ (x : ℕ). scaled (value_at f a (record (down n Z here) { x = x })) by) at_x
+        pub row_down_z : IsScaledRow n g a (down n Z start) first past row → first ≤ i → i < past → row_at row i ≡ g a (down n Z here)
+        row_down_z is from k = is.values i from k ∙ ap (λ (x : ℕ). g a (record (down n Z here) { x = x })) at_x
 
-        pub back_here : IsScaledRow f by a (down n X start) first past row → first ≤ i + 1 → i + 1 < past → row_at row (i + 1) ≡ scaled (value_at f a here) by
-        back_here is from k = is.values (i + 1) from k ∙ ap (λ (x : ℕ). scaled (value_at f a (record here { x = x })) by) at_own
+        pub back_here : IsScaledRow n g a (down n X start) first past row → first ≤ i + 1 → i + 1 < past → row_at row (i + 1) ≡ g a here
+        back_here is from k = is.values (i + 1) from k ∙ ap (λ (x : ℕ). g a (record here { x = x })) at_own
 
-        pub back_down : IsScaledRow f by a (down n X start) first past row → first ≤ i → i < past → row_at row i ≡ scaled (value_at f a (down n X here)) by
-        back_down is from k = is.values i from k ∙ ap (λ (x : ℕ). scaled (value_at f a (record here { x = x })) by) at_back
+        pub back_down : IsScaledRow n g a (down n X start) first past row → first ≤ i → i < past → row_at row i ≡ g a (down n X here)
+        back_down is from k = is.values i from k ∙ ap (λ (x : ℕ). g a (record here { x = x })) at_back
 
-        pub back_down_y : IsScaledRow f by a (down n X (down n Y start)) first past row → first ≤ i + 1 → i + 1 < past
-            → row_at row (i + 1) ≡ scaled (value_at f a (down n Y here)) by
-        back_down_y is from k = is.values (i + 1) from k ∙ ap (λ (x : ℕ). scaled (value_at f a (record (down n Y here) { x = x })) by) at_own
+        pub back_down_y : IsScaledRow n g a (down n X (down n Y start)) first past row → first ≤ i + 1 → i + 1 < past
+            → row_at row (i + 1) ≡ g a (down n Y here)
+        back_down_y is from k = is.values (i + 1) from k ∙ ap (λ (x : ℕ). g a (record (down n Y here) { x = x })) at_own
 
-        pub back_down_z : IsScaledRow f by a (down n X (down n Z start)) first past row → first ≤ i + 1 → i + 1 < past
-            → row_at row (i + 1) ≡ scaled (value_at f a (down n Z here)) by
-        back_down_z is from k = is.values (i + 1) from k ∙ ap (λ (x : ℕ). scaled (value_at f a (record (down n Z here) { x = x })) by) at_own
+        pub back_down_z : IsScaledRow n g a (down n X (down n Z start)) first past row → first ≤ i + 1 → i + 1 < past
+            → row_at row (i + 1) ≡ g a (down n Z here)
+        back_down_z is from k = is.values (i + 1) from k ∙ ap (λ (x : ℕ). g a (record (down n Z here) { x = x })) at_own
 
 -- the front of a row
 pub front : (row : List ℤ) (count i : ℕ) (v : ℤ) → i < count → row_at row i ≡ v → row_at (take count row) i ≡ v
@@ -128,10 +124,10 @@ full_is scales b a q v j far_third near_third far_second near_second h k l m =
 module _ (scales : Scales) (e : Field) (low : Spot) (size : Triple) (y z count : ℕ) (among : IsAmongCells low size e.cells) (same : count ≡ size.x)
   where
     abbrev of_e : Axis → Triple → List ℤ → Type 0
-    of_e a p row = IsScaledRow e scales.e_to_b a p 0 (0 + count) row
+    of_e a p row = IsScaledRow e.cells (scaled_of e scales.e_to_b) a p 0 (0 + count) row
 
     abbrev more_of_e : Axis → Triple → List ℤ → Type 0
-    more_of_e a p row = IsScaledRow e scales.e_to_b a p 0 (count + 1) row
+    more_of_e a p row = IsScaledRow e.cells (scaled_of e scales.e_to_b) a p 0 (count + 1) row
 
     abbrev first : Triple
     first = line_start low y z
@@ -152,10 +148,10 @@ module _ (scales : Scales) (e : Field) (low : Spot) (size : Triple) (y z count :
         let body : i < 0 + count = omega arith in
         let room : i < count + 1 = omega arith in
         half_is scales e X (outer_of low (record { x = i; y = y; z = z })) v _ _ _ _
-        (front z_by_y count i _ inside (row_up_y e scales.e_to_b low size y z i among below Z 0 (0 + count) z_by_y h zero body))
-        (front of_z count i _ inside (row_here e scales.e_to_b low size y z i among below Z 0 (count + 1) of_z k zero room))
-        (front y_by_z count i _ inside (row_up_z e scales.e_to_b low size y z i among below Y 0 (0 + count) y_by_z l zero body))
-        (front of_y count i _ inside (row_here e scales.e_to_b low size y z i among below Y 0 (count + 1) of_y m zero room)))
+        (front z_by_y count i _ inside (row_up_y e.cells (scaled_of e scales.e_to_b) low size y z i among below Z 0 (0 + count) z_by_y h zero body))
+        (front of_z count i _ inside (row_here e.cells (scaled_of e scales.e_to_b) low size y z i among below Z 0 (count + 1) of_z k zero room))
+        (front y_by_z count i _ inside (row_up_z e.cells (scaled_of e scales.e_to_b) low size y z i among below Y 0 (0 + count) y_by_z l zero body))
+        (front of_y count i _ inside (row_here e.cells (scaled_of e scales.e_to_b) low size y z i among below Y 0 (count + 1) of_y m zero room)))
 
     pub half_y : (x_by_z of_x z_on of_z : List ℤ) → of_e X (up e.cells Z first) x_by_z → of_e X first of_x → more_of_e Z first of_z
         → ((i : ℕ) → i < count → row_at z_on i ≡ row_at of_z (i + 1))
@@ -172,10 +168,10 @@ module _ (scales : Scales) (e : Field) (low : Spot) (size : Triple) (y z count :
         let body : i < 0 + count = omega arith in
         let room : i < count + 1 = omega arith in
         half_is scales e Y (outer_of low (record { x = i; y = y; z = z })) v _ _ _ _
-        (front x_by_z count i _ inside (row_up_z e scales.e_to_b low size y z i among below X 0 (0 + count) x_by_z h zero body))
-        (front of_x count i _ inside (row_here e scales.e_to_b low size y z i among below X 0 (0 + count) of_x k zero body))
-        (on i inside ∙ row_up e scales.e_to_b low size y z i among below Z 0 (count + 1) of_z m (omega arith) (omega arith))
-        (front of_z count i _ inside (row_here e scales.e_to_b low size y z i among below Z 0 (count + 1) of_z m zero room)))
+        (front x_by_z count i _ inside (row_up_z e.cells (scaled_of e scales.e_to_b) low size y z i among below X 0 (0 + count) x_by_z h zero body))
+        (front of_x count i _ inside (row_here e.cells (scaled_of e scales.e_to_b) low size y z i among below X 0 (0 + count) of_x k zero body))
+        (on i inside ∙ row_up e.cells (scaled_of e scales.e_to_b) low size y z i among below Z 0 (count + 1) of_z m (omega arith) (omega arith))
+        (front of_z count i _ inside (row_here e.cells (scaled_of e scales.e_to_b) low size y z i among below Z 0 (count + 1) of_z m zero room)))
 
     pub half_z : (y_on of_y x_by_y of_x : List ℤ) → more_of_e Y first of_y → of_e X (up e.cells Y first) x_by_y → of_e X first of_x
         → ((i : ℕ) → i < count → row_at y_on i ≡ row_at of_y (i + 1))
@@ -192,10 +188,10 @@ module _ (scales : Scales) (e : Field) (low : Spot) (size : Triple) (y z count :
         let body : i < 0 + count = omega arith in
         let room : i < count + 1 = omega arith in
         half_is scales e Z (outer_of low (record { x = i; y = y; z = z })) v _ _ _ _
-        (on i inside ∙ row_up e scales.e_to_b low size y z i among below Y 0 (count + 1) of_y k (omega arith) (omega arith))
-        (front of_y count i _ inside (row_here e scales.e_to_b low size y z i among below Y 0 (count + 1) of_y k zero room))
-        (front x_by_y count i _ inside (row_up_y e scales.e_to_b low size y z i among below X 0 (0 + count) x_by_y l zero body))
-        (front of_x count i _ inside (row_here e scales.e_to_b low size y z i among below X 0 (0 + count) of_x m zero body)))
+        (on i inside ∙ row_up e.cells (scaled_of e scales.e_to_b) low size y z i among below Y 0 (count + 1) of_y k (omega arith) (omega arith))
+        (front of_y count i _ inside (row_here e.cells (scaled_of e scales.e_to_b) low size y z i among below Y 0 (count + 1) of_y k zero room))
+        (front x_by_y count i _ inside (row_up_y e.cells (scaled_of e scales.e_to_b) low size y z i among below X 0 (0 + count) x_by_y l zero body))
+        (front of_x count i _ inside (row_here e.cells (scaled_of e scales.e_to_b) low size y z i among below X 0 (0 + count) of_x m zero body)))
 
 -- a step of E with the current j on the three rows of a line, from its scaled rows of B; those of
 -- y and z begin a cell back
@@ -203,10 +199,10 @@ module _ (scales : Scales) (b : Field) (j : BlockValues) (low : Spot) (size : Tr
     (same : count ≡ size.x)
   where
     abbrev of_b : Axis → Triple → List ℤ → Type 0
-    of_b a p row = IsScaledRow b scales.b_to_e a p 1 (1 + count) row
+    of_b a p row = IsScaledRow b.cells (scaled_of b scales.b_to_e) a p 1 (1 + count) row
 
     abbrev more_of_b : Axis → Triple → List ℤ → Type 0
-    more_of_b a p row = IsScaledRow b scales.b_to_e a p 0 (count + 1) row
+    more_of_b a p row = IsScaledRow b.cells (scaled_of b scales.b_to_e) a p 0 (count + 1) row
 
     abbrev begin : Triple
     begin = line_start low y z
@@ -232,10 +228,10 @@ module _ (scales : Scales) (b : Field) (j : BlockValues) (low : Spot) (size : Tr
         let one : 1 ≤ i + 1 = omega arith in
         let body : i + 1 < 1 + count = omega arith in
         full_is scales b X (outer_of low (record { x = i; y = y; z = z })) v (inner_at j X (record { x = i; y = y; z = z })) _ _ _ _
-        (after_zy i inside ∙ back_down_y b scales.b_to_e low size y z i among below Z 1 (1 + count) z_by_y h one body)
-        (after_z i inside ∙ back_here b scales.b_to_e low size y z i among below Z 0 (count + 1) of_z k (omega arith) more)
-        (after_yz i inside ∙ back_down_z b scales.b_to_e low size y z i among below Y 1 (1 + count) y_by_z l one body)
-        (after_y i inside ∙ back_here b scales.b_to_e low size y z i among below Y 0 (count + 1) of_y m (omega arith) more))
+        (after_zy i inside ∙ back_down_y b.cells (scaled_of b scales.b_to_e) low size y z i among below Z 1 (1 + count) z_by_y h one body)
+        (after_z i inside ∙ back_here b.cells (scaled_of b scales.b_to_e) low size y z i among below Z 0 (count + 1) of_z k (omega arith) more)
+        (after_yz i inside ∙ back_down_z b.cells (scaled_of b scales.b_to_e) low size y z i among below Y 1 (1 + count) y_by_z l one body)
+        (after_y i inside ∙ back_here b.cells (scaled_of b scales.b_to_e) low size y z i among below Y 0 (count + 1) of_y m (omega arith) more))
 
     pub full_y : (x_by_z x_by_z_on of_x x_on of_z z_on : List ℤ) → of_b X (down b.cells X (down b.cells Z begin)) x_by_z
         → of_b X (down b.cells X begin) of_x → more_of_b Z (down b.cells X begin) of_z
@@ -255,10 +251,10 @@ module _ (scales : Scales) (b : Field) (j : BlockValues) (low : Spot) (size : Tr
         let one : 1 ≤ i + 1 = omega arith in
         let body : i + 1 < 1 + count = omega arith in
         full_is scales b Y (outer_of low (record { x = i; y = y; z = z })) v (inner_at j Y (record { x = i; y = y; z = z })) _ _ _ _
-        (after_xz i inside ∙ back_down_z b scales.b_to_e low size y z i among below X 1 (1 + count) x_by_z h one body)
-        (after_x i inside ∙ back_here b scales.b_to_e low size y z i among below X 1 (1 + count) of_x k one body)
-        (front of_z count i _ inside (back_down b scales.b_to_e low size y z i among below Z 0 (count + 1) of_z l (omega arith) room))
-        (after_z i inside ∙ back_here b scales.b_to_e low size y z i among below Z 0 (count + 1) of_z l (omega arith) more))
+        (after_xz i inside ∙ back_down_z b.cells (scaled_of b scales.b_to_e) low size y z i among below X 1 (1 + count) x_by_z h one body)
+        (after_x i inside ∙ back_here b.cells (scaled_of b scales.b_to_e) low size y z i among below X 1 (1 + count) of_x k one body)
+        (front of_z count i _ inside (back_down b.cells (scaled_of b scales.b_to_e) low size y z i among below Z 0 (count + 1) of_z l (omega arith) room))
+        (after_z i inside ∙ back_here b.cells (scaled_of b scales.b_to_e) low size y z i among below Z 0 (count + 1) of_z l (omega arith) more))
 
     pub full_z : (of_y y_on x_by_y x_by_y_on of_x x_on : List ℤ) → more_of_b Y (down b.cells X begin) of_y
         → of_b X (down b.cells X (down b.cells Y begin)) x_by_y → of_b X (down b.cells X begin) of_x
@@ -278,7 +274,7 @@ module _ (scales : Scales) (b : Field) (j : BlockValues) (low : Spot) (size : Tr
         let one : 1 ≤ i + 1 = omega arith in
         let body : i + 1 < 1 + count = omega arith in
         full_is scales b Z (outer_of low (record { x = i; y = y; z = z })) v (inner_at j Z (record { x = i; y = y; z = z })) _ _ _ _
-        (front of_y count i _ inside (back_down b scales.b_to_e low size y z i among below Y 0 (count + 1) of_y h (omega arith) room))
-        (after_y i inside ∙ back_here b scales.b_to_e low size y z i among below Y 0 (count + 1) of_y h (omega arith) more)
-        (after_xy i inside ∙ back_down_y b scales.b_to_e low size y z i among below X 1 (1 + count) x_by_y k one body)
-        (after_x i inside ∙ back_here b scales.b_to_e low size y z i among below X 1 (1 + count) of_x l one body))
+        (front of_y count i _ inside (back_down b.cells (scaled_of b scales.b_to_e) low size y z i among below Y 0 (count + 1) of_y h (omega arith) room))
+        (after_y i inside ∙ back_here b.cells (scaled_of b scales.b_to_e) low size y z i among below Y 0 (count + 1) of_y h (omega arith) more)
+        (after_xy i inside ∙ back_down_y b.cells (scaled_of b scales.b_to_e) low size y z i among below X 1 (1 + count) x_by_y k one body)
+        (after_x i inside ∙ back_here b.cells (scaled_of b scales.b_to_e) low size y z i among below X 1 (1 + count) of_x l one body))

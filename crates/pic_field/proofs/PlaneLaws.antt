@@ -1,13 +1,12 @@
 -- Planes of scaled rows: where their lines begin, how they are filled line by line, and what a line reads of two of them.
-use Rattle.std.proofs.Common.{◌≡◌, ◌≢◌, ℕ, ◌+◌, ◌-◌, ◌%◌, ◌<◌, ◌≤◌, List, [], length, slice_set, unsigned_abs, refl, sym, ◌∙◌, ap, subst, arith}
+use Rattle.std.proofs.Common.{◌≡◌, ◌≢◌, ℕ, ℤ, ◌+◌, ◌-◌, ◌%◌, ◌<◌, ◌≤◌, List, [], length, slice_set, unsigned_abs, refl, sym, ◌∙◌, ap, subst, arith}
 use Rattle.std.proofs.lemmas.List.{get_or-set_same, get_or-set_other}
 use Rattle.std.proofs.Math.Nat.{mod-eq_of_lt, add-mod_right}
 use borrow.Author.Count.{below_more}
+use Rattle.pic_num.specs.declared.axis.Axis.{Axis}
 use Rattle.pic_num.specs.declared.axis.Axis.TheVariants.{X, Y, Z}
-use Rattle.pic_num.specs.Multiplier.{Multiplier}
 use Rattle.pic_num.specs.Space.{Triple, Spot}
 use Rattle.pic_grid.specs.Differences.{up, down}
-use Rattle.pic_grid.specs.Lattice.{Field}
 use Rattle.pic_grid.specs.Block.{IsAmongCells}
 use Rattle.pic_field.specs.declared.plane.Line.{Line}
 use Rattle.pic_field.specs.declared.plane.Span.{Span}
@@ -54,14 +53,14 @@ line_more P plane j line inside below here =
     (subst (P j) (sym (get_or-set_same plane j line no_line inside)) here)
 
 -- what is read along a line has what is read of it beside another in z
-own_next : (f : Field) (by : Multiplier) (p : Triple) (s : Span) (line : Line) → s.first ≤ 1 → IsOwnLine f by p s line → IsNextLine f by p s line
-own_next f by p s line first own = record { x = own.x; y = row_part f by Y p s.cells s.first (s.first + s.cells) line.y (omega (arith, first)) own.y }
+own_next : (n : Triple) (g : Axis → Triple → ℤ) (p : Triple) (s : Span) (line : Line) → s.first ≤ 1 → IsOwnLine n g p s line → IsNextLine n g p s line
+own_next n g p s line first own = record { x = own.x; y = row_part n g Y p s.cells s.first (s.first + s.cells) line.y (omega (arith, first)) own.y }
 
 -- a strip's plane serves the layer beside it
-pub plane_next : (f : Field) (by : Multiplier) (p : Triple) (s : Span) (lines : ℕ) (plane : List Line) → s.first ≤ 1 → IsScaledPlane f by p s lines plane
-    → IsNextPlane f by p s lines plane
-plane_next f by p s lines plane first is = record {
-  next = λ j past below. own_next f by (along_y f.cells p j) s (line_at plane j) first (is.own j past below);
+pub plane_next : (n : Triple) (g : Axis → Triple → ℤ) (p : Triple) (s : Span) (lines : ℕ) (plane : List Line) → s.first ≤ 1 → IsScaledPlane n g p s lines plane
+    → IsNextPlane n g p s lines plane
+plane_next n g p s lines plane first is = record {
+  next = λ j past below. own_next n g (along_y n p j) s (line_at plane j) first (is.own j past below);
 }
 
 -- one of two planes, when the other is filled
@@ -69,12 +68,12 @@ pub plane_filled : (planes : List (List Line)) (i : ℕ) (plane : List Line) →
 plane_filled planes i plane inside = get_or-set_same planes i plane [] inside
 
 -- the rows that the curl of E has along a line of a strip stand in the planes of its layer and the next
-pub rows_up : (f : Field) (by : Multiplier) (low : Spot) (size : Triple) (count from to y z : ℕ) (near far : List Line) → IsAmongCells low size f.cells
+pub rows_up : (n : Triple) (g : Axis → Triple → ℤ) (low : Spot) (size : Triple) (count from to y z : ℕ) (near far : List Line) → IsAmongCells low size n
     → from ≤ y → y < to → to ≤ size.y
-    → IsScaledPlane f by (line_start low from z) (up_span count) (to - from) near
-    → IsNextPlane f by (up f.cells Z (line_start low from z)) (up_span count) (to - from) far
-    → AreRowsUp f by (line_start low y z) count (line_at near (y - from)) (line_at near (y - from + 1)) (line_at far (y - from))
-rows_up f by low size count from to y z near far among past below within here above =
+    → IsScaledPlane n g (line_start low from z) (up_span count) (to - from) near
+    → IsNextPlane n g (up n Z (line_start low from z)) (up_span count) (to - from) far
+    → AreRowsUp n g (line_start low y z) count (line_at near (y - from)) (line_at near (y - from + 1)) (line_at far (y - from))
+rows_up n g low size count from to y z near far among past below within here above =
     let j : ℕ = y - from in
     let s : Span = up_span count in
     let first : Triple = line_start low from z in
@@ -83,23 +82,22 @@ rows_up f by low size count from to y z near far among past below within here ab
     let in_strip : j < 0 + (to - from) = omega arith in
     let next_in_strip : j + 1 < to - from + 1 = omega arith in
     let inside : from + j < size.y = omega arith in
-    let at : along_y f.cells first j ≡ line_start low y z = line_in_strip low size f.cells from j z among inside ∙ ap (λ (m : ℕ). line_start low m z) sum in
-    let next : along_y f.cells first (j + 1) ≡ up f.cells Y (line_start low y z) = sym (along_y_next f.cells first j) ∙ ap (up f.cells Y) at in
+    let at : along_y n first j ≡ line_start low y z = line_in_strip low size n from j z among inside ∙ ap (λ (m : ℕ). line_start low m z) sum in
+    let next : along_y n first (j + 1) ≡ up n Y (line_start low y z) = sym (along_y_next n first j) ∙ ap (up n Y) at in
     record {
-      here = subst (λ (p : Triple). IsOwnLine f by p s (line_at near j)) at (here.own j on in_strip);
-      in_y = subst (λ (p : Triple). IsSideLine f by p s (line_at near (j + 1))) next (here.side (j + 1) next_in_strip);
-      in_z = subst (λ (p : Triple). IsNextLine f by p s (line_at far j)) (ap (up f.cells Z) at) (above.next j on in_strip);
+      here = subst (λ (p : Triple). IsOwnLine n g p s (line_at near j)) at (here.own j on in_strip);
+      in_y = subst (λ (p : Triple). IsSideLine n g p s (line_at near (j + 1))) next (here.side (j + 1) next_in_strip);
+      in_z = subst (λ (p : Triple). IsNextLine n g p s (line_at far j)) (ap (up n Z) at) (above.next j on in_strip);
     }
 
 -- the rows that the curl of B has along a line of a strip stand in the planes of its layer and the one below
-pub rows_down : (f : Field) (by : Multiplier) (low : Spot) (size : Triple) (count from to y z : ℕ) (near far : List Line) → IsAmongCells low size f.cells
+pub rows_down : (n : Triple) (g : Axis → Triple → ℤ) (low : Spot) (size : Triple) (count from to y z : ℕ) (near far : List Line) → IsAmongCells low size n
     → from ≤ y → y < to → to ≤ size.y
-    → IsScaledPlane f by (corner_before f.cells (line_start low from z)) (down_span count) (to - from) near
-    → IsNextPlane f by (down f.cells Z (corner_before f.cells (line_start low from z))) (down_span count) (to - from) far
-    → AreRowsDown f by (line_start low y z) count (line_at near (y - from + 1)) (line_at near (y - from)) (line_at far (y - from + 1))
-rows_down f by low size count from to y z near far among past below within here under =
+    → IsScaledPlane n g (corner_before n (line_start low from z)) (down_span count) (to - from) near
+    → IsNextPlane n g (down n Z (corner_before n (line_start low from z))) (down_span count) (to - from) far
+    → AreRowsDown n g (line_start low y z) count (line_at near (y - from + 1)) (line_at near (y - from)) (line_at far (y - from + 1))
+rows_down n g low size count from to y z near far among past below within here under =
     let j : ℕ = y - from in
-    let n : Triple = f.cells in
     let s : Span = down_span count in
     let first : Triple = line_start low from z in
     let before : Triple = down n Y first in
@@ -120,7 +118,7 @@ rows_down f by low size count from to y z near far among past below within here 
     round_on n.y first.y (n.y - 1) before.y j refl ∙ ap (λ (m : ℕ). m % n.y) last_sum in
     let last : along_y n before j ≡ down n Y line = λ i. record line { y = last_y i } in
     record {
-      here = subst (λ (p : Triple). IsOwnLine f by (down n X p) s (line_at near (j + 1))) own (here.own (j + 1) on own_in_strip);
-      in_y = subst (λ (p : Triple). IsSideLine f by (down n X p) s (line_at near j)) last (here.side j in_strip);
-      in_z = subst (λ (p : Triple). IsNextLine f by (down n X (down n Z p)) s (line_at far (j + 1))) own (under.next (j + 1) on own_in_strip);
+      here = subst (λ (p : Triple). IsOwnLine n g (down n X p) s (line_at near (j + 1))) own (here.own (j + 1) on own_in_strip);
+      in_y = subst (λ (p : Triple). IsSideLine n g (down n X p) s (line_at near j)) last (here.side j in_strip);
+      in_z = subst (λ (p : Triple). IsNextLine n g (down n X (down n Z p)) s (line_at far (j + 1))) own (under.next (j + 1) on own_in_strip);
     }

@@ -13,12 +13,12 @@ use Rattle.pic_num.specs.Space.{Triple}
 use Rattle.pic_grid.specs.Cells.{IsWithin}
 use Rattle.pic_grid.specs.Lattice.{Field, value_at, EachAtMost}
 use Rattle.pic_field.specs.declared.plane.Span.{Span}
-use Rattle.pic_field.specs.Rows.{row_at, along_x, IsSmallRow, IsScaledRow}
+use Rattle.pic_field.specs.Rows.{most_row, scaled_of, row_at, along_x, IsSmallRow, IsScaledRow}
 use Rattle.pic_field.specs.Planes.{IsSpan}
 
 -- no value of a row is scaled at first
-pub row_none : (f : Field) (by : Multiplier) (a : Axis) (p : Triple) (first : ℕ) (row : List ℤ) → IsScaledRow f by a p first first row
-row_none f by a p first row = record {
+pub row_none : (n : Triple) (g : Axis → Triple → ℤ) (a : Axis) (p : Triple) (first : ℕ) (row : List ℤ) → IsScaledRow n g a p first first row
+row_none n g a p first row = record {
   values = λ i past below. absurd (omega (arith, past, below));
   small = λ i past below. absurd (omega (arith, past, below));
 }
@@ -68,9 +68,9 @@ module _ (f : Field) (by : Multiplier) (a : Axis) (p : Triple) (done more x : �
     }
 
     -- and scaled they are the next of the row
-    pub more_scaled : (first : ℕ) (row part rest : List ℤ) → done ≤ length row → length part ≡ more → IsScaledRow f by a p first done row
-        → ((i : ℕ) → i < more → row_at part i ≡ scaled (row_at run i) by) → IsSmallRow (2 ^ 121) more part
-        → IsScaledRow f by a p first (done + more) (take done row ++ (part ++ rest))
+    pub more_scaled : (first : ℕ) (row part rest : List ℤ) → done ≤ length row → length part ≡ more → IsScaledRow f.cells (scaled_of f by) a p first done row
+        → ((i : ℕ) → i < more → row_at part i ≡ scaled (row_at run i) by) → IsSmallRow most_row more part
+        → IsScaledRow f.cells (scaled_of f by) a p first (done + more) (take done row ++ (part ++ rest))
     more_scaled first row part rest room long before scaled_part small = record {
       values = λ k past below. elim (cases_lt k done) as (λ _. row_at all k ≡ scaled (value_at f a (along_x f.cells p k)) by) [
         | inl less ↦ left k less ∙ before.values k past less
@@ -83,11 +83,11 @@ module _ (f : Field) (by : Multiplier) (a : Axis) (p : Triple) (done more x : �
             ∙ ap (λ (z : ℤ). scaled z by) (values (k - done) j)
             ∙ sym (ap (λ (m : ℕ). scaled (value_at f a (record p { x = m })) by) (ap (λ (m : ℕ). m % f.cells.x) same ∙ next)))
       ];
-      small = λ k past below. elim (cases_lt k done) as (λ _. IsAtMost (row_at all k) (2 ^ 121)) [
-        | inl less ↦ subst (λ (z : ℤ). IsAtMost z (2 ^ 121)) (sym (left k less)) (before.small k past less)
+      small = λ k past below. elim (cases_lt k done) as (λ _. IsAtMost (row_at all k) most_row) [
+        | inl less ↦ subst (λ (z : ℤ). IsAtMost z most_row) (sym (left k less)) (before.small k past less)
         | inr least ↦
             (let j : k - done < more = omega arith in
-            subst (λ (z : ℤ). IsAtMost z (2 ^ 121)) (sym (right k least j)) (small.at_most (k - done) j))
+            subst (λ (z : ℤ). IsAtMost z most_row) (sym (right k least j)) (small.at_most (k - done) j))
       ];
     }
       where
@@ -106,9 +106,9 @@ module _ (f : Field) (by : Multiplier) (a : Axis) (p : Triple) (done more x : �
             ∙ get_or_append_left part rest (pos 0) (k - done) (omega (arith, long))
 
 -- some values of a row
-pub row_part : (f : Field) (by : Multiplier) (a : Axis) (p : Triple) (count first past : ℕ) (row : List ℤ) → past ≤ count + 1
-    → IsScaledRow f by a p 0 (count + 1) row → IsScaledRow f by a p first past row
-row_part f by a p count first past row fits is = record {
+pub row_part : (n : Triple) (g : Axis → Triple → ℤ) (a : Axis) (p : Triple) (count first past : ℕ) (row : List ℤ) → past ≤ count + 1
+    → IsScaledRow n g a p 0 (count + 1) row → IsScaledRow n g a p first past row
+row_part n g a p count first past row fits is = record {
   values = λ i from below. is.values i (omega arith) (omega (arith, below, fits));
   small = λ i from below. is.small i (omega arith) (omega (arith, below, fits));
 }
@@ -124,25 +124,25 @@ same_or_other i e = elim (cases_lt i e) [
 ]
 
 -- the values of a row's cells and that at its edge
-pub with_edge : (f : Field) (by : Multiplier) (a : Axis) (p : Triple) (s : Span) (row : List ℤ) (v : ℤ) → IsSpan s → s.edge < length row
-    → IsScaledRow f by a p s.first (s.first + s.cells) row → v ≡ scaled (value_at f a (along_x f.cells p s.edge)) by → IsAtMost v (2 ^ 121)
-    → IsScaledRow f by a p 0 (s.cells + 1) (slice_set row s.edge v)
-with_edge f by a p s row v span inside is at small = record {
-  values = λ i from below. elim (same_or_other i s.edge) as (λ _. row_at (slice_set row s.edge v) i ≡ scaled (value_at f a (along_x f.cells p i)) by) [
+pub with_edge : (n : Triple) (g : Axis → Triple → ℤ) (a : Axis) (p : Triple) (s : Span) (row : List ℤ) (v : ℤ) → IsSpan s → s.edge < length row
+    → IsScaledRow n g a p s.first (s.first + s.cells) row → v ≡ g a (along_x n p s.edge) → IsAtMost v most_row
+    → IsScaledRow n g a p 0 (s.cells + 1) (slice_set row s.edge v)
+with_edge n g a p s row v span inside is at small = record {
+  values = λ i from below. elim (same_or_other i s.edge) as (λ _. row_at (slice_set row s.edge v) i ≡ g a (along_x n p i)) [
     | inl same ↦
         ap (row_at (slice_set row s.edge v)) same
         ∙ get_or-set_same row s.edge v (pos 0) inside
         ∙ at
-        ∙ sym (ap (λ (m : ℕ). scaled (value_at f a (along_x f.cells p m)) by) same)
+        ∙ sym (ap (λ (m : ℕ). g a (along_x n p m)) same)
     | inr other ↦
         (let among = span.covers i below other in
         get_or-set_other row s.edge i v (pos 0) other ∙ is.values i among.0 among.1)
   ];
-  small = λ i from below. elim (same_or_other i s.edge) as (λ _. IsAtMost (row_at (slice_set row s.edge v) i) (2 ^ 121)) [
+  small = λ i from below. elim (same_or_other i s.edge) as (λ _. IsAtMost (row_at (slice_set row s.edge v) i) most_row) [
     | inl same ↦
-        subst (λ (z : ℤ). IsAtMost z (2 ^ 121)) (sym (ap (row_at (slice_set row s.edge v)) same ∙ get_or-set_same row s.edge v (pos 0) inside)) small
+        subst (λ (z : ℤ). IsAtMost z most_row) (sym (ap (row_at (slice_set row s.edge v)) same ∙ get_or-set_same row s.edge v (pos 0) inside)) small
     | inr other ↦
         (let among = span.covers i below other in
-        subst (λ (z : ℤ). IsAtMost z (2 ^ 121)) (sym (get_or-set_other row s.edge i v (pos 0) other)) (is.small i among.0 among.1))
+        subst (λ (z : ℤ). IsAtMost z most_row) (sym (get_or-set_other row s.edge i v (pos 0) other)) (is.small i among.0 among.1))
   ];
 }

@@ -1,12 +1,11 @@
 -- Planes of scaled rows: those of some lines of cells, one after another in y at one layer of z. Of
 -- each line a plane has what the curl reads.
-use Rattle.std.specs.Prelude.{◌≡◌, ℕ, ◌+◌, ◌%◌, ◌<◌, ◌≤◌, List, [], slice_index_or}
+use Rattle.std.specs.Prelude.{◌≡◌, ℕ, ℤ, ◌+◌, ◌%◌, ◌<◌, ◌≤◌, List, [], slice_index_or}
 use Rattle.pic_num.specs.Limits.{most_cells_of_axis}
+use Rattle.pic_num.specs.declared.axis.Axis.{Axis}
 use Rattle.pic_num.specs.declared.axis.Axis.TheVariants.{X, Y, Z}
-use Rattle.pic_num.specs.Multiplier.{Multiplier}
 use Rattle.pic_num.specs.Space.{Triple}
 use Rattle.pic_grid.specs.Differences.{up, down}
-use Rattle.pic_grid.specs.Lattice.{Field}
 use Rattle.pic_field.specs.Rows.{IsScaledRow}
 use Rattle.pic_field.specs.declared.plane.Line.{Line}
 use Rattle.pic_field.specs.declared.plane.Span.{Span}
@@ -52,58 +51,58 @@ down_span cells = record { first = 1; edge = 0; cells = cells }
 
 -- the scaled rows of a line are there that a curl has along the line itself: x at its cells, y and
 -- z also at the edge. The rooms begin with the cell p.
-pub record IsOwnLine (f : Field) (by : Multiplier) (p : Triple) (s : Span) (line : Line)
+pub record IsOwnLine (n : Triple) (g : Axis → Triple → ℤ) (p : Triple) (s : Span) (line : Line)
     : Type 0 where
-  pub x : IsScaledRow f by X p s.first (s.first + s.cells) line.x
-  pub y : IsScaledRow f by Y p 0 (s.cells + 1) line.y
-  pub z : IsScaledRow f by Z p 0 (s.cells + 1) line.z
+  pub x : IsScaledRow n g X p s.first (s.first + s.cells) line.x
+  pub y : IsScaledRow n g Y p 0 (s.cells + 1) line.y
+  pub z : IsScaledRow n g Z p 0 (s.cells + 1) line.z
 
 -- those that it has along the line beside it in y,
-pub record IsSideLine (f : Field) (by : Multiplier) (p : Triple) (s : Span) (line : Line)
+pub record IsSideLine (n : Triple) (g : Axis → Triple → ℤ) (p : Triple) (s : Span) (line : Line)
     : Type 0 where
-  pub x : IsScaledRow f by X p s.first (s.first + s.cells) line.x
-  pub z : IsScaledRow f by Z p s.first (s.first + s.cells) line.z
+  pub x : IsScaledRow n g X p s.first (s.first + s.cells) line.x
+  pub z : IsScaledRow n g Z p s.first (s.first + s.cells) line.z
 
 -- and along the line beside it in z
-pub record IsNextLine (f : Field) (by : Multiplier) (p : Triple) (s : Span) (line : Line)
+pub record IsNextLine (n : Triple) (g : Axis → Triple → ℤ) (p : Triple) (s : Span) (line : Line)
     : Type 0 where
-  pub x : IsScaledRow f by X p s.first (s.first + s.cells) line.x
-  pub y : IsScaledRow f by Y p s.first (s.first + s.cells) line.y
+  pub x : IsScaledRow n g X p s.first (s.first + s.cells) line.x
+  pub y : IsScaledRow n g Y p s.first (s.first + s.cells) line.y
 
 -- a plane has a strip of so many lines in its own layer, and the line beside the strip: before it
 -- where rows begin before their cells, and else behind it. The plane begins with the line of the
 -- cell p.
-pub record IsScaledPlane (f : Field) (by : Multiplier) (p : Triple) (s : Span) (lines : ℕ)
+pub record IsScaledPlane (n : Triple) (g : Axis → Triple → ℤ) (p : Triple) (s : Span) (lines : ℕ)
     (plane : List Line) : Type 0 where
   pub own : (j : ℕ) → s.first ≤ j → j < s.first + lines
-      → IsOwnLine f by (along_y f.cells p j) s (line_at plane j)
-  pub side : (j : ℕ) → j < lines + 1 → IsSideLine f by (along_y f.cells p j) s (line_at plane j)
+      → IsOwnLine n g (along_y n p j) s (line_at plane j)
+  pub side : (j : ℕ) → j < lines + 1 → IsSideLine n g (along_y n p j) s (line_at plane j)
 
 -- a plane has the lines that lie beside a strip of so many lines in z
-pub record IsNextPlane (f : Field) (by : Multiplier) (p : Triple) (s : Span) (lines : ℕ)
+pub record IsNextPlane (n : Triple) (g : Axis → Triple → ℤ) (p : Triple) (s : Span) (lines : ℕ)
     (plane : List Line) : Type 0 where
   pub next : (j : ℕ) → s.first ≤ j → j < s.first + lines
-      → IsNextLine f by (along_y f.cells p j) s (line_at plane j)
+      → IsNextLine n g (along_y n p j) s (line_at plane j)
 
 -- all the scaled rows that a curl has along a line: of the line itself, whose rooms begin with the
 -- cell p, of that beside it in y, whose rooms begin with q, and of that beside it in z, with r
-pub record AreCurlRows (f : Field) (by : Multiplier) (s : Span) (p q r : Triple)
+pub record AreCurlRows (n : Triple) (g : Axis → Triple → ℤ) (s : Span) (p q r : Triple)
     (own by_y by_z : Line) : Type 0 where
-  pub here : IsOwnLine f by p s own
-  pub in_y : IsSideLine f by q s by_y
-  pub in_z : IsNextLine f by r s by_z
+  pub here : IsOwnLine n g p s own
+  pub in_y : IsSideLine n g q s by_y
+  pub in_z : IsNextLine n g r s by_z
 
 -- those of the curl of E along the line of count cells that begins at p: of the next lines, with
 -- the next cell in x,
-abbrev pub AreRowsUp : Field → Multiplier → Triple → ℕ → Line → Line → Line → Type 0
-AreRowsUp f by p count own by_y by_z =
-    AreCurlRows f by (up_span count) p (up f.cells Y p) (up f.cells Z p) own by_y by_z
+abbrev pub AreRowsUp : Triple → (Axis → Triple → ℤ) → Triple → ℕ → Line → Line → Line → Type 0
+AreRowsUp n g p count own by_y by_z =
+    AreCurlRows n g (up_span count) p (up n Y p) (up n Z p) own by_y by_z
 
 -- and of the curl of B: of the last lines, with the last cell in x
-abbrev pub AreRowsDown : Field → Multiplier → Triple → ℕ → Line → Line → Line → Type 0
-AreRowsDown f by p count own by_y by_z =
-    AreCurlRows f by (down_span count) (down f.cells X p) (down f.cells X (down f.cells Y p))
-    (down f.cells X (down f.cells Z p)) own by_y by_z
+abbrev pub AreRowsDown : Triple → (Axis → Triple → ℤ) → Triple → ℕ → Line → Line → Line → Type 0
+AreRowsDown n g p count own by_y by_z =
+    AreCurlRows n g (down_span count) (down n X p) (down n X (down n Y p))
+    (down n X (down n Z p)) own by_y by_z
 
 -- where the planes for the curl of B begin: a cell before in x and a line before in y
 abbrev pub corner_before : Triple → Triple → Triple

@@ -1,6 +1,8 @@
--- Rows of a phase: the values of one component along a line of cells in x, scaled once.
+-- Rows of a phase: the values of one component along a line of cells in x. They are those of any g
+-- by axis and cell that has their size, as a field's scaled values.
 use Rattle.std.specs.Prelude.{◌≡◌, ℕ, ℤ, pos, ◌+◌, ◌%◌, ◌^◌, ◌<◌, ◌≤◌, ◌+ℤ◌, ◌-ℤ◌, List, length, slice_index_or}
 use Rattle.pic_num.specs.declared.axis.Axis.{Axis}
+use Rattle.pic_num.specs.Limits.{most_scaled}
 use Rattle.pic_num.specs.Multiplier.{Multiplier}
 use Rattle.pic_num.specs.Rounding.{scaled}
 use Rattle.pic_num.specs.Sizes.{IsAtMost}
@@ -8,6 +10,14 @@ use Rattle.pic_num.specs.Space.{Triple}
 use Rattle.pic_grid.specs.Lattice.{Field, value_at}
 use Rattle.pic_grid.specs.Slot.{IsSlotY, IsSlotZ}
 use Rattle.pic_field.specs.declared.row.Start.{Start}
+
+-- the greatest size of a value of a row: a scaled one, and room to add a number below 2^64
+abbrev pub most_row : ℕ
+most_row = most_scaled + 2 ^ 64
+
+-- a field's values by axis and cell, each scaled once
+abbrev pub scaled_of : Field → Multiplier → Axis → Triple → ℤ
+scaled_of f by a p = scaled (value_at f a p) by
 
 -- the value at an index of a row
 abbrev pub row_at : List ℤ → ℕ → ℤ
@@ -36,14 +46,13 @@ pub record IsStart (f : Field) (s : Start) : Type 0 where
 abbrev pub along_x : Triple → Triple → ℕ → Triple
 along_x n p i = record p { x = (p.x + i) % n.x }
 
--- the values of a row at the indices from first on and below past are those of a field's component
--- on an axis, each scaled once. The value at the index 0 would be that of the cell p, and each next
--- one is that of the next cell in x, round the grid.
-pub record IsScaledRow (f : Field) (by : Multiplier) (a : Axis) (p : Triple) (first past : ℕ)
-    (row : List ℤ) : Type 0 where
-  pub values : (i : ℕ) → first ≤ i → i < past
-      → row_at row i ≡ scaled (value_at f a (along_x f.cells p i)) by
-  pub small : (i : ℕ) → first ≤ i → i < past → IsAtMost (row_at row i) (2 ^ 121)
+-- the values of a row at the indices from first on and below past are those of g on an axis. The
+-- value at the index 0 would be that of the cell p, and each next one is that of the next cell in x,
+-- round a grid of n cells.
+pub record IsScaledRow (n : Triple) (g : Axis → Triple → ℤ) (a : Axis) (p : Triple)
+    (first past : ℕ) (row : List ℤ) : Type 0 where
+  pub values : (i : ℕ) → first ≤ i → i < past → row_at row i ≡ g a (along_x n p i)
+  pub small : (i : ℕ) → first ≤ i → i < past → IsAtMost (row_at row i) most_row
 
 -- a curl from the values of four rows
 abbrev pub curl_of : ℤ → ℤ → ℤ → ℤ → ℤ

@@ -12,6 +12,7 @@ ghost use Rattle.pic_grid.specs.Lattice.{EachAtMost};
 ghost use Rattle.pic_grid.specs.Block.{IsAmongCells, IsShaped, AllAtMost, inner_at, outer_of};
 ghost use Rattle.pic_field.specs.FieldPhases.{full_of, full_in, lowest, least_fault, AllBounded};
 ghost use Rattle.pic_field.specs.Lines.{HasCells, OnLine, OnLines, OnStrip, BelowLayer, Changed, AreSmall, full_made, line_start};
+ghost use Rattle.pic_field.specs.Rows.{scaled_of};
 ghost use Rattle.pic_field.specs.Planes.{IsStrip, IsScaledPlane, IsNextPlane, AreRowsDown, corner_before, down_span, plane_at};
 
 use crate::faults::{safe_most, stop_in};
@@ -175,11 +176,13 @@ fn full_layer(
     requires j_small { AreSmall most_value (OnLines strip.from strip.to z) step.now.j.now }
     requires e_small { AreSmall most_value (OnLines strip.from strip.to z) e.old }
     requires far { far < 2 }
-    requires plane { IsNextPlane step.now.b.now step.now.scales.now.b_to_e
+    requires plane { IsNextPlane step.now.b.now.cells
+        (scaled_of step.now.b.now step.now.scales.now.b_to_e)
         (down step.now.b.now.cells Axis.Z
         (corner_before step.now.b.now.cells (line_start e.old.low strip.from z)))
         (down_span e.old.size.x) (strip.to - strip.from) (plane_at rooms.old.planes far) }
-    ensures next { z + 1 < e.old.size.z → IsNextPlane step.now.b.now step.now.scales.now.b_to_e
+    ensures next { z + 1 < e.old.size.z → IsNextPlane step.now.b.now.cells
+        (scaled_of step.now.b.now step.now.scales.now.b_to_e)
         (down step.now.b.now.cells Axis.Z
         (corner_before step.now.b.now.cells (line_start e.old.low strip.from (z + 1))))
         (down_span e.old.size.x) (strip.to - strip.from) (plane_at rooms.new.planes (1 - far)) }
@@ -221,10 +224,12 @@ fn full_lines(
     requires z { z < e.old.size.z }
     requires j_small { AreSmall most_value (OnLines strip.from strip.to z) step.now.j.now }
     requires e_small { AreSmall most_value (OnLines strip.from strip.to z) e.old }
-    requires near { IsScaledPlane step.now.b.now step.now.scales.now.b_to_e
+    requires near { IsScaledPlane step.now.b.now.cells
+        (scaled_of step.now.b.now step.now.scales.now.b_to_e)
         (corner_before step.now.b.now.cells (line_start e.old.low strip.from z))
         (down_span e.old.size.x) (strip.to - strip.from) near.now }
-    requires far { IsNextPlane step.now.b.now step.now.scales.now.b_to_e
+    requires far { IsNextPlane step.now.b.now.cells
+        (scaled_of step.now.b.now step.now.scales.now.b_to_e)
         (down step.now.b.now.cells Axis.Z
         (corner_before step.now.b.now.cells (line_start e.old.low strip.from z)))
         (down_span e.old.size.x) (strip.to - strip.from) far.now }
@@ -259,7 +264,8 @@ fn full_line(
     requires z { z < e.old.size.z }
     requires j_small { AreSmall most_value (OnLine y z) step.now.j.now }
     requires e_small { AreSmall most_value (OnLine y z) e.old }
-    requires rows { AreRowsDown step.now.b.now step.now.scales.now.b_to_e
+    requires rows { AreRowsDown step.now.b.now.cells
+        (scaled_of step.now.b.now step.now.scales.now.b_to_e)
         (line_start e.old.low y z) e.old.size.x own.now by_y.now by_z.now }
     ensures changed { Changed
         (full_made step.now.scales.now step.now.b.now step.now.j.now e.old.low)

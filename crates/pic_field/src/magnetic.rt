@@ -11,6 +11,7 @@ ghost use Rattle.pic_grid.specs.Lattice.{EachAtMost};
 ghost use Rattle.pic_grid.specs.Block.{IsAmongCells, IsShaped, AllAtMost, inner_at, outer_of};
 ghost use Rattle.pic_field.specs.FieldPhases.{half_of, half_in, lowest, least_fault, AllBounded};
 ghost use Rattle.pic_field.specs.Lines.{HasCells, OnLine, OnLines, OnStrip, BelowLayer, Changed, AreSmall, half_made, line_start};
+ghost use Rattle.pic_field.specs.Rows.{scaled_of};
 ghost use Rattle.pic_field.specs.Planes.{IsStrip, IsScaledPlane, IsNextPlane, AreRowsUp, plane_at, up_span};
 
 use crate::faults::{safe_most, stop_in};
@@ -155,10 +156,12 @@ fn half_layer(
     requires z { z < b.old.size.z }
     requires b_small { AreSmall most_value (OnLines strip.from strip.to z) b.old }
     requires near { near < 2 }
-    requires plane { IsScaledPlane step.now.e.now step.now.scales.now.e_to_b
+    requires plane { IsScaledPlane step.now.e.now.cells
+        (scaled_of step.now.e.now step.now.scales.now.e_to_b)
         (line_start b.old.low strip.from z) (up_span b.old.size.x) (strip.to - strip.from)
         (plane_at rooms.old.planes near) }
-    ensures next { z + 1 < b.old.size.z → IsScaledPlane step.now.e.now step.now.scales.now.e_to_b
+    ensures next { z + 1 < b.old.size.z → IsScaledPlane step.now.e.now.cells
+        (scaled_of step.now.e.now step.now.scales.now.e_to_b)
         (line_start b.old.low strip.from (z + 1)) (up_span b.old.size.x) (strip.to - strip.from)
         (plane_at rooms.new.planes (1 - near)) }
     ensures changed { Changed (half_made step.now.scales.now step.now.e.now b.old.low)
@@ -194,10 +197,12 @@ fn half_lines(
     requires strip { IsStrip strip b.old.size.y }
     requires z { z < b.old.size.z }
     requires b_small { AreSmall most_value (OnLines strip.from strip.to z) b.old }
-    requires near { IsScaledPlane step.now.e.now step.now.scales.now.e_to_b
+    requires near { IsScaledPlane step.now.e.now.cells
+        (scaled_of step.now.e.now step.now.scales.now.e_to_b)
         (line_start b.old.low strip.from z) (up_span b.old.size.x) (strip.to - strip.from)
         near.now }
-    requires far { IsNextPlane step.now.e.now step.now.scales.now.e_to_b
+    requires far { IsNextPlane step.now.e.now.cells
+        (scaled_of step.now.e.now step.now.scales.now.e_to_b)
         (up step.now.e.now.cells Axis.Z (line_start b.old.low strip.from z))
         (up_span b.old.size.x) (strip.to - strip.from) far.now }
     ensures changed { Changed (half_made step.now.scales.now step.now.e.now b.old.low)
@@ -227,7 +232,8 @@ fn half_line(
     requires y { y < b.old.size.y }
     requires z { z < b.old.size.z }
     requires b_small { AreSmall most_value (OnLine y z) b.old }
-    requires rows { AreRowsUp step.now.e.now step.now.scales.now.e_to_b
+    requires rows { AreRowsUp step.now.e.now.cells
+        (scaled_of step.now.e.now step.now.scales.now.e_to_b)
         (line_start b.old.low y z) b.old.size.x own.now by_y.now by_z.now }
     ensures changed { Changed (half_made step.now.scales.now step.now.e.now b.old.low)
         (OnLine y z) b.old b.new }

@@ -8,7 +8,7 @@ ghost use Rattle.pic_num.specs.Space.{triple};
 ghost use Rattle.pic_grid.specs.Cells.{IsWithin};
 ghost use Rattle.pic_grid.specs.Lattice.{EachAtMost, value_at};
 ghost use Rattle.pic_grid.specs.Slot.{IsSlotX, IsSlotY, IsSlotZ};
-ghost use Rattle.pic_field.specs.Rows.{start_cell, IsStart, IsScaledRow};
+ghost use Rattle.pic_field.specs.Rows.{start_cell, IsStart, IsScaledRow, most_row, scaled_of};
 ghost use Rattle.pic_field.specs.Planes.{up_span, down_span, IsSpan, IsOwnLine, IsSideLine, IsNextLine, IsScaledPlane, IsNextPlane};
 
 use crate::row::{Row, Start, after_run, scale_row, start_at};
@@ -103,7 +103,7 @@ pub(crate) fn fill_plane(
     requires edge { (triple at).x + span.edge ≤ field.now.cells.x }
     requires lines { lines ≤ 8 }
     requires small { EachAtMost most_value field.now }
-    ensures { IsScaledPlane field.now by (triple at) span lines to.new }
+    ensures { IsScaledPlane field.now.cells (scaled_of field.now by) (triple at) span lines to.new }
 {
     let [_, ny, _] = field.cells().numbers();
     let [x, start, z] = at;
@@ -128,7 +128,7 @@ pub(crate) fn fill_next_plane(
     requires span { IsSpan span }
     requires lines { lines ≤ 8 }
     requires small { EachAtMost most_value field.now }
-    ensures { IsNextPlane field.now by (triple at) span lines to.new }
+    ensures { IsNextPlane field.now.cells (scaled_of field.now by) (triple at) span lines to.new }
 {
     let [_, ny, _] = field.cells().numbers();
     let [x, start, z] = at;
@@ -155,8 +155,8 @@ pub(crate) fn fill_plane_behind(
     requires edge { (triple at).x + span.edge ≤ field.now.cells.x }
     requires lines { lines ≤ 8 }
     requires small { EachAtMost most_value field.now }
-    ensures own { IsTrue has_next → IsScaledPlane field.now by (triple at) span lines to.new }
-    ensures next { IsNextPlane field.now by (triple at) span lines to.new }
+    ensures own { IsTrue has_next → IsScaledPlane field.now.cells (scaled_of field.now by) (triple at) span lines to.new }
+    ensures next { IsNextPlane field.now.cells (scaled_of field.now by) (triple at) span lines to.new }
 {
     if has_next {
         return fill_plane(field, by, at, span, lines, to);
@@ -184,8 +184,8 @@ fn scale_line(field: &Lattice, by: Mult, at: [u32; 3], span: Span, own: bool, to
     requires span { IsSpan span }
     requires edge { (triple at).x + span.edge ≤ field.now.cells.x }
     requires small { EachAtMost most_value field.now }
-    ensures own { IsTrue own → IsOwnLine field.now by (triple at) span to.new }
-    ensures side { IsSideLine field.now by (triple at) span to.new }
+    ensures own { IsTrue own → IsOwnLine field.now.cells (scaled_of field.now by) (triple at) span to.new }
+    ensures side { IsSideLine field.now.cells (scaled_of field.now by) (triple at) span to.new }
 {
     if own {
         return scale_own(field, by, at, span, to);
@@ -201,7 +201,7 @@ fn scale_own(field: &Lattice, by: Mult, at: [u32; 3], span: Span, to: &mut Line)
     requires span { IsSpan span }
     requires edge { (triple at).x + span.edge ≤ field.now.cells.x }
     requires small { EachAtMost most_value field.now }
-    ensures { IsOwnLine field.now by (triple at) span to.new }
+    ensures { IsOwnLine field.now.cells (scaled_of field.now by) (triple at) span to.new }
 {
     let [nx, _, _] = field.cells().numbers();
     let start = start_at(field, at);
@@ -219,7 +219,7 @@ fn scale_next(field: &Lattice, by: Mult, at: [u32; 3], span: Span, to: &mut Line
     requires within { IsWithin (triple at) field.now.cells }
     requires span { IsSpan span }
     requires small { EachAtMost most_value field.now }
-    ensures { IsNextLine field.now by (triple at) span to.new }
+    ensures { IsNextLine field.now.cells (scaled_of field.now by) (triple at) span to.new }
 {
     let start = start_at(field, at);
     let wanted = Wanted { y: true, z: false };
@@ -235,7 +235,7 @@ fn scaled_at(field: &Lattice, by: Mult, axis: Axis, x: Slot, y: Slot, z: Slot) -
     requires small { EachAtMost most_value field.now }
     ensures value { result
         ≡ scaled (value_at field.now axis (record { x = x.index; y = y.index; z = z.index })) by }
-    ensures size { IsAtMost result (2 ^ 121) }
+    ensures size { IsAtMost result most_row }
 {
     let run = field.run_at(axis, x, y, z);
     scale(run[0], by)
@@ -255,11 +255,11 @@ fn scale_rows(field: &Lattice, by: Mult, start: Start, span: Span, wanted: Wante
     requires start { IsStart field.now start }
     requires span { IsSpan span }
     requires small { EachAtMost most_value field.now }
-    ensures x { IsScaledRow field.now by Axis.X (start_cell start) span.first
+    ensures x { IsScaledRow field.now.cells (scaled_of field.now by) Axis.X (start_cell start) span.first
         (span.first + span.cells) to.new.x }
-    ensures y { IsTrue wanted.y → IsScaledRow field.now by Axis.Y (start_cell start) span.first
+    ensures y { IsTrue wanted.y → IsScaledRow field.now.cells (scaled_of field.now by) Axis.Y (start_cell start) span.first
         (span.first + span.cells) to.new.y }
-    ensures z { IsTrue wanted.z → IsScaledRow field.now by Axis.Z (start_cell start) span.first
+    ensures z { IsTrue wanted.z → IsScaledRow field.now.cells (scaled_of field.now by) Axis.Z (start_cell start) span.first
         (span.first + span.cells) to.new.z }
 {
     let [nx, _, _] = field.cells().numbers();

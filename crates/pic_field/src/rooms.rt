@@ -4,7 +4,7 @@ ghost use Rattle.std.specs.Prelude.{◌≡◌, pos, ◌+◌, ◌*◌, ◌^◌, �
 ghost use Rattle.pic_num.specs.Limits.{most_value};
 ghost use Rattle.pic_grid.specs.Block.{IsShaped, inner_at};
 ghost use Rattle.pic_field.specs.Lines.{OnRow, Changed, AreSmall};
-ghost use Rattle.pic_field.specs.Rows.{row_at, curl_of, IsValueRow};
+ghost use Rattle.pic_field.specs.Rows.{most_row, row_at, curl_of, IsValueRow};
 
 use crate::plane::{LINES_OF_PLANE, Line, Plane};
 use crate::row::{CurlRows, VALUES_OF_ROW, lessen_row, lessen_row_by};
@@ -48,10 +48,10 @@ pub(crate) fn half_row(
     requires y { y < b.old.size.y }
     requires z { z < b.old.size.z }
     requires small { AreSmall most_value (OnRow axis y z) b.old }
-    requires far_third { IsValueRow (2 ^ 121) b.old.size.x four.now.far_third.now }
-    requires near_third { IsValueRow (2 ^ 121) b.old.size.x four.now.near_third.now }
-    requires far_second { IsValueRow (2 ^ 121) b.old.size.x four.now.far_second.now }
-    requires near_second { IsValueRow (2 ^ 121) b.old.size.x four.now.near_second.now }
+    requires far_third { IsValueRow most_row b.old.size.x four.now.far_third.now }
+    requires near_third { IsValueRow most_row b.old.size.x four.now.near_third.now }
+    requires far_second { IsValueRow most_row b.old.size.x four.now.far_second.now }
+    requires near_second { IsValueRow most_row b.old.size.x four.now.near_second.now }
     ensures changed { Changed (λ a p v. v -ℤ curl_of
         (row_at four.now.far_third.now p.x) (row_at four.now.near_third.now p.x)
         (row_at four.now.far_second.now p.x) (row_at four.now.near_second.now p.x))
@@ -82,10 +82,10 @@ pub(crate) fn full_row(
     requires z { z < e.old.size.z }
     requires j_small { AreSmall most_value (OnRow axis y z) j.now }
     requires small { AreSmall most_value (OnRow axis y z) e.old }
-    requires far_third { IsValueRow (2 ^ 121) e.old.size.x four.now.far_third.now }
-    requires near_third { IsValueRow (2 ^ 121) e.old.size.x four.now.near_third.now }
-    requires far_second { IsValueRow (2 ^ 121) e.old.size.x four.now.far_second.now }
-    requires near_second { IsValueRow (2 ^ 121) e.old.size.x four.now.near_second.now }
+    requires far_third { IsValueRow most_row e.old.size.x four.now.far_third.now }
+    requires near_third { IsValueRow most_row e.old.size.x four.now.near_third.now }
+    requires far_second { IsValueRow most_row e.old.size.x four.now.far_second.now }
+    requires near_second { IsValueRow most_row e.old.size.x four.now.near_second.now }
     ensures changed { Changed (λ a p v. v -ℤ inner_at j.now a p -ℤ curl_of
         (row_at four.now.far_third.now p.x) (row_at four.now.near_third.now p.x)
         (row_at four.now.far_second.now p.x) (row_at four.now.near_second.now p.x))

@@ -7,7 +7,7 @@ ghost use Rattle.pic_num.specs.Sizes.{IsAtMost};
 ghost use Rattle.pic_num.specs.Space.{triple};
 ghost use Rattle.pic_grid.specs.Cells.{IsWithin};
 ghost use Rattle.pic_grid.specs.Lattice.{EachAtMost};
-ghost use Rattle.pic_field.specs.Rows.{row_at, curl_of, start_cell, IsSmallRow, IsValueRow, IsStart, IsScaledRow};
+ghost use Rattle.pic_field.specs.Rows.{row_at, curl_of, start_cell, IsSmallRow, IsValueRow, IsStart, IsScaledRow, most_row, scaled_of};
 
 use pic_grid::{Lattice, Slot};
 use pic_num::{Axis, Mult, scale};
@@ -65,7 +65,7 @@ pub(crate) fn scaled_row(
     requires start { IsStart field.now start }
     requires room { count ≤ length to.old }
     requires small { EachAtMost most_value field.now }
-    ensures { IsScaledRow field.now by axis (start_cell start) 0 count to.new }
+    ensures { IsScaledRow field.now.cells (scaled_of field.now by) axis (start_cell start) 0 count to.new }
 {
     let [nx, _, _] = field.cells().numbers();
     let Start { mut x, y, z } = start;
@@ -98,7 +98,7 @@ pub(crate) fn scale_row(from: &[i128], by: Mult, to: &mut [i128])
     requires small { IsSmallRow most_value (length from.now) from.now }
     ensures values { (i : ℕ) → i < length from.now
         → row_at to.new i ≡ scaled (row_at from.now i) by }
-    ensures small { IsSmallRow (2 ^ 121) (length from.now) to.new }
+    ensures small { IsSmallRow most_row (length from.now) to.new }
 {
     for i in 0..from.len() {
         to[i] = scale(from[i], by);
@@ -109,10 +109,10 @@ pub(crate) fn scale_row(from: &[i128], by: Mult, to: &mut [i128])
 /// `most` in size.
 pub(crate) fn lessen_row(row: &mut [i128], four: &CurlRows, most: u128) -> bool
     requires small { IsSmallRow most_value (length row.old) row.old }
-    requires far_third { IsValueRow (2 ^ 121) (length row.old) four.now.far_third.now }
-    requires near_third { IsValueRow (2 ^ 121) (length row.old) four.now.near_third.now }
-    requires far_second { IsValueRow (2 ^ 121) (length row.old) four.now.far_second.now }
-    requires near_second { IsValueRow (2 ^ 121) (length row.old) four.now.near_second.now }
+    requires far_third { IsValueRow most_row (length row.old) four.now.far_third.now }
+    requires near_third { IsValueRow most_row (length row.old) four.now.near_third.now }
+    requires far_second { IsValueRow most_row (length row.old) four.now.far_second.now }
+    requires near_second { IsValueRow most_row (length row.old) four.now.near_second.now }
     ensures values { (i : ℕ) → i < length row.old → row_at row.new i ≡ row_at row.old i -ℤ
         curl_of (row_at four.now.far_third.now i) (row_at four.now.near_third.now i)
         (row_at four.now.far_second.now i) (row_at four.now.near_second.now i) }
@@ -134,10 +134,10 @@ pub(crate) fn lessen_row(row: &mut [i128], four: &CurlRows, most: u128) -> bool
 pub(crate) fn lessen_row_by(row: &mut [i128], take: &[i128], four: &CurlRows, most: u128) -> bool
     requires small { IsSmallRow most_value (length row.old) row.old }
     requires take { IsValueRow most_value (length row.old) take.now }
-    requires far_third { IsValueRow (2 ^ 121) (length row.old) four.now.far_third.now }
-    requires near_third { IsValueRow (2 ^ 121) (length row.old) four.now.near_third.now }
-    requires far_second { IsValueRow (2 ^ 121) (length row.old) four.now.far_second.now }
-    requires near_second { IsValueRow (2 ^ 121) (length row.old) four.now.near_second.now }
+    requires far_third { IsValueRow most_row (length row.old) four.now.far_third.now }
+    requires near_third { IsValueRow most_row (length row.old) four.now.near_third.now }
+    requires far_second { IsValueRow most_row (length row.old) four.now.far_second.now }
+    requires near_second { IsValueRow most_row (length row.old) four.now.near_second.now }
     ensures values { (i : ℕ) → i < length row.old
         → row_at row.new i ≡ row_at row.old i -ℤ row_at take.now i -ℤ
         curl_of (row_at four.now.far_third.now i) (row_at four.now.near_third.now i)

@@ -4,6 +4,7 @@ use Rattle.pic_num.specs.Space.{Triple}
 use Rattle.pic_grid.specs.Cells.{IsWithin}
 use Rattle.pic_grid.specs.Block.{inner_at}
 use Rattle.pic_field.specs.Lines.{OnRow, full_made, line_start}
+use Rattle.pic_field.specs.Rows.{scaled_of}
 use Rattle.pic_field.specs.Planes.{AreRowsDown}
 use Rattle.pic_field.proofs.CurlLaws.{full_x, full_y, full_z}
 use Rattle.pic_field.proofs.LineLaws.{changed_as, line_changed, line_calm}
@@ -15,10 +16,10 @@ same : (c : After-line_length-count) → c.line_length-count.result ≡ c.args.e
 same c = c.line_length-count.ensures.value ∙ ap (λ (n : Triple). n.x) c.zone.ensures.size
 
 -- so many values of its rows
-known : (c : After-line_length-count) → AreRowsDown c.args.step.now.b.now c.args.step.now.scales.now.b_to_e (line_start c.args.e.now.low c.args.y c.args.z)
+known : (c : After-line_length-count) → AreRowsDown c.args.step.now.b.now.cells (scaled_of c.args.step.now.b.now c.args.step.now.scales.now.b_to_e) (line_start c.args.e.now.low c.args.y c.args.z)
     c.line_length-count.result c.args.own.now c.args.by_y.now c.args.by_z.now
 known c =
-    subst (λ (m : ℕ). AreRowsDown c.args.step.now.b.now c.args.step.now.scales.now.b_to_e (line_start c.args.e.now.low c.args.y c.args.z) m
+    subst (λ (m : ℕ). AreRowsDown c.args.step.now.b.now.cells (scaled_of c.args.step.now.b.now c.args.step.now.scales.now.b_to_e) (line_start c.args.e.now.low c.args.y c.args.z) m
     c.args.own.now c.args.by_y.now c.args.by_z.now) (sym (same c)) c.requires.rows
 
 pub returns-clause-changed : goal.returns-clause-changed

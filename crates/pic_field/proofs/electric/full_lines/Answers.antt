@@ -1,6 +1,7 @@
 use Rattle.std.proofs.Common.{◌≡◌, ◌+◌, ◌-◌, ℕ, sym, subst, arith}
 use Rattle.pic_num.specs.Space.{Triple, Spot}
 use Rattle.pic_field.specs.Lines.{OnLine, OnLines, Changed, full_made, line_start}
+use Rattle.pic_field.specs.Rows.{scaled_of}
 use Rattle.pic_field.specs.Planes.{line_at, AreRowsDown}
 use Rattle.pic_field.proofs.LineLaws.{changed_next, calm_next, strip_more}
 use Rattle.pic_field.proofs.PlaneLaws.{rows_down}
@@ -17,13 +18,13 @@ full_line-found-requires-clause-rows c =
     let near = c.args.near.now in
     let far = c.args.far.now in
     let shaped = c.loop-y.invariant.changed.shaped in
-    subst (λ (l : Spot). AreRowsDown b by (line_start l y z) c.loop-y.e.size.x (line_at near (y - from + 1)) (line_at near (y - from))
+    subst (λ (l : Spot). AreRowsDown b.cells (scaled_of b by) (line_start l y z) c.loop-y.e.size.x (line_at near (y - from + 1)) (line_at near (y - from))
     (line_at far (y - from + 1)))
     (sym shaped.low)
-    (subst (λ (n : Triple). AreRowsDown b by (line_start old.low y z) n.x (line_at near (y - from + 1)) (line_at near (y - from))
+    (subst (λ (n : Triple). AreRowsDown b.cells (scaled_of b by) (line_start old.low y z) n.x (line_at near (y - from + 1)) (line_at near (y - from))
     (line_at far (y - from + 1)))
     (sym shaped.size)
-    (rows_down b by old.low old.size old.size.x from c.args.strip.to y z near far c.requires.among (omega arith) (omega arith) c.requires.strip.within
+    (rows_down b.cells (scaled_of b by) old.low old.size old.size.x from c.args.strip.to y z near far c.requires.among (omega arith) (omega arith) c.requires.strip.within
     c.requires.near c.requires.far))
 
 pub loop-y-preserved : goal.loop-y-preserved

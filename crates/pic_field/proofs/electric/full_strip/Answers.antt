@@ -3,6 +3,7 @@ use Rattle.pic_num.specs.declared.axis.Axis.TheVariants.{Z}
 use Rattle.pic_num.specs.Space.{Triple, Spot}
 use Rattle.pic_grid.specs.Differences.{down}
 use Rattle.pic_field.specs.Lines.{OnLines, OnStrip, Changed, full_made, line_start}
+use Rattle.pic_field.specs.Rows.{scaled_of}
 use Rattle.pic_field.specs.Planes.{corner_before, down_span, IsNextPlane, plane_at}
 use Rattle.pic_field.proofs.LineLaws.{changed_next, calm_next, layers_more}
 use Rattle.pic_field.proofs.electric.full_strip.Goals as goal
@@ -26,9 +27,9 @@ loop-z-preserved c =
     record {
       far = omega arith;
       plane = λ below.
-          subst (λ (l : Spot). IsNextPlane b by (down n Z (corner_before n (line_start l from (z + 1)))) (down_span old.size.x) (to - from) plane)
+          subst (λ (l : Spot). IsNextPlane b.cells (scaled_of b by) (down n Z (corner_before n (line_start l from (z + 1)))) (down_span old.size.x) (to - from) plane)
           before.shaped.low
-          (subst (λ (m : Triple). IsNextPlane b by (down n Z (corner_before n (line_start mid.low from (z + 1)))) (down_span m.x) (to - from) plane)
+          (subst (λ (m : Triple). IsNextPlane b.cells (scaled_of b by) (down n Z (corner_before n (line_start mid.low from (z + 1)))) (down_span m.x) (to - from) plane)
           before.shaped.size
           (c.full_layer-found.ensures.next (omega (arith, below, size_z))));
       changed = changed_next _ (OnStrip from to z) (OnLines from to z) (OnStrip from to (z + 1)) old mid new before then (layers_more old.size from to z);

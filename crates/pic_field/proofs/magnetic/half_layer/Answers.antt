@@ -6,6 +6,7 @@ use Rattle.pic_grid.specs.Differences.{up}
 use Rattle.pic_grid.specs.Block.{outer_of}
 use Rattle.pic_field.specs.Lines.{line_start}
 use Rattle.pic_field.specs.declared.plane.Span.{Span}
+use Rattle.pic_field.specs.Rows.{scaled_of}
 use Rattle.pic_field.specs.Planes.{up_span, IsScaledPlane}
 use Rattle.pic_field.proofs.PlaneLaws.{next_layer, plane_filled}
 use Rattle.pic_field.proofs.magnetic.half_layer.Goals as goal
@@ -29,6 +30,6 @@ returns-clause-next c = λ more.
     let size_z : slice_index c.zone-zone.result.size 2 ≡ b.size.z = ap (λ (n : Triple). n.z) c.zone-zone.ensures.size in
     let has_next : nat_lt (z + 1) (slice_index c.zone-zone.result.size 2) ≡ true =
     lt-ltb (z + 1) (slice_index c.zone-zone.result.size 2) (omega (arith, more, size_z)) in
-    subst (IsScaledPlane e by next (up_span b.size.x) lines) (sym (plane_filled c.args.rooms.now.planes (1 - c.args.near) _ (omega arith)))
-    (subst (λ (s : Span). IsScaledPlane e by next s lines filled) (c.span_up-span.ensures.value ∙ ap up_span same)
-    (subst (λ (p : Triple). IsScaledPlane e by p span lines filled) at (c.fill_plane_behind.ensures.own has_next)))
+    subst (IsScaledPlane e.cells (scaled_of e by) next (up_span b.size.x) lines) (sym (plane_filled c.args.rooms.now.planes (1 - c.args.near) _ (omega arith)))
+    (subst (λ (s : Span). IsScaledPlane e.cells (scaled_of e by) next s lines filled) (c.span_up-span.ensures.value ∙ ap up_span same)
+    (subst (λ (p : Triple). IsScaledPlane e.cells (scaled_of e by) p span lines filled) at (c.fill_plane_behind.ensures.own has_next)))

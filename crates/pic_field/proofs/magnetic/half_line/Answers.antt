@@ -4,6 +4,7 @@ use Rattle.pic_num.specs.Space.{Triple}
 use Rattle.pic_grid.specs.Cells.{IsWithin}
 use Rattle.pic_grid.specs.Block.{inner_at}
 use Rattle.pic_field.specs.Lines.{OnRow, half_made, line_start}
+use Rattle.pic_field.specs.Rows.{scaled_of}
 use Rattle.pic_field.specs.Planes.{AreRowsUp}
 use Rattle.pic_field.proofs.CurlLaws.{half_x, half_y, half_z}
 use Rattle.pic_field.proofs.LineLaws.{changed_as, line_changed, line_calm}
@@ -15,10 +16,10 @@ same : (c : After-line_length-count) → c.line_length-count.result ≡ c.args.b
 same c = c.line_length-count.ensures.value ∙ ap (λ (n : Triple). n.x) c.zone.ensures.size
 
 -- so many values of its rows
-known : (c : After-line_length-count) → AreRowsUp c.args.step.now.e.now c.args.step.now.scales.now.e_to_b (line_start c.args.b.now.low c.args.y c.args.z)
+known : (c : After-line_length-count) → AreRowsUp c.args.step.now.e.now.cells (scaled_of c.args.step.now.e.now c.args.step.now.scales.now.e_to_b) (line_start c.args.b.now.low c.args.y c.args.z)
     c.line_length-count.result c.args.own.now c.args.by_y.now c.args.by_z.now
 known c =
-    subst (λ (m : ℕ). AreRowsUp c.args.step.now.e.now c.args.step.now.scales.now.e_to_b (line_start c.args.b.now.low c.args.y c.args.z) m
+    subst (λ (m : ℕ). AreRowsUp c.args.step.now.e.now.cells (scaled_of c.args.step.now.e.now c.args.step.now.scales.now.e_to_b) (line_start c.args.b.now.low c.args.y c.args.z) m
     c.args.own.now c.args.by_y.now c.args.by_z.now) (sym (same c)) c.requires.rows
 
 pub returns-clause-changed : goal.returns-clause-changed

@@ -1,6 +1,7 @@
 use Rattle.std.proofs.Common.{◌≡◌, ◌+◌, ◌-◌, ℕ, sym, subst, arith}
 use Rattle.pic_num.specs.Space.{Triple, Spot}
 use Rattle.pic_field.specs.Lines.{OnLine, OnLines, Changed, half_made, line_start}
+use Rattle.pic_field.specs.Rows.{scaled_of}
 use Rattle.pic_field.specs.Planes.{line_at, AreRowsUp}
 use Rattle.pic_field.proofs.LineLaws.{changed_next, calm_next, strip_more}
 use Rattle.pic_field.proofs.PlaneLaws.{rows_up}
@@ -17,11 +18,11 @@ half_line-found-requires-clause-rows c =
     let near = c.args.near.now in
     let far = c.args.far.now in
     let shaped = c.loop-y.invariant.changed.shaped in
-    subst (λ (l : Spot). AreRowsUp e by (line_start l y z) c.loop-y.b.size.x (line_at near (y - from)) (line_at near (y - from + 1)) (line_at far (y - from)))
+    subst (λ (l : Spot). AreRowsUp e.cells (scaled_of e by) (line_start l y z) c.loop-y.b.size.x (line_at near (y - from)) (line_at near (y - from + 1)) (line_at far (y - from)))
     (sym shaped.low)
-    (subst (λ (n : Triple). AreRowsUp e by (line_start old.low y z) n.x (line_at near (y - from)) (line_at near (y - from + 1)) (line_at far (y - from)))
+    (subst (λ (n : Triple). AreRowsUp e.cells (scaled_of e by) (line_start old.low y z) n.x (line_at near (y - from)) (line_at near (y - from + 1)) (line_at far (y - from)))
     (sym shaped.size)
-    (rows_up e by old.low old.size old.size.x from c.args.strip.to y z near far c.requires.among (omega arith) (omega arith) c.requires.strip.within
+    (rows_up e.cells (scaled_of e by) old.low old.size old.size.x from c.args.strip.to y z near far c.requires.among (omega arith) (omega arith) c.requires.strip.within
     c.requires.near c.requires.far))
 
 pub loop-y-preserved : goal.loop-y-preserved

@@ -1,6 +1,7 @@
 use Rattle.std.proofs.Common.{◌≡◌, ◌+◌, ◌-◌, ap, subst, arith}
 use Rattle.pic_num.specs.Space.{Triple, Spot}
 use Rattle.pic_field.specs.Lines.{OnLines, OnStrip, Changed, half_made, line_start}
+use Rattle.pic_field.specs.Rows.{scaled_of}
 use Rattle.pic_field.specs.Planes.{up_span, IsScaledPlane, plane_at}
 use Rattle.pic_field.proofs.LineLaws.{changed_next, calm_next, layers_more}
 use Rattle.pic_field.proofs.magnetic.half_strip.Goals as goal
@@ -23,8 +24,8 @@ loop-z-preserved c =
     record {
       near = omega arith;
       plane = λ below.
-          subst (λ (l : Spot). IsScaledPlane e by (line_start l from (z + 1)) (up_span old.size.x) (to - from) plane) before.shaped.low
-          (subst (λ (n : Triple). IsScaledPlane e by (line_start mid.low from (z + 1)) (up_span n.x) (to - from) plane) before.shaped.size
+          subst (λ (l : Spot). IsScaledPlane e.cells (scaled_of e by) (line_start l from (z + 1)) (up_span old.size.x) (to - from) plane) before.shaped.low
+          (subst (λ (n : Triple). IsScaledPlane e.cells (scaled_of e by) (line_start mid.low from (z + 1)) (up_span n.x) (to - from) plane) before.shaped.size
           (c.half_layer-found.ensures.next (omega (arith, below, size_z))));
       changed = changed_next _ (OnStrip from to z) (OnLines from to z) (OnStrip from to (z + 1)) old mid new before then (layers_more old.size from to z);
       calm = calm_next (half_made c.args.step.now.scales.now e old.low) (OnStrip from to z) (OnLines from to z)

@@ -1,6 +1,7 @@
 use Rattle.std.proofs.Common.{◌≡◌, ◌+◌, ◌%◌, ◌<◌, ◌≤◌, ℕ, slice_index, refl, ◌∙◌, ap, subst, arith}
 use Rattle.std.proofs.lemmas.List.{length-set}
 use Rattle.pic_num.specs.Space.{Triple, triple}
+use Rattle.pic_field.specs.Rows.{scaled_of}
 use Rattle.pic_field.specs.Planes.{along_y, IsNextLine}
 use Rattle.pic_field.proofs.RowLaws.{round_on}
 use Rattle.pic_field.proofs.PlaneLaws.{line_more}
@@ -37,6 +38,6 @@ loop-j-preserved c =
           ∙ round_on f.cells.y first.y j c.loop-j.y 1 c.loop-j.invariant.at;
       room = length-set c.loop-j.to j _ ∙ c.loop-j.invariant.room;
       below = subst (λ (m : ℕ). c.after_run-y-in-loop-j.result < m) cells c.after_run-y-in-loop-j.ensures.below;
-      next = line_more (λ k l. s.first ≤ k → IsNextLine f by (along_y f.cells first k) s l) c.loop-j.to j line
-          (omega (arith, c.told-to)) c.loop-j.invariant.next (λ past. subst (λ (p : Triple). IsNextLine f by p s line) at c.scale_next.ensures);
+      next = line_more (λ k l. s.first ≤ k → IsNextLine f.cells (scaled_of f by) (along_y f.cells first k) s l) c.loop-j.to j line
+          (omega (arith, c.told-to)) c.loop-j.invariant.next (λ past. subst (λ (p : Triple). IsNextLine f.cells (scaled_of f by) p s line) at c.scale_next.ensures);
     }

@@ -1,5 +1,6 @@
 use Rattle.std.proofs.Common.{◌≡◌, ◌+◌, ◌%◌, ◌<◌, ◌≤◌, ℕ, length}
 use Rattle.pic_num.specs.Space.{triple}
+use Rattle.pic_field.specs.Rows.{scaled_of}
 use Rattle.pic_field.specs.Planes.{line_at, along_y, IsNextLine}
 use Rattle.pic_field.proofs.plane.fill_next_plane.Given as goal
 
@@ -10,5 +11,5 @@ invariant-loop-j l = record {
   room : length l.to ≡ length l.initial.to;
   below : l.y < l.field.cells.y;
   next : (k : ℕ) → k < l.j → l.span.first ≤ k
-      → IsNextLine l.field l.by (along_y l.field.cells (triple l.fn.at) k) l.span (line_at l.to k);
+      → IsNextLine l.field.cells (scaled_of l.field l.by) (along_y l.field.cells (triple l.fn.at) k) l.span (line_at l.to k);
 }

@@ -1,5 +1,6 @@
 use Rattle.std.proofs.Common.{◌≡◌, ◌+◌, ◌%◌, ◌<◌, ◌≤◌, ℕ, length}
 use Rattle.pic_num.specs.Space.{triple}
+use Rattle.pic_field.specs.Rows.{scaled_of}
 use Rattle.pic_field.specs.Planes.{line_at, along_y, IsOwnLine, IsSideLine}
 use Rattle.pic_field.proofs.plane.fill_plane.Given as goal
 
@@ -10,6 +11,6 @@ invariant-loop-j l = record {
   room : length l.to ≡ length l.initial.to;
   below : l.y < l.field.cells.y;
   own : (k : ℕ) → k < l.j → l.span.first ≤ k → k < l.span.first + l.lines
-      → IsOwnLine l.field l.by (along_y l.field.cells (triple l.fn.at) k) l.span (line_at l.to k);
-  side : (k : ℕ) → k < l.j → IsSideLine l.field l.by (along_y l.field.cells (triple l.fn.at) k) l.span (line_at l.to k);
+      → IsOwnLine l.field.cells (scaled_of l.field l.by) (along_y l.field.cells (triple l.fn.at) k) l.span (line_at l.to k);
+  side : (k : ℕ) → k < l.j → IsSideLine l.field.cells (scaled_of l.field l.by) (along_y l.field.cells (triple l.fn.at) k) l.span (line_at l.to k);
 }

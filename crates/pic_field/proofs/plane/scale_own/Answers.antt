@@ -6,7 +6,7 @@ use Rattle.pic_num.specs.Sizes.{IsAtMost}
 use Rattle.pic_num.specs.Space.{Triple, triple}
 use Rattle.pic_num.proofs.SizeLaws.{codes, code_is}
 use Rattle.pic_grid.specs.Lattice.{value_at}
-use Rattle.pic_field.specs.Rows.{start_cell, along_x, IsScaledRow}
+use Rattle.pic_field.specs.Rows.{most_row, scaled_of, start_cell, along_x, IsScaledRow}
 use Rattle.pic_field.proofs.RowLaws.{with_edge}
 use Rattle.pic_field.proofs.plane.scale_own.Goals as goal
 
@@ -25,18 +25,18 @@ returns c =
     λ i. record { x = layer i; y = (start i).y; z = (start i).z } in
     let long_y : length line.y ≡ 129 = search rules in
     let long_z : length line.z ≡ 129 = search rules in
-    let size_y : IsAtMost c.scaled_at-of_y.result (2 ^ 121) = c.scaled_at-of_y.ensures.size in
-    let size_z : IsAtMost c.scaled_at-of_z.result (2 ^ 121) = c.scaled_at-of_z.ensures.size in
+    let size_y : IsAtMost c.scaled_at-of_y.result most_row = c.scaled_at-of_y.ensures.size in
+    let size_z : IsAtMost c.scaled_at-of_z.result most_row = c.scaled_at-of_z.ensures.size in
     let kept_y : to_z w128 (of_z w128 c.scaled_at-of_y.result) ≡ c.scaled_at-of_y.result = code_is (search codes depth 6) tt in
     let kept_z : to_z w128 (of_z w128 c.scaled_at-of_z.result) ≡ c.scaled_at-of_z.result = code_is (search codes depth 6) tt in
     record {
-      x = subst (λ (p : Triple). IsScaledRow f by X p s.first (s.first + s.cells) line.x) start c.scale_rows.ensures.x;
-      y = with_edge f by Y at s line.y _ c.requires.span (omega (arith, long_y, c.requires.span.edge, c.requires.span.few))
-          (subst (λ (p : Triple). IsScaledRow f by Y p s.first (s.first + s.cells) line.y) start (c.scale_rows.ensures.y refl))
+      x = subst (λ (p : Triple). IsScaledRow f.cells (scaled_of f by) X p s.first (s.first + s.cells) line.x) start c.scale_rows.ensures.x;
+      y = with_edge f.cells (scaled_of f by) Y at s line.y _ c.requires.span (omega (arith, long_y, c.requires.span.edge, c.requires.span.few))
+          (subst (λ (p : Triple). IsScaledRow f.cells (scaled_of f by) Y p s.first (s.first + s.cells) line.y) start (c.scale_rows.ensures.y refl))
           (kept_y ∙ c.scaled_at-of_y.ensures.value ∙ ap (λ (p : Triple). scaled (value_at f Y p) by) edge)
-          (subst (λ (v : ℤ). IsAtMost v (2 ^ 121)) (sym kept_y) size_y);
-      z = with_edge f by Z at s line.z _ c.requires.span (omega (arith, long_z, c.requires.span.edge, c.requires.span.few))
-          (subst (λ (p : Triple). IsScaledRow f by Z p s.first (s.first + s.cells) line.z) start (c.scale_rows.ensures.z refl))
+          (subst (λ (v : ℤ). IsAtMost v most_row) (sym kept_y) size_y);
+      z = with_edge f.cells (scaled_of f by) Z at s line.z _ c.requires.span (omega (arith, long_z, c.requires.span.edge, c.requires.span.few))
+          (subst (λ (p : Triple). IsScaledRow f.cells (scaled_of f by) Z p s.first (s.first + s.cells) line.z) start (c.scale_rows.ensures.z refl))
           (kept_z ∙ c.scaled_at-of_z.ensures.value ∙ ap (λ (p : Triple). scaled (value_at f Z p) by) edge)
-          (subst (λ (v : ℤ). IsAtMost v (2 ^ 121)) (sym kept_z) size_z);
+          (subst (λ (v : ℤ). IsAtMost v most_row) (sym kept_z) size_z);
     }

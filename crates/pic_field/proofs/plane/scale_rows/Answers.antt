@@ -6,7 +6,7 @@ use Rattle.pic_num.specs.Rounding.{scaled}
 use Rattle.pic_num.specs.Space.{Triple}
 use Rattle.pic_grid.specs.Cells.{IsWithin}
 use Rattle.pic_grid.specs.Lattice.{value_at}
-use Rattle.pic_field.specs.Rows.{row_at, start_cell, IsSmallRow, IsScaledRow}
+use Rattle.pic_field.specs.Rows.{most_row, scaled_of, row_at, start_cell, IsSmallRow, IsScaledRow}
 use Rattle.pic_grid.proofs.CopyLaws.{filled_long}
 use Rattle.pic_grid.proofs.RowLaws.{part_long}
 use Rattle.pic_field.proofs.RowLaws.{row_none, round_on, run_small, more_scaled}
@@ -28,9 +28,9 @@ loop-done-init c =
       room_x = search rules;
       room_y = search rules;
       room_z = search rules;
-      of_x = row_none f by X start first c.args.to.now.x;
-      of_y = λ is. row_none f by Y start first c.args.to.now.y;
-      of_z = λ is. row_none f by Z start first c.args.to.now.z;
+      of_x = row_none f.cells (scaled_of f by) X start first c.args.to.now.x;
+      of_y = λ is. row_none f.cells (scaled_of f by) Y start first c.args.to.now.y;
+      of_z = λ is. row_none f.cells (scaled_of f by) Z start first c.args.to.now.z;
     }
 
 within : (c : After-count_if-more_z) → IsWithin (start_cell c.args.start) c.args.field.now.cells
@@ -86,15 +86,15 @@ small c a run more k =
 
 -- and scaled they are the next of a row
 next : (c : After-count_if-more_z) (a : Axis) (run : List ℤ) (more : ℕ) → Front c a run more → (row part rest : List ℤ) → c.loop-done.done ≤ length row
-    → length part ≡ more → IsScaledRow c.args.field.now c.args.by a (start_cell c.args.start) c.args.span.first c.loop-done.done row
+    → length part ≡ more → IsScaledRow c.args.field.now.cells (scaled_of c.args.field.now c.args.by) a (start_cell c.args.start) c.args.span.first c.loop-done.done row
     → ((i : ℕ) → i < length (take more run) → row_at part i ≡ scaled (row_at (take more run) i) c.args.by)
-    → IsSmallRow (2 ^ 121) (length (take more run)) part
-    → IsScaledRow c.args.field.now c.args.by a (start_cell c.args.start) c.args.span.first (c.loop-done.done + more)
+    → IsSmallRow most_row (length (take more run)) part
+    → IsScaledRow c.args.field.now.cells (scaled_of c.args.field.now c.args.by) a (start_cell c.args.start) c.args.span.first (c.loop-done.done + more)
     (take c.loop-done.done row ++ (part ++ rest))
 next c a run more k row part rest room long before values small =
     more_scaled c.args.field.now c.args.by a (start_cell c.args.start) c.loop-done.done more c.loop-done.x c.loop-done.invariant.at (within c) k.inside
     (take more run) k.values c.args.span.first row part rest room long before (λ i below. values i (omega (arith, below, k.long)))
-    (subst (λ (m : ℕ). IsSmallRow (2 ^ 121) m part) k.long small)
+    (subst (λ (m : ℕ). IsSmallRow most_row m part) k.long small)
 
 pub scale_row-requires-clause-small : goal.scale_row-requires-clause-small
 scale_row-requires-clause-small c =
@@ -145,12 +145,12 @@ loop-done-preserved c =
       of_x = next here X c.run_at-of_x.result.now more (of_x here) to.x c.scale_row.new.to _ (omega (arith, fits_x)) part_x h.of_x c.scale_row.ensures.values
           c.scale_row.ensures.small;
       of_y = λ is.
-          subst (λ (m : ℕ). IsScaledRow c.args.field.now c.args.by Y (start_cell c.args.start) c.args.span.first (done + m) all_y)
+          subst (λ (m : ℕ). IsScaledRow c.args.field.now.cells (scaled_of c.args.field.now c.args.by) Y (start_cell c.args.start) c.args.span.first (done + m) all_y)
           (c.count_if-more_y.ensures.all is)
           (next here Y c.run_at-of_y.result.now more_y (of_y here) to.y c.scale_row-in-loop-done.new.to rest_y (omega (arith, fits_y)) part_y (h.of_y is)
           c.scale_row-in-loop-done.ensures.values c.scale_row-in-loop-done.ensures.small);
       of_z = λ is.
-          subst (λ (m : ℕ). IsScaledRow c.args.field.now c.args.by Z (start_cell c.args.start) c.args.span.first (done + m) all_z)
+          subst (λ (m : ℕ). IsScaledRow c.args.field.now.cells (scaled_of c.args.field.now c.args.by) Z (start_cell c.args.start) c.args.span.first (done + m) all_z)
           (c.count_if-more_z.ensures.all is)
           (next here Z c.run_at-of_z.result.now more_z (of_z here) to.z c.scale_row-in-loop-done-2.new.to rest_z (omega (arith, fits_z)) part_z (h.of_z is)
           c.scale_row-in-loop-done-2.ensures.values c.scale_row-in-loop-done-2.ensures.small);

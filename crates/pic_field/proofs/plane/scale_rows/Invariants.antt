@@ -1,6 +1,6 @@
 use Rattle.std.proofs.Common.{◌-◌, ◌≡◌, ◌+◌, ◌%◌, ◌<◌, ◌≤◌, IsTrue, length}
 use Rattle.pic_num.specs.declared.axis.Axis.TheVariants.{X, Y, Z}
-use Rattle.pic_field.specs.Rows.{start_cell, IsScaledRow}
+use Rattle.pic_field.specs.Rows.{scaled_of, start_cell, IsScaledRow}
 use Rattle.pic_field.proofs.plane.scale_rows.Given as goal
 
 -- the rows are filled up to `done`, and the next runs begin at the layer x
@@ -13,9 +13,9 @@ invariant-loop-done l = record {
   room_x : length l.to.x ≡ 129;
   room_y : length l.to.y ≡ 129;
   room_z : length l.to.z ≡ 129;
-  of_x : IsScaledRow l.field l.by X (start_cell l.fn.start) l.span.first l.done l.to.x;
-  of_y : IsTrue l.wanted.y → IsScaledRow l.field l.by Y (start_cell l.fn.start) l.span.first l.done l.to.y;
-  of_z : IsTrue l.wanted.z → IsScaledRow l.field l.by Z (start_cell l.fn.start) l.span.first l.done l.to.z;
+  of_x : IsScaledRow l.field.cells (scaled_of l.field l.by) X (start_cell l.fn.start) l.span.first l.done l.to.x;
+  of_y : IsTrue l.wanted.y → IsScaledRow l.field.cells (scaled_of l.field l.by) Y (start_cell l.fn.start) l.span.first l.done l.to.y;
+  of_z : IsTrue l.wanted.z → IsScaledRow l.field.cells (scaled_of l.field l.by) Z (start_cell l.fn.start) l.span.first l.done l.to.z;
 }
 
 abbrev pub decreases-loop-done : goal.decreases-loop-done

@@ -4,14 +4,14 @@ use mir.Syntax.{w128}
 use mir.Val.{SFits}
 use Rattle.pic_num.specs.Sizes.{IsAtMost}
 use Rattle.pic_num.proofs.SizeLaws.{codes, code_is, code_fits}
-use Rattle.pic_field.specs.Rows.{row_at, curl_of}
+use Rattle.pic_field.specs.Rows.{most_row, row_at, curl_of}
 use Rattle.pic_field.proofs.LineLaws.{both_true}
 use Rattle.pic_field.proofs.RowLaws.{row_more, row_rest, small_more}
 use Rattle.pic_field.proofs.row.lessen_row.Goals as goal
 
 -- the value at a place: the old one less the curl, as the code computes it
-module _ (o a b c d : ℤ) (old : IsAtMost o (2 ^ 90)) (far_third : IsAtMost a (2 ^ 121)) (near_third : IsAtMost b (2 ^ 121)) (far_second : IsAtMost c (2 ^ 121))
-    (near_second : IsAtMost d (2 ^ 121))
+module _ (o a b c d : ℤ) (old : IsAtMost o (2 ^ 90)) (far_third : IsAtMost a most_row) (near_third : IsAtMost b most_row) (far_second : IsAtMost c most_row)
+    (near_second : IsAtMost d most_row)
   where
     abbrev word : ℤ → ℤ
     word z = to_z w128 (of_z w128 z)

@@ -2,8 +2,8 @@ use Rattle.std.proofs.Common.{◌≡◌, ◌^◌, ◌<◌, ℕ, ℤ, pos, List, 
 use mir.Syntax.{w128}
 use Rattle.pic_num.specs.Rounding.{scaled}
 use Rattle.pic_num.specs.Sizes.{IsAtMost}
-use Rattle.pic_num.proofs.SizeLaws.{codes, code_is}
-use Rattle.pic_field.specs.Rows.{row_at, IsSmallRow}
+use Rattle.pic_num.proofs.SizeLaws.{codes, code_is, at_most_more}
+use Rattle.pic_field.specs.Rows.{most_row, row_at, IsSmallRow}
 use Rattle.pic_field.proofs.RowLaws.{row_more, small_more}
 use Rattle.pic_field.proofs.row.scale_row.Goals as goal
 
@@ -23,5 +23,6 @@ loop-i-preserved c =
     let inside : i < length c.loop-i.to = omega arith in
     record {
       values = row_more (λ k z. z ≡ scaled (row_at c.args.from.now k) c.args.by) c.loop-i.to i _ inside c.loop-i.invariant.values value;
-      small = small_more (2 ^ 121) c.loop-i.to i _ inside c.loop-i.invariant.small (subst (λ (z : ℤ). IsAtMost z (2 ^ 121)) (sym kept) c.scale.ensures.size);
+      small = small_more most_row c.loop-i.to i _ inside c.loop-i.invariant.small
+          (subst (λ (z : ℤ). IsAtMost z most_row) (sym kept) (at_most_more _ (2 ^ 121) most_row (omega arith) c.scale.ensures.size));
     }

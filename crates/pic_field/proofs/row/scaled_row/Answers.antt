@@ -4,7 +4,7 @@ use Rattle.std.proofs.lemmas.List.{length-take-le, get_or-take}
 use Rattle.pic_num.specs.Space.{Triple}
 use Rattle.pic_grid.specs.Cells.{IsWithin}
 use Rattle.pic_grid.specs.Lattice.{value_at}
-use Rattle.pic_field.specs.Rows.{row_at, start_cell, IsSmallRow}
+use Rattle.pic_field.specs.Rows.{most_row, scaled_of, row_at, start_cell, IsSmallRow}
 use Rattle.pic_grid.proofs.CopyLaws.{filled_long}
 use Rattle.pic_grid.proofs.RowLaws.{part_long}
 use Rattle.pic_field.proofs.RowLaws.{row_none, round_on, run_small, more_scaled}
@@ -20,7 +20,7 @@ loop-done-init c =
       below = c.requires.start.x;
       most = omega arith;
       room = refl;
-      row = row_none c.args.field.now c.args.by c.args.axis (start_cell c.args.start) 0 c.args.to.now;
+      row = row_none c.args.field.now.cells (scaled_of c.args.field.now c.args.by) c.args.axis (start_cell c.args.start) 0 c.args.to.now;
     }
 
 -- where the loop stands: the run fits the row, and is not empty
@@ -84,5 +84,5 @@ loop-done-preserved c =
       row = more_scaled c.args.field.now c.args.by c.args.axis (start_cell c.args.start) done more c.loop-done.x h.at (within here) k.inside
           (take more c.run_at-run.result.now) k.values 0 c.loop-done.to c.scale_row.new.to _ room part h.row
           (λ i below. c.scale_row.ensures.values i (omega (arith, k.long)))
-          (subst (λ (m : ℕ). IsSmallRow (2 ^ 121) m c.scale_row.new.to) k.long c.scale_row.ensures.small);
+          (subst (λ (m : ℕ). IsSmallRow most_row m c.scale_row.new.to) k.long c.scale_row.ensures.small);
     }

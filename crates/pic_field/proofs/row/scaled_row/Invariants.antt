@@ -1,5 +1,5 @@
 use Rattle.std.proofs.Common.{◌-◌, ◌≡◌, ◌+◌, ◌%◌, ◌<◌, ◌≤◌, length}
-use Rattle.pic_field.specs.Rows.{start_cell, IsScaledRow}
+use Rattle.pic_field.specs.Rows.{scaled_of, start_cell, IsScaledRow}
 use Rattle.pic_field.proofs.row.scaled_row.Given as goal
 
 -- the row is filled up to `done`, and the next run begins at the layer x
@@ -9,7 +9,7 @@ invariant-loop-done l = record {
   below : l.x < l.field.cells.x;
   most : l.done ≤ l.count;
   room : length l.to ≡ length l.initial.to;
-  row : IsScaledRow l.field l.by l.axis (start_cell l.fn.start) 0 l.done l.to;
+  row : IsScaledRow l.field.cells (scaled_of l.field l.by) l.axis (start_cell l.fn.start) 0 l.done l.to;
 }
 
 abbrev pub decreases-loop-done : goal.decreases-loop-done
