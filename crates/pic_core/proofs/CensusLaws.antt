@@ -2,8 +2,8 @@
 use Rattle.std.proofs.Common.{◌≡◌, ℕ, ◌<◌, false, List, length, get_or, map, sum_by, IsPermutation, Some, None, refl, sym, ap, ◌∙◌, subst, arith}
 use Rattle.std.specs.List.{range_with_len}
 use Rattle.pic_num.specs.declared.motion.Particle.{Particle}
-use Rattle.pic_orders.specs.Same.{Same}
-use Rattle.pic_orders.proofs.SameLaws.{sum_by-map, permuted_same}
+use Rattle.pic_tile.specs.Same.{Same}
+use Rattle.pic_tile.proofs.SameLaws.{sum_by-map, permuted_same}
 use Rattle.pic_tile.specs.declared.parcel.Parcel.{Parcel}
 use Rattle.pic_tile.specs.CoreEvents.{CanClaim, CanPost, CanMerge, after_claim, after_post, after_merge}
 use Rattle.pic_tile.specs.CoreState.{CoreState, HasCensus, HasPlaces, IsInPlace, IsOpening, count_in, slot_of, mail_at, particles_of, start_of, held}

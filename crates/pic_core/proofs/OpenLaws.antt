@@ -4,8 +4,8 @@ use Rattle.std.proofs.lemmas.List.{length-replicate, get_or_default}
 use Rattle.std.proofs.lemmas.List.Folds.{sum_by-replicate}
 use Rattle.std.proofs.lemmas.List.Sums.{sum_by-cons}
 use Rattle.pic_num.specs.declared.motion.Particle.{Particle}
-use Rattle.pic_orders.proofs.SameLaws.{sum_by-map, sum_by-together, sum_by_agree}
-use Rattle.pic_orders.proofs.StandForLaws.{stands_together}
+use Rattle.pic_tile.proofs.SameLaws.{sum_by-map, sum_by-together, sum_by_agree}
+use Rattle.pic_tile.proofs.StandForLaws.{stands_together}
 use Rattle.pic_tile.specs.declared.parcel.Parcel.{Parcel}
 use Rattle.pic_tile.specs.CoreState.{CoreState, Stands, HasCensus, HasPlaces, IsInPlace, IsInTurn, IsOpening, IsSoundFrame, count_in, slot_of}
 use Rattle.pic_tile.specs.CoreState.{mark, is_claimed, is_posted, is_merged, is_shut, mail_at, particles_of, start_of, held}

@@ -6,8 +6,8 @@ use Rattle.pic_num.specs.Limits.{most_particles}
 use Rattle.pic_num.specs.Space.{triple}
 use Rattle.pic_grid.specs.Hat.{IsInBox}
 use Rattle.pic_grid.specs.PushPhase.{CanShare}
-use Rattle.pic_orders.specs.InOrder.{AreOrdered}
-use Rattle.pic_orders.proofs.StandForLaws.{stands_list}
+use Rattle.pic_tile.specs.InOrder.{AreOrdered}
+use Rattle.pic_tile.proofs.StandForLaws.{stands_list}
 use Rattle.pic_tile.specs.CoreState.{IsOpening, IsSoundFrame, particles_of}
 use Rattle.pic_tile.specs.Frame.{FrameValue}
 use Rattle.pic_tile.specs.Held.{chains_of}

@@ -5,7 +5,7 @@ use Rattle.std.proofs.Math.Decide.{ℕ_discrete}
 use Rattle.std.proofs.lemmas.List.{get_or-set_other}
 use Rattle.std.proofs.lemmas.List.Sums.{sum_by-append, sum_by-set}
 use Rattle.pic_num.specs.declared.motion.Particle.{Particle}
-use Rattle.pic_orders.proofs.SumLaws.{total_changed}
+use Rattle.pic_tile.proofs.SumLaws.{total_changed}
 use Rattle.pic_tile.specs.declared.parcel.Parcel.{Parcel}
 use Rattle.pic_tile.specs.CoreState.{CoreState, held_in, held}
 use Rattle.pic_tile.specs.Directions.{directions, here}

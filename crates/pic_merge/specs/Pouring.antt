@@ -3,7 +3,7 @@ use Rattle.std.specs.Prelude.{◌≡◌, ℕ, List, ◌++◌, IsSome}
 use Rattle.pic_num.specs.declared.motion.Particle.{Particle}
 use Rattle.pic_grid.specs.Block.{BlockValues, IsShaped}
 use Rattle.pic_grid.specs.BlockLayers.{AddsLayers}
-use Rattle.pic_orders.specs.Same.{Same}
+use Rattle.pic_tile.specs.Same.{Same}
 use Rattle.pic_tile.specs.Directions.{here}
 use Rattle.pic_tile.specs.Layers.{layers_begin}
 use Rattle.pic_tile.specs.Tile.{TileValue, parcel_at, chain_at, flux_at, stop_at}

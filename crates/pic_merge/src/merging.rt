@@ -6,7 +6,7 @@ ghost use Rattle.pic_num.specs.declared.motion.Particle.{Particle};
 ghost use Rattle.pic_num.specs.Space.{triple, spot};
 ghost use Rattle.pic_grid.specs.Block.{AllAtMost, IsShaped};
 ghost use Rattle.pic_grid.specs.PushPhase.{Surroundings};
-ghost use Rattle.pic_orders.specs.Same.{Same};
+ghost use Rattle.pic_tile.specs.Same.{Same};
 ghost use Rattle.pic_merge.specs.Pouring.{Poured};
 ghost use Rattle.pic_tile.specs.declared.parcel.Parcel.{Parcel as ParcelValue};
 ghost use Rattle.pic_tile.specs.Directions.{directions, here};

@@ -7,12 +7,12 @@ use Rattle.std.proofs.lemmas.List.FromFn.{length-range_with_len}
 use Rattle.std.proofs.lemmas.List.Sums.{sum_by-append, sum_by-cons}
 use Rattle.pic_num.specs.declared.motion.Particle.{Particle}
 use Rattle.pic_grid.specs.PushPhase.{Surroundings, push_of}
-use Rattle.pic_orders.specs.InOrder.{IsCensus}
-use Rattle.pic_orders.specs.Same.{Same}
-use Rattle.pic_orders.specs.Totals.{total_below}
-use Rattle.pic_orders.proofs.InOrderLaws.{census_rearranged}
-use Rattle.pic_orders.proofs.SameLaws.{sum_by-map, sum_by-filter, sum_by_agree, same_length}
-use Rattle.pic_orders.proofs.SumLaws.{total_same, one_total, total-sum_by, sum_by-flat_map}
+use Rattle.pic_tile.specs.InOrder.{IsCensus}
+use Rattle.pic_tile.specs.Same.{Same}
+use Rattle.pic_tile.specs.Totals.{total_below}
+use Rattle.pic_tile.proofs.InOrderLaws.{census_rearranged}
+use Rattle.pic_tile.proofs.SameLaws.{sum_by-map, sum_by-filter, sum_by_agree, same_length}
+use Rattle.pic_tile.proofs.SumLaws.{total_same, one_total, total-sum_by, sum_by-flat_map}
 use Rattle.pic_tile.specs.declared.parcel.Parcel.{Parcel}
 use Rattle.pic_tile.specs.CoreState.{held_in}
 use Rattle.pic_tile.specs.Directions.{directions, here}

@@ -2,7 +2,7 @@
 use Rattle.std.proofs.Common.{◌≡◌, ℕ, suc, ◌+◌, ◌-◌, ◌<◌, List, length, drop, drop-cons, Option, None, sym, ◌∙◌, ap, arith}
 use Rattle.std.proofs.lemmas.List.{drop_all}
 use Rattle.pic_grid.specs.declared.stop.Stop.{Stop}
-use Rattle.pic_orders.specs.StopOf.{lesser}
+use Rattle.pic_tile.specs.StopOf.{lesser}
 use Rattle.pic_tile.specs.Directions.{here}
 use Rattle.pic_tile.specs.Exchanged.{least_stop}
 use Rattle.pic_tile.specs.Tile.{TileValue, no_tile, stop_at, tile_in}

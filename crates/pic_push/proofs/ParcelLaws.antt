@@ -20,10 +20,10 @@ use Rattle.pic_grid.specs.Traces.{trace_of, traces, most_flux}
 use Rattle.pic_grid.proofs.BlockLaws.{in_zone_shaped}
 use Rattle.pic_grid.proofs.ShapeLaws.{shaped_back}
 use Rattle.pic_grid.proofs.OverLaws.{sum_over-append, sum_over-one}
-use Rattle.pic_orders.specs.Same.{Same}
-use Rattle.pic_orders.specs.StopOf.{IsStopOf, lesser}
-use Rattle.pic_orders.proofs.SameLaws.{same_refl, same_is, same_trans, same_swap, same_cons}
-use Rattle.pic_orders.proofs.StopLaws.{stop_none, stop_append, stop_one}
+use Rattle.pic_tile.specs.Same.{Same}
+use Rattle.pic_tile.specs.StopOf.{IsStopOf, lesser}
+use Rattle.pic_tile.proofs.SameLaws.{same_refl, same_is, same_trans, same_swap, same_cons}
+use Rattle.pic_tile.proofs.StopLaws.{stop_none, stop_append, stop_one}
 use Rattle.pic_tile.specs.declared.parcel.Parcel.{Parcel}
 use Rattle.pic_tile.specs.Directions.{here}
 use Rattle.pic_tile.specs.Layers.{layers_from, layers_size, corner}

@@ -20,7 +20,7 @@ use Rattle.pic_grid.specs.Hat.{IsInBox}
 use Rattle.pic_grid.specs.Path.{floor_cell, path}
 use Rattle.pic_grid.specs.PushPhase.{Surroundings, push_of, after_push, moved, halt_of}
 use Rattle.pic_grid.specs.Traces.{trace_of}
-use Rattle.pic_orders.specs.StopOf.{lesser}
+use Rattle.pic_tile.specs.StopOf.{lesser}
 use Rattle.pic_tile.specs.declared.parcel.Parcel.{Parcel}
 use Rattle.pic_tile.specs.Directions.{directions, here}
 use Rattle.pic_tile.specs.Layers.{corner}

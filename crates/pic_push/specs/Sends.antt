@@ -7,7 +7,7 @@ use Rattle.pic_grid.specs.Block.{IsShaped, AllAtMost}
 use Rattle.pic_grid.specs.PushPhase.{Surroundings, push_of, halt_of}
 use Rattle.pic_grid.specs.Traces.{trace_of, most_flux}
 use Rattle.pic_flux.specs.Adds.{Adds}
-use Rattle.pic_orders.specs.StopOf.{lesser}
+use Rattle.pic_tile.specs.StopOf.{lesser}
 use Rattle.pic_tile.specs.declared.parcel.Parcel.{Parcel}
 use Rattle.pic_tile.specs.Directions.{directions, here}
 use Rattle.pic_tile.specs.Layers.{layers_from, layers_size}

@@ -6,7 +6,7 @@ ghost use Rattle.pic_boris.specs.Pushes.{Pushes, shift_of, IsInLimits};
 ghost use Rattle.pic_chain.specs.Links.{particle_of};
 ghost use Rattle.pic_grid.specs.declared.stop.Stop.TheVariants.{Push};
 ghost use Rattle.pic_grid.specs.PushPhase.{push_of, CanShare};
-ghost use Rattle.pic_orders.specs.StopOf.{lesser};
+ghost use Rattle.pic_tile.specs.StopOf.{lesser};
 ghost use Rattle.pic_tile.specs.Directions.{here};
 ghost use Rattle.pic_tile.specs.Frame.{felt_in};
 ghost use Rattle.pic_tile.specs.Layers.{corner};

@@ -1,7 +1,7 @@
 //! Of the stops of a push that of the least identity.
 
 ghost use Rattle.std.specs.Prelude.{◌≡◌};
-ghost use Rattle.pic_orders.specs.StopOf.{lesser, identity_of};
+ghost use Rattle.pic_tile.specs.StopOf.{lesser, identity_of};
 ghost use Rattle.pic_tile.specs.Directions.{here};
 ghost use Rattle.pic_tile.specs.Exchanged.{least_stop};
 ghost use Rattle.pic_tile.specs.Tile.{stop_at};
@@ -10,7 +10,7 @@ use pic_grid::Stop;
 use pic_tile::{Dir, Tile};
 
 /// The identity that a stop of a push names.
-#[tactic(auto, unfolding(pic_orders::specs::StopOf::identity_of))]
+#[tactic(auto, unfolding(pic_tile::specs::StopOf::identity_of))]
 fn identity_of(stop: &Stop) -> u32
     ensures { result ≡ identity_of stop.now }
 {
@@ -22,7 +22,7 @@ fn identity_of(stop: &Stop) -> u32
 
 /// Of two stops the one that names the lesser identity, the first where they name one, and what is
 /// there where one isn't.
-#[tactic(auto, unfolding(pic_orders::specs::StopOf::lesser))]
+#[tactic(auto, unfolding(pic_tile::specs::StopOf::lesser))]
 pub fn lesser(first: Option<Stop>, second: Option<Stop>) -> Option<Stop>
     ensures { result ≡ lesser first second }
 {

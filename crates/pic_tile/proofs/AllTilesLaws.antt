@@ -17,9 +17,9 @@ use Rattle.pic_grid.specs.Sums.{sum_below, sum_over}
 use Rattle.pic_grid.proofs.CellLaws.{index_of_below, cell_of_within}
 use Rattle.pic_grid.proofs.OverLaws.{sum_over_same, sum_over_plus}
 use Rattle.pic_grid.proofs.SumLaws.{sum_same}
-use Rattle.pic_orders.specs.Same.{Same}
-use Rattle.pic_orders.specs.StandFor.{owned}
-use Rattle.pic_orders.proofs.SumLaws.{sum_over_any_order}
+use Rattle.pic_tile.specs.Same.{Same}
+use Rattle.pic_tile.specs.StandFor.{owned}
+use Rattle.pic_tile.proofs.SumLaws.{sum_over_any_order}
 use Rattle.pic_tile.specs.Directions.{directions, steps_of, opposite}
 use Rattle.pic_tile.specs.Layers.{layer_at, at_some, pick, corner, sender_of, given_at, StaysByTile}
 use Rattle.pic_tile.specs.Tiling.{neighbour_of, Tiling, cells_of, stepped}

@@ -3,9 +3,9 @@ use Rattle.std.proofs.Common.{◌≡◌, ℕ, ◌<◌, Bool, true, cond, All, Li
 use Rattle.pic_num.specs.declared.motion.Particle.{Particle}
 use Rattle.pic_grid.specs.Cells.{count_of}
 use Rattle.pic_grid.specs.PushPhase.{Surroundings, moved_all}
-use Rattle.pic_orders.specs.Same.{Same}
-use Rattle.pic_orders.specs.StandFor.{owned}
-use Rattle.pic_orders.proofs.SumLaws.{total_same, sum_by-flat_map}
+use Rattle.pic_tile.specs.Same.{Same}
+use Rattle.pic_tile.specs.StandFor.{owned}
+use Rattle.pic_tile.proofs.SumLaws.{total_same, sum_by-flat_map}
 use Rattle.pic_tile.specs.Directions.{directions}
 use Rattle.pic_tile.specs.Layers.{sender_of}
 use Rattle.pic_tile.specs.LayerSum.{AreSharedOut}

@@ -9,14 +9,14 @@ use Rattle.pic_grid.specs.Block.{inner_at}
 use Rattle.pic_grid.specs.Cells.{count_of}
 use Rattle.pic_grid.specs.Hat.{IsInBox, HasTwo}
 use Rattle.pic_grid.specs.PushPhase.{Surroundings, push_of, push_stop, moved_all}
-use Rattle.pic_orders.specs.InOrder.{AreOrdered}
-use Rattle.pic_orders.specs.Same.{Same}
-use Rattle.pic_orders.specs.StandFor.{owned}
-use Rattle.pic_orders.specs.StopOf.{IsStopOf}
-use Rattle.pic_orders.specs.Totals.{together}
-use Rattle.pic_orders.proofs.SameLaws.{same_trans}
-use Rattle.pic_orders.proofs.StandForLaws.{stands_together}
-use Rattle.pic_orders.proofs.StopLaws.{stop_none, stop_append, stop_same, stop_is, quiet_part}
+use Rattle.pic_tile.specs.InOrder.{AreOrdered}
+use Rattle.pic_tile.specs.Same.{Same}
+use Rattle.pic_tile.specs.StandFor.{owned}
+use Rattle.pic_tile.specs.StopOf.{IsStopOf}
+use Rattle.pic_tile.specs.Totals.{together}
+use Rattle.pic_tile.proofs.SameLaws.{same_trans}
+use Rattle.pic_tile.proofs.StandForLaws.{stands_together}
+use Rattle.pic_tile.proofs.StopLaws.{stop_none, stop_append, stop_same, stop_is, quiet_part}
 use Rattle.pic_tile.specs.declared.parcel.Parcel.{Parcel}
 use Rattle.pic_tile.specs.Directions.{here}
 use Rattle.pic_tile.specs.Exchanged.{least_stop, HasReceived, AreExchanged}

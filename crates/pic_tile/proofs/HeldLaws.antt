@@ -9,13 +9,13 @@ use Rattle.pic_num.specs.Space.{Triple, triple}
 use Rattle.pic_grid.specs.Cells.{count_of}
 use Rattle.pic_grid.specs.Hat.{IsInBox, HasTwo}
 use Rattle.pic_grid.specs.PushPhase.{Surroundings}
-use Rattle.pic_orders.specs.Same.{Same}
-use Rattle.pic_orders.specs.StandFor.{owned, StandFor}
-use Rattle.pic_orders.specs.Totals.{total_below, together}
-use Rattle.pic_orders.proofs.InOrderLaws.{same_census, census_rearranged}
-use Rattle.pic_orders.proofs.SameLaws.{sum_by-map, sum_by-filter, same_length, same_sym}
-use Rattle.pic_orders.proofs.StandForLaws.{Goes, regroup_total, stands_together}
-use Rattle.pic_orders.proofs.SumLaws.{total_same}
+use Rattle.pic_tile.specs.Same.{Same}
+use Rattle.pic_tile.specs.StandFor.{owned, StandFor}
+use Rattle.pic_tile.specs.Totals.{total_below, together}
+use Rattle.pic_tile.proofs.InOrderLaws.{same_census, census_rearranged}
+use Rattle.pic_tile.proofs.SameLaws.{sum_by-map, sum_by-filter, same_length, same_sym}
+use Rattle.pic_tile.proofs.StandForLaws.{Goes, regroup_total, stands_together}
+use Rattle.pic_tile.proofs.SumLaws.{total_same}
 use Rattle.pic_tile.specs.Directions.{directions, here, opposite}
 use Rattle.pic_tile.specs.Held.{chains_of, HoldTheList}
 use Rattle.pic_tile.specs.Layers.{sender_of}

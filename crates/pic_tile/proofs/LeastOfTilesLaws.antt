@@ -2,7 +2,7 @@
 use Rattle.std.proofs.Common.{◌≡◌, ℕ, zero, suc, ◌<◌, ◌≤◌, Bool, true, false, cond, nat_lt, List, [], ◌∷◌, length, Option, Some, None, refl, sym, ◌∙◌, subst, arith}
 use Rattle.std.proofs.lemmas.Bool.Decides.{nat_tests}
 use Rattle.pic_grid.specs.declared.stop.Stop.{Stop}
-use Rattle.pic_orders.specs.StopOf.{identity_of, lesser}
+use Rattle.pic_tile.specs.StopOf.{identity_of, lesser}
 use Rattle.pic_tile.specs.Directions.{here}
 use Rattle.pic_tile.specs.Exchanged.{least_stop}
 use Rattle.pic_tile.specs.LeastOfTiles.{StopsAt, IsLeastOfTiles, LeastOfTilesIsFound}

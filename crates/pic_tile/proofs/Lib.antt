@@ -1,3 +1,10 @@
+pub mod SameLaws
+pub mod DiscreteLaws
+pub mod InOrderLaws
+pub mod StopLaws
+pub mod SumLaws
+pub mod StandForLaws
+pub mod OrderedLaws
 pub mod RingLaws
 pub mod TilingLaws
 pub mod TileLaws

@@ -10,10 +10,10 @@ use Rattle.pic_num.specs.Space.{triple}
 use Rattle.pic_grid.specs.Cells.{Grid, count_of}
 use Rattle.pic_grid.specs.Hat.{IsInBox}
 use Rattle.pic_grid.specs.PushPhase.{CanShare}
-use Rattle.pic_orders.specs.Same.{Same}
-use Rattle.pic_orders.specs.StandFor.{owned}
-use Rattle.pic_orders.proofs.DiscreteLaws.{particle_discrete, all_same}
-use Rattle.pic_orders.proofs.SameLaws.{same_sym, same_length}
+use Rattle.pic_tile.specs.Same.{Same}
+use Rattle.pic_tile.specs.StandFor.{owned}
+use Rattle.pic_tile.proofs.DiscreteLaws.{particle_discrete, all_same}
+use Rattle.pic_tile.proofs.SameLaws.{same_sym, same_length}
 use Rattle.pic_tile.specs.CoreState.{IsOpening, IsSoundFrame, particles_of}
 use Rattle.pic_tile.specs.Directions.{here}
 use Rattle.pic_tile.specs.Frame.{FrameValue, felt_in}

@@ -18,11 +18,11 @@ use Rattle.pic_grid.specs.PushPhase.{Surroundings}
 use Rattle.pic_grid.specs.Traces.{traces}
 use Rattle.pic_grid.proofs.BlockLayerLaws.{IsOver, tells_over, layer_over}
 use Rattle.pic_grid.proofs.SumLaws.{sum_same}
-use Rattle.pic_orders.specs.Same.{Same}
-use Rattle.pic_orders.specs.StopOf.{IsStopOf}
-use Rattle.pic_orders.specs.Totals.{total_below}
+use Rattle.pic_tile.specs.Same.{Same}
+use Rattle.pic_tile.specs.StopOf.{IsStopOf}
+use Rattle.pic_tile.specs.Totals.{total_below}
 use Rattle.std.proofs.Math.Decide.{ℕ_discrete}
-use Rattle.pic_orders.proofs.SumLaws.{total_changed, sum_changed, sum_none, total_same, total_none, sum_by-flat_map}
+use Rattle.pic_tile.proofs.SumLaws.{total_changed, sum_changed, sum_none, total_same, total_none, sum_by-flat_map}
 use Rattle.pic_tile.specs.declared.parcel.Parcel.{Parcel}
 use Rattle.pic_tile.specs.Directions.{directions, here}
 use Rattle.pic_tile.specs.Empty.{zero_block, empty_parcel}

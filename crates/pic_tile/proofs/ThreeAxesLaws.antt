@@ -13,7 +13,7 @@ use Rattle.pic_grid.specs.Current.{sum_images, wrapped}
 use Rattle.pic_grid.specs.Sums.{sum_below}
 use Rattle.pic_grid.proofs.CellLaws.{cell_of-index_of, index_of-cell_of, cell_of_within}
 use Rattle.pic_grid.proofs.SumLaws.{sum_same}
-use Rattle.pic_orders.proofs.SumLaws.{sum_none}
+use Rattle.pic_tile.proofs.SumLaws.{sum_none}
 use Rattle.pic_tile.specs.Directions.{directions, ring_step}
 use Rattle.pic_tile.specs.Layers.{layer_at, at_some, pick, IsBeyondTile, corner, sender_of, given_at, StaysByTile}
 use Rattle.pic_tile.specs.Tiling.{Tiling, cells_of, stepped}

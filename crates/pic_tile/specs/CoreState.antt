@@ -8,8 +8,8 @@ use Rattle.pic_num.specs.declared.motion.Particle.{Particle}
 use Rattle.pic_num.specs.Limits.{least_side, most_side, most_particles}
 use Rattle.pic_grid.specs.Cells.{count_of}
 use Rattle.pic_grid.specs.PushPhase.{CanShare}
-use Rattle.pic_orders.specs.InOrder.{in_order, AreOrdered}
-use Rattle.pic_orders.specs.Totals.{together}
+use Rattle.pic_tile.specs.InOrder.{in_order, AreOrdered}
+use Rattle.pic_tile.specs.Totals.{together}
 use Rattle.pic_tile.specs.declared.parcel.Parcel.{Parcel}
 use Rattle.pic_tile.specs.Directions.{directions, here}
 use Rattle.pic_tile.specs.Frame.{FrameValue, IsFrame, felt_in}

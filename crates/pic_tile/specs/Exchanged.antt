@@ -8,9 +8,9 @@ use Rattle.pic_grid.specs.Block.{inner_at, outer_of}
 use Rattle.pic_grid.specs.Cells.{IsWithin, count_of}
 use Rattle.pic_grid.specs.Current.{current}
 use Rattle.pic_grid.specs.PushPhase.{Surroundings, moved_all, push_stop}
-use Rattle.pic_orders.specs.Same.{Same}
-use Rattle.pic_orders.specs.StandFor.{owned}
-use Rattle.pic_orders.specs.StopOf.{lesser}
+use Rattle.pic_tile.specs.Same.{Same}
+use Rattle.pic_tile.specs.StandFor.{owned}
+use Rattle.pic_tile.specs.StopOf.{lesser}
 use Rattle.pic_tile.specs.Directions.{directions, here}
 use Rattle.pic_tile.specs.Layers.{corner}
 use Rattle.pic_tile.specs.Owners.{tile_of}

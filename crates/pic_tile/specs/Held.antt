@@ -4,9 +4,9 @@ use Rattle.std.specs.List.{All, range_with_len}
 use Rattle.pic_num.specs.declared.motion.Particle.{Particle}
 use Rattle.pic_num.specs.Space.{triple}
 use Rattle.pic_grid.specs.Hat.{IsInBox, HasTwo}
-use Rattle.pic_orders.specs.InOrder.{IsCensus}
-use Rattle.pic_orders.specs.Same.{Same}
-use Rattle.pic_orders.specs.Totals.{together}
+use Rattle.pic_tile.specs.InOrder.{IsCensus}
+use Rattle.pic_tile.specs.Same.{Same}
+use Rattle.pic_tile.specs.Totals.{together}
 use Rattle.pic_tile.specs.Directions.{here}
 use Rattle.pic_tile.specs.Parcels.{AreFreshTiles}
 use Rattle.pic_tile.specs.Tile.{TileValue, chain_at}

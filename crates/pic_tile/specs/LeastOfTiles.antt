@@ -1,7 +1,7 @@
 -- Which stop is found of those of tiles.
 use Rattle.std.specs.Prelude.{◌≡◌, ℕ, ◌<◌, ◌≤◌, List, length, Option, Some, None}
 use Rattle.pic_grid.specs.declared.stop.Stop.{Stop}
-use Rattle.pic_orders.specs.StopOf.{identity_of}
+use Rattle.pic_tile.specs.StopOf.{identity_of}
 use Rattle.pic_tile.specs.Directions.{here}
 use Rattle.pic_tile.specs.Exchanged.{least_stop}
 use Rattle.pic_tile.specs.Tile.{TileValue, stop_at, tile_in}

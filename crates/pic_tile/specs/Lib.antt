@@ -1,3 +1,8 @@
+pub mod Same
+pub mod Totals
+pub mod InOrder
+pub mod StandFor
+pub mod StopOf
 pub mod Directions
 pub mod Tiling
 pub mod Owners

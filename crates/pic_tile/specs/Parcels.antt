@@ -6,9 +6,9 @@ use Rattle.pic_num.specs.Space.{Spot}
 use Rattle.pic_grid.specs.Cells.{count_of}
 use Rattle.pic_grid.specs.PushPhase.{Surroundings}
 use Rattle.pic_grid.specs.Traces.{traces}
-use Rattle.pic_orders.specs.Same.{Same}
-use Rattle.pic_orders.specs.StandFor.{owned}
-use Rattle.pic_orders.specs.StopOf.{IsStopOf}
+use Rattle.pic_tile.specs.Same.{Same}
+use Rattle.pic_tile.specs.StandFor.{owned}
+use Rattle.pic_tile.specs.StopOf.{IsStopOf}
 use Rattle.pic_tile.specs.declared.parcel.Parcel.{Parcel}
 use Rattle.pic_tile.specs.Directions.{directions, here}
 use Rattle.pic_tile.specs.Layers.{layers_from, layers_size, corner, IsLayers}

@@ -15,8 +15,8 @@ use Rattle.pic_grid.specs.PushPhase.{Surroundings}
 use Rattle.pic_grid.specs.Species.{IsKind}
 use Rattle.pic_grid.specs.Sums.{sum_below}
 use Rattle.pic_grid.specs.Traces.{traces, most_flux}
-use Rattle.pic_orders.specs.Same.{Same}
-use Rattle.pic_orders.specs.StopOf.{IsStopOf}
+use Rattle.pic_tile.specs.Same.{Same}
+use Rattle.pic_tile.specs.StopOf.{IsStopOf}
 use Rattle.pic_tile.specs.declared.parcel.Parcel.{Parcel}
 use Rattle.pic_tile.specs.Directions.{directions, here}
 use Rattle.pic_tile.specs.Empty.{zero_block, empty_parcel}

@@ -1,4 +1,5 @@
-//! Tiles: the equal boxes of cells into which a grid is cut, and the directions between them.
+//! Tiles: the equal boxes of cells into which a grid is cut, and the directions between them; and
+//! particles in any order: the list by identity, the census, the stop of a push.
 #![tactic(auto)]
 
 mod cutting;
@@ -15,7 +16,11 @@ pub use cutting::cut;
 pub use dir::Dir;
 pub use frame::Frame;
 pub use kinds::Kinds;
-pub use laws::{fresh_tiles_hold_the_list, law_of_the_least_of_tiles};
+pub use laws::{
+    any_order_is_the_list, census_is_a_rearrangement, census_is_put_in_order,
+    fresh_tiles_hold_the_list, law_of_the_least_of_tiles, least_stop_in_any_order,
+    same_is_a_rearrangement, written_is_in_order,
+};
 pub use layers::{layers_begin, layers_zone};
 pub use parcel::{Parcel, ParcelBox};
 pub use tile::Tile;

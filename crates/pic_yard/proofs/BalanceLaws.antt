@@ -2,8 +2,8 @@
 use Rattle.std.proofs.Common.{◌≡◌, ℕ, ◌+◌, ◌<◌, ◌≤◌, Bool, true, false, not, ◌&&◌, ◌||◌, cond, eqb, eq-eqb, ne_eqb, nat_lt, refl, sym, ap, ◌∙◌, arith}
 use Rattle.std.proofs.Math.Decide.{ℕ_discrete}
 use Rattle.std.proofs.lemmas.Bool.Decides.{nat_tests}
-use Rattle.pic_orders.specs.Totals.{total_below}
-use Rattle.pic_orders.proofs.SumLaws.{total_same, total_plus, total_none}
+use Rattle.pic_tile.specs.Totals.{total_below}
+use Rattle.pic_tile.proofs.SumLaws.{total_same, total_plus, total_none}
 use Rattle.pic_yard.proofs.Ways.{AreWays}
 use Rattle.pic_yard.specs.Members.{count_below}
 use Rattle.pic_yard.proofs.CountLaws.{count_le, count_all}

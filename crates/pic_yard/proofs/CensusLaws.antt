@@ -6,11 +6,11 @@ use Rattle.std.specs.Prelude.{IsSome}
 use Rattle.std.proofs.lemmas.List.Sums.{sum_by-append}
 use lib.ListN.{get_elem?}
 use Rattle.pic_num.specs.declared.motion.Particle.{Particle}
-use Rattle.pic_orders.specs.Same.{Same}
-use Rattle.pic_orders.specs.Totals.{total_below}
-use Rattle.pic_orders.proofs.SameLaws.{sum_by-map, sum_by-together, sum_by_agree}
-use Rattle.pic_orders.proofs.StandForLaws.{stands_together}
-use Rattle.pic_orders.proofs.SumLaws.{total_same, total_below_more, sum_by-flat_map}
+use Rattle.pic_tile.specs.Same.{Same}
+use Rattle.pic_tile.specs.Totals.{total_below}
+use Rattle.pic_tile.proofs.SameLaws.{sum_by-map, sum_by-together, sum_by_agree}
+use Rattle.pic_tile.proofs.StandForLaws.{stands_together}
+use Rattle.pic_tile.proofs.SumLaws.{total_same, total_below_more, sum_by-flat_map}
 use Rattle.pic_tile.specs.declared.parcel.Parcel.{Parcel}
 use Rattle.pic_tile.specs.CoreState.{particles_of}
 use Rattle.pic_tile.specs.Directions.{directions, here}

@@ -6,7 +6,7 @@ use mathlib.Core.Option.{Option, none, some}
 use lib.ListN.{get_elem?}
 use Rattle.atomic_table.specs.Table.{Act, Valid, keeps, takes, chain, homes_after, carried_after}
 use Rattle.atomic_table.proofs.Lists.{set_here, set_else}
-use Rattle.pic_slots.specs.Fronts.{seek}
+use Rattle.pic_yard.specs.Fronts.{seek}
 use Rattle.pic_tile.proofs.ZoneLaws.{row_end}
 use Rattle.pic_yard.specs.Acts.{Apart}
 use Rattle.pic_yard.specs.Places.{IsHome, slot_in}

@@ -7,7 +7,7 @@ use mathlib.Core.Option.{Option, none, some, some-ne-none}
 use native.Mathlib.Decide.{dec_le}
 use lib.ListN.{get_elem?}
 use Rattle.atomic_table.specs.Table.{State, Me, Act, keeps, Valid, Allows, stepped, homes_after, carried_after}
-use Rattle.pic_slots.specs.Fronts.{seek}
+use Rattle.pic_yard.specs.Fronts.{seek}
 use Rattle.pic_tile.specs.Directions.{directions, here}
 use Rattle.pic_yard.specs.declared.opening.Opening.{Opening}
 use Rattle.pic_yard.specs.declared.view.View.{View}

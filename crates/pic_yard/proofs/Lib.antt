@@ -1,3 +1,4 @@
+pub mod FrontLaws
 pub mod Ways
 pub mod Turns
 pub mod CountLaws

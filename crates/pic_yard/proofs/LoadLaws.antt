@@ -4,7 +4,7 @@ use Rattle.std.proofs.Math.Decide.{ℕ_discrete}
 use mathlib.Core.Option.{none, some, some-ne-none}
 use Rattle.atomic_table.specs.declared.shared.Seat.{Seat}
 use Rattle.atomic_table.specs.Table.{Me, rest}
-use Rattle.pic_slots.specs.Fronts.{seek, drop_slot, to_front}
+use Rattle.pic_yard.specs.Fronts.{seek, drop_slot, to_front}
 use Rattle.pic_tile.specs.Directions.{directions, here}
 use Rattle.pic_yard.specs.declared.opening.Opening.{Opening}
 use Rattle.pic_yard.specs.declared.view.View.{View}

@@ -1,7 +1,7 @@
 -- What lies with a seat that makes another, and with one that lists nothing.
 use Rattle.std.proofs.Common.{◌≡◌, ℕ, List, [], ◌∷◌, true, Bool, eq-eqb, if◌then◌else◌, Some, refl, sym, ap, subst}
 use mathlib.Core.Option.{some, some-ne-none}
-use Rattle.pic_slots.specs.Fronts.{seek}
+use Rattle.pic_yard.specs.Fronts.{seek}
 use Rattle.pic_tile.specs.CoreState.{IsOpening, IsSoundFrame}
 use Rattle.pic_tile.specs.Directions.{here}
 use Rattle.pic_yard.specs.declared.opening.Opening.{Opening}

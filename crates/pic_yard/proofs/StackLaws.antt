@@ -3,7 +3,7 @@ use Rattle.std.proofs.Common.{◌≡◌, ℕ, zero, suc, ◌+◌, ◌<◌, ◌�
 use Rattle.std.proofs.Math.Decide.{ℕ_discrete}
 use mathlib.Core.Option.{none, some}
 use Rattle.atomic_table.specs.Table.{Me}
-use Rattle.pic_slots.specs.Fronts.{seek, drop_slot, to_front}
+use Rattle.pic_yard.specs.Fronts.{seek, drop_slot, to_front}
 use Rattle.pic_tile.specs.Directions.{directions}
 use Rattle.pic_yard.specs.declared.view.View.{View}
 use Rattle.pic_yard.specs.Acts.{Apart}

@@ -2,7 +2,7 @@
 use Rattle.std.proofs.Common.{◌≡◌, ℕ, List, [], ◌∷◌, Bool, eq-eqb, ne_eqb, if◌then◌else◌, inl, inr, refl, sym, ap, ◌∙◌, subst}
 use Rattle.std.proofs.Math.Decide.{ℕ_discrete}
 use mathlib.Core.Option.{Option, none, some}
-use Rattle.pic_slots.specs.Fronts.{seek, drop_slot, put_first, to_front}
+use Rattle.pic_yard.specs.Fronts.{seek, drop_slot, put_first, to_front}
 use Rattle.pic_yard.specs.Acts.{Apart}
 use Rattle.pic_yard.proofs.WordLaws.{found_or}
 

@@ -4,8 +4,8 @@ use Rattle.std.proofs.Common.{arith}
 use Rattle.std.proofs.lemmas.List.Sums.{sum_by-cons}
 use mathlib.Core.Option.{Option, none, some}
 use lib.ListN.{get_elem?}
-use Rattle.pic_orders.specs.Totals.{total_below}
-use Rattle.pic_orders.proofs.SumLaws.{total_same, total_plus, total_none, one_total}
+use Rattle.pic_tile.specs.Totals.{total_below}
+use Rattle.pic_tile.proofs.SumLaws.{total_same, total_plus, total_none, one_total}
 
 -- the first number apart from the others
 total_first : (n : ℕ) (f : ℕ → ℕ) → total_below (suc n) f ≡ f 0 + total_below n (λ i. f (suc i))

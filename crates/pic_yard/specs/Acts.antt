@@ -1,7 +1,7 @@
 -- Slots of which none stands twice.
 use Rattle.std.specs.Prelude.{◌≡◌, ℕ, List, [], ◌∷◌}
 use mathlib.Core.Option.{none}
-use Rattle.pic_slots.specs.Fronts.{seek}
+use Rattle.pic_yard.specs.Fronts.{seek}
 
 module _ {S : Type 0} where
   -- no slot stands twice in a list

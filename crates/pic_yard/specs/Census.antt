@@ -5,7 +5,7 @@ use Rattle.std.specs.List.{range_with_len, flat_map}
 use mathlib.Core.Option.{Option, none, some}
 use lib.ListN.{get_elem?}
 use Rattle.pic_num.specs.declared.motion.Particle.{Particle}
-use Rattle.pic_orders.specs.Same.{Same}
+use Rattle.pic_tile.specs.Same.{Same}
 use Rattle.pic_tile.specs.CoreState.{held_in, particles_of}
 use Rattle.pic_tile.specs.Directions.{directions}
 use Rattle.pic_tile.specs.Frame.{felt_in}

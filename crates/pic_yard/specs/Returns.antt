@@ -2,7 +2,7 @@
 use Rattle.std.specs.Prelude.{◌≡◌, ℕ, zero, suc, List, ◌∷◌, true, Some, None}
 use Rattle.atomic_table.specs.declared.shared.Seat.{Seat}
 use Rattle.atomic_table.specs.Table.{Me, rest}
-use Rattle.pic_slots.specs.Fronts.{drop_slot}
+use Rattle.pic_yard.specs.Fronts.{drop_slot}
 use Rattle.pic_tile.specs.Directions.{directions}
 use Rattle.pic_yard.specs.declared.opening.Opening.{Opening}
 use Rattle.pic_yard.specs.declared.view.View.{View}

@@ -2,7 +2,7 @@
 use Rattle.std.specs.Prelude.{◌≡◌, ℕ, suc, ◌<◌, ◌≤◌, ◌⊎◌, List, true, Some, None}
 use mathlib.Core.Option.{none, some}
 use Rattle.atomic_table.specs.Table.{Me}
-use Rattle.pic_slots.specs.Fronts.{seek}
+use Rattle.pic_yard.specs.Fronts.{seek}
 use Rattle.pic_tile.specs.CoreState.{IsOpening, IsSoundFrame}
 use Rattle.pic_tile.specs.Directions.{directions, here}
 use Rattle.pic_yard.specs.declared.opening.Opening.{Opening}

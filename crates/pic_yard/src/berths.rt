@@ -2,13 +2,13 @@
 
 ghost use Rattle.std.specs.Prelude.{◌≡◌, ◌∷◌, Some};
 ghost use mathlib.Core.Option.{some};
-ghost use Rattle.pic_slots.specs.Fronts.{drop_slot, seek};
+ghost use Rattle.pic_yard.specs.Fronts.{drop_slot, seek};
 ghost use Rattle.pic_yard.specs.Contents.{HasPlace};
 ghost use Rattle.pic_yard.specs.declared.piece.Piece.TheVariants as piece;
 
+use crate::fronts::exchange;
 use crate::piece::Piece;
 use crate::yard::{Seat, Yard};
-use pic_slots::exchange;
 use pic_tile::Tile;
 
 impl Yard {

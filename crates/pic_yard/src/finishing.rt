@@ -11,12 +11,12 @@ ghost use Rattle.pic_yard.specs.Yards.{AreReceived, IsReceived, IsSentBy, KeepsM
 ghost use Rattle.pic_yard.specs.Yards.{Serves, mail_of, opening_of, view_of};
 
 use crate::claim::Right;
+use crate::fronts::{bring, exchange};
 use crate::piece::Piece;
 use crate::places::{SLOTS, home, mailbox};
 use crate::view::View;
 use crate::yard::{Seat, Yard};
 use atomic_table::Play;
-use pic_slots::{bring, exchange};
 use pic_tile::{Dir, ParcelBox, Tile};
 
 /// A tile that is given back.

@@ -8,6 +8,7 @@ mod claim;
 mod claiming;
 mod closing;
 mod finishing;
+mod fronts;
 mod laws;
 mod laying;
 mod opening;

@@ -11,12 +11,12 @@ ghost use Rattle.pic_yard.specs.Posts.{HasMailFor, HasPosted, IsAnswer};
 ghost use Rattle.pic_yard.specs.Yards.{IsSentBy, KeepsMail, Owes, Serves, opening_of, view_of};
 
 use crate::claim::{Claim, Posted, Right};
+use crate::fronts::{bring, exchange};
 use crate::piece::Piece;
 use crate::places::{home, mailbox};
 use crate::view::View;
 use crate::yard::{Seat, Yard};
 use atomic_table::Play;
-use pic_slots::{bring, exchange};
 use pic_tile::{Dir, ParcelBox};
 
 /// The arrival of a parcel.

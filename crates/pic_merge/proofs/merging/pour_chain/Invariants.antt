@@ -1,5 +1,5 @@
 use Rattle.std.proofs.Common.{◌++◌, length}
-use Rattle.pic_orders.specs.Same.{Same}
+use Rattle.pic_tile.specs.Same.{Same}
 use Rattle.pic_merge.proofs.merging.pour_chain.Given as goal
 
 -- both chains have together what they had at first

@@ -1,7 +1,7 @@
 use Rattle.std.proofs.Common.{◌<◌, ◌-◌, Option, length, refl, ◌∙◌, ap, arith}
 use Rattle.std.proofs.lemmas.List.{get_or_default}
 use Rattle.pic_grid.specs.declared.stop.Stop.{Stop}
-use Rattle.pic_orders.specs.StopOf.{lesser}
+use Rattle.pic_tile.specs.StopOf.{lesser}
 use Rattle.pic_tile.specs.Directions.{here}
 use Rattle.pic_tile.specs.Tile.{TileValue, no_tile, stop_at, tile_in}
 use Rattle.pic_push.proofs.LeastLaws.{least_none, least_more, least_all}

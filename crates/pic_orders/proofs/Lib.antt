@@ -1,7 +1,0 @@
-pub mod SameLaws
-pub mod DiscreteLaws
-pub mod InOrderLaws
-pub mod StopLaws
-pub mod SumLaws
-pub mod StandForLaws
-pub mod OrderedLaws

@@ -1,5 +1,0 @@
-use Rattle.pic_orders.proofs.InOrderLaws.{in_order_is}
-use Rattle.pic_orders.proofs.laws.any_order_is_the_list.Goals as goal
-
-pub returns : goal.returns
-returns c = in_order_is

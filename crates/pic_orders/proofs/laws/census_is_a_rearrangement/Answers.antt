@@ -1,5 +1,0 @@
-use Rattle.pic_orders.proofs.InOrderLaws.{census_rearranged}
-use Rattle.pic_orders.proofs.laws.census_is_a_rearrangement.Goals as goal
-
-pub returns : goal.returns
-returns c = census_rearranged

@@ -1,5 +1,0 @@
-use Rattle.pic_orders.proofs.StopLaws.{stop_of_any}
-use Rattle.pic_orders.proofs.laws.least_stop_in_any_order.Goals as goal
-
-pub returns : goal.returns
-returns c = stop_of_any

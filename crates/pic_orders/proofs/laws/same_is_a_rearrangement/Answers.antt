@@ -1,5 +1,0 @@
-use Rattle.pic_orders.proofs.InOrderLaws.{same_rearranged}
-use Rattle.pic_orders.proofs.laws.same_is_a_rearrangement.Goals as goal
-
-pub returns : goal.returns
-returns c = same_rearranged

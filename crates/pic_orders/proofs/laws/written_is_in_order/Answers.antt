@@ -1,5 +1,0 @@
-use Rattle.pic_orders.proofs.InOrderLaws.{written_all}
-use Rattle.pic_orders.proofs.laws.written_is_in_order.Goals as goal
-
-pub returns : goal.returns
-returns c = written_all
