@@ -8,12 +8,12 @@ use Rattle.pic_num.specs.Space.{triple}
 use Rattle.pic_grid.specs.Hat.{IsInBox}
 use Rattle.pic_grid.specs.Lattice.{Field}
 use Rattle.pic_grid.specs.PushPhase.{CanShare}
-use Rattle.pic_orders.specs.InOrder.{IsCensus, written}
-use Rattle.pic_orders.specs.Same.{Same}
-use Rattle.pic_orders.specs.Totals.{together}
-use Rattle.pic_orders.proofs.DiscreteLaws.{particle_discrete, permutes}
-use Rattle.pic_orders.proofs.InOrderLaws.{ordered_census, same_census, ids_below, written_all}
-use Rattle.pic_orders.proofs.SameLaws.{same_sym, same_length}
+use Rattle.pic_tile.specs.InOrder.{IsCensus, written}
+use Rattle.pic_tile.specs.Same.{Same}
+use Rattle.pic_tile.specs.Totals.{together}
+use Rattle.pic_tile.proofs.DiscreteLaws.{particle_discrete, permutes}
+use Rattle.pic_tile.proofs.InOrderLaws.{ordered_census, same_census, ids_below, written_all}
+use Rattle.pic_tile.proofs.SameLaws.{same_sym, same_length}
 use Rattle.pic_tile.specs.CoreState.{particles_of}
 use Rattle.pic_tile.specs.Held.{chains_of}
 use Rattle.pic_tile.specs.Parcels.{AreFreshTiles}

@@ -6,12 +6,12 @@ use Rattle.pic_num.specs.declared.motion.Particle.{Particle}
 use Rattle.pic_num.specs.Space.{triple}
 use Rattle.pic_grid.specs.Cells.{count_of}
 use Rattle.pic_grid.specs.Hat.{IsInBox, HasTwo}
-use Rattle.pic_orders.specs.InOrder.{AreOrdered, in_order}
-use Rattle.pic_orders.specs.Same.{Same}
-use Rattle.pic_orders.specs.StandFor.{owned, StandFor}
-use Rattle.pic_orders.specs.Totals.{together}
-use Rattle.pic_orders.proofs.InOrderLaws.{in_order_is}
-use Rattle.pic_orders.proofs.StandForLaws.{stands_together}
+use Rattle.pic_tile.specs.InOrder.{AreOrdered, in_order}
+use Rattle.pic_tile.specs.Same.{Same}
+use Rattle.pic_tile.specs.StandFor.{owned, StandFor}
+use Rattle.pic_tile.specs.Totals.{together}
+use Rattle.pic_tile.proofs.InOrderLaws.{in_order_is}
+use Rattle.pic_tile.proofs.StandForLaws.{stands_together}
 use Rattle.pic_tile.specs.CoreState.{particles_of}
 use Rattle.pic_tile.specs.Directions.{here}
 use Rattle.pic_tile.specs.Held.{chains_of}

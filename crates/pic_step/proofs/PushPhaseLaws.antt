@@ -15,7 +15,7 @@ use Rattle.pic_grid.specs.Parts.{layered}
 use Rattle.pic_num.specs.Space.{Triple}
 use Rattle.pic_grid.specs.PushPhase.{Surroundings, CanShare}
 use Rattle.pic_grid.proofs.LatticeLaws.{value_at-field_of}
-use Rattle.pic_orders.specs.InOrder.{AreOrdered}
+use Rattle.pic_tile.specs.InOrder.{AreOrdered}
 use Rattle.pic_tile.specs.CoreState.{particles_of, IsOpening}
 use Rattle.pic_tile.specs.Frame.{FrameValue, IsForceField, felt_in}
 use Rattle.pic_tile.specs.Parcels.{AreFreshTiles}

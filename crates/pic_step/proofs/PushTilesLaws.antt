@@ -16,9 +16,9 @@ use Rattle.pic_grid.specs.Hat.{IsInBox, HasTwo}
 use Rattle.pic_grid.specs.Parts.{layered}
 use Rattle.pic_grid.specs.PushPhase.{Surroundings, CanShare, moved_all}
 use Rattle.pic_grid.proofs.BlockLaws.{inner_within}
-use Rattle.pic_orders.specs.InOrder.{AreOrdered}
-use Rattle.pic_orders.specs.Same.{Same}
-use Rattle.pic_orders.specs.StandFor.{owned}
+use Rattle.pic_tile.specs.InOrder.{AreOrdered}
+use Rattle.pic_tile.specs.Same.{Same}
+use Rattle.pic_tile.specs.StandFor.{owned}
 use Rattle.pic_push.proofs.PushLaws.{ids_kept, length-moved_all, share_kept}
 use Rattle.pic_tile.specs.CoreState.{particles_of, IsOpening}
 use Rattle.pic_tile.specs.Directions.{here}

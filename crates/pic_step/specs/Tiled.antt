@@ -1,6 +1,6 @@
 -- The tiles in which the particles of a state are kept.
 use Rattle.std.specs.Prelude.{◌≡◌, List, IsPermutation}
-use Rattle.pic_orders.specs.Totals.{together}
+use Rattle.pic_tile.specs.Totals.{together}
 use Rattle.pic_tile.specs.Held.{chains_of}
 use Rattle.pic_tile.specs.Parcels.{AreFreshTiles}
 use Rattle.pic_tile.specs.Tile.{TileValue}

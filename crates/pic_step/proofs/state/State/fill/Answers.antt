@@ -1,8 +1,8 @@
 use Rattle.std.proofs.Common.{◌≡◌, ◌<◌, List, length, All, sym, ap, ◌∙◌, subst}
 use Rattle.std.proofs.lemmas.List.{with_items_is}
-use Rattle.pic_orders.specs.InOrder.{written}
-use Rattle.pic_orders.specs.Totals.{together}
-use Rattle.pic_orders.proofs.InOrderLaws.{length-written}
+use Rattle.pic_tile.specs.InOrder.{written}
+use Rattle.pic_tile.specs.Totals.{together}
+use Rattle.pic_tile.proofs.InOrderLaws.{length-written}
 use Rattle.pic_tile.specs.CoreState.{particles_of}
 use Rattle.pic_tile.specs.Held.{chains_of}
 use Rattle.pic_tile.specs.Tile.{TileValue}
