@@ -15,16 +15,16 @@ use crate::narrow_turning::narrow_turned;
 use pic_num::{Mult, Sub};
 
 /// The most that a gathered value may be in size here.
-const MOST_FIELD: u64 = 268435456;
+const MAX_SMALL_FIELD: u64 = 1 << 28;
 
 /// The most that a multiplier's power may be here.
-const MOST_POWER: u32 = 60;
+const MAX_SMALL_SHIFT: u32 = 60;
 
 /// The most that a velocity may be in size here, after half of the kick.
-const MOST_SPEED: u64 = 67108864;
+const MAX_SMALL_SPEED: u64 = 1 << 26;
 
 /// The most that a turn may be in size here.
-const MOST_TURN: u64 = 1048576;
+const MAX_SMALL_TURN: u64 = 1 << 20;
 
 /// A velocity is in 1 / 2^12 sub-cell per step.
 pub const SPEED_BITS: u32 = 12;
@@ -47,7 +47,7 @@ fn is_weak(field: [i64; 3], by: Mult) -> bool
     ensures by { IsTrue result → by.k ≤ 60 }
 {
     let [x, y, z] = field;
-    by.k() <= MOST_POWER && are_at_most(x, y, z, MOST_FIELD)
+    by.k() <= MAX_SMALL_SHIFT && are_at_most(x, y, z, MAX_SMALL_FIELD)
 }
 
 /// Whether a vector is at most `most` in size.
@@ -119,7 +119,7 @@ pub(crate) fn push_narrow(
     let half_kick = scaled_narrow(e, kick);
     let kicked = narrow_sum(narrow_of(v), half_kick);
     let turn_by = scaled_narrow(b, turn);
-    if !is_small(kicked, MOST_SPEED) || !is_small(turn_by, MOST_TURN) {
+    if !is_small(kicked, MAX_SMALL_SPEED) || !is_small(turn_by, MAX_SMALL_TURN) {
         return None;
     }
     arrive_narrow(sub, narrow_sum(narrow_turned(kicked, turn_by), half_kick))

@@ -12,19 +12,19 @@ use crate::turning::{TURN_BITS, TWO};
 use pic_num::rdiv;
 
 /// One, squared, in units of a turn.
-const ONE_SQUARED: i64 = 1099511627776;
+const ONE_SQUARED: i64 = 1 << (2 * TURN_BITS);
 
 /// Four, in those units.
-const FOUR: i64 = 4194304;
+const FOUR: i64 = 1 << (TURN_BITS + 2);
 
 /// Up to this size of a cross product four times it and a divisor fit 64 bits.
-const MOST_FAST: u64 = 1099511627776;
+const MAX_SMALL_CROSS: u64 = 1 << 40;
 
 /// The reciprocal of twice a divisor is in units of 1 / 2^74.
 const RECIPROCAL_BITS: u32 = 74;
 
 /// Up to this much above one, squared, a reciprocal is taken as linear.
-const NEAR: u64 = 16777216;
+const NEAR: u64 = 1 << 24;
 
 /// The cross product over one: what the first turn adds.
 #[inline(always)]
@@ -189,7 +189,7 @@ fn quotient(w: i64, divisor: i64, reciprocal: i64) -> i64
     ensures value { result ≡ rounded (pos (2 ^ 21) *ℤ w) divisor }
     ensures size { IsAtMost result (2 ^ 30) }
 {
-    if w.unsigned_abs() <= MOST_FAST {
+    if w.unsigned_abs() <= MAX_SMALL_CROSS {
         let guess = guess_of(dividend_of(w, divisor), reciprocal);
         if is_quotient(w, divisor, guess) {
             return guess;

@@ -13,13 +13,7 @@ use crate::moved::Moved;
 use crate::narrow_pushing::{SPEED_BITS, push_narrow};
 use crate::turning::turned_by;
 use crate::vector::{Vector, rounded_shift, scaled_by, sum_of, widened};
-use pic_num::{Mult, Sub, What};
-
-/// The most that a velocity may be in size after half of the kick, in 1/4096 sub-cell per step.
-const MOST_SPEED: u128 = 1099511627776;
-
-/// The most that a turn may be in size, in units of 1 / 2^20.
-const MOST_TURN: u128 = 16777216;
+use pic_num::{MAX_SPEED, MAX_TURN, Mult, Sub, What};
 
 /// Pushes a particle of the velocity `v` by the gathered `e` and `b` with its species' multipliers:
 /// half of the electric kick, the turn by the magnetic field, the other half (Boris 1970).
@@ -61,9 +55,9 @@ fn push_wide(
 {
     let half_kick = scaled_by(e, kick);
     let kicked = sum_of(widened(v), half_kick);
-    halt_above(What::Speed, MOST_SPEED, kicked)?;
+    halt_above(What::Speed, MAX_SPEED, kicked)?;
     let turn_by = scaled_by(b, turn);
-    halt_above(What::Turn, MOST_TURN, turn_by)?;
+    halt_above(What::Turn, MAX_TURN, turn_by)?;
     let turned = turned_by(kicked, turn_by);
     arrived(sub, sum_of(turned, half_kick))
 }

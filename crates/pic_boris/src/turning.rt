@@ -14,10 +14,10 @@ use pic_num::rdiv;
 pub const TURN_BITS: u32 = 20;
 
 /// One, squared, in those units.
-const ONE_SQUARED: i128 = 1099511627776;
+const ONE_SQUARED: i128 = 1 << (2 * TURN_BITS);
 
 /// Two, in those units.
-pub const TWO: i128 = 2097152;
+pub const TWO: i128 = 1 << (TURN_BITS + 1);
 
 /// A minor of two vectors: one component of their cross product.
 fn minor(a: i128, b: i128, c: i128, d: i128) -> i128

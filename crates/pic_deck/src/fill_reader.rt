@@ -17,14 +17,11 @@ ghost use Rattle.pic_deck.specs.Species.{IsFill};
 use crate::species::{Fill, Species};
 use pic_grid::Cells;
 use pic_walk::{
-    Address, Draw, Limits, Sites, Source, WalkStop, find_source, need_whole, needed_value,
-    read_draw, read_points, read_sites, read_table, read_text,
+    Address, Draw, Limits, MAX_COUNT, Sites, Source, WalkStop, find_source, need_whole,
+    needed_value, read_draw, read_points, read_sites, read_table, read_text,
 };
 use std::alloc::Global;
 use toml::{Table, Value};
-
-/// The most particles of a species, and of a deck.
-pub const MOST_PARTICLES: i64 = 1048576;
 
 // the sites of a lattice
 fn read_lattice(
@@ -53,7 +50,7 @@ fn read_random(alloc: Global, address: Address<'_>, value: &Value) -> Result<(u3
     let path = address.path(alloc)?;
     let keys = ["count", "seed", "stream", "drift", "spread"];
     let table = read_table(alloc, address, path.as_str(), &keys, value)?;
-    let limits = Limits::new(0, MOST_PARTICLES);
+    let limits = Limits::new(0, MAX_COUNT);
     let count = need_whole(alloc, path.as_str(), "count", table, limits)?;
     let draw = read_draw(alloc, path.as_str(), table)?;
     Ok((count, draw))

@@ -17,11 +17,9 @@ use crate::fields::InitialFields;
 use crate::filling::fill;
 use crate::settings::Settings;
 use pic_grid::{Cells, Lattice};
-use pic_num::{Mult, NoMemory, scale};
+use pic_num::{MAX_FORCE, Mult, NoMemory, scale};
 use pic_walk::{Address, Limits, Row, WalkStop};
 use std::alloc::Global;
-
-const STRONGEST: i64 = 17592186044416;
 
 // the force value of a value, where it is too large
 #[tactic(auto, unfolding(crate::specs::Initial::strong))]
@@ -30,7 +28,7 @@ fn strong(by: Mult, value: i128) -> Option<i128>
     ensures { result ≡ strong by value }
 {
     let force = scale(value, by);
-    if force.unsigned_abs() <= STRONGEST as u128 {
+    if force.unsigned_abs() <= MAX_FORCE {
         None
     } else {
         Some(force)
@@ -60,7 +58,8 @@ fn check_strong(alloc: Global, key: &str, strong: Option<i128>) -> Result<(), Wa
 {
     match strong {
         Some(force) => {
-            let limits = Limits::new(-STRONGEST, STRONGEST);
+            let most = MAX_FORCE as i64;
+            let limits = Limits::new(-most, most);
             Err(Address::new("scale", key).limit_fault(alloc, force, limits))
         }
         None => Ok(()),

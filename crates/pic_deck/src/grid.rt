@@ -12,7 +12,7 @@ ghost use Rattle.pic_deck.specs.Deck.{AreFew};
 ghost use Rattle.pic_deck.specs.Keys.{grid_keys, grid, cell_limits, axis_tiles, next_tiles, tiles};
 
 use pic_grid::Cells;
-use pic_num::Sub;
+use pic_num::{BITS_1, MAX_CELLS_1, MIN_CELLS, Sub};
 use pic_walk::{
     Address, Limits, WalkStop, check_within, need_table, need_three, needed_value, read_array,
     read_whole,
@@ -20,13 +20,8 @@ use pic_walk::{
 use std::alloc::Global;
 use toml::{Table, Value};
 
-const FEWEST_CELLS: i64 = Cells::FEWEST as i64;
-
-const MOST_CELLS: i64 = 64;
-
-const BITS: u32 = 12;
-
-const MOST_TILES: i64 = 512;
+/// The most tiles of a grid.
+const MAX_TILES: i64 = 1 << 9;
 
 fn grid_table(alloc: Global, table: &Table) -> Result<&Table, WalkStop>
     ensures { WalksAs (λ t. table_view t.now)
@@ -41,7 +36,7 @@ fn read_cells(alloc: Global, table: &Table) -> Result<[u32; 3], WalkStop>
     ensures bounds { IfOk result (λ ns. IsCells (triple ns)) }
     ensures few { IfOk result (λ ns. AreFew (triple ns)) }
 {
-    let limits = [Limits::new(FEWEST_CELLS, MOST_CELLS); 3];
+    let limits = [Limits::new(MIN_CELLS as i64, MAX_CELLS_1 as i64); 3];
     need_three(alloc, "grid", "cells", table, limits)
 }
 
@@ -104,7 +99,7 @@ fn read_tiles(
 {
     let tiles = read_each_tiles(alloc, address, value, cells)?;
     let count = i128::from(tiles_in_all(tiles));
-    check_within(alloc, address, count, Limits::new(1, MOST_TILES))?;
+    check_within(alloc, address, count, Limits::new(1, MAX_TILES))?;
     Ok(tiles)
 }
 
@@ -129,5 +124,5 @@ pub fn read_grid(alloc: Global, table: &Table) -> Result<(Cells, [u32; 3]), Walk
     let table = grid_table(alloc, table)?;
     let cells = read_cells(alloc, table)?;
     let tiles = need_tiles(alloc, table, cells)?;
-    Ok((Cells::new(cells, Sub::of_bits(BITS)), tiles))
+    Ok((Cells::new(cells, Sub::of_bits(BITS_1)), tiles))
 }

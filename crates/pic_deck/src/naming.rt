@@ -9,12 +9,10 @@ ghost use Rattle.pic_deck.specs.Keys.{species_name};
 
 use crate::species::Species;
 use pic_grid::Name;
-use pic_num::are_name_bytes;
+use pic_num::{MAX_LETTERS, are_name_bytes};
 use pic_walk::{Address, WalkStop, needed_value, read_text};
 use std::alloc::Global;
 use toml::{Table, Value};
-
-const LONGEST_NAME: usize = 32;
 
 // whether a text is a name
 #[tactic(auto, unfolding(crate::specs::Species::is_name))]
@@ -22,7 +20,7 @@ fn is_name(text: &str) -> bool
     ensures { result ≡ is_name text.now }
 {
     let bytes = text.as_bytes();
-    (1 <= bytes.len() && bytes.len() <= LONGEST_NAME) && are_name_bytes(bytes)
+    (1 <= bytes.len() && bytes.len() <= MAX_LETTERS) && are_name_bytes(bytes)
 }
 
 // whether a species has this name

@@ -15,11 +15,9 @@ use crate::forces::check_forces;
 use crate::refusal::{DeckFault, Refusal};
 use crate::settings::read_settings;
 use crate::species_reader::optional_species;
-use pic_walk::{Address, Limits, WalkStop, check_keys};
+use pic_walk::{Address, Limits, MAX_BYTES, WalkStop, check_keys};
 use std::alloc::Global;
 use toml::Table;
-
-const MOST_BYTES: usize = 1048576;
 
 fn check_deck_keys(alloc: Global, table: &Table) -> Result<(), WalkStop>
     ensures { WalksAs (λ _. table_view table.now) (listed deck_keys [] (table_view table.now))
@@ -66,7 +64,7 @@ fn deck_of(alloc: Global, table: &Table) -> Result<Deck, WalkStop>
 fn size_fault(alloc: Global, size: usize) -> DeckFault
     ensures { IsRefusal (too_long size) result }
 {
-    let limits = Limits::new(0, MOST_BYTES as i64);
+    let limits = Limits::new(0, MAX_BYTES as i64);
     DeckFault::from(Address::new("", "deck").limit_fault(alloc, size as i128, limits))
 }
 
@@ -79,7 +77,7 @@ pub fn read_deck(alloc: Global, bytes: &[u8]) -> Result<Deck, DeckFault>
     ensures walks { ReadsAs (walk bytes.now) result }
     ensures text { (walk bytes.now ≡ Err Text) ↔ IsNoText bytes.now }
 {
-    if bytes.len() > MOST_BYTES {
+    if bytes.len() > MAX_BYTES {
         return Err(size_fault(alloc, bytes.len()));
     }
     let table = read_document(alloc, bytes)?;

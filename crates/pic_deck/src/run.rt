@@ -6,11 +6,10 @@ ghost use Rattle.pic_num.specs.Limits.{most_steps};
 ghost use Rattle.pic_walk.specs.Walk.{WalksAs, table_of, need};
 ghost use Rattle.pic_deck.specs.Keys.{run_keys, run};
 
+use pic_num::MAX_STEPS;
 use pic_walk::{Limits, WalkStop, need_table, need_whole};
 use std::alloc::Global;
 use toml::Table;
-
-const MOST_STEPS: i64 = 1000000;
 
 fn run_table(alloc: Global, table: &Table) -> Result<&Table, WalkStop>
     ensures { WalksAs (λ t. table_view t.now)
@@ -27,7 +26,19 @@ pub fn read_run(alloc: Global, table: &Table) -> Result<(u32, u32), WalkStop>
     ensures every_high { IfOk result (λ r. r.1 ≤ most_steps) }
 {
     let table = run_table(alloc, table)?;
-    let steps = need_whole(alloc, "run", "steps", table, Limits::new(0, MOST_STEPS))?;
-    let every = need_whole(alloc, "run", "every", table, Limits::new(1, MOST_STEPS))?;
+    let steps = need_whole(
+        alloc,
+        "run",
+        "steps",
+        table,
+        Limits::new(0, MAX_STEPS as i64),
+    )?;
+    let every = need_whole(
+        alloc,
+        "run",
+        "every",
+        table,
+        Limits::new(1, MAX_STEPS as i64),
+    )?;
     Ok((steps, every))
 }

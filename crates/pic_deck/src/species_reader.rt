@@ -12,20 +12,18 @@ ghost use Rattle.pic_deck.specs.declared.species.Species.{Species as SpeciesView
 ghost use Rattle.pic_deck.specs.Species.{IsNext, AreFilled, count_in, particles_of, head_of};
 ghost use Rattle.pic_deck.specs.Keys.{species_keys, species_kind, counted, species_in, one_species, species_list};
 
-use crate::fill_reader::{MOST_PARTICLES, read_fill};
+use crate::fill_reader::read_fill;
 use crate::naming::need_name;
 use crate::species::{Fill, Species, SpeciesList};
 use pic_grid::Cells;
-use pic_num::Kind;
+use pic_num::{Kind, MAX_CHARGE, MAX_MASS, MAX_SPECIES, MIN_CHARGE};
 use pic_walk::{
-    Address, Limits, WalkStop, check_within, find_value, need_multiplier, need_number, need_whole,
-    read_elements, read_table,
+    Address, Limits, MAX_COUNT, WalkStop, check_within, find_value, need_multiplier, need_number,
+    need_whole, read_elements, read_table,
 };
 use std::alloc::Global;
 use toml::value::Array;
 use toml::{Table, Value};
-
-const MOST_SPECIES: i64 = 16;
 
 const SPECIES_KEYS: [&str; 9] = [
     "name", "charge", "mass", "kick", "turn", "points", "lattice", "random", "pair",
@@ -37,8 +35,14 @@ fn read_kind(alloc: Global, path: &str, table: &Table) -> Result<Kind, WalkStop>
         result }
     ensures limits { IfOk result (λ k. IsKind k) }
 {
-    let charge = need_number(alloc, path, "charge", table, Limits::new(-32768, 32767))?;
-    let mass = need_whole(alloc, path, "mass", table, Limits::new(1, 65536))?;
+    let charge = need_number(
+        alloc,
+        path,
+        "charge",
+        table,
+        Limits::new(MIN_CHARGE as i64, MAX_CHARGE as i64),
+    )?;
+    let mass = need_whole(alloc, path, "mass", table, Limits::new(1, MAX_MASS as i64))?;
     let kick = need_multiplier(alloc, path, "kick", table)?;
     let turn = need_multiplier(alloc, path, "turn", table)?;
     Ok(Kind {
@@ -77,7 +81,7 @@ fn check_particles(
 {
     let before = particles_of(earlier) as i128;
     let more = count as i128;
-    let limits = Limits::new(0, MOST_PARTICLES);
+    let limits = Limits::new(0, MAX_COUNT);
     check_within(alloc, address, before + more, limits)
 }
 
@@ -180,7 +184,7 @@ fn read_all_species(alloc: Global, value: &Value, cells: Cells) -> Result<Specie
         alloc,
         address,
         items.len() as i128,
-        Limits::new(0, MOST_SPECIES),
+        Limits::new(0, MAX_SPECIES as i64),
     )?;
     let species = read_each_species(alloc, address, items, cells)?;
     Ok(SpeciesList::from_vec(species))

@@ -5,12 +5,11 @@ ghost use Rattle.pic_demo.specs.Demo.{demo_scales, demo_settings, electron, ion,
 
 use pic_deck::{Deck, Fill, InitialFields, Settings, Species, SpeciesList};
 use pic_grid::{Cells, Name};
-use pic_num::{Kind, Mult, NoMemory, Scales, Sub};
+use pic_num::{BITS_1, Kind, Mult, NoMemory, Scales, Sub};
 use std::alloc::Global;
 
-const BITS: u32 = 12;
-
-const PARTICLES_OF_EACH: u32 = 8192;
+/// How many particles each species has.
+const PARTICLES_OF_EACH: u32 = 1 << 13;
 
 fn scales() -> Scales
     ensures { result ≡ demo_scales }
@@ -28,7 +27,7 @@ fn settings() -> Settings
 {
     Settings {
         version: 1,
-        cells: Cells::new([16; 3], Sub::of_bits(BITS)),
+        cells: Cells::new([16; 3], Sub::of_bits(BITS_1)),
         tiles: [4; 3],
         steps: 16,
         every: 4,
@@ -50,7 +49,7 @@ fn at_random(seed: u64) -> Fill
         seed,
         stream: 54,
         drift: [0; 3],
-        spread: [1048576; 3],
+        spread: [1 << 20; 3],
     }
 }
 
@@ -62,7 +61,7 @@ fn at_electrons(seed: u64) -> Fill
         seed,
         stream: 55,
         drift: [0; 3],
-        spread: [16384; 3],
+        spread: [1 << 14; 3],
     }
 }
 

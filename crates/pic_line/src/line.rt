@@ -10,13 +10,13 @@ use clap::ArgMatches;
 use clap::error::ErrorKind;
 use std::alloc::{AllocError, Global};
 
-const FEWEST_WORKERS: u32 = 1;
+const MIN_WORKERS: u32 = 1;
 
-const MOST_WORKERS: u32 = 64;
+const MAX_WORKERS: u32 = 1 << 6;
 
-const LEAST_SEED: u32 = 0;
+const MIN_SEED: u32 = 0;
 
-const GREATEST_SEED: u32 = u32::MAX;
+const MAX_SEED: u32 = u32::MAX;
 
 /// The command of the words after the program's name. `Usage` comes exactly where they are none, but
 /// for want of memory.
@@ -90,18 +90,14 @@ fn demo_of(seed: Option<u32>, workers: Option<u32>) -> Option<Command>
 fn workers_in(found: &ArgMatches<'_>) -> Option<u32>
     ensures { result ≡ workers_in (rows_of (found_of found.now)) }
 {
-    kept(
-        FEWEST_WORKERS,
-        MOST_WORKERS,
-        found.get_one::<u32>("workers"),
-    )
+    kept(MIN_WORKERS, MAX_WORKERS, found.get_one::<u32>("workers"))
 }
 
 // The seed.
 fn seed_in(found: &ArgMatches<'_>) -> Option<u32>
     ensures { result ≡ seed_in (rows_of (found_of found.now)) }
 {
-    kept(LEAST_SEED, GREATEST_SEED, found.get_one::<u32>("SEED"))
+    kept(MIN_SEED, MAX_SEED, found.get_one::<u32>("SEED"))
 }
 
 fn kept(low: u32, high: u32, number: Option<u32>) -> Option<u32>

@@ -16,11 +16,14 @@ use pic_grid::Cells;
 use rand_core::utils::NextWord;
 use rand_pcg::Pcg32;
 
-const WORDS: u64 = 4294967296;
+/// How many words there are.
+const WORDS: u64 = 1 << 32;
 
-const MEAN_OF_TWELVE: i64 = 25769803770;
+/// The mean of the sum of twelve words.
+const MEAN_OF_TWELVE: i64 = 6 * ((1 << 32) - 1);
 
-const HALF: i64 = 4294967296;
+/// Half of what a velocity's unit has, doubled.
+const HALF: i64 = 1 << 32;
 
 fn draw_word(rng: &mut Pcg32) -> u32
     ensures value { result ≡ word 0 rng.old }

@@ -1,5 +1,7 @@
--- The limits of a deck of version 1 beside those of the scheme, this project's profile.
-use Rattle.std.specs.Prelude.{ℕ, ◌^◌, ◌-◌}
+-- The limits of a deck of version 1 beside those of the scheme, this project's profile: of velocities and
+-- ways, as functions of the side and the cells.
+use Rattle.std.specs.Prelude.{ℕ, ◌^◌, ◌-◌, ◌*◌}
+use Rattle.pic_num.specs.Limits.{velocity_unit, side_1, most_cells_of_axis_1}
 
 -- the bytes of a deck
 abbrev pub most_bytes : ℕ
@@ -9,22 +11,22 @@ most_bytes = 1048576
 abbrev pub most_rows : ℕ
 most_rows = 1048576
 
--- the velocity of a particle on an axis, either way
+-- the velocity of a particle on an axis, either way: a cell a step
 abbrev pub fastest : ℕ
-fastest = 16777216
+fastest = velocity_unit * side_1
 
--- the way from one site of a lattice to the next, on an axis
+-- the way from one site of a lattice to the next, on an axis: as many cells as an axis may have
 abbrev pub widest_gap : ℕ
-widest_gap = 262144
+widest_gap = most_cells_of_axis_1 * side_1
 
 -- the seed and the stream of a generator
 abbrev pub most_seed : ℕ
 most_seed = 2 ^ 63 - 1
 
--- the mean velocity of particles drawn at random, on an axis, either way
+-- the mean velocity of particles drawn at random, on an axis, either way: half a cell a step
 abbrev pub fastest_drift : ℕ
-fastest_drift = 8388608
+fastest_drift = 2048 * side_1
 
--- the spread of their velocities on an axis
+-- the spread of their velocities on an axis: a sixteenth of a cell a step
 abbrev pub widest_spread : ℕ
-widest_spread = 1048576
+widest_spread = 256 * side_1

@@ -6,15 +6,12 @@ ghost use Rattle.pic_walk.specs.declared.draw.Draw.{Draw as DrawView};
 ghost use Rattle.pic_walk.specs.Draw.{IsDraw, seed_limits, drift_limits, spread_limits, draw};
 ghost use Rattle.pic_walk.specs.Walk.{WalksAs};
 
+use crate::bounds::{MAX_DRIFT, MAX_SPREAD};
 use crate::fault::WalkStop;
 use crate::limits::Limits;
 use crate::tables::{need_long, need_signed_three, need_three};
 use std::alloc::Global;
 use toml::Table;
-
-const FASTEST_DRIFT: i64 = 8388608;
-
-const WIDEST_SPREAD: i64 = 1048576;
 
 /// How particles are drawn at random: the generator by its seed and its stream, and on each axis
 /// the mean of the velocities and their spread (standard deviation), in 1/4096 sub-cell per step.
@@ -35,13 +32,13 @@ fn seed_limits() -> Limits
 fn drift_limits() -> [Limits; 3]
     ensures { result ≡ drift_limits }
 {
-    [Limits::new(-FASTEST_DRIFT, FASTEST_DRIFT); 3]
+    [Limits::new(-MAX_DRIFT, MAX_DRIFT); 3]
 }
 
 fn spread_limits() -> [Limits; 3]
     ensures { result ≡ spread_limits }
 {
-    [Limits::new(0, WIDEST_SPREAD); 3]
+    [Limits::new(0, MAX_SPREAD); 3]
 }
 
 /// The keys of a draw in the table at a path.

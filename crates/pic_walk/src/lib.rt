@@ -3,6 +3,7 @@
 #![tactic(auto)]
 
 mod address;
+mod bounds;
 mod draw;
 mod extents;
 mod fault;
@@ -19,6 +20,7 @@ mod source;
 mod tables;
 
 pub use address::Address;
+pub use bounds::{MAX_BYTES, MAX_COUNT};
 pub use draw::{Draw, read_draw};
 pub use extents::extent;
 pub use fault::{Fault, WalkStop};

@@ -10,7 +10,7 @@ ghost use Rattle.pic_walk.specs.Walk.{WalksAs, within, limited, whole, text, ele
 use crate::address::Address;
 use crate::fault::WalkStop;
 use crate::limits::Limits;
-use pic_num::Mult;
+use pic_num::{MAX_NUMERATOR, MAX_SHIFT, Mult};
 use std::alloc::Global;
 use toml::Value;
 use toml::value::Array;
@@ -207,8 +207,8 @@ fn multiplier_limits() -> [Limits; 2]
     ensures { result ≡ multiplier_limits }
 {
     [
-        Limits::new(i64::from(-Mult::GREATEST_N), i64::from(Mult::GREATEST_N)),
-        Limits::new(0, i64::from(Mult::GREATEST_K)),
+        Limits::new(i64::from(-MAX_NUMERATOR), i64::from(MAX_NUMERATOR)),
+        Limits::new(0, i64::from(MAX_SHIFT)),
     ]
 }
 

@@ -9,6 +9,7 @@ ghost use Rattle.pic_walk.specs.declared.point6.Point6.{Point6 as PointView};
 ghost use Rattle.pic_walk.specs.Points.{IsPoint, ArePoints, point_limits, point_of, point, point_list};
 
 use crate::address::Address;
+use crate::bounds::MAX_DECK_SPEED;
 use crate::extents::extent;
 use crate::fault::WalkStop;
 use crate::limits::Limits;
@@ -18,14 +19,11 @@ use pic_grid::Cells;
 use std::alloc::Global;
 use toml::Value;
 
-/// The most that a velocity may be in size on an axis, in 1/4096 sub-cell per step.
-pub const FASTEST: i64 = 16777216;
-
 fn point_limits(cells: Cells) -> [Limits; 6]
     ensures { result ≡ point_limits cells }
 {
     let [x, y, z] = extent(cells);
-    let speed = Limits::new(-FASTEST, FASTEST);
+    let speed = Limits::new(-MAX_DECK_SPEED, MAX_DECK_SPEED);
     [
         Limits::below(x),
         Limits::below(y),

@@ -10,6 +10,7 @@ ghost use Rattle.pic_walk.specs.declared.row.Row.{Row as RowView};
 ghost use Rattle.pic_walk.specs.Rows.{IsRow, AreRows, no_row, row_limits, row_of, row, row_list};
 
 use crate::address::Address;
+use crate::bounds::MAX_ROWS;
 use crate::fault::WalkStop;
 use crate::limits::Limits;
 use crate::numbers::{check_within, read_elements, read_numbers};
@@ -18,8 +19,6 @@ use pic_grid::Cells;
 use pic_num::Axis;
 use std::alloc::Global;
 use toml::Value;
-
-const MOST_ROWS: i64 = 1048576;
 
 fn row_limits(cells: Cells) -> [Limits; 5]
     ensures { result ≡ row_limits cells.n }
@@ -115,11 +114,6 @@ pub fn read_rows(
     ensures limits { IfOk result (λ rs. AreRows cells.n rs) }
 {
     let rows = read_each_row(alloc, address, value, cells)?;
-    check_within(
-        alloc,
-        address,
-        rows.len() as i128,
-        Limits::new(0, MOST_ROWS),
-    )?;
+    check_within(alloc, address, rows.len() as i128, Limits::new(0, MAX_ROWS))?;
     Ok(Rows::from_vec(rows))
 }

@@ -9,18 +9,14 @@ ghost use Rattle.pic_walk.specs.Points.{speed_limits};
 ghost use Rattle.pic_walk.specs.Sites.{AreSites, place_limits, gap_limits, count_limits, sites};
 ghost use Rattle.pic_walk.specs.Walk.{WalksAs};
 
+use crate::bounds::{MAX_COUNT, MAX_DECK_SPEED, MAX_GAP};
 use crate::extents::extent;
 use crate::fault::WalkStop;
 use crate::limits::Limits;
-use crate::point_reader::FASTEST;
 use crate::tables::{need_signed_three, need_three};
 use pic_grid::Cells;
 use std::alloc::Global;
 use toml::Table;
-
-const WIDEST_GAP: i64 = 262144;
-
-const MOST_SITES: i64 = 1048576;
 
 /// The sites of a lattice on which particles stand: the first of them and the way from one to the
 /// next on each axis, in sub-cells, how many there are on each axis, and the velocity of all, in
@@ -44,19 +40,19 @@ fn place_limits(cells: Cells) -> [Limits; 3]
 fn gap_limits() -> [Limits; 3]
     ensures { result ≡ gap_limits }
 {
-    [Limits::new(0, WIDEST_GAP); 3]
+    [Limits::new(0, MAX_GAP); 3]
 }
 
 fn count_limits() -> [Limits; 3]
     ensures { result ≡ count_limits }
 {
-    [Limits::new(1, MOST_SITES); 3]
+    [Limits::new(1, MAX_COUNT); 3]
 }
 
 fn velocity_limits() -> [Limits; 3]
     ensures { result ≡ thrice speed_limits }
 {
-    [Limits::new(-FASTEST, FASTEST); 3]
+    [Limits::new(-MAX_DECK_SPEED, MAX_DECK_SPEED); 3]
 }
 
 /// The keys of a lattice of sites in the table at a path; the first site is in the box.

@@ -3,8 +3,8 @@ use Rattle.pic_walk.specs.Bounds.{most_bytes}
 use Rattle.pic_deck.proofs.ReadingLaws.{refuses, walk_long, walk_is, no_text, stops, reads}
 use Rattle.pic_deck.proofs.reading.read_deck.Goals as goal
 
-pub returns-then-bytes-gt-MOST_BYTES-clause-walks : goal.returns-then-bytes-gt-MOST_BYTES-clause-walks
-returns-then-bytes-gt-MOST_BYTES-clause-walks c =
+pub returns-then-bytes-gt-MAX_BYTES-clause-walks : goal.returns-then-bytes-gt-MAX_BYTES-clause-walks
+returns-then-bytes-gt-MAX_BYTES-clause-walks c =
     let large : most_bytes < length c.args.bytes.now = search rules in
     refuses _ _ _ c.size_fault.ensures (walk_long _ large)
 
