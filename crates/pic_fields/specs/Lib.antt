@@ -1,3 +1,4 @@
+pub mod Causes
 pub mod Parser
 pub mod Number
 pub mod Reads

@@ -1,6 +1,8 @@
 -- A format as a parser of bytes: each field in its turn, with a test that may depend on the fields
 -- before it. The fault of some bytes is that of the first field that fails, or that the bytes cut.
 use Rattle.std.specs.Prelude.{ℕ, zero, suc, ◌+◌, Bool, nat_lt, if◌then◌else◌, List, [], ◌∷◌, ◌++◌, length, take, drop, Result, Ok, Err}
+use Rattle.pic_fields.specs.Causes.{number_of}
+use Rattle.pic_fields.specs.declared.cause.Cause.TheVariants.{CutShort, TooMany}
 
 -- where reading stands: how many bytes went before, and the bytes that are left
 pub record Input : Type 0 where
@@ -44,11 +46,11 @@ mapped f p = p >>= (λ a. done (f a))
 
 -- the cause of a field that the end of the bytes cuts; its place is that end
 abbrev pub cut_short : ℕ
-cut_short = 9
+cut_short = number_of CutShort
 
 -- the cause of a byte behind the last field
 abbrev pub too_many : ℕ
-too_many = 10
+too_many = number_of TooMany
 
 -- n bytes
 unfoldable pub field : ℕ → Parser (List ℕ)

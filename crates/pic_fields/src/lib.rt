@@ -2,12 +2,16 @@
 //! fault and its place.
 #![tactic(auto)]
 
+mod ahead;
+mod cause;
 mod numbers;
-mod piece;
 mod read_stop;
 mod taking;
 
-pub use numbers::{read_byte, read_exactly, read_i32, read_i128, read_u32, read_u128, read_within};
-pub use piece::Piece;
+pub use ahead::Ahead;
+pub use cause::Cause;
+pub use numbers::{
+    is_from_to, read_byte, read_exactly, read_i32, read_i128, read_u32, read_u128, read_within,
+};
 pub use read_stop::ReadStop;
 pub use taking::{fill, read_end, take_field};

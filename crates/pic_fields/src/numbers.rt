@@ -1,10 +1,12 @@
 //! Fields that are numbers.
 
 ghost use Rattle.std.specs.Prelude.{◌≡◌, ◌+◌, ◌<◌, ◌≤◌, ◌^◌, nat_eq, length, IfOk};
+ghost use Rattle.pic_fields.specs.Causes.{number_of};
 ghost use Rattle.pic_fields.specs.Parser.{checked};
 ghost use Rattle.pic_fields.specs.Number.{byte_at, u32_at, i32_at, u128_at, i128_at, is_from_to, within, exactly};
 ghost use Rattle.pic_fields.specs.Reads.{Reads, always, as_it_is};
 
+use crate::cause::Cause;
 use crate::read_stop::ReadStop;
 use crate::taking::take_field;
 use pic_io::Source;
@@ -68,24 +70,25 @@ pub fn read_i128<S: Source>(source: &mut S, place: u64) -> Result<i128, ReadStop
 pub fn read_within<S: Source>(
     source: &mut S,
     place: u64,
-    cause: u8,
+    cause: Cause,
     low: u32,
     high: u32,
 ) -> Result<u32, ReadStop>
     requires { place + 4 < 2 ^ 63 }
-    ensures reads { Reads as_it_is (within cause low high) place (place + 4)
+    ensures reads { Reads as_it_is (within (number_of cause) low high) place (place + 4)
         (S.told source.old) (S.told source.new) result }
     ensures low { IfOk result (λ n. low ≤ n) }
     ensures high { IfOk result (λ n. n ≤ high) }
 {
     let n = read_u32(source, place)?;
     if !is_from_to(low, high, n) {
-        return Err(ReadStop::BadDump { place, cause });
+        return Err(cause.at(place));
     }
     Ok(n)
 }
 
-fn is_from_to(low: u32, high: u32, n: u32) -> bool
+/// Whether a number is one of those from `low` to `high`.
+pub fn is_from_to(low: u32, high: u32, n: u32) -> bool
     ensures { result ≡ is_from_to low high n }
 {
     low <= n && n <= high
@@ -95,11 +98,11 @@ fn is_from_to(low: u32, high: u32, n: u32) -> bool
 pub fn read_exactly<S: Source>(
     source: &mut S,
     place: u64,
-    cause: u8,
+    cause: Cause,
     text: &[u8],
 ) -> Result<(), ReadStop>
     requires { place + length text.now < 2 ^ 63 }
-    ensures { Reads (always text.now) (exactly cause text.now) place (place + length text.now)
+    ensures { Reads (always text.now) (exactly (number_of cause) text.now) place (place + length text.now)
         (S.told source.old) (S.told source.new) result }
 {
     for index in 0..text.len() {
@@ -109,15 +112,20 @@ pub fn read_exactly<S: Source>(
 }
 
 // Reads one byte of a text.
-fn read_letter<S: Source>(source: &mut S, place: u64, cause: u8, letter: u8) -> Result<u8, ReadStop>
+fn read_letter<S: Source>(
+    source: &mut S,
+    place: u64,
+    cause: Cause,
+    letter: u8,
+) -> Result<u8, ReadStop>
     requires { place + 1 < 2 ^ 63 }
-    ensures reads { Reads as_it_is (checked cause (nat_eq letter) byte_at) place (place + 1)
+    ensures reads { Reads as_it_is (checked (number_of cause) (nat_eq letter) byte_at) place (place + 1)
         (S.told source.old) (S.told source.new) result }
     ensures same { IfOk result (λ n. n ≡ letter) }
 {
     let byte = read_byte(source, place)?;
     if !is_same(letter, byte) {
-        return Err(ReadStop::BadDump { place, cause });
+        return Err(cause.at(place));
     }
     Ok(byte)
 }

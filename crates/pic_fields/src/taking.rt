@@ -5,14 +5,9 @@ ghost use Rattle.pic_fields.specs.Parser.{field, finished};
 ghost use Rattle.pic_fields.specs.Reads.{Reads, ReadsEnd, always, as_it_is};
 ghost use Rattle.pic_fields.specs.Fills.{Fills};
 
+use crate::cause::Cause;
 use crate::read_stop::ReadStop;
 use pic_io::{Failed, Source};
-
-/// The cause of a field that the end of the input cuts.
-const CUT_SHORT: u8 = 9;
-
-/// The cause of a byte behind the last field.
-const TOO_MANY: u8 = 10;
 
 /// Fills the room from its front, and returns how many bytes came: fewer only at the end of the
 /// input. No more are taken.
@@ -43,10 +38,7 @@ pub fn take_field<S: Source>(source: &mut S, place: u64, room: &mut [u8]) -> Res
 {
     let count = fill(source, room)?;
     if count < room.len() {
-        return Err(ReadStop::BadDump {
-            place: place + count as u64,
-            cause: CUT_SHORT,
-        });
+        return Err(Cause::CutShort.at(place + count as u64));
     }
     Ok(())
 }
@@ -60,8 +52,5 @@ pub fn read_end<S: Source>(source: &mut S, place: u64) -> Result<(), ReadStop>
     if fill(source, &mut room)? == 0 {
         return Ok(());
     }
-    Err(ReadStop::BadDump {
-        place,
-        cause: TOO_MANY,
-    })
+    Err(Cause::TooMany.at(place))
 }

@@ -1,33 +1,36 @@
 -- The causes of a dump's faults, and the fields that its records share: this project's profile.
 use Rattle.std.specs.Prelude.{ℤ, ℕ, ◌&&◌, Bool, nat_lt, nat_eq, int_le}
+use Rattle.pic_fields.specs.Causes.{number_of}
+use Rattle.pic_fields.specs.declared.cause.Cause.TheVariants.{WrongLetter, OutOfLimits, WrongTag, WrongStep, StrongValue}
+use Rattle.pic_fields.specs.declared.cause.Cause.TheVariants.{OutOfRange, WrongEnergy, WrongEnd}
 use Rattle.pic_fields.specs.Parser.{Parser, checked}
 use Rattle.pic_fields.specs.Number.{u32_at, i32_at}
 
 -- the causes, but for those of any format: 9, that the end of the input cuts a field, and 10, a byte
 -- behind the end record
 abbrev pub wrong_letter : ℕ
-wrong_letter = 1
+wrong_letter = number_of WrongLetter
 
 abbrev pub out_of_limits : ℕ
-out_of_limits = 2
+out_of_limits = number_of OutOfLimits
 
 abbrev pub wrong_tag : ℕ
-wrong_tag = 3
+wrong_tag = number_of WrongTag
 
 abbrev pub wrong_step : ℕ
-wrong_step = 4
+wrong_step = number_of WrongStep
 
 abbrev pub strong_value : ℕ
-strong_value = 5
+strong_value = number_of StrongValue
 
 abbrev pub out_of_range : ℕ
-out_of_range = 6
+out_of_range = number_of OutOfRange
 
 abbrev pub wrong_energy : ℕ
-wrong_energy = 7
+wrong_energy = number_of WrongEnergy
 
 abbrev pub wrong_end : ℕ
-wrong_end = 8
+wrong_end = number_of WrongEnd
 
 -- a number below another
 abbrev pub is_below : ℕ → ℕ → Bool

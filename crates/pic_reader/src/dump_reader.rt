@@ -21,15 +21,12 @@ use crate::head_stop::HeadStop;
 use crate::layout::Layout;
 use pic_dump::Header;
 use pic_energy::Energies;
-use pic_fields::{ReadStop, read_byte};
+use pic_fields::{Cause, ReadStop, read_byte};
 use pic_grid::{Cells, EndMark, Snapshot};
 use pic_io::Source;
 use pic_num::Kind;
 use std::alloc::Global;
 use std::marker::Model;
-
-/// The cause of a record that begins neither as a frame that is due nor as an end record.
-const WRONG_TAG: u8 = 3;
 
 /// The mark of a frame.
 const FRAME: u8 = b'F';
@@ -201,10 +198,7 @@ fn read_tag<S: Source>(
 {
     let tag = read_byte(source, place)?;
     if !is_tag(due, last, tag) {
-        return Err(ReadStop::BadDump {
-            place,
-            cause: WRONG_TAG,
-        });
+        return Err(Cause::WrongTag.at(place));
     }
     Ok(tag)
 }

@@ -9,21 +9,12 @@ ghost use Rattle.pic_dump.specs.Limits.{most_steps, longest_end};
 ghost use Rattle.pic_reader.specs.EndFields.{code_at, below_at, is_phase, phase_of, bound_of, what_of, phase_at, bound_at, what_at, axis_at, cell_at, bound_limit, what_limit, is_past, past_at, field_stop_at, push_stop_at, is_kind, first_after, done_at, field_end_at, push_end_at, end_at};
 ghost use Rattle.pic_reader.specs.Records.{RecordView, AnEnd, last_record};
 
-use crate::field_reader::{MOST_FORCE, MOST_VALUE};
-use crate::frame_reader::{WRONG_STEP, read_below, read_step};
+use crate::frame_reader::{read_below, read_step};
 use crate::layout::Layout;
-use pic_fields::{ReadStop, read_byte, read_end, read_i128, read_within};
+use pic_fields::{Cause, ReadStop, is_from_to, read_byte, read_end, read_i128, read_within};
 use pic_grid::{Bound, Cells, EndMark, Phase, Stop};
 use pic_io::Source;
-use pic_num::{Axis, What};
-
-/// The cause of a field of the end record outside its values.
-const WRONG_END: u8 = 8;
-
-/// The greatest size of a velocity, and of a turn, that a push doesn't stop at.
-const MOST_SPEED: u128 = 1 << 40;
-
-const MOST_TURN: u128 = 1 << 24;
+use pic_num::{Axis, MAX_FORCE, MAX_SPEED, MAX_TURN, MAX_VALUE, What};
 
 // Reads a byte from `low` to `high`.
 fn read_code<S: Source>(source: &mut S, place: u64, low: u8, high: u8) -> Result<u8, ReadStop>
@@ -34,19 +25,10 @@ fn read_code<S: Source>(source: &mut S, place: u64, low: u8, high: u8) -> Result
     ensures high { IfOk result (λ n. n ≤ high) }
 {
     let n = read_byte(source, place)?;
-    if !is_from_to(low, high, n) {
-        return Err(ReadStop::BadDump {
-            place,
-            cause: WRONG_END,
-        });
+    if !is_from_to(low as u32, high as u32, n as u32) {
+        return Err(Cause::WrongEnd.at(place));
     }
     Ok(n)
-}
-
-fn is_from_to(low: u8, high: u8, n: u8) -> bool
-    ensures { result ≡ is_from_to low high n }
-{
-    low <= n && n <= high
 }
 
 fn read_phase<S: Source>(source: &mut S, place: u64) -> Result<Phase, ReadStop>
@@ -56,10 +38,7 @@ fn read_phase<S: Source>(source: &mut S, place: u64) -> Result<Phase, ReadStop>
 {
     let n = read_byte(source, place)?;
     if !is_phase(n) {
-        return Err(ReadStop::BadDump {
-            place,
-            cause: WRONG_END,
-        });
+        return Err(Cause::WrongEnd.at(place));
     }
     Ok(phase_of(n))
 }
@@ -145,9 +124,9 @@ fn read_cell<S: Source>(source: &mut S, place: u64, cells: Cells) -> Result<[u32
     let y_place = place + 4;
     let z_place = y_place + 4;
     let [nx, ny, nz] = cells.numbers();
-    let x = read_below(source, place, WRONG_END, nx)?;
-    let y = read_below(source, y_place, WRONG_END, ny)?;
-    let z = read_below(source, z_place, WRONG_END, nz)?;
+    let x = read_below(source, place, Cause::WrongEnd, nx)?;
+    let y = read_below(source, y_place, Cause::WrongEnd, ny)?;
+    let z = read_below(source, z_place, Cause::WrongEnd, nz)?;
     Ok([x, y, z])
 }
 
@@ -159,10 +138,7 @@ fn read_past<S: Source>(source: &mut S, place: u64, limit: u128) -> Result<i128,
 {
     let value = read_i128(source, place)?;
     if !is_past(limit, value) {
-        return Err(ReadStop::BadDump {
-            place,
-            cause: WRONG_END,
-        });
+        return Err(Cause::WrongEnd.at(place));
     }
     Ok(value)
 }
@@ -177,8 +153,8 @@ fn bound_limit(bound: Bound) -> u128
     ensures { result ≡ bound_limit bound }
 {
     match bound {
-        Bound::Value => MOST_VALUE,
-        Bound::Force => MOST_FORCE,
+        Bound::Value => MAX_VALUE,
+        Bound::Force => MAX_FORCE,
     }
 }
 
@@ -186,8 +162,8 @@ fn what_limit(side: u32, what: What) -> u128
     ensures { result ≡ what_limit side what }
 {
     match what {
-        What::Speed => MOST_SPEED,
-        What::Turn => MOST_TURN,
+        What::Speed => MAX_SPEED,
+        What::Turn => MAX_TURN,
         What::Far => u128::from(side),
     }
 }
@@ -225,7 +201,7 @@ fn read_push_stop<S: Source>(source: &mut S, place: u64, layout: &Layout) -> Res
     let what_place = place + 4;
     let axis_place = what_place + 1;
     let value_place = axis_place + 1;
-    let id = read_below(source, place, WRONG_END, layout.particles())?;
+    let id = read_below(source, place, Cause::WrongEnd, layout.particles())?;
     let what = read_what(source, what_place)?;
     let axis = read_axis(source, axis_place)?;
     let value = read_past(source, value_place, what_limit(layout.side(), what))?;
@@ -263,7 +239,7 @@ fn read_field_end<S: Source>(
 {
     let stop_place = place + 4;
     let end_place = stop_place + 31;
-    let step = read_within(source, place, WRONG_STEP, low, high)?;
+    let step = read_within(source, place, Cause::WrongStep, low, high)?;
     let stop = read_field_stop(source, stop_place, layout)?;
     read_end(source, end_place)?;
     Ok(EndMark::Stopped { step, stop })
@@ -283,7 +259,7 @@ fn read_push_end<S: Source>(
 {
     let stop_place = place + 4;
     let end_place = stop_place + 22;
-    let step = read_within(source, place, WRONG_STEP, low, high)?;
+    let step = read_within(source, place, Cause::WrongStep, low, high)?;
     let stop = read_push_stop(source, stop_place, layout)?;
     read_end(source, end_place)?;
     Ok(EndMark::Stopped { step, stop })
@@ -297,10 +273,7 @@ fn read_kind<S: Source>(source: &mut S, place: u64, due: Option<u32>) -> Result<
 {
     let kind = read_byte(source, place)?;
     if !is_kind(due, kind) {
-        return Err(ReadStop::BadDump {
-            place,
-            cause: WRONG_END,
-        });
+        return Err(Cause::WrongEnd.at(place));
     }
     Ok(kind)
 }

@@ -11,21 +11,13 @@ ghost use Rattle.pic_reader.specs.FrameFields.{is_moderate, IsModerate, value_at
 ghost use Rattle.pic_reader.specs.Firsts.{FirstAre};
 ghost use Rattle.pic_reader.specs.Parts.{ReadsPart};
 
-use pic_fields::{Piece, ReadStop, fill, read_i128};
+use pic_fields::{Ahead, Cause, ReadStop, fill, read_i128};
 use pic_grid::Lattice;
 use pic_io::Source;
-use pic_num::{Mult, scale};
-
-/// The cause of a field value, or its force value, that is too large.
-const STRONG_VALUE: u8 = 5;
-
-/// The greatest size of a field value, 2^90, and of a force value, 2^44.
-pub const MOST_VALUE: u128 = 1 << 90;
-
-pub const MOST_FORCE: u128 = 1 << 44;
+use pic_num::{MAX_FORCE, MAX_VALUE, Mult, scale};
 
 /// How many values a piece of 65536 bytes has.
-const VALUES_OF_A_PIECE: usize = 4096;
+const VALUES_OF_A_PIECE: usize = 1 << 12;
 
 // Reads a field value.
 fn read_value<S: Source>(source: &mut S, place: u64, by: Mult) -> Result<i128, ReadStop>
@@ -36,10 +28,7 @@ fn read_value<S: Source>(source: &mut S, place: u64, by: Mult) -> Result<i128, R
 {
     let value = read_i128(source, place)?;
     if !is_moderate(by, value) {
-        return Err(ReadStop::BadDump {
-            place,
-            cause: STRONG_VALUE,
-        });
+        return Err(Cause::StrongValue.at(place));
     }
     Ok(value)
 }
@@ -47,7 +36,7 @@ fn read_value<S: Source>(source: &mut S, place: u64, by: Mult) -> Result<i128, R
 fn is_moderate(by: Mult, value: i128) -> bool
     ensures { result ≡ is_moderate by value }
 {
-    value.unsigned_abs() <= MOST_VALUE && scale(value, by).unsigned_abs() <= MOST_FORCE
+    value.unsigned_abs() <= MAX_VALUE && scale(value, by).unsigned_abs() <= MAX_FORCE
 }
 
 // Reads so many values of a field, behind the first ones.
@@ -96,7 +85,7 @@ fn read_piece_of_values<S: Source>(
     ensures moderate { OnOk result (FirstAre (IsModerate by) (first + count) field.new.values) }
 {
     let taken = fill(source, room)?;
-    let mut piece = Piece::new(&room[..taken]);
+    let mut piece = Ahead::new(&room[..taken]);
     read_values(&mut piece, place, by, field, first, count)
 }
 

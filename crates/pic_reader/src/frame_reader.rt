@@ -5,6 +5,7 @@ ghost use Rattle.pic_num.specs.Limits.{most_side, most_cells_of_axis};
 ghost use Rattle.pic_num.specs.Velocity.{too_fast};
 ghost use Rattle.pic_num.specs.Space.{triple};
 ghost use Rattle.pic_grid.specs.Hat.{IsInBox};
+ghost use Rattle.pic_fields.specs.Causes.{number_of};
 ghost use Rattle.pic_fields.specs.Reads.{Reads, always, as_it_is};
 ghost use Rattle.pic_energy.specs.Energies.{IsOfKinds};
 ghost use Rattle.pic_reader.specs.Fields.{is_below, below, the_step};
@@ -15,41 +16,29 @@ use crate::field_reader::read_field;
 use crate::head_reader::read_between;
 use crate::layout::{Layout, species_at};
 use pic_energy::{Energies, energies};
-use pic_fields::{Piece, ReadStop, fill, read_u32, read_u128};
+use pic_fields::{Ahead, Cause, ReadStop, fill, read_u32, read_u128};
 use pic_grid::{Cells, Snapshot};
 use pic_io::Source;
-use pic_num::Particle;
-
-/// The cause of a step that isn't the one that is due, or may not stand there.
-pub const WRONG_STEP: u8 = 4;
-
-/// The cause of a position outside the box, or a velocity outside its range.
-const OUT_OF_RANGE: u8 = 6;
-
-/// The cause of an energy that isn't that of the frame.
-const WRONG_ENERGY: u8 = 7;
+use pic_num::{Particle, VELOCITY_UNIT};
 
 /// How many particles a piece of 65536 bytes has at most.
 const PARTICLES_OF_A_PIECE: u32 = 2730;
-
-/// How many of its units a velocity of a sub-cell a step has.
-const VELOCITY_UNIT: i32 = 4096;
 
 // Reads a number below another; a fault is of this cause.
 pub(crate) fn read_below<S: Source>(
     source: &mut S,
     place: u64,
-    cause: u8,
+    cause: Cause,
     limit: u32,
 ) -> Result<u32, ReadStop>
     requires { place + 4 < 2 ^ 63 }
-    ensures reads { Reads as_it_is (below cause limit) place (place + 4) (S.told source.old)
+    ensures reads { Reads as_it_is (below (number_of cause) limit) place (place + 4) (S.told source.old)
         (S.told source.new) result }
     ensures below { IfOk result (λ n. n < limit) }
 {
     let n = read_u32(source, place)?;
     if !is_below(limit, n) {
-        return Err(ReadStop::BadDump { place, cause });
+        return Err(cause.at(place));
     }
     Ok(n)
 }
@@ -74,7 +63,7 @@ fn read_coordinate<S: Source>(
         (S.told source.new) result }
     ensures below { IfOk result (λ x. x < cells * side) }
 {
-    read_below(source, place, OUT_OF_RANGE, cells * side)
+    read_below(source, place, Cause::OutOfRange, cells * side)
 }
 
 fn read_position<S: Source>(source: &mut S, place: u64, cells: Cells) -> Result<[u32; 3], ReadStop>
@@ -102,7 +91,7 @@ fn read_speed<S: Source>(source: &mut S, place: u64, side: u32) -> Result<i32, R
 {
     let low = slowest(side);
     let high = fastest(side);
-    read_between(source, place, OUT_OF_RANGE, low, high)
+    read_between(source, place, Cause::OutOfRange, low, high)
 }
 
 // The least speed that leads further than a cell of this side.
@@ -111,7 +100,7 @@ fn too_fast(side: u32) -> i32
     ensures value { result ≡ pos (too_fast side) }
     ensures most { too_fast side < 2 ^ 30 }
 {
-    VELOCITY_UNIT * side as i32 + VELOCITY_UNIT / 2
+    (VELOCITY_UNIT * side + VELOCITY_UNIT / 2) as i32
 }
 
 // The least and the greatest velocity that a push with cells of this side keeps.
@@ -211,7 +200,7 @@ fn read_piece_of_particles<S: Source>(
     ensures held { OnOk result (FirstAreHeld layout.now (first + count) particles.new) }
 {
     let taken = fill(source, room)?;
-    let mut piece = Piece::new(&room[..taken]);
+    let mut piece = Ahead::new(&room[..taken]);
     read_some_particles(&mut piece, place, layout, particles, first, count)
 }
 
@@ -259,10 +248,7 @@ fn read_energy<S: Source>(source: &mut S, place: u64, want: u128) -> Result<u128
 {
     let energy = read_u128(source, place)?;
     if !is_same(want, energy) {
-        return Err(ReadStop::BadDump {
-            place,
-            cause: WRONG_ENERGY,
-        });
+        return Err(Cause::WrongEnergy.at(place));
     }
     Ok(energy)
 }
@@ -306,7 +292,7 @@ fn read_piece_of_energies<S: Source>(
 {
     let mut room = [0u8; 48];
     let taken = fill(source, &mut room)?;
-    let mut piece = Piece::new(&room[..taken]);
+    let mut piece = Ahead::new(&room[..taken]);
     read_energies(&mut piece, place, want)
 }
 
@@ -318,10 +304,7 @@ pub(crate) fn read_step<S: Source>(source: &mut S, place: u64, want: u32) -> Res
 {
     let step = read_u32(source, place)?;
     if !is_same_step(want, step) {
-        return Err(ReadStop::BadDump {
-            place,
-            cause: WRONG_STEP,
-        });
+        return Err(Cause::WrongStep.at(place));
     }
     Ok(step)
 }

@@ -4,6 +4,7 @@ ghost use Rattle.std.specs.Prelude.{◌≡◌, ℤ, pos, negsuc, ◌+◌, ◌-�
 ghost use Rattle.pic_num.specs.Limits.{most_species, most_particles_1};
 ghost use Rattle.pic_num.specs.Space.{triple};
 ghost use Rattle.pic_grid.specs.Species.{HeadView, IsName, IsKind, AreHeads};
+ghost use Rattle.pic_fields.specs.Causes.{number_of};
 ghost use Rattle.pic_fields.specs.Parser.{each};
 ghost use Rattle.pic_fields.specs.Reads.{Reads, as_it_is};
 ghost use Rattle.pic_dump.specs.Header.{IsGrid_1, HasLimits};
@@ -13,44 +14,22 @@ ghost use Rattle.pic_reader.specs.HeaderFields.{IsNewHead, cells_at, mult_at, sc
 ghost use Rattle.pic_reader.specs.HeadReads.{HeadReads, TakesWithin};
 
 use crate::head_stop::HeadStop;
-use crate::name_reader::{OUT_OF_LIMITS, read_name};
+use crate::name_reader::read_name;
 use pic_dump::{Head, Header, Heads};
-use pic_fields::{ReadStop, read_exactly, read_i32, read_within};
+use pic_fields::{Cause, ReadStop, read_exactly, read_i32, read_within};
 use pic_grid::{Cells, Name};
 use pic_io::Source;
-use pic_num::{Kind, Mult, NoMemory, Scales, Sub};
+use pic_num::{
+    BITS_1, Kind, MAX_CELLS_1, MAX_CHARGE, MAX_MASS, MAX_NUMERATOR, MAX_PARTICLES_1, MAX_SHIFT,
+    MAX_SPECIES, MAX_STEPS, MIN_CELLS, MIN_CHARGE, Mult, NoMemory, Scales, Sub,
+};
 use std::alloc::Global;
-
-/// The cause of a wrong byte in the mark of a dump.
-const WRONG_LETTER: u8 = 1;
 
 /// The bytes before the species.
 pub const FRONT_BYTES: u64 = 64;
 
 /// The bytes of a species.
 pub const HEAD_BYTES: u64 = 60;
-
-/// The most steps of a run.
-const MOST_STEPS: u32 = 1000000;
-
-/// The most cells of an axis, and the power of two of their side.
-const MOST_CELLS: u32 = 64;
-
-const BITS: u32 = 12;
-
-/// The most species.
-const MOST_SPECIES: u32 = 16;
-
-/// The most particles of all species.
-const MOST_PARTICLES: u32 = 1048576;
-
-/// The least and the greatest charge.
-const LEAST_CHARGE: i32 = -32768;
-
-const MOST_CHARGE: i32 = 32767;
-
-/// The greatest mass.
-const MOST_MASS: u32 = 65536;
 
 fn read_cells<S: Source>(source: &mut S, place: u64) -> Result<Cells, ReadStop>
     requires { place + 12 < 2 ^ 63 }
@@ -60,29 +39,29 @@ fn read_cells<S: Source>(source: &mut S, place: u64) -> Result<Cells, ReadStop>
 {
     let y_place = place + 4;
     let z_place = y_place + 4;
-    let x = read_within(source, place, OUT_OF_LIMITS, Cells::FEWEST, MOST_CELLS)?;
-    let y = read_within(source, y_place, OUT_OF_LIMITS, Cells::FEWEST, MOST_CELLS)?;
-    let z = read_within(source, z_place, OUT_OF_LIMITS, Cells::FEWEST, MOST_CELLS)?;
-    Ok(Cells::new([x, y, z], Sub::of_bits(BITS)))
+    let x = read_within(source, place, Cause::OutOfLimits, MIN_CELLS, MAX_CELLS_1)?;
+    let y = read_within(source, y_place, Cause::OutOfLimits, MIN_CELLS, MAX_CELLS_1)?;
+    let z = read_within(source, z_place, Cause::OutOfLimits, MIN_CELLS, MAX_CELLS_1)?;
+    Ok(Cells::new([x, y, z], Sub::of_bits(BITS_1)))
 }
 
 // Reads a signed number from `low` to `high`; another is a fault of this cause.
 pub(crate) fn read_between<S: Source>(
     source: &mut S,
     place: u64,
-    cause: u8,
+    cause: Cause,
     low: i32,
     high: i32,
 ) -> Result<i32, ReadStop>
     requires { place + 4 < 2 ^ 63 }
-    ensures reads { Reads as_it_is (between cause low high) place (place + 4) (S.told source.old)
+    ensures reads { Reads as_it_is (between (number_of cause) low high) place (place + 4) (S.told source.old)
         (S.told source.new) result }
     ensures low { IfOk result (λ n. low ≤ℤ n) }
     ensures high { IfOk result (λ n. n ≤ℤ high) }
 {
     let n = read_i32(source, place)?;
     if !is_between(low, high, n) {
-        return Err(ReadStop::BadDump { place, cause });
+        return Err(cause.at(place));
     }
     Ok(n)
 }
@@ -101,11 +80,11 @@ fn read_mult<S: Source>(source: &mut S, place: u64) -> Result<Mult, ReadStop>
     let n = read_between(
         source,
         place,
-        OUT_OF_LIMITS,
-        -Mult::GREATEST_N,
-        Mult::GREATEST_N,
+        Cause::OutOfLimits,
+        -MAX_NUMERATOR,
+        MAX_NUMERATOR,
     )?;
-    let k = read_within(source, place + 4, OUT_OF_LIMITS, 0, Mult::GREATEST_K)?;
+    let k = read_within(source, place + 4, Cause::OutOfLimits, 0, MAX_SHIFT)?;
     Ok(Mult::new(n, k))
 }
 
@@ -138,8 +117,8 @@ fn read_kind<S: Source>(source: &mut S, place: u64) -> Result<Kind, ReadStop>
     let mass_place = place + 4;
     let kick_place = mass_place + 4;
     let turn_place = kick_place + 8;
-    let charge = read_between(source, place, OUT_OF_LIMITS, LEAST_CHARGE, MOST_CHARGE)?;
-    let mass = read_within(source, mass_place, OUT_OF_LIMITS, 1, MOST_MASS)?;
+    let charge = read_between(source, place, Cause::OutOfLimits, MIN_CHARGE, MAX_CHARGE)?;
+    let mass = read_within(source, mass_place, Cause::OutOfLimits, 1, MAX_MASS)?;
     let kick = read_mult(source, kick_place)?;
     let turn = read_mult(source, turn_place)?;
     Ok(Kind {
@@ -174,9 +153,9 @@ fn read_head<S: Source>(
     let count = read_within(
         source,
         count_place,
-        OUT_OF_LIMITS,
+        Cause::OutOfLimits,
         0,
-        MOST_PARTICLES - particles,
+        MAX_PARTICLES_1 - particles,
     )?;
     let head = make_head(alloc, name.bytes(), kind, count)?;
     Ok(head)
@@ -225,7 +204,7 @@ fn read_heads<S: Source>(alloc: Global, source: &mut S, place: u64) -> Result<Ve
     ensures heads { IfOk result (λ hs. AreHeads hs.items) }
 {
     let heads_place = place + 4;
-    let count = read_within(source, place, OUT_OF_LIMITS, 0, MOST_SPECIES)?;
+    let count = read_within(source, place, Cause::OutOfLimits, 0, MAX_SPECIES)?;
     read_each_head(alloc, source, heads_place, count)
 }
 
@@ -236,10 +215,10 @@ pub fn read_header<S: Source>(alloc: Global, source: &mut S) -> Result<Header, H
     ensures within { TakesWithin header_at 0 (S.told source.old) (S.told source.new) }
     ensures few { IfOk result (λ h. length h.species ≤ most_species) }
 {
-    read_exactly(source, 0, WRONG_LETTER, b"PICDUMP1")?;
+    read_exactly(source, 0, Cause::WrongLetter, b"PICDUMP1")?;
     let cells = read_cells(source, 8)?;
-    let steps = read_within(source, 20, OUT_OF_LIMITS, 0, MOST_STEPS)?;
-    let every = read_within(source, 24, OUT_OF_LIMITS, 1, MOST_STEPS)?;
+    let steps = read_within(source, 20, Cause::OutOfLimits, 0, MAX_STEPS)?;
+    let every = read_within(source, 24, Cause::OutOfLimits, 1, MAX_STEPS)?;
     let scales = read_scales(source, 28)?;
     let heads = read_heads(alloc, source, 60)?;
     Ok(Header::new(cells, steps, every, scales, Heads::from_vec(heads)))

@@ -7,15 +7,9 @@ ghost use Rattle.pic_fields.specs.Reads.{Reads, as_it_is};
 ghost use Rattle.pic_reader.specs.HeaderFields.{name_of, is_name_field, is_new_name_field, name_at};
 
 use pic_dump::Head;
-use pic_fields::{ReadStop, take_field};
+use pic_fields::{Cause, ReadStop, take_field};
 use pic_io::Source;
-use pic_num::{Text, are_name_bytes};
-
-/// The cause of a number or a name of the header outside its limits.
-pub const OUT_OF_LIMITS: u8 = 2;
-
-/// The bytes of a name with the zeros behind it.
-pub const NAME_BYTES: usize = 32;
+use pic_num::{MAX_LETTERS, Text, are_name_bytes};
 
 /// Reads the name of a species, which none of these species has.
 #[tactic(auto, unfolding(crate::specs::HeaderFields::name_at))]
@@ -23,7 +17,7 @@ pub fn read_name<S: Source>(
     source: &mut S,
     place: u64,
     earlier: &[Head],
-) -> Result<Text<NAME_BYTES>, ReadStop>
+) -> Result<Text<MAX_LETTERS>, ReadStop>
     requires { place + 32 < 2 ^ 63 }
     ensures reads { Reads as_it_is (name_at earlier.now) place (place + 32) (S.told source.old)
         (S.told source.new) result }
@@ -31,13 +25,10 @@ pub fn read_name<S: Source>(
         × IsTrue (is_new_name_field earlier.now bytes) × (length bytes ≡ 32)
         × (name ≡ name_of bytes)) }
 {
-    let mut room = [0u8; NAME_BYTES];
+    let mut room = [0u8; MAX_LETTERS];
     take_field(source, place, &mut room)?;
     if !is_new_name_field(earlier, &room) {
-        return Err(ReadStop::BadDump {
-            place,
-            cause: OUT_OF_LIMITS,
-        });
+        return Err(Cause::OutOfLimits.at(place));
     }
     let mut name = Text::new();
     name.push(name_of(&room));

@@ -11,11 +11,11 @@ returns-then-branch-eq0 g c = record {
 }
 
 pub returns : goal.returns
-returns g c = record {
+returns g c = rw c.at.ensures (record {
   reads = record {
     answer = record {
       why = more_here _ _ c.fill.new.room _ c.in_ok-fill.field-0 c.fill.ensures.length c.in_ok-fill.ensures.fills c.if-branch-eq0.false;
       moves = filled_moves _ _ c.fill.new.room 1 _ c.in_ok-fill.field-0 c.fill.ensures.length c.in_ok-fill.ensures.fills;
     };
   };
-}
+})

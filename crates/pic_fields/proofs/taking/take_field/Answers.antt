@@ -4,13 +4,13 @@ use Rattle.pic_fields.proofs.taking.take_field.Goals as goal
 
 pub returns-then-count-room-clause-reads : goal.returns-then-count-room-clause-reads
 returns-then-count-room-clause-reads g c =
-    record {
+    rw c.at.ensures (record {
       answer = record {
         why = fails_field _ _ c.fill.new.room _ _ c.in_ok-count.count c.fill.ensures.length c.in_ok-count.ensures.fills
             (omega (arith, c.if-count-room.true, c.fill.ensures.length));
         moves = filled_moves _ _ c.fill.new.room _ _ c.in_ok-count.count c.fill.ensures.length c.in_ok-count.ensures.fills;
       };
-    }
+    })
 
 pub returns-clause-reads : goal.returns-clause-reads
 returns-clause-reads g c = record {

@@ -9,7 +9,7 @@ returns-in_err-kind g c = exits_checked _ _ c.from_residual.ensures.1 c.in_err-k
 
 pub returns-then-not-is_kind : goal.returns-then-not-is_kind
 unfolding code_at
-returns-then-not-is_kind g c = record { answer = refuses _ _ c.in_ok-kind.ensures.answer (sym c.is_kind.ensures ∙ c.if-not-is_kind.true) }
+returns-then-not-is_kind g c = rw c.at.ensures (record { answer = refuses _ _ c.in_ok-kind.ensures.answer (sym c.is_kind.ensures ∙ c.if-not-is_kind.true) })
 
 pub returns : goal.returns
 unfolding code_at

@@ -18,10 +18,10 @@ pub returns-then-not-is_past : goal.returns-then-not-is_past
 unfolding past_at
 returns-then-not-is_past g c =
     let fits : SFits w128 c.in_ok-value.value = search rules in
-    record {
+    rw c.at.ensures (record {
       answer = refuses _ (is_past c.args.limit) c.in_ok-value.ensures.answer
           (sym (code_past c.args.limit c.in_ok-value.value fits) ∙ sym c.is_past.ensures ∙ c.if-not-is_past.true);
-    }
+    })
 
 pub returns : goal.returns
 unfolding past_at

@@ -13,7 +13,7 @@ returns-in_err-n g c =
 pub returns-then-not-is_phase : goal.returns-then-not-is_phase
 unfolding phase_at code_at
 returns-then-not-is_phase g c =
-    record { answer = stops_as phase_of (refuses _ is_phase c.in_ok-n.ensures.answer (sym c.is_phase.ensures ∙ c.if-not-is_phase.true)) }
+    rw c.at.ensures (record { answer = stops_as phase_of (refuses _ is_phase c.in_ok-n.ensures.answer (sym c.is_phase.ensures ∙ c.if-not-is_phase.true)) })
 
 pub returns : goal.returns
 unfolding phase_at code_at

@@ -17,10 +17,10 @@ returns-in_err-value-clause-reads g c = exits_checked _ _ c.from_residual.ensure
 pub returns-then-not-is_moderate-clause-reads : goal.returns-then-not-is_moderate-clause-reads
 returns-then-not-is_moderate-clause-reads g c =
     let fits : SFits w128 c.in_ok-value.value = search rules in
-    record {
+    rw c.at.ensures (record {
       answer = refuses _ (is_moderate c.args.by) c.in_ok-value.ensures.answer
           (sym (code_moderate c.args.by c.in_ok-value.value fits) ∙ sym c.is_moderate.ensures ∙ c.if-not-is_moderate.true);
-    }
+    })
 
 pub returns-clause-reads : goal.returns-clause-reads
 returns-clause-reads g c =

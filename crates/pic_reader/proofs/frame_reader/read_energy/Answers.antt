@@ -9,7 +9,7 @@ returns-in_err-energy g c = exits_checked _ _ c.from_residual.ensures.1 c.in_err
 
 pub returns-then-not-is_same : goal.returns-then-not-is_same
 unfolding energy_at
-returns-then-not-is_same g c = record { answer = refuses _ _ c.in_ok-energy.ensures.answer (sym c.is_same.ensures ∙ c.if-not-is_same.true) }
+returns-then-not-is_same g c = rw c.at.ensures (record { answer = refuses _ _ c.in_ok-energy.ensures.answer (sym c.is_same.ensures ∙ c.if-not-is_same.true) })
 
 pub returns : goal.returns
 unfolding energy_at

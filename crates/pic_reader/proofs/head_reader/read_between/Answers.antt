@@ -21,10 +21,10 @@ returns-then-not-is_between-clause-reads g c =
     let l : SFits w32 c.args.low = search rules in
     let h : SFits w32 c.args.high = search rules in
     let fits : SFits w32 c.in_ok-n.n = search rules in
-    record {
+    rw c.at.ensures (record {
       answer = refuses _ (is_between c.args.low c.args.high) c.in_ok-n.ensures.answer
           (sym (codes_between c.args.low c.args.high c.in_ok-n.n l h fits) ∙ sym c.is_between.ensures ∙ c.if-not-is_between.true);
-    }
+    })
 
 pub returns-clause-reads : goal.returns-clause-reads
 unfolding between

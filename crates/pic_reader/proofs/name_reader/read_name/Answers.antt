@@ -13,10 +13,10 @@ returns-in_err-take_field-clause-reads g c =
 pub returns-then-not-is_new_name_field-clause-reads : goal.returns-then-not-is_new_name_field-clause-reads
 unfolding name_at
 returns-then-not-is_new_name_field-clause-reads g c =
-    record {
+    rw c.at.ensures (record {
       answer = stops_as name_of (refuses _ (is_new_name_field c.args.earlier.now) c.in_ok-take_field.ensures.reads.answer
           (sym c.is_new_name_field.ensures ∙ c.if-not-is_new_name_field.true));
-    }
+    })
 
 pub returns-clause-reads : goal.returns-clause-reads
 unfolding name_at

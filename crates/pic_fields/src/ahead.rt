@@ -10,11 +10,11 @@ use std::marker::Model;
 
 /// A source over bytes that lie in memory, such as a piece that was taken ahead. It never fails.
 #[derive(Debug, Drop)]
-pub struct Piece<'a> {
+pub struct Ahead<'a> {
     bytes: &'a [u8],
 }
 
-impl<'a> Model for Piece<'a> {
+impl<'a> Model for Ahead<'a> {
     ghost use Rattle.std.specs.Prelude.{ℕ, List};
 
     ghost Value = { List ℕ };
@@ -22,16 +22,16 @@ impl<'a> Model for Piece<'a> {
     ghost view = { λ p. p.bytes.now };
 }
 
-impl<'a> Piece<'a> {
+impl<'a> Ahead<'a> {
     /// A source of these bytes.
-    pub fn new(bytes: &'a [u8]) -> Piece<'a>
+    pub fn new(bytes: &'a [u8]) -> Ahead<'a>
         ensures { result ≡ bytes.now }
     {
-        Piece { bytes }
+        Ahead { bytes }
     }
 }
 
-impl<'a> Source for Piece<'a> {
+impl<'a> Source for Ahead<'a> {
     ghost told = { piece_told };
 
     fn take(&mut self, room: &mut [u8]) -> Result<usize, Failed>
