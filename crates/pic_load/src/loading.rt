@@ -119,6 +119,13 @@ fn load_lattice(
     Ok(())
 }
 
+// the mean of the velocities that a deck says, and their spread
+#[derive(Clone, Copy)]
+struct Spread {
+    drift: [i32; 3],
+    width: [u32; 3],
+}
+
 // adds so many particles at random places
 fn load_random(
     particles: &mut Vec<Particle>,
@@ -126,20 +133,19 @@ fn load_random(
     cells: Cells,
     total: u32,
     rng: &mut Pcg32,
-    drift: [i32; 3],
-    spread: [u32; 3],
+    spread: Spread,
 ) -> Result<(), NoMemory>
     requires few { length particles.old.items + total ≤ most_particles_1 }
-    requires spread { IsSpread drift spread }
+    requires spread { IsSpread spread.drift spread.width }
     ensures value { OnOk result (particles.new.items ≡ particles.old.items
         ++ first_of_species (length particles.old.items) species
-        (λ i. drawn cells drift spread (after (39 * i) rng.old)) total) }
+        (λ i. drawn cells spread.drift spread.width (after (39 * i) rng.old)) total) }
     ensures placed { (m : ℕ) → species < m → All (IsPlaced cells m) particles.old.items
         → OnOk result (All (IsPlaced cells m) particles.new.items) }
 {
     for _ in 0..total {
         let x = draw_place(rng, cells);
-        let v = draw_velocity(rng, drift, spread);
+        let v = draw_velocity(rng, spread.drift, spread.width);
         add(particles, species, x, v)?;
     }
     Ok(())
@@ -152,22 +158,21 @@ fn load_pair(
     start: usize,
     total: u32,
     rng: &mut Pcg32,
-    drift: [i32; 3],
-    spread: [u32; 3],
+    spread: Spread,
 ) -> Result<(), NoMemory>
     requires few { length particles.old.items + total ≤ most_particles_1 }
     requires others { start + total ≤ length particles.old.items }
-    requires spread { IsSpread drift spread }
+    requires spread { IsSpread spread.drift spread.width }
     ensures value { OnOk result (particles.new.items ≡ particles.old.items
         ++ first_of_species (length particles.old.items) species
-        (λ i. beside (slice_index_or particles.old.items (start + i) no_particle) drift spread
-        (after (36 * i) rng.old)) total) }
+        (λ i. beside (slice_index_or particles.old.items (start + i) no_particle)
+        spread.drift spread.width (after (36 * i) rng.old)) total) }
     ensures placed { (grid : Grid) (m : ℕ) → species < m → All (IsPlaced grid m) particles.old.items
         → OnOk result (All (IsPlaced grid m) particles.new.items) }
 {
     for i in 0..total {
         let other = particles[start + i as usize];
-        let own = draw_velocity(rng, drift, spread);
+        let own = draw_velocity(rng, spread.drift, spread.width);
         add(particles, species, other.x, own)?;
     }
     Ok(())
@@ -215,7 +220,11 @@ fn load_species(
             ..
         } => {
             let mut rng = Pcg32::new(*seed, *stream);
-            load_random(particles, number, cells, total, &mut rng, *drift, *spread)
+            let wide = Spread {
+                drift: *drift,
+                width: *spread,
+            };
+            load_random(particles, number, cells, total, &mut rng, wide)
         }
         Fill::Pair {
             of,
@@ -226,7 +235,11 @@ fn load_species(
         } => {
             let start = particles_of(&earlier[..*of as usize]);
             let mut own = Pcg32::new(*seed, *stream);
-            load_pair(particles, number, start, total, &mut own, *drift, *spread)
+            let wide = Spread {
+                drift: *drift,
+                width: *spread,
+            };
+            load_pair(particles, number, start, total, &mut own, wide)
         }
     }
 }

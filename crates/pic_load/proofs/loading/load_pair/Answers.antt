@@ -16,7 +16,7 @@ pub loop-i-init : goal.loop-i-init
 unfolding after
 loop-i-init c = record {
   filled = none_yet c.args.particles.now.items c.args.species
-      (λ i. beside (slice_index_or c.args.particles.now.items (c.args.start + i) no_particle) c.args.drift c.args.spread (after (36 * i) c.args.rng.now));
+      (λ i. beside (slice_index_or c.args.particles.now.items (c.args.start + i) no_particle) c.args.spread.drift c.args.spread.width (after (36 * i) c.args.rng.now));
   left = refl;
   placed = λ n m kinds placed. placed;
 }
@@ -24,7 +24,7 @@ loop-i-init c = record {
 pub add-requires : goal.add-requires
 add-requires c =
     let size = so_far _ _ c.args.species c.loop-i.i
-    (λ i. beside (slice_index_or c.args.particles.now.items (c.args.start + i) no_particle) c.args.drift c.args.spread (after (36 * i) c.args.rng.now))
+    (λ i. beside (slice_index_or c.args.particles.now.items (c.args.start + i) no_particle) c.args.spread.drift c.args.spread.width (after (36 * i) c.args.rng.now))
     c.loop-i.invariant.filled in
     omega (arith, size, c.requires.few)
 
@@ -35,8 +35,8 @@ loop-i-preserved c =
     let k = c.loop-i.i in
     let old = c.args.particles.now.items in
     let now = c.loop-i.particles.items in
-    let drift = c.args.drift in
-    let spread = c.args.spread in
+    let drift = c.args.spread.drift in
+    let spread = c.args.spread.width in
     let f : ℕ → Point6 = (λ i. beside (slice_index_or old (c.args.start + i) no_particle) drift spread (after (36 * i) g)) in
     let size = so_far old now c.args.species k f inv.filled in
     let before : c.args.start + k < length old = omega (arith, c.requires.others) in

@@ -10,7 +10,7 @@ use Rattle.pic_load.proofs.loading.load_random.Goals as goal
 pub loop-init : goal.loop-init
 unfolding after
 loop-init c = record {
-  filled = none_yet c.args.particles.now.items c.args.species (λ i. drawn c.args.cells c.args.drift c.args.spread (after (39 * i) c.args.rng.now));
+  filled = none_yet c.args.particles.now.items c.args.species (λ i. drawn c.args.cells c.args.spread.drift c.args.spread.width (after (39 * i) c.args.rng.now));
   left = refl;
   placed = λ m kinds placed. placed;
 }
@@ -18,7 +18,7 @@ loop-init c = record {
 pub add-requires : goal.add-requires
 add-requires c =
     let size = so_far _ _ c.args.species c.loop.counter
-    (λ i. drawn c.args.cells c.args.drift c.args.spread (after (39 * i) c.args.rng.now)) c.loop.invariant.filled in
+    (λ i. drawn c.args.cells c.args.spread.drift c.args.spread.width (after (39 * i) c.args.rng.now)) c.loop.invariant.filled in
     omega (arith, size, c.requires.few)
 
 pub loop-preserved : goal.loop-preserved
@@ -27,8 +27,8 @@ loop-preserved c =
     let g = c.args.rng.now in
     let k = c.loop.counter in
     let cells = c.args.cells in
-    let drift = c.args.drift in
-    let spread = c.args.spread in
+    let drift = c.args.spread.drift in
+    let spread = c.args.spread.width in
     let three = left_more (39 * k) 3 (39 * k + 3) g _ _ inv.left c.draw_place-x.ensures.left refl in
     let next : 39 * k + 3 + 36 ≡ 39 * (k + 1) = omega arith in
     let x = c.draw_place-x.ensures.value ∙ ap (λ (h : Lcg). drawn_place cells h) inv.left in
