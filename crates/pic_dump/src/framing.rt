@@ -9,7 +9,7 @@ ghost use Rattle.pic_num.specs.Space.{triple, spot};
 ghost use Rattle.pic_dump.specs.DumpText.{start_bytes, values_bytes, position_bytes, velocity_bytes, particle_bytes, particles_bytes, energies_bytes, state_bytes, frame_bytes};
 ghost use Rattle.pic_dump.specs.Queues.{Queues};
 
-use crate::room::{Room, make_room};
+use crate::frame_buffer::{FrameBuffer, make_room};
 use pic_energy::Energies;
 use pic_grid::{Lattice, Place, Snapshot};
 use pic_io::{Failed, Sink};
@@ -45,17 +45,17 @@ pub fn put_frame<O: Sink>(
 
 // A room with the start of a frame.
 #[tactic(auto, unfolding(crate::specs::DumpText::start_bytes))]
-fn start(step: u32) -> Room
+fn start(step: u32) -> FrameBuffer
     ensures { result ≡ start_bytes step }
 {
-    let mut room = Room::new();
+    let mut room = FrameBuffer::new();
     room.push(b"F");
     room.push_u32(step);
     room
 }
 
 // The fields and the particles.
-fn put_state<O: Sink>(out: &mut O, room: &mut Room, state: &Snapshot) -> Result<(), Failed>
+fn put_state<O: Sink>(out: &mut O, room: &mut FrameBuffer, state: &Snapshot) -> Result<(), Failed>
     ensures bytes { Queues (O.told out.old) (O.told out.new) room.old room.new
         (state_bytes state.now.e state.now.b state.now.particles.items) result }
     ensures cause { HasCause (O.told out.old) (O.told out.new) result }
@@ -66,7 +66,7 @@ fn put_state<O: Sink>(out: &mut O, room: &mut Room, state: &Snapshot) -> Result<
 }
 
 // The values of a field, run by run in the order of places.
-fn put_values<O: Sink>(out: &mut O, room: &mut Room, field: &Lattice) -> Result<(), Failed>
+fn put_values<O: Sink>(out: &mut O, room: &mut FrameBuffer, field: &Lattice) -> Result<(), Failed>
     ensures bytes { Queues (O.told out.old) (O.told out.new) room.old room.new
         (values_bytes field.now.values) result }
     ensures cause { HasCause (O.told out.old) (O.told out.new) result }
@@ -85,7 +85,7 @@ fn put_values<O: Sink>(out: &mut O, room: &mut Room, field: &Lattice) -> Result<
     Ok(())
 }
 
-fn put_run<O: Sink>(out: &mut O, room: &mut Room, run: &[i128]) -> Result<(), Failed>
+fn put_run<O: Sink>(out: &mut O, room: &mut FrameBuffer, run: &[i128]) -> Result<(), Failed>
     ensures bytes { Queues (O.told out.old) (O.told out.new) room.old room.new
         (values_bytes run.now) result }
     ensures cause { HasCause (O.told out.old) (O.told out.new) result }
@@ -96,7 +96,7 @@ fn put_run<O: Sink>(out: &mut O, room: &mut Room, run: &[i128]) -> Result<(), Fa
     Ok(())
 }
 
-fn put_value<O: Sink>(out: &mut O, room: &mut Room, value: i128) -> Result<(), Failed>
+fn put_value<O: Sink>(out: &mut O, room: &mut FrameBuffer, value: i128) -> Result<(), Failed>
     ensures bytes { Queues (O.told out.old) (O.told out.new) room.old room.new
         (i128_bytes value) result }
     ensures cause { HasCause (O.told out.old) (O.told out.new) result }
@@ -109,7 +109,7 @@ fn put_value<O: Sink>(out: &mut O, room: &mut Room, value: i128) -> Result<(), F
 // The particles, in their order.
 fn put_particles<O: Sink>(
     out: &mut O,
-    room: &mut Room,
+    room: &mut FrameBuffer,
     particles: &[Particle],
 ) -> Result<(), Failed>
     ensures bytes { Queues (O.told out.old) (O.told out.new) room.old room.new
@@ -122,7 +122,7 @@ fn put_particles<O: Sink>(
     Ok(())
 }
 
-fn put_particle<O: Sink>(out: &mut O, room: &mut Room, particle: &Particle) -> Result<(), Failed>
+fn put_particle<O: Sink>(out: &mut O, room: &mut FrameBuffer, particle: &Particle) -> Result<(), Failed>
     ensures bytes { Queues (O.told out.old) (O.told out.new) room.old room.new
         (particle_bytes particle.now) result }
     ensures cause { HasCause (O.told out.old) (O.told out.new) result }
@@ -133,7 +133,7 @@ fn put_particle<O: Sink>(out: &mut O, room: &mut Room, particle: &Particle) -> R
 }
 
 #[tactic(auto, unfolding(crate::specs::DumpText::particle_bytes))]
-fn push_particle(room: &mut Room, particle: &Particle)
+fn push_particle(room: &mut FrameBuffer, particle: &Particle)
     requires { length room.old + 24 ≤ 65536 }
     ensures { room.new ≡ room.old ++ particle_bytes particle.now }
 {
@@ -142,7 +142,7 @@ fn push_particle(room: &mut Room, particle: &Particle)
 }
 
 #[tactic(auto, unfolding(crate::specs::DumpText::position_bytes))]
-fn push_position(room: &mut Room, at: [u32; 3])
+fn push_position(room: &mut FrameBuffer, at: [u32; 3])
     requires { length room.old + 12 ≤ 65536 }
     ensures bytes { room.new ≡ room.old ++ position_bytes (triple at) }
     ensures len { length room.new ≡ length room.old + 12 }
@@ -154,7 +154,7 @@ fn push_position(room: &mut Room, at: [u32; 3])
 }
 
 #[tactic(auto, unfolding(crate::specs::DumpText::velocity_bytes))]
-fn push_velocity(room: &mut Room, v: [i32; 3])
+fn push_velocity(room: &mut FrameBuffer, v: [i32; 3])
     requires { length room.old + 12 ≤ 65536 }
     ensures bytes { room.new ≡ room.old ++ velocity_bytes (spot v) }
     ensures len { length room.new ≡ length room.old + 12 }
@@ -166,7 +166,7 @@ fn push_velocity(room: &mut Room, v: [i32; 3])
 }
 
 // The energies, and with them all that waits.
-fn put_end_of_frame<O: Sink>(out: &mut O, room: &mut Room, energies: Energies) -> Result<(), Failed>
+fn put_end_of_frame<O: Sink>(out: &mut O, room: &mut FrameBuffer, energies: Energies) -> Result<(), Failed>
     ensures bytes { Puts (O.told out.old) (O.told out.new)
         (room.old ++ energies_bytes energies) result }
     ensures cause { HasCause (O.told out.old) (O.told out.new) result }
@@ -177,7 +177,7 @@ fn put_end_of_frame<O: Sink>(out: &mut O, room: &mut Room, energies: Energies) -
 }
 
 #[tactic(auto, unfolding(crate::specs::DumpText::energies_bytes))]
-fn push_energies(room: &mut Room, energies: Energies)
+fn push_energies(room: &mut FrameBuffer, energies: Energies)
     requires { length room.old + 48 ≤ 65536 }
     ensures { room.new ≡ room.old ++ energies_bytes energies }
 {

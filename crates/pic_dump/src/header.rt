@@ -1,13 +1,13 @@
 //! The header of a dump.
 
 ghost use Rattle.std.specs.Prelude.{◌≡◌, All};
-ghost use Rattle.pic_num.specs.Multiplier.{IsMultiplier};
 ghost use Rattle.pic_grid.specs.Cells.{IsCells};
 ghost use Rattle.pic_dump.specs.Header.{HeaderView, header_with, HasLimits, HasMultipliers, AreMultipliers, IsHeader};
 
 use crate::head::{Head, Heads};
+use crate::keeping::{keep_kind, keep_scales};
 use pic_grid::Cells;
-use pic_num::{Kind, Mult, Scales};
+use pic_num::Scales;
 use std::marker::Model;
 
 /// The header of a dump of version 1: the numbers of cells and the side of a cell, the number of steps,
@@ -97,28 +97,6 @@ fn keep_cells(cells: Cells)
     ensures { IsCells cells.n }
 {
     let _numbers = cells.numbers();
-}
-
-fn keep_mult(by: Mult)
-    ensures { IsMultiplier by }
-{
-    let _numbers = (by.n(), by.k());
-}
-
-fn keep_scales(scales: &Scales)
-    ensures { AreMultipliers scales.now }
-{
-    keep_mult(scales.e_to_b);
-    keep_mult(scales.b_to_e);
-    keep_mult(scales.e_force);
-    keep_mult(scales.b_force);
-}
-
-fn keep_kind(kind: Kind)
-    ensures { HasMultipliers kind }
-{
-    keep_mult(kind.kick);
-    keep_mult(kind.turn);
 }
 
 fn keep_species(species: Heads) -> Heads

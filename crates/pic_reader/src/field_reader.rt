@@ -11,6 +11,7 @@ ghost use Rattle.pic_reader.specs.FrameFields.{is_moderate, IsModerate, value_at
 ghost use Rattle.pic_reader.specs.Firsts.{FirstAre};
 ghost use Rattle.pic_reader.specs.Parts.{ReadsPart};
 
+use crate::part::Part;
 use pic_fields::{Ahead, Cause, ReadStop, fill, read_i128};
 use pic_grid::Lattice;
 use pic_io::Source;
@@ -45,20 +46,20 @@ fn read_values<S: Source>(
     place: u64,
     by: Mult,
     field: &mut Lattice,
-    first: usize,
-    count: usize,
+    part: Part<usize>,
 ) -> Result<(), ReadStop>
-    requires place { place + 16 * count < 2 ^ 63 }
-    requires count { first + count ≤ 3 * count_of field.old.cells }
-    requires moderate { FirstAre (IsModerate by) first field.old.values }
-    ensures part { ReadsPart (value_at by) 16 first count place (S.told source.old)
+    requires place { place + 16 * part.count < 2 ^ 63 }
+    requires count { part.first + part.count ≤ 3 * count_of field.old.cells }
+    requires moderate { FirstAre (IsModerate by) part.first field.old.values }
+    ensures part { ReadsPart (value_at by) 16 part.first part.count place (S.told source.old)
         (S.told source.new) field.old.values field.new.values result }
     ensures shape { IsSameShape field.old field.new }
-    ensures moderate { OnOk result (FirstAre (IsModerate by) (first + count) field.new.values) }
+    ensures moderate { OnOk result
+        (FirstAre (IsModerate by) (part.first + part.count) field.new.values) }
 {
     let cells = field.cells();
-    for index in 0..count {
-        let (axis, cell) = cells.place_at(first + index);
+    for index in 0..part.count {
+        let (axis, cell) = cells.place_at(part.first + index);
         let value = read_value(source, place + 16 * index as u64, by)?;
         field.set(axis, cell, value);
     }
@@ -72,21 +73,21 @@ fn read_piece_of_values<S: Source>(
     place: u64,
     by: Mult,
     field: &mut Lattice,
-    first: usize,
-    count: usize,
+    part: Part<usize>,
 ) -> Result<(), ReadStop>
-    requires place { place + 16 * count < 2 ^ 63 }
-    requires count { first + count ≤ 3 * count_of field.old.cells }
-    requires moderate { FirstAre (IsModerate by) first field.old.values }
-    requires room { length room.old ≡ 16 * count }
-    ensures part { ReadsPart (value_at by) 16 first count place (S.told source.old)
+    requires room { length room.old ≡ 16 * part.count }
+    requires place { place + 16 * part.count < 2 ^ 63 }
+    requires count { part.first + part.count ≤ 3 * count_of field.old.cells }
+    requires moderate { FirstAre (IsModerate by) part.first field.old.values }
+    ensures part { ReadsPart (value_at by) 16 part.first part.count place (S.told source.old)
         (S.told source.new) field.old.values field.new.values result }
     ensures shape { IsSameShape field.old field.new }
-    ensures moderate { OnOk result (FirstAre (IsModerate by) (first + count) field.new.values) }
+    ensures moderate { OnOk result
+        (FirstAre (IsModerate by) (part.first + part.count) field.new.values) }
 {
     let taken = fill(source, room)?;
     let mut piece = Ahead::new(&room[..taken]);
-    read_values(&mut piece, place, by, field, first, count)
+    read_values(&mut piece, place, by, field, part)
 }
 
 /// Reads the values of a field in the order of places, in pieces of up to 65536 bytes.
@@ -109,7 +110,8 @@ pub fn read_field<S: Source>(
     while first < all {
         let count = VALUES_OF_A_PIECE.min(all - first);
         let at = place + 16 * first as u64;
-        read_piece_of_values(source, &mut room[..16 * count], at, by, field, first, count)?;
+        let part = Part { first, count };
+        read_piece_of_values(source, &mut room[..16 * count], at, by, field, part)?;
         first += count;
     }
     Ok(())

@@ -15,6 +15,7 @@ ghost use Rattle.pic_reader.specs.Parts.{ReadsPart, FirstAreHeld};
 use crate::field_reader::read_field;
 use crate::head_reader::read_between;
 use crate::layout::{Layout, species_at};
+use crate::part::Part;
 use pic_energy::{Energies, energies};
 use pic_fields::{Ahead, Cause, ReadStop, fill, read_u32, read_u128};
 use pic_grid::{Cells, Snapshot};
@@ -159,20 +160,19 @@ fn read_some_particles<S: Source>(
     place: u64,
     layout: &Layout,
     particles: &mut [Particle],
-    first: u32,
-    count: u32,
+    part: Part<u32>,
 ) -> Result<(), ReadStop>
-    requires place { place + 24 * count < 2 ^ 63 }
-    requires end { first + count < 2 ^ 32 }
-    requires count { first + count ≤ sum layout.now.counts }
+    requires place { place + 24 * part.count < 2 ^ 63 }
+    requires end { part.first + part.count < 2 ^ 32 }
+    requires count { part.first + part.count ≤ sum layout.now.counts }
     requires length { length particles.old ≡ sum layout.now.counts }
-    requires held { FirstAreHeld layout.now first particles.old }
-    ensures part { ReadsPart (particle_at layout.now) 24 first count place
+    requires held { FirstAreHeld layout.now part.first particles.old }
+    ensures part { ReadsPart (particle_at layout.now) 24 part.first part.count place
         (S.told source.old) (S.told source.new) particles.old particles.new result }
-    ensures held { OnOk result (FirstAreHeld layout.now (first + count) particles.new) }
+    ensures held { OnOk result (FirstAreHeld layout.now (part.first + part.count) particles.new) }
 {
-    for index in 0..count {
-        let id = first + index;
+    for index in 0..part.count {
+        let id = part.first + index;
         let particle = read_particle(source, place + 24 * index as u64, layout, id)?;
         particles[id as usize] = particle;
     }
@@ -186,22 +186,21 @@ fn read_piece_of_particles<S: Source>(
     place: u64,
     layout: &Layout,
     particles: &mut [Particle],
-    first: u32,
-    count: u32,
+    part: Part<u32>,
 ) -> Result<(), ReadStop>
-    requires place { place + 24 * count < 2 ^ 63 }
-    requires end { first + count < 2 ^ 32 }
-    requires count { first + count ≤ sum layout.now.counts }
+    requires room { length room.old ≡ 24 * part.count }
+    requires place { place + 24 * part.count < 2 ^ 63 }
+    requires end { part.first + part.count < 2 ^ 32 }
+    requires count { part.first + part.count ≤ sum layout.now.counts }
     requires length { length particles.old ≡ sum layout.now.counts }
-    requires held { FirstAreHeld layout.now first particles.old }
-    requires room { length room.old ≡ 24 * count }
-    ensures part { ReadsPart (particle_at layout.now) 24 first count place
+    requires held { FirstAreHeld layout.now part.first particles.old }
+    ensures part { ReadsPart (particle_at layout.now) 24 part.first part.count place
         (S.told source.old) (S.told source.new) particles.old particles.new result }
-    ensures held { OnOk result (FirstAreHeld layout.now (first + count) particles.new) }
+    ensures held { OnOk result (FirstAreHeld layout.now (part.first + part.count) particles.new) }
 {
     let taken = fill(source, room)?;
     let mut piece = Ahead::new(&room[..taken]);
-    read_some_particles(&mut piece, place, layout, particles, first, count)
+    read_some_particles(&mut piece, place, layout, particles, part)
 }
 
 // Reads the particles, in pieces of up to 65520 bytes.
@@ -226,15 +225,9 @@ fn read_particles<S: Source>(
     while first < all {
         let count = PARTICLES_OF_A_PIECE.min(all - first);
         let at = place + 24 * first as u64;
-        read_piece_of_particles(
-            source,
-            &mut room[..24 * count as usize],
-            at,
-            layout,
-            particles,
-            first,
-            count,
-        )?;
+        let part = Part { first, count };
+        let piece = &mut room[..24 * count as usize];
+        read_piece_of_particles(source, piece, at, layout, particles, part)?;
         first += count;
     }
     Ok(())

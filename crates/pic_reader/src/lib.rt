@@ -11,6 +11,7 @@ mod head_stop;
 mod laws;
 mod layout;
 mod name_reader;
+mod part;
 
 pub use dump_reader::{DumpReader, Next};
 pub use head_stop::HeadStop;

@@ -16,7 +16,7 @@ use Rattle.pic_reader.proofs.field_reader.read_values.Goals as goal
 pub loop-index-init : goal.loop-index-init
 loop-index-init g c =
     let xs = c.args.field.now.values in
-    let first = c.args.first in
+    let first = c.args.part.first in
     let none = read_none (λ ys. value_at c.args.by (take first xs ++ ys)) c.args.place _ in
     record {
       read = read_same {p = each_behind (take first xs) 0 (value_at c.args.by)} (sym (part_none first xs)) (read_up_to (omega arith) none);
@@ -32,9 +32,9 @@ pub returns-in_err-value-clause-part : goal.returns-in_err-value-clause-part
 unfolding value_at
 returns-in_err-value-clause-part g c =
     let xs = c.args.field.now.values in
-    let first = c.args.first in
+    let first = c.args.part.first in
     record {
-      reads = exits_among c.args.count c.loop-index.index (λ ys. value_at c.args.by (take first xs ++ ys)) c.from_residual.ensures.1
+      reads = exits_among c.args.part.count c.loop-index.index (λ ys. value_at c.args.by (take first xs ++ ys)) c.from_residual.ensures.1
           c.loop-index-test.true (omega (arith, c.loop-index-test.true)) c.loop-index.invariant.read c.in_err-value.ensures.reads;
       whole = c.loop-index.invariant.length;
       front = c.loop-index.invariant.front;
@@ -47,7 +47,7 @@ loop-index-preserved g c =
     let f = c.loop-index.field in
     let i = c.loop-index.index in
     let by = c.args.by in
-    let first = c.args.first in
+    let first = c.args.part.first in
     let m = first + i in
     let v = c.in_ok-value.value in
     let axis = c.place_at-axis.result.0 in
@@ -74,10 +74,10 @@ returns-clause-part g c =
     let so_far = c.loop-index.invariant in
     let xs = c.args.field.now.values in
     let new = c.loop-index.field.values in
-    let first = c.args.first in
+    let first = c.args.part.first in
     let before = g.S.Source.told c.args.source.now in
     let now = g.S.Source.told c.loop-index.source in
-    let all : c.loop-index.index ≡ c.args.count = omega (arith, c.loop-index-test.false, c.loop-index.auto.index-end) in
+    let all : c.loop-index.index ≡ c.args.part.count = omega (arith, c.loop-index-test.false, c.loop-index.auto.index-end) in
     record {
       reads = record {
         answer = subst (λ n. HasRead (each_behind (take first xs) n (value_at c.args.by)) c.args.place before (drop first (take (first + n) new))

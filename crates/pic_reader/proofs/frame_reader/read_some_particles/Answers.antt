@@ -12,7 +12,7 @@ use Rattle.pic_reader.proofs.frame_reader.read_some_particles.Goals as goal
 pub loop-index-init : goal.loop-index-init
 loop-index-init g c =
     let xs = c.args.particles.now in
-    let first = c.args.first in
+    let first = c.args.part.first in
     let l = c.args.layout.now in
     let none = read_none (λ ys. particle_at l (take first xs ++ ys)) c.args.place _ in
     record {
@@ -29,7 +29,7 @@ returns-in_err-particle-clause-part g c =
     let so_far = c.loop-index.invariant in
     let i = c.loop-index.index in
     let l = c.args.layout.now in
-    let first = c.args.first in
+    let first = c.args.part.first in
     let front = take first c.args.particles.now in
     let part = drop first (take (first + i) c.loop-index.particles) in
     let size : length (front ++ part) ≡ first + i = part_size first i c.args.particles.now c.loop-index.particles so_far.front
@@ -39,7 +39,7 @@ returns-in_err-particle-clause-part g c =
     (g.S.Source.told c.read_particle.new.source)
     (Err c.in_err-particle.field-0.0) = rw size c.in_err-particle.ensures.reads in
     record {
-      reads = exits_among c.args.count i (λ ys. particle_at l (front ++ ys)) c.from_residual.ensures.1 c.loop-index-test.true
+      reads = exits_among c.args.part.count i (λ ys. particle_at l (front ++ ys)) c.from_residual.ensures.1 c.loop-index-test.true
           (omega (arith, c.loop-index-test.true)) so_far.read stopped;
       whole = so_far.length;
       front = so_far.front;
@@ -51,7 +51,7 @@ loop-index-preserved g c =
     let so_far = c.loop-index.invariant in
     let i = c.loop-index.index in
     let l = c.args.layout.now in
-    let first = c.args.first in
+    let first = c.args.part.first in
     let m = first + i in
     let ps = c.loop-index.particles in
     let p = c.in_ok-particle.particle in
@@ -77,10 +77,10 @@ returns-clause-part g c =
     let xs = c.args.particles.now in
     let new = c.loop-index.particles in
     let l = c.args.layout.now in
-    let first = c.args.first in
+    let first = c.args.part.first in
     let before = g.S.Source.told c.args.source.now in
     let now = g.S.Source.told c.loop-index.source in
-    let all : c.loop-index.index ≡ c.args.count = omega (arith, c.loop-index-test.false, c.loop-index.auto.index-end) in
+    let all : c.loop-index.index ≡ c.args.part.count = omega (arith, c.loop-index-test.false, c.loop-index.auto.index-end) in
     record {
       reads = record {
         answer = subst (λ n. HasRead (each_behind (take first xs) n (particle_at l)) c.args.place before (drop first (take (first + n) new))
@@ -93,7 +93,7 @@ returns-clause-part g c =
 pub returns-clause-held : goal.returns-clause-held
 returns-clause-held g c =
     let so_far = c.loop-index.invariant in
-    let all : c.loop-index.index ≡ c.args.count = omega (arith, c.loop-index-test.false, c.loop-index.auto.index-end) in
+    let all : c.loop-index.index ≡ c.args.part.count = omega (arith, c.loop-index-test.false, c.loop-index.auto.index-end) in
     record {
       species = λ k d below. so_far.species k d (omega (arith, below, all));
       places = λ k d below. so_far.places k d (omega (arith, below, all));

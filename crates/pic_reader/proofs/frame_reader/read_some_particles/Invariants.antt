@@ -9,10 +9,10 @@ use Rattle.pic_reader.proofs.frame_reader.read_some_particles.Given as goal
 
 abbrev pub invariant-loop-index : goal.invariant-loop-index
 invariant-loop-index g l = record {
-  read : HasRead (each_behind (take l.first l.initial.particles) l.index (particle_at l.layout)) l.place (g.S.Source.told l.initial.source)
-      (drop l.first (take (l.first + l.index) l.particles)) (l.place + 24 * l.index) (g.S.Source.told l.source);
+  read : HasRead (each_behind (take l.part.first l.initial.particles) l.index (particle_at l.layout)) l.place (g.S.Source.told l.initial.source)
+      (drop l.part.first (take (l.part.first + l.index) l.particles)) (l.place + 24 * l.index) (g.S.Source.told l.source);
   length : length l.particles ≡ length l.initial.particles;
-  front : take l.first l.particles ≡ take l.first l.initial.particles;
-  species : FirstAre (IsOfKinds l.layout.kinds) (l.first + l.index) l.particles;
-  places : FirstAre (IsPlaced l.layout.side l.layout.cells) (l.first + l.index) l.particles;
+  front : take l.part.first l.particles ≡ take l.part.first l.initial.particles;
+  species : FirstAre (IsOfKinds l.layout.kinds) (l.part.first + l.index) l.particles;
+  places : FirstAre (IsPlaced l.layout.side l.layout.cells) (l.part.first + l.index) l.particles;
 }
