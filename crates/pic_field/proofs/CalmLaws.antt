@@ -11,7 +11,7 @@ use Rattle.pic_grid.specs.Block.{BlockValues, IsAmongCells, IsShaped, AllAtMost,
 use Rattle.pic_grid.proofs.CellLaws.{place_within}
 use Rattle.pic_field.specs.FieldPhases.{lowest, cell_above, fault_of, fault_at, least_fault, IsBounded}
 use Rattle.pic_field.specs.LeastStop.{EachBounded}
-use Rattle.pic_field.specs.Lines.{BelowLayer, AreSmall}
+use Rattle.pic_field.specs.Lines.{OnStrip, AreSmall}
 use Rattle.pic_field.proofs.LeastStopLaws.{least_stop}
 use Rattle.pic_field.proofs.ZoneLaws.{edge_at-outer, outer_inside}
 
@@ -34,16 +34,24 @@ all_small most P b n among all = record {
       subst (λ (z : ℤ). IsAtMost z most) (edge_at-outer b n a p among) (all.at_most a (unwrapped (outer_of b.low p)) (outer_inside b.low b.size n p among w));
 }
 
+-- the values of a block of the same zone, by axis and cell of the grid
+pub own_values : (old new : BlockValues) (n : Triple) → IsAmongCells old.low old.size n → IsShaped new old → (a : Axis) (p : Triple)
+    → inner_at new a p ≡ edge_at new a (unwrapped (outer_of old.low p))
+own_values old new n among shaped a p =
+    sym ((λ i. edge_at new a (unwrapped (outer_of (sym shaped.low i) p)))
+    ∙ edge_at-outer new n a p (subst (λ (d : BlockValues). IsAmongCells d.low d.size n)
+    (λ i. record { low = sym shaped.low i; size = sym shaped.size i; values = new.values }) among))
+
 module _ (phase : Phase) (by : Multiplier) (f : Axis → Triple → ℤ) (old new : BlockValues) (n : Triple) (among : IsAmongCells old.low old.size n)
     (shaped : IsShaped new old) (values : (a : Axis) (p : Triple) → IsWithin p old.size → inner_at new a p ≡ f a (outer_of old.low p))
   where
-    pub calm_none : (most : ℕ) → AreSmall most (BelowLayer old.size.z) new → ((v : ℤ) → IsAtMost v most → IsBounded by v)
+    pub calm_none : (most : ℕ) → AreSmall most (OnStrip 0 old.size.y) new → ((v : ℤ) → IsAtMost v most → IsBounded by v)
         → least_fault phase by (lowest old.low) old.size f ≡ None
     calm_none most small safe =
         let each : EachBounded by (lowest old.low) old.size f = record {
           bounded = λ a p w.
               let v : IsWithin p new.size = subst (λ (m : Triple). IsWithin p m) (sym shaped.size) w in
-              subst (IsBounded by) (values a p w) (safe (inner_at new a p) (small.at_most a p v (record { z_below = w.z })));
+              subst (IsBounded by) (values a p w) (safe (inner_at new a p) (small.at_most a p v (record { y_from = omega arith; y_below = w.y })));
         } in
         (least_stop phase by (lowest old.low) old.size f).0.1 each
 
@@ -51,7 +59,4 @@ module _ (phase : Phase) (by : Multiplier) (f : Axis → Triple → ℤ) (old ne
     new_stop =
         (λ i. least_fault phase by (lowest (shaped.low i)) (shaped.size i) (λ a p. edge_at new a (unwrapped p)))
         ∙ least_fault-same phase by (lowest old.low) old.size (λ a p. edge_at new a (unwrapped p)) f (λ a p w.
-        (λ i. edge_at new a (unwrapped (outer_of (sym shaped.low i) p)))
-        ∙ edge_at-outer new n a p (subst (λ (d : BlockValues). IsAmongCells d.low d.size n)
-        (λ i. record { low = sym shaped.low i; size = sym shaped.size i; values = new.values }) among)
-        ∙ values a p w)
+        sym (own_values old new n among shaped a p) ∙ values a p w)

@@ -3,6 +3,7 @@ pub mod FaultLaws
 pub mod LeastStopLaws
 pub mod CalmLaws
 pub mod RowLaws
+pub mod BesideLaws
 pub mod LineLaws
 pub mod LentLaws
 pub mod CurlLaws

@@ -9,7 +9,9 @@ use Rattle.pic_grid.specs.Cells.{IsWithin, count_of}
 use Rattle.pic_grid.specs.Block.{BlockValues, inner_at}
 use Rattle.pic_grid.specs.Rows.{with_row}
 use Rattle.pic_grid.proofs.RowLaws.{IsOff, row_here, row_others, row_shape, row_size}
-use Rattle.pic_field.specs.Lines.{OnRow, OnLine, OnLines, OnStrip, Changed, AreSmall}
+use Rattle.pic_field.specs.Beside.{layer_at}
+use Rattle.pic_field.specs.Lines.{OnRow, OnLine, OnLines, OnStrip, OnLayers, Changed, AreSmall}
+use Rattle.pic_field.proofs.BesideLaws.{layer_below, layer_back}
 use Rattle.pic_field.specs.Rows.{row_at, IsSmallRow}
 
 -- two answers that are both yes
@@ -187,17 +189,54 @@ strip_more n from y z past = record {
   right = λ a p h. let same : p.y ≡ y = h.y_is in record { y_from = omega arith; y_below = omega arith; z_is = h.z_is };
 }
 
--- and the layers of a strip
-pub layers_more : (n : Triple) (from to z : ℕ) → IsJoined n (OnStrip from to z) (OnLines from to z) (OnStrip from to (z + 1))
-layers_more n from to z = record {
-  apart = λ a p h k. let below : p.z < z = h.z_below in let same : p.z ≡ z = k.z_is in absurd (omega arith);
-  either = λ a p w r. elim (cases_lt p.z z) [
-    | inl below ↦ inl (record { y_from = r.y_from; y_below = r.y_below; z_below = below })
+-- the layers of a strip, in the order of a sweep,
+pub layers_more : (d : Bool) (n : Triple) (from to k : ℕ) → k < n.z
+    → IsJoined n (OnLayers d from to n.z k) (OnLines from to (layer_at d n.z k)) (OnLayers d from to n.z (k + 1))
+layers_more d n from to k inside = record {
+  apart = λ a p h l.
+      let same : layer_at d n.z p.z ≡ k = ap (layer_at d n.z) l.z_is ∙ layer_back d n.z k inside in
+      let before : layer_at d n.z p.z < k = h.z_before in
+      absurd (omega (arith, same, before));
+  either = λ a p w r. elim (cases_lt (layer_at d n.z p.z) k) [
+    | inl before ↦ inl (record { y_from = r.y_from; y_below = r.y_below; z_before = before })
     | inr least ↦
-        (let last : p.z < z + 1 = r.z_below in
-        let same : p.z ≡ z = omega arith in
-        inr (record { y_from = r.y_from; y_below = r.y_below; z_is = same }))
+        (let last : layer_at d n.z p.z < k + 1 = r.z_before in
+        let same : layer_at d n.z p.z ≡ k = omega (arith, least, last) in
+        inr (record { y_from = r.y_from; y_below = r.y_below; z_is = sym (layer_back d n.z p.z w.z) ∙ ap (layer_at d n.z) same }))
   ];
-  left = λ a p h. let below : p.z < z = h.z_below in record { y_from = h.y_from; y_below = h.y_below; z_below = omega arith };
-  right = λ a p h. let same : p.z ≡ z = h.z_is in record { y_from = h.y_from; y_below = h.y_below; z_below = omega arith };
+  left = λ a p h. let before : layer_at d n.z p.z < k = h.z_before in record { y_from = h.y_from; y_below = h.y_below; z_before = omega (arith, before) };
+  right = λ a p h.
+      let same : layer_at d n.z p.z ≡ k = ap (layer_at d n.z) h.z_is ∙ layer_back d n.z k inside in
+      record { y_from = h.y_from; y_below = h.y_below; z_before = omega (arith, same) };
+}
+
+-- which are at last the whole strip,
+pub layers_all : (d : Bool) (n p : Triple) (from to : ℕ) (a : Axis) → IsWithin p n → OnStrip from to a p → OnLayers d from to n.z n.z a p
+layers_all d n p from to a w on = record { y_from = on.y_from; y_below = on.y_below; z_before = layer_below d n.z p.z w.z }
+
+layers_on : (d : Bool) (from to count k : ℕ) (a : Axis) (p : Triple) → OnLayers d from to count k a p → OnStrip from to a p
+layers_on d from to count k a p on = record { y_from = on.y_from; y_below = on.y_below }
+
+pub strip_changed : (g : Axis → Triple → ℤ → ℤ) (d : Bool) (from to : ℕ) (old new : BlockValues)
+    → Changed g (OnLayers d from to old.size.z old.size.z) old new → Changed g (OnStrip from to) old new
+strip_changed g d from to old new change = record {
+  shaped = change.shaped;
+  done = λ a p w on. change.done a p w (layers_all d old.size p from to a w on);
+  rest = λ a p w none. change.rest a p w (λ on. none (layers_on d from to old.size.z old.size.z a p on));
+}
+
+pub strip_small : (most : ℕ) (d : Bool) (from to : ℕ) (b : BlockValues) → AreSmall most (OnLayers d from to b.size.z b.size.z) b
+    → AreSmall most (OnStrip from to) b
+strip_small most d from to b small = record { at_most = λ a p w on. small.at_most a p w (layers_all d b.size p from to a w on) }
+
+-- and the strips of a block
+pub strips_more : (n : Triple) (from mid to : ℕ) → from ≤ mid → mid ≤ to → IsJoined n (OnStrip from mid) (OnStrip mid to) (OnStrip from to)
+strips_more n from mid to past more = record {
+  apart = λ a p h k. let below : p.y < mid = h.y_below in let least : mid ≤ p.y = k.y_from in absurd (omega (arith, below, least));
+  either = λ a p w r. elim (cases_lt p.y mid) [
+    | inl below ↦ inl (record { y_from = r.y_from; y_below = below })
+    | inr least ↦ inr (record { y_from = least; y_below = r.y_below })
+  ];
+  left = λ a p h. let below : p.y < mid = h.y_below in record { y_from = h.y_from; y_below = omega (arith, below, more) };
+  right = λ a p h. let least : mid ≤ p.y = h.y_from in record { y_from = omega (arith, least, past); y_below = h.y_below };
 }

@@ -1,5 +1,7 @@
 pub mod FieldPhases
 pub mod LeastStop
 pub mod Rows
+pub mod Beside
 pub mod Lines
 pub mod Planes
+pub mod Sweeps

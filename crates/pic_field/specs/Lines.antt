@@ -1,16 +1,15 @@
 -- How a phase goes over a block: row by row, three rows to a line of cells in x, strip by strip of
 -- lines and layer by layer. Places are counted from the block's lowest cell.
-use Rattle.std.specs.Prelude.{◌≡◌, ℕ, ℤ, ◌<◌, ◌≤◌}
-use Rattle.pic_num.specs.declared.mult.Scales.{Scales}
+use Rattle.std.specs.Prelude.{◌≡◌, ℕ, ℤ, pos, ◌<◌, ◌≤◌, ◌-ℤ◌, Bool, Option, Some, None}
 use Rattle.pic_num.specs.declared.axis.Axis.{Axis}
-use Rattle.pic_num.specs.Multiplier.{Multiplier}
-use Rattle.pic_num.specs.Rounding.{scaled}
+use Rattle.pic_num.specs.Limits.{most_value}
 use Rattle.pic_num.specs.Sizes.{IsAtMost}
 use Rattle.pic_num.specs.Space.{Triple, Spot}
 use Rattle.pic_grid.specs.Cells.{IsWithin}
-use Rattle.pic_grid.specs.Lattice.{Field, value_at}
 use Rattle.pic_grid.specs.Block.{BlockValues, IsShaped, inner_at, outer_of}
-use Rattle.pic_field.specs.FieldPhases.{half_of, full_of}
+use Rattle.pic_field.specs.Beside.{layer_at, curl_beside}
+use Rattle.pic_field.specs.Rows.{read_by}
+use Rattle.pic_field.specs.declared.row.Scaled.{Scaled}
 
 -- a zone has a cell: at least one layer on each axis
 pub record HasCells (size : Triple) : Type 0 where
@@ -43,11 +42,16 @@ pub record OnLines (from to z : ℕ) (a : Axis) (p : Triple) : Type 0 where
   pub y_below : p.y < to
   pub z_is : p.z ≡ z
 
--- of the lines of a strip in the layers below z
-pub record OnStrip (from to z : ℕ) (a : Axis) (p : Triple) : Type 0 where
+-- of the lines of a strip in any layer,
+pub record OnStrip (from to : ℕ) (a : Axis) (p : Triple) : Type 0 where
   pub y_from : from ≤ p.y
   pub y_below : p.y < to
-  pub z_below : p.z < z
+
+-- and in the first k layers to which a sweep comes, of count
+pub record OnLayers (up : Bool) (from to count k : ℕ) (a : Axis) (p : Triple) : Type 0 where
+  pub y_from : from ≤ p.y
+  pub y_below : p.y < to
+  pub z_before : layer_at up count p.z < k
 
 -- the places of P have new values, which g makes of their old ones; all others stay
 pub record Changed (g : Axis → Triple → ℤ → ℤ) (P : Axis → Triple → Type 0)
@@ -63,17 +67,26 @@ pub record AreSmall (most : ℕ) (P : Axis → Triple → Type 0) (b : BlockValu
   pub at_most : (a : Axis) (p : Triple) → IsWithin p b.size → P a p
       → IsAtMost (inner_at b a p) most
 
--- what half a step of B makes of a value of the block whose lowest cell is low,
-abbrev pub half_made : Scales → Field → Spot → Axis → Triple → ℤ → ℤ
-half_made scales e low a p v = half_of scales e a (outer_of low p) v
+-- what is taken off at a place beside a curl: nothing, or the value of a block
+abbrev pub taken : Option BlockValues → Axis → Triple → ℤ
+taken None a p = pos 0
+taken (Some j) a p = inner_at j a p
 
--- a step of E with the current j of the same zone,
-abbrev pub full_made : Scales → Field → BlockValues → Spot → Axis → Triple → ℤ → ℤ
-full_made scales b j low a p v = full_of scales b a (outer_of low p) v (inner_at j a p)
+-- it is a block of the zone, and its values are at most 2^90 in size
+pub record IsTaken (low : Spot) (size : Triple) (j : BlockValues) : Type 0 where
+  pub low_is : j.low ≡ low
+  pub size_is : j.size ≡ size
+  pub small : (a : Axis) (p : Triple) → IsWithin p size → IsAtMost (inner_at j a p) most_value
 
--- and the force values of a field
-abbrev pub force_made : Multiplier → Field → Spot → Axis → Triple → ℤ → ℤ
-force_made by from low a p v = scaled (value_at from a (outer_of low p)) by
+-- what a sweep makes of a value of the block whose lowest cell is low: it takes off the curl of g,
+-- and what else is taken off there
+abbrev pub swept : Bool → Triple → (Axis → Triple → ℤ) → Option BlockValues → Spot → Axis
+    → Triple → ℤ → ℤ
+swept up n g take low a p v = v -ℤ taken take a p -ℤ curl_beside up n g a (outer_of low p)
+
+-- the force values of a field
+abbrev pub force_made : Scaled → Spot → Axis → Triple → ℤ → ℤ
+force_made from low a p v = read_by from a (outer_of low p)
 
 -- the cell of the grid where the line at the layers y and z begins
 abbrev pub line_start : Spot → ℕ → ℕ → Triple

@@ -1,11 +1,11 @@
 -- Planes of scaled rows: those of some lines of cells, one after another in y at one layer of z. Of
 -- each line a plane has what the curl reads.
-use Rattle.std.specs.Prelude.{◌≡◌, ℕ, ℤ, ◌+◌, ◌%◌, ◌<◌, ◌≤◌, List, [], slice_index_or}
+use Rattle.std.specs.Prelude.{◌≡◌, ℕ, ℤ, ◌+◌, ◌%◌, ◌<◌, ◌≤◌, Bool, true, false, List, [], slice_index_or}
 use Rattle.pic_num.specs.Limits.{most_cells_of_axis}
 use Rattle.pic_num.specs.declared.axis.Axis.{Axis}
 use Rattle.pic_num.specs.declared.axis.Axis.TheVariants.{X, Y, Z}
 use Rattle.pic_num.specs.Space.{Triple}
-use Rattle.pic_grid.specs.Differences.{up, down}
+use Rattle.pic_field.specs.Beside.{beside, first_index, row_room}
 use Rattle.pic_field.specs.Rows.{IsScaledRow}
 use Rattle.pic_field.specs.declared.plane.Line.{Line}
 use Rattle.pic_field.specs.declared.plane.Span.{Span}
@@ -41,13 +41,14 @@ pub record IsStrip (s : Strip) (lines : ℕ) : Type 0 where
   pub few : s.to ≤ s.from + 8
   pub within : s.to ≤ lines
 
--- the span of rows of so many cells that end with the next cell in x,
-abbrev pub up_span : ℕ → Span
-up_span cells = record { first = 0; edge = cells; cells = cells }
+-- the index of the cell beside a row of so many cells in its room
+abbrev pub edge_index : Bool → ℕ → ℕ
+edge_index true cells = cells
+edge_index false cells = 0
 
--- and that begin with the last one
-abbrev pub down_span : ℕ → Span
-down_span cells = record { first = 1; edge = 0; cells = cells }
+-- the span of rows of so many cells, which end with the next cell in x or begin with the last one
+abbrev pub span_of : Bool → ℕ → Span
+span_of up cells = record { first = first_index up; edge = edge_index up cells; cells = cells }
 
 -- the scaled rows of a line are there that a curl has along the line itself: x at its cells, y and
 -- z also at the edge. The rooms begin with the cell p.
@@ -84,26 +85,10 @@ pub record IsNextPlane (n : Triple) (g : Axis → Triple → ℤ) (p : Triple) (
   pub next : (j : ℕ) → s.first ≤ j → j < s.first + lines
       → IsNextLine n g (along_y n p j) s (line_at plane j)
 
--- all the scaled rows that a curl has along a line: of the line itself, whose rooms begin with the
--- cell p, of that beside it in y, whose rooms begin with q, and of that beside it in z, with r
-pub record AreCurlRows (n : Triple) (g : Axis → Triple → ℤ) (s : Span) (p q r : Triple)
+-- all the rows that a curl has along the line of count cells that begins at p: of the line itself,
+-- of that beside it in y, and of that beside it in z
+pub record AreLineRows (up : Bool) (n : Triple) (g : Axis → Triple → ℤ) (p : Triple) (count : ℕ)
     (own by_y by_z : Line) : Type 0 where
-  pub here : IsOwnLine n g p s own
-  pub in_y : IsSideLine n g q s by_y
-  pub in_z : IsNextLine n g r s by_z
-
--- those of the curl of E along the line of count cells that begins at p: of the next lines, with
--- the next cell in x,
-abbrev pub AreRowsUp : Triple → (Axis → Triple → ℤ) → Triple → ℕ → Line → Line → Line → Type 0
-AreRowsUp n g p count own by_y by_z =
-    AreCurlRows n g (up_span count) p (up n Y p) (up n Z p) own by_y by_z
-
--- and of the curl of B: of the last lines, with the last cell in x
-abbrev pub AreRowsDown : Triple → (Axis → Triple → ℤ) → Triple → ℕ → Line → Line → Line → Type 0
-AreRowsDown n g p count own by_y by_z =
-    AreCurlRows n g (down_span count) (down n X p) (down n X (down n Y p))
-    (down n X (down n Z p)) own by_y by_z
-
--- where the planes for the curl of B begin: a cell before in x and a line before in y
-abbrev pub corner_before : Triple → Triple → Triple
-corner_before n p = down n X (down n Y p)
+  pub here : IsOwnLine n g (row_room up n p) (span_of up count) own
+  pub in_y : IsSideLine n g (row_room up n (beside up n Y p)) (span_of up count) by_y
+  pub in_z : IsNextLine n g (row_room up n (beside up n Z p)) (span_of up count) by_z

@@ -11,7 +11,7 @@ ghost use Rattle.pic_grid.specs.Block.{IsAmongCells, IsShaped, inner_at, outer_o
 ghost use Rattle.pic_field.specs.Lines.{HasCells, OnRow, OnLine, OnLayer, Changed, force_made, line_start};
 ghost use Rattle.pic_field.specs.Rows.{start_cell, IsStart};
 
-use crate::row::{Start, scaled_row, start_at};
+use crate::row::{Scaled, Start, scaled_row, start_at};
 use crate::zone::{cell_in, is_empty, line_length};
 use pic_grid::{Block, Lattice};
 use pic_num::{Axis, Mult};
@@ -30,53 +30,57 @@ pub fn force(mult: Mult, from: &Lattice, to: &mut Block)
     if is_empty(zone) {
         return;
     }
+    let scaled = Scaled {
+        field: from,
+        by: mult,
+    };
     for z in 0..zone.size[2] {
-        force_layer(mult, from, to, z);
+        force_layer(&scaled, to, z);
     }
 }
 
 /// The force values of a layer, line by line.
-fn force_layer(mult: Mult, from: &Lattice, to: &mut Block, z: u32)
-    requires among { IsAmongCells to.old.low to.old.size from.now.cells }
+fn force_layer(from: &Scaled, to: &mut Block, z: u32)
+    requires among { IsAmongCells to.old.low to.old.size from.now.field.now.cells }
     requires some { HasCells to.old.size }
-    requires small { EachAtMost most_value from.now }
+    requires small { EachAtMost most_value from.now.field.now }
     requires z { z < to.old.size.z }
-    ensures { Changed (force_made mult from.now to.old.low) (OnLayer z) to.old to.new }
+    ensures { Changed (force_made from.now to.old.low) (OnLayer z) to.old to.new }
 {
     let zone = to.zone();
     for y in 0..zone.size[1] {
-        force_line(mult, from, to, y, z);
+        force_line(from, to, y, z);
     }
 }
 
 /// The force values of a line.
-fn force_line(mult: Mult, from: &Lattice, to: &mut Block, y: u32, z: u32)
-    requires among { IsAmongCells to.old.low to.old.size from.now.cells }
+fn force_line(from: &Scaled, to: &mut Block, y: u32, z: u32)
+    requires among { IsAmongCells to.old.low to.old.size from.now.field.now.cells }
     requires some { HasCells to.old.size }
-    requires small { EachAtMost most_value from.now }
+    requires small { EachAtMost most_value from.now.field.now }
     requires y { y < to.old.size.y }
     requires z { z < to.old.size.z }
-    ensures { Changed (force_made mult from.now to.old.low) (OnLine y z) to.old to.new }
+    ensures { Changed (force_made from.now to.old.low) (OnLine y z) to.old to.new }
 {
-    let cell = cell_in(from.cells(), to.zone(), [0, y, z]);
-    let start = start_at(from, cell);
-    force_row(mult, from, start, to, Axis::X, y, z);
-    force_row(mult, from, start, to, Axis::Y, y, z);
-    force_row(mult, from, start, to, Axis::Z, y, z);
+    let cell = cell_in(from.field.cells(), to.zone(), [0, y, z]);
+    let start = start_at(from.field, cell);
+    force_row(from, start, to, Axis::X, y, z);
+    force_row(from, start, to, Axis::Y, y, z);
+    force_row(from, start, to, Axis::Z, y, z);
 }
 
 /// The force values of the component on `axis` along the line that begins at `start`.
-fn force_row(mult: Mult, from: &Lattice, start: Start, to: &mut Block, axis: Axis, y: u32, z: u32)
-    requires among { IsAmongCells to.old.low to.old.size from.now.cells }
-    requires small { EachAtMost most_value from.now }
-    requires start { IsStart from.now start }
+fn force_row(from: &Scaled, start: Start, to: &mut Block, axis: Axis, y: u32, z: u32)
+    requires among { IsAmongCells to.old.low to.old.size from.now.field.now.cells }
+    requires small { EachAtMost most_value from.now.field.now }
+    requires start { IsStart from.now.field.now start }
     requires cell { start_cell start ≡ line_start to.old.low y z }
     requires y { y < to.old.size.y }
     requires z { z < to.old.size.z }
-    ensures { Changed (force_made mult from.now to.old.low) (OnRow axis y z) to.old to.new }
+    ensures { Changed (force_made from.now to.old.low) (OnRow axis y z) to.old to.new }
 {
-    let count = line_length(from.cells(), to.zone());
+    let count = line_length(from.field.cells(), to.zone());
     let at = to.row_start(axis, y, z);
     let values = to.values_mut();
-    scaled_row(from, mult, axis, start, count, &mut values[at..at + count]);
+    scaled_row(from, axis, start, count, &mut values[at..at + count]);
 }

@@ -9,6 +9,7 @@ mod magnetic;
 mod plane;
 mod rooms;
 mod row;
+mod sweep;
 mod zone;
 
 pub use electric::{full_e, full_e_in};

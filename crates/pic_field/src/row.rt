@@ -7,7 +7,7 @@ ghost use Rattle.pic_num.specs.Sizes.{IsAtMost};
 ghost use Rattle.pic_num.specs.Space.{triple};
 ghost use Rattle.pic_grid.specs.Cells.{IsWithin};
 ghost use Rattle.pic_grid.specs.Lattice.{EachAtMost};
-ghost use Rattle.pic_field.specs.Rows.{row_at, curl_of, start_cell, IsSmallRow, IsValueRow, IsStart, IsScaledRow, most_row, scaled_of};
+ghost use Rattle.pic_field.specs.Rows.{most_row, read_by, row_at, taken_at, curl_at, start_cell, IsSmallRow, IsValueRow, IsStart, IsScaledRow, AreCurlRows};
 
 use pic_grid::{Lattice, Slot};
 use pic_num::{Axis, Mult, scale};
@@ -26,6 +26,13 @@ pub(crate) struct CurlRows<'a> {
     pub(crate) near_third: &'a [i128],
     pub(crate) far_second: &'a [i128],
     pub(crate) near_second: &'a [i128],
+}
+
+/// A field whose values are scaled as they are read.
+#[derive(Clone, Copy)]
+pub(crate) struct Scaled<'a> {
+    pub(crate) field: &'a Lattice,
+    pub(crate) by: Mult,
 }
 
 /// The cell of a field where a row begins: its layer of x, and the slots of its y and z, which
@@ -54,26 +61,20 @@ pub(crate) fn start_at(field: &Lattice, cell: [u32; 3]) -> Start
 
 /// The first `count` values of the component on `axis` along the row from `start` on, round the
 /// grid, each scaled once.
-pub(crate) fn scaled_row(
-    field: &Lattice,
-    by: Mult,
-    axis: Axis,
-    start: Start,
-    count: usize,
-    to: &mut [i128],
-)
-    requires start { IsStart field.now start }
+pub(crate) fn scaled_row(from: &Scaled, axis: Axis, start: Start, count: usize, to: &mut [i128])
+    requires start { IsStart from.now.field.now start }
     requires room { count ≤ length to.old }
-    requires small { EachAtMost most_value field.now }
-    ensures { IsScaledRow field.now.cells (scaled_of field.now by) axis (start_cell start) 0 count to.new }
+    requires small { EachAtMost most_value from.now.field.now }
+    ensures { IsScaledRow from.now.field.now.cells (read_by from.now) axis (start_cell start)
+        0 count to.new }
 {
-    let [nx, _, _] = field.cells().numbers();
+    let [nx, _, _] = from.field.cells().numbers();
     let Start { mut x, y, z } = start;
     let mut done = 0;
     while done < count {
-        let run = field.run_at(axis, field.slot_x(x), y, z);
+        let run = from.field.run_at(axis, from.field.slot_x(x), y, z);
         let more = run.len().min(count - done);
-        scale_row(&run[..more], by, &mut to[done..done + more]);
+        scale_row(&run[..more], from.by, &mut to[done..done + more]);
         done = done + more;
         x = after_run(nx, x, more);
     }
@@ -105,61 +106,49 @@ pub(crate) fn scale_row(from: &[i128], by: Mult, to: &mut [i128])
     }
 }
 
-/// Lessens every value of a row by the curl of four rows, and answers whether all are then at most
-/// `most` in size.
-pub(crate) fn lessen_row(row: &mut [i128], four: &CurlRows, most: u128) -> bool
+/// Lessens every value of a row by the curl of four rows, and by that of `take` where it `takes`
+/// one. The answer is whether all are then at most `most` in size. Each call says `takes` by a
+/// literal, so that it has straight code of its own.
+#[inline(always)]
+pub(crate) fn lessen_row(
+    row: &mut [i128],
+    takes: bool,
+    take: &[i128],
+    four: &CurlRows,
+    most: u128,
+) -> bool
     requires small { IsSmallRow most_value (length row.old) row.old }
-    requires far_third { IsValueRow most_row (length row.old) four.now.far_third.now }
-    requires near_third { IsValueRow most_row (length row.old) four.now.near_third.now }
-    requires far_second { IsValueRow most_row (length row.old) four.now.far_second.now }
-    requires near_second { IsValueRow most_row (length row.old) four.now.near_second.now }
-    ensures values { (i : ℕ) → i < length row.old → row_at row.new i ≡ row_at row.old i -ℤ
-        curl_of (row_at four.now.far_third.now i) (row_at four.now.near_third.now i)
-        (row_at four.now.far_second.now i) (row_at four.now.near_second.now i) }
+    requires take { IsTrue takes → IsValueRow most_value (length row.old) take.now }
+    requires four { AreCurlRows (length row.old) four.now }
+    ensures values { (i : ℕ) → i < length row.old → row_at row.new i
+        ≡ row_at row.old i -ℤ taken_at takes take.now i -ℤ curl_at four.now i }
     ensures calm { IsTrue result → IsSmallRow most (length row.old) row.new }
 {
     let mut calm = true;
     for i in 0..row.len() {
         let curl = four.far_third[i] - four.near_third[i] - four.far_second[i]
             + four.near_second[i];
-        let value = row[i] - curl;
+        let value = row[i] - value_if(takes, take, i) - curl;
         row[i] = value;
         calm = calm & (value.unsigned_abs() <= most);
     }
     calm
 }
 
-/// Lessens every value of a row by that of `take` and the curl of four rows, and answers whether
-/// all are then at most `most` in size.
-pub(crate) fn lessen_row_by(row: &mut [i128], take: &[i128], four: &CurlRows, most: u128) -> bool
-    requires small { IsSmallRow most_value (length row.old) row.old }
-    requires take { IsValueRow most_value (length row.old) take.now }
-    requires far_third { IsValueRow most_row (length row.old) four.now.far_third.now }
-    requires near_third { IsValueRow most_row (length row.old) four.now.near_third.now }
-    requires far_second { IsValueRow most_row (length row.old) four.now.far_second.now }
-    requires near_second { IsValueRow most_row (length row.old) four.now.near_second.now }
-    ensures values { (i : ℕ) → i < length row.old
-        → row_at row.new i ≡ row_at row.old i -ℤ row_at take.now i -ℤ
-        curl_of (row_at four.now.far_third.now i) (row_at four.now.near_third.now i)
-        (row_at four.now.far_second.now i) (row_at four.now.near_second.now i) }
-    ensures calm { IsTrue result → IsSmallRow most (length row.old) row.new }
+/// The value of a row at an index, or 0 where it isn't wanted.
+#[inline(always)]
+fn value_if(is: bool, row: &[i128], i: usize) -> i128
+    requires { IsTrue is → i < length row.now }
+    ensures { result ≡ taken_at is row.now i }
 {
-    let mut calm = true;
-    for i in 0..row.len() {
-        let curl = four.far_third[i] - four.near_third[i] - four.far_second[i]
-            + four.near_second[i];
-        let value = row[i] - take[i] - curl;
-        row[i] = value;
-        calm = calm & (value.unsigned_abs() <= most);
-    }
-    calm
+    if is { row[i] } else { 0 }
 }
 
-/// The `count` values of a row that follow its first.
-pub(crate) fn shifted(row: &[i128], count: usize) -> &[i128]
-    requires { count < length row.now }
+/// The `count` values of a row from the index `first` on.
+pub(crate) fn part(row: &[i128], first: usize, count: usize) -> &[i128]
+    requires { first + count ≤ length row.now }
     ensures length { length result.now ≡ count }
-    ensures values { (i : ℕ) → i < count → row_at result.now i ≡ row_at row.now (i + 1) }
+    ensures values { (i : ℕ) → i < count → row_at result.now i ≡ row_at row.now (first + i) }
 {
-    &row[1..count + 1]
+    &row[first..first + count]
 }

@@ -1,13 +1,13 @@
 //! The cells of a zone that lies among those of a grid.
 
-ghost use Rattle.std.specs.Prelude.{◌≡◌, ◌*◌, ◌≤◌};
+ghost use Rattle.std.specs.Prelude.{◌≡◌, ◌*◌, ◌<◌, ◌≤◌};
 ghost use Rattle.std.specs.Bool.{OnTrue, OnFalse};
 ghost use Rattle.pic_num.specs.Limits.{most_cells_of_axis};
 ghost use Rattle.pic_num.specs.Space.{triple, spot, unwrapped};
 ghost use Rattle.pic_grid.specs.Cells.{IsWithin, count_of};
 ghost use Rattle.pic_grid.specs.Block.{InZone, IsAmongCells, outer_of};
+ghost use Rattle.pic_field.specs.Beside.{beside, plane_room, layer_at};
 ghost use Rattle.pic_field.specs.Lines.{HasCells, line_start};
-ghost use Rattle.pic_field.specs.Planes.{corner_before};
 
 use pic_grid::{Cells, Zone};
 use pic_num::Axis;
@@ -62,15 +62,39 @@ pub(crate) fn cell_in(cells: Cells, zone: Zone, inner: [u32; 3]) -> [u32; 3]
     [low_x as u32 + x, low_y as u32 + y, low_z as u32 + z]
 }
 
-/// The cell of the grid where the planes for the curl of B begin that are of the line `y` and the
-/// layer `z` of a zone: a cell before it in x and a line before it in y.
-pub(crate) fn corner_in(cells: Cells, zone: Zone, y: u32, z: u32) -> [u32; 3]
+/// The cell at which the planes begin that are of the line `y` and the layer `z` of a zone: that of
+/// the line itself, or else a cell before it in x and a line before it in y.
+pub(crate) fn corner_in(cells: Cells, zone: Zone, up: bool, y: u32, z: u32) -> [u32; 3]
     requires among { IsAmongCells (spot zone.low) (triple zone.size) cells.n }
     requires within { IsWithin (record { x = 0; y = y; z = z }) (triple zone.size) }
-    ensures value { triple result ≡ corner_before cells.n (line_start (spot zone.low) y z) }
+    ensures value { triple result ≡ plane_room up cells.n (line_start (spot zone.low) y z) }
     ensures within { IsWithin (triple result) cells.n }
 {
     let here = cell_in(cells, zone, [0, y, z]);
+    if up {
+        return here;
+    }
     let before = cells.down(Axis::Y, here);
     cells.down(Axis::X, before)
+}
+
+/// The cell beside one in z.
+pub(crate) fn beside_in_z(cells: Cells, up: bool, cell: [u32; 3]) -> [u32; 3]
+    requires { IsWithin (triple cell) cells.n }
+    ensures value { triple result ≡ beside up cells.n Axis.Z (triple cell) }
+    ensures within { IsWithin (triple result) cells.n }
+{
+    if up {
+        return cells.up(Axis::Z, cell);
+    }
+    cells.down(Axis::Z, cell)
+}
+
+/// The layer to which a sweep comes after `done` others, of `count`.
+pub(crate) fn layer_of(up: bool, count: u32, done: u32) -> u32
+    requires { done < count }
+    ensures value { result ≡ layer_at up count done }
+    ensures below { result < count }
+{
+    if up { count - 1 - done } else { done }
 }

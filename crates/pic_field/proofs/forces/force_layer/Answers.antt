@@ -11,6 +11,6 @@ loop-y-preserved c =
     let old = c.args.to.now in
     let mid = c.loop-y.to in
     let before = c.loop-y.invariant in
-    let then = subst (λ (l : Spot). Changed (force_made c.args.mult c.args.from.now l) (OnLine y z) mid c.force_line.new.to) before.shaped.low
+    let then = subst (λ (l : Spot). Changed (force_made c.args.from.now l) (OnLine y z) mid c.force_line.new.to) before.shaped.low
     c.force_line.ensures in
     changed_next _ (BelowLine y z) (OnLine y z) (BelowLine (y + 1) z) old mid c.force_line.new.to before then (lines_more old.size y z)

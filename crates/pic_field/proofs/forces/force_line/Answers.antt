@@ -13,7 +13,7 @@ returns c =
     let two = c.force_row-2.new.to in
     let three = c.force_row-3.new.to in
     let first = c.force_row.ensures in
-    let second = subst (λ (l : Spot). Changed (force_made c.args.mult c.args.from.now l) (OnRow Y y z) one two) first.shaped.low c.force_row-2.ensures in
-    let third = subst (λ (l : Spot). Changed (force_made c.args.mult c.args.from.now l) (OnRow Z y z) two three)
+    let second = subst (λ (l : Spot). Changed (force_made c.args.from.now l) (OnRow Y y z) one two) first.shaped.low c.force_row-2.ensures in
+    let third = subst (λ (l : Spot). Changed (force_made c.args.from.now l) (OnRow Z y z) two three)
     (second.shaped.low ∙ first.shaped.low) c.force_row-3.ensures in
-    line_changed (force_made c.args.mult c.args.from.now c.args.to.now.low) y z c.args.to.now one two three first second third
+    line_changed (force_made c.args.from.now c.args.to.now.low) y z c.args.to.now one two three first second third

@@ -1,7 +1,7 @@
 use Rattle.std.proofs.Common.{◌≡◌, ◌+◌, ◌%◌, ◌<◌, ◌≤◌, ℕ, slice_index, refl, ◌∙◌, ap, subst, arith}
 use Rattle.std.proofs.lemmas.List.{length-set}
 use Rattle.pic_num.specs.Space.{Triple, triple}
-use Rattle.pic_field.specs.Rows.{scaled_of}
+use Rattle.pic_field.specs.Rows.{read_by}
 use Rattle.pic_field.specs.Planes.{along_y, IsNextLine}
 use Rattle.pic_field.proofs.RowLaws.{round_on}
 use Rattle.pic_field.proofs.PlaneLaws.{line_more}
@@ -9,7 +9,7 @@ use Rattle.pic_field.proofs.plane.fill_next_plane.Goals as goal
 
 pub loop-j-init : goal.loop-j-init
 loop-j-init c =
-    let f = c.args.field.now in
+    let f = c.args.from.now.field.now in
     let first : Triple = triple c.args.at in
     let s = c.args.span in
     let numbers : triple c.numbers.result ≡ f.cells = c.numbers.ensures.value ∙ c.cells.ensures.value in
@@ -23,8 +23,8 @@ loop-j-init c =
 
 pub loop-j-preserved : goal.loop-j-preserved
 loop-j-preserved c =
-    let f = c.args.field.now in
-    let by = c.args.by in
+    let f = c.args.from.now.field.now in
+    let by = c.args.from.now.by in
     let j = c.loop-j.j in
     let first : Triple = triple c.args.at in
     let s = c.args.span in
@@ -38,6 +38,6 @@ loop-j-preserved c =
           ∙ round_on f.cells.y first.y j c.loop-j.y 1 c.loop-j.invariant.at;
       room = length-set c.loop-j.to j _ ∙ c.loop-j.invariant.room;
       below = subst (λ (m : ℕ). c.after_run-y-in-loop-j.result < m) cells c.after_run-y-in-loop-j.ensures.below;
-      next = line_more (λ k l. s.first ≤ k → IsNextLine f.cells (scaled_of f by) (along_y f.cells first k) s l) c.loop-j.to j line
-          (omega (arith, c.told-to)) c.loop-j.invariant.next (λ past. subst (λ (p : Triple). IsNextLine f.cells (scaled_of f by) p s line) at c.scale_next.ensures);
+      next = line_more (λ k l. s.first ≤ k → IsNextLine f.cells (read_by c.args.from.now) (along_y f.cells first k) s l) c.loop-j.to j line
+          (omega (arith, c.told-to)) c.loop-j.invariant.next (λ past. subst (λ (p : Triple). IsNextLine f.cells (read_by c.args.from.now) p s line) at c.scale_next.ensures);
     }

@@ -1,7 +1,7 @@
 use Rattle.std.proofs.Common.{◌≡◌, ◌+◌, ◌%◌, ◌<◌, ◌≤◌, ℕ, slice_index, ◌∙◌, ap, subst, arith}
 use Rattle.std.proofs.lemmas.List.{length-set}
 use Rattle.pic_num.specs.Space.{Triple, triple}
-use Rattle.pic_field.specs.Rows.{scaled_of}
+use Rattle.pic_field.specs.Rows.{read_by}
 use Rattle.pic_field.specs.Planes.{along_y, IsOwnLine, IsSideLine}
 use Rattle.pic_field.proofs.RowLaws.{round_on}
 use Rattle.pic_field.proofs.PlaneLaws.{line_more}
@@ -9,8 +9,8 @@ use Rattle.pic_field.proofs.plane.fill_plane.Goals as goal
 
 pub loop-j-preserved : goal.loop-j-preserved
 loop-j-preserved c =
-    let f = c.args.field.now in
-    let by = c.args.by in
+    let f = c.args.from.now.field.now in
+    let by = c.args.from.now.by in
     let j = c.loop-j.j in
     let first : Triple = triple c.args.at in
     let s = c.args.span in
@@ -19,16 +19,16 @@ loop-j-preserved c =
     let cells : slice_index c.numbers.result 1 ≡ f.cells.y = ap (λ (n : Triple). n.y) numbers in
     let line = c.scale_line.new.to in
     let at : record first { y = c.loop-j.y } ≡ along_y f.cells first j = λ i. record first { y = c.loop-j.invariant.at i } in
-    let own : s.first ≤ j → j < s.first + lines → IsOwnLine f.cells (scaled_of f by) (along_y f.cells first j) s line =
-    λ past below. subst (λ (p : Triple). IsOwnLine f.cells (scaled_of f by) p s line) at (c.scale_line.ensures.own (c.is_own-own.ensures past below)) in
+    let own : s.first ≤ j → j < s.first + lines → IsOwnLine f.cells (read_by c.args.from.now) (along_y f.cells first j) s line =
+    λ past below. subst (λ (p : Triple). IsOwnLine f.cells (read_by c.args.from.now) p s line) at (c.scale_line.ensures.own (c.is_own-own.ensures past below)) in
     record {
       at = c.after_run-y.ensures.value
           ∙ ap (λ (m : ℕ). (c.loop-j.y + 1) % m) cells
           ∙ round_on f.cells.y first.y j c.loop-j.y 1 c.loop-j.invariant.at;
       room = length-set c.loop-j.to j _ ∙ c.loop-j.invariant.room;
       below = subst (λ (m : ℕ). c.after_run-y.result < m) cells c.after_run-y.ensures.below;
-      own = line_more (λ k l. s.first ≤ k → k < s.first + lines → IsOwnLine f.cells (scaled_of f by) (along_y f.cells first k) s l) c.loop-j.to j line
+      own = line_more (λ k l. s.first ≤ k → k < s.first + lines → IsOwnLine f.cells (read_by c.args.from.now) (along_y f.cells first k) s l) c.loop-j.to j line
           (omega (arith, c.told-to)) c.loop-j.invariant.own own;
-      side = line_more (λ k l. IsSideLine f.cells (scaled_of f by) (along_y f.cells first k) s l) c.loop-j.to j line (omega (arith, c.told-to)) c.loop-j.invariant.side
-          (subst (λ (p : Triple). IsSideLine f.cells (scaled_of f by) p s line) at c.scale_line.ensures.side);
+      side = line_more (λ k l. IsSideLine f.cells (read_by c.args.from.now) (along_y f.cells first k) s l) c.loop-j.to j line (omega (arith, c.told-to)) c.loop-j.invariant.side
+          (subst (λ (p : Triple). IsSideLine f.cells (read_by c.args.from.now) p s line) at c.scale_line.ensures.side);
     }

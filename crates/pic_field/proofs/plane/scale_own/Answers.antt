@@ -1,4 +1,4 @@
-use Rattle.std.proofs.Common.{rules, ◌≡◌, ◌+◌, ◌%◌, ◌^◌, ℤ, length, to_z, of_z, slice_index, refl, sym, ◌∙◌, ap, subst, arith}
+use Rattle.std.proofs.Common.{rules, ◌≡◌, ◌+◌, ◌%◌, ℤ, length, to_z, of_z, slice_index, refl, sym, ◌∙◌, ap, subst, arith}
 use mir.Syntax.{w128}
 use Rattle.pic_num.specs.declared.axis.Axis.TheVariants.{X, Y, Z}
 use Rattle.pic_num.specs.Rounding.{scaled}
@@ -6,14 +6,14 @@ use Rattle.pic_num.specs.Sizes.{IsAtMost}
 use Rattle.pic_num.specs.Space.{Triple, triple}
 use Rattle.pic_num.proofs.SizeLaws.{codes, code_is}
 use Rattle.pic_grid.specs.Lattice.{value_at}
-use Rattle.pic_field.specs.Rows.{most_row, scaled_of, start_cell, along_x, IsScaledRow}
+use Rattle.pic_field.specs.Rows.{most_row, read_by, start_cell, along_x, IsScaledRow}
 use Rattle.pic_field.proofs.RowLaws.{with_edge}
 use Rattle.pic_field.proofs.plane.scale_own.Goals as goal
 
 pub returns : goal.returns
 returns c =
-    let f = c.args.field.now in
-    let by = c.args.by in
+    let f = c.args.from.now.field.now in
+    let by = c.args.from.now.by in
     let s = c.args.span in
     let at : Triple = triple c.args.at in
     let line = c.scale_rows.new.to in
@@ -30,13 +30,13 @@ returns c =
     let kept_y : to_z w128 (of_z w128 c.scaled_at-of_y.result) ≡ c.scaled_at-of_y.result = code_is (search codes depth 6) tt in
     let kept_z : to_z w128 (of_z w128 c.scaled_at-of_z.result) ≡ c.scaled_at-of_z.result = code_is (search codes depth 6) tt in
     record {
-      x = subst (λ (p : Triple). IsScaledRow f.cells (scaled_of f by) X p s.first (s.first + s.cells) line.x) start c.scale_rows.ensures.x;
-      y = with_edge f.cells (scaled_of f by) Y at s line.y _ c.requires.span (omega (arith, long_y, c.requires.span.edge, c.requires.span.few))
-          (subst (λ (p : Triple). IsScaledRow f.cells (scaled_of f by) Y p s.first (s.first + s.cells) line.y) start (c.scale_rows.ensures.y refl))
+      x = subst (λ (p : Triple). IsScaledRow f.cells (read_by c.args.from.now) X p s.first (s.first + s.cells) line.x) start c.scale_rows.ensures.x;
+      y = with_edge f.cells (read_by c.args.from.now) Y at s line.y _ c.requires.span (omega (arith, long_y, c.requires.span.edge, c.requires.span.few))
+          (subst (λ (p : Triple). IsScaledRow f.cells (read_by c.args.from.now) Y p s.first (s.first + s.cells) line.y) start (c.scale_rows.ensures.y refl))
           (kept_y ∙ c.scaled_at-of_y.ensures.value ∙ ap (λ (p : Triple). scaled (value_at f Y p) by) edge)
           (subst (λ (v : ℤ). IsAtMost v most_row) (sym kept_y) size_y);
-      z = with_edge f.cells (scaled_of f by) Z at s line.z _ c.requires.span (omega (arith, long_z, c.requires.span.edge, c.requires.span.few))
-          (subst (λ (p : Triple). IsScaledRow f.cells (scaled_of f by) Z p s.first (s.first + s.cells) line.z) start (c.scale_rows.ensures.z refl))
+      z = with_edge f.cells (read_by c.args.from.now) Z at s line.z _ c.requires.span (omega (arith, long_z, c.requires.span.edge, c.requires.span.few))
+          (subst (λ (p : Triple). IsScaledRow f.cells (read_by c.args.from.now) Z p s.first (s.first + s.cells) line.z) start (c.scale_rows.ensures.z refl))
           (kept_z ∙ c.scaled_at-of_z.ensures.value ∙ ap (λ (p : Triple). scaled (value_at f Z p) by) edge)
           (subst (λ (v : ℤ). IsAtMost v most_row) (sym kept_z) size_z);
     }

@@ -6,7 +6,7 @@ use Rattle.pic_num.specs.Rounding.{scaled}
 use Rattle.pic_num.specs.Space.{Triple}
 use Rattle.pic_grid.specs.Cells.{IsWithin}
 use Rattle.pic_grid.specs.Lattice.{value_at}
-use Rattle.pic_field.specs.Rows.{most_row, scaled_of, row_at, start_cell, IsSmallRow, IsScaledRow}
+use Rattle.pic_field.specs.Rows.{most_row, read_by, row_at, start_cell, IsSmallRow, IsScaledRow}
 use Rattle.pic_grid.proofs.CopyLaws.{filled_long}
 use Rattle.pic_grid.proofs.RowLaws.{part_long}
 use Rattle.pic_field.proofs.RowLaws.{row_none, round_on, run_small, more_scaled}
@@ -15,8 +15,8 @@ use Rattle.pic_field.proofs.plane.scale_rows.Goals.{After-count_if-more_z}
 
 pub loop-done-init : goal.loop-done-init
 loop-done-init c =
-    let f = c.args.field.now in
-    let by = c.args.by in
+    let f = c.args.from.now.field.now in
+    let by = c.args.from.now.by in
     let first = c.args.span.first in
     let start = start_cell c.args.start in
     let cells : slice_index c.numbers.result 0 ≡ f.cells.x = ap (λ (m : Triple). m.x) (c.numbers.ensures.value ∙ c.cells.ensures.value) in
@@ -28,25 +28,25 @@ loop-done-init c =
       room_x = search rules;
       room_y = search rules;
       room_z = search rules;
-      of_x = row_none f.cells (scaled_of f by) X start first c.args.to.now.x;
-      of_y = λ is. row_none f.cells (scaled_of f by) Y start first c.args.to.now.y;
-      of_z = λ is. row_none f.cells (scaled_of f by) Z start first c.args.to.now.z;
+      of_x = row_none f.cells (read_by c.args.from.now) X start first c.args.to.now.x;
+      of_y = λ is. row_none f.cells (read_by c.args.from.now) Y start first c.args.to.now.y;
+      of_z = λ is. row_none f.cells (read_by c.args.from.now) Z start first c.args.to.now.z;
     }
 
-within : (c : After-count_if-more_z) → IsWithin (start_cell c.args.start) c.args.field.now.cells
+within : (c : After-count_if-more_z) → IsWithin (start_cell c.args.start) c.args.from.now.field.now.cells
 within c = record { x = c.requires.start.x; y = c.requires.start.y.within; z = c.requires.start.z.within }
 
 -- the first so many values of a run on an axis
 record Front (c : After-count_if-more_z) (a : Axis) (run : List ℤ) (more : ℕ) : Type 0 where
-  inside : c.loop-done.x + more ≤ c.args.field.now.cells.x
+  inside : c.loop-done.x + more ≤ c.args.from.now.field.now.cells.x
   long : length (take more run) ≡ more
   values : (i : ℕ) → i < more
-      → row_at (take more run) i ≡ value_at c.args.field.now a (record (start_cell c.args.start) { x = c.loop-done.x + i })
+      → row_at (take more run) i ≡ value_at c.args.from.now.field.now a (record (start_cell c.args.start) { x = c.loop-done.x + i })
 
 front : (c : After-count_if-more_z) (a : Axis) (run : List ℤ) (more : ℕ) → more ≤ length run
-    → c.slot_x-here.result.index + length run ≤ c.args.field.now.cells.x
+    → c.slot_x-here.result.index + length run ≤ c.args.from.now.field.now.cells.x
     → ((i : ℕ) → i < length run → slice_index_or run i (pos 0)
-    ≡ value_at c.args.field.now a (record (start_cell c.args.start) { x = c.slot_x-here.result.index + i }))
+    ≡ value_at c.args.from.now.field.now a (record (start_cell c.args.start) { x = c.slot_x-here.result.index + i }))
     → Front c a run more
 front c a run more in_run inside values = record {
   inside = omega (arith, inside, in_run, c.slot_x-here.ensures.index);
@@ -54,7 +54,7 @@ front c a run more in_run inside values = record {
   values = λ i below.
       get_or-take more run i (pos 0) below
       ∙ values i (omega (arith, below, in_run))
-      ∙ ap (λ (m : ℕ). value_at c.args.field.now a (record (start_cell c.args.start) { x = m + i })) c.slot_x-here.ensures.index;
+      ∙ ap (λ (m : ℕ). value_at c.args.from.now.field.now a (record (start_cell c.args.start) { x = m + i })) c.slot_x-here.ensures.index;
 }
 
 of_x : (c : After-count_if-more_z) → Front c X c.run_at-of_x.result.now c.min-more.result
@@ -81,18 +81,18 @@ of_z c =
 small : (c : After-count_if-more_z) (a : Axis) (run : List ℤ) (more : ℕ) → Front c a run more → IsSmallRow (2 ^ 90) (length (take more run)) (take more run)
 small c a run more k =
     subst (λ (m : ℕ). IsSmallRow (2 ^ 90) m (take more run)) (sym k.long)
-    (run_small c.args.field.now c.args.by a (start_cell c.args.start) c.loop-done.done more c.loop-done.x c.loop-done.invariant.at (within c) k.inside
+    (run_small c.args.from.now.field.now c.args.from.now.by a (start_cell c.args.start) c.loop-done.done more c.loop-done.x c.loop-done.invariant.at (within c) k.inside
     (take more run) k.values (2 ^ 90) c.requires.small)
 
 -- and scaled they are the next of a row
 next : (c : After-count_if-more_z) (a : Axis) (run : List ℤ) (more : ℕ) → Front c a run more → (row part rest : List ℤ) → c.loop-done.done ≤ length row
-    → length part ≡ more → IsScaledRow c.args.field.now.cells (scaled_of c.args.field.now c.args.by) a (start_cell c.args.start) c.args.span.first c.loop-done.done row
-    → ((i : ℕ) → i < length (take more run) → row_at part i ≡ scaled (row_at (take more run) i) c.args.by)
+    → length part ≡ more → IsScaledRow c.args.from.now.field.now.cells (read_by c.args.from.now) a (start_cell c.args.start) c.args.span.first c.loop-done.done row
+    → ((i : ℕ) → i < length (take more run) → row_at part i ≡ scaled (row_at (take more run) i) c.args.from.now.by)
     → IsSmallRow most_row (length (take more run)) part
-    → IsScaledRow c.args.field.now.cells (scaled_of c.args.field.now c.args.by) a (start_cell c.args.start) c.args.span.first (c.loop-done.done + more)
+    → IsScaledRow c.args.from.now.field.now.cells (read_by c.args.from.now) a (start_cell c.args.start) c.args.span.first (c.loop-done.done + more)
     (take c.loop-done.done row ++ (part ++ rest))
 next c a run more k row part rest room long before values small =
-    more_scaled c.args.field.now c.args.by a (start_cell c.args.start) c.loop-done.done more c.loop-done.x c.loop-done.invariant.at (within c) k.inside
+    more_scaled c.args.from.now.field.now c.args.from.now.by a (start_cell c.args.start) c.loop-done.done more c.loop-done.x c.loop-done.invariant.at (within c) k.inside
     (take more run) k.values c.args.span.first row part rest room long before (λ i below. values i (omega (arith, below, k.long)))
     (subst (λ (m : ℕ). IsSmallRow most_row m part) k.long small)
 
@@ -113,7 +113,7 @@ scale_row-requires-in-loop-done-2-clause-small c =
 pub loop-done-preserved : goal.loop-done-preserved
 loop-done-preserved c =
     let here = (goal.at.loop-done-preserved c).After-count_if-more_z in
-    let n = c.args.field.now.cells in
+    let n = c.args.from.now.field.now.cells in
     let done = c.loop-done.done in
     let more = c.min-more.result in
     let more_y = c.count_if-more_y.result in
@@ -145,12 +145,12 @@ loop-done-preserved c =
       of_x = next here X c.run_at-of_x.result.now more (of_x here) to.x c.scale_row.new.to _ (omega (arith, fits_x)) part_x h.of_x c.scale_row.ensures.values
           c.scale_row.ensures.small;
       of_y = λ is.
-          subst (λ (m : ℕ). IsScaledRow c.args.field.now.cells (scaled_of c.args.field.now c.args.by) Y (start_cell c.args.start) c.args.span.first (done + m) all_y)
+          subst (λ (m : ℕ). IsScaledRow c.args.from.now.field.now.cells (read_by c.args.from.now) Y (start_cell c.args.start) c.args.span.first (done + m) all_y)
           (c.count_if-more_y.ensures.all is)
           (next here Y c.run_at-of_y.result.now more_y (of_y here) to.y c.scale_row-in-loop-done.new.to rest_y (omega (arith, fits_y)) part_y (h.of_y is)
           c.scale_row-in-loop-done.ensures.values c.scale_row-in-loop-done.ensures.small);
       of_z = λ is.
-          subst (λ (m : ℕ). IsScaledRow c.args.field.now.cells (scaled_of c.args.field.now c.args.by) Z (start_cell c.args.start) c.args.span.first (done + m) all_z)
+          subst (λ (m : ℕ). IsScaledRow c.args.from.now.field.now.cells (read_by c.args.from.now) Z (start_cell c.args.start) c.args.span.first (done + m) all_z)
           (c.count_if-more_z.ensures.all is)
           (next here Z c.run_at-of_z.result.now more_z (of_z here) to.z c.scale_row-in-loop-done-2.new.to rest_z (omega (arith, fits_z)) part_z (h.of_z is)
           c.scale_row-in-loop-done-2.ensures.values c.scale_row-in-loop-done-2.ensures.small);

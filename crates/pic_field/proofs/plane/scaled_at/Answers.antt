@@ -11,7 +11,7 @@ use Rattle.pic_field.proofs.plane.scaled_at.Goals as goal
 
 pub returns-clause-value : goal.returns-clause-value
 returns-clause-value c =
-    let f = c.args.field.now in
+    let f = c.args.from.now.field.now in
     let a = c.args.axis in
     let run = c.run_at-run.result.now in
     let kept : to_z w128 (of_z w128 c.scale.result) ≡ c.scale.result = code_is (search codes depth 6) tt in
@@ -23,4 +23,4 @@ returns-clause-value c =
     let small : IsAtMost (slice_index_or run 0 (pos 0)) (2 ^ 90) =
     subst (λ (v : ℤ). IsAtMost v (2 ^ 90)) (sym here) (c.requires.small.at_most a cell within) in
     let read : to_z w128 (of_z w128 (row_at run 0)) ≡ row_at run 0 = code_is (search codes depth 6) tt in
-    kept ∙ c.scale.ensures.value ∙ ap (λ (v : ℤ). scaled v c.args.by) (read ∙ here)
+    kept ∙ c.scale.ensures.value ∙ ap (λ (v : ℤ). scaled v c.args.from.now.by) (read ∙ here)
