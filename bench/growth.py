@@ -1,6 +1,6 @@
 """What a run of `pic` costs as it grows: time a particle-step and a cell-step, memory, and the steps of one long run.
 
-    python3 bench/growth.py [PROGRAM [ROUNDS]]      PROGRAM: a built pic (default: that of ./pic); ROUNDS: how often each is run (default: 3)
+    python3 bench/growth.py [PROGRAM [ROUNDS]]      PROGRAM: a built pic (default: what ./pic built names); ROUNDS: how often each is run (default: 3)
 
 The plasma is that of the demonstration: half electrons, half ions that stand on them, at random. A step's time is the difference of
 two runs with different numbers of steps, each the least of its rounds, divided by the difference of the numbers, so loading
@@ -115,7 +115,7 @@ def long_run(program, cells, tile, particles, steps, every):
 
 
 def main():
-    program = sys.argv[1] if len(sys.argv) > 1 else str(HOME / "crates" / "pic_prog" / "out" / "pic_prog")
+    program = sys.argv[1] if len(sys.argv) > 1 else subprocess.check_output([HOME / "pic", "built"], text=True).strip()
     rounds = int(sys.argv[2]) if len(sys.argv) > 2 else 3
     print(f"load {os.getloadavg()[0]:.1f} at the start; the least of {rounds}\n")
     sizes(program, rounds)

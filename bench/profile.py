@@ -1,6 +1,6 @@
 """Where the time of a run goes, by phases: seconds of the processor, on 1, 2 and 4 workers.
 
-    python3 bench/profile.py [PROGRAM]      PROGRAM: a built pic (default: that of ./pic)
+    python3 bench/profile.py [PROGRAM]      PROGRAM: a built pic (default: what ./pic built names)
 
 A run of 9 steps of the million (bench/out/million_4.toml, which bench/run makes, with other numbers of steps) is sampled a thousand
 times a second by `perf record -e cpu-clock`; loading, the first and the last frame are in it. A sample counts for the phase of the
@@ -54,7 +54,7 @@ def sampled(program, deck, workers):
 
 
 def main():
-    program = sys.argv[1] if len(sys.argv) > 1 else str(HOME.parent / "crates/pic_prog/out/pic_prog")
+    program = sys.argv[1] if len(sys.argv) > 1 else subprocess.check_output([HOME.parent / "pic", "built"], text=True).strip()
     deck = with_steps((HOME / "out/million_4.toml").read_text(), 9)
     runs = [sampled(program, deck, workers) for workers in (1, 2, 4)]
     print("| | 1 worker | 2 | 4 |\n|---|---|---|---|")

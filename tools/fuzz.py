@@ -20,7 +20,7 @@ from pathlib import Path
 
 import answers
 import forms
-from program import BUILT, Program
+from program import Program, chosen_program
 
 MOST_WORK, MOST_PARTICLES = 20000, 3000
 WORKERS = "1", "2", "3", "5", "64"
@@ -124,7 +124,7 @@ def fuzz(path, minutes, jobs, seed):
 
 def main():
     words = argparse.ArgumentParser(description=__doc__, formatter_class=argparse.RawDescriptionHelpFormatter)
-    words.add_argument("--program", default=BUILT, type=Path)
+    words.add_argument("--program", type=Path)
     words.add_argument("--minutes", default=1, type=float)
     words.add_argument("--jobs", default=2, type=int)
     words.add_argument("--seed", default="1")
@@ -133,9 +133,7 @@ def main():
     if chosen.only is not None:
         sys.stdout.buffer.write(case_of(chosen.seed, chosen.only)[2])
         return 0
-    if not chosen.program.exists():
-        sys.exit(f"there is no program {chosen.program}; ./pic builds it")
-    counts = fuzz(chosen.program.resolve(), chosen.minutes, chosen.jobs, chosen.seed)
+    counts = fuzz(chosen_program(chosen.program), chosen.minutes, chosen.jobs, chosen.seed)
     cases, different, none = (counts.pop(name, 0) for name in ("cases", "different", "no cause"))
     print("| answer | calls |\n|---|---|")
     for kind in sorted(counts):

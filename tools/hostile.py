@@ -19,7 +19,7 @@ import time
 from pathlib import Path
 
 import answers
-from program import BUILT, HOME, NEVER_SO_LONG, Program, Run, Test
+from program import HOME, NEVER_SO_LONG, Program, Run, Test, chosen_program
 from refused import PAGE, growths, puts, room, takes, threads
 
 SET_PIPE_SIZE = 1031
@@ -248,16 +248,15 @@ GROUPS = {f.__name__: f for f in (decks, dumps, changes, reads, takes, puts, pip
 
 def main():
     words = argparse.ArgumentParser(description=__doc__, formatter_class=argparse.RawDescriptionHelpFormatter)
-    words.add_argument("--program", default=BUILT, type=Path)
+    words.add_argument("--program", type=Path)
     words.add_argument("--jobs", default=2, type=int, help="calls at once (default: 2)")
     words.add_argument("groups", nargs="*", metavar="GROUP", help=", ".join(GROUPS))
     chosen = words.parse_args()
     if set(chosen.groups) - set(GROUPS):
         words.error(f"the groups are {', '.join(GROUPS)}")
-    if not chosen.program.exists():
-        sys.exit(f"there is no program {chosen.program}; ./pic builds it")
+    program = Program(chosen_program(chosen.program), chosen.jobs)
     for name in chosen.groups or GROUPS:
-        GROUPS[name](Program(chosen.program.resolve(), chosen.jobs))
+        GROUPS[name](program)
     return not Test.table()
 
 

@@ -17,7 +17,7 @@ from copy import deepcopy
 from pathlib import Path
 
 import answers
-from program import BUILT, HOME, Program, Test
+from program import HOME, Program, Test, chosen_program
 
 sys.path.insert(0, str(HOME / "bench"))
 from decks import plain_text
@@ -237,16 +237,15 @@ GROUPS = {f.__name__: f for f in (long, wide, limits)}
 
 def main():
     words = argparse.ArgumentParser(description=__doc__, formatter_class=argparse.RawDescriptionHelpFormatter)
-    words.add_argument("--program", default=BUILT, type=Path)
+    words.add_argument("--program", type=Path)
     words.add_argument("--steps", default=1000000, type=int)
     words.add_argument("groups", nargs="*", metavar="GROUP", help=", ".join(GROUPS))
     chosen = words.parse_args()
     if set(chosen.groups) - set(GROUPS):
         words.error(f"the groups are {', '.join(GROUPS)}")
-    if not chosen.program.exists():
-        sys.exit(f"there is no program {chosen.program}; ./pic builds it")
+    program = Program(chosen_program(chosen.program))
     for name in chosen.groups or GROUPS:
-        GROUPS[name](Program(chosen.program.resolve()), chosen.steps)
+        GROUPS[name](program, chosen.steps)
     return not Test.table()
 
 

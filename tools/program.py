@@ -8,8 +8,15 @@ from concurrent.futures import ThreadPoolExecutor
 from pathlib import Path
 
 HOME = Path(__file__).parents[1]
-BUILT = HOME / "crates" / "pic_prog" / "out" / "pic_prog"
 NEVER_SO_LONG = 600
+
+
+def chosen_program(path):
+    """The program at this path, or where none is given the one that was built of these sources, or that PIC_PROGRAM names."""
+    if path is None:
+        found = subprocess.run([HOME / "pic", "built"], stdout=subprocess.PIPE, text=True)
+        return Path(found.stdout.strip()) if found.returncode == 0 else sys.exit(1)
+    return path.resolve() if path.exists() else sys.exit(f"there is no program {path}")
 
 
 class Program:
