@@ -1,5 +1,5 @@
-//! Tests of `pic_yard` and `pic_crew`, in a crate of their own: a crate is proved a second time with
-//! its tests.
+//! Tests of `pic_yard` and `pic_crew`, in a crate of their own: a crate is proved a second time
+//! with its tests.
 #![tactic(auto)]
 
 #[cfg(test)]

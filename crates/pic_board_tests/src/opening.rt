@@ -2,7 +2,7 @@
 
 ghost use Rattle.std.specs.Prelude.{◌≡◌, ◌≤◌, IfOk, length};
 ghost use Rattle.pic_grid.specs.Hat.{HasTwo};
-ghost use Rattle.pic_tile.specs.CoreState.{IsOpening, IsSoundFrame};
+ghost use Rattle.pic_tile.specs.CoreState.{IsOpening};
 ghost use Rattle.pic_tile.specs.Frame.{IsForceField};
 ghost use Rattle.pic_tile.specs.Tiling.{cells_of};
 
@@ -10,14 +10,6 @@ use pic_grid::{Cells, Lattice};
 use pic_num::{Kind, Mult, NoMemory, Particle, Sub};
 use pic_tile::{Frame, Kinds, Tile, TileMap, cut};
 use std::alloc::Global;
-
-// what a frame's type keeps
-fn frame_is_sound(frame: &Frame)
-    ensures { IsSoundFrame frame.now }
-{
-    let _tiles = frame.map().tiles();
-    let _side = frame.cells().sub().side();
-}
 
 // no force on these cells
 #[tactic(auto, using(pic_grid::proofs::SmallLaws::each_zeros))]
@@ -89,6 +81,6 @@ pub(crate) fn begin(alloc: Global, map: TileMap) -> Result<(Frame, Vec<Tile>), N
     };
     let frame = frame_of(alloc, map)?;
     let tiles = cut(alloc, &map, &[ion, electron])?;
-    frame_is_sound(&frame);
+    frame.sound();
     Ok((frame, tiles))
 }

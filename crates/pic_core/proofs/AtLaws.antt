@@ -2,13 +2,13 @@
 use Rattle.std.proofs.Common.{◌≡◌, ℕ, ◌+◌, ◌*◌, ◌<◌, ◌⊎◌, inl, inr, Bool, true, false, nat_lt, List, length, slice_set, sym, ap, ◌∙◌, subst, arith}
 use Rattle.std.proofs.Math.Decide.{ℕ_discrete}
 use Rattle.pic_tile.specs.CoreEvents.{CanClaim, CanPost, CanMerge, CanShut, Claims, Merges, after_post, after_shut}
-use Rattle.pic_tile.specs.CoreState.{CoreState, HasPlaces, AreAllShut, count_in, slot_of, mark, is_posted, is_merged}
+use Rattle.pic_tile.specs.CoreState.{CoreState, HasPlaces, AreAllShut, tile_count, slot_of, mark, is_posted, is_merged}
 use Rattle.pic_tile.specs.Directions.{directions, here}
 use Rattle.pic_tile.specs.Tiling.{neighbour_of}
 use Rattle.pic_tile.proofs.AllTilesLaws.{neighbour_below}
 use Rattle.pic_tile.proofs.TileLaws.{same_there}
 use Rattle.pic_core.specs.InTurn.{IsAt, IsFinishing, turn_of, is_complete}
-use Rattle.pic_core.specs.Opened.{HasNotBegun}
+use Rattle.pic_core.specs.AtStart.{HasNotBegun}
 use Rattle.pic_core.proofs.SlotLaws.{slot_dir, slot_tile, slot_below, mark_set, mark_other}
 use Rattle.pic_core.proofs.TurnLaws.{lt_true, lt_false, lt_more, all_at, turn_is, turn_tile}
 use Rattle.pic_core.proofs.TurnLaws.{turn_dir, complete_none, complete_all, complete_other, complete_before}
@@ -16,24 +16,24 @@ use Rattle.pic_core.proofs.TurnLaws.{turn_dir, complete_none, complete_all, comp
 -- before the first event
 pub at_start : (s : CoreState) → HasNotBegun s → IsAt 0 0 0 s
 at_start s o = record {
-  claimed = λ t below. ap (λ (ms : List Bool). mark ms t) o.claimed ∙ same_there (count_in s) t false ∙ sym (lt_false t 0 (omega arith));
-  posted = λ r d below within. ap (λ (ms : List Bool). mark ms (slot_of r d)) o.posted ∙ same_there (count_in s * directions) (slot_of r d) false
+  claimed = λ t below. ap (λ (ms : List Bool). mark ms t) o.claimed ∙ same_there (tile_count s) t false ∙ sym (lt_false t 0 (omega arith));
+  posted = λ r d below within. ap (λ (ms : List Bool). mark ms (slot_of r d)) o.posted ∙ same_there (tile_count s * directions) (slot_of r d) false
       ∙ sym (lt_false (turn_of s.frame.map r d) 0 (omega arith));
-  merged = λ r d below within. ap (λ (ms : List Bool). mark ms (slot_of r d)) o.merged ∙ same_there (count_in s * directions) (slot_of r d) false
+  merged = λ r d below within. ap (λ (ms : List Bool). mark ms (slot_of r d)) o.merged ∙ same_there (tile_count s * directions) (slot_of r d) false
       ∙ sym (complete_none s.frame.map r);
-  shut = λ r below. ap (λ (ms : List Bool). mark ms r) o.shut ∙ same_there (count_in s) r false ∙ sym (complete_none s.frame.map r);
+  shut = λ r below. ap (λ (ms : List Bool). mark ms r) o.shut ∙ same_there (tile_count s) r false ∙ sym (complete_none s.frame.map r);
 }
 
 -- after the last
-pub at_end : (s : CoreState) (n : ℕ) → n ≡ count_in s → IsAt n (n * directions) (n * directions) s → AreAllShut s
+pub at_end : (s : CoreState) (n : ℕ) → n ≡ tile_count s → IsAt n (n * directions) (n * directions) s → AreAllShut s
 at_end s n is at r below =
     at.shut r below ∙ ap (λ (k : ℕ). is_complete s.frame.map (k * directions) r) is ∙ complete_all s.frame.map r below
 
 -- the next claim
-pub next_claim : (s : CoreState) (t : ℕ) → t < count_in s → IsAt t (t * directions) (t * directions) s → CanClaim s t
+pub next_claim : (s : CoreState) (t : ℕ) → t < tile_count s → IsAt t (t * directions) (t * directions) s → CanClaim s t
 next_claim s t below at = record { tile = below; free = at.claimed t below ∙ lt_false t t (omega arith) }
 
-pub claimed_next : (s new : CoreState) (t : ℕ) → HasPlaces s → t < count_in s → IsAt t (t * directions) (t * directions) s → Claims s t new
+pub claimed_next : (s new : CoreState) (t : ℕ) → HasPlaces s → t < tile_count s → IsAt t (t * directions) (t * directions) s → Claims s t new
     → IsAt (t + 1) (t * directions + 0) (t * directions + 0) new
 claimed_next s new t places below at claims =
     let none : t * directions ≡ t * directions + 0 = omega arith in
@@ -51,11 +51,11 @@ claimed_next s new t places below at claims =
     }))
 
 -- the next post
-module _ (s : CoreState) (t d : ℕ) (below : t < count_in s) (within : d < directions) (at : IsAt (t + 1) (slot_of t d) (slot_of t d) s) where
+module _ (s : CoreState) (t d : ℕ) (below : t < tile_count s) (within : d < directions) (at : IsAt (t + 1) (slot_of t d) (slot_of t d) s) where
   abbrev to : ℕ
   to = neighbour_of s.frame.map.tiles t d
 
-  to_below : to < count_in s
+  to_below : to < tile_count s
   to_below = neighbour_below s.frame.map.tiles t d below
 
   pub next_post : CanPost s t d
@@ -67,11 +67,11 @@ module _ (s : CoreState) (t d : ℕ) (below : t < count_in s) (within : d < dire
         ∙ lt_false (turn_of s.frame.map to d) (slot_of t d) (let e = turn_is s.frame.map t d below within in omega (arith, e));
   }
 
-  pub posted_all : HasPlaces s → (r e : ℕ) → r < count_in s → e < directions
+  pub posted_all : HasPlaces s → (r e : ℕ) → r < tile_count s → e < directions
       → is_posted (after_post s t d) r e ≡ nat_lt (turn_of s.frame.map r e) (slot_of t d + 1)
   posted_all places r e inside among = elim (ℕ_discrete (slot_of r e) (slot_of to d)) [
     | yes same ↦ (
-        let there : slot_of to d < length s.posted = subst (λ (n : ℕ). slot_of to d < n) (sym places.posted) (slot_below to d (count_in s) to_below within) in
+        let there : slot_of to d < length s.posted = subst (λ (n : ℕ). slot_of to d < n) (sym places.posted) (slot_below to d (tile_count s) to_below within) in
         let tile : r ≡ to = slot_tile r e to d among within same in
         let dir : e ≡ d = slot_dir r e to d among within same in
         let turn : turn_of s.frame.map r e ≡ slot_of t d = (λ i. turn_of s.frame.map (tile i) (dir i)) ∙ turn_is s.frame.map t d below within in
@@ -98,7 +98,7 @@ module _ (s : CoreState) (t d : ℕ) (below : t < count_in s) (within : d < dire
     shut = λ r inside. at.shut r inside ∙ sym (still r inside);
   }
     where
-      still : (r : ℕ) → r < count_in s → is_complete s.frame.map (slot_of t d + 1) r ≡ is_complete s.frame.map (slot_of t d) r
+      still : (r : ℕ) → r < tile_count s → is_complete s.frame.map (slot_of t d + 1) r ≡ is_complete s.frame.map (slot_of t d) r
       still r inside = elim (ℕ_discrete r to) [
         | yes same ↦
             ap (is_complete s.frame.map (slot_of t d + 1)) same ∙ more ∙ sym (complete_before s.frame.map t d below within)
@@ -118,11 +118,11 @@ module _ (s : CoreState) (t d : ℕ) (below : t < count_in s) (within : d < dire
   }
 
 -- while a tile is finished
-module _ (s : CoreState) (t d : ℕ) (done : ℕ → Bool) (below : t < count_in s) (within : d < directions) (at : IsFinishing t d done s) where
+module _ (s : CoreState) (t d : ℕ) (done : ℕ → Bool) (below : t < tile_count s) (within : d < directions) (at : IsFinishing t d done s) where
   abbrev goal_tile : ℕ
   goal_tile = neighbour_of s.frame.map.tiles t d
 
-  goal_below : goal_tile < count_in s
+  goal_below : goal_tile < tile_count s
   goal_below = neighbour_below s.frame.map.tiles t d below
 
   pub next_merge : (e : ℕ) → e < directions → done e ≡ false → (e ≡ here) ⊎ (done here ≡ true) → CanMerge s goal_tile e
@@ -162,7 +162,7 @@ module _ (s : CoreState) (t d : ℕ) (done : ℕ → Bool) (below : t < count_in
       })
     where
       there : slot_of goal_tile e < length s.merged
-      there = subst (λ (n : ℕ). slot_of goal_tile e < n) (sym places.merged) (slot_below goal_tile e (count_in s) goal_below among)
+      there = subst (λ (n : ℕ). slot_of goal_tile e < n) (sym places.merged) (slot_below goal_tile e (tile_count s) goal_below among)
 
   pub next_shut : ((e : ℕ) → e < directions → done e ≡ true) → CanShut s goal_tile
   next_shut all = record {

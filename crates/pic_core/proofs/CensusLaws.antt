@@ -6,7 +6,7 @@ use Rattle.pic_tile.specs.Same.{Same}
 use Rattle.pic_tile.proofs.SameLaws.{sum_by-map, permuted_same}
 use Rattle.pic_tile.specs.declared.parcel.Parcel.{Parcel}
 use Rattle.pic_tile.specs.CoreEvents.{CanClaim, CanPost, CanMerge, after_claim, after_post, after_merge}
-use Rattle.pic_tile.specs.CoreState.{CoreState, HasCensus, HasPlaces, IsInPlace, IsOpening, count_in, slot_of, mail_at, particles_of, start_of, held}
+use Rattle.pic_tile.specs.CoreState.{CoreState, HasCensus, HasPlaces, IsInPlace, IsOpening, tile_count, slot_of, mail_at, all_particles, first_particles, held}
 use Rattle.pic_tile.specs.Directions.{directions}
 use Rattle.pic_tile.specs.Frame.{felt_in}
 use Rattle.pic_tile.specs.Pushed.{IsPushed}
@@ -23,26 +23,26 @@ pub kept_census : (s new : CoreState) → new.opening ≡ s.opening → ((v : �
     → HasCensus s → HasCensus new
 kept_census s new opening weights h = record {
   rearranged =
-      let n = length (particles_of s.opening) in
+      let n = length (all_particles s.opening) in
       let old = permuted_same (range_with_len 0 n) (map (λ x. x.id) (held s)) h.rearranged in
       let same : Same (map (λ x. x.id) (held new)) (range_with_len 0 n) = record {
         sums = λ v. sum_by-map v (λ (x : Particle). x.id) (held new) ∙ weights v ∙ sym (sum_by-map v (λ (x : Particle). x.id) (held s)) ∙ sym (old.sums v);
       } in
-      subst (λ (ts : List TileValue). IsPermutation (range_with_len 0 (length (particles_of ts))) (map (λ x. x.id) (held new))) (sym opening)
+      subst (λ (ts : List TileValue). IsPermutation (range_with_len 0 (length (all_particles ts))) (map (λ x. x.id) (held new))) (sym opening)
       (census_of (held new) n same);
 }
 
 pub claim_census : (s : CoreState) (t : ℕ) (u : TileValue) → IsOpening s.frame s.opening → HasPlaces s → IsInPlace s → CanClaim s t
-    → IsPushed (felt_in s.frame) s.frame.map (start_of s t) u → HasCensus s → HasCensus (after_claim s t u)
+    → IsPushed (felt_in s.frame) s.frame.map (first_particles s t) u → HasCensus s → HasCensus (after_claim s t u)
 claim_census s t u opens places place can pushed = kept_census s (after_claim s t u) refl (λ v.
     let by : Particle → ℕ = λ x. v x.id in
     let new = after_claim s t u in
     let inside : t < length s.tiles = subst (λ (n : ℕ). t < n) (sym places.tiles) can.tile in
     let changed = changed_weight (tile_weight by) s.tiles t u no_tile inside in
     let was : tile_in s.tiles t ≡ tile_in s.opening t = place.waits t can.tile can.free in
-    let old : tile_weight by (tile_in s.tiles t) ≡ sum_by by (start_of s t) =
+    let old : tile_weight by (tile_in s.tiles t) ≡ sum_by by (first_particles s t) =
     ap (tile_weight by) was ∙ ready_weight by (tile_in s.opening t) (opens.fresh.fresh t can.tile).ready.chains in
-    let now = pushed_weight (felt_in s.frame) s.frame.map v (start_of s t) u pushed in
+    let now = pushed_weight (felt_in s.frame) s.frame.map v (first_particles s t) u pushed in
     let one = weight_is by s in
     let other = weight_is by new in
     omega (arith, changed, old, now, one, other))
@@ -56,7 +56,7 @@ post_census s t d places place can = kept_census s (after_post s t d) refl (λ v
     let slot = slot_of to d in
     let parcel = parcel_at (tile_in s.tiles t) d in
     let inside : t < length s.tiles = subst (λ (n : ℕ). t < n) (sym places.tiles) can.tile in
-    let slot_in : slot < length s.mail = subst (λ (n : ℕ). slot < n) (sym places.mail) (slot_below to d (count_in s) to_in can.dir) in
+    let slot_in : slot < length s.mail = subst (λ (n : ℕ). slot < n) (sym places.mail) (slot_below to d (tile_count s) to_in can.dir) in
     let tiles = changed_weight (tile_weight by) s.tiles t (with_parcel (tile_in s.tiles t) d None) no_tile inside in
     let mail = changed_weight (mail_weight by) s.mail slot parcel None slot_in in
     let none : mail_weight by (mail_at s to d) ≡ 0 = ap (mail_weight by) (place.clear to d to_in can.dir can.free) in
@@ -72,7 +72,7 @@ merge_census s r d u p places place can there dir merged = kept_census s (after_
     let new = after_merge s r d u in
     let slot = slot_of r d in
     let inside : r < length s.received = subst (λ (n : ℕ). r < n) (sym places.received) can.tile in
-    let slot_in : slot < length s.mail = subst (λ (n : ℕ). slot < n) (sym places.mail) (slot_below r d (count_in s) can.tile can.dir) in
+    let slot_in : slot < length s.mail = subst (λ (n : ℕ). slot < n) (sym places.mail) (slot_below r d (tile_count s) can.tile can.dir) in
     let received = changed_weight (tile_weight by) s.received r u no_tile inside in
     let mail = changed_weight (mail_weight by) s.mail slot None None slot_in in
     let weight : mail_weight by (mail_at s r d) ≡ sum_by by p.chain = ap (mail_weight by) there in

@@ -4,7 +4,7 @@ use Rattle.std.proofs.Math.Decide.{ℕ_discrete}
 use Rattle.std.proofs.lemmas.List.{length-set, get_or-set_same, get_or-set_other}
 use Rattle.pic_tile.specs.declared.parcel.Parcel.{Parcel}
 use Rattle.pic_tile.specs.CoreEvents.{CanClaim, after_claim}
-use Rattle.pic_tile.specs.CoreState.{CoreState, HasPlaces, IsInTurn, IsInPlace, count_in, is_claimed, is_posted, start_of}
+use Rattle.pic_tile.specs.CoreState.{CoreState, HasPlaces, IsInTurn, IsInPlace, tile_count, is_claimed, is_posted, first_particles}
 use Rattle.pic_tile.specs.Directions.{directions}
 use Rattle.pic_tile.specs.Frame.{felt_in}
 use Rattle.pic_tile.specs.Layers.{sender_of}
@@ -16,7 +16,7 @@ use Rattle.pic_tile.proofs.TilingLaws.{neighbour_back}
 use Rattle.pic_core.proofs.SlotLaws.{mark_keeps, mark_apart, mark_was, mark_or, not_both}
 
 module _ (s : CoreState) (t : ℕ) (u : TileValue) (places : HasPlaces s) (turn : IsInTurn s) (place : IsInPlace s) (can : CanClaim s t)
-    (number : u.number ≡ t) (pushed : IsPushed (felt_in s.frame) s.frame.map (start_of s t) u)
+    (number : u.number ≡ t) (pushed : IsPushed (felt_in s.frame) s.frame.map (first_particles s t) u)
   where
     abbrev new : CoreState
     new = after_claim s t u
@@ -52,15 +52,15 @@ module _ (s : CoreState) (t : ℕ) (u : TileValue) (places : HasPlaces s) (turn 
     own = get_or-set_same {A = TileValue} s.tiles t u no_tile tile_there
 
     abbrev Sent : ℕ → ℕ → Option Parcel → Type 0
-    Sent k d found = IsSent (felt_in s.frame) s.frame.map (start_of s k) k d found
+    Sent k d found = IsSent (felt_in s.frame) s.frame.map (first_particles s k) k d found
 
-    held : (k d : ℕ) → k < count_in s → d < directions → is_claimed new k ≡ true → is_posted s (neighbour_of s.frame.map.tiles k d) d ≡ false
+    held : (k d : ℕ) → k < tile_count s → d < directions → is_claimed new k ≡ true → is_posted s (neighbour_of s.frame.map.tiles k d) d ≡ false
         → Sent k d (parcel_at (tile_in new.tiles k) d)
     held k d below within on free = elim (ℕ_discrete k t) [
       | yes same ↦
           subst (λ (j : ℕ). Sent j d (parcel_at (tile_in new.tiles j) d)) (sym same)
           (subst (λ (v : TileValue). Sent t d (parcel_at v d)) (sym own)
-          (subst (λ (j : ℕ). IsSent (felt_in s.frame) s.frame.map (start_of s t) j d (parcel_at u d)) number (pushed.sent d within)))
+          (subst (λ (j : ℕ). IsSent (felt_in s.frame) s.frame.map (first_particles s t) j d (parcel_at u d)) number (pushed.sent d within)))
       | no apart ↦
           subst (λ (v : TileValue). Sent k d (parcel_at v d)) (sym (other k apart)) (place.held k d below within (before k apart on) free)
     ]

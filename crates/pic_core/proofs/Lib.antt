@@ -13,4 +13,4 @@ pub mod StartLaws
 pub mod TurnLaws
 pub mod AtLaws
 pub mod WorkerLaws
-pub mod RoomLaws
+pub mod ScratchLaws

@@ -4,7 +4,7 @@ use Rattle.std.proofs.lemmas.List.{get_or_default}
 use Rattle.pic_num.specs.Limits.{most_particles}
 use Rattle.pic_tile.specs.declared.parcel.Parcel.{Parcel}
 use Rattle.pic_tile.specs.CoreEvents.{CanClaim, CanPost, CanMerge, Claims, after_claim}
-use Rattle.pic_tile.specs.CoreState.{CoreState, Stands, count_in, slot_of, mail_at, start_of}
+use Rattle.pic_tile.specs.CoreState.{CoreState, Stands, tile_count, slot_of, mail_at, first_particles}
 use Rattle.pic_tile.specs.Directions.{directions, here}
 use Rattle.pic_tile.specs.Frame.{felt_in}
 use Rattle.pic_tile.specs.Pushed.{IsOfTile, IsPushed}
@@ -24,7 +24,7 @@ read xs i n x d long below is = is ∙ get_or_default xs i x d (subst (λ (k : �
 module _ (s : CoreState) (t : ℕ) (x : TileValue) (h : Stands s) (can : CanClaim s t) (is : x ≡ get_or s.tiles t x) where
   -- a tile that is claimed is as at the start
   waiting : x ≡ tile_in s.opening t
-  waiting = read {X = TileValue} s.tiles t (count_in s) x no_tile h.places.tiles can.tile is ∙ h.place.waits t can.tile can.free
+  waiting = read {X = TileValue} s.tiles t (tile_count s) x no_tile h.places.tiles can.tile is ∙ h.place.waits t can.tile can.free
 
   pub claim_few : length (chain_at x here) ≤ most_particles
   claim_few = subst (λ (v : TileValue). length (chain_at v here) ≤ most_particles) (sym waiting) (opening_few s.frame s.opening h.opening t)
@@ -39,7 +39,7 @@ module _ (s : CoreState) (t : ℕ) (x : TileValue) (h : Stands s) (can : CanClai
     numbered : u.number ≡ t
     numbered = number ∙ ap (λ (v : TileValue). v.number) waiting ∙ h.opening.fresh.numbers t can.tile
 
-    started : IsPushed (felt_in s.frame) s.frame.map (start_of s t) u
+    started : IsPushed (felt_in s.frame) s.frame.map (first_particles s t) u
     started = subst (λ (v : TileValue). IsPushed (felt_in s.frame) s.frame.map (chain_at v here) u) waiting pushed
 
     pub claim_made : Stands (after_claim s t u)
@@ -52,7 +52,7 @@ pub post_made : (s : CoreState) (t d slot : ℕ) (x u : TileValue) (p : Option P
     → slot ≡ slot_of (neighbour_of s.frame.map.tiles t d) d → x ≡ get_or s.tiles t x → u ≡ with_parcel x d None → p ≡ parcel_at x d
     → Stands (record s { posted = slice_set s.posted slot true; mail = slice_set s.mail slot p; tiles = slice_set s.tiles t u })
 post_made s t d slot x u p h can at is left taken =
-    let found : x ≡ tile_in s.tiles t = read {X = TileValue} s.tiles t (count_in s) x no_tile h.places.tiles can.tile is in
+    let found : x ≡ tile_in s.tiles t = read {X = TileValue} s.tiles t (tile_count s) x no_tile h.places.tiles can.tile is in
     let now : u ≡ with_parcel (tile_in s.tiles t) d None = left ∙ ap (λ (v : TileValue). with_parcel v d None) found in
     let out : p ≡ parcel_at (tile_in s.tiles t) d = taken ∙ ap (λ (v : TileValue). parcel_at v d) found in
     subst (λ (z : CoreState). Stands z)
@@ -65,8 +65,8 @@ module _ (s : CoreState) (r d slot : ℕ) (h : Stands s) (can : CanMerge s r d) 
   where
     mail_is : y ≡ mail_at s r d
     mail_is =
-        let n = count_in s * directions in
-        let below : slot < n = subst (λ (k : ℕ). k < n) (sym at) (slot_below r d (count_in s) can.tile can.dir) in
+        let n = tile_count s * directions in
+        let below : slot < n = subst (λ (k : ℕ). k < n) (sym at) (slot_below r d (tile_count s) can.tile can.dir) in
         read {X = Option Parcel} s.mail slot n y None h.places.mail below is
         ∙ ap (λ (k : ℕ). get_or s.mail k None) at
 
@@ -79,7 +79,7 @@ module _ (s : CoreState) (r d slot : ℕ) (h : Stands s) (can : CanMerge s r d) 
 
     module _ (p : Parcel) (there : y ≡ Some p) (x : TileValue) (tile : x ≡ get_or s.received r x) where
       found : x ≡ tile_in s.received r
-      found = read {X = TileValue} s.received r (count_in s) x no_tile h.places.received can.tile tile
+      found = read {X = TileValue} s.received r (tile_count s) x no_tile h.places.received can.tile tile
 
       pub merge_may : MayMerge p x
       merge_may = subst (λ (v : TileValue). MayMerge p v) (sym found) (can_be_merged s r d p h can (sym mail_is ∙ there))
@@ -91,5 +91,5 @@ module _ (s : CoreState) (r d slot : ℕ) (h : Stands s) (can : CanMerge s r d) 
           (λ i. record s { merged = slice_set s.merged (sym at i) true; mail = slice_set s.mail (sym at i) (sym none i); received = slice_set s.received r u })
           (merge_stands s r d u p h can (sym mail_is ∙ there) (subst (λ (v : TileValue). Merged p v u) found merged))
 
-pub received_read : (s : CoreState) (r : ℕ) (x : TileValue) → Stands s → r < count_in s → x ≡ get_or s.received r x → x ≡ tile_in s.received r
-received_read s r x h below is = read {X = TileValue} s.received r (count_in s) x no_tile h.places.received below is
+pub received_read : (s : CoreState) (r : ℕ) (x : TileValue) → Stands s → r < tile_count s → x ≡ get_or s.received r x → x ≡ tile_in s.received r
+received_read s r x h below is = read {X = TileValue} s.received r (tile_count s) x no_tile h.places.received below is

@@ -5,7 +5,7 @@ use Rattle.std.proofs.lemmas.List.{length-set, get_or-set_same, get_or-set_other
 use Rattle.std.proofs.lemmas.Grind.{get_or-set_at}
 use Rattle.pic_tile.specs.declared.parcel.Parcel.{Parcel}
 use Rattle.pic_tile.specs.CoreEvents.{CanPost, after_post}
-use Rattle.pic_tile.specs.CoreState.{CoreState, HasPlaces, IsInTurn, IsInPlace, count_in, slot_of, is_claimed, is_posted, is_merged, mail_at, start_of}
+use Rattle.pic_tile.specs.CoreState.{CoreState, HasPlaces, IsInTurn, IsInPlace, tile_count, slot_of, is_claimed, is_posted, is_merged, mail_at, first_particles}
 use Rattle.pic_tile.specs.Directions.{directions}
 use Rattle.pic_tile.specs.Frame.{felt_in}
 use Rattle.pic_tile.specs.Layers.{sender_of}
@@ -30,14 +30,14 @@ module _ (s : CoreState) (t d : ℕ) (places : HasPlaces s) (turn : IsInTurn s) 
   abbrev left : TileValue
   left = with_parcel (tile_in s.tiles t) d None
 
-  to_below : to < count_in s
+  to_below : to < tile_count s
   to_below = neighbour_below s.frame.map.tiles t d can.tile
 
   back : sender_of s.frame.map d to ≡ t
   back = neighbour_back s.frame.map.tiles t d can.tile can.dir
 
-  slot_in : slot < count_in s * directions
-  slot_in = slot_below to d (count_in s) to_below can.dir
+  slot_in : slot < tile_count s * directions
+  slot_in = slot_below to d (tile_count s) to_below can.dir
 
   mark_there : slot < length s.posted
   mark_there = subst (λ (n : ℕ). slot < n) (sym places.posted) slot_in
@@ -59,7 +59,7 @@ module _ (s : CoreState) (t d : ℕ) (places : HasPlaces s) (turn : IsInTurn s) 
     shut = places.shut;
   }
 
-  came : (r e : ℕ) → r < count_in s → e < directions → is_posted new r e ≡ true → is_claimed s (sender_of s.frame.map e r) ≡ true
+  came : (r e : ℕ) → r < tile_count s → e < directions → is_posted new r e ≡ true → is_claimed s (sender_of s.frame.map e r) ≡ true
   came r e below within on = elim (mark_or s.posted slot (slot_of r e) on) [
     | inl same ↦ (
         let tile : r ≡ to = slot_tile r e to d within can.dir same in
@@ -94,9 +94,9 @@ module _ (s : CoreState) (t d : ℕ) (places : HasPlaces s) (turn : IsInTurn s) 
   ]
 
   abbrev Sent : ℕ → ℕ → Option Parcel → Type 0
-  Sent k e found = IsSent (felt_in s.frame) s.frame.map (start_of s k) k e found
+  Sent k e found = IsSent (felt_in s.frame) s.frame.map (first_particles s k) k e found
 
-  held : (k e : ℕ) → k < count_in s → e < directions → is_claimed s k ≡ true → is_posted new (neighbour_of s.frame.map.tiles k e) e ≡ false
+  held : (k e : ℕ) → k < tile_count s → e < directions → is_claimed s k ≡ true → is_posted new (neighbour_of s.frame.map.tiles k e) e ≡ false
       → Sent k e (parcel_at (tile_in new.tiles k) e)
   held k e below within on free =
       let at = slot_of (neighbour_of s.frame.map.tiles k e) e in
@@ -111,7 +111,7 @@ module _ (s : CoreState) (t d : ℕ) (places : HasPlaces s) (turn : IsInTurn s) 
       subst (λ (j : ℕ). parcel_at (tile_in new.tiles j) e ≡ None) (sym tile)
       (ap (λ (v : TileValue). parcel_at v e) own ∙ none_left (tile_in s.tiles t) left d e refl dir)
 
-  gone : (k e : ℕ) → k < count_in s → e < directions → is_posted new (neighbour_of s.frame.map.tiles k e) e ≡ true
+  gone : (k e : ℕ) → k < tile_count s → e < directions → is_posted new (neighbour_of s.frame.map.tiles k e) e ≡ true
       → parcel_at (tile_in new.tiles k) e ≡ None
   gone k e below within on = elim (mark_or s.posted slot (slot_of (neighbour_of s.frame.map.tiles k e) e) on) [
     | inl same ↦ (
@@ -137,7 +137,7 @@ module _ (s : CoreState) (t d : ℕ) (places : HasPlaces s) (turn : IsInTurn s) 
   mail_own : (r e : ℕ) → slot_of r e ≡ slot → mail_at new r e ≡ parcel_at (tile_in s.tiles t) d
   mail_own r e same = get_or-set_at {X = Option Parcel} s.mail slot (slot_of r e) (parcel_at (tile_in s.tiles t) d) None same mail_there
 
-  sent : (r e : ℕ) → r < count_in s → e < directions → is_posted new r e ≡ true → is_merged s r e ≡ false
+  sent : (r e : ℕ) → r < tile_count s → e < directions → is_posted new r e ≡ true → is_merged s r e ≡ false
       → Sent (sender_of s.frame.map e r) e (mail_at new r e)
   sent r e below within on free = elim (ℕ_discrete (slot_of r e) slot) [
     | yes same ↦ (
@@ -156,7 +156,7 @@ module _ (s : CoreState) (t d : ℕ) (places : HasPlaces s) (turn : IsInTurn s) 
       mark_off : (r e : ℕ) → (slot_of r e ≡ slot → ⊥) → is_posted new r e ≡ is_posted s r e
       mark_off r e apart = get_or-set_other {A = Bool} s.posted slot (slot_of r e) true false apart
 
-  taken : (r e : ℕ) → r < count_in s → e < directions → is_merged s r e ≡ true → mail_at new r e ≡ None
+  taken : (r e : ℕ) → r < tile_count s → e < directions → is_merged s r e ≡ true → mail_at new r e ≡ None
   taken r e below within on = mail_other r e (λ same.
       not_both (is_posted s to d)
       (subst (λ (k : ℕ). get_or s.posted k false ≡ true) same (turn.ready r e below within on e within)) can.free)

@@ -5,7 +5,7 @@ use Rattle.pic_grid.specs.Traces.{most_flux, traces, IsFluxAtMost}
 use Rattle.pic_num.specs.Limits.{most_particles}
 use Rattle.pic_tile.specs.declared.parcel.Parcel.{Parcel}
 use Rattle.pic_tile.specs.CoreEvents.{CanClaim, CanPost, CanMerge, CanShut, after_claim, after_post, after_merge, after_shut}
-use Rattle.pic_tile.specs.CoreState.{CoreState, Stands, merged_into, mail_at, start_of, held}
+use Rattle.pic_tile.specs.CoreState.{CoreState, Stands, merged_into, mail_at, first_particles, held}
 use Rattle.pic_tile.specs.Frame.{felt_in}
 use Rattle.pic_tile.specs.Layers.{sender_of}
 use Rattle.pic_tile.specs.Parcels.{IsParcel}
@@ -22,7 +22,7 @@ use Rattle.pic_core.proofs.PostLaws.{post_places, post_turn, post_place}
 use Rattle.pic_core.proofs.SlotLaws.{bounded}
 
 pub claim_stands : (s : CoreState) (t : ℕ) (u : TileValue) → Stands s → CanClaim s t → u.number ≡ t
-    → IsPushed (felt_in s.frame) s.frame.map (start_of s t) u → Stands (after_claim s t u)
+    → IsPushed (felt_in s.frame) s.frame.map (first_particles s t) u → Stands (after_claim s t u)
 claim_stands s t u h can number pushed = record {
   frame = h.frame;
   opening = h.opening;
@@ -44,24 +44,24 @@ post_stands s t d h can = record {
 
 -- the parcel that is merged is that of its direction, as its tile sent it
 pub merged_parcel : (s : CoreState) (r d : ℕ) (p : Parcel) → Stands s → CanMerge s r d → mail_at s r d ≡ Some p
-    → IsParcel (felt_in s.frame) s.frame.map (start_of s (sender_of s.frame.map d r)) (sender_of s.frame.map d r) d p
+    → IsParcel (felt_in s.frame) s.frame.map (first_particles s (sender_of s.frame.map d r)) (sender_of s.frame.map d r) d p
 merged_parcel s r d p h can there =
     let from = sender_of s.frame.map d r in
     sent_is s from from d (mail_at s r d) p (merge_sent s r d h.places h.turn h.place can) there
 
 -- what a push of the tiles can send at most
-pub sends_most : (s : CoreState) → Stands s → (t : ℕ) → IsFluxAtMost most_flux (traces (felt_in s.frame) (start_of s t))
+pub sends_most : (s : CoreState) → Stands s → (t : ℕ) → IsFluxAtMost most_flux (traces (felt_in s.frame) (first_particles s t))
 sends_most s h t =
     let side = felt_side s.frame h.frame in
     let least = h.frame.least in
     let most = h.frame.most in
-    flux_size (felt_in s.frame) (start_of s t) most_particles (omega (arith, side, least)) (omega (arith, side, most))
+    flux_size (felt_in s.frame) (first_particles s t) most_particles (omega (arith, side, least)) (omega (arith, side, most))
     h.frame.frame.kinds_are.limits (opening_few s.frame s.opening h.opening t)
 
 -- what a merge asks for
 pub can_be_merged : (s : CoreState) (r d : ℕ) (p : Parcel) → Stands s → CanMerge s r d → mail_at s r d ≡ Some p → MayMerge p (tile_in s.received r)
 can_be_merged s r d p h can there =
-    may_merge (felt_in s.frame) s.frame.map (start_of s) (merged_into s r) r d p (tile_in s.received r) most_flux h.frame.map can.tile can.dir
+    may_merge (felt_in s.frame) s.frame.map (first_particles s) (merged_into s r) r d p (tile_in s.received r) most_flux h.frame.map can.tile can.dir
     (omega arith) (sends_most s h) (h.place.receives r can.tile) (bounded d _ can.dir ∙ can.free) (order_into s r d can.order)
     (merged_parcel s r d p h can there)
 

@@ -8,7 +8,7 @@ use Rattle.pic_grid.specs.Hat.{IsInBox}
 use Rattle.pic_grid.specs.PushPhase.{CanShare}
 use Rattle.pic_tile.specs.InOrder.{AreOrdered}
 use Rattle.pic_tile.proofs.StandForLaws.{stands_list}
-use Rattle.pic_tile.specs.CoreState.{IsOpening, IsSoundFrame, particles_of}
+use Rattle.pic_tile.specs.CoreState.{IsOpening, IsSoundFrame, all_particles}
 use Rattle.pic_tile.specs.Frame.{FrameValue}
 use Rattle.pic_tile.specs.Held.{chains_of}
 use Rattle.pic_tile.specs.Owners.{tile_of}
@@ -24,7 +24,7 @@ opening_of f xs ts sound fresh ordered can few =
     let some : 0 < f.map.side = (let least = sound.least in omega (arith, least)) in
     let inside = All-weaker (CanShare f.map.side (cells_of f.map) f.kinds)
     (λ x. IsInBox f.map.side (cells_of f.map) (triple x.x)) (λ x share. share.place) xs can in
-    let same : particles_of ts ≡ xs =
+    let same : all_particles ts ≡ xs =
     stands_list (tile_of f.map) (chains_of ts) xs (fresh_stand f.map xs ts some sound.map.thick inside fresh) ordered in
     record {
       fresh = subst (λ (ys : List Particle). AreFreshTiles f.map ys ts) (sym same) fresh;

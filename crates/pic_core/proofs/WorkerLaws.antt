@@ -4,7 +4,7 @@ use Rattle.std.proofs.Common.{[], ◌∷◌, ◌++◌, cond, flat_map, refl, sym
 use Rattle.std.proofs.lemmas.Bool.{false≢true}
 use Rattle.std.specs.List.{range_with_len}
 use Rattle.pic_tile.specs.CoreEvents.{CanClaim, CanPost, CanMerge, CanShut, Claims, Merges, after_post, after_shut}
-use Rattle.pic_tile.specs.CoreState.{CoreState, Stands, count_in, slot_of, mark}
+use Rattle.pic_tile.specs.CoreState.{CoreState, Stands, tile_count, slot_of, mark}
 use Rattle.pic_tile.specs.Directions.{directions, here}
 use Rattle.pic_tile.specs.Frame.{FrameValue}
 use Rattle.pic_tile.specs.Tiling.{neighbour_of}
@@ -25,7 +25,7 @@ goal_of s t d = neighbour_of s.frame.map.tiles t d
 pub goal_same : (s now : CoreState) (t d : ℕ) → now.frame ≡ s.frame → goal_of now t d ≡ goal_of s t d
 goal_same s now t d same = ap (λ (f : FrameValue). neighbour_of f.map.tiles t d) same
 
-pub count_same : (s now : CoreState) (t : ℕ) → now.frame ≡ s.frame → t < count_in s → t < count_in now
+pub count_same : (s now : CoreState) (t : ℕ) → now.frame ≡ s.frame → t < tile_count s → t < tile_count now
 count_same s now t same below = subst (λ (f : FrameValue). t < count_of f.map.tiles) (sym same) below
 
 -- the directions that are done
@@ -56,7 +56,7 @@ up_all e below = either (nat_eq e here) (nat_lt e directions) (lt_true e directi
     either false b is = is
 
 -- A merge.
-module _ (s : CoreState) (t d to : ℕ) (is : to ≡ goal_of s t d) (below : t < count_in s) (within : d < directions) where
+module _ (s : CoreState) (t d to : ℕ) (is : to ≡ goal_of s t d) (below : t < tile_count s) (within : d < directions) where
   pub finish_can : IsFinishing t d (λ e. false) s → CanMerge s to here
   finish_can at =
       subst (λ (k : ℕ). CanMerge s k here) (sym is) (next_merge s t d (λ e. false) below within at here (omega arith) refl (inl refl))
@@ -112,7 +112,7 @@ finish_ran s one two next t d to is can merges stands ran shut done last =
     subst (λ (k : ℕ). Ran s (finishing k) next) is all
 
 -- After a post all that lead to its tile are posted exactly where the tile is complete.
-module _ (s : CoreState) (t d to : ℕ) (marks : List Bool) (below : t < count_in s) (within : d < directions) (at : IsAt (t + 1) (slot_of t d) (slot_of t d) s)
+module _ (s : CoreState) (t d to : ℕ) (marks : List Bool) (below : t < tile_count s) (within : d < directions) (at : IsAt (t + 1) (slot_of t d) (slot_of t d) s)
     (stands : Stands s) (is : to ≡ goal_of s t d) (marks_are : marks ≡ (after_post s t d).posted)
   where
     marked : (e : ℕ) → e < directions → mark marks (slot_of to e) ≡ nat_lt (turn_of s.frame.map (goal_of s t d) e) (slot_of t d + 1)

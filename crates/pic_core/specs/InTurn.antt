@@ -3,7 +3,7 @@
 use Rattle.std.specs.Prelude.{◌≡◌, ℕ, zero, suc, ◌+◌, ◌<◌, ◌==◌, nat_lt, Bool, true, ◌&&◌, ◌||◌, if◌then◌else◌, List, [], ◌∷◌, ◌++◌}
 use Rattle.std.specs.List.{flat_map, range_with_len}
 use Rattle.pic_grid.specs.Cells.{count_of}
-use Rattle.pic_tile.specs.CoreState.{CoreState, count_in, slot_of, is_claimed, is_posted, is_merged, is_shut}
+use Rattle.pic_tile.specs.CoreState.{CoreState, tile_count, slot_of, is_claimed, is_posted, is_merged, is_shut}
 use Rattle.pic_tile.specs.Directions.{directions, here}
 use Rattle.pic_tile.specs.Layers.{sender_of}
 use Rattle.pic_tile.specs.Tiling.{Tiling, neighbour_of}
@@ -56,20 +56,20 @@ in_turn m = flat_map (tiling m) (range_with_len 0 (count_of m.tiles))
 -- the first tiles are claimed, so many, and the first posts have come; the tiles are shut to which all
 -- that lead are among the first `closed` of the posts, and nothing is merged into others
 pub record IsAt (claims posts closed : ℕ) (s : CoreState) : Type 0 where
-  pub claimed : (t : ℕ) → t < count_in s → is_claimed s t ≡ nat_lt t claims
-  pub posted : (r d : ℕ) → r < count_in s → d < directions → is_posted s r d ≡ nat_lt (turn_of s.frame.map r d) posts
-  pub merged : (r d : ℕ) → r < count_in s → d < directions → is_merged s r d ≡ is_complete s.frame.map closed r
-  pub shut : (r : ℕ) → r < count_in s → is_shut s r ≡ is_complete s.frame.map closed r
+  pub claimed : (t : ℕ) → t < tile_count s → is_claimed s t ≡ nat_lt t claims
+  pub posted : (r d : ℕ) → r < tile_count s → d < directions → is_posted s r d ≡ nat_lt (turn_of s.frame.map r d) posts
+  pub merged : (r d : ℕ) → r < tile_count s → d < directions → is_merged s r d ≡ is_complete s.frame.map closed r
+  pub shut : (r : ℕ) → r < tile_count s → is_shut s r ≡ is_complete s.frame.map closed r
 
 -- so it is but for the tile to which the tile t has just posted the last that leads there: of those
 -- the directions done are merged
 pub record IsFinishing (t d : ℕ) (done : ℕ → Bool) (s : CoreState) : Type 0 where
-  pub claimed : (i : ℕ) → i < count_in s → is_claimed s i ≡ nat_lt i (t + 1)
-  pub posted : (r e : ℕ) → r < count_in s → e < directions → is_posted s r e ≡ nat_lt (turn_of s.frame.map r e) (slot_of t d + 1)
-  pub others : (r e : ℕ) → r < count_in s → e < directions → (r ≡ neighbour_of s.frame.map.tiles t d → ⊥)
+  pub claimed : (i : ℕ) → i < tile_count s → is_claimed s i ≡ nat_lt i (t + 1)
+  pub posted : (r e : ℕ) → r < tile_count s → e < directions → is_posted s r e ≡ nat_lt (turn_of s.frame.map r e) (slot_of t d + 1)
+  pub others : (r e : ℕ) → r < tile_count s → e < directions → (r ≡ neighbour_of s.frame.map.tiles t d → ⊥)
       → is_merged s r e ≡ is_complete s.frame.map (slot_of t d) r
   pub own : (e : ℕ) → e < directions → is_merged s (neighbour_of s.frame.map.tiles t d) e ≡ done e
-  pub shut : (r : ℕ) → r < count_in s → is_shut s r ≡ is_complete s.frame.map (slot_of t d) r
+  pub shut : (r : ℕ) → r < tile_count s → is_shut s r ≡ is_complete s.frame.map (slot_of t d) r
   pub all : is_complete s.frame.map (slot_of t d + 1) (neighbour_of s.frame.map.tiles t d) ≡ true
 
 -- the directions that are done when that of no step and those below d are

@@ -1,5 +1,5 @@
 -- The state that a core has.
-use Rattle.pic_core.specs.declared.state.Core.TheInside.{Inside}
+use Rattle.pic_core.specs.declared.machine.Core.TheInside.{Inside}
 use Rattle.pic_tile.specs.CoreState.{CoreState}
 
 abbrev pub state_of : Inside → CoreState

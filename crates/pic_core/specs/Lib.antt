@@ -1,4 +1,4 @@
 pub mod Inside
 pub mod Events
-pub mod Opened
+pub mod AtStart
 pub mod InTurn

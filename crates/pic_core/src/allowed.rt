@@ -9,7 +9,7 @@ ghost use Rattle.pic_tile.specs.Tiling.{neighbour_of};
 ghost use Rattle.pic_core.specs.Events.{Allowed};
 
 use crate::event::Event;
-use crate::state::Core;
+use crate::machine::Core;
 use pic_tile::Dir;
 
 /// Where the parcel of a direction to a tile has its place.

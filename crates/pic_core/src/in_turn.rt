@@ -1,17 +1,17 @@
 //! All events of a push of all tiles, as one worker lets them come.
 
 ghost use Rattle.std.specs.Prelude.{◌≡◌, ◌+◌, ◌*◌, ◌<◌, false};
-ghost use Rattle.pic_tile.specs.CoreState.{AreAllShut, Stands, count_in, slot_of};
+ghost use Rattle.pic_tile.specs.CoreState.{AreAllShut, Stands, tile_count, slot_of};
 ghost use Rattle.pic_tile.specs.Directions.{directions};
 ghost use Rattle.pic_tile.specs.Tiling.{neighbour_of};
 ghost use Rattle.pic_core.specs.Events.{Allowed, Applied, Ran};
 ghost use Rattle.pic_core.specs.InTurn.{IsAt, IsFinishing, finishing, in_turn, merging};
 ghost use Rattle.pic_core.specs.InTurn.{merging_at, posting, tiling, up_to};
-ghost use Rattle.pic_core.specs.Opened.{HasNotBegun};
+ghost use Rattle.pic_core.specs.AtStart.{HasNotBegun};
 
 use crate::allowed::are_all_marked;
 use crate::event::Event;
-use crate::state::Core;
+use crate::machine::Core;
 use pic_gate::{Gate, Point};
 use pic_tile::Dir;
 
@@ -31,7 +31,7 @@ impl Core {
     /// Merges the parcel of the next direction into the tile to which a tile has posted; that of no
     /// step is merged.
     fn merge_next(&mut self, tile: u32, dir: Dir, number: u32)
-        requires tile { tile < count_in self.old }
+        requires tile { tile < tile_count self.old }
         requires dir { dir < directions }
         requires number { number < directions }
         requires at { IsFinishing tile dir (up_to number) self.old }
@@ -49,7 +49,7 @@ impl Core {
     /// Merges the parcels of all directions but that of no step, which is merged, into the tile to
     /// which a tile has posted.
     fn merge_others(&mut self, tile: u32, dir: Dir)
-        requires tile { tile < count_in self.old }
+        requires tile { tile < tile_count self.old }
         requires dir { dir < directions }
         requires at { IsFinishing tile dir (up_to 0) self.old }
         ensures at { IsFinishing tile dir (up_to directions) self.new }
@@ -65,7 +65,7 @@ impl Core {
 
     /// Merges all parcels into the tile to which a tile has posted, and shuts it.
     fn finish_tile(&mut self, tile: u32, dir: Dir)
-        requires tile { tile < count_in self.old }
+        requires tile { tile < tile_count self.old }
         requires dir { dir < directions }
         requires at { IsFinishing tile dir (λ _. false) self.old }
         ensures at { IsAt (tile + 1) (slot_of tile dir + 1) (slot_of tile dir + 1) self.new }
@@ -80,7 +80,7 @@ impl Core {
 
     /// Posts the next parcel, and finishes its tile where it is the last that leads there.
     fn post_next<G: Gate>(&mut self, tile: u32, dir: Dir, gate: &G)
-        requires tile { tile < count_in self.old }
+        requires tile { tile < tile_count self.old }
         requires dir { dir < directions }
         requires at { IsAt (tile + 1) (slot_of tile dir) (slot_of tile dir) self.old }
         ensures at { IsAt (tile + 1) (slot_of tile dir + 1) (slot_of tile dir + 1) self.new }
@@ -96,7 +96,7 @@ impl Core {
 
     /// Claims the next tile and posts its parcels.
     fn run_tile<G: Gate>(&mut self, tile: u32, gate: &G)
-        requires tile { tile < count_in self.old }
+        requires tile { tile < tile_count self.old }
         requires at { IsAt tile (tile * directions) (tile * directions) self.old }
         ensures at { IsAt (tile + 1) ((tile + 1) * directions) ((tile + 1) * directions) self.new }
         ensures ran { Ran self.old (tiling self.old.frame.map tile) self.new }

@@ -2,15 +2,15 @@
 #![tactic(auto)]
 
 mod allowed;
-mod ending;
+mod core_end;
+mod core_start;
 mod event;
 mod in_turn;
-mod opening;
+mod machine;
 mod performing;
-mod room;
 mod running;
-mod state;
+mod scratch;
 
 pub use event::{Event, NotAllowed};
-pub use room::Room;
-pub use state::Core;
+pub use machine::Core;
+pub use scratch::Scratch;

@@ -8,7 +8,7 @@ ghost use Rattle.pic_core.specs.Events.{Allowed, Applied};
 
 use crate::allowed::slot;
 use crate::event::{Event, NotAllowed};
-use crate::state::Core;
+use crate::machine::Core;
 use pic_merge::{merge, shut};
 use pic_push::push_tile;
 use pic_tile::Dir;

@@ -5,7 +5,7 @@ ghost use Rattle.pic_tile.specs.CoreState.{HasCensus};
 ghost use Rattle.pic_core.specs.Events.{Allowed, IsRefusedAt, Ran};
 
 use crate::event::Event;
-use crate::state::Core;
+use crate::machine::Core;
 
 impl Core {
     /// Lets events come one after another, up to the first that can't come. It takes no memory.

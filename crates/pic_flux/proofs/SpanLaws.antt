@@ -15,13 +15,13 @@ use Rattle.pic_flux.proofs.AddsLaws.{adds_none}
 use Rattle.std.specs.Prelude.{if◌then◌else◌}
 use Rattle.pic_flux.specs.CellFlux.{at_four}
 use Rattle.pic_flux.specs.Corners.{same_axis, same_spot, at_edge, both, at_corners, on_axis, face_weight, weight_of, corner, both_high, weight_by}
-use Rattle.pic_flux.specs.Spans.{AreEnds, AreSpans, ends_on, both_of, four_by}
+use Rattle.pic_flux.specs.Spans.{AreSpanEnds, AreSpans, ends_on, both_of, four_by}
 use Rattle.pic_flux.specs.declared.spans.Spans.{Spans}
 use Rattle.pic_flux.proofs.CornerLaws.{corners_are}
 use Rattle.pic_flux.proofs.WeightLaws.{weighed}
 
 -- spans say of each axis what they are of it
-pub ends_are : (side : ℕ) (s : Piece) (p : Spans) (a : Axis) → AreSpans side s p → AreEnds side s a (ends_on p a)
+pub ends_are : (side : ℕ) (s : Piece) (p : Spans) (a : Axis) → AreSpans side s p → AreSpanEnds side s a (ends_on p a)
 ends_are side s p X h = h.x
 ends_are side s p Y h = h.y
 ends_are side s p Z h = h.z

@@ -1,9 +1,10 @@
 -- The flux through the twelve edges of a cell, held as values.
-use Rattle.std.specs.Prelude.{ℕ, ℤ, pos, ◌^◌, ◌+ℤ◌, ◌≤ℤ◌, ◌<ℤ◌, ◌↔◌, Bool, true, IsTrue}
+use Rattle.std.specs.Prelude.{ℕ, ℤ, pos, ◌^◌, ◌+ℤ◌, ◌↔◌, Bool, true, IsTrue}
 use Rattle.pic_num.specs.declared.axis.Axis.{Axis}
 use Rattle.pic_num.specs.declared.axis.Axis.TheVariants.{X, Y, Z}
 use Rattle.pic_num.specs.Sizes.{IsAtMost}
 use Rattle.pic_num.specs.Space.{Triple, Spot, spot}
+use Rattle.pic_grid.specs.Among.{IsOneOf}
 use Rattle.pic_grid.specs.Fours.{AreSmall}
 use Rattle.pic_grid.specs.declared.fours.Four.{Four}
 use Rattle.pic_grid.specs.declared.fours.Found.{Found}
@@ -38,10 +39,6 @@ pub record IsModest (f : CellFlux) : Type 0 where
   pub y : AreSmall f.y
   pub z : AreSmall f.z
 
--- the layer c is one of n from low on
-abbrev pub IsLayer : ℤ → ℕ → ℤ → Type 0
-IsLayer low n c = (low ≤ℤ c) × (c <ℤ (low +ℤ pos n))
-
 -- three tests hold
 pub record AreTrue (a b c : Bool) : Type 0 where
   pub first : IsTrue a
@@ -50,12 +47,12 @@ pub record AreTrue (a b c : Bool) : Type 0 where
 
 -- which layers of a cell a zone has: the cell's own, and the next ones up
 pub record AreLayers (low : Spot) (size : Triple) (c : Spot) (l : Layers) : Type 0 where
-  pub at_x : IsTrue l.x ↔ IsLayer low.x size.x c.x
-  pub at_y : IsTrue l.y ↔ IsLayer low.y size.y c.y
-  pub at_z : IsTrue l.z ↔ IsLayer low.z size.z c.z
-  pub over_x : IsTrue l.up_x ↔ IsLayer low.x size.x (c.x +ℤ pos 1)
-  pub over_y : IsTrue l.up_y ↔ IsLayer low.y size.y (c.y +ℤ pos 1)
-  pub over_z : IsTrue l.up_z ↔ IsLayer low.z size.z (c.z +ℤ pos 1)
+  pub at_x : IsTrue l.x ↔ IsOneOf low.x size.x c.x
+  pub at_y : IsTrue l.y ↔ IsOneOf low.y size.y c.y
+  pub at_z : IsTrue l.z ↔ IsOneOf low.z size.z c.z
+  pub over_x : IsTrue l.up_x ↔ IsOneOf low.x size.x (c.x +ℤ pos 1)
+  pub over_y : IsTrue l.up_y ↔ IsOneOf low.y size.y (c.y +ℤ pos 1)
+  pub over_z : IsTrue l.up_z ↔ IsOneOf low.z size.z (c.z +ℤ pos 1)
 
 -- all four edges along an axis round a cell
 abbrev pub all_four : Found

@@ -15,7 +15,7 @@ use Rattle.pic_flux.specs.declared.spans.Spans.{Spans}
 
 -- on one axis: the weights of both ends added up, the way between them, and six sides of a cell
 -- times that sum
-pub record AreEnds (side : ℕ) (s : Piece) (axis : Axis) (e : Ends) : Type 0 where
+pub record AreSpanEnds (side : ℕ) (s : Piece) (axis : Axis) (e : Ends) : Type 0 where
   pub sum :
       e.sum ≡ weight_of side s.cell true axis s.from +ℤ weight_of side s.cell true axis s.to
   pub way : e.way ≡ along axis s.to -ℤ along axis s.from
@@ -23,9 +23,9 @@ pub record AreEnds (side : ℕ) (s : Piece) (axis : Axis) (e : Ends) : Type 0 wh
 
 -- on all three, and the weight of all four edges along an axis together
 pub record AreSpans (side : ℕ) (s : Piece) (p : Spans) : Type 0 where
-  pub x : AreEnds side s X p.x
-  pub y : AreEnds side s Y p.y
-  pub z : AreEnds side s Z p.z
+  pub x : AreSpanEnds side s X p.x
+  pub y : AreSpanEnds side s Y p.y
+  pub z : AreSpanEnds side s Z p.z
   pub whole : p.whole ≡ pos 12 *ℤ pos side *ℤ pos side
 
 -- numbers of a size that products of them have room for

@@ -6,13 +6,13 @@ ghost use Rattle.pic_num.specs.Space.{spot};
 ghost use Rattle.pic_grid.specs.Block.{IsShaped, AllAtMost};
 ghost use Rattle.pic_grid.specs.Fours.{IsBase, base_cell, AreFound, AreSmall};
 ghost use Rattle.pic_flux.specs.Adds.{Adds};
-ghost use Rattle.pic_flux.specs.CellFlux.{at_four, all_four, IsLayer, AreLayers, AreTrue};
+ghost use Rattle.pic_flux.specs.CellFlux.{at_four, all_four, AreLayers, AreTrue};
 ghost use Rattle.pic_flux.specs.Corners.{HasEdges};
 ghost use Rattle.pic_flux.specs.Spans.{IsShort, four_by};
 
 use crate::four::four_of;
 use crate::spans::Spans;
-use pic_grid::{Base, Block, Found, Four, Zone};
+use pic_grid::{Base, Block, Found, Four, Zone, is_among};
 use pic_num::Axis;
 
 /// Which layers of a cell a block has: on each axis the cell's own, and the next one up.
@@ -24,22 +24,6 @@ pub struct Layers {
     pub up_x: bool,
     pub up_y: bool,
     pub up_z: bool,
-}
-
-/// Whether the layer `c` is among `size` layers from `low` on.
-#[inline(always)]
-fn is_among(low: i32, size: u32, c: i64) -> bool
-    requires { IsAtMost c (2 ^ 32) }
-    ensures { IsTrue result ↔ IsLayer low size c }
-{
-    let above = c - i64::from(low);
-    if above < 0 {
-        return false;
-    }
-    if above >= i64::from(size) {
-        return false;
-    }
-    true
 }
 
 /// Which of the layers of a cell and of the next ones up a block has: all edges of the cell share

@@ -4,7 +4,7 @@ ghost use Rattle.std.specs.Prelude.{◌≡◌, pos, ◌*◌, ◌^◌, ◌+ℤ◌
 ghost use Rattle.pic_num.specs.Sizes.{IsAtMost};
 ghost use Rattle.pic_num.specs.Space.{along, AreAtMost};
 ghost use Rattle.pic_grid.specs.Segment.{IsInCell};
-ghost use Rattle.pic_flux.specs.Spans.{AreEnds, AreShort, AreSpans, IsShort, ends_on};
+ghost use Rattle.pic_flux.specs.Spans.{AreSpanEnds, AreShort, AreSpans, IsShort, ends_on};
 
 use crate::weights::{way, weight_from, weight_to};
 use pic_grid::Segment;
@@ -64,7 +64,7 @@ impl Spans {
 #[inline(always)]
 fn ends_of(sub: Sub, seg: &Segment, axis: Axis) -> Ends
     requires { IsInCell sub seg.now }
-    ensures ends { AreEnds sub seg.now axis result }
+    ensures ends { AreSpanEnds sub seg.now axis result }
     ensures short { AreShort result }
     ensures cell { IsAtMost (along axis seg.now.cell) (2 ^ 24) }
 {

@@ -14,7 +14,7 @@ use Rattle.pic_num.proofs.SizeLaws.{at_most_more}
 use Rattle.pic_grid.specs.Cells.{count_of, index_of, place_of}
 use Rattle.pic_grid.specs.Block.{InZone, inner_of}
 use Rattle.pic_grid.specs.BlockLayers.{NumbersAtMost}
-use Rattle.pic_grid.specs.Fours.{IsBase, number_from, first_of, step_by, added_in}
+use Rattle.pic_grid.specs.Fours.{IsBase, number_from, base_number, step_by, added_in}
 use Rattle.pic_grid.specs.Rows.{step_of, lifted}
 use Rattle.pic_grid.specs.declared.base.Base.{Base}
 use Rattle.pic_grid.proofs.BlockLaws.{inner_within}
@@ -82,7 +82,7 @@ twice n k = omega (arith, ints)
 never : (n k : ℤ) → n ≡ n +ℤ pos 0 *ℤ k
 never n k = omega (arith, ints)
 
-pub first_is : (low : Spot) (n : Triple) (b : Base) (a : Axis) → IsBase low n b → first_of b a ≡ int_wrap w64 (number_on low n a (spot b.cell))
+pub first_is : (low : Spot) (n : Triple) (b : Base) (a : Axis) → IsBase low n b → base_number b a ≡ int_wrap w64 (number_on low n a (spot b.cell))
 first_is low n b X h = h.here ∙ ap (int_wrap w64) (never (number_from low n (spot b.cell)) (pos n.x *ℤ pos n.y *ℤ pos n.z))
 first_is low n b Y h =
     let all = pos n.x *ℤ pos n.y *ℤ pos n.z in

@@ -6,7 +6,7 @@ use Rattle.pic_num.specs.Space.{Triple, Spot, unwrapped, axis_number}
 use Rattle.pic_grid.specs.Cells.{Grid, IsCells, IsWithin, count_of, index_of, place_of}
 use Rattle.pic_grid.specs.Lattice.{IsParts}
 use Rattle.pic_grid.specs.Block.{BlockValues, inner_of, edge_at}
-use Rattle.pic_grid.specs.Parts.{part_size, part_of, layered, IsPart, no_block, ArePartsOf, joined, IsLayer}
+use Rattle.pic_grid.specs.Parts.{part_size, part_with, layered, IsPart, no_block, ArePartsOf, joined, IsLayer}
 use Rattle.pic_grid.proofs.PartLaws.{number_of, block_of, value_at-joined}
 use Rattle.pic_grid.proofs.RunLaws.{here, above_corner}
 
@@ -45,9 +45,9 @@ module _ (grid : Grid) (parts : Triple) (blocks : List BlockValues) (h : IsCells
         let some : 0 < n.z = omega (arith, h.z_least) in
         ap (part_size n) is ∙ (λ i. record { x = div-one n.x i; y = div-one n.y i; z = div_self {n = n.z} some i })
 
-    part_is : (p : Triple) → IsWithin p n → part_of (part_size n parts) p ≡ record { x = 0; y = 0; z = p.z }
+    part_is : (p : Triple) → IsWithin p n → part_with (part_size n parts) p ≡ record { x = 0; y = 0; z = p.z }
     part_is p w =
-        ap (λ (s : Triple). part_of s p) size_is
+        ap (λ (s : Triple). part_with s p) size_is
         ∙ (λ i. record { x = none_over n.x p.x w.x i; y = none_over n.y p.y w.y i; z = div-one p.z i })
 
     number_is : (p : Triple) → IsWithin p n → number_of n parts p ≡ p.z
@@ -71,9 +71,10 @@ module _ (grid : Grid) (parts : Triple) (blocks : List BlockValues) (h : IsCells
         of_cell : (p : Triple) → IsWithin p n → p.z ≡ z → b ≡ block_of n parts blocks p
         of_cell p w in_layer = of ∙ ap (λ (m : ℕ). slice_index_or blocks m no_block) (sym (number_is p w ∙ in_layer))
 
-        part : (p : Triple) → IsWithin p n → p.z ≡ z → IsPart (part_size n parts) (part_of (part_size n parts) p) b
+        part : (p : Triple) → IsWithin p n → p.z ≡ z → IsPart (part_size n parts) (part_with (part_size n parts) p) b
         part p w in_layer =
-            subst (λ (d : BlockValues). IsPart (part_size n parts) (part_of (part_size n parts) p) d) (sym (of_cell p w in_layer)) (here n parts blocks p h k are w)
+            subst (λ (d : BlockValues). IsPart (part_size n parts) (part_with (part_size n parts) p) d) (sym (of_cell p w in_layer))
+                (here n parts blocks p h k are w)
 
         size : b.size ≡ thin
         size =

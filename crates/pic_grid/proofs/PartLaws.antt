@@ -16,7 +16,7 @@ use Rattle.pic_num.specs.Space.{Triple, Spot, unwrapped}
 use Rattle.pic_grid.specs.Cells.{Grid, IsCells, IsSize, IsWithin, count_of, index_of, cell_of, place_of}
 use Rattle.pic_grid.specs.Lattice.{IsParts, value_at, with_value, values_of}
 use Rattle.pic_grid.specs.Block.{BlockValues, InZone, inner_of, edge_at, with_edge}
-use Rattle.pic_grid.specs.Parts.{part_size, part_of, corner_of, IsPart, no_block, ArePartsOf, IsLattice, value_in, joined}
+use Rattle.pic_grid.specs.Parts.{part_size, part_with, corner_of, IsPart, no_block, ArePartsOf, IsLattice, value_in, joined}
 use Rattle.pic_grid.proofs.CellLaws.{index_of_below, cell_of-index_of, place_of_below}
 use Rattle.pic_grid.proofs.LatticeLaws.{value_at-field_of, length-values_of, same_values}
 use Rattle.pic_grid.proofs.BlockLaws.{edge_same, edge_at-other}
@@ -72,7 +72,7 @@ axis_part n k p c h =
     div_below p (n / k) k (omega arith) (omega arith)
 
 -- the part of a cell is one of the parts
-pub part_of_within : (n parts p : Triple) → IsCells n → IsParts n parts → IsWithin p n → IsWithin (part_of (part_size n parts) p) parts
+pub part_of_within : (n parts p : Triple) → IsCells n → IsParts n parts → IsWithin p n → IsWithin (part_with (part_size n parts) p) parts
 part_of_within n parts p h k w =
     let c = cut n parts h k in
     record { x = axis_part n.x parts.x p.x c.x w.x; y = axis_part n.y parts.y p.y c.y w.y; z = axis_part n.z parts.z p.z c.z w.z }
@@ -87,7 +87,7 @@ high_end p s h =
     omega (arith, ints, div-add-mod' p s)
 
 -- a cell lies in the box of its part
-pub in_part : (s p : Triple) → IsSize s → InZone (corner_of s (part_of s p)) s (unwrapped p)
+pub in_part : (s p : Triple) → IsSize s → InZone (corner_of s (part_with s p)) s (unwrapped p)
 in_part s p h = record {
   x_low = low_end p.x s.x;
   x_high = high_end p.x s.x h.x_least;
@@ -99,7 +99,7 @@ in_part s p h = record {
 
 -- the number of a cell's part, and its block
 abbrev pub number_of : Triple → Triple → Triple → ℕ
-number_of n parts p = index_of parts (part_of (part_size n parts) p)
+number_of n parts p = index_of parts (part_with (part_size n parts) p)
 
 abbrev pub block_of : Triple → Triple → List BlockValues → Triple → BlockValues
 block_of n parts blocks p = slice_index_or blocks (number_of n parts p) no_block
@@ -109,20 +109,20 @@ pub block_has : (n parts : Triple) (blocks : List BlockValues) (p : Triple) → 
     → InZone (block_of n parts blocks p).low (block_of n parts blocks p).size (unwrapped p)
 block_has n parts blocks p h k are w =
     let s = part_size n parts in
-    let among : IsWithin (part_of s p) parts = part_of_within n parts p h k w in
+    let among : IsWithin (part_with s p) parts = part_of_within n parts p h k w in
     let zone : IsPart s (cell_of parts (number_of n parts p)) (block_of n parts blocks p) =
-    are.zones (number_of n parts p) (index_of_below parts (part_of s p) among) in
-    let number : cell_of parts (number_of n parts p) ≡ part_of s p = cell_of-index_of parts (part_of s p) among in
-    let low : (block_of n parts blocks p).low ≡ corner_of s (part_of s p) = zone.low ∙ ap (corner_of s) number in
-    let inside : InZone (corner_of s (part_of s p)) s (unwrapped p) = in_part s p (part_size_limits n parts h k) in
-    let sized : InZone (corner_of s (part_of s p)) (block_of n parts blocks p).size (unwrapped p) =
-    subst (λ (m : Triple). InZone (corner_of s (part_of s p)) m (unwrapped p)) (sym zone.size) inside in
+    are.zones (number_of n parts p) (index_of_below parts (part_with s p) among) in
+    let number : cell_of parts (number_of n parts p) ≡ part_with s p = cell_of-index_of parts (part_with s p) among in
+    let low : (block_of n parts blocks p).low ≡ corner_of s (part_with s p) = zone.low ∙ ap (corner_of s) number in
+    let inside : InZone (corner_of s (part_with s p)) s (unwrapped p) = in_part s p (part_size_limits n parts h k) in
+    let sized : InZone (corner_of s (part_with s p)) (block_of n parts blocks p).size (unwrapped p) =
+    subst (λ (m : Triple). InZone (corner_of s (part_with s p)) m (unwrapped p)) (sym zone.size) inside in
     subst (λ (l : Spot). InZone l (block_of n parts blocks p).size (unwrapped p)) (sym low) sized
 
 pub number_below : (n parts : Triple) (blocks : List BlockValues) (p : Triple) → IsCells n → IsParts n parts → ArePartsOf n parts blocks → IsWithin p n
     → number_of n parts p < length blocks
 number_below n parts blocks p h k are w =
-    let below : number_of n parts p < count_of parts = index_of_below parts (part_of (part_size n parts) p) (part_of_within n parts p h k w) in
+    let below : number_of n parts p < count_of parts = index_of_below parts (part_with (part_size n parts) p) (part_of_within n parts p h k w) in
     let count : length blocks ≡ count_of parts = are.count in
     omega arith
 
@@ -241,7 +241,7 @@ joined_zeros n parts blocks h k zeros =
     same_values n (values_of n (value_in n parts blocks)) (replicate (3 * count_of n) (pos 0)) (length-values_of n (value_in n parts blocks))
     (length-replicate (3 * count_of n) (pos 0)) (λ a p w.
     let b = block_of n parts blocks p in
-    let here = zeros (number_of n parts p) (index_of_below parts (part_of (part_size n parts) p) (part_of_within n parts p h k w)) in
+    let here = zeros (number_of n parts p) (index_of_below parts (part_with (part_size n parts) p) (part_of_within n parts p h k w)) in
     values_of-joined n parts blocks a p w
     ∙ ap (λ (xs : List ℤ). slice_index_or xs (place_of b.size a (inner_of b.low (unwrapped p))) (pos 0)) here
     ∙ zero_read (3 * count_of (part_size n parts)) (place_of b.size a (inner_of b.low (unwrapped p)))
@@ -269,17 +269,17 @@ are_parts_with n parts blocks k new are low size =
     }
 
 -- what the fields of a lattice say of a cell: its part is one of the parts,
-pub lattice_part : (n parts s : Triple) (blocks : List BlockValues) (p : Triple) → IsLattice n parts s blocks → IsWithin p n → IsWithin (part_of s p) parts
+pub lattice_part : (n parts s : Triple) (blocks : List BlockValues) (p : Triple) → IsLattice n parts s blocks → IsWithin p n → IsWithin (part_with s p) parts
 lattice_part n parts s blocks p l w =
-    subst (λ (m : Triple). IsWithin (part_of m p) parts) (sym l.layers) (part_of_within n parts p l.cells l.parts_fit w)
+    subst (λ (m : Triple). IsWithin (part_with m p) parts) (sym l.layers) (part_of_within n parts p l.cells l.parts_fit w)
 
 pub lattice_number : (n parts s : Triple) (blocks : List BlockValues) (p : Triple) (i : ℕ) → IsLattice n parts s blocks
-    → i ≡ index_of parts (part_of s p) → i ≡ number_of n parts p
-lattice_number n parts s blocks p i l e = e ∙ ap (λ (m : Triple). index_of parts (part_of m p)) l.layers
+    → i ≡ index_of parts (part_with s p) → i ≡ number_of n parts p
+lattice_number n parts s blocks p i l e = e ∙ ap (λ (m : Triple). index_of parts (part_with m p)) l.layers
 
 -- its block stands in the list,
 pub lattice_below : (n parts s : Triple) (blocks : List BlockValues) (p : Triple) (i : ℕ) → IsLattice n parts s blocks → IsWithin p n
-    → i ≡ index_of parts (part_of s p) → i < length blocks
+    → i ≡ index_of parts (part_with s p) → i < length blocks
 lattice_below n parts s blocks p i l w e =
     let number : i ≡ number_of n parts p = lattice_number n parts s blocks p i l e in
     let below : number_of n parts p < length blocks = number_below n parts blocks p l.cells l.parts_fit l.zones w in
@@ -287,7 +287,7 @@ lattice_below n parts s blocks p i l w e =
 
 -- what was read there is its block,
 pub lattice_block : (n parts s : Triple) (blocks : List BlockValues) (p : Triple) (i : ℕ) (b : BlockValues) → IsLattice n parts s blocks → IsWithin p n
-    → i ≡ index_of parts (part_of s p) → b ≡ slice_index_or blocks i b → b ≡ block_of n parts blocks p
+    → i ≡ index_of parts (part_with s p) → b ≡ slice_index_or blocks i b → b ≡ block_of n parts blocks p
 lattice_block n parts s blocks p i b l w e read =
     get_or_read blocks i b (lattice_below n parts s blocks p i l w e) read no_block
     ∙ ap (λ (m : ℕ). slice_index_or blocks m no_block) (lattice_number n parts s blocks p i l e)
@@ -312,7 +312,7 @@ lattice_kept n parts s blocks i a c v b new l below read after =
 
 -- and is the write of the lattice
 pub lattice_set : (grid : Grid) (parts s : Triple) (blocks : List BlockValues) (p : Triple) (i : ℕ) (a : Axis) (c : Spot) (v : ℤ) (b new : BlockValues)
-    → IsLattice grid.n parts s blocks → IsWithin p grid.n → i ≡ index_of parts (part_of s p) → b ≡ slice_index_or blocks i b → c ≡ unwrapped p
+    → IsLattice grid.n parts s blocks → IsWithin p grid.n → i ≡ index_of parts (part_with s p) → b ≡ slice_index_or blocks i b → c ≡ unwrapped p
     → new ≡ with_edge b a c v → edge_at new a c ≡ v
     → joined grid parts (slice_set blocks i new) ≡ with_value (joined grid parts blocks) a p v
 lattice_set grid parts s blocks p i a c v b new l w e read at after stored =

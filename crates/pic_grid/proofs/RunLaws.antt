@@ -8,7 +8,7 @@ use Rattle.pic_num.specs.Space.{Triple, Spot, unwrapped}
 use Rattle.pic_grid.specs.Cells.{IsCells, IsWithin, index_of}
 use Rattle.pic_grid.specs.Lattice.{IsParts, value_at}
 use Rattle.pic_grid.specs.Block.{BlockValues, inner_of, edge_at, inner_at}
-use Rattle.pic_grid.specs.Parts.{part_size, part_of, IsPart, no_block, ArePartsOf, joined}
+use Rattle.pic_grid.specs.Parts.{part_size, part_with, IsPart, no_block, ArePartsOf, joined}
 use Rattle.pic_grid.specs.Rows.{part_end}
 use Rattle.pic_grid.proofs.CellLaws.{cell_of-index_of, index_of_below}
 use Rattle.pic_grid.proofs.PartLaws.{cut, part_size_limits, part_of_within, block_of, value_at-joined}
@@ -41,11 +41,11 @@ module _ (n parts : Triple) (blocks : List BlockValues) (p : Triple) (h : IsCell
     b = block_of n parts blocks p
 
     -- the block of a cell's part
-    pub here : IsPart s (part_of s p) b
+    pub here : IsPart s (part_with s p) b
     here =
         let among = part_of_within n parts p h k w in
-        let zone = are.zones (index_of parts (part_of s p)) (index_of_below parts (part_of s p) among) in
-        subst (λ (q : Triple). IsPart s q b) (cell_of-index_of parts (part_of s p) among) zone
+        let zone = are.zones (index_of parts (part_with s p)) (index_of_below parts (part_with s p) among) in
+        subst (λ (q : Triple). IsPart s q b) (cell_of-index_of parts (part_with s p) among) zone
 
     some : 1 ≤ s.x
     some = (part_size_limits n parts h k).x_least
@@ -69,7 +69,7 @@ module _ (n parts : Triple) (blocks : List BlockValues) (p : Triple) (h : IsCell
         let q = record p { x = p.x + i } in
         let in_x : p.x + i < n.x = omega (arith, run_inside) in
         let inside : IsWithin q n = record { x = in_x; y = w.y; z = w.z } in
-        let part : part_of s q ≡ part_of s p = λ j. record { x = same_layer s.x p.x i some below j; y = p.y / s.y; z = p.z / s.z } in
+        let part : part_with s q ≡ part_with s p = λ j. record { x = same_layer s.x p.x i some below j; y = p.y / s.y; z = p.z / s.z } in
         let at_x : (inner_of b.low (unwrapped p)).x + i ≡ (inner_of b.low (unwrapped q)).x =
         ap (λ (l : ℤ). unsigned_abs (pos p.x -ℤ l) + i) low
         ∙ ap (λ (m : ℕ). m + i) (above_corner s.x p.x)

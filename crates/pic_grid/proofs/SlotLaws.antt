@@ -8,7 +8,7 @@ use Rattle.pic_grid.specs.declared.slot.Slot.{Slot}
 use Rattle.pic_grid.specs.Block.{BlockValues, inner_of, edge_at, inner_at}
 use Rattle.pic_grid.specs.Cells.{Grid, IsWithin, count_of, index_of, place_of}
 use Rattle.pic_grid.specs.Lattice.{Field, value_at}
-use Rattle.pic_grid.specs.Parts.{part_size, part_of, corner_of, IsPart, IsLattice, joined}
+use Rattle.pic_grid.specs.Parts.{part_size, part_with, corner_of, IsPart, IsLattice, joined}
 use Rattle.pic_grid.specs.Rows.{part_end}
 use Rattle.pic_grid.specs.Slot.{IsSlotX, IsSlotY, IsSlotZ}
 use Rattle.pic_grid.proofs.BlockLaws.{inner_within}
@@ -46,14 +46,14 @@ module _ (n parts s : Triple) (blocks : List BlockValues) (x y z : Slot) (l : Is
     pub slots_within : IsWithin p n
     slots_within = record { x = on.x.within; y = on.y.within; z = on.z.within }
 
-    part_is : part ≡ index_of parts (part_of (part_size n parts) p)
+    part_is : part ≡ index_of parts (part_with (part_size n parts) p)
     unfolding index_of
     part_is =
         (λ i. on.x.part i + on.y.part i + on.z.part i)
         ∙ number_sum (x.index / (part_size n parts).x) (y.index / (part_size n parts).y) (z.index / (part_size n parts).z) parts.x parts.y
 
-    number : part ≡ index_of parts (part_of s p)
-    number = part_is ∙ ap (λ (m : Triple). index_of parts (part_of m p)) (sym l.layers)
+    number : part ≡ index_of parts (part_with s p)
+    number = part_is ∙ ap (λ (m : Triple). index_of parts (part_with m p)) (sym l.layers)
 
     -- their part is one of the parts
     slots_below : part < length blocks
@@ -69,7 +69,7 @@ module _ (n parts s : Triple) (blocks : List BlockValues) (x y z : Slot) (l : Is
         ((λ i. on.x.place i + on.y.place i + on.z.place i)
         ∙ number_sum inner.x inner.y inner.z (part_size n parts).x (part_size n parts).y)
 
-    inner_is : inner_of (corner_of (part_size n parts) (part_of (part_size n parts) p)) (unwrapped p) ≡ inner
+    inner_is : inner_of (corner_of (part_size n parts) (part_with (part_size n parts) p)) (unwrapped p) ≡ inner
     inner_is i = record {
       x = above_corner (part_size n parts).x x.index i;
       y = above_corner (part_size n parts).y y.index i;
@@ -82,8 +82,8 @@ module _ (n parts s : Triple) (blocks : List BlockValues) (x y z : Slot) (l : Is
         block : b ≡ block_of n parts blocks p
         block = lattice_block n parts s blocks p part b l slots_within number read
 
-        zone : IsPart (part_size n parts) (part_of (part_size n parts) p) b
-        zone = subst (IsPart (part_size n parts) (part_of (part_size n parts) p)) (sym block) (here n parts blocks p l.cells l.parts_fit l.zones slots_within)
+        zone : IsPart (part_size n parts) (part_with (part_size n parts) p) b
+        zone = subst (IsPart (part_size n parts) (part_with (part_size n parts) p)) (sym block) (here n parts blocks p l.cells l.parts_fit l.zones slots_within)
 
         at : (a : Axis) → axis_number a * count_of s + place ≡ place_of b.size a (inner_of b.low (unwrapped p))
         at a =

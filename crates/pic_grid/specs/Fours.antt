@@ -30,10 +30,10 @@ pub record IsBase (low : Spot) (n : Triple) (b : Base) : Type 0 where
   pub count : b.count ≡ int_wrap w64 (pos n.x *ℤ pos n.y *ℤ pos n.z)
 
 -- the number on an axis that it tells of the cell, in 64 bits, and how far the next cell up is
-abbrev pub first_of : Base → Axis → ℤ
-first_of b X = b.here
-first_of b Y = int_wrap w64 (b.here +ℤ b.count)
-first_of b Z = int_wrap w64 (int_wrap w64 (b.here +ℤ b.count) +ℤ b.count)
+abbrev pub base_number : Base → Axis → ℤ
+base_number b X = b.here
+base_number b Y = int_wrap w64 (b.here +ℤ b.count)
+base_number b Z = int_wrap w64 (int_wrap w64 (b.here +ℤ b.count) +ℤ b.count)
 
 abbrev pub step_by : Base → Axis → ℤ
 step_by b X = pos 1

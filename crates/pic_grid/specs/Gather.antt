@@ -44,8 +44,8 @@ gathered side n offset force point =
     rounded (sum_cells n (λ p. weighted side n offset force point p)) (pos (side ^ 3))
 
 -- a component given by the list of its values, in the order z, y, x of cells (x fastest)
-unfoldable pub listed : Triple → List ℤ → Triple → ℤ
-listed n values p = slice_index_or values (index_of n p) (pos 0)
+unfoldable pub laid_out : Triple → List ℤ → Triple → ℤ
+laid_out n values p = slice_index_or values (index_of n p) (pos 0)
 
 -- the three components of E at a point, of force values
 abbrev pub gathered_e : ℕ → Triple → (Axis → Triple → ℤ) → Triple → Spot

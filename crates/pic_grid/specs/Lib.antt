@@ -3,6 +3,7 @@ pub mod Species
 pub mod Cells
 pub mod Arrays
 pub mod Lattice
+pub mod Among
 pub mod Block
 pub mod Rows
 pub mod Fours

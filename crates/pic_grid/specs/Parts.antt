@@ -22,8 +22,8 @@ abbrev pub part_size : Triple → Triple → Triple
 part_size n parts = record { x = n.x / parts.x; y = n.y / parts.y; z = n.z / parts.z }
 
 -- the part, of s layers, in which a cell lies
-abbrev pub part_of : Triple → Triple → Triple
-part_of s p = record { x = p.x / s.x; y = p.y / s.y; z = p.z / s.z }
+abbrev pub part_with : Triple → Triple → Triple
+part_with s p = record { x = p.x / s.x; y = p.y / s.y; z = p.z / s.z }
 
 -- the lowest cell of a part
 abbrev pub corner_of : Triple → Triple → Spot
@@ -69,7 +69,7 @@ pub record IsDivided (n parts s by : Triple) (blocks : List BlockValues) : Type 
 -- a cell's component is that of the block of its part
 unfoldable pub value_in : Triple → Triple → List BlockValues → Axis → Triple → ℤ
 value_in n parts blocks a p =
-    edge_at (slice_index_or blocks (index_of parts (part_of (part_size n parts) p)) no_block) a (unwrapped p)
+    edge_at (slice_index_or blocks (index_of parts (part_with (part_size n parts) p)) no_block) a (unwrapped p)
 
 -- the lattice of the blocks
 abbrev pub joined : Grid → Triple → List BlockValues → Field

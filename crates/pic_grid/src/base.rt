@@ -4,7 +4,7 @@
 ghost use Rattle.std.specs.Prelude.{◌≡◌, ◌+ℤ◌, ◌-ℤ◌, ◌*ℤ◌};
 ghost use Rattle.std.specs.Int.{w64, int_wrap};
 ghost use Rattle.pic_num.specs.Space.{spot};
-ghost use Rattle.pic_grid.specs.Fours.{IsBase, base_cell, first_of, step_by};
+ghost use Rattle.pic_grid.specs.Fours.{IsBase, base_cell, base_number, step_by};
 
 use crate::block::Block;
 use pic_num::Axis;
@@ -29,7 +29,7 @@ impl Base {
     /// The number of the place on `axis` at the cell, in 64 bits.
     #[inline(always)]
     pub(crate) fn first(&self, axis: Axis) -> i64
-        ensures { result ≡ first_of self.now axis }
+        ensures { result ≡ base_number self.now axis }
     {
         match axis {
             Axis::X => self.here,

@@ -6,6 +6,7 @@ ghost use Rattle.pic_num.specs.Space.{triple, spot};
 ghost use Rattle.pic_grid.specs.Cells.{IsWithin, count_of, place_of};
 ghost use Rattle.pic_grid.specs.Block.{BlockValues, IsFilled, InZone, inner_of, edge_at, with_edge};
 
+use crate::among::is_among;
 use crate::places::place_in;
 use pic_num::{Axis, NoMemory};
 use std::alloc::Global;
@@ -181,26 +182,13 @@ fn is_inside(zone: Zone, cell: [i32; 3]) -> bool
     let [low_x, low_y, low_z] = zone.low;
     let [nx, ny, nz] = zone.size;
     let [x, y, z] = cell;
-    if !is_among(low_x, nx, x) {
+    if !is_among(low_x, nx, i64::from(x)) {
         return false;
     }
-    if !is_among(low_y, ny, y) {
+    if !is_among(low_y, ny, i64::from(y)) {
         return false;
     }
-    if !is_among(low_z, nz, z) {
-        return false;
-    }
-    true
-}
-
-/// Whether `c` is one of `size` layers from `low` on.
-fn is_among(low: i32, size: u32, c: i32) -> bool
-    ensures { IsTrue result ↔ ((low ≤ℤ c) × (c <ℤ (low +ℤ pos size))) }
-{
-    if c < low {
-        return false;
-    }
-    if i64::from(c) - i64::from(low) >= i64::from(size) {
+    if !is_among(low_z, nz, i64::from(z)) {
         return false;
     }
     true

@@ -1,6 +1,7 @@
 //! The grid: the types that fields, charges and paths live on, and the definitions of the scheme.
 #![tactic(auto)]
 
+mod among;
 mod base;
 mod block;
 mod cells;
@@ -21,6 +22,7 @@ mod snapshot;
 mod stop;
 mod track;
 
+pub use among::is_among;
 pub use base::Base;
 pub use block::{Block, Zone};
 pub use cells::Cells;

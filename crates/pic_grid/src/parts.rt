@@ -5,7 +5,7 @@ ghost use Rattle.pic_num.specs.Limits.{most_cells_of_axis};
 ghost use Rattle.pic_num.specs.Space.{triple, spot};
 ghost use Rattle.pic_grid.specs.Cells.{IsCells, IsSize, IsWithin, count_of, index_of, cell_of};
 ghost use Rattle.pic_grid.specs.Lattice.{IsParts};
-ghost use Rattle.pic_grid.specs.Parts.{part_size, part_of, corner_of, no_block, ArePartsOf};
+ghost use Rattle.pic_grid.specs.Parts.{part_size, part_with, corner_of, no_block, ArePartsOf};
 ghost use Rattle.pic_grid.specs.Parts.{IsFactor, AreFactors};
 
 use crate::block::{Block, Zone};
@@ -53,8 +53,8 @@ pub(crate) fn part_in(parts: [u32; 3], layers: [u32; 3], factors: [u16; 3], cell
     requires x { (triple cell).x < most_cells_of_axis }
     requires y { (triple cell).y < most_cells_of_axis }
     requires z { (triple cell).z < most_cells_of_axis }
-    requires within { IsWithin (part_of (triple layers) (triple cell)) (triple parts) }
-    ensures { result ≡ index_of (triple parts) (part_of (triple layers) (triple cell)) }
+    requires within { IsWithin (part_with (triple layers) (triple cell)) (triple parts) }
+    ensures { result ≡ index_of (triple parts) (part_with (triple layers) (triple cell)) }
 {
     if count_in(parts) == 1 {
         return 0;

@@ -16,7 +16,7 @@ use Rattle.pic_tile.proofs.SumLaws.{total_same, one_total, total-sum_by, sum_by-
 use Rattle.pic_tile.specs.declared.parcel.Parcel.{Parcel}
 use Rattle.pic_tile.specs.CoreState.{held_in}
 use Rattle.pic_tile.specs.Directions.{directions, here}
-use Rattle.pic_tile.specs.Leaving.{way, after, going}
+use Rattle.pic_tile.specs.Leaving.{way, after_its_push, going}
 use Rattle.pic_tile.specs.Pushed.{IsPushed}
 use Rattle.pic_tile.specs.Tile.{TileValue, chain_of, chain_at}
 use Rattle.pic_tile.specs.Tiling.{Tiling}
@@ -59,23 +59,24 @@ ready_weight v t empty =
 
 -- what a tile's particles weigh when they have gone in all directions
 pub going_weight : (w : Surroundings) (m : Tiling) (v : Particle → ℕ) (xs : List Particle)
-    → total_below directions (λ d. sum_by v (going w m d xs)) ≡ sum_by (λ x. v (after w x)) xs
+    → total_below directions (λ d. sum_by v (going w m d xs)) ≡ sum_by (λ x. v (after_its_push w x)) xs
 unfolding going
 going_weight w m v xs =
-    let part : ℕ → Particle → ℕ = λ d x. cond (nat_eq (way w m x) d) (v (after w x)) 0 in
-    total_same directions (λ d. sum_by v (map (after w) (filter (λ x. nat_eq (way w m x) d) xs))) (λ d. sum_by (part d) xs)
-    (λ d below. sum_by-map v (after w) (filter (λ x. nat_eq (way w m x) d) xs) ∙ sum_by-filter (λ x. v (after w x)) (λ x. nat_eq (way w m x) d) xs)
+    let part : ℕ → Particle → ℕ = λ d x. cond (nat_eq (way w m x) d) (v (after_its_push w x)) 0 in
+    total_same directions (λ d. sum_by v (map (after_its_push w) (filter (λ x. nat_eq (way w m x) d) xs))) (λ d. sum_by (part d) xs)
+    (λ d below. sum_by-map v (after_its_push w) (filter (λ x. nat_eq (way w m x) d) xs) ∙ sum_by-filter (λ x. v (after_its_push w x)) (λ x. nat_eq
+    (way w m x) d) xs)
     ∙ total-sum_by directions part xs
-    ∙ sum_by_agree (λ x. total_below directions (λ d. part d x)) (λ x. v (after w x)) xs (λ k d below. one (get_or xs k d))
+    ∙ sum_by_agree (λ x. total_below directions (λ d. part d x)) (λ x. v (after_its_push w x)) xs (λ k d below. one (get_or xs k d))
   where
-    one : (x : Particle) → total_below directions (λ d. cond (nat_eq (way w m x) d) (v (after w x)) 0) ≡ v (after w x)
+    one : (x : Particle) → total_below directions (λ d. cond (nat_eq (way w m x) d) (v (after_its_push w x)) 0) ≡ v (after_its_push w x)
     one x =
-        one_total directions (way w m x) (λ d. cond (nat_eq (way w m x) d) (v (after w x)) 0) (way_below w m x)
-        (λ d below apart. ap (λ (b : Bool). cond b (v (after w x)) 0) (ne_eqb (way w m x) d (λ e. apart (sym e))))
-        ∙ ap (λ (b : Bool). cond b (v (after w x)) 0) (eq-eqb (way w m x) (way w m x) refl)
+        one_total directions (way w m x) (λ d. cond (nat_eq (way w m x) d) (v (after_its_push w x)) 0) (way_below w m x)
+        (λ d below apart. ap (λ (b : Bool). cond b (v (after_its_push w x)) 0) (ne_eqb (way w m x) d (λ e. apart (sym e))))
+        ∙ ap (λ (b : Bool). cond b (v (after_its_push w x)) 0) (eq-eqb (way w m x) (way w m x) refl)
 
-pub same_id : (w : Surroundings) (x : Particle) → (after w x).id ≡ x.id
-unfolding after
+pub same_id : (w : Surroundings) (x : Particle) → (after_its_push w x).id ≡ x.id
+unfolding after_its_push
 same_id w x = id_kept w.side w.cells x (push_of w x)
 
 -- a claim: the identities of a tile stay in it
@@ -87,4 +88,4 @@ pushed_weight w m v xs u pushed =
     ∙ total_same directions (λ d. sum_by by (chain_at u d)) (λ d. sum_by by (going w m d xs))
     (λ d below. ap (λ (found : Option Parcel). sum_by by (chain_of found)) (pushed.sent d below).there ∙ (pushed.sent d below).is.chain.sums by)
     ∙ going_weight w m by xs
-    ∙ sum_by_agree (λ x. v (after w x).id) by xs (λ k d below. ap v (same_id w (get_or xs k d)))
+    ∙ sum_by_agree (λ x. v (after_its_push w x).id) by xs (λ k d below. ap v (same_id w (get_or xs k d)))

@@ -20,12 +20,12 @@ use Rattle.pic_grid.specs.Traces.{trace_of, traces}
 use Rattle.pic_grid.proofs.ApartLaws.{IsApart, path_apart}
 use Rattle.pic_grid.proofs.OverLaws.{sum_over_same}
 use Rattle.pic_grid.proofs.FloorLaws.{floor_is, floors_next}
-use Rattle.pic_grid.specs.Parts.{part_of}
+use Rattle.pic_grid.specs.Parts.{part_with}
 use Rattle.pic_split.proofs.ImageLaws.{wrapped-zero}
 use Rattle.pic_split.proofs.LeadLaws.{path_leads}
-use Rattle.pic_tile.specs.Layers.{IsBeyondTile, StaysByTile, corner}
+use Rattle.pic_tile.specs.Layers.{IsBeyondTile, StaysByTile, lowest_cell}
 use Rattle.pic_tile.specs.LayerSum.{LayersMakeTheCurrent}
-use Rattle.pic_tile.specs.Owners.{cell_at, tile_of}
+use Rattle.pic_tile.specs.Owners.{cell_of_point, tile_of}
 use Rattle.pic_tile.specs.Tiling.{Tiling, cells_of}
 use Rattle.pic_tile.proofs.AllTilesLaws.{IsByItsTile, all_tiles}
 use Rattle.pic_tile.proofs.OwnerLaws.{cell_within}
@@ -104,10 +104,10 @@ trace_stays w m x a some same thick inside = record {
     above : 0 < w.side
     above = omega (arith, some, same)
 
-    place : cell_of m.tiles (tile_of m x) ≡ part_of m.size (cell_at w.side (triple x.x))
+    place : cell_of m.tiles (tile_of m x) ≡ part_with m.size (cell_of_point w.side (triple x.x))
     place =
-        owner_place m (cell_at m.side at) thick (cell_within m.side (cells_of m) at some inside)
-        ∙ ap (λ (side : ℕ). part_of m.size (cell_at side at)) (sym same)
+        owner_place m (cell_of_point m.side at) thick (cell_within m.side (cells_of m) at some inside)
+        ∙ ap (λ (side : ℕ). part_with m.size (cell_of_point side at)) (sym same)
 
 -- it wraps to the particle's share of the current
 flux_is : (w : Surroundings) (x : Particle) (a : Axis) (p : Triple) (r : Result Shift Halting)
@@ -129,10 +129,10 @@ layers_current w m start particles r q a some same cells thick among inner share
     (λ x. ap (λ (n : Triple). wrapped n (trace_of w.side w.kinds x (push_of w x) a) p) (sym cells) ∙ flux_is w x a p (push_of w x))
   where
     p : Triple
-    p = outer_of (corner m r) q
+    p = outer_of (lowest_cell m r) q
 
     each : (x : Particle) → IsInBox m.side (cells_of m) (triple x.x) → IsByItsTile m (tile_of m) (λ x. trace_of w.side w.kinds x (push_of w x) a) x
     each x h = record {
-      below = owner_below m (cell_at m.side (triple x.x)) thick (cell_within m.side (cells_of m) (triple x.x) some h);
+      below = owner_below m (cell_of_point m.side (triple x.x)) thick (cell_within m.side (cells_of m) (triple x.x) some h);
       stays = trace_stays w m x a some same thick h;
     }

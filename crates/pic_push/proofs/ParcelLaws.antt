@@ -26,24 +26,24 @@ use Rattle.pic_tile.proofs.SameLaws.{same_refl, same_is, same_trans, same_swap, 
 use Rattle.pic_tile.proofs.StopLaws.{stop_none, stop_append, stop_one}
 use Rattle.pic_tile.specs.declared.parcel.Parcel.{Parcel}
 use Rattle.pic_tile.specs.Directions.{here}
-use Rattle.pic_tile.specs.Layers.{layers_from, layers_size, corner}
-use Rattle.pic_tile.specs.Leaving.{way, after, going}
+use Rattle.pic_tile.specs.Layers.{layers_from, layers_size, lowest_cell}
+use Rattle.pic_tile.specs.Leaving.{way, after_its_push, going}
 use Rattle.pic_tile.specs.Parcels.{IsParcel}
 use Rattle.pic_tile.specs.Tiling.{Tiling}
-use Rattle.pic_push.specs.Opened.{IsFreshParcel}
-use Rattle.pic_push.specs.Sends.{trace, Sends, HasRoom}
+use Rattle.pic_push.specs.HeldApart.{IsFreshParcel}
+use Rattle.pic_push.specs.Sends.{trace, Sends, HasHeadroom}
 use Rattle.pic_push.proofs.TraceSizeLaws.{flux_size}
 
 -- those that leave that way, with one particle more
 going_more : (w : Surroundings) (m : Tiling) (d : ℕ) (done : List Particle) (x : Particle)
-    → going w m d (done ++ x ∷ []) ≡ going w m d done ++ cond (way w m x == d) (after w x ∷ []) []
+    → going w m d (done ++ x ∷ []) ≡ going w m d done ++ cond (way w m x == d) (after_its_push w x ∷ []) []
 unfolding going
 going_more w m d done x =
-    ap (λ (ys : List Particle). map (after w) ys) (filter-append (λ y. way w m y == d) done (x ∷ []))
-    ∙ map-append (after w) (filter (λ y. way w m y == d) done) (filter (λ y. way w m y == d) (x ∷ []))
-    ∙ ap (λ (ys : List Particle). map (after w) (filter (λ y. way w m y == d) done) ++ ys) (one (way w m x == d))
+    ap (λ (ys : List Particle). map (after_its_push w) ys) (filter-append (λ y. way w m y == d) done (x ∷ []))
+    ∙ map-append (after_its_push w) (filter (λ y. way w m y == d) done) (filter (λ y. way w m y == d) (x ∷ []))
+    ∙ ap (λ (ys : List Particle). map (after_its_push w) (filter (λ y. way w m y == d) done) ++ ys) (one (way w m x == d))
   where
-    one : (b : Bool) → map (after w) (cond b (x ∷ []) []) ≡ cond b (after w x ∷ []) []
+    one : (b : Bool) → map (after_its_push w) (cond b (x ∷ []) []) ≡ cond b (after_its_push w x ∷ []) []
     one true = refl
     one false = refl
 
@@ -64,8 +64,8 @@ pub parcel_more : (w : Surroundings) (m : Tiling) (done : List Particle) (tile d
 parcel_more w m done tile d x p q h s = record {
   dir_is = s.dir_is ∙ h.dir_is;
   chain = subst (λ (goes : List Particle). Same q.chain goes) (sym (going_more w m d done x))
-      (subst (λ (chain : List Particle). Same chain (going w m d done ++ cond (way w m x == d) (after w x ∷ []) [])) (sym s.chain_is)
-      (chain_more (way w m x == d) (after w x) p.chain (going w m d done) h.chain));
+      (subst (λ (chain : List Particle). Same chain (going w m d done ++ cond (way w m x == d) (after_its_push w x ∷ []) [])) (sym s.chain_is)
+      (chain_more (way w m x == d) (after_its_push w x) p.chain (going w m d done) h.chain));
   flux = record {
     low = sym s.shape.low ∙ h.flux.low;
     size = sym s.shape.size ∙ h.flux.size;
@@ -102,8 +102,8 @@ parcel_none w m tile d p q fresh is = subst (λ (r : Parcel). IsParcel w m [] ti
 
 -- it has room for a path more
 pub parcel_room : (w : Surroundings) (m : Tiling) (done : List Particle) (tile d : ℕ) (low : Spot) (size : Triple) (p : Parcel) → 0 < w.side
-    → w.side ≤ most_side → All IsKind w.kinds → length done ≤ most_particles → low ≡ corner m tile → size ≡ m.size → IsParcel w m done tile d p
-    → HasRoom low size d p
+    → w.side ≤ most_side → All IsKind w.kinds → length done ≤ most_particles → low ≡ lowest_cell m tile → size ≡ m.size → IsParcel w m done tile d p
+    → HasHeadroom low size d p
 parcel_room w m done tile d low size p some side kinds few at thick h = record {
   low_is = h.flux.low ∙ (λ i. layers_from (sym thick i) (sym at i) d);
   size_is = h.flux.size ∙ (λ i. layers_size (sym thick i) d);

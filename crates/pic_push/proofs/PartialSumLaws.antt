@@ -26,14 +26,14 @@ use Rattle.pic_split.proofs.ImageSizeLaws.{path_images}
 use Rattle.pic_split.proofs.LeadLaws.{move_along}
 use Rattle.pic_split.proofs.WayLaws.{path_ways}
 use Rattle.pic_tile.specs.Directions.{directions, steps_of}
-use Rattle.pic_tile.specs.Layers.{layer_at, corner, sender_of, at_some, pick, given_at}
+use Rattle.pic_tile.specs.Layers.{layer_at, lowest_cell, sender_of, at_some, pick, given_at}
 use Rattle.pic_tile.specs.Owners.{tile_of}
 use Rattle.pic_tile.specs.Receiving.{brought, SumsKeepTheBound}
 use Rattle.pic_tile.specs.Tiling.{Tiling, cells_of}
 use Rattle.pic_tile.proofs.AllTilesLaws.{IsByItsTile, all_tiles}
 use Rattle.pic_tile.proofs.OwnerLaws.{cell_within}
 use Rattle.pic_tile.proofs.TilingLaws.{owner_below}
-use Rattle.pic_tile.specs.Owners.{cell_at}
+use Rattle.pic_tile.specs.Owners.{cell_of_point}
 use Rattle.pic_push.specs.PartialSums.{SumsGrowByParticles}
 use Rattle.pic_push.proofs.LayerSumLaws.{trace_stays}
 use Rattle.pic_push.proofs.PushLaws.{push_move}
@@ -60,7 +60,7 @@ three_under x y z f g under =
 given_under : (m : Tiling) (t d : ℕ) (f g : Spot → ℤ) (q : Triple) → ((c : Spot) → size_of (f c) ≤ℤ g c) → size_of (given_at m t d f q) ≤ℤ given_at m t d g q
 unfolding given_at
 given_under m t d f g q under =
-    let low = corner m t in
+    let low = lowest_cell m t in
     let e = steps_of d in
     three_under (layer_at m.size.x low.x e.x q.x) (layer_at m.size.y low.y e.y q.y) (layer_at m.size.z low.z e.z q.z) f g under
 
@@ -116,14 +116,14 @@ axis_two t n at below thick =
 
 pub sums_by_particles : SumsGrowByParticles
 unfolding brought traces
-sums_by_particles w m start particles done r a q some side same cells limits thick among inner shared inside =
+sums_by_particles w m start particles done r a q h =
     let given = λ (d : ℕ). given_at m (sender_of m d r) d (λ c. sum_over (λ x. trace x c) (start (sender_of m d r))) q in
     let larger = λ (d : ℕ). given_at m (sender_of m d r) d (λ c. sum_over (λ x. size x c) (start (sender_of m d r))) q in
     let first = sums_under directions (λ d. pick (done d) (given d)) larger (λ d. pick_under (done d) (given d) (larger d)
     (given_under m (sender_of m d r) d (λ c. sum_over (λ x. trace x c) (start (sender_of m d r))) (λ c. sum_over (λ x. size x c) (start (sender_of m d r))) q
     (λ c. over_under (λ x. trace x c) (start (sender_of m d r))))) in
-    let shares = all_tiles m (tile_of m) size start particles r q thick among inner shared
-    (All-weaker (λ x. IsInBox m.side (cells_of m) (triple x.x)) (IsByItsTile m (tile_of m) size) each particles inside) in
+    let shares = all_tiles m (tile_of m) size start particles r q h.thick h.tile h.within h.shared
+    (All-weaker (λ x. IsInBox m.side (cells_of m) (triple x.x)) (IsByItsTile m (tile_of m) size) each particles h.inside) in
     let all = over_most (λ x. wrapped (cells_of m) (size x) p) particles most_of_one one in
     record { size = omega (arith, ints, first, shares, all) }
   where
@@ -134,26 +134,26 @@ sums_by_particles w m start particles done r a q some side same cells limits thi
     size x c = size_of (trace x c)
 
     p : Triple
-    p = outer_of (corner m r) q
+    p = outer_of (lowest_cell m r) q
 
     two : HasTwo w.cells
     two =
-        let at = cell_of_within m.tiles r among in
-        subst HasTwo (sym cells) (record {
-          x = axis_two m.tiles.x m.size.x (cell_of m.tiles r).x at.x thick.x;
-          y = axis_two m.tiles.y m.size.y (cell_of m.tiles r).y at.y thick.y;
-          z = axis_two m.tiles.z m.size.z (cell_of m.tiles r).z at.z thick.z;
+        let at = cell_of_within m.tiles r h.tile in
+        subst HasTwo (sym h.cells) (record {
+          x = axis_two m.tiles.x m.size.x (cell_of m.tiles r).x at.x h.thick.x;
+          y = axis_two m.tiles.y m.size.y (cell_of m.tiles r).y at.y h.thick.y;
+          z = axis_two m.tiles.z m.size.z (cell_of m.tiles r).z at.z h.thick.z;
         })
 
     one : (x : Particle) → wrapped (cells_of m) (size x) p ≤ℤ pos most_of_one
-    one x = subst (λ (n : Triple). wrapped n (size x) p ≤ℤ pos most_of_one) cells
-        (trace_images w x (push_of w x) a p refl (omega (arith, some, same)) (omega (arith, side, same)) limits two)
+    one x = subst (λ (n : Triple). wrapped n (size x) p ≤ℤ pos most_of_one) h.cells
+        (trace_images w x (push_of w x) a p refl (omega (arith, h.some, h.side)) (omega (arith, h.most, h.side)) h.kinds two)
 
     each : (x : Particle) → IsInBox m.side (cells_of m) (triple x.x) → IsByItsTile m (tile_of m) size x
-    each x h =
-        let stays = trace_stays w m x a some same thick h in
+    each x lies =
+        let stays = trace_stays w m x a h.some h.side h.thick lies in
         record {
-          below = owner_below m (cell_at m.side (triple x.x)) thick (cell_within m.side (cells_of m) (triple x.x) some h);
+          below = owner_below m (cell_of_point m.side (triple x.x)) h.thick (cell_within m.side (cells_of m) (triple x.x) h.some lies);
           stays = record {
             x = λ c beyond. ap size_of (stays.x c beyond);
             y = λ c beyond. ap size_of (stays.y c beyond);
@@ -162,7 +162,7 @@ sums_by_particles w m start particles done r a q some side same cells limits thi
         }
 
 pub partial_sums : SumsKeepTheBound
-partial_sums w m start particles done r a q some side same cells limits thick among inner shared inside few =
-    let sums = (sums_by_particles w m start particles done r a q some side same cells limits thick among inner shared inside).size in
+partial_sums w m start particles done r a q h few =
+    let sums = (sums_by_particles w m start particles done r a q h).size in
     let count : length particles * most_of_one ≤ most_particles * most_of_one = mul-le-mul_right most_of_one few in
     record { size = omega (arith, sums, count) }

@@ -12,7 +12,7 @@ use Rattle.pic_tile.specs.declared.parcel.Parcel.{Parcel}
 use Rattle.pic_tile.specs.Tile.{TileValue}
 use Rattle.pic_push.specs.Reach.{IsReachOf}
 use Rattle.pic_push.specs.Region.{CanGainAll}
-use Rattle.pic_push.specs.Sends.{IsOpenTo, most_sent}
+use Rattle.pic_push.specs.Sends.{HasParcelsWithin, most_sent}
 use Rattle.pic_push.proofs.UnreachedLaws.{piece_clear}
 
 -- it is the piece's, whatever the charge is called
@@ -22,7 +22,8 @@ same_charge side s f q q' is same a e = same a e ∙ ap (λ (v : ℤ). flux side
 
 -- it can be added to them
 pub can_take : (side : ℕ) (q : ℤ) (s : Piece) (f : CellFlux) (own : Parcel) (t : TileValue) → IsInCell side s
-    → ((a : Axis) (e : Spot) → edge_flux f a e ≡ flux side q s a e) → flux_cell f ≡ s.cell → IsModest f → IsOpenTo most_sent own.flux.low own.flux.size t
+    → ((a : Axis) (e : Spot) → edge_flux f a e ≡ flux side q s a e) → flux_cell f ≡ s.cell → IsModest f
+    → HasParcelsWithin most_sent own.flux.low own.flux.size t
     → AllAtMost most_sent own.flux → CanGainAll f own t
 can_take side q s f own t inside same cell modest opened most =
     let b = own.flux in

@@ -13,15 +13,15 @@ use Rattle.pic_grid.specs.PushPhase.{Surroundings}
 use Rattle.pic_grid.specs.Species.{IsKind}
 use Rattle.pic_tile.specs.declared.parcel.Parcel.{Parcel}
 use Rattle.pic_tile.specs.Directions.{directions, here}
-use Rattle.pic_tile.specs.Layers.{corner, IsLayers}
+use Rattle.pic_tile.specs.Layers.{lowest_cell, IsLayers}
 use Rattle.pic_tile.specs.Parcels.{IsParcel, IsFresh, no_flux}
 use Rattle.pic_tile.specs.Tile.{TileValue, parcel_at, with_parcel, chain_of, flux_of, stop_of_parcel}
 use Rattle.pic_tile.specs.Tiling.{Tiling}
 use Rattle.pic_tile.proofs.ReceivingLaws.{some_there}
 use Rattle.pic_tile.proofs.TileLaws.{none_left}
 use Rattle.pic_tile.specs.Pushed.{IsOfTile, IsSent, IsPushed}
-use Rattle.pic_push.specs.Opened.{IsFreshParcel, IsOpened, IsSentOut}
-use Rattle.pic_push.specs.Sends.{Sends, SendsOut, HasRoom, IsOpen}
+use Rattle.pic_push.specs.HeldApart.{IsFreshParcel, IsHeldApart, IsSentOut}
+use Rattle.pic_push.specs.Sends.{Sends, SendsOut, HasHeadroom, HasParcels}
 use Rattle.pic_push.proofs.GainLaws.{no_parcel}
 use Rattle.pic_push.proofs.ParcelLaws.{parcel_more, parcel_none, parcel_room}
 
@@ -32,7 +32,7 @@ pub record Pushing (w : Surroundings) (m : Tiling) (kinds : List Kind) (start re
   pub sent : IsSentOut w m done tile own t
   pub left : All (IsOfTile m kinds tile) rest
 
-pub pushing_none : (w : Surroundings) (m : Tiling) (kinds : List Kind) (start : List Particle) (own own' : Parcel) (t : TileValue) → IsOpened m own t
+pub pushing_none : (w : Surroundings) (m : Tiling) (kinds : List Kind) (start : List Particle) (own own' : Parcel) (t : TileValue) → IsHeldApart m own t
     → own' ≡ record own { chain = [] } → All (IsOfTile m kinds t.number) start → Pushing w m kinds start start t.number own' t
 pushing_none w m kinds start own own' t opened taken left = record {
   done = [];
@@ -100,22 +100,22 @@ done_few w m kinds start rest tile own t p few =
 
 pub own_room : (w : Surroundings) (m : Tiling) (kinds : List Kind) (start rest : List Particle) (tile : ℕ) (own : Parcel) (t : TileValue)
     (low : Spot) (size : Triple)
-    → 0 < w.side → w.side ≤ most_side → All IsKind w.kinds → length start ≤ most_particles → low ≡ corner m tile → size ≡ m.size
-    → Pushing w m kinds start rest tile own t → HasRoom low size here own
+    → 0 < w.side → w.side ≤ most_side → All IsKind w.kinds → length start ≤ most_particles → low ≡ lowest_cell m tile → size ≡ m.size
+    → Pushing w m kinds start rest tile own t → HasHeadroom low size here own
 own_room w m kinds start rest tile own t low size some side limits few at thick p =
     parcel_room w m p.done tile here low size own some side limits (done_few w m kinds start rest tile own t p few) at thick p.sent.own_is
 
 pub still_open : (w : Surroundings) (m : Tiling) (kinds : List Kind) (start rest : List Particle) (tile : ℕ) (own : Parcel) (t : TileValue)
     (low : Spot) (size : Triple)
-    → 0 < w.side → w.side ≤ most_side → All IsKind w.kinds → length start ≤ most_particles → low ≡ corner m tile → size ≡ m.size
-    → Pushing w m kinds start rest tile own t → IsOpen low size t
+    → 0 < w.side → w.side ≤ most_side → All IsKind w.kinds → length start ≤ most_particles → low ≡ lowest_cell m tile → size ≡ m.size
+    → Pushing w m kinds start rest tile own t → HasParcels low size t
 still_open w m kinds start rest tile own t low size some side limits few at thick p = record {
   whole = λ d below other. subst (λ (o : Option Parcel). IsSome o) (sym (p.sent.others d below other).there) refl;
   room = λ d q below found. elim (ℕ_discrete d here) [
     | yes same ↦ absurd (no_parcel q (sym p.sent.apart ∙ ap (parcel_at t) (sym same) ∙ found))
     | no other ↦
         (let sent = p.sent.others d below other in
-        subst (HasRoom low size d) (one_some (parcel_at t d) sent.parcel q sent.there found)
+        subst (HasHeadroom low size d) (one_some (parcel_at t d) sent.parcel q sent.there found)
         (parcel_room w m p.done tile d low size sent.parcel some side limits (done_few w m kinds start rest tile own t p few) at thick sent.is))
   ];
   apart = p.sent.apart;
@@ -137,7 +137,7 @@ fresh_at m t d p fresh below at dir = record {
 }
 
 pub opened : (m : Tiling) (t u : TileValue) (own : Parcel) → IsFresh m t → ((d : ℕ) (p : Parcel) → parcel_at t d ≡ Some p → p.dir ≡ d)
-    → u ≡ with_parcel t here None → Some own ≡ parcel_at t here → IsOpened m own u
+    → u ≡ with_parcel t here None → Some own ≡ parcel_at t here → IsHeldApart m own u
 opened m t u own fresh dirs taken found = record {
   apart = none_left t u here here taken refl;
   own_is = subst (λ (n : ℕ). IsFreshParcel m n here own) number (fresh_at m t here own fresh (omega arith) (sym found) (dirs here own (sym found)));

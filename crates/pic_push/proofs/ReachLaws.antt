@@ -6,7 +6,7 @@ use Rattle.std.proofs.lemmas.Bool.Decides.{nat_tests}
 use Rattle.std.proofs.lemmas.Int.{ints}
 use Rattle.pic_num.specs.Space.{Triple, Spot}
 use Rattle.pic_tile.specs.Tiling.{Tiling}
-use Rattle.pic_tile.specs.Layers.{corner}
+use Rattle.pic_tile.specs.Layers.{lowest_cell}
 use Rattle.pic_tile.specs.Leaving.{step_to, direction_to}
 use Rattle.pic_push.specs.declared.reach.Steps.{Steps}
 use Rattle.pic_push.specs.Reach.{AreStepsOf, direction_from}
@@ -50,7 +50,7 @@ step_over low n (pos c) h least =
 step_over low n (negsuc c) h least = absurd (omega (arith, ints, h, least))
 
 -- the direction from the layers of a tile is that from the tile
-pub direction_is : (m : Tiling) (tile : ℕ) (low : Spot) (size : Triple) (cell : Spot) → low ≡ corner m tile → size ≡ m.size
+pub direction_is : (m : Tiling) (tile : ℕ) (low : Spot) (size : Triple) (cell : Spot) → low ≡ lowest_cell m tile → size ≡ m.size
     → direction_from low size cell ≡ direction_to m tile cell
 unfolding direction_to
 direction_is m tile low size cell at thick = λ i. direction_from (at i) (thick i) cell

@@ -7,7 +7,8 @@ use Rattle.std.proofs.lemmas.Bool.{false≢true, cases_lt}
 use Rattle.std.proofs.lemmas.Bool.Decides.{nat_tests}
 use Rattle.std.proofs.lemmas.Int.{ints}
 use Rattle.pic_num.specs.Space.{Triple, Spot}
-use Rattle.pic_flux.specs.CellFlux.{IsLayer, AreLayers}
+use Rattle.pic_flux.specs.CellFlux.{AreLayers}
+use Rattle.pic_grid.specs.Among.{IsOneOf}
 use Rattle.pic_flux.specs.Corners.{HasEdges}
 use Rattle.pic_tile.specs.Directions.{directions, here}
 use Rattle.pic_tile.specs.Layers.{layer_count, layer_low, layers_from, layers_size}
@@ -17,10 +18,10 @@ use Rattle.pic_push.specs.Reach.{spans, reaches, AreStepsOf, IsReachOf}
 use Rattle.pic_push.specs.Region.{IsInner, IsLast, IsLevel, IsLastIf, IsLastOn, layers_at}
 
 -- a test that holds says what holds, and one that fails what doesn't
-is_yes : (low : ℤ) (n : ℕ) (c : ℤ) → IsLayer low n c → IsTrue true ↔ IsLayer low n c
+is_yes : (low : ℤ) (n : ℕ) (c : ℤ) → IsOneOf low n c → IsTrue true ↔ IsOneOf low n c
 is_yes low n c h = (λ yes. h, λ k. refl)
 
-is_no : (low : ℤ) (n : ℕ) (c : ℤ) → (IsLayer low n c → ⊥) → IsTrue false ↔ IsLayer low n c
+is_no : (low : ℤ) (n : ℕ) (c : ℤ) → (IsOneOf low n c → ⊥) → IsTrue false ↔ IsOneOf low n c
 is_no low n c h = (λ yes. absurd (false≢true yes), λ k. absurd (h k))
 
 -- On one axis, by the steps e of a direction and l of the farthest that a cell reaches.
@@ -45,7 +46,7 @@ no_more e l up h = let k = up.most in let m = up.end in omega (arith, h, k, m)
 
 -- whether the direction's block has the cell's own layer
 own_layer : (e l : ℕ) (low : ℤ) (n : ℕ) (c : ℤ) → IsUpTo e l → IsLastIf l low n c
-    → IsTrue (not (e == 2)) ↔ IsLayer (layer_low n low e) (layer_count n e) c
+    → IsTrue (not (e == 2)) ↔ IsOneOf (layer_low n low e) (layer_count n e) c
 own_layer zero l low n c up h = absurd (no_step zero l up (omega arith))
 own_layer (suc zero) zero low n c up h = absurd (no_way 1 zero up (omega arith))
 own_layer (suc zero) (suc zero) low n c up h = is_yes low n c (h.least, let m = h.most in omega (arith, ints, m))
@@ -57,7 +58,7 @@ own_layer (suc (suc (suc e))) l low n c up h = absurd (no_more (suc (suc (suc e)
 
 -- and the next one up
 next_layer : (e l : ℕ) (low : ℤ) (n : ℕ) (c : ℤ) → IsUpTo e l → IsLastIf l low n c
-    → IsTrue ((e == 2) || not (l == 2)) ↔ IsLayer (layer_low n low e) (layer_count n e) (c +ℤ pos 1)
+    → IsTrue ((e == 2) || not (l == 2)) ↔ IsOneOf (layer_low n low e) (layer_count n e) (c +ℤ pos 1)
 next_layer zero l low n c up h = absurd (no_step zero l up (omega arith))
 next_layer (suc zero) zero low n c up h = absurd (no_way 1 zero up (omega arith))
 next_layer (suc zero) (suc zero) low n c up h = is_yes low n (c +ℤ pos 1) (let m = h.least in omega (arith, ints, m), h.most)

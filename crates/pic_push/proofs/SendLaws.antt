@@ -23,12 +23,12 @@ use Rattle.pic_grid.specs.Traces.{trace_of}
 use Rattle.pic_tile.specs.StopOf.{lesser}
 use Rattle.pic_tile.specs.declared.parcel.Parcel.{Parcel}
 use Rattle.pic_tile.specs.Directions.{directions, here}
-use Rattle.pic_tile.specs.Layers.{corner}
-use Rattle.pic_tile.specs.Leaving.{way_after, way, after, direction_to}
+use Rattle.pic_tile.specs.Layers.{lowest_cell}
+use Rattle.pic_tile.specs.Leaving.{way_after, way, after_its_push, direction_to}
 use Rattle.pic_tile.specs.Owners.{tile_of}
 use Rattle.pic_tile.specs.Tile.{TileValue, parcel_at}
 use Rattle.pic_tile.specs.Tiling.{Tiling}
-use Rattle.pic_push.specs.declared.paths.Path.{Path}
+use Rattle.pic_push.specs.declared.charged_path.Path.{Path}
 use Rattle.pic_push.specs.Gains.{Gained, Gains}
 use Rattle.pic_push.specs.Paths.{IsPath, IsPathOf, flux_along, largest_grid, path_end}
 use Rattle.pic_push.specs.Reach.{direction_from}
@@ -61,8 +61,8 @@ trace_is w x s p is of a c =
     ∙ ap (λ (r : Result Shift Halting). trace_of w.side w.kinds x r a c) (sym is)
 
 -- after its push it is moved
-pub after_is : (w : Surroundings) (x : Particle) (s : Shift) → push_of w x ≡ Ok s → after w x ≡ moved w.side w.cells x s
-unfolding after after_push
+pub after_is : (w : Surroundings) (x : Particle) (s : Shift) → push_of w x ≡ Ok s → after_its_push w x ≡ moved w.side w.cells x s
+unfolding after_its_push after_push
 after_is w x s is = ap (λ (r : Result Shift Halting). after_push w.side w.cells x r) is
 
 -- and goes where its path ends
@@ -72,7 +72,7 @@ unfolding way
 way_is w m x s is = ap (λ (r : Result Shift Halting). way_after m x r) is
 
 pub leads_by : (w : Surroundings) (m : Tiling) (x : Particle) (s : Shift) (p : Path) (tile : ℕ) (low : Spot) (size : Triple) (cell : Spot) (dir : ℕ)
-    → push_of w x ≡ Ok s → IsPathOf w x s p → w.side ≡ m.side → tile_of m x ≡ tile → low ≡ corner m tile → size ≡ m.size → cell ≡ path_end p
+    → push_of w x ≡ Ok s → IsPathOf w x s p → w.side ≡ m.side → tile_of m x ≡ tile → low ≡ lowest_cell m tile → size ≡ m.size → cell ≡ path_end p
     → dir ≡ direction_from low size cell → dir ≡ way w m x
 leads_by w m x s p tile low size cell dir is of same own at thick end leads =
     let side : p.sub ≡ m.side = of.sub_is ∙ same in
@@ -109,7 +109,7 @@ chain_grows false y p = refl
 
 -- a parcel gains the flux of a path, and the particle where it leads that way
 pub sends_on : (w : Surroundings) (m : Tiling) (x y : Particle) (s : Shift) (path : Path) (d dir : ℕ) (p p' : Parcel) → push_of w x ≡ Ok s
-    → IsPathOf w x s path → dir ≡ way w m x → y ≡ after w x → Gained (flux_along path) p p' → Sends w m x d p (received y dir d p')
+    → IsPathOf w x s path → dir ≡ way w m x → y ≡ after_its_push w x → Gained (flux_along path) p p' → Sends w m x d p (received y dir d p')
 sends_on w m x y s path d dir p p' is of leads moves gained = record {
   dir_is = kept (λ (r : Parcel). r.dir) (dir == d) into p' refl ∙ gained.dir_is;
   chain_is = chain_grows (dir == d) y p' ∙ (λ i. cond (leads i == d) (moves i ∷ gained.chain_is i) (gained.chain_is i));
@@ -129,7 +129,7 @@ sends_on w m x y s path d dir p p' is of leads moves gained = record {
 
 -- all parcels of a tile do
 pub sends_out : (w : Surroundings) (m : Tiling) (x y : Particle) (s : Shift) (path : Path) (dir : ℕ) (t t' t'' : TileValue) → push_of w x ≡ Ok s
-    → IsPathOf w x s path → dir ≡ way w m x → y ≡ after w x → Gains (flux_along path) t t' → Receives y dir t' t'' → SendsOut w m x t t''
+    → IsPathOf w x s path → dir ≡ way w m x → y ≡ after_its_push w x → Gains (flux_along path) t t' → Receives y dir t' t'' → SendsOut w m x t t''
 sends_out w m x y s path dir t t' t'' is of leads moves gains receives = record {
   others = λ d p below other at.
       let now = gains.gained d p below at in record {
@@ -147,8 +147,8 @@ unfolding trace_of
 no_trace w x h a c is = ap (λ (r : Result Shift Halting). trace_of w.side w.kinds x r a c) (sym is)
 
 -- stays as it was
-stays : (w : Surroundings) (x : Particle) (h : Halting) → push_of w x ≡ Err h → x ≡ after w x
-unfolding after after_push
+stays : (w : Surroundings) (x : Particle) (h : Halting) → push_of w x ≡ Err h → x ≡ after_its_push w x
+unfolding after_its_push after_push
 stays w x h is = ap (λ (r : Result Shift Halting). after_push w.side w.cells x r) (sym is)
 
 -- and where it was
@@ -178,7 +178,8 @@ none_halted w m x h d p is other =
     let back : d == here ≡ false = grind (arith, nat_tests) in
     record {
       dir_is = refl;
-      chain_is = (λ i. cond (sym apart i) (after w x ∷ p.chain) p.chain) ∙ (λ i. cond (stays_here w m x h is i == d) (after w x ∷ p.chain) p.chain);
+      chain_is = (λ i. cond (sym apart i) (after_its_push w x ∷ p.chain) p.chain) ∙ (λ i. cond (stays_here w m x h is i == d)
+          (after_its_push w x ∷ p.chain) p.chain);
       shape = record { low = refl; size = refl };
       adds = record { at = λ a c inside. plus_zero (edge_at p.flux a c) ∙ ap (λ (v : ℤ). edge_at p.flux a c +ℤ v) (no_trace w x h a c is) };
       stop_is = λ i. cond (sym back i) (lesser p.stop (halt_of x (push_of w x))) p.stop;

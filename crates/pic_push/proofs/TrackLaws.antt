@@ -17,7 +17,7 @@ use Rattle.pic_tile.specs.declared.parcel.Parcel.{Parcel}
 use Rattle.pic_tile.specs.Directions.{directions, here}
 use Rattle.pic_tile.specs.Tile.{TileValue, parcel_at}
 use Rattle.pic_push.specs.Gains.{Gained, Gains}
-use Rattle.pic_push.specs.Sends.{HasRoom, HasLayers, IsOpen, IsOpenTo, most_sent}
+use Rattle.pic_push.specs.Sends.{HasHeadroom, HasLayers, HasParcels, HasParcelsWithin, most_sent}
 use Rattle.pic_push.proofs.GainLaws.{gained_same, gained_twice, gains_same, gains_twice}
 use Rattle.pic_push.proofs.SendLaws.{some_gained}
 
@@ -65,7 +65,7 @@ sent_more side q ss i d own mid new tile tile' tile'' below h k l =
     }
 
 -- the room that is left
-pub layers_left : (f : Axis → Spot → ℤ) (low : Spot) (size : Triple) (d : ℕ) (old new : Parcel) → IsFluxAtMost (2 ^ 62) f → HasRoom low size d old
+pub layers_left : (f : Axis → Spot → ℤ) (low : Spot) (size : Triple) (d : ℕ) (old new : Parcel) → IsFluxAtMost (2 ^ 62) f → HasHeadroom low size d old
     → Gained f old new → HasLayers most_sent low size d new
 layers_left f low size d old new small room h = record {
   low_is = sym h.shape.low ∙ room.low_is;
@@ -74,14 +74,14 @@ layers_left f low size d old new small room h = record {
 }
 
 -- a path's pieces have the room that a path has
-pub layers_more : (low : Spot) (size : Triple) (d : ℕ) (p : Parcel) → HasRoom low size d p → HasLayers most_sent low size d p
+pub layers_more : (low : Spot) (size : Triple) (d : ℕ) (p : Parcel) → HasHeadroom low size d p → HasLayers most_sent low size d p
 layers_more low size d p room = record {
   low_is = room.low_is;
   size_is = room.size_is;
   most = all_at_most_more p.flux most_flux most_sent (omega arith) room.most;
 }
 
-pub open_more : (low : Spot) (size : Triple) (t : TileValue) → IsOpen low size t → IsOpenTo most_sent low size t
+pub open_more : (low : Spot) (size : Triple) (t : TileValue) → HasParcels low size t → HasParcelsWithin most_sent low size t
 open_more low size t opened = record {
   whole = opened.whole;
   room = λ d p few is. layers_more low size d p (opened.room d p few is);
@@ -95,8 +95,8 @@ wide_room b h = all_at_most_more b most_sent (2 ^ 100) (omega arith) h
 one_some : (o : Option Parcel) (p q : Parcel) → o ≡ Some p → o ≡ Some q → p ≡ q
 one_some o p q h k = cc
 
-pub open_left : (f : Axis → Spot → ℤ) (low : Spot) (size : Triple) (old new : TileValue) → IsFluxAtMost (2 ^ 62) f → IsOpen low size old → Gains f old new
-    → IsOpenTo most_sent low size new
+pub open_left : (f : Axis → Spot → ℤ) (low : Spot) (size : Triple) (old new : TileValue) → IsFluxAtMost (2 ^ 62) f → HasParcels low size old → Gains f old new
+    → HasParcelsWithin most_sent low size new
 open_left f low size old new small opened h = record {
   whole = λ d few other. some_gained f old new d h few (opened.whole d few other);
   room = λ d q few is. by_old d q few is (parcel_at old d) refl;

@@ -3,5 +3,5 @@ pub mod Reach
 pub mod Gains
 pub mod Sends
 pub mod Region
-pub mod Opened
+pub mod HeldApart
 pub mod PartialSums

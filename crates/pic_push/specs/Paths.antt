@@ -10,7 +10,7 @@ use Rattle.pic_grid.specs.Flux.{path_flux}
 use Rattle.pic_grid.specs.Hat.{IsInBox}
 use Rattle.pic_grid.specs.Path.{floor_cell, path}
 use Rattle.pic_grid.specs.PushPhase.{Surroundings, kind_of}
-use Rattle.pic_push.specs.declared.paths.Path.{Path}
+use Rattle.pic_push.specs.declared.charged_path.Path.{Path}
 
 -- as many cells on each axis as there may be
 abbrev pub largest_grid : Triple

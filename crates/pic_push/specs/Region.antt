@@ -18,7 +18,7 @@ use Rattle.pic_push.specs.declared.region.Region.TheVariants.{Inside, FaceX, Fac
 use Rattle.pic_push.specs.declared.reach.Reach.{Reach}
 use Rattle.pic_push.specs.Gains.{IsClear}
 use Rattle.pic_push.specs.Reach.{reaches, IsReachOf}
-use Rattle.pic_push.specs.Sends.{IsOpenTo, most_sent}
+use Rattle.pic_push.specs.Sends.{HasParcelsWithin, most_sent}
 
 -- the direction of a step up on an axis, and of steps up on both others
 abbrev pub up_on : Axis → ℕ
@@ -116,7 +116,7 @@ pub record CanGain (last up : ℕ) (f : CellFlux) (b : BlockValues) : Type 0 whe
 -- nothing of it passes the layers that its cell doesn't reach
 pub record CanGainAll (f : CellFlux) (own : Parcel) (t : TileValue) : Type 0 where
   pub modest : IsModest f
-  pub opened : IsOpenTo most_sent own.flux.low own.flux.size t
+  pub opened : HasParcelsWithin most_sent own.flux.low own.flux.size t
   pub most : AllAtMost most_sent own.flux
   pub clear :
       (r : Reach) (d : ℕ) (p : Parcel)

@@ -11,7 +11,7 @@ use Rattle.pic_tile.specs.StopOf.{lesser}
 use Rattle.pic_tile.specs.declared.parcel.Parcel.{Parcel}
 use Rattle.pic_tile.specs.Directions.{directions, here}
 use Rattle.pic_tile.specs.Layers.{layers_from, layers_size}
-use Rattle.pic_tile.specs.Leaving.{way, after}
+use Rattle.pic_tile.specs.Leaving.{way, after_its_push}
 use Rattle.pic_tile.specs.Tile.{TileValue, parcel_at}
 use Rattle.pic_tile.specs.Tiling.{Tiling}
 
@@ -38,7 +38,7 @@ trace w x a c = trace_of w.side w.kinds x (push_of w x) a c
 pub record Sends (w : Surroundings) (m : Tiling) (x : Particle) (d : ℕ)
     (old new : Parcel) : Type 0 where
   pub dir_is : new.dir ≡ old.dir
-  pub chain_is : new.chain ≡ (if way w m x == d then after w x ∷ old.chain else old.chain)
+  pub chain_is : new.chain ≡ (if way w m x == d then after_its_push w x ∷ old.chain else old.chain)
   pub shape : IsShaped old.flux new.flux
   pub adds : Adds old.flux new.flux (trace w x)
   pub stop_is :
@@ -71,18 +71,18 @@ pub record HasLayers (bound : ℕ) (low : Spot) (size : Triple) (d : ℕ) (p : P
   pub most : AllAtMost bound p.flux
 
 -- a tile has all its parcels but that of no step, which is held apart
-pub record IsOpenTo (bound : ℕ) (low : Spot) (size : Triple) (t : TileValue) : Type 0 where
+pub record HasParcelsWithin (bound : ℕ) (low : Spot) (size : Triple) (t : TileValue) : Type 0 where
   pub whole : (d : ℕ) → d < directions → (d ≡ here → ⊥) → IsSome (parcel_at t d)
   pub room :
       (d : ℕ) (p : Parcel) → d < directions → parcel_at t d ≡ Some p → HasLayers bound low size d p
   pub apart : parcel_at t here ≡ None
 
 -- there is room for the flux of a path more
-abbrev pub HasRoom : Spot → Triple → ℕ → Parcel → Type 0
-HasRoom low size d p = HasLayers most_flux low size d p
+abbrev pub HasHeadroom : Spot → Triple → ℕ → Parcel → Type 0
+HasHeadroom low size d p = HasLayers most_flux low size d p
 
-abbrev pub IsOpen : Spot → Triple → TileValue → Type 0
-IsOpen low size t = IsOpenTo most_flux low size t
+abbrev pub HasParcels : Spot → Triple → TileValue → Type 0
+HasParcels low size t = HasParcelsWithin most_flux low size t
 
 -- what the flux of the first pieces of a path is at most at an edge
 abbrev pub most_path_flux : ℕ

@@ -2,21 +2,21 @@
 //! of the tile's directions.
 #![tactic(auto)]
 
+mod charged_path;
 mod feeling;
 mod laws;
 mod leading;
 mod moves;
-mod paths;
-mod pushing;
+mod node_push;
 mod reach;
 mod region;
 mod sending;
 mod spreading;
-mod stops;
+mod stop_order;
 mod tile_push;
 
 pub use laws::{
     layers_make_the_current, sums_grow_by_particles, sums_keep_the_bound, the_way_leads_to_the_tile,
 };
-pub use stops::{least_stop, lesser};
+pub use stop_order::{least_stop, lesser};
 pub use tile_push::push_tile;

@@ -1,7 +1,6 @@
 //! A particle's place in the box after its move.
 
 ghost use Rattle.std.specs.Prelude.{◌≡◌, pos, ◌*◌, ◌^◌, ◌<◌, ◌≤◌, ◌+ℤ◌, ◌≤ℤ◌, ◌<ℤ◌};
-ghost use Rattle.std.specs.Bool.{OnTrue};
 ghost use Rattle.pic_num.specs.Limits.{most_cells_of_axis};
 ghost use Rattle.pic_num.specs.Rounding.{residue};
 ghost use Rattle.pic_num.specs.Space.{triple};
@@ -10,18 +9,8 @@ ghost use Rattle.pic_grid.specs.PushPhase.{moved};
 ghost use Rattle.pic_boris.specs.Pushes.{shift_of};
 
 use pic_boris::Moved;
-use pic_grid::Cells;
+use pic_grid::{Cells, is_among};
 use pic_num::{Particle, Sub, wrap};
-
-/// Whether a coordinate lies in the box already, on an axis of `len` sub-cells.
-fn is_inside(to: i64, len: u32) -> bool
-    ensures { OnTrue result ((pos 0 ≤ℤ to) × (to <ℤ pos len)) }
-{
-    if to < 0 {
-        return false;
-    }
-    to < i64::from(len)
-}
 
 /// A coordinate that lies in the box.
 fn as_it_is(to: i64, len: u32) -> u32
@@ -44,7 +33,7 @@ fn wrapped_by(side: u32, n: u32, at: u32, d: i32) -> u32
 {
     let to = i64::from(at) + i64::from(d);
     let len = n * side;
-    if is_inside(to, len) {
+    if is_among(0, len, to) {
         return as_it_is(to, len);
     }
     wrap(to, len)

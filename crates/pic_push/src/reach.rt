@@ -10,7 +10,7 @@ ghost use Rattle.pic_tile.specs.Leaving.{step_to};
 ghost use Rattle.pic_push.specs.Reach.{reaches, IsReach, IsReachOf, AreStepsOf, direction_from};
 ghost use Rattle.pic_push.specs.Reach.{direction_number, AreSteps, first_direction};
 
-use pic_grid::Zone;
+use pic_grid::{Zone, is_among};
 use pic_tile::Dir;
 
 /// Some steps of an axis, one after another: 0 is a step down, 1 none, 2 a step up.
@@ -163,17 +163,8 @@ fn is_here(zone: Zone, cell: [i32; 3]) -> bool
     let [low_x, low_y, low_z] = zone.low;
     let [nx, ny, nz] = zone.size;
     let [x, y, z] = cell;
+    let (x, y, z) = (i64::from(x), i64::from(y), i64::from(z));
     is_among(low_x, nx, x) & is_among(low_y, ny, y) & is_among(low_z, nz, z)
-}
-
-/// Whether the layer of a cell is one of `size` layers from `low` on.
-#[inline(always)]
-fn is_among(low: i32, size: u32, cell: i32) -> bool
-    ensures least { IsTrue result → low ≤ℤ cell }
-    ensures below { IsTrue result → cell <ℤ (low +ℤ pos size) }
-{
-    let over = i64::from(cell) - i64::from(low);
-    over >= 0 && over < i64::from(size)
 }
 
 /// The step from a tile of `size` layers from `low` on to a cell.

@@ -17,10 +17,10 @@ ghost use Rattle.pic_tile.specs.Tiling.{cells_of};
 ghost use Rattle.pic_push.specs.Gains.{Gained, Gains};
 ghost use Rattle.pic_push.specs.Paths.{IsPath, IsPathOf, flux_along};
 ghost use Rattle.pic_push.specs.Region.{IsUp, AreUps, IsLastOn};
-ghost use Rattle.pic_push.specs.Sends.{HasRoom, IsOpen, HasLayers, IsOpenTo, most_path_flux, most_sent};
+ghost use Rattle.pic_push.specs.Sends.{HasHeadroom, HasParcels, HasLayers, HasParcelsWithin, most_path_flux, most_sent};
 
+use crate::charged_path::Path;
 use crate::feeling::charge_of;
-use crate::paths::Path;
 use crate::region::{Region, UP_X, UP_XY, UP_XZ, UP_Y, UP_YZ, UP_Z, region_of};
 use crate::spreading::{add_anywhere, add_at_edge, add_at_face};
 use pic_boris::Moved;
@@ -53,7 +53,7 @@ pub(crate) fn path_of(frame: &Frame, particle: &Particle, by: &Moved) -> Path
 fn send_piece(sub: Sub, piece: &Segment, q: i32, zone: Zone, tile: &mut Tile, own: &mut Parcel)
     requires inside { IsInCell sub piece.now }
     requires charge { IsAtMost q most_charge }
-    requires open { IsOpenTo most_sent (spot zone.low) (triple zone.size) tile.old }
+    requires open { HasParcelsWithin most_sent (spot zone.low) (triple zone.size) tile.old }
     requires room { HasLayers most_sent (spot zone.low) (triple zone.size) here own.old }
     ensures own { Gained (flux sub q piece.now) own.old own.new }
     ensures others { Gains (flux sub q piece.now) tile.old tile.new }
@@ -76,7 +76,7 @@ fn send_at_face<const UP: u32>(sub: Sub, piece: &Segment, q: i32, tile: &mut Til
     requires charge { IsAtMost q most_charge }
     requires up { IsUp UP }
     requires face { IsLastOn UP own.old.flux.low own.old.flux.size piece.now.cell }
-    requires open { IsOpenTo most_sent own.old.flux.low own.old.flux.size tile.old }
+    requires open { HasParcelsWithin most_sent own.old.flux.low own.old.flux.size tile.old }
     requires room { AllAtMost most_sent own.old.flux }
     ensures own { Gained (flux sub q piece.now) own.old own.new }
     ensures others { Gains (flux sub q piece.now) tile.old tile.new }
@@ -98,7 +98,7 @@ fn send_at_edge<const SECOND: u32, const THIRD: u32, const FAR: u32>(
     requires charge { IsAtMost q most_charge }
     requires ups { AreUps SECOND THIRD FAR }
     requires edge { IsLastOn FAR own.old.flux.low own.old.flux.size piece.now.cell }
-    requires open { IsOpenTo most_sent own.old.flux.low own.old.flux.size tile.old }
+    requires open { HasParcelsWithin most_sent own.old.flux.low own.old.flux.size tile.old }
     requires room { AllAtMost most_sent own.old.flux }
     ensures own { Gained (flux sub q piece.now) own.old own.new }
     ensures others { Gains (flux sub q piece.now) tile.old tile.new }
@@ -111,7 +111,7 @@ fn send_at_edge<const SECOND: u32, const THIRD: u32, const FAR: u32>(
 fn send_anywhere(sub: Sub, piece: &Segment, q: i32, tile: &mut Tile, own: &mut Parcel)
     requires inside { IsInCell sub piece.now }
     requires charge { IsAtMost q most_charge }
-    requires open { IsOpenTo most_sent own.old.flux.low own.old.flux.size tile.old }
+    requires open { HasParcelsWithin most_sent own.old.flux.low own.old.flux.size tile.old }
     requires room { AllAtMost most_sent own.old.flux }
     ensures own { Gained (flux sub q piece.now) own.old own.new }
     ensures others { Gains (flux sub q piece.now) tile.old tile.new }
@@ -125,8 +125,8 @@ fn send_track(sub: Sub, track: &Track, q: i32, zone: Zone, tile: &mut Tile, own:
     requires inside { All (IsInCell sub) track.now }
     requires charge { IsAtMost q most_charge }
     requires short { (k : ℕ) → IsFluxAtMost most_path_flux (path_flux sub q (take k track.now)) }
-    requires open { IsOpen (spot zone.low) (triple zone.size) tile.old }
-    requires room { HasRoom (spot zone.low) (triple zone.size) here own.old }
+    requires open { HasParcels (spot zone.low) (triple zone.size) tile.old }
+    requires room { HasHeadroom (spot zone.low) (triple zone.size) here own.old }
     ensures own { Gained (path_flux sub q track.now) own.old own.new }
     ensures others { Gains (path_flux sub q track.now) tile.old tile.new }
 {
@@ -140,8 +140,8 @@ fn send_track(sub: Sub, track: &Track, q: i32, zone: Zone, tile: &mut Tile, own:
 /// paths stay in a cell.
 pub(crate) fn send_flux(path: &Path, zone: Zone, tile: &mut Tile, own: &mut Parcel)
     requires path { IsPath path.now }
-    requires open { IsOpen (spot zone.low) (triple zone.size) tile.old }
-    requires room { HasRoom (spot zone.low) (triple zone.size) here own.old }
+    requires open { HasParcels (spot zone.low) (triple zone.size) tile.old }
+    requires room { HasHeadroom (spot zone.low) (triple zone.size) here own.old }
     ensures own { Gained (flux_along path.now) own.old own.new }
     ensures others { Gains (flux_along path.now) tile.old tile.new }
 {

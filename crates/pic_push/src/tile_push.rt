@@ -7,14 +7,14 @@ ghost use Rattle.pic_tile.specs.Frame.{felt_in};
 ghost use Rattle.pic_tile.specs.Parcels.{IsFresh};
 ghost use Rattle.pic_tile.specs.Tile.{chain_at};
 ghost use Rattle.pic_tile.specs.Pushed.{IsOfTile, IsPushed};
-ghost use Rattle.pic_push.specs.Opened.{IsOpened, IsSentOut};
+ghost use Rattle.pic_push.specs.HeldApart.{IsHeldApart, IsSentOut};
 
-use crate::pushing::push_node;
+use crate::node_push::push_node;
 use pic_tile::{Dir, Frame, Parcel, Tile};
 
 /// Pushes every particle of a tile whose parcel of no step, which has them, is held apart.
 fn push_chain(frame: &Frame, tile: &mut Tile, own: &mut Parcel)
-    requires opened { IsOpened frame.now.map own.old tile.old }
+    requires opened { IsHeldApart frame.now.map own.old tile.old }
     requires few { length own.old.chain ≤ most_particles }
     requires particles { let f = frame.now in
         All (IsOfTile f.map f.kinds tile.old.number) own.old.chain }

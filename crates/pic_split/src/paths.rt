@@ -21,7 +21,7 @@ ghost use Rattle.pic_num.specs.Push.{plus};
 ghost use Rattle.pic_num.specs.Space.{triple, spot, AreAtMost, unwrapped};
 ghost use Rattle.pic_grid.specs.Path.{floor_cell, walk, path};
 ghost use Rattle.pic_grid.specs.Segment.{IsInCell};
-ghost use Rattle.pic_split.specs.Faces.{list_of};
+ghost use Rattle.pic_split.specs.Faces.{crossings_in};
 ghost use Rattle.pic_split.specs.Face.{IsSmall};
 ghost use Rattle.pic_split.specs.Move.{LeadBy, lone_piece};
 
@@ -119,8 +119,8 @@ fn cut(p: [i32; 3], d: [i32; 3], end: [i32; 3], cell: [i32; 3], faces: Faces) ->
     requires small { AreAtMost (spot d) most_side }
     requires end { spot end ≡ plus (spot p) (spot d) }
     requires cell { AreAtMost (spot cell) (2 ^ 30 + 2 ^ 15) }
-    requires faces { All (IsSmall most_side) (list_of faces) }
-    ensures { result ≡ walk (spot p) (spot d) (spot p) (spot cell) (list_of faces) }
+    requires faces { All (IsSmall most_side) (crossings_in faces) }
+    ensures { result ≡ walk (spot p) (spot d) (spot p) (spot cell) (crossings_in faces) }
 {
     match faces {
         Faces::Zero => {

@@ -21,8 +21,8 @@ use Rattle.pic_tile.specs.Same.{Same}
 use Rattle.pic_tile.specs.StandFor.{owned}
 use Rattle.pic_tile.proofs.SumLaws.{sum_over_any_order}
 use Rattle.pic_tile.specs.Directions.{directions, steps_of, opposite}
-use Rattle.pic_tile.specs.Layers.{layer_at, at_some, pick, corner, sender_of, given_at, StaysByTile}
-use Rattle.pic_tile.specs.Tiling.{neighbour_of, Tiling, cells_of, stepped}
+use Rattle.pic_tile.specs.Layers.{layer_at, at_some, pick, lowest_cell, sender_of, given_at, StaysByTile}
+use Rattle.pic_tile.specs.Tiling.{neighbour_of, Tiling, cells_of, place_beside}
 use Rattle.pic_tile.proofs.OneAxisLaws.{pick_same}
 use Rattle.pic_tile.proofs.ThreeAxesLaws.{three_axes}
 use Rattle.pic_tile.proofs.TilingLaws.{stepped_within}
@@ -75,7 +75,7 @@ given_over {X} m t d f q xs =
     ∙ some_over on_z (λ z p. at_some on_y (λ y. at_some on_x (λ x. f p (record { x = x; y = y; z = z })))) xs
   where
     low : Spot
-    low = corner m t
+    low = lowest_cell m t
 
     on_x : Option ℤ
     on_x = layer_at m.size.x low.x (d % 3) q.x
@@ -99,7 +99,7 @@ pick_turned a s g =
 pub neighbour_below : (n : Triple) (t d : ℕ) → t < count_of n → neighbour_of n t d < count_of n
 neighbour_below n t d among =
     let place = cell_of n t in
-    index_of_below n (stepped n (steps_of d) place) (stepped_within n (steps_of d) place (cell_of_within n t among))
+    index_of_below n (place_beside n (steps_of d) place) (stepped_within n (steps_of d) place (cell_of_within n t among))
 
 pub sender_below : (m : Tiling) (d r : ℕ) → r < count_of m.tiles → sender_of m d r < count_of m.tiles
 sender_below m d r among = neighbour_below m.tiles r (opposite d) among
@@ -113,13 +113,13 @@ pub all_tiles : (m : Tiling) (own : Particle → ℕ) (f : Particle → Spot →
     → HasTwo m.size → r < count_of m.tiles → IsWithin q m.size
     → ((t : ℕ) → t < count_of m.tiles → Same (start t) (owned own t xs)) → All (IsByItsTile m own f) xs
     → sum_below directions (λ d. given_at m (sender_of m d r) d (λ c. sum_over (λ x. f x c) (start (sender_of m d r))) q)
-    ≡ sum_over (λ x. wrapped (cells_of m) (f x) (outer_of (corner m r) q)) xs
+    ≡ sum_over (λ x. wrapped (cells_of m) (f x) (outer_of (lowest_cell m r) q)) xs
 unfolding owned
 all_tiles m own f start xs r q thick among inner each by_tile =
     sum_same directions (λ d. given_at m (sender_of m d r) d (λ c. sum_over (λ x. f x c) (start (sender_of m d r))) q) (λ d. sum_over (part d) xs) parts
     ∙ below_over directions part xs
-    ∙ sum_over_agree (λ x. sum_below directions (λ d. part d x)) (λ x. wrapped (cells_of m) (f x) (outer_of (corner m r) q)) xs
-    (All-weaker (IsByItsTile m own f) (λ x. sum_below directions (λ d. part d x) ≡ wrapped (cells_of m) (f x) (outer_of (corner m r) q)) one xs by_tile)
+    ∙ sum_over_agree (λ x. sum_below directions (λ d. part d x)) (λ x. wrapped (cells_of m) (f x) (outer_of (lowest_cell m r) q)) xs
+    (All-weaker (IsByItsTile m own f) (λ x. sum_below directions (λ d. part d x) ≡ wrapped (cells_of m) (f x) (outer_of (lowest_cell m r) q)) one xs by_tile)
   where
     part : ℕ → Particle → ℤ
     part d x = pick (sender_of m d r == own x) (given_at m (own x) d (f x) q)
@@ -132,5 +132,5 @@ all_tiles m own f start xs r q thick among inner each by_tile =
         ∙ filter_over (λ x. given_at m s d (f x) q) (λ x. own x == s) xs
         ∙ sum_over_same (λ x. pick (own x == s) (given_at m s d (f x) q)) (part d) xs (λ x. pick_turned (own x) s (λ t. given_at m t d (f x) q))
 
-    one : (x : Particle) → IsByItsTile m own f x → sum_below directions (λ d. part d x) ≡ wrapped (cells_of m) (f x) (outer_of (corner m r) q)
+    one : (x : Particle) → IsByItsTile m own f x → sum_below directions (λ d. part d x) ≡ wrapped (cells_of m) (f x) (outer_of (lowest_cell m r) q)
     one x h = three_axes m (own x) r q (f x) thick h.below among inner h.stays

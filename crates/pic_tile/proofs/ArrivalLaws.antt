@@ -9,15 +9,15 @@ use Rattle.pic_tile.proofs.SumLaws.{total_same, sum_by-flat_map}
 use Rattle.pic_tile.specs.Directions.{directions}
 use Rattle.pic_tile.specs.Layers.{sender_of}
 use Rattle.pic_tile.specs.LayerSum.{AreSharedOut}
-use Rattle.pic_tile.specs.Leaving.{after, going}
+use Rattle.pic_tile.specs.Leaving.{after_its_push, going}
 use Rattle.pic_tile.specs.Owners.{tile_of}
 use Rattle.pic_tile.specs.Receiving.{coming}
 use Rattle.pic_tile.specs.Tiling.{Tiling}
 use Rattle.pic_tile.proofs.HeldLaws.{Leads, arrive}
 
 -- each particle after its push
-pub after_all : (w : Surroundings) (xs : List Particle) → map (after w) xs ≡ moved_all w xs
-unfolding after moved_all
+pub after_all : (w : Surroundings) (xs : List Particle) → map (after_its_push w) xs ≡ moved_all w xs
+unfolding after_its_push moved_all
 after_all w xs = refl
 
 -- what comes by all directions

@@ -12,7 +12,7 @@ use Rattle.pic_grid.specs.BlockLayers.{is_from, is_over, lowered_by, box_of, lay
 use Rattle.pic_grid.specs.Cells.{IsWithin}
 use Rattle.pic_grid.proofs.BlockLayerLaws.{over_tells, cell_in, in_zone, inner_edge}
 use Rattle.pic_tile.specs.Directions.{steps_of}
-use Rattle.pic_tile.specs.Layers.{layer_count, layer_low, layer_begin, layer_at, layers_size, layers_from, layers_begin, corner, IsLayers, at_some, pick, given_at}
+use Rattle.pic_tile.specs.Layers.{layer_count, layer_low, layer_begin, layer_at, layers_size, layers_from, layers_begin, lowest_cell, IsLayers, at_some, pick, given_at}
 use Rattle.pic_tile.specs.Tiling.{Tiling}
 use Rattle.pic_tile.proofs.OneAxisLaws.{pick_same}
 
@@ -51,13 +51,13 @@ three_some false false false x y z g = refl
 -- what is given, by where the layers are laid
 given_is : (m : Tiling) (t d : ℕ) (g : Spot → ℤ) (q : Triple) → HasTwo m.size → IsWithin q m.size
     → given_at m t d g q
-    ≡ (let low = layers_from m.size (corner m t) d in
+    ≡ (let low = layers_from m.size (lowest_cell m t) d in
     let p = lowered_by (layers_begin m.size d) q in
     pick (is_over (layers_begin m.size d) (layers_size m.size d) q) (g (record { x = low.x +ℤ pos p.x; y = low.y +ℤ pos p.y; z = low.z +ℤ pos p.z })))
 unfolding given_at is_over
 given_is m t d g q thick inner =
     let e = steps_of d in
-    let low = corner m t in
+    let low = lowest_cell m t in
     let begin = layers_begin m.size d in
     let size = layers_size m.size d in
     let from = layers_from m.size low d in

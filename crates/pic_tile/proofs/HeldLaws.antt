@@ -20,7 +20,7 @@ use Rattle.pic_tile.specs.Directions.{directions, here, opposite}
 use Rattle.pic_tile.specs.Held.{chains_of, HoldTheList}
 use Rattle.pic_tile.specs.Layers.{sender_of}
 use Rattle.pic_tile.specs.LayerSum.{AreSharedOut}
-use Rattle.pic_tile.specs.Leaving.{way, after, going}
+use Rattle.pic_tile.specs.Leaving.{way, after_its_push, going}
 use Rattle.pic_tile.specs.Owners.{tile_of}
 use Rattle.pic_tile.specs.Parcels.{AreFreshTiles}
 use Rattle.pic_tile.specs.Tile.{TileValue, chain_at, no_tile, tile_in}
@@ -76,11 +76,11 @@ same_tests a b c d to from = elim (ℕ_discrete a b) [
 
 -- the direction in which a push leads a particle leads to the tile of its new place
 abbrev pub Leads : Surroundings → Tiling → Particle → Type 0
-Leads w m x = tile_of m (after w x) ≡ neighbour_of m.tiles (tile_of m x) (way w m x)
+Leads w m x = tile_of m (after_its_push w x) ≡ neighbour_of m.tiles (tile_of m x) (way w m x)
 
 -- a particle goes to a tile exactly where its own is the sender by its way
 goes_to : (w : Surroundings) (m : Tiling) (r : ℕ) (x : Particle) → r < count_of m.tiles → tile_of m x < count_of m.tiles → Leads w m x
-    → Goes directions (tile_of m) (way w m) (λ d. sender_of m d r) (λ y. nat_eq (tile_of m (after w y)) r) x
+    → Goes directions (tile_of m) (way w m) (λ d. sender_of m d r) (λ y. nat_eq (tile_of m (after_its_push w y)) r) x
 goes_to w m r x below own leads =
     let t = tile_of m x in
     let d = way w m x in
@@ -89,7 +89,7 @@ goes_to w m r x below own leads =
     let forth = neighbour_forth m.tiles r d below d_in in
     record {
       way_below = d_in;
-      goes_is = same_tests (tile_of m (after w x)) r t (sender_of m d r)
+      goes_is = same_tests (tile_of m (after_its_push w x)) r t (sender_of m d r)
           (λ e. sym back ∙ ap (λ (s : ℕ). neighbour_of m.tiles s (opposite d)) (sym leads ∙ e))
           (λ e. leads ∙ ap (λ (s : ℕ). neighbour_of m.tiles s d) e ∙ forth);
     }
@@ -97,21 +97,23 @@ goes_to w m r x below own leads =
 -- what all tiles send to one is, by any weight, what the list has there after the push
 pub arrive : (w : Surroundings) (m : Tiling) (start : ℕ → List Particle) (xs : List Particle) (r : ℕ) (v : Particle → ℕ) → r < count_of m.tiles
     → AreSharedOut m start xs → All (λ x. tile_of m x < count_of m.tiles) xs → All (Leads w m) xs
-    → total_below directions (λ d. sum_by v (going w m d (start (sender_of m d r)))) ≡ sum_by v (owned (tile_of m) r (map (after w) xs))
+    → total_below directions (λ d. sum_by v (going w m d (start (sender_of m d r)))) ≡ sum_by v (owned (tile_of m) r (map (after_its_push w) xs))
 unfolding going owned
 arrive w m start xs r v below shared own leads =
     let sent : (d : ℕ) → d < directions
-    → sum_by v (going w m d (start (sender_of m d r))) ≡ sum_by (λ x. cond (nat_eq (way w m x) d) (v (after w x)) 0) (owned (tile_of m) (sender_of m d r) xs) =
+    → sum_by v (going w m d (start (sender_of m d r))) ≡ sum_by (λ x. cond (nat_eq (way w m x) d) (v (after_its_push w x)) 0) (owned (tile_of m)
+    (sender_of m d r) xs) =
     λ d within.
     let s = sender_of m d r in
     let by_way : Particle → Bool = λ x. nat_eq (way w m x) d in
-    sum_by-map v (after w) (filter by_way (start s))
-    ∙ sum_by-filter (λ x. v (after w x)) by_way (start s)
-    ∙ (shared s (sender_below m d r below)).sums (λ x. cond (by_way x) (v (after w x)) 0) in
-    let all : All (Goes directions (tile_of m) (way w m) (λ d. sender_of m d r) (λ y. nat_eq (tile_of m (after w y)) r)) xs =
+    sum_by-map v (after_its_push w) (filter by_way (start s))
+    ∙ sum_by-filter (λ x. v (after_its_push w x)) by_way (start s)
+    ∙ (shared s (sender_below m d r below)).sums (λ x. cond (by_way x) (v (after_its_push w x)) 0) in
+    let all : All (Goes directions (tile_of m) (way w m) (λ d. sender_of m d r) (λ y. nat_eq (tile_of m (after_its_push w y)) r)) xs =
     λ k d within. goes_to w m r (get_or xs k d) below (own k d within) (leads k d within) in
     total_same directions (λ d. sum_by v (going w m d (start (sender_of m d r))))
-    (λ d. sum_by (λ x. cond (nat_eq (way w m x) d) (v (after w x)) 0) (owned (tile_of m) (sender_of m d r) xs)) sent
-    ∙ regroup_total directions (tile_of m) (way w m) (λ d. sender_of m d r) (λ y. nat_eq (tile_of m (after w y)) r) xs (λ x. v (after w x)) all
-    ∙ sym (sum_by-map (λ y. cond (nat_eq (tile_of m y) r) (v y) 0) (after w) xs)
-    ∙ sym (sum_by-filter v (λ y. nat_eq (tile_of m y) r) (map (after w) xs))
+    (λ d. sum_by (λ x. cond (nat_eq (way w m x) d) (v (after_its_push w x)) 0) (owned (tile_of m) (sender_of m d r) xs)) sent
+    ∙ regroup_total directions (tile_of m) (way w m) (λ d. sender_of m d r) (λ y. nat_eq (tile_of m (after_its_push w y)) r) xs (λ x. v
+    (after_its_push w x)) all
+    ∙ sym (sum_by-map (λ y. cond (nat_eq (tile_of m y) r) (v y) 0) (after_its_push w) xs)
+    ∙ sym (sum_by-filter v (λ y. nat_eq (tile_of m y) r) (map (after_its_push w) xs))

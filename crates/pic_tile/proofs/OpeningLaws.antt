@@ -14,7 +14,7 @@ use Rattle.pic_tile.specs.Same.{Same}
 use Rattle.pic_tile.specs.StandFor.{owned}
 use Rattle.pic_tile.proofs.DiscreteLaws.{particle_discrete, all_same}
 use Rattle.pic_tile.proofs.SameLaws.{same_sym, same_length}
-use Rattle.pic_tile.specs.CoreState.{IsOpening, IsSoundFrame, particles_of}
+use Rattle.pic_tile.specs.CoreState.{IsOpening, IsSoundFrame, all_particles}
 use Rattle.pic_tile.specs.Directions.{here}
 use Rattle.pic_tile.specs.Frame.{FrameValue, felt_in}
 use Rattle.pic_tile.specs.Owners.{tile_of}
@@ -55,14 +55,15 @@ unfolding owned
 owned_few f t xs = fewer (λ x. nat_eq (tile_of f.map x) t) xs
 
 module _ (f : FrameValue) (ts : List TileValue) (opens : IsOpening f ts) where
-  chain_same : (t : ℕ) → t < count_of f.map.tiles → Same (chain_at (tile_in ts t) here) (owned (tile_of f.map) t (particles_of ts))
+  chain_same : (t : ℕ) → t < count_of f.map.tiles → Same (chain_at (tile_in ts t) here) (owned (tile_of f.map) t (all_particles ts))
   chain_same t below =
-      subst (λ (k : ℕ). Same (chain_at (tile_in ts t) here) (owned (tile_of f.map) k (particles_of ts))) (opens.fresh.numbers t below) (opens.fresh.stand t below)
+      subst (λ (k : ℕ). Same (chain_at (tile_in ts t) here) (owned (tile_of f.map) k (all_particles ts))) (opens.fresh.numbers t below)
+      (opens.fresh.stand t below)
 
   -- the particles of each tile are its own,
   pub opening_own : (t : ℕ) → t < count_of f.map.tiles → All (IsOfTile f.map f.kinds t) (chain_at (tile_in ts t) here)
   opening_own t below =
-      let xs = particles_of ts in
+      let xs = all_particles ts in
       all_same particle_discrete (IsOfTile f.map f.kinds t) (owned (tile_of f.map) t xs) (chain_at (tile_in ts t) here)
       (same_sym (chain_at (tile_in ts t) here) (owned (tile_of f.map) t xs) (chain_same t below)) (owned_all f t xs opens.can)
 
@@ -71,8 +72,8 @@ module _ (f : FrameValue) (ts : List TileValue) (opens : IsOpening f ts) where
   opening_few t = elim (cases_lt t (length ts)) [
     | inl inside ↦ (
         let below : t < count_of f.map.tiles = subst (λ (n : ℕ). t < n) opens.fresh.count inside in
-        let long = same_length (chain_at (tile_in ts t) here) (owned (tile_of f.map) t (particles_of ts)) (chain_same t below) in
-        let most = owned_few f t (particles_of ts) in
+        let long = same_length (chain_at (tile_in ts t) here) (owned (tile_of f.map) t (all_particles ts)) (chain_same t below) in
+        let most = owned_few f t (all_particles ts) in
         let few = opens.few in
         omega (arith, long, most, few)
         )
@@ -81,9 +82,10 @@ module _ (f : FrameValue) (ts : List TileValue) (opens : IsOpening f ts) where
   ]
 
   -- they lie in the box
-  pub opening_inside : All (λ x. IsInBox f.map.side (cells_of f.map) (triple x.x)) (particles_of ts)
+  pub opening_inside : All (λ x. IsInBox f.map.side (cells_of f.map) (triple x.x)) (all_particles ts)
   opening_inside =
-      All-weaker (CanShare f.map.side (cells_of f.map) f.kinds) (λ x. IsInBox f.map.side (cells_of f.map) (triple x.x)) (λ x can. can.place) (particles_of ts) opens.can
+      All-weaker (CanShare f.map.side (cells_of f.map) f.kinds) (λ x. IsInBox f.map.side (cells_of f.map) (triple x.x)) (λ x can. can.place)
+      (all_particles ts) opens.can
 
 -- what surrounds particles in a frame is over its map's grid
 pub felt_side : (f : FrameValue) → IsSoundFrame f → (felt_in f).side ≡ f.map.side

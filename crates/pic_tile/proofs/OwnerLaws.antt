@@ -5,10 +5,10 @@ use Rattle.pic_num.specs.declared.motion.Particle.{Particle}
 use Rattle.pic_num.specs.Space.{Triple, triple}
 use Rattle.pic_grid.specs.Cells.{IsWithin}
 use Rattle.pic_grid.specs.Hat.{IsInBox}
-use Rattle.pic_tile.specs.Owners.{cell_at}
+use Rattle.pic_tile.specs.Owners.{cell_of_point}
 
 -- the cell of a position of the box is one of the cells
-pub cell_within : (side : ℕ) (n point : Triple) → 0 < side → IsInBox side n point → IsWithin (cell_at side point) n
+pub cell_within : (side : ℕ) (n point : Triple) → 0 < side → IsInBox side n point → IsWithin (cell_of_point side point) n
 cell_within side n point some w = record {
   x = div_below point.x side n.x some w.x;
   y = div_below point.y side n.y some w.y;

@@ -23,7 +23,7 @@ use Rattle.pic_grid.proofs.BlockLaws.{inner_within, all_at_most_more}
 use Rattle.pic_grid.proofs.SumLaws.{sum_same}
 use Rattle.pic_tile.specs.declared.parcel.Parcel.{Parcel}
 use Rattle.pic_tile.specs.Directions.{directions, here, steps_of}
-use Rattle.pic_tile.specs.Layers.{IsLayers, layer_at, layers_size, corner, sender_of, at_some, pick, given_at}
+use Rattle.pic_tile.specs.Layers.{IsLayers, layer_at, layers_size, lowest_cell, sender_of, at_some, pick, given_at}
 use Rattle.pic_tile.specs.LayerSum.{AreSharedOut, LayersMakeTheCurrent}
 use Rattle.pic_tile.specs.Parcels.{IsParcel, IsReady, no_flux}
 use Rattle.pic_tile.specs.Receiving.{brought, HasMerged, IsReceiving, SumsKeepTheBound}
@@ -45,7 +45,7 @@ ready_received w m start done r t all h =
         | yes same ↦ subst (λ (k : ℕ). IsSome (parcel_at t k)) (sym same) (h.there (all here (omega arith)))
         | no apart ↦ subst (λ (o : Option Parcel). IsSome o) (sym (h.empty d below apart (all d below))) refl
       ];
-      low = ap (λ (o : Option Parcel). (flux_of o).low) own.1 ∙ had.low ∙ ap (corner m) number;
+      low = ap (λ (o : Option Parcel). (flux_of o).low) own.1 ∙ had.low ∙ ap (lowest_cell m) number;
       size = ap (λ (o : Option Parcel). (flux_of o).size) own.1 ∙ had.size;
       chains = λ d below apart. ap chain_of (h.empty d below apart (all d below));
       empty = λ d below apart. subst (λ (k : ℕ). IsLayers m k d no_flux (flux_at t d)) number
@@ -56,7 +56,7 @@ ready_received w m start done r t all h =
 pub merged_is_current : LayersMakeTheCurrent → (w : Surroundings) (m : Tiling) (start : ℕ → List Particle) (done : ℕ → Bool) (r : ℕ) (parcel : Parcel)
     (particles : List Particle) (a : Axis) (q : Triple) → ((d : ℕ) → d < directions → done d ≡ true) → HasMerged w m start done r parcel
     → 0 < m.side → w.side ≡ m.side → w.cells ≡ cells_of m → HasTwo m.size → r < count_of m.tiles → IsWithin q m.size → AreSharedOut m start particles
-    → All (λ x. IsInBox m.side (cells_of m) (triple x.x)) particles → inner_at parcel.flux a q ≡ current w particles a (outer_of (corner m r) q)
+    → All (λ x. IsInBox m.side (cells_of m) (triple x.x)) particles → inner_at parcel.flux a q ≡ current w particles a (outer_of (lowest_cell m r) q)
 unfolding brought
 merged_is_current law w m start done r parcel particles a q all has some side cells thick among within shared inside =
     let given : ℕ → ℤ = λ d. given_at m (sender_of m d r) d (traces w (start (sender_of m d r)) a) q in
@@ -81,7 +81,7 @@ three_small x y z f most small =
 pub given_small : (m : Tiling) (t d : ℕ) (f : Spot → ℤ) (q : Triple) (most : ℕ) → ((c : Spot) → IsAtMost (f c) most) → IsAtMost (given_at m t d f q) most
 unfolding given_at
 given_small m t d f q most small =
-    let low = corner m t in
+    let low = lowest_cell m t in
     let e = steps_of d in
     three_small (layer_at m.size.x low.x e.x q.x) (layer_at m.size.y low.y e.y q.y) (layer_at m.size.z low.z e.z q.z) f most small
 
@@ -130,7 +130,18 @@ merged_in_bound law w m start particles done r parcel some side same cells limit
       let q = inner_of parcel.flux.low c in
       let inner : IsWithin q m.size = subst (IsWithin q) has.size (inner_within parcel.flux.low parcel.flux.size c within) in
       subst (λ (v : ℤ). IsAtMost v most_flux) (sym (has.flux a q inner))
-      (law w m start particles done r a q some side same cells limits thick among inner shared inside few);
+      (law w m start particles done r a q (record {
+        some = some;
+        most = side;
+        side = same;
+        cells = cells;
+        kinds = limits;
+        thick = thick;
+        tile = among;
+        within = inner;
+        shared = shared;
+        inside = inside;
+      }) few);
 }
 
 -- What a merge asks for holds while parcels are merged.
@@ -155,7 +166,7 @@ may_merge w m start done r k p t most map among below bound small h undone order
       let had = h.own own.0 own.1 in
       let zone = tile_zone m r map among in
       subst (λ (o : Option Parcel). IsTileZone (flux_of o).low (flux_of o).size) (sym own.1)
-      (subst (λ (l : Spot). IsTileZone l own.0.flux.size) (sym had.low) (subst (λ (n : Triple). IsTileZone (corner m r) n) (sym had.size) zone));
+      (subst (λ (l : Spot). IsTileZone l own.0.flux.size) (sym had.low) (subst (λ (n : Triple). IsTileZone (lowest_cell m r) n) (sym had.size) zone));
   layers = λ apart.
       let own = mine apart in
       let had = h.own own.0 own.1 in

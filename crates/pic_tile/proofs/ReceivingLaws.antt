@@ -26,7 +26,7 @@ use Rattle.pic_tile.proofs.SumLaws.{total_changed, sum_changed, sum_none, total_
 use Rattle.pic_tile.specs.declared.parcel.Parcel.{Parcel}
 use Rattle.pic_tile.specs.Directions.{directions, here}
 use Rattle.pic_tile.specs.Empty.{zero_block, empty_parcel}
-use Rattle.pic_tile.specs.Layers.{IsLayers, layers_begin, layers_from, layers_size, corner, sender_of, pick, given_at}
+use Rattle.pic_tile.specs.Layers.{IsLayers, layers_begin, layers_from, layers_size, lowest_cell, sender_of, pick, given_at}
 use Rattle.pic_tile.specs.Leaving.{going}
 use Rattle.pic_tile.specs.Parcels.{IsParcel}
 use Rattle.pic_tile.specs.Receiving.{Merged, emptied, coming, brought, HasMerged, IsReceiving, IsOneMore}
@@ -183,7 +183,7 @@ module _ (w : Surroundings) (m : Tiling) (start : ℕ → List Particle) (r : �
           let flux : p.flux ≡ q.flux = ap flux_of found in
           record {
             chain = subst (λ (xs : List Particle). Same xs (coming w m start more r)) (ap chain_of is) all;
-            low = ap (λ (b : BlockValues). b.low) (sym flux) ∙ sent_here.flux.low ∙ ap (corner m) self;
+            low = ap (λ (b : BlockValues). b.low) (sym flux) ∙ sent_here.flux.low ∙ ap (lowest_cell m) self;
             size = ap (λ (b : BlockValues). b.size) (sym flux) ∙ sent_here.flux.size;
             flux = λ a c within. ap (λ (b : BlockValues). inner_at b a c) (sym flux)
                 ∙ flux_first done more s p.flux a c thick one_here refl (undone same) sent_here.flux within;
@@ -218,14 +218,14 @@ module _ (w : Surroundings) (m : Tiling) (start : ℕ → List Particle) (r : �
       dir_apart : (d : ℕ) → (d ≡ k → ⊥) → d ≡ p.dir → ⊥
       dir_apart d other e = other (e ∙ sent_is.dir_is)
 
-      left_empty : (d : ℕ) → (d ≡ here → ⊥) → d ≡ k → done here ≡ true → parcel_at u d ≡ Some (empty_parcel m.size (corner m r) d)
+      left_empty : (d : ℕ) → (d ≡ here → ⊥) → d ≡ k → done here ≡ true → parcel_at u d ≡ Some (empty_parcel m.size (lowest_cell m r) d)
       left_empty d apart same first =
           let own = some_there (parcel_at t here) (receiving.there first) in
           let had = receiving.own own.0 own.1 in
           let dir : p.dir ≡ d = sent_is.dir_is ∙ sym same in
           let other : p.dir ≡ here → ⊥ = λ e. apart (sym dir ∙ e) in
           let size : (flux_at t here).size ≡ m.size = ap (λ (o : Option Parcel). (flux_of o).size) own.1 ∙ had.size in
-          let low : (flux_at t here).low ≡ corner m r = ap (λ (o : Option Parcel). (flux_of o).low) own.1 ∙ had.low in
+          let low : (flux_at t here).low ≡ lowest_cell m r = ap (λ (o : Option Parcel). (flux_of o).low) own.1 ∙ had.low in
           let layers : p.flux.size ≡ layers_size m.size d = sent_is.flux.size ∙ ap (layers_size m.size) (sym same) in
           let quiet : p.stop ≡ None = sent_is.none (λ e. other (sent_is.dir_is ∙ e)) in
           subst (λ (j : ℕ). parcel_at u j ≡ Some (emptied (flux_at t here) p)) dir (merged.left other)
@@ -250,7 +250,7 @@ module _ (w : Surroundings) (m : Tiling) (start : ℕ → List Particle) (r : �
       first_before (inr first) apart = first
 
       empty_all : (k ≡ here) ⊎ (done here ≡ true) → (d : ℕ) → d < directions → (d ≡ here → ⊥) → more d ≡ true
-          → parcel_at u d ≡ Some (empty_parcel m.size (corner m r) d)
+          → parcel_at u d ≡ Some (empty_parcel m.size (lowest_cell m r) d)
       empty_all order d inside apart is = elim (ℕ_discrete d k) [
         | yes same ↦ left_empty d apart same (first_before order (λ e. apart (same ∙ e)))
         | no other ↦ merged.others d apart (dir_apart d other) ∙ receiving.empty d inside apart (sym (one.others d other) ∙ is)

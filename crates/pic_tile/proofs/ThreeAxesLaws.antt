@@ -15,8 +15,8 @@ use Rattle.pic_grid.proofs.CellLaws.{cell_of-index_of, index_of-cell_of, cell_of
 use Rattle.pic_grid.proofs.SumLaws.{sum_same}
 use Rattle.pic_tile.proofs.SumLaws.{sum_none}
 use Rattle.pic_tile.specs.Directions.{directions, ring_step}
-use Rattle.pic_tile.specs.Layers.{layer_at, at_some, pick, IsBeyondTile, corner, sender_of, given_at, StaysByTile}
-use Rattle.pic_tile.specs.Tiling.{Tiling, cells_of, stepped}
+use Rattle.pic_tile.specs.Layers.{layer_at, at_some, pick, IsBeyondTile, lowest_cell, sender_of, given_at, StaysByTile}
+use Rattle.pic_tile.specs.Tiling.{Tiling, cells_of, place_beside}
 use Rattle.pic_tile.proofs.OneAxisLaws.{axis_part, one_axis}
 use Rattle.pic_tile.proofs.TilingLaws.{stepped_within, steps_back}
 
@@ -91,18 +91,18 @@ place_test n p t w = go (cases_Bool (same_place p (cell_of n t)))
 -- by the three axes
 sender_test : (m : Tiling) (t r d : ℕ) → d < directions → r < count_of m.tiles
     → (sender_of m d r == t)
-    ≡ same_place (stepped m.tiles (record { x = 2 - d % 3; y = 2 - d / 3 % 3; z = 2 - d / 9 }) (cell_of m.tiles r)) (cell_of m.tiles t)
+    ≡ same_place (place_beside m.tiles (record { x = 2 - d % 3; y = 2 - d / 3 % 3; z = 2 - d / 9 }) (cell_of m.tiles r)) (cell_of m.tiles t)
 sender_test m t r d below among =
     let steps : Triple = record { x = 2 - d % 3; y = 2 - d / 3 % 3; z = 2 - d / 9 } in
     let place = cell_of m.tiles r in
-    ap (λ (e : Triple). index_of m.tiles (stepped m.tiles e place) == t) (steps_back d below)
-    ∙ place_test m.tiles (stepped m.tiles steps place) t (stepped_within m.tiles steps place (cell_of_within m.tiles r among))
+    ap (λ (e : Triple). index_of m.tiles (place_beside m.tiles e place) == t) (steps_back d below)
+    ∙ place_test m.tiles (place_beside m.tiles steps place) t (stepped_within m.tiles steps place (cell_of_within m.tiles r among))
 
 -- The sum over the directions.
 
 pub three_axes : (m : Tiling) (t r : ℕ) (q : Triple) (f : Spot → ℤ) → HasTwo m.size → t < count_of m.tiles → r < count_of m.tiles → IsWithin q m.size
     → StaysByTile m t f
-    → sum_below directions (λ d. pick (sender_of m d r == t) (given_at m t d f q)) ≡ wrapped (cells_of m) f (outer_of (corner m r) q)
+    → sum_below directions (λ d. pick (sender_of m d r == t) (given_at m t d f q)) ≡ wrapped (cells_of m) f (outer_of (lowest_cell m r) q)
 unfolding given_at wrapped
 three_axes m t r q f thick sends among inner stays =
     sum_same directions (λ d. pick (sender_of m d r == t) (given_at m t d f q)) (λ d. all (d % 3) (d / 3 % 3) (d / 9)) by_axes

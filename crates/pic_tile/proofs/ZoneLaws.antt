@@ -4,7 +4,7 @@ use Rattle.std.proofs.Math.Nat.{mul-le-mul_right}
 use Rattle.std.proofs.lemmas.Int.{ints}
 use Rattle.pic_grid.specs.Cells.{IsWithin, count_of, cell_of}
 use Rattle.pic_grid.proofs.CellLaws.{cell_of_within}
-use Rattle.pic_tile.specs.Layers.{corner}
+use Rattle.pic_tile.specs.Layers.{lowest_cell}
 use Rattle.pic_tile.specs.Tiling.{Tiling, IsMap}
 use Rattle.pic_tile.specs.Zones.{IsTileZone}
 
@@ -12,7 +12,7 @@ use Rattle.pic_tile.specs.Zones.{IsTileZone}
 pub row_end : (p t n : ℕ) → p < t → p * n + n ≤ t * n
 row_end p t n h = let most : (p + 1) * n ≤ t * n = mul-le-mul_right n (omega arith) in omega (arith, most)
 
-pub tile_zone : (m : Tiling) (tile : ℕ) → IsMap m → tile < count_of m.tiles → IsTileZone (corner m tile) m.size
+pub tile_zone : (m : Tiling) (tile : ℕ) → IsMap m → tile < count_of m.tiles → IsTileZone (lowest_cell m tile) m.size
 tile_zone m tile h below =
     let at = cell_of m.tiles tile in
     let w : IsWithin at m.tiles = cell_of_within m.tiles tile below in

@@ -12,7 +12,7 @@ use Rattle.pic_tile.specs.InOrder.{in_order, AreOrdered}
 use Rattle.pic_tile.specs.Totals.{together}
 use Rattle.pic_tile.specs.declared.parcel.Parcel.{Parcel}
 use Rattle.pic_tile.specs.Directions.{directions, here}
-use Rattle.pic_tile.specs.Frame.{FrameValue, IsFrame, felt_in}
+use Rattle.pic_tile.specs.Frame.{FrameValue, IsPushFrame, felt_in}
 use Rattle.pic_tile.specs.Held.{chains_of}
 use Rattle.pic_tile.specs.Layers.{sender_of}
 use Rattle.pic_tile.specs.Parcels.{AreFreshTiles}
@@ -37,8 +37,8 @@ pub record CoreState : Type 0 where
   pub shut : List Bool
 
 -- how many tiles there are
-abbrev pub count_in : CoreState → ℕ
-count_in s = count_of s.frame.map.tiles
+abbrev pub tile_count : CoreState → ℕ
+tile_count s = count_of s.frame.map.tiles
 
 -- where the parcel of the direction d to the tile r has its place, and its marks
 abbrev pub slot_of : ℕ → ℕ → ℕ
@@ -70,27 +70,27 @@ mail_at s r d = slice_index_or s.mail (slot_of r d) None
 -- At the start.
 
 -- the particles of fresh tiles, in the order of their identities
-abbrev pub particles_of : List TileValue → List Particle
-particles_of tiles = in_order (together (chains_of tiles))
+abbrev pub all_particles : List TileValue → List Particle
+all_particles tiles = in_order (together (chains_of tiles))
 
 -- tiles of a frame that can be pushed: all of them, fresh, with particles within the limits, whose
 -- identities are 0, 1, ..
 pub record IsOpening (f : FrameValue) (tiles : List TileValue) : Type 0 where
-  pub fresh : AreFreshTiles f.map (particles_of tiles) tiles
-  pub ordered : AreOrdered (particles_of tiles)
-  pub can : All (CanShare f.map.side (cells_of f.map) f.kinds) (particles_of tiles)
-  pub few : length (particles_of tiles) ≤ most_particles
+  pub fresh : AreFreshTiles f.map (all_particles tiles) tiles
+  pub ordered : AreOrdered (all_particles tiles)
+  pub can : All (CanShare f.map.side (cells_of f.map) f.kinds) (all_particles tiles)
+  pub few : length (all_particles tiles) ≤ most_particles
 
 -- what the frame and its map keep
 pub record IsSoundFrame (f : FrameValue) : Type 0 where
-  pub frame : IsFrame f
+  pub frame : IsPushFrame f
   pub map : IsMap f.map
   pub least : least_side ≤ f.map.side
   pub most : f.map.side ≤ most_side
 
 -- the particles with which a tile starts
-abbrev pub start_of : CoreState → ℕ → List Particle
-start_of s t = chain_at (tile_in s.opening t) here
+abbrev pub first_particles : CoreState → ℕ → List Particle
+first_particles s t = chain_at (tile_in s.opening t) here
 
 -- The census.
 
@@ -105,43 +105,43 @@ held s = flat_map held_in s.tiles ++ (flat_map chain_of s.mail ++ flat_map held_
 -- the identities in all tiles and parcels, one after another, are a rearrangement of 0, 1, .., n - 1,
 -- where there were n particles at the start
 pub record HasCensus (s : CoreState) : Type 0 where
-  pub rearranged : IsPermutation (range_with_len 0 (length (particles_of s.opening))) (map (λ x. x.id) (held s))
+  pub rearranged : IsPermutation (range_with_len 0 (length (all_particles s.opening))) (map (λ x. x.id) (held s))
 
 -- Where each parcel is, and with what.
 
 -- there is one place for each tile and each parcel
 pub record HasPlaces (s : CoreState) : Type 0 where
-  pub tiles : length s.tiles ≡ count_in s
-  pub mail : length s.mail ≡ count_in s * directions
-  pub received : length s.received ≡ count_in s
-  pub claimed : length s.claimed ≡ count_in s
-  pub posted : length s.posted ≡ count_in s * directions
-  pub merged : length s.merged ≡ count_in s * directions
-  pub shut : length s.shut ≡ count_in s
+  pub tiles : length s.tiles ≡ tile_count s
+  pub mail : length s.mail ≡ tile_count s * directions
+  pub received : length s.received ≡ tile_count s
+  pub claimed : length s.claimed ≡ tile_count s
+  pub posted : length s.posted ≡ tile_count s * directions
+  pub merged : length s.merged ≡ tile_count s * directions
+  pub shut : length s.shut ≡ tile_count s
 
 -- what came before: a parcel is posted by a claimer, one is merged when all of its receiver are posted,
 -- and a tile is shut when all of its own are merged
 pub record IsInTurn (s : CoreState) : Type 0 where
-  pub came : (r d : ℕ) → r < count_in s → d < directions → is_posted s r d ≡ true → is_claimed s (sender_of s.frame.map d r) ≡ true
-  pub ready : (r d : ℕ) → r < count_in s → d < directions → is_merged s r d ≡ true → AreAllDone (λ e. is_posted s r e)
-  pub over : (r : ℕ) → r < count_in s → is_shut s r ≡ true → AreAllDone (λ d. is_merged s r d)
+  pub came : (r d : ℕ) → r < tile_count s → d < directions → is_posted s r d ≡ true → is_claimed s (sender_of s.frame.map d r) ≡ true
+  pub ready : (r d : ℕ) → r < tile_count s → d < directions → is_merged s r d ≡ true → AreAllDone (λ e. is_posted s r e)
+  pub over : (r : ℕ) → r < tile_count s → is_shut s r ≡ true → AreAllDone (λ d. is_merged s r d)
 
 -- the parcel of the direction d from the tile t to r is in one place: from the claim of t with its
 -- claimer, posted in its slot, then merged into r; until it is merged it has what the push sends. A
 -- tile that isn't claimed is as at the start.
 pub record IsInPlace (s : CoreState) : Type 0 where
-  pub waits : (t : ℕ) → t < count_in s → is_claimed s t ≡ false → tile_in s.tiles t ≡ tile_in s.opening t
-  pub held : (t d : ℕ) → t < count_in s → d < directions → is_claimed s t ≡ true
+  pub waits : (t : ℕ) → t < tile_count s → is_claimed s t ≡ false → tile_in s.tiles t ≡ tile_in s.opening t
+  pub held : (t d : ℕ) → t < tile_count s → d < directions → is_claimed s t ≡ true
       → is_posted s (neighbour_of s.frame.map.tiles t d) d ≡ false
-      → IsSent (felt_in s.frame) s.frame.map (start_of s t) t d (parcel_at (tile_in s.tiles t) d)
-  pub gone : (t d : ℕ) → t < count_in s → d < directions → is_posted s (neighbour_of s.frame.map.tiles t d) d ≡ true
+      → IsSent (felt_in s.frame) s.frame.map (first_particles s t) t d (parcel_at (tile_in s.tiles t) d)
+  pub gone : (t d : ℕ) → t < tile_count s → d < directions → is_posted s (neighbour_of s.frame.map.tiles t d) d ≡ true
       → parcel_at (tile_in s.tiles t) d ≡ None
-  pub clear : (r d : ℕ) → r < count_in s → d < directions → is_posted s r d ≡ false → mail_at s r d ≡ None
-  pub sent : (r d : ℕ) → r < count_in s → d < directions → is_posted s r d ≡ true → is_merged s r d ≡ false
-      → IsSent (felt_in s.frame) s.frame.map (start_of s (sender_of s.frame.map d r)) (sender_of s.frame.map d r) d (mail_at s r d)
-  pub taken : (r d : ℕ) → r < count_in s → d < directions → is_merged s r d ≡ true → mail_at s r d ≡ None
-  pub receives : (r : ℕ) → r < count_in s
-      → IsReceiving (felt_in s.frame) s.frame.map (start_of s) (merged_into s r) r (tile_in s.received r)
+  pub clear : (r d : ℕ) → r < tile_count s → d < directions → is_posted s r d ≡ false → mail_at s r d ≡ None
+  pub sent : (r d : ℕ) → r < tile_count s → d < directions → is_posted s r d ≡ true → is_merged s r d ≡ false
+      → IsSent (felt_in s.frame) s.frame.map (first_particles s (sender_of s.frame.map d r)) (sender_of s.frame.map d r) d (mail_at s r d)
+  pub taken : (r d : ℕ) → r < tile_count s → d < directions → is_merged s r d ≡ true → mail_at s r d ≡ None
+  pub receives : (r : ℕ) → r < tile_count s
+      → IsReceiving (felt_in s.frame) s.frame.map (first_particles s) (merged_into s r) r (tile_in s.received r)
 
 -- a state that events can lead to
 pub record Stands (s : CoreState) : Type 0 where
@@ -154,4 +154,4 @@ pub record Stands (s : CoreState) : Type 0 where
 
 -- all tiles are shut
 abbrev pub AreAllShut : CoreState → Type 0
-AreAllShut s = (r : ℕ) → r < count_in s → is_shut s r ≡ true
+AreAllShut s = (r : ℕ) → r < tile_count s → is_shut s r ≡ true

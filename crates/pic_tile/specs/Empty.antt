@@ -5,7 +5,7 @@ use Rattle.pic_grid.specs.Block.{BlockValues}
 use Rattle.pic_grid.specs.Cells.{count_of}
 use Rattle.pic_tile.specs.declared.parcel.Parcel.{Parcel}
 use Rattle.pic_tile.specs.Directions.{directions}
-use Rattle.pic_tile.specs.Layers.{layers_from, layers_size, corner}
+use Rattle.pic_tile.specs.Layers.{layers_from, layers_size, lowest_cell}
 use Rattle.pic_tile.specs.Tile.{TileValue, parcel_at, tile_in}
 use Rattle.pic_tile.specs.Tiling.{Tiling}
 
@@ -36,4 +36,4 @@ pub record HasEmpty (n : Triple) (low : Spot) (until : ℕ) (t : TileValue) : Ty
 pub record AreEmpty (m : Tiling) (until : ℕ) (tiles : List TileValue) : Type 0 where
   pub count : length tiles ≡ until
   pub numbers : (i : ℕ) → i < until → (tile_in tiles i).number ≡ i
-  pub empty : (i : ℕ) → i < until → HasEmpty m.size (corner m i) directions (tile_in tiles i)
+  pub empty : (i : ℕ) → i < until → HasEmpty m.size (lowest_cell m i) directions (tile_in tiles i)

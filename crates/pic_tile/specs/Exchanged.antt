@@ -12,7 +12,7 @@ use Rattle.pic_tile.specs.Same.{Same}
 use Rattle.pic_tile.specs.StandFor.{owned}
 use Rattle.pic_tile.specs.StopOf.{lesser}
 use Rattle.pic_tile.specs.Directions.{directions, here}
-use Rattle.pic_tile.specs.Layers.{corner}
+use Rattle.pic_tile.specs.Layers.{lowest_cell}
 use Rattle.pic_tile.specs.Owners.{tile_of}
 use Rattle.pic_tile.specs.Parcels.{IsReady}
 use Rattle.pic_tile.specs.Tile.{TileValue, chain_at, flux_at, stop_at, tile_in}
@@ -29,7 +29,7 @@ pub record HasReceived (w : Surroundings) (m : Tiling) (particles : List Particl
   pub number : t.number ≡ r
   pub ready : IsReady m t
   pub chain : Same (chain_at t here) (owned (tile_of m) r (moved_all w particles))
-  pub flux : (a : Axis) (q : Triple) → IsWithin q m.size → inner_at (flux_at t here) a q ≡ current w particles a (outer_of (corner m r) q)
+  pub flux : (a : Axis) (q : Triple) → IsWithin q m.size → inner_at (flux_at t here) a q ≡ current w particles a (outer_of (lowest_cell m r) q)
   pub quiet : (d : ℕ) → d < directions → (d ≡ here → ⊥) → stop_at t d ≡ None
 
 -- all tiles, in order: the least of their stops is what stops the push phase, and where nothing stops

@@ -31,7 +31,7 @@ pub record IsForceField (cells : Grid) (force : Field) : Type 0 where
 
 -- what the type of a frame keeps: the tiles are those of its cells, and so are the lattices, which
 -- have the same parts; no force value passes its bound
-pub record IsFrame (f : FrameValue) : Type 0 where
+pub record IsPushFrame (f : FrameValue) : Type 0 where
   pub map_is : grid_of_tiling f.map ≡ f.cells
   pub kinds_are : AreKinds f.kinds
   pub e : IsForceField f.cells f.force_e

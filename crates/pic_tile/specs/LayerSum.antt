@@ -14,7 +14,7 @@ use Rattle.pic_grid.specs.Traces.{traces}
 use Rattle.pic_tile.specs.Same.{Same}
 use Rattle.pic_tile.specs.StandFor.{owned}
 use Rattle.pic_tile.specs.Directions.{directions}
-use Rattle.pic_tile.specs.Layers.{corner, sender_of, given_at}
+use Rattle.pic_tile.specs.Layers.{lowest_cell, sender_of, given_at}
 use Rattle.pic_tile.specs.Owners.{tile_of}
 use Rattle.pic_tile.specs.Tiling.{Tiling, cells_of}
 
@@ -39,4 +39,4 @@ LayersMakeTheCurrent =
     → All (λ x. IsInBox m.side (cells_of m) (triple x.x)) particles
     → sum_below directions
     (λ d. given_at m (sender_of m d r) d (traces w (start (sender_of m d r)) a) q)
-    ≡ current w particles a (outer_of (corner m r) q)
+    ≡ current w particles a (outer_of (lowest_cell m r) q)

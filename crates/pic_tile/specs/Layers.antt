@@ -67,12 +67,12 @@ layers_begin n d =
     }
 
 -- the lowest cell of a tile
-abbrev pub corner : Tiling → ℕ → Spot
-corner m tile = corner_of m.size (cell_of m.tiles tile)
+abbrev pub lowest_cell : Tiling → ℕ → Spot
+lowest_cell m tile = corner_of m.size (cell_of m.tiles tile)
 
 -- the block has the layers of a tile in the direction d, and f at every edge of them
 pub record IsLayers (m : Tiling) (tile d : ℕ) (f : Axis → Spot → ℤ) (b : BlockValues) : Type 0 where
-  pub low : b.low ≡ layers_from m.size (corner m tile) d
+  pub low : b.low ≡ layers_from m.size (lowest_cell m tile) d
   pub size : b.size ≡ layers_size m.size d
   pub values : (a : Axis) (c : Spot) → InZone b.low b.size c → edge_at b a c ≡ f a c
 
@@ -94,7 +94,7 @@ pick b v = if b then v else pos 0
 -- above the lowest of the tile that they go to
 unfoldable pub given_at : Tiling → ℕ → ℕ → (Spot → ℤ) → Triple → ℤ
 given_at m tile d f q =
-    let low = corner m tile in
+    let low = lowest_cell m tile in
     let e = steps_of d in
     at_some (layer_at m.size.z low.z e.z q.z)
     (λ z. at_some (layer_at m.size.y low.y e.y q.y)
@@ -108,6 +108,6 @@ IsBeyondTile low n j = (j <ℤ (low -ℤ pos 1)) ⊎ ((low +ℤ pos n +ℤ pos 1
 
 -- f is 0 at every edge that on some axis is beyond the tile
 pub record StaysByTile (m : Tiling) (tile : ℕ) (f : Spot → ℤ) : Type 0 where
-  pub x : (c : Spot) → IsBeyondTile (corner m tile).x m.size.x c.x → f c ≡ pos 0
-  pub y : (c : Spot) → IsBeyondTile (corner m tile).y m.size.y c.y → f c ≡ pos 0
-  pub z : (c : Spot) → IsBeyondTile (corner m tile).z m.size.z c.z → f c ≡ pos 0
+  pub x : (c : Spot) → IsBeyondTile (lowest_cell m tile).x m.size.x c.x → f c ≡ pos 0
+  pub y : (c : Spot) → IsBeyondTile (lowest_cell m tile).y m.size.y c.y → f c ≡ pos 0
+  pub z : (c : Spot) → IsBeyondTile (lowest_cell m tile).z m.size.z c.z → f c ≡ pos 0

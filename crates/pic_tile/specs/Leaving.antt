@@ -39,12 +39,13 @@ unfoldable pub way : Surroundings → Tiling → Particle → ℕ
 way w m particle = way_after m particle (push_of w particle)
 
 -- a particle after its push
-unfoldable pub after : Surroundings → Particle → Particle
-after w particle = after_push w.side w.cells particle (push_of w particle)
+unfoldable pub after_its_push : Surroundings → Particle → Particle
+after_its_push w particle = after_push w.side w.cells particle (push_of w particle)
 
 -- the particles that leave in a direction, after their push
 unfoldable pub going : Surroundings → Tiling → ℕ → List Particle → List Particle
-going w m dir particles = map (after w) (filter (λ particle. way w m particle == dir) particles)
+going w m dir particles =
+    map (after_its_push w) (filter (λ particle. way w m particle == dir) particles)
 
 -- that direction leads to the tile of the particle's new place
 abbrev pub WayLeads : Type 0
@@ -55,4 +56,5 @@ WayLeads =
     → 0 < m.side
     → HasTwo m.size
     → IsInBox m.side (cells_of m) (triple particle.x)
-    → tile_of m (after w particle) ≡ neighbour_of m.tiles (tile_of m particle) (way w m particle)
+    → tile_of m (after_its_push w particle)
+    ≡ neighbour_of m.tiles (tile_of m particle) (way w m particle)

@@ -5,9 +5,9 @@ use Rattle.pic_num.specs.Space.{Triple, triple}
 use Rattle.pic_tile.specs.Tiling.{Tiling, owner_of}
 
 -- the cell in which a position of the box lies
-abbrev pub cell_at : ℕ → Triple → Triple
-cell_at side point = record { x = point.x / side; y = point.y / side; z = point.z / side }
+abbrev pub cell_of_point : ℕ → Triple → Triple
+cell_of_point side point = record { x = point.x / side; y = point.y / side; z = point.z / side }
 
 -- the tile of a particle: that of the cell of its position
 abbrev pub tile_of : Tiling → Particle → ℕ
-tile_of m particle = owner_of m (cell_at m.side (triple particle.x))
+tile_of m particle = owner_of m (cell_of_point m.side (triple particle.x))

@@ -11,7 +11,7 @@ use Rattle.pic_tile.specs.StandFor.{owned}
 use Rattle.pic_tile.specs.StopOf.{IsStopOf}
 use Rattle.pic_tile.specs.declared.parcel.Parcel.{Parcel}
 use Rattle.pic_tile.specs.Directions.{directions, here}
-use Rattle.pic_tile.specs.Layers.{layers_from, layers_size, corner, IsLayers}
+use Rattle.pic_tile.specs.Layers.{layers_from, layers_size, lowest_cell, IsLayers}
 use Rattle.pic_tile.specs.Leaving.{going}
 use Rattle.pic_tile.specs.Owners.{tile_of}
 use Rattle.pic_tile.specs.Tile.{TileValue, parcel_at, chain_at, flux_at, stop_at, tile_in}
@@ -35,7 +35,7 @@ no_flux a c = pos 0
 -- its particles in that of no step alone; the others have no flux
 pub record IsReady (m : Tiling) (t : TileValue) : Type 0 where
   pub whole : (d : ℕ) → d < directions → IsSome (parcel_at t d)
-  pub low : (flux_at t here).low ≡ layers_from m.size (corner m t.number) here
+  pub low : (flux_at t here).low ≡ layers_from m.size (lowest_cell m t.number) here
   pub size : (flux_at t here).size ≡ layers_size m.size here
   pub chains : (d : ℕ) → d < directions → (d ≡ here → ⊥) → chain_at t d ≡ []
   pub empty : (d : ℕ) → d < directions → (d ≡ here → ⊥) → IsLayers m t.number d no_flux (flux_at t d)

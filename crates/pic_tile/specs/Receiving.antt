@@ -20,7 +20,7 @@ use Rattle.pic_tile.specs.StopOf.{IsStopOf}
 use Rattle.pic_tile.specs.declared.parcel.Parcel.{Parcel}
 use Rattle.pic_tile.specs.Directions.{directions, here}
 use Rattle.pic_tile.specs.Empty.{zero_block, empty_parcel}
-use Rattle.pic_tile.specs.Layers.{layers_begin, layers_from, corner, sender_of, pick, given_at}
+use Rattle.pic_tile.specs.Layers.{layers_begin, layers_from, lowest_cell, sender_of, pick, given_at}
 use Rattle.pic_tile.specs.LayerSum.{AreSharedOut}
 use Rattle.pic_tile.specs.Leaving.{going}
 use Rattle.pic_tile.specs.Tile.{TileValue, parcel_at, chain_at, flux_at, stop_at}
@@ -72,7 +72,7 @@ pub record HasMerged (w : Surroundings) (m : Tiling) (start : ℕ → List Parti
     (r : ℕ) (parcel : Parcel) : Type 0
   where
     pub chain : Same parcel.chain (coming w m start done r)
-    pub low : parcel.flux.low ≡ corner m r
+    pub low : parcel.flux.low ≡ lowest_cell m r
     pub size : parcel.flux.size ≡ m.size
     pub flux : (a : Axis) (q : Triple) → IsWithin q m.size
         → inner_at parcel.flux a q ≡ brought w m start done r a q
@@ -88,7 +88,7 @@ pub record IsReceiving (w : Surroundings) (m : Tiling) (start : ℕ → List Par
     pub there : done here ≡ true → IsSome (parcel_at t here)
     pub own : (parcel : Parcel) → parcel_at t here ≡ Some parcel → HasMerged w m start done r parcel
     pub empty : (d : ℕ) → d < directions → (d ≡ here → ⊥) → done d ≡ true
-        → parcel_at t d ≡ Some (empty_parcel m.size (corner m r) d)
+        → parcel_at t d ≡ Some (empty_parcel m.size (lowest_cell m r) d)
     pub bare : (d : ℕ) → d < directions → done d ≡ false → parcel_at t d ≡ None
 
 -- one direction more is done
@@ -101,21 +101,28 @@ pub record IsOneMore (k : ℕ) (done more : ℕ → Bool) : Type 0 where
 abbrev pub AreAllDone : (ℕ → Bool) → Type 0
 AreAllDone done = (d : ℕ) → d < directions → done d ≡ true
 
+-- what sums of flux are taken of: particles within the limits, shared out over the tiles of a map,
+-- and of the tile r the edge that lies q above its lowest
+pub record AreSummed (w : Surroundings) (m : Tiling) (start : ℕ → List Particle)
+    (particles : List Particle) (r : ℕ) (q : Triple) : Type 0
+  where
+    pub some : 0 < m.side
+    pub most : m.side ≤ most_side
+    pub side : w.side ≡ m.side
+    pub cells : w.cells ≡ cells_of m
+    pub kinds : All IsKind w.kinds
+    pub thick : HasTwo m.size
+    pub tile : r < count_of m.tiles
+    pub within : IsWithin q m.size
+    pub shared : AreSharedOut m start particles
+    pub inside : All (λ x. IsInBox m.side (cells_of m) (triple x.x)) particles
+
 -- whichever directions are done first, the flux that has come to an edge is at most what that of
 -- all particles can be at one
 abbrev pub SumsKeepTheBound : Type 0
 SumsKeepTheBound =
     (w : Surroundings) (m : Tiling) (start : ℕ → List Particle) (particles : List Particle)
     → (done : ℕ → Bool) (r : ℕ) (a : Axis) (q : Triple)
-    → 0 < m.side
-    → m.side ≤ most_side
-    → w.side ≡ m.side
-    → w.cells ≡ cells_of m
-    → All IsKind w.kinds
-    → HasTwo m.size
-    → r < count_of m.tiles
-    → IsWithin q m.size
-    → AreSharedOut m start particles
-    → All (λ x. IsInBox m.side (cells_of m) (triple x.x)) particles
+    → AreSummed w m start particles r q
     → length particles ≤ most_particles
     → IsAtMost (brought w m start done r a q) most_flux

@@ -4,7 +4,7 @@ use Rattle.pic_grid.specs.Hat.{HasTwo}
 use Rattle.pic_num.specs.Space.{Triple, triple, unwrapped}
 use Rattle.pic_grid.specs.Cells.{Grid, IsCells, IsSize, count_of, index_of, cell_of}
 use Rattle.pic_grid.specs.Block.{InZone}
-use Rattle.pic_grid.specs.Parts.{part_size, part_of, corner_of}
+use Rattle.pic_grid.specs.Parts.{part_size, part_with, corner_of}
 use Rattle.pic_grid.specs.Tiles.{most_tiles}
 use Rattle.pic_tile.specs.Directions.{steps_of, ring_step}
 
@@ -49,12 +49,16 @@ IsInTile m tile cell = InZone (corner_of m.size (cell_of m.tiles tile)) m.size (
 
 -- the tile of a cell
 abbrev pub owner_of : Tiling → Triple → ℕ
-owner_of m cell = index_of m.tiles (part_of m.size cell)
+owner_of m cell = index_of m.tiles (part_with m.size cell)
 
 -- the place of the tile that lies next to that at p, by these steps
-abbrev pub stepped : Triple → Triple → Triple → Triple
-stepped n steps p = record { x = ring_step n.x steps.x p.x; y = ring_step n.y steps.y p.y; z = ring_step n.z steps.z p.z }
+abbrev pub place_beside : Triple → Triple → Triple → Triple
+place_beside n steps p = record {
+  x = ring_step n.x steps.x p.x;
+  y = ring_step n.y steps.y p.y;
+  z = ring_step n.z steps.z p.z;
+}
 
 -- the tile that lies next to a tile in a direction, where there are n on each axis
 abbrev pub neighbour_of : Triple → ℕ → ℕ → ℕ
-neighbour_of n tile dir = index_of n (stepped n (steps_of dir) (cell_of n tile))
+neighbour_of n tile dir = index_of n (place_beside n (steps_of dir) (cell_of n tile))

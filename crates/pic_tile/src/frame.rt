@@ -1,7 +1,8 @@
 //! What surrounds the particles of all tiles in their push.
 
 ghost use Rattle.std.specs.Prelude.{◌≡◌, IfOk};
-ghost use Rattle.pic_tile.specs.Frame.{IsForceField, IsFrame};
+ghost use Rattle.pic_tile.specs.CoreState.{IsSoundFrame};
+ghost use Rattle.pic_tile.specs.Frame.{IsForceField, IsPushFrame};
 ghost use Rattle.pic_tile.specs.Tiling.{grid_of_tiling};
 
 use crate::kinds::Kinds;
@@ -22,7 +23,7 @@ pub struct Frame {
 }
 
 impl Model for Frame {
-    ghost use Rattle.pic_tile.specs.Frame.{FrameValue, IsFrame};
+    ghost use Rattle.pic_tile.specs.Frame.{FrameValue, IsPushFrame};
 
     ghost Value = { FrameValue };
 
@@ -34,7 +35,7 @@ impl Model for Frame {
       force_b = f.force_b;
     } };
 
-    ghost invariant = { λ f. IsFrame (record {
+    ghost invariant = { λ f. IsPushFrame (record {
       cells = f.cells;
       map = f.map;
       kinds = f.kinds;
@@ -69,10 +70,18 @@ impl Frame {
         }
     }
 
+    /// Hands out what its type and that of its map keep.
+    pub fn sound(&self)
+        ensures { IsSoundFrame self.now }
+    {
+        let _tiles = self.map().tiles();
+        let _side = self.cells().sub().side();
+    }
+
     /// The cells.
     pub fn cells(&self) -> Cells
         ensures value { result ≡ self.now.cells }
-        ensures frame { IsFrame self.now }
+        ensures frame { IsPushFrame self.now }
     {
         self.cells
     }
@@ -80,7 +89,7 @@ impl Frame {
     /// The tiles.
     pub fn map(&self) -> &TileMap
         ensures value { result.now ≡ self.now.map }
-        ensures frame { IsFrame self.now }
+        ensures frame { IsPushFrame self.now }
     {
         &self.map
     }
@@ -88,7 +97,7 @@ impl Frame {
     /// What the particles of each species have in common.
     pub fn kinds(&self) -> &[Kind]
         ensures value { result.now ≡ self.now.kinds }
-        ensures frame { IsFrame self.now }
+        ensures frame { IsPushFrame self.now }
     {
         self.kinds.as_slice()
     }
@@ -96,7 +105,7 @@ impl Frame {
     /// The force values of E.
     pub fn force_e(&self) -> &Lattice
         ensures value { result.now ≡ self.now.force_e }
-        ensures frame { IsFrame self.now }
+        ensures frame { IsPushFrame self.now }
     {
         &self.force_e
     }
@@ -104,7 +113,7 @@ impl Frame {
     /// The force values of B.
     pub fn force_b(&self) -> &Lattice
         ensures value { result.now ≡ self.now.force_b }
-        ensures frame { IsFrame self.now }
+        ensures frame { IsPushFrame self.now }
     {
         &self.force_b
     }
@@ -114,7 +123,7 @@ impl Frame {
         ensures kinds { result.0 ≡ self.kinds }
         ensures e { result.1 ≡ self.force_e }
         ensures b { result.2 ≡ self.force_b }
-        ensures frame { IsFrame self }
+        ensures frame { IsPushFrame self }
     {
         let Frame {
             cells: _,

@@ -1,4 +1,5 @@
-//! Laws of particles in any order, and of tiles. Each is the contract of a function that does nothing.
+//! Laws of particles in any order, and of tiles. Each is the contract of a function that does
+//! nothing.
 
 ghost use Rattle.pic_tile.specs.Held.{FreshTilesHoldTheList};
 ghost use Rattle.pic_tile.specs.InOrder.{AnyOrderIsTheList, CensusIsPutInOrder, WrittenIsInOrder};
@@ -21,7 +22,8 @@ pub fn written_is_in_order()
     ensures { WrittenIsInOrder }
 {}
 
-/// Two lists have the same particles in any order exactly where one is a rearrangement of the other.
+/// Two lists have the same particles in any order exactly where one is a rearrangement of the
+/// other.
 pub fn same_is_a_rearrangement()
     ensures { SameIsARearrangement }
 {}

@@ -7,8 +7,8 @@ mod dir;
 mod frame;
 mod kinds;
 mod laws;
-mod layers;
 mod parcel;
+mod parcel_layers;
 mod tile;
 mod tile_map;
 
@@ -21,7 +21,7 @@ pub use laws::{
     fresh_tiles_hold_the_list, law_of_the_least_of_tiles, least_stop_in_any_order,
     same_is_a_rearrangement, written_is_in_order,
 };
-pub use layers::{layers_begin, layers_zone};
 pub use parcel::{Parcel, ParcelBox};
+pub use parcel_layers::{layers_begin, layers_zone};
 pub use tile::Tile;
 pub use tile_map::TileMap;

@@ -48,6 +48,13 @@ impl ParcelBox {
         let parcel = Box::new(alloc, parcel)?;
         Ok(ParcelBox { parcel })
     }
+
+    /// The parcel, out of its memory, which is given back.
+    pub fn into_parcel(self) -> Parcel
+        ensures { result ≡ self }
+    {
+        Box::into_inner(self.parcel)
+    }
 }
 
 impl Deref for ParcelBox {

@@ -1,9 +1,9 @@
 //! An electron that leaves its tile, under events in several orders.
 
 ghost use Rattle.std.specs.Prelude.{IfOk};
-ghost use Rattle.pic_core.specs.Opened.{HasNotBegun};
+ghost use Rattle.pic_core.specs.AtStart.{HasNotBegun};
 
-use crate::opening::{eight_tiles, frame_is_sound, free};
+use crate::opening::{eight_tiles, free};
 use pic_core::{Core, Event};
 use pic_gate::{Gate, Point};
 use pic_num::{Axis, NoMemory, Particle};
@@ -25,7 +25,7 @@ fn begin(alloc: Global) -> Result<Core, NoMemory>
     let map = eight_tiles();
     let frame = free(alloc, map)?;
     let tiles = cut(alloc, &map, &[electron])?;
-    frame_is_sound(&frame);
+    frame.sound();
     Core::new(alloc, frame, tiles)
 }
 

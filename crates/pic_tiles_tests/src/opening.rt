@@ -2,11 +2,10 @@
 
 ghost use Rattle.std.specs.Prelude.{◌≡◌, ◌∷◌, ◌<◌, ◌≤◌, [], IfOk, length};
 ghost use Rattle.pic_grid.specs.PushPhase.{CanShare, no_kind};
-ghost use Rattle.pic_tile.specs.CoreState.{IsSoundFrame};
 ghost use Rattle.pic_tile.specs.Directions.{directions};
 ghost use Rattle.pic_tile.specs.Frame.{IsForceField};
 ghost use Rattle.pic_tile.specs.Tiling.{cells_of};
-ghost use Rattle.pic_core.specs.Opened.{HasNotBegun};
+ghost use Rattle.pic_core.specs.AtStart.{HasNotBegun};
 ghost use Rattle.pic_tiles_tests.specs.Particles.{AreFirst, four};
 
 use pic_core::Core;
@@ -14,14 +13,6 @@ use pic_grid::{Cells, Lattice};
 use pic_num::{Kind, Mult, NoMemory, Particle, Sub};
 use pic_tile::{Dir, Frame, Kinds, TileMap, cut};
 use std::alloc::Global;
-
-// what a frame's type keeps
-pub(crate) fn frame_is_sound(frame: &Frame)
-    ensures { IsSoundFrame frame.now }
-{
-    let _tiles = frame.map().tiles();
-    let _side = frame.cells().sub().side();
-}
 
 // [4, 4, 4] cells of 4096 sub-cells, in eight tiles
 pub(crate) fn eight_tiles() -> TileMap
@@ -117,6 +108,6 @@ pub(crate) fn begin(alloc: Global) -> Result<Core, NoMemory>
     let frame = free(alloc, map)?;
     let all = particles(alloc)?;
     let tiles = cut(alloc, &map, all.as_slice())?;
-    frame_is_sound(&frame);
+    frame.sound();
     Core::new(alloc, frame, tiles)
 }

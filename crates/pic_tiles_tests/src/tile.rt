@@ -35,7 +35,9 @@ fn a_parcel_is_taken_from_where_it_is_put(rt: HostRuntime) -> Result<(), NoMemor
     let dir = tile.parcel(Dir::of(12)).map(|parcel| parcel.dir);
     assert_eq!(rt; dir, Some(Dir::of(12)));
     assert!(rt; tile.take_parcel(Dir::of(14)).is_none());
-    let dir = tile.take_parcel(Dir::of(12)).map(|parcel| parcel.dir);
+    let dir = tile
+        .take_parcel(Dir::of(12))
+        .map(|parcel| parcel.into_parcel().dir);
     assert_eq!(rt; dir, Some(Dir::of(12)));
     assert!(rt; tile.parcel(Dir::of(12)).is_none());
     Ok(())

@@ -11,8 +11,8 @@ use Rattle.pic_yard.specs.Fronts.{seek}
 use Rattle.pic_tile.specs.Directions.{directions, here}
 use Rattle.pic_yard.specs.declared.opening.Opening.{Opening}
 use Rattle.pic_yard.specs.declared.view.View.{View}
-use Rattle.pic_yard.specs.Arrivals.{behind, IsLoaded, HasAllMail, Arrived}
-use Rattle.pic_yard.specs.Contents.{Slot, vacant, tiles_in, to_of, from_of, IsParcel, kinds_of}
+use Rattle.pic_yard.specs.Arrivals.{behind, IsAboutToPost, HasAllMail, Arrived}
+use Rattle.pic_yard.specs.Contents.{Slot, vacant, tiles_in, to_of, from_of, HoldsParcel, slot_kinds}
 use Rattle.pic_yard.specs.Marks.{Marks, IsOwed, IsRight}
 use Rattle.pic_yard.specs.Members.{count_below}
 use Rattle.pic_yard.specs.Places.{IsHome, Places, Aways}
@@ -32,7 +32,7 @@ use Rattle.pic_yard.proofs.WayLaws.{ways_of}
 use Rattle.pic_yard.proofs.WordLaws.{word_now, word_still, found_or}
 
 module _ (o : Opening) (s : State Slot View) (rule : Rule o s) (id : ℕ) (me : Me Slot View) (at : get_elem? s.views id ≡ some me.0)
-    (r d : ℕ) (parcel : Slot) (slots : List (ℕ × Slot)) (load : IsLoaded o me r d parcel slots) where
+    (r d : ℕ) (parcel : Slot) (slots : List (ℕ × Slot)) (load : IsAboutToPost o me r d parcel slots) where
   abbrev T : ℕ
   T = tiles_in o
 
@@ -123,7 +123,7 @@ module _ (o : Opening) (s : State Slot View) (rule : Rule o s) (id : ℕ) (me : 
 
   abbrev Comes : List (Option Slot) → Type 0
   Comes later =
-      ComesHome (kinds_of o) T directions here w (to_of o) (from_of o) (ways_of o) rule.posted rule.shut s.homes rule.marks.came rule.marks.whole
+      ComesHome (slot_kinds o) T directions here w (to_of o) (from_of o) (ways_of o) rule.posted rule.shut s.homes rule.marks.came rule.marks.whole
       rule.places rule.aways r d owed.tile owed.dir owed.sender owed.free later
 
   comes : Comes given
@@ -168,7 +168,7 @@ module _ (o : Opening) (s : State Slot View) (rule : Rule o s) (id : ℕ) (me : 
 
   -- the rule after the post, over what is then at home
   post_rule : (later : List (Option Slot)) → length later ≡ length s.homes
-      → Places (kinds_of o) T directions here w (from_of o) now_posted rule.shut later → Aways T directions here w (from_of o) now_posted rule.shut later
+      → Places (slot_kinds o) T directions here w (from_of o) now_posted rule.shut later → Aways T directions here w (from_of o) now_posted rule.shut later
       → Rule o (record { words = set s.words (suc r) (suc n); homes = later; views = set s.views id after })
   post_rule later long places aways = record {
     posted = now_posted;
@@ -184,7 +184,7 @@ module _ (o : Opening) (s : State Slot View) (rule : Rule o s) (id : ℕ) (me : 
     marks = subst (λ (k : ℕ). Marks T directions k (from_of o) now_posted rule.shut (set s.words (suc r) (suc n)) (set s.views id after)) (sym same_ticket)
         (post_marks T directions w (from_of o) rule.posted rule.shut s.words (set s.words (suc r)
         (suc n)) s.views rule.marks id me.0 at load.live r d load.owes words_are);
-    places = subst (λ (k : ℕ). Places (kinds_of o) T directions here k (from_of o) now_posted rule.shut later) (sym same_ticket) places;
+    places = subst (λ (k : ℕ). Places (slot_kinds o) T directions here k (from_of o) now_posted rule.shut later) (sym same_ticket) places;
     aways = subst (λ (k : ℕ). Aways T directions here k (from_of o) now_posted rule.shut later) (sym same_ticket) aways;
   }
 
@@ -195,18 +195,18 @@ module _ (o : Opening) (s : State Slot View) (rule : Rule o s) (id : ℕ) (me : 
   -- the post that isn't the last
   counted_rule : suc n < directions → Rule o (stepped s (suc r) (suc n) id me.1 after (post_act d))
   counted_rule few = post_rule (homes_after s.homes me.1 (post_act d)) (ap (λ (hs : List (Option Slot)). length hs) act_homes ∙ given_long)
-      (subst (λ (hs : List (Option Slot)). Places (kinds_of o) T directions here w (from_of o) now_posted rule.shut hs) (sym act_homes)
-      (post_places (kinds_of o) T directions here w (to_of o) (from_of o) (ways_of o) rule.posted rule.shut s.homes rule.marks.came rule.marks.whole
+      (subst (λ (hs : List (Option Slot)). Places (slot_kinds o) T directions here w (from_of o) now_posted rule.shut hs) (sym act_homes)
+      (post_places (slot_kinds o) T directions here w (to_of o) (from_of o) (ways_of o) rule.posted rule.shut s.homes rule.marks.came rule.marks.whole
       rule.places rule.aways r d owed.tile owed.dir owed.sender owed.free few given comes))
       (subst (λ (hs : List (Option Slot)). Aways T directions here w (from_of o) now_posted rule.shut hs) (sym act_homes)
-      (post_aways (kinds_of o) T directions here w (to_of o) (from_of o) (ways_of o) rule.posted rule.shut s.homes rule.marks.came rule.marks.whole
+      (post_aways (slot_kinds o) T directions here w (to_of o) (from_of o) (ways_of o) rule.posted rule.shut s.homes rule.marks.came rule.marks.whole
       rule.places rule.aways r d owed.tile owed.dir owed.sender owed.free few given comes))
 
   -- The last post: all slots of r are taken.
 
   abbrev mail_by : Bool → ℕ → Slot → Type 0
   mail_by true k y = y ≡ vacant
-  mail_by false k y = IsParcel o (from_of o r k) k y
+  mail_by false k y = HoldsParcel o (from_of o r k) k y
 
   abbrev mail_kind : ℕ → Slot → Type 0
   mail_kind k y = mail_by (eqb k directions) k y
@@ -214,7 +214,7 @@ module _ (o : Opening) (s : State Slot View) (rule : Rule o s) (id : ℕ) (me : 
   mail_home : (k : ℕ) (y : Slot) → k ≡ directions → mail_kind k y ≡ (y ≡ vacant)
   mail_home k y is = ap (λ (b : Bool). mail_by b k y) (eq-eqb k directions is)
 
-  mail_box : (k : ℕ) (y : Slot) → (k ≡ directions → ⊥) → mail_kind k y ≡ IsParcel o (from_of o r k) k y
+  mail_box : (k : ℕ) (y : Slot) → (k ≡ directions → ⊥) → mail_kind k y ≡ HoldsParcel o (from_of o r k) k y
   mail_box k y apart = ap (λ (b : Bool). mail_by b k y) (ne_eqb k directions apart)
 
   module _ (full : suc n ≡ directions) where
@@ -242,15 +242,15 @@ module _ (o : Opening) (s : State Slot View) (rule : Rule o s) (id : ℕ) (me : 
           let dir : k < directions = omega (arith, below, top) in
           elim (ℕ_discrete k d) [
             | yes is ↦
-                let here_it : IsHome given box (IsParcel o (from_of o r d) d) = comes.box in
+                let here_it : IsHome given box (HoldsParcel o (from_of o r d) d) = comes.box in
                 record {
                   value = here_it.value;
                   there = ap (λ (q : ℕ). get_elem? given (slot_at r q)) is ∙ here_it.there;
-                  is = subst (λ (A : Type 0). A) (sym (mail_box k here_it.value top)) (subst (λ (q : ℕ). IsParcel o (from_of o r q) q here_it.value)
+                  is = subst (λ (A : Type 0). A) (sym (mail_box k here_it.value top)) (subst (λ (q : ℕ). HoldsParcel o (from_of o r q) q here_it.value)
                       (sym is) here_it.is);
                 }
             | no apart ↦
-                let old : IsHome s.homes (slot_at r k) (IsParcel o (from_of o r k) k) = rule.places.full r k owed.tile dir
+                let old : IsHome s.homes (slot_at r k) (HoldsParcel o (from_of o r k) k) = rule.places.full r k owed.tile dir
                 (others_posted k dir apart) less_than_all in
                 let way : d < directions = owed.dir in
                 record {
@@ -267,7 +267,7 @@ module _ (o : Opening) (s : State Slot View) (rule : Rule o s) (id : ℕ) (me : 
 
     abbrev Goes : List (Option Slot) → Type 0
     Goes later =
-        GoesAway (kinds_of o) T directions here w (to_of o) (from_of o) (ways_of o) rule.posted rule.shut s.homes rule.marks.came rule.marks.whole
+        GoesAway (slot_kinds o) T directions here w (to_of o) (from_of o) (ways_of o) rule.posted rule.shut s.homes rule.marks.came rule.marks.whole
         rule.places rule.aways r d owed.tile owed.dir owed.sender owed.free later
 
     goes : Goes (cleared given takes.list)
@@ -300,11 +300,11 @@ module _ (o : Opening) (s : State Slot View) (rule : Rule o s) (id : ℕ) (me : 
 
     last_rule : Rule o (stepped s (suc r) (suc n) id me.1 after last_act)
     last_rule = post_rule (homes_after s.homes me.1 last_act) (ap (λ (hs : List (Option Slot)). length hs) last_homes ∙ takes.long ∙ given_long)
-        (subst (λ (hs : List (Option Slot)). Places (kinds_of o) T directions here w (from_of o) now_posted rule.shut hs) (sym last_homes)
-        (last_places (kinds_of o) T directions here w (to_of o) (from_of o) (ways_of o) rule.posted rule.shut s.homes rule.marks.came rule.marks.whole
+        (subst (λ (hs : List (Option Slot)). Places (slot_kinds o) T directions here w (from_of o) now_posted rule.shut hs) (sym last_homes)
+        (last_places (slot_kinds o) T directions here w (to_of o) (from_of o) (ways_of o) rule.posted rule.shut s.homes rule.marks.came rule.marks.whole
         rule.places rule.aways r d owed.tile owed.dir owed.sender owed.free full (cleared given takes.list) goes))
         (subst (λ (hs : List (Option Slot)). Aways T directions here w (from_of o) now_posted rule.shut hs) (sym last_homes)
-        (last_aways (kinds_of o) T directions here w (to_of o) (from_of o) (ways_of o) rule.posted rule.shut s.homes rule.marks.came rule.marks.whole
+        (last_aways (slot_kinds o) T directions here w (to_of o) (from_of o) (ways_of o) rule.posted rule.shut s.homes rule.marks.came rule.marks.whole
         rule.places rule.aways r d owed.tile owed.dir owed.sender owed.free full (cleared given takes.list) goes))
 
     -- none of the slots taken was with the seat
@@ -393,6 +393,6 @@ module _ (o : Opening) (s : State Slot View) (rule : Rule o s) (id : ℕ) (me : 
       subst (λ (x : ℕ). Here x ((x + 1) % 2 ^ 64)) (sym word) (subst (λ (y : ℕ). Here n y) (sym next_word) result)
 
 -- a post by a seat that owes the parcel and has it at hand
-pub post_allowed : (o : Opening) (slots id : ℕ) (me : Me Slot View) (r d : ℕ) (parcel : Slot) (list : List (ℕ × Slot)) → IsLoaded o me r d parcel list
+pub post_allowed : (o : Opening) (slots id : ℕ) (me : Me Slot View) (r d : ℕ) (parcel : Slot) (list : List (ℕ × Slot)) → IsAboutToPost o me r d parcel list
     → Allows (Rule o) slots id me (suc r) (λ n. (n + 1) % 2 ^ 64) (Arrived o r d list me)
 post_allowed o slots id me r d parcel list load s rule wide at small = post_here o s rule id me at r d parcel list load

@@ -8,7 +8,7 @@ use Rattle.pic_tile.specs.Directions.{directions, here}
 use Rattle.pic_yard.specs.declared.opening.Opening.{Opening}
 use Rattle.pic_yard.specs.declared.view.View.{View}
 use Rattle.pic_yard.specs.Acts.{Apart}
-use Rattle.pic_yard.specs.Arrivals.{behind, IsLoaded}
+use Rattle.pic_yard.specs.Arrivals.{behind, IsAboutToPost}
 use Rattle.pic_yard.specs.Contents.{Slot, vacant}
 use Rattle.pic_yard.specs.Sits.{slot_at}
 
@@ -33,7 +33,7 @@ module _ (d : ℕ) (slots : List (ℕ × Slot)) where
   unfolding post_act
   act_step apart = ap (λ (b : Bool). if b then chain gives gives else gives) (ne_eqb d here apart)
 
-module _ (o : Opening) (me : Me Slot View) (r d : ℕ) (parcel : Slot) (slots : List (ℕ × Slot)) (load : IsLoaded o me r d parcel slots) where
+module _ (o : Opening) (me : Me Slot View) (r d : ℕ) (parcel : Slot) (slots : List (ℕ × Slot)) (load : IsAboutToPost o me r d parcel slots) where
   abbrev box : ℕ
   box = slot_at r d
 

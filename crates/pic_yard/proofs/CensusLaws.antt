@@ -12,11 +12,11 @@ use Rattle.pic_tile.proofs.SameLaws.{sum_by-map, sum_by-together, sum_by_agree}
 use Rattle.pic_tile.proofs.StandForLaws.{stands_together}
 use Rattle.pic_tile.proofs.SumLaws.{total_same, total_below_more, sum_by-flat_map}
 use Rattle.pic_tile.specs.declared.parcel.Parcel.{Parcel}
-use Rattle.pic_tile.specs.CoreState.{particles_of}
+use Rattle.pic_tile.specs.CoreState.{all_particles}
 use Rattle.pic_tile.specs.Directions.{directions, here}
 use Rattle.pic_tile.specs.Frame.{felt_in}
 use Rattle.pic_tile.specs.Held.{chains_of}
-use Rattle.pic_tile.specs.Leaving.{after, going}
+use Rattle.pic_tile.specs.Leaving.{after_its_push, going}
 use Rattle.pic_tile.specs.Owners.{tile_of}
 use Rattle.pic_tile.specs.Receiving.{coming}
 use Rattle.pic_tile.specs.Tile.{TileValue, parcel_at, chain_of, chain_at, no_tile, tile_in}
@@ -27,8 +27,8 @@ use Rattle.pic_push.proofs.IdentityLaws.{census_of, sum_by-flat, ready_weight, g
 use Rattle.atomic_table.specs.Table.{State}
 use Rattle.pic_yard.specs.declared.opening.Opening.{Opening}
 use Rattle.pic_yard.specs.declared.view.View.{View}
-use Rattle.pic_yard.specs.Census.{kept_in, lying, sent, AreWithSeats, with_seats, HasCensus}
-use Rattle.pic_yard.specs.Contents.{Slot, vacant, tiles_in, to_of, from_of, start_at, IsTile, IsParcel, IsFinished}
+use Rattle.pic_yard.specs.Census.{kept_in, lying, sent, AreWithSeats, with_seats, HasBoardCensus}
+use Rattle.pic_yard.specs.Contents.{Slot, vacant, tiles_in, to_of, from_of, start_at, IsTile, HoldsParcel, IsFinished}
 use Rattle.pic_yard.specs.Marks.{Lists}
 use Rattle.pic_yard.specs.Members.{In, count_below}
 use Rattle.pic_yard.specs.Places.{IsHome, IsAway}
@@ -55,9 +55,9 @@ module _ (o : Opening) (v : ℕ → ℕ) where
   pushed_total t =
       let w = felt_in o.frame in
       let xs = start_at o t in
-      going_weight w o.frame.map by xs ∙ sum_by_agree (λ x. v (after w x).id) by xs (λ k d below. ap v (same_id w (get_or xs k d)))
+      going_weight w o.frame.map by xs ∙ sum_by_agree (λ x. v (after_its_push w x).id) by xs (λ k d below. ap v (same_id w (get_or xs k d)))
 
-  parcel_kept : (t d : ℕ) (s : Slot) → IsParcel o t d s → sum_by by (kept_in s) ≡ sent_weight t d
+  parcel_kept : (t d : ℕ) (s : Slot) → HoldsParcel o t d s → sum_by by (kept_in s) ≡ sent_weight t d
   parcel_kept t d s p = ap (λ (y : Slot). sum_by by (kept_in y)) p.is ∙ p.content.chain.sums by
 
   finished_kept : (r : ℕ) (s : Slot) → IsFinished o r s → sum_by by (kept_in s) ≡ total_below directions (λ d. sent_weight (from_of o r d) d)
@@ -198,7 +198,7 @@ module _ (o : Opening) (s : State Slot View) (rule : Rule o s) where
           bare = λ r d inside dir above. none_kept (slot_at r d) (p.bare r d inside dir above);
           full = λ r d inside dir is few.
               let h = p.full r d inside dir is few in
-              home_weight (slot_at r d) (IsParcel o (from_of o r d) d) h ∙ parcel_kept o v (from_of o r d) d h.value h.is;
+              home_weight (slot_at r d) (HoldsParcel o (from_of o r d) d) h ∙ parcel_kept o v (from_of o r d) d h.value h.is;
           emptied = λ r d inside dir closed. none_kept (slot_at r d) (p.emptied r d inside dir closed);
           opening = λ t inside above.
               let h = p.opening t inside above in
@@ -247,13 +247,13 @@ module _ (o : Opening) (s : State Slot View) (rule : Rule o s) where
         if_weight false xs = refl
 
     -- what all tiles have at the start
-    start_total : total_below (tiles_in o) (start_weight o v) ≡ sum_by weight (particles_of o.tiles.items)
+    start_total : total_below (tiles_in o) (start_weight o v) ≡ sum_by weight (all_particles o.tiles.items)
     start_total =
         let ts = o.tiles.items in
         let f = o.frame in
         let some_side : 0 < f.map.side = (let least = rule.sound.least in omega (arith, least)) in
-        let stand = fresh_stand f.map (particles_of ts) ts some_side rule.sound.map.thick (opening_inside f ts rule.opens) rule.opens.fresh in
-        let same = stands_together (tile_of f.map) (chains_of ts) (particles_of ts) stand in
+        let stand = fresh_stand f.map (all_particles ts) ts some_side rule.sound.map.thick (opening_inside f ts rule.opens) rule.opens.fresh in
+        let same = stands_together (tile_of f.map) (chains_of ts) (all_particles ts) stand in
         let each : sum_by (λ t. sum_by weight (chain_at t here)) ts ≡ total_below (tiles_in o) (start_weight o v) =
         list_total (λ t. sum_by weight (chain_at t here)) ts
         ∙ total_same (length ts) (λ i. found_weight (λ t. sum_by weight (chain_at t here)) (get_elem? ts i)) (start_weight o v)
@@ -264,7 +264,7 @@ module _ (o : Opening) (s : State Slot View) (rule : Rule o s) where
         ∙ sym (sum_by-together weight (chains_of ts))
         ∙ same.sums weight
 
-    all_weight : sum_by weight (flat_map lying s.homes ++ with_seats o is_with_seat) ≡ sum_by weight (particles_of o.tiles.items)
+    all_weight : sum_by weight (flat_map lying s.homes ++ with_seats o is_with_seat) ≡ sum_by weight (all_particles o.tiles.items)
     all_weight =
         let both = sum_by-append weight (flat_map lying s.homes) (with_seats o is_with_seat) in
         let balance =
@@ -273,14 +273,14 @@ module _ (o : Opening) (s : State Slot View) (rule : Rule o s) where
         (λ t below. pushed_total o v t) in
         omega (arith, both, balance, lying_total, with_total, start_total)
 
-  pub census : HasCensus o s
+  pub census : HasBoardCensus o s
   census = record {
     out = is_with_seat;
     holder = holder;
     with = with;
     rearranged =
         let all : List Particle = flat_map lying s.homes ++ with_seats o is_with_seat in
-        let xs = particles_of o.tiles.items in
+        let xs = all_particles o.tiles.items in
         census_of all (length xs) (record {
           sums = λ v.
               sum_by-map v (λ (x : Particle). x.id) all ∙ all_weight v ∙ sym (sum_by-map v (λ (x : Particle). x.id) xs)

@@ -6,7 +6,7 @@ use Rattle.atomic_table.specs.Table.{State, Final, Seen}
 use Rattle.pic_grid.specs.Block.{AllAtMost}
 use Rattle.pic_grid.specs.Traces.{most_flux}
 use Rattle.pic_tile.specs.declared.parcel.Parcel.{Parcel}
-use Rattle.pic_tile.specs.CoreState.{IsOpening, IsSoundFrame, particles_of}
+use Rattle.pic_tile.specs.CoreState.{IsOpening, IsSoundFrame, all_particles}
 use Rattle.pic_tile.specs.Directions.{directions, here}
 use Rattle.pic_tile.specs.Frame.{felt_in}
 use Rattle.pic_tile.specs.Tile.{TileValue, flux_of, parcel_at, tile_in}
@@ -18,18 +18,18 @@ use Rattle.pic_push.proofs.LayerSumLaws.{layers_current}
 use Rattle.pic_push.proofs.PartialSumLaws.{partial_sums}
 use Rattle.pic_push.proofs.WayLaws.{leads}
 use Rattle.pic_yard.specs.declared.opening.Opening.{Opening}
-use Rattle.pic_yard.specs.declared.piece.Piece.TheVariants as piece
+use Rattle.pic_yard.specs.declared.slot_content.SlotContent.TheVariants as holds
 use Rattle.pic_yard.specs.declared.view.View.{View}
 use Rattle.pic_yard.specs.Contents.{IsShut, Slot, start_at, tiles_in}
 use Rattle.pic_yard.specs.Ended.{AreMerged, HaveExchanged, KeepTheBound}
 use Rattle.pic_yard.specs.Laws.{IsOver}
 use Rattle.pic_yard.specs.Laying.{LiesHome, LiesThere}
 use Rattle.pic_yard.specs.Rule.{Rule}
-use Rattle.pic_yard.specs.Seats.{HasAllNumbers, HasEnded}
+use Rattle.pic_yard.specs.Seats.{HasAllNumbers, IsThrough}
 use Rattle.pic_yard.specs.Sits.{slot_at}
 use Rattle.pic_yard.proofs.TeamLaws.{over}
 
-pub tile_is : (a b : TileValue) → some (Some (piece.Tile (Some a))) ≡ some (Some (piece.Tile (Some b))) → a ≡ b
+pub tile_is : (a b : TileValue) → some (Some (holds.Tile (Some a))) ≡ some (Some (holds.Tile (Some b))) → a ≡ b
 tile_is a b same = cc
 
 -- the finished tile r lies in its home slot
@@ -39,7 +39,7 @@ pub record HasFinished (o : Opening) (slots : List Slot) (r : ℕ) : Type 0 wher
   pub content : IsShut o r tile
 
 pub all_finished : (o : Opening) (id : ℕ) (v : View) (words : List ℕ) (slots : List Slot) → Final (Seen (Rule o) id v) words slots → v.live ≡ true
-    → HasAllNumbers o.seats v → HasEnded v → (r : ℕ) → r < tiles_in o → HasFinished o slots r
+    → HasAllNumbers o.seats v → IsThrough v → (r : ℕ) → r < tiles_in o → HasFinished o slots r
 all_finished o id v words slots final live all ended r below =
     let s : State Slot View = final.0 in
     let done : IsOver o s = over o s id v final.1.0 final.1.1 live ended.told all ended.idle.owes ended.idle.rights in
@@ -63,7 +63,7 @@ all_merged o slots tiles finished count lie = record {
 module _ (o : Opening) (sound : IsSoundFrame o.frame) (opens : IsOpening o.frame o.tiles.items) (tiles : List TileValue) (merged : AreMerged o tiles) where
   pub have_exchanged : HaveExchanged o tiles
   have_exchanged =
-      are_exchanged layers_current leads (felt_in o.frame) o.frame.map (particles_of o.tiles.items) o.tiles.items
+      are_exchanged layers_current leads (felt_in o.frame) o.frame.map (all_particles o.tiles.items) o.tiles.items
       (let least = sound.least in omega (arith, least)) sound.map.thick (felt_side o.frame sound) (felt_cells o.frame sound)
       (opening_inside o.frame o.tiles.items opens) opens.fresh tiles (λ r d. true) opens.ordered merged.count
       (λ r below d within. refl) merged.each
@@ -72,7 +72,7 @@ module _ (o : Opening) (sound : IsSoundFrame o.frame) (opens : IsOpening o.frame
   keep_the_bound r below =
       let w = felt_in o.frame in
       let m = o.frame.map in
-      let xs = particles_of o.tiles.items in
+      let xs = all_particles o.tiles.items in
       let least = sound.least in
       let inside = opening_inside o.frame o.tiles.items opens in
       let h = merged.each r below in

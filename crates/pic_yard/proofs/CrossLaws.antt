@@ -23,8 +23,8 @@ use Rattle.pic_tile.proofs.frame.Frame.TheSendSync as frame
 use Rattle.pic_tile.specs.contracts.parcel.Parcel as parcel
 use Rattle.pic_tile.specs.contracts.parcel.ParcelBox as boxed
 use Rattle.pic_tile.specs.contracts.tile.Tile as tile
-use Rattle.pic_yard.specs.contracts.piece.Berth as berth
-use Rattle.pic_yard.specs.contracts.piece.Piece as piece
+use Rattle.pic_yard.specs.contracts.slot_content.Berth as berth
+use Rattle.pic_yard.specs.contracts.slot_content.SlotContent as holds
 use Rattle.pic_yard.specs.contracts.view.View as view
 use Rattle.pic_yard.specs.contracts.yard.Yard as yard
 
@@ -46,17 +46,17 @@ tile_sync = search (sendable, std.crosses, parcel_sync) depth 30 fits 4000
 pub berth_send : IsSend berth.the_row
 berth_send = search (sendable, std.crosses, tile_send) depth 30 fits 4000
 
-piece_send : IsSend piece.the_row
-piece_send =
-    let whole : IsSend (Enum (shape_of piece.the_type)) = enum_send (shape_of piece.the_type) ((berth_send, tt), ((boxed_send, tt), tt)) in
-    recorded_send _ _ _ (piece.the_type).to_one whole
+content_send : IsSend holds.the_row
+content_send =
+    let whole : IsSend (Enum (shape_of holds.the_type)) = enum_send (shape_of holds.the_type) ((berth_send, tt), ((boxed_send, tt), tt)) in
+    recorded_send _ _ _ (holds.the_type).to_one whole
 
 pub yard_sync : IsSync yard.the_row
-yard_sync = search (sendable, std.crosses, piece_send, tile_sync, frame.the_sync, lease.the_sync, shared.the_sync, global.the_sync, global.the_send) depth 40
+yard_sync = search (sendable, std.crosses, content_send, tile_sync, frame.the_sync, lease.the_sync, shared.the_sync, global.the_sync, global.the_send) depth 40
     fits 8000
 
-pub seat_send : IsSend (seat.the_row (option.the_row piece.the_row) view.the_row)
-seat_send = search (sendable, std.crosses, seats.the_send, piece_send) depth 30 fits 4000
+pub seat_send : IsSend (seat.the_row (option.the_row holds.the_row) view.the_row)
+seat_send = search (sendable, std.crosses, seats.the_send, content_send) depth 30 fits 4000
 
 -- so may a closure with two things that each may go
 pub pair_send : (name : Sym) (A B : RattleType) → IsSend A → IsSend B → IsSend (TupleAt name (A ∷ B ∷ []))

@@ -12,7 +12,7 @@ use Rattle.pic_tile.specs.Directions.{directions, here}
 use Rattle.pic_yard.specs.declared.opening.Opening.{Opening}
 use Rattle.pic_yard.specs.declared.view.View.{View}
 use Rattle.pic_yard.specs.Acts.{Apart}
-use Rattle.pic_yard.specs.Contents.{Slot, tiles_in, to_of, from_of, tile_at, kinds_of}
+use Rattle.pic_yard.specs.Contents.{Slot, tiles_in, to_of, from_of, tile_at, slot_kinds}
 use Rattle.pic_yard.specs.Marks.{IsOwed, IsRight, Marks}
 use Rattle.pic_yard.specs.Tickets.{Tickets}
 use Rattle.pic_yard.specs.Members.{count_below}
@@ -58,22 +58,22 @@ module _ (o : Opening) (s : State Slot View) (rule : Rule o s) (id : ℕ) (me : 
 
   abbrev place : ℕ → ℕ
   place =
-      claim_slot (kinds_of o) T directions here n (to_of o) (from_of o) (ways_of o) rule.posted rule.shut s.homes rule.marks.came rule.marks.whole
+      claim_slot (slot_kinds o) T directions here n (to_of o) (from_of o) (ways_of o) rule.posted rule.shut s.homes rule.marks.came rule.marks.whole
       rule.places rule.aways
 
   abbrev kind : ℕ → Slot → Type 0
   kind =
-      claim_kind (kinds_of o) T directions here n (to_of o) (from_of o) (ways_of o) rule.posted rule.shut s.homes rule.marks.came rule.marks.whole
+      claim_kind (slot_kinds o) T directions here n (to_of o) (from_of o) (ways_of o) rule.posted rule.shut s.homes rule.marks.came rule.marks.whole
       rule.places rule.aways
 
   kind_is_home : kind directions ≡ (λ (y : Slot). y ≡ tile_at o n)
   kind_is_home =
-      kind_home (kinds_of o) T directions here n (to_of o) (from_of o) (ways_of o) rule.posted rule.shut s.homes rule.marks.came rule.marks.whole
+      kind_home (slot_kinds o) T directions here n (to_of o) (from_of o) (ways_of o) rule.posted rule.shut s.homes rule.marks.came rule.marks.whole
       rule.places rule.aways
 
   kind_is_box : (k : ℕ) → (k ≡ directions → ⊥) → kind k ≡ (λ (y : Slot). y ≡ None)
   kind_is_box =
-      kind_box (kinds_of o) T directions here n (to_of o) (from_of o) (ways_of o) rule.posted rule.shut s.homes rule.marks.came rule.marks.whole
+      kind_box (slot_kinds o) T directions here n (to_of o) (from_of o) (ways_of o) rule.posted rule.shut s.homes rule.marks.came rule.marks.whole
       rule.places rule.aways
 
   abbrev Takes : Type 0
@@ -81,12 +81,12 @@ module _ (o : Opening) (s : State Slot View) (rule : Rule o s) (id : ℕ) (me : 
 
   at_home : place directions ≡ slot_at n directions
   at_home =
-      claim_home (kinds_of o) T directions here n (to_of o) (from_of o) (ways_of o) rule.posted rule.shut s.homes rule.marks.came rule.marks.whole
+      claim_home (slot_kinds o) T directions here n (to_of o) (from_of o) (ways_of o) rule.posted rule.shut s.homes rule.marks.came rule.marks.whole
       rule.places rule.aways
 
   at_box : (k : ℕ) → (k ≡ directions → ⊥) → place k ≡ slot_at (to_of o n k) k
   at_box =
-      claim_box (kinds_of o) T directions here n (to_of o) (from_of o) (ways_of o) rule.posted rule.shut s.homes rule.marks.came rule.marks.whole
+      claim_box (slot_kinds o) T directions here n (to_of o) (from_of o) (ways_of o) rule.posted rule.shut s.homes rule.marks.came rule.marks.whole
       rule.places rule.aways
 
   module _ (tile : n < T) (got : Takes) where
@@ -118,13 +118,13 @@ module _ (o : Opening) (s : State Slot View) (rule : Rule o s) (id : ℕ) (me : 
       marks = subst (λ (k : ℕ). Marks T directions k (from_of o) rule.posted rule.shut (set s.words 0 (suc n)) (set s.views id after)) (sym first_word)
           (claim_marks T directions here n (to_of o) (from_of o) (ways_of o) rule.posted rule.shut s.words (set s.words 0
           (suc n)) s.views rule.marks id me.0 at sits.live arrivals tile);
-      places = subst (λ (k : ℕ). Places (kinds_of o) T directions here k (from_of o) rule.posted rule.shut later) (sym first_word)
-          (subst (λ (hs : List (Option Slot)). Places (kinds_of o) T directions here (suc n) (from_of o) rule.posted rule.shut hs) same_homes
-          (claim_places (kinds_of o) T directions here n (to_of o) (from_of o)
+      places = subst (λ (k : ℕ). Places (slot_kinds o) T directions here k (from_of o) rule.posted rule.shut later) (sym first_word)
+          (subst (λ (hs : List (Option Slot)). Places (slot_kinds o) T directions here (suc n) (from_of o) rule.posted rule.shut hs) same_homes
+          (claim_places (slot_kinds o) T directions here n (to_of o) (from_of o)
           (ways_of o) rule.posted rule.shut s.homes rule.marks.came rule.marks.whole rule.places rule.aways tile got));
       aways = subst (λ (k : ℕ). Aways T directions here k (from_of o) rule.posted rule.shut later) (sym first_word)
           (subst (λ (hs : List (Option Slot)). Aways T directions here (suc n) (from_of o) rule.posted rule.shut hs) same_homes
-          (claim_aways (kinds_of o) T directions here n (to_of o) (from_of o)
+          (claim_aways (slot_kinds o) T directions here n (to_of o) (from_of o)
           (ways_of o) rule.posted rule.shut s.homes rule.marks.came rule.marks.whole rule.places rule.aways tile got));
     }
 
@@ -230,11 +230,11 @@ module _ (o : Opening) (s : State Slot View) (rule : Rule o s) (id : ℕ) (me : 
         marks = subst (λ (k : ℕ). Marks T directions k (from_of o) rule.posted rule.shut (set s.words 0 (suc n)) (set s.views id after)) (sym first_word)
             (told_marks T directions here n (to_of o) (from_of o) (ways_of o) rule.posted rule.shut s.words (set s.words 0
             (suc n)) s.views rule.marks id me.0 at sits.live arrivals (suc n) true past);
-        places = subst (λ (k : ℕ). Places (kinds_of o) T directions here k (from_of o) rule.posted rule.shut s.homes) (sym first_word)
-            (told_places (kinds_of o) T directions here n (to_of o) (from_of o)
+        places = subst (λ (k : ℕ). Places (slot_kinds o) T directions here k (from_of o) rule.posted rule.shut s.homes) (sym first_word)
+            (told_places (slot_kinds o) T directions here n (to_of o) (from_of o)
             (ways_of o) rule.posted rule.shut s.homes rule.marks.came rule.marks.whole rule.places rule.aways past);
         aways = subst (λ (k : ℕ). Aways T directions here k (from_of o) rule.posted rule.shut s.homes) (sym first_word)
-            (told_aways (kinds_of o) T directions here n (to_of o) (from_of o)
+            (told_aways (slot_kinds o) T directions here n (to_of o) (from_of o)
             (ways_of o) rule.posted rule.shut s.homes rule.marks.came rule.marks.whole rule.places rule.aways past);
       }
 
@@ -254,7 +254,7 @@ module _ (o : Opening) (s : State Slot View) (rule : Rule o s) (id : ℕ) (me : 
     )
     | no tile_there ↦
         let tile : n < T = omega (arith, tile_there) in
-        let got : Takes = claim_takes (kinds_of o) T directions here n (to_of o) (from_of o) (ways_of o) rule.posted rule.shut s.homes rule.marks.came
+        let got : Takes = claim_takes (slot_kinds o) T directions here n (to_of o) (from_of o) (ways_of o) rule.posted rule.shut s.homes rule.marks.came
         rule.marks.whole rule.places rule.aways tile None in (
           did_claim (to_of o) directions n me.0,
           take_all got.list,

@@ -9,7 +9,7 @@ use Rattle.pic_tile.specs.Directions.{directions}
 use Rattle.pic_tile.specs.Tile.{TileValue, no_tile, tile_in}
 use Rattle.pic_tile.proofs.TileLaws.{same_there}
 use Rattle.pic_yard.specs.declared.opening.Opening.{Opening}
-use Rattle.pic_yard.specs.declared.piece.Piece.TheVariants as piece
+use Rattle.pic_yard.specs.declared.slot_content.SlotContent.TheVariants as holds
 use Rattle.pic_yard.specs.Contents.{Slot, tiles_in}
 use Rattle.pic_yard.specs.Laying.{AreLaid, HasBoxes}
 use Rattle.pic_yard.proofs.Turns.{IsLaying}
@@ -42,7 +42,7 @@ laying_none tiles = record {
 
 module _ (tiles : List TileValue) (n : ℕ) (old new : List Slot) (laid : AreLaid tiles n old) (has : HasBoxes directions old new) where
   abbrev home_of : TileValue → List Slot
-  home_of tile = Some (piece.Tile (Some tile)) ∷ []
+  home_of tile = Some (holds.Tile (Some tile)) ∷ []
 
   one_laid : (tile : TileValue) → tile ≡ tile_in tiles n → AreLaid tiles (n + 1) (new ++ home_of tile)
   one_laid tile is =
@@ -59,17 +59,17 @@ module _ (tiles : List TileValue) (n : ℕ) (old new : List Slot) (laid : AreLai
         ];
         homes = λ t below. elim (ℕ_discrete t n) [
           | yes same ↦
-              at_last new (Some (piece.Tile (Some tile))) (slot_at t directions) (omega (arith, long, more, same))
-              ∙ ap (λ (u : TileValue). some (Some (piece.Tile (Some u)))) (is ∙ ap (tile_in tiles) (sym same))
+              at_last new (Some (holds.Tile (Some tile))) (slot_at t directions) (omega (arith, long, more, same))
+              ∙ ap (λ (u : TileValue). some (Some (holds.Tile (Some u)))) (is ∙ ap (tile_in tiles) (sym same))
           | no apart ↦
-              at_longer new (home_of tile) (slot_at t directions) (Some (piece.Tile (Some (tile_in tiles t))))
-              (has.others (slot_at t directions) (Some (piece.Tile (Some (tile_in tiles t)))) (laid.homes t (omega (arith, below, apart))))
+              at_longer new (home_of tile) (slot_at t directions) (Some (holds.Tile (Some (tile_in tiles t))))
+              (has.others (slot_at t directions) (Some (holds.Tile (Some (tile_in tiles t)))) (laid.homes t (omega (arith, below, apart))))
         ];
       }
 
 pub laying_more : (tiles left : List TileValue) (n : ℕ) (old new : List Slot) (bare : TileValue) → n < length left → IsLaying tiles left n old
     → HasBoxes directions old new
-    → IsLaying tiles (set left n bare) (n + 1) (new ++ Some (piece.Tile (Some (tile_in left n))) ∷ [])
+    → IsLaying tiles (set left n bare) (n + 1) (new ++ Some (holds.Tile (Some (tile_in left n))) ∷ [])
 laying_more tiles left n old new bare inside laying has = record {
   laid = one_laid tiles n old new laying.laid has (tile_in left n) (laying.rest n (omega arith));
   long = length-set left n bare ∙ laying.long;

@@ -10,8 +10,8 @@ use Rattle.pic_yard.specs.declared.opening.Opening.{Opening}
 use Rattle.pic_yard.specs.declared.view.View.{View}
 use Rattle.pic_yard.specs.declared.yard.Yard.{Yard}
 use Rattle.pic_yard.specs.Acts.{Apart}
-use Rattle.pic_yard.specs.Arrivals.{behind, IsLoaded}
-use Rattle.pic_yard.specs.Contents.{Slot, vacant, from_of, IsParcel}
+use Rattle.pic_yard.specs.Arrivals.{behind, IsAboutToPost}
+use Rattle.pic_yard.specs.Contents.{Slot, vacant, from_of, HoldsParcel}
 use Rattle.pic_yard.specs.Loads.{HasLoaded}
 use Rattle.pic_yard.specs.Members.{In}
 use Rattle.pic_yard.specs.Sits.{slot_at, IsMine, Carries, Sits}
@@ -22,7 +22,7 @@ use Rattle.pic_yard.proofs.SwapLaws.{seek_rest, drop_rest, dropped_else, dropped
 
 -- the mailbox comes first, behind it the home slot
 module _ (o : Opening) (me : Me Slot View) (r d : ℕ) (sits : Sits o me) (lists : In (r, d) me.0.owes) (parcel : Slot)
-    (is : IsParcel o (from_of o r d) d parcel) where
+    (is : HoldsParcel o (from_of o r d) d parcel) where
   abbrev box : ℕ
   box = slot_at r d
 
@@ -88,7 +88,7 @@ module _ (o : Opening) (me : Me Slot View) (r d : ℕ) (sits : Sits o me) (lists
         had.only slot y (sym (left_others slot apart not_home) ∙ there)
   ]
 
-  pub is_loaded : IsLoaded o (me.0, (box, parcel) ∷ left) r d parcel left
+  pub is_loaded : IsAboutToPost o (me.0, (box, parcel) ∷ left) r d parcel left
   is_loaded = record {
     live = sits.live;
     opened = sits.opened;
@@ -102,7 +102,7 @@ module _ (o : Opening) (me : Me Slot View) (r d : ℕ) (sits : Sits o me) (lists
 
 -- through the calls
 module _ (yard : Yard) (old first : Seat Slot View) (r d : ℕ) (serves : Serves yard old) (lists : In (r, d) old.me.0.owes) (parcel : Slot)
-    (is : IsParcel (opening_of yard) (from_of (opening_of yard) r d) d parcel) (home slot : ℕ) (home_is : home ≡ slot_at r directions)
+    (is : HoldsParcel (opening_of yard) (from_of (opening_of yard) r d) d parcel) (home slot : ℕ) (home_is : home ≡ slot_at r directions)
     (slot_is : slot ≡ slot_at r d) (front : first.me ≡ (old.me.0, to_front home old.me.1)) where
   abbrev opened : Opening
   opened = opening_of yard
@@ -130,7 +130,7 @@ module _ (yard : Yard) (old first : Seat Slot View) (r d : ℕ) (serves : Serves
       table = table;
       view = ap (λ (me : Me Slot View). me.0) is_new;
       parcel = parcel;
-      loaded = subst (λ (me : Me Slot View). IsLoaded opened me r d parcel (rest me.1)) (sym is_new)
+      loaded = subst (λ (me : Me Slot View). IsAboutToPost opened me r d parcel (rest me.1)) (sym is_new)
           (is_loaded opened old.me r d serves.sits lists parcel is);
       others = λ at not_box not_home.
           ap (λ (me : Me Slot View). seek at (behind d (rest me.1))) is_new

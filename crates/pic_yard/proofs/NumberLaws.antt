@@ -9,7 +9,7 @@ use lib.ListN.{get_elem?}
 use Rattle.atomic_table.proofs.Lists.{at_longer, set_else}
 use Rattle.pic_yard.specs.declared.view.View.{View}
 use Rattle.pic_yard.specs.Members.{In}
-use Rattle.pic_yard.specs.Steps.{gave_number, newcomer, took_in, spent}
+use Rattle.pic_yard.specs.Steps.{gave_number, newcomer, took_in, spent_view}
 use Rattle.pic_yard.specs.Tickets.{HasNumbers, Tickets}
 use Rattle.pic_yard.proofs.CountLaws.{at_else, at_here, at_other}
 use Rattle.pic_yard.proofs.MemberLaws.{was_in, unseen_in, in_parts, in_left, in_right, differ_without, differ_both}
@@ -124,7 +124,7 @@ module _ (tiles seats ticket : ℕ) (views : List View) (t : Tickets tiles seats
 
   -- a seat that was told that no tile is left is taken in
   pub seat_taken : (i : ℕ) (u : View) → (i ≡ j → ⊥) → get_elem? views i ≡ some u → u.live ≡ true → u.told ≡ true
-      → Tickets tiles seats ticket (set (set views j (took_in v u)) i spent)
+      → Tickets tiles seats ticket (set (set views j (took_in v u)) i spent_view)
   seat_taken i u apart at lives over =
       let h = t.each j v there live in let g = t.each i u at lives in
       let keeper : ℕ → ℕ = handed i j t.keeper in
@@ -175,7 +175,7 @@ module _ (tiles seats ticket : ℕ) (views : List View) (t : Tickets tiles seats
         keeper = keeper;
         told = t.told;
         bound = t.bound;
-        each = each_view (Numbers keeper) (set views j (took_in v u)) i spent
+        each = each_view (Numbers keeper) (set views j (took_in v u)) i spent_view
             (λ alive. absurd (true≢false (sym alive)))
             (λ k x differs at' alive. each_view (λ (l : ℕ) (y : View). (l ≡ i → ⊥) → Numbers keeper l y) views j (took_in v u)
             (λ yes_live not. mine)
@@ -210,7 +210,7 @@ module _ (tiles seats ticket : ℕ) (views : List View) (t : Tickets tiles seats
                   let m = lists_now views j v (took_in v u) (keeper x) What there live (comes x its) (inr now) in
                   record {
                     view = m.view;
-                    there = set_else (set views j (took_in v u)) i (keeper x) spent (λ e. apart (sym e ∙ comes x its)) ∙ m.there;
+                    there = set_else (set views j (took_in v u)) i (keeper x) spent_view (λ e. apart (sym e ∙ comes x its)) ∙ m.there;
                     live = m.live;
                     lists = m.lists;
                   }
@@ -222,7 +222,7 @@ module _ (tiles seats ticket : ℕ) (views : List View) (t : Tickets tiles seats
                   ]) l in
                   record {
                     view = m.view;
-                    there = set_else (set views j (took_in v u)) i (keeper x) spent (λ e. differs (sym same ∙ e))
+                    there = set_else (set views j (took_in v u)) i (keeper x) spent_view (λ e. differs (sym same ∙ e))
                         ∙ ap (λ (k : ℕ). get_elem? (set views j (took_in v u)) k) same ∙ m.there;
                     live = m.live;
                     lists = m.lists;

@@ -11,12 +11,12 @@ use Rattle.pic_tile.specs.Tiling.{Tiling, neighbour_of}
 use Rattle.pic_yard.specs.declared.claim.Posted.{Posted}
 use Rattle.pic_yard.specs.declared.claim.Posted.TheVariants as posted
 use Rattle.pic_yard.specs.declared.opening.Opening.{Opening}
-use Rattle.pic_yard.specs.declared.piece.Piece.TheVariants as piece
+use Rattle.pic_yard.specs.declared.slot_content.SlotContent.TheVariants as holds
 use Rattle.pic_yard.specs.declared.view.View.{View}
 use Rattle.pic_yard.specs.declared.yard.Yard.{Yard}
-use Rattle.pic_yard.specs.Arrivals.{IsLoaded, Arrived}
+use Rattle.pic_yard.specs.Arrivals.{IsAboutToPost, Arrived}
 use Rattle.pic_yard.specs.Claims.{ClaimValue}
-use Rattle.pic_yard.specs.Contents.{Slot, tiles_in, to_of, from_of, IsParcel}
+use Rattle.pic_yard.specs.Contents.{Slot, tiles_in, to_of, from_of, HoldsParcel}
 use Rattle.pic_yard.specs.Loads.{HasLoaded, TellsOf, first_slot}
 use Rattle.pic_yard.specs.Members.{In}
 use Rattle.pic_yard.specs.Posts.{IsAnswer, HasPosted, HasMailFor}
@@ -38,10 +38,10 @@ word_there yard r below = let words = yard.words_are in let are = yard.tiles_are
 
 -- what the push of a tile sends is what its receiver's mailbox is to hold
 pub sent_parcel : (o : Opening) (t d : ℕ) (found : Option Parcel) (parcel : Parcel) → t < tiles_in o → d < directions → IsSentBy o t d found
-    → found ≡ Some parcel → IsParcel o (from_of o (to_of o t d) d) d (Some (piece.Parcel parcel))
+    → found ≡ Some parcel → HoldsParcel o (from_of o (to_of o t d) d) d (Some (holds.Parcel parcel))
 sent_parcel o t d found parcel below dir sent is =
-    subst (λ (k : ℕ). IsParcel o k d (Some (piece.Parcel parcel))) (sym ((ways_of o).back t d below dir))
-    (record { parcel = sent.parcel; is = ap (λ (p : Parcel). Some (piece.Parcel p)) (same parcel sent.parcel (sym is ∙ sent.there)); content = sent.is })
+    subst (λ (k : ℕ). HoldsParcel o k d (Some (holds.Parcel parcel))) (sym ((ways_of o).back t d below dir))
+    (record { parcel = sent.parcel; is = ap (λ (p : Parcel). Some (holds.Parcel p)) (same parcel sent.parcel (sym is ∙ sent.there)); content = sent.is })
   where
     same : (p q : Parcel) → Some p ≡ Some q → p ≡ q
     same p q e = cc
@@ -52,7 +52,8 @@ more holds slots id me word f P Q turn allows s rule wide at small =
     let x = allows s rule wide at small in (x.0, x.1, x.2, x.3, turn _ _ x.4)
 
 -- a post may be made
-module _ (o : Opening) (slots id : ℕ) (me : Me Slot View) (r d : ℕ) (dir : d < directions) (parcel : Slot) (load : IsLoaded o me r d parcel (rest me.1)) where
+module _ (o : Opening) (slots id : ℕ) (me : Me Slot View) (r d : ℕ) (dir : d < directions) (parcel : Slot) (load : IsAboutToPost o me r d parcel
+    (rest me.1)) where
   lies_first : first_slot me.1 ≡ slot_at r d
   lies_first = ap (λ (l : List (ℕ × Slot)). first_slot l) load.first
 
@@ -123,11 +124,11 @@ load_lists o v t r d owes to_is = subst (λ (k : ℕ). In (k, d) v.owes) (sym to
 
 pub load_parcel : (o : Opening) (me : Me Slot View) (claim seen : ClaimValue) (r d : ℕ) (found : Option Parcel) (parcel : Parcel) → Sits o me
     → Owes o me.0 claim.number d → r ≡ to_of o claim.number d → seen ≡ claim → IsSentBy o claim.number d (parcel_at claim.held d)
-    → found ≡ parcel_at seen.held d → found ≡ Some parcel → IsParcel o (from_of o r d) d (Some (piece.Parcel parcel))
+    → found ≡ parcel_at seen.held d → found ≡ Some parcel → HoldsParcel o (from_of o r d) d (Some (holds.Parcel parcel))
 load_parcel o me claim seen r d found parcel sits owes to_is same sent taken is =
     let dir : d < directions = (sits.carries.near (to_of o claim.number d) d owes.lists).1 in
     let there : parcel_at claim.held d ≡ Some parcel = sym (taken ∙ ap (λ (c : ClaimValue). parcel_at c.held d) same) ∙ is in
-    subst (λ (k : ℕ). IsParcel o (from_of o k d) d (Some (piece.Parcel parcel))) (sym to_is)
+    subst (λ (k : ℕ). HoldsParcel o (from_of o k d) d (Some (holds.Parcel parcel))) (sym to_is)
     (sent_parcel o claim.number d (parcel_at claim.held d) parcel owes.tile dir sent there)
 
 -- where the answer gives the right to a tile, its mail waits

@@ -7,7 +7,7 @@ use Rattle.pic_yard.specs.Fronts.{seek}
 use Rattle.pic_tile.specs.Directions.{directions, here}
 use Rattle.pic_yard.specs.declared.opening.Opening.{Opening}
 use Rattle.pic_yard.specs.declared.view.View.{View}
-use Rattle.pic_yard.specs.Arrivals.{behind, IsLoaded, HasAllMail, Arrived}
+use Rattle.pic_yard.specs.Arrivals.{behind, IsAboutToPost, HasAllMail, Arrived}
 use Rattle.pic_yard.specs.Contents.{Slot, vacant, tiles_in}
 use Rattle.pic_yard.specs.Members.{In, without, same_pair}
 use Rattle.pic_yard.specs.Sits.{slot_at, IsMine, a_box, a_home, of_right, HasMail, waits, Carries, Sits}
@@ -18,7 +18,7 @@ use Rattle.pic_yard.proofs.CollectLaws.{slot_row, slot_place, which_place}
 use Rattle.pic_yard.proofs.MemberLaws.{kept, was_in, unseen_in, pair_other, pair_apart}
 
 module _ (o : Opening) (old me : Me Slot View) (r d : ℕ) (sits : Sits o old) (lists : In (r, d) old.0.owes) (view : me.0 ≡ old.0) (parcel : Slot)
-    (slots : List (ℕ × Slot)) (load : IsLoaded o me r d parcel slots)
+    (slots : List (ℕ × Slot)) (load : IsAboutToPost o me r d parcel slots)
     (others : (slot : ℕ) → (slot ≡ slot_at r d → ⊥) → (d ≡ here → slot ≡ slot_at r directions → ⊥) → seek slot (behind d slots) ≡ seek slot old.1) where
   abbrev v : View
   v = old.0

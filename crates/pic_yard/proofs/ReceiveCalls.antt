@@ -7,7 +7,7 @@ use Rattle.pic_yard.specs.Fronts.{seek, drop_slot}
 use Rattle.pic_tile.specs.Directions.{directions}
 use Rattle.pic_tile.specs.Tile.{TileValue}
 use Rattle.pic_yard.specs.declared.opening.Opening.{Opening}
-use Rattle.pic_yard.specs.declared.piece.Piece.TheVariants as piece
+use Rattle.pic_yard.specs.declared.slot_content.SlotContent.TheVariants as holds
 use Rattle.pic_yard.specs.declared.view.View.{View}
 use Rattle.pic_yard.specs.declared.yard.Yard.{Yard}
 use Rattle.pic_yard.specs.Contents.{Slot, vacant, IsShut}
@@ -72,19 +72,19 @@ module _ (yard : Yard) (old stacked : Seat Slot View) (r slot : ℕ) (serves : S
       ap (λ (k : ℕ). seek k stacked.me.1) at ∙ ap (λ (me : Me Slot View). seek home me.1) stack_is
       ∙ home_seek r old.me.1 ∙ serves.sits.carries.right r right
 
-  module _ (laid : Seat Slot View) (put : laid.me ≡ (stacked.me.0, (slot, Some (piece.Tile (Some tile))) ∷ drop_slot slot stacked.me.1)) where
-    laid_is : laid.me ≡ (old.me.0, (home, Some (piece.Tile (Some tile))) ∷ boxes_on r directions (all_shed r old.me.1))
+  module _ (laid : Seat Slot View) (put : laid.me ≡ (stacked.me.0, (slot, Some (holds.Tile (Some tile))) ∷ drop_slot slot stacked.me.1)) where
+    laid_is : laid.me ≡ (old.me.0, (home, Some (holds.Tile (Some tile))) ∷ boxes_on r directions (all_shed r old.me.1))
     laid_is =
-        put ∙ ap (λ (k : ℕ). (stacked.me.0, (k, Some (piece.Tile (Some tile))) ∷ drop_slot k stacked.me.1)) at
-        ∙ ap (λ (me : Me Slot View). (me.0, (home, Some (piece.Tile (Some tile))) ∷ drop_slot home me.1)) stack_is
-        ∙ ap (λ (l : List (ℕ × Slot)). (old.me.0, (home, Some (piece.Tile (Some tile))) ∷ l)) (home_drop r old.me.1)
+        put ∙ ap (λ (k : ℕ). (stacked.me.0, (k, Some (holds.Tile (Some tile))) ∷ drop_slot k stacked.me.1)) at
+        ∙ ap (λ (me : Me Slot View). (me.0, (home, Some (holds.Tile (Some tile))) ∷ drop_slot home me.1)) stack_is
+        ∙ ap (λ (l : List (ℕ × Slot)). (old.me.0, (home, Some (holds.Tile (Some tile))) ∷ l)) (home_drop r old.me.1)
 
     pub is_put_home : laid.table_id ≡ old.table_id → IsPutHome (opening_of yard) old laid r
     is_put_home table = record {
       table = table;
       view = ap (λ (me : Me Slot View). me.0) laid_is;
-      tile = Some (piece.Tile (Some tile));
-      stacked = subst (λ (me : Me Slot View). IsStacked (opening_of yard) me r (Some (piece.Tile (Some tile))) (all_shed r old.me.1)) (sym laid_is) (record {
+      tile = Some (holds.Tile (Some tile));
+      stacked = subst (λ (me : Me Slot View). IsStacked (opening_of yard) me r (Some (holds.Tile (Some tile))) (all_shed r old.me.1)) (sym laid_is) (record {
         live = serves.sits.live;
         opened = serves.sits.opened;
         right = right;

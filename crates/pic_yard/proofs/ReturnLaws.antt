@@ -8,7 +8,7 @@ use Rattle.atomic_table.proofs.Lists.{set_here, set_else}
 use Rattle.pic_tile.specs.Directions.{directions, here}
 use Rattle.pic_yard.specs.declared.opening.Opening.{Opening}
 use Rattle.pic_yard.specs.declared.view.View.{View}
-use Rattle.pic_yard.specs.Contents.{Slot, tiles_in, to_of, from_of, kinds_of}
+use Rattle.pic_yard.specs.Contents.{Slot, tiles_in, to_of, from_of, slot_kinds}
 use Rattle.pic_yard.specs.Marks.{Marks, IsRight}
 use Rattle.pic_yard.specs.Places.{Places, Aways}
 use Rattle.pic_yard.specs.Returns.{boxes_on, IsStacked, Returned}
@@ -127,7 +127,7 @@ module _ (o : Opening) (s : State Slot View) (rule : Rule o s) (id : ℕ) (me : 
 
   abbrev Back : List (Option Slot) → Type 0
   Back later =
-      ComesBack (kinds_of o) T directions here w (to_of o) (from_of o) (ways_of o) rule.posted rule.shut s.homes rule.marks.came rule.marks.whole
+      ComesBack (slot_kinds o) T directions here w (to_of o) (from_of o) (ways_of o) rule.posted rule.shut s.homes rule.marks.came rule.marks.whole
       rule.places rule.aways r later
 
   comes : Back given
@@ -178,13 +178,13 @@ module _ (o : Opening) (s : State Slot View) (rule : Rule o s) (id : ℕ) (me : 
             (sym same_ticket)
             (back_marks T directions w (from_of o) rule.posted rule.shut s.words (set s.words (suc r)
             (suc directions)) s.views rule.marks id me.0 at stack.live r stack.right words_are);
-        places = subst (λ (k : ℕ). Places (kinds_of o) T directions here k (from_of o) rule.posted now_shut later) (sym same_ticket)
-            (subst (λ (hs : List (Option Slot)). Places (kinds_of o) T directions here w (from_of o) rule.posted now_shut hs) (sym act_homes)
-            (back_places (kinds_of o) T directions here w (to_of o) (from_of o) (ways_of o) rule.posted rule.shut s.homes rule.marks.came rule.marks.whole
+        places = subst (λ (k : ℕ). Places (slot_kinds o) T directions here k (from_of o) rule.posted now_shut later) (sym same_ticket)
+            (subst (λ (hs : List (Option Slot)). Places (slot_kinds o) T directions here w (from_of o) rule.posted now_shut hs) (sym act_homes)
+            (back_places (slot_kinds o) T directions here w (to_of o) (from_of o) (ways_of o) rule.posted rule.shut s.homes rule.marks.came rule.marks.whole
             rule.places rule.aways r right.tile right.all given comes));
         aways = subst (λ (k : ℕ). Aways T directions here k (from_of o) rule.posted now_shut later) (sym same_ticket)
             (subst (λ (hs : List (Option Slot)). Aways T directions here w (from_of o) rule.posted now_shut hs) (sym act_homes)
-            (back_aways (kinds_of o) T directions here w (to_of o) (from_of o) (ways_of o) rule.posted rule.shut s.homes rule.marks.came rule.marks.whole
+            (back_aways (slot_kinds o) T directions here w (to_of o) (from_of o) (ways_of o) rule.posted rule.shut s.homes rule.marks.came rule.marks.whole
             rule.places rule.aways r right.tile right.all given comes));
       }
 

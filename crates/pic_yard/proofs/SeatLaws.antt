@@ -6,7 +6,7 @@ use lib.ListN.{get_elem?}
 use Rattle.atomic_table.proofs.Lists.{at_longer, set_else}
 use Rattle.pic_yard.specs.declared.view.View.{View}
 use Rattle.pic_yard.specs.Members.{In, Differ, count_below}
-use Rattle.pic_yard.specs.Steps.{gave_number, newcomer, took_in, spent}
+use Rattle.pic_yard.specs.Steps.{gave_number, newcomer, took_in, spent_view}
 use Rattle.pic_yard.specs.Marks.{Lists, IsOwed, IsRight, Marks}
 use Rattle.pic_yard.proofs.Ways.{AreWays}
 use Rattle.pic_yard.proofs.CountLaws.{all_counted}
@@ -53,19 +53,19 @@ module _ (tiles dirs ticket : ℕ) (from : ℕ → ℕ → ℕ) (posted : ℕ �
 
   -- a seat that lists nothing is taken in
   pub join_marks : (i : ℕ) (w : View) → (i ≡ j → ⊥) → get_elem? views i ≡ some w → w.owes ≡ [] → w.rights ≡ []
-      → Marks tiles dirs ticket from posted shut words (set (set views j (took_in v w)) i spent)
+      → Marks tiles dirs ticket from posted shut words (set (set views j (took_in v w)) i spent_view)
   join_marks i w apart at no_owes no_rights =
       let u : View = took_in v w in
       let others : (c : ℕ) (What : View → Type 0) → (What v → What u) → (What w → ⊥) → Lists views c What
-      → Lists (set (set views j u) i spent) c What = λ c What keeps never l.
+      → Lists (set (set views j u) i spent_view) c What = λ c What keeps never l.
       let not_it : c ≡ i → ⊥ = λ e.
       let found : get_elem? views i ≡ some l.view = subst (λ (k : ℕ). get_elem? views k ≡ some l.view) e l.there in
       never (subst What (some-injective l.view w (sym found ∙ at)) l.lists) in
       let now : Lists (set views j u) c What = lists_still views j v u c What there live keeps l in
-      record { view = now.view; there = set_else (set views j u) i c spent not_it ∙ now.there; live = now.live; lists = now.lists } in
+      record { view = now.view; there = set_else (set views j u) i c spent_view not_it ∙ now.there; live = now.live; lists = now.lists } in
       let all : (P : ℕ → View → Type 0) → (P j u) → ((k : ℕ) (y : View) → get_elem? views k ≡ some y → y.live ≡ true → P k y)
-      → (k : ℕ) (y : View) → get_elem? (set (set views j u) i spent) k ≡ some y → y.live ≡ true → P k y = λ P mine old.
-      each_view P (set views j u) i spent (λ alive. absurd (true≢false (sym alive)))
+      → (k : ℕ) (y : View) → get_elem? (set (set views j u) i spent_view) k ≡ some y → y.live ≡ true → P k y = λ P mine old.
+      each_view P (set views j u) i spent_view (λ alive. absurd (true≢false (sym alive)))
       (λ k y differs at' lives. each_view P views j u (λ alive. mine) (λ l z ne at'' alive. old l z at'' alive) k y at' lives) in
       record {
         claimer = m.claimer;

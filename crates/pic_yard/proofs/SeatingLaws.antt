@@ -8,7 +8,7 @@ use Rattle.pic_yard.specs.declared.opening.Opening.{Opening}
 use Rattle.pic_yard.specs.declared.view.View.{View}
 use Rattle.pic_yard.specs.Contents.{Slot}
 use Rattle.pic_yard.specs.Members.{In}
-use Rattle.pic_yard.specs.Seats.{IsIdle}
+use Rattle.pic_yard.specs.Seats.{HoldsNothing}
 use Rattle.pic_yard.specs.Sits.{Carries, IsMine, Sits}
 
 -- two views that list the same let a seat move the same slots
@@ -65,13 +65,13 @@ new_sits o v sound opens live opened owes rights =
       };
     }
 
-none_mine : (v : View) → IsIdle v → (slot : ℕ) → IsMine v slot → ⊥
+none_mine : (v : View) → HoldsNothing v → (slot : ℕ) → IsMine v slot → ⊥
 none_mine v idle slot (IsMine.a_box r d dir at is) = subst (λ (ps : List (ℕ × ℕ)). In (r, d) ps) idle.owes is
 none_mine v idle slot (IsMine.a_home t at is) = subst (λ (ps : List (ℕ × ℕ)). In (t, here) ps) idle.owes is
 none_mine v idle slot (IsMine.of_right r k inside at is) = subst (λ (rs : List ℕ). In r rs) idle.rights is
 
 -- nor has one that lists nothing
-pub idle_empty : (o : Opening) (v : View) (slots : List (ℕ × Slot)) → Carries o v slots → IsIdle v → slots ≡ []
+pub idle_empty : (o : Opening) (v : View) (slots : List (ℕ × Slot)) → Carries o v slots → HoldsNothing v → slots ≡ []
 idle_empty o v [] c idle = refl
 idle_empty o v (x ∷ xs) c idle =
     let found : seek x.0 (x ∷ xs) ≡ some x.1 = ap (λ (b : Bool). if b then some x.1 else seek x.0 xs) (eq-eqb x.0 x.0 refl) in

@@ -11,7 +11,7 @@ use Rattle.pic_yard.specs.Contents.{Slot, tiles_in, to_of, from_of}
 use Rattle.pic_yard.specs.Laws.{IsOver}
 use Rattle.pic_yard.specs.Members.{In}
 use Rattle.pic_yard.specs.Rule.{Rule, ticket_of}
-use Rattle.pic_yard.specs.Steps.{gave_number, newcomer, took_in, spent}
+use Rattle.pic_yard.specs.Steps.{gave_number, newcomer, took_in, spent_view}
 use Rattle.pic_yard.proofs.NumberLaws.{number_given, seat_taken, all_taken}
 use Rattle.pic_yard.proofs.SeatLaws.{split_marks, join_marks, all_shut}
 use Rattle.pic_yard.proofs.ViewLaws.{each_view, at_end}
@@ -42,7 +42,7 @@ split_allowed o id v x live opened is s rule at = record {
 -- A seat takes in another, which was told that no tile is left and lists nothing. It is the other's
 -- view as it is after the first is changed, which is another seat's.
 pub join_allowed : (o : Opening) (id : ℕ) (v : View) (other : ℕ) (u : View) → v.live ≡ true → v.opening ≡ Some o → u.live ≡ true → u.told ≡ true
-    → u.owes ≡ [] → u.rights ≡ [] → Joins (Rule o) id v other u (took_in v u) spent
+    → u.owes ≡ [] → u.rights ≡ [] → Joins (Rule o) id v other u (took_in v u) spent_view
 join_allowed o id v other u live opened lives over no_owes no_rights s rule at apart at_other =
     let there : get_elem? s.views other ≡ some u = sym (set_else s.views id other (took_in v u) apart) ∙ at_other in
     record {
@@ -53,7 +53,7 @@ join_allowed o id v other u live opened lives over no_owes no_rights s rule at a
       small = rule.small;
       words = rule.words;
       slots = rule.slots;
-      opened = each_view (λ (k : ℕ) (y : View). y.opening ≡ Some o) (set s.views id (took_in v u)) other spent (λ alive. absurd (true≢false (sym alive)))
+      opened = each_view (λ (k : ℕ) (y : View). y.opening ≡ Some o) (set s.views id (took_in v u)) other spent_view (λ alive. absurd (true≢false (sym alive)))
           (λ k y ne at' alive. each_view (λ (l : ℕ) (z : View). z.opening ≡ Some o) s.views id (took_in v u) (λ yes_live. opened)
           (λ l z ne' at'' alive'. rule.opened l z at'' alive') k y at' alive);
       tickets = seat_taken (tiles_in o) o.seats (ticket_of s) s.views rule.tickets id v at live other u apart there lives over;

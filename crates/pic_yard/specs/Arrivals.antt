@@ -7,7 +7,7 @@ use Rattle.pic_tile.specs.Directions.{directions, here}
 use Rattle.pic_yard.specs.declared.opening.Opening.{Opening}
 use Rattle.pic_yard.specs.declared.view.View.{View}
 use Rattle.pic_yard.specs.Acts.{Apart}
-use Rattle.pic_yard.specs.Contents.{Slot, vacant, from_of, IsParcel}
+use Rattle.pic_yard.specs.Contents.{Slot, vacant, from_of, HoldsParcel}
 use Rattle.pic_yard.specs.Members.{In}
 use Rattle.pic_yard.specs.Sits.{slot_at, IsMine}
 use Rattle.pic_yard.specs.Steps.{did_post}
@@ -18,13 +18,13 @@ behind d slots = if eqb d here then rest slots else slots
 
 -- a seat that is about to post the parcel (r, d): it lies first, in its mailbox, and behind that of
 -- no step the vacant home slot
-pub record IsLoaded (o : Opening) (me : Me Slot View) (r d : ℕ) (parcel : Slot) (slots : List
+pub record IsAboutToPost (o : Opening) (me : Me Slot View) (r d : ℕ) (parcel : Slot) (slots : List
     (ℕ × Slot)) : Type 0 where
   pub live : me.0.live ≡ true
   pub opened : me.0.opening ≡ Some o
   pub owes : In (r, d) me.0.owes
   pub first : me.1 ≡ (slot_at r d, parcel) ∷ slots
-  pub is : IsParcel o (from_of o r d) d parcel
+  pub is : HoldsParcel o (from_of o r d) d parcel
   pub home : d ≡ here → slots ≡ (slot_at r directions, vacant) ∷ rest slots
   pub only : (slot : ℕ) (y : Slot) → seek slot (behind d slots) ≡ some y → IsMine me.0 slot
   pub once : Apart me.1
@@ -33,7 +33,7 @@ pub record IsLoaded (o : Opening) (me : Me Slot View) (r d : ℕ) (parcel : Slot
 pub record HasAllMail (o : Opening) (r : ℕ) (old new : List (ℕ × Slot)) : Type 0 where
   pub parcel : ℕ → Slot
   pub mail : (d : ℕ) → d < directions → seek (slot_at r d) new ≡ some (parcel d)
-  pub is : (d : ℕ) → d < directions → IsParcel o (from_of o r d) d (parcel d)
+  pub is : (d : ℕ) → d < directions → HoldsParcel o (from_of o r d) d (parcel d)
   pub home : seek (slot_at r directions) new ≡ some vacant
   pub others : (slot : ℕ) → ((k : ℕ) → k < suc directions → slot ≡ slot_at r k → ⊥)
       → seek slot new ≡ seek slot old

@@ -6,13 +6,13 @@ use mathlib.Core.Option.{Option, none, some}
 use lib.ListN.{get_elem?}
 use Rattle.pic_num.specs.declared.motion.Particle.{Particle}
 use Rattle.pic_tile.specs.Same.{Same}
-use Rattle.pic_tile.specs.CoreState.{held_in, particles_of}
+use Rattle.pic_tile.specs.CoreState.{held_in, all_particles}
 use Rattle.pic_tile.specs.Directions.{directions}
 use Rattle.pic_tile.specs.Frame.{felt_in}
 use Rattle.pic_tile.specs.Leaving.{going}
 use Rattle.atomic_table.specs.Table.{State}
 use Rattle.pic_yard.specs.declared.opening.Opening.{Opening}
-use Rattle.pic_yard.specs.declared.piece.Piece.TheVariants.{Tile, Parcel}
+use Rattle.pic_yard.specs.declared.slot_content.SlotContent.TheVariants.{Tile, Parcel}
 use Rattle.pic_yard.specs.declared.view.View.{View}
 use Rattle.pic_yard.specs.Contents.{Slot, tiles_in, to_of, from_of, start_at}
 use Rattle.pic_yard.specs.Marks.{Lists}
@@ -53,16 +53,16 @@ with_seats o out =
 
 -- the identities in all slots and with all seats, one after another, are a rearrangement of
 -- 0, 1, .., n - 1, where there were n particles at the start
-pub record HasCensus (o : Opening) (s : State Slot View) : Type 0 where
+pub record HasBoardCensus (o : Opening) (s : State Slot View) : Type 0 where
   pub out : ℕ → ℕ → Bool
   pub holder : ℕ → ℕ → ℕ
   pub with : AreWithSeats o s.views out holder
-  pub rearranged : IsPermutation (range_with_len 0 (length (particles_of o.tiles.items)))
+  pub rearranged : IsPermutation (range_with_len 0 (length (all_particles o.tiles.items)))
       (map (λ x. x.id) (flat_map lying s.homes ++ with_seats o out))
 
 -- between any two steps, of whichever seats, no particle is lost and none is there twice
 abbrev pub TheRuleKeepsTheCensus : Type 0
-TheRuleKeepsTheCensus = (o : Opening) (s : State Slot View) → Rule o s → HasCensus o s
+TheRuleKeepsTheCensus = (o : Opening) (s : State Slot View) → Rule o s → HasBoardCensus o s
 
 -- a tile has at the start the identities of the parcels that its push makes of it
 abbrev pub ATileIsItsParcels : Type 0

@@ -13,21 +13,21 @@ use Rattle.pic_tile.specs.Receiving.{IsReceiving}
 use Rattle.pic_tile.specs.Tile.{TileValue, chain_at, tile_in}
 use Rattle.pic_tile.specs.Tiling.{neighbour_of}
 use Rattle.pic_yard.specs.declared.opening.Opening.{Opening}
-use Rattle.pic_yard.specs.declared.piece.Piece.{Piece}
-use Rattle.pic_yard.specs.declared.piece.Piece.TheVariants as piece
+use Rattle.pic_yard.specs.declared.slot_content.SlotContent.{SlotContent}
+use Rattle.pic_yard.specs.declared.slot_content.SlotContent.TheVariants as holds
 use Rattle.pic_yard.specs.Places.{Kinds}
 
 abbrev pub Slot : Type 0
-Slot = Option Piece
+Slot = Option SlotContent
 
 -- a home slot whose tile is elsewhere: only the tile's place lies there
 abbrev pub vacant : Slot
-vacant = Some (piece.Tile None)
+vacant = Some (holds.Tile None)
 
 -- the place of a tile lies with a seat, in a home slot
 abbrev pub HasPlace : ℕ → List (ℕ × Slot) → Type 0
 HasPlace slot slots =
-    (tile : Option TileValue) × (seek slot slots ≡ some (Some (piece.Tile tile)))
+    (tile : Option TileValue) × (seek slot slots ≡ some (Some (holds.Tile tile)))
 
 -- how many tiles there are
 abbrev pub tiles_in : Opening → ℕ
@@ -46,15 +46,15 @@ start_at o t = chain_at (tile_in o.tiles.items t) here
 
 -- the tile t as it was at the start
 abbrev pub tile_at : Opening → ℕ → Slot
-tile_at o t = Some (piece.Tile (Some (tile_in o.tiles.items t)))
+tile_at o t = Some (holds.Tile (Some (tile_in o.tiles.items t)))
 
 abbrev pub IsTile : Opening → ℕ → Slot → Type 0
 IsTile o t s = s ≡ tile_at o t
 
 -- the parcel of the direction d that the push of the tile t sends
-pub record IsParcel (o : Opening) (t d : ℕ) (s : Slot) : Type 0 where
+pub record HoldsParcel (o : Opening) (t d : ℕ) (s : Slot) : Type 0 where
   pub parcel : Parcel
-  pub is : s ≡ Some (piece.Parcel parcel)
+  pub is : s ≡ Some (holds.Parcel parcel)
   pub content : parcels.IsParcel (felt_in o.frame) o.frame.map (start_at o t) t d parcel
 
 -- all parcels that come to the tile r are merged into it
@@ -64,14 +64,14 @@ IsShut o r t = IsReceiving (felt_in o.frame) o.frame.map (start_at o) (λ d. tru
 -- the finished tile r
 pub record IsFinished (o : Opening) (r : ℕ) (s : Slot) : Type 0 where
   pub tile : TileValue
-  pub is : s ≡ Some (piece.Tile (Some tile))
+  pub is : s ≡ Some (holds.Tile (Some tile))
   pub content : IsShut o r tile
 
-abbrev pub kinds_of : Opening → Kinds Slot
-kinds_of o = record {
+abbrev pub slot_kinds : Opening → Kinds Slot
+slot_kinds o = record {
   IsEmpty = λ s. s ≡ None;
   IsTile = IsTile o;
-  IsParcel = IsParcel o;
+  IsParcel = HoldsParcel o;
   IsFinished = IsFinished o;
   IsVacant = λ s. s ≡ vacant;
 }

@@ -2,7 +2,7 @@
 use Rattle.std.specs.Prelude.{◌≡◌, ℕ, ◌<◌, List, length}
 use Rattle.pic_grid.specs.Block.{AllAtMost}
 use Rattle.pic_grid.specs.Traces.{most_flux}
-use Rattle.pic_tile.specs.CoreState.{particles_of}
+use Rattle.pic_tile.specs.CoreState.{all_particles}
 use Rattle.pic_tile.specs.Directions.{here}
 use Rattle.pic_tile.specs.Exchanged.{AreExchanged}
 use Rattle.pic_tile.specs.Frame.{felt_in}
@@ -18,7 +18,7 @@ pub record AreMerged (o : Opening) (tiles : List TileValue) : Type 0 where
 -- they have what the push phase leaves of the particles of the opening
 abbrev pub HaveExchanged : Opening → List TileValue → Type 0
 HaveExchanged o tiles =
-    AreExchanged (felt_in o.frame) o.frame.map (particles_of o.tiles.items) tiles
+    AreExchanged (felt_in o.frame) o.frame.map (all_particles o.tiles.items) tiles
 
 -- their flux keeps the bound of the push phase
 abbrev pub KeepTheBound : Opening → List TileValue → Type 0

@@ -10,7 +10,7 @@ use Rattle.pic_tile.specs.CoreState.{IsOpening, IsSoundFrame}
 use Rattle.pic_tile.specs.Directions.{directions}
 use Rattle.pic_yard.specs.declared.opening.Opening.{Opening}
 use Rattle.pic_yard.specs.declared.view.View.{View}
-use Rattle.pic_yard.specs.Arrivals.{IsLoaded, Arrived}
+use Rattle.pic_yard.specs.Arrivals.{IsAboutToPost, Arrived}
 use Rattle.pic_yard.specs.Contents.{Slot, tiles_in, IsFinished}
 use Rattle.pic_yard.specs.Laying.{AreLaid}
 use Rattle.pic_yard.specs.Members.{In}
@@ -18,7 +18,7 @@ use Rattle.pic_yard.specs.Places.{IsHome}
 use Rattle.pic_yard.specs.Returns.{IsStacked, Returned}
 use Rattle.pic_yard.specs.Rule.{Rule}
 use Rattle.pic_yard.specs.Sits.{slot_at, Sits, Drawn}
-use Rattle.pic_yard.specs.Steps.{first_view, gave_number, newcomer, took_in, spent}
+use Rattle.pic_yard.specs.Steps.{first_view, gave_number, newcomer, took_in, spent_view}
 
 -- the words and slots of a board at its start: all words 0, all mailboxes empty, and each tile in
 -- its home slot
@@ -51,7 +51,7 @@ abbrev pub PostsKeepTheRule : Type 0
 PostsKeepTheRule =
     (o : Opening) (slots id : ℕ) (me : Me Slot View) (r d : ℕ) (parcel : Slot) (list : List
     (ℕ × Slot))
-    → IsLoaded o me r d parcel list
+    → IsAboutToPost o me r d parcel list
     → Allows (Rule o) slots id me (suc r) (λ n. (n + 1) % 2 ^ 64) (Arrived o r d list me)
 
 -- the tile r given back, by a seat that has the right to it and has it finished at hand
@@ -80,7 +80,7 @@ JoinsKeepTheRule =
     → u.told ≡ true
     → u.owes ≡ []
     → u.rights ≡ []
-    → Joins (Rule o) id v other u (took_in v u) spent
+    → Joins (Rule o) id v other u (took_in v u) spent_view
 
 -- all words are those of shut tiles, and each finished tile lies at home
 pub record IsOver (o : Opening) (s : State Slot View) : Type 0 where

@@ -4,14 +4,14 @@ use mathlib.Core.Option.{some}
 use lib.ListN.{get_elem?}
 use Rattle.pic_tile.specs.Directions.{directions}
 use Rattle.pic_tile.specs.Tile.{TileValue, tile_in}
-use Rattle.pic_yard.specs.declared.piece.Piece.TheVariants as piece
+use Rattle.pic_yard.specs.declared.slot_content.SlotContent.TheVariants as holds
 use Rattle.pic_yard.specs.Contents.{Slot}
 use Rattle.pic_yard.specs.Sits.{slot_at}
 
 -- the tile lies in the home slot of the tile t
 abbrev pub LiesThere : List Slot → ℕ → TileValue → Type 0
 LiesThere slots t tile =
-    get_elem? slots (slot_at t directions) ≡ some (Some (piece.Tile (Some tile)))
+    get_elem? slots (slot_at t directions) ≡ some (Some (holds.Tile (Some tile)))
 
 -- the tile t of a list lies in its home slot
 abbrev pub LiesHome : List TileValue → List Slot → ℕ → Type 0

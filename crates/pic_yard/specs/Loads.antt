@@ -7,7 +7,7 @@ use Rattle.pic_yard.specs.Fronts.{seek}
 use Rattle.pic_tile.specs.Directions.{directions, here}
 use Rattle.pic_yard.specs.declared.opening.Opening.{Opening}
 use Rattle.pic_yard.specs.declared.view.View.{View}
-use Rattle.pic_yard.specs.Arrivals.{behind, IsLoaded, Arrived}
+use Rattle.pic_yard.specs.Arrivals.{behind, IsAboutToPost, Arrived}
 use Rattle.pic_yard.specs.Contents.{Slot}
 use Rattle.pic_yard.specs.Sits.{slot_at}
 
@@ -16,7 +16,7 @@ pub record HasLoaded (o : Opening) (old new : Seat Slot View) (r d : ℕ) : Type
   pub table : new.table_id ≡ old.table_id
   pub view : new.me.0 ≡ old.me.0
   pub parcel : Slot
-  pub loaded : IsLoaded o new.me r d parcel (rest new.me.1)
+  pub loaded : IsAboutToPost o new.me r d parcel (rest new.me.1)
   pub others : (slot : ℕ) → (slot ≡ slot_at r d → ⊥) → (d ≡ here → slot ≡ slot_at r directions → ⊥)
       → seek slot (behind d (rest new.me.1)) ≡ seek slot old.me.1
 

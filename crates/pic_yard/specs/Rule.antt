@@ -11,7 +11,7 @@ use Rattle.pic_tile.specs.CoreState.{IsOpening, IsSoundFrame}
 use Rattle.pic_tile.specs.Directions.{directions, here}
 use Rattle.pic_yard.specs.declared.opening.Opening.{Opening}
 use Rattle.pic_yard.specs.declared.view.View.{View}
-use Rattle.pic_yard.specs.Contents.{Slot, tiles_in, from_of, kinds_of}
+use Rattle.pic_yard.specs.Contents.{Slot, tiles_in, from_of, slot_kinds}
 use Rattle.pic_yard.specs.Marks.{Marks}
 use Rattle.pic_yard.specs.Places.{Places, Aways}
 use Rattle.pic_yard.specs.Tickets.{Tickets}
@@ -32,6 +32,6 @@ pub record Rule (o : Opening) (s : State Slot View) : Type 0 where
       → v.opening ≡ Some o
   pub tickets : Tickets (tiles_in o) o.seats (ticket_of s) s.views
   pub marks : Marks (tiles_in o) directions (ticket_of s) (from_of o) posted shut s.words s.views
-  pub places : Places (kinds_of o) (tiles_in o) directions here (ticket_of s)
+  pub places : Places (slot_kinds o) (tiles_in o) directions here (ticket_of s)
       (from_of o) posted shut s.homes
   pub aways : Aways (tiles_in o) directions here (ticket_of s) (from_of o) posted shut s.homes

@@ -14,14 +14,14 @@ abbrev pub most_seats : ℕ
 most_seats = 64
 
 -- a seat lists no claim and no right
-pub record IsIdle (v : View) : Type 0 where
+pub record HoldsNothing (v : View) : Type 0 where
   pub owes : v.owes ≡ []
   pub rights : v.rights ≡ []
 
 -- it was told that no tile is left, and lists nothing
-pub record HasEnded (v : View) : Type 0 where
+pub record IsThrough (v : View) : Type 0 where
   pub told : v.told ≡ true
-  pub idle : IsIdle v
+  pub idle : HoldsNothing v
 
 -- its own number, or one that it took in
 abbrev pub HasNumber : View → ℕ → Type 0

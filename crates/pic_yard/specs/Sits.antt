@@ -8,7 +8,7 @@ use Rattle.pic_tile.specs.Directions.{directions, here}
 use Rattle.pic_yard.specs.declared.opening.Opening.{Opening}
 use Rattle.pic_yard.specs.declared.view.View.{View}
 use Rattle.pic_yard.specs.Acts.{Apart}
-use Rattle.pic_yard.specs.Contents.{Slot, vacant, tiles_in, to_of, from_of, tile_at, IsParcel}
+use Rattle.pic_yard.specs.Contents.{Slot, vacant, tiles_in, to_of, from_of, tile_at, HoldsParcel}
 use Rattle.pic_yard.specs.Members.{In}
 use Rattle.pic_yard.specs.Places.{slot_in}
 use Rattle.pic_yard.specs.Steps.{did_claim, was_told}
@@ -25,7 +25,7 @@ pub data IsMine (v : View) (slot : ℕ) : Type 0 where
 
 -- a mailbox of a right: it still has its parcel, or that was received
 pub data HasMail (o : Opening) (slots : List (ℕ × Slot)) (r d : ℕ) : Type 0 where
-  waits : (y : Slot) → seek (slot_at r d) slots ≡ some y → IsParcel o (from_of o r d) d y
+  waits : (y : Slot) → seek (slot_at r d) slots ≡ some y → HoldsParcel o (from_of o r d) d y
       → HasMail o slots r d
   received : seek (slot_at r d) slots ≡ some None → HasMail o slots r d
 

@@ -65,8 +65,8 @@ took_in v u =
       drawn = max v.drawn u.drawn;
     }
 
-abbrev pub spent : View
-spent =
+abbrev pub spent_view : View
+spent_view =
     record {
       live = false;
       opening = None;

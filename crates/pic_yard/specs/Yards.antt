@@ -11,7 +11,7 @@ use Rattle.pic_tile.specs.declared.parcel.Parcel.{Parcel}
 use Rattle.pic_yard.specs.declared.opening.Opening.{Opening}
 use Rattle.pic_yard.specs.declared.view.View.{View}
 use Rattle.pic_yard.specs.declared.yard.Yard.{Yard}
-use Rattle.pic_yard.specs.Contents.{Slot, tiles_in, to_of, from_of, start_at, IsParcel}
+use Rattle.pic_yard.specs.Contents.{Slot, tiles_in, to_of, from_of, start_at, HoldsParcel}
 use Rattle.pic_yard.specs.Members.{In}
 use Rattle.pic_yard.specs.Sits.{slot_at, Sits}
 
@@ -45,7 +45,7 @@ mail_of seat r d = seek (slot_at r d) seat.me.1
 pub record MailWaits (o : Opening) (seat : Seat Slot View) (r d : ℕ) : Type 0 where
   pub parcel : Slot
   pub there : mail_of seat r d ≡ some parcel
-  pub is : IsParcel o (from_of o r d) d parcel
+  pub is : HoldsParcel o (from_of o r d) d parcel
 
 -- it was received
 abbrev pub IsReceived : Seat Slot View → ℕ → ℕ → Type 0

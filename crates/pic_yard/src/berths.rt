@@ -4,10 +4,10 @@ ghost use Rattle.std.specs.Prelude.{◌≡◌, ◌∷◌, Some};
 ghost use mathlib.Core.Option.{some};
 ghost use Rattle.pic_yard.specs.Fronts.{drop_slot, seek};
 ghost use Rattle.pic_yard.specs.Contents.{HasPlace};
-ghost use Rattle.pic_yard.specs.declared.piece.Piece.TheVariants as piece;
+ghost use Rattle.pic_yard.specs.declared.slot_content.SlotContent.TheVariants as holds;
 
 use crate::fronts::exchange;
-use crate::piece::Piece;
+use crate::slot_content::SlotContent;
 use crate::yard::{Seat, Yard};
 use pic_tile::Tile;
 
@@ -23,17 +23,22 @@ impl Yard {
         requires own { seat.old.table_id ≡ self.now.table.shared.table_id }
         requires place { HasPlace slot seat.old.me.1 }
         ensures table { seat.new.table_id ≡ seat.old.table_id }
-        ensures lay { seek slot seat.old.me.1 ≡ some (Some (piece.Tile result)) }
+        ensures lay { seek slot seat.old.me.1 ≡ some (Some (holds.Tile result)) }
         ensures lies { seat.new.me
-            ≡ (seat.old.me.0, (slot, Some (piece.Tile tile)) ∷ drop_slot slot seat.old.me.1) }
+            ≡ (seat.old.me.0, (slot, Some (holds.Tile tile)) ∷ drop_slot slot seat.old.me.1) }
     {
         match exchange(&self.table.shared, seat, slot, None) {
-            Some(Piece::Tile(mut berth)) => {
+            Some(SlotContent::Tile(mut berth)) => {
                 let was = berth.replace(tile);
-                exchange(&self.table.shared, seat, slot, Some(Piece::Tile(berth)));
+                exchange(
+                    &self.table.shared,
+                    seat,
+                    slot,
+                    Some(SlotContent::Tile(berth)),
+                );
                 was
             }
-            Some(Piece::Parcel(_)) => unreachable!(),
+            Some(SlotContent::Parcel(_)) => unreachable!(),
             None => unreachable!(),
         }
     }

@@ -8,17 +8,17 @@ ghost use Rattle.pic_yard.specs.Sits.{Drawn};
 ghost use Rattle.pic_yard.specs.Yards.{IsSentBy, KeepsMail, Serves, opening_of, view_of};
 
 use crate::claim::Claim;
-use crate::piece::Piece;
-use crate::places::home;
+use crate::slot_content::SlotContent;
+use crate::slot_numbers::home;
 use crate::view::View;
 use crate::yard::{Seat, Yard};
 use atomic_table::Play;
 use pic_push::push_tile;
 
 /// A draw from the ticket.
-pub struct Draw;
+pub struct TicketDraw;
 
-impl Play<Option<Piece>, View> for Draw {
+impl Play<Option<SlotContent>, View> for TicketDraw {
     ghost then = { λ step old n new. IfSome old.0.opening (λ o. Drawn o old n new) };
 }
 
@@ -34,7 +34,7 @@ impl Yard {
             (HasClaimed o (view_of seat.old) (view_of seat.new)) }
         ensures mail { KeepsMail (view_of seat.old) seat.old seat.new }
     {
-        let number = self.table.shared.fetch_add::<Draw>(seat, 0, 1);
+        let number = self.table.shared.fetch_add::<TicketDraw>(seat, 0, 1);
         if number >= self.tiles as u64 {
             return None;
         }

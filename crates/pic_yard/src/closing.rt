@@ -2,7 +2,7 @@
 
 ghost use Rattle.std.specs.Prelude.{◌≡◌};
 ghost use Rattle.pic_yard.specs.Ended.{AreMerged, HaveExchanged, KeepTheBound};
-ghost use Rattle.pic_yard.specs.Seats.{HasAllNumbers, HasEnded};
+ghost use Rattle.pic_yard.specs.Seats.{HasAllNumbers, IsThrough};
 ghost use Rattle.pic_yard.specs.Yards.{opening_of, Serves, view_of};
 
 use crate::unloading::unload;
@@ -16,7 +16,7 @@ impl Yard {
     pub fn close(self, seat: Seat) -> (Frame, Vec<Tile>)
         requires serves { Serves self seat }
         requires all { HasAllNumbers (opening_of self).seats (view_of seat) }
-        requires ended { HasEnded (view_of seat) }
+        requires ended { IsThrough (view_of seat) }
         ensures frame { result.0 ≡ (opening_of self).frame }
         ensures merged { AreMerged (opening_of self) result.1.items }
         ensures exchanged { HaveExchanged (opening_of self) result.1.items }

@@ -3,25 +3,25 @@
 #![tactic(auto)]
 
 mod berths;
-mod board;
+mod board_rule;
+mod board_start;
 mod claim;
 mod claiming;
 mod closing;
-mod finishing;
 mod fronts;
+mod giving_back;
 mod laws;
 mod laying;
+mod mailing;
 mod opening;
-mod piece;
-mod places;
-mod posting;
 mod seating;
-mod starting;
+mod slot_content;
+mod slot_numbers;
 mod unloading;
 mod view;
 mod yard;
 
-pub use board::Board;
+pub use board_rule::BoardRule;
 pub use claim::{Claim, Posted, Right};
 pub use laws::{
     a_board_begins_with_the_rule, a_tile_is_its_parcels, draws_keep_the_rule, joins_keep_the_rule,
@@ -29,6 +29,6 @@ pub use laws::{
     the_rule_keeps_the_census,
 };
 pub use opening::Opening;
-pub use piece::{Berth, Piece};
+pub use slot_content::{Berth, SlotContent};
 pub use view::View;
 pub use yard::{Seat, Yard};

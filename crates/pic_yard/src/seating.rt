@@ -1,8 +1,8 @@
 //! The seats of a board: they are made of one another at its start, and taken in at its end.
 
 ghost use Rattle.std.specs.Prelude.{◌≡◌, ◌-◌, ◌<◌, [], length, IfOk};
-ghost use Rattle.pic_yard.specs.Seats.{AreNewSeats, gave_next, HasEnded, HasNext, IsNewSeat, next_seat};
-ghost use Rattle.pic_yard.specs.Steps.{ahead, spent, took_in};
+ghost use Rattle.pic_yard.specs.Seats.{AreNewSeats, gave_next, IsThrough, HasNext, IsNewSeat, next_seat};
+ghost use Rattle.pic_yard.specs.Steps.{ahead, spent_view, took_in};
 ghost use Rattle.pic_yard.specs.Yards.{KeepsMail, opening_of, Serves, view_of};
 
 use crate::view::View;
@@ -26,7 +26,7 @@ pub struct TakesIn;
 impl Join<View> for TakesIn {
     ghost both = { took_in };
 
-    ghost spent = { spent };
+    ghost spent = { spent_view };
 }
 
 impl Yard {
@@ -71,7 +71,7 @@ impl Yard {
     pub fn join(&self, seat: &mut Seat, other: Seat)
         requires serves { Serves self.now seat.old }
         requires other { Serves self.now other }
-        requires ended { HasEnded (view_of other) }
+        requires ended { IsThrough (view_of other) }
         ensures serves { Serves self.now seat.new }
         ensures view { view_of seat.new ≡ took_in (view_of seat.old) (view_of other) }
         ensures mail { KeepsMail (view_of seat.old) seat.old seat.new }

@@ -8,14 +8,14 @@ ghost use Rattle.pic_yard.specs.Laying.{LiesHome, LiesThere};
 ghost use Rattle.pic_yard.specs.Sits.{slot_at};
 ghost use Rattle.pic_yard.specs.Unloading.{AreEmptied, HasTile, IsOut, slots_in};
 
-use crate::piece::Piece;
-use crate::places::SLOTS;
+use crate::slot_content::SlotContent;
+use crate::slot_numbers::SLOTS;
 use atomic_table::Closed;
 use pic_tile::{Dir, Tile};
 use std::alloc::Global;
 
 /// Takes out what lies in the slots of a tile, which is left in its home slot.
-fn take_tile(closed: &mut Closed<Option<Piece>, Global>, tile: usize) -> Tile
+fn take_tile(closed: &mut Closed<Option<SlotContent>, Global>, tile: usize) -> Tile
     requires few { tile < most_tiles }
     requires below { slot_at tile directions < slots_len closed.old.slots }
     requires home { HasTile (slots_in closed.old) tile }
@@ -26,7 +26,7 @@ fn take_tile(closed: &mut Closed<Option<Piece>, Global>, tile: usize) -> Tile
     for d in 0..Dir::COUNT as usize {
         drop(closed.take(tile * SLOTS + d));
     }
-    let Some(Piece::Tile(berth)) = closed.take(tile * SLOTS + SLOTS - 1) else {
+    let Some(SlotContent::Tile(berth)) = closed.take(tile * SLOTS + SLOTS - 1) else {
         unreachable!()
     };
     let Some(tile) = berth.into_tile() else {
@@ -36,7 +36,7 @@ fn take_tile(closed: &mut Closed<Option<Piece>, Global>, tile: usize) -> Tile
 }
 
 /// Takes out what lies in all slots, and puts the tiles that lie in the home slots into a list.
-pub(crate) fn unload(closed: &mut Closed<Option<Piece>, Global>, tiles: &mut [Tile])
+pub(crate) fn unload(closed: &mut Closed<Option<SlotContent>, Global>, tiles: &mut [Tile])
     requires few { length tiles.old ≤ most_tiles }
     requires long { slots_len closed.old.slots ≡ length tiles.old * suc directions }
     requires full { IsFull closed.old.slots }

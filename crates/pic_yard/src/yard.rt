@@ -4,9 +4,9 @@ ghost use Rattle.std.specs.Prelude.{◌≡◌, ◌+◌, ◌*◌, ◌≤◌, leng
 ghost use Rattle.pic_grid.specs.Tiles.{most_tiles};
 ghost use Rattle.pic_yard.specs.Contents.{tiles_in};
 
-use crate::board::Board;
+use crate::board_rule::BoardRule;
 use crate::opening::Opening;
-use crate::piece::Piece;
+use crate::slot_content::SlotContent;
 use crate::view::View;
 use atomic_table::Table;
 use pic_tile::{Frame, Tile};
@@ -15,13 +15,13 @@ use std::snapshot::Snapshot;
 
 /// A thread's seat at a board: only through it are tiles claimed, parcels posted and tiles given
 /// back. It takes no bytes.
-pub type Seat = atomic_table::Seat<Option<Piece>, View>;
+pub type Seat = atomic_table::Seat<Option<SlotContent>, View>;
 
-/// A board: one word from which the numbers of tiles are drawn, for each tile one that counts the
+/// The board: one word from which the numbers of tiles are drawn, for each tile one that counts the
 /// parcels that arrived, and the slots in which tiles and parcels lie.
 #[derive(Drop)]
 pub struct Yard {
-    pub(crate) table: Table<Option<Piece>, View, Snapshot<Opening>, Board, Global>,
+    pub(crate) table: Table<Option<SlotContent>, View, Snapshot<Opening>, BoardRule, Global>,
     pub(crate) frame: Frame,
     /// Places for the finished tiles.
     pub(crate) room: Vec<Tile>,

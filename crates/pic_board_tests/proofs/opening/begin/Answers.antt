@@ -7,6 +7,6 @@ returns c =
     let f = c.in_ok-frame.frame in
     let m = c.args.map in
     let two = c.in_ok-frame.ensures.kinds in
-    opening_two f m _ _ c.in_ok-tiles.tiles.items c.frame_is_sound.ensures c.in_ok-frame.ensures.map c.in_ok-tiles.ensures refl refl
+    opening_two f m _ _ c.in_ok-tiles.tiles.items c.sound.ensures c.in_ok-frame.ensures.map c.in_ok-tiles.ensures refl refl
     (omega (arith, two)) (omega (arith, two))
     (near_in_box m 1024 c.requires.side c.requires.cells (omega arith)) (near_in_box m 100 c.requires.side c.requires.cells (omega arith))

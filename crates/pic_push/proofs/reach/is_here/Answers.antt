@@ -7,17 +7,14 @@ pub returns : goal.returns
 returns c = λ here.
     let outer = and_parts (c.is_among.result && c.is_among-2.result) c.is_among-3.result here in
     let inner = and_parts c.is_among.result c.is_among-2.result outer.0 in
-    let x_least = c.is_among.ensures.least inner.0 in
-    let x_below = c.is_among.ensures.below inner.0 in
-    let y_least = c.is_among-2.ensures.least inner.1 in
-    let y_below = c.is_among-2.ensures.below inner.1 in
-    let z_least = c.is_among-3.ensures.least outer.1 in
-    let z_below = c.is_among-3.ensures.below outer.1 in
+    let x = c.is_among.ensures.0 inner.0 in
+    let y = c.is_among-2.ensures.0 inner.1 in
+    let z = c.is_among-3.ensures.0 outer.1 in
     record {
-      x_low = first_of (search (rules, x_least), omega (arith, ints, x_least));
-      x_high = first_of (search (rules, x_below), omega (arith, ints, x_below));
-      y_low = first_of (search (rules, y_least), omega (arith, ints, y_least));
-      y_high = first_of (search (rules, y_below), omega (arith, ints, y_below));
-      z_low = first_of (search (rules, z_least), omega (arith, ints, z_least));
-      z_high = first_of (search (rules, z_below), omega (arith, ints, z_below));
+      x_low = first_of (search (rules, x.0), omega (arith, ints, x.0));
+      x_high = first_of (search (rules, x.1), omega (arith, ints, x.1));
+      y_low = first_of (search (rules, y.0), omega (arith, ints, y.0));
+      y_high = first_of (search (rules, y.1), omega (arith, ints, y.1));
+      z_low = first_of (search (rules, z.0), omega (arith, ints, z.0));
+      z_high = first_of (search (rules, z.1), omega (arith, ints, z.1));
     }

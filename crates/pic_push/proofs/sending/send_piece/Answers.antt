@@ -7,7 +7,7 @@ use Rattle.pic_tile.specs.Directions.{here}
 use Rattle.pic_tile.specs.Tile.{parcel_at}
 use Rattle.pic_push.specs.declared.region.Region.{Region}
 use Rattle.pic_push.specs.Region.{LiesIn}
-use Rattle.pic_push.specs.Sends.{IsOpenTo, most_sent}
+use Rattle.pic_push.specs.Sends.{HasParcelsWithin, most_sent}
 use Rattle.pic_push.proofs.GainLaws.{no_parcel, gains_still}
 use Rattle.pic_push.proofs.RegionLaws.{inside_up, reach_to, reached, inside_alone, inside_edges}
 use Rattle.pic_push.proofs.TrackLaws.{wide_room}
@@ -27,10 +27,10 @@ own_region c =
     subst (λ (l : Spot). LiesIn c.region_of.result l c.args.own.now.flux.size e) (sym c.requires.room.low_is)
     (subst (λ (n : Triple). LiesIn c.region_of.result (spot c.args.zone.low) n e) (sym c.requires.room.size_is) (region_is c))
 
-own_open : (c : After-region_of) → IsOpenTo most_sent c.args.own.now.flux.low c.args.own.now.flux.size c.args.tile.now
+own_open : (c : After-region_of) → HasParcelsWithin most_sent c.args.own.now.flux.low c.args.own.now.flux.size c.args.tile.now
 own_open c =
-    subst (λ (l : Spot). IsOpenTo most_sent l c.args.own.now.flux.size c.args.tile.now) (sym c.requires.room.low_is)
-    (subst (λ (n : Triple). IsOpenTo most_sent (spot c.args.zone.low) n c.args.tile.now) (sym c.requires.room.size_is) c.requires.open)
+    subst (λ (l : Spot). HasParcelsWithin most_sent l c.args.own.now.flux.size c.args.tile.now) (sym c.requires.room.low_is)
+    (subst (λ (n : Triple). HasParcelsWithin most_sent (spot c.args.zone.low) n c.args.tile.now) (sym c.requires.room.size_is) c.requires.open)
 
 pub deposit_inside-requires-clause-edges : goal.deposit_inside-requires-clause-edges
 deposit_inside-requires-clause-edges c =

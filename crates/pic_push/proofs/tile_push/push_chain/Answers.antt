@@ -5,7 +5,7 @@ use Rattle.pic_num.specs.Space.{spot, triple}
 use Rattle.pic_chain.specs.Links.{particle_of}
 use Rattle.pic_grid.specs.Cells.{Grid}
 use Rattle.pic_tile.specs.Frame.{felt_in}
-use Rattle.pic_tile.specs.Layers.{corner}
+use Rattle.pic_tile.specs.Layers.{lowest_cell}
 use Rattle.pic_tile.specs.declared.parcel.Parcel.{Parcel}
 use Rattle.pic_push.proofs.PushingLaws.{Pushing, pushing_none, pushing_more, pushing_all, next_of, own_room, still_open}
 use Rattle.pic_push.proofs.tile_push.push_chain.Goals as goal
@@ -46,7 +46,7 @@ push_node-requires-clause-open c =
     let flux = c.requires.opened.own_is.flux in
     let is = c.cells.ensures.frame in
     let side : c.sub.result ≡ f.force_e.side = c.sub.ensures ∙ ap (λ (g : Grid). g.side) c.cells.ensures.value ∙ sym is.e.side in
-    let low : spot c.zone-zone.result.low ≡ corner f.map c.args.tile.now.number = c.zone-zone.ensures.low ∙ flux.low in
+    let low : spot c.zone-zone.result.low ≡ lowest_cell f.map c.args.tile.now.number = c.zone-zone.ensures.low ∙ flux.low in
     let size : triple c.zone-zone.result.size ≡ f.map.size = c.zone-zone.ensures.size ∙ flux.size in
     let least : 0 < f.force_e.side = omega (arith, side, c.side-side.ensures.least) in
     let most : f.force_e.side ≤ most_side = omega (arith, side, c.side-side.ensures.most) in
@@ -59,7 +59,7 @@ push_node-requires-clause-room c =
     let flux = c.requires.opened.own_is.flux in
     let is = c.cells.ensures.frame in
     let side : c.sub.result ≡ f.force_e.side = c.sub.ensures ∙ ap (λ (g : Grid). g.side) c.cells.ensures.value ∙ sym is.e.side in
-    let low : spot c.zone-zone.result.low ≡ corner f.map c.args.tile.now.number = c.zone-zone.ensures.low ∙ flux.low in
+    let low : spot c.zone-zone.result.low ≡ lowest_cell f.map c.args.tile.now.number = c.zone-zone.ensures.low ∙ flux.low in
     let size : triple c.zone-zone.result.size ≡ f.map.size = c.zone-zone.ensures.size ∙ flux.size in
     let least : 0 < f.force_e.side = omega (arith, side, c.side-side.ensures.least) in
     let most : f.force_e.side ≤ most_side = omega (arith, side, c.side-side.ensures.most) in

@@ -25,4 +25,4 @@ new-requires c =
     let few = c.requires.most in
     let small : tiles_in o + o.seats + 1 < 2 ^ 64 = omega (arith, tiles, most, few) in
     subst (λ (p : Opening). Rule p (opening words slots (first_view p))) (sym c.of-about.ensures)
-    (begins o words slots c.frame_is_sound.ensures c.requires.opening c.requires.some small (laid_of o words slots count zeros laid))
+    (begins o words slots c.sound.ensures c.requires.opening c.requires.some small (laid_of o words slots count zeros laid))

@@ -1,5 +1,0 @@
-use Rattle.pic_core.specs.Opened.{AreBare}
-use Rattle.pic_core.proofs.room.bare_tiles.Given as goal
-
-abbrev pub invariant-loop-number : goal.invariant-loop-number
-invariant-loop-number l = AreBare l.number l.tiles.items
