@@ -6,7 +6,7 @@ use Rattle.atomic_table.specs.declared.shared.Seat.{Seat}
 use Rattle.pic_yard.specs.declared.view.View.{View}
 use Rattle.pic_yard.specs.declared.yard.Yard.{Yard}
 use Rattle.pic_yard.specs.Contents.{Slot}
-use Rattle.pic_yard.specs.Seats.{HasEnded, HasNumber}
+use Rattle.pic_yard.specs.Seats.{IsThrough, HasNumber}
 use Rattle.pic_yard.specs.Steps.{took_in}
 use Rattle.pic_yard.specs.Yards.{Serves, view_of}
 use Rattle.pic_yard.proofs.MemberLaws.{in_left}
@@ -39,7 +39,7 @@ gathering_more yard n seats left other old new so_far is serves view =
     record {
       left = others_done yard seats left other so_far.left is;
       serves = serves;
-      ended = subst (λ (w : View). HasEnded w) (sym view) (record {
+      ended = subst (λ (w : View). IsThrough w) (sym view) (record {
         told = so_far.ended.told;
         idle = record { owes = so_far.ended.idle.owes; rights = so_far.ended.idle.rights };
       });

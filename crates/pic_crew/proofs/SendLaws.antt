@@ -10,7 +10,7 @@ use Rattle.pic_yard.specs.declared.yard.Yard.{Yard}
 use Rattle.pic_yard.specs.Claims.{ClaimValue}
 use Rattle.pic_yard.specs.Contents.{Slot, tiles_in, to_of}
 use Rattle.pic_yard.specs.Members.{In, same_pair}
-use Rattle.pic_yard.specs.Seats.{IsIdle}
+use Rattle.pic_yard.specs.Seats.{HoldsNothing}
 use Rattle.pic_yard.specs.Steps.{boxes_of, did_claim}
 use Rattle.pic_yard.specs.Yards.{IsSentBy, Serves, opening_of, view_of}
 use Rattle.pic_yard.proofs.MemberLaws.{in_left, in_parts, in_boxes, boxes_in, kept, was_in, unseen_in, pair_apart, pair_other}
@@ -18,7 +18,7 @@ use Rattle.pic_crew.specs.Posting.{HasPostedAll, HasPostedSome, OwesAll, OwesFro
 use Rattle.pic_crew.proofs.Turns.{IsSending}
 
 -- after a claim by a seat that lists nothing
-pub owes_claim : (o : Opening) (n : ℕ) (old new : View) → n < tiles_in o → IsIdle old → new ≡ did_claim (to_of o) directions n old → OwesAll o n new
+pub owes_claim : (o : Opening) (n : ℕ) (old new : View) → n < tiles_in o → HoldsNothing old → new ≡ did_claim (to_of o) directions n old → OwesAll o n new
 owes_claim o n old new below idle is =
     let owes : new.owes ≡ boxes_of (to_of o n) directions ++ [] =
     ap (λ (v : View). v.owes) is ∙ ap (λ (ps : List (ℕ × ℕ)). boxes_of (to_of o n) directions ++ ps) idle.owes in

@@ -8,7 +8,7 @@ use Rattle.pic_yard.specs.declared.view.View.{View}
 use Rattle.pic_yard.specs.declared.yard.Yard.{Yard}
 use Rattle.pic_yard.specs.Claims.{ClaimValue}
 use Rattle.pic_yard.specs.Contents.{Slot}
-use Rattle.pic_yard.specs.Seats.{HasEnded, HasNumber}
+use Rattle.pic_yard.specs.Seats.{IsThrough, HasNumber}
 use Rattle.pic_yard.specs.Yards.{IsReceived, IsSentBy, MailWaits, Serves, mail_of, opening_of, view_of}
 use Rattle.pic_crew.specs.Finishing.{IsReceivingOf}
 use Rattle.pic_crew.specs.Posting.{HasPostedSome, IsSameSeat, OwesFrom}
@@ -54,5 +54,5 @@ pub record IsGathering (yard : Yard) (n : ℕ) (others : List (Seat Slot View))
     (seat : Seat Slot View) : Type 0 where
   pub left : AreDone yard others
   pub serves : Serves yard seat
-  pub ended : HasEnded (view_of seat)
+  pub ended : IsThrough (view_of seat)
   pub numbers : (x : ℕ) → length others ≤ x → x < n → HasNumber (view_of seat) x

@@ -5,7 +5,7 @@ use Rattle.pic_yard.specs.declared.opening.Opening.{Opening}
 use Rattle.pic_yard.specs.declared.view.View.{View}
 use Rattle.pic_yard.specs.Contents.{tiles_in, to_of}
 use Rattle.pic_yard.specs.Members.{In, same_pair, without}
-use Rattle.pic_yard.specs.Seats.{IsIdle}
+use Rattle.pic_yard.specs.Seats.{HoldsNothing}
 
 -- a seat that posted the parcel (r, d), and has no right afterwards
 abbrev pub posted : ℕ → ℕ → View → View
@@ -38,4 +38,4 @@ pub record HasPostedSome (old new : View) : Type 0 where
 -- or of all: it lists nothing then
 pub record HasPostedAll (old new : View) : Type 0 where
   pub some : HasPostedSome old new
-  pub idle : IsIdle new
+  pub idle : HoldsNothing new

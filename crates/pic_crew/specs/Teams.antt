@@ -4,7 +4,7 @@ use Rattle.atomic_table.specs.declared.shared.Seat.{Seat}
 use Rattle.pic_yard.specs.declared.view.View.{View}
 use Rattle.pic_yard.specs.declared.yard.Yard.{Yard}
 use Rattle.pic_yard.specs.Contents.{Slot}
-use Rattle.pic_yard.specs.Seats.{HasEnded, IsIdle, most_seats}
+use Rattle.pic_yard.specs.Seats.{IsThrough, HoldsNothing, most_seats}
 use Rattle.pic_yard.specs.Yards.{Serves, view_of}
 use Rattle.pic_crew.specs.Posting.{IsSameSeat}
 
@@ -16,18 +16,18 @@ most_workers = most_seats
 pub record CanWork (yard : Yard) (seat : Seat Slot View) : Type 0 where
   pub serves : Serves yard seat
   pub fresh : (view_of seat).told ≡ false
-  pub idle : IsIdle (view_of seat)
+  pub idle : HoldsNothing (view_of seat)
 
 -- a seat before and after its work
 pub record HasWorked (yard : Yard) (old new : Seat Slot View) : Type 0 where
   pub serves : Serves yard new
-  pub ended : HasEnded (view_of new)
+  pub ended : IsThrough (view_of new)
   pub same : IsSameSeat (view_of old) (view_of new)
 
 -- the seat of a number, whose work is done
 pub record IsDone (yard : Yard) (number : ℕ) (seat : Seat Slot View) : Type 0 where
   pub serves : Serves yard seat
-  pub ended : HasEnded (view_of seat)
+  pub ended : IsThrough (view_of seat)
   pub number_is : (view_of seat).number ≡ number
 
 -- seats whose work is done, numbered in their order

@@ -3,7 +3,7 @@
 ghost use Rattle.std.specs.Prelude.{◌≡◌, ◌+◌, ◌<◌, ◌≤◌, ℕ, length, IfOk};
 ghost use Rattle.std.specs.List.{All, AllZip};
 ghost use Rattle.std.specs.Thread.{IsSync};
-ghost use Rattle.pic_tile.specs.CoreState.{IsOpening, particles_of};
+ghost use Rattle.pic_tile.specs.CoreState.{IsOpening, all_particles};
 ghost use Rattle.pic_tile.specs.Exchanged.{AreExchanged};
 ghost use Rattle.pic_tile.specs.Frame.{felt_in};
 ghost use Rattle.pic_grid.specs.Block.{AllAtMost};
@@ -11,7 +11,7 @@ ghost use Rattle.pic_grid.specs.Cells.{count_of};
 ghost use Rattle.pic_grid.specs.Traces.{most_flux};
 ghost use Rattle.pic_tile.specs.Directions.{here};
 ghost use Rattle.pic_tile.specs.Tile.{flux_at, tile_in};
-ghost use Rattle.pic_yard.specs.Seats.{AreNewSeats, HasAllNumbers, HasEnded};
+ghost use Rattle.pic_yard.specs.Seats.{AreNewSeats, HasAllNumbers, IsThrough};
 ghost use Rattle.pic_yard.specs.Yards.{Serves, view_of};
 ghost use Rattle.pic_crew.specs.Teams.{AreDone, CanWork, HasWorked, most_workers};
 
@@ -92,7 +92,7 @@ fn gather(yard: &Yard, mut seats: Vec<Seat>) -> Seat
     requires some { 0 < length seats.items }
     requires done { AreDone yard.now seats.items }
     ensures serves { Serves yard.now result }
-    ensures ended { HasEnded (view_of result) }
+    ensures ended { IsThrough (view_of result) }
     ensures all { HasAllNumbers (length seats.items) (view_of result) }
 {
     let Some(mut seat) = seats.pop() else {
@@ -126,7 +126,7 @@ pub fn on_board<R: Threads + Sync, G: Gate + Sync>(
     requires opening { IsOpening frame tiles.items }
     ensures frame { IfOk result (λ r. r.0 ≡ frame) }
     ensures exchanged { IfOk result (λ r. AreExchanged (felt_in frame) frame.map
-        (particles_of tiles.items) r.1.items) }
+        (all_particles tiles.items) r.1.items) }
     ensures bound { IfOk result (λ r. (t : ℕ) → t < count_of frame.map.tiles
         → AllAtMost most_flux (flux_at (tile_in r.1.items t) here)) }
 {

@@ -1,7 +1,7 @@
 //! A worker at a board.
 
 ghost use Rattle.std.specs.Prelude.{◌≡◌, false};
-ghost use Rattle.pic_yard.specs.Seats.{HasEnded, IsIdle};
+ghost use Rattle.pic_yard.specs.Seats.{IsThrough, HoldsNothing};
 ghost use Rattle.pic_yard.specs.Yards.{Serves, view_of};
 ghost use Rattle.pic_crew.specs.Posting.{IsSameSeat};
 
@@ -13,9 +13,9 @@ use pic_yard::{Seat, Yard};
 pub(crate) fn work_through<G: Gate>(yard: &Yard, seat: &mut Seat, worker: u32, gate: &G)
     requires serves { Serves yard.now seat.old }
     requires fresh { (view_of seat.old).told ≡ false }
-    requires idle { IsIdle (view_of seat.old) }
+    requires idle { HoldsNothing (view_of seat.old) }
     ensures serves { Serves yard.now seat.new }
-    ensures ended { HasEnded (view_of seat.new) }
+    ensures ended { IsThrough (view_of seat.new) }
     ensures same { IsSameSeat (view_of seat.old) (view_of seat.new) }
 {
     while let Some(mut claim) = yard.claim(seat) {
@@ -32,9 +32,9 @@ pub(crate) fn work_through<G: Gate>(yard: &Yard, seat: &mut Seat, worker: u32, g
 pub fn crew<G: Gate + Sync>(yard: &Yard, mut seat: Seat, worker: u32, gate: &G) -> Seat
     requires serves { Serves yard.now seat }
     requires fresh { (view_of seat).told ≡ false }
-    requires idle { IsIdle (view_of seat) }
+    requires idle { HoldsNothing (view_of seat) }
     ensures serves { Serves yard.now result }
-    ensures ended { HasEnded (view_of result) }
+    ensures ended { IsThrough (view_of result) }
     ensures same { IsSameSeat (view_of seat) (view_of result) }
 {
     work_through(yard, &mut seat, worker, gate);

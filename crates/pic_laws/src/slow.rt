@@ -5,7 +5,7 @@ ghost use Rattle.std.specs.Prelude.{◌≡◌, pos, ◌+◌, ◌*◌, ◌^◌, �
 ghost use Rattle.pic_num.specs.Limits.{most_cells_of_axis, most_side, most_force};
 ghost use Rattle.pic_num.specs.Sizes.{IsAtMost};
 ghost use Rattle.pic_num.specs.Space.{triple};
-ghost use Rattle.pic_grid.specs.Gather.{shifted_weight, weighted, gathered, listed};
+ghost use Rattle.pic_grid.specs.Gather.{shifted_weight, weighted, gathered, laid_out};
 ghost use Rattle.pic_grid.specs.Sums.{sum_below, sum_cells};
 ghost use Rattle.pic_grid.specs.Hat.{periodic_hat, weight};
 
@@ -93,7 +93,7 @@ pub fn slow_weight(side: u32, cells: [u32; 3], point: [u32; 3], node: [u32; 3]) 
 }
 
 // the value of a component at a cell
-#[tactic(auto, unfolding(pic_grid::specs::Gather::listed, pic_grid::specs::Cells::index_of))]
+#[tactic(auto, unfolding(pic_grid::specs::Gather::laid_out, pic_grid::specs::Cells::index_of))]
 fn listed_value(cells: [u32; 3], values: &[i128], cell: [u32; 3]) -> i128
     requires x_most { slice_index cells 0 ≤ most_cells_of_axis }
     requires y_most { slice_index cells 1 ≤ most_cells_of_axis }
@@ -101,7 +101,7 @@ fn listed_value(cells: [u32; 3], values: &[i128], cell: [u32; 3]) -> i128
     requires y_inside { slice_index cell 1 ≤ most_cells_of_axis }
     requires z_inside { slice_index cell 2 ≤ most_cells_of_axis }
     requires values_most { All (λ v. IsAtMost v most_force) values.now }
-    ensures value { result ≡ listed (triple cells) values.now (triple cell) }
+    ensures value { result ≡ laid_out (triple cells) values.now (triple cell) }
     ensures size { IsAtMost result most_force }
 {
     let index = (cell[2] * cells[1] + cell[1]) * cells[0] + cell[0];
@@ -141,7 +141,7 @@ fn place(
     requires y_inside { slice_index cell 1 ≤ most_cells_of_axis }
     requires z_inside { slice_index cell 2 ≤ most_cells_of_axis }
     ensures value { result ≡ weighted side (triple cells) (triple offset)
-        (listed (triple cells) values.now) (triple point) (triple cell) }
+        (laid_out (triple cells) values.now) (triple point) (triple cell) }
     ensures size { IsAtMost result (2 ^ 86) }
 {
     let value = listed_value(cells, values, cell);
@@ -167,7 +167,7 @@ fn row(
     requires y_inside { y ≤ most_cells_of_axis }
     requires z_inside { z ≤ most_cells_of_axis }
     ensures value { result ≡ sum_below (slice_index cells 0)
-        (λ x. weighted side (triple cells) (triple offset) (listed (triple cells) values.now)
+        (λ x. weighted side (triple cells) (triple offset) (laid_out (triple cells) values.now)
         (triple point) (record { x = x; y = y; z = z })) }
     ensures size { IsAtMost result (2 ^ 93) }
 {
@@ -196,7 +196,7 @@ fn layer(
     requires z_inside { z ≤ most_cells_of_axis }
     ensures value { result ≡ sum_below (slice_index cells 1)
         (λ y. sum_below (slice_index cells 0)
-        (λ x. weighted side (triple cells) (triple offset) (listed (triple cells) values.now)
+        (λ x. weighted side (triple cells) (triple offset) (laid_out (triple cells) values.now)
         (triple point) (record { x = x; y = y; z = z }))) }
     ensures size { IsAtMost result (2 ^ 100) }
 {
@@ -217,7 +217,7 @@ fn whole(side: u32, cells: [u32; 3], offset: [u32; 3], values: &[i128], point: [
     requires z_most { slice_index cells 2 ≤ most_cells_of_axis }
     requires values_most { All (λ v. IsAtMost v most_force) values.now }
     ensures value { result ≡ sum_cells (triple cells)
-        (λ p. weighted side (triple cells) (triple offset) (listed (triple cells) values.now)
+        (λ p. weighted side (triple cells) (triple offset) (laid_out (triple cells) values.now)
         (triple point) p) }
     ensures size { IsAtMost result (2 ^ 107) }
 {
@@ -246,7 +246,7 @@ pub fn slow_gather(
     requires z_most { slice_index cells 2 ≤ most_cells_of_axis }
     requires values_most { All (λ v. IsAtMost v most_force) values.now }
     ensures { result ≡ gathered side (triple cells) (triple offset)
-        (listed (triple cells) values.now) (triple point) }
+        (laid_out (triple cells) values.now) (triple point) }
 {
     let sum = whole(side, cells, offset, values, point);
     let side = i128::from(side);

@@ -15,7 +15,7 @@ use Rattle.pic_grid.specs.Parts.{origin, part_size, IsPart, corner_of}
 use Rattle.pic_field.specs.FieldPhases.{full_of, full_in, least_fault}
 use Rattle.pic_field.proofs.ZoneLaws.{outer_inside, edge_at-outer}
 use Rattle.pic_tile.specs.Directions.{here}
-use Rattle.pic_tile.specs.Layers.{corner}
+use Rattle.pic_tile.specs.Layers.{lowest_cell}
 use Rattle.pic_tile.specs.Tile.{TileValue, flux_at, tile_in}
 use Rattle.pic_tile.specs.Tiling.{Tiling, IsMap, cells_of, owner_of}
 use Rattle.pic_tile.proofs.TilingLaws.{owner_only}
@@ -74,7 +74,7 @@ module _ (scales : Scales) (b : Field) (m : Tiling) (n : Triple) (e : Field) (ts
     flux_low : (i : ℕ) → i < length ts → (flux_at (tile_in ts i) here).low ≡ (block_in es i).low
     flux_low i below =
         let ready = h.received.ready i (inside i below) in
-        ready.low ∙ ap (corner m) (h.received.numbered.numbers i (inside i below)) ∙ sym (zone i below).low
+        ready.low ∙ ap (lowest_cell m) (h.received.numbered.numbers i (inside i below)) ∙ sym (zone i below).low
 
     flux_size : (i : ℕ) → i < length ts → (flux_at (tile_in ts i) here).size ≡ (block_in es i).size
     flux_size i below = (h.received.ready i (inside i below)).size ∙ sym (zone i below).size

@@ -6,7 +6,7 @@ use Rattle.pic_grid.specs.Block.{inner_of, edge_at}
 use Rattle.pic_grid.specs.Cells.{count_of, place_of}
 use Rattle.pic_tile.specs.declared.parcel.Parcel.{Parcel}
 use Rattle.pic_tile.specs.Directions.{directions, here}
-use Rattle.pic_tile.specs.Layers.{corner, IsLayers}
+use Rattle.pic_tile.specs.Layers.{lowest_cell, IsLayers}
 use Rattle.pic_tile.specs.Parcels.{no_flux, IsReady, IsFresh}
 use Rattle.pic_tile.specs.Tile.{TileValue, parcel_at, chain_of, flux_of, stop_of_parcel, chain_at, flux_at, stop_at, tile_in}
 use Rattle.pic_tile.specs.Tiling.{Tiling}
@@ -23,7 +23,7 @@ fresh_spent m t u ready quiet spent =
     let r = spent.gone p own.1 in
     let n = p.flux.size in
     let low =
-    ap (λ (o : Option Parcel). (flux_of o).low) r.there ∙ sym (ap (λ (o : Option Parcel). (flux_of o).low) own.1) ∙ ready.low ∙ ap (corner m) (sym r.number) in
+    ap (λ (o : Option Parcel). (flux_of o).low) r.there ∙ sym (ap (λ (o : Option Parcel). (flux_of o).low) own.1) ∙ ready.low ∙ ap (lowest_cell m) (sym r.number) in
     let size = ap (λ (o : Option Parcel). (flux_of o).size) r.there ∙ sym (ap (λ (o : Option Parcel). (flux_of o).size) own.1) ∙ ready.size in
     record {
       ready = record {

@@ -14,7 +14,7 @@ use Rattle.pic_tile.specs.Totals.{together}
 use Rattle.pic_tile.proofs.DiscreteLaws.{particle_discrete, permutes}
 use Rattle.pic_tile.proofs.InOrderLaws.{ordered_census, same_census, ids_below, written_all}
 use Rattle.pic_tile.proofs.SameLaws.{same_sym, same_length}
-use Rattle.pic_tile.specs.CoreState.{particles_of}
+use Rattle.pic_tile.specs.CoreState.{all_particles}
 use Rattle.pic_tile.specs.Held.{chains_of}
 use Rattle.pic_tile.specs.Parcels.{AreFreshTiles}
 use Rattle.pic_tile.specs.Tiling.{Tiling, IsMap, cells_of, grid_of_tiling}
@@ -39,7 +39,7 @@ above_zero w sound = let least = sound.side_least in omega (arith, least)
 module _ (m : Tiling) (scales : Scales) (kinds : List Kind) (e b : Field) (xs : List Particle) (p : Plasma) (map : IsMap m)
     (sound : IsSound (world_of (grid_of_tiling m) scales kinds (as_one e) (as_one b) xs)) (tiled : AreTiled m e b) (of_map : p.frame.map ≡ m)
     (of_kinds : p.frame.kinds ≡ kinds) (ready : IsPlasma xs p) where
-  list_is : particles_of p.tiles.items ≡ xs
+  list_is : all_particles p.tiles.items ≡ xs
   list_is =
       let w = world_of (grid_of_tiling m) scales kinds (as_one e) (as_one b) xs in
       particles_are m xs p.tiles.items (above_zero w sound) map.thick (inside w sound) (record { identities = sound.identities })
@@ -57,7 +57,7 @@ module _ (m : Tiling) (scales : Scales) (kinds : List Kind) (e b : Field) (xs : 
 
 -- the census of the tiles of a state
 module _ (scales : Scales) (e b : Field) (p : Plasma) (map : IsMap p.frame.map) (keeps : IsKept scales e b p) where
-  same : Same (together (chains_of p.tiles.items)) (particles_of p.tiles.items)
+  same : Same (together (chains_of p.tiles.items)) (all_particles p.tiles.items)
   same =
       let w = seen scales e b p in
       let held = fresh_hold p.frame.map w.particles p.tiles.items (above_zero w keeps.sound) map.thick (inside w keeps.sound) keeps.plasma.tiles in
@@ -65,25 +65,25 @@ module _ (scales : Scales) (e b : Field) (p : Plasma) (map : IsMap p.frame.map) 
 
   census : IsCensus (together (chains_of p.tiles.items))
   census =
-      let xs = particles_of p.tiles.items in
+      let xs = all_particles p.tiles.items in
       let all = together (chains_of p.tiles.items) in
       same_census xs all (same_sym all xs same) (ordered_census xs (record { identities = keeps.sound.identities }))
 
   -- so they can be written into a list of as many, and make the list of the state
-  pub can_write : (n : ℕ) → n ≡ length (particles_of p.tiles.items) → All (λ x. x.id < n) (together (chains_of p.tiles.items))
+  pub can_write : (n : ℕ) → n ≡ length (all_particles p.tiles.items) → All (λ x. x.id < n) (together (chains_of p.tiles.items))
   can_write n is =
       let all = together (chains_of p.tiles.items) in
-      subst (λ (k : ℕ). All (λ x. x.id < k) all) (same_length all (particles_of p.tiles.items) same ∙ sym is) (ids_below all census)
+      subst (λ (k : ℕ). All (λ x. x.id < k) all) (same_length all (all_particles p.tiles.items) same ∙ sym is) (ids_below all census)
 
-  pub written_is : (to : List Particle) → length to ≡ length (particles_of p.tiles.items) → written (together (chains_of p.tiles.items)) to ≡ particles_of p.tiles.items
+  pub written_is : (to : List Particle) → length to ≡ length (all_particles p.tiles.items) → written (together (chains_of p.tiles.items)) to ≡ all_particles p.tiles.items
   written_is to long =
       let all = together (chains_of p.tiles.items) in
-      written_all all to census (long ∙ sym (same_length all (particles_of p.tiles.items) same))
+      written_all all to census (long ∙ sym (same_length all (all_particles p.tiles.items) same))
 
   -- and each particle is in one of them
   pub tiled : AreTilesOf (seen scales e b p) p.frame.map p.tiles.items
   tiled =
-      let xs = particles_of p.tiles.items in
+      let xs = all_particles p.tiles.items in
       let all = together (chains_of p.tiles.items) in
       record { side = refl; cells = refl; own = keeps.plasma.tiles; once = permutes particle_discrete xs all (same_sym all xs same) }
 
@@ -107,6 +107,6 @@ can_push scales e b c p keeps safe =
 
 -- the state of the parts that a step leaves
 pub next_is : (scales : Scales) (e b e' b' : Field) (p q : Plasma) → q.frame.map ≡ p.frame.map → q.frame.kinds ≡ p.frame.kinds
-    → record (seen scales e b p) { e = as_one e'; b = as_one b'; particles = particles_of q.tiles.items } ≡ seen scales e' b' q
+    → record (seen scales e b p) { e = as_one e'; b = as_one b'; particles = all_particles q.tiles.items } ≡ seen scales e' b' q
 next_is scales e b e' b' p q map kinds =
-    λ i. world_of (grid_of_tiling (sym map i)) scales (sym kinds i) (as_one e') (as_one b') (particles_of q.tiles.items)
+    λ i. world_of (grid_of_tiling (sym map i)) scales (sym kinds i) (as_one e') (as_one b') (all_particles q.tiles.items)

@@ -12,7 +12,7 @@ use Rattle.pic_tile.specs.StandFor.{owned, StandFor}
 use Rattle.pic_tile.specs.Totals.{together}
 use Rattle.pic_tile.proofs.InOrderLaws.{in_order_is}
 use Rattle.pic_tile.proofs.StandForLaws.{stands_together}
-use Rattle.pic_tile.specs.CoreState.{particles_of}
+use Rattle.pic_tile.specs.CoreState.{all_particles}
 use Rattle.pic_tile.specs.Directions.{here}
 use Rattle.pic_tile.specs.Held.{chains_of}
 use Rattle.pic_tile.specs.Owners.{tile_of}
@@ -21,7 +21,7 @@ use Rattle.pic_tile.specs.Tile.{TileValue, chain_at, tile_in}
 use Rattle.pic_tile.specs.Tiling.{Tiling, cells_of}
 use Rattle.pic_tile.proofs.HeldLaws.{chain_in}
 use Rattle.pic_tile.proofs.LeavingLaws.{tile_below}
-use Rattle.pic_core.specs.Opened.{IsRoom}
+use Rattle.pic_core.specs.AtStart.{IsScratch}
 use Rattle.pic_step.specs.declared.plasma.Plasma.{Plasma}
 use Rattle.pic_phase.specs.Spent.{AreSpent}
 use Rattle.pic_step.specs.Plasma.{HasFlux, IsPlasma}
@@ -29,7 +29,7 @@ use Rattle.pic_step.specs.Plasma.{HasFlux, IsPlasma}
 -- tiles, each of which has its own of a list, have the list
 pub list_is : (m : Tiling) (xs : List Particle) (ts : List TileValue) → 0 < m.side → HasTwo m.size
     → All (λ x. IsInBox m.side (cells_of m) (triple x.x)) xs → AreOrdered xs → length ts ≡ count_of m.tiles
-    → ((r : ℕ) → r < count_of m.tiles → Same (chain_at (tile_in ts r) here) (owned (tile_of m) r xs)) → particles_of ts ≡ xs
+    → ((r : ℕ) → r < count_of m.tiles → Same (chain_at (tile_in ts r) here) (owned (tile_of m) r xs)) → all_particles ts ≡ xs
 list_is m xs ts some thick inside ordered count each =
     let long : length (chains_of ts) ≡ count_of m.tiles = length-map ts (λ (t : TileValue). chain_at t here) ∙ count in
     let stand : StandFor (tile_of m) (chains_of ts) xs = record {
@@ -43,13 +43,13 @@ list_is m xs ts some thick inside ordered count each =
 
 -- fresh tiles have the list that is cut into them
 pub particles_are : (m : Tiling) (xs : List Particle) (ts : List TileValue) → 0 < m.side → HasTwo m.size
-    → All (λ x. IsInBox m.side (cells_of m) (triple x.x)) xs → AreOrdered xs → AreFreshTiles m xs ts → particles_of ts ≡ xs
+    → All (λ x. IsInBox m.side (cells_of m) (triple x.x)) xs → AreOrdered xs → AreFreshTiles m xs ts → all_particles ts ≡ xs
 particles_are m xs ts some thick inside ordered fresh =
     list_is m xs ts some thick inside ordered fresh.count (λ r below.
     subst (λ (k : ℕ). Same (chain_at (tile_in ts r) here) (owned (tile_of m) k xs)) (fresh.numbers r below) (fresh.stand r below))
 
 -- tiles that are left without their flux have their particles as before,
-pub particles_kept : (m : Tiling) (us vs : List TileValue) → length us ≡ count_of m.tiles → AreSpent m us vs → particles_of vs ≡ particles_of us
+pub particles_kept : (m : Tiling) (us vs : List TileValue) → length us ≡ count_of m.tiles → AreSpent m us vs → all_particles vs ≡ all_particles us
 particles_kept m us vs count h =
     let long_us : length (chains_of us) ≡ count_of m.tiles = length-map us (λ (t : TileValue). chain_at t here) ∙ count in
     let long_vs : length (chains_of vs) ≡ count_of m.tiles = length-map vs (λ (t : TileValue). chain_at t here) ∙ h.numbered.count in
@@ -62,22 +62,22 @@ particles_kept m us vs count h =
 
 -- and are ready for the next push
 pub ready_again : (p q : Plasma) → HasFlux p → q.frame ≡ p.frame → q.room ≡ p.room → q.count ≡ p.count → AreSpent p.frame.map p.tiles.items q.tiles.items
-    → IsPlasma (particles_of p.tiles.items) q
-ready_again p q flux frame room count h = subst (λ f. IsPlasma (particles_of p.tiles.items) (record q { frame = f })) (sym frame) (record {
+    → IsPlasma (all_particles p.tiles.items) q
+ready_again p q flux frame room count h = subst (λ f. IsPlasma (all_particles p.tiles.items) (record q { frame = f })) (sym frame) (record {
   tiles = record {
     count = h.numbered.count;
     numbers = h.numbered.numbers;
     fresh = h.fresh;
     stand = λ r below.
         let m = p.frame.map in
-        let xs = particles_of p.tiles.items in
+        let xs = all_particles p.tiles.items in
         let us = p.tiles.items in
         let vs = q.tiles.items in
         let number = flux.received.numbered.numbers r below ∙ sym (h.numbered.numbers r below) in
         subst (λ (c : List Particle). Same c (owned (tile_of m) (tile_in vs r).number xs)) (sym (h.chains r below))
         (subst (λ (k : ℕ). Same (chain_at (tile_in us r) here) (owned (tile_of m) k xs)) number (flux.stand r below));
   };
-  room = subst (λ o. IsRoom p.frame.map o) (sym room) flux.room;
+  room = subst (λ o. IsScratch p.frame.map o) (sym room) flux.room;
   parts = flux.parts;
   count = count ∙ flux.count;
 })

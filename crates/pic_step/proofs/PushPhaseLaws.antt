@@ -16,12 +16,12 @@ use Rattle.pic_num.specs.Space.{Triple}
 use Rattle.pic_grid.specs.PushPhase.{Surroundings, CanShare}
 use Rattle.pic_grid.proofs.LatticeLaws.{value_at-field_of}
 use Rattle.pic_tile.specs.InOrder.{AreOrdered}
-use Rattle.pic_tile.specs.CoreState.{particles_of, IsOpening}
+use Rattle.pic_tile.specs.CoreState.{all_particles, IsOpening}
 use Rattle.pic_tile.specs.Frame.{FrameValue, IsForceField, felt_in}
 use Rattle.pic_tile.specs.Parcels.{AreFreshTiles}
 use Rattle.pic_tile.specs.Tile.{TileValue}
 use Rattle.pic_tile.specs.Tiling.{Tiling, cells_of, grid_of_tiling}
-use Rattle.pic_core.specs.Opened.{IsRoom}
+use Rattle.pic_core.specs.AtStart.{IsScratch}
 use Rattle.pic_step.specs.declared.plasma.Plasma.{Plasma}
 use Rattle.pic_step.specs.Kept.{as_one}
 use Rattle.pic_step.specs.Plasma.{IsPlasma}
@@ -60,13 +60,13 @@ with_forces_of m kinds scales e b = record {
 -- tiles can be pushed in a frame as in one of the same map and kinds
 pub opening_moves : (f g : FrameValue) (ts us : List TileValue) → g.map ≡ f.map → g.kinds ≡ f.kinds → us ≡ ts → IsOpening f ts → IsOpening g us
 opening_moves f g ts us map kinds same open' = record {
-  fresh = subst (λ (xs : List TileValue). AreFreshTiles g.map (particles_of xs) xs) (sym same)
-      (subst (λ (m : Tiling). AreFreshTiles m (particles_of ts) ts) (sym map) open'.fresh);
-  ordered = subst (λ (xs : List TileValue). AreOrdered (particles_of xs)) (sym same) open'.ordered;
-  can = subst (λ (xs : List TileValue). All (CanShare g.map.side (cells_of g.map) g.kinds) (particles_of xs)) (sym same)
-      (subst (λ (ks : List Kind). All (CanShare g.map.side (cells_of g.map) ks) (particles_of ts)) (sym kinds)
-      (subst (λ (m : Tiling). All (CanShare m.side (cells_of m) f.kinds) (particles_of ts)) (sym map) open'.can));
-  few = subst (λ (xs : List TileValue). length (particles_of xs) ≤ most_particles) (sym same) open'.few;
+  fresh = subst (λ (xs : List TileValue). AreFreshTiles g.map (all_particles xs) xs) (sym same)
+      (subst (λ (m : Tiling). AreFreshTiles m (all_particles ts) ts) (sym map) open'.fresh);
+  ordered = subst (λ (xs : List TileValue). AreOrdered (all_particles xs)) (sym same) open'.ordered;
+  can = subst (λ (xs : List TileValue). All (CanShare g.map.side (cells_of g.map) g.kinds) (all_particles xs)) (sym same)
+      (subst (λ (ks : List Kind). All (CanShare g.map.side (cells_of g.map) ks) (all_particles ts)) (sym kinds)
+      (subst (λ (m : Tiling). All (CanShare m.side (cells_of m) f.kinds) (all_particles ts)) (sym map) open'.can));
+  few = subst (λ (xs : List TileValue). length (all_particles xs) ≤ most_particles) (sym same) open'.few;
 }
 
 -- pushed in that frame, they are pushed by the fields
@@ -76,7 +76,7 @@ pub pushed_by_fields : (p q : Plasma) (scales : Scales) (e b : Field) (f : Frame
 pushed_by_fields p q scales e b f stop safe is h =
     let m = p.frame.map in
     let kinds = p.frame.kinds in
-    let xs = particles_of p.tiles.items in
+    let xs = all_particles p.tiles.items in
     let us = q.tiles.items in
     let of_e : Axis → Triple → ℤ = force_of scales.e_force (value_at e) in
     let of_b : Axis → Triple → ℤ = force_of scales.b_force (value_at b) in
@@ -98,7 +98,7 @@ pub ready_moves : (p : Plasma) (f : FrameValue) (xs : List Particle) → f.map �
     → IsPlasma xs (record p { frame = f })
 ready_moves p f xs map parts ready = record {
   tiles = subst (λ (m : Tiling). AreFreshTiles m xs p.tiles.items) (sym map) ready.tiles;
-  room = subst (λ (m : Tiling). IsRoom m p.room) (sym map) ready.room;
+  room = subst (λ (m : Tiling). IsScratch m p.room) (sym map) ready.room;
   parts = parts ∙ ap (λ (m : Tiling). layered (cells_of m)) (sym map);
   count = ready.count;
 }

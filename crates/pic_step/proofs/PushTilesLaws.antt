@@ -20,17 +20,17 @@ use Rattle.pic_tile.specs.InOrder.{AreOrdered}
 use Rattle.pic_tile.specs.Same.{Same}
 use Rattle.pic_tile.specs.StandFor.{owned}
 use Rattle.pic_push.proofs.PushLaws.{ids_kept, length-moved_all, share_kept}
-use Rattle.pic_tile.specs.CoreState.{particles_of, IsOpening}
+use Rattle.pic_tile.specs.CoreState.{all_particles, IsOpening}
 use Rattle.pic_tile.specs.Directions.{here}
 use Rattle.pic_tile.specs.Exchanged.{least_stop, AreExchanged}
-use Rattle.pic_tile.specs.Frame.{FrameValue, IsFrame, felt_in}
-use Rattle.pic_tile.specs.Layers.{corner}
+use Rattle.pic_tile.specs.Frame.{FrameValue, IsPushFrame, felt_in}
+use Rattle.pic_tile.specs.Layers.{lowest_cell}
 use Rattle.pic_tile.specs.Owners.{tile_of}
 use Rattle.pic_tile.specs.Parcels.{StandsFor}
 use Rattle.pic_tile.specs.Tile.{TileValue, chain_at, flux_at, tile_in}
 use Rattle.pic_tile.specs.Tiling.{Tiling, IsMap, IsInTile, cells_of, owner_of}
 use Rattle.pic_tile.proofs.TilingLaws.{owner_below, owner_has}
-use Rattle.pic_core.specs.Opened.{IsRoom}
+use Rattle.pic_core.specs.AtStart.{IsScratch}
 use Rattle.pic_step.specs.declared.plasma.Plasma.{Plasma}
 use Rattle.pic_phase.specs.Spent.{HaveReceived, flux_in}
 use Rattle.pic_step.specs.Exchange.{HasExchanged}
@@ -54,7 +54,7 @@ pub record AreMoved (m : Tiling) (ys : List Particle) : Type 0 where
   pub inside : All (λ x. IsInBox m.side (cells_of m) (triple x.x)) ys
   pub ordered : AreOrdered ys
 
-pub are_moved : (f : FrameValue) (xs : List Particle) → IsFrame f → IsMap f.map → 0 < f.map.side → AreOrdered xs
+pub are_moved : (f : FrameValue) (xs : List Particle) → IsPushFrame f → IsMap f.map → 0 < f.map.side → AreOrdered xs
     → All (CanShare f.map.side (cells_of f.map) f.kinds) xs → AreMoved f.map (moved_all (felt_in f) xs)
 are_moved f xs frame map some ordered can =
     let w = felt_in f in
@@ -81,17 +81,17 @@ module _ (w : Surroundings) (m : Tiling) (xs : List Particle) (us : List TileVal
       let inside : IsInTile m r p = owner_has m p map within in
       let received = x.each r below in
       let b = flux_at (tile_in us r) here in
-      let low : b.low ≡ corner m r = received.ready.low ∙ ap (corner m) received.number in
-      let q = inner_of (corner m r) (unwrapped p) in
-      let within_q : IsWithin q m.size = inner_within (corner m r) m.size (unwrapped p) inside in
-      let back_x : unsigned_abs (corner m r).x + unsigned_abs (pos p.x -ℤ (corner m r).x) ≡ p.x = omega (arith, ints, inside.x_low) in
-      let back_y : unsigned_abs (corner m r).y + unsigned_abs (pos p.y -ℤ (corner m r).y) ≡ p.y = omega (arith, ints, inside.y_low) in
-      let back_z : unsigned_abs (corner m r).z + unsigned_abs (pos p.z -ℤ (corner m r).z) ≡ p.z = omega (arith, ints, inside.z_low) in
-      let back : outer_of (corner m r) q ≡ p = (λ i. record { x = back_x i; y = back_y i; z = back_z i }) in
+      let low : b.low ≡ lowest_cell m r = received.ready.low ∙ ap (lowest_cell m) received.number in
+      let q = inner_of (lowest_cell m r) (unwrapped p) in
+      let within_q : IsWithin q m.size = inner_within (lowest_cell m r) m.size (unwrapped p) inside in
+      let back_x : unsigned_abs (lowest_cell m r).x + unsigned_abs (pos p.x -ℤ (lowest_cell m r).x) ≡ p.x = omega (arith, ints, inside.x_low) in
+      let back_y : unsigned_abs (lowest_cell m r).y + unsigned_abs (pos p.y -ℤ (lowest_cell m r).y) ≡ p.y = omega (arith, ints, inside.y_low) in
+      let back_z : unsigned_abs (lowest_cell m r).z + unsigned_abs (pos p.z -ℤ (lowest_cell m r).z) ≡ p.z = omega (arith, ints, inside.z_low) in
+      let back : outer_of (lowest_cell m r) q ≡ p = (λ i. record { x = back_x i; y = back_y i; z = back_z i }) in
       ap (λ (l : Spot). inner_at b a (inner_of l (unwrapped p))) low ∙ received.flux a q within_q ∙ ap (current w xs a) back
 
 -- all together
-pub are_pushed : (f : FrameValue) (xs : List Particle) (us : List TileValue) (stop : Option Stop) → IsFrame f → IsMap f.map → 0 < f.map.side
+pub are_pushed : (f : FrameValue) (xs : List Particle) (us : List TileValue) (stop : Option Stop) → IsPushFrame f → IsMap f.map → 0 < f.map.side
     → AreOrdered xs → All (CanShare f.map.side (cells_of f.map) f.kinds) xs → AreExchanged (felt_in f) f.map xs us → stop ≡ least_stop us
     → ArePushed (felt_in f) f.map xs us stop
 are_pushed f xs us stop frame map some ordered can x stopped =
@@ -105,17 +105,17 @@ are_pushed f xs us stop frame map some ordered can x stopped =
     }
 
 -- the tiles stand for the particles as they are pushed
-stand_for : (w : Surroundings) (m : Tiling) (xs : List Particle) (us : List TileValue) → AreExchanged w m xs us → particles_of us ≡ moved_all w xs
-    → (r : ℕ) → r < count_of m.tiles → StandsFor m (particles_of us) (tile_in us r)
+stand_for : (w : Surroundings) (m : Tiling) (xs : List Particle) (us : List TileValue) → AreExchanged w m xs us → all_particles us ≡ moved_all w xs
+    → (r : ℕ) → r < count_of m.tiles → StandsFor m (all_particles us) (tile_in us r)
 stand_for w m xs us x is r below =
     subst (λ (ys : List Particle). Same (chain_at (tile_in us r) here) (owned (tile_of m) (tile_in us r).number ys)) (sym is)
     (subst (λ (k : ℕ). Same (chain_at (tile_in us r) here) (owned (tile_of m) k (moved_all w xs))) (sym (x.each r below).number) (x.each r below).chain)
 
-pub has_pushed : (p q : Plasma) (stop : Option Stop) → HasExchanged p q → IsFrame q.frame → IsMap q.frame.map → 0 < p.frame.map.side
-    → IsOpening p.frame p.tiles.items → IsPlasma (particles_of p.tiles.items) p → stop ≡ least_stop q.tiles.items
+pub has_pushed : (p q : Plasma) (stop : Option Stop) → HasExchanged p q → IsPushFrame q.frame → IsMap q.frame.map → 0 < p.frame.map.side
+    → IsOpening p.frame p.tiles.items → IsPlasma (all_particles p.tiles.items) p → stop ≡ least_stop q.tiles.items
     → HasPushed (felt_in p.frame) p q stop
 has_pushed p q stop h frame map some opening ready stopped =
-    let xs = particles_of p.tiles.items in
+    let xs = all_particles p.tiles.items in
     let us = q.tiles.items in
     let f = q.frame in
     let back = sym h.frame in
@@ -131,7 +131,7 @@ has_pushed p q stop h frame map some opening ready stopped =
       flux = record {
         received = have_received (felt_in f) f.map xs us x small;
         stand = stand_for (felt_in f) f.map xs us x pushed.particles;
-        room = subst (λ (g : FrameValue). IsRoom g.map q.room) back h.room;
+        room = subst (λ (g : FrameValue). IsScratch g.map q.room) back h.room;
         parts = subst (λ (g : FrameValue). g.force_e.parts ≡ layered (cells_of g.map)) back ready.parts;
         count = h.count ∙ ready.count ∙ sym (ap length pushed.particles ∙ length-moved_all (felt_in f) xs);
       };

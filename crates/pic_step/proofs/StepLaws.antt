@@ -13,7 +13,7 @@ use Rattle.pic_grid.specs.PushPhase.{Surroundings, push_stop}
 use Rattle.pic_step.proofs.OnePartLaws.{above_origin, field_same}
 use Rattle.pic_field.specs.FieldPhases.{half_of, full_of, least_fault}
 use Rattle.pic_field.proofs.CalmLaws.{least_fault-same}
-use Rattle.pic_tile.specs.CoreState.{particles_of}
+use Rattle.pic_tile.specs.CoreState.{all_particles}
 use Rattle.pic_tile.specs.Tile.{TileValue}
 use Rattle.pic_tile.specs.Tiling.{Tiling}
 use Rattle.pic_phase.specs.Spent.{flux_in}
@@ -125,7 +125,7 @@ pub record IsAfter (w : World) (e b : Field) (particles : List Particle) : Type 
   pub is : record w { e = e; b = b; particles = particles } ≡ next_world w
 
 pub is_after : (w : World) (b c e : Field) (m : Tiling) (tiles : List TileValue) (particles : List Particle) → IsSound w → IsHalf w b
-    → ArePushed (around (half_on w)) m w.particles tiles None → IsBefore w c → particles ≡ particles_of tiles
+    → ArePushed (around (half_on w)) m w.particles tiles None → IsBefore w c → particles ≡ all_particles tiles
     → e ≡ field_of c.side c.cells one_part (by_flux w c (flux_in m tiles))
     → least_fault Electric w.scales.e_force origin c.cells (by_flux w c (flux_in m tiles)) ≡ None
     → IsAfter w e c particles

@@ -12,9 +12,9 @@ use Rattle.pic_grid.specs.Cells.{IsWithin, count_of}
 use Rattle.pic_grid.specs.Current.{current}
 use Rattle.pic_grid.specs.PushPhase.{Surroundings, moved_all, push_stop}
 use Rattle.pic_grid.specs.Sums.{sum_over}
-use Rattle.pic_tile.specs.CoreState.{particles_of}
+use Rattle.pic_tile.specs.CoreState.{all_particles}
 use Rattle.pic_tile.specs.Directions.{here}
-use Rattle.pic_tile.specs.Layers.{corner}
+use Rattle.pic_tile.specs.Layers.{lowest_cell}
 use Rattle.pic_tile.specs.Parcels.{AreFreshTiles}
 use Rattle.pic_tile.specs.Tile.{TileValue, flux_at, tile_in}
 use Rattle.pic_tile.specs.Tiling.{Tiling, IsMap, IsInTile, cells_of, owner_of}
@@ -49,7 +49,7 @@ module _ (m : Tiling) (xs : List Particle) (us : List TileValue) (tiles : AreFre
       let below = owner_below m p map.thick within in
       let inside : IsInTile m r p = owner_has m p map within in
       let fresh = tiles.fresh r below in
-      let low : (flux_at (tile_in us r) here).low ≡ corner m r = fresh.ready.low ∙ ap (corner m) (tiles.numbers r below) in
+      let low : (flux_at (tile_in us r) here).low ≡ lowest_cell m r = fresh.ready.low ∙ ap (lowest_cell m) (tiles.numbers r below) in
       let size = fresh.ready.size in
       fresh.empty.values a (unwrapped p)
       (subst (λ (n : Triple). InZone (flux_at (tile_in us r) here).low n (unwrapped p)) (sym size)
@@ -62,12 +62,12 @@ module _ (m : Tiling) (xs : List Particle) (us : List TileValue) (tiles : AreFre
         subst (λ (v : ℤ). IsAtMost v most_value) (sym ((tiles.fresh r below).empty.values a c in_zone)) zero;
   }
 
-pub none_pushed : (w : Surroundings) (p : Plasma) → IsMap p.frame.map → w.cells ≡ cells_of p.frame.map → IsPlasma (particles_of p.tiles.items) p
+pub none_pushed : (w : Surroundings) (p : Plasma) → IsMap p.frame.map → w.cells ≡ cells_of p.frame.map → IsPlasma (all_particles p.tiles.items) p
     → p.count ≡ 0 → HasPushed w p p None
 none_pushed w p map cells ready none =
     let m = p.frame.map in
     let us = p.tiles.items in
-    let empty : particles_of us ≡ [] = nobody (particles_of us) (sym ready.count ∙ none) in
+    let empty : all_particles us ≡ [] = nobody (all_particles us) (sym ready.count ∙ none) in
     record {
       map = refl;
       kinds = refl;
@@ -76,7 +76,7 @@ none_pushed w p map cells ready none =
           numbered = record { count = ready.tiles.count; numbers = ready.tiles.numbers };
           ready = λ r below. (ready.tiles.fresh r below).ready;
           quiet = λ r d below few apart. (ready.tiles.fresh r below).quiet d few;
-          small = λ r below. flux_small m (particles_of us) us ready.tiles r below;
+          small = λ r below. flux_small m (all_particles us) us ready.tiles r below;
         };
         stand = ready.tiles.stand;
         room = ready.room;
@@ -87,7 +87,7 @@ none_pushed w p map cells ready none =
         particles = empty ∙ sym (none_moved w) ∙ sym (ap (moved_all w) empty);
         stop_is = sym (none_stops w) ∙ sym (ap (push_stop w) empty);
         current_is = λ a q within.
-            no_flux_is m (particles_of us) us ready.tiles map a q (subst (IsWithin q) cells within)
+            no_flux_is m (all_particles us) us ready.tiles map a q (subst (IsWithin q) cells within)
             ∙ sym (no_current w a q)
             ∙ sym (ap (λ (xs : List Particle). current w xs a q) empty);
       };

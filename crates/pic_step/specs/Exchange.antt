@@ -4,23 +4,23 @@ use Rattle.pic_num.specs.declared.no_memory.NoMemory.{NoMemory}
 use Rattle.pic_num.specs.Limits.{most_value}
 use Rattle.pic_grid.specs.Block.{AllAtMost}
 use Rattle.pic_grid.specs.Cells.{count_of}
-use Rattle.pic_tile.specs.CoreState.{particles_of}
+use Rattle.pic_tile.specs.CoreState.{all_particles}
 use Rattle.pic_tile.specs.Directions.{here}
 use Rattle.pic_tile.specs.Exchanged.{AreExchanged}
 use Rattle.pic_tile.specs.Frame.{felt_in}
 use Rattle.pic_tile.specs.Tile.{flux_at, tile_in}
-use Rattle.pic_core.specs.Opened.{IsRoom}
+use Rattle.pic_core.specs.AtStart.{IsScratch}
 use Rattle.pic_step.specs.declared.plasma.Plasma.{Plasma}
 
 -- before and after: each tile has received all that leads to it, and its flux is within the limits;
 -- the room is ready for the next push, and nothing else is changed
 pub record HasExchanged (old new : Plasma) : Type 0 where
   pub frame : new.frame ≡ old.frame
-  pub tiles : AreExchanged (felt_in old.frame) old.frame.map (particles_of old.tiles.items)
+  pub tiles : AreExchanged (felt_in old.frame) old.frame.map (all_particles old.tiles.items)
       new.tiles.items
   pub small : (r : ℕ) → r < count_of old.frame.map.tiles
       → AllAtMost most_value (flux_at (tile_in new.tiles.items r) here)
-  pub room : IsRoom old.frame.map new.room
+  pub room : IsScratch old.frame.map new.room
   pub count : new.count ≡ old.count
 
 -- what so many workers answer: want of memory more than one alone

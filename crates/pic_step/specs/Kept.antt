@@ -3,7 +3,7 @@ use Rattle.std.specs.Prelude.{◌≡◌}
 use Rattle.pic_num.specs.declared.mult.Scales.{Scales}
 use Rattle.pic_grid.specs.Lattice.{Field}
 use Rattle.pic_grid.specs.Parts.{one_part}
-use Rattle.pic_tile.specs.CoreState.{particles_of}
+use Rattle.pic_tile.specs.CoreState.{all_particles}
 use Rattle.pic_tile.specs.Tiling.{Tiling, grid_of_tiling}
 use Rattle.pic_step.specs.declared.plasma.Plasma.{Plasma}
 use Rattle.pic_step.specs.Plasma.{IsPlasma}
@@ -24,10 +24,10 @@ pub record AreTiled (m : Tiling) (e b : Field) : Type 0 where
 abbrev pub seen : Scales → Field → Field → Plasma → World
 seen scales e b p =
     world_of (grid_of_tiling p.frame.map) scales p.frame.kinds (as_one e) (as_one b)
-    (particles_of p.tiles.items)
+    (all_particles p.tiles.items)
 
 -- it is sound, its fields lie in the tiles, and its particles are ready for their push
 pub record IsKept (scales : Scales) (e b : Field) (p : Plasma) : Type 0 where
   pub sound : IsSound (seen scales e b p)
   pub tiled : AreTiled p.frame.map e b
-  pub plasma : IsPlasma (particles_of p.tiles.items) p
+  pub plasma : IsPlasma (all_particles p.tiles.items) p

@@ -3,11 +3,11 @@ use Rattle.std.specs.Prelude.{◌≡◌, ℕ, ◌<◌, List, length}
 use Rattle.pic_num.specs.declared.motion.Particle.{Particle}
 use Rattle.pic_grid.specs.Cells.{count_of}
 use Rattle.pic_grid.specs.Parts.{layered}
-use Rattle.pic_tile.specs.CoreState.{particles_of}
+use Rattle.pic_tile.specs.CoreState.{all_particles}
 use Rattle.pic_tile.specs.Parcels.{AreFreshTiles, StandsFor}
 use Rattle.pic_tile.specs.Tile.{tile_in}
 use Rattle.pic_tile.specs.Tiling.{cells_of}
-use Rattle.pic_core.specs.Opened.{IsRoom}
+use Rattle.pic_core.specs.AtStart.{IsScratch}
 use Rattle.pic_step.specs.declared.plasma.Plasma.{Plasma}
 use Rattle.pic_phase.specs.Spent.{HaveReceived}
 
@@ -15,7 +15,7 @@ use Rattle.pic_phase.specs.Spent.{HaveReceived}
 -- what they will receive, and lattices with a part for each layer of z for the force values
 pub record IsPlasma (particles : List Particle) (p : Plasma) : Type 0 where
   pub tiles : AreFreshTiles p.frame.map particles p.tiles.items
-  pub room : IsRoom p.frame.map p.room
+  pub room : IsScratch p.frame.map p.room
   pub parts : p.frame.force_e.parts ≡ layered (cells_of p.frame.map)
   pub count : p.count ≡ length particles
 
@@ -23,7 +23,7 @@ pub record IsPlasma (particles : List Particle) (p : Plasma) : Type 0 where
 pub record HasFlux (p : Plasma) : Type 0 where
   pub received : HaveReceived p.frame.map p.tiles.items
   pub stand : (r : ℕ) → r < count_of p.frame.map.tiles
-      → StandsFor p.frame.map (particles_of p.tiles.items) (tile_in p.tiles.items r)
-  pub room : IsRoom p.frame.map p.room
+      → StandsFor p.frame.map (all_particles p.tiles.items) (tile_in p.tiles.items r)
+  pub room : IsScratch p.frame.map p.room
   pub parts : p.frame.force_e.parts ≡ layered (cells_of p.frame.map)
-  pub count : p.count ≡ length (particles_of p.tiles.items)
+  pub count : p.count ≡ length (all_particles p.tiles.items)

@@ -11,7 +11,7 @@ use Rattle.pic_grid.specs.Current.{current}
 use Rattle.pic_grid.specs.Lattice.{Field, value_at}
 use Rattle.pic_grid.specs.Gather.{force_of}
 use Rattle.pic_grid.specs.PushPhase.{Surroundings, moved_all, push_stop}
-use Rattle.pic_tile.specs.CoreState.{particles_of, IsOpening}
+use Rattle.pic_tile.specs.CoreState.{all_particles, IsOpening}
 use Rattle.pic_tile.specs.Tile.{TileValue}
 use Rattle.pic_tile.specs.Tiling.{Tiling, cells_of}
 use Rattle.pic_step.specs.declared.plasma.Plasma.{Plasma}
@@ -36,13 +36,13 @@ pub record CanPush (scales : Scales) (e b : Field) (p : Plasma) : Type 0 where
   pub side : 0 < p.frame.map.side
   pub safe_e : IsSafe p.frame.map.side (cells_of p.frame.map) scales.e_force (as_one e)
   pub safe_b : IsSafe p.frame.map.side (cells_of p.frame.map) scales.b_force (as_one b)
-  pub plasma : IsPlasma (particles_of p.tiles.items) p
+  pub plasma : IsPlasma (all_particles p.tiles.items) p
   pub opening : IsOpening p.frame p.tiles.items
 
 -- the particles are pushed, their stop is known, and the flux of their tiles is the current
 pub record ArePushed (w : Surroundings) (m : Tiling) (old : List Particle) (tiles : List TileValue)
     (stop : Option Stop) : Type 0 where
-  pub particles : particles_of tiles ≡ moved_all w old
+  pub particles : all_particles tiles ≡ moved_all w old
   pub stop_is : stop ≡ push_stop w old
   pub current_is : (a : Axis) (p : Triple) → IsWithin p w.cells
       → flux_in m tiles a p ≡ current w old a p
@@ -52,4 +52,4 @@ pub record HasPushed (w : Surroundings) (old new : Plasma) (stop : Option Stop) 
   pub map : new.frame.map ≡ old.frame.map
   pub kinds : new.frame.kinds ≡ old.frame.kinds
   pub flux : HasFlux new
-  pub pushed : ArePushed w new.frame.map (particles_of old.tiles.items) new.tiles.items stop
+  pub pushed : ArePushed w new.frame.map (all_particles old.tiles.items) new.tiles.items stop

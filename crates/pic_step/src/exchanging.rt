@@ -3,7 +3,7 @@
 ghost use Rattle.std.specs.Prelude.{◌<◌, ◌≤◌, IfOk};
 ghost use Rattle.pic_crew.specs.Teams.{most_workers};
 ghost use Rattle.pic_tile.specs.CoreState.{IsOpening};
-ghost use Rattle.pic_core.specs.Opened.{IsRoom};
+ghost use Rattle.pic_core.specs.AtStart.{IsScratch};
 ghost use Rattle.pic_step.specs.Exchange.{HasExchanged, Exchanges};
 
 use crate::plasma::Plasma;
@@ -30,7 +30,7 @@ pub(crate) fn exchange_parcels<H: Threads + Sync, G: Gate + Sync>(
     requires some { 0 < workers }
     requires most { workers ≤ most_workers }
     requires opening { IsOpening plasma.frame plasma.tiles.items }
-    requires room { IsRoom plasma.frame.map plasma.room }
+    requires room { IsScratch plasma.frame.map plasma.room }
     ensures { Exchanges plasma workers result }
 {
     if workers == 1 {
@@ -43,7 +43,7 @@ pub(crate) fn exchange_parcels<H: Threads + Sync, G: Gate + Sync>(
 /// The events of a core, as one worker lets them come.
 fn in_turn<G: Gate>(plasma: Plasma, gate: &G) -> Plasma
     requires opening { IsOpening plasma.frame plasma.tiles.items }
-    requires room { IsRoom plasma.frame.map plasma.room }
+    requires room { IsScratch plasma.frame.map plasma.room }
     ensures { HasExchanged plasma result }
 {
     let Plasma {
@@ -54,7 +54,7 @@ fn in_turn<G: Gate>(plasma: Plasma, gate: &G) -> Plasma
     } = plasma;
     let mut core = Core::begin(frame, tiles, room);
     core.run_in_turn(gate);
-    let (frame, tiles, room) = core.close_with_room();
+    let (frame, tiles, room) = core.close_with_scratch();
     Plasma {
         frame,
         tiles,
@@ -74,7 +74,7 @@ fn at_board<H: Threads + Sync, G: Gate + Sync>(
     requires some { 0 < workers }
     requires most { workers ≤ most_workers }
     requires opening { IsOpening plasma.frame plasma.tiles.items }
-    requires room { IsRoom plasma.frame.map plasma.room }
+    requires room { IsScratch plasma.frame.map plasma.room }
     ensures { IfOk result (HasExchanged plasma) }
 {
     let Plasma {

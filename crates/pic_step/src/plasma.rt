@@ -8,14 +8,14 @@ ghost use Rattle.pic_grid.specs.Hat.{IsInBox};
 ghost use Rattle.pic_grid.specs.Lattice.{EachAtMost, value_at};
 ghost use Rattle.pic_grid.specs.Parts.{layered};
 ghost use Rattle.pic_field.specs.FieldPhases.{full_of};
-ghost use Rattle.pic_tile.specs.CoreState.{particles_of};
+ghost use Rattle.pic_tile.specs.CoreState.{all_particles};
 ghost use Rattle.pic_tile.specs.Frame.{AreKinds};
 ghost use Rattle.pic_tile.specs.Tiling.{cells_of};
 ghost use Rattle.pic_phase.specs.Spent.{flux_in};
 ghost use Rattle.pic_phase.specs.Phases.{Advances};
 ghost use Rattle.pic_step.specs.Plasma.{HasFlux, IsPlasma};
 
-use pic_core::Room;
+use pic_core::Scratch;
 use pic_grid::{Lattice, Phase, Stop};
 use pic_num::{Kind, NoMemory, Particle, Scales};
 use pic_phase::full;
@@ -30,7 +30,7 @@ use std::thread::Threads;
 pub struct Plasma {
     pub frame: Frame,
     pub tiles: Vec<Tile>,
-    pub room: Room,
+    pub room: Scratch,
     pub count: u32,
 }
 
@@ -50,7 +50,7 @@ impl Plasma {
         ensures plasma { IfOk result (IsPlasma particles.now) }
     {
         let tiles = cut(alloc, &map, particles)?;
-        let room = Room::new(alloc, map)?;
+        let room = Scratch::new(alloc, map)?;
         let frame = frame_for(alloc, map, kinds)?;
         Ok(Plasma {
             frame,
@@ -80,8 +80,8 @@ impl Plasma {
             (λ a p. full_of scales.now b.now a p (value_at e a p)
             (flux_in self.old.frame.map self.old.tiles.items a p)) result }
         ensures frame { self.new.frame ≡ self.old.frame }
-        ensures particles { particles_of self.new.tiles.items ≡ particles_of self.old.tiles.items }
-        ensures plasma { IsPlasma (particles_of self.old.tiles.items) self.new }
+        ensures particles { all_particles self.new.tiles.items ≡ all_particles self.old.tiles.items }
+        ensures plasma { IsPlasma (all_particles self.old.tiles.items) self.new }
     {
         let map = *self.frame.map();
         full(rt, scales, b, &map, &mut self.tiles, e, workers)

@@ -5,7 +5,7 @@ ghost use Rattle.pic_crew.specs.Teams.{most_workers};
 ghost use Rattle.pic_grid.specs.Gather.{force_of};
 ghost use Rattle.pic_grid.specs.Lattice.{value_at, field_of};
 ghost use Rattle.pic_grid.specs.Parts.{layered};
-ghost use Rattle.pic_tile.specs.CoreState.{particles_of, IsOpening};
+ghost use Rattle.pic_tile.specs.CoreState.{all_particles, IsOpening};
 ghost use Rattle.pic_tile.specs.Frame.{felt_in};
 ghost use Rattle.pic_tile.specs.Tiling.{cells_of, grid_of_tiling};
 ghost use Rattle.pic_step.specs.Kept.{as_one};
@@ -77,7 +77,7 @@ fn push_tiles<H: Threads + Sync, G: Gate + Sync>(
     requires most { workers ≤ most_workers }
     requires side { 0 < plasma.frame.map.side }
     requires opening { IsOpening plasma.frame plasma.tiles.items }
-    requires ready { IsPlasma (particles_of plasma.tiles.items) plasma }
+    requires ready { IsPlasma (all_particles plasma.tiles.items) plasma }
     ensures pushed { IfOk result (λ r. HasPushed (felt_in plasma.frame) plasma r.0 r.1) }
     ensures alone { IsErr result → 1 < workers }
 {

@@ -1,7 +1,7 @@
 use Rattle.std.proofs.Common.{◌^◌}
 use Rattle.std.specs.Prelude.{slice_index}
 use Rattle.pic_num.specs.Space.{triple}
-use Rattle.pic_grid.specs.Gather.{weighted, listed}
+use Rattle.pic_grid.specs.Gather.{weighted, laid_out}
 use Rattle.pic_grid.specs.Sums.{sum_below}
 use Rattle.pic_laws.proofs.SlowSums.{IsSumOf}
 use Rattle.pic_laws.proofs.slow.whole.Given as goal
@@ -9,5 +9,5 @@ use Rattle.pic_laws.proofs.slow.whole.Given as goal
 abbrev pub invariant-loop-z : goal.invariant-loop-z
 invariant-loop-z l =
     IsSumOf (λ z. sum_below (slice_index l.cells 1) (λ y. sum_below (slice_index l.cells 0)
-    (λ x. weighted l.side (triple l.cells) (triple l.offset) (listed (triple l.cells) l.values) (triple l.point) (record { x = x; y = y; z = z })))) l.z
+    (λ x. weighted l.side (triple l.cells) (triple l.offset) (laid_out (triple l.cells) l.values) (triple l.point) (record { x = x; y = y; z = z })))) l.z
     (2 ^ 100) l.total

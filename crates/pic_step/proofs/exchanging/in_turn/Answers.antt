@@ -9,9 +9,9 @@ returns g c =
     let t = c.run_in_turn.new.self in
     let p = c.args.plasma in
     core_exchanges p (record {
-      frame = c.close_with_room-frame.result.0;
-      tiles = c.close_with_room-frame.result.1;
-      room = c.close_with_room-frame.result.2;
+      frame = c.close_with_scratch-frame.result.0;
+      tiles = c.close_with_scratch-frame.result.1;
+      room = c.close_with_scratch-frame.result.2;
       count = p.count;
-    }) s t (in_turn s.frame.map) c.begin-core.ensures.opened c.run_in_turn.ensures.ran c.close_with_room-frame.ensures.frame
-    c.close_with_room-frame.ensures.exchanged c.close_with_room-frame.ensures.bound c.close_with_room-frame.ensures.room refl
+    }) s t (in_turn s.frame.map) c.begin-core.ensures.opened c.run_in_turn.ensures.ran c.close_with_scratch-frame.ensures.frame
+    c.close_with_scratch-frame.ensures.exchanged c.close_with_scratch-frame.ensures.bound c.close_with_scratch-frame.ensures.scratch refl

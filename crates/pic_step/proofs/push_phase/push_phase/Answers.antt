@@ -1,5 +1,5 @@
 use Rattle.std.proofs.Common.{◌≡◌, ◌<◌, refl, sym, ap, subst, arith}
-use Rattle.pic_tile.specs.CoreState.{particles_of}
+use Rattle.pic_tile.specs.CoreState.{all_particles}
 use Rattle.pic_tile.specs.Frame.{FrameValue}
 use Rattle.pic_tile.specs.Tiling.{IsMap}
 use Rattle.pic_step.specs.PushOn.{around_fields}
@@ -30,7 +30,7 @@ pub push_tiles-requires-clause-ready : goal.push_tiles-requires-clause-ready
 push_tiles-requires-clause-ready g c κs within =
     let p = c.args.plasma in
     let is = framed g (goal.at.push_tiles-requires-clause-ready g c).After-with_forces-frame in
-    ready_moves p c.with_forces-frame.result (particles_of p.tiles.items) (ap (λ (f : FrameValue). f.map) is) (ap (λ (f : FrameValue). f.force_e.parts) is)
+    ready_moves p c.with_forces-frame.result (all_particles p.tiles.items) (ap (λ (f : FrameValue). f.map) is) (ap (λ (f : FrameValue). f.force_e.parts) is)
     c.requires.can.plasma
 
 pub returns-clause-pushed : goal.returns-clause-pushed

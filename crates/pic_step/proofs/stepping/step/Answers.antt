@@ -4,7 +4,7 @@ use Rattle.pic_num.specs.Space.{Triple}
 use Rattle.pic_grid.specs.declared.stop.Phase.TheVariants.{Half1, Half2, Electric}
 use Rattle.pic_grid.specs.declared.stop.Stop.{Stop}
 use Rattle.pic_grid.specs.Lattice.{Field}
-use Rattle.pic_tile.specs.CoreState.{particles_of}
+use Rattle.pic_tile.specs.CoreState.{all_particles}
 use Rattle.pic_tile.specs.Tiling.{Tiling, cells_of}
 use Rattle.pic_step.specs.declared.plasma.Plasma.{Plasma}
 use Rattle.pic_step.specs.declared.state.State.TheInside.{Inside}
@@ -60,19 +60,19 @@ after : (g : Over) (c : In_ok-e g) → IsHalf (world c.state.inside) (as_one c.i
     → ArePushed (around (half_on (world c.state.inside))) c.in_ok-pushed.pushed.0.frame.map (world c.state.inside).particles
     c.in_ok-pushed.pushed.0.tiles.items None
     → IsBefore (world c.state.inside) (as_one c.in_ok-b-2.b)
-    → IsAfter (world c.state.inside) (as_one c.in_ok-e.e) (as_one c.in_ok-b-2.b) (particles_of c.advance_e.new.self.tiles.items)
+    → IsAfter (world c.state.inside) (as_one c.in_ok-e.e) (as_one c.in_ok-b-2.b) (all_particles c.advance_e.new.self.tiles.items)
 after g c first free second =
     let k = c.state.inside in
     let q = c.in_ok-pushed.pushed.0 in
     let done = full_one Electric k.scales c.in_ok-b-2.b k.e (flux_in q.frame.map q.tiles.items) (Ok c.in_ok-e.e) c.in_ok-e.ensures.fields in
     is_after (world k) (as_one c.in_ok-b.b) (as_one c.in_ok-b-2.b) (as_one c.in_ok-e.e) q.frame.map q.tiles.items
-    (particles_of c.advance_e.new.self.tiles.items) c.state.invariant.sound first free second c.in_ok-e.ensures.particles done.0 done.1
+    (all_particles c.advance_e.new.self.tiles.items) c.state.invariant.sound first free second c.in_ok-e.ensures.particles done.0 done.1
 
 -- the state after the step, by its parts
 next : (g : Over) (c : In_ok-e g) → record (world c.state.inside) {
   e = as_one c.in_ok-e.e;
   b = as_one c.in_ok-b-2.b;
-  particles = particles_of c.advance_e.new.self.tiles.items;
+  particles = all_particles c.advance_e.new.self.tiles.items;
 } ≡ seen c.state.inside.scales c.in_ok-e.e c.in_ok-b-2.b c.advance_e.new.self
 next g c =
     let k = c.state.inside in

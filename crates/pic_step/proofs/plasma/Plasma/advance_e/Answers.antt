@@ -4,7 +4,7 @@ use Rattle.std.proofs.lemmas.List.{with_items_is}
 use Rattle.pic_grid.specs.declared.stop.Phase.TheVariants.{Electric}
 use Rattle.pic_grid.specs.Lattice.{value_at}
 use Rattle.pic_field.specs.FieldPhases.{full_of}
-use Rattle.pic_tile.specs.CoreState.{particles_of}
+use Rattle.pic_tile.specs.CoreState.{all_particles}
 use Rattle.pic_tile.specs.Tile.{TileValue}
 use Rattle.pic_tile.specs.Tiling.{Tiling}
 use Rattle.pic_phase.specs.Spent.{AreSpent, flux_in}
@@ -39,7 +39,7 @@ pub returns-clause-particles : goal.returns-clause-particles
 returns-clause-particles g c =
     let p = c.args.self.now in
     let at = (goal.at.returns-clause-particles g c).After-full in
-    ap particles_of (items g at)
+    ap all_particles (items g at)
     ∙ particles_kept p.frame.map p.tiles.items c.full.new.tiles c.requires.flux.received.numbered.count (spent g at)
 
 pub returns-clause-plasma : goal.returns-clause-plasma

@@ -3,7 +3,7 @@ use Rattle.std.proofs.lemmas.List.{with_items_is}
 use Rattle.pic_tile.specs.InOrder.{written}
 use Rattle.pic_tile.specs.Totals.{together}
 use Rattle.pic_tile.proofs.InOrderLaws.{length-written}
-use Rattle.pic_tile.specs.CoreState.{particles_of}
+use Rattle.pic_tile.specs.CoreState.{all_particles}
 use Rattle.pic_tile.specs.Held.{chains_of}
 use Rattle.pic_tile.specs.Tile.{TileValue}
 use Rattle.pic_tile.specs.Tiling.{IsMap}
@@ -17,7 +17,7 @@ of_map : (c : After-tiles-tiles) → IsMap c.self.inside.plasma.frame.map
 of_map c = subst IsMap c.map-map.ensures.value c.tiles-tiles.ensures.limits
 
 -- the list has as many particles
-as_many : (c : After-deref_mut) → length c.deref_mut.result.now ≡ length (particles_of c.self.inside.plasma.tiles.items)
+as_many : (c : After-deref_mut) → length c.deref_mut.result.now ≡ length (all_particles c.self.inside.plasma.tiles.items)
 as_many c = ap length c.deref_mut.ensures.value ∙ c.requires.count ∙ ap (λ (v : StateView). length v.world.particles) (sym c.self.view_is)
 
 pub write_tiles-requires : goal.write_tiles-requires
