@@ -3,20 +3,21 @@ use Rattle.std.proofs.Common.{◌≡◌, ℕ, suc, ◌<◌, List, Bool, true, fa
 use Rattle.std.proofs.Math.Decide.{ℕ_discrete}
 use mathlib.Core.Option.{Option, none, some}
 use lib.ListN.{get_elem?}
+use Rattle.pic_yard.specs.Marks.{Board, IsOwed}
 use Rattle.pic_yard.specs.Members.{count_below}
 use Rattle.pic_yard.proofs.Ways.{AreWays}
 use Rattle.pic_yard.specs.Places.{slot_in, IsHome, Kinds, Places, Aways}
 use Rattle.pic_yard.proofs.CountLaws.{count_all}
 use Rattle.pic_yard.proofs.CollectLaws.{slot_row, slot_place}
-use Rattle.pic_yard.proofs.PlaceLaws.{own_from, home_still}
+use Rattle.pic_yard.proofs.PlaceLaws.{SlotsHold, own_from, home_still}
 use Rattle.pic_yard.proofs.PostLaws.{posts, IsPair, which_pair, posts_it, posts_other, count_posts, count_row}
 
-module _ {S : Type 0} (kinds : Kinds S) (tiles dirs here ticket : ℕ) (to from : ℕ → ℕ → ℕ) (ways : AreWays tiles dirs here to from)
-    (posted : ℕ → ℕ → Bool) (shut : ℕ → Bool) (homes : List (Option S))
-    (came : (r d : ℕ) → r < tiles → d < dirs → posted r d ≡ true → from r d < ticket)
-    (whole : (r : ℕ) → r < tiles → shut r ≡ true → count_below (posted r) dirs ≡ dirs)
-    (places : Places kinds tiles dirs here ticket from posted shut homes) (aways : Aways tiles dirs here ticket from posted shut homes)
-    (r d : ℕ) (inside : r < tiles) (dir : d < dirs) (sender : from r d < ticket) (free : posted r d ≡ false) where
+module _ {S : Type 0} {kinds : Kinds S} {b : Board} {to : ℕ → ℕ → ℕ} (h : SlotsHold kinds b to) (claimer : ℕ → ℕ) (r d j : ℕ)
+    (owed : IsOwed b.tiles b.dirs b.ticket b.from b.posted claimer r d j) where
+  open b use {tiles, dirs, here, ticket, from, posted, shut}
+  open h use {ways, homes, came, whole, places, aways}
+  open owed use {tile as inside, dir, sender, free}
+
   abbrev after : ℕ → ℕ → Bool
   after = posts posted r d
 
@@ -67,7 +68,7 @@ module _ {S : Type 0} (kinds : Kinds S) (tiles dirs here ticket : ℕ) (to from 
       | no apart ↦ subst (λ (c : ℕ). c < dirs) (count_row posted r d dirs q apart) less
     ]
 
-    pub post_places : Places kinds tiles dirs here ticket from after shut later
+    pub post_places : Places kinds (record b { posted = after }) later
     post_places = record {
       bare = λ q e tile way above.
           let apart : IsPair r d q e → ⊥ = λ same. let at : from q e ≡ from r d = λ i. from (same.0 i) (same.1 i) in omega (arith, at, above, sender) in
@@ -94,7 +95,7 @@ module _ {S : Type 0} (kinds : Kinds S) (tiles dirs here ticket : ℕ) (to from 
           home_still homes later (slot_in dirs q dirs) (kinds.IsFinished q) (home_same q (λ h e. not_shut q tile closed e)) (places.finished q tile closed);
     }
 
-    pub post_aways : Aways tiles dirs here ticket from after shut later
+    pub post_aways : Aways (record b { posted = after }) later
     post_aways = record {
       lent = λ q e tile way below off.
           let apart : IsPair r d q e → ⊥ = λ same. true≢false (sym (posts_it posted r d q e same) ∙ off) in
@@ -123,7 +124,7 @@ module _ {S : Type 0} (kinds : Kinds S) (tiles dirs here ticket : ℕ) (to from 
         ∙ count_posts posted r d dirs dir free in
         omega (arith, a, less, last)
 
-    pub last_places : Places kinds tiles dirs here ticket from after shut later
+    pub last_places : Places kinds (record b { posted = after }) later
     last_places = record {
       bare = λ q e tile way above.
           let apart : q ≡ r → ⊥ = λ is. let less : from q e < ticket = sent q e tile way (ap (λ (k : ℕ). after k e) is
@@ -148,7 +149,7 @@ module _ {S : Type 0} (kinds : Kinds S) (tiles dirs here ticket : ℕ) (to from 
           (places.finished q tile closed);
     }
 
-    pub last_aways : Aways tiles dirs here ticket from after shut later
+    pub last_aways : Aways (record b { posted = after }) later
     last_aways = record {
       lent = λ q e tile way below off.
           let apart : q ≡ r → ⊥ = λ is. true≢false (sym (ap (λ (k : ℕ). after k e) is ∙ all_posted e way) ∙ off) in

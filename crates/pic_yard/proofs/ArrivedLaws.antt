@@ -13,10 +13,10 @@ use Rattle.pic_yard.specs.declared.opening.Opening.{Opening}
 use Rattle.pic_yard.specs.declared.view.View.{View}
 use Rattle.pic_yard.specs.Arrivals.{behind, IsAboutToPost, HasAllMail, Arrived}
 use Rattle.pic_yard.specs.Contents.{Slot, vacant, tiles_in, to_of, from_of, HoldsParcel, slot_kinds}
-use Rattle.pic_yard.specs.Marks.{Marks, IsOwed, IsRight}
+use Rattle.pic_yard.specs.Marks.{Board, Marks, IsOwed, IsRight}
 use Rattle.pic_yard.specs.Members.{count_below}
 use Rattle.pic_yard.specs.Places.{IsHome, Places, Aways}
-use Rattle.pic_yard.specs.Rule.{Rule, ticket_of}
+use Rattle.pic_yard.specs.Rule.{Rule, board_of, ticket_of}
 use Rattle.pic_yard.specs.Sits.{slot_at, IsMine, a_box, a_home, of_right}
 use Rattle.pic_yard.specs.Steps.{did_post}
 use Rattle.pic_yard.specs.Tickets.{Tickets}
@@ -24,15 +24,21 @@ use Rattle.pic_yard.proofs.ArriveLaws.{ComesHome, GoesAway, post_places, post_aw
 use Rattle.pic_yard.proofs.CountLaws.{count_le, count_all}
 use Rattle.pic_yard.proofs.BehindLaws.{post_act, behind_here, behind_step, act_here, act_step, gone_box, gone_home, once_behind}
 use Rattle.pic_yard.proofs.CollectLaws.{take_all, Collected, collect, cleared, homes_cleared, all_carried, slot_row, slot_place}
-use Rattle.pic_yard.proofs.PlaceLaws.{own_from}
+use Rattle.pic_yard.proofs.PlaceLaws.{SlotsHold, own_from}
 use Rattle.pic_yard.proofs.PostLaws.{posts, OneArrives, post_marks, not_full, found_word, posts_other, count_posts}
 use Rattle.pic_yard.proofs.TicketLaws.{keep_numbers}
 use Rattle.pic_yard.proofs.ViewLaws.{each_view, below_there}
-use Rattle.pic_yard.proofs.WayLaws.{ways_of}
+use Rattle.pic_yard.proofs.WayLaws.{slots_hold, ways_of}
 use Rattle.pic_yard.proofs.WordLaws.{word_now, word_still, found_or}
 
 module _ (o : Opening) (s : State Slot View) (rule : Rule o s) (id : ℕ) (me : Me Slot View) (at : get_elem? s.views id ≡ some me.0)
     (r d : ℕ) (parcel : Slot) (slots : List (ℕ × Slot)) (load : IsAboutToPost o me r d parcel slots) where
+  abbrev board : Board
+  board = board_of o s rule.posted rule.shut
+
+  abbrev hold : SlotsHold (slot_kinds o) board (to_of o)
+  hold = slots_hold o s rule
+
   abbrev T : ℕ
   T = tiles_in o
 
@@ -123,8 +129,7 @@ module _ (o : Opening) (s : State Slot View) (rule : Rule o s) (id : ℕ) (me : 
 
   abbrev Comes : List (Option Slot) → Type 0
   Comes later =
-      ComesHome (slot_kinds o) T directions here w (to_of o) (from_of o) (ways_of o) rule.posted rule.shut s.homes rule.marks.came rule.marks.whole
-      rule.places rule.aways r d owed.tile owed.dir owed.sender owed.free later
+      ComesHome hold rule.marks.claimer r d id owed later
 
   comes : Comes given
   comes = elim (ℕ_discrete d here) [
@@ -168,7 +173,7 @@ module _ (o : Opening) (s : State Slot View) (rule : Rule o s) (id : ℕ) (me : 
 
   -- the rule after the post, over what is then at home
   post_rule : (later : List (Option Slot)) → length later ≡ length s.homes
-      → Places (slot_kinds o) T directions here w (from_of o) now_posted rule.shut later → Aways T directions here w (from_of o) now_posted rule.shut later
+      → Places (slot_kinds o) (record board { posted = now_posted }) later → Aways (record board { posted = now_posted }) later
       → Rule o (record { words = set s.words (suc r) (suc n); homes = later; views = set s.views id after })
   post_rule later long places aways = record {
     posted = now_posted;
@@ -181,26 +186,24 @@ module _ (o : Opening) (s : State Slot View) (rule : Rule o s) (id : ℕ) (me : 
     opened = opened_still;
     tickets = subst (λ (k : ℕ). Tickets T o.seats k (set s.views id after)) (sym same_ticket)
         (keep_numbers T o.seats w s.views rule.tickets id me.0 at load.live after.owes after.rights);
-    marks = subst (λ (k : ℕ). Marks T directions k (from_of o) now_posted rule.shut (set s.words (suc r) (suc n)) (set s.views id after)) (sym same_ticket)
-        (post_marks T directions w (from_of o) rule.posted rule.shut s.words (set s.words (suc r)
+    marks = subst (λ (k : ℕ). Marks (record board { ticket = k; posted = now_posted }) (set s.words (suc r) (suc n)) (set s.views id after)) (sym same_ticket)
+        (post_marks board s.words (set s.words (suc r)
         (suc n)) s.views rule.marks id me.0 at load.live r d load.owes words_are);
-    places = subst (λ (k : ℕ). Places (slot_kinds o) T directions here k (from_of o) now_posted rule.shut later) (sym same_ticket) places;
-    aways = subst (λ (k : ℕ). Aways T directions here k (from_of o) now_posted rule.shut later) (sym same_ticket) aways;
+    places = subst (λ (k : ℕ). Places (slot_kinds o) (record board { ticket = k; posted = now_posted }) later) (sym same_ticket) places;
+    aways = subst (λ (k : ℕ). Aways (record board { ticket = k; posted = now_posted }) later) (sym same_ticket) aways;
   }
 
   less_than_all : n < directions
   less_than_all =
-      not_full T directions w (from_of o) rule.posted rule.shut s.words s.words s.views rule.marks id me.0 at load.live r d load.owes
+      not_full board s.words s.words s.views rule.marks id me.0 at load.live r d load.owes
 
   -- the post that isn't the last
   counted_rule : suc n < directions → Rule o (stepped s (suc r) (suc n) id me.1 after (post_act d))
   counted_rule few = post_rule (homes_after s.homes me.1 (post_act d)) (ap (λ (hs : List (Option Slot)). length hs) act_homes ∙ given_long)
-      (subst (λ (hs : List (Option Slot)). Places (slot_kinds o) T directions here w (from_of o) now_posted rule.shut hs) (sym act_homes)
-      (post_places (slot_kinds o) T directions here w (to_of o) (from_of o) (ways_of o) rule.posted rule.shut s.homes rule.marks.came rule.marks.whole
-      rule.places rule.aways r d owed.tile owed.dir owed.sender owed.free few given comes))
-      (subst (λ (hs : List (Option Slot)). Aways T directions here w (from_of o) now_posted rule.shut hs) (sym act_homes)
-      (post_aways (slot_kinds o) T directions here w (to_of o) (from_of o) (ways_of o) rule.posted rule.shut s.homes rule.marks.came rule.marks.whole
-      rule.places rule.aways r d owed.tile owed.dir owed.sender owed.free few given comes))
+      (subst (λ (hs : List (Option Slot)). Places (slot_kinds o) (record board { posted = now_posted }) hs) (sym act_homes)
+      (post_places hold rule.marks.claimer r d id owed few given comes))
+      (subst (λ (hs : List (Option Slot)). Aways (record board { posted = now_posted }) hs) (sym act_homes)
+      (post_aways hold rule.marks.claimer r d id owed few given comes))
 
   -- The last post: all slots of r are taken.
 
@@ -267,8 +270,7 @@ module _ (o : Opening) (s : State Slot View) (rule : Rule o s) (id : ℕ) (me : 
 
     abbrev Goes : List (Option Slot) → Type 0
     Goes later =
-        GoesAway (slot_kinds o) T directions here w (to_of o) (from_of o) (ways_of o) rule.posted rule.shut s.homes rule.marks.came rule.marks.whole
-        rule.places rule.aways r d owed.tile owed.dir owed.sender owed.free later
+        GoesAway hold rule.marks.claimer r d id owed later
 
     goes : Goes (cleared given takes.list)
     goes = record {
@@ -300,12 +302,10 @@ module _ (o : Opening) (s : State Slot View) (rule : Rule o s) (id : ℕ) (me : 
 
     last_rule : Rule o (stepped s (suc r) (suc n) id me.1 after last_act)
     last_rule = post_rule (homes_after s.homes me.1 last_act) (ap (λ (hs : List (Option Slot)). length hs) last_homes ∙ takes.long ∙ given_long)
-        (subst (λ (hs : List (Option Slot)). Places (slot_kinds o) T directions here w (from_of o) now_posted rule.shut hs) (sym last_homes)
-        (last_places (slot_kinds o) T directions here w (to_of o) (from_of o) (ways_of o) rule.posted rule.shut s.homes rule.marks.came rule.marks.whole
-        rule.places rule.aways r d owed.tile owed.dir owed.sender owed.free full (cleared given takes.list) goes))
-        (subst (λ (hs : List (Option Slot)). Aways T directions here w (from_of o) now_posted rule.shut hs) (sym last_homes)
-        (last_aways (slot_kinds o) T directions here w (to_of o) (from_of o) (ways_of o) rule.posted rule.shut s.homes rule.marks.came rule.marks.whole
-        rule.places rule.aways r d owed.tile owed.dir owed.sender owed.free full (cleared given takes.list) goes))
+        (subst (λ (hs : List (Option Slot)). Places (slot_kinds o) (record board { posted = now_posted }) hs) (sym last_homes)
+        (last_places hold rule.marks.claimer r d id owed full (cleared given takes.list) goes))
+        (subst (λ (hs : List (Option Slot)). Aways (record board { posted = now_posted }) hs) (sym last_homes)
+        (last_aways hold rule.marks.claimer r d id owed full (cleared given takes.list) goes))
 
     -- none of the slots taken was with the seat
     not_mine : (k : ℕ) → k < suc directions → IsMine me.0 (slot_at r k) → (y : Slot) → seek (slot_at r k) (behind d slots) ≡ some y → ⊥
@@ -360,7 +360,7 @@ module _ (o : Opening) (s : State Slot View) (rule : Rule o s) (id : ℕ) (me : 
       × Arrived o r d slots me (slice_index s.words (suc r)) (u, carried_after me.1 a)
   post_here =
       let word : slice_index s.words (suc r) ≡ n =
-      found_word T directions w (from_of o) rule.posted rule.shut s.words s.words s.views rule.marks id me.0 at load.live r d load.owes in
+      found_word board s.words s.words s.views rule.marks id me.0 at load.live r d load.owes in
       let Here : ℕ → ℕ → Type 0 = λ x y. (u : View) × (a : Act Slot) × Valid s.homes me.1 a × Rule o (stepped s
       (suc r) y id me.1 u a) × Arrived o r d slots me x (u, carried_after me.1 a) in
       let result : Here n (suc n) = elim (ℕ_discrete (suc n) directions) [

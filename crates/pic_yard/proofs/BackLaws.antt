@@ -7,15 +7,16 @@ use lib.ListN.{get_elem?}
 use Rattle.pic_yard.specs.declared.view.View.{View}
 use Rattle.pic_yard.specs.Members.{In, Differ, count_below}
 use Rattle.pic_yard.specs.Steps.{gave_back}
-use Rattle.pic_yard.specs.Marks.{IsOwed, IsRight, Marks}
+use Rattle.pic_yard.specs.Marks.{Board, IsOwed, IsRight, Marks}
 use Rattle.pic_yard.proofs.CountLaws.{at_else, at_here, at_other}
 use Rattle.pic_yard.proofs.MemberLaws.{kept, was_in, unseen_in, differ_without}
 use Rattle.pic_yard.proofs.PostLaws.{OneArrives}
 use Rattle.pic_yard.proofs.ViewLaws.{each_view, lists_still}
 
-module _ (tiles dirs ticket : ℕ) (from : ℕ → ℕ → ℕ) (posted : ℕ → ℕ → Bool) (shut : ℕ → Bool)
-    (words later : List ℕ) (views : List View) (m : Marks tiles dirs ticket from posted shut words views) (j : ℕ) (v : View)
+module _ (b : Board) (words later : List ℕ) (views : List View) (m : Marks b words views) (j : ℕ) (v : View)
     (there : get_elem? views j ≡ some v) (live : v.live ≡ true) (r : ℕ) (is : In r v.rights) where
+  open b use {tiles, dirs, ticket, from, posted, shut}
+
   abbrev right : IsRight tiles dirs posted shut m.finisher r j
   right = m.rights j v there live r is
 
@@ -31,7 +32,7 @@ module _ (tiles dirs ticket : ℕ) (from : ℕ → ℕ → ℕ) (posted : ℕ �
   right_else : (i a : ℕ) → (a ≡ r → ⊥) → IsRight tiles dirs posted shut m.finisher a i → IsRight tiles dirs posted after m.finisher a i
   right_else i a apart o = record { tile = o.tile; all = o.all; open_yet = at_other r a true shut apart ∙ o.open_yet; by = o.by }
 
-  pub back_marks : OneArrives tiles r (suc dirs) words later → Marks tiles dirs ticket from posted after later (set views j (gave_back r v))
+  pub back_marks : OneArrives tiles r (suc dirs) words later → Marks (record b { shut = after }) later (set views j (gave_back r v))
   back_marks words_are =
       let u : View = gave_back r v in
       record {

@@ -5,6 +5,7 @@ use Rattle.std.proofs.lemmas.Bool.Decides.{nat_tests}
 use Rattle.pic_tile.specs.Totals.{total_below}
 use Rattle.pic_tile.proofs.SumLaws.{total_same, total_plus, total_none}
 use Rattle.pic_yard.proofs.Ways.{AreWays}
+use Rattle.pic_yard.specs.Marks.{Board}
 use Rattle.pic_yard.specs.Members.{count_below}
 use Rattle.pic_yard.proofs.CountLaws.{count_le, count_all}
 use Rattle.pic_yard.proofs.TotalLaws.{total_swap, total_moved}
@@ -28,23 +29,24 @@ test_below a b is = grind (arith, nat_tests)
 
 -- by any weight, what the mailbox (r, d) and the home slot of r have, what the tile t has at the
 -- start, and what the parcel of the direction d has that t sends
-pub record AreWeights (tiles dirs here ticket : ℕ) (from : ℕ → ℕ → ℕ) (posted : ℕ → ℕ → Bool) (shut : ℕ → Bool) (box : ℕ → ℕ → ℕ) (home start : ℕ → ℕ)
-    (sent : ℕ → ℕ → ℕ) : Type 0 where
-  pub bare : (r d : ℕ) → r < tiles → d < dirs → ticket ≤ from r d → box r d ≡ 0
-  pub full : (r d : ℕ) → r < tiles → d < dirs → posted r d ≡ true → count_below (posted r) dirs < dirs → box r d ≡ sent (from r d) d
-  pub emptied : (r d : ℕ) → r < tiles → d < dirs → shut r ≡ true → box r d ≡ 0
-  pub opening : (t : ℕ) → t < tiles → ticket ≤ t → home t ≡ start t
-  pub between : (t : ℕ) → t < tiles → posted t here ≡ true → count_below (posted t) dirs < dirs → home t ≡ 0
-  pub finished : (r : ℕ) → r < tiles → shut r ≡ true → home r ≡ total_below dirs (λ d. sent (from r d) d)
-  pub lent : (r d : ℕ) → r < tiles → d < dirs → from r d < ticket → posted r d ≡ false → box r d ≡ 0
-  pub left : (t : ℕ) → t < tiles → t < ticket → posted t here ≡ false → home t ≡ 0
-  pub held_boxes : (r d : ℕ) → r < tiles → d < dirs → count_below (posted r) dirs ≡ dirs → shut r ≡ false → box r d ≡ 0
-  pub held_home : (r : ℕ) → r < tiles → count_below (posted r) dirs ≡ dirs → shut r ≡ false → home r ≡ 0
+pub record AreWeights (b : Board) (box : ℕ → ℕ → ℕ) (home start : ℕ → ℕ) (sent : ℕ → ℕ → ℕ) : Type 0 where
+  pub bare : (r d : ℕ) → r < b.tiles → d < b.dirs → b.ticket ≤ b.from r d → box r d ≡ 0
+  pub full : (r d : ℕ) → r < b.tiles → d < b.dirs → b.posted r d ≡ true → count_below (b.posted r) b.dirs < b.dirs → box r d ≡ sent (b.from r d) d
+  pub emptied : (r d : ℕ) → r < b.tiles → d < b.dirs → b.shut r ≡ true → box r d ≡ 0
+  pub opening : (t : ℕ) → t < b.tiles → b.ticket ≤ t → home t ≡ start t
+  pub between : (t : ℕ) → t < b.tiles → b.posted t b.here ≡ true → count_below (b.posted t) b.dirs < b.dirs → home t ≡ 0
+  pub finished : (r : ℕ) → r < b.tiles → b.shut r ≡ true → home r ≡ total_below b.dirs (λ d. sent (b.from r d) d)
+  pub lent : (r d : ℕ) → r < b.tiles → d < b.dirs → b.from r d < b.ticket → b.posted r d ≡ false → box r d ≡ 0
+  pub left : (t : ℕ) → t < b.tiles → t < b.ticket → b.posted t b.here ≡ false → home t ≡ 0
+  pub held_boxes : (r d : ℕ) → r < b.tiles → d < b.dirs → count_below (b.posted r) b.dirs ≡ b.dirs → b.shut r ≡ false → box r d ≡ 0
+  pub held_home : (r : ℕ) → r < b.tiles → count_below (b.posted r) b.dirs ≡ b.dirs → b.shut r ≡ false → home r ≡ 0
 
-module _ (tiles dirs here ticket : ℕ) (to from : ℕ → ℕ → ℕ) (ways : AreWays tiles dirs here to from) (posted : ℕ → ℕ → Bool) (shut : ℕ → Bool)
-    (came : (r d : ℕ) → r < tiles → d < dirs → posted r d ≡ true → from r d < ticket)
-    (whole : (r : ℕ) → r < tiles → shut r ≡ true → count_below (posted r) dirs ≡ dirs)
-    (box : ℕ → ℕ → ℕ) (home start : ℕ → ℕ) (sent : ℕ → ℕ → ℕ) (w : AreWeights tiles dirs here ticket from posted shut box home start sent) where
+module _ (b : Board) (to : ℕ → ℕ → ℕ) (ways : AreWays b.tiles b.dirs b.here to b.from)
+    (came : (r d : ℕ) → r < b.tiles → d < b.dirs → b.posted r d ≡ true → b.from r d < b.ticket)
+    (whole : (r : ℕ) → r < b.tiles → b.shut r ≡ true → count_below (b.posted r) b.dirs ≡ b.dirs)
+    (box : ℕ → ℕ → ℕ) (home start : ℕ → ℕ) (sent : ℕ → ℕ → ℕ) (w : AreWeights b box home start sent) where
+  open b use {tiles, dirs, here, ticket, from, posted, shut}
+
   abbrev out : ℕ → ℕ → Bool
   out = is_out dirs ticket from posted shut
 

@@ -32,7 +32,7 @@ use Rattle.pic_yard.specs.Contents.{Slot, vacant, tiles_in, to_of, from_of, star
 use Rattle.pic_yard.specs.Marks.{Lists}
 use Rattle.pic_yard.specs.Members.{In, count_below}
 use Rattle.pic_yard.specs.Places.{IsHome, IsAway}
-use Rattle.pic_yard.specs.Rule.{Rule, ticket_of}
+use Rattle.pic_yard.specs.Rule.{Rule, board_of, ticket_of}
 use Rattle.pic_yard.specs.Sits.{slot_at}
 use Rattle.pic_yard.proofs.BalanceLaws.{AreWeights, is_ready, is_out, below_test, test_below, balanced}
 use Rattle.pic_yard.proofs.CountLaws.{count_all}
@@ -189,7 +189,7 @@ module _ (o : Opening) (s : State Slot View) (rule : Rule o s) where
     vacant_kept : (i : ℕ) → IsHome s.homes i (λ y. y ≡ vacant) → lying_weight i ≡ 0
     vacant_kept i h = home_weight i (λ y. y ≡ vacant) h ∙ ap (λ (y : Slot). sum_by weight (kept_in y)) h.is
 
-    weights : AreWeights (tiles_in o) directions here (ticket_of s) (from_of o) rule.posted rule.shut (λ r d. lying_weight (slot_at r d))
+    weights : AreWeights (board_of o s rule.posted rule.shut) (λ r d. lying_weight (slot_at r d))
         (λ r. lying_weight (slot_at r directions)) (start_weight o v) (sent_weight o v)
     weights =
         let p = rule.places in
@@ -268,7 +268,7 @@ module _ (o : Opening) (s : State Slot View) (rule : Rule o s) where
     all_weight =
         let both = sum_by-append weight (flat_map lying s.homes) (with_seats o is_with_seat) in
         let balance =
-        balanced (tiles_in o) directions here (ticket_of s) (to_of o) (from_of o) (ways_of o) rule.posted rule.shut rule.marks.came rule.marks.whole
+        balanced (board_of o s rule.posted rule.shut) (to_of o) (ways_of o) rule.marks.came rule.marks.whole
         (λ r d. lying_weight (slot_at r d)) (λ r. lying_weight (slot_at r directions)) (start_weight o v) (sent_weight o v) weights
         (λ t below. pushed_total o v t) in
         omega (arith, both, balance, lying_total, with_total, start_total)

@@ -13,25 +13,31 @@ use Rattle.pic_yard.specs.declared.opening.Opening.{Opening}
 use Rattle.pic_yard.specs.declared.view.View.{View}
 use Rattle.pic_yard.specs.Acts.{Apart}
 use Rattle.pic_yard.specs.Contents.{Slot, tiles_in, to_of, from_of, tile_at, slot_kinds}
-use Rattle.pic_yard.specs.Marks.{IsOwed, IsRight, Marks}
+use Rattle.pic_yard.specs.Marks.{Board, IsOwed, IsRight, Marks}
 use Rattle.pic_yard.specs.Tickets.{Tickets}
 use Rattle.pic_yard.specs.Members.{count_below}
 use Rattle.pic_yard.specs.Places.{Places, Aways}
-use Rattle.pic_yard.specs.Rule.{Rule, ticket_of}
+use Rattle.pic_yard.specs.Rule.{Rule, board_of, ticket_of}
 use Rattle.pic_yard.specs.Sits.{slot_at, IsMine, a_box, a_home, of_right, Sits, Claimed, Drawn}
 use Rattle.pic_yard.specs.Sits as claimed
 use Rattle.pic_yard.specs.Steps.{did_claim, was_told}
 use Rattle.pic_yard.proofs.CountLaws.{count_le, count_all}
 use Rattle.pic_yard.proofs.CollectLaws.{take_all, Collected, which_place, cleared, homes_cleared, all_carried, slot_row, slot_place}
 use Rattle.pic_yard.proofs.MarkLaws.{ArrivalsStay, claim_marks, told_marks}
-use Rattle.pic_yard.proofs.PlaceLaws.{claim_slot, claim_kind, claim_home, claim_box, kind_home, kind_box, claim_takes, claim_places, claim_aways, told_places}
+use Rattle.pic_yard.proofs.PlaceLaws.{SlotsHold, claim_slot, claim_kind, claim_home, claim_box, kind_home, kind_box, claim_takes, claim_places, claim_aways, told_places}
 use Rattle.pic_yard.proofs.PlaceLaws.{told_aways, own_from}
 use Rattle.pic_yard.proofs.TicketLaws.{draw_claims, draw_tells}
 use Rattle.pic_yard.proofs.ViewLaws.{each_view}
-use Rattle.pic_yard.proofs.WayLaws.{ways_of}
+use Rattle.pic_yard.proofs.WayLaws.{slots_hold, ways_of}
 use Rattle.pic_yard.proofs.WordLaws.{word_now, word_still, found_or}
 
 module _ (o : Opening) (s : State Slot View) (rule : Rule o s) (id : ℕ) (me : Me Slot View) (sits : Sits o me) (at : get_elem? s.views id ≡ some me.0) where
+  abbrev board : Board
+  board = board_of o s rule.posted rule.shut
+
+  abbrev hold : SlotsHold (slot_kinds o) board (to_of o)
+  hold = slots_hold o s rule
+
   abbrev T : ℕ
   T = tiles_in o
 
@@ -58,36 +64,30 @@ module _ (o : Opening) (s : State Slot View) (rule : Rule o s) (id : ℕ) (me : 
 
   abbrev place : ℕ → ℕ
   place =
-      claim_slot (slot_kinds o) T directions here n (to_of o) (from_of o) (ways_of o) rule.posted rule.shut s.homes rule.marks.came rule.marks.whole
-      rule.places rule.aways
+      claim_slot hold
 
   abbrev kind : ℕ → Slot → Type 0
   kind =
-      claim_kind (slot_kinds o) T directions here n (to_of o) (from_of o) (ways_of o) rule.posted rule.shut s.homes rule.marks.came rule.marks.whole
-      rule.places rule.aways
+      claim_kind hold
 
   kind_is_home : kind directions ≡ (λ (y : Slot). y ≡ tile_at o n)
   kind_is_home =
-      kind_home (slot_kinds o) T directions here n (to_of o) (from_of o) (ways_of o) rule.posted rule.shut s.homes rule.marks.came rule.marks.whole
-      rule.places rule.aways
+      kind_home hold
 
   kind_is_box : (k : ℕ) → (k ≡ directions → ⊥) → kind k ≡ (λ (y : Slot). y ≡ None)
   kind_is_box =
-      kind_box (slot_kinds o) T directions here n (to_of o) (from_of o) (ways_of o) rule.posted rule.shut s.homes rule.marks.came rule.marks.whole
-      rule.places rule.aways
+      kind_box hold
 
   abbrev Takes : Type 0
   Takes = Collected s.homes (suc directions) place kind
 
   at_home : place directions ≡ slot_at n directions
   at_home =
-      claim_home (slot_kinds o) T directions here n (to_of o) (from_of o) (ways_of o) rule.posted rule.shut s.homes rule.marks.came rule.marks.whole
-      rule.places rule.aways
+      claim_home hold
 
   at_box : (k : ℕ) → (k ≡ directions → ⊥) → place k ≡ slot_at (to_of o n k) k
   at_box =
-      claim_box (slot_kinds o) T directions here n (to_of o) (from_of o) (ways_of o) rule.posted rule.shut s.homes rule.marks.came rule.marks.whole
-      rule.places rule.aways
+      claim_box hold
 
   module _ (tile : n < T) (got : Takes) where
     abbrev after : View
@@ -115,17 +115,15 @@ module _ (o : Opening) (s : State Slot View) (rule : Rule o s) (id : ℕ) (me : 
       opened = opened_still after refl;
       tickets = subst (λ (k : ℕ). Tickets T o.seats k (set s.views id after)) (sym first_word)
           (draw_claims T o.seats n s.views rule.tickets id me.0 at sits.live after.owes after.rights tile);
-      marks = subst (λ (k : ℕ). Marks T directions k (from_of o) rule.posted rule.shut (set s.words 0 (suc n)) (set s.views id after)) (sym first_word)
-          (claim_marks T directions here n (to_of o) (from_of o) (ways_of o) rule.posted rule.shut s.words (set s.words 0
+      marks = subst (λ (k : ℕ). Marks (record board { ticket = k }) (set s.words 0 (suc n)) (set s.views id after)) (sym first_word)
+          (claim_marks board (to_of o) (ways_of o) s.words (set s.words 0
           (suc n)) s.views rule.marks id me.0 at sits.live arrivals tile);
-      places = subst (λ (k : ℕ). Places (slot_kinds o) T directions here k (from_of o) rule.posted rule.shut later) (sym first_word)
-          (subst (λ (hs : List (Option Slot)). Places (slot_kinds o) T directions here (suc n) (from_of o) rule.posted rule.shut hs) same_homes
-          (claim_places (slot_kinds o) T directions here n (to_of o) (from_of o)
-          (ways_of o) rule.posted rule.shut s.homes rule.marks.came rule.marks.whole rule.places rule.aways tile got));
-      aways = subst (λ (k : ℕ). Aways T directions here k (from_of o) rule.posted rule.shut later) (sym first_word)
-          (subst (λ (hs : List (Option Slot)). Aways T directions here (suc n) (from_of o) rule.posted rule.shut hs) same_homes
-          (claim_aways (slot_kinds o) T directions here n (to_of o) (from_of o)
-          (ways_of o) rule.posted rule.shut s.homes rule.marks.came rule.marks.whole rule.places rule.aways tile got));
+      places = subst (λ (k : ℕ). Places (slot_kinds o) (record board { ticket = k }) later) (sym first_word)
+          (subst (λ (hs : List (Option Slot)). Places (slot_kinds o) (record board { ticket = suc n }) hs) same_homes
+          (claim_places hold tile got));
+      aways = subst (λ (k : ℕ). Aways (record board { ticket = k }) later) (sym first_word)
+          (subst (λ (hs : List (Option Slot)). Aways (record board { ticket = suc n }) hs) same_homes
+          (claim_aways hold tile got));
     }
 
     -- no slot of the claim was with the seat before
@@ -227,15 +225,13 @@ module _ (o : Opening) (s : State Slot View) (rule : Rule o s) (id : ℕ) (me : 
         opened = opened_still after refl;
         tickets = subst (λ (k : ℕ). Tickets T o.seats k (set s.views id after)) (sym first_word)
             (draw_tells T o.seats n s.views rule.tickets id me.0 at sits.live me.0.owes me.0.rights past fresh);
-        marks = subst (λ (k : ℕ). Marks T directions k (from_of o) rule.posted rule.shut (set s.words 0 (suc n)) (set s.views id after)) (sym first_word)
-            (told_marks T directions here n (to_of o) (from_of o) (ways_of o) rule.posted rule.shut s.words (set s.words 0
+        marks = subst (λ (k : ℕ). Marks (record board { ticket = k }) (set s.words 0 (suc n)) (set s.views id after)) (sym first_word)
+            (told_marks board (to_of o) (ways_of o) s.words (set s.words 0
             (suc n)) s.views rule.marks id me.0 at sits.live arrivals (suc n) true past);
-        places = subst (λ (k : ℕ). Places (slot_kinds o) T directions here k (from_of o) rule.posted rule.shut s.homes) (sym first_word)
-            (told_places (slot_kinds o) T directions here n (to_of o) (from_of o)
-            (ways_of o) rule.posted rule.shut s.homes rule.marks.came rule.marks.whole rule.places rule.aways past);
-        aways = subst (λ (k : ℕ). Aways T directions here k (from_of o) rule.posted rule.shut s.homes) (sym first_word)
-            (told_aways (slot_kinds o) T directions here n (to_of o) (from_of o)
-            (ways_of o) rule.posted rule.shut s.homes rule.marks.came rule.marks.whole rule.places rule.aways past);
+        places = subst (λ (k : ℕ). Places (slot_kinds o) (record board { ticket = k }) s.homes) (sym first_word)
+            (told_places hold past);
+        aways = subst (λ (k : ℕ). Aways (record board { ticket = k }) s.homes) (sym first_word)
+            (told_aways hold past);
       }
 
   drawn_before : me.0.drawn ≤ n
@@ -254,8 +250,7 @@ module _ (o : Opening) (s : State Slot View) (rule : Rule o s) (id : ℕ) (me : 
     )
     | no tile_there ↦
         let tile : n < T = omega (arith, tile_there) in
-        let got : Takes = claim_takes (slot_kinds o) T directions here n (to_of o) (from_of o) (ways_of o) rule.posted rule.shut s.homes rule.marks.came
-        rule.marks.whole rule.places rule.aways tile None in (
+        let got : Takes = claim_takes hold tile None in (
           did_claim (to_of o) directions n me.0,
           take_all got.list,
           got.valid me.1,

@@ -6,7 +6,7 @@ use lib.ListN.{get_elem?}
 use Rattle.pic_yard.specs.declared.view.View.{View}
 use Rattle.pic_yard.specs.Members.{In, Differ}
 use Rattle.pic_yard.specs.Steps.{now_has, boxes_of, did_claim}
-use Rattle.pic_yard.specs.Marks.{Lists, IsOwed, IsRight, Marks}
+use Rattle.pic_yard.specs.Marks.{Board, Lists, IsOwed, IsRight, Marks}
 use Rattle.pic_yard.proofs.Ways.{AreWays}
 use Rattle.pic_yard.proofs.CountLaws.{at_else, at_here, at_other}
 use Rattle.pic_yard.proofs.MemberLaws.{in_left, in_right, in_parts, in_boxes, boxes_in, boxes_differ, differ_both}
@@ -16,9 +16,11 @@ use Rattle.pic_yard.proofs.ViewLaws.{each_view, lists_still, lists_now}
 abbrev pub ArrivalsStay : ℕ → List ℕ → List ℕ → Type 0
 ArrivalsStay tiles words later = (r : ℕ) → r < tiles → slice_index later (suc r) ≡ slice_index words (suc r)
 
-module _ (tiles dirs here ticket : ℕ) (to from : ℕ → ℕ → ℕ) (ways : AreWays tiles dirs here to from) (posted : ℕ → ℕ → Bool) (shut : ℕ → Bool)
-    (words later : List ℕ) (views : List View) (m : Marks tiles dirs ticket from posted shut words views) (j : ℕ) (v : View)
-    (there : get_elem? views j ≡ some v) (live : v.live ≡ true) (stay : ArrivalsStay tiles words later) where
+module _ (b : Board) (to : ℕ → ℕ → ℕ) (ways : AreWays b.tiles b.dirs b.here to b.from)
+    (words later : List ℕ) (views : List View) (m : Marks b words views) (j : ℕ) (v : View)
+    (there : get_elem? views j ≡ some v) (live : v.live ≡ true) (stay : ArrivalsStay b.tiles words later) where
+  open b use {tiles, dirs, ticket, from, posted, shut}
+
   abbrev Owed : (ℕ → ℕ) → ℕ → View → Type 0
   Owed claimer i x = (r d : ℕ) → In (r, d) x.owes → IsOwed tiles dirs (suc ticket) from posted claimer r d i
 
@@ -34,7 +36,7 @@ module _ (tiles dirs here ticket : ℕ) (to from : ℕ → ℕ → ℕ) (ways : 
       omega (arith, sender, less)
 
   -- the number drawn is that of a tile
-  pub claim_marks : ticket < tiles → Marks tiles dirs (suc ticket) from posted shut later (set views j (did_claim to dirs ticket v))
+  pub claim_marks : ticket < tiles → Marks (record b { ticket = suc b.ticket }) later (set views j (did_claim to dirs ticket v))
   claim_marks below =
       let u : View = did_claim to dirs ticket v in
       let claimer : ℕ → ℕ = at_else ticket j m.claimer in
@@ -104,7 +106,7 @@ module _ (tiles dirs here ticket : ℕ) (to from : ℕ → ℕ → ℕ) (ways : 
 
   -- the number drawn is past the last tile
   pub told_marks : (drawn : ℕ) (told : Bool) → tiles ≤ ticket
-      → Marks tiles dirs (suc ticket) from posted shut later (set views j (now_has v drawn told v.owes v.rights))
+      → Marks (record b { ticket = suc b.ticket }) later (set views j (now_has v drawn told v.owes v.rights))
   told_marks drawn told past =
       let u : View = now_has v drawn told v.owes v.rights in
       record {

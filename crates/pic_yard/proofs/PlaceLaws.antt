@@ -5,6 +5,7 @@ use Rattle.std.proofs.Common.{true≢false}
 use Rattle.std.proofs.Math.Decide.{ℕ_discrete}
 use mathlib.Core.Option.{Option, none, some}
 use lib.ListN.{get_elem?}
+use Rattle.pic_yard.specs.Marks.{Board}
 use Rattle.pic_yard.specs.Members.{count_below}
 use Rattle.pic_yard.proofs.Ways.{AreWays}
 use Rattle.pic_yard.specs.Places.{slot_in, IsHome, Kinds, Places, Aways}
@@ -18,11 +19,19 @@ pub home_still : {S : Type 0} (homes later : List (Option S)) (at : ℕ) (P : S 
     → IsHome later at P
 home_still homes later at P same h = record { value = h.value; there = same ∙ h.there; is = h.is }
 
-module _ {S : Type 0} (kinds : Kinds S) (tiles dirs here ticket : ℕ) (to from : ℕ → ℕ → ℕ) (ways : AreWays tiles dirs here to from)
-    (posted : ℕ → ℕ → Bool) (shut : ℕ → Bool) (homes : List (Option S))
-    (came : (r d : ℕ) → r < tiles → d < dirs → posted r d ≡ true → from r d < ticket)
-    (whole : (r : ℕ) → r < tiles → shut r ≡ true → count_below (posted r) dirs ≡ dirs)
-    (places : Places kinds tiles dirs here ticket from posted shut homes) (aways : Aways tiles dirs here ticket from posted shut homes) where
+-- what holds of the slots of a board, and of its marks what they need
+pub record SlotsHold {S : Type 0} (kinds : Kinds S) (b : Board) (to : ℕ → ℕ → ℕ) : Type 0 where
+  pub homes : List (Option S)
+  pub ways : AreWays b.tiles b.dirs b.here to b.from
+  pub came : (r d : ℕ) → r < b.tiles → d < b.dirs → b.posted r d ≡ true → b.from r d < b.ticket
+  pub whole : (r : ℕ) → r < b.tiles → b.shut r ≡ true → count_below (b.posted r) b.dirs ≡ b.dirs
+  pub places : Places kinds b homes
+  pub aways : Aways b homes
+
+module _ {S : Type 0} {kinds : Kinds S} {b : Board} {to : ℕ → ℕ → ℕ} (h : SlotsHold kinds b to) where
+  open b use {tiles, dirs, here, ticket, from, posted, shut}
+  open h use {ways, homes, came, whole, places, aways}
+
   -- of a tile whose parcels are all posted all senders are claimed, and it is claimed itself
   pub senders_claimed : (r d : ℕ) → r < tiles → d < dirs → count_below (posted r) dirs ≡ dirs → from r d < ticket
   senders_claimed r d tile dir full = came r d tile dir (count_all (posted r) dirs d full dir)
@@ -116,7 +125,7 @@ module _ {S : Type 0} (kinds : Kinds S) (tiles dirs here ticket : ℕ) (to from 
           apart (sym (slot_place dirs t dirs (to ticket k) k (omega arith) below at))
     ])
 
-    pub claim_places : Places kinds tiles dirs here (suc ticket) from posted shut later
+    pub claim_places : Places kinds (record b { ticket = suc b.ticket }) later
     claim_places = record {
       bare = λ r d inside dir sender.
           home_still homes later (slot_in dirs r d) kinds.IsEmpty (box_same r d inside dir (λ e. omega (arith, sender, e))) (places.bare r d inside dir
@@ -135,7 +144,7 @@ module _ {S : Type 0} (kinds : Kinds S) (tiles dirs here ticket : ℕ) (to from 
           home_still homes later (slot_in dirs r dirs) (kinds.IsFinished r) (home_same r (λ e. omega (arith, less, e))) (places.finished r inside closed);
     }
 
-    pub claim_aways : Aways tiles dirs here (suc ticket) from posted shut later
+    pub claim_aways : Aways (record b { ticket = suc b.ticket }) later
     claim_aways = record {
       lent = λ r d inside dir sender free. elim (ℕ_discrete (from r d) ticket) [
         | yes is ↦
@@ -153,7 +162,7 @@ module _ {S : Type 0} (kinds : Kinds S) (tiles dirs here ticket : ℕ) (to from 
     }
 
   -- a draw past the last tile moves no slot
-  pub told_places : tiles ≤ ticket → Places kinds tiles dirs here (suc ticket) from posted shut homes
+  pub told_places : tiles ≤ ticket → Places kinds (record b { ticket = suc b.ticket }) homes
   told_places past = record {
     bare = λ r d inside dir sender. places.bare r d inside dir (omega arith);
     full = places.full;
@@ -163,7 +172,7 @@ module _ {S : Type 0} (kinds : Kinds S) (tiles dirs here ticket : ℕ) (to from 
     finished = places.finished;
   }
 
-  pub told_aways : tiles ≤ ticket → Aways tiles dirs here (suc ticket) from posted shut homes
+  pub told_aways : tiles ≤ ticket → Aways (record b { ticket = suc b.ticket }) homes
   told_aways past = record {
     lent = λ r d inside dir sender free. let less : from r d < tiles = ways.from_below r d inside dir in aways.lent r d inside dir (omega
         (arith, less, past)) free;
@@ -184,7 +193,7 @@ module _ {S : Type 0} (kinds : Kinds S) (tiles dirs here ticket : ℕ) (to from 
     was : (q : ℕ) → (q ≡ r → ⊥) → after q ≡ true → shut q ≡ true
     was q apart closed = sym (at_other r q true shut apart) ∙ closed
 
-    pub back_places : Places kinds tiles dirs here ticket from posted after later
+    pub back_places : Places kinds (record b { shut = after }) later
     back_places = record {
       bare = λ q d tile dir sender.
           let apart : q ≡ r → ⊥ = λ e. let less : from q d < ticket = senders_claimed q d tile dir (ap (λ (k : ℕ). count_below (posted k) dirs) e
@@ -214,7 +223,7 @@ module _ {S : Type 0} (kinds : Kinds S) (tiles dirs here ticket : ℕ) (to from 
       ];
     }
 
-    pub back_aways : Aways tiles dirs here ticket from posted after later
+    pub back_aways : Aways (record b { shut = after }) later
     back_aways = record {
       lent = λ q d tile dir sender free.
           let apart : q ≡ r → ⊥ = λ e. true≢false (sym (ap (λ (k : ℕ). posted k d) e ∙ count_all (posted r) dirs d full dir) ∙ free) in

@@ -7,7 +7,7 @@ use lib.ListN.{get_elem?}
 use Rattle.pic_yard.specs.declared.view.View.{View}
 use Rattle.pic_yard.specs.Members.{In, Differ, same_pair, count_below}
 use Rattle.pic_yard.specs.Steps.{did_post}
-use Rattle.pic_yard.specs.Marks.{Lists, IsOwed, IsRight, Marks}
+use Rattle.pic_yard.specs.Marks.{Board, Lists, IsOwed, IsRight, Marks}
 use Rattle.pic_yard.proofs.CountLaws.{at_else, at_here, at_other, count_le, count_more, count_all}
 use Rattle.pic_yard.proofs.MemberLaws.{kept, was_in, unseen_in, differ_without, pair_other, pair_apart}
 use Rattle.pic_yard.proofs.ViewLaws.{each_view, lists_still, lists_now}
@@ -57,9 +57,10 @@ pub record OneArrives (tiles r n : ℕ) (words later : List ℕ) : Type 0 where
   pub now : slice_index later (suc r) ≡ n
   pub others : (x : ℕ) → x < tiles → (x ≡ r → ⊥) → slice_index later (suc x) ≡ slice_index words (suc x)
 
-module _ (tiles dirs ticket : ℕ) (from : ℕ → ℕ → ℕ) (posted : ℕ → ℕ → Bool) (shut : ℕ → Bool)
-    (words later : List ℕ) (views : List View) (m : Marks tiles dirs ticket from posted shut words views) (j : ℕ) (v : View)
+module _ (b : Board) (words later : List ℕ) (views : List View) (m : Marks b words views) (j : ℕ) (v : View)
     (there : get_elem? views j ≡ some v) (live : v.live ≡ true) (r d : ℕ) (is : In (r, d) v.owes) where
+  open b use {tiles, dirs, ticket, from, posted, shut}
+
   abbrev n : ℕ
   n = count_below (posted r) dirs
 
@@ -133,7 +134,7 @@ module _ (tiles dirs ticket : ℕ) (from : ℕ → ℕ → ℕ) (posted : ℕ �
       let apart : a ≡ r → ⊥ = λ e. not_all (subst (λ (k : ℕ). count_below (posted k) dirs ≡ dirs) e o.all) in
       record { tile = o.tile; all = count_row posted r d dirs a apart ∙ o.all; open_yet = o.open_yet; by = at_other r a j m.finisher apart ∙ o.by }
 
-  pub post_marks : OneArrives tiles r (suc n) words later → Marks tiles dirs ticket from after shut later (set views j (did_post dirs r d n v))
+  pub post_marks : OneArrives tiles r (suc n) words later → Marks (record b { posted = after }) later (set views j (did_post dirs r d n v))
   post_marks words_are =
       let u : View = did_post dirs r d n v in
       let mine_owed : Owed j u = λ a b had.

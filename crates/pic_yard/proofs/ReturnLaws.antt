@@ -9,21 +9,21 @@ use Rattle.pic_tile.specs.Directions.{directions, here}
 use Rattle.pic_yard.specs.declared.opening.Opening.{Opening}
 use Rattle.pic_yard.specs.declared.view.View.{View}
 use Rattle.pic_yard.specs.Contents.{Slot, tiles_in, to_of, from_of, slot_kinds}
-use Rattle.pic_yard.specs.Marks.{Marks, IsRight}
+use Rattle.pic_yard.specs.Marks.{Board, Marks, IsRight}
 use Rattle.pic_yard.specs.Places.{Places, Aways}
 use Rattle.pic_yard.specs.Returns.{boxes_on, IsStacked, Returned}
-use Rattle.pic_yard.specs.Rule.{Rule, ticket_of}
+use Rattle.pic_yard.specs.Rule.{Rule, board_of, ticket_of}
 use Rattle.pic_yard.specs.Sits.{slot_at}
 use Rattle.pic_yard.specs.Steps.{gave_back}
 use Rattle.pic_yard.specs.Tickets.{Tickets}
 use Rattle.pic_yard.proofs.BackLaws.{back_marks}
 use Rattle.pic_yard.proofs.CountLaws.{at_else}
 use Rattle.pic_yard.proofs.CollectLaws.{slot_row, slot_place}
-use Rattle.pic_yard.proofs.PlaceLaws.{ComesBack, back_places, back_aways}
+use Rattle.pic_yard.proofs.PlaceLaws.{SlotsHold, ComesBack, back_places, back_aways}
 use Rattle.pic_yard.proofs.PostLaws.{OneArrives}
 use Rattle.pic_yard.proofs.TicketLaws.{keep_numbers}
 use Rattle.pic_yard.proofs.ViewLaws.{each_view, below_there}
-use Rattle.pic_yard.proofs.WayLaws.{ways_of}
+use Rattle.pic_yard.proofs.WayLaws.{slots_hold, ways_of}
 use Rattle.pic_yard.proofs.WordLaws.{word_now, word_still}
 
 -- the n slots that lie first are given back
@@ -86,6 +86,12 @@ boxes_there r (suc m) homes most inside k below =
 
 module _ (o : Opening) (s : State Slot View) (rule : Rule o s) (id : ℕ) (me : Me Slot View) (at : get_elem? s.views id ≡ some me.0)
     (r : ℕ) (tile : Slot) (slots : List (ℕ × Slot)) (stack : IsStacked o me r tile slots) where
+  abbrev board : Board
+  board = board_of o s rule.posted rule.shut
+
+  abbrev hold : SlotsHold (slot_kinds o) board (to_of o)
+  hold = slots_hold o s rule
+
   abbrev T : ℕ
   T = tiles_in o
 
@@ -127,8 +133,7 @@ module _ (o : Opening) (s : State Slot View) (rule : Rule o s) (id : ℕ) (me : 
 
   abbrev Back : List (Option Slot) → Type 0
   Back later =
-      ComesBack (slot_kinds o) T directions here w (to_of o) (from_of o) (ways_of o) rule.posted rule.shut s.homes rule.marks.came rule.marks.whole
-      rule.places rule.aways r later
+      ComesBack hold r later
 
   comes : Back given
   comes = record {
@@ -174,18 +179,16 @@ module _ (o : Opening) (s : State Slot View) (rule : Rule o s) (id : ℕ) (me : 
             (λ i x apart there alive. rule.opened i x there alive);
         tickets = subst (λ (k : ℕ). Tickets T o.seats k (set s.views id after)) (sym same_ticket)
             (keep_numbers T o.seats w s.views rule.tickets id me.0 at stack.live after.owes after.rights);
-        marks = subst (λ (k : ℕ). Marks T directions k (from_of o) rule.posted now_shut (set s.words (suc r) (suc directions)) (set s.views id after))
+        marks = subst (λ (k : ℕ). Marks (record board { ticket = k; shut = now_shut }) (set s.words (suc r) (suc directions)) (set s.views id after))
             (sym same_ticket)
-            (back_marks T directions w (from_of o) rule.posted rule.shut s.words (set s.words (suc r)
+            (back_marks board s.words (set s.words (suc r)
             (suc directions)) s.views rule.marks id me.0 at stack.live r stack.right words_are);
-        places = subst (λ (k : ℕ). Places (slot_kinds o) T directions here k (from_of o) rule.posted now_shut later) (sym same_ticket)
-            (subst (λ (hs : List (Option Slot)). Places (slot_kinds o) T directions here w (from_of o) rule.posted now_shut hs) (sym act_homes)
-            (back_places (slot_kinds o) T directions here w (to_of o) (from_of o) (ways_of o) rule.posted rule.shut s.homes rule.marks.came rule.marks.whole
-            rule.places rule.aways r right.tile right.all given comes));
-        aways = subst (λ (k : ℕ). Aways T directions here k (from_of o) rule.posted now_shut later) (sym same_ticket)
-            (subst (λ (hs : List (Option Slot)). Aways T directions here w (from_of o) rule.posted now_shut hs) (sym act_homes)
-            (back_aways (slot_kinds o) T directions here w (to_of o) (from_of o) (ways_of o) rule.posted rule.shut s.homes rule.marks.came rule.marks.whole
-            rule.places rule.aways r right.tile right.all given comes));
+        places = subst (λ (k : ℕ). Places (slot_kinds o) (record board { ticket = k; shut = now_shut }) later) (sym same_ticket)
+            (subst (λ (hs : List (Option Slot)). Places (slot_kinds o) (record board { shut = now_shut }) hs) (sym act_homes)
+            (back_places hold r right.tile right.all given comes));
+        aways = subst (λ (k : ℕ). Aways (record board { ticket = k; shut = now_shut }) later) (sym same_ticket)
+            (subst (λ (hs : List (Option Slot)). Aways (record board { shut = now_shut }) hs) (sym act_homes)
+            (back_aways hold r right.tile right.all given comes));
       }
 
 -- giving back by a seat that has the right to the tile, and has it finished at hand

@@ -7,14 +7,15 @@ use Rattle.atomic_table.proofs.Lists.{at_longer, set_else}
 use Rattle.pic_yard.specs.declared.view.View.{View}
 use Rattle.pic_yard.specs.Members.{In, Differ, count_below}
 use Rattle.pic_yard.specs.Steps.{gave_number, newcomer, took_in, spent_view}
-use Rattle.pic_yard.specs.Marks.{Lists, IsOwed, IsRight, Marks}
+use Rattle.pic_yard.specs.Marks.{Board, Lists, IsOwed, IsRight, Marks}
 use Rattle.pic_yard.proofs.Ways.{AreWays}
 use Rattle.pic_yard.proofs.CountLaws.{all_counted}
 use Rattle.pic_yard.proofs.ViewLaws.{each_view, at_end, lists_still}
 
-module _ (tiles dirs ticket : ℕ) (from : ℕ → ℕ → ℕ) (posted : ℕ → ℕ → Bool) (shut : ℕ → Bool)
-    (words : List ℕ) (views : List View) (m : Marks tiles dirs ticket from posted shut words views) (j : ℕ) (v : View)
+module _ (b : Board) (words : List ℕ) (views : List View) (m : Marks b words views) (j : ℕ) (v : View)
     (there : get_elem? views j ≡ some v) (live : v.live ≡ true) where
+  open b use {tiles, dirs, here, ticket, from, posted, shut}
+
   abbrev Owed : ℕ → View → Type 0
   Owed i x = (a b : ℕ) → In (a, b) x.owes → IsOwed tiles dirs ticket from posted m.claimer a b i
 
@@ -22,7 +23,7 @@ module _ (tiles dirs ticket : ℕ) (from : ℕ → ℕ → ℕ) (posted : ℕ �
   Rights i x = (a : ℕ) → In a x.rights → IsRight tiles dirs posted shut m.finisher a i
 
   -- a seat is made
-  pub split_marks : (x : ℕ) → Marks tiles dirs ticket from posted shut words (set views j (gave_number x v) ++ newcomer v x ∷ [])
+  pub split_marks : (x : ℕ) → Marks b words (set views j (gave_number x v) ++ newcomer v x ∷ [])
   split_marks x =
       let u : View = gave_number x v in
       let longer : (c : ℕ) (What : View → Type 0) → Lists (set views j u) c What → Lists (set views j u ++ newcomer v x ∷ []) c What = λ c What l.
@@ -53,7 +54,7 @@ module _ (tiles dirs ticket : ℕ) (from : ℕ → ℕ → ℕ) (posted : ℕ �
 
   -- a seat that lists nothing is taken in
   pub join_marks : (i : ℕ) (w : View) → (i ≡ j → ⊥) → get_elem? views i ≡ some w → w.owes ≡ [] → w.rights ≡ []
-      → Marks tiles dirs ticket from posted shut words (set (set views j (took_in v w)) i spent_view)
+      → Marks b words (set (set views j (took_in v w)) i spent_view)
   join_marks i w apart at no_owes no_rights =
       let u : View = took_in v w in
       let others : (c : ℕ) (What : View → Type 0) → (What v → What u) → (What w → ⊥) → Lists views c What
@@ -85,10 +86,10 @@ module _ (tiles dirs ticket : ℕ) (from : ℕ → ℕ → ℕ) (posted : ℕ �
       }
 
   -- Where all tiles are claimed, and the one live view lists nothing, all tiles are shut.
-  pub all_shut : (to : ℕ → ℕ → ℕ) (here : ℕ) → AreWays tiles dirs here to from → tiles < ticket → v.owes ≡ [] → v.rights ≡ []
+  pub all_shut : (to : ℕ → ℕ → ℕ) → AreWays tiles dirs here to from → tiles < ticket → v.owes ≡ [] → v.rights ≡ []
       → ((i : ℕ) (u : View) → get_elem? views i ≡ some u → u.live ≡ true → i ≡ j)
       → (r : ℕ) → r < tiles → (shut r ≡ true) × (slice_index words (suc r) ≡ suc dirs)
-  all_shut to here ways past no_owes no_rights only r tile =
+  all_shut to ways past no_owes no_rights only r tile =
       let lists_none : (c : ℕ) (What : View → Type 0) → (What v → ⊥) → Lists views c What → ⊥ = λ c What never l.
       let is : c ≡ j = only c l.view l.there l.live in
       let found : get_elem? views j ≡ some l.view = subst (λ (k : ℕ). get_elem? views k ≡ some l.view) is l.there in

@@ -10,7 +10,7 @@ use Rattle.pic_yard.specs.declared.view.View.{View}
 use Rattle.pic_yard.specs.Contents.{Slot, tiles_in, to_of, from_of}
 use Rattle.pic_yard.specs.Laws.{IsOver}
 use Rattle.pic_yard.specs.Members.{In}
-use Rattle.pic_yard.specs.Rule.{Rule, ticket_of}
+use Rattle.pic_yard.specs.Rule.{Rule, board_of, ticket_of}
 use Rattle.pic_yard.specs.Steps.{gave_number, newcomer, took_in, spent_view}
 use Rattle.pic_yard.proofs.NumberLaws.{number_given, seat_taken, all_taken}
 use Rattle.pic_yard.proofs.SeatLaws.{split_marks, join_marks, all_shut}
@@ -34,7 +34,7 @@ split_allowed o id v x live opened is s rule at = record {
     | inr last ↦ subst (λ (y : View). y.opening ≡ Some o) last.1 opened
   ];
   tickets = number_given (tiles_in o) o.seats (ticket_of s) s.views rule.tickets id v at live x is;
-  marks = split_marks (tiles_in o) directions (ticket_of s) (from_of o) rule.posted rule.shut s.words s.views rule.marks id v at live x;
+  marks = split_marks (board_of o s rule.posted rule.shut) s.words s.views rule.marks id v at live x;
   places = rule.places;
   aways = rule.aways;
 }
@@ -57,8 +57,7 @@ join_allowed o id v other u live opened lives over no_owes no_rights s rule at a
           (λ k y ne at' alive. each_view (λ (l : ℕ) (z : View). z.opening ≡ Some o) s.views id (took_in v u) (λ yes_live. opened)
           (λ l z ne' at'' alive'. rule.opened l z at'' alive') k y at' alive);
       tickets = seat_taken (tiles_in o) o.seats (ticket_of s) s.views rule.tickets id v at live other u apart there lives over;
-      marks = join_marks (tiles_in o) directions (ticket_of s)
-          (from_of o) rule.posted rule.shut s.words s.views rule.marks id v at live other u apart there no_owes no_rights;
+      marks = join_marks (board_of o s rule.posted rule.shut) s.words s.views rule.marks id v at live other u apart there no_owes no_rights;
       places = rule.places;
       aways = rule.aways;
     }
@@ -68,6 +67,6 @@ pub over : (o : Opening) (s : State Slot View) (id : ℕ) (v : View) → Rule o 
     → ((x : ℕ) → x < o.seats → (x ≡ v.number) ⊎ In x v.taken) → v.owes ≡ [] → v.rights ≡ [] → IsOver o s
 over o s id v rule at live told all no_owes no_rights =
     let alone = all_taken (tiles_in o) o.seats (ticket_of s) s.views rule.tickets id v at live told all in
-    let closed = all_shut (tiles_in o) directions (ticket_of s) (from_of o) rule.posted rule.shut s.words s.views rule.marks id v at live
-    (to_of o) here (ways_of o) alone.0 no_owes no_rights alone.1 in
+    let closed = all_shut (board_of o s rule.posted rule.shut) s.words s.views rule.marks id v at live
+    (to_of o) (ways_of o) alone.0 no_owes no_rights alone.1 in
     record { words = λ r tile. (closed r tile).1; finished = λ r tile. rule.places.finished r tile (closed r tile).0 }

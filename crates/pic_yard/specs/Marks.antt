@@ -6,6 +6,18 @@ use lib.ListN.{get_elem?}
 use Rattle.pic_yard.specs.declared.view.View.{View}
 use Rattle.pic_yard.specs.Members.{In, Differ, count_below}
 
+-- how far a board is: of its tiles those below the ticket are claimed, the parcel (r, d) is posted
+-- where `posted r d` says so, and the tile r is shut where `shut r` does; `here` is the direction of
+-- no step
+pub record Board : Type 0 where
+  pub tiles : ℕ
+  pub dirs : ℕ
+  pub here : ℕ
+  pub ticket : ℕ
+  pub from : ℕ → ℕ → ℕ
+  pub posted : ℕ → ℕ → Bool
+  pub shut : ℕ → Bool
+
 -- the view of the seat j is live, and lists something
 pub record Lists (views : List View) (j : ℕ) (What : View → Type 0) : Type 0 where
   pub view : View
@@ -34,22 +46,22 @@ pub record IsRight (tiles dirs : ℕ) (posted : ℕ → ℕ → Bool) (shut : �
 -- the tile is shut it is one more than all. What isn't posted of a claimed tile is owed by the one
 -- seat that claimed it; where all parcels of a tile are posted, one seat has the right to it until
 -- it is shut. No live view lists the same parcel or the same tile twice.
-pub record Marks (tiles dirs ticket : ℕ) (from : ℕ → ℕ → ℕ) (posted : ℕ → ℕ → Bool) (shut : ℕ
-    → Bool) (words : List ℕ) (views : List View) : Type 0 where
+pub record Marks (b : Board) (words : List ℕ) (views : List View) : Type 0 where
   pub claimer : ℕ → ℕ
   pub finisher : ℕ → ℕ
-  pub came : (r d : ℕ) → r < tiles → d < dirs → posted r d ≡ true → from r d < ticket
-  pub arrivals : (r : ℕ) → r < tiles
-      → slice_index words (suc r) ≡ (if shut r then suc dirs else count_below (posted r) dirs)
-  pub whole : (r : ℕ) → r < tiles → shut r ≡ true → count_below (posted r) dirs ≡ dirs
-  pub owed : (r d : ℕ) → r < tiles → d < dirs → from r d < ticket → posted r d ≡ false
-      → Lists views (claimer (from r d)) (λ v. In (r, d) v.owes)
-  pub ready : (r : ℕ) → r < tiles → count_below (posted r) dirs ≡ dirs → shut r ≡ false
+  pub came : (r d : ℕ) → r < b.tiles → d < b.dirs → b.posted r d ≡ true → b.from r d < b.ticket
+  pub arrivals : (r : ℕ) → r < b.tiles
+      → slice_index words (suc r)
+      ≡ (if b.shut r then suc b.dirs else count_below (b.posted r) b.dirs)
+  pub whole : (r : ℕ) → r < b.tiles → b.shut r ≡ true → count_below (b.posted r) b.dirs ≡ b.dirs
+  pub owed : (r d : ℕ) → r < b.tiles → d < b.dirs → b.from r d < b.ticket → b.posted r d ≡ false
+      → Lists views (claimer (b.from r d)) (λ v. In (r, d) v.owes)
+  pub ready : (r : ℕ) → r < b.tiles → count_below (b.posted r) b.dirs ≡ b.dirs → b.shut r ≡ false
       → Lists views (finisher r) (λ v. In r v.rights)
   pub owes : (j : ℕ) (v : View) → get_elem? views j ≡ some v → v.live ≡ true
-      → (r d : ℕ) → In (r, d) v.owes → IsOwed tiles dirs ticket from posted claimer r d j
+      → (r d : ℕ) → In (r, d) v.owes → IsOwed b.tiles b.dirs b.ticket b.from b.posted claimer r d j
   pub rights : (j : ℕ) (v : View) → get_elem? views j ≡ some v → v.live ≡ true
-      → (r : ℕ) → In r v.rights → IsRight tiles dirs posted shut finisher r j
+      → (r : ℕ) → In r v.rights → IsRight b.tiles b.dirs b.posted b.shut finisher r j
   -- each parcel that a live view owes stands in it once,
   pub once_owed : (j : ℕ) (v : View) → get_elem? views j ≡ some v → v.live ≡ true → Differ v.owes
   -- and so does each tile to which it has the right

@@ -3,6 +3,7 @@
 use Rattle.std.specs.Prelude.{◌≡◌, ℕ, suc, ◌+◌, ◌*◌, ◌<◌, ◌≤◌, List, Bool, true, false}
 use mathlib.Core.Option.{Option, none, some}
 use lib.ListN.{get_elem?}
+use Rattle.pic_yard.specs.Marks.{Board}
 use Rattle.pic_yard.specs.Members.{count_below}
 
 abbrev pub slot_in : ℕ → ℕ → ℕ → ℕ
@@ -30,30 +31,30 @@ pub record Kinds (S : Type 0) : Type 1 where
 -- the slots at home: mailboxes before their sender is claimed and after their receiver is shut, a
 -- posted parcel until the last of its receiver is posted; home slots before the claim, vacant from
 -- the post of no step until the last parcel for the tile is posted, and after the tile is shut
-pub record Places {S : Type 0} (kinds : Kinds S) (tiles dirs here ticket : ℕ) (from : ℕ → ℕ
-    → ℕ) (posted : ℕ → ℕ → Bool) (shut : ℕ → Bool) (homes : List (Option S)) : Type 0 where
-  pub bare : (r d : ℕ) → r < tiles → d < dirs → ticket ≤ from r d
-      → IsHome homes (slot_in dirs r d) kinds.IsEmpty
-  pub full : (r d : ℕ) → r < tiles → d < dirs → posted r d ≡ true
-      → count_below (posted r) dirs < dirs
-      → IsHome homes (slot_in dirs r d) (kinds.IsParcel (from r d) d)
-  pub emptied : (r d : ℕ) → r < tiles → d < dirs → shut r ≡ true
-      → IsHome homes (slot_in dirs r d) kinds.IsEmpty
-  pub opening : (t : ℕ) → t < tiles → ticket ≤ t
-      → IsHome homes (slot_in dirs t dirs) (kinds.IsTile t)
-  pub between : (t : ℕ) → t < tiles → posted t here ≡ true → count_below (posted t) dirs < dirs
-      → IsHome homes (slot_in dirs t dirs) kinds.IsVacant
-  pub finished : (r : ℕ) → r < tiles → shut r ≡ true
-      → IsHome homes (slot_in dirs r dirs) (kinds.IsFinished r)
+pub record Places {S : Type 0} (kinds : Kinds S) (b : Board)
+    (homes : List (Option S)) : Type 0 where
+  pub bare : (r d : ℕ) → r < b.tiles → d < b.dirs → b.ticket ≤ b.from r d
+      → IsHome homes (slot_in b.dirs r d) kinds.IsEmpty
+  pub full : (r d : ℕ) → r < b.tiles → d < b.dirs → b.posted r d ≡ true
+      → count_below (b.posted r) b.dirs < b.dirs
+      → IsHome homes (slot_in b.dirs r d) (kinds.IsParcel (b.from r d) d)
+  pub emptied : (r d : ℕ) → r < b.tiles → d < b.dirs → b.shut r ≡ true
+      → IsHome homes (slot_in b.dirs r d) kinds.IsEmpty
+  pub opening : (t : ℕ) → t < b.tiles → b.ticket ≤ t
+      → IsHome homes (slot_in b.dirs t b.dirs) (kinds.IsTile t)
+  pub between : (t : ℕ) → t < b.tiles → b.posted t b.here ≡ true
+      → count_below (b.posted t) b.dirs < b.dirs
+      → IsHome homes (slot_in b.dirs t b.dirs) kinds.IsVacant
+  pub finished : (r : ℕ) → r < b.tiles → b.shut r ≡ true
+      → IsHome homes (slot_in b.dirs r b.dirs) (kinds.IsFinished r)
 
 -- the slots that are away: a mailbox from the claim of its sender to its post, a home slot from the
 -- claim to the post of no step, and all slots of a tile from the last post to it until it is shut
-pub record Aways {S : Type 0} (tiles dirs here ticket : ℕ) (from : ℕ → ℕ → ℕ) (posted : ℕ → ℕ
-    → Bool) (shut : ℕ → Bool) (homes : List (Option S)) : Type 0 where
-  pub lent : (r d : ℕ) → r < tiles → d < dirs → from r d < ticket → posted r d ≡ false
-      → IsAway homes (slot_in dirs r d)
-  pub left : (t : ℕ) → t < tiles → t < ticket → posted t here ≡ false
-      → IsAway homes (slot_in dirs t dirs)
-  pub held : (r k : ℕ) → r < tiles → k < suc dirs → count_below (posted r) dirs ≡ dirs
-      → shut r ≡ false
-      → IsAway homes (slot_in dirs r k)
+pub record Aways {S : Type 0} (b : Board) (homes : List (Option S)) : Type 0 where
+  pub lent : (r d : ℕ) → r < b.tiles → d < b.dirs → b.from r d < b.ticket → b.posted r d ≡ false
+      → IsAway homes (slot_in b.dirs r d)
+  pub left : (t : ℕ) → t < b.tiles → t < b.ticket → b.posted t b.here ≡ false
+      → IsAway homes (slot_in b.dirs t b.dirs)
+  pub held : (r k : ℕ) → r < b.tiles → k < suc b.dirs → count_below (b.posted r) b.dirs ≡ b.dirs
+      → b.shut r ≡ false
+      → IsAway homes (slot_in b.dirs r k)

@@ -12,13 +12,26 @@ use Rattle.pic_tile.specs.Directions.{directions, here}
 use Rattle.pic_yard.specs.declared.opening.Opening.{Opening}
 use Rattle.pic_yard.specs.declared.view.View.{View}
 use Rattle.pic_yard.specs.Contents.{Slot, tiles_in, from_of, slot_kinds}
-use Rattle.pic_yard.specs.Marks.{Marks}
+use Rattle.pic_yard.specs.Marks.{Board, Marks}
 use Rattle.pic_yard.specs.Places.{Places, Aways}
 use Rattle.pic_yard.specs.Tickets.{Tickets}
 
 -- the word of the ticket is the first; the arrival word of the tile r is the word r + 1
 abbrev pub ticket_of : State Slot View → ℕ
 ticket_of s = slice_index s.words 0
+
+-- how far it is, where these parcels are posted and these tiles shut
+abbrev pub board_of : Opening → State Slot View → (ℕ → ℕ → Bool) → (ℕ → Bool) → Board
+board_of o s posted shut =
+    record {
+      tiles = tiles_in o;
+      dirs = directions;
+      here = here;
+      ticket = ticket_of s;
+      from = from_of o;
+      posted = posted;
+      shut = shut;
+    }
 
 pub record Rule (o : Opening) (s : State Slot View) : Type 0 where
   pub posted : ℕ → ℕ → Bool
@@ -31,7 +44,6 @@ pub record Rule (o : Opening) (s : State Slot View) : Type 0 where
   pub opened : (j : ℕ) (v : View) → get_elem? s.views j ≡ some v → v.live ≡ true
       → v.opening ≡ Some o
   pub tickets : Tickets (tiles_in o) o.seats (ticket_of s) s.views
-  pub marks : Marks (tiles_in o) directions (ticket_of s) (from_of o) posted shut s.words s.views
-  pub places : Places (slot_kinds o) (tiles_in o) directions here (ticket_of s)
-      (from_of o) posted shut s.homes
-  pub aways : Aways (tiles_in o) directions here (ticket_of s) (from_of o) posted shut s.homes
+  pub marks : Marks (board_of o s posted shut) s.words s.views
+  pub places : Places (slot_kinds o) (board_of o s posted shut) s.homes
+  pub aways : Aways (board_of o s posted shut) s.homes
