@@ -11,7 +11,7 @@ use Rattle.pic_grid.specs.Parts.{IsLayer}
 use Rattle.pic_grid.proofs.CellLaws.{place_of_below}
 use Rattle.pic_gather.specs.Forces.{AreForces, IsForce, row_sum}
 use Rattle.pic_gather.specs.Sides.{IsSide}
-use Rattle.pic_gather.specs.declared.layered.Side.{Side}
+use Rattle.pic_gather.specs.declared.sides.Side.{Side}
 use Rattle.pic_gather.proofs.MixLaws.{mix, mixed}
 
 -- the number of a place in its layer is in range

@@ -1,3 +1,2 @@
-pub mod Stencil
 pub mod Sides
 pub mod Forces

@@ -1,14 +1,17 @@
--- The places that a point is gathered from, in a lattice with a part for each layer of z: the number
--- of a place in its layer is the number of its axis times the number of the layer's cells, and what
--- the cell adds on x and y.
+-- The places that a point is gathered from: on each axis two cells where the places are the nodes,
+-- and two where they stand in the middle between the nodes (K. S. Yee, IEEE Trans. Antennas Propag.
+-- 14, 1966, 302). In a lattice with a part for each layer of z the number of a place in its layer
+-- is the number of its axis times the number of the layer's cells, and what the cell adds on x and
+-- y.
 use Rattle.std.specs.Prelude.{◌≡◌, ℕ, ◌*◌, ◌/◌, ◌≤◌}
 use Rattle.pic_num.specs.Limits.{most_side}
-use Rattle.pic_num.specs.Space.{Triple}
-use Rattle.pic_grid.specs.Lattice.{Field}
+use Rattle.pic_num.specs.Space.{Triple, Spot}
+use Rattle.pic_grid.specs.Lattice.{Field, value_at}
 use Rattle.pic_grid.specs.Pair.{IsPair, IsPairOf}
-use Rattle.pic_gather.specs.declared.layered.Side.{Side}
-use Rattle.pic_gather.specs.declared.layered.Sides.{Sides}
-use Rattle.pic_gather.specs.declared.layered.Layered.{Layered}
+use Rattle.pic_gather.specs.Forces.{gathered_by}
+use Rattle.pic_gather.specs.declared.sides.Side.{Side}
+use Rattle.pic_gather.specs.declared.sides.Sides.{Sides}
+use Rattle.pic_gather.specs.declared.sides.Places.{Places}
 
 -- what the two cells of a pair add on an axis of n cells, of side sub-cells each, where one cell
 -- further adds step
@@ -42,7 +45,15 @@ pub record AreSides (side : ℕ) (n : Triple) (offset : ℕ) (point : Triple) (w
   pub z : IsPairOf side n.z offset point.z w.z
 
 -- a point's places, under a side that is none too long
-pub record IsLayered (side : ℕ) (n point : Triple) (w : Layered) : Type 0 where
+pub record ArePlaces (side : ℕ) (n point : Triple) (w : Places) : Type 0 where
   pub most : side ≤ most_side
   pub nodes : AreSides side n 0 point w.nodes
   pub middles : AreSides side n (side / 2) point w.middles
+
+-- what is gathered from a field at a point, by its sides on a component's own axis and on the two
+-- others
+abbrev pub Gathers : Field → Sides → Sides → Spot → Type 0
+Gathers f own others gathered =
+    (a b : ℕ) (point : Triple) → AreSides f.side f.cells a point own
+    → AreSides f.side f.cells b point others
+    → gathered ≡ gathered_by f.side f.cells a b (value_at f) point

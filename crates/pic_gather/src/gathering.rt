@@ -1,19 +1,18 @@
 //! The gather of E and of B at a point, apart or together.
 
-ghost use Rattle.std.specs.Prelude.{◌≡◌, ℕ, ◌≤◌};
+ghost use Rattle.std.specs.Prelude.{◌≡◌, ◌≤◌};
 ghost use Rattle.pic_num.specs.Limits.{most_force, most_side};
-ghost use Rattle.pic_num.specs.Space.{Triple, triple, spot, AreAtMost};
+ghost use Rattle.pic_num.specs.Space.{triple, spot, AreAtMost};
 ghost use Rattle.pic_grid.specs.Lattice.{value_at};
 ghost use Rattle.pic_grid.specs.Gather.{gathered_e, gathered_b};
 ghost use Rattle.pic_grid.specs.Hat.{IsInBox};
 ghost use Rattle.pic_grid.specs.Parts.{layered};
-ghost use Rattle.pic_gather.specs.Forces.{AreForces, gathered_by};
-ghost use Rattle.pic_gather.specs.Sides.{AreSides, AreSidesOf};
-ghost use Rattle.pic_gather.specs.Stencil.{AreOn, AreThree};
+ghost use Rattle.pic_gather.specs.Forces.{AreForces};
+ghost use Rattle.pic_gather.specs.Sides.{AreSidesOf, Gathers};
 
 use crate::component::component;
-use crate::layered::{Sides, layered_component, layered_of};
-use crate::stencil::{Three, stencil_of};
+use crate::layered::layered_component;
+use crate::sides::{Sides, places_of};
 use pic_grid::Lattice;
 use pic_num::{Axis, Sub};
 
@@ -33,15 +32,8 @@ pub fn gather_e(force: &Lattice, point: [u32; 3]) -> [i64; 3]
         ≡ gathered_e force.now.side force.now.cells (value_at force.now) (triple point) }
     ensures size { AreAtMost (spot result) most_force }
 {
-    let cells = force.cells();
-    let sub = cells.sub();
-    if force.is_layered() {
-        let at = layered_of(cells, point);
-        layered_components(force, sub, at.middles, at.nodes)
-    } else {
-        let at = stencil_of(force, sub, point);
-        components(force, sub, at.middles, at.nodes)
-    }
+    let at = places_of(force.cells(), point);
+    components(force, at.middles, at.nodes)
 }
 
 /// The force values of B at a point of the box, in sub-cells: each component is the mean over its
@@ -53,19 +45,12 @@ pub fn gather_b(force: &Lattice, point: [u32; 3]) -> [i64; 3]
         ≡ gathered_b force.now.side force.now.cells (value_at force.now) (triple point) }
     ensures size { AreAtMost (spot result) most_force }
 {
-    let cells = force.cells();
-    let sub = cells.sub();
-    if force.is_layered() {
-        let at = layered_of(cells, point);
-        layered_components(force, sub, at.nodes, at.middles)
-    } else {
-        let at = stencil_of(force, sub, point);
-        components(force, sub, at.nodes, at.middles)
-    }
+    let at = places_of(force.cells(), point);
+    components(force, at.nodes, at.middles)
 }
 
 /// Both at a point of the box, where the two lattices have the same cells, side and parts: their
-/// places are found once.
+/// places are found once. A run's lattices have a part for each layer of z.
 #[inline(always)]
 pub fn gather(force_e: &Lattice, force_b: &Lattice, point: [u32; 3]) -> Gathered
     requires in_box { IsInBox force_e.now.side force_e.now.cells (triple point) }
@@ -81,87 +66,45 @@ pub fn gather(force_e: &Lattice, force_b: &Lattice, point: [u32; 3]) -> Gathered
     ensures size_e { AreAtMost (spot result.e) most_force }
     ensures size_b { AreAtMost (spot result.b) most_force }
 {
-    if force_e.is_layered() {
-        layered_both(force_e, force_b, point)
-    } else {
-        both(force_e, force_b, point)
+    if !force_e.is_layered() {
+        return Gathered {
+            e: gather_e(force_e, point),
+            b: gather_b(force_b, point),
+        };
     }
-}
-
-/// Both in lattices of any parts.
-fn both(force_e: &Lattice, force_b: &Lattice, point: [u32; 3]) -> Gathered
-    requires in_box { IsInBox force_e.now.side force_e.now.cells (triple point) }
-    requires cells { force_b.now.cells ≡ force_e.now.cells }
-    requires side { force_b.now.side ≡ force_e.now.side }
-    requires parts { force_b.now.parts ≡ force_e.now.parts }
-    requires small_e { AreForces force_e.now }
-    requires small_b { AreForces force_b.now }
-    ensures e { spot result.e
-        ≡ gathered_e force_e.now.side force_e.now.cells (value_at force_e.now) (triple point) }
-    ensures b { spot result.b
-        ≡ gathered_b force_b.now.side force_b.now.cells (value_at force_b.now) (triple point) }
-    ensures size_e { AreAtMost (spot result.e) most_force }
-    ensures size_b { AreAtMost (spot result.b) most_force }
-{
-    let sub = force_e.cells().sub();
-    let at = stencil_of(force_e, sub, point);
-    Gathered {
-        e: components(force_e, sub, at.middles, at.nodes),
-        b: components(force_b, sub, at.nodes, at.middles),
-    }
-}
-
-/// Both in lattices with a part for each layer of z.
-#[inline(always)]
-fn layered_both(force_e: &Lattice, force_b: &Lattice, point: [u32; 3]) -> Gathered
-    requires parts { force_e.now.parts ≡ layered force_e.now.cells }
-    requires in_box { IsInBox force_e.now.side force_e.now.cells (triple point) }
-    requires cells { force_b.now.cells ≡ force_e.now.cells }
-    requires side { force_b.now.side ≡ force_e.now.side }
-    requires parts_b { force_b.now.parts ≡ force_e.now.parts }
-    requires small_e { AreForces force_e.now }
-    requires small_b { AreForces force_b.now }
-    ensures e { spot result.e
-        ≡ gathered_e force_e.now.side force_e.now.cells (value_at force_e.now) (triple point) }
-    ensures b { spot result.b
-        ≡ gathered_b force_b.now.side force_b.now.cells (value_at force_b.now) (triple point) }
-    ensures size_e { AreAtMost (spot result.e) most_force }
-    ensures size_b { AreAtMost (spot result.b) most_force }
-{
     let cells = force_e.cells();
     let sub = cells.sub();
-    let at = layered_of(cells, point);
+    let at = places_of(cells, point);
     Gathered {
         e: layered_components(force_e, sub, at.middles, at.nodes),
         b: layered_components(force_b, sub, at.nodes, at.middles),
     }
 }
 
-/// The three components at a point, each by the ends `own` on its own axis, and by `others` on the
-/// two others.
-#[inline(always)]
-fn components(force: &Lattice, sub: Sub, own: Three, others: Three) -> [i64; 3]
-    requires side { sub ≡ force.now.side }
+/// The three components at a point, each by the sides `own` on its own axis, and by `others` on the
+/// two others, in a lattice of any parts.
+fn components(force: &Lattice, own: Sides, others: Sides) -> [i64; 3]
     requires most { force.now.side ≤ most_side }
     requires small { AreForces force.now }
-    requires own { AreOn force.now own }
-    requires others { AreOn force.now others }
-    ensures value { (a b : ℕ) (point : Triple)
-        → AreThree force.now.side force.now.cells force.now.parts a point own
-        → AreThree force.now.side force.now.cells force.now.parts b point others
-        → spot result
-        ≡ gathered_by force.now.side force.now.cells a b (value_at force.now) point }
+    requires own { AreSidesOf force.now own }
+    requires others { AreSidesOf force.now others }
+    ensures value { Gathers force.now own others (spot result) }
     ensures size { AreAtMost (spot result) most_force }
 {
+    let sub = force.cells().sub();
+    if force.is_layered() {
+        return layered_components(force, sub, own, others);
+    }
+    let Sides { x, y, z } = others;
     [
-        component(force, sub, Axis::X, own.x, others.y, others.z),
-        component(force, sub, Axis::Y, others.x, own.y, others.z),
-        component(force, sub, Axis::Z, others.x, others.y, own.z),
+        component(force, sub, Axis::X, Sides { x: own.x, y, z }),
+        component(force, sub, Axis::Y, Sides { x, y: own.y, z }),
+        component(force, sub, Axis::Z, Sides { x, y, z: own.z }),
     ]
 }
 
-/// The same in a lattice with a part for each layer of z: two layers have the places of the nodes on
-/// z, and two those of the middles.
+/// The same in a lattice with a part for each layer of z: two layers have the places of the nodes
+/// on z, and two those of the middles.
 #[inline(always)]
 fn layered_components(force: &Lattice, sub: Sub, own: Sides, others: Sides) -> [i64; 3]
     requires parts { force.now.parts ≡ layered force.now.cells }
@@ -170,29 +113,20 @@ fn layered_components(force: &Lattice, sub: Sub, own: Sides, others: Sides) -> [
     requires small { AreForces force.now }
     requires own { AreSidesOf force.now own }
     requires others { AreSidesOf force.now others }
-    ensures value { (a b : ℕ) (point : Triple)
-        → AreSides force.now.side force.now.cells a point own
-        → AreSides force.now.side force.now.cells b point others
-        → spot result
-        ≡ gathered_by force.now.side force.now.cells a b (value_at force.now) point }
+    ensures value { Gathers force.now own others (spot result) }
     ensures size { AreAtMost (spot result) most_force }
 {
-    let low = force.layer(others.z.low);
-    let high = force.layer(others.z.high);
+    let Sides { x, y, z } = others;
+    let low = force.layer(z.low);
+    let high = force.layer(z.high);
     let own_low = force.layer(own.z.low);
     let own_high = force.layer(own.z.high);
+    let on_x = Sides { x: own.x, y, z };
+    let on_y = Sides { x, y: own.y, z };
+    let on_z = Sides { x, y, z: own.z };
     [
-        layered_component(force, sub, low, high, Axis::X, own.x, others.y, others.z),
-        layered_component(force, sub, low, high, Axis::Y, others.x, own.y, others.z),
-        layered_component(
-            force,
-            sub,
-            own_low,
-            own_high,
-            Axis::Z,
-            others.x,
-            others.y,
-            own.z,
-        ),
+        layered_component(force, sub, Axis::X, on_x, low, high),
+        layered_component(force, sub, Axis::Y, on_y, low, high),
+        layered_component(force, sub, Axis::Z, on_z, own_low, own_high),
     ]
 }

@@ -5,6 +5,6 @@ mod component;
 mod gathering;
 mod layered;
 mod mix;
-mod stencil;
+mod sides;
 
 pub use gathering::{Gathered, gather, gather_b, gather_e};

@@ -8,58 +8,58 @@ use Rattle.pic_gather.proofs.layered.layered_component.Goals as goal
 
 pub row-low_low-requires-clause-low : goal.row-low_low-requires-clause-low
 row-low_low-requires-clause-low c =
-    let l = list_of _ _ _ _ _ _ c.requires.low c.requires.z_on.low c.requires.small c.number.ensures (c.numbers.ensures.value ∙ c.cells.ensures.value) in
-    let y = c.requires.y_on in
-    low_force _ _ _ _ _ l c.args.x c.requires.x_on _ _ y.pair.low y.low
+    let l = list_of _ _ _ _ _ _ c.requires.low c.requires.on.z.low c.requires.small c.number.ensures (c.numbers.ensures.value ∙ c.cells.ensures.value) in
+    let y = c.requires.on.y in
+    low_force _ _ _ _ _ l c.args.at.x c.requires.on.x _ _ y.pair.low y.low
 
 pub row-low_low-requires-clause-high : goal.row-low_low-requires-clause-high
 row-low_low-requires-clause-high c =
-    let l = list_of _ _ _ _ _ _ c.requires.low c.requires.z_on.low c.requires.small c.number.ensures (c.numbers.ensures.value ∙ c.cells.ensures.value) in
-    let y = c.requires.y_on in
-    high_force _ _ _ _ _ l c.args.x c.requires.x_on _ _ y.pair.low y.low
+    let l = list_of _ _ _ _ _ _ c.requires.low c.requires.on.z.low c.requires.small c.number.ensures (c.numbers.ensures.value ∙ c.cells.ensures.value) in
+    let y = c.requires.on.y in
+    high_force _ _ _ _ _ l c.args.at.x c.requires.on.x _ _ y.pair.low y.low
 
 pub row-high_low-requires-clause-low : goal.row-high_low-requires-clause-low
 row-high_low-requires-clause-low c =
-    let l = list_of _ _ _ _ _ _ c.requires.low c.requires.z_on.low c.requires.small c.number.ensures (c.numbers.ensures.value ∙ c.cells.ensures.value) in
-    let y = c.requires.y_on in
-    low_force _ _ _ _ _ l c.args.x c.requires.x_on _ _ y.pair.high y.high
+    let l = list_of _ _ _ _ _ _ c.requires.low c.requires.on.z.low c.requires.small c.number.ensures (c.numbers.ensures.value ∙ c.cells.ensures.value) in
+    let y = c.requires.on.y in
+    low_force _ _ _ _ _ l c.args.at.x c.requires.on.x _ _ y.pair.high y.high
 
 pub row-high_low-requires-clause-high : goal.row-high_low-requires-clause-high
 row-high_low-requires-clause-high c =
-    let l = list_of _ _ _ _ _ _ c.requires.low c.requires.z_on.low c.requires.small c.number.ensures (c.numbers.ensures.value ∙ c.cells.ensures.value) in
-    let y = c.requires.y_on in
-    high_force _ _ _ _ _ l c.args.x c.requires.x_on _ _ y.pair.high y.high
+    let l = list_of _ _ _ _ _ _ c.requires.low c.requires.on.z.low c.requires.small c.number.ensures (c.numbers.ensures.value ∙ c.cells.ensures.value) in
+    let y = c.requires.on.y in
+    high_force _ _ _ _ _ l c.args.at.x c.requires.on.x _ _ y.pair.high y.high
 
 pub row-low_high-requires-clause-low : goal.row-low_high-requires-clause-low
 row-low_high-requires-clause-low c =
-    let l = list_of _ _ _ _ _ _ c.requires.high c.requires.z_on.high c.requires.small c.number.ensures (c.numbers.ensures.value ∙ c.cells.ensures.value) in
-    let y = c.requires.y_on in
-    low_force _ _ _ _ _ l c.args.x c.requires.x_on _ _ y.pair.low y.low
+    let l = list_of _ _ _ _ _ _ c.requires.high c.requires.on.z.high c.requires.small c.number.ensures (c.numbers.ensures.value ∙ c.cells.ensures.value) in
+    let y = c.requires.on.y in
+    low_force _ _ _ _ _ l c.args.at.x c.requires.on.x _ _ y.pair.low y.low
 
 pub row-low_high-requires-clause-high : goal.row-low_high-requires-clause-high
 row-low_high-requires-clause-high c =
-    let l = list_of _ _ _ _ _ _ c.requires.high c.requires.z_on.high c.requires.small c.number.ensures (c.numbers.ensures.value ∙ c.cells.ensures.value) in
-    let y = c.requires.y_on in
-    high_force _ _ _ _ _ l c.args.x c.requires.x_on _ _ y.pair.low y.low
+    let l = list_of _ _ _ _ _ _ c.requires.high c.requires.on.z.high c.requires.small c.number.ensures (c.numbers.ensures.value ∙ c.cells.ensures.value) in
+    let y = c.requires.on.y in
+    high_force _ _ _ _ _ l c.args.at.x c.requires.on.x _ _ y.pair.low y.low
 
 pub row-high_high-requires-clause-low : goal.row-high_high-requires-clause-low
 row-high_high-requires-clause-low c =
-    let l = list_of _ _ _ _ _ _ c.requires.high c.requires.z_on.high c.requires.small c.number.ensures (c.numbers.ensures.value ∙ c.cells.ensures.value) in
-    let y = c.requires.y_on in
-    low_force _ _ _ _ _ l c.args.x c.requires.x_on _ _ y.pair.high y.high
+    let l = list_of _ _ _ _ _ _ c.requires.high c.requires.on.z.high c.requires.small c.number.ensures (c.numbers.ensures.value ∙ c.cells.ensures.value) in
+    let y = c.requires.on.y in
+    low_force _ _ _ _ _ l c.args.at.x c.requires.on.x _ _ y.pair.high y.high
 
 pub row-high_high-requires-clause-high : goal.row-high_high-requires-clause-high
 row-high_high-requires-clause-high c =
-    let l = list_of _ _ _ _ _ _ c.requires.high c.requires.z_on.high c.requires.small c.number.ensures (c.numbers.ensures.value ∙ c.cells.ensures.value) in
-    let y = c.requires.y_on in
-    high_force _ _ _ _ _ l c.args.x c.requires.x_on _ _ y.pair.high y.high
+    let l = list_of _ _ _ _ _ _ c.requires.high c.requires.on.z.high c.requires.small c.number.ensures (c.numbers.ensures.value ∙ c.cells.ensures.value) in
+    let y = c.requires.on.y in
+    high_force _ _ _ _ _ l c.args.at.x c.requires.on.x _ _ y.pair.high y.high
 
 pub mean-requires : goal.mean-requires
 mean-requires c =
-    let x = c.requires.x_on.pair.whole in
-    let y = c.requires.y_on.pair in
-    let z = c.requires.z_on in
-    let small = four_size c.args.force.now c.args.axis c.args.x.pair c.args.y.pair c.args.z _ _ _ _ c.wide_mix-sum.result y z c.wide_mix-sum.ensures
+    let x = c.requires.on.x.pair.whole in
+    let y = c.requires.on.y.pair in
+    let z = c.requires.on.z in
+    let small = four_size c.args.force.now c.args.axis c.args.at.x.pair c.args.at.y.pair c.args.at.z _ _ _ _ c.wide_mix-sum.result y z c.wide_mix-sum.ensures
     (whole_row _ _ _ c.row-low_low.type_inv x c.row-low_low.ensures.size) (whole_row _ _ _ c.row-high_low.type_inv x c.row-high_low.ensures.size)
     (whole_row _ _ _ c.row-low_high.type_inv x c.row-low_high.ensures.size) (whole_row _ _ _ c.row-high_high.type_inv x c.row-high_high.ensures.size)
     in
@@ -69,23 +69,24 @@ pub returns-clause-value : goal.returns-clause-value
 returns-clause-value c =
     let f = c.args.force.now in
     let a = c.args.axis in
-    let x = c.args.x in
-    let low = list_of _ _ _ _ _ _ c.requires.low c.requires.z_on.low c.requires.small c.number.ensures (c.numbers.ensures.value ∙ c.cells.ensures.value) in
-    let high = list_of _ _ _ _ _ _ c.requires.high c.requires.z_on.high c.requires.small c.number.ensures (c.numbers.ensures.value ∙ c.cells.ensures.value) in
-    let y = c.requires.y_on in
+    let x = c.args.at.x in
+    let low = list_of _ _ _ _ _ _ c.requires.low c.requires.on.z.low c.requires.small c.number.ensures (c.numbers.ensures.value ∙ c.cells.ensures.value) in
+    let high = list_of _ _ _ _ _ _ c.requires.high c.requires.on.z.high c.requires.small c.number.ensures (c.numbers.ensures.value ∙ c.cells.ensures.value) in
+    let y = c.requires.on.y in
     let low_low = to_z-of_z w64 c.row-low_low.result (record { sfits = c.row-low_low.type_inv })
-    ∙ row_is _ _ _ _ _ low x c.requires.x_on _ _ y.pair.low y.low _ c.row-low_low.ensures.value
+    ∙ row_is _ _ _ _ _ low x c.requires.on.x _ _ y.pair.low y.low _ c.row-low_low.ensures.value
     in
     let high_low = to_z-of_z w64 c.row-high_low.result (record { sfits = c.row-high_low.type_inv })
-    ∙ row_is _ _ _ _ _ low x c.requires.x_on _ _ y.pair.high y.high _ c.row-high_low.ensures.value
+    ∙ row_is _ _ _ _ _ low x c.requires.on.x _ _ y.pair.high y.high _ c.row-high_low.ensures.value
     in
     let low_high = to_z-of_z w64 c.row-low_high.result (record { sfits = c.row-low_high.type_inv })
-    ∙ row_is _ _ _ _ _ high x c.requires.x_on _ _ y.pair.low y.low _ c.row-low_high.ensures.value
+    ∙ row_is _ _ _ _ _ high x c.requires.on.x _ _ y.pair.low y.low _ c.row-low_high.ensures.value
     in
     let high_high = to_z-of_z w64 c.row-high_high.result (record { sfits = c.row-high_high.type_inv })
-    ∙ row_is _ _ _ _ _ high x c.requires.x_on _ _ y.pair.high y.high _ c.row-high_high.ensures.value
+    ∙ row_is _ _ _ _ _ high x c.requires.on.x _ _ y.pair.high y.high _ c.row-high_high.ensures.value
     in
     let sum = to_z-of_z w128 c.wide_mix-sum.result (record { sfits = c.wide_mix-sum.type_inv })
-    ∙ four_mixed f a x.pair c.args.y.pair c.args.z _ _ _ _ c.wide_mix-sum.result y.pair c.requires.z_on c.wide_mix-sum.ensures low_low high_low low_high high_high
+    ∙ four_mixed f a x.pair c.args.at.y.pair c.args.at.z _ _ _ _ c.wide_mix-sum.result y.pair c.requires.on.z c.wide_mix-sum.ensures low_low high_low
+    low_high high_high
     in
     to_z-of_z w64 c.mean.result (record { sfits = c.mean.type_inv }) ∙ c.mean.ensures.value ∙ (λ i. rounded (sum i) (pos (c.requires.side i ^ 3)))
