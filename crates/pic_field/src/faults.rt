@@ -17,8 +17,8 @@ const GREATEST_VALUE: u128 = 1 << 90;
 /// The greatest size of a force value.
 const GREATEST_FORCE: u128 = 1 << 44;
 
-/// What stops a phase at a new value of the component on `axis` at `cell`, with the multiplier of its
-/// force value.
+/// What stops a phase at a new value of the component on `axis` at `cell`, with the multiplier of
+/// its force value.
 #[tactic(auto, unfolding(crate::specs::FieldPhases::fault_of))]
 pub(crate) fn fault(phase: Phase, by: Mult, axis: Axis, cell: [u32; 3], value: i128) -> Option<Stop>
     ensures { result ≡ fault_of phase by axis (triple cell) value }

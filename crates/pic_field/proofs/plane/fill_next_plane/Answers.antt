@@ -39,5 +39,6 @@ loop-j-preserved c =
       room = length-set c.loop-j.to j _ ∙ c.loop-j.invariant.room;
       below = subst (λ (m : ℕ). c.after_run-y-in-loop-j.result < m) cells c.after_run-y-in-loop-j.ensures.below;
       next = line_more (λ k l. s.first ≤ k → IsNextLine f.cells (read_by c.args.from.now) (along_y f.cells first k) s l) c.loop-j.to j line
-          (omega (arith, c.told-to)) c.loop-j.invariant.next (λ past. subst (λ (p : Triple). IsNextLine f.cells (read_by c.args.from.now) p s line) at c.scale_next.ensures);
+          (omega (arith, c.told-to)) c.loop-j.invariant.next
+          (λ past. subst (λ (p : Triple). IsNextLine f.cells (read_by c.args.from.now) p s line) at c.scale_next.ensures);
     }

@@ -20,7 +20,8 @@ loop-j-preserved c =
     let line = c.scale_line.new.to in
     let at : record first { y = c.loop-j.y } ≡ along_y f.cells first j = λ i. record first { y = c.loop-j.invariant.at i } in
     let own : s.first ≤ j → j < s.first + lines → IsOwnLine f.cells (read_by c.args.from.now) (along_y f.cells first j) s line =
-    λ past below. subst (λ (p : Triple). IsOwnLine f.cells (read_by c.args.from.now) p s line) at (c.scale_line.ensures.own (c.is_own-own.ensures past below)) in
+    λ past below. subst (λ (p : Triple). IsOwnLine f.cells (read_by c.args.from.now) p s line) at
+    (c.scale_line.ensures.own (c.is_own-own.ensures past below)) in
     record {
       at = c.after_run-y.ensures.value
           ∙ ap (λ (m : ℕ). (c.loop-j.y + 1) % m) cells
@@ -29,6 +30,7 @@ loop-j-preserved c =
       below = subst (λ (m : ℕ). c.after_run-y.result < m) cells c.after_run-y.ensures.below;
       own = line_more (λ k l. s.first ≤ k → k < s.first + lines → IsOwnLine f.cells (read_by c.args.from.now) (along_y f.cells first k) s l) c.loop-j.to j line
           (omega (arith, c.told-to)) c.loop-j.invariant.own own;
-      side = line_more (λ k l. IsSideLine f.cells (read_by c.args.from.now) (along_y f.cells first k) s l) c.loop-j.to j line (omega (arith, c.told-to)) c.loop-j.invariant.side
+      side = line_more (λ k l. IsSideLine f.cells (read_by c.args.from.now) (along_y f.cells first k) s l) c.loop-j.to j line
+          (omega (arith, c.told-to)) c.loop-j.invariant.side
           (subst (λ (p : Triple). IsSideLine f.cells (read_by c.args.from.now) p s line) at c.scale_line.ensures.side);
     }

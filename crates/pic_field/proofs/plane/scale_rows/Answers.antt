@@ -81,18 +81,21 @@ of_z c =
 small : (c : After-count_if-more_z) (a : Axis) (run : List ℤ) (more : ℕ) → Front c a run more → IsSmallRow (2 ^ 90) (length (take more run)) (take more run)
 small c a run more k =
     subst (λ (m : ℕ). IsSmallRow (2 ^ 90) m (take more run)) (sym k.long)
-    (run_small c.args.from.now.field.now c.args.from.now.by a (start_cell c.args.start) c.loop-done.done more c.loop-done.x c.loop-done.invariant.at (within c) k.inside
+    (run_small c.args.from.now.field.now c.args.from.now.by a (start_cell c.args.start) c.loop-done.done more c.loop-done.x c.loop-done.invariant.at (within c)
+    k.inside
     (take more run) k.values (2 ^ 90) c.requires.small)
 
 -- and scaled they are the next of a row
 next : (c : After-count_if-more_z) (a : Axis) (run : List ℤ) (more : ℕ) → Front c a run more → (row part rest : List ℤ) → c.loop-done.done ≤ length row
-    → length part ≡ more → IsScaledRow c.args.from.now.field.now.cells (read_by c.args.from.now) a (start_cell c.args.start) c.args.span.first c.loop-done.done row
+    → length part ≡ more → IsScaledRow c.args.from.now.field.now.cells (read_by c.args.from.now) a (start_cell c.args.start)
+    c.args.span.first c.loop-done.done row
     → ((i : ℕ) → i < length (take more run) → row_at part i ≡ scaled (row_at (take more run) i) c.args.from.now.by)
     → IsSmallRow most_row (length (take more run)) part
     → IsScaledRow c.args.from.now.field.now.cells (read_by c.args.from.now) a (start_cell c.args.start) c.args.span.first (c.loop-done.done + more)
     (take c.loop-done.done row ++ (part ++ rest))
 next c a run more k row part rest room long before values small =
-    more_scaled c.args.from.now.field.now c.args.from.now.by a (start_cell c.args.start) c.loop-done.done more c.loop-done.x c.loop-done.invariant.at (within c) k.inside
+    more_scaled c.args.from.now.field.now c.args.from.now.by a (start_cell c.args.start) c.loop-done.done more c.loop-done.x c.loop-done.invariant.at (within c)
+    k.inside
     (take more run) k.values c.args.span.first row part rest room long before (λ i below. values i (omega (arith, below, k.long)))
     (subst (λ (m : ℕ). IsSmallRow most_row m part) k.long small)
 
@@ -145,12 +148,14 @@ loop-done-preserved c =
       of_x = next here X c.run_at-of_x.result.now more (of_x here) to.x c.scale_row.new.to _ (omega (arith, fits_x)) part_x h.of_x c.scale_row.ensures.values
           c.scale_row.ensures.small;
       of_y = λ is.
-          subst (λ (m : ℕ). IsScaledRow c.args.from.now.field.now.cells (read_by c.args.from.now) Y (start_cell c.args.start) c.args.span.first (done + m) all_y)
+          subst (λ (m : ℕ). IsScaledRow c.args.from.now.field.now.cells (read_by c.args.from.now) Y (start_cell c.args.start) c.args.span.first
+          (done + m) all_y)
           (c.count_if-more_y.ensures.all is)
           (next here Y c.run_at-of_y.result.now more_y (of_y here) to.y c.scale_row-in-loop-done.new.to rest_y (omega (arith, fits_y)) part_y (h.of_y is)
           c.scale_row-in-loop-done.ensures.values c.scale_row-in-loop-done.ensures.small);
       of_z = λ is.
-          subst (λ (m : ℕ). IsScaledRow c.args.from.now.field.now.cells (read_by c.args.from.now) Z (start_cell c.args.start) c.args.span.first (done + m) all_z)
+          subst (λ (m : ℕ). IsScaledRow c.args.from.now.field.now.cells (read_by c.args.from.now) Z (start_cell c.args.start) c.args.span.first
+          (done + m) all_z)
           (c.count_if-more_z.ensures.all is)
           (next here Z c.run_at-of_z.result.now more_z (of_z here) to.z c.scale_row-in-loop-done-2.new.to rest_z (omega (arith, fits_z)) part_z (h.of_z is)
           c.scale_row-in-loop-done-2.ensures.values c.scale_row-in-loop-done-2.ensures.small);

@@ -62,7 +62,8 @@ scale_row-requires-clause-small c =
     let more = c.min-more.result in
     let run = take more c.run_at-run.result.now in
     subst (λ (m : ℕ). IsSmallRow (2 ^ 90) m run) (sym k.long)
-    (run_small c.args.from.now.field.now c.args.from.now.by c.args.axis (start_cell c.args.start) c.loop-done.done more c.loop-done.x c.loop-done.invariant.at (within at)
+    (run_small c.args.from.now.field.now c.args.from.now.by c.args.axis (start_cell c.args.start) c.loop-done.done more c.loop-done.x
+    c.loop-done.invariant.at (within at)
     k.inside run k.values (2 ^ 90) c.requires.small)
 
 pub loop-done-preserved : goal.loop-done-preserved
