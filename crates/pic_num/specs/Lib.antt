@@ -11,3 +11,4 @@ pub mod Bytes
 pub mod Velocity
 pub mod Names
 pub mod NoParticle
+pub mod Workers

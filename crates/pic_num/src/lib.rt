@@ -12,6 +12,7 @@ mod no_memory;
 mod rounding;
 mod sub;
 mod text;
+mod workers;
 
 pub use axis::{Axis, unwrapped};
 pub use limits::{
@@ -27,3 +28,4 @@ pub use no_memory::NoMemory;
 pub use rounding::{rdiv, scale, trunc_div, wrap};
 pub use sub::Sub;
 pub use text::Text;
+pub use workers::Workers;
