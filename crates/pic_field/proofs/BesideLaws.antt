@@ -5,16 +5,16 @@ use Rattle.pic_num.specs.declared.axis.Axis.{Axis}
 use Rattle.pic_num.specs.declared.axis.Axis.TheVariants.{X, Y, Z}
 use Rattle.pic_num.specs.Space.{Triple}
 use Rattle.pic_grid.specs.Differences.{up, down}
-use Rattle.pic_field.specs.Beside.{layer_beside, beside, first_index, room_layer, layer_at}
+use Rattle.pic_field.specs.Beside.{layer_beside, next_to, first_index, room_layer, swept_layer}
 use Rattle.pic_field.specs.Planes.{edge_index}
 use Rattle.pic_field.proofs.RowLaws.{round_on}
 
-pub beside_up : (n : Triple) (a : Axis) (p : Triple) → beside true n a p ≡ up n a p
+pub beside_up : (n : Triple) (a : Axis) (p : Triple) → next_to true n a p ≡ up n a p
 beside_up n X p = refl
 beside_up n Y p = refl
 beside_up n Z p = refl
 
-pub beside_down : (n : Triple) (a : Axis) (p : Triple) → beside false n a p ≡ down n a p
+pub beside_down : (n : Triple) (a : Axis) (p : Triple) → next_to false n a p ≡ down n a p
 beside_down n X p = refl
 beside_down n Y p = refl
 beside_down n Z p = refl
@@ -43,16 +43,16 @@ edge_fits true m s x c is below fits = omega (arith, is, fits)
 edge_fits false m s x c is below fits = omega (arith, below)
 
 -- the order in which a sweep comes to layers is its own inverse
-pub layer_below : (d : Bool) (m k : ℕ) → k < m → layer_at d m k < m
+pub layer_below : (d : Bool) (m k : ℕ) → k < m → swept_layer d m k < m
 layer_below true m k below = omega (arith, below)
 layer_below false m k below = below
 
-pub layer_back : (d : Bool) (m k : ℕ) → k < m → layer_at d m (layer_at d m k) ≡ k
+pub layer_back : (d : Bool) (m k : ℕ) → k < m → swept_layer d m (swept_layer d m k) ≡ k
 layer_back true m k below = omega (arith, below)
 layer_back false m k below = refl
 
 -- the layer beside one is that before it
-pub layer_before : (d : Bool) (n low m k : ℕ) → low + m ≤ n → k + 1 < m → layer_beside d n (low + layer_at d m (k + 1)) ≡ low + layer_at d m k
+pub layer_before : (d : Bool) (n low m k : ℕ) → low + m ≤ n → k + 1 < m → layer_beside d n (low + swept_layer d m (k + 1)) ≡ low + swept_layer d m k
 layer_before true n low m k fits below =
     let sum : low + (m - 1 - (k + 1)) + 1 ≡ low + (m - 1 - k) = omega (arith, below) in
     ap (λ (x : ℕ). x % n) sum ∙ mod-eq_of_lt (omega (arith, fits, below))

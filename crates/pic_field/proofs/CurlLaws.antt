@@ -10,8 +10,8 @@ use Rattle.pic_grid.specs.Lattice.{Field}
 use Rattle.pic_grid.specs.Block.{BlockValues, IsAmongCells, outer_of}
 use Rattle.pic_field.specs.FieldPhases.{half_of, full_of}
 use Rattle.pic_field.specs.declared.row.CurlRows.{CurlRows}
-use Rattle.pic_field.specs.Beside.{layer_beside, beside, curl_beside, first_index, room_layer, row_room}
-use Rattle.pic_field.specs.Lines.{OnRow, line_start, taken, swept}
+use Rattle.pic_field.specs.Beside.{layer_beside, next_to, curl_beside, first_index, room_layer, row_room}
+use Rattle.pic_field.specs.Lines.{OnRow, line_start, taken_off, swept}
 use Rattle.pic_field.specs.Rows.{scaled_of, row_at, curl_of, curl_at, IsScaledRow}
 use Rattle.pic_field.proofs.BesideLaws.{beside_up, beside_down, own_layer, side_layer}
 
@@ -67,19 +67,19 @@ module _ (d : Bool) (n : Triple) (g : Axis → Triple → ℤ) (low count y z : 
 -- four rows are what the curl on an axis reads along a line
 pub record AreRead (d : Bool) (n : Triple) (g : Axis → Triple → ℤ) (low : Spot) (y z count : ℕ) (axis : Axis) (four : CurlRows) : Type 0 where
   pub far_third : (i : ℕ) → i < count → row_at four.far_third.now i
-      ≡ g (next_axis (next_axis axis)) (beside d n (next_axis axis) (outer_of low (record { x = i; y = y; z = z })))
+      ≡ g (next_axis (next_axis axis)) (next_to d n (next_axis axis) (outer_of low (record { x = i; y = y; z = z })))
   pub near_third : (i : ℕ) → i < count → row_at four.near_third.now i ≡ g (next_axis (next_axis axis)) (outer_of low (record { x = i; y = y; z = z }))
   pub far_second : (i : ℕ) → i < count → row_at four.far_second.now i
-      ≡ g (next_axis axis) (beside d n (next_axis (next_axis axis)) (outer_of low (record { x = i; y = y; z = z })))
+      ≡ g (next_axis axis) (next_to d n (next_axis (next_axis axis)) (outer_of low (record { x = i; y = y; z = z })))
   pub near_second : (i : ℕ) → i < count → row_at four.near_second.now i ≡ g (next_axis axis) (outer_of low (record { x = i; y = y; z = z }))
 
 -- with them a row is swept
 pub row_swept : (d : Bool) (n : Triple) (g : Axis → Triple → ℤ) (take : Option BlockValues) (low : Spot) (size : Triple) (y z : ℕ) (axis : Axis)
     (four : CurlRows) → AreRead d n g low y z size.x axis four
-    → (a : Axis) (p : Triple) → IsWithin p size → OnRow axis y z a p → (v : ℤ) → v -ℤ taken take a p -ℤ curl_at four p.x ≡ swept d n g take low a p v
+    → (a : Axis) (p : Triple) → IsWithin p size → OnRow axis y z a p → (v : ℤ) → v -ℤ taken_off take a p -ℤ curl_at four p.x ≡ swept d n g take low a p v
 row_swept d n g take low size y z axis four read =
-    at_row (λ a p. (v : ℤ) → v -ℤ taken take a p -ℤ curl_at four p.x ≡ swept d n g take low a p v) axis y z size (λ i below v.
-    λ j. v -ℤ taken take axis (record { x = i; y = y; z = z })
+    at_row (λ a p. (v : ℤ) → v -ℤ taken_off take a p -ℤ curl_at four p.x ≡ swept d n g take low a p v) axis y z size (λ i below v.
+    λ j. v -ℤ taken_off take axis (record { x = i; y = y; z = z })
     -ℤ curl_of (read.far_third i below j) (read.near_third i below j) (read.far_second i below j) (read.near_second i below j))
 
 -- half a step of B takes off the curl of the scaled E toward the next cells,
@@ -106,5 +106,5 @@ full_is scales b a q v j =
     let g = scaled_of b scales.b_to_e in
     let second = next_axis a in
     let third = next_axis second in
-    full_sum v j (g third (beside false b.cells second q)) (g third q) (g second (beside false b.cells third q)) (g second q)
+    full_sum v j (g third (next_to false b.cells second q)) (g third q) (g second (next_to false b.cells third q)) (g second q)
     ∙ (λ i. v +ℤ (g third q -ℤ g third (beside_down b.cells second q i) -ℤ g second q +ℤ g second (beside_down b.cells third q i)) -ℤ j)

@@ -9,7 +9,7 @@ use Rattle.pic_grid.specs.Cells.{IsWithin, count_of}
 use Rattle.pic_grid.specs.Block.{BlockValues, inner_at}
 use Rattle.pic_grid.specs.Rows.{with_row}
 use Rattle.pic_grid.proofs.RowLaws.{IsOff, row_here, row_others, row_shape, row_size}
-use Rattle.pic_field.specs.Beside.{layer_at}
+use Rattle.pic_field.specs.Beside.{swept_layer}
 use Rattle.pic_field.specs.Lines.{OnRow, OnLine, OnLines, OnStrip, OnLayers, Changed, AreSmall}
 use Rattle.pic_field.proofs.BesideLaws.{layer_below, layer_back}
 use Rattle.pic_field.specs.Rows.{row_at, IsSmallRow}
@@ -191,22 +191,22 @@ strip_more n from y z past = record {
 
 -- the layers of a strip, in the order of a sweep,
 pub layers_more : (d : Bool) (n : Triple) (from to k : ℕ) → k < n.z
-    → IsJoined n (OnLayers d from to n.z k) (OnLines from to (layer_at d n.z k)) (OnLayers d from to n.z (k + 1))
+    → IsJoined n (OnLayers d from to n.z k) (OnLines from to (swept_layer d n.z k)) (OnLayers d from to n.z (k + 1))
 layers_more d n from to k inside = record {
   apart = λ a p h l.
-      let same : layer_at d n.z p.z ≡ k = ap (layer_at d n.z) l.z_is ∙ layer_back d n.z k inside in
-      let before : layer_at d n.z p.z < k = h.z_before in
+      let same : swept_layer d n.z p.z ≡ k = ap (swept_layer d n.z) l.z_is ∙ layer_back d n.z k inside in
+      let before : swept_layer d n.z p.z < k = h.z_before in
       absurd (omega (arith, same, before));
-  either = λ a p w r. elim (cases_lt (layer_at d n.z p.z) k) [
+  either = λ a p w r. elim (cases_lt (swept_layer d n.z p.z) k) [
     | inl before ↦ inl (record { y_from = r.y_from; y_below = r.y_below; z_before = before })
     | inr least ↦
-        (let last : layer_at d n.z p.z < k + 1 = r.z_before in
-        let same : layer_at d n.z p.z ≡ k = omega (arith, least, last) in
-        inr (record { y_from = r.y_from; y_below = r.y_below; z_is = sym (layer_back d n.z p.z w.z) ∙ ap (layer_at d n.z) same }))
+        (let last : swept_layer d n.z p.z < k + 1 = r.z_before in
+        let same : swept_layer d n.z p.z ≡ k = omega (arith, least, last) in
+        inr (record { y_from = r.y_from; y_below = r.y_below; z_is = sym (layer_back d n.z p.z w.z) ∙ ap (swept_layer d n.z) same }))
   ];
-  left = λ a p h. let before : layer_at d n.z p.z < k = h.z_before in record { y_from = h.y_from; y_below = h.y_below; z_before = omega (arith, before) };
+  left = λ a p h. let before : swept_layer d n.z p.z < k = h.z_before in record { y_from = h.y_from; y_below = h.y_below; z_before = omega (arith, before) };
   right = λ a p h.
-      let same : layer_at d n.z p.z ≡ k = ap (layer_at d n.z) h.z_is ∙ layer_back d n.z k inside in
+      let same : swept_layer d n.z p.z ≡ k = ap (swept_layer d n.z) h.z_is ∙ layer_back d n.z k inside in
       record { y_from = h.y_from; y_below = h.y_below; z_before = omega (arith, same) };
 }
 

@@ -8,7 +8,7 @@ use Rattle.pic_num.specs.Space.{Triple, Spot}
 use Rattle.pic_grid.specs.Block.{IsAmongCells}
 use Rattle.pic_field.specs.declared.plane.Line.{Line}
 use Rattle.pic_field.specs.declared.plane.Span.{Span}
-use Rattle.pic_field.specs.Beside.{layer_beside, beside, first_index, room_layer, row_room, plane_room, layer_at}
+use Rattle.pic_field.specs.Beside.{layer_beside, next_to, first_index, room_layer, row_room, plane_room, swept_layer}
 use Rattle.pic_field.specs.Lines.{line_start}
 use Rattle.pic_field.specs.Planes.{no_line, line_at, plane_at, along_y, span_of, IsOwnLine, IsSideLine, IsNextLine, IsScaledPlane, IsNextPlane, AreLineRows}
 use Rattle.pic_field.proofs.BesideLaws.{own_layer, side_layer, layer_before}
@@ -41,7 +41,7 @@ plane_filled planes i plane inside = get_or-set_same planes i plane [] inside
 pub line_rows : (d : Bool) (n : Triple) (g : Axis → Triple → ℤ) (low : Spot) (size : Triple) (count from to y z : ℕ) (near far : List Line)
     → IsAmongCells low size n → from ≤ y → y < to → to ≤ size.y
     → IsScaledPlane n g (plane_room d n (line_start low from z)) (span_of d count) (to - from) near
-    → IsNextPlane n g (beside d n Z (plane_room d n (line_start low from z))) (span_of d count) (to - from) far
+    → IsNextPlane n g (next_to d n Z (plane_room d n (line_start low from z))) (span_of d count) (to - from) far
     → AreLineRows d n g (line_start low y z) count (line_at near (first_index d + (y - from))) (line_at near (1 - first_index d + (y - from)))
     (line_at far (first_index d + (y - from)))
 line_rows d n g low size count from to y z near far among past below within here there =
@@ -59,9 +59,9 @@ line_rows d n g low size count from to y z near far among past below within here
     side_layer d n.y start j ∙ ap (layer_beside d n.y) sum in
     let first : Triple = plane_room d n (line_start low from z) in
     let own : along_y n first (first_index d + j) ≡ row_room d n line = λ i. record (row_room d n line) { y = own_y i } in
-    let side : along_y n first (1 - first_index d + j) ≡ row_room d n (beside d n Y line) = λ i. record (row_room d n line) { y = side_y i } in
-    let next : along_y n (beside d n Z first) (first_index d + j) ≡ row_room d n (beside d n Z line) =
-    λ i. record (row_room d n (beside d n Z line)) { y = own_y i } in
+    let side : along_y n first (1 - first_index d + j) ≡ row_room d n (next_to d n Y line) = λ i. record (row_room d n line) { y = side_y i } in
+    let next : along_y n (next_to d n Z first) (first_index d + j) ≡ row_room d n (next_to d n Z line) =
+    λ i. record (row_room d n (next_to d n Z line)) { y = own_y i } in
     record {
       here = subst (λ (p : Triple). IsOwnLine n g p s (line_at near (first_index d + j))) own (here.own (first_index d + j) on in_strip);
       in_y = subst (λ (p : Triple). IsSideLine n g p s (line_at near (1 - first_index d + j))) side (here.side (1 - first_index d + j) beside_in_strip);
@@ -71,12 +71,13 @@ line_rows d n g low size count from to y z near far among past below within here
 -- the plane of a layer is that beside the layer to which a sweep comes next
 pub plane_before : (d : Bool) (n : Triple) (g : Axis → Triple → ℤ) (low : Spot) (size : Triple) (s : Span) (lines from k : ℕ) (plane : List Line)
     → s.first ≤ 1 → IsAmongCells low size n → k + 1 < size.z
-    → IsScaledPlane n g (plane_room d n (line_start low from (layer_at d size.z k))) s lines plane
-    → IsNextPlane n g (beside d n Z (plane_room d n (line_start low from (layer_at d size.z (k + 1))))) s lines plane
+    → IsScaledPlane n g (plane_room d n (line_start low from (swept_layer d size.z k))) s lines plane
+    → IsNextPlane n g (next_to d n Z (plane_room d n (line_start low from (swept_layer d size.z (k + 1))))) s lines plane
 plane_before d n g low size s lines from k plane first among below is =
-    let before : layer_beside d n.z (unsigned_abs low.z + layer_at d size.z (k + 1)) ≡ unsigned_abs low.z + layer_at d size.z k =
+    let before : layer_beside d n.z (unsigned_abs low.z + swept_layer d size.z (k + 1)) ≡ unsigned_abs low.z + swept_layer d size.z k =
     layer_before d n.z (unsigned_abs low.z) size.z k among.z_high below in
-    let at : plane_room d n (line_start low from (layer_at d size.z k)) ≡ beside d n Z (plane_room d n (line_start low from (layer_at d size.z (k + 1)))) =
-    sym (λ i. record (plane_room d n (line_start low from (layer_at d size.z k))) { z = before i }) in
-    plane_next n g (beside d n Z (plane_room d n (line_start low from (layer_at d size.z (k + 1))))) s lines plane first
+    let at : plane_room d n (line_start low from (swept_layer d size.z k))
+    ≡ next_to d n Z (plane_room d n (line_start low from (swept_layer d size.z (k + 1)))) =
+    sym (λ i. record (plane_room d n (line_start low from (swept_layer d size.z k))) { z = before i }) in
+    plane_next n g (next_to d n Z (plane_room d n (line_start low from (swept_layer d size.z (k + 1))))) s lines plane first
     (subst (λ (p : Triple). IsScaledPlane n g p s lines plane) at is)

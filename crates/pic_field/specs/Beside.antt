@@ -11,10 +11,10 @@ layer_beside true m x = (x + 1) % m
 layer_beside false m x = (x + (m - 1)) % m
 
 -- the cell beside p on an axis of a periodic grid
-abbrev pub beside : Bool → Triple → Axis → Triple → Triple
-beside up n X p = record p { x = layer_beside up n.x p.x }
-beside up n Y p = record p { y = layer_beside up n.y p.y }
-beside up n Z p = record p { z = layer_beside up n.z p.z }
+abbrev pub next_to : Bool → Triple → Axis → Triple → Triple
+next_to up n X p = record p { x = layer_beside up n.x p.x }
+next_to up n Y p = record p { y = layer_beside up n.y p.y }
+next_to up n Z p = record p { z = layer_beside up n.z p.z }
 
 -- the curl of g from the cells beside p and p itself: with the next cells that of E at the places
 -- of B, and with the last ones that of B at the places of E, turned round
@@ -22,8 +22,8 @@ abbrev pub curl_beside : Bool → Triple → (Axis → Triple → ℤ) → Axis 
 curl_beside up n g a p =
     let second = next_axis a in
     let third = next_axis second in
-    curl_of (g third (beside up n second p)) (g third p)
-    (g second (beside up n third p)) (g second p)
+    curl_of (g third (next_to up n second p)) (g third p)
+    (g second (next_to up n third p)) (g second p)
 
 -- a room has what is read beside a row, or beside the lines of a strip, behind it or else before
 -- it: the index of the first one of its own,
@@ -46,6 +46,6 @@ plane_room up n p = record p { x = room_layer up n.x p.x; y = room_layer up n.y 
 
 -- the layer that comes after k others, of m: what is read beside it is one of those, but for the
 -- first
-abbrev pub layer_at : Bool → ℕ → ℕ → ℕ
-layer_at true m k = m - 1 - k
-layer_at false m k = k
+abbrev pub swept_layer : Bool → ℕ → ℕ → ℕ
+swept_layer true m k = m - 1 - k
+swept_layer false m k = k

@@ -2,7 +2,7 @@
 -- 1966, 302): B and E advance in turn, each by the curl of the other. A value is scaled and rounded
 -- once and only then differenced. The roundings, the two bounds of a new value and the order of
 -- stops are this project's profile.
-use Rattle.std.specs.Prelude.{ℤ, ℕ, ◌+◌, ◌*◌, ◌/◌, ◌%◌, ◌+ℤ◌, ◌-ℤ◌, unsigned_abs, nat_lt, if◌then◌else◌, [], ◌∷◌, Option, Some, None}
+use Rattle.std.specs.Prelude.{◌≡◌, ℤ, ℕ, ◌+◌, ◌*◌, ◌/◌, ◌%◌, ◌+ℤ◌, ◌-ℤ◌, unsigned_abs, nat_lt, if◌then◌else◌, [], ◌∷◌, Option, Some, None}
 use Rattle.std.specs.List.{range_with_len}
 use Rattle.pic_num.specs.declared.mult.Scales.{Scales}
 use Rattle.pic_num.specs.declared.axis.Axis.{Axis}
@@ -14,12 +14,13 @@ use Rattle.pic_num.specs.Sizes.{IsAtMost}
 use Rattle.pic_num.specs.Space.{Triple, Spot, unwrapped}
 use Rattle.pic_grid.specs.declared.stop.Bound.TheVariants.{Value, Force}
 use Rattle.pic_grid.specs.declared.stop.Phase.{Phase}
+use Rattle.pic_grid.specs.declared.stop.Phase.TheVariants.{Electric}
 use Rattle.pic_grid.specs.declared.stop.Stop.{Stop}
 use Rattle.pic_grid.specs.declared.stop.Stop.TheVariants.{Field as field_stop}
 use Rattle.pic_grid.specs.Differences.{curl_b, curl_e}
 use Rattle.pic_grid.specs.Lattice.{Field, value_at}
-use Rattle.pic_grid.specs.Cells.{count_of, cell_of, axis_of}
-use Rattle.pic_grid.specs.Block.{BlockValues, InZone, edge_at}
+use Rattle.pic_grid.specs.Cells.{IsWithin, count_of, cell_of, axis_of}
+use Rattle.pic_grid.specs.Block.{BlockValues, InZone, edge_at, inner_at, outer_of}
 
 -- half a step of B at a place, from its old value v: v less the curl of the scaled E
 unfoldable pub half_of : Scales → Field → Axis → Triple → ℤ → ℤ
@@ -71,6 +72,28 @@ unfoldable pub least_fault : Phase → Multiplier → Triple → Triple → (Axi
     → Option Stop
 least_fault phase by low size f =
     first_of (fault_at phase by low size f) (range_with_len 0 (3 * count_of size))
+
+-- a block has what half a step of B makes of an old one, all of whose places lie among the cells,
+abbrev pub IsHalfStep : Scales → Field → BlockValues → BlockValues → Type 0
+IsHalfStep scales e old new =
+    (a : Axis) (p : Triple) → IsWithin p old.size
+    → inner_at new a p ≡ half_of scales e a (outer_of old.low p) (inner_at old a p)
+
+-- or a step of E with the current j
+abbrev pub IsFullStep : Scales → Field → BlockValues → BlockValues → BlockValues → Type 0
+IsFullStep scales b j old new =
+    (a : Axis) (p : Triple) → IsWithin p old.size
+    → inner_at new a p ≡ full_of scales b a (outer_of old.low p) (inner_at old a p) (inner_at j a p)
+
+-- the stop of half a step of B in a phase,
+abbrev pub half_stop : Phase → Scales → Field → BlockValues → Option Stop
+half_stop phase scales e old =
+    least_fault phase scales.b_force (lowest old.low) old.size (half_in scales e old)
+
+-- and of a step of E
+abbrev pub full_stop : Scales → Field → BlockValues → BlockValues → Option Stop
+full_stop scales b j old =
+    least_fault Electric scales.e_force (lowest old.low) old.size (full_in scales b j old)
 
 -- a value passes neither bound: it is at most 2^90 in size, and its force value at most 2^44
 pub record IsBounded (by : Multiplier) (v : ℤ) : Type 0 where

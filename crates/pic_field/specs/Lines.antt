@@ -7,7 +7,7 @@ use Rattle.pic_num.specs.Sizes.{IsAtMost}
 use Rattle.pic_num.specs.Space.{Triple, Spot}
 use Rattle.pic_grid.specs.Cells.{IsWithin}
 use Rattle.pic_grid.specs.Block.{BlockValues, IsShaped, inner_at, outer_of}
-use Rattle.pic_field.specs.Beside.{layer_at, curl_beside}
+use Rattle.pic_field.specs.Beside.{swept_layer, curl_beside}
 use Rattle.pic_field.specs.Rows.{read_by}
 use Rattle.pic_field.specs.declared.row.Scaled.{Scaled}
 
@@ -51,7 +51,7 @@ pub record OnStrip (from to : ℕ) (a : Axis) (p : Triple) : Type 0 where
 pub record OnLayers (up : Bool) (from to count k : ℕ) (a : Axis) (p : Triple) : Type 0 where
   pub y_from : from ≤ p.y
   pub y_below : p.y < to
-  pub z_before : layer_at up count p.z < k
+  pub z_before : swept_layer up count p.z < k
 
 -- the places of P have new values, which g makes of their old ones; all others stay
 pub record Changed (g : Axis → Triple → ℤ → ℤ) (P : Axis → Triple → Type 0)
@@ -68,9 +68,9 @@ pub record AreSmall (most : ℕ) (P : Axis → Triple → Type 0) (b : BlockValu
       → IsAtMost (inner_at b a p) most
 
 -- what is taken off at a place beside a curl: nothing, or the value of a block
-abbrev pub taken : Option BlockValues → Axis → Triple → ℤ
-taken None a p = pos 0
-taken (Some j) a p = inner_at j a p
+abbrev pub taken_off : Option BlockValues → Axis → Triple → ℤ
+taken_off None a p = pos 0
+taken_off (Some j) a p = inner_at j a p
 
 -- it is a block of the zone, and its values are at most 2^90 in size
 pub record IsTaken (low : Spot) (size : Triple) (j : BlockValues) : Type 0 where
@@ -82,7 +82,7 @@ pub record IsTaken (low : Spot) (size : Triple) (j : BlockValues) : Type 0 where
 -- and what else is taken off there
 abbrev pub swept : Bool → Triple → (Axis → Triple → ℤ) → Option BlockValues → Spot → Axis
     → Triple → ℤ → ℤ
-swept up n g take low a p v = v -ℤ taken take a p -ℤ curl_beside up n g a (outer_of low p)
+swept up n g take low a p v = v -ℤ taken_off take a p -ℤ curl_beside up n g a (outer_of low p)
 
 -- the force values of a field
 abbrev pub force_made : Scaled → Spot → Axis → Triple → ℤ → ℤ

@@ -5,7 +5,7 @@ use Rattle.pic_num.specs.Limits.{most_cells_of_axis}
 use Rattle.pic_num.specs.declared.axis.Axis.{Axis}
 use Rattle.pic_num.specs.declared.axis.Axis.TheVariants.{X, Y, Z}
 use Rattle.pic_num.specs.Space.{Triple}
-use Rattle.pic_field.specs.Beside.{beside, first_index, row_room}
+use Rattle.pic_field.specs.Beside.{next_to, first_index, row_room}
 use Rattle.pic_field.specs.Rows.{IsScaledRow}
 use Rattle.pic_field.specs.declared.plane.Line.{Line}
 use Rattle.pic_field.specs.declared.plane.Span.{Span}
@@ -90,5 +90,5 @@ pub record IsNextPlane (n : Triple) (g : Axis → Triple → ℤ) (p : Triple) (
 pub record AreLineRows (up : Bool) (n : Triple) (g : Axis → Triple → ℤ) (p : Triple) (count : ℕ)
     (own by_y by_z : Line) : Type 0 where
   pub here : IsOwnLine n g (row_room up n p) (span_of up count) own
-  pub in_y : IsSideLine n g (row_room up n (beside up n Y p)) (span_of up count) by_y
-  pub in_z : IsNextLine n g (row_room up n (beside up n Z p)) (span_of up count) by_z
+  pub in_y : IsSideLine n g (row_room up n (next_to up n Y p)) (span_of up count) by_y
+  pub in_z : IsNextLine n g (row_room up n (next_to up n Z p)) (span_of up count) by_z

@@ -5,7 +5,7 @@ use Rattle.pic_num.specs.declared.axis.Axis.{Axis}
 use Rattle.pic_num.specs.declared.axis.Axis.TheVariants.{Z}
 use Rattle.pic_num.specs.Space.{Triple, Spot}
 use Rattle.pic_grid.specs.Block.{BlockValues}
-use Rattle.pic_field.specs.Beside.{beside, plane_room}
+use Rattle.pic_field.specs.Beside.{next_to, plane_room}
 use Rattle.pic_field.specs.Lines.{line_start, swept}
 use Rattle.pic_field.specs.Planes.{span_of, AreLineRows, IsScaledPlane, IsNextPlane}
 use Rattle.pic_field.specs.Rows.{read_by}
@@ -14,8 +14,8 @@ use Rattle.pic_field.specs.declared.plane.Strip.{Strip}
 use Rattle.pic_field.specs.declared.sweep.Sweep.{Sweep}
 
 -- the cells of the grid
-abbrev pub grid_of : Sweep → Triple
-grid_of s = s.from.field.now.cells
+abbrev pub sweep_cells : Sweep → Triple
+sweep_cells s = s.from.field.now.cells
 
 -- what is taken off beside the curl
 abbrev pub take_of : Sweep → Option BlockValues
@@ -23,23 +23,23 @@ take_of s = option_copied s.take
 
 -- what the sweep makes of a value of the block whose lowest cell is low
 abbrev pub made : Sweep → Spot → Axis → Triple → ℤ → ℤ
-made s low = swept s.up (grid_of s) (read_by s.from) (take_of s) low
+made s low = swept s.up (sweep_cells s) (read_by s.from) (take_of s) low
 
 -- the rows that it reads along the line at the layers y and z, of count cells,
 abbrev pub AreRowsOf : Sweep → Spot → ℕ → ℕ → ℕ → Line → Line → Line → Type 0
 AreRowsOf s low y z count own by_y by_z =
-    AreLineRows s.up (grid_of s) (read_by s.from) (line_start low y z) count own by_y by_z
+    AreLineRows s.up (sweep_cells s) (read_by s.from) (line_start low y z) count own by_y by_z
 
 -- the plane that it reads in the layer z of a strip, of lines of count cells,
 abbrev pub IsPlaneOf : Sweep → Spot → Strip → ℕ → ℕ → List Line → Type 0
 IsPlaneOf s low strip z count plane =
-    IsScaledPlane (grid_of s) (read_by s.from)
-    (plane_room s.up (grid_of s) (line_start low strip.from z)) (span_of s.up count)
+    IsScaledPlane (sweep_cells s) (read_by s.from)
+    (plane_room s.up (sweep_cells s) (line_start low strip.from z)) (span_of s.up count)
     (strip.to - strip.from) plane
 
 -- and in the layer beside it
 abbrev pub IsPlaneBeside : Sweep → Spot → Strip → ℕ → ℕ → List Line → Type 0
 IsPlaneBeside s low strip z count plane =
-    IsNextPlane (grid_of s) (read_by s.from)
-    (beside s.up (grid_of s) Z (plane_room s.up (grid_of s) (line_start low strip.from z)))
+    IsNextPlane (sweep_cells s) (read_by s.from)
+    (next_to s.up (sweep_cells s) Z (plane_room s.up (sweep_cells s) (line_start low strip.from z)))
     (span_of s.up count) (strip.to - strip.from) plane

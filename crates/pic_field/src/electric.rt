@@ -6,12 +6,10 @@ ghost use Rattle.pic_num.specs.declared.axis.Axis.{Axis as AxisName};
 ghost use Rattle.pic_num.specs.Limits.{most_value};
 ghost use Rattle.pic_num.specs.Push.{unless};
 ghost use Rattle.pic_num.specs.Space.{Triple};
-ghost use Rattle.pic_grid.specs.declared.stop.Phase.TheVariants.{Electric};
-ghost use Rattle.pic_grid.specs.Cells.{IsWithin};
 ghost use Rattle.pic_grid.specs.Lattice.{EachAtMost};
-ghost use Rattle.pic_grid.specs.Block.{IsAmongCells, IsShaped, AllAtMost, inner_at, outer_of};
-ghost use Rattle.pic_field.specs.FieldPhases.{full_of, full_in, lowest, least_fault, AllBounded};
-ghost use Rattle.pic_field.specs.Lines.{taken};
+ghost use Rattle.pic_grid.specs.Block.{IsAmongCells, IsShaped, AllAtMost, inner_at};
+ghost use Rattle.pic_field.specs.FieldPhases.{full_stop, AllBounded, IsFullStep};
+ghost use Rattle.pic_field.specs.Lines.{taken_off};
 
 use crate::faults::safe_most;
 use crate::rooms::Rooms;
@@ -33,14 +31,10 @@ pub fn full_e(scales: &Scales, b: &Lattice, j: &Block, e: &mut Block) -> Result<
     requires b_small { EachAtMost most_value b.now }
     requires j_small { AllAtMost most_value j.now }
     requires e_small { AllAtMost most_value e.old }
-    ensures shape { IsShaped e.new e.old }
-    ensures values { (a : AxisName) → (p : Triple) → IsWithin p e.old.size
-        → inner_at e.new a p
-        ≡ full_of scales.now b.now a (outer_of e.old.low p) (inner_at e.old a p)
-        (inner_at j.now a p) }
-    ensures stop { result ≡ unless (least_fault Phase.Electric scales.now.e_force (lowest e.old.low)
-        e.old.size (full_in scales.now b.now j.now e.old)) tt }
     ensures bounded { OnOk result (AllBounded scales.now.e_force e.new) }
+    ensures shape { IsShaped e.new e.old }
+    ensures values { IsFullStep scales.now b.now j.now e.old e.new }
+    ensures stop { result ≡ unless (full_stop scales.now b.now j.now e.old) tt }
 {
     full_e_in(scales, b, j, e, &mut Rooms::new())
 }
@@ -59,12 +53,8 @@ pub fn full_e_in(
     requires j_small { AllAtMost most_value j.now }
     requires e_small { AllAtMost most_value e.old }
     ensures shape { IsShaped e.new e.old }
-    ensures values { (a : AxisName) → (p : Triple) → IsWithin p e.old.size
-        → inner_at e.new a p
-        ≡ full_of scales.now b.now a (outer_of e.old.low p) (inner_at e.old a p)
-        (inner_at j.now a p) }
-    ensures stop { result ≡ unless (least_fault Phase.Electric scales.now.e_force (lowest e.old.low)
-        e.old.size (full_in scales.now b.now j.now e.old)) tt }
+    ensures values { IsFullStep scales.now b.now j.now e.old e.new }
+    ensures stop { result ≡ unless (full_stop scales.now b.now j.now e.old) tt }
     ensures bounded { OnOk result (AllBounded scales.now.e_force e.new) }
 {
     let from = Scaled {
@@ -84,7 +74,7 @@ pub fn full_e_in(
 fn current_of(j: &Block) -> Option<&Block>
     ensures some { IfSome (option_copied result) (λ k. k ≡ j.now) }
     ensures values { (a : AxisName) → (p : Triple)
-        → taken (option_copied result) a p ≡ inner_at j.now a p }
+        → taken_off (option_copied result) a p ≡ inner_at j.now a p }
 {
     if j.is_blank() {
         return None;

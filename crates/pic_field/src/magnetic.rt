@@ -1,14 +1,11 @@
 //! Half a step of B in one block.
 
 ghost use Rattle.std.specs.Prelude.{◌≡◌, OnOk};
-ghost use Rattle.pic_num.specs.declared.axis.Axis.{Axis as AxisName};
 ghost use Rattle.pic_num.specs.Limits.{most_value};
 ghost use Rattle.pic_num.specs.Push.{unless};
-ghost use Rattle.pic_num.specs.Space.{Triple};
-ghost use Rattle.pic_grid.specs.Cells.{IsWithin};
 ghost use Rattle.pic_grid.specs.Lattice.{EachAtMost};
-ghost use Rattle.pic_grid.specs.Block.{IsAmongCells, IsShaped, AllAtMost, inner_at, outer_of};
-ghost use Rattle.pic_field.specs.FieldPhases.{half_of, half_in, lowest, least_fault, AllBounded};
+ghost use Rattle.pic_grid.specs.Block.{IsAmongCells, IsShaped, AllAtMost};
+ghost use Rattle.pic_field.specs.FieldPhases.{half_stop, AllBounded, IsHalfStep};
 
 use crate::faults::safe_most;
 use crate::rooms::Rooms;
@@ -28,11 +25,8 @@ pub fn half_b(scales: &Scales, e: &Lattice, b: &mut Block, phase: Phase) -> Resu
     requires e_small { EachAtMost most_value e.now }
     requires b_small { AllAtMost most_value b.old }
     ensures shape { IsShaped b.new b.old }
-    ensures values { (a : AxisName) → (p : Triple) → IsWithin p b.old.size
-        → inner_at b.new a p
-        ≡ half_of scales.now e.now a (outer_of b.old.low p) (inner_at b.old a p) }
-    ensures stop { result ≡ unless (least_fault phase scales.now.b_force (lowest b.old.low)
-        b.old.size (half_in scales.now e.now b.old)) tt }
+    ensures values { IsHalfStep scales.now e.now b.old b.new }
+    ensures stop { result ≡ unless (half_stop phase scales.now e.now b.old) tt }
     ensures bounded { OnOk result (AllBounded scales.now.b_force b.new) }
 {
     half_b_in(scales, e, b, phase, &mut Rooms::new())
@@ -50,11 +44,8 @@ pub fn half_b_in(
     requires e_small { EachAtMost most_value e.now }
     requires b_small { AllAtMost most_value b.old }
     ensures shape { IsShaped b.new b.old }
-    ensures values { (a : AxisName) → (p : Triple) → IsWithin p b.old.size
-        → inner_at b.new a p
-        ≡ half_of scales.now e.now a (outer_of b.old.low p) (inner_at b.old a p) }
-    ensures stop { result ≡ unless (least_fault phase scales.now.b_force (lowest b.old.low)
-        b.old.size (half_in scales.now e.now b.old)) tt }
+    ensures values { IsHalfStep scales.now e.now b.old b.new }
+    ensures stop { result ≡ unless (half_stop phase scales.now e.now b.old) tt }
     ensures bounded { OnOk result (AllBounded scales.now.b_force b.new) }
 {
     let from = Scaled {

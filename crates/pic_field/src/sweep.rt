@@ -1,7 +1,7 @@
 //! One sweep over a block, for either field: each value is lessened by the curl of the other
 //! field's scaled values, strip by strip of lines.
 
-ghost use Rattle.std.specs.Prelude.{◌≡◌, ℕ, ℤ, ◌-◌, ◌<◌, ◌≤◌, ◌-ℤ◌, true, false, IfSome, IsTrue, OnOk};
+ghost use Rattle.std.specs.Prelude.{◌≡◌, ℤ, ◌-◌, ◌<◌, ◌-ℤ◌, true, false, IfSome, IsTrue, OnOk};
 ghost use Rattle.pic_num.specs.declared.axis.Axis.{Axis as AxisName};
 ghost use Rattle.pic_num.specs.Limits.{most_value};
 ghost use Rattle.pic_num.specs.Push.{unless};
@@ -11,11 +11,10 @@ ghost use Rattle.pic_grid.specs.Cells.{IsWithin};
 ghost use Rattle.pic_grid.specs.Lattice.{EachAtMost};
 ghost use Rattle.pic_grid.specs.Block.{IsAmongCells, AllAtMost, inner_at, outer_of};
 ghost use Rattle.pic_field.specs.FieldPhases.{lowest, least_fault, IsBounded, AllBounded};
-ghost use Rattle.pic_field.specs.Beside.{layer_at};
-ghost use Rattle.pic_field.specs.Lines.{HasCells, OnRow, OnLine, OnLines, OnStrip, Changed, AreSmall, IsTaken, taken};
+ghost use Rattle.pic_field.specs.Lines.{HasCells, OnRow, OnLine, OnLines, OnStrip, Changed, AreSmall, IsTaken, taken_off};
 ghost use Rattle.pic_field.specs.Rows.{curl_at, AreCurlRows};
 ghost use Rattle.pic_field.specs.Planes.{IsStrip, plane_at};
-ghost use Rattle.pic_field.specs.Sweeps.{grid_of, take_of, made, AreRowsOf, IsPlaneOf, IsPlaneBeside};
+ghost use Rattle.pic_field.specs.Sweeps.{sweep_cells, take_of, made, AreRowsOf, IsPlaneOf, IsPlaneBeside};
 
 use crate::faults::stop_in;
 use crate::plane::{
@@ -58,7 +57,7 @@ pub(crate) fn advance(
     b: &mut Block,
     rooms: &mut Rooms,
 ) -> Result<(), Stop>
-    requires among { IsAmongCells b.old.low b.old.size (grid_of step.now) }
+    requires among { IsAmongCells b.old.low b.old.size (sweep_cells step.now) }
     requires field { EachAtMost most_value step.now.from.field.now }
     requires take { IfSome (take_of step.now) (IsTaken b.old.low b.old.size) }
     requires small { AllAtMost most_value b.old }
@@ -79,7 +78,7 @@ pub(crate) fn advance(
 /// Sweeps over a block strip by strip, and answers whether all new values are at most the sweep's
 /// `most` in size.
 fn sweep_strips(step: &Sweep, b: &mut Block, rooms: &mut Rooms) -> bool
-    requires among { IsAmongCells b.old.low b.old.size (grid_of step.now) }
+    requires among { IsAmongCells b.old.low b.old.size (sweep_cells step.now) }
     requires field { EachAtMost most_value step.now.from.field.now }
     requires take { IfSome (take_of step.now) (IsTaken b.old.low b.old.size) }
     requires small { AreSmall most_value (OnStrip 0 b.old.size.y) b.old }
@@ -105,7 +104,7 @@ fn sweep_strips(step: &Sweep, b: &mut Block, rooms: &mut Rooms) -> bool
 /// before it, so that a plane of scaled rows serves its own layer and then the one that reads it
 /// beside.
 fn sweep_strip(step: &Sweep, b: &mut Block, strip: Strip, rooms: &mut Rooms) -> bool
-    requires among { IsAmongCells b.old.low b.old.size (grid_of step.now) }
+    requires among { IsAmongCells b.old.low b.old.size (sweep_cells step.now) }
     requires some { HasCells b.old.size }
     requires field { EachAtMost most_value step.now.from.field.now }
     requires take { IfSome (take_of step.now) (IsTaken b.old.low b.old.size) }
@@ -149,7 +148,7 @@ fn sweep_layer(
     far: usize,
     rooms: &mut Rooms,
 ) -> bool
-    requires among { IsAmongCells b.old.low b.old.size (grid_of step.now) }
+    requires among { IsAmongCells b.old.low b.old.size (sweep_cells step.now) }
     requires some { HasCells b.old.size }
     requires field { EachAtMost most_value step.now.from.field.now }
     requires take { IfSome (take_of step.now) (IsTaken b.old.low b.old.size) }
@@ -179,7 +178,7 @@ fn sweep_layer(
 /// Sweeps over the lines of a strip in a layer, from the scaled rows of the layer and the one
 /// beside it.
 fn sweep_lines(step: &Sweep, b: &mut Block, strip: Strip, z: u32, near: &Plane, far: &Plane) -> bool
-    requires among { IsAmongCells b.old.low b.old.size (grid_of step.now) }
+    requires among { IsAmongCells b.old.low b.old.size (sweep_cells step.now) }
     requires take { IfSome (take_of step.now) (IsTaken b.old.low b.old.size) }
     requires strip { IsStrip strip b.old.size.y }
     requires z { z < b.old.size.z }
@@ -207,7 +206,7 @@ fn sweep_lines(step: &Sweep, b: &mut Block, strip: Strip, z: u32, near: &Plane, 
 
 /// Sweeps over a line, from its scaled rows and those of the lines beside it.
 fn sweep_line(step: &Sweep, b: &mut Block, y: u32, z: u32, lines: &CurlLines) -> bool
-    requires among { IsAmongCells b.old.low b.old.size (grid_of step.now) }
+    requires among { IsAmongCells b.old.low b.old.size (sweep_cells step.now) }
     requires take { IfSome (take_of step.now) (IsTaken b.old.low b.old.size) }
     requires y { y < b.old.size.y }
     requires z { z < b.old.size.z }
@@ -254,7 +253,8 @@ fn sweep_row(step: &Sweep, b: &mut Block, axis: Axis, y: u32, z: u32, four: &Cur
     requires z { z < b.old.size.z }
     requires small { AreSmall most_value (OnRow axis y z) b.old }
     requires four { AreCurlRows b.old.size.x four.now }
-    ensures changed { Changed (λ a p v. v -ℤ taken (take_of step.now) a p -ℤ curl_at four.now p.x)
+    ensures changed { Changed
+        (λ a p v. v -ℤ taken_off (take_of step.now) a p -ℤ curl_at four.now p.x)
         (OnRow axis y z) b.old b.new }
     ensures calm { IsTrue result → AreSmall step.now.most (OnRow axis y z) b.new }
 {

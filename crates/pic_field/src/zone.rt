@@ -6,7 +6,7 @@ ghost use Rattle.pic_num.specs.Limits.{most_cells_of_axis};
 ghost use Rattle.pic_num.specs.Space.{triple, spot, unwrapped};
 ghost use Rattle.pic_grid.specs.Cells.{IsWithin, count_of};
 ghost use Rattle.pic_grid.specs.Block.{InZone, IsAmongCells, outer_of};
-ghost use Rattle.pic_field.specs.Beside.{beside, plane_room, layer_at};
+ghost use Rattle.pic_field.specs.Beside.{next_to, plane_room, swept_layer};
 ghost use Rattle.pic_field.specs.Lines.{HasCells, line_start};
 
 use pic_grid::{Cells, Zone};
@@ -81,7 +81,7 @@ pub(crate) fn corner_in(cells: Cells, zone: Zone, up: bool, y: u32, z: u32) -> [
 /// The cell beside one in z.
 pub(crate) fn beside_in_z(cells: Cells, up: bool, cell: [u32; 3]) -> [u32; 3]
     requires { IsWithin (triple cell) cells.n }
-    ensures value { triple result ≡ beside up cells.n Axis.Z (triple cell) }
+    ensures value { triple result ≡ next_to up cells.n Axis.Z (triple cell) }
     ensures within { IsWithin (triple result) cells.n }
 {
     if up {
@@ -93,7 +93,7 @@ pub(crate) fn beside_in_z(cells: Cells, up: bool, cell: [u32; 3]) -> [u32; 3]
 /// The layer to which a sweep comes after `done` others, of `count`.
 pub(crate) fn layer_of(up: bool, count: u32, done: u32) -> u32
     requires { done < count }
-    ensures value { result ≡ layer_at up count done }
+    ensures value { result ≡ swept_layer up count done }
     ensures below { result < count }
 {
     if up { count - 1 - done } else { done }

@@ -45,7 +45,7 @@ pub record AreSides (side : ℕ) (n : Triple) (offset : ℕ) (point : Triple) (w
   pub z : IsPairOf side n.z offset point.z w.z
 
 -- a point's places, under a side that is none too long
-pub record ArePlaces (side : ℕ) (n point : Triple) (w : Places) : Type 0 where
+pub record ArePlacesOf (side : ℕ) (n point : Triple) (w : Places) : Type 0 where
   pub most : side ≤ most_side
   pub nodes : AreSides side n 0 point w.nodes
   pub middles : AreSides side n (side / 2) point w.middles

@@ -4,7 +4,7 @@ ghost use Rattle.std.specs.Prelude.{◌≡◌, ◌*◌, ◌/◌, ◌<◌, ◌≤
 ghost use Rattle.pic_num.specs.Limits.{most_cells_of_axis};
 ghost use Rattle.pic_num.specs.Space.{triple};
 ghost use Rattle.pic_grid.specs.Hat.{IsInBox};
-ghost use Rattle.pic_gather.specs.Sides.{AreSides, ArePlaces};
+ghost use Rattle.pic_gather.specs.Sides.{AreSides, ArePlacesOf};
 
 use pic_grid::{Cells, Pair};
 
@@ -91,7 +91,7 @@ fn middles(cells: Cells, point: [u32; 3]) -> Sides
 #[inline(always)]
 pub(crate) fn places_of(cells: Cells, point: [u32; 3]) -> Places
     requires { IsInBox cells.side cells.n (triple point) }
-    ensures { ArePlaces cells.side cells.n (triple point) result }
+    ensures { ArePlacesOf cells.side cells.n (triple point) result }
 {
     let _side = cells.sub().side();
     Places {

@@ -8,7 +8,7 @@ use Rattle.pic_field.specs.declared.row.CurlRows.{CurlRows}
 use Rattle.pic_field.specs.Beside.{first_index, layer_beside, row_room}
 use Rattle.pic_field.specs.Lines.{OnRow}
 use Rattle.pic_field.specs.Rows.{row_at, read_by, IsScaledRow}
-use Rattle.pic_field.specs.Sweeps.{grid_of, take_of, made, AreRowsOf}
+use Rattle.pic_field.specs.Sweeps.{sweep_cells, take_of, made, AreRowsOf}
 use Rattle.pic_field.proofs.BesideLaws.{first_most}
 use Rattle.pic_field.proofs.CurlLaws.{AreRead, own_part, side_part, row_swept}
 use Rattle.pic_field.proofs.LineLaws.{changed_as, line_changed}
@@ -29,7 +29,7 @@ abbrev up : After-first_of-near → Bool
 up c = c.args.step.now.up
 
 abbrev grid : After-first_of-near → Triple
-grid c = grid_of c.args.step.now
+grid c = sweep_cells c.args.step.now
 
 -- and those beside it
 abbrev beside_y : After-first_of-near → ℕ
@@ -79,7 +79,7 @@ returns-clause-changed c =
     let b = c.args.b.now in
     let y = c.args.y in
     let z = c.args.z in
-    let n = grid_of step in
+    let n = sweep_cells step in
     let g = read_by step.from in
     let take = take_of step in
     let first = first_index step.up in

@@ -3,7 +3,7 @@ use Rattle.pic_num.specs.Space.{Triple, Spot}
 use Rattle.pic_field.specs.Lines.{OnLine, OnLines, Changed}
 use Rattle.pic_field.specs.Planes.{line_at}
 use Rattle.pic_field.specs.Rows.{read_by}
-use Rattle.pic_field.specs.Sweeps.{grid_of, made, AreRowsOf}
+use Rattle.pic_field.specs.Sweeps.{sweep_cells, made, AreRowsOf}
 use Rattle.pic_field.proofs.LineLaws.{changed_next, calm_next, strip_more}
 use Rattle.pic_field.proofs.PlaneLaws.{line_rows}
 use Rattle.pic_field.proofs.sweep.sweep_lines.Goals as goal
@@ -26,7 +26,7 @@ sweep_line-found-requires-clause-rows c =
     (sym shaped.size)
     (subst (λ (k : ℕ). AreRowsOf step old.low y z old.size.x (line_at near (k + j)) (line_at near (1 - k + j)) (line_at far (k + j)))
     (sym c.first_of-first.ensures.value)
-    (line_rows step.up (grid_of step) (read_by step.from) old.low old.size old.size.x from c.args.strip.to y z near far c.requires.among (omega arith)
+    (line_rows step.up (sweep_cells step) (read_by step.from) old.low old.size old.size.x from c.args.strip.to y z near far c.requires.among (omega arith)
     (omega arith) c.requires.strip.within c.requires.near c.requires.far)))
 
 pub loop-y-preserved : goal.loop-y-preserved

@@ -2,7 +2,7 @@ use Rattle.std.proofs.Common.{◌≡◌, ◌<◌, ◌-ℤ◌, ◌^◌, Option, S
 use Rattle.std.specs.Option.{option_copied}
 use Rattle.pic_num.specs.Space.{Triple}
 use Rattle.pic_grid.specs.Block.{BlockValues}
-use Rattle.pic_field.specs.Lines.{IsTaken, taken}
+use Rattle.pic_field.specs.Lines.{IsTaken, taken_off}
 use Rattle.pic_field.specs.Rows.{row_at, curl_at}
 use Rattle.pic_field.proofs.LentLaws.{IsLent, lent as row, lent_below, lent_small, lent_changed, lent_calm}
 use Rattle.pic_field.proofs.sweep.sweep_row.Goals as goal
@@ -37,11 +37,11 @@ returns-in-Some-clause-changed c =
     subst (λ (o : Option BlockValues). IfSome o (IsTaken c.args.b.now.low c.args.b.now.size)) some c.requires.take in
     let of_take : c.in-Some.take.now.size.x ≡ c.args.b.now.size.x = ap (λ (n : Triple). n.x) taken_is.size_is in
     lent_changed _ _ _ _ _ _ _ is c.lessen_row.new.row c.lessen_row.auto.row
-    (λ a p v. v -ℤ taken (option_copied c.args.step.now.take) a p -ℤ curl_at c.args.four.now p.x)
+    (λ a p v. v -ℤ taken_off (option_copied c.args.step.now.take) a p -ℤ curl_at c.args.four.now p.x)
     (λ x below.
     let in_take : x < c.in-Some.take.now.size.x = omega (arith, lent_below _ _ _ _ _ _ _ is x below) in
     let value = c.row.ensures.values x in_take
-    ∙ sym (ap (λ (o : Option BlockValues). taken o c.args.axis (record { x = x; y = c.args.y; z = c.args.z })) some) in
+    ∙ sym (ap (λ (o : Option BlockValues). taken_off o c.args.axis (record { x = x; y = c.args.y; z = c.args.z })) some) in
     c.lessen_row.ensures.values x below ∙ (λ i. row_at (row _ _ _ _ _ _ _ is) x -ℤ value i -ℤ curl_at c.args.four.now x))
 
 pub returns-in-Some-clause-calm : goal.returns-in-Some-clause-calm
@@ -54,9 +54,9 @@ returns-in-None-clause-changed c =
     let is = lent (goal.at.returns-in-None-clause-changed c).After-values_mut-values in
     let none : option_copied c.args.step.now.take ≡ None = ap option_copied c.in-None.is in
     lent_changed _ _ _ _ _ _ _ is c.lessen_row-in-None.new.row c.lessen_row-in-None.auto.row
-    (λ a p v. v -ℤ taken (option_copied c.args.step.now.take) a p -ℤ curl_at c.args.four.now p.x)
+    (λ a p v. v -ℤ taken_off (option_copied c.args.step.now.take) a p -ℤ curl_at c.args.four.now p.x)
     (λ x below.
-    let value = sym (ap (λ (o : Option BlockValues). taken o c.args.axis (record { x = x; y = c.args.y; z = c.args.z })) none) in
+    let value = sym (ap (λ (o : Option BlockValues). taken_off o c.args.axis (record { x = x; y = c.args.y; z = c.args.z })) none) in
     c.lessen_row-in-None.ensures.values x below ∙ (λ i. row_at (row _ _ _ _ _ _ _ is) x -ℤ value i -ℤ curl_at c.args.four.now x))
 
 pub returns-in-None-clause-calm : goal.returns-in-None-clause-calm

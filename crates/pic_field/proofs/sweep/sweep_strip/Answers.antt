@@ -1,10 +1,10 @@
 use Rattle.std.proofs.Common.{◌≡◌, ◌+◌, ◌-◌, ◌<◌, ℕ, sym, ◌∙◌, ap, subst, arith}
 use Rattle.pic_num.specs.Space.{Triple, Spot}
-use Rattle.pic_field.specs.Beside.{layer_at}
+use Rattle.pic_field.specs.Beside.{swept_layer}
 use Rattle.pic_field.specs.Lines.{OnLines, OnLayers, Changed, AreSmall}
 use Rattle.pic_field.specs.Planes.{span_of, plane_at}
 use Rattle.pic_field.specs.Rows.{read_by}
-use Rattle.pic_field.specs.Sweeps.{grid_of, made, IsPlaneOf}
+use Rattle.pic_field.specs.Sweeps.{sweep_cells, made, IsPlaneOf}
 use Rattle.pic_field.proofs.BesideLaws.{first_most}
 use Rattle.pic_field.proofs.LineLaws.{IsJoined, changed_next, calm_next, layers_more}
 use Rattle.pic_field.proofs.PlaneLaws.{plane_before}
@@ -21,10 +21,10 @@ loop-k-preserved c =
     let new = c.sweep_layer-found.new.b in
     let before = c.loop-k.invariant.changed in
     let shaped = before.shaped in
-    let size_z : c.layer_of-z.result ≡ layer_at step.up old.size.z k =
-    c.layer_of-z.ensures.value ∙ ap (λ (n : Triple). layer_at step.up n.z k) c.zone-zone.ensures.size in
+    let size_z : c.layer_of-z.result ≡ swept_layer step.up old.size.z k =
+    c.layer_of-z.ensures.value ∙ ap (λ (n : Triple). swept_layer step.up n.z k) c.zone-zone.ensures.size in
     let inside : k < old.size.z = omega (arith, c.loop-k-test.true, ap (λ (n : Triple). n.z) c.zone-zone.ensures.size) in
-    let layer : ℕ = layer_at step.up old.size.z k in
+    let layer : ℕ = swept_layer step.up old.size.z k in
     let done = OnLayers step.up strip.from strip.to old.size.z k in
     let more = OnLayers step.up strip.from strip.to old.size.z (k + 1) in
     let joined = layers_more step.up old.size strip.from strip.to k inside in
@@ -35,7 +35,7 @@ loop-k-preserved c =
     record {
       far = omega arith;
       plane = λ below.
-          plane_before step.up (grid_of step) (read_by step.from) old.low old.size (span_of step.up old.size.x) (strip.to - strip.from) strip.from k plane
+          plane_before step.up (sweep_cells step) (read_by step.from) old.low old.size (span_of step.up old.size.x) (strip.to - strip.from) strip.from k plane
           (first_most step.up) c.requires.among below
           (subst (λ (m : ℕ). IsPlaneOf step old.low strip m old.size.x plane) size_z
           (subst (λ (l : Spot). IsPlaneOf step l strip z old.size.x plane) shaped.low
