@@ -4,15 +4,15 @@ use Rattle.std.proofs.Math.IntN.{ℤ, pos, negsuc}
 use Rattle.std.proofs.lemmas.Int.{ints}
 use Rattle.pic_num.specs.Multiplier.{Multiplier}
 use Rattle.pic_grid.specs.Species.{IsKind}
-use Rattle.pic_walk.specs.Limits.{IsInLimits, from_to}
+use Rattle.pic_walk.specs.Limits.{MeetsLimits, from_to}
 use Rattle.pic_walk.proofs.PointLaws.{as_speed, kept_small}
 
-pub kept_charge : (z : ℤ) → IsInLimits (from_to (negsuc 32767) (pos 32767)) z → as_speed z ≡ z
+pub kept_charge : (z : ℤ) → MeetsLimits (from_to (negsuc 32767) (pos 32767)) z → as_speed z ≡ z
 kept_charge z inside = kept_small z (omega (arith, ints, inside.low, inside.high))
 
 -- the limits of a charge and a mass are those of a species
-pub IsKind-from : (charge : ℤ) (mass : ℕ) (kick turn : Multiplier) → IsInLimits (from_to (negsuc 32767) (pos 32767)) charge
-    → IsInLimits (from_to (pos 1) (pos 65536)) (pos mass)
+pub IsKind-from : (charge : ℤ) (mass : ℕ) (kick turn : Multiplier) → MeetsLimits (from_to (negsuc 32767) (pos 32767)) charge
+    → MeetsLimits (from_to (pos 1) (pos 65536)) (pos mass)
     → IsKind (record { charge = charge; mass = mass; kick = kick; turn = turn })
 IsKind-from charge mass kick turn c m = record {
   charge_low = c.low;

@@ -10,7 +10,7 @@ use Rattle.toml.specs.View.{view, items_view}
 use Rattle.toml.specs.declared.value.Value.{Value}
 use Rattle.pic_walk.specs.declared.limits.Limits.{Limits}
 use Rattle.pic_walk.specs.Path.{element_at}
-use Rattle.pic_walk.specs.Limits.{from_to, IsInLimits, FitsU32, limits_at}
+use Rattle.pic_walk.specs.Limits.{from_to, MeetsLimits, FitsU32, limits_at}
 use Rattle.pic_walk.specs.Walk.{◌>>=◌, each}
 use Rattle.pic_walk.proofs.ArrayLaws.{each_at}
 use Rattle.pic_num.specs.Space.{triple}
@@ -33,12 +33,12 @@ pub cells_fit : (k : ℕ) → k < 3 → FitsU32 (limits_at cell_limits k)
 unfolding limits_at
 cells_fit = below_three (λ k. FitsU32 (limits_at cell_limits k)) fits fits fits
 
-pub cells_within : (ns : List ℕ) → ((k : ℕ) → k < 3 → IsInLimits (limits_at cell_limits k) (pos (slice_index ns k))) → IsCells (triple ns)
+pub cells_within : (ns : List ℕ) → ((k : ℕ) → k < 3 → MeetsLimits (limits_at cell_limits k) (pos (slice_index ns k))) → IsCells (triple ns)
 unfolding limits_at
 cells_within ns inside =
-    let x : IsInLimits (from_to (pos 2) (pos 64)) (pos (slice_index ns 0)) = inside 0 (lit< tt) in
-    let y : IsInLimits (from_to (pos 2) (pos 64)) (pos (slice_index ns 1)) = inside 1 (lit< tt) in
-    let z : IsInLimits (from_to (pos 2) (pos 64)) (pos (slice_index ns 2)) = inside 2 (lit< tt) in
+    let x : MeetsLimits (from_to (pos 2) (pos 64)) (pos (slice_index ns 0)) = inside 0 (lit< tt) in
+    let y : MeetsLimits (from_to (pos 2) (pos 64)) (pos (slice_index ns 1)) = inside 1 (lit< tt) in
+    let z : MeetsLimits (from_to (pos 2) (pos 64)) (pos (slice_index ns 2)) = inside 2 (lit< tt) in
     record {
       x_least = omega (arith, ints, x.low);
       x_most = omega (arith, ints, x.high);
@@ -49,12 +49,12 @@ cells_within ns inside =
     }
 
 -- and they are no more than version 1 allows
-pub few_within : (ns : List ℕ) → ((k : ℕ) → k < 3 → IsInLimits (limits_at cell_limits k) (pos (slice_index ns k))) → AreFew (triple ns)
+pub few_within : (ns : List ℕ) → ((k : ℕ) → k < 3 → MeetsLimits (limits_at cell_limits k) (pos (slice_index ns k))) → AreFew (triple ns)
 unfolding limits_at
 few_within ns inside =
-    let x : IsInLimits (from_to (pos 2) (pos 64)) (pos (slice_index ns 0)) = inside 0 (lit< tt) in
-    let y : IsInLimits (from_to (pos 2) (pos 64)) (pos (slice_index ns 1)) = inside 1 (lit< tt) in
-    let z : IsInLimits (from_to (pos 2) (pos 64)) (pos (slice_index ns 2)) = inside 2 (lit< tt) in
+    let x : MeetsLimits (from_to (pos 2) (pos 64)) (pos (slice_index ns 0)) = inside 0 (lit< tt) in
+    let y : MeetsLimits (from_to (pos 2) (pos 64)) (pos (slice_index ns 1)) = inside 1 (lit< tt) in
+    let z : MeetsLimits (from_to (pos 2) (pos 64)) (pos (slice_index ns 2)) = inside 2 (lit< tt) in
     record { x = omega (arith, ints, x.high); y = omega (arith, ints, y.high); z = omega (arith, ints, z.high) }
 
 -- the tiles of each axis are those of the grid, where they are 512 at most

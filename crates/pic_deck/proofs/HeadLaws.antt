@@ -16,7 +16,7 @@ use Rattle.pic_walk.specs.declared.fault.Fault.TheVariants.{Name}
 use Rattle.pic_walk.specs.Walk.{Walked}
 use Rattle.pic_walk.proofs.ListLaws.{all_more}
 use Rattle.pic_deck.specs.declared.species.Species.{Species}
-use Rattle.pic_deck.specs.Species.{is_name, is_taken, is_new_name, no_species, IsNewName, IsFilled, IsNext, AreFilled, particles_of, head_of}
+use Rattle.pic_deck.specs.Species.{is_name, is_taken, is_new_name, no_species, IsNewName, IsFilledFrom, IsNext, AreFilled, particles_of, head_of}
 
 name_from : (s : List ℕ) → is_name s ≡ true → IsName s
 unfolding is_name
@@ -102,13 +102,13 @@ heads_none = record {
   total = omega arith;
 }
 
-pub filled_more : (n : Grid) (ss : List Species) (s : Species) → AreFilled n ss → IsFilled n ss s → AreFilled n (ss ++ s ∷ [])
+pub filled_more : (n : Grid) (ss : List Species) (s : Species) → AreFilled n ss → IsFilledFrom n ss s → AreFilled n (ss ++ s ∷ [])
 filled_more n ss s are here = record { each = each }
   where
     size : length (ss ++ s ∷ []) ≡ length ss + 1
     size = length-append ss (s ∷ [])
 
-    each : (i : ℕ) → i < length (ss ++ s ∷ []) → IsFilled n (take i (ss ++ s ∷ [])) (get_or (ss ++ s ∷ []) i no_species)
+    each : (i : ℕ) → i < length (ss ++ s ∷ []) → IsFilledFrom n (take i (ss ++ s ∷ [])) (get_or (ss ++ s ∷ []) i no_species)
     each i below = elim (cases_lt i (length ss)) [
       | inl inside ↦
           rw (take-append-le i ss (s ∷ []) (omega (arith, inside)), get_or_append_left ss (s ∷ []) no_species i inside) (are.each i inside)

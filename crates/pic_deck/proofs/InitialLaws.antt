@@ -17,7 +17,7 @@ use Rattle.pic_grid.specs.Sums.{sum_over}
 use Rattle.pic_grid.proofs.LatticeLaws.{value_at-same, value_at-other}
 use Rattle.pic_grid.proofs.OverLaws.{sum_over_more}
 use Rattle.pic_grid.proofs.CellLaws.{place_of_same, places_more}
-use Rattle.pic_walk.specs.Limits.{IsInLimits, any_limits}
+use Rattle.pic_walk.specs.Limits.{MeetsLimits, any_limits}
 use Rattle.pic_walk.specs.declared.row.Row.{Row}
 use Rattle.pic_walk.specs.Rows.{IsRow, AreRows, no_row}
 use Rattle.pic_deck.specs.Initial.{is_of, part, set_up}
@@ -55,10 +55,10 @@ unfolding part
 part_other a p r h = rw h
 
 -- a number of 64 bits is at most 2^63 in size
-pub value_64 : (z : ℤ) → IsInLimits any_limits z → unsigned_abs z ≤ 2 ^ 63
+pub value_64 : (z : ℤ) → MeetsLimits any_limits z → unsigned_abs z ≤ 2 ^ 63
 value_64 z inside = omega (arith, ints, inside.low, inside.high)
 
-pub fits_64 : (z : ℤ) → IsInLimits any_limits z → SFits w64 z
+pub fits_64 : (z : ℤ) → MeetsLimits any_limits z → SFits w64 z
 fits_64 (pos n) inside = record { sfits = omega (arith, ints, inside.high) }
 fits_64 (negsuc n) inside = record { sfits = omega (arith, ints, inside.low) }
 

@@ -19,7 +19,7 @@ use Rattle.pic_deck.specs.declared.refusal.DeckFault.{DeckFault}
 use Rattle.pic_deck.specs.declared.refusal.DeckFault.TheVariants.{Refused, NoMemory}
 use Rattle.pic_deck.specs.Deck.{DeckView}
 use Rattle.pic_deck.specs.Keys.{deck}
-use Rattle.pic_deck.specs.Refusal.{refusal_of, fault_of, IsRefusal, IsTextFault, ReadDeck, ReadsAs}
+use Rattle.pic_deck.specs.Refusal.{refusal_of, deck_fault_of, IsRefusal, IsTextFault, ReadDeck, ReadsAs}
 use Rattle.pic_deck.specs.Reading.{document, as_read, deck_in, too_long, walk, IsNoText}
 
 pub document_is : (bs : List ℕ) (ms : Members) → IsUtf8 bs → parse_document bs ≡ Some ms → document bs ≡ Some ms
@@ -35,7 +35,7 @@ no_document bs none =
     ]
 
 -- a walk's stop that is this fault, or want of memory, is this refusal, or want of memory
-pub as_refusal : (q : Fault) (s : WalkStop) (e : DeckFault) → IsFault q s → e ≡ fault_of s → IsRefusal (refusal_of q) e
+pub as_refusal : (q : Fault) (s : WalkStop) (e : DeckFault) → IsFault q s → e ≡ deck_fault_of s → IsRefusal (refusal_of q) e
 as_refusal q (walk_stop.Found p) e is same = rw same (ap refusal_of is)
 as_refusal q walk_stop.NoMemory e is same = rw same tt
 
@@ -73,14 +73,14 @@ no_text bs e {r} small h fault =
     go NoMemory is = record { answer = tt }
 
 -- a walk's stop is the reading's
-pub stops : (w : Walked DeckView) (e : WalkStop) {r : Result DeckView DeckFault} → IsErrAnd r (λ y. y ≡ fault_of e)
+pub stops : (w : Walked DeckView) (e : WalkStop) {r : Result DeckView DeckFault} → IsErrAnd r (λ y. y ≡ deck_fault_of e)
     → WalksAs (λ (d : DeckView). d) w (Err e) → ReadsAs (as_read w) r
 unfolding as_read
 stops w e {r} h stop =
     let p = err_from_is_err_and r h in
     rw (p.1, p.2) (go e stop)
   where
-    go : (e : WalkStop) → WalksAs (λ (d : DeckView). d) w (Err e) → ReadsAs (as_read w) (Err (fault_of e))
+    go : (e : WalkStop) → WalksAs (λ (d : DeckView). d) w (Err e) → ReadsAs (as_read w) (Err (deck_fault_of e))
     go (walk_stop.Found fault) is = record { answer = rw is.answer }
     go walk_stop.NoMemory is = record { answer = tt }
 

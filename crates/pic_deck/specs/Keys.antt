@@ -20,7 +20,7 @@ use Rattle.pic_deck.specs.declared.settings.Settings.{Settings}
 use Rattle.pic_deck.specs.declared.species.Fill.{Fill}
 use Rattle.pic_deck.specs.declared.species.Species.{Species}
 use Rattle.pic_deck.specs.Deck.{DeckView, deck_view}
-use Rattle.pic_deck.specs.Species.{is_new_name, count_in, particles_of}
+use Rattle.pic_deck.specs.Species.{is_new_name, filled_count, particles_of}
 use Rattle.pic_deck.specs.Initial.{set_up, first_strong}
 use Rattle.pic_deck.specs.Fill.{species_fill}
 
@@ -144,8 +144,8 @@ species_kind path t =
 -- how many particles a species has after earlier ones, which all together are not too many
 unfoldable pub counted : List Species → List ℕ → Fill → Walked ℕ
 counted done path fill =
-    within (from_to (pos 0) (pos most_particles_1)) path (pos (particles_of done + count_in done fill))
-    >>= (λ _. Ok (count_in done fill))
+    within (from_to (pos 0) (pos most_particles_1)) path (pos (particles_of done + filled_count done fill))
+    >>= (λ _. Ok (filled_count done fill))
 
 -- the species that a table is, after earlier ones
 unfoldable pub species_in : Grid → List Species → List ℕ → Members → Walked Species
@@ -168,15 +168,15 @@ species_list g path d =
     >>= (λ _. each (one_species g) path [] ds))
 
 -- no force value is too large, or that of the least place which has one is refused
-unfoldable pub allowed : List ℕ → Option ℤ → Walked (Unit {0})
-allowed path None = Ok tt
-allowed path (Some f) = Err (Limit path f (neg_ℤ (pos most_force)) (pos most_force))
+unfoldable pub force_allowed : List ℕ → Option ℤ → Walked (Unit {0})
+force_allowed path None = Ok tt
+force_allowed path (Some f) = Err (Limit path f (neg_ℤ (pos most_force)) (pos most_force))
 
 -- the force values of E, and then those of B
 unfoldable pub forces : Settings → InitialFields → Walked (Unit {0})
 forces s f =
-    allowed (key_at (codes "scale") (codes "e_force")) (first_strong s.cells.n s.scales.e_force (set_up (spot f.e) f.edges))
-    >>= (λ _. allowed (key_at (codes "scale") (codes "b_force")) (first_strong s.cells.n s.scales.b_force (set_up (spot f.b) f.faces)))
+    force_allowed (key_at (codes "scale") (codes "e_force")) (first_strong s.cells.n s.scales.e_force (set_up (spot f.e) f.edges))
+    >>= (λ _. force_allowed (key_at (codes "scale") (codes "b_force")) (first_strong s.cells.n s.scales.b_force (set_up (spot f.b) f.faces)))
 
 -- the deck that a table is
 unfoldable pub deck : Members → Walked DeckView

@@ -20,9 +20,9 @@ refusal_of (walk_fault.Limit path value low high) = Limit path value low high
 refusal_of (walk_fault.Name path) = Name path
 
 -- what a walk's stop is to a deck
-abbrev pub fault_of : WalkStop → DeckFault
-fault_of (walk_stop.Found fault) = Refused (refusal_of fault)
-fault_of walk_stop.NoMemory = NoMemory
+abbrev pub deck_fault_of : WalkStop → DeckFault
+deck_fault_of (walk_stop.Found fault) = Refused (refusal_of fault)
+deck_fault_of walk_stop.NoMemory = NoMemory
 
 -- a call's fault is this refusal, or want of memory
 abbrev pub IsRefusal : Refusal → DeckFault → Type 0
@@ -39,11 +39,11 @@ abbrev pub ReadDeck : Type 0
 ReadDeck = Result DeckView Refusal
 
 -- a call's answer is the deck or its refusal, or want of memory
-abbrev pub Answers : ReadDeck → Result DeckView DeckFault → Type 0
-Answers w (Ok d) = w ≡ Ok d
-Answers w (Err (Refused r)) = w ≡ Err r
-Answers w (Err NoMemory) = ⊤
+abbrev pub AnswersRead : ReadDeck → Result DeckView DeckFault → Type 0
+AnswersRead w (Ok d) = w ≡ Ok d
+AnswersRead w (Err (Refused r)) = w ≡ Err r
+AnswersRead w (Err NoMemory) = ⊤
 
 -- the same as a record, of which lemmas find their arguments
 pub record ReadsAs (w : ReadDeck) (r : Result DeckView DeckFault) : Type 0 where
-  pub answer : Answers w r
+  pub answer : AnswersRead w r

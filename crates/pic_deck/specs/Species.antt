@@ -36,11 +36,11 @@ abbrev pub species_at : List Species → ℕ → Species
 species_at ss i = slice_index_or ss i no_species
 
 -- how many particles a species has by what fills it, after earlier ones
-abbrev pub count_in : List Species → Fill → ℕ
-count_in earlier (Points points) = length points
-count_in earlier (Lattice first gap count v) = count_of (triple count)
-count_in earlier (Random count seed stream drift spread) = count
-count_in earlier (Pair named seed stream drift spread) = (species_at earlier named).count
+abbrev pub filled_count : List Species → Fill → ℕ
+filled_count earlier (Points points) = length points
+filled_count earlier (Lattice first gap count v) = count_of (triple count)
+filled_count earlier (Random count seed stream drift spread) = count
+filled_count earlier (Pair named seed stream drift spread) = (species_at earlier named).count
 
 -- a species as the dump's header has it: its name, its kind and how many particles it has
 abbrev pub head_of : Species → HeadView
@@ -66,18 +66,18 @@ IsFill g earlier (Pair named seed stream drift spread) =
     (named < length earlier) × IsDraw (record { seed = seed; stream = stream; drift = drift; spread = spread })
 
 -- a species after earlier ones is filled so, and has so many particles
-pub record IsFilled (g : Grid) (earlier : List Species) (s : Species) : Type 0 where
+pub record IsFilledFrom (g : Grid) (earlier : List Species) (s : Species) : Type 0 where
   pub fill : IsFill g earlier s.fill
-  pub count : s.count ≡ count_in earlier s.fill
+  pub count : s.count ≡ filled_count earlier s.fill
 
 -- a species that may come next: its name is new, its particles are within their limits, and with
 -- them there are not too many
 pub record IsNext (g : Grid) (earlier : List Species) (s : Species) : Type 0 where
   pub name : IsNewName earlier s.name
   pub kind : IsKind s.kind
-  pub filled : IsFilled g earlier s
+  pub filled : IsFilledFrom g earlier s
   pub few : particles_of earlier + s.count ≤ most_particles_1
 
 -- each species is filled so, after those before it
 pub record AreFilled (g : Grid) (ss : List Species) : Type 0 where
-  pub each : (i : ℕ) → i < length ss → IsFilled g (take i ss) (species_at ss i)
+  pub each : (i : ℕ) → i < length ss → IsFilledFrom g (take i ss) (species_at ss i)

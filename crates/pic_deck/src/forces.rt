@@ -11,7 +11,7 @@ ghost use Rattle.pic_walk.specs.Path.{key_at};
 ghost use Rattle.pic_walk.specs.Rows.{AreRows};
 ghost use Rattle.pic_walk.specs.Walk.{WalksAs};
 ghost use Rattle.pic_deck.specs.Initial.{IsMild, strong, first_strong, set_up};
-ghost use Rattle.pic_deck.specs.Keys.{allowed, forces};
+ghost use Rattle.pic_deck.specs.Keys.{force_allowed, forces};
 
 use crate::fields::InitialFields;
 use crate::filling::fill;
@@ -53,7 +53,7 @@ fn first_strong(by: Mult, field: &Lattice) -> Option<i128>
 
 // refuses the scale at a key where a force value is too large
 fn check_strong(alloc: Global, key: &str, strong: Option<i128>) -> Result<(), WalkStop>
-    ensures walks { WalksAs (λ _. tt) (allowed (key_at (codes "scale") key.now) strong) result }
+    ensures walks { WalksAs (λ _. tt) (force_allowed (key_at (codes "scale") key.now) strong) result }
     ensures none { OnOk result (strong ≡ None) }
 {
     match strong {
@@ -106,7 +106,7 @@ fn check_field(
     rows: &[Row],
 ) -> Result<(), WalkStop>
     requires { AreRows cells.n rows.now }
-    ensures walks { WalksAs (λ _. tt) (allowed (key_at (codes "scale") key.now)
+    ensures walks { WalksAs (λ _. tt) (force_allowed (key_at (codes "scale") key.now)
         (first_strong cells.n by (set_up (spot numbers) rows.now))) result }
     ensures mild { OnOk result (IsMild cells.n by (set_up (spot numbers) rows.now)) }
 {

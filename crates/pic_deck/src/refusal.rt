@@ -1,7 +1,7 @@
 //! Why a deck is refused.
 
 ghost use Rattle.std.specs.Prelude.{◌≡◌};
-ghost use Rattle.pic_deck.specs.Refusal.{refusal_of, fault_of};
+ghost use Rattle.pic_deck.specs.Refusal.{refusal_of, deck_fault_of};
 
 use pic_walk::{Fault, KeyPath, WalkStop};
 
@@ -65,9 +65,9 @@ fn refusal_of(fault: Fault) -> Refusal
 }
 
 impl From<WalkStop> for DeckFault {
-    ghost use Rattle.pic_deck.specs.Refusal.{fault_of};
+    ghost use Rattle.pic_deck.specs.Refusal.{deck_fault_of};
 
-    ghost from_gives = { λ stop fault. fault ≡ fault_of stop };
+    ghost from_gives = { λ stop fault. fault ≡ deck_fault_of stop };
 
     fn from(stop: WalkStop) -> DeckFault {
         match stop {

@@ -61,11 +61,11 @@ fn count_at(species: &[Species], number: usize) -> u32
 }
 
 impl Fill {
-    ghost use Rattle.pic_deck.specs.Species.{count_in};
+    ghost use Rattle.pic_deck.specs.Species.{filled_count};
 
     /// How many particles these are in a species after earlier ones.
     pub fn count(&self, earlier: &[Species]) -> u128
-        ensures value { result ≡ count_in earlier.now self.now }
+        ensures value { result ≡ filled_count earlier.now self.now }
         ensures size { result < 2 ^ 96 }
     {
         match self {

@@ -9,7 +9,7 @@ ghost use Rattle.pic_walk.specs.Path.{path_of};
 ghost use Rattle.pic_walk.specs.Limits.{from_to};
 ghost use Rattle.pic_walk.specs.Walk.{WalksAs, within, each, table_of, optional};
 ghost use Rattle.pic_deck.specs.declared.species.Species.{Species as SpeciesView};
-ghost use Rattle.pic_deck.specs.Species.{IsNext, AreFilled, count_in, particles_of, head_of};
+ghost use Rattle.pic_deck.specs.Species.{IsNext, AreFilled, filled_count, particles_of, head_of};
 ghost use Rattle.pic_deck.specs.Keys.{species_keys, species_kind, counted, species_in, one_species, species_list};
 
 use crate::fill_reader::read_fill;
@@ -95,7 +95,7 @@ fn read_count(
     requires { particles_of earlier.now ≤ most_particles_1 }
     ensures walks { WalksAs (λ (n : ℕ). n) (counted earlier.now (path_of address.entry) fill.now)
         result }
-    ensures count { IfOk result (λ n. n ≡ count_in earlier.now fill.now) }
+    ensures count { IfOk result (λ n. n ≡ filled_count earlier.now fill.now) }
     ensures few { IfOk result (λ n. particles_of earlier.now + n ≤ most_particles_1) }
 {
     let count = fill.count(earlier);

@@ -13,7 +13,7 @@ use Rattle.pic_deck.specs.declared.settings.Settings.{Settings}
 use Rattle.pic_deck.specs.declared.species.Species.{Species}
 use Rattle.pic_deck.specs.Deck.{AreSettings, IsWithinLimits, deck_view, heads_of}
 use Rattle.pic_deck.specs.Keys.{no_field}
-use Rattle.pic_deck.specs.Species.{IsFilled, AreFilled, species_at, fastest_drift}
+use Rattle.pic_deck.specs.Species.{IsFilledFrom, AreFilled, species_at, fastest_drift}
 use Rattle.pic_deck.proofs.ForceLaws.{zero_mild, zero_set_up}
 use Rattle.pic_deck.proofs.InitialLaws.{AreRows-none}
 use Rattle.pic_demo.specs.Demo.{on_each, electron, ion, demo_settings, demo_deck}
@@ -89,13 +89,13 @@ heads_within seed = record {
 
 filled_within : (seed : ℕ) → seed < 2 ^ 32 → AreFilled demo_settings.cells (electron seed ∷ ion seed ∷ [])
 filled_within seed small = record {
-  each = both (λ i. IsFilled demo_settings.cells (take i ss) (species_at ss i)) electrons ions;
+  each = both (λ i. IsFilledFrom demo_settings.cells (take i ss) (species_at ss i)) electrons ions;
 }
   where
     ss : List Species
     ss = electron seed ∷ ion seed ∷ []
 
-    electrons : IsFilled demo_settings.cells [] (electron seed)
+    electrons : IsFilledFrom demo_settings.cells [] (electron seed)
     electrons = record {
       fill = (
         omega arith,
@@ -109,7 +109,7 @@ filled_within seed small = record {
       count = refl;
     }
 
-    ions : IsFilled demo_settings.cells (electron seed ∷ []) (ion seed)
+    ions : IsFilledFrom demo_settings.cells (electron seed ∷ []) (ion seed)
     ions = record {
       fill = (
         omega arith,

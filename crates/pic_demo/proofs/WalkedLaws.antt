@@ -16,7 +16,7 @@ use Rattle.pic_walk.proofs.WalkLaws.{then_ok}
 use Rattle.pic_deck.specs.Fill.{random, pair, species_number, species_fill}
 use Rattle.pic_deck.specs.Initial.{set_up}
 use Rattle.pic_deck.specs.Keys.{deck_keys, axis_tiles, next_tiles, tiles, grid, run, scale, settings, fields, no_field, species_name, species_kind}
-use Rattle.pic_deck.specs.Keys.{counted, species_in, one_species, species_list, allowed, forces, deck}
+use Rattle.pic_deck.specs.Keys.{counted, species_in, one_species, species_list, force_allowed, forces, deck}
 use Rattle.pic_deck.specs.Species.{is_name, is_new_name}
 use Rattle.pic_deck.proofs.ForceLaws.{no_forces, zero_set_up}
 use Rattle.pic_demo.specs.Demo.{electron, ion, demo_settings}
@@ -53,8 +53,8 @@ unfolding heads_read species_list one_species species_in species_fill only alone
 species_walked seed some few = rw (some, few)
 
 -- a scale by which no force value is too large
-none_allowed : (path : List ℕ) (o : Option ℤ) → o ≡ None → allowed path o ≡ Ok tt
-unfolding allowed
+none_allowed : (path : List ℕ) (o : Option ℤ) → o ≡ None → force_allowed path o ≡ Ok tt
+unfolding force_allowed
 none_allowed path o e = rw e
 
 forces_walked : forces demo_settings no_field ≡ Ok tt

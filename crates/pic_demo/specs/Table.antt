@@ -9,17 +9,17 @@ abbrev pub integers : List ℤ → Items
 integers [] = no_items
 integers (z ∷ zs) = item (integer z) (integers zs)
 
-abbrev pub numbers : List ℤ → Data
-numbers zs = array (integers zs)
+abbrev pub number_array : List ℤ → Data
+number_array zs = array (integers zs)
 
 -- a multiplier as a deck writes it
 abbrev pub fraction : ℤ → ℕ → Data
-fraction n k = numbers (n ∷ pos k ∷ [])
+fraction n k = number_array (n ∷ pos k ∷ [])
 
 abbrev pub grid_table : Data
 grid_table = table
-    (member (codes "cells") (numbers (on_each (pos 16)))
-    (member (codes "tiles") (numbers (on_each (pos 4))) no_members))
+    (member (codes "cells") (number_array (on_each (pos 16)))
+    (member (codes "tiles") (number_array (on_each (pos 4))) no_members))
 
 abbrev pub run_table : Data
 run_table = table
@@ -36,17 +36,17 @@ scale_table = table
 abbrev pub random_table : ℕ → Data
 random_table seed = table
     (member (codes "count") (integer (pos 8192))
-    (member (codes "drift") (numbers (on_each (pos 0)))
+    (member (codes "drift") (number_array (on_each (pos 0)))
     (member (codes "seed") (integer (pos seed))
-    (member (codes "spread") (numbers (on_each (pos 1048576)))
+    (member (codes "spread") (number_array (on_each (pos 1048576)))
     (member (codes "stream") (integer (pos 54)) no_members)))))
 
 abbrev pub pair_table : ℕ → Data
 pair_table seed = table
-    (member (codes "drift") (numbers (on_each (pos 0)))
+    (member (codes "drift") (number_array (on_each (pos 0)))
     (member (codes "of") (string (codes "electron"))
     (member (codes "seed") (integer (pos seed))
-    (member (codes "spread") (numbers (on_each (pos 16384)))
+    (member (codes "spread") (number_array (on_each (pos 16384)))
     (member (codes "stream") (integer (pos 55)) no_members)))))
 
 abbrev pub electron_table : ℕ → Data

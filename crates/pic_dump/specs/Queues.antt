@@ -9,10 +9,10 @@ pub record Queued (before now : Told) (old new text : List ℕ) : Type 0 where
   pub put : Appended before now part
   pub whole : part ++ new ≡ old ++ text
 
-abbrev pub Answers : {T E : Type 0} → Told → Told → List ℕ → List ℕ → List ℕ → Result T E → Type 0
-Answers before now old new text (Ok _) = Queued before now old new text
-Answers before now old new text (Err _) = AppendedFront before now (old ++ text)
+abbrev pub AnswersQueue : {T E : Type 0} → Told → Told → List ℕ → List ℕ → List ℕ → Result T E → Type 0
+AnswersQueue before now old new text (Ok _) = Queued before now old new text
+AnswersQueue before now old new text (Err _) = AppendedFront before now (old ++ text)
 
 -- what handing a text in does: at Err a front of what waited and of the text was put
 pub record Queues {T E : Type 0} (before now : Told) (old new text : List ℕ) (result : Result T E) : Type 0 where
-  pub answer : Answers before now old new text result
+  pub answer : AnswersQueue before now old new text result

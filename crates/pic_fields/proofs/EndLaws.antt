@@ -5,7 +5,7 @@ use Rattle.pic_io.specs.Told.{Told}
 use Rattle.pic_fields.specs.declared.read_stop.ReadStop.{ReadStop}
 use Rattle.pic_fields.specs.declared.read_stop.ReadStop.TheVariants.{ReadFault, BadDump}
 use Rattle.pic_fields.specs.Parser.{Input, Fault, Parsed, ended, finished}
-use Rattle.pic_fields.specs.Reads.{HasEnded, Fails, Stops, ReadsEnd, as_it_is}
+use Rattle.pic_fields.specs.Reads.{HasReadAll, Fails, Stops, ReadsEnd, as_it_is}
 
 -- another value in the place of none
 abbrev swap : {A : Type 0} → A → Parsed (Unit {0}) → Parsed A
@@ -20,7 +20,7 @@ finished_as : {A : Type 0} (a : A) (i : Input) → finished a i ≡ swap a (fini
 unfolding finished
 finished_as a i = ended_as a i.place i.bytes
 
-pub ends_with : {A : Type 0} (a : A) {s e : ℕ} {x z : Told} → HasEnded (finished (tt {0})) s e x (tt {0}) z → HasEnded (finished a) s e x a z
+pub ends_with : {A : Type 0} (a : A) {s e : ℕ} {x z : Told} → HasReadAll (finished (tt {0})) s e x (tt {0}) z → HasReadAll (finished a) s e x a z
 ends_with a h = record { calm = h.calm; moves = h.moves; end = h.end; held = h.held; was = h.was; stop = h.stop; reads = finished_as a _ ∙ ap (swap a) h.reads }
 
 fails_with : {A : Type 0} (a : A) {s : ℕ} {x z : Told} {f : Fault} → Fails (finished (tt {0})) s x f z → Fails (finished a) s x f z

@@ -7,7 +7,7 @@ use Rattle.std.proofs.lemmas.List.{take_all, length-take-le}
 use Rattle.pic_io.specs.Told.{Told}
 use Rattle.pic_io.specs.Source.{with_front, IsAtEnd}
 use Rattle.pic_fields.specs.Parser.{input, fault, field, cut_short, too_many, finished}
-use Rattle.pic_fields.specs.Reads.{Left, Moves, HasRead, Fails, HasEnded}
+use Rattle.pic_fields.specs.Reads.{Left, Moves, HasRead, Fails, HasReadAll}
 use Rattle.pic_fields.specs.Fills.{Filled}
 use Rattle.pic_fields.proofs.ReadLaws.{some_rest}
 
@@ -66,7 +66,7 @@ fails_field before now room n place count is filled short =
     }
 
 pub ends_here : (before now : Told) (room : List ℕ) (place count : ℕ) → length room ≡ 1 → Filled before now room count → count ≡ 0
-    → HasEnded (finished (tt {0})) place (place + 1) before (tt {0}) now
+    → HasReadAll (finished (tt {0})) place (place + 1) before (tt {0}) now
 unfolding finished
 ends_here before now room place count is filled none =
     let end = filled.end (omega (arith, is, none)) in

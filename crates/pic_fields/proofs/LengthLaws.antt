@@ -3,7 +3,7 @@ use Rattle.std.proofs.Common.{◌≡◌, ℕ, zero, suc, ◌+◌, ◌*◌, ◌�
 use Rattle.std.specs.Prelude.{if◌then◌else◌, ⊤}
 use Rattle.std.proofs.lemmas.Bool.{cases_lt, lt-ltb, le-ltb}
 use Rattle.std.proofs.lemmas.List.{take-append-le, drop-append-le, length-drop}
-use Rattle.pic_fields.specs.Parser.{Input, input, Fault, Parsed, Parser, done, after, ◌>>=◌, mapped, field, tested, checked, each}
+use Rattle.pic_fields.specs.Parser.{Input, input, Fault, Parsed, Parser, done, after, ◌>>=◌, mapped, field, tested_by, checked, each}
 
 -- with further bytes behind those that are left
 abbrev pub longer : List ℕ → Input → Input
@@ -82,7 +82,7 @@ leaves_choice : {A : Type 0} (n all : ℕ) (x : A × Input) (f : Fault) (passes 
 leaves_choice n all x f true first = first
 leaves_choice n all x f false first = tt
 
-leaves_tested : {A : Type 0} (n all place cause : ℕ) (test : A → Bool) (r : Parsed A) → Leaves n all r → Leaves n all (tested place cause test r)
+leaves_tested : {A : Type 0} (n all place cause : ℕ) (test : A → Bool) (r : Parsed A) → Leaves n all r → Leaves n all (tested_by place cause test r)
 leaves_tested n all place cause test (Ok x) first = leaves_choice n all x (record { place = place; cause = cause }) (test x.0) first
 leaves_tested n all place cause test (Err e) first = tt
 
@@ -92,7 +92,7 @@ same_choice x f rest true = refl
 same_choice x f rest false = refl
 
 same_tested : {A : Type 0} (place cause : ℕ) (test : A → Bool) (rest : List ℕ) (r : Parsed A)
-    → tested place cause test (behind rest r) ≡ behind rest (tested place cause test r)
+    → tested_by place cause test (behind rest r) ≡ behind rest (tested_by place cause test r)
 same_tested place cause test rest (Ok x) = same_choice x (record { place = place; cause = cause }) rest (test x.0)
 same_tested place cause test rest (Err e) = refl
 
@@ -100,7 +100,7 @@ pub of_checked : {A : Type 0} {p : Parser A} (cause : ℕ) (test : A → Bool) (
 unfolding checked
 of_checked {p = p} cause test n first = record {
   leaves = λ i. leaves_tested n (length i.bytes) i.place cause test (p i) (first.leaves i);
-  same = λ i rest long. ap (tested i.place cause test) (first.same i rest long) ∙ same_tested i.place cause test rest (p i);
+  same = λ i rest long. ap (tested_by i.place cause test) (first.same i rest long) ∙ same_tested i.place cause test rest (p i);
 }
 
 -- values one after another

@@ -5,8 +5,8 @@ use Rattle.std.specs.Prelude.{option_map}
 use Rattle.pic_io.specs.Told.{Told, Rose, Calm, raised}
 use Rattle.pic_io.specs.Source.{with_front}
 use Rattle.pic_io.proofs.Takes.{given_twice}
-use Rattle.pic_fields.specs.Parser.{Input, Fault, fault, Parser, done, after, ◌>>=◌, mapped, tested, checked}
-use Rattle.pic_fields.specs.Reads.{Left, Moves, HasRead, Fails, HasEnded, Stops, Reads, ReadsEnd}
+use Rattle.pic_fields.specs.Parser.{Input, Fault, fault, Parser, done, after, ◌>>=◌, mapped, tested_by, checked}
+use Rattle.pic_fields.specs.Reads.{Left, Moves, HasRead, Fails, HasReadAll, Stops, Reads, ReadsEnd}
 use Rattle.pic_fields.specs.declared.read_stop.ReadStop.{ReadStop}
 use Rattle.pic_fields.specs.declared.read_stop.ReadStop.TheVariants.{ReadFault, BadDump}
 
@@ -77,7 +77,7 @@ fails_then f first second =
 
 -- a value, and then the last one
 pub ends_then : {A B : Type 0} {p : Parser A} (f : A → Parser B) {s m e : ℕ} {x y z : Told} {a : A} {b : B}
-    → HasRead p s x a m y → HasEnded (f a) m e y b z → HasEnded (p >>= f) s e x b z
+    → HasRead p s x a m y → HasReadAll (f a) m e y b z → HasReadAll (p >>= f) s e x b z
 ends_then f first second =
     let (held, was, e1) = first.reads second.held second.was in
     record {
@@ -160,10 +160,10 @@ pub reads_up_to : {A C : Type 0} {p : Parser A} {view : C → A} {s d e : ℕ} {
 reads_up_to {p = p} {view = view} {s = s} {x = x} {z = z} {r = r} is h = subst (λ n. Reads view p s n x z r) is h
 
 -- a test that is passed
-pub tested_true : {A : Type 0} (place cause : ℕ) (test : A → Bool) (x : A × Input) → test x.0 ≡ true → tested place cause test (Ok x) ≡ Ok x
+pub tested_true : {A : Type 0} (place cause : ℕ) (test : A → Bool) (x : A × Input) → test x.0 ≡ true → tested_by place cause test (Ok x) ≡ Ok x
 tested_true place cause test x e = rw e refl
 
-tested_false : {A : Type 0} (place cause : ℕ) (test : A → Bool) (x : A × Input) → test x.0 ≡ false → tested place cause test (Ok x) ≡ Err (fault place cause)
+tested_false : {A : Type 0} (place cause : ℕ) (test : A → Bool) (x : A × Input) → test x.0 ≡ false → tested_by place cause test (Ok x) ≡ Err (fault place cause)
 tested_false place cause test x e = rw e refl
 
 pub passes : {A : Type 0} {p : Parser A} (cause : ℕ) (test : A → Bool) {s e : ℕ} {x z : Told} {a : A}
@@ -173,7 +173,7 @@ passes cause test first is = record {
   calm = first.calm;
   moves = first.moves;
   reads = λ rest left. (let (held, was, e1) = first.reads rest left in
-      (held, was, ap (tested _ cause test) e1 ∙ tested_true _ cause test _ is));
+      (held, was, ap (tested_by _ cause test) e1 ∙ tested_true _ cause test _ is));
 }
 
 -- one that is not
@@ -183,7 +183,7 @@ unfolding checked
 refused cause test {z = z} first is =
     let (rest, left) = some_rest z in
     let (held, was, e1) = first.reads rest left in
-    record { calm = first.calm; held = held; was = was; fails = ap (tested _ cause test) e1 ∙ tested_false _ cause test _ is }
+    record { calm = first.calm; held = held; was = was; fails = ap (tested_by _ cause test) e1 ∙ tested_false _ cause test _ is }
 
 -- a call that refuses a value
 pub refuses : {A : Type 0} {p : Parser A} (cause : ℕ) (test : A → Bool) {s e : ℕ} {x z : Told} {a : A}
@@ -193,7 +193,7 @@ refuses cause test first is = record { why = refused cause test first is; moves 
 fails_checked : {A : Type 0} {p : Parser A} (cause : ℕ) (test : A → Bool) {s : ℕ} {x z : Told} {e : Fault} → Fails p s x e z
     → Fails (checked cause test p) s x e z
 unfolding checked
-fails_checked cause test first = record { calm = first.calm; held = first.held; was = first.was; fails = ap (tested _ cause test) first.fails }
+fails_checked cause test first = record { calm = first.calm; held = first.held; was = first.was; fails = ap (tested_by _ cause test) first.fails }
 
 pub stops_checked : {A : Type 0} {p : Parser A} (cause : ℕ) (test : A → Bool) {s e : ℕ} {x z : Told} {stop : ReadStop}
     → Stops p s e x z stop → Stops (checked cause test p) s e x z stop
@@ -211,7 +211,7 @@ exits_checked cause test {stop = stop} {r = r} is first =
 pub stops_up : {A : Type 0} {p : Parser A} {s e d : ℕ} {x z : Told} {stop : ReadStop} → e ≤ d → Stops p s e x z stop → Stops p s d x z stop
 stops_up less h = record { why = h.why; moves = moves_up less h.moves }
 
-pub ended_up : {A : Type 0} {p : Parser A} {s e d : ℕ} {x z : Told} {a : A} → e ≤ d → HasEnded p s e x a z → HasEnded p s d x a z
+pub ended_up : {A : Type 0} {p : Parser A} {s e d : ℕ} {x z : Told} {a : A} → e ≤ d → HasReadAll p s e x a z → HasReadAll p s d x a z
 ended_up less h = record { calm = h.calm; moves = moves_up less h.moves; end = h.end; held = h.held; was = h.was; stop = h.stop; reads = h.reads }
 
 pub ends_up : {A C : Type 0} {p : Parser A} {view : C → A} {s e d : ℕ} {x z : Told} {r : Result C ReadStop} → e ≤ d → ReadsEnd view p s e x z r

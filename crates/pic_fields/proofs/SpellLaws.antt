@@ -5,7 +5,7 @@ use Rattle.std.proofs.lemmas.Bool.{cases_lt, lt-ltb, le-ltb}
 use Rattle.std.proofs.lemmas.Grind.{flat_map-append}
 use Rattle.std.proofs.Math.Seq.{take-length}
 use Rattle.std.proofs.lemmas.List.{get_or-take, get_or-drop, get_or_past, length-take-le, take-append-drop, take-take, take_more, nil_from_length}
-use Rattle.pic_fields.specs.Parser.{Input, input, Parsed, Parser, fault, done, after, ◌>>=◌, mapped, field, tested, checked, each}
+use Rattle.pic_fields.specs.Parser.{Input, input, Parsed, Parser, fault, done, after, ◌>>=◌, mapped, field, tested_by, checked, each}
 use Rattle.pic_fields.specs.Bytes.{IsBytes}
 use Rattle.pic_fields.proofs.Spells.{Spells}
 use Rattle.pic_fields.proofs.ReadLaws.{then_ok, tested_true}
@@ -91,7 +91,7 @@ spells_last {F = F} make part parts first =
     (λ a good. (subst F (sym (parts a)) good, ap make (sym (parts a)))) (λ a good. parts a) first
 
 -- a value that passes a test
-pub passed_test : {A : Type 0} (place cause : ℕ) (test : A → Bool) (r : Parsed A) (a : A) (k : Input) → tested place cause test r ≡ Ok (a, k)
+pub passed_test : {A : Type 0} (place cause : ℕ) (test : A → Bool) (r : Parsed A) (a : A) (k : Input) → tested_by place cause test r ≡ Ok (a, k)
     → (r ≡ Ok (a, k)) × (test a ≡ true)
 passed_test {A = A} place cause test (Err e) a k is = absurd cc
 passed_test {A = A} place cause test (Ok x) a k is = go (test x.0) refl is
@@ -104,7 +104,7 @@ pub spells_checked : {A : Type 0} {p : Parser A} {s : A → List ℕ} {F : A →
     → Spells p s F → Spells (checked cause test p) s (λ a. F a × (test a ≡ true))
 unfolding checked
 spells_checked {p = p} {s = s} cause test first = record {
-  again = λ place rest a fits. ap (tested place cause test) (first.again place rest a fits.0)
+  again = λ place rest a fits. ap (tested_by place cause test) (first.again place rest a fits.0)
       ∙ tested_true place cause test (a, input (place + length (s a)) rest) fits.1;
   takes = λ place bytes a k small is. (let (e1, good) = passed_test place cause test (p (input place bytes)) a k is in
       let one = first.takes place bytes a k small e1 in

@@ -59,13 +59,13 @@ field n i =
     else Ok (take n i.bytes, input (i.place + n) (drop n i.bytes))
 
 -- a value that has to pass a test
-abbrev pub tested : {A : Type 0} → ℕ → ℕ → (A → Bool) → Parsed A → Parsed A
-tested place cause test (Ok x) = if test x.0 then Ok x else Err (fault place cause)
-tested place cause test (Err e) = Err e
+abbrev pub tested_by : {A : Type 0} → ℕ → ℕ → (A → Bool) → Parsed A → Parsed A
+tested_by place cause test (Ok x) = if test x.0 then Ok x else Err (fault place cause)
+tested_by place cause test (Err e) = Err e
 
 -- a field whose value has to pass a test; else the fault is at its first byte
 unfoldable pub checked : {A : Type 0} → ℕ → (A → Bool) → Parser A → Parser A
-checked cause test p i = tested i.place cause test (p i)
+checked cause test p i = tested_by i.place cause test (p i)
 
 -- n values, each by those before it
 unfoldable pub each : {A : Type 0} → ℕ → (List A → Parser A) → Parser (List A)

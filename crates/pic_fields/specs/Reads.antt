@@ -31,7 +31,7 @@ pub record Fails {A : Type 0} (p : Parser A) (start : ℕ) (before : Told) (f : 
   pub fails : p (input start held) ≡ Err f
 
 -- a value was read, and nothing is left behind it; no byte beyond `most` was taken
-pub record HasEnded {A : Type 0} (p : Parser A) (start most : ℕ) (before : Told) (a : A) (now : Told) : Type 0 where
+pub record HasReadAll {A : Type 0} (p : Parser A) (start most : ℕ) (before : Told) (a : A) (now : Told) : Type 0 where
   pub calm : Calm before now
   pub moves : Moves start most before now
   pub end : IsAtEnd now
@@ -58,7 +58,7 @@ pub record Reads {A B : Type 0} (view : B → A) (p : Parser A) (start end : ℕ
   pub answer : Answers view p start end before now result
 
 abbrev pub AnswersEnd : {A B : Type 0} → (B → A) → Parser A → ℕ → ℕ → Told → Told → Result B ReadStop → Type 0
-AnswersEnd view p start most before now (Ok b) = HasEnded p start most before (view b) now
+AnswersEnd view p start most before now (Ok b) = HasReadAll p start most before (view b) now
 AnswersEnd view p start most before now (Err stop) = Stops p start most before now stop
 
 -- the same for one that reads up to the end of the input, and takes no byte beyond `most`

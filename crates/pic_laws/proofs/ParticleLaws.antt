@@ -11,8 +11,8 @@ use Rattle.pic_deck.specs.declared.species.Fill.{Fill}
 use Rattle.pic_deck.specs.declared.species.Fill.TheVariants.{Points, Lattice, Random, Pair}
 use Rattle.pic_deck.specs.declared.species.Species.{Species}
 use Rattle.pic_deck.specs.Deck.{deck_grid}
-use Rattle.pic_deck.specs.Species.{AreFilled, IsFill, count_in, no_species, species_at, particles_of}
-use Rattle.pic_load.specs.Loading.{no_particle, particle_of, beside, id_of, point_in, particles_in, loaded_after, loaded}
+use Rattle.pic_deck.specs.Species.{AreFilled, IsFill, filled_count, no_species, species_at, particles_of}
+use Rattle.pic_load.specs.Loading.{no_particle, loaded_particle, beside, id_of, point_in, particles_in, loaded_after, loaded}
 use Rattle.pic_load.specs.Generator.{generator, after}
 use Rattle.pic_load.proofs.LoadLaws.{within_earlier, species_more, count_more, length-particles_in}
 use Rattle.pic_laws.specs.ParticlesOfSpecies.{ParticlesAreThoseOfTheirSpecies}
@@ -61,7 +61,7 @@ module _ (grid : Grid) (ss : List Species) where
   ]
 
   -- the point of a particle is the same beside all particles as beside those of the earlier species
-  same_point : (n i : ℕ) (f : Fill) → n ≤ length ss → IsFill grid (take n ss) f → i < count_in (take n ss) f
+  same_point : (n i : ℕ) (f : Fill) → n ≤ length ss → IsFill grid (take n ss) f → i < filled_count (take n ss) f
       → point_in grid (take n ss) (front n) f i ≡ point_in grid ss (front (length ss)) f i
   same_point n i (Points points) most is below = refl
   same_point n i (Lattice first gap count v) most is below = refl
@@ -79,7 +79,7 @@ module _ (grid : Grid) (ss : List Species) where
   -- a particle of the species behind the first n
   of_next : (n i : ℕ) → n < length ss → i < (species_at ss n).count
       → get_or (front (suc n)) (id_of ss n i) no_particle
-      ≡ particle_of (id_of ss n i) n (point_in grid (take n ss) (front n) (species_at ss n).fill i)
+      ≡ loaded_particle (id_of ss n i) n (point_in grid (take n ss) (front n) (species_at ss n).fill i)
   unfolding front particles_in
   of_next n i few below =
       let s = species_at ss n in
@@ -88,9 +88,9 @@ module _ (grid : Grid) (ss : List Species) where
       let start = length-front n most in
       ap (λ k. get_or (front n ++ new) (k + i) no_particle) (sym start)
       ∙ get_or-append-add (front n) new i no_particle
-      ∙ get_or-map-range_with_len (λ j. particle_of (length (front n) + j) (length (take n ss)) (point_in grid (take n ss) (front n) s.fill j))
+      ∙ get_or-map-range_with_len (λ j. loaded_particle (length (front n) + j) (length (take n ss)) (point_in grid (take n ss) (front n) s.fill j))
       0 s.count i i no_particle below (omega arith)
-      ∙ (λ k. particle_of (start k + i) (length-take-le n ss most k) (point_in grid (take n ss) (front n) s.fill i))
+      ∙ (λ k. loaded_particle (start k + i) (length-take-le n ss most k) (point_in grid (take n ss) (front n) s.fill i))
 
   -- with all species behind it the walk has them all
   all_of : loaded_after grid [] [] ss ≡ front (length ss)
@@ -105,7 +105,7 @@ module _ (grid : Grid) (ss : List Species) where
   -- each stands at the place of its identity
   each_of : AreFilled grid ss → (n i : ℕ) → n < length ss → i < (species_at ss n).count
       → slice_get (front (length ss)) (id_of ss n i)
-      ≡ Some (particle_of (id_of ss n i) n (point_in grid ss (front (length ss)) (species_at ss n).fill i))
+      ≡ Some (loaded_particle (id_of ss n i) n (point_in grid ss (front (length ss)) (species_at ss n).fill i))
   each_of are n i few below =
       let filled = are.each n few in
       let more : n + 1 ≡ suc n = omega arith in
@@ -115,7 +115,7 @@ module _ (grid : Grid) (ss : List Species) where
       let same = same_point n i (species_at ss n).fill (omega (arith, few)) filled.fill (omega (arith, below, filled.count)) in
       slice_get-get_or (front (length ss)) (id_of ss n i) no_particle there.0
       ∙ ap (λ (p : Particle). Some p) (there.1 ∙ of_next n i few below)
-      ∙ ap (λ p. Some (particle_of (id_of ss n i) n p)) same
+      ∙ ap (λ p. Some (loaded_particle (id_of ss n i) n p)) same
 
 -- the law
 pub particles_are_those_of_their_species : ParticlesAreThoseOfTheirSpecies
@@ -125,7 +125,7 @@ particles_are_those_of_their_species d are =
     let all = all_of grid d.species in
     record {
       each = λ number i few below. subst (λ (ps : List Particle). slice_get ps (id_of d.species number i)
-          ≡ Some (particle_of (id_of d.species number i) number (point_in grid d.species ps (species_at d.species number).fill i)))
+          ≡ Some (loaded_particle (id_of d.species number i) number (point_in grid d.species ps (species_at d.species number).fill i)))
           (sym all) (each_of grid d.species are number i few below);
       all = ap length all ∙ all_count grid d.species;
     }

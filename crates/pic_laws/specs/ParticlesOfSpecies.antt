@@ -4,13 +4,13 @@ use Rattle.std.specs.Prelude.{◌≡◌, ℕ, ◌<◌, length, slice_get, Some}
 use Rattle.pic_num.specs.declared.motion.Particle.{Particle}
 use Rattle.pic_deck.specs.Deck.{DeckView, deck_grid}
 use Rattle.pic_deck.specs.Species.{AreFilled, particles_of, species_at}
-use Rattle.pic_load.specs.Loading.{id_of, loaded, particle_of, point_in}
+use Rattle.pic_load.specs.Loading.{id_of, loaded, loaded_particle, point_in}
 
 -- the particle of an index, of the species of a number: its identity is how many come before it,
 -- and its point that of what fills its species
 abbrev pub particle_of_index : DeckView → ℕ → ℕ → Particle
 particle_of_index d number i =
-    particle_of (id_of d.species number i) number
+    loaded_particle (id_of d.species number i) number
     (point_in (deck_grid d) d.species (loaded d) (species_at d.species number).fill i)
 
 -- the particles of a deck are those of its species, each at the place of its identity, and no

@@ -149,31 +149,30 @@ fn place(
     times(value, weight)
 }
 
-// what a row of places adds
+// what the row of places that begins at a cell adds
 fn row(
     side: u32,
     cells: [u32; 3],
     offset: [u32; 3],
     values: &[i128],
     point: [u32; 3],
-    y: u32,
-    z: u32,
+    first: [u32; 3],
 ) -> i128
     requires side_most { side ≤ most_side }
     requires x_most { slice_index cells 0 ≤ most_cells_of_axis }
     requires y_most { slice_index cells 1 ≤ most_cells_of_axis }
     requires z_most { slice_index cells 2 ≤ most_cells_of_axis }
     requires values_most { All (λ v. IsAtMost v most_force) values.now }
-    requires y_inside { y ≤ most_cells_of_axis }
-    requires z_inside { z ≤ most_cells_of_axis }
+    requires y_inside { slice_index first 1 ≤ most_cells_of_axis }
+    requires z_inside { slice_index first 2 ≤ most_cells_of_axis }
     ensures value { result ≡ sum_below (slice_index cells 0)
         (λ x. weighted side (triple cells) (triple offset) (laid_out (triple cells) values.now)
-        (triple point) (record { x = x; y = y; z = z })) }
+        (triple point) (record { x = x; y = slice_index first 1; z = slice_index first 2 })) }
     ensures size { IsAtMost result (2 ^ 93) }
 {
     let mut total = 0i128;
     for x in 0..cells[0] {
-        let part = place(side, cells, offset, values, point, [x, y, z]);
+        let part = place(side, cells, offset, values, point, [x, first[1], first[2]]);
         total = total + part;
     }
     total
@@ -202,7 +201,7 @@ fn layer(
 {
     let mut total = 0i128;
     for y in 0..cells[1] {
-        let part = row(side, cells, offset, values, point, y, z);
+        let part = row(side, cells, offset, values, point, [0, y, z]);
         total = total + part;
     }
     total

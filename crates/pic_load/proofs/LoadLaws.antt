@@ -16,23 +16,23 @@ use Rattle.pic_grid.specs.Hat.{IsInBox}
 use Rattle.pic_deck.specs.declared.species.Fill.{Fill}
 use Rattle.pic_deck.specs.declared.species.Species.{Species}
 use Rattle.pic_deck.specs.Species.{Point6, fastest, particles_of}
-use Rattle.pic_load.specs.Loading.{particle_of, first_of_species, point_in, particles_in, loaded_after, IsPlaced}
+use Rattle.pic_load.specs.Loading.{loaded_particle, first_of_species, point_in, particles_in, loaded_after, IsPlaced}
 
 -- so many more
 pub so_far : (old now : List Particle) (species k : ℕ) (f : ℕ → Point6) → now ≡ old ++ first_of_species (length old) species f k → length now ≡ length old + k
 so_far old now species k f e =
     ap length e ∙ length-append old (first_of_species (length old) species f k)
-    ∙ ap (λ n. length old + n) (length-map-range_with_len (λ i. particle_of (length old + i) species (f i)) 0 k)
+    ∙ ap (λ n. length old + n) (length-map-range_with_len (λ i. loaded_particle (length old + i) species (f i)) 0 k)
 
 -- one more
 pub one_more : (old now next : List Particle) (species k : ℕ) (f : ℕ → Point6) (p : Point6) → now ≡ old ++ first_of_species (length old) species f k
-    → next ≡ now ++ particle_of (length now) species p ∷ [] → p ≡ f k → next ≡ old ++ first_of_species (length old) species f (k + 1)
+    → next ≡ now ++ loaded_particle (length now) species p ∷ [] → p ≡ f k → next ≡ old ++ first_of_species (length old) species f (k + 1)
 one_more old now next species k f p e add is =
     let first = first_of_species (length old) species f k in
-    let same : particle_of (length now) species p ≡ particle_of (length old + k) species (f k) =
-    (λ i. particle_of (so_far old now species k f e i) species (is i)) in
-    let more = map-range_with_len_more (λ i. particle_of (length old + i) species (f i)) 0 k k (let z : 0 + k ≡ k = omega arith in z) in
-    add ∙ (λ i. e i ++ same i ∷ []) ∙ append_assoc old first (particle_of (length old + k) species (f k) ∷ [])
+    let same : loaded_particle (length now) species p ≡ loaded_particle (length old + k) species (f k) =
+    (λ i. loaded_particle (so_far old now species k f e i) species (is i)) in
+    let more = map-range_with_len_more (λ i. loaded_particle (length old + i) species (f i)) 0 k k (let z : 0 + k ≡ k = omega arith in z) in
+    add ∙ (λ i. e i ++ same i ∷ []) ∙ append_assoc old first (loaded_particle (length old + k) species (f k) ∷ [])
     ∙ ap (λ (ps : List Particle). old ++ ps) (sym more)
 
 -- none yet
@@ -42,9 +42,9 @@ none_yet old species f = sym (append-nil old)
 -- a particle that is added
 pub placed_more : (grid : Grid) (m : ℕ) (now next : List Particle) (id species : ℕ) (p : Point6) → species < m → IsInBox grid.side grid.n (triple p.x)
     → ((a : Axis) → IsAtMost (along a (spot p.v)) fastest)
-    → next ≡ now ++ particle_of id species p ∷ [] → All (IsPlaced grid m) now → All (IsPlaced grid m) next
+    → next ≡ now ++ loaded_particle id species p ∷ [] → All (IsPlaced grid m) now → All (IsPlaced grid m) next
 placed_more grid m now next id species p below place speed e placed =
-    rw e (All-push (IsPlaced grid m) now (particle_of id species p) placed (record { species = below; place = place; speed = speed }))
+    rw e (All-push (IsPlaced grid m) now (loaded_particle id species p) placed (record { species = below; place = place; speed = speed }))
 
 -- an earlier particle is still where it was
 pub still : (old now : List Particle) (species k : ℕ) (f : ℕ → Point6) (i : ℕ) (d : Particle) → now ≡ old ++ first_of_species (length old) species f k
@@ -80,7 +80,7 @@ count_more ss i d below = ap particles_of (take_more ss i d below) ∙ sum_by_pu
 pub length-particles_in : (grid : Grid) (earlier : List Species) (done : List Particle) (s : Species) → length (particles_in grid earlier done s) ≡ s.count
 unfolding particles_in
 length-particles_in grid earlier done s = length-map-range_with_len
-    (λ i. particle_of (length done + i) (length earlier) (point_in grid earlier done s.fill i)) 0 s.count
+    (λ i. loaded_particle (length done + i) (length earlier) (point_in grid earlier done s.fill i)) 0 s.count
 
 range_append : (a m n : ℕ) → range_with_len a (m + n) ≡ range_with_len a m ++ range_with_len (a + m) n
 range_append a zero n =
@@ -90,7 +90,7 @@ range_append a (suc m) n =
     ∙ ap (λ xs. a ∷ xs) (range_append (a + 1) m n ∙ ap (λ k. range_with_len (a + 1) m ++ range_with_len k n) (let e : a + 1 + m ≡ a + suc m = omega arith in e))
 
 ids_of : (start species : ℕ) (f : ℕ → Point6) (j k : ℕ)
-    → map (λ (p : Particle). p.id) (map (λ i. particle_of (start + i) species (f i)) (range_with_len j k)) ≡ range_with_len (start + j) k
+    → map (λ (p : Particle). p.id) (map (λ i. loaded_particle (start + i) species (f i)) (range_with_len j k)) ≡ range_with_len (start + j) k
 ids_of start species f j zero = refl
 ids_of start species f j (suc k) =
     ap (λ xs. (start + j) ∷ xs) (ids_of start species f (j + 1) k ∙ ap (λ i. range_with_len i k) (let e : start + (j + 1) ≡ start + j + 1 = omega arith in e))

@@ -19,8 +19,8 @@ use Rattle.pic_load.specs.Generator.{generator, after}
 use Rattle.pic_load.specs.Drawing.{drawn_place, drawn_velocity}
 
 -- a particle of a species, with its identity
-abbrev pub particle_of : ℕ → ℕ → Point6 → Particle
-particle_of id species point = record { id = id; species = species; x = point.x; v = point.v }
+abbrev pub loaded_particle : ℕ → ℕ → Point6 → Particle
+loaded_particle id species point = record { id = id; species = species; x = point.x; v = point.v }
 
 -- a site of a lattice, in the box of a grid
 unfoldable pub site : Grid → Triple → Triple → Triple → List ℕ
@@ -59,7 +59,7 @@ point_in grid earlier done (Pair named seed stream drift spread) i =
 -- the first particles of a species, with the identities from start on
 abbrev pub first_of_species : ℕ → ℕ → (ℕ → Point6) → ℕ → List Particle
 first_of_species start species f k =
-    map (λ i. particle_of (start + i) species (f i)) (range_with_len 0 k)
+    map (λ i. loaded_particle (start + i) species (f i)) (range_with_len 0 k)
 
 -- the particles of the next species
 unfoldable pub particles_in : Grid → List Species → List Particle → Species → List Particle
@@ -84,12 +84,12 @@ pub record IsPlaced (grid : Grid) (kinds : ℕ) (particle : Particle) : Type 0 w
   pub speed : (a : Axis) → IsAtMost (along a (spot particle.v)) fastest
 
 -- a particle of a deck
-abbrev pub IsLoaded : DeckView → Particle → Type 0
-IsLoaded d = IsPlaced (deck_grid d) (length d.species)
+abbrev pub IsParticleOf : DeckView → Particle → Type 0
+IsParticleOf d = IsPlaced (deck_grid d) (length d.species)
 
 -- the particles of a deck: as many as its species have, with the identities 0, 1, 2 and so on
 pub record AreLoaded (d : DeckView) (particles : List Particle) : Type 0 where
   pub count : length particles ≡ particles_of d.species
   pub few : length particles ≤ most_particles_1
   pub identities : map (λ particle. particle.id) particles ≡ range_with_len 0 (length particles)
-  pub each : All (IsLoaded d) particles
+  pub each : All (IsParticleOf d) particles

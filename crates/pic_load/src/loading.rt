@@ -8,10 +8,10 @@ ghost use Rattle.pic_num.specs.Space.{triple, spot, along};
 ghost use Rattle.pic_grid.specs.Cells.{Grid, cell_of};
 ghost use Rattle.pic_deck.specs.Deck.{most_extent};
 ghost use Rattle.pic_grid.specs.Hat.{IsInBox};
-ghost use Rattle.pic_deck.specs.Species.{ArePoints, IsFilled, fastest, most_particles_1, most_species, no_point, particles_of};
+ghost use Rattle.pic_deck.specs.Species.{ArePoints, IsFilledFrom, fastest, most_particles_1, most_species, no_point, particles_of};
 ghost use Rattle.pic_load.specs.Drawing.{IsSpread};
 ghost use Rattle.pic_load.specs.Generator.{after};
-ghost use Rattle.pic_load.specs.Loading.{particle_of, no_particle, site, at_site, drawn, beside, first_of_species, particles_in, loaded, IsPlaced, AreLoaded};
+ghost use Rattle.pic_load.specs.Loading.{loaded_particle, no_particle, site, at_site, drawn, beside, first_of_species, particles_in, loaded, IsPlaced, AreLoaded};
 
 use crate::drawing::{draw_place, draw_velocity};
 use pic_deck::{Deck, Fill, Point6, Species, extent, particles_of};
@@ -24,7 +24,7 @@ use std::alloc::Global;
 fn add(particles: &mut Vec<Particle>, species: u8, x: [u32; 3], v: [i32; 3]) -> Result<(), NoMemory>
     requires { length particles.old.items < 2 ^ 32 }
     ensures { OnOk result (particles.new.items ≡ particles.old.items
-        ++ particle_of (length particles.old.items) species (record { x = x; v = v }) ∷ []) }
+        ++ loaded_particle (length particles.old.items) species (record { x = x; v = v }) ∷ []) }
 {
     let id = particles.len() as u32;
     particles.push(Particle { id, species, x, v })?;
@@ -188,7 +188,7 @@ fn load_species(
     requires number { length earlier.now < most_species }
     requires count { length particles.old.items ≡ particles_of earlier.now }
     requires few { particles_of earlier.now + species.now.count ≤ most_particles_1 }
-    requires filled { IsFilled cells earlier.now species.now }
+    requires filled { IsFilledFrom cells earlier.now species.now }
     ensures value { OnOk result (particles.new.items ≡ particles.old.items
         ++ particles_in cells earlier.now particles.old.items species.now) }
     ensures placed { (m : ℕ) → length earlier.now < m → All (IsPlaced cells m) particles.old.items

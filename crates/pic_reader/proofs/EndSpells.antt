@@ -25,7 +25,7 @@ use Rattle.pic_fields.proofs.NumberLaws.{FitsU32, one_byte, spells_byte, spells_
 use Rattle.pic_dump.specs.DumpText.{phase_code, bound_code, what_code}
 use Rattle.pic_reader.specs.Fields.{wrong_end, is_below}
 use Rattle.pic_reader.specs.EndFields.{code_at, below_at, is_phase, phase_of, bound_of, what_of, phase_at, bound_at, what_at, axis_at}
-use Rattle.pic_reader.specs.EndFields.{cell_at, bound_limit, what_limit, is_past, past_at, field_stop_at, push_stop_at}
+use Rattle.pic_reader.specs.EndFields.{stop_cell_at, bound_limit, what_limit, is_past, past_at, field_stop_at, push_stop_at}
 use Rattle.pic_reader.specs.Layout.{LayoutView}
 use Rattle.pic_reader.proofs.FrameSpells.{three, spells_below}
 
@@ -139,8 +139,8 @@ FitsCell n l =
 abbrev pub cell_text : List ℕ → List ℕ
 cell_text l = u32_bytes (triple l).x ++ (u32_bytes (triple l).y ++ u32_bytes (triple l).z)
 
-spells_cell : (n : Triple) → Spells (cell_at n) cell_text (FitsCell n)
-unfolding cell_at below_at
+spells_cell : (n : Triple) → Spells (stop_cell_at n) cell_text (FitsCell n)
+unfolding stop_cell_at below_at
 spells_cell n =
     spells_bind (λ (l : List ℕ). (triple l).x) (λ a l f g. ap (λ (m : List ℕ). (triple m).x) g.1.1) (spells_below wrong_end n.x)
     (λ a. spells_bind (λ (l : List ℕ). (triple l).y) (λ b l f g. ap (λ (m : List ℕ). (triple m).y) g.1) (spells_below wrong_end n.y)

@@ -12,7 +12,7 @@ use Rattle.pic_grid.specs.Cells.{count_of}
 use Rattle.pic_grid.specs.Lattice.{Field}
 use Rattle.pic_energy.specs.Energies.{IsBounded, energies_of}
 use Rattle.pic_energy.proofs.Bounds.{bounded_of_values}
-use Rattle.pic_reader.specs.FrameFields.{IsModerate, with_values}
+use Rattle.pic_reader.specs.FrameFields.{IsModerate, field_with}
 use Rattle.pic_reader.specs.Layout.{LayoutView}
 
 -- what holds of the items so far and of one more
@@ -30,7 +30,7 @@ bounded_from by f shape all = bounded_of_values by f shape (λ k d below. (all k
 
 -- the energies depend on the values of the fields alone
 pub same_energies : (scales : Scales) (kinds : List Kind) (e b : Field) (l : LayoutView) (particles : List Particle)
-    → energies_of scales kinds e b particles ≡ energies_of scales kinds (with_values l e.values) (with_values l b.values) particles
+    → energies_of scales kinds e b particles ≡ energies_of scales kinds (field_with l e.values) (field_with l b.values) particles
 unfolding energies_of
 same_energies scales kinds e b l particles = refl
 

@@ -18,8 +18,8 @@ use Rattle.pic_fields.proofs.SpellLaws.{FitsEach, spells_bind, spells_last, spel
 use Rattle.pic_fields.proofs.NumberLaws.{FitsU32, spells_u32, spells_u128, spells_i128}
 use Rattle.pic_dump.specs.DumpText.{values_bytes, position_bytes, velocity_bytes, particle_bytes, particles_bytes, energies_bytes}
 use Rattle.pic_reader.specs.Fields.{strong_value, out_of_range, wrong_energy, is_below, below, is_between}
-use Rattle.pic_reader.specs.FrameFields.{FrameView, is_moderate, value_at, field_at, coordinate_at, position_at, speed_at, velocity_at, particle_of}
-use Rattle.pic_reader.specs.FrameFields.{particle_at, particles_at, energy_at, energies_at, with_values, frame_of, state_at}
+use Rattle.pic_reader.specs.FrameFields.{FrameView, is_moderate, value_at, field_at, coordinate_at, position_at, speed_at, velocity_at, particle_with}
+use Rattle.pic_reader.specs.FrameFields.{particle_at, particles_at, energy_at, energies_at, field_with, frame_of, state_at}
 use Rattle.pic_reader.specs.Layout.{LayoutView, species_of}
 use Rattle.pic_reader.proofs.HeaderSpells.{FitsI32, spells_between}
 
@@ -86,8 +86,8 @@ particle l id x v = record { id = id; species = species_of l.counts id; x = x; v
 abbrev FitsParticle : LayoutView → ℕ → Particle → Type 0
 FitsParticle l id p = FitsPosition l.side l.cells p.x × (FitsVelocity l.side p.v × (p ≡ particle l id p.x p.v))
 
-spells_particle : (l : LayoutView) (id : ℕ) → Spells (particle_of l id) particle_bytes (FitsParticle l id)
-unfolding particle_of particle_bytes
+spells_particle : (l : LayoutView) (id : ℕ) → Spells (particle_with l id) particle_bytes (FitsParticle l id)
+unfolding particle_with particle_bytes
 spells_particle l id =
     spells_bind (λ (p : Particle). p.x) (λ x p f g. ap (λ (q : Particle). q.x) g.1) (spells_position l.side l.cells)
     (λ x. spells_last (λ v. particle l id x v) (λ (p : Particle). p.v) (λ v. refl) (spells_velocity l.side))
@@ -125,7 +125,7 @@ spells_energies want =
 
 -- the energies that a state has to have
 abbrev energies_in : LayoutView → List ℤ → List ℤ → List Particle → Energies
-energies_in l e b particles = energies_of l.scales l.kinds (with_values l e) (with_values l b) particles
+energies_in l e b particles = energies_of l.scales l.kinds (field_with l e) (field_with l b) particles
 
 abbrev pub FitsState : LayoutView → ℕ → FrameView → Type 0
 FitsState l step f =

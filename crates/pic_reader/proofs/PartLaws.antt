@@ -10,7 +10,7 @@ use Rattle.pic_fields.specs.Number.{i128_of, i128_at, u128_of, u128_at, u32_of, 
 use Rattle.pic_fields.specs.Pieces.{each_behind}
 use Rattle.pic_fields.proofs.LengthLaws.{IsOfLength, of_done, of_then, of_mapped, of_field, of_checked, of_each}
 use Rattle.pic_reader.specs.Fields.{strong_value, out_of_range, wrong_energy, is_below, below, is_between, between}
-use Rattle.pic_reader.specs.FrameFields.{is_moderate, value_at, energy_at, energies_at, coordinate_at, position_at, speed_at, velocity_at, particle_of, particle_at}
+use Rattle.pic_reader.specs.FrameFields.{is_moderate, value_at, energy_at, energies_at, coordinate_at, position_at, speed_at, velocity_at, particle_with, particle_at}
 use Rattle.pic_reader.specs.Layout.{LayoutView}
 
 -- none so far
@@ -65,7 +65,7 @@ unfolding velocity_at
 of_velocity side = of_then _ 4 8 (of_speed side) (λ x. of_then _ 4 4 (of_speed side) (λ y. of_then _ 4 0 (of_speed side) (λ z. of_done _)))
 
 of_particle : (l : LayoutView) (before : List Particle) → IsOfLength (particle_at l before) 24
-unfolding particle_at particle_of
+unfolding particle_at particle_with
 of_particle l before = of_then _ 12 12 (of_position l.side l.cells) (λ x. of_then _ 12 0 (of_velocity l.side) (λ v. of_done _))
 
 pub of_particles : (l : LayoutView) (before : List Particle) (n : ℕ) → IsOfLength (each_behind before n (particle_at l)) (n * 24)

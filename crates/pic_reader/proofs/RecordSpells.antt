@@ -11,7 +11,7 @@ use Rattle.pic_grid.specs.declared.stop.Stop.{Stop}
 use Rattle.pic_grid.specs.declared.stop.Stop.TheVariants.{Field, Push}
 use Rattle.pic_grid.specs.declared.stop.EndMark.{EndMark}
 use Rattle.pic_grid.specs.declared.stop.EndMark.TheVariants.{Done, Stopped}
-use Rattle.pic_fields.specs.Parser.{Parser, Input, input, done, ◌>>=◌, mapped, tested, checked, ended, finished}
+use Rattle.pic_fields.specs.Parser.{Parser, Input, input, done, ◌>>=◌, mapped, tested_by, checked, ended, finished}
 use Rattle.pic_fields.specs.Number.{byte_at, u32_at, is_from_to, within}
 use Rattle.pic_fields.proofs.Spells.{Spells}
 use Rattle.pic_fields.proofs.ReadLaws.{then_ok, tested_true}
@@ -254,7 +254,7 @@ tested_so : {A : Type 0} (cause : ℕ) (test other : A → Bool) (p : Parser A) 
 unfolding checked
 tested_so cause test other p i j a is =
     let (read, good) = passed_test i.place cause test (p i) a j is in
-    (read, good, λ passes. ap (tested i.place cause other) read ∙ tested_true i.place cause other (a, j) passes)
+    (read, good, λ passes. ap (tested_by i.place cause other) read ∙ tested_true i.place cause other (a, j) passes)
 
 -- the end of the bytes
 ended_is : {A : Type 0} (a r : A) (place : ℕ) (bytes : List ℕ) (j : Input) → ended a place bytes ≡ Ok (r, j) → (a ≡ r) × (input place bytes ≡ j)

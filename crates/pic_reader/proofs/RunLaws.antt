@@ -3,7 +3,7 @@ use Rattle.std.proofs.Common.{◌≡◌, ℕ, zero, suc, ◌+◌, ◌*◌, ◌�
 use Rattle.std.proofs.Common.{refl, sym, ap, subst, arith, length-append}
 use Rattle.std.specs.Prelude.{if◌then◌else◌, codes}
 use Rattle.std.proofs.lemmas.Bool.{cases_lt, lt-ltb, le-ltb}
-use Rattle.pic_fields.specs.Parser.{Input, fault, Parsed, Parser, done, after, ◌>>=◌, mapped, field, tested, checked, each}
+use Rattle.pic_fields.specs.Parser.{Input, fault, Parsed, Parser, done, after, ◌>>=◌, mapped, field, tested_by, checked, each}
 use Rattle.pic_fields.specs.Number.{byte_at, u32_at, i32_at, within, letter, exactly}
 use Rattle.pic_fields.proofs.SpellLaws.{same_read, bind_parts}
 use Rattle.pic_dump.specs.Header.{HeaderView}
@@ -93,7 +93,7 @@ to_choice : {A : Type 0} (s n cause : ℕ) (x : A × Input) (passes : Bool) → 
 to_choice s n cause x true first = first
 to_choice s n cause x false first = omega arith
 
-to_tested : {A : Type 0} (s n cause : ℕ) (test : A → Bool) (r : Parsed A) → RunsTo s n r → RunsTo s n (tested s cause test r)
+to_tested : {A : Type 0} (s n cause : ℕ) (test : A → Bool) (r : Parsed A) → RunsTo s n r → RunsTo s n (tested_by s cause test r)
 to_tested s n cause test (Ok x) first = to_choice s n cause x (test x.0) first
 to_tested s n cause test (Err e) first = first
 

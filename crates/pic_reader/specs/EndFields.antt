@@ -52,8 +52,8 @@ unfoldable pub axis_at : Parser Axis
 axis_at = mapped axis_of (code_at (is_from_to 0 2))
 
 -- the cell of a stop
-unfoldable pub cell_at : Triple → Parser (List ℕ)
-cell_at n = below_at n.x >>= (λ x. below_at n.y >>= (λ y. below_at n.z >>= (λ z. done (x ∷ y ∷ z ∷ []))))
+unfoldable pub stop_cell_at : Triple → Parser (List ℕ)
+stop_cell_at n = below_at n.x >>= (λ x. below_at n.y >>= (λ y. below_at n.z >>= (λ z. done (x ∷ y ∷ z ∷ []))))
 
 -- the bounds that a stop's number passes, with cells of this side
 abbrev pub bound_limit : Bound → ℕ
@@ -77,7 +77,7 @@ field_stop_at l =
     phase_at
     >>= (λ phase. bound_at
     >>= (λ bound. axis_at
-    >>= (λ axis. cell_at l.cells >>= (λ cell. past_at (bound_limit bound) >>= (λ value. done (Field phase bound axis cell value))))))
+    >>= (λ axis. stop_cell_at l.cells >>= (λ cell. past_at (bound_limit bound) >>= (λ value. done (Field phase bound axis cell value))))))
 
 -- what stopped a push
 unfoldable pub push_stop_at : LayoutView → Parser Stop

@@ -56,14 +56,14 @@ unfoldable pub velocity_at : ℕ → Parser (List ℤ)
 velocity_at side = speed_at side >>= (λ x. speed_at side >>= (λ y. speed_at side >>= (λ z. done (x ∷ y ∷ z ∷ []))))
 
 -- the particle of an identity, which tells its species
-unfoldable pub particle_of : LayoutView → ℕ → Parser Particle
-particle_of l id =
+unfoldable pub particle_with : LayoutView → ℕ → Parser Particle
+particle_with l id =
     position_at l.side l.cells
     >>= (λ x. velocity_at l.side >>= (λ v. done (record { id = id; species = species_of l.counts id; x = x; v = v })))
 
 -- the next particle: its identity is its place in the list
 unfoldable pub particle_at : LayoutView → List Particle → Parser Particle
-particle_at l before = particle_of l (length before)
+particle_at l before = particle_with l (length before)
 
 unfoldable pub particles_at : LayoutView → Parser (List Particle)
 particles_at l = each (sum l.counts) (particle_at l)
@@ -79,8 +79,8 @@ energies_at want =
     >>= (λ magnetic. done (record { kinetic = kinetic; electric = electric; magnetic = magnetic }))))
 
 -- a field of such values
-abbrev pub with_values : LayoutView → List ℤ → Field
-with_values l values = record { cells = l.cells; side = l.side; parts = record { x = 1; y = 1; z = 1 }; values = values }
+abbrev pub field_with : LayoutView → List ℤ → Field
+field_with l values = record { cells = l.cells; side = l.side; parts = record { x = 1; y = 1; z = 1 }; values = values }
 
 abbrev pub frame_of : ℕ → List ℤ → List ℤ → List Particle → Energies → FrameView
 frame_of step e b particles energies = record { step = step; e = e; b = b; particles = particles; energies = energies }
@@ -91,7 +91,7 @@ state_at l step =
     field_at l.cells l.scales.e_force
     >>= (λ e. field_at l.cells l.scales.b_force
     >>= (λ b. particles_at l
-    >>= (λ particles. mapped (frame_of step e b particles) (energies_at (energies_of l.scales l.kinds (with_values l e) (with_values l b) particles)))))
+    >>= (λ particles. mapped (frame_of step e b particles) (energies_at (energies_of l.scales l.kinds (field_with l e) (field_with l b) particles)))))
 
 -- the frame of the step that is due
 unfoldable pub frame_at : LayoutView → ℕ → Parser FrameView
@@ -109,7 +109,7 @@ pub record IsSameShape (old new : Field) : Type 0 where
   pub parts : new.parts ≡ old.parts
 
 -- a particle whose position lies in the box
-pub record IsPlaced (side : ℕ) (n : Triple) (particle : Particle) : Type 0 where
+pub record IsBoxed (side : ℕ) (n : Triple) (particle : Particle) : Type 0 where
   pub place : IsInBox side n (triple particle.x)
 
 -- what the reader knows of a state that it read: its values are within their bounds, and each particle
@@ -118,4 +118,4 @@ pub record IsHeld (l : LayoutView) (e b : Field) (particles : List Particle) : T
   pub electric : IsBounded l.scales.e_force e
   pub magnetic : IsBounded l.scales.b_force b
   pub species : All (IsOfKinds l.kinds) particles
-  pub places : All (IsPlaced l.side l.cells) particles
+  pub places : All (IsBoxed l.side l.cells) particles

@@ -5,7 +5,7 @@ use Rattle.pic_num.specs.declared.motion.Particle.{Particle}
 use Rattle.pic_grid.specs.Lattice.{Field}
 use Rattle.pic_energy.specs.declared.amounts.Energies.{Energies}
 use Rattle.pic_fields.specs.declared.read_stop.ReadStop.{ReadStop}
-use Rattle.pic_fields.specs.Reads.{HasRead, HasEnded, Stops}
+use Rattle.pic_fields.specs.Reads.{HasRead, HasReadAll, Stops}
 use Rattle.pic_dump.specs.Due.{due_after}
 use Rattle.pic_dump.specs.Limits.{longest_end}
 use Rattle.pic_reader.specs.Layout.{LayoutView}
@@ -38,7 +38,7 @@ record_most r = most_of r.layout (due_after r.layout.steps r.layout.every r.last
 
 abbrev pub NextOf : Standing → Told → Told → Field → Field → List Particle → Result Next ReadStop → Type 0
 NextOf r before now e b particles (Ok (Frame behind step energies)) = HasFrame r before now e b particles behind step energies
-NextOf r before now e b particles (Ok (End mark)) = HasEnded (record_at r.layout r.last) r.place (r.place + record_most r) before (AnEnd mark) now
+NextOf r before now e b particles (Ok (End mark)) = HasReadAll (record_at r.layout r.last) r.place (r.place + record_most r) before (AnEnd mark) now
 NextOf r before now e b particles (Err stop) = Stops (record_at r.layout r.last) r.place (r.place + record_most r) before now stop
 
 -- the next record, the first fault, or that a read failed

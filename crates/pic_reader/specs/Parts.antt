@@ -8,7 +8,7 @@ use Rattle.pic_fields.specs.Parser.{Parser}
 use Rattle.pic_fields.specs.Pieces.{each_behind}
 use Rattle.pic_fields.specs.Reads.{Reads, always}
 use Rattle.pic_reader.specs.Firsts.{FirstAre}
-use Rattle.pic_reader.specs.FrameFields.{IsPlaced}
+use Rattle.pic_reader.specs.FrameFields.{IsBoxed}
 use Rattle.pic_reader.specs.Layout.{LayoutView}
 
 -- so many elements, of so many bytes each, were read behind the first ones, which stay
@@ -23,4 +23,4 @@ pub record ReadsPart {A B : Type 0} (f : List A → Parser A) (bytes first count
 -- each of the first n particles is of a species and lies in the box
 pub record FirstAreHeld (l : LayoutView) (n : ℕ) (particles : List Particle) : Type 0 where
   pub species : FirstAre (IsOfKinds l.kinds) n particles
-  pub places : FirstAre (IsPlaced l.side l.cells) n particles
+  pub places : FirstAre (IsBoxed l.side l.cells) n particles

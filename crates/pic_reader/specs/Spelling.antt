@@ -5,13 +5,13 @@ use Rattle.pic_fields.specs.Bytes.{IsBytes}
 use Rattle.pic_dump.specs.DumpText.{header_bytes, frame_bytes, end_bytes}
 use Rattle.pic_dump.specs.Header.{HeaderView}
 use Rattle.pic_reader.specs.Layout.{LayoutView}
-use Rattle.pic_reader.specs.FrameFields.{with_values}
+use Rattle.pic_reader.specs.FrameFields.{field_with}
 use Rattle.pic_reader.specs.HeaderFields.{header_at}
 use Rattle.pic_reader.specs.Records.{RecordView, AFrame, AnEnd, record_at}
 
 -- the text of a record under a header
 abbrev pub record_bytes : LayoutView → RecordView → List ℕ
-record_bytes l (AFrame f) = frame_bytes f.step (with_values l f.e) (with_values l f.b) f.particles f.energies
+record_bytes l (AFrame f) = frame_bytes f.step (field_with l f.e) (field_with l f.b) f.particles f.energies
 record_bytes l (AnEnd mark) = end_bytes mark
 
 -- a header of the format: some bytes begin with it

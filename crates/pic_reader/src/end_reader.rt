@@ -6,7 +6,7 @@ ghost use Rattle.pic_grid.specs.Cells.{IsWithin, axis_of};
 ghost use Rattle.pic_fields.specs.Number.{is_from_to};
 ghost use Rattle.pic_fields.specs.Reads.{Reads, ReadsEnd, as_it_is};
 ghost use Rattle.pic_dump.specs.Limits.{most_steps, longest_end};
-ghost use Rattle.pic_reader.specs.EndFields.{code_at, below_at, is_phase, phase_of, bound_of, what_of, phase_at, bound_at, what_at, axis_at, cell_at, bound_limit, what_limit, is_past, past_at, field_stop_at, push_stop_at, is_kind, first_after, done_at, field_end_at, push_end_at, end_at};
+ghost use Rattle.pic_reader.specs.EndFields.{code_at, below_at, is_phase, phase_of, bound_of, what_of, phase_at, bound_at, what_at, axis_at, stop_cell_at, bound_limit, what_limit, is_past, past_at, field_stop_at, push_stop_at, is_kind, first_after, done_at, field_end_at, push_end_at, end_at};
 ghost use Rattle.pic_reader.specs.Records.{RecordView, AnEnd, last_record};
 
 use crate::frame_reader::{read_below, read_step};
@@ -118,7 +118,7 @@ fn axis_of(n: u8) -> Axis
 
 fn read_cell<S: Source>(source: &mut S, place: u64, cells: Cells) -> Result<[u32; 3], ReadStop>
     requires { place + 12 < 2 ^ 63 }
-    ensures { Reads as_it_is (cell_at cells.n) place (place + 12) (S.told source.old)
+    ensures { Reads as_it_is (stop_cell_at cells.n) place (place + 12) (S.told source.old)
         (S.told source.new) result }
 {
     let y_place = place + 4;

@@ -9,7 +9,7 @@ ghost use Rattle.pic_fields.specs.Causes.{number_of};
 ghost use Rattle.pic_fields.specs.Reads.{Reads, always, as_it_is};
 ghost use Rattle.pic_energy.specs.Energies.{IsOfKinds};
 ghost use Rattle.pic_reader.specs.Fields.{is_below, below, the_step};
-ghost use Rattle.pic_reader.specs.FrameFields.{coordinate_at, position_at, velocity_at, speed_at, particle_of, particle_at, particles_at, energy_at, energies_at, frame_of, frame_at, frame_length, IsSameShape, IsPlaced, IsHeld};
+ghost use Rattle.pic_reader.specs.FrameFields.{coordinate_at, position_at, velocity_at, speed_at, particle_with, particle_at, particles_at, energy_at, energies_at, frame_of, frame_at, frame_length, IsSameShape, IsBoxed, IsHeld};
 ghost use Rattle.pic_reader.specs.Parts.{ReadsPart, FirstAreHeld};
 
 use crate::field_reader::read_field;
@@ -142,10 +142,10 @@ fn read_particle<S: Source>(
 ) -> Result<Particle, ReadStop>
     requires place { place + 24 < 2 ^ 63 }
     requires id { id < sum layout.now.counts }
-    ensures reads { Reads as_it_is (particle_of layout.now id) place (place + 24)
+    ensures reads { Reads as_it_is (particle_with layout.now id) place (place + 24)
         (S.told source.old) (S.told source.new) result }
     ensures species { IfOk result (λ p. IsOfKinds layout.now.kinds p) }
-    ensures place { IfOk result (λ p. IsPlaced layout.now.side layout.now.cells p) }
+    ensures place { IfOk result (λ p. IsBoxed layout.now.side layout.now.cells p) }
 {
     let velocity_place = place + 12;
     let species = species_at(layout.counts(), id);
@@ -217,7 +217,7 @@ fn read_particles<S: Source>(
         (S.told source.old) (S.told source.new) result }
     ensures length { length particles.new ≡ length particles.old }
     ensures species { OnOk result (All (IsOfKinds layout.now.kinds) particles.new) }
-    ensures places { OnOk result (All (IsPlaced layout.now.side layout.now.cells) particles.new) }
+    ensures places { OnOk result (All (IsBoxed layout.now.side layout.now.cells) particles.new) }
 {
     let all = layout.particles();
     let mut room = [0u8; 65536];

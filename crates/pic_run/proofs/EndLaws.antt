@@ -22,14 +22,14 @@ use Rattle.pic_run.specs.declared.early.StageStop.{StageStop}
 use Rattle.pic_run.specs.declared.early.StageStop.TheVariants.{Answer, NoMemory}
 use Rattle.pic_run.specs.declared.ended.Ended.{Ended}
 use Rattle.pic_run.specs.declared.ended.Ended.TheVariants.{Verified, ReadFault}
-use Rattle.pic_run.specs.declared.opened.Opened.{Opened}
+use Rattle.pic_run.specs.declared.opening_deck.Opened.{Opened}
 use Rattle.pic_line.specs.CommandLine.{command_of}
 use Rattle.pic_run.specs.Early.{Staged, stop_of_verify}
 use Rattle.pic_run.specs.Opened.{Opens, Tests}
 use Rattle.pic_run.specs.Outcome.{Outcome, check_outcome, run_outcome, demo_outcome, on_deck, opened, tested, demonstrated, verdict_outcome, outcome}
 use Rattle.pic_run.specs.Reading.{deck_limit, Gave, TakesAtMost}
 use Rattle.pic_run.specs.Starting.{first_state}
-use Rattle.pic_run.specs.Ends.{Finishes, Announces, EndsStopped, CommandReads, ReadsDeck, ReadsDump, CommandTakes, IsIdle, OnDeck, OnDump, Demonstrates, Performs}
+use Rattle.pic_run.specs.Ends.{Finishes, Announces, EndsStopped, CommandReads, ReadsDeck, ReadsDump, CommandTakes, NeedsNoSource, OnDeck, OnDump, Demonstrates, Performs}
 use Rattle.pic_run.specs.Ends.{TakesOfDump}
 use Rattle.pic_run.proofs.OpenedLaws.{gave_known}
 
@@ -306,7 +306,7 @@ takes (Some Verify) input source source' finish reads = reads.taken
 takes (Some (Demo seed workers)) input source source' finish reads = reads.same
 
 pub idles : (c : Option Command) (input : Option (List ℕ)) (source source' : Told) (finish : Result Ended Cut)
-    → CommandReads c input source source' finish → IsIdle c → source' ≡ source
+    → CommandReads c input source source' finish → NeedsNoSource c → source' ≡ source
 idles None input source source' finish reads idle = reads
 idles (Some Check) input source source' finish reads idle = absurd idle
 idles (Some (Run workers)) input source source' finish reads idle = absurd idle

@@ -43,13 +43,13 @@ use Rattle.pic_run.specs.Starting.{first_state, state_break}
 use Rattle.pic_run.specs.Outcome.{Outcome, pieces_of, answer_of, outcome, command_outcome, unless_refused, unless_gauss_fails, accepted, tested, opened}
 use Rattle.pic_run.specs.Outcome.{demonstrated, verdict_on, verdict_outcome, on_deck, check_outcome, run_outcome, demo_outcome}
 use Rattle.pic_run.specs.Ends.{Fulfils, HasFrames, Finishes, CommandReads, ReadsDeck, ReadsDump, Performs, Ends, IsComplete, Held, HasDeck, IsRun, IsOnDeck, workers_of}
-use Rattle.pic_run.specs.Ends.{IsRefused, BreaksGauss, IsChecked, IsVerified, IsDone, IsStopped, IsBadDump, IsBroken, HasRun, IsStarved}
+use Rattle.pic_run.specs.Ends.{IsRefused, BreaksGauss, IsChecked, IsVerified, IsRunDone, IsStopped, IsBadDump, IsBroken, HasRun, IsStarved}
 use Rattle.pic_run.proofs.StateLaws.{each_gauss, stops_by_stop}
 use Rattle.pic_run.proofs.StartLaws.{gauss_of}
 
 -- what each answer means
 abbrev pub Means : List (List ℕ) → Told → Told → Sinks → Sinks → Ended → Type 0
-Means words source source' before now (Done steps) = IsDone words source source' steps
+Means words source source' before now (Done steps) = IsRunDone words source source' steps
 Means words source source' before now (Checked particles) = IsChecked words source source' particles
 Means words source source' before now (Verified frames) = IsVerified words source source' frames
 Means words source source' before now (Stopped step stop) = IsStopped words source source' step stop

@@ -18,9 +18,9 @@ use Rattle.pic_step.specs.Start.{begun}
 use Rattle.pic_run.specs.declared.early.Early.TheVariants.{Gauss, Refused}
 use Rattle.pic_run.specs.declared.early.StageStop.{StageStop}
 use Rattle.pic_run.specs.declared.early.StageStop.TheVariants.{Answer, NoMemory}
-use Rattle.pic_run.specs.declared.opened.Opened.{Opened}
-use Rattle.pic_run.specs.declared.reading.SourceStop.{SourceStop}
-use Rattle.pic_run.specs.declared.reading.SourceStop.TheVariants as source_stop
+use Rattle.pic_run.specs.declared.opening_deck.Opened.{Opened}
+use Rattle.pic_run.specs.declared.source_reader.SourceStop.{SourceStop}
+use Rattle.pic_run.specs.declared.source_reader.SourceStop.TheVariants as source_stop
 use Rattle.pic_run.specs.Early.{Staged, ◌>>=◌, stop_of_reading, stop_of_deck}
 use Rattle.pic_run.specs.Opened.{IsTested, Tests, Opens}
 use Rattle.pic_run.specs.Outcome.{accepted, tested, opened, unless_refused, unless_gauss_fails}

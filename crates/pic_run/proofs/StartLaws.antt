@@ -30,13 +30,13 @@ use Rattle.pic_deck.specs.declared.species.Species.{Species}
 use Rattle.pic_deck.specs.Deck.{DeckView, IsWithinLimits, heads_of, initial_e, initial_b}
 use Rattle.pic_deck.specs.Species.{head_of, no_species, fastest}
 use Rattle.pic_deck.specs.Initial.{IsMild}
-use Rattle.pic_load.specs.Loading.{IsLoaded, AreLoaded}
+use Rattle.pic_load.specs.Loading.{IsParticleOf, AreLoaded}
 use Rattle.pic_step.specs.SerialStep.{World, next_world, stop_of_step, stepped}
 use Rattle.pic_grid.specs.Parts.{one_part}
 use Rattle.pic_step.specs.Sound.{IsSafe, IsSound}
 use Rattle.pic_step.specs.SerialRun.{kinds_of, start_of}
 use Rattle.pic_run.specs.Frames.{energies_in}
-use Rattle.pic_run.specs.Rooms.{HasRoom, IsFilled}
+use Rattle.pic_run.specs.Rooms.{HasShape, HoldsState}
 use Rattle.pic_run.specs.Starting.{state_break, IsGauss}
 
 -- no break is Gauss's law
@@ -72,7 +72,7 @@ kinds_are d heads = All-from_get_or IsKind (kinds_of d) no_kind (kind_at d heads
 share_at : (d : DeckView) (particles : List Particle) → AreLoaded d particles → (i : ℕ) (x : Particle) → i < length particles
     → CanShare d.side d.cells (kinds_of d) (get_or particles i x)
 share_at d particles loaded i x below =
-    let h = All-get_or (IsLoaded d) particles i x below loaded.each in
+    let h = All-get_or (IsParticleOf d) particles i x below loaded.each in
     record {
       species = let count = length-map d.species (λ (s : Species). s.kind) in let k = h.species in omega (arith, count, k);
       place = h.place;
@@ -91,7 +91,7 @@ kept_at side v is speed = record {
 speeds_are : (d : DeckView) (particles : List Particle) → d.side ≡ side_1 → AreLoaded d particles
     → All (λ particle. IsKeptVelocity d.side (spot particle.v)) particles
 speeds_are d particles side loaded i x below =
-    let h = All-get_or (IsLoaded d) particles i x below loaded.each in
+    let h = All-get_or (IsParticleOf d) particles i x below loaded.each in
     kept_at d.side (spot (get_or particles i x).v) side h.speed
 
 -- the first state of a run
@@ -145,12 +145,12 @@ unfolding next_world moved_all
 step_count w = length-map w.particles _
 
 -- room for a state is room for the next
-pub room_kept : (to : Snapshot) (w v : World) → stepped w ≡ Ok v → HasRoom to w → HasRoom to v
+pub room_kept : (to : Snapshot) (w v : World) → stepped w ≡ Ok v → HasShape to w → HasShape to v
 room_kept to w v steps room =
     let is = step_is w v steps in
     let cells = sym (step_cells w) in
     let side = sym (step_side w) in
-    subst (HasRoom to) is (record {
+    subst (HasShape to) is (record {
       e_cells = room.e_cells ∙ cells;
       e_side = room.e_side ∙ side;
       e_parts = room.e_parts;
@@ -165,7 +165,7 @@ pub same_field : (f : Field) (side : ℕ) (parts : Triple) → side ≡ f.side �
 same_field f side parts sides cut = λ i. record f { side = sides i; parts = cut i }
 
 -- the frame of a state that stands in a snapshot
-pub frame_is : (step : ℕ) (to : Snapshot) (w : World) (energies : Energies) → IsFilled to w → energies ≡ energies_in w
+pub frame_is : (step : ℕ) (to : Snapshot) (w : World) (energies : Energies) → HoldsState to w → energies ≡ energies_in w
     → frame_bytes step to.e to.b to.particles.items energies ≡ frame_bytes step w.e w.b w.particles (energies_in w)
 frame_is step to w energies filled measured =
     (λ i. frame_bytes step (filled.e i) (filled.b i) (filled.particles i) (measured i))

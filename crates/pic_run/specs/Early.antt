@@ -11,8 +11,8 @@ use Rattle.pic_run.specs.declared.early.StageStop.{StageStop}
 use Rattle.pic_run.specs.declared.early.StageStop.TheVariants as stage_stop
 use Rattle.pic_run.specs.declared.ended.Ended.{Ended}
 use Rattle.pic_run.specs.declared.ended.Ended.TheVariants.{Usage, Refused, Gauss, ReadFault, BadDump, Broken}
-use Rattle.pic_run.specs.declared.reading.SourceStop.{SourceStop}
-use Rattle.pic_run.specs.declared.reading.SourceStop.TheVariants as source_stop
+use Rattle.pic_run.specs.declared.source_reader.SourceStop.{SourceStop}
+use Rattle.pic_run.specs.declared.source_reader.SourceStop.TheVariants as source_stop
 use Rattle.pic_run.specs.Lines.{gauss_line, usage_line, read_fault_line, refused_line, bad_dump_line, broken_line}
 
 -- what a stage gives

@@ -99,10 +99,10 @@ IsOnDeck (Some (Run workers)) = ⊤
 IsOnDeck c = ⊥
 
 -- the command, or what is none, takes nothing from its source
-abbrev pub IsIdle : Option Command → Type 0
-IsIdle None = ⊤
-IsIdle (Some (Demo seed workers)) = ⊤
-IsIdle c = ⊥
+abbrev pub NeedsNoSource : Option Command → Type 0
+NeedsNoSource None = ⊤
+NeedsNoSource (Some (Demo seed workers)) = ⊤
+NeedsNoSource c = ⊥
 
 -- how a deck was read: at most one byte more than a deck may have; where memory was wanting, no
 -- read failed; and else a deck that is accepted, or refused and not too long, to its end, and one
@@ -238,7 +238,7 @@ pub record IsChecked (words : List (List ℕ)) (source source' : Told) (particle
   pub count : particles ≡ length (loaded deck)
 
 -- the deck's serial run reaches its last step, and each of its states meets Gauss's law
-pub record IsDone (words : List (List ℕ)) (source source' : Told) (steps : ℕ) : Type 0 where
+pub record IsRunDone (words : List (List ℕ)) (source source' : Told) (steps : ℕ) : Type 0 where
   pub command : IsRun (command_of words)
   pub deck : DeckView
   pub held : HasDeck (command_of words) source source' deck

@@ -9,7 +9,7 @@ use Rattle.pic_step.specs.Start.{begun}
 use Rattle.pic_run.specs.declared.early.Early.{Early}
 use Rattle.pic_run.specs.declared.early.StageStop.{StageStop}
 use Rattle.pic_run.specs.declared.early.StageStop.TheVariants.{Answer, NoMemory}
-use Rattle.pic_run.specs.declared.opened.Opened.{Opened}
+use Rattle.pic_run.specs.declared.opening_deck.Opened.{Opened}
 use Rattle.pic_run.specs.Outcome.{accepted, tested, opened}
 use Rattle.pic_run.specs.Reading.{deck_limit, Gave}
 use Rattle.pic_run.specs.Starting.{first_state}
@@ -29,7 +29,7 @@ Tests d (Err (Answer why)) = tested d ≡ Err why
 Tests d (Err NoMemory) = ⊤
 
 -- the deck of the input with what its run begins with, which is sound; the source is at its end
-pub record IsOpened (input : Option (List ℕ)) (now : Told) (o : Opened) : Type 0 where
+pub record IsDeckOpened (input : Option (List ℕ)) (now : Told) (o : Opened) : Type 0 where
   pub deck : opened input ≡ Ok o.deck
   pub start : begun o.start ≡ first_state o.deck
   pub sound : IsSound (begun o.start)
@@ -45,7 +45,7 @@ pub record IsEarly (input : Option (List ℕ)) (now : Told) (why : Early) : Type
 
 -- want of memory comes only where no read failed
 abbrev pub OpensAs : Option (List ℕ) → Told → Result Opened StageStop → Type 0
-OpensAs input now (Ok o) = IsOpened input now o
+OpensAs input now (Ok o) = IsDeckOpened input now o
 OpensAs input now (Err (Answer why)) = IsEarly input now why
 OpensAs input now (Err NoMemory) = IsSome input
 

@@ -3,8 +3,8 @@ use Rattle.std.specs.Prelude.{◌≡◌, ℕ, ◌<◌, ◌≤◌, List, length, 
 use Rattle.std.specs.declared.alloc.Global.{Global}
 use Rattle.pic_io.specs.Told.{Told, Calm, Rose}
 use Rattle.pic_io.specs.Source.{with_front, IsAtEnd}
-use Rattle.pic_run.specs.declared.reading.SourceStop.{SourceStop}
-use Rattle.pic_run.specs.declared.reading.SourceStop.TheVariants.{Fault, NoMemory}
+use Rattle.pic_run.specs.declared.source_reader.SourceStop.{SourceStop}
+use Rattle.pic_run.specs.declared.source_reader.SourceStop.TheVariants.{Fault, NoMemory}
 
 -- the greatest number of bytes that are taken for a deck: one more than a deck may have
 unfoldable pub deck_limit : ℕ

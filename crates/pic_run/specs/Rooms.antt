@@ -5,7 +5,7 @@ use Rattle.pic_step.specs.SerialStep.{World}
 use Rattle.pic_grid.specs.Parts.{one_part}
 
 -- a snapshot has the cells of a state, of their side, in one part, and as many particles
-pub record HasRoom (to : Snapshot) (w : World) : Type 0 where
+pub record HasShape (to : Snapshot) (w : World) : Type 0 where
   pub e_cells : to.e.cells ≡ w.cells
   pub e_side : to.e.side ≡ w.side
   pub e_parts : to.e.parts ≡ one_part
@@ -15,7 +15,7 @@ pub record HasRoom (to : Snapshot) (w : World) : Type 0 where
   pub count : length to.particles.items ≡ length w.particles
 
 -- it holds the state
-pub record IsFilled (to : Snapshot) (w : World) : Type 0 where
+pub record HoldsState (to : Snapshot) (w : World) : Type 0 where
   pub e : to.e ≡ w.e
   pub b : to.b ≡ w.b
   pub particles : to.particles.items ≡ w.particles

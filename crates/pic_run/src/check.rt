@@ -12,7 +12,7 @@ use crate::cut::Cut;
 use crate::early::end_early;
 use crate::ended::Ended;
 use crate::lines::line_of_check;
-use crate::opened::open;
+use crate::opening_deck::open;
 use crate::writing::put_out;
 use pic_io::{Sink, Source};
 use std::alloc::Global;

@@ -12,8 +12,8 @@ use crate::ended::Ended;
 use crate::lines::{
     line_of_bad_dump, line_of_break, line_of_broken, line_of_read_fault, line_of_usage,
 };
-use crate::reading::SourceStop;
 use crate::refusing::put_refusal;
+use crate::source_reader::SourceStop;
 use crate::writing::put_line;
 use pic_charge::Break;
 use pic_deck::{DeckFault, Refusal};

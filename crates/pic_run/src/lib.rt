@@ -1,25 +1,26 @@
 //! The top call: from words and a source to two sinks and an answer.
 #![tactic(auto)]
 
-mod call;
 mod check;
 mod cut;
-mod demo;
 mod early;
 mod ended;
-mod framing;
-mod heading;
+mod frame_writer;
+mod gauss_test;
 mod laws;
 mod lines;
-mod opened;
+mod opening_deck;
 mod output;
-mod reading;
 mod refusing;
-mod run;
-mod starting;
+mod run_header;
+mod running;
+mod showing;
+mod source_reader;
+mod threading;
+mod top_call;
 mod verify;
 mod writing;
 
-pub use call::pic;
 pub use ended::Ended;
 pub use laws::every_state_meets_gauss;
+pub use top_call::pic;

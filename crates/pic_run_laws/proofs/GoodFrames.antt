@@ -16,7 +16,7 @@ use Rattle.pic_charge.specs.Gauss.{MeetsGauss}
 use Rattle.pic_energy.specs.Energies.{energies_of}
 use Rattle.pic_dump.specs.Due.{due_after}
 use Rattle.pic_dump.specs.DumpText.{frame_bytes}
-use Rattle.pic_reader.specs.FrameFields.{FrameView, frame_of, IsModerate, with_values}
+use Rattle.pic_reader.specs.FrameFields.{FrameView, frame_of, IsModerate, field_with}
 use Rattle.pic_reader.specs.Layout.{LayoutView}
 use Rattle.pic_reader.specs.Records.{AFrame}
 use Rattle.pic_reader.specs.Spelling.{record_bytes}
@@ -48,14 +48,14 @@ readable_field side n by f safe count = record {
 
 -- the same under the numbers of the layout
 field_of_layout : (l : LayoutView) (side : ℕ) (n : Triple) (by : Multiplier) (f : Field) → side ≡ l.side → n ≡ l.cells → IsSafe side n by f
-    → with_values l f.values ≡ f
+    → field_with l f.values ≡ f
 field_of_layout l side n by f sides cells safe =
     λ i. record f { cells = sym (safe.cells ∙ cells) i; side = sym (safe.side_is ∙ sides) i; parts = sym safe.parts i }
 
-e_is : (l : LayoutView) (w : World) → IsGoodState l w → with_values l w.e.values ≡ w.e
+e_is : (l : LayoutView) (w : World) → IsGoodState l w → field_with l w.e.values ≡ w.e
 e_is l w good = field_of_layout l w.side w.cells w.scales.e_force w.e good.of.side good.of.cells good.sound.e
 
-b_is : (l : LayoutView) (w : World) → IsGoodState l w → with_values l w.b.values ≡ w.b
+b_is : (l : LayoutView) (w : World) → IsGoodState l w → field_with l w.b.values ≡ w.b
 b_is l w good = field_of_layout l w.side w.cells w.scales.b_force w.b good.of.side good.of.cells good.sound.b
 
 -- a particle
@@ -96,9 +96,9 @@ good_frame l k step w due good =
     record {
       due = due;
       fits = readable_frame l step w good;
-      gauss = subst (λ (s : ℕ). MeetsGauss s l.cells l.kinds w.particles (with_values l w.e.values)) of.side
-          (subst (λ (n : Triple). MeetsGauss w.side n l.kinds w.particles (with_values l w.e.values)) of.cells
-          (subst (λ (ks : List Kind). MeetsGauss w.side w.cells ks w.particles (with_values l w.e.values)) of.kinds
+      gauss = subst (λ (s : ℕ). MeetsGauss s l.cells l.kinds w.particles (field_with l w.e.values)) of.side
+          (subst (λ (n : Triple). MeetsGauss w.side n l.kinds w.particles (field_with l w.e.values)) of.cells
+          (subst (λ (ks : List Kind). MeetsGauss w.side w.cells ks w.particles (field_with l w.e.values)) of.kinds
           (subst (λ (f : Field). MeetsGauss w.side w.cells w.kinds w.particles f) (sym (e_is l w good)) good.sound.gauss)));
     }
 

@@ -19,9 +19,9 @@ use Rattle.pic_deck.specs.declared.species.Fill.TheVariants.{Points, Lattice, Ra
 use Rattle.pic_deck.specs.declared.species.Species.{Species}
 use Rattle.pic_deck.specs.Deck.{DeckView, deck_grid, heads_of}
 use Rattle.pic_grid.specs.Species.{HeadView}
-use Rattle.pic_deck.specs.Species.{Point6, head_of, no_point, no_species, fastest, particles_of, IsFill, count_in, species_at}
+use Rattle.pic_deck.specs.Species.{Point6, head_of, no_point, no_species, fastest, particles_of, IsFill, filled_count, species_at}
 use Rattle.pic_deck.proofs.HeadLaws.{particles_of-heads}
-use Rattle.pic_load.specs.Loading.{no_particle, particle_of, point_in, site, id_of, particles_in, loaded_after, loaded, IsPlaced, AreLoaded}
+use Rattle.pic_load.specs.Loading.{no_particle, loaded_particle, point_in, site, id_of, particles_in, loaded_after, loaded, IsPlaced, AreLoaded}
 use Rattle.pic_load.specs.Drawing.{drawn_place, drawn_velocity}
 use Rattle.pic_load.specs.Generator.{generator, after}
 use Rattle.pic_load.proofs.LoadLaws.{within_earlier, species_more, count_more, length-particles_in, identities_more}
@@ -58,7 +58,7 @@ record IsWide (grid : Grid) : Type 0 where
 
 -- each point of what fills a species, after earlier ones
 point_is : (grid : Grid) (kinds : ℕ) (counts : List ℕ) (earlier : List Species) (done : List Particle) (f : Fill) (i : ℕ) → IsWide grid
-    → length done ≡ particles_of earlier → All (IsOfDeck grid kinds counts) done → IsFill grid earlier f → IsByThrees f → i < count_in earlier f
+    → length done ≡ particles_of earlier → All (IsOfDeck grid kinds counts) done → IsFill grid earlier f → IsByThrees f → i < filled_count earlier f
     → IsGoodPoint grid (point_in grid earlier done f i)
 unfolding site drawn_place drawn_velocity
 point_is grid kinds counts earlier done (Points points) i wide count all fill six below = record {
@@ -148,7 +148,7 @@ module _ (d : DeckView) (kept : IsKeptDeck d)
         let threes = kept.fills i no_species below in
         let number = length-take-le i ss (omega (arith, below)) in
         let f = point_in grid earlier done s.fill in
-        let make : ℕ → Particle = λ j. particle_of (length done + j) (length earlier) (f j) in
+        let make : ℕ → Particle = λ j. loaded_particle (length done + j) (length earlier) (f j) in
         All-from_get_or (IsOfDeck grid (length ss) counts) (map make (range_with_len 0 s.count)) no_particle (λ k under.
         let size = length-map-range_with_len make 0 s.count in
         let inside : k < s.count = omega (arith, under, size) in

@@ -1,21 +1,21 @@
 //! What the type of a deck keeps, as facts. None of these functions changes anything.
 
 ghost use Rattle.std.specs.Prelude.{◌≡◌, Ok, All, length, OnOk};
-ghost use Rattle.pic_num.specs.Multiplier.{IsMultiplier};
 ghost use Rattle.pic_deck.specs.Deck.{DeckView};
 ghost use Rattle.pic_deck.specs.Reading.{walk};
-ghost use Rattle.pic_dump.specs.Header.{AreMultipliers, HasMultipliers};
+ghost use Rattle.pic_dump.specs.Header.{HasMultipliers};
 ghost use Rattle.pic_run_laws.specs.KeptDecks.{IsSixfold, IsByThrees, IsKeptDeck};
 
 use pic_deck::{Deck, DeckFault, Fill, Point6, Species, read_deck};
-use pic_num::{Kind, Mult, NoMemory, Scales};
+use pic_dump::{keep_kind, keep_scales};
+use pic_num::NoMemory;
 use std::alloc::Global;
 
 /// Every deck is one as its type keeps it: it meets the condition of the laws of runs.
 pub fn keep_deck(deck: &Deck)
     ensures { IsKeptDeck deck.now }
 {
-    keep_scales(deck.scales());
+    keep_scales(&deck.scales());
     keep_kinds(deck.species());
     keep_fills(deck.species());
 }
@@ -32,28 +32,6 @@ pub fn keep_read(alloc: Global, bytes: &[u8]) -> Result<(), NoMemory>
         Err(DeckFault::Refused(_)) => Ok(()),
         Err(DeckFault::NoMemory) => Err(NoMemory),
     }
-}
-
-fn keep_mult(by: Mult)
-    ensures { IsMultiplier by }
-{
-    let _numbers = (by.n(), by.k());
-}
-
-fn keep_scales(scales: Scales)
-    ensures { AreMultipliers scales }
-{
-    keep_mult(scales.e_to_b);
-    keep_mult(scales.b_to_e);
-    keep_mult(scales.e_force);
-    keep_mult(scales.b_force);
-}
-
-fn keep_kind(kind: Kind)
-    ensures { HasMultipliers kind }
-{
-    keep_mult(kind.kick);
-    keep_mult(kind.turn);
 }
 
 fn keep_kinds(species: &[Species])

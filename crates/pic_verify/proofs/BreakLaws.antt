@@ -13,7 +13,7 @@ use Rattle.pic_charge.specs.Charge.{charge_of}
 use Rattle.pic_charge.specs.Gauss.{first_break}
 use Rattle.pic_charge.proofs.BreakLaws.{first_break-charge}
 use Rattle.pic_reader.specs.Layout.{LayoutView}
-use Rattle.pic_reader.specs.FrameFields.{IsHeld, with_values}
+use Rattle.pic_reader.specs.FrameFields.{IsHeld, field_with}
 use Rattle.pic_verify.specs.Verified.{break_of}
 
 -- every particle of a frame has a share of the charge
@@ -32,5 +32,5 @@ break_found l e particles others kinds rho side n m found e_cells side_is n_is m
     let here = rw (side_is, n_is, kinds_is, same) at charges in
     is
     ∙ ap (λ cells. first_break m (div_e m (λ a p. slice_index_or e.values (place_of cells a p) (pos 0))) (node_at rho)) e_cells
-    ∙ ap (λ cells. first_break cells (div_e cells (value_at (with_values l e.values))) (node_at rho)) m_is
-    ∙ first_break-charge l.side l.cells l.kinds particles (div_e l.cells (value_at (with_values l e.values))) (node_at rho) here
+    ∙ ap (λ cells. first_break cells (div_e cells (value_at (field_with l e.values))) (node_at rho)) m_is
+    ∙ first_break-charge l.side l.cells l.kinds particles (div_e l.cells (value_at (field_with l e.values))) (node_at rho) here

@@ -17,7 +17,7 @@ use Rattle.pic_dump.specs.Due.{due_after}
 use Rattle.pic_dump.specs.DumpText.{header_bytes}
 use Rattle.pic_dump.specs.Header.{HeaderView}
 use Rattle.pic_reader.specs.Layout.{LayoutView, layout_of}
-use Rattle.pic_reader.specs.FrameFields.{FrameView, frame_length, with_values}
+use Rattle.pic_reader.specs.FrameFields.{FrameView, frame_length, field_with}
 use Rattle.pic_reader.specs.HeaderFields.{header_at}
 use Rattle.pic_reader.specs.Records.{RecordView, AFrame, AnEnd}
 use Rattle.pic_reader.specs.Spelling.{record_bytes}
@@ -26,23 +26,23 @@ use Rattle.pic_reader.proofs.HeaderSpells.{spells_header}
 use Rattle.pic_reader.proofs.RecordSpells.{spells_record, record_any}
 use Rattle.pic_verify.specs.declared.verify_stop.VerifyStop.TheVariants.{ReadFault, BadDump, Broken, NoMemory}
 use Rattle.pic_verify.specs.Verified.{Verdict, break_of, unless_broken, of_parsed, walked, of_header, verified}
-use Rattle.pic_verify.specs.Meaning.{due_step, step_before, record_place, bytes_from, record_of, IsFrame, IsGood, Begins, Means, VerdictLaw}
+use Rattle.pic_verify.specs.Meaning.{due_step, step_before, record_place, bytes_from, record_of, IsFrameAt, IsGood, Begins, Means, VerdictLaw}
 use Rattle.pic_verify.proofs.FormatLaws.{frame_read, end_read}
 use Rattle.pic_verify.proofs.WalkLaws.{walked_frame, walked_end, walked_fault}
 
 -- Gauss's law at every node is that no break is found
-pub no_break : (l : LayoutView) (f : FrameView) → MeetsGauss l.side l.cells l.kinds f.particles (with_values l f.e) → break_of l f.e f.particles ≡ None
+pub no_break : (l : LayoutView) (f : FrameView) → MeetsGauss l.side l.cells l.kinds f.particles (field_with l f.e) → break_of l f.e f.particles ≡ None
 unfolding break_of
-no_break l f law = gauss_none l.side l.cells l.kinds f.particles (with_values l f.e) (charge_of l.side l.cells l.kinds f.particles) (λ p within. refl) law
+no_break l f law = gauss_none l.side l.cells l.kinds f.particles (field_with l f.e) (charge_of l.side l.cells l.kinds f.particles) (λ p within. refl) law
 
-pub is_gauss : (l : LayoutView) (f : FrameView) → break_of l f.e f.particles ≡ None → MeetsGauss l.side l.cells l.kinds f.particles (with_values l f.e)
+pub is_gauss : (l : LayoutView) (f : FrameView) → break_of l f.e f.particles ≡ None → MeetsGauss l.side l.cells l.kinds f.particles (field_with l f.e)
 unfolding break_of
-is_gauss l f none = meets_gauss l.side l.cells l.kinds f.particles (with_values l f.e) (charge_of l.side l.cells l.kinds f.particles) (λ p within. refl) none
+is_gauss l f none = meets_gauss l.side l.cells l.kinds f.particles (field_with l f.e) (charge_of l.side l.cells l.kinds f.particles) (λ p within. refl) none
 
 is_least : (l : LayoutView) (f : FrameView) (b : Break) → break_of l f.e f.particles ≡ Some b
-    → IsLeastBreak l.cells (div_e l.cells (value_at (with_values l f.e))) (charge_of l.side l.cells l.kinds f.particles) b
+    → IsLeastBreak l.cells (div_e l.cells (value_at (field_with l f.e))) (charge_of l.side l.cells l.kinds f.particles) b
 unfolding break_of
-is_least l f b some = first_break_some l.cells (div_e l.cells (value_at (with_values l f.e))) (charge_of l.side l.cells l.kinds f.particles) b some
+is_least l f b some = first_break_some l.cells (div_e l.cells (value_at (field_with l f.e))) (charge_of l.side l.cells l.kinds f.particles) b some
 
 -- the step that is due after those before
 pub due_is_step : (l : LayoutView) (k s : ℕ) → due_after l.steps l.every (step_before l k) ≡ Some s → s ≡ due_step l k
@@ -116,7 +116,7 @@ good_more bytes h n begins good = record {
   ];
 }
 
-frame_is : (bytes : List ℕ) (h : HeaderView) (n : ℕ) (f : FrameView) (j : Input) → IsBytes bytes → record_of bytes h n ≡ Ok (AFrame f, j) → IsFrame bytes h n f
+frame_is : (bytes : List ℕ) (h : HeaderView) (n : ℕ) (f : FrameView) (j : Input) → IsBytes bytes → record_of bytes h n ≡ Ok (AFrame f, j) → IsFrameAt bytes h n f
 frame_is bytes h n f j small is = record {
   reads = is ∙ ap (λ i. Ok (AFrame f, i)) (frame_end bytes h n f j small is);
   step = due_is_step (layout_of h) n f.step (frame_read (layout_of h) (step_before (layout_of h) n) _ j f is).due;
@@ -124,7 +124,7 @@ frame_is bytes h n f j small is = record {
 
 -- what the walk finds behind n good frames
 after_break : (bytes : List ℕ) (h : HeaderView) (n : ℕ) (f : FrameView) (j : Input) (rest : Verdict) (o : Option Break)
-    → break_of (layout_of h) f.e f.particles ≡ o → IsFrame bytes h n f → Begins bytes h n → (IsGood bytes h n → Means bytes rest)
+    → break_of (layout_of h) f.e f.particles ≡ o → IsFrameAt bytes h n f → Begins bytes h n → (IsGood bytes h n → Means bytes rest)
     → Means bytes (unless_broken n o rest)
 after_break bytes h n f j rest None is frame begins go = go (record { frame = f; is = frame; gauss = is_gauss (layout_of h) f is })
 after_break bytes h n f j rest (Some b) is frame begins go =

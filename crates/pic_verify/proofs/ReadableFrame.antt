@@ -29,7 +29,7 @@ use Rattle.pic_fields.proofs.SpellLaws.{FitsEach, fits_each, spells_bind, spells
 use Rattle.pic_dump.specs.Due.{due_after}
 use Rattle.pic_dump.specs.DumpText.{frame_tag, start_bytes, state_bytes, frame_bytes, values_bytes, particles_bytes, energies_bytes}
 use Rattle.pic_reader.specs.Fields.{is_below, is_between, the_step, wrong_step, wrong_tag}
-use Rattle.pic_reader.specs.FrameFields.{FrameView, is_moderate, IsModerate, with_values, frame_at}
+use Rattle.pic_reader.specs.FrameFields.{FrameView, is_moderate, IsModerate, field_with, frame_at}
 use Rattle.pic_reader.specs.Layout.{LayoutView, IsLayout, species_of}
 use Rattle.pic_reader.specs.Records.{AFrame, is_tag, behind_tag, record_at}
 use Rattle.pic_reader.specs.Spelling.{record_bytes}
@@ -91,7 +91,7 @@ identity_is l f i is below =
 frame_fits : (l : LayoutView) (f : FrameView) → IsLayout l → IsReadableFrame l f → FitsState l f.step f
 unfolding energies_of
 frame_fits l f layout is =
-    let want = energies_of l.scales l.kinds (with_values l f.e) (with_values l f.b) f.particles in
+    let want = energies_of l.scales l.kinds (field_with l f.e) (field_with l f.b) f.particles in
     let count = how_many l f is in
     let total = layout.total in
     let c = layout.cells in

@@ -19,7 +19,7 @@ use Rattle.pic_charge.specs.Charge.{share, charge_of}
 use Rattle.pic_charge.specs.Gauss.{MeetsGauss}
 use Rattle.pic_energy.specs.Energies.{square_of, kinetic_of, kinetic_sum, square_sum, energies_of}
 use Rattle.pic_dump.specs.Header.{IsHeader, HasMultipliers}
-use Rattle.pic_reader.specs.FrameFields.{FrameView, IsModerate, with_values}
+use Rattle.pic_reader.specs.FrameFields.{FrameView, IsModerate, field_with}
 use Rattle.pic_reader.specs.Layout.{LayoutView, layout_of}
 use Rattle.pic_verify.specs.Readable.{IsReadableField, IsReadableParticle, IsReadableFrame, IsGoodFrame}
 use Rattle.pic_verify.specs.SmallDump.{one, small_header, resting_ion, small_frame, SmallDumpIsReadable}
@@ -99,7 +99,7 @@ unfolding energies_of kinetic_sum kinetic_of square_sum square_of scaled rounded
 frame_is = record { e = field_is; b = field_is; identities = refl; particles = particles_are; energies = refl }
 
 -- there is no field, and the charges of the two cancel
-no_divergence : (p : Triple) → div_e small_layout.cells (value_at (with_values small_layout small_frame.e)) p ≡ pos 0
+no_divergence : (p : Triple) → div_e small_layout.cells (value_at (field_with small_layout small_frame.e)) p ≡ pos 0
 no_divergence p =
     let n = small_layout.cells in
     let x = zero_read 24 (place_of n X p) in
@@ -117,7 +117,7 @@ no_charge : (p : Triple) → charge_of small_layout.side small_layout.cells smal
 unfolding charge_of share sum_over
 no_charge p = cancel (weight small_layout.side small_layout.cells (triple resting_ion.x) p)
 
-neutral : MeetsGauss small_layout.side small_layout.cells small_layout.kinds small_frame.particles (with_values small_layout small_frame.e)
+neutral : MeetsGauss small_layout.side small_layout.cells small_layout.kinds small_frame.particles (field_with small_layout small_frame.e)
 neutral = record { at_node = λ p within. no_divergence p ∙ sym (no_charge p) }
 
 pub small_dump_is_readable : SmallDumpIsReadable

@@ -7,7 +7,7 @@ use Rattle.pic_io.specs.Source.{with_front}
 use Rattle.pic_fields.specs.Parser.{input, Parsed}
 use Rattle.pic_fields.specs.Reads.{Moves, HasRead}
 use Rattle.pic_fields.proofs.ReadLaws.{rose_after, moves_then}
-use Rattle.pic_verify.specs.Allowed.{records_length, allowed, IsAllowed, IsInHeader, TakesAllowed}
+use Rattle.pic_verify.specs.Allowed.{records_length, bytes_allowed, IsAllowed, IsInHeader, TakesAllowed}
 use Rattle.pic_fields.specs.declared.read_stop.ReadStop.TheVariants as read
 use Rattle.pic_dump.specs.Header.{HeaderView}
 use Rattle.pic_dump.specs.Limits.{header_length}
@@ -122,7 +122,7 @@ stops_taken view end x z stop first within =
     }
 
 -- behind a header
-behind_taken : (h : HeaderView) (x y z : Told) (n : ℕ) → HasRead header_at 0 x h (header_length (length h.species)) y → Moves 0 n x z → n ≤ allowed h + 1
+behind_taken : (h : HeaderView) (x y z : Told) (n : ℕ) → HasRead header_at 0 x h (header_length (length h.species)) y → Moves 0 n x z → n ≤ bytes_allowed h + 1
     → TakesAllowed x z
 behind_taken h x y z n first moves fits =
     let most = moves.most in

@@ -8,7 +8,7 @@ use Rattle.pic_grid.specs.Lattice.{Field}
 use Rattle.pic_energy.specs.declared.amounts.Energies.{Energies}
 use Rattle.pic_charge.specs.declared.breaks.Break.{Break}
 use Rattle.pic_fields.specs.Parser.{Input, input, Fault, fault}
-use Rattle.pic_fields.specs.Reads.{Left, Moves, HasEnded, Stops}
+use Rattle.pic_fields.specs.Reads.{Left, Moves, HasReadAll, Stops}
 use Rattle.pic_fields.specs.declared.read_stop.ReadStop.{ReadStop}
 use Rattle.pic_fields.specs.declared.read_stop.ReadStop.TheVariants as read
 use Rattle.pic_fields.proofs.ReadLaws.{some_rest, rose_after, moves_none, moves_then, moves_up}
@@ -174,7 +174,7 @@ breaks_frame r before y z k here behind e b particles step energies at so_far ha
 
 -- the end record
 pub ends_records : (r : Standing) (before y z : Told) (k : ℕ) (here : Standing) (mark : EndMark)
-    → Follows r before k here y → HasEnded (record_at here.layout here.last) here.place (here.place + record_most here) y (AnEnd mark) z
+    → Follows r before k here y → HasReadAll (record_at here.layout here.last) here.place (here.place + record_most here) y (AnEnd mark) z
     → Walks r before z (Ok k)
 ends_records r before y z k here mark so_far has =
     let is = subst (λ l. record_at l here.last (input here.place has.held) ≡ Ok (AnEnd mark, input has.stop [])) so_far.layout has.reads in

@@ -20,15 +20,15 @@ abbrev pub records_length : LayoutView → ℕ
 records_length l = frames_due l * (1 + frame_length l) + longest_end
 
 -- the length that a header allows
-abbrev pub allowed : HeaderView → ℕ
-allowed h = header_length (length h.species) + records_length (layout_of h)
+abbrev pub bytes_allowed : HeaderView → ℕ
+bytes_allowed h = header_length (length h.species) + records_length (layout_of h)
 
 -- some bytes begin with a header, and so many are at most one more than it allows
 pub record IsAllowed (bytes : List ℕ) (count : ℕ) : Type 0 where
   pub header : HeaderView
   pub rest : Input
   pub reads : header_at (input 0 bytes) ≡ Ok (header, rest)
-  pub most : count ≤ allowed header + 1
+  pub most : count ≤ bytes_allowed header + 1
 
 -- some bytes begin with no header, and so many are no more than the longest header has, and no more
 -- than the longest field, a name, beyond the place of the first fault

@@ -13,7 +13,7 @@ use Rattle.pic_fields.specs.Bytes.{IsBytes}
 use Rattle.pic_dump.specs.DumpText.{header_bytes}
 use Rattle.pic_dump.specs.Header.{HeaderView}
 use Rattle.pic_reader.specs.Layout.{LayoutView, layout_of}
-use Rattle.pic_reader.specs.FrameFields.{FrameView, frame_length, with_values}
+use Rattle.pic_reader.specs.FrameFields.{FrameView, frame_length, field_with}
 use Rattle.pic_reader.specs.HeaderFields.{header_at}
 use Rattle.pic_reader.specs.Records.{RecordView, AFrame, AnEnd, record_at}
 use Rattle.pic_verify.specs.declared.verify_stop.VerifyStop.TheVariants.{ReadFault, BadDump, Broken, NoMemory}
@@ -41,15 +41,15 @@ abbrev pub record_of : List ℕ → HeaderView → ℕ → Parsed RecordView
 record_of bytes h k = record_at (layout_of h) (step_before (layout_of h) k) (bytes_from bytes (record_place h k))
 
 -- record k is this frame, of the step that is due, and whole
-pub record IsFrame (bytes : List ℕ) (h : HeaderView) (k : ℕ) (frame : FrameView) : Type 0 where
+pub record IsFrameAt (bytes : List ℕ) (h : HeaderView) (k : ℕ) (frame : FrameView) : Type 0 where
   pub reads : record_of bytes h k ≡ Ok (AFrame frame, bytes_from bytes (record_place h (suc k)))
   pub step : frame.step ≡ due_step (layout_of h) k
 
 -- record k is a frame that meets Gauss's law at every node
 pub record IsGood (bytes : List ℕ) (h : HeaderView) (k : ℕ) : Type 0 where
   pub frame : FrameView
-  pub is : IsFrame bytes h k frame
-  pub gauss : MeetsGauss h.side h.cells (layout_of h).kinds frame.particles (with_values (layout_of h) frame.e)
+  pub is : IsFrameAt bytes h k frame
+  pub gauss : MeetsGauss h.side h.cells (layout_of h).kinds frame.particles (field_with (layout_of h) frame.e)
 
 -- the bytes begin with this header and n good frames
 pub record Begins (bytes : List ℕ) (h : HeaderView) (n : ℕ) : Type 0 where
@@ -80,9 +80,9 @@ pub record IsFirstBreak (bytes : List ℕ) (n : ℕ) (b : Break) : Type 0 where
   pub header : HeaderView
   pub begins : Begins bytes header n
   pub frame : FrameView
-  pub is : IsFrame bytes header n frame
+  pub is : IsFrameAt bytes header n frame
   pub breaks : break_of (layout_of header) frame.e frame.particles ≡ Some b
-  pub least : IsLeastBreak header.cells (div_e header.cells (value_at (with_values (layout_of header) frame.e)))
+  pub least : IsLeastBreak header.cells (div_e header.cells (value_at (field_with (layout_of header) frame.e)))
       (charge_of header.side header.cells (layout_of header).kinds frame.particles) b
 
 -- what a verdict says of the bytes

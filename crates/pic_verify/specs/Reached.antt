@@ -8,7 +8,7 @@ use Rattle.pic_fields.specs.Bytes.{IsBytes}
 use Rattle.pic_charge.specs.Gauss.{MeetsGauss}
 use Rattle.pic_dump.specs.Due.{due_after}
 use Rattle.pic_dump.specs.Header.{HeaderView}
-use Rattle.pic_reader.specs.FrameFields.{FrameView, frame_length, with_values}
+use Rattle.pic_reader.specs.FrameFields.{FrameView, frame_length, field_with}
 use Rattle.pic_reader.specs.Layout.{LayoutView, layout_of}
 use Rattle.pic_reader.specs.NextReads.{most_of}
 use Rattle.pic_reader.specs.Records.{AFrame, record_at}
@@ -44,7 +44,7 @@ pub record IsGoodAt (l : LayoutView) (place : ℕ) (bytes : List ℕ) (k : ℕ) 
   pub reads : record_at l (step_before l k) (input place bytes)
       ≡ Ok (AFrame frame, input (place + (1 + frame_length l)) (drop (1 + frame_length l) bytes))
   pub step : frame.step ≡ due_step l k
-  pub gauss : MeetsGauss l.side l.cells l.kinds frame.particles (with_values l frame.e)
+  pub gauss : MeetsGauss l.side l.cells l.kinds frame.particles (field_with l frame.e)
 
 -- the same from where a reader stands behind a header
 pub record Reaches (r : Standing) (before now : Told) : Type 0 where

@@ -23,7 +23,7 @@ use Rattle.pic_dump.specs.Due.{due_after}
 use Rattle.pic_dump.specs.DumpText.{header_bytes, end_bytes}
 use Rattle.pic_dump.specs.Header.{HeaderView, IsHeader}
 use Rattle.pic_reader.specs.EndFields.{bound_limit, what_limit}
-use Rattle.pic_reader.specs.FrameFields.{FrameView, IsModerate, with_values}
+use Rattle.pic_reader.specs.FrameFields.{FrameView, IsModerate, field_with}
 use Rattle.pic_reader.specs.HeaderFields.{header_at}
 use Rattle.pic_reader.specs.Layout.{LayoutView, IsLayout, layout_of, species_of}
 use Rattle.pic_reader.specs.Records.{AFrame, AnEnd, record_at}
@@ -59,7 +59,7 @@ pub record IsReadableFrame (l : LayoutView) (f : FrameView) : Type 0 where
   pub b : IsReadableField l.cells l.scales.b_force f.b
   pub identities : map (λ particle. particle.id) f.particles ≡ range_with_len 0 (sum l.counts)
   pub particles : All (IsReadableParticle l) f.particles
-  pub energies : f.energies ≡ energies_of l.scales l.kinds (with_values l f.e) (with_values l f.b) f.particles
+  pub energies : f.energies ≡ energies_of l.scales l.kinds (field_with l f.e) (field_with l f.b) f.particles
 
 -- every such frame, where it is due
 abbrev pub FramesAreRead : Type 0
@@ -118,7 +118,7 @@ dump_bytes h frames mark = header_bytes h ++ flat_map (λ f. record_bytes (layou
 pub record IsGoodFrame (l : LayoutView) (k : ℕ) (f : FrameView) : Type 0 where
   pub due : due_after l.steps l.every (step_before l k) ≡ Some f.step
   pub fits : IsReadableFrame l f
-  pub gauss : MeetsGauss l.side l.cells l.kinds f.particles (with_values l f.e)
+  pub gauss : MeetsGauss l.side l.cells l.kinds f.particles (field_with l f.e)
 
 -- a header, such frames in turn, the last of which is frame `last`, and an end record that fits behind it
 pub record IsReadableDump (h : HeaderView) (frames : List FrameView) (mark : EndMark) : Type 0 where

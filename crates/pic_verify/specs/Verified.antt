@@ -11,7 +11,7 @@ use Rattle.pic_charge.specs.Gauss.{first_break}
 use Rattle.pic_fields.specs.Parser.{Input, input, Parsed}
 use Rattle.pic_dump.specs.Header.{HeaderView}
 use Rattle.pic_reader.specs.Layout.{LayoutView, layout_of}
-use Rattle.pic_reader.specs.FrameFields.{with_values}
+use Rattle.pic_reader.specs.FrameFields.{field_with}
 use Rattle.pic_reader.specs.HeaderFields.{header_at}
 use Rattle.pic_reader.specs.Records.{RecordView, AFrame, AnEnd, record_at}
 use Rattle.pic_verify.specs.declared.verify_stop.VerifyStop.{VerifyStop}
@@ -23,7 +23,7 @@ Verdict = Result ℕ VerifyStop
 
 -- the least node of a frame where the divergence of its E and the charge of its particles differ
 unfoldable pub break_of : LayoutView → List ℤ → List Particle → Option Break
-break_of l e particles = first_break l.cells (div_e l.cells (value_at (with_values l e))) (charge_of l.side l.cells l.kinds particles)
+break_of l e particles = first_break l.cells (div_e l.cells (value_at (field_with l e))) (charge_of l.side l.cells l.kinds particles)
 
 -- a break in the frame after k others, or what follows that frame
 abbrev pub unless_broken : ℕ → Option Break → Verdict → Verdict

@@ -10,7 +10,7 @@ use Rattle.toml.proofs.Views.{items_view-drop}
 use Rattle.pic_walk.specs.declared.fault.Fault.TheVariants.{Kind}
 use Rattle.pic_walk.specs.declared.limits.Limits.{Limits}
 use Rattle.pic_walk.specs.Path.{element_at}
-use Rattle.pic_walk.specs.Limits.{IsInLimits, limits_at}
+use Rattle.pic_walk.specs.Limits.{MeetsLimits, limits_at}
 use Rattle.pic_walk.specs.Walk.{Walked, ◌>>=◌, count_of_items, of_length, each, limited, number_at}
 
 pub count_of_items-view : (vs : List Value) → count_of_items (items_view vs) ≡ length vs
@@ -55,10 +55,10 @@ next_number limits path ns vs i d h room =
 
 -- one more number is within its limits
 pub more_in_limits : (limits : List Limits) (ns : List ℤ) (i : ℕ) (z : ℤ) → i < length ns
-    → ((k : ℕ) → k < i → IsInLimits (limits_at limits k) (get_or ns k (pos 0))) → IsInLimits (limits_at limits i) z
-    → (k : ℕ) → k < i + 1 → IsInLimits (limits_at limits k) (get_or (set ns i z) k (pos 0))
+    → ((k : ℕ) → k < i → MeetsLimits (limits_at limits k) (get_or ns k (pos 0))) → MeetsLimits (limits_at limits i) z
+    → (k : ℕ) → k < i + 1 → MeetsLimits (limits_at limits k) (get_or (set ns i z) k (pos 0))
 more_in_limits limits ns i z room below here =
-    below_more (λ k. IsInLimits (limits_at limits k) (get_or (set ns i z) k (pos 0))) i
+    below_more (λ k. MeetsLimits (limits_at limits k) (get_or (set ns i z) k (pos 0))) i
     (λ k h. let other : k ≢ i = (λ e. omega (arith, e)) in rw (get_or-set_other ns i k z (pos 0) other) (below k h))
     (rw (get_or-set_same ns i z (pos 0) room) here)
 

@@ -12,12 +12,12 @@ use Rattle.pic_num.specs.Space.{along, spot}
 use Rattle.pic_grid.specs.Cells.{Grid}
 use Rattle.pic_walk.specs.Extent.{extent_of, most_extent, IsExtent}
 use Rattle.pic_walk.specs.Bounds.{fastest}
-use Rattle.pic_walk.specs.Limits.{IsInLimits, limits_at, below}
+use Rattle.pic_walk.specs.Limits.{MeetsLimits, limits_at, below}
 use Rattle.pic_walk.specs.declared.point6.Point6.{Point6}
 use Rattle.pic_walk.specs.Points.{IsPoint, speed_limits, point_limits, point_of}
 
 abbrev pub AreInside : Grid → List ℤ → Type 0
-AreInside g zs = (k : ℕ) → k < 6 → IsInLimits (limits_at (point_limits g) k) (slice_index_or zs k (pos 0))
+AreInside g zs = (k : ℕ) → k < 6 → MeetsLimits (limits_at (point_limits g) k) (slice_index_or zs k (pos 0))
 
 -- what the code makes of a position
 abbrev pub as_place : ℤ → ℕ
@@ -27,7 +27,7 @@ as_place z = unsigned_abs (to_z w64 (of_z w64 z))
 abbrev pub as_speed : ℤ → ℤ
 as_speed z = to_z w32 (of_z w32 (to_z w64 (of_z w64 z)))
 
-kept_place : (m : ℕ) (z : ℤ) → m ≤ most_extent → IsInLimits (below m) z → to_z w64 (of_z w64 z) ≡ z
+kept_place : (m : ℕ) (z : ℤ) → m ≤ most_extent → MeetsLimits (below m) z → to_z w64 (of_z w64 z) ≡ z
 kept_place m z small inside =
     let size : unsigned_abs z < 2 ^ 63 = omega (arith, ints, inside.low, inside.high, small) in
     to_z-of_z w64 z (fits_signed_from_abs w64 z size)
@@ -40,13 +40,13 @@ kept_small z size =
     let fits : SFits w32 z = fits_signed_from_abs w32 z size in
     rw (to_z-of_z w64 z wide) (to_z-of_z w32 z fits)
 
-kept_speed : (z : ℤ) → IsInLimits speed_limits z → as_speed z ≡ z
+kept_speed : (z : ℤ) → MeetsLimits speed_limits z → as_speed z ≡ z
 kept_speed z inside = kept_small z (omega (arith, ints, inside.low, inside.high))
 
-place_below : (m : ℕ) (z : ℤ) → 1 ≤ m → IsInLimits (below m) z → unsigned_abs z < m
+place_below : (m : ℕ) (z : ℤ) → 1 ≤ m → MeetsLimits (below m) z → unsigned_abs z < m
 place_below m z some inside = omega (arith, ints, inside.low, inside.high, some)
 
-speed_size : (z : ℤ) → IsInLimits speed_limits z → IsAtMost z fastest
+speed_size : (z : ℤ) → MeetsLimits speed_limits z → IsAtMost z fastest
 speed_size z inside = record { size = omega (arith, ints, inside.low, inside.high) }
 
 -- the particle that the code makes of six numbers
@@ -68,8 +68,8 @@ point_is g zs extent inside =
       kept_speed (get_or zs 5 (pos 0)) (inside 5 (lit< tt)),
     )
 
-speeds : (zs : List ℤ) (a : Axis) → IsInLimits speed_limits (get_or zs 3 (pos 0)) → IsInLimits speed_limits (get_or zs 4 (pos 0))
-    → IsInLimits speed_limits (get_or zs 5 (pos 0))
+speeds : (zs : List ℤ) (a : Axis) → MeetsLimits speed_limits (get_or zs 3 (pos 0)) → MeetsLimits speed_limits (get_or zs 4 (pos 0))
+    → MeetsLimits speed_limits (get_or zs 5 (pos 0))
     → IsAtMost (along a (spot (point_of zs).v)) fastest
 speeds zs X x y z = speed_size _ x
 speeds zs Y x y z = speed_size _ y

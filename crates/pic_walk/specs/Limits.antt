@@ -19,7 +19,7 @@ abbrev pub is_within : Limits → ℤ → Bool
 is_within limits z = int_le limits.low z && int_le z limits.high
 
 -- the number is within the limits
-pub record IsInLimits (limits : Limits) (z : ℤ) : Type 0 where
+pub record MeetsLimits (limits : Limits) (z : ℤ) : Type 0 where
   pub low : limits.low ≤ℤ z
   pub high : z ≤ℤ limits.high
 

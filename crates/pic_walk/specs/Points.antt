@@ -10,7 +10,7 @@ use Rattle.pic_walk.specs.declared.point6.Point6.{Point6}
 use Rattle.pic_walk.specs.Bounds.{fastest}
 use Rattle.pic_walk.specs.declared.limits.Limits.{Limits}
 use Rattle.pic_walk.specs.Limits.{from_to, below}
-use Rattle.pic_walk.specs.Walk.{Walked, ◌>>=◌, list_of, numbers, natural_at}
+use Rattle.pic_walk.specs.Walk.{Walked, ◌>>=◌, list_by, numbers, natural_at}
 
 -- a particle that isn't there
 abbrev pub no_point : Point6
@@ -47,4 +47,4 @@ point g done path d = numbers (point_limits g) path d >>= (λ zs. Ok (point_of z
 
 -- the particles of a species
 unfoldable pub point_list : Grid → List ℕ → Data → Walked (List Point6)
-point_list g path d = list_of (point g) path d
+point_list g path d = list_by (point g) path d

@@ -68,8 +68,8 @@ unfoldable pub elements : List ℕ → Data → Walked Items
 elements path d = some_or (Kind path) (as_array d)
 
 -- the same, each element by f
-unfoldable pub list_of : {A : Type 0} → (List A → List ℕ → Data → Walked A) → List ℕ → Data → Walked (List A)
-list_of f path d = elements path d >>= each f path []
+unfoldable pub list_by : {A : Type 0} → (List A → List ℕ → Data → Walked A) → List ℕ → Data → Walked (List A)
+list_by f path d = elements path d >>= each f path []
 
 -- an array of n elements, each by f
 unfoldable pub array_of : {A : Type 0} → ℕ → (List A → List ℕ → Data → Walked A) → List ℕ → Data → Walked (List A)
@@ -162,11 +162,11 @@ IsFault r (Found q) = q ≡ r
 IsFault r NoMemory = ⊤
 
 -- a call's answer is what the walk gives, or want of memory
-abbrev pub Answers : {A B : Type 0} → (B → A) → Walked A → Result B WalkStop → Type 0
-Answers seen w (Ok b) = w ≡ Ok (seen b)
-Answers seen w (Err (Found r)) = w ≡ Err r
-Answers seen w (Err NoMemory) = ⊤
+abbrev pub AnswersWalk : {A B : Type 0} → (B → A) → Walked A → Result B WalkStop → Type 0
+AnswersWalk seen w (Ok b) = w ≡ Ok (seen b)
+AnswersWalk seen w (Err (Found r)) = w ≡ Err r
+AnswersWalk seen w (Err NoMemory) = ⊤
 
 -- the same as a record, of which lemmas find their arguments; `seen` is what a value stands for
 pub record WalksAs {A B : Type 0} (seen : B → A) (w : Walked A) (r : Result B WalkStop) : Type 0 where
-  pub answer : Answers seen w r
+  pub answer : AnswersWalk seen w r

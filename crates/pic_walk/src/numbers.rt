@@ -4,7 +4,7 @@ ghost use Rattle.std.specs.Prelude.{◌≡◌, ℤ, ℕ, pos, List, None, ◌<�
 ghost use Rattle.pic_num.specs.Multiplier.{Multiplier};
 ghost use Rattle.toml.specs.View.{view, array_view};
 ghost use Rattle.pic_walk.specs.Path.{path_of};
-ghost use Rattle.pic_walk.specs.Limits.{IsInLimits, FitsU32, FitsI32, limits_at};
+ghost use Rattle.pic_walk.specs.Limits.{MeetsLimits, FitsU32, FitsI32, limits_at};
 ghost use Rattle.pic_walk.specs.Walk.{WalksAs, within, limited, whole, text, elements, fixed, numbers, three, multiplier, multiplier_limits};
 
 use crate::address::Address;
@@ -23,7 +23,7 @@ pub fn check_within(
     limits: Limits,
 ) -> Result<(), WalkStop>
     ensures walks { WalksAs (λ _. value) (within limits (path_of address.entry) value) result }
-    ensures bounds { OnOk result (IsInLimits limits value) }
+    ensures bounds { OnOk result (MeetsLimits limits value) }
 {
     if limits.allow(value) {
         Ok(())
@@ -41,7 +41,7 @@ pub fn read_number(
 ) -> Result<i64, WalkStop>
     ensures walks { WalksAs (λ (z : ℤ). z) (limited limits (path_of address.entry) (view value.now))
         result }
-    ensures bounds { IfOk result (λ z. IsInLimits limits z) }
+    ensures bounds { IfOk result (λ z. MeetsLimits limits z) }
 {
     match value.as_integer() {
         Some(number) => {
@@ -62,7 +62,7 @@ pub fn read_whole(
     requires { FitsU32 limits }
     ensures walks { WalksAs (λ (n : ℕ). n) (whole limits (path_of address.entry) (view value.now))
         result }
-    ensures bounds { IfOk result (λ n. IsInLimits limits (pos n)) }
+    ensures bounds { IfOk result (λ n. MeetsLimits limits (pos n)) }
 {
     let number = read_number(alloc, address, value, limits)?;
     Ok(number as u32)
@@ -78,7 +78,7 @@ pub fn read_long(
     requires { pos 0 ≤ℤ limits.low }
     ensures walks { WalksAs (λ (n : ℕ). n)
         (whole limits (path_of address.entry) (view value.now)) result }
-    ensures bounds { IfOk result (λ n. IsInLimits limits (pos n)) }
+    ensures bounds { IfOk result (λ n. MeetsLimits limits (pos n)) }
 {
     let number = read_number(alloc, address, value, limits)?;
     Ok(number as u64)
@@ -147,7 +147,7 @@ pub fn read_numbers<const N: usize>(
     ensures walks { WalksAs (λ (zs : List ℤ). zs)
         (numbers limits.entry (path_of address.entry) (view value.now)) result }
     ensures bounds { IfOk result (λ zs. (k : ℕ) → k < N
-        → IsInLimits (limits_at limits.entry k) (slice_index_or zs k (pos 0))) }
+        → MeetsLimits (limits_at limits.entry k) (slice_index_or zs k (pos 0))) }
 {
     let items = read_array(alloc, address, value, N)?;
     let mut numbers = [0i64; N];
@@ -169,7 +169,7 @@ pub fn read_three(
     ensures walks { WalksAs (λ (ns : List ℕ). ns)
         (three limits (path_of address.entry) (view value.now)) result }
     ensures bounds { IfOk result (λ ns. (k : ℕ) → k < 3
-        → IsInLimits (limits_at limits k) (pos (slice_index ns k))) }
+        → MeetsLimits (limits_at limits k) (pos (slice_index ns k))) }
 {
     let numbers = read_numbers(alloc, address, value, limits)?;
     Ok([numbers[0] as u32, numbers[1] as u32, numbers[2] as u32])
@@ -187,7 +187,7 @@ pub fn read_signed_three(
     ensures walks { WalksAs (λ (zs : List ℤ). zs)
         (numbers limits (path_of address.entry) (view value.now)) result }
     ensures bounds { IfOk result (λ zs. (k : ℕ) → k < 3
-        → IsInLimits (limits_at limits k) (slice_index_or zs k (pos 0))) }
+        → MeetsLimits (limits_at limits k) (slice_index_or zs k (pos 0))) }
 {
     let numbers = read_numbers(alloc, address, value, limits)?;
     Ok([numbers[0] as i32, numbers[1] as i32, numbers[2] as i32])
@@ -214,8 +214,8 @@ fn multiplier_limits() -> [Limits; 2]
 
 #[tactic(auto, unfolding(crate::specs::Limits::limits_at))]
 fn multiplier_of(n: i64, k: i64) -> Mult
-    requires n { IsInLimits (limits_at multiplier_limits 0) n }
-    requires k { IsInLimits (limits_at multiplier_limits 1) k }
+    requires n { MeetsLimits (limits_at multiplier_limits 0) n }
+    requires k { MeetsLimits (limits_at multiplier_limits 1) k }
     ensures { result ≡ record { n = n; k = unsigned_abs k } }
 {
     Mult::new(n as i32, k as u32)

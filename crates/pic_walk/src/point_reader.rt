@@ -3,7 +3,7 @@
 ghost use Rattle.std.specs.Prelude.{◌≡◌, ℕ, pos, ◌<◌, List, None, IfOk, slice_index_or};
 ghost use Rattle.toml.specs.View.{view};
 ghost use Rattle.pic_walk.specs.Path.{path_of};
-ghost use Rattle.pic_walk.specs.Limits.{IsInLimits, limits_at};
+ghost use Rattle.pic_walk.specs.Limits.{MeetsLimits, limits_at};
 ghost use Rattle.pic_walk.specs.Walk.{WalksAs};
 ghost use Rattle.pic_walk.specs.declared.point6.Point6.{Point6 as PointView};
 ghost use Rattle.pic_walk.specs.Points.{IsPoint, ArePoints, point_limits, point_of, point, point_list};
@@ -36,7 +36,7 @@ fn point_limits(cells: Cells) -> [Limits; 6]
 
 #[tactic(auto, unfolding(crate::specs::Limits::limits_at))]
 fn point_of(cells: Cells, numbers: [i64; 6]) -> Point6
-    requires { (k : ℕ) → k < 6 → IsInLimits (limits_at (point_limits cells) k)
+    requires { (k : ℕ) → k < 6 → MeetsLimits (limits_at (point_limits cells) k)
         (slice_index_or numbers k (pos 0)) }
     ensures value { result ≡ point_of numbers }
     ensures limits { IsPoint cells result }

@@ -4,10 +4,10 @@ ghost use Rattle.std.specs.Prelude.{◌≡◌, ℕ, ℤ, pos, ◌<◌, ◌≤ℤ
 ghost use Rattle.toml.specs.View.{view};
 ghost use Rattle.pic_grid.specs.Cells.{axis_of};
 ghost use Rattle.pic_walk.specs.Path.{path_of};
-ghost use Rattle.pic_walk.specs.Limits.{IsInLimits, limits_at};
-ghost use Rattle.pic_walk.specs.Walk.{WalksAs, list_of};
+ghost use Rattle.pic_walk.specs.Limits.{MeetsLimits, limits_at};
+ghost use Rattle.pic_walk.specs.Walk.{WalksAs, list_by};
 ghost use Rattle.pic_walk.specs.declared.row.Row.{Row as RowView};
-ghost use Rattle.pic_walk.specs.Rows.{IsRow, AreRows, no_row, row_limits, row_of, row, row_list};
+ghost use Rattle.pic_walk.specs.Rows.{IsRow, AreRows, no_row, row_limits, row_from, row, row_list};
 
 use crate::address::Address;
 use crate::bounds::MAX_ROWS;
@@ -47,9 +47,9 @@ fn axis_at(number: i64) -> Axis
 
 #[tactic(auto, unfolding(crate::specs::Limits::limits_at))]
 fn row_of(cells: Cells, numbers: [i64; 5]) -> Row
-    requires { (k : ℕ) → k < 5 → IsInLimits (limits_at (row_limits cells.n) k)
+    requires { (k : ℕ) → k < 5 → MeetsLimits (limits_at (row_limits cells.n) k)
         (slice_index_or numbers k (pos 0)) }
-    ensures value { result ≡ row_of numbers }
+    ensures value { result ≡ row_from numbers }
     ensures limits { IsRow cells.n result }
 {
     let _ = cells;
@@ -87,7 +87,7 @@ fn read_each_row(
     requires whole { address.row ≡ None }
     requires plain { address.column ≡ None }
     ensures walks { WalksAs (λ rs. rs.items)
-        (list_of (row cells.n) (path_of address.entry) (view value.now)) result }
+        (list_by (row cells.n) (path_of address.entry) (view value.now)) result }
     ensures limits { IfOk result (λ rs. (k : ℕ) → k < length rs.items
         → IsRow cells.n (slice_index_or rs.items k no_row)) }
 {

@@ -5,7 +5,7 @@ ghost use Rattle.pic_num.specs.Multiplier.{Multiplier};
 ghost use Rattle.toml.specs.Data.{get_member};
 ghost use Rattle.toml.specs.View.{view, table_view};
 ghost use Rattle.pic_walk.specs.Path.{path_of};
-ghost use Rattle.pic_walk.specs.Limits.{IsInLimits, FitsU32, FitsI32, limits_at};
+ghost use Rattle.pic_walk.specs.Limits.{MeetsLimits, FitsU32, FitsI32, limits_at};
 ghost use Rattle.pic_walk.specs.Walk.{WalksAs, listed, keys_ascend, table_of, needed, need, optional, limited, whole, numbers, three, any_three, multiplier};
 
 use crate::address::Address;
@@ -101,7 +101,7 @@ pub fn need_whole(
     requires { FitsU32 limits }
     ensures walks { WalksAs (λ (n : ℕ). n)
         (need (whole limits) key.now path.now (table_view table.now)) result }
-    ensures bounds { IfOk result (λ n. IsInLimits limits (pos n)) }
+    ensures bounds { IfOk result (λ n. MeetsLimits limits (pos n)) }
 {
     let value = needed_value(alloc, path, key, table)?;
     read_whole(alloc, Address::new(path, key), value, limits)
@@ -119,7 +119,7 @@ pub fn need_long(
     requires { pos 0 ≤ℤ limits.low }
     ensures walks { WalksAs (λ (n : ℕ). n)
         (need (whole limits) key.now path.now (table_view table.now)) result }
-    ensures bounds { IfOk result (λ n. IsInLimits limits (pos n)) }
+    ensures bounds { IfOk result (λ n. MeetsLimits limits (pos n)) }
 {
     let value = needed_value(alloc, path, key, table)?;
     read_long(alloc, Address::new(path, key), value, limits)
@@ -135,7 +135,7 @@ pub fn need_number(
 ) -> Result<i64, WalkStop>
     ensures walks { WalksAs (λ (z : ℤ). z)
         (need (limited limits) key.now path.now (table_view table.now)) result }
-    ensures bounds { IfOk result (λ z. IsInLimits limits z) }
+    ensures bounds { IfOk result (λ z. MeetsLimits limits z) }
 {
     let value = needed_value(alloc, path, key, table)?;
     read_number(alloc, Address::new(path, key), value, limits)
@@ -154,7 +154,7 @@ pub fn need_three(
     ensures walks { WalksAs (λ (ns : List ℕ). ns)
         (need (three limits) key.now path.now (table_view table.now)) result }
     ensures bounds { IfOk result (λ ns. (k : ℕ) → k < 3
-        → IsInLimits (limits_at limits k) (pos (slice_index ns k))) }
+        → MeetsLimits (limits_at limits k) (pos (slice_index ns k))) }
 {
     let value = needed_value(alloc, path, key, table)?;
     read_three(alloc, Address::new(path, key), value, limits)
@@ -172,7 +172,7 @@ pub fn need_signed_three(
     ensures walks { WalksAs (λ (zs : List ℤ). zs)
         (need (numbers limits) key.now path.now (table_view table.now)) result }
     ensures bounds { IfOk result (λ zs. (k : ℕ) → k < 3
-        → IsInLimits (limits_at limits k) (slice_index_or zs k (pos 0))) }
+        → MeetsLimits (limits_at limits k) (slice_index_or zs k (pos 0))) }
 {
     let value = needed_value(alloc, path, key, table)?;
     read_signed_three(alloc, Address::new(path, key), value, limits)

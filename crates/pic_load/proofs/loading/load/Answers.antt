@@ -3,7 +3,7 @@ use Rattle.std.specs.List.{All}
 use Rattle.std.proofs.lemmas.List.{take_all, drop_all, length-append, length-take-le, get_or_default}
 use Rattle.pic_grid.specs.Cells.{Grid}
 use Rattle.pic_deck.specs.declared.species.Species.{Species}
-use Rattle.pic_deck.specs.Species.{most_particles_1, particles_of, IsFilled, AreFilled, no_species}
+use Rattle.pic_deck.specs.Species.{most_particles_1, particles_of, IsFilledFrom, AreFilled, no_species}
 use Rattle.pic_deck.proofs.HeadLaws.{particles_of-heads}
 use Rattle.pic_load.specs.Loading.{loaded_after, loaded, particles_in, IsPlaced}
 use Rattle.pic_load.proofs.LoadLaws.{within_earlier, species_more, count_more, length-particles_in, identities_more}
@@ -26,7 +26,7 @@ load_species-requires-clause-filled c =
     let number = c.loop-number.number in
     let below : number < length all = omega arith in
     let are : AreFilled n all = rw (c.cells-cells.ensures.value, c.species-all.ensures.value) c.species-all.ensures.limits.filled in
-    subst (λ (s : Species). IsFilled n (take number all) s)
+    subst (λ (s : Species). IsFilledFrom n (take number all) s)
     (sym (c.index-all-number.is ∙ get_or_default all number c.index-all-number.result no_species below)) (are.each number below)
 
 pub loop-number-preserved : goal.loop-number-preserved

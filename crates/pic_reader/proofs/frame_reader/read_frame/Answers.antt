@@ -4,7 +4,7 @@ use Rattle.pic_grid.specs.Cells.{count_of}
 use Rattle.pic_energy.specs.Energies.{energies_of}
 use Rattle.pic_fields.specs.Reads.{HasRead, Reads, as_it_is}
 use Rattle.pic_fields.proofs.ReadLaws.{read_up_to, reads_up_to, reads_as, goes_on, exits}
-use Rattle.pic_reader.specs.FrameFields.{with_values, field_at, particles_at, energies_at, frame_of, state_at, frame_at}
+use Rattle.pic_reader.specs.FrameFields.{field_with, field_at, particles_at, energies_at, frame_of, state_at, frame_at}
 use Rattle.pic_reader.proofs.FrameLaws.{same_energies, written_over}
 use Rattle.pic_reader.proofs.frame_reader.read_frame.Goals as goal
 
@@ -82,7 +82,7 @@ returns-clause-reads g c =
     let items = ap length c.as_mut_slice.ensures.value in
     let size : length new ≡ c.args.state.now.particles.len = omega (arith, c.in_ok-read_particles.ensures.length, c.as_mut_slice.ensures.len, items) in
     let whole : take c.args.state.now.particles.len (new ++ rest) ≡ new = written_over c.args.state.now.particles.len new rest size in
-    let want : c.energies-want.result ≡ energies_of l.scales l.kinds (with_values l e_is.values) (with_values l b_is.values) new =
+    let want : c.energies-want.result ≡ energies_of l.scales l.kinds (field_with l e_is.values) (field_with l b_is.values) new =
     c.energies-want.ensures
     ∙ ap (λ s. energies_of s c.kinds.result.now e_is b_is (take c.args.state.now.particles.len (new ++ rest))) c.scales-3.ensures.value
     ∙ ap (λ k. energies_of l.scales k e_is b_is (take c.args.state.now.particles.len (new ++ rest))) c.kinds.ensures.value

@@ -1,7 +1,7 @@
 use Rattle.std.proofs.Common.{◌≡◌, ℕ, ℤ, List, sym, ap, ◌∙◌, arith}
 use Rattle.pic_num.specs.declared.motion.Particle.{Particle}
 use Rattle.pic_fields.proofs.ReadLaws.{read_then, read_done, read_same, read_up_to, goes_on, exits}
-use Rattle.pic_reader.specs.FrameFields.{particle_of}
+use Rattle.pic_reader.specs.FrameFields.{particle_with}
 use Rattle.pic_reader.specs.Layout.{species_of}
 use Rattle.pic_reader.proofs.frame_reader.read_particle.Goals as goal
 
@@ -10,20 +10,20 @@ abbrev particle : ℕ → ℕ → List ℕ → List ℤ → Particle
 particle id species x v = record { id = id; species = species; x = x; v = v }
 
 pub returns-in_err-x-clause-reads : goal.returns-in_err-x-clause-reads
-unfolding particle_of
+unfolding particle_with
 returns-in_err-x-clause-reads g c =
     let x = rw (c.cells.ensures.value, c.cells.ensures.side) at c.in_err-x.ensures.reads in
     exits _ (omega arith) c.from_residual.ensures.1 x
 
 pub returns-in_err-v-clause-reads : goal.returns-in_err-v-clause-reads
-unfolding particle_of
+unfolding particle_with
 returns-in_err-v-clause-reads g c =
     let x = rw (c.cells.ensures.value, c.cells.ensures.side) at c.in_ok-x.ensures.reads in
     let v = rw c.side.ensures.value at c.in_err-v.ensures in
     goes_on _ x.answer (exits _ (omega arith) c.from_residual-in_err-v.ensures.1 v)
 
 pub returns-clause-reads : goal.returns-clause-reads
-unfolding particle_of
+unfolding particle_with
 returns-clause-reads g c =
     let x = rw (c.cells.ensures.value, c.cells.ensures.side) at c.in_ok-x.ensures.reads in
     let v = rw c.side.ensures.value at c.in_ok-v.ensures in

@@ -5,7 +5,7 @@ use Rattle.pic_energy.specs.Energies.{IsOfKinds}
 use Rattle.pic_fields.specs.Parser.{each}
 use Rattle.pic_fields.specs.Reads.{HasRead}
 use Rattle.pic_reader.specs.Firsts.{FirstAre}
-use Rattle.pic_reader.specs.FrameFields.{particle_at, IsPlaced}
+use Rattle.pic_reader.specs.FrameFields.{particle_at, IsBoxed}
 use Rattle.pic_reader.proofs.frame_reader.read_particles.Given as goal
 
 abbrev pub invariant-loop-first : goal.invariant-loop-first
@@ -16,7 +16,7 @@ invariant-loop-first g l = record {
   most : l.first ≤ l.all;
   length : length l.particles ≡ length l.initial.particles;
   species : FirstAre (IsOfKinds l.layout.kinds) l.first l.particles;
-  places : FirstAre (IsPlaced l.layout.side l.layout.cells) l.first l.particles;
+  places : FirstAre (IsBoxed l.layout.side l.layout.cells) l.first l.particles;
 }
 
 abbrev pub decreases-loop-first : goal.decreases-loop-first

@@ -4,7 +4,7 @@ use Rattle.pic_fields.specs.Pieces.{each_behind}
 use Rattle.pic_fields.specs.Reads.{HasRead, Reads, as_it_is}
 use Rattle.pic_fields.proofs.ReadLaws.{read_same, read_up_to}
 use Rattle.pic_fields.proofs.EachLaws.{read_none, read_more, exits_among}
-use Rattle.pic_reader.specs.FrameFields.{particle_at, IsPlaced}
+use Rattle.pic_reader.specs.FrameFields.{particle_at, IsBoxed}
 use Rattle.pic_reader.proofs.FrameLaws.{each_set}
 use Rattle.pic_reader.proofs.PartLaws.{part_none, part_more, part_size, front_stays}
 use Rattle.pic_reader.proofs.frame_reader.read_some_particles.Goals as goal
@@ -68,7 +68,7 @@ loop-index-preserved g c =
       length = length-set _ _ _ ∙ so_far.length;
       front = front_stays first i ps p ∙ so_far.front;
       species = λ k d below. each_set (IsOfKinds l.kinds) ps m p inside so_far.species c.in_ok-particle.ensures.species k d (omega (arith, below, assoc));
-      places = λ k d below. each_set (IsPlaced l.side l.cells) ps m p inside so_far.places c.in_ok-particle.ensures.place k d (omega (arith, below, assoc));
+      places = λ k d below. each_set (IsBoxed l.side l.cells) ps m p inside so_far.places c.in_ok-particle.ensures.place k d (omega (arith, below, assoc));
     }
 
 pub returns-clause-part : goal.returns-clause-part

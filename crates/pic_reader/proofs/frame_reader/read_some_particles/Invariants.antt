@@ -4,7 +4,7 @@ use Rattle.pic_energy.specs.Energies.{IsOfKinds}
 use Rattle.pic_fields.specs.Pieces.{each_behind}
 use Rattle.pic_fields.specs.Reads.{HasRead}
 use Rattle.pic_reader.specs.Firsts.{FirstAre}
-use Rattle.pic_reader.specs.FrameFields.{particle_at, IsPlaced}
+use Rattle.pic_reader.specs.FrameFields.{particle_at, IsBoxed}
 use Rattle.pic_reader.proofs.frame_reader.read_some_particles.Given as goal
 
 abbrev pub invariant-loop-index : goal.invariant-loop-index
@@ -14,5 +14,5 @@ invariant-loop-index g l = record {
   length : length l.particles ≡ length l.initial.particles;
   front : take l.part.first l.particles ≡ take l.part.first l.initial.particles;
   species : FirstAre (IsOfKinds l.layout.kinds) (l.part.first + l.index) l.particles;
-  places : FirstAre (IsPlaced l.layout.side l.layout.cells) (l.part.first + l.index) l.particles;
+  places : FirstAre (IsBoxed l.layout.side l.layout.cells) (l.part.first + l.index) l.particles;
 }

@@ -1,7 +1,7 @@
 use Rattle.std.proofs.Common.{◌∙◌, ◌+◌, ◌<◌, ◌≤◌, length, ap, sym, refl, Ok, arith, rules}
 use Rattle.std.proofs.lemmas.List.{length-append}
 use Rattle.pic_walk.specs.Path.{path_of}
-use Rattle.pic_walk.specs.Walk.{list_of}
+use Rattle.pic_walk.specs.Walk.{list_by}
 use Rattle.pic_walk.proofs.ArrayLaws.{each_at, each_out}
 use Rattle.pic_walk.proofs.WalkLaws.{exits, then_ok}
 use Rattle.pic_walk.specs.Points.{IsPoint, no_point, point, point_list}
@@ -9,11 +9,11 @@ use Rattle.pic_walk.proofs.ListLaws.{all_more}
 use Rattle.pic_walk.proofs.point_reader.read_points.Goals as goal
 
 pub returns-in_err-items-clause-walks : goal.returns-in_err-items-clause-walks
-unfolding point_list list_of
+unfolding point_list list_by
 returns-in_err-items-clause-walks c = exits _ _ c.from_residual.ensures.1 c.in_err-items.ensures
 
 pub loop-i-init : goal.loop-i-init
-unfolding point_list list_of
+unfolding point_list list_by
 loop-i-init c =
     rw c.new-points.ensures.items (record {
       count = search rules;

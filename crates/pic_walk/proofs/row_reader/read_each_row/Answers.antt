@@ -1,7 +1,7 @@
 use Rattle.std.proofs.Common.{◌∙◌, ◌+◌, ◌<◌, ◌≤◌, length, ap, refl, arith, rules}
 use Rattle.std.proofs.lemmas.List.{length-append}
 use Rattle.pic_walk.specs.Path.{path_of}
-use Rattle.pic_walk.specs.Walk.{list_of}
+use Rattle.pic_walk.specs.Walk.{list_by}
 use Rattle.pic_walk.proofs.ArrayLaws.{each_at, each_out}
 use Rattle.pic_walk.proofs.WalkLaws.{exits, then_ok}
 use Rattle.pic_walk.specs.Rows.{IsRow, no_row, row}
@@ -9,11 +9,11 @@ use Rattle.pic_walk.proofs.ListLaws.{all_more}
 use Rattle.pic_walk.proofs.row_reader.read_each_row.Goals as goal
 
 pub returns-in_err-items-clause-walks : goal.returns-in_err-items-clause-walks
-unfolding list_of
+unfolding list_by
 returns-in_err-items-clause-walks c = exits _ _ c.from_residual.ensures.1 c.in_err-items.ensures
 
 pub loop-i-init : goal.loop-i-init
-unfolding list_of
+unfolding list_by
 loop-i-init c =
     rw c.new-rows.ensures.items (record {
       count = search rules;

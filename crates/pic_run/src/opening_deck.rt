@@ -1,0 +1,43 @@
+//! The stages of a deck: it is read and walked, its particles are loaded, Gauss's law is tested.
+
+ghost use Rattle.pic_run.specs.Reading.{deck_limit, TakesAtMost};
+ghost use Rattle.pic_run.specs.Opened.{Opens, Tests};
+
+use crate::early::{Early, StageStop};
+use crate::gauss_test::find_break;
+use crate::source_reader::{greatest_deck, read_all};
+use pic_deck::{Deck, read_deck};
+use pic_io::Source;
+use pic_load::load;
+use pic_step::Start;
+use std::alloc::Global;
+
+/// A deck that can be run, and what its run begins with.
+#[derive(Drop)]
+pub struct Opened {
+    pub deck: Deck,
+    pub start: Start,
+}
+
+/// Opens the deck that the source gives, through all stages up to Gauss's law.
+pub fn open<S: Source>(alloc: Global, source: &mut S) -> Result<Opened, StageStop>
+    ensures opens { Opens (S.told source.old) (S.told source.new) result }
+    ensures taken { TakesAtMost deck_limit (S.told source.old) (S.told source.new) }
+{
+    let bytes = read_all(alloc, source, greatest_deck())?;
+    let text: &[u8] = &bytes;
+    let deck = read_deck(alloc, text)?;
+    load_and_test(alloc, deck)
+}
+
+/// The stages of a deck behind its reading: its particles are loaded, and Gauss's law is tested.
+pub fn load_and_test(alloc: Global, deck: Deck) -> Result<Opened, StageStop>
+    ensures { Tests deck result }
+{
+    let particles = load(alloc, &deck)?;
+    let start = Start::new(alloc, &deck, particles)?;
+    match find_break(alloc, &deck, &start)? {
+        None => Ok(Opened { deck, start }),
+        Some(at) => Err(StageStop::Answer(Early::Gauss(at))),
+    }
+}

@@ -1,0 +1,83 @@
+//! The command `demo`: the run of the deck that a number makes, as lines alone.
+
+ghost use Rattle.std.specs.Prelude.{◌<◌, ◌≤◌};
+ghost use Rattle.pic_crew.specs.Teams.{most_workers};
+ghost use Rattle.pic_io.specs.Sinks.{sinks};
+ghost use Rattle.pic_demo.specs.Demo.{demo_deck};
+ghost use Rattle.pic_step.specs.Kept.{AreTiled};
+ghost use Rattle.pic_step.specs.Sound.{IsSound};
+ghost use Rattle.pic_step.specs.Start.{begun};
+ghost use Rattle.pic_run.specs.Outcome.{lines_outcome};
+ghost use Rattle.pic_run.specs.Opened.{Tests};
+ghost use Rattle.pic_run.specs.Ends.{Demonstrates, Finishes};
+
+use crate::cut::Cut;
+use crate::early::{StageStop, end_early};
+use crate::ended::Ended;
+use crate::opening_deck::{Opened, load_and_test};
+use crate::output::{Output, Plan};
+use crate::running::{stage_of, write_states};
+use crate::threading::Threading;
+use pic_demo::deck_of;
+use pic_gate::Gate;
+use pic_io::Sink;
+use std::alloc::Global;
+use std::thread::Threads;
+
+/// Runs the demonstration of a seed, on so many workers: the lines of its due frames and of its end
+/// go to `out`, and no dump is written.
+pub fn demo<H: Threads + Sync, O: Sink, R: Sink, G: Gate + Sync>(
+    threading: Threading<'_, H, G>,
+    alloc: Global,
+    seed: u32,
+    out: &mut O,
+    report: &mut R,
+    workers: u32,
+) -> Result<Ended, Cut>
+    requires some { 0 < workers }
+    requires most { workers ≤ most_workers }
+    ensures { Demonstrates seed workers
+        (sinks (O.told out.old) (R.told report.old))
+        (sinks (O.told out.new) (R.told report.new)) result }
+{
+    match open_demo(alloc, seed) {
+        Ok(opened) => show_deck(threading, alloc, opened, out, report, workers),
+        Err(stop) => end_early(report, stop),
+    }
+}
+
+// The demonstration's deck, through the stages that any deck passes behind its reading.
+fn open_demo(alloc: Global, seed: u32) -> Result<Opened, StageStop>
+    ensures { Tests (demo_deck seed) result }
+{
+    let deck = deck_of(alloc, seed)?;
+    load_and_test(alloc, deck)
+}
+
+// Runs a deck and shows its lines. All memory that isn't a step's is taken before the first one.
+fn show_deck<H: Threads + Sync, O: Sink, R: Sink, G: Gate + Sync>(
+    threading: Threading<'_, H, G>,
+    alloc: Global,
+    opened: Opened,
+    out: &mut O,
+    report: &mut R,
+    workers: u32,
+) -> Result<Ended, Cut>
+    requires sound { IsSound (begun opened.start) }
+    requires tiled { AreTiled opened.start.map opened.start.e opened.start.b }
+    requires some { 0 < workers }
+    requires most { workers ≤ most_workers }
+    ensures { Finishes workers (lines_outcome opened.deck (begun opened.start))
+        (sinks (O.told out.old) (R.told report.old))
+        (sinks (O.told out.new) (R.told report.new)) result }
+{
+    let Opened { deck, start } = opened;
+    let stage = stage_of(alloc, start)?;
+    let plan = Plan {
+        output: Output::Lines,
+        steps: deck.steps(),
+        every: deck.every(),
+        workers,
+    };
+    write_states(threading, alloc, plan, out, report, stage)
+}
