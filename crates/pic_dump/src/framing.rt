@@ -122,7 +122,11 @@ fn put_particles<O: Sink>(
     Ok(())
 }
 
-fn put_particle<O: Sink>(out: &mut O, room: &mut FrameBuffer, particle: &Particle) -> Result<(), Failed>
+fn put_particle<O: Sink>(
+    out: &mut O,
+    room: &mut FrameBuffer,
+    particle: &Particle,
+) -> Result<(), Failed>
     ensures bytes { Queues (O.told out.old) (O.told out.new) room.old room.new
         (particle_bytes particle.now) result }
     ensures cause { HasCause (O.told out.old) (O.told out.new) result }
@@ -166,7 +170,11 @@ fn push_velocity(room: &mut FrameBuffer, v: [i32; 3])
 }
 
 // The energies, and with them all that waits.
-fn put_end_of_frame<O: Sink>(out: &mut O, room: &mut FrameBuffer, energies: Energies) -> Result<(), Failed>
+fn put_end_of_frame<O: Sink>(
+    out: &mut O,
+    room: &mut FrameBuffer,
+    energies: Energies,
+) -> Result<(), Failed>
     ensures bytes { Puts (O.told out.old) (O.told out.new)
         (room.old ++ energies_bytes energies) result }
     ensures cause { HasCause (O.told out.old) (O.told out.new) result }

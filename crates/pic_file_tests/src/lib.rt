@@ -1,14 +1,23 @@
-//! Tests of decks loaded and dumps written and verified, in a crate of their own: a crate is proved a second time with its tests.
+//! Tests of decks read and loaded, and of dumps written and verified, in a crate of their own: a
+//! crate is proved a second time with its tests.
 #![tactic(auto)]
 
+#[cfg(test)]
+mod decks;
 #[cfg(test)]
 mod demo;
 #[cfg(test)]
 mod dump;
 #[cfg(test)]
+mod extents;
+#[cfg(test)]
 mod load;
 #[cfg(test)]
+mod read;
+#[cfg(test)]
 mod reader;
+#[cfg(test)]
+mod refused;
 #[cfg(test)]
 mod texts;
 #[cfg(test)]

@@ -1,37 +1,10 @@
 //! The particles of decks, with words and velocities that a program of its own gave.
 
+use crate::decks::PAIR;
 use pic_deck::read_deck;
 use pic_load::load;
 use pic_num::Particle;
 use std::process::Abort;
-
-const PAIR: &str = "version = 1
-[grid]
-cells = [4, 4, 4]
-tiles = [2, 2, 2]
-[run]
-steps = 1
-every = 1
-[scale]
-e_to_b = [0, 0]
-b_to_e = [0, 0]
-e_force = [1, 20]
-b_force = [0, 0]
-[[species]]
-name = \"ion\"
-charge = 1
-mass = 1836
-kick = [0, 0]
-turn = [0, 0]
-points = [[1024, 0, 0, 0, 0, 0]]
-[[species]]
-name = \"electron\"
-charge = -1
-mass = 1
-kick = [0, 0]
-turn = [0, 0]
-points = [[1024, 0, 0, 8388608, 0, 0]]
-";
 
 #[test]
 fn identities_go_through_the_species(rt: HostRuntime) {

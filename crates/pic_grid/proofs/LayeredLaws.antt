@@ -74,7 +74,7 @@ module _ (grid : Grid) (parts : Triple) (blocks : List BlockValues) (h : IsCells
         part : (p : Triple) → IsWithin p n → p.z ≡ z → IsPart (part_size n parts) (part_with (part_size n parts) p) b
         part p w in_layer =
             subst (λ (d : BlockValues). IsPart (part_size n parts) (part_with (part_size n parts) p) d) (sym (of_cell p w in_layer))
-                (here n parts blocks p h k are w)
+            (here n parts blocks p h k are w)
 
         size : b.size ≡ thin
         size =

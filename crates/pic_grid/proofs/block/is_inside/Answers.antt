@@ -21,13 +21,25 @@ returns c =
 pub returns-then-not-is_among-2 : goal.returns-then-not-is_among-2
 returns-then-not-is_among-2 c = (
   λ yes. absurd (true≢false (sym yes)),
-  λ h. c.if-not-is_among-2.ensures.1 (first_of (search (rules, h.y_low), omega (arith, ints, h.y_low)), first_of (search (rules, h.y_high), omega
-      (arith, ints, h.y_high))),
+  λ h. c.if-not-is_among-2.ensures.1 (
+    first_of (search (rules, h.y_low), omega (arith, ints, h.y_low)),
+    first_of (
+      search (rules, h.y_high),
+      omega
+          (arith, ints, h.y_high),
+    ),
+  ),
 )
 
 pub returns-then-not-is_among-3 : goal.returns-then-not-is_among-3
 returns-then-not-is_among-3 c = (
   λ yes. absurd (true≢false (sym yes)),
-  λ h. c.if-not-is_among-3.ensures.1 (first_of (search (rules, h.z_low), omega (arith, ints, h.z_low)), first_of (search (rules, h.z_high), omega
-      (arith, ints, h.z_high))),
+  λ h. c.if-not-is_among-3.ensures.1 (
+    first_of (search (rules, h.z_low), omega (arith, ints, h.z_low)),
+    first_of (
+      search (rules, h.z_high),
+      omega
+          (arith, ints, h.z_high),
+    ),
+  ),
 )

@@ -1,6 +1,6 @@
 //! Decks that are read, by each part of what they say.
 
-use crate::trial::{FAST, PAIR, SMALLEST, WAVE, changed, deck_of};
+use crate::decks::{FAST, PAIR, SMALLEST, WAVE, changed, deck_of};
 use pic_deck::{Deck, Fill, Point6, Row, Species};
 use pic_grid::{Cells, Lattice};
 use pic_num::{Axis, Kind, Mult, Scales, Sub};

@@ -1,6 +1,6 @@
 //! Decks that are refused: the first fault of each, in the order of the walk.
 
-use crate::trial::{PAIR, SMALLEST, changed};
+use crate::decks::{PAIR, SMALLEST, changed};
 use pic_deck::{DeckFault, Refusal, read_deck};
 use std::process::Abort;
 
