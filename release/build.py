@@ -136,6 +136,11 @@ class Rooms:
             shutil.copytree(built, to, copy_function=give)
 
 
+def plain():
+    """The environment without the toolchain's own words, which choose another compiler, say: the same sources give the same program."""
+    return {name: value for name, value in os.environ.items() if not name.startswith("RT_")}
+
+
 def cores():
     return len(os.sched_getaffinity(0))
 
@@ -167,7 +172,7 @@ class Build:
             given = self.rooms.sources / "crates" / TOP / "stdin"
         words = ["rt", "run" if crate.name == TOP else "lib", "--jobs", str(jobs)]
         with self.log(crate).open("wb") as log, open(given, "rb") as file:
-            call = subprocess.Popen(words, cwd=folder, stdin=file, stdout=log, stderr=subprocess.STDOUT)
+            call = subprocess.Popen(words, cwd=folder, env=plain(), stdin=file, stdout=log, stderr=subprocess.STDOUT)
         self.left.remove(crate)
         self.running[crate] = call, jobs, time.monotonic()
 
