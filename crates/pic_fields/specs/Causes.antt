@@ -4,14 +4,14 @@ use Rattle.pic_fields.specs.declared.cause.Cause.{Cause}
 use Rattle.pic_fields.specs.declared.cause.Cause.TheVariants.{WrongLetter, OutOfLimits, WrongTag, WrongStep, StrongValue}
 use Rattle.pic_fields.specs.declared.cause.Cause.TheVariants.{OutOfRange, WrongEnergy, WrongEnd, CutShort, TooMany}
 
-abbrev pub number_of : Cause → ℕ
-number_of WrongLetter = 1
-number_of OutOfLimits = 2
-number_of WrongTag = 3
-number_of WrongStep = 4
-number_of StrongValue = 5
-number_of OutOfRange = 6
-number_of WrongEnergy = 7
-number_of WrongEnd = 8
-number_of CutShort = 9
-number_of TooMany = 10
+abbrev pub cause_number : Cause → ℕ
+cause_number WrongLetter = 1
+cause_number OutOfLimits = 2
+cause_number WrongTag = 3
+cause_number WrongStep = 4
+cause_number StrongValue = 5
+cause_number OutOfRange = 6
+cause_number WrongEnergy = 7
+cause_number WrongEnd = 8
+cause_number CutShort = 9
+cause_number TooMany = 10

@@ -1,7 +1,7 @@
 -- A format as a parser of bytes: each field in its turn, with a test that may depend on the fields
 -- before it. The fault of some bytes is that of the first field that fails, or that the bytes cut.
 use Rattle.std.specs.Prelude.{ℕ, zero, suc, ◌+◌, Bool, nat_lt, if◌then◌else◌, List, [], ◌∷◌, ◌++◌, length, take, drop, Result, Ok, Err}
-use Rattle.pic_fields.specs.Causes.{number_of}
+use Rattle.pic_fields.specs.Causes.{cause_number}
 use Rattle.pic_fields.specs.declared.cause.Cause.TheVariants.{CutShort, TooMany}
 
 -- where reading stands: how many bytes went before, and the bytes that are left
@@ -46,11 +46,11 @@ mapped f p = p >>= (λ a. done (f a))
 
 -- the cause of a field that the end of the bytes cuts; its place is that end
 abbrev pub cut_short : ℕ
-cut_short = number_of CutShort
+cut_short = cause_number CutShort
 
 -- the cause of a byte behind the last field
 abbrev pub too_many : ℕ
-too_many = number_of TooMany
+too_many = cause_number TooMany
 
 -- n bytes
 unfoldable pub field : ℕ → Parser (List ℕ)

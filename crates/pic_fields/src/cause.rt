@@ -1,7 +1,7 @@
 //! The causes of a bad dump.
 
 ghost use Rattle.std.specs.Prelude.{◌≡◌};
-ghost use Rattle.pic_fields.specs.Causes.{number_of};
+ghost use Rattle.pic_fields.specs.Causes.{cause_number};
 ghost use Rattle.pic_fields.specs.declared.read_stop.ReadStop.TheVariants.{BadDump};
 
 use crate::read_stop::ReadStop;
@@ -34,7 +34,7 @@ pub enum Cause {
 impl Cause {
     /// The number of the cause.
     pub fn number(self) -> u8
-        ensures { result ≡ number_of self }
+        ensures { result ≡ cause_number self }
     {
         match self {
             Cause::WrongLetter => 1,
@@ -52,7 +52,7 @@ impl Cause {
 
     /// A fault of this cause at a place.
     pub fn at(self, place: u64) -> ReadStop
-        ensures { result ≡ BadDump place (number_of self) }
+        ensures { result ≡ BadDump place (cause_number self) }
     {
         ReadStop::BadDump {
             place,

@@ -1,7 +1,7 @@
 //! Fields that are numbers.
 
 ghost use Rattle.std.specs.Prelude.{◌≡◌, ◌+◌, ◌<◌, ◌≤◌, ◌^◌, nat_eq, length, IfOk};
-ghost use Rattle.pic_fields.specs.Causes.{number_of};
+ghost use Rattle.pic_fields.specs.Causes.{cause_number};
 ghost use Rattle.pic_fields.specs.Parser.{checked};
 ghost use Rattle.pic_fields.specs.Number.{byte_at, u32_at, i32_at, u128_at, i128_at, is_from_to, within, exactly};
 ghost use Rattle.pic_fields.specs.Reads.{Reads, always, as_it_is};
@@ -75,7 +75,7 @@ pub fn read_within<S: Source>(
     high: u32,
 ) -> Result<u32, ReadStop>
     requires { place + 4 < 2 ^ 63 }
-    ensures reads { Reads as_it_is (within (number_of cause) low high) place (place + 4)
+    ensures reads { Reads as_it_is (within (cause_number cause) low high) place (place + 4)
         (S.told source.old) (S.told source.new) result }
     ensures low { IfOk result (λ n. low ≤ n) }
     ensures high { IfOk result (λ n. n ≤ high) }
@@ -102,7 +102,7 @@ pub fn read_exactly<S: Source>(
     text: &[u8],
 ) -> Result<(), ReadStop>
     requires { place + length text.now < 2 ^ 63 }
-    ensures { Reads (always text.now) (exactly (number_of cause) text.now) place (place + length text.now)
+    ensures { Reads (always text.now) (exactly (cause_number cause) text.now) place (place + length text.now)
         (S.told source.old) (S.told source.new) result }
 {
     for index in 0..text.len() {
@@ -119,7 +119,7 @@ fn read_letter<S: Source>(
     letter: u8,
 ) -> Result<u8, ReadStop>
     requires { place + 1 < 2 ^ 63 }
-    ensures reads { Reads as_it_is (checked (number_of cause) (nat_eq letter) byte_at) place (place + 1)
+    ensures reads { Reads as_it_is (checked (cause_number cause) (nat_eq letter) byte_at) place (place + 1)
         (S.told source.old) (S.told source.new) result }
     ensures same { IfOk result (λ n. n ≡ letter) }
 {

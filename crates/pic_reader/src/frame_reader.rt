@@ -5,7 +5,7 @@ ghost use Rattle.pic_num.specs.Limits.{most_side, most_cells_of_axis};
 ghost use Rattle.pic_num.specs.Velocity.{too_fast};
 ghost use Rattle.pic_num.specs.Space.{triple};
 ghost use Rattle.pic_grid.specs.Hat.{IsInBox};
-ghost use Rattle.pic_fields.specs.Causes.{number_of};
+ghost use Rattle.pic_fields.specs.Causes.{cause_number};
 ghost use Rattle.pic_fields.specs.Reads.{Reads, always, as_it_is};
 ghost use Rattle.pic_energy.specs.Energies.{IsOfKinds};
 ghost use Rattle.pic_reader.specs.Fields.{is_below, below, the_step};
@@ -33,7 +33,7 @@ pub(crate) fn read_below<S: Source>(
     limit: u32,
 ) -> Result<u32, ReadStop>
     requires { place + 4 < 2 ^ 63 }
-    ensures reads { Reads as_it_is (below (number_of cause) limit) place (place + 4) (S.told source.old)
+    ensures reads { Reads as_it_is (below (cause_number cause) limit) place (place + 4) (S.told source.old)
         (S.told source.new) result }
     ensures below { IfOk result (λ n. n < limit) }
 {

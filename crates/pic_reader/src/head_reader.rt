@@ -4,7 +4,7 @@ ghost use Rattle.std.specs.Prelude.{◌≡◌, ℤ, pos, negsuc, ◌+◌, ◌-�
 ghost use Rattle.pic_num.specs.Limits.{most_species, most_particles_1};
 ghost use Rattle.pic_num.specs.Space.{triple};
 ghost use Rattle.pic_grid.specs.Species.{HeadView, IsName, IsKind, AreHeads};
-ghost use Rattle.pic_fields.specs.Causes.{number_of};
+ghost use Rattle.pic_fields.specs.Causes.{cause_number};
 ghost use Rattle.pic_fields.specs.Parser.{each};
 ghost use Rattle.pic_fields.specs.Reads.{Reads, as_it_is};
 ghost use Rattle.pic_dump.specs.Header.{IsGrid_1, HasLimits};
@@ -54,7 +54,7 @@ pub(crate) fn read_between<S: Source>(
     high: i32,
 ) -> Result<i32, ReadStop>
     requires { place + 4 < 2 ^ 63 }
-    ensures reads { Reads as_it_is (between (number_of cause) low high) place (place + 4) (S.told source.old)
+    ensures reads { Reads as_it_is (between (cause_number cause) low high) place (place + 4) (S.told source.old)
         (S.told source.new) result }
     ensures low { IfOk result (λ n. low ≤ℤ n) }
     ensures high { IfOk result (λ n. n ≤ℤ high) }
