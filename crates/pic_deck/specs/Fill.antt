@@ -10,10 +10,10 @@ use Rattle.pic_walk.specs.Draw.{draw}
 use Rattle.pic_walk.specs.Limits.{from_to}
 use Rattle.pic_walk.specs.Points.{point_list}
 use Rattle.pic_walk.specs.Sites.{sites}
-use Rattle.pic_walk.specs.Source.{sources, source_key, only}
+use Rattle.pic_walk.specs.FillKind.{sources, source_key, only}
 use Rattle.pic_walk.specs.Walk.{Walked, ◌>>=◌, some_or, whole, text, table_of, need}
-use Rattle.pic_walk.specs.declared.source.Source.{Source}
-use Rattle.pic_walk.specs.declared.source.Source.TheVariants as source
+use Rattle.pic_walk.specs.declared.fill_kind.FillKind.{FillKind}
+use Rattle.pic_walk.specs.declared.fill_kind.FillKind.TheVariants as source
 use Rattle.pic_deck.specs.declared.species.Fill.{Fill}
 use Rattle.pic_deck.specs.declared.species.Fill.TheVariants.{Points, Lattice, Random, Pair}
 use Rattle.pic_deck.specs.declared.species.Species.{Species}
@@ -68,7 +68,7 @@ abbrev pub in_pairs : ℕ × Draw → Fill
 in_pairs r = Pair r.0 r.1.seed r.1.stream r.1.drift r.1.spread
 
 -- what a source fills a species with
-abbrev pub fill_by : Source → Grid → List Species → List ℕ → Data → Walked Fill
+abbrev pub fill_by : FillKind → Grid → List Species → List ℕ → Data → Walked Fill
 fill_by source.Points g done path d = point_list g path d >>= (λ points. Ok (Points points))
 fill_by source.Lattice g done path d = lattice g path d >>= (λ s. Ok (at_sites s))
 fill_by source.Random g done path d = random path d >>= (λ r. Ok (at_random r))

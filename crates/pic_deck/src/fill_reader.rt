@@ -10,14 +10,14 @@ ghost use Rattle.pic_walk.specs.Draw.{IsDraw};
 ghost use Rattle.pic_walk.specs.Sites.{AreSites};
 ghost use Rattle.pic_walk.specs.Walk.{WalksAs, need};
 ghost use Rattle.pic_deck.specs.declared.species.Fill.{Fill as FillView};
-ghost use Rattle.pic_walk.specs.Source.{source_key};
+ghost use Rattle.pic_walk.specs.FillKind.{source_key};
 ghost use Rattle.pic_deck.specs.Fill.{lattice, random, species_number, pair, at_sites, at_random, in_pairs, fill_by, species_fill};
 ghost use Rattle.pic_deck.specs.Species.{IsFill};
 
 use crate::species::{Fill, Species};
 use pic_grid::Cells;
 use pic_walk::{
-    Address, Draw, Limits, MAX_COUNT, Sites, Source, WalkStop, find_source, need_whole,
+    Address, Draw, FillKind, Limits, MAX_COUNT, Sites, WalkStop, find_fill_kind, need_whole,
     needed_value, read_draw, read_points, read_sites, read_table, read_text,
 };
 use std::alloc::Global;
@@ -176,7 +176,7 @@ fn in_pairs(pair: (u32, Draw)) -> Fill
 fn read_by(
     alloc: Global,
     path: &str,
-    source: Source,
+    source: FillKind,
     value: &Value,
     cells: Cells,
     earlier: &[Species],
@@ -189,10 +189,10 @@ fn read_by(
 {
     let address = Address::new(path, source.key());
     match source {
-        Source::Points => Ok(Fill::Points(read_points(alloc, address, value, cells)?)),
-        Source::Lattice => Ok(at_sites(read_lattice(alloc, address, value, cells)?)),
-        Source::Random => Ok(at_random(read_random(alloc, address, value)?)),
-        Source::Pair => Ok(in_pairs(read_pair(alloc, address, value, earlier)?)),
+        FillKind::Points => Ok(Fill::Points(read_points(alloc, address, value, cells)?)),
+        FillKind::Lattice => Ok(at_sites(read_lattice(alloc, address, value, cells)?)),
+        FillKind::Random => Ok(at_random(read_random(alloc, address, value)?)),
+        FillKind::Pair => Ok(in_pairs(read_pair(alloc, address, value, earlier)?)),
     }
 }
 
@@ -209,7 +209,7 @@ pub(crate) fn read_fill(
         (species_fill cells earlier.now path.now (table_view table.now)) result }
     ensures limits { IfOk result (λ f. IsFill cells earlier.now f) }
 {
-    let source = find_source(alloc, path, table)?;
+    let source = find_fill_kind(alloc, path, table)?;
     let value = needed_value(alloc, path, source.key(), table)?;
     read_by(alloc, path, source, value, cells, earlier)
 }

@@ -9,7 +9,7 @@ use Rattle.pic_walk.specs.Bounds.{most_seed}
 use Rattle.pic_walk.specs.Draw.{draw}
 use Rattle.pic_walk.specs.Limits.{limits_at}
 use Rattle.pic_walk.specs.Path.{key_at, element_at}
-use Rattle.pic_walk.specs.Source.{alone, only}
+use Rattle.pic_walk.specs.FillKind.{alone, only}
 use Rattle.pic_walk.specs.Walk.{◌>>=◌, some_or, number, within, limited, whole, of_length, fixed, each, elements, array_of, number_at, numbers, three}
 use Rattle.pic_walk.specs.Walk.{text, multiplier, first_unlisted, known, listed, table_of, needed, need, given, optional}
 use Rattle.pic_walk.proofs.WalkLaws.{then_ok}

@@ -5,4 +5,4 @@ pub mod ArrayLaws
 pub mod ListLaws
 pub mod PointLaws
 pub mod FillLaws
-pub mod SourceLaws
+pub mod FillKindLaws

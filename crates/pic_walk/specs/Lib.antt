@@ -7,4 +7,4 @@ pub mod Rows
 pub mod Points
 pub mod Sites
 pub mod Draw
-pub mod Source
+pub mod FillKind

@@ -7,6 +7,7 @@ mod bounds;
 mod draw;
 mod extents;
 mod fault;
+mod fill_kind;
 mod key_path;
 mod keys;
 mod limits;
@@ -16,7 +17,6 @@ mod point_reader;
 mod row;
 mod row_reader;
 mod sites;
-mod source;
 mod tables;
 
 pub use address::Address;
@@ -24,6 +24,7 @@ pub use bounds::{MAX_BYTES, MAX_COUNT};
 pub use draw::{Draw, read_draw};
 pub use extents::extent;
 pub use fault::{Fault, WalkStop};
+pub use fill_kind::{FillKind, find_fill_kind};
 pub use key_path::KeyPath;
 pub use keys::{first_unlisted, is_listed};
 pub use limits::Limits;
@@ -36,7 +37,6 @@ pub use point6::{Point6, Points};
 pub use row::{Row, Rows};
 pub use row_reader::read_rows;
 pub use sites::{Sites, read_sites};
-pub use source::{Source, find_source};
 pub use tables::{
     check_keys, find_value, need_long, need_multiplier, need_number, need_signed_three, need_table,
     need_three, need_whole, needed_value, optional_three, read_table,

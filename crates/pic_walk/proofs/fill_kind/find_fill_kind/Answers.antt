@@ -1,8 +1,8 @@
 use Rattle.std.proofs.Common.{refl, sym, ◌∙◌, arith, ◌<◌, ◌≤◌, length}
 use Rattle.pic_walk.proofs.WalkLaws.{refuses}
-use Rattle.pic_walk.specs.Source.{sources}
-use Rattle.pic_walk.proofs.SourceLaws.{only_here, only_next, only_none, rest}
-use Rattle.pic_walk.proofs.source.find_source.Goals as goal
+use Rattle.pic_walk.specs.FillKind.{sources}
+use Rattle.pic_walk.proofs.FillKindLaws.{only_here, only_next, only_none, rest}
+use Rattle.pic_walk.proofs.fill_kind.find_fill_kind.Goals as goal
 
 pub returns-then-has : goal.returns-then-has
 returns-then-has c =

@@ -1,7 +1,7 @@
 use Rattle.std.proofs.Common.{refl}
-use Rattle.pic_walk.specs.Source.{alone}
+use Rattle.pic_walk.specs.FillKind.{alone}
 use Rattle.pic_walk.proofs.WalkLaws.{refuses}
-use Rattle.pic_walk.proofs.source.alone.Goals as goal
+use Rattle.pic_walk.proofs.fill_kind.alone.Goals as goal
 
 pub returns-in-Some : goal.returns-in-Some
 unfolding alone

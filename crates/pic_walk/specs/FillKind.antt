@@ -3,31 +3,31 @@
 use Rattle.std.specs.Prelude.{ℕ, Bool, is_some, find, if◌then◌else◌, List, [], ◌∷◌, codes, Option, Some, None, Ok, Err}
 use Rattle.toml.specs.Data.{Members, get_member}
 use Rattle.pic_walk.specs.declared.fault.Fault.TheVariants.{Unknown, Missing}
-use Rattle.pic_walk.specs.declared.source.Source.{Source}
-use Rattle.pic_walk.specs.declared.source.Source.TheVariants.{Points, Lattice, Random, Pair}
+use Rattle.pic_walk.specs.declared.fill_kind.FillKind.{FillKind}
+use Rattle.pic_walk.specs.declared.fill_kind.FillKind.TheVariants.{Points, Lattice, Random, Pair}
 use Rattle.pic_walk.specs.Path.{key_at}
 use Rattle.pic_walk.specs.Walk.{Walked}
 
 -- the sources that a species may have, in the order in which they count
-abbrev pub sources : List Source
+abbrev pub sources : List FillKind
 sources = Points ∷ Lattice ∷ Random ∷ Pair ∷ []
 
-abbrev pub source_key : Source → List ℕ
+abbrev pub source_key : FillKind → List ℕ
 source_key Points = codes "points"
 source_key Lattice = codes "lattice"
 source_key Random = codes "random"
 source_key Pair = codes "pair"
 
 -- whether a table has a source
-abbrev pub has : Members → Source → Bool
+abbrev pub has : Members → FillKind → Bool
 has t s = is_some (get_member (source_key s) t)
 
 -- a source, where no further one is there
-unfoldable pub alone : List ℕ → Source → Option Source → Walked Source
+unfoldable pub alone : List ℕ → FillKind → Option FillKind → Walked FillKind
 alone path s None = Ok s
 alone path s (Some further) = Err (Unknown (key_at path (source_key further)))
 
 -- the first of some sources that is there, and no further one
-unfoldable pub only : List ℕ → Members → List Source → Walked Source
+unfoldable pub only : List ℕ → Members → List FillKind → Walked FillKind
 only path t [] = Err (Missing (key_at path (codes "points")))
 only path t (s ∷ ss) = if has t s then alone path s (find (has t) ss) else only path t ss

@@ -3,8 +3,8 @@
 ghost use Rattle.std.specs.Prelude.{◌≡◌, find};
 ghost use Rattle.toml.specs.View.{table_view};
 ghost use Rattle.pic_walk.specs.Walk.{WalksAs};
-ghost use Rattle.pic_walk.specs.declared.source.Source.{Source as SourceView};
-ghost use Rattle.pic_walk.specs.Source.{sources, source_key, has, alone, only};
+ghost use Rattle.pic_walk.specs.declared.fill_kind.FillKind.{FillKind as FillKindView};
+ghost use Rattle.pic_walk.specs.FillKind.{sources, source_key, has, alone, only};
 
 use crate::address::Address;
 use crate::fault::WalkStop;
@@ -14,46 +14,46 @@ use toml::Table;
 
 /// What a species may have its particles from.
 #[derive(Clone, Copy, Debug, PartialEq, Eq)]
-pub enum Source {
+pub enum FillKind {
     Points,
     Lattice,
     Random,
     Pair,
 }
 
-impl Source {
+impl FillKind {
     /// The key of the source.
     pub fn key(self) -> &'static str
         ensures { result.now ≡ source_key self }
     {
         match self {
-            Source::Points => "points",
-            Source::Lattice => "lattice",
-            Source::Random => "random",
-            Source::Pair => "pair",
+            FillKind::Points => "points",
+            FillKind::Lattice => "lattice",
+            FillKind::Random => "random",
+            FillKind::Pair => "pair",
         }
     }
 }
 
-fn sources() -> [Source; 4]
+fn sources() -> [FillKind; 4]
     ensures { result ≡ sources }
 {
     [
-        Source::Points,
-        Source::Lattice,
-        Source::Random,
-        Source::Pair,
+        FillKind::Points,
+        FillKind::Lattice,
+        FillKind::Random,
+        FillKind::Pair,
     ]
 }
 
-fn has(table: &Table, source: Source) -> bool
+fn has(table: &Table, source: FillKind) -> bool
     ensures { result ≡ has (table_view table.now) source }
 {
     find_value(source.key(), table).is_some()
 }
 
 // the first of some sources that is there
-fn first_there(table: &Table, some: &[Source]) -> Option<Source>
+fn first_there(table: &Table, some: &[FillKind]) -> Option<FillKind>
     ensures { result ≡ find (has (table_view table.now)) some.now }
 {
     some.iter().copied().find(|source| has(table, *source))
@@ -63,10 +63,10 @@ fn first_there(table: &Table, some: &[Source]) -> Option<Source>
 fn alone(
     alloc: Global,
     path: &str,
-    source: Source,
-    further: Option<Source>,
-) -> Result<Source, WalkStop>
-    ensures { WalksAs (λ (s : SourceView). s) (alone path.now source further) result }
+    source: FillKind,
+    further: Option<FillKind>,
+) -> Result<FillKind, WalkStop>
+    ensures { WalksAs (λ (s : FillKindView). s) (alone path.now source further) result }
 {
     match further {
         Some(other) => Err(Address::new(path, other.key()).unknown_fault(alloc)),
@@ -76,8 +76,8 @@ fn alone(
 
 /// The source of the species that the table at a path is: the first that is there, and no further
 /// one may be.
-pub fn find_source(alloc: Global, path: &str, table: &Table) -> Result<Source, WalkStop>
-    ensures { WalksAs (λ (s : SourceView). s) (only path.now (table_view table.now) sources)
+pub fn find_fill_kind(alloc: Global, path: &str, table: &Table) -> Result<FillKind, WalkStop>
+    ensures { WalksAs (λ (s : FillKindView). s) (only path.now (table_view table.now) sources)
         result }
 {
     let all = sources();
