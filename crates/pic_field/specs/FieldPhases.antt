@@ -86,13 +86,13 @@ IsFullStep scales b j old new =
     → inner_at new a p ≡ full_of scales b a (outer_of old.low p) (inner_at old a p) (inner_at j a p)
 
 -- the stop of half a step of B in a phase,
-abbrev pub half_stop : Phase → Scales → Field → BlockValues → Option Stop
-half_stop phase scales e old =
+abbrev pub stop_of_half : Phase → Scales → Field → BlockValues → Option Stop
+stop_of_half phase scales e old =
     least_fault phase scales.b_force (lowest old.low) old.size (half_in scales e old)
 
 -- and of a step of E
-abbrev pub full_stop : Scales → Field → BlockValues → BlockValues → Option Stop
-full_stop scales b j old =
+abbrev pub stop_of_full : Scales → Field → BlockValues → BlockValues → Option Stop
+stop_of_full scales b j old =
     least_fault Electric scales.e_force (lowest old.low) old.size (full_in scales b j old)
 
 -- a value passes neither bound: it is at most 2^90 in size, and its force value at most 2^44

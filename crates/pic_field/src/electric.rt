@@ -8,7 +8,7 @@ ghost use Rattle.pic_num.specs.Push.{unless};
 ghost use Rattle.pic_num.specs.Space.{Triple};
 ghost use Rattle.pic_grid.specs.Lattice.{EachAtMost};
 ghost use Rattle.pic_grid.specs.Block.{IsAmongCells, IsShaped, AllAtMost, inner_at};
-ghost use Rattle.pic_field.specs.FieldPhases.{full_stop, AllBounded, IsFullStep};
+ghost use Rattle.pic_field.specs.FieldPhases.{stop_of_full, AllBounded, IsFullStep};
 ghost use Rattle.pic_field.specs.Lines.{taken_off};
 
 use crate::faults::safe_most;
@@ -34,7 +34,7 @@ pub fn full_e(scales: &Scales, b: &Lattice, j: &Block, e: &mut Block) -> Result<
     ensures bounded { OnOk result (AllBounded scales.now.e_force e.new) }
     ensures shape { IsShaped e.new e.old }
     ensures values { IsFullStep scales.now b.now j.now e.old e.new }
-    ensures stop { result ≡ unless (full_stop scales.now b.now j.now e.old) tt }
+    ensures stop { result ≡ unless (stop_of_full scales.now b.now j.now e.old) tt }
 {
     full_e_in(scales, b, j, e, &mut Rooms::new())
 }
@@ -54,7 +54,7 @@ pub fn full_e_in(
     requires e_small { AllAtMost most_value e.old }
     ensures shape { IsShaped e.new e.old }
     ensures values { IsFullStep scales.now b.now j.now e.old e.new }
-    ensures stop { result ≡ unless (full_stop scales.now b.now j.now e.old) tt }
+    ensures stop { result ≡ unless (stop_of_full scales.now b.now j.now e.old) tt }
     ensures bounded { OnOk result (AllBounded scales.now.e_force e.new) }
 {
     let from = Scaled {

@@ -5,7 +5,7 @@ ghost use Rattle.pic_num.specs.Limits.{most_value};
 ghost use Rattle.pic_num.specs.Push.{unless};
 ghost use Rattle.pic_grid.specs.Lattice.{EachAtMost};
 ghost use Rattle.pic_grid.specs.Block.{IsAmongCells, IsShaped, AllAtMost};
-ghost use Rattle.pic_field.specs.FieldPhases.{half_stop, AllBounded, IsHalfStep};
+ghost use Rattle.pic_field.specs.FieldPhases.{stop_of_half, AllBounded, IsHalfStep};
 
 use crate::faults::safe_most;
 use crate::rooms::Rooms;
@@ -26,7 +26,7 @@ pub fn half_b(scales: &Scales, e: &Lattice, b: &mut Block, phase: Phase) -> Resu
     requires b_small { AllAtMost most_value b.old }
     ensures shape { IsShaped b.new b.old }
     ensures values { IsHalfStep scales.now e.now b.old b.new }
-    ensures stop { result ≡ unless (half_stop phase scales.now e.now b.old) tt }
+    ensures stop { result ≡ unless (stop_of_half phase scales.now e.now b.old) tt }
     ensures bounded { OnOk result (AllBounded scales.now.b_force b.new) }
 {
     half_b_in(scales, e, b, phase, &mut Rooms::new())
@@ -45,7 +45,7 @@ pub fn half_b_in(
     requires b_small { AllAtMost most_value b.old }
     ensures shape { IsShaped b.new b.old }
     ensures values { IsHalfStep scales.now e.now b.old b.new }
-    ensures stop { result ≡ unless (half_stop phase scales.now e.now b.old) tt }
+    ensures stop { result ≡ unless (stop_of_half phase scales.now e.now b.old) tt }
     ensures bounded { OnOk result (AllBounded scales.now.b_force b.new) }
 {
     let from = Scaled {
