@@ -3,7 +3,8 @@
 use crate::opening::{begin, eight_tiles};
 use pic_crew::on_board;
 use pic_gate::{Gate, Point};
-use pic_num::NoMemory;
+use pic_num::{NoMemory, Workers};
+use pic_team::Team;
 use std::sync::atomic::{AtomicU32, Ordering};
 
 // how often the workers have passed
@@ -31,7 +32,12 @@ fn each_claim_and_each_post_passes_the_gate_once(rt: HostRuntime) -> Result<(), 
             posted: AtomicU32::new(0),
         };
         let (frame, tiles) = begin(rt.alloc(), eight_tiles())?;
-        let (_, tiles) = on_board(&rt, rt.alloc(), frame, tiles, workers, &gate)?;
+        let team = Team {
+            rt: &rt,
+            gate: &gate,
+            workers: Workers::of(workers),
+        };
+        let (_, tiles) = on_board(&team, rt.alloc(), frame, tiles)?;
         assert_eq!(rt; tiles.len(), 8);
         assert_eq!(rt; gate.claimed.load(Ordering::SeqCst), 8);
         assert_eq!(rt; gate.posted.load(Ordering::SeqCst), 216);

@@ -1,18 +1,13 @@
--- What may go to another thread.
-use denote.Param.Send.{IsSend, IsSync, recorded_send, sendable, struct_send}
+-- What seats work with may be shared by threads.
+use denote.Param.Send.{IsSync, recorded_sync, shr_sync, struct_sync}
 use denote.RattleType.{RattleType}
+use denote.Ref.{NamedLft}
 use denote.Struct.Declared.{Declared, shape}
-use denote.Struct.Field.{u32-field}
 use denote.Struct.Struct.{Struct}
-use denote.Struct.Tuple.{TupleAt, type_at}
-use mir.Syntax.{Sym}
-use Rattle.std.proofs.Common.{[], ◌∷◌}
+use Rattle.pic_yard.proofs.CrossLaws.{yard_sync}
+use Rattle.pic_crew.specs.contracts.team.Crew as crew
 
--- a closure with four things that each may go
-pub four_send : (name : Sym) (A B C D : RattleType) → IsSend A → IsSend B → IsSend C → IsSend D → IsSend (TupleAt name (A ∷ B ∷ C ∷ D ∷ []))
-four_send name A B C D a b c d =
-    let kind : Declared = type_at name (A ∷ B ∷ C ∷ D ∷ []) in
-    recorded_send (Struct (shape kind)) kind.D kind.to kind.to_one (struct_send (shape kind) (a, (b, (c, (d, tt)))))
-
-pub u32_sync : IsSync (u32-field).row
-u32_sync = search sendable
+pub crew_sync : (κ : NamedLft) (G : RattleType) → IsSync G → IsSync (crew.the_row κ G)
+crew_sync κ G gate =
+    let kind : Declared = crew.the_type κ G in
+    recorded_sync (Struct (shape kind)) kind.D kind.to kind.to_one (struct_sync (shape kind) (shr_sync _ _ _ yard_sync, (shr_sync _ _ _ gate, tt)))

@@ -3,4 +3,4 @@ pub mod TakeLaws
 pub mod SendLaws
 pub mod GatherLaws
 pub mod TeamLaws
-pub mod CrossLaws
+mod CrossLaws

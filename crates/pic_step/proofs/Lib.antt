@@ -15,3 +15,4 @@ pub mod ExitLaws
 pub mod StepLaws
 pub mod KeepLaws
 pub mod RoomLaws
+pub mod SwapLaws

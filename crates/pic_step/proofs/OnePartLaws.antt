@@ -1,5 +1,5 @@
 -- A lattice seen as one of one part: a field phase does the same to both.
-use Rattle.std.proofs.Common.{◌≡◌, ℕ, Result, Ok, Err, refl, ◌∙◌, subst, zero-add}
+use Rattle.std.proofs.Common.{◌≡◌, ℕ, Result, Ok, Err, refl, sym, ap, ◌∙◌, subst, zero-add}
 use Rattle.std.proofs.Math.IntN.{ℤ}
 use Rattle.pic_num.specs.Limits.{most_value}
 use Rattle.pic_num.specs.declared.axis.Axis.{Axis}
@@ -12,9 +12,10 @@ use Rattle.pic_grid.specs.Cells.{IsWithin}
 use Rattle.pic_grid.specs.Lattice.{Field, EachAtMost, value_at, field_of}
 use Rattle.pic_grid.specs.Parts.{one_part, origin}
 use Rattle.pic_grid.proofs.LatticeLaws.{value_at-field_of, length-values_of, is_field_of}
-use Rattle.pic_field.specs.FieldPhases.{half_of, full_of, cell_above}
+use Rattle.pic_field.specs.FieldPhases.{half_of, full_of, cell_above, least_fault}
+use Rattle.pic_field.proofs.CalmLaws.{least_fault-same}
 use Rattle.pic_step.specs.Kept.{as_one}
-use Rattle.pic_phase.specs.Phases.{Advances}
+use Rattle.pic_advance.specs.Phases.{Advances}
 use Rattle.pic_step.specs.Sound.{IsSafe}
 
 -- a lattice, or a stop, seen so
@@ -57,3 +58,34 @@ pub field_same : (side : ℕ) (n : Triple) (g h : Axis → Triple → ℤ) → (
 field_same side n g h same =
     is_field_of side n one_part h (field_of side n one_part g) refl refl refl (length-values_of n g)
     (λ a p w. value_at-field_of side n one_part g a p w ∙ same a p w)
+
+-- phases that give the same values in the grid have one stop,
+fault_same : (phase : Phase) (by : Multiplier) (n : Triple) (g h : Axis → Triple → ℤ)
+    → ((a : Axis) (p : Triple) → IsWithin p n → g a p ≡ h a p) → least_fault phase by origin n h ≡ least_fault phase by origin n g
+fault_same phase by n g h same =
+    least_fault-same phase by origin n h g
+    (λ a p within. ap (h a) (above_origin p) ∙ sym (same a p within) ∙ ap (g a) (sym (above_origin p)))
+
+-- and advance it alike
+pub advances_same : (phase : Phase) (by : Multiplier) (side : ℕ) (n parts : Triple) (g h : Axis → Triple → ℤ) (r : Result Field Stop)
+    → ((a : Axis) (p : Triple) → IsWithin p n → g a p ≡ h a p) → Advances phase by side n parts g r → Advances phase by side n parts h r
+advances_same phase by side n parts g h (Ok f) same done = (
+  done.0 ∙ is_field_of side n parts h (field_of side n parts g) refl refl refl (length-values_of n g)
+      (λ a p w. value_at-field_of side n parts g a p w ∙ same a p w),
+  fault_same phase by n g h same ∙ done.1,
+)
+advances_same phase by side n parts g h (Err stop) same done = fault_same phase by n g h same ∙ done
+
+-- a step of E whose answer is known
+pub full_one_is : (phase : Phase) (scales : Scales) (b e : Field) (j : Axis → Triple → ℤ) (r s : Result Field Stop) → r ≡ s
+    → Advances phase scales.e_force b.side b.cells e.parts (λ a p. full_of scales b a p (value_at e a p) (j a p)) r
+    → Advances phase scales.e_force b.side b.cells one_part (λ a p. full_of scales (as_one b) a p (value_at e a p) (j a p)) (one_result s)
+full_one_is phase scales b e j r s is h =
+    full_one phase scales b e j s
+    (subst (λ (t : Result Field Stop). Advances phase scales.e_force b.side b.cells e.parts (λ a p. full_of scales b a p (value_at e a p) (j a p)) t) is h)
+
+-- its parts are those of before
+pub advanced_parts : (phase : Phase) (by : Multiplier) (side : ℕ) (n parts : Triple) (g : Axis → Triple → ℤ) (r : Result Field Stop) (f : Field) → r ≡ Ok f
+    → Advances phase by side n parts g r → f.parts ≡ parts
+advanced_parts phase by side n parts g r f is h =
+    ap (λ (k : Field). k.parts) (subst (λ (t : Result Field Stop). Advances phase by side n parts g t) is h).0

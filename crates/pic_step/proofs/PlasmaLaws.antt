@@ -23,7 +23,7 @@ use Rattle.pic_tile.proofs.HeldLaws.{chain_in}
 use Rattle.pic_tile.proofs.LeavingLaws.{tile_below}
 use Rattle.pic_core.specs.AtStart.{IsScratch}
 use Rattle.pic_step.specs.declared.plasma.Plasma.{Plasma}
-use Rattle.pic_phase.specs.Spent.{AreSpent}
+use Rattle.pic_step.specs.TileFlux.{AreSpent}
 use Rattle.pic_step.specs.Plasma.{HasFlux, IsPlasma}
 
 -- tiles, each of which has its own of a list, have the list
@@ -61,9 +61,10 @@ particles_kept m us vs count h =
     ap (λ (cs : List (List Particle)). in_order (together cs)) same
 
 -- and are ready for the next push
-pub ready_again : (p q : Plasma) → HasFlux p → q.frame ≡ p.frame → q.room ≡ p.room → q.count ≡ p.count → AreSpent p.frame.map p.tiles.items q.tiles.items
+pub ready_again : (p q : Plasma) → HasFlux p → q.frame ≡ p.frame → q.room ≡ p.room → length q.spare.items ≡ length p.spare.items → q.count ≡ p.count
+    → AreSpent p.frame.map p.tiles.items q.tiles.items
     → IsPlasma (all_particles p.tiles.items) q
-ready_again p q flux frame room count h = subst (λ f. IsPlasma (all_particles p.tiles.items) (record q { frame = f })) (sym frame) (record {
+ready_again p q flux frame room spare count h = subst (λ f. IsPlasma (all_particles p.tiles.items) (record q { frame = f })) (sym frame) (record {
   tiles = record {
     count = h.numbered.count;
     numbers = h.numbered.numbers;
@@ -79,5 +80,6 @@ ready_again p q flux frame room count h = subst (λ f. IsPlasma (all_particles p
   };
   room = subst (λ o. IsScratch p.frame.map o) (sym room) flux.room;
   parts = flux.parts;
+  spare = spare ∙ flux.spare;
   count = count ∙ flux.count;
 })

@@ -11,6 +11,7 @@ use Rattle.pic_num.specs.Sizes.{IsAtMost}
 use Rattle.pic_grid.specs.declared.stop.Stop.{Stop}
 use Rattle.pic_grid.specs.Gather.{force_of}
 use Rattle.pic_grid.specs.Lattice.{Field, value_at, field_of}
+use Rattle.pic_grid.specs.Cells.{count_of}
 use Rattle.pic_grid.specs.Parts.{layered}
 use Rattle.pic_num.specs.Space.{Triple}
 use Rattle.pic_grid.specs.PushPhase.{Surroundings, CanShare}
@@ -100,5 +101,6 @@ ready_moves p f xs map parts ready = record {
   tiles = subst (λ (m : Tiling). AreFreshTiles m xs p.tiles.items) (sym map) ready.tiles;
   room = subst (λ (m : Tiling). IsScratch m p.room) (sym map) ready.room;
   parts = parts ∙ ap (λ (m : Tiling). layered (cells_of m)) (sym map);
+  spare = ready.spare ∙ ap (λ (m : Tiling). count_of m.tiles) (sym map);
   count = ready.count;
 }

@@ -32,7 +32,7 @@ use Rattle.pic_tile.specs.Tiling.{Tiling, IsMap, IsInTile, cells_of, owner_of}
 use Rattle.pic_tile.proofs.TilingLaws.{owner_below, owner_has}
 use Rattle.pic_core.specs.AtStart.{IsScratch}
 use Rattle.pic_step.specs.declared.plasma.Plasma.{Plasma}
-use Rattle.pic_phase.specs.Spent.{HaveReceived, flux_in}
+use Rattle.pic_step.specs.TileFlux.{HaveReceived, flux_in}
 use Rattle.pic_step.specs.Exchange.{HasExchanged}
 use Rattle.pic_step.specs.Plasma.{IsPlasma}
 use Rattle.pic_step.specs.PushOn.{ArePushed, HasPushed}
@@ -133,6 +133,7 @@ has_pushed p q stop h frame map some opening ready stopped =
         stand = stand_for (felt_in f) f.map xs us x pushed.particles;
         room = subst (λ (g : FrameValue). IsScratch g.map q.room) back h.room;
         parts = subst (λ (g : FrameValue). g.force_e.parts ≡ layered (cells_of g.map)) back ready.parts;
+        spare = ap (λ v. length v.items) h.spare ∙ ready.spare ∙ ap (λ (g : FrameValue). count_of g.map.tiles) back;
         count = h.count ∙ ready.count ∙ sym (ap length pushed.particles ∙ length-moved_all (felt_in f) xs);
       };
       pushed = subst (λ (g : FrameValue). ArePushed (felt_in g) f.map xs us stop) h.frame pushed;

@@ -21,8 +21,8 @@ use Rattle.pic_step.specs.Exchange.{HasExchanged}
 pub core_exchanges : (old new : Plasma) (s t : CoreState) (events : List Event) → IsAtStart old.frame old.tiles.items s → Ran s events t → new.frame ≡ t.frame
     → AreExchanged (felt_in t.frame) t.frame.map (all_particles t.opening) new.tiles.items
     → ((r : ℕ) → r < tile_count t → AllAtMost most_flux (flux_at (tile_in new.tiles.items r) here)) → IsScratch t.frame.map new.room
-    → new.count ≡ old.count → HasExchanged old new
-core_exchanges old new s t events opened ran frame exchanged bound room count =
+    → new.spare ≡ old.spare → new.count ≡ old.count → HasExchanged old new
+core_exchanges old new s t events opened ran frame exchanged bound room spare count =
     let frame_is = ran_frame s events t ran ∙ opened.frame in
     let opening_is = ran_opening s events t ran ∙ opened.opening in
     record {
@@ -32,5 +32,6 @@ core_exchanges old new s t events opened ran frame exchanged bound room count =
       small = subst (λ (f : FrameValue). (r : ℕ) → r < count_of f.map.tiles → AllAtMost most_value (flux_at (tile_in new.tiles.items r) here)) frame_is
           (λ r below. all_at_most_more (flux_at (tile_in new.tiles.items r) here) most_flux most_value (omega arith) (bound r below));
       room = subst (λ (f : FrameValue). IsScratch f.map new.room) frame_is room;
+      spare = spare;
       count = count;
     }

@@ -16,7 +16,7 @@ use Rattle.pic_field.proofs.CalmLaws.{least_fault-same}
 use Rattle.pic_tile.specs.CoreState.{all_particles}
 use Rattle.pic_tile.specs.Tile.{TileValue}
 use Rattle.pic_tile.specs.Tiling.{Tiling}
-use Rattle.pic_phase.specs.Spent.{flux_in}
+use Rattle.pic_step.specs.TileFlux.{flux_in}
 use Rattle.pic_step.specs.PushOn.{around_fields, ArePushed}
 use Rattle.pic_grid.specs.Parts.{origin}
 use Rattle.pic_step.specs.SerialStep.{World, around, half_at, full_at, half_on, push_on}

@@ -20,7 +20,7 @@ use Rattle.pic_tile.specs.Tile.{TileValue, flux_at, tile_in}
 use Rattle.pic_tile.specs.Tiling.{Tiling, IsMap, IsInTile, cells_of, owner_of}
 use Rattle.pic_tile.proofs.TilingLaws.{owner_below, owner_has}
 use Rattle.pic_step.specs.declared.plasma.Plasma.{Plasma}
-use Rattle.pic_phase.specs.Spent.{flux_in}
+use Rattle.pic_step.specs.TileFlux.{flux_in}
 use Rattle.pic_step.specs.Plasma.{IsPlasma}
 use Rattle.pic_step.specs.PushOn.{HasPushed}
 
@@ -81,6 +81,7 @@ none_pushed w p map cells ready none =
         stand = ready.tiles.stand;
         room = ready.room;
         parts = ready.parts;
+        spare = ready.spare;
         count = ready.count;
       };
       pushed = record {

@@ -21,6 +21,7 @@ pub record HasExchanged (old new : Plasma) : Type 0 where
   pub small : (r : ℕ) → r < count_of old.frame.map.tiles
       → AllAtMost most_value (flux_at (tile_in new.tiles.items r) here)
   pub room : IsScratch old.frame.map new.room
+  pub spare : new.spare ≡ old.spare
   pub count : new.count ≡ old.count
 
 -- what so many workers answer: want of memory more than one alone

@@ -3,6 +3,7 @@ pub mod StateView
 pub mod Sound
 pub mod SerialRun
 pub mod Start
+pub mod TileFlux
 pub mod Plasma
 pub mod Kept
 pub mod PushOn

@@ -9,14 +9,16 @@ use Rattle.pic_tile.specs.Tile.{tile_in}
 use Rattle.pic_tile.specs.Tiling.{cells_of}
 use Rattle.pic_core.specs.AtStart.{IsScratch}
 use Rattle.pic_step.specs.declared.plasma.Plasma.{Plasma}
-use Rattle.pic_phase.specs.Spent.{HaveReceived}
+use Rattle.pic_step.specs.TileFlux.{HaveReceived}
 
 -- particles are ready for their push: they are cut into tiles; beside these there are the room for
--- what they will receive, and lattices with a part for each layer of z for the force values
+-- what they will receive, lattices with a part for each layer of z for the force values, and a block
+-- for each tile
 pub record IsPlasma (particles : List Particle) (p : Plasma) : Type 0 where
   pub tiles : AreFreshTiles p.frame.map particles p.tiles.items
   pub room : IsScratch p.frame.map p.room
   pub parts : p.frame.force_e.parts ≡ layered (cells_of p.frame.map)
+  pub spare : length p.spare.items ≡ count_of p.frame.map.tiles
   pub count : p.count ≡ length particles
 
 -- they are pushed: each tile has its own of them and its flux; all else is ready for the next push
@@ -26,4 +28,5 @@ pub record HasFlux (p : Plasma) : Type 0 where
       → StandsFor p.frame.map (all_particles p.tiles.items) (tile_in p.tiles.items r)
   pub room : IsScratch p.frame.map p.room
   pub parts : p.frame.force_e.parts ≡ layered (cells_of p.frame.map)
+  pub spare : length p.spare.items ≡ count_of p.frame.map.tiles
   pub count : p.count ≡ length (all_particles p.tiles.items)

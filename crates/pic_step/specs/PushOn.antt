@@ -15,7 +15,7 @@ use Rattle.pic_tile.specs.CoreState.{all_particles, IsOpening}
 use Rattle.pic_tile.specs.Tile.{TileValue}
 use Rattle.pic_tile.specs.Tiling.{Tiling, cells_of}
 use Rattle.pic_step.specs.declared.plasma.Plasma.{Plasma}
-use Rattle.pic_phase.specs.Spent.{flux_in}
+use Rattle.pic_step.specs.TileFlux.{flux_in}
 use Rattle.pic_step.specs.Kept.{as_one}
 use Rattle.pic_step.specs.Plasma.{IsPlasma, HasFlux}
 use Rattle.pic_step.specs.Sound.{IsSafe}

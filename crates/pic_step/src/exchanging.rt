@@ -1,7 +1,6 @@
 //! The push of all particles of a state, tile by tile, and the exchange of what leaves their tiles.
 
-ghost use Rattle.std.specs.Prelude.{◌<◌, ◌≤◌, IfOk};
-ghost use Rattle.pic_crew.specs.Teams.{most_workers};
+ghost use Rattle.std.specs.Prelude.{IfOk};
 ghost use Rattle.pic_tile.specs.CoreState.{IsOpening};
 ghost use Rattle.pic_core.specs.AtStart.{IsScratch};
 ghost use Rattle.pic_step.specs.Exchange.{HasExchanged, Exchanges};
@@ -11,6 +10,7 @@ use pic_core::Core;
 use pic_crew::on_board;
 use pic_gate::Gate;
 use pic_num::NoMemory;
+use pic_team::Team;
 use std::alloc::Global;
 use std::thread::Threads;
 
@@ -20,23 +20,19 @@ use std::thread::Threads;
 ///
 /// # Errors
 /// `NoMemory` where it is refused to the board of two or more workers; nothing is handed back then.
-pub(crate) fn exchange_parcels<H: Threads + Sync, G: Gate + Sync>(
-    rt: &H,
+pub(crate) fn push_and_exchange<H: Threads + Sync, G: Gate + Sync>(
+    team: &Team<H, G>,
     alloc: Global,
     plasma: Plasma,
-    workers: u32,
-    gate: &G,
 ) -> Result<Plasma, NoMemory>
-    requires some { 0 < workers }
-    requires most { workers ≤ most_workers }
     requires opening { IsOpening plasma.frame plasma.tiles.items }
     requires room { IsScratch plasma.frame.map plasma.room }
-    ensures { Exchanges plasma workers result }
+    ensures { Exchanges plasma team.now.workers result }
 {
-    if workers == 1 {
-        Ok(in_turn(plasma, gate))
+    if team.workers.count() == 1 {
+        Ok(in_turn(plasma, team.gate))
     } else {
-        at_board(rt, alloc, plasma, workers, gate)
+        at_board(team, alloc, plasma)
     }
 }
 
@@ -49,6 +45,7 @@ fn in_turn<G: Gate>(plasma: Plasma, gate: &G) -> Plasma
     let Plasma {
         frame,
         tiles,
+        spare,
         room,
         count,
     } = plasma;
@@ -58,21 +55,18 @@ fn in_turn<G: Gate>(plasma: Plasma, gate: &G) -> Plasma
     Plasma {
         frame,
         tiles,
+        spare,
         room,
         count,
     }
 }
 
-/// The work of a crew at a board.
+/// The work of two or more workers at a board.
 fn at_board<H: Threads + Sync, G: Gate + Sync>(
-    rt: &H,
+    team: &Team<H, G>,
     alloc: Global,
     plasma: Plasma,
-    workers: u32,
-    gate: &G,
 ) -> Result<Plasma, NoMemory>
-    requires some { 0 < workers }
-    requires most { workers ≤ most_workers }
     requires opening { IsOpening plasma.frame plasma.tiles.items }
     requires room { IsScratch plasma.frame.map plasma.room }
     ensures { IfOk result (HasExchanged plasma) }
@@ -80,14 +74,16 @@ fn at_board<H: Threads + Sync, G: Gate + Sync>(
     let Plasma {
         frame,
         tiles,
+        spare,
         room,
         count,
     } = plasma;
-    let done = on_board(rt, alloc, frame, tiles, workers, gate)?;
+    let done = on_board(team, alloc, frame, tiles)?;
     let (frame, tiles) = done;
     Ok(Plasma {
         frame,
         tiles,
+        spare,
         room,
         count,
     })

@@ -8,6 +8,7 @@ mod push_phase;
 mod start;
 mod state;
 mod stepping;
+mod tile_flux;
 mod write;
 
 pub use laws::{law_of_the_least_halt, law_of_the_step, law_of_velocities, three_images_are_all};

@@ -11,25 +11,29 @@ ghost use Rattle.pic_field.specs.FieldPhases.{full_of};
 ghost use Rattle.pic_tile.specs.CoreState.{all_particles};
 ghost use Rattle.pic_tile.specs.Frame.{AreKinds};
 ghost use Rattle.pic_tile.specs.Tiling.{cells_of};
-ghost use Rattle.pic_phase.specs.Spent.{flux_in};
-ghost use Rattle.pic_phase.specs.Phases.{Advances};
+ghost use Rattle.pic_advance.specs.Phases.{Advances};
+ghost use Rattle.pic_step.specs.TileFlux.{flux_in};
 ghost use Rattle.pic_step.specs.Plasma.{HasFlux, IsPlasma};
 
+use crate::tile_flux::{spare_blocks, swap_each_flux};
+use pic_advance::advance_e;
 use pic_core::Scratch;
-use pic_grid::{Lattice, Phase, Stop};
+use pic_grid::{Block, Lattice, Phase, Stop};
 use pic_num::{Kind, NoMemory, Particle, Scales};
-use pic_phase::full;
+use pic_team::Team;
 use pic_tile::{Frame, Kinds, Tile, TileMap, cut};
 use std::alloc::Global;
 use std::thread::Threads;
 
-/// The particles of a state in tiles, so many in all, and what their push works with: the frame, and
-/// the room in which one worker's tiles receive parcels. All this memory is taken once; the board of
-/// two or more workers is made anew in each step.
+/// The particles of a state in tiles, so many in all, and what their push works with: the frame, the
+/// room in which one worker's tiles receive parcels, and a block for each tile, which stands in it
+/// while its flux is elsewhere. All this memory is taken once; the board of two or more workers is
+/// made anew in each step.
 #[derive(Drop)]
 pub struct Plasma {
     pub frame: Frame,
     pub tiles: Vec<Tile>,
+    pub spare: Vec<Block>,
     pub room: Scratch,
     pub count: u32,
 }
@@ -50,41 +54,65 @@ impl Plasma {
         ensures plasma { IfOk result (IsPlasma particles.now) }
     {
         let tiles = cut(alloc, &map, particles)?;
+        let spare = spare_blocks(alloc, tiles.len())?;
         let room = Scratch::new(alloc, map)?;
         let frame = frame_for(alloc, map, kinds)?;
         Ok(Plasma {
             frame,
             tiles,
+            spare,
             room,
             count: particles.len() as u32,
         })
     }
 
-    /// A step of E by the flux of the tiles. They are left without it, ready for the next push.
-    pub fn advance_e<H: Threads + Sync>(
-        &mut self,
-        rt: &H,
+    /// A step of E by the current that the push left. Each tile's finished block of flux moves out of
+    /// it, the lot is the lattice of the current, and the spent blocks move back: the tiles are left
+    /// without flux, ready for the next push, also where the answer is a stop.
+    pub fn advance_e<H: Threads + Sync, G>(
+        self,
+        team: &Team<H, G>,
         scales: &Scales,
         b: &Lattice,
         e: Lattice,
-        workers: u32,
-    ) -> Result<Lattice, Stop>
-        requires some { 0 < workers }
-        requires flux { HasFlux self.old }
-        requires b_cells { b.now.cells ≡ cells_of self.old.frame.map }
-        requires e_cells { e.cells ≡ cells_of self.old.frame.map }
-        requires parts { e.parts ≡ self.old.frame.map.tiles }
+    ) -> (Result<Lattice, Stop>, Plasma)
+        requires flux { HasFlux self }
+        requires b_cells { b.now.cells ≡ cells_of self.frame.map }
+        requires e_cells { e.cells ≡ cells_of self.frame.map }
+        requires parts { e.parts ≡ self.frame.map.tiles }
         requires b_small { EachAtMost most_value b.now }
         requires e_small { EachAtMost most_value e }
         ensures fields { Advances Phase.Electric scales.now.e_force b.now.side b.now.cells e.parts
             (λ a p. full_of scales.now b.now a p (value_at e a p)
-            (flux_in self.old.frame.map self.old.tiles.items a p)) result }
-        ensures frame { self.new.frame ≡ self.old.frame }
-        ensures particles { all_particles self.new.tiles.items ≡ all_particles self.old.tiles.items }
-        ensures plasma { IsPlasma (all_particles self.old.tiles.items) self.new }
+            (flux_in self.frame.map self.tiles.items a p)) result.0 }
+        ensures frame { result.1.frame ≡ self.frame }
+        ensures particles { all_particles result.1.tiles.items ≡ all_particles self.tiles.items }
+        ensures plasma { IsPlasma (all_particles self.tiles.items) result.1 }
     {
-        let map = *self.frame.map();
-        full(rt, scales, b, &map, &mut self.tiles, e, workers)
+        let Plasma {
+            frame,
+            mut tiles,
+            mut spare,
+            room,
+            count,
+        } = self;
+        let map = frame.map();
+        let _tiles = map.tiles();
+        let cells = e.cells();
+        let parts = e.parts();
+        swap_each_flux(&mut tiles, &mut spare);
+        let current = Lattice::of_blocks(cells, parts, spare);
+        let (e, blank) = advance_e(team, scales, b, current, e);
+        let mut spare = blank.into_blocks();
+        swap_each_flux(&mut tiles, &mut spare);
+        let plasma = Plasma {
+            frame,
+            tiles,
+            spare,
+            room,
+            count,
+        };
+        (e, plasma)
     }
 }
 

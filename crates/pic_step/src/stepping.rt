@@ -8,12 +8,13 @@ ghost use Rattle.pic_step.specs.SerialStep.{half_stop};
 ghost use Rattle.pic_step.specs.declared.stepping.StepStop.TheVariants as step_stop;
 ghost use Rattle.pic_crew.specs.Teams.{most_workers};
 
-use crate::push_phase::push_phase;
+use crate::push_phase::{Fields, push_phase};
 use crate::state::State;
+use pic_advance::advance_b;
 use pic_gate::Gate;
 use pic_grid::{Phase, Stop};
-use pic_num::NoMemory;
-use pic_phase::half;
+use pic_num::{NoMemory, Workers};
+use pic_team::Team;
 use std::alloc::Global;
 use std::thread::Threads;
 
@@ -73,15 +74,26 @@ pub fn step<H: Threads + Sync, G: Gate + Sync>(
         b,
         plasma,
     } = state;
-    let b = half(rt, &scales, &e, b, Phase::Half1, workers)?;
-    let pushed = push_phase(rt, alloc, &scales, &e, &b, plasma, workers, gate)?;
-    let (mut plasma, stop) = pushed;
+    let workers = Workers::of(workers);
+    let team = Team { rt, gate, workers };
+    let b = advance_b(&team, &scales, &e, b, Phase::Half1)?;
+    let fields = Fields {
+        scales: &scales,
+        e: &e,
+        b: &b,
+    };
+    let pushed = push_phase(&team, alloc, fields, plasma)?;
+    let (plasma, stop) = pushed;
     match stop {
         Some(stop) => return Err(StepStop::Stop(stop)),
         None => {}
     }
-    let b = half(rt, &scales, &e, b, Phase::Half2, workers)?;
-    let e = plasma.advance_e(rt, &scales, &b, e, workers)?;
+    let b = advance_b(&team, &scales, &e, b, Phase::Half2)?;
+    let (e, plasma) = plasma.advance_e(&team, &scales, &b, e);
+    let e = match e {
+        Ok(e) => e,
+        Err(stop) => return Err(StepStop::Stop(stop)),
+    };
     Ok(State {
         scales,
         e,

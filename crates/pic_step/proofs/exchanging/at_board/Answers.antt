@@ -14,5 +14,6 @@ returns g c =
       tiles = done.exchanged;
       small = λ r below. all_at_most_more (flux_at (tile_in c.in_ok-done.done.1.items r) here) most_flux most_value (omega arith) (done.bound r below);
       room = c.requires.room;
+      spare = refl;
       count = refl;
     }

@@ -11,7 +11,7 @@ use Rattle.pic_step.proofs.push_phase.push_phase.Goals.{After-with_forces-frame}
 
 -- the frame of the force values
 framed : (g : Over) (c : After-with_forces-frame g) → c.with_forces-frame.result
-    ≡ with_forces_of c.args.plasma.frame.map c.args.plasma.frame.kinds c.args.scales.now c.args.e.now c.args.b.now
+    ≡ with_forces_of c.args.plasma.frame.map c.args.plasma.frame.kinds c.args.fields.scales.now c.args.fields.e.now c.args.fields.b.now
 framed g c = c.with_forces-frame.ensures
 
 pub push_tiles-requires-clause-side : goal.push_tiles-requires-clause-side
@@ -35,12 +35,12 @@ push_tiles-requires-clause-ready g c κs within =
 
 pub returns-clause-pushed : goal.returns-clause-pushed
 returns-clause-pushed g c =
-    pushed_by_fields c.args.plasma c.in_ok-pushed.pushed.0 c.args.scales.now c.args.e.now c.args.b.now c.with_forces-frame.result c.in_ok-pushed.pushed.1
+    pushed_by_fields c.args.plasma c.in_ok-pushed.pushed.0 c.args.fields.scales.now c.args.fields.e.now c.args.fields.b.now c.with_forces-frame.result c.in_ok-pushed.pushed.1
     c.requires.can.safe_e (framed g (goal.at.returns-clause-pushed g c).After-with_forces-frame) c.in_ok-pushed.ensures.pushed
 
 pub returns-then-plasma-eq0-clause-pushed : goal.returns-then-plasma-eq0-clause-pushed
 returns-then-plasma-eq0-clause-pushed g c =
     let p = c.args.plasma in
     let none : p.count ≡ 0 = omega (arith, c.if-plasma-eq0.true) in
-    none_pushed (around_fields c.args.scales.now p.frame.kinds c.args.e.now c.args.b.now) p (subst IsMap c.map-map.ensures.value c.tiles-tiles.ensures.limits)
+    none_pushed (around_fields c.args.fields.scales.now p.frame.kinds c.args.fields.e.now c.args.fields.b.now) p (subst IsMap c.map-map.ensures.value c.tiles-tiles.ensures.limits)
     c.requires.can.safe_e.cells c.requires.can.plasma none

@@ -7,45 +7,45 @@ use Rattle.pic_tile.specs.Tiling.{Tiling, cells_of, grid_of_tiling}
 use Rattle.pic_step.proofs.PushPhaseLaws.{forced, force_field}
 use Rattle.pic_step.proofs.push_phase.with_forces.Given.{Over}
 use Rattle.pic_step.proofs.push_phase.with_forces.Goals as goal
-use Rattle.pic_step.proofs.push_phase.with_forces.Goals.{After-forces-force_e, After-forces-force_b}
+use Rattle.pic_step.proofs.push_phase.with_forces.Goals.{After-force_values-force_e, After-force_values-force_b}
 
 -- the force values of E, and those of B, on the cells of the map
-of_e : (g : Over) (c : After-forces-force_e g) → c.forces-force_e.result
+of_e : (g : Over) (c : After-force_values-force_e g) → c.force_values-force_e.result
     ≡ field_of c.args.frame.map.side (cells_of c.args.frame.map) (layered (cells_of c.args.frame.map))
-    (force_of c.args.scales.now.e_force (value_at c.args.e.now))
+    (force_of c.args.fields.scales.now.e_force (value_at c.args.fields.e.now))
 of_e g c =
-    forced c.args.frame.map c.args.scales.now.e_force c.args.e.now c.forces-force_e.result c.into_parts-kinds.result.1.parts c.requires.e
-    (ap (λ f. f.parts) c.into_parts-kinds.ensures.e ∙ c.requires.parts) c.forces-force_e.ensures
+    forced c.args.frame.map c.args.fields.scales.now.e_force c.args.fields.e.now c.force_values-force_e.result c.into_parts-kinds.result.1.parts c.requires.e
+    (ap (λ f. f.parts) c.into_parts-kinds.ensures.e ∙ c.requires.parts) c.force_values-force_e.ensures
 
-of_b : (g : Over) (c : After-forces-force_b g) → c.forces-force_b.result
+of_b : (g : Over) (c : After-force_values-force_b g) → c.force_values-force_b.result
     ≡ field_of c.args.frame.map.side (cells_of c.args.frame.map) (layered (cells_of c.args.frame.map))
-    (force_of c.args.scales.now.b_force (value_at c.args.b.now))
+    (force_of c.args.fields.scales.now.b_force (value_at c.args.fields.b.now))
 of_b g c =
-    forced c.args.frame.map c.args.scales.now.b_force c.args.b.now c.forces-force_b.result c.into_parts-kinds.result.2.parts c.requires.b
-    (ap (λ f. f.parts) c.into_parts-kinds.ensures.b ∙ c.into_parts-kinds.ensures.frame.parts ∙ c.requires.parts) c.forces-force_b.ensures
+    forced c.args.frame.map c.args.fields.scales.now.b_force c.args.fields.b.now c.force_values-force_b.result c.into_parts-kinds.result.2.parts c.requires.b
+    (ap (λ f. f.parts) c.into_parts-kinds.ensures.b ∙ c.into_parts-kinds.ensures.frame.parts ∙ c.requires.parts) c.force_values-force_b.ensures
 
 pub new-requires-clause-e : goal.new-requires-clause-e
 new-requires-clause-e g c =
-    subst (λ (m : Tiling). IsForceField (grid_of_tiling m) c.forces-force_e.result) (sym c.map-map.ensures.value)
-    (force_field c.args.frame.map c.args.scales.now.e_force c.args.e.now c.forces-force_e.result c.requires.e
-    (of_e g (goal.at.new-requires-clause-e g c).After-forces-force_e))
+    subst (λ (m : Tiling). IsForceField (grid_of_tiling m) c.force_values-force_e.result) (sym c.map-map.ensures.value)
+    (force_field c.args.frame.map c.args.fields.scales.now.e_force c.args.fields.e.now c.force_values-force_e.result c.requires.e
+    (of_e g (goal.at.new-requires-clause-e g c).After-force_values-force_e))
 
 pub new-requires-clause-b : goal.new-requires-clause-b
 new-requires-clause-b g c =
-    subst (λ (m : Tiling). IsForceField (grid_of_tiling m) c.forces-force_b.result) (sym c.map-map.ensures.value)
-    (force_field c.args.frame.map c.args.scales.now.b_force c.args.b.now c.forces-force_b.result c.requires.b
-    (of_b g (goal.at.new-requires-clause-b g c).After-forces-force_b))
+    subst (λ (m : Tiling). IsForceField (grid_of_tiling m) c.force_values-force_b.result) (sym c.map-map.ensures.value)
+    (force_field c.args.frame.map c.args.fields.scales.now.b_force c.args.fields.b.now c.force_values-force_b.result c.requires.b
+    (of_b g (goal.at.new-requires-clause-b g c).After-force_values-force_b))
 
 pub new-requires-clause-parts : goal.new-requires-clause-parts
 new-requires-clause-parts g c =
     let at = goal.at.new-requires-clause-parts g c in
-    ap (λ f. f.parts) (of_b g at.After-forces-force_b) ∙ sym (ap (λ f. f.parts) (of_e g at.After-forces-force_e))
+    ap (λ f. f.parts) (of_b g at.After-force_values-force_b) ∙ sym (ap (λ f. f.parts) (of_e g at.After-force_values-force_e))
 
 pub returns : goal.returns
 returns g c =
     let at = goal.at.returns g c in
-    let is_e = of_e g at.After-forces-force_e in
-    let is_b = of_b g at.After-forces-force_b in
+    let is_e = of_e g at.After-force_values-force_e in
+    let is_b = of_b g at.After-force_values-force_b in
     let map = c.map-map.ensures.value in
     c.new.ensures ∙ (λ i. record {
       cells = grid_of_tiling (map i);

@@ -1,50 +1,211 @@
-use Rattle.std.proofs.Common.{◌≡◌, List, refl, sym, ap, ◌∙◌, subst}
+use Rattle.std.proofs.Common.{◌≡◌, ℕ, ◌<◌, ◌++◌, List, length, take, drop, IsSome, refl, sym, ap, ◌∙◌, subst, arith}
 use Rattle.std.specs.Vec.{with_items}
 use Rattle.std.proofs.lemmas.List.{with_items_is}
+use Rattle.std.proofs.Math.IntN.{pos}
+use Rattle.pic_num.specs.declared.axis.Axis.{Axis}
+use Rattle.pic_num.specs.Limits.{most_value}
+use Rattle.pic_num.specs.Space.{Triple, triple}
 use Rattle.pic_grid.specs.declared.stop.Phase.TheVariants.{Electric}
-use Rattle.pic_grid.specs.Lattice.{value_at}
+use Rattle.pic_grid.specs.Block.{BlockValues}
+use Rattle.pic_grid.specs.Cells.{Grid, IsWithin, count_of}
+use Rattle.pic_grid.specs.Lattice.{Field, IsParts, EachAtMost, value_at, field_of}
+use Rattle.pic_grid.specs.Parts.{ArePartsOf, joined}
 use Rattle.pic_field.specs.FieldPhases.{full_of}
 use Rattle.pic_tile.specs.CoreState.{all_particles}
-use Rattle.pic_tile.specs.Tile.{TileValue}
-use Rattle.pic_tile.specs.Tiling.{Tiling}
-use Rattle.pic_phase.specs.Spent.{AreSpent, flux_in}
-use Rattle.pic_phase.specs.Phases.{Advances}
+use Rattle.pic_tile.specs.Directions.{here}
+use Rattle.pic_tile.specs.Tile.{TileValue, parcel_at, tile_in}
+use Rattle.pic_tile.specs.Tiling.{IsMap, cells_of}
+use Rattle.pic_advance.proofs.TakenLaws.{HasBlocks, has_blocks, given_back}
+use Rattle.pic_step.specs.TileFlux.{AreSwapped, AreSpent, flux_in}
+use Rattle.pic_step.proofs.OnePartLaws.{advances_same}
 use Rattle.pic_step.proofs.PlasmaLaws.{particles_kept, ready_again}
+use Rattle.pic_step.proofs.SwapLaws.{flux_zones, flux_is, flux_small, still_there, swapped_back}
 use Rattle.pic_step.proofs.plasma.Plasma.advance_e.Given.{Over}
 use Rattle.pic_step.proofs.plasma.Plasma.advance_e.Goals as goal
-use Rattle.pic_step.proofs.plasma.Plasma.advance_e.Goals.{After-full}
+use Rattle.pic_step.proofs.plasma.Plasma.advance_e.Goals.{After-swap_each_flux, After-of_blocks-current}
+use Rattle.pic_step.proofs.plasma.Plasma.advance_e.Goals.{After-advance_e-e, After-into_blocks-spare, After-swap_each_flux-2}
 
--- the tiles are left without their flux,
-spent : (g : Over) (c : After-full g) → AreSpent c.args.self.now.frame.map c.args.self.now.tiles.items c.full.new.tiles
-spent g c =
-    subst (λ (m : Tiling). AreSpent m c.args.self.now.tiles.items c.full.new.tiles) c.map.ensures.value
-    (subst (λ (ts : List TileValue). AreSpent c.map.result.now ts c.full.new.tiles) c.deref_mut.ensures.value c.full.ensures.tiles)
+-- the flux moves out of the tiles
+out : (g : Over) (c : After-swap_each_flux g)
+    → AreSwapped c.args.self.tiles.items c.swap_each_flux.new.tiles c.args.self.spare.items c.swap_each_flux.new.blocks
+out g c =
+    let new = c.swap_each_flux.new in
+    subst (λ (bs : List BlockValues). AreSwapped c.args.self.tiles.items new.tiles bs new.blocks) c.deref_mut-2.ensures.value
+    (subst (λ (ts : List TileValue). AreSwapped ts new.tiles c.deref_mut-2.result.now new.blocks) c.deref_mut.ensures.value c.swap_each_flux.ensures)
 
--- and stand in the list of tiles
-items : (g : Over) (c : After-full g) → (with_items c.args.self.now.tiles c.full.new.tiles).items ≡ c.full.new.tiles
-items g c = with_items_is c.args.self.now.tiles c.full.new.tiles (c.full.auto.tiles ∙ c.deref_mut.ensures.len)
+map_is : (g : Over) (c : After-swap_each_flux g) → IsMap c.args.self.frame.map
+map_is g c = subst IsMap c.map-map.ensures.value c.tiles-tiles.ensures.limits
 
-pub returns-clause-fields : goal.returns-clause-fields
-returns-clause-fields g c =
-    let s = c.args.scales.now in
-    let b = c.args.b.now in
-    let e = c.args.e in
-    let us = c.args.self.now.tiles.items in
-    subst (λ (m : Tiling). Advances Electric s.e_force b.side b.cells e.parts (λ a p. full_of s b a p (value_at e a p) (flux_in m us a p)) c.full.result)
-    c.map.ensures.value
-    (subst (λ (ts : List TileValue). Advances Electric s.e_force b.side b.cells e.parts
-    (λ a p. full_of s b a p (value_at e a p) (flux_in c.map.result.now ts a p)) c.full.result) c.deref_mut.ensures.value c.full.ensures.fields)
+-- and is the lattice of the current
+current_is : (g : Over) (c : After-of_blocks-current g) → length c.swap_each_flux.new.blocks ≡ length c.args.self.spare.items
+    → c.of_blocks-current.result
+    ≡ joined (record { n = cells_of c.args.self.frame.map; side = c.args.e.side }) c.args.self.frame.map.tiles c.swap_each_flux.new.blocks
+current_is g c beside =
+    let p = c.args.self in
+    let js = c.swap_each_flux.new.blocks in
+    let cells : c.cells-cells.result.n ≡ cells_of p.frame.map = c.cells-cells.ensures.value ∙ c.requires.e_cells in
+    let parts : triple c.parts-parts.result ≡ p.frame.map.tiles = c.parts-parts.ensures.value ∙ c.requires.parts in
+    let items = given_back p.spare.len js p.spare.items p.spare.ok.0 beside in
+    c.of_blocks-current.ensures ∙ (λ i. joined (record { n = cells i; side = c.cells-cells.ensures.side i }) (parts i) (items i))
+
+pub swap_each_flux-requires-clause-long : goal.swap_each_flux-requires-clause-long
+swap_each_flux-requires-clause-long g c =
+    let flux = c.requires.flux in
+    ap (λ (bs : List BlockValues). length bs) c.deref_mut-2.ensures.value ∙ flux.spare ∙ sym flux.received.numbered.count
+    ∙ sym (ap (λ (ts : List TileValue). length ts) c.deref_mut.ensures.value)
+
+pub swap_each_flux-requires-clause-there : goal.swap_each_flux-requires-clause-there
+swap_each_flux-requires-clause-there g c =
+    let had = c.requires.flux.received in
+    subst (λ (ts : List TileValue). (i : ℕ) → i < length ts → IsSome (parcel_at (tile_in ts i) here)) (sym c.deref_mut.ensures.value) (λ i below.
+    let count = had.numbered.count in
+    (had.ready i (omega (arith, below, count))).whole here (omega arith))
+
+pub of_blocks-current-requires-clause-zones : goal.of_blocks-current-requires-clause-zones
+of_blocks-current-requires-clause-zones g c =
+    let p = c.args.self in
+    let at = (goal.at.of_blocks-current-requires-clause-zones g c).After-swap_each_flux in
+    let js = c.swap_each_flux.new.blocks in
+    let cells : c.cells-cells.result.n ≡ cells_of p.frame.map = c.cells-cells.ensures.value ∙ c.requires.e_cells in
+    let parts : triple c.parts-parts.result ≡ p.frame.map.tiles = c.parts-parts.ensures.value ∙ c.requires.parts in
+    let items = given_back p.spare.len js p.spare.items p.spare.ok.0 (out g at).beside in
+    subst (λ bs. ArePartsOf c.cells-cells.result.n (triple c.parts-parts.result) bs) (sym items)
+    (subst (λ (n : Triple). ArePartsOf n (triple c.parts-parts.result) js) (sym cells)
+    (subst (λ (t : Triple). ArePartsOf (cells_of p.frame.map) t js) (sym parts)
+    (flux_zones p.frame.map p.tiles.items c.swap_each_flux.new.tiles p.spare.items js (map_is g at) c.requires.flux.received (out g at) c.requires.flux.spare)))
+
+pub advance_e-e-requires-clause-current_small : goal.advance_e-e-requires-clause-current_small
+advance_e-e-requires-clause-current_small g c κs within =
+    let p = c.args.self in
+    let at = goal.at.advance_e-e-requires-clause-current_small g c in
+    let one = out g at.After-swap_each_flux in
+    subst (EachAtMost most_value) (sym (current_is g at.After-of_blocks-current one.beside))
+    (flux_small p.frame.map p.tiles.items c.swap_each_flux.new.tiles p.spare.items c.swap_each_flux.new.blocks (map_is g at.After-swap_each_flux)
+    c.requires.flux.received one c.requires.flux.spare c.args.e.side)
+
+pub advance_e-e-requires-clause-current_cells : goal.advance_e-e-requires-clause-current_cells
+advance_e-e-requires-clause-current_cells g c κs within =
+    let at = goal.at.advance_e-e-requires-clause-current_cells g c in
+    ap (λ (f : Field). f.cells) (current_is g at.After-of_blocks-current (out g at.After-swap_each_flux).beside) ∙ sym c.requires.b_cells
+
+pub advance_e-e-requires-clause-parts : goal.advance_e-e-requires-clause-parts
+advance_e-e-requires-clause-parts g c κs within =
+    let at = goal.at.advance_e-e-requires-clause-parts g c in
+    ap (λ (f : Field). f.parts) (current_is g at.After-of_blocks-current (out g at.After-swap_each_flux).beside) ∙ sym c.requires.parts
+
+-- the tiles are those of the list
+tiles_out : (g : Over) (c : After-swap_each_flux g) → (with_items c.args.self.tiles c.swap_each_flux.new.tiles).items ≡ c.swap_each_flux.new.tiles
+tiles_out g c = with_items_is c.args.self.tiles c.swap_each_flux.new.tiles ((out g c).long ∙ sym c.args.self.tiles.ok.0)
+
+-- the blocks that come back are zeros over the tiles,
+blank_is : (g : Over) (c : After-advance_e-e g) → c.of_blocks-current.result
+    ≡ joined (record { n = cells_of c.args.self.frame.map; side = c.args.e.side }) c.args.self.frame.map.tiles c.swap_each_flux.new.blocks
+    → c.advance_e-e.result.1 ≡ field_of c.args.e.side (cells_of c.args.self.frame.map) c.args.self.frame.map.tiles (λ a p. pos 0)
+blank_is g c is =
+    c.advance_e-e.ensures.cleared
+    ∙ (λ i. field_of (ap (λ (f : Field). f.side) is i) (ap (λ (f : Field). f.cells) is i) (ap (λ (f : Field). f.parts) is i) (λ a p. pos 0))
+
+has_back : (g : Over) (c : After-into_blocks-spare g) → IsMap c.args.self.frame.map
+    → c.advance_e-e.result.1 ≡ field_of c.args.e.side (cells_of c.args.self.frame.map) c.args.self.frame.map.tiles (λ a p. pos 0)
+    → HasBlocks (cells_of c.args.self.frame.map) c.advance_e-e.result.1 c.into_blocks-spare.result.items
+has_back g c map is =
+    let m = c.args.self.frame.map in
+    let cells : c.advance_e-e.result.1.cells ≡ cells_of m = ap (λ (f : Field). f.cells) is in
+    let parts : IsParts c.advance_e-e.result.1.cells c.advance_e-e.result.1.parts =
+    subst (λ (n : Triple). IsParts n c.advance_e-e.result.1.parts) (c.requires.e_cells ∙ sym cells)
+    (subst (λ (t : Triple). IsParts c.args.e.cells t) (c.requires.parts ∙ sym (ap (λ (f : Field). f.parts) is)) c.parts-parts.ensures.limits) in
+    has_blocks (cells_of m) c.advance_e-e.result.1 c.into_blocks-spare.result.items cells map.cells parts
+    c.into_blocks-spare.ensures.zones c.into_blocks-spare.ensures.values
+
+back_count : (g : Over) (c : After-into_blocks-spare g)
+    → c.advance_e-e.result.1 ≡ field_of c.args.e.side (cells_of c.args.self.frame.map) c.args.self.frame.map.tiles (λ a p. pos 0)
+    → HasBlocks (cells_of c.args.self.frame.map) c.advance_e-e.result.1 c.into_blocks-spare.result.items
+    → length c.into_blocks-spare.result.items ≡ count_of c.args.self.frame.map.tiles
+back_count g c is h = h.zones.count ∙ ap (λ (f : Field). count_of f.parts) is
+
+pub swap_each_flux-requires-2-clause-long : goal.swap_each_flux-requires-2-clause-long
+swap_each_flux-requires-2-clause-long g c =
+    let at = goal.at.swap_each_flux-requires-2-clause-long g c in
+    let one = out g at.After-swap_each_flux in
+    let is = blank_is g at.After-advance_e-e (current_is g at.After-of_blocks-current one.beside) in
+    let h = has_back g at.After-into_blocks-spare (map_is g at.After-swap_each_flux) is in
+    ap (λ (bs : List BlockValues). length bs) c.deref_mut-4.ensures.value ∙ back_count g at.After-into_blocks-spare is h
+    ∙ sym c.requires.flux.received.numbered.count ∙ sym one.long
+    ∙ sym (ap (λ (ts : List TileValue). length ts) (c.deref_mut-3.ensures.value ∙ tiles_out g at.After-swap_each_flux))
+
+pub swap_each_flux-requires-2-clause-there : goal.swap_each_flux-requires-2-clause-there
+swap_each_flux-requires-2-clause-there g c =
+    let at = (goal.at.swap_each_flux-requires-2-clause-there g c).After-swap_each_flux in
+    let had = c.requires.flux.received in
+    let one = out g at in
+    subst (λ (ts : List TileValue). (i : ℕ) → i < length ts → IsSome (parcel_at (tile_in ts i) here))
+    (sym (c.deref_mut-3.ensures.value ∙ tiles_out g at)) (λ i below.
+    let count = had.numbered.count in
+    let long = one.long in
+    still_there _ _ _ _ ((had.ready i (omega (arith, below, count, long))).whole here (omega arith)) (one.each i (omega (arith, below, long))))
+
+-- they move back into the tiles,
+back : (g : Over) (c : After-swap_each_flux-2 g)
+    → (with_items c.args.self.tiles c.swap_each_flux.new.tiles).items ≡ c.swap_each_flux.new.tiles
+    → AreSwapped c.swap_each_flux.new.tiles c.swap_each_flux-2.new.tiles c.into_blocks-spare.result.items c.swap_each_flux-2.new.blocks
+back g c items =
+    let new = c.swap_each_flux-2.new in
+    subst (λ (bs : List BlockValues). AreSwapped c.swap_each_flux.new.tiles new.tiles bs new.blocks) c.deref_mut-4.ensures.value
+    (subst (λ (ts : List TileValue). AreSwapped ts new.tiles c.deref_mut-4.result.now new.blocks)
+    (c.deref_mut-3.ensures.value ∙ items) c.swap_each_flux-2.ensures)
+
+tiles_back : (g : Over) (c : After-swap_each_flux-2 g) → length c.swap_each_flux-2.new.tiles ≡ length c.args.self.tiles.items
+    → (with_items (with_items c.args.self.tiles c.swap_each_flux.new.tiles) c.swap_each_flux-2.new.tiles).items ≡ c.swap_each_flux-2.new.tiles
+tiles_back g c long =
+    let p = c.args.self in
+    with_items_is (with_items p.tiles c.swap_each_flux.new.tiles) c.swap_each_flux-2.new.tiles (long ∙ sym p.tiles.ok.0)
 
 pub returns-clause-particles : goal.returns-clause-particles
 returns-clause-particles g c =
-    let p = c.args.self.now in
-    let at = (goal.at.returns-clause-particles g c).After-full in
-    ap all_particles (items g at)
-    ∙ particles_kept p.frame.map p.tiles.items c.full.new.tiles c.requires.flux.received.numbered.count (spent g at)
+    let p = c.args.self in
+    let at = goal.at.returns-clause-particles g c in
+    let one = out g at.After-swap_each_flux in
+    let map = map_is g at.After-swap_each_flux in
+    let is = blank_is g at.After-advance_e-e (current_is g at.After-of_blocks-current one.beside) in
+    let h = has_back g at.After-into_blocks-spare map is in
+    let two = back g at.After-swap_each_flux-2 (tiles_out g at.After-swap_each_flux) in
+    ap all_particles (tiles_back g at.After-swap_each_flux-2 (two.long ∙ one.long))
+    ∙ particles_kept p.frame.map p.tiles.items c.swap_each_flux-2.new.tiles c.requires.flux.received.numbered.count
+    (swapped_back p.frame.map _ _ _ _ _ _ _ _ c.args.e.side map c.requires.flux.received one two h is)
 
 pub returns-clause-plasma : goal.returns-clause-plasma
 returns-clause-plasma g c =
-    let p = c.args.self.now in
-    let at = (goal.at.returns-clause-plasma g c).After-full in
-    ready_again p (record p { tiles = with_items p.tiles c.full.new.tiles }) c.requires.flux refl refl refl
-    (subst (AreSpent p.frame.map p.tiles.items) (sym (items g at)) (spent g at))
+    let p = c.args.self in
+    let at = goal.at.returns-clause-plasma g c in
+    let one = out g at.After-swap_each_flux in
+    let map = map_is g at.After-swap_each_flux in
+    let is = blank_is g at.After-advance_e-e (current_is g at.After-of_blocks-current one.beside) in
+    let h = has_back g at.After-into_blocks-spare map is in
+    let two = back g at.After-swap_each_flux-2 (tiles_out g at.After-swap_each_flux) in
+    let items = tiles_back g at.After-swap_each_flux-2 (two.long ∙ one.long) in
+    let tiles = with_items (with_items p.tiles c.swap_each_flux.new.tiles) c.swap_each_flux-2.new.tiles in
+    let blocks = with_items c.into_blocks-spare.result c.swap_each_flux-2.new.blocks in
+    let long = ap (λ (bs : List BlockValues). length bs)
+    (with_items_is c.into_blocks-spare.result c.swap_each_flux-2.new.blocks (two.beside ∙ sym c.into_blocks-spare.result.ok.0))
+    ∙ two.beside ∙ back_count g at.After-into_blocks-spare is h ∙ sym c.requires.flux.spare in
+    ready_again p (record p { tiles = tiles; spare = blocks }) c.requires.flux refl refl long refl
+    (subst (AreSpent p.frame.map p.tiles.items) (sym items)
+    (swapped_back p.frame.map _ _ _ _ _ _ _ _ c.args.e.side map c.requires.flux.received one two h is))
+
+pub returns-clause-fields : goal.returns-clause-fields
+returns-clause-fields g c =
+    let p = c.args.self in
+    let m = p.frame.map in
+    let s = c.args.scales.now in
+    let b = c.args.b.now in
+    let e = c.args.e in
+    let at = goal.at.returns-clause-fields g c in
+    let one = out g at.After-swap_each_flux in
+    let is = current_is g at.After-of_blocks-current one.beside in
+    advances_same Electric s.e_force b.side b.cells e.parts
+    (λ a q. full_of s b a q (value_at e a q) (value_at c.of_blocks-current.result a q))
+    (λ a q. full_of s b a q (value_at e a q) (flux_in m p.tiles.items a q)) c.advance_e-e.result.0
+    (λ a q within. ap (full_of s b a q (value_at e a q)) (ap (λ (f : Field). value_at f a q) is
+    ∙ flux_is m p.tiles.items c.swap_each_flux.new.tiles p.spare.items c.swap_each_flux.new.blocks (map_is g at.After-swap_each_flux)
+    c.requires.flux.received one c.requires.flux.spare e.side a q (subst (IsWithin q) c.requires.b_cells within)))
+    c.advance_e-e.ensures.fields

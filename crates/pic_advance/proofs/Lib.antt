@@ -1,0 +1,9 @@
+pub mod DrivenLaws
+pub mod EachLaws
+pub mod EarliestLaws
+pub mod FullLaws
+pub mod HalfLaws
+pub mod OrderLaws
+pub mod RowStopLaws
+pub mod TakenLaws
+pub mod ZoneLaws

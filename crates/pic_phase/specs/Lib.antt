@@ -1,4 +1,0 @@
-pub mod Phases
-pub mod Blocks
-pub mod Spent
-pub mod Driven
