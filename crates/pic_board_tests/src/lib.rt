@@ -1,5 +1,5 @@
-//! Tests of `pic_yard` and `pic_crew`, in a crate of their own: a crate is proved a second time
-//! with its tests.
+//! Tests of `pic_yard`, `pic_crew` and `pic_step`, in a crate of their own: a crate is proved a second
+//! time with its tests.
 #![tactic(auto)]
 
 #[cfg(test)]
@@ -12,5 +12,7 @@ mod one_tile;
 mod opening;
 #[cfg(test)]
 mod seeing;
+#[cfg(test)]
+mod steps;
 #[cfg(test)]
 mod two_threads;

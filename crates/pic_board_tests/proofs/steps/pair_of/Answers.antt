@@ -34,7 +34,7 @@ use Rattle.pic_tile.specs.Tiling.{Tiling}
 use Rattle.pic_step.specs.Kept.{as_one}
 use Rattle.pic_step.specs.SerialStep.{world_of}
 use Rattle.pic_step.specs.Sound.{IsSafe, IsSound}
-use Rattle.pic_step_tests.proofs.steps.pair_of.Goals as goal
+use Rattle.pic_board_tests.proofs.steps.pair_of.Goals as goal
 
 -- a lattice of zeros
 abbrev zeros : ℕ → Triple → Field
