@@ -1,22 +1,93 @@
 """Measures what a dump of one of the example decks is about, and prints what theory says beside it.
 
-    python3 examples/measure.py DECK DUMP
+    python3 examples/measure.py [--any] DECK DUMP
 
 DECK is light_wave, gyration, e_cross_b, plasma_oscillation, thermal_plasma, langmuir or two_stream, after docs/EXAMPLES.md,
-or langmuir, two_stream, filamentation or upper_hybrid, after docs/GALLERY.md. All numbers of the theory are taken from the
-dump. It needs numpy.
+or langmuir, two_stream, filamentation or upper_hybrid, after docs/GALLERY.md. A dump is refused that has other cells, scales,
+species or numbers of particles than that deck; with --any the dump of another deck of the kind is measured too, and refused
+only by what it lacks. All numbers of the theory are taken from the dump. It needs numpy.
 """
 
 import sys
-from math import asin, hypot, pi, sin, sqrt
+import tomllib
+from math import asin, hypot, pi, prod, sin, sqrt
 from pathlib import Path
 
 import numpy as np
 
-sys.path.insert(0, str(Path(__file__).parents[1] / "python"))
+HOME = Path(__file__).parents[1]
+sys.path.insert(0, str(HOME / "python"))
 
-from pictools import measure, theory, units
+from pictools import files, measure, theory, units
 from pictools.dump import FAST, SIDE, Dump, Species
+from pictools.plasma import Plasma
+
+CLEAR = 3                   # a wave is above the noise where it is so many times as high as the next
+SCALES = ("e_to_b", "b_to_e", "e_force", "b_force")
+
+# What docs/GALLERY.md asks of `python3 -m pictools deck`, as far as a header shows it.
+GALLERY = {
+    "langmuir": {"plasma_frequency": 0.1, "thermal_speed": 0.05},
+    "two_stream": {"plasma_frequency": 0.1, "drift": 0.3, "thermal_speed": 0.05},
+    "filamentation": {"plasma_frequency": 0.1, "drift": 0.3, "drift_axis": "y"},
+    "upper_hybrid": {"plasma_frequency": 0.1, "gyration": 0.1, "thermal_speed": 0.005},
+}
+
+
+def numbers(rows: list[tuple]) -> dict[str, tuple]:
+    """Species by their names: charge, mass, kick, turn and the number of particles."""
+    return {name: (charge, mass, tuple(kick), tuple(turn), count) for name, charge, mass, kick, turn, count in rows}
+
+
+def of_dump(dump: Dump) -> dict:
+    """What a header says that a deck says too."""
+    header = dump.header
+    return {"cells": header.cells, **{name: tuple(getattr(header, name)) for name in SCALES},
+            "species": numbers([(s.name, s.charge, s.mass, s.kick, s.turn, s.count) for s in header.species])}
+
+
+def of_example(path: Path) -> dict:
+    """The same of a deck of the folder decks."""
+    deck, rows, counts = tomllib.loads(path.read_text(encoding="utf-8")), [], {}
+    for kind in deck.get("species", []):
+        counts[kind["name"]] = (len(kind["points"]) if "points" in kind else
+                                prod(kind["lattice"]["count"]) if "lattice" in kind else
+                                kind["random"]["count"] if "random" in kind else counts[kind["pair"]["of"]])
+        rows.append((*(kind[key] for key in ("name", "charge", "mass", "kick", "turn")), counts[kind["name"]]))
+    scales = {name: tuple(deck["scale"][name]) for name in SCALES}
+    return {"cells": tuple(deck["grid"]["cells"]), **scales, "species": numbers(rows)}
+
+
+def of_gallery(chosen: dict) -> dict:
+    """The same of a deck of the gallery."""
+    deck = Plasma(**chosen).deck()
+    return {"cells": deck.cells, **{name: tuple(getattr(deck, name)) for name in SCALES},
+            "species": numbers([(s.name, s.charge, s.mass, s.kick, s.turn, s.count) for s in deck.species])}
+
+
+def differences(here: dict, there: dict) -> str:
+    """What differs first."""
+    for name in ("cells", *SCALES):
+        if here[name] != there[name]:
+            return f"{name} {list(here[name])} in place of {list(there[name])}"
+    for name, row in there["species"].items():
+        if here["species"].get(name) != row:
+            found = here["species"].get(name)
+            return f"species {name} " + ("missing" if found is None else f"of {list(found)} in place of {list(row)}")
+    further = [name for name in here["species"] if name not in there["species"]]
+    return f"a further species {further[0]}" if further else ""
+
+
+def test_deck(name: str, dump: Dump) -> None:
+    """The dump has to be one of the deck of this name, of the folder decks or of the gallery."""
+    here, path, found = of_dump(dump), HOME / "decks" / f"{name}.toml", []
+    if path.exists():
+        found.append(("decks/" + path.name, differences(here, of_example(path))))
+    if name in GALLERY:
+        found.append(("the gallery's deck", differences(here, of_gallery(GALLERY[name]))))
+    if all(what for _, what in found):
+        reasons = "; ".join(f"it isn't of {deck}: {what}" for deck, what in found)
+        raise ValueError(reasons + " (--any measures another deck of the kind)")
 
 
 def show(what: str, measured: float, expected: float) -> None:
@@ -62,13 +133,32 @@ def plasma(dump: Dump) -> tuple[float, Species]:
     return units.plasma_frequency(dump.header), kinds[0]
 
 
+def frequency(dump: Dump, heights: np.ndarray, expected: float) -> float:
+    """The frequency by which the phase of a wave, of shape (frames,), turns. From one frame to the next it turns by less than
+    half a turn, or it can't be known."""
+    apart = int(np.diff(dump.steps).max(initial=0))
+    if not 0 < expected * apart < pi:
+        raise ValueError(f"its frames are {apart} steps apart, and the frequency {expected:.4g} wants 1 to {int(pi / expected)}")
+    return -measure.turned(np.angle(heights)) / (dump.steps[-1] - dump.steps[0])
+
+
+def at_rest(dump: Dump) -> tuple[float, Species]:
+    """The same of electrons of one species that don't drift."""
+    wp, kind = plasma(dump)
+    mean = dump[0].species(kind.name)["velocity"].mean(axis=0) / FAST
+    if len(units.electrons(dump.header)) > 1 or hypot(*mean) > 0.001 + units.thermal_speed(dump[0]):
+        raise ValueError(f"its electrons are of {len(units.electrons(dump.header))} species and drift by {hypot(*mean):.3g} "
+                         "cells a step")
+    return wp, kind
+
+
 def light_wave(dump: Dump) -> None:
     heights = waves(dump, "ey")
     for m in range(1, dump.header.cells[0] // 2):
         if abs(heights[0, m]) > abs(heights[0]).max() / 10:
-            omega = -measure.turned(np.angle(heights[:, m])) / dump.header.steps
             length = dump.header.cells[0] / m
-            show(f"length {length:.3f}: frequency", omega, theory.light(2 * pi / length, units.light_speed(dump.header)))
+            expected = theory.light(2 * pi / length, units.light_speed(dump.header))
+            show(f"length {length:.3f}: frequency", frequency(dump, heights[:, m], expected), expected)
 
 
 def gyration(dump: Dump) -> None:
@@ -76,7 +166,8 @@ def gyration(dump: Dump) -> None:
     _, b = uniform(dump, False)
     for number, species in particles(dump):
         expected = units.gyration(dump.header, species, b)      # with the clock for B along z
-        angle = -measure.turned(np.arctan2(velocity[:, number, 1], velocity[:, number, 0])) / dump.header.steps
+        turning = velocity[:, number, 0] + 1j * velocity[:, number, 1]
+        angle = frequency(dump, turning, expected) if expected > 0 else -frequency(dump, turning.conj(), -expected)
         way = places[:, number, :2] - places[:, number, :2].mean(axis=0)
         speed = hypot(*velocity[0, number, :2]) / FAST
         show(f"particle {number}: period", 2 * pi / angle, 2 * pi / expected)
@@ -86,7 +177,7 @@ def gyration(dump: Dump) -> None:
 def e_cross_b(dump: Dump) -> None:
     (e, b), places = uniform(dump, True), tracks(dump)
     for number, species in particles(dump):
-        drift = (places[-1, number] - places[0, number]) / dump.header.steps
+        drift = (places[-1, number] - places[0, number]) / (dump.steps[-1] - dump.steps[0])
         turn = b * dump.header.b_force.value * species.turn.value / 2**20
         show(f"particle {number}: drift along x", drift[0],
              e * dump.header.e_force.value * species.kick.value / turn / FAST)
@@ -95,7 +186,9 @@ def e_cross_b(dump: Dump) -> None:
 
 def plasma_oscillation(dump: Dump) -> None:
     wave = -measure.waves(dump, "ex")[:, 1] * np.exp(-1j * pi / dump.header.cells[0])
-    wp, _ = plasma(dump)
+    wp, _ = at_rest(dump)
+    if 2 * asin(wp / 2) * np.diff(dump.steps).max() > pi:
+        raise ValueError(f"its frames are {np.diff(dump.steps).max()} steps apart, more than half a swing")
     show("frequency", measure.frequency(dump.steps, wave.imag), 2 * asin(wp / 2))
     print(f"{'':28} over {len(measure.crossings(dump.steps, wave.imag)) - 1} half swings; "
           f"the plasma frequency itself is {wp:.9f}")
@@ -107,19 +200,33 @@ def wave_number(dump: Dump, wave: int) -> float:
 
 
 def strongest(dump: Dump, name: str) -> tuple[int, float, np.ndarray]:
-    """The wave of a component that is the greatest at the start: how often it goes into the box, its k, and its heights."""
+    """The wave of a component that is the greatest at the start: how often it goes into the box, its k, and its heights. It has
+    to stand above all others."""
     heights = waves(dump, name)
-    wave = 1 + int(np.argmax(abs(heights[0, 1 : dump.header.cells[0] // 2])))
+    first = abs(heights[0, 1 : dump.header.cells[0] // 2])
+    wave = 1 + int(np.argmax(first))
+    second = np.delete(first, wave - 1).max()
+    if first[wave - 1] < CLEAR * second:
+        raise ValueError(f"at the start no wave of {name} stands above the noise: wave {wave} is {first[wave - 1] / second:.2g} "
+                         f"times as high as the next, and {CLEAR} times is clear")
     return wave, wave_number(dump, wave), heights[:, wave]
 
 
 def langmuir(dump: Dump) -> None:
-    """The wave at the start; where E is 0 there, the waves of the noise that hardly damp."""
-    wp, thermal = plasma(dump)[0], units.thermal_speed(dump[0])
+    """The wave at the start, and its damping where theory has it fall to a half; where E is 0 there, the waves of the noise
+    that hardly damp."""
+    wp, thermal = at_rest(dump)[0], units.thermal_speed(dump[0])
     if dump[0].e.any():
         wave, k, heights = strongest(dump, "ex")
-        show(f"wave {wave}: frequency", -measure.turned(np.angle(heights)) / dump.header.steps,
-             theory.langmuir(k, wp, thermal).real)
+        expected, duration = theory.langmuir(k, wp, thermal), dump.steps[-1] - dump.steps[0]
+        turns = frequency(dump, heights, expected.real)
+        if -expected.imag * duration < 0.7:
+            show(f"wave {wave}: frequency", turns, expected.real)
+            return
+        fit = measure.damping(dump.steps, heights, guess=expected.real)
+        show(f"wave {wave}: frequency", fit.frequency, expected.real)
+        show(f"wave {wave}: damping", -fit.rate, -expected.imag)
+        print(f"{'':28} both from step {fit.first} to {fit.last}")
         return
     heights = measure.waves(dump, "ex")
     # Shorter ones are damped in some periods.
@@ -136,10 +243,12 @@ def langmuir(dump: Dump) -> None:
 
 def upper_hybrid(dump: Dump) -> None:
     wave, k, heights = strongest(dump, "ex")
-    wp, electrons = plasma(dump)
+    wp, electrons = at_rest(dump)
     angle = abs(units.gyration(dump.header, electrons, dump[0].b[2].mean()))
-    show(f"wave {wave}: frequency", -measure.turned(np.angle(heights)) / dump.header.steps,
-         theory.upper_hybrid(k, wp, angle, units.light_speed(dump.header)))
+    if not angle:
+        raise ValueError("the mean B along z is 0")
+    expected = theory.upper_hybrid(k, wp, angle, units.light_speed(dump.header))
+    show(f"wave {wave}: frequency", frequency(dump, heights, expected), expected)
     print(f"{'':28} without grid and steps, for c k far above it: {hypot(wp, angle):.9f}")
 
 
@@ -225,11 +334,22 @@ def thermal_plasma(dump: Dump) -> None:
 MEASURES = {f.__name__: f for f in (light_wave, gyration, e_cross_b, plasma_oscillation, thermal_plasma, langmuir,
                                     two_stream, filamentation, upper_hybrid)}
 
-if __name__ == "__main__":
-    if len(sys.argv) != 3 or sys.argv[1] not in MEASURES:
+
+def main(words: list[str]) -> None:
+    any_deck = words[:1] == ["--any"]
+    words = words[any_deck:]
+    if len(words) != 2 or words[0] not in MEASURES:
         print(__doc__, file=sys.stderr)
         sys.exit(2)
+    name, path = words
     try:
-        MEASURES[sys.argv[1]](Dump(sys.argv[2]))
+        dump = files.opened(path)
+        if not any_deck:
+            test_deck(name, dump)
+        MEASURES[name](dump)
     except (ValueError, LookupError, ArithmeticError, OSError) as error:
-        sys.exit(f"{sys.argv[1]}: {sys.argv[2]} can't be measured as a dump of this deck: {error}")
+        sys.exit(f"{name}: {path} can't be measured as a dump of this deck: {error}")
+
+
+if __name__ == "__main__":
+    main(sys.argv[1:])

@@ -1,11 +1,26 @@
 """Reading, drawing and making runs of pic. The program's promises are proved; this package is tested, no more.
 
-dump reads dumps and thin thins them; units says what their multipliers mean; theory has the waves of the scheme, and measure
-those of a dump; plots draws; deck has decks in whole numbers, plasma makes them from a physicist's choices, and advice says why.
+dump reads dumps, info says what one is of, tables hands them to pandas and xarray, and thin thins them; units says what their
+multipliers mean; theory has the waves of the scheme, measure those of a dump, and expect what theory has for it; plots draws,
+with the panels of panels and the options of views; deck has decks in whole numbers, plasma makes them from a physicist's choices,
+advice says why, and cost what the run will take; explain says what the program's lines mean.
 """
 
-from pictools.deck import Deck, DeckError
-from pictools.dump import Dump, DumpError, Frame, Header
-from pictools.plasma import Plasma
+from importlib import import_module
+from typing import TYPE_CHECKING, Any
+
+if TYPE_CHECKING:
+    from pictools.deck import Deck, DeckError
+    from pictools.dump import Dump, DumpError, Frame, Header
+    from pictools.plasma import Plasma
 
 __all__ = ["Deck", "DeckError", "Dump", "DumpError", "Frame", "Header", "Plasma"]
+
+PLACES = {"Deck": "deck", "DeckError": "deck", "Plasma": "plasma"}
+
+
+def __getattr__(name: str) -> Any:
+    """A name is looked for when it is asked for, so that the commands can say that numpy is missing."""
+    if name not in __all__:
+        raise AttributeError(f"module 'pictools' has no attribute {name!r}")
+    return getattr(import_module("pictools." + PLACES.get(name, "dump")), name)

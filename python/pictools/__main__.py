@@ -1,15 +1,22 @@
-"""The commands: python3 -m pictools plot | energies | deck | thin, each with --help."""
+"""The commands: python3 -m pictools plot | energies | info | deck | thin | explain, each with --help."""
 
 from __future__ import annotations
 
 import argparse
+import os
 import sys
-from dataclasses import MISSING, fields
+from dataclasses import MISSING, Field, fields
 from types import ModuleType
 
-from pictools.dump import Dump
-from pictools.plasma import Plasma
-from pictools.thin import thin
+try:
+    from pictools import cost, explain, files, info, views
+    from pictools.deck import DeckError
+    from pictools.limits import Limits, option, refuse
+    from pictools.plasma import Plasma
+except ModuleNotFoundError as missing:
+    if missing.name != "numpy":
+        raise
+    sys.exit("pictools: it needs numpy; on Debian it is python3-numpy")
 
 
 def plots() -> ModuleType:
@@ -23,47 +30,64 @@ def plots() -> ModuleType:
 
 def plot(words: argparse.Namespace) -> None:
     module = plots()
-    module.save(module.figure(Dump(words.dump), words.panels, words.component, words.steps, words.wave, words.speed,
-                              words.title), words.out)
+    runs = {path.removesuffix(".dump"): files.opened(path) for path in words.dump}
+    picture, lines = module.drawn(runs, words.panels, views.view_from(words))
+    with files.written(words.out) as place:
+        module.save(picture, place)
+    for line in lines:
+        print(line)
 
 
 def energies(words: argparse.Namespace) -> None:
     module = plots()
-    with open(words.report, encoding="utf-8") as file:
-        module.save(module.report_figure(file.read()), words.out)
+    with files.written(words.out) as place:
+        module.save(module.report_figure(files.report(words.report)), place)
+
+
+def show_info(words: argparse.Namespace) -> None:
+    print("\n".join(info.info(files.opened(words.dump))))
 
 
 def deck(words: argparse.Namespace) -> None:
     chosen = {f.name: getattr(words, f.name) for f in fields(Plasma) if getattr(words, f.name) is not None}
     plasma = Plasma(**chosen)
-    text = plasma.deck().text()
-    print("\n".join(plasma.report()), file=sys.stderr)
+    made = plasma.deck()
+    try:
+        text = made.text()
+    except DeckError as error:
+        refuse("particles_a_cell", plasma.particles_a_cell, str(error))
+    print("\n".join([*plasma.report(), cost.say(made)]), file=sys.stderr)
     if words.out:
-        with open(words.out, "w", encoding="utf-8") as file:
+        with files.written(words.out) as place, open(place, "w", encoding="utf-8") as file:
             file.write(text)
     else:
         print(text, end="")
 
 
-def thinned(words: argparse.Namespace) -> None:
-    kept = thin(sys.stdin.buffer, sys.stdout.buffer, words.number)
-    sys.stdout.buffer.flush()
-    print(f"kept {kept} frames", file=sys.stderr)
+def thin(words: argparse.Namespace) -> None:
+    files.thin(words.number, words.out)
+
+
+def explained(words: argparse.Namespace) -> None:
+    lines = [" ".join(words.line)] if words.line else sys.stdin.read().splitlines()
+    if not any(map(str.strip, lines)):
+        raise ValueError("no line came to explain: give one behind `explain`, or a report on standard input")
+    print("\n\n".join(explain.all_lines(lines)))
 
 
 def add_plot(part: argparse.ArgumentParser) -> None:
-    part.add_argument("dump")
+    part.add_argument("dump", nargs="+", help="a dump, or several, whose panels are drawn side by side")
     part.add_argument("-o", "--out", required=True, help="the picture's file, .png or another kind that matplotlib knows")
-    part.add_argument("--panels", nargs="+", default=[],
-                      choices=("energies", "phase", "orbits", "field", "history", "growth", "spectrum"),
-                      help="what to draw (default: energies, and phase, field and spectrum where there are some)")
-    part.add_argument("--component", choices=("ex", "ey", "ez", "bx", "by", "bz"),
-                      help="of field, history, growth and spectrum (default: the one that varies most)")
-    part.add_argument("--steps", nargs="+", type=int, default=[], help="of phase and field (default: the last)")
-    part.add_argument("--wave", type=int, default=1, help="of growth: how often it goes into the box (default: 1)")
-    part.add_argument("--speed", choices=("x", "y", "z"), default="x", help="the axis of phase's speed (default: x)")
-    part.add_argument("--title", default="")
+    views.add_options(part)
     part.set_defaults(call=plot)
+
+
+def allowed(field: Field) -> str:
+    """What an option may be, and what it is where it isn't given."""
+    said = [field.metadata["limits"].ends] if isinstance(field.metadata["limits"], Limits) else []
+    if field.default not in (MISSING, None):
+        said.append("default: " + (" ".join(map(str, field.default)) if field.name == "cells" else str(field.default)))
+    return f" ({'; '.join(said)})"
 
 
 def add_deck(part: argparse.ArgumentParser) -> None:
@@ -71,15 +95,21 @@ def add_deck(part: argparse.ArgumentParser) -> None:
     for field in fields(Plasma):
         needed = field.default is MISSING
         shape = {"nargs": 3, "type": int, "metavar": ("NX", "NY", "NZ")} if field.name == "cells" else {
-            "type": {"float": float, "int": int, "str": str}[field.type]}
-        part.add_argument("--" + field.name.replace("_", "-"), required=needed, **shape,
-                          help=field.metadata["text"] + ("" if needed else f" (default: {field.default})"))
+            "type": {"float": float, "int": int, "str": str}[field.type.split()[0]], "metavar": field.type.split()[0].upper()}
+        part.add_argument(option(field.name), required=needed, **shape, help=field.metadata["text"] + allowed(field))
     part.add_argument("-o", "--out", help="the deck's file; without it the deck goes to standard output")
     part.set_defaults(call=deck)
 
 
+class Parser(argparse.ArgumentParser):
+    """One whose errors are one line."""
+
+    def error(self, message: str) -> None:
+        self.exit(2, f"{self.prog}: {message} (--help says more)\n")
+
+
 def parser() -> argparse.ArgumentParser:
-    whole = argparse.ArgumentParser(prog="pictools", description="Pictures and decks for pic.")
+    whole = Parser(prog="pictools", description="Pictures and decks for pic.")
     commands = whole.add_subparsers(required=True, metavar="COMMAND")
     add_plot(commands.add_parser("plot", help="a picture of a dump"))
     add_deck(commands.add_parser("deck", help="a deck from a plasma's numbers"))
@@ -89,7 +119,15 @@ def parser() -> argparse.ArgumentParser:
     part.set_defaults(call=energies)
     part = commands.add_parser("thin", help="a dump from standard input to standard output, with fewer frames")
     part.add_argument("number", type=int, help="every how many frames one is kept")
-    part.set_defaults(call=thinned)
+    part.add_argument("-o", "--out", help="the thinned dump's file, in place of standard output; a file that fails isn't there")
+    part.set_defaults(call=thin)
+    part = commands.add_parser("info", help="what a dump is of: its cells, frames, end, species, and what its multipliers mean")
+    part.add_argument("dump")
+    part.set_defaults(call=show_info)
+    part = commands.add_parser("explain", help="what a line of the program, or its exit status, means and what to change")
+    part.add_argument("line", nargs=argparse.REMAINDER,
+                      help="the line, or a number for a status (default: the lines of standard input)")
+    part.set_defaults(call=explained)
     return whole
 
 
@@ -97,7 +135,21 @@ def main() -> int:
     words = parser().parse_args()
     try:
         words.call(words)
-    except (ValueError, LookupError, ArithmeticError, OSError) as error:
+        sys.stdout.flush()
+    except KeyboardInterrupt:
+        print("pictools: stopped by Ctrl-C", file=sys.stderr)
+        return 130
+    except BrokenPipeError:
+        # What took the output has ended; nothing is left to flush to it.
+        os.dup2(os.open(os.devnull, os.O_WRONLY), sys.stdout.fileno())
+        return 1
+    except MemoryError:
+        print("pictools: there isn't memory enough; thin the dump first", file=sys.stderr)
+        return 1
+    except OSError as error:
+        print(f"pictools: {error.filename}: {error.strerror}" if error.filename else f"pictools: {error}", file=sys.stderr)
+        return 1
+    except (ValueError, LookupError, ArithmeticError) as error:
         print(f"pictools: {error}", file=sys.stderr)
         return 1
     return 0

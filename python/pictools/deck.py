@@ -4,29 +4,36 @@ from __future__ import annotations
 
 from collections.abc import Iterable, Sequence
 from dataclasses import dataclass, field
-from math import frexp
+from math import frexp, prod
 
 import numpy as np
 from numpy.typing import NDArray
 
-from pictools.dump import SIDE, Multiplier
+from pictools.dump import FAST, SIDE, Multiplier
 
-MOST_BYTES = 1048576
-MOST_PARTICLES = 1048576
+MOST_BYTES = 1 << 20
+MOST_PARTICLES = 1 << 20
+MOST_SPREAD = FAST // 16    # of a `random` and a `pair`
+MOST_DRIFT = FAST // 2
+MOST_SEED = (1 << 63) - 1
+MOST_MASS = 1 << 16
+MOST_CHARGE = (1 << 15) - 1
+MOST_FIELD = (1 << 63) - 1
+ROW_BYTES = 15              # of the shortest row of a particle
 
 
 class DeckError(ValueError):
     """What was chosen makes no deck that the program takes."""
 
 
-def multiplier(value: float) -> Multiplier:
+def multiplier(value: float, name: str = "a multiplier") -> Multiplier:
     """The multiplier nearest to a value, its n below 2^24 and no longer than it needs to be."""
     if value == 0:
         return Multiplier(0, 0)
     k = min(max(24 - frexp(value)[1], 0), 62)
     n = round(value * 2.0**k)
     if not 0 < abs(n) < 2**31:
-        raise DeckError(f"the factor {value:g} is outside what a multiplier can be")
+        raise DeckError(f"{name} {value:g} is outside its limits, 2^-63 to 2^31 in size")
     while k > 0 and n % 2 == 0:
         n, k = n // 2, k - 1
     return Multiplier(n, k)
@@ -34,23 +41,107 @@ def multiplier(value: float) -> Multiplier:
 
 @dataclass
 class Species:
-    """A species. `position` (particles, 3) is in sub-cells, `velocity` (particles, 3) in 1/4096 sub-cell a step."""
+    """What all species have. Where its particles come from, its kind says: Points, Lattice, Random or Pair."""
 
     name: str
     charge: int
     mass: int
     kick: Multiplier
     turn: Multiplier
-    position: NDArray[np.int64]
-    velocity: NDArray[np.int64]
+
+    @property
+    def count(self) -> int:
+        """How many particles it has."""
+        raise NotImplementedError
 
     def source(self) -> str:
-        """Where the particles come from, as a key of the deck. Today a deck lists each of them."""
-        return rows("points", np.hstack([self.position, self.velocity]))
+        """Where the particles come from, as a key of the deck."""
+        raise NotImplementedError
 
     def text(self) -> str:
         return (f'\n[[species]]\nname = "{self.name}"\ncharge = {self.charge}\nmass = {self.mass}\n'
                 f"kick = {list(self.kick)}\nturn = {list(self.turn)}\n") + self.source()
+
+
+@dataclass
+class Points(Species):
+    """Each listed: `position` (particles, 3) in sub-cells, `velocity` (particles, 3) in 1/4096 sub-cell a step."""
+
+    position: NDArray[np.int64]
+    velocity: NDArray[np.int64]
+
+    @property
+    def count(self) -> int:
+        return len(self.position)
+
+    def source(self) -> str:
+        return rows("points", np.hstack([self.position, self.velocity]))
+
+
+@dataclass
+class Lattice(Species):
+    """One at first + (a, b, c) gap for a, b, c below `sites`, a fastest, all of the velocity `v`; each of the four is three
+    whole numbers along x, y and z, in sub-cells and 1/4096 sub-cell a step."""
+
+    first: Sequence[int]
+    gap: Sequence[int]
+    sites: Sequence[int]
+    v: Sequence[int] = (0, 0, 0)
+
+    @property
+    def count(self) -> int:
+        return prod(self.sites)
+
+    @property
+    def position(self) -> NDArray[np.int64]:
+        """Where they stand, of shape (particles, 3)."""
+        return np.array(self.first) + np.array(list(np.ndindex(*self.sites[::-1])))[:, ::-1] * self.gap
+
+    def source(self) -> str:
+        return (f"lattice = {{ first = {list(self.first)}, gap = {list(self.gap)}, count = {list(self.sites)}, "
+                f"v = {list(self.v)} }}\n")
+
+
+@dataclass
+class Drawn(Species):
+    """Velocities that the program draws: on each axis `drift` and nearly Gaussian about it, of the deviation `spread`, both
+    in 1/4096 sub-cell a step."""
+
+    seed: int
+    stream: int
+    drift: Sequence[int]
+    spread: Sequence[int]
+
+    def drawing(self) -> str:
+        return f"seed = {self.seed}, stream = {self.stream}, drift = {list(self.drift)}, spread = {list(self.spread)} }}\n"
+
+
+@dataclass
+class Random(Drawn):
+    """So many that the program draws anywhere in the box."""
+
+    number: int
+
+    @property
+    def count(self) -> int:
+        return self.number
+
+    def source(self) -> str:
+        return f"random = {{ count = {self.number}, " + self.drawing()
+
+
+@dataclass
+class Pair(Drawn):
+    """One on each particle of an earlier species."""
+
+    of: Species
+
+    @property
+    def count(self) -> int:
+        return self.of.count
+
+    def source(self) -> str:
+        return f'pair = {{ of = "{self.of.name}", ' + self.drawing()
 
 
 @dataclass
@@ -71,23 +162,30 @@ class Deck:
     faces: NDArray[np.int64] | None = None
     species: list[Species] = field(default_factory=list)
 
+    @property
+    def particles(self) -> int:
+        return sum(s.count for s in self.species)
+
     def text(self) -> str:
         """The deck as the program reads it, or an error where it would be too long for it."""
-        tiles = [next(t for t in range(min(4, n // 2), 0, -1) if n % t == 0) for n in self.cells]
         text = "".join(f"# {line}".rstrip() + "\n" for line in self.comment) + "version = 1\n"
-        text += f"\n[grid]\ncells = {list(self.cells)}\ntiles = {tiles}\n"
+        text += f"\n[grid]\ncells = {list(self.cells)}\ntiles = {tiles_of(self.cells)}\n"
         text += f"\n[run]\nsteps = {self.steps}\nevery = {self.every}\n\n[scale]\n"
         text += "".join(f"{name} = {list(getattr(self, name))}\n" for name in ("e_to_b", "b_to_e", "e_force", "b_force"))
         text += f"\n[field]\ne = {list(self.e)}\nb = {list(self.b)}\n"
         text += field_rows("edges", self.edges) + field_rows("faces", self.faces)
         text += "".join(species.text() for species in self.species)
-        particles = sum(len(s.position) for s in self.species)
-        if particles > MOST_PARTICLES:
-            raise DeckError(f"{particles} particles; a deck has at most {MOST_PARTICLES}")
+        if self.particles > MOST_PARTICLES:
+            raise DeckError(f"{self.particles} particles; a deck has at most {MOST_PARTICLES}")
         if len(text) > MOST_BYTES:
-            raise DeckError(f"{len(text)} bytes with {particles} particles; a deck has at most {MOST_BYTES}, "
-                            "which some 30000 particles take: choose fewer")
+            raise DeckError(f"{len(text)} bytes with {self.particles} particles; a deck has at most {MOST_BYTES}, which some "
+                            "30000 listed particles take: choose fewer particles a cell or cells, or a start that lists none")
         return text
+
+
+def tiles_of(cells: Sequence[int]) -> list[int]:
+    """Into how many tiles each axis is cut: at most 4, of two cells or more."""
+    return [next(t for t in range(min(4, n // 2), 0, -1) if n % t == 0) for n in cells]
 
 
 def rows(name: str, values: Iterable[Iterable[int]]) -> str:
@@ -103,7 +201,7 @@ def field_rows(name: str, values: NDArray[np.int64] | None) -> str:
     return rows(name, np.stack([axis, i, j, k, values[axis, k, j, i]], axis=1))
 
 
-def charges(cells: Sequence[int], species: Iterable[Species]) -> NDArray[np.int64]:
+def charges(cells: Sequence[int], species: Iterable[Points | Lattice]) -> NDArray[np.int64]:
     """The charge of each node, of shape (nz, ny, nx), with hats: 12 * 4096^3 in all for a charge of 1."""
     total = np.zeros(tuple(reversed(cells)), np.int64)
     for kind in species:

@@ -3,115 +3,47 @@
     dump = Dump("two_stream.dump")          # a memory map: nothing is read before it is asked for
     dump.header.cells                       # (64, 2, 2)
     frame = dump[-1]                        # frames count as in a list; their steps are dump.steps
+    frame = dump.at(240)                    # or by their step
+    dump[20:40]                             # a part of the dump
     frame.e                                 # float64, of shape (3, nz, ny, nx)
     frame.species("electron")["velocity"]   # int32, of shape (particles, 3)
+    frame.table()                           # a pandas.DataFrame of the particles
+    dump.to_xarray("ex", "bz")              # an xarray.Dataset of components
 
 The bytes are those of docs/FORMATS.md. What a reader can see of a damaged dump without computing the run anew is seen:
-the header's numbers, each record's kind and step, the end record, and the length. The error names the byte.
+the header's numbers, each record's kind and step, the end record, and the length. The error names the byte. A dump that
+ends early, of a run that was cut or that still writes, gives its whole frames to Dump(path, partial=True).
 """
 
 from __future__ import annotations
 
+import copy
 import os
 from collections.abc import Iterator
-from dataclasses import dataclass
+from dataclasses import dataclass, replace
 from functools import cached_property
-from typing import Any, BinaryIO, NamedTuple
+from typing import TYPE_CHECKING, Any, BinaryIO
 
 import numpy as np
 from numpy.typing import NDArray
 
-SIDE = 4096                 # sub-cells a cell
-FAST = SIDE * 4096          # a velocity of one cell a step
-CHARGE = 12 * SIDE**3       # what a particle of charge 1 adds to the charges of the nodes, in all
+from pictools.header import CHARGE, FAST, SIDE, DumpError, Header, Multiplier, Species, limited, read_header
 
-MAGIC = b"PICDUMP1"
-WIDE = np.dtype([("high", ">i8"), ("low", ">u8")])
-PARTICLE = np.dtype([("position", ">u4", 3), ("velocity", ">i4", 3)])
-HEADER = np.dtype([("magic", "S8"), ("cells", ">u4", 3), ("steps", ">u4"), ("every", ">u4"),
-                   ("scales", [("n", ">i4"), ("k", ">u4")], 4), ("species", ">u4")])
-SPECIES = np.dtype([("name", "S32"), ("charge", ">i4"), ("mass", ">u4"),
-                    ("kick", [("n", ">i4"), ("k", ">u4")]), ("turn", [("n", ">i4"), ("k", ">u4")]), ("count", ">u4")])
+if TYPE_CHECKING:
+    import pandas
+    import xarray
+
+__all__ = ["CHARGE", "FAST", "SIDE", "Dump", "DumpError", "DumpStream", "End", "Frame", "Header", "Multiplier", "Species",
+           "exact", "rounded"]
+
 END_LENGTH = {0: 6, 1: 37, 2: 28}
 PHASES = {1: "half1", 3: "half2", 4: "electric"}
 BOUNDS = {1: ("value", 2**90), 2: ("force", 2**44)}
 FAULTS = {1: ("speed", 2**40), 2: ("turn", 2**24), 3: ("far", SIDE)}
 
 
-class DumpError(ValueError):
-    """The bytes are no dump that this reader knows. `place` is the byte where they leave the format."""
-
-    def __init__(self, place: int, reason: str):
-        super().__init__(f"byte {place}: {reason}")
-        self.place = place
-
-
-class Multiplier(NamedTuple):
-    """The factor n / 2^k."""
-
-    n: int
-    k: int
-
-    @property
-    def value(self) -> float:
-        return self.n / 2**self.k
-
-
-@dataclass(frozen=True)
-class Species:
-    """A species of the header. Its particles have the identities first, first + 1, .., first + count - 1."""
-
-    name: str
-    charge: int
-    mass: int
-    kick: Multiplier
-    turn: Multiplier
-    count: int
-    first: int
-
-
-@dataclass(frozen=True)
-class Header:
-    """What a dump says before its frames. `cells` is (nx, ny, nz)."""
-
-    cells: tuple[int, int, int]
-    steps: int
-    every: int
-    e_to_b: Multiplier
-    b_to_e: Multiplier
-    e_force: Multiplier
-    b_force: Multiplier
-    species: tuple[Species, ...]
-
-    @property
-    def particles(self) -> int:
-        return sum(s.count for s in self.species)
-
-    @property
-    def length(self) -> int:
-        """The header's bytes."""
-        return HEADER.itemsize + SPECIES.itemsize * len(self.species)
-
-    @cached_property
-    def frame_type(self) -> np.dtype:
-        """A frame's bytes. Fields have the shape (3, nz, ny, nx): axis, then z, y, x."""
-        field = (3, *reversed(self.cells))
-        return np.dtype([("tag", "S1"), ("step", ">u4"), ("e", WIDE, field), ("b", WIDE, field),
-                         ("particles", PARTICLE, (self.particles,)), ("energies", WIDE, (3,))])
-
-    def due(self, step: int) -> bool:
-        """Whether a frame of this step is due."""
-        return step <= self.steps and (step % self.every == 0 or step == self.steps)
-
-    def next_due(self, step: int) -> int:
-        """The step of the due frame after the one of `step`."""
-        return min(step + self.every - step % self.every, self.steps)
-
-    def named(self, name: str) -> Species:
-        for species in self.species:
-            if species.name == name:
-                return species
-        raise KeyError(f"no species {name!r}; there are {', '.join(s.name for s in self.species) or 'none'}")
+class CutError(DumpError):
+    """The bytes end where the dump doesn't."""
 
 
 @dataclass(frozen=True)
@@ -194,61 +126,19 @@ class Frame:
         kind = self.header.named(name)
         return self.particles[kind.first : kind.first + kind.count]
 
+    def table(self) -> pandas.DataFrame:
+        """The particles by identity, for pandas: `species` (its name), x, y, z in cells, and vx, vy, vz in cells a step, of half
+        a step before the frame. The numbers are exact."""
+        from pictools import tables
+        return tables.particles(self)
 
-def limited(place: int, what: str, number: int, low: int, high: int) -> int:
-    """A number that has to be from `low` to `high`."""
-    if not low <= number <= high:
-        raise DumpError(place, f"{what} is {number}, not from {low} to {high}")
-    return number
-
-
-def read_multiplier(place: int, what: str, pair: np.void) -> Multiplier:
-    n = limited(place, f"n of {what}", int(pair["n"]), 1 - 2**31, 2**31 - 1)
-    return Multiplier(n, limited(place + 4, f"k of {what}", int(pair["k"]), 0, 62))
+    def __repr__(self) -> str:
+        return f"<Frame of step {self.step}: {box(self.header)}>"
 
 
-def read_species(data: bytes, earlier: list[Species]) -> Species:
-    """The species that `data` spells, after the earlier ones."""
-    row, place = np.frombuffer(data, SPECIES)[0], HEADER.itemsize + SPECIES.itemsize * len(earlier)
-    name = data[:32].rstrip(b"\0")
-    if not name or not all(chr(c).isalnum() and c < 128 or c == 95 for c in name):
-        raise DumpError(place, f"{name!r} is no name of a species")
-    if name.decode() in (s.name for s in earlier):
-        raise DumpError(place, f"a second species is named {name.decode()}")
-    first = sum(s.count for s in earlier)
-    return Species(
-        name=name.decode(), first=first,
-        charge=limited(place + 32, "a charge", int(row["charge"]), -32768, 32767),
-        mass=limited(place + 36, "a mass", int(row["mass"]), 1, 65536),
-        kick=read_multiplier(place + 40, "kick", row["kick"]), turn=read_multiplier(place + 48, "turn", row["turn"]),
-        count=limited(place + 56, "a number of particles", int(row["count"]), 0, 2**20 - first))
-
-
-def read_header(file: BinaryIO) -> tuple[Header, bytes]:
-    """The header at the front of a file or a pipe, and its bytes."""
-    data = file.read(len(MAGIC))
-    if data[:7] == MAGIC[:7] and len(data) == 8 and data != MAGIC:
-        raise DumpError(7, f"a dump of the kind {data.decode('ascii', 'replace')}; this reader knows PICDUMP1 alone")
-    for place, (here, there) in enumerate(zip(data, MAGIC)):
-        if here != there:
-            raise DumpError(place, "no dump begins so: its first bytes are PICDUMP1")
-    data += file.read(HEADER.itemsize - len(data))
-    if len(data) < HEADER.itemsize:
-        raise DumpError(len(data), "the dump ends in its header")
-    row = np.frombuffer(data, HEADER)[0]
-    scales = [read_multiplier(28 + 8 * i, name, row["scales"][i])
-              for i, name in enumerate(("e_to_b", "b_to_e", "e_force", "b_force"))]
-    cells = tuple(limited(8 + 4 * a, "cells", int(n), 2, 64) for a, n in enumerate(row["cells"]))
-    steps = limited(20, "steps", int(row["steps"]), 0, 10**6)
-    every = limited(24, "every", int(row["every"]), 1, 10**6)
-    species: list[Species] = []
-    for _ in range(limited(60, "the number of species", int(row["species"]), 0, 16)):
-        part = file.read(SPECIES.itemsize)
-        data += part
-        if len(part) < SPECIES.itemsize:
-            raise DumpError(len(data), "the dump ends in its header")
-        species.append(read_species(part, species))
-    return Header(cells, steps, every, *scales, tuple(species)), data
+def box(header: Header) -> str:
+    """The size of a run in words."""
+    return f"{' x '.join(map(str, header.cells))} cells, {header.particles} particles"
 
 
 def listed(place: int, what: str, number: int, names: dict) -> Any:
@@ -264,7 +154,7 @@ def read_end(header: Header, data: bytes, place: int, last: int) -> End:
     if len(data) > 1 and (kind not in END_LENGTH or (kind == 0) != (last == header.steps)):
         raise DumpError(place + 1, f"an end record of the kind {kind} after the frame of step {last}")
     if len(data) < END_LENGTH[kind]:
-        raise DumpError(place + len(data), "the dump ends in its end record")
+        raise CutError(place + len(data), "the dump ends in its end record")
     if len(data) > END_LENGTH[kind]:
         raise DumpError(place + END_LENGTH[kind], "a byte after the end record")
     step = int.from_bytes(data[2:6], "big")
@@ -307,73 +197,127 @@ def test_step(header: Header, place: int, step: int, last: int | None) -> None:
 
 
 class DumpStream:
-    """A dump that comes through a pipe: `header` at once, the frames by iteration, and `end` after the last of them."""
+    """A dump that comes through a pipe: `header` at once, the frames by iteration, and `end` after the last of them.
 
-    def __init__(self, file: BinaryIO):
-        self.file = file
+    With `partial` a dump that ends early gives its whole frames; then `end` is None, and `cut` says what is missing.
+    """
+
+    def __init__(self, file: BinaryIO, partial: bool = False):
+        self.file, self.partial = file, partial
         self.header, self.header_bytes = read_header(file)
         self.end: End | None = None
         self.end_bytes = b""
+        self.cut = ""
 
     def __iter__(self) -> Iterator[Frame]:
         place, last, kind = self.header.length, None, self.header.frame_type
         while True:
             tag = self.file.read(1)
             if tag == b"E" and last is not None:
-                self.end_bytes = tag + self.file.read()
-                self.end = read_end(self.header, self.end_bytes, place, last)
+                self.take_end(tag, place, last)
                 return
             if tag not in (b"", b"F"):
                 raise DumpError(place, f"no record begins with {tag!r} here")
             data = tag + self.file.read(kind.itemsize - 1)
             if len(data) < kind.itemsize:
-                raise DumpError(place + len(data), "the dump ends in a frame" if tag else "the dump has no end record")
+                reason = "the dump ends in a frame" if tag else "the dump has no end record"
+                self.end_early(CutError(place + len(data), reason), last)
+                return
             frame = Frame(self.header, np.frombuffer(data, kind)[0])
             test_step(self.header, place, frame.step, last)
             place, last = place + kind.itemsize, frame.step
             yield frame
 
+    def take_end(self, tag: bytes, place: int, last: int) -> None:
+        """The end record, at `place`, after the frame of the step `last`."""
+        data = tag + self.file.read()
+        try:
+            self.end = read_end(self.header, data, place, last)
+            self.end_bytes = data
+        except CutError as error:
+            self.end_early(error, last)
+
+    def end_early(self, error: CutError, last: int | None) -> None:
+        """What is missing, where whole frames are enough."""
+        if not self.partial or last is None:
+            raise error
+        self.cut = str(error)
+
 
 class Dump:
-    """A dump in a file, as a list of its frames: `len(dump)`, `dump[i]`, and iteration."""
+    """A dump in a file, as a list of its frames: `len(dump)`, `dump[i]`, iteration, and `dump[i:j]`, a dump of these frames.
 
-    def __init__(self, path: str | os.PathLike):
+    With `partial` a dump that ends early gives its whole frames; then `end` is None, and `cut` says what is missing.
+    """
+
+    def __init__(self, path: str | os.PathLike, partial: bool = False):
+        self.path, self.cut = os.fspath(path), ""
+        self.end: End | None = None
         with open(path, "rb") as file:
             self.header, _ = read_header(file)
         data = np.memmap(path, np.uint8, "r")
         kind, start = self.header.frame_type, self.header.length
-        tags = data[start :: kind.itemsize]
         whole = (len(data) - start) // kind.itemsize
+        tags = data[start :: kind.itemsize]
         count = int(np.argmin(np.append(tags == ord("F"), False)))
-        if count > whole:
-            raise DumpError(len(data), "the dump ends in a frame")
-        self.records = data[start : start + count * kind.itemsize].view(kind)
+        self.records = data[start : start + min(count, whole) * kind.itemsize].view(kind)
         self.steps = self.records["step"].astype(np.int64)
         last = None
         for number, step in enumerate(self.steps):
             test_step(self.header, start + number * kind.itemsize, int(step), last)
             last = int(step)
-        place = start + count * kind.itemsize
+        try:
+            self.end = self.read_end(data, start + count * kind.itemsize, last)
+        except CutError as error:
+            if not partial or last is None:
+                raise
+            self.cut = str(error)
+
+    def read_end(self, data: NDArray[np.uint8], place: int, last: int | None) -> End:
+        """The end record at `place`, after the frame of the step `last`."""
+        if place > len(data):
+            raise CutError(len(data), "the dump ends in a frame")
         rest = data[place : place + 64].tobytes()
         if not rest:
-            raise DumpError(place, "the dump has no end record")
+            raise CutError(place, "the dump has no end record")
         if rest[:1] != b"E" or last is None:
             raise DumpError(place, f"no record begins with {rest[:1]!r} here")
-        self.end = read_end(self.header, rest, place, last)
+        return read_end(self.header, rest, place, last)
 
     @staticmethod
-    def stream(file: BinaryIO) -> DumpStream:
+    def stream(file: BinaryIO, partial: bool = False) -> DumpStream:
         """A dump from a pipe, as `Dump.stream(sys.stdin.buffer)`, frame by frame."""
-        return DumpStream(file)
+        return DumpStream(file, partial)
 
     def __len__(self) -> int:
         return len(self.records)
 
-    def __getitem__(self, index: int) -> Frame:
-        return Frame(self.header, self.records[index])
+    def __getitem__(self, index: int | slice) -> Any:
+        """A frame, or a dump of some frames: where every nth is taken, the header's `every` is n times as large."""
+        if not isinstance(index, slice):
+            return Frame(self.header, self.records[index])
+        if (index.step or 1) < 1:
+            raise ValueError(f"frames {index.start}:{index.stop}:{index.step} can't be taken; they go forward")
+        part = copy.copy(self)
+        part.__dict__.pop("energies", None)
+        part.records, part.steps = self.records[index], self.steps[index]
+        part.header = replace(self.header, every=self.header.every * (index.step or 1))
+        return part
 
     def __iter__(self) -> Iterator[Frame]:
         return (self[i] for i in range(len(self)))
+
+    def at(self, step: int) -> Frame:
+        """The frame of a step, which has to be there."""
+        place = int(np.searchsorted(self.steps, step))
+        if place == len(self) or self.steps[place] != step:
+            near = [str(s) for s in self.steps[max(place - 1, 0) : place + 1]]
+            raise ValueError(f"no frame of step {step}; near it are {' and '.join(near) or 'none'}")
+        return self[place]
+
+    def __repr__(self) -> str:
+        steps = f"{len(self)} frames of steps {self.steps[0]} to {self.steps[-1]}" if len(self) else "no frames"
+        return f"<Dump {self.path}: {box(self.header)}, {steps}, {self.end.text if self.end else 'without its end'}>"
 
     @cached_property
     def energies(self) -> NDArray[np.float64]:
@@ -382,4 +326,20 @@ class Dump:
 
     def field(self, name: str, axis: int) -> NDArray[np.float64]:
         """One component of a field in all frames, of shape (frames, nz, ny, nx); `name` is "e" or "b"."""
-        return rounded(self.records[name][:, axis])
+        values = np.empty((len(self), *reversed(self.header.cells)))
+        for number in range(len(self)):
+            values[number] = rounded(self.records[name][number, axis])
+        return values
+
+    def profile(self, name: str, axis: int, along: str = "x") -> NDArray[np.float64]:
+        """The means of a component over the planes across `along`, in all frames, of shape (frames, cells along it)."""
+        over = tuple(a for a, other in enumerate("zyx") if other != along)
+        values = np.empty((len(self), self.header.cells["xyz".index(along)]))
+        for number in range(len(self)):
+            values[number] = rounded(self.records[name][number, axis]).mean(axis=over)
+        return values
+
+    def to_xarray(self, *components: str) -> xarray.Dataset:
+        """Components over step, z, y and x, for xarray, as `dump.to_xarray("ex", "bz")`; all six where none is named."""
+        from pictools import tables
+        return tables.fields(self, components)

@@ -9,33 +9,35 @@ A time is a step and a length is a cell, so a frequency is in radians a step and
 
 from __future__ import annotations
 
-from dataclasses import MISSING, dataclass, field
+from dataclasses import dataclass, replace
 from functools import cached_property
-from math import ceil, floor, log, log2, pi, prod, sin, tan
-from statistics import NormalDist
-from typing import Any
+from math import floor, log2, pi, prod, tan
+from typing import NamedTuple
 
 import numpy as np
 from numpy.typing import NDArray
 
-from pictools import advice, theory
-from pictools.deck import Deck, DeckError, Species, charges, field_of, multiplier
+from pictools import advice, loading
+from pictools.deck import (MOST_DRIFT, MOST_FIELD, MOST_MASS, MOST_PARTICLES, MOST_SEED, MOST_SPREAD, Deck, Species, charges,
+                           field_of, multiplier)
 from pictools.dump import FAST, SIDE, Multiplier
+from pictools.limits import AXES, Limits, choice, command, refuse, test_cells, test_choices, test_companions, test_particles
+from pictools.wave import Wave
 
-AXES = "xyz"
-STILL = Multiplier(0, 0)
+SPEED = Limits(0, 1, why="a particle moves at most a cell a step")
 
-
-def radical_inverse(number: int, base: int) -> NDArray[np.float64]:
-    """The numbers 0, 1, .., number - 1 with their digits mirrored at the point, and half a last digit: evenly in 0..1."""
-    digits = ceil(log(number + 1) / log(base)) + 1
-    powers = base ** np.arange(digits)
-    return (np.arange(number)[:, None] // powers % base / (powers * base)).sum(axis=1) + 0.5 / base**digits
+# What does nothing without another choice.
+COMPANIONS = {"drift_axis": ("drift", "streams"), "beam_share": ("drift", "streams"), "gyration_axis": ("gyration", "a uniform B"),
+              "cross_drift": ("gyration", "a uniform B")}
 
 
-def choice(text: str, default: Any = MISSING) -> Any:
-    """A field of Plasma, with the words that say what it is, here and in the command's help."""
-    return field(default=default, metadata={"text": text})
+class Beam(NamedTuple):
+    """Electrons of one drift, in cells a step: their number, twins counted as one, and the sense of their thermal speeds."""
+
+    name: str
+    number: int
+    drift: float
+    sense: int
 
 
 @dataclass
@@ -47,70 +49,155 @@ class Plasma:
     So a run of 64 by 2 by 2 cells is a run in one dimension, exactly.
     """
 
-    plasma_frequency: float = choice("of the electrons, in radians a step")
-    light_speed: float = choice("in cells a step", 0.5)
+    plasma_frequency: float = choice("of the electrons, in radians a step",
+                                     limits=Limits(0, 2, above=True, below=True, why="from 2 on leapfrog is unstable"))
+    light_speed: float = choice("in cells a step", 0.5, Limits(0, 1, above=True, why="above 1 light grows in any box"))
     thermal_speed: float = choice("of the electrons, the standard deviation along each axis that they move along, in cells a "
-                                  "step", 0)
+                                  "step", 0, SPEED)
+    thermal_speed_x: float | None = choice("that along x, where it is another; one that is above 0 makes them move along a "
+                                           "short axis too", None, SPEED)
+    thermal_speed_y: float | None = choice("that along y", None, SPEED)
+    thermal_speed_z: float | None = choice("that along z", None, SPEED)
     drift: float = choice("half of the electrons drift with it and half against it, in cells a step; 0 for one kind of "
-                          "electrons", 0)
-    drift_axis: str = choice("x, y or z", "x")
-    gyration: float = choice("the angle by which a uniform B along z turns an electron in a step, in radians", 0)
-    particles_a_cell: int = choice("electrons a cell", 64)
-    mass_ratio: int = choice("the mass of an ion over that of an electron; 0 for ions that stand still, without noise", 0)
-    wave: int = choice("how often the wave at the start goes into the box, along x; 0 for none. It is a wave of the theory: one "
-                       "that grows where one grows, else one that goes along +x", 0)
-    wave_speed: float = choice("the greatest speed along x that this wave adds, in cells a step", 0)
-    cells: tuple[int, int, int] = choice("along x, y and z; an axis of 2 is short: nothing varies along it", (64, 2, 2))
-    steps: int = choice("of the run", 400)
-    every: int = choice("how many steps apart frames are", 4)
-    start: str = choice("quiet: places and speeds are spread evenly; random: they are drawn, which makes noise", "quiet")
-    seed: int = choice("of the generator of a random start", 1)
+                          "electrons", 0, SPEED)
+    drift_axis: str = choice("the axis of this drift: x, y or z", "x", tuple(AXES))
+    beam_share: float = choice("the share of the electrons that drift with it, in place of half. The others drift against it, "
+                               "so fast that there is no current; with 1 there are none, and the ions drift too", 0.5,
+                               Limits(0, 1, above=True))
+    gyration: float = choice("the angle by which a uniform B turns an electron in a step, in radians", 0,
+                             Limits(-3, 3, above=True, below=True, why="a step turns by less than half a turn"))
+    gyration_axis: str = choice("the axis of this B: x, y or z", "z", tuple(AXES))
+    cross_drift: float = choice("the speed by which a uniform E across this B makes all particles drift, in cells a step, along "
+                                "the axis that follows that of B: x, y, z, x", 0, SPEED)
+    particles_a_cell: int = choice("electrons a cell", 64, Limits(1, MOST_PARTICLES))
+    mass_ratio: int = choice("the mass of an ion over that of an electron; 0 for ions that stand still", 0,
+                             Limits(0, MOST_MASS))
+    wave: int = choice("how often the wave at the start goes into the box; 0 for none. It is a wave of the theory: one that "
+                       "grows where one grows, else one that goes along its axis", 0, Limits(0, 32))
+    wave_axis: str = choice("the axis that this wave goes along: x, y or z", "x", tuple(AXES))
+    wave_speed: float = choice("the greatest speed along its axis that this wave adds, in cells a step", 0, SPEED)
+    cells: tuple[int, int, int] = choice("along x, y and z, each 2 to 64; an axis of 2 is short: nothing varies along it",
+                                         (64, 2, 2))
+    steps: int = choice("of the run", 400, Limits(0, 10**6))
+    every: int = choice("how many steps apart frames are", 4, Limits(1, 10**6))
+    start: str = choice("quiet: places and speeds are spread evenly, and listed; lattice: places are, and the program draws "
+                        "speeds; random: both are drawn, by the program where no axis is short and no wave begins", "quiet",
+                        ("quiet", "lattice", "random"))
+    seed: int = choice("of what is drawn", 1, Limits(0, MOST_SEED))
 
     def __post_init__(self) -> None:
-        if self.plasma_frequency <= 0 or self.light_speed <= 0:
-            raise DeckError("a plasma frequency and a light speed above 0 are needed")
-        if not all(2 <= n <= 64 for n in self.cells) or not (0 <= self.steps <= 10**6 and 1 <= self.every <= 10**6):
-            raise DeckError("an axis has 2 to 64 cells, a run 0 to 1000000 steps, and a frame comes every 1 to 1000000")
-        if self.start not in ("quiet", "random") or self.drift_axis not in AXES:
-            raise DeckError("a start is quiet or random, and a drift's axis x, y or z")
-        if self.wave and not (self.cells[0] > 2 and 0 < self.wave <= self.cells[0] // 2):
-            raise DeckError(f"no wave {self.wave} goes along x into {self.cells[0]} cells; 1 to half of more than two cells do")
-        if abs(self.gyration) >= 3:
-            raise DeckError("a step turns an electron by less than 3 radians")
-        if self.wave and self.drift and self.gyration:
-            raise DeckError("the theory has no wave of streams in a magnetic field: choose no wave at the start")
-        if self.per_stream * self.streams * prod(self.copies) != self.electrons or self.per_stream == 0:
-            raise DeckError(f"{self.electrons} electrons can't be cut into {self.streams} streams with "
-                            f"{prod(self.copies)} twins each: choose another number a cell")
+        test_cells(self.cells)
+        test_choices(self)
+        test_companions(self, COMPANIONS)
+        kinds = 1 if self.mass_ratio == 0 and self.listed else 2
+        test_particles(self.particles_a_cell, kinds, prod(self.cells), self.listed)
+        if abs(self.field_b) > MOST_FIELD:
+            refuse("gyration", self.gyration,
+                   f"with this plasma frequency the deck's B would be {self.field_b:.1e}, at most 2^63; choose a greater "
+                   "--plasma-frequency or a lower gyration")
+        if self.start == "lattice":
+            loading.test_lattice(self)
+        if not self.listed:
+            self.test_drawn()
+        if self.start == "quiet" and self.seed != 1:
+            refuse("seed", self.seed, "a quiet start draws nothing; it wants --start random or lattice")
+        if self.wave or self.wave_speed:
+            self.test_wave()
+
+    def test_wave(self) -> None:
+        """A wave has a speed, room in the box and a theory."""
+        if not self.wave:
+            refuse("wave_speed", self.wave_speed, "it wants --wave, how often the wave goes into the box")
+        if not self.wave_speed:
+            refuse("wave", self.wave, "it wants --wave-speed above 0, the greatest speed that the wave adds")
+        if not (self.along > 2 and self.wave <= self.along // 2):
+            refuse("wave", self.wave, f"{self.along} cells along {self.wave_axis} hold "
+                   + (f"waves 1 to {self.along // 2}" if self.along > 2 else "none; an axis has more than two"))
+        if self.start == "lattice":
+            refuse("start", self.start, "it begins no wave; choose quiet or random, or no --wave")
+        if self.cross_drift:
+            refuse("wave", self.wave, "the theory has no wave in an E across B; choose no wave at the start")
+        if self.drift and self.gyration and (self.crosses or self.gyration_axis != self.wave_axis):
+            refuse("wave", self.wave, "the theory has no wave of streams in a magnetic field; choose no wave at the start")
+        if self.crosses and (len(self.beams) == 1 or self.beams[0].number != self.beams[1].number):
+            refuse("wave", self.wave,
+                   "the theory has no filament of unequal streams; choose no wave at the start, or --beam-share 0.5")
+
+    def test_drawn(self) -> None:
+        """What the program can draw."""
+        for axis, speed in zip(AXES, self.thermal_speeds):
+            if round(speed * FAST) > MOST_SPREAD:
+                refuse("thermal_speed", speed,
+                       f"along {axis} the program draws at most 1/16 = 0.0625 cells a step; choose a lower speed and "
+                       "--plasma-frequency (the Debye length stays), or --start quiet, which lists some 30000 particles")
+        for beam in self.beams:
+            for name, speed in ("drift", abs(beam.drift)), ("cross_drift", self.cross_drift):
+                if max(map(abs, self.velocity(beam.drift))) * FAST > MOST_DRIFT and speed:
+                    refuse(name, getattr(self, name),
+                           f"a stream drifts by {speed:g}; the program draws about a drift of at most 1/2 cell a step; choose a "
+                           "lower one, or --start quiet")
 
     @property
     def electrons(self) -> int:
         return self.particles_a_cell * prod(self.cells)
 
     @property
-    def streams(self) -> int:
-        return 2 if self.drift else 1
+    def along(self) -> int:
+        """Cells along the wave's axis."""
+        return self.cells[AXES.index(self.wave_axis)]
 
     @property
     def crosses(self) -> bool:
-        """Whether the electrons drift across x. Then the wave at the start is a filament."""
-        return bool(self.drift) and self.drift_axis != "x"
+        """Whether the electrons drift across the wave's axis. Then the wave at the start is a filament."""
+        return bool(self.drift) and self.drift_axis != self.wave_axis
+
+    @property
+    def listed(self) -> bool:
+        """Whether the deck lists its electrons: those of a quiet start, and those drawn along a short axis or for a wave."""
+        return self.start == "quiet" or self.start == "random" and (min(self.cells) == 2 or bool(self.wave))
 
     @property
     def moves(self) -> list[bool]:
-        """The axes that electrons move along: the long ones, that of the drift, and x and y where B turns them."""
-        return [self.cells[a] > 2 or bool(self.drift) and AXES[a] == self.drift_axis or bool(self.gyration) and a < 2
-                for a in range(3)]
+        """The axes that electrons move along: the long ones, that of the drift, those of a thermal speed of their own, and those
+        across B."""
+        own = self.thermal_speed_x, self.thermal_speed_y, self.thermal_speed_z
+        return [self.cells[a] > 2 or bool(self.drift) and AXES[a] == self.drift_axis or bool(own[a]) or
+                bool(self.gyration) and AXES[a] != self.gyration_axis for a in range(3)]
+
+    @property
+    def thermal_speeds(self) -> tuple[float, float, float]:
+        """Along x, y and z; 0 where electrons don't move along."""
+        own = self.thermal_speed_x, self.thermal_speed_y, self.thermal_speed_z
+        return tuple((self.thermal_speed if one is None else one) * moves for one, moves in zip(own, self.moves))
+
+    @property
+    def thermal_along(self) -> float:
+        """The thermal speed along the wave's axis."""
+        return self.thermal_speeds[AXES.index(self.wave_axis)]
 
     @property
     def copies(self) -> list[int]:
         """Twins along each axis: 2 along a short one that electrons move along."""
         return [2 if n == 2 and moves else 1 for n, moves in zip(self.cells, self.moves)]
 
+    def velocity(self, drift: float) -> list[float]:
+        """Along x, y and z that of particles that drift so along the streams' axis, in cells a step; E across B adds its own."""
+        across = (AXES.index(self.gyration_axis) + 1) % 3
+        return [drift * (axis == self.drift_axis) + self.cross_drift * (a == across) for a, axis in enumerate(AXES)]
+
     @property
-    def per_stream(self) -> int:
-        """Electrons of a stream, twins counted as one."""
-        return self.electrons // (self.streams * prod(self.copies))
+    def beams(self) -> list[Beam]:
+        """The electrons by their drifts: one kind, or two of which the second makes the current of the first 0."""
+        number = self.electrons // prod(self.copies)
+        if not self.drift:
+            return [Beam("electron", number, 0.0, 1)]
+        first = round(number * self.beam_share)
+        if first == number:
+            return [Beam("electron", number, self.drift, 1)]
+        if first == 0:
+            refuse("beam_share", self.beam_share, f"of {number} electrons it is none; choose more particles a cell")
+        against = -self.drift * first / (number - first)
+        return [Beam("forward", first, self.drift, 1), Beam("backward", number - first, against, -1)]
 
     @property
     def strength(self) -> float:
@@ -124,137 +211,62 @@ class Plasma:
 
     @property
     def kick(self) -> Multiplier:
-        return multiplier(-self.strength / self.e_force.value)
+        return multiplier(-self.strength / self.e_force.value, "kick")
 
     @property
     def turn(self) -> Multiplier:
         """kick / 16: with e_to_b = 1/2 and b_force = e_force, E and B act with one charge to mass ratio."""
-        return multiplier(self.kick.value / 16)
+        return multiplier(self.kick.value / 16, "turn")
 
     @property
     def field_b(self) -> int:
-        """The uniform B along z: a step turns an electron by 2 atan(turn b_force B / 2^20)."""
+        """The uniform B along its axis: a step turns an electron by 2 atan(turn b_force B / 2^20)."""
         return round(tan(self.gyration / 2) * 2**20 / abs(self.turn.value * self.e_force.value))
 
     @property
     def wave_number(self) -> float:
         """Of the wave at the start, in radians a cell."""
-        return 2 * pi * self.wave / self.cells[0]
+        return 2 * pi * self.wave / self.along
 
     @cached_property
     def wave_frequency(self) -> complex:
         """Of the wave at the start, by the theory of the scheme; it grows by the imaginary part."""
-        k, wp = self.wave_number, self.plasma_frequency
-        if self.crosses:
-            return 1j * theory.filamentation(k, wp, self.drift, self.light_speed)
-        if self.gyration:
-            return complex(theory.upper_hybrid(k, wp, self.gyration, self.light_speed))
-        try:
-            return (theory.two_stream(k, wp, self.drift, self.thermal_speed) if self.drift else
-                    theory.langmuir(k, wp, self.thermal_speed))
-        except ArithmeticError:
-            raise DeckError(f"wave {self.wave} of the box is too short: it is damped at once") from None
+        return self.turned.start_wave.frequency
 
-    @property
-    def hat(self) -> float:
-        """How much of the wave at the start a particle feels, with its shape of a hat."""
-        return (sin(self.wave_number / 2) / (self.wave_number / 2))**2
+    @cached_property
+    def turned(self) -> Plasma:
+        """The same plasma with its axes turned in a ring until the wave's is x: the scheme is the same along each."""
+        by = AXES.index(self.wave_axis)
+        if by == 0:
+            return self
+        own = self.thermal_speed_x, self.thermal_speed_y, self.thermal_speed_z
+        turning = ["wave_axis"] + ["drift_axis"] * bool(self.drift) + ["gyration_axis"] * bool(self.gyration)
+        names = {name: AXES[AXES.index(getattr(self, name)) - by] for name in turning}
+        speeds = {f"thermal_speed_{axis}": own[(a + by) % 3] for a, axis in enumerate(AXES)}
+        return replace(self, cells=tuple(self.cells[(a + by) % 3] for a in range(3)), **names, **speeds)
 
-    def shift(self, sense: int, speed: NDArray[np.float64] | float) -> tuple[NDArray, NDArray]:
-        """How far the wave at the start shifts particles of these speeds along x, and its frequency as they see it.
-
-        A place x, in cells, moves by the real part of shift exp(i (k x - w t)), by at most about `wave_speed` a step. Streams
-        that cross x move in opposite senses.
-        """
-        seen = self.wave_frequency - self.wave_number * speed
-        mean = self.wave_frequency - self.wave_number * (0 if self.crosses else self.drift)
-        return -self.wave_speed * abs(2 * np.sin(mean / 2)) / (2 * np.sin(seen / 2))**2 * (sense if self.crosses else 1), seen
-
-    def filament(self) -> complex:
-        """The electric field of the filament at the start, along the drift, as an acceleration in cells a step squared."""
-        w, k = self.wave_frequency, self.wave_number
-        return -self.shift(1, 0)[0] * (2 * np.sin(w / 2))**3 / (self.drift * 2 * sin(k / 2) * np.cos(w / 2) * self.hat)
-
-    def perturbation(self, sense: int, x: NDArray[np.float64], speed: NDArray[np.float64]) -> tuple[NDArray, NDArray]:
-        """What the wave at the start adds to the places x, in cells, and to the velocities of the half step before, of
-        particles with these speeds along x: shapes (particles,) and (particles, 3).
-
-        A shift u exp(-i w t) is one by u (1 - exp(i w)) in the step before. B makes of a speed along x one along y, and a
-        filament's E speeds up along the drift. Only in a wave that grows each particle goes by its own speed: others have
-        particles that go along with them, and would be shifted without a bound.
-        """
-        velocity = np.zeros((len(x), 3))
-        if not self.wave:
-            return np.zeros_like(x), velocity
-        stream = 0 if self.crosses else sense * self.drift
-        shift, seen = self.shift(sense, speed if self.wave_frequency.imag > 0 and not self.crosses else stream)
-        wave = np.exp(1j * self.wave_number * x)
-        swing = shift * (1 - np.exp(1j * seen)) * wave
-        plus, minus = (1 / np.sin((seen + g) / 2) for g in (self.gyration, -self.gyration))
-        velocity[:, 0] = swing.real
-        velocity[:, 1] = (swing * (plus - minus) / (1j * (plus + minus))).real
-        if self.crosses:
-            along = 1j * self.hat * self.filament() * np.exp(1j * seen / 2) / (2 * np.sin(seen / 2))
-            velocity[:, AXES.index(self.drift_axis)] += (along * wave).real
-        return (shift * wave).real, velocity
-
-    def spread(self) -> NDArray[np.float64]:
-        """For each electron of a stream 6 numbers in 0..1, evenly spread, of which none follows from another: 3 for its place
-        and 3 for its speed."""
-        number = self.per_stream
-        if self.start == "random":
-            return np.random.default_rng(self.seed).random((number, 6))
-        bases, middle = iter((2, 3, 5, 7, 11)), np.full(number, 0.5)
-        columns = [(np.arange(number) + 0.5) / number]
-        columns += [radical_inverse(number, next(bases)) if n > 2 else middle for n in self.cells[1:]]
-        columns += [radical_inverse(number, next(bases)) if moves else middle for moves in self.moves]
-        return np.stack(columns, axis=1)
-
-    def load(self, sense: int) -> tuple[NDArray[np.int64], NDArray[np.int64], NDArray[np.int64]]:
-        """Of the stream that drifts in this sense, 1 or -1: places without the wave, places with it, and velocities."""
-        table, cells = self.spread(), np.array(self.cells)
-        rest = np.where(cells > 2, np.floor(table[:, :3] * cells * SIDE), SIDE // 2).astype(np.int64)
-        velocity = np.zeros((len(table), 3))
-        if self.thermal_speed:
-            normal = np.vectorize(NormalDist().inv_cdf, otypes=[float])
-            velocity = sense * self.thermal_speed * normal(table[:, 3:]) * self.moves
-        velocity[:, AXES.index(self.drift_axis)] += sense * self.drift
-        shift, more = self.perturbation(sense, rest[:, 0] / SIDE, velocity[:, 0])
-        place = rest.copy()
-        place[:, 0] = np.rint(rest[:, 0] + shift * SIDE).astype(np.int64) % (self.cells[0] * SIDE)
-        whole = np.rint((velocity + more) * FAST).astype(np.int64)
-        if np.abs(whole).max() > FAST:
-            raise DeckError(f"a speed of {np.abs(whole).max() / FAST:.3f} cells a step; a particle moves at most one")
-        twins = np.array(list(np.ndindex(*self.copies))) * SIDE
-        rest, place = ((part[:, None] + twins).reshape(-1, 3) for part in (rest, place))
-        return rest, place, np.repeat(whole, len(twins), axis=0)
+    @cached_property
+    def start_wave(self) -> Wave:
+        """The wave at the start, along x."""
+        return Wave(self)
 
     @cached_property
     def species(self) -> list[Species]:
-        """The electrons, one species a stream, and the ions: where the electrons stand without the wave, or evenly spread."""
-        loads = [self.load(sense) for sense in (1, -1)[: self.streams]]
-        names = ["electron"] if self.streams == 1 else ["forward", "backward"]
-        electrons = [Species(name, -1, 1, self.kick, self.turn, place, velocity)
-                     for name, (_, place, velocity) in zip(names, loads)]
-        if self.mass_ratio:
-            kick, turn = (multiplier(-m.value / self.mass_ratio) for m in (self.kick, self.turn))
-            rest = np.concatenate([rest for rest, _, _ in loads])
-            return electrons + [Species("ion", 1, self.mass_ratio, kick, turn, rest, np.zeros_like(rest))]
-        rest = np.array(list(np.ndindex(*(n if n > 2 else 1 for n in self.cells)))) * SIDE + SIDE // 2
-        return electrons + [Species("ion", self.electrons // len(rest), 1, STILL, STILL, rest, np.zeros_like(rest))]
+        """The electrons, one species a stream, and the ions."""
+        return loading.species(self)
 
     def fields(self) -> tuple[NDArray[np.int64], NDArray[np.int64]]:
-        """What is added to the uniform E and B: the E of the charges, and the E and B of a filament at the start, whose B is
-        that of half a step before and half a cell further on."""
-        e = field_of(charges(self.cells, self.species))
+        """What is added to the uniform E and B, of shapes (3, nz, ny, nx): the E of the charges, and the E and B of a filament at
+        the start."""
+        e = np.zeros((3, *reversed(self.cells)), np.int64)
+        if self.listed:
+            e = field_of(charges(self.cells, self.species))
         b = np.zeros_like(e)
         if self.crosses and self.wave:
-            w, k, x = self.wave_frequency, self.wave_number, np.arange(self.cells[0])
-            electric = self.filament() * FAST / (2 * self.kick.value * self.e_force.value)
-            magnetic = electric * 2 * sin(k / 2) / (2 * np.sin(w / 2)) * np.exp(1j * (w + k) / 2)
-            axis = AXES.index(self.drift_axis)
-            e[axis] += np.rint((electric * np.exp(1j * k * x)).real).astype(np.int64)
-            b[3 - axis] += (1 if axis == 1 else -1) * np.rint((magnetic * np.exp(1j * k * x)).real).astype(np.int64)
+            by = AXES.index(self.wave_axis)
+            order = (0, *(1 + np.roll(range(3), -by)))
+            for field, added in zip((e, b), self.turned.start_wave.filament_fields()):
+                field += np.roll(added, by, axis=0).transpose(order)
         return e, b
 
     def report(self) -> list[str]:
@@ -262,8 +274,11 @@ class Plasma:
         return advice.report(self)
 
     def deck(self) -> Deck:
-        """The deck, whose first lines are the report."""
+        """The deck, whose first lines are the report and the command that makes it."""
         edges, faces = self.fields()
-        return Deck(tuple(self.cells), self.steps, self.every, Multiplier(1, 1), multiplier(self.light_speed**2),
-                    self.e_force, self.e_force, comment=self.report(), b=(0, 0, self.field_b), edges=edges, faces=faces,
+        b = tuple(self.field_b * (axis == self.gyration_axis) for axis in AXES)
+        # E / B is the drift, as E and B act with one charge to mass ratio, and 2^20 / 16 turns 2^24 into a cell a step.
+        e = tuple(np.roll([0, 0, round(self.cross_drift * self.field_b)], AXES.index(self.gyration_axis)).tolist())
+        return Deck(tuple(self.cells), self.steps, self.every, Multiplier(1, 1), multiplier(self.light_speed**2, "b_to_e = c^2"),
+                    self.e_force, self.e_force, comment=[*self.report(), command(self)], e=e, b=b, edges=edges, faces=faces,
                     species=self.species)

@@ -1,184 +1,63 @@
-"""Pictures of a dump: energies, phase space, fields, a field over time, a wave's growth, and the spectrum with its theory."""
+"""Pictures of a dump: energies, phase space, fields, a field over time, waves that grow or are damped beside their theory, the
+spectrum with its theory, and heating. Nothing of matplotlib's own state is changed: a figure is made without pyplot.
+
+    picture = plots.figure(dump, ["growth", "phase"], wave=2, steps=[120, 160])
+    plots.save(picture, "two_stream.png")
+"""
 
 from __future__ import annotations
 
+import os
 import re
 from collections.abc import Iterable, Sequence
-from math import ceil, pi
+from io import BytesIO
+from math import ceil
+from typing import Any
 
 import matplotlib
-
-matplotlib.use("Agg")
 import numpy as np
-from matplotlib import pyplot
+from cycler import cycler
 from matplotlib.axes import Axes
 from matplotlib.figure import Figure
-from numpy.typing import NDArray
 
-from pictools import measure, theory, units
-from pictools.dump import FAST, SIDE, Dump, Frame, Header
+from pictools import measure, panels, views
+from pictools.dump import Dump, rounded
+from pictools.views import View
 
-COLOURS = ("#0b5fa5", "#d1495b", "#3a7d44", "#8a5a9e", "#c98a1b", "#555555")
-MOST_DOTS = 20000
-
-pyplot.rcParams.update({
-    "figure.dpi": 100, "font.size": 9, "axes.titlesize": 10, "axes.spines.top": False, "axes.spines.right": False,
-    "axes.prop_cycle": pyplot.cycler(color=COLOURS), "legend.frameon": False, "image.origin": "lower"})
+STYLE = {"font.size": 9, "axes.titlesize": 10, "axes.spines.top": False, "axes.spines.right": False,
+         "axes.prop_cycle": cycler(color=panels.COLOURS), "legend.frameon": False}
+MOST_DOTS_ACROSS = 20000
 
 
-def unit(header: Header, name: str) -> tuple[float, str]:
-    """What a component's values are multiplied by for a picture, and in what unit they are then."""
-    kinds = units.electrons(header)
-    if name[0] == "e" and kinds:
-        return 2 * abs(kinds[0].kick.value) * header.e_force.value / FAST, "acceleration of an electron, cells / step²"
-    if name[0] == "b" and kinds and kinds[0].turn.n:
-        return abs(units.gyration(header, kinds[0], 1)), "angle that an electron turns in a step"
-    return 1.0, "the dump's unit"
+class Picture(Figure):
+    """A figure that a notebook shows as it is, without pyplot."""
+
+    def _repr_png_(self) -> bytes:
+        return bytes_of(self, "png")
 
 
-def title_of(name: str) -> str:
-    return f"${name[0].upper()}_{name[1]}$"
-
-
-def draw_energies(axes: Axes, dump: Dump) -> None:
-    """The three energies in one unit, from what they were at the start, over the steps."""
-    table = units.energies(dump)
-    total = table.sum(axis=1)
-    whole = total[0] or total.max() or 1
-    draw_line = axes.semilogy if total.any() else axes.plot
-    for values, name in zip(table.T, ("kinetic", "electric", "magnetic")):
-        if values.any():
-            draw_line(dump.steps, np.where(values > 0, values, np.nan) / whole, label=name)
-    draw_line(dump.steps, total / whole, color="#999999", linestyle="--", label="all")
-    axes.set(title="Energies, in one unit", xlabel="step", ylabel="share of all energy at the start")
-    axes.legend(loc="best")
-
-
-def draw_orbits(axes: Axes, dump: Dump) -> None:
-    """The ways of the first particles over x and y, through the box's sides."""
-    if not dump.header.particles:
-        raise ValueError("there are no particles")
-    box = np.array(dump.header.cells[:2])
-    first = dump.records["particles"]["position"][:, :12, :2] / SIDE
-    ways = first - box * np.cumsum(np.rint(np.diff(first, axis=0, prepend=first[:1]) / box), axis=0)
-    for number in range(ways.shape[1]):
-        axes.plot(*ways[:, number].T, marker=".", markersize=3, linewidth=0.6, label=f"particle {number}")
-    axes.set(title=f"Orbits, a dot every {dump.header.every} steps", xlabel="x, cells", ylabel="y, cells", aspect="equal")
-    axes.legend(loc="center left", bbox_to_anchor=(1, 0.5))
-
-
-def draw_phase(axes: Axes, frame: Frame, place: str = "x", speed: str = "x") -> None:
-    """Phase space of all that moves: each particle a dot, or of many a part of them."""
-    moving = [s for s in frame.header.species if s.count and (s.kick.n or s.turn.n)]
-    for species, colour in zip(moving, COLOURS * 3):
-        table = frame.species(species.name)[:: ceil(frame.header.particles / MOST_DOTS)]
-        axes.plot(table["position"][:, "xyz".index(place)] / SIDE, table["velocity"][:, "xyz".index(speed)] / FAST,
-                  "," if species.count > 500 else "o", markersize=3, color=colour)
-        axes.plot([], [], "o", markersize=4, color=colour, label=species.name)
-    if len(moving) > 1:
-        axes.legend(loc="upper right", frameon=True, framealpha=0.8, handletextpad=0.1)
-    axes.set(title=f"Phase space, step {frame.step}", xlabel=f"{place}, cells", ylabel=f"$v_{speed}$, cells a step",
-             xlim=(0, frame.header.cells["xyz".index(place)]))
-
-
-def draw_field(axes: Axes, frame: Frame, name: str) -> None:
-    """A slice of a component: over x and y at z = 0, or over x where the other axes are short."""
-    field, axis = measure.component(name)
-    factor, what = unit(frame.header, name)
-    values = (frame.e if field == "e" else frame.b)[axis][0] * factor
-    if frame.header.cells[1] == 2:
-        axes.plot(np.arange(frame.header.cells[0]) + 0.5 * (axis == 0), values[0])
-        axes.set(ylabel=what, xlim=(0, frame.header.cells[0]))
-    else:
-        image(axes, values, (0, frame.header.cells[0], 0, frame.header.cells[1]), what)
-        axes.set(ylabel="y, cells", aspect="equal")
-    axes.set(title=f"{title_of(name)} at z = 0, step {frame.step}", xlabel="x, cells")
-
-
-def image(axes: Axes, values: NDArray, extent: Sequence[float], what: str) -> None:
-    """Values of both signs in two colours, white at 0."""
-    top = np.abs(values).max() or 1
-    drawn = axes.imshow(values, extent=extent, aspect="auto", cmap="RdBu_r", vmin=-top, vmax=top, interpolation="nearest")
-    axes.figure.colorbar(drawn, ax=axes, label=what)
-
-
-def draw_history(axes: Axes, dump: Dump, name: str) -> None:
-    """A component along x, averaged over y and z, over the steps."""
-    if len(dump) < 2:
-        raise ValueError("one frame has no history")
-    factor, what = unit(dump.header, name)
-    values = dump.field(*measure.component(name)).mean(axis=(1, 2)) * factor
-    image(axes, values, (0, dump.header.cells[0], dump.steps[0], dump.steps[-1]), what)
-    axes.set(title=f"{title_of(name)} over time", xlabel="x, cells", ylabel="step")
-
-
-def draw_growth(axes: Axes, dump: Dump, name: str, wave: int) -> None:
-    """The height of a wave over the steps, and the line of its growth rate."""
-    factor, what = unit(dump.header, name)
-    height = 2 * np.abs(measure.waves(dump, name)[:, wave]) * factor
-    fit = measure.growth(dump.steps, height)
-    axes.semilogy(dump.steps, height, label=f"wave {wave} of {title_of(name)}")
-    line = np.array([fit.first, fit.last])
-    axes.semilogy(line, np.exp(fit.rate * line + fit.start), color=COLOURS[1], linewidth=3, alpha=0.6,
-                  label=f"exp({fit.rate:.5f} t), steps {fit.first} to {fit.last}")
-    axes.set(title="Growth", xlabel="step", ylabel=what)
-    axes.legend(loc="lower right")
-
-
-def curve(dump: Dump, name: str, numbers: NDArray) -> tuple[NDArray, NDArray, str]:
-    """The theory's frequencies at these wave numbers, where it has any, and its name: that of light, and for Ex that of
-    Langmuir waves or, in a uniform B, of cold upper hybrid ones."""
-    header, kinds = dump.header, units.electrons(dump.header)
-    wp, c = units.plasma_frequency(header), units.light_speed(header)
-    angle = abs(units.gyration(header, kinds[0], float(dump[0].b[2].mean()))) if kinds else 0
-    if name != "ex":
-        inner = numbers if wp else numbers[1:]
-        return inner, np.array([theory.light(k, c, wp) for k in inner]), "light on this grid"
-    thermal = units.thermal_speed(dump[0]) if wp else 0
-    inner = np.array([k for k in numbers[1:] if wp and len(kinds) == 1 and k * thermal < 0.5 * wp])
-    if angle:
-        return inner, np.array([theory.upper_hybrid(k, wp, angle, c) for k in inner]), "upper hybrid waves on this grid"
-    return inner, np.array([theory.langmuir(k, wp, thermal).real for k in inner]), "Langmuir waves on this grid"
-
-
-def draw_spectrum(axes: Axes, dump: Dump, name: str) -> None:
-    """The power of a component over wave number and frequency, and the theory's curve."""
-    numbers, frequencies, power = measure.spectrum(dump, name)
-    inner, theirs, label = curve(dump, name, numbers)
-    top = frequencies[-1]
-    if len(theirs):
-        axes.plot(inner, theirs, color=COLOURS[1], linewidth=1, linestyle="--", label=label)
-        axes.legend(loc="upper left", facecolor="white", framealpha=0.8, frameon=True)
-        top = min(top, 1.6 * max(theirs))
-    floor = max(np.percentile(power, 25), power.max() * 1e-10)
-    shown = np.log10(np.maximum(power, floor) / power.max()) if power.any() else power
-    width, height = numbers[1] / 2, frequencies[1] / 2
-    drawn = axes.imshow(shown, extent=(-width, numbers[-1] + width, -height, frequencies[-1] + height), aspect="auto",
-                        cmap="Blues", interpolation="nearest")
-    axes.figure.colorbar(drawn, ax=axes, label="power, as a power of ten")
-    axes.set(title=f"Spectrum of {title_of(name)}", xlabel="wave number, radians a cell", ylabel="frequency, radians a step",
-             xlim=(0, pi), ylim=(0, top))
-
-
-def draw(axes: Axes, dump: Dump, panel: str, name: str, frame: int, wave: int, speed: str) -> None:
-    """One panel, by its name."""
+def draw(axes: Axes, runs: dict[str, Dump], name: str, part: tuple[str, str, int, float], view: View) -> list[str]:
+    """One panel: `part` is its name, the run's, the frame, and where a field's colours end. The lines that it has to say."""
+    panel, run, frame, top = part
+    dump = runs[run]
     match panel:
         case "energies":
-            draw_energies(axes, dump)
+            return panels.draw_energies(axes, dump, view)
+        case "heating":
+            return panels.draw_heating(axes, runs, view)
         case "orbits":
-            draw_orbits(axes, dump)
+            return panels.draw_orbits(axes, dump, view)
         case "phase":
-            draw_phase(axes, dump[frame], "x", speed)
+            return panels.draw_phase(axes, dump[frame], dump, view)
         case "field":
-            draw_field(axes, dump[frame], name)
+            return panels.draw_field(axes, dump[frame], dump, view, name, top)
         case "history":
-            draw_history(axes, dump, name)
-        case "growth":
-            draw_growth(axes, dump, name, wave)
+            return panels.draw_history(axes, dump, view, name)
+        case "growth" | "damping":
+            return panels.draw_rates(axes, dump, view, name, panel == "growth")
         case "spectrum":
-            draw_spectrum(axes, dump, name)
-        case _:
-            raise ValueError(f"there is no panel {panel!r}")
+            return panels.draw_spectrum(axes, dump, view, name)
+    raise ValueError(f"there is no panel {panel!r}; there are {', '.join(views.PANELS)}")
 
 
 def strongest(dump: Dump) -> str:
@@ -193,32 +72,74 @@ def strongest(dump: Dump) -> str:
 
 def usual(dump: Dump, name: str) -> list[str]:
     """The panels of a picture that nobody chose: those that have something to show."""
-    varies = bool(np.ptp(dump.field(*measure.component(name))))
-    shown = {"energies": True, "phase": dump.header.particles > 0, "field": varies, "spectrum": varies and len(dump) > 8}
+    field, axis = measure.component(name)
+    varies = any(np.ptp(rounded(frame.record[field][axis])) for frame in dump)
+    moves = any(s.count and (s.kick.n or s.turn.n) for s in dump.header.species)
+    shown = {"energies": True, "phase": moves, "field": varies, "spectrum": varies and len(dump) > 8}
     return [panel for panel, something in shown.items() if something]
 
 
 def nearest(dump: Dump, step: int) -> int:
-    """The frame whose step is nearest to this one."""
+    """The frame whose step is nearest to this one, which has to be within the run."""
+    if not dump.steps[0] <= step <= dump.steps[-1]:
+        raise ValueError(f"--steps {step}: the dump has the steps {dump.steps[0]} to {dump.steps[-1]}, a frame every "
+                         f"{dump.header.every}")
     return int(np.argmin(np.abs(dump.steps - step)))
 
 
-def figure(dump: Dump, panels: Iterable[str] = (), name: str | None = None, steps: Sequence[int] = (), wave: int = 1,
-           speed: str = "x", title: str = "") -> Figure:
-    """A picture of these panels, or of the usual ones. Those of one frame (phase, field) are drawn once for each of `steps`."""
-    name, frames = name or strongest(dump), [nearest(dump, step) for step in steps] or [-1]
-    parts = [(panel, frame) for panel in panels or usual(dump, name)
-             for frame in (frames if panel in ("phase", "field") else [0])]
+def parts_of(run: str, dump: Dump, chosen: Sequence[str], view: View) -> list[tuple[str, str, int, float]]:
+    """The panels of one run: those of one frame (phase, field) once for each of the view's steps, fields with one end of the
+    colours for all."""
+    name, frames = view.component or strongest(dump), [nearest(dump, step) for step in view.steps] or [len(dump) - 1]
+    found = []
+    for panel in chosen or usual(dump, name):
+        top = 1.0
+        if panel == "field":
+            scale = views.scale_of(dump, view.units)
+            slices = [panels.slice_of(dump[frame], view, name)[0] for frame in frames]
+            top = panels.top_of(np.stack([views.strength(dump.header, name, scale, values)[0] for values in slices]))
+        found += [(panel, run, frame, top) for frame in (frames if panel in ("phase", "field") else [0])]
+    return found
+
+
+def drawn(runs: dict[str, Dump], chosen: Iterable[str], view: View) -> tuple[Figure, list[str]]:
+    """A picture of one run or of several, by their names, and the lines that its panels have to say."""
+    chosen, lines = list(chosen), []
+    parts = [("heating", next(iter(runs)), 0, 1.0)] if "heating" in chosen else []
+    for run, dump in runs.items():
+        own = [panel for panel in chosen if panel != "heating"]
+        parts += parts_of(run, dump, own, view) if own or not chosen else []
     across = min(len(parts), 2)
     down = ceil(len(parts) / across)
-    shape = (4.6 * across, 3.4 * down) if len(parts) > 1 else (6.4, 4.2)
-    whole, places = pyplot.subplots(down, across, figsize=shape, squeeze=False, layout="constrained")
-    for axes, (panel, frame) in zip(places.flat, parts):
-        draw(axes, dump, panel, name, frame, wave, speed)
-    for axes in places.flat[len(parts) :]:
-        axes.axis("off")
-    whole.suptitle(title)
-    return whole
+    size = view.size or ((4.6 * across, 3.4 * down) if len(parts) > 1 else (6.4, 4.2))
+    if max(size) * view.dpi > MOST_DOTS_ACROSS or view.dpi < 1:
+        raise ValueError(f"--dpi {view.dpi} with {size[0]:g} by {size[1]:g} inches: a picture has 1 to {MOST_DOTS_ACROSS} dots "
+                         "a side")
+    with matplotlib.rc_context(STYLE):
+        picture = Picture(figsize=size, dpi=view.dpi, layout="constrained")
+        places = picture.subplots(down, across, squeeze=False)
+        for number, (axes, part) in enumerate(zip(places.flat, parts)):
+            said = draw(axes, runs, view.component or strongest(runs[part[1]]), part, view)
+            if len(runs) > 1 and part[0] != "heating":
+                axes.set_title(f"{part[1]}: {axes.get_title()}")
+                said = [f"{part[1]}: {line}" for line in said]
+            lines += said
+            if view.letters:
+                axes.text(-0.03, 1.03, f"({chr(ord('a') + number)})", transform=axes.transAxes, ha="right", va="bottom",
+                          fontweight="bold")
+        for axes in places.flat[len(parts) :]:
+            axes.axis("off")
+        picture.suptitle(view.title)
+    return picture, lines
+
+
+def figure(dump: Dump | dict[str, Dump], panels: Iterable[str] = (), **options: Any) -> Figure:
+    """A picture of these panels, or of the usual ones, of one dump or of several by their names. The options are View's fields,
+    as in `wave=2`, and `name` is another word for `component`; those panels that are of one frame (phase, field) are drawn once
+    for each of `steps`."""
+    if "name" in options:
+        options["component"] = options.pop("name")
+    return drawn(dump if isinstance(dump, dict) else {"": dump}, panels, views.view_of(**options))[0]
 
 
 def report_figure(text: str) -> Figure:
@@ -226,17 +147,38 @@ def report_figure(text: str) -> Figure:
     lines = [re.fullmatch(r"frame (\d+) kinetic (\d+) electric (\d+) magnetic (\d+)", line) for line in text.splitlines()]
     table = np.array([[float(number) for number in line.groups()] for line in lines if line])
     if not len(table):
-        raise ValueError("the report has no line of a frame")
-    whole, places = pyplot.subplots(3, 1, figsize=(6.4, 6), sharex=True, layout="constrained")
-    for axes, values, name, colour in zip(places, table.T[1:], ("kinetic", "electric", "magnetic"), COLOURS):
-        axes.plot(table[:, 0], values, color=colour)
-        axes.set(ylabel=name, **({} if values.any() else {"ylim": (0, 1)}))
-    places[0].set(title="Energies of the report, each in its own unit")
-    places[2].set(xlabel="step")
+        raise ValueError("the report has no line of a frame, as `frame 0 kinetic 0 electric 0 magnetic 0`")
+    with matplotlib.rc_context(STYLE):
+        whole = Picture(figsize=(6.4, 6), dpi=100, layout="constrained")
+        places = whole.subplots(3, 1, sharex=True)
+        for axes, values, name, colour in zip(places, table.T[1:], ("kinetic", "electric", "magnetic"), panels.COLOURS):
+            axes.plot(table[:, 0], values, color=colour)
+            axes.set(ylabel=name, **({} if values.any() else {"ylim": (0, 1)}))
+        places[0].set(title="Energies of the report, each in its own unit")
+        places[2].set(xlabel="step")
     return whole
 
 
+def bytes_of(picture: Figure, kind: str) -> bytes:
+    """The bytes of a picture of a kind, such as "png"."""
+    whole = BytesIO()
+    with matplotlib.rc_context(STYLE):
+        picture.savefig(whole, format=kind, dpi=picture.dpi, **({"pil_kwargs": {"optimize": True}} if kind == "png" else {}))
+    return whole.getvalue()
+
+
 def save(picture: Figure, path: str) -> None:
-    """Writes a picture; what kind it is, the path's ending says."""
-    picture.savefig(path, **({"pil_kwargs": {"optimize": True}} if path.endswith(".png") else {}))
-    pyplot.close(picture)
+    """Writes a picture; what kind it is, the path's ending says. A picture that can't be made, or written whole, leaves no
+    file."""
+    kind = os.path.splitext(path)[1][1:]
+    known = sorted(picture.canvas.get_supported_filetypes())
+    if kind not in known:
+        raise ValueError(f"--out: a picture's name ends in one of .{', .'.join(known)}, not in {'.' + kind if kind else 'none'}")
+    data = bytes_of(picture, kind)
+    try:
+        with open(path, "wb") as file:
+            file.write(data)
+    except OSError:
+        if os.path.isfile(path):
+            os.remove(path)
+        raise

@@ -13,13 +13,11 @@ the one of the textbooks.
 from __future__ import annotations
 
 from collections.abc import Callable, Sequence
-from math import asin, asinh, cos, pi, sin, sqrt
+from math import asin, asinh, cos, pi, sin, sinh, sqrt, tan
 from typing import NamedTuple
 
 import numpy as np
 from numpy.typing import NDArray
-
-ALIASES = np.arange(-12, 13)
 
 
 class Stream(NamedTuple):
@@ -51,6 +49,13 @@ def light(k: float, c: float, wp: float = 0) -> float:
     return 2 * asin(sqrt(c**2 * sin(k / 2)**2 + wp**2 * (1 + 2 * cos(k / 2)**2) / 12))
 
 
+def slowest_light(c: float) -> float:
+    """How fast the shortest light along an axis goes in vacuum, two cells long, in cells a step: 2 asin(c) / pi, less than c.
+    A particle that is faster than light of some wave makes it, as a boat does waves (numerical Cherenkov radiation: B. B.
+    Godfrey, J. Comput. Phys. 15 (1974) 504)."""
+    return 2 * asin(min(c, 1)) / pi
+
+
 def cold_langmuir(k: float, wp: float) -> float:
     """The frequency of a Langmuir wave in a cold plasma with many particles a cell.
 
@@ -70,18 +75,23 @@ def lag_sum(w: complex, k: float, stream: Stream) -> complex:
     return -np.sum(m * np.exp(1j * m * (w - k * stream.drift) - (m * k * stream.thermal)**2 / 2))
 
 
+def aliases(k: float, most: int = 12) -> list[tuple[float, float]]:
+    """The aliases k_p = k + 2 pi p of a wave, and how much of what each does to the particles comes back as E along k:
+    (-1)^p k_p S(k_p)^2 / (2 sin(k/2)), with the hat's S(k) = (sin(k/2) / (k/2))^2. All add up to (1 + cos(k/2)^2) / 2."""
+    found = []
+    for p in range(-most, most + 1):
+        kp = k + 2 * pi * p
+        found.append((kp, (-1.0)**p * kp * (sin(kp / 2) / (kp / 2))**4 / (2 * sin(k / 2))))
+    return found
+
+
 def electrostatic(w: complex, k: float, wp: float, streams: Sequence[Stream]) -> complex:
     """The dielectric function of waves with E along x; it is 0 for a wave that can be.
 
-    1 - wp^2 sum over p of (-1)^p k_p S(k_p)^2 / (2 sin(k/2)) <1 / (4 sin((w - k_p v) / 2)^2)>, k_p = k + 2 pi p, with the
-    hat's S(k) = (sin(k/2) / (k/2))^2. The textbook's is 1 - wp^2 <1 / (w - k v)^2>.
+    1 - wp^2 sum over the aliases k_p, weighed as `aliases` has it, of <1 / (4 sin((w - k_p v) / 2)^2)>. The textbook's is
+    1 - wp^2 <1 / (w - k v)^2>.
     """
-    total = 0j
-    for p in ALIASES:
-        kp = k + 2 * pi * p
-        weight = (-1.0)**p * kp * (sin(kp / 2) / (kp / 2))**4 / (2 * sin(k / 2))
-        total += weight * sum(s.share * lag_sum(w, kp, s) for s in streams)
-    return 1 - wp**2 * total
+    return 1 - wp**2 * sum(weight * s.share * lag_sum(w, kp, s) for kp, weight in aliases(k) for s in streams)
 
 
 def langmuir(k: float, wp: float, thermal: float) -> complex:
@@ -141,8 +151,61 @@ def filamentation(k: float, wp: float, drift: float, c: float) -> float:
     return 2 * asinh(sqrt(sqrt(half**2 + drive) - half) / 2)
 
 
-def upper_hybrid(k: float, wp: float, gyration: float, c: float) -> float:
-    """The frequency of the slow extraordinary wave, along x and across a uniform B: the upper hybrid one for short waves.
+def weibel(k: float, wp: float, across: float, along: float, c: float) -> float:
+    """The growth rate of Weibel's waves of electrons with the thermal speed `across` k and `along` it; 0 where none grows.
+
+    That of `filamentation` with across^2 in the place of drift^2, and with the mean of 1 / (4 sin((w - k v) / 2)^2) over the
+    speeds along k (`lag_sum`, for each alias) in that of -1 / g^2. The textbook's is w^2 = c^2 k^2 + wp^2 (1 - (across /
+    along)^2 (1 + z Z(z))), z = w / (sqrt(2) k along), Z the plasma dispersion function; waves of c^2 k^2 < wp^2
+    ((across / along)^2 - 1) grow. That the spread along k bends the way that E and B share their work is left out: it is
+    of the size (k along)^2.
+    """
+    s, square = 2 * sin(k / 2), cos(k / 2)**2
+
+    def excess(rate: float) -> float:
+        """It is below 0 for rates that are too low, and 0 at the wave's."""
+        g = 2 * sinh(rate / 2)
+        mean = sum(weight * lag_sum(1j * rate, kp, Stream(1, 0, along)).real for kp, weight in aliases(k))
+        return g**2 + (c * s)**2 + wp**2 * (1 + 2 * square) / 3 + (wp * across * s)**2 * (1 + g**2 / 4) * mean
+
+    return bisected(excess, 1e-7, 2 * wp) if excess(1e-7) < 0 else 0.0
+
+
+def bisected(function: Callable[[float], float], low: float, high: float) -> float:
+    """The zero of a function that is below 0 at `low` and above at `high`."""
+    for _ in range(60):
+        middle = (low + high) / 2
+        low, high = (middle, high) if function(middle) < 0 else (low, middle)
+    return (low + high) / 2
+
+
+def bernstein(k: float, wp: float, gyration: float, thermal: float, branch: int) -> float:
+    """The frequency of the electrostatic wave of warm electrons across a uniform B that lies between `branch` and
+    `branch` + 1 times the gyration: Bernstein's, of which one goes over into the upper hybrid wave for long waves.
+
+    1 + wp^2 sum over aliases k_p, weighed as in `electrostatic`, of 1 / (2 x tan(g/2)) sum over n > 0 of n exp(-x) I_n(x)
+    (cot((w + n g) / 2) - cot((w - n g) / 2)) / 2, x = (k_p thermal)^2 / (4 sin(g/2)^2). The textbook's is 1 = (wp / k
+    thermal)^2 sum over n of exp(-x) I_n(x) n g / (w - n g), x = (k thermal / g)^2. It is that of waves short enough that
+    light, c k, is well above them.
+    """
+    angles = 2 * pi / 4096 * np.arange(4096)
+    n, terms = np.arange(1, 1024), []
+    for kp, weight in aliases(k, 3):
+        x = (kp * thermal / (2 * sin(gyration / 2)))**2
+        shares = np.fft.fft(np.exp(-x * (1 - np.cos(angles)))).real[1:1024] / 4096
+        terms.append(weight * n * shares / (4 * x * tan(gyration / 2)))
+    heights = sum(terms)
+
+    def dielectric(w: float) -> float:
+        """It rises from minus to plus infinity between two multiples of the gyration."""
+        return 1 + wp**2 * np.sum(heights * (1 / np.tan((w + n * gyration) / 2) - 1 / np.tan((w - n * gyration) / 2)))
+
+    return bisected(dielectric, branch * gyration * (1 + 1e-9), (branch + 1) * gyration * (1 - 1e-9))
+
+
+def upper_hybrid(k: float, wp: float, gyration: float, c: float, fast: bool = False) -> float:
+    """The frequency of the slow extraordinary wave, along x and across a uniform B: the upper hybrid one for short waves; or
+    of the fast one, which is light for short waves.
 
     `gyration` is the angle that B turns a particle by in a step. The electrons are cold. The textbook's is the lesser root
     of c^2 k^2 / w^2 = 1 - wp^2 / w^2 (w^2 - wp^2) / (w^2 - u^2), u^2 = wp^2 + gyration^2; u where c k is well above it.
@@ -163,4 +226,5 @@ def upper_hybrid(k: float, wp: float, gyration: float, c: float) -> float:
 
     p, light_square = wp**2 * (1 + a**2) / 2, (c * s)**2
     half_sum = (2 * p + gyration**2 + light_square) / 2
-    return root(determinant, sqrt(half_sum - sqrt(half_sum**2 - p**2 - light_square * (p + gyration**2)))).real
+    apart = sqrt(half_sum**2 - p**2 - light_square * (p + gyration**2))
+    return root(determinant, sqrt(half_sum + (apart if fast else -apart))).real

@@ -32,13 +32,14 @@ def electrons(header: Header) -> list[Species]:
     return [s for s in header.species if s.charge < 0 and s.kick.n and s.count]
 
 
-def thermal_speed(frame: Frame) -> float:
-    """The standard deviation of the electrons' speeds along x, about the mean of their species in their cell of x: so the
-    speeds of a drift and of a wave don't count."""
+def thermal_speed(frame: Frame, axis: str = "x", along: str = "x") -> float:
+    """The standard deviation of the electrons' speeds along an axis, in cells a step, about the mean of their species in their
+    cell of `along`: so the speeds of a drift and of a wave along it don't count."""
     squares = degrees = 0.0
     for species in electrons(frame.header):
         table = frame.species(species.name)
-        cell, speed = table["position"][:, 0] // SIDE, table["velocity"][:, 0].astype(np.float64)
+        cell = table["position"][:, "xyz".index(along)] // SIDE
+        speed = table["velocity"][:, "xyz".index(axis)].astype(np.float64)
         count = np.maximum(np.bincount(cell), 1)
         squares += np.sum((speed - (np.bincount(cell, speed) / count)[cell])**2)
         degrees += len(speed) - np.count_nonzero(np.bincount(cell))

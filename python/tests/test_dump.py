@@ -1,15 +1,19 @@
 """The reader against exact whole numbers, on random dumps and on cut and damaged ones."""
 
+import importlib.util
 import io
 import random
 import struct
 import tempfile
+import tracemalloc
 import unittest
 from pathlib import Path
+from unittest import mock
 
 import numpy as np
 
-from pictools.dump import WIDE, Dump, DumpError, exact, rounded
+from pictools.dump import Dump, DumpError, exact, rounded
+from pictools.header import WIDE, frame_length
 
 CELLS, COUNTS = (3, 2, 4), (2, 1)
 
@@ -108,6 +112,113 @@ class Reading(unittest.TestCase):
         for length in [*range(0, len(data), 97), *range(len(data) - 8, len(data))]:
             self.assertEqual(self.fault(data[:length]).place, length)
 
+    def test_whole_frames_of_every_cut(self):
+        data, frames = random_dump(random.Random(2), 5, 2, DONE)
+        first = 184 + 53 + 96 * 24 + 24 * 3
+        for length in [*range(first, len(data), 97), *range(len(data) - 8, len(data))]:
+            self.path.write_bytes(data[:length])
+            dump, stream = Dump(self.path, partial=True), Dump.stream(io.BytesIO(data[:length]), partial=True)
+            count = min((length - 184) // (first - 184), 4)
+            for one, frame, numbers in zip(dump, stream, frames[:count], strict=True):
+                self.compare(one, numbers)
+                self.compare(frame, numbers)
+            self.assertEqual((dump.cut, dump.end), (stream.cut, stream.end))
+            self.assertEqual(dump.cut[: 6 + len(str(length))], f"byte {length}:"[: 6 + len(str(length))])
+            self.assertIsNone(dump.end)
+        for length in 0, 63, 100, 184, first - 1:
+            self.path.write_bytes(data[:length])
+            with self.assertRaises(DumpError):
+                Dump(self.path, partial=True)
+            with self.assertRaises(DumpError):
+                list(Dump.stream(io.BytesIO(data[:length]), partial=True))
+        self.path.write_bytes(data)
+        whole, stream = Dump(self.path, partial=True), Dump.stream(io.BytesIO(data), partial=True)
+        self.assertEqual((whole.cut, whole.end.text, len(list(stream)), stream.cut, stream.end), ("", "done 5", 4, "", whole.end))
+
+    def test_damage_is_no_cut(self):
+        data, _ = random_dump(random.Random(3), 5, 2, DONE)
+        size = 53 + 96 * 24 + 24 * 3
+        for place, new in ((8, bytes(4)), (184, b"G"), (185 + size, b"\0\0\0\3"), (184 + 4 * size + 1, b"\1"),
+                           (184 + 3 * size, b"X")):
+            spoilt = data[:place] + new + data[place + len(new) :]
+            self.path.write_bytes(spoilt)
+            with self.assertRaises(DumpError):
+                Dump(self.path, partial=True)
+            with self.assertRaises(DumpError):
+                list(Dump.stream(io.BytesIO(spoilt), partial=True))
+
+    def test_parts_and_steps(self):
+        data, frames = random_dump(random.Random(6), 9, 2, b"E\0" + struct.pack(">I", 9))
+        dump = self.read(data)
+        self.assertEqual(dump.steps.tolist(), [0, 2, 4, 6, 8, 9])
+        self.compare(dump.at(6), frames[3])
+        self.compare(dump[-2], frames[4])
+        for one, other in ((dump[1:4], [1, 2, 3]), (dump[::2], [0, 2, 4]), (dump[-2:], [4, 5]), (dump[4:2], [])):
+            self.assertEqual([frame.step for frame in one], [frames[i][0] for i in other])
+            self.assertEqual((one.steps.tolist(), one.energies.shape[0]), ([frames[i][0] for i in other], len(other)))
+        self.assertEqual(dump[1:4].field("b", 1).tolist(), dump.field("b", 1)[1:4].tolist())
+        self.assertEqual((dump[::2].header.every, dump[1:].header.every), (4, 2))
+        for step, near in (5, "4 and 6"), (-1, "0"), (10, "9"):
+            with self.assertRaisesRegex(ValueError, f"no frame of step {step}; near it are {near}$"):
+                dump.at(step)
+        with self.assertRaisesRegex(ValueError, "forward"):
+            dump[::-1]
+        with self.assertRaises(IndexError):
+            dump[6]
+
+    def test_repr(self):
+        data, _ = random_dump(random.Random(6), 5, 2, DONE)
+        line = f"<Dump {self.path}: 3 x 2 x 4 cells, 3 particles, 4 frames of steps 0 to 5, done 5>"
+        self.assertEqual(repr(self.read(data)), line)
+        self.assertEqual(repr(self.read(data)[1]), "<Frame of step 2: 3 x 2 x 4 cells, 3 particles>")
+        self.path.write_bytes(data[:-1])
+        self.assertIn("without its end", repr(Dump(self.path, partial=True)))
+
+    def test_numbers_of_the_header(self):
+        header = self.read(random_dump(random.Random(6), 9, 2, b"E\0" + struct.pack(">I", 9))[0]).header
+        self.assertEqual((header.frames, frame_length(header.cells, header.particles)), (6, header.frame_type.itemsize))
+
+    def test_field_takes_the_memory_of_its_result_and_a_frame(self):
+        dump = self.read(random_dump(random.Random(7), 400, 1, b"E\0" + struct.pack(">I", 400))[0])
+        dump.field("e", 0)
+        for call, result in (lambda: dump.field("e", 1), 401 * 24 * 8), (lambda: dump.profile("b", 2, "z"), 401 * 4 * 8):
+            tracemalloc.start()
+            values = call()
+            most = tracemalloc.get_traced_memory()[1]
+            tracemalloc.stop()
+            self.assertEqual(values.nbytes, result)
+            self.assertLess(most, result + 20000)
+        for along, axes in ("x", (1, 2)), ("y", (1, 3)), ("z", (2, 3)):
+            mean = dump.field("b", 2).mean(axis=axes)
+            self.assertLess(abs(dump.profile("b", 2, along) / mean - 1).max(), 1e-12)
+
+    def test_tables_without_their_libraries(self):
+        dump = self.read(random_dump(random.Random(6), 5, 2, DONE)[0])
+        for name, call in ("pandas", dump[0].table), ("xarray", dump.to_xarray):
+            with mock.patch.dict("sys.modules", {name: None}), self.assertRaisesRegex(ModuleNotFoundError, f"it is python3-{name}$"):
+                call()
+
+    @unittest.skipUnless(importlib.util.find_spec("pandas"), "pandas isn't there")
+    def test_pandas(self):
+        frame = self.read(random_dump(random.Random(6), 5, 2, DONE)[0])[1]
+        table = frame.table()
+        self.assertEqual(table["species"].tolist(), ["ion", "ion", "electron_2"])
+        self.assertEqual((table.index.name, table.columns.tolist()), ("identity", ["species", "x", "y", "z", "vx", "vy", "vz"]))
+        self.assertEqual((table[["x", "y", "z"]].to_numpy() * 4096).tolist(), frame.particles["position"].tolist())
+        self.assertEqual((table[["vx", "vy", "vz"]].to_numpy() * 2**24).tolist(), frame.particles["velocity"].tolist())
+        self.assertEqual(table.groupby("species", observed=False)["x"].count().tolist(), [2, 1])
+
+    @unittest.skipUnless(importlib.util.find_spec("xarray"), "xarray isn't there")
+    def test_xarray(self):
+        dump = self.read(random_dump(random.Random(6), 5, 2, DONE)[0])
+        some = dump.to_xarray("ey", "bz")
+        self.assertEqual((set(some), some.ey.dims), ({"ey", "bz"}, ("step", "z", "y", "x")))
+        self.assertEqual(some.ey.sel(step=4, z=3, y=1, x=2).item(), dump.at(4).e[1, 3, 1, 2])
+        self.assertEqual([some[name].attrs["half_a_cell_further_along"] for name in ("ey", "bz")], ["y", "x y"])
+        self.assertEqual(len(dump.to_xarray()), 6)
+        with self.assertRaisesRegex(ValueError, "no component"):
+            dump.to_xarray("jx")
+
     def test_damage(self):
         data, _ = random_dump(random.Random(3), 5, 2, DONE)
         size = 53 + 96 * 24 + 24 * 3
@@ -118,7 +229,8 @@ class Reading(unittest.TestCase):
                 (124, b"ion" + bytes(29), 124, "second"), (100, bytes(4), 100, "mass"), (120, b"\0\x10\0\1", 120, "particles"),
                 (184, b"G", 184, "record"), (185 + size, b"\0\0\0\3", 185 + size, "due"),
                 (184 + 3 * size, b"E", 185 + 3 * size, "kind"), (ends, b"F", len(data), "ends in a frame"),
-                (ends + 1, b"\1", ends + 1, "kind"), (ends + 2, b"\0\0\0\4", ends + 2, "step"), (ends + 6, b"\0", ends + 6, "after")):
+                (ends + 1, b"\1", ends + 1, "kind"), (ends + 2, b"\0\0\0\4", ends + 2, "step"),
+                (ends + 6, b"\0", ends + 6, "after")):
             error = self.fault(data[:place] + new + data[place + len(new) :])
             self.assertIn(reason, str(error))
             self.assertEqual(error.place, seen, str(error))

@@ -6,6 +6,7 @@ import numpy as np
 
 from pictools import measure
 from pictools.deck import divergence, field_of
+from pictools.dump import Dump
 
 
 class Signals(unittest.TestCase):
@@ -17,6 +18,63 @@ class Signals(unittest.TestCase):
         self.assertLess(abs(fit.rate - 0.03), 0.004)
         with self.assertRaisesRegex(ValueError, "doesn't grow"):
             measure.growth(steps, np.ones(100))
+
+    def test_a_fit_says_what_it_rests_on(self):
+        steps, dice = np.arange(0, 400, 4), np.random.default_rng(3)
+        fit = measure.growth(steps, np.exp(0.03 * steps - 9) * np.exp(dice.normal(0, 0.05, 100)), (10, 40))
+        self.assertEqual((fit.points, fit.first, fit.last), (30, 40, 156))
+        self.assertLess(abs(fit.rate - 0.03), 3 * fit.error)
+        self.assertTrue(1e-4 < fit.error < 5e-4)
+        self.assertEqual(measure.between(steps, 40, 158), (10, 40))
+        self.assertEqual(measure.between(steps, None, None), None)
+        self.assertEqual(measure.between(steps, 380, None), (95, 100))
+        with self.assertRaisesRegex(ValueError, "--from 40 --to 44: 2 frames"):
+            measure.between(steps, 40, 44)
+
+    def test_noise_neither_grows_nor_is_damped(self):
+        steps, dice = np.arange(0, 1200, 8), np.random.default_rng(4)
+        for number in range(200):
+            parts = dice.normal(size=(150, 4))
+            for i in range(1, 150):
+                parts[i] = (0.97, 0.75)[number % 2] * parts[i - 1] + (0.24, 0.66)[number % 2] * parts[i]
+            turn = np.exp(0.1j * steps)
+            noise = (parts[:, 0] + 1j * parts[:, 1]) * turn + (parts[:, 2] + 1j * parts[:, 3]) / turn
+            with self.assertRaisesRegex(ValueError, "doesn't grow"):
+                measure.growth(steps, abs(noise - noise[0] * (number % 3 == 0)))
+            with self.assertRaisesRegex(ValueError, "isn't damped"):
+                measure.damping(steps, noise)
+        with self.assertRaisesRegex(ValueError, "doesn't grow"):
+            measure.growth(steps, np.exp(-0.01 * steps), (5, 50))
+
+    def test_damping(self):
+        steps, dice = np.arange(0, 1200, 8), np.random.default_rng(5)
+        for rate, back in (0.0064, 0), (0.0064, 0.5), (0.015, 0.2):
+            wave = np.exp(-rate * steps) * (np.exp(-0.13j * steps) + back * np.exp(0.13j * steps + 0.3j))
+            wave = wave + 0.005 * (dice.normal(size=150) + 1j * dice.normal(size=150))
+            fit = measure.damping(steps, wave)
+            self.assertLess(abs(fit.rate + rate), 4 * fit.error)
+            self.assertLess(fit.error, 0.02 * rate)
+            self.assertLess(abs(fit.frequency - 0.13), 2e-4)
+            by_hand = measure.damping(steps, wave, (0, 60))
+            self.assertEqual((by_hand.first, by_hand.last, by_hand.points), (0, 472, 60))
+            self.assertLess(abs(abs(by_hand.there) - 1), 0.01)
+
+    def test_frames_too_far_apart(self):
+        header = Dump.__new__(Dump)
+        header.every = 40
+        measure.resolved(header, 0.07)
+        with self.assertRaisesRegex(ValueError, "the frequency 0.1, and frames every 40 steps show .* = 0.07854: .* at 0.05708"):
+            measure.resolved(header, 0.1)
+        self.assertAlmostEqual(float(measure.folded(0.863, np.pi / 8)), 0.078, 3)
+
+    def test_a_ridge(self):
+        steps = np.arange(0, 1600, 8)
+        power = np.abs(np.fft.rfft(np.cos(0.1 * steps) * np.hanning(200)))**2
+        frequencies = 2 * np.pi / 1600 * np.arange(101)
+        self.assertLess(abs(measure.ridge(frequencies, power, 0.105, 0.012) - 0.1), 2e-4)
+        for near in 0.2, 0.115:
+            with self.assertRaisesRegex(ValueError, "no peak|nothing"):
+                measure.ridge(frequencies, power * (power > 1e-3), near, 0.008)
 
     def test_frequency(self):
         steps = np.arange(0, 400, 2)

@@ -40,6 +40,28 @@ class Textbooks(unittest.TestCase):
         w = theory.upper_hybrid(0.004, 0.001, 0.001, 0.5) / 0.001
         self.assertAlmostEqual(w**2, (7 - sqrt(13)) / 2, 4)
 
+        w = theory.upper_hybrid(0.004, 0.001, 0.001, 0.5, fast=True) / 0.001
+        self.assertAlmostEqual(w**2, (7 + sqrt(13)) / 2, 4)
+
+    def test_weibel(self):
+        # w^2 = c^2 k^2 + wp^2 (1 - 25 (1 + z Z(z))) at k c = 1.5 wp and 2 wp, with thermal speeds c / 5 and c / 25; and 4 for 25.
+        for k, along, rate in (0.003, 0.02, 0.13690989), (0.004, 0.02, 0.13258380), (0.002, 0.05, 0.06101838):
+            self.assertAlmostEqual(theory.weibel(k, 0.001, 0.1, along, 0.5) / 0.001, rate, 5)
+        cold = theory.filamentation(0.003, 0.001, 0.1, 0.5)
+        self.assertAlmostEqual(theory.weibel(0.003, 0.001, 0.1, 0, 0.5) / cold, 1, 9)
+        # Waves from c k = wp sqrt(24) on are stable.
+        self.assertGreater(theory.weibel(0.0097, 0.001, 0.1, 0.02, 0.5), 0)
+        self.assertEqual(theory.weibel(0.0099, 0.001, 0.1, 0.02, 0.5), 0)
+
+    def test_bernstein(self):
+        # 1 = (wp / k v)^2 sum of exp(-x) I_n(x) n g / (w - n g) with g = wp / 2 and v = g: branches 1, 2, 3.
+        for k, branches in (0.003, (0.91964966, 1.18252324, 1.50193407)), (0.01, (0.68878027, 1.21046962, 1.58303729)):
+            for branch, w in enumerate(branches, 1):
+                self.assertAlmostEqual(theory.bernstein(k, 0.001, 0.0005, 0.05, branch) / 0.001, w, 4)
+        # Of cold electrons across B, the upper hybrid wave of a short one, with the grid.
+        cold = theory.upper_hybrid(2, 0.1, 0.08, 0.5)
+        self.assertAlmostEqual(theory.bernstein(2, 0.1, 0.08, 1e-4, 1) / cold, 1, 2)
+
     def test_thermal_noise_of_long_waves(self):
         # 1 / (1 + k^2 D^2) with D = 20 cells, and k D = 1 and 2 in directions of all kinds.
         k = 0.05 * np.array([[1, 0, 0], [0, 0.6, 0.8], [2 / 3, 2 / 3, -1 / 3], [0, 2, 0], [-1.2, 0, 1.6]])
@@ -56,6 +78,14 @@ class ClosedForms(unittest.TestCase):
             self.assertAlmostEqual(screen, static.real - 1, 3)
             hats = sum(np.sinc(k / (2 * pi) + p)**4 for p in range(-50, 51))
             self.assertAlmostEqual(shot, hats * (0.01 / 0.008 / (2 * np.sin(k / 2)))**2, 6)
+
+    def test_the_slowest_light(self):
+        self.assertAlmostEqual(theory.slowest_light(0.5), 1 / 3)
+        self.assertAlmostEqual(theory.slowest_light(0.5), theory.light(pi, 0.5) / pi)
+
+    def test_the_aliases_of_a_cold_wave(self):
+        for k in 0.1, 1.0, 2.5:
+            self.assertAlmostEqual(sum(weight for _, weight in theory.aliases(k)), (1 + np.cos(k / 2)**2) / 2, 4)
 
     def test_cold_langmuir_waves(self):
         for k in 0.1, 1.0, 2.5:

@@ -1,0 +1,42 @@
+"""What a deck's run will cost: the bytes of its dump, and about its seconds."""
+
+from __future__ import annotations
+
+from math import prod
+
+from pictools.deck import Deck
+from pictools.header import frame_length, frames_due
+from pictools.info import size
+
+# README, "What it costs": seconds on one thread of the machine named there.
+PARTICLE_STEP = 0.2e-6
+CELL_STEP = 0.08e-6
+CELL_STEP_BESIDE_PARTICLES = 0.18e-6
+BYTES_A_SECOND = 600e6
+
+
+def dump_bytes(deck: Deck) -> int:
+    """The bytes of the whole dump."""
+    frames = frames_due(deck.steps, deck.every)
+    return 64 + 60 * len(deck.species) + frames * frame_length(deck.cells, deck.particles) + 6
+
+
+def seconds(deck: Deck) -> float:
+    """About how long the run takes on one thread, the writing of its dump included."""
+    cell = CELL_STEP_BESIDE_PARTICLES if deck.particles else CELL_STEP
+    step = PARTICLE_STEP * deck.particles + cell * prod(deck.cells)
+    return step * deck.steps + dump_bytes(deck) / BYTES_A_SECOND
+
+
+def spoken(time: float) -> str:
+    """A time as a person says it."""
+    if time < 100:
+        return f"{max(time, 1):.0f} second{'s' * (time >= 1.5)}"
+    return f"{time / 60:.0f} minutes" if time < 6000 else f"{time / 3600:.0f} hours"
+
+
+def say(deck: Deck) -> str:
+    """The line of it."""
+    frames = frames_due(deck.steps, deck.every)
+    return (f"The run has {deck.steps} steps of {deck.particles} particles in {prod(deck.cells)} cells: about "
+            f"{spoken(seconds(deck))} on one thread. Its dump has {frames} frame{'s' * (frames > 1)}, {size(dump_bytes(deck))}.")

@@ -1,0 +1,170 @@
+"""The front of a dump: its types, its header, and the errors that name a byte."""
+
+from __future__ import annotations
+
+from collections.abc import Sequence
+from dataclasses import dataclass
+from functools import cached_property
+from math import prod
+from typing import BinaryIO, NamedTuple
+
+import numpy as np
+
+SIDE = 4096                 # sub-cells a cell
+FAST = SIDE * 4096          # a velocity of one cell a step
+CHARGE = 12 * SIDE**3       # what a particle of charge 1 adds to the charges of the nodes, in all
+
+MAGIC = b"PICDUMP1"
+WIDE = np.dtype([("high", ">i8"), ("low", ">u8")])
+PARTICLE = np.dtype([("position", ">u4", 3), ("velocity", ">i4", 3)])
+HEADER = np.dtype([("magic", "S8"), ("cells", ">u4", 3), ("steps", ">u4"), ("every", ">u4"),
+                   ("scales", [("n", ">i4"), ("k", ">u4")], 4), ("species", ">u4")])
+SPECIES = np.dtype([("name", "S32"), ("charge", ">i4"), ("mass", ">u4"),
+                    ("kick", [("n", ">i4"), ("k", ">u4")]), ("turn", [("n", ">i4"), ("k", ">u4")]), ("count", ">u4")])
+
+
+def frame_length(cells: Sequence[int], particles: int) -> int:
+    """The bytes of a frame."""
+    return 53 + 96 * prod(cells) + 24 * particles
+
+
+def frames_due(steps: int, every: int) -> int:
+    """How many frames are due in a run that comes to its end."""
+    return steps // every + 1 + (steps % every > 0)
+
+
+class DumpError(ValueError):
+    """The bytes are no dump that this reader knows. `place` is the byte where they leave the format."""
+
+    def __init__(self, place: int, reason: str):
+        super().__init__(f"byte {place}: {reason}")
+        self.place = place
+
+
+class Multiplier(NamedTuple):
+    """The factor n / 2^k."""
+
+    n: int
+    k: int
+
+    @property
+    def value(self) -> float:
+        return self.n / 2**self.k
+
+
+@dataclass(frozen=True)
+class Species:
+    """A species of the header. Its particles have the identities first, first + 1, .., first + count - 1."""
+
+    name: str
+    charge: int
+    mass: int
+    kick: Multiplier
+    turn: Multiplier
+    count: int
+    first: int
+
+
+@dataclass(frozen=True)
+class Header:
+    """What a dump says before its frames. `cells` is (nx, ny, nz)."""
+
+    cells: tuple[int, int, int]
+    steps: int
+    every: int
+    e_to_b: Multiplier
+    b_to_e: Multiplier
+    e_force: Multiplier
+    b_force: Multiplier
+    species: tuple[Species, ...]
+
+    @property
+    def particles(self) -> int:
+        return sum(s.count for s in self.species)
+
+    @property
+    def length(self) -> int:
+        """The header's bytes."""
+        return HEADER.itemsize + SPECIES.itemsize * len(self.species)
+
+    @cached_property
+    def frame_type(self) -> np.dtype:
+        """A frame's bytes. Fields have the shape (3, nz, ny, nx): axis, then z, y, x."""
+        field = (3, *reversed(self.cells))
+        return np.dtype([("tag", "S1"), ("step", ">u4"), ("e", WIDE, field), ("b", WIDE, field),
+                         ("particles", PARTICLE, (self.particles,)), ("energies", WIDE, (3,))])
+
+    def due(self, step: int) -> bool:
+        """Whether a frame of this step is due."""
+        return step <= self.steps and (step % self.every == 0 or step == self.steps)
+
+    def next_due(self, step: int) -> int:
+        """The step of the due frame after the one of `step`."""
+        return min(step + self.every - step % self.every, self.steps)
+
+    @property
+    def frames(self) -> int:
+        """How many frames are due in a run that comes to its end."""
+        return frames_due(self.steps, self.every)
+
+    def named(self, name: str) -> Species:
+        for species in self.species:
+            if species.name == name:
+                return species
+        raise KeyError(f"no species {name!r}; there are {', '.join(s.name for s in self.species) or 'none'}")
+
+
+def limited(place: int, what: str, number: int, low: int, high: int) -> int:
+    """A number that has to be from `low` to `high`."""
+    if not low <= number <= high:
+        raise DumpError(place, f"{what} is {number}, not from {low} to {high}")
+    return number
+
+
+def read_multiplier(place: int, what: str, pair: np.void) -> Multiplier:
+    n = limited(place, f"n of {what}", int(pair["n"]), 1 - 2**31, 2**31 - 1)
+    return Multiplier(n, limited(place + 4, f"k of {what}", int(pair["k"]), 0, 62))
+
+
+def read_species(data: bytes, earlier: list[Species]) -> Species:
+    """The species that `data` spells, after the earlier ones."""
+    row, place = np.frombuffer(data, SPECIES)[0], HEADER.itemsize + SPECIES.itemsize * len(earlier)
+    name = data[:32].rstrip(b"\0")
+    if not name or not all(chr(c).isalnum() and c < 128 or c == 95 for c in name):
+        raise DumpError(place, f"{name!r} is no name of a species")
+    if name.decode() in (s.name for s in earlier):
+        raise DumpError(place, f"a second species is named {name.decode()}")
+    first = sum(s.count for s in earlier)
+    return Species(
+        name=name.decode(), first=first,
+        charge=limited(place + 32, "a charge", int(row["charge"]), -32768, 32767),
+        mass=limited(place + 36, "a mass", int(row["mass"]), 1, 65536),
+        kick=read_multiplier(place + 40, "kick", row["kick"]), turn=read_multiplier(place + 48, "turn", row["turn"]),
+        count=limited(place + 56, "a number of particles", int(row["count"]), 0, 2**20 - first))
+
+
+def read_header(file: BinaryIO) -> tuple[Header, bytes]:
+    """The header at the front of a file or a pipe, and its bytes."""
+    data = file.read(len(MAGIC))
+    if data[:7] == MAGIC[:7] and len(data) == 8 and data != MAGIC:
+        raise DumpError(7, f"a dump of the kind {data.decode('ascii', 'replace')}; this reader knows PICDUMP1 alone")
+    for place, (here, there) in enumerate(zip(data, MAGIC)):
+        if here != there:
+            raise DumpError(place, "no dump begins so: its first bytes are PICDUMP1")
+    data += file.read(HEADER.itemsize - len(data))
+    if len(data) < HEADER.itemsize:
+        raise DumpError(len(data), "the dump ends in its header")
+    row = np.frombuffer(data, HEADER)[0]
+    scales = [read_multiplier(28 + 8 * i, name, row["scales"][i])
+              for i, name in enumerate(("e_to_b", "b_to_e", "e_force", "b_force"))]
+    cells = tuple(limited(8 + 4 * a, "cells", int(n), 2, 64) for a, n in enumerate(row["cells"]))
+    steps = limited(20, "steps", int(row["steps"]), 0, 10**6)
+    every = limited(24, "every", int(row["every"]), 1, 10**6)
+    species: list[Species] = []
+    for _ in range(limited(60, "the number of species", int(row["species"]), 0, 16)):
+        part = file.read(SPECIES.itemsize)
+        data += part
+        if len(part) < SPECIES.itemsize:
+            raise DumpError(len(data), "the dump ends in its header")
+        species.append(read_species(part, species))
+    return Header(cells, steps, every, *scales, tuple(species)), data

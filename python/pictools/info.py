@@ -1,0 +1,68 @@
+"""What a dump is of, in some lines."""
+
+from __future__ import annotations
+
+from math import pi, prod
+
+from pictools import units
+from pictools.dump import Dump, Header, Multiplier, Species
+from pictools.header import frame_length
+
+
+def info(dump: Dump) -> list[str]:
+    """Lines on the run's size, its frames and end, its species, and what its multipliers mean."""
+    header, last = dump.header, int(dump.steps[-1])
+    frames = f"{len(dump)} of {header.frames}, of steps {int(dump.steps[0])} to {last}, every {header.every}"
+    lines = [("dump", dump.path),
+             ("cells", f"{' x '.join(map(str, header.cells))}, {prod(header.cells)} in all"),
+             ("steps", f"{header.steps}, a frame every {header.every}"),
+             ("frames", f"{frames}; {size(frame_length(header.cells, header.particles))} each"),
+             ("end", dump.end.text if dump.end else f"none: {dump.cut}"),
+             ("particles", str(header.particles))]
+    lines += [(f"species {s.name}", kind(s)) for s in header.species]
+    lines += [(name, factor(getattr(header, name))) for name in ("e_to_b", "b_to_e", "e_force", "b_force")]
+    lines += physics(dump)
+    wide = max(len(name) for name, _ in lines)
+    return [f"{name:{wide}}  {text}" for name, text in lines]
+
+
+def factor(multiplier: Multiplier) -> str:
+    """A multiplier as it stands in a deck, and its value."""
+    return f"{list(multiplier)}, {multiplier.value:g}"
+
+
+def kind(species: Species) -> str:
+    """A species in a line."""
+    still = "" if species.kick.n or species.turn.n else ", feels no field"
+    return (f"{species.count} of charge {species.charge}, mass {species.mass}, kick {species.kick.value:g}, "
+            f"turn {species.turn.value:g}{still}")
+
+
+def size(number: float) -> str:
+    """Bytes as a person says them."""
+    for unit in ("bytes", "kB", "MB", "GB", "TB"):
+        if number < 1000 or unit == "TB":
+            return f"{number:.3g} {unit}" if unit != "bytes" else f"{number:.0f} {unit}"
+        number /= 1000
+
+
+def physics(dump: Dump) -> list[tuple[str, str]]:
+    """The speed of light, and of a plasma its frequency, thermal speed, Debye length and gyration, as at the first frame."""
+    header, lines = dump.header, []
+    light, plasma = units.light_speed(header), units.plasma_frequency(header)
+    lines.append(("light", f"{light:.6g} cells a step" if light else "no wave: e_to_b b_to_e is not above 0"))
+    if plasma and dump[0].step == 0:
+        thermal = [units.thermal_speed(dump[0], axis) for axis in "xyz"]
+        speeds = ", ".join(f"{speed:.4g}" for speed in thermal)
+        lines += [("plasma frequency", f"{plasma:.6g} a step, wp; a period is {2 * pi / plasma:.4g} steps"),
+                  ("thermal speed", f"{speeds} cells a step, of the electrons along x, y, z at the start"),
+                  ("Debye length", f"{thermal[0] / plasma:.4g} cells, of that along x")]
+    return lines + turning(header, dump)
+
+
+def turning(header: Header, dump: Dump) -> list[tuple[str, str]]:
+    """How far the mean B of the first frame turns a particle of each species, where there is one."""
+    means = [float(part.mean()) for part in dump[0].b]
+    size_b = sum(b * b for b in means)**0.5
+    return [(f"gyration {s.name}", f"{abs(units.gyration(header, s, size_b)):.4g} radians a step, in the mean B at the start")
+            for s in header.species if s.turn.n and s.count and size_b]
