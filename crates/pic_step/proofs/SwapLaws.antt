@@ -11,7 +11,7 @@ use Rattle.pic_num.specs.Space.{Triple, Spot, unwrapped}
 use Rattle.pic_grid.specs.Block.{BlockValues, InZone, inner_of, edge_at, outer_of}
 use Rattle.pic_grid.specs.Cells.{Grid, IsWithin, count_of, index_of, cell_of}
 use Rattle.pic_grid.specs.Lattice.{Field, EachAtMost, value_at, field_of}
-use Rattle.pic_grid.specs.Parts.{part_size, part_of, corner_of, no_block, ArePartsOf, joined}
+use Rattle.pic_grid.specs.Parts.{part_size, part_with, corner_of, no_block, ArePartsOf, joined}
 use Rattle.pic_grid.proofs.BlockLaws.{inner_within}
 use Rattle.pic_grid.proofs.LatticeLaws.{value_at-field_of}
 use Rattle.pic_grid.proofs.PartLaws.{value_at-joined}
@@ -111,7 +111,7 @@ module _ (m : Tiling) (ts us : List TileValue) (bs js : List BlockValues) (map :
         flux_is a p within =
             let below = owner_below m p map.thick within in
             value_at-joined (record { n = cells_of m; side = side }) m.tiles js a p within
-            ∙ ap (λ (s : Triple). edge_at (block_in js (index_of m.tiles (part_of s p))) a (unwrapped p)) (tile_size m map)
+            ∙ ap (λ (s : Triple). edge_at (block_in js (index_of m.tiles (part_with s p))) a (unwrapped p)) (tile_size m map)
             ∙ ap (λ (b : BlockValues). edge_at b a (unwrapped p)) (swapped.each (owner_of m p) (in_list (owner_of m p) below)).block
 
         -- within the limits
