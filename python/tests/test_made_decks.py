@@ -1,5 +1,5 @@
 """Decks that the maker makes, by the built program: each is taken, runs to its end, and leaves a dump of the size that was
-said. Skipped where the program isn't built."""
+said. Skipped where none was built."""
 
 import io
 import unittest
@@ -8,7 +8,7 @@ from pictools import cost
 from pictools.dump import Dump
 from pictools.explain import explain
 from pictools.plasma import Plasma
-from tests.test_program import call, is_built
+from tests.test_program import call, needs_program
 
 LONG = {"cells": (12, 8, 10), "particles_a_cell": 8}
 DECKS = (
@@ -23,7 +23,7 @@ DECKS = (
 )
 
 
-@unittest.skipUnless(is_built(), "the program isn't built from these sources")
+@needs_program
 class MadeDecks(unittest.TestCase):
     def test_they_run(self):
         for chosen in DECKS:

@@ -56,7 +56,11 @@ def changed(dump: bytes, place: int, new: bytes) -> bytes:
     return dump[:place] + new + dump[place + len(new):]
 
 
-@unittest.skipUnless(PROGRAM or os.environ.get("PIC_PROGRAM"), "no program was built of these sources")
+# What needs the program: skipped where none was built, but not where one was named.
+needs_program = unittest.skipUnless(PROGRAM or os.environ.get("PIC_PROGRAM"), "no program was built of these sources")
+
+
+@needs_program
 class Program(unittest.TestCase):
     @classmethod
     def setUpClass(cls):
