@@ -95,6 +95,7 @@ pub(crate) fn strip_end(from: u32, count: u32) -> u32
 /// Scales what a curl reads of the plane of a strip of `lines` lines in the strip's own layer and
 /// the one beside it: of the strip's lines, and of that beside them in y. The plane begins with the
 /// line whose rooms begin with the cell `at`.
+#[inline(always)]
 pub(crate) fn fill_plane(from: &Scaled, at: [u32; 3], span: Span, lines: usize, to: &mut Plane)
     requires within { IsWithin (triple at) from.now.field.now.cells }
     requires span { IsSpan span }
@@ -115,6 +116,7 @@ pub(crate) fn fill_plane(from: &Scaled, at: [u32; 3], span: Span, lines: usize, 
 }
 
 /// Scales what a curl reads of the plane of a strip of `lines` lines in the layer beside it alone.
+#[inline(always)]
 pub(crate) fn fill_next_plane(from: &Scaled, at: [u32; 3], span: Span, lines: usize, to: &mut Plane)
     requires within { IsWithin (triple at) from.now.field.now.cells }
     requires span { IsSpan span }
@@ -165,6 +167,7 @@ fn scale_line(from: &Scaled, at: [u32; 3], span: Span, own: bool, to: &mut Line)
 }
 
 /// Scales what a curl reads of the line that it is along.
+#[inline(always)]
 fn scale_own(from: &Scaled, at: [u32; 3], span: Span, to: &mut Line)
     requires within { IsWithin (triple at) from.now.field.now.cells }
     requires span { IsSpan span }
@@ -220,6 +223,7 @@ struct Wanted {
 /// Scales the values at the cells of a line whose rooms begin with the start, round the grid: of x,
 /// and of y and z if they are wanted. The runs of the three components lie at the same place of a
 /// part, which is found once for them.
+#[inline(always)]
 fn scale_rows(from: &Scaled, start: Start, span: Span, wanted: Wanted, to: &mut Line)
     requires start { IsStart from.now.field.now start }
     requires span { IsSpan span }

@@ -1,5 +1,6 @@
 //! One sweep over a block, for either field: each value is lessened by the curl of the other
-//! field's scaled values, strip by strip of lines.
+//! field's scaled values, strip by strip of lines. It is inlined, so that each field has straight
+//! code of its own.
 
 ghost use Rattle.std.specs.Prelude.{◌≡◌, ℤ, ◌-◌, ◌<◌, ◌-ℤ◌, true, false, IfSome, IsTrue, OnOk};
 ghost use Rattle.pic_num.specs.declared.axis.Axis.{Axis as AxisName};
@@ -50,6 +51,7 @@ struct CurlLines<'a> {
 
 /// Sweeps over a block, with the multiplier of its force values. Every place has its new value,
 /// also where the answer is a stop: that of the least place whose new value passes a bound.
+#[inline(always)]
 pub(crate) fn advance(
     step: &Sweep,
     phase: Phase,
@@ -77,6 +79,7 @@ pub(crate) fn advance(
 
 /// Sweeps over a block strip by strip, and answers whether all new values are at most the sweep's
 /// `most` in size.
+#[inline(always)]
 fn sweep_strips(step: &Sweep, b: &mut Block, rooms: &mut Rooms) -> bool
     requires among { IsAmongCells b.old.low b.old.size (sweep_cells step.now) }
     requires field { EachAtMost most_value step.now.from.field.now }
@@ -103,6 +106,7 @@ fn sweep_strips(step: &Sweep, b: &mut Block, rooms: &mut Rooms) -> bool
 /// Sweeps over the lines of a strip, layer by layer. The layer beside each but the first was swept
 /// before it, so that a plane of scaled rows serves its own layer and then the one that reads it
 /// beside.
+#[inline(always)]
 fn sweep_strip(step: &Sweep, b: &mut Block, strip: Strip, rooms: &mut Rooms) -> bool
     requires among { IsAmongCells b.old.low b.old.size (sweep_cells step.now) }
     requires some { HasCells b.old.size }
@@ -140,6 +144,7 @@ fn sweep_strip(step: &Sweep, b: &mut Block, strip: Strip, rooms: &mut Rooms) -> 
 
 /// Sweeps over the lines of a strip in a layer, where the plane of scaled rows of the layer beside
 /// it is that at `far`. The other room has the plane of the layer itself then.
+#[inline(always)]
 fn sweep_layer(
     step: &Sweep,
     b: &mut Block,
@@ -177,6 +182,7 @@ fn sweep_layer(
 
 /// Sweeps over the lines of a strip in a layer, from the scaled rows of the layer and the one
 /// beside it.
+#[inline(always)]
 fn sweep_lines(step: &Sweep, b: &mut Block, strip: Strip, z: u32, near: &Plane, far: &Plane) -> bool
     requires among { IsAmongCells b.old.low b.old.size (sweep_cells step.now) }
     requires take { IfSome (take_of step.now) (IsTaken b.old.low b.old.size) }
@@ -205,6 +211,7 @@ fn sweep_lines(step: &Sweep, b: &mut Block, strip: Strip, z: u32, near: &Plane, 
 }
 
 /// Sweeps over a line, from its scaled rows and those of the lines beside it.
+#[inline(always)]
 fn sweep_line(step: &Sweep, b: &mut Block, y: u32, z: u32, lines: &CurlLines) -> bool
     requires among { IsAmongCells b.old.low b.old.size (sweep_cells step.now) }
     requires take { IfSome (take_of step.now) (IsTaken b.old.low b.old.size) }
@@ -247,6 +254,7 @@ fn sweep_line(step: &Sweep, b: &mut Block, y: u32, z: u32, lines: &CurlLines) ->
 /// Lessens the components of a block on `axis` along the row at the layers `y` and `z` by the curl
 /// of four rows and by what else the sweep takes off, and answers whether all new values are at
 /// most the sweep's `most` in size.
+#[inline(always)]
 fn sweep_row(step: &Sweep, b: &mut Block, axis: Axis, y: u32, z: u32, four: &CurlRows) -> bool
     requires take { IfSome (take_of step.now) (IsTaken b.old.low b.old.size) }
     requires y { y < b.old.size.y }
