@@ -12,8 +12,7 @@ mod tile_flux;
 mod write;
 
 pub use laws::{
-    law_of_the_least_halt, law_of_the_run, law_of_the_step, law_of_velocities,
-    three_images_are_all,
+    law_of_the_least_halt, law_of_the_run, law_of_the_step, law_of_velocities, three_images_are_all,
 };
 pub use pic_crew::crew;
 pub use start::Start;
