@@ -270,9 +270,10 @@ returns-in_err-b-clause-memory g c wanted = absurd (wants_none _ _ c.from_residu
 
 pub returns-in_err-pushed-clause-memory : goal.returns-in_err-pushed-clause-memory
 returns-in_err-pushed-clause-memory g c wanted =
-    let first = half g (goal.at.returns-in_err-pushed-clause-memory g c).In_ok-b in
-    (subst (λ (n : ℕ). 1 < n) c.of-workers.ensures (c.in_err-pushed.ensures.alone refl),
-    ap (λ (v : StateView). half_stop Half1 v.world) (sym c.state.view_is) ∙ first.none)
+    let first = half g (goal.at.returns-in_err-pushed-clause-memory g c).In_ok-b in (
+      subst (λ (n : ℕ). 1 < n) c.of-workers.ensures (c.in_err-pushed.ensures.alone refl),
+      ap (λ (v : StateView). half_stop Half1 v.world) (sym c.state.view_is) ∙ first.none,
+    )
 
 pub returns-in_err-b-2-clause-memory : goal.returns-in_err-b-2-clause-memory
 returns-in_err-b-2-clause-memory g c wanted = absurd (wants_none _ _ c.from_residual-in_err-b-2.ensures.1 wanted)
