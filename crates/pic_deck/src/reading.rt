@@ -55,7 +55,7 @@ fn deck_of(alloc: Global, table: &Table) -> Result<Deck, WalkStop>
     check_deck_keys(alloc, table)?;
     let settings = read_settings(alloc, table)?;
     let field = optional_fields(alloc, table, settings.cells)?;
-    let species = optional_species(alloc, table, settings.cells)?;
+    let species = optional_species(alloc, table, settings.terms())?;
     check_forces(alloc, &settings, &field)?;
     Ok(Deck::new(settings, field, species))
 }

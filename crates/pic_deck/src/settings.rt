@@ -1,19 +1,19 @@
 //! The version of a deck, and its tables of the grid, the run and the scales.
 
-ghost use Rattle.std.specs.Prelude.{IfOk};
+ghost use Rattle.std.specs.Prelude.{◌≡◌, IfOk};
 ghost use Rattle.pic_num.specs.Space.{triple};
 ghost use Rattle.toml.specs.View.{table_view};
 ghost use Rattle.pic_walk.specs.Walk.{WalksAs};
 ghost use Rattle.pic_deck.specs.declared.settings.Settings.{Settings as SettingsView};
-ghost use Rattle.pic_deck.specs.Deck.{AreSettings};
+ghost use Rattle.pic_deck.specs.Deck.{AreSettings, terms_of};
 ghost use Rattle.pic_deck.specs.Keys.{settings};
 
 use crate::grid::read_grid;
 use crate::run::read_run;
 use crate::scale::read_scale;
 use pic_grid::Cells;
-use pic_num::Scales;
-use pic_walk::{Limits, WalkStop, need_whole};
+use pic_num::{MAX_VERSION, Scales};
+use pic_walk::{Limits, Terms, WalkStop, need_whole};
 use std::alloc::Global;
 use toml::Table;
 
@@ -28,7 +28,17 @@ pub struct Settings {
     pub scales: Scales,
 }
 
-const VERSION: i64 = 1;
+impl Settings {
+    /// What the limits of the deck go by.
+    pub fn terms(self) -> Terms
+        ensures { result ≡ terms_of self }
+    {
+        Terms {
+            version: self.version,
+            cells: self.cells,
+        }
+    }
+}
 
 /// The version of a deck and its tables of the grid, the run and the scales.
 pub(crate) fn read_settings(alloc: Global, table: &Table) -> Result<Settings, WalkStop>
@@ -36,8 +46,9 @@ pub(crate) fn read_settings(alloc: Global, table: &Table) -> Result<Settings, Wa
     ensures limits { IfOk result (λ s. AreSettings s.version s.cells (triple s.tiles) s.steps
         s.every) }
 {
-    let version = need_whole(alloc, "", "version", table, Limits::new(1, VERSION))?;
-    let (cells, tiles) = read_grid(alloc, table)?;
+    let versions = Limits::from_to(1, MAX_VERSION);
+    let version = need_whole(alloc, "", "version", table, versions)?;
+    let (cells, tiles) = read_grid(alloc, table, version)?;
     let (steps, every) = read_run(alloc, table)?;
     let scales = read_scale(alloc, table)?;
     Ok(Settings {
