@@ -13,7 +13,7 @@ use Rattle.std.proofs.lemmas.List.Sums.{sum_by-append, sum_by-cons}
 use Rattle.pic_num.specs.Limits.{allowance_of}
 use Rattle.pic_grid.specs.Species.{IsName, IsKind, HeadView, no_head, AreHeads, is_name_byte}
 use Rattle.pic_walk.specs.declared.fault.Fault.TheVariants.{Name}
-use Rattle.pic_walk.specs.declared.terms.Terms.{Terms}
+use Rattle.pic_walk.specs.Terms.{TermsView}
 use Rattle.pic_walk.specs.Walk.{Walked}
 use Rattle.pic_walk.proofs.ListLaws.{all_more}
 use Rattle.pic_deck.specs.declared.species.Species.{Species}
@@ -85,7 +85,7 @@ heads_more most hs h are room name kind new total =
     }
 
 -- one species more
-pub species_more : (t : Terms) (ss : List Species) (s : Species) → AreHeads (allowance_of t.version).particles (map head_of ss) → length ss < 16
+pub species_more : (t : TermsView) (ss : List Species) (s : Species) → AreHeads (allowance_of t.version).particles (map head_of ss) → length ss < 16
     → IsNext t ss s → AreHeads (allowance_of t.version).particles (map head_of (ss ++ s ∷ []))
 species_more t ss s are room next =
     let size = length-map ss head_of in
@@ -103,7 +103,7 @@ heads_none most = record {
   total = omega arith;
 }
 
-pub filled_more : (t : Terms) (ss : List Species) (s : Species) → AreFilled t ss → IsFilledFrom t ss s → AreFilled t (ss ++ s ∷ [])
+pub filled_more : (t : TermsView) (ss : List Species) (s : Species) → AreFilled t ss → IsFilledFrom t ss s → AreFilled t (ss ++ s ∷ [])
 filled_more t ss s are here = record { each = each }
   where
     size : length (ss ++ s ∷ []) ≡ length ss + 1
@@ -119,5 +119,5 @@ filled_more t ss s are here = record { each = each }
           rw (before, get_or_push ss s no_species i at_end) here)
     ]
 
-pub filled_none : (t : Terms) → AreFilled t []
+pub filled_none : (t : TermsView) → AreFilled t []
 filled_none t = record { each = λ i h. absurd (omega (arith, h)) }

@@ -9,7 +9,7 @@ use Rattle.pic_grid.specs.Cells.{Grid, IsCells}
 use Rattle.pic_grid.specs.Species.{HeadView, AreHeads}
 use Rattle.pic_grid.specs.Tiles.{AreTiles}
 use Rattle.pic_walk.specs.declared.row.Row.{Row}
-use Rattle.pic_walk.specs.declared.terms.Terms.{Terms}
+use Rattle.pic_walk.specs.Terms.{TermsView}
 pub use Rattle.pic_walk.specs.Extent.{extent_of, most_extent, IsExtent}
 use Rattle.pic_walk.specs.Rows.{AreRows}
 use Rattle.pic_deck.specs.declared.fields.InitialFields.{InitialFields}
@@ -57,12 +57,12 @@ abbrev pub deck_grid : DeckView → Grid
 deck_grid d = record { n = d.cells; side = d.side }
 
 -- what its limits go by
-abbrev pub deck_terms : DeckView → Terms
-deck_terms d = record { version = d.version; cells = deck_grid d }
+abbrev pub deck_terms : DeckView → TermsView
+deck_terms d = record { version = d.version; grid = deck_grid d }
 
 -- the same of its settings
-abbrev pub terms_of : Settings → Terms
-terms_of settings = record { version = settings.version; cells = settings.cells }
+abbrev pub terms_of : Settings → TermsView
+terms_of settings = record { version = settings.version; grid = settings.cells }
 
 -- the value of E that a deck begins with, on an axis at a cell: the uniform part, and what the rows
 -- of that place add up to

@@ -5,7 +5,7 @@ use Rattle.pic_num.specs.Limits.{allowance_of}
 use Rattle.pic_walk.specs.declared.fault.Fault.TheVariants.{Name}
 use Rattle.pic_walk.specs.declared.draw.Draw.{Draw}
 use Rattle.pic_walk.specs.declared.sites.Sites.{Sites}
-use Rattle.pic_walk.specs.declared.terms.Terms.{Terms}
+use Rattle.pic_walk.specs.Terms.{TermsView}
 use Rattle.pic_walk.specs.Draw.{draw}
 use Rattle.pic_walk.specs.Limits.{from_to}
 use Rattle.pic_walk.specs.Points.{point_list}
@@ -23,7 +23,7 @@ abbrev pub lattice_keys : List (List ℕ)
 lattice_keys = codes "first" ∷ codes "gap" ∷ codes "count" ∷ codes "v" ∷ []
 
 -- the sites of a lattice
-unfoldable pub lattice : Terms → List ℕ → Data → Walked Sites
+unfoldable pub lattice : TermsView → List ℕ → Data → Walked Sites
 lattice t path d = table_of lattice_keys path d >>= sites t path
 
 -- the keys of `random`
@@ -31,11 +31,11 @@ abbrev pub random_keys : List (List ℕ)
 random_keys = codes "count" ∷ codes "seed" ∷ codes "stream" ∷ codes "drift" ∷ codes "spread" ∷ []
 
 -- how many particles at random places, and how they are drawn
-unfoldable pub random : Terms → List ℕ → Data → Walked (ℕ × Draw)
+unfoldable pub random : TermsView → List ℕ → Data → Walked (ℕ × Draw)
 random t path d =
     table_of random_keys path d
     >>= (λ ms. need (whole (from_to (pos 0) (pos (allowance_of t.version).particles))) (codes "count") path ms
-    >>= (λ count. draw t.cells.side path ms
+    >>= (λ count. draw t.grid.side path ms
     >>= (λ r. Ok (count, r))))
 
 -- the keys of `pair`
@@ -48,11 +48,11 @@ species_number done path d =
     text path d >>= (λ s. some_or (Name path) (position (λ o. bytes_eq o.name s) done))
 
 -- the earlier species where whose particles others stand, and how their velocities are drawn
-unfoldable pub pair : Terms → List Species → List ℕ → Data → Walked (ℕ × Draw)
+unfoldable pub pair : TermsView → List Species → List ℕ → Data → Walked (ℕ × Draw)
 pair t done path d =
     table_of pair_keys path d
     >>= (λ ms. need (species_number done) (codes "of") path ms
-    >>= (λ named. draw t.cells.side path ms
+    >>= (λ named. draw t.grid.side path ms
     >>= (λ r. Ok (named, r))))
 
 -- particles at the sites of a lattice
@@ -68,13 +68,13 @@ abbrev pub in_pairs : ℕ × Draw → Fill
 in_pairs r = Pair r.0 r.1.seed r.1.stream r.1.drift r.1.spread
 
 -- what a source fills a species with
-abbrev pub fill_by : FillKind → Terms → List Species → List ℕ → Data → Walked Fill
-fill_by source.Points t done path d = point_list t.cells path d >>= (λ points. Ok (Points points))
+abbrev pub fill_by : FillKind → TermsView → List Species → List ℕ → Data → Walked Fill
+fill_by source.Points t done path d = point_list t.grid path d >>= (λ points. Ok (Points points))
 fill_by source.Lattice t done path d = lattice t path d >>= (λ s. Ok (at_sites s))
 fill_by source.Random t done path d = random t path d >>= (λ r. Ok (at_random r))
 fill_by source.Pair t done path d = pair t done path d >>= (λ r. Ok (in_pairs r))
 
 -- what fills the species that a table is
-unfoldable pub species_fill : Terms → List Species → List ℕ → Members → Walked Fill
+unfoldable pub species_fill : TermsView → List Species → List ℕ → Members → Walked Fill
 species_fill t done path ms =
     only path ms sources >>= (λ s. need (fill_by s t done) (source_key s) path ms)

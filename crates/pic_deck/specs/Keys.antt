@@ -10,7 +10,7 @@ use Rattle.pic_grid.specs.Cells.{Grid, count_of}
 use Rattle.pic_grid.specs.Tiles.{most_tiles}
 use Rattle.pic_walk.specs.declared.fault.Fault.TheVariants.{Limit, Name}
 use Rattle.pic_walk.specs.declared.limits.Limits.{Limits}
-use Rattle.pic_walk.specs.declared.terms.Terms.{Terms}
+use Rattle.pic_walk.specs.Terms.{TermsView}
 use Rattle.pic_walk.specs.Path.{key_at}
 use Rattle.pic_walk.specs.Limits.{from_to, thrice}
 use Rattle.pic_walk.specs.Rows.{row_list}
@@ -158,7 +158,7 @@ counted version done path fill =
     >>= (λ _. Ok (filled_count done fill))
 
 -- the species that a table is, after earlier ones
-unfoldable pub species_in : Terms → List Species → List ℕ → Members → Walked Species
+unfoldable pub species_in : TermsView → List Species → List ℕ → Members → Walked Species
 species_in t done path ms =
     need (species_name done) (codes "name") path ms
     >>= (λ named. species_kind path ms
@@ -167,11 +167,11 @@ species_in t done path ms =
     >>= (λ count. Ok (record { name = named; kind = k; count = count; fill = f })))))
 
 -- the next species
-unfoldable pub one_species : Terms → List Species → List ℕ → Data → Walked Species
+unfoldable pub one_species : TermsView → List Species → List ℕ → Data → Walked Species
 one_species t done path d = table_of species_keys path d >>= species_in t done path
 
 -- all species, not too many
-unfoldable pub species_list : Terms → List ℕ → Data → Walked (List Species)
+unfoldable pub species_list : TermsView → List ℕ → Data → Walked (List Species)
 species_list t path d =
     elements path d
     >>= (λ ds. within (from_to (pos 0) (pos most_species)) path (pos (count_of_items ds))

@@ -6,7 +6,7 @@ use Rattle.pic_grid.specs.Cells.{count_of}
 use Rattle.pic_grid.specs.Species.{HeadView, no_head, is_name_byte, IsName, IsKind}
 pub use Rattle.pic_walk.specs.declared.point6.Point6.{Point6}
 pub use Rattle.pic_walk.specs.Points.{no_point, IsPoint, ArePoints}
-pub use Rattle.pic_walk.specs.declared.terms.Terms.{Terms}
+pub use Rattle.pic_walk.specs.Terms.{TermsView}
 pub use Rattle.pic_walk.specs.Draw.{IsDraw}
 pub use Rattle.pic_walk.specs.Sites.{AreSites}
 pub use Rattle.pic_num.specs.Limits.{most_particles, most_species, allowance_of}
@@ -57,29 +57,29 @@ pub record IsNewName (ss : List Species) (s : List ℕ) : Type 0 where
   pub differs : (i : ℕ) → i < length ss → (species_at ss i).name ≡ s → ⊥
 
 -- what fills a species after earlier ones is such as a deck of these terms may have
-abbrev pub IsFill : Terms → List Species → Fill → Type 0
-IsFill t earlier (Points points) = ArePoints t.cells points
+abbrev pub IsFill : TermsView → List Species → Fill → Type 0
+IsFill t earlier (Points points) = ArePoints t.grid points
 IsFill t earlier (Lattice first gap count v) =
     AreSites t (record { first = first; gap = gap; count = count; v = v })
 IsFill t earlier (Random count seed stream drift spread) =
     (count ≤ (allowance_of t.version).particles)
-    × IsDraw t.cells.side (record { seed = seed; stream = stream; drift = drift; spread = spread })
+    × IsDraw t.grid.side (record { seed = seed; stream = stream; drift = drift; spread = spread })
 IsFill t earlier (Pair named seed stream drift spread) =
-    (named < length earlier) × IsDraw t.cells.side (record { seed = seed; stream = stream; drift = drift; spread = spread })
+    (named < length earlier) × IsDraw t.grid.side (record { seed = seed; stream = stream; drift = drift; spread = spread })
 
 -- a species after earlier ones is filled so, and has so many particles
-pub record IsFilledFrom (t : Terms) (earlier : List Species) (s : Species) : Type 0 where
+pub record IsFilledFrom (t : TermsView) (earlier : List Species) (s : Species) : Type 0 where
   pub fill : IsFill t earlier s.fill
   pub count : s.count ≡ filled_count earlier s.fill
 
 -- a species that may come next: its name is new, its particles are within their limits, and with
 -- them there are not too many
-pub record IsNext (t : Terms) (earlier : List Species) (s : Species) : Type 0 where
+pub record IsNext (t : TermsView) (earlier : List Species) (s : Species) : Type 0 where
   pub name : IsNewName earlier s.name
   pub kind : IsKind s.kind
   pub filled : IsFilledFrom t earlier s
   pub few : particles_of earlier + s.count ≤ (allowance_of t.version).particles
 
 -- each species is filled so, after those before it
-pub record AreFilled (t : Terms) (ss : List Species) : Type 0 where
+pub record AreFilled (t : TermsView) (ss : List Species) : Type 0 where
   pub each : (i : ℕ) → i < length ss → IsFilledFrom t (take i ss) (species_at ss i)

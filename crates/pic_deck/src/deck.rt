@@ -63,7 +63,7 @@ impl Deck {
         ensures value { result ≡ deck_terms self.now }
         ensures limits { IsWithinLimits self.now }
     {
-        self.settings.terms()
+        Terms::new(self.settings.version, self.settings.cells)
     }
 
     /// How many cells the grid has on each axis, and the side of a cell.

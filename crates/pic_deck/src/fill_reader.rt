@@ -50,14 +50,14 @@ fn read_random(
     ensures walks { WalksAs (λ (r : ℕ × DrawView). r)
         (random terms (path_of address.entry) (view value.now)) result }
     ensures count { IfOk result (λ r. r.0 ≤ (allowance_of terms.version).particles) }
-    ensures draw { IfOk result (λ r. IsDraw terms.cells.side r.1) }
+    ensures draw { IfOk result (λ r. IsDraw terms.grid.side r.1) }
 {
     let path = address.path(alloc)?;
     let keys = ["count", "seed", "stream", "drift", "spread"];
     let table = read_table(alloc, address, path.as_str(), &keys, value)?;
-    let limits = Limits::from_to(0, allowance_of(terms.version).particles);
+    let limits = Limits::from_to(0, allowance_of(terms.version()).particles);
     let count = need_whole(alloc, path.as_str(), "count", table, limits)?;
-    let draw = read_draw(alloc, path.as_str(), table, terms.cells)?;
+    let draw = read_draw(alloc, path.as_str(), table, terms.cells())?;
     Ok((count, draw))
 }
 
@@ -113,13 +113,13 @@ fn read_pair(
     ensures walks { WalksAs (λ (r : ℕ × DrawView). r)
         (pair terms earlier.now (path_of address.entry) (view value.now)) result }
     ensures below { IfOk result (λ r. r.0 < length earlier.now) }
-    ensures draw { IfOk result (λ r. IsDraw terms.cells.side r.1) }
+    ensures draw { IfOk result (λ r. IsDraw terms.grid.side r.1) }
 {
     let path = address.path(alloc)?;
     let keys = ["of", "seed", "stream", "drift", "spread"];
     let table = read_table(alloc, address, path.as_str(), &keys, value)?;
     let number = need_species_number(alloc, path.as_str(), table, earlier)?;
-    let draw = read_draw(alloc, path.as_str(), table, terms.cells)?;
+    let draw = read_draw(alloc, path.as_str(), table, terms.cells())?;
     Ok((number as u32, draw))
 }
 
@@ -195,7 +195,7 @@ fn read_by(
 {
     let address = Address::new(path, source.key());
     match source {
-        FillKind::Points => Ok(Fill::Points(read_points(alloc, address, value, terms.cells)?)),
+        FillKind::Points => Ok(Fill::Points(read_points(alloc, address, value, terms.cells())?)),
         FillKind::Lattice => Ok(at_sites(read_lattice(alloc, address, value, terms)?)),
         FillKind::Random => Ok(at_random(read_random(alloc, address, value, terms)?)),
         FillKind::Pair => Ok(in_pairs(read_pair(alloc, address, value, terms, earlier)?)),

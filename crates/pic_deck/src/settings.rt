@@ -1,11 +1,11 @@
 //! The version of a deck, and its tables of the grid, the run and the scales.
 
-ghost use Rattle.std.specs.Prelude.{◌≡◌, IfOk};
+ghost use Rattle.std.specs.Prelude.{IfOk};
 ghost use Rattle.pic_num.specs.Space.{triple};
 ghost use Rattle.toml.specs.View.{table_view};
 ghost use Rattle.pic_walk.specs.Walk.{WalksAs};
 ghost use Rattle.pic_deck.specs.declared.settings.Settings.{Settings as SettingsView};
-ghost use Rattle.pic_deck.specs.Deck.{AreSettings, terms_of};
+ghost use Rattle.pic_deck.specs.Deck.{AreSettings};
 ghost use Rattle.pic_deck.specs.Keys.{settings};
 
 use crate::grid::read_grid;
@@ -13,7 +13,7 @@ use crate::run::read_run;
 use crate::scale::read_scale;
 use pic_grid::Cells;
 use pic_num::{MAX_VERSION, Scales};
-use pic_walk::{Limits, Terms, WalkStop, need_whole};
+use pic_walk::{Limits, WalkStop, need_whole};
 use std::alloc::Global;
 use toml::Table;
 
@@ -26,18 +26,6 @@ pub struct Settings {
     pub steps: u32,
     pub every: u32,
     pub scales: Scales,
-}
-
-impl Settings {
-    /// What the limits of the deck go by.
-    pub fn terms(self) -> Terms
-        ensures { result ≡ terms_of self }
-    {
-        Terms {
-            version: self.version,
-            cells: self.cells,
-        }
-    }
 }
 
 /// The version of a deck and its tables of the grid, the run and the scales.

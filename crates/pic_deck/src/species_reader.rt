@@ -125,7 +125,7 @@ fn species_in(
     let name = need_name(alloc, path, table, earlier)?;
     let kind = read_kind(alloc, path, table)?;
     let fill = read_fill(alloc, path, table, terms, earlier)?;
-    let count = read_count(alloc, address, terms.version, earlier, &fill)?;
+    let count = read_count(alloc, address, terms.version(), earlier, &fill)?;
     Ok(Species {
         name,
         kind,

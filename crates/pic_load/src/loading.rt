@@ -191,16 +191,16 @@ fn load_species(
     requires number { length earlier.now < most_species }
     requires count { length particles.old.items ≡ particles_of earlier.now }
     requires few { particles_of earlier.now + species.now.count ≤ most_particles }
-    requires side { terms.cells.side ≤ most_side }
+    requires side { terms.grid.side ≤ most_side }
     requires filled { IsFilledFrom terms earlier.now species.now }
     ensures value { OnOk result (particles.new.items ≡ particles.old.items
-        ++ particles_in terms.cells earlier.now particles.old.items species.now) }
+        ++ particles_in terms.grid earlier.now particles.old.items species.now) }
     ensures placed { (m : ℕ) → length earlier.now < m
-        → All (IsPlaced terms.cells m) particles.old.items
-        → OnOk result (All (IsPlaced terms.cells m) particles.new.items) }
+        → All (IsPlaced terms.grid m) particles.old.items
+        → OnOk result (All (IsPlaced terms.grid m) particles.new.items) }
 {
     let number = earlier.len() as u8;
-    let cells = terms.cells;
+    let cells = terms.cells();
     let total = species.count;
     match &species.fill {
         Fill::Points(points) => load_points(particles, number, points.as_slice()),

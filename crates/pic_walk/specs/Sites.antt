@@ -10,7 +10,7 @@ use Rattle.pic_grid.specs.Hat.{IsInBox}
 use Rattle.pic_walk.specs.Bounds.{fastest, widest_gap}
 use Rattle.pic_walk.specs.declared.limits.Limits.{Limits}
 use Rattle.pic_walk.specs.declared.sites.Sites.{Sites}
-use Rattle.pic_walk.specs.declared.terms.Terms.{Terms}
+use Rattle.pic_walk.specs.Terms.{TermsView}
 use Rattle.pic_walk.specs.Limits.{from_to, below, thrice}
 use Rattle.pic_walk.specs.Points.{speed_limits}
 use Rattle.pic_walk.specs.Walk.{Walked, ◌>>=◌, numbers, three, need}
@@ -20,26 +20,26 @@ abbrev pub place_limits : Grid → List Limits
 place_limits g = below (g.n.x * g.side) ∷ below (g.n.y * g.side) ∷ below (g.n.z * g.side) ∷ []
 
 -- the way from a site to the next one
-abbrev pub gap_limits : Terms → List Limits
-gap_limits t = thrice (from_to (pos 0) (pos (widest_gap t.version t.cells.side)))
+abbrev pub gap_limits : TermsView → List Limits
+gap_limits t = thrice (from_to (pos 0) (pos (widest_gap t.version t.grid.side)))
 
 -- the sites of an axis
 abbrev pub count_limits : ℕ → List Limits
 count_limits version = thrice (from_to (pos 1) (pos (allowance_of version).particles))
 
 -- the numbers of a lattice of sites are within their limits
-pub record AreSites (t : Terms) (s : Sites) : Type 0 where
-  pub first : IsInBox t.cells.side t.cells.n (triple s.first)
-  pub gap : (k : ℕ) → k < 3 → slice_index s.gap k ≤ widest_gap t.version t.cells.side
+pub record AreSites (t : TermsView) (s : Sites) : Type 0 where
+  pub first : IsInBox t.grid.side t.grid.n (triple s.first)
+  pub gap : (k : ℕ) → k < 3 → slice_index s.gap k ≤ widest_gap t.version t.grid.side
   pub some : (k : ℕ) → k < 3 → 1 ≤ slice_index s.count k
   pub few : (k : ℕ) → k < 3 → slice_index s.count k ≤ (allowance_of t.version).particles
-  pub speed : (a : Axis) → IsAtMost (along a (spot s.v)) (fastest t.cells.side)
+  pub speed : (a : Axis) → IsAtMost (along a (spot s.v)) (fastest t.grid.side)
 
 -- the keys of a lattice of sites in the table at a path
-unfoldable pub sites : Terms → List ℕ → Members → Walked Sites
+unfoldable pub sites : TermsView → List ℕ → Members → Walked Sites
 sites t path ms =
-    need (three (place_limits t.cells)) (codes "first") path ms
+    need (three (place_limits t.grid)) (codes "first") path ms
     >>= (λ first. need (three (gap_limits t)) (codes "gap") path ms
     >>= (λ gap. need (three (count_limits t.version)) (codes "count") path ms
-    >>= (λ count. need (numbers (thrice (speed_limits t.cells.side))) (codes "v") path ms
+    >>= (λ count. need (numbers (thrice (speed_limits t.grid.side))) (codes "v") path ms
     >>= (λ v. Ok (record { first = first; gap = gap; count = count; v = v })))))

@@ -42,8 +42,8 @@ pub fn widest_spread(cells: Cells) -> u32
 
 /// The longest way from a site of a lattice to the next one: the longest box of the version.
 pub fn widest_gap(terms: Terms) -> u32
-    ensures value { result ≡ widest_gap terms.version terms.cells.side }
+    ensures value { result ≡ widest_gap terms.version terms.grid.side }
     ensures most { result ≤ most_extent }
 {
-    along(allowance_of(terms.version).cells, terms.cells.sub())
+    along(allowance_of(terms.version()).cells, terms.cells().sub())
 }

@@ -17,7 +17,6 @@ use crate::fault::WalkStop;
 use crate::limits::Limits;
 use crate::tables::{need_signed_three, need_three};
 use crate::terms::Terms;
-use pic_grid::Cells;
 use pic_num::allowance_of;
 use std::alloc::Global;
 use toml::Table;
@@ -33,32 +32,32 @@ pub struct Sites {
     pub v: [i32; 3],
 }
 
-fn place_limits(cells: Cells) -> [Limits; 3]
-    ensures value { result ≡ place_limits cells }
-    ensures extent { IsExtent (extent_of cells) }
+fn place_limits(terms: Terms) -> [Limits; 3]
+    ensures value { result ≡ place_limits terms.grid }
+    ensures extent { IsExtent (extent_of terms.grid) }
 {
-    let [x, y, z] = extent(cells);
+    let [x, y, z] = extent(terms.cells());
     [Limits::below(x), Limits::below(y), Limits::below(z)]
 }
 
 fn gap_limits(terms: Terms) -> [Limits; 3]
     ensures value { result ≡ gap_limits terms }
-    ensures most { widest_gap terms.version terms.cells.side ≤ most_extent }
+    ensures most { widest_gap terms.version terms.grid.side ≤ most_extent }
 {
     [Limits::from_to(0, widest_gap(terms)); 3]
 }
 
-fn count_limits(version: u32) -> [Limits; 3]
-    ensures { result ≡ count_limits version }
+fn count_limits(terms: Terms) -> [Limits; 3]
+    ensures { result ≡ count_limits terms.version }
 {
-    [Limits::from_to(1, allowance_of(version).particles); 3]
+    [Limits::from_to(1, allowance_of(terms.version()).particles); 3]
 }
 
-fn velocity_limits(cells: Cells) -> [Limits; 3]
-    ensures value { result ≡ thrice (speed_limits cells.side) }
-    ensures most { fastest cells.side ≤ fastest most_side }
+fn velocity_limits(terms: Terms) -> [Limits; 3]
+    ensures value { result ≡ thrice (speed_limits terms.grid.side) }
+    ensures most { fastest terms.grid.side ≤ fastest most_side }
 {
-    [Limits::either_way(fastest(cells)); 3]
+    [Limits::either_way(fastest(terms.cells())); 3]
 }
 
 /// The keys of a lattice of sites in the table at a path; the first site is in the box.
@@ -67,11 +66,10 @@ pub fn read_sites(alloc: Global, path: &str, table: &Table, terms: Terms) -> Res
         result }
     ensures limits { IfOk result (λ s. AreSites terms s) }
 {
-    let cells = terms.cells;
-    let first = need_three(alloc, path, "first", table, place_limits(cells))?;
+    let first = need_three(alloc, path, "first", table, place_limits(terms))?;
     let gap = need_three(alloc, path, "gap", table, gap_limits(terms))?;
-    let count = need_three(alloc, path, "count", table, count_limits(terms.version))?;
-    let v = need_signed_three(alloc, path, "v", table, velocity_limits(cells))?;
+    let count = need_three(alloc, path, "count", table, count_limits(terms))?;
+    let v = need_signed_three(alloc, path, "v", table, velocity_limits(terms))?;
     Ok(Sites {
         first,
         gap,

@@ -44,11 +44,11 @@ returns-clause-walks c =
 
 pub need_three-requires : goal.need_three-requires
 need_three-requires c =
-    rw c.place_limits.ensures.value (places_fit c.args.terms.cells c.place_limits.ensures.extent)
+    rw c.place_limits.ensures.value (places_fit c.args.terms.grid c.place_limits.ensures.extent)
 
 pub need_three-requires-2 : goal.need_three-requires-2
 need_three-requires-2 c = rw c.gap_limits.ensures.value
-    (three_fit 0 (widest_gap c.args.terms.version c.args.terms.cells.side) (omega (arith, c.gap_limits.ensures.most)))
+    (three_fit 0 (widest_gap c.args.terms.version c.args.terms.grid.side) (omega (arith, c.gap_limits.ensures.most)))
 
 pub need_three-requires-3 : goal.need_three-requires-3
 need_three-requires-3 c = rw c.count_limits.ensures
@@ -56,16 +56,16 @@ need_three-requires-3 c = rw c.count_limits.ensures
 
 pub need_signed_three-requires : goal.need_signed_three-requires
 need_signed_three-requires c = rw c.velocity_limits.ensures.value
-    (signed_fit (fastest c.args.terms.cells.side) (omega (arith, c.velocity_limits.ensures.most)))
+    (signed_fit (fastest c.args.terms.grid.side) (omega (arith, c.velocity_limits.ensures.most)))
 
 pub returns-clause-limits : goal.returns-clause-limits
 returns-clause-limits c =
     let terms = c.args.terms in
     let count = rw c.count_limits.ensures at c.in_ok-count.ensures.bounds in
     record {
-      first = place_in terms.cells _ c.place_limits.ensures.extent (rw c.place_limits.ensures.value at c.in_ok-first.ensures.bounds);
-      gap = at_most 0 (widest_gap terms.version terms.cells.side) _ (rw c.gap_limits.ensures.value at c.in_ok-gap.ensures.bounds);
+      first = place_in terms.grid _ c.place_limits.ensures.extent (rw c.place_limits.ensures.value at c.in_ok-first.ensures.bounds);
+      gap = at_most 0 (widest_gap terms.version terms.grid.side) _ (rw c.gap_limits.ensures.value at c.in_ok-gap.ensures.bounds);
       some = at_least 1 (allowance_of terms.version).particles _ count;
       few = at_most 1 (allowance_of terms.version).particles _ count;
-      speed = along_most (fastest terms.cells.side) _ (rw c.velocity_limits.ensures.value at c.in_ok-v.ensures.bounds);
+      speed = along_most (fastest terms.grid.side) _ (rw c.velocity_limits.ensures.value at c.in_ok-v.ensures.bounds);
     }
