@@ -14,8 +14,8 @@ ghost use Rattle.pic_deck.specs.Keys.{grid_keys, grid, cell_limits, axis_tiles, 
 use pic_grid::Cells;
 use pic_num::{MIN_CELLS, Sub, allowance_of};
 use pic_walk::{
-    Address, Limits, WalkStop, check_within, need_table, need_three, need_whole,
-    needed_value, read_array, read_whole,
+    Address, Limits, WalkStop, check_within, need_table, need_three, need_whole, needed_value,
+    read_array, read_whole,
 };
 use std::alloc::Global;
 use toml::{Table, Value};
@@ -134,11 +134,7 @@ fn read_side(alloc: Global, table: &Table, version: u32) -> Result<Sub, WalkStop
 }
 
 /// The table `grid` of a deck of a version: the cells of each axis with their side, and the tiles.
-pub fn read_grid(
-    alloc: Global,
-    table: &Table,
-    version: u32,
-) -> Result<(Cells, [u32; 3]), WalkStop>
+pub fn read_grid(alloc: Global, table: &Table, version: u32) -> Result<(Cells, [u32; 3]), WalkStop>
     ensures walks { WalksAs (λ (g : Grid × List ℕ). g) (grid version (table_view table.now)) result }
     ensures cells { IfOk result (λ g. IsCells g.0.n) }
     ensures allowed { IfOk result (λ g. IsGridOf version g.0.n g.0.side) }

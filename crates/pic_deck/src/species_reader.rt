@@ -68,21 +68,21 @@ pub fn particles_of(species: &[Species]) -> usize
 fn check_particles(
     alloc: Global,
     address: Address<'_>,
-    version: u32,
+    terms: Terms,
     earlier: &[Species],
     count: u128,
 ) -> Result<(), WalkStop>
-    requires few { particles_of earlier.now ≤ (allowance_of version).particles }
+    requires few { particles_of earlier.now ≤ (allowance_of terms.version).particles }
     requires size { count < 2 ^ 96 }
     ensures walks { WalksAs (λ _. pos (particles_of earlier.now + count))
-        (within (from_to (pos 0) (pos (allowance_of version).particles)) (path_of address.entry)
+        (within (from_to (pos 0) (pos (allowance_of terms.version).particles)) (path_of address.entry)
         (pos (particles_of earlier.now + count))) result }
     ensures few { OnOk result (particles_of earlier.now + count
-        ≤ (allowance_of version).particles) }
+        ≤ (allowance_of terms.version).particles) }
 {
     let before = particles_of(earlier) as i128;
     let more = count as i128;
-    let limits = Limits::from_to(0, allowance_of(version).particles);
+    let limits = Limits::from_to(0, allowance_of(terms.version()).particles);
     check_within(alloc, address, before + more, limits)
 }
 
@@ -90,20 +90,20 @@ fn check_particles(
 fn read_count(
     alloc: Global,
     address: Address<'_>,
-    version: u32,
+    terms: Terms,
     earlier: &[Species],
     fill: &Fill,
 ) -> Result<u32, WalkStop>
-    requires { particles_of earlier.now ≤ (allowance_of version).particles }
+    requires { particles_of earlier.now ≤ (allowance_of terms.version).particles }
     ensures walks { WalksAs (λ (n : ℕ). n)
-        (counted version earlier.now (path_of address.entry) fill.now)
+        (counted terms.version earlier.now (path_of address.entry) fill.now)
         result }
     ensures count { IfOk result (λ n. n ≡ filled_count earlier.now fill.now) }
     ensures few { IfOk result (λ n. particles_of earlier.now + n
-        ≤ (allowance_of version).particles) }
+        ≤ (allowance_of terms.version).particles) }
 {
     let count = fill.count(earlier);
-    check_particles(alloc, address, version, earlier, count)?;
+    check_particles(alloc, address, terms, earlier, count)?;
     Ok(count as u32)
 }
 
@@ -125,7 +125,7 @@ fn species_in(
     let name = need_name(alloc, path, table, earlier)?;
     let kind = read_kind(alloc, path, table)?;
     let fill = read_fill(alloc, path, table, terms, earlier)?;
-    let count = read_count(alloc, address, terms.version(), earlier, &fill)?;
+    let count = read_count(alloc, address, terms, earlier, &fill)?;
     Ok(Species {
         name,
         kind,

@@ -24,10 +24,10 @@ loop-row-init c = record {
 }
 
 pub at-requires : goal.at-requires
-at-requires c = rw c.loop-row.invariant.grid (c.requires.rows.each c.loop-row.row-index (omega arith)).within
+at-requires c = rw c.loop-row.invariant.cells (c.requires.rows.each c.loop-row.row-index (omega arith)).within
 
 pub set-requires : goal.set-requires
-set-requires c = rw c.loop-row.invariant.grid (c.requires.rows.each c.loop-row.row-index (omega arith)).within
+set-requires c = rw c.loop-row.invariant.cells (c.requires.rows.each c.loop-row.row-index (omega arith)).within
 
 pub overflow_add-value : goal.overflow_add-value
 overflow_add-value c =

@@ -24,7 +24,7 @@ pub returns-then-version-eq1-clause-allowed : goal.returns-then-version-eq1-clau
 returns-then-version-eq1-clause-allowed c =
     let scheme = within_scheme c.args.version in
     subst (IsSideOf c.args.version) (sym (rw c.allowance_of-allowed.ensures at c.of_bits.ensures))
-    (side_of_bits c.args.version (allowance_of c.args.version).least_bits le_refl scheme.sides)
+    (side_of_bits c.args.version (allowance_of c.args.version).least_bits (le_refl _) scheme.sides)
 
 pub need_whole-requires : goal.need_whole-requires
 need_whole-requires c = rw (c.from_to-limits.ensures, c.allowance_of-allowed.ensures) (bits_fit c.args.version)
