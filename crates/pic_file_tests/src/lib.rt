@@ -19,6 +19,8 @@ mod reader;
 #[cfg(test)]
 mod refused;
 #[cfg(test)]
+mod terms;
+#[cfg(test)]
 mod texts;
 #[cfg(test)]
 mod trial;

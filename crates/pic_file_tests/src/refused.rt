@@ -8,7 +8,7 @@ use std::process::Abort;
 // numbers of a limit
 type Case = (&'static str, &'static str, &'static str);
 
-const FAULTS: [Case; 11] = [
+const FAULTS: [Case; 12] = [
     ("[grid]", "speed = 1\n[grid]", "unknown speed [0, 0, 0]"),
     (
         "cells = [2, 2, 2]",
@@ -19,6 +19,11 @@ const FAULTS: [Case; 11] = [
         "cells = [2, 2, 2]",
         "cells = [65, 2, 2]\nx = 1",
         "unknown grid.x [0, 0, 0]",
+    ),
+    (
+        "cells = [2, 2, 2]",
+        "sub = 12\ncells = [2, 2, 2]",
+        "unknown grid.sub [0, 0, 0]",
     ),
     (
         "cells = [2, 2, 2]\ntiles = [1, 1, 1]",
@@ -165,5 +170,6 @@ fn bytes_that_are_no_deck(rt: HostRuntime) {
     refuses(&rt, b"", "missing version [0, 0, 0]");
     refuses(&rt, b"\xff", "text  [0, 0, 0]");
     refuses(&rt, b"version = 1.0", "kind version [0, 0, 0]");
+    refuses(&rt, b"version = 2", "limit version [2, 1, 1]");
     refuses(&rt, &long, "limit deck [1048577, 0, 1048576]");
 }
