@@ -19,7 +19,7 @@ use Rattle.pic_run.specs.declared.ended.Ended.TheVariants as ended
 use Rattle.pic_run.specs.declared.output.Output.{Output}
 use Rattle.pic_run.specs.Frames.{frame_piece, due_frame, frame_where, frame_after, frames_from, frames_of, end_where, end_of_run}
 use Rattle.pic_run.specs.Outcome.{answer_of}
-use Rattle.pic_run.specs.Ends.{HasFrames}
+use Rattle.pic_run.specs.Leaves.{HasFrames}
 use Rattle.pic_run.specs.Runs.{WroteFrames}
 use Rattle.pic_run.proofs.StateLaws.{stops_by_stop}
 

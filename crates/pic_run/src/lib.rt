@@ -23,4 +23,5 @@ mod writing;
 
 pub use ended::Ended;
 pub use laws::every_state_meets_gauss;
+pub use output::Output;
 pub use top_call::pic;

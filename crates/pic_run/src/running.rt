@@ -9,8 +9,12 @@ ghost use Rattle.pic_step.specs.Start.{begun};
 ghost use Rattle.pic_run.specs.Starting.{header_of};
 ghost use Rattle.pic_run.specs.Frames.{frames_of, end_of_run, end_piece};
 ghost use Rattle.pic_run.specs.Rooms.{HasShape};
-ghost use Rattle.pic_run.specs.Outcome.{run_outcome, dump_outcome, states_outcome, answer_of};
-ghost use Rattle.pic_run.specs.Ends.{OnDeck, Finishes};
+ghost use Rattle.pic_run.specs.Ended.{ended_of};
+ghost use Rattle.pic_run.specs.Outcome.{dump_outcome, states_outcome, answer_of};
+ghost use Rattle.pic_run.specs.Leaves.{LeavesWhole};
+ghost use Rattle.pic_run.specs.Finishes.{Finishes};
+ghost use Rattle.pic_run.specs.Manner.{Performs};
+ghost use Rattle.pic_run.specs.Run.{running};
 ghost use Rattle.pic_run.specs.Runs.{WritesFrames, WritesStates};
 
 use crate::cut::Cut;
@@ -43,9 +47,9 @@ pub fn run<H: Threads + Sync, S: Source, O: Sink, R: Sink, G: Gate + Sync>(
 ) -> Result<Ended, Cut>
     requires some { 0 < workers }
     requires most { workers ≤ most_workers }
-    ensures { OnDeck workers run_outcome (S.told source.old) (S.told source.new)
+    ensures { Performs (running workers) (S.told source.old) (S.told source.new)
         (sinks (O.told out.old) (R.told report.old))
-        (sinks (O.told out.new) (R.told report.new)) result }
+        (sinks (O.told out.new) (R.told report.new)) (ended_of result) }
 {
     match open(alloc, source) {
         Ok(opened) => run_deck(threading, alloc, opened, out, report, workers),
@@ -66,7 +70,7 @@ fn run_deck<H: Threads + Sync, O: Sink, R: Sink, G: Gate + Sync>(
     requires most { workers ≤ most_workers }
     requires sound { IsSound (begun opened.start) }
     requires tiled { AreTiled opened.start.map opened.start.e opened.start.b }
-    ensures { Finishes workers (dump_outcome (header_of opened.deck) (begun opened.start))
+    ensures { Finishes (LeavesWhole workers) (dump_outcome (header_of opened.deck) (begun opened.start))
         (sinks (O.told out.old) (R.told report.old))
         (sinks (O.told out.new) (R.told report.new)) result }
 {
@@ -125,7 +129,7 @@ fn write_run<H: Threads + Sync, O: Sink, R: Sink, G: Gate + Sync>(
     requires some { 0 < workers }
     requires most { workers ≤ most_workers }
     requires room { HasShape ready.stage.room ready.stage.state.world }
-    ensures { Finishes workers (dump_outcome ready.header ready.stage.state.world)
+    ensures { Finishes (LeavesWhole workers) (dump_outcome ready.header ready.stage.state.world)
         (sinks (O.told out.old) (R.told report.old))
         (sinks (O.told out.new) (R.told report.new)) result }
 {
