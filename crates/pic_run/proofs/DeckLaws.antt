@@ -1,5 +1,5 @@
 -- Commands on a deck: how they end, from how the deck was opened, and what their answers mean.
-use Rattle.std.proofs.Common.{◌≡◌, ℕ, List, [], take, Option, Some, None, Result, Ok, Err, refl, sym, ap, ◌∙◌, subst}
+use Rattle.std.proofs.Common.{◌≡◌, ℕ, List, [], take, Option, Some, None, Result, Ok, Err, refl, sym, ap, ◌∙◌, subst, arith}
 use Rattle.std.specs.Prelude.{IsOk}
 use Rattle.pic_io.specs.Told.{Told, Calm}
 use Rattle.pic_io.specs.Sinks.{Sinks, Wrote}
@@ -14,9 +14,10 @@ use Rattle.pic_charge.proofs.BreakLaws.{first_break_some}
 use Rattle.pic_deck.specs.Deck.{DeckView}
 use Rattle.pic_deck.specs.Refusal.{ReadDeck}
 use Rattle.pic_deck.specs.Reading.{walk}
-use Rattle.pic_step.specs.SerialStep.{World}
+use Rattle.pic_step.specs.SerialStep.{World, e_of}
 use Rattle.pic_step.specs.SerialRun.{after}
 use Rattle.pic_step.specs.Sound.{IsSound}
+use Rattle.pic_step.proofs.AfterLaws.{step_after}
 use Rattle.pic_run.specs.declared.cut.Cut.{Cut}
 use Rattle.pic_run.specs.declared.early.StageStop.{StageStop}
 use Rattle.pic_run.specs.declared.early.StageStop.TheVariants.{Answer, NoMemory as StageNoMemory}
@@ -133,7 +134,7 @@ from (Held held) = go (walk (take deck_limit held)) refl
 
 pub least_of : (w : World) (b : Break) → state_break w ≡ Some b → IsLeastBreakOf w b
 unfolding state_break
-least_of w b found = first_break_some w.cells (div_e w.cells (value_at w.e)) (charge_of w.side w.cells w.kinds w.particles) b found
+least_of w b found = first_break_some w.cells (div_e w.cells (value_at (e_of w))) (charge_of w.side w.cells w.kinds w.particles) b found
 
 accepted_in : (given : Given) (held : List ℕ) (d : DeckView) → given ≡ Held held → walk (take deck_limit held) ≡ Ok d → accepted given ≡ Ok d
 accepted_in given held d is walked = ap accepted is ∙ ap unless_refused walked
@@ -181,9 +182,15 @@ module _ (performed : DeckView → Outcome) (leaves : Leaving) (own : Call → E
 module _ (Has : DeckView → Type 0) (P : Ended → Type 0) (done : (steps : ℕ) → IsRunDone Has steps → P (Done steps))
     (stopped : (step : ℕ) (stop : Stop) → IsStopped Has step stop → P (Stopped step stop)) where
   states : (d : DeckView) → Has d → IsSound (first_state d) → (r : Result World EndMark) → after (first_state d) d.steps ≡ r
-      → P (answer_of (end_where d.steps r))
+      → P (answer_of (end_where r))
   states d has sound (Ok v) reached =
-      done d.steps (record { deck = d; held = has; gauss = each_gauss (first_state d) sound; last = refl; reached = subst IsOk (sym reached) refl })
+      done v.step (record {
+        deck = d;
+        held = has;
+        gauss = each_gauss (first_state d) sound;
+        last = let came = step_after (first_state d) v d.steps reached in omega (arith, came);
+        reached = subst IsOk (sym reached) refl;
+      })
   states d has sound (Err (EndDone other)) stops = absurd (stops_by_stop (first_state d) d.steps (EndDone other) stops)
   states d has sound (Err (EndStopped step stop)) stops =
       stopped step stop (record { deck = d; held = has; gauss = each_gauss (first_state d) sound; stops = stops })

@@ -33,10 +33,9 @@ found None n h = absurd (cc)
 
 -- what a command's workers are
 abbrev HasWorkers : Command → Type 0
-HasWorkers Check = ⊤
 HasWorkers (Run workers) = AreWorkers workers
-HasWorkers Verify = ⊤
 HasWorkers (Demo seed workers) = AreWorkers workers
+HasWorkers c = ⊤
 
 plain : (d c : Command) → HasWorkers d → ◌≡◌ {A = Option Command} (Some d) (Some c) → HasWorkers c
 plain d c has h = let same : d ≡ c = cc in subst HasWorkers same has

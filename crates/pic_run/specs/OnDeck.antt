@@ -12,7 +12,7 @@ use Rattle.pic_charge.specs.Gauss.{IsLeastBreak}
 use Rattle.pic_deck.specs.declared.refusal.Refusal.{Refusal}
 use Rattle.pic_deck.specs.Deck.{DeckView}
 use Rattle.pic_deck.specs.Reading.{walk}
-use Rattle.pic_step.specs.SerialStep.{World}
+use Rattle.pic_step.specs.SerialStep.{World, e_of}
 use Rattle.pic_step.specs.SerialRun.{after}
 use Rattle.pic_step.specs.Sound.{IsSound}
 use Rattle.pic_run.specs.declared.ended.Ended.{Ended}
@@ -43,7 +43,8 @@ IsRefused c refusal = IfSome c.source.bytes (λ held. walk (take deck_limit held
 -- the least node of a state where the divergence of E and the charge differ
 abbrev pub IsLeastBreakOf : World → Break → Type 0
 IsLeastBreakOf w b =
-    IsLeastBreak w.cells (div_e w.cells (value_at w.e)) (charge_of w.side w.cells w.kinds w.particles) b
+    IsLeastBreak w.cells (div_e w.cells (value_at (e_of w)))
+    (charge_of w.side w.cells w.kinds w.particles) b
 
 -- this is the least node where the E of the command's deck and its charge differ
 pub record BreaksGauss (Has : DeckView → Type 0) (b : Break) : Type 0 where

@@ -22,7 +22,7 @@ pub record IsTested (d : DeckView) (o : Opened) : Type 0 where
   pub deck : tested d ≡ Ok o.deck
   pub start : begun o.start ≡ first_state o.deck
   pub sound : IsSound (begun o.start)
-  pub tiled : AreTiled o.start.map o.start.e o.start.b
+  pub tiled : AreTiled o.start.setup.map o.start.e o.start.b
 
 -- a stage of a deck came to an end, and this early end says so
 pub record IsEndOf (stage : Staged DeckView) (why : Early) : Type 0 where
@@ -41,7 +41,7 @@ pub record IsDeckOpened (given : Given) (now : Told) (o : Opened) : Type 0 where
   pub deck : opened given ≡ Ok o.deck
   pub start : begun o.start ≡ first_state o.deck
   pub sound : IsSound (begun o.start)
-  pub tiled : AreTiled o.start.map o.start.e o.start.b
+  pub tiled : AreTiled o.start.setup.map o.start.e o.start.b
   pub end : IsAtEnd now
 
 -- the end of what was given; where its deck is accepted, and where it is no longer than a deck may be,

@@ -8,13 +8,14 @@ use Rattle.pic_num.specs.declared.axis.Axis.TheVariants.{X, Y, Z}
 use Rattle.pic_num.specs.Rounding.{scaled}
 use Rattle.pic_num.specs.Space.{Triple}
 use Rattle.pic_grid.specs.Differences.{up, curl_e, div_b}
-use Rattle.pic_grid.specs.Lattice.{value_at, field_of}
+use Rattle.pic_grid.specs.Lattice.{value_at}
 use Rattle.pic_grid.specs.Cells.{IsWithin}
+use Rattle.pic_grid.specs.Parts.{one_part}
 use Rattle.pic_grid.proofs.DifferenceLaws.{div_b-curl_e}
 use Rattle.pic_grid.proofs.LatticeLaws.{value_at-field_of}
 use Rattle.pic_field.specs.FieldPhases.{half_of}
 use Rattle.pic_step.specs.Keeps.{Keeps}
-use Rattle.pic_step.specs.SerialStep.{World, half_at, half_on, push_on, next_world}
+use Rattle.pic_step.specs.SerialStep.{World, e_of, b_of, half_at, half_on, push_on, next_world}
 use Rattle.pic_step.specs.Sound.{IsSound}
 use Rattle.pic_step.proofs.SoundLaws.{gauss_kept}
 
@@ -36,17 +37,16 @@ div_b-less : (n : Triple) (e f : Axis → Triple → ℤ) (p : Triple) → div_b
 div_b-less n e f p = omega (arith, ints)
 
 -- half a step of B
-half_keeps : (w : World) (p : Triple) → w.e.cells ≡ w.cells → IsWithin p w.cells → div_b w.cells (value_at (half_on w).b) p ≡ div_b w.cells (value_at w.b) p
+half_keeps : (w : World) (p : Triple) → IsWithin p w.cells → div_b w.cells (value_at (b_of (half_on w))) p ≡ div_b w.cells (value_at (b_of w)) p
 unfolding half_of
-half_keeps w p cells within =
+half_keeps w p within =
     let n = w.cells in
-    let curl : Axis → Triple → ℤ = curl_e n (λ c q. scaled (value_at w.e c q) w.scales.e_to_b) in
-    div_b_same n (value_at (field_of w.side n w.b.parts (half_at w))) (λ a q. value_at w.b a q -ℤ curl a q) p within
-    (λ a q inside. value_at-field_of w.side n w.b.parts (half_at w) a q inside
-    ∙ (λ i. value_at w.b a q -ℤ curl_e (cells i) (λ c r. scaled (value_at w.e c r) w.scales.e_to_b) a q))
-    ∙ div_b-less n (value_at w.b) curl p
-    ∙ ap (λ (k : ℤ). div_b n (value_at w.b) p -ℤ k) (div_b-curl_e n (λ c q. scaled (value_at w.e c q) w.scales.e_to_b) p)
-    ∙ none (div_b n (value_at w.b) p)
+    let curl : Axis → Triple → ℤ = curl_e n (λ c q. scaled (value_at (e_of w) c q) w.scales.e_to_b) in
+    div_b_same n (value_at (b_of (half_on w))) (λ a q. value_at (b_of w) a q -ℤ curl a q) p within
+    (λ a q inside. value_at-field_of w.side n one_part (half_at w) a q inside)
+    ∙ div_b-less n (value_at (b_of w)) curl p
+    ∙ ap (λ (k : ℤ). div_b n (value_at (b_of w)) p -ℤ k) (div_b-curl_e n (λ c q. scaled (value_at (e_of w) c q) w.scales.e_to_b) p)
+    ∙ none (div_b n (value_at (b_of w)) p)
   where
     none : (k : ℤ) → k -ℤ pos 0 ≡ k
     none k = omega (arith, ints)
@@ -54,10 +54,11 @@ half_keeps w p cells within =
 pub step_keeps : (w : World) → IsSound w → Keeps w (next_world w)
 unfolding next_world
 step_keeps w sound = record {
+  step = refl;
   side = refl;
   cells = refl;
   scales = refl;
   kinds = refl;
   gauss = gauss_kept w sound;
-  magnetic = λ p within. half_keeps (push_on (half_on w)) p sound.e.cells within ∙ half_keeps w p sound.e.cells within;
+  magnetic = λ p within. half_keeps (push_on (half_on w)) p within ∙ half_keeps w p within;
 }

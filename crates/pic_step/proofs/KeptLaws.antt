@@ -1,5 +1,5 @@
 -- What the type of a state keeps, from its parts.
-use Rattle.std.proofs.Common.{◌≡◌, ℕ, ◌<◌, List, length, All, refl, sym, ◌∙◌, subst, arith}
+use Rattle.std.proofs.Common.{◌≡◌, ℕ, suc, ◌<◌, List, length, All, refl, sym, ◌∙◌, subst, arith}
 use Rattle.std.proofs.lemmas.List.Elements.{All-weaker}
 use Rattle.pic_num.specs.declared.motion.Kind.{Kind}
 use Rattle.pic_num.specs.declared.motion.Particle.{Particle}
@@ -17,15 +17,16 @@ use Rattle.pic_tile.proofs.SameLaws.{same_sym, same_length}
 use Rattle.pic_tile.specs.CoreState.{all_particles}
 use Rattle.pic_tile.specs.Held.{chains_of}
 use Rattle.pic_tile.specs.Parcels.{AreFreshTiles}
-use Rattle.pic_tile.specs.Tiling.{Tiling, IsMap, cells_of, grid_of_tiling}
+use Rattle.pic_tile.specs.Tiling.{Tiling, IsMap, grid_of_tiling}
 use Rattle.pic_tile.proofs.HeldLaws.{fresh_hold}
 use Rattle.pic_step.specs.declared.plasma.Plasma.{Plasma}
-use Rattle.pic_step.specs.Kept.{as_one, AreTiled, IsKept, seen}
+use Rattle.pic_step.specs.Kept.{IsTiled, AreTiled, IsKept, seen}
 use Rattle.pic_step.specs.Plasma.{IsPlasma}
 use Rattle.pic_step.specs.PushOn.{CanPush}
 use Rattle.pic_step.specs.SerialStep.{World, world_of}
 use Rattle.pic_step.specs.Sound.{IsSafe, IsSound}
 use Rattle.pic_step.specs.Tiled.{AreTilesOf}
+use Rattle.pic_step.proofs.OnePartLaws.{safe_parts}
 use Rattle.pic_step.proofs.PlasmaLaws.{particles_are}
 
 -- the particles of a sound state lie in the box
@@ -36,19 +37,19 @@ pub above_zero : (w : World) → IsSound w → 0 < w.side
 above_zero w sound = let least = sound.side_least in omega (arith, least)
 
 -- where its particles are cut into tiles, the state is that of its parts
-module _ (m : Tiling) (scales : Scales) (kinds : List Kind) (e b : Field) (xs : List Particle) (p : Plasma) (map : IsMap m)
-    (sound : IsSound (world_of (grid_of_tiling m) scales kinds (as_one e) (as_one b) xs)) (tiled : AreTiled m e b) (of_map : p.frame.map ≡ m)
+module _ (step : ℕ) (m : Tiling) (scales : Scales) (kinds : List Kind) (e b : Field) (xs : List Particle) (p : Plasma) (map : IsMap m)
+    (sound : IsSound (world_of step (grid_of_tiling m) scales kinds e.values b.values xs)) (tiled : AreTiled m e b) (of_map : p.frame.map ≡ m)
     (of_kinds : p.frame.kinds ≡ kinds) (ready : IsPlasma xs p) where
   list_is : all_particles p.tiles.items ≡ xs
   list_is =
-      let w = world_of (grid_of_tiling m) scales kinds (as_one e) (as_one b) xs in
+      let w = world_of step (grid_of_tiling m) scales kinds e.values b.values xs in
       particles_are m xs p.tiles.items (above_zero w sound) map.thick (inside w sound) (record { identities = sound.identities })
       (subst (λ (n : Tiling). AreFreshTiles n xs p.tiles.items) of_map ready.tiles)
 
-  pub begun_is : seen scales e b p ≡ world_of (grid_of_tiling m) scales kinds (as_one e) (as_one b) xs
-  begun_is = λ i. world_of (grid_of_tiling (of_map i)) scales (of_kinds i) (as_one e) (as_one b) (list_is i)
+  pub begun_is : seen step scales e b p ≡ world_of step (grid_of_tiling m) scales kinds e.values b.values xs
+  begun_is = λ i. world_of step (grid_of_tiling (of_map i)) scales (of_kinds i) e.values b.values (list_is i)
 
-  pub kept : IsKept scales e b p
+  pub kept : IsKept step scales e b p
   kept = record {
     sound = subst IsSound (sym begun_is) sound;
     tiled = subst (λ (n : Tiling). AreTiled n e b) (sym of_map) tiled;
@@ -56,10 +57,10 @@ module _ (m : Tiling) (scales : Scales) (kinds : List Kind) (e b : Field) (xs : 
   }
 
 -- the census of the tiles of a state
-module _ (scales : Scales) (e b : Field) (p : Plasma) (map : IsMap p.frame.map) (keeps : IsKept scales e b p) where
+module _ (step : ℕ) (scales : Scales) (e b : Field) (p : Plasma) (map : IsMap p.frame.map) (keeps : IsKept step scales e b p) where
   same : Same (together (chains_of p.tiles.items)) (all_particles p.tiles.items)
   same =
-      let w = seen scales e b p in
+      let w = seen step scales e b p in
       let held = fresh_hold p.frame.map w.particles p.tiles.items (above_zero w keeps.sound) map.thick (inside w keeps.sound) keeps.plasma.tiles in
       held.same
 
@@ -81,20 +82,21 @@ module _ (scales : Scales) (e b : Field) (p : Plasma) (map : IsMap p.frame.map) 
       written_all all to census (long ∙ sym (same_length all (all_particles p.tiles.items) same))
 
   -- and each particle is in one of them
-  pub tiled : AreTilesOf (seen scales e b p) p.frame.map p.tiles.items
+  pub tiled : AreTilesOf (seen step scales e b p) p.frame.map p.tiles.items
   tiled =
       let xs = all_particles p.tiles.items in
       let all = together (chains_of p.tiles.items) in
       record { side = refl; cells = refl; own = keeps.plasma.tiles; once = permutes particle_discrete xs all (same_sym all xs same) }
 
 -- a state's fields and particles can be pushed, B after its first half step
-pub can_push : (scales : Scales) (e b c : Field) (p : Plasma) → IsKept scales e b p
-    → IsSafe p.frame.map.side (cells_of p.frame.map) scales.b_force (as_one c) → CanPush scales e c p
-can_push scales e b c p keeps safe =
-    let w = seen scales e b p in
+pub can_push : (step : ℕ) (scales : Scales) (e b c : Field) (p : Plasma) → IsKept step scales e b p → IsTiled p.frame.map c → IsSafe scales.b_force c
+    → CanPush scales e c p
+can_push step scales e b c p keeps tiled_c safe =
+    let w = seen step scales e b p in
     record {
       side = above_zero w keeps.sound;
-      safe_e = keeps.sound.e;
+      tiled = record { of_e = keeps.tiled.of_e; of_b = tiled_c };
+      safe_e = safe_parts p.frame.map scales.e_force e keeps.tiled.of_e keeps.sound.e;
       safe_b = safe;
       plasma = keeps.plasma;
       opening = record {
@@ -106,7 +108,9 @@ can_push scales e b c p keeps safe =
     }
 
 -- the state of the parts that a step leaves
-pub next_is : (scales : Scales) (e b e' b' : Field) (p q : Plasma) → q.frame.map ≡ p.frame.map → q.frame.kinds ≡ p.frame.kinds
-    → record (seen scales e b p) { e = as_one e'; b = as_one b'; particles = all_particles q.tiles.items } ≡ seen scales e' b' q
-next_is scales e b e' b' p q map kinds =
-    λ i. world_of (grid_of_tiling (sym map i)) scales (sym kinds i) (as_one e') (as_one b') (all_particles q.tiles.items)
+pub next_is : (step next : ℕ) (scales : Scales) (e b e' b' : Field) (p q : Plasma) → next ≡ suc step → q.frame.map ≡ p.frame.map
+    → q.frame.kinds ≡ p.frame.kinds
+    → record (seen step scales e b p) { step = suc step; e = e'.values; b = b'.values; particles = all_particles q.tiles.items }
+    ≡ seen next scales e' b' q
+next_is step next scales e b e' b' p q more map kinds =
+    λ i. world_of (sym more i) (grid_of_tiling (sym map i)) scales (sym kinds i) e'.values b'.values (all_particles q.tiles.items)

@@ -1,6 +1,7 @@
 pub mod VelocityLaws
 mod UnpushedLaws
 pub mod GaussLaws
+pub mod StartLaws
 pub mod SoundLaws
 pub mod BeyondLaws
 pub mod ImageLaws
@@ -14,5 +15,6 @@ pub mod PushPhaseLaws
 pub mod ExitLaws
 pub mod StepLaws
 pub mod KeepLaws
+pub mod AfterLaws
 pub mod RoomLaws
 pub mod SwapLaws

@@ -1,6 +1,5 @@
--- A lattice seen as one of one part: a field phase does the same to both.
-use Rattle.std.proofs.Common.{◌≡◌, ℕ, Result, Ok, Err, refl, sym, ap, ◌∙◌, subst, zero-add}
-use Rattle.std.proofs.Math.IntN.{ℤ}
+-- A lattice in the tiles of a map, seen whole: a field phase does the same to both.
+use Rattle.std.proofs.Common.{◌≡◌, ℕ, ℤ, List, Some, None, Result, Ok, Err, sym, ap, ◌∙◌, subst, zero-add}
 use Rattle.pic_num.specs.Limits.{most_value}
 use Rattle.pic_num.specs.declared.axis.Axis.{Axis}
 use Rattle.pic_num.specs.declared.mult.Scales.{Scales}
@@ -9,83 +8,116 @@ use Rattle.pic_num.specs.Space.{Triple}
 use Rattle.pic_grid.specs.declared.stop.Phase.{Phase}
 use Rattle.pic_grid.specs.declared.stop.Stop.{Stop}
 use Rattle.pic_grid.specs.Cells.{IsWithin}
-use Rattle.pic_grid.specs.Lattice.{Field, EachAtMost, value_at, field_of}
+use Rattle.pic_grid.specs.Lattice.{Field, EachAtMost, value_at, values_of, field_of}
 use Rattle.pic_grid.specs.Parts.{one_part, origin}
-use Rattle.pic_grid.proofs.LatticeLaws.{value_at-field_of, length-values_of, is_field_of}
+use Rattle.pic_grid.proofs.LatticeLaws.{value_at-field_of, length-values_of, same_values}
 use Rattle.pic_field.specs.FieldPhases.{half_of, full_of, cell_above, least_fault}
 use Rattle.pic_field.proofs.CalmLaws.{least_fault-same}
-use Rattle.pic_step.specs.Kept.{as_one}
+use Rattle.pic_tile.specs.Tiling.{Tiling, cells_of}
 use Rattle.pic_advance.specs.Phases.{Advances}
+use Rattle.pic_step.specs.Kept.{IsTiled}
 use Rattle.pic_step.specs.Sound.{IsSafe}
 
--- a lattice, or a stop, seen so
-abbrev pub one_result : Result Field Stop → Result Field Stop
-one_result (Ok f) = Ok (as_one f)
-one_result (Err stop) = Err stop
+-- values as a lattice of one part, on the cells of a map
+abbrev pub whole : Tiling → List ℤ → Field
+whole m values = record { cells = cells_of m; side = m.side; parts = one_part; values = values }
 
-advances_one : (phase : Phase) (by : Multiplier) (side : ℕ) (n parts : Triple) (g : Axis → Triple → ℤ) (r : Result Field Stop)
-    → Advances phase by side n parts g r → Advances phase by side n one_part g (one_result r)
-advances_one phase by side n parts g (Ok f) h = ((λ i. as_one (h.0 i)), h.1)
-advances_one phase by side n parts g (Err stop) h = h
+-- a lattice as one of one part
+abbrev pub as_one : Field → Field
+as_one f = record f { parts = one_part }
+
+pub whole_is : (m : Tiling) (f : Field) → IsTiled m f → as_one f ≡ whole m f.values
+whole_is m f tiled = λ i. record { cells = tiled.cells i; side = tiled.side i; parts = one_part; values = f.values }
+
+-- the values that a phase answers, or its stop
+abbrev pub values_in : Result Field Stop → Result (List ℤ) Stop
+values_in (Ok f) = Ok f.values
+values_in (Err stop) = Err stop
+
+-- what a phase makes of values, on so many cells
+abbrev pub Advanced : Phase → Multiplier → Triple → (Axis → Triple → ℤ) → Result (List ℤ) Stop → Type 0
+Advanced phase by n g (Ok values) = (values ≡ values_of n g) × (least_fault phase by origin n g ≡ None)
+Advanced phase by n g (Err stop) = least_fault phase by origin n g ≡ Some stop
+
+advanced : (phase : Phase) (by : Multiplier) (side : ℕ) (n parts : Triple) (g : Axis → Triple → ℤ) (r : Result Field Stop)
+    → Advances phase by side n parts g r → Advanced phase by n g (values_in r)
+advanced phase by side n parts g (Ok f) h = (ap (λ (k : Field). k.values) h.0, h.1)
+advanced phase by side n parts g (Err stop) h = h
 
 -- half a step of B
-pub half_one : (phase : Phase) (scales : Scales) (e b : Field) (r : Result Field Stop)
+pub half_one : (phase : Phase) (m : Tiling) (scales : Scales) (e b : Field) (r : Result Field Stop) → IsTiled m e → IsTiled m b
     → Advances phase scales.b_force e.side e.cells b.parts (λ a p. half_of scales e a p (value_at b a p)) r
-    → Advances phase scales.b_force e.side e.cells one_part (λ a p. half_of scales (as_one e) a p (value_at b a p)) (one_result r)
+    → Advanced phase scales.b_force (cells_of m) (λ a p. half_of scales (whole m e.values) a p (value_at (whole m b.values) a p)) (values_in r)
 unfolding half_of
-half_one phase scales e b r h =
-    advances_one phase scales.b_force e.side e.cells b.parts (λ a p. half_of scales e a p (value_at b a p)) r h
+half_one phase m scales e b r of_e of_b h =
+    subst (λ (g : Field). Advanced phase scales.b_force (cells_of m) (λ a p. half_of scales (whole m e.values) a p (value_at g a p)) (values_in r))
+    (whole_is m b of_b)
+    (subst (λ (f : Field). Advanced phase scales.b_force f.cells (λ a p. half_of scales f a p (value_at b a p)) (values_in r)) (whole_is m e of_e)
+    (advanced phase scales.b_force e.side e.cells b.parts (λ a p. half_of scales e a p (value_at b a p)) r h))
 
--- a step of E
-pub full_one : (phase : Phase) (scales : Scales) (b e : Field) (j : Axis → Triple → ℤ) (r : Result Field Stop)
+-- a step of E, whose answer is known
+pub full_one : (phase : Phase) (m : Tiling) (scales : Scales) (b e : Field) (j : Axis → Triple → ℤ) (r s : Result Field Stop) → r ≡ s
+    → IsTiled m b → IsTiled m e
     → Advances phase scales.e_force b.side b.cells e.parts (λ a p. full_of scales b a p (value_at e a p) (j a p)) r
-    → Advances phase scales.e_force b.side b.cells one_part (λ a p. full_of scales (as_one b) a p (value_at e a p) (j a p)) (one_result r)
+    → Advanced phase scales.e_force (cells_of m) (λ a p. full_of scales (whole m b.values) a p (value_at (whole m e.values) a p) (j a p)) (values_in s)
 unfolding full_of
-full_one phase scales b e j r h =
-    advances_one phase scales.e_force b.side b.cells e.parts (λ a p. full_of scales b a p (value_at e a p) (j a p)) r h
+full_one phase m scales b e j r s is of_b of_e h =
+    subst (λ (t : Result Field Stop).
+    Advanced phase scales.e_force (cells_of m) (λ a p. full_of scales (whole m b.values) a p (value_at (whole m e.values) a p) (j a p)) (values_in t)) is
+    (subst (λ (g : Field). Advanced phase scales.e_force (cells_of m) (λ a p. full_of scales (whole m b.values) a p (value_at g a p) (j a p)) (values_in r))
+    (whole_is m e of_e)
+    (subst (λ (f : Field). Advanced phase scales.e_force f.cells (λ a p. full_of scales f a p (value_at e a p) (j a p)) (values_in r)) (whole_is m b of_b)
+    (advanced phase scales.e_force b.side b.cells e.parts (λ a p. full_of scales b a p (value_at e a p) (j a p)) r h)))
 
--- the values of a safe field are small
-pub safe_small : (side : ℕ) (n : Triple) (by : Multiplier) (f : Field) → IsSafe side n by (as_one f) → EachAtMost most_value f
-safe_small side n by f safe = record { at_most = λ a p within. (safe.bounded a p (subst (IsWithin p) safe.cells within)).value }
+-- a lattice that a phase leaves, on the cells of one and with the parts of another, lies in the tiles as they do
+pub tiled_after : (m : Tiling) (f g r : Field) (values : Axis → Triple → ℤ) → IsTiled m f → IsTiled m g → r ≡ field_of f.side f.cells g.parts values
+    → IsTiled m r
+tiled_after m f g r values of_f of_g is = record {
+  cells = ap (λ (k : Field). k.cells) is ∙ of_f.cells;
+  side = ap (λ (k : Field). k.side) is ∙ of_f.side;
+  parts = ap (λ (k : Field). k.parts) is ∙ of_g.parts;
+}
+
+-- the lattice of a phase whose answer is known
+pub advanced_is : (phase : Phase) (by : Multiplier) (side : ℕ) (n parts : Triple) (g : Axis → Triple → ℤ) (r : Result Field Stop) (f : Field) → r ≡ Ok f
+    → Advances phase by side n parts g r → f ≡ field_of side n parts g
+advanced_is phase by side n parts g r f is h = (subst (λ (t : Result Field Stop). Advances phase by side n parts g t) is h).0
+
+-- a lattice whose values are safe is safe, and they are small
+pub safe_parts : (m : Tiling) (by : Multiplier) (f : Field) → IsTiled m f → IsSafe by (whole m f.values) → IsSafe by f
+safe_parts m by f tiled safe =
+    let one : IsSafe by (as_one f) = subst (IsSafe by) (sym (whole_is m f tiled)) safe in
+    record { bounded = λ a p within. one.bounded a p within }
+
+pub safe_small : (by : Multiplier) (f : Field) → IsSafe by f → EachAtMost most_value f
+safe_small by f safe = record { at_most = λ a p within. (safe.bounded a p within).value }
 
 -- a cell counted from the lowest of the grid
 pub above_origin : (p : Triple) → cell_above origin p ≡ p
 above_origin p = λ i. record { x = zero-add p.x i; y = zero-add p.y i; z = zero-add p.z i }
 
--- functions with the same values in the grid have one field
-pub field_same : (side : ℕ) (n : Triple) (g h : Axis → Triple → ℤ) → ((a : Axis) (p : Triple) → IsWithin p n → g a p ≡ h a p)
-    → field_of side n one_part g ≡ field_of side n one_part h
-field_same side n g h same =
-    is_field_of side n one_part h (field_of side n one_part g) refl refl refl (length-values_of n g)
-    (λ a p w. value_at-field_of side n one_part g a p w ∙ same a p w)
+-- functions with the same values in the grid have one list of values,
+values_same : (n : Triple) (g h : Axis → Triple → ℤ) → ((a : Axis) (p : Triple) → IsWithin p n → g a p ≡ h a p) → values_of n g ≡ values_of n h
+values_same n g h same =
+    same_values n (values_of n g) (values_of n h) (length-values_of n g) (length-values_of n h)
+    (λ a p w. value_at-field_of 0 n one_part g a p w ∙ same a p w ∙ sym (value_at-field_of 0 n one_part h a p w))
 
--- phases that give the same values in the grid have one stop,
+-- phases that give them have one stop,
 fault_same : (phase : Phase) (by : Multiplier) (n : Triple) (g h : Axis → Triple → ℤ)
     → ((a : Axis) (p : Triple) → IsWithin p n → g a p ≡ h a p) → least_fault phase by origin n h ≡ least_fault phase by origin n g
 fault_same phase by n g h same =
     least_fault-same phase by origin n h g
     (λ a p within. ap (h a) (above_origin p) ∙ sym (same a p within) ∙ ap (g a) (sym (above_origin p)))
 
--- and advance it alike
+-- and advance alike, values
+pub advanced_same : (phase : Phase) (by : Multiplier) (n : Triple) (g h : Axis → Triple → ℤ) (r : Result (List ℤ) Stop)
+    → ((a : Axis) (p : Triple) → IsWithin p n → g a p ≡ h a p) → Advanced phase by n g r → Advanced phase by n h r
+advanced_same phase by n g h (Ok values) same done = (done.0 ∙ values_same n g h same, fault_same phase by n g h same ∙ done.1)
+advanced_same phase by n g h (Err stop) same done = fault_same phase by n g h same ∙ done
+
+-- and lattices
 pub advances_same : (phase : Phase) (by : Multiplier) (side : ℕ) (n parts : Triple) (g h : Axis → Triple → ℤ) (r : Result Field Stop)
     → ((a : Axis) (p : Triple) → IsWithin p n → g a p ≡ h a p) → Advances phase by side n parts g r → Advances phase by side n parts h r
-advances_same phase by side n parts g h (Ok f) same done = (
-  done.0 ∙ is_field_of side n parts h (field_of side n parts g) refl refl refl (length-values_of n g)
-      (λ a p w. value_at-field_of side n parts g a p w ∙ same a p w),
-  fault_same phase by n g h same ∙ done.1,
-)
+advances_same phase by side n parts g h (Ok f) same done =
+    (done.0 ∙ (λ i. record { cells = n; side = side; parts = parts; values = values_same n g h same i }), fault_same phase by n g h same ∙ done.1)
 advances_same phase by side n parts g h (Err stop) same done = fault_same phase by n g h same ∙ done
-
--- a step of E whose answer is known
-pub full_one_is : (phase : Phase) (scales : Scales) (b e : Field) (j : Axis → Triple → ℤ) (r s : Result Field Stop) → r ≡ s
-    → Advances phase scales.e_force b.side b.cells e.parts (λ a p. full_of scales b a p (value_at e a p) (j a p)) r
-    → Advances phase scales.e_force b.side b.cells one_part (λ a p. full_of scales (as_one b) a p (value_at e a p) (j a p)) (one_result s)
-full_one_is phase scales b e j r s is h =
-    full_one phase scales b e j s
-    (subst (λ (t : Result Field Stop). Advances phase scales.e_force b.side b.cells e.parts (λ a p. full_of scales b a p (value_at e a p) (j a p)) t) is h)
-
--- its parts are those of before
-pub advanced_parts : (phase : Phase) (by : Multiplier) (side : ℕ) (n parts : Triple) (g : Axis → Triple → ℤ) (r : Result Field Stop) (f : Field) → r ≡ Ok f
-    → Advances phase by side n parts g r → f.parts ≡ parts
-advanced_parts phase by side n parts g r f is h =
-    ap (λ (k : Field). k.parts) (subst (λ (t : Result Field Stop). Advances phase by side n parts g t) is h).0

@@ -11,7 +11,7 @@ use Rattle.pic_num.specs.Sizes.{IsAtMost}
 use Rattle.pic_grid.specs.declared.stop.Stop.{Stop}
 use Rattle.pic_grid.specs.Gather.{force_of}
 use Rattle.pic_grid.specs.Lattice.{Field, value_at, field_of}
-use Rattle.pic_grid.specs.Cells.{count_of}
+use Rattle.pic_grid.specs.Cells.{IsWithin, count_of}
 use Rattle.pic_grid.specs.Parts.{layered}
 use Rattle.pic_num.specs.Space.{Triple}
 use Rattle.pic_grid.specs.PushPhase.{Surroundings, CanShare}
@@ -24,27 +24,27 @@ use Rattle.pic_tile.specs.Tile.{TileValue}
 use Rattle.pic_tile.specs.Tiling.{Tiling, cells_of, grid_of_tiling}
 use Rattle.pic_core.specs.AtStart.{IsScratch}
 use Rattle.pic_step.specs.declared.plasma.Plasma.{Plasma}
-use Rattle.pic_step.specs.Kept.{as_one}
+use Rattle.pic_step.specs.Kept.{IsTiled}
 use Rattle.pic_step.specs.Plasma.{IsPlasma}
 use Rattle.pic_step.specs.PushOn.{around_fields, ArePushed, HasPushed}
 use Rattle.pic_step.specs.Sound.{IsSafe}
 use Rattle.pic_step.proofs.FeltLaws.{around_by, pushed_same}
 
--- the force values of a safe field, on the cells of a map
-pub forced : (m : Tiling) (by : Multiplier) (f r : Field) (parts : Triple) → IsSafe m.side (cells_of m) by (as_one f) → parts ≡ layered (cells_of m)
+-- the force values of a field, on the cells of a map
+pub forced : (m : Tiling) (by : Multiplier) (f r : Field) (parts : Triple) → IsTiled m f → parts ≡ layered (cells_of m)
     → r ≡ field_of f.side f.cells parts (force_of by (value_at f)) → r ≡ field_of m.side (cells_of m) (layered (cells_of m)) (force_of by (value_at f))
-forced m by f r parts safe cut is = is ∙ (λ i. field_of (safe.side_is i) (safe.cells i) (cut i) (force_of by (value_at f)))
+forced m by f r parts tiled cut is = is ∙ (λ i. field_of (tiled.side i) (tiled.cells i) (cut i) (force_of by (value_at f)))
 
--- they are small enough to be gathered
-pub force_field : (m : Tiling) (by : Multiplier) (f r : Field) → IsSafe m.side (cells_of m) by (as_one f)
+-- where the field is safe, they are small enough to be gathered
+pub force_field : (m : Tiling) (by : Multiplier) (f r : Field) → IsTiled m f → IsSafe by f
     → r ≡ field_of m.side (cells_of m) (layered (cells_of m)) (force_of by (value_at f)) → IsForceField (grid_of_tiling m) r
-force_field m by f r safe is = subst (IsForceField (grid_of_tiling m)) (sym is) (record {
+force_field m by f r tiled safe is = subst (IsForceField (grid_of_tiling m)) (sym is) (record {
   cells_are = refl;
   side = refl;
   small = record {
     at_most = λ a p within.
         subst (λ (v : ℤ). IsAtMost v most_force) (sym (value_at-field_of m.side (cells_of m) (layered (cells_of m)) (force_of by (value_at f)) a p within))
-        (safe.bounded a p within).force;
+        (safe.bounded a p (subst (IsWithin p) (sym tiled.cells) within)).force;
   };
 })
 
@@ -72,9 +72,9 @@ opening_moves f g ts us map kinds same open' = record {
 
 -- pushed in that frame, they are pushed by the fields
 pub pushed_by_fields : (p q : Plasma) (scales : Scales) (e b : Field) (f : FrameValue) (stop : Option Stop)
-    → IsSafe p.frame.map.side (cells_of p.frame.map) scales.e_force (as_one e) → f ≡ with_forces_of p.frame.map p.frame.kinds scales e b
+    → IsTiled p.frame.map e → f ≡ with_forces_of p.frame.map p.frame.kinds scales e b
     → HasPushed (felt_in f) (record p { frame = f }) q stop → HasPushed (around_fields scales p.frame.kinds e b) p q stop
-pushed_by_fields p q scales e b f stop safe is h =
+pushed_by_fields p q scales e b f stop tiled is h =
     let m = p.frame.map in
     let kinds = p.frame.kinds in
     let xs = all_particles p.tiles.items in
@@ -90,7 +90,7 @@ pushed_by_fields p q scales e b f stop safe is h =
       kinds = h.kinds ∙ ap (λ (g : FrameValue). g.kinds) is;
       flux = h.flux;
       pushed = subst (λ (w : Surroundings). ArePushed w q.frame.map xs us stop)
-          (λ i. around_by (sym safe.side_is i) kinds (sym safe.cells i) of_e of_b) by;
+          (λ i. around_by (sym tiled.side i) kinds (sym tiled.cells i) of_e of_b) by;
     }
 
 -- what is ready for a push is so in a frame of the same map

@@ -1,6 +1,6 @@
 -- What the push of all tiles leaves, from what the exchange left.
 use Rattle.std.proofs.Common.{◌≡◌, ℕ, ◌+◌, ◌<◌, List, All, Option, length, unsigned_abs, sym, ap, ◌∙◌, subst, arith}
-use Rattle.std.proofs.Math.IntN.{ℤ, pos, ◌-ℤ◌}
+use Rattle.std.proofs.Math.IntN.{pos, ◌-ℤ◌}
 use Rattle.std.specs.List.{range_with_len}
 use Rattle.std.proofs.lemmas.Int.{ints}
 use Rattle.std.proofs.lemmas.List.Elements.{All-weaker}

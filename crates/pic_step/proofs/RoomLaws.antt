@@ -1,5 +1,5 @@
 -- A push of all tiles by a core, in the room of a state.
-use Rattle.std.proofs.Common.{◌≡◌, ℕ, ◌<◌, List, ap, ◌∙◌, subst, arith}
+use Rattle.std.proofs.Common.{◌≡◌, ℕ, ◌<◌, List, ◌∙◌, subst, arith}
 use Rattle.pic_num.specs.Limits.{most_value}
 use Rattle.pic_grid.specs.Block.{AllAtMost}
 use Rattle.pic_grid.specs.Cells.{count_of}

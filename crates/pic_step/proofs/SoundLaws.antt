@@ -1,9 +1,9 @@
 -- A step without a stop keeps what the state of a run keeps.
-use Rattle.std.proofs.Common.{◌≡◌, ℕ, ◌<◌, ◌≤◌, None, refl, sym, ap, ◌∙◌, subst, arith}
+use Rattle.std.proofs.Common.{◌≡◌, ℕ, suc, ◌<◌, ◌≤◌, None, sym, ap, ◌∙◌, subst, arith}
 use Rattle.std.proofs.Math.IntN.{ℤ, ◌-ℤ◌}
 use Rattle.std.specs.List.{range_with_len}
 use Rattle.std.proofs.lemmas.Int.{ints}
-use Rattle.pic_num.specs.Limits.{most_particles}
+use Rattle.pic_num.specs.Limits.{most_particles, most_steps}
 use Rattle.pic_num.proofs.FirstLaws.{left_none, right_none}
 use Rattle.pic_num.specs.declared.axis.Axis.{Axis}
 use Rattle.pic_num.specs.Multiplier.{Multiplier}
@@ -22,7 +22,8 @@ use Rattle.pic_field.specs.FieldPhases.{full_of, least_fault, IsBounded}
 use Rattle.pic_field.proofs.FaultLaws.{least_fault-bounded}
 use Rattle.pic_split.proofs.ImageLaws.{div_e_same}
 use Rattle.pic_grid.specs.Parts.{origin}
-use Rattle.pic_step.specs.SerialStep.{World, around, half_at, full_at, half_on, push_on, current_of, before_electric, half_stop, full_stop, next_world, stop_of_step}
+use Rattle.pic_step.specs.SerialStep.{World, e_of, b_of, around, half_at, full_at, half_on, push_on}
+use Rattle.pic_step.specs.SerialStep.{current_of, before_electric, half_stop, full_stop, next_world, stop_of_step}
 use Rattle.pic_grid.specs.Parts.{one_part}
 use Rattle.pic_step.specs.Sound.{IsSafe, IsSound}
 use Rattle.pic_step.proofs.OnePartLaws.{above_origin}
@@ -36,11 +37,8 @@ has_two n h = record { x = h.x_least; y = h.y_least; z = h.z_least }
 
 -- a field phase without a stop leaves a safe field
 pub safe_after : (phase : Phase) (by : Multiplier) (side : ℕ) (n : Triple) (g : Axis → Triple → ℤ) → least_fault phase by origin n g ≡ None
-    → IsSafe side n by (field_of side n one_part g)
+    → IsSafe by (field_of side n one_part g)
 safe_after phase by side n g none = record {
-  cells = refl;
-  side_is = refl;
-  parts = refl;
   bounded = λ a p within. subst (IsBounded by) (ap (g a) (above_origin p) ∙ sym (value_at-field_of side n one_part g a p within))
       (least_fault-bounded phase by origin n g none a p within);
 }
@@ -60,7 +58,7 @@ no_stop w none =
     record { half1 = left_none _ _ none; push = left_none _ _ second; half2 = left_none _ _ third; electric = right_none _ _ third }
 
 -- Gauss's law after a step
-pub gauss_kept : (w : World) → IsSound w → MeetsGauss w.side w.cells w.kinds (push_on (half_on w)).particles (next_world w).e
+pub gauss_kept : (w : World) → IsSound w → MeetsGauss w.side w.cells w.kinds (push_on (half_on w)).particles (e_of (next_world w))
 unfolding next_world full_of
 gauss_kept w sound = record {
   at_node = λ p within.
@@ -70,9 +68,9 @@ gauss_kept w sound = record {
       let j = current_of h in
       let two = has_two n sound.cells in
       let above : 0 < w.side = omega (arith, sound.side_least) in
-      let is_full = div_e_same n (value_at (field_of w.side n w.e.parts (full_at j w4))) (full_at j w4) p within
-      (λ a q inside. value_at-field_of w.side n w.e.parts (full_at j w4) a q inside) in
-      let falls = div_full n (value_at w.e) (λ c q. scaled (value_at w4.b c q) w.scales.b_to_e) j p in
+      let is_full = div_e_same n (value_at (field_of w.side n one_part (full_at j w4))) (full_at j w4) p within
+      (λ a q inside. value_at-field_of w.side n one_part (full_at j w4) a q inside) in
+      let falls = div_full n (value_at (e_of w)) (λ c q. scaled (value_at (b_of w4) c q) w.scales.b_to_e) j p in
       let old = sound.gauss.at_node p within in
       let law = div_current (around h) w.particles p above two within sound.places in
       is_full ∙ falls ∙ (λ i. old i -ℤ law i)
@@ -82,10 +80,31 @@ gauss_kept w sound = record {
     cancel : (a b : ℤ) → a -ℤ (a -ℤ b) ≡ b
     cancel a b = omega (arith, ints)
 
--- a step without a stop keeps all
-pub step_sound : (w : World) → IsSound w → stop_of_step w ≡ None → IsSound (next_world w)
+-- a state after another number of steps
+abbrev pub at_step : ℕ → World → World
+at_step k w = record w { step = k }
+
+pub sound_at : (w : World) (k : ℕ) → k ≤ most_steps → IsSound w → IsSound (at_step k w)
+sound_at w k few sound = record {
+  reached = few;
+  side_least = sound.side_least;
+  side_most = sound.side_most;
+  cells = sound.cells;
+  e = sound.e;
+  b = sound.b;
+  species = sound.species;
+  kinds = sound.kinds;
+  few = sound.few;
+  identities = sound.identities;
+  places = sound.places;
+  velocities = sound.velocities;
+  gauss = sound.gauss;
+}
+
+-- a step without a stop keeps all but the number of steps,
+pub step_sound_at : (w : World) (k : ℕ) → k ≤ most_steps → IsSound w → stop_of_step w ≡ None → IsSound (at_step k (next_world w))
 unfolding next_world
-step_sound w sound none =
+step_sound_at w k reached sound none =
     let n = w.cells in
     let h = half_on w in
     let stops = no_stop w none in
@@ -93,19 +112,22 @@ step_sound w sound none =
     let above : 0 < w.side = omega (arith, sound.side_least) in
     let count = length-moved_all (around h) w.particles in
     record {
+      reached = reached;
       side_least = sound.side_least;
       side_most = sound.side_most;
       cells = sound.cells;
-      e = subst (λ (parts : Triple). IsSafe w.side n w.scales.e_force (field_of w.side n parts (full_at (current_of h) (before_electric w))))
-          (sym sound.e.parts)
-          (safe_after Electric w.scales.e_force w.side n (full_at (current_of h) (before_electric w)) stops.electric);
-      b = subst (λ (parts : Triple). IsSafe w.side n w.scales.b_force (field_of w.side n parts (half_at (push_on h)))) (sym sound.b.parts)
-          (safe_after Half2 w.scales.b_force w.side n (half_at (push_on h)) stops.half2);
+      e = safe_after Electric w.scales.e_force w.side n (full_at (current_of h) (before_electric w)) stops.electric;
+      b = safe_after Half2 w.scales.b_force w.side n (half_at (push_on h)) stops.half2;
       species = sound.species;
       kinds = sound.kinds;
-      few = subst (λ (k : ℕ). k ≤ most_particles) (sym count) sound.few;
+      few = subst (λ (m : ℕ). m ≤ most_particles) (sym count) sound.few;
       identities = ids_kept (around h) w.particles ∙ sound.identities ∙ ap (range_with_len 0) (sym count);
       places = share_kept (around h) w.particles above two sound.places;
       velocities = velocities_kept (around h) w.particles sound.velocities;
       gauss = gauss_kept w sound;
     }
+
+-- which is one more, within the limit before the last
+pub step_sound : (w : World) → IsSound w → w.step < most_steps → stop_of_step w ≡ None → IsSound (next_world w)
+unfolding next_world
+step_sound w sound early none = step_sound_at w (suc w.step) (omega (arith, early)) sound none

@@ -1,6 +1,6 @@
 -- The flux of tiles changes places with other blocks: what it is then, and what the tiles are once it is
 -- spent and back.
-use Rattle.std.proofs.Common.{◌≡◌, ℕ, ℤ, pos, ◌+◌, ◌<◌, ◌≤◌, List, length, set, Option, None, Some, IsSome, refl, sym, ap, ◌∙◌, subst, arith, get_or-set_same, get_or-set_other}
+use Rattle.std.proofs.Common.{◌≡◌, ℕ, ℤ, pos, ◌+◌, ◌<◌, ◌≤◌, List, length, set, Option, None, IsSome, refl, sym, ap, ◌∙◌, subst, arith, get_or-set_same, get_or-set_other}
 use Rattle.std.proofs.Math.Decide.{ℕ_discrete}
 use Rattle.std.proofs.Math.Nat.{mul-div_cancel_left}
 use Rattle.std.proofs.lemmas.List.{length-set}
@@ -9,7 +9,7 @@ use Rattle.pic_num.specs.Limits.{most_value}
 use Rattle.pic_num.specs.Sizes.{IsAtMost}
 use Rattle.pic_num.specs.Space.{Triple, Spot, unwrapped}
 use Rattle.pic_grid.specs.Block.{BlockValues, InZone, inner_of, edge_at, outer_of}
-use Rattle.pic_grid.specs.Cells.{Grid, IsWithin, count_of, index_of, cell_of}
+use Rattle.pic_grid.specs.Cells.{IsWithin, count_of, index_of, cell_of}
 use Rattle.pic_grid.specs.Lattice.{Field, EachAtMost, value_at, field_of}
 use Rattle.pic_grid.specs.Parts.{part_size, part_with, corner_of, no_block, ArePartsOf, joined}
 use Rattle.pic_grid.proofs.BlockLaws.{inner_within}
@@ -19,7 +19,7 @@ use Rattle.pic_tile.specs.declared.parcel.Parcel.{Parcel}
 use Rattle.pic_tile.specs.Directions.{directions, here}
 use Rattle.pic_tile.specs.Layers.{lowest_cell, IsLayers}
 use Rattle.pic_tile.specs.Parcels.{no_flux, IsReady, IsFresh}
-use Rattle.pic_tile.specs.Tile.{TileValue, parcel_at, chain_of, flux_of, stop_of_parcel, chain_at, flux_at, stop_at, no_tile, tile_in, Replaced}
+use Rattle.pic_tile.specs.Tile.{TileValue, parcel_at, chain_of, flux_of, stop_of_parcel, chain_at, flux_at, stop_at, no_tile, tile_in}
 use Rattle.pic_tile.specs.Tiling.{Tiling, IsMap, IsInTile, cells_of, owner_of}
 use Rattle.pic_tile.proofs.ReceivingLaws.{some_there}
 use Rattle.pic_tile.proofs.TilingLaws.{owner_below, owner_has}

@@ -13,10 +13,10 @@ use Rattle.pic_grid.specs.Gather.{force_of}
 use Rattle.pic_grid.specs.PushPhase.{Surroundings, moved_all, push_stop}
 use Rattle.pic_tile.specs.CoreState.{all_particles, IsOpening}
 use Rattle.pic_tile.specs.Tile.{TileValue}
-use Rattle.pic_tile.specs.Tiling.{Tiling, cells_of}
+use Rattle.pic_tile.specs.Tiling.{Tiling}
 use Rattle.pic_step.specs.declared.plasma.Plasma.{Plasma}
 use Rattle.pic_step.specs.TileFlux.{flux_in}
-use Rattle.pic_step.specs.Kept.{as_one}
+use Rattle.pic_step.specs.Kept.{AreTiled}
 use Rattle.pic_step.specs.Plasma.{IsPlasma, HasFlux}
 use Rattle.pic_step.specs.Sound.{IsSafe}
 
@@ -30,12 +30,13 @@ around_fields scales kinds e b = record {
   of_b = force_of scales.b_force (value_at b);
 }
 
--- fields and the particles of a state can be pushed: the fields are safe, on the cells of the tiles,
--- and the particles are ready, within the limits and in the order of identities
+-- fields and the particles of a state can be pushed: the fields are safe and lie in the tiles, and the
+-- particles are ready, within the limits and in the order of identities
 pub record CanPush (scales : Scales) (e b : Field) (p : Plasma) : Type 0 where
   pub side : 0 < p.frame.map.side
-  pub safe_e : IsSafe p.frame.map.side (cells_of p.frame.map) scales.e_force (as_one e)
-  pub safe_b : IsSafe p.frame.map.side (cells_of p.frame.map) scales.b_force (as_one b)
+  pub tiled : AreTiled p.frame.map e b
+  pub safe_e : IsSafe scales.e_force e
+  pub safe_b : IsSafe scales.b_force b
   pub plasma : IsPlasma (all_particles p.tiles.items) p
   pub opening : IsOpening p.frame p.tiles.items
 

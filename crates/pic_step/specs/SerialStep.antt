@@ -2,7 +2,7 @@
 -- Computer Simulation"): half a step of B, the push of every particle, another half step of B, a
 -- step of E. Each phase is total: a field phase gives every place its new value, and a particle that
 -- halts stands still. What stops the step is said beside it.
-use Rattle.std.specs.Prelude.{ℕ, ℤ, List, Option, Result}
+use Rattle.std.specs.Prelude.{ℕ, suc, ℤ, List, Option, Result}
 use Rattle.std.specs.Option.{option_or}
 use Rattle.pic_num.specs.declared.motion.Kind.{Kind}
 use Rattle.pic_num.specs.declared.motion.Particle.{Particle}
@@ -15,26 +15,29 @@ use Rattle.pic_grid.specs.declared.stop.Phase.TheVariants.{Half1, Half2, Electri
 use Rattle.pic_grid.specs.declared.stop.Stop.{Stop}
 use Rattle.pic_grid.specs.Cells.{Grid}
 use Rattle.pic_grid.specs.Current.{current}
-use Rattle.pic_grid.specs.Lattice.{Field, value_at, field_of}
+use Rattle.pic_grid.specs.Lattice.{Field, value_at, values_of}
 use Rattle.pic_grid.specs.Gather.{force_of}
-use Rattle.pic_grid.specs.Parts.{origin}
+use Rattle.pic_grid.specs.Parts.{one_part, origin}
 use Rattle.pic_grid.specs.PushPhase.{Surroundings, moved_all, push_stop}
 use Rattle.pic_field.specs.FieldPhases.{half_of, full_of, least_fault}
 
--- a state of the scheme: the side of a cell, the numbers of cells, the multipliers and the species,
--- which stay; the fields, and the particles in the order of their identities
+-- a state of the scheme: after how many steps it is; the side of a cell, the numbers of cells, the
+-- multipliers and the species, which stay; the values of E and of B in the order of places, and the
+-- particles in the order of their identities
 pub record World : Type 0 where
+  pub step : ℕ
   pub side : ℕ
   pub cells : Triple
   pub scales : Scales
   pub kinds : List Kind
-  pub e : Field
-  pub b : Field
+  pub e : List ℤ
+  pub b : List ℤ
   pub particles : List Particle
 
 -- the state of these parts
-abbrev pub world_of : Grid → Scales → List Kind → Field → Field → List Particle → World
-world_of grid scales kinds e b particles = record {
+abbrev pub world_of : ℕ → Grid → Scales → List Kind → List ℤ → List ℤ → List Particle → World
+world_of step grid scales kinds e b particles = record {
+  step = step;
   side = grid.side;
   cells = grid.n;
   scales = scales;
@@ -44,27 +47,34 @@ world_of grid scales kinds e b particles = record {
   particles = particles;
 }
 
+-- E and B of a state, as lattices of one part
+abbrev pub e_of : World → Field
+e_of w = record { cells = w.cells; side = w.side; parts = one_part; values = w.e }
+
+abbrev pub b_of : World → Field
+b_of w = record { cells = w.cells; side = w.side; parts = one_part; values = w.b }
+
 -- what surrounds the particles: the force values of E and B
 abbrev pub around : World → Surroundings
 around w = record {
   side = w.side;
   cells = w.cells;
   kinds = w.kinds;
-  of_e = force_of w.scales.e_force (value_at w.e);
-  of_b = force_of w.scales.b_force (value_at w.b);
+  of_e = force_of w.scales.e_force (value_at (e_of w));
+  of_b = force_of w.scales.b_force (value_at (b_of w));
 }
 
 -- B after half a step, at a place
 abbrev pub half_at : World → Axis → Triple → ℤ
-half_at w a p = half_of w.scales w.e a p (value_at w.b a p)
+half_at w a p = half_of w.scales (e_of w) a p (value_at (b_of w) a p)
 
 -- E after a step, at a place, with the current j
 abbrev pub full_at : (Axis → Triple → ℤ) → World → Axis → Triple → ℤ
-full_at j w a p = full_of w.scales w.b a p (value_at w.e a p) (j a p)
+full_at j w a p = full_of w.scales (b_of w) a p (value_at (e_of w) a p) (j a p)
 
 -- half a step of B
 abbrev pub half_on : World → World
-half_on w = record w { b = field_of w.side w.cells w.b.parts (half_at w) }
+half_on w = record w { b = values_of w.cells (half_at w) }
 
 -- the push of all particles
 abbrev pub push_on : World → World
@@ -76,7 +86,7 @@ current_of w = current (around w) w.particles
 
 -- a step of E, with the current j
 abbrev pub full_on : (Axis → Triple → ℤ) → World → World
-full_on j w = record w { e = field_of w.side w.cells w.e.parts (full_at j w) }
+full_on j w = record w { e = values_of w.cells (full_at j w) }
 
 -- the state in which E takes its step
 abbrev pub before_electric : World → World
@@ -84,7 +94,7 @@ before_electric w = half_on (push_on (half_on w))
 
 -- the state after a step
 unfoldable pub next_world : World → World
-next_world w = full_on (current_of (half_on w)) (before_electric w)
+next_world w = record (full_on (current_of (half_on w)) (before_electric w)) { step = suc w.step }
 
 -- what stops half a step of B
 abbrev pub half_stop : Phase → World → Option Stop

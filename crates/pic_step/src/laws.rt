@@ -1,15 +1,24 @@
-//! What the serial step keeps, what stops its push, and how far its flux reaches. Each is the contract
-//! of a function that does nothing.
+//! What the serial step keeps, how steps add up, what stops a push, and how far its flux reaches. Each
+//! is the contract of a function that does nothing.
 
 ghost use Rattle.pic_num.specs.Velocity.{PushKeepsVelocities};
 ghost use Rattle.pic_step.specs.Keeps.{EveryStepKeeps};
 ghost use Rattle.pic_grid.specs.LeastHalt.{LeastHalt};
 ghost use Rattle.pic_step.specs.Reach.{ThreeImagesAreAll};
+ghost use Rattle.pic_step.specs.SerialRun.{StepsAddUp, StepsAreCounted, EndsStay};
 
 /// The serial step of a state that meets Gauss's law meets it at every node, and the divergence of B
 /// is what it was in every cell, exactly.
 pub fn law_of_the_step()
     ensures { EveryStepKeeps }
+{}
+
+/// Steps add up: after m + n of them a run stands where one stands that begins in the state after m and
+/// takes n, be it at a state or at a stop; each counts; and a run that has stopped stays so.
+pub fn law_of_the_run()
+    ensures add { StepsAddUp }
+    ensures counted { StepsAreCounted }
+    ensures stay { EndsStay }
 {}
 
 /// No path from the box passes an edge beyond three images on each axis. So the current of the periodic

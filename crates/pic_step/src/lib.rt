@@ -11,7 +11,9 @@ mod stepping;
 mod tile_flux;
 mod write;
 
-pub use laws::{law_of_the_least_halt, law_of_the_step, law_of_velocities, three_images_are_all};
+pub use laws::{
+    law_of_the_least_halt, law_of_the_run, law_of_the_step, law_of_velocities, three_images_are_all,
+};
 pub use pic_crew::crew;
 pub use start::Start;
 pub use state::State;

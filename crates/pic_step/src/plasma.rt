@@ -9,7 +9,6 @@ ghost use Rattle.pic_grid.specs.Lattice.{EachAtMost, value_at};
 ghost use Rattle.pic_grid.specs.Parts.{layered};
 ghost use Rattle.pic_field.specs.FieldPhases.{full_of};
 ghost use Rattle.pic_tile.specs.CoreState.{all_particles};
-ghost use Rattle.pic_tile.specs.Frame.{AreKinds};
 ghost use Rattle.pic_tile.specs.Tiling.{cells_of};
 ghost use Rattle.pic_advance.specs.Phases.{Advances};
 ghost use Rattle.pic_step.specs.TileFlux.{flux_in};
@@ -19,7 +18,7 @@ use crate::tile_flux::{spare_blocks, swap_each_flux};
 use pic_advance::advance_e;
 use pic_core::Scratch;
 use pic_grid::{Block, Lattice, Phase, Stop};
-use pic_num::{Kind, NoMemory, Particle, Scales};
+use pic_num::{NoMemory, Particle, Scales};
 use pic_team::Team;
 use pic_tile::{Frame, Kinds, Tile, TileMap, cut};
 use std::alloc::Global;
@@ -43,14 +42,13 @@ impl Plasma {
     pub fn new(
         alloc: Global,
         map: TileMap,
-        kinds: Vec<Kind>,
+        kinds: Kinds,
         particles: &[Particle],
     ) -> Result<Plasma, NoMemory>
-        requires kinds { AreKinds kinds.items }
         requires inside { All (λ p. IsInBox map.side (cells_of map) (triple p.x)) particles.now }
         requires few { length particles.now ≤ most_particles }
         ensures map { IfOk result (λ p. p.frame.map ≡ map) }
-        ensures kinds { IfOk result (λ p. p.frame.kinds ≡ kinds.items) }
+        ensures kinds { IfOk result (λ p. p.frame.kinds ≡ kinds) }
         ensures plasma { IfOk result (IsPlasma particles.now) }
     {
         let tiles = cut(alloc, &map, particles)?;
@@ -118,15 +116,14 @@ impl Plasma {
 
 /// A frame without forces, on lattices with a part for each layer of z: in these a gather finds its
 /// places soonest, and workers share the layers out.
-fn frame_for(alloc: Global, map: TileMap, kinds: Vec<Kind>) -> Result<Frame, NoMemory>
-    requires { AreKinds kinds.items }
+fn frame_for(alloc: Global, map: TileMap, kinds: Kinds) -> Result<Frame, NoMemory>
     ensures map { IfOk result (λ f. f.map ≡ map) }
-    ensures kinds { IfOk result (λ f. f.kinds ≡ kinds.items) }
+    ensures kinds { IfOk result (λ f. f.kinds ≡ kinds) }
     ensures parts { IfOk result (λ f. f.force_e.parts ≡ layered (cells_of map)) }
 {
     let cells = map.cells();
     let [_, _, nz] = cells.numbers();
     let force_e = Lattice::new(alloc, cells, [1, 1, nz])?;
     let force_b = Lattice::new(alloc, cells, [1, 1, nz])?;
-    Ok(Frame::new(map, Kinds::from_vec(kinds), force_e, force_b))
+    Ok(Frame::new(map, kinds, force_e, force_b))
 }

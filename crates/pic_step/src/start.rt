@@ -4,22 +4,21 @@ ghost use Rattle.std.specs.Prelude.{◌≡◌, IfOk};
 ghost use Rattle.pic_grid.specs.Lattice.{field_of};
 ghost use Rattle.pic_deck.specs.Deck.{initial_e, initial_b, deck_grid};
 ghost use Rattle.pic_step.specs.SerialRun.{kinds_of};
-ghost use Rattle.pic_tile.specs.Tiling.{tiles_of};
+ghost use Rattle.pic_tile.specs.Tiling.{grid_of_tiling, tiles_of};
 
 use pic_deck::Deck;
 use pic_grid::Lattice;
-use pic_num::{Kind, NoMemory, Particle, Scales};
-use pic_tile::TileMap;
+use pic_num::{NoMemory, Particle};
+use pic_tile::{Kinds, Setup, TileMap};
 use std::alloc::Global;
 
-/// What a run begins with: the cells and their tiles, the multipliers, the kinds of the species, E, B
-/// and the particles. Its type keeps no more than theirs do: whether Gauss's law holds has to be
-/// tested. A state begins with fields that have one part for each tile.
+/// What a run begins with: what stays in it, after how many steps it begins, E, B and the particles.
+/// Its type keeps no more than theirs do: whether Gauss's law holds has to be tested. A state begins
+/// with fields that have one part for each tile.
 #[derive(Drop)]
 pub struct Start {
-    pub map: TileMap,
-    pub scales: Scales,
-    pub kinds: Vec<Kind>,
+    pub setup: Setup,
+    pub step: u32,
     pub e: Lattice,
     pub b: Lattice,
     pub particles: Vec<Particle>,
@@ -33,16 +32,15 @@ impl Start {
     /// What a deck's run begins with, with these particles.
     pub fn new(alloc: Global, deck: &Deck, particles: Vec<Particle>) -> Result<Start, NoMemory>
         ensures map { IfOk result
-            (λ start. start.map ≡ tiles_of (deck_grid deck.now) deck.now.tiles) }
-        ensures tiled { IfOk result (λ start. AreTiled start.map start.e start.b) }
+            (λ start. start.setup.map ≡ tiles_of (deck_grid deck.now) deck.now.tiles) }
+        ensures tiled { IfOk result (λ start. AreTiled start.setup.map start.e start.b) }
         ensures start { IfOk result (λ start. begun start ≡ start_of deck.now particles.items) }
     {
-        let kinds = kinds_of(alloc, deck)?;
+        let setup = setup_of(alloc, deck)?;
         let (e, b) = fields_of(alloc, deck)?;
         Ok(Start {
-            map: TileMap::new(deck.cells(), deck.tiles()),
-            scales: deck.scales(),
-            kinds,
+            setup,
+            step: 0,
             e,
             b,
             particles,
@@ -50,15 +48,31 @@ impl Start {
     }
 }
 
+// what stays in a deck's run
+fn setup_of(alloc: Global, deck: &Deck) -> Result<Setup, NoMemory>
+    ensures map { IfOk result
+        (λ setup. setup.map ≡ tiles_of (deck_grid deck.now) deck.now.tiles) }
+    ensures cells { IfOk result (λ setup. grid_of_tiling setup.map ≡ deck_grid deck.now) }
+    ensures scales { IfOk result (λ setup. setup.scales ≡ deck.now.scales) }
+    ensures kinds { IfOk result (λ setup. setup.kinds ≡ kinds_of deck.now) }
+{
+    let kinds = kinds_of(alloc, deck)?;
+    Ok(Setup {
+        map: TileMap::new(deck.cells(), deck.tiles()),
+        scales: deck.scales(),
+        kinds,
+    })
+}
+
 // what the particles of each species of a deck have in common
-fn kinds_of(alloc: Global, deck: &Deck) -> Result<Vec<Kind>, NoMemory>
-    ensures { IfOk result (λ kinds. kinds.items ≡ kinds_of deck.now) }
+fn kinds_of(alloc: Global, deck: &Deck) -> Result<Kinds, NoMemory>
+    ensures { IfOk result (λ kinds. kinds ≡ kinds_of deck.now) }
 {
     let mut kinds = Vec::new(alloc);
     for species in deck.species() {
         kinds.push(species.kind)?;
     }
-    Ok(kinds)
+    Ok(Kinds::from_vec(kinds))
 }
 
 // the fields that a deck begins with, with one part for each tile

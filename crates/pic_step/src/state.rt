@@ -1,6 +1,7 @@
 //! The state of a run: what its type keeps, how it begins, and what it shows.
 
-ghost use Rattle.std.specs.Prelude.{◌≡◌, IfOk, length};
+ghost use Rattle.std.specs.Prelude.{◌≡◌, ◌≤◌, IfOk, length};
+ghost use Rattle.pic_num.specs.Limits.{most_steps};
 
 use crate::plasma::Plasma;
 use crate::start::Start;
@@ -8,16 +9,17 @@ use crate::write::write_tiles;
 use pic_deck::Deck;
 use pic_grid::{Cells, Lattice, Snapshot};
 use pic_num::{Kind, NoMemory, Particle, Scales};
-use pic_tile::{Tile, TileMap};
+use pic_tile::{Setup, Tile, TileMap};
 use std::alloc::Global;
 use std::marker::Model;
 
-/// The state of a run. Its type keeps the limits, that the particles have the identities 0, 1, .. in
-/// order, and Gauss's law at every node. The particles are kept in tiles, and the fields have one part
-/// for each tile; contracts see a list in the order of identities, fields of one part, and the map of
-/// the tiles.
+/// The state of a run, after a number of steps that it knows. Its type keeps the limits, that the
+/// particles have the identities 0, 1, .. in order, and Gauss's law at every node. The particles are
+/// kept in tiles, and the fields have one part for each tile; contracts see a list in the order of
+/// identities, the values of fields in the order of places, and the map of the tiles.
 #[derive(Drop)]
 pub struct State {
+    pub(crate) step: u32,
     pub(crate) scales: Scales,
     pub(crate) e: Lattice,
     pub(crate) b: Lattice,
@@ -31,11 +33,11 @@ impl Model for State {
     ghost Value = { StateView };
 
     ghost view = { λ s. record {
-      world = seen s.scales s.e s.b s.plasma;
+      world = seen s.step s.scales s.e s.b s.plasma;
       map = s.plasma.frame.map;
     } };
 
-    ghost invariant = { λ s. IsKept s.scales s.e s.b s.plasma };
+    ghost invariant = { λ s. IsKept s.step s.scales s.e s.b s.plasma };
 }
 
 impl State {
@@ -61,26 +63,35 @@ impl State {
     /// the particles are moved into it.
     pub fn begin(alloc: Global, start: Start) -> Result<State, NoMemory>
         requires sound { IsSound (begun start) }
-        requires tiled { AreTiled start.map start.e start.b }
+        requires tiled { AreTiled start.setup.map start.e start.b }
         ensures world { IfOk result (λ s. s.world ≡ begun start) }
-        ensures map { IfOk result (λ s. s.map ≡ start.map) }
+        ensures map { IfOk result (λ s. s.map ≡ start.setup.map) }
     {
         let Start {
-            map,
-            scales,
-            kinds,
+            setup,
+            step,
             e,
             b,
             particles,
         } = start;
+        let Setup { map, scales, kinds } = setup;
         let _map = map.tiles();
         let plasma = Plasma::new(alloc, map, kinds, particles.as_slice())?;
         Ok(State {
+            step,
             scales,
             e,
             b,
             plasma,
         })
+    }
+
+    /// After how many steps it is.
+    pub fn step_number(&self) -> u32
+        ensures value { result ≡ self.now.world.step }
+        ensures most { result ≤ most_steps }
+    {
+        self.step
     }
 
     /// The numbers of cells and their side.
@@ -133,10 +144,8 @@ impl State {
         requires b_cells { to.old.b.cells ≡ self.now.world.cells }
         requires count { length to.old.particles.items ≡ length self.now.world.particles }
         ensures sound { IsSound self.now.world }
-        ensures e { to.new.e ≡
-            record self.now.world.e { side = to.old.e.side; parts = to.old.e.parts } }
-        ensures b { to.new.b ≡
-            record self.now.world.b { side = to.old.b.side; parts = to.old.b.parts } }
+        ensures e { to.new.e ≡ record to.old.e { values = self.now.world.e } }
+        ensures b { to.new.b ≡ record to.old.b { values = self.now.world.b } }
         ensures particles { to.new.particles.items ≡ self.now.world.particles }
     {
         let map = self.plasma.frame.map();

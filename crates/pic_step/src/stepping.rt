@@ -1,6 +1,7 @@
 //! One step of the scheme, by its phases.
 
 ghost use Rattle.std.specs.Prelude.{◌≡◌, ◌<◌, ◌≤◌, None, Err, IfOk};
+ghost use Rattle.pic_num.specs.Limits.{most_steps};
 ghost use Rattle.pic_grid.specs.declared.stop.Phase.TheVariants.{Half1};
 ghost use Rattle.pic_step.specs.Keeps.{Keeps};
 ghost use Rattle.pic_step.specs.SerialRun.{Steps};
@@ -45,9 +46,9 @@ impl From<NoMemory> for StepStop {
 /// workers, 1 to 64, push the particles, tile by tile and each on a thread of its own where one can
 /// be made. Each passes the gate after each claim of a tile and each post of a parcel. Whatever the
 /// tiles, the workers and the gate, the answer is that of the serial step: the state after it, or
-/// the stop of the first phase that has one. The state after it has the same cells, multipliers,
-/// kinds and tiles, meets Gauss's law at every node, and the divergence of its B is what it was in
-/// every cell.
+/// the stop of the first phase that has one. The state after it has one step more, and the same cells,
+/// multipliers, kinds and tiles; it meets Gauss's law at every node, and the divergence of its B is
+/// what it was in every cell.
 ///
 /// # Errors
 /// `StepStop::Stop` as the serial step has it. `StepStop::NoMemory` where memory is refused to the
@@ -60,6 +61,7 @@ pub fn step<H: Threads + Sync, G: Gate + Sync>(
     workers: u32,
     gate: &G,
 ) -> Result<State, StepStop>
+    requires early { state.world.step < most_steps }
     requires some { 0 < workers }
     requires most { workers ≤ most_workers }
     ensures steps { Steps state.world result }
@@ -69,6 +71,7 @@ pub fn step<H: Threads + Sync, G: Gate + Sync>(
         → (1 < workers) × (half_stop Half1 state.world ≡ None) }
 {
     let State {
+        step,
         scales,
         e,
         b,
@@ -95,6 +98,7 @@ pub fn step<H: Threads + Sync, G: Gate + Sync>(
         Err(stop) => return Err(StepStop::Stop(stop)),
     };
     Ok(State {
+        step: step + 1,
         scales,
         e,
         b,

@@ -1,9 +1,10 @@
 //! The species of a run.
 
-ghost use Rattle.std.specs.Prelude.{◌≡◌};
+ghost use Rattle.std.specs.Prelude.{◌≡◌, IfOk};
 ghost use Rattle.pic_tile.specs.Frame.{AreKinds};
 
-use pic_num::Kind;
+use pic_num::{Kind, NoMemory};
+use std::alloc::Global;
 use std::marker::Model;
 
 /// What the particles of each species have in common, for at most 16 species, which contracts see
@@ -40,5 +41,13 @@ impl Kinds {
         ensures limits { AreKinds self.now }
     {
         self.items.as_slice()
+    }
+
+    /// The same species once more.
+    pub fn copy(&self, alloc: Global) -> Result<Kinds, NoMemory>
+        ensures { IfOk result (λ kinds. kinds ≡ self.now) }
+    {
+        let items = Vec::from_slice(alloc, self.items.as_slice())?;
+        Ok(Kinds { items })
     }
 }

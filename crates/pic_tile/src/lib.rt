@@ -9,6 +9,7 @@ mod kinds;
 mod laws;
 mod parcel;
 mod parcel_layers;
+mod setup;
 mod tile;
 mod tile_map;
 
@@ -23,5 +24,6 @@ pub use laws::{
 };
 pub use parcel::{Parcel, ParcelBox};
 pub use parcel_layers::{layers_begin, layers_zone};
+pub use setup::Setup;
 pub use tile::Tile;
 pub use tile_map::TileMap;

@@ -36,11 +36,11 @@ push_tiles-requires-clause-ready g c κs within =
 pub returns-clause-pushed : goal.returns-clause-pushed
 returns-clause-pushed g c =
     pushed_by_fields c.args.plasma c.in_ok-pushed.pushed.0 c.args.fields.scales.now c.args.fields.e.now c.args.fields.b.now c.with_forces-frame.result c.in_ok-pushed.pushed.1
-    c.requires.can.safe_e (framed g (goal.at.returns-clause-pushed g c).After-with_forces-frame) c.in_ok-pushed.ensures.pushed
+    c.requires.can.tiled.of_e (framed g (goal.at.returns-clause-pushed g c).After-with_forces-frame) c.in_ok-pushed.ensures.pushed
 
 pub returns-then-plasma-eq0-clause-pushed : goal.returns-then-plasma-eq0-clause-pushed
 returns-then-plasma-eq0-clause-pushed g c =
     let p = c.args.plasma in
     let none : p.count ≡ 0 = omega (arith, c.if-plasma-eq0.true) in
     none_pushed (around_fields c.args.fields.scales.now p.frame.kinds c.args.fields.e.now c.args.fields.b.now) p (subst IsMap c.map-map.ensures.value c.tiles-tiles.ensures.limits)
-    c.requires.can.safe_e.cells c.requires.can.plasma none
+    c.requires.can.tiled.of_e.cells c.requires.can.plasma none

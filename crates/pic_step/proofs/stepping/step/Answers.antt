@@ -1,17 +1,15 @@
-use Rattle.std.proofs.Common.{◌≡◌, ℕ, ◌<◌, refl, sym, ap, ◌∙◌, subst, Result, Ok, Err, None, Option}
+use Rattle.std.proofs.Common.{◌≡◌, ℕ, suc, ◌+◌, ◌<◌, refl, sym, ap, ◌∙◌, subst, Result, Ok, Err, None, Option, arith}
 use Rattle.std.proofs.lemmas.Result.{err_from_is_err_and}
-use Rattle.pic_num.specs.Space.{Triple}
+use Rattle.pic_num.specs.Limits.{most_steps}
 use Rattle.pic_grid.specs.declared.stop.Phase.TheVariants.{Half1, Half2, Electric}
 use Rattle.pic_grid.specs.declared.stop.Stop.{Stop}
-use Rattle.pic_grid.specs.Lattice.{Field}
 use Rattle.pic_tile.specs.CoreState.{all_particles}
 use Rattle.pic_tile.specs.Tiling.{Tiling, cells_of}
-use Rattle.pic_step.specs.declared.plasma.Plasma.{Plasma}
 use Rattle.pic_step.specs.declared.state.State.TheInside.{Inside}
 use Rattle.pic_step.specs.declared.stepping.StepStop.{StepStop}
 use Rattle.pic_step.specs.TileFlux.{flux_in}
 use Rattle.pic_step.specs.Keeps.{Keeps}
-use Rattle.pic_step.specs.Kept.{as_one, seen}
+use Rattle.pic_step.specs.Kept.{IsTiled, AreTiled, seen}
 use Rattle.pic_step.specs.Plasma.{IsPlasma}
 use Rattle.pic_step.specs.PushOn.{ArePushed}
 use Rattle.pic_step.specs.SerialRun.{Steps}
@@ -20,91 +18,109 @@ use Rattle.pic_step.specs.Sound.{IsSound}
 use Rattle.pic_step.specs.StateView.{StateView}
 use Rattle.pic_step.proofs.ExitLaws.{stops_first, stops_push, stops_second, stops_last, wants_none}
 use Rattle.pic_step.proofs.KeptLaws.{can_push, next_is}
-use Rattle.pic_step.proofs.OnePartLaws.{half_one, full_one_is, advanced_parts, safe_small}
-use Rattle.pic_step.proofs.StepLaws.{IsHalf, is_half, half_stop_of, half_safe, pushed_on, IsBefore, is_before}
-use Rattle.pic_step.proofs.StepLaws.{second_stop_of, before_safe, last_stop_of, IsAfter, is_after, sound_after, stepped_after, keeps_after}
+use Rattle.pic_step.proofs.OnePartLaws.{whole_is, half_one, full_one, tiled_after, advanced_is, safe_parts, safe_small}
+use Rattle.pic_step.proofs.StepLaws.{IsHalf, is_half, half_safe, pushed_on, IsBefore, second_half, is_before}
+use Rattle.pic_step.proofs.StepLaws.{before_safe, last_step, IsAfter, is_after, sound_after, stepped_after, keeps_after}
 use Rattle.pic_step.proofs.stepping.step.Given.{Over}
 use Rattle.pic_step.proofs.stepping.step.Goals as goal
 use Rattle.pic_step.proofs.stepping.step.Goals.{In_ok-b, In-None, In_ok-b-2, In-Ok}
 
--- the state before the step
+-- the state before the step, and the map of its tiles
 abbrev world : Inside → World
-world k = seen k.scales k.e k.b k.plasma
+world k = seen k.step k.scales k.e k.b k.plasma
+
+abbrev tiles_map : Inside → Tiling
+tiles_map k = k.plasma.frame.map
 
 -- what the first half step of B left
-half : (g : Over) (c : In_ok-b g) → IsHalf (world c.state.inside) (as_one c.in_ok-b.b)
+half : (g : Over) (c : In_ok-b g) → IsHalf (world c.state.inside) c.in_ok-b.b.values
 half g c =
     let k = c.state.inside in
-    let done = half_one Half1 k.scales k.e k.b (Ok c.in_ok-b.b) c.in_ok-b.ensures in
-    is_half (world k) (as_one c.in_ok-b.b) c.state.invariant.sound done.0 done.1
+    let tiled = c.state.invariant.tiled in
+    is_half (world k) c.in_ok-b.b.values (half_one Half1 (tiles_map k) k.scales k.e k.b (Ok c.in_ok-b.b) tiled.of_e tiled.of_b c.in_ok-b.ensures)
+
+half_tiled : (g : Over) (c : In_ok-b g) → IsTiled (tiles_map c.state.inside) c.in_ok-b.b
+half_tiled g c =
+    let k = c.state.inside in
+    let tiled = c.state.invariant.tiled in
+    tiled_after (tiles_map k) k.e k.b c.in_ok-b.b _ tiled.of_e tiled.of_b c.in_ok-b.ensures.0
 
 -- what the push left
-pushed : (g : Over) (c : In-None g) → IsHalf (world c.state.inside) (as_one c.in_ok-b.b)
+pushed : (g : Over) (c : In-None g) → IsTiled (tiles_map c.state.inside) c.in_ok-b.b → IsHalf (world c.state.inside) c.in_ok-b.b.values
     → ArePushed (around (half_on (world c.state.inside))) c.in_ok-pushed.pushed.0.frame.map (world c.state.inside).particles
     c.in_ok-pushed.pushed.0.tiles.items None
-pushed g c first =
-    let w = world c.state.inside in
+pushed g c of_b first =
+    let k = c.state.inside in
+    let w = world k in
     let q = c.in_ok-pushed.pushed.0 in
     subst (λ (o : Option Stop). ArePushed (around (half_on w)) q.frame.map w.particles q.tiles.items o) c.in-None.is
-    (pushed_on w (as_one c.in_ok-b.b) q.frame.map q.tiles.items c.in_ok-pushed.pushed.1 c.state.invariant.sound first c.in_ok-pushed.ensures.pushed.pushed)
+    (pushed_on w k.e c.in_ok-b.b q.frame.map q.tiles.items c.in_ok-pushed.pushed.1 (whole_is (tiles_map k) k.e c.state.invariant.tiled.of_e)
+    (whole_is (tiles_map k) c.in_ok-b.b of_b) first c.in_ok-pushed.ensures.pushed.pushed)
 
 -- what the second half step of B left
-before : (g : Over) (c : In_ok-b-2 g) → IsHalf (world c.state.inside) (as_one c.in_ok-b.b) → IsBefore (world c.state.inside) (as_one c.in_ok-b-2.b)
-before g c first =
+before : (g : Over) (c : In_ok-b-2 g) → IsTiled (tiles_map c.state.inside) c.in_ok-b.b → IsHalf (world c.state.inside) c.in_ok-b.b.values
+    → IsBefore (world c.state.inside) c.in_ok-b-2.b.values
+before g c of_b first =
     let k = c.state.inside in
-    let done = half_one Half2 k.scales k.e c.in_ok-b.b (Ok c.in_ok-b-2.b) c.in_ok-b-2.ensures in
-    is_before (world k) (as_one c.in_ok-b.b) (as_one c.in_ok-b-2.b) c.state.invariant.sound first done.0 done.1
+    is_before (world k) c.in_ok-b-2.b.values (second_half (world k) c.in_ok-b.b.values (Ok c.in_ok-b-2.b.values) first
+    (half_one Half2 (tiles_map k) k.scales k.e c.in_ok-b.b (Ok c.in_ok-b-2.b) c.state.invariant.tiled.of_e of_b c.in_ok-b-2.ensures))
+
+before_tiled : (g : Over) (c : In_ok-b-2 g) → IsTiled (tiles_map c.state.inside) c.in_ok-b.b → IsTiled (tiles_map c.state.inside) c.in_ok-b-2.b
+before_tiled g c of_b =
+    let k = c.state.inside in tiled_after (tiles_map k) k.e c.in_ok-b.b c.in_ok-b-2.b _ c.state.invariant.tiled.of_e of_b c.in_ok-b-2.ensures.0
 
 -- and the step of E: the state after the step
-after : (g : Over) (c : In-Ok g) → IsHalf (world c.state.inside) (as_one c.in_ok-b.b)
+after : (g : Over) (c : In-Ok g) → IsHalf (world c.state.inside) c.in_ok-b.b.values
     → ArePushed (around (half_on (world c.state.inside))) c.in_ok-pushed.pushed.0.frame.map (world c.state.inside).particles
     c.in_ok-pushed.pushed.0.tiles.items None
-    → IsBefore (world c.state.inside) (as_one c.in_ok-b-2.b)
-    → IsAfter (world c.state.inside) (as_one c.in-Ok.e) (as_one c.in_ok-b-2.b) (all_particles c.advance_e-e.result.1.tiles.items)
-after g c first free second =
+    → IsTiled (tiles_map c.state.inside) c.in_ok-b-2.b → IsBefore (world c.state.inside) c.in_ok-b-2.b.values
+    → IsAfter (world c.state.inside) c.in-Ok.e.values c.in_ok-b-2.b.values (all_particles c.advance_e-e.result.1.tiles.items)
+after g c first free of_b second =
     let k = c.state.inside in
     let q = c.in_ok-pushed.pushed.0 in
-    let done = full_one_is Electric k.scales c.in_ok-b-2.b k.e (flux_in q.frame.map q.tiles.items) _ (Ok c.in-Ok.e) c.in-Ok.is
-    c.advance_e-e.ensures.fields in
-    is_after (world k) (as_one c.in_ok-b.b) (as_one c.in_ok-b-2.b) (as_one c.in-Ok.e) q.frame.map q.tiles.items
-    (all_particles c.advance_e-e.result.1.tiles.items) c.state.invariant.sound first free second c.advance_e-e.ensures.particles done.0 done.1
+    is_after (world k) c.in_ok-b.b.values c.in_ok-b-2.b.values c.in-Ok.e.values q.frame.map q.tiles.items
+    (all_particles c.advance_e-e.result.1.tiles.items) first free second c.advance_e-e.ensures.particles
+    (full_one Electric (tiles_map k) k.scales c.in_ok-b-2.b k.e (flux_in q.frame.map q.tiles.items) _ (Ok c.in-Ok.e) c.in-Ok.is
+    of_b c.state.invariant.tiled.of_e c.advance_e-e.ensures.fields)
 
 -- the state after the step, by its parts
 next : (g : Over) (c : In-Ok g) → record (world c.state.inside) {
-  e = as_one c.in-Ok.e;
-  b = as_one c.in_ok-b-2.b;
+  step = suc c.state.inside.step;
+  e = c.in-Ok.e.values;
+  b = c.in_ok-b-2.b.values;
   particles = all_particles c.advance_e-e.result.1.tiles.items;
-} ≡ seen c.state.inside.scales c.in-Ok.e c.in_ok-b-2.b c.advance_e-e.result.1
+} ≡ seen (c.state.inside.step + 1) c.state.inside.scales c.in-Ok.e c.in_ok-b-2.b c.advance_e-e.result.1
 next g c =
     let k = c.state.inside in
     let frame = c.advance_e-e.ensures.frame in
-    next_is k.scales k.e k.b c.in-Ok.e c.in_ok-b-2.b k.plasma c.advance_e-e.result.1
+    next_is k.step (k.step + 1) k.scales k.e k.b c.in-Ok.e c.in_ok-b-2.b k.plasma c.advance_e-e.result.1 (omega arith)
     (ap (λ f. f.map) frame ∙ c.in_ok-pushed.ensures.pushed.map) (ap (λ f. f.kinds) frame ∙ c.in_ok-pushed.ensures.pushed.kinds)
 
 pub returns-in_err-b-clause-steps : goal.returns-in_err-b-clause-steps
 returns-in_err-b-clause-steps g c =
     let k = c.state.inside in
     let w = world k in
+    let tiled = c.state.invariant.tiled in
     let exit = err_from_is_err_and c.from_residual.result c.from_residual.ensures.1 in
     subst (λ (r : Result StateView StepStop). Steps c.args.state.world r) (sym (exit.1 ∙ ap Err exit.2))
     (ap (λ (v : StateView). stepped v.world) (sym c.state.view_is)
-    ∙ stops_first w _ (half_stop_of w _ c.state.invariant.sound (half_one Half1 k.scales k.e k.b (Err _) c.in_err-b.ensures)))
+    ∙ stops_first w _ (half_one Half1 (tiles_map k) k.scales k.e k.b (Err _) tiled.of_e tiled.of_b c.in_err-b.ensures))
 
 pub advance_b-requires-clause-e_small : goal.advance_b-requires-clause-e_small
 advance_b-requires-clause-e_small g c κs within =
-    let k = c.state.inside in
-    safe_small k.plasma.frame.map.side (cells_of k.plasma.frame.map) k.scales.e_force k.e c.state.invariant.sound.e
+    let k = c.state.inside in safe_small k.scales.e_force k.e (safe_parts (tiles_map k) k.scales.e_force k.e c.state.invariant.tiled.of_e c.state.invariant.sound.e)
 
 pub advance_b-requires-clause-b_small : goal.advance_b-requires-clause-b_small
 advance_b-requires-clause-b_small g c κs within =
-    let k = c.state.inside in
-    safe_small k.plasma.frame.map.side (cells_of k.plasma.frame.map) k.scales.b_force k.b c.state.invariant.sound.b
+    let k = c.state.inside in safe_small k.scales.b_force k.b (safe_parts (tiles_map k) k.scales.b_force k.b c.state.invariant.tiled.of_b c.state.invariant.sound.b)
 
 pub push_phase-requires-clause-can : goal.push_phase-requires-clause-can
 push_phase-requires-clause-can g c κs within =
     let k = c.state.inside in
-    let first = half g (goal.at.push_phase-requires-clause-can g c).In_ok-b in
-    can_push k.scales k.e k.b c.in_ok-b.b k.plasma c.state.invariant (half_safe (world k) (as_one c.in_ok-b.b) c.state.invariant.sound first)
+    let at = (goal.at.push_phase-requires-clause-can g c).In_ok-b in
+    let tiled = half_tiled g at in
+    can_push k.step k.scales k.e k.b c.in_ok-b.b k.plasma c.state.invariant tiled
+    (safe_parts (tiles_map k) k.scales.b_force c.in_ok-b.b tiled (half_safe (world k) c.in_ok-b.b.values (half g at)))
 
 pub returns-in_err-pushed-clause-steps : goal.returns-in_err-pushed-clause-steps
 returns-in_err-pushed-clause-steps g c =
@@ -113,23 +129,24 @@ returns-in_err-pushed-clause-steps g c =
 
 pub returns-in-Some-clause-steps : goal.returns-in-Some-clause-steps
 returns-in-Some-clause-steps g c =
-    let w = world c.state.inside in
+    let k = c.state.inside in
+    let w = world k in
     let q = c.in_ok-pushed.pushed.0 in
-    let first = half g (goal.at.returns-in-Some-clause-steps g c).In_ok-b in
-    let free = pushed_on w (as_one c.in_ok-b.b) q.frame.map q.tiles.items c.in_ok-pushed.pushed.1 c.state.invariant.sound first
-    c.in_ok-pushed.ensures.pushed.pushed in
+    let at = (goal.at.returns-in-Some-clause-steps g c).In_ok-b in
+    let first = half g at in
+    let free = pushed_on w k.e c.in_ok-b.b q.frame.map q.tiles.items c.in_ok-pushed.pushed.1 (whole_is (tiles_map k) k.e c.state.invariant.tiled.of_e)
+    (whole_is (tiles_map k) c.in_ok-b.b (half_tiled g at)) first c.in_ok-pushed.ensures.pushed.pushed in
     ap (λ (v : StateView). stepped v.world) (sym c.state.view_is) ∙ stops_push w c.in-Some.stop first.none (sym free.stop_is ∙ c.in-Some.is)
 
 pub advance_b-requires-2-clause-e_small : goal.advance_b-requires-2-clause-e_small
 advance_b-requires-2-clause-e_small g c κs within =
-    let k = c.state.inside in safe_small k.plasma.frame.map.side (cells_of k.plasma.frame.map) k.scales.e_force k.e c.state.invariant.sound.e
+    let k = c.state.inside in safe_small k.scales.e_force k.e (safe_parts (tiles_map k) k.scales.e_force k.e c.state.invariant.tiled.of_e c.state.invariant.sound.e)
 
 pub advance_b-requires-2-clause-b_small : goal.advance_b-requires-2-clause-b_small
 advance_b-requires-2-clause-b_small g c κs within =
     let k = c.state.inside in
-    let first = half g (goal.at.advance_b-requires-2-clause-b_small g c).In_ok-b in
-    safe_small k.plasma.frame.map.side (cells_of k.plasma.frame.map) k.scales.b_force c.in_ok-b.b
-    (half_safe (world k) (as_one c.in_ok-b.b) c.state.invariant.sound first)
+    let at = (goal.at.advance_b-requires-2-clause-b_small g c).In_ok-b in
+    safe_small k.scales.b_force c.in_ok-b.b (safe_parts (tiles_map k) k.scales.b_force c.in_ok-b.b (half_tiled g at) (half_safe (world k) c.in_ok-b.b.values (half g at)))
 
 pub returns-in_err-b-2-clause-steps : goal.returns-in_err-b-2-clause-steps
 returns-in_err-b-2-clause-steps g c =
@@ -137,38 +154,38 @@ returns-in_err-b-2-clause-steps g c =
     let w = world k in
     let at = goal.at.returns-in_err-b-2-clause-steps g c in
     let first = half g at.In_ok-b in
-    let free = pushed g at.In-None first in
+    let tiled = half_tiled g at.In_ok-b in
+    let free = pushed g at.In-None tiled first in
     let exit = err_from_is_err_and c.from_residual-in_err-b-2.result c.from_residual-in_err-b-2.ensures.1 in
     subst (λ (r : Result StateView StepStop). Steps c.args.state.world r) (sym (exit.1 ∙ ap Err exit.2))
     (ap (λ (v : StateView). stepped v.world) (sym c.state.view_is)
-    ∙ stops_second w _ first.none (sym free.stop_is) (second_stop_of w (as_one c.in_ok-b.b) _ c.state.invariant.sound first
-    (half_one Half2 k.scales k.e c.in_ok-b.b (Err _) c.in_err-b-2.ensures)))
+    ∙ stops_second w _ first.none (sym free.stop_is) (second_half w c.in_ok-b.b.values (Err _) first
+    (half_one Half2 (tiles_map k) k.scales k.e c.in_ok-b.b (Err _) c.state.invariant.tiled.of_e tiled c.in_err-b-2.ensures)))
 
 -- E takes its step on the cells and the tiles of the map
 pub advance_e-e-requires-clause-b_cells : goal.advance_e-e-requires-clause-b_cells
 advance_e-e-requires-clause-b_cells g c κs within =
     let at = goal.at.advance_e-e-requires-clause-b_cells g c in
-    let second = before g at.In_ok-b-2 (half g at.In_ok-b) in
-    let safe = before_safe (world c.state.inside) (as_one c.in_ok-b-2.b) c.state.invariant.sound second in
-    safe.cells ∙ sym (ap cells_of c.in_ok-pushed.ensures.pushed.map)
+    (before_tiled g at.In_ok-b-2 (half_tiled g at.In_ok-b)).cells ∙ sym (ap cells_of c.in_ok-pushed.ensures.pushed.map)
 
 pub advance_e-e-requires-clause-e_cells : goal.advance_e-e-requires-clause-e_cells
-advance_e-e-requires-clause-e_cells g c κs within = c.state.invariant.sound.e.cells ∙ sym (ap cells_of c.in_ok-pushed.ensures.pushed.map)
+advance_e-e-requires-clause-e_cells g c κs within = c.state.invariant.tiled.of_e.cells ∙ sym (ap cells_of c.in_ok-pushed.ensures.pushed.map)
 
 pub advance_e-e-requires-clause-parts : goal.advance_e-e-requires-clause-parts
-advance_e-e-requires-clause-parts g c κs within = c.state.invariant.tiled.e_parts ∙ sym (ap (λ (m : Tiling). m.tiles) c.in_ok-pushed.ensures.pushed.map)
+advance_e-e-requires-clause-parts g c κs within = c.state.invariant.tiled.of_e.parts ∙ sym (ap (λ (m : Tiling). m.tiles) c.in_ok-pushed.ensures.pushed.map)
 
 pub advance_e-e-requires-clause-b_small : goal.advance_e-e-requires-clause-b_small
 advance_e-e-requires-clause-b_small g c κs within =
     let k = c.state.inside in
     let at = goal.at.advance_e-e-requires-clause-b_small g c in
-    let second = before g at.In_ok-b-2 (half g at.In_ok-b) in
-    safe_small k.plasma.frame.map.side (cells_of k.plasma.frame.map) k.scales.b_force c.in_ok-b-2.b
-    (before_safe (world k) (as_one c.in_ok-b-2.b) c.state.invariant.sound second)
+    let tiled = half_tiled g at.In_ok-b in
+    let second = before g at.In_ok-b-2 tiled (half g at.In_ok-b) in
+    safe_small k.scales.b_force c.in_ok-b-2.b (safe_parts (tiles_map k) k.scales.b_force c.in_ok-b-2.b (before_tiled g at.In_ok-b-2 tiled)
+    (before_safe (world k) c.in_ok-b-2.b.values second))
 
 pub advance_e-e-requires-clause-e_small : goal.advance_e-e-requires-clause-e_small
 advance_e-e-requires-clause-e_small g c κs within =
-    let k = c.state.inside in safe_small k.plasma.frame.map.side (cells_of k.plasma.frame.map) k.scales.e_force k.e c.state.invariant.sound.e
+    let k = c.state.inside in safe_small k.scales.e_force k.e (safe_parts (tiles_map k) k.scales.e_force k.e c.state.invariant.tiled.of_e c.state.invariant.sound.e)
 
 pub returns-in-Err-clause-steps : goal.returns-in-Err-clause-steps
 returns-in-Err-clause-steps g c =
@@ -178,12 +195,18 @@ returns-in-Err-clause-steps g c =
     let j = flux_in q.frame.map q.tiles.items in
     let at = goal.at.returns-in-Err-clause-steps g c in
     let first = half g at.In_ok-b in
-    let free = pushed g at.In-None first in
-    let second = before g at.In_ok-b-2 first in
+    let tiled = half_tiled g at.In_ok-b in
+    let free = pushed g at.In-None tiled first in
+    let second = before g at.In_ok-b-2 tiled first in
     ap (λ (v : StateView). stepped v.world) (sym c.state.view_is)
     ∙ stops_last w _ first.none (sym free.stop_is) second.none
-    (last_stop_of w (as_one c.in_ok-b-2.b) j _ c.state.invariant.sound second free.current_is
-    (full_one_is Electric k.scales c.in_ok-b-2.b k.e j _ (Err _) c.in-Err.is c.advance_e-e.ensures.fields))
+    (last_step w c.in_ok-b-2.b.values j (Err _) second free.current_is
+    (full_one Electric (tiles_map k) k.scales c.in_ok-b-2.b k.e j _ (Err _) c.in-Err.is (before_tiled g at.In_ok-b-2 tiled) c.state.invariant.tiled.of_e
+    c.advance_e-e.ensures.fields))
+
+-- the step isn't the last that a run may have
+early : (g : Over) (c : In-Ok g) → c.state.inside.step < most_steps
+early g c = subst (λ (v : StateView). v.world.step < most_steps) (sym c.state.view_is) c.requires.early
 
 pub invariant_of-result : goal.invariant_of-result
 invariant_of-result g c =
@@ -192,18 +215,19 @@ invariant_of-result g c =
     let q = c.advance_e-e.result.1 in
     let at = goal.at.invariant_of-result g c in
     let first = half g at.In_ok-b in
-    let free = pushed g at.In-None first in
-    let same : k.plasma.frame.map ≡ q.frame.map = sym (ap (λ f. f.map) c.advance_e-e.ensures.frame ∙ c.in_ok-pushed.ensures.pushed.map) in
-    let tiles = ap (λ (m : Tiling). m.tiles) same in
-    let cut : Field → Triple = λ f. f.parts in
+    let tiled = half_tiled g at.In_ok-b in
+    let second_tiled = before_tiled g at.In_ok-b-2 tiled in
+    let free = pushed g at.In-None tiled first in
+    let same : tiles_map k ≡ q.frame.map = sym (ap (λ f. f.map) c.advance_e-e.ensures.frame ∙ c.in_ok-pushed.ensures.pushed.map) in
     record {
       sound = subst IsSound (next g at.In-Ok)
-          (sound_after w (as_one c.in-Ok.e) (as_one c.in_ok-b-2.b) _ c.state.invariant.sound
-          (after g at.In-Ok first free (before g at.In_ok-b-2 first)));
-      tiled = record {
-        e_parts = advanced_parts Electric k.scales.e_force _ _ _ _ _ c.in-Ok.e c.in-Ok.is c.advance_e-e.ensures.fields ∙ c.state.invariant.tiled.e_parts ∙ tiles;
-        b_parts = ap cut c.in_ok-b-2.ensures.0 ∙ ap cut c.in_ok-b.ensures.0 ∙ c.state.invariant.tiled.b_parts ∙ tiles;
-      };
+          (sound_after w c.in-Ok.e.values c.in_ok-b-2.b.values _ c.state.invariant.sound (early g at.In-Ok)
+          (after g at.In-Ok first free second_tiled (before g at.In_ok-b-2 tiled first)));
+      tiled = subst (λ (m : Tiling). AreTiled m c.in-Ok.e c.in_ok-b-2.b) same (record {
+        of_e = tiled_after (tiles_map k) c.in_ok-b-2.b k.e c.in-Ok.e _ second_tiled c.state.invariant.tiled.of_e
+            (advanced_is Electric k.scales.e_force _ _ _ _ _ c.in-Ok.e c.in-Ok.is c.advance_e-e.ensures.fields);
+        of_b = second_tiled;
+      });
       plasma = subst (λ xs. IsPlasma xs q) (sym c.advance_e-e.ensures.particles) c.advance_e-e.ensures.plasma;
     }
 
@@ -212,19 +236,22 @@ returns-clause-steps g c =
     let w = world c.state.inside in
     let at = goal.at.returns-clause-steps g c in
     let first = half g at.In_ok-b in
+    let tiled = half_tiled g at.In_ok-b in
     ap (λ (v : StateView). stepped v.world) (sym c.state.view_is)
-    ∙ stepped_after w (as_one c.in-Ok.e) (as_one c.in_ok-b-2.b) _
-    (after g at.In-Ok first (pushed g at.In-None first) (before g at.In_ok-b-2 first))
+    ∙ stepped_after w c.in-Ok.e.values c.in_ok-b-2.b.values _
+    (after g at.In-Ok first (pushed g at.In-None tiled first) (before_tiled g at.In_ok-b-2 tiled) (before g at.In_ok-b-2 tiled first))
     ∙ ap (λ (v : World). Ok v) (next g at.In-Ok)
 
 pub returns-clause-keeps : goal.returns-clause-keeps
 returns-clause-keeps g c =
-    let w = world c.state.inside in
+    let k = c.state.inside in
+    let w = world k in
     let at = goal.at.returns-clause-keeps g c in
     let first = half g at.In_ok-b in
-    let after' = after g at.In-Ok first (pushed g at.In-None first) (before g at.In_ok-b-2 first) in
-    subst (λ (v : StateView). Keeps v.world (seen c.state.inside.scales c.in-Ok.e c.in_ok-b-2.b c.advance_e-e.result.1)) c.state.view_is
-    (subst (Keeps w) (next g at.In-Ok) (keeps_after w (as_one c.in-Ok.e) (as_one c.in_ok-b-2.b) _ c.state.invariant.sound after'))
+    let tiled = half_tiled g at.In_ok-b in
+    let after' = after g at.In-Ok first (pushed g at.In-None tiled first) (before_tiled g at.In_ok-b-2 tiled) (before g at.In_ok-b-2 tiled first) in
+    subst (λ (v : StateView). Keeps v.world (seen (k.step + 1) k.scales c.in-Ok.e c.in_ok-b-2.b c.advance_e-e.result.1)) c.state.view_is
+    (subst (Keeps w) (next g at.In-Ok) (keeps_after w c.in-Ok.e.values c.in_ok-b-2.b.values _ c.state.invariant.sound after'))
 
 pub returns-clause-map : goal.returns-clause-map
 returns-clause-map g c =

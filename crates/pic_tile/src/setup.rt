@@ -1,0 +1,13 @@
+//! What a run has beside its state.
+
+use crate::kinds::Kinds;
+use crate::tile_map::TileMap;
+use pic_num::Scales;
+
+/// What stays in a run: the cells and their tiles, the multipliers, and the species.
+#[derive(Drop)]
+pub struct Setup {
+    pub map: TileMap,
+    pub scales: Scales,
+    pub kinds: Kinds,
+}
