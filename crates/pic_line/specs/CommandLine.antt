@@ -63,10 +63,11 @@ demo_of seed workers = None
 -- the command of a subcommand's name and its values
 abbrev pub command_named : Text → List Row → Option Command
 command_named name rows =
-    if bytes_eq name (codes "run") then option_map Run (workers_in rows)
+    if bytes_eq name (codes "check") then Some Check
+    else if bytes_eq name (codes "run") then option_map Run (workers_in rows)
     else if bytes_eq name (codes "verify") then Some Verify
     else if bytes_eq name (codes "demo") then demo_of (seed_in rows) (workers_in rows)
-    else Some Check
+    else None
 
 -- no subcommand is `check`
 abbrev pub command_from : Option (Text × List Row) → Option Command

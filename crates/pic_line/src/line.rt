@@ -66,14 +66,16 @@ fn command_from(matches: &ArgMatches<'_>) -> Option<Command>
 fn command_named(name: &str, found: &ArgMatches<'_>) -> Option<Command>
     ensures { result ≡ command_named name.now (rows_of (found_of found.now)) }
 {
-    if name == "run" {
+    if name == "check" {
+        Some(Command::Check)
+    } else if name == "run" {
         workers_in(found).map(|workers| Command::Run { workers })
     } else if name == "verify" {
         Some(Command::Verify)
     } else if name == "demo" {
         demo_of(seed_in(found), workers_in(found))
     } else {
-        Some(Command::Check)
+        None
     }
 }
 

@@ -20,7 +20,8 @@ use Rattle.pic_run.specs.declared.ended.Ended.{Ended}
 use Rattle.pic_run.specs.declared.output.Output.{Output}
 use Rattle.pic_run.specs.Frames.{end_piece}
 use Rattle.pic_run.specs.Outcome.{Outcome, with_head, answer_of, states_outcome}
-use Rattle.pic_run.specs.Ends.{Fulfils, Finishes}
+use Rattle.pic_run.specs.Leaves.{Fulfils, LeavesWhole}
+use Rattle.pic_run.specs.Finishes.{Finishes}
 use Rattle.pic_run.specs.Runs.{WroteFrames, WritesFrames, WritesStates}
 
 -- one piece
@@ -61,7 +62,7 @@ cut_headed side a b c (byte ∷ head) pieces first cut = inr (b, first, cut)
 -- a head that was written, and a run behind it
 pub headed : (workers : ℕ) (output : Output) (head : List ℕ) (frames : List Piece) (last : EndMark) (a b c : Sinks) (finish : Result Ended Cut)
     → Wrote a b head [] → WritesStates workers (states_outcome output [] frames last) b c finish
-    → Finishes workers (states_outcome output head frames last) a c finish
+    → Finishes (LeavesWhole workers) (states_outcome output head frames last) a c finish
 headed workers output head frames last a b c (Ok answer) first ends = record {
   answers = ends.answers;
   wrote = subst (λ (x : List ℕ). Wrote a c x (lines frames ++ (end_piece output last).line)) (sym (append_assoc head (outs frames) (end_piece output last).out))
@@ -99,7 +100,8 @@ end_some (Stopped step (FieldStop phase bound axis cell value)) = omega arith
 end_some (Stopped step (Push id what axis value)) = omega arith
 
 -- a run with no head
-pub without_head : (workers : ℕ) (o : Outcome) (a b : Sinks) (finish : Result Ended Cut) → WritesStates workers o a b finish → Finishes workers o a b finish
+pub without_head : (workers : ℕ) (o : Outcome) (a b : Sinks) (finish : Result Ended Cut) → WritesStates workers o a b finish
+    → Finishes (LeavesWhole workers) o a b finish
 without_head workers o a b (Ok answer) ends = ends
 without_head workers o a b (Err (Write side)) ends = ends
 without_head workers o a b (Err NoMemory) ends = inr ends

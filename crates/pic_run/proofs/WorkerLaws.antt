@@ -1,6 +1,6 @@
 -- A command that is run has 1 to 64 workers.
 use Rattle.std.proofs.Common.{◌≡◌, ℕ, ◌<◌, ◌≤◌, List, [], ◌∷◌, Bool, true, false, cond, Option, Some, None, refl, subst, arith}
-use Rattle.std.specs.Prelude.{◌&&◌, nat_le, nat_lt, ⊤, option_map, option_and_then}
+use Rattle.std.specs.Prelude.{◌&&◌, nat_le, ⊤, option_map, option_and_then}
 use Rattle.std.proofs.lemmas.Bool.Decides.{nat_tests}
 use Rattle.std.specs.Prelude.{codes}
 use Rattle.clap.specs.Words.{fault_of, subcommand_of}
@@ -33,10 +33,9 @@ found None n h = absurd (cc)
 
 -- what a command's workers are
 abbrev HasWorkers : Command → Type 0
-HasWorkers Check = ⊤
 HasWorkers (Run workers) = AreWorkers workers
-HasWorkers Verify = ⊤
 HasWorkers (Demo seed workers) = AreWorkers workers
+HasWorkers c = ⊤
 
 plain : (d c : Command) → HasWorkers d → ◌≡◌ {A = Option Command} (Some d) (Some c) → HasWorkers c
 plain d c has h = let same : d ≡ c = cc in subst HasWorkers same has
@@ -50,16 +49,17 @@ demo_has (Some seed) (Some n) c all h = plain (Demo seed n) c (all n refl) h
 demo_has (Some seed) None c all h = absurd (cc)
 demo_has None o c all h = absurd (cc)
 
-named : (a b d : Bool) (s o : Option ℕ) (c : Command) → ((n : ℕ) → o ≡ Some n → AreWorkers n)
-    → cond a (option_map Run o) (cond b (Some Verify) (cond d (demo_of s o) (Some Check))) ≡ Some c → HasWorkers c
-named true b d s o c all h = run_has o c all h
-named false true d s o c all h = plain Verify c tt h
-named false false true s o c all h = demo_has s o c all h
-named false false false s o c all h = plain Check c tt h
+named : (a b d e : Bool) (s o : Option ℕ) (c : Command) → ((n : ℕ) → o ≡ Some n → AreWorkers n)
+    → cond a (Some Check) (cond b (option_map Run o) (cond d (Some Verify) (cond e (demo_of s o) None))) ≡ Some c → HasWorkers c
+named true b d e s o c all h = plain Check c tt h
+named false true d e s o c all h = run_has o c all h
+named false false true e s o c all h = plain Verify c tt h
+named false false false true s o c all h = demo_has s o c all h
+named false false false false s o c all h = absurd (cc)
 
 from : (o : _) (c : Command) → command_from o ≡ Some c → HasWorkers c
 from None c h = plain Check c tt h
-from (Some (name, rows)) c h = named _ _ _ (seed_in rows) (workers_in rows) c (λ n. found _ n) h
+from (Some (name, rows)) c h = named _ _ _ _ (seed_in rows) (workers_in rows) c (λ n. found _ n) h
 
 without_fault : (kinds : _) (o : _) (c : Command) → unless_fault kinds (command_from o) ≡ Some c → HasWorkers c
 without_fault [] o c h = from o c h

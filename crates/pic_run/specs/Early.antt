@@ -1,6 +1,4 @@
--- The stages of a call. Each gives a value for the next one, or an early end of the call, which has
--- an answer, and a line of its own on the report.
-use Rattle.std.specs.Prelude.{ℕ, List, Result, Ok, Err}
+-- The early ends of a call, and what stops its stages.
 use Rattle.pic_deck.specs.declared.refusal.DeckFault.{DeckFault}
 use Rattle.pic_deck.specs.declared.refusal.DeckFault.TheVariants as deck_fault
 use Rattle.pic_verify.specs.declared.verify_stop.VerifyStop.{VerifyStop}
@@ -13,17 +11,6 @@ use Rattle.pic_run.specs.declared.ended.Ended.{Ended}
 use Rattle.pic_run.specs.declared.ended.Ended.TheVariants.{Usage, Refused, Gauss, ReadFault, BadDump, Broken}
 use Rattle.pic_run.specs.declared.source_reader.SourceStop.{SourceStop}
 use Rattle.pic_run.specs.declared.source_reader.SourceStop.TheVariants as source_stop
-use Rattle.pic_run.specs.Lines.{gauss_line, usage_line, read_fault_line, refused_line, bad_dump_line, broken_line}
-
--- what a stage gives
-abbrev pub Staged : Type 0 → Type 0
-Staged A = Result A Early
-
--- one stage, and then another from its value
-infixl 10 ◌>>=◌
-abbrev pub ◌>>=◌ : {A B : Type 0} → Staged A → (A → Staged B) → Staged B
-Ok a >>= f = f a
-Err end >>= f = Err end
 
 -- the answer of an early end
 abbrev pub ended_early : Early → Ended
@@ -33,15 +20,6 @@ ended_early (early.Refused refusal) = Refused refusal
 ended_early (early.Gauss b) = Gauss b
 ended_early (early.BadDump place cause) = BadDump place cause
 ended_early (early.Broken frame b) = Broken frame b
-
--- its line on the report
-abbrev pub early_line : Early → List ℕ
-early_line early.Usage = usage_line
-early_line early.ReadFault = read_fault_line
-early_line (early.Refused refusal) = refused_line refusal
-early_line (early.Gauss b) = gauss_line b
-early_line (early.BadDump place cause) = bad_dump_line place cause
-early_line (early.Broken frame b) = broken_line frame b
 
 -- what stops the stage of reading
 abbrev pub stop_of_reading : SourceStop → StageStop

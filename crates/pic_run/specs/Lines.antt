@@ -1,12 +1,14 @@
 -- The lines of a call: this project's profile. Numbers are plain decimal, and each line ends with
 -- a line feed.
-use Rattle.std.specs.Prelude.{ℕ, ℤ, List, ◌++◌, ◌&&◌, map, codes, nat_le, if◌then◌else◌}
+use Rattle.std.specs.Prelude.{ℕ, ℤ, List, [], ◌++◌, ◌&&◌, map, codes, nat_le, if◌then◌else◌}
 use Rattle.std.specs.Fmt.{decimal, signed_decimal}
 use Rattle.std.specs.Str.{chars}
 use Rattle.pic_deck.specs.declared.refusal.Refusal.{Refusal}
 use Rattle.pic_deck.specs.declared.refusal.Refusal.TheVariants.{Text, Unknown, Missing, Kind, Limit, Name}
 use Rattle.pic_num.specs.Space.{triple}
 use Rattle.pic_charge.specs.declared.breaks.Break.{Break}
+use Rattle.pic_run.specs.declared.ended.Ended.{Ended}
+use Rattle.pic_run.specs.declared.ended.Ended.TheVariants as ended
 
 unfoldable pub usage_line : List ℕ
 usage_line = codes "usage: pic [check | run [--workers N] | verify | demo SEED [--workers N]]\n"
@@ -73,3 +75,13 @@ refused_line (Kind path) = path_line (codes "refused 4 kind ") path (codes "\n")
 refused_line (Limit path value low high) =
     path_line (codes "refused 5 limit ") path (limit_tail value low high)
 refused_line (Name path) = path_line (codes "refused 6 name ") path (codes "\n")
+
+-- the line of an answer that comes before its command has put anything
+abbrev pub early_line : Ended → List ℕ
+early_line ended.Usage = usage_line
+early_line ended.ReadFault = read_fault_line
+early_line (ended.Refused refusal) = refused_line refusal
+early_line (ended.Gauss b) = gauss_line b
+early_line (ended.BadDump place cause) = bad_dump_line place cause
+early_line (ended.Broken frame b) = broken_line frame b
+early_line answer = []

@@ -1,6 +1,6 @@
 -- What opening a deck does.
-use Rattle.std.specs.Prelude.{◌≡◌, ⊤, ℕ, ◌<◌, List, length, Option, Some, Result, Ok, Err, IsSome}
-use Rattle.pic_io.specs.Told.{Told}
+use Rattle.std.specs.Prelude.{◌≡◌, ⊤, ℕ, ◌<◌, List, length, Result, Ok, Err}
+use Rattle.pic_io.specs.Told.{Told, Calm}
 use Rattle.pic_io.specs.Source.{IsAtEnd}
 use Rattle.pic_deck.specs.Deck.{DeckView}
 use Rattle.pic_step.specs.Kept.{AreTiled}
@@ -10,8 +10,10 @@ use Rattle.pic_run.specs.declared.early.Early.{Early}
 use Rattle.pic_run.specs.declared.early.StageStop.{StageStop}
 use Rattle.pic_run.specs.declared.early.StageStop.TheVariants.{Answer, NoMemory}
 use Rattle.pic_run.specs.declared.opening_deck.Opened.{Opened}
+use Rattle.pic_run.specs.DeckEnd.{DeckEnd, Staged, ended_at}
+use Rattle.pic_run.specs.Early.{ended_early}
 use Rattle.pic_run.specs.Outcome.{accepted, tested, opened}
-use Rattle.pic_run.specs.Reading.{deck_limit, Gave}
+use Rattle.pic_run.specs.Reading.{deck_limit, Given, Held, Reading, TakesOfDeck}
 use Rattle.pic_run.specs.Starting.{first_state}
 
 -- the deck meets Gauss's law; it stands here with what its run begins with, and that is sound, its
@@ -20,37 +22,42 @@ pub record IsTested (d : DeckView) (o : Opened) : Type 0 where
   pub deck : tested d ≡ Ok o.deck
   pub start : begun o.start ≡ first_state o.deck
   pub sound : IsSound (begun o.start)
-  pub tiled : AreTiled o.start.map o.start.e o.start.b
+  pub tiled : AreTiled o.start.setup.map o.start.e o.start.b
+
+-- a stage of a deck came to an end, and this early end says so
+pub record IsEndOf (stage : Staged DeckView) (why : Early) : Type 0 where
+  pub end : DeckEnd
+  pub is : stage ≡ Err end
+  pub answer : ended_early why ≡ ended_at end
 
 -- what testing a deck answers
 abbrev pub Tests : DeckView → Result Opened StageStop → Type 0
 Tests d (Ok o) = IsTested d o
-Tests d (Err (Answer why)) = tested d ≡ Err why
+Tests d (Err (Answer why)) = IsEndOf (tested d) why
 Tests d (Err NoMemory) = ⊤
 
--- the deck of the input with what its run begins with, which is sound; the source is at its end
-pub record IsDeckOpened (input : Option (List ℕ)) (now : Told) (o : Opened) : Type 0 where
-  pub deck : opened input ≡ Ok o.deck
+-- the deck that was given with what its run begins with, which is sound; the source is at its end
+pub record IsDeckOpened (given : Given) (now : Told) (o : Opened) : Type 0 where
+  pub deck : opened given ≡ Ok o.deck
   pub start : begun o.start ≡ first_state o.deck
   pub sound : IsSound (begun o.start)
-  pub tiled : AreTiled o.start.map o.start.e o.start.b
+  pub tiled : AreTiled o.start.setup.map o.start.e o.start.b
   pub end : IsAtEnd now
 
--- the early end of the input; where its deck is accepted, and where it is no longer than a deck may be,
+-- the end of what was given; where its deck is accepted, and where it is no longer than a deck may be,
 -- the source is at its end
-pub record IsEarly (input : Option (List ℕ)) (now : Told) (why : Early) : Type 0 where
-  pub early : opened input ≡ Err why
-  pub end : (d : DeckView) → accepted input ≡ Ok d → IsAtEnd now
-  pub short : (held : List ℕ) → input ≡ Some held → length held < deck_limit → IsAtEnd now
+pub record IsEarly (given : Given) (now : Told) (why : Early) : Type 0 where
+  pub early : IsEndOf (opened given) why
+  pub end : (d : DeckView) → accepted given ≡ Ok d → IsAtEnd now
+  pub short : (held : List ℕ) → given ≡ Held held → length held < deck_limit → IsAtEnd now
 
 -- want of memory comes only where no read failed
-abbrev pub OpensAs : Option (List ℕ) → Told → Result Opened StageStop → Type 0
-OpensAs input now (Ok o) = IsDeckOpened input now o
-OpensAs input now (Err (Answer why)) = IsEarly input now why
-OpensAs input now (Err NoMemory) = IsSome input
+abbrev pub OpensAs : Told → Told → Given → Result Opened StageStop → Type 0
+OpensAs before now given (Ok o) = IsDeckOpened given now o
+OpensAs before now given (Err (Answer why)) = IsEarly given now why
+OpensAs before now given (Err NoMemory) = Calm before now
 
--- what opening a deck answers, from what its source held
+-- what opening a deck answers, from what its source gave
 pub record Opens (before now : Told) (result : Result Opened StageStop) : Type 0 where
-  pub input : Option (List ℕ)
-  pub gave : Gave before now input
-  pub opens : OpensAs input now result
+  pub read : Reading TakesOfDeck before now
+  pub opens : OpensAs before now read.given result

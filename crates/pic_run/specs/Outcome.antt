@@ -1,5 +1,5 @@
--- The outcome of a command, from its words and what its source held: the answer, the text on out
--- and the text on report. Every answer but a write fault and want of memory is the outcome's.
+-- The outcome of a command, for what its source gave: the answer, the text on out and the text on
+-- report. Every answer but a write fault and want of memory is the outcome's.
 use Rattle.std.specs.Prelude.{ℕ, List, [], ◌∷◌, ◌++◌, length, take, Option, Some, None, Ok, Err}
 use Rattle.pic_io.specs.Sinks.{Piece, outs, lines}
 use Rattle.pic_deck.specs.Refusal.{ReadDeck}
@@ -13,21 +13,16 @@ use Rattle.pic_dump.specs.DumpText.{header_bytes}
 use Rattle.pic_dump.specs.Header.{HeaderView}
 use Rattle.pic_load.specs.Loading.{loaded}
 use Rattle.pic_step.specs.SerialStep.{World}
-use Rattle.pic_run.specs.declared.early.Early.{Early}
-use Rattle.pic_run.specs.declared.early.Early.TheVariants as early
-use Rattle.pic_run.specs.declared.ended.Ended.{Ended}
 use Rattle.pic_verify.specs.declared.verify_stop.VerifyStop.TheVariants as verify_stop
 use Rattle.pic_verify.specs.Verified.{Verdict, verified}
-use Rattle.pic_run.specs.declared.ended.Ended.TheVariants.{Done, Checked, Verified, Stopped, NoMemory}
-use Rattle.pic_line.specs.declared.asked.Command.{Command}
-use Rattle.pic_line.specs.declared.asked.Command.TheVariants.{Check, Run, Verify, Demo}
+use Rattle.pic_run.specs.declared.ended.Ended.{Ended}
+use Rattle.pic_run.specs.declared.ended.Ended.TheVariants.{Done, Checked, Verified, Stopped, NoMemory, ReadFault, BadDump, Broken}
 use Rattle.pic_run.specs.declared.output.Output.{Output}
 use Rattle.pic_run.specs.declared.output.Output.TheVariants.{Dump, Lines}
-use Rattle.pic_line.specs.CommandLine.{command_of}
-use Rattle.pic_run.specs.Early.{Staged, ◌>>=◌, ended_early, early_line}
+use Rattle.pic_run.specs.DeckEnd.{Unread, Unfit, Unmet, Staged, ◌>>=◌, ended_at}
 use Rattle.pic_run.specs.Frames.{frames_of, end_of_run, end_piece}
-use Rattle.pic_run.specs.Lines.{check_line, verified_line}
-use Rattle.pic_run.specs.Reading.{deck_limit}
+use Rattle.pic_run.specs.Lines.{check_line, verified_line, early_line}
+use Rattle.pic_run.specs.Reading.{deck_limit, Given, Held, Failed}
 use Rattle.pic_run.specs.Starting.{first_state, state_break, header_of}
 
 -- an answer, and what goes to the two sinks: the head of a dump, frames, and what comes last
@@ -51,56 +46,52 @@ with_head (byte ∷ head) pieces = record { out = byte ∷ head; line = [] } ∷
 abbrev pub pieces_of : Outcome → List Piece
 pieces_of o = with_head o.head (o.frames ++ o.last ∷ [])
 
--- The stages of a deck. The bytes that are taken of what the source held; None: a read failed
-abbrev pub taken : Option (List ℕ) → Staged (List ℕ)
-taken None = Err early.ReadFault
-taken (Some held) = Ok (take deck_limit held)
+-- The stages of a deck. The bytes that are taken of what the source held
+abbrev pub taken : Given → Staged (List ℕ)
+taken (Held held) = Ok (take deck_limit held)
+taken (Failed front) = Err Unread
 
 -- the deck, or the first refusal that its walk meets
 abbrev pub unless_refused : ReadDeck → Staged DeckView
 unless_refused (Ok d) = Ok d
-unless_refused (Err refusal) = Err (early.Refused refusal)
+unless_refused (Err refusal) = Err (Unfit refusal)
 
-abbrev pub accepted : Option (List ℕ) → Staged DeckView
-accepted input = taken input >>= (λ text. unless_refused (walk text))
+abbrev pub accepted : Given → Staged DeckView
+accepted given = taken given >>= (λ text. unless_refused (walk text))
 
 -- a deck that meets Gauss's law, or the least node where it fails
 abbrev pub unless_gauss_fails : DeckView → Option Break → Staged DeckView
 unless_gauss_fails d None = Ok d
-unless_gauss_fails d (Some b) = Err (early.Gauss b)
+unless_gauss_fails d (Some b) = Err (Unmet b)
 
 abbrev pub tested : DeckView → Staged DeckView
 tested d = unless_gauss_fails d (state_break (first_state d))
 
-abbrev pub opened : Option (List ℕ) → Staged DeckView
-opened input = accepted input >>= tested
+abbrev pub opened : Given → Staged DeckView
+opened given = accepted given >>= tested
 
 -- the demonstration of a seed: its deck is written down, so that nothing is read
 unfoldable pub demonstrated : ℕ → Staged DeckView
 demonstrated seed = tested (demo_deck seed)
 
--- the verdict on the dump that the source held; None: a read failed
-abbrev pub verdict_on : Option (List ℕ) → Verdict
-verdict_on None = Err verify_stop.ReadFault
-verdict_on (Some held) = verified held
+-- the verdict on the dump that the source held
+abbrev pub verdict_on : Given → Verdict
+verdict_on (Held held) = verified held
+verdict_on (Failed front) = Err verify_stop.ReadFault
 
--- nothing on out, and one line on report
-abbrev pub line_alone : Ended → List ℕ → Outcome
-line_alone answer line = record {
+-- an answer that comes before its command has put anything: its line alone, on report
+abbrev pub early_outcome : Ended → Outcome
+early_outcome answer = record {
   answer = answer;
   head = [];
   frames = [];
-  last = record { out = []; line = line };
+  last = record { out = []; line = early_line answer };
 }
 
--- an early end, with its line
-abbrev pub early_outcome : Early → Outcome
-early_outcome end = line_alone (ended_early end) (early_line end)
-
--- what a command makes of its deck, or an early end
+-- what a command makes of its deck, or why that isn't run
 abbrev pub on_deck : (DeckView → Outcome) → Staged DeckView → Outcome
 on_deck performed (Ok d) = performed d
-on_deck performed (Err end) = early_outcome end
+on_deck performed (Err end) = early_outcome (ended_at end)
 
 -- a deck that can be run: its number of particles, on out
 abbrev pub check_outcome : DeckView → Outcome
@@ -149,17 +140,7 @@ verdict_outcome (Ok frames) = record {
   frames = [];
   last = record { out = verified_line frames; line = [] };
 }
-verdict_outcome (Err verify_stop.ReadFault) = early_outcome early.ReadFault
-verdict_outcome (Err (verify_stop.BadDump place cause)) = early_outcome (early.BadDump place cause)
-verdict_outcome (Err (verify_stop.Broken frame b)) = early_outcome (early.Broken frame b)
-verdict_outcome (Err verify_stop.NoMemory) = line_alone NoMemory []
-
-abbrev pub command_outcome : Option Command → Option (List ℕ) → Outcome
-command_outcome None input = early_outcome early.Usage
-command_outcome (Some Check) input = on_deck check_outcome (opened input)
-command_outcome (Some (Run workers)) input = on_deck run_outcome (opened input)
-command_outcome (Some Verify) input = verdict_outcome (verdict_on input)
-command_outcome (Some (Demo seed workers)) input = on_deck demo_outcome (demonstrated seed)
-
-unfoldable pub outcome : List (List ℕ) → Option (List ℕ) → Outcome
-outcome words input = command_outcome (command_of words) input
+verdict_outcome (Err verify_stop.ReadFault) = early_outcome ReadFault
+verdict_outcome (Err (verify_stop.BadDump place cause)) = early_outcome (BadDump place cause)
+verdict_outcome (Err (verify_stop.Broken frame b)) = early_outcome (Broken frame b)
+verdict_outcome (Err verify_stop.NoMemory) = early_outcome NoMemory

@@ -6,7 +6,7 @@ use Rattle.pic_run.specs.declared.cut.Cut.{Cut}
 use Rattle.pic_run.specs.declared.cut.Cut.TheVariants.{Write, NoMemory}
 use Rattle.pic_run.specs.declared.ended.Ended.{Ended}
 use Rattle.pic_run.specs.Outcome.{Outcome, pieces_of, answer_of}
-use Rattle.pic_run.specs.Ends.{HasFrames, Fulfils}
+use Rattle.pic_run.specs.Leaves.{HasFrames, Fulfils}
 
 -- some frames were written, and the run ended so
 pub record WroteFrames (frames : List Piece) (last end : EndMark)

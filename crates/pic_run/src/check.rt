@@ -5,8 +5,12 @@ ghost use Rattle.pic_io.specs.Told.{Told};
 ghost use Rattle.pic_io.specs.Sinks.{sinks};
 ghost use Rattle.pic_deck.specs.Deck.{DeckView};
 ghost use Rattle.pic_load.specs.Loading.{loaded};
+ghost use Rattle.pic_run.specs.Ended.{ended_of};
 ghost use Rattle.pic_run.specs.Outcome.{check_outcome};
-ghost use Rattle.pic_run.specs.Ends.{OnDeck, Finishes};
+ghost use Rattle.pic_run.specs.Leaves.{LeavesNothing};
+ghost use Rattle.pic_run.specs.Finishes.{Finishes};
+ghost use Rattle.pic_run.specs.Manner.{Performs};
+ghost use Rattle.pic_run.specs.Check.{checking};
 
 use crate::cut::Cut;
 use crate::early::end_early;
@@ -24,9 +28,9 @@ pub fn check<S: Source, O: Sink, R: Sink>(
     out: &mut O,
     report: &mut R,
 ) -> Result<Ended, Cut>
-    ensures { OnDeck 0 check_outcome (S.told source.old) (S.told source.new)
+    ensures { Performs checking (S.told source.old) (S.told source.new)
         (sinks (O.told out.old) (R.told report.old))
-        (sinks (O.told out.new) (R.told report.new)) result }
+        (sinks (O.told out.new) (R.told report.new)) (ended_of result) }
 {
     match open(alloc, source) {
         Ok(opened) => put_count(out, opened.start.particles.len() as u32),
@@ -37,7 +41,7 @@ pub fn check<S: Source, O: Sink, R: Sink>(
 // The number of particles on out.
 fn put_count<O: Sink>(out: &mut O, particles: u32) -> Result<Ended, Cut>
     ensures { (d : DeckView) (r : Told) → length (loaded d) ≡ particles
-        → Finishes 0 (check_outcome d)
+        → Finishes LeavesNothing (check_outcome d)
         (sinks (O.told out.old) r) (sinks (O.told out.new) r) result }
 {
     put_out(out, line_of_check(particles).bytes())?;

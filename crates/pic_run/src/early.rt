@@ -4,8 +4,9 @@ ghost use Rattle.std.specs.Prelude.{◌≡◌};
 ghost use Rattle.pic_io.specs.Told.{Told};
 ghost use Rattle.pic_io.specs.Sinks.{sinks, WritesLine};
 ghost use Rattle.pic_run.specs.declared.early.StageStop.TheVariants as stage_stop;
-ghost use Rattle.pic_run.specs.Early.{ended_early, early_line, stop_of_reading, stop_of_deck, stop_of_verify};
-ghost use Rattle.pic_run.specs.Ends.{EndsStopped};
+ghost use Rattle.pic_run.specs.Lines.{early_line};
+ghost use Rattle.pic_run.specs.Early.{ended_early, stop_of_reading, stop_of_deck, stop_of_verify};
+ghost use Rattle.pic_run.specs.Finishes.{EndsStopped};
 
 use crate::cut::Cut;
 use crate::ended::Ended;
@@ -104,7 +105,8 @@ pub fn end_early<R: Sink>(report: &mut R, stop: StageStop) -> Result<Ended, Cut>
 }
 
 fn put_early<R: Sink>(report: &mut R, early: &Early) -> Result<(), Side>
-    ensures { WritesLine (R.told report.old) (R.told report.new) (early_line early.now) result }
+    ensures { WritesLine (R.told report.old) (R.told report.new)
+        (early_line (ended_early early.now)) result }
 {
     match early {
         Early::Usage => put_line(report, line_of_usage()),

@@ -1,6 +1,5 @@
 //! The stages of a deck: it is read and walked, its particles are loaded, Gauss's law is tested.
 
-ghost use Rattle.pic_run.specs.Reading.{deck_limit, TakesAtMost};
 ghost use Rattle.pic_run.specs.Opened.{Opens, Tests};
 
 use crate::early::{Early, StageStop};
@@ -21,8 +20,7 @@ pub struct Opened {
 
 /// Opens the deck that the source gives, through all stages up to Gauss's law.
 pub fn open<S: Source>(alloc: Global, source: &mut S) -> Result<Opened, StageStop>
-    ensures opens { Opens (S.told source.old) (S.told source.new) result }
-    ensures taken { TakesAtMost deck_limit (S.told source.old) (S.told source.new) }
+    ensures { Opens (S.told source.old) (S.told source.new) result }
 {
     let bytes = read_all(alloc, source, greatest_deck())?;
     let text: &[u8] = &bytes;

@@ -1,6 +1,7 @@
 //! The command `run`, and the loop over the states of a run.
 
 ghost use Rattle.std.specs.Prelude.{◌≡◌, ◌<◌, ◌≤◌, [], ◌∷◌, IfOk};
+ghost use Rattle.pic_num.specs.Limits.{most_steps};
 ghost use Rattle.pic_crew.specs.Teams.{most_workers};
 ghost use Rattle.pic_io.specs.Sinks.{sinks, Writes};
 ghost use Rattle.pic_step.specs.Kept.{AreTiled};
@@ -9,8 +10,12 @@ ghost use Rattle.pic_step.specs.Start.{begun};
 ghost use Rattle.pic_run.specs.Starting.{header_of};
 ghost use Rattle.pic_run.specs.Frames.{frames_of, end_of_run, end_piece};
 ghost use Rattle.pic_run.specs.Rooms.{HasShape};
-ghost use Rattle.pic_run.specs.Outcome.{run_outcome, dump_outcome, states_outcome, answer_of};
-ghost use Rattle.pic_run.specs.Ends.{OnDeck, Finishes};
+ghost use Rattle.pic_run.specs.Ended.{ended_of};
+ghost use Rattle.pic_run.specs.Outcome.{dump_outcome, states_outcome, answer_of};
+ghost use Rattle.pic_run.specs.Leaves.{LeavesWhole};
+ghost use Rattle.pic_run.specs.Finishes.{Finishes};
+ghost use Rattle.pic_run.specs.Manner.{Performs};
+ghost use Rattle.pic_run.specs.Run.{running};
 ghost use Rattle.pic_run.specs.Runs.{WritesFrames, WritesStates};
 
 use crate::cut::Cut;
@@ -43,9 +48,9 @@ pub fn run<H: Threads + Sync, S: Source, O: Sink, R: Sink, G: Gate + Sync>(
 ) -> Result<Ended, Cut>
     requires some { 0 < workers }
     requires most { workers ≤ most_workers }
-    ensures { OnDeck workers run_outcome (S.told source.old) (S.told source.new)
+    ensures { Performs (running workers) (S.told source.old) (S.told source.new)
         (sinks (O.told out.old) (R.told report.old))
-        (sinks (O.told out.new) (R.told report.new)) result }
+        (sinks (O.told out.new) (R.told report.new)) (ended_of result) }
 {
     match open(alloc, source) {
         Ok(opened) => run_deck(threading, alloc, opened, out, report, workers),
@@ -64,9 +69,10 @@ fn run_deck<H: Threads + Sync, O: Sink, R: Sink, G: Gate + Sync>(
 ) -> Result<Ended, Cut>
     requires some { 0 < workers }
     requires most { workers ≤ most_workers }
+    requires begins { (begun opened.start).step ≡ 0 }
     requires sound { IsSound (begun opened.start) }
-    requires tiled { AreTiled opened.start.map opened.start.e opened.start.b }
-    ensures { Finishes workers (dump_outcome (header_of opened.deck) (begun opened.start))
+    requires tiled { AreTiled opened.start.setup.map opened.start.e opened.start.b }
+    ensures { Finishes (LeavesWhole workers) (dump_outcome (header_of opened.deck) (begun opened.start))
         (sinks (O.told out.old) (R.told report.old))
         (sinks (O.told out.new) (R.told report.new)) result }
 {
@@ -85,7 +91,7 @@ pub struct Stage {
 /// The state that a run begins with, and room for a frame.
 pub fn stage_of(alloc: Global, start: Start) -> Result<Stage, NoMemory>
     requires sound { IsSound (begun start) }
-    requires tiled { AreTiled start.map start.e start.b }
+    requires tiled { AreTiled start.setup.map start.e start.b }
     ensures state { IfOk result (λ stage. stage.state.world ≡ begun start) }
     ensures room { IfOk result (λ stage. HasShape stage.room stage.state.world) }
 {
@@ -104,7 +110,7 @@ struct Ready {
 // Takes the memory of a run.
 fn prepare(alloc: Global, deck: &Deck, start: Start) -> Result<Ready, NoMemory>
     requires sound { IsSound (begun start) }
-    requires tiled { AreTiled start.map start.e start.b }
+    requires tiled { AreTiled start.setup.map start.e start.b }
     ensures header { IfOk result (λ ready. ready.header ≡ header_of deck.now) }
     ensures state { IfOk result (λ ready. ready.stage.state.world ≡ begun start) }
     ensures room { IfOk result (λ ready. HasShape ready.stage.room ready.stage.state.world) }
@@ -124,8 +130,9 @@ fn write_run<H: Threads + Sync, O: Sink, R: Sink, G: Gate + Sync>(
 ) -> Result<Ended, Cut>
     requires some { 0 < workers }
     requires most { workers ≤ most_workers }
+    requires begins { ready.stage.state.world.step ≡ 0 }
     requires room { HasShape ready.stage.room ready.stage.state.world }
-    ensures { Finishes workers (dump_outcome ready.header ready.stage.state.world)
+    ensures { Finishes (LeavesWhole workers) (dump_outcome ready.header ready.stage.state.world)
         (sinks (O.told out.old) (R.told report.old))
         (sinks (O.told out.new) (R.told report.new)) result }
 {
@@ -153,9 +160,11 @@ pub fn write_states<H: Threads + Sync, O: Sink, R: Sink, G: Gate + Sync>(
     report: &mut R,
     stage: Stage,
 ) -> Result<Ended, Cut>
+    requires steps { plan.steps ≤ most_steps }
     requires every { 1 ≤ plan.every }
     requires some { 0 < plan.workers }
     requires most { plan.workers ≤ most_workers }
+    requires begins { stage.state.world.step ≡ 0 }
     requires room { HasShape stage.room stage.state.world }
     ensures { WritesStates plan.workers
         (states_outcome plan.output [] (frames_of plan.output plan.steps plan.every stage.state.world)
@@ -177,9 +186,11 @@ fn write_frames<H: Threads + Sync, O: Sink, R: Sink, G: Gate + Sync>(
     report: &mut R,
     stage: Stage,
 ) -> Result<EndMark, Cut>
+    requires steps { plan.steps ≤ most_steps }
     requires every { 1 ≤ plan.every }
     requires some { 0 < plan.workers }
     requires most { plan.workers ≤ most_workers }
+    requires begins { stage.state.world.step ≡ 0 }
     requires room { HasShape stage.room stage.state.world }
     ensures { WritesFrames plan.workers
         (frames_of plan.output plan.steps plan.every stage.state.world)
@@ -192,7 +203,7 @@ fn write_frames<H: Threads + Sync, O: Sink, R: Sink, G: Gate + Sync>(
         mut state,
         mut room,
     } = stage;
-    write_due(plan, out, report, 0, &state, &mut room)?;
+    write_due(plan, out, report, &state, &mut room)?;
     for done in 0..plan.steps {
         let number = done + 1;
         state = match step(rt, alloc, state, plan.workers, gate) {
@@ -202,7 +213,7 @@ fn write_frames<H: Threads + Sync, O: Sink, R: Sink, G: Gate + Sync>(
             }
             Err(StepStop::NoMemory) => return Err(Cut::NoMemory),
         };
-        write_due(plan, out, report, number, &state, &mut room)?;
+        write_due(plan, out, report, &state, &mut room)?;
     }
     Ok(EndMark::Done { steps: plan.steps })
 }

@@ -1,15 +1,20 @@
 //! The command `demo`: the run of the deck that a number makes, as lines alone.
 
-ghost use Rattle.std.specs.Prelude.{◌<◌, ◌≤◌};
+ghost use Rattle.std.specs.Prelude.{◌≡◌, ◌<◌, ◌≤◌};
 ghost use Rattle.pic_crew.specs.Teams.{most_workers};
+ghost use Rattle.pic_io.specs.Told.{Told};
 ghost use Rattle.pic_io.specs.Sinks.{sinks};
 ghost use Rattle.pic_demo.specs.Demo.{demo_deck};
 ghost use Rattle.pic_step.specs.Kept.{AreTiled};
 ghost use Rattle.pic_step.specs.Sound.{IsSound};
 ghost use Rattle.pic_step.specs.Start.{begun};
+ghost use Rattle.pic_run.specs.Ended.{ended_of};
 ghost use Rattle.pic_run.specs.Outcome.{lines_outcome};
 ghost use Rattle.pic_run.specs.Opened.{Tests};
-ghost use Rattle.pic_run.specs.Ends.{Demonstrates, Finishes};
+ghost use Rattle.pic_run.specs.Leaves.{LeavesWhole};
+ghost use Rattle.pic_run.specs.Finishes.{Finishes};
+ghost use Rattle.pic_run.specs.Manner.{Performs};
+ghost use Rattle.pic_run.specs.Demo.{demonstrating};
 
 use crate::cut::Cut;
 use crate::early::{StageStop, end_early};
@@ -36,9 +41,9 @@ pub fn demo<H: Threads + Sync, O: Sink, R: Sink, G: Gate + Sync>(
 ) -> Result<Ended, Cut>
     requires some { 0 < workers }
     requires most { workers ≤ most_workers }
-    ensures { Demonstrates seed workers
+    ensures { (source : Told) → Performs (demonstrating seed workers) source source
         (sinks (O.told out.old) (R.told report.old))
-        (sinks (O.told out.new) (R.told report.new)) result }
+        (sinks (O.told out.new) (R.told report.new)) (ended_of result) }
 {
     match open_demo(alloc, seed) {
         Ok(opened) => show_deck(threading, alloc, opened, out, report, workers),
@@ -63,11 +68,12 @@ fn show_deck<H: Threads + Sync, O: Sink, R: Sink, G: Gate + Sync>(
     report: &mut R,
     workers: u32,
 ) -> Result<Ended, Cut>
+    requires begins { (begun opened.start).step ≡ 0 }
     requires sound { IsSound (begun opened.start) }
-    requires tiled { AreTiled opened.start.map opened.start.e opened.start.b }
+    requires tiled { AreTiled opened.start.setup.map opened.start.e opened.start.b }
     requires some { 0 < workers }
     requires most { workers ≤ most_workers }
-    ensures { Finishes workers (lines_outcome opened.deck (begun opened.start))
+    ensures { Finishes (LeavesWhole workers) (lines_outcome opened.deck (begun opened.start))
         (sinks (O.told out.old) (R.told report.old))
         (sinks (O.told out.new) (R.told report.new)) result }
 {

@@ -1,14 +1,12 @@
 //! The top call: the command of the words, performed.
 
-ghost use Rattle.std.specs.Prelude.{◌≡◌, None, ℕ, map, string_bytes};
-ghost use Rattle.pic_io.specs.Told.{Rose, Calm};
-ghost use Rattle.pic_io.specs.Sinks.{sinks, FailedAt};
-ghost use Rattle.pic_io.specs.declared.side.Side.{Side as SideName};
-ghost use Rattle.pic_grid.specs.declared.stop.Stop.{Stop as StopName};
-ghost use Rattle.pic_charge.specs.declared.breaks.Break.{Break as BreakName};
-ghost use Rattle.pic_deck.specs.declared.refusal.Refusal.{Refusal as RefusalName};
+ghost use Rattle.std.specs.Prelude.{map, string_bytes};
+ghost use Rattle.pic_io.specs.Sinks.{sinks};
 ghost use Rattle.pic_line.specs.CommandLine.{command_of};
-ghost use Rattle.pic_run.specs.Ends.{Performs, Ends, CommandTakes, IsComplete, IsRunDone, IsStopped, IsChecked, IsVerified, BreaksGauss, IsRefused, IsBadDump, IsBroken, NeedsNoSource, IsStarved};
+ghost use Rattle.pic_run.specs.Ended.{ended_of};
+ghost use Rattle.pic_run.specs.Manner.{call, Performs};
+ghost use Rattle.pic_run.specs.Commands.{manner_of};
+ghost use Rattle.pic_run.specs.Ends.{Ends, IsComplete, Means, Reads};
 
 use crate::check::check;
 use crate::cut::Cut;
@@ -30,7 +28,7 @@ use std::thread::Threads;
 /// gate. Whatever the number and the gate, the result is that of the serial scheme.
 ///
 /// `ends` says it all: what the call answers and what it puts on its sinks is the outcome of the
-/// words and of what the source held. The other clauses follow from it.
+/// words and of what the source gave. The other clauses follow from it.
 pub fn pic<H: Threads + Sync, S: Source, O: Sink, R: Sink, G: Gate + Sync>(
     rt: &H,
     alloc: Global,
@@ -41,47 +39,26 @@ pub fn pic<H: Threads + Sync, S: Source, O: Sink, R: Sink, G: Gate + Sync>(
     gate: &G,
 ) -> Ended
     // where the source and the sinks tell their bytes and none of them failed
-    ensures complete { IsComplete (map string_bytes words.now) (S.told source.old)
-        (S.told source.new)
+    ensures complete { IsComplete
+        (call (map string_bytes words.now) (S.told source.old) (S.told source.new)
         (sinks (O.told out.old) (R.told report.old))
-        (sinks (O.told out.new) (R.told report.new)) result }
+        (sinks (O.told out.new) (R.told report.new))) result }
 
     // in every case
-    ensures ends { Ends (map string_bytes words.now) (S.told source.old) (S.told source.new)
+    ensures ends { Ends
+        (call (map string_bytes words.now) (S.told source.old) (S.told source.new)
         (sinks (O.told out.old) (R.told report.old))
-        (sinks (O.told out.new) (R.told report.new)) result }
-    ensures taken { CommandTakes (command_of (map string_bytes words.now))
-        (S.told source.old) (S.told source.new) }
+        (sinks (O.told out.new) (R.told report.new))) result }
 
-    // what each answer means
-    ensures done { (steps : ℕ) → result ≡ Ended.Done steps
-        → IsRunDone (map string_bytes words.now) (S.told source.old) (S.told source.new) steps }
-    ensures stopped { (step : ℕ) (stop : StopName) → result ≡ Ended.Stopped step stop
-        → IsStopped (map string_bytes words.now) (S.told source.old) (S.told source.new) step stop }
-    ensures checked { (particles : ℕ) → result ≡ Ended.Checked particles
-        → IsChecked (map string_bytes words.now) (S.told source.old) (S.told source.new) particles }
-    ensures verified { (frames : ℕ) → result ≡ Ended.Verified frames
-        → IsVerified (map string_bytes words.now) (S.told source.old) (S.told source.new) frames }
-    ensures bad_dump { (place cause : ℕ) → result ≡ Ended.BadDump place cause
-        → IsBadDump (map string_bytes words.now) (S.told source.old) place cause }
-    ensures broken { (frame : ℕ) (b : BreakName) → result ≡ Ended.Broken frame b
-        → IsBroken (map string_bytes words.now) (S.told source.old) frame b }
-    ensures gauss { (b : BreakName) → result ≡ Ended.Gauss b
-        → BreaksGauss (map string_bytes words.now) (S.told source.old) (S.told source.new) b }
-    ensures usage { result ≡ Ended.Usage → command_of (map string_bytes words.now) ≡ None }
-    ensures idle { NeedsNoSource (command_of (map string_bytes words.now))
-        → S.told source.new ≡ S.told source.old }
-    ensures refused { (refusal : RefusalName) → result ≡ Ended.Refused refusal
-        → IsRefused (map string_bytes words.now) (S.told source.old) refusal }
-    ensures read_fault { result ≡ Ended.ReadFault → Rose (S.told source.old) (S.told source.new)
-        × Calm (O.told out.old) (O.told out.new) × Calm (R.told report.old) (R.told report.new) }
-    ensures write_fault { (side : SideName) → result ≡ Ended.WriteFault side
-        → FailedAt side (sinks (O.told out.old) (R.told report.old))
-        (sinks (O.told out.new) (R.told report.new)) }
-    ensures no_memory { result ≡ Ended.NoMemory
-        → IsStarved (map string_bytes words.now) (S.told source.old) (S.told source.new)
+    // what was taken of the source, and what the answer means, as the command says
+    ensures taken { Reads
+        (call (map string_bytes words.now) (S.told source.old) (S.told source.new)
         (sinks (O.told out.old) (R.told report.old))
-        (sinks (O.told out.new) (R.told report.new)) }
+        (sinks (O.told out.new) (R.told report.new))) }
+    ensures means { Means
+        (call (map string_bytes words.now) (S.told source.old) (S.told source.new)
+        (sinks (O.told out.old) (R.told report.old))
+        (sinks (O.told out.new) (R.told report.new))) result }
 {
     ended_of(perform(Threading { rt, gate }, alloc, words, source, out, report))
 }
@@ -95,9 +72,10 @@ fn perform<H: Threads + Sync, S: Source, O: Sink, R: Sink, G: Gate + Sync>(
     out: &mut O,
     report: &mut R,
 ) -> Result<Ended, Cut>
-    ensures { Performs (map string_bytes words.now) (S.told source.old) (S.told source.new)
+    ensures { Performs (manner_of (command_of (map string_bytes words.now)))
+        (S.told source.old) (S.told source.new)
         (sinks (O.told out.old) (R.told report.old))
-        (sinks (O.told out.new) (R.told report.new)) result }
+        (sinks (O.told out.new) (R.told report.new)) (ended_of result) }
 {
     match command(alloc, words) {
         Ok(Command::Check) => check(alloc, source, out, report),

@@ -3,8 +3,11 @@
 ghost use Rattle.std.specs.Prelude.{Ok};
 ghost use Rattle.pic_io.specs.Told.{Told};
 ghost use Rattle.pic_io.specs.Sinks.{sinks};
+ghost use Rattle.pic_run.specs.Ended.{ended_of};
 ghost use Rattle.pic_run.specs.Outcome.{verdict_outcome};
-ghost use Rattle.pic_run.specs.Ends.{OnDump, Announces};
+ghost use Rattle.pic_run.specs.Finishes.{Announces};
+ghost use Rattle.pic_run.specs.Manner.{Performs};
+ghost use Rattle.pic_run.specs.Verify.{verifying};
 
 use crate::cut::Cut;
 use crate::early::{StageStop, end_early};
@@ -21,9 +24,9 @@ pub fn verify<S: Source, O: Sink, R: Sink>(
     out: &mut O,
     report: &mut R,
 ) -> Result<Ended, Cut>
-    ensures { OnDump (S.told source.old) (S.told source.new)
+    ensures { Performs verifying (S.told source.old) (S.told source.new)
         (sinks (O.told out.old) (R.told report.old))
-        (sinks (O.told out.new) (R.told report.new)) result }
+        (sinks (O.told out.new) (R.told report.new)) (ended_of result) }
 {
     match pic_verify::verify(alloc, source) {
         Ok(frames) => put_frames(out, frames),

@@ -1,11 +1,13 @@
 -- What `run` writes of a deck `verify` finds good.
-use Rattle.std.specs.Prelude.{◌≡◌, ℕ, List, length, ⊤, Option, Some, Ok}
+use Rattle.std.specs.Prelude.{◌≡◌, ℕ, List, length, ⊤, Some, Ok}
 use Rattle.pic_deck.specs.Deck.{DeckView}
 use Rattle.pic_line.specs.declared.asked.Command.TheVariants.{Run, Verify}
 use Rattle.pic_line.specs.CommandLine.{command_of}
 use Rattle.pic_run.specs.declared.ended.Ended.{Ended}
 use Rattle.pic_run.specs.declared.ended.Ended.TheVariants.{Done, Checked, Verified, Stopped, Usage, Refused, Gauss, ReadFault, WriteFault, NoMemory, BadDump, Broken}
-use Rattle.pic_run.specs.Outcome.{out_text, accepted, tested, run_outcome, outcome}
+use Rattle.pic_run.specs.Reading.{Given, Held}
+use Rattle.pic_run.specs.Outcome.{out_text, accepted, tested, run_outcome}
+use Rattle.pic_run.specs.Commands.{outcome}
 use Rattle.pic_verify.specs.Verified.{verified}
 use Rattle.pic_run_laws.specs.KeptDecks.{IsKeptDeck}
 
@@ -34,10 +36,10 @@ IsOfRun (Broken frame at) = ⊥
 -- `verify` answers the number of frames over a source that holds what `run` put on out
 abbrev pub RunsAreFoundGood : Type 0
 RunsAreFoundGood =
-    (run_words verify_words : List (List ℕ)) (workers : ℕ) (input : Option (List ℕ))
+    (run_words verify_words : List (List ℕ)) (workers : ℕ) (given : Given)
     → command_of run_words ≡ Some (Run workers)
     → command_of verify_words ≡ Some Verify
-    → ((d : DeckView) → accepted input ≡ Ok d → IsKeptDeck d)
-    → IsOfRun (outcome run_words input).answer
-    → (outcome verify_words (Some (out_text (outcome run_words input)))).answer
-    ≡ Verified (length (outcome run_words input).frames)
+    → ((d : DeckView) → accepted given ≡ Ok d → IsKeptDeck d)
+    → IsOfRun (outcome run_words given).answer
+    → (outcome verify_words (Held (out_text (outcome run_words given)))).answer
+    ≡ Verified (length (outcome run_words given).frames)

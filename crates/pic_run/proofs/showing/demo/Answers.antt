@@ -2,8 +2,9 @@ use Rattle.std.proofs.Common.{subst}
 use Rattle.pic_io.specs.Sinks.{sinks}
 use Rattle.pic_step.specs.SerialStep.{World}
 use Rattle.pic_run.specs.Outcome.{lines_outcome}
-use Rattle.pic_run.specs.Ends.{Finishes}
-use Rattle.pic_run.proofs.EndLaws.{shown, shown_stopped}
+use Rattle.pic_run.specs.Leaves.{LeavesWhole}
+use Rattle.pic_run.specs.Finishes.{Finishes}
+use Rattle.pic_run.proofs.DemoLaws.{shown, shown_stopped}
 use Rattle.pic_run.proofs.showing.demo.Goals as goal
 
 pub returns-in-Ok : goal.returns-in-Ok
@@ -11,11 +12,12 @@ returns-in-Ok g c =
     let before = sinks (g.O.Sink.told c.args.out.now) (g.R.Sink.told c.args.report.now) in
     let now = sinks (g.O.Sink.told c.show_deck.new.out) (g.R.Sink.told c.show_deck.new.report) in
     let d = c.in-Ok.opened.deck in
-    shown c.args.seed c.args.workers c.in-Ok.opened before now c.show_deck.result c.in-Ok.ensures
-    (subst (λ (w : World). Finishes c.args.workers (lines_outcome d w) before now c.show_deck.result) c.in-Ok.ensures.start c.show_deck.ensures)
+    λ source. shown c.args.seed c.args.workers c.in-Ok.opened source before now c.show_deck.result c.in-Ok.ensures
+    (subst (λ (w : World). Finishes (LeavesWhole c.args.workers) (lines_outcome d w) before now c.show_deck.result) c.in-Ok.ensures.start c.show_deck.ensures)
 
 pub returns-in-Err : goal.returns-in-Err
 returns-in-Err g c =
     let o = g.O.Sink.told c.args.out.now in
-    shown_stopped c.args.seed c.args.workers c.in-Err.stop (sinks o (g.R.Sink.told c.args.report.now)) (sinks o (g.R.Sink.told c.end_early.new.report)) c.end_early.result
+    λ source. shown_stopped c.args.seed c.args.workers c.in-Err.stop source
+    (sinks o (g.R.Sink.told c.args.report.now)) (sinks o (g.R.Sink.told c.end_early.new.report)) c.end_early.result
     c.in-Err.ensures (c.end_early.ensures o)

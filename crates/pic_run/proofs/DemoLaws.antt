@@ -1,0 +1,91 @@
+-- The command `demo`: how it ends, and what its answers mean.
+use Rattle.std.proofs.Common.{◌≡◌, ℕ, Option, Some, None, Result, Ok, Err, inl, refl, sym, ap, ◌∙◌, subst}
+use Rattle.pic_io.specs.Told.{Told}
+use Rattle.pic_io.specs.Sinks.{Sinks}
+use Rattle.pic_charge.specs.declared.breaks.Break.{Break}
+use Rattle.pic_demo.specs.Demo.{demo_deck}
+use Rattle.pic_deck.specs.Deck.{DeckView}
+use Rattle.pic_step.specs.Sound.{IsSound}
+use Rattle.pic_run.specs.declared.cut.Cut.{Cut}
+use Rattle.pic_run.specs.declared.early.StageStop.{StageStop}
+use Rattle.pic_run.specs.declared.early.StageStop.TheVariants.{Answer, NoMemory as StageNoMemory}
+use Rattle.pic_run.specs.declared.ended.Ended.{Ended}
+use Rattle.pic_run.specs.declared.opening_deck.Opened.{Opened}
+use Rattle.pic_run.specs.DeckEnd.{DeckEnd, Unmet, Staged, ended_at}
+use Rattle.pic_run.specs.Ended.{ended_of}
+use Rattle.pic_run.specs.Frames.{end_of_run}
+use Rattle.pic_run.specs.Starting.{first_state, state_break}
+use Rattle.pic_run.specs.Outcome.{early_outcome, unless_gauss_fails, tested, demonstrated, on_deck, demo_outcome}
+use Rattle.pic_run.specs.Leaves.{ComesTo, Fulfils, LeavesWhole}
+use Rattle.pic_run.specs.Finishes.{Finishes, Announces, EndsStopped}
+use Rattle.pic_run.specs.Opened.{Tests}
+use Rattle.pic_run.specs.Manner.{Call, Performs}
+use Rattle.pic_run.specs.Demo.{IsDeckOf, demonstrating}
+use Rattle.pic_run.specs.Ends.{MeansIn}
+use Rattle.pic_run.proofs.EndLaws.{finished, announced, starved, untouched}
+use Rattle.pic_run.proofs.DeckLaws.{ok_is, least_of, run_ends, not_of_run}
+
+-- a demonstration was stopped, or it was tested and went on
+pub shown_stopped : (seed workers : ℕ) (stop : StageStop) (source : Told) (before now : Sinks) (finish : Result Ended Cut) → Tests (demo_deck seed) (Err stop)
+    → EndsStopped stop before now finish → Performs (demonstrating seed workers) source source before now (ended_of finish)
+unfolding demonstrated
+shown_stopped seed workers (Answer why) source before now finish is ends =
+    let o = early_outcome (ended_at is.end) in
+    record {
+      read = untouched source refl;
+      calm = λ _. refl;
+      reads = λ _ d e. let other : ◌≡◌ {A = Staged DeckView} (Err is.end) (Ok d) = sym is.is ∙ e in cc;
+      comes = subst (λ (s : Staged DeckView). ComesTo (LeavesWhole workers) (on_deck demo_outcome s) before now (ended_of finish)) (sym is.is)
+          (announced (LeavesWhole workers) o before now finish (subst (λ (a : Ended). Announces (early_outcome a) before now finish) is.answer ends));
+    }
+shown_stopped seed workers StageNoMemory source before now finish tests (is, wrote) = record {
+  read = untouched source refl;
+  calm = λ _. refl;
+  reads = λ whole. absurd (whole (ap ended_of is));
+  comes = starved (LeavesWhole workers) (on_deck demo_outcome (tested (demo_deck seed))) before now finish is (inl wrote);
+}
+
+pub shown : (seed workers : ℕ) (o : Opened) (source : Told) (before now : Sinks) (finish : Result Ended Cut) → Tests (demo_deck seed) (Ok o)
+    → Finishes (LeavesWhole workers) (demo_outcome o.deck) before now finish → Performs (demonstrating seed workers) source source before now (ended_of finish)
+unfolding demonstrated
+shown seed workers o source before now finish is ends = record {
+  read = untouched source refl;
+  calm = λ _. refl;
+  reads = λ _ d e. subst (λ (k : DeckView). IsSound (first_state k)) (ok_is o.deck d (sym is.deck ∙ e))
+      (subst IsSound is.start is.sound);
+  comes = subst (λ (s : Staged DeckView). ComesTo (LeavesWhole workers) (on_deck demo_outcome s) before now (ended_of finish)) (sym is.deck)
+      (finished (LeavesWhole workers) (demo_outcome o.deck) before now finish ends);
+}
+
+-- where the value of a deck's test comes from
+abbrev IsTestOf : DeckView → Staged DeckView → Type 0
+IsTestOf d (Ok other) = other ≡ d
+IsTestOf d (Err end) = (b : Break) × (Unmet b ≡ end) × (state_break (first_state d) ≡ Some b)
+
+test_of : (d : DeckView) → IsTestOf d (tested d)
+test_of d = go (state_break (first_state d)) refl
+  where
+    go : (found : Option Break) → state_break (first_state d) ≡ found → IsTestOf d (unless_gauss_fails d found)
+    go None is = refl
+    go (Some b) is = (b, refl, is)
+
+demo_of : (seed : ℕ) → IsTestOf (demo_deck seed) (demonstrated seed)
+unfolding demonstrated
+demo_of seed = test_of (demo_deck seed)
+
+pub demo_means : (seed workers : ℕ) (c : Call) (ended : Ended) (p : Performs (demonstrating seed workers) c.source c.source_now c.sinks c.sinks_now ended)
+    → Fulfils (on_deck demo_outcome (demonstrated seed)) c.sinks c.sinks_now ended
+    → MeansIn (demonstrating seed workers) c (on_deck demo_outcome (demonstrated seed)).answer
+demo_means seed workers c ended p ends = go (demonstrated seed) refl (demo_of seed) ends
+  where
+    go : (s : Staged DeckView) → demonstrated seed ≡ s → IsTestOf (demo_deck seed) s → Fulfils (on_deck demo_outcome s) c.sinks c.sinks_now ended
+        → MeansIn (demonstrating seed workers) c (on_deck demo_outcome s).answer
+    go (Err end) is (b, same, found) ends' =
+        subst (λ (e : DeckEnd). MeansIn (demonstrating seed workers) c (ended_at e)) same (record {
+          deck = demo_deck seed;
+          held = record { deck = refl; same = p.read.most };
+          least = least_of (first_state (demo_deck seed)) b found;
+        })
+    go (Ok d) is same ends' =
+        run_ends (IsDeckOf seed c) (MeansIn (demonstrating seed workers) c) (λ steps is. is) (λ step stop is. is) d (record { deck = same; same = p.read.most })
+        (p.reads (λ wanted. not_of_run (end_of_run d.steps (first_state d)) (ends'.answers ∙ wanted)) d is)
