@@ -1,2 +1,1 @@
-pub mod Waits
-pub mod DueLaws
+pub mod NextLaws

@@ -1,6 +1,2 @@
-pub mod Limits
-pub mod Header
-pub mod DumpText
-pub mod Queues
-pub mod Due
-pub mod DueInTurn
+pub mod Standing
+pub mod NextReads

@@ -13,21 +13,21 @@ use Rattle.pic_charge.specs.Gauss.{MeetsGauss, IsLeastBreak}
 use Rattle.pic_charge.proofs.BreakLaws.{meets_gauss, gauss_none, first_break_some}
 use Rattle.pic_fields.specs.Parser.{Input, input, Fault, fault, Parsed}
 use Rattle.pic_fields.specs.Bytes.{IsBytes}
-use Rattle.pic_dump.specs.Due.{due_after}
-use Rattle.pic_dump.specs.DumpText.{header_bytes}
-use Rattle.pic_dump.specs.Header.{HeaderView}
-use Rattle.pic_reader.specs.Layout.{LayoutView, layout_of}
-use Rattle.pic_reader.specs.FrameFields.{FrameView, frame_length, field_with}
-use Rattle.pic_reader.specs.HeaderFields.{header_at}
-use Rattle.pic_reader.specs.Records.{RecordView, AFrame, AnEnd}
-use Rattle.pic_reader.specs.Spelling.{record_bytes}
-use Rattle.pic_reader.proofs.EndSpells.{from_to}
-use Rattle.pic_reader.proofs.HeaderSpells.{spells_header}
-use Rattle.pic_reader.proofs.RecordSpells.{spells_record, record_any}
+use Rattle.pic_record.specs.Due.{due_after}
+use Rattle.pic_header.specs.HeaderText.{header_bytes}
+use Rattle.pic_header.specs.Header.{HeaderView}
+use Rattle.pic_record.specs.Layout.{LayoutView, layout_of}
+use Rattle.pic_record.specs.FrameFields.{FrameView, frame_length, field_with}
+use Rattle.pic_header.specs.HeaderFields.{header_at}
+use Rattle.pic_record.specs.Records.{RecordView, AFrame, AnEnd}
+use Rattle.pic_record.specs.Spelling.{record_bytes}
+use Rattle.pic_record.proofs.EndSpells.{from_to}
+use Rattle.pic_header.proofs.HeaderSpells.{spells_header}
+use Rattle.pic_record.proofs.RecordSpells.{spells_record, record_any}
 use Rattle.pic_verify.specs.declared.verify_stop.VerifyStop.TheVariants.{ReadFault, BadDump, Broken, NoMemory}
 use Rattle.pic_verify.specs.Verified.{Verdict, break_of, unless_broken, of_parsed, walked, of_header, verified}
 use Rattle.pic_verify.specs.Meaning.{due_step, step_before, record_place, bytes_from, record_of, IsFrameAt, IsGood, Begins, Means, VerdictLaw}
-use Rattle.pic_verify.proofs.FormatLaws.{frame_read, end_read}
+use Rattle.pic_record.proofs.FormatLaws.{frame_read, end_read}
 use Rattle.pic_verify.proofs.WalkLaws.{walked_frame, walked_end, walked_fault}
 
 -- Gauss's law at every node is that no break is found

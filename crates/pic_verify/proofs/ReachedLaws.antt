@@ -13,22 +13,22 @@ use Rattle.pic_fields.specs.Parser.{Input, input, Parsed}
 use Rattle.pic_fields.specs.Reads.{Left, Moves, HasRead}
 use Rattle.pic_fields.specs.Bytes.{IsBytes}
 use Rattle.pic_fields.proofs.ReadLaws.{moves_then, some_rest}
-use Rattle.pic_dump.specs.Due.{due_after}
-use Rattle.pic_dump.specs.Header.{HeaderView}
-use Rattle.pic_reader.specs.FrameFields.{FrameView, frame_of, frame_length}
-use Rattle.pic_reader.specs.HeaderFields.{header_at, header_most}
-use Rattle.pic_reader.specs.HeadReads.{HeadReads, reach_of, TakesWithin}
-use Rattle.pic_reader.specs.declared.head_stop.HeadStop.{HeadStop}
-use Rattle.pic_reader.specs.Layout.{LayoutView, layout_of}
-use Rattle.pic_reader.specs.NextReads.{HasFrame, most_of, record_most}
-use Rattle.pic_reader.specs.Records.{AFrame, record_at}
-use Rattle.pic_reader.specs.Standing.{Standing}
-use Rattle.pic_reader.proofs.WithinLaws.{told_held, read_told}
+use Rattle.pic_record.specs.Due.{due_after}
+use Rattle.pic_header.specs.Header.{HeaderView}
+use Rattle.pic_record.specs.FrameFields.{FrameView, frame_of, frame_length}
+use Rattle.pic_header.specs.HeaderFields.{header_at, header_most}
+use Rattle.pic_header.specs.HeadReads.{HeadReads, reach_of, TakesWithin}
+use Rattle.pic_header.specs.declared.head_stop.HeadStop.{HeadStop}
+use Rattle.pic_record.specs.Layout.{LayoutView, layout_of}
+use Rattle.pic_dump.specs.NextReads.{HasFrame, most_of, record_most}
+use Rattle.pic_record.specs.Records.{AFrame, record_at}
+use Rattle.pic_dump.specs.Standing.{Standing}
+use Rattle.pic_header.proofs.WithinLaws.{told_held, read_told}
 use Rattle.pic_verify.specs.Verified.{break_of}
 use Rattle.pic_verify.specs.Meaning.{due_step, step_before, record_place, bytes_from, IsGood}
 use Rattle.pic_verify.specs.Allowed.{IsInHeader}
 use Rattle.pic_verify.specs.Reached.{most_at, ReachesRecord, TakesToRecord, IsGoodAt, Reaches}
-use Rattle.pic_verify.proofs.FormatLaws.{frame_read}
+use Rattle.pic_record.proofs.FormatLaws.{frame_read}
 use Rattle.pic_verify.proofs.MeaningLaws.{header_end, due_is_step, is_gauss}
 use Rattle.pic_verify.proofs.VerdictLaws.{behind, takes_head, taken_size}
 use Rattle.pic_verify.proofs.WalkLaws.{Follows}

@@ -3,20 +3,22 @@ use Rattle.std.proofs.Common.{◌≡◌, ℕ, suc, ◌+◌, ◌-◌, ◌<◌, Li
 use Rattle.std.specs.List.{flat_map}
 use Rattle.pic_grid.specs.declared.stop.EndMark.{EndMark}
 use Rattle.pic_fields.specs.Parser.{input}
-use Rattle.pic_dump.specs.DumpText.{header_bytes, end_bytes}
-use Rattle.pic_reader.specs.FrameFields.{FrameView}
-use Rattle.pic_reader.specs.HeaderFields.{header_at}
-use Rattle.pic_reader.specs.Layout.{LayoutView, IsLayout, layout_of}
-use Rattle.pic_reader.specs.Records.{AFrame}
-use Rattle.pic_reader.specs.Spelling.{record_bytes}
-use Rattle.pic_reader.proofs.LayoutLaws.{layout_fits}
+use Rattle.pic_header.specs.HeaderText.{header_bytes}
+use Rattle.pic_record.specs.RecordText.{end_bytes}
+use Rattle.pic_record.specs.FrameFields.{FrameView}
+use Rattle.pic_header.specs.HeaderFields.{header_at}
+use Rattle.pic_record.specs.Layout.{LayoutView, IsLayout, layout_of}
+use Rattle.pic_record.specs.Records.{AFrame}
+use Rattle.pic_record.specs.Spelling.{record_bytes}
+use Rattle.pic_record.proofs.LayoutLaws.{layout_fits}
 use Rattle.pic_verify.specs.Meaning.{due_step, step_before}
-use Rattle.pic_verify.specs.Readable.{IsGoodFrame, IsReadableEnd, DumpsAreVerified}
+use Rattle.pic_verify.specs.Readable.{IsGoodFrame, DumpsAreVerified}
+use Rattle.pic_record.specs.Readable.{IsReadableEnd}
 use Rattle.pic_verify.specs.Verified.{unless_broken, walked, of_header, verified}
 use Rattle.pic_verify.proofs.MeaningLaws.{no_break, due_is_step, few_due}
-use Rattle.pic_verify.proofs.ReadableEnd.{ends_are_read}
-use Rattle.pic_verify.proofs.ReadableFrame.{frames_are_read}
-use Rattle.pic_verify.proofs.ReadableHeader.{headers_are_read}
+use Rattle.pic_record.proofs.ReadableEnd.{ends_are_read}
+use Rattle.pic_record.proofs.ReadableFrame.{frames_are_read}
+use Rattle.pic_header.proofs.ReadableHeader.{headers_are_read}
 use Rattle.pic_verify.proofs.WalkLaws.{walked_frame, walked_end}
 
 frames_text : LayoutView → List FrameView → List ℕ

@@ -18,10 +18,11 @@ use Rattle.pic_grid.specs.Species.{HeadView, no_head, IsName, IsKind}
 use Rattle.pic_charge.specs.Charge.{share, charge_of}
 use Rattle.pic_charge.specs.Gauss.{MeetsGauss}
 use Rattle.pic_energy.specs.Energies.{square_of, kinetic_of, kinetic_sum, square_sum, energies_of}
-use Rattle.pic_dump.specs.Header.{IsHeader, HasMultipliers}
-use Rattle.pic_reader.specs.FrameFields.{FrameView, IsModerate, field_with}
-use Rattle.pic_reader.specs.Layout.{LayoutView, layout_of}
-use Rattle.pic_verify.specs.Readable.{IsReadableField, IsReadableParticle, IsReadableFrame, IsGoodFrame}
+use Rattle.pic_header.specs.Header.{IsHeader, HasMultipliers}
+use Rattle.pic_record.specs.FrameFields.{FrameView, IsModerate, field_with}
+use Rattle.pic_record.specs.Layout.{LayoutView, layout_of}
+use Rattle.pic_record.specs.Readable.{IsReadableField, IsReadableParticle, IsReadableFrame}
+use Rattle.pic_verify.specs.Readable.{IsGoodFrame}
 use Rattle.pic_verify.specs.SmallDump.{one, small_header, resting_ion, small_frame, SmallDumpIsReadable}
 
 abbrev small_layout : LayoutView

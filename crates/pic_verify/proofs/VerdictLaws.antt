@@ -1,6 +1,6 @@
 -- The verdict on a dump, from that on its records.
-use Rattle.std.proofs.Common.{◌≡◌, ℕ, ◌+◌, ◌*◌, ◌≤◌, ◌⊎◌, List, ◌++◌, length, length-append, Option, Some, None, Ok, Err, IsErrAnd, inl, inr}
-use Rattle.std.proofs.Common.{refl, sym, ap, subst, ◌∙◌, arith}
+use Rattle.std.proofs.Common.{◌≡◌, ℕ, ◌+◌, ◌≤◌, ◌⊎◌, List, ◌++◌, length, length-append, Option, Some, None, Ok, Err, IsErrAnd, inl, inr}
+use Rattle.std.proofs.Common.{refl, sym, ap, ◌∙◌, arith}
 use Rattle.std.proofs.lemmas.Result.{err_from_is_err_and}
 use Rattle.pic_io.specs.Told.{Told}
 use Rattle.pic_io.specs.Source.{with_front}
@@ -9,16 +9,16 @@ use Rattle.pic_fields.specs.Reads.{Moves, HasRead}
 use Rattle.pic_fields.proofs.ReadLaws.{rose_after, moves_then}
 use Rattle.pic_verify.specs.Allowed.{records_length, bytes_allowed, IsAllowed, IsInHeader, TakesAllowed}
 use Rattle.pic_fields.specs.declared.read_stop.ReadStop.TheVariants as read
-use Rattle.pic_dump.specs.Header.{HeaderView}
-use Rattle.pic_dump.specs.Limits.{header_length}
-use Rattle.pic_reader.specs.Layout.{layout_of}
-use Rattle.pic_reader.specs.HeaderFields.{header_at, header_most}
-use Rattle.pic_reader.specs.HeadReads.{HeadReads, reach_of, TakesWithin}
-use Rattle.pic_reader.proofs.RunLaws.{header_place}
-use Rattle.pic_reader.proofs.WithinLaws.{told_held, read_told}
-use Rattle.pic_reader.specs.Standing.{Standing}
-use Rattle.pic_reader.specs.declared.head_stop.HeadStop.{HeadStop}
-use Rattle.pic_reader.specs.declared.head_stop.HeadStop.TheVariants as head
+use Rattle.pic_header.specs.Header.{HeaderView}
+use Rattle.pic_header.specs.Limits.{header_length}
+use Rattle.pic_record.specs.Layout.{layout_of}
+use Rattle.pic_header.specs.HeaderFields.{header_at, header_most}
+use Rattle.pic_header.specs.HeadReads.{HeadReads, reach_of, TakesWithin}
+use Rattle.pic_header.proofs.RunLaws.{header_place}
+use Rattle.pic_header.proofs.WithinLaws.{told_held, read_told}
+use Rattle.pic_dump.specs.Standing.{Standing}
+use Rattle.pic_header.specs.declared.head_stop.HeadStop.{HeadStop}
+use Rattle.pic_header.specs.declared.head_stop.HeadStop.TheVariants as head
 use Rattle.pic_verify.specs.declared.verify_stop.VerifyStop.TheVariants.{ReadFault, BadDump, Broken, NoMemory}
 use Rattle.pic_verify.specs.Stops.{stop_of_head}
 use Rattle.pic_verify.specs.Verified.{Verdict, of_header, verified}

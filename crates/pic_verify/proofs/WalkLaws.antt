@@ -12,12 +12,12 @@ use Rattle.pic_fields.specs.Reads.{Left, Moves, HasReadAll, Stops}
 use Rattle.pic_fields.specs.declared.read_stop.ReadStop.{ReadStop}
 use Rattle.pic_fields.specs.declared.read_stop.ReadStop.TheVariants as read
 use Rattle.pic_fields.proofs.ReadLaws.{some_rest, rose_after, moves_none, moves_then, moves_up}
-use Rattle.pic_reader.specs.Layout.{LayoutView}
-use Rattle.pic_reader.specs.FrameFields.{FrameView, frame_of, frame_length}
-use Rattle.pic_reader.specs.Records.{AFrame, AnEnd, record_at}
-use Rattle.pic_reader.specs.Standing.{Standing, passed}
-use Rattle.pic_reader.specs.NextReads.{HasFrame, most_of, record_most}
-use Rattle.pic_dump.specs.Due.{due_after}
+use Rattle.pic_record.specs.Layout.{LayoutView}
+use Rattle.pic_record.specs.FrameFields.{FrameView, frame_of, frame_length}
+use Rattle.pic_record.specs.Records.{AFrame, AnEnd, record_at}
+use Rattle.pic_dump.specs.Standing.{Standing, passed}
+use Rattle.pic_dump.specs.NextReads.{HasFrame, most_of, record_most}
+use Rattle.pic_record.specs.Due.{due_after}
 use Rattle.pic_verify.specs.Allowed.{records_length}
 use Rattle.pic_verify.proofs.AllowedLaws.{Went, went_more, record_fits, frames_fit}
 use Rattle.pic_verify.specs.declared.verify_stop.VerifyStop.TheVariants.{BadDump, Broken, NoMemory}

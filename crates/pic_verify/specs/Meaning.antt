@@ -10,12 +10,12 @@ use Rattle.pic_charge.specs.Charge.{charge_of}
 use Rattle.pic_charge.specs.Gauss.{MeetsGauss, IsLeastBreak}
 use Rattle.pic_fields.specs.Parser.{Input, input, Fault, fault, Parsed}
 use Rattle.pic_fields.specs.Bytes.{IsBytes}
-use Rattle.pic_dump.specs.DumpText.{header_bytes}
-use Rattle.pic_dump.specs.Header.{HeaderView}
-use Rattle.pic_reader.specs.Layout.{LayoutView, layout_of}
-use Rattle.pic_reader.specs.FrameFields.{FrameView, frame_length, field_with}
-use Rattle.pic_reader.specs.HeaderFields.{header_at}
-use Rattle.pic_reader.specs.Records.{RecordView, AFrame, AnEnd, record_at}
+use Rattle.pic_header.specs.HeaderText.{header_bytes}
+use Rattle.pic_header.specs.Header.{HeaderView}
+use Rattle.pic_record.specs.Layout.{LayoutView, layout_of}
+use Rattle.pic_record.specs.FrameFields.{FrameView, frame_length, field_with}
+use Rattle.pic_header.specs.HeaderFields.{header_at}
+use Rattle.pic_record.specs.Records.{RecordView, AFrame, AnEnd, record_at}
 use Rattle.pic_verify.specs.declared.verify_stop.VerifyStop.TheVariants.{ReadFault, BadDump, Broken, NoMemory}
 use Rattle.pic_verify.specs.Verified.{Verdict, break_of, verified}
 

@@ -6,13 +6,13 @@ use Rattle.pic_fields.specs.Parser.{input}
 use Rattle.pic_fields.specs.Reads.{Moves}
 use Rattle.pic_fields.specs.Bytes.{IsBytes}
 use Rattle.pic_charge.specs.Gauss.{MeetsGauss}
-use Rattle.pic_dump.specs.Due.{due_after}
-use Rattle.pic_dump.specs.Header.{HeaderView}
-use Rattle.pic_reader.specs.FrameFields.{FrameView, frame_length, field_with}
-use Rattle.pic_reader.specs.Layout.{LayoutView, layout_of}
-use Rattle.pic_reader.specs.NextReads.{most_of}
-use Rattle.pic_reader.specs.Records.{AFrame, record_at}
-use Rattle.pic_reader.specs.Standing.{Standing}
+use Rattle.pic_record.specs.Due.{due_after}
+use Rattle.pic_header.specs.Header.{HeaderView}
+use Rattle.pic_record.specs.FrameFields.{FrameView, frame_length, field_with}
+use Rattle.pic_record.specs.Layout.{LayoutView, layout_of}
+use Rattle.pic_dump.specs.NextReads.{most_of}
+use Rattle.pic_record.specs.Records.{AFrame, record_at}
+use Rattle.pic_dump.specs.Standing.{Standing}
 use Rattle.pic_verify.specs.Allowed.{IsInHeader}
 use Rattle.pic_verify.specs.Meaning.{due_step, step_before, record_place, Begins}
 

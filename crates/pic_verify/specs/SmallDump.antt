@@ -9,8 +9,8 @@ use Rattle.pic_grid.specs.declared.stop.EndMark.{EndMark}
 use Rattle.pic_grid.specs.declared.stop.EndMark.TheVariants.{Stopped}
 use Rattle.pic_grid.specs.declared.stop.Stop.TheVariants.{Push}
 use Rattle.pic_grid.specs.Species.{HeadView}
-use Rattle.pic_dump.specs.Header.{HeaderView}
-use Rattle.pic_reader.specs.FrameFields.{FrameView}
+use Rattle.pic_header.specs.Header.{HeaderView}
+use Rattle.pic_record.specs.FrameFields.{FrameView}
 use Rattle.pic_verify.specs.Readable.{IsReadableDump}
 
 abbrev pub one : Multiplier

@@ -9,11 +9,11 @@ use Rattle.pic_charge.specs.declared.breaks.Break.{Break}
 use Rattle.pic_charge.specs.Charge.{charge_of}
 use Rattle.pic_charge.specs.Gauss.{first_break}
 use Rattle.pic_fields.specs.Parser.{Input, input, Parsed}
-use Rattle.pic_dump.specs.Header.{HeaderView}
-use Rattle.pic_reader.specs.Layout.{LayoutView, layout_of}
-use Rattle.pic_reader.specs.FrameFields.{field_with}
-use Rattle.pic_reader.specs.HeaderFields.{header_at}
-use Rattle.pic_reader.specs.Records.{RecordView, AFrame, AnEnd, record_at}
+use Rattle.pic_header.specs.Header.{HeaderView}
+use Rattle.pic_record.specs.Layout.{LayoutView, layout_of}
+use Rattle.pic_record.specs.FrameFields.{field_with}
+use Rattle.pic_header.specs.HeaderFields.{header_at}
+use Rattle.pic_record.specs.Records.{RecordView, AFrame, AnEnd, record_at}
 use Rattle.pic_verify.specs.declared.verify_stop.VerifyStop.{VerifyStop}
 use Rattle.pic_verify.specs.declared.verify_stop.VerifyStop.TheVariants.{BadDump, Broken}
 

@@ -1,8 +1,8 @@
-//! Laws of dumps: that of the verdict, and that what is put can be read. Each is the contract of a
+//! Laws of dumps: that of the verdict, and that what is put is verified. Each is the contract of a
 //! function that does nothing.
 
 ghost use Rattle.pic_verify.specs.Meaning.{VerdictLaw};
-ghost use Rattle.pic_verify.specs.Readable.{HeadersAreRead, FramesAreRead, EndsAreRead, DumpsAreVerified};
+ghost use Rattle.pic_verify.specs.Readable.{DumpsAreVerified};
 ghost use Rattle.pic_verify.specs.SmallDump.{SmallDumpIsReadable};
 
 /// What the verdict on some bytes means, said of each record by itself. The verdict is a number of
@@ -14,23 +14,6 @@ ghost use Rattle.pic_verify.specs.SmallDump.{SmallDumpIsReadable};
 /// length. There is no other verdict.
 pub fn law_of_the_verdict()
     ensures { VerdictLaw }
-{}
-
-/// The text of every header that its type keeps is read as that header, whatever follows it.
-pub fn headers_are_read()
-    ensures { HeadersAreRead }
-{}
-
-/// The text of a frame within the limits of a layout is read as that frame where it is due, whatever
-/// follows it.
-pub fn frames_are_read()
-    ensures { FramesAreRead }
-{}
-
-/// The text of an end record that fits behind the last frame is read as that record, where nothing
-/// follows it.
-pub fn ends_are_read()
-    ensures { EndsAreRead }
 {}
 
 /// The bytes of a dump are verified, with the number of its frames: of a header, frames in turn, each

@@ -1,7 +1,7 @@
 use Rattle.std.proofs.Common.{◌≡◌, Some, None, sym, ap, subst, ◌∙◌}
 use Rattle.std.specs.Prelude.{sum}
-use Rattle.pic_reader.specs.Layout.{LayoutView, IsLayout}
-use Rattle.pic_reader.specs.NextReads.{HasFrame}
+use Rattle.pic_record.specs.Layout.{LayoutView, IsLayout}
+use Rattle.pic_dump.specs.NextReads.{HasFrame}
 use Rattle.pic_verify.specs.Verified.{break_of}
 use Rattle.pic_verify.proofs.WalkLaws.{follows_none, follows_frame, breaks_frame, ends_records, stops_records}
 use Rattle.pic_verify.proofs.ReachedLaws.{good_none, good_frame, reached_record, reached_frame}

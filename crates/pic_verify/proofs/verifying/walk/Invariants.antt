@@ -1,7 +1,7 @@
 -- So many good frames were read.
 use Rattle.std.proofs.Common.{◌≡◌, ◌+◌, ◌-◌, length}
 use Rattle.std.specs.Prelude.{sum}
-use Rattle.pic_reader.specs.Layout.{IsLayout}
+use Rattle.pic_record.specs.Layout.{IsLayout}
 use Rattle.pic_verify.proofs.WalkLaws.{Follows}
 use Rattle.pic_verify.proofs.ReachedLaws.{AreGood}
 use Rattle.pic_verify.proofs.verifying.walk.Given as goal
