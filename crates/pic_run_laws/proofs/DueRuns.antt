@@ -5,14 +5,14 @@ use Rattle.std.proofs.Common.{refl, sym, ap, ◌∙◌, arith}
 use Rattle.pic_grid.specs.declared.stop.EndMark.{EndMark}
 use Rattle.pic_grid.specs.declared.stop.EndMark.TheVariants.{Stopped}
 use Rattle.pic_grid.specs.declared.stop.Stop.{Stop}
-use Rattle.pic_dump.specs.Due.{is_due}
-use Rattle.pic_reader.specs.Layout.{LayoutView}
+use Rattle.pic_record.specs.Due.{is_due}
+use Rattle.pic_record.specs.Layout.{LayoutView}
 use Rattle.pic_run.specs.declared.output.Output.TheVariants.{Dump}
 use Rattle.pic_run.specs.Frames.{due_frame, frame_piece, frame_where, frame_after, frames_from}
 use Rattle.pic_run.proofs.FrameLaws.{after_stays}
 use Rattle.pic_step.specs.SerialStep.{World, stepped}
 use Rattle.pic_step.specs.SerialRun.{after, step_from, stopped_in}
-use Rattle.pic_verify.specs.Readable.{IsReadableStop}
+use Rattle.pic_record.specs.Readable.{IsReadableStop}
 use Rattle.pic_run_laws.proofs.StateFits.{IsGoodState, StopsFit, good_after}
 
 -- no frame of a step at which none is due, and none behind a stop

@@ -14,18 +14,19 @@ use Rattle.pic_grid.specs.Lattice.{Field}
 use Rattle.pic_grid.proofs.CellLaws.{place_of-number, place_within}
 use Rattle.pic_charge.specs.Gauss.{MeetsGauss}
 use Rattle.pic_energy.specs.Energies.{energies_of}
-use Rattle.pic_dump.specs.Due.{due_after}
-use Rattle.pic_dump.specs.DumpText.{frame_bytes}
-use Rattle.pic_reader.specs.FrameFields.{FrameView, frame_of, IsModerate, field_with}
-use Rattle.pic_reader.specs.Layout.{LayoutView}
-use Rattle.pic_reader.specs.Records.{AFrame}
-use Rattle.pic_reader.specs.Spelling.{record_bytes}
+use Rattle.pic_record.specs.Due.{due_after}
+use Rattle.pic_record.specs.RecordText.{frame_bytes}
+use Rattle.pic_record.specs.FrameFields.{FrameView, frame_of, IsModerate, field_with}
+use Rattle.pic_record.specs.Layout.{LayoutView}
+use Rattle.pic_record.specs.Records.{AFrame}
+use Rattle.pic_record.specs.Spelling.{record_bytes}
 use Rattle.pic_run.specs.declared.output.Output.TheVariants.{Dump}
 use Rattle.pic_run.specs.Frames.{energies_in, frame_piece}
 use Rattle.pic_step.specs.SerialStep.{World}
 use Rattle.pic_step.specs.Sound.{IsSafe}
 use Rattle.pic_verify.specs.Meaning.{step_before}
-use Rattle.pic_verify.specs.Readable.{IsReadableField, IsReadableParticle, IsReadableFrame, IsGoodFrame}
+use Rattle.pic_record.specs.Readable.{IsReadableField, IsReadableParticle, IsReadableFrame}
+use Rattle.pic_verify.specs.Readable.{IsGoodFrame}
 use Rattle.pic_run_laws.proofs.StateFits.{IsGoodState}
 
 -- the frame of a state

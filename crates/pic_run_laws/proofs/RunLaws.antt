@@ -1,12 +1,13 @@
 -- The dump of a run is a readable one, so it is verified.
 use Rattle.std.proofs.Common.{◌≡◌, ℕ, zero, suc, ◌+◌, ◌-◌, ◌<◌, IsTrue, List, ◌∷◌, ◌++◌, length, get_or, Ok, refl, sym, ap, ◌∙◌, subst, arith}
 use Rattle.pic_io.specs.Sinks.{Piece, outs}
-use Rattle.pic_dump.specs.Due.{is_due}
-use Rattle.pic_dump.specs.DumpText.{header_bytes, end_bytes}
-use Rattle.pic_dump.specs.Header.{HeaderView, IsHeader}
-use Rattle.pic_dump.proofs.DueLaws.{due_in_turn}
-use Rattle.pic_reader.specs.FrameFields.{FrameView}
-use Rattle.pic_reader.specs.Layout.{layout_of}
+use Rattle.pic_record.specs.Due.{is_due}
+use Rattle.pic_header.specs.HeaderText.{header_bytes}
+use Rattle.pic_record.specs.RecordText.{end_bytes}
+use Rattle.pic_header.specs.Header.{HeaderView, IsHeader}
+use Rattle.pic_record.proofs.DueLaws.{due_in_turn}
+use Rattle.pic_record.specs.FrameFields.{FrameView}
+use Rattle.pic_record.specs.Layout.{layout_of}
 use Rattle.pic_run.specs.declared.output.Output.TheVariants.{Dump}
 use Rattle.pic_run.specs.Frames.{frame_piece, frames_from, frames_of, end_of_run}
 use Rattle.pic_run.specs.Outcome.{out_text, dump_outcome}
@@ -14,7 +15,8 @@ use Rattle.pic_run.proofs.FrameLaws.{after_none}
 use Rattle.pic_step.specs.SerialStep.{World}
 use Rattle.pic_step.specs.SerialRun.{after}
 use Rattle.pic_verify.specs.Meaning.{due_step}
-use Rattle.pic_verify.specs.Readable.{IsGoodFrame, IsReadableEnd, IsReadableDump}
+use Rattle.pic_verify.specs.Readable.{IsGoodFrame, IsReadableDump}
+use Rattle.pic_record.specs.Readable.{IsReadableEnd}
 use Rattle.pic_verify.specs.Verified.{verified}
 use Rattle.pic_verify.proofs.ReadableDump.{dumps_are_verified}
 use Rattle.pic_run_laws.proofs.StateFits.{IsGoodState, StopsFit}

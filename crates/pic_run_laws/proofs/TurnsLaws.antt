@@ -7,20 +7,21 @@ use Rattle.pic_io.specs.Sinks.{Piece, outs}
 use Rattle.pic_grid.specs.declared.stop.EndMark.{EndMark}
 use Rattle.pic_grid.specs.declared.stop.EndMark.TheVariants.{Done, Stopped}
 use Rattle.pic_grid.specs.declared.stop.Stop.{Stop}
-use Rattle.pic_dump.specs.Due.{is_due, due_after}
-use Rattle.pic_dump.specs.DueInTurn.{IsNextDue}
-use Rattle.pic_dump.proofs.DueLaws.{due_in_turn}
-use Rattle.pic_reader.specs.FrameFields.{FrameView}
-use Rattle.pic_reader.specs.Layout.{LayoutView}
-use Rattle.pic_reader.specs.Records.{AFrame}
-use Rattle.pic_reader.specs.Spelling.{record_bytes}
+use Rattle.pic_record.specs.Due.{is_due, due_after}
+use Rattle.pic_record.specs.DueInTurn.{IsNextDue}
+use Rattle.pic_record.proofs.DueLaws.{due_in_turn}
+use Rattle.pic_record.specs.FrameFields.{FrameView}
+use Rattle.pic_record.specs.Layout.{LayoutView}
+use Rattle.pic_record.specs.Records.{AFrame}
+use Rattle.pic_record.specs.Spelling.{record_bytes}
 use Rattle.pic_run.specs.declared.output.Output.TheVariants.{Dump}
 use Rattle.pic_run.specs.Frames.{frame_piece, frames_from, end_where, end_of_run}
 use Rattle.pic_run.proofs.FrameLaws.{after_stays}
 use Rattle.pic_step.specs.SerialStep.{World}
 use Rattle.pic_step.specs.SerialRun.{after}
 use Rattle.pic_verify.specs.Meaning.{due_step}
-use Rattle.pic_verify.specs.Readable.{IsGoodFrame, IsReadableStop, IsReadableEnd}
+use Rattle.pic_verify.specs.Readable.{IsGoodFrame}
+use Rattle.pic_record.specs.Readable.{IsReadableStop, IsReadableEnd}
 use Rattle.pic_run_laws.proofs.StateFits.{IsGoodState, StopsFit, good_after}
 use Rattle.pic_run_laws.proofs.GoodFrames.{frame_in, good_frame, frame_text}
 use Rattle.pic_run_laws.proofs.DueRuns.{stops_in, skipped, stopped, put_of}
