@@ -1,1 +1,6 @@
 pub mod NextLaws
+pub mod TurnLaws
+pub mod ReadOnLaws
+pub mod FuelLaws
+pub mod ReadableDump
+pub mod SpellingLaws

@@ -1,2 +1,6 @@
 pub mod Standing
 pub mod NextReads
+pub mod InTurn
+pub mod DumpRead
+pub mod Readable
+pub mod Spelling

@@ -3,8 +3,10 @@
 #![tactic(auto)]
 
 mod dump_reader;
+mod laws;
 
 pub use dump_reader::{DumpReader, Next};
+pub use laws::{dumps_are_read, dumps_have_one_spelling};
 pub use pic_fields::ReadStop;
 pub use pic_header::{
     Head, HeadStop, Header, Heads, headers_are_read, headers_have_one_spelling, keep_kind,
