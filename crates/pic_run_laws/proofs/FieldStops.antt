@@ -27,7 +27,7 @@ use Rattle.pic_reader.specs.Layout.{LayoutView}
 use Rattle.pic_step.specs.SerialStep.{World, e_of, b_of, half_at, full_at}
 use Rattle.pic_step.specs.Sound.{IsSafe}
 use Rattle.pic_step.proofs.OnePartLaws.{above_origin}
-use Rattle.pic_verify.specs.Readable.{IsReadableStop}
+use Rattle.pic_record.specs.Readable.{IsReadableStop}
 use Rattle.pic_run_laws.proofs.ScaledSizes.{scaled_size}
 
 -- the next cell up or down is one of the grid's

@@ -4,11 +4,11 @@ use Rattle.std.proofs.lemmas.List.Elements.{All-map}
 use Rattle.pic_charge.specs.declared.breaks.Break.{Break}
 use Rattle.pic_grid.specs.Species.{HeadView}
 use Rattle.pic_deck.specs.Deck.{DeckView}
-use Rattle.pic_dump.specs.Header.{HasMultipliers}
+use Rattle.pic_header.specs.Header.{HasMultipliers}
 use Rattle.pic_line.specs.declared.asked.Command.{Command}
 use Rattle.pic_line.specs.declared.asked.Command.TheVariants.{Verify}
 use Rattle.pic_line.specs.CommandLine.{command_of}
-use Rattle.pic_reader.specs.Layout.{layout_of}
+use Rattle.pic_record.specs.Layout.{layout_of}
 use Rattle.pic_run.specs.declared.early.Early.{Early}
 use Rattle.pic_run.specs.declared.early.Early.TheVariants as early
 use Rattle.pic_run.specs.declared.ended.Ended.TheVariants.{Verified}

@@ -1,7 +1,7 @@
 use Rattle.std.proofs.Common.{ℕ, [], subst}
 use Rattle.pic_io.specs.Sinks.{sinks}
 use Rattle.pic_io.proofs.Puts.{wrote_out}
-use Rattle.pic_dump.specs.DumpText.{header_bytes}
+use Rattle.pic_header.specs.HeaderText.{header_bytes}
 use Rattle.pic_run.specs.declared.output.Output.TheVariants.{Dump}
 use Rattle.pic_run.specs.Frames.{frames_of, end_of_run, end_piece}
 use Rattle.pic_run.specs.Outcome.{states_outcome}
