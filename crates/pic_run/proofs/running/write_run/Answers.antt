@@ -32,4 +32,5 @@ returns g c =
     let r = g.R.Sink.told c.args.report.now in
     let h = c.args.ready.header in
     let w = c.args.ready.stage.state.world in
-    head_cut o p r (header_bytes h) (frames_of Dump h.steps h.every w) (end_piece Dump (end_of_run h.steps w)) (header_some h) c.in-Err.ensures.bytes c.in-Err.ensures.cause.err
+    head_cut o p r (header_bytes h) (frames_of Dump h.steps h.every w) (end_piece Dump (end_of_run h.steps w)) (header_some h)
+    c.in-Err.ensures.bytes c.in-Err.ensures.cause.err
