@@ -1,12 +1,12 @@
 //! One step of a pair, by the side of a cell: numbers worked by hand.
 
-ghost use Rattle.std.specs.Prelude.{◌≡◌};
+ghost use Rattle.std.specs.Prelude.{◌≡◌, IfOk};
 
 use pic_gate::{Hold, Open};
 use pic_grid::{Cells, Lattice, Snapshot};
 use pic_num::{Axis, Kind, Mult, NoMemory, Particle, Scales, Sub};
 use pic_step::{Start, State, step};
-use pic_tile::{Dir, TileMap};
+use pic_tile::{Dir, Kinds, Setup, TileMap};
 use std::alloc::Global;
 
 /// A charge of either sign, which no field drives.
@@ -23,9 +23,11 @@ fn kind_of(charge: i32) -> Kind
     }
 }
 
-/// An ion at rest and an electron on one place, a quarter of a cell along x. The electron moves half
-/// a cell along x in a step.
-fn pair_of(alloc: Global, sub: Sub) -> Result<State, NoMemory> {
+/// An ion at rest and an electron on one place, a quarter of a cell along x, after 41 steps. The
+/// electron moves half a cell along x in a step.
+fn pair_of(alloc: Global, sub: Sub) -> Result<State, NoMemory>
+    ensures { IfOk result (λ s. s.world.step ≡ 41) }
+{
     let none = Mult::new(0, 0);
     let scales = Scales {
         e_to_b: none,
@@ -47,15 +49,15 @@ fn pair_of(alloc: Global, sub: Sub) -> Result<State, NoMemory> {
         x: [side / 4, 0, 0],
         v: [side as i32 * 2048, 0, 0],
     };
-    let kinds = Vec::from_slice(alloc, &[kind_of(1), kind_of(-1)])?;
+    let kinds = Kinds::from_vec(Vec::from_slice(alloc, &[kind_of(1), kind_of(-1)])?);
     let particles = Vec::from_slice(alloc, &[ion, electron])?;
     let e = Lattice::new(alloc, cells, [2, 1, 1])?;
     let b = Lattice::new(alloc, cells, [2, 1, 1])?;
     let map = TileMap::new(cells, [2, 1, 1]);
+    let setup = Setup { map, scales, kinds };
     let start = Start {
-        map,
-        scales,
-        kinds,
+        setup,
+        step: 41,
         e,
         b,
         particles,
@@ -97,6 +99,7 @@ fn a_step_by_the_side_of_a_cell(rt: HostRuntime) -> Result<(), NoMemory> {
             if let Ok(state) = next {
                 let mut seen = Snapshot::new(rt.alloc(), state.cells(), state.count())?;
                 state.fill(&mut seen);
+                assert_eq!(rt; state.step_number(), 42);
                 assert_eq!(rt; state.cells().sub(), sub);
                 assert_eq!(rt; value_in(&seen.e, Axis::X, [0, 0, 0]), current);
                 assert_eq!(rt; value_in(&seen.e, Axis::X, [1, 0, 0]), 0);

@@ -30,8 +30,8 @@ around_fields scales kinds e b = record {
   of_b = force_of scales.b_force (value_at b);
 }
 
--- fields and the particles of a state can be pushed: the fields are safe and lie in the tiles, and the
--- particles are ready, within the limits and in the order of identities
+-- fields and the particles of a state can be pushed: the fields are safe and lie in the tiles, and
+-- the particles are ready, within the limits and in the order of identities
 pub record CanPush (scales : Scales) (e b : Field) (p : Plasma) : Type 0 where
   pub side : 0 < p.frame.map.side
   pub tiled : AreTiled p.frame.map e b

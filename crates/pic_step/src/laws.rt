@@ -1,5 +1,5 @@
-//! What the serial step keeps, how steps add up, what stops a push, and how far its flux reaches. Each
-//! is the contract of a function that does nothing.
+//! What the serial step keeps, how steps add up, what stops a push, and how far its flux reaches.
+//! Each is the contract of a function that does nothing.
 
 ghost use Rattle.pic_num.specs.Velocity.{PushKeepsVelocities};
 ghost use Rattle.pic_step.specs.Keeps.{EveryStepKeeps};
@@ -13,8 +13,8 @@ pub fn law_of_the_step()
     ensures { EveryStepKeeps }
 {}
 
-/// Steps add up: after m + n of them a run stands where one stands that begins in the state after m and
-/// takes n, be it at a state or at a stop; each counts; and a run that has stopped stays so.
+/// Steps add up: after m + n of them a run stands where one stands that begins in the state after m
+/// and takes n, be it at a state or at a stop. Each counts, and a run that has stopped stays so.
 pub fn law_of_the_run()
     ensures add { StepsAddUp }
     ensures counted { StepsAreCounted }

@@ -46,9 +46,9 @@ impl From<NoMemory> for StepStop {
 /// workers, 1 to 64, push the particles, tile by tile and each on a thread of its own where one can
 /// be made. Each passes the gate after each claim of a tile and each post of a parcel. Whatever the
 /// tiles, the workers and the gate, the answer is that of the serial step: the state after it, or
-/// the stop of the first phase that has one. The state after it has one step more, and the same cells,
-/// multipliers, kinds and tiles; it meets Gauss's law at every node, and the divergence of its B is
-/// what it was in every cell.
+/// the stop of the first phase that has one. The state after it has one step more, and the same
+/// cells, multipliers, kinds and tiles; it meets Gauss's law at every node, and the divergence of its
+/// B is what it was in every cell.
 ///
 /// # Errors
 /// `StepStop::Stop` as the serial step has it. `StepStop::NoMemory` where memory is refused to the

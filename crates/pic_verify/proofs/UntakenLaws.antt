@@ -4,11 +4,11 @@ use Rattle.pic_io.specs.Told.{Told}
 use Rattle.pic_io.specs.Source.{with_front}
 use Rattle.pic_fields.specs.Reads.{Moves}
 use Rattle.pic_fields.proofs.ReadLaws.{same_front, moves_none, moves_up}
-use Rattle.pic_dump.specs.Header.{HeaderView}
-use Rattle.pic_dump.specs.Limits.{header_length}
-use Rattle.pic_reader.specs.declared.head_stop.HeadStop.TheVariants.{NoMemory}
-use Rattle.pic_reader.specs.HeaderFields.{header_at, header_most}
-use Rattle.pic_reader.specs.HeadReads.{HeadReads, TakesWithin}
+use Rattle.pic_header.specs.Header.{HeaderView}
+use Rattle.pic_header.specs.Limits.{header_length}
+use Rattle.pic_header.specs.declared.head_stop.HeadStop.TheVariants.{NoMemory}
+use Rattle.pic_header.specs.HeaderFields.{header_at, header_most}
+use Rattle.pic_header.specs.HeadReads.{HeadReads, TakesWithin}
 use Rattle.pic_verify.specs.Allowed.{TakesHeader, TakesAllowed}
 use Rattle.pic_verify.specs.Reached.{TakesToRecord}
 use Rattle.pic_verify.proofs.VerdictLaws.{stops_taken}

@@ -4,12 +4,13 @@ use Rattle.pic_io.specs.Told.{Told}
 use Rattle.pic_io.specs.Source.{with_front}
 use Rattle.pic_fields.specs.Parser.{Input, input, Fault}
 use Rattle.pic_fields.specs.Reads.{Moves}
-use Rattle.pic_dump.specs.Header.{HeaderView}
-use Rattle.pic_dump.specs.Limits.{most_letters, header_length, longest_end}
-use Rattle.pic_reader.specs.Layout.{LayoutView, layout_of}
-use Rattle.pic_reader.specs.FrameFields.{frame_length}
-use Rattle.pic_reader.specs.HeaderFields.{header_at, header_most}
-use Rattle.pic_reader.specs.HeadReads.{TakesWithin}
+use Rattle.pic_header.specs.Header.{HeaderView}
+use Rattle.pic_header.specs.Limits.{most_letters, header_length}
+use Rattle.pic_record.specs.Limits.{longest_end}
+use Rattle.pic_record.specs.Layout.{LayoutView, layout_of}
+use Rattle.pic_record.specs.FrameFields.{frame_length}
+use Rattle.pic_header.specs.HeaderFields.{header_at, header_most}
+use Rattle.pic_header.specs.HeadReads.{TakesWithin}
 
 -- how many frames are due: one after no step, one after each so many steps, and one after the last
 abbrev pub frames_due : LayoutView → ℕ

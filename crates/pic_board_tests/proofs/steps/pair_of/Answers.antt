@@ -19,7 +19,7 @@ use Rattle.pic_num.specs.Sizes.{IsAtMost}
 use Rattle.pic_num.specs.Space.{Triple, triple, spot, along}
 use Rattle.pic_num.specs.Velocity.{too_fast, IsKeptVelocity}
 use Rattle.pic_num.proofs.RoundingLaws.{rounded-unique, power_above_zero}
-use Rattle.pic_grid.specs.Cells.{count_of, place_of}
+use Rattle.pic_grid.specs.Cells.{Grid, count_of, place_of}
 use Rattle.pic_grid.specs.Differences.{div_e, down}
 use Rattle.pic_grid.specs.Hat.{weight}
 use Rattle.pic_grid.specs.Lattice.{Field, value_at}
@@ -30,20 +30,24 @@ use Rattle.pic_grid.specs.Sums.{sum_over}
 use Rattle.pic_charge.specs.Charge.{charge_of, share}
 use Rattle.pic_charge.specs.Gauss.{MeetsGauss}
 use Rattle.pic_field.specs.FieldPhases.{IsBounded}
-use Rattle.pic_tile.specs.Tiling.{Tiling}
-use Rattle.pic_step.specs.Kept.{as_one}
+use Rattle.pic_tile.specs.Frame.{AreKinds}
+use Rattle.pic_tile.specs.Tiling.{Tiling, grid_of_tiling}
+use Rattle.pic_step.specs.Kept.{IsTiled}
 use Rattle.pic_step.specs.SerialStep.{world_of}
 use Rattle.pic_step.specs.Sound.{IsSafe, IsSound}
 use Rattle.pic_board_tests.proofs.steps.pair_of.Goals as goal
 
--- a lattice of zeros
+-- zeros, and a lattice of them
+abbrev zero_values : Triple → List ℤ
+zero_values n = replicate (3 * count_of n) (pos 0)
+
 abbrev zeros : ℕ → Triple → Field
-zeros side n = record { cells = n; side = side; parts = one_part; values = replicate (3 * count_of n) (pos 0) }
+zeros side n = record { cells = n; side = side; parts = one_part; values = zero_values n }
 
 zeros_at : (side : ℕ) (n : Triple) (a : Axis) (p : Triple) → value_at (zeros side n) a p ≡ pos 0
 zeros_at side n a p = elim (cases_lt (place_of n a p) (3 * count_of n)) [
   | inl below ↦ get_or-replicate (3 * count_of n) (place_of n a p) (pos 0) (pos 0) below
-  | inr past ↦ get_or_past (replicate (3 * count_of n) (pos 0)) (place_of n a p) (pos 0) (omega (arith, past, length-replicate (3 * count_of n) (pos 0)))
+  | inr past ↦ get_or_past (zero_values n) (place_of n a p) (pos 0) (omega (arith, past, length-replicate (3 * count_of n) (pos 0)))
 ]
 
 zero_scaled : (by : Multiplier) → pos 0 ≡ scaled (pos 0) by
@@ -58,22 +62,17 @@ zero_bounded by = record {
   force = subst (λ (v : ℤ). IsAtMost v most_force) (zero_scaled by) (record { size = omega (arith, ints) });
 }
 
-zeros_safe : (side : ℕ) (n : Triple) (by : Multiplier) (f : Field) → f ≡ zeros side n → IsSafe side n by f
-zeros_safe side n by f is = subst (IsSafe side n by) (sym is) (record {
-  cells = refl;
-  side_is = refl;
-  parts = refl;
-  bounded = λ a p w. subst (IsBounded by) (sym (zeros_at side n a p)) (zero_bounded by);
-})
+zeros_safe : (side : ℕ) (n : Triple) (by : Multiplier) → IsSafe by (zeros side n)
+zeros_safe side n by = record { bounded = λ a p w. subst (IsBounded by) (sym (zeros_at side n a p)) (zero_bounded by) }
 
 -- the two charges stand on one place
-pair_gauss : (side : ℕ) (n : Triple) (a b : Kind) (x : List ℕ) (u w : List ℤ) (e : Field) → e ≡ zeros side n → a.charge ≡ pos 1 → b.charge ≡ negsuc 0
-    → MeetsGauss side n (a ∷ b ∷ []) (record { id = 0; species = 0; x = x; v = u } ∷ record { id = 1; species = 1; x = x; v = w } ∷ []) e
+pair_gauss : (side : ℕ) (n : Triple) (a b : Kind) (x : List ℕ) (u w : List ℤ) → a.charge ≡ pos 1 → b.charge ≡ negsuc 0
+    → MeetsGauss side n (a ∷ b ∷ []) (record { id = 0; species = 0; x = x; v = u } ∷ record { id = 1; species = 1; x = x; v = w } ∷ []) (zeros side n)
 unfolding charge_of sum_over share
-pair_gauss side n a b x u w e is of_a of_b = record {
+pair_gauss side n a b x u w of_a of_b = record {
   at_node = λ p within.
-      let none : (c : Axis) (q : Triple) → value_at e c q ≡ pos 0 = λ c q. ap (λ (f : Field). value_at f c q) is ∙ zeros_at side n c q in
-      let still : div_e n (value_at e) p ≡ pos 0 =
+      let none : (c : Axis) (q : Triple) → value_at (zeros side n) c q ≡ pos 0 = λ c q. zeros_at side n c q in
+      let still : div_e n (value_at (zeros side n)) p ≡ pos 0 =
       λ t. none X p t -ℤ none X (down n X p) t +ℤ none Y p t -ℤ none Y (down n Y p) t +ℤ none Z p t -ℤ none Z (down n Z p) t in
       let at = weight side n (triple x) p in
       let one = ap (λ (q : ℤ). pos 12 *ℤ q *ℤ pos at) of_a in
@@ -98,6 +97,13 @@ two P x y p q (suc (suc i)) d below = absurd (omega (arith, below))
 is_kind : (k : Kind) → negsuc 32767 ≤ℤ k.charge → k.charge ≤ℤ pos 32767 → k.mass ≡ 1 → IsKind k
 is_kind k low high one = record { charge_low = low; charge_high = high; mass_low = omega (arith, one); mass_high = omega (arith, one) }
 
+pair_kinds : (a b : Kind) → a.charge ≡ pos 1 → a.mass ≡ 1 → b.charge ≡ negsuc 0 → b.mass ≡ 1 → AreKinds (a ∷ b ∷ [])
+pair_kinds a b a_is a_one b_is b_one = record {
+  few = omega arith;
+  limits = two IsKind a b
+      (is_kind a (omega (arith, ints, a_is)) (omega (arith, ints, a_is)) a_one) (is_kind b (omega (arith, ints, b_is)) (omega (arith, ints, b_is)) b_one);
+}
+
 kept : (side : ℕ) (v : ℤ) → (pos 0 ≤ℤ v) → (v <ℤ pos (4096 * side)) → IsKeptVelocity side (record { x = v; y = pos 0; z = pos 0 })
 kept side v low high = record { least = least; most = most }
   where
@@ -113,16 +119,16 @@ kept side v low high = record { least = least; most = most }
 
 pair_sound : (side q : ℕ) (v : ℤ) (scales : Scales) (a b : Kind) → least_side ≤ side → side ≤ most_side → q < 4 * side → pos 0 ≤ℤ v → v <ℤ pos (4096 * side)
     → a.charge ≡ pos 1 → a.mass ≡ 1 → b.charge ≡ negsuc 0 → b.mass ≡ 1
-    → IsSound (record { side = side; cells = four; scales = scales; kinds = a ∷ b ∷ []; e = zeros side four; b = zeros side four; particles = pair q v })
+    → IsSound (world_of 41 (record { n = four; side = side }) scales (a ∷ b ∷ []) (zero_values four) (zero_values four) (pair q v))
 pair_sound side q v scales a b least most at low high a_is a_one b_is b_one = record {
+  reached = omega arith;
   side_least = least;
   side_most = most;
   cells = record { x_least = omega arith; x_most = omega arith; y_least = omega arith; y_most = omega arith; z_least = omega arith; z_most = omega arith };
-  e = zeros_safe side four scales.e_force (zeros side four) refl;
-  b = zeros_safe side four scales.b_force (zeros side four) refl;
+  e = zeros_safe side four scales.e_force;
+  b = zeros_safe side four scales.b_force;
   species = omega arith;
-  kinds = two IsKind a b
-      (is_kind a (omega (arith, ints, a_is)) (omega (arith, ints, a_is)) a_one) (is_kind b (omega (arith, ints, b_is)) (omega (arith, ints, b_is)) b_one);
+  kinds = (pair_kinds a b a_is a_one b_is b_one).limits;
   few = omega arith;
   identities = refl;
   places = two (CanShare side four (a ∷ b ∷ [])) _ _
@@ -130,15 +136,29 @@ pair_sound side q v scales a b least most at low high a_is a_one b_is b_one = re
       (record { species = omega arith; place = record { x = at; y = omega (arith, at); z = omega (arith, at) } });
   velocities = two (λ particle. IsKeptVelocity side (spot particle.v)) _ _
       (kept side (pos 0) (omega (arith, ints)) (omega (arith, ints, least))) (kept side v low high);
-  gauss = pair_gauss side four a b (q ∷ 0 ∷ 0 ∷ []) _ _ (zeros side four) refl a_is b_is;
+  gauss = pair_gauss side four a b (q ∷ 0 ∷ 0 ∷ []) _ _ a_is b_is;
 }
+
+-- a lattice of zeros lies in the tiles of a map of its cells
+lies_in : (grid : Grid) (m : Tiling) (parts : Triple) (f : Field) → f ≡ record { cells = grid.n; side = grid.side; parts = parts; values = zero_values grid.n }
+    → grid_of_tiling m ≡ grid → m.tiles ≡ parts → IsTiled m f
+lies_in grid m parts f is of_grid tiles = record {
+  cells = ap (λ (k : Field). k.cells) is ∙ sym (ap (λ (h : Grid). h.n) of_grid);
+  side = ap (λ (k : Field). k.side) is ∙ sym (ap (λ (h : Grid). h.side) of_grid);
+  parts = ap (λ (k : Field). k.parts) is ∙ sym tiles;
+}
+
+pub from_vec-kinds-requires : goal.from_vec-kinds-requires
+from_vec-kinds-requires c =
+    subst AreKinds (sym c.in_ok-from_slice.ensures.items)
+    (pair_kinds c.kind_of.result c.kind_of-2.result c.kind_of.ensures.charge c.kind_of.ensures.mass c.kind_of-2.ensures.charge c.kind_of-2.ensures.mass)
 
 pub begin-requires-clause-tiled : goal.begin-requires-clause-tiled
 begin-requires-clause-tiled c =
-    let tiles = ap (λ (m : Tiling). m.tiles) (sym c.new-map.ensures.value) in
+    let tiles = ap (λ (m : Tiling). m.tiles) c.new-map.ensures.value in
     record {
-      e_parts = ap (λ (f : Field). f.parts) c.in_ok-e.ensures ∙ tiles;
-      b_parts = ap (λ (f : Field). f.parts) c.in_ok-b.ensures ∙ tiles;
+      of_e = lies_in c.new-cells.result c.new-map.result _ c.in_ok-e.e c.in_ok-e.ensures c.new-map.ensures.cells tiles;
+      of_b = lies_in c.new-cells.result c.new-map.result _ c.in_ok-b.b c.in_ok-b.ensures c.new-map.ensures.cells tiles;
     }
 
 pub begin-requires-clause-sound : goal.begin-requires-clause-sound
@@ -156,10 +176,10 @@ begin-requires-clause-sound c =
     let sound = pair_sound c.args.sub q (pos (s * 2048)) scales c.kind_of.result c.kind_of-2.result side.least side.most
     (omega (arith, side.value, side.least)) (omega (arith, ints)) (omega (arith, ints, side.value, side.least))
     c.kind_of.ensures.charge c.kind_of.ensures.mass c.kind_of-2.ensures.charge c.kind_of-2.ensures.mass in
-    let same : (f : Field) → as_one f ≡ zeros c.new-cells.result.side c.new-cells.result.n → as_one f ≡ zeros c.args.sub four =
-    λ f is. is ∙ (λ i. zeros (cells i).side (cells i).n) in
-    let e = same c.in_ok-e.e (ap as_one c.in_ok-e.ensures) in
-    let b = same c.in_ok-b.b (ap as_one c.in_ok-b.ensures) in
+    let zero = ap (λ (g : Grid). zero_values g.n) cells in
+    let e = ap (λ (f : Field). f.values) c.in_ok-e.ensures ∙ zero in
+    let b = ap (λ (f : Field). f.values) c.in_ok-b.ensures ∙ zero in
+    let kinds = c.from_vec-kinds.ensures ∙ c.in_ok-from_slice.ensures.items in
     let particles = c.in_ok-particles.ensures.items ∙ ap (pair q) moves in
     let grid = c.new-map.ensures.cells ∙ cells in
-    subst IsSound (sym (λ i. world_of (grid i) scales (c.in_ok-kinds.ensures.items i) (e i) (b i) (particles i))) sound
+    subst IsSound (sym (λ i. world_of 41 (grid i) scales (kinds i) (e i) (b i) (particles i))) sound

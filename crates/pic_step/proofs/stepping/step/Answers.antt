@@ -1,24 +1,26 @@
 use Rattle.std.proofs.Common.{◌≡◌, ℕ, suc, ◌+◌, ◌<◌, refl, sym, ap, ◌∙◌, subst, Result, Ok, Err, None, Option, arith}
 use Rattle.std.proofs.lemmas.Result.{err_from_is_err_and}
-use Rattle.pic_num.specs.Limits.{most_steps}
+use Rattle.pic_num.specs.Limits.{most_steps, most_value}
+use Rattle.pic_num.specs.Multiplier.{Multiplier}
 use Rattle.pic_grid.specs.declared.stop.Phase.TheVariants.{Half1, Half2, Electric}
 use Rattle.pic_grid.specs.declared.stop.Stop.{Stop}
+use Rattle.pic_grid.specs.Lattice.{Field, EachAtMost}
 use Rattle.pic_tile.specs.CoreState.{all_particles}
 use Rattle.pic_tile.specs.Tiling.{Tiling, cells_of}
 use Rattle.pic_step.specs.declared.state.State.TheInside.{Inside}
 use Rattle.pic_step.specs.declared.stepping.StepStop.{StepStop}
 use Rattle.pic_step.specs.TileFlux.{flux_in}
 use Rattle.pic_step.specs.Keeps.{Keeps}
-use Rattle.pic_step.specs.Kept.{IsTiled, AreTiled, seen}
+use Rattle.pic_step.specs.Kept.{IsTiled, AreTiled, IsKept, seen}
 use Rattle.pic_step.specs.Plasma.{IsPlasma}
 use Rattle.pic_step.specs.PushOn.{ArePushed}
 use Rattle.pic_step.specs.SerialRun.{Steps}
 use Rattle.pic_step.specs.SerialStep.{World, around, half_on, half_stop, stepped}
-use Rattle.pic_step.specs.Sound.{IsSound}
+use Rattle.pic_step.specs.Sound.{IsSafe, IsSound}
 use Rattle.pic_step.specs.StateView.{StateView}
 use Rattle.pic_step.proofs.ExitLaws.{stops_first, stops_push, stops_second, stops_last, wants_none}
 use Rattle.pic_step.proofs.KeptLaws.{can_push, next_is}
-use Rattle.pic_step.proofs.OnePartLaws.{whole_is, half_one, full_one, tiled_after, advanced_is, safe_parts, safe_small}
+use Rattle.pic_step.proofs.OnePartLaws.{whole, whole_is, half_one, full_one, tiled_after, advanced_is, safe_parts, safe_small}
 use Rattle.pic_step.proofs.StepLaws.{IsHalf, is_half, half_safe, pushed_on, IsBefore, second_half, is_before}
 use Rattle.pic_step.proofs.StepLaws.{before_safe, last_step, IsAfter, is_after, sound_after, stepped_after, keeps_after}
 use Rattle.pic_step.proofs.stepping.step.Given.{Over}
@@ -31,6 +33,16 @@ world k = seen k.step k.scales k.e k.b k.plasma
 
 abbrev tiles_map : Inside → Tiling
 tiles_map k = k.plasma.frame.map
+
+abbrev Keeping : Inside → Type 0
+Keeping k = IsKept k.step k.scales k.e k.b k.plasma
+
+-- no value of E or B is too large, and none of a lattice in the tiles whose values are safe
+small : (k : Inside) (by : Multiplier) (f : Field) → IsTiled (tiles_map k) f → IsSafe by (whole (tiles_map k) f.values) → EachAtMost most_value f
+small k by f tiled safe = safe_small by f (safe_parts (tiles_map k) by f tiled safe)
+
+e_small : (k : Inside) → Keeping k → EachAtMost most_value k.e
+e_small k keeps = small k k.scales.e_force k.e keeps.tiled.of_e keeps.sound.e
 
 -- what the first half step of B left
 half : (g : Over) (c : In_ok-b g) → IsHalf (world c.state.inside) c.in_ok-b.b.values
@@ -107,12 +119,11 @@ returns-in_err-b-clause-steps g c =
     ∙ stops_first w _ (half_one Half1 (tiles_map k) k.scales k.e k.b (Err _) tiled.of_e tiled.of_b c.in_err-b.ensures))
 
 pub advance_b-requires-clause-e_small : goal.advance_b-requires-clause-e_small
-advance_b-requires-clause-e_small g c κs within =
-    let k = c.state.inside in safe_small k.scales.e_force k.e (safe_parts (tiles_map k) k.scales.e_force k.e c.state.invariant.tiled.of_e c.state.invariant.sound.e)
+advance_b-requires-clause-e_small g c κs within = e_small c.state.inside c.state.invariant
 
 pub advance_b-requires-clause-b_small : goal.advance_b-requires-clause-b_small
 advance_b-requires-clause-b_small g c κs within =
-    let k = c.state.inside in safe_small k.scales.b_force k.b (safe_parts (tiles_map k) k.scales.b_force k.b c.state.invariant.tiled.of_b c.state.invariant.sound.b)
+    let k = c.state.inside in small k k.scales.b_force k.b c.state.invariant.tiled.of_b c.state.invariant.sound.b
 
 pub push_phase-requires-clause-can : goal.push_phase-requires-clause-can
 push_phase-requires-clause-can g c κs within =
@@ -139,14 +150,13 @@ returns-in-Some-clause-steps g c =
     ap (λ (v : StateView). stepped v.world) (sym c.state.view_is) ∙ stops_push w c.in-Some.stop first.none (sym free.stop_is ∙ c.in-Some.is)
 
 pub advance_b-requires-2-clause-e_small : goal.advance_b-requires-2-clause-e_small
-advance_b-requires-2-clause-e_small g c κs within =
-    let k = c.state.inside in safe_small k.scales.e_force k.e (safe_parts (tiles_map k) k.scales.e_force k.e c.state.invariant.tiled.of_e c.state.invariant.sound.e)
+advance_b-requires-2-clause-e_small g c κs within = e_small c.state.inside c.state.invariant
 
 pub advance_b-requires-2-clause-b_small : goal.advance_b-requires-2-clause-b_small
 advance_b-requires-2-clause-b_small g c κs within =
     let k = c.state.inside in
     let at = (goal.at.advance_b-requires-2-clause-b_small g c).In_ok-b in
-    safe_small k.scales.b_force c.in_ok-b.b (safe_parts (tiles_map k) k.scales.b_force c.in_ok-b.b (half_tiled g at) (half_safe (world k) c.in_ok-b.b.values (half g at)))
+    small k k.scales.b_force c.in_ok-b.b (half_tiled g at) (half_safe (world k) c.in_ok-b.b.values (half g at))
 
 pub returns-in_err-b-2-clause-steps : goal.returns-in_err-b-2-clause-steps
 returns-in_err-b-2-clause-steps g c =
@@ -180,12 +190,10 @@ advance_e-e-requires-clause-b_small g c κs within =
     let at = goal.at.advance_e-e-requires-clause-b_small g c in
     let tiled = half_tiled g at.In_ok-b in
     let second = before g at.In_ok-b-2 tiled (half g at.In_ok-b) in
-    safe_small k.scales.b_force c.in_ok-b-2.b (safe_parts (tiles_map k) k.scales.b_force c.in_ok-b-2.b (before_tiled g at.In_ok-b-2 tiled)
-    (before_safe (world k) c.in_ok-b-2.b.values second))
+    small k k.scales.b_force c.in_ok-b-2.b (before_tiled g at.In_ok-b-2 tiled) (before_safe (world k) c.in_ok-b-2.b.values second)
 
 pub advance_e-e-requires-clause-e_small : goal.advance_e-e-requires-clause-e_small
-advance_e-e-requires-clause-e_small g c κs within =
-    let k = c.state.inside in safe_small k.scales.e_force k.e (safe_parts (tiles_map k) k.scales.e_force k.e c.state.invariant.tiled.of_e c.state.invariant.sound.e)
+advance_e-e-requires-clause-e_small g c κs within = e_small c.state.inside c.state.invariant
 
 pub returns-in-Err-clause-steps : goal.returns-in-Err-clause-steps
 returns-in-Err-clause-steps g c =
@@ -262,8 +270,10 @@ returns-in_err-b-clause-memory g c wanted = absurd (wants_none _ _ c.from_residu
 
 pub returns-in_err-pushed-clause-memory : goal.returns-in_err-pushed-clause-memory
 returns-in_err-pushed-clause-memory g c wanted =
-    let first = half g (goal.at.returns-in_err-pushed-clause-memory g c).In_ok-b in
-    (subst (λ (n : ℕ). 1 < n) c.of-workers.ensures (c.in_err-pushed.ensures.alone refl), ap (λ (v : StateView). half_stop Half1 v.world) (sym c.state.view_is) ∙ first.none)
+    let first = half g (goal.at.returns-in_err-pushed-clause-memory g c).In_ok-b in (
+      subst (λ (n : ℕ). 1 < n) c.of-workers.ensures (c.in_err-pushed.ensures.alone refl),
+      ap (λ (v : StateView). half_stop Half1 v.world) (sym c.state.view_is) ∙ first.none,
+    )
 
 pub returns-in_err-b-2-clause-memory : goal.returns-in_err-b-2-clause-memory
 returns-in_err-b-2-clause-memory g c wanted = absurd (wants_none _ _ c.from_residual-in_err-b-2.ensures.1 wanted)
