@@ -1,5 +1,5 @@
 -- The header of a dump, field by field: this project's profile.
-use Rattle.std.specs.Prelude.{◌≡◌, pos, negsuc, ℕ, ◌-◌, ◌+◌, ◌<◌, ◌≤◌, Bool, not, ◌&&◌, ◌==◌, nat_eq, nat_le, if◌then◌else◌}
+use Rattle.std.specs.Prelude.{◌≡◌, pos, negsuc, ℕ, ◌-◌, ◌+◌, ◌*◌, ◌<◌, ◌≤◌, Bool, not, ◌&&◌, ◌==◌, nat_eq, nat_le, if◌then◌else◌}
 use Rattle.std.specs.Prelude.{bytes_eq, List, [], ◌∷◌, length, drop, sum_by, slice_index_or, codes}
 use Rattle.std.specs.List.{list_all, list_any}
 use Rattle.pic_num.specs.declared.motion.Kind.{Kind}
@@ -92,6 +92,10 @@ header_at =
     >>= (λ every. scales_at
     >>= (λ scales. heads_at
     >>= (λ heads. done (record { cells = cells; side = side_1; steps = steps; every = every; scales = scales; species = heads })))))))
+
+-- how many bytes a header has
+abbrev pub header_length : HeaderView → ℕ
+header_length h = 64 + 60 * length h.species
 
 -- the bytes of the longest header
 abbrev pub header_most : ℕ
