@@ -1,2 +1,6 @@
-pub mod Waits
-pub mod DueLaws
+pub mod NextLaws
+pub mod TurnLaws
+pub mod ReadOnLaws
+pub mod FuelLaws
+pub mod ReadableDump
+pub mod SpellingLaws

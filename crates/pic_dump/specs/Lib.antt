@@ -1,6 +1,6 @@
-pub mod Limits
-pub mod Header
-pub mod DumpText
-pub mod Queues
-pub mod Due
-pub mod DueInTurn
+pub mod Standing
+pub mod NextReads
+pub mod InTurn
+pub mod DumpRead
+pub mod Readable
+pub mod Spelling

@@ -1,10 +1,16 @@
-//! A law of the dump. It is the contract of a function that does nothing.
+//! Laws of a dump. Each is the contract of a function that does nothing.
 
-ghost use Rattle.pic_dump.specs.DueInTurn.{FramesAreDueInTurn};
+ghost use Rattle.pic_dump.specs.Readable.{DumpsAreRead};
+ghost use Rattle.pic_dump.specs.Spelling.{DumpsAreSpelled};
 
-/// The frames that a reader awaits, one after another, are those that a run puts: the first is that
-/// of step 0, each next one that of the first step behind at which a frame is due, and the last that
-/// of the last step.
-pub fn frames_are_due_in_turn()
-    ensures { FramesAreDueInTurn }
+/// The bytes of a dump are read as what was put: its header, its frames in their order, and its end
+/// record. The header is within its limits, each frame too, with the step that is due in its turn, and
+/// the end record fits behind the last of them.
+pub fn dumps_are_read()
+    ensures { DumpsAreRead }
+{}
+
+/// A dump has one spelling: bytes that are read up to an end record are the text of what was read.
+pub fn dumps_have_one_spelling()
+    ensures { DumpsAreSpelled }
 {}

@@ -1,19 +1,18 @@
-//! The dump of a run: its header, its frames, its end record.
+//! The dump of a run: its header, its frames and its end record, put into a sink, or read over any
+//! source up to its end or its first fault.
 #![tactic(auto)]
 
-mod ending;
-mod frame_buffer;
-mod framing;
-mod head;
-mod header;
-mod heading;
-mod keeping;
+mod dump_reader;
 mod laws;
 
-pub use ending::put_end;
-pub use framing::put_frame;
-pub use head::{Head, Heads};
-pub use header::Header;
-pub use heading::put_header;
-pub use keeping::{keep_kind, keep_scales};
-pub use laws::frames_are_due_in_turn;
+pub use dump_reader::{DumpReader, Next};
+pub use laws::{dumps_are_read, dumps_have_one_spelling};
+pub use pic_fields::ReadStop;
+pub use pic_header::{
+    Head, HeadStop, Header, Heads, headers_are_read, headers_have_one_spelling, keep_kind,
+    keep_scales, put_header,
+};
+pub use pic_record::{
+    ends_are_read, frames_are_due_in_turn, frames_are_read, frames_read_are_readable, put_end,
+    put_frame, records_have_one_spelling,
+};

@@ -6,6 +6,8 @@ pub mod EndLaws
 pub mod Spells
 pub mod SpellLaws
 pub mod NumberLaws
+pub mod FitLaws
+pub mod GiveLaws
 pub mod LengthLaws
 pub mod PieceLaws
 pub mod BehindLaws

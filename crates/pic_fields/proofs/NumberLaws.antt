@@ -1,5 +1,5 @@
 -- The spellings of numbers.
-use Rattle.std.proofs.Common.{◌≡◌, ℕ, zero, suc, ◌+◌, ◌-◌, ◌*◌, ◌/◌, ◌%◌, ◌^◌, ◌<◌, ◌≤◌, Bool, true, List, [], ◌∷◌, ◌++◌, length, get_or, take, refl, sym, ap, subst, ◌∙◌, arith, append-nil, add-one, to_z, of_z}
+use Rattle.std.proofs.Common.{◌≡◌, ℕ, ℤ, zero, suc, ◌+◌, ◌-◌, ◌*◌, ◌/◌, ◌%◌, ◌^◌, ◌<◌, ◌≤◌, Bool, true, List, [], ◌∷◌, ◌++◌, length, get_or, take, refl, sym, ap, subst, ◌∙◌, arith, append-nil, add-one, to_z, of_z}
 use Rattle.std.specs.Prelude.{nat_eq}
 use Rattle.std.specs.List.{flat_map}
 use Rattle.std.proofs.Math.Seq.{take-length}
@@ -14,7 +14,8 @@ use Rattle.byteorder.specs.Numbers.{big_from-cons, big_from-lt, big_number-reads
 use mir.Val.{SFits}
 use Rattle.pic_num.specs.Bytes.{u32_bytes, i32_bytes, u128_bytes, i128_bytes}
 use Rattle.pic_fields.specs.Parser.{mapped, field}
-use Rattle.pic_fields.specs.Number.{byte_of, u32_of, i32_of, u128_of, i128_of, byte_at, u32_at, i32_at, u128_at, i128_at, is_from_to, within, letter, exactly}
+use Rattle.pic_fields.specs.Number.{byte_of, u32_of, i32_of, u128_of, i128_of, byte_at, u32_at, i32_at, u128_at, i128_at, is_from_to, within, is_between, between}
+use Rattle.pic_fields.specs.Number.{letter, exactly}
 use Rattle.pic_fields.specs.Bytes.{IsBytes}
 use Rattle.pic_fields.proofs.Spells.{Spells}
 use Rattle.pic_fields.proofs.SpellLaws.{IsField, FitsEach, spells_field, spells_mapped, spells_checked, spells_so, spells_each, fits_each}
@@ -158,6 +159,14 @@ FitsU32 test n = (n < 2 ^ 32) × (test n ≡ true)
 pub spells_within : (cause low high : ℕ) → Spells (within cause low high) u32_bytes (FitsU32 (is_from_to low high))
 unfolding within
 spells_within cause low high = spells_checked cause (is_from_to low high) spells_u32
+
+-- a signed number that passes a test
+abbrev pub FitsI32 : (ℤ → Bool) → ℤ → Type 0
+FitsI32 test z = SFits w32 z × (test z ≡ true)
+
+pub spells_between : (cause : ℕ) (low high : ℤ) → Spells (between cause low high) i32_bytes (FitsI32 (is_between low high))
+unfolding between
+spells_between cause low high = spells_checked cause (is_between low high) spells_i32
 
 -- a text
 letters_are : (xs : List ℕ) → flat_map one_byte xs ≡ xs

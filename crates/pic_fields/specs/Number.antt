@@ -1,5 +1,5 @@
 -- Fields that are numbers, big-endian, signed ones in two's complement.
-use Rattle.std.specs.Prelude.{ℤ, ℕ, Bool, ◌&&◌, nat_eq, nat_le, List, length, get_or}
+use Rattle.std.specs.Prelude.{ℤ, ℕ, Bool, ◌&&◌, nat_eq, nat_le, int_le, List, length, get_or}
 use Rattle.std.specs.Int.{w32, w128, from_be_bytes, cast_signed}
 use Rattle.pic_fields.specs.Parser.{Parser, field, mapped, checked, each}
 
@@ -39,6 +39,13 @@ is_from_to low high n = nat_le low n && nat_le n high
 
 unfoldable pub within : ℕ → ℕ → ℕ → Parser ℕ
 within cause low high = checked cause (is_from_to low high) u32_at
+
+-- a signed number from low to high
+abbrev pub is_between : ℤ → ℤ → ℤ → Bool
+is_between low high z = int_le low z && int_le z high
+
+unfoldable pub between : ℕ → ℤ → ℤ → Parser ℤ
+between cause low high = checked cause (is_between low high) i32_at
 
 -- the next byte of a text
 unfoldable pub letter : ℕ → List ℕ → List ℕ → Parser ℕ

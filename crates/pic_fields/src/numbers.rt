@@ -1,9 +1,9 @@
 //! Fields that are numbers.
 
-ghost use Rattle.std.specs.Prelude.{◌≡◌, ◌+◌, ◌<◌, ◌≤◌, ◌^◌, nat_eq, length, IfOk};
+ghost use Rattle.std.specs.Prelude.{◌≡◌, ◌+◌, ◌<◌, ◌≤◌, ◌^◌, nat_eq, ◌≤ℤ◌, length, IfOk};
 ghost use Rattle.pic_fields.specs.Causes.{cause_number};
 ghost use Rattle.pic_fields.specs.Parser.{checked};
-ghost use Rattle.pic_fields.specs.Number.{byte_at, u32_at, i32_at, u128_at, i128_at, is_from_to, within, exactly};
+ghost use Rattle.pic_fields.specs.Number.{byte_at, u32_at, i32_at, u128_at, i128_at, is_from_to, within, is_between, between, exactly};
 ghost use Rattle.pic_fields.specs.Reads.{Reads, always, as_it_is};
 
 use crate::cause::Cause;
@@ -92,6 +92,33 @@ pub fn is_from_to(low: u32, high: u32, n: u32) -> bool
     ensures { result ≡ is_from_to low high n }
 {
     low <= n && n <= high
+}
+
+/// Reads a signed number from `low` to `high`; another is a fault of this cause.
+pub fn read_between<S: Source>(
+    source: &mut S,
+    place: u64,
+    cause: Cause,
+    low: i32,
+    high: i32,
+) -> Result<i32, ReadStop>
+    requires { place + 4 < 2 ^ 63 }
+    ensures reads { Reads as_it_is (between (cause_number cause) low high) place (place + 4) (S.told source.old)
+        (S.told source.new) result }
+    ensures low { IfOk result (λ n. low ≤ℤ n) }
+    ensures high { IfOk result (λ n. n ≤ℤ high) }
+{
+    let n = read_i32(source, place)?;
+    if !is_between(low, high, n) {
+        return Err(cause.at(place));
+    }
+    Ok(n)
+}
+
+fn is_between(low: i32, high: i32, z: i32) -> bool
+    ensures { result ≡ is_between low high z }
+{
+    low <= z && z <= high
 }
 
 /// Reads a text, byte by byte; the first byte that is another is a fault of this cause.

@@ -3,9 +3,9 @@
 ghost use Rattle.std.specs.Prelude.{◌≤◌};
 
 use crate::trial::dump;
+use pic_dump::{DumpReader, HeadStop, Next};
 use pic_grid::EndMark;
 use pic_io::{MemSource, Source};
-use pic_reader::{DumpReader, HeadStop, Next};
 use std::alloc::Global;
 use std::test::Fail;
 

@@ -1,9 +1,9 @@
 //! Tests of the printed texts of errors: the words of the report, where it has a line for them.
 
 use pic_charge::Break;
+use pic_dump::HeadStop;
 use pic_fields::ReadStop;
 use pic_num::NoMemory;
-use pic_reader::HeadStop;
 use pic_verify::VerifyStop;
 use std::test::Fail;
 

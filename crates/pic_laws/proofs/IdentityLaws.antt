@@ -3,7 +3,7 @@ use Rattle.std.proofs.Common.{◌≡◌, ℕ, zero, suc, ◌+◌, ◌-◌, ◌<�
 use Rattle.std.specs.Prelude.{sum}
 use Rattle.std.proofs.lemmas.Bool.{cases_lt, lt-ltb, le-ltb}
 use Rattle.std.proofs.lemmas.List.Sums.{sum_by-cons}
-use Rattle.pic_reader.specs.Layout.{species_of}
+use Rattle.pic_record.specs.Layout.{species_of}
 use Rattle.pic_laws.specs.SpeciesOfIdentity.{IsIdentityOf, EachIdentityHasOneSpecies}
 
 sum-cons : (count : ℕ) (counts : List ℕ) → sum (count ∷ counts) ≡ count + sum counts

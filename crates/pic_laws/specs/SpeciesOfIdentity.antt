@@ -1,6 +1,6 @@
 -- The species of a particle of a dump by its identity, with no walk along the species.
 use Rattle.std.specs.Prelude.{◌≡◌, ◌↔◌, ℕ, suc, ◌<◌, ◌≤◌, List, length, take, sum}
-use Rattle.pic_reader.specs.Layout.{species_of}
+use Rattle.pic_record.specs.Layout.{species_of}
 
 -- by the numbers of particles of the species, an identity is one of a species: it is at least the
 -- number of the particles of the earlier ones, and below that of theirs and of its own together

@@ -16,7 +16,7 @@ use Rattle.pic_grid.specs.declared.stop.Stop.{Stop}
 use Rattle.pic_step.specs.SerialStep.{World, stepped}
 use Rattle.pic_step.specs.SerialRun.{after, step_from, stopped_in}
 use Rattle.pic_step.proofs.AfterLaws.{after_plus, step_after, after_stays}
-use Rattle.pic_dump.specs.Due.{is_due}
+use Rattle.pic_record.specs.Due.{is_due}
 use Rattle.pic_run.specs.declared.ended.Ended.TheVariants as ended
 use Rattle.pic_run.specs.declared.output.Output.{Output}
 use Rattle.pic_run.specs.Frames.{frame_piece, due_state, due_states, frames_of, end_where, end_of_run, DueStatesJoin, EndsJoin}

@@ -12,8 +12,9 @@ use Rattle.pic_grid.specs.declared.stop.EndMark.{EndMark}
 use Rattle.pic_grid.specs.declared.stop.EndMark.TheVariants.{Done, Stopped}
 use Rattle.pic_grid.specs.Lattice.{Field}
 use Rattle.pic_energy.specs.declared.amounts.Energies.{Energies}
-use Rattle.pic_dump.specs.Header.{HeaderView}
-use Rattle.pic_dump.specs.DumpText.{header_bytes, front_bytes, frame_bytes, start_bytes, end_bytes, done_bytes, field_stop_bytes, push_stop_bytes}
+use Rattle.pic_header.specs.Header.{HeaderView}
+use Rattle.pic_header.specs.HeaderText.{header_bytes, front_bytes}
+use Rattle.pic_record.specs.RecordText.{frame_bytes, start_bytes, end_bytes, done_bytes, field_stop_bytes, push_stop_bytes}
 use Rattle.pic_run.specs.declared.cut.Cut.{Cut}
 use Rattle.pic_run.specs.declared.cut.Cut.TheVariants.{Write, NoMemory}
 use Rattle.pic_run.specs.declared.ended.Ended.{Ended}

@@ -26,7 +26,7 @@ use Rattle.pic_charge.specs.Charge.{charge_of}
 use Rattle.pic_charge.proofs.BreakLaws.{meets_gauss}
 use Rattle.pic_field.specs.FieldPhases.{IsBounded}
 use Rattle.pic_energy.specs.declared.amounts.Energies.{Energies}
-use Rattle.pic_dump.specs.DumpText.{frame_bytes}
+use Rattle.pic_record.specs.RecordText.{frame_bytes}
 use Rattle.pic_deck.specs.declared.species.Species.{Species}
 use Rattle.pic_deck.specs.Deck.{DeckView, IsWithinLimits, heads_of, initial_e, initial_b}
 use Rattle.pic_deck.specs.Species.{head_of, no_species, fastest}

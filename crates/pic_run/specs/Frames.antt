@@ -7,8 +7,8 @@ use Rattle.pic_grid.specs.declared.stop.EndMark.TheVariants.{Done}
 use Rattle.pic_energy.specs.declared.amounts.Energies.{Energies}
 use Rattle.pic_energy.specs.Energies.{energies_of}
 use Rattle.pic_energy.specs.Line.{frame_line, end_line}
-use Rattle.pic_dump.specs.DumpText.{frame_bytes, end_bytes}
-use Rattle.pic_dump.specs.Due.{is_due}
+use Rattle.pic_record.specs.RecordText.{frame_bytes, end_bytes}
+use Rattle.pic_record.specs.Due.{is_due}
 use Rattle.pic_step.specs.SerialStep.{World, e_of, b_of}
 use Rattle.pic_step.specs.SerialRun.{after}
 use Rattle.pic_run.specs.declared.output.Output.{Output}

@@ -9,8 +9,8 @@ use Rattle.pic_charge.specs.declared.breaks.Break.{Break}
 use Rattle.pic_deck.specs.Deck.{DeckView}
 use Rattle.pic_deck.specs.Reading.{walk}
 use Rattle.pic_demo.specs.Demo.{demo_deck}
-use Rattle.pic_dump.specs.DumpText.{header_bytes}
-use Rattle.pic_dump.specs.Header.{HeaderView}
+use Rattle.pic_header.specs.HeaderText.{header_bytes}
+use Rattle.pic_header.specs.Header.{HeaderView}
 use Rattle.pic_load.specs.Loading.{loaded}
 use Rattle.pic_step.specs.SerialStep.{World}
 use Rattle.pic_verify.specs.declared.verify_stop.VerifyStop.TheVariants as verify_stop

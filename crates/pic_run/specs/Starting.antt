@@ -7,7 +7,7 @@ use Rattle.pic_charge.specs.Charge.{charge_of}
 use Rattle.pic_charge.specs.Gauss.{first_break, MeetsGauss}
 use Rattle.pic_deck.specs.Deck.{DeckView, heads_of}
 use Rattle.pic_load.specs.Loading.{loaded}
-use Rattle.pic_dump.specs.Header.{HeaderView}
+use Rattle.pic_header.specs.Header.{HeaderView}
 use Rattle.pic_step.specs.SerialStep.{World, e_of}
 use Rattle.pic_step.specs.SerialRun.{start_of, after}
 use Rattle.pic_step.specs.Sound.{IsSound}

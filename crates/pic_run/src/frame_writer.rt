@@ -3,7 +3,7 @@
 ghost use Rattle.std.specs.Prelude.{◌≡◌, ◌≤◌, [], ◌∷◌, map, Ok};
 ghost use Rattle.pic_io.specs.Sinks.{sinks, Writes};
 ghost use Rattle.pic_step.specs.Sound.{IsSound};
-ghost use Rattle.pic_dump.specs.Due.{is_due};
+ghost use Rattle.pic_record.specs.Due.{is_due};
 ghost use Rattle.pic_run.specs.Frames.{frame_piece, due_state, energies_in, end_piece};
 ghost use Rattle.pic_run.specs.Rooms.{HasShape, HoldsState};
 

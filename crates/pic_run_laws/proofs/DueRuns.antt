@@ -6,14 +6,14 @@ use Rattle.pic_num.specs.Limits.{most_steps}
 use Rattle.pic_grid.specs.declared.stop.EndMark.{EndMark}
 use Rattle.pic_grid.specs.declared.stop.EndMark.TheVariants.{Stopped}
 use Rattle.pic_grid.specs.declared.stop.Stop.{Stop}
-use Rattle.pic_dump.specs.Due.{is_due}
-use Rattle.pic_reader.specs.Layout.{LayoutView}
+use Rattle.pic_record.specs.Due.{is_due}
+use Rattle.pic_record.specs.Layout.{LayoutView}
 use Rattle.pic_run.specs.Frames.{due_state, due_states}
 use Rattle.pic_run.proofs.FrameLaws.{due_now}
 use Rattle.pic_step.specs.SerialStep.{World, stepped}
 use Rattle.pic_step.specs.SerialRun.{after, step_from, stopped_in}
 use Rattle.pic_step.proofs.AfterLaws.{step_after}
-use Rattle.pic_verify.specs.Readable.{IsReadableStop}
+use Rattle.pic_record.specs.Readable.{IsReadableStop}
 use Rattle.pic_run_laws.proofs.StateFits.{IsGoodState, StopsFit, good_after}
 
 module _ (steps every : ℕ) (w : World) (begins : w.step ≡ 0)

@@ -23,11 +23,11 @@ use Rattle.pic_grid.specs.Lattice.{value_at}
 use Rattle.pic_grid.specs.Parts.{origin}
 use Rattle.pic_grid.proofs.CellLaws.{place_within}
 use Rattle.pic_field.specs.FieldPhases.{half_of, full_of, fault_of, least_fault}
-use Rattle.pic_reader.specs.Layout.{LayoutView}
+use Rattle.pic_record.specs.Layout.{LayoutView}
 use Rattle.pic_step.specs.SerialStep.{World, e_of, b_of, half_at, full_at}
 use Rattle.pic_step.specs.Sound.{IsSafe}
 use Rattle.pic_step.proofs.OnePartLaws.{above_origin}
-use Rattle.pic_verify.specs.Readable.{IsReadableStop}
+use Rattle.pic_record.specs.Readable.{IsReadableStop}
 use Rattle.pic_run_laws.proofs.ScaledSizes.{scaled_size}
 
 -- the next cell up or down is one of the grid's

@@ -1,5 +1,5 @@
--- The frame of a good state is a good frame.
-use Rattle.std.proofs.Common.{◌≡◌, ℕ, suc, pos, ◌*◌, ◌/◌, ◌%◌, ◌<◌, List, [], ◌∷◌, ◌++◌, length, get_or, map, All, Some, refl, sym, ap, ◌∙◌, subst, arith}
+-- The frame of a good state can be read, and meets Gauss's law.
+use Rattle.std.proofs.Common.{◌≡◌, ℕ, suc, pos, ◌*◌, ◌/◌, ◌%◌, ◌<◌, List, [], ◌∷◌, ◌++◌, length, get_or, map, All, refl, sym, ap, ◌∙◌, subst, arith}
 use Rattle.std.specs.List.{flat_map, range_with_len}
 use Rattle.std.proofs.lemmas.List.Elements.{All-from_get_or}
 use Rattle.pic_io.specs.Sinks.{outs}
@@ -15,18 +15,17 @@ use Rattle.pic_grid.specs.Lattice.{Field}
 use Rattle.pic_grid.proofs.CellLaws.{place_of-number, place_within}
 use Rattle.pic_charge.specs.Gauss.{MeetsGauss}
 use Rattle.pic_energy.specs.Energies.{energies_of}
-use Rattle.pic_dump.specs.Due.{due_after}
-use Rattle.pic_dump.specs.DumpText.{frame_bytes}
-use Rattle.pic_reader.specs.FrameFields.{IsModerate, field_with}
-use Rattle.pic_reader.specs.Layout.{LayoutView}
-use Rattle.pic_reader.specs.Records.{AFrame}
-use Rattle.pic_reader.specs.Spelling.{record_bytes}
+use Rattle.pic_record.specs.RecordText.{frame_bytes}
+use Rattle.pic_record.specs.FrameFields.{IsModerate, field_with}
+use Rattle.pic_record.specs.Layout.{LayoutView}
+use Rattle.pic_record.specs.Records.{AFrame}
+use Rattle.pic_record.specs.Spelling.{record_bytes}
 use Rattle.pic_run.specs.declared.output.Output.TheVariants.{Dump}
 use Rattle.pic_run.specs.Frames.{energies_in, frame_piece}
 use Rattle.pic_step.specs.SerialStep.{World, e_of, b_of}
 use Rattle.pic_step.specs.Sound.{IsSafe}
-use Rattle.pic_verify.specs.Meaning.{step_before}
-use Rattle.pic_verify.specs.Readable.{IsReadableField, IsReadableParticle, IsReadableFrame, IsGoodFrame}
+use Rattle.pic_record.specs.Readable.{IsReadableField, IsReadableParticle, IsReadableFrame}
+use Rattle.pic_verify.specs.Verified.{ObeysGauss}
 use Rattle.pic_run_laws.specs.FrameStates.{frame_in}
 use Rattle.pic_run_laws.proofs.StateFits.{IsOfLayout, IsGoodState}
 
@@ -80,19 +79,14 @@ readable_frame l w good =
       energies = λ i. energies_of (of.scales i) (of.kinds i) (sym (e_is l w of) i) (sym (b_is l w of) i) w.particles;
     }
 
--- the frame of a state, where it is due
-pub good_frame : (l : LayoutView) (k : ℕ) (w : World) → due_after l.steps l.every (step_before l k) ≡ Some w.step → IsGoodState l w
-    → IsGoodFrame l k (frame_in w)
-good_frame l k w due good =
+-- it meets Gauss's law
+pub obeys_gauss : (l : LayoutView) (w : World) → IsGoodState l w → ObeysGauss l (frame_in w)
+obeys_gauss l w good =
     let of = good.of in
-    record {
-      due = due;
-      fits = readable_frame l w good;
-      gauss = subst (λ (s : ℕ). MeetsGauss s l.cells l.kinds w.particles (field_with l w.e)) of.side
-          (subst (λ (n : Triple). MeetsGauss w.side n l.kinds w.particles (field_with l w.e)) of.cells
-          (subst (λ (ks : List Kind). MeetsGauss w.side w.cells ks w.particles (field_with l w.e)) of.kinds
-          (subst (λ (f : Field). MeetsGauss w.side w.cells w.kinds w.particles f) (sym (e_is l w of)) good.sound.gauss)));
-    }
+    subst (λ (s : ℕ). MeetsGauss s l.cells l.kinds w.particles (field_with l w.e)) of.side
+    (subst (λ (n : Triple). MeetsGauss w.side n l.kinds w.particles (field_with l w.e)) of.cells
+    (subst (λ (ks : List Kind). MeetsGauss w.side w.cells ks w.particles (field_with l w.e)) of.kinds
+    (subst (λ (f : Field). MeetsGauss w.side w.cells w.kinds w.particles f) (sym (e_is l w of)) good.sound.gauss)))
 
 -- its text is what the run puts of the state
 frame_text : (l : LayoutView) (w : World) → IsOfLayout l w → (frame_piece Dump w).out ≡ record_bytes l (AFrame (frame_in w))

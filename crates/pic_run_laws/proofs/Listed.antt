@@ -1,7 +1,7 @@
 -- A particle as a dump lists it.
 use Rattle.std.proofs.Common.{◌≡◌, ℕ, List, length}
 use Rattle.pic_num.specs.declared.motion.Particle.{Particle}
-use Rattle.pic_reader.specs.Layout.{species_of}
+use Rattle.pic_record.specs.Layout.{species_of}
 
 -- a particle of a dump: three numbers of its position and of its velocity, and the species of its identity
 pub record IsListed (counts : List ℕ) (particle : Particle) : Type 0 where

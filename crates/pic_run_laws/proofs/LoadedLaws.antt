@@ -27,7 +27,7 @@ use Rattle.pic_load.specs.Loading.{no_particle, loaded_particle, point_in, site,
 use Rattle.pic_load.specs.Drawing.{drawn_place, drawn_velocity}
 use Rattle.pic_load.specs.Generator.{generator, after}
 use Rattle.pic_load.proofs.LoadLaws.{within_earlier, species_more, count_more, length-particles_in, identities_more}
-use Rattle.pic_reader.specs.Layout.{species_of}
+use Rattle.pic_record.specs.Layout.{species_of}
 use Rattle.pic_run_laws.specs.KeptDecks.{IsSixfold, IsByThrees, IsKeptDeck}
 use Rattle.pic_run_laws.proofs.Listed.{IsListed}
 use Rattle.pic_load.proofs.DrawnSizes.{drawn_in_box, drawn_slow}

@@ -31,10 +31,10 @@ use Rattle.pic_load.specs.Loading.{no_particle}
 use Rattle.pic_boris.proofs.MoveLaws.{kept_sizes}
 use Rattle.pic_boris.proofs.TurnLaws.{more_at_most}
 use Rattle.pic_push.proofs.PushLaws.{none_above}
-use Rattle.pic_dump.specs.Header.{HasMultipliers}
-use Rattle.pic_reader.specs.EndFields.{what_limit}
-use Rattle.pic_reader.specs.Layout.{LayoutView}
-use Rattle.pic_verify.specs.Readable.{IsPast, IsReadableStop}
+use Rattle.pic_header.specs.Header.{HasMultipliers}
+use Rattle.pic_record.specs.EndFields.{what_limit}
+use Rattle.pic_record.specs.Layout.{LayoutView}
+use Rattle.pic_record.specs.Readable.{IsPast, IsReadableStop}
 use Rattle.pic_run_laws.proofs.PushSizes.{gathered_e_size, gathered_b_size, kick_size, plus_size, turned_size, move_size}
 
 -- the first of two, or the second where there is no first

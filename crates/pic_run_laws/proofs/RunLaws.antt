@@ -1,25 +1,29 @@
--- The dump of a run is a readable one, of the frames of its due states; so it is verified.
+-- The dump of a run is a readable one, of the frames of its due states; so it is read, and verified.
 use Rattle.std.proofs.Common.{◌≡◌, ℕ, zero, suc, ◌+◌, ◌-◌, ◌<◌, IsTrue, List, ◌∷◌, ◌++◌, length, get_or, map, Some, Ok, sym, ap, ◌∙◌, subst, arith}
 use Rattle.std.proofs.lemmas.List.{get_or-map, length-map}
-use Rattle.pic_dump.specs.Due.{is_due}
-use Rattle.pic_dump.specs.DumpText.{header_bytes, end_bytes}
-use Rattle.pic_dump.specs.Header.{HeaderView, IsHeader}
-use Rattle.pic_dump.proofs.DueLaws.{due_in_turn}
-use Rattle.pic_reader.specs.FrameFields.{FrameView}
-use Rattle.pic_reader.specs.Layout.{layout_of}
+use Rattle.pic_record.specs.Due.{is_due}
+use Rattle.pic_header.specs.HeaderText.{header_bytes}
+use Rattle.pic_record.specs.RecordText.{end_bytes}
+use Rattle.pic_header.specs.Header.{HeaderView, IsHeader}
+use Rattle.pic_record.proofs.DueLaws.{due_in_turn}
+use Rattle.pic_record.specs.FrameFields.{FrameView}
+use Rattle.pic_record.specs.Layout.{layout_of}
 use Rattle.pic_run.specs.declared.output.Output.TheVariants.{Dump}
 use Rattle.pic_run.specs.Frames.{frame_piece, due_states, end_of_run}
 use Rattle.pic_run.specs.Outcome.{out_text, dump_outcome}
 use Rattle.pic_run.proofs.FrameLaws.{after_none, states_first}
 use Rattle.pic_step.specs.SerialStep.{World}
 use Rattle.pic_step.specs.SerialRun.{after}
-use Rattle.pic_verify.specs.Meaning.{due_step}
-use Rattle.pic_verify.specs.Readable.{IsGoodFrame, IsReadableEnd, IsReadableDump, dump_bytes}
-use Rattle.pic_verify.specs.Verified.{verified}
+use Rattle.pic_dump.specs.InTurn.{due_step}
+use Rattle.pic_record.specs.Readable.{IsReadableEnd}
+use Rattle.pic_dump.specs.Readable.{dump_bytes, IsDueFrame, IsReadableDump}
+use Rattle.pic_dump.specs.DumpRead.{read_dump}
+use Rattle.pic_dump.proofs.ReadableDump.{dumps_are_read}
+use Rattle.pic_verify.specs.Verified.{ObeysGauss, verified}
 use Rattle.pic_verify.proofs.ReadableDump.{dumps_are_verified}
 use Rattle.pic_run_laws.specs.FrameStates.{frame_in}
 use Rattle.pic_run_laws.proofs.StateFits.{IsGoodState, StopsFit}
-use Rattle.pic_run_laws.proofs.GoodFrames.{good_frame, frames_text}
+use Rattle.pic_run_laws.proofs.GoodFrames.{readable_frame, obeys_gauss, frames_text}
 use Rattle.pic_run_laws.proofs.TurnsLaws.{IsTurn, Goes, goes}
 
 module _ (h : HeaderView) (header : IsHeader h) (w : World) (begins : w.step ≡ 0) (fit : StopsFit (layout_of h)) (start : IsGoodState (layout_of h) w)
@@ -54,12 +58,12 @@ module _ (h : HeaderView) (header : IsHeader h) (w : World) (begins : w.step ≡
     each_turn : (k : ℕ) (d : World) → k < length states → IsTurn (layout_of h) k (get_or states k d)
     each_turn = subst (λ (vs : List World). (k : ℕ) (d : World) → k < length vs → IsTurn (layout_of h) k (get_or vs k d)) (sym states_are) in_turn
 
-    good : (k : ℕ) (d : FrameView) → k < length (map frame_in states) → IsGoodFrame (layout_of h) k (get_or (map frame_in states) k d)
-    good k d below =
+    -- each frame is that of the state with its number
+    framed : (P : ℕ → FrameView → Type 0) → ((k : ℕ) (v : World) → IsTurn (layout_of h) k v → P k (frame_in v))
+        → (k : ℕ) (d : FrameView) → k < length (map frame_in states) → P k (get_or (map frame_in states) k d)
+    framed P each k d below =
         let inside : k < length states = omega (arith, below, length-map states frame_in) in
-        let turn = each_turn k w inside in
-        subst (IsGoodFrame (layout_of h) k) (sym (get_or-map frame_in states k w d inside))
-        (good_frame (layout_of h) k (get_or states k w) turn.awaited turn.good)
+        subst (P k) (sym (get_or-map frame_in states k w d inside)) (each k (get_or states k w) (each_turn k w inside))
 
     readable : IsReadableDump h (map frame_in states) (end_of_run h.steps w)
     readable =
@@ -69,7 +73,7 @@ module _ (h : HeaderView) (header : IsHeader h) (w : World) (begins : w.step ≡
           header = header;
           last = last;
           count = length-map states frame_in ∙ ap length states_are;
-          good = good;
+          in_turn = framed (IsDueFrame (layout_of h)) (λ k v turn. record { due = turn.awaited; fits = readable_frame (layout_of h) v turn.good });
           end = subst (λ n. IsReadableEnd (layout_of h) (due_step (layout_of h) n) (end_of_run h.steps w)) same behind_first.end_fits;
         }
 
@@ -77,9 +81,15 @@ module _ (h : HeaderView) (header : IsHeader h) (w : World) (begins : w.step ≡
     pub text_is : out_text (dump_outcome h w) ≡ dump_bytes h (map frame_in states) (end_of_run h.steps w)
     text_is = ap (λ t. header_bytes h ++ t ++ end_bytes (end_of_run h.steps w)) (frames_text (layout_of h) states (λ k d below. (each_turn k d below).good))
 
-    -- the dump of the run
+    -- so it is read as them
+    pub run_read : read_dump (out_text (dump_outcome h w))
+        ≡ Ok (record { header = h; frames = map frame_in states; end = Ok (end_of_run h.steps w) })
+    run_read = ap read_dump text_is ∙ dumps_are_read h (map frame_in states) (end_of_run h.steps w) readable
+
+    -- and verified
     pub run_verified : verified (out_text (dump_outcome h w)) ≡ Ok (length (dump_outcome h w).frames)
     run_verified =
         ap verified text_is
         ∙ dumps_are_verified h (map frame_in states) (end_of_run h.steps w) readable
+        (framed (λ k f. ObeysGauss (layout_of h) f) (λ k v turn. obeys_gauss (layout_of h) v turn.good))
         ∙ ap (λ n. Ok n) (length-map states frame_in ∙ sym (length-map states (frame_piece Dump)))

@@ -4,11 +4,11 @@ use Rattle.std.proofs.lemmas.List.Elements.{All-map}
 use Rattle.pic_charge.specs.declared.breaks.Break.{Break}
 use Rattle.pic_grid.specs.Species.{HeadView}
 use Rattle.pic_deck.specs.Deck.{DeckView}
-use Rattle.pic_dump.specs.Header.{HasMultipliers}
+use Rattle.pic_header.specs.Header.{HasMultipliers}
 use Rattle.pic_line.specs.declared.asked.Command.{Command}
 use Rattle.pic_line.specs.declared.asked.Command.TheVariants.{Verify}
 use Rattle.pic_line.specs.CommandLine.{command_of}
-use Rattle.pic_reader.specs.Layout.{layout_of}
+use Rattle.pic_record.specs.Layout.{layout_of}
 use Rattle.pic_run.specs.declared.ended.Ended.TheVariants.{Verified}
 use Rattle.pic_run.specs.DeckEnd.{DeckEnd, Unread, Unfit, Unmet, Staged, ◌>>=◌, ended_at}
 use Rattle.pic_run.specs.Reading.{Given, Held}
@@ -18,18 +18,25 @@ use Rattle.pic_run.specs.Starting.{header_of, first_state, state_break}
 use Rattle.pic_verify.specs.Verified.{Verdict, verified}
 use Rattle.pic_run_laws.specs.FrameStates.{FramesGiveStates}
 use Rattle.pic_run_laws.specs.KeptDecks.{IsKeptDeck}
+use Rattle.pic_run_laws.specs.RunsAreRead.{RunsAreRead}
 use Rattle.pic_run_laws.specs.RunsAreVerified.{RunsAreVerified, IsOfRun, RunsAreFoundGood}
-use Rattle.pic_run_laws.proofs.RunLaws.{run_verified}
+use Rattle.pic_run_laws.proofs.RunLaws.{run_read, run_verified}
 use Rattle.pic_run_laws.proofs.StartLaws.{header_kept, start_good}
-use Rattle.pic_run_laws.proofs.StateFits.{of_after, stands}
+use Rattle.pic_run_laws.proofs.StateFits.{StopsFit, of_after, stands}
 use Rattle.pic_run_laws.proofs.StepStops.{stops_fit}
 
-pub runs_are_verified : RunsAreVerified
-runs_are_verified d kept passes =
+-- what stops a step of a kept deck's run can be said in its dump
+fit_of : (d : DeckView) → IsKeptDeck d → StopsFit (layout_of (header_of d))
+fit_of d kept =
     let h = header_of d in
     let header = header_kept d kept in
-    let kinds = All-map HasMultipliers (λ (s : HeadView). s.kind) h.species header.kinds in
-    run_verified h header (first_state d) refl (stops_fit (layout_of h) header.scales kinds) (start_good d kept passes)
+    stops_fit (layout_of h) header.scales (All-map HasMultipliers (λ (s : HeadView). s.kind) h.species header.kinds)
+
+pub runs_are_read : RunsAreRead
+runs_are_read d kept passes = run_read (header_of d) (header_kept d kept) (first_state d) refl (fit_of d kept) (start_good d kept passes)
+
+pub runs_are_verified : RunsAreVerified
+runs_are_verified d kept passes = run_verified (header_of d) (header_kept d kept) (first_state d) refl (fit_of d kept) (start_good d kept passes)
 
 pub frames_give_states : FramesGiveStates
 frames_give_states d n v kept passes reached =

@@ -12,9 +12,9 @@ use Rattle.pic_deck.specs.declared.species.Species.{Species}
 use Rattle.pic_deck.specs.Deck.{DeckView, heads_of, initial_e, initial_b}
 use Rattle.pic_deck.specs.Species.{head_of}
 use Rattle.pic_deck.proofs.HeadLaws.{particles_of-heads}
-use Rattle.pic_dump.specs.Header.{IsHeader, HasMultipliers}
+use Rattle.pic_header.specs.Header.{IsHeader, HasMultipliers}
 use Rattle.pic_load.specs.Loading.{loaded}
-use Rattle.pic_reader.specs.Layout.{layout_of}
+use Rattle.pic_record.specs.Layout.{layout_of}
 use Rattle.pic_run.specs.Outcome.{unless_gauss_fails, tested}
 use Rattle.pic_run.specs.Starting.{first_state, state_break, header_of}
 use Rattle.pic_run.proofs.StartLaws.{sound_start}

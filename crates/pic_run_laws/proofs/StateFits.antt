@@ -10,12 +10,12 @@ use Rattle.pic_grid.specs.Cells.{count_of}
 use Rattle.pic_grid.specs.PushPhase.{push_of, after_push, moved}
 use Rattle.pic_grid.proofs.LatticeLaws.{length-values_of}
 use Rattle.pic_push.proofs.PushLaws.{length-moved_all, all_kept}
-use Rattle.pic_reader.specs.Layout.{LayoutView}
+use Rattle.pic_record.specs.Layout.{LayoutView}
 use Rattle.pic_step.specs.SerialStep.{World, around, half_at, full_at, half_on, push_on, current_of, before_electric, next_world, stepped}
 use Rattle.pic_step.specs.SerialRun.{after}
 use Rattle.pic_step.specs.Sound.{IsSound}
 use Rattle.pic_step.proofs.AfterLaws.{after_keeps, after_sound_within}
-use Rattle.pic_verify.specs.Readable.{IsReadableStop}
+use Rattle.pic_record.specs.Readable.{IsReadableStop}
 use Rattle.pic_run_laws.specs.FrameStates.{frame_in, world_in}
 use Rattle.pic_run_laws.proofs.Listed.{IsListed}
 

@@ -7,12 +7,12 @@ use Rattle.pic_grid.specs.declared.stop.Phase.{Phase}
 use Rattle.pic_grid.specs.declared.stop.Phase.TheVariants.{Half1, Half2, Electric}
 use Rattle.pic_grid.specs.declared.stop.Stop.{Stop}
 use Rattle.pic_grid.specs.PushPhase.{push_stop}
-use Rattle.pic_dump.specs.Header.{AreMultipliers, HasMultipliers}
-use Rattle.pic_reader.specs.Layout.{LayoutView}
+use Rattle.pic_header.specs.Header.{AreMultipliers, HasMultipliers}
+use Rattle.pic_record.specs.Layout.{LayoutView}
 use Rattle.pic_step.specs.SerialStep.{World, e_of, b_of, around, half_at, full_at, half_on, push_on, current_of, before_electric, half_stop, full_stop, stop_of_step, stepped}
 use Rattle.pic_step.specs.Sound.{IsSafe}
 use Rattle.pic_step.proofs.SoundLaws.{safe_after}
-use Rattle.pic_verify.specs.Readable.{IsReadableStop}
+use Rattle.pic_record.specs.Readable.{IsReadableStop}
 use Rattle.pic_run_laws.proofs.StateFits.{IsGoodState, StopsFit}
 use Rattle.pic_run_laws.proofs.FieldStops.{half_size, full_size, phase_stop_fits}
 use Rattle.pic_run_laws.proofs.CurrentSizes.{current_size}

@@ -7,16 +7,16 @@ use Rattle.pic_num.specs.Limits.{most_steps}
 use Rattle.pic_grid.specs.declared.stop.EndMark.{EndMark}
 use Rattle.pic_grid.specs.declared.stop.EndMark.TheVariants.{Done, Stopped}
 use Rattle.pic_grid.specs.declared.stop.Stop.{Stop}
-use Rattle.pic_dump.specs.Due.{is_due, due_after}
-use Rattle.pic_dump.specs.DueInTurn.{IsNextDue}
-use Rattle.pic_dump.proofs.DueLaws.{due_in_turn}
-use Rattle.pic_reader.specs.Layout.{LayoutView}
+use Rattle.pic_record.specs.Due.{is_due, due_after}
+use Rattle.pic_record.specs.DueInTurn.{IsNextDue}
+use Rattle.pic_record.proofs.DueLaws.{due_in_turn}
+use Rattle.pic_record.specs.Layout.{LayoutView}
 use Rattle.pic_run.specs.Frames.{due_states, end_where, end_of_run}
 use Rattle.pic_run.proofs.FrameLaws.{none_due, end_stopped}
 use Rattle.pic_step.specs.SerialStep.{World}
 use Rattle.pic_step.specs.SerialRun.{after}
-use Rattle.pic_verify.specs.Meaning.{due_step, step_before}
-use Rattle.pic_verify.specs.Readable.{IsReadableStop, IsReadableEnd}
+use Rattle.pic_dump.specs.InTurn.{due_step, step_before}
+use Rattle.pic_record.specs.Readable.{IsReadableStop, IsReadableEnd}
 use Rattle.pic_run_laws.proofs.StateFits.{IsGoodState, StopsFit}
 use Rattle.pic_run_laws.proofs.DueRuns.{step_is, skipped, due_at, stops_in, good_at}
 

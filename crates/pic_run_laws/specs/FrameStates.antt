@@ -1,8 +1,8 @@
 -- The states that the frames of a dump are of.
 use Rattle.std.specs.Prelude.{◌≡◌, ℕ, Ok}
 use Rattle.pic_deck.specs.Deck.{DeckView}
-use Rattle.pic_reader.specs.FrameFields.{FrameView, frame_of}
-use Rattle.pic_reader.specs.Layout.{LayoutView, layout_of}
+use Rattle.pic_record.specs.FrameFields.{FrameView, frame_of}
+use Rattle.pic_record.specs.Layout.{LayoutView, layout_of}
 use Rattle.pic_step.specs.SerialStep.{World}
 use Rattle.pic_step.specs.SerialRun.{after}
 use Rattle.pic_run.specs.Frames.{energies_in}
@@ -30,5 +30,6 @@ world_in l f = record {
 -- each state of a deck's run is that of its frame
 abbrev pub FramesGiveStates : Type 0
 FramesGiveStates =
-    (d : DeckView) (n : ℕ) (v : World) → IsKeptDeck d → tested d ≡ Ok d → after (first_state d) n ≡ Ok v
+    (d : DeckView) (n : ℕ) (v : World) → IsKeptDeck d → tested d ≡ Ok d
+    → after (first_state d) n ≡ Ok v
     → world_in (layout_of (header_of d)) (frame_in v) ≡ v

@@ -1,6 +1,6 @@
 -- What the type of a deck keeps.
 use Rattle.std.specs.Prelude.{◌≡◌, length, All, ⊤}
-use Rattle.pic_dump.specs.Header.{AreMultipliers, HasMultipliers}
+use Rattle.pic_header.specs.Header.{AreMultipliers, HasMultipliers}
 use Rattle.pic_deck.specs.declared.species.Fill.{Fill}
 use Rattle.pic_deck.specs.declared.species.Fill.TheVariants.{Points, Lattice, Random, Pair}
 use Rattle.pic_deck.specs.Deck.{DeckView, IsWithinLimits}

@@ -3,7 +3,7 @@
 ghost use Rattle.std.specs.Prelude.{◌≡◌, Ok, All, length, OnOk};
 ghost use Rattle.pic_deck.specs.Deck.{DeckView};
 ghost use Rattle.pic_deck.specs.Reading.{walk};
-ghost use Rattle.pic_dump.specs.Header.{HasMultipliers};
+ghost use Rattle.pic_header.specs.Header.{HasMultipliers};
 ghost use Rattle.pic_run_laws.specs.KeptDecks.{IsSixfold, IsByThrees, IsKeptDeck};
 
 use pic_deck::{Deck, DeckFault, Fill, Point6, Species, read_deck};

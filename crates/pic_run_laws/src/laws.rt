@@ -2,7 +2,16 @@
 
 ghost use Rattle.pic_run_laws.specs.CutTexts.{CutBehindWholePieces, CutsLeaveFronts};
 ghost use Rattle.pic_run_laws.specs.FrameStates.{FramesGiveStates};
+ghost use Rattle.pic_run_laws.specs.RunsAreRead.{RunsAreRead};
 ghost use Rattle.pic_run_laws.specs.RunsAreVerified.{RunsAreVerified, RunsAreFoundGood};
+
+/// What `run` puts on `out` of a deck that its type keeps and that meets Gauss's law is read as the
+/// dump of this header, of the frames of the states that are due, and of the run's end, whether it comes
+/// to its last step or stops in one.
+#[tactic(auto, using(crate::proofs::RunsAreVerified::runs_are_read))]
+pub fn runs_are_read()
+    ensures { RunsAreRead }
+{}
 
 /// What `run` puts on `out` of a deck that its type keeps and that meets Gauss's law is a dump that
 /// is verified, with the number of frames that were put, whether the run comes to its last step or

@@ -4,11 +4,11 @@ use Rattle.std.specs.Prelude.{min}
 use Rattle.std.proofs.Math.Nat.{mul-le-mul_right}
 use Rattle.std.proofs.lemmas.Bool.{cases_lt, lt-ltb, le-ltb}
 use Rattle.std.proofs.lemmas.Nat.{le-div}
-use Rattle.pic_dump.specs.Due.{due_after}
-use Rattle.pic_dump.specs.Limits.{longest_end}
-use Rattle.pic_reader.specs.Layout.{LayoutView}
-use Rattle.pic_reader.specs.FrameFields.{frame_length}
-use Rattle.pic_reader.specs.NextReads.{most_of}
+use Rattle.pic_record.specs.Due.{due_after}
+use Rattle.pic_record.specs.Limits.{longest_end}
+use Rattle.pic_record.specs.Layout.{LayoutView}
+use Rattle.pic_record.specs.FrameFields.{frame_length}
+use Rattle.pic_dump.specs.NextReads.{most_of}
 use Rattle.pic_verify.specs.Allowed.{frames_due, records_length}
 
 -- k frames went by, the last of them in this step

@@ -12,8 +12,8 @@ use Rattle.pic_charge.specs.declared.breaks.Break.{Break}
 use Rattle.pic_charge.specs.Charge.{charge_of}
 use Rattle.pic_charge.specs.Gauss.{first_break}
 use Rattle.pic_charge.proofs.BreakLaws.{first_break-charge}
-use Rattle.pic_reader.specs.Layout.{LayoutView}
-use Rattle.pic_reader.specs.FrameFields.{IsHeld, field_with}
+use Rattle.pic_record.specs.Layout.{LayoutView}
+use Rattle.pic_record.specs.FrameFields.{IsHeld, field_with}
 use Rattle.pic_verify.specs.Verified.{break_of}
 
 -- every particle of a frame has a share of the charge

@@ -2,14 +2,8 @@ pub mod WalkLaws
 pub mod VerdictLaws
 pub mod BreakLaws
 pub mod AllowedLaws
-pub mod FormatLaws
 pub mod MeaningLaws
 pub mod ReachedLaws
-pub mod FitLaws
-pub mod ReadableHeader
-pub mod EnergyLaws
-pub mod ReadableFrame
-pub mod ReadableEnd
 pub mod ReadableDump
 pub mod SmallDumpLaws
 pub mod UntakenLaws

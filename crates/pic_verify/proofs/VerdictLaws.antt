@@ -1,6 +1,6 @@
 -- The verdict on a dump, from that on its records.
-use Rattle.std.proofs.Common.{◌≡◌, ℕ, ◌+◌, ◌*◌, ◌≤◌, ◌⊎◌, List, ◌++◌, length, length-append, Option, Some, None, Ok, Err, IsErrAnd, inl, inr}
-use Rattle.std.proofs.Common.{refl, sym, ap, subst, ◌∙◌, arith}
+use Rattle.std.proofs.Common.{◌≡◌, ℕ, ◌+◌, ◌≤◌, ◌⊎◌, List, ◌++◌, length, length-append, Option, Some, None, Ok, Err, IsErrAnd, inl, inr}
+use Rattle.std.proofs.Common.{refl, sym, ap, ◌∙◌, arith}
 use Rattle.std.proofs.lemmas.Result.{err_from_is_err_and}
 use Rattle.pic_io.specs.Told.{Told}
 use Rattle.pic_io.specs.Source.{with_front}
@@ -9,21 +9,21 @@ use Rattle.pic_fields.specs.Reads.{Moves, HasRead}
 use Rattle.pic_fields.proofs.ReadLaws.{rose_after, moves_then}
 use Rattle.pic_verify.specs.Allowed.{records_length, bytes_allowed, IsAllowed, IsInHeader, TakesAllowed}
 use Rattle.pic_fields.specs.declared.read_stop.ReadStop.TheVariants as read
-use Rattle.pic_dump.specs.Header.{HeaderView}
-use Rattle.pic_dump.specs.Limits.{header_length}
-use Rattle.pic_reader.specs.Layout.{layout_of}
-use Rattle.pic_reader.specs.HeaderFields.{header_at, header_most}
-use Rattle.pic_reader.specs.HeadReads.{HeadReads, reach_of, TakesWithin}
-use Rattle.pic_reader.proofs.RunLaws.{header_place}
-use Rattle.pic_reader.proofs.WithinLaws.{told_held, read_told}
-use Rattle.pic_reader.specs.Standing.{Standing}
-use Rattle.pic_reader.specs.declared.head_stop.HeadStop.{HeadStop}
-use Rattle.pic_reader.specs.declared.head_stop.HeadStop.TheVariants as head
+use Rattle.pic_header.specs.Header.{HeaderView}
+use Rattle.pic_header.specs.HeaderFields.{header_length, header_at, header_most}
+use Rattle.pic_record.specs.Layout.{layout_of}
+use Rattle.pic_header.specs.HeadReads.{HeadReads, reach_of, TakesWithin}
+use Rattle.pic_header.proofs.RunLaws.{header_place}
+use Rattle.pic_header.proofs.WithinLaws.{told_held, read_told}
+use Rattle.pic_dump.specs.Standing.{Standing}
+use Rattle.pic_header.specs.declared.head_stop.HeadStop.{HeadStop}
+use Rattle.pic_header.specs.declared.head_stop.HeadStop.TheVariants as head
 use Rattle.pic_verify.specs.declared.verify_stop.VerifyStop.TheVariants.{ReadFault, BadDump, Broken, NoMemory}
 use Rattle.pic_verify.specs.Stops.{stop_of_head}
-use Rattle.pic_verify.specs.Verified.{Verdict, of_header, verified}
+use Rattle.pic_dump.specs.DumpRead.{read_dump}
+use Rattle.pic_verify.specs.Verified.{Verdict, walked, verified}
 use Rattle.pic_verify.specs.Verifies.{Finds, Answered, Verifies, Walks, IsExact}
-use Rattle.pic_verify.proofs.WalkLaws.{on_records}
+use Rattle.pic_verify.proofs.WalkLaws.{verdict_by, on_records}
 
 -- where a reader stands behind a header
 abbrev pub behind : HeaderView → ℕ → Standing
@@ -31,10 +31,10 @@ behind h place = record { layout = layout_of h; place = place; last = None }
 
 finds_behind : (h : HeaderView) (place : ℕ) (x y z : Told) (answer : Verdict)
     → HasRead header_at 0 x h place y → Finds (on_records (behind h place)) y z answer → Finds verified x z answer
-unfolding verified
+unfolding verified read_dump walked
 finds_behind h place x y z answer first finds =
     let (held, was, is) = first.reads finds.held finds.was in
-    record { calm = finds.calm ∙ first.calm; held = held; was = was; verdict = ap of_header is ∙ finds.verdict }
+    record { calm = finds.calm ∙ first.calm; held = held; was = was; verdict = ap verdict_by is ∙ finds.verdict }
 
 answered_behind : (h : HeaderView) (place : ℕ) (x y z : Told) (answer : Verdict)
     → HasRead header_at 0 x h place y → Answered (on_records (behind h place)) y z answer → Answered verified x z answer
@@ -53,11 +53,11 @@ verifies_behind h place r x y z answer first is walks =
 
 stops_answer : {B : Type 0} (x z : Told) (stop : HeadStop) (view : B → HeaderView) (end : HeaderView → ℕ)
     → HeadReads view header_at 0 end header_most x z (Err stop) → Answered verified x z (Err (stop_of_head stop))
-unfolding verified
+unfolding verified read_dump walked
 stops_answer x z (head.Read read.ReadFault) view end first = first.answer.why
 stops_answer x z (head.Read (read.BadDump place cause)) view end first =
     let fails = first.answer.why in
-    record { calm = fails.calm; held = fails.held; was = fails.was; verdict = ap of_header fails.fails }
+    record { calm = fails.calm; held = fails.held; was = fails.was; verdict = ap verdict_by fails.fails }
 stops_answer x z head.NoMemory view end first = first.answer.calm
 
 -- a header that isn't there
@@ -122,7 +122,7 @@ stops_taken view end x z stop first within =
     }
 
 -- behind a header
-behind_taken : (h : HeaderView) (x y z : Told) (n : ℕ) → HasRead header_at 0 x h (header_length (length h.species)) y → Moves 0 n x z → n ≤ bytes_allowed h + 1
+behind_taken : (h : HeaderView) (x y z : Told) (n : ℕ) → HasRead header_at 0 x h (header_length h) y → Moves 0 n x z → n ≤ bytes_allowed h + 1
     → TakesAllowed x z
 behind_taken h x y z n first moves fits =
     let most = moves.most in
@@ -130,15 +130,15 @@ behind_taken h x y z n first moves fits =
       front = moves.front;
       taken = moves.moved;
       most = λ bytes told. inr (let (rest, left, reads) = read_told bytes first told in
-          record { header = h; rest = input (header_length (length h.species)) rest; reads = reads; most = omega (arith, most, fits) });
+          record { header = h; rest = input (header_length h) rest; reads = reads; most = omega (arith, most, fits) });
     }
 
-pub head_taken : (h : HeaderView) (x y : Told) → HasRead header_at 0 x h (header_length (length h.species)) y → TakesAllowed x y
-head_taken h x y first = behind_taken h x y y (header_length (length h.species)) first first.moves (omega arith)
+pub head_taken : (h : HeaderView) (x y : Told) → HasRead header_at 0 x h (header_length h) y → TakesAllowed x y
+head_taken h x y first = behind_taken h x y y (header_length h) first first.moves (omega arith)
 
 -- behind records
 pub walks_taken : (h : HeaderView) (r : Standing) (x y z : Told) (answer : Verdict)
-    → HasRead header_at 0 x h (header_length (length h.species)) y → r ≡ behind h (header_length (length h.species)) → Walks r y z answer → TakesAllowed x z
+    → HasRead header_at 0 x h (header_length h) y → r ≡ behind h (header_length h) → Walks r y z answer → TakesAllowed x z
 walks_taken h r x y z answer first is walks =
     let there = rw is at walks in
-    behind_taken h x y z (header_length (length h.species) + (records_length (layout_of h) + 1)) first (moves_then first.moves there.moves) (omega arith)
+    behind_taken h x y z (header_length h + (records_length (layout_of h) + 1)) first (moves_then first.moves there.moves) (omega arith)

@@ -1,8 +1,8 @@
 -- Why a dump isn't verified, where reading it stopped.
 use Rattle.pic_fields.specs.declared.read_stop.ReadStop.{ReadStop}
 use Rattle.pic_fields.specs.declared.read_stop.ReadStop.TheVariants as read
-use Rattle.pic_reader.specs.declared.head_stop.HeadStop.{HeadStop}
-use Rattle.pic_reader.specs.declared.head_stop.HeadStop.TheVariants as head
+use Rattle.pic_header.specs.declared.head_stop.HeadStop.{HeadStop}
+use Rattle.pic_header.specs.declared.head_stop.HeadStop.TheVariants as head
 use Rattle.pic_verify.specs.declared.verify_stop.VerifyStop.{VerifyStop}
 use Rattle.pic_verify.specs.declared.verify_stop.VerifyStop.TheVariants.{ReadFault, BadDump, NoMemory}
 

@@ -4,7 +4,7 @@ use Rattle.pic_io.specs.Told.{Told, Rose, Calm, Quiet}
 use Rattle.pic_io.specs.Source.{IsAtEnd}
 use Rattle.pic_fields.specs.Parser.{input}
 use Rattle.pic_fields.specs.Reads.{Left, Moves}
-use Rattle.pic_reader.specs.Standing.{Standing}
+use Rattle.pic_dump.specs.Standing.{Standing}
 use Rattle.pic_verify.specs.declared.verify_stop.VerifyStop.TheVariants.{ReadFault, BadDump, Broken, NoMemory}
 use Rattle.pic_verify.specs.Allowed.{records_length}
 use Rattle.pic_verify.specs.Verified.{Verdict, walked, verified}

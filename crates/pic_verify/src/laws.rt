@@ -1,9 +1,9 @@
-//! Laws of dumps: that of the verdict, and that what is put can be read. Each is the contract of a
+//! Laws of dumps: that of the verdict, and that what is put is verified. Each is the contract of a
 //! function that does nothing.
 
 ghost use Rattle.pic_verify.specs.Meaning.{VerdictLaw};
-ghost use Rattle.pic_verify.specs.Readable.{HeadersAreRead, FramesAreRead, EndsAreRead, DumpsAreVerified};
-ghost use Rattle.pic_verify.specs.SmallDump.{SmallDumpIsReadable};
+ghost use Rattle.pic_verify.specs.Readable.{DumpsAreVerified};
+ghost use Rattle.pic_verify.specs.SmallDump.{SmallDumpIsGood};
 
 /// What the verdict on some bytes means, said of each record by itself. The verdict is a number of
 /// frames exactly where the bytes are a header, so many frames, each of the format, of the step that
@@ -16,27 +16,10 @@ pub fn law_of_the_verdict()
     ensures { VerdictLaw }
 {}
 
-/// The text of every header that its type keeps is read as that header, whatever follows it.
-pub fn headers_are_read()
-    ensures { HeadersAreRead }
-{}
-
-/// The text of a frame within the limits of a layout is read as that frame where it is due, whatever
-/// follows it.
-pub fn frames_are_read()
-    ensures { FramesAreRead }
-{}
-
-/// The text of an end record that fits behind the last frame is read as that record, where nothing
-/// follows it.
-pub fn ends_are_read()
-    ensures { EndsAreRead }
-{}
-
 /// The bytes of a dump are verified, with the number of its frames: of a header, frames in turn, each
 /// within the limits and with Gauss's law at every node, and an end record that fits behind them. The
 /// conditions can be met: a small dump with two particles does.
 pub fn dumps_are_verified()
     ensures verified { DumpsAreVerified }
-    ensures met { SmallDumpIsReadable }
+    ensures met { SmallDumpIsGood }
 {}

@@ -6,8 +6,6 @@ mod laws;
 mod verify_stop;
 mod verifying;
 
-pub use laws::{
-    dumps_are_verified, ends_are_read, frames_are_read, headers_are_read, law_of_the_verdict,
-};
+pub use laws::{dumps_are_verified, law_of_the_verdict};
 pub use verify_stop::VerifyStop;
 pub use verifying::verify;

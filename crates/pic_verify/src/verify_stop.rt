@@ -5,7 +5,7 @@ ghost use Rattle.pic_verify.specs.Stops.{stop_of_head, stop_of_read};
 ghost use Rattle.pic_verify.specs.declared.verify_stop.VerifyStop.TheVariants.{NoMemory};
 
 use pic_charge::Break;
-use pic_reader::{HeadStop, ReadStop};
+use pic_dump::{HeadStop, ReadStop};
 use std::error::Error;
 use std::fmt;
 

@@ -1,8 +1,8 @@
 //! A dump, verified frame by frame.
 
 ghost use Rattle.std.specs.Prelude.{◌≡◌, length, sum, None, Err};
-ghost use Rattle.pic_reader.specs.FrameFields.{IsHeld};
-ghost use Rattle.pic_reader.specs.Layout.{IsLayout};
+ghost use Rattle.pic_record.specs.FrameFields.{IsHeld};
+ghost use Rattle.pic_record.specs.Layout.{IsLayout};
 ghost use Rattle.pic_verify.specs.Allowed.{TakesAllowed, TakesHeader};
 ghost use Rattle.pic_verify.specs.Reached.{Reaches, TakesToRecord};
 ghost use Rattle.pic_verify.specs.Verified.{break_of};
@@ -11,9 +11,9 @@ ghost use Rattle.pic_verify.specs.declared.verify_stop.VerifyStop.TheVariants.{N
 
 use crate::verify_stop::VerifyStop;
 use pic_charge::{Break, charge, gauss};
+use pic_dump::{DumpReader, Next};
 use pic_grid::{Nodes, Snapshot};
 use pic_io::Source;
-use pic_reader::{DumpReader, Next};
 use std::alloc::Global;
 
 /// Reads a dump to its end, and answers how many frames it has.

@@ -1,7 +1,7 @@
 use Rattle.std.proofs.Common.{ℕ, [], subst}
 use Rattle.pic_io.specs.Sinks.{sinks}
 use Rattle.pic_io.proofs.Puts.{wrote_out}
-use Rattle.pic_dump.specs.DumpText.{header_bytes}
+use Rattle.pic_header.specs.HeaderText.{header_bytes}
 use Rattle.pic_run.specs.declared.output.Output.TheVariants.{Dump}
 use Rattle.pic_run.specs.Frames.{frames_of, end_of_run, end_piece}
 use Rattle.pic_run.specs.Outcome.{states_outcome}
@@ -32,4 +32,5 @@ returns g c =
     let r = g.R.Sink.told c.args.report.now in
     let h = c.args.ready.header in
     let w = c.args.ready.stage.state.world in
-    head_cut o p r (header_bytes h) (frames_of Dump h.steps h.every w) (end_piece Dump (end_of_run h.steps w)) (header_some h) c.in-Err.ensures.bytes c.in-Err.ensures.cause.err
+    head_cut o p r (header_bytes h) (frames_of Dump h.steps h.every w) (end_piece Dump (end_of_run h.steps w)) (header_some h)
+    c.in-Err.ensures.bytes c.in-Err.ensures.cause.err

@@ -15,7 +15,8 @@ returns-in_err-end g c =
     let b = sinks (g.O.Sink.told c.write_frames.new.out) (g.R.Sink.told c.write_frames.new.report) in
     let frames = frames_of c.args.plan.output c.args.plan.steps c.args.plan.every c.args.stage.state.world in
     rw (exit.1 ∙ ap Err exit.2)
-    (frames_cut c.args.plan.workers c.args.plan.output frames (end_of_run c.args.plan.steps c.args.stage.state.world) a b c.in_err-end.field-0.0 c.in_err-end.ensures)
+    (frames_cut c.args.plan.workers c.args.plan.output frames (end_of_run c.args.plan.steps c.args.stage.state.world) a b c.in_err-end.field-0.0
+    c.in_err-end.ensures)
 
 pub returns-in_err-put_last : goal.returns-in_err-put_last
 returns-in_err-put_last g c =

@@ -1,5 +1,0 @@
-use Rattle.pic_dump.proofs.DueLaws.{due_in_turn}
-use Rattle.pic_dump.proofs.laws.frames_are_due_in_turn.Goals as goal
-
-pub returns : goal.returns
-returns c = due_in_turn

@@ -1,0 +1,9 @@
+pub mod NameLaws
+pub mod HeadLaws
+pub mod HeadReadLaws
+pub mod RunLaws
+pub mod HeaderGives
+pub mod WithinLaws
+pub mod HeaderSpells
+pub mod SpellingLaws
+pub mod ReadableHeader

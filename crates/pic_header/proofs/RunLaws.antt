@@ -1,0 +1,198 @@
+-- How many bytes the parts of a header take, and that no place lies before the start.
+use Rattle.std.proofs.Common.{◌≡◌, ℕ, zero, suc, ◌+◌, ◌*◌, ◌≤◌, Bool, true, false, List, [], ◌∷◌, ◌++◌, length, Ok, Err, inl, inr}
+use Rattle.std.proofs.Common.{refl, sym, ap, subst, arith, length-append}
+use Rattle.std.specs.Prelude.{if◌then◌else◌, codes}
+use Rattle.std.proofs.lemmas.Bool.{cases_lt, lt-ltb, le-ltb}
+use Rattle.pic_fields.specs.Parser.{Input, fault, Parsed, Parser, done, after, ◌>>=◌, mapped, field, tested_by, checked, each}
+use Rattle.pic_fields.specs.Number.{byte_at, u32_at, i32_at, within, letter, exactly, between}
+use Rattle.pic_fields.proofs.SpellLaws.{same_read, bind_parts}
+use Rattle.pic_header.specs.Header.{HeaderView}
+use Rattle.pic_grid.specs.Species.{HeadView}
+use Rattle.pic_header.specs.HeaderFields.{wrong_letter, cells_at, mult_at, scales_at, kind_at, name_at, head_at, heads_at, header_at}
+
+-- a value lies n bytes on, and a fault not before the start
+abbrev pub RunsTo : {A : Type 0} → ℕ → ℕ → Parsed A → Type 0
+RunsTo s n (Ok x) = x.1.place ≡ s + n
+RunsTo s n (Err f) = s ≤ f.place
+
+pub record Runs {A : Type 0} (p : Parser A) (n : ℕ) : Type 0 where
+  pub on : (i : Input) → RunsTo i.place n (p i)
+
+-- neither lies before the start
+abbrev pub IsNotBefore : {A : Type 0} → ℕ → Parsed A → Type 0
+IsNotBefore s (Ok x) = s ≤ x.1.place
+IsNotBefore s (Err f) = s ≤ f.place
+
+pub record GoesOn {A : Type 0} (p : Parser A) : Type 0 where
+  pub on : (i : Input) → IsNotBefore i.place (p i)
+
+not_before : {A : Type 0} (s n : ℕ) (r : Parsed A) → RunsTo s n r → IsNotBefore s r
+not_before s n (Ok x) first = omega (arith, first)
+not_before s n (Err f) first = first
+
+pub goes_on_by : {A : Type 0} {p : Parser A} (n : ℕ) → Runs p n → GoesOn p
+goes_on_by {p = p} n first = record { on = λ i. not_before i.place n (p i) (first.on i) }
+
+pub goes_done : {A : Type 0} (a : A) → GoesOn (done a)
+unfolding done
+goes_done a = record { on = λ i. omega arith }
+
+goes_further : {A : Type 0} (s m : ℕ) (r : Parsed A) → s ≤ m → IsNotBefore m r → IsNotBefore s r
+goes_further s m (Ok x) first second = omega (arith, first, second)
+goes_further s m (Err f) first second = omega (arith, first, second)
+
+goes_after : {A B : Type 0} (s : ℕ) (r : Parsed A) (f : A → Parser B) → ((a : A) → GoesOn (f a)) → IsNotBefore s r → IsNotBefore s (after r f)
+goes_after s (Ok x) f second first = goes_further s x.1.place (f x.0 x.1) first ((second x.0).on x.1)
+goes_after s (Err e) f second first = first
+
+pub goes_then : {A B : Type 0} {p : Parser A} {f : A → Parser B} → GoesOn p → ((a : A) → GoesOn (f a)) → GoesOn (p >>= f)
+unfolding ◌>>=◌
+goes_then {p = p} {f = f} first second = record { on = λ i. goes_after i.place (p i) f second (first.on i) }
+
+pub goes_each : {A : Type 0} (f : List A → Parser A) (k : ℕ) → ((xs : List A) → GoesOn (f xs)) → GoesOn (each k f)
+unfolding each
+goes_each f zero each_one = goes_done []
+goes_each f (suc k) each_one = goes_then (goes_each f k each_one) (λ xs. goes_then (each_one xs) (λ x. goes_done (xs ++ x ∷ [])))
+
+-- one part of so many bytes, and then another
+runs_done : {A : Type 0} (a : A) → Runs (done a) 0
+unfolding done
+runs_done a = record { on = λ i. omega arith }
+
+runs_further : {A : Type 0} (s n m k : ℕ) (r : Parsed A) → k ≡ s + n → RunsTo k m r → RunsTo s (n + m) r
+runs_further s n m k (Ok x) first second = omega (arith, first, second)
+runs_further s n m k (Err f) first second = omega (arith, first, second)
+
+runs_after : {A B : Type 0} (s n m : ℕ) (r : Parsed A) (f : A → Parser B) → ((a : A) → Runs (f a) m) → RunsTo s n r → RunsTo s (n + m) (after r f)
+runs_after s n m (Ok x) f second first = runs_further s n m x.1.place (f x.0 x.1) first ((second x.0).on x.1)
+runs_after s n m (Err e) f second first = first
+
+pub runs_then : {A B : Type 0} {p : Parser A} {f : A → Parser B} (n m : ℕ) → Runs p n → ((a : A) → Runs (f a) m) → Runs (p >>= f) (n + m)
+unfolding ◌>>=◌
+runs_then {p = p} {f = f} n m first second = record { on = λ i. runs_after i.place n m (p i) f second (first.on i) }
+
+runs_so : {A : Type 0} {p : Parser A} {n m : ℕ} → n ≡ m → Runs p n → Runs p m
+runs_so {p = p} is first = subst (Runs p) is first
+
+runs_mapped : {A B : Type 0} {p : Parser A} (f : A → B) (n : ℕ) → Runs p n → Runs (mapped f p) n
+unfolding mapped
+runs_mapped f n first = runs_so (omega arith) (runs_then n 0 first (λ a. runs_done (f a)))
+
+to_field : (n : ℕ) (i : Input) → RunsTo i.place n (field n i)
+unfolding field
+to_field n i = elim (cases_lt (length i.bytes) n) [
+  | inl short ↦ rw (lt-ltb (length i.bytes) n short) (omega arith)
+  | inr long ↦ rw (le-ltb (length i.bytes) n long) refl
+]
+
+runs_field : (n : ℕ) → Runs (field n) n
+runs_field n = record { on = to_field n }
+
+to_choice : {A : Type 0} (s n cause : ℕ) (x : A × Input) (passes : Bool) → x.1.place ≡ s + n → RunsTo s n (if passes then Ok x else Err (fault s cause))
+to_choice s n cause x true first = first
+to_choice s n cause x false first = omega arith
+
+to_tested : {A : Type 0} (s n cause : ℕ) (test : A → Bool) (r : Parsed A) → RunsTo s n r → RunsTo s n (tested_by s cause test r)
+to_tested s n cause test (Ok x) first = to_choice s n cause x (test x.0) first
+to_tested s n cause test (Err e) first = first
+
+runs_checked : {A : Type 0} {p : Parser A} (cause : ℕ) (test : A → Bool) (n : ℕ) → Runs p n → Runs (checked cause test p) n
+unfolding checked
+runs_checked {p = p} cause test n first = record { on = λ i. to_tested i.place n cause test (p i) (first.on i) }
+
+runs_each : {A : Type 0} (f : List A → Parser A) (n k : ℕ) → ((xs : List A) → Runs (f xs) n) → Runs (each k f) (k * n)
+unfolding each
+runs_each f n zero each_one = runs_so (omega arith) (runs_done [])
+runs_each f n (suc k) each_one =
+    runs_so (omega arith) (runs_then (k * n) (n + 0) (runs_each f n k each_one)
+    (λ xs. runs_then n 0 (each_one xs) (λ x. runs_done (xs ++ x ∷ []))))
+
+-- the parts of a header
+pub runs_within : (cause low high : ℕ) → Runs (within cause low high) 4
+unfolding within u32_at
+runs_within cause low high = runs_checked cause _ 4 (runs_mapped _ 4 (runs_field 4))
+
+runs_letter : (cause : ℕ) (text before : List ℕ) → Runs (letter cause text before) 1
+unfolding letter byte_at
+runs_letter cause text before = runs_checked cause _ 1 (runs_mapped _ 1 (runs_field 1))
+
+pub runs_exactly : (cause : ℕ) (text : List ℕ) → Runs (exactly cause text) (length text * 1)
+unfolding exactly
+runs_exactly cause text = runs_each (letter cause text) 1 (length text) (runs_letter cause text)
+
+runs_mult : Runs mult_at 8
+unfolding mult_at between i32_at
+runs_mult = runs_then 4 4 (runs_checked _ _ 4 (runs_mapped _ 4 (runs_field 4))) (λ n. runs_then 4 0 (runs_within _ _ _) (λ k. runs_done _))
+
+pub runs_cells : Runs cells_at 12
+unfolding cells_at
+runs_cells = runs_then 4 8 (runs_within _ _ _) (λ x. runs_then 4 4 (runs_within _ _ _) (λ y. runs_then 4 0 (runs_within _ _ _) (λ z. runs_done _)))
+
+pub runs_scales : Runs scales_at 32
+unfolding scales_at
+runs_scales =
+    runs_then 8 24 runs_mult (λ a. runs_then 8 16 runs_mult (λ b. runs_then 8 8 runs_mult (λ c. runs_then 8 0 runs_mult (λ d. runs_done _))))
+
+pub runs_kind : Runs kind_at 24
+unfolding kind_at between i32_at
+runs_kind =
+    runs_then 4 20 (runs_checked _ _ 4 (runs_mapped _ 4 (runs_field 4)))
+    (λ charge. runs_then 4 16 (runs_within _ _ _) (λ mass. runs_then 8 8 runs_mult (λ kick. runs_then 8 0 runs_mult (λ turn. runs_done _))))
+
+pub runs_name : (before : List HeadView) → Runs (name_at before) 32
+unfolding name_at
+runs_name before = runs_mapped _ 32 (runs_checked _ _ 32 (runs_field 32))
+
+pub runs_head : (before : List HeadView) → Runs (head_at before) 60
+unfolding head_at
+runs_head before = runs_then 32 28 (runs_name before) (λ name. runs_then 24 4 runs_kind (λ kind. runs_then 4 0 (runs_within _ _ _) (λ count. runs_done _)))
+
+pub goes_heads : GoesOn heads_at
+unfolding heads_at
+goes_heads = goes_then (goes_on_by 4 (runs_within _ _ _)) (λ count. goes_each head_at count (λ hs. goes_on_by 60 (runs_head hs)))
+
+-- so many values are as many
+each_count : {A : Type 0} (f : List A → Parser A) (k : ℕ) (i j : Input) (xs : List A) → each k f i ≡ Ok (xs, j) → length xs ≡ k
+unfolding each done
+each_count f zero i j xs is = ap (λ l. length l) (sym (same_read [] xs i j is).0)
+each_count f (suc k) i j xs is =
+    let (ys, m, e1, r1) = bind_parts (each k f) (λ ys. f ys >>= (λ y. done (ys ++ y ∷ []))) i j xs is in
+    let (y, n, e2, r2) = bind_parts (f ys) (λ y. done (ys ++ y ∷ [])) m j xs r1 in
+    let before = each_count f k i m ys e1 in
+    let size = length-append ys (y ∷ []) in
+    let value : length (ys ++ y ∷ []) ≡ length xs = ap (λ l. length l) (same_read (ys ++ y ∷ []) xs n j r2).0 in
+    omega (arith, before, size, value)
+
+place_by : {A : Type 0} (p : Parser A) (n : ℕ) (i j : Input) (a : A) → Runs p n → p i ≡ Ok (a, j) → j.place ≡ i.place + n
+place_by p n i j a runs is = subst (RunsTo i.place n) is (runs.on i)
+
+heads_end : (i j : Input) (heads : List HeadView) → heads_at i ≡ Ok (heads, j) → j.place ≡ i.place + 4 + 60 * length heads
+unfolding heads_at
+heads_end i j heads is =
+    let (count, k, e1, r1) = bind_parts (within _ _ _) (λ count. each count head_at) i j heads is in
+    let first = place_by (within _ _ _) 4 i k count (runs_within _ _ _) e1 in
+    let second = place_by (each count head_at) (count * 60) k j heads (runs_each head_at 60 count runs_head) r1 in
+    let size = each_count head_at count k j heads r1 in
+    omega (arith, first, second, size)
+
+-- what follows a header
+pub header_place : (i j : Input) (h : HeaderView) → header_at i ≡ Ok (h, j) → j.place ≡ i.place + 64 + 60 * length h.species
+unfolding header_at done
+header_place i j h is =
+    let (mark, i1, e1, r1) = bind_parts (exactly wrong_letter (codes "PICDUMP1")) _ i j h is in
+    let (cells, i2, e2, r2) = bind_parts cells_at _ i1 j h r1 in
+    let (steps, i3, e3, r3) = bind_parts (within _ _ _) _ i2 j h r2 in
+    let (every, i4, e4, r4) = bind_parts (within _ _ _) _ i3 j h r3 in
+    let (scales, i5, e5, r5) = bind_parts scales_at _ i4 j h r4 in
+    let (heads, i6, e6, r6) = bind_parts heads_at
+    (λ heads. done (record { cells = cells; side = _; steps = steps; every = every; scales = scales; species = heads })) i5 j h r5 in
+    let (value, here) = same_read _ h i6 j r6 in
+    let size : length heads ≡ length h.species = ap (λ (g : HeaderView). length g.species) value in
+    let end : i6.place ≡ j.place = ap (λ (k : Input). k.place) here in
+    let a : i1.place ≡ i.place + 8 = place_by _ 8 i i1 mark (runs_exactly _ _) e1 in
+    let b : i2.place ≡ i1.place + 12 = place_by _ 12 i1 i2 cells runs_cells e2 in
+    let c : i3.place ≡ i2.place + 4 = place_by _ 4 i2 i3 steps (runs_within _ _ _) e3 in
+    let d : i4.place ≡ i3.place + 4 = place_by _ 4 i3 i4 every (runs_within _ _ _) e4 in
+    let e : i5.place ≡ i4.place + 32 = place_by _ 32 i4 i5 scales runs_scales e5 in
+    let f : i6.place ≡ i5.place + 4 + 60 * length heads = heads_end i5 i6 heads e6 in
+    omega (arith, a, b, c, d, e, f, size, end)

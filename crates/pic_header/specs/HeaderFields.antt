@@ -1,0 +1,109 @@
+-- The header of a dump, field by field: this project's profile.
+use Rattle.std.specs.Prelude.{◌≡◌, pos, negsuc, ℕ, ◌-◌, ◌+◌, ◌*◌, ◌<◌, ◌≤◌, Bool, not, ◌&&◌, ◌==◌, nat_eq, nat_le, if◌then◌else◌}
+use Rattle.std.specs.Prelude.{bytes_eq, List, [], ◌∷◌, length, drop, sum_by, slice_index_or, codes}
+use Rattle.std.specs.List.{list_all, list_any}
+use Rattle.pic_num.specs.declared.motion.Kind.{Kind}
+use Rattle.pic_num.specs.declared.mult.Scales.{Scales}
+use Rattle.pic_num.specs.Limits.{fewest_cells_of_axis, most_cells_of_axis_1, side_1, most_species, most_particles_1, most_mass}
+use Rattle.pic_num.specs.Multiplier.{Multiplier}
+use Rattle.pic_num.specs.Space.{Triple}
+use Rattle.pic_grid.specs.Species.{HeadView, no_head, IsName, IsKind, is_name_byte}
+use Rattle.pic_fields.specs.Causes.{cause_number}
+use Rattle.pic_fields.specs.declared.cause.Cause.TheVariants.{WrongLetter, OutOfLimits}
+use Rattle.pic_fields.specs.Parser.{Parser, field, done, ◌>>=◌, checked, mapped, each}
+use Rattle.pic_fields.specs.Number.{within, exactly, between}
+use Rattle.pic_header.specs.Header.{HeaderView}
+use Rattle.pic_header.specs.Limits.{most_steps, most_letters}
+
+-- the causes of a fault in the header, but for a field that the end of the input cuts
+abbrev pub wrong_letter : ℕ
+wrong_letter = cause_number WrongLetter
+
+abbrev pub out_of_limits : ℕ
+out_of_limits = cause_number OutOfLimits
+
+-- the numbers of cells
+unfoldable pub cells_at : Parser Triple
+cells_at =
+    within out_of_limits fewest_cells_of_axis most_cells_of_axis_1
+    >>= (λ x. within out_of_limits fewest_cells_of_axis most_cells_of_axis_1
+    >>= (λ y. within out_of_limits fewest_cells_of_axis most_cells_of_axis_1 >>= (λ z. done (record { x = x; y = y; z = z }))))
+
+-- a multiplier
+unfoldable pub mult_at : Parser Multiplier
+mult_at = between out_of_limits (negsuc 2147483646) (pos 2147483647) >>= (λ n. within out_of_limits 0 62 >>= (λ k. done (record { n = n; k = k })))
+
+-- the four multipliers
+unfoldable pub scales_at : Parser Scales
+scales_at =
+    mult_at
+    >>= (λ e_to_b. mult_at
+    >>= (λ b_to_e. mult_at
+    >>= (λ e_force. mult_at
+    >>= (λ b_force. done (record { e_to_b = e_to_b; b_to_e = b_to_e; e_force = e_force; b_force = b_force })))))
+
+-- charge, mass and the two multipliers of a species
+unfoldable pub kind_at : Parser Kind
+kind_at =
+    between out_of_limits (negsuc 32767) (pos 32767)
+    >>= (λ charge. within out_of_limits 1 most_mass
+    >>= (λ mass. mult_at >>= (λ kick. mult_at >>= (λ turn. done (record { charge = charge; mass = mass; kick = kick; turn = turn })))))
+
+-- the bytes before the first zero
+abbrev pub name_of : List ℕ → List ℕ
+name_of [] = []
+name_of (b ∷ bytes) = if b == 0 then [] else b ∷ name_of bytes
+
+-- 1 to 32 letters of a name, and then zeros
+abbrev pub is_name_field : List ℕ → Bool
+is_name_field bytes =
+    nat_le 1 (length (name_of bytes)) && list_all is_name_byte (name_of bytes) && list_all (nat_eq 0) (drop (length (name_of bytes)) bytes)
+
+-- a name that no earlier species has
+abbrev pub is_new_name_field : List HeadView → List ℕ → Bool
+is_new_name_field before bytes = is_name_field bytes && not (list_any (λ (h : HeadView). bytes_eq h.name (name_of bytes)) before)
+
+unfoldable pub name_at : List HeadView → Parser (List ℕ)
+name_at before = mapped name_of (checked out_of_limits (is_new_name_field before) (field most_letters))
+
+-- how many particles the species have
+abbrev pub particles_of : List HeadView → ℕ
+particles_of heads = sum_by (λ h. h.count) heads
+
+-- a species after others
+unfoldable pub head_at : List HeadView → Parser HeadView
+head_at before =
+    name_at before
+    >>= (λ name. kind_at
+    >>= (λ kind. within out_of_limits 0 (most_particles_1 - particles_of before)
+    >>= (λ count. done (record { name = name; kind = kind; count = count }))))
+
+-- the species
+unfoldable pub heads_at : Parser (List HeadView)
+heads_at = within out_of_limits 0 most_species >>= (λ count. each count head_at)
+
+-- the header of version 1, whose cells have one side
+unfoldable pub header_at : Parser HeaderView
+header_at =
+    exactly wrong_letter (codes "PICDUMP1")
+    >>= (λ mark. cells_at
+    >>= (λ cells. within out_of_limits 0 most_steps
+    >>= (λ steps. within out_of_limits 1 most_steps
+    >>= (λ every. scales_at
+    >>= (λ scales. heads_at
+    >>= (λ heads. done (record { cells = cells; side = side_1; steps = steps; every = every; scales = scales; species = heads })))))))
+
+-- how many bytes a header has
+abbrev pub header_length : HeaderView → ℕ
+header_length h = 64 + 60 * length h.species
+
+-- the bytes of the longest header
+abbrev pub header_most : ℕ
+header_most = 1024
+
+-- a species within the limits, with a name that none of these has, and few enough particles beside theirs
+pub record IsNewHead (heads : List HeadView) (h : HeadView) : Type 0 where
+  pub name : IsName h.name
+  pub kind : IsKind h.kind
+  pub differs : (i : ℕ) → i < length heads → (slice_index_or heads i no_head).name ≡ h.name → ⊥
+  pub total : sum_by (λ s. s.count) heads + h.count ≤ most_particles_1

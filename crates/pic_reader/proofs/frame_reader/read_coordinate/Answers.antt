@@ -1,6 +1,0 @@
-use Rattle.pic_reader.specs.FrameFields.{coordinate_at}
-use Rattle.pic_reader.proofs.frame_reader.read_coordinate.Goals as goal
-
-pub returns-clause-reads : goal.returns-clause-reads
-unfolding coordinate_at
-returns-clause-reads g c = c.read_below.ensures.reads

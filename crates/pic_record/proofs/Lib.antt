@@ -1,0 +1,16 @@
+pub mod DueLaws
+pub mod Waits
+pub mod LayoutLaws
+pub mod FrameLaws
+pub mod PartLaws
+pub mod MarkLaws
+pub mod FrameSpells
+pub mod EndSpells
+pub mod RecordSpells
+pub mod SpellingLaws
+pub mod FitLaws
+pub mod FrameGives
+pub mod FormatLaws
+pub mod EnergyLaws
+pub mod ReadableFrame
+pub mod ReadableEnd

@@ -1,0 +1,79 @@
+use Rattle.std.proofs.Common.{◌≡◌, ◌+◌, ◌*◌, ◌≤◌, length, take, refl, sym, ap, ◌∙◌, subst, arith}
+use Rattle.std.proofs.Math.Seq.{take-length}
+use Rattle.pic_grid.specs.Cells.{count_of}
+use Rattle.pic_fields.specs.Parser.{each}
+use Rattle.pic_fields.specs.Reads.{HasRead}
+use Rattle.pic_fields.proofs.ReadLaws.{read_same, read_up_to}
+use Rattle.pic_fields.proofs.EachLaws.{read_none}
+use Rattle.pic_fields.proofs.BehindLaws.{read_behind, exits_behind}
+use Rattle.pic_record.specs.FrameFields.{value_at, field_at}
+use Rattle.pic_record.proofs.FrameLaws.{bounded_from}
+use Rattle.pic_record.proofs.PartLaws.{part_whole}
+use Rattle.pic_record.proofs.field_reader.read_field.Goals as goal
+
+pub loop-first-init : goal.loop-first-init
+loop-first-init g c = record {
+  read = read_up_to (omega arith) (read_none (value_at c.args.by) c.args.place _);
+  all = ap (λ n. 3 * n) (c.count.ensures.value ∙ ap count_of c.cells.ensures.value);
+  most = omega arith;
+  cells = refl;
+  side = refl;
+  parts = refl;
+  length = refl;
+  moderate = λ k d below. absurd (omega (arith, below));
+}
+
+pub returns-in_err-read_piece_of_values-clause-reads : goal.returns-in_err-read_piece_of_values-clause-reads
+unfolding field_at
+returns-in_err-read_piece_of_values-clause-reads g c =
+    let so_far = c.loop-first.invariant in
+    let first = c.loop-first.first in
+    let count = c.min-count.result in
+    let n = 3 * count_of c.args.field.now.cells in
+    let fits : first + count ≤ n = omega (arith, so_far.all, so_far.most, c.min-count.ensures) in
+    exits_behind (value_at c.args.by) first count n c.from_residual.ensures.1 fits (omega (arith, fits)) so_far.read
+    c.in_err-read_piece_of_values.ensures.part.reads
+
+pub loop-first-preserved : goal.loop-first-preserved
+loop-first-preserved g c =
+    let so_far = c.loop-first.invariant in
+    let first = c.loop-first.first in
+    let count = c.min-count.result in
+    let old = c.loop-first.field.values in
+    let new = c.read_piece_of_values.new.field.values in
+    let piece = c.in_ok-read_piece_of_values.ensures in
+    record {
+      read = read_up_to (omega arith) (read_same (part_whole first count old new piece.part.front)
+          (read_behind (value_at c.args.by) first count so_far.read piece.part.reads.answer));
+      all = so_far.all;
+      most = omega (arith, so_far.most, c.min-count.ensures);
+      cells = piece.shape.cells ∙ so_far.cells;
+      side = piece.shape.side ∙ so_far.side;
+      parts = piece.shape.parts ∙ so_far.parts;
+      length = piece.part.whole ∙ so_far.length;
+      moderate = piece.moderate;
+    }
+
+pub returns-clause-reads : goal.returns-clause-reads
+unfolding field_at
+returns-clause-reads g c =
+    let so_far = c.loop-first.invariant in
+    let i = c.loop-first.first in
+    let vs = c.loop-first.field.values in
+    let n = 3 * count_of c.args.field.now.cells in
+    let all : i ≡ n = omega (arith, so_far.all, so_far.most, c.loop-first-test.false) in
+    let whole : take i vs ≡ vs = ap (λ m. take m vs) (all ∙ sym (so_far.length ∙ c.cells.ensures.shape)) ∙ take-length vs in
+    let before = g.S.Source.told c.args.source.now in
+    let now = g.S.Source.told c.loop-first.source in
+    record {
+      answer = read_same whole (subst (λ m. HasRead (each m (value_at c.args.by)) c.args.place before (take i vs) (c.args.place + 16 * m) now) all
+          so_far.read);
+    }
+
+pub returns-clause-bounds : goal.returns-clause-bounds
+returns-clause-bounds g c =
+    let so_far = c.loop-first.invariant in
+    let f = c.loop-first.field in
+    let shape : length f.values ≡ 3 * count_of f.cells = so_far.length ∙ c.cells.ensures.shape ∙ ap (λ n. 3 * count_of n) (sym so_far.cells) in
+    bounded_from c.args.by f shape
+    (λ k d below. so_far.moderate k d (omega (arith, below, so_far.length, c.cells.ensures.shape, so_far.all, so_far.most, c.loop-first-test.false)))

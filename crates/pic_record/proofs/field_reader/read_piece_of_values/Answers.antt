@@ -1,0 +1,18 @@
+use Rattle.std.proofs.Common.{◌≡◌, ◌*◌, length, take, arith}
+use Rattle.pic_fields.proofs.PieceLaws.{reads_piece}
+use Rattle.pic_record.proofs.PartLaws.{of_values}
+use Rattle.pic_record.proofs.field_reader.read_piece_of_values.Goals as goal
+
+pub returns-clause-part : goal.returns-clause-part
+returns-clause-part g c =
+    let room = c.fill.new.room in
+    let taken = c.in_ok-taken.taken in
+    let size : length room ≡ c.args.part.count * 16 = omega (arith, c.fill.ensures.length) in
+    let piece : c.new-piece.result ≡ take taken room = c.new-piece.ensures in
+    let part = rw piece at c.read_values.ensures.part in
+    record {
+      reads = reads_piece (c.args.part.count * 16) taken room _ (of_values c.args.by (take c.args.part.first c.args.field.now.values) c.args.part.count) size (omega arith)
+          c.in_ok-taken.ensures.fills part.reads;
+      whole = part.whole;
+      front = part.front;
+    }

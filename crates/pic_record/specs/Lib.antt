@@ -1,0 +1,14 @@
+pub mod Limits
+pub mod Due
+pub mod DueInTurn
+pub mod Layout
+pub mod RecordText
+pub mod Queues
+pub mod Fields
+pub mod FrameFields
+pub mod EndFields
+pub mod Records
+pub mod Firsts
+pub mod Parts
+pub mod Spelling
+pub mod Readable

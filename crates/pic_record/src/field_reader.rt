@@ -1,0 +1,118 @@
+//! The values of a field of a dump, read in pieces.
+
+ghost use Rattle.std.specs.Prelude.{◌≡◌, ◌+◌, ◌*◌, ◌<◌, ◌≤◌, ◌^◌, length, IfOk, OnOk};
+ghost use Rattle.pic_grid.specs.Cells.{count_of};
+ghost use Rattle.pic_fields.specs.Parser.{checked};
+ghost use Rattle.pic_fields.specs.Number.{i128_at};
+ghost use Rattle.pic_fields.specs.Reads.{Reads, always, as_it_is};
+ghost use Rattle.pic_energy.specs.Energies.{IsBounded};
+ghost use Rattle.pic_record.specs.Fields.{strong_value};
+ghost use Rattle.pic_record.specs.FrameFields.{is_moderate, IsModerate, value_at, field_at, IsSameShape};
+ghost use Rattle.pic_record.specs.Firsts.{FirstAre};
+ghost use Rattle.pic_record.specs.Parts.{ReadsPart};
+
+use crate::part::Part;
+use pic_fields::{Ahead, Cause, ReadStop, fill, read_i128};
+use pic_grid::Lattice;
+use pic_io::Source;
+use pic_num::{MAX_FORCE, MAX_VALUE, Mult, scale};
+
+/// How many values a piece of 65536 bytes has.
+const VALUES_OF_A_PIECE: usize = 1 << 12;
+
+// Reads a field value.
+fn read_value<S: Source>(source: &mut S, place: u64, by: Mult) -> Result<i128, ReadStop>
+    requires { place + 16 < 2 ^ 63 }
+    ensures reads { Reads as_it_is (checked strong_value (is_moderate by) i128_at) place
+        (place + 16) (S.told source.old) (S.told source.new) result }
+    ensures bounds { IfOk result (λ v. IsModerate by v) }
+{
+    let value = read_i128(source, place)?;
+    if !is_moderate(by, value) {
+        return Err(Cause::StrongValue.at(place));
+    }
+    Ok(value)
+}
+
+fn is_moderate(by: Mult, value: i128) -> bool
+    ensures { result ≡ is_moderate by value }
+{
+    value.unsigned_abs() <= MAX_VALUE && scale(value, by).unsigned_abs() <= MAX_FORCE
+}
+
+// Reads so many values of a field, behind the first ones.
+fn read_values<S: Source>(
+    source: &mut S,
+    place: u64,
+    by: Mult,
+    field: &mut Lattice,
+    part: Part<usize>,
+) -> Result<(), ReadStop>
+    requires place { place + 16 * part.count < 2 ^ 63 }
+    requires count { part.first + part.count ≤ 3 * count_of field.old.cells }
+    requires moderate { FirstAre (IsModerate by) part.first field.old.values }
+    ensures part { ReadsPart (value_at by) 16 part.first part.count place (S.told source.old)
+        (S.told source.new) field.old.values field.new.values result }
+    ensures shape { IsSameShape field.old field.new }
+    ensures moderate { OnOk result
+        (FirstAre (IsModerate by) (part.first + part.count) field.new.values) }
+{
+    let cells = field.cells();
+    for index in 0..part.count {
+        let (axis, cell) = cells.place_at(part.first + index);
+        let value = read_value(source, place + 16 * index as u64, by)?;
+        field.set(axis, cell, value);
+    }
+    Ok(())
+}
+
+// Takes a piece of a field into the room, and reads its values.
+fn read_piece_of_values<S: Source>(
+    source: &mut S,
+    room: &mut [u8],
+    place: u64,
+    by: Mult,
+    field: &mut Lattice,
+    part: Part<usize>,
+) -> Result<(), ReadStop>
+    requires room { length room.old ≡ 16 * part.count }
+    requires place { place + 16 * part.count < 2 ^ 63 }
+    requires count { part.first + part.count ≤ 3 * count_of field.old.cells }
+    requires moderate { FirstAre (IsModerate by) part.first field.old.values }
+    ensures part { ReadsPart (value_at by) 16 part.first part.count place (S.told source.old)
+        (S.told source.new) field.old.values field.new.values result }
+    ensures shape { IsSameShape field.old field.new }
+    ensures moderate { OnOk result
+        (FirstAre (IsModerate by) (part.first + part.count) field.new.values) }
+{
+    let taken = fill(source, room)?;
+    let mut piece = Ahead::new(&room[..taken]);
+    read_values(&mut piece, place, by, field, part)
+}
+
+/// Reads the values of a field in the order of places, in pieces of up to 65536 bytes.
+pub fn read_field<S: Source>(
+    source: &mut S,
+    place: u64,
+    by: Mult,
+    field: &mut Lattice,
+) -> Result<(), ReadStop>
+    requires { place + 2 ^ 29 < 2 ^ 63 }
+    ensures reads { Reads (always field.new.values) (field_at field.old.cells by) place
+        (place + 16 * (3 * count_of field.old.cells))
+        (S.told source.old) (S.told source.new) result }
+    ensures shape { IsSameShape field.old field.new }
+    ensures bounds { OnOk result (IsBounded by field.new) }
+{
+    let all = 3 * field.cells().count() as usize;
+    let mut room = [0u8; 65536];
+    let mut first = 0;
+    while first < all {
+        let count = VALUES_OF_A_PIECE.min(all - first);
+        let at = place + 16 * first as u64;
+        let part = Part { first, count };
+        read_piece_of_values(source, &mut room[..16 * count], at, by, field, part)?;
+        first += count;
+    }
+    Ok(())
+}

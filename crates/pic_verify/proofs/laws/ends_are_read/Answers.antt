@@ -1,5 +1,0 @@
-use Rattle.pic_verify.proofs.ReadableEnd.{ends_are_read}
-use Rattle.pic_verify.proofs.laws.ends_are_read.Goals as goal
-
-pub returns : goal.returns
-returns c = ends_are_read

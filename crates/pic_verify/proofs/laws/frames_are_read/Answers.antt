@@ -1,5 +1,0 @@
-use Rattle.pic_verify.proofs.ReadableFrame.{frames_are_read}
-use Rattle.pic_verify.proofs.laws.frames_are_read.Goals as goal
-
-pub returns : goal.returns
-returns c = frames_are_read

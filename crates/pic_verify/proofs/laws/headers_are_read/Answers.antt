@@ -1,5 +1,0 @@
-use Rattle.pic_verify.proofs.ReadableHeader.{headers_are_read}
-use Rattle.pic_verify.proofs.laws.headers_are_read.Goals as goal
-
-pub returns : goal.returns
-returns c = headers_are_read
