@@ -1,5 +1,5 @@
 -- What each answer of a call means.
-use Rattle.std.proofs.Common.{◌≡◌, ℕ, ◌⊎◌, zero, suc, List, [], take, Option, Some, None, Result, Ok, Err, inl, inr, refl, sym, ap, ◌∙◌, subst, arith}
+use Rattle.std.proofs.Common.{◌≡◌, ℕ, ◌⊎◌, List, [], take, Option, Some, None, Result, Ok, Err, inl, inr, refl, sym, ap, ◌∙◌, subst, arith}
 use Rattle.std.specs.Prelude.{IfSome, IsOk}
 use Rattle.pic_io.specs.Told.{Told, Rose, Calm}
 use Rattle.pic_io.specs.Source.{IsAtEnd}
@@ -9,7 +9,6 @@ use Rattle.pic_io.specs.declared.side.Side.TheVariants.{Out, Report}
 use Rattle.pic_io.proofs.Puts.{cut_failed}
 use Rattle.pic_grid.specs.declared.stop.EndMark.{EndMark}
 use Rattle.pic_grid.specs.declared.stop.EndMark.TheVariants.{Done as EndDone, Stopped as EndStopped}
-use Rattle.pic_grid.specs.declared.stop.Stop.{Stop}
 use Rattle.pic_grid.specs.Differences.{div_e}
 use Rattle.pic_grid.specs.Lattice.{value_at}
 use Rattle.pic_charge.specs.declared.breaks.Break.{Break}
@@ -19,9 +18,10 @@ use Rattle.pic_charge.proofs.BreakLaws.{first_break_some}
 use Rattle.pic_deck.specs.Deck.{DeckView}
 use Rattle.pic_deck.specs.Refusal.{ReadDeck}
 use Rattle.pic_deck.specs.Reading.{walk}
-use Rattle.pic_step.specs.SerialStep.{World, stepped}
-use Rattle.pic_step.specs.SerialRun.{after, step_from, stopped_in}
+use Rattle.pic_step.specs.SerialStep.{World, e_of}
+use Rattle.pic_step.specs.SerialRun.{after}
 use Rattle.pic_step.specs.Sound.{IsSound}
+use Rattle.pic_step.proofs.AfterLaws.{step_after}
 use Rattle.pic_demo.specs.Demo.{demo_deck}
 use Rattle.pic_verify.specs.declared.verify_stop.VerifyStop.TheVariants as verify_stop
 use Rattle.pic_verify.specs.Verified.{Verdict, verified}
@@ -99,9 +99,9 @@ gave_held source source' (Some h) held gave is =
     let same : h ≡ held = cc in subst (λ (x : List ℕ). IfSome source.bytes (λ b. b ≡ x)) same gave.1
 
 least_of : (w : World) (b : Break) → state_break w ≡ Some b
-    → IsLeastBreak w.cells (div_e w.cells (value_at w.e)) (charge_of w.side w.cells w.kinds w.particles) b
+    → IsLeastBreak w.cells (div_e w.cells (value_at (e_of w))) (charge_of w.side w.cells w.kinds w.particles) b
 unfolding state_break
-least_of w b found = first_break_some w.cells (div_e w.cells (value_at w.e)) (charge_of w.side w.cells w.kinds w.particles) b found
+least_of w b found = first_break_some w.cells (div_e w.cells (value_at (e_of w))) (charge_of w.side w.cells w.kinds w.particles) b found
 
 accepted_in : (input : Option (List ℕ)) (held : List ℕ) (d : DeckView) → input ≡ Some held → walk (take deck_limit held) ≡ Ok d → accepted input ≡ Ok d
 accepted_in input held d is walked = ap accepted is ∙ ap unless_refused walked
@@ -145,13 +145,13 @@ means_early words source source' before now input finish is (early.Broken frame 
 -- how a run ends from the first state of its deck
 means_states : (words : List (List ℕ)) (source source' : Told) (before now : Sinks) → IsRun (command_of words) → (d : DeckView)
     → HasDeck (command_of words) source source' d → IsSound (first_state d)
-    → (r : Result World EndMark) → after (first_state d) d.steps ≡ r → Means words source source' before now (answer_of (end_where d.steps r))
+    → (r : Result World EndMark) → after (first_state d) d.steps ≡ r → Means words source source' before now (answer_of (end_where r))
 means_states words source source' before now named d held sound (Ok v) reached = record {
   command = named;
   deck = d;
   held = held;
   gauss = each_gauss (first_state d) sound;
-  last = refl;
+  last = let came = step_after (first_state d) v d.steps reached in omega (arith, came);
   reached = subst IsOk (sym reached) refl;
 }
 means_states words source source' before now named d held sound (Err (EndDone other)) stops =

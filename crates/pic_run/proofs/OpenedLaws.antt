@@ -112,7 +112,7 @@ read_and_tested a b limit bytes d (Err (Answer why)) is took walks tests = recor
 read_and_tested a b limit bytes d (Err NoMemory) is took walks tests = starved a b limit bytes took
 
 -- a deck that can be run, and one that doesn't meet Gauss's law
-pub ready : (o : Opened) → begun o.start ≡ first_state o.deck → IsSound (begun o.start) → AreTiled o.start.map o.start.e o.start.b
+pub ready : (o : Opened) → begun o.start ≡ first_state o.deck → IsSound (begun o.start) → AreTiled o.start.setup.map o.start.e o.start.b
     → state_break (begun o.start) ≡ None → IsTested o.deck o
 ready o start sound tiled none = record {
   deck = ap (unless_gauss_fails o.deck) (ap state_break (sym start) ∙ none);

@@ -31,7 +31,7 @@ use Rattle.pic_deck.specs.Deck.{DeckView, IsWithinLimits, heads_of, initial_e, i
 use Rattle.pic_deck.specs.Species.{head_of, no_species, fastest}
 use Rattle.pic_deck.specs.Initial.{IsMild}
 use Rattle.pic_load.specs.Loading.{IsParticleOf, AreLoaded}
-use Rattle.pic_step.specs.SerialStep.{World, next_world, stop_of_step, stepped}
+use Rattle.pic_step.specs.SerialStep.{World, e_of, b_of, next_world, stop_of_step, stepped}
 use Rattle.pic_grid.specs.Parts.{one_part}
 use Rattle.pic_step.specs.Sound.{IsSafe, IsSound}
 use Rattle.pic_step.specs.SerialRun.{kinds_of, start_of}
@@ -42,14 +42,11 @@ use Rattle.pic_run.specs.Starting.{state_break, IsGauss}
 -- no break is Gauss's law
 pub gauss_of : (w : World) → state_break w ≡ None → IsGauss w
 unfolding state_break
-gauss_of w none = meets_gauss w.side w.cells w.kinds w.particles w.e (charge_of w.side w.cells w.kinds w.particles) (λ p within. refl) none
+gauss_of w none = meets_gauss w.side w.cells w.kinds w.particles (e_of w) (charge_of w.side w.cells w.kinds w.particles) (λ p within. refl) none
 
 -- a mild field is safe
-safe_of : (side : ℕ) (n : Triple) (by : Multiplier) (g : Axis → Triple → ℤ) → IsMild n by g → IsSafe side n by (field_of side n one_part g)
+safe_of : (side : ℕ) (n : Triple) (by : Multiplier) (g : Axis → Triple → ℤ) → IsMild n by g → IsSafe by (field_of side n one_part g)
 safe_of side n by g mild = record {
-  cells = refl;
-  side_is = refl;
-  parts = refl;
   bounded = λ a p within. subst (IsBounded by) (sym (value_at-field_of side n one_part g a p within))
       (let small = mild.values a p within in record { value = record { size = le_trans small.size (lit≤ tt) }; force = mild.forces a p within });
 }
@@ -98,6 +95,7 @@ speeds_are d particles side loaded i x below =
 pub sound_start : (d : DeckView) (particles : List Particle) → IsWithinLimits d → AreLoaded d particles
     → state_break (start_of d particles) ≡ None → IsSound (start_of d particles)
 sound_start d particles limits loaded none = record {
+  reached = omega arith;
   side_least = let side = limits.settings.side in omega (arith, side);
   side_most = let side = limits.settings.side in omega (arith, side);
   cells = limits.settings.cells;
@@ -160,12 +158,12 @@ room_kept to w v steps room =
       count = room.count ∙ sym (step_count w);
     })
 
--- a field as it is, with the side and the parts that it has
-pub same_field : (f : Field) (side : ℕ) (parts : Triple) → side ≡ f.side → parts ≡ f.parts → record f { side = side; parts = parts } ≡ f
-same_field f side parts sides cut = λ i. record f { side = sides i; parts = cut i }
+-- a lattice that is filled with the values of another of its cells and parts
+pub filled_as : (f g : Field) → f.cells ≡ g.cells → f.side ≡ g.side → f.parts ≡ g.parts → record f { values = g.values } ≡ g
+filled_as f g cells side parts = λ i. record g { cells = cells i; side = side i; parts = parts i }
 
 -- the frame of a state that stands in a snapshot
-pub frame_is : (step : ℕ) (to : Snapshot) (w : World) (energies : Energies) → HoldsState to w → energies ≡ energies_in w
-    → frame_bytes step to.e to.b to.particles.items energies ≡ frame_bytes step w.e w.b w.particles (energies_in w)
-frame_is step to w energies filled measured =
-    (λ i. frame_bytes step (filled.e i) (filled.b i) (filled.particles i) (measured i))
+pub frame_is : (step : ℕ) (to : Snapshot) (w : World) (energies : Energies) → step ≡ w.step → HoldsState to w → energies ≡ energies_in w
+    → frame_bytes step to.e to.b to.particles.items energies ≡ frame_bytes w.step (e_of w) (b_of w) w.particles (energies_in w)
+frame_is step to w energies number filled measured =
+    (λ i. frame_bytes (number i) (filled.e i) (filled.b i) (filled.particles i) (measured i))

@@ -15,7 +15,7 @@ use Rattle.pic_deck.specs.Deck.{DeckView}
 use Rattle.pic_deck.specs.Reading.{walk}
 use Rattle.pic_demo.specs.Demo.{demo_deck}
 use Rattle.pic_load.specs.Loading.{loaded}
-use Rattle.pic_step.specs.SerialStep.{World}
+use Rattle.pic_step.specs.SerialStep.{World, e_of}
 use Rattle.pic_step.specs.SerialRun.{after}
 use Rattle.pic_step.specs.Sound.{IsSound}
 use Rattle.pic_run.specs.declared.cut.Cut.{Cut}
@@ -221,7 +221,8 @@ pub record IsRefused (words : List (List ℕ)) (source : Told) (refusal : Refusa
 -- the least node of a state where the divergence of E and the charge differ
 abbrev pub IsLeastBreakOf : World → Break → Type 0
 IsLeastBreakOf w b =
-    IsLeastBreak w.cells (div_e w.cells (value_at w.e)) (charge_of w.side w.cells w.kinds w.particles) b
+    IsLeastBreak w.cells (div_e w.cells (value_at (e_of w)))
+    (charge_of w.side w.cells w.kinds w.particles) b
 
 -- this is the least node where the E of the command's deck and its charge differ
 pub record BreaksGauss (words : List (List ℕ)) (source source' : Told) (b : Break) : Type 0 where

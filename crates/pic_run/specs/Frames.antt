@@ -1,5 +1,5 @@
 -- The frames of a run, each with its line, and how the run ends: this project's profile.
-use Rattle.std.specs.Prelude.{ℕ, ◌+◌, Bool, List, [], ◌∷◌, if◌then◌else◌, Result, Ok, Err}
+use Rattle.std.specs.Prelude.{◌≡◌, ℕ, ◌+◌, List, [], ◌∷◌, ◌++◌, map, if◌then◌else◌, Result, Ok, Err}
 use Rattle.std.specs.List.{flat_map, range_with_len}
 use Rattle.pic_io.specs.Sinks.{Piece}
 use Rattle.pic_grid.specs.declared.stop.EndMark.{EndMark}
@@ -9,14 +9,14 @@ use Rattle.pic_energy.specs.Energies.{energies_of}
 use Rattle.pic_energy.specs.Line.{frame_line, end_line}
 use Rattle.pic_dump.specs.DumpText.{frame_bytes, end_bytes}
 use Rattle.pic_dump.specs.Due.{is_due}
-use Rattle.pic_step.specs.SerialStep.{World}
+use Rattle.pic_step.specs.SerialStep.{World, e_of, b_of}
 use Rattle.pic_step.specs.SerialRun.{after}
 use Rattle.pic_run.specs.declared.output.Output.{Output}
 use Rattle.pic_run.specs.declared.output.Output.TheVariants.{Dump, Lines}
 
 -- the energies of a state
 abbrev pub energies_in : World → Energies
-energies_in w = energies_of w.scales w.kinds w.e w.b w.particles
+energies_in w = energies_of w.scales w.kinds (e_of w) (b_of w) w.particles
 
 -- a record on out and its line on report, or the line alone, on out
 abbrev pub shown : Output → List ℕ → List ℕ → Piece
@@ -24,39 +24,47 @@ shown Dump bytes line = record { out = bytes; line = line }
 shown Lines bytes line = record { out = line; line = [] }
 
 -- what a run puts of a state
-unfoldable pub frame_piece : Output → ℕ → World → Piece
-frame_piece output step w =
-    shown output (frame_bytes step w.e w.b w.particles (energies_in w))
-    (frame_line step (energies_in w))
+unfoldable pub frame_piece : Output → World → Piece
+frame_piece output w =
+    shown output (frame_bytes w.step (e_of w) (b_of w) w.particles (energies_in w))
+    (frame_line w.step (energies_in w))
 
--- the frame of a state, where it is due
-abbrev pub due_frame : Output → Bool → ℕ → World → List Piece
-due_frame output due step w = if due then frame_piece output step w ∷ [] else []
+-- the state that a run came to, where its frame is due
+abbrev pub due_state : ℕ → ℕ → Result World EndMark → List World
+due_state steps every (Ok w) = if is_due steps every w.step then w ∷ [] else []
+due_state steps every (Err end) = []
 
--- the frame after a step, where one is due and the run came so far
-abbrev pub frame_where : Output → ℕ → ℕ → ℕ → Result World EndMark → List Piece
-frame_where output steps every step (Ok w) = due_frame output (is_due steps every step) step w
-frame_where output steps every step (Err end) = []
-
-unfoldable pub frame_after : Output → ℕ → ℕ → World → ℕ → List Piece
-frame_after output steps every w step = frame_where output steps every step (after w step)
-
--- the due frames of so many steps, from one on
-unfoldable pub frames_from : Output → ℕ → ℕ → World → ℕ → ℕ → List Piece
-frames_from output steps every w first count =
-    flat_map (frame_after output steps every w) (range_with_len first count)
+-- of the states after `first`, `first + 1`, .. steps from w, so many, those whose frames are due
+unfoldable pub due_states : ℕ → ℕ → World → ℕ → ℕ → List World
+due_states steps every w first count =
+    flat_map (λ n. due_state steps every (after w n)) (range_with_len first count)
 
 -- the due frames of a run
 abbrev pub frames_of : Output → ℕ → ℕ → World → List Piece
-frames_of output steps every w = frames_from output steps every w 0 (steps + 1)
+frames_of output steps every w = map (frame_piece output) (due_states steps every w 0 (steps + 1))
 
--- how a run of so many steps ends
-abbrev pub end_where : ℕ → Result World EndMark → EndMark
-end_where steps (Ok w) = Done steps
-end_where steps (Err end) = end
+-- how a run ends that came so far
+abbrev pub end_where : Result World EndMark → EndMark
+end_where (Ok w) = Done w.step
+end_where (Err end) = end
 
+-- how a run of so many steps more ends
 unfoldable pub end_of_run : ℕ → World → EndMark
-end_of_run steps w = end_where steps (after w steps)
+end_of_run steps w = end_where (after w steps)
+
+-- a run goes on from a state that it came to as one that begins there: its due states are those up
+-- to that state, and those that lead on from it
+abbrev pub DueStatesJoin : Type 0
+DueStatesJoin =
+    (steps every m k : ℕ) (w v : World) → m + k ≡ steps → after w m ≡ Ok v
+    → due_states steps every w 0 (m + 1) ++ due_states steps every v 1 k
+    ≡ due_states steps every w 0 (steps + 1)
+
+-- and it ends as one that begins there
+abbrev pub EndsJoin : Type 0
+EndsJoin =
+    (steps m k : ℕ) (w v : World) → m + k ≡ steps → after w m ≡ Ok v
+    → end_of_run steps w ≡ end_of_run k v
 
 -- what a run puts of its end
 abbrev pub end_piece : Output → EndMark → Piece

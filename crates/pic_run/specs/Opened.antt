@@ -20,7 +20,7 @@ pub record IsTested (d : DeckView) (o : Opened) : Type 0 where
   pub deck : tested d ≡ Ok o.deck
   pub start : begun o.start ≡ first_state o.deck
   pub sound : IsSound (begun o.start)
-  pub tiled : AreTiled o.start.map o.start.e o.start.b
+  pub tiled : AreTiled o.start.setup.map o.start.e o.start.b
 
 -- what testing a deck answers
 abbrev pub Tests : DeckView → Result Opened StageStop → Type 0
@@ -33,7 +33,7 @@ pub record IsDeckOpened (input : Option (List ℕ)) (now : Told) (o : Opened) : 
   pub deck : opened input ≡ Ok o.deck
   pub start : begun o.start ≡ first_state o.deck
   pub sound : IsSound (begun o.start)
-  pub tiled : AreTiled o.start.map o.start.e o.start.b
+  pub tiled : AreTiled o.start.setup.map o.start.e o.start.b
   pub end : IsAtEnd now
 
 -- the early end of the input; where its deck is accepted, and where it is no longer than a deck may be,

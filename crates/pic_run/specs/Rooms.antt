@@ -1,7 +1,7 @@
 -- Room for the states of a run.
 use Rattle.std.specs.Prelude.{◌≡◌, length}
 use Rattle.pic_grid.specs.declared.snapshot.Snapshot.{Snapshot}
-use Rattle.pic_step.specs.SerialStep.{World}
+use Rattle.pic_step.specs.SerialStep.{World, e_of, b_of}
 use Rattle.pic_grid.specs.Parts.{one_part}
 
 -- a snapshot has the cells of a state, of their side, in one part, and as many particles
@@ -16,6 +16,6 @@ pub record HasShape (to : Snapshot) (w : World) : Type 0 where
 
 -- it holds the state
 pub record HoldsState (to : Snapshot) (w : World) : Type 0 where
-  pub e : to.e ≡ w.e
-  pub b : to.b ≡ w.b
+  pub e : to.e ≡ e_of w
+  pub b : to.b ≡ b_of w
   pub particles : to.particles.items ≡ w.particles

@@ -8,7 +8,7 @@ use Rattle.pic_charge.specs.Gauss.{first_break, MeetsGauss}
 use Rattle.pic_deck.specs.Deck.{DeckView, heads_of}
 use Rattle.pic_load.specs.Loading.{loaded}
 use Rattle.pic_dump.specs.Header.{HeaderView}
-use Rattle.pic_step.specs.SerialStep.{World}
+use Rattle.pic_step.specs.SerialStep.{World, e_of}
 use Rattle.pic_step.specs.SerialRun.{start_of, after}
 use Rattle.pic_step.specs.Sound.{IsSound}
 
@@ -19,11 +19,12 @@ first_state d = start_of d (loaded d)
 -- the least node of a state, x fastest, where the divergence of E and the charge differ
 unfoldable pub state_break : World → Option Break
 state_break w =
-    first_break w.cells (div_e w.cells (value_at w.e)) (charge_of w.side w.cells w.kinds w.particles)
+    first_break w.cells (div_e w.cells (value_at (e_of w)))
+    (charge_of w.side w.cells w.kinds w.particles)
 
 -- Gauss's law, at every node of a state
 abbrev pub IsGauss : World → Type 0
-IsGauss w = MeetsGauss w.side w.cells w.kinds w.particles w.e
+IsGauss w = MeetsGauss w.side w.cells w.kinds w.particles (e_of w)
 
 -- Gauss's law, at every node of every state of a serial run
 pub record EachGauss (w : World) : Type 0 where

@@ -1,10 +1,10 @@
 //! What a run puts of its states and of its end.
 
-ghost use Rattle.std.specs.Prelude.{◌≡◌, ◌≤◌, [], ◌∷◌};
+ghost use Rattle.std.specs.Prelude.{◌≡◌, ◌≤◌, [], ◌∷◌, map, Ok};
 ghost use Rattle.pic_io.specs.Sinks.{sinks, Writes};
 ghost use Rattle.pic_step.specs.Sound.{IsSound};
 ghost use Rattle.pic_dump.specs.Due.{is_due};
-ghost use Rattle.pic_run.specs.Frames.{frame_piece, due_frame, energies_in, end_piece};
+ghost use Rattle.pic_run.specs.Frames.{frame_piece, due_state, energies_in, end_piece};
 ghost use Rattle.pic_run.specs.Rooms.{HasShape, HoldsState};
 
 use crate::output::{Output, Plan};
@@ -28,7 +28,6 @@ pub fn write_due<O: Sink, R: Sink>(
     plan: Plan,
     out: &mut O,
     report: &mut R,
-    step: u32,
     state: &State,
     room: &mut Snapshot,
 ) -> Result<(), Side>
@@ -36,11 +35,12 @@ pub fn write_due<O: Sink, R: Sink>(
     requires room { HasShape room.old state.now.world }
     ensures writes { Writes (sinks (O.told out.old) (R.told report.old))
         (sinks (O.told out.new) (R.told report.new))
-        (due_frame plan.output (is_due plan.steps plan.every step) step state.now.world) result }
+        (map (frame_piece plan.output) (due_state plan.steps plan.every (Ok state.now.world)))
+        result }
     ensures room { HasShape room.new state.now.world }
 {
-    if is_due(plan.steps, plan.every, step) {
-        write_frame(plan.output, out, report, step, state, room)
+    if is_due(plan.steps, plan.every, state.step_number()) {
+        write_frame(plan.output, out, report, state, room)
     } else {
         Ok(())
     }
@@ -50,17 +50,17 @@ fn write_frame<O: Sink, R: Sink>(
     output: Output,
     out: &mut O,
     report: &mut R,
-    step: u32,
     state: &State,
     room: &mut Snapshot,
 ) -> Result<(), Side>
     requires { HasShape room.old state.now.world }
     ensures writes { Writes (sinks (O.told out.old) (R.told report.old))
         (sinks (O.told out.new) (R.told report.new))
-        (frame_piece output step state.now.world ∷ []) result }
+        (frame_piece output state.now.world ∷ []) result }
     ensures room { HasShape room.new state.now.world }
 {
     state.fill(room);
+    let step = state.step_number();
     let energies = energies_in(state, room);
     let line = frame_line(step, energies);
     let text = line.bytes();

@@ -2,6 +2,7 @@
 
 ghost use Rattle.std.specs.Prelude.{◌≡◌, None, IfOk};
 ghost use Rattle.pic_load.specs.Loading.{AreLoaded};
+ghost use Rattle.pic_step.specs.Kept.{AreTiled};
 ghost use Rattle.pic_step.specs.SerialRun.{start_of};
 ghost use Rattle.pic_step.specs.Sound.{IsSound};
 ghost use Rattle.pic_step.specs.Start.{begun};
@@ -18,12 +19,18 @@ use std::alloc::Global;
 /// of its particles, or `None` where it holds. The memory that this takes is given back.
 pub fn find_break(alloc: Global, deck: &Deck, start: &Start) -> Result<Option<Break>, NoMemory>
     requires start { begun start.now ≡ start_of deck.now start.now.particles.items }
+    requires tiled { AreTiled start.now.setup.map start.now.e start.now.b }
     requires loaded { AreLoaded deck.now start.now.particles.items }
     ensures value { IfOk result (λ found. found ≡ state_break (begun start.now)) }
     ensures sound { IfOk result (λ found. found ≡ None → IsSound (begun start.now)) }
 {
     let cells = deck.cells();
     let mut rho = Nodes::new(alloc, cells)?;
-    charge(cells, &start.kinds, &start.particles, &mut rho);
+    charge(
+        cells,
+        start.setup.kinds.as_slice(),
+        &start.particles,
+        &mut rho,
+    );
     Ok(gauss(cells, &start.e, &rho))
 }

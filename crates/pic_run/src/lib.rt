@@ -22,5 +22,5 @@ mod verify;
 mod writing;
 
 pub use ended::Ended;
-pub use laws::every_state_meets_gauss;
+pub use laws::{every_state_meets_gauss, runs_go_on};
 pub use top_call::pic;

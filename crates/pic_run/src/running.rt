@@ -1,6 +1,7 @@
 //! The command `run`, and the loop over the states of a run.
 
 ghost use Rattle.std.specs.Prelude.{◌≡◌, ◌<◌, ◌≤◌, [], ◌∷◌, IfOk};
+ghost use Rattle.pic_num.specs.Limits.{most_steps};
 ghost use Rattle.pic_crew.specs.Teams.{most_workers};
 ghost use Rattle.pic_io.specs.Sinks.{sinks, Writes};
 ghost use Rattle.pic_step.specs.Kept.{AreTiled};
@@ -64,8 +65,9 @@ fn run_deck<H: Threads + Sync, O: Sink, R: Sink, G: Gate + Sync>(
 ) -> Result<Ended, Cut>
     requires some { 0 < workers }
     requires most { workers ≤ most_workers }
+    requires begins { (begun opened.start).step ≡ 0 }
     requires sound { IsSound (begun opened.start) }
-    requires tiled { AreTiled opened.start.map opened.start.e opened.start.b }
+    requires tiled { AreTiled opened.start.setup.map opened.start.e opened.start.b }
     ensures { Finishes workers (dump_outcome (header_of opened.deck) (begun opened.start))
         (sinks (O.told out.old) (R.told report.old))
         (sinks (O.told out.new) (R.told report.new)) result }
@@ -85,7 +87,7 @@ pub struct Stage {
 /// The state that a run begins with, and room for a frame.
 pub fn stage_of(alloc: Global, start: Start) -> Result<Stage, NoMemory>
     requires sound { IsSound (begun start) }
-    requires tiled { AreTiled start.map start.e start.b }
+    requires tiled { AreTiled start.setup.map start.e start.b }
     ensures state { IfOk result (λ stage. stage.state.world ≡ begun start) }
     ensures room { IfOk result (λ stage. HasShape stage.room stage.state.world) }
 {
@@ -104,7 +106,7 @@ struct Ready {
 // Takes the memory of a run.
 fn prepare(alloc: Global, deck: &Deck, start: Start) -> Result<Ready, NoMemory>
     requires sound { IsSound (begun start) }
-    requires tiled { AreTiled start.map start.e start.b }
+    requires tiled { AreTiled start.setup.map start.e start.b }
     ensures header { IfOk result (λ ready. ready.header ≡ header_of deck.now) }
     ensures state { IfOk result (λ ready. ready.stage.state.world ≡ begun start) }
     ensures room { IfOk result (λ ready. HasShape ready.stage.room ready.stage.state.world) }
@@ -124,6 +126,7 @@ fn write_run<H: Threads + Sync, O: Sink, R: Sink, G: Gate + Sync>(
 ) -> Result<Ended, Cut>
     requires some { 0 < workers }
     requires most { workers ≤ most_workers }
+    requires begins { ready.stage.state.world.step ≡ 0 }
     requires room { HasShape ready.stage.room ready.stage.state.world }
     ensures { Finishes workers (dump_outcome ready.header ready.stage.state.world)
         (sinks (O.told out.old) (R.told report.old))
@@ -153,9 +156,11 @@ pub fn write_states<H: Threads + Sync, O: Sink, R: Sink, G: Gate + Sync>(
     report: &mut R,
     stage: Stage,
 ) -> Result<Ended, Cut>
+    requires steps { plan.steps ≤ most_steps }
     requires every { 1 ≤ plan.every }
     requires some { 0 < plan.workers }
     requires most { plan.workers ≤ most_workers }
+    requires begins { stage.state.world.step ≡ 0 }
     requires room { HasShape stage.room stage.state.world }
     ensures { WritesStates plan.workers
         (states_outcome plan.output [] (frames_of plan.output plan.steps plan.every stage.state.world)
@@ -177,9 +182,11 @@ fn write_frames<H: Threads + Sync, O: Sink, R: Sink, G: Gate + Sync>(
     report: &mut R,
     stage: Stage,
 ) -> Result<EndMark, Cut>
+    requires steps { plan.steps ≤ most_steps }
     requires every { 1 ≤ plan.every }
     requires some { 0 < plan.workers }
     requires most { plan.workers ≤ most_workers }
+    requires begins { stage.state.world.step ≡ 0 }
     requires room { HasShape stage.room stage.state.world }
     ensures { WritesFrames plan.workers
         (frames_of plan.output plan.steps plan.every stage.state.world)
@@ -192,7 +199,7 @@ fn write_frames<H: Threads + Sync, O: Sink, R: Sink, G: Gate + Sync>(
         mut state,
         mut room,
     } = stage;
-    write_due(plan, out, report, 0, &state, &mut room)?;
+    write_due(plan, out, report, &state, &mut room)?;
     for done in 0..plan.steps {
         let number = done + 1;
         state = match step(rt, alloc, state, plan.workers, gate) {
@@ -202,7 +209,7 @@ fn write_frames<H: Threads + Sync, O: Sink, R: Sink, G: Gate + Sync>(
             }
             Err(StepStop::NoMemory) => return Err(Cut::NoMemory),
         };
-        write_due(plan, out, report, number, &state, &mut room)?;
+        write_due(plan, out, report, &state, &mut room)?;
     }
     Ok(EndMark::Done { steps: plan.steps })
 }

@@ -1,6 +1,6 @@
 //! The command `demo`: the run of the deck that a number makes, as lines alone.
 
-ghost use Rattle.std.specs.Prelude.{◌<◌, ◌≤◌};
+ghost use Rattle.std.specs.Prelude.{◌≡◌, ◌<◌, ◌≤◌};
 ghost use Rattle.pic_crew.specs.Teams.{most_workers};
 ghost use Rattle.pic_io.specs.Sinks.{sinks};
 ghost use Rattle.pic_demo.specs.Demo.{demo_deck};
@@ -63,8 +63,9 @@ fn show_deck<H: Threads + Sync, O: Sink, R: Sink, G: Gate + Sync>(
     report: &mut R,
     workers: u32,
 ) -> Result<Ended, Cut>
+    requires begins { (begun opened.start).step ≡ 0 }
     requires sound { IsSound (begun opened.start) }
-    requires tiled { AreTiled opened.start.map opened.start.e opened.start.b }
+    requires tiled { AreTiled opened.start.setup.map opened.start.e opened.start.b }
     requires some { 0 < workers }
     requires most { workers ≤ most_workers }
     ensures { Finishes workers (lines_outcome opened.deck (begun opened.start))

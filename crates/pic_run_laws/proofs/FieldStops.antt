@@ -1,6 +1,6 @@
 -- What stops a field phase, within the limits of a dump: a cell of the grid, and a value or force value
 -- past its bound, of 128 bits.
-use Rattle.std.proofs.Common.{◌≡◌, ℕ, ℤ, ◌+◌, ◌-◌, ◌*◌, ◌/◌, ◌%◌, ◌^◌, ◌≤◌, ◌+ℤ◌, ◌-ℤ◌, Bool, true, false, [], ◌∷◌, if◌then◌else◌, ltb}
+use Rattle.std.proofs.Common.{◌≡◌, ℤ, ◌+◌, ◌-◌, ◌*◌, ◌/◌, ◌%◌, ◌^◌, ◌≤◌, Bool, true, false, [], ◌∷◌, if◌then◌else◌, ltb}
 use Rattle.std.proofs.Common.{unsigned_abs, Some, None, refl, sym, ◌∙◌, subst, arith}
 use Rattle.std.proofs.lemmas.Bool.{ltb-true, ltb-false}
 use Rattle.std.proofs.lemmas.Int.{ints, fits_signed_from_abs}
@@ -8,7 +8,6 @@ use Rattle.std.proofs.lemmas.Nat.{mod_below}
 use mir.Syntax.{w128}
 use Rattle.pic_num.specs.declared.axis.Axis.{Axis}
 use Rattle.pic_num.specs.declared.axis.Axis.TheVariants.{X, Y, Z}
-use Rattle.pic_num.specs.declared.mult.Scales.{Scales}
 use Rattle.pic_num.specs.Multiplier.{Multiplier, IsMultiplier}
 use Rattle.pic_num.specs.Rounding.{scaled}
 use Rattle.pic_num.specs.Sizes.{IsAtMost}
@@ -19,12 +18,13 @@ use Rattle.pic_grid.specs.declared.stop.Phase.{Phase}
 use Rattle.pic_grid.specs.declared.stop.Stop.{Stop}
 use Rattle.pic_grid.specs.declared.stop.Stop.TheVariants.{Field as FieldStop}
 use Rattle.pic_grid.specs.Cells.{IsWithin, count_of, cell_of, axis_of}
-use Rattle.pic_grid.specs.Differences.{up, down, curl_e, curl_b}
-use Rattle.pic_grid.specs.Lattice.{Field, value_at}
+use Rattle.pic_grid.specs.Differences.{up, down}
+use Rattle.pic_grid.specs.Lattice.{value_at}
 use Rattle.pic_grid.specs.Parts.{origin}
 use Rattle.pic_grid.proofs.CellLaws.{place_within}
 use Rattle.pic_field.specs.FieldPhases.{half_of, full_of, fault_of, least_fault}
 use Rattle.pic_reader.specs.Layout.{LayoutView}
+use Rattle.pic_step.specs.SerialStep.{World, e_of, b_of, half_at, full_at}
 use Rattle.pic_step.specs.Sound.{IsSafe}
 use Rattle.pic_step.proofs.OnePartLaws.{above_origin}
 use Rattle.pic_verify.specs.Readable.{IsReadableStop}
@@ -42,10 +42,11 @@ down_within n Y p h = let y = h.y in record { x = h.x; y = mod_below (p.y + (n.y
 down_within n Z p h = let z = h.z in record { x = h.x; y = h.y; z = mod_below (p.z + (n.z - 1)) n.z (omega (arith, z)) }
 
 -- a new value of B
-pub half_size : (side : ℕ) (n : Triple) (scales : Scales) (e b : Field) (a : Axis) (p : Triple) → IsMultiplier scales.e_to_b
-    → IsSafe side n scales.e_force e → IsSafe side n scales.b_force b → IsWithin p n → IsAtMost (half_of scales e a p (value_at b a p)) (2 ^ 124)
+pub half_size : (w : World) (a : Axis) (p : Triple) → IsMultiplier w.scales.e_to_b → IsSafe w.scales.e_force (e_of w) → IsSafe w.scales.b_force (b_of w)
+    → IsWithin p w.cells → IsAtMost (half_at w a p) (2 ^ 124)
 unfolding half_of
-half_size side n scales e b a p mult e_safe b_safe within =
+half_size w a p mult e_safe b_safe within =
+    let n = w.cells in
     let old = (b_safe.bounded a p within).value.size in
     let second = next_axis a in
     let third = next_axis second in
@@ -53,20 +54,17 @@ half_size side n scales e b a p mult e_safe b_safe within =
     let two = (part third p within).size in
     let three = (part second (up n third p) (up_within n third p within)).size in
     let four = (part second p within).size in
-    let at : (m : Triple) → n ≡ m → IsAtMost (value_at b a p -ℤ curl_e m (λ c q. scaled (value_at e c q) scales.e_to_b) a p) (2 ^ 124) =
-    λ m same. subst (λ (k : Triple). IsAtMost (value_at b a p -ℤ curl_e k (λ c q. scaled (value_at e c q) scales.e_to_b) a p) (2 ^ 124)) same
-    (record { size = omega (arith, ints, old, one, two, three, four) }) in
-    at e.cells (sym e_safe.cells)
+    record { size = omega (arith, ints, old, one, two, three, four) }
   where
-    part : (c : Axis) (q : Triple) → IsWithin q n → IsAtMost (scaled (value_at e c q) scales.e_to_b) (2 ^ 90 * (2 ^ 31 - 1))
-    part c q inside = scaled_size (value_at e c q) scales.e_to_b (2 ^ 90) mult (e_safe.bounded c q inside).value
+    part : (c : Axis) (q : Triple) → IsWithin q w.cells → IsAtMost (scaled (value_at (e_of w) c q) w.scales.e_to_b) (2 ^ 90 * (2 ^ 31 - 1))
+    part c q inside = scaled_size (value_at (e_of w) c q) w.scales.e_to_b (2 ^ 90) mult (e_safe.bounded c q inside).value
 
 -- a new value of E, with the current j
-pub full_size : (side : ℕ) (n : Triple) (scales : Scales) (e b : Field) (a : Axis) (p : Triple) (j : ℤ) → IsMultiplier scales.b_to_e
-    → IsSafe side n scales.e_force e → IsSafe side n scales.b_force b → IsAtMost j (2 ^ 90) → IsWithin p n
-    → IsAtMost (full_of scales b a p (value_at e a p) j) (2 ^ 124)
+pub full_size : (w : World) (j : Axis → Triple → ℤ) (a : Axis) (p : Triple) → IsMultiplier w.scales.b_to_e → IsSafe w.scales.e_force (e_of w)
+    → IsSafe w.scales.b_force (b_of w) → IsAtMost (j a p) (2 ^ 90) → IsWithin p w.cells → IsAtMost (full_at j w a p) (2 ^ 124)
 unfolding full_of
-full_size side n scales e b a p j mult e_safe b_safe small within =
+full_size w j a p mult e_safe b_safe small within =
+    let n = w.cells in
     let old = (e_safe.bounded a p within).value.size in
     let current = small.size in
     let second = next_axis a in
@@ -75,13 +73,10 @@ full_size side n scales e b a p j mult e_safe b_safe small within =
     let two = (part third (down n second p) (down_within n second p within)).size in
     let three = (part second p within).size in
     let four = (part second (down n third p) (down_within n third p within)).size in
-    let at : (m : Triple) → n ≡ m → IsAtMost (value_at e a p +ℤ curl_b m (λ c q. scaled (value_at b c q) scales.b_to_e) a p -ℤ j) (2 ^ 124) =
-    λ m same. subst (λ (k : Triple). IsAtMost (value_at e a p +ℤ curl_b k (λ c q. scaled (value_at b c q) scales.b_to_e) a p -ℤ j) (2 ^ 124)) same
-    (record { size = omega (arith, ints, old, current, one, two, three, four) }) in
-    at b.cells (sym b_safe.cells)
+    record { size = omega (arith, ints, old, current, one, two, three, four) }
   where
-    part : (c : Axis) (q : Triple) → IsWithin q n → IsAtMost (scaled (value_at b c q) scales.b_to_e) (2 ^ 90 * (2 ^ 31 - 1))
-    part c q inside = scaled_size (value_at b c q) scales.b_to_e (2 ^ 90) mult (b_safe.bounded c q inside).value
+    part : (c : Axis) (q : Triple) → IsWithin q w.cells → IsAtMost (scaled (value_at (b_of w) c q) w.scales.b_to_e) (2 ^ 90 * (2 ^ 31 - 1))
+    part c q inside = scaled_size (value_at (b_of w) c q) w.scales.b_to_e (2 ^ 90) mult (b_safe.bounded c q inside).value
 
 -- the stops that a place can have
 abbrev value_stop : Phase → Axis → Triple → ℤ → Stop

@@ -1,14 +1,15 @@
 -- The frame of a good state is a good frame.
-use Rattle.std.proofs.Common.{◌≡◌, ℕ, pos, ◌*◌, ◌/◌, ◌%◌, ◌<◌, List, length, get_or, Some, sym, ap, ◌∙◌, subst, arith}
-use Rattle.std.specs.List.{range_with_len}
+use Rattle.std.proofs.Common.{◌≡◌, ℕ, suc, pos, ◌*◌, ◌/◌, ◌%◌, ◌<◌, List, [], ◌∷◌, ◌++◌, length, get_or, map, All, Some, refl, sym, ap, ◌∙◌, subst, arith}
+use Rattle.std.specs.List.{flat_map, range_with_len}
 use Rattle.std.proofs.lemmas.List.Elements.{All-from_get_or}
+use Rattle.pic_io.specs.Sinks.{outs}
 use Rattle.pic_num.specs.declared.motion.Kind.{Kind}
 use Rattle.pic_num.specs.declared.motion.Particle.{Particle}
 use Rattle.pic_num.specs.declared.mult.Scales.{Scales}
 use Rattle.pic_num.specs.Multiplier.{Multiplier}
 use Rattle.pic_num.specs.Space.{Triple, triple, spot}
 use Rattle.pic_num.specs.Velocity.{IsKeptVelocity}
-use Rattle.pic_grid.specs.Cells.{count_of, axis_of, cell_of, place_of}
+use Rattle.pic_grid.specs.Cells.{count_of, axis_of, cell_of}
 use Rattle.pic_grid.specs.Hat.{IsInBox}
 use Rattle.pic_grid.specs.Lattice.{Field}
 use Rattle.pic_grid.proofs.CellLaws.{place_of-number, place_within}
@@ -16,47 +17,38 @@ use Rattle.pic_charge.specs.Gauss.{MeetsGauss}
 use Rattle.pic_energy.specs.Energies.{energies_of}
 use Rattle.pic_dump.specs.Due.{due_after}
 use Rattle.pic_dump.specs.DumpText.{frame_bytes}
-use Rattle.pic_reader.specs.FrameFields.{FrameView, frame_of, IsModerate, field_with}
+use Rattle.pic_reader.specs.FrameFields.{IsModerate, field_with}
 use Rattle.pic_reader.specs.Layout.{LayoutView}
 use Rattle.pic_reader.specs.Records.{AFrame}
 use Rattle.pic_reader.specs.Spelling.{record_bytes}
 use Rattle.pic_run.specs.declared.output.Output.TheVariants.{Dump}
 use Rattle.pic_run.specs.Frames.{energies_in, frame_piece}
-use Rattle.pic_step.specs.SerialStep.{World}
+use Rattle.pic_step.specs.SerialStep.{World, e_of, b_of}
 use Rattle.pic_step.specs.Sound.{IsSafe}
 use Rattle.pic_verify.specs.Meaning.{step_before}
 use Rattle.pic_verify.specs.Readable.{IsReadableField, IsReadableParticle, IsReadableFrame, IsGoodFrame}
-use Rattle.pic_run_laws.proofs.StateFits.{IsGoodState}
-
--- the frame of a state
-abbrev pub frame_in : ℕ → World → FrameView
-frame_in step w = frame_of step w.e.values w.b.values w.particles (energies_in w)
+use Rattle.pic_run_laws.specs.FrameStates.{frame_in}
+use Rattle.pic_run_laws.proofs.StateFits.{IsOfLayout, IsGoodState}
 
 -- a safe field with as many values as it has places
-readable_field : (side : ℕ) (n : Triple) (by : Multiplier) (f : Field) → IsSafe side n by f → length f.values ≡ 3 * count_of n
-    → IsReadableField n by f.values
-readable_field side n by f safe count = record {
+readable_field : (by : Multiplier) (f : Field) → IsSafe by f → length f.values ≡ 3 * count_of f.cells → IsReadableField f.cells by f.values
+readable_field by f safe count = record {
   count = count;
   moderate = All-from_get_or (IsModerate by) f.values (pos 0) (λ i below.
+      let n = f.cells in
       let inside : i < 3 * count_of n = omega (arith, below, count) in
       let a = axis_of (i / count_of n) in
       let p = cell_of n (i % count_of n) in
       let bounded = safe.bounded a p (place_within n i inside) in
-      let number : place_of f.cells a p ≡ i = ap (λ (m : Triple). place_of m a p) safe.cells ∙ place_of-number n i inside in
-      subst (λ (j : ℕ). IsModerate by (get_or f.values j (pos 0))) number (record { value = bounded.value; force = bounded.force }));
+      subst (λ (j : ℕ). IsModerate by (get_or f.values j (pos 0))) (place_of-number n i inside) (record { value = bounded.value; force = bounded.force }));
 }
 
--- the same under the numbers of the layout
-field_of_layout : (l : LayoutView) (side : ℕ) (n : Triple) (by : Multiplier) (f : Field) → side ≡ l.side → n ≡ l.cells → IsSafe side n by f
-    → field_with l f.values ≡ f
-field_of_layout l side n by f sides cells safe =
-    λ i. record f { cells = sym (safe.cells ∙ cells) i; side = sym (safe.side_is ∙ sides) i; parts = sym safe.parts i }
+-- its fields under the numbers of the layout
+e_is : (l : LayoutView) (w : World) → IsOfLayout l w → field_with l w.e ≡ e_of w
+e_is l w of = λ i. record (e_of w) { cells = sym of.cells i; side = sym of.side i }
 
-e_is : (l : LayoutView) (w : World) → IsGoodState l w → field_with l w.e.values ≡ w.e
-e_is l w good = field_of_layout l w.side w.cells w.scales.e_force w.e good.of.side good.of.cells good.sound.e
-
-b_is : (l : LayoutView) (w : World) → IsGoodState l w → field_with l w.b.values ≡ w.b
-b_is l w good = field_of_layout l w.side w.cells w.scales.b_force w.b good.of.side good.of.cells good.sound.b
+b_is : (l : LayoutView) (w : World) → IsOfLayout l w → field_with l w.b ≡ b_of w
+b_is l w of = λ i. record (b_of w) { cells = sym of.cells i; side = sym of.side i }
 
 -- a particle
 readable_particle : (l : LayoutView) (w : World) → IsGoodState l w → (i : ℕ) (d : Particle) → i < length w.particles
@@ -74,35 +66,41 @@ readable_particle l w good i d below =
       species = listed.species;
     }
 
-readable_frame : (l : LayoutView) (step : ℕ) (w : World) → IsGoodState l w → IsReadableFrame l (frame_in step w)
-readable_frame l step w good =
+pub readable_frame : (l : LayoutView) (w : World) → IsGoodState l w → IsReadableFrame l (frame_in w)
+readable_frame l w good =
     let of = good.of in
     let sound = good.sound in
     record {
-      e = subst (λ (s : Scales). IsReadableField l.cells s.e_force w.e.values) of.scales (subst (λ (n : Triple). IsReadableField n w.scales.e_force w.e.values)
-          of.cells (readable_field w.side w.cells w.scales.e_force w.e sound.e of.e_count));
-      b = subst (λ (s : Scales). IsReadableField l.cells s.b_force w.b.values) of.scales (subst (λ (n : Triple). IsReadableField n w.scales.b_force w.b.values)
-          of.cells (readable_field w.side w.cells w.scales.b_force w.b sound.b of.b_count));
+      e = subst (λ (s : Scales). IsReadableField l.cells s.e_force w.e) of.scales (subst (λ (n : Triple). IsReadableField n w.scales.e_force w.e)
+          of.cells (readable_field w.scales.e_force (e_of w) sound.e of.e_count));
+      b = subst (λ (s : Scales). IsReadableField l.cells s.b_force w.b) of.scales (subst (λ (n : Triple). IsReadableField n w.scales.b_force w.b)
+          of.cells (readable_field w.scales.b_force (b_of w) sound.b of.b_count));
       identities = sound.identities ∙ ap (range_with_len 0) of.count;
       particles = readable_particle l w good;
-      energies = λ i. energies_of (of.scales i) (of.kinds i) (sym (e_is l w good) i) (sym (b_is l w good) i) w.particles;
+      energies = λ i. energies_of (of.scales i) (of.kinds i) (sym (e_is l w of) i) (sym (b_is l w of) i) w.particles;
     }
 
 -- the frame of a state, where it is due
-pub good_frame : (l : LayoutView) (k step : ℕ) (w : World) → due_after l.steps l.every (step_before l k) ≡ Some step → IsGoodState l w
-    → IsGoodFrame l k (frame_in step w)
-good_frame l k step w due good =
+pub good_frame : (l : LayoutView) (k : ℕ) (w : World) → due_after l.steps l.every (step_before l k) ≡ Some w.step → IsGoodState l w
+    → IsGoodFrame l k (frame_in w)
+good_frame l k w due good =
     let of = good.of in
     record {
       due = due;
-      fits = readable_frame l step w good;
-      gauss = subst (λ (s : ℕ). MeetsGauss s l.cells l.kinds w.particles (field_with l w.e.values)) of.side
-          (subst (λ (n : Triple). MeetsGauss w.side n l.kinds w.particles (field_with l w.e.values)) of.cells
-          (subst (λ (ks : List Kind). MeetsGauss w.side w.cells ks w.particles (field_with l w.e.values)) of.kinds
-          (subst (λ (f : Field). MeetsGauss w.side w.cells w.kinds w.particles f) (sym (e_is l w good)) good.sound.gauss)));
+      fits = readable_frame l w good;
+      gauss = subst (λ (s : ℕ). MeetsGauss s l.cells l.kinds w.particles (field_with l w.e)) of.side
+          (subst (λ (n : Triple). MeetsGauss w.side n l.kinds w.particles (field_with l w.e)) of.cells
+          (subst (λ (ks : List Kind). MeetsGauss w.side w.cells ks w.particles (field_with l w.e)) of.kinds
+          (subst (λ (f : Field). MeetsGauss w.side w.cells w.kinds w.particles f) (sym (e_is l w of)) good.sound.gauss)));
     }
 
 -- its text is what the run puts of the state
-pub frame_text : (l : LayoutView) (step : ℕ) (w : World) → IsGoodState l w → (frame_piece Dump step w).out ≡ record_bytes l (AFrame (frame_in step w))
+frame_text : (l : LayoutView) (w : World) → IsOfLayout l w → (frame_piece Dump w).out ≡ record_bytes l (AFrame (frame_in w))
 unfolding frame_piece
-frame_text l step w good = λ i. frame_bytes step (sym (e_is l w good) i) (sym (b_is l w good) i) w.particles (energies_in w)
+frame_text l w of = λ i. frame_bytes w.step (sym (e_is l w of) i) (sym (b_is l w of) i) w.particles (energies_in w)
+
+-- so is that of the frames of states
+pub frames_text : (l : LayoutView) (ws : List World) → All (IsGoodState l) ws
+    → outs (map (frame_piece Dump) ws) ≡ flat_map (λ f. record_bytes l (AFrame f)) (map frame_in ws)
+frames_text l [] good = refl
+frames_text l (w ∷ ws) good = λ i. frame_text l w (good 0 w (omega arith)).of i ++ frames_text l ws (λ j d below. good (suc j) d (omega (arith, below))) i

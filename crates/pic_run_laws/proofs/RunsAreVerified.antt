@@ -1,4 +1,4 @@
--- The two laws: of a deck's dump, and of the two commands.
+-- The laws of a deck's dump, and of the two commands.
 use Rattle.std.proofs.Common.{◌≡◌, ℕ, List, length, Option, Some, None, Ok, Err, refl, sym, ap, ◌∙◌, subst}
 use Rattle.std.proofs.lemmas.List.Elements.{All-map}
 use Rattle.pic_charge.specs.declared.breaks.Break.{Break}
@@ -16,10 +16,12 @@ use Rattle.pic_run.specs.Early.{Staged, ◌>>=◌, ended_early}
 use Rattle.pic_run.specs.Outcome.{Outcome, out_text, accepted, unless_gauss_fails, tested, on_deck, run_outcome, verdict_outcome, command_outcome, outcome}
 use Rattle.pic_run.specs.Starting.{header_of, first_state, state_break}
 use Rattle.pic_verify.specs.Verified.{Verdict, verified}
+use Rattle.pic_run_laws.specs.FrameStates.{FramesGiveStates}
 use Rattle.pic_run_laws.specs.KeptDecks.{IsKeptDeck}
 use Rattle.pic_run_laws.specs.RunsAreVerified.{RunsAreVerified, IsOfRun, RunsAreFoundGood}
 use Rattle.pic_run_laws.proofs.RunLaws.{run_verified}
 use Rattle.pic_run_laws.proofs.StartLaws.{header_kept, start_good}
+use Rattle.pic_run_laws.proofs.StateFits.{of_after, stands}
 use Rattle.pic_run_laws.proofs.StepStops.{stops_fit}
 
 pub runs_are_verified : RunsAreVerified
@@ -27,7 +29,12 @@ runs_are_verified d kept passes =
     let h = header_of d in
     let header = header_kept d kept in
     let kinds = All-map HasMultipliers (λ (s : HeadView). s.kind) h.species header.kinds in
-    run_verified h header (first_state d) (stops_fit (layout_of h) header.scales kinds) (start_good d kept passes)
+    run_verified h header (first_state d) refl (stops_fit (layout_of h) header.scales kinds) (start_good d kept passes)
+
+pub frames_give_states : FramesGiveStates
+frames_give_states d n v kept passes reached =
+    let l = layout_of (header_of d) in
+    stands l v (of_after l (first_state d) (start_good d kept passes).of n v reached)
 
 -- no early end is that of a run
 not_early : (end : Early) → IsOfRun (ended_early end) → ⊥

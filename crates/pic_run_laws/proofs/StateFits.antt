@@ -1,21 +1,22 @@
 -- What the states of a run have in common with the layout of its dump: the first has it, and each step
 -- keeps it.
-use Rattle.std.proofs.Common.{◌≡◌, ℕ, zero, suc, ◌*◌, List, length, sum, All, Result, Ok, Err, refl, ◌∙◌, subst}
+use Rattle.std.proofs.Common.{◌≡◌, ℕ, ◌+◌, ◌*◌, ◌≤◌, List, length, sum, All, Result, Ok, Err, refl, sym, ◌∙◌, subst}
 use Rattle.pic_num.specs.declared.motion.Particle.{Particle}
+use Rattle.pic_num.specs.Limits.{most_steps}
 use Rattle.pic_num.specs.Push.{Shift, Halting}
 use Rattle.pic_num.specs.Space.{Triple}
-use Rattle.pic_grid.specs.declared.stop.EndMark.{EndMark}
 use Rattle.pic_grid.specs.declared.stop.Stop.{Stop}
 use Rattle.pic_grid.specs.Cells.{count_of}
 use Rattle.pic_grid.specs.PushPhase.{push_of, after_push, moved}
 use Rattle.pic_grid.proofs.LatticeLaws.{length-values_of}
-use Rattle.pic_push.proofs.PushLaws.{unless_ok, length-moved_all, all_kept}
+use Rattle.pic_push.proofs.PushLaws.{length-moved_all, all_kept}
 use Rattle.pic_reader.specs.Layout.{LayoutView}
-use Rattle.pic_step.specs.SerialStep.{World, around, half_at, full_at, half_on, push_on, current_of, before_electric, next_world, stop_of_step, stepped}
-use Rattle.pic_step.specs.SerialRun.{after, step_from, stopped_in}
+use Rattle.pic_step.specs.SerialStep.{World, around, half_at, full_at, half_on, push_on, current_of, before_electric, next_world, stepped}
+use Rattle.pic_step.specs.SerialRun.{after}
 use Rattle.pic_step.specs.Sound.{IsSound}
-use Rattle.pic_step.proofs.SoundLaws.{step_sound}
+use Rattle.pic_step.proofs.AfterLaws.{after_keeps, after_sound_within}
 use Rattle.pic_verify.specs.Readable.{IsReadableStop}
+use Rattle.pic_run_laws.specs.FrameStates.{frame_in, world_in}
 use Rattle.pic_run_laws.proofs.Listed.{IsListed}
 
 -- a state of a dump: the numbers that its header says, as many values and particles, and such particles
@@ -24,8 +25,8 @@ pub record IsOfLayout (l : LayoutView) (w : World) : Type 0 where
   pub cells : w.cells ≡ l.cells
   pub scales : w.scales ≡ l.scales
   pub kinds : w.kinds ≡ l.kinds
-  pub e_count : length w.e.values ≡ 3 * count_of w.cells
-  pub b_count : length w.b.values ≡ 3 * count_of w.cells
+  pub e_count : length w.e ≡ 3 * count_of w.cells
+  pub b_count : length w.b ≡ 3 * count_of w.cells
   pub count : length w.particles ≡ sum l.counts
   pub listed : All (IsListed l.counts) w.particles
 
@@ -62,22 +63,14 @@ next_of_layout l w of =
           (λ particle is. listed_after l.counts w.side w.cells particle (push_of (around h) particle) is) of.listed;
     }
 
-next_good : (l : LayoutView) (w v : World) → IsGoodState l w → stepped w ≡ Ok v → IsGoodState l v
-unfolding stepped
-next_good l w v good steps =
-    let is = unless_ok (stop_of_step w) (next_world w) v steps in
-    subst (IsGoodState l) is.1 (record { sound = step_sound w good.sound is.0; of = next_of_layout l w good.of })
+-- every state of a run that begins in such a state has them too
+pub of_after : (l : LayoutView) (w : World) → IsOfLayout l w → (n : ℕ) (v : World) → after w n ≡ Ok v → IsOfLayout l v
+of_after l w of = after_keeps (λ n u. IsOfLayout l u) w of (λ n u v to of'. subst (IsOfLayout l) to.is (next_of_layout l u of'))
 
--- every state of a run that begins in such a state is one
-pub good_after : (l : LayoutView) (w : World) → IsGoodState l w → (n : ℕ) (v : World) → after w n ≡ Ok v → IsGoodState l v
-unfolding after
-good_after l w good zero v reached = let same : w ≡ v = cc in subst (IsGoodState l) same good
-good_after l w good (suc n) v reached = go (after w n) (λ u is. good_after l w good n u is) reached
-  where
-    last : (u : World) → IsGoodState l u → (r : Result World Stop) → stepped u ≡ r → stopped_in (suc n) r ≡ Ok v → IsGoodState l v
-    last u good' (Ok next) is e = let same : next ≡ v = cc in subst (IsGoodState l) same (next_good l u next good' is)
-    last u good' (Err stop) is e = cc
+-- and each of them is good, up to the greatest number of steps
+pub good_after : (l : LayoutView) (w : World) → IsGoodState l w → (n : ℕ) (v : World) → w.step + n ≤ most_steps → after w n ≡ Ok v → IsGoodState l v
+good_after l w good n v most reached = record { sound = after_sound_within w good.sound n v most reached; of = of_after l w good.of n v reached }
 
-    go : (r : Result World EndMark) → ((u : World) → r ≡ Ok u → IsGoodState l u) → step_from (suc n) r ≡ Ok v → IsGoodState l v
-    go (Ok u) before e = last u (before u refl) (stepped u) refl e
-    go (Err end) before e = cc
+-- such a state stands in its frame
+pub stands : (l : LayoutView) (w : World) → IsOfLayout l w → world_in l (frame_in w) ≡ w
+stands l w of = λ i. record w { side = sym of.side i; cells = sym of.cells i; scales = sym of.scales i; kinds = sym of.kinds i }

@@ -3,16 +3,13 @@ use Rattle.std.proofs.Common.{◌≡◌, ◌<◌, List, All, Some, None, inl, in
 use Rattle.std.specs.Option.{option_or}
 use Rattle.pic_num.specs.declared.motion.Kind.{Kind}
 use Rattle.pic_num.specs.declared.mult.Scales.{Scales}
-use Rattle.pic_num.specs.Space.{Triple}
 use Rattle.pic_grid.specs.declared.stop.Phase.{Phase}
 use Rattle.pic_grid.specs.declared.stop.Phase.TheVariants.{Half1, Half2, Electric}
 use Rattle.pic_grid.specs.declared.stop.Stop.{Stop}
-use Rattle.pic_grid.specs.Lattice.{field_of}
-use Rattle.pic_grid.specs.Parts.{one_part}
 use Rattle.pic_grid.specs.PushPhase.{push_stop}
 use Rattle.pic_dump.specs.Header.{AreMultipliers, HasMultipliers}
 use Rattle.pic_reader.specs.Layout.{LayoutView}
-use Rattle.pic_step.specs.SerialStep.{World, around, half_at, full_at, half_on, push_on, current_of, before_electric, half_stop, full_stop, stop_of_step, stepped}
+use Rattle.pic_step.specs.SerialStep.{World, e_of, b_of, around, half_at, full_at, half_on, push_on, current_of, before_electric, half_stop, full_stop, stop_of_step, stepped}
 use Rattle.pic_step.specs.Sound.{IsSafe}
 use Rattle.pic_step.proofs.SoundLaws.{safe_after}
 use Rattle.pic_verify.specs.Readable.{IsReadableStop}
@@ -22,17 +19,14 @@ use Rattle.pic_run_laws.proofs.CurrentSizes.{current_size}
 use Rattle.pic_run_laws.proofs.PushStops.{IsEither, either, unless_err, push_stop_fits}
 
 -- B after a half step without a stop
-safe_half : (w : World) (phase : Phase) → w.b.parts ≡ one_part → half_stop phase w ≡ None → IsSafe w.side w.cells w.scales.b_force (half_on w).b
-safe_half w phase parts none =
-    subst (λ (cut : Triple). IsSafe w.side w.cells w.scales.b_force (field_of w.side w.cells cut (half_at w))) (sym parts)
-    (safe_after phase w.scales.b_force w.side w.cells (half_at w) none)
+safe_half : (w : World) (phase : Phase) → half_stop phase w ≡ None → IsSafe w.scales.b_force (b_of (half_on w))
+safe_half w phase none = safe_after phase w.scales.b_force w.side w.cells (half_at w) none
 
 -- half a step of B
 half_fits : (l : LayoutView) (w : World) (phase : Phase) (stop : Stop) → w.cells ≡ l.cells → AreMultipliers w.scales
-    → IsSafe w.side w.cells w.scales.e_force w.e → IsSafe w.side w.cells w.scales.b_force w.b → half_stop phase w ≡ Some stop → IsReadableStop l stop
+    → IsSafe w.scales.e_force (e_of w) → IsSafe w.scales.b_force (b_of w) → half_stop phase w ≡ Some stop → IsReadableStop l stop
 half_fits l w phase stop cells mults e b is =
-    phase_stop_fits l phase w.scales.b_force w.cells (half_at w) stop cells mults.b_force
-    (λ a p within. half_size w.side w.cells w.scales w.e w.b a p mults.e_to_b e b within) is
+    phase_stop_fits l phase w.scales.b_force w.cells (half_at w) stop cells mults.b_force (λ a p within. half_size w a p mults.e_to_b e b within) is
 
 module _ (l : LayoutView) (scales : AreMultipliers l.scales) (kinds : All HasMultipliers l.kinds) (w : World) (good : IsGoodState l w)
   where
@@ -48,7 +42,7 @@ module _ (l : LayoutView) (scales : AreMultipliers l.scales) (kinds : All HasMul
     push_fits : (stop : Stop) → half_stop Half1 w ≡ None → push_stop (around (half_on w)) w.particles ≡ Some stop → IsReadableStop l stop
     push_fits stop none is =
         let sound = good.sound in
-        let b = safe_half w Half1 sound.b.parts none in
+        let b = safe_half w Half1 none in
         push_stop_fits l (around (half_on w)) w.particles stop (record {
           some = above;
           most = sound.side_most;
@@ -65,16 +59,16 @@ module _ (l : LayoutView) (scales : AreMultipliers l.scales) (kinds : All HasMul
         → full_stop (current_of (half_on w)) (before_electric w) ≡ Some stop → IsReadableStop l stop
     full_fits stop first second is =
         let sound = good.sound in
-        let b = safe_half (push_on (half_on w)) Half2 sound.b.parts second in
+        let b = safe_half (push_on (half_on w)) Half2 second in
         let j = current_of (half_on w) in
         phase_stop_fits l Electric w.scales.e_force w.cells (full_at j (before_electric w)) stop good.of.cells mults.e_force
-        (λ a p within. full_size w.side w.cells w.scales w.e (before_electric w).b a p (j a p) mults.b_to_e sound.e b
+        (λ a p within. full_size (before_electric w) j a p mults.b_to_e sound.e b
         (current_size (around (half_on w)) w.particles a p above sound.side_most sound.kinds sound.few) within) is
 
     behind_push : (stop : Stop) → half_stop Half1 w ≡ None
         → IsEither (half_stop Half2 (push_on (half_on w))) (full_stop (current_of (half_on w)) (before_electric w)) stop → IsReadableStop l stop
     behind_push stop first (inl found) =
-        half_fits l (push_on (half_on w)) Half2 stop good.of.cells mults good.sound.e (safe_half w Half1 good.sound.b.parts first) found
+        half_fits l (push_on (half_on w)) Half2 stop good.of.cells mults good.sound.e (safe_half w Half1 first) found
     behind_push stop first (inr (none, found)) = full_fits stop first none found
 
     behind_half : (stop : Stop) → half_stop Half1 w ≡ None

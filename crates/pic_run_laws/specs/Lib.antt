@@ -1,3 +1,4 @@
 pub mod KeptDecks
+pub mod FrameStates
 pub mod RunsAreVerified
 pub mod CutTexts

@@ -1,6 +1,7 @@
 //! Laws of what runs write. Each is the contract of a function that does nothing.
 
 ghost use Rattle.pic_run_laws.specs.CutTexts.{CutBehindWholePieces, CutsLeaveFronts};
+ghost use Rattle.pic_run_laws.specs.FrameStates.{FramesGiveStates};
 ghost use Rattle.pic_run_laws.specs.RunsAreVerified.{RunsAreVerified, RunsAreFoundGood};
 
 /// What `run` puts on `out` of a deck that its type keeps and that meets Gauss's law is a dump that
@@ -9,6 +10,13 @@ ghost use Rattle.pic_run_laws.specs.RunsAreVerified.{RunsAreVerified, RunsAreFou
 pub fn runs_are_verified()
     ensures verified { RunsAreVerified }
     ensures found { RunsAreFoundGood }
+{}
+
+/// A state of the run of such a deck is the one that its frame says under the header of the dump: the
+/// step, the fields and the particles stand in the frame, and what stays in the header.
+#[tactic(auto, using(crate::proofs::RunsAreVerified::frames_give_states))]
+pub fn frames_give_states()
+    ensures { FramesGiveStates }
 {}
 
 /// Where a put fails among pieces that are put one after another, the pieces before one of them

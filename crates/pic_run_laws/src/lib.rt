@@ -6,4 +6,4 @@ mod kept;
 mod laws;
 
 pub use kept::{keep_deck, keep_read};
-pub use laws::{law_of_the_cut, runs_are_verified};
+pub use laws::{frames_give_states, law_of_the_cut, runs_are_verified};

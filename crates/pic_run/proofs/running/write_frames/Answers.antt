@@ -1,13 +1,14 @@
-use Rattle.std.proofs.Common.{◌≡◌, ℕ, ◌+◌, Bool, Ok, Err, refl, ap, sym, ◌∙◌, subst, arith}
+use Rattle.std.proofs.Common.{◌≡◌, ℕ, ◌+◌, Ok, Err, refl, ap, sym, ◌∙◌, subst, arith}
 use Rattle.std.proofs.lemmas.Result.{err_from_is_err_and}
-use Rattle.pic_io.specs.Sinks.{sinks, Wrote, outs, lines, CutAt}
+use Rattle.pic_io.specs.Sinks.{sinks}
 use Rattle.pic_io.proofs.Puts.{wrote_none}
 use Rattle.pic_step.specs.SerialRun.{after}
-use Rattle.pic_grid.specs.declared.stop.EndMark.TheVariants.{Stopped}
+use Rattle.pic_step.proofs.AfterLaws.{step_after}
+use Rattle.pic_grid.specs.declared.stop.EndMark.TheVariants.{Done, Stopped}
 use Rattle.pic_grid.specs.declared.stop.Stop.{Stop}
-use Rattle.pic_run.specs.Frames.{due_frame, frames_from, frames_of, end_of_run}
+use Rattle.pic_run.specs.Frames.{due_states, frames_of, end_of_run}
 use Rattle.pic_run.specs.Runs.{WroteFrames}
-use Rattle.pic_run.proofs.FrameLaws.{after_none, after_step, none_written, more_written, more_cut, some_written, stopped_written, done_written}
+use Rattle.pic_run.proofs.FrameLaws.{WroteStates, after_none, after_step, none_written, more_written, more_cut, some_written, stopped_written, done_written}
 use Rattle.pic_run.proofs.StartLaws.{room_kept}
 use Rattle.pic_run.proofs.running.write_frames.Goals as goal
 
@@ -31,21 +32,34 @@ loop-done-init g c =
     let first = c.in_ok-write_due.ensures.writes in
     record {
       reached = after_none w;
-      wrote = more_written c.args.plan.output c.args.plan.steps c.args.plan.every w w 0 a a b (after_none w) (none_written c.args.plan.output c.args.plan.steps c.args.plan.every w a
-          (wrote_none a)) first;
+      wrote = more_written c.args.plan.output c.args.plan.steps c.args.plan.every w w 0 a a b (after_none w)
+          (none_written c.args.plan.output c.args.plan.steps c.args.plan.every w a (wrote_none a)) first;
       room = c.write_due.ensures.room;
     }
 
+pub step-requires-clause-early : goal.step-requires-clause-early
+step-requires-clause-early g c =
+    let came = step_after c.args.stage.state.world c.loop-done.state.world c.loop-done.done c.loop-done.invariant.reached in
+    let begins = c.requires.begins in
+    let most = c.requires.steps in
+    omega (arith, came, begins, most)
+
 pub returns-in-Err-Stop : goal.returns-in-Err-Stop
 returns-in-Err-Stop g c =
+    let w = c.args.stage.state.world in
+    let v = c.loop-done.state.world in
     let a = sinks (g.O.Sink.told c.args.out.now) (g.R.Sink.told c.args.report.now) in
     let b = sinks (g.O.Sink.told c.loop-done.out) (g.R.Sink.told c.loop-done.report) in
     let stops = rw c.in-Err-Stop.field-0-is at c.in-Err-Stop.ensures.steps in
-    let frames = frames_of c.args.plan.output c.args.plan.steps c.args.plan.every c.args.stage.state.world in
-    let last = end_of_run c.args.plan.steps c.args.stage.state.world in
+    let frames = frames_of c.args.plan.output c.args.plan.steps c.args.plan.every w in
+    let last = end_of_run c.args.plan.steps w in
+    let came = step_after w v c.loop-done.done c.loop-done.invariant.reached in
+    let begins = c.requires.begins in
+    let number : v.step + 1 ≡ c.loop-done.done + 1 = omega (arith, came, begins) in
     subst (λ (stop : Stop). WroteFrames frames last (Stopped (c.loop-done.done + 1) stop) a b) (sym c.in-Err-Stop.stop-is)
-    (stopped_written c.args.plan.output c.args.plan.steps c.args.plan.every c.args.stage.state.world c.loop-done.state.world c.in-Err-Stop.stop
-    c.loop-done.done a b (omega arith) c.loop-done.invariant.reached stops c.loop-done.invariant.wrote)
+    (subst (λ (n : ℕ). WroteFrames frames last (Stopped n c.in-Err-Stop.stop) a b) number
+    (stopped_written c.args.plan.output c.args.plan.steps c.args.plan.every w v c.in-Err-Stop.stop
+    c.loop-done.done a b (omega arith) c.loop-done.invariant.reached stops c.loop-done.invariant.wrote))
 
 pub returns-in-Err-NoMemory : goal.returns-in-Err-NoMemory
 returns-in-Err-NoMemory g c =
@@ -54,7 +68,7 @@ returns-in-Err-NoMemory g c =
     let memory = rw c.in-Err-NoMemory.field-0-is at c.in-Err-NoMemory.ensures.memory in
     let many = (memory refl).0 in
     some_written c.args.plan.workers c.args.plan.output c.args.plan.steps c.args.plan.every c.args.stage.state.world c.loop-done.done a b (omega (arith, many))
-    c.requires.every (omega arith) c.loop-done.invariant.wrote
+    c.requires.every c.requires.begins (omega arith) c.loop-done.invariant.wrote
 
 pub write_due-requires-in-loop-done-clause-room : goal.write_due-requires-in-loop-done-clause-room
 write_due-requires-in-loop-done-clause-room g c =
@@ -97,10 +111,14 @@ returns g c =
     let v = c.loop-done.state.world in
     let steps = c.args.plan.steps in
     let every = c.args.plan.every in
+    let output = c.args.plan.output in
     let a = sinks (g.O.Sink.told c.args.out.now) (g.R.Sink.told c.args.report.now) in
     let b = sinks (g.O.Sink.told c.loop-done.out) (g.R.Sink.told c.loop-done.report) in
     let all : c.loop-done.done ≡ steps = omega arith in
     let reached = subst (λ (k : ℕ). after w k ≡ Ok v) all c.loop-done.invariant.reached in
-    let wrote = subst (λ (k : ℕ). Wrote a b (outs (frames_from c.args.plan.output steps every w 0 (k + 1))) (lines (frames_from c.args.plan.output steps every w 0
-    (k + 1)))) all c.loop-done.invariant.wrote in
-    done_written c.args.plan.output steps every w v a b reached wrote
+    let wrote = subst (λ (k : ℕ). WroteStates output a b (due_states steps every w 0 (k + 1))) all c.loop-done.invariant.wrote in
+    let came = step_after w v steps reached in
+    let begins = c.requires.begins in
+    let last : v.step ≡ steps = omega (arith, came, begins) in
+    subst (λ (n : ℕ). WroteFrames (frames_of output steps every w) (end_of_run steps w) (Done n) a b) last
+    (done_written output steps every w v a b reached wrote)

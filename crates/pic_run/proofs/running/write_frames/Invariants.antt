@@ -1,8 +1,9 @@
 use Rattle.std.proofs.Common.{◌≡◌, ◌+◌, Ok}
-use Rattle.pic_io.specs.Sinks.{sinks, Wrote, outs, lines}
+use Rattle.pic_io.specs.Sinks.{sinks}
 use Rattle.pic_step.specs.SerialRun.{after}
-use Rattle.pic_run.specs.Frames.{frames_from}
+use Rattle.pic_run.specs.Frames.{due_states}
 use Rattle.pic_run.specs.Rooms.{HasShape}
+use Rattle.pic_run.proofs.FrameLaws.{WroteStates}
 use Rattle.pic_run.proofs.running.write_frames.Given as goal
 
 -- the state is that after the steps done, and the frames up to it were written
@@ -10,8 +11,7 @@ abbrev pub invariant-loop-done : goal.invariant-loop-done
 invariant-loop-done g l =
     record {
       reached : after l.fn.stage.state.world l.done ≡ Ok l.state.world;
-      wrote : Wrote (sinks (g.O.Sink.told l.fn.out) (g.R.Sink.told l.fn.report)) (sinks (g.O.Sink.told l.out) (g.R.Sink.told l.report))
-          (outs (frames_from l.fn.plan.output l.fn.plan.steps l.fn.plan.every l.fn.stage.state.world 0 (l.done + 1)))
-          (lines (frames_from l.fn.plan.output l.fn.plan.steps l.fn.plan.every l.fn.stage.state.world 0 (l.done + 1)));
+      wrote : WroteStates l.fn.plan.output (sinks (g.O.Sink.told l.fn.out) (g.R.Sink.told l.fn.report)) (sinks (g.O.Sink.told l.out) (g.R.Sink.told l.report))
+          (due_states l.fn.plan.steps l.fn.plan.every l.fn.stage.state.world 0 (l.done + 1));
       room : HasShape l.room l.state.world;
     }
