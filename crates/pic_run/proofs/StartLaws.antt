@@ -4,8 +4,8 @@ use Rattle.std.proofs.Common.{◌≡◌, ℕ, ◌^◌, ◌<◌, List, length, ge
 use Rattle.std.proofs.Math.IntN.{ℤ}
 use Rattle.std.specs.Prelude.{All}
 use Rattle.std.proofs.lemmas.Int.{ints}
-use Rattle.std.proofs.lemmas.List.{get_or-map, length-map}
-use Rattle.std.proofs.lemmas.List.Elements.{All-from_get_or, All-get_or}
+use Rattle.std.proofs.lemmas.List.{length-map}
+use Rattle.std.proofs.lemmas.List.Elements.{All-get_or}
 use Rattle.std.proofs.Math.Nat.{le_trans}
 use Rattle.pic_num.specs.declared.axis.Axis.{Axis}
 use Rattle.pic_num.specs.declared.motion.Particle.{Particle}
@@ -19,8 +19,7 @@ use Rattle.pic_num.proofs.VersionLaws.{within_scheme, side_least, side_most}
 use Rattle.pic_grid.specs.declared.snapshot.Snapshot.{Snapshot}
 use Rattle.pic_grid.specs.Lattice.{Field, value_at, field_of}
 use Rattle.pic_grid.specs.Cells.{IsWithin}
-use Rattle.pic_grid.specs.PushPhase.{no_kind, moved_all, CanShare}
-use Rattle.pic_grid.specs.Species.{IsKind, AreHeads, no_head}
+use Rattle.pic_grid.specs.PushPhase.{moved_all, CanShare}
 use Rattle.pic_grid.proofs.LatticeLaws.{value_at-field_of}
 use Rattle.pic_charge.specs.Charge.{charge_of}
 use Rattle.pic_charge.proofs.BreakLaws.{meets_gauss}
@@ -28,14 +27,15 @@ use Rattle.pic_field.specs.FieldPhases.{IsBounded}
 use Rattle.pic_energy.specs.declared.amounts.Energies.{Energies}
 use Rattle.pic_record.specs.RecordText.{frame_bytes}
 use Rattle.pic_deck.specs.declared.species.Species.{Species}
-use Rattle.pic_deck.specs.Deck.{DeckView, IsWithinLimits, heads_of, initial_e, initial_b}
-use Rattle.pic_deck.specs.Species.{head_of, no_species, fastest}
+use Rattle.pic_deck.specs.Deck.{DeckView, IsWithinLimits, initial_e, initial_b}
+use Rattle.pic_deck.specs.Species.{fastest}
 use Rattle.pic_deck.specs.Initial.{IsMild}
 use Rattle.pic_load.specs.Loading.{IsParticleOf, AreLoaded}
 use Rattle.pic_step.specs.SerialStep.{World, e_of, b_of, next_world, stop_of_step, stepped}
 use Rattle.pic_grid.specs.Parts.{one_part}
 use Rattle.pic_step.specs.Sound.{IsSafe, IsSound}
 use Rattle.pic_step.specs.SerialRun.{kinds_of, start_of}
+use Rattle.pic_step.proofs.StartLaws.{are_kinds}
 use Rattle.pic_run.specs.Frames.{energies_in}
 use Rattle.pic_run.specs.Rooms.{HasShape, HoldsState}
 use Rattle.pic_run.specs.Starting.{state_break, IsGauss}
@@ -51,20 +51,6 @@ safe_of side n by g mild = record {
   bounded = λ a p within. subst (IsBounded by) (sym (value_at-field_of side n one_part g a p within))
       (let small = mild.values a p within in record { value = record { size = le_trans small.size (lit≤ tt) }; force = mild.forces a p within });
 }
-
--- the kinds of the species are within the limits
-kind_at : (d : DeckView) → AreHeads (allowance_of d.version).particles (heads_of d) → (i : ℕ) → i < length (kinds_of d) → IsKind (get_or (kinds_of d) i no_kind)
-kind_at d heads i below =
-    let count = length-map d.species (λ (s : Species). s.kind) in
-    let same = length-map d.species head_of in
-    let inside : i < length d.species = omega (arith, below, count) in
-    let h = heads.kinds i (omega (arith, inside, same)) in
-    let of_head = get_or-map head_of d.species i no_species no_head inside in
-    let of_kind = get_or-map (λ (s : Species). s.kind) d.species i no_species no_kind inside in
-    subst IsKind (ap (λ t. t.kind) of_head ∙ sym of_kind) h
-
-pub kinds_are : (d : DeckView) → AreHeads (allowance_of d.version).particles (heads_of d) → All IsKind (kinds_of d)
-kinds_are d heads = All-from_get_or IsKind (kinds_of d) no_kind (kind_at d heads)
 
 -- each particle of the deck has a share
 share_at : (d : DeckView) (particles : List Particle) → AreLoaded d particles → (i : ℕ) (x : Particle) → i < length particles
@@ -102,14 +88,9 @@ sound_start d particles limits loaded none = record {
   cells = limits.settings.cells;
   e = safe_of d.side d.cells d.scales.e_force (initial_e d) limits.e;
   b = safe_of d.side d.cells d.scales.b_force (initial_b d) limits.b;
-  species =
-      let count = length-map d.species (λ (s : Species). s.kind) in
-      let same = length-map d.species head_of in
-      let few = limits.heads.few in
-      omega (arith, count, same, few);
-  kinds = kinds_are d limits.heads;
+  kinds = are_kinds d limits.heads;
   few = le_trans loaded.few (within_scheme d.version).particles;
-  identities = loaded.identities;
+  ordered = record { identities = loaded.identities };
   places = shares_are d particles loaded;
   velocities = speeds_are d particles loaded;
   gauss = gauss_of (start_of d particles) none;

@@ -74,7 +74,7 @@ readable_frame l w good =
           of.cells (readable_field w.scales.e_force (e_of w) sound.e of.e_count));
       b = subst (λ (s : Scales). IsReadableField l.cells s.b_force w.b) of.scales (subst (λ (n : Triple). IsReadableField n w.scales.b_force w.b)
           of.cells (readable_field w.scales.b_force (b_of w) sound.b of.b_count));
-      identities = sound.identities ∙ ap (range_with_len 0) of.count;
+      identities = sound.ordered.identities ∙ ap (range_with_len 0) of.count;
       particles = readable_particle l w good;
       energies = λ i. energies_of (of.scales i) (of.kinds i) (sym (e_is l w of) i) (sym (b_is l w of) i) w.particles;
     }

@@ -19,8 +19,8 @@ use Rattle.pic_record.specs.Readable.{IsReadableEnd}
 use Rattle.pic_dump.specs.Readable.{dump_bytes, IsDueFrame, IsReadableDump}
 use Rattle.pic_dump.specs.DumpRead.{read_dump}
 use Rattle.pic_dump.proofs.ReadableDump.{dumps_are_read}
-use Rattle.pic_verify.specs.Verified.{ObeysGauss, verified}
-use Rattle.pic_verify.proofs.ReadableDump.{dumps_are_verified}
+use Rattle.pic_verify.specs.Verified.{ObeysGauss, verdict_of, verified}
+use Rattle.pic_verify.proofs.ReadableDump.{good_verdict}
 use Rattle.pic_run_laws.specs.FrameStates.{frame_in}
 use Rattle.pic_run_laws.proofs.StateFits.{IsGoodState, StopsFit}
 use Rattle.pic_run_laws.proofs.GoodFrames.{readable_frame, obeys_gauss, frames_text}
@@ -86,10 +86,11 @@ module _ (h : HeaderView) (header : IsHeader h) (w : World) (begins : w.step ≡
         ≡ Ok (record { header = h; frames = map frame_in states; end = Ok (end_of_run h.steps w) })
     run_read = ap read_dump text_is ∙ dumps_are_read h (map frame_in states) (end_of_run h.steps w) readable
 
-    -- and verified
+    -- and so verified
     pub run_verified : verified (out_text (dump_outcome h w)) ≡ Ok (length (dump_outcome h w).frames)
+    unfolding verified
     run_verified =
-        ap verified text_is
-        ∙ dumps_are_verified h (map frame_in states) (end_of_run h.steps w) readable
+        ap verdict_of run_read
+        ∙ good_verdict h (map frame_in states) (end_of_run h.steps w)
         (framed (λ k f. ObeysGauss (layout_of h) f) (λ k v turn. obeys_gauss (layout_of h) v turn.good))
         ∙ ap (λ n. Ok n) (length-map states frame_in ∙ sym (length-map states (frame_piece Dump)))

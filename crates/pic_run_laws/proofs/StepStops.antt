@@ -52,7 +52,7 @@ module _ (l : LayoutView) (scales : AreMultipliers l.scales) (kinds : All HasMul
           mults = kind_mults;
           shares = sound.places;
           velocities = sound.velocities;
-          identities = sound.identities;
+          identities = sound.ordered.identities;
         }) good.of.side good.of.count is
 
     full_fits : (stop : Stop) → half_stop Half1 w ≡ None → half_stop Half2 (push_on (half_on w)) ≡ None
@@ -63,7 +63,7 @@ module _ (l : LayoutView) (scales : AreMultipliers l.scales) (kinds : All HasMul
         let j = current_of (half_on w) in
         phase_stop_fits l Electric w.scales.e_force w.cells (full_at j (before_electric w)) stop good.of.cells mults.e_force
         (λ a p within. full_size (before_electric w) j a p mults.b_to_e sound.e b
-        (current_size (around (half_on w)) w.particles a p above sound.side_most sound.kinds sound.few) within) is
+        (current_size (around (half_on w)) w.particles a p above sound.side_most sound.kinds.limits sound.few) within) is
 
     behind_push : (stop : Stop) → half_stop Half1 w ≡ None
         → IsEither (half_stop Half2 (push_on (half_on w))) (full_stop (current_of (half_on w)) (before_electric w)) stop → IsReadableStop l stop

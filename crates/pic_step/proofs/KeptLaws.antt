@@ -43,7 +43,7 @@ module _ (step : ℕ) (m : Tiling) (scales : Scales) (kinds : List Kind) (e b : 
   list_is : all_particles p.tiles.items ≡ xs
   list_is =
       let w = world_of step (grid_of_tiling m) scales kinds e.values b.values xs in
-      particles_are m xs p.tiles.items (above_zero w sound) map.thick (inside w sound) (record { identities = sound.identities })
+      particles_are m xs p.tiles.items (above_zero w sound) map.thick (inside w sound) sound.ordered
       (subst (λ (n : Tiling). AreFreshTiles n xs p.tiles.items) of_map ready.tiles)
 
   pub begun_is : seen step scales e b p ≡ world_of step (grid_of_tiling m) scales kinds e.values b.values xs
@@ -68,7 +68,7 @@ module _ (step : ℕ) (scales : Scales) (e b : Field) (p : Plasma) (map : IsMap 
   census =
       let xs = all_particles p.tiles.items in
       let all = together (chains_of p.tiles.items) in
-      same_census xs all (same_sym all xs same) (ordered_census xs (record { identities = keeps.sound.identities }))
+      same_census xs all (same_sym all xs same) (ordered_census xs keeps.sound.ordered)
 
   -- so they can be written into a list of as many, and make the list of the state
   pub can_write : (n : ℕ) → n ≡ length (all_particles p.tiles.items) → All (λ x. x.id < n) (together (chains_of p.tiles.items))
@@ -101,7 +101,7 @@ can_push step scales e b c p keeps tiled_c safe =
       plasma = keeps.plasma;
       opening = record {
         fresh = keeps.plasma.tiles;
-        ordered = record { identities = keeps.sound.identities };
+        ordered = keeps.sound.ordered;
         can = keeps.sound.places;
         few = keeps.sound.few;
       };

@@ -11,7 +11,7 @@ use Rattle.pic_tile.specs.Frame.{AreKinds}
 use Rattle.pic_step.specs.SerialRun.{kinds_of}
 
 -- the kinds of the species are within the limits
-kind_at : (d : DeckView) → AreHeads (heads_of d) → (i : ℕ) → i < length (kinds_of d) → IsKind (get_or (kinds_of d) i no_kind)
+kind_at : {most : ℕ} (d : DeckView) → AreHeads most (heads_of d) → (i : ℕ) → i < length (kinds_of d) → IsKind (get_or (kinds_of d) i no_kind)
 kind_at d heads i below =
     let count = length-map d.species (λ (s : Species). s.kind) in
     let same = length-map d.species head_of in
@@ -22,7 +22,7 @@ kind_at d heads i below =
     subst IsKind (ap (λ t. t.kind) of_head ∙ sym of_kind) h
 
 -- and there are no more than a run may have
-pub are_kinds : (d : DeckView) → AreHeads (heads_of d) → AreKinds (kinds_of d)
+pub are_kinds : {most : ℕ} (d : DeckView) → AreHeads most (heads_of d) → AreKinds (kinds_of d)
 are_kinds d heads = record {
   few =
       let count = length-map d.species (λ (s : Species). s.kind) in

@@ -1,6 +1,7 @@
 -- A readable dump whose frames meet Gauss's law is verified.
 use Rattle.std.proofs.Common.{◌≡◌, ℕ, suc, ◌+◌, List, [], ◌∷◌, length, Ok, All, ap, ◌∙◌, arith}
 use Rattle.pic_grid.specs.declared.stop.EndMark.{EndMark}
+use Rattle.pic_header.specs.Header.{HeaderView}
 use Rattle.pic_record.specs.FrameFields.{FrameView}
 use Rattle.pic_record.specs.Layout.{LayoutView, layout_of}
 use Rattle.pic_dump.proofs.ReadableDump.{dumps_are_read}
@@ -18,8 +19,13 @@ all_good l mark (f ∷ frames) k good =
     ∙ all_good l mark frames (suc k) (λ j d below. good (suc j) d (omega (arith, below)))
     ∙ ap (λ n. Ok n) more
 
+-- the verdict on a dump of such frames that was read to its end
+pub good_verdict : (h : HeaderView) (frames : List FrameView) (mark : EndMark) → All (ObeysGauss (layout_of h)) frames
+    → verdict_of (Ok (record { header = h; frames = frames; end = Ok mark })) ≡ Ok (length frames)
+good_verdict h frames mark good =
+    let count : 0 + length frames ≡ length frames = omega arith in
+    all_good (layout_of h) mark frames 0 good ∙ ap (λ n. Ok n) count
+
 pub dumps_are_verified : DumpsAreVerified
 unfolding verified
-dumps_are_verified h frames mark is good =
-    let count : 0 + length frames ≡ length frames = omega arith in
-    ap verdict_of (dumps_are_read h frames mark is) ∙ all_good (layout_of h) mark frames 0 good ∙ ap (λ n. Ok n) count
+dumps_are_verified h frames mark is good = ap verdict_of (dumps_are_read h frames mark is) ∙ good_verdict h frames mark good

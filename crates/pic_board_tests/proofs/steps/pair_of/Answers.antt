@@ -127,10 +127,9 @@ pair_sound side q v scales a b least most at low high a_is a_one b_is b_one = re
   cells = record { x_least = omega arith; x_most = omega arith; y_least = omega arith; y_most = omega arith; z_least = omega arith; z_most = omega arith };
   e = zeros_safe side four scales.e_force;
   b = zeros_safe side four scales.b_force;
-  species = omega arith;
-  kinds = (pair_kinds a b a_is a_one b_is b_one).limits;
+  kinds = pair_kinds a b a_is a_one b_is b_one;
   few = omega arith;
-  identities = refl;
+  ordered = record { identities = refl };
   places = two (CanShare side four (a ∷ b ∷ [])) _ _
       (record { species = omega arith; place = record { x = at; y = omega (arith, at); z = omega (arith, at) } })
       (record { species = omega arith; place = record { x = at; y = omega (arith, at); z = omega (arith, at) } });

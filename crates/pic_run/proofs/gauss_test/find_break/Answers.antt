@@ -21,14 +21,15 @@ use Rattle.pic_step.specs.SerialRun.{kinds_of}
 use Rattle.pic_step.specs.Sound.{IsSound}
 use Rattle.pic_step.specs.Start.{begun}
 use Rattle.pic_run.specs.Starting.{state_break}
-use Rattle.pic_run.proofs.StartLaws.{kinds_are, shares_are, initial_most, sound_start}
+use Rattle.pic_step.proofs.StartLaws.{are_kinds}
+use Rattle.pic_run.proofs.StartLaws.{shares_are, initial_most, sound_start}
 use Rattle.pic_run.proofs.gauss_test.find_break.Goals as goal
 
 pub charge-requires-clause-limits : goal.charge-requires-clause-limits
 charge-requires-clause-limits c =
     let d = c.args.deck.now in
     let kinds = c.as_slice.ensures.value ∙ ap (λ (w : World). w.kinds) c.requires.start in
-    all_charged c.as_slice.result.now (subst (λ (ks : List Kind). All IsKind ks) (sym kinds) (kinds_are d c.cells-cells.ensures.limits.heads))
+    all_charged c.as_slice.result.now (subst (λ (ks : List Kind). All IsKind ks) (sym kinds) (are_kinds d c.cells-cells.ensures.limits.heads).limits)
 
 pub charge-requires-clause-placed : goal.charge-requires-clause-placed
 charge-requires-clause-placed c =
