@@ -92,7 +92,8 @@ species_more t ss s are room next =
     let new : (i : ℕ) → i < length (map head_of ss) → (get_or (map head_of ss) i no_head).name ≡ s.name → ⊥ =
     λ i below. let inside : i < length ss = omega (arith, below, size) in rw (get_or-map head_of ss i no_species no_head inside) (next.name.differs i inside) in
     rw (map-append head_of ss (s ∷ []))
-    (heads_more (allowance_of t.version).particles (map head_of ss) (head_of s) are (omega (arith, size, room)) next.name.name next.kind new (rw (particles_of-heads ss) next.few))
+    (heads_more (allowance_of t.version).particles (map head_of ss) (head_of s) are (omega (arith, size, room))
+    next.name.name next.kind new (rw (particles_of-heads ss) next.few))
 
 pub heads_none : (most : ℕ) → AreHeads most (map head_of [])
 heads_none most = record {

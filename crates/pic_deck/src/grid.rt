@@ -135,7 +135,8 @@ fn read_side(alloc: Global, table: &Table, version: u32) -> Result<Sub, WalkStop
 
 /// The table `grid` of a deck of a version: the cells of each axis with their side, and the tiles.
 pub fn read_grid(alloc: Global, table: &Table, version: u32) -> Result<(Cells, [u32; 3]), WalkStop>
-    ensures walks { WalksAs (λ (g : Grid × List ℕ). g) (grid version (table_view table.now)) result }
+    ensures walks { WalksAs (λ (g : Grid × List ℕ). g)
+        (grid version (table_view table.now)) result }
     ensures cells { IfOk result (λ g. IsCells g.0.n) }
     ensures allowed { IfOk result (λ g. IsGridOf version g.0.n g.0.side) }
     ensures tiled { IfOk result (λ g. AreTiles g.0.n (triple g.1)) }

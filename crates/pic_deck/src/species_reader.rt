@@ -75,8 +75,8 @@ fn check_particles(
     requires few { particles_of earlier.now ≤ (allowance_of terms.version).particles }
     requires size { count < 2 ^ 96 }
     ensures walks { WalksAs (λ _. pos (particles_of earlier.now + count))
-        (within (from_to (pos 0) (pos (allowance_of terms.version).particles)) (path_of address.entry)
-        (pos (particles_of earlier.now + count))) result }
+        (within (from_to (pos 0) (pos (allowance_of terms.version).particles))
+        (path_of address.entry) (pos (particles_of earlier.now + count))) result }
     ensures few { OnOk result (particles_of earlier.now + count
         ≤ (allowance_of terms.version).particles) }
 {

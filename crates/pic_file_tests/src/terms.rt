@@ -6,8 +6,8 @@ use pic_walk::{Fault, Terms, WalkStop, read_draw, read_sites};
 use std::process::Abort;
 use toml::{Table, table_from_str};
 
-// a version and a power of two, a key and what is wrong there, and the refusal: its path and the three
-// numbers of a limit
+// a version and a power of two, a key and what is wrong there, and the refusal: its path and the
+// three numbers of a limit
 type Case = (u32, u32, &'static str, &'static str, &'static str);
 
 const SITES: [Case; 9] = [

@@ -68,6 +68,9 @@ speed_most side g drift spread mean width =
 pub drawn_slow : (side : ℕ) (g : Lcg) (drift : List ℤ) (spread : List ℕ) → IsSpread side drift spread → (a : Axis)
     → IsAtMost (along a (spot (drawn_velocity g drift spread))) (fastest side)
 unfolding drawn_velocity
-drawn_slow side g drift spread is X = speed_most side g (slice_index_or drift 0 (pos 0)) (slice_index spread 0) (is.mean X) (is.width 0 (omega arith))
-drawn_slow side g drift spread is Y = speed_most side (after 12 g) (slice_index_or drift 1 (pos 0)) (slice_index spread 1) (is.mean Y) (is.width 1 (omega arith))
-drawn_slow side g drift spread is Z = speed_most side (after 24 g) (slice_index_or drift 2 (pos 0)) (slice_index spread 2) (is.mean Z) (is.width 2 (omega arith))
+drawn_slow side g drift spread is X =
+    speed_most side g (slice_index_or drift 0 (pos 0)) (slice_index spread 0) (is.mean X) (is.width 0 (omega arith))
+drawn_slow side g drift spread is Y =
+    speed_most side (after 12 g) (slice_index_or drift 1 (pos 0)) (slice_index spread 1) (is.mean Y) (is.width 1 (omega arith))
+drawn_slow side g drift spread is Z =
+    speed_most side (after 24 g) (slice_index_or drift 2 (pos 0)) (slice_index spread 2) (is.mean Z) (is.width 2 (omega arith))

@@ -23,7 +23,8 @@ pub returns-in_err-species : goal.returns-in_err-species
 unfolding deck
 returns-in_err-species c =
     goes_on _ _ _ c.in_ok-check_deck_keys.ensures.answer (goes_on _ _ _ c.in_ok-settings.ensures.walks.answer
-    (goes_on _ _ _ c.in_ok-field.ensures.walks.answer (exits _ _ c.from_residual-in_err-species.ensures.1 (rw c.new-terms.ensures at c.in_err-species.ensures.walks))))
+    (goes_on _ _ _ c.in_ok-field.ensures.walks.answer (exits _ _ c.from_residual-in_err-species.ensures.1
+    (rw c.new-terms.ensures at c.in_err-species.ensures.walks))))
 
 pub returns-in_err-check_forces : goal.returns-in_err-check_forces
 unfolding deck

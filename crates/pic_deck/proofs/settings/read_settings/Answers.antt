@@ -12,7 +12,8 @@ returns-in_err-version-clause-walks c =
 pub returns-in_err-cells-clause-walks : goal.returns-in_err-cells-clause-walks
 unfolding settings
 returns-in_err-cells-clause-walks c =
-    goes_on _ _ _ (rw c.from_to-versions.ensures at c.in_ok-version.ensures.walks.answer) (exits _ _ c.from_residual-in_err-cells.ensures.1 c.in_err-cells.ensures.walks)
+    goes_on _ _ _ (rw c.from_to-versions.ensures at c.in_ok-version.ensures.walks.answer)
+    (exits _ _ c.from_residual-in_err-cells.ensures.1 c.in_err-cells.ensures.walks)
 
 pub returns-in_err-steps-clause-walks : goal.returns-in_err-steps-clause-walks
 unfolding settings

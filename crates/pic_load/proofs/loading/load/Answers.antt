@@ -35,7 +35,8 @@ load_species-requires-clause-filled c =
 pub load_species-requires-clause-side : goal.load_species-requires-clause-side
 load_species-requires-clause-side c =
     let d = c.args.deck.now in
-    subst (λ (t : TermsView). t.grid.side ≤ most_side) (sym c.terms-terms.ensures.value) (side_most d.version d.side c.terms-terms.ensures.limits.settings.allowed.sides)
+    subst (λ (t : TermsView). t.grid.side ≤ most_side) (sym c.terms-terms.ensures.value)
+    (side_most d.version d.side c.terms-terms.ensures.limits.settings.allowed.sides)
 
 pub loop-number-preserved : goal.loop-number-preserved
 loop-number-preserved c =
