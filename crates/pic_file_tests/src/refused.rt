@@ -170,6 +170,6 @@ fn bytes_that_are_no_deck(rt: HostRuntime) {
     refuses(&rt, b"", "missing version [0, 0, 0]");
     refuses(&rt, b"\xff", "text  [0, 0, 0]");
     refuses(&rt, b"version = 1.0", "kind version [0, 0, 0]");
-    refuses(&rt, b"version = 2", "limit version [2, 1, 1]");
+    refuses(&rt, b"version = 3", "limit version [3, 1, 2]");
     refuses(&rt, &long, "limit deck [1048577, 0, 1048576]");
 }

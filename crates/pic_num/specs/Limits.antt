@@ -47,7 +47,7 @@ most_particles_1 = 1048576
 
 -- the greatest version of decks and dumps that is accepted
 abbrev pub most_version : ℕ
-most_version = 1
+most_version = 2
 
 -- what a version of decks and dumps allows: version 1 less than the scheme, version 2 all of it
 abbrev pub allowance_of : ℕ → Allowance

@@ -53,11 +53,11 @@ const ANSWERS: [Answer; 11] = [
     ),
     (
         &["run"],
-        &[b"version = 2"],
+        &[b"version = 3"],
         NEVER,
         3,
         b"",
-        b"refused 5 limit version 2 1 1\n",
+        b"refused 5 limit version 3 1 2\n",
     ),
     (&["run", "run"], EMPTY, NEVER, 2, b"", USAGE),
     (&["go"], EMPTY, 0, 2, b"", USAGE),
