@@ -1,4 +1,5 @@
-"""The documents: each link, path, crate and section that one names is there; the front page is short, and rows can be read."""
+"""The documents: each link, path, crate, section and name of the code that one has is there; the front page is short, and rows can be
+read."""
 
 import re
 import unittest
@@ -8,6 +9,8 @@ HOME = Path(__file__).parents[2]
 DOCUMENTS = sorted([*HOME.glob("*.md"), *HOME.glob("docs/*.md"), *HOME.glob("bench/*.md")])
 # What changed once may name what has gone since.
 PRESENT = [page for page in DOCUMENTS if page.name != "CHANGELOG.md"]
+# These name types, functions, clauses, laws and tests.
+OF_THE_CODE = ("ARCHITECTURE", "DECISIONS", "GLOSSARY", "PROMISES", "PROOFS", "SCHEME", "TESTED", "WRONG_BODIES")
 LINK = re.compile(r"\]\(([^)#\s]+)(?:#[^)]*)?\)")
 CODE = re.compile(r"`([^`\n]+)`")
 PATH = re.compile(r"(?:crates|docs|bench|tools|python|examples|decks|release|\.ci)/[\w./*-]*|[A-Z]+\.(?:md|cff)")
@@ -38,9 +41,30 @@ class Documents(unittest.TestCase):
     def test_crates_are_there(self):
         there = {line.split(":")[0] for line in (HOME / "crates.txt").read_text().splitlines()}
         for page in (page for page in PRESENT if page.name != "INDEX.md"):
-            for name in re.findall(r"\bpic_[a-z_]+\b(?!\.\w|-)", page.read_text()):
+            for name in sorted(set(re.findall(r"\bpic_[a-z_]+\b(?!\.\w|-)", page.read_text()))):
                 with self.subTest(page=page.name, crate=name):
                     self.assertTrue(name in there)
+
+    def test_names_are_there(self):
+        """What stands in marks of code and looks like a name is a name of the sources or their files."""
+        files = [path for form in ("crates/*/src/*.rt", "crates/*/specs/*.antt", "crates/*/proofs/**/*.antt", "tools/*", "decks/*",
+                                   "python/*/*.py", "pic", "crates.txt") for path in HOME.glob(form) if path.is_file()]
+        there = {path.stem for path in HOME.glob("crates/*/must-fail/*.edit")} | {path.stem for path in files}
+        for path in files:
+            there.update(re.findall(r"[A-Za-z_]\w*(?:-\w+)*", path.read_text()))
+        for page in (HOME / "docs" / f"{name}.md" for name in OF_THE_CODE):
+            for name in sorted(set(CODE.findall(text_of(page)))):
+                if re.fullmatch(r"[A-Za-z_][\w-]*(?:::\w+)*", name):
+                    with self.subTest(page=page.name, name=name):
+                        self.assertTrue(there.issuperset(name.split("::")))
+
+    def test_modules_are_there(self):
+        """Lists of what has to be read: a crate, and modules of its definitions."""
+        text = text_of(HOME / "docs" / "PROMISES.md")
+        for crate, modules in re.findall(r"`(pic_\w+)`: ((?:[A-Z]\w+(?: \(`\w+`\))?(?:, )?)+)", text):
+            for name in re.findall(r"[A-Z]\w+", modules):
+                with self.subTest(crate=crate, module=name):
+                    self.assertTrue((HOME / "crates" / crate / "specs" / f"{name}.antt").exists())
 
     def test_sections_that_are_cited_are_there(self):
         for page in PRESENT:
