@@ -1,10 +1,11 @@
-"""Brings docs/MAP.md up to the crates: rows of modules, and the index of definitions.
+"""Writes docs/INDEX.md from the crates: each crate with its modules, by layers, and where each definition, type and function stands;
+and the drawing of the layers in docs/ARCHITECTURE.md.
 
     python3 tools/map.py [--check]
 
-A row that stands keeps its words; a module that has none gets them from the head of its file, and a row whose file is gone goes. The
-index is made anew. Headings, and what stands outside the tables, stay as they are. With --check nothing is written, and the exit
-status is 1 where something would be.
+The layers, and what a crate stands on, are those of crates.txt; the words of a crate are those at the head of its `lib`, and a module's
+the first sentence of its file. Nothing of this is written by hand. With --check nothing is written, and the exit status is 1 where
+something would be.
 """
 
 import re
@@ -13,92 +14,150 @@ import textwrap
 from pathlib import Path
 
 HOME = Path(__file__).parents[1]
-MAP = HOME / "docs" / "MAP.md"
-KINDS = {"src": ".rt", "specs": ".antt", "proofs": ".antt"}
+INDEX = HOME / "docs" / "INDEX.md"
+ARCHITECTURE = HOME / "docs" / "ARCHITECTURE.md"
+DRAWING = re.compile(r"(?<=<!-- layers: tools/map.py -->\n```\n).*?(?=```\n)", re.DOTALL)
+KINDS = {"src": (".rt", "has"), "specs": (".antt", "defines"), "proofs": (".antt", "has")}
 NO_ROW = {"lib", "main", "Lib", "tests", "trial"}
+COMMENT = re.compile(r"(?://!|///?|--)(?: |$)")
+SOURCE = re.compile(r" \([^()]*(?:19\d\d|Birdsall|profile)[^()]*\)")
+SENTENCE = re.compile(r".*?[^.][.](?= |$)")
 DEFINES = re.compile(r"^(?:  (?=abbrev|unfoldable|record|data))?(?:(?:abbrev|unfoldable|opaque) )*pub (?:record |data )?(?!use |mod )(\S+)")
-INDEX = "## Index of definitions"
+OWNS = re.compile(r"^impl(?:<.*?>)? (?:[\w<>, ]+ for )?(\w+)")
+HAS = re.compile(r"^(    )?pub (?:const |unsafe )?(?:struct|enum|trait|type|fn|const) (\w+)")
+
+OPENING = """# Index
+
+Written by `python3 tools/map.py` from the crates, and never by hand: `crates.txt` has the layers and what each crate stands on, the
+head of each file what it has. `docs/ARCHITECTURE.md` says how all this works together, `docs/GLOSSARY.md` what the words mean.
+Modules of tests (`tests`, and `trial`, which tests share) are in no table.
+"""
+DEFINITIONS = """
+## Definitions
+
+What contracts cite, each name with the crate (without `pic_`) and the module of `specs/` where it stands.
+"""
+NAMES = """
+## Types, traits, constants and functions of the code
+
+Each public name with the crate (without `pic_`) and the module of `src/` where it stands.
+"""
+
+
+def comment_of(path):
+    """The first paragraph of the first comment of a file, as one line."""
+    said = []
+    for line in path.read_text().splitlines():
+        if COMMENT.match(line) and COMMENT.sub("", line):
+            said.append(COMMENT.sub("", line).strip())
+        elif said:
+            break
+    return " ".join(said)
 
 
 def head_of(path):
-    """What the head of a file says: its first sentence, without the mark of a comment."""
-    said = []
-    for line in path.read_text().splitlines():
-        if not line.startswith(("//!", "-- ")) or (said and said[-1].endswith((".", ":"))):
-            break
-        said.append(line.lstrip("/!-").strip())
-    words = re.split(r"[.:](?: |$)", " ".join(said))[0]
+    """The first sentence of a file, without the sources that it names; it begins small where it begins with a word."""
+    said = SOURCE.sub("", comment_of(path))
+    found = SENTENCE.match(said)
+    words = (found[0] if found else said).rstrip(".:").replace("|", "\\|")
     return words[:1].lower() + words[1:] if words[1:2].islower() or words[1:2] == " " else words
 
 
+def wrapped(words):
+    return textwrap.wrap(words, 120, break_long_words=False, break_on_hyphens=False)
+
+
+def layers():
+    """The layers of crates.txt from the ground up: a name, and its crates with what each stands on."""
+    found = []
+    for line in (HOME / "crates.txt").read_text().splitlines():
+        if line.startswith("# layer: "):
+            found.append((line.removeprefix("# layer: "), []))
+        elif line and not line.startswith("#"):
+            name, _, uses = line.partition(":")
+            found[-1][1].append((name, uses.split()))
+    return found
+
+
 def modules(crate, kind):
-    return {path.stem: path for path in sorted((HOME / "crates" / crate / kind).glob("*" + KINDS[kind])) if path.stem not in NO_ROW}
+    ending = KINDS[kind][0]
+    return [path for path in sorted((HOME / "crates" / crate / kind).glob("*" + ending), key=lambda path: path.stem.lower())
+            if path.stem not in NO_ROW]
 
 
-def table(crate, kind, rows):
-    """The rows of one table, those that stand in their order, new ones where their names come."""
-    found = modules(crate, kind)
-    names = [name for name in rows if name in found]
-    for name in sorted(found):
-        if name not in names:
-            later = [i for i, other in enumerate(names) if other.lower() > name.lower()]
-            names.insert(later[0] if later else len(names), name)
-    return [f"| `{name}` | {rows.get(name) or head_of(found[name])} |" for name in names]
+def section(crate, uses):
+    """A crate: what it is, what it stands on, and its modules."""
+    lib = HOME / "crates" / crate / "src" / "lib.rt"
+    said = comment_of(lib if lib.exists() else lib.with_name("main.rt"))
+    below = f" Stands on {', '.join(f'`{name}`' for name in uses)}." if uses else " Stands on no other."
+    yield from ["", f"### {crate}", "", *wrapped(said + below)]
+    for kind, (_, verb) in KINDS.items():
+        found = modules(crate, kind)
+        if found:
+            yield from ["", f"| `{kind}/` | {verb} |", "|---|---|", *(f"| `{path.stem}` | {head_of(path)} |" for path in found)]
 
 
-def with_tables(lines):
-    """The text before the index, each table of modules brought up to date."""
-    made, crate, i = [], None, 0
-    while i < len(lines):
-        line = lines[i]
-        if line.startswith("### "):
-            crate = line[4:].strip()
-        begins = re.match(r"\| `(src|specs|proofs)/` \|", line)
-        made.append(line)
-        i += 1
-        if not (crate and begins):
-            continue
-        made.append(lines[i])
-        i += 1
-        rows = {}
-        while i < len(lines) and lines[i].startswith("| `"):
-            name, words = re.match(r"\| `([^`]+)` \| (.*) \|$", lines[i]).groups()
-            rows[name] = words
-            i += 1
-        made += table(crate, begins[1], rows)
-    return made
+def defined(lines):
+    """The names of the definitions of a module."""
+    for line in lines:
+        found = DEFINES.match(line)
+        if found:
+            yield found[1]
 
 
-def index():
-    """Each public definition of specs/ by its first letter, with the places where it stands."""
+def public(lines):
+    """The public names of a source, methods behind those of their types."""
+    owner = ""
+    for line in lines:
+        owned, found = OWNS.match(line), HAS.match(line)
+        owner = owned[1] if owned else owner
+        if found:
+            yield f"{owner}::{found[2]}" if found[1] else found[2]
+
+
+def names(kind, names_in):
+    """The names of one kind of files by their first letters, with the places where each stands; crates of tests are left out."""
     places = {}
-    for path in HOME.glob("crates/*/specs/*.antt"):
-        if path.stem == "Lib":
-            continue
-        for line in path.read_text().splitlines():
-            found = DEFINES.match(line)
-            if found:
-                places.setdefault(found[1], set()).add(f"{path.parts[-3].removeprefix('pic_')}/{path.stem}")
+    for crate in (name for _, crates in layers() for name, _ in crates if not name.endswith("_tests")):
+        for path in modules(crate, kind):
+            for name in names_in(path.read_text().splitlines()):
+                places.setdefault(name, set()).add(f"{crate.removeprefix('pic_')}/{path.stem}")
     letters = {}
     for name in sorted(places, key=lambda name: (name.lower(), name)):
         letters.setdefault(name[0].upper(), []).append(f"`{name}` {', '.join(sorted(places[name]))}")
     for letter in sorted(letters):
-        words = f"**{letter}**: {'; '.join(letters[letter])}."
-        yield from ["", *textwrap.wrap(words, 118, break_long_words=False, break_on_hyphens=False)]
+        yield from ["", *wrapped(f"**{letter}**: {'; '.join(letters[letter])}.")]
+
+
+def index():
+    """The whole of docs/INDEX.md."""
+    lines = OPENING.splitlines()
+    for layer, crates in layers():
+        lines += ["", f"## Layer: {layer}"]
+        for crate, uses in crates:
+            lines += section(crate, uses)
+    lines += [*DEFINITIONS.splitlines(), *names("specs", defined), *NAMES.splitlines(), *names("src", public)]
+    return "\n".join(lines) + "\n"
+
+
+def drawing():
+    """The layers, the top one first, each with its crates."""
+    lines = []
+    for layer, crates in layers()[::-1]:
+        rows = textwrap.wrap("  ".join(name for name, _ in crates), 72)
+        lines += [f"{name:<45}{row}".rstrip() for name, row in zip([layer, *[""] * len(rows)], rows)]
+    return "\n".join(lines) + "\n"
 
 
 def main():
-    before, _, after = MAP.read_text().partition(INDEX)
-    said = after.lstrip("\n").split("\n\n")[0]
-    text = "\n".join(with_tables(before.splitlines())) + f"\n\n{INDEX}\n\n{said}\n" + "\n".join(index()) + "\n"
-    text = re.sub(r"\n{3,}", "\n\n", text)
-    if text == MAP.read_text():
-        return 0
-    if "--check" in sys.argv:
-        print("docs/MAP.md isn't that of the crates: python3 tools/map.py")
-        return 1
-    MAP.write_text(text)
-    return 0
+    pages = {INDEX: index(), ARCHITECTURE: DRAWING.sub(lambda _: drawing(), ARCHITECTURE.read_text(), count=1)}
+    stale = [page for page, text in pages.items() if not page.exists() or text != page.read_text()]
+    for page in stale:
+        if "--check" in sys.argv:
+            print(f"{page.relative_to(HOME)} isn't that of the crates: python3 tools/map.py")
+        else:
+            page.write_text(pages[page])
+    return 1 if stale and "--check" in sys.argv else 0
 
 
 if __name__ == "__main__":

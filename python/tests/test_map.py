@@ -1,4 +1,4 @@
-"""The map of the crates, docs/MAP.md, is that of the crates."""
+"""The index of the crates, docs/INDEX.md, and the drawing of their layers are those of the crates."""
 
 import subprocess
 import sys
@@ -9,7 +9,7 @@ HOME = Path(__file__).parents[2]
 
 
 class TestMap(unittest.TestCase):
-    def test_each_module_has_its_row_and_each_definition_its_place(self):
+    def test_each_crate_module_and_name_has_its_place(self):
         held = subprocess.run([sys.executable, HOME / "tools" / "map.py", "--check"], capture_output=True, text=True)
         self.assertEqual(held.returncode, 0, held.stdout + held.stderr)
 
