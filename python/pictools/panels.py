@@ -15,7 +15,7 @@ from numpy.typing import NDArray
 from pictools import expect, measure, units
 from pictools.dump import FAST, SIDE, Dump, Frame, rounded
 from pictools.measure import AXES, Wave
-from pictools.views import Scale, View, scale_of, slope, strength
+from pictools.views import Scale, View, against, number_of, scale_of, slope, strength
 
 COLOURS = ("#0b5fa5", "#d1495b", "#3a7d44", "#8a5a9e", "#c98a1b", "#555555")
 MOST_DOTS = 20000
@@ -249,15 +249,6 @@ def draw_history(axes: Axes, dump: Dump, view: View, name: str) -> list[str]:
     image(axes, values, np.concatenate([ends / scale.length, dump.steps[[0, -1]] / scale.time]), what, top_of(values))
     axes.set(title=f"{title_of(name)} over time, mean over {others(along)}", xlabel=scale.place.format(along), ylabel=scale.step)
     return []
-
-
-def number_of(value: float, error: float | None = None) -> str:
-    """A rate in five digits behind the point, with its error."""
-    return f"{value:.5f}" + ("" if error is None else f" ± {error:.5f}")
-
-
-def against(measured: float, theory: float, name: str = "theory") -> str:
-    return f"{name} {number_of(theory)}" + (f", off by {measured / theory - 1:+.1%}" if theory else "")
 
 
 def legend_below(axes: Axes) -> None:

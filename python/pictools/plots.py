@@ -130,7 +130,14 @@ def drawn(runs: dict[str, Dump], chosen: Iterable[str], view: View) -> tuple[Fig
         for axes in places.flat[len(parts) :]:
             axes.axis("off")
         picture.suptitle(view.title)
+        write_source(picture, view.source)
     return picture, lines
+
+
+def write_source(picture: Figure, text: str) -> None:
+    """What a picture is of, small at its foot."""
+    if text:
+        picture.supxlabel(text, fontsize=6, color="#777777", x=0.01, ha="left")
 
 
 def figure(dump: Dump | dict[str, Dump], panels: Iterable[str] = (), **options: Any) -> Figure:
