@@ -1,4 +1,4 @@
-"""The commands: python3 -m pictools plot | energies | info | deck | run | mend | thin | explain, each with --help."""
+"""The commands: python3 -m pictools plot | energies | info | deck | run | mend | scan | thin | explain, each with --help."""
 
 from __future__ import annotations
 
@@ -8,7 +8,7 @@ import sys
 from types import ModuleType
 
 try:
-    from pictools import choices, command_run, cost, explain, files, info, note, optional, views
+    from pictools import choices, command_run, command_scan, cost, explain, files, info, optional, views
     from pictools.deck import DeckError
     from pictools.limits import refuse
     from pictools.plasma import Plasma
@@ -26,8 +26,7 @@ def plots() -> ModuleType:
 def plot(words: argparse.Namespace) -> None:
     module = plots()
     runs = {path.removesuffix(".dump"): files.opened(path) for path in words.dump}
-    source = "\n".join(filter(None, map(note.said, runs.values())))
-    picture, lines = module.drawn(runs, words.panels, views.view_from(words, source))
+    picture, lines = module.drawn(runs, words.panels, views.view_from(words))
     with files.written(words.out) as place:
         module.save(picture, place)
     for line in lines:
@@ -97,6 +96,7 @@ def parser() -> argparse.ArgumentParser:
     add_deck(commands.add_parser("deck", help="a deck from a plasma's numbers"))
     command_run.add_run(commands.add_parser("run", help="runs a deck, with a progress bar and a note beside the dump"))
     command_run.add_mend(commands.add_parser("mend", help="makes a dump whole that was cut: that of a run of so many steps"))
+    command_scan.add_scan(commands.add_parser("scan", help="many runs, of options with several values, to a table"))
     part = commands.add_parser("energies", help="a picture of a report's energies")
     part.add_argument("report")
     part.add_argument("-o", "--out", required=True)

@@ -29,9 +29,13 @@ def show_end(deck: str, out: str, ended: running.Ended) -> None:
             print(explain.explain(ended.line), file=sys.stderr)
 
 
-def run(words: argparse.Namespace) -> None:
-    # A time limit asks by this signal for an end, as Ctrl-C does.
+def take_end_signal() -> None:
+    """A time limit asks by this signal for an end; it is taken as Ctrl-C is."""
     signal.signal(signal.SIGTERM, signal.default_int_handler)
+
+
+def run(words: argparse.Namespace) -> None:
+    take_end_signal()
     text = sys.stdin.buffer.read() if words.deck == "-" else None
     ended = running.run(words.deck, words.out, words.workers, words.program, text)
     show_end(words.deck, words.out, ended)

@@ -20,7 +20,7 @@ from cycler import cycler
 from matplotlib.axes import Axes
 from matplotlib.figure import Figure
 
-from pictools import measure, panels, views
+from pictools import measure, note, panels, views
 from pictools.dump import Dump, rounded
 from pictools.views import View
 
@@ -130,7 +130,7 @@ def drawn(runs: dict[str, Dump], chosen: Iterable[str], view: View) -> tuple[Fig
         for axes in places.flat[len(parts) :]:
             axes.axis("off")
         picture.suptitle(view.title)
-        write_source(picture, view.source)
+        write_source(picture, "\n".join(filter(None, map(note.said, runs.values()))))
     return picture, lines
 
 

@@ -39,7 +39,6 @@ class View:
     size: tuple[float, float] | None = None
     dpi: int = 100
     title: str = ""
-    source: str = ""
 
     def axis(self, header: Header) -> str:
         """The axis along which waves are looked at: the one that was chosen, else the first long one."""
@@ -112,9 +111,9 @@ def add_options(part: argparse.ArgumentParser) -> None:
     add("--title", default="")
 
 
-def view_from(words: argparse.Namespace, source: str = "") -> View:
-    """The view that was typed; `source` says what the dumps are of."""
-    return view_of(source=source, **{name: getattr(words, name) for name in View.__dataclass_fields__ if name != "source"})
+def view_from(words: argparse.Namespace) -> View:
+    """The view that was typed."""
+    return view_of(**{name: getattr(words, name) for name in View.__dataclass_fields__})
 
 
 class Scale(NamedTuple):

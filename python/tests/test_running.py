@@ -216,20 +216,19 @@ class Running(Folder):
 
     @unittest.skipUnless(importlib.util.find_spec("matplotlib"), "matplotlib isn't there")
     def test_pictures_name_the_note(self):
-        from pictools import plots, views
+        from pictools import plots
         self.deck(SHORT)
         self.call("run", "a.toml", "-o", "a.dump")
         dump = Dump(self.folder / "a.dump")
         said = note.said(dump)
         self.assertRegex(said, r"^a\.dump: deck a\.toml [0-9a-f]{12}, seed 5, pic \S.* [0-9a-f]{12}$")
-        picture, _ = plots.drawn({"a": dump}, ["energies"], views.view_of(source=said))
-        self.assertEqual(picture._supxlabel.get_text(), said)
-        self.assertEqual(self.call("plot", "a.dump", "-o", "a.png").returncode, 0)
+        self.assertEqual(plots.figure({"a": dump, "b": dump}, ["energies"])._supxlabel.get_text(), f"{said}\n{said}")
         # Of another run in its place the note says nothing.
         self.assertIn("b_to_e = [1, 2]", (self.folder / "a.toml").read_text())
         text = (self.folder / "a.toml").read_text().replace("b_to_e = [1, 2]", "b_to_e = [1, 3]")
         (self.folder / "a.dump").write_bytes(call("run", given=text.encode())[1])
         self.assertEqual(note.said(Dump(self.folder / "a.dump")), "")
+        self.assertEqual(plots.figure(Dump(self.folder / "a.dump"), ["energies"])._supxlabel, None)
         (self.folder / "a.dump.json").write_text("[]")
         self.assertEqual(note.said(Dump(self.folder / "a.dump")), "")
 
