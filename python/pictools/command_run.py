@@ -3,39 +3,31 @@
 from __future__ import annotations
 
 import argparse
-import signal
 import sys
 from os.path import getsize
 
-from pictools import explain, files, info, mend, running
+from pictools import explain, info, mend, running
 
 
 def show_end(deck: str, out: str, ended: running.Ended) -> None:
     """Some lines on how a run ended."""
     if ended.dump is None:
-        why = files.STOPPED if ended.status == 130 else explain.explain(ended.line or str(ended.status))
-        print(f"pictools: {deck}: no dump was written: {why}", file=sys.stderr)
+        said = running.SIGNALS.get(ended.status) or explain.explain(ended.line or str(ended.status))
+        print(f"pictools: {deck}: no dump was written: {said}", file=sys.stderr)
         return
     frames = len(ended.dump)
     whole = (f"{frames} frame{'s' * (frames > 1)}, {info.size(getsize(out))}, in {ended.seconds:.1f} seconds; its note is "
              f"{out}.json")
     if ended.mended:
-        why = files.STOPPED if ended.status == 130 else f"the program ended with the status {ended.status}"
-        print(f"pictools: {out}: {why}. It was mended, and is the dump of a run of {ended.dump.end.step} steps: {whole}",
-              file=sys.stderr)
+        print(f"pictools: {out}: {running.why(ended.status)}. It was mended, and is the dump of a run of {ended.dump.end.step} "
+              f"steps: {whole}", file=sys.stderr)
     else:
         print(f"{out}: {ended.line}, {whole}", file=sys.stderr)
         if not ended.dump.end.done:
             print(explain.explain(ended.line), file=sys.stderr)
 
 
-def take_end_signal() -> None:
-    """A time limit asks by this signal for an end; it is taken as Ctrl-C is."""
-    signal.signal(signal.SIGTERM, signal.default_int_handler)
-
-
 def run(words: argparse.Namespace) -> None:
-    take_end_signal()
     text = sys.stdin.buffer.read() if words.deck == "-" else None
     ended = running.run(words.deck, words.out, words.workers, words.program, text)
     show_end(words.deck, words.out, ended)

@@ -3,12 +3,13 @@
 from __future__ import annotations
 
 import argparse
+import signal
 import sys
 from concurrent.futures import Executor
 from importlib import import_module
 
 from pictools import choices, files, optional, views
-from pictools.command_run import add_program, take_end_signal
+from pictools.command_run import add_program
 from pictools.limits import option
 from pictools.program import program
 from pictools.scan import GOES_ON, KINDS, Quantity, Scan, lines, processes
@@ -44,7 +45,8 @@ def scan_of(words: argparse.Namespace) -> Scan:
 
 
 def scan(words: argparse.Namespace) -> None:
-    take_end_signal()
+    # The signal of a time limit is taken as Ctrl-C is.
+    signal.signal(signal.SIGTERM, signal.default_int_handler)
     whole = scan_of(words)
     drawing = optional.module("scan_picture", "pictures") if words.picture else None
     engine = executor_of(words.executor) if words.executor else processes(words.processes)

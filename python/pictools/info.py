@@ -4,7 +4,7 @@ from __future__ import annotations
 
 from math import pi, prod
 
-from pictools import units
+from pictools import note, units
 from pictools.dump import Dump, Header, Multiplier, Species
 from pictools.header import frame_length
 
@@ -19,6 +19,7 @@ def info(dump: Dump) -> list[str]:
              ("frames", f"{frames}; {size(frame_length(header.cells, header.particles))} each"),
              ("end", dump.end.text if dump.end else f"none: {dump.cut}"),
              ("particles", str(header.particles))]
+    lines += [("its run", said)] if (said := note.said(dump)) else []
     lines += [(f"species {s.name}", kind(s)) for s in header.species]
     lines += [(name, factor(getattr(header, name))) for name in ("e_to_b", "b_to_e", "e_force", "b_force")]
     lines += physics(dump)

@@ -58,7 +58,8 @@ def versions() -> dict[str, str]:
     try:
         own = version("pictools")
     except PackageNotFoundError:
-        own = tomllib.loads((HOME / "python" / "pyproject.toml").read_text())["project"]["version"]
+        project = HOME / "python" / "pyproject.toml"
+        own = tomllib.loads(project.read_text())["project"]["version"] if project.is_file() else "not installed"
     return {"pictools": own, "python": platform.python_version(), "numpy": np.__version__}
 
 

@@ -14,8 +14,7 @@ RELEASED = HOME / "release" / "pic-x86_64-linux"
 
 
 def program(named: str | None = None) -> str:
-    """The path of the program: the one that is named here or by PIC_PROGRAM, else that which ./pic runs, else a `pic` on the
-    path."""
+    """The path of the program: the one that is named here or by PIC_PROGRAM, else that which ./pic runs."""
     named = named or os.environ.get("PIC_PROGRAM")
     if named:
         found = shutil.which(named)
@@ -24,12 +23,11 @@ def program(named: str | None = None) -> str:
         return os.path.realpath(found)
     if (HOME / "pic").is_file():
         built = subprocess.run([HOME / "pic", "built"], capture_output=True, text=True)
-        found = built.stdout.strip() if built.returncode == 0 else str(RELEASED) if RELEASED.is_file() else None
-    else:
-        found = shutil.which("pic")
-    if not found:
-        raise ValueError("there is no program pic: --program or PIC_PROGRAM names one, and ./pic build builds one")
-    return found
+        if built.returncode == 0:
+            return built.stdout.strip()
+        if os.access(RELEASED, os.X_OK):
+            return str(RELEASED)
+    raise ValueError("there is no program pic: --program or PIC_PROGRAM names one, and ./pic build builds one")
 
 
 def checksum(path: str | os.PathLike) -> str:

@@ -5,32 +5,41 @@ from __future__ import annotations
 import os
 import signal
 import subprocess
+import threading
 import time
 from contextlib import suppress
 from dataclasses import dataclass
 from math import nan
 from pathlib import Path
+from tempfile import TemporaryFile
 from typing import Any
 
 from pictools import note, units
 from pictools.dump import Dump, DumpError
-from pictools.files import STOPPED
+from pictools.files import STOPPED, places
 from pictools.header import Header
 from pictools.mend import mend
 from pictools.program import checksum, program
 from pictools.progress import bar
 
+SIGNALS = {130: STOPPED, 143: "stopped by SIGTERM, as by a time limit"}
+
 
 @dataclass
 class Ended:
-    """How a run ended: the exit status (130 after Ctrl-C), the last line of the dump's report, or the program's only one where
-    there is no dump, and whether the dump had to be mended."""
+    """How a run ended: the exit status (130 after Ctrl-C, 143 after SIGTERM), the last line of the dump's report, or the
+    program's only one where there is no dump, and whether the dump had to be mended."""
 
     status: int
     line: str
     dump: Dump | None
     mended: bool
     seconds: float
+
+
+def why(status: int) -> str:
+    """Why a run ended before its end."""
+    return SIGNALS.get(status, f"the program ended with the status {status}")
 
 
 class Gauge:
@@ -62,44 +71,73 @@ def weights_of(header: Header) -> tuple[float, float] | None:
     return (kinetic.pop(), units.magnetic_weight(header)) if len(kinetic) == 1 else None
 
 
+class Interrupts:
+    """Ctrl-C and the signal of a time limit, while a program runs: it is told to end, and nothing is torn here. `came` is the
+    signal that came, or 0."""
+
+    def __init__(self):
+        self.process: subprocess.Popen | None = None
+        self.came, self.before = 0, {}
+
+    def __enter__(self) -> Interrupts:
+        if threading.current_thread() is threading.main_thread():
+            self.before = {number: signal.signal(number, self.take) for number in (signal.SIGINT, signal.SIGTERM)}
+        return self
+
+    def __exit__(self, *_: Any) -> None:
+        for number, handler in self.before.items():
+            signal.signal(number, handler)
+
+    def take(self, number: int, _: Any) -> None:
+        self.came = number
+        if self.process:
+            self.process.send_signal(signal.SIGINT)
+
+    def tell(self, process: subprocess.Popen) -> None:
+        """The process that is told of a signal, also of one that came before."""
+        self.process = process
+        if self.came:
+            process.send_signal(signal.SIGINT)
+
+
 class Run:
     """One run of a deck into a file. The file takes its place when the first frame stands in it."""
 
     def __init__(self, deck: str, text: bytes, out: str, workers: int, named: str | None):
+        if os.path.exists(out) and not os.path.isfile(out):
+            raise ValueError(f"{out}: it is no file; a dump with a note beside it is one")
         self.out, self.program = out, program(named)
+        self.whole, self.beside = places(out)
         self.note = note.begun(deck, text, self.program, workers)
         self.steps = int(note.read_deck(text).get("run", {}).get("steps", 0))
-        self.beside = Path(out).with_name(f".{Path(out).name}.{os.getpid()}")
         self.line, self.frames, self.began = "", 0, time.monotonic()
 
     def go(self, text: bytes) -> Ended:
         words = [self.program, "run", "--workers", str(self.note["workers"])]
-        stopped = False
         try:
-            with open(self.beside, "wb") as sink:
-                process = subprocess.Popen(words, stdin=subprocess.PIPE, stdout=sink, stderr=subprocess.PIPE)
-            with process, bar(self.steps, "step", Path(self.out).name) as drawn:
-                try:
-                    self.follow(process, text, drawn)
-                except BaseException as reason:
-                    process.send_signal(signal.SIGINT)
-                    stopped = isinstance(reason, KeyboardInterrupt)
-                    if not stopped:
+            with Interrupts() as interrupts:
+                with open(self.beside, "wb") as sink, TemporaryFile() as deck:
+                    deck.write(text)
+                    deck.seek(0)
+                    process = subprocess.Popen(words, stdin=deck, stdout=sink, stderr=subprocess.PIPE)
+                interrupts.tell(process)
+                with process, bar(self.steps, "step", self.whole.name) as drawn:
+                    try:
+                        self.follow(process, drawn)
+                    except BaseException:
+                        process.terminate()
                         raise
             ended = process.returncode if process.returncode >= 0 else 128 - process.returncode
-            return self.end(130 if stopped else ended)
+            return self.end(128 + interrupts.came if interrupts.came else ended)
         finally:
             self.beside.unlink(missing_ok=True)
 
-    def follow(self, process: subprocess.Popen, text: bytes, drawn: Any) -> None:
-        """Gives the program its deck, and takes its report line by line."""
-        with suppress(BrokenPipeError):
-            process.stdin.write(text)
-            process.stdin.close()
+    def follow(self, process: subprocess.Popen, drawn: Any) -> None:
+        """Takes the report line by line. One that isn't whole is of a program that was ended."""
         last, gauge = 0, None
         for line in process.stderr:
             self.line = line.decode("ascii", "replace").strip()
-            if not self.line.startswith("frame "):
+            if not (self.line.startswith("frame ") and line.endswith(b"\n")):
                 continue
             if not self.frames:
                 self.place()
@@ -112,7 +150,7 @@ class Run:
 
     def place(self) -> None:
         """The dump and its note take their places."""
-        os.replace(self.beside, self.out)
+        os.replace(self.beside, self.whole)
         self.note["first"] = self.line
         note.write(self.out, self.note)
 
@@ -123,9 +161,9 @@ class Run:
             return Ended(status, self.line, None, False, seconds)
         cut = bool(Dump(self.out, partial=True).cut)
         dump = mend(self.out)
-        how = STOPPED if status == 130 else f"status {status}"
-        self.note |= {"last": note.line_of(dump[-1]), "end": dump.end.text, "mended after": how if cut else "", "frames": len(dump),
-                      "bytes": os.path.getsize(self.out), "sha256": checksum(self.out), "seconds": round(seconds, 1)}
+        self.note |= {"last": note.line_of(dump[-1]), "end": dump.end.text, "mended after": why(status) if cut else "",
+                      "frames": len(dump), "bytes": os.path.getsize(self.out), "sha256": checksum(self.out),
+                      "seconds": round(seconds, 1)}
         note.write(self.out, self.note)
         return Ended(status, dump.end.text, dump, cut, seconds)
 

@@ -194,8 +194,9 @@ class Scan:
         found = {key(row): row for row in there if set(KNOWN_BY) <= set(row)}
         others = len(there) - len(found.keys() & {key(row) for row in rows})
         if others:
-            raise ValueError(f"{self.out}: it has {others} row{'s' * (others > 1)} that {'are' if others > 1 else 'is'}n't of this "
-                             "scan (other choices, another measure, or another program); name another file, or remove it")
+            what = "rows that aren't" if others > 1 else "row that isn't"
+            raise ValueError(f"{self.out}: it has {others} {what} of this scan (other choices, another measure, or another "
+                             "program); name another file, or remove it")
         return [found.get(key(row), {}) | row for row in rows]
 
     def left(self, rows: list[Row]) -> dict[int, Task]:
@@ -278,4 +279,5 @@ def lines(over: Iterable[str], rows: list[Row]) -> Iterator[str]:
         if value is None:
             yield f"{name}: {row['reason']}"
         else:
-            yield f"{name}: {row['quantity']} {number_of(value, error)}" + ("" if theory is None else f"; {against(value, theory)}")
+            beside = "" if theory is None else f"; {against(value, theory)}"
+            yield f"{name}: {row['quantity']} {number_of(value, error)}{beside}"

@@ -101,5 +101,7 @@ def figure(scan: Scan, rows: list[Row], title: str = "") -> Figure:
         picture = plots.Picture(figsize=(6.4, 4.2), dpi=100, layout="constrained")
         draw(picture.subplots(), scan, rows)
         picture.suptitle(title)
-        plots.write_source(picture, f"{Path(scan.out).name}: {np.isfinite(numbers(rows, 'measured')).sum()} of {len(rows)} runs measured, pic {rows[0]['program_sha256'][:SHORT]}")
+        known = np.isfinite(numbers(rows, "measured")).sum()
+        plots.write_source(picture, f"{Path(scan.out).name}: {known} of {len(rows)} runs measured, "
+                                    f"pic {rows[0]['program_sha256'][:SHORT]}")
     return picture

@@ -7,6 +7,7 @@ import json
 import os
 import pty
 import re
+import resource
 import signal
 import subprocess
 import sys
@@ -18,7 +19,7 @@ from pathlib import Path
 from tests import made
 import numpy as np
 
-from pictools import note
+from pictools import info, note, running
 from pictools.dump import Dump
 from pictools.mend import DONE, STEPS_PLACE, mend, mended
 from pictools.plasma import Plasma
@@ -27,6 +28,10 @@ from tests.test_program import HOME, PROGRAM, TOO_FAST, call, needs_program
 SHORT = Plasma(plasma_frequency=0.1, cells=(4, 4, 4), particles_a_cell=2, thermal_speed=0.05, start="random", seed=5, steps=20)
 LONG = Plasma(plasma_frequency=0.1, cells=(8, 2, 2), particles_a_cell=64, thermal_speed=0.05, start="random", seed=7, steps=10**6,
               every=10)
+
+
+def sha256(data: bytes) -> str:
+    return hashlib.sha256(data).hexdigest()
 
 
 class Folder(unittest.TestCase):
@@ -129,14 +134,17 @@ class Running(Folder):
         self.assertEqual(data, whole)
         told = json.loads((self.folder / "a.dump.json").read_text())
         lines = report.decode().splitlines()
-        self.assertEqual([told[part] for part in ("first", "last", "end", "mended after", "frames", "bytes", "sha256", "workers")],
-                         [lines[0], lines[-2], "done 20", "", 6, len(data), hashlib.sha256(data).hexdigest(), 2])
+        parts = ("first", "last", "end", "mended after", "frames", "bytes", "sha256", "workers")
+        self.assertEqual([told[part] for part in parts],
+                         [lines[0], lines[-2], "done 20", "", 6, len(data), sha256(data), 2])
         self.assertEqual((told["deck"]["file"], told["deck"]["sha256"], told["deck"]["seeds"]),
-                         (name, hashlib.sha256(text).hexdigest(), [5]))
+                         (name, sha256(text), [5]))
         self.assertEqual("\n".join(told["deck text"]) + "\n", text.decode())
-        self.assertTrue(told["deck"]["made by"].startswith("python3 -m pictools deck --plasma-frequency 0.1 --thermal-speed 0.05 --part"))
-        self.assertEqual(told["program"]["sha256"], hashlib.sha256(Path(PROGRAM).read_bytes()).hexdigest())
+        self.assertTrue(told["deck"]["made by"].startswith("python3 -m pictools deck --plasma-frequency 0.1 --thermal-speed "))
+        self.assertEqual(told["program"]["sha256"], sha256(Path(PROGRAM).read_bytes()))
         self.assertEqual(told["versions"].keys(), {"pictools", "python", "numpy"})
+        lines = "\n".join(info.info(Dump(self.folder / "a.dump")))
+        self.assertRegex(lines, r"\nits run +a\.dump: deck a\.toml [0-9a-f]{12}, seed 5, ")
 
     def test_a_deck_that_is_refused_leaves_what_was_there(self):
         (self.folder / "a.dump").write_bytes(b"old")
@@ -146,7 +154,8 @@ class Running(Folder):
         self.assertRegex(done.stderr, r"^pictools: a\.toml: no dump was written: refused .*\n    ")
         self.assertEqual((self.folder / "a.dump").read_bytes(), b"old")
         self.assertRegex(self.call("run", "b.toml", "-o", "a.dump").stderr, r"^pictools: b\.toml: No such file.*\n$")
-        self.assertRegex(self.call("run", "a.toml", "-o", "a.dump", "--program", "no").stderr, r"^pictools: there is no program no")
+        done = self.call("run", "a.toml", "-o", "a.dump", "--program", "no")
+        self.assertRegex(done.stderr, r"^pictools: there is no program no")
 
     def test_a_run_that_stops(self):
         done = self.call("run", "-", "-o", "a.dump", input=TOO_FAST)
@@ -157,14 +166,15 @@ class Running(Folder):
         """The dump is mended: it is that of a shorter run, which the note tells too."""
         self.deck(LONG)
         words = [sys.executable, "-m", "pictools", "run", "a.toml", "-o", "a.dump"]
-        with subprocess.Popen(words, cwd=self.folder, env=self.environment, stderr=subprocess.PIPE, text=True) as running:
+        with subprocess.Popen(words, cwd=self.folder, env=self.environment, stderr=subprocess.PIPE, text=True) as started:
             self.wait_for_frames()
             # It still runs: the note names the dump already.
             self.assertIn("seed 7", note.said(Dump(self.folder / "a.dump", partial=True)))
-            running.send_signal(signal.SIGTERM)
-            said = running.stderr.read()
-            self.assertEqual(running.wait(60), 130)
-        found = re.fullmatch(r"pictools: a\.dump: stopped by Ctrl-C\. It was mended, and is the dump of a run of (\d+) steps: .*\n", said)
+            started.send_signal(signal.SIGTERM)
+            said = started.stderr.read()
+            self.assertEqual(started.wait(60), 143)
+        found = re.fullmatch(r"pictools: a\.dump: stopped by SIGTERM, .*\. It was mended, and is the dump of a run of (\d+) "
+                             r"steps: .*\n", said)
         self.assertTrue(found, said)
         data = (self.folder / "a.dump").read_bytes()
         self.assertEqual(call("verify", given=data)[0], 0)
@@ -172,7 +182,7 @@ class Running(Folder):
         self.assertEqual(data, call("run", given=text.encode())[1])
         told = json.loads((self.folder / "a.dump.json").read_text())
         self.assertEqual((told["end"], told["mended after"], told["sha256"]),
-                         (f"done {found[1]}", "stopped by Ctrl-C", hashlib.sha256(data).hexdigest()))
+                         (f"done {found[1]}", "stopped by SIGTERM, as by a time limit", sha256(data)))
         self.assertEqual(self.names(), {"a.toml", "a.dump", "a.dump.json"})
 
     def wait_for_frames(self) -> None:
@@ -181,6 +191,26 @@ class Running(Folder):
         while not (path.exists() and path.stat().st_size > 500000):
             self.assertLess(time.monotonic(), until)
             time.sleep(0.02)
+
+    def test_a_file_that_can_not_grow(self):
+        """What stops the program, as a full disk does, leaves its whole frames, and a whole dump."""
+        self.deck(LONG)
+        limit = (200000, resource.getrlimit(resource.RLIMIT_FSIZE)[1])
+        done = self.call("run", "a.toml", "-o", "a.dump", preexec_fn=lambda: resource.setrlimit(resource.RLIMIT_FSIZE, limit))
+        self.assertIn(done.returncode, (5, 128 + signal.SIGXFSZ), done.stderr)
+        self.assertRegex(done.stderr, r"^pictools: a\.dump: the program ended with the status \d+\. It was mended, and is the "
+                                      r"dump of a run of \d+ steps: ")
+        self.assertEqual(call("verify", given=(self.folder / "a.dump").read_bytes())[0], 0)
+
+    def test_places_that_are_none(self):
+        self.deck(SHORT)
+        for out, line in ("/dev/null", "/dev/null: it is no file"), ("no/a.dump", "no/a.dump: there is no folder no"):
+            with self.assertRaisesRegex(ValueError, line):
+                running.run(str(self.folder / "a.toml"), out, named=PROGRAM)
+        (self.folder / "link.dump").symlink_to("b.dump")
+        ended = running.run(str(self.folder / "a.toml"), str(self.folder / "link.dump"), named=PROGRAM)
+        self.assertTrue(ended.dump.end.done and (self.folder / "link.dump").is_symlink())
+        self.assertEqual(self.names(), {"a.toml", "link.dump", "link.dump.json", "b.dump"})
 
     @unittest.skipUnless(importlib.util.find_spec("tqdm"), "tqdm isn't there")
     def test_the_bar_and_ctrl_c(self):
@@ -203,7 +233,7 @@ class Running(Folder):
         os.close(terminal)
         self.assertEqual(os.waitstatus_to_exitcode(os.waitpid(child, 0)[1]), 130)
         self.assertRegex(out.decode(), r"a\.dump: +\d+%.*/1000000 \[\d\d:\d\d<.*step/s, .* million particle-steps/s, energy "
-                                       r"1\.\d+, electric [\d.e-]+, magnetic 0\]")
+                                       r"[01]\.\d+, electric [\d.e-]+, magnetic 0\]")
         self.assertIn(b"a.dump: stopped by Ctrl-C. It was mended", out)
         self.assertEqual(call("verify", given=(self.folder / "a.dump").read_bytes())[0], 0)
 

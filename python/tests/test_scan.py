@@ -39,7 +39,8 @@ exec {program} "$@"
 class Scanning(Folder):
     def counted(self, at: int = 0, what: str = "true") -> str:
         path = self.folder / "pic.sh"
-        path.write_text(COUNTED.format(calls=shlex.quote(str(self.folder / "calls")), at=at, what=what, program=shlex.quote(PROGRAM)))
+        calls, program = (shlex.quote(str(name)) for name in (self.folder / "calls", PROGRAM))
+        path.write_text(COUNTED.format(calls=calls, at=at, what=what, program=program))
         path.chmod(0o755)
         return str(path)
 
