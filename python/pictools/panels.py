@@ -186,12 +186,6 @@ def draw_density(axes: Axes, points: NDArray, end: float) -> None:
     axes.figure.colorbar(drawn, cax=beside(axes), label=f"particles in each of {BINS} by {BINS} bins")
 
 
-def offsets(name: str) -> NDArray[np.float64]:
-    """Where on a cell a component stands, along x, y and z: an E in the middle of an edge, a B in the middle of a face."""
-    field, axis = measure.component(name)
-    return np.array([0.5 * ((a == axis) == (field == "e")) for a in range(3)])
-
-
 def slice_of(frame: Frame, view: View, name: str) -> tuple[NDArray, str]:
     """The values of a component on a view's plane or line, at its cell of the other axes, and where that is in words. Of a
     plane ab the rows go along b."""
@@ -202,7 +196,7 @@ def slice_of(frame: Frame, view: View, name: str) -> tuple[NDArray, str]:
         raise ValueError(f"--at {view.at}: the box has the cells "
                          + " and ".join(f"0 to {cells[AXES.index(a)] - 1} along {a}" for a in rest))
     values = rounded(frame.record[field][axis])[tuple(slice(None) if a in plane else view.at for a in reversed(AXES))]
-    return values, ", ".join(f"{a} = {view.at + offsets(name)[AXES.index(a)]:g}" for a in rest)
+    return values, ", ".join(f"{a} = {view.at + measure.offsets(name)[AXES.index(a)]:g}" for a in rest)
 
 
 def draw_field(axes: Axes, frame: Frame, dump: Dump, view: View, name: str, top: float) -> list[str]:
@@ -211,7 +205,7 @@ def draw_field(axes: Axes, frame: Frame, dump: Dump, view: View, name: str, top:
     values, where = slice_of(frame, view, name)
     values, what = strength(frame.header, name, scale, values)
     ends = [(np.array([0, n]) + offset) / scale.length
-            for a, n, offset in zip(AXES, frame.header.cells, offsets(name)) if a in plane]
+            for a, n, offset in zip(AXES, frame.header.cells, measure.offsets(name)) if a in plane]
     if len(plane) == 1:
         axes.plot(ends[0][0] + np.arange(len(values)) / scale.length, values)
         axes.set(ylabel=what, xlim=(0, len(values) / scale.length), ylim=(-1.05 * top, 1.05 * top))
@@ -245,7 +239,7 @@ def draw_history(axes: Axes, dump: Dump, view: View, name: str) -> list[str]:
         raise ValueError("history: the dump has one frame alone")
     scale, along = scale_of(dump, view.units), view.axis(dump.header)
     values, what = strength(dump.header, name, scale, measure.profile(dump, name, along))
-    ends = np.array([0, values.shape[1]]) + offsets(name)[AXES.index(along)] - 0.5
+    ends = np.array([0, values.shape[1]]) + measure.offsets(name)[AXES.index(along)] - 0.5
     image(axes, values, np.concatenate([ends / scale.length, dump.steps[[0, -1]] / scale.time]), what, top_of(values))
     axes.set(title=f"{title_of(name)} over time, mean over {others(along)}", xlabel=scale.place.format(along), ylabel=scale.step)
     return []
