@@ -1,4 +1,5 @@
-"""The commands: python3 -m pictools plot | energies | info | deck | run | mend | scan | thin | explain, each with --help."""
+"""The commands: python3 -m pictools plot | energies | info | deck | run | mend | scan | thin | vtk | movie | page | explain, each
+with --help."""
 
 from __future__ import annotations
 
@@ -8,7 +9,7 @@ import sys
 from types import ModuleType
 
 try:
-    from pictools import choices, command_run, command_scan, cost, explain, files, info, optional, views
+    from pictools import choices, command_run, command_scan, cost, explain, exports, files, info, optional, views
     from pictools.deck import DeckError
     from pictools.limits import refuse
     from pictools.plasma import Plasma
@@ -108,6 +109,7 @@ def parser() -> argparse.ArgumentParser:
     part = commands.add_parser("info", help="what a dump is of: its cells, frames, end, species, and what its multipliers mean")
     part.add_argument("dump")
     part.set_defaults(call=show_info)
+    exports.add_all(commands)
     part = commands.add_parser("explain", help="what a line of the program, or its exit status, means and what to change")
     part.add_argument("line", nargs=argparse.REMAINDER,
                       help="the line, or a number for a status (default: the lines of standard input)")
@@ -126,6 +128,9 @@ def main() -> int:
     except BrokenPipeError:
         # What took the output has ended; nothing is left to flush to it.
         os.dup2(os.open(os.devnull, os.O_WRONLY), sys.stdout.fileno())
+        return 1
+    except ModuleNotFoundError as missing:
+        print(f"pictools: {missing}", file=sys.stderr)
         return 1
     except MemoryError:
         print("pictools: there isn't memory enough; thin the dump first", file=sys.stderr)
