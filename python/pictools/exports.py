@@ -3,15 +3,19 @@
 from __future__ import annotations
 
 import argparse
+import sys
+from importlib import import_module
+from types import ModuleType
 from typing import Any
 
-from pictools import files
+from pictools import files, views
 from pictools.views import COMPONENTS
 
 
 def add_all(commands: Any) -> None:
     """Adds them to the others."""
     add_vtk(commands.add_parser("vtk", help="a dump for ParaView and VisIt: fields on their own nodes, and particles, in time"))
+    add_movie(commands.add_parser("movie", help="a movie of a dump, on one scale for all frames"))
 
 
 def add_vtk(part: argparse.ArgumentParser) -> None:
@@ -30,3 +34,31 @@ def vtk(words: argparse.Namespace) -> None:
     from pictools import vtk as module
     number = module.export(files.opened(words.dump), words.out, words.parts, words.steps, words.units)
     print(f"{number} files in {words.out.removesuffix('.pvd')}/")
+
+
+def add_movie(part: argparse.ArgumentParser) -> None:
+    part.add_argument("dump")
+    part.add_argument("-o", "--out", required=True, help=".mp4, by ffmpeg; where that isn't it becomes a .gif; or .gif")
+    part.add_argument("--rate", type=views.above_0, default=12, help="pictures a second (default: 12)")
+    views.add_options(part, steps="the frames nearest to them (default: all frames)",
+                      panels="energies, and phase and field where there are some")
+    part.set_defaults(call=movie)
+
+
+def with_pictures(name: str, what: str) -> ModuleType:
+    """A module that needs matplotlib."""
+    try:
+        return import_module(f"pictools.{name}")
+    except ModuleNotFoundError as missing:
+        raise ModuleNotFoundError(f"{what} {missing.name}; on Debian it is python3-{missing.name}") from None
+
+
+def movie(words: argparse.Namespace) -> None:
+    module = with_pictures("movie", "a movie needs")
+    out = module.place_for(words.out)
+    if out != words.out:
+        print(f"pictools: {words.out} needs ffmpeg, on Debian ffmpeg; in its place there is {out}", file=sys.stderr)
+    made = module.Movie(files.opened(words.dump), words.panels, views.view_from(words))
+    with files.written(out) as place:
+        module.save(made, place, words.rate)
+    print("\n".join([*made.lines, f"{len(made.frames)} pictures in {out}"]))

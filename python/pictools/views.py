@@ -81,14 +81,15 @@ def add_window(part: argparse.ArgumentParser) -> None:
                           help=f"of growth and damping: the fit's {name} step (default: it finds it)")
 
 
-def add_options(part: argparse.ArgumentParser) -> None:
-    """The options of a picture; their names are the fields of View, and `panels`."""
+def add_options(part: argparse.ArgumentParser, steps: str = "of phase and field: the frames nearest to them (default: the last)",
+                panels: str = "energies, and phase, field and spectrum where there are some") -> None:
+    """The options of a picture; their names are the fields of View, and `panels`. What is said of two may be another thing."""
     add = part.add_argument
     add("--panels", nargs="+", default=[], choices=PANELS, metavar="PANEL",
-        help=f"what to draw, of {', '.join(PANELS)} (default: energies, and phase, field and spectrum where there are some)")
+        help=f"what to draw, of {', '.join(PANELS)} (default: {panels})")
     add("--component", choices=COMPONENTS,
         help="of field, history, growth, damping and spectrum (default: the one that varies most)")
-    add("--steps", nargs="+", type=int, default=[], help="of phase and field: the frames nearest to them (default: the last)")
+    add("--steps", nargs="+", type=int, default=[], help=steps)
     add("--wave", nargs="+", type=wave_of, default=[1],
         help="of growth and damping: how often it goes into the box along the axis; 2,0,1 in any direction; several are drawn "
              "together. Of spectrum: the waves whose peaks are said beside theory (default: 1)")
