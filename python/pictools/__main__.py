@@ -9,7 +9,7 @@ import sys
 from types import ModuleType
 
 try:
-    from pictools import choices, command_run, command_scan, cost, explain, exports, files, info, optional, views
+    from pictools import choices, command_export, command_run, command_scan, cost, explain, files, info, optional, views
     from pictools.deck import DeckError
     from pictools.limits import refuse
     from pictools.plasma import Plasma
@@ -109,7 +109,7 @@ def parser() -> argparse.ArgumentParser:
     part = commands.add_parser("info", help="what a dump is of: its cells, frames, end, species, and what its multipliers mean")
     part.add_argument("dump")
     part.set_defaults(call=show_info)
-    exports.add_all(commands)
+    command_export.add_all(commands)
     part = commands.add_parser("explain", help="what a line of the program, or its exit status, means and what to change")
     part.add_argument("line", nargs=argparse.REMAINDER,
                       help="the line, or a number for a status (default: the lines of standard input)")

@@ -18,6 +18,7 @@ from pictools import panels, plots, views
 from pictools.dump import Dump
 from pictools.panels import PhaseEnds
 from pictools.plots import MOVING, Part
+from pictools.progress import bar
 from pictools.views import View
 
 OVER_TIME = ("energies", "growth", "damping", "heating")
@@ -75,6 +76,14 @@ class Movie:
                 self.draw(axes, part._replace(frame=frame))
                 plots.letter(axes, number, self.view)
 
+    def turns(self) -> Iterator[int]:
+        """Turns to each frame, one after the other, with a bar of them."""
+        with bar(len(self.frames), "picture", "movie") as drawn:
+            for frame in self.frames:
+                self.turn(frame)
+                yield frame
+                drawn.update(1)
+
 
 def place_for(out: str) -> str:
     """Where a movie goes: without ffmpeg the .gif of its name."""
@@ -94,8 +103,7 @@ def save_mp4(movie: Movie, path: str, rate: float) -> None:
     writer = FFMpegWriter(rate)
     try:
         with writer.saving(movie.figure, path, movie.figure.dpi):
-            for frame in movie.frames:
-                movie.turn(frame)
+            for _ in movie.turns():
                 writer.grab_frame()
     except (subprocess.CalledProcessError, BrokenPipeError) as error:
         raise OSError(f"{path}: ffmpeg couldn't write it: {error}") from None
@@ -108,8 +116,7 @@ def save_gif(movie: Movie, path: str, rate: float) -> None:
 
 def pictures(movie: Movie) -> Iterator[Image.Image]:
     """The pictures of a movie, one at a time."""
-    for frame in movie.frames:
-        movie.turn(frame)
+    for _ in movie.turns():
         data = BytesIO()
         movie.figure.savefig(data, format="png", dpi=movie.figure.dpi)
         yield Image.open(data).convert("RGB")

