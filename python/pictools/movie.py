@@ -106,6 +106,8 @@ def save_mp4(movie: Movie, path: str, rate: float) -> None:
             for _ in movie.turns():
                 writer.grab_frame()
     except (subprocess.CalledProcessError, BrokenPipeError) as error:
+        if isinstance(error.__context__, KeyboardInterrupt):
+            raise KeyboardInterrupt from None
         raise OSError(f"{path}: ffmpeg couldn't write it: {error}") from None
 
 

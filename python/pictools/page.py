@@ -10,7 +10,7 @@ import subprocess
 import tempfile
 from base64 import b64encode
 from collections.abc import Iterable, Sequence
-from dataclasses import dataclass
+from dataclasses import dataclass, replace
 from html import escape
 from importlib.resources import files as resources
 from pathlib import Path
@@ -156,7 +156,7 @@ def moving(dump: Dump, chosen: Iterable[str], view: View) -> str:
         movie.save(made, place, RATE)
         data = Path(place).read_bytes()
     said = f"{len(made.frames)} frames, steps {dump.steps[made.frames[0]]} to {dump.steps[made.frames[-1]]}, on one scale"
-    shown = (f'<video controls loop muted src="{data_of("video/mp4", data)}"></video>' if place.endswith(".mp4") else
+    shown = (f'<video controls loop muted aria-label="{said}" src="{data_of("video/mp4", data)}"></video>' if place.endswith(".mp4") else
              f'<img alt="{said}" src="{data_of("image/gif", data)}">')
     return element("figure", shown + element("figcaption", said), class_="moving")
 
@@ -214,6 +214,7 @@ def page(dump: Dump, chosen: Sequence[str], view: View, deck: str | None = None,
     answer, ended = verdict(dump.path, named), meaning(dump.end.text) if dump.end else f"It has no end: {dump.cut}."
     sum_of_dump = program.checksum(dump.path)
     title = view.title or name
+    view = replace(view, title="")
     drawn = pictures(dump, chosen, view) + (moving(dump, chosen, view) if with_movie else "")
     lines = [answer.meaning] + [f"By {answer.program}."] * bool(answer.program)
     return Template(resources("pictools").joinpath("page.html").read_text(encoding="utf-8")).substitute(

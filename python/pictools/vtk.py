@@ -47,7 +47,8 @@ def image(dump: Dump, frame: Frame, name: str, units: Units) -> Any:
 
 
 def cloud(frame: Frame, units: Units) -> Any:
-    """The particles of a frame, a point and a vertex each, with the number of its species, its identity and its velocity."""
+    """The particles of a frame, a point and a vertex each, with the number of its species, its identity and its velocity; and the
+    species' names."""
     model, columns, number = wanted("vtkCommonDataModel"), tables.columns(frame, slice(None), units), frame.header.particles
     points, cells, data = wanted("vtkCommonCore").vtkPoints(), model.vtkCellArray(), model.vtkPolyData()
     points.SetData(array(np.stack([columns[a] for a in "xyz"], axis=1), "place", units.place))
@@ -57,6 +58,11 @@ def cloud(frame: Frame, units: Units) -> Any:
     for values, name, unit in ((frame.particles["species"], "species", ""), (np.arange(number, dtype=np.int32), "identity", ""),
                                (np.stack([columns["v" + a] for a in "xyz"], axis=1), "velocity", units.speed)):
         data.GetPointData().AddArray(array(values, name, unit))
+    names = wanted("vtkCommonCore").vtkStringArray()
+    names.SetName("names of species")
+    for species in frame.header.species:
+        names.InsertNextValue(species.name)
+    data.GetFieldData().AddArray(names)
     return data
 
 

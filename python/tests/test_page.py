@@ -87,6 +87,14 @@ class Pages(unittest.TestCase):
         for word in "url(", "@import", "<script", "<link", "http:", "https:":
             self.assertNotIn(word, text)
 
+    def test_a_movie_in_it(self):
+        page = self.page("a.dump --panels phase --program no --movie --steps 0 30 --title Streams")
+        self.assertEqual(len(page.refers), 2)
+        self.assertRegex(page.refers[1], "^data:(video/mp4|image/gif);base64,")
+        self.assertIn("2 frames, steps 0 to 30, on one scale", page.text)
+        self.assertIn(("h1", {}), page.seen)
+        self.assertIn("Streams", page.text)
+
     def test_the_deck_of_a_note(self):
         text, dump = self.deck.encode(), Dump(self.folder / "a.dump")
         kept = note.begun("elsewhere/b.toml", text, "/bin/true", 2) | {"first": note.line_of(dump[0])}

@@ -86,6 +86,8 @@ class Files(unittest.TestCase):
         arrays = {name: self.numbers(data.GetPointData().GetArray(name)) for name in ("species", "identity", "velocity")}
         self.assertTrue(np.array_equal(arrays["velocity"] * 2**24, table["velocity"]))
         self.assertEqual((arrays["identity"].tolist(), arrays["species"].tolist()), (list(range(30)), table["species"].tolist()))
+        names = data.GetFieldData().GetAbstractArray("names of species")
+        self.assertEqual([names.GetValue(number) for number in range(3)], ["forward", "backward", "ion"])
         self.assertEqual([data.GetCell(number).GetPointId(0) for number in (0, 29)], [0, 29])
 
     def test_plasma_units(self):
