@@ -110,7 +110,7 @@ def tracks(dump: Dump, identities: Sequence[int], name: str) -> pandas.DataFrame
 
 def fields(dump: Dump, components: Sequence[str], name: str) -> xarray.Dataset:
     """Each component over step, z, y and x. Where it stands half a cell further on along an axis, that is the axis x_half, y_half
-    or z_half, as those who know the conventions of COMODO (xgcm) expect it. Nothing is read before it is looked into."""
+    or z_half, with the attributes of COMODO's conventions. Nothing is read before it is looked into."""
     xarray, units = wanted("xarray"), units_of(dump, name)
     from pictools.lazy import lazily
     variables, places = {}, {}
