@@ -64,6 +64,29 @@ turn = [0, 0]
 points = [[1024, 0, 0, 8388608, 0, 0]]
 ";
 
+/// A particle on a grid of coarse cells, of version 2.
+pub const COARSE: &str = "version = 2
+[grid]
+cells = [4, 4, 4]
+tiles = [2, 2, 2]
+sub = 8
+[run]
+steps = 1
+every = 1
+[scale]
+e_to_b = [0, 0]
+b_to_e = [0, 0]
+e_force = [1, 20]
+b_force = [0, 0]
+[[species]]
+name = \"neutral\"
+charge = 0
+mass = 1836
+kick = [0, 0]
+turn = [0, 0]
+points = [[64, 0, 0, 524288, 0, 0]]
+";
+
 /// Two uncharged particles in a uniform field.
 pub const FAST: &str = "version = 1
 [grid]

@@ -1,6 +1,6 @@
 //! Decks that are refused: the first fault of each, in the order of the walk.
 
-use crate::decks::{PAIR, SMALLEST, changed};
+use crate::decks::{COARSE, PAIR, SMALLEST, changed};
 use pic_deck::{DeckFault, Refusal, read_deck};
 use std::process::Abort;
 
@@ -125,6 +125,33 @@ const SPECIES_FAULTS: [Case; 15] = [
     ("\"electron\"", "\"ion\"", "name species[1].name [0, 0, 0]"),
 ];
 
+// version 2: the key of the side, and limits by it
+const COARSE_FAULTS: [Case; 7] = [
+    ("sub = 8\n", "", "missing grid.sub [0, 0, 0]"),
+    ("sub = 8", "sub = 7", "limit grid.sub [7, 8, 14]"),
+    ("sub = 8", "sub = 15", "limit grid.sub [15, 8, 14]"),
+    (
+        "cells = [4, 4, 4]",
+        "cells = [129, 2, 2]",
+        "limit grid.cells[0] [129, 2, 128]",
+    ),
+    (
+        "[64, 0, 0,",
+        "[1024, 0, 0,",
+        "limit species[0].points[0][0] [1024, 0, 1023]",
+    ),
+    (
+        "524288, 0, 0]",
+        "1048577, 0, 0]",
+        "limit species[0].points[0][3] [1048577, -1048576, 1048576]",
+    ),
+    (
+        "points = [[64, 0, 0, 524288, 0, 0]]",
+        "lattice = { first = [0, 0, 0], gap = [0, 0, 0], count = [2048, 2049, 1], v = [0, 0, 0] }",
+        "limit species[0] [4196352, 0, 4194304]",
+    ),
+];
+
 // the name of a fault, its path, and a limit's three numbers
 fn parts(fault: &DeckFault) -> (&str, &str, [i128; 3]) {
     match fault {
@@ -162,6 +189,7 @@ fn check(rt: &(impl AllocGlobal + Abort), deck: &str, cases: &[Case]) {
 fn the_first_fault_is_named(rt: HostRuntime) {
     check(&rt, SMALLEST, &FAULTS);
     check(&rt, PAIR, &SPECIES_FAULTS);
+    check(&rt, COARSE, &COARSE_FAULTS);
 }
 
 #[test]

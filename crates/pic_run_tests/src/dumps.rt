@@ -1,6 +1,6 @@
 //! Dumps that are verified, and the demonstration.
 
-use crate::trial::{CALM, Faults, PAIR, call, check};
+use crate::trial::{CALM, Faults, PAIR, PAIR_OF_12, call, check};
 use std::process::Abort;
 use std::thread::Threads;
 
@@ -31,6 +31,18 @@ const CASES: [Case; 4] = [
     ),
 ];
 
+// The same in version 2: unchanged; the power of two of the side, the filter, the number of loops,
+// that of species, and the digit of the version.
+const CASES_OF_2: [Case; 7] = [
+    (0, b'P', 12692, 0, b"verified 2 frames\n", b""),
+    (63, 7, 12692, 7, b"", b"bad dump 60 2\n"),
+    (63, 15, 12692, 7, b"", b"bad dump 60 2\n"),
+    (67, 1, 12692, 7, b"", b"bad dump 64 2\n"),
+    (71, 1, 12692, 7, b"", b"bad dump 68 2\n"),
+    (75, 17, 12692, 7, b"", b"bad dump 72 2\n"),
+    (7, b'3', 12692, 7, b"", b"bad dump 7 1\n"),
+];
+
 fn check_case<H: AllocGlobal + Abort + Threads + Sync>(rt: &H, dump: &[u8], case: &Case) {
     let (place, byte, len, status, out, report) = *case;
     let front = dump.get(..place).expect(rt, "a front of the dump");
@@ -46,6 +58,10 @@ fn dumps_that_are_verified(rt: HostRuntime) {
     let written = call(&rt, &["run"], PAIR, CALM);
     for case in &CASES {
         check_case(&rt, written.out.bytes(), case);
+    }
+    let second = call(&rt, &["run"], PAIR_OF_12, CALM);
+    for case in &CASES_OF_2 {
+        check_case(&rt, second.out.bytes(), case);
     }
 }
 

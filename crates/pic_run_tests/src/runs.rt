@@ -1,8 +1,8 @@
 //! Whole runs, in values of their dumps.
 
 use crate::trial::{
-    CALM, CHARGES, ELECTRON, GRID_2, GRID_4, ION, MOVING, ONE_STEP, ONE_TILE, PAIR, PAIR_REPORT,
-    Pieces, STILL, TWO_TILES, WAVES, call, check,
+    CALM, CHARGES, ELECTRON, GRID_2, GRID_4, GRID_OF_8, ION, MOVING, ONE_STEP, ONE_TILE, PAIR,
+    PAIR_OF_12, PAIR_REPORT, Pieces, STILL, TWO_TILES, WAVES, call, check,
 };
 use std::process::Abort;
 use std::thread::Threads;
@@ -60,6 +60,33 @@ const TWO: Run = Run {
         (6434, 16, 412316860416),
         (12602, 4, 3072),
         (12614, 4, 8388608),
+    ],
+};
+
+// The same on cells of 2^8 sub-cells: the electron moves half a cell again. Of the header: the power
+// of two, the filter, the loops and the species; of frame 1: Ex(0,0,0), and the electron's x.
+const COARSE: Run = Run {
+    deck: &[
+        GRID_OF_8,
+        ONE_STEP,
+        CHARGES,
+        ION,
+        b"[[64, 0, 0, 0, 0, 0]]\n",
+        ELECTRON,
+        b"[[64, 0, 0, 524288, 0, 0]]\n",
+    ],
+    status: 0,
+    report: b"frame 0 kinetic 274877906944 electric 0 magnetic 0\n\
+        frame 1 kinetic 274877906944 electric 9216 magnetic 0\n\
+        done 1\n",
+    len: 12692,
+    numbers: &[
+        (60, 4, 8),
+        (64, 4, 0),
+        (68, 4, 0),
+        (72, 4, 2),
+        (6446, 16, 100663296),
+        (12614, 4, 192),
     ],
 };
 
@@ -166,7 +193,7 @@ const FAST: Run = Run {
     numbers: &[(6381, 16, 8192)],
 };
 
-const RUNS: [Run; 7] = [RARE, VACUUM, TWO, CORNER, ROUND, STRONG, FAST];
+const RUNS: [Run; 8] = [RARE, VACUUM, TWO, COARSE, CORNER, ROUND, STRONG, FAST];
 
 // The number of so many bytes at this place: one of 16 bytes has a sign.
 fn number_at(bytes: &[u8], place: usize, len: usize) -> Option<i128> {
@@ -209,6 +236,15 @@ fn tiles_and_workers_change_nothing(rt: HostRuntime) {
     for grid in [ONE_TILE, GRID_4, TWO_TILES] {
         check_tiles(&rt, grid);
     }
+}
+
+// Behind the header, of 184 bytes in version 1 and 196 in version 2, both dumps are the same.
+#[test]
+fn a_side_of_version_1_gives_its_frames(rt: HostRuntime) {
+    let first = call(&rt, &["run"], PAIR, CALM);
+    let second = call(&rt, &["run"], PAIR_OF_12, CALM);
+    assert_eq!(rt; second.report.bytes(), PAIR_REPORT);
+    assert!(rt; second.out.bytes().get(196..) == first.out.bytes().get(184..));
 }
 
 #[test]

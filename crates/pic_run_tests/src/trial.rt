@@ -18,6 +18,13 @@ pub const ONE_TILE: &[u8] = b"version = 1\ngrid = { cells = [4, 4, 4], tiles = [
 
 pub const TWO_TILES: &[u8] = b"version = 1\ngrid = { cells = [4, 4, 4], tiles = [1, 2, 1] }\n";
 
+/// The same cells in version 2, with a side of 2^12 sub-cells as in version 1, and with one of 2^8.
+pub const GRID_OF_12: &[u8] =
+    b"version = 2\ngrid = { cells = [4, 4, 4], tiles = [2, 2, 2], sub = 12 }\n";
+
+pub const GRID_OF_8: &[u8] =
+    b"version = 2\ngrid = { cells = [4, 4, 4], tiles = [2, 2, 2], sub = 8 }\n";
+
 pub const NO_STEP: &[u8] = b"run = { steps = 0, every = 1 }\n";
 
 pub const ONE_STEP: &[u8] = b"run = { steps = 1, every = 1 }\n";
@@ -45,6 +52,11 @@ pub const EMPTY: Pieces<'static> = &[GRID_2, NO_STEP, WAVES];
 
 /// An ion and an electron at one point; the electron moves half a cell.
 pub const PAIR: Pieces<'static> = &[GRID_4, ONE_STEP, CHARGES, ION, STILL, ELECTRON, MOVING];
+
+/// The same in version 2.
+pub const PAIR_OF_12: Pieces<'static> = &[
+    GRID_OF_12, ONE_STEP, CHARGES, ION, STILL, ELECTRON, MOVING,
+];
 
 /// The report of their run.
 pub const PAIR_REPORT: &[u8] = b"frame 0 kinetic 70368744177664 electric 0 magnetic 0\n\
