@@ -1,6 +1,9 @@
 -- The three axes of a grid.
 use Rattle.std.proofs.Common.{◌≡◌, ℤ, pos, ℕ, zero, suc, ◌+◌, ◌<◌, ◌≤◌, ◌≢◌, List, [], ◌∷◌, ◌++◌, length, get_or}
-use Rattle.std.proofs.Common.{set, take, drop, slice_index, ap, ◌∙◌, lit<, ◌/◌, ◌^◌, arith}
+use Rattle.std.proofs.Common.{set, take, drop, slice_index, ap, ◌∙◌, lit<, ◌/◌, ◌^◌, ◌==◌, true, false, Ok, arith}
+use Rattle.std.specs.Prelude.{codes}
+use Rattle.std.proofs.lemmas.Bool.Decides.{nat_tests}
+use Rattle.std.proofs.Math.Nat.{le_trans}
 use Rattle.std.proofs.lemmas.Int.{ints, to_z-of_z}
 use mir.Syntax.{w64, w128}
 use mir.Val.{SFits, to_z, of_z}
@@ -11,13 +14,17 @@ use Rattle.toml.specs.declared.value.Value.{Value}
 use Rattle.pic_walk.specs.declared.limits.Limits.{Limits}
 use Rattle.pic_walk.specs.Path.{element_at}
 use Rattle.pic_walk.specs.Limits.{from_to, MeetsLimits, FitsU32, limits_at}
-use Rattle.pic_walk.specs.Walk.{◌>>=◌, each}
+use Rattle.toml.specs.Data.{Members}
+use Rattle.pic_walk.specs.Walk.{◌>>=◌, each, need, whole}
 use Rattle.pic_walk.proofs.ArrayLaws.{each_at}
+use Rattle.pic_walk.proofs.FillLaws.{three_fit, at_least, at_most}
+use Rattle.pic_num.specs.Limits.{allowance_of}
 use Rattle.pic_num.specs.Space.{triple}
+use Rattle.pic_num.specs.Versions.{IsSideOf, IsGridOf}
+use Rattle.pic_num.proofs.VersionLaws.{within_scheme}
 use Rattle.pic_grid.specs.Cells.{IsCells, count_of}
 use Rattle.pic_grid.specs.Tiles.{IsTiled, AreTiles}
-use Rattle.pic_deck.specs.Deck.{AreFew}
-use Rattle.pic_deck.specs.Keys.{cell_limits, next_tiles, axis_tiles}
+use Rattle.pic_deck.specs.Keys.{cell_limits, bit_limits, next_tiles, axis_tiles, side_in}
 
 -- what holds of 0, 1 and 2
 below_three : (P : ℕ → Type 0) → P 0 → P 1 → P 2 → (k : ℕ) → k < 3 → P k
@@ -26,50 +33,69 @@ below_three P x y z (suc zero) h = y
 below_three P x y z (suc (suc zero)) h = z
 below_three P x y z (suc (suc (suc k))) h = absurd (omega (arith, h))
 
-fits : FitsU32 (from_to (pos 2) (pos 64))
-fits = record { low = omega (arith, ints); high = omega (arith, ints) }
+pub cells_fit : (version : ℕ) (k : ℕ) → k < 3 → FitsU32 (limits_at (cell_limits version) k)
+cells_fit version = three_fit 2 (allowance_of version).cells (omega (arith, (within_scheme version).cells))
 
-pub cells_fit : (k : ℕ) → k < 3 → FitsU32 (limits_at cell_limits k)
-unfolding limits_at
-cells_fit = below_three (λ k. FitsU32 (limits_at cell_limits k)) fits fits fits
+pub few_within : (version : ℕ) (ns : List ℕ) → ((k : ℕ) → k < 3 → MeetsLimits (limits_at (cell_limits version) k) (pos (slice_index ns k)))
+    → (k : ℕ) → k < 3 → slice_index ns k ≤ (allowance_of version).cells
+few_within version ns inside = at_most 2 (allowance_of version).cells ns inside
 
-pub cells_within : (ns : List ℕ) → ((k : ℕ) → k < 3 → MeetsLimits (limits_at cell_limits k) (pos (slice_index ns k))) → IsCells (triple ns)
-unfolding limits_at
-cells_within ns inside =
-    let x : MeetsLimits (from_to (pos 2) (pos 64)) (pos (slice_index ns 0)) = inside 0 (lit< tt) in
-    let y : MeetsLimits (from_to (pos 2) (pos 64)) (pos (slice_index ns 1)) = inside 1 (lit< tt) in
-    let z : MeetsLimits (from_to (pos 2) (pos 64)) (pos (slice_index ns 2)) = inside 2 (lit< tt) in
+pub cells_within : (version : ℕ) (ns : List ℕ) → ((k : ℕ) → k < 3 → MeetsLimits (limits_at (cell_limits version) k) (pos (slice_index ns k)))
+    → IsCells (triple ns)
+cells_within version ns inside =
+    let least = at_least 2 (allowance_of version).cells ns inside in
+    let few : (k : ℕ) → k < 3 → slice_index ns k ≤ 128 = (λ k h. le_trans (few_within version ns inside k h) (within_scheme version).cells) in
     record {
-      x_least = omega (arith, ints, x.low);
-      x_most = omega (arith, ints, x.high);
-      y_least = omega (arith, ints, y.low);
-      y_most = omega (arith, ints, y.high);
-      z_least = omega (arith, ints, z.low);
-      z_most = omega (arith, ints, z.high);
+      x_least = least 0 (lit< tt);
+      x_most = few 0 (lit< tt);
+      y_least = least 1 (lit< tt);
+      y_most = few 1 (lit< tt);
+      z_least = least 2 (lit< tt);
+      z_most = few 2 (lit< tt);
     }
 
--- and they are no more than version 1 allows
-pub few_within : (ns : List ℕ) → ((k : ℕ) → k < 3 → MeetsLimits (limits_at cell_limits k) (pos (slice_index ns k))) → AreFew (triple ns)
-unfolding limits_at
-few_within ns inside =
-    let x : MeetsLimits (from_to (pos 2) (pos 64)) (pos (slice_index ns 0)) = inside 0 (lit< tt) in
-    let y : MeetsLimits (from_to (pos 2) (pos 64)) (pos (slice_index ns 1)) = inside 1 (lit< tt) in
-    let z : MeetsLimits (from_to (pos 2) (pos 64)) (pos (slice_index ns 2)) = inside 2 (lit< tt) in
-    record { x = omega (arith, ints, x.high); y = omega (arith, ints, y.high); z = omega (arith, ints, z.high) }
+-- cells and a side that a version allows
+pub allowed : (version : ℕ) (ns : List ℕ) (side : ℕ) → ((k : ℕ) → k < 3 → slice_index ns k ≤ (allowance_of version).cells) → IsSideOf version side
+    → IsGridOf version (triple ns) side
+allowed version ns side few sides = record { x = few 0 (lit< tt); y = few 1 (lit< tt); z = few 2 (lit< tt); sides = sides }
+
+-- the powers of two of a side
+pub bits_fit : (version : ℕ) → FitsU32 (bit_limits version)
+bits_fit version = record { low = omega (arith, ints); high = omega (arith, ints, (within_scheme version).greatest_bits) }
+
+pub bits_least : (version bits : ℕ) → MeetsLimits (bit_limits version) (pos bits) → (allowance_of version).least_bits ≤ bits
+bits_least version bits inside = omega (arith, ints, inside.low)
+
+pub bits_most : (version bits : ℕ) → MeetsLimits (bit_limits version) (pos bits) → bits ≤ (allowance_of version).greatest_bits
+bits_most version bits inside = omega (arith, ints, inside.high)
+
+-- version 1 has one side, a further one tells it
+pub side_of_first : (version : ℕ) (t : Members) → version ≡ 1 → side_in version t ≡ Ok (2 ^ (allowance_of version).least_bits)
+unfolding side_in
+side_of_first version t one =
+    let same : (version == 1) ≡ true = grind (arith, nat_tests) in
+    rw same
+
+pub side_of_further : (version : ℕ) (t : Members) → version ≢ 1
+    → side_in version t ≡ need (whole (bit_limits version)) (codes "sub") (codes "grid") t >>= (λ bits. Ok (2 ^ bits))
+unfolding side_in
+side_of_further version t further =
+    let other : (version == 1) ≡ false = grind (arith, nat_tests) in
+    rw other
 
 -- the tiles of each axis are those of the grid, where they are 512 at most
 pub tiles_within : (ns ts : List ℕ) → ((k : ℕ) → k < 3 → IsTiled (slice_index ns k) (slice_index ts k)) → count_of (triple ts) ≤ 512
     → AreTiles (triple ns) (triple ts)
 tiles_within ns ts tiled most = record { x = tiled 0 (lit< tt); y = tiled 1 (lit< tt); z = tiled 2 (lit< tt); most = most }
 
--- an axis has at most 32 tiles
-pub few_tiles : (ns ts : List ℕ) → AreFew (triple ns) → ((k : ℕ) → k < 3 → IsTiled (slice_index ns k) (slice_index ts k)) → (k : ℕ) → k < 3
-    → slice_index ts k ≤ 32
-few_tiles ns ts few tiled =
+-- an axis has no more tiles than cells
+pub few_tiles : (ns ts : List ℕ) → IsCells (triple ns) → ((k : ℕ) → k < 3 → IsTiled (slice_index ns k) (slice_index ts k)) → (k : ℕ) → k < 3
+    → slice_index ts k ≤ 128
+few_tiles ns ts cells tiled =
     let x = tiled 0 (lit< tt) in
     let y = tiled 1 (lit< tt) in
     let z = tiled 2 (lit< tt) in
-    below_three (λ k. slice_index ts k ≤ 32) (omega (arith, x.high, few.x)) (omega (arith, y.high, few.y)) (omega (arith, z.high, few.z))
+    below_three (λ k. slice_index ts k ≤ 128) (omega (arith, x.high, cells.x_most)) (omega (arith, y.high, cells.y_most)) (omega (arith, z.high, cells.z_most))
 
 -- the tiles of the next axis
 pub next_axis_tiles : (ns : List ℕ) (path : List ℕ) (ts : List ℕ) (vs : List Value) (i : ℕ) (d : Value) → i < length vs → i ≤ length ts

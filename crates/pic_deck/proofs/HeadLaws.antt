@@ -10,9 +10,10 @@ use Rattle.std.proofs.lemmas.Bool.{cases_lt}
 use Rattle.std.proofs.Math.Seq.{take-append_seam}
 use Rattle.std.proofs.lemmas.List.{take-append-le, length-append, length-map, map-append, get_or-map, get_or_append_left, get_or_push}
 use Rattle.std.proofs.lemmas.List.Sums.{sum_by-append, sum_by-cons}
-use Rattle.pic_grid.specs.Cells.{Grid}
+use Rattle.pic_num.specs.Limits.{allowance_of}
 use Rattle.pic_grid.specs.Species.{IsName, IsKind, HeadView, no_head, AreHeads, is_name_byte}
 use Rattle.pic_walk.specs.declared.fault.Fault.TheVariants.{Name}
+use Rattle.pic_walk.specs.Terms.{TermsView}
 use Rattle.pic_walk.specs.Walk.{Walked}
 use Rattle.pic_walk.proofs.ListLaws.{all_more}
 use Rattle.pic_deck.specs.declared.species.Species.{Species}
@@ -69,10 +70,10 @@ differ_more hs h before new i j less high =
           rw (get_or_append_left hs (h ∷ []) no_head i (omega (arith, less, at_end)), get_or_push hs h no_head j at_end) (new i (omega (arith, less, at_end))))
     ]
 
-heads_more : (hs : List HeadView) (h : HeadView) → AreHeads hs → length hs < 16 → IsName h.name → IsKind h.kind
+heads_more : (most : ℕ) (hs : List HeadView) (h : HeadView) → AreHeads most hs → length hs < 16 → IsName h.name → IsKind h.kind
     → ((i : ℕ) → i < length hs → (get_or hs i no_head).name ≡ h.name → ⊥)
-    → sum_by (λ (k : HeadView). k.count) hs + h.count ≤ 1048576 → AreHeads (hs ++ h ∷ [])
-heads_more hs h are room name kind new total =
+    → sum_by (λ (k : HeadView). k.count) hs + h.count ≤ most → AreHeads most (hs ++ h ∷ [])
+heads_more most hs h are room name kind new total =
     let size = length-append hs (h ∷ []) in
     let all = sum_by-append (λ (k : HeadView). k.count) hs (h ∷ []) in
     record {
@@ -84,17 +85,17 @@ heads_more hs h are room name kind new total =
     }
 
 -- one species more
-pub species_more : (n : Grid) (ss : List Species) (s : Species) → AreHeads (map head_of ss) → length ss < 16 → IsNext n ss s
-    → AreHeads (map head_of (ss ++ s ∷ []))
-species_more n ss s are room next =
+pub species_more : (t : TermsView) (ss : List Species) (s : Species) → AreHeads (allowance_of t.version).particles (map head_of ss) → length ss < 16
+    → IsNext t ss s → AreHeads (allowance_of t.version).particles (map head_of (ss ++ s ∷ []))
+species_more t ss s are room next =
     let size = length-map ss head_of in
     let new : (i : ℕ) → i < length (map head_of ss) → (get_or (map head_of ss) i no_head).name ≡ s.name → ⊥ =
     λ i below. let inside : i < length ss = omega (arith, below, size) in rw (get_or-map head_of ss i no_species no_head inside) (next.name.differs i inside) in
     rw (map-append head_of ss (s ∷ []))
-    (heads_more (map head_of ss) (head_of s) are (omega (arith, size, room)) next.name.name next.kind new (rw (particles_of-heads ss) next.few))
+    (heads_more (allowance_of t.version).particles (map head_of ss) (head_of s) are (omega (arith, size, room)) next.name.name next.kind new (rw (particles_of-heads ss) next.few))
 
-pub heads_none : AreHeads (map head_of [])
-heads_none = record {
+pub heads_none : (most : ℕ) → AreHeads most (map head_of [])
+heads_none most = record {
   few = omega arith;
   names = λ i h. absurd (omega (arith, h));
   kinds = λ i h. absurd (omega (arith, h));
@@ -102,13 +103,13 @@ heads_none = record {
   total = omega arith;
 }
 
-pub filled_more : (n : Grid) (ss : List Species) (s : Species) → AreFilled n ss → IsFilledFrom n ss s → AreFilled n (ss ++ s ∷ [])
-filled_more n ss s are here = record { each = each }
+pub filled_more : (t : TermsView) (ss : List Species) (s : Species) → AreFilled t ss → IsFilledFrom t ss s → AreFilled t (ss ++ s ∷ [])
+filled_more t ss s are here = record { each = each }
   where
     size : length (ss ++ s ∷ []) ≡ length ss + 1
     size = length-append ss (s ∷ [])
 
-    each : (i : ℕ) → i < length (ss ++ s ∷ []) → IsFilledFrom n (take i (ss ++ s ∷ [])) (get_or (ss ++ s ∷ []) i no_species)
+    each : (i : ℕ) → i < length (ss ++ s ∷ []) → IsFilledFrom t (take i (ss ++ s ∷ [])) (get_or (ss ++ s ∷ []) i no_species)
     each i below = elim (cases_lt i (length ss)) [
       | inl inside ↦
           rw (take-append-le i ss (s ∷ []) (omega (arith, inside)), get_or_append_left ss (s ∷ []) no_species i inside) (are.each i inside)
@@ -118,5 +119,5 @@ filled_more n ss s are here = record { each = each }
           rw (before, get_or_push ss s no_species i at_end) here)
     ]
 
-pub filled_none : (n : Grid) → AreFilled n []
-filled_none n = record { each = λ i h. absurd (omega (arith, h)) }
+pub filled_none : (t : TermsView) → AreFilled t []
+filled_none t = record { each = λ i h. absurd (omega (arith, h)) }

@@ -2,12 +2,14 @@
 use Rattle.std.specs.Prelude.{◌≡◌, ℕ, ℤ, List, map, ◌≤◌}
 use Rattle.pic_num.specs.declared.mult.Scales.{Scales}
 use Rattle.pic_num.specs.declared.axis.Axis.{Axis}
-use Rattle.pic_num.specs.Limits.{most_cells_of_axis_1, side_1, most_steps}
+use Rattle.pic_num.specs.Limits.{most_steps, allowance_of}
 use Rattle.pic_num.specs.Space.{Triple, triple, Spot, spot}
+use Rattle.pic_num.specs.Versions.{IsVersion, IsGridOf}
 use Rattle.pic_grid.specs.Cells.{Grid, IsCells}
 use Rattle.pic_grid.specs.Species.{HeadView, AreHeads}
 use Rattle.pic_grid.specs.Tiles.{AreTiles}
 use Rattle.pic_walk.specs.declared.row.Row.{Row}
+use Rattle.pic_walk.specs.Terms.{TermsView}
 pub use Rattle.pic_walk.specs.Extent.{extent_of, most_extent, IsExtent}
 use Rattle.pic_walk.specs.Rows.{AreRows}
 use Rattle.pic_deck.specs.declared.fields.InitialFields.{InitialFields}
@@ -16,7 +18,7 @@ use Rattle.pic_deck.specs.declared.species.Species.{Species}
 use Rattle.pic_deck.specs.Species.{AreFilled, head_of}
 use Rattle.pic_deck.specs.Initial.{IsMild, set_up}
 
--- a deck: the cells of each axis, the side of a cell, the tiles of each axis, how many steps, after how
+-- a deck: its version, the cells of each axis, the side of a cell, the tiles of each axis, how many steps, after how
 -- many a frame is due, the multipliers of the fields, the uniform parts of E and B and the rows that
 -- are added to them, and the species
 pub record DeckView : Type 0 where
@@ -54,11 +56,13 @@ deck_view settings field species = record {
 abbrev pub deck_grid : DeckView → Grid
 deck_grid d = record { n = d.cells; side = d.side }
 
--- a grid of no more cells on an axis than version 1 allows
-pub record AreFew (n : Triple) : Type 0 where
-  pub x : n.x ≤ most_cells_of_axis_1
-  pub y : n.y ≤ most_cells_of_axis_1
-  pub z : n.z ≤ most_cells_of_axis_1
+-- what its limits go by
+abbrev pub deck_terms : DeckView → TermsView
+deck_terms d = record { version = d.version; grid = deck_grid d }
+
+-- the same of its settings
+abbrev pub terms_of : Settings → TermsView
+terms_of settings = record { version = settings.version; grid = settings.cells }
 
 -- the value of E that a deck begins with, on an axis at a cell: the uniform part, and what the rows
 -- of that place add up to
@@ -75,10 +79,9 @@ heads_of d = map head_of d.species
 
 -- the numbers of the tables of the grid, the run and the scales are within their limits
 pub record AreSettings (v : ℕ) (g : Grid) (t : Triple) (s f : ℕ) : Type 0 where
-  pub version : v ≡ 1
+  pub version : IsVersion v
   pub cells : IsCells g.n
-  pub few : AreFew g.n
-  pub side : g.side ≡ side_1
+  pub allowed : IsGridOf v g.n g.side
   pub tiles : AreTiles g.n t
   pub steps : s ≤ most_steps
   pub every_low : 1 ≤ f
@@ -89,7 +92,7 @@ pub record IsWithinLimits (d : DeckView) : Type 0 where
   pub settings : AreSettings d.version (deck_grid d) d.tiles d.steps d.every
   pub edges : AreRows d.cells d.edges
   pub faces : AreRows d.cells d.faces
-  pub heads : AreHeads (heads_of d)
-  pub filled : AreFilled (deck_grid d) d.species
+  pub heads : AreHeads (allowance_of d.version).particles (heads_of d)
+  pub filled : AreFilled (deck_terms d) d.species
   pub e : IsMild d.cells d.scales.e_force (initial_e d)
   pub b : IsMild d.cells d.scales.b_force (initial_b d)

@@ -1,11 +1,11 @@
 -- The walk of what fills a species, this project's profile: the keys of each source in their order.
 use Rattle.std.specs.Prelude.{ℕ, pos, position, bytes_eq, List, [], ◌∷◌, codes, Ok}
 use Rattle.toml.specs.Data.{Data, Members}
-use Rattle.pic_num.specs.Limits.{most_particles_1}
-use Rattle.pic_grid.specs.Cells.{Grid}
+use Rattle.pic_num.specs.Limits.{allowance_of}
 use Rattle.pic_walk.specs.declared.fault.Fault.TheVariants.{Name}
 use Rattle.pic_walk.specs.declared.draw.Draw.{Draw}
 use Rattle.pic_walk.specs.declared.sites.Sites.{Sites}
+use Rattle.pic_walk.specs.Terms.{TermsView}
 use Rattle.pic_walk.specs.Draw.{draw}
 use Rattle.pic_walk.specs.Limits.{from_to}
 use Rattle.pic_walk.specs.Points.{point_list}
@@ -23,19 +23,19 @@ abbrev pub lattice_keys : List (List ℕ)
 lattice_keys = codes "first" ∷ codes "gap" ∷ codes "count" ∷ codes "v" ∷ []
 
 -- the sites of a lattice
-unfoldable pub lattice : Grid → List ℕ → Data → Walked Sites
-lattice g path d = table_of lattice_keys path d >>= sites g path
+unfoldable pub lattice : TermsView → List ℕ → Data → Walked Sites
+lattice t path d = table_of lattice_keys path d >>= sites t path
 
 -- the keys of `random`
 abbrev pub random_keys : List (List ℕ)
 random_keys = codes "count" ∷ codes "seed" ∷ codes "stream" ∷ codes "drift" ∷ codes "spread" ∷ []
 
 -- how many particles at random places, and how they are drawn
-unfoldable pub random : List ℕ → Data → Walked (ℕ × Draw)
-random path d =
+unfoldable pub random : TermsView → List ℕ → Data → Walked (ℕ × Draw)
+random t path d =
     table_of random_keys path d
-    >>= (λ t. need (whole (from_to (pos 0) (pos most_particles_1))) (codes "count") path t
-    >>= (λ count. draw path t
+    >>= (λ ms. need (whole (from_to (pos 0) (pos (allowance_of t.version).particles))) (codes "count") path ms
+    >>= (λ count. draw t.grid.side path ms
     >>= (λ r. Ok (count, r))))
 
 -- the keys of `pair`
@@ -48,11 +48,11 @@ species_number done path d =
     text path d >>= (λ s. some_or (Name path) (position (λ o. bytes_eq o.name s) done))
 
 -- the earlier species where whose particles others stand, and how their velocities are drawn
-unfoldable pub pair : List Species → List ℕ → Data → Walked (ℕ × Draw)
-pair done path d =
+unfoldable pub pair : TermsView → List Species → List ℕ → Data → Walked (ℕ × Draw)
+pair t done path d =
     table_of pair_keys path d
-    >>= (λ t. need (species_number done) (codes "of") path t
-    >>= (λ named. draw path t
+    >>= (λ ms. need (species_number done) (codes "of") path ms
+    >>= (λ named. draw t.grid.side path ms
     >>= (λ r. Ok (named, r))))
 
 -- particles at the sites of a lattice
@@ -68,13 +68,13 @@ abbrev pub in_pairs : ℕ × Draw → Fill
 in_pairs r = Pair r.0 r.1.seed r.1.stream r.1.drift r.1.spread
 
 -- what a source fills a species with
-abbrev pub fill_by : FillKind → Grid → List Species → List ℕ → Data → Walked Fill
-fill_by source.Points g done path d = point_list g path d >>= (λ points. Ok (Points points))
-fill_by source.Lattice g done path d = lattice g path d >>= (λ s. Ok (at_sites s))
-fill_by source.Random g done path d = random path d >>= (λ r. Ok (at_random r))
-fill_by source.Pair g done path d = pair done path d >>= (λ r. Ok (in_pairs r))
+abbrev pub fill_by : FillKind → TermsView → List Species → List ℕ → Data → Walked Fill
+fill_by source.Points t done path d = point_list t.grid path d >>= (λ points. Ok (Points points))
+fill_by source.Lattice t done path d = lattice t path d >>= (λ s. Ok (at_sites s))
+fill_by source.Random t done path d = random t path d >>= (λ r. Ok (at_random r))
+fill_by source.Pair t done path d = pair t done path d >>= (λ r. Ok (in_pairs r))
 
 -- what fills the species that a table is
-unfoldable pub species_fill : Grid → List Species → List ℕ → Members → Walked Fill
-species_fill g done path t =
-    only path t sources >>= (λ s. need (fill_by s g done) (source_key s) path t)
+unfoldable pub species_fill : TermsView → List Species → List ℕ → Members → Walked Fill
+species_fill t done path ms =
+    only path ms sources >>= (λ s. need (fill_by s t done) (source_key s) path ms)

@@ -1,17 +1,18 @@
 -- The walk of a deck, this project's profile: the keys of each table in their order, the kind of
 -- each value and its limits. Which table a text is, is `toml`'s definition.
-use Rattle.std.specs.Prelude.{ℤ, pos, neg_ℤ, ℕ, ◌+◌, ◌/◌, ◌%◌, List, [], ◌∷◌, length, codes, slice_index, if◌then◌else◌, Option, Some, None, Ok, Err}
+use Rattle.std.specs.Prelude.{ℤ, pos, neg_ℤ, ℕ, ◌==◌, ◌+◌, ◌/◌, ◌%◌, ◌^◌, List, [], ◌∷◌, length, codes, slice_index, if◌then◌else◌, Option, Some, None, Ok, Err}
 use Rattle.toml.specs.Data.{Data, Members}
 use Rattle.pic_num.specs.declared.mult.Scales.{Scales}
 use Rattle.pic_num.specs.declared.motion.Kind.{Kind}
-use Rattle.pic_num.specs.Limits.{fewest_cells_of_axis, most_cells_of_axis_1, side_1, most_species, most_particles_1, most_mass, most_force, most_steps, least_charge, greatest_charge}
+use Rattle.pic_num.specs.Limits.{most_version, allowance_of, fewest_cells_of_axis, most_species, most_mass, most_force, most_steps, least_charge, greatest_charge}
 use Rattle.pic_num.specs.Space.{Triple, triple, spot}
 use Rattle.pic_grid.specs.Cells.{Grid, count_of}
 use Rattle.pic_grid.specs.Tiles.{most_tiles}
 use Rattle.pic_walk.specs.declared.fault.Fault.TheVariants.{Limit, Name}
 use Rattle.pic_walk.specs.declared.limits.Limits.{Limits}
+use Rattle.pic_walk.specs.Terms.{TermsView}
 use Rattle.pic_walk.specs.Path.{key_at}
-use Rattle.pic_walk.specs.Limits.{from_to}
+use Rattle.pic_walk.specs.Limits.{from_to, thrice}
 use Rattle.pic_walk.specs.Rows.{row_list}
 use Rattle.pic_walk.specs.Walk.{Walked, ◌>>=◌, within, limited, whole, text, elements, count_of_items, each, array_of}
 use Rattle.pic_walk.specs.Walk.{numbers, three, any_three, multiplier, listed, table_of, need, optional}
@@ -19,7 +20,7 @@ use Rattle.pic_deck.specs.declared.fields.InitialFields.{InitialFields}
 use Rattle.pic_deck.specs.declared.settings.Settings.{Settings}
 use Rattle.pic_deck.specs.declared.species.Fill.{Fill}
 use Rattle.pic_deck.specs.declared.species.Species.{Species}
-use Rattle.pic_deck.specs.Deck.{DeckView, deck_view}
+use Rattle.pic_deck.specs.Deck.{DeckView, deck_view, terms_of}
 use Rattle.pic_deck.specs.Species.{is_new_name, filled_count, particles_of}
 use Rattle.pic_deck.specs.Initial.{set_up, first_strong}
 use Rattle.pic_deck.specs.Fill.{species_fill}
@@ -28,9 +29,11 @@ use Rattle.pic_deck.specs.Fill.{species_fill}
 abbrev pub deck_keys : List (List ℕ)
 deck_keys = codes "version" ∷ codes "grid" ∷ codes "run" ∷ codes "scale" ∷ codes "field" ∷ codes "species" ∷ []
 
--- the keys of `grid`
-abbrev pub grid_keys : List (List ℕ)
-grid_keys = codes "cells" ∷ codes "tiles" ∷ []
+-- the keys of `grid`: a deck of version 1 has no side of its own
+abbrev pub grid_keys : ℕ → List (List ℕ)
+grid_keys version =
+    if version == 1 then codes "cells" ∷ codes "tiles" ∷ []
+    else codes "cells" ∷ codes "tiles" ∷ codes "sub" ∷ []
 
 -- the keys of `run`
 abbrev pub run_keys : List (List ℕ)
@@ -40,13 +43,13 @@ run_keys = codes "steps" ∷ codes "every" ∷ []
 abbrev pub scale_keys : List (List ℕ)
 scale_keys = codes "e_to_b" ∷ codes "b_to_e" ∷ codes "e_force" ∷ codes "b_force" ∷ []
 
--- how many cells an axis may have
-abbrev pub axis_limits : Limits
-axis_limits = from_to (pos fewest_cells_of_axis) (pos most_cells_of_axis_1)
+-- how many cells each axis may have
+abbrev pub cell_limits : ℕ → List Limits
+cell_limits version = thrice (from_to (pos fewest_cells_of_axis) (pos (allowance_of version).cells))
 
--- the same for each of the three
-abbrev pub cell_limits : List Limits
-cell_limits = axis_limits ∷ axis_limits ∷ axis_limits ∷ []
+-- the powers of two that a side may be
+abbrev pub bit_limits : ℕ → Limits
+bit_limits version = from_to (pos (allowance_of version).least_bits) (pos (allowance_of version).greatest_bits)
 
 -- the tiles of an axis of n cells: from 1 to half the cells, and none is left over
 unfoldable pub axis_tiles : ℕ → List ℕ → Data → Walked ℕ
@@ -66,13 +69,20 @@ tiles ns path d =
     >>= (λ ts. within (from_to (pos 1) (pos most_tiles)) path (pos (count_of (triple ts)))
     >>= (λ _. Ok ts))
 
--- the cells, of the side that version 1 has, and the tiles
-unfoldable pub grid : Members → Walked (Grid × List ℕ)
-grid ms =
-    need (table_of grid_keys) (codes "grid") [] ms
-    >>= (λ t. need (three cell_limits) (codes "cells") (codes "grid") t
+-- the side of a cell: the one that version 1 has, or the power of two at the key `sub`
+unfoldable pub side_in : ℕ → Members → Walked ℕ
+side_in version t =
+    if version == 1 then Ok (2 ^ (allowance_of version).least_bits)
+    else need (whole (bit_limits version)) (codes "sub") (codes "grid") t >>= (λ bits. Ok (2 ^ bits))
+
+-- the cells with their side, and the tiles, in a deck of a version
+unfoldable pub grid : ℕ → Members → Walked (Grid × List ℕ)
+grid version ms =
+    need (table_of (grid_keys version)) (codes "grid") [] ms
+    >>= (λ t. need (three (cell_limits version)) (codes "cells") (codes "grid") t
     >>= (λ ns. need (tiles ns) (codes "tiles") (codes "grid") t
-    >>= (λ ts. Ok (record { n = triple ns; side = side_1 }, ts))))
+    >>= (λ ts. side_in version t
+    >>= (λ side. Ok (record { n = triple ns; side = side }, ts)))))
 
 -- how many steps, and after how many a frame is due
 unfoldable pub run : Members → Walked (ℕ × ℕ)
@@ -92,11 +102,11 @@ scale ms =
     >>= (λ e_force. need multiplier (codes "b_force") (codes "scale") t
     >>= (λ b_force. Ok (record { e_to_b = e_to_b; b_to_e = b_to_e; e_force = e_force; b_force = b_force }))))))
 
--- the grid, the run and the scales of a deck
+-- the version of a deck, and its grid, run and scales
 unfoldable pub settings : Members → Walked Settings
 settings ms =
-    need (whole (from_to (pos 1) (pos 1))) (codes "version") [] ms
-    >>= (λ version. grid ms
+    need (whole (from_to (pos 1) (pos most_version))) (codes "version") [] ms
+    >>= (λ version. grid version ms
     >>= (λ g. run ms
     >>= (λ r. scale ms
     >>= (λ scales. Ok (record { version = version; cells = g.0; tiles = g.1; steps = r.0; every = r.1; scales = scales })))))
@@ -142,30 +152,30 @@ species_kind path t =
     >>= (λ turn. Ok (record { charge = charge; mass = mass; kick = kick; turn = turn })))))
 
 -- how many particles a species has after earlier ones, which all together are not too many
-unfoldable pub counted : List Species → List ℕ → Fill → Walked ℕ
-counted done path fill =
-    within (from_to (pos 0) (pos most_particles_1)) path (pos (particles_of done + filled_count done fill))
+unfoldable pub counted : ℕ → List Species → List ℕ → Fill → Walked ℕ
+counted version done path fill =
+    within (from_to (pos 0) (pos (allowance_of version).particles)) path (pos (particles_of done + filled_count done fill))
     >>= (λ _. Ok (filled_count done fill))
 
 -- the species that a table is, after earlier ones
-unfoldable pub species_in : Grid → List Species → List ℕ → Members → Walked Species
-species_in g done path t =
-    need (species_name done) (codes "name") path t
-    >>= (λ named. species_kind path t
-    >>= (λ k. species_fill g done path t
-    >>= (λ f. counted done path f
+unfoldable pub species_in : TermsView → List Species → List ℕ → Members → Walked Species
+species_in t done path ms =
+    need (species_name done) (codes "name") path ms
+    >>= (λ named. species_kind path ms
+    >>= (λ k. species_fill t done path ms
+    >>= (λ f. counted t.version done path f
     >>= (λ count. Ok (record { name = named; kind = k; count = count; fill = f })))))
 
 -- the next species
-unfoldable pub one_species : Grid → List Species → List ℕ → Data → Walked Species
-one_species g done path d = table_of species_keys path d >>= species_in g done path
+unfoldable pub one_species : TermsView → List Species → List ℕ → Data → Walked Species
+one_species t done path d = table_of species_keys path d >>= species_in t done path
 
 -- all species, not too many
-unfoldable pub species_list : Grid → List ℕ → Data → Walked (List Species)
-species_list g path d =
+unfoldable pub species_list : TermsView → List ℕ → Data → Walked (List Species)
+species_list t path d =
     elements path d
     >>= (λ ds. within (from_to (pos 0) (pos most_species)) path (pos (count_of_items ds))
-    >>= (λ _. each (one_species g) path [] ds))
+    >>= (λ _. each (one_species t) path [] ds))
 
 -- no force value is too large, or that of the least place which has one is refused
 unfoldable pub force_allowed : List ℕ → Option ℤ → Walked (Unit {0})
@@ -184,6 +194,6 @@ deck ms =
     listed deck_keys [] ms
     >>= (λ t. settings t
     >>= (λ s. optional no_field (fields s.cells.n) (codes "field") [] t
-    >>= (λ f. optional [] (species_list s.cells) (codes "species") [] t
+    >>= (λ f. optional [] (species_list (terms_of s)) (codes "species") [] t
     >>= (λ ss. forces s f
     >>= (λ _. Ok (deck_view s f ss))))))

@@ -2,13 +2,14 @@
 use Rattle.std.specs.Prelude.{◌≡◌, ℕ, ◌+◌, ◌<◌, ◌≤◌, ◌&&◌, Bool, not, nat_le, bytes_eq, List, [], length, sum_by, take, slice_index_or}
 use Rattle.std.specs.List.{list_all, list_any}
 use Rattle.pic_num.specs.Space.{triple}
-use Rattle.pic_grid.specs.Cells.{Grid, count_of}
+use Rattle.pic_grid.specs.Cells.{count_of}
 use Rattle.pic_grid.specs.Species.{HeadView, no_head, is_name_byte, IsName, IsKind}
 pub use Rattle.pic_walk.specs.declared.point6.Point6.{Point6}
 pub use Rattle.pic_walk.specs.Points.{no_point, IsPoint, ArePoints}
+pub use Rattle.pic_walk.specs.Terms.{TermsView}
 pub use Rattle.pic_walk.specs.Draw.{IsDraw}
 pub use Rattle.pic_walk.specs.Sites.{AreSites}
-pub use Rattle.pic_num.specs.Limits.{most_particles_1, most_species}
+pub use Rattle.pic_num.specs.Limits.{most_particles, most_species, allowance_of}
 use Rattle.pic_num.specs.Limits.{most_letters}
 pub use Rattle.pic_walk.specs.Bounds.{fastest, fastest_drift, widest_spread}
 use Rattle.pic_deck.specs.declared.species.Fill.{Fill}
@@ -55,29 +56,30 @@ pub record IsNewName (ss : List Species) (s : List ℕ) : Type 0 where
   pub name : IsName s
   pub differs : (i : ℕ) → i < length ss → (species_at ss i).name ≡ s → ⊥
 
--- what fills a species after earlier ones is such as a deck of a grid may have
-abbrev pub IsFill : Grid → List Species → Fill → Type 0
-IsFill g earlier (Points points) = ArePoints g points
-IsFill g earlier (Lattice first gap count v) =
-    AreSites g (record { first = first; gap = gap; count = count; v = v })
-IsFill g earlier (Random count seed stream drift spread) =
-    (count ≤ most_particles_1) × IsDraw (record { seed = seed; stream = stream; drift = drift; spread = spread })
-IsFill g earlier (Pair named seed stream drift spread) =
-    (named < length earlier) × IsDraw (record { seed = seed; stream = stream; drift = drift; spread = spread })
+-- what fills a species after earlier ones is such as a deck of these terms may have
+abbrev pub IsFill : TermsView → List Species → Fill → Type 0
+IsFill t earlier (Points points) = ArePoints t.grid points
+IsFill t earlier (Lattice first gap count v) =
+    AreSites t (record { first = first; gap = gap; count = count; v = v })
+IsFill t earlier (Random count seed stream drift spread) =
+    (count ≤ (allowance_of t.version).particles)
+    × IsDraw t.grid.side (record { seed = seed; stream = stream; drift = drift; spread = spread })
+IsFill t earlier (Pair named seed stream drift spread) =
+    (named < length earlier) × IsDraw t.grid.side (record { seed = seed; stream = stream; drift = drift; spread = spread })
 
 -- a species after earlier ones is filled so, and has so many particles
-pub record IsFilledFrom (g : Grid) (earlier : List Species) (s : Species) : Type 0 where
-  pub fill : IsFill g earlier s.fill
+pub record IsFilledFrom (t : TermsView) (earlier : List Species) (s : Species) : Type 0 where
+  pub fill : IsFill t earlier s.fill
   pub count : s.count ≡ filled_count earlier s.fill
 
 -- a species that may come next: its name is new, its particles are within their limits, and with
 -- them there are not too many
-pub record IsNext (g : Grid) (earlier : List Species) (s : Species) : Type 0 where
+pub record IsNext (t : TermsView) (earlier : List Species) (s : Species) : Type 0 where
   pub name : IsNewName earlier s.name
   pub kind : IsKind s.kind
-  pub filled : IsFilledFrom g earlier s
-  pub few : particles_of earlier + s.count ≤ most_particles_1
+  pub filled : IsFilledFrom t earlier s
+  pub few : particles_of earlier + s.count ≤ (allowance_of t.version).particles
 
 -- each species is filled so, after those before it
-pub record AreFilled (g : Grid) (ss : List Species) : Type 0 where
-  pub each : (i : ℕ) → i < length ss → IsFilledFrom g (take i ss) (species_at ss i)
+pub record AreFilled (t : TermsView) (ss : List Species) : Type 0 where
+  pub each : (i : ℕ) → i < length ss → IsFilledFrom t (take i ss) (species_at ss i)

@@ -3,7 +3,7 @@
 ghost use Rattle.std.specs.Prelude.{◌≡◌};
 ghost use Rattle.pic_num.specs.Space.{triple, spot};
 ghost use Rattle.pic_grid.specs.Lattice.{field_of};
-ghost use Rattle.pic_deck.specs.Deck.{IsWithinLimits, deck_grid, initial_e, initial_b};
+ghost use Rattle.pic_deck.specs.Deck.{IsWithinLimits, deck_grid, deck_terms, initial_e, initial_b};
 ghost use Rattle.pic_deck.specs.Species.{particles_of};
 
 use crate::fields::InitialFields;
@@ -13,7 +13,7 @@ use crate::species::{Species, SpeciesList};
 use crate::species_reader::particles_of;
 use pic_grid::{Cells, Lattice};
 use pic_num::Scales;
-use pic_walk::Row;
+use pic_walk::{Row, Terms};
 use std::marker::Model;
 
 /// A deck: all that it says is within the limits of its keys, no value of a field that it begins with
@@ -56,6 +56,14 @@ impl Deck {
         ensures limits { IsWithinLimits self.now }
     {
         self.settings.version
+    }
+
+    /// What the deck's limits go by: its version, and its cells.
+    pub fn terms(&self) -> Terms
+        ensures value { result ≡ deck_terms self.now }
+        ensures limits { IsWithinLimits self.now }
+    {
+        Terms::new(self.settings.version, self.settings.cells)
     }
 
     /// How many cells the grid has on each axis, and the side of a cell.
@@ -138,7 +146,7 @@ impl Deck {
         self.species.as_slice()
     }
 
-    /// How many particles the species have, 1048576 at most.
+    /// How many particles the species have, no more than the deck's version allows.
     pub fn particles(&self) -> usize
         ensures value { result ≡ particles_of self.now.species }
         ensures limits { IsWithinLimits self.now }

@@ -2,7 +2,7 @@
 
 ghost use Rattle.std.specs.Prelude.{◌≡◌, ◌<◌, ◌≤◌, ℕ, None, codes, position, bytes_eq, length, IfOk};
 ghost use Rattle.toml.specs.View.{view, table_view};
-ghost use Rattle.pic_num.specs.Limits.{most_species, most_particles_1};
+ghost use Rattle.pic_num.specs.Limits.{most_species, allowance_of};
 ghost use Rattle.pic_walk.specs.Path.{key_at, path_of};
 ghost use Rattle.pic_walk.specs.declared.draw.Draw.{Draw as DrawView};
 ghost use Rattle.pic_walk.specs.declared.sites.Sites.{Sites as SitesView};
@@ -15,9 +15,9 @@ ghost use Rattle.pic_deck.specs.Fill.{lattice, random, species_number, pair, at_
 ghost use Rattle.pic_deck.specs.Species.{IsFill};
 
 use crate::species::{Fill, Species};
-use pic_grid::Cells;
+use pic_num::allowance_of;
 use pic_walk::{
-    Address, Draw, FillKind, Limits, MAX_COUNT, Sites, WalkStop, find_fill_kind, need_whole,
+    Address, Draw, FillKind, Limits, Sites, Terms, WalkStop, find_fill_kind, need_whole,
     needed_value, read_draw, read_points, read_sites, read_table, read_text,
 };
 use std::alloc::Global;
@@ -28,31 +28,36 @@ fn read_lattice(
     alloc: Global,
     address: Address<'_>,
     value: &Value,
-    cells: Cells,
+    terms: Terms,
 ) -> Result<Sites, WalkStop>
     ensures walks { WalksAs (λ (s : SitesView). s)
-        (lattice cells (path_of address.entry) (view value.now)) result }
-    ensures limits { IfOk result (λ s. AreSites cells s) }
+        (lattice terms (path_of address.entry) (view value.now)) result }
+    ensures limits { IfOk result (λ s. AreSites terms s) }
 {
     let path = address.path(alloc)?;
     let keys = ["first", "gap", "count", "v"];
     let table = read_table(alloc, address, path.as_str(), &keys, value)?;
-    read_sites(alloc, path.as_str(), table, cells)
+    read_sites(alloc, path.as_str(), table, terms)
 }
 
 // how many particles at random places, and how they are drawn
-fn read_random(alloc: Global, address: Address<'_>, value: &Value) -> Result<(u32, Draw), WalkStop>
+fn read_random(
+    alloc: Global,
+    address: Address<'_>,
+    value: &Value,
+    terms: Terms,
+) -> Result<(u32, Draw), WalkStop>
     ensures walks { WalksAs (λ (r : ℕ × DrawView). r)
-        (random (path_of address.entry) (view value.now)) result }
-    ensures count { IfOk result (λ r. r.0 ≤ most_particles_1) }
-    ensures draw { IfOk result (λ r. IsDraw r.1) }
+        (random terms (path_of address.entry) (view value.now)) result }
+    ensures count { IfOk result (λ r. r.0 ≤ (allowance_of terms.version).particles) }
+    ensures draw { IfOk result (λ r. IsDraw terms.grid.side r.1) }
 {
     let path = address.path(alloc)?;
     let keys = ["count", "seed", "stream", "drift", "spread"];
     let table = read_table(alloc, address, path.as_str(), &keys, value)?;
-    let limits = Limits::new(0, MAX_COUNT);
+    let limits = Limits::from_to(0, allowance_of(terms.version()).particles);
     let count = need_whole(alloc, path.as_str(), "count", table, limits)?;
-    let draw = read_draw(alloc, path.as_str(), table)?;
+    let draw = read_draw(alloc, path.as_str(), table, terms.cells())?;
     Ok((count, draw))
 }
 
@@ -101,19 +106,20 @@ fn read_pair(
     alloc: Global,
     address: Address<'_>,
     value: &Value,
+    terms: Terms,
     earlier: &[Species],
 ) -> Result<(u32, Draw), WalkStop>
     requires { length earlier.now ≤ most_species }
     ensures walks { WalksAs (λ (r : ℕ × DrawView). r)
-        (pair earlier.now (path_of address.entry) (view value.now)) result }
+        (pair terms earlier.now (path_of address.entry) (view value.now)) result }
     ensures below { IfOk result (λ r. r.0 < length earlier.now) }
-    ensures draw { IfOk result (λ r. IsDraw r.1) }
+    ensures draw { IfOk result (λ r. IsDraw terms.grid.side r.1) }
 {
     let path = address.path(alloc)?;
     let keys = ["of", "seed", "stream", "drift", "spread"];
     let table = read_table(alloc, address, path.as_str(), &keys, value)?;
     let number = need_species_number(alloc, path.as_str(), table, earlier)?;
-    let draw = read_draw(alloc, path.as_str(), table)?;
+    let draw = read_draw(alloc, path.as_str(), table, terms.cells())?;
     Ok((number as u32, draw))
 }
 
@@ -178,21 +184,21 @@ fn read_by(
     path: &str,
     source: FillKind,
     value: &Value,
-    cells: Cells,
+    terms: Terms,
     earlier: &[Species],
 ) -> Result<Fill, WalkStop>
     requires { length earlier.now ≤ most_species }
     ensures walks { WalksAs (λ (f : FillView). f)
-        (fill_by source cells earlier.now (key_at path.now (source_key source)) (view value.now))
+        (fill_by source terms earlier.now (key_at path.now (source_key source)) (view value.now))
         result }
-    ensures limits { IfOk result (λ f. IsFill cells earlier.now f) }
+    ensures limits { IfOk result (λ f. IsFill terms earlier.now f) }
 {
     let address = Address::new(path, source.key());
     match source {
-        FillKind::Points => Ok(Fill::Points(read_points(alloc, address, value, cells)?)),
-        FillKind::Lattice => Ok(at_sites(read_lattice(alloc, address, value, cells)?)),
-        FillKind::Random => Ok(at_random(read_random(alloc, address, value)?)),
-        FillKind::Pair => Ok(in_pairs(read_pair(alloc, address, value, earlier)?)),
+        FillKind::Points => Ok(Fill::Points(read_points(alloc, address, value, terms.cells())?)),
+        FillKind::Lattice => Ok(at_sites(read_lattice(alloc, address, value, terms)?)),
+        FillKind::Random => Ok(at_random(read_random(alloc, address, value, terms)?)),
+        FillKind::Pair => Ok(in_pairs(read_pair(alloc, address, value, terms, earlier)?)),
     }
 }
 
@@ -201,15 +207,15 @@ pub(crate) fn read_fill(
     alloc: Global,
     path: &str,
     table: &Table,
-    cells: Cells,
+    terms: Terms,
     earlier: &[Species],
 ) -> Result<Fill, WalkStop>
     requires { length earlier.now ≤ most_species }
     ensures walks { WalksAs (λ (f : FillView). f)
-        (species_fill cells earlier.now path.now (table_view table.now)) result }
-    ensures limits { IfOk result (λ f. IsFill cells earlier.now f) }
+        (species_fill terms earlier.now path.now (table_view table.now)) result }
+    ensures limits { IfOk result (λ f. IsFill terms earlier.now f) }
 {
     let source = find_fill_kind(alloc, path, table)?;
     let value = needed_value(alloc, path, source.key(), table)?;
-    read_by(alloc, path, source, value, cells, earlier)
+    read_by(alloc, path, source, value, terms, earlier)
 }

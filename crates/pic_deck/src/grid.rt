@@ -1,21 +1,21 @@
 //! The table `grid` of a deck.
 
-ghost use Rattle.std.specs.Prelude.{◌≡◌, ℕ, List, ◌*◌, ◌<◌, ◌≤◌, None, [], codes, IfOk, slice_index};
+ghost use Rattle.std.specs.Prelude.{◌≡◌, ℕ, List, ◌<◌, ◌≤◌, None, [], codes, IfOk, slice_index};
 ghost use Rattle.toml.specs.View.{view, table_view};
-ghost use Rattle.pic_num.specs.Limits.{side_1};
+ghost use Rattle.pic_num.specs.Limits.{allowance_of, most_cells_of_axis};
 ghost use Rattle.pic_num.specs.Space.{triple};
+ghost use Rattle.pic_num.specs.Versions.{IsSideOf, IsGridOf};
 ghost use Rattle.pic_walk.specs.Path.{path_of};
 ghost use Rattle.pic_walk.specs.Walk.{WalksAs, table_of, need, array_of, three};
 ghost use Rattle.pic_grid.specs.Cells.{Grid, IsCells, count_of};
 ghost use Rattle.pic_grid.specs.Tiles.{IsTiled, AreTiles};
-ghost use Rattle.pic_deck.specs.Deck.{AreFew};
-ghost use Rattle.pic_deck.specs.Keys.{grid_keys, grid, cell_limits, axis_tiles, next_tiles, tiles};
+ghost use Rattle.pic_deck.specs.Keys.{grid_keys, grid, cell_limits, axis_tiles, next_tiles, tiles, side_in};
 
 use pic_grid::Cells;
-use pic_num::{BITS_1, MAX_CELLS_1, MIN_CELLS, Sub};
+use pic_num::{MIN_CELLS, Sub, allowance_of};
 use pic_walk::{
-    Address, Limits, WalkStop, check_within, need_table, need_three, needed_value, read_array,
-    read_whole,
+    Address, Limits, WalkStop, check_within, need_table, need_three, need_whole, needed_value,
+    read_array, read_whole,
 };
 use std::alloc::Global;
 use toml::{Table, Value};
@@ -23,20 +23,26 @@ use toml::{Table, Value};
 /// The most tiles of a grid.
 const MAX_TILES: i64 = 1 << 9;
 
-fn grid_table(alloc: Global, table: &Table) -> Result<&Table, WalkStop>
+fn grid_table(alloc: Global, table: &Table, version: u32) -> Result<&Table, WalkStop>
     ensures { WalksAs (λ t. table_view t.now)
-        (need (table_of grid_keys) (codes "grid") [] (table_view table.now)) result }
+        (need (table_of (grid_keys version)) (codes "grid") [] (table_view table.now)) result }
 {
-    need_table(alloc, "grid", &["cells", "tiles"], table)
+    if version == 1 {
+        need_table(alloc, "grid", &["cells", "tiles"], table)
+    } else {
+        need_table(alloc, "grid", &["cells", "tiles", "sub"], table)
+    }
 }
 
-fn read_cells(alloc: Global, table: &Table) -> Result<[u32; 3], WalkStop>
+fn read_cells(alloc: Global, table: &Table, version: u32) -> Result<[u32; 3], WalkStop>
     ensures walks { WalksAs (λ (ns : List ℕ). ns)
-        (need (three cell_limits) (codes "cells") (codes "grid") (table_view table.now)) result }
+        (need (three (cell_limits version)) (codes "cells") (codes "grid") (table_view table.now))
+        result }
     ensures bounds { IfOk result (λ ns. IsCells (triple ns)) }
-    ensures few { IfOk result (λ ns. AreFew (triple ns)) }
+    ensures few { IfOk result (λ ns. (k : ℕ) → k < 3
+        → slice_index ns k ≤ (allowance_of version).cells) }
 {
-    let limits = [Limits::new(MIN_CELLS as i64, MAX_CELLS_1 as i64); 3];
+    let limits = [Limits::from_to(MIN_CELLS, allowance_of(version).cells); 3];
     need_three(alloc, "grid", "cells", table, limits)
 }
 
@@ -78,7 +84,7 @@ fn read_each_tiles(
 }
 
 fn tiles_in_all(tiles: [u32; 3]) -> u32
-    requires { (k : ℕ) → k < 3 → slice_index tiles k ≤ 32 }
+    requires { (k : ℕ) → k < 3 → slice_index tiles k ≤ most_cells_of_axis }
     ensures { result ≡ count_of (triple tiles) }
 {
     tiles[0] * tiles[1] * tiles[2]
@@ -92,7 +98,7 @@ fn read_tiles(
     cells: [u32; 3],
 ) -> Result<[u32; 3], WalkStop>
     requires plain { address.column ≡ None }
-    requires cells { AreFew (triple cells) }
+    requires cells { IsCells (triple cells) }
     ensures walks { WalksAs (λ (ts : List ℕ). ts)
         (tiles cells (path_of address.entry) (view value.now)) result }
     ensures tiled { IfOk result (λ ts. AreTiles (triple cells) (triple ts)) }
@@ -104,7 +110,7 @@ fn read_tiles(
 }
 
 fn need_tiles(alloc: Global, table: &Table, cells: [u32; 3]) -> Result<[u32; 3], WalkStop>
-    requires { AreFew (triple cells) }
+    requires { IsCells (triple cells) }
     ensures walks { WalksAs (λ (ts : List ℕ). ts)
         (need (tiles cells) (codes "tiles") (codes "grid") (table_view table.now)) result }
     ensures tiled { IfOk result (λ ts. AreTiles (triple cells) (triple ts)) }
@@ -113,16 +119,30 @@ fn need_tiles(alloc: Global, table: &Table, cells: [u32; 3]) -> Result<[u32; 3],
     read_tiles(alloc, Address::new("grid", "tiles"), value, cells)
 }
 
-/// The table `grid` of a deck: the cells of each axis, with the side of version 1, and the tiles.
-pub fn read_grid(alloc: Global, table: &Table) -> Result<(Cells, [u32; 3]), WalkStop>
-    ensures walks { WalksAs (λ (g : Grid × List ℕ). g) (grid (table_view table.now)) result }
+// the side of a cell
+fn read_side(alloc: Global, table: &Table, version: u32) -> Result<Sub, WalkStop>
+    ensures walks { WalksAs (λ (side : ℕ). side) (side_in version (table_view table.now)) result }
+    ensures allowed { IfOk result (λ side. IsSideOf version side) }
+{
+    let allowed = allowance_of(version);
+    if version == 1 {
+        return Ok(Sub::of_bits(allowed.least_bits));
+    }
+    let limits = Limits::from_to(allowed.least_bits, allowed.greatest_bits);
+    let bits = need_whole(alloc, "grid", "sub", table, limits)?;
+    Ok(Sub::of_bits(bits))
+}
+
+/// The table `grid` of a deck of a version: the cells of each axis with their side, and the tiles.
+pub fn read_grid(alloc: Global, table: &Table, version: u32) -> Result<(Cells, [u32; 3]), WalkStop>
+    ensures walks { WalksAs (λ (g : Grid × List ℕ). g) (grid version (table_view table.now)) result }
     ensures cells { IfOk result (λ g. IsCells g.0.n) }
-    ensures few { IfOk result (λ g. AreFew g.0.n) }
-    ensures side { IfOk result (λ g. g.0.side ≡ side_1) }
+    ensures allowed { IfOk result (λ g. IsGridOf version g.0.n g.0.side) }
     ensures tiled { IfOk result (λ g. AreTiles g.0.n (triple g.1)) }
 {
-    let table = grid_table(alloc, table)?;
-    let cells = read_cells(alloc, table)?;
+    let table = grid_table(alloc, table, version)?;
+    let cells = read_cells(alloc, table, version)?;
     let tiles = need_tiles(alloc, table, cells)?;
-    Ok((Cells::new(cells, Sub::of_bits(BITS_1)), tiles))
+    let sub = read_side(alloc, table, version)?;
+    Ok((Cells::new(cells, sub), tiles))
 }

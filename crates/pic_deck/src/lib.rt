@@ -19,7 +19,7 @@ mod species_reader;
 
 pub use deck::Deck;
 pub use fields::InitialFields;
-pub use pic_walk::{KeyPath, Point6, Points, Row, Rows, extent};
+pub use pic_walk::{KeyPath, Point6, Points, Row, Rows, Terms, extent};
 pub use reading::read_deck;
 pub use refusal::{DeckFault, Refusal};
 pub use settings::Settings;

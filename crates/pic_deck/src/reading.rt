@@ -15,7 +15,7 @@ use crate::forces::check_forces;
 use crate::refusal::{DeckFault, Refusal};
 use crate::settings::read_settings;
 use crate::species_reader::optional_species;
-use pic_walk::{Address, Limits, MAX_BYTES, WalkStop, check_keys};
+use pic_walk::{Address, Limits, MAX_BYTES, Terms, WalkStop, check_keys};
 use std::alloc::Global;
 use toml::Table;
 
@@ -54,8 +54,9 @@ fn deck_of(alloc: Global, table: &Table) -> Result<Deck, WalkStop>
 {
     check_deck_keys(alloc, table)?;
     let settings = read_settings(alloc, table)?;
+    let terms = Terms::new(settings.version, settings.cells);
     let field = optional_fields(alloc, table, settings.cells)?;
-    let species = optional_species(alloc, table, settings.cells)?;
+    let species = optional_species(alloc, table, terms)?;
     check_forces(alloc, &settings, &field)?;
     Ok(Deck::new(settings, field, species))
 }

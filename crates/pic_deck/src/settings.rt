@@ -12,7 +12,7 @@ use crate::grid::read_grid;
 use crate::run::read_run;
 use crate::scale::read_scale;
 use pic_grid::Cells;
-use pic_num::Scales;
+use pic_num::{MAX_VERSION, Scales};
 use pic_walk::{Limits, WalkStop, need_whole};
 use std::alloc::Global;
 use toml::Table;
@@ -28,16 +28,15 @@ pub struct Settings {
     pub scales: Scales,
 }
 
-const VERSION: i64 = 1;
-
 /// The version of a deck and its tables of the grid, the run and the scales.
 pub(crate) fn read_settings(alloc: Global, table: &Table) -> Result<Settings, WalkStop>
     ensures walks { WalksAs (λ (s : SettingsView). s) (settings (table_view table.now)) result }
     ensures limits { IfOk result (λ s. AreSettings s.version s.cells (triple s.tiles) s.steps
         s.every) }
 {
-    let version = need_whole(alloc, "", "version", table, Limits::new(1, VERSION))?;
-    let (cells, tiles) = read_grid(alloc, table)?;
+    let versions = Limits::from_to(1, MAX_VERSION);
+    let version = need_whole(alloc, "", "version", table, versions)?;
+    let (cells, tiles) = read_grid(alloc, table, version)?;
     let (steps, every) = read_run(alloc, table)?;
     let scales = read_scale(alloc, table)?;
     Ok(Settings {

@@ -4,7 +4,7 @@ ghost use Rattle.std.specs.Prelude.{◌≡◌, ℕ, pos, ◌+◌, ◌^◌, ◌<�
 ghost use Rattle.toml.specs.View.{view, array_view, table_view};
 ghost use Rattle.pic_num.specs.declared.motion.Kind.{Kind as KindView};
 ghost use Rattle.pic_grid.specs.Species.{IsKind, AreHeads};
-ghost use Rattle.pic_num.specs.Limits.{most_species, most_particles_1};
+ghost use Rattle.pic_num.specs.Limits.{most_species, most_particles, allowance_of};
 ghost use Rattle.pic_walk.specs.Path.{path_of};
 ghost use Rattle.pic_walk.specs.Limits.{from_to};
 ghost use Rattle.pic_walk.specs.Walk.{WalksAs, within, each, table_of, optional};
@@ -15,10 +15,9 @@ ghost use Rattle.pic_deck.specs.Keys.{species_keys, species_kind, counted, speci
 use crate::fill_reader::read_fill;
 use crate::naming::need_name;
 use crate::species::{Fill, Species, SpeciesList};
-use pic_grid::Cells;
-use pic_num::{Kind, MAX_CHARGE, MAX_MASS, MAX_SPECIES, MIN_CHARGE};
+use pic_num::{Kind, MAX_CHARGE, MAX_MASS, MAX_SPECIES, MIN_CHARGE, allowance_of};
 use pic_walk::{
-    Address, Limits, MAX_COUNT, WalkStop, check_within, find_value, need_multiplier, need_number,
+    Address, Limits, Terms, WalkStop, check_within, find_value, need_multiplier, need_number,
     need_whole, read_elements, read_table,
 };
 use std::alloc::Global;
@@ -55,7 +54,7 @@ fn read_kind(alloc: Global, path: &str, table: &Table) -> Result<Kind, WalkStop>
 
 /// How many particles some species have.
 pub fn particles_of(species: &[Species]) -> usize
-    requires { particles_of species.now ≤ most_particles_1 }
+    requires { particles_of species.now ≤ most_particles }
     ensures { result ≡ particles_of species.now }
 {
     let mut total = 0;
@@ -69,19 +68,21 @@ pub fn particles_of(species: &[Species]) -> usize
 fn check_particles(
     alloc: Global,
     address: Address<'_>,
+    terms: Terms,
     earlier: &[Species],
     count: u128,
 ) -> Result<(), WalkStop>
-    requires few { particles_of earlier.now ≤ most_particles_1 }
+    requires few { particles_of earlier.now ≤ (allowance_of terms.version).particles }
     requires size { count < 2 ^ 96 }
     ensures walks { WalksAs (λ _. pos (particles_of earlier.now + count))
-        (within (from_to (pos 0) (pos most_particles_1)) (path_of address.entry)
+        (within (from_to (pos 0) (pos (allowance_of terms.version).particles)) (path_of address.entry)
         (pos (particles_of earlier.now + count))) result }
-    ensures few { OnOk result (particles_of earlier.now + count ≤ most_particles_1) }
+    ensures few { OnOk result (particles_of earlier.now + count
+        ≤ (allowance_of terms.version).particles) }
 {
     let before = particles_of(earlier) as i128;
     let more = count as i128;
-    let limits = Limits::new(0, MAX_COUNT);
+    let limits = Limits::from_to(0, allowance_of(terms.version()).particles);
     check_within(alloc, address, before + more, limits)
 }
 
@@ -89,17 +90,20 @@ fn check_particles(
 fn read_count(
     alloc: Global,
     address: Address<'_>,
+    terms: Terms,
     earlier: &[Species],
     fill: &Fill,
 ) -> Result<u32, WalkStop>
-    requires { particles_of earlier.now ≤ most_particles_1 }
-    ensures walks { WalksAs (λ (n : ℕ). n) (counted earlier.now (path_of address.entry) fill.now)
+    requires { particles_of earlier.now ≤ (allowance_of terms.version).particles }
+    ensures walks { WalksAs (λ (n : ℕ). n)
+        (counted terms.version earlier.now (path_of address.entry) fill.now)
         result }
     ensures count { IfOk result (λ n. n ≡ filled_count earlier.now fill.now) }
-    ensures few { IfOk result (λ n. particles_of earlier.now + n ≤ most_particles_1) }
+    ensures few { IfOk result (λ n. particles_of earlier.now + n
+        ≤ (allowance_of terms.version).particles) }
 {
     let count = fill.count(earlier);
-    check_particles(alloc, address, earlier, count)?;
+    check_particles(alloc, address, terms, earlier, count)?;
     Ok(count as u32)
 }
 
@@ -109,19 +113,19 @@ fn species_in(
     address: Address<'_>,
     path: &str,
     table: &Table,
-    cells: Cells,
+    terms: Terms,
     earlier: &[Species],
 ) -> Result<Species, WalkStop>
     requires path { path_of address ≡ path.now }
-    requires heads { AreHeads (map head_of earlier.now) }
+    requires heads { AreHeads (allowance_of terms.version).particles (map head_of earlier.now) }
     ensures walks { WalksAs (λ (s : SpeciesView). s)
-        (species_in cells earlier.now path.now (table_view table.now)) result }
-    ensures limits { IfOk result (λ s. IsNext cells earlier.now s) }
+        (species_in terms earlier.now path.now (table_view table.now)) result }
+    ensures limits { IfOk result (λ s. IsNext terms earlier.now s) }
 {
     let name = need_name(alloc, path, table, earlier)?;
     let kind = read_kind(alloc, path, table)?;
-    let fill = read_fill(alloc, path, table, cells, earlier)?;
-    let count = read_count(alloc, address, earlier, &fill)?;
+    let fill = read_fill(alloc, path, table, terms, earlier)?;
+    let count = read_count(alloc, address, terms, earlier, &fill)?;
     Ok(Species {
         name,
         kind,
@@ -135,17 +139,17 @@ fn read_species(
     alloc: Global,
     address: Address<'_>,
     value: &Value,
-    cells: Cells,
+    terms: Terms,
     earlier: &[Species],
 ) -> Result<Species, WalkStop>
-    requires { AreHeads (map head_of earlier.now) }
+    requires { AreHeads (allowance_of terms.version).particles (map head_of earlier.now) }
     ensures walks { WalksAs (λ (s : SpeciesView). s)
-        (one_species cells earlier.now (path_of address.entry) (view value.now)) result }
-    ensures limits { IfOk result (λ s. IsNext cells earlier.now s) }
+        (one_species terms earlier.now (path_of address.entry) (view value.now)) result }
+    ensures limits { IfOk result (λ s. IsNext terms earlier.now s) }
 {
     let path = address.path(alloc)?;
     let table = read_table(alloc, address, path.as_str(), &SPECIES_KEYS, value)?;
-    species_in(alloc, address, path.as_str(), table, cells, earlier)
+    species_in(alloc, address, path.as_str(), table, terms, earlier)
 }
 
 // the species at an address, one by one
@@ -153,30 +157,32 @@ fn read_each_species(
     alloc: Global,
     address: Address<'_>,
     items: &Array,
-    cells: Cells,
+    terms: Terms,
 ) -> Result<Vec<Species>, WalkStop>
     requires whole { address.row ≡ None }
     requires plain { address.column ≡ None }
     requires few { length items.now.items ≤ most_species }
     ensures walks { WalksAs (λ ss. ss.items)
-        (each (one_species cells) (path_of address.entry) [] (array_view items.now)) result }
-    ensures heads { IfOk result (λ ss. AreHeads (map head_of ss.items)) }
-    ensures filled { IfOk result (λ ss. AreFilled cells ss.items) }
+        (each (one_species terms) (path_of address.entry) [] (array_view items.now)) result }
+    ensures heads { IfOk result (λ ss. AreHeads (allowance_of terms.version).particles
+        (map head_of ss.items)) }
+    ensures filled { IfOk result (λ ss. AreFilled terms ss.items) }
 {
     let mut all = Vec::new(alloc);
     for i in 0..items.len() {
-        let species = read_species(alloc, address.element(i), &items[i], cells, all.as_slice())?;
+        let species = read_species(alloc, address.element(i), &items[i], terms, all.as_slice())?;
         all.push(species)?;
     }
     Ok(all)
 }
 
 // the array of species
-fn read_all_species(alloc: Global, value: &Value, cells: Cells) -> Result<SpeciesList, WalkStop>
+fn read_all_species(alloc: Global, value: &Value, terms: Terms) -> Result<SpeciesList, WalkStop>
     ensures walks { WalksAs (λ (ss : List SpeciesView). ss)
-        (species_list cells (codes "species") (view value.now)) result }
-    ensures heads { IfOk result (λ ss. AreHeads (map head_of ss)) }
-    ensures filled { IfOk result (λ ss. AreFilled cells ss) }
+        (species_list terms (codes "species") (view value.now)) result }
+    ensures heads { IfOk result (λ ss. AreHeads (allowance_of terms.version).particles
+        (map head_of ss)) }
+    ensures filled { IfOk result (λ ss. AreFilled terms ss) }
 {
     let address = Address::new("", "species");
     let items = read_elements(alloc, address, value)?;
@@ -186,7 +192,7 @@ fn read_all_species(alloc: Global, value: &Value, cells: Cells) -> Result<Specie
         items.len() as i128,
         Limits::new(0, MAX_SPECIES as i64),
     )?;
-    let species = read_each_species(alloc, address, items, cells)?;
+    let species = read_each_species(alloc, address, items, terms)?;
     Ok(SpeciesList::from_vec(species))
 }
 
@@ -194,15 +200,16 @@ fn read_all_species(alloc: Global, value: &Value, cells: Cells) -> Result<Specie
 pub(crate) fn optional_species(
     alloc: Global,
     table: &Table,
-    cells: Cells,
+    terms: Terms,
 ) -> Result<SpeciesList, WalkStop>
     ensures walks { WalksAs (λ (ss : List SpeciesView). ss)
-        (optional [] (species_list cells) (codes "species") [] (table_view table.now)) result }
-    ensures heads { IfOk result (λ ss. AreHeads (map head_of ss)) }
-    ensures filled { IfOk result (λ ss. AreFilled cells ss) }
+        (optional [] (species_list terms) (codes "species") [] (table_view table.now)) result }
+    ensures heads { IfOk result (λ ss. AreHeads (allowance_of terms.version).particles
+        (map head_of ss)) }
+    ensures filled { IfOk result (λ ss. AreFilled terms ss) }
 {
     match find_value("species", table) {
-        Some(value) => read_all_species(alloc, value, cells),
+        Some(value) => read_all_species(alloc, value, terms),
         None => Ok(SpeciesList::from_vec(Vec::new(alloc))),
     }
 }

@@ -4,14 +4,16 @@ use Rattle.std.proofs.Math.IntN.{pos}
 use Rattle.std.specs.Prelude.{slice_index, slice_index_or, codes}
 use Rattle.pic_num.specs.declared.axis.Axis.{Axis}
 use Rattle.pic_num.specs.declared.axis.Axis.TheVariants.{X, Y, Z}
+use Rattle.pic_num.specs.Limits.{allowance_of}
 use Rattle.pic_num.specs.Sizes.{IsAtMost}
 use Rattle.pic_num.specs.Space.{spot, along}
+use Rattle.pic_num.proofs.VersionLaws.{side_of_bits}
 use Rattle.pic_grid.specs.Species.{IsName, IsKind, AreHeads, no_head}
 use Rattle.pic_grid.specs.Tiles.{IsTiled}
 use Rattle.pic_deck.specs.declared.fields.InitialFields.{InitialFields}
 use Rattle.pic_deck.specs.declared.settings.Settings.{Settings}
 use Rattle.pic_deck.specs.declared.species.Species.{Species}
-use Rattle.pic_deck.specs.Deck.{AreSettings, IsWithinLimits, deck_view, heads_of}
+use Rattle.pic_deck.specs.Deck.{AreSettings, IsWithinLimits, deck_view, terms_of, heads_of}
 use Rattle.pic_deck.specs.Keys.{no_field}
 use Rattle.pic_deck.specs.Species.{IsFilledFrom, AreFilled, species_at, fastest_drift}
 use Rattle.pic_deck.proofs.ForceLaws.{zero_mild, zero_set_up}
@@ -25,7 +27,7 @@ each_at_most n m h (suc zero) below = h
 each_at_most n m h (suc (suc zero)) below = h
 each_at_most n m h (suc (suc (suc k))) below = absurd (omega (arith, below))
 
-at_rest : (a : Axis) → IsAtMost (along a (spot (on_each (pos 0)))) fastest_drift
+at_rest : (a : Axis) → IsAtMost (along a (spot (on_each (pos 0)))) (fastest_drift 4096)
 at_rest X = record { size = omega arith }
 at_rest Y = record { size = omega arith }
 at_rest Z = record { size = omega arith }
@@ -38,7 +40,7 @@ both P e p (suc (suc i)) below = absurd (omega (arith, below))
 
 settings_within : AreSettings 1 demo_settings.cells (record { x = 4; y = 4; z = 4 }) 16 4
 settings_within = record {
-  version = refl;
+  version = record { least = omega arith; most = omega arith };
   cells = record {
     x_least = omega arith;
     x_most = omega arith;
@@ -47,8 +49,12 @@ settings_within = record {
     z_least = omega arith;
     z_most = omega arith;
   };
-  few = record { x = omega arith; y = omega arith; z = omega arith };
-  side = refl;
+  allowed = record {
+    x = omega arith;
+    y = omega arith;
+    z = omega arith;
+    sides = side_of_bits 1 12 (omega arith) (omega arith);
+  };
   tiles = record { x = tiled; y = tiled; z = tiled; most = omega arith };
   steps = omega arith;
   every_low = omega arith;
@@ -58,7 +64,7 @@ settings_within = record {
     tiled : IsTiled 16 4
     tiled = record { low = omega arith; high = omega arith; divides = refl }
 
-heads_within : (seed : ℕ) → AreHeads (heads_of (demo_deck seed))
+heads_within : (seed : ℕ) → AreHeads (allowance_of 1).particles (heads_of (demo_deck seed))
 heads_within seed = record {
   few = omega arith;
   names = both (λ i. IsName (slice_index_or (heads_of (demo_deck seed)) i no_head).name) electron_name ion_name;
@@ -87,15 +93,15 @@ heads_within seed = record {
     differ (suc i) zero h below e = omega (arith, h)
     differ i (suc (suc j)) h below e = omega (arith, below)
 
-filled_within : (seed : ℕ) → seed < 2 ^ 32 → AreFilled demo_settings.cells (electron seed ∷ ion seed ∷ [])
+filled_within : (seed : ℕ) → seed < 2 ^ 32 → AreFilled (terms_of demo_settings) (electron seed ∷ ion seed ∷ [])
 filled_within seed small = record {
-  each = both (λ i. IsFilledFrom demo_settings.cells (take i ss) (species_at ss i)) electrons ions;
+  each = both (λ i. IsFilledFrom (terms_of demo_settings) (take i ss) (species_at ss i)) electrons ions;
 }
   where
     ss : List Species
     ss = electron seed ∷ ion seed ∷ []
 
-    electrons : IsFilledFrom demo_settings.cells [] (electron seed)
+    electrons : IsFilledFrom (terms_of demo_settings) [] (electron seed)
     electrons = record {
       fill = (
         omega arith,
@@ -109,7 +115,7 @@ filled_within seed small = record {
       count = refl;
     }
 
-    ions : IsFilledFrom demo_settings.cells (electron seed ∷ []) (ion seed)
+    ions : IsFilledFrom (terms_of demo_settings) (electron seed ∷ []) (ion seed)
     ions = record {
       fill = (
         omega arith,

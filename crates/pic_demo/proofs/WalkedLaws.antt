@@ -13,9 +13,10 @@ use Rattle.pic_walk.specs.FillKind.{alone, only}
 use Rattle.pic_walk.specs.Walk.{◌>>=◌, some_or, number, within, limited, whole, of_length, fixed, each, elements, array_of, number_at, numbers, three}
 use Rattle.pic_walk.specs.Walk.{text, multiplier, first_unlisted, known, listed, table_of, needed, need, given, optional}
 use Rattle.pic_walk.proofs.WalkLaws.{then_ok}
+use Rattle.pic_deck.specs.Deck.{terms_of}
 use Rattle.pic_deck.specs.Fill.{random, pair, species_number, species_fill}
 use Rattle.pic_deck.specs.Initial.{set_up}
-use Rattle.pic_deck.specs.Keys.{deck_keys, axis_tiles, next_tiles, tiles, grid, run, scale, settings, fields, no_field, species_name, species_kind}
+use Rattle.pic_deck.specs.Keys.{deck_keys, axis_tiles, next_tiles, tiles, side_in, grid, run, scale, settings, fields, no_field, species_name, species_kind}
 use Rattle.pic_deck.specs.Keys.{counted, species_in, one_species, species_list, force_allowed, forces, deck}
 use Rattle.pic_deck.specs.Species.{is_name, is_new_name}
 use Rattle.pic_deck.proofs.ForceLaws.{no_forces, zero_set_up}
@@ -36,7 +37,7 @@ unfolding keys_read species_name is_name is_new_name species_kind counted
 heads_read = tt
 
 settings_walked : (seed : ℕ) → settings (demo_table seed) ≡ Ok demo_settings
-unfolding keys_read settings grid run scale tiles next_tiles axis_tiles
+unfolding keys_read settings grid run scale tiles next_tiles axis_tiles side_in
 settings_walked seed = refl
 
 listed_walked : (seed : ℕ) → listed deck_keys [] (demo_table seed) ≡ Ok (demo_table seed)
@@ -48,7 +49,7 @@ unfolding keys_read
 fields_walked seed = refl
 
 species_walked : (seed : ℕ) → int_le (pos 0) (pos seed) ≡ true → leb seed most_seed ≡ true
-    → optional [] (species_list demo_settings.cells) (codes "species") [] (demo_table seed) ≡ Ok (electron seed ∷ ion seed ∷ [])
+    → optional [] (species_list (terms_of demo_settings)) (codes "species") [] (demo_table seed) ≡ Ok (electron seed ∷ ion seed ∷ [])
 unfolding heads_read species_list one_species species_in species_fill only alone random pair species_number draw
 species_walked seed some few = rw (some, few)
 

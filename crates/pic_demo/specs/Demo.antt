@@ -1,9 +1,8 @@
 -- The demonstration's deck, this project's profile: a thermal plasma in a periodic box, of electrons at
 -- random places and of an ion where each of them stands. So no place is charged, and Gauss's law holds
 -- with E = 0. A number seeds both generators.
-use Rattle.std.specs.Prelude.{ℕ, ℤ, pos, negsuc, List, [], ◌∷◌, codes}
+use Rattle.std.specs.Prelude.{ℕ, ℤ, pos, negsuc, ◌^◌, List, [], ◌∷◌, codes}
 use Rattle.pic_num.specs.declared.mult.Scales.{Scales}
-use Rattle.pic_num.specs.Limits.{side_1}
 use Rattle.pic_num.specs.Multiplier.{Multiplier}
 use Rattle.pic_deck.specs.declared.settings.Settings.{Settings}
 use Rattle.pic_deck.specs.declared.species.Fill.TheVariants.{Random, Pair}
@@ -27,11 +26,11 @@ demo_scales = record {
   b_force = times (pos 1) 30;
 }
 
--- 16 cells on each axis, and 16 steps, of which every fourth has a frame
+-- 16 cells of 2^12 sub-cells on each axis, and 16 steps, of which every fourth has a frame
 abbrev pub demo_settings : Settings
 demo_settings = record {
   version = 1;
-  cells = record { n = record { x = 16; y = 16; z = 16 }; side = side_1 };
+  cells = record { n = record { x = 16; y = 16; z = 16 }; side = 2 ^ 12 };
   tiles = on_each 4;
   steps = 16;
   every = 4;

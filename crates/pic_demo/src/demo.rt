@@ -5,7 +5,7 @@ ghost use Rattle.pic_demo.specs.Demo.{demo_scales, demo_settings, electron, ion,
 
 use pic_deck::{Deck, Fill, InitialFields, Settings, Species, SpeciesList};
 use pic_grid::{Cells, Name};
-use pic_num::{BITS_1, Kind, Mult, NoMemory, Scales, Sub};
+use pic_num::{Kind, Mult, NoMemory, Scales, Sub};
 use std::alloc::Global;
 
 /// How many particles each species has.
@@ -27,7 +27,7 @@ fn settings() -> Settings
 {
     Settings {
         version: 1,
-        cells: Cells::new([16; 3], Sub::of_bits(BITS_1)),
+        cells: Cells::new([16; 3], Sub::of_bits(12)),
         tiles: [4; 3],
         steps: 16,
         every: 4,

@@ -2,7 +2,7 @@
 use Rattle.std.specs.Prelude.{◌≡◌, ℕ, pos, ◌<◌, ◌≤◌, ◌≤ℤ◌, IsTrue, List, [], length, sum_by, slice_index_or}
 use Rattle.std.specs.List.{list_all}
 use Rattle.pic_num.specs.declared.motion.Kind.{Kind}
-use Rattle.pic_num.specs.Limits.{most_mass, most_species, most_particles_1, most_letters, least_charge, greatest_charge}
+use Rattle.pic_num.specs.Limits.{most_mass, most_species, most_letters, least_charge, greatest_charge}
 pub use Rattle.pic_num.specs.Names.{is_name_byte}
 
 -- a name has 1 to 32 bytes, each a letter, a digit or `_`
@@ -32,11 +32,10 @@ no_head = record {
   count = 0;
 }
 
--- the species of a run: 16 at most, with names of their own, and as many particles at most as a deck
--- of version 1 may have
-pub record AreHeads (heads : List HeadView) : Type 0 where
+-- the species of a run: 16 at most, with names of their own, and at most so many particles
+pub record AreHeads (most : ℕ) (heads : List HeadView) : Type 0 where
   pub few : length heads ≤ most_species
   pub names : (i : ℕ) → i < length heads → IsName (slice_index_or heads i no_head).name
   pub kinds : (i : ℕ) → i < length heads → IsKind (slice_index_or heads i no_head).kind
   pub differ : (i j : ℕ) → i < j → j < length heads → (slice_index_or heads i no_head).name ≡ (slice_index_or heads j no_head).name → ⊥
-  pub total : sum_by (λ h. h.count) heads ≤ most_particles_1
+  pub total : sum_by (λ h. h.count) heads ≤ most

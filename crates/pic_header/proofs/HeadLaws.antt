@@ -3,6 +3,7 @@ use Rattle.std.proofs.Common.{◌≡◌, ℕ, ◌<◌, List, [], ◌∷◌, ◌+
 use Rattle.std.proofs.lemmas.Bool.{cases_lt}
 use Rattle.std.proofs.lemmas.List.{length-append, get_or_append_left, get_or_push}
 use Rattle.std.proofs.lemmas.List.Sums.{sum_by-append}
+use Rattle.pic_num.specs.Limits.{most_particles_1}
 use Rattle.pic_grid.specs.Species.{IsName, IsKind, HeadView, no_head, AreHeads}
 use Rattle.pic_header.specs.HeaderFields.{IsNewHead}
 
@@ -29,7 +30,7 @@ differ_more hs h before new j high =
           rw (get_or_push hs h no_head j at_end) (λ i less. new i (omega (arith, less, at_end))))
     ]
 
-pub heads_none : AreHeads []
+pub heads_none : AreHeads most_particles_1 []
 heads_none = record {
   few = omega arith;
   names = λ i less. absurd (omega (arith, less));
@@ -38,7 +39,8 @@ heads_none = record {
   total = omega arith;
 }
 
-pub heads_more : (hs : List HeadView) (h : HeadView) → AreHeads hs → length hs < 16 → IsNewHead hs h → AreHeads (hs ++ h ∷ [])
+pub heads_more : (hs : List HeadView) (h : HeadView) → AreHeads most_particles_1 hs → length hs < 16 → IsNewHead hs h
+    → AreHeads most_particles_1 (hs ++ h ∷ [])
 heads_more hs h are room new =
     let size = length-append hs (h ∷ []) in
     let all = sum_by-append (λ (k : HeadView). k.count) hs (h ∷ []) in

@@ -2,7 +2,7 @@
 use Rattle.std.specs.Prelude.{◌≡◌, ℕ, ◌≤◌, List, All}
 use Rattle.pic_num.specs.declared.motion.Kind.{Kind}
 use Rattle.pic_num.specs.declared.mult.Scales.{Scales}
-use Rattle.pic_num.specs.Limits.{most_cells_of_axis_1, side_1}
+use Rattle.pic_num.specs.Limits.{most_cells_of_axis_1, most_particles_1, side_1}
 use Rattle.pic_num.specs.Multiplier.{IsMultiplier}
 use Rattle.pic_num.specs.Space.{Triple}
 use Rattle.pic_grid.specs.Cells.{Grid, IsCells}
@@ -43,7 +43,7 @@ pub record HasLimits (h : HeaderView) : Type 0 where
   pub steps_most : h.steps ≤ most_steps
   pub every_least : 1 ≤ h.every
   pub every_most : h.every ≤ most_steps
-  pub heads : AreHeads h.species
+  pub heads : AreHeads most_particles_1 h.species
 
 -- the limits of the four multipliers
 pub record AreMultipliers (s : Scales) : Type 0 where

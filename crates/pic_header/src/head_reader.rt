@@ -155,7 +155,7 @@ fn read_each_head<S: Source>(
         (S.told source.new) result }
     ensures within { TakesWithin (each count head_at) place (S.told source.old)
         (S.told source.new) }
-    ensures heads { IfOk result (λ hs. AreHeads hs.items) }
+    ensures heads { IfOk result (λ hs. AreHeads most_particles_1 hs.items) }
 {
     let mut heads = Vec::new(alloc);
     let mut particles = 0u32;
@@ -174,7 +174,7 @@ fn read_heads<S: Source>(alloc: Global, source: &mut S, place: u64) -> Result<Ve
     ensures reads { HeadReads (λ hs. hs.items) heads_at place (λ hs. place + 4 + 60 * length hs)
         (place + 4 + 60 * 16) (S.told source.old) (S.told source.new) result }
     ensures within { TakesWithin heads_at place (S.told source.old) (S.told source.new) }
-    ensures heads { IfOk result (λ hs. AreHeads hs.items) }
+    ensures heads { IfOk result (λ hs. AreHeads most_particles_1 hs.items) }
 {
     let heads_place = place + 4;
     let count = read_within(source, place, Cause::OutOfLimits, 0, MAX_SPECIES)?;

@@ -2,7 +2,7 @@
 
 ghost use Rattle.std.specs.Prelude.{◌≡◌, ◌+◌, ◌*◌, ◌≤◌, ◌++◌, length};
 ghost use Rattle.std.specs.List.{flat_map};
-ghost use Rattle.pic_num.specs.Limits.{most_letters};
+ghost use Rattle.pic_num.specs.Limits.{most_letters, most_particles_1};
 ghost use Rattle.pic_io.specs.Told.{HasCause};
 ghost use Rattle.pic_io.specs.Sink.{Puts};
 ghost use Rattle.pic_grid.specs.Species.{HeadView, AreHeads};
@@ -97,7 +97,7 @@ fn push_mult(text: &mut HeaderText, by: Mult)
 // The species, 60 bytes each.
 fn push_heads(text: &mut HeaderText, heads: &[Head])
     requires start { length text.old ≡ 64 }
-    requires limits { AreHeads heads.now }
+    requires limits { AreHeads most_particles_1 heads.now }
     ensures { text.new ≡ text.old ++ heads_bytes heads.now }
 {
     for head in heads {

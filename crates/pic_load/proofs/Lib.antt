@@ -1,3 +1,4 @@
 pub mod GeneratorLaws
 pub mod DrawingLaws
+pub mod DrawnSizes
 pub mod LoadLaws

@@ -41,7 +41,7 @@ none_yet old species f = sym (append-nil old)
 
 -- a particle that is added
 pub placed_more : (grid : Grid) (m : ℕ) (now next : List Particle) (id species : ℕ) (p : Point6) → species < m → IsInBox grid.side grid.n (triple p.x)
-    → ((a : Axis) → IsAtMost (along a (spot p.v)) fastest)
+    → ((a : Axis) → IsAtMost (along a (spot p.v)) (fastest grid.side))
     → next ≡ now ++ loaded_particle id species p ∷ [] → All (IsPlaced grid m) now → All (IsPlaced grid m) next
 placed_more grid m now next id species p below place speed e placed =
     rw e (All-push (IsPlaced grid m) now (loaded_particle id species p) placed (record { species = below; place = place; speed = speed }))

@@ -48,7 +48,7 @@ drawn_velocity g drift spread =
     ∷ drawn_speed (after 24 g) (slice_index_or drift 2 (pos 0)) (slice_index spread 2)
     ∷ []
 
--- a mean and a spread within the limits of a deck
-pub record IsSpread (drift : List ℤ) (spread : List ℕ) : Type 0 where
-  pub mean : (a : Axis) → IsAtMost (along a (spot drift)) fastest_drift
-  pub width : (k : ℕ) → k < 3 → slice_index spread k ≤ widest_spread
+-- a mean and a spread within the limits of a deck whose cells have this side
+pub record IsSpread (side : ℕ) (drift : List ℤ) (spread : List ℕ) : Type 0 where
+  pub mean : (a : Axis) → IsAtMost (along a (spot drift)) (fastest_drift side)
+  pub width : (k : ℕ) → k < 3 → slice_index spread k ≤ widest_spread side

@@ -14,7 +14,7 @@ use Rattle.pic_deck.specs.declared.species.Fill.{Fill}
 use Rattle.pic_deck.specs.declared.species.Fill.TheVariants.{Points, Lattice, Random, Pair}
 use Rattle.pic_deck.specs.declared.species.Species.{Species}
 use Rattle.pic_deck.specs.Deck.{DeckView, deck_grid}
-use Rattle.pic_deck.specs.Species.{Point6, no_point, most_particles_1, fastest, particles_of}
+use Rattle.pic_deck.specs.Species.{Point6, no_point, allowance_of, fastest, particles_of}
 use Rattle.pic_load.specs.Generator.{generator, after}
 use Rattle.pic_load.specs.Drawing.{drawn_place, drawn_velocity}
 
@@ -81,15 +81,16 @@ loaded d = loaded_after (deck_grid d) [] [] d.species
 pub record IsPlaced (grid : Grid) (kinds : ℕ) (particle : Particle) : Type 0 where
   pub species : particle.species < kinds
   pub place : IsInBox grid.side grid.n (triple particle.x)
-  pub speed : (a : Axis) → IsAtMost (along a (spot particle.v)) fastest
+  pub speed : (a : Axis) → IsAtMost (along a (spot particle.v)) (fastest grid.side)
 
 -- a particle of a deck
 abbrev pub IsParticleOf : DeckView → Particle → Type 0
 IsParticleOf d = IsPlaced (deck_grid d) (length d.species)
 
--- the particles of a deck: as many as its species have, with the identities 0, 1, 2 and so on
+-- the particles of a deck: as many as its species have, no more than its version allows, with the
+-- identities 0, 1, 2 and so on
 pub record AreLoaded (d : DeckView) (particles : List Particle) : Type 0 where
   pub count : length particles ≡ particles_of d.species
-  pub few : length particles ≤ most_particles_1
+  pub few : length particles ≤ (allowance_of d.version).particles
   pub identities : map (λ particle. particle.id) particles ≡ range_with_len 0 (length particles)
   pub each : All (IsParticleOf d) particles

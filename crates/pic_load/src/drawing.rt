@@ -1,7 +1,8 @@
 //! Positions and velocities that are drawn at random.
 
-ghost use Rattle.std.specs.Prelude.{◌≡◌, ℤ, pos, ◌*◌, ◌-◌, ◌^◌, ◌<◌, ◌≤◌, ◌+ℤ◌, ◌-ℤ◌, ◌*ℤ◌};
+ghost use Rattle.std.specs.Prelude.{◌≡◌, ℕ, ℤ, pos, ◌*◌, ◌-◌, ◌^◌, ◌<◌, ◌≤◌, ◌+ℤ◌, ◌-ℤ◌, ◌*ℤ◌};
 ghost use Rattle.pic_num.specs.declared.axis.Axis.{Axis};
+ghost use Rattle.pic_num.specs.Limits.{most_side};
 ghost use Rattle.pic_num.specs.Rounding.{rounded};
 ghost use Rattle.pic_num.specs.Sizes.{IsAtMost};
 ghost use Rattle.pic_num.specs.Space.{triple, spot, along};
@@ -77,38 +78,36 @@ fn deviate_of(sum: u64) -> i64
 }
 
 fn product(spread: u32, deviate: i64) -> i64
-    requires spread { spread ≤ widest_spread }
+    requires spread { spread ≤ widest_spread most_side }
     requires deviate { IsAtMost deviate mean_of_twelve }
     ensures value { result ≡ pos spread *ℤ deviate }
-    ensures size { IsAtMost result (widest_spread * mean_of_twelve) }
+    ensures size { IsAtMost result (widest_spread most_side * mean_of_twelve) }
 {
     i64::from(spread) * deviate
 }
 
 // rounded to units of a velocity
 fn rounded_word(n: i64) -> i64
-    requires { IsAtMost n (widest_spread * mean_of_twelve) }
+    requires { IsAtMost n (widest_spread most_side * mean_of_twelve) }
     ensures value { result ≡ rounded n (pos (2 ^ 32)) }
-    ensures size { IsAtMost result (6 * widest_spread) }
+    ensures size { IsAtMost result (6 * widest_spread most_side) }
 {
     (2 * n + HALF) >> 33
 }
 
 fn sum_of(drift: i32, more: i64) -> i32
-    requires drift { IsAtMost drift fastest_drift }
-    requires more { IsAtMost more (6 * widest_spread) }
-    ensures value { result ≡ drift +ℤ more }
-    ensures size { IsAtMost result fastest }
+    requires drift { IsAtMost drift (fastest_drift most_side) }
+    requires more { IsAtMost more (6 * widest_spread most_side) }
+    ensures { result ≡ drift +ℤ more }
 {
     (i64::from(drift) + more) as i32
 }
 
 // a velocity on an axis, by twelve words
 fn draw_speed(rng: &mut Pcg32, drift: i32, spread: u32) -> i32
-    requires drift { IsAtMost drift fastest_drift }
-    requires spread { spread ≤ widest_spread }
+    requires drift { IsAtMost drift (fastest_drift most_side) }
+    requires spread { spread ≤ widest_spread most_side }
     ensures value { result ≡ drawn_speed rng.old drift spread }
-    ensures size { IsAtMost result fastest }
     ensures left { rng.new ≡ after 12 rng.old }
 {
     let deviate = deviate_of(sum_of_twelve(rng));
@@ -117,9 +116,10 @@ fn draw_speed(rng: &mut Pcg32, drift: i32, spread: u32) -> i32
 
 /// A velocity of this mean and this spread, by thirty-six words.
 pub(crate) fn draw_velocity(rng: &mut Pcg32, drift: [i32; 3], spread: [u32; 3]) -> [i32; 3]
-    requires { IsSpread drift spread }
+    requires { IsSpread most_side drift spread }
     ensures value { result ≡ drawn_velocity rng.old drift spread }
-    ensures size { (a : Axis) → IsAtMost (along a (spot result)) fastest }
+    ensures size { (side : ℕ) → IsSpread side drift spread
+        → (a : Axis) → IsAtMost (along a (spot result)) (fastest side) }
     ensures left { rng.new ≡ after 36 rng.old }
 {
     let x = draw_speed(rng, drift[0], spread[0]);

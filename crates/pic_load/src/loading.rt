@@ -3,18 +3,19 @@
 ghost use Rattle.std.specs.Prelude.{◌≡◌, ℕ, ◌+◌, ◌*◌, ◌%◌, ◌^◌, ◌<◌, ◌≤◌, ◌++◌, ◌∷◌, [], length, slice_index, slice_index_or, IfOk, OnOk};
 ghost use Rattle.std.specs.List.{All};
 ghost use Rattle.pic_num.specs.declared.axis.Axis.{Axis};
+ghost use Rattle.pic_num.specs.Limits.{most_side};
 ghost use Rattle.pic_num.specs.Sizes.{IsAtMost};
 ghost use Rattle.pic_num.specs.Space.{triple, spot, along};
 ghost use Rattle.pic_grid.specs.Cells.{Grid, cell_of};
 ghost use Rattle.pic_deck.specs.Deck.{most_extent};
 ghost use Rattle.pic_grid.specs.Hat.{IsInBox};
-ghost use Rattle.pic_deck.specs.Species.{ArePoints, IsFilledFrom, fastest, most_particles_1, most_species, no_point, particles_of};
+ghost use Rattle.pic_deck.specs.Species.{ArePoints, IsFilledFrom, fastest, most_particles, most_species, no_point, particles_of};
 ghost use Rattle.pic_load.specs.Drawing.{IsSpread};
 ghost use Rattle.pic_load.specs.Generator.{after};
 ghost use Rattle.pic_load.specs.Loading.{loaded_particle, no_particle, site, at_site, drawn, beside, first_of_species, particles_in, loaded, IsPlaced, AreLoaded};
 
 use crate::drawing::{draw_place, draw_velocity};
-use pic_deck::{Deck, Fill, Point6, Species, extent, particles_of};
+use pic_deck::{Deck, Fill, Point6, Species, Terms, extent, particles_of};
 use pic_grid::Cells;
 use pic_num::{NoMemory, Particle};
 use rand_pcg::Pcg32;
@@ -37,7 +38,7 @@ fn load_points(
     species: u8,
     points: &[Point6],
 ) -> Result<(), NoMemory>
-    requires { length particles.old.items + length points.now ≤ most_particles_1 }
+    requires { length particles.old.items + length points.now ≤ most_particles }
     ensures value { OnOk result (particles.new.items ≡ particles.old.items
         ++ first_of_species (length particles.old.items) species
         (λ i. slice_index_or points.now i no_point) (length points.now)) }
@@ -97,13 +98,13 @@ fn load_lattice(
     sites: Sites,
     total: u32,
 ) -> Result<(), NoMemory>
-    requires few { length particles.old.items + total ≤ most_particles_1 }
+    requires few { length particles.old.items + total ≤ most_particles }
     requires some { (k : ℕ) → k < 3 → 1 ≤ slice_index sites.count k }
     ensures value { OnOk result (particles.new.items ≡ particles.old.items
         ++ first_of_species (length particles.old.items) species
         (at_site cells sites.first sites.gap sites.count sites.v) total) }
     ensures placed { (m : ℕ) → species < m
-        → ((a : Axis) → IsAtMost (along a (spot sites.v)) fastest)
+        → ((a : Axis) → IsAtMost (along a (spot sites.v)) (fastest cells.side))
         → All (IsPlaced cells m) particles.old.items
         → OnOk result (All (IsPlaced cells m) particles.new.items) }
 {
@@ -135,12 +136,13 @@ fn load_random(
     rng: &mut Pcg32,
     spread: Spread,
 ) -> Result<(), NoMemory>
-    requires few { length particles.old.items + total ≤ most_particles_1 }
-    requires spread { IsSpread spread.drift spread.width }
+    requires few { length particles.old.items + total ≤ most_particles }
+    requires spread { IsSpread most_side spread.drift spread.width }
     ensures value { OnOk result (particles.new.items ≡ particles.old.items
         ++ first_of_species (length particles.old.items) species
         (λ i. drawn cells spread.drift spread.width (after (39 * i) rng.old)) total) }
-    ensures placed { (m : ℕ) → species < m → All (IsPlaced cells m) particles.old.items
+    ensures placed { (m : ℕ) → species < m → IsSpread cells.side spread.drift spread.width
+        → All (IsPlaced cells m) particles.old.items
         → OnOk result (All (IsPlaced cells m) particles.new.items) }
 {
     for _ in 0..total {
@@ -160,14 +162,15 @@ fn load_pair(
     rng: &mut Pcg32,
     spread: Spread,
 ) -> Result<(), NoMemory>
-    requires few { length particles.old.items + total ≤ most_particles_1 }
+    requires few { length particles.old.items + total ≤ most_particles }
     requires others { start + total ≤ length particles.old.items }
-    requires spread { IsSpread spread.drift spread.width }
+    requires spread { IsSpread most_side spread.drift spread.width }
     ensures value { OnOk result (particles.new.items ≡ particles.old.items
         ++ first_of_species (length particles.old.items) species
         (λ i. beside (slice_index_or particles.old.items (start + i) no_particle)
         spread.drift spread.width (after (36 * i) rng.old)) total) }
-    ensures placed { (grid : Grid) (m : ℕ) → species < m → All (IsPlaced grid m) particles.old.items
+    ensures placed { (grid : Grid) (m : ℕ) → species < m
+        → IsSpread grid.side spread.drift spread.width → All (IsPlaced grid m) particles.old.items
         → OnOk result (All (IsPlaced grid m) particles.new.items) }
 {
     for i in 0..total {
@@ -181,20 +184,23 @@ fn load_pair(
 // adds the particles of the next species
 fn load_species(
     particles: &mut Vec<Particle>,
-    cells: Cells,
+    terms: Terms,
     earlier: &[Species],
     species: &Species,
 ) -> Result<(), NoMemory>
     requires number { length earlier.now < most_species }
     requires count { length particles.old.items ≡ particles_of earlier.now }
-    requires few { particles_of earlier.now + species.now.count ≤ most_particles_1 }
-    requires filled { IsFilledFrom cells earlier.now species.now }
+    requires few { particles_of earlier.now + species.now.count ≤ most_particles }
+    requires side { terms.grid.side ≤ most_side }
+    requires filled { IsFilledFrom terms earlier.now species.now }
     ensures value { OnOk result (particles.new.items ≡ particles.old.items
-        ++ particles_in cells earlier.now particles.old.items species.now) }
-    ensures placed { (m : ℕ) → length earlier.now < m → All (IsPlaced cells m) particles.old.items
-        → OnOk result (All (IsPlaced cells m) particles.new.items) }
+        ++ particles_in terms.grid earlier.now particles.old.items species.now) }
+    ensures placed { (m : ℕ) → length earlier.now < m
+        → All (IsPlaced terms.grid m) particles.old.items
+        → OnOk result (All (IsPlaced terms.grid m) particles.new.items) }
 {
     let number = earlier.len() as u8;
+    let cells = terms.cells();
     let total = species.count;
     match &species.fill {
         Fill::Points(points) => load_points(particles, number, points.as_slice()),
@@ -250,11 +256,11 @@ pub fn load(alloc: Global, deck: &Deck) -> Result<Vec<Particle>, NoMemory>
     ensures value { IfOk result (λ ps. ps.items ≡ loaded deck.now) }
     ensures limits { IfOk result (λ ps. AreLoaded deck.now ps.items) }
 {
-    let cells = deck.cells();
+    let terms = deck.terms();
     let all = deck.species();
     let mut particles = Vec::with_capacity(alloc, deck.particles())?;
     for number in 0..all.len() {
-        load_species(&mut particles, cells, &all[..number], &all[number])?;
+        load_species(&mut particles, terms, &all[..number], &all[number])?;
     }
     Ok(particles)
 }

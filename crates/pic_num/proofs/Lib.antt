@@ -5,4 +5,5 @@ pub mod Simpson
 pub mod RoundingLaws
 pub mod FirstLaws
 pub mod AxisLaws
+pub mod VersionLaws
 mod PushRows

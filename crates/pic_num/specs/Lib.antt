@@ -5,6 +5,7 @@ pub mod Rounding
 pub mod Multiplier
 pub mod First
 pub mod Space
+pub mod Versions
 pub mod Push
 pub mod Flux
 pub mod Bytes

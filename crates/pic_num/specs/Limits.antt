@@ -1,5 +1,5 @@
--- The limits of the scheme: this project's profile. A deck and a dump of version 1 keep to the
--- narrower ones whose names end in `_1`; what each version allows is one table, `allowance_of`.
+-- The limits of the scheme: this project's profile. What each version of decks and dumps allows is one
+-- table, `allowance_of`: the narrower limits of version 1 have names that end in `_1`.
 use Rattle.std.specs.Prelude.{ℕ, ℤ, pos, negsuc, ◌-◌, ◌*◌, ◌^◌, ◌==◌, if◌then◌else◌}
 use Rattle.pic_num.specs.declared.limits.Allowance.{Allowance}
 
@@ -44,6 +44,10 @@ most_particles = 4194304
 
 abbrev pub most_particles_1 : ℕ
 most_particles_1 = 1048576
+
+-- the greatest version of decks and dumps that is accepted
+abbrev pub most_version : ℕ
+most_version = 1
 
 -- what a version of decks and dumps allows: version 1 less than the scheme, version 2 all of it
 abbrev pub allowance_of : ℕ → Allowance

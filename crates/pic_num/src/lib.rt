@@ -18,7 +18,8 @@ pub use axis::{Axis, unwrapped};
 pub use limits::{
     Allowance, BITS_1, MAX_BITS, MAX_CELLS, MAX_CELLS_1, MAX_CHARGE, MAX_FORCE, MAX_LETTERS,
     MAX_MASS, MAX_NUMERATOR, MAX_PARTICLES, MAX_PARTICLES_1, MAX_SHIFT, MAX_SPECIES, MAX_SPEED,
-    MAX_STEPS, MAX_TURN, MAX_VALUE, MIN_BITS, MIN_CELLS, MIN_CHARGE, VELOCITY_UNIT, allowance_of,
+    MAX_STEPS, MAX_TURN, MAX_VALUE, MAX_VERSION, MIN_BITS, MIN_CELLS, MIN_CHARGE, VELOCITY_UNIT,
+    allowance_of,
 };
 pub use listed::Listed;
 pub use motion::{Kind, Particle, What};

@@ -67,6 +67,9 @@ pub const MAX_TURN: u128 = 1 << 24;
 /// How many of its units a velocity of a sub-cell a step has.
 pub const VELOCITY_UNIT: u32 = 1 << 12;
 
+/// The greatest version of decks and dumps that is accepted.
+pub const MAX_VERSION: u32 = 1;
+
 /// What a version of decks and dumps allows: the most cells of an axis, the most particles, and the
 /// least and the greatest power of two of sub-cells that a side has.
 #[derive(Clone, Copy, Debug, PartialEq, Eq)]

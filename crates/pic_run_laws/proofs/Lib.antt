@@ -10,7 +10,6 @@ pub mod CurrentSizes
 pub mod PushSizes
 pub mod PushStops
 pub mod StepStops
-pub mod DrawnSizes
 pub mod LoadedLaws
 pub mod StartLaws
 pub mod RunsAreVerified

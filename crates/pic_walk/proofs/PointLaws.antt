@@ -9,6 +9,7 @@ use Rattle.pic_num.specs.declared.axis.Axis.TheVariants.{X, Y, Z}
 use Rattle.pic_num.specs.declared.axis.Axis.{Axis}
 use Rattle.pic_num.specs.Sizes.{IsAtMost}
 use Rattle.pic_num.specs.Space.{along, spot}
+use Rattle.pic_num.specs.Limits.{most_side}
 use Rattle.pic_grid.specs.Cells.{Grid}
 use Rattle.pic_walk.specs.Extent.{extent_of, most_extent, IsExtent}
 use Rattle.pic_walk.specs.Bounds.{fastest}
@@ -40,14 +41,14 @@ kept_small z size =
     let fits : SFits w32 z = fits_signed_from_abs w32 z size in
     rw (to_z-of_z w64 z wide) (to_z-of_z w32 z fits)
 
-kept_speed : (z : ℤ) → MeetsLimits speed_limits z → as_speed z ≡ z
-kept_speed z inside = kept_small z (omega (arith, ints, inside.low, inside.high))
+kept_speed : (side : ℕ) (z : ℤ) → side ≤ most_side → MeetsLimits (speed_limits side) z → as_speed z ≡ z
+kept_speed side z small inside = kept_small z (omega (arith, ints, inside.low, inside.high, small))
 
 place_below : (m : ℕ) (z : ℤ) → 1 ≤ m → MeetsLimits (below m) z → unsigned_abs z < m
 place_below m z some inside = omega (arith, ints, inside.low, inside.high, some)
 
-speed_size : (z : ℤ) → MeetsLimits speed_limits z → IsAtMost z fastest
-speed_size z inside = record { size = omega (arith, ints, inside.low, inside.high) }
+speed_size : (side : ℕ) (z : ℤ) → MeetsLimits (speed_limits side) z → IsAtMost z (fastest side)
+speed_size side z inside = record { size = omega (arith, ints, inside.low, inside.high) }
 
 -- the particle that the code makes of six numbers
 abbrev pub made : List ℤ → Point6
@@ -56,24 +57,24 @@ made zs = record {
   v = as_speed (get_or zs 3 (pos 0)) ∷ as_speed (get_or zs 4 (pos 0)) ∷ as_speed (get_or zs 5 (pos 0)) ∷ [];
 }
 
-pub point_is : (g : Grid) (zs : List ℤ) → IsExtent (extent_of g) → AreInside g zs → made zs ≡ point_of zs
+pub point_is : (g : Grid) (zs : List ℤ) → IsExtent (extent_of g) → g.side ≤ most_side → AreInside g zs → made zs ≡ point_of zs
 unfolding limits_at
-point_is g zs extent inside =
+point_is g zs extent small inside =
     rw (
       kept_place (g.n.x * g.side) (get_or zs 0 (pos 0)) extent.x_most (inside 0 (lit< tt)),
       kept_place (g.n.y * g.side) (get_or zs 1 (pos 0)) extent.y_most (inside 1 (lit< tt)),
       kept_place (g.n.z * g.side) (get_or zs 2 (pos 0)) extent.z_most (inside 2 (lit< tt)),
-      kept_speed (get_or zs 3 (pos 0)) (inside 3 (lit< tt)),
-      kept_speed (get_or zs 4 (pos 0)) (inside 4 (lit< tt)),
-      kept_speed (get_or zs 5 (pos 0)) (inside 5 (lit< tt)),
+      kept_speed g.side (get_or zs 3 (pos 0)) small (inside 3 (lit< tt)),
+      kept_speed g.side (get_or zs 4 (pos 0)) small (inside 4 (lit< tt)),
+      kept_speed g.side (get_or zs 5 (pos 0)) small (inside 5 (lit< tt)),
     )
 
-speeds : (zs : List ℤ) (a : Axis) → MeetsLimits speed_limits (get_or zs 3 (pos 0)) → MeetsLimits speed_limits (get_or zs 4 (pos 0))
-    → MeetsLimits speed_limits (get_or zs 5 (pos 0))
-    → IsAtMost (along a (spot (point_of zs).v)) fastest
-speeds zs X x y z = speed_size _ x
-speeds zs Y x y z = speed_size _ y
-speeds zs Z x y z = speed_size _ z
+speeds : (side : ℕ) (zs : List ℤ) (a : Axis) → MeetsLimits (speed_limits side) (get_or zs 3 (pos 0))
+    → MeetsLimits (speed_limits side) (get_or zs 4 (pos 0)) → MeetsLimits (speed_limits side) (get_or zs 5 (pos 0))
+    → IsAtMost (along a (spot (point_of zs).v)) (fastest side)
+speeds side zs X x y z = speed_size side _ x
+speeds side zs Y x y z = speed_size side _ y
+speeds side zs Z x y z = speed_size side _ z
 
 pub point_within : (g : Grid) (zs : List ℤ) → IsExtent (extent_of g) → AreInside g zs → IsPoint g (point_of zs)
 unfolding limits_at
@@ -84,5 +85,5 @@ point_within g zs extent inside =
         y = place_below (g.n.y * g.side) _ extent.y_some (inside 1 (lit< tt));
         z = place_below (g.n.z * g.side) _ extent.z_some (inside 2 (lit< tt));
       };
-      speed = λ a. speeds zs a (inside 3 (lit< tt)) (inside 4 (lit< tt)) (inside 5 (lit< tt));
+      speed = λ a. speeds g.side zs a (inside 3 (lit< tt)) (inside 4 (lit< tt)) (inside 5 (lit< tt));
     }

@@ -1,6 +1,7 @@
 pub mod Bounds
 pub mod Extent
 pub mod Limits
+pub mod Terms
 pub mod Path
 pub mod Walk
 pub mod Rows

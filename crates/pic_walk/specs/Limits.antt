@@ -6,6 +6,10 @@ use Rattle.pic_walk.specs.declared.limits.Limits.{Limits}
 abbrev pub from_to : ℤ → ℤ → Limits
 from_to low high = record { low = low; high = high }
 
+-- no more than n in size
+abbrev pub either_way : ℕ → Limits
+either_way n = from_to (neg_ℤ (pos n)) (pos n)
+
 -- all numbers of 64 bits
 abbrev pub any_limits : Limits
 any_limits = from_to (negsuc (2 ^ 63 - 1)) (pos (2 ^ 63 - 1))

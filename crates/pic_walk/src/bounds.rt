@@ -1,9 +1,14 @@
-//! The limits of a deck of version 1 beside those of the scheme.
+//! The limits of a deck beside those of the scheme, by the version and the side of a cell.
 
-use pic_num::{BITS_1, MAX_CELLS_1, MAX_PARTICLES_1, VELOCITY_UNIT};
+ghost use Rattle.std.specs.Prelude.{◌≡◌, ◌≤◌};
+ghost use Rattle.pic_num.specs.Limits.{most_side};
+ghost use Rattle.pic_walk.specs.Bounds.{fastest, fastest_drift, widest_gap, widest_spread};
+ghost use Rattle.pic_walk.specs.Extent.{most_extent};
 
-/// The side of a cell of version 1.
-const SIDE_1: i64 = 1 << BITS_1;
+use crate::extents::along;
+use crate::terms::Terms;
+use pic_grid::Cells;
+use pic_num::{VELOCITY_UNIT, allowance_of};
 
 /// The most bytes of a deck.
 pub const MAX_BYTES: usize = 1 << 20;
@@ -11,17 +16,34 @@ pub const MAX_BYTES: usize = 1 << 20;
 /// The most rows of a field.
 pub const MAX_ROWS: i64 = 1 << 20;
 
-/// The most particles of a species, of a deck, and of an axis of a lattice.
-pub const MAX_COUNT: i64 = MAX_PARTICLES_1 as i64;
-
 /// The greatest size of a velocity on an axis: a cell a step.
-pub const MAX_DECK_SPEED: i64 = VELOCITY_UNIT as i64 * SIDE_1;
+pub fn fastest(cells: Cells) -> u32
+    ensures value { result ≡ fastest cells.side }
+    ensures most { fastest cells.side ≤ fastest most_side }
+{
+    VELOCITY_UNIT * cells.sub().side()
+}
 
 /// The greatest size of a mean velocity on an axis: half a cell a step.
-pub const MAX_DRIFT: i64 = MAX_DECK_SPEED / 2;
+pub fn fastest_drift(cells: Cells) -> u32
+    ensures value { result ≡ fastest_drift cells.side }
+    ensures most { fastest_drift cells.side ≤ fastest_drift most_side }
+{
+    VELOCITY_UNIT / 2 * cells.sub().side()
+}
 
 /// The greatest spread of velocities on an axis: a sixteenth of a cell a step.
-pub const MAX_SPREAD: i64 = MAX_DECK_SPEED / 16;
+pub fn widest_spread(cells: Cells) -> u32
+    ensures value { result ≡ widest_spread cells.side }
+    ensures most { widest_spread cells.side ≤ widest_spread most_side }
+{
+    VELOCITY_UNIT / 16 * cells.sub().side()
+}
 
-/// The longest way from a site of a lattice to the next one: the longest box.
-pub const MAX_GAP: i64 = MAX_CELLS_1 as i64 * SIDE_1;
+/// The longest way from a site of a lattice to the next one: the longest box of the version.
+pub fn widest_gap(terms: Terms) -> u32
+    ensures value { result ≡ widest_gap terms.version terms.grid.side }
+    ensures most { result ≤ most_extent }
+{
+    along(allowance_of(terms.version()).cells, terms.cells().sub())
+}

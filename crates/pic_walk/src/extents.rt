@@ -8,9 +8,9 @@ ghost use Rattle.pic_walk.specs.Extent.{extent_of, most_extent, IsExtent};
 use pic_grid::Cells;
 use pic_num::Sub;
 
-// how many sub-cells lie along so many cells
+/// How many sub-cells lie along so many cells.
 #[inline(always)]
-fn along(cells: u32, sub: Sub) -> u32
+pub fn along(cells: u32, sub: Sub) -> u32
     requires some { 1 ≤ cells }
     requires few { cells ≤ most_cells_of_axis }
     ensures value { result ≡ cells * sub }

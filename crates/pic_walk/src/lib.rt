@@ -18,9 +18,10 @@ mod row;
 mod row_reader;
 mod sites;
 mod tables;
+mod terms;
 
 pub use address::Address;
-pub use bounds::{MAX_BYTES, MAX_COUNT};
+pub use bounds::MAX_BYTES;
 pub use draw::{Draw, read_draw};
 pub use extents::extent;
 pub use fault::{Fault, WalkStop};
@@ -41,3 +42,4 @@ pub use tables::{
     check_keys, find_value, need_long, need_multiplier, need_number, need_signed_three, need_table,
     need_three, need_whole, needed_value, optional_three, read_table,
 };
+pub use terms::Terms;

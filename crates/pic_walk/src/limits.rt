@@ -1,7 +1,7 @@
 //! The least and the greatest number that may stand somewhere.
 
-ghost use Rattle.std.specs.Prelude.{◌≡◌, ◌≤◌};
-ghost use Rattle.pic_walk.specs.Limits.{from_to, any_limits, below, is_within};
+ghost use Rattle.std.specs.Prelude.{◌≡◌, ◌≤◌, pos};
+ghost use Rattle.pic_walk.specs.Limits.{from_to, either_way, any_limits, below, is_within};
 
 /// The least and the greatest number that may stand at an address.
 #[derive(Clone, Copy, Debug, PartialEq, Eq)]
@@ -15,6 +15,21 @@ impl Limits {
         ensures { result ≡ from_to low high }
     {
         Limits { low, high }
+    }
+
+    /// The numbers from the one to the other, none below 0.
+    pub fn from_to(low: u32, high: u32) -> Limits
+        ensures { result ≡ from_to (pos low) (pos high) }
+    {
+        Limits::new(i64::from(low), i64::from(high))
+    }
+
+    /// The numbers of at most this size.
+    pub fn either_way(most: u32) -> Limits
+        ensures { result ≡ either_way most }
+    {
+        let high = i64::from(most);
+        Limits::new(-high, high)
     }
 
     /// All numbers of 64 bits.

@@ -9,7 +9,7 @@ ghost use Rattle.pic_walk.specs.declared.point6.Point6.{Point6 as PointView};
 ghost use Rattle.pic_walk.specs.Points.{IsPoint, ArePoints, point_limits, point_of, point, point_list};
 
 use crate::address::Address;
-use crate::bounds::MAX_DECK_SPEED;
+use crate::bounds::fastest;
 use crate::extents::extent;
 use crate::fault::WalkStop;
 use crate::limits::Limits;
@@ -23,7 +23,7 @@ fn point_limits(cells: Cells) -> [Limits; 6]
     ensures { result ≡ point_limits cells }
 {
     let [x, y, z] = extent(cells);
-    let speed = Limits::new(-MAX_DECK_SPEED, MAX_DECK_SPEED);
+    let speed = Limits::either_way(fastest(cells));
     [
         Limits::below(x),
         Limits::below(y),
@@ -42,6 +42,7 @@ fn point_of(cells: Cells, numbers: [i64; 6]) -> Point6
     ensures limits { IsPoint cells result }
 {
     let _ = extent(cells);
+    let _ = cells.sub().side();
     Point6 {
         x: [numbers[0] as u32, numbers[1] as u32, numbers[2] as u32],
         v: [numbers[3] as i32, numbers[4] as i32, numbers[5] as i32],

@@ -5,7 +5,7 @@ use Rattle.pic_deck.proofs.fill_reader.read_by.Goals as goal
 pub returns-in_err-read_points-in-Points-clause-walks : goal.returns-in_err-read_points-in-Points-clause-walks
 returns-in_err-read_points-in-Points-clause-walks c =
     rw c.in-Points.is
-    (exits _ _ c.from_residual.ensures.1 (rw (c.new-address.ensures.path, c.key.ensures, c.in-Points.is) at c.in_err-read_points-in-Points.ensures.walks))
+    (exits _ _ c.from_residual.ensures.1 (rw (c.new-address.ensures.path, c.key.ensures, c.in-Points.is, c.cells.ensures) at c.in_err-read_points-in-Points.ensures.walks))
 
 pub returns-in_err-read_lattice-in-Lattice-clause-walks : goal.returns-in_err-read_lattice-in-Lattice-clause-walks
 returns-in_err-read_lattice-in-Lattice-clause-walks c =
@@ -28,7 +28,7 @@ returns-in_err-read_pair-in-Pair-clause-walks c =
 pub returns-in_ok-read_points-in-Points-clause-walks : goal.returns-in_ok-read_points-in-Points-clause-walks
 returns-in_ok-read_points-in-Points-clause-walks c =
     rw c.in-Points.is
-    (goes_on _ _ _ (rw (c.new-address.ensures.path, c.key.ensures, c.in-Points.is) at c.in_ok-read_points-in-Points.ensures.walks.answer)
+    (goes_on _ _ _ (rw (c.new-address.ensures.path, c.key.ensures, c.in-Points.is, c.cells.ensures) at c.in_ok-read_points-in-Points.ensures.walks.answer)
     (record { answer = refl }))
 
 pub returns-in_ok-read_lattice-in-Lattice-clause-walks : goal.returns-in_ok-read_lattice-in-Lattice-clause-walks

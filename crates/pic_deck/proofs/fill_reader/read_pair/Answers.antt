@@ -19,12 +19,12 @@ unfolding pair
 returns-in_err-draw-clause-walks c =
     goes_on _ _ _ (rw (c.as_str.ensures, c.in_ok-path.ensures) at c.in_ok-table.ensures.answer)
     (goes_on _ _ _ (rw (c.as_str-2.ensures, c.in_ok-path.ensures) at c.in_ok-number.ensures.walks.answer)
-    (exits _ _ c.from_residual-in_err-draw.ensures.1 (rw (c.as_str-3.ensures, c.in_ok-path.ensures) at c.in_err-draw.ensures.walks)))
+    (exits _ _ c.from_residual-in_err-draw.ensures.1 (rw (c.as_str-3.ensures, c.in_ok-path.ensures, c.cells.ensures) at c.in_err-draw.ensures.walks)))
 
 pub returns-clause-walks : goal.returns-clause-walks
 unfolding pair
 returns-clause-walks c =
     goes_on _ _ _ (rw (c.as_str.ensures, c.in_ok-path.ensures) at c.in_ok-table.ensures.answer)
     (goes_on _ _ _ (rw (c.as_str-2.ensures, c.in_ok-path.ensures) at c.in_ok-number.ensures.walks.answer)
-    (goes_on _ _ _ (rw (c.as_str-3.ensures, c.in_ok-path.ensures) at c.in_ok-draw.ensures.walks.answer)
+    (goes_on _ _ _ (rw (c.as_str-3.ensures, c.in_ok-path.ensures, c.cells.ensures) at c.in_ok-draw.ensures.walks.answer)
     (record { answer = refl })))

@@ -23,20 +23,20 @@ pub returns-in_err-species : goal.returns-in_err-species
 unfolding deck
 returns-in_err-species c =
     goes_on _ _ _ c.in_ok-check_deck_keys.ensures.answer (goes_on _ _ _ c.in_ok-settings.ensures.walks.answer
-    (goes_on _ _ _ c.in_ok-field.ensures.walks.answer (exits _ _ c.from_residual-in_err-species.ensures.1 c.in_err-species.ensures.walks)))
+    (goes_on _ _ _ c.in_ok-field.ensures.walks.answer (exits _ _ c.from_residual-in_err-species.ensures.1 (rw c.new-terms.ensures at c.in_err-species.ensures.walks))))
 
 pub returns-in_err-check_forces : goal.returns-in_err-check_forces
 unfolding deck
 returns-in_err-check_forces c =
     goes_on _ _ _ c.in_ok-check_deck_keys.ensures.answer (goes_on _ _ _ c.in_ok-settings.ensures.walks.answer
-    (goes_on _ _ _ c.in_ok-field.ensures.walks.answer (goes_on _ _ _ c.in_ok-species.ensures.walks.answer
+    (goes_on _ _ _ c.in_ok-field.ensures.walks.answer (goes_on _ _ _ (rw c.new-terms.ensures at c.in_ok-species.ensures.walks.answer)
     (exits _ _ c.from_residual-in_err-check_forces.ensures.1 c.in_err-check_forces.ensures.walks))))
 
 pub returns : goal.returns
 unfolding deck
 returns c =
     goes_on _ _ _ c.in_ok-check_deck_keys.ensures.answer (goes_on _ _ _ c.in_ok-settings.ensures.walks.answer
-    (goes_on _ _ _ c.in_ok-field.ensures.walks.answer (goes_on _ _ _ c.in_ok-species.ensures.walks.answer
+    (goes_on _ _ _ c.in_ok-field.ensures.walks.answer (goes_on _ _ _ (rw c.new-terms.ensures at c.in_ok-species.ensures.walks.answer)
     (goes_on _ _ _ c.in_ok-check_forces.ensures.walks.answer (record { answer = ap Ok (sym c.new.ensures) })))))
 
 pub new-requires : goal.new-requires
@@ -44,8 +44,8 @@ new-requires c = record {
   settings = c.in_ok-settings.ensures.limits;
   edges = c.in_ok-field.ensures.edges;
   faces = c.in_ok-field.ensures.faces;
-  heads = c.in_ok-species.ensures.heads;
-  filled = c.in_ok-species.ensures.filled;
+  heads = rw c.new-terms.ensures at c.in_ok-species.ensures.heads;
+  filled = rw c.new-terms.ensures at c.in_ok-species.ensures.filled;
   e = c.in_ok-check_forces.ensures.e;
   b = c.in_ok-check_forces.ensures.b;
 }

@@ -1,4 +1,4 @@
-use Rattle.std.proofs.Common.{◌≡◌, refl, arith}
+use Rattle.std.proofs.Common.{refl, arith}
 use Rattle.std.proofs.lemmas.Int.{ints}
 use Rattle.pic_deck.specs.Keys.{settings}
 use Rattle.pic_walk.proofs.WalkLaws.{goes_on, exits}
@@ -7,42 +7,40 @@ use Rattle.pic_deck.proofs.settings.read_settings.Goals as goal
 pub returns-in_err-version-clause-walks : goal.returns-in_err-version-clause-walks
 unfolding settings
 returns-in_err-version-clause-walks c =
-    exits _ _ c.from_residual.ensures.1 (rw c.new.ensures at c.in_err-version.ensures.walks)
+    exits _ _ c.from_residual.ensures.1 (rw c.from_to-versions.ensures at c.in_err-version.ensures.walks)
 
 pub returns-in_err-cells-clause-walks : goal.returns-in_err-cells-clause-walks
 unfolding settings
 returns-in_err-cells-clause-walks c =
-    goes_on _ _ _ (rw c.new.ensures at c.in_ok-version.ensures.walks.answer) (exits _ _ c.from_residual-in_err-cells.ensures.1 c.in_err-cells.ensures.walks)
+    goes_on _ _ _ (rw c.from_to-versions.ensures at c.in_ok-version.ensures.walks.answer) (exits _ _ c.from_residual-in_err-cells.ensures.1 c.in_err-cells.ensures.walks)
 
 pub returns-in_err-steps-clause-walks : goal.returns-in_err-steps-clause-walks
 unfolding settings
 returns-in_err-steps-clause-walks c =
-    goes_on _ _ _ (rw c.new.ensures at c.in_ok-version.ensures.walks.answer)
+    goes_on _ _ _ (rw c.from_to-versions.ensures at c.in_ok-version.ensures.walks.answer)
     (goes_on _ _ _ c.in_ok-cells.ensures.walks.answer (exits _ _ c.from_residual-in_err-steps.ensures.1 c.in_err-steps.ensures.walks))
 
 pub returns-in_err-scales-clause-walks : goal.returns-in_err-scales-clause-walks
 unfolding settings
 returns-in_err-scales-clause-walks c =
-    goes_on _ _ _ (rw c.new.ensures at c.in_ok-version.ensures.walks.answer)
+    goes_on _ _ _ (rw c.from_to-versions.ensures at c.in_ok-version.ensures.walks.answer)
     (goes_on _ _ _ c.in_ok-cells.ensures.walks.answer (goes_on _ _ _ c.in_ok-steps.ensures.walks.answer
     (exits _ _ c.from_residual-in_err-scales.ensures.1 c.in_err-scales.ensures)))
 
 pub returns-clause-walks : goal.returns-clause-walks
 unfolding settings
 returns-clause-walks c =
-    goes_on _ _ _ (rw c.new.ensures at c.in_ok-version.ensures.walks.answer)
+    goes_on _ _ _ (rw c.from_to-versions.ensures at c.in_ok-version.ensures.walks.answer)
     (goes_on _ _ _ c.in_ok-cells.ensures.walks.answer (goes_on _ _ _ c.in_ok-steps.ensures.walks.answer
     (goes_on _ _ _ c.in_ok-scales.ensures.answer (record { answer = refl }))))
 
 pub returns-clause-limits : goal.returns-clause-limits
 returns-clause-limits c =
-    let inside = rw c.new.ensures at c.in_ok-version.ensures.bounds in
-    let one : c.in_ok-version.version ≡ 1 = omega (arith, ints, inside.low, inside.high) in
+    let inside = rw c.from_to-versions.ensures at c.in_ok-version.ensures.bounds in
     record {
-      version = one;
+      version = record { least = omega (arith, ints, inside.low); most = omega (arith, ints, inside.high) };
       cells = c.in_ok-cells.ensures.cells;
-      few = c.in_ok-cells.ensures.few;
-      side = c.in_ok-cells.ensures.side;
+      allowed = c.in_ok-cells.ensures.allowed;
       tiles = c.in_ok-cells.ensures.tiled;
       steps = c.in_ok-steps.ensures.steps;
       every_low = c.in_ok-steps.ensures.every_low;

@@ -1,4 +1,5 @@
 use Rattle.std.proofs.Common.{Ok, ap, sym, ◌∙◌}
+use Rattle.pic_num.specs.Limits.{allowance_of}
 use Rattle.pic_walk.specs.Walk.{optional}
 use Rattle.pic_walk.proofs.TableLaws.{key_at-top}
 use Rattle.pic_walk.proofs.WalkLaws.{given_some, given_none}
@@ -14,7 +15,7 @@ unfolding optional
 returns-in-None-clause-walks c = given_none _ _ _ _ (sym c.in-None.ensures) (record { answer = ap Ok (sym (c.from_vec.ensures ∙ c.new.ensures.items)) })
 
 pub returns-in-None-clause-heads : goal.returns-in-None-clause-heads
-returns-in-None-clause-heads c = rw (c.from_vec.ensures ∙ c.new.ensures.items) heads_none
+returns-in-None-clause-heads c = rw (c.from_vec.ensures ∙ c.new.ensures.items) (heads_none (allowance_of c.args.terms.version).particles)
 
 pub returns-in-None-clause-filled : goal.returns-in-None-clause-filled
-returns-in-None-clause-filled c = rw (c.from_vec.ensures ∙ c.new.ensures.items) (filled_none c.args.cells)
+returns-in-None-clause-filled c = rw (c.from_vec.ensures ∙ c.new.ensures.items) (filled_none c.args.terms)

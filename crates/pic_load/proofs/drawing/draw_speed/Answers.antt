@@ -17,7 +17,7 @@ returns-clause-value c =
     let deviate_is = c.deviate_of-deviate.ensures.value ∙ ap (λ k. pos k -ℤ pos mean_of_twelve) c.sum_of_twelve.ensures.value in
     let product_is = rw (to_z-of_z w64 _ centred) at c.product.ensures.value in
     let rounded_is = rw (to_z-of_z w64 _ product) at c.rounded_word.ensures.value in
-    let sum_is = rw (to_z-of_z w32 _ drift, to_z-of_z w64 _ rest) at c.sum_of.ensures.value in
+    let sum_is = rw (to_z-of_z w32 _ drift, to_z-of_z w64 _ rest) at c.sum_of.ensures in
     rw (to_z-of_z w32 _ sum)
     (sum_is ∙ ap (λ (z : ℤ). c.args.drift +ℤ z) (rounded_is
     ∙ ap (λ (z : ℤ). rounded z (pos (2 ^ 32))) (product_is ∙ ap (λ (z : ℤ). pos c.args.spread *ℤ z) deviate_is)))

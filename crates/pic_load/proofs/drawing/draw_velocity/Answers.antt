@@ -1,10 +1,14 @@
-use Rattle.std.proofs.Common.{pos, ◌∷◌, [], slice_index, slice_index_or, ap, ◌∙◌, refl, rules}
+use Rattle.std.proofs.Common.{ℤ, pos, List, ◌∷◌, [], slice_index, slice_index_or, ap, sym, ◌∙◌, refl, subst, rules}
 use Rattle.std.proofs.lemmas.Int.{to_z-of_z}
 use mir.Syntax.{w32}
 use mir.Val.{SFits}
 use Rattle.rand_pcg.specs.Lcg.{Lcg}
 use Rattle.pic_num.specs.declared.axis.Axis.TheVariants.{X, Y, Z}
+use Rattle.pic_num.specs.Sizes.{IsAtMost}
+use Rattle.pic_num.specs.Space.{spot, along}
+use Rattle.pic_deck.specs.Species.{fastest}
 use Rattle.pic_load.specs.Drawing.{drawn_speed, drawn_velocity}
+use Rattle.pic_load.proofs.DrawnSizes.{drawn_slow}
 use Rattle.pic_load.proofs.GeneratorLaws.{left_more}
 use Rattle.pic_load.proofs.drawing.draw_velocity.Goals as goal
 
@@ -49,3 +53,8 @@ returns-clause-left c =
     let g = c.args.rng.now in
     let two = left_more 12 12 24 g _ _ c.draw_speed-x.ensures.left c.draw_speed-y.ensures.left refl in
     left_more 24 12 36 g _ _ two c.draw_speed-z.ensures.left refl
+
+pub returns-clause-size : goal.returns-clause-size
+returns-clause-size c = λ side is a.
+    subst (λ (v : List ℤ). IsAtMost (along a (spot v)) (fastest side)) (sym (returns-clause-value c))
+    (drawn_slow side c.args.rng.now c.args.drift c.args.spread is a)

@@ -11,6 +11,6 @@ abbrev pub invariant-loop-i : goal.invariant-loop-i
 invariant-loop-i l = record {
   filled : l.particles.items ≡ l.initial.particles.items ++ first_of_species (length l.initial.particles.items) l.species
       (at_site l.cells l.sites.first l.sites.gap l.sites.count l.sites.v) l.i;
-  placed : (m : ℕ) → l.species < m → ((a : Axis) → IsAtMost (along a (spot l.sites.v)) fastest) → All (IsPlaced l.cells m) l.initial.particles.items
-      → All (IsPlaced l.cells m) l.particles.items;
+  placed : (m : ℕ) → l.species < m → ((a : Axis) → IsAtMost (along a (spot l.sites.v)) (fastest l.cells.side))
+      → All (IsPlaced l.cells m) l.initial.particles.items → All (IsPlaced l.cells m) l.particles.items;
 }

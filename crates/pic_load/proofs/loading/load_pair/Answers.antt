@@ -18,7 +18,7 @@ loop-i-init c = record {
   filled = none_yet c.args.particles.now.items c.args.species
       (λ i. beside (slice_index_or c.args.particles.now.items (c.args.start + i) no_particle) c.args.spread.drift c.args.spread.width (after (36 * i) c.args.rng.now));
   left = refl;
-  placed = λ n m kinds placed. placed;
+  placed = λ n m kinds slow placed. placed;
 }
 
 pub add-requires : goal.add-requires
@@ -49,10 +49,10 @@ loop-i-preserved c =
     record {
       filled = one_more old now _ c.args.species k f _ inv.filled c.in_ok-add.ensures (λ j. record { x = (other j).x; v = v j });
       left = left_more (36 * k) 36 (36 * (k + 1)) g _ _ inv.left c.draw_velocity-own.ensures.left next;
-      placed = λ n m kinds placed.
-          let here = (inv.placed n m kinds placed (c.args.start + k) no_particle below).place in
+      placed = λ n m kinds slow placed.
+          let here = (inv.placed n m kinds slow placed (c.args.start + k) no_particle below).place in
           let place = subst (λ (p : Particle). IsInBox n.side n.n (triple p.x))
           (sym (c.index-other.ensures ∙ get_or_default now (c.args.start + k) _ no_particle below)) here in
           placed_more n m now _ _ c.args.species (record { x = c.index-other.result.now.x; v = c.draw_velocity-own.result }) kinds place
-          c.draw_velocity-own.ensures.size c.in_ok-add.ensures (inv.placed n m kinds placed);
+          (c.draw_velocity-own.ensures.size n.side slow) c.in_ok-add.ensures (inv.placed n m kinds slow placed);
     }

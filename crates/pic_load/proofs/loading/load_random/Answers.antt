@@ -12,7 +12,7 @@ unfolding after
 loop-init c = record {
   filled = none_yet c.args.particles.now.items c.args.species (λ i. drawn c.args.cells c.args.spread.drift c.args.spread.width (after (39 * i) c.args.rng.now));
   left = refl;
-  placed = λ m kinds placed. placed;
+  placed = λ m kinds slow placed. placed;
 }
 
 pub add-requires : goal.add-requires
@@ -37,7 +37,7 @@ loop-preserved c =
       filled = one_more c.args.particles.now.items _ _ c.args.species k (λ i. drawn cells drift spread (after (39 * i) g)) _ inv.filled c.in_ok-add.ensures
           (λ j. record { x = x j; v = v j });
       left = left_more (39 * k + 3) 36 (39 * (k + 1)) g _ _ three c.draw_velocity-v.ensures.left next;
-      placed = λ m kinds placed.
+      placed = λ m kinds slow placed.
           placed_more cells m _ _ _ c.args.species (record { x = c.draw_place-x.result; v = c.draw_velocity-v.result }) kinds
-          c.draw_place-x.ensures.within c.draw_velocity-v.ensures.size c.in_ok-add.ensures (inv.placed m kinds placed);
+          c.draw_place-x.ensures.within (c.draw_velocity-v.ensures.size cells.side slow) c.in_ok-add.ensures (inv.placed m kinds slow placed);
     }

@@ -51,22 +51,23 @@ words_most (suc n) g =
     omega (arith, all, here, before)
 
 -- a velocity of a mean and a spread within their limits
-speed_most : (g : Lcg) (drift : ℤ) (spread : ℕ) → IsAtMost drift fastest_drift → spread ≤ widest_spread → IsAtMost (drawn_speed g drift spread) fastest
+speed_most : (side : ℕ) (g : Lcg) (drift : ℤ) (spread : ℕ) → IsAtMost drift (fastest_drift side) → spread ≤ widest_spread side
+    → IsAtMost (drawn_speed g drift spread) (fastest side)
 unfolding drawn_speed deviate
-speed_most g drift spread mean width =
+speed_most side g drift spread mean width =
     let words = words_most 12 g in
     let off : unsigned_abs (pos (sum_of_words 12 g) -ℤ pos mean_of_twelve) ≤ 6 * (2 ^ 32 - 1) = omega (arith, ints, words) in
-    let product : unsigned_abs (pos spread *ℤ (pos (sum_of_words 12 g) -ℤ pos mean_of_twelve)) ≤ widest_spread * (6 * (2 ^ 32 - 1)) =
+    let product : unsigned_abs (pos spread *ℤ (pos (sum_of_words 12 g) -ℤ pos mean_of_twelve)) ≤ widest_spread side * (6 * (2 ^ 32 - 1)) =
     rw (unsigned_abs-mul (pos spread) (pos (sum_of_words 12 g) -ℤ pos mean_of_twelve))
-    (times_at_most spread (unsigned_abs (pos (sum_of_words 12 g) -ℤ pos mean_of_twelve)) widest_spread (6 * (2 ^ 32 - 1)) width off) in
+    (times_at_most spread (unsigned_abs (pos (sum_of_words 12 g) -ℤ pos mean_of_twelve)) (widest_spread side) (6 * (2 ^ 32 - 1)) width off) in
     let turn = rounded-size (pos spread *ℤ (pos (sum_of_words 12 g) -ℤ pos mean_of_twelve))
-    (pos (2 ^ 32)) (6 * widest_spread) (2 ^ 32) (omega arith) (omega (arith, ints)) (omega (arith, product)) in
+    (pos (2 ^ 32)) (6 * widest_spread side) (2 ^ 32) (omega arith) (omega (arith, ints)) (omega (arith, product)) in
     let m = mean.size in
     record { size = omega (arith, ints, m, turn) }
 
-pub drawn_slow : (g : Lcg) (drift : List ℤ) (spread : List ℕ) → IsSpread drift spread → (a : Axis)
-    → IsAtMost (along a (spot (drawn_velocity g drift spread))) fastest
+pub drawn_slow : (side : ℕ) (g : Lcg) (drift : List ℤ) (spread : List ℕ) → IsSpread side drift spread → (a : Axis)
+    → IsAtMost (along a (spot (drawn_velocity g drift spread))) (fastest side)
 unfolding drawn_velocity
-drawn_slow g drift spread is X = speed_most g (slice_index_or drift 0 (pos 0)) (slice_index spread 0) (is.mean X) (is.width 0 (omega arith))
-drawn_slow g drift spread is Y = speed_most (after 12 g) (slice_index_or drift 1 (pos 0)) (slice_index spread 1) (is.mean Y) (is.width 1 (omega arith))
-drawn_slow g drift spread is Z = speed_most (after 24 g) (slice_index_or drift 2 (pos 0)) (slice_index spread 2) (is.mean Z) (is.width 2 (omega arith))
+drawn_slow side g drift spread is X = speed_most side g (slice_index_or drift 0 (pos 0)) (slice_index spread 0) (is.mean X) (is.width 0 (omega arith))
+drawn_slow side g drift spread is Y = speed_most side (after 12 g) (slice_index_or drift 1 (pos 0)) (slice_index spread 1) (is.mean Y) (is.width 1 (omega arith))
+drawn_slow side g drift spread is Z = speed_most side (after 24 g) (slice_index_or drift 2 (pos 0)) (slice_index spread 2) (is.mean Z) (is.width 2 (omega arith))
