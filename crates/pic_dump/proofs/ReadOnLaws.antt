@@ -81,7 +81,7 @@ on_none r before start =
     }
 
 -- a frame more
-more_frames : (frames : List FrameView) (f : FrameView) (rest : RecordsRead) → with_frames frames (with_frame f rest) ≡ with_frames (frames ++ f ∷ []) rest
+pub more_frames : (frames : List FrameView) (f : FrameView) (rest : RecordsRead) → with_frames frames (with_frame f rest) ≡ with_frames (frames ++ f ∷ []) rest
 more_frames frames f rest = λ i. (sym (append_assoc frames (f ∷ []) rest.0) i, rest.1)
 
 pub on_frame : (r : Standing) (before y z : Told) (frames : List FrameView) (here behind : Standing) (e b : Field) (particles : List Particle) (step : ℕ)

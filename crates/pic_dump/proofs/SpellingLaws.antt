@@ -1,9 +1,9 @@
 -- A dump has one spelling.
-use Rattle.std.proofs.Common.{◌≡◌, ℕ, zero, suc, ◌+◌, List, [], ◌∷◌, ◌++◌, Option, Some, None, Result, Ok, Err, refl, sym, ap, subst, ◌∙◌, append_assoc, append-nil}
+use Rattle.std.proofs.Common.{◌≡◌, ℕ, zero, suc, ◌+◌, List, ◌++◌, Option, Some, None, Ok, Err, refl, sym, ap, ◌∙◌, append_assoc, append-nil}
 use Rattle.std.specs.List.{flat_map}
 use Rattle.pic_grid.specs.declared.stop.EndMark.{EndMark}
 use Rattle.pic_fields.specs.Bytes.{IsBytes}
-use Rattle.pic_fields.specs.Parser.{Input, input, Fault, Parsed}
+use Rattle.pic_fields.specs.Parser.{Input, input, Parsed}
 use Rattle.pic_header.specs.Header.{HeaderView}
 use Rattle.pic_header.specs.HeaderFields.{header_at}
 use Rattle.pic_header.specs.HeaderText.{header_bytes}

@@ -24,10 +24,16 @@ use Rattle.pic_run.specs.declared.output.Output.TheVariants.{Dump}
 use Rattle.pic_run.specs.Frames.{energies_in, frame_piece}
 use Rattle.pic_step.specs.SerialStep.{World}
 use Rattle.pic_step.specs.Sound.{IsSafe}
-use Rattle.pic_verify.specs.Meaning.{step_before}
+use Rattle.pic_dump.specs.InTurn.{step_before}
 use Rattle.pic_record.specs.Readable.{IsReadableField, IsReadableParticle, IsReadableFrame}
-use Rattle.pic_verify.specs.Readable.{IsGoodFrame}
+use Rattle.pic_dump.specs.Readable.{IsDueFrame}
+use Rattle.pic_verify.specs.Verified.{ObeysGauss}
 use Rattle.pic_run_laws.proofs.StateFits.{IsGoodState}
+
+-- a frame that is due as record k, and meets Gauss's law at every node
+pub record IsGoodFrame (l : LayoutView) (k : ℕ) (f : FrameView) : Type 0 where
+  pub in_turn : IsDueFrame l k f
+  pub gauss : ObeysGauss l f
 
 -- the frame of a state
 abbrev pub frame_in : ℕ → World → FrameView
@@ -95,8 +101,7 @@ pub good_frame : (l : LayoutView) (k step : ℕ) (w : World) → due_after l.ste
 good_frame l k step w due good =
     let of = good.of in
     record {
-      due = due;
-      fits = readable_frame l step w good;
+      in_turn = record { due = due; fits = readable_frame l step w good };
       gauss = subst (λ (s : ℕ). MeetsGauss s l.cells l.kinds w.particles (field_with l w.e.values)) of.side
           (subst (λ (n : Triple). MeetsGauss w.side n l.kinds w.particles (field_with l w.e.values)) of.cells
           (subst (λ (ks : List Kind). MeetsGauss w.side w.cells ks w.particles (field_with l w.e.values)) of.kinds

@@ -14,13 +14,13 @@ use Rattle.pic_run.specs.Outcome.{out_text, dump_outcome}
 use Rattle.pic_run.proofs.FrameLaws.{after_none}
 use Rattle.pic_step.specs.SerialStep.{World}
 use Rattle.pic_step.specs.SerialRun.{after}
-use Rattle.pic_verify.specs.Meaning.{due_step}
-use Rattle.pic_verify.specs.Readable.{IsGoodFrame, IsReadableDump}
+use Rattle.pic_dump.specs.InTurn.{due_step}
+use Rattle.pic_dump.specs.Readable.{IsReadableDump}
 use Rattle.pic_record.specs.Readable.{IsReadableEnd}
 use Rattle.pic_verify.specs.Verified.{verified}
 use Rattle.pic_verify.proofs.ReadableDump.{dumps_are_verified}
 use Rattle.pic_run_laws.proofs.StateFits.{IsGoodState, StopsFit}
-use Rattle.pic_run_laws.proofs.GoodFrames.{frame_in, good_frame, frame_text}
+use Rattle.pic_run_laws.proofs.GoodFrames.{IsGoodFrame, frame_in, good_frame, frame_text}
 use Rattle.pic_run_laws.proofs.DueRuns.{put_of}
 use Rattle.pic_run_laws.proofs.TurnsLaws.{frames_text, Goes, goes}
 
@@ -65,7 +65,7 @@ module _ (h : HeaderView) (header : IsHeader h) (w : World) (fit : StopsFit (lay
           header = header;
           last = last;
           count = refl;
-          good = good;
+          in_turn = λ k d below. (good k d below).in_turn;
           end = subst (λ n. IsReadableEnd (layout_of h) (due_step (layout_of h) n) (end_of_run h.steps w)) same behind_first.end_fits;
         }
 
@@ -81,5 +81,5 @@ module _ (h : HeaderView) (header : IsHeader h) (w : World) (fit : StopsFit (lay
     pub run_verified : verified (out_text (dump_outcome h w)) ≡ Ok (length (dump_outcome h w).frames)
     run_verified =
         ap (λ t. verified (header_bytes h ++ t ++ end_bytes (end_of_run h.steps w))) text_is
-        ∙ dumps_are_verified h frames (end_of_run h.steps w) readable
+        ∙ dumps_are_verified h frames (end_of_run h.steps w) readable (λ k d below. (good k d below).gauss)
         ∙ ap (λ n. Ok n) (sym count_is)

@@ -19,11 +19,10 @@ use Rattle.pic_run.specs.Frames.{frame_piece, frames_from, end_where, end_of_run
 use Rattle.pic_run.proofs.FrameLaws.{after_stays}
 use Rattle.pic_step.specs.SerialStep.{World}
 use Rattle.pic_step.specs.SerialRun.{after}
-use Rattle.pic_verify.specs.Meaning.{due_step}
-use Rattle.pic_verify.specs.Readable.{IsGoodFrame}
+use Rattle.pic_dump.specs.InTurn.{due_step}
 use Rattle.pic_record.specs.Readable.{IsReadableStop, IsReadableEnd}
 use Rattle.pic_run_laws.proofs.StateFits.{IsGoodState, StopsFit, good_after}
-use Rattle.pic_run_laws.proofs.GoodFrames.{frame_in, good_frame, frame_text}
+use Rattle.pic_run_laws.proofs.GoodFrames.{IsGoodFrame, frame_in, good_frame, frame_text}
 use Rattle.pic_run_laws.proofs.DueRuns.{stops_in, skipped, stopped, put_of}
 
 -- the text of frames

@@ -1,19 +1,16 @@
 -- What a verdict means, record by record.
 use Rattle.std.proofs.Common.{◌≡◌, ℕ, zero, suc, ◌+◌, ◌-◌, ◌*◌, ◌<◌, ◌≤◌, List, [], ◌++◌, length, drop, Option, Some, None, Ok, Err, inl, inr, refl, sym, ap, subst, ◌∙◌, arith, length-append}
-use Rattle.std.specs.Prelude.{min}
-use Rattle.std.proofs.Math.Nat.{mul-le-mul_left}
 use Rattle.std.proofs.Math.Seq.{drop-append_seam}
-use Rattle.std.proofs.lemmas.Bool.{cases_lt, lt-ltb, le-ltb}
+use Rattle.std.proofs.lemmas.Bool.{cases_lt}
 use Rattle.std.proofs.lemmas.List.{get_or-drop, drop-drop}
 use Rattle.pic_grid.specs.Differences.{div_e}
 use Rattle.pic_grid.specs.Lattice.{value_at}
 use Rattle.pic_charge.specs.declared.breaks.Break.{Break}
 use Rattle.pic_charge.specs.Charge.{charge_of}
-use Rattle.pic_charge.specs.Gauss.{MeetsGauss, IsLeastBreak}
+use Rattle.pic_charge.specs.Gauss.{IsLeastBreak}
 use Rattle.pic_charge.proofs.BreakLaws.{meets_gauss, gauss_none, first_break_some}
 use Rattle.pic_fields.specs.Parser.{Input, input, Fault, fault, Parsed}
 use Rattle.pic_fields.specs.Bytes.{IsBytes}
-use Rattle.pic_record.specs.Due.{due_after}
 use Rattle.pic_header.specs.HeaderText.{header_bytes}
 use Rattle.pic_header.specs.Header.{HeaderView}
 use Rattle.pic_record.specs.Layout.{LayoutView, layout_of}
@@ -25,17 +22,20 @@ use Rattle.pic_record.proofs.EndSpells.{from_to}
 use Rattle.pic_header.proofs.HeaderSpells.{spells_header}
 use Rattle.pic_record.proofs.RecordSpells.{spells_record, record_any}
 use Rattle.pic_verify.specs.declared.verify_stop.VerifyStop.TheVariants.{ReadFault, BadDump, Broken, NoMemory}
-use Rattle.pic_verify.specs.Verified.{Verdict, break_of, unless_broken, of_parsed, walked, of_header, verified}
-use Rattle.pic_verify.specs.Meaning.{due_step, step_before, record_place, bytes_from, record_of, IsFrameAt, IsGood, Begins, Means, VerdictLaw}
+use Rattle.pic_dump.specs.DumpRead.{read_dump}
+use Rattle.pic_dump.specs.InTurn.{step_before}
+use Rattle.pic_dump.proofs.TurnLaws.{due_is_step, few_due}
+use Rattle.pic_verify.specs.Verified.{Verdict, ObeysGauss, break_of, unless_broken, walked, verified}
+use Rattle.pic_verify.specs.Meaning.{record_place, bytes_from, record_of, IsFrameAt, IsGood, Begins, Means, VerdictLaw}
 use Rattle.pic_record.proofs.FormatLaws.{frame_read, end_read}
-use Rattle.pic_verify.proofs.WalkLaws.{walked_frame, walked_end, walked_fault}
+use Rattle.pic_verify.proofs.WalkLaws.{verdict_by, walked_frame, walked_end, walked_fault}
 
 -- Gauss's law at every node is that no break is found
-pub no_break : (l : LayoutView) (f : FrameView) → MeetsGauss l.side l.cells l.kinds f.particles (field_with l f.e) → break_of l f.e f.particles ≡ None
+pub no_break : (l : LayoutView) (f : FrameView) → ObeysGauss l f → break_of l f.e f.particles ≡ None
 unfolding break_of
 no_break l f law = gauss_none l.side l.cells l.kinds f.particles (field_with l f.e) (charge_of l.side l.cells l.kinds f.particles) (λ p within. refl) law
 
-pub is_gauss : (l : LayoutView) (f : FrameView) → break_of l f.e f.particles ≡ None → MeetsGauss l.side l.cells l.kinds f.particles (field_with l f.e)
+pub is_gauss : (l : LayoutView) (f : FrameView) → break_of l f.e f.particles ≡ None → ObeysGauss l f
 unfolding break_of
 is_gauss l f none = meets_gauss l.side l.cells l.kinds f.particles (field_with l f.e) (charge_of l.side l.cells l.kinds f.particles) (λ p within. refl) none
 
@@ -43,25 +43,6 @@ is_least : (l : LayoutView) (f : FrameView) (b : Break) → break_of l f.e f.par
     → IsLeastBreak l.cells (div_e l.cells (value_at (field_with l f.e))) (charge_of l.side l.cells l.kinds f.particles) b
 unfolding break_of
 is_least l f b some = first_break_some l.cells (div_e l.cells (value_at (field_with l f.e))) (charge_of l.side l.cells l.kinds f.particles) b some
-
--- the step that is due after those before
-pub due_is_step : (l : LayoutView) (k s : ℕ) → due_after l.steps l.every (step_before l k) ≡ Some s → s ≡ due_step l k
-due_is_step l zero s due = let same : 0 ≡ s = cc in omega (arith, same)
-due_is_step l (suc k) s due = elim (cases_lt (due_step l k) l.steps) [
-  | inl less ↦ (let next = rw (lt-ltb (due_step l k) l.steps less) at due in
-      let is : min (due_step l k + l.every) l.steps ≡ s = cc in
-      let more : suc k * l.every ≡ k * l.every + l.every = omega arith in
-      omega (arith, less, is, more))
-  | inr over ↦ (let none = rw (le-ltb (due_step l k) l.steps over) at due in absurd cc)
-]
-
--- there is no frame more than the steps, and one
-pub few_due : (l : LayoutView) (k s : ℕ) → 1 ≤ l.every → due_after l.steps l.every (step_before l k) ≡ Some s → k ≤ l.steps
-few_due l zero s least due = omega arith
-few_due l (suc k) s least due = elim (cases_lt (due_step l k) l.steps) [
-  | inl less ↦ (let more = mul-le-mul_left k least in omega (arith, less, more))
-  | inr over ↦ (let none = rw (le-ltb (due_step l k) l.steps over) at due in absurd cc)
-]
 
 -- where a part that was read ends
 small_from : (bytes : List ℕ) (place : ℕ) → IsBytes bytes → IsBytes (drop place bytes)
@@ -132,23 +113,26 @@ after_break bytes h n f j rest (Some b) is frame begins go =
 
 after_record : (bytes : List ℕ) (h : HeaderView) (m n : ℕ) (r : Parsed RecordView) → IsBytes bytes → record_of bytes h n ≡ r → Begins bytes h n
     → (Begins bytes h (suc n) → Means bytes (walked m (layout_of h) (suc n) (step_before (layout_of h) (suc n)) (bytes_from bytes (record_place h (suc n)))))
-    → Means bytes (of_parsed (layout_of h) n (λ step rest. walked m (layout_of h) (suc n) (Some step) rest) r)
-after_record bytes h m n (Err f) small is begins go = inr (record { header = h; number = n; begins = begins; fails = is })
+    → Means bytes (walked (suc m) (layout_of h) n (step_before (layout_of h) n) (bytes_from bytes (record_place h n)))
+after_record bytes h m n (Err f) small is begins go =
+    subst (λ (v : Verdict). Means bytes v) (sym (walked_fault m (layout_of h) n (step_before (layout_of h) n) (bytes_from bytes (record_place h n)) f is))
+    (inr (record { header = h; number = n; begins = begins; fails = is }))
 after_record bytes h m n (Ok (AnEnd mark, j)) small is begins go =
     let none = end_read (layout_of h) (step_before (layout_of h) n) _ j mark is in
-    record { header = h; begins = begins; mark = mark; end = j.place; ends = is ∙ ap (λ t. Ok (AnEnd mark, input j.place t)) none }
+    subst (λ (v : Verdict). Means bytes v) (sym (walked_end m (layout_of h) n (step_before (layout_of h) n) (bytes_from bytes (record_place h n)) j mark is))
+    (record { header = h; begins = begins; mark = mark; end = j.place; ends = is ∙ ap (λ t. Ok (AnEnd mark, input j.place t)) none })
 after_record bytes h m n (Ok (AFrame f, j)) small is begins go =
     let frame = frame_is bytes h n f j small is in
     let end = frame_end bytes h n f j small is in
     let l = layout_of h in
-    after_break bytes h n f j (walked m l (suc n) (Some f.step) j) (break_of l f.e f.particles) refl frame begins
+    subst (λ (v : Verdict). Means bytes v) (sym (walked_frame m l n (step_before l n) (bytes_from bytes (record_place h n)) j f is))
+    (after_break bytes h n f j (walked m l (suc n) (Some f.step) j) (break_of l f.e f.particles) refl frame begins
     (λ good. subst (λ (i : Input). Means bytes (walked m l (suc n) (Some f.step) i)) (sym end)
     (subst (λ (s : ℕ). Means bytes (walked m l (suc n) (Some s) (bytes_from bytes (record_place h (suc n))))) (sym frame.step)
-    (go (good_more bytes h n begins good))))
+    (go (good_more bytes h n begins good)))))
 
 means_from : (bytes : List ℕ) (h : HeaderView) (m n : ℕ) → IsBytes bytes → 1 ≤ h.every → n + m ≡ h.steps + 2 → Begins bytes h n
     → Means bytes (walked m (layout_of h) n (step_before (layout_of h) n) (bytes_from bytes (record_place h n)))
-unfolding walked
 means_from bytes h zero n small least all begins =
     let last = begins.good (h.steps + 1) (omega (arith, all)) in
     let due = (frame_read (layout_of h) (step_before (layout_of h) (h.steps + 1)) _ _ last.frame last.is.reads).due in
@@ -160,10 +144,10 @@ means_from bytes h (suc m) n small least all begins =
 
 -- the verdict says what the bytes are
 pub means : (bytes : List ℕ) → IsBytes bytes → Means bytes (verified bytes)
-unfolding verified
+unfolding verified read_dump walked
 means bytes small = go (header_at (input 0 bytes)) refl
   where
-    go : (r : Parsed HeaderView) → header_at (input 0 bytes) ≡ r → Means bytes (of_header r)
+    go : (r : Parsed HeaderView) → header_at (input 0 bytes) ≡ r → Means bytes (verdict_by r)
     go (Err f) is = inl is
     go (Ok (h, j)) is =
         let read = header_end bytes h j small is in
@@ -201,19 +185,19 @@ few_good bytes h (suc n) least begins =
 -- the verdict is that on the record behind them
 verified_behind : (bytes : List ℕ) (h : HeaderView) (n : ℕ) → IsBytes bytes → Begins bytes h n
     → verified bytes ≡ walked (suc (h.steps + 1 - n)) (layout_of h) n (step_before (layout_of h) n) (bytes_from bytes (record_place h n))
-unfolding verified
+unfolding verified read_dump walked
 verified_behind bytes h n small begins =
     let least = (header_end bytes h _ small begins.header).least in
     let few = few_good bytes h n least begins in
     let all : h.steps + 2 ≡ n + suc (h.steps + 1 - n) = omega (arith, few) in
-    ap of_header begins.header
+    ap verdict_by begins.header
     ∙ ap (λ k. walked k (layout_of h) 0 None (bytes_from bytes (record_place h 0))) all
     ∙ walks_good bytes h n (suc (h.steps + 1 - n)) begins
 
 -- what the bytes are says the verdict
 header_fault : (bytes : List ℕ) (f : Fault) → header_at (input 0 bytes) ≡ Err f → verified bytes ≡ Err (BadDump f.place f.cause)
-unfolding verified
-header_fault bytes f is = ap of_header is
+unfolding verified read_dump
+header_fault bytes f is = ap verdict_by is
 
 pub meant : (bytes : List ℕ) (verdict : Verdict) → IsBytes bytes → Means bytes verdict → verified bytes ≡ verdict
 meant bytes (Ok n) small is =

@@ -1,6 +1,6 @@
 -- How far a dump was read.
 use Rattle.std.proofs.Common.{◌≡◌, ℕ, suc, ◌+◌, ◌*◌, ◌<◌, ◌≤◌, ◌⊎◌, List, ◌++◌, length, drop, Option, Some, None, Ok, Err, inl, inr}
-use Rattle.std.proofs.Common.{refl, sym, ap, subst, ◌∙◌, arith, length-append, add-one}
+use Rattle.std.proofs.Common.{refl, sym, ap, subst, ◌∙◌, arith, length-append}
 use Rattle.std.proofs.Math.Seq.{drop-append_seam}
 use Rattle.std.proofs.lemmas.Bool.{cases_lt}
 use Rattle.std.proofs.lemmas.List.{drop-drop}
@@ -20,31 +20,31 @@ use Rattle.pic_header.specs.HeaderFields.{header_at, header_most}
 use Rattle.pic_header.specs.HeadReads.{HeadReads, reach_of, TakesWithin}
 use Rattle.pic_header.specs.declared.head_stop.HeadStop.{HeadStop}
 use Rattle.pic_record.specs.Layout.{LayoutView, layout_of}
+use Rattle.pic_dump.specs.InTurn.{due_step, step_before}
+use Rattle.pic_dump.proofs.TurnLaws.{due_is_step}
 use Rattle.pic_dump.specs.NextReads.{HasFrame, most_of, record_most}
 use Rattle.pic_record.specs.Records.{AFrame, record_at}
 use Rattle.pic_dump.specs.Standing.{Standing}
 use Rattle.pic_header.proofs.WithinLaws.{told_held, read_told}
 use Rattle.pic_verify.specs.Verified.{break_of}
-use Rattle.pic_verify.specs.Meaning.{due_step, step_before, record_place, bytes_from, IsGood}
+use Rattle.pic_verify.specs.Meaning.{record_place, bytes_from, IsGood}
 use Rattle.pic_verify.specs.Allowed.{IsInHeader}
 use Rattle.pic_verify.specs.Reached.{most_at, ReachesRecord, TakesToRecord, IsGoodAt, Reaches}
 use Rattle.pic_record.proofs.FormatLaws.{frame_read}
-use Rattle.pic_verify.proofs.MeaningLaws.{header_end, due_is_step, is_gauss}
+use Rattle.pic_verify.proofs.MeaningLaws.{header_end, is_gauss}
 use Rattle.pic_verify.proofs.VerdictLaws.{behind, takes_head, taken_size}
-use Rattle.pic_verify.proofs.WalkLaws.{Follows}
+use Rattle.pic_verify.proofs.WalkLaws.{Follows, place_of, last_of}
 
 -- so many good frames were read, and these bytes are left
 pub record GoodSoFar (l : LayoutView) (place : ℕ) (bytes : List ℕ) (k : ℕ) (now : Told) : Type 0 where
   pub frames : (j : ℕ) → j < k → IsGoodAt l (place + j * (1 + frame_length l)) (drop (j * (1 + frame_length l)) bytes) j
   pub left : now.bytes ≡ Some (drop (k * (1 + frame_length l)) bytes)
 
-pub record AreGood (r : Standing) (before : Told) (k : ℕ) (here : Standing) (now : Told) : Type 0 where
-  pub last : here.last ≡ step_before r.layout k
+pub record AreGood (r : Standing) (before : Told) (k : ℕ) (now : Told) : Type 0 where
   pub so_far : (bytes : List ℕ) → before.bytes ≡ Some bytes → GoodSoFar r.layout r.place bytes k now
 
-pub good_none : (r : Standing) (before : Told) → r.last ≡ None → AreGood r before 0 r before
-good_none r before start = record {
-  last = start;
+pub good_none : (r : Standing) (before : Told) → AreGood r before 0 before
+good_none r before = record {
   so_far = λ bytes told. (let none : 0 ≡ 0 * (1 + frame_length r.layout) = omega arith in
       record { frames = λ j less. absurd (omega (arith, less)); left = told ∙ ap (λ n. Some (drop n bytes)) none });
 }
@@ -101,49 +101,48 @@ more_good l place bytes k step y z before here =
     }
 
 pub good_frame : (r : Standing) (before y z : Told) (k : ℕ) (here back : Standing) (e b : Field) (particles : List Particle) (step : ℕ) (energies : Energies)
-    → AreGood r before k here y → Follows r before k here y → HasFrame here y z e b particles back step energies
-    → break_of r.layout e.values particles ≡ None → AreGood r before (k + 1) back z
+    → AreGood r before k y → Follows r before k here y → HasFrame here y z e b particles back step energies
+    → break_of r.layout e.values particles ≡ None → AreGood r before (k + 1) z
 good_frame r before y z k here back e b particles step energies good follows has none =
     let l = r.layout in
     let f = 1 + frame_length l in
     let frame = frame_of step e.values b.values particles energies in
-    let length_is : frame_length here.layout ≡ frame_length l = ap frame_length follows.layout in
-    let end : back.place ≡ r.place + k * f + f = omega (arith, follows.place, has.place, length_is) in
-    let due = ap (λ (m : LayoutView). due_after m.steps m.every here.last) (sym follows.layout) ∙ has.due in
-    let step_is = due_is_step l k step (ap (due_after l.steps l.every) (sym good.last) ∙ due) in
-    let next : step_before l (k + 1) ≡ Some (due_step l k) = ap (step_before l) (add-one k) in
+    let length_is : frame_length here.layout ≡ frame_length l = ap frame_length follows.on.layout in
+    let place = place_of r before k here y follows in
+    let last = last_of r before k here y follows in
+    let end : back.place ≡ r.place + k * f + f = omega (arith, place, has.place, length_is) in
     record {
-      last = has.last ∙ ap (λ s. Some s) step_is ∙ sym next;
       so_far = λ bytes told. (let so_far = good.so_far bytes told in
           let d = drop (k * f) bytes in
           let (rest, left) = some_rest z in
           let (h, was, reads) = has.read.reads rest left in
           let same : h ≡ d = told_held y.bytes d h so_far.left was in
           let is = subst (λ (i : List ℕ). record_at l (step_before l k) (input (r.place + k * f) i) ≡ Ok (AFrame frame, input back.place rest)) same
-          (subst (λ (n : ℕ). record_at l (step_before l k) (input n h) ≡ Ok (AFrame frame, input back.place rest)) follows.place
-          (subst (λ (o : Option ℕ). record_at l o (input here.place h) ≡ Ok (AFrame frame, input back.place rest)) good.last
-          (subst (λ (m : LayoutView). record_at m here.last (input here.place h) ≡ Ok (AFrame frame, input back.place rest)) follows.layout reads))) in
+          (subst (λ (n : ℕ). record_at l (step_before l k) (input n h) ≡ Ok (AFrame frame, input back.place rest)) place
+          (subst (λ (o : Option ℕ). record_at l o (input here.place h) ≡ Ok (AFrame frame, input back.place rest)) last
+          (subst (λ (m : LayoutView). record_at m here.last (input here.place h) ≡ Ok (AFrame frame, input back.place rest)) follows.on.layout reads))) in
           more_good l r.place bytes k step y z so_far
           (stood l (r.place + k * f) back.place d rest has.read.moves.front k frame z is (sym so_far.left ∙ has.read.moves.moved) left end none));
     }
 
 -- where reading ended: with the record where a reader stands, or behind a frame
-pub reached_record : (r : Standing) (before y z : Told) (k : ℕ) (here : Standing) → AreGood r before k here y → Follows r before k here y
+pub reached_record : (r : Standing) (before y z : Told) (k : ℕ) (here : Standing) → AreGood r before k y → Follows r before k here y
     → Moves here.place (here.place + record_most here) y z → Reaches r before z
 reached_record r before y z k here good follows moves =
     let l = r.layout in
     let most : record_most here ≡ most_at l k =
-    ap (λ (m : LayoutView). most_of m (due_after m.steps m.every here.last)) follows.layout
-    ∙ ap (λ (o : Option ℕ). most_of l (due_after l.steps l.every o)) good.last in
-    let end : here.place + record_most here ≡ r.place + k * (1 + frame_length l) + most_at l k = omega (arith, follows.place, most) in
+    ap (λ (m : LayoutView). most_of m (due_after m.steps m.every here.last)) follows.on.layout
+    ∙ ap (λ (o : Option ℕ). most_of l (due_after l.steps l.every o)) (last_of r before k here y follows) in
+    let place = place_of r before k here y follows in
+    let end : here.place + record_most here ≡ r.place + k * (1 + frame_length l) + most_at l k = omega (arith, place, most) in
     record {
       number = k;
       frames = λ bytes told. (good.so_far bytes told).frames;
-      moves = subst (λ n. Moves r.place n before z) end (moves_then follows.moves moves);
+      moves = subst (λ n. Moves r.place n before z) end (moves_then follows.on.moves moves);
     }
 
 pub reached_frame : (r : Standing) (before y z : Told) (k : ℕ) (here back : Standing) (e b : Field) (particles : List Particle) (step : ℕ) (energies : Energies)
-    → AreGood r before k here y → Follows r before k here y → HasFrame here y z e b particles back step energies → Reaches r before z
+    → AreGood r before k y → Follows r before k here y → HasFrame here y z e b particles back step energies → Reaches r before z
 reached_frame r before y z k here back e b particles step energies good follows has =
     let most : record_most here ≡ 1 + frame_length here.layout = ap (λ (o : Option ℕ). most_of here.layout o) has.due in
     let end : back.place ≡ here.place + record_most here = omega (arith, has.place, most) in

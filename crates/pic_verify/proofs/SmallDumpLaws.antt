@@ -16,14 +16,14 @@ use Rattle.pic_grid.specs.Sums.{sum_over}
 use Rattle.pic_grid.proofs.ShapeLaws.{zero_read}
 use Rattle.pic_grid.specs.Species.{HeadView, no_head, IsName, IsKind}
 use Rattle.pic_charge.specs.Charge.{share, charge_of}
-use Rattle.pic_charge.specs.Gauss.{MeetsGauss}
 use Rattle.pic_energy.specs.Energies.{square_of, kinetic_of, kinetic_sum, square_sum, energies_of}
 use Rattle.pic_header.specs.Header.{IsHeader, HasMultipliers}
 use Rattle.pic_record.specs.FrameFields.{FrameView, IsModerate, field_with}
 use Rattle.pic_record.specs.Layout.{LayoutView, layout_of}
 use Rattle.pic_record.specs.Readable.{IsReadableField, IsReadableParticle, IsReadableFrame}
-use Rattle.pic_verify.specs.Readable.{IsGoodFrame}
-use Rattle.pic_verify.specs.SmallDump.{one, small_header, resting_ion, small_frame, SmallDumpIsReadable}
+use Rattle.pic_dump.specs.Readable.{IsDueFrame}
+use Rattle.pic_verify.specs.SmallDump.{one, small_header, resting_ion, small_frame, SmallDumpIsGood}
+use Rattle.pic_verify.specs.Verified.{ObeysGauss}
 
 abbrev small_layout : LayoutView
 small_layout = layout_of small_header
@@ -118,22 +118,29 @@ no_charge : (p : Triple) → charge_of small_layout.side small_layout.cells smal
 unfolding charge_of share sum_over
 no_charge p = cancel (weight small_layout.side small_layout.cells (triple resting_ion.x) p)
 
-neutral : MeetsGauss small_layout.side small_layout.cells small_layout.kinds small_frame.particles (field_with small_layout small_frame.e)
+neutral : ObeysGauss small_layout small_frame
 neutral = record { at_node = λ p within. no_divergence p ∙ sym (no_charge p) }
 
-pub small_dump_is_readable : SmallDumpIsReadable
-small_dump_is_readable = record {
-  header = header_is;
-  last = 0;
-  count = refl;
-  good = λ k d below. good k d below;
-  end = record {
-    behind = omega arith;
-    before = omega arith;
-    fits = record { identity = omega arith; number = record { past = omega arith; fits = record { sfits = omega arith } } };
+pub small_dump_is_good : SmallDumpIsGood
+small_dump_is_good = record {
+  readable = record {
+    header = header_is;
+    last = 0;
+    count = refl;
+    in_turn = λ k d below. in_turn k d below;
+    end = record {
+      behind = omega arith;
+      before = omega arith;
+      fits = record { identity = omega arith; number = record { past = omega arith; fits = record { sfits = omega arith } } };
+    };
   };
+  gauss = λ k d below. gauss k d below;
 }
   where
-    good : (k : ℕ) (d : FrameView) → k < 1 → IsGoodFrame small_layout k (get_or (small_frame ∷ []) k d)
-    good zero d below = record { due = refl; fits = frame_is; gauss = neutral }
-    good (suc k) d below = absurd (omega (arith, below))
+    in_turn : (k : ℕ) (d : FrameView) → k < 1 → IsDueFrame small_layout k (get_or (small_frame ∷ []) k d)
+    in_turn zero d below = record { due = refl; fits = frame_is }
+    in_turn (suc k) d below = absurd (omega (arith, below))
+
+    gauss : (k : ℕ) (d : FrameView) → k < 1 → ObeysGauss small_layout (get_or (small_frame ∷ []) k d)
+    gauss zero d below = neutral
+    gauss (suc k) d below = absurd (omega (arith, below))

@@ -21,9 +21,10 @@ use Rattle.pic_header.specs.declared.head_stop.HeadStop.{HeadStop}
 use Rattle.pic_header.specs.declared.head_stop.HeadStop.TheVariants as head
 use Rattle.pic_verify.specs.declared.verify_stop.VerifyStop.TheVariants.{ReadFault, BadDump, Broken, NoMemory}
 use Rattle.pic_verify.specs.Stops.{stop_of_head}
-use Rattle.pic_verify.specs.Verified.{Verdict, of_header, verified}
+use Rattle.pic_dump.specs.DumpRead.{read_dump}
+use Rattle.pic_verify.specs.Verified.{Verdict, walked, verified}
 use Rattle.pic_verify.specs.Verifies.{Finds, Answered, Verifies, Walks, IsExact}
-use Rattle.pic_verify.proofs.WalkLaws.{on_records}
+use Rattle.pic_verify.proofs.WalkLaws.{verdict_by, on_records}
 
 -- where a reader stands behind a header
 abbrev pub behind : HeaderView → ℕ → Standing
@@ -31,10 +32,10 @@ behind h place = record { layout = layout_of h; place = place; last = None }
 
 finds_behind : (h : HeaderView) (place : ℕ) (x y z : Told) (answer : Verdict)
     → HasRead header_at 0 x h place y → Finds (on_records (behind h place)) y z answer → Finds verified x z answer
-unfolding verified
+unfolding verified read_dump walked
 finds_behind h place x y z answer first finds =
     let (held, was, is) = first.reads finds.held finds.was in
-    record { calm = finds.calm ∙ first.calm; held = held; was = was; verdict = ap of_header is ∙ finds.verdict }
+    record { calm = finds.calm ∙ first.calm; held = held; was = was; verdict = ap verdict_by is ∙ finds.verdict }
 
 answered_behind : (h : HeaderView) (place : ℕ) (x y z : Told) (answer : Verdict)
     → HasRead header_at 0 x h place y → Answered (on_records (behind h place)) y z answer → Answered verified x z answer
@@ -53,11 +54,11 @@ verifies_behind h place r x y z answer first is walks =
 
 stops_answer : {B : Type 0} (x z : Told) (stop : HeadStop) (view : B → HeaderView) (end : HeaderView → ℕ)
     → HeadReads view header_at 0 end header_most x z (Err stop) → Answered verified x z (Err (stop_of_head stop))
-unfolding verified
+unfolding verified read_dump walked
 stops_answer x z (head.Read read.ReadFault) view end first = first.answer.why
 stops_answer x z (head.Read (read.BadDump place cause)) view end first =
     let fails = first.answer.why in
-    record { calm = fails.calm; held = fails.held; was = fails.was; verdict = ap of_header fails.fails }
+    record { calm = fails.calm; held = fails.held; was = fails.was; verdict = ap verdict_by fails.fails }
 stops_answer x z head.NoMemory view end first = first.answer.calm
 
 -- a header that isn't there

@@ -1,32 +1,24 @@
 -- The law of the verdict on a dump, said of each record by itself: where it begins, after which step
 -- it is due, and whether its E and its charge meet Gauss's law (Birdsall and Langdon, "Plasma Physics
 -- via Computer Simulation").
-use Rattle.std.specs.Prelude.{◌≡◌, ◌↔◌, ℕ, zero, suc, ◌+◌, ◌*◌, ◌<◌, ◌⊎◌, min, List, [], length, drop, Option, Some, None, Ok, Err}
+use Rattle.std.specs.Prelude.{◌≡◌, ◌↔◌, ℕ, suc, ◌+◌, ◌*◌, ◌<◌, ◌⊎◌, List, [], length, drop, Some, Ok, Err}
 use Rattle.pic_grid.specs.declared.stop.EndMark.{EndMark}
 use Rattle.pic_grid.specs.Differences.{div_e}
 use Rattle.pic_grid.specs.Lattice.{value_at}
 use Rattle.pic_charge.specs.declared.breaks.Break.{Break}
 use Rattle.pic_charge.specs.Charge.{charge_of}
-use Rattle.pic_charge.specs.Gauss.{MeetsGauss, IsLeastBreak}
+use Rattle.pic_charge.specs.Gauss.{IsLeastBreak}
 use Rattle.pic_fields.specs.Parser.{Input, input, Fault, fault, Parsed}
 use Rattle.pic_fields.specs.Bytes.{IsBytes}
 use Rattle.pic_header.specs.HeaderText.{header_bytes}
 use Rattle.pic_header.specs.Header.{HeaderView}
-use Rattle.pic_record.specs.Layout.{LayoutView, layout_of}
+use Rattle.pic_record.specs.Layout.{layout_of}
 use Rattle.pic_record.specs.FrameFields.{FrameView, frame_length, field_with}
 use Rattle.pic_header.specs.HeaderFields.{header_at}
 use Rattle.pic_record.specs.Records.{RecordView, AFrame, AnEnd, record_at}
 use Rattle.pic_verify.specs.declared.verify_stop.VerifyStop.TheVariants.{ReadFault, BadDump, Broken, NoMemory}
-use Rattle.pic_verify.specs.Verified.{Verdict, break_of, verified}
-
--- the step after which frame k is due, from frame 0 on
-abbrev pub due_step : LayoutView → ℕ → ℕ
-due_step l k = min (k * l.every) l.steps
-
--- the step of the frame before record k, where there is one
-abbrev pub step_before : LayoutView → ℕ → Option ℕ
-step_before l zero = None
-step_before l (suc k) = Some (due_step l k)
+use Rattle.pic_dump.specs.InTurn.{due_step, step_before}
+use Rattle.pic_verify.specs.Verified.{Verdict, ObeysGauss, break_of, verified}
 
 -- where record k begins: behind the header and k frames, all of one length
 abbrev pub record_place : HeaderView → ℕ → ℕ
@@ -49,7 +41,7 @@ pub record IsFrameAt (bytes : List ℕ) (h : HeaderView) (k : ℕ) (frame : Fram
 pub record IsGood (bytes : List ℕ) (h : HeaderView) (k : ℕ) : Type 0 where
   pub frame : FrameView
   pub is : IsFrameAt bytes h k frame
-  pub gauss : MeetsGauss h.side h.cells (layout_of h).kinds frame.particles (field_with (layout_of h) frame.e)
+  pub gauss : ObeysGauss (layout_of h) frame
 
 -- the bytes begin with this header and n good frames
 pub record Begins (bytes : List ℕ) (h : HeaderView) (n : ℕ) : Type 0 where

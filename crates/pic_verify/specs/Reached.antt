@@ -5,16 +5,17 @@ use Rattle.pic_io.specs.Source.{with_front}
 use Rattle.pic_fields.specs.Parser.{input}
 use Rattle.pic_fields.specs.Reads.{Moves}
 use Rattle.pic_fields.specs.Bytes.{IsBytes}
-use Rattle.pic_charge.specs.Gauss.{MeetsGauss}
 use Rattle.pic_record.specs.Due.{due_after}
 use Rattle.pic_header.specs.Header.{HeaderView}
-use Rattle.pic_record.specs.FrameFields.{FrameView, frame_length, field_with}
+use Rattle.pic_record.specs.FrameFields.{FrameView, frame_length}
 use Rattle.pic_record.specs.Layout.{LayoutView, layout_of}
 use Rattle.pic_dump.specs.NextReads.{most_of}
 use Rattle.pic_record.specs.Records.{AFrame, record_at}
+use Rattle.pic_dump.specs.InTurn.{due_step, step_before}
 use Rattle.pic_dump.specs.Standing.{Standing}
 use Rattle.pic_verify.specs.Allowed.{IsInHeader}
-use Rattle.pic_verify.specs.Meaning.{due_step, step_before, record_place, Begins}
+use Rattle.pic_verify.specs.Meaning.{record_place, Begins}
+use Rattle.pic_verify.specs.Verified.{ObeysGauss}
 
 -- how many bytes record k has at most: those of a frame where one is due, and else those of the longest
 -- end record and one behind it
@@ -44,7 +45,7 @@ pub record IsGoodAt (l : LayoutView) (place : ℕ) (bytes : List ℕ) (k : ℕ) 
   pub reads : record_at l (step_before l k) (input place bytes)
       ≡ Ok (AFrame frame, input (place + (1 + frame_length l)) (drop (1 + frame_length l) bytes))
   pub step : frame.step ≡ due_step l k
-  pub gauss : MeetsGauss l.side l.cells l.kinds frame.particles (field_with l frame.e)
+  pub gauss : ObeysGauss l frame
 
 -- the same from where a reader stands behind a header
 pub record Reaches (r : Standing) (before now : Told) : Type 0 where

@@ -1,6 +1,6 @@
 -- A small dump whose conditions can be looked over: an ion and an electron that stand on each other in a
 -- box of 2 cells an axis, without fields, and a run that stopped in its first step.
-use Rattle.std.specs.Prelude.{ℤ, pos, negsuc, ℕ, ◌+◌, ◌^◌, List, [], ◌∷◌, replicate, codes}
+use Rattle.std.specs.Prelude.{ℤ, pos, negsuc, ℕ, ◌+◌, ◌^◌, List, [], ◌∷◌, All, replicate, codes}
 use Rattle.pic_num.specs.declared.axis.Axis.TheVariants.{X}
 use Rattle.pic_num.specs.declared.motion.Particle.{Particle}
 use Rattle.pic_num.specs.declared.motion.What.TheVariants.{Speed}
@@ -11,7 +11,9 @@ use Rattle.pic_grid.specs.declared.stop.Stop.TheVariants.{Push}
 use Rattle.pic_grid.specs.Species.{HeadView}
 use Rattle.pic_header.specs.Header.{HeaderView}
 use Rattle.pic_record.specs.FrameFields.{FrameView}
-use Rattle.pic_verify.specs.Readable.{IsReadableDump}
+use Rattle.pic_record.specs.Layout.{layout_of}
+use Rattle.pic_dump.specs.Readable.{IsReadableDump}
+use Rattle.pic_verify.specs.Verified.{ObeysGauss}
 
 abbrev pub one : Multiplier
 one = record { n = pos 1; k = 0 }
@@ -51,5 +53,6 @@ abbrev pub small_end : EndMark
 small_end = Stopped 1 (Push 1 Speed X (pos (2 ^ 40 + 1)))
 
 -- it meets the conditions
-abbrev pub SmallDumpIsReadable : Type 0
-SmallDumpIsReadable = IsReadableDump small_header (small_frame ∷ []) small_end
+pub record SmallDumpIsGood : Type 0 where
+  pub readable : IsReadableDump small_header (small_frame ∷ []) small_end
+  pub gauss : All (ObeysGauss (layout_of small_header)) (small_frame ∷ [])

@@ -3,7 +3,7 @@
 
 ghost use Rattle.pic_verify.specs.Meaning.{VerdictLaw};
 ghost use Rattle.pic_verify.specs.Readable.{DumpsAreVerified};
-ghost use Rattle.pic_verify.specs.SmallDump.{SmallDumpIsReadable};
+ghost use Rattle.pic_verify.specs.SmallDump.{SmallDumpIsGood};
 
 /// What the verdict on some bytes means, said of each record by itself. The verdict is a number of
 /// frames exactly where the bytes are a header, so many frames, each of the format, of the step that
@@ -21,5 +21,5 @@ pub fn law_of_the_verdict()
 /// conditions can be met: a small dump with two particles does.
 pub fn dumps_are_verified()
     ensures verified { DumpsAreVerified }
-    ensures met { SmallDumpIsReadable }
+    ensures met { SmallDumpIsGood }
 {}

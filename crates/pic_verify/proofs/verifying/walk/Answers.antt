@@ -15,7 +15,7 @@ records-init g c = record {
   particles = c.requires.particles;
   nodes = c.requires.nodes;
   limits = c.requires.limits;
-  good = good_none c.args.reader _ c.requires.start;
+  good = good_none c.args.reader _;
 }
 
 pub returns-in_err-behind-clause-walks : goal.returns-in_err-behind-clause-walks
@@ -26,7 +26,7 @@ returns-in-Some-clause-walks g c =
     let reads = rw c.in-Frame.is at c.in_ok-behind.ensures.reads in
     let has : HasFrame _ _ _ _ _ _ _ _ _ = reads.answer in
     let so_far = c.records.invariant.follows in
-    let layout = has.layout ∙ so_far.layout in
+    let layout = has.layout ∙ so_far.on.layout in
     let e = c.next.new.state.e.values in
     let particles = c.next.new.state.particles.items in
     let some : break_of c.args.reader.layout e particles ≡ Some c.in-Some.at =
@@ -38,7 +38,7 @@ records-preserved g c =
     let reads = rw c.in-Frame.is at c.in_ok-behind.ensures.reads in
     let has : HasFrame _ _ _ _ _ _ _ _ _ = reads.answer in
     let before = c.records.invariant in
-    let layout = has.layout ∙ before.follows.layout in
+    let layout = has.layout ∙ before.follows.on.layout in
     let e = c.next.new.state.e.values in
     let particles = c.next.new.state.particles.items in
     let none : break_of c.args.reader.layout e particles ≡ None = ap (λ (l : LayoutView). break_of l e particles) (sym layout)

@@ -14,7 +14,7 @@ invariant-records g l = record {
   particles : length l.state.particles.items ≡ sum l.reader.layout.counts;
   nodes : l.nodes.cells ≡ l.reader.layout.cells;
   limits : IsLayout l.reader.layout;
-  good : AreGood l.initial.reader (g.S.Source.told l.initial.source) l.frame l.reader (g.S.Source.told l.source);
+  good : AreGood l.initial.reader (g.S.Source.told l.initial.source) l.frame (g.S.Source.told l.source);
 }
 
 abbrev pub decreases-records : goal.decreases-records
