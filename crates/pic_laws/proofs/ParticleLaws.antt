@@ -6,32 +6,31 @@ use Rattle.std.proofs.lemmas.List.{take_all, drop_all, take-take, length-append,
 use Rattle.std.proofs.lemmas.List.FromFn.{get_or-map-range_with_len}
 use Rattle.std.proofs.lemmas.Option.{slice_get-get_or}
 use Rattle.pic_num.specs.declared.motion.Particle.{Particle}
-use Rattle.pic_grid.specs.Cells.{Grid}
 use Rattle.pic_deck.specs.declared.species.Fill.{Fill}
 use Rattle.pic_deck.specs.declared.species.Fill.TheVariants.{Points, Lattice, Random, Pair}
 use Rattle.pic_deck.specs.declared.species.Species.{Species}
-use Rattle.pic_deck.specs.Deck.{deck_grid}
-use Rattle.pic_deck.specs.Species.{AreFilled, IsFill, filled_count, no_species, species_at, particles_of}
+use Rattle.pic_deck.specs.Deck.{deck_terms}
+use Rattle.pic_deck.specs.Species.{TermsView, AreFilled, IsFill, filled_count, no_species, species_at, particles_of}
 use Rattle.pic_load.specs.Loading.{no_particle, loaded_particle, beside, id_of, point_in, particles_in, loaded_after, loaded}
 use Rattle.pic_load.specs.Generator.{generator, after}
 use Rattle.pic_load.proofs.LoadLaws.{within_earlier, species_more, count_more, length-particles_in}
 use Rattle.pic_laws.specs.ParticlesOfSpecies.{ParticlesAreThoseOfTheirSpecies}
 
-module _ (grid : Grid) (ss : List Species) where
+module _ (t : TermsView) (ss : List Species) where
   -- the particles of the first n species
   front : ℕ → List Particle
   front zero = []
-  front (suc n) = front n ++ particles_in grid (take n ss) (front n) (species_at ss n)
+  front (suc n) = front n ++ particles_in t.grid (take n ss) (front n) (species_at ss n)
 
   -- the walk with n species behind it
-  walked : (n : ℕ) → n ≤ length ss → loaded_after grid [] [] ss ≡ loaded_after grid (take n ss) (front n) (drop n ss)
+  walked : (n : ℕ) → n ≤ length ss → loaded_after t.grid [] [] ss ≡ loaded_after t.grid (take n ss) (front n) (drop n ss)
   unfolding front
   walked zero most = refl
   walked (suc n) most =
       let more : n + 1 ≡ suc n = omega arith in
       walked n (omega (arith, most))
-      ∙ species_more grid ss (front n) (front (suc n)) n no_species (omega (arith, most)) refl
-      ∙ ap (λ k. loaded_after grid (take k ss) (front (suc n)) (drop k ss)) more
+      ∙ species_more t.grid ss (front n) (front (suc n)) n no_species (omega (arith, most)) refl
+      ∙ ap (λ k. loaded_after t.grid (take k ss) (front (suc n)) (drop k ss)) more
 
   -- as many as these species have
   length-front : (n : ℕ) → n ≤ length ss → length (front n) ≡ particles_of (take n ss)
@@ -39,8 +38,8 @@ module _ (grid : Grid) (ss : List Species) where
   length-front zero most = refl
   length-front (suc n) most =
       let more : n + 1 ≡ suc n = omega arith in
-      length-append (front n) (particles_in grid (take n ss) (front n) (species_at ss n))
-      ∙ (λ i. length-front n (omega (arith, most)) i + length-particles_in grid (take n ss) (front n) (species_at ss n) i)
+      length-append (front n) (particles_in t.grid (take n ss) (front n) (species_at ss n))
+      ∙ (λ i. length-front n (omega (arith, most)) i + length-particles_in t.grid (take n ss) (front n) (species_at ss n) i)
       ∙ sym (count_more ss n no_species (omega (arith, most)))
       ∙ ap (λ k. particles_of (take k ss)) more
 
@@ -56,13 +55,13 @@ module _ (grid : Grid) (ss : List Species) where
         (subst (λ j. k < length (front j)) same below, ap (λ j. get_or (front j) k no_particle) (sym same))
     | inr least ↦
         let before = stays m n k least below in
-        let new = particles_in grid (take n ss) (front n) (species_at ss n) in
+        let new = particles_in t.grid (take n ss) (front n) (species_at ss n) in
         (omega (arith, before.0, length-append (front n) new), get_or_append_left (front n) new no_particle k before.0 ∙ before.1)
   ]
 
   -- the point of a particle is the same beside all particles as beside those of the earlier species
-  same_point : (n i : ℕ) (f : Fill) → n ≤ length ss → IsFill grid (take n ss) f → i < filled_count (take n ss) f
-      → point_in grid (take n ss) (front n) f i ≡ point_in grid ss (front (length ss)) f i
+  same_point : (n i : ℕ) (f : Fill) → n ≤ length ss → IsFill t (take n ss) f → i < filled_count (take n ss) f
+      → point_in t.grid (take n ss) (front n) f i ≡ point_in t.grid ss (front (length ss)) f i
   same_point n i (Points points) most is below = refl
   same_point n i (Lattice first gap count v) most is below = refl
   same_point n i (Random count seed stream drift spread) most is below = refl
@@ -79,33 +78,33 @@ module _ (grid : Grid) (ss : List Species) where
   -- a particle of the species behind the first n
   of_next : (n i : ℕ) → n < length ss → i < (species_at ss n).count
       → get_or (front (suc n)) (id_of ss n i) no_particle
-      ≡ loaded_particle (id_of ss n i) n (point_in grid (take n ss) (front n) (species_at ss n).fill i)
+      ≡ loaded_particle (id_of ss n i) n (point_in t.grid (take n ss) (front n) (species_at ss n).fill i)
   unfolding front particles_in
   of_next n i few below =
       let s = species_at ss n in
       let most : n ≤ length ss = omega (arith, few) in
-      let new = particles_in grid (take n ss) (front n) s in
+      let new = particles_in t.grid (take n ss) (front n) s in
       let start = length-front n most in
       ap (λ k. get_or (front n ++ new) (k + i) no_particle) (sym start)
       ∙ get_or-append-add (front n) new i no_particle
-      ∙ get_or-map-range_with_len (λ j. loaded_particle (length (front n) + j) (length (take n ss)) (point_in grid (take n ss) (front n) s.fill j))
+      ∙ get_or-map-range_with_len (λ j. loaded_particle (length (front n) + j) (length (take n ss)) (point_in t.grid (take n ss) (front n) s.fill j))
       0 s.count i i no_particle below (omega arith)
-      ∙ (λ k. loaded_particle (start k + i) (length-take-le n ss most k) (point_in grid (take n ss) (front n) s.fill i))
+      ∙ (λ k. loaded_particle (start k + i) (length-take-le n ss most k) (point_in t.grid (take n ss) (front n) s.fill i))
 
   -- with all species behind it the walk has them all
-  all_of : loaded_after grid [] [] ss ≡ front (length ss)
+  all_of : loaded_after t.grid [] [] ss ≡ front (length ss)
   unfolding loaded_after
   all_of =
       walked (length ss) (omega arith)
-      ∙ ap (loaded_after grid (take (length ss) ss) (front (length ss))) (drop_all (length ss) ss (omega arith))
+      ∙ ap (loaded_after t.grid (take (length ss) ss) (front (length ss))) (drop_all (length ss) ss (omega arith))
 
   all_count : length (front (length ss)) ≡ particles_of ss
   all_count = length-front (length ss) (omega arith) ∙ ap particles_of (take_all (length ss) ss (omega arith))
 
   -- each stands at the place of its identity
-  each_of : AreFilled grid ss → (n i : ℕ) → n < length ss → i < (species_at ss n).count
+  each_of : AreFilled t ss → (n i : ℕ) → n < length ss → i < (species_at ss n).count
       → slice_get (front (length ss)) (id_of ss n i)
-      ≡ Some (loaded_particle (id_of ss n i) n (point_in grid ss (front (length ss)) (species_at ss n).fill i))
+      ≡ Some (loaded_particle (id_of ss n i) n (point_in t.grid ss (front (length ss)) (species_at ss n).fill i))
   each_of are n i few below =
       let filled = are.each n few in
       let more : n + 1 ≡ suc n = omega arith in
@@ -121,11 +120,11 @@ module _ (grid : Grid) (ss : List Species) where
 pub particles_are_those_of_their_species : ParticlesAreThoseOfTheirSpecies
 unfolding loaded
 particles_are_those_of_their_species d are =
-    let grid = deck_grid d in
-    let all = all_of grid d.species in
+    let t = deck_terms d in
+    let all = all_of t d.species in
     record {
       each = λ number i few below. subst (λ (ps : List Particle). slice_get ps (id_of d.species number i)
-          ≡ Some (loaded_particle (id_of d.species number i) number (point_in grid d.species ps (species_at d.species number).fill i)))
-          (sym all) (each_of grid d.species are number i few below);
-      all = ap length all ∙ all_count grid d.species;
+          ≡ Some (loaded_particle (id_of d.species number i) number (point_in t.grid d.species ps (species_at d.species number).fill i)))
+          (sym all) (each_of t d.species are number i few below);
+      all = ap length all ∙ all_count t d.species;
     }

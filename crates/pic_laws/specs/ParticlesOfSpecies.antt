@@ -2,7 +2,7 @@
 -- the species.
 use Rattle.std.specs.Prelude.{◌≡◌, ℕ, ◌<◌, length, slice_get, Some}
 use Rattle.pic_num.specs.declared.motion.Particle.{Particle}
-use Rattle.pic_deck.specs.Deck.{DeckView, deck_grid}
+use Rattle.pic_deck.specs.Deck.{DeckView, deck_grid, deck_terms}
 use Rattle.pic_deck.specs.Species.{AreFilled, particles_of, species_at}
 use Rattle.pic_load.specs.Loading.{id_of, loaded, loaded_particle, point_in}
 
@@ -23,4 +23,4 @@ pub record AreOfTheirSpecies (d : DeckView) : Type 0 where
 -- those of each deck whose species are filled as a deck's are
 abbrev pub ParticlesAreThoseOfTheirSpecies : Type 0
 ParticlesAreThoseOfTheirSpecies =
-    (d : DeckView) → AreFilled (deck_grid d) d.species → AreOfTheirSpecies d
+    (d : DeckView) → AreFilled (deck_terms d) d.species → AreOfTheirSpecies d

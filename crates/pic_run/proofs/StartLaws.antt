@@ -12,9 +12,10 @@ use Rattle.pic_num.specs.declared.motion.Particle.{Particle}
 use Rattle.pic_num.specs.Multiplier.{Multiplier}
 use Rattle.pic_num.specs.Push.{unless}
 use Rattle.pic_num.specs.Sizes.{IsAtMost}
-use Rattle.pic_num.specs.Limits.{side_1}
+use Rattle.pic_num.specs.Limits.{allowance_of}
 use Rattle.pic_num.specs.Space.{Triple, Spot, spot, along}
 use Rattle.pic_num.specs.Velocity.{IsKeptVelocity}
+use Rattle.pic_num.proofs.VersionLaws.{within_scheme, side_least, side_most}
 use Rattle.pic_grid.specs.declared.snapshot.Snapshot.{Snapshot}
 use Rattle.pic_grid.specs.Lattice.{Field, value_at, field_of}
 use Rattle.pic_grid.specs.Cells.{IsWithin}
@@ -55,7 +56,7 @@ safe_of side n by g mild = record {
 }
 
 -- the kinds of the species are within the limits
-kind_at : (d : DeckView) → AreHeads (heads_of d) → (i : ℕ) → i < length (kinds_of d) → IsKind (get_or (kinds_of d) i no_kind)
+kind_at : (d : DeckView) → AreHeads (allowance_of d.version).particles (heads_of d) → (i : ℕ) → i < length (kinds_of d) → IsKind (get_or (kinds_of d) i no_kind)
 kind_at d heads i below =
     let count = length-map d.species (λ (s : Species). s.kind) in
     let same = length-map d.species head_of in
@@ -65,7 +66,7 @@ kind_at d heads i below =
     let of_kind = get_or-map (λ (s : Species). s.kind) d.species i no_species no_kind inside in
     subst IsKind (ap (λ t. t.kind) of_head ∙ sym of_kind) h
 
-pub kinds_are : (d : DeckView) → AreHeads (heads_of d) → All IsKind (kinds_of d)
+pub kinds_are : (d : DeckView) → AreHeads (allowance_of d.version).particles (heads_of d) → All IsKind (kinds_of d)
 kinds_are d heads = All-from_get_or IsKind (kinds_of d) no_kind (kind_at d heads)
 
 -- each particle of the deck has a share
@@ -82,24 +83,24 @@ pub shares_are : (d : DeckView) (particles : List Particle) → AreLoaded d part
 shares_are d particles loaded = share_at d particles loaded
 
 -- and a velocity that a push could have left
-kept_at : (side : ℕ) (v : Spot) → side ≡ side_1 → ((a : Axis) → IsAtMost (along a v) fastest) → IsKeptVelocity side v
-kept_at side v is speed = record {
-  least = λ a. let s = speed a in omega (arith, ints, s.size, is);
-  most = λ a. let s = speed a in omega (arith, ints, s.size, is);
+kept_at : (side : ℕ) (v : Spot) → ((a : Axis) → IsAtMost (along a v) (fastest side)) → IsKeptVelocity side v
+kept_at side v speed = record {
+  least = λ a. let s = speed a in omega (arith, ints, s.size);
+  most = λ a. let s = speed a in omega (arith, ints, s.size);
 }
 
-speeds_are : (d : DeckView) (particles : List Particle) → d.side ≡ side_1 → AreLoaded d particles
+speeds_are : (d : DeckView) (particles : List Particle) → AreLoaded d particles
     → All (λ particle. IsKeptVelocity d.side (spot particle.v)) particles
-speeds_are d particles side loaded i x below =
+speeds_are d particles loaded i x below =
     let h = All-get_or (IsParticleOf d) particles i x below loaded.each in
-    kept_at d.side (spot (get_or particles i x).v) side h.speed
+    kept_at d.side (spot (get_or particles i x).v) h.speed
 
 -- the first state of a run
 pub sound_start : (d : DeckView) (particles : List Particle) → IsWithinLimits d → AreLoaded d particles
     → state_break (start_of d particles) ≡ None → IsSound (start_of d particles)
 sound_start d particles limits loaded none = record {
-  side_least = let side = limits.settings.side in omega (arith, side);
-  side_most = let side = limits.settings.side in omega (arith, side);
+  side_least = side_least d.version d.side limits.settings.allowed.sides;
+  side_most = side_most d.version d.side limits.settings.allowed.sides;
   cells = limits.settings.cells;
   e = safe_of d.side d.cells d.scales.e_force (initial_e d) limits.e;
   b = safe_of d.side d.cells d.scales.b_force (initial_b d) limits.b;
@@ -109,10 +110,10 @@ sound_start d particles limits loaded none = record {
       let few = limits.heads.few in
       omega (arith, count, same, few);
   kinds = kinds_are d limits.heads;
-  few = le_trans loaded.few (lit≤ tt);
+  few = le_trans loaded.few (within_scheme d.version).particles;
   identities = loaded.identities;
   places = shares_are d particles loaded;
-  velocities = speeds_are d particles limits.settings.side loaded;
+  velocities = speeds_are d particles loaded;
   gauss = gauss_of (start_of d particles) none;
 }
 

@@ -8,18 +8,20 @@ use Rattle.std.proofs.lemmas.List.Elements.{All-append, All-from_get_or, All-nil
 use Rattle.std.proofs.lemmas.List.FromFn.{get_or-map-range_with_len, length-map-range_with_len}
 use Rattle.std.proofs.lemmas.List.Sums.{sum-map, sum_by-cons}
 use Rattle.std.proofs.lemmas.Nat.{mod_below}
+use Rattle.std.proofs.Math.Nat.{mul-le-mul}
 use Rattle.pic_num.specs.declared.axis.Axis.{Axis}
 use Rattle.pic_num.specs.declared.motion.Particle.{Particle}
 use Rattle.pic_num.specs.Sizes.{IsAtMost}
 use Rattle.pic_num.specs.Space.{triple, spot, along}
+use Rattle.pic_num.proofs.VersionLaws.{side_least}
 use Rattle.pic_grid.specs.Cells.{Grid}
 use Rattle.pic_grid.specs.Hat.{IsInBox}
 use Rattle.pic_deck.specs.declared.species.Fill.{Fill}
 use Rattle.pic_deck.specs.declared.species.Fill.TheVariants.{Points, Lattice, Random, Pair}
 use Rattle.pic_deck.specs.declared.species.Species.{Species}
-use Rattle.pic_deck.specs.Deck.{DeckView, deck_grid, heads_of}
+use Rattle.pic_deck.specs.Deck.{DeckView, deck_grid, deck_terms, heads_of}
 use Rattle.pic_grid.specs.Species.{HeadView}
-use Rattle.pic_deck.specs.Species.{Point6, head_of, no_point, no_species, fastest, particles_of, IsFill, filled_count, species_at}
+use Rattle.pic_deck.specs.Species.{TermsView, Point6, head_of, no_point, no_species, fastest, particles_of, IsFill, filled_count, species_at}
 use Rattle.pic_deck.proofs.HeadLaws.{particles_of-heads}
 use Rattle.pic_load.specs.Loading.{no_particle, loaded_particle, point_in, site, id_of, particles_in, loaded_after, loaded, IsPlaced, AreLoaded}
 use Rattle.pic_load.specs.Drawing.{drawn_place, drawn_velocity}
@@ -28,7 +30,7 @@ use Rattle.pic_load.proofs.LoadLaws.{within_earlier, species_more, count_more, l
 use Rattle.pic_record.specs.Layout.{species_of}
 use Rattle.pic_run_laws.specs.KeptDecks.{IsSixfold, IsByThrees, IsKeptDeck}
 use Rattle.pic_run_laws.proofs.Listed.{IsListed}
-use Rattle.pic_run_laws.proofs.DrawnSizes.{drawn_in_box, drawn_slow}
+use Rattle.pic_load.proofs.DrawnSizes.{drawn_in_box, drawn_slow}
 
 -- the species of an identity: behind those of the species before it come its own
 species_of-after : (before after : List ℕ) (count i : ℕ) → i < count → species_of (before ++ count ∷ after) (sum before + i) ≡ length before
@@ -48,7 +50,7 @@ record IsOfDeck (grid : Grid) (kinds : ℕ) (counts : List ℕ) (particle : Part
 record IsGoodPoint (grid : Grid) (point : Point6) : Type 0 where
   six : IsSixfold point
   place : IsInBox grid.side grid.n (triple point.x)
-  speed : (a : Axis) → IsAtMost (along a (spot point.v)) fastest
+  speed : (a : Axis) → IsAtMost (along a (spot point.v)) (fastest grid.side)
 
 -- a box that has some extent
 record IsWide (grid : Grid) : Type 0 where
@@ -57,32 +59,32 @@ record IsWide (grid : Grid) : Type 0 where
   z : 0 < grid.n.z * grid.side
 
 -- each point of what fills a species, after earlier ones
-point_is : (grid : Grid) (kinds : ℕ) (counts : List ℕ) (earlier : List Species) (done : List Particle) (f : Fill) (i : ℕ) → IsWide grid
-    → length done ≡ particles_of earlier → All (IsOfDeck grid kinds counts) done → IsFill grid earlier f → IsByThrees f → i < filled_count earlier f
-    → IsGoodPoint grid (point_in grid earlier done f i)
+point_is : (t : TermsView) (kinds : ℕ) (counts : List ℕ) (earlier : List Species) (done : List Particle) (f : Fill) (i : ℕ) → IsWide t.grid
+    → length done ≡ particles_of earlier → All (IsOfDeck t.grid kinds counts) done → IsFill t earlier f → IsByThrees f → i < filled_count earlier f
+    → IsGoodPoint t.grid (point_in t.grid earlier done f i)
 unfolding site drawn_place drawn_velocity
-point_is grid kinds counts earlier done (Points points) i wide count all fill six below = record {
+point_is t kinds counts earlier done (Points points) i wide count all fill six below = record {
   six = six i no_point below;
   place = (fill.each i below).place;
   speed = (fill.each i below).speed;
 }
-point_is grid kinds counts earlier done (Lattice first gap many v) i wide count all fill six below = record {
+point_is t kinds counts earlier done (Lattice first gap many v) i wide count all fill six below = record {
   six = record { place = refl; speed = six };
   place = record {
-    x = mod_below _ (grid.n.x * grid.side) wide.x;
-    y = mod_below _ (grid.n.y * grid.side) wide.y;
-    z = mod_below _ (grid.n.z * grid.side) wide.z;
+    x = mod_below _ (t.grid.n.x * t.grid.side) wide.x;
+    y = mod_below _ (t.grid.n.y * t.grid.side) wide.y;
+    z = mod_below _ (t.grid.n.z * t.grid.side) wide.z;
   };
   speed = fill.speed;
 }
-point_is grid kinds counts earlier done (Random many seed stream drift spread) i wide count all fill six below =
+point_is t kinds counts earlier done (Random many seed stream drift spread) i wide count all fill six below =
     let g = after (39 * i) (generator seed stream) in
     record {
       six = record { place = refl; speed = refl };
-      place = drawn_in_box grid g wide.x wide.y wide.z;
-      speed = drawn_slow (after 3 g) drift spread (record { mean = fill.1.drift; width = fill.1.spread });
+      place = drawn_in_box t.grid g wide.x wide.y wide.z;
+      speed = drawn_slow t.grid.side (after 3 g) drift spread (record { mean = fill.1.drift; width = fill.1.spread });
     }
-point_is grid kinds counts earlier done (Pair named seed stream drift spread) i wide count all fill six below =
+point_is t kinds counts earlier done (Pair named seed stream drift spread) i wide count all fill six below =
     let g = after (36 * i) (generator seed stream) in
     let room = within_earlier earlier named no_species fill.0 in
     let at = id_of earlier named i in
@@ -91,7 +93,7 @@ point_is grid kinds counts earlier done (Pair named seed stream drift spread) i 
     record {
       six = record { place = other.listed.axes; speed = refl };
       place = other.placed.place;
-      speed = drawn_slow g drift spread (record { mean = fill.1.drift; width = fill.1.spread });
+      speed = drawn_slow t.grid.side g drift spread (record { mean = fill.1.drift; width = fill.1.spread });
     }
 
 -- the deck's species, those before one of them, and the particles of these
@@ -128,11 +130,11 @@ module _ (d : DeckView) (kept : IsKeptDeck d)
     wide : IsWide (deck_grid d)
     wide =
         let cells = kept.limits.settings.cells in
-        let side = kept.limits.settings.side in
+        let side = side_least d.version d.side kept.limits.settings.allowed.sides in
         record { x = product d.cells.x cells.x_least side; y = product d.cells.y cells.y_least side; z = product d.cells.z cells.z_least side }
       where
-        product : (n : ℕ) → 2 ≤ n → d.side ≡ 4096 → 0 < n * d.side
-        product n two side = subst (λ (s : ℕ). 0 < n * s) (sym side) (omega (arith, two))
+        product : (n : ℕ) → 2 ≤ n → 256 ≤ d.side → 0 < n * d.side
+        product n two side = omega (arith, mul-le-mul two side)
 
     more_each : (i : ℕ) (done : List Particle) → i < length d.species → IsLoadedTo d (map (λ s. s.count) (heads_of d)) i done
         → All (IsOfDeck (deck_grid d) (length d.species) (map (λ s. s.count) (heads_of d)))
@@ -153,7 +155,7 @@ module _ (d : DeckView) (kept : IsKeptDeck d)
         let size = length-map-range_with_len make 0 s.count in
         let inside : k < s.count = omega (arith, under, size) in
         let count = filled.count in
-        let point = point_is grid (length ss) counts earlier done s.fill k wide to.count to.each filled.fill threes (omega (arith, inside, count)) in
+        let point = point_is (deck_terms d) (length ss) counts earlier done s.fill k wide to.count to.each filled.fill threes (omega (arith, inside, count)) in
         let is = get_or-map-range_with_len make 0 s.count k k no_particle inside (let e : 0 + k ≡ k = omega arith in e) in
         subst (IsOfDeck grid (length ss) counts) (sym is) (record {
           placed = record { species = omega (arith, number, below); place = point.place; speed = point.speed };
