@@ -39,11 +39,11 @@ pub fuel_lasts : (l : LayoutView) (last : Option ℕ) (n k : ℕ) (i : Input) �
 unfolding read_on
 fuel_lasts l last zero k i least enough =
     alike l last zero k i (λ step j due. (let lies = lies_behind l last step least due in
-        let later = lies.later in
-        let most = lies.most in
-        absurd (omega (arith, enough, later, most)))) (record_at l last i) refl
+    let later = lies.later in
+    let most = lies.most in
+    absurd (omega (arith, enough, later, most)))) (record_at l last i) refl
 fuel_lasts l last (suc n) k i least enough =
     alike l last (suc n) k i (λ step j due. (let lies = lies_behind l last step least due in
-        let later = lies.later in
-        let one : suc n + k ≡ suc (n + k) = omega arith in
-        ap (λ m. read_on m l (Some step) j) one ∙ fuel_lasts l (Some step) n k j least (omega (arith, enough, later)))) (record_at l last i) refl
+    let later = lies.later in
+    let one : suc n + k ≡ suc (n + k) = omega arith in
+    ap (λ m. read_on m l (Some step) j) one ∙ fuel_lasts l (Some step) n k j least (omega (arith, enough, later)))) (record_at l last i) refl

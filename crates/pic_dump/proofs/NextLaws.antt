@@ -7,15 +7,18 @@ use Rattle.pic_io.specs.Told.{Told}
 use Rattle.pic_num.specs.declared.motion.Particle.{Particle}
 use Rattle.pic_grid.specs.Lattice.{Field}
 use Rattle.pic_fields.specs.declared.read_stop.ReadStop.{ReadStop}
-use Rattle.pic_fields.specs.Reads.{Stops}
-use Rattle.pic_fields.proofs.ReadLaws.{stops_up}
+use Rattle.pic_fields.specs.Parser.{input}
+use Rattle.pic_fields.specs.Reads.{HasRead, Stops}
+use Rattle.pic_fields.proofs.ReadLaws.{some_rest, stops_up}
 use Rattle.pic_dump.specs.declared.dump_reader.Next.{Next}
 use Rattle.pic_record.specs.RecordText.{frame_tag}
 use Rattle.pic_record.specs.Due.{due_after}
+use Rattle.pic_record.specs.FrameFields.{FrameView, frame_length}
+use Rattle.pic_record.specs.Readable.{IsReadableFrame}
+use Rattle.pic_record.proofs.FormatLaws.{frames_read_are_readable}
 use Rattle.pic_record.specs.Limits.{longest_end}
 use Rattle.pic_record.specs.Layout.{LayoutView}
-use Rattle.pic_record.specs.FrameFields.{frame_length}
-use Rattle.pic_record.specs.Records.{is_tag, record_at}
+use Rattle.pic_record.specs.Records.{AFrame, is_tag, record_at}
 use Rattle.pic_dump.specs.Standing.{Standing, IsStanding, passed}
 use Rattle.pic_dump.specs.NextReads.{NextReads, most_of, record_most}
 use Rattle.pic_record.proofs.MarkLaws.{two_marks}
@@ -49,6 +52,13 @@ frame_after steps every (Some s) tag least passes frame = elim (cases_lt s steps
 pub due_most : (due : Option ℕ) (n : ℕ) → IfSome due (λ step. step ≤ n) → unwrap_or due 0 ≤ n
 due_most None n most = omega arith
 due_most (Some step) n most = most
+
+-- a frame that was read, whatever the source tells
+pub readable_frame : (l : LayoutView) (last : Option ℕ) (f : FrameView) {s e : ℕ} {x z : Told} → HasRead (record_at l last) s x (AFrame f) e z → IsReadableFrame l f
+readable_frame l last f {s = s} {e = e} {z = z} read =
+    let (rest, left) = some_rest z in
+    let (held, was, is) = read.reads rest left in
+    frames_read_are_readable l last f (input s held) (input e rest) is
 
 -- the reader behind a frame
 pub stands_behind : (r : Standing) (tag count : ℕ) → IsStanding r → count < 2 ^ 29 → is_tag (due_after r.layout.steps r.layout.every r.last) r.last tag ≡ true

@@ -12,10 +12,12 @@ use Rattle.pic_record.specs.Layout.{LayoutView}
 use Rattle.pic_dump.specs.declared.dump_reader.Next.{Next}
 use Rattle.pic_dump.specs.declared.dump_reader.Next.TheVariants.{Frame, End}
 use Rattle.pic_record.specs.FrameFields.{frame_of, frame_length, IsHeld}
+use Rattle.pic_record.specs.Readable.{IsReadableFrame}
 use Rattle.pic_record.specs.Records.{AFrame, AnEnd, record_at}
 use Rattle.pic_dump.specs.Standing.{Standing, passed}
 
--- a frame was read, of a step after the last one's and among the steps, and the reader stands behind it
+-- a frame was read, within its limits, of a step after the last one's and among the steps, and the
+-- reader stands behind it
 pub record HasFrame (r : Standing) (before now : Told) (e b : Field) (particles : List Particle) (behind : Standing) (step : ℕ)
     (energies : Energies) : Type 0 where
   pub read : HasRead (record_at r.layout r.last) r.place before (AFrame (frame_of step e.values b.values particles energies)) behind.place now
@@ -26,6 +28,7 @@ pub record HasFrame (r : Standing) (before now : Told) (e b : Field) (particles 
   pub later : passed r.last ≤ step
   pub most : step ≤ r.layout.steps
   pub held : IsHeld r.layout e b particles
+  pub readable : IsReadableFrame r.layout (frame_of step e.values b.values particles energies)
 
 -- how many bytes may be taken for the next record: those of a frame where one is due, and else those of
 -- the longest end record and one behind it

@@ -1,13 +1,12 @@
 //! A dump, read record by record.
 
 ghost use Rattle.std.specs.Prelude.{◌≡◌, ◌+◌, ◌*◌, ◌<◌, ◌≤◌, ◌^◌, length, sum, Option, Some, None, IfOk, IfSome, IsTrue};
-ghost use Rattle.pic_header.specs.Limits.{header_length};
+ghost use Rattle.pic_header.specs.HeaderFields.{header_length, header_at, header_most};
 ghost use Rattle.pic_fields.specs.Parser.{checked};
 ghost use Rattle.pic_fields.specs.Number.{byte_at};
 ghost use Rattle.pic_fields.specs.Reads.{Reads, as_it_is};
 ghost use Rattle.pic_record.specs.Fields.{wrong_tag};
 ghost use Rattle.pic_record.specs.FrameFields.{frame_length, IsSameShape};
-ghost use Rattle.pic_header.specs.HeaderFields.{header_at, header_most};
 ghost use Rattle.pic_header.specs.HeadReads.{HeadReads, TakesWithin};
 ghost use Rattle.pic_record.specs.Layout.{IsLayout, layout_of};
 ghost use Rattle.pic_dump.specs.NextReads.{NextReads, AtEnd};
@@ -16,7 +15,7 @@ ghost use Rattle.pic_record.specs.Records.{is_tag};
 use pic_energy::Energies;
 use pic_fields::{Cause, ReadStop, read_byte};
 use pic_grid::{Cells, EndMark, Snapshot};
-use pic_header::{FRONT_BYTES, HEAD_BYTES, HeadStop, Header, read_header};
+use pic_header::{HeadStop, Header, read_header};
 use pic_io::Source;
 use pic_num::Kind;
 use pic_record::{Layout, due_after, read_end_record, read_frame};
@@ -75,12 +74,12 @@ impl DumpReader {
     /// beyond the place of its first fault.
     pub fn head<S: Source>(alloc: Global, source: &mut S) -> Result<(DumpReader, Header), HeadStop>
         ensures reads { HeadReads (λ r. r.1) header_at 0
-            (λ h. header_length (length h.species)) header_most
+            header_length header_most
             (S.told source.old) (S.told source.new) result }
         ensures within { TakesWithin header_at 0 (S.told source.old) (S.told source.new) }
         ensures stands { IfOk result (λ r. r.0 ≡ record {
           layout = layout_of r.1;
-          place = header_length (length r.1.species);
+          place = header_length r.1;
           last = None;
         }) }
     {
@@ -93,11 +92,11 @@ impl DumpReader {
     fn behind(alloc: Global, header: &Header) -> Result<DumpReader, pic_num::NoMemory>
         ensures { IfOk result (λ r. r ≡ record {
           layout = layout_of header.now;
-          place = header_length (length header.now.species);
+          place = header_length header.now;
           last = None;
         }) }
     {
-        let place = FRONT_BYTES + HEAD_BYTES * header.species().as_slice().len() as u64;
+        let place = header.length();
         let layout = Layout::of_header(alloc, header)?;
         Ok(DumpReader {
             layout,
@@ -141,7 +140,9 @@ impl DumpReader {
     /// The record's mark is taken alone, and a frame then in pieces of up to 65536 bytes. No byte
     /// behind the record is taken, but for one that tells that the input doesn't end there, and no
     /// memory. The snapshot has the header's numbers of cells and particles, and the end of the dump
-    /// leaves it as it was. At an error the reader is gone.
+    /// leaves it as it was. After a frame its values are within their bounds, and its particles have
+    /// the identities 0, 1, 2 and so on, their species, and velocities that a push keeps. At an error
+    /// the reader is gone.
     pub fn next<S: Source>(self, source: &mut S, state: &mut Snapshot) -> Result<Next, ReadStop>
         requires e { state.old.e.cells ≡ self.layout.cells }
         requires b { state.old.b.cells ≡ self.layout.cells }

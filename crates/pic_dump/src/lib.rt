@@ -13,6 +13,6 @@ pub use pic_header::{
     keep_scales, put_header,
 };
 pub use pic_record::{
-    ends_are_read, frames_are_due_in_turn, frames_are_read, put_end, put_frame,
-    records_have_one_spelling,
+    ends_are_read, frames_are_due_in_turn, frames_are_read, frames_read_are_readable, put_end,
+    put_frame, records_have_one_spelling,
 };

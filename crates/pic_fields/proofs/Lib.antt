@@ -7,6 +7,7 @@ pub mod Spells
 pub mod SpellLaws
 pub mod NumberLaws
 pub mod FitLaws
+pub mod GiveLaws
 pub mod LengthLaws
 pub mod PieceLaws
 pub mod BehindLaws

@@ -2,6 +2,7 @@ pub mod NameLaws
 pub mod HeadLaws
 pub mod HeadReadLaws
 pub mod RunLaws
+pub mod HeaderGives
 pub mod WithinLaws
 pub mod HeaderSpells
 pub mod SpellingLaws

@@ -24,10 +24,10 @@ use Rattle.pic_fields.specs.Number.{is_from_to, is_between}
 use Rattle.pic_fields.specs.Bytes.{IsBytes}
 use Rattle.pic_fields.proofs.NumberLaws.{FitsU32, FitsI32}
 use Rattle.pic_fields.proofs.SpellLaws.{fits_each}
-use Rattle.pic_header.specs.HeaderText.{form_length, name_bytes, header_bytes}
+use Rattle.pic_header.specs.HeaderText.{name_bytes, header_bytes}
 use Rattle.pic_header.specs.Header.{HeaderView, IsHeader, HasMultipliers}
 use Rattle.pic_header.specs.Limits.{most_steps}
-use Rattle.pic_header.specs.HeaderFields.{name_of, is_name_field, particles_of}
+use Rattle.pic_header.specs.HeaderFields.{name_of, is_name_field, particles_of, header_length}
 use Rattle.pic_header.proofs.HeaderSpells.{FitsName, FitsHead, FitsFormBy, FitsHeader, spells_header}
 use Rattle.pic_header.proofs.RunLaws.{header_place}
 use Rattle.pic_header.specs.Readable.{HeadersAreRead}
@@ -208,8 +208,8 @@ pub headers_are_read : HeadersAreRead
 headers_are_read h is place rest = spells_header.again place rest h (header_fits h is)
 
 -- how many bytes its text has
-pub header_length : (h : HeaderView) → IsHeader h → length (header_bytes h) ≡ 64 + form_length h.version + 60 * length h.species
-header_length h is =
+pub text_length : (h : HeaderView) → IsHeader h → length (header_bytes h) ≡ header_length h
+text_length h is =
     let size = length (header_bytes h) in
     let end = header_place (input 0 (header_bytes h ++ [])) (input (0 + size) []) h (headers_are_read h is 0 []) in
     omega (arith, end)

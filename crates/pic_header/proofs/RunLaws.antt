@@ -11,7 +11,7 @@ use Rattle.pic_grid.specs.Species.{HeadView}
 use Rattle.pic_num.specs.Limits.{allowance_of}
 use Rattle.pic_header.specs.HeaderText.{form_length}
 use Rattle.pic_header.specs.HeaderFields.{version_at, mark_at, axis_at, cells_at, mult_at, scales_at, front_at, form_of_2, form_at, kind_at, name_at}
-use Rattle.pic_header.specs.HeaderFields.{head_at, heads_at, header_of, header_at}
+use Rattle.pic_header.specs.HeaderFields.{head_at, heads_at, header_of, header_at, header_length}
 
 -- a value lies n bytes on, and a fault not before the start
 abbrev pub RunsTo : {A : Type 0} → ℕ → ℕ → Parsed A → Type 0
@@ -219,7 +219,7 @@ heads_end most i j heads is =
     omega (arith, first, second, size)
 
 -- what follows a header
-pub header_place : (i j : Input) (h : HeaderView) → header_at i ≡ Ok (h, j) → j.place ≡ i.place + 64 + form_length h.version + 60 * length h.species
+pub header_place : (i j : Input) (h : HeaderView) → header_at i ≡ Ok (h, j) → j.place ≡ i.place + header_length h
 unfolding header_at done
 header_place i j h is =
     let (version, i1, e1, r1) = bind_parts mark_at _ i j h is in
@@ -227,11 +227,10 @@ header_place i j h is =
     let (side, i3, e3, r3) = bind_parts (form_at version) _ i2 j h r2 in
     let (heads, i4, e4, r4) = bind_parts (heads_at (allowance_of version).particles) (λ heads. done (header_of version front side heads)) i3 j h r3 in
     let (value, here) = same_read _ h i4 j r4 in
-    let size : length heads ≡ length h.species = ap (λ (g : HeaderView). length g.species) value in
-    let form : form_length version ≡ form_length h.version = ap (λ (g : HeaderView). form_length g.version) value in
+    let size : 64 + form_length version + 60 * length heads ≡ header_length h = ap (λ (g : HeaderView). header_length g) value in
     let end : i4.place ≡ j.place = ap (λ (k : Input). k.place) here in
     let a : i1.place ≡ i.place + 8 = place_by _ 8 i i1 version runs_mark e1 in
     let b : i2.place ≡ i1.place + 52 = place_by _ 52 i1 i2 front (runs_front version) e2 in
     let c : i3.place ≡ i2.place + form_length version = place_by _ (form_length version) i2 i3 side (runs_form version) e3 in
     let d : i4.place ≡ i3.place + 4 + 60 * length heads = heads_end _ i3 i4 heads e4 in
-    omega (arith, a, b, c, d, size, form, end)
+    omega (arith, a, b, c, d, size, end)

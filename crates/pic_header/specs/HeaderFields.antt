@@ -1,5 +1,5 @@
 -- The header of a dump, field by field: this project's profile.
-use Rattle.std.specs.Prelude.{◌≡◌, pos, negsuc, ℕ, ◌-◌, ◌+◌, ◌^◌, ◌<◌, ◌≤◌, Bool, not, ◌&&◌, ◌==◌, nat_eq, nat_le, if◌then◌else◌}
+use Rattle.std.specs.Prelude.{◌≡◌, pos, negsuc, ℕ, ◌-◌, ◌+◌, ◌*◌, ◌^◌, ◌<◌, ◌≤◌, Bool, not, ◌&&◌, ◌==◌, nat_eq, nat_le, if◌then◌else◌}
 use Rattle.std.specs.Prelude.{bytes_eq, List, [], ◌∷◌, length, drop, sum_by, slice_index_or, codes}
 use Rattle.std.specs.List.{list_all, list_any}
 use Rattle.pic_num.specs.declared.motion.Kind.{Kind}
@@ -13,7 +13,7 @@ use Rattle.pic_fields.specs.declared.cause.Cause.TheVariants.{WrongLetter, OutOf
 use Rattle.pic_fields.specs.Parser.{Parser, field, done, ◌>>=◌, checked, mapped, each}
 use Rattle.pic_fields.specs.Number.{byte_at, is_from_to, within, exactly, between}
 use Rattle.pic_header.specs.Header.{HeaderView}
-use Rattle.pic_header.specs.HeaderText.{zero_digit}
+use Rattle.pic_header.specs.HeaderText.{zero_digit, form_length}
 use Rattle.pic_header.specs.Limits.{most_steps, most_letters}
 
 -- the causes of a fault in the header, but for a field that the end of the input cuts
@@ -140,6 +140,10 @@ header_at =
     >>= (λ front. form_at version
     >>= (λ side. heads_at (allowance_of version).particles
     >>= (λ heads. done (header_of version front side heads)))))
+
+-- how many bytes a header has
+abbrev pub header_length : HeaderView → ℕ
+header_length h = 64 + form_length h.version + 60 * length h.species
 
 -- the bytes of the longest header
 abbrev pub header_most : ℕ

@@ -9,8 +9,8 @@ ghost use Rattle.pic_fields.specs.Causes.{cause_number};
 ghost use Rattle.pic_fields.specs.Parser.{each};
 ghost use Rattle.pic_fields.specs.Reads.{Reads, as_it_is};
 ghost use Rattle.pic_header.specs.Header.{HasLimits, AreCellsOf};
-ghost use Rattle.pic_header.specs.HeaderText.{form_length, header_bytes};
-ghost use Rattle.pic_header.specs.HeaderFields.{IsNewHead, Front as FrontOf, version_at, mark_at, axis_at, cells_at, front_at, form_of_2, form_at, mult_at, scales_at, kind_at, name_of, is_name_field, is_new_name_field, name_at, particles_of, head_at, heads_at, header_at, header_most};
+ghost use Rattle.pic_header.specs.HeaderText.{form_length};
+ghost use Rattle.pic_header.specs.HeaderFields.{header_length, IsNewHead, Front as FrontOf, version_at, mark_at, axis_at, cells_at, front_at, form_of_2, form_at, mult_at, scales_at, kind_at, name_of, is_name_field, is_new_name_field, name_at, particles_of, head_at, heads_at, header_at, header_most};
 ghost use Rattle.pic_header.specs.HeadReads.{HeadReads, TakesWithin};
 
 use crate::head::{Head, Heads};
@@ -299,7 +299,7 @@ fn read_heads<S: Source>(
 
 /// Reads the header, field by field.
 pub fn read_header<S: Source>(alloc: Global, source: &mut S) -> Result<Header, HeadStop>
-    ensures reads { HeadReads (λ h. h) header_at 0 (λ h. length (header_bytes h))
+    ensures reads { HeadReads (λ h. h) header_at 0 header_length
         header_most (S.told source.old) (S.told source.new) result }
     ensures within { TakesWithin header_at 0 (S.told source.old) (S.told source.new) }
     ensures few { IfOk result (λ h. length h.species ≤ most_species) }

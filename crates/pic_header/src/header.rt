@@ -4,7 +4,7 @@ ghost use Rattle.std.specs.Prelude.{◌≡◌, ◌≤◌, All, length};
 ghost use Rattle.pic_grid.specs.Cells.{IsCells};
 ghost use Rattle.pic_header.specs.Header.{HeaderView, header_with, HasLimits, HasMultipliers, AreMultipliers, IsHeader};
 ghost use Rattle.pic_header.specs.HeaderText.{header_bytes};
-ghost use Rattle.pic_header.specs.HeaderFields.{header_most};
+ghost use Rattle.pic_header.specs.HeaderFields.{header_length, header_most};
 
 use crate::head::{Head, Heads};
 use crate::heading::{FRONT_BYTES, HEAD_BYTES, form_length};
@@ -48,8 +48,7 @@ impl Header {
         species: Heads,
     ) -> Header
         requires { HasLimits (header_with version cells steps every scales species) }
-        ensures value { result ≡ header_with version cells steps every scales species }
-        ensures limits { IsHeader result }
+        ensures { result ≡ header_with version cells steps every scales species }
     {
         keep_cells(cells);
         keep_scales(&scales);
@@ -113,8 +112,9 @@ impl Header {
 
     /// How many bytes its text has.
     pub fn length(&self) -> u64
-        ensures value { result ≡ length (header_bytes self.now) }
-        ensures most { result ≤ header_most }
+        ensures value { result ≡ header_length self.now }
+        ensures text { length (header_bytes self.now) ≡ header_length self.now }
+        ensures most { header_length self.now ≤ header_most }
     {
         let species = self.species.as_slice().len() as u64;
         FRONT_BYTES + form_length(self.version) + HEAD_BYTES * species

@@ -1,12 +1,13 @@
--- What the format alone says of a record that was read: of a frame, its step and its length, and of an
--- end record, that nothing is behind it.
-use Rattle.std.proofs.Common.{◌≡◌, ℕ, ◌+◌, ◌*◌, Bool, true, false, List, [], ◌∷◌, length, Option, Some, Ok, refl, sym, ap, subst, ◌∙◌, arith, eqb, if◌then◌else◌}
-use Rattle.std.specs.Prelude.{nat_eq, sum, unwrap_or}
+-- What the format alone says of a record that was read: of a frame, its step, its length, and that it can
+-- be put, and of an end record, that nothing is behind it.
+use Rattle.std.proofs.Common.{◌≡◌, ℕ, ◌+◌, ◌*◌, Bool, true, false, List, [], ◌∷◌, length, drop, Option, Some, Ok, refl, sym, ap, subst, ◌∙◌, arith, eqb, if◌then◌else◌}
+use Rattle.std.specs.Prelude.{⊤, nat_eq, sum, unwrap_or}
 use Rattle.pic_grid.specs.Cells.{count_of}
 use Rattle.pic_grid.specs.declared.stop.EndMark.{EndMark}
 use Rattle.pic_grid.specs.declared.stop.EndMark.TheVariants.{Done, Stopped}
 use Rattle.pic_fields.specs.Parser.{Input, input, Parser, done, ◌>>=◌, mapped, checked, ended, finished}
 use Rattle.pic_fields.specs.Number.{byte_of, byte_at, u32_of, u32_at}
+use Rattle.pic_fields.proofs.GiveLaws.{IsFurther, further_then, further_left, Gives, gives_any, gives_mapped, gives_checked, gives_field}
 use Rattle.pic_fields.proofs.LengthLaws.{IsOfLength, of_length, of_then, of_mapped, of_field, of_checked, Leaves}
 use Rattle.pic_fields.proofs.SpellLaws.{same_read, bind_parts, passed_test}
 use Rattle.pic_record.specs.RecordText.{frame_tag}
@@ -16,6 +17,8 @@ use Rattle.pic_record.specs.Layout.{LayoutView}
 use Rattle.pic_record.specs.FrameFields.{FrameView, frame_of, field_at, particles_at, energies_at, state_at, frame_at, frame_length}
 use Rattle.pic_record.specs.EndFields.{first_after, done_at, field_end_at, push_end_at, end_of_kind, end_at}
 use Rattle.pic_record.specs.Records.{RecordView, AFrame, AnEnd, is_tag, last_record, behind_tag, record_at}
+use Rattle.pic_record.specs.Readable.{IsReadableFrame, FramesReadAreReadable}
+use Rattle.pic_record.proofs.FrameGives.{gives_frame}
 use Rattle.pic_record.proofs.PartLaws.{of_values, of_particles, of_energies}
 use Rattle.pic_record.proofs.MarkLaws.{of_frame, of_end, due_is}
 
@@ -94,21 +97,27 @@ frame_step l d i j f is =
 -- what is known of a frame that was read
 pub record FrameRead (l : LayoutView) (last : Option ℕ) (i j : Input) (f : FrameView) : Type 0 where
   pub due : due_after l.steps l.every last ≡ Some f.step
+  pub end : j ≡ input (i.place + (1 + frame_length l)) (drop (1 + frame_length l) i.bytes)
   pub size : length j.bytes + (1 + frame_length l) ≡ length i.bytes
+  pub fits : IsReadableFrame l f
 
 tag_size : (last due : Option ℕ) → IsOfLength (checked wrong_tag (is_tag due last) byte_at) 1
 unfolding byte_at
 tag_size last due = of_checked wrong_tag (is_tag due last) 1 (of_mapped byte_of 1 (of_field 1))
+
+gives_mark : (last due : Option ℕ) → Gives (checked wrong_tag (is_tag due last) byte_at) (λ tag. ⊤)
+unfolding byte_at
+gives_mark last due = gives_any (gives_checked wrong_tag (is_tag due last) (gives_mapped {G = λ b. ⊤} byte_of (λ b is. tt) (gives_field 1)))
 
 left_of : {A : Type 0} (p : Parser A) (n : ℕ) (i j : Input) (a : A) → IsOfLength p n → p i ≡ Ok (a, j) → length j.bytes + n ≡ length i.bytes
 left_of p n i j a size is = subst (Leaves n (length i.bytes)) is (size.leaves i)
 
 -- a record by its mark
 behind_frame : (l : LayoutView) (last : Option ℕ) (i k j : Input) (f : FrameView) (tag : ℕ) (v : Bool) → eqb tag frame_tag ≡ v
-    → is_tag (due_after l.steps l.every last) last tag ≡ true → length k.bytes + 1 ≡ length i.bytes
+    → is_tag (due_after l.steps l.every last) last tag ≡ true → IsFurther i k → length k.bytes + 1 ≡ length i.bytes
     → behind_tag l last (due_after l.steps l.every last) tag k ≡ Ok (AFrame f, j) → FrameRead l last i j f
 unfolding mapped done
-behind_frame l last i k j f tag true e passes one is =
+behind_frame l last i k j f tag true e passes behind one is =
     let due = due_after l.steps l.every last in
     let read : mapped AFrame (frame_at l (unwrap_or due 0)) k ≡ Ok (AFrame f, j) = ap (λ p. p k) (sym (of_frame l last due tag e)) ∙ is in
     let (g, n, e1, e2) = bind_parts (frame_at l (unwrap_or due 0)) (λ a. done (AFrame a)) k j (AFrame f) read in
@@ -117,11 +126,16 @@ behind_frame l last i k j f tag true e passes one is =
     let step : g.step ≡ unwrap_or due 0 = frame_step l (unwrap_or due 0) k n g e1 in
     let size = left_of (frame_at l (unwrap_or due 0)) (frame_length l) k n g (frame_size l (unwrap_or due 0)) e1 in
     let end : length n.bytes ≡ length j.bytes = ap (λ (m : Input). length m.bytes) here in
+    let gives = gives_frame l (unwrap_or due 0) in
+    let whole : length j.bytes + (1 + frame_length l) ≡ length i.bytes = omega (arith, one, size, end) in
+    let further = subst (IsFurther i) here (further_then i k n behind (gives.further k n g e1)) in
     record {
       due = due_is due last tag passes e ∙ ap (λ s. Some s) (sym step ∙ ap (λ (h : FrameView). h.step) same);
-      size = omega (arith, one, size, end);
+      end = further_left i j (1 + frame_length l) further whole;
+      size = whole;
+      fits = subst (IsReadableFrame l) same (gives.is k n g e1);
     }
-behind_frame l last i k j f tag false e passes one is =
+behind_frame l last i k j f tag false e passes behind one is =
     let due = due_after l.steps l.every last in
     let (m, other, end) = (last_end l last due).ends k j (AFrame f) (ap (λ p. p k) (sym (of_end l last due tag e)) ∙ is) in
     absurd cc
@@ -132,7 +146,11 @@ frame_read l last i j f is =
     let due = due_after l.steps l.every last in
     let (tag, k, e1, e2) = bind_parts (checked wrong_tag (is_tag due last) byte_at) (behind_tag l last due) i j (AFrame f) is in
     let (read, good) = passed_test i.place wrong_tag (is_tag due last) (byte_at i) tag k e1 in
-    behind_frame l last i k j f tag (eqb tag frame_tag) refl good (left_of _ 1 i k tag (tag_size last due) e1) e2
+    let mark = (gives_mark last due).further i k tag e1 in
+    behind_frame l last i k j f tag (eqb tag frame_tag) refl good mark (left_of _ 1 i k tag (tag_size last due) e1) e2
+
+pub frames_read_are_readable : FramesReadAreReadable
+frames_read_are_readable l last f i j is = (frame_read l last i j f is).fits
 
 behind_end : (l : LayoutView) (last due : Option ℕ) (k j : Input) (m : EndMark) (tag : ℕ) (v : Bool) → eqb tag frame_tag ≡ v
     → behind_tag l last due tag k ≡ Ok (AnEnd m, j) → j.bytes ≡ []

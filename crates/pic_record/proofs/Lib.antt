@@ -9,6 +9,7 @@ pub mod EndSpells
 pub mod RecordSpells
 pub mod SpellingLaws
 pub mod FitLaws
+pub mod FrameGives
 pub mod FormatLaws
 pub mod EnergyLaws
 pub mod ReadableFrame

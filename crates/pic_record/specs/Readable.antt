@@ -17,7 +17,7 @@ use Rattle.pic_grid.specs.declared.stop.EndMark.TheVariants.{Done, Stopped}
 use Rattle.pic_grid.specs.Cells.{IsWithin, count_of}
 use Rattle.pic_grid.specs.Hat.{IsInBox}
 use Rattle.pic_energy.specs.Energies.{energies_of}
-use Rattle.pic_fields.specs.Parser.{input}
+use Rattle.pic_fields.specs.Parser.{Input, input}
 use Rattle.pic_record.specs.Due.{due_after}
 use Rattle.pic_record.specs.RecordText.{end_bytes}
 use Rattle.pic_record.specs.EndFields.{bound_limit, what_limit}
@@ -54,6 +54,11 @@ abbrev pub FramesAreRead : Type 0
 FramesAreRead =
     (l : LayoutView) (last : Option ℕ) (f : FrameView) → IsLayout l → due_after l.steps l.every last ≡ Some f.step → IsReadableFrame l f
     → IsReadFrom (record_at l last) (record_bytes l (AFrame f)) (AFrame f)
+
+-- and every frame that is read, of any list of numbers
+abbrev pub FramesReadAreReadable : Type 0
+FramesReadAreReadable =
+    (l : LayoutView) (last : Option ℕ) (f : FrameView) (i j : Input) → record_at l last i ≡ Ok (AFrame f, j) → IsReadableFrame l f
 
 -- a value past a limit, of 128 bits
 pub record IsPast (limit : ℕ) (value : ℤ) : Type 0 where

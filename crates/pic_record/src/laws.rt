@@ -2,7 +2,7 @@
 //! nothing.
 
 ghost use Rattle.pic_record.specs.DueInTurn.{FramesAreDueInTurn};
-ghost use Rattle.pic_record.specs.Readable.{FramesAreRead, EndsAreRead};
+ghost use Rattle.pic_record.specs.Readable.{FramesAreRead, FramesReadAreReadable, EndsAreRead};
 ghost use Rattle.pic_record.specs.Spelling.{RecordsAreSpelled, NoRecordBeginsAnother};
 
 /// The frames that a reader awaits, one after another, are those that a run puts: the first is that
@@ -16,6 +16,13 @@ pub fn frames_are_due_in_turn()
 /// follows it.
 pub fn frames_are_read()
     ensures { FramesAreRead }
+{}
+
+/// Every frame that is read is within the limits of the layout: its values are moderate, its particles
+/// have the identities 0, 1, 2 and so on, lie in the box and have velocities that a push keeps, and its
+/// energies are those of its state.
+pub fn frames_read_are_readable()
+    ensures { FramesReadAreReadable }
 {}
 
 /// The text of an end record that fits behind the last frame is read as that record, where nothing

@@ -18,5 +18,8 @@ pub use end_reader::read_end_record;
 pub use ending::put_end;
 pub use frame_reader::read_frame;
 pub use framing::put_frame;
-pub use laws::{ends_are_read, frames_are_due_in_turn, frames_are_read, records_have_one_spelling};
+pub use laws::{
+    ends_are_read, frames_are_due_in_turn, frames_are_read, frames_read_are_readable,
+    records_have_one_spelling,
+};
 pub use layout::Layout;

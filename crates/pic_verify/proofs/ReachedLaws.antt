@@ -11,7 +11,6 @@ use Rattle.pic_grid.specs.Lattice.{Field}
 use Rattle.pic_energy.specs.declared.amounts.Energies.{Energies}
 use Rattle.pic_fields.specs.Parser.{Input, input, Parsed}
 use Rattle.pic_fields.specs.Reads.{Left, Moves, HasRead}
-use Rattle.pic_fields.specs.Bytes.{IsBytes}
 use Rattle.pic_fields.proofs.ReadLaws.{moves_then, some_rest}
 use Rattle.pic_record.specs.Due.{due_after}
 use Rattle.pic_header.specs.Header.{HeaderView}
@@ -173,10 +172,10 @@ good_in bytes h rest place k place_is rest_is good =
     }
 
 -- no byte behind a header
-by_record : (bytes : List ℕ) (n : ℕ) (r : Parsed HeaderView) → header_at (input 0 bytes) ≡ r → n ≤ header_most → n ≤ reach_of r → IsBytes bytes
+by_record : (bytes : List ℕ) (n : ℕ) (r : Parsed HeaderView) → header_at (input 0 bytes) ≡ r → n ≤ header_most → n ≤ reach_of r
     → IsInHeader bytes n ⊎ ReachesRecord bytes n
-by_record bytes n (Ok x) is most near small =
-    let end = (header_end bytes x.0 x.1 small is).end in
+by_record bytes n (Ok x) is most near =
+    let end = (header_end bytes x.0 x.1 is).end in
     let place_is : x.1.place ≡ record_place x.0 0 = ap (λ (i : Input). i.place) end in
     inr (record {
       header = x.0;
@@ -184,7 +183,7 @@ by_record bytes n (Ok x) is most near small =
       begins = record { header = is ∙ ap (λ i. Ok (x.0, i)) end; good = λ k less. absurd (omega (arith, less)) };
       most = omega (arith, near, place_is);
     })
-by_record bytes n (Err f) is most near small = inl (record { fault = f; fails = is; most = most; near = near })
+by_record bytes n (Err f) is most near = inl (record { fault = f; fails = is; most = most; near = near })
 
 pub stops_reached : {B : Type 0} (view : B → HeaderView) (end : HeaderView → ℕ) (x z : Told) (stop : HeadStop)
     → HeadReads view header_at 0 end header_most x z (Err stop) → TakesWithin header_at 0 x z → TakesToRecord x z
@@ -194,8 +193,8 @@ stops_reached view end x z stop first within =
     record {
       front = moves.front;
       taken = moves.moved;
-      most = λ bytes told small. by_record bytes (length moves.front) (header_at (input 0 bytes)) refl (omega (arith, most))
-          (taken_size x z moves bytes within told) small;
+      most = λ bytes told. by_record bytes (length moves.front) (header_at (input 0 bytes)) refl (omega (arith, most))
+          (taken_size x z moves bytes within told);
     }
 
 pub reached_head : (h : HeaderView) (place : ℕ) (x y : Told) → HasRead header_at 0 x h place y → TakesToRecord x y
@@ -204,8 +203,8 @@ reached_head h place x y first =
     record {
       front = first.moves.front;
       taken = first.moves.moved;
-      most = λ bytes told small. inr (let (rest, left, read) = read_told bytes first told in
-          let end = (header_end bytes h (input place rest) small read).end in
+      most = λ bytes told. inr (let (rest, left, read) = read_told bytes first told in
+          let end = (header_end bytes h (input place rest) read).end in
           let place_is : place ≡ record_place h 0 = ap (λ (i : Input). i.place) end in
           record {
             header = h;
@@ -225,8 +224,8 @@ reached_behind h place r x y z first is reaches =
     record {
       front = moves.front;
       taken = moves.moved;
-      most = λ bytes told small. inr (let (rest, left, read) = read_told bytes first told in
-          let end = (header_end bytes h (input place rest) small read).end in
+      most = λ bytes told. inr (let (rest, left, read) = read_told bytes first told in
+          let end = (header_end bytes h (input place rest) read).end in
           let place_is : place ≡ record_place h 0 = ap (λ (i : Input). i.place) end in
           let rest_is : rest ≡ drop (record_place h 0) bytes = ap (λ (i : Input). i.bytes) end in
           let (back, known, parts) = front_taken first.moves.front bytes y.bytes (sym told ∙ first.moves.moved) in

@@ -5,16 +5,16 @@ use Rattle.pic_record.specs.FrameFields.{FrameView}
 use Rattle.pic_record.specs.Layout.{LayoutView, layout_of}
 use Rattle.pic_dump.proofs.ReadableDump.{dumps_are_read}
 use Rattle.pic_verify.specs.Readable.{DumpsAreVerified}
-use Rattle.pic_verify.specs.Verified.{ObeysGauss, unless_broken, verdict_on, verdict_of, verified}
+use Rattle.pic_verify.specs.Verified.{ObeysGauss, unless_broken, verdict_behind, verdict_of, verified}
 use Rattle.pic_verify.proofs.MeaningLaws.{no_break}
 
 -- good frames behind k others, and an end record
 all_good : (l : LayoutView) (mark : EndMark) (frames : List FrameView) (k : ℕ) → All (ObeysGauss l) frames
-    → verdict_on l k frames (Ok mark) ≡ Ok (k + length frames)
+    → verdict_behind l k frames (Ok mark) ≡ Ok (k + length frames)
 all_good l mark [] k good = let none : k ≡ k + 0 = omega arith in ap (λ n. Ok n) none
 all_good l mark (f ∷ frames) k good =
     let more : suc k + length frames ≡ k + suc (length frames) = omega arith in
-    ap (λ o. unless_broken k o (verdict_on l (suc k) frames (Ok mark))) (no_break l f (good 0 f (omega arith)))
+    ap (λ o. unless_broken k o (verdict_behind l (suc k) frames (Ok mark))) (no_break l f (good 0 f (omega arith)))
     ∙ all_good l mark frames (suc k) (λ j d below. good (suc j) d (omega (arith, below)))
     ∙ ap (λ n. Ok n) more
 

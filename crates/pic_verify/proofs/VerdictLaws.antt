@@ -10,9 +10,8 @@ use Rattle.pic_fields.proofs.ReadLaws.{rose_after, moves_then}
 use Rattle.pic_verify.specs.Allowed.{records_length, bytes_allowed, IsAllowed, IsInHeader, TakesAllowed}
 use Rattle.pic_fields.specs.declared.read_stop.ReadStop.TheVariants as read
 use Rattle.pic_header.specs.Header.{HeaderView}
-use Rattle.pic_header.specs.Limits.{header_length}
+use Rattle.pic_header.specs.HeaderFields.{header_length, header_at, header_most}
 use Rattle.pic_record.specs.Layout.{layout_of}
-use Rattle.pic_header.specs.HeaderFields.{header_at, header_most}
 use Rattle.pic_header.specs.HeadReads.{HeadReads, reach_of, TakesWithin}
 use Rattle.pic_header.proofs.RunLaws.{header_place}
 use Rattle.pic_header.proofs.WithinLaws.{told_held, read_told}
@@ -123,7 +122,7 @@ stops_taken view end x z stop first within =
     }
 
 -- behind a header
-behind_taken : (h : HeaderView) (x y z : Told) (n : ℕ) → HasRead header_at 0 x h (header_length (length h.species)) y → Moves 0 n x z → n ≤ bytes_allowed h + 1
+behind_taken : (h : HeaderView) (x y z : Told) (n : ℕ) → HasRead header_at 0 x h (header_length h) y → Moves 0 n x z → n ≤ bytes_allowed h + 1
     → TakesAllowed x z
 behind_taken h x y z n first moves fits =
     let most = moves.most in
@@ -131,15 +130,15 @@ behind_taken h x y z n first moves fits =
       front = moves.front;
       taken = moves.moved;
       most = λ bytes told. inr (let (rest, left, reads) = read_told bytes first told in
-          record { header = h; rest = input (header_length (length h.species)) rest; reads = reads; most = omega (arith, most, fits) });
+          record { header = h; rest = input (header_length h) rest; reads = reads; most = omega (arith, most, fits) });
     }
 
-pub head_taken : (h : HeaderView) (x y : Told) → HasRead header_at 0 x h (header_length (length h.species)) y → TakesAllowed x y
-head_taken h x y first = behind_taken h x y y (header_length (length h.species)) first first.moves (omega arith)
+pub head_taken : (h : HeaderView) (x y : Told) → HasRead header_at 0 x h (header_length h) y → TakesAllowed x y
+head_taken h x y first = behind_taken h x y y (header_length h) first first.moves (omega arith)
 
 -- behind records
 pub walks_taken : (h : HeaderView) (r : Standing) (x y z : Told) (answer : Verdict)
-    → HasRead header_at 0 x h (header_length (length h.species)) y → r ≡ behind h (header_length (length h.species)) → Walks r y z answer → TakesAllowed x z
+    → HasRead header_at 0 x h (header_length h) y → r ≡ behind h (header_length h) → Walks r y z answer → TakesAllowed x z
 walks_taken h r x y z answer first is walks =
     let there = rw is at walks in
-    behind_taken h x y z (header_length (length h.species) + (records_length (layout_of h) + 1)) first (moves_then first.moves there.moves) (omega arith)
+    behind_taken h x y z (header_length h + (records_length (layout_of h) + 1)) first (moves_then first.moves there.moves) (omega arith)

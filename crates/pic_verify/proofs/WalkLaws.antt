@@ -26,7 +26,7 @@ use Rattle.pic_verify.specs.Allowed.{records_length}
 use Rattle.pic_verify.proofs.AllowedLaws.{Went, went_more, record_fits, frames_fit}
 use Rattle.pic_verify.specs.declared.verify_stop.VerifyStop.TheVariants.{BadDump, Broken, NoMemory}
 use Rattle.pic_verify.specs.Stops.{stop_of_read}
-use Rattle.pic_verify.specs.Verified.{Verdict, break_of, unless_broken, at_end, verdict_on, verdict_of, walked}
+use Rattle.pic_verify.specs.Verified.{Verdict, break_of, unless_broken, at_end, verdict_behind, verdict_of, walked}
 use Rattle.pic_verify.specs.Verifies.{Finds, Answered, Walks}
 
 -- the verdict on a dump by its header
@@ -35,7 +35,7 @@ verdict_by r = verdict_of (of_header r)
 
 -- the verdict on records behind k good frames
 abbrev verdict_at : LayoutView → ℕ → RecordsRead → Verdict
-verdict_at l k r = verdict_on l k r.0 r.1
+verdict_at l k r = verdict_behind l k r.0 r.1
 
 -- a record of each kind
 pub walked_frame : (n : ℕ) (l : LayoutView) (k : ℕ) (last : Option ℕ) (i j : Input) (f : FrameView) → record_at l last i ≡ Ok (AFrame f, j)
@@ -137,7 +137,7 @@ found r held records is = ap (verdict_at r.layout 0) is
 at_last : (r : Standing) (before y : Told) (k : ℕ) (here : Standing) (so_far : Follows r before k here y) (end : Result EndMark Fault)
     → verdict_at r.layout 0 (so_far.frames, end) ≡ at_end k end
 at_last r before y k here so_far end =
-    ap (λ (fs : List FrameView). verdict_on r.layout 0 fs end) (sym (append-nil so_far.frames)) ∙ so_far.good ([], end)
+    ap (λ (fs : List FrameView). verdict_behind r.layout 0 fs end) (sym (append-nil so_far.frames)) ∙ so_far.good ([], end)
 
 -- a frame with a break
 pub breaks_frame : (r : Standing) (before y z : Told) (k : ℕ) (here behind : Standing) (e b : Field) (particles : List Particle) (step : ℕ)

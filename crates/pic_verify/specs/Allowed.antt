@@ -5,11 +5,11 @@ use Rattle.pic_io.specs.Source.{with_front}
 use Rattle.pic_fields.specs.Parser.{Input, input, Fault}
 use Rattle.pic_fields.specs.Reads.{Moves}
 use Rattle.pic_header.specs.Header.{HeaderView}
-use Rattle.pic_header.specs.Limits.{most_letters, header_length}
+use Rattle.pic_header.specs.Limits.{most_letters}
+use Rattle.pic_header.specs.HeaderFields.{header_length, header_at, header_most}
 use Rattle.pic_record.specs.Limits.{longest_end}
 use Rattle.pic_record.specs.Layout.{LayoutView, layout_of}
 use Rattle.pic_record.specs.FrameFields.{frame_length}
-use Rattle.pic_header.specs.HeaderFields.{header_at, header_most}
 use Rattle.pic_header.specs.HeadReads.{TakesWithin}
 
 -- how many frames are due: one after no step, one after each so many steps, and one after the last
@@ -22,7 +22,7 @@ records_length l = frames_due l * (1 + frame_length l) + longest_end
 
 -- the length that a header allows
 abbrev pub bytes_allowed : HeaderView → ℕ
-bytes_allowed h = header_length (length h.species) + records_length (layout_of h)
+bytes_allowed h = header_length h + records_length (layout_of h)
 
 -- some bytes begin with a header, and so many are at most one more than it allows
 pub record IsAllowed (bytes : List ℕ) (count : ℕ) : Type 0 where

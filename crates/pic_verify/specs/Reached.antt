@@ -4,7 +4,6 @@ use Rattle.pic_io.specs.Told.{Told}
 use Rattle.pic_io.specs.Source.{with_front}
 use Rattle.pic_fields.specs.Parser.{input}
 use Rattle.pic_fields.specs.Reads.{Moves}
-use Rattle.pic_fields.specs.Bytes.{IsBytes}
 use Rattle.pic_record.specs.Due.{due_after}
 use Rattle.pic_header.specs.Header.{HeaderView}
 use Rattle.pic_record.specs.FrameFields.{FrameView, frame_length}
@@ -36,7 +35,7 @@ pub record TakesToRecord (before now : Told) : Type 0 where
   pub front : List ℕ
   pub taken : before.bytes ≡ with_front front now.bytes
   -- so many at most
-  pub most : (bytes : List ℕ) → before.bytes ≡ Some bytes → IsBytes bytes
+  pub most : (bytes : List ℕ) → before.bytes ≡ Some bytes
       → IsInHeader bytes (length front) ⊎ ReachesRecord bytes (length front)
 
 -- at a place these bytes begin with a good frame, of the step that is due as record k

@@ -39,13 +39,13 @@ at_end k (Ok mark) = Ok k
 at_end k (Err f) = Err (BadDump f.place f.cause)
 
 -- frames behind k good ones, and the end behind them: the first break, and where there is none the end
-abbrev pub verdict_on : LayoutView → ℕ → List FrameView → Result EndMark Fault → Verdict
-verdict_on l k [] end = at_end k end
-verdict_on l k (f ∷ frames) end = unless_broken k (break_of l f.e f.particles) (verdict_on l (suc k) frames end)
+abbrev pub verdict_behind : LayoutView → ℕ → List FrameView → Result EndMark Fault → Verdict
+verdict_behind l k [] end = at_end k end
+verdict_behind l k (f ∷ frames) end = unless_broken k (break_of l f.e f.particles) (verdict_behind l (suc k) frames end)
 
 -- the verdict on a dump, or on the fault of a header
 abbrev pub verdict_of : Result DumpRead Fault → Verdict
-verdict_of (Ok d) = verdict_on (layout_of d.header) 0 d.frames d.end
+verdict_of (Ok d) = verdict_behind (layout_of d.header) 0 d.frames d.end
 verdict_of (Err f) = Err (BadDump f.place f.cause)
 
 -- the verdict on some bytes
@@ -54,4 +54,4 @@ verified bytes = verdict_of (read_dump bytes)
 
 -- the verdict on the records after k good frames, of which the last is of a step; there are at most n
 unfoldable pub walked : ℕ → LayoutView → ℕ → Option ℕ → Input → Verdict
-walked n l k last i = verdict_on l k (read_on n l last i).0 (read_on n l last i).1
+walked n l k last i = verdict_behind l k (read_on n l last i).0 (read_on n l last i).1

@@ -1,10 +1,9 @@
-use Rattle.std.proofs.Common.{◌≡◌, ℕ, ◌+◌, ◌*◌, ◌≤◌, length, sym, ap, arith}
+use Rattle.std.proofs.Common.{◌≡◌, sym, ap, arith}
 use Rattle.pic_fields.proofs.ReadLaws.{read_then, read_done, read_same, read_up_to}
 use Rattle.pic_header.specs.Header.{HeaderView}
 use Rattle.pic_header.specs.HeaderText.{form_length}
-use Rattle.pic_header.specs.HeaderFields.{Front, header_of, header_at, header_most}
+use Rattle.pic_header.specs.HeaderFields.{Front, header_of, header_at, header_length, header_most}
 use Rattle.pic_header.proofs.HeadReadLaws.{head_goes_on, head_exits, head_passes_on}
-use Rattle.pic_header.proofs.ReadableHeader.{header_length}
 use Rattle.pic_header.proofs.RunLaws.{goes_on_by, goes_then, goes_done, goes_heads, runs_mark, runs_front, runs_form, form_few}
 use Rattle.pic_header.proofs.WithinLaws.{within_short, within_first, within_then}
 use Rattle.pic_header.proofs.head_reader.read_header.Goals as goal
@@ -38,12 +37,11 @@ returns-clause-reads g c =
     let version = c.in_ok-version.version in
     let front = c.in_ok-front.front in
     let is : c.new.result ≡ header_of version front c.in_ok-side.side c.in_ok-heads.heads.items =
-    rw (c.new.ensures.value, c.new-cells.ensures, c.from_vec-species.ensures)
+    rw (c.new.ensures, c.new-cells.ensures, c.from_vec-species.ensures)
     (ap (λ (f : Front). header_of version f c.in_ok-side.side c.in_ok-heads.heads.items) c.front.view_is) in
-    let whole = header_length c.new.result c.new.ensures.limits in
-    let same = ap (λ (h : HeaderView). 64 + form_length h.version + 60 * length h.species) is in
+    let length = ap (λ (h : HeaderView). header_length h) is in
     record {
-      answer = read_same (sym is) (read_up_to (omega (arith, whole, same)) (read_then _ c.in_ok-version.ensures.reads.answer
+      answer = read_same (sym is) (read_up_to (omega (arith, length)) (read_then _ c.in_ok-version.ensures.reads.answer
           (read_then _ c.in_ok-front.ensures.reads.answer (read_then _ c.in_ok-side.ensures.reads.answer (read_then _ heads.answer (read_done _ _ _))))));
     }
 

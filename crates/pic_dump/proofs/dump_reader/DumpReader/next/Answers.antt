@@ -8,7 +8,7 @@ use Rattle.std.proofs.lemmas.Bool.{eq-eqb, ne_eqb}
 use Rattle.pic_record.specs.FrameFields.{frame_of, frame_length}
 use Rattle.pic_record.specs.Records.{RecordView, AFrame, record_at}
 use Rattle.pic_record.proofs.MarkLaws.{of_frame, of_end, due_is}
-use Rattle.pic_dump.proofs.NextLaws.{next_exits, most_least, most_frame, frame_after, due_most, stands_behind}
+use Rattle.pic_dump.proofs.NextLaws.{next_exits, most_least, most_frame, frame_after, due_most, readable_frame, stands_behind}
 use Rattle.pic_dump.proofs.dump_reader.DumpReader.next.Goals as goal
 
 pub returns-in_err-tag-clause-reads : goal.returns-in_err-tag-clause-reads
@@ -73,9 +73,10 @@ returns-then-tag-eq-FRAME-clause-reads g c =
     let limit = due_most c.due_after-due.result c.steps.result c.due_after-due.ensures.most in
     let after = c.read_frame.new.state in
     let frame : ℕ → RecordView = λ s. AFrame (frame_of s after.e.values after.b.values after.particles.items c.in_ok-energies.energies) in
+    let read = read_same (ap frame (sym step)) (read_up_to (omega (arith, length)) (read_then _ tag.answer behind)) in
     rw (sym c.self.view_is) (record {
       answer = record {
-        read = read_same (ap frame (sym step)) (read_up_to (omega (arith, length)) (read_then _ tag.answer behind));
+        read = read;
         layout = refl;
         place = omega (arith, length);
         last = refl;
@@ -83,6 +84,7 @@ returns-then-tag-eq-FRAME-clause-reads g c =
         later = omega (arith, later, step);
         most = omega (arith, limit, c.unwrap_or-step.ensures, c.steps.ensures.value);
         held = c.in_ok-energies.ensures.held;
+        readable = readable_frame l last _ read;
       };
     })
 
