@@ -1,5 +1,6 @@
 -- Where a reader of a dump stands between two records.
 use Rattle.std.specs.Prelude.{ℕ, ◌+◌, ◌*◌, ◌^◌, ◌≤◌, Option, Some, None, IfSome}
+use Rattle.pic_header.specs.HeaderFields.{header_most}
 use Rattle.pic_record.specs.Layout.{LayoutView, IsLayout}
 
 -- what the records depend on, the place, and the step of the last frame
@@ -16,5 +17,5 @@ passed (Some step) = step + 1
 -- a reader is never so far that its place can't be counted
 pub record IsStanding (r : Standing) : Type 0 where
   pub layout : IsLayout r.layout
-  pub place : r.place ≤ 1024 + passed r.last * 2 ^ 29
+  pub place : r.place ≤ header_most + passed r.last * 2 ^ 29
   pub last : IfSome r.last (λ step. step ≤ r.layout.steps)

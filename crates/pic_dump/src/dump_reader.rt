@@ -15,7 +15,7 @@ ghost use Rattle.pic_record.specs.Records.{is_tag};
 use pic_energy::Energies;
 use pic_fields::{Cause, ReadStop, read_byte};
 use pic_grid::{Cells, EndMark, Snapshot};
-use pic_header::{FRONT_BYTES, HEAD_BYTES, HeadStop, Header, read_header};
+use pic_header::{HeadStop, Header, read_header};
 use pic_io::Source;
 use pic_num::Kind;
 use pic_record::{Layout, due_after, read_end_record, read_frame};
@@ -96,7 +96,7 @@ impl DumpReader {
           last = None;
         }) }
     {
-        let place = FRONT_BYTES + HEAD_BYTES * header.species().as_slice().len() as u64;
+        let place = header.length();
         let layout = Layout::of_header(alloc, header)?;
         Ok(DumpReader {
             layout,

@@ -3,7 +3,6 @@ use Rattle.std.proofs.Common.{◌≡◌, ℕ, ◌<◌, List, [], ◌∷◌, ◌+
 use Rattle.std.proofs.lemmas.Bool.{cases_lt}
 use Rattle.std.proofs.lemmas.List.{length-append, get_or_append_left, get_or_push}
 use Rattle.std.proofs.lemmas.List.Sums.{sum_by-append}
-use Rattle.pic_num.specs.Limits.{most_particles_1}
 use Rattle.pic_grid.specs.Species.{IsName, IsKind, HeadView, no_head, AreHeads}
 use Rattle.pic_header.specs.HeaderFields.{IsNewHead}
 
@@ -30,8 +29,8 @@ differ_more hs h before new j high =
           rw (get_or_push hs h no_head j at_end) (λ i less. new i (omega (arith, less, at_end))))
     ]
 
-pub heads_none : AreHeads most_particles_1 []
-heads_none = record {
+pub heads_none : (most : ℕ) → AreHeads most []
+heads_none most = record {
   few = omega arith;
   names = λ i less. absurd (omega (arith, less));
   kinds = λ i less. absurd (omega (arith, less));
@@ -39,9 +38,8 @@ heads_none = record {
   total = omega arith;
 }
 
-pub heads_more : (hs : List HeadView) (h : HeadView) → AreHeads most_particles_1 hs → length hs < 16 → IsNewHead hs h
-    → AreHeads most_particles_1 (hs ++ h ∷ [])
-heads_more hs h are room new =
+pub heads_more : (most : ℕ) (hs : List HeadView) (h : HeadView) → AreHeads most hs → length hs < 16 → IsNewHead most hs h → AreHeads most (hs ++ h ∷ [])
+heads_more most hs h are room new =
     let size = length-append hs (h ∷ []) in
     let all = sum_by-append (λ (k : HeadView). k.count) hs (h ∷ []) in
     let total = new.total in

@@ -1,18 +1,27 @@
 -- What is read of a header, of any list of numbers: after how many steps a frame is due, and what is left.
-use Rattle.std.proofs.Common.{◌≡◌, ℕ, ◌+◌, ◌*◌, ◌≤◌, true, leb, List, length, drop, Ok, arith}
-use Rattle.std.specs.Prelude.{⊤}
+use Rattle.std.proofs.Common.{◌≡◌, ℕ, ◌+◌, ◌*◌, ◌^◌, ◌≤◌, Bool, true, false, eqb, leb, List, length, drop, Ok, arith}
+use Rattle.std.specs.Prelude.{⊤, if◌then◌else◌}
 use Rattle.std.proofs.lemmas.Bool.{and_parts, leb-true}
 use Rattle.pic_grid.specs.Species.{HeadView}
-use Rattle.pic_fields.specs.Parser.{Input, input}
+use Rattle.pic_fields.specs.Parser.{Input, input, done}
+use Rattle.pic_fields.specs.Number.{byte_at}
 use Rattle.pic_fields.proofs.GiveLaws.{Gives, further_place, gives_so, gives_any, gives_done, gives_then, gives_mapped, gives_checked, gives_field, gives_each}
 use Rattle.pic_fields.proofs.GiveLaws.{gives_within, gives_between, gives_exactly}
 use Rattle.pic_header.specs.Header.{HeaderView}
-use Rattle.pic_header.specs.HeaderFields.{cells_at, mult_at, scales_at, kind_at, name_of, name_at, head_at, heads_at, header_at, header_length}
+use Rattle.pic_header.specs.HeaderFields.{version_at, mark_at, axis_at, cells_at, mult_at, scales_at, front_at, form_of_2, form_at, kind_at, name_of, name_at}
+use Rattle.pic_header.specs.HeaderFields.{head_at, heads_at, header_at, header_length}
+use Rattle.pic_num.specs.Limits.{allowance_of}
 use Rattle.pic_header.proofs.RunLaws.{header_place}
 
-gives_cells : Gives cells_at (λ n. ⊤)
-unfolding cells_at
-gives_cells = gives_then (gives_within _ _ _) (λ x is. gives_then (gives_within _ _ _) (λ y is. gives_then (gives_within _ _ _) (λ z is. gives_done _ tt)))
+gives_mark : Gives mark_at (λ version. ⊤)
+unfolding mark_at version_at byte_at
+gives_mark =
+    gives_then (gives_exactly _ _) (λ letters is. gives_mapped _ (λ digit is. tt) (gives_any (gives_checked _ _
+    (gives_mapped {G = λ digit. ⊤} _ (λ byte is. tt) (gives_field 1)))))
+
+gives_cells : (version : ℕ) → Gives (cells_at version) (λ n. ⊤)
+unfolding cells_at axis_at
+gives_cells version = gives_then (gives_within _ _ _) (λ x is. gives_then (gives_within _ _ _) (λ y is. gives_then (gives_within _ _ _) (λ z is. gives_done _ tt)))
 
 gives_mult : Gives mult_at (λ m. ⊤)
 unfolding mult_at
@@ -23,31 +32,42 @@ unfolding scales_at
 gives_scales =
     gives_then gives_mult (λ a is. gives_then gives_mult (λ b is. gives_then gives_mult (λ c is. gives_then gives_mult (λ d is. gives_done _ tt))))
 
+gives_front : (version : ℕ) → Gives (front_at version) (λ f. 1 ≤ f.every)
+unfolding front_at
+gives_front version =
+    gives_then (gives_cells version) (λ cells is. gives_then (gives_within _ _ _) (λ steps is. gives_then (gives_within _ 1 _)
+    (λ every within. gives_then gives_scales (λ scales is. gives_done _ (leb-true 1 every (and_parts (leb 1 every) (leb every _) within).0)))))
+
+gives_form : (version : ℕ) → Gives (form_at version) (λ side. ⊤)
+unfolding form_at form_of_2
+gives_form version = go (eqb version 1)
+  where
+    go : (first : Bool) → Gives (if first then done (2 ^ (allowance_of version).least_bits) else form_of_2) (λ side. ⊤)
+    go true = gives_done _ tt
+    go false =
+        gives_then (gives_within _ _ _) (λ bits is. gives_then (gives_within _ _ _) (λ filter is. gives_then (gives_within _ _ _) (λ loops is. gives_done _ tt)))
+
 gives_kind : Gives kind_at (λ k. ⊤)
 unfolding kind_at
 gives_kind =
     gives_then (gives_between _ _ _)
     (λ charge is. gives_then (gives_within _ _ _) (λ mass is. gives_then gives_mult (λ kick is. gives_then gives_mult (λ turn is. gives_done _ tt))))
 
-gives_head : (before : List HeadView) → Gives (head_at before) (λ h. ⊤)
+gives_head : (most : ℕ) (before : List HeadView) → Gives (head_at most before) (λ h. ⊤)
 unfolding head_at name_at
-gives_head before =
+gives_head most before =
     gives_then {F = λ name. ⊤} (gives_mapped name_of (λ bytes is. tt) (gives_checked _ _ (gives_field _)))
     (λ name is. gives_then gives_kind (λ kind is. gives_then (gives_within _ _ _) (λ count is. gives_done _ tt)))
 
-gives_heads : Gives heads_at (λ hs. ⊤)
+gives_heads : (most : ℕ) → Gives (heads_at most) (λ hs. ⊤)
 unfolding heads_at
-gives_heads = gives_then (gives_within _ _ _) (λ count is. gives_any (gives_each head_at (λ before h. ⊤) count gives_head))
+gives_heads most = gives_then (gives_within _ _ _) (λ count is. gives_any (gives_each (head_at most) (λ before h. ⊤) count (gives_head most)))
 
 gives_header : Gives header_at (λ h. 1 ≤ h.every)
 unfolding header_at
 gives_header =
-    gives_then (gives_exactly _ _) (λ mark is.
-    gives_then gives_cells (λ cells is.
-    gives_then (gives_within _ _ _) (λ steps is.
-    gives_then (gives_within _ 1 _) (λ every within.
-    gives_then gives_scales (λ scales is.
-    gives_then gives_heads (λ heads is. gives_done _ (leb-true 1 every (and_parts (leb 1 every) (leb every _) within).0)))))))
+    gives_then gives_mark (λ version is. gives_then (gives_front version) (λ front least. gives_then (gives_form version)
+    (λ side is. gives_then (gives_heads _) (λ heads is. gives_done _ least))))
 
 -- behind the header stands what is that many bytes on
 pub header_left : (i j : Input) (h : HeaderView) → header_at i ≡ Ok (h, j)

@@ -1,29 +1,32 @@
 -- The spelling of a header.
-use Rattle.std.proofs.Common.{◌≡◌, ℕ, ℤ, zero, suc, ◌-◌, Bool, true, false, not, ◌&&◌, eqb, leb, pos, negsuc, List, [], ◌∷◌, ◌++◌}
+use Rattle.std.proofs.Common.{◌≡◌, ℕ, ℤ, zero, add-zero, suc, ◌+◌, ◌-◌, ◌^◌, ◌<◌, Ok, Bool, true, false, not, ◌&&◌, eqb, leb, pos, negsuc, List, [], ◌∷◌, ◌++◌}
 use Rattle.std.proofs.Common.{length, drop, replicate, refl, sym, ap, subst, ◌∙◌, arith, append_assoc, if◌then◌else◌}
 use Rattle.std.specs.Prelude.{codes}
 use Rattle.std.specs.List.{list_all, list_any}
 use Rattle.std.specs.Str.{bytes_eq}
-use Rattle.std.proofs.lemmas.Bool.{and_parts, eqb-true}
+use Rattle.std.proofs.lemmas.Bool.{and_parts, eqb-true, leb-true}
 use Rattle.std.proofs.lemmas.List.{length-append, length-drop}
 use Rattle.pic_num.specs.declared.motion.Kind.{Kind}
 use Rattle.pic_num.specs.declared.mult.Scales.{Scales}
 use Rattle.pic_num.specs.Bytes.{u32_bytes, i32_bytes}
-use Rattle.pic_num.specs.Limits.{fewest_cells_of_axis, most_cells_of_axis_1, side_1, most_species, most_particles_1, most_mass}
+use Rattle.pic_num.specs.Limits.{most_version, allowance_of, fewest_cells_of_axis, fewest_bits, most_bits, most_species, most_mass}
 use Rattle.pic_num.specs.Multiplier.{Multiplier}
 use Rattle.pic_num.specs.Space.{Triple}
+use Rattle.pic_num.specs.Sub.{bits_of, bits_of-side}
 use Rattle.pic_grid.specs.Species.{HeadView, is_name_byte}
+use Rattle.pic_fields.specs.Parser.{Input, input, Parser, done, ◌>>=◌, mapped}
 use Rattle.pic_fields.specs.Number.{is_from_to, is_between}
 use Rattle.pic_fields.specs.Bytes.{IsBytes}
 use Rattle.pic_fields.proofs.Spells.{Spells}
 use Rattle.pic_fields.proofs.SpellLaws.{IsField, FitsEach, spells_bind, spells_mapped, spells_last, spells_checked}
-use Rattle.pic_fields.proofs.SpellLaws.{spells_field, spells_each, spells_so, right_4, right_7}
-use Rattle.pic_fields.proofs.NumberLaws.{FitsU32, FitsI32, spells_between, spells_within, spells_exactly}
-use Rattle.pic_header.specs.HeaderText.{mult_bytes, scales_bytes, cells_bytes, front_bytes, name_bytes, kind_bytes, head_bytes, heads_bytes, header_bytes}
+use Rattle.pic_fields.proofs.SpellLaws.{same_read, spells_field, spells_each, spells_so, right_4, right_5, right_7}
+use Rattle.pic_fields.proofs.NumberLaws.{FitsU32, FitsI32, one_byte, spells_byte, spells_between, spells_within, spells_exactly}
+use Rattle.pic_header.specs.HeaderText.{zero_digit, mult_bytes, scales_bytes, cells_bytes, mark_bytes, form_bytes, front_bytes, name_bytes, kind_bytes}
+use Rattle.pic_header.specs.HeaderText.{head_bytes, heads_bytes, header_bytes}
 use Rattle.pic_header.specs.Header.{HeaderView}
 use Rattle.pic_header.specs.Limits.{most_steps}
-use Rattle.pic_header.specs.HeaderFields.{out_of_limits, wrong_letter, cells_at, mult_at, scales_at, kind_at, name_of, is_name_field}
-use Rattle.pic_header.specs.HeaderFields.{is_new_name_field, name_at, particles_of, head_at, heads_at, header_at}
+use Rattle.pic_header.specs.HeaderFields.{out_of_limits, wrong_letter, version_at, mark_at, axis_at, cells_at, mult_at, scales_at, kind_at, name_of, is_name_field}
+use Rattle.pic_header.specs.HeaderFields.{is_new_name_field, name_at, particles_of, head_at, heads_at, Front, front_at, form_of_2, form_at, header_of, header_at}
 
 abbrev FitsMult : Multiplier → Type 0
 FitsMult m = FitsI32 (is_between (negsuc 2147483646) (pos 2147483647)) m.n × (FitsU32 (is_from_to 0 62) m.k × (m ≡ record { n = m.n; k = m.k }))
@@ -52,19 +55,23 @@ spells_scales =
 abbrev cells_of : ℕ → ℕ → ℕ → Triple
 cells_of x y z = record { x = x; y = y; z = z }
 
-abbrev FitsCells : Triple → Type 0
-FitsCells n =
-    FitsU32 (is_from_to fewest_cells_of_axis most_cells_of_axis_1) n.x
-    × (FitsU32 (is_from_to fewest_cells_of_axis most_cells_of_axis_1) n.y × (FitsU32 (is_from_to fewest_cells_of_axis most_cells_of_axis_1) n.z
-    × (n ≡ cells_of n.x n.y n.z)))
+abbrev FitsAxis : ℕ → ℕ → Type 0
+FitsAxis version n = FitsU32 (is_from_to fewest_cells_of_axis (allowance_of version).cells) n
 
-spells_cells : Spells cells_at cells_bytes FitsCells
+spells_axis : (version : ℕ) → Spells (axis_at version) u32_bytes (FitsAxis version)
+unfolding axis_at
+spells_axis version = spells_within out_of_limits fewest_cells_of_axis (allowance_of version).cells
+
+abbrev FitsCells : ℕ → Triple → Type 0
+FitsCells version n = FitsAxis version n.x × (FitsAxis version n.y × (FitsAxis version n.z × (n ≡ cells_of n.x n.y n.z)))
+
+spells_cells : (version : ℕ) → Spells (cells_at version) cells_bytes (FitsCells version)
 unfolding cells_at cells_bytes
-spells_cells =
+spells_cells version =
     spells_so (λ b f. f) (λ b f. f) (λ b f. append_assoc (u32_bytes b.x) (u32_bytes b.y) (u32_bytes b.z))
-    (spells_bind (λ (n : Triple). n.x) (λ x n f g. ap (λ (o : Triple). o.x) g.1.1) (spells_within out_of_limits fewest_cells_of_axis most_cells_of_axis_1)
-    (λ x. spells_bind (λ (n : Triple). n.y) (λ y n f g. ap (λ (o : Triple). o.y) g.1) (spells_within out_of_limits fewest_cells_of_axis most_cells_of_axis_1)
-    (λ y. spells_last (cells_of x y) (λ (n : Triple). n.z) (λ z. refl) (spells_within out_of_limits fewest_cells_of_axis most_cells_of_axis_1))))
+    (spells_bind (λ (n : Triple). n.x) (λ x n f g. ap (λ (o : Triple). o.x) g.1.1) (spells_axis version)
+    (λ x. spells_bind (λ (n : Triple). n.y) (λ y n f g. ap (λ (o : Triple). o.y) g.1) (spells_axis version)
+    (λ y. spells_last (cells_of x y) (λ (n : Triple). n.z) (λ z. refl) (spells_axis version))))
 
 abbrev kind_of : ℤ → ℕ → Multiplier → Multiplier → Kind
 kind_of charge mass kick turn = record { charge = charge; mass = mass; kick = kick; turn = turn }
@@ -134,17 +141,17 @@ spells_name before =
 abbrev head_of : List ℕ → Kind → ℕ → HeadView
 head_of name kind count = record { name = name; kind = kind; count = count }
 
-abbrev pub FitsHead : List HeadView → HeadView → Type 0
-FitsHead before h =
-    FitsName before h.name × (FitsKind h.kind × (FitsU32 (is_from_to 0 (most_particles_1 - particles_of before)) h.count × (h ≡ head_of h.name h.kind h.count)))
+abbrev pub FitsHead : ℕ → List HeadView → HeadView → Type 0
+FitsHead most before h =
+    FitsName before h.name × (FitsKind h.kind × (FitsU32 (is_from_to 0 (most - particles_of before)) h.count × (h ≡ head_of h.name h.kind h.count)))
 
-spells_head : (before : List HeadView) → Spells (head_at before) head_bytes (FitsHead before)
+spells_head : (most : ℕ) (before : List HeadView) → Spells (head_at most before) head_bytes (FitsHead most before)
 unfolding head_at head_bytes
-spells_head before =
+spells_head most before =
     spells_so (λ b f. f) (λ b f. f) (λ b f. append_assoc (name_bytes b.name) (kind_bytes b.kind) (u32_bytes b.count))
     (spells_bind (λ (h : HeadView). h.name) (λ a h f g. ap (λ (o : HeadView). o.name) g.1.1) (spells_name before)
     (λ a. spells_bind (λ (h : HeadView). h.kind) (λ b h f g. ap (λ (o : HeadView). o.kind) g.1) spells_kind
-    (λ b. spells_last (head_of a b) (λ (h : HeadView). h.count) (λ d. refl) (spells_within out_of_limits 0 (most_particles_1 - particles_of before)))))
+    (λ b. spells_last (head_of a b) (λ (h : HeadView). h.count) (λ d. refl) (spells_within out_of_limits 0 (most - particles_of before)))))
 
 fits_length : {A : Type 0} (G : List A → A → Type 0) (n : ℕ) (xs : List A) → FitsEach G n xs → length xs ≡ n
 fits_length G zero xs fits = ap length fits
@@ -153,20 +160,21 @@ fits_length G (suc n) xs fits =
     let size = ap length fits.whole ∙ length-append fits.before (fits.last ∷ []) in
     omega (arith, before, size)
 
-abbrev FitsHeads : List HeadView → Type 0
-FitsHeads heads = FitsU32 (is_from_to 0 most_species) (length heads) × FitsEach FitsHead (length heads) heads
+abbrev FitsHeads : ℕ → List HeadView → Type 0
+FitsHeads most heads = FitsU32 (is_from_to 0 most_species) (length heads) × FitsEach (FitsHead most) (length heads) heads
 
 -- how many species there are, and the species
 unfoldable pub counted_bytes : List HeadView → List ℕ
 counted_bytes heads = u32_bytes (length heads) ++ heads_bytes heads
 
-spells_heads : Spells heads_at counted_bytes FitsHeads
+spells_heads : (most : ℕ) → Spells (heads_at most) counted_bytes (FitsHeads most)
 unfolding heads_at heads_bytes counted_bytes
-spells_heads =
-    spells_bind (λ (heads : List HeadView). length heads) (λ n heads f g. fits_length FitsHead n heads g) (spells_within out_of_limits 0 most_species)
-    (λ n. spells_each head_at head_bytes FitsHead n spells_head)
+spells_heads most =
+    spells_bind (λ (heads : List HeadView). length heads) (λ n heads f g. fits_length (FitsHead most) n heads g) (spells_within out_of_limits 0 most_species)
+    (λ n. spells_each (head_at most) head_bytes (FitsHead most) n (spells_head most))
 
-mark_small : IsBytes (codes "PICDUMP1")
+-- the mark
+mark_small : IsBytes (codes "PICDUMP")
 mark_small zero = omega arith
 mark_small (suc zero) = omega arith
 mark_small (suc (suc zero)) = omega arith
@@ -174,34 +182,164 @@ mark_small (suc (suc (suc zero))) = omega arith
 mark_small (suc (suc (suc (suc zero)))) = omega arith
 mark_small (suc (suc (suc (suc (suc zero))))) = omega arith
 mark_small (suc (suc (suc (suc (suc (suc zero)))))) = omega arith
-mark_small (suc (suc (suc (suc (suc (suc (suc zero))))))) = omega arith
-mark_small (suc (suc (suc (suc (suc (suc (suc (suc i)))))))) = omega arith
+mark_small (suc (suc (suc (suc (suc (suc (suc i))))))) = omega arith
 
-abbrev header_of : Triple → ℕ → ℕ → Scales → List HeadView → HeaderView
-header_of cells steps every scales species = record { cells = cells; side = side_1; steps = steps; every = every; scales = scales; species = species }
+abbrev is_digit : ℕ → Bool
+is_digit n = is_from_to (zero_digit + 1) (zero_digit + most_version) n
+
+abbrev FitsVersion : ℕ → Type 0
+FitsVersion version = (zero_digit + version < 256) × (is_digit (zero_digit + version) ≡ true)
+
+digit_back : (n : ℕ) → is_digit n ≡ true → zero_digit + (n - zero_digit) ≡ n
+digit_back n is =
+    let least = leb-true (zero_digit + 1) n (and_parts (leb (zero_digit + 1) n) (leb n (zero_digit + most_version)) is).0 in
+    omega (arith, least)
+
+spells_version : Spells version_at (λ version. one_byte (zero_digit + version)) FitsVersion
+unfolding version_at
+spells_version =
+    spells_mapped (λ digit. digit - zero_digit) (λ version. zero_digit + version) FitsVersion (λ version fits. fits) (λ version fits. omega arith)
+    (λ digit fits. subst (λ n. (n < 256) × (is_digit n ≡ true)) (sym (digit_back digit fits.1)) fits) (λ digit fits. digit_back digit fits.1)
+    (spells_checked wrong_letter is_digit spells_byte)
+
+abbrev FitsMark : ℕ → Type 0
+FitsMark version = (codes "PICDUMP" ≡ codes "PICDUMP") × FitsVersion version
+
+spells_mark : Spells mark_at mark_bytes FitsMark
+unfolding mark_at mark_bytes
+spells_mark =
+    spells_bind (λ (version : ℕ). codes "PICDUMP") (λ a version f g. sym f) (spells_exactly wrong_letter (codes "PICDUMP") mark_small)
+    (λ letters. spells_version)
+
+-- what both versions say
+abbrev front_of : Triple → ℕ → ℕ → Scales → Front
+front_of cells steps every scales = record { cells = cells; steps = steps; every = every; scales = scales }
+
+unfoldable front_text : Front → List ℕ
+front_text f = cells_bytes f.cells ++ u32_bytes f.steps ++ u32_bytes f.every ++ scales_bytes f.scales
+
+abbrev FitsFront : ℕ → Front → Type 0
+FitsFront version f =
+    FitsCells version f.cells
+    × (FitsU32 (is_from_to 0 most_steps) f.steps
+    × (FitsU32 (is_from_to 1 most_steps) f.every × (FitsScales f.scales × (f ≡ front_of f.cells f.steps f.every f.scales))))
+
+spells_front : (version : ℕ) → Spells (front_at version) front_text (FitsFront version)
+unfolding front_at front_text
+spells_front version =
+    spells_so (λ b f. f) (λ b f. f) (λ b f. right_4 (cells_bytes b.cells) (u32_bytes b.steps) (u32_bytes b.every) (scales_bytes b.scales))
+    (spells_bind (λ (f : Front). f.cells) (λ a f g h. ap (λ (o : Front). o.cells) h.1.1.1) (spells_cells version)
+    (λ a. spells_bind (λ (f : Front). f.steps) (λ b f g h. ap (λ (o : Front). o.steps) h.1.1) (spells_within out_of_limits 0 most_steps)
+    (λ b. spells_bind (λ (f : Front). f.every) (λ c f g h. ap (λ (o : Front). o.every) h.1) (spells_within out_of_limits 1 most_steps)
+    (λ c. spells_last (front_of a b c) (λ (f : Front). f.scales) (λ d. refl) spells_scales))))
+
+-- what version 2 says more
+abbrev is_none : ℕ → Bool
+is_none n = is_from_to 0 0 n
+
+none_is : (n : ℕ) → FitsU32 is_none n → 0 ≡ n
+none_is n fits =
+    let most = leb-true n 0 (and_parts (leb 0 n) (leb n 0) fits.1).1 in
+    omega (arith, most)
+
+bits_back : (bits side : ℕ) → FitsU32 (is_from_to fewest_bits most_bits) bits → side ≡ 2 ^ bits → bits_of side ≡ bits
+bits_back bits side fits is =
+    let (least, most) = and_parts (leb fewest_bits bits) (leb bits most_bits) fits.1 in
+    ap bits_of is ∙ bits_of-side bits (leb-true fewest_bits bits least) (leb-true bits most_bits most)
+
+abbrev form_text_2 : ℕ → List ℕ
+form_text_2 side = u32_bytes (bits_of side) ++ u32_bytes 0 ++ u32_bytes 0
+
+abbrev FitsForm_2 : ℕ → Type 0
+FitsForm_2 side = FitsU32 (is_from_to fewest_bits most_bits) (bits_of side) × (FitsU32 is_none 0 × (side ≡ 2 ^ bits_of side))
+
+spells_form_2 : Spells form_of_2 form_text_2 FitsForm_2
+unfolding form_of_2 mapped
+spells_form_2 =
+    spells_so (λ side f. f) (λ side f. f) (λ side f. append_assoc (u32_bytes (bits_of side)) (u32_bytes 0) (u32_bytes 0))
+    (spells_bind bits_of (λ bits side f g. bits_back bits side f g.1) (spells_within out_of_limits fewest_bits most_bits)
+    (λ bits. spells_bind (λ (side : ℕ). 0) (λ filter side f g. none_is filter f) (spells_within out_of_limits 0 0)
+    (λ filter. spells_mapped (λ loops. 2 ^ bits) (λ (side : ℕ). 0) (λ side. side ≡ 2 ^ bits) (λ side is. (omega arith, refl)) (λ side is. sym is)
+    (λ loops f. refl) none_is (spells_within out_of_limits 0 0))))
+
+-- nothing
+spells_nothing : {A : Type 0} (a : A) → Spells (done a) (λ b. []) (λ b. b ≡ a)
+unfolding done
+spells_nothing a = record {
+  again = λ place rest b is. rw is (ap (λ m. Ok (a, input m rest)) (sym (add-zero place)));
+  takes = λ place bytes b k small is. (let (value, input_is) = same_read a b (input place bytes) k is in
+      record {
+        fits = sym value;
+        parts = ap (λ (i : Input). i.bytes) input_is;
+        small = subst (λ (i : Input). IsBytes i.bytes) input_is small;
+        place_is = sym (ap (λ (i : Input). i.place) input_is) ∙ sym (add-zero place);
+      });
+}
+
+abbrev form_text_by : Bool → ℕ → List ℕ
+form_text_by true side = []
+form_text_by false side = form_text_2 side
+
+abbrev pub FitsFormBy : Bool → ℕ → ℕ → Type 0
+FitsFormBy true version side = side ≡ 2 ^ (allowance_of version).least_bits
+FitsFormBy false version side = FitsForm_2 side
+
+spells_form_by : (first : Bool) (version : ℕ)
+    → Spells (if first then done (2 ^ (allowance_of version).least_bits) else form_of_2) (form_text_by first) (FitsFormBy first version)
+spells_form_by true version = spells_nothing (2 ^ (allowance_of version).least_bits)
+spells_form_by false version = spells_form_2
+
+spells_form : (version : ℕ) → Spells (form_at version) (form_text_by (eqb version 1)) (FitsFormBy (eqb version 1) version)
+unfolding form_at
+spells_form version = spells_form_by (eqb version 1) version
+
+form_is : (first : Bool) (side : ℕ) → (if first then [] else form_text_2 side) ≡ form_text_by first side
+form_is true side = refl
+form_is false side = refl
+
+-- the whole header
+abbrev pub front_in : HeaderView → Front
+front_in h = front_of h.cells h.steps h.every h.scales
+
+grouped : (a b c d e f g h : List ℕ) → a ++ b ++ c ++ d ++ e ++ f ++ g ++ h ≡ a ++ ((b ++ c ++ d ++ e) ++ (f ++ (g ++ h)))
+grouped a b c d e f g h =
+    append_assoc (a ++ b ++ c ++ d ++ e ++ f) g h ∙ right_7 a b c d e f (g ++ h) ∙ ap (λ l. a ++ l) (sym (right_5 b c d e (f ++ (g ++ h))))
+
+-- behind the mark
+abbrev parts_text : ℕ → HeaderView → List ℕ
+parts_text version h = front_text (front_in h) ++ (form_text_by (eqb version 1) h.side ++ counted_bytes h.species)
+
+in_parts : (h : HeaderView) → header_bytes h ≡ mark_bytes h.version ++ parts_text h.version h
+unfolding header_bytes front_bytes form_bytes front_text counted_bytes
+in_parts h =
+    let form = form_is (eqb h.version 1) h.side in
+    grouped (mark_bytes h.version) (cells_bytes h.cells) (u32_bytes h.steps) (u32_bytes h.every) (scales_bytes h.scales) (form_bytes h)
+    (u32_bytes (length h.species)) (heads_bytes h.species)
+    ∙ ap (λ l. mark_bytes h.version ++ (front_text (front_in h) ++ (l ++ counted_bytes h.species))) form
+
+abbrev parts_at : ℕ → Parser HeaderView
+parts_at version =
+    front_at version
+    >>= (λ front. form_at version >>= (λ side. heads_at (allowance_of version).particles >>= (λ heads. done (header_of version front side heads))))
+
+abbrev FitsParts : ℕ → HeaderView → Type 0
+FitsParts version h =
+    FitsFront version (front_in h)
+    × (FitsFormBy (eqb version 1) version h.side
+    × (FitsHeads (allowance_of version).particles h.species × (h ≡ header_of version (front_in h) h.side h.species)))
 
 abbrev pub FitsHeader : HeaderView → Type 0
-FitsHeader h =
-    (codes "PICDUMP1" ≡ codes "PICDUMP1")
-    × (FitsCells h.cells
-    × (FitsU32 (is_from_to 0 most_steps) h.steps
-    × (FitsU32 (is_from_to 1 most_steps) h.every
-    × (FitsScales h.scales × (FitsHeads h.species × (h ≡ header_of h.cells h.steps h.every h.scales h.species))))))
+FitsHeader h = FitsMark h.version × FitsParts h.version h
 
-in_parts : (h : HeaderView) → header_bytes h ≡ codes "PICDUMP1" ++ (cells_bytes h.cells ++ (u32_bytes h.steps ++ (u32_bytes h.every ++ (scales_bytes h.scales
-    ++ counted_bytes h.species))))
-unfolding header_bytes front_bytes counted_bytes
-in_parts h =
-    right_7 (codes "PICDUMP1") (cells_bytes h.cells) (u32_bytes h.steps) (u32_bytes h.every) (scales_bytes h.scales) (u32_bytes (length h.species))
-    (heads_bytes h.species)
+spells_parts : (version : ℕ) → Spells (parts_at version) (λ h. parts_text h.version h) (FitsParts version)
+spells_parts version =
+    spells_so (λ h fits. fits) (λ h fits. fits) (λ h fits. ap (λ v. parts_text v h) (ap (λ (o : HeaderView). o.version) fits.1.1.1))
+    (spells_bind front_in (λ a h f g. ap front_in g.1.1) (spells_front version)
+    (λ front. spells_bind (λ (h : HeaderView). h.side) (λ b h f g. ap (λ (o : HeaderView). o.side) g.1) (spells_form version)
+    (λ side. spells_last (header_of version front side) (λ (h : HeaderView). h.species) (λ e. refl) (spells_heads (allowance_of version).particles))))
 
 pub spells_header : Spells header_at header_bytes FitsHeader
 unfolding header_at
 spells_header =
     spells_so (λ h fits. fits) (λ h fits. fits) (λ h fits. in_parts h)
-    (spells_bind (λ (h : HeaderView). codes "PICDUMP1") (λ a h f g. sym f) (spells_exactly wrong_letter (codes "PICDUMP1") mark_small)
-    (λ mark. spells_bind (λ (h : HeaderView). h.cells) (λ a h f g. ap (λ (o : HeaderView). o.cells) g.1.1.1.1) spells_cells
-    (λ a. spells_bind (λ (h : HeaderView). h.steps) (λ b h f g. ap (λ (o : HeaderView). o.steps) g.1.1.1) (spells_within out_of_limits 0 most_steps)
-    (λ b. spells_bind (λ (h : HeaderView). h.every) (λ c h f g. ap (λ (o : HeaderView). o.every) g.1.1) (spells_within out_of_limits 1 most_steps)
-    (λ c. spells_bind (λ (h : HeaderView). h.scales) (λ d h f g. ap (λ (o : HeaderView). o.scales) g.1) spells_scales
-    (λ d. spells_last (header_of a b c d) (λ (h : HeaderView). h.species) (λ e. refl) spells_heads))))))
+    (spells_bind (λ (h : HeaderView). h.version) (λ a h f g. ap (λ (o : HeaderView). o.version) g.1.1.1) spells_mark spells_parts)

@@ -1,10 +1,11 @@
 -- Every header within its limits is read from its text.
-use Rattle.std.proofs.Common.{◌≡◌, ℕ, zero, suc, ◌+◌, ◌-◌, ◌<◌, ◌≤◌, Bool, true, false, not, ◌&&◌, eqb, leb, pos, negsuc, List, [], ◌∷◌, ◌++◌}
-use Rattle.std.proofs.Common.{length, get_or, take, replicate, refl, ap, arith}
+use Rattle.std.proofs.Common.{◌≡◌, ℕ, zero, suc, ◌+◌, ◌-◌, ◌*◌, ◌^◌, ◌<◌, ◌≤◌, Bool, true, false, not, ◌&&◌, eqb, leb, pos, negsuc, List, [], ◌∷◌, ◌++◌}
+use Rattle.std.proofs.Common.{length, get_or, take, replicate, refl, sym, ap, subst, arith}
 use Rattle.std.specs.List.{list_all, list_any}
 use Rattle.std.specs.Str.{bytes_eq}
 use Rattle.std.proofs.Math.Seq.{drop-append_seam}
-use Rattle.std.proofs.lemmas.Bool.{and_parts, and_from, le-leb, ne_eqb}
+use Rattle.std.proofs.Math.Nat.{le_trans}
+use Rattle.std.proofs.lemmas.Bool.{and_parts, and_from, le-leb, ne_eqb, eqb-true}
 use Rattle.std.proofs.lemmas.Bool.Decides.{nat_tests}
 use Rattle.std.proofs.lemmas.Int.{ints}
 use Rattle.std.proofs.lemmas.List.{length-append, length-replicate, length-take-le, get_or-take}
@@ -13,17 +14,22 @@ use Rattle.std.proofs.lemmas.List.Folds.{list_any_none}
 use Rattle.std.proofs.lemmas.List.Sums.{sum_by_more_le}
 use Rattle.std.proofs.lemmas.Slice.Eq.{bytes_eq-Decides}
 use Rattle.pic_num.specs.Multiplier.{Multiplier, IsMultiplier}
-use Rattle.pic_num.specs.Limits.{fewest_cells_of_axis, most_cells_of_axis_1, most_particles_1, most_mass, most_species}
+use Rattle.pic_num.specs.Limits.{most_version, allowance_of, fewest_cells_of_axis, fewest_bits, most_bits, most_mass, most_species}
+use Rattle.pic_num.specs.Sub.{bits_of}
+use Rattle.pic_num.specs.Versions.{IsSideOf}
+use Rattle.pic_num.proofs.VersionLaws.{within_scheme, side_of_version_1}
 use Rattle.pic_grid.specs.Species.{HeadView, no_head, IsName, IsKind, is_name_byte}
+use Rattle.pic_fields.specs.Parser.{input}
 use Rattle.pic_fields.specs.Number.{is_from_to, is_between}
 use Rattle.pic_fields.specs.Bytes.{IsBytes}
 use Rattle.pic_fields.proofs.NumberLaws.{FitsU32, FitsI32}
 use Rattle.pic_fields.proofs.SpellLaws.{fits_each}
-use Rattle.pic_header.specs.HeaderText.{name_bytes}
+use Rattle.pic_header.specs.HeaderText.{name_bytes, header_bytes}
 use Rattle.pic_header.specs.Header.{HeaderView, IsHeader, HasMultipliers}
 use Rattle.pic_header.specs.Limits.{most_steps}
-use Rattle.pic_header.specs.HeaderFields.{name_of, is_name_field, particles_of}
-use Rattle.pic_header.proofs.HeaderSpells.{FitsName, FitsHead, FitsHeader, spells_header}
+use Rattle.pic_header.specs.HeaderFields.{name_of, is_name_field, particles_of, header_length}
+use Rattle.pic_header.proofs.HeaderSpells.{FitsName, FitsHead, FitsFormBy, FitsHeader, spells_header}
+use Rattle.pic_header.proofs.RunLaws.{header_place}
 use Rattle.pic_header.specs.Readable.{HeadersAreRead}
 use Rattle.pic_fields.proofs.FitLaws.{fits_from_to, fits_between}
 
@@ -101,9 +107,9 @@ name_fits before name is differs =
     }
 
 -- a species behind others
-head_fits : (before : List HeadView) (h : HeadView) → IsName h.name → IsKind h.kind → HasMultipliers h.kind → Differs before h.name
-    → particles_of before + h.count ≤ most_particles_1 → FitsHead before h
-head_fits before h name kind mults differs total =
+head_fits : (most : ℕ) (before : List HeadView) (h : HeadView) → IsName h.name → IsKind h.kind → HasMultipliers h.kind → Differs before h.name
+    → most < 2 ^ 32 → particles_of before + h.count ≤ most → FitsHead most before h
+head_fits most before h name kind mults differs small total =
     let low = kind.charge_low in
     let high = kind.charge_high in (
       name_fits before h.name name differs,
@@ -115,8 +121,23 @@ head_fits before h name kind mults differs total =
             (mult_fits h.kind.kick mults.kick, (mult_fits h.kind.turn mults.turn, refl)),
           ),
         ),
-        (fits_from_to 0 (most_particles_1 - particles_of before) h.count (omega arith) (omega arith) (omega (arith, total)), refl),
+        (fits_from_to 0 (most - particles_of before) h.count (omega (arith, small)) (omega arith) (omega (arith, total)), refl),
       ),
+    )
+
+-- a digit
+fits_from_to_byte : (low high n : ℕ) → high < 256 → low ≤ n → n ≤ high → (n < 256) × (is_from_to low high n ≡ true)
+fits_from_to_byte low high n small least most = (omega (arith, small, most), and_from (leb low n) (leb n high) (le-leb low n least) (le-leb n high most))
+
+-- what version 2 says more
+form_fits : (first : Bool) (version side : ℕ) → eqb version 1 ≡ first → IsSideOf version side → FitsFormBy first version side
+form_fits true version side is sides =
+    let same = eqb-true version 1 is in
+    subst (λ v. side ≡ 2 ^ (allowance_of v).least_bits) (sym same) (side_of_version_1 side (subst (λ v. IsSideOf v side) same sides))
+form_fits false version side is sides =
+    let scheme = within_scheme version in (
+      fits_from_to fewest_bits most_bits (bits_of side) (omega arith) (le_trans scheme.least_bits sides.least) (le_trans sides.most scheme.greatest_bits),
+      ((omega arith, refl), sides.power),
     )
 
 -- all parts of a header
@@ -126,49 +147,69 @@ header_fits h is =
     let c = is.cells in
     let s = is.scales in
     let heads = l.heads in
-    let count = length h.species in (
-      refl,
+    let scheme = within_scheme h.version in
+    let few = scheme.cells in
+    let count = length h.species in
+    let most = (allowance_of h.version).cells in
+    let least = l.version.least in
+    let last = l.version.most in (
+      (refl, fits_from_to_byte (48 + 1) (48 + most_version) (48 + h.version) (omega arith) (omega (arith, least)) (omega (arith, last))),
       (
         (
-          fits_from_to fewest_cells_of_axis most_cells_of_axis_1 h.cells.x (omega arith) c.x_least l.grid.x,
           (
-            fits_from_to fewest_cells_of_axis most_cells_of_axis_1 h.cells.y (omega arith) c.y_least l.grid.y,
-            (fits_from_to fewest_cells_of_axis most_cells_of_axis_1 h.cells.z (omega arith) c.z_least l.grid.z, refl),
+            fits_from_to fewest_cells_of_axis most h.cells.x (omega (arith, few)) c.x_least l.grid.x,
+            (
+              fits_from_to fewest_cells_of_axis most h.cells.y (omega (arith, few)) c.y_least l.grid.y,
+              (fits_from_to fewest_cells_of_axis most h.cells.z (omega (arith, few)) c.z_least l.grid.z, refl),
+            ),
+          ),
+          (
+            fits_from_to 0 most_steps h.steps (omega arith) (omega arith) l.steps_most,
+            (
+              fits_from_to 1 most_steps h.every (omega arith) l.every_least l.every_most,
+              (
+                (
+                  mult_fits h.scales.e_to_b s.e_to_b,
+                  (mult_fits h.scales.b_to_e s.b_to_e, (mult_fits h.scales.e_force s.e_force, (mult_fits h.scales.b_force s.b_force, refl))),
+                ),
+                refl,
+              ),
+            ),
           ),
         ),
         (
-          fits_from_to 0 most_steps h.steps (omega arith) (omega arith) l.steps_most,
+          form_fits (eqb h.version 1) h.version h.side refl l.grid.sides,
           (
-            fits_from_to 1 most_steps h.every (omega arith) l.every_least l.every_most,
             (
-              (
-                mult_fits h.scales.e_to_b s.e_to_b,
-                (mult_fits h.scales.b_to_e s.b_to_e, (mult_fits h.scales.e_force s.e_force, (mult_fits h.scales.b_force s.b_force, refl))),
-              ),
-              (
-                (
-                  fits_from_to 0 most_species count (omega arith) (omega arith) heads.few,
-                  fits_each FitsHead no_head count h.species refl (λ i below. species_fits i below),
-                ),
-                ap (λ side. record h { side = side }) l.grid.same_side,
-              ),
+              fits_from_to 0 most_species count (omega arith) (omega arith) heads.few,
+              fits_each (FitsHead (allowance_of h.version).particles) no_head count h.species refl (λ i below. species_fits i below),
             ),
+            refl,
           ),
         ),
       ),
     )
   where
-    species_fits : (i : ℕ) → i < length h.species → FitsHead (take i h.species) (get_or h.species i no_head)
+    species_fits : (i : ℕ) → i < length h.species → FitsHead (allowance_of h.version).particles (take i h.species) (get_or h.species i no_head)
     species_fits i below =
         let heads = is.limits.heads in
         let xs = h.species in
+        let some = (within_scheme h.version).particles in
         let size = length-take-le i xs (omega (arith, below)) in
         let sums = sum_by_more_le (λ (s : HeadView). s.count) xs i no_head below in
-        head_fits (take i xs) (get_or xs i no_head) (heads.names i below) (heads.kinds i below)
+        head_fits (allowance_of h.version).particles (take i xs) (get_or xs i no_head) (heads.names i below) (heads.kinds i below)
         (All-get_or (λ (s : HeadView). HasMultipliers s.kind) xs i no_head below is.kinds)
         (λ k less. (let inside : k < i = omega (arith, less, size) in
         rw (get_or-take i xs k no_head inside) (heads.differ k i inside below)))
+        (omega (arith, some))
         (omega (arith, sums, heads.total))
 
 pub headers_are_read : HeadersAreRead
 headers_are_read h is place rest = spells_header.again place rest h (header_fits h is)
+
+-- how many bytes its text has
+pub text_length : (h : HeaderView) → IsHeader h → length (header_bytes h) ≡ header_length h
+text_length h is =
+    let size = length (header_bytes h) in
+    let end = header_place (input 0 (header_bytes h ++ [])) (input (0 + size) []) h (headers_are_read h is 0 []) in
+    omega (arith, end)

@@ -1,14 +1,17 @@
 -- How many bytes the parts of a header take, and that no place lies before the start.
-use Rattle.std.proofs.Common.{◌≡◌, ℕ, zero, suc, ◌+◌, ◌*◌, ◌≤◌, Bool, true, false, List, [], ◌∷◌, ◌++◌, length, Ok, Err, inl, inr}
+use Rattle.std.proofs.Common.{◌≡◌, ℕ, zero, suc, ◌+◌, ◌*◌, ◌^◌, ◌≤◌, eqb, Bool, true, false, List, [], ◌∷◌, ◌++◌, length, Ok, Err, inl, inr}
 use Rattle.std.proofs.Common.{refl, sym, ap, subst, arith, length-append}
-use Rattle.std.specs.Prelude.{if◌then◌else◌, codes}
+use Rattle.std.specs.Prelude.{if◌then◌else◌}
 use Rattle.std.proofs.lemmas.Bool.{cases_lt, lt-ltb, le-ltb}
 use Rattle.pic_fields.specs.Parser.{Input, fault, Parsed, Parser, done, after, ◌>>=◌, mapped, field, tested_by, checked, each}
 use Rattle.pic_fields.specs.Number.{byte_at, u32_at, i32_at, within, letter, exactly, between}
 use Rattle.pic_fields.proofs.SpellLaws.{same_read, bind_parts}
 use Rattle.pic_header.specs.Header.{HeaderView}
 use Rattle.pic_grid.specs.Species.{HeadView}
-use Rattle.pic_header.specs.HeaderFields.{wrong_letter, cells_at, mult_at, scales_at, kind_at, name_at, head_at, heads_at, header_at}
+use Rattle.pic_num.specs.Limits.{allowance_of}
+use Rattle.pic_header.specs.HeaderText.{form_length}
+use Rattle.pic_header.specs.HeaderFields.{version_at, mark_at, axis_at, cells_at, mult_at, scales_at, front_at, form_of_2, form_at, kind_at, name_at}
+use Rattle.pic_header.specs.HeaderFields.{head_at, heads_at, header_of, header_at, header_length}
 
 -- a value lies n bytes on, and a fault not before the start
 abbrev pub RunsTo : {A : Type 0} → ℕ → ℕ → Parsed A → Type 0
@@ -124,14 +127,53 @@ runs_mult : Runs mult_at 8
 unfolding mult_at between i32_at
 runs_mult = runs_then 4 4 (runs_checked _ _ 4 (runs_mapped _ 4 (runs_field 4))) (λ n. runs_then 4 0 (runs_within _ _ _) (λ k. runs_done _))
 
-pub runs_cells : Runs cells_at 12
+runs_version : Runs version_at 1
+unfolding version_at byte_at
+runs_version = runs_mapped _ 1 (runs_checked _ _ 1 (runs_mapped _ 1 (runs_field 1)))
+
+pub runs_mark : Runs mark_at 8
+unfolding mark_at
+runs_mark = runs_then 7 1 (runs_exactly _ _) (λ letters. runs_version)
+
+pub runs_axis : (version : ℕ) → Runs (axis_at version) 4
+unfolding axis_at
+runs_axis version = runs_within _ _ _
+
+pub runs_cells : (version : ℕ) → Runs (cells_at version) 12
 unfolding cells_at
-runs_cells = runs_then 4 8 (runs_within _ _ _) (λ x. runs_then 4 4 (runs_within _ _ _) (λ y. runs_then 4 0 (runs_within _ _ _) (λ z. runs_done _)))
+runs_cells version =
+    runs_then 4 8 (runs_axis version) (λ x. runs_then 4 4 (runs_axis version) (λ y. runs_then 4 0 (runs_axis version) (λ z. runs_done _)))
 
 pub runs_scales : Runs scales_at 32
 unfolding scales_at
 runs_scales =
     runs_then 8 24 runs_mult (λ a. runs_then 8 16 runs_mult (λ b. runs_then 8 8 runs_mult (λ c. runs_then 8 0 runs_mult (λ d. runs_done _))))
+
+pub runs_front : (version : ℕ) → Runs (front_at version) 52
+unfolding front_at
+runs_front version =
+    runs_then 12 40 (runs_cells version)
+    (λ cells. runs_then 4 36 (runs_within _ _ _) (λ steps. runs_then 4 32 (runs_within _ _ _) (λ every. runs_then 32 0 runs_scales (λ scales. runs_done _))))
+
+runs_form_of_2 : Runs form_of_2 12
+unfolding form_of_2
+runs_form_of_2 =
+    runs_then 4 8 (runs_within _ _ _) (λ bits. runs_then 4 4 (runs_within _ _ _) (λ filter. runs_then 4 0 (runs_within _ _ _) (λ loops. runs_done _)))
+
+pub form_few : (version : ℕ) → form_length version ≤ 12
+form_few version = go (eqb version 1)
+  where
+    go : (first : Bool) → (if first then 0 else 12) ≤ 12
+    go true = omega arith
+    go false = omega arith
+
+pub runs_form : (version : ℕ) → Runs (form_at version) (form_length version)
+unfolding form_at
+runs_form version = go (eqb version 1)
+  where
+    go : (first : Bool) → Runs (if first then done (2 ^ (allowance_of version).least_bits) else form_of_2) (if first then 0 else 12)
+    go true = runs_done _
+    go false = runs_form_of_2
 
 pub runs_kind : Runs kind_at 24
 unfolding kind_at between i32_at
@@ -143,13 +185,14 @@ pub runs_name : (before : List HeadView) → Runs (name_at before) 32
 unfolding name_at
 runs_name before = runs_mapped _ 32 (runs_checked _ _ 32 (runs_field 32))
 
-pub runs_head : (before : List HeadView) → Runs (head_at before) 60
+pub runs_head : (most : ℕ) (before : List HeadView) → Runs (head_at most before) 60
 unfolding head_at
-runs_head before = runs_then 32 28 (runs_name before) (λ name. runs_then 24 4 runs_kind (λ kind. runs_then 4 0 (runs_within _ _ _) (λ count. runs_done _)))
+runs_head most before =
+    runs_then 32 28 (runs_name before) (λ name. runs_then 24 4 runs_kind (λ kind. runs_then 4 0 (runs_within _ _ _) (λ count. runs_done _)))
 
-pub goes_heads : GoesOn heads_at
+pub goes_heads : (most : ℕ) → GoesOn (heads_at most)
 unfolding heads_at
-goes_heads = goes_then (goes_on_by 4 (runs_within _ _ _)) (λ count. goes_each head_at count (λ hs. goes_on_by 60 (runs_head hs)))
+goes_heads most = goes_then (goes_on_by 4 (runs_within _ _ _)) (λ count. goes_each (head_at most) count (λ hs. goes_on_by 60 (runs_head most hs)))
 
 -- so many values are as many
 each_count : {A : Type 0} (f : List A → Parser A) (k : ℕ) (i j : Input) (xs : List A) → each k f i ≡ Ok (xs, j) → length xs ≡ k
@@ -166,33 +209,28 @@ each_count f (suc k) i j xs is =
 place_by : {A : Type 0} (p : Parser A) (n : ℕ) (i j : Input) (a : A) → Runs p n → p i ≡ Ok (a, j) → j.place ≡ i.place + n
 place_by p n i j a runs is = subst (RunsTo i.place n) is (runs.on i)
 
-heads_end : (i j : Input) (heads : List HeadView) → heads_at i ≡ Ok (heads, j) → j.place ≡ i.place + 4 + 60 * length heads
+heads_end : (most : ℕ) (i j : Input) (heads : List HeadView) → heads_at most i ≡ Ok (heads, j) → j.place ≡ i.place + 4 + 60 * length heads
 unfolding heads_at
-heads_end i j heads is =
-    let (count, k, e1, r1) = bind_parts (within _ _ _) (λ count. each count head_at) i j heads is in
+heads_end most i j heads is =
+    let (count, k, e1, r1) = bind_parts (within _ _ _) (λ count. each count (head_at most)) i j heads is in
     let first = place_by (within _ _ _) 4 i k count (runs_within _ _ _) e1 in
-    let second = place_by (each count head_at) (count * 60) k j heads (runs_each head_at 60 count runs_head) r1 in
-    let size = each_count head_at count k j heads r1 in
+    let second = place_by (each count (head_at most)) (count * 60) k j heads (runs_each (head_at most) 60 count (runs_head most)) r1 in
+    let size = each_count (head_at most) count k j heads r1 in
     omega (arith, first, second, size)
 
 -- what follows a header
-pub header_place : (i j : Input) (h : HeaderView) → header_at i ≡ Ok (h, j) → j.place ≡ i.place + 64 + 60 * length h.species
+pub header_place : (i j : Input) (h : HeaderView) → header_at i ≡ Ok (h, j) → j.place ≡ i.place + header_length h
 unfolding header_at done
 header_place i j h is =
-    let (mark, i1, e1, r1) = bind_parts (exactly wrong_letter (codes "PICDUMP1")) _ i j h is in
-    let (cells, i2, e2, r2) = bind_parts cells_at _ i1 j h r1 in
-    let (steps, i3, e3, r3) = bind_parts (within _ _ _) _ i2 j h r2 in
-    let (every, i4, e4, r4) = bind_parts (within _ _ _) _ i3 j h r3 in
-    let (scales, i5, e5, r5) = bind_parts scales_at _ i4 j h r4 in
-    let (heads, i6, e6, r6) = bind_parts heads_at
-    (λ heads. done (record { cells = cells; side = _; steps = steps; every = every; scales = scales; species = heads })) i5 j h r5 in
-    let (value, here) = same_read _ h i6 j r6 in
-    let size : length heads ≡ length h.species = ap (λ (g : HeaderView). length g.species) value in
-    let end : i6.place ≡ j.place = ap (λ (k : Input). k.place) here in
-    let a : i1.place ≡ i.place + 8 = place_by _ 8 i i1 mark (runs_exactly _ _) e1 in
-    let b : i2.place ≡ i1.place + 12 = place_by _ 12 i1 i2 cells runs_cells e2 in
-    let c : i3.place ≡ i2.place + 4 = place_by _ 4 i2 i3 steps (runs_within _ _ _) e3 in
-    let d : i4.place ≡ i3.place + 4 = place_by _ 4 i3 i4 every (runs_within _ _ _) e4 in
-    let e : i5.place ≡ i4.place + 32 = place_by _ 32 i4 i5 scales runs_scales e5 in
-    let f : i6.place ≡ i5.place + 4 + 60 * length heads = heads_end i5 i6 heads e6 in
-    omega (arith, a, b, c, d, e, f, size, end)
+    let (version, i1, e1, r1) = bind_parts mark_at _ i j h is in
+    let (front, i2, e2, r2) = bind_parts (front_at version) _ i1 j h r1 in
+    let (side, i3, e3, r3) = bind_parts (form_at version) _ i2 j h r2 in
+    let (heads, i4, e4, r4) = bind_parts (heads_at (allowance_of version).particles) (λ heads. done (header_of version front side heads)) i3 j h r3 in
+    let (value, here) = same_read _ h i4 j r4 in
+    let size : 64 + form_length version + 60 * length heads ≡ header_length h = ap (λ (g : HeaderView). header_length g) value in
+    let end : i4.place ≡ j.place = ap (λ (k : Input). k.place) here in
+    let a : i1.place ≡ i.place + 8 = place_by _ 8 i i1 version runs_mark e1 in
+    let b : i2.place ≡ i1.place + 52 = place_by _ 52 i1 i2 front (runs_front version) e2 in
+    let c : i3.place ≡ i2.place + form_length version = place_by _ (form_length version) i2 i3 side (runs_form version) e3 in
+    let d : i4.place ≡ i3.place + 4 + 60 * length heads = heads_end _ i3 i4 heads e4 in
+    omega (arith, a, b, c, d, size, end)

@@ -2,16 +2,18 @@
 use Rattle.std.specs.Prelude.{◌≡◌, ℕ, ◌≤◌, List, All}
 use Rattle.pic_num.specs.declared.motion.Kind.{Kind}
 use Rattle.pic_num.specs.declared.mult.Scales.{Scales}
-use Rattle.pic_num.specs.Limits.{most_cells_of_axis_1, most_particles_1, side_1}
+use Rattle.pic_num.specs.Limits.{allowance_of}
 use Rattle.pic_num.specs.Multiplier.{IsMultiplier}
 use Rattle.pic_num.specs.Space.{Triple}
+use Rattle.pic_num.specs.Versions.{IsVersion, IsGridOf}
 use Rattle.pic_grid.specs.Cells.{Grid, IsCells}
 use Rattle.pic_grid.specs.Species.{HeadView, AreHeads}
 use Rattle.pic_header.specs.Limits.{most_steps}
 
--- a header: the numbers of cells, the side of a cell, the steps, after how many of them a frame is due,
--- the multipliers, and the species
+-- a header: the version of its dump, the numbers of cells, the side of a cell, the steps, after how many
+-- of them a frame is due, the multipliers, and the species
 pub record HeaderView : Type 0 where
+  pub version : ℕ
   pub cells : Triple
   pub side : ℕ
   pub steps : ℕ
@@ -20,8 +22,9 @@ pub record HeaderView : Type 0 where
   pub species : List HeadView
 
 -- the header of these parts
-abbrev pub header_with : Grid → ℕ → ℕ → Scales → List HeadView → HeaderView
-header_with grid steps every scales species = record {
+abbrev pub header_with : ℕ → Grid → ℕ → ℕ → Scales → List HeadView → HeaderView
+header_with version grid steps every scales species = record {
+  version = version;
   cells = grid.n;
   side = grid.side;
   steps = steps;
@@ -30,20 +33,21 @@ header_with grid steps every scales species = record {
   species = species;
 }
 
--- the grid of a dump of version 1, which doesn't say the side of a cell
-pub record IsGrid_1 (n : Triple) (side : ℕ) : Type 0 where
-  pub x : n.x ≤ most_cells_of_axis_1
-  pub y : n.y ≤ most_cells_of_axis_1
-  pub z : n.z ≤ most_cells_of_axis_1
-  pub same_side : side ≡ side_1
+-- numbers of cells that a version allows
+pub record AreCellsOf (version : ℕ) (n : Triple) : Type 0 where
+  pub cells : IsCells n
+  pub x : n.x ≤ (allowance_of version).cells
+  pub y : n.y ≤ (allowance_of version).cells
+  pub z : n.z ≤ (allowance_of version).cells
 
--- the limits of the grid, the steps and the species
+-- the limits of the version, and by it of the grid and of the species; and those of the steps
 pub record HasLimits (h : HeaderView) : Type 0 where
-  pub grid : IsGrid_1 h.cells h.side
+  pub version : IsVersion h.version
+  pub grid : IsGridOf h.version h.cells h.side
   pub steps_most : h.steps ≤ most_steps
   pub every_least : 1 ≤ h.every
   pub every_most : h.every ≤ most_steps
-  pub heads : AreHeads most_particles_1 h.species
+  pub heads : AreHeads (allowance_of h.version).particles h.species
 
 -- the limits of the four multipliers
 pub record AreMultipliers (s : Scales) : Type 0 where

@@ -1,18 +1,19 @@
 -- The header of a dump, field by field: this project's profile.
-use Rattle.std.specs.Prelude.{◌≡◌, pos, negsuc, ℕ, ◌-◌, ◌+◌, ◌*◌, ◌<◌, ◌≤◌, Bool, not, ◌&&◌, ◌==◌, nat_eq, nat_le, if◌then◌else◌}
+use Rattle.std.specs.Prelude.{◌≡◌, pos, negsuc, ℕ, ◌-◌, ◌+◌, ◌*◌, ◌^◌, ◌<◌, ◌≤◌, Bool, not, ◌&&◌, ◌==◌, nat_eq, nat_le, if◌then◌else◌}
 use Rattle.std.specs.Prelude.{bytes_eq, List, [], ◌∷◌, length, drop, sum_by, slice_index_or, codes}
 use Rattle.std.specs.List.{list_all, list_any}
 use Rattle.pic_num.specs.declared.motion.Kind.{Kind}
 use Rattle.pic_num.specs.declared.mult.Scales.{Scales}
-use Rattle.pic_num.specs.Limits.{fewest_cells_of_axis, most_cells_of_axis_1, side_1, most_species, most_particles_1, most_mass}
+use Rattle.pic_num.specs.Limits.{most_version, allowance_of, fewest_cells_of_axis, fewest_bits, most_bits, most_species, most_mass}
 use Rattle.pic_num.specs.Multiplier.{Multiplier}
 use Rattle.pic_num.specs.Space.{Triple}
 use Rattle.pic_grid.specs.Species.{HeadView, no_head, IsName, IsKind, is_name_byte}
 use Rattle.pic_fields.specs.Causes.{cause_number}
 use Rattle.pic_fields.specs.declared.cause.Cause.TheVariants.{WrongLetter, OutOfLimits}
 use Rattle.pic_fields.specs.Parser.{Parser, field, done, ◌>>=◌, checked, mapped, each}
-use Rattle.pic_fields.specs.Number.{within, exactly, between}
+use Rattle.pic_fields.specs.Number.{byte_at, is_from_to, within, exactly, between}
 use Rattle.pic_header.specs.Header.{HeaderView}
+use Rattle.pic_header.specs.HeaderText.{zero_digit, form_length}
 use Rattle.pic_header.specs.Limits.{most_steps, most_letters}
 
 -- the causes of a fault in the header, but for a field that the end of the input cuts
@@ -22,12 +23,23 @@ wrong_letter = cause_number WrongLetter
 abbrev pub out_of_limits : ℕ
 out_of_limits = cause_number OutOfLimits
 
--- the numbers of cells
-unfoldable pub cells_at : Parser Triple
-cells_at =
-    within out_of_limits fewest_cells_of_axis most_cells_of_axis_1
-    >>= (λ x. within out_of_limits fewest_cells_of_axis most_cells_of_axis_1
-    >>= (λ y. within out_of_limits fewest_cells_of_axis most_cells_of_axis_1 >>= (λ z. done (record { x = x; y = y; z = z }))))
+-- the version, of which the mark has the digit
+unfoldable pub version_at : Parser ℕ
+version_at = mapped (λ digit. digit - zero_digit) (checked wrong_letter (is_from_to (zero_digit + 1) (zero_digit + most_version)) byte_at)
+
+-- the mark: seven letters, and the version
+unfoldable pub mark_at : Parser ℕ
+mark_at = exactly wrong_letter (codes "PICDUMP") >>= (λ letters. version_at)
+
+-- a number of cells, and the three of them
+unfoldable pub axis_at : ℕ → Parser ℕ
+axis_at version = within out_of_limits fewest_cells_of_axis (allowance_of version).cells
+
+unfoldable pub cells_at : ℕ → Parser Triple
+cells_at version =
+    axis_at version
+    >>= (λ x. axis_at version
+    >>= (λ y. axis_at version >>= (λ z. done (record { x = x; y = y; z = z }))))
 
 -- a multiplier
 unfoldable pub mult_at : Parser Multiplier
@@ -41,6 +53,32 @@ scales_at =
     >>= (λ b_to_e. mult_at
     >>= (λ e_force. mult_at
     >>= (λ b_force. done (record { e_to_b = e_to_b; b_to_e = b_to_e; e_force = e_force; b_force = b_force })))))
+
+-- what both versions say before what version 2 says more
+pub record Front : Type 0 where
+  pub cells : Triple
+  pub steps : ℕ
+  pub every : ℕ
+  pub scales : Scales
+
+unfoldable pub front_at : ℕ → Parser Front
+front_at version =
+    cells_at version
+    >>= (λ cells. within out_of_limits 0 most_steps
+    >>= (λ steps. within out_of_limits 1 most_steps
+    >>= (λ every. scales_at
+    >>= (λ scales. done (record { cells = cells; steps = steps; every = every; scales = scales })))))
+
+-- what version 2 says more, of which the side is kept: a power of two, no filter and no loops; a cell of
+-- version 1 has the one side
+unfoldable pub form_of_2 : Parser ℕ
+form_of_2 =
+    within out_of_limits fewest_bits most_bits
+    >>= (λ bits. within out_of_limits 0 0
+    >>= (λ filter. within out_of_limits 0 0 >>= (λ loops. done (2 ^ bits))))
+
+unfoldable pub form_at : ℕ → Parser ℕ
+form_at version = if version == 1 then done (2 ^ (allowance_of version).least_bits) else form_of_2
 
 -- charge, mass and the two multipliers of a species
 unfoldable pub kind_at : Parser Kind
@@ -70,40 +108,50 @@ name_at before = mapped name_of (checked out_of_limits (is_new_name_field before
 abbrev pub particles_of : List HeadView → ℕ
 particles_of heads = sum_by (λ h. h.count) heads
 
--- a species after others
-unfoldable pub head_at : List HeadView → Parser HeadView
-head_at before =
+-- a species after others, where so many particles are allowed
+unfoldable pub head_at : ℕ → List HeadView → Parser HeadView
+head_at most before =
     name_at before
     >>= (λ name. kind_at
-    >>= (λ kind. within out_of_limits 0 (most_particles_1 - particles_of before)
+    >>= (λ kind. within out_of_limits 0 (most - particles_of before)
     >>= (λ count. done (record { name = name; kind = kind; count = count }))))
 
 -- the species
-unfoldable pub heads_at : Parser (List HeadView)
-heads_at = within out_of_limits 0 most_species >>= (λ count. each count head_at)
+unfoldable pub heads_at : ℕ → Parser (List HeadView)
+heads_at most = within out_of_limits 0 most_species >>= (λ count. each count (head_at most))
 
--- the header of version 1, whose cells have one side
+-- the header of these parts
+abbrev pub header_of : ℕ → Front → ℕ → List HeadView → HeaderView
+header_of version front side heads = record {
+  version = version;
+  cells = front.cells;
+  side = side;
+  steps = front.steps;
+  every = front.every;
+  scales = front.scales;
+  species = heads;
+}
+
+-- the header
 unfoldable pub header_at : Parser HeaderView
 header_at =
-    exactly wrong_letter (codes "PICDUMP1")
-    >>= (λ mark. cells_at
-    >>= (λ cells. within out_of_limits 0 most_steps
-    >>= (λ steps. within out_of_limits 1 most_steps
-    >>= (λ every. scales_at
-    >>= (λ scales. heads_at
-    >>= (λ heads. done (record { cells = cells; side = side_1; steps = steps; every = every; scales = scales; species = heads })))))))
+    mark_at
+    >>= (λ version. front_at version
+    >>= (λ front. form_at version
+    >>= (λ side. heads_at (allowance_of version).particles
+    >>= (λ heads. done (header_of version front side heads)))))
 
 -- how many bytes a header has
 abbrev pub header_length : HeaderView → ℕ
-header_length h = 64 + 60 * length h.species
+header_length h = 64 + form_length h.version + 60 * length h.species
 
 -- the bytes of the longest header
 abbrev pub header_most : ℕ
-header_most = 1024
+header_most = 1036
 
 -- a species within the limits, with a name that none of these has, and few enough particles beside theirs
-pub record IsNewHead (heads : List HeadView) (h : HeadView) : Type 0 where
+pub record IsNewHead (most : ℕ) (heads : List HeadView) (h : HeadView) : Type 0 where
   pub name : IsName h.name
   pub kind : IsKind h.kind
   pub differs : (i : ℕ) → i < length heads → (slice_index_or heads i no_head).name ≡ h.name → ⊥
-  pub total : sum_by (λ s. s.count) heads + h.count ≤ most_particles_1
+  pub total : sum_by (λ s. s.count) heads + h.count ≤ most

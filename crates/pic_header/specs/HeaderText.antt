@@ -1,5 +1,5 @@
--- The text of a header of a dump, version 1: this project's profile. All numbers are big-endian.
-use Rattle.std.specs.Prelude.{ℕ, ◌-◌, List, ◌++◌, length, replicate, codes}
+-- The text of a header of a dump: this project's profile. All numbers are big-endian.
+use Rattle.std.specs.Prelude.{ℕ, ◌+◌, ◌-◌, ◌==◌, if◌then◌else◌, List, [], ◌∷◌, ◌++◌, length, replicate, codes}
 use Rattle.std.specs.List.{flat_map}
 use Rattle.pic_num.specs.Limits.{most_letters}
 use Rattle.pic_num.specs.declared.motion.Kind.{Kind}
@@ -7,8 +7,13 @@ use Rattle.pic_num.specs.declared.mult.Scales.{Scales}
 use Rattle.pic_num.specs.Bytes.{u32_bytes, i32_bytes}
 use Rattle.pic_num.specs.Multiplier.{Multiplier}
 use Rattle.pic_num.specs.Space.{Triple}
+use Rattle.pic_num.specs.Sub.{bits_of}
 use Rattle.pic_grid.specs.Species.{HeadView}
 use Rattle.pic_header.specs.Header.{HeaderView}
+
+-- the byte of the digit 0; that of another is so much more
+abbrev pub zero_digit : ℕ
+zero_digit = 48
 
 -- a multiplier n / 2^k
 unfoldable pub mult_bytes : Multiplier → List ℕ
@@ -22,15 +27,29 @@ scales_bytes s = mult_bytes s.e_to_b ++ mult_bytes s.b_to_e ++ mult_bytes s.e_fo
 unfoldable pub cells_bytes : Triple → List ℕ
 cells_bytes n = u32_bytes n.x ++ u32_bytes n.y ++ u32_bytes n.z
 
--- the 64 bytes before the species: the mark, the cells, the steps, after how many of them a frame is
--- due, the multipliers, and how many species there are
+-- the mark: seven letters, and the digit of the version
+unfoldable pub mark_bytes : ℕ → List ℕ
+mark_bytes version = codes "PICDUMP" ++ (zero_digit + version) ∷ []
+
+-- what version 2 says more: which power of two the side of a cell is, that there is no filter, and how
+-- many loops there are, which is none
+unfoldable pub form_bytes : HeaderView → List ℕ
+form_bytes h = if h.version == 1 then [] else u32_bytes (bits_of h.side) ++ u32_bytes 0 ++ u32_bytes 0
+
+-- how many bytes that has
+abbrev pub form_length : ℕ → ℕ
+form_length version = if version == 1 then 0 else 12
+
+-- the bytes before the species: the mark, the cells, the steps, after how many of them a frame is
+-- due, the multipliers, what version 2 says more, and how many species there are
 unfoldable pub front_bytes : HeaderView → List ℕ
 front_bytes h =
-    codes "PICDUMP1"
+    mark_bytes h.version
     ++ cells_bytes h.cells
     ++ u32_bytes h.steps
     ++ u32_bytes h.every
     ++ scales_bytes h.scales
+    ++ form_bytes h
     ++ u32_bytes (length h.species)
 
 -- a name, filled with zeros

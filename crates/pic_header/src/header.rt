@@ -1,23 +1,27 @@
 //! The header of a dump.
 
-ghost use Rattle.std.specs.Prelude.{◌≡◌, All};
+ghost use Rattle.std.specs.Prelude.{◌≡◌, ◌≤◌, All, length};
 ghost use Rattle.pic_grid.specs.Cells.{IsCells};
 ghost use Rattle.pic_header.specs.Header.{HeaderView, header_with, HasLimits, HasMultipliers, AreMultipliers, IsHeader};
+ghost use Rattle.pic_header.specs.HeaderText.{header_bytes};
+ghost use Rattle.pic_header.specs.HeaderFields.{header_length, header_most};
 
 use crate::head::{Head, Heads};
+use crate::heading::{FRONT_BYTES, HEAD_BYTES, form_length};
 use crate::keeping::{keep_kind, keep_scales};
 use pic_grid::Cells;
 use pic_num::Scales;
 use std::marker::Model;
 
-/// The header of a dump of version 1: the numbers of cells and the side of a cell, the number of steps,
+/// The header of a dump: its version, the numbers of cells and the side of a cell, the number of steps,
 /// after how many steps a frame is due, the four multipliers, and the species.
 ///
-/// An axis has at most 64 cells, whose side is 4096 sub-cells. There are at most 1000000 steps, a frame
-/// is due after 1 to 1000000 of them, and the species are at most 16, with names of their own and
-/// 1048576 particles at most. So a dump's reader refuses no number of it.
+/// What a version allows of cells, their side and particles is `allowance_of` of `pic_num`. There are at
+/// most 1000000 steps, a frame is due after 1 to 1000000 of them, and the species are at most 16, with
+/// names of their own. So a dump's reader refuses no number of it.
 #[derive(Debug, Drop)]
 pub struct Header {
+    version: u32,
     cells: Cells,
     steps: u32,
     every: u32,
@@ -28,27 +32,43 @@ pub struct Header {
 impl Model for Header {
     ghost Value = { HeaderView };
 
-    ghost view = { λ h. header_with h.cells h.steps h.every h.scales h.species };
+    ghost view = { λ h. header_with h.version h.cells h.steps h.every h.scales h.species };
 
-    ghost invariant = { λ h. IsHeader (header_with h.cells h.steps h.every h.scales h.species) };
+    ghost invariant = { λ h. IsHeader (header_with h.version h.cells h.steps h.every h.scales h.species) };
 }
 
 impl Header {
     /// The header of numbers and species within the limits.
-    pub fn new(cells: Cells, steps: u32, every: u32, scales: Scales, species: Heads) -> Header
-        requires { HasLimits (header_with cells steps every scales species) }
-        ensures { result ≡ header_with cells steps every scales species }
+    pub fn new(
+        version: u32,
+        cells: Cells,
+        steps: u32,
+        every: u32,
+        scales: Scales,
+        species: Heads,
+    ) -> Header
+        requires { HasLimits (header_with version cells steps every scales species) }
+        ensures { result ≡ header_with version cells steps every scales species }
     {
         keep_cells(cells);
         keep_scales(&scales);
         let species = keep_species(species);
         Header {
+            version,
             cells,
             steps,
             every,
             scales,
             species,
         }
+    }
+
+    /// The version of its dump.
+    pub fn version(&self) -> u32
+        ensures value { result ≡ self.now.version }
+        ensures limits { IsHeader self.now }
+    {
+        self.version
     }
 
     /// The numbers of cells and the side of a cell.
@@ -88,6 +108,16 @@ impl Header {
         ensures limits { IsHeader self.now }
     {
         &self.species
+    }
+
+    /// How many bytes its text has.
+    pub fn length(&self) -> u64
+        ensures value { result ≡ header_length self.now }
+        ensures text { length (header_bytes self.now) ≡ header_length self.now }
+        ensures most { header_length self.now ≤ header_most }
+    {
+        let species = self.species.as_slice().len() as u64;
+        FRONT_BYTES + form_length(self.version) + HEAD_BYTES * species
     }
 }
 

@@ -1,21 +1,31 @@
 //! The header of a dump, put.
 
-ghost use Rattle.std.specs.Prelude.{◌≡◌, ◌+◌, ◌*◌, ◌≤◌, ◌++◌, length};
+ghost use Rattle.std.specs.Prelude.{◌≡◌, ◌+◌, ◌*◌, ◌≤◌, ◌<◌, ◌++◌, ℕ, length, slice_index_or};
 ghost use Rattle.std.specs.List.{flat_map};
-ghost use Rattle.pic_num.specs.Limits.{most_letters, most_particles_1};
+ghost use Rattle.pic_num.specs.Limits.{most_letters, most_species};
+ghost use Rattle.pic_header.specs.HeaderFields.{header_most};
 ghost use Rattle.pic_io.specs.Told.{HasCause};
 ghost use Rattle.pic_io.specs.Sink.{Puts};
-ghost use Rattle.pic_grid.specs.Species.{HeadView, AreHeads};
-ghost use Rattle.pic_header.specs.HeaderText.{mult_bytes, scales_bytes, cells_bytes, front_bytes, name_bytes, kind_bytes, head_bytes, heads_bytes, header_bytes};
+ghost use Rattle.pic_grid.specs.Species.{HeadView, IsName, no_head};
+ghost use Rattle.pic_header.specs.HeaderText.{mult_bytes, scales_bytes, cells_bytes, mark_bytes, form_bytes, form_length, front_bytes, name_bytes, kind_bytes, head_bytes, heads_bytes, header_bytes};
 
 use crate::head::Head;
 use crate::header::Header;
 use pic_grid::Cells;
 use pic_io::{Failed, Sink};
-use pic_num::{Kind, Mult, Scales, Text};
+use pic_num::{Kind, Mult, Scales, Sub, Text};
 
-/// Room for a header: 64 bytes, and 60 for each of 16 species.
-const HEADER_BYTES: usize = 1024;
+/// Room for the longest header: 76 bytes, and 60 for each of 16 species.
+const HEADER_BYTES: usize = 1036;
+
+/// The bytes of a header of version 1 before its species.
+pub(crate) const FRONT_BYTES: u64 = 64;
+
+/// The bytes of a species.
+pub(crate) const HEAD_BYTES: u64 = 60;
+
+/// The byte of the digit 0.
+pub(crate) const ZERO_DIGIT: u32 = 48;
 
 /// The bytes of a name with the zeros behind it.
 const NAME_BYTES: usize = 32;
@@ -24,7 +34,7 @@ const ZEROS: [u8; NAME_BYTES] = [0; NAME_BYTES];
 
 type HeaderText = Text<HEADER_BYTES>;
 
-/// Puts the header of a dump, in one put of 64 bytes and 60 more for each species.
+/// Puts the header of a dump, in one put: 64 bytes, 12 more in version 2, and 60 for each species.
 ///
 /// `Failed` comes only where the count of faults rose, and then a front of the header was put.
 pub fn put_header<O: Sink>(out: &mut O, header: &Header) -> Result<(), Failed>
@@ -45,24 +55,58 @@ fn header_text(header: &Header) -> HeaderText
     text
 }
 
-// The 64 bytes before the species.
+// The bytes before the species.
 #[tactic(auto, unfolding(crate::specs::HeaderText::front_bytes))]
 fn push_front(text: &mut HeaderText, header: &Header)
     requires { length text.old ≡ 0 }
     ensures bytes { text.new ≡ text.old ++ front_bytes header.now }
-    ensures len { length text.new ≡ 64 }
+    ensures len { length text.new ≡ 64 + form_length header.now.version }
 {
-    text.push(b"PICDUMP1");
+    push_mark(text, header.version());
     push_cells(text, header.cells());
     text.push_u32(header.steps());
     text.push_u32(header.every());
     push_scales(text, header.scales());
+    push_form(text, header);
     text.push_u32(header.species().as_slice().len() as u32);
+}
+
+// The mark: seven letters, and the digit of the version.
+#[tactic(auto, unfolding(crate::specs::HeaderText::mark_bytes))]
+fn push_mark(text: &mut HeaderText, version: u32)
+    requires start { length text.old ≡ 0 }
+    requires version { version ≤ 2 }
+    ensures bytes { text.new ≡ text.old ++ mark_bytes version }
+    ensures len { length text.new ≡ 8 }
+{
+    text.push(b"PICDUMP");
+    text.push(&[(ZERO_DIGIT + version) as u8]);
+}
+
+// What version 2 says more: which power of two the side is, no filter, and no loops.
+#[tactic(auto, unfolding(crate::specs::HeaderText::form_bytes))]
+fn push_form(text: &mut HeaderText, header: &Header)
+    requires { length text.old + 12 ≤ header_most }
+    ensures bytes { text.new ≡ text.old ++ form_bytes header.now }
+    ensures len { length text.new ≡ length text.old + form_length header.now.version }
+{
+    if header.version() != 1 {
+        text.push_u32(header.cells().sub().bits());
+        text.push_u32(0);
+        text.push_u32(0);
+    }
+}
+
+/// How many bytes that has.
+pub(crate) fn form_length(version: u32) -> u64
+    ensures { result ≡ form_length version }
+{
+    if version == 1 { 0 } else { 12 }
 }
 
 #[tactic(auto, unfolding(crate::specs::HeaderText::cells_bytes))]
 fn push_cells(text: &mut HeaderText, cells: Cells)
-    requires { length text.old + 12 ≤ 1024 }
+    requires { length text.old + 12 ≤ header_most }
     ensures bytes { text.new ≡ text.old ++ cells_bytes cells.n }
     ensures len { length text.new ≡ length text.old + 12 }
 {
@@ -74,7 +118,7 @@ fn push_cells(text: &mut HeaderText, cells: Cells)
 
 #[tactic(auto, unfolding(crate::specs::HeaderText::scales_bytes))]
 fn push_scales(text: &mut HeaderText, scales: Scales)
-    requires { length text.old + 32 ≤ 1024 }
+    requires { length text.old + 32 ≤ header_most }
     ensures bytes { text.new ≡ text.old ++ scales_bytes scales }
     ensures len { length text.new ≡ length text.old + 32 }
 {
@@ -86,7 +130,7 @@ fn push_scales(text: &mut HeaderText, scales: Scales)
 
 #[tactic(auto, unfolding(crate::specs::HeaderText::mult_bytes))]
 fn push_mult(text: &mut HeaderText, by: Mult)
-    requires { length text.old + 8 ≤ 1024 }
+    requires { length text.old + 8 ≤ header_most }
     ensures bytes { text.new ≡ text.old ++ mult_bytes by }
     ensures len { length text.new ≡ length text.old + 8 }
 {
@@ -96,8 +140,9 @@ fn push_mult(text: &mut HeaderText, by: Mult)
 
 // The species, 60 bytes each.
 fn push_heads(text: &mut HeaderText, heads: &[Head])
-    requires start { length text.old ≡ 64 }
-    requires limits { AreHeads most_particles_1 heads.now }
+    requires start { length text.old ≤ 76 }
+    requires few { length heads.now ≤ most_species }
+    requires names { (i : ℕ) → i < length heads.now → IsName (slice_index_or heads.now i no_head).name }
     ensures { text.new ≡ text.old ++ heads_bytes heads.now }
 {
     for head in heads {
@@ -107,7 +152,7 @@ fn push_heads(text: &mut HeaderText, heads: &[Head])
 
 #[tactic(auto, unfolding(crate::specs::HeaderText::head_bytes))]
 fn push_head(text: &mut HeaderText, head: &Head)
-    requires room { length text.old + 60 ≤ 1024 }
+    requires room { length text.old + 60 ≤ header_most }
     requires name { length head.now.name ≤ most_letters }
     ensures bytes { text.new ≡ text.old ++ head_bytes head.now }
     ensures len { length text.new ≡ length text.old + 60 }
@@ -119,7 +164,7 @@ fn push_head(text: &mut HeaderText, head: &Head)
 
 // A name, and zeros behind it.
 fn push_name(text: &mut HeaderText, name: &[u8])
-    requires room { length text.old + 32 ≤ 1024 }
+    requires room { length text.old + 32 ≤ header_most }
     requires name { length name.now ≤ most_letters }
     ensures bytes { text.new ≡ text.old ++ name_bytes name.now }
     ensures len { length text.new ≡ length text.old + 32 }
@@ -130,7 +175,7 @@ fn push_name(text: &mut HeaderText, name: &[u8])
 
 #[tactic(auto, unfolding(crate::specs::HeaderText::kind_bytes))]
 fn push_kind(text: &mut HeaderText, kind: Kind)
-    requires { length text.old + 24 ≤ 1024 }
+    requires { length text.old + 24 ≤ header_most }
     ensures bytes { text.new ≡ text.old ++ kind_bytes kind }
     ensures len { length text.new ≡ length text.old + 24 }
 {

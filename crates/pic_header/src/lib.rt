@@ -11,7 +11,7 @@ mod laws;
 mod name_reader;
 
 pub use head::{Head, Heads};
-pub use head_reader::{FRONT_BYTES, HEAD_BYTES, read_header};
+pub use head_reader::read_header;
 pub use head_stop::HeadStop;
 pub use header::Header;
 pub use heading::put_header;

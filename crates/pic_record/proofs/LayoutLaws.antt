@@ -7,6 +7,7 @@ use Rattle.std.proofs.lemmas.List.Sums.{sum-map}
 use Rattle.pic_num.specs.declared.motion.Kind.{Kind}
 use Rattle.pic_num.specs.Limits.{most_charge}
 use Rattle.pic_num.specs.Sizes.{IsAtMost}
+use Rattle.pic_num.proofs.VersionLaws.{within_scheme, side_least, side_most}
 use Rattle.pic_grid.specs.Species.{HeadView, no_head, IsKind}
 use Rattle.pic_energy.specs.Energies.{HasMass}
 use Rattle.pic_header.specs.Header.{HeaderView, IsHeader}
@@ -27,13 +28,15 @@ layout_fits h are =
     let kinds = length-map h.species (λ s. s.kind) in
     let counts = length-map h.species (λ s. s.count) in
     let few = heads.few in
-    let side = are.limits.grid.same_side in
+    let version = h.version in
+    let sides = are.limits.grid.sides in
     let total = heads.total in
+    let scheme = within_scheme version in
     let sums = sum-map (λ (s : HeadView). s.count) h.species in
     record {
       cells = are.cells;
-      side_least = omega (arith, side);
-      side_most = omega (arith, side);
+      side_least = side_least version h.side sides;
+      side_most = side_most version h.side sides;
       steps = are.limits.steps_most;
       every_least = are.limits.every_least;
       every_most = are.limits.every_most;
@@ -43,5 +46,5 @@ layout_fits h are =
           (λ (s : HeadView). IsAtMost s.kind.charge most_charge) h.species no_head (λ i below. charge_of_kind _ (heads.kinds i below)));
       species = kinds ∙ sym counts;
       few = omega (arith, counts, few);
-      total = omega (arith, sums, total);
+      total = omega (arith, sums, total, scheme.particles);
     }

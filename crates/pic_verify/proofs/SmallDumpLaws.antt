@@ -8,6 +8,7 @@ use Rattle.pic_num.specs.Multiplier.{IsMultiplier}
 use Rattle.pic_num.specs.Rounding.{scaled, rounded}
 use Rattle.pic_num.specs.Space.{Triple, triple, spot, along}
 use Rattle.pic_num.specs.Velocity.{too_fast, IsKeptVelocity}
+use Rattle.pic_num.proofs.VersionLaws.{side_of_bits}
 use Rattle.pic_grid.specs.Cells.{place_of}
 use Rattle.pic_grid.specs.Differences.{div_e, down}
 use Rattle.pic_grid.specs.Hat.{weight}
@@ -56,7 +57,8 @@ mults (suc (suc i)) d below = absurd (omega (arith, below))
 header_is : IsHeader small_header
 header_is = record {
   limits = record {
-    grid = record { x = omega arith; y = omega arith; z = omega arith; same_side = refl };
+    version = record { least = omega arith; most = omega arith };
+    grid = record { x = omega arith; y = omega arith; z = omega arith; sides = side_of_bits 1 12 (omega arith) (omega arith) };
     steps_most = omega arith;
     every_least = omega arith;
     every_most = omega arith;

@@ -24,6 +24,7 @@ single name charge mass = record { name = name; kind = record { charge = charge;
 
 abbrev pub small_header : HeaderView
 small_header = record {
+  version = 1;
   cells = record { x = 2; y = 2; z = 2 };
   side = 4096;
   steps = 1;

@@ -1,6 +1,5 @@
-use Rattle.std.proofs.Common.{sym, ap, arith}
-use Rattle.pic_grid.specs.Cells.{Grid}
-use Rattle.pic_fields.proofs.ReadLaws.{read_then, read_done, read_same, read_up_to, goes_on, exits}
+use Rattle.std.proofs.Common.{arith}
+use Rattle.pic_fields.proofs.ReadLaws.{read_then, read_done, read_up_to, goes_on, exits}
 use Rattle.pic_header.specs.HeaderFields.{cells_at}
 use Rattle.pic_header.proofs.head_reader.read_cells.Goals as goal
 
@@ -22,6 +21,6 @@ pub returns-clause-reads : goal.returns-clause-reads
 unfolding cells_at
 returns-clause-reads g c =
     record {
-      answer = read_same (sym (ap (λ (grid : Grid). grid.n) c.new.ensures)) (read_up_to (omega arith) (read_then _ c.in_ok-x.ensures.reads.answer
-          (read_then _ c.in_ok-y.ensures.reads.answer (read_then _ c.in_ok-z.ensures.reads.answer (read_done _ _ _)))));
+      answer = read_up_to (omega arith) (read_then _ c.in_ok-x.ensures.reads.answer (read_then _ c.in_ok-y.ensures.reads.answer
+          (read_then _ c.in_ok-z.ensures.reads.answer (read_done _ _ _))));
     }

@@ -16,12 +16,17 @@ use Rattle.pic_header.proofs.head_reader.read_each_head.Goals as goal
 
 pub loop-index-init : goal.loop-index-init
 loop-index-init g c =
-    rw c.new-heads.ensures.items (record { read = read_up_to (omega arith) (read_none head_at c.args.place _); are = heads_none; size = refl; count = refl })
+    rw c.new-heads.ensures.items (record {
+      read = read_up_to (omega arith) (read_none (head_at c.args.most) c.args.place _);
+      are = heads_none c.args.most;
+      size = refl;
+      count = refl;
+    })
 
 pub returns-in_err-head-clause-reads : goal.returns-in_err-head-clause-reads
 returns-in_err-head-clause-reads g c =
     let stopped = rw c.as_slice.ensures.value at c.in_err-head.ensures.reads in
-    head_among c.args.count c.loop-index.index head_at c.from_residual.ensures.1 c.loop-index-test.true (omega (arith, c.loop-index-test.true))
+    head_among c.args.count c.loop-index.index (head_at c.args.most) c.from_residual.ensures.1 c.loop-index-test.true (omega (arith, c.loop-index-test.true))
     c.loop-index.invariant.read stopped
 
 pub returns-in_err-push-clause-reads : goal.returns-in_err-push-clause-reads
@@ -39,8 +44,8 @@ loop-index-preserved g c =
     let count : c.loop-index.particles + c.in_ok-head.head.count ≡ particles_of (c.loop-index.heads.items ++ c.in_ok-head.head ∷ []) =
     omega (arith, all, so_far.count) in
     rw c.in_ok-push.ensures.items (record {
-      read = read_up_to (omega arith) (read_more c.loop-index.index head_at so_far.read read.answer);
-      are = heads_more _ _ so_far.are few new;
+      read = read_up_to (omega arith) (read_more c.loop-index.index (head_at c.args.most) so_far.read read.answer);
+      are = heads_more _ _ _ so_far.are few new;
       size = length-append _ _ ∙ ap (λ n. n + 1) so_far.size;
       count = ap (λ (h : HeadView). c.loop-index.particles + h.count) c.head.view_is ∙ count;
     })
@@ -53,19 +58,21 @@ returns-clause-reads g c =
     let now = g.S.Source.told c.loop-index.source in
     let heads = c.loop-index.heads.items in
     record {
-      answer = read_up_to (omega (arith, so_far.size)) (subst (λ n. HasRead (each n head_at) c.args.place before heads
+      answer = read_up_to (omega (arith, so_far.size)) (subst (λ n. HasRead (each n (head_at c.args.most)) c.args.place before heads
           (c.args.place + 60 * c.loop-index.index) now) all so_far.read);
     }
 
 pub returns-in_err-head-clause-within : goal.returns-in_err-head-clause-within
 returns-in_err-head-clause-within g c =
     let stopped = rw c.as_slice.ensures.value at c.in_err-head.ensures.within in
-    within_among c.args.count c.loop-index.index head_at (λ hs. goes_on_by 60 (runs_head hs)) c.loop-index-test.true c.loop-index.invariant.read stopped
+    within_among c.args.count c.loop-index.index (head_at c.args.most) (λ hs. goes_on_by 60 (runs_head c.args.most hs)) c.loop-index-test.true
+    c.loop-index.invariant.read stopped
 
 pub returns-in_err-push-clause-within : goal.returns-in_err-push-clause-within
 returns-in_err-push-clause-within g c =
     let read = rw c.as_slice.ensures.value at c.in_ok-head.ensures.within in
-    within_among c.args.count c.loop-index.index head_at (λ hs. goes_on_by 60 (runs_head hs)) c.loop-index-test.true c.loop-index.invariant.read read
+    within_among c.args.count c.loop-index.index (head_at c.args.most) (λ hs. goes_on_by 60 (runs_head c.args.most hs)) c.loop-index-test.true
+    c.loop-index.invariant.read read
 
 pub returns-clause-within : goal.returns-clause-within
 returns-clause-within g c =
@@ -73,4 +80,4 @@ returns-clause-within g c =
     let all : c.loop-index.index ≡ c.args.count = omega (arith, c.loop-index-test.false, c.loop-index.auto.index-end) in
     let before = g.S.Source.told c.args.source.now in
     let now = g.S.Source.told c.loop-index.source in
-    subst (λ n. TakesWithin (each n head_at) c.args.place before now) all (within_read so_far.read)
+    subst (λ n. TakesWithin (each n (head_at c.args.most)) c.args.place before now) all (within_read so_far.read)

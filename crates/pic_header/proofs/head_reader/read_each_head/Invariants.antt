@@ -1,6 +1,5 @@
 -- The species so far.
 use Rattle.std.proofs.Common.{◌≡◌, ◌+◌, ◌*◌, length}
-use Rattle.pic_num.specs.Limits.{most_particles_1}
 use Rattle.pic_grid.specs.Species.{AreHeads}
 use Rattle.pic_fields.specs.Parser.{each}
 use Rattle.pic_fields.specs.Reads.{HasRead}
@@ -9,8 +8,8 @@ use Rattle.pic_header.proofs.head_reader.read_each_head.Given as goal
 
 abbrev pub invariant-loop-index : goal.invariant-loop-index
 invariant-loop-index g l = record {
-  read : HasRead (each l.index head_at) l.place (g.S.Source.told l.initial.source) l.heads.items (l.place + 60 * l.index) (g.S.Source.told l.source);
-  are : AreHeads most_particles_1 l.heads.items;
+  read : HasRead (each l.index (head_at l.most)) l.place (g.S.Source.told l.initial.source) l.heads.items (l.place + 60 * l.index) (g.S.Source.told l.source);
+  are : AreHeads l.most l.heads.items;
   size : length l.heads.items ≡ l.index;
   count : l.particles ≡ particles_of l.heads.items;
 }

@@ -7,7 +7,6 @@ use Rattle.pic_fields.specs.Number.{within}
 use Rattle.pic_fields.specs.Reads.{Reads, as_it_is}
 use Rattle.pic_fields.proofs.ReadLaws.{moves_then, moves_up, read_then, read_done, read_same, read_up_to}
 use Rattle.pic_header.specs.HeaderFields.{head_at, out_of_limits}
-use Rattle.pic_num.specs.Limits.{most_particles_1}
 use Rattle.pic_header.proofs.NameLaws.{name_from, new_from}
 use Rattle.pic_header.proofs.HeadReadLaws.{head_goes_on, head_exits, head_starves}
 use Rattle.pic_header.proofs.RunLaws.{goes_on_by, goes_then, goes_done, runs_within, runs_kind, runs_name}
@@ -19,9 +18,9 @@ abbrev head : List ℕ → Kind → ℕ → HeadView
 head name kind count = record { name = name; kind = kind; count = count }
 
 -- the particles so far, by the species before
-so_many : (n m : ℕ) → n ≡ m → {s e : ℕ} {x z : Told} {r : Result ℕ ReadStop} → Reads as_it_is (within out_of_limits 0 (most_particles_1 - n)) s e x z r
-    → Reads as_it_is (within out_of_limits 0 (most_particles_1 - m)) s e x z r
-so_many n m is {s} {e} {x} {z} {r} h = subst (λ k. Reads as_it_is (within out_of_limits 0 (most_particles_1 - k)) s e x z r) is h
+so_many : (most n m : ℕ) → n ≡ m → {s e : ℕ} {x z : Told} {r : Result ℕ ReadStop} → Reads as_it_is (within out_of_limits 0 (most - n)) s e x z r
+    → Reads as_it_is (within out_of_limits 0 (most - m)) s e x z r
+so_many most n m is {s} {e} {x} {z} {r} h = subst (λ k. Reads as_it_is (within out_of_limits 0 (most - k)) s e x z r) is h
 
 pub returns-in_err-name-clause-reads : goal.returns-in_err-name-clause-reads
 unfolding head_at
@@ -36,7 +35,7 @@ pub returns-in_err-count-clause-reads : goal.returns-in_err-count-clause-reads
 unfolding head_at
 returns-in_err-count-clause-reads g c =
     head_goes_on _ c.in_ok-name.ensures.reads.answer (head_goes_on _ c.in_ok-kind.ensures.reads.answer
-    (head_exits _ (omega arith) c.from_residual-in_err-count.ensures.1 (so_many _ _ c.requires.count c.in_err-count.ensures.reads)))
+    (head_exits _ (omega arith) c.from_residual-in_err-count.ensures.1 (so_many _ _ _ c.requires.count c.in_err-count.ensures.reads)))
 
 pub returns-in_err-head-clause-reads : goal.returns-in_err-head-clause-reads
 returns-in_err-head-clause-reads g c =
@@ -51,7 +50,7 @@ returns-clause-reads g c =
     let is = c.in_ok-head.ensures ∙ ap (λ (name : List ℕ). head name c.in_ok-kind.kind c.in_ok-count.count) c.bytes.ensures in
     record {
       answer = read_same (sym is) (read_up_to (omega arith) (read_then _ c.in_ok-name.ensures.reads.answer
-          (read_then _ c.in_ok-kind.ensures.reads.answer (read_then _ (so_many _ _ c.requires.count c.in_ok-count.ensures.reads).answer (read_done _ _ _)))));
+          (read_then _ c.in_ok-kind.ensures.reads.answer (read_then _ (so_many _ _ _ c.requires.count c.in_ok-count.ensures.reads).answer (read_done _ _ _)))));
     }
 
 pub returns-clause-new : goal.returns-clause-new
@@ -88,10 +87,10 @@ pub returns-in_err-head-clause-within : goal.returns-in_err-head-clause-within
 unfolding head_at
 returns-in_err-head-clause-within g c =
     within_then _ c.in_ok-name.ensures.reads.answer (within_then _ c.in_ok-kind.ensures.reads.answer
-    (within_then _ (so_many _ _ c.requires.count c.in_ok-count.ensures.reads).answer (within_done _ _ _)))
+    (within_then _ (so_many _ _ _ c.requires.count c.in_ok-count.ensures.reads).answer (within_done _ _ _)))
 
 pub returns-clause-within : goal.returns-clause-within
 unfolding head_at
 returns-clause-within g c =
     within_then _ c.in_ok-name.ensures.reads.answer (within_then _ c.in_ok-kind.ensures.reads.answer
-    (within_then _ (so_many _ _ c.requires.count c.in_ok-count.ensures.reads).answer (within_done _ _ _)))
+    (within_then _ (so_many _ _ _ c.requires.count c.in_ok-count.ensures.reads).answer (within_done _ _ _)))

@@ -1,99 +1,80 @@
-use Rattle.std.proofs.Common.{arith}
-use Rattle.pic_fields.proofs.ReadLaws.{read_then, read_done}
-use Rattle.pic_header.specs.HeaderFields.{header_at}
+use Rattle.std.proofs.Common.{◌≡◌, sym, ap, arith}
+use Rattle.pic_fields.proofs.ReadLaws.{read_then, read_done, read_same, read_up_to}
+use Rattle.pic_header.specs.Header.{HeaderView}
+use Rattle.pic_header.specs.HeaderText.{form_length}
+use Rattle.pic_header.specs.HeaderFields.{Front, header_of, header_at, header_length, header_most}
 use Rattle.pic_header.proofs.HeadReadLaws.{head_goes_on, head_exits, head_passes_on}
-use Rattle.pic_header.proofs.RunLaws.{goes_on_by, goes_then, goes_done, goes_heads, runs_within, runs_exactly, runs_cells, runs_scales}
+use Rattle.pic_header.proofs.RunLaws.{goes_on_by, goes_then, goes_done, goes_heads, runs_mark, runs_front, runs_form, form_few}
 use Rattle.pic_header.proofs.WithinLaws.{within_short, within_first, within_then}
 use Rattle.pic_header.proofs.head_reader.read_header.Goals as goal
 
-pub returns-in_err-read_exactly-clause-reads : goal.returns-in_err-read_exactly-clause-reads
+pub returns-in_err-version-clause-reads : goal.returns-in_err-version-clause-reads
 unfolding header_at
-returns-in_err-read_exactly-clause-reads g c = head_exits _ (omega arith) c.from_residual.ensures.1 c.in_err-read_exactly.ensures
+returns-in_err-version-clause-reads g c = head_exits _ (omega arith) c.from_residual.ensures.1 c.in_err-version.ensures.reads
 
-pub returns-in_err-cells-clause-reads : goal.returns-in_err-cells-clause-reads
+pub returns-in_err-front-clause-reads : goal.returns-in_err-front-clause-reads
 unfolding header_at
-returns-in_err-cells-clause-reads g c =
-    head_goes_on _ c.in_ok-read_exactly.ensures.answer (head_exits _ (omega arith) c.from_residual-in_err-cells.ensures.1 c.in_err-cells.ensures.reads)
+returns-in_err-front-clause-reads g c =
+    head_goes_on _ c.in_ok-version.ensures.reads.answer (head_exits _ (omega arith) c.from_residual-in_err-front.ensures.1 c.in_err-front.ensures.reads)
 
-pub returns-in_err-steps-clause-reads : goal.returns-in_err-steps-clause-reads
+pub returns-in_err-side-clause-reads : goal.returns-in_err-side-clause-reads
 unfolding header_at
-returns-in_err-steps-clause-reads g c =
-    head_goes_on _ c.in_ok-read_exactly.ensures.answer (head_goes_on _ c.in_ok-cells.ensures.reads.answer
-    (head_exits _ (omega arith) c.from_residual-in_err-steps.ensures.1 c.in_err-steps.ensures.reads))
-
-pub returns-in_err-every-clause-reads : goal.returns-in_err-every-clause-reads
-unfolding header_at
-returns-in_err-every-clause-reads g c =
-    head_goes_on _ c.in_ok-read_exactly.ensures.answer (head_goes_on _ c.in_ok-cells.ensures.reads.answer (head_goes_on _ c.in_ok-steps.ensures.reads.answer
-    (head_exits _ (omega arith) c.from_residual-in_err-every.ensures.1 c.in_err-every.ensures.reads)))
-
-pub returns-in_err-scales-clause-reads : goal.returns-in_err-scales-clause-reads
-unfolding header_at
-returns-in_err-scales-clause-reads g c =
-    head_goes_on _ c.in_ok-read_exactly.ensures.answer (head_goes_on _ c.in_ok-cells.ensures.reads.answer (head_goes_on _ c.in_ok-steps.ensures.reads.answer
-    (head_goes_on _ c.in_ok-every.ensures.reads.answer (head_exits _ (omega arith) c.from_residual-in_err-scales.ensures.1 c.in_err-scales.ensures))))
+returns-in_err-side-clause-reads g c =
+    head_goes_on _ c.in_ok-version.ensures.reads.answer (head_goes_on _ c.in_ok-front.ensures.reads.answer
+    (head_exits _ (omega (arith, form_few c.in_ok-version.version)) c.from_residual-in_err-side.ensures.1 c.in_err-side.ensures.reads))
 
 pub returns-in_err-heads-clause-reads : goal.returns-in_err-heads-clause-reads
 unfolding header_at
 returns-in_err-heads-clause-reads g c =
-    head_goes_on _ c.in_ok-read_exactly.ensures.answer (head_goes_on _ c.in_ok-cells.ensures.reads.answer (head_goes_on _ c.in_ok-steps.ensures.reads.answer
-    (head_goes_on _ c.in_ok-every.ensures.reads.answer (head_goes_on _ c.in_ok-scales.ensures.answer (head_passes_on _
-    (omega arith) c.from_residual-in_err-heads.ensures.1 c.in_err-heads.ensures.reads)))))
+    let heads = rw (c.form_length-heads_place.ensures, c.allowance_of.ensures) at c.in_err-heads.ensures.reads in
+    head_goes_on _ c.in_ok-version.ensures.reads.answer (head_goes_on _ c.in_ok-front.ensures.reads.answer
+    (head_goes_on _ c.in_ok-side.ensures.reads.answer (head_passes_on _ (omega (arith, form_few c.in_ok-version.version)) c.from_residual-in_err-heads.ensures.1 heads)))
 
 pub returns-clause-reads : goal.returns-clause-reads
 unfolding header_at
 returns-clause-reads g c =
-    rw (c.new.ensures, c.from_vec.ensures, c.in_ok-cells.ensures.grid.same_side) (record {
-      answer = read_then _ c.in_ok-read_exactly.ensures.answer
-          (read_then _ c.in_ok-cells.ensures.reads.answer (read_then _ c.in_ok-steps.ensures.reads.answer (read_then _ c.in_ok-every.ensures.reads.answer
-          (read_then _ c.in_ok-scales.ensures.answer (read_then _ c.in_ok-heads.ensures.reads.answer (read_done _ _ _))))));
-    })
+    let heads = rw (c.form_length-heads_place.ensures, c.allowance_of.ensures) at c.in_ok-heads.ensures.reads in
+    let version = c.in_ok-version.version in
+    let front = c.in_ok-front.front in
+    let is : c.new.result ≡ header_of version front c.in_ok-side.side c.in_ok-heads.heads.items =
+    rw (c.new.ensures, c.new-cells.ensures, c.from_vec-species.ensures)
+    (ap (λ (f : Front). header_of version f c.in_ok-side.side c.in_ok-heads.heads.items) c.front.view_is) in
+    let length = ap (λ (h : HeaderView). header_length h) is in
+    record {
+      answer = read_same (sym is) (read_up_to (omega (arith, length)) (read_then _ c.in_ok-version.ensures.reads.answer
+          (read_then _ c.in_ok-front.ensures.reads.answer (read_then _ c.in_ok-side.ensures.reads.answer (read_then _ heads.answer (read_done _ _ _))))));
+    }
 
-pub returns-in_err-read_exactly-clause-within : goal.returns-in_err-read_exactly-clause-within
+pub returns-in_err-version-clause-within : goal.returns-in_err-version-clause-within
 unfolding header_at
-returns-in_err-read_exactly-clause-within g c =
-    within_first _ (λ mark. goes_then (goes_on_by 12 runs_cells) (λ cells. goes_then (goes_on_by 4 (runs_within _ _ _))
-    (λ steps. goes_then (goes_on_by 4 (runs_within _ _ _)) (λ every. goes_then (goes_on_by 32 runs_scales) (λ scales. goes_then goes_heads
-    (λ heads. goes_done _)))))) (within_short 8 (runs_exactly _ _) (omega arith) c.in_err-read_exactly.ensures.answer.moves)
+returns-in_err-version-clause-within g c =
+    within_first _ (λ version. goes_then (goes_on_by 52 (runs_front version)) (λ front. goes_then (goes_on_by _ (runs_form version))
+    (λ side. goes_then (goes_heads _) (λ heads. goes_done _)))) (within_short 8 runs_mark (omega arith) c.in_err-version.ensures.reads.answer.moves)
 
-pub returns-in_err-cells-clause-within : goal.returns-in_err-cells-clause-within
+pub returns-in_err-front-clause-within : goal.returns-in_err-front-clause-within
 unfolding header_at
-returns-in_err-cells-clause-within g c =
-    within_then _ c.in_ok-read_exactly.ensures.answer (within_first _ (λ cells. goes_then (goes_on_by 4 (runs_within _ _ _))
-    (λ steps. goes_then (goes_on_by 4 (runs_within _ _ _)) (λ every. goes_then (goes_on_by 32 runs_scales) (λ scales. goes_then goes_heads
-    (λ heads. goes_done _))))) (within_short 12 runs_cells (omega arith) c.in_err-cells.ensures.reads.answer.moves))
+returns-in_err-front-clause-within g c =
+    within_then _ c.in_ok-version.ensures.reads.answer (within_first _ (λ front. goes_then (goes_on_by _ (runs_form c.in_ok-version.version))
+    (λ side. goes_then (goes_heads _) (λ heads. goes_done _))) c.in_err-front.ensures.within)
 
-pub returns-in_err-steps-clause-within : goal.returns-in_err-steps-clause-within
+pub returns-in_err-side-clause-within : goal.returns-in_err-side-clause-within
 unfolding header_at
-returns-in_err-steps-clause-within g c =
-    within_then _ c.in_ok-read_exactly.ensures.answer (within_then _ c.in_ok-cells.ensures.reads.answer (within_first _
-    (λ steps. goes_then (goes_on_by 4 (runs_within _ _ _)) (λ every. goes_then (goes_on_by 32 runs_scales) (λ scales. goes_then goes_heads
-    (λ heads. goes_done _)))) (within_short 4 (runs_within _ _ _) (omega arith) c.in_err-steps.ensures.reads.answer.moves)))
-
-pub returns-in_err-every-clause-within : goal.returns-in_err-every-clause-within
-unfolding header_at
-returns-in_err-every-clause-within g c =
-    within_then _ c.in_ok-read_exactly.ensures.answer (within_then _ c.in_ok-cells.ensures.reads.answer
-    (within_then _ c.in_ok-steps.ensures.reads.answer (within_first _ (λ every. goes_then (goes_on_by 32 runs_scales) (λ scales. goes_then goes_heads
-    (λ heads. goes_done _))) (within_short 4 (runs_within _ _ _) (omega arith) c.in_err-every.ensures.reads.answer.moves))))
-
-pub returns-in_err-scales-clause-within : goal.returns-in_err-scales-clause-within
-unfolding header_at
-returns-in_err-scales-clause-within g c =
-    within_then _ c.in_ok-read_exactly.ensures.answer (within_then _ c.in_ok-cells.ensures.reads.answer
-    (within_then _ c.in_ok-steps.ensures.reads.answer (within_then _ c.in_ok-every.ensures.reads.answer (within_first _ (λ scales. goes_then goes_heads
-    (λ heads. goes_done _)) (within_short 32 runs_scales (omega arith) c.in_err-scales.ensures.answer.moves)))))
+returns-in_err-side-clause-within g c =
+    let version = c.in_ok-version.version in
+    within_then _ c.in_ok-version.ensures.reads.answer (within_then _ c.in_ok-front.ensures.reads.answer
+    (within_first _ (λ side. goes_then (goes_heads _) (λ heads. goes_done _))
+    (within_short (form_length version) (runs_form version) (omega (arith, form_few version)) c.in_err-side.ensures.reads.answer.moves)))
 
 pub returns-in_err-heads-clause-within : goal.returns-in_err-heads-clause-within
 unfolding header_at
 returns-in_err-heads-clause-within g c =
-    within_then _ c.in_ok-read_exactly.ensures.answer (within_then _ c.in_ok-cells.ensures.reads.answer
-    (within_then _ c.in_ok-steps.ensures.reads.answer (within_then _ c.in_ok-every.ensures.reads.answer (within_then _ c.in_ok-scales.ensures.answer
-    (within_first _ (λ heads. goes_done _) c.in_err-heads.ensures.within)))))
+    let heads = rw (c.form_length-heads_place.ensures, c.allowance_of.ensures) at c.in_err-heads.ensures.within in
+    within_then _ c.in_ok-version.ensures.reads.answer (within_then _ c.in_ok-front.ensures.reads.answer
+    (within_then _ c.in_ok-side.ensures.reads.answer (within_first _ (λ heads. goes_done _) heads)))
 
 pub returns-clause-within : goal.returns-clause-within
 unfolding header_at
 returns-clause-within g c =
-    within_then _ c.in_ok-read_exactly.ensures.answer (within_then _ c.in_ok-cells.ensures.reads.answer
-    (within_then _ c.in_ok-steps.ensures.reads.answer (within_then _ c.in_ok-every.ensures.reads.answer (within_then _ c.in_ok-scales.ensures.answer
-    (within_first _ (λ heads. goes_done _) c.in_ok-heads.ensures.within)))))
+    let heads = rw (c.form_length-heads_place.ensures, c.allowance_of.ensures) at c.in_ok-heads.ensures.within in
+    within_then _ c.in_ok-version.ensures.reads.answer (within_then _ c.in_ok-front.ensures.reads.answer
+    (within_then _ c.in_ok-side.ensures.reads.answer (within_first _ (λ heads. goes_done _) heads)))

@@ -17,7 +17,7 @@ returns-clause-reads g c =
 pub returns-in_err-count-clause-within : goal.returns-in_err-count-clause-within
 unfolding heads_at
 returns-in_err-count-clause-within g c =
-    within_first _ (λ count. goes_each head_at count (λ hs. goes_on_by 60 (runs_head hs)))
+    within_first _ (λ count. goes_each (head_at c.args.most) count (λ hs. goes_on_by 60 (runs_head c.args.most hs)))
     (within_short 4 (runs_within _ _ _) (omega arith) c.in_err-count.ensures.reads.answer.moves)
 
 pub returns-clause-within : goal.returns-clause-within

@@ -8,5 +8,5 @@ abbrev pub invariant-loop-head : goal.invariant-loop-head
 invariant-loop-head l =
     record {
       bytes : l.text ≡ l.initial.text ++ flat_map head_bytes (take l.head-index l.heads);
-      len : length l.text ≡ 64 + 60 * l.head-index;
+      len : length l.text ≡ length l.initial.text + 60 * l.head-index;
     }
