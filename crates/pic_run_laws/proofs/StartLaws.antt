@@ -3,10 +3,7 @@ use Rattle.std.proofs.Common.{◌≡◌, ℕ, List, [], ◌∷◌, map, Option, 
 use Rattle.std.proofs.lemmas.List.Elements.{All-map}
 use Rattle.std.proofs.lemmas.List.Sums.{sum-map}
 use Rattle.pic_charge.specs.declared.breaks.Break.{Break}
-use Rattle.pic_num.specs.Limits.{allowance_of}
-use Rattle.pic_num.specs.Versions.{IsGridOf}
-use Rattle.pic_num.proofs.VersionLaws.{side_of_version_1}
-use Rattle.pic_grid.specs.Species.{HeadView, AreHeads}
+use Rattle.pic_grid.specs.Species.{HeadView}
 use Rattle.pic_grid.proofs.LatticeLaws.{length-values_of}
 use Rattle.pic_deck.specs.declared.species.Species.{Species}
 use Rattle.pic_deck.specs.Deck.{DeckView, heads_of, initial_e, initial_b}
@@ -26,15 +23,14 @@ use Rattle.pic_run_laws.proofs.LoadedLaws.{are_loaded, are_listed}
 pub header_kept : (d : DeckView) → IsKeptDeck d → IsHeader (header_of d)
 header_kept d kept =
     let settings = kept.limits.settings in
-    let one : d.version ≡ 1 = omega (arith, settings.version.least, settings.version.most) in
-    let allowed = subst (λ (v : ℕ). IsGridOf v d.cells d.side) one settings.allowed in
     record {
       limits = record {
-        grid = record { x = allowed.x; y = allowed.y; z = allowed.z; same_side = side_of_version_1 d.side allowed.sides };
+        version = settings.version;
+        grid = settings.allowed;
         steps_most = settings.steps;
         every_least = settings.every_low;
         every_most = settings.every_high;
-        heads = subst (λ (v : ℕ). AreHeads (allowance_of v).particles (heads_of d)) one kept.limits.heads;
+        heads = kept.limits.heads;
       };
       cells = settings.cells;
       scales = kept.scales;
