@@ -1,9 +1,10 @@
 use Rattle.std.proofs.Common.{arith}
 use Rattle.pic_fields.proofs.ReadLaws.{moves_up}
 use Rattle.pic_header.proofs.HeadReadLaws.{head_starves}
+use Rattle.pic_header.proofs.RunLaws.{form_few}
 use Rattle.pic_dump.proofs.dump_reader.DumpReader.head.Goals as goal
 
 pub returns-in_err-reader-clause-reads : goal.returns-in_err-reader-clause-reads
 returns-in_err-reader-clause-reads g c =
     let read = c.in_ok-header.ensures.reads.answer in
-    head_starves _ c.from_residual-in_err-reader.ensures.1 read.calm (moves_up (omega (arith, c.in_ok-header.ensures.few)) read.moves)
+    head_starves _ c.from_residual-in_err-reader.ensures.1 read.calm (moves_up (omega (arith, c.in_ok-header.ensures.few, form_few c.in_ok-header.header.version)) read.moves)
