@@ -45,6 +45,7 @@ pub fn two_charges(alloc: Global) -> Result<Header, Fail> {
     let electron = head(alloc, b"electron", -1, 1)?;
     let species = Heads::from_vec(vec![in alloc; ion, electron]?);
     Ok(Header::new(
+        1,
         Cells::new([4, 4, 4], Sub::of_bits(12)),
         1,
         1,
