@@ -38,6 +38,7 @@ fn sink(rt: &(impl AllocGlobal + Abort), fails: &[(u64, usize)]) -> MemSink {
 fn the_header_of_two_charges(rt: HostRuntime) -> Result<(), Fail> {
     let header = two_charges(rt.alloc())?;
     let cells = Cells::new([4, 4, 4], Sub::of_bits(12));
+    assert!(rt; header.version() == 1 && header.length() == 184);
     assert!(rt; header.cells() == cells && header.steps() == 1 && header.every() == 1);
     assert!(rt; header.scales().e_force == Mult::new(1, 20));
     assert_eq!(rt; header.species().as_slice().len(), 2);

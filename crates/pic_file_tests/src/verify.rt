@@ -39,7 +39,7 @@ const MOVED: VerifyStop = VerifyStop::Broken {
 // How many bytes are left, one that is changed and what stands there then, and the verdict. The last
 // rows: 65 cells on x; an end where a frame is due; another step; a value of E; the ion's x at the
 // end of the box; the kinetic energy; a frame where none is due; a kind of end.
-const CASES: [(usize, usize, u8, Result<u32, VerifyStop>); 14] = [
+const CASES: [(usize, usize, u8, Result<u32, VerifyStop>); 16] = [
     (12680, 0, b'P', Ok(2)),
     (
         12679,
@@ -51,6 +51,18 @@ const CASES: [(usize, usize, u8, Result<u32, VerifyStop>); 14] = [
         }),
     ),
     (12680, 0, 0, Err(VerifyStop::BadDump { place: 0, cause: 1 })),
+    (
+        12680,
+        7,
+        b'0',
+        Err(VerifyStop::BadDump { place: 7, cause: 1 }),
+    ),
+    (
+        12680,
+        7,
+        b'3',
+        Err(VerifyStop::BadDump { place: 7, cause: 1 }),
+    ),
     (
         12680,
         204,

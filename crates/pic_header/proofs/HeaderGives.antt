@@ -1,11 +1,11 @@
 -- What is read of a header, of any list of numbers: after how many steps a frame is due, and what is left.
-use Rattle.std.proofs.Common.{◌≡◌, ℕ, ◌+◌, ◌*◌, ◌^◌, ◌≤◌, Bool, true, false, eqb, leb, List, length, drop, Ok, arith}
+use Rattle.std.proofs.Common.{◌≡◌, ℕ, ◌+◌, ◌^◌, ◌≤◌, Bool, true, false, eqb, leb, List, drop, Ok, arith}
 use Rattle.std.specs.Prelude.{⊤, if◌then◌else◌}
 use Rattle.std.proofs.lemmas.Bool.{and_parts, leb-true}
 use Rattle.pic_grid.specs.Species.{HeadView}
 use Rattle.pic_fields.specs.Parser.{Input, input, done}
 use Rattle.pic_fields.specs.Number.{byte_at}
-use Rattle.pic_fields.proofs.GiveLaws.{Gives, further_place, gives_so, gives_any, gives_done, gives_then, gives_mapped, gives_checked, gives_field, gives_each}
+use Rattle.pic_fields.proofs.GiveLaws.{Gives, further_place, gives_any, gives_done, gives_then, gives_mapped, gives_checked, gives_field, gives_each}
 use Rattle.pic_fields.proofs.GiveLaws.{gives_within, gives_between, gives_exactly}
 use Rattle.pic_header.specs.Header.{HeaderView}
 use Rattle.pic_header.specs.HeaderFields.{version_at, mark_at, axis_at, cells_at, mult_at, scales_at, front_at, form_of_2, form_at, kind_at, name_of, name_at}
@@ -21,7 +21,8 @@ gives_mark =
 
 gives_cells : (version : ℕ) → Gives (cells_at version) (λ n. ⊤)
 unfolding cells_at axis_at
-gives_cells version = gives_then (gives_within _ _ _) (λ x is. gives_then (gives_within _ _ _) (λ y is. gives_then (gives_within _ _ _) (λ z is. gives_done _ tt)))
+gives_cells version =
+    gives_then (gives_within _ _ _) (λ x is. gives_then (gives_within _ _ _) (λ y is. gives_then (gives_within _ _ _) (λ z is. gives_done _ tt)))
 
 gives_mult : Gives mult_at (λ m. ⊤)
 unfolding mult_at
@@ -45,7 +46,8 @@ gives_form version = go (eqb version 1)
     go : (first : Bool) → Gives (if first then done (2 ^ (allowance_of version).least_bits) else form_of_2) (λ side. ⊤)
     go true = gives_done _ tt
     go false =
-        gives_then (gives_within _ _ _) (λ bits is. gives_then (gives_within _ _ _) (λ filter is. gives_then (gives_within _ _ _) (λ loops is. gives_done _ tt)))
+        gives_then (gives_within _ _ _) (λ bits is. gives_then (gives_within _ _ _) (λ filter is. gives_then (gives_within _ _ _)
+        (λ loops is. gives_done _ tt)))
 
 gives_kind : Gives kind_at (λ k. ⊤)
 unfolding kind_at

@@ -18,9 +18,7 @@ use crate::head_stop::HeadStop;
 use crate::header::Header;
 use crate::heading::{HEAD_BYTES, ZERO_DIGIT, form_length};
 use crate::name_reader::read_name;
-use pic_fields::{
-    Cause, ReadStop, is_from_to, read_between, read_byte, read_exactly, read_within,
-};
+use pic_fields::{Cause, ReadStop, is_from_to, read_between, read_byte, read_exactly, read_within};
 use pic_grid::{Cells, Name};
 use pic_io::Source;
 use pic_num::{
@@ -232,13 +230,7 @@ fn read_head<S: Source>(
     let count_place = kind_place + 24;
     let name = read_name(source, place, earlier)?;
     let kind = read_kind(source, kind_place)?;
-    let count = read_within(
-        source,
-        count_place,
-        Cause::OutOfLimits,
-        0,
-        most - particles,
-    )?;
+    let count = read_within(source, count_place, Cause::OutOfLimits, 0, most - particles)?;
     let head = make_head(alloc, name.bytes(), kind, count)?;
     Ok(head)
 }

@@ -13,12 +13,12 @@ use pic_grid::Cells;
 use pic_num::Scales;
 use std::marker::Model;
 
-/// The header of a dump: its version, the numbers of cells and the side of a cell, the number of steps,
-/// after how many steps a frame is due, the four multipliers, and the species.
+/// The header of a dump: its version, the numbers of cells and the side of a cell, the number of
+/// steps, after how many steps a frame is due, the four multipliers, and the species.
 ///
-/// What a version allows of cells, their side and particles is `allowance_of` of `pic_num`. There are at
-/// most 1000000 steps, a frame is due after 1 to 1000000 of them, and the species are at most 16, with
-/// names of their own. So a dump's reader refuses no number of it.
+/// `allowance_of` of `pic_num` says what the version allows of cells, their side and particles. There
+/// are at most 1000000 steps, a frame is due after 1 to 1000000 of them, and the species are at most
+/// 16, with names of their own. So a dump's reader refuses no number of it.
 #[derive(Debug, Drop)]
 pub struct Header {
     version: u32,
@@ -34,7 +34,8 @@ impl Model for Header {
 
     ghost view = { λ h. header_with h.version h.cells h.steps h.every h.scales h.species };
 
-    ghost invariant = { λ h. IsHeader (header_with h.version h.cells h.steps h.every h.scales h.species) };
+    ghost invariant = { λ h. IsHeader
+        (header_with h.version h.cells h.steps h.every h.scales h.species) };
 }
 
 impl Header {

@@ -142,7 +142,8 @@ fn push_mult(text: &mut HeaderText, by: Mult)
 fn push_heads(text: &mut HeaderText, heads: &[Head])
     requires start { length text.old ≤ 76 }
     requires few { length heads.now ≤ most_species }
-    requires names { (i : ℕ) → i < length heads.now → IsName (slice_index_or heads.now i no_head).name }
+    requires names { (i : ℕ) → i < length heads.now
+        → IsName (slice_index_or heads.now i no_head).name }
     ensures { text.new ≡ text.old ++ heads_bytes heads.now }
 {
     for head in heads {

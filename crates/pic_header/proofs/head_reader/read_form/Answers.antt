@@ -1,7 +1,7 @@
 use Rattle.std.proofs.Common.{arith}
 use Rattle.pic_num.proofs.VersionLaws.{within_scheme, side_of_bits}
-use Rattle.pic_fields.proofs.ReadLaws.{read_then, read_done, read_up_to, goes_on, exits}
-use Rattle.pic_header.specs.HeaderFields.{form_at, form_of_2}
+use Rattle.pic_fields.proofs.ReadLaws.{read_done, read_up_to}
+use Rattle.pic_header.specs.HeaderFields.{form_at}
 use Rattle.pic_header.proofs.head_reader.read_form.Goals as goal
 
 pub returns-then-version-eq1-clause-reads : goal.returns-then-version-eq1-clause-reads

@@ -2,7 +2,7 @@ use Rattle.std.proofs.Common.{◌≡◌, sym, ap, arith}
 use Rattle.pic_fields.proofs.ReadLaws.{read_then, read_done, read_same, read_up_to}
 use Rattle.pic_header.specs.Header.{HeaderView}
 use Rattle.pic_header.specs.HeaderText.{form_length}
-use Rattle.pic_header.specs.HeaderFields.{Front, header_of, header_at, header_length, header_most}
+use Rattle.pic_header.specs.HeaderFields.{Front, header_of, header_at, header_length}
 use Rattle.pic_header.proofs.HeadReadLaws.{head_goes_on, head_exits, head_passes_on}
 use Rattle.pic_header.proofs.RunLaws.{goes_on_by, goes_then, goes_done, goes_heads, runs_mark, runs_front, runs_form, form_few}
 use Rattle.pic_header.proofs.WithinLaws.{within_short, within_first, within_then}
@@ -28,7 +28,8 @@ unfolding header_at
 returns-in_err-heads-clause-reads g c =
     let heads = rw (c.form_length-heads_place.ensures, c.allowance_of.ensures) at c.in_err-heads.ensures.reads in
     head_goes_on _ c.in_ok-version.ensures.reads.answer (head_goes_on _ c.in_ok-front.ensures.reads.answer
-    (head_goes_on _ c.in_ok-side.ensures.reads.answer (head_passes_on _ (omega (arith, form_few c.in_ok-version.version)) c.from_residual-in_err-heads.ensures.1 heads)))
+    (head_goes_on _ c.in_ok-side.ensures.reads.answer (head_passes_on _ (omega (arith, form_few c.in_ok-version.version))
+    c.from_residual-in_err-heads.ensures.1 heads)))
 
 pub returns-clause-reads : goal.returns-clause-reads
 unfolding header_at
