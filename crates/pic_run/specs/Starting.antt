@@ -36,6 +36,7 @@ EveryStateMeetsGauss = (w : World) → IsSound w → EachGauss w
 -- what the header of the dump says
 abbrev pub header_of : DeckView → HeaderView
 header_of d = record {
+  version = d.version;
   cells = d.cells;
   side = d.side;
   steps = d.steps;

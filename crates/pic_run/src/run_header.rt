@@ -16,6 +16,7 @@ pub fn header_of(alloc: Global, deck: &Deck) -> Result<Header, NoMemory>
 {
     let heads = heads_of(alloc, deck.species())?;
     Ok(Header::new(
+        deck.version(),
         deck.cells(),
         deck.steps(),
         deck.every(),
