@@ -13,7 +13,7 @@ use Rattle.pic_grid.specs.declared.stop.EndMark.TheVariants.{Done, Stopped}
 use Rattle.pic_grid.specs.Lattice.{Field}
 use Rattle.pic_energy.specs.declared.amounts.Energies.{Energies}
 use Rattle.pic_header.specs.Header.{HeaderView}
-use Rattle.pic_header.specs.HeaderText.{header_bytes, front_bytes}
+use Rattle.pic_header.specs.HeaderText.{header_bytes, front_bytes, mark_bytes}
 use Rattle.pic_record.specs.RecordText.{frame_bytes, start_bytes, end_bytes, done_bytes, field_stop_bytes, push_stop_bytes}
 use Rattle.pic_run.specs.declared.cut.Cut.{Cut}
 use Rattle.pic_run.specs.declared.cut.Cut.TheVariants.{Write, NoMemory}
@@ -87,7 +87,7 @@ head_cut o p r (byte ∷ head) frames last some put rose = cut_out o p r (record
 
 -- each record of a dump has a byte at least
 pub header_some : (h : HeaderView) → 0 < length (header_bytes h)
-unfolding header_bytes front_bytes
+unfolding header_bytes front_bytes mark_bytes
 header_some h = omega arith
 
 pub frame_some : (step : ℕ) (e b : Field) (particles : List Particle) (energies : Energies) → 0 < length (frame_bytes step e b particles energies)
