@@ -169,6 +169,21 @@ fn read_front<S: Source>(source: &mut S, version: u32, place: u64) -> Result<Fro
 }
 
 // Reads what version 2 says more: the side of a cell, no filter, and no loops.
+fn read_form_of_2<S: Source>(source: &mut S, place: u64) -> Result<Sub, ReadStop>
+    requires { place + 12 < 2 ^ 63 }
+    ensures reads { Reads as_it_is form_of_2 place (place + 12) (S.told source.old)
+        (S.told source.new) result }
+    ensures side { IfOk result (λ s. IsSideOf 2 s) }
+{
+    let filter_place = place + 4;
+    let loops_place = filter_place + 4;
+    let bits = read_within(source, place, Cause::OutOfLimits, MIN_BITS, MAX_BITS)?;
+    let _filter = read_within(source, filter_place, Cause::OutOfLimits, 0, 0)?;
+    let _loops = read_within(source, loops_place, Cause::OutOfLimits, 0, 0)?;
+    Ok(Sub::of_bits(bits))
+}
+
+// Reads what a version says of the side of a cell, and behind it.
 fn read_form<S: Source>(source: &mut S, version: u32, place: u64) -> Result<Sub, ReadStop>
     requires version { IsVersion version }
     requires place { place + 12 < 2 ^ 63 }
@@ -179,12 +194,7 @@ fn read_form<S: Source>(source: &mut S, version: u32, place: u64) -> Result<Sub,
     if version == 1 {
         return Ok(Sub::of_bits(allowance_of(version).least_bits));
     }
-    let filter_place = place + 4;
-    let loops_place = filter_place + 4;
-    let bits = read_within(source, place, Cause::OutOfLimits, MIN_BITS, MAX_BITS)?;
-    read_within(source, filter_place, Cause::OutOfLimits, 0, 0)?;
-    read_within(source, loops_place, Cause::OutOfLimits, 0, 0)?;
-    Ok(Sub::of_bits(bits))
+    read_form_of_2(source, place)
 }
 
 fn read_kind<S: Source>(source: &mut S, place: u64) -> Result<Kind, ReadStop>
