@@ -48,7 +48,8 @@ not_wanted Unread same = cc
 not_wanted (Unfit refusal) same = cc
 not_wanted (Unmet b) same = cc
 
-calm_opened : (source source' : Told) (front : List ℕ) (given : Given) (d : DeckView) → Gave source source' front given → opened given ≡ Ok d → Calm source source'
+calm_opened : (source source' : Told) (front : List ℕ) (given : Given) (d : DeckView) → Gave source source' front given
+    → opened given ≡ Ok d → Calm source source'
 calm_opened source source' front (Failed taken) d gave is = let other : ◌≡◌ {A = Staged DeckView} (Err Unread) (Ok d) = is in cc
 calm_opened source source' front (Held held) d gave is = gave.0
 
@@ -61,7 +62,8 @@ none_read source' given ended wanted = record {
 }
 
 -- a stage was stopped
-pub on_stopped : (performed : DeckView → Outcome) (leaves : Leaving) (own : Call → Ended → Type 0) (stop : StageStop) (source source' : Told) (before now : Sinks)
+pub on_stopped : (performed : DeckView → Outcome) (leaves : Leaving) (own : Call → Ended → Type 0) (stop : StageStop) (source source' : Told)
+    (before now : Sinks)
     (finish : Result Ended Cut) → ((o : Outcome) → Wrote before now [] [] → leaves o before now) → Opens source source' (Err stop)
     → EndsStopped stop before now finish → Performs (on_given_deck performed leaves own) source source' before now (ended_of finish)
 on_stopped performed leaves own (Answer why) source source' before now finish nothing opens ends =
@@ -207,7 +209,8 @@ not_of_run (EndStopped step stop) same = cc
 pub check_means : (c : Call) (ended : Ended) (p : Performs checking c.source c.source_now c.sinks c.sinks_now ended)
     → Fulfils (checking.outcome p.read.given) c.sinks c.sinks_now ended → MeansIn checking c (checking.outcome p.read.given).answer
 check_means c ended p =
-    deck_means check_outcome LeavesNothing CheckMeans c ended p (λ d same. cc) (λ d has sound gauss. record { deck = d; held = has; gauss = gauss; count = refl })
+    deck_means check_outcome LeavesNothing CheckMeans c ended p (λ d same. cc)
+    (λ d has sound gauss. record { deck = d; held = has; gauss = gauss; count = refl })
 
 pub run_means : (workers : ℕ) (c : Call) (ended : Ended) (p : Performs (running workers) c.source c.source_now c.sinks c.sinks_now ended)
     → Fulfils ((running workers).outcome p.read.given) c.sinks c.sinks_now ended → MeansIn (running workers) c ((running workers).outcome p.read.given).answer

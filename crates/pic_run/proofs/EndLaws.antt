@@ -36,7 +36,8 @@ pub starved : (leaves : Leaving) (o : Outcome) (before now : Sinks) (finish : Re
 starved leaves o before now finish is left = inr (inr (record { wanted = ap ended_of is; left = left }))
 
 -- a part that wants no memory any more ends with the outcome's answer, or a put failed
-pub unlike : (o : Outcome) (before now : Sinks) (finish : Result Ended Cut) (ended : Ended) → (o.answer ≡ ended → ⊥) → ((side : Side) → WriteFault side ≡ ended → ⊥)
+pub unlike : (o : Outcome) (before now : Sinks) (finish : Result Ended Cut) (ended : Ended)
+    → (o.answer ≡ ended → ⊥) → ((side : Side) → WriteFault side ≡ ended → ⊥)
     → Announces o before now finish → ended_of finish ≡ ended → ⊥
 unlike o before now (Ok answer) ended other write ends is = other (ends.answers ∙ is)
 unlike o before now (Err (cut.Write side)) ended other write ends is = write side is

@@ -37,7 +37,8 @@ gave_known a b front calm = (calm, known a.bytes)
     known (Some held) = refl
 
 -- a reading of a deck that took so much
-abbrev pub reading : (a b : Told) (limit : ℕ) → limit ≡ deck_limit → (t : TakesAtMost limit a b) (given : Given) → Gave a b t.front given → Reading TakesOfDeck a b
+abbrev pub reading : (a b : Told) (limit : ℕ) → limit ≡ deck_limit → (t : TakesAtMost limit a b) (given : Given)
+    → Gave a b t.front given → Reading TakesOfDeck a b
 reading a b limit is t given gave = record {
   front = t.front;
   most = subst (λ (n : ℕ). length t.front ≤ n) is t.most;

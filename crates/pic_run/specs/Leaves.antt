@@ -50,4 +50,5 @@ pub record IsStarved (leaves : Leaving) (o : Outcome) (before now : Sinks)
 -- a call comes to the outcome's answer, with its texts, or it is cut off
 abbrev pub ComesTo : Leaving → Outcome → Sinks → Sinks → Ended → Type 0
 ComesTo leaves o before now answer =
-    Fulfils o before now answer ⊎ (IsCutOff o before now answer ⊎ IsStarved leaves o before now answer)
+    Fulfils o before now answer
+    ⊎ (IsCutOff o before now answer ⊎ IsStarved leaves o before now answer)

@@ -72,7 +72,8 @@ fn run_deck<H: Threads + Sync, O: Sink, R: Sink, G: Gate + Sync>(
     requires begins { (begun opened.start).step ≡ 0 }
     requires sound { IsSound (begun opened.start) }
     requires tiled { AreTiled opened.start.setup.map opened.start.e opened.start.b }
-    ensures { Finishes (LeavesWhole workers) (dump_outcome (header_of opened.deck) (begun opened.start))
+    ensures { Finishes (LeavesWhole workers)
+        (dump_outcome (header_of opened.deck) (begun opened.start))
         (sinks (O.told out.old) (R.told report.old))
         (sinks (O.told out.new) (R.told report.new)) result }
 {
