@@ -19,3 +19,5 @@ mod runs;
 mod trial;
 #[cfg(test)]
 mod words;
+#[cfg(test)]
+mod workers;

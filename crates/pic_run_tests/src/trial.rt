@@ -1,6 +1,6 @@
 //! What the tests share: decks in pieces, and a call over memory.
 
-use pic_gate::Open;
+use pic_gate::{Gate, Open};
 use pic_io::{MemSink, MemSource};
 use pic_run::pic;
 use std::process::Abort;
@@ -148,6 +148,18 @@ pub fn call_in<H: AllocGlobal + Abort + Threads + Sync>(
     sizes: Sizes,
     faults: Faults,
 ) -> Left {
+    call_at(rt, words, held, sizes, faults, &Open)
+}
+
+/// The same at a gate.
+pub fn call_at<H: AllocGlobal + Abort + Threads + Sync, G: Gate + Sync>(
+    rt: &H,
+    words: &[&str],
+    held: Pieces<'_>,
+    sizes: Sizes,
+    faults: Faults,
+    gate: &G,
+) -> Left {
     let words = owned(rt, words);
     let mut source = source_of(rt, held, sizes.piece, faults.take);
     let mut out = sink_of(rt, sizes.room, faults.out);
@@ -159,7 +171,7 @@ pub fn call_in<H: AllocGlobal + Abort + Threads + Sync>(
         &mut source,
         &mut out,
         &mut report,
-        &Open,
+        gate,
     );
     Left {
         status: ended.status(),
