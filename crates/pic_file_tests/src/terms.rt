@@ -111,8 +111,9 @@ fn table(rt: &(impl AllocGlobal + Abort), wrong: &str, value: &str) -> Table {
     table_from_str(rt.alloc(), text.as_str()).expect(rt, "a table")
 }
 
-fn is_refused(rt: &(impl AllocGlobal + Abort), stop: Option<WalkStop>, wanted: &str) {
-    let found = match stop {
+// the path and the numbers of a limit
+fn limit_of(stop: &Option<WalkStop>) -> (&str, [i128; 3]) {
+    match stop {
         Some(
             WalkStop::Found(
                 Fault::Limit {
@@ -122,12 +123,14 @@ fn is_refused(rt: &(impl AllocGlobal + Abort), stop: Option<WalkStop>, wanted: &
                     high,
                 },
             ),
-        ) => {
-            let numbers = [value, low, high];
-            format!(in rt.alloc(); "{} {numbers:?}", path.as_str()).expect(rt, "memory")
-        }
-        _ => String::new(rt.alloc()),
-    };
+        ) => (path.as_str(), [*value, *low, *high]),
+        _ => ("", [0; 3]),
+    }
+}
+
+fn is_refused(rt: &(impl AllocGlobal + Abort), stop: &Option<WalkStop>, wanted: &str) {
+    let (path, numbers) = limit_of(stop);
+    let found = format!(in rt.alloc(); "{path} {numbers:?}").expect(rt, "memory");
     assert_eq!(rt; found.as_str(), wanted);
 }
 
@@ -141,11 +144,11 @@ fn limits_go_by_the_version_and_the_side(rt: HostRuntime) {
     for (version, bits, wrong, value, wanted) in SITES {
         let by = terms(&rt, version, bits);
         let stop = read_sites(rt.alloc(), "s", &table(&rt, wrong, value), by).err();
-        is_refused(&rt, stop, wanted);
+        is_refused(&rt, &stop, wanted);
     }
     for (version, bits, wrong, value, wanted) in DRAWS {
         let cells = terms(&rt, version, bits).cells();
         let stop = read_draw(rt.alloc(), "s", &table(&rt, wrong, value), cells).err();
-        is_refused(&rt, stop, wanted);
+        is_refused(&rt, &stop, wanted);
     }
 }
