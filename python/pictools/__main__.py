@@ -1,17 +1,17 @@
-"""The commands: python3 -m pictools plot | energies | info | deck | thin | explain, each with --help."""
+"""The commands: python3 -m pictools plot | energies | info | deck | run | mend | scan | thin | vtk | movie | page | explain, each
+with --help."""
 
 from __future__ import annotations
 
 import argparse
 import os
 import sys
-from dataclasses import MISSING, Field, fields
 from types import ModuleType
 
 try:
-    from pictools import cost, explain, files, info, views
+    from pictools import choices, command_export, command_run, command_scan, cost, explain, files, info, optional, views
     from pictools.deck import DeckError
-    from pictools.limits import Limits, option, refuse
+    from pictools.limits import refuse
     from pictools.plasma import Plasma
 except ModuleNotFoundError as missing:
     if missing.name != "numpy":
@@ -21,11 +21,7 @@ except ModuleNotFoundError as missing:
 
 def plots() -> ModuleType:
     """The pictures' module, which alone needs matplotlib."""
-    try:
-        from pictools import plots as module
-    except ModuleNotFoundError as missing:
-        raise SystemExit(f"pictools: pictures need {missing.name}; on Debian it is python3-{missing.name}") from None
-    return module
+    return optional.module("plots", "pictures")
 
 
 def plot(words: argparse.Namespace) -> None:
@@ -49,8 +45,7 @@ def show_info(words: argparse.Namespace) -> None:
 
 
 def deck(words: argparse.Namespace) -> None:
-    chosen = {f.name: getattr(words, f.name) for f in fields(Plasma) if getattr(words, f.name) is not None}
-    plasma = Plasma(**chosen)
+    plasma = Plasma(**choices.chosen(words))
     made = plasma.deck()
     try:
         text = made.text()
@@ -82,21 +77,8 @@ def add_plot(part: argparse.ArgumentParser) -> None:
     part.set_defaults(call=plot)
 
 
-def allowed(field: Field) -> str:
-    """What an option may be, and what it is where it isn't given."""
-    said = [field.metadata["limits"].ends] if isinstance(field.metadata["limits"], Limits) else []
-    if field.default not in (MISSING, None):
-        said.append("default: " + (" ".join(map(str, field.default)) if field.name == "cells" else str(field.default)))
-    return f" ({'; '.join(said)})"
-
-
 def add_deck(part: argparse.ArgumentParser) -> None:
-    """The options are the fields of Plasma."""
-    for field in fields(Plasma):
-        needed = field.default is MISSING
-        shape = {"nargs": 3, "type": int, "metavar": ("NX", "NY", "NZ")} if field.name == "cells" else {
-            "type": {"float": float, "int": int, "str": str}[field.type.split()[0]], "metavar": field.type.split()[0].upper()}
-        part.add_argument(option(field.name), required=needed, **shape, help=field.metadata["text"] + allowed(field))
+    choices.add_choices(part)
     part.add_argument("-o", "--out", help="the deck's file; without it the deck goes to standard output")
     part.set_defaults(call=deck)
 
@@ -113,6 +95,9 @@ def parser() -> argparse.ArgumentParser:
     commands = whole.add_subparsers(required=True, metavar="COMMAND")
     add_plot(commands.add_parser("plot", help="a picture of a dump"))
     add_deck(commands.add_parser("deck", help="a deck from a plasma's numbers"))
+    command_run.add_run(commands.add_parser("run", help="runs a deck, with a progress bar and a note beside the dump"))
+    command_run.add_mend(commands.add_parser("mend", help="makes a dump whole that was cut: that of a run of so many steps"))
+    command_scan.add_scan(commands.add_parser("scan", help="many runs, of options with several values, to a table"))
     part = commands.add_parser("energies", help="a picture of a report's energies")
     part.add_argument("report")
     part.add_argument("-o", "--out", required=True)
@@ -124,6 +109,7 @@ def parser() -> argparse.ArgumentParser:
     part = commands.add_parser("info", help="what a dump is of: its cells, frames, end, species, and what its multipliers mean")
     part.add_argument("dump")
     part.set_defaults(call=show_info)
+    command_export.add_all(commands)
     part = commands.add_parser("explain", help="what a line of the program, or its exit status, means and what to change")
     part.add_argument("line", nargs=argparse.REMAINDER,
                       help="the line, or a number for a status (default: the lines of standard input)")
@@ -142,6 +128,9 @@ def main() -> int:
     except BrokenPipeError:
         # What took the output has ended; nothing is left to flush to it.
         os.dup2(os.open(os.devnull, os.O_WRONLY), sys.stdout.fileno())
+        return 1
+    except ModuleNotFoundError as missing:
+        print(f"pictools: {missing}", file=sys.stderr)
         return 1
     except MemoryError:
         print("pictools: there isn't memory enough; thin the dump first", file=sys.stderr)

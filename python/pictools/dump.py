@@ -8,7 +8,8 @@
     frame.e                                 # float64, of shape (3, nz, ny, nx)
     frame.species("electron")["velocity"]   # int32, of shape (particles, 3)
     frame.table()                           # a pandas.DataFrame of the particles
-    dump.to_xarray("ex", "bz")              # an xarray.Dataset of components
+    dump.to_pandas(0, 7)                    # the tracks of two particles
+    dump.to_xarray("ex", "bz")              # an xarray.Dataset of components, which reads a frame when it is looked into
 
 The bytes are those of docs/FORMATS.md. What a reader can see of a damaged dump without computing the run anew is seen:
 the header's numbers, each record's kind and step, the end record, and the length. The error names the byte. A dump that
@@ -339,7 +340,15 @@ class Dump:
             values[number] = rounded(self.records[name][number, axis]).mean(axis=over)
         return values
 
-    def to_xarray(self, *components: str) -> xarray.Dataset:
-        """Components over step, z, y and x, for xarray, as `dump.to_xarray("ex", "bz")`; all six where none is named."""
+    def to_pandas(self, *identities: int, units: str = "steps") -> pandas.DataFrame:
+        """The particles of these identities over step and identity, for pandas, as in `table` of a frame; all of them where none is
+        named, which a large dump wants in parts, as `dump[-1:].to_pandas()`. `units` are "steps" or "plasma"."""
         from pictools import tables
-        return tables.fields(self, components)
+        return tables.tracks(self, identities, units)
+
+    def to_xarray(self, *components: str, units: str = "dump") -> xarray.Dataset:
+        """Components over step, z, y and x, for xarray, as `dump.to_xarray("ex", "bz")`; all six where none is named. `units` are
+        "dump" (fields in the dump's numbers), "steps" or "plasma". A frame is read when it is looked into: `.chunk(step=1)`, by
+        dask, goes through a large dump frame by frame."""
+        from pictools import tables
+        return tables.fields(self, components, units)

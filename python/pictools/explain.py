@@ -133,8 +133,8 @@ def bad_dump(place: str, cause: str) -> list[str]:
     said = [f"The dump isn't of the format from byte {place} on, counted from 0: "
             f"{CAUSES.get(cause, 'a cause that is not known')}."]
     if cause == "9":
-        said.append("Its run was cut (a full disk, Ctrl-C, a time limit), or still writes. python3 -m pictools info, plot and "
-                    "thin take its whole frames.")
+        said.append("Its run was cut (a full disk, Ctrl-C, a time limit), or still writes. python3 -m pictools mend makes it "
+                    "that of a shorter run; info, plot and thin take its whole frames as it is.")
     return said
 
 

@@ -80,6 +80,14 @@ def report(path: str) -> str:
     return data.decode("ascii", "replace")
 
 
+def places(path: str) -> tuple[Path, Path]:
+    """The file that a path stands for, links followed, and one beside it, with the same ending, to write to first."""
+    whole = Path(os.path.realpath(path))
+    if not whole.parent.is_dir():
+        raise ValueError(f"{path}: there is no folder {Path(path).parent}")
+    return whole, whole.with_name(f".{whole.stem}.{os.getpid()}{whole.suffix}")
+
+
 @contextmanager
 def written(path: str) -> Iterator[str]:
     """A path beside this one to write to, with the same ending. It takes this one's place where all goes well, and goes away
@@ -87,10 +95,7 @@ def written(path: str) -> Iterator[str]:
     if os.path.exists(path) and not os.path.isfile(path):
         yield path
         return
-    whole = Path(os.path.realpath(path))
-    if not whole.parent.is_dir():
-        raise ValueError(f"{path}: there is no folder {Path(path).parent}")
-    beside = whole.with_name(f".{whole.stem}.{os.getpid()}{whole.suffix}")
+    whole, beside = places(path)
     try:
         yield str(beside)
         os.replace(beside, whole)

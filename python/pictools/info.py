@@ -4,13 +4,20 @@ from __future__ import annotations
 
 from math import pi, prod
 
-from pictools import units
+from pictools import note, units
 from pictools.dump import Dump, Header, Multiplier, Species
 from pictools.header import frame_length
 
 
 def info(dump: Dump) -> list[str]:
-    """Lines on the run's size, its frames and end, its species, and what its multipliers mean."""
+    """The facts of a dump as lines."""
+    lines = facts(dump)
+    wide = max(len(name) for name, _ in lines)
+    return [f"{name:{wide}}  {text}" for name, text in lines]
+
+
+def facts(dump: Dump) -> list[tuple[str, str]]:
+    """The run's size, its frames and end, its species, and what its multipliers mean, each with its name."""
     header, last = dump.header, int(dump.steps[-1])
     frames = f"{len(dump)} of {header.frames}, of steps {int(dump.steps[0])} to {last}, every {header.every}"
     lines = [("dump", dump.path),
@@ -19,11 +26,10 @@ def info(dump: Dump) -> list[str]:
              ("frames", f"{frames}; {size(frame_length(header.cells, header.particles))} each"),
              ("end", dump.end.text if dump.end else f"none: {dump.cut}"),
              ("particles", str(header.particles))]
+    lines += [("its run", said)] if (said := note.said(dump)) else []
     lines += [(f"species {s.name}", kind(s)) for s in header.species]
     lines += [(name, factor(getattr(header, name))) for name in ("e_to_b", "b_to_e", "e_force", "b_force")]
-    lines += physics(dump)
-    wide = max(len(name) for name, _ in lines)
-    return [f"{name:{wide}}  {text}" for name, text in lines]
+    return lines + physics(dump)
 
 
 def factor(multiplier: Multiplier) -> str:

@@ -59,6 +59,12 @@ def component(name: str) -> tuple[str, int]:
     return name[0], AXES.index(name[1])
 
 
+def offsets(name: str) -> NDArray[np.float64]:
+    """Where on a cell a component stands, along x, y and z: an E in the middle of an edge, a B in the middle of a face."""
+    field, axis = component(name)
+    return np.array([0.5 * ((a == axis) == (field == "e")) for a in range(3)])
+
+
 def profile(dump: Dump, name: str, along: str = "x") -> NDArray[np.float64]:
     """A component along an axis, averaged over the other two: shape (frames, cells of the axis). One frame at a time is read."""
     return dump.profile(*component(name), along)

@@ -3,7 +3,9 @@ a picture leaves out, averages over or folds is written on it."""
 
 from __future__ import annotations
 
+from collections.abc import Iterable
 from math import pi
+from typing import NamedTuple
 
 import numpy as np
 from matplotlib.axes import Axes
@@ -15,7 +17,7 @@ from numpy.typing import NDArray
 from pictools import expect, measure, units
 from pictools.dump import FAST, SIDE, Dump, Frame, rounded
 from pictools.measure import AXES, Wave
-from pictools.views import Scale, View, scale_of, slope, strength
+from pictools.views import Scale, View, against, number_of, scale_of, slope, strength
 
 COLOURS = ("#0b5fa5", "#d1495b", "#3a7d44", "#8a5a9e", "#c98a1b", "#555555")
 MOST_DOTS = 20000
@@ -138,29 +140,63 @@ def draw_orbits(axes: Axes, dump: Dump, view: View) -> list[str]:
     return []
 
 
-def draw_phase(axes: Axes, frame: Frame, dump: Dump, view: View) -> list[str]:
-    """Phase space of all that moves: a dot for each of some particles; of many their density, or dots of a drawn sample."""
+class PhaseEnds(NamedTuple):
+    """The scales of phase spaces that are to be compared: their least and greatest speed, and the most particles in a bin."""
+
+    low: float
+    high: float
+    most: float
+
+
+def phase_points(frame: Frame, dump: Dump, view: View) -> tuple[list[str], list[NDArray]]:
+    """The names of what moves, and of each the places and the speeds (2, particles), in a picture's units."""
     scale, moving = scale_of(dump, view.units), [s for s in frame.header.species if s.count and (s.kick.n or s.turn.n)]
-    number = sum(s.count for s in moving)
-    if not number:
+    if not moving:
         raise ValueError(f"phase: none of the {frame.header.particles} particles of the dump moves")
-    place, speed = (axis or view.axis(frame.header) for axis in (view.place, view.speed))
+    place, speed = (AXES.index(axis or view.axis(frame.header)) for axis in (view.place, view.speed))
     tables = [frame.species(s.name) for s in moving]
-    points = [np.stack([table["position"][:, AXES.index(place)] / (SIDE * scale.length),
-                        table["velocity"][:, AXES.index(speed)] * (scale.time / scale.length / FAST)]) for table in tables]
-    end, note = frame.header.cells[AXES.index(place)] / scale.length, ""
-    if number <= MOST_DOTS or view.dots:
+    return [s.name for s in moving], [np.stack([table["position"][:, place] / (SIDE * scale.length),
+                                                table["velocity"][:, speed] * (scale.time / scale.length / FAST)])
+                                      for table in tables]
+
+
+def phase_ends(frame: Frame, dump: Dump, view: View) -> PhaseEnds:
+    """The scales of one phase space by itself."""
+    points = np.hstack(phase_points(frame, dump, view)[1])
+    low, high = points[1].min(), points[1].max()
+    room = 0.02 * (high - low) or 1e-6
+    ends = PhaseEnds(low - room, high + room, 2)
+    return ends if is_dotted(view, points.shape[1]) else ends._replace(most=max(2, density(points, dump, view, ends)[0].max()))
+
+
+def common(ends: Iterable[PhaseEnds]) -> PhaseEnds:
+    """The scales of several phase spaces."""
+    low, high, most = zip(*ends)
+    return PhaseEnds(min(low), max(high), max(most))
+
+
+def is_dotted(view: View, number: int) -> bool:
+    return number <= MOST_DOTS or view.dots
+
+
+def draw_phase(axes: Axes, frame: Frame, dump: Dump, view: View, ends: PhaseEnds | None = None) -> list[str]:
+    """Phase space of all that moves: a dot for each of some particles; of many their density, or dots of a drawn sample. With
+    `ends` it has the scales of others."""
+    scale, (names, points) = scale_of(dump, view.units), phase_points(frame, dump, view)
+    place, speed = (axis or view.axis(frame.header) for axis in (view.place, view.speed))
+    number, note = sum(part.shape[1] for part in points), ""
+    if is_dotted(view, number):
         keep = np.ones(number, bool)
         if number > MOST_DOTS:
             keep[:] = False
             keep[np.random.default_rng(DRAWN_WITH).choice(number, MOST_DOTS, replace=False)] = True
             note = f"\n{MOST_DOTS} of {number} particles, drawn with the seed {DRAWN_WITH}"
-        draw_dots(axes, [s.name for s in moving], points, keep)
+        draw_dots(axes, names, points, keep)
     else:
         note = f"\ndensity of {number} particles"
-        draw_density(axes, np.hstack(points), end)
+        draw_density(axes, np.hstack(points), dump, view, ends or phase_ends(frame, dump, view))
     axes.set(title=f"Phase space, step {frame.step}{note}", xlabel=scale.place.format(place), ylabel=scale.speed.format(speed),
-             xlim=(0, end))
+             xlim=(0, frame.header.cells[AXES.index(place)] / scale.length), **({"ylim": ends[:2]} if ends else {}))
     return []
 
 
@@ -176,20 +212,18 @@ def draw_dots(axes: Axes, names: list[str], points: list[NDArray], keep: NDArray
         axes.legend(loc="upper right", frameon=True, framealpha=0.8, handletextpad=0.1)
 
 
-def draw_density(axes: Axes, points: NDArray, end: float) -> None:
-    """How many particles there are in each of some bins of place and speed; white is none."""
-    low, high = points[1].min(), points[1].max()
-    room = 0.02 * (high - low) or 1e-6
-    counts, x, v = np.histogram2d(*points, bins=BINS, range=((0, end), (low - room, high + room)))
-    drawn = axes.pcolormesh(x, v, np.ma.masked_equal(counts.T, 0), cmap="viridis", norm=LogNorm(1, max(counts.max(), 2)),
-                            rasterized=True)
+def density(points: NDArray, dump: Dump, view: View, ends: PhaseEnds) -> tuple[NDArray, NDArray, NDArray]:
+    """How many particles there are in each of some bins of place and speed, and the bins' ends."""
+    axis = view.place or view.axis(dump.header)
+    wide = dump.header.cells[AXES.index(axis)] / scale_of(dump, view.units).length
+    return np.histogram2d(*points, bins=BINS, range=((0, wide), ends[:2]))
+
+
+def draw_density(axes: Axes, points: NDArray, dump: Dump, view: View, ends: PhaseEnds) -> None:
+    """The density of particles by place and speed; white is none."""
+    counts, x, v = density(points, dump, view, ends)
+    drawn = axes.pcolormesh(x, v, np.ma.masked_equal(counts.T, 0), cmap="viridis", norm=LogNorm(1, ends.most), rasterized=True)
     axes.figure.colorbar(drawn, cax=beside(axes), label=f"particles in each of {BINS} by {BINS} bins")
-
-
-def offsets(name: str) -> NDArray[np.float64]:
-    """Where on a cell a component stands, along x, y and z: an E in the middle of an edge, a B in the middle of a face."""
-    field, axis = measure.component(name)
-    return np.array([0.5 * ((a == axis) == (field == "e")) for a in range(3)])
 
 
 def slice_of(frame: Frame, view: View, name: str) -> tuple[NDArray, str]:
@@ -202,7 +236,7 @@ def slice_of(frame: Frame, view: View, name: str) -> tuple[NDArray, str]:
         raise ValueError(f"--at {view.at}: the box has the cells "
                          + " and ".join(f"0 to {cells[AXES.index(a)] - 1} along {a}" for a in rest))
     values = rounded(frame.record[field][axis])[tuple(slice(None) if a in plane else view.at for a in reversed(AXES))]
-    return values, ", ".join(f"{a} = {view.at + offsets(name)[AXES.index(a)]:g}" for a in rest)
+    return values, ", ".join(f"{a} = {view.at + measure.offsets(name)[AXES.index(a)]:g}" for a in rest)
 
 
 def draw_field(axes: Axes, frame: Frame, dump: Dump, view: View, name: str, top: float) -> list[str]:
@@ -211,7 +245,7 @@ def draw_field(axes: Axes, frame: Frame, dump: Dump, view: View, name: str, top:
     values, where = slice_of(frame, view, name)
     values, what = strength(frame.header, name, scale, values)
     ends = [(np.array([0, n]) + offset) / scale.length
-            for a, n, offset in zip(AXES, frame.header.cells, offsets(name)) if a in plane]
+            for a, n, offset in zip(AXES, frame.header.cells, measure.offsets(name)) if a in plane]
     if len(plane) == 1:
         axes.plot(ends[0][0] + np.arange(len(values)) / scale.length, values)
         axes.set(ylabel=what, xlim=(0, len(values) / scale.length), ylim=(-1.05 * top, 1.05 * top))
@@ -245,19 +279,10 @@ def draw_history(axes: Axes, dump: Dump, view: View, name: str) -> list[str]:
         raise ValueError("history: the dump has one frame alone")
     scale, along = scale_of(dump, view.units), view.axis(dump.header)
     values, what = strength(dump.header, name, scale, measure.profile(dump, name, along))
-    ends = np.array([0, values.shape[1]]) + offsets(name)[AXES.index(along)] - 0.5
+    ends = np.array([0, values.shape[1]]) + measure.offsets(name)[AXES.index(along)] - 0.5
     image(axes, values, np.concatenate([ends / scale.length, dump.steps[[0, -1]] / scale.time]), what, top_of(values))
     axes.set(title=f"{title_of(name)} over time, mean over {others(along)}", xlabel=scale.place.format(along), ylabel=scale.step)
     return []
-
-
-def number_of(value: float, error: float | None = None) -> str:
-    """A rate in five digits behind the point, with its error."""
-    return f"{value:.5f}" + ("" if error is None else f" ± {error:.5f}")
-
-
-def against(measured: float, theory: float, name: str = "theory") -> str:
-    return f"{name} {number_of(theory)}" + (f", off by {measured / theory - 1:+.1%}" if theory else "")
 
 
 def legend_below(axes: Axes) -> None:

@@ -12,21 +12,24 @@ import re
 from collections.abc import Iterable, Sequence
 from io import BytesIO
 from math import ceil
-from typing import Any
+from typing import Any, NamedTuple
 
 import matplotlib
 import numpy as np
 from cycler import cycler
 from matplotlib.axes import Axes
 from matplotlib.figure import Figure
+from numpy.typing import NDArray
 
-from pictools import measure, panels, views
+from pictools import measure, note, panels, views
 from pictools.dump import Dump, rounded
+from pictools.panels import PhaseEnds
 from pictools.views import View
 
 STYLE = {"font.size": 9, "axes.titlesize": 10, "axes.spines.top": False, "axes.spines.right": False,
          "axes.prop_cycle": cycler(color=panels.COLOURS), "legend.frameon": False}
 MOST_DOTS_ACROSS = 20000
+MOVING = ("phase", "field")     # the panels of one frame
 
 
 class Picture(Figure):
@@ -36,9 +39,19 @@ class Picture(Figure):
         return bytes_of(self, "png")
 
 
-def draw(axes: Axes, runs: dict[str, Dump], name: str, part: tuple[str, str, int, float], view: View) -> list[str]:
-    """One panel: `part` is its name, the run's, the frame, and where a field's colours end. The lines that it has to say."""
-    panel, run, frame, top = part
+class Part(NamedTuple):
+    """What a panel shows: its name, the run's, the frame, and a scale that it shares with others: where a field's colours end, or
+    the ends of phase space."""
+
+    panel: str
+    run: str
+    frame: int = 0
+    scale: float | PhaseEnds | None = None
+
+
+def draw(axes: Axes, runs: dict[str, Dump], name: str, part: Part, view: View) -> list[str]:
+    """Draws one panel. The lines that it has to say."""
+    panel, run, frame, scale = part
     dump = runs[run]
     match panel:
         case "energies":
@@ -48,9 +61,9 @@ def draw(axes: Axes, runs: dict[str, Dump], name: str, part: tuple[str, str, int
         case "orbits":
             return panels.draw_orbits(axes, dump, view)
         case "phase":
-            return panels.draw_phase(axes, dump[frame], dump, view)
+            return panels.draw_phase(axes, dump[frame], dump, view, scale)
         case "field":
-            return panels.draw_field(axes, dump[frame], dump, view, name, top)
+            return panels.draw_field(axes, dump[frame], dump, view, name, scale)
         case "history":
             return panels.draw_history(axes, dump, view, name)
         case "growth" | "damping":
@@ -87,49 +100,68 @@ def nearest(dump: Dump, step: int) -> int:
     return int(np.argmin(np.abs(dump.steps - step)))
 
 
-def parts_of(run: str, dump: Dump, chosen: Sequence[str], view: View) -> list[tuple[str, str, int, float]]:
+def shown(dump: Dump, frame: int, view: View, name: str) -> NDArray:
+    """The values of a field's panel, in its unit."""
+    return views.strength(dump.header, name, views.scale_of(dump, view.units), panels.slice_of(dump[frame], view, name)[0])[0]
+
+
+def parts_of(run: str, dump: Dump, chosen: Sequence[str], view: View) -> list[Part]:
     """The panels of one run: those of one frame (phase, field) once for each of the view's steps, fields with one end of the
     colours for all."""
     name, frames = view.component or strongest(dump), [nearest(dump, step) for step in view.steps] or [len(dump) - 1]
     found = []
     for panel in chosen or usual(dump, name):
-        top = 1.0
-        if panel == "field":
-            scale = views.scale_of(dump, view.units)
-            slices = [panels.slice_of(dump[frame], view, name)[0] for frame in frames]
-            top = panels.top_of(np.stack([views.strength(dump.header, name, scale, values)[0] for values in slices]))
-        found += [(panel, run, frame, top) for frame in (frames if panel in ("phase", "field") else [0])]
+        scale = panels.top_of(np.stack([shown(dump, frame, view, name) for frame in frames])) if panel == "field" else None
+        found += [Part(panel, run, frame, scale) for frame in (frames if panel in MOVING else [0])]
     return found
+
+
+def write_source(picture: Figure, text: str) -> None:
+    """What a picture is of, small at its foot."""
+    if text:
+        picture.supxlabel(text, fontsize=6, color="#777777", x=0.01, ha="left")
+
+
+def sheet(number: int, view: View, dumps: Iterable[Dump]) -> tuple[Figure, list[Axes]]:
+    """An empty picture of these dumps, with places for so many panels, two across."""
+    across = min(number, 2)
+    down = ceil(number / across)
+    size = view.size or ((4.6 * across, 3.4 * down) if number > 1 else (6.4, 4.2))
+    if max(size) * view.dpi > MOST_DOTS_ACROSS or view.dpi < 1:
+        raise ValueError(f"--dpi {view.dpi} with {size[0]:g} by {size[1]:g} inches: a picture has 1 to {MOST_DOTS_ACROSS} dots "
+                         "a side")
+    picture = Picture(figsize=size, dpi=view.dpi, layout="constrained")
+    places = list(picture.subplots(down, across, squeeze=False).flat)
+    for axes in places[number:]:
+        axes.axis("off")
+    picture.suptitle(view.title)
+    write_source(picture, "\n".join(filter(None, map(note.said, dumps))))
+    return picture, places[:number]
+
+
+def letter(axes: Axes, number: int, view: View) -> None:
+    """A panel's letter, where letters are wanted."""
+    if view.letters:
+        axes.text(-0.03, 1.03, f"({chr(ord('a') + number)})", transform=axes.transAxes, ha="right", va="bottom",
+                  fontweight="bold")
 
 
 def drawn(runs: dict[str, Dump], chosen: Iterable[str], view: View) -> tuple[Figure, list[str]]:
     """A picture of one run or of several, by their names, and the lines that its panels have to say."""
     chosen, lines = list(chosen), []
-    parts = [("heating", next(iter(runs)), 0, 1.0)] if "heating" in chosen else []
+    parts = [Part("heating", next(iter(runs)))] if "heating" in chosen else []
     for run, dump in runs.items():
         own = [panel for panel in chosen if panel != "heating"]
         parts += parts_of(run, dump, own, view) if own or not chosen else []
-    across = min(len(parts), 2)
-    down = ceil(len(parts) / across)
-    size = view.size or ((4.6 * across, 3.4 * down) if len(parts) > 1 else (6.4, 4.2))
-    if max(size) * view.dpi > MOST_DOTS_ACROSS or view.dpi < 1:
-        raise ValueError(f"--dpi {view.dpi} with {size[0]:g} by {size[1]:g} inches: a picture has 1 to {MOST_DOTS_ACROSS} dots "
-                         "a side")
     with matplotlib.rc_context(STYLE):
-        picture = Picture(figsize=size, dpi=view.dpi, layout="constrained")
-        places = picture.subplots(down, across, squeeze=False)
-        for number, (axes, part) in enumerate(zip(places.flat, parts)):
-            said = draw(axes, runs, view.component or strongest(runs[part[1]]), part, view)
-            if len(runs) > 1 and part[0] != "heating":
-                axes.set_title(f"{part[1]}: {axes.get_title()}")
-                said = [f"{part[1]}: {line}" for line in said]
+        picture, places = sheet(len(parts), view, runs.values())
+        for number, (axes, part) in enumerate(zip(places, parts)):
+            said = draw(axes, runs, view.component or strongest(runs[part.run]), part, view)
+            if len(runs) > 1 and part.panel != "heating":
+                axes.set_title(f"{part.run}: {axes.get_title()}")
+                said = [f"{part.run}: {line}" for line in said]
             lines += said
-            if view.letters:
-                axes.text(-0.03, 1.03, f"({chr(ord('a') + number)})", transform=axes.transAxes, ha="right", va="bottom",
-                          fontweight="bold")
-        for axes in places.flat[len(parts) :]:
-            axes.axis("off")
-        picture.suptitle(view.title)
+            letter(axes, number, view)
     return picture, lines
 
 

@@ -74,14 +74,22 @@ def above_0(text: str) -> float:
     return value
 
 
-def add_options(part: argparse.ArgumentParser) -> None:
-    """The options of a picture; their names are the fields of View, and `panels`."""
+def add_window(part: argparse.ArgumentParser) -> None:
+    """The steps of a fit."""
+    for word, name in ("--from", "first"), ("--to", "last"):
+        part.add_argument(word, dest=name, type=int, metavar="STEP",
+                          help=f"of growth and damping: the fit's {name} step (default: it finds it)")
+
+
+def add_options(part: argparse.ArgumentParser, steps: str = "of phase and field: the frames nearest to them (default: the last)",
+                panels: str = "energies, and phase, field and spectrum where there are some") -> None:
+    """The options of a picture; their names are the fields of View, and `panels`. What is said of two may be another thing."""
     add = part.add_argument
     add("--panels", nargs="+", default=[], choices=PANELS, metavar="PANEL",
-        help=f"what to draw, of {', '.join(PANELS)} (default: energies, and phase, field and spectrum where there are some)")
+        help=f"what to draw, of {', '.join(PANELS)} (default: {panels})")
     add("--component", choices=COMPONENTS,
         help="of field, history, growth, damping and spectrum (default: the one that varies most)")
-    add("--steps", nargs="+", type=int, default=[], help="of phase and field: the frames nearest to them (default: the last)")
+    add("--steps", nargs="+", type=int, default=[], help=steps)
     add("--wave", nargs="+", type=wave_of, default=[1],
         help="of growth and damping: how often it goes into the box along the axis; 2,0,1 in any direction; several are drawn "
              "together. Of spectrum: the waves whose peaks are said beside theory (default: 1)")
@@ -94,10 +102,7 @@ def add_options(part: argparse.ArgumentParser) -> None:
         help="of field: xy, xz or yz, or x, y or z for a line (default: of the first axes of more than two cells)")
     add("--at", type=int, default=0, help="of field: the cell of the plane or line along the other axes (default: 0)")
     add("--dots", action="store_true", help="of phase: dots of some particles, drawn by chance, in place of a density of many")
-    add("--from", dest="first", type=int, metavar="STEP",
-        help="of growth and damping: the fit's first step (default: it finds it)")
-    add("--to", dest="last", type=int, metavar="STEP",
-        help="of growth and damping: the fit's last step (default: it finds it)")
+    add_window(part)
     add("--units", choices=("steps", "plasma"), default="steps",
         help="of the axes: steps and cells, or the plasma frequency and the Debye length at the start (default: steps)")
     add("--linear", action="store_true", help="of energies: a linear axis, and the change of them all in parts of a thousand")
@@ -162,3 +167,12 @@ def slope(header: Header, name: str, scale: Scale) -> tuple[float, str]:
     tiny = np.float64(1e-6)
     value, label = strength(header, name, scale, tiny)
     return float(value / tiny), "2 tan(half of an electron's turn in a step)" if label == STEPS.magnetic else label
+
+
+def number_of(value: float, error: float | None = None) -> str:
+    """A rate in five digits behind the point, with its error."""
+    return f"{value:.5f}" + ("" if error is None else f" ± {error:.5f}")
+
+
+def against(measured: float, theory: float, name: str = "theory") -> str:
+    return f"{name} {number_of(theory)}" + (f", off by {measured / theory - 1:+.1%}" if theory else "")

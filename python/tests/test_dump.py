@@ -208,17 +208,6 @@ class Reading(unittest.TestCase):
         self.assertEqual((table[["vx", "vy", "vz"]].to_numpy() * 2**24).tolist(), frame.particles["velocity"].tolist())
         self.assertEqual(table.groupby("species", observed=False)["x"].count().tolist(), [2, 1])
 
-    @unittest.skipUnless(importlib.util.find_spec("xarray"), "xarray isn't there")
-    def test_xarray(self):
-        dump = self.read(random_dump(random.Random(6), 5, 2, DONE)[0])
-        some = dump.to_xarray("ey", "bz")
-        self.assertEqual((set(some), some.ey.dims), ({"ey", "bz"}, ("step", "z", "y", "x")))
-        self.assertEqual(some.ey.sel(step=4, z=3, y=1, x=2).item(), dump.at(4).e[1, 3, 1, 2])
-        self.assertEqual([some[name].attrs["half_a_cell_further_along"] for name in ("ey", "bz")], ["y", "x y"])
-        self.assertEqual(len(dump.to_xarray()), 6)
-        with self.assertRaisesRegex(ValueError, "no component"):
-            dump.to_xarray("jx")
-
     def test_damage(self):
         data, _ = random_dump(random.Random(3), 5, 2, DONE)
         size = 53 + 96 * 24 + 24 * 3

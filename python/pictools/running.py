@@ -1,0 +1,174 @@
+"""A long run: the program with a progress bar, a note beside its dump, and a dump that is whole however the run ends."""
+
+from __future__ import annotations
+
+import os
+import signal
+import subprocess
+import threading
+import time
+from contextlib import suppress
+from dataclasses import dataclass
+from math import nan
+from pathlib import Path
+from tempfile import TemporaryFile
+from typing import Any
+
+from pictools import note, units
+from pictools.dump import Dump, DumpError
+from pictools.files import STOPPED, places
+from pictools.header import Header
+from pictools.mend import mend
+from pictools.program import checksum, program
+from pictools.progress import bar
+
+SIGNALS = {130: STOPPED, 143: "stopped by SIGTERM, as by a time limit"}
+
+
+@dataclass
+class Ended:
+    """How a run ended: the exit status (130 after Ctrl-C, 143 after SIGTERM), the last line of the dump's report, or the
+    program's only one where there is no dump, and whether the dump had to be mended."""
+
+    status: int
+    line: str
+    dump: Dump | None
+    mended: bool
+    seconds: float
+
+
+def why(status: int) -> str:
+    """Why a run ended before its end."""
+    return SIGNALS.get(status, f"the program ended with the status {status}")
+
+
+class Gauge:
+    """What the bar says beside the steps: how many particles are pushed a second, and the energies."""
+
+    def __init__(self, dump: str):
+        self.began, self.weights, self.first = time.monotonic(), None, None
+        with suppress(DumpError):
+            frame = Dump(dump, partial=True)[0]
+            self.weights, self.first = weights_of(frame.header), frame.energies
+            self.particles, self.moving = frame.header.particles, units.kinetic_energy(frame)
+
+    def shown(self, step: int, energies: tuple[int, ...]) -> str:
+        """The words of it. Energies are shares of all energy at the start, where they can be had in one unit."""
+        speed = self.particles * step / max(time.monotonic() - self.began, 1e-3) if self.first else nan
+        words = [f"{speed / 1e6:.2f} million particle-steps/s"]
+        if self.first and self.weights:
+            # The report's kinetic energy also has that of species that feel no E; it stays, and falls out here.
+            kinetic = self.moving + (energies[0] - self.first[0]) * self.weights[0]
+            parts = kinetic, energies[1], energies[2] * self.weights[1]
+            whole = self.moving + self.first[1] + self.first[2] * self.weights[1] or 1
+            words += [f"energy {sum(parts) / whole:.4f}", f"electric {parts[1] / whole:.2g}", f"magnetic {parts[2] / whole:.2g}"]
+        return ", ".join(words)
+
+
+def weights_of(header: Header) -> tuple[float, float] | None:
+    """How often the report's kinetic and magnetic energy count in the unit of the electric one; None where species differ."""
+    kinetic = {units.kinetic_weight(header, s) for s in header.species if s.count and s.kick.n}
+    return (kinetic.pop(), units.magnetic_weight(header)) if len(kinetic) == 1 else None
+
+
+class Interrupts:
+    """Ctrl-C and the signal of a time limit, while a program runs: it is told to end, and nothing is torn here. `came` is the
+    signal that came, or 0."""
+
+    def __init__(self):
+        self.process: subprocess.Popen | None = None
+        self.came, self.before = 0, {}
+
+    def __enter__(self) -> Interrupts:
+        if threading.current_thread() is threading.main_thread():
+            self.before = {number: signal.signal(number, self.take) for number in (signal.SIGINT, signal.SIGTERM)}
+        return self
+
+    def __exit__(self, *_: Any) -> None:
+        for number, handler in self.before.items():
+            signal.signal(number, handler)
+
+    def take(self, number: int, _: Any) -> None:
+        self.came = number
+        if self.process:
+            self.process.send_signal(signal.SIGINT)
+
+    def tell(self, process: subprocess.Popen) -> None:
+        """The process that is told of a signal, also of one that came before."""
+        self.process = process
+        if self.came:
+            process.send_signal(signal.SIGINT)
+
+
+class Run:
+    """One run of a deck into a file. The file takes its place when the first frame stands in it."""
+
+    def __init__(self, deck: str, text: bytes, out: str, workers: int, named: str | None):
+        if os.path.exists(out) and not os.path.isfile(out):
+            raise ValueError(f"{out}: it is no file; a dump with a note beside it is one")
+        self.out, self.program = out, program(named)
+        self.whole, self.beside = places(out)
+        self.note = note.begun(deck, text, self.program, workers)
+        self.steps = int(note.read_deck(text).get("run", {}).get("steps", 0))
+        self.line, self.frames, self.began = "", 0, time.monotonic()
+
+    def go(self, text: bytes) -> Ended:
+        words = [self.program, "run", "--workers", str(self.note["workers"])]
+        try:
+            with Interrupts() as interrupts:
+                with open(self.beside, "wb") as sink, TemporaryFile() as deck:
+                    deck.write(text)
+                    deck.seek(0)
+                    process = subprocess.Popen(words, stdin=deck, stdout=sink, stderr=subprocess.PIPE)
+                interrupts.tell(process)
+                with process, bar(self.steps, "step", self.whole.name) as drawn:
+                    try:
+                        self.follow(process, drawn)
+                    except BaseException:
+                        process.terminate()
+                        raise
+            ended = process.returncode if process.returncode >= 0 else 128 - process.returncode
+            return self.end(128 + interrupts.came if interrupts.came else ended)
+        finally:
+            self.beside.unlink(missing_ok=True)
+
+    def follow(self, process: subprocess.Popen, drawn: Any) -> None:
+        """Takes the report line by line. One that isn't whole is of a program that was ended."""
+        last, gauge = 0, None
+        for line in process.stderr:
+            self.line = line.decode("ascii", "replace").strip()
+            if not (self.line.startswith("frame ") and line.endswith(b"\n")):
+                continue
+            if not self.frames:
+                self.place()
+                gauge = Gauge(self.out)
+            self.frames += 1
+            numbers = [int(word) for word in self.line.split()[1::2]]
+            drawn.set_postfix_str(gauge.shown(numbers[0], tuple(numbers[1:])), refresh=False)
+            drawn.update(numbers[0] - last)
+            last = numbers[0]
+
+    def place(self) -> None:
+        """The dump and its note take their places."""
+        os.replace(self.beside, self.whole)
+        self.note["first"] = self.line
+        note.write(self.out, self.note)
+
+    def end(self, status: int) -> Ended:
+        """The dump is made whole, and the note says how it ended."""
+        seconds = time.monotonic() - self.began
+        if not self.frames:
+            return Ended(status, self.line, None, False, seconds)
+        cut = bool(Dump(self.out, partial=True).cut)
+        dump = mend(self.out)
+        self.note |= {"last": note.line_of(dump[-1]), "end": dump.end.text, "mended after": why(status) if cut else "",
+                      "frames": len(dump), "bytes": os.path.getsize(self.out), "sha256": checksum(self.out),
+                      "seconds": round(seconds, 1)}
+        note.write(self.out, self.note)
+        return Ended(status, dump.end.text, dump, cut, seconds)
+
+
+def run(deck: str, out: str, workers: int = 1, named: str | None = None, text: bytes | None = None) -> Ended:
+    """Runs a deck, by its file or by its text, into a dump. Ctrl-C ends it, and leaves the dump of the steps so far."""
+    text = Path(deck).read_bytes() if text is None else text
+    return Run(deck, text, out, workers, named).go(text)
