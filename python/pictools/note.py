@@ -32,18 +32,29 @@ def read_deck(text: bytes) -> dict[str, Any]:
     """A deck's tables; none of a text that is no document, which the program refuses."""
     try:
         return tomllib.loads(text.decode())
-    except ValueError:
+    except (ValueError, RecursionError):
         return {}
 
 
+def steps(text: bytes) -> int:
+    """A deck's steps; 0 of one that the program refuses."""
+    try:
+        return int(read_deck(text)["run"]["steps"])
+    except (LookupError, TypeError, ValueError):
+        return 0
+
+
 def seeds(text: bytes) -> list[int]:
-    """The seeds of a deck's species, or that of the maker where it drew and listed them."""
-    species = read_deck(text).get("species", [])
-    drawn = [one[kind]["seed"] for one in species for kind in ("random", "pair") if kind in one]
+    """The seeds of a deck's species, or that of the maker where it drew and listed them; of a deck that is refused none."""
+    try:
+        species = read_deck(text).get("species", [])
+        drawn = {int(one[kind]["seed"]) for one in species for kind in ("random", "pair") if kind in one}
+    except (LookupError, TypeError, ValueError):
+        return []
     made = made_by(text)
     if not drawn and "--start random" in made:
-        drawn = [int((re.search(r"--seed (\d+)", made) or [0, 1])[1])]
-    return sorted(set(drawn))
+        drawn = {int((re.search(r"--seed (\d+)", made) or [0, 1])[1])}
+    return sorted(drawn)
 
 
 def made_by(text: bytes) -> str:

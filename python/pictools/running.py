@@ -109,7 +109,7 @@ class Run:
         self.out, self.program = out, program(named)
         self.whole, self.beside = places(out)
         self.note = note.begun(deck, text, self.program, workers)
-        self.steps = int(note.read_deck(text).get("run", {}).get("steps", 0))
+        self.steps = note.steps(text)
         self.line, self.frames, self.began = "", 0, time.monotonic()
 
     def go(self, text: bytes) -> Ended:

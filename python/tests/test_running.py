@@ -157,6 +157,18 @@ class Running(Folder):
         done = self.call("run", "a.toml", "-o", "a.dump", "--program", "no")
         self.assertRegex(done.stderr, r"^pictools: there is no program no")
 
+    def test_decks_that_are_none(self):
+        """They are the program's to refuse."""
+        good = SHORT.deck().text().encode()
+        for text, line in ((b"species = 3\nversion = 1", "refused 3 missing grid"), (b"run = 3", "refused 3 missing version"),
+                           (b"\xff", "refused 1 text"), (b"a = " + b"[" * 5000, "refused 1 text"),
+                           (good.replace(b"seed = 5", b"seed = [5]"), r"refused 4 kind species\[0\]\.random\.seed"),
+                           (good.replace(b"random = {", b"random = 'no' #"), r"refused 4 kind species\[0\]\.random$")):
+            ended = running.run("a.toml", str(self.folder / "a.dump"), named=PROGRAM, text=text)
+            self.assertEqual((ended.status, ended.dump), (3, None))
+            self.assertRegex(ended.line, line)
+        self.assertEqual(self.names(), set())
+
     def test_a_run_that_stops(self):
         done = self.call("run", "-", "-o", "a.dump", input=TOO_FAST)
         self.assertEqual(done.returncode, 1)
