@@ -6,7 +6,8 @@
 PROGRAM is the path of the built program. Dump, report and exit status are compared. The exit status here is 0 where all
 agree, 1 where something differs, 2 for other words. The model takes it that a deck has the right form: of the refusals
 it knows that of a force value at the start and that of Gauss's law. KIND is `sources` where particles are lattices, random
-ones and pairs, or, for a program that knows such decks, `sides` where cells have 256 to 16384 sub-cells (version 2).
+ones and pairs; `sides` where cells have 256 to 16384 sub-cells (version 2); `both` where either is so, and particles may be
+listed too. A random deck is run on 1 worker and on 3.
 """
 
 import random
@@ -18,6 +19,7 @@ from fractions import Fraction
 from math import trunc
 from struct import pack
 
+KINDS = "sources", "sides", "both"
 CORNERS = [(dx, dy, dz) for dz in (0, 1) for dy in (0, 1) for dx in (0, 1)]
 PHASES, BOUNDS, FAULTS = ("", "half1", "", "half2", "electric"), ("", "value", "force"), ("", "speed", "turn", "far")
 
@@ -308,14 +310,15 @@ def random_kind(dice, wild, name, charge):
     return text + f"kick = {kick}\nturn = {turn}\n"
 
 
-def random_sources(dice, wild, cells):
+def random_sources(dice, wild, cells, side, gap_cells):
     """A lattice or random particles, and two pairs of them, one of a pair. The second has the opposite charge, the third none."""
-    charge, fast = dice.choice([1, -1, 7, 32767, 0]), dice.choice([2**10, 2**16, 2**20])
+    charge, fast = dice.choice([1, -1, 7, 32767, 0]), dice.choice([side // 4, 16 * side, 256 * side])
+    widest = gap_cells * side
     drift, spread = ([dice.choice([0, dice.randint(0, fast)]) for _ in range(3)] for _ in "ds")
     drawn = lambda: (f"seed = {dice.choice([0, 1, 42, 2**63 - 1])}, stream = {dice.choice([0, 54, 2**63 - 1])}, "
                      f"drift = {[dice.choice([1, -1]) * d for d in drift]}, spread = {spread}")
-    counts, first = [dice.choice([1, 1, 2, 3]) for _ in range(3)], [dice.randrange(4096 * c) for c in cells]
-    gap, v = [dice.choice([0, 2048, 262144, dice.randrange(262144)]) for _ in range(3)], [-d for d in drift]
+    counts, first = [dice.choice([1, 1, 2, 3]) for _ in range(3)], [dice.randrange(side * c) for c in cells]
+    gap, v = [dice.choice([0, side // 2, widest, dice.randrange(widest)]) for _ in range(3)], [-d for d in drift]
     sources = [f"lattice = {{ first = {first}, gap = {gap}, count = {counts}, v = {v} }}",
                f"random = {{ count = {dice.randint(0, 5 if wild else 30)}, {drawn()} }}"]
     sources = [dice.choice(sources), f'pair = {{ of = "a", {drawn()} }}', f'pair = {{ of = "b", {drawn()} }}']
@@ -328,9 +331,10 @@ def random_deck(number, kind=""):
     dice, wild = random.Random(number), number % 2
     cells = [dice.choice([2, 2, 3, 4] if wild else [2, 3, 4, 5, 6]) for _ in range(3)]
     tiles = [dice.choice([t for t in range(1, c // 2 + 1) if c % t == 0]) for c in cells]
-    sub = dice.randint(8, 14) if kind == "sides" else 12
-    text = f"version = {2 if kind == 'sides' else 1}\n[grid]\ncells = {cells}\ntiles = {tiles}\n"
-    text += f"sub = {sub}\n" if kind == "sides" else ""
+    version = 2 if kind in ("sides", "both") else 1
+    sub = dice.randint(8, 14) if version == 2 else 12
+    text = f"version = {version}\n[grid]\ncells = {cells}\ntiles = {tiles}\n"
+    text += f"sub = {sub}\n" if version == 2 else ""
     text += f"[run]\nsteps = {dice.randint(0, 12)}\nevery = {dice.randint(1, 5)}\n[scale]\n"
     power = dice.choice([3, 40, 57, 58, 59, 60]) if wild else dice.randint(3, 43)
     for name, high in ("e_to_b", -2), ("b_to_e", 0):
@@ -338,7 +342,10 @@ def random_deck(number, kind=""):
     for name in "e_force", "b_force":
         k = dice.randint(14, 62) if wild else dice.choice([dice.randint(20, 40), max(0, power - dice.randint(5, 24))])
         text += f"{name} = {[dice.randint(-3, 3), k]}\n"
-    text += random_sources(dice, wild, cells) if kind == "sources" else random_species(dice, wild, cells, 2**sub)
+    if kind == "sources" or kind == "both" and dice.random() < 0.8:
+        text += random_sources(dice, wild, cells, 2**sub, 64 * version)
+    else:
+        text += random_species(dice, wild, cells, 2**sub)
     # E is a curl, and so has no charge; but a few wild decks have a row more.
     model, high = Model(text), 2**power
     source, faces = ([[dice.randint(-high, high) for _ in model.places] for _ in range(3)] for _ in "eb")
@@ -349,20 +356,28 @@ def random_deck(number, kind=""):
     return text + f"[field]\ne = {e}\nb = {b}\nedges = {edges}\nfaces = {faces}\n"
 
 
+def run_difference(program, workers, text, status, dump, report):
+    """Where a run of the program on so many workers isn't what the model gave, in words, or nothing."""
+    done = subprocess.run([program, "run", "--workers", str(workers)], input=text.encode(), capture_output=True, timeout=600)
+    words = [difference(dump, done.stdout), difference(report, done.stderr)]
+    if any(words) or status != done.returncode:
+        return (f"{workers} workers: dump {words[0] or 'agrees'}; report {words[1] or 'agrees'}; "
+                f"status {status} and {done.returncode}")
+    return ""
+
+
 def compare_random(count, program, kind):
     """Runs the program and the model on the decks 0, 1, .., and counts how they end."""
     ends, differ = Counter(), 0
     for number in range(count):
         text = random_deck(number, kind)
         status, dump, report = Model(text).run()
-        done = subprocess.run([program, "run"], input=text.encode(), capture_output=True, timeout=600)
         last = report.decode().splitlines()[-1].split()
         ends[" ".join(word for word in last[:5] if word[0].isalpha())] += 1
-        words = [difference(dump, done.stdout), difference(report, done.stderr)]
-        if any(words) or status != done.returncode:
+        found = [line for workers in (1, 3) if (line := run_difference(program, workers, text, status, dump, report))]
+        if found:
             differ += 1
-            print(f"deck {number}: dump {words[0] or 'agrees'}; report {words[1] or 'agrees'}; "
-                  f"status {status} and {done.returncode}. The deck:\n{text}")
+            print(f"deck {number}, {'; '.join(found)}. The deck:\n{text}")
     print(f"{count - differ} of {count} random decks agree. They end so:")
     for end, times in sorted(ends.items()):
         print(f"{times:6} {end}")
@@ -370,7 +385,7 @@ def compare_random(count, program, kind):
 
 
 def main(words):
-    if words[:1] == ["--random"] and len(words) in (3, 4) and words[1].isdecimal() and set(words[3:]) <= {"sources", "sides"}:
+    if words[:1] == ["--random"] and len(words) in (3, 4) and words[1].isdecimal() and set(words[3:]) <= set(KINDS):
         return compare_random(int(words[1]), words[2], "".join(words[3:]))
     if len(words) != 2 or words[0].startswith("-"):
         print(__doc__, file=sys.stderr)

@@ -19,7 +19,7 @@ HOME = Path(__file__).parents[1]
 sys.path.insert(0, str(HOME / "python"))
 
 from pictools import files, measure, theory, units
-from pictools.dump import FAST, SIDE, Dump, Species
+from pictools.dump import Dump, Species
 from pictools.plasma import Plasma
 
 CLEAR = 3                   # a wave is above the noise where it is so many times as high as the next
@@ -96,7 +96,7 @@ def show(what: str, measured: float, expected: float) -> None:
 
 def tracks(dump: Dump) -> np.ndarray:
     """The positions of all particles in cells, through the box's sides: shape (frames, particles, 3)."""
-    places = dump.records["particles"]["position"] / SIDE
+    places = dump.records["particles"]["position"] / dump.header.side
     moves = np.diff(places, axis=0, prepend=places[:1])
     return places - np.cumsum(np.rint(moves / dump.header.cells), axis=0) * dump.header.cells
 
@@ -145,7 +145,7 @@ def frequency(dump: Dump, heights: np.ndarray, expected: float) -> float:
 def at_rest(dump: Dump) -> tuple[float, Species]:
     """The same of electrons of one species that don't drift."""
     wp, kind = plasma(dump)
-    mean = dump[0].species(kind.name)["velocity"].mean(axis=0) / FAST
+    mean = dump[0].species(kind.name)["velocity"].mean(axis=0) / dump.header.fast
     if len(units.electrons(dump.header)) > 1 or hypot(*mean) > 0.001 + units.thermal_speed(dump[0]):
         raise ValueError(f"its electrons are of {len(units.electrons(dump.header))} species and drift by {hypot(*mean):.3g} "
                          "cells a step")
@@ -169,7 +169,7 @@ def gyration(dump: Dump) -> None:
         turning = velocity[:, number, 0] + 1j * velocity[:, number, 1]
         angle = frequency(dump, turning, expected) if expected > 0 else -frequency(dump, turning.conj(), -expected)
         way = places[:, number, :2] - places[:, number, :2].mean(axis=0)
-        speed = hypot(*velocity[0, number, :2]) / FAST
+        speed = hypot(*velocity[0, number, :2]) / dump.header.fast
         show(f"particle {number}: period", 2 * pi / angle, 2 * pi / expected)
         show(f"particle {number}: radius", np.hypot(*way.T).mean(), speed / (2 * sin(abs(expected) / 2)))
 
@@ -180,7 +180,7 @@ def e_cross_b(dump: Dump) -> None:
         drift = (places[-1, number] - places[0, number]) / (dump.steps[-1] - dump.steps[0])
         turn = b * dump.header.b_force.value * species.turn.value / 2**20
         show(f"particle {number}: drift along x", drift[0],
-             e * dump.header.e_force.value * species.kick.value / turn / FAST)
+             e * dump.header.e_force.value * species.kick.value / turn / dump.header.fast)
         print(f"{'':28} along y  {drift[1]:12.9f}")
 
 
@@ -254,7 +254,7 @@ def upper_hybrid(dump: Dump) -> None:
 
 def drift(dump: Dump, axes: list[int]) -> float:
     """The mean speed of the first electrons along these axes, in cells a step, which has to be a drift."""
-    mean = dump[0].species(plasma(dump)[1].name)["velocity"].mean(axis=0)[axes] / FAST
+    mean = dump[0].species(plasma(dump)[1].name)["velocity"].mean(axis=0)[axes] / dump.header.fast
     if hypot(*mean) < 0.001:
         raise ValueError(f"the electrons drift by {hypot(*mean):g} cells a step along {', '.join('xyz'[a] for a in axes)}")
     return hypot(*mean)
@@ -317,7 +317,7 @@ def thermal_plasma(dump: Dump) -> None:
         raise ValueError("a species feels no E")
     scale, number = dump.header.e_force.value**2, 3 * dump.header.particles
     kinetic = np.mean([units.kinetic_energy(frame) for frame in frames])
-    thermal = sqrt(np.mean([frame.particles["velocity"].astype(float)**2 for frame in frames])) / FAST
+    thermal = sqrt(np.mean([frame.particles["velocity"].astype(float)**2 for frame in frames])) / dump.header.fast
     noise = np.mean([measure.longitudinal(frame.e) for frame in frames], axis=0) * scale * number / kinetic
     k, noise = measure.wave_numbers(noise.shape).reshape(-1, 3)[1:], noise.ravel()[1:]
     show("kinetic energy over first", kinetic / units.kinetic_energy(dump[0]),

@@ -14,7 +14,8 @@ import tomllib
 from math import isinf
 from pathlib import Path
 
-from verdicts import MOST_FACTOR, MOST_FORCE, MOST_PARTICLES, MOST_SHIFT, MOST_SPECIES, MOST_STEPS, verify
+from verdicts import (MOST_CELLS, MOST_FACTOR, MOST_FORCE, MOST_PARTICLES, MOST_SHIFT, MOST_SPECIES, MOST_STEPS, MOST_VERSION, SUBS,
+                      verify)
 
 sys.path.insert(0, str(Path(__file__).parents[1] / "examples"))
 from compare import Halt, Model, scaled
@@ -23,6 +24,7 @@ __all__ = ["Refused", "check", "has_no_cause", "is_newer", "run", "verify", "wal
 
 MOST_BYTES, MOST_TILES = 2**20, 512
 WHOLE = (-(2**63), 2**63 - 1)
+GRID_KEYS = {1: ("cells", "tiles"), 2: ("cells", "tiles", "sub")}
 SOURCES = {"points": (), "lattice": ("first", "gap", "count", "v"), "random": ("count", "seed", "stream", "drift", "spread"),
            "pair": ("of", "seed", "stream", "drift", "spread")}
 
@@ -111,9 +113,19 @@ def is_newer(deck):
     return bool(re.search(rb"\{[^}]*[\n,]\s*(\}|#|\n)|\{[^}]*\n|\\[xe]|\d:\d\d(?!:)|[\[{]{40}", deck, re.S))
 
 
-def walk_grid(grid):
-    table("grid", grid, ("cells", "tiles"))
-    cells = numbers("grid.cells", needed("grid", grid, "cells"), *[(2, 64)] * 3)
+class Terms:
+    """What a deck's version and grid say of its particles' limits."""
+
+    def __init__(self, version, cells, side):
+        self.box = [(0, side * c - 1) for c in cells]
+        self.particles, self.gap = MOST_PARTICLES[version], MOST_CELLS[version] * side
+        self.speed, self.drift, self.spread = ((low * most * side, most * side) for low, most in ((-1, 4096), (-1, 2048), (0, 256)))
+
+
+def walk_grid(version, grid):
+    """The cells, and how many sub-cells one has along an axis."""
+    table("grid", grid, GRID_KEYS[version])
+    cells = numbers("grid.cells", needed("grid", grid, "cells"), *[(2, MOST_CELLS[version])] * 3)
     tiles = needed("grid", grid, "tiles")
     if len(kind("grid.tiles", tiles, list)) != 3:
         raise Refused("refused 4 kind grid.tiles")
@@ -121,7 +133,7 @@ def walk_grid(grid):
         limit(f"grid.tiles[{n}]", kind(f"grid.tiles[{n}]", tile, int), 1, most // 2)
         limit(f"grid.tiles[{n}]", most % tile, 0, 0)
     limit("grid.tiles", tiles[0] * tiles[1] * tiles[2], 1, MOST_TILES)
-    return cells
+    return cells, 2 ** (number("grid", grid, "sub", *SUBS[version]) if version == 2 else SUBS[version][0])
 
 
 def rows(path, value, *limits):
@@ -138,42 +150,42 @@ def walk_field(field, cells):
         rows(f"field.{name}", field.get(name, []), (0, 2), *[(0, n - 1) for n in cells], WHOLE)
 
 
-def walk_draw(path, value):
+def walk_draw(path, value, terms):
     for name in "seed", "stream":
         number(path, value, name, 0, 2**63 - 1)
-    numbers(f"{path}.drift", needed(path, value, "drift"), *[(-(2**23), 2**23)] * 3)
-    numbers(f"{path}.spread", needed(path, value, "spread"), *[(0, 2**20)] * 3)
+    numbers(f"{path}.drift", needed(path, value, "drift"), *[terms.drift] * 3)
+    numbers(f"{path}.spread", needed(path, value, "spread"), *[terms.spread] * 3)
 
 
-def walk_source(path, species, box, counts):
+def walk_source(path, species, terms, counts):
     """How many particles a species has. `counts` has those of the earlier ones, by name."""
     given = [key for key in SOURCES if key in species]
     if len(given) > 1:
         raise Refused(f"refused 2 unknown {path}.{given[1]}")
     if not given:
         raise Refused(f"refused 3 missing {path}.points")
-    name, speeds = given[0], [(-(2**24), 2**24)] * 3
+    name, box, speeds = given[0], terms.box, [terms.speed] * 3
     path, value = f"{path}.{name}", species[name]
     if name == "points":
         return len(rows(path, value, *box, *speeds))
     table(path, value, SOURCES[name])
     if name == "lattice":
         numbers(f"{path}.first", needed(path, value, "first"), *box)
-        numbers(f"{path}.gap", needed(path, value, "gap"), *[(0, 262144)] * 3)
-        count = numbers(f"{path}.count", needed(path, value, "count"), *[(1, MOST_PARTICLES)] * 3)
+        numbers(f"{path}.gap", needed(path, value, "gap"), *[(0, terms.gap)] * 3)
+        count = numbers(f"{path}.count", needed(path, value, "count"), *[(1, terms.particles)] * 3)
         numbers(f"{path}.v", needed(path, value, "v"), *speeds)
         return count[0] * count[1] * count[2]
     if name == "random":
-        count = number(path, value, "count", 0, MOST_PARTICLES)
+        count = number(path, value, "count", 0, terms.particles)
     elif kind(f"{path}.of", needed(path, value, "of"), str) in counts:
         count = counts[value["of"]]
     else:
         raise Refused(f"refused 6 name {path}.of")
-    walk_draw(path, value)
+    walk_draw(path, value, terms)
     return count
 
 
-def walk_species(path, species, box, counts):
+def walk_species(path, species, terms, counts):
     table(path, species, ("name", "charge", "mass", "kick", "turn", *SOURCES))
     name = kind(f"{path}.name", needed(path, species, "name"), str)
     if not re.fullmatch("[A-Za-z0-9_]{1,32}", name) or name in counts:
@@ -182,7 +194,7 @@ def walk_species(path, species, box, counts):
     number(path, species, "mass", 1, 65536)
     for key in "kick", "turn":
         multiplier(f"{path}.{key}", needed(path, species, key))
-    counts[name] = walk_source(path, species, box, counts)
+    counts[name] = walk_source(path, species, terms, counts)
 
 
 def test_force(name, multiplier, uniform, changed, cells):
@@ -202,8 +214,8 @@ def test_force(name, multiplier, uniform, changed, cells):
 def walk(deck):
     """The deck's document and the number of its particles."""
     found = table("", document(deck), ("version", "grid", "run", "scale", "field", "species"))
-    number("", found, "version", 1, 1)
-    cells = walk_grid(kind("grid", needed("", found, "grid"), dict))
+    version = number("", found, "version", 1, MOST_VERSION)
+    cells, side = walk_grid(version, kind("grid", needed("", found, "grid"), dict))
     run = table("run", needed("", found, "run"), ("steps", "every"))
     number("run", run, "steps", 0, MOST_STEPS)
     number("run", run, "every", 1, MOST_STEPS)
@@ -213,11 +225,11 @@ def walk(deck):
         multiplier(f"scale.{name}", needed("scale", scale, name))
     field = found.get("field", {})
     walk_field(field, cells)
-    species, counts = kind("species", found.get("species", []), list), {}
+    species, counts, terms = kind("species", found.get("species", []), list), {}, Terms(version, cells, side)
     limit("species", len(species), 0, MOST_SPECIES)
     for n, each in enumerate(species):
-        walk_species(f"species[{n}]", each, [(0, 4096 * c - 1) for c in cells], counts)
-        limit(f"species[{n}]", sum(counts.values()), 0, MOST_PARTICLES)
+        walk_species(f"species[{n}]", each, terms, counts)
+        limit(f"species[{n}]", sum(counts.values()), 0, terms.particles)
     for name, part, changed in ("e_force", "e", "edges"), ("b_force", "b", "faces"):
         test_force(name, scale[name], field.get(part, [0, 0, 0]), field.get(changed, []), cells)
     return found, sum(counts.values())

@@ -6,6 +6,7 @@ from pathlib import Path
 from struct import pack
 
 import answers
+from verdicts import MOST_VERSION
 
 sys.path.insert(0, str(Path(__file__).parents[1] / "examples"))
 from compare import Model, differences, random_deck, scaled
@@ -13,8 +14,8 @@ from compare import Model, differences, random_deck, scaled
 NAMES = "abcdefgh", "e", "ion", "S_1", "x" * 32, "A9_"
 FACTORS = 0, 1, -1, 3, 2**20, 2**31 - 1, 1 - 2**31
 # Values that stand at or beyond limits, or are of another kind.
-ODD = (0, 1, -1, 2, 3, 61, 62, 63, 64, 65, 4095, 4096, 8191, 8192, 16383, 16384, 32767, 32768, -32768, -32769, 65536, 65537, 262144, 262145,
-       1000000, 1000001, 2**20, 2**20 + 1, 2**23, 2**23 + 1, -(2**23) - 1, 2**24, 2**24 + 1, -(2**24) - 1, 2**31 - 1, 2**31, -(2**31),
+ODD = (0, 1, -1, 2, 3, 7, 8, 14, 15, 61, 62, 63, 64, 65, 128, 129, 4095, 4096, 8191, 8192, 16383, 16384, 32767, 32768, -32768, -32769,
+       65536, 65537, 262144, 262145, 1000000, 1000001, 2**20, 2**20 + 1, 2**23, 2**23 + 1, -(2**23) - 1, 2**24, 2**24 + 1, -(2**24) - 1, 2**31 - 1, 2**31, -(2**31),
        2**44, 2**44 + 1, 2**63 - 1, -(2**63), 2**63, 1.0, True, "x", "e", "", [], [0], [1, 2, 3], {}, {"x": 1})
 
 
@@ -30,22 +31,23 @@ def velocity(dice, most):
     return [dice.choice([0, most, -most, dice.randint(-most, most)]) for _ in range(3)]
 
 
-def drawn(dice):
+def drawn(dice, side):
     return {"seed": dice.choice([0, 7, 2**63 - 1]), "stream": dice.choice([0, 54, 2**63 - 1]),
-            "drift": velocity(dice, 2**18), "spread": [abs(v) for v in velocity(dice, 2**18)]}
+            "drift": velocity(dice, 64 * side), "spread": [abs(v) for v in velocity(dice, 64 * side)]}
 
 
-def source(dice, box):
+def source(dice, cells, side):
     """What fills a species: the key and its value."""
-    spots = [dice.choice([0, b - 1, dice.randrange(b), 4096 * dice.randrange(b // 4096)]) for b in box]
+    box = [side * c for c in cells]
+    spots = [dice.choice([0, b - 1, dice.randrange(b), side * dice.randrange(c)]) for b, c in zip(box, cells)]
     kind = dice.choice(["points", "lattice", "random"])
     if kind == "points":
-        return {kind: [spots + velocity(dice, 2**24)] + [[dice.randrange(b) for b in box] + velocity(dice, 2**21)
-                                                         for _ in range(dice.randint(0, 4))]}
+        return {kind: [spots + velocity(dice, 4096 * side)] + [[dice.randrange(b) for b in box] + velocity(dice, 512 * side)
+                                                               for _ in range(dice.randint(0, 4))]}
     if kind == "lattice":
-        gaps = [dice.choice([0, 1, 2048, 4096, 262144]) for _ in range(3)]
-        return {kind: {"first": spots, "gap": gaps, "count": [dice.randint(1, 2) for _ in range(3)], "v": velocity(dice, 2**22)}}
-    return {kind: {"count": dice.randint(0, 9)} | drawn(dice)}
+        gaps = [dice.choice([0, 1, side // 2, side, 64 * side]) for _ in range(3)]
+        return {kind: {"first": spots, "gap": gaps, "count": [dice.randint(1, 2) for _ in range(3)], "v": velocity(dice, 1024 * side)}}
+    return {kind: {"count": dice.randint(0, 9)} | drawn(dice, side)}
 
 
 def species(dice, name, charge, filled):
@@ -53,14 +55,14 @@ def species(dice, name, charge, filled):
             "turn": factor(dice, -12, 3)} | filled
 
 
-def all_species(dice, box):
+def all_species(dice, cells, side):
     """Species that have no charge, or come in pairs of opposite charge; now and then one with a charge alone."""
     made = []
     for n in range(dice.choice([0, 1, 1, 2])):
         charge = dice.choice([0, 1, -1, 7, 32767])
-        made.append(species(dice, NAMES[2 * n], charge, source(dice, box)))
+        made.append(species(dice, NAMES[2 * n], charge, source(dice, cells, side)))
         if charge and dice.random() < 0.9:
-            made.append(species(dice, NAMES[2 * n + 1], -charge, {"pair": {"of": NAMES[2 * n]} | drawn(dice)}))
+            made.append(species(dice, NAMES[2 * n + 1], -charge, {"pair": {"of": NAMES[2 * n]} | drawn(dice, side)}))
     return made
 
 
@@ -68,7 +70,9 @@ def deck(dice):
     """A deck that may be run, or that Gauss's law refuses."""
     cells = [dice.choice([2, 2, 3, 4, 5, 6]) for _ in range(3)]
     tiles = [dice.choice([t for t in range(1, c // 2 + 1) if c % t == 0]) for c in cells]
-    made = {"version": 1, "grid": {"cells": cells, "tiles": tiles},
+    version = dice.randint(1, MOST_VERSION)
+    sub = {"sub": dice.randint(8, 14)} if version == 2 else {}
+    made = {"version": version, "grid": {"cells": cells, "tiles": tiles} | sub,
             "run": {"steps": dice.randint(0, 6), "every": dice.choice([1, 1, 2, 3, 1000000])},
             "scale": {"e_to_b": factor(dice, -4, -1), "b_to_e": factor(dice, -4, 1), "e_force": factor(dice, -30, -2),
                       "b_force": factor(dice, -30, -2)}}
@@ -77,7 +81,7 @@ def deck(dice):
         made["scale"] |= {name: wild[name] for name in wild if dice.random() < 0.8}
     if dice.random() < 0.6:
         made["field"] = field(dice, cells)
-    held = all_species(dice, [4096 * c for c in cells])
+    held = all_species(dice, cells, 2 ** sub.get("sub", 12))
     if held or dice.random() < 0.5:
         made["species"] = held
     return made
@@ -205,8 +209,9 @@ def damaged(dice, held):
 
 def run_dump(dice):
     """The dump of a run of the model."""
+    kind = "both" if MOST_VERSION == 2 and dice.random() < 0.5 else ""
     while True:
-        text = spelled(dice, deck(dice)) if dice.random() < 0.8 else random_deck(dice.randrange(10**6)).encode()
+        text = spelled(dice, deck(dice)) if dice.random() < 0.8 else random_deck(dice.randrange(10**6), kind).encode()
         status, held, _ = answers.run(text)
         if status < 2:
             return held
@@ -221,7 +226,9 @@ def made_dump(dice):
     cells, steps, every = [dice.randint(2, 3) for _ in range(3)], dice.choice([0, 1, 2, 3, 7, 1000000]), dice.choice([1, 2, 3, 1000000])
     scales = [multiplier_bytes(dice) for _ in range(4)]
     scales[2:] = [pack(">iI", *dice.choice([(0, 0), (1, 46), (1, 62), (-1, 50)])) for _ in range(2)]
-    made = b"PICDUMP1" + pack(">5I", *cells, steps, every) + b"".join(scales) + bytes(4)
+    version = dice.randint(1, MOST_VERSION)
+    form = pack(">3I", dice.choice([8, 14, dice.randint(7, 15)]), *(dice.choice([0] * 9 + [1]) for _ in range(2))) if version == 2 else b""
+    made = b"PICDUMP%d" % version + pack(">5I", *cells, steps, every) + b"".join(scales) + form + bytes(4)
     model = object.__new__(Model)
     model.cells = cells
     model.places = [(i, j, k) for k in range(cells[2]) for j in range(cells[1]) for i in range(cells[0])]
@@ -246,7 +253,8 @@ def frame_bytes(dice, model, step, scales):
 
 def end_bytes(dice, cells, step, kind):
     made = b"E" + bytes([kind]) + pack(">I", step)
-    value = (dice.choice([1, -1]) * (dice.choice([2**90, 2**44, 2**40, 4096]) + dice.randint(0, 1))).to_bytes(16, "big", signed=True)
+    bounds = 2**90, 2**44, 2**40, 4096, 256, 16384
+    value = (dice.choice([1, -1]) * (dice.choice(bounds) + dice.randint(0, 1))).to_bytes(16, "big", signed=True)
     if kind == 1:
         return made + bytes([dice.choice([1, 3, 4, 4, 2]), dice.choice([1, 2, 2, 0]), dice.choice([0, 1, 2, 3])]) \
             + pack(">3I", *(dice.randint(0, c) if dice.random() < 0.2 else 0 for c in cells)) + value

@@ -21,6 +21,7 @@ from pathlib import Path
 import answers
 from program import HOME, NEVER_SO_LONG, Program, Run, Test, chosen_program
 from refused import PAGE, growths, puts, room, takes, threads
+from verdicts import MOST_VERSION
 
 SET_PIPE_SIZE = 1031
 
@@ -64,8 +65,8 @@ def dumps(program):
         (f"byte {place}", run.dump[:place] + bytes([run.dump[place] ^ by]) + run.dump[place + 1:]) for place, by in changed))
 
 
-# Changes of the dump of two_charges.toml: what is changed, the place, the bytes that stand there then, status and report.
-CHANGES = [
+# By deck, changes of its dump: what is changed, the place, the bytes that stand there then, status and report.
+CHANGES = {"two_charges": [
     ("65 cells on x", 8, b"\0\0\0\x41", 7, "bad dump 8 2"),
     ("E where a frame is due", 184, b"E", 7, "bad dump 184 3"),
     ("step 1 in frame 0", 185, b"\0\0\0\1", 7, "bad dump 185 4"),
@@ -78,17 +79,33 @@ CHANGES = [
     ("the electron's x in frame 1", 12602, b"\0\0\x0c\1", 8, "broken frame 1 node 0 0 0 div 412316860416 rho 412518187008"),
     ("another first byte", 0, b"\0", 7, "bad dump 0 1"),
     ("a byte more", 12680, b"\0", 7, "bad dump 12680 10"),
-]
+]}
+if MOST_VERSION == 2:
+    CHANGES["two_charges_fine"] = [
+        ("version 3", 7, b"3", 7, "bad dump 7 1"),
+        ("version 0", 7, b"0", 7, "bad dump 7 1"),
+        ("129 cells on x", 8, b"\0\0\0\x81", 7, "bad dump 8 2"),
+        ("a sub of 7", 60, b"\0\0\0\x07", 7, "bad dump 60 2"),
+        ("a sub of 15", 60, b"\0\0\0\x0f", 7, "bad dump 60 2"),
+        ("a filter", 64, b"\0\0\0\1", 7, "bad dump 64 2"),
+        ("a loop", 68, b"\0\0\0\1", 7, "bad dump 68 2"),
+        ("17 species", 72, b"\0\0\0\x11", 7, "bad dump 72 2"),
+        ("the ion's x at the end of the box", 6345, b"\0\0\4\0", 7, "bad dump 6345 6"),
+        ("the ion's vx above what a push leaves", 6357, b"\0\x10\x08\0", 7, "bad dump 6357 6"),
+        ("one more kinetic energy", 6393, (274877906945).to_bytes(16, "big"), 7, "bad dump 6393 7"),
+        ("a byte more", 12692, b"\0", 7, "bad dump 12692 10"),
+    ]
 
 
 def changes(program):
-    run = Run(program, "two_charges")
-    test = Test("verify, the dump of two_charges.toml with one field another")
-    for name, place, field, status, line in CHANGES:
-        changed = run.dump[:place] + field + run.dump[place + len(field):]
-        ended = program.call("verify", given=changed)
-        test.case(name, ended == (status, b"", f"{line}\n".encode()) == answers.verify(changed), ended)
-    test.end()
+    for deck, listed in CHANGES.items():
+        run = Run(program, deck)
+        test = Test(f"verify, the dump of {deck}.toml with one field another")
+        for name, place, field, status, line in listed:
+            changed = run.dump[:place] + field + run.dump[place + len(field):]
+            ended = program.call("verify", given=changed)
+            test.case(name, ended == (status, b"", f"{line}\n".encode()) == answers.verify(changed), ended)
+        test.end()
 
 
 def small_pipe():

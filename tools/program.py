@@ -82,7 +82,8 @@ class Run:
         status, self.dump, report = program.call("run", given=self.deck)
         assert status == 0, f"{name} doesn't run"
         self.report = report.splitlines(keepends=True)
-        self.header = 64 + 60 * int.from_bytes(self.dump[60:64], "big")
+        front = 76 if self.dump[7:8] == b"2" else 64
+        self.header = front + 60 * int.from_bytes(self.dump[front - 4:front], "big")
         frames = len(self.report) - 1
         frame = (len(self.dump) - 6 - self.header) // frames
         self.frame_ends = [self.header + (n + 1) * frame for n in range(frames)]

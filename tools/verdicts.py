@@ -8,7 +8,10 @@ from struct import unpack_from
 sys.path.insert(0, str(Path(__file__).parents[1] / "examples"))
 from compare import FAULTS, Halt, Model, scaled
 
-MOST_PARTICLES, MOST_FORCE, MOST_VALUE = 2**20, 2**44, 2**90
+# The newest version of decks and dumps that the program takes, and what each allows: cells on an axis, particles, and sub.
+MOST_VERSION = 2
+MOST_CELLS, MOST_PARTICLES, SUBS = {1: 64, 2: 128}, {1: 2**20, 2: 2**22}, {1: (12, 12), 2: (8, 14)}
+MOST_FORCE, MOST_VALUE = 2**44, 2**90
 MOST_FACTOR, MOST_SHIFT, MOST_STEPS, MOST_SPECIES = 2**31 - 1, 62, 1000000, 16
 
 
@@ -52,21 +55,30 @@ class Dump:
         return [self.signed(2, lambda n: abs(n) <= MOST_FACTOR), self.natural(2, lambda k: k <= MOST_SHIFT)]
 
     def header(self):
-        for byte in b"PICDUMP1":
+        for byte in b"PICDUMP":
             self.small(1, lambda found: found == byte)
-        self.cells = [self.natural(2, lambda n: 2 <= n <= 64) for _ in range(3)]
+        version = self.small(1, lambda digit: 1 <= digit - 48 <= MOST_VERSION) - 48
+        self.cells = [self.natural(2, lambda n: 2 <= n <= MOST_CELLS[version]) for _ in range(3)]
         self.steps = self.natural(2, lambda n: n <= MOST_STEPS)
         self.every = self.natural(2, lambda n: 1 <= n <= MOST_STEPS)
         self.scale = {name: self.factor() for name in ("e_to_b", "b_to_e", "e_force", "b_force")}
+        self.side = 2**12 if version == 1 else self.form()
         self.species, names, total = [], set(), 0
         for _ in range(self.natural(2, lambda n: n <= MOST_SPECIES)):
             name = self.field("32s", 32, 2, lambda name: re.fullmatch(rb"[A-Za-z0-9_]{1,32}\0*", name) and name not in names)
             names.add(name)
             charge, mass = self.signed(2, lambda n: -32768 <= n <= 32767), self.natural(2, lambda n: 1 <= n <= 65536)
             self.factor(), self.factor()
-            count = self.natural(2, lambda n: total + n <= MOST_PARTICLES)
+            count = self.natural(2, lambda n: total + n <= MOST_PARTICLES[version])
             total += count
             self.species.append({"charge": charge, "mass": mass, "count": count})
+
+    def form(self):
+        """What version 2 says more: the side of a cell is given, and there is no filter and no loop."""
+        sub = self.natural(2, lambda n: SUBS[2][0] <= n <= SUBS[2][1])
+        for _ in "filter", "loops":
+            self.natural(2, lambda n: n == 0)
+        return 2**sub
 
     def values(self, name):
         """The three components of a field."""
@@ -82,8 +94,8 @@ class Dump:
         self.particles = []
         for kind in self.species:
             for _ in range(kind["count"]):
-                position = [self.natural(6, lambda x: x < 4096 * n) for n in self.cells]
-                velocity = [self.signed(6, lambda v: -16779264 <= v <= 16779263) for _ in range(3)]
+                position = [self.natural(6, lambda x: x < self.side * n) for n in self.cells]
+                velocity = [self.signed(6, lambda v: -2048 <= v + 4096 * self.side and v <= 4096 * self.side + 2047) for _ in range(3)]
                 self.particles.append((kind, position, velocity))
         kinetic = sum(kind["mass"] * sum(c * c for c in velocity) for kind, _, velocity in self.particles)
         squares = (sum(scaled(v, self.scale[name]) ** 2 for part in field for v in part)
@@ -93,7 +105,7 @@ class Dump:
 
     def test_gauss(self, number):
         model = object.__new__(Model)
-        model.cells, model.side, model.electric, model.particles = self.cells, 4096, self.electric, self.particles
+        model.cells, model.side, model.electric, model.particles = self.cells, self.side, self.electric, self.particles
         nx, ny, nz = self.cells
         model.places = [(i, j, k) for k in range(nz) for j in range(ny) for i in range(nx)]
         model.down = [[model.at(*(c - (b == a) for b, c in enumerate(p))) for p in model.places] for a in range(3)]
@@ -117,7 +129,7 @@ class Dump:
             self.natural(8, lambda identity: identity < sum(kind["count"] for kind in self.species))
             what = self.small(8, lambda what: 0 < what < len(FAULTS))
             self.small(8, lambda axis: axis < 3)
-            self.field("wide", 16, 8, lambda value: abs(value) > (2**40, 2**24, 4096)[what - 1])
+            self.field("wide", 16, 8, lambda value: abs(value) > (2**40, 2**24, self.side)[what - 1])
         if self.place < len(self.held):
             raise Bad(self.place, 10)
 

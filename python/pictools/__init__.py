@@ -1,7 +1,7 @@
 """Reading, drawing and making runs of pic. The program's promises are proved; this package is tested, no more.
 
-dump reads dumps, info says what one is of, tables hands them to pandas and xarray, thin thins them, and mend makes one whole that
-was cut; units says what their multipliers mean; theory has the waves of the scheme, measure those of a dump, and expect what
+versions has what the two versions of decks and dumps allow; dump reads dumps, info says what one is of, tables hands them to
+pandas and xarray, thin thins them, and mend makes one whole that was cut; units says what their multipliers mean; theory has the waves of the scheme, measure those of a dump, and expect what
 theory has for it; plots draws, with the panels of panels and the options of views; deck has decks in whole numbers, plasma makes
 them from a physicist's choices, advice says why, and cost what the run will take; program finds the program, running runs a deck,
 with a note beside the dump (note), and scan many, to a table and a picture (scan_picture); vtk writes files for ParaView and VisIt,

@@ -9,7 +9,7 @@ import numpy as np
 
 from pictools import theory
 from pictools.deck import tiles_of
-from pictools.dump import FAST, SIDE
+from pictools.versions import SUB_1
 
 if TYPE_CHECKING:
     from pictools.plasma import Plasma
@@ -31,8 +31,8 @@ def chosen(plasma: Plasma) -> list[str]:
     box = f"{' x '.join(map(str, p.cells))} cells" if len(long) == 3 else " and ".join(long) or "one cell"
     lines = [f"A plasma of {p.electrons} electrons, {p.particles_a_cell} a cell, in {box}; "
              f"a {p.start} start.",
-             f"Plasma frequency {p.plasma_frequency:g} a step: kick e_force = wp^2 / (98304 q n), e_force so small "
-             f"that kick is about 2^-8.",
+             f"Plasma frequency {p.plasma_frequency:g} a step: kick e_force = wp^2 / ({2 * p.unit_current} q n), "
+             f"e_force so small that kick is about 2^{p.side.bit_length() - 1 - SUB_1 - 8}.",
              f"Light goes {p.light_speed:g} cells a step: e_to_b = 1/2, so b_to_e = c^2.",
              thermal(plasma)]
     if p.drift:
@@ -208,8 +208,8 @@ def roundings(plasma: Plasma) -> list[str]:
     p = plasma
     speeds = [("thermal speed", min((v for v in p.thermal_speeds if v), default=0)), ("drift", p.drift),
               ("drift across B", p.cross_drift), ("wave", p.wave_speed)]
-    return [f"the {name} moves a particle by {speed * SIDE:.2g} sub-cells a step; below 20 rounded moves show."
-            for name, speed in speeds if 0 < speed * SIDE < 20]
+    return [f"the {name} moves a particle by {speed * p.side:.2g} sub-cells a step; below 20 rounded moves show."
+            for name, speed in speeds if 0 < speed * p.side < 20]
 
 
 def frames(plasma: Plasma) -> list[str]:
@@ -252,11 +252,11 @@ def noise(plasma: Plasma) -> list[str]:
 
 
 def forces(plasma: Plasma) -> list[str]:
-    """Force values near their bound. A speed that swings makes E as large as 49152 q n v / wp, and all that the streams have is
-    the most that can swing."""
+    """Force values near their bound. A speed that swings makes E as large as 12 (S^2 / 4096) q n v / wp, and all that
+    the streams have is the most that can swing."""
     p = plasma
-    swing = max(greatest_drift(p), p.wave_speed, *p.thermal_speeds) * FAST
-    force_e = 12 * SIDE * p.particles_a_cell * swing / p.plasma_frequency * p.e_force.value
+    swing = max(greatest_drift(p), p.wave_speed, *p.thermal_speeds) * p.fast
+    force_e = p.unit_current * p.particles_a_cell * swing / p.plasma_frequency * p.e_force.value
     force_b = abs(p.field_b) * p.e_force.value
     return [f"force values of {name} come to about 2^{log2(force):.0f}, near their bound 2^44."
             for name, force in (("E", force_e), ("B", force_b)) if force > FORCE_BOUND / 1024]

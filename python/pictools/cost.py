@@ -5,7 +5,7 @@ from __future__ import annotations
 from math import prod
 
 from pictools.deck import Deck
-from pictools.header import frame_length, frames_due
+from pictools.header import frame_length, frames_due, header_length
 from pictools.info import size
 
 # README, "What it costs": seconds on one thread of the machine named there.
@@ -18,7 +18,7 @@ BYTES_A_SECOND = 600e6
 def dump_bytes(deck: Deck) -> int:
     """The bytes of the whole dump."""
     frames = frames_due(deck.steps, deck.every)
-    return 64 + 60 * len(deck.species) + frames * frame_length(deck.cells, deck.particles) + 6
+    return header_length(deck.version, len(deck.species)) + frames * frame_length(deck.cells, deck.particles) + 6
 
 
 def seconds(deck: Deck) -> float:

@@ -9,12 +9,12 @@ from math import frexp, prod
 import numpy as np
 from numpy.typing import NDArray
 
-from pictools.dump import FAST, SIDE, Multiplier
+from pictools.dump import Multiplier
+from pictools.versions import SUB_1, Sided
 
 MOST_BYTES = 1 << 20
-MOST_PARTICLES = 1 << 20
-MOST_SPREAD = FAST // 16    # of a `random` and a `pair`
-MOST_DRIFT = FAST // 2
+MOST_SPREAD = 1 / 16        # of a `random` and a `pair`, in cells a step
+MOST_DRIFT = 1 / 2
 MOST_SEED = (1 << 63) - 1
 MOST_MASS = 1 << 16
 MOST_CHARGE = (1 << 15) - 1
@@ -145,8 +145,9 @@ class Pair(Drawn):
 
 
 @dataclass
-class Deck:
-    """A deck. `edges` and `faces` are what is added to E and B: arrays of shape (3, nz, ny, nx), or None for nothing."""
+class Deck(Sided):
+    """A deck. `edges` and `faces` are what is added to E and B: arrays of shape (3, nz, ny, nx), or None for nothing. With a
+    `sub` it is one of version 2."""
 
     cells: tuple[int, int, int]
     steps: int
@@ -161,6 +162,7 @@ class Deck:
     edges: NDArray[np.int64] | None = None
     faces: NDArray[np.int64] | None = None
     species: list[Species] = field(default_factory=list)
+    sub: int | None = None
 
     @property
     def particles(self) -> int:
@@ -168,15 +170,17 @@ class Deck:
 
     def text(self) -> str:
         """The deck as the program reads it, or an error where it would be too long for it."""
-        text = "".join(f"# {line}".rstrip() + "\n" for line in self.comment) + "version = 1\n"
+        text = "".join(f"# {line}".rstrip() + "\n" for line in self.comment) + f"version = {self.version}\n"
         text += f"\n[grid]\ncells = {list(self.cells)}\ntiles = {tiles_of(self.cells)}\n"
+        text += "" if self.sub is None else f"sub = {self.sub}\n"
         text += f"\n[run]\nsteps = {self.steps}\nevery = {self.every}\n\n[scale]\n"
         text += "".join(f"{name} = {list(getattr(self, name))}\n" for name in ("e_to_b", "b_to_e", "e_force", "b_force"))
         text += f"\n[field]\ne = {list(self.e)}\nb = {list(self.b)}\n"
         text += field_rows("edges", self.edges) + field_rows("faces", self.faces)
         text += "".join(species.text() for species in self.species)
-        if self.particles > MOST_PARTICLES:
-            raise DeckError(f"{self.particles} particles; a deck has at most {MOST_PARTICLES}")
+        if self.particles > self.allowance.particles:
+            raise DeckError(f"{self.particles} particles; a deck of version {self.version} has at most "
+                            f"{self.allowance.particles}")
         if len(text) > MOST_BYTES:
             raise DeckError(f"{len(text)} bytes with {self.particles} particles; a deck has at most {MOST_BYTES}, which some "
                             "30000 listed particles take: choose fewer particles a cell or cells, or a start that lists none")
@@ -201,13 +205,13 @@ def field_rows(name: str, values: NDArray[np.int64] | None) -> str:
     return rows(name, np.stack([axis, i, j, k, values[axis, k, j, i]], axis=1))
 
 
-def charges(cells: Sequence[int], species: Iterable[Points | Lattice]) -> NDArray[np.int64]:
-    """The charge of each node, of shape (nz, ny, nx), with hats: 12 * 4096^3 in all for a charge of 1."""
+def charges(cells: Sequence[int], species: Iterable[Points | Lattice], side: int = 1 << SUB_1) -> NDArray[np.int64]:
+    """The charge of each node, of shape (nz, ny, nx), with hats: 12 side^3 in all for a charge of 1."""
     total = np.zeros(tuple(reversed(cells)), np.int64)
     for kind in species:
-        node, beyond = np.divmod(kind.position, SIDE)
+        node, beyond = np.divmod(kind.position, side)
         for corner in np.ndindex(2, 2, 2):
-            weight = np.prod(np.where(corner, beyond, SIDE - beyond), axis=1)
+            weight = np.prod(np.where(corner, beyond, side - beyond), axis=1)
             i, j, k = ((node + corner) % cells).T
             np.add.at(total, (k, j, i), 12 * kind.charge * weight)
     return total
@@ -225,7 +229,7 @@ def field_of(charge: NDArray[np.int64]) -> NDArray[np.int64]:
     is carried along x to the last plane, there along y to the last line, and along it to the last node, where it is 0.
     """
     if charge.sum() != 0:
-        raise DeckError(f"the particles have the charge {charge.sum() / (12 * SIDE**3):g} in all; a periodic box has none")
+        raise DeckError(f"the charges of the nodes are {charge.sum():g} in all; a periodic box has none")
     waves = np.meshgrid(*(2 * np.pi * np.fft.fftfreq(n) for n in charge.shape), indexing="ij")
     square = sum(4 * np.sin(w / 2)**2 for w in waves)
     square[0, 0, 0] = 1

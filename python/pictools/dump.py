@@ -28,19 +28,19 @@ from typing import TYPE_CHECKING, Any, BinaryIO
 import numpy as np
 from numpy.typing import NDArray
 
-from pictools.header import CHARGE, FAST, SIDE, DumpError, Header, Multiplier, Species, limited, read_header
+from pictools.header import DumpError, Header, Multiplier, Species, limited, read_header
 
 if TYPE_CHECKING:
     import pandas
     import xarray
 
-__all__ = ["CHARGE", "FAST", "SIDE", "Dump", "DumpError", "DumpStream", "End", "Frame", "Header", "Multiplier", "Species",
-           "exact", "rounded"]
+__all__ = ["Dump", "DumpError", "DumpStream", "End", "Frame", "Header", "Multiplier", "Species", "exact", "rounded"]
 
 END_LENGTH = {0: 6, 1: 37, 2: 28}
 PHASES = {1: "half1", 3: "half2", 4: "electric"}
 BOUNDS = {1: ("value", 2**90), 2: ("force", 2**44)}
-FAULTS = {1: ("speed", 2**40), 2: ("turn", 2**24), 3: ("far", SIDE)}
+FAULTS = {1: ("speed", 2**40), 2: ("turn", 2**24)}
+FAR = 3
 
 
 class CutError(DumpError):
@@ -88,7 +88,7 @@ class Frame:
 
     @cached_property
     def e(self) -> NDArray[np.float64]:
-        """E, of shape (3, nz, ny, nx), in the dump's own unit: a charge 1 is 12 * 4096^3 of div E."""
+        """E, of shape (3, nz, ny, nx), in the dump's own unit: a charge 1 is `header.unit_charge` of div E, 12 * 4096^3 in version 1."""
         return rounded(self.record["e"])
 
     @cached_property
@@ -183,7 +183,7 @@ def field_stop(header: Header, data: bytes, place: int) -> tuple[str, int]:
 def particle_stop(header: Header, data: bytes, place: int) -> tuple[str, int]:
     """The same of an end record of kind 2."""
     identity = limited(place + 6, "an identity", int.from_bytes(data[6:10], "big"), 0, header.particles - 1)
-    name, bound = listed(place + 10, "a fault", data[10], FAULTS)
+    name, bound = listed(place + 10, "a fault", data[10], FAULTS | {FAR: ("far", header.side)})
     axis = limited(place + 11, "an axis", data[11], 0, 2)
     return f"particle {identity} {name} {axis}", bound
 

@@ -9,7 +9,7 @@ import numpy as np
 from numpy.typing import NDArray
 
 from pictools import theory, units
-from pictools.dump import FAST, SIDE, Dump, Frame
+from pictools.dump import Dump, Frame
 from pictools.measure import AXES, Wave, component
 
 BRANCHES = 4                # of Bernstein's waves
@@ -50,18 +50,18 @@ def thermal_speeds(frame: Frame, along: int) -> NDArray[np.float64]:
     squares, degrees = np.zeros(3), 0
     for species in units.electrons(frame.header):
         table = frame.species(species.name)
-        cell, speeds = table["position"][:, along] // SIDE, table["velocity"].astype(np.float64)
+        cell, speeds = table["position"][:, along] // frame.header.side, table["velocity"].astype(np.float64)
         count = np.maximum(np.bincount(cell), 1)
         for axis, speed in enumerate(speeds.T):
             squares[axis] += np.sum((speed - (np.bincount(cell, speed) / count)[cell])**2)
         degrees += len(cell) - np.count_nonzero(np.bincount(cell))
-    return np.sqrt(squares / degrees) / FAST if degrees else squares
+    return np.sqrt(squares / degrees) / frame.header.fast if degrees else squares
 
 
 def start_of(dump: Dump, along: str) -> Start:
     header, frame = dump.header, dump[0]
     kinds = units.electrons(header)
-    drifts = [frame.species(kind.name)["velocity"].mean(axis=0) / FAST for kind in kinds]
+    drifts = [frame.species(kind.name)["velocity"].mean(axis=0) / header.fast for kind in kinds]
     means = frame.b.mean(axis=(1, 2, 3))
     turns = [abs(units.gyration(header, kinds[0], float(mean))) if kinds else 0.0 for mean in means]
     return Start(units.plasma_frequency(header), units.light_speed(header), np.array(drifts).reshape(-1, 3),

@@ -7,7 +7,7 @@ from collections.abc import Callable, Iterable, Iterator
 
 from pictools.meanings import ADVICE, CAUSES, KEYS, STATUSES, USAGE
 
-CHARGE = 12 * 4096**3
+SIDE_1 = 4096               # sub-cells a cell in version 1; a line doesn't say those of version 2
 
 
 def all_lines(lines: Iterable[str]) -> Iterator[str]:
@@ -88,7 +88,8 @@ def name(path: str) -> list[str]:
 def gauss(i: str, j: str, k: str, divergence: str, charge: str) -> list[str]:
     d, r = int(divergence), int(charge)
     said = [f"Nothing was run: at the node ({i}, {j}, {k}), the first of those where they differ, the divergence of E is {d} "
-            f"and the charge {r}, which is {r / CHARGE:.6g} particles of charge 1."]
+            f"and the charge {r}, which is {r / (12 * SIDE_1**3):.6g} particles of charge 1 in version 1 "
+            "(12 * 8^sub is one in version 2)."]
     if d == 0:
         said.append("E has no divergence there, and the particles aren't neutral. Put a `pair` of the opposite charge on each "
                     "species, or give the deck an E that fits as `field.edges`: pictools.deck.field_of(charges(cells, species)) "
@@ -114,7 +115,8 @@ def stopped_field(step: str, phase: str, bound: str, axis: str, *place_and_value
 def stopped_particle(step: str, identity: str, what: str, axis: str, value: str) -> list[str]:
     number = int(value)
     causes = {
-        "far": f"it would move {number / 4096:.4g} cells, {number} sub-cells; a particle moves at most one cell a step",
+        "far": f"it would move {number} sub-cells, in version 1 {number / SIDE_1:.4g} cells; a particle moves at most one cell a "
+               "step",
         "turn": f"turn b would be {number}, above 2^24, which is nearly half a turn: B is too strong for a step",
         "speed": f"half a kick would make its velocity {number} (1/4096 sub-cell a step), above 2^40: E is far too strong"}
     return [f"The run ended in step {step} at particle {identity} (identities count from 0 through all species), along "

@@ -10,17 +10,21 @@ from typing import BinaryIO, NamedTuple
 
 import numpy as np
 
-SIDE = 4096                 # sub-cells a cell
-FAST = SIDE * 4096          # a velocity of one cell a step
-CHARGE = 12 * SIDE**3       # what a particle of charge 1 adds to the charges of the nodes, in all
+from pictools.versions import ALLOWANCES, Sided
 
-MAGIC = b"PICDUMP1"
+MAGIC = b"PICDUMP"          # and the digit of the version
 WIDE = np.dtype([("high", ">i8"), ("low", ">u8")])
 PARTICLE = np.dtype([("position", ">u4", 3), ("velocity", ">i4", 3)])
-HEADER = np.dtype([("magic", "S8"), ("cells", ">u4", 3), ("steps", ">u4"), ("every", ">u4"),
-                   ("scales", [("n", ">i4"), ("k", ">u4")], 4), ("species", ">u4")])
+HEADER = {version: np.dtype([("magic", "S8"), ("cells", ">u4", 3), ("steps", ">u4"), ("every", ">u4"),
+                             ("scales", [("n", ">i4"), ("k", ">u4")], 4), *form, ("species", ">u4")])
+          for version, form in ((1, []), (2, [("sub", ">u4"), ("filter", ">u4"), ("loops", ">u4")]))}
 SPECIES = np.dtype([("name", "S32"), ("charge", ">i4"), ("mass", ">u4"),
                     ("kick", [("n", ">i4"), ("k", ">u4")]), ("turn", [("n", ">i4"), ("k", ">u4")]), ("count", ">u4")])
+
+
+def header_length(version: int, species: int) -> int:
+    """The bytes of a header with so many species."""
+    return HEADER[version].itemsize + SPECIES.itemsize * species
 
 
 def frame_length(cells: Sequence[int], particles: int) -> int:
@@ -66,7 +70,7 @@ class Species:
 
 
 @dataclass(frozen=True)
-class Header:
+class Header(Sided):
     """What a dump says before its frames. `cells` is (nx, ny, nz)."""
 
     cells: tuple[int, int, int]
@@ -77,6 +81,7 @@ class Header:
     e_force: Multiplier
     b_force: Multiplier
     species: tuple[Species, ...]
+    sub: int | None = None
 
     @property
     def particles(self) -> int:
@@ -85,7 +90,7 @@ class Header:
     @property
     def length(self) -> int:
         """The header's bytes."""
-        return HEADER.itemsize + SPECIES.itemsize * len(self.species)
+        return header_length(self.version, len(self.species))
 
     @cached_property
     def frame_type(self) -> np.dtype:
@@ -126,9 +131,9 @@ def read_multiplier(place: int, what: str, pair: np.void) -> Multiplier:
     return Multiplier(n, limited(place + 4, f"k of {what}", int(pair["k"]), 0, 62))
 
 
-def read_species(data: bytes, earlier: list[Species]) -> Species:
+def read_species(data: bytes, version: int, earlier: list[Species]) -> Species:
     """The species that `data` spells, after the earlier ones."""
-    row, place = np.frombuffer(data, SPECIES)[0], HEADER.itemsize + SPECIES.itemsize * len(earlier)
+    row, place = np.frombuffer(data, SPECIES)[0], header_length(version, len(earlier))
     name = data[:32].rstrip(b"\0")
     if not name or not all(chr(c).isalnum() and c < 128 or c == 95 for c in name):
         raise DumpError(place, f"{name!r} is no name of a species")
@@ -140,31 +145,52 @@ def read_species(data: bytes, earlier: list[Species]) -> Species:
         charge=limited(place + 32, "a charge", int(row["charge"]), -32768, 32767),
         mass=limited(place + 36, "a mass", int(row["mass"]), 1, 65536),
         kick=read_multiplier(place + 40, "kick", row["kick"]), turn=read_multiplier(place + 48, "turn", row["turn"]),
-        count=limited(place + 56, "a number of particles", int(row["count"]), 0, 2**20 - first))
+        count=limited(place + 56, "a number of particles", int(row["count"]), 0,
+                      ALLOWANCES[version].particles - first))
+
+
+def read_version(data: bytes) -> int:
+    """The version of the dump that begins with these 8 bytes."""
+    for place, (here, there) in enumerate(zip(data, MAGIC)):
+        if here != there:
+            raise DumpError(place, "no dump begins so: its first bytes are PICDUMP1 or PICDUMP2")
+    if len(data) <= len(MAGIC):
+        raise DumpError(len(data), "the dump ends in its header")
+    version = data[len(MAGIC)] - ord("0")
+    if version not in ALLOWANCES:
+        raise DumpError(7, f"a dump of the kind {data.decode('ascii', 'replace')}; this reader knows PICDUMP1 and PICDUMP2")
+    return version
+
+
+def read_sub(row: np.void) -> int:
+    """The sub of a header of version 2, whose two next numbers are 0."""
+    allowance = ALLOWANCES[2]
+    sub = limited(60, "sub", int(row["sub"]), allowance.least_sub, allowance.greatest_sub)
+    for place, name in (64, "filter"), (68, "loops"):
+        limited(place, name, int(row[name]), 0, 0)
+    return sub
 
 
 def read_header(file: BinaryIO) -> tuple[Header, bytes]:
     """The header at the front of a file or a pipe, and its bytes."""
-    data = file.read(len(MAGIC))
-    if data[:7] == MAGIC[:7] and len(data) == 8 and data != MAGIC:
-        raise DumpError(7, f"a dump of the kind {data.decode('ascii', 'replace')}; this reader knows PICDUMP1 alone")
-    for place, (here, there) in enumerate(zip(data, MAGIC)):
-        if here != there:
-            raise DumpError(place, "no dump begins so: its first bytes are PICDUMP1")
-    data += file.read(HEADER.itemsize - len(data))
-    if len(data) < HEADER.itemsize:
+    data = file.read(len(MAGIC) + 1)
+    version = read_version(data)
+    kind = HEADER[version]
+    data += file.read(kind.itemsize - len(data))
+    if len(data) < kind.itemsize:
         raise DumpError(len(data), "the dump ends in its header")
-    row = np.frombuffer(data, HEADER)[0]
+    row = np.frombuffer(data, kind)[0]
     scales = [read_multiplier(28 + 8 * i, name, row["scales"][i])
               for i, name in enumerate(("e_to_b", "b_to_e", "e_force", "b_force"))]
-    cells = tuple(limited(8 + 4 * a, "cells", int(n), 2, 64) for a, n in enumerate(row["cells"]))
+    cells = tuple(limited(8 + 4 * a, "cells", int(n), 2, ALLOWANCES[version].cells) for a, n in enumerate(row["cells"]))
     steps = limited(20, "steps", int(row["steps"]), 0, 10**6)
     every = limited(24, "every", int(row["every"]), 1, 10**6)
+    sub = read_sub(row) if version == 2 else None
     species: list[Species] = []
-    for _ in range(limited(60, "the number of species", int(row["species"]), 0, 16)):
+    for _ in range(limited(kind.itemsize - 4, "the number of species", int(row["species"]), 0, 16)):
         part = file.read(SPECIES.itemsize)
         data += part
         if len(part) < SPECIES.itemsize:
             raise DumpError(len(data), "the dump ends in its header")
-        species.append(read_species(part, species))
-    return Header(cells, steps, every, *scales, tuple(species)), data
+        species.append(read_species(part, version, species))
+    return Header(cells, steps, every, *scales, tuple(species), sub), data

@@ -22,6 +22,7 @@ def facts(dump: Dump) -> list[tuple[str, str]]:
     frames = f"{len(dump)} of {header.frames}, of steps {int(dump.steps[0])} to {last}, every {header.every}"
     lines = [("dump", dump.path),
              ("cells", f"{' x '.join(map(str, header.cells))}, {prod(header.cells)} in all"),
+             ("side", f"{header.side} sub-cells a cell along each axis, by version {header.version}"),
              ("steps", f"{header.steps}, a frame every {header.every}"),
              ("frames", f"{frames}; {size(frame_length(header.cells, header.particles))} each"),
              ("end", dump.end.text if dump.end else f"none: {dump.cut}"),

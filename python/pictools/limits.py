@@ -6,7 +6,7 @@ from __future__ import annotations
 from dataclasses import MISSING, dataclass, field, fields
 from typing import Any
 
-from pictools.deck import MOST_BYTES, MOST_PARTICLES, ROW_BYTES, DeckError
+from pictools.deck import MOST_BYTES, ROW_BYTES, DeckError
 
 AXES = "xyz"
 
@@ -87,22 +87,22 @@ def test_companions(chosen: Any, companions: dict[str, tuple[str, str]]) -> None
             refuse(one.name, getattr(chosen, one.name), f"it wants {option(needed)}, {what}")
 
 
-def test_cells(cells: tuple[int, int, int]) -> None:
+def test_cells(cells: tuple[int, int, int], most: int) -> None:
     """Each axis by itself."""
     if len(cells) != 3:
         refuse("cells", cells, "there are three numbers, along x, y and z")
     for axis, number in zip(AXES, cells):
-        if not 2 <= number <= 64:
-            refuse("cells", cells, f"{number} cells along {axis}; an axis has 2 to 64")
+        if not 2 <= number <= most:
+            refuse("cells", cells, f"{number} cells along {axis}; an axis has 2 to {most}")
 
 
-def test_particles(particles_a_cell: int, kinds: int, cells: int, listed: bool) -> None:
+def test_particles(particles_a_cell: int, kinds: int, cells: int, listed: bool, most: int) -> None:
     """All particles together: `kinds` of them stand where an electron does. Where they are listed a deck has room for fewer."""
-    if particles_a_cell * cells * kinds > MOST_PARTICLES:
+    if particles_a_cell * cells * kinds > most:
         ions = ", and as many ions," if kinds > 1 else ""
         refuse("particles_a_cell", particles_a_cell,
-               f"{particles_a_cell * cells} electrons{ions} are too many; a deck has at most {MOST_PARTICLES} particles, so here "
-               f"at most {MOST_PARTICLES // (cells * kinds)} electrons a cell")
+               f"{particles_a_cell * cells} electrons{ions} are too many; a deck has at most {most} particles, so here "
+               f"at most {most // (cells * kinds)} electrons a cell")
     rows = particles_a_cell * cells * kinds
     if listed and rows * ROW_BYTES > MOST_BYTES:
         refuse("particles_a_cell", particles_a_cell,

@@ -11,7 +11,7 @@ import numpy as np
 from numpy.typing import NDArray
 
 from pictools.deck import MOST_CHARGE, MOST_MASS, DeckError, Lattice, Pair, Points, Random, Species, multiplier
-from pictools.dump import FAST, SIDE, Multiplier
+from pictools.dump import Multiplier
 from pictools.limits import AXES, refuse
 
 if TYPE_CHECKING:
@@ -41,21 +41,21 @@ def spread(plasma: Plasma, number: int) -> NDArray[np.float64]:
 
 def load(plasma: Plasma, beam: Beam) -> tuple[NDArray[np.int64], NDArray[np.int64], NDArray[np.int64]]:
     """Of the electrons of a beam: places without the wave, places with it, and velocities. The wave goes along x."""
-    table, cells = spread(plasma, beam.number), np.array(plasma.cells)
-    rest = np.where(cells > 2, np.floor(table[:, :3] * cells * SIDE), SIDE // 2).astype(np.int64)
+    table, cells, side = spread(plasma, beam.number), np.array(plasma.cells), plasma.side
+    rest = np.where(cells > 2, np.floor(table[:, :3] * cells * side), side // 2).astype(np.int64)
     velocity = np.zeros((len(table), 3))
     if any(plasma.thermal_speeds):
         normal = np.vectorize(NormalDist().inv_cdf, otypes=[float])
         velocity = beam.sense * np.array(plasma.thermal_speeds) * normal(table[:, 3:])
     velocity += plasma.velocity(beam.drift)
-    shift, more = plasma.start_wave.perturbation(beam, rest[:, 0] / SIDE, velocity[:, 0])
+    shift, more = plasma.start_wave.perturbation(beam, rest[:, 0] / side, velocity[:, 0])
     place = rest.copy()
-    place[:, 0] = np.rint(rest[:, 0] + shift * SIDE).astype(np.int64) % (plasma.cells[0] * SIDE)
-    whole = np.rint((velocity + more) * FAST).astype(np.int64)
-    if np.abs(whole).max() > FAST:
-        raise DeckError(f"an electron would begin with {np.abs(whole).max() / FAST:.3f} cells a step; a particle moves at most "
-                        "one: choose a lower --drift, --thermal-speed or --wave-speed")
-    twins = np.array(list(np.ndindex(*plasma.copies))) * SIDE
+    place[:, 0] = np.rint(rest[:, 0] + shift * side).astype(np.int64) % (plasma.cells[0] * side)
+    whole = np.rint((velocity + more) * plasma.fast).astype(np.int64)
+    if np.abs(whole).max() > plasma.fast:
+        raise DeckError(f"an electron would begin with {np.abs(whole).max() / plasma.fast:.3f} cells a step; a particle moves at "
+                        "most one: choose a lower --drift, --thermal-speed or --wave-speed")
+    twins = np.array(list(np.ndindex(*plasma.copies))) * side
     rest, place = ((part[:, None] + twins).reshape(-1, 3) for part in (rest, place))
     return rest, place, np.repeat(whole, len(twins), axis=0)
 
@@ -68,14 +68,14 @@ def ion_multipliers(plasma: Plasma) -> tuple[Multiplier, Multiplier]:
                  for m, name in ((plasma.kick, "an ion's kick"), (plasma.turn, "an ion's turn")))
 
 
-def whole_speeds(speeds: Sequence[float]) -> list[int]:
+def whole_speeds(plasma: Plasma, speeds: Sequence[float]) -> list[int]:
     """Speeds in cells a step as whole numbers of the deck."""
-    return [round(speed * FAST) for speed in speeds]
+    return [round(speed * plasma.fast) for speed in speeds]
 
 
 def ion_drift(plasma: Plasma) -> list[int]:
     """The velocity of the ions: that of the electrons where they all drift one way, else that of E across B alone."""
-    return whole_speeds(plasma.velocity(plasma.drift if len(plasma.beams) == 1 else 0))
+    return whole_speeds(plasma, plasma.velocity(plasma.drift if len(plasma.beams) == 1 else 0))
 
 
 def species(plasma: Plasma) -> list[Species]:
@@ -99,14 +99,15 @@ def listed(plasma: Plasma) -> list[Species]:
     charge = plasma.electrons // prod(sites)
     if charge > MOST_CHARGE:
         refuse("particles_a_cell", plasma.particles_a_cell, f"a still ion would have the charge {charge}, at most {MOST_CHARGE}")
-    return electrons + [Lattice("ion", charge, 1, kick, turn, [SIDE // 2] * 3, [SIDE * (n > 1) for n in sites], sites,
+    return electrons + [Lattice("ion", charge, 1, kick, turn, [plasma.side // 2] * 3,
+                                [plasma.side * (n > 1) for n in sites], sites,
                                 ion_drift(plasma))]
 
 
 def drawing(plasma: Plasma, beam: Beam, stream: int) -> dict:
     """How the velocities of a beam are drawn."""
-    return {"seed": plasma.seed, "stream": stream, "spread": whole_speeds(plasma.thermal_speeds),
-            "drift": whole_speeds(plasma.velocity(beam.drift))}
+    return {"seed": plasma.seed, "stream": stream, "spread": whole_speeds(plasma, plasma.thermal_speeds),
+            "drift": whole_speeds(plasma, plasma.velocity(beam.drift))}
 
 
 def anywhere(plasma: Plasma) -> list[Species]:
@@ -145,15 +146,15 @@ def test_lattice(plasma: Plasma) -> None:
     if long == 1 or shares != 2 ** (int(shares).bit_length() - 1):
         refuse("particles_a_cell", plasma.particles_a_cell,
                f"a lattice has a power of 2 on each long cell for each stream, not {shares:g}")
-    if any(n > 1 and cells * SIDE % n for n, cells in zip(lattice_sites(plasma), plasma.cells)):
-        refuse("particles_a_cell", plasma.particles_a_cell, "a lattice has at most 4096 on a cell along each axis")
+    if any(n > 1 and cells * plasma.side % n for n, cells in zip(lattice_sites(plasma), plasma.cells)):
+        refuse("particles_a_cell", plasma.particles_a_cell, f"a lattice has at most {plasma.side} on a cell along each axis")
 
 
 def on_lattice(plasma: Plasma) -> list[Species]:
     """Ions on a lattice, and an electron of each stream on each of them, with drawn speeds: there is no charge."""
     sites, number = lattice_sites(plasma), len(plasma.beams)
-    gap = [n * SIDE // m if n > 2 else 0 for n, m in zip(plasma.cells, sites)]
-    first = [g // 2 if g else SIDE // 2 for g in gap]
+    gap = [n * plasma.side // m if n > 2 else 0 for n, m in zip(plasma.cells, sites)]
+    first = [g // 2 if g else plasma.side // 2 for g in gap]
     kick, turn = ion_multipliers(plasma)
     ion = Lattice("ion", number, number * (plasma.mass_ratio or 1), kick, turn, first, gap, sites, ion_drift(plasma))
     return [ion] + [Pair(beam.name, -1, 1, plasma.kick, plasma.turn, of=ion, **drawing(plasma, beam, stream))

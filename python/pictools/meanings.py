@@ -4,11 +4,13 @@ docs/FORMATS.md."""
 THREE = "three whole numbers, along x, y and z"
 MULTIPLIER = "a multiplier [n, k], which is the factor n / 2^k"
 MULTIPLIERS = "n from -2147483647 to 2147483647, k from 0 to 62"
-PLACE = "within the box, which has 4096 sub-cells a cell"
-VELOCITY = "each from -16777216 to 16777216, which is one cell a step"
+PLACE = "within the box, which has 4096 sub-cells a cell, in version 2 2^sub"
+SIDES = " in version 1; in version 2 that is in proportion to 2^sub"
+VELOCITY = "each from -16777216 to 16777216, which is one cell a step" + SIDES
 SEED = "from 0 to 9223372036854775807"
-DRIFT = "each from -8388608 to 8388608, which is half a cell a step"
-SPREAD = "each from 0 to 1048576, which is 1/16 cell a step"
+DRIFT = "each from -8388608 to 8388608, which is half a cell a step" + SIDES
+SPREAD = "each from 0 to 1048576, which is 1/16 cell a step" + SIDES
+PARTICLES = "1048576, in version 2 4194304"
 ROWS = "an array of rows [axis, i, j, k, value]"
 ROW = "axis 0, 1 or 2, a cell of the grid, and any 64-bit value; at most 1048576 rows"
 
@@ -22,10 +24,11 @@ def drawn(table: str) -> dict[str, tuple[str, str]]:
 
 # By the path of a key, with [i] for each number in brackets: what it is, and its limits.
 KEYS: dict[str, tuple[str, str]] = {
-    "version": ("the version of the format, a whole number", "1"),
-    "grid": ("a table: cells, tiles", ""),
-    "grid.cells": (THREE, "each from 2 to 64"),
+    "version": ("the version of the format, a whole number", "1 or 2"),
+    "grid": ("a table: cells, tiles, and in version 2 sub", ""),
+    "grid.cells": (THREE, "each from 2 to 64, in version 2 to 128"),
     "grid.tiles": (THREE, "each from 1 to half the cells of its axis, which it divides; their product is at most 512"),
+    "grid.sub": ("a whole number, which a deck of version 2 has: a cell has 2^sub sub-cells along each axis", "from 8 to 14"),
     "run": ("a table: steps, every", ""),
     "run.steps": ("a whole number", "from 0 to 1000000"),
     "run.every": ("a whole number", "from 1 to 1000000"),
@@ -46,11 +49,11 @@ KEYS: dict[str, tuple[str, str]] = {
     "species[i].points": ("an array of rows [x, y, z, vx, vy, vz]", f"places {PLACE}, velocities {VELOCITY}"),
     "species[i].lattice": ("a table: first, gap, count, v", ""),
     "species[i].lattice.first": (THREE + ", the first place", PLACE),
-    "species[i].lattice.gap": (THREE, "each from 0 to 262144 sub-cells"),
-    "species[i].lattice.count": (THREE, "each from 1 to 1048576, as their product"),
+    "species[i].lattice.gap": (THREE, "each from 0 to 64 cells in sub-cells, in version 2 to 128 cells"),
+    "species[i].lattice.count": (THREE, f"each from 1 to {PARTICLES}, as their product"),
     "species[i].lattice.v": (THREE + ", the velocity of all", VELOCITY),
     "species[i].random": ("a table: count, seed, stream, drift, spread", ""),
-    "species[i].random.count": ("a whole number", "from 0 to 1048576"),
+    "species[i].random.count": ("a whole number", f"from 0 to {PARTICLES}"),
     **drawn("species[i].random"),
     "species[i].pair": ("a table: of, seed, stream, drift, spread", ""),
     "species[i].pair.of": ("a text", "the name of an earlier species"),
@@ -61,8 +64,10 @@ KEYS: dict[str, tuple[str, str]] = {
 ADVICE: list[tuple[str, str]] = [
     (r"deck .*", "The deck is too long: a deck has at most 1048576 bytes, which some 30000 listed particles take. List fewer, "
                  "or let the program place them: lattice, random, pair."),
-    (r"version .*", "This program knows the format of version 1 alone."),
-    (r"grid\.cells.*", "Choose 2 to 64 cells along each axis; an axis that nothing is to vary along has 2."),
+    (r"version 1 1", "This program knows the format of version 1 alone."),
+    (r"version .*", "There are two versions of the format, 1 and 2."),
+    (r"grid\.cells.*", "Choose 2 to 64 cells along each axis, in version 2 to 128; an axis that nothing is to vary along has 2."),
+    (r"grid\.sub .*", "A cell has 2^sub sub-cells along each axis, 256 to 16384; 12 is what version 1 has."),
     (r"grid\.tiles\[i\] 0 0", "The value is what the cells of this axis leave when they are divided by its tiles: choose tiles "
                               "that divide them."),
     (r"grid\.tiles\[i\] .*", "A tile has at least 2 cells along each axis: choose fewer tiles, or 1."),
@@ -73,23 +78,25 @@ ADVICE: list[tuple[str, str]] = [
      "`_force` and raise `kick` (of e_force) or `turn` (of b_force) as much, or a weaker field."),
     (r"(scale|species\[i\])\.\w+\[i\] .*", "A multiplier [n, k] is n / 2^k: for a larger factor lower k, for a smaller one "
                                            "raise it."),
-    (r"species\[i\] .*", "The value is the number of particles so far: a run has at most 1048576."),
+    (r"species\[i\] .*", f"The value is the number of particles so far: a run has at most {PARTICLES}."),
     (r"species 0 16", "A run has at most 16 species."),
     (r"species\[i\]\.mass .*", "The mass counts in the kinetic energy alone; what a field does to a particle `kick` and `turn` "
                                "say."),
     (r"species\[i\]\.charge .*", "The charge counts in E and the current; for more charge take more particles, or a larger wp "
                                  "by `kick`."),
-    (r"species\[i\]\.points\[i\]\[i\] 0 .*", "A place is from 0 to 4096 times the cells of its axis, less 1."),
-    (r"species\[i\]\.(points\[i\]\[i\]|lattice\.v\[i\]) -.*", "16777216 is one cell a step, the most that a particle may move."),
+    (r"species\[i\]\.points\[i\]\[i\] 0 .*", "A place is from 0 to 4096 times the cells of its axis, in version 2 2^sub times, "
+                                              "less 1."),
+    (r"species\[i\]\.(points\[i\]\[i\]|lattice\.v\[i\]) -.*", "The limit is one cell a step, the most that a particle may "
+                                                                "move."),
     (r"species\[i\]\.(random|pair)\.spread\[i\] .*",
-     "1048576 is 1/16 cell a step: the program draws no larger thermal speed. Lower the plasma frequency and the speeds "
+     "The limit is 1/16 cell a step: the program draws no larger thermal speed. Lower the plasma frequency and the speeds "
      "together (the Debye length stays), or list the particles as points: python3 -m pictools deck --start quiet."),
-    (r"species\[i\]\.(random|pair)\.drift\[i\] .*", "8388608 is half a cell a step: the program draws about no larger drift; "
+    (r"species\[i\]\.(random|pair)\.drift\[i\] .*", "The limit is half a cell a step: the program draws about no larger drift; "
                                                     "points may have one cell a step."),
 ]
 
 CAUSES: dict[str, str] = {
-    "1": "this byte isn't that of `PICDUMP1`, so it is no dump, or one of another version",
+    "1": "this byte isn't that of `PICDUMP1` or `PICDUMP2`, so it is no dump, or one of another version",
     "2": "a number or a name of the header is outside the limits of a deck",
     "3": "no record begins so: where a frame is due stands neither `F` nor, after a frame, `E`",
     "4": "the step isn't one that may stand here",

@@ -90,19 +90,24 @@ def deck_of(dump: Dump, given: str | None) -> Deck | None:
     return Deck(Path(kept["deck"]["file"]).name, "\n".join(kept["deck text"]) + "\n", kept["deck"]["made by"], tuple(told))
 
 
+def grid_of(header: Header) -> dict[str, Any]:
+    """The grid of a header as a deck has it."""
+    return {"cells": list(header.cells)} | ({} if header.sub is None else {"sub": header.sub})
+
+
 def differences(deck: dict[str, Any], header: Header) -> list[str]:
     """Where a deck isn't that of a dump's header, the first few; the run's steps and frames may have been changed later."""
     species = [{"name": s.name, "charge": s.charge, "mass": s.mass, "kick": list(s.kick), "turn": list(s.turn)}
                for s in header.species]
     scale = {name: list(getattr(header, name)) for name in ("e_to_b", "b_to_e", "e_force", "b_force")}
-    here, there = entries(deck), entries({"grid": {"cells": list(header.cells)}, "scale": scale, "species": species})
+    here, there = entries(deck), entries({"grid": grid_of(header), "scale": scale, "species": species})
     wrong = [path for path in here | there if here.get(path) != there.get(path)]
     return [f"{path} is {here.get(path)} in place of {there.get(path)}" for path in wrong[:FEW]]
 
 
 def entries(deck: dict[str, Any]) -> dict[str, Any]:
     """What a header has of a deck, by its path."""
-    tables = [("grid", deck.get("grid"), ("cells",)), ("scale", deck.get("scale"), ("e_to_b", "b_to_e", "e_force", "b_force"))]
+    tables = [("grid", deck.get("grid"), ("cells", "sub")), ("scale", deck.get("scale"), ("e_to_b", "b_to_e", "e_force", "b_force"))]
     tables += [(f"species[{number}]", one, ("name", "charge", "mass", "kick", "turn"))
                for number, one in enumerate(deck.get("species") or [])]
     return {f"{path}.{key}": one[key] for path, one, keys in tables if isinstance(one, dict) for key in keys if key in one}

@@ -15,7 +15,7 @@ from matplotlib.transforms import ScaledTranslation
 from numpy.typing import NDArray
 
 from pictools import expect, measure, units
-from pictools.dump import FAST, SIDE, Dump, Frame, rounded
+from pictools.dump import Dump, Frame, rounded
 from pictools.measure import AXES, Wave
 from pictools.views import Scale, View, against, number_of, scale_of, slope, strength
 
@@ -117,7 +117,7 @@ def draw_heating(axes: Axes, dumps: dict[str, Dump], view: View) -> list[str]:
 
 def thermal_energy(frame: Frame) -> float:
     """The kinetic energy of the electrons about their drifts, in the unit of `units.energies`."""
-    square = float(np.sum((expect.thermal_speeds(frame, 0) * FAST)**2))
+    square = float(np.sum((expect.thermal_speeds(frame, 0) * frame.header.fast)**2))
     return sum(units.kinetic_weight(frame.header, s) * s.mass * s.count * square for s in units.electrons(frame.header))
 
 
@@ -127,7 +127,7 @@ def draw_orbits(axes: Axes, dump: Dump, view: View) -> list[str]:
         raise ValueError("orbits: the dump has no particles")
     scale = scale_of(dump, view.units)
     box = np.array(dump.header.cells[:2])
-    first = dump.records["particles"]["position"][:, :12, :2] / SIDE
+    first = dump.records["particles"]["position"][:, :12, :2] / dump.header.side
     ways = (first - box * np.cumsum(np.rint(np.diff(first, axis=0, prepend=first[:1]) / box), axis=0)) / scale.length
     for number in range(ways.shape[1]):
         axes.plot(*ways[:, number].T, marker=".", markersize=3, linewidth=0.6, label=f"particle {number}")
@@ -150,13 +150,14 @@ class PhaseEnds(NamedTuple):
 
 def phase_points(frame: Frame, dump: Dump, view: View) -> tuple[list[str], list[NDArray]]:
     """The names of what moves, and of each the places and the speeds (2, particles), in a picture's units."""
-    scale, moving = scale_of(dump, view.units), [s for s in frame.header.species if s.count and (s.kick.n or s.turn.n)]
+    scale, header = scale_of(dump, view.units), frame.header
+    moving = [s for s in header.species if s.count and (s.kick.n or s.turn.n)]
     if not moving:
-        raise ValueError(f"phase: none of the {frame.header.particles} particles of the dump moves")
-    place, speed = (AXES.index(axis or view.axis(frame.header)) for axis in (view.place, view.speed))
+        raise ValueError(f"phase: none of the {header.particles} particles of the dump moves")
+    place, speed = (AXES.index(axis or view.axis(header)) for axis in (view.place, view.speed))
     tables = [frame.species(s.name) for s in moving]
-    return [s.name for s in moving], [np.stack([table["position"][:, place] / (SIDE * scale.length),
-                                                table["velocity"][:, speed] * (scale.time / scale.length / FAST)])
+    return [s.name for s in moving], [np.stack([table["position"][:, place] / (header.side * scale.length),
+                                                table["velocity"][:, speed] * (scale.time / scale.length / header.fast)])
                                       for table in tables]
 
 

@@ -18,13 +18,15 @@ import numpy as np
 from numpy.typing import NDArray
 
 from pictools import advice, loading
-from pictools.deck import (MOST_DRIFT, MOST_FIELD, MOST_MASS, MOST_PARTICLES, MOST_SEED, MOST_SPREAD, Deck, Species, charges,
-                           field_of, multiplier)
-from pictools.dump import FAST, SIDE, Multiplier
+from pictools.deck import (MOST_DRIFT, MOST_FIELD, MOST_MASS, MOST_SEED, MOST_SPREAD, Deck, Species, charges, field_of,
+                           multiplier)
+from pictools.dump import Multiplier
 from pictools.limits import AXES, Limits, choice, command, refuse, test_cells, test_choices, test_companions, test_particles
+from pictools.versions import ALLOWANCES, SUB_1, Sided
 from pictools.wave import Wave
 
 SPEED = Limits(0, 1, why="a particle moves at most a cell a step")
+NEWEST = ALLOWANCES[2]
 
 # What does nothing without another choice.
 COMPANIONS = {"drift_axis": ("drift", "streams"), "beam_share": ("drift", "streams"), "gyration_axis": ("gyration", "a uniform B"),
@@ -41,7 +43,7 @@ class Beam(NamedTuple):
 
 
 @dataclass
-class Plasma:
+class Plasma(Sided):
     """Electrons and ions in a uniform box, and the wave that they start with.
 
     An axis of two cells is short: nothing varies along it. A particle that doesn't move along it stands in the middle between
@@ -69,15 +71,17 @@ class Plasma:
     gyration_axis: str = choice("the axis of this B: x, y or z", "z", tuple(AXES))
     cross_drift: float = choice("the speed by which a uniform E across this B makes all particles drift, in cells a step, along "
                                 "the axis that follows that of B: x, y, z, x", 0, SPEED)
-    particles_a_cell: int = choice("electrons a cell", 64, Limits(1, MOST_PARTICLES))
+    particles_a_cell: int = choice("electrons a cell", 64, Limits(1, NEWEST.particles))
     mass_ratio: int = choice("the mass of an ion over that of an electron; 0 for ions that stand still", 0,
                              Limits(0, MOST_MASS))
     wave: int = choice("how often the wave at the start goes into the box; 0 for none. It is a wave of the theory: one that "
                        "grows where one grows, else one that goes along its axis", 0, Limits(0, 32))
     wave_axis: str = choice("the axis that this wave goes along: x, y or z", "x", tuple(AXES))
     wave_speed: float = choice("the greatest speed along its axis that this wave adds, in cells a step", 0, SPEED)
-    cells: tuple[int, int, int] = choice("along x, y and z, each 2 to 64; an axis of 2 is short: nothing varies along it",
-                                         (64, 2, 2))
+    cells: tuple[int, int, int] = choice("along x, y and z, each 2 to 64, with --sub to 128; an axis of 2 is short: nothing "
+                                         "varies along it", (64, 2, 2))
+    sub: int | None = choice("a cell has 2^sub sub-cells along each axis, which a place is rounded to; with it the deck is of "
+                             "version 2. The other version has 2^12", None, Limits(NEWEST.least_sub, NEWEST.greatest_sub))
     steps: int = choice("of the run", 400, Limits(0, 10**6))
     every: int = choice("how many steps apart frames are", 4, Limits(1, 10**6))
     start: str = choice("quiet: places and speeds are spread evenly, and listed; lattice: places are, and the program draws "
@@ -86,11 +90,11 @@ class Plasma:
     seed: int = choice("of what is drawn", 1, Limits(0, MOST_SEED))
 
     def __post_init__(self) -> None:
-        test_cells(self.cells)
+        test_cells(self.cells, self.allowance.cells)
         test_choices(self)
         test_companions(self, COMPANIONS)
         kinds = 1 if self.mass_ratio == 0 and self.listed else 2
-        test_particles(self.particles_a_cell, kinds, prod(self.cells), self.listed)
+        test_particles(self.particles_a_cell, kinds, prod(self.cells), self.listed, self.allowance.particles)
         if abs(self.field_b) > MOST_FIELD:
             refuse("gyration", self.gyration,
                    f"with this plasma frequency the deck's B would be {self.field_b:.1e}, at most 2^63; choose a greater "
@@ -126,13 +130,13 @@ class Plasma:
     def test_drawn(self) -> None:
         """What the program can draw."""
         for axis, speed in zip(AXES, self.thermal_speeds):
-            if round(speed * FAST) > MOST_SPREAD:
+            if round(speed * self.fast) > MOST_SPREAD * self.fast:
                 refuse("thermal_speed", speed,
                        f"along {axis} the program draws at most 1/16 = 0.0625 cells a step; choose a lower speed and "
                        "--plasma-frequency (the Debye length stays), or --start quiet, which lists some 30000 particles")
         for beam in self.beams:
             for name, speed in ("drift", abs(beam.drift)), ("cross_drift", self.cross_drift):
-                if max(map(abs, self.velocity(beam.drift))) * FAST > MOST_DRIFT and speed:
+                if max(map(abs, self.velocity(beam.drift))) > MOST_DRIFT and speed:
                     refuse(name, getattr(self, name),
                            f"a stream drifts by {speed:g}; the program draws about a drift of at most 1/2 cell a step; choose a "
                            "lower one, or --start quiet")
@@ -201,13 +205,14 @@ class Plasma:
 
     @property
     def strength(self) -> float:
-        """The size of kick times e_force: wp^2 = 98304 kick q e_force n."""
-        return self.plasma_frequency**2 / (24 * SIDE * self.particles_a_cell)
+        """The size of kick times e_force: wp^2 = 24 (S^2 / 4096) kick q e_force n, S the sub-cells of a cell."""
+        return self.plasma_frequency**2 / (2 * self.unit_current * self.particles_a_cell)
 
     @property
     def e_force(self) -> Multiplier:
-        """2^-K, so that `kick` is about 2^-8: then e is a number some 2^8 times as large as what it adds to a speed."""
-        return Multiplier(1, min(max(floor(-8 - log2(self.strength)), 0), 62))
+        """2^-K, so that `kick` is about 2^-8 S / 4096: then e is the same for all sides S, and in version 1 a number some 2^8
+        times as large as what it adds to a speed."""
+        return Multiplier(1, min(max(floor(log2(self.side) - SUB_1 - 8 - log2(self.strength)), 0), 62))
 
     @property
     def kick(self) -> Multiplier:
@@ -215,8 +220,9 @@ class Plasma:
 
     @property
     def turn(self) -> Multiplier:
-        """kick / 16: with e_to_b = 1/2 and b_force = e_force, E and B act with one charge to mass ratio."""
-        return multiplier(self.kick.value / 16, "turn")
+        """256 kick / S, which is kick / 16 in version 1: with e_to_b = 1/2 and b_force = e_force, E and B act with one charge to
+        mass ratio."""
+        return multiplier(256 * self.kick.value / self.side, "turn")
 
     @property
     def field_b(self) -> int:
@@ -260,7 +266,7 @@ class Plasma:
         the start."""
         e = np.zeros((3, *reversed(self.cells)), np.int64)
         if self.listed:
-            e = field_of(charges(self.cells, self.species))
+            e = field_of(charges(self.cells, self.species, self.side))
         b = np.zeros_like(e)
         if self.crosses and self.wave:
             by = AXES.index(self.wave_axis)
@@ -277,8 +283,8 @@ class Plasma:
         """The deck, whose first lines are the report and the command that makes it."""
         edges, faces = self.fields()
         b = tuple(self.field_b * (axis == self.gyration_axis) for axis in AXES)
-        # E / B is the drift, as E and B act with one charge to mass ratio, and 2^20 / 16 turns 2^24 into a cell a step.
+        # E / B is the drift, as E and B act with one charge to mass ratio, and 2^20 turn / kick is a cell a step.
         e = tuple(np.roll([0, 0, round(self.cross_drift * self.field_b)], AXES.index(self.gyration_axis)).tolist())
         return Deck(tuple(self.cells), self.steps, self.every, Multiplier(1, 1), multiplier(self.light_speed**2, "b_to_e = c^2"),
                     self.e_force, self.e_force, comment=[*self.report(), command(self)], e=e, b=b, edges=edges, faces=faces,
-                    species=self.species)
+                    species=self.species, sub=self.sub)

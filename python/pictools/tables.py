@@ -10,7 +10,7 @@ import numpy as np
 from numpy.typing import NDArray
 
 from pictools import measure
-from pictools.dump import FAST, SIDE, Dump, Frame
+from pictools.dump import Dump, Frame
 from pictools.views import COMPONENTS, STEPS, scale_of, slope
 
 if TYPE_CHECKING:
@@ -69,9 +69,10 @@ def factor_of(dump: Dump, name: str, units: Units) -> tuple[float, str]:
 
 def columns(frame: Frame, rows: NDArray | slice, units: Units) -> dict[str, NDArray]:
     """Places and velocities of some particles of a frame, by the names of columns."""
-    table = frame.record["particles"][rows]
-    found = {axis: table["position"][:, a] / (SIDE * units.length) for a, axis in enumerate("xyz")}
-    return found | {"v" + axis: table["velocity"][:, a] * (units.time / units.length / FAST) for a, axis in enumerate("xyz")}
+    table, header = frame.record["particles"][rows], frame.header
+    found = {axis: table["position"][:, a] / (header.side * units.length) for a, axis in enumerate("xyz")}
+    speed = units.time / units.length / header.fast
+    return found | {"v" + axis: table["velocity"][:, a] * speed for a, axis in enumerate("xyz")}
 
 
 def labelled(table: pandas.DataFrame, units: Units) -> pandas.DataFrame:

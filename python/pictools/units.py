@@ -7,7 +7,7 @@ from math import atan, prod, sqrt
 
 import numpy as np
 
-from pictools.dump import FAST, SIDE, Dump, Frame, Header, Species
+from pictools.dump import Dump, Frame, Header, Species
 
 
 def light_speed(header: Header) -> float:
@@ -16,9 +16,11 @@ def light_speed(header: Header) -> float:
 
 
 def plasma_frequency(header: Header) -> float:
-    """wp^2 = 98304 kick q e_force n, summed over the species; n is their particles a cell."""
+    """wp^2 = 24 (S^2 / 4096) kick q e_force n, summed over the species; S is the sub-cells of a cell, and n their particles a
+    cell."""
     cells = prod(header.cells)
-    square = sum(24 * SIDE * s.kick.value * s.charge * header.e_force.value * s.count / cells for s in header.species)
+    square = sum(2 * header.unit_current * s.kick.value * s.charge * header.e_force.value * s.count / cells
+                 for s in header.species)
     return sqrt(max(0, square))
 
 
@@ -38,12 +40,12 @@ def thermal_speed(frame: Frame, axis: str = "x", along: str = "x") -> float:
     squares = degrees = 0.0
     for species in electrons(frame.header):
         table = frame.species(species.name)
-        cell = table["position"][:, "xyz".index(along)] // SIDE
+        cell = table["position"][:, "xyz".index(along)] // frame.header.side
         speed = table["velocity"][:, "xyz".index(axis)].astype(np.float64)
         count = np.maximum(np.bincount(cell), 1)
         squares += np.sum((speed - (np.bincount(cell, speed) / count)[cell])**2)
         degrees += len(speed) - np.count_nonzero(np.bincount(cell))
-    return sqrt(squares / degrees) / FAST if degrees else 0.0
+    return sqrt(squares / degrees) / frame.header.fast if degrees else 0.0
 
 
 def magnetic_weight(header: Header) -> float:
@@ -55,7 +57,7 @@ def magnetic_weight(header: Header) -> float:
 def kinetic_weight(header: Header, species: Species) -> float:
     """How many times m v^2 of a species counts in the unit of the electric energy; 0 for one that feels no E."""
     below = 2 * species.kick.value * species.mass
-    return 12 * SIDE * species.charge * header.e_force.value / below if below else 0.0
+    return header.unit_current * species.charge * header.e_force.value / below if below else 0.0
 
 
 def kinetic_energy(frame: Frame) -> float:

@@ -10,7 +10,7 @@ import numpy as np
 from numpy.typing import NDArray
 
 from pictools import units
-from pictools.dump import FAST, Dump, Header
+from pictools.dump import Dump, Header
 from pictools.measure import AXES, Wave, component
 
 PANELS = ("energies", "phase", "orbits", "field", "history", "growth", "damping", "spectrum", "heating")
@@ -153,7 +153,7 @@ def strength(header: Header, name: str, scale: Scale, values: NDArray) -> tuple[
     electron, 2 atan(turn b_force b / 2^20), not in proportion to it."""
     kinds = units.electrons(header)
     if component(name)[0] == "e" and kinds:
-        acceleration = 2 * abs(kinds[0].kick.value) * header.e_force.value / FAST
+        acceleration = 2 * abs(kinds[0].kick.value) * header.e_force.value / header.fast
         return values * (acceleration * scale.time**2 / scale.length), scale.electric
     if component(name)[0] == "b" and kinds and kinds[0].turn.n:
         half = abs(kinds[0].turn.value) * header.b_force.value / 2**20

@@ -11,7 +11,6 @@ from numpy.typing import NDArray
 
 from pictools import theory
 from pictools.deck import DeckError
-from pictools.dump import FAST
 from pictools.limits import AXES
 
 if TYPE_CHECKING:
@@ -101,7 +100,7 @@ class Wave:
         on."""
         p, w, k = self.plasma, self.frequency, self.number
         e, b = np.zeros((2, 3, *reversed(p.cells)), np.int64)
-        electric = self.filament() * FAST / (2 * p.kick.value * p.e_force.value)
+        electric = self.filament() * p.fast / (2 * p.kick.value * p.e_force.value)
         magnetic = electric * 2 * sin(k / 2) / (2 * np.sin(w / 2)) * np.exp(1j * (w + k) / 2)
         axis, x = AXES.index(p.drift_axis), np.arange(p.cells[0])
         e[axis] = np.rint((electric * np.exp(1j * k * x)).real).astype(np.int64)

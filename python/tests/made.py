@@ -6,11 +6,12 @@ from math import prod
 import numpy as np
 
 from pictools.deck import multiplier
-from pictools.dump import FAST, SIDE, Multiplier
+from pictools.dump import Multiplier
 
 # An e of 2^21 is then a force value of 1, and a kick of about 2^-8 makes a plasma frequency of 0.1 with 4 electrons a cell.
 E_FORCE = Multiplier(1, 21)
 UNIT = 2.0**30              # of the fields that are given as floats
+SIDE, FAST = 2**12, 2**24   # of version 1
 
 
 def kick_of(wp: float, a_cell: float) -> float:

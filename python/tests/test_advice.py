@@ -5,7 +5,6 @@ import unittest
 import numpy as np
 
 from pictools import advice
-from pictools.dump import SIDE
 from pictools.plasma import Plasma
 
 GOOD = {"plasma_frequency": 0.1, "thermal_speed": 0.05}
@@ -69,7 +68,7 @@ class Warnings(unittest.TestCase):
         for seed in range(1, 41):
             plasma = Plasma(**choices, seed=seed)
             electric = np.sum((plasma.fields()[0] * plasma.e_force.value)**2)
-            weight = 12 * SIDE * plasma.e_force.value / (2 * abs(plasma.kick.value))
+            weight = plasma.unit_current * plasma.e_force.value / (2 * abs(plasma.kick.value))
             shares.append(electric / (weight * np.sum(plasma.species[0].velocity.astype(float)**2)))
         self.assertLess(abs(np.mean(shares) / advice.start_noise(Plasma(**choices)) - 1), 0.2)
 

@@ -213,7 +213,8 @@ class Reading(unittest.TestCase):
         size = 53 + 96 * 24 + 24 * 3
         ends = 184 + 4 * size
         for place, new, seen, reason in (
-                (0, b"X", 0, "begins"), (7, b"2", 7, "PICDUMP2"), (8, bytes(4), 8, "cells"), (24, bytes(4), 24, "every"),
+                (0, b"X", 0, "begins"), (7, b"3", 7, "PICDUMP3"), (7, b"2", 60, "sub is 2"), (8, bytes(4), 8, "cells"),
+                (24, bytes(4), 24, "every"),
                 (32, b"\0\0\0\x3f", 32, "k of e_to_b"), (60, b"\0\0\0\x11", 60, "species"), (64, b"-", 64, "name"),
                 (124, b"ion" + bytes(29), 124, "second"), (100, bytes(4), 100, "mass"), (120, b"\0\x10\0\1", 120, "particles"),
                 (184, b"G", 184, "record"), (185 + size, b"\0\0\0\3", 185 + size, "due"),

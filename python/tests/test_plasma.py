@@ -11,9 +11,10 @@ from compare import Model
 
 from pictools import units
 from pictools.deck import DeckError, charges, divergence, field_of, multiplier
-from pictools.dump import FAST, Dump, Multiplier
+from pictools.dump import Dump, Multiplier
 from pictools.plasma import Plasma
 
+FAST = 2**24
 SMALL = {"cells": (8, 2, 2), "particles_a_cell": 8, "steps": 2, "every": 1, "plasma_frequency": 0.1}
 
 

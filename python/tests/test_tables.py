@@ -52,7 +52,7 @@ class Tables(unittest.TestCase):
         wp, thermal = units.plasma_frequency(self.dump.header), units.thermal_speed(self.dump[0])
         steps, plasma = self.dump.to_xarray(units="steps"), self.dump.to_xarray(units="plasma")
         kick = abs(self.dump.header.species[0].kick.value) * self.dump.header.e_force.value
-        self.assertTrue(np.allclose(steps.ey, 2 * kick * self.dump.field("e", 1) / dumps.FAST, 1e-9))
+        self.assertTrue(np.allclose(steps.ey, 2 * kick * self.dump.field("e", 1) / self.dump.header.fast, 1e-9))
         turns = [units.gyration(self.dump.header, self.dump.header.species[0], float(b)) for b in self.dump[2].b[2].ravel()]
         self.assertTrue(np.allclose(steps.bz[2].values.ravel(), -2 * np.tan(np.array(turns) / 2), 1e-6))
         self.assertTrue(np.allclose(plasma.ey, steps.ey / (wp * thermal), 1e-9))
