@@ -1,0 +1,2 @@
+mod ContentLaws
+mod EventLaws

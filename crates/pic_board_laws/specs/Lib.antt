@@ -1,0 +1,3 @@
+pub mod StandsFor
+pub mod BoardSteps
+pub mod Laws
