@@ -1,2 +1,4 @@
 mod ContentLaws
 mod EventLaws
+mod FinishLaws
+mod StoodLaws
