@@ -2,3 +2,4 @@ mod ContentLaws
 mod EventLaws
 mod FinishLaws
 mod StoodLaws
+mod StepLaws
