@@ -3,3 +3,4 @@ mod EventLaws
 mod FinishLaws
 mod StoodLaws
 mod StepLaws
+mod ReachLaws

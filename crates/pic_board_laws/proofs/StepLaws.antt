@@ -35,15 +35,12 @@ use Rattle.pic_board_laws.specs.Laws.{LeadsTo, TheBoardGoesOnAsTheCore}
 use Rattle.pic_board_laws.specs.StandsFor.{Stood, StandsFor}
 use Rattle.pic_board_laws.proofs.EventLaws.{HasMarks, Leads, marks_same, no_event, claim_leads, post_leads}
 use Rattle.pic_board_laws.proofs.FinishLaws.{finish_leads}
-use Rattle.pic_board_laws.proofs.StoodLaws.{stood_of, marks_of}
+use Rattle.pic_board_laws.proofs.StoodLaws.{below, below_more, stood_of, marks_of}
 
 -- the marks of a board, by the words and views that it has
 abbrev MarksOf : Opening → ℕ → (ℕ → ℕ → Bool) → (ℕ → Bool) → List ℕ → List View → Type 0
 MarksOf o ticket posted shut words views =
     Marks (record { tiles = tiles_in o; dirs = directions; here = 13; ticket = ticket; from = from_of o; posted = posted; shut = shut }) words views
-
-abbrev below : ℕ → ℕ → Bool
-below ticket t = nat_lt t ticket
 
 -- a core that events lead to with the marks of a board is one that the board stands for
 arrives : (o : Opening) (next : State Slot View) (c : CoreState) (events : List Event) (ticket : ℕ) (posted : ℕ → ℕ → Bool) (shut : ℕ → Bool)
@@ -111,14 +108,8 @@ module _ (o : Opening) (s next : State Slot View) (c : CoreState) (rule : Rule o
           ran = leads.ran;
           stands = leads.stands;
           marks = marks_same o leads.next (at_else n true (below n)) (below (suc n)) rule.posted rule.posted merged merged rule.shut rule.shut
-              (λ k less. more k (ℕ_discrete k n)) (λ r d less dir. refl) (λ r d less dir. refl) (λ k less. refl) leads.marks;
+              (λ k less. below_more n k) (λ r d less dir. refl) (λ r d less dir. refl) (λ k less. refl) leads.marks;
         })
-      where
-        more : (k : ℕ) → Dec (k ≡ n) → at_else n true (below n) k ≡ below (suc n) k
-        more k (yes same) = at_here n k true (below n) same ∙ sym (lt_true k (suc n) (omega (arith, same)))
-        more k (no apart) =
-            at_other n k true (below n) apart ∙ sym (lt_more k n apart)
-            ∙ ap (λ (i : ℕ). nat_lt k i) (let e : n + 1 ≡ suc n = omega arith in e)
 
     -- or past the last tile
     claims_none : T ≤ n → LeadsTo o c [] next

@@ -1,6 +1,8 @@
 -- The marks of a board are those of a core that it stands for.
-use Rattle.std.proofs.Common.{◌≡◌, ℕ, suc, ◌<◌, ◌≤◌, Bool, true, false, nat_lt, nat_eq, List, slice_index, if◌then◌else◌, refl, sym, ap, ◌∙◌, subst, arith, eq-eqb, ne_eqb, true≢false}
+use Rattle.std.proofs.Common.{◌≡◌, ℕ, suc, ◌+◌, ◌<◌, ◌≤◌, Bool, true, false, nat_lt, nat_eq, List, slice_index, if◌then◌else◌, refl, sym, ap, ◌∙◌, subst, arith, eq-eqb, ne_eqb, true≢false}
+use Rattle.std.proofs.Math.Decide.{ℕ_discrete}
 use Rattle.atomic_table.specs.Table.{State}
+use Rattle.pic_core.proofs.TurnLaws.{lt_true, lt_more}
 use Rattle.pic_tile.specs.CoreState.{CoreState, is_posted}
 use Rattle.pic_tile.specs.Directions.{directions}
 use Rattle.pic_yard.specs.declared.opening.Opening.{Opening}
@@ -9,9 +11,20 @@ use Rattle.pic_yard.specs.Contents.{Slot, tiles_in}
 use Rattle.pic_yard.specs.Marks.{Board, Lists, Marks}
 use Rattle.pic_yard.specs.Members.{In, count_below}
 use Rattle.pic_yard.specs.Rule.{board_of, ticket_of}
-use Rattle.pic_yard.proofs.CountLaws.{count_le}
+use Rattle.pic_yard.proofs.CountLaws.{at_else, at_here, at_other, count_le}
 use Rattle.pic_board_laws.specs.StandsFor.{IsPosted, Stood, is_word_of_shut}
 use Rattle.pic_board_laws.proofs.EventLaws.{HasMarks}
+
+-- the numbers below one, and one more
+abbrev pub below : ℕ → ℕ → Bool
+below n k = nat_lt k n
+
+pub below_more : (n k : ℕ) → at_else n true (below n) k ≡ below (suc n) k
+below_more n k = elim (ℕ_discrete k n) [
+  | yes same ↦ at_here n k true (below n) same ∙ sym (lt_true k (suc n) (omega (arith, same)))
+  | no apart ↦
+      at_other n k true (below n) apart ∙ sym (lt_more k n apart) ∙ ap (λ (i : ℕ). nat_lt k i) (let e : n + 1 ≡ suc n = omega arith in e)
+]
 
 both_ways : (a b : Bool) → (a ≡ true → b ≡ true) → (b ≡ true → a ≡ true) → a ≡ b
 both_ways true b forth back = sym (forth refl)
@@ -20,10 +33,6 @@ both_ways false false forth back = refl
 
 module _ (o : Opening) (s : State Slot View) (posted : ℕ → ℕ → Bool) (shut : ℕ → Bool)
     (marks : Marks (board_of o s posted shut) s.words s.views) (c : CoreState) where
-  -- the tiles below the ticket
-  abbrev drawn : ℕ → Bool
-  drawn t = nat_lt t (ticket_of s)
-
   shut_word : (r : ℕ) → r < tiles_in o → is_word_of_shut s r ≡ shut r
   shut_word r below = at (shut r) refl
     where
@@ -53,7 +62,7 @@ module _ (o : Opening) (s : State Slot View) (posted : ℕ → ℕ → Bool) (sh
           let l = marks.owed r d below dir is.claimed e in
           absurd (is.unowed _ l.view l.there l.live l.lists)
 
-  pub stood_of : HasMarks o c drawn posted (λ r d. shut r) shut → Stood o s c
+  pub stood_of : HasMarks o c (below (ticket_of s)) posted (λ r d. shut r) shut → Stood o s c
   stood_of x = record {
     frame = x.frame;
     opening = x.opening;
@@ -66,7 +75,7 @@ module _ (o : Opening) (s : State Slot View) (posted : ℕ → ℕ → Bool) (sh
     shut = λ r below. x.shuts r below ∙ sym (shut_word r below);
   }
 
-  pub marks_of : Stood o s c → HasMarks o c drawn posted (λ r d. shut r) shut
+  pub marks_of : Stood o s c → HasMarks o c (below (ticket_of s)) posted (λ r d. shut r) shut
   marks_of x = record {
     frame = x.frame;
     opening = x.opening;
