@@ -77,35 +77,45 @@ module _ (o : Opening) (f : ℕ → Bool) (p m : ℕ → ℕ → Bool) (h : ℕ 
       subst (λ (k : ℕ). IsMerging c k) (let e : i + 1 ≡ suc i = omega arith in e)
       (merging_next c i (omega (arith, most)) (merging_all c start i (omega (arith, most))))
 
+  -- when all are merged
+  merged_now : (c : CoreState) (x : IsMerging c directions) (q d : ℕ) → d < directions → x.done q d ≡ at_else r (λ e. true) m q d
+  merged_now c x q d inside = elim (ℕ_discrete q r) [
+    | yes same ↦
+        ap (λ (k : ℕ). x.done k d) same ∙ x.before d inside ∙ sym (ap (λ (g : ℕ → Bool). g d) (at_here r q (λ e. true) m same))
+    | no apart ↦ ap (λ (g : ℕ → Bool). g d) (x.others q apart ∙ sym (at_other r q (λ e. true) m apart))
+  ]
+
+  -- the tile is shut
+  shut_next : (c : CoreState) → IsMerging c directions → h r ≡ false
+      → Leads o c (merging r directions ++ (Shut r ∷ [])) f p (at_else r (λ e. true) m) (at_else r true h)
+  shut_next c x free =
+      let end : Leads o x.way.next (Shut r ∷ []) f p x.done (at_else r true h) =
+      shut_leads o x.way.next x.way.stands f p x.done h x.way.marks r below x.before free in
+      record {
+        next = end.next;
+        ran = ran_append c (merging r directions) (Shut r ∷ []) x.way.next end.next x.way.ran end.ran;
+        stands = end.stands;
+        marks = marks_same o end.next f f p p x.done (at_else r (λ e. true) m) (at_else r true h) (at_else r true h)
+            (λ k less. refl) (λ q d less inside. refl) (λ q d less inside. merged_now c x q d inside) (λ k less. refl) end.marks;
+      }
+
   pub finish_leads : (c : CoreState) → Stands c → HasMarks o c f p m h → h r ≡ false
       → Leads o c (finishing r) f p (at_else r (λ e. true) m) (at_else r true h)
   finish_leads c stands marks free =
       let one : Leads o c (Merge r here ∷ []) f p (posts m r here) h =
       merge_leads o c stands f p m h marks r here below (omega arith) all (none here (omega arith)) (inl refl) in
-      let many : IsMerging one.next directions = merging_all one.next (record {
+      let rest : Leads o one.next (merging r directions ++ (Shut r ∷ [])) f p (at_else r (λ e. true) m) (at_else r true h) =
+      shut_next one.next (merging_all one.next (record {
         done = posts m r here;
         way = no_event o one.next one.stands f p (posts m r here) h one.marks;
         others = λ q apart. posts_row m r here q apart;
         first = posts_it m r here r here (refl, refl);
         before = λ e less. absurd (omega (arith, less));
         after = λ e past inside other. posts_other m r here r e (λ both. other both.1) ∙ none e inside;
-      }) directions (omega arith) in
-      let two : CoreState = many.way.next in
-      let end : Leads o two (Shut r ∷ []) f p many.done (at_else r true h) =
-      shut_leads o two many.way.stands f p many.done h many.way.marks r below many.before free in
+      }) directions (omega arith)) free in
       record {
-        next = end.next;
-        ran = ran_append c (Merge r here ∷ []) (merging r directions ++ (Shut r ∷ [])) one.next end.next one.ran
-            (ran_append one.next (merging r directions) (Shut r ∷ []) two end.next many.way.ran end.ran);
-        stands = end.stands;
-        marks = marks_same o end.next f f p p many.done (at_else r (λ e. true) m) (at_else r true h) (at_else r true h)
-            (λ k less. refl) (λ q d less inside. refl)
-            (λ q d less inside. elim (ℕ_discrete q r) [
-              | yes same ↦
-                  ap (λ (k : ℕ). many.done k d) same ∙ many.before d inside
-                  ∙ sym (ap (λ (g : ℕ → Bool). g d) (at_here r q (λ e. true) m same))
-              | no apart ↦
-                  ap (λ (g : ℕ → Bool). g d) (many.others q apart) ∙ sym (ap (λ (g : ℕ → Bool). g d) (at_other r q (λ e. true) m apart))
-            ])
-            (λ k less. refl) end.marks;
+        next = rest.next;
+        ran = ran_append c (Merge r here ∷ []) (merging r directions ++ (Shut r ∷ [])) one.next rest.next one.ran rest.ran;
+        stands = rest.stands;
+        marks = rest.marks;
       }

@@ -2,5 +2,8 @@ mod ContentLaws
 mod EventLaws
 mod FinishLaws
 mod StoodLaws
+mod StepWordLaws
 mod StepLaws
 mod ReachLaws
+mod HistoryLaws
+mod EndsLaws

@@ -6,11 +6,12 @@ use Rattle.std.proofs.Math.Nat.{mod-eq_of_lt}
 use native.Mathlib.Decide.{dec_le}
 use Rattle.atomic_table.specs.Table.{State, homes_after}
 use Rattle.pic_tile.specs.CoreState.{CoreState, Stands}
-use Rattle.pic_tile.specs.Directions.{directions}
+use Rattle.pic_tile.specs.Directions.{directions, here}
 use Rattle.pic_core.specs.declared.event.Event.{Event}
 use Rattle.pic_core.specs.declared.event.Event.TheVariants.{Claim, Post}
 use Rattle.pic_core.specs.Events.{Ran}
 use Rattle.pic_core.specs.InTurn.{finishing}
+use Rattle.pic_core.proofs.RunLaws.{ran_none}
 use Rattle.pic_core.proofs.TurnLaws.{lt_true, lt_false, lt_more}
 use Rattle.pic_yard.specs.declared.opening.Opening.{Opening}
 use Rattle.pic_yard.specs.declared.view.View.{View}
@@ -35,12 +36,13 @@ use Rattle.pic_board_laws.specs.Laws.{LeadsTo, TheBoardGoesOnAsTheCore}
 use Rattle.pic_board_laws.specs.StandsFor.{Stood, StandsFor}
 use Rattle.pic_board_laws.proofs.EventLaws.{HasMarks, Leads, marks_same, no_event, claim_leads, post_leads}
 use Rattle.pic_board_laws.proofs.FinishLaws.{finish_leads}
+use Rattle.pic_board_laws.proofs.StepWordLaws.{draw_words, draw_ticket, stay, found, post_words, post_ticket, post_arrives, back_words, back_ticket, back_arrives, split_words, join_words}
 use Rattle.pic_board_laws.proofs.StoodLaws.{below, below_more, stood_of, marks_of}
 
 -- the marks of a board, by the words and views that it has
 abbrev MarksOf : Opening → ℕ → (ℕ → ℕ → Bool) → (ℕ → Bool) → List ℕ → List View → Type 0
 MarksOf o ticket posted shut words views =
-    Marks (record { tiles = tiles_in o; dirs = directions; here = 13; ticket = ticket; from = from_of o; posted = posted; shut = shut }) words views
+    Marks (record { tiles = tiles_in o; dirs = directions; here = here; ticket = ticket; from = from_of o; posted = posted; shut = shut }) words views
 
 -- a core that events lead to with the marks of a board is one that the board stands for
 arrives : (o : Opening) (next : State Slot View) (c : CoreState) (events : List Event) (ticket : ℕ) (posted : ℕ → ℕ → Bool) (shut : ℕ → Bool)
@@ -73,37 +75,33 @@ module _ (o : Opening) (s next : State Slot View) (c : CoreState) (rule : Rule o
   marks : HasMarks o c (below n) rule.posted merged rule.shut
   marks = marks_of o s rule.posted rule.shut rule.marks c x.stood
 
-  long : length s.words ≡ suc T
-  long = rule.words
-
   -- a draw
   module _ (step : IsDraw o s next) where
     abbrev later : List ℕ
     later = set s.words 0 (suc n)
 
-    draw_words : next.words ≡ later
-    draw_words = ap (λ (z : State Slot View). z.words) step.is
-        ∙ ap (λ (k : ℕ). set s.words 0 k) (next_word o s rule step.id step.me step.sits step.there)
+    words : next.words ≡ later
+    words = draw_words o s next rule step
+
+    ticket : ticket_of next ≡ suc n
+    ticket = draw_ticket o s next rule step
+
+    same : ArrivalsStay T s.words later
+    same = stay o s next rule step
 
     draw_views : next.views ≡ set s.views step.id step.after
     draw_views = ap (λ (z : State Slot View). z.views) step.is
-
-    pub draw_ticket : ticket_of next ≡ suc n
-    draw_ticket = ap (λ (ws : List ℕ). slice_index ws 0) draw_words ∙ word_now s.words 0 (suc n) (omega (arith, long))
-
-    stay : ArrivalsStay T s.words later
-    stay r tile = word_still s.words 0 (suc r) (suc n) (λ e. omega (arith, e))
 
     -- of the number of a tile
     claims_it : n < T → LeadsTo o c (Claim n ∷ []) next
     claims_it tile =
         let told : Claimed o step.me n (step.after, _) = step.told.claimed tile in
         let after : View = did_claim (to_of o) directions n step.me.0 in
-        let now = claim_marks board (to_of o) (ways_of o) s.words later s.views rule.marks step.id step.me.0 step.there step.sits.live stay tile in
+        let now = claim_marks board (to_of o) (ways_of o) s.words later s.views rule.marks step.id step.me.0 step.there step.sits.live same tile in
         let leads : Leads o c (Claim n ∷ []) (at_else n true (below n)) rule.posted merged rule.shut =
         claim_leads o c x.stands (below n) rule.posted merged rule.shut marks n tile (lt_false n n (omega arith)) in
-        arrives o next c (Claim n ∷ []) (suc n) rule.posted rule.shut later (set s.views step.id after) draw_words
-        (draw_views ∙ ap (λ (v : View). set s.views step.id v) told.view) draw_ticket now (record {
+        arrives o next c (Claim n ∷ []) (suc n) rule.posted rule.shut later (set s.views step.id after) words
+        (draw_views ∙ ap (λ (v : View). set s.views step.id v) told.view) ticket now (record {
           next = leads.next;
           ran = leads.ran;
           stands = leads.stands;
@@ -114,18 +112,17 @@ module _ (o : Opening) (s next : State Slot View) (c : CoreState) (rule : Rule o
     -- or past the last tile
     claims_none : T ≤ n → LeadsTo o c [] next
     claims_none past =
-        let told : (step.after, _) ≡ (was_told n step.me.0, step.me.1) = step.told.told past in
+        let earlier : (k : ℕ) → k < T → below n k ≡ below (suc n) k =
+        λ k less. lt_true k n (omega (arith, less, past)) ∙ sym (lt_true k (suc n) (omega (arith, less, past))) in
         let after : View = was_told n step.me.0 in
-        let now = told_marks board (to_of o) (ways_of o) s.words later s.views rule.marks step.id step.me.0 step.there step.sits.live stay (suc n) true past in
-        let none : Leads o c [] (below n) rule.posted merged rule.shut = no_event o c x.stands (below n) rule.posted merged rule.shut marks in
-        arrives o next c [] (suc n) rule.posted rule.shut later (set s.views step.id after) draw_words
-        (draw_views ∙ ap (λ (v : View). set s.views step.id v) (λ i. (told i).0)) draw_ticket now (record {
-          next = none.next;
-          ran = none.ran;
-          stands = none.stands;
-          marks = marks_same o none.next (below n) (below (suc n)) rule.posted rule.posted merged merged rule.shut rule.shut
-              (λ k less. lt_true k n (omega (arith, less, past)) ∙ sym (lt_true k (suc n) (omega (arith, less, past))))
-              (λ r d less dir. refl) (λ r d less dir. refl) (λ k less. refl) none.marks;
+        let now = told_marks board (to_of o) (ways_of o) s.words later s.views rule.marks step.id step.me.0 step.there step.sits.live same (suc n) true past in
+        arrives o next c [] (suc n) rule.posted rule.shut later (set s.views step.id after) words
+        (draw_views ∙ ap (λ (v : View). set s.views step.id v) (λ i. (step.told.told past i).0)) ticket now (record {
+          next = c;
+          ran = ran_none c;
+          stands = x.stands;
+          marks = marks_same o c (below n) (below (suc n)) rule.posted rule.posted merged merged rule.shut rule.shut
+              earlier (λ r d less dir. refl) (λ r d less dir. refl) (λ k less. refl) marks;
         })
 
     pub draw_goes : LeadsTo o c (events_of o s next (steps.draws step)) next
@@ -142,70 +139,40 @@ module _ (o : Opening) (s next : State Slot View) (c : CoreState) (rule : Rule o
     abbrev count : ℕ
     count = count_below (rule.posted step.r) directions
 
-    abbrev post_later : List ℕ
-    post_later = set s.words (suc step.r) (suc count)
-
-    owed : IsOwed T directions n (from_of o) rule.posted rule.marks.claimer step.r step.d step.id
+    abbrev owed : IsOwed T directions n (from_of o) rule.posted rule.marks.claimer step.r step.d step.id
     owed = rule.marks.owes step.id step.me.0 step.there step.ready.live step.r step.d step.ready.owes
-
-    found : slice_index s.words (suc step.r) ≡ count
-    found = found_word board s.words s.words s.views rule.marks step.id step.me.0 step.there step.ready.live step.r step.d step.ready.owes
-
-    post_words : next.words ≡ post_later
-    post_words =
-        let few : slice_index s.words (suc step.r) < directions = step.told.few in
-        let small : (slice_index s.words (suc step.r) + 1) % 2 ^ 64 ≡ suc (slice_index s.words (suc step.r)) = mod-eq_of_lt (omega (arith, few)) ∙ omega arith in
-        ap (λ (z : State Slot View). z.words) step.is ∙ ap (λ (k : ℕ). set s.words (suc step.r) k) (small ∙ ap (λ (k : ℕ). suc k) found)
-
-    pub post_ticket : ticket_of next ≡ n
-    post_ticket = ap (λ (ws : List ℕ). slice_index ws 0) post_words ∙ word_still s.words (suc step.r) 0 (suc count) (λ e. omega (arith, e))
-
-    post_arrives : OneArrives T step.r (suc count) s.words post_later
-    post_arrives = record {
-      now = word_now s.words (suc step.r) (suc count) (let tile : step.r < T = owed.tile in omega (arith, long, tile));
-      others = λ k tile apart. word_still s.words (suc step.r) (suc k) (suc count) (λ e. apart (omega (arith, e)));
-    }
 
     pub post_goes : LeadsTo o c (events_of o s next (steps.posts step)) next
     post_goes =
+        let later : List ℕ = set s.words (suc step.r) (suc count) in
         let after : View = did_post directions step.r step.d count step.me.0 in
-        let now = post_marks board s.words post_later s.views rule.marks step.id step.me.0 step.there step.ready.live step.r step.d step.ready.owes post_arrives in
-        let view : step.after ≡ after = step.told.view ∙ ap (λ (k : ℕ). did_post directions step.r step.d k step.me.0) found in
-        arrives o next c (Post (from_of o step.r step.d) step.d ∷ []) n (posts rule.posted step.r step.d) rule.shut post_later (set s.views step.id after) post_words
-        (ap (λ (z : State Slot View). z.views) step.is ∙ ap (λ (v : View). set s.views step.id v) view) post_ticket now
+        let now = post_marks board s.words later s.views rule.marks step.id step.me.0 step.there step.ready.live step.r step.d step.ready.owes
+        (post_arrives o s next rule step) in
+        let view : step.after ≡ after = step.told.view ∙ ap (λ (k : ℕ). did_post directions step.r step.d k step.me.0) (found o s next rule step) in
+        arrives o next c (Post (from_of o step.r step.d) step.d ∷ []) n (posts rule.posted step.r step.d) rule.shut later (set s.views step.id after)
+        (post_words o s next rule step)
+        (ap (λ (z : State Slot View). z.views) step.is ∙ ap (λ (v : View). set s.views step.id v) view) (post_ticket o s next rule step) now
         (post_leads o c x.stands (below n) rule.posted merged rule.shut marks step.r step.d owed.tile owed.dir
         (lt_true (from_of o step.r step.d) n owed.sender) owed.free)
 
   -- a finished tile given back
   module _ (step : IsReturn o s next) where
-    abbrev back_later : List ℕ
-    back_later = set s.words (suc step.r) (suc directions)
-
-    right : IsRight T directions rule.posted rule.shut rule.marks.finisher step.r step.id
+    abbrev right : IsRight T directions rule.posted rule.shut rule.marks.finisher step.r step.id
     right = rule.marks.rights step.id step.me.0 step.there step.ready.live step.r step.ready.right
-
-    back_words : next.words ≡ back_later
-    back_words = ap (λ (z : State Slot View). z.words) step.is
-
-    pub back_ticket : ticket_of next ≡ n
-    back_ticket = ap (λ (ws : List ℕ). slice_index ws 0) back_words ∙ word_still s.words (suc step.r) 0 (suc directions) (λ e. omega (arith, e))
-
-    back_arrives : OneArrives T step.r (suc directions) s.words back_later
-    back_arrives = record {
-      now = word_now s.words (suc step.r) (suc directions) (let tile : step.r < T = right.tile in omega (arith, long, tile));
-      others = λ k tile apart. word_still s.words (suc step.r) (suc k) (suc directions) (λ e. apart (omega (arith, e)));
-    }
 
     pub back_goes : LeadsTo o c (finishing step.r) next
     back_goes =
+        let later : List ℕ = set s.words (suc step.r) (suc directions) in
         let after : View = gave_back step.r step.me.0 in
         let closed : ℕ → Bool = at_else step.r true rule.shut in
-        let now = back_marks board s.words back_later s.views rule.marks step.id step.me.0 step.there step.ready.live step.r step.ready.right back_arrives in
+        let now = back_marks board s.words later s.views rule.marks step.id step.me.0 step.there step.ready.live step.r step.ready.right
+        (back_arrives o s next rule step) in
         let leads : Leads o c (finishing step.r) (below n) rule.posted (at_else step.r (λ e. true) merged) closed =
         finish_leads o (below n) rule.posted merged rule.shut step.r right.tile (λ e dir. count_all (rule.posted step.r) directions e right.all dir)
         (λ e dir. right.open_yet) c x.stands marks right.open_yet in
-        arrives o next c (finishing step.r) n rule.posted closed back_later (set s.views step.id after) back_words
-        (ap (λ (z : State Slot View). z.views) step.is ∙ ap (λ (v : View). set s.views step.id v) (λ i. (step.told i).0)) back_ticket now (record {
+        arrives o next c (finishing step.r) n rule.posted closed later (set s.views step.id after)
+        (back_words o s next rule step)
+        (ap (λ (z : State Slot View). z.views) step.is ∙ ap (λ (v : View). set s.views step.id v) (λ i. (step.told i).0)) (back_ticket o s next rule step) now (record {
           next = leads.next;
           ran = leads.ran;
           stands = leads.stands;
@@ -227,12 +194,12 @@ module _ (o : Opening) (s next : State Slot View) (c : CoreState) (rule : Rule o
 
   pub split_goes : IsSplit s next → LeadsTo o c [] next
   split_goes step =
-      stays _ (ap (λ (z : State Slot View). z.words) step.is) (ap (λ (z : State Slot View). z.views) step.is)
+      stays _ (split_words o s next rule step) (ap (λ (z : State Slot View). z.views) step.is)
       (split_marks board s.words s.views rule.marks step.id step.v step.there step.live step.x)
 
   pub join_goes : IsJoin s next → LeadsTo o c [] next
   join_goes step =
-      stays _ (ap (λ (z : State Slot View). z.words) step.is) (ap (λ (z : State Slot View). z.views) step.is)
+      stays _ (join_words o s next rule step) (ap (λ (z : State Slot View). z.views) step.is)
       (join_marks board s.words s.views rule.marks step.id step.v step.there step.live step.other step.u step.apart step.taken step.owes step.rights)
 
 pub goes_on : TheBoardGoesOnAsTheCore

@@ -18,7 +18,7 @@ use Rattle.pic_yard.specs.Rule.{ticket_of}
 use Rattle.pic_yard.specs.Sits.{Sits, Drawn}
 use Rattle.pic_yard.specs.Steps.{gave_number, newcomer, took_in, spent_view}
 
--- what every word takes up
+-- a word that counts one more
 abbrev pub one_more : ℕ → ℕ
 one_more n = (n + 1) % 2 ^ 64
 
