@@ -25,25 +25,25 @@ record DrawsTheTicket (o : Opening) (s next : State Slot View) (step : IsStep o 
   differ : Differ (numbers_of o s next step)
 
 draws_the_ticket : (o : Opening) (s next : State Slot View) → Rule o s → (step : IsStep o s next) → DrawsTheTicket o s next step
-draws_the_ticket o s next rule (steps.draws step) =
-    let now : ticket_of next ≡ suc (ticket_of s) = draw_ticket o s next rule step in
+draws_the_ticket o s next rule (steps.draws id me step) =
+    let now : ticket_of next ≡ suc (ticket_of s) = draw_ticket o s next rule id me step in
     record {
       rises = omega (arith, now);
       is = λ x had. elim had [ inl same ↦ same | inr more ↦ elim more [ ] ];
       passed = λ x had. elim had [ inl same ↦ omega (arith, now, same) | inr more ↦ elim more [ ] ];
       differ = ((λ more. more), tt);
     }
-draws_the_ticket o s next rule (steps.posts step) =
-    let now : ticket_of next ≡ ticket_of s = post_ticket o s next rule step in
+draws_the_ticket o s next rule (steps.posts id me r d parcel slots step) =
+    let now : ticket_of next ≡ ticket_of s = post_ticket o s next rule id me r d parcel slots step in
     record { rises = omega (arith, now); is = λ x had. elim had [ ]; passed = λ x had. elim had [ ]; differ = tt }
-draws_the_ticket o s next rule (steps.returns step) =
-    let now : ticket_of next ≡ ticket_of s = back_ticket o s next rule step in
+draws_the_ticket o s next rule (steps.returns id me r tile slots step) =
+    let now : ticket_of next ≡ ticket_of s = back_ticket o s next rule id me r tile slots step in
     record { rises = omega (arith, now); is = λ x had. elim had [ ]; passed = λ x had. elim had [ ]; differ = tt }
-draws_the_ticket o s next rule (steps.splits step) =
-    let now : ticket_of next ≡ ticket_of s = ap (λ (ws : List ℕ). slice_index ws 0) (split_words o s next rule step) in
+draws_the_ticket o s next rule (steps.splits id v x step) =
+    let now : ticket_of next ≡ ticket_of s = ap (λ (ws : List ℕ). slice_index ws 0) (split_words o s next rule id v x step) in
     record { rises = omega (arith, now); is = λ x had. elim had [ ]; passed = λ x had. elim had [ ]; differ = tt }
-draws_the_ticket o s next rule (steps.joins step) =
-    let now : ticket_of next ≡ ticket_of s = ap (λ (ws : List ℕ). slice_index ws 0) (join_words o s next rule step) in
+draws_the_ticket o s next rule (steps.joins id v other u step) =
+    let now : ticket_of next ≡ ticket_of s = ap (λ (ws : List ℕ). slice_index ws 0) (join_words o s next rule id v other u step) in
     record { rises = omega (arith, now); is = λ x had. elim had [ ]; passed = λ x had. elim had [ ]; differ = tt }
 
 -- what is drawn on the way isn't below the ticket

@@ -7,3 +7,4 @@ mod StepLaws
 mod ReachLaws
 mod HistoryLaws
 mod EndsLaws
+mod AllowLaws

@@ -4,7 +4,7 @@ use Rattle.std.proofs.Common.{refl, sym, ap, ◌∙◌, subst, arith}
 use Rattle.std.proofs.Math.Decide.{ℕ_discrete}
 use Rattle.std.proofs.Math.Nat.{mod-eq_of_lt}
 use native.Mathlib.Decide.{dec_le}
-use Rattle.atomic_table.specs.Table.{State, homes_after}
+use Rattle.atomic_table.specs.Table.{State, Me}
 use Rattle.pic_tile.specs.CoreState.{CoreState, Stands}
 use Rattle.pic_tile.specs.Directions.{directions, here}
 use Rattle.pic_core.specs.declared.event.Event.{Event}
@@ -76,32 +76,32 @@ module _ (o : Opening) (s next : State Slot View) (c : CoreState) (rule : Rule o
   marks = marks_of o s rule.posted rule.shut rule.marks c x.stood
 
   -- a draw
-  module _ (step : IsDraw o s next) where
+  module _ (id : ℕ) (me : Me Slot View) (step : IsDraw o s next id me) where
     abbrev later : List ℕ
     later = set s.words 0 (suc n)
 
     words : next.words ≡ later
-    words = draw_words o s next rule step
+    words = draw_words o s next rule id me step
 
     ticket : ticket_of next ≡ suc n
-    ticket = draw_ticket o s next rule step
+    ticket = draw_ticket o s next rule id me step
 
     same : ArrivalsStay T s.words later
-    same = stay o s next rule step
+    same = stay o s next rule id me step
 
-    draw_views : next.views ≡ set s.views step.id step.after
+    draw_views : next.views ≡ set s.views id step.after
     draw_views = ap (λ (z : State Slot View). z.views) step.is
 
     -- of the number of a tile
     claims_it : n < T → LeadsTo o c (Claim n ∷ []) next
     claims_it tile =
-        let told : Claimed o step.me n (step.after, _) = step.told.claimed tile in
-        let after : View = did_claim (to_of o) directions n step.me.0 in
-        let now = claim_marks board (to_of o) (ways_of o) s.words later s.views rule.marks step.id step.me.0 step.there step.sits.live same tile in
+        let told : Claimed o me n (step.after, _) = step.told.claimed tile in
+        let after : View = did_claim (to_of o) directions n me.0 in
+        let now = claim_marks board (to_of o) (ways_of o) s.words later s.views rule.marks id me.0 step.there step.sits.live same tile in
         let leads : Leads o c (Claim n ∷ []) (at_else n true (below n)) rule.posted merged rule.shut =
         claim_leads o c x.stands (below n) rule.posted merged rule.shut marks n tile (lt_false n n (omega arith)) in
-        arrives o next c (Claim n ∷ []) (suc n) rule.posted rule.shut later (set s.views step.id after) words
-        (draw_views ∙ ap (λ (v : View). set s.views step.id v) told.view) ticket now (record {
+        arrives o next c (Claim n ∷ []) (suc n) rule.posted rule.shut later (set s.views id after) words
+        (draw_views ∙ ap (λ (v : View). set s.views id v) told.view) ticket now (record {
           next = leads.next;
           ran = leads.ran;
           stands = leads.stands;
@@ -114,10 +114,10 @@ module _ (o : Opening) (s next : State Slot View) (c : CoreState) (rule : Rule o
     claims_none past =
         let earlier : (k : ℕ) → k < T → below n k ≡ below (suc n) k =
         λ k less. lt_true k n (omega (arith, less, past)) ∙ sym (lt_true k (suc n) (omega (arith, less, past))) in
-        let after : View = was_told n step.me.0 in
-        let now = told_marks board (to_of o) (ways_of o) s.words later s.views rule.marks step.id step.me.0 step.there step.sits.live same (suc n) true past in
-        arrives o next c [] (suc n) rule.posted rule.shut later (set s.views step.id after) words
-        (draw_views ∙ ap (λ (v : View). set s.views step.id v) (λ i. (step.told.told past i).0)) ticket now (record {
+        let after : View = was_told n me.0 in
+        let now = told_marks board (to_of o) (ways_of o) s.words later s.views rule.marks id me.0 step.there step.sits.live same (suc n) true past in
+        arrives o next c [] (suc n) rule.posted rule.shut later (set s.views id after) words
+        (draw_views ∙ ap (λ (v : View). set s.views id v) (λ i. (step.told.told past i).0)) ticket now (record {
           next = c;
           ran = ran_none c;
           stands = x.stands;
@@ -125,7 +125,7 @@ module _ (o : Opening) (s next : State Slot View) (c : CoreState) (rule : Rule o
               earlier (λ r d less dir. refl) (λ r d less dir. refl) (λ k less. refl) marks;
         })
 
-    pub draw_goes : LeadsTo o c (events_of o s next (steps.draws step)) next
+    pub draw_goes : LeadsTo o c (events_of o s next (steps.draws id me step)) next
     draw_goes = elim (dec_le T n) [
       | yes past ↦
           subst (λ (b : Bool). LeadsTo o c (if b then Claim n ∷ [] else []) next) (sym (lt_false n T past)) (claims_none past)
@@ -135,56 +135,58 @@ module _ (o : Opening) (s next : State Slot View) (c : CoreState) (rule : Rule o
     ]
 
   -- a post
-  module _ (step : IsPost o s next) where
+  module _ (id : ℕ) (me : Me Slot View) (r d : ℕ) (parcel : Slot) (slots : List (ℕ × Slot))
+      (step : IsPost o s next id me r d parcel slots) where
     abbrev count : ℕ
-    count = count_below (rule.posted step.r) directions
+    count = count_below (rule.posted r) directions
 
-    abbrev owed : IsOwed T directions n (from_of o) rule.posted rule.marks.claimer step.r step.d step.id
-    owed = rule.marks.owes step.id step.me.0 step.there step.ready.live step.r step.d step.ready.owes
+    abbrev owed : IsOwed T directions n (from_of o) rule.posted rule.marks.claimer r d id
+    owed = rule.marks.owes id me.0 step.there step.ready.live r d step.ready.owes
 
-    pub post_goes : LeadsTo o c (events_of o s next (steps.posts step)) next
+    pub post_goes : LeadsTo o c (events_of o s next (steps.posts id me r d parcel slots step)) next
     post_goes =
-        let later : List ℕ = set s.words (suc step.r) (suc count) in
-        let after : View = did_post directions step.r step.d count step.me.0 in
-        let now = post_marks board s.words later s.views rule.marks step.id step.me.0 step.there step.ready.live step.r step.d step.ready.owes
-        (post_arrives o s next rule step) in
-        let view : step.after ≡ after = step.told.view ∙ ap (λ (k : ℕ). did_post directions step.r step.d k step.me.0) (found o s next rule step) in
-        arrives o next c (Post (from_of o step.r step.d) step.d ∷ []) n (posts rule.posted step.r step.d) rule.shut later (set s.views step.id after)
-        (post_words o s next rule step)
-        (ap (λ (z : State Slot View). z.views) step.is ∙ ap (λ (v : View). set s.views step.id v) view) (post_ticket o s next rule step) now
-        (post_leads o c x.stands (below n) rule.posted merged rule.shut marks step.r step.d owed.tile owed.dir
-        (lt_true (from_of o step.r step.d) n owed.sender) owed.free)
+        let later : List ℕ = set s.words (suc r) (suc count) in
+        let after : View = did_post directions r d count me.0 in
+        let now = post_marks board s.words later s.views rule.marks id me.0 step.there step.ready.live r d step.ready.owes
+        (post_arrives o s next rule id me r d parcel slots step) in
+        let view : step.after ≡ after = step.told.view ∙ ap (λ (k : ℕ). did_post directions r d k me.0) (found o s next rule id me r d parcel slots step) in
+        arrives o next c (Post (from_of o r d) d ∷ []) n (posts rule.posted r d) rule.shut later (set s.views id after)
+        (post_words o s next rule id me r d parcel slots step)
+        (ap (λ (z : State Slot View). z.views) step.is ∙ ap (λ (v : View). set s.views id v) view) (post_ticket o s next rule id me r d parcel slots step) now
+        (post_leads o c x.stands (below n) rule.posted merged rule.shut marks r d owed.tile owed.dir
+        (lt_true (from_of o r d) n owed.sender) owed.free)
 
   -- a finished tile given back
-  module _ (step : IsReturn o s next) where
-    abbrev right : IsRight T directions rule.posted rule.shut rule.marks.finisher step.r step.id
-    right = rule.marks.rights step.id step.me.0 step.there step.ready.live step.r step.ready.right
+  module _ (id : ℕ) (me : Me Slot View) (r : ℕ) (tile : Slot) (slots : List (ℕ × Slot))
+      (step : IsReturn o s next id me r tile slots) where
+    abbrev right : IsRight T directions rule.posted rule.shut rule.marks.finisher r id
+    right = rule.marks.rights id me.0 step.there step.ready.live r step.ready.right
 
-    pub back_goes : LeadsTo o c (finishing step.r) next
+    pub back_goes : LeadsTo o c (finishing r) next
     back_goes =
-        let later : List ℕ = set s.words (suc step.r) (suc directions) in
-        let after : View = gave_back step.r step.me.0 in
-        let closed : ℕ → Bool = at_else step.r true rule.shut in
-        let now = back_marks board s.words later s.views rule.marks step.id step.me.0 step.there step.ready.live step.r step.ready.right
-        (back_arrives o s next rule step) in
-        let leads : Leads o c (finishing step.r) (below n) rule.posted (at_else step.r (λ e. true) merged) closed =
-        finish_leads o (below n) rule.posted merged rule.shut step.r right.tile (λ e dir. count_all (rule.posted step.r) directions e right.all dir)
+        let later : List ℕ = set s.words (suc r) (suc directions) in
+        let after : View = gave_back r me.0 in
+        let closed : ℕ → Bool = at_else r true rule.shut in
+        let now = back_marks board s.words later s.views rule.marks id me.0 step.there step.ready.live r step.ready.right
+        (back_arrives o s next rule id me r tile slots step) in
+        let leads : Leads o c (finishing r) (below n) rule.posted (at_else r (λ e. true) merged) closed =
+        finish_leads o (below n) rule.posted merged rule.shut r right.tile (λ e dir. count_all (rule.posted r) directions e right.all dir)
         (λ e dir. right.open_yet) c x.stands marks right.open_yet in
-        arrives o next c (finishing step.r) n rule.posted closed later (set s.views step.id after)
-        (back_words o s next rule step)
-        (ap (λ (z : State Slot View). z.views) step.is ∙ ap (λ (v : View). set s.views step.id v) (λ i. (step.told i).0)) (back_ticket o s next rule step) now (record {
+        arrives o next c (finishing r) n rule.posted closed later (set s.views id after)
+        (back_words o s next rule id me r tile slots step)
+        (ap (λ (z : State Slot View). z.views) step.is ∙ ap (λ (v : View). set s.views id v) (λ i. (step.told i).0)) (back_ticket o s next rule id me r tile slots step) now (record {
           next = leads.next;
           ran = leads.ran;
           stands = leads.stands;
-          marks = marks_same o leads.next (below n) (below n) rule.posted rule.posted (at_else step.r (λ e. true) merged) (λ r d. closed r) closed closed
-              (λ k less. refl) (λ r d less dir. refl) (λ r d less dir. row r d (ℕ_discrete r step.r)) (λ k less. refl) leads.marks;
+          marks = marks_same o leads.next (below n) (below n) rule.posted rule.posted (at_else r (λ e. true) merged) (λ q d. closed q) closed closed
+              (λ k less. refl) (λ q d less dir. refl) (λ q d less dir. row q d (ℕ_discrete q r)) (λ k less. refl) leads.marks;
         })
       where
-        row : (r d : ℕ) → Dec (r ≡ step.r) → at_else step.r (λ e. true) merged r d ≡ at_else step.r true rule.shut r
-        row r d (yes same) =
-            ap (λ (g : ℕ → Bool). g d) (at_here step.r r (λ e. true) merged same) ∙ sym (at_here step.r r true rule.shut same)
-        row r d (no apart) =
-            ap (λ (g : ℕ → Bool). g d) (at_other step.r r (λ e. true) merged apart) ∙ sym (at_other step.r r true rule.shut apart)
+        row : (q d : ℕ) → Dec (q ≡ r) → at_else r (λ e. true) merged q d ≡ at_else r true rule.shut q
+        row q d (yes same) =
+            ap (λ (g : ℕ → Bool). g d) (at_here r q (λ e. true) merged same) ∙ sym (at_here r q true rule.shut same)
+        row q d (no apart) =
+            ap (λ (g : ℕ → Bool). g d) (at_other r q (λ e. true) merged apart) ∙ sym (at_other r q true rule.shut apart)
 
   -- a seat made, and one taken in: no word changes, and no parcel is owed that was not
   stays : (views : List View) → next.words ≡ s.words → next.views ≡ views → MarksOf o n rule.posted rule.shut s.words views → LeadsTo o c [] next
@@ -192,19 +194,19 @@ module _ (o : Opening) (s next : State Slot View) (c : CoreState) (rule : Rule o
       arrives o next c [] n rule.posted rule.shut s.words views words same (ap (λ (ws : List ℕ). slice_index ws 0) words) now
       (no_event o c x.stands (below n) rule.posted merged rule.shut marks)
 
-  pub split_goes : IsSplit s next → LeadsTo o c [] next
-  split_goes step =
-      stays _ (split_words o s next rule step) (ap (λ (z : State Slot View). z.views) step.is)
-      (split_marks board s.words s.views rule.marks step.id step.v step.there step.live step.x)
+  pub split_goes : (id : ℕ) (v : View) (k : ℕ) → IsSplit o s next id v k → LeadsTo o c [] next
+  split_goes id v k step =
+      stays _ (split_words o s next rule id v k step) (ap (λ (z : State Slot View). z.views) step.is)
+      (split_marks board s.words s.views rule.marks id v step.there step.live k)
 
-  pub join_goes : IsJoin s next → LeadsTo o c [] next
-  join_goes step =
-      stays _ (join_words o s next rule step) (ap (λ (z : State Slot View). z.views) step.is)
-      (join_marks board s.words s.views rule.marks step.id step.v step.there step.live step.other step.u step.apart step.taken step.owes step.rights)
+  pub join_goes : (id : ℕ) (v : View) (other : ℕ) (u : View) → IsJoin o s next id v other u → LeadsTo o c [] next
+  join_goes id v other u step =
+      stays _ (join_words o s next rule id v other u step) (ap (λ (z : State Slot View). z.views) step.is)
+      (join_marks board s.words s.views rule.marks id v step.there step.live other u step.apart step.taken step.owes step.rights)
 
 pub goes_on : TheBoardGoesOnAsTheCore
-goes_on o s next c rule x (steps.draws step) = draw_goes o s next c rule x step
-goes_on o s next c rule x (steps.posts step) = post_goes o s next c rule x step
-goes_on o s next c rule x (steps.returns step) = back_goes o s next c rule x step
-goes_on o s next c rule x (steps.splits step) = split_goes o s next c rule x step
-goes_on o s next c rule x (steps.joins step) = join_goes o s next c rule x step
+goes_on o s next c rule x (steps.draws id me step) = draw_goes o s next c rule x id me step
+goes_on o s next c rule x (steps.posts id me r d parcel slots step) = post_goes o s next c rule x id me r d parcel slots step
+goes_on o s next c rule x (steps.returns id me r tile slots step) = back_goes o s next c rule x id me r tile slots step
+goes_on o s next c rule x (steps.splits id v k step) = split_goes o s next c rule x id v k step
+goes_on o s next c rule x (steps.joins id v other u step) = join_goes o s next c rule x id v other u step

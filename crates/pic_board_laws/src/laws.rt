@@ -1,5 +1,6 @@
 //! The board stands for the core of events, step by step, and each number is drawn once.
 
+ghost use Rattle.pic_board_laws.specs.BoardSteps.{TheRuleAllowsTheSteps};
 ghost use Rattle.pic_board_laws.specs.Histories.{EachNumberIsDrawnOnce, NoTwoSeatsClaimOneTile};
 ghost use Rattle.pic_board_laws.specs.Laws.{SlotsAreNoEvents, TheBoardBeginsAsTheCore};
 ghost use Rattle.pic_board_laws.specs.Laws.{TheBoardEndsAsTheCore, TheBoardGoesOnAsTheCore};
@@ -17,6 +18,12 @@ pub fn the_board_stands_for_the_core()
 /// At its start the board stands for the core before its first event.
 pub fn the_board_begins_as_the_core()
     ensures { TheBoardBeginsAsTheCore }
+{}
+
+/// The steps that these laws are about are those that the board's rule allows its seats: each seat
+/// has its step to take, and the rule holds after it.
+pub fn the_rule_allows_the_steps()
+    ensures { TheRuleAllowsTheSteps }
 {}
 
 /// Each step of the board takes the core on by its events, each of them allowed when it comes: a
