@@ -1,8 +1,6 @@
 -- The rule of the board allows the steps of its seats, and each of them keeps it.
-use Rattle.std.proofs.Common.{◌≡◌, ℕ, suc, ◌+◌, ◌^◌, ◌<◌, ◌≤◌, List, length, slice_index, Bool, true, false, if◌then◌else◌, refl, sym, ap, ◌∙◌, subst, arith}
-use mathlib.Core.Option.{some}
-use lib.ListN.{get_elem?}
-use Rattle.atomic_table.specs.Table.{State, Me}
+use Rattle.std.proofs.Common.{ℕ, suc, ◌+◌, ◌^◌, ◌<◌, ◌≤◌, length, slice_index, Bool, true, false, if◌then◌else◌, refl, sym, ◌∙◌, subst, arith}
+use Rattle.atomic_table.specs.Table.{State}
 use Rattle.pic_tile.specs.Directions.{directions}
 use Rattle.pic_yard.specs.declared.opening.Opening.{Opening}
 use Rattle.pic_yard.specs.declared.view.View.{View}
@@ -49,23 +47,27 @@ module _ (o : Opening) (s : State Slot View) (rule : Rule o s) where
         let small = word_small r (rule.marks.rights id me.0 there ready.live r ready.right).tile in
         let found = back_allowed o (length s.homes) id me r tile slots ready s rule refl there small in
         (_, found.3, record { there = there; ready = ready; after = found.0; act = found.1; told = found.4; is = refl });
-    split = λ id v x there live opened unmade.
-        (_, split_allowed o id v x live opened unmade s rule there,
-        record { there = there; live = live; opened = opened; unmade = unmade; is = refl });
-    join = λ id v other u there live opened apart taken taken_live told owes rights.
-        (_, join_allowed o id v other u live opened taken_live told owes rights s rule there apart (set_else s.views id other _ apart ∙ taken),
-        record {
-          there = there;
-          live = live;
-          opened = opened;
-          apart = apart;
-          taken = taken;
-          taken_live = taken_live;
-          told = told;
-          owes = owes;
-          rights = rights;
-          is = refl;
-        });
+    split = λ id v x there live opened unmade. (
+      _,
+      split_allowed o id v x live opened unmade s rule there,
+      record { there = there; live = live; opened = opened; unmade = unmade; is = refl },
+    );
+    join = λ id v other u there live opened apart taken taken_live told owes rights. (
+      _,
+      join_allowed o id v other u live opened taken_live told owes rights s rule there apart (set_else s.views id other _ apart ∙ taken),
+      record {
+        there = there;
+        live = live;
+        opened = opened;
+        apart = apart;
+        taken = taken;
+        taken_live = taken_live;
+        told = told;
+        owes = owes;
+        rights = rights;
+        is = refl;
+      },
+    );
   }
 
 pub allows : TheRuleAllowsTheSteps

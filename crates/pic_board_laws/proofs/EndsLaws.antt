@@ -1,23 +1,17 @@
 -- The board and the core at the start and at the end, and where only slots change.
-use Rattle.std.proofs.Common.{◌≡◌, ℕ, suc, ◌*◌, ◌<◌, Bool, false, List, nat_eq, nat_lt, eq-eqb, refl, sym, ap, ◌∙◌, subst, arith}
+use Rattle.std.proofs.Common.{◌≡◌, ℕ, suc, ◌*◌, ◌<◌, Bool, false, List, nat_eq, eq-eqb, refl, sym, ap, ◌∙◌, subst, arith}
 use Rattle.std.specs.Prelude.{replicate, slice_index}
 use Rattle.std.proofs.lemmas.Bool.{false≢true}
-use Rattle.atomic_table.specs.Table.{State, opening}
 use Rattle.pic_grid.specs.Cells.{count_of}
-use Rattle.pic_tile.specs.CoreState.{CoreState, IsOpening, IsSoundFrame, tile_count, mark, slot_of}
+use Rattle.pic_tile.specs.CoreState.{IsOpening, IsSoundFrame, tile_count, mark, slot_of}
 use Rattle.pic_tile.specs.Directions.{directions}
 use Rattle.pic_tile.specs.Frame.{FrameValue}
 use Rattle.pic_tile.specs.Tile.{TileValue}
 use Rattle.pic_tile.proofs.TileLaws.{same_there}
-use Rattle.pic_core.specs.AtStart.{IsAtStart}
 use Rattle.pic_core.proofs.OpenLaws.{opened_stands}
 use Rattle.pic_core.proofs.TurnLaws.{lt_false}
-use Rattle.pic_yard.specs.declared.opening.Opening.{Opening}
-use Rattle.pic_yard.specs.declared.view.View.{View}
-use Rattle.pic_yard.specs.Contents.{Slot, tiles_in}
-use Rattle.pic_yard.specs.Steps.{first_view}
+use Rattle.pic_yard.specs.Contents.{tiles_in}
 use Rattle.pic_board_laws.specs.Laws.{SlotsAreNoEvents, TheBoardBeginsAsTheCore, TheBoardEndsAsTheCore}
-use Rattle.pic_board_laws.specs.StandsFor.{StandsFor}
 
 pub slots_alone : SlotsAreNoEvents
 slots_alone o s c homes x = record {

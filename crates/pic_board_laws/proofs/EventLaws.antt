@@ -1,31 +1,29 @@
 -- Each event of the core, by the marks before it and after.
-use Rattle.std.proofs.Common.{◌≡◌, ℕ, suc, ◌+◌, ◌*◌, ◌<◌, ◌≤◌, ◌⊎◌, inl, inr, Bool, true, false, ◌&&◌, nat_lt, List, [], ◌∷◌, ◌++◌, length, slice_set, Some, None, refl, sym, ap, ◌∙◌, subst, arith}
+use Rattle.std.proofs.Common.{◌≡◌, ℕ, ◌*◌, ◌<◌, ◌⊎◌, inl, inr, Bool, true, false, List, [], ◌∷◌, length, slice_set, refl, sym, ap, ◌∙◌, subst, arith}
 use Rattle.std.proofs.Math.Decide.{ℕ_discrete}
 use Rattle.std.proofs.lemmas.List.{set-get_or}
 use Rattle.pic_grid.specs.Cells.{count_of}
 use Rattle.pic_tile.specs.declared.parcel.Parcel.{Parcel}
 use Rattle.pic_tile.specs.CoreEvents.{CanClaim, CanPost, CanMerge, CanShut, Claims, Merges, after_claim, after_post, after_merge, after_shut}
-use Rattle.pic_tile.specs.CoreState.{CoreState, Stands, tile_count, slot_of, mark, is_claimed, is_posted, is_merged, is_shut, mail_at, merged_into, first_particles}
+use Rattle.pic_tile.specs.CoreState.{CoreState, Stands, tile_count, slot_of, mark, is_claimed, is_posted, is_merged, is_shut, mail_at, first_particles}
 use Rattle.pic_tile.specs.Directions.{directions, here}
 use Rattle.pic_tile.specs.Frame.{FrameValue, felt_in}
 use Rattle.pic_tile.specs.Layers.{sender_of}
 use Rattle.pic_tile.specs.Pushed.{IsSent}
-use Rattle.pic_tile.specs.Tile.{TileValue, no_tile, parcel_at, tile_in}
+use Rattle.pic_tile.specs.Tile.{TileValue, no_tile, tile_in}
 use Rattle.pic_tile.specs.Tiling.{neighbour_of}
 use Rattle.pic_tile.proofs.HeldLaws.{neighbour_forth}
 use Rattle.pic_tile.proofs.AllTilesLaws.{sender_below}
 use Rattle.pic_core.specs.declared.event.Event.{Event}
 use Rattle.pic_core.specs.declared.event.Event.TheVariants.{Claim, Post, Merge, Shut}
 use Rattle.pic_core.specs.Events.{Ran}
-use Rattle.pic_core.specs.InTurn.{finishing, merging, merging_at}
-use Rattle.pic_core.proofs.RunLaws.{ran_none, ran_event, ran_append, ran_lists}
+use Rattle.pic_core.proofs.RunLaws.{ran_none, ran_event}
 use Rattle.pic_core.proofs.SlotLaws.{slot_dir, slot_tile, slot_below, mark_set, mark_other, bounded}
 use Rattle.pic_core.proofs.StandLaws.{claim_stands, post_stands, merge_stands, shut_made}
-use Rattle.pic_core.proofs.WorkerLaws.{passed_ran}
 use Rattle.pic_yard.specs.declared.opening.Opening.{Opening}
 use Rattle.pic_yard.specs.Contents.{tiles_in, from_of}
 use Rattle.pic_yard.proofs.CountLaws.{at_else, at_here, at_other}
-use Rattle.pic_yard.proofs.PostLaws.{IsPair, which_pair, posts, posts_it, posts_other, posts_row}
+use Rattle.pic_yard.proofs.PostLaws.{which_pair, posts, posts_it, posts_other}
 use Rattle.pic_board_laws.proofs.ContentLaws.{HasPushed, tile_pushed, HasMergedOne, tile_merged}
 
 -- a core on the opening of a board, with these marks

@@ -1,18 +1,16 @@
 -- Histories of a board: each number is drawn once, and all steps are events of the core.
-use Rattle.std.proofs.Common.{◌≡◌, ℕ, suc, ◌<◌, ◌≤◌, List, [], ◌∷◌, ◌++◌, inl, inr, refl, sym, ap, ◌∙◌, subst, arith, slice_index}
+use Rattle.std.proofs.Common.{◌≡◌, ℕ, suc, ◌<◌, ◌≤◌, List, [], ◌∷◌, inl, inr, sym, ap, ◌∙◌, arith, slice_index}
 use Rattle.atomic_table.specs.Table.{State}
-use Rattle.pic_tile.specs.CoreState.{CoreState}
-use Rattle.pic_core.specs.declared.event.Event.{Event}
 use Rattle.pic_core.proofs.RunLaws.{ran_none, ran_append}
 use Rattle.pic_yard.specs.declared.opening.Opening.{Opening}
 use Rattle.pic_yard.specs.declared.view.View.{View}
-use Rattle.pic_yard.specs.Contents.{Slot, from_of}
+use Rattle.pic_yard.specs.Contents.{Slot}
 use Rattle.pic_yard.specs.Members.{In, Differ}
 use Rattle.pic_yard.specs.Rule.{Rule, ticket_of}
 use Rattle.pic_yard.proofs.MemberLaws.{in_parts, differ_both}
 use Rattle.pic_board_laws.specs.BoardSteps.{IsStep, numbers_of, events_of}
 use Rattle.pic_board_laws.specs.BoardSteps as steps
-use Rattle.pic_board_laws.specs.Histories.{Follow, last_of, events_along, drawn_along, EachNumberIsDrawnOnce, AreDrawnApart, NoTwoSeatsClaimOneTile}
+use Rattle.pic_board_laws.specs.Histories.{Follow, last_of, events_along, drawn_along, EachNumberIsDrawnOnce, NoTwoSeatsClaimOneTile}
 use Rattle.pic_board_laws.specs.Laws.{LeadsTo, TheBoardRunsAsTheCore}
 use Rattle.pic_board_laws.proofs.StepLaws.{goes_on}
 use Rattle.pic_board_laws.proofs.StepWordLaws.{draw_ticket, post_ticket, back_ticket, split_words, join_words}

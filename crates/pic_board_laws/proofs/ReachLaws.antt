@@ -1,5 +1,5 @@
 -- For each state of the board there is a core that it stands for: events lead to it from the start.
-use Rattle.std.proofs.Common.{◌≡◌, ℕ, zero, suc, ◌+◌, ◌*◌, ◌<◌, ◌≤◌, Bool, true, false, ◌&&◌, nat_lt, List, [], ◌∷◌, ◌++◌, length, map, Option, None, refl, sym, ap, ◌∙◌, subst, arith}
+use Rattle.std.proofs.Common.{◌≡◌, ℕ, zero, suc, ◌+◌, ◌*◌, ◌<◌, ◌≤◌, Bool, true, false, ◌&&◌, nat_lt, List, [], ◌++◌, map, None, refl, sym, ap, ◌∙◌, arith}
 use Rattle.std.proofs.Math.Decide.{ℕ_discrete}
 use Rattle.std.specs.Prelude.{replicate}
 use Rattle.std.specs.List.{range_with_len}
@@ -11,9 +11,8 @@ use Rattle.pic_tile.specs.CoreState.{CoreState, Stands, slot_of}
 use Rattle.pic_tile.specs.Directions.{directions}
 use Rattle.pic_tile.specs.Tile.{TileValue, no_tile, parcel_at, tile_in}
 use Rattle.pic_tile.proofs.TileLaws.{same_there}
-use Rattle.pic_core.specs.AtStart.{AreBare, IsAtStart}
+use Rattle.pic_core.specs.AtStart.{IsAtStart}
 use Rattle.pic_core.specs.declared.event.Event.{Event}
-use Rattle.pic_core.specs.Events.{Ran}
 use Rattle.pic_core.proofs.OpenLaws.{opened_stands}
 use Rattle.pic_core.proofs.RunLaws.{ran_none, ran_append}
 use Rattle.pic_core.proofs.TurnLaws.{lt_true, lt_false, lt_more}

@@ -1,18 +1,16 @@
 -- Each step of the board takes the core on by its events.
-use Rattle.std.proofs.Common.{◌≡◌, ℕ, suc, ◌+◌, ◌%◌, ◌^◌, ◌<◌, ◌≤◌, Bool, true, false, nat_lt, List, [], ◌∷◌, ◌++◌, set, slice_index, if◌then◌else◌, length}
+use Rattle.std.proofs.Common.{◌≡◌, ℕ, suc, ◌<◌, ◌≤◌, Bool, true, List, [], ◌∷◌, set, slice_index, if◌then◌else◌}
 use Rattle.std.proofs.Common.{refl, sym, ap, ◌∙◌, subst, arith}
 use Rattle.std.proofs.Math.Decide.{ℕ_discrete}
-use Rattle.std.proofs.Math.Nat.{mod-eq_of_lt}
 use native.Mathlib.Decide.{dec_le}
 use Rattle.atomic_table.specs.Table.{State, Me}
-use Rattle.pic_tile.specs.CoreState.{CoreState, Stands}
+use Rattle.pic_tile.specs.CoreState.{CoreState}
 use Rattle.pic_tile.specs.Directions.{directions, here}
 use Rattle.pic_core.specs.declared.event.Event.{Event}
 use Rattle.pic_core.specs.declared.event.Event.TheVariants.{Claim, Post}
-use Rattle.pic_core.specs.Events.{Ran}
 use Rattle.pic_core.specs.InTurn.{finishing}
 use Rattle.pic_core.proofs.RunLaws.{ran_none}
-use Rattle.pic_core.proofs.TurnLaws.{lt_true, lt_false, lt_more}
+use Rattle.pic_core.proofs.TurnLaws.{lt_true, lt_false}
 use Rattle.pic_yard.specs.declared.opening.Opening.{Opening}
 use Rattle.pic_yard.specs.declared.view.View.{View}
 use Rattle.pic_yard.specs.Contents.{Slot, tiles_in, to_of, from_of}
@@ -23,17 +21,14 @@ use Rattle.pic_yard.specs.Sits.{Claimed}
 use Rattle.pic_yard.specs.Steps.{did_claim, was_told, did_post, gave_back}
 use Rattle.pic_yard.proofs.BackLaws.{back_marks}
 use Rattle.pic_yard.proofs.CountLaws.{at_else, at_here, at_other, count_all}
-use Rattle.pic_yard.proofs.DrawLaws.{next_word}
 use Rattle.pic_yard.proofs.MarkLaws.{ArrivalsStay, claim_marks, told_marks}
-use Rattle.pic_yard.proofs.PostLaws.{OneArrives, posts, post_marks, found_word}
+use Rattle.pic_yard.proofs.PostLaws.{posts, post_marks}
 use Rattle.pic_yard.proofs.SeatLaws.{split_marks, join_marks}
 use Rattle.pic_yard.proofs.WayLaws.{ways_of}
-use Rattle.pic_yard.proofs.WordLaws.{word_now, word_still}
-use Rattle.atomic_table.proofs.Lists.{set_else}
 use Rattle.pic_board_laws.specs.BoardSteps.{IsStep, IsDraw, IsPost, IsReturn, IsSplit, IsJoin, events_of, one_more}
 use Rattle.pic_board_laws.specs.BoardSteps as steps
 use Rattle.pic_board_laws.specs.Laws.{LeadsTo, TheBoardGoesOnAsTheCore}
-use Rattle.pic_board_laws.specs.StandsFor.{Stood, StandsFor}
+use Rattle.pic_board_laws.specs.StandsFor.{StandsFor}
 use Rattle.pic_board_laws.proofs.EventLaws.{HasMarks, Leads, marks_same, no_event, claim_leads, post_leads}
 use Rattle.pic_board_laws.proofs.FinishLaws.{finish_leads}
 use Rattle.pic_board_laws.proofs.StepWordLaws.{draw_words, draw_ticket, stay, found, post_words, post_ticket, post_arrives, back_words, back_ticket, back_arrives, split_words, join_words}
@@ -52,12 +47,15 @@ arrives o next c events ticket posted shut words views same_words same_views sam
     let now : Marks (board_of o next posted shut) next.words next.views =
     subst (λ (k : ℕ). MarksOf o k posted shut next.words next.views) (sym same_ticket)
     (subst (λ (ws : List ℕ). MarksOf o ticket posted shut ws next.views) (sym same_words)
-    (subst (λ (vs : List View). MarksOf o ticket posted shut words vs) (sym same_views) marks)) in
-    (leads.next, leads.ran, record {
-      stood = stood_of o next posted shut now leads.next
-          (subst (λ (k : ℕ). HasMarks o leads.next (below k) posted (λ r d. shut r) shut) (sym same_ticket) leads.marks);
-      stands = leads.stands;
-    })
+    (subst (λ (vs : List View). MarksOf o ticket posted shut words vs) (sym same_views) marks)) in (
+      leads.next,
+      leads.ran,
+      record {
+        stood = stood_of o next posted shut now leads.next
+            (subst (λ (k : ℕ). HasMarks o leads.next (below k) posted (λ r d. shut r) shut) (sym same_ticket) leads.marks);
+        stands = leads.stands;
+      },
+    )
 
 module _ (o : Opening) (s next : State Slot View) (c : CoreState) (rule : Rule o s) (x : StandsFor o s c) where
   abbrev board : Board

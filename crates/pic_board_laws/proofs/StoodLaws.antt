@@ -1,5 +1,5 @@
 -- The marks of a board are those of a core that it stands for.
-use Rattle.std.proofs.Common.{◌≡◌, ℕ, suc, ◌+◌, ◌<◌, ◌≤◌, Bool, true, false, nat_lt, nat_eq, List, slice_index, if◌then◌else◌, refl, sym, ap, ◌∙◌, subst, arith, eq-eqb, ne_eqb, true≢false}
+use Rattle.std.proofs.Common.{◌≡◌, ℕ, suc, ◌+◌, ◌<◌, ◌≤◌, Bool, true, false, nat_lt, nat_eq, if◌then◌else◌, refl, sym, ap, ◌∙◌, arith, eq-eqb, ne_eqb, true≢false}
 use Rattle.std.proofs.Math.Decide.{ℕ_discrete}
 use Rattle.atomic_table.specs.Table.{State}
 use Rattle.pic_core.proofs.TurnLaws.{lt_true, lt_more}
@@ -8,8 +8,8 @@ use Rattle.pic_tile.specs.Directions.{directions}
 use Rattle.pic_yard.specs.declared.opening.Opening.{Opening}
 use Rattle.pic_yard.specs.declared.view.View.{View}
 use Rattle.pic_yard.specs.Contents.{Slot, tiles_in}
-use Rattle.pic_yard.specs.Marks.{Board, Lists, Marks}
-use Rattle.pic_yard.specs.Members.{In, count_below}
+use Rattle.pic_yard.specs.Marks.{Marks}
+use Rattle.pic_yard.specs.Members.{count_below}
 use Rattle.pic_yard.specs.Rule.{board_of, ticket_of}
 use Rattle.pic_yard.proofs.CountLaws.{at_else, at_here, at_other, count_le}
 use Rattle.pic_board_laws.specs.StandsFor.{IsPosted, Stood, is_word_of_shut}

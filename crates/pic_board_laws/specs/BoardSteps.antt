@@ -103,9 +103,9 @@ numbers_of o s next (returns id me r tile slots step) = []
 numbers_of o s next (splits id v x step) = []
 numbers_of o s next (joins id v other u step) = []
 
--- The steps that a state allows.
-abbrev pub Allowed : Opening → (State Slot View → Type 0) → Type 0
-Allowed o By = (next : State Slot View) × Rule o next × By next
+-- there is a state that meets the board's rule, and a step of that kind leads to it
+abbrev pub HasStep : Opening → (State Slot View → Type 0) → Type 0
+HasStep o Kind = (next : State Slot View) × Rule o next × Kind next
 
 -- Each seat has a step to take, which keeps the board's rule: it may draw where it was not told that
 -- no tile is left, post a parcel that it owes and has at hand, give back a tile that it has the right
@@ -113,19 +113,19 @@ Allowed o By = (next : State Slot View) × Rule o next × By next
 -- that is through.
 pub record AllowsSteps (o : Opening) (s : State Slot View) : Type 0 where
   pub draw : (id : ℕ) (me : Me Slot View) → get_elem? s.views id ≡ some me.0 → Sits o me
-      → me.0.told ≡ false → Allowed o (λ next. IsDraw o s next id me)
+      → me.0.told ≡ false → HasStep o (λ next. IsDraw o s next id me)
   pub post : (id : ℕ) (me : Me Slot View) (r d : ℕ) (parcel : Slot) (slots : List (ℕ × Slot))
       → get_elem? s.views id ≡ some me.0 → IsAboutToPost o me r d parcel slots
-      → Allowed o (λ next. IsPost o s next id me r d parcel slots)
+      → HasStep o (λ next. IsPost o s next id me r d parcel slots)
   pub back : (id : ℕ) (me : Me Slot View) (r : ℕ) (tile : Slot) (slots : List (ℕ × Slot))
       → get_elem? s.views id ≡ some me.0 → IsStacked o me r tile slots
-      → Allowed o (λ next. IsReturn o s next id me r tile slots)
+      → HasStep o (λ next. IsReturn o s next id me r tile slots)
   pub split : (id : ℕ) (v : View) (x : ℕ) → get_elem? s.views id ≡ some v → v.live ≡ true
-      → v.opening ≡ Some o → In x v.unmade → Allowed o (λ next. IsSplit o s next id v x)
+      → v.opening ≡ Some o → In x v.unmade → HasStep o (λ next. IsSplit o s next id v x)
   pub join : (id : ℕ) (v : View) (other : ℕ) (u : View) → get_elem? s.views id ≡ some v
       → v.live ≡ true → v.opening ≡ Some o → (other ≡ id → ⊥) → get_elem? s.views other ≡ some u
       → u.live ≡ true → u.told ≡ true → u.owes ≡ [] → u.rights ≡ []
-      → Allowed o (λ next. IsJoin o s next id v other u)
+      → HasStep o (λ next. IsJoin o s next id v other u)
 
 abbrev pub TheRuleAllowsTheSteps : Type 0
 TheRuleAllowsTheSteps = (o : Opening) (s : State Slot View) → Rule o s → AllowsSteps o s
