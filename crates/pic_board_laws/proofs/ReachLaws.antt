@@ -258,8 +258,8 @@ module _ (o : Opening) (s : State Slot View) (rule : Rule o s) where
           further (below n) (below n) rule.posted rule.posted (merged_to r) (at_else r (λ e. true) (merged_to r)) (shut_to r) (at_else r true (shut_to r)) _ x
           (λ c stands marks. finish_leads o (below n) rule.posted (merged_to r) (shut_to r) r tile
           (λ e dir. count_all (rule.posted r) directions e (rule.marks.whole r tile is) dir) (λ e dir. is_off) c stands marks is_off) in
-          alike (below n) (below n) rule.posted rule.posted (at_else r (λ e. true) (merged_to r)) (merged_to (suc r)) (at_else r true (shut_to r)) (shut_to (suc r)) all
-          (λ t less. refl) (λ q d less dir. refl)
+          alike (below n) (below n) rule.posted rule.posted (at_else r (λ e. true) (merged_to r)) (merged_to (suc r))
+          (at_else r true (shut_to r)) (shut_to (suc r)) all (λ t less. refl) (λ q d less dir. refl)
           (λ q e less dir. elim (ℕ_discrete q r) [
             | yes same ↦
                 ap (λ (g : ℕ → Bool). g e) (at_here r q (λ e. true) (merged_to r) same) ∙ sym (ap (shut_to (suc r)) same ∙ is_now ∙ is)

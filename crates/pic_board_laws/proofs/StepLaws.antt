@@ -31,7 +31,8 @@ use Rattle.pic_board_laws.specs.Laws.{LeadsTo, TheBoardGoesOnAsTheCore}
 use Rattle.pic_board_laws.specs.StandsFor.{StandsFor}
 use Rattle.pic_board_laws.proofs.EventLaws.{HasMarks, Leads, marks_same, no_event, claim_leads, post_leads}
 use Rattle.pic_board_laws.proofs.FinishLaws.{finish_leads}
-use Rattle.pic_board_laws.proofs.StepWordLaws.{draw_words, draw_ticket, stay, found, post_words, post_ticket, post_arrives, back_words, back_ticket, back_arrives, split_words, join_words}
+use Rattle.pic_board_laws.proofs.StepWordLaws.{draw_words, draw_ticket, stay, found, post_words, post_ticket, post_arrives, back_words}
+use Rattle.pic_board_laws.proofs.StepWordLaws.{back_ticket, back_arrives, split_words, join_words}
 use Rattle.pic_board_laws.proofs.StoodLaws.{below, below_more, stood_of, marks_of}
 
 -- the marks of a board, by the words and views that it has
@@ -172,7 +173,8 @@ module _ (o : Opening) (s next : State Slot View) (c : CoreState) (rule : Rule o
         (λ e dir. right.open_yet) c x.stands marks right.open_yet in
         arrives o next c (finishing r) n rule.posted closed later (set s.views id after)
         (back_words o s next rule id me r tile slots step)
-        (ap (λ (z : State Slot View). z.views) step.is ∙ ap (λ (v : View). set s.views id v) (λ i. (step.told i).0)) (back_ticket o s next rule id me r tile slots step) now (record {
+        (ap (λ (z : State Slot View). z.views) step.is ∙ ap (λ (v : View). set s.views id v) (λ i. (step.told i).0))
+        (back_ticket o s next rule id me r tile slots step) now (record {
           next = leads.next;
           ran = leads.ran;
           stands = leads.stands;

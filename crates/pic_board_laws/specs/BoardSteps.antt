@@ -1,7 +1,7 @@
 -- The steps of the board: what each does to the words, slots and views, and the events of the core
 -- that it stands for.
-use Rattle.std.specs.Prelude.{◌≡◌, ℕ, suc, ◌+◌, ◌%◌, ◌^◌, nat_lt, List, [], ◌∷◌, ◌++◌, true, false, Some}
-use Rattle.std.specs.Prelude.{if◌then◌else◌, slice_index, slice_set}
+use Rattle.std.specs.Prelude.{◌≡◌, ℕ, suc, ◌+◌, ◌%◌, ◌^◌, nat_lt, List, [], ◌∷◌, ◌++◌, true, false}
+use Rattle.std.specs.Prelude.{Some, if◌then◌else◌, slice_index, slice_set}
 use mathlib.Core.Option.{some}
 use lib.ListN.{get_elem?}
 use Rattle.atomic_table.specs.Table.{State, Me, Act, stepped, carried_after}
@@ -19,12 +19,13 @@ use Rattle.pic_yard.specs.Rule.{Rule, ticket_of}
 use Rattle.pic_yard.specs.Sits.{Sits, Drawn}
 use Rattle.pic_yard.specs.Steps.{gave_number, newcomer, took_in, spent_view}
 
--- a word that counts one more
+-- what a word holds that counts one more
 abbrev pub one_more : ℕ → ℕ
 one_more n = (n + 1) % 2 ^ 64
 
 -- the seat id, which has me, draws from the ticket
-pub record IsDraw (o : Opening) (s next : State Slot View) (id : ℕ) (me : Me Slot View) : Type 0 where
+pub record IsDraw (o : Opening) (s next : State Slot View) (id : ℕ)
+    (me : Me Slot View) : Type 0 where
   pub there : get_elem? s.views id ≡ some me.0
   pub sits : Sits o me
   pub after : View
@@ -53,7 +54,8 @@ pub record IsReturn (o : Opening) (s next : State Slot View) (id : ℕ) (me : Me
   pub is : next ≡ stepped s (suc r) (suc directions) id me.1 after act
 
 -- the seat id, of the view v, makes another, of a number x that it was still to make
-pub record IsSplit (o : Opening) (s next : State Slot View) (id : ℕ) (v : View) (x : ℕ) : Type 0 where
+pub record IsSplit (o : Opening) (s next : State Slot View) (id : ℕ) (v : View)
+    (x : ℕ) : Type 0 where
   pub there : get_elem? s.views id ≡ some v
   pub live : v.live ≡ true
   pub opened : v.opening ≡ Some o
@@ -72,7 +74,8 @@ pub record IsJoin (o : Opening) (s next : State Slot View) (id : ℕ) (v : View)
   pub told : u.told ≡ true
   pub owes : u.owes ≡ []
   pub rights : u.rights ≡ []
-  pub is : next ≡ record s { views = slice_set (slice_set s.views id (took_in v u)) other spent_view }
+  pub is : next
+      ≡ record s { views = slice_set (slice_set s.views id (took_in v u)) other spent_view }
 
 -- a step of the board, of one of its seats
 pub data IsStep (o : Opening) (s next : State Slot View) : Type 0 where
@@ -82,11 +85,12 @@ pub data IsStep (o : Opening) (s next : State Slot View) : Type 0 where
   returns : (id : ℕ) (me : Me Slot View) (r : ℕ) (tile : Slot) (slots : List (ℕ × Slot))
       → IsReturn o s next id me r tile slots → IsStep o s next
   splits : (id : ℕ) (v : View) (x : ℕ) → IsSplit o s next id v x → IsStep o s next
-  joins : (id : ℕ) (v : View) (other : ℕ) (u : View) → IsJoin o s next id v other u → IsStep o s next
+  joins : (id : ℕ) (v : View) (other : ℕ) (u : View) → IsJoin o s next id v other u
+      → IsStep o s next
 
--- the events of the core that it stands for: a draw of the number of a tile is its claim, an arrival
--- a post, and giving back a tile the merge of its own parcel, then those of the others, and its
--- shutting; other steps are no events
+-- the events of the core that it stands for: a draw of the number of a tile is its claim, an
+-- arrival a post, and giving back a tile the merge of its own parcel, then those of the others, and
+-- its shutting; other steps are no events
 abbrev pub events_of : (o : Opening) (s next : State Slot View) → IsStep o s next → List Event
 events_of o s next (draws id me step) =
     if nat_lt (ticket_of s) (tiles_in o) then Claim (ticket_of s) ∷ [] else []
@@ -107,10 +111,10 @@ numbers_of o s next (joins id v other u step) = []
 abbrev pub HasStep : Opening → (State Slot View → Type 0) → Type 0
 HasStep o Kind = (next : State Slot View) × Rule o next × Kind next
 
--- Each seat has a step to take, which keeps the board's rule: it may draw where it was not told that
--- no tile is left, post a parcel that it owes and has at hand, give back a tile that it has the right
--- to and has finished at hand, make a seat of a number that it was still to make, and take in a seat
--- that is through.
+-- Each seat has a step to take, which keeps the board's rule: it may draw where it was not told
+-- that no tile is left, post a parcel that it owes and has at hand, give back a tile that it has the
+-- right to and has finished at hand, make a seat of a number that it was still to make, and take in
+-- a seat that is through.
 pub record AllowsSteps (o : Opening) (s : State Slot View) : Type 0 where
   pub draw : (id : ℕ) (me : Me Slot View) → get_elem? s.views id ≡ some me.0 → Sits o me
       → me.0.told ≡ false → HasStep o (λ next. IsDraw o s next id me)

@@ -29,7 +29,7 @@ pub record HasCore (o : Opening) (s : State Slot View) : Type 0 where
 abbrev pub TheBoardStandsForTheCore : Type 0
 TheBoardStandsForTheCore = (o : Opening) (s : State Slot View) → Rule o s → HasCore o s
 
--- the events lead from the one state of the core to one that the other state of the board stands for
+-- the events lead from that state of the core to one that this state of the board stands for
 abbrev pub LeadsTo : Opening → CoreState → List Event → State Slot View → Type 0
 LeadsTo o c events next = (after : CoreState) × Ran c events after × StandsFor o next after
 
@@ -38,8 +38,8 @@ abbrev pub TheBoardGoesOnAsTheCore : Type 0
 TheBoardGoesOnAsTheCore = (o : Opening) (s next : State Slot View) (c : CoreState) → Rule o s
     → StandsFor o s c → (step : IsStep o s next) → LeadsTo o c (events_of o s next step) next
 
--- what lies in slots is no part of it: where a seat puts something into a slot that it has, or takes
--- something out, the board stands for the same state
+-- what lies in slots is no part of it: where a seat puts something into a slot that it has, or
+-- takes something out, the board stands for the same state
 abbrev pub SlotsAreNoEvents : Type 0
 SlotsAreNoEvents =
     (o : Opening) (s : State Slot View) (c : CoreState) (homes : List (Option Slot))

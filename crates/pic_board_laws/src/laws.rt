@@ -20,16 +20,16 @@ pub fn the_board_begins_as_the_core()
     ensures { TheBoardBeginsAsTheCore }
 {}
 
-/// The steps that these laws are about are those that the board's rule allows its seats: each seat
-/// has its step to take, and the rule holds after it.
+/// In each state that meets the board's rule a seat has its step to take, and the rule holds after
+/// it: a draw, a post, giving back a tile, the making of a seat, and the taking in of one.
 pub fn the_rule_allows_the_steps()
     ensures { TheRuleAllowsTheSteps }
 {}
 
 /// Each step of the board takes the core on by its events, each of them allowed when it comes: a
-/// draw claims the tile of its number, or is no event past the last tile; an arrival posts a parcel;
-/// giving back a tile merges its own parcel, then the other 26, and shuts it. The making and the
-/// taking in of a seat are no events.
+/// draw claims the tile of its number, or is no event past the last tile; an arrival posts a
+/// parcel; giving back a tile merges its own parcel, then the other 26, and shuts it. The making
+/// and the taking in of a seat are no events.
 pub fn the_board_goes_on_as_the_core()
     ensures { TheBoardGoesOnAsTheCore }
 {}
@@ -55,8 +55,8 @@ pub fn each_number_is_drawn_once()
     ensures { EachNumberIsDrawnOnce }
 {}
 
-/// Between any two steps the last draw of each live view is below the ticket, and no two of them owe
-/// parcels of one tile.
+/// Between any two steps the last draw of each live view is below the ticket, and no two of them
+/// owe parcels of one tile.
 pub fn no_two_seats_claim_one_tile()
     ensures { NoTwoSeatsClaimOneTile }
 {}
