@@ -1,0 +1,10 @@
+mod ContentLaws
+mod EventLaws
+mod FinishLaws
+mod StoodLaws
+mod StepWordLaws
+mod StepLaws
+mod ReachLaws
+mod HistoryLaws
+mod EndsLaws
+mod AllowLaws

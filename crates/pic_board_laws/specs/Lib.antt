@@ -1,0 +1,4 @@
+pub mod StandsFor
+pub mod BoardSteps
+pub mod Histories
+pub mod Laws
