@@ -1,8 +1,7 @@
 -- That a state ends a history of the board is kept as its rule is.
-use Rattle.std.proofs.Common.{◌≡◌, ℕ, suc, List, [], ◌∷◌, ◌++◌, refl, sym, ap, ◌∙◌, subst}
-use Rattle.atomic_table.specs.Table.{State, Me, stepped}
+use Rattle.std.proofs.Common.{◌≡◌, List, [], ◌∷◌, ◌++◌, refl, sym, ◌∙◌, subst}
+use Rattle.atomic_table.specs.Table.{State}
 use Rattle.atomic_table.proofs.Lists.{set_else}
-use Rattle.pic_tile.specs.Directions.{directions}
 use Rattle.pic_yard.specs.declared.opening.Opening.{Opening}
 use Rattle.pic_yard.specs.declared.view.View.{View}
 use Rattle.pic_yard.specs.Contents.{Slot}
@@ -44,7 +43,7 @@ history_kept o start = record {
         found.1,
         found.2,
         goes_on o start s _ x found.3
-        (steps.draws id me (record { there = there; sits = sits; after = found.0; act = found.1; told = found.4; is = refl })),
+            (steps.draws id me (record { there = there; sits = sits; after = found.0; act = found.1; told = found.4; is = refl })),
         found.4,
       );
   post = λ slots id me r d parcel list ready s x long there small.
@@ -53,7 +52,7 @@ history_kept o start = record {
         found.1,
         found.2,
         goes_on o start s _ x found.3
-        (steps.posts id me r d parcel list (record { there = there; ready = ready; after = found.0; act = found.1; told = found.4; is = refl })),
+            (steps.posts id me r d parcel list (record { there = there; ready = ready; after = found.0; act = found.1; told = found.4; is = refl })),
         found.4,
       );
   back = λ slots id me r tile list ready s x long there small.
@@ -62,7 +61,7 @@ history_kept o start = record {
         found.1,
         found.2,
         goes_on o start s _ x found.3
-        (steps.returns id me r tile list (record { there = there; ready = ready; after = found.0; act = found.1; told = found.4; is = refl })),
+            (steps.returns id me r tile list (record { there = there; ready = ready; after = found.0; act = found.1; told = found.4; is = refl })),
         found.4,
       );
   split = λ id v x live opened unmade s h there.

@@ -39,8 +39,8 @@ pub record EndsHistory (o : Opening) (start s : State Slot View) : Type 0 where
   pub last : last_of start between ≡ s
   pub rule : Rule o s
 
--- That a state ends a history is kept as the rule is by each kind of step, with what it tells its
--- seat: whatever the other seats do in between, the step that a call makes is one more of a history.
+-- That a state ends a history is kept, as the rule is, by each kind of step with what it tells its
+-- seat: whatever the other seats do in between, the step is one more of a history.
 pub record KeepsHistory (o : Opening) (start : State Slot View) : Type 0 where
   pub begins : Rule o start → EndsHistory o start start
   pub draw : (slots id : ℕ) (me : Me Slot View) → Sits o me → me.0.told ≡ false
