@@ -7,4 +7,4 @@ mod StepLaws
 mod ReachLaws
 mod HistoryLaws
 mod EndsLaws
-mod AllowLaws
+mod KeepingLaws

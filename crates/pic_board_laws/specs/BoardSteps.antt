@@ -1,6 +1,6 @@
 -- The steps of the board: what each does to the words, slots and views, and the events of the core
 -- that it stands for.
-use Rattle.std.specs.Prelude.{◌≡◌, ℕ, suc, ◌+◌, ◌%◌, ◌^◌, nat_lt, List, [], ◌∷◌, ◌++◌, true, false}
+use Rattle.std.specs.Prelude.{◌≡◌, ℕ, suc, ◌+◌, ◌%◌, ◌^◌, nat_lt, List, [], ◌∷◌, ◌++◌, true}
 use Rattle.std.specs.Prelude.{Some, if◌then◌else◌, slice_index, slice_set}
 use mathlib.Core.Option.{some}
 use lib.ListN.{get_elem?}
@@ -15,7 +15,7 @@ use Rattle.pic_yard.specs.Arrivals.{IsAboutToPost, Arrived}
 use Rattle.pic_yard.specs.Contents.{Slot, tiles_in, from_of}
 use Rattle.pic_yard.specs.Members.{In}
 use Rattle.pic_yard.specs.Returns.{IsStacked, Returned}
-use Rattle.pic_yard.specs.Rule.{Rule, ticket_of}
+use Rattle.pic_yard.specs.Rule.{ticket_of}
 use Rattle.pic_yard.specs.Sits.{Sits, Drawn}
 use Rattle.pic_yard.specs.Steps.{gave_number, newcomer, took_in, spent_view}
 
@@ -106,30 +106,3 @@ numbers_of o s next (posts id me r d parcel slots step) = []
 numbers_of o s next (returns id me r tile slots step) = []
 numbers_of o s next (splits id v x step) = []
 numbers_of o s next (joins id v other u step) = []
-
--- there is a state that meets the board's rule, and a step of that kind leads to it
-abbrev pub HasStep : Opening → (State Slot View → Type 0) → Type 0
-HasStep o Kind = (next : State Slot View) × Rule o next × Kind next
-
--- Each seat has a step to take, which keeps the board's rule: it may draw where it was not told
--- that no tile is left, post a parcel that it owes and has at hand, give back a tile that it has the
--- right to and has finished at hand, make a seat of a number that it was still to make, and take in
--- a seat that is through.
-pub record AllowsSteps (o : Opening) (s : State Slot View) : Type 0 where
-  pub draw : (id : ℕ) (me : Me Slot View) → get_elem? s.views id ≡ some me.0 → Sits o me
-      → me.0.told ≡ false → HasStep o (λ next. IsDraw o s next id me)
-  pub post : (id : ℕ) (me : Me Slot View) (r d : ℕ) (parcel : Slot) (slots : List (ℕ × Slot))
-      → get_elem? s.views id ≡ some me.0 → IsAboutToPost o me r d parcel slots
-      → HasStep o (λ next. IsPost o s next id me r d parcel slots)
-  pub back : (id : ℕ) (me : Me Slot View) (r : ℕ) (tile : Slot) (slots : List (ℕ × Slot))
-      → get_elem? s.views id ≡ some me.0 → IsStacked o me r tile slots
-      → HasStep o (λ next. IsReturn o s next id me r tile slots)
-  pub split : (id : ℕ) (v : View) (x : ℕ) → get_elem? s.views id ≡ some v → v.live ≡ true
-      → v.opening ≡ Some o → In x v.unmade → HasStep o (λ next. IsSplit o s next id v x)
-  pub join : (id : ℕ) (v : View) (other : ℕ) (u : View) → get_elem? s.views id ≡ some v
-      → v.live ≡ true → v.opening ≡ Some o → (other ≡ id → ⊥) → get_elem? s.views other ≡ some u
-      → u.live ≡ true → u.told ≡ true → u.owes ≡ [] → u.rights ≡ []
-      → HasStep o (λ next. IsJoin o s next id v other u)
-
-abbrev pub TheRuleAllowsTheSteps : Type 0
-TheRuleAllowsTheSteps = (o : Opening) (s : State Slot View) → Rule o s → AllowsSteps o s

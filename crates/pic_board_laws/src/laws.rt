@@ -1,7 +1,7 @@
 //! The board stands for the core of events, step by step, and each number is drawn once.
 
-ghost use Rattle.pic_board_laws.specs.BoardSteps.{TheRuleAllowsTheSteps};
-ghost use Rattle.pic_board_laws.specs.Histories.{EachNumberIsDrawnOnce, NoTwoSeatsClaimOneTile};
+ghost use Rattle.pic_board_laws.specs.Histories.{EachNumberIsDrawnOnce, EachStateEndsAHistory};
+ghost use Rattle.pic_board_laws.specs.Histories.{NoTwoSeatsClaimOneTile};
 ghost use Rattle.pic_board_laws.specs.Laws.{SlotsAreNoEvents, TheBoardBeginsAsTheCore};
 ghost use Rattle.pic_board_laws.specs.Laws.{TheBoardEndsAsTheCore, TheBoardGoesOnAsTheCore};
 ghost use Rattle.pic_board_laws.specs.Laws.{TheBoardRunsAsTheCore, TheBoardStandsForTheCore};
@@ -20,12 +20,6 @@ pub fn the_board_begins_as_the_core()
     ensures { TheBoardBeginsAsTheCore }
 {}
 
-/// In each state that meets the board's rule a seat has its step to take, and the rule holds after
-/// it: a draw, a post, giving back a tile, the making of a seat, and the taking in of one.
-pub fn the_rule_allows_the_steps()
-    ensures { TheRuleAllowsTheSteps }
-{}
-
 /// Each step of the board takes the core on by its events, each of them allowed when it comes: a
 /// draw claims the tile of its number, or is no event past the last tile; an arrival posts a
 /// parcel; giving back a tile merges its own parcel, then the other 26, and shuts it. The making
@@ -37,6 +31,13 @@ pub fn the_board_goes_on_as_the_core()
 /// What seats put into their slots and take out of them is no event: the state of the core stays.
 pub fn slots_are_no_events()
     ensures { SlotsAreNoEvents }
+{}
+
+/// That a state ends a history of such steps is kept, as the rule of the board is, by each draw,
+/// post and return of a tile, and by the making and the taking in of a seat, whatever the other
+/// seats do in between, with what each tells its seat.
+pub fn each_state_ends_a_history()
+    ensures { EachStateEndsAHistory }
 {}
 
 /// Whichever steps follow one another, in whatever order the seats take them, they are one list of
