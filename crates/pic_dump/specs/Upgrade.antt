@@ -1,6 +1,6 @@
 -- The version 2 spelling of a dump: the same header, in version 2, and the same records. And what a call
 -- that puts it did, held against what the source had.
-use Rattle.std.specs.Prelude.{◌≡◌, ℕ, zero, suc, ◌+◌, ◌*◌, List, [], ◌∷◌, ◌++◌, length, map, take, None, Some, Result, Ok, Err, ⊤}
+use Rattle.std.specs.Prelude.{◌≡◌, ◌≢◌, ℕ, zero, suc, ◌+◌, ◌*◌, List, [], ◌∷◌, ◌++◌, length, map, take, None, Some, Result, Ok, Err, ⊤}
 use Rattle.pic_io.specs.Told.{Told, Rose, Calm, Quiet}
 use Rattle.pic_io.specs.Source.{IsAtEnd}
 use Rattle.pic_io.specs.Sink.{Appended}
@@ -137,13 +137,13 @@ Answered of start source source' out out' (Err NoMemory) = PutsNothing source so
 
 -- the whole spelling was put, and the source was read to its end; or all that was whole before the first
 -- fault; or a read or a put failed, or want of memory
-pub record Upgrades (source source' out out' : Told) (answer : Answer) : Type 0 where
-  pub answer : Answered upgrade_of 0 source source' out out' answer
+pub record Upgrades (source source' out out' : Told) (result : Answer) : Type 0 where
+  pub answer : Answered upgrade_of 0 source source' out out' result
 
 -- the same for the records from where a reader stands
-pub record UpgradesBehind (r : Standing) (source source' out out' : Told) (answer : Answer) : Type 0 where
-  pub answer : Answered (upgrade_behind r) r.place source source' out out' answer
-  pub no_memory : ¬ (answer ≡ Err NoMemory)
+pub record UpgradesBehind (r : Standing) (source source' out out' : Told) (result : Answer) : Type 0 where
+  pub answer : Answered (upgrade_behind r) r.place source source' out out' result
+  pub no_memory : result ≢ Err NoMemory
 
 -- that of the bytes, or want of memory
 abbrev pub OrNoMemory : Answer → Answer → Type 0
