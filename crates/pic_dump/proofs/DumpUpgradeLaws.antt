@@ -1,21 +1,17 @@
 -- A dump read and put, from its header and what its records come to.
-use Rattle.std.proofs.Common.{◌≡◌, ◌≢◌, ℕ, suc, ◌+◌, ◌*◌, ◌<◌, ◌≤◌, Bool, true, false, eqb, List, [], ◌∷◌, ◌++◌, length, take, None, Some, Result, Ok, Err, IsErrAnd, inl, inr}
+use Rattle.std.proofs.Common.{◌≡◌, ◌≢◌, ℕ, suc, List, ◌∷◌, take, None, Some, Result, Ok, Err, IsErrAnd, inr}
 use Rattle.std.proofs.Common.{refl, sym, ap, subst, ◌∙◌, arith}
-use Rattle.std.specs.Prelude.{if◌then◌else◌}
 use Rattle.std.proofs.lemmas.Result.{err_from_is_err_and}
 use Rattle.pic_io.specs.Told.{Told, Rose, Calm}
 use Rattle.pic_io.specs.Sink.{Appended, AppendedFront}
-use Rattle.pic_io.specs.Sinks.{sinks, Piece, outs, CutAt}
+use Rattle.pic_io.specs.Sinks.{sinks, outs, CutAt}
 use Rattle.pic_io.specs.declared.side.Side.TheVariants.{Out}
 use Rattle.pic_io.proofs.Puts.{appended_none, appended_twice, cut_out, cut_failed, wrote_out}
-use Rattle.pic_grid.specs.Species.{AreHeads}
-use Rattle.pic_num.specs.Limits.{allowance_of}
-use Rattle.pic_num.specs.Versions.{IsVersion, IsGridOf}
-use Rattle.pic_fields.specs.Parser.{input, Fault, fault, Parsed}
-use Rattle.pic_fields.specs.Reads.{Left, Moves, HasRead}
+use Rattle.pic_fields.specs.Parser.{input, Fault, fault}
+use Rattle.pic_fields.specs.Reads.{Moves, HasRead}
 use Rattle.pic_fields.specs.declared.read_stop.ReadStop.TheVariants as read
 use Rattle.pic_fields.proofs.ReadLaws.{some_rest, rose_after, moves_then, moves_up}
-use Rattle.pic_header.specs.Header.{HeaderView, HasLimits, IsHeader}
+use Rattle.pic_header.specs.Header.{HeaderView}
 use Rattle.pic_header.specs.HeaderFields.{header_length, header_at, header_most}
 use Rattle.pic_header.specs.HeaderText.{header_bytes}
 use Rattle.pic_header.specs.HeadReads.{HeadReads}
@@ -23,9 +19,9 @@ use Rattle.pic_header.specs.declared.head_stop.HeadStop.{HeadStop}
 use Rattle.pic_header.specs.declared.head_stop.HeadStop.TheVariants as head
 use Rattle.pic_header.proofs.WithinLaws.{told_held}
 use Rattle.pic_record.specs.Layout.{layout_of}
-use Rattle.pic_dump.specs.DumpRead.{DumpRead, of_header, read_on, read_dump}
+use Rattle.pic_dump.specs.DumpRead.{DumpRead, of_header, read_dump}
 use Rattle.pic_dump.specs.Standing.{Standing}
-use Rattle.pic_dump.specs.Upgrade.{Answer, Upgrade, upgraded, header_piece, piece_end, record_end, upgrade_dump, upgrade_of, upgrade_behind, Puts, FailsToRead, FailsToPut, PutsNothing, Answered, Upgrades, UpgradesBehind, IsExact}
+use Rattle.pic_dump.specs.Upgrade.{Answer, Upgrade, upgraded, header_piece, piece_end, record_end, upgrade_dump, upgrade_of, upgrade_behind, Puts, Answered, Upgrades, UpgradesBehind, IsExact}
 use Rattle.pic_dump.specs.UpgradeStops.{stop_of_head}
 use Rattle.pic_dump.specs.declared.upgrade_stop.UpgradeStop.TheVariants.{ReadFault, BadDump, WriteFault, NoMemory}
 use Rattle.pic_dump.proofs.UpgradeLaws.{header_some}
@@ -203,54 +199,3 @@ exact x z o q (Err WriteFault) v bytes told quiet quiet_out =
     let failed = v.answer in
     absurd (quiet_out (cut_failed Out (sinks o o) (sinks q o) (upgrade_of failed.held).pieces (failed.cut o)).0)
 exact x z o q (Err NoMemory) v bytes told quiet quiet_out = tt
-
--- version 1 allows less
-cells_allowed : (one : Bool) (n : ℕ) → n ≤ (if one then 64 else 128) → n ≤ 128
-cells_allowed true n most = omega (arith, most)
-cells_allowed false n most = most
-
-bits_allowed : (one : Bool) (n : ℕ) → (if one then 12 else 8) ≤ n → 8 ≤ n
-bits_allowed true n least = omega (arith, least)
-bits_allowed false n least = least
-
-most_bits_allowed : (one : Bool) (n : ℕ) → n ≤ (if one then 12 else 14) → n ≤ 14
-most_bits_allowed true n most = omega (arith, most)
-most_bits_allowed false n most = most
-
-particles_allowed : (one : Bool) (n : ℕ) → n ≤ (if one then 1048576 else 4194304) → n ≤ 4194304
-particles_allowed true n most = omega (arith, most)
-particles_allowed false n most = most
-
-pub still_header : (h : HeaderView) → IsHeader h → HasLimits (upgraded h)
-still_header h is = go (eqb h.version 1) refl is.limits.grid is.limits.heads
-  where
-    go : (one : Bool) → eqb h.version 1 ≡ one → IsGridOf h.version h.cells h.side → AreHeads (allowance_of h.version).particles h.species → HasLimits (upgraded h)
-    go true one grid heads =
-        let g = rw one at grid in
-        let s = rw one at heads in
-        let side = g.sides in
-        record {
-          version = record { least = omega arith; most = omega arith };
-          grid = record {
-            x = cells_allowed true h.cells.x g.x;
-            y = cells_allowed true h.cells.y g.y;
-            z = cells_allowed true h.cells.z g.z;
-            sides = record { power = side.power; least = bits_allowed true _ side.least; most = most_bits_allowed true _ side.most };
-          };
-          steps_most = is.limits.steps_most;
-          every_least = is.limits.every_least;
-          every_most = is.limits.every_most;
-          heads = record { few = s.few; names = s.names; kinds = s.kinds; differ = s.differ; total = particles_allowed true _ s.total };
-        }
-    go false one grid heads =
-        let g = rw one at grid in
-        let s = rw one at heads in
-        let side = g.sides in
-        record {
-          version = record { least = omega arith; most = omega arith };
-          grid = record { x = g.x; y = g.y; z = g.z; sides = record { power = side.power; least = side.least; most = side.most } };
-          steps_most = is.limits.steps_most;
-          every_least = is.limits.every_least;
-          every_most = is.limits.every_most;
-          heads = s;
-        }

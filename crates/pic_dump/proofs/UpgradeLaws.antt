@@ -1,6 +1,6 @@
 -- The records of a dump, read and put one after another.
-use Rattle.std.proofs.Common.{◌≡◌, ◌≢◌, ℕ, suc, ◌+◌, ◌-◌, ◌*◌, ◌<◌, ◌≤◌, List, [], ◌∷◌, ◌++◌, length, map, take, Option, Some, None, Result, Ok, Err, IsErrAnd}
-use Rattle.std.proofs.Common.{refl, sym, ap, subst, ◌∙◌, arith, append_assoc, append-nil, length-append, add-one}
+use Rattle.std.proofs.Common.{◌≡◌, ◌≢◌, ℕ, suc, ◌+◌, ◌-◌, ◌<◌, List, [], ◌∷◌, ◌++◌, length, take, None, Ok, Err, IsErrAnd}
+use Rattle.std.proofs.Common.{refl, sym, ap, subst, ◌∙◌, arith, append_assoc, append-nil, length-append}
 use Rattle.std.proofs.Math.Seq.{take-append_seam}
 use Rattle.std.proofs.lemmas.Grind.{flat_map-append}
 use Rattle.std.proofs.lemmas.List.{map-append, length-map}
@@ -16,15 +16,15 @@ use Rattle.pic_grid.specs.declared.stop.EndMark.TheVariants.{Done, Stopped}
 use Rattle.pic_grid.specs.declared.stop.Stop.TheVariants.{Field as FieldStop, Push}
 use Rattle.pic_grid.specs.Lattice.{Field}
 use Rattle.pic_energy.specs.declared.amounts.Energies.{Energies}
-use Rattle.pic_fields.specs.Parser.{input, Fault, fault}
-use Rattle.pic_fields.specs.Reads.{Left, Moves, HasReadAll, Stops}
+use Rattle.pic_fields.specs.Parser.{input, fault}
+use Rattle.pic_fields.specs.Reads.{HasReadAll, Stops}
 use Rattle.pic_fields.specs.declared.read_stop.ReadStop.{ReadStop}
 use Rattle.pic_fields.specs.declared.read_stop.ReadStop.TheVariants as read
 use Rattle.pic_fields.proofs.ReadLaws.{some_rest, rose_after, moves_then, moves_up}
 use Rattle.pic_header.specs.Header.{HeaderView}
 use Rattle.pic_header.specs.HeaderText.{header_bytes, front_bytes, mark_bytes}
 use Rattle.pic_record.specs.Due.{due_after}
-use Rattle.pic_record.specs.FrameFields.{FrameView, frame_of, frame_length}
+use Rattle.pic_record.specs.FrameFields.{FrameView, frame_of}
 use Rattle.pic_record.specs.Layout.{LayoutView}
 use Rattle.pic_record.specs.Records.{AFrame, AnEnd, record_at}
 use Rattle.pic_record.specs.RecordText.{frame_bytes, start_bytes, state_bytes, end_bytes, done_bytes, field_stop_bytes, push_stop_bytes}
@@ -33,7 +33,7 @@ use Rattle.pic_dump.specs.DumpRead.{RecordsRead, read_on}
 use Rattle.pic_dump.specs.InTurn.{step_before}
 use Rattle.pic_dump.specs.NextReads.{HasFrame, most_of, record_most}
 use Rattle.pic_dump.specs.Standing.{Standing}
-use Rattle.pic_dump.specs.Upgrade.{Answer, Upgrade, piece_of, frame_pieces, end_pieces, record_end, upgrade_records, upgrade_behind, Puts, FailsToRead, FailsToPut, UpgradesBehind, Answered}
+use Rattle.pic_dump.specs.Upgrade.{Answer, Upgrade, piece_of, frame_pieces, end_pieces, record_end, upgrade_records, upgrade_behind, UpgradesBehind, Answered}
 use Rattle.pic_dump.specs.UpgradeStops.{stop_of_read}
 use Rattle.pic_dump.specs.declared.upgrade_stop.UpgradeStop.TheVariants.{ReadFault, BadDump, WriteFault, NoMemory}
 use Rattle.pic_dump.proofs.ReadOnLaws.{with_frames, records_of, HasReadOn, on_none, on_frame, on_end, on_fault}

@@ -5,7 +5,9 @@ pub returns-in_err-reader-clause-upgrades : goal.returns-in_err-reader-clause-up
 returns-in_err-reader-clause-upgrades g c = stops_head _ _ _ _ _ _ c.from_residual.ensures.1 c.in_err-reader.ensures.reads
 
 pub returns-in_err-reader-clause-exactly : goal.returns-in_err-reader-clause-exactly
-returns-in_err-reader-clause-exactly g c = exact _ _ _ _ _ (stops_head _ _ _ _ _ _ c.from_residual.ensures.1 c.in_err-reader.ensures.reads)
+returns-in_err-reader-clause-exactly g c =
+    let out = g.O.Sink.told c.args.out.now in
+    exact _ _ out out _ (stops_head _ _ _ out _ _ c.from_residual.ensures.1 c.in_err-reader.ensures.reads)
 
 pub returns-in_err-reader-clause-longest : goal.returns-in_err-reader-clause-longest
 returns-in_err-reader-clause-longest g c = λ wanted. head_moves _ _ _ _ c.in_err-reader.ensures.reads
