@@ -175,41 +175,41 @@ module _ (source source' out out' r r' : Told) (finish : Result Ended Cut) where
 pub put_failed : (source source' out out' r : Told) → Upgrades source source' out out' (Err stop.WriteFault)
     → Performs upgrading source source' (sinks out r) (sinks out' r) (ended_of (Err (cut.Write Out)))
 put_failed source source' out out' r is =
-  let fails : FailsToPut upgrade_of 0 source source' out out' = is.answer in
-  record {
-  read = record {
-    front = fails.moves.front;
-    most = tt;
-    taken = fails.moves.moved;
-    given = Held fails.held;
-    gave = (fails.calm, left_held source.bytes fails.held fails.was);
-  };
-  calm = λ _. fails.calm;
-  reads = record { memory = λ same. cc; end = λ frames same. cc; part = λ held whole same. cc };
-  comes = inr (inl (record {
-    side = Out;
-    failed = refl;
-    cut = cut_more Out (sinks out r) (sinks out' r) (upgrade_of fails.held).pieces ((upgrade_on (Held fails.held)).last ∷ []) (fails.cut r);
-  }));
-}
+    let fails : FailsToPut upgrade_of 0 source source' out out' = is.answer in
+    record {
+      read = record {
+        front = fails.moves.front;
+        most = tt;
+        taken = fails.moves.moved;
+        given = Held fails.held;
+        gave = (fails.calm, left_held source.bytes fails.held fails.was);
+      };
+      calm = λ _. fails.calm;
+      reads = record { memory = λ same. cc; end = λ frames same. cc; part = λ held whole same. cc };
+      comes = inr (inl (record {
+        side = Out;
+        failed = refl;
+        cut = cut_more Out (sinks out r) (sinks out' r) (upgrade_of fails.held).pieces ((upgrade_on (Held fails.held)).last ∷ []) (fails.cut r);
+      }));
+    }
 
 -- memory was wanting
 pub put_none : (source source' out out' r : Told) → Upgrades source source' out out' (Err stop.NoMemory) → TakesHeader source source'
     → Performs upgrading source source' (sinks out r) (sinks out' r) NoMemory
 put_none source source' out out' r is header =
-  let none : PutsNothing source source' out out' = is.answer in
-  record {
-  read = record {
-    front = header.longest.front;
-    most = tt;
-    taken = header.longest.moved;
-    given = Held (unwrap_or source.bytes []);
-    gave = gave_known source source' header.longest.front none.calm;
-  };
-  calm = λ _. none.calm;
-  reads = record { memory = λ _. header; end = λ frames same. cc; part = λ held whole same. cc };
-  comes = inr (inr (record { wanted = refl; left = wrote_out out out' r [] none.put none.calm_out }));
-}
+    let none : PutsNothing source source' out out' = is.answer in
+    record {
+      read = record {
+        front = header.longest.front;
+        most = tt;
+        taken = header.longest.moved;
+        given = Held (unwrap_or source.bytes []);
+        gave = gave_known source source' header.longest.front none.calm;
+      };
+      calm = λ _. none.calm;
+      reads = record { memory = λ _. header; end = λ frames same. cc; part = λ held whole same. cc };
+      comes = inr (inr (record { wanted = refl; left = wrote_out out out' r [] none.put none.calm_out }));
+    }
 
 -- what its answers mean
 module _ (c : Call) (ended : Ended) (p : Performs upgrading c.source c.source_now c.sinks c.sinks_now ended) where

@@ -28,7 +28,13 @@ fn an_empty_dump_is_upgraded(rt: HostRuntime) {
     assert!(rt; new.get(..8) == Some(b"PICDUMP2") && new.get(8..60) == old.get(8..60));
     let added: [u8; 16] = [0, 0, 0, 12, 0, 0, 0, 0, 0, 0, 0, 0, 0, 0, 0, 0];
     assert!(rt; new.get(60..76) == Some(&added) && new.get(76..) == old.get(64..));
-    check(&rt, &upgrade(&rt, new, CALM), 0, new, b"upgraded 1 frames\n");
+    check(
+        &rt,
+        &upgrade(&rt, new, CALM),
+        0,
+        new,
+        b"upgraded 1 frames\n",
+    );
 }
 
 // The run of the same deck in version 2 writes it.
@@ -60,7 +66,12 @@ const CASES: [Case; 10] = [
     (0, b'P', 12679, 12686, b"bad dump 12679 9\n"),
 ];
 
-fn check_case<H: AllocGlobal + Abort + Threads + Sync>(rt: &H, old: &[u8], new: &[u8], case: &Case) {
+fn check_case<H: AllocGlobal + Abort + Threads + Sync>(
+    rt: &H,
+    old: &[u8],
+    new: &[u8],
+    case: &Case,
+) {
     let (place, byte, len, put, line) = *case;
     let front = old.get(..place).expect(rt, "a front of the dump");
     let rest = old

@@ -20,9 +20,9 @@ pub returns-in-Err-BadDump : goal.returns-in-Err-BadDump
 returns-in-Err-BadDump g c =
     let o = g.O.Sink.told c.upgrade.new.out in
     put_up_to (g.S.Source.told c.args.source.now) (g.S.Source.told c.upgrade.new.source) (g.O.Sink.told c.args.out.now) o
-    (g.R.Sink.told c.args.report.now) (g.R.Sink.told c.end_early-2.new.report) c.end_early-2.result
+    (g.R.Sink.told c.args.report.now) (g.R.Sink.told c.end_early-in-Err-BadDump.new.report) c.end_early-in-Err-BadDump.result
     c.in-Err-BadDump.place c.in-Err-BadDump.cause
-    (rw c.in-Err-BadDump.field-0-is at c.in-Err-BadDump.ensures.upgrades) (c.end_early-2.ensures o)
+    (rw c.in-Err-BadDump.field-0-is at c.in-Err-BadDump.ensures.upgrades) (c.end_early-in-Err-BadDump.ensures o)
 
 pub returns-in-Err-WriteFault : goal.returns-in-Err-WriteFault
 returns-in-Err-WriteFault g c =
