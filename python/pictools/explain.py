@@ -167,4 +167,5 @@ MEANINGS: list[tuple[str, Callable[..., list[str]]]] = [
     (r"done (\d+)", lambda step: [f"The run came to its last step, {step}; the dump is whole."]),
     (r"ok (\d+) particles", lambda number: [f"The deck can be run: {number} particles, and E meets Gauss's law at every node."]),
     (r"verified (\d+) frames", lambda number: [f"The dump is of the format, and each of its {number} frames meets Gauss's law."]),
+    (r"upgraded (\d+) frames", lambda number: [f"The dump was put again in the spelling of version 2, whole, with its {number} frames."]),
     (r"read fault", lambda: STATUSES[4]), (r"(?:status |exit )?(\d+)", status)]

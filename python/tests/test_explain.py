@@ -50,9 +50,10 @@ LINES = (
     ("stopped 392 particle 8191 speed 1 1099511627777", "E is far too strong"),
     ("bad dump 12679 9", "info, plot and thin"), ("bad dump 7 1", "another version"),
     ("broken frame 1 node 0 0 0 div 412316860416 rho 412518187008", "bytes were changed"),
-    ("read fault", "< DECK"), ("usage: pic [check | run [--workers N] | verify | demo SEED [--workers N]]", "nothing was read"),
+    ("read fault", "< DECK"), ("usage: pic [check | run [--workers N] | verify | demo SEED [--workers N] | upgrade]", "nothing was read"),
     ("frame 4 kinetic 39027395632217877 electric 183584460 magnetic 20386363", "three units"),
     ("done 16", "dump is whole"), ("ok 2 particles", "can be run"), ("verified 2 frames", "Gauss's law"),
+    ("upgraded 2 frames", "version 2"),
     ("5", "disk is full.*whole frames"), ("status 6", "97 bytes a particle"), ("exit 137", "want of memory"), ("99", "128"),
 )
 

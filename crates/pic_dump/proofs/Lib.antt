@@ -4,3 +4,5 @@ pub mod ReadOnLaws
 pub mod FuelLaws
 pub mod ReadableDump
 pub mod SpellingLaws
+pub mod UpgradeLaws
+pub mod DumpUpgradeLaws

@@ -4,3 +4,5 @@ pub mod InTurn
 pub mod DumpRead
 pub mod Readable
 pub mod Spelling
+pub mod Upgrade
+pub mod UpgradeStops

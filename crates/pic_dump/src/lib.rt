@@ -4,6 +4,8 @@
 
 mod dump_reader;
 mod laws;
+mod upgrade_stop;
+mod upgrading;
 
 pub use dump_reader::{DumpReader, Next};
 pub use laws::{dumps_are_read, dumps_have_one_spelling};
@@ -16,3 +18,5 @@ pub use pic_record::{
     ends_are_read, frames_are_due_in_turn, frames_are_read, frames_read_are_readable, put_end,
     put_frame, records_have_one_spelling,
 };
+pub use upgrade_stop::UpgradeStop;
+pub use upgrading::upgrade;

@@ -6,7 +6,7 @@ use Rattle.clap.specs.ValueTests.{is_unsigned_in}
 use Rattle.clap.specs.Kinds.{Kinds}
 use Rattle.clap.specs.Words.{App, Row, Rule, Text, fault_of, new_app, new_rule, one_of, subcommand_of, with_rule, with_subcommand}
 use Rattle.pic_line.specs.declared.asked.Command.{Command}
-use Rattle.pic_line.specs.declared.asked.Command.TheVariants.{Check, Run, Verify, Demo}
+use Rattle.pic_line.specs.declared.asked.Command.TheVariants.{Check, Run, Verify, Demo, Upgrade}
 
 -- `--workers N`, a whole number of 1 to 64, and 1 where it is absent
 abbrev pub workers_rule : Rule
@@ -29,15 +29,17 @@ run_app = with_rule (new_app (codes "run")) workers_rule
 abbrev pub demo_app : App
 demo_app = with_rule (with_rule (new_app (codes "demo")) seed_rule) workers_rule
 
--- the command, with the subcommands `check`, `run`, `verify` and `demo`
+-- the command, with the subcommands `check`, `run`, `verify`, `demo` and `upgrade`
 unfoldable pub pic_app : App
 pic_app =
     with_subcommand
     (with_subcommand
     (with_subcommand
+    (with_subcommand
     (with_subcommand (new_app (codes "pic")) (new_app (codes "check")).top) run_app.top)
     (new_app (codes "verify")).top)
-    demo_app.top
+    demo_app.top)
+    (new_app (codes "upgrade")).top
 
 -- the number from low to high that a text names
 unfoldable pub number_in : ℕ → ℕ → Text → Option ℕ
@@ -67,6 +69,7 @@ command_named name rows =
     else if bytes_eq name (codes "run") then option_map Run (workers_in rows)
     else if bytes_eq name (codes "verify") then Some Verify
     else if bytes_eq name (codes "demo") then demo_of (seed_in rows) (workers_in rows)
+    else if bytes_eq name (codes "upgrade") then Some Upgrade
     else None
 
 -- no subcommand is `check`

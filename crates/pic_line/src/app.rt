@@ -16,10 +16,12 @@ pub fn pic<'a>(alloc: Global) -> Result<clap::Command<'a>, AllocError>
     let verify = clap::Command::new(alloc, "verify");
     let seeded = clap::Command::new(alloc, "demo").arg(seed(alloc))?;
     let demo = seeded.arg(workers(alloc))?;
+    let upgrade = clap::Command::new(alloc, "upgrade");
     let one = clap::Command::new(alloc, "pic").subcommand(check)?;
     let two = one.subcommand(run)?;
     let three = two.subcommand(verify)?;
-    let all = three.subcommand(demo)?;
+    let four = three.subcommand(demo)?;
+    let all = four.subcommand(upgrade)?;
     Ok(all)
 }
 

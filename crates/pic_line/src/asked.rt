@@ -16,6 +16,8 @@ pub enum Command {
     Verify,
     /// Runs the demonstration of this seed, on so many workers, 1 to 64.
     Demo { seed: u32, workers: u32 },
+    /// Reads a dump and writes it in the spelling of version 2.
+    Upgrade,
 }
 
 /// Why a line has no command.

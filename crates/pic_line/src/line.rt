@@ -74,6 +74,8 @@ fn command_named(name: &str, found: &ArgMatches<'_>) -> Option<Command>
         Some(Command::Verify)
     } else if name == "demo" {
         demo_of(seed_in(found), workers_in(found))
+    } else if name == "upgrade" {
+        Some(Command::Upgrade)
     } else {
         None
     }

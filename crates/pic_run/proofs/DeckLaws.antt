@@ -28,7 +28,7 @@ use Rattle.pic_run.specs.DeckEnd.{DeckEnd, Unread, Unfit, Unmet, Staged, ◌>>=�
 use Rattle.pic_run.specs.Ended.{ended_of}
 use Rattle.pic_run.specs.Frames.{end_where, end_of_run}
 use Rattle.pic_run.specs.Starting.{first_state, state_break, IsGauss}
-use Rattle.pic_run.specs.Reading.{deck_limit, Given, Held, Failed, Gave}
+use Rattle.pic_run.specs.Reading.{deck_limit, Given, Held, Failed, FailedBehind, Gave}
 use Rattle.pic_run.specs.Outcome.{Outcome, answer_of, early_outcome, unless_refused, unless_gauss_fails, accepted, tested, opened, on_deck, check_outcome, run_outcome}
 use Rattle.pic_run.specs.Leaves.{Leaving, ComesTo, Fulfils, LeavesNothing, LeavesWhole}
 use Rattle.pic_run.specs.Finishes.{Finishes, Announces, EndsStopped}
@@ -38,7 +38,7 @@ use Rattle.pic_run.specs.OnDeck.{ReadsDeck, HasDeck, IsLeastBreakOf, IsRunDone, 
 use Rattle.pic_run.specs.Check.{CheckMeans, checking}
 use Rattle.pic_run.specs.Run.{running}
 use Rattle.pic_run.specs.Ends.{MeansIn}
-use Rattle.pic_run.proofs.EndLaws.{finished, announced, starved, fed, told_held, gave_held, gave_failed}
+use Rattle.pic_run.proofs.EndLaws.{finished, announced, starved, fed, told_held, gave_held, gave_failed, HasFailed}
 use Rattle.pic_run.proofs.StateLaws.{each_gauss, stops_by_stop}
 use Rattle.pic_run.proofs.StartLaws.{gauss_of}
 
@@ -51,6 +51,7 @@ not_wanted (Unmet b) same = cc
 calm_opened : (source source' : Told) (front : List ℕ) (given : Given) (d : DeckView) → Gave source source' front given
     → opened given ≡ Ok d → Calm source source'
 calm_opened source source' front (Failed taken) d gave is = let other : ◌≡◌ {A = Staged DeckView} (Err Unread) (Ok d) = is in cc
+calm_opened source source' front (FailedBehind held whole) d gave is = let other : ◌≡◌ {A = Staged DeckView} (Err Unread) (Ok d) = is in cc
 calm_opened source source' front (Held held) d gave is = gave.0
 
 -- nothing was read because memory was wanting
@@ -115,13 +116,14 @@ on_opened performed leaves own o source source' before now finish opens ends =
 -- where the value of the stages of a deck comes from
 abbrev IsFrom : Given → Staged DeckView → Type 0
 IsFrom given (Ok d) = (held : List ℕ) × (given ≡ Held held) × (walk (take deck_limit held) ≡ Ok d) × (state_break (first_state d) ≡ None)
-IsFrom given (Err Unread) = (front : List ℕ) × (given ≡ Failed front)
+IsFrom given (Err Unread) = HasFailed given
 IsFrom given (Err (Unfit refusal)) = (held : List ℕ) × (given ≡ Held held) × (walk (take deck_limit held) ≡ Err refusal)
 IsFrom given (Err (Unmet b)) =
     (held : List ℕ) × (d : DeckView) × (given ≡ Held held) × (walk (take deck_limit held) ≡ Ok d) × (state_break (first_state d) ≡ Some b)
 
 from : (given : Given) → IsFrom given (opened given)
-from (Failed front) = (front, refl)
+from (Failed front) = tt
+from (FailedBehind held whole) = tt
 from (Held held) = go (walk (take deck_limit held)) refl
   where
     test : (d : DeckView) → walk (take deck_limit held) ≡ Ok d → (b : Option Break) → state_break (first_state d) ≡ b
@@ -153,8 +155,8 @@ module _ (performed : DeckView → Outcome) (leaves : Leaving) (own : Call → E
 
   means_end : (end : DeckEnd) → IsFrom p.read.given (Err end) → Fulfils (early_outcome (ended_at end)) c.sinks c.sinks_now ended
       → MeansIn (on_given_deck performed leaves own) c (ended_at end)
-  means_end Unread (front, same) ends = record {
-    rose = gave_failed c.source c.source_now p.read.front p.read.given front p.read.gave same;
+  means_end Unread failed ends = record {
+    rose = gave_failed c.source c.source_now p.read.front p.read.given p.read.gave failed;
     calm_out = ends.wrote.calm_out;
     calm_report = ends.wrote.calm_report;
   }

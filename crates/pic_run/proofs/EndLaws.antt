@@ -1,6 +1,6 @@
 -- How a call ends, from how its last part finished; and what a source gave that was read so.
 use Rattle.std.proofs.Common.{◌≡◌, List, [], ℕ, Option, Some, None, Result, Ok, Err, inl, inr, refl, ◌∙◌, ap, subst, sym}
-use Rattle.std.specs.Prelude.{unwrap_or, IfSome}
+use Rattle.std.specs.Prelude.{⊤, unwrap_or, IfSome}
 use Rattle.pic_io.specs.Told.{Told, Rose}
 use Rattle.pic_io.specs.Sinks.{Sinks}
 use Rattle.pic_io.specs.declared.side.Side.{Side}
@@ -11,7 +11,7 @@ use Rattle.pic_run.specs.declared.ended.Ended.{Ended}
 use Rattle.pic_run.specs.declared.ended.Ended.TheVariants.{WriteFault, NoMemory}
 use Rattle.pic_run.specs.Ended.{ended_of}
 use Rattle.pic_run.specs.Outcome.{Outcome}
-use Rattle.pic_run.specs.Reading.{Given, Held, Failed, Gave, Reading}
+use Rattle.pic_run.specs.Reading.{Given, Held, Failed, FailedBehind, Gave, Reading}
 use Rattle.pic_run.specs.Leaves.{Leaving, ComesTo}
 use Rattle.pic_run.specs.Finishes.{Finishes, Announces}
 use Rattle.pic_run.proofs.OpenedLaws.{gave_known}
@@ -65,10 +65,17 @@ told_held P (Some h) held is fact = subst P (sym is) fact
 pub gave_held : (source source' : Told) (front : List ℕ) (given : Given) (held : List ℕ) → Gave source source' front given → given ≡ Held held
     → IfSome source.bytes (λ h. h ≡ held)
 gave_held source source' front (Failed taken) held gave is = cc
+gave_held source source' front (FailedBehind other whole) held gave is = cc
 gave_held source source' front (Held h) held gave is =
     let same : h ≡ held = cc in subst (λ (x : List ℕ). IfSome source.bytes (λ b. b ≡ x)) same gave.1
 
-pub gave_failed : (source source' : Told) (front : List ℕ) (given : Given) (taken : List ℕ) → Gave source source' front given → given ≡ Failed taken
-    → Rose source source'
-gave_failed source source' front (Failed other) taken gave is = gave.0
-gave_failed source source' front (Held h) taken gave is = cc
+-- a read failed
+abbrev pub HasFailed : Given → Type 0
+HasFailed (Held held) = ⊥
+HasFailed (Failed taken) = ⊤
+HasFailed (FailedBehind held whole) = ⊤
+
+pub gave_failed : (source source' : Told) (front : List ℕ) (given : Given) → Gave source source' front given → HasFailed given → Rose source source'
+gave_failed source source' front (Failed taken) gave failed = gave.0
+gave_failed source source' front (FailedBehind held whole) gave failed = gave.0
+gave_failed source source' front (Held held) gave failed = absurd failed

@@ -10,5 +10,6 @@ pub mod EndLaws
 pub mod DeckLaws
 pub mod VerifyLaws
 pub mod DemoLaws
+pub mod UpgradeLaws
 pub mod CommandLaws
 pub mod MeaningLaws

@@ -8,7 +8,7 @@ use Rattle.pic_io.proofs.Puts.{cut_failed}
 use Rattle.pic_line.specs.CommandLine.{command_of}
 use Rattle.pic_run.specs.declared.ended.Ended.{Ended}
 use Rattle.pic_run.specs.declared.ended.Ended.TheVariants.{NoMemory}
-use Rattle.pic_run.specs.Reading.{Given, Held, Failed, Gave}
+use Rattle.pic_run.specs.Reading.{Given, Held, Failed, FailedBehind, Gave}
 use Rattle.pic_run.specs.Outcome.{Outcome, pieces_of}
 use Rattle.pic_run.specs.Leaves.{Leaving, Fulfils, ComesTo}
 use Rattle.pic_run.specs.Manner.{Call}
@@ -45,6 +45,7 @@ complete c ended p calm quiet = go p.read.given p.read.gave p.comes
         → ComesTo (manner_in c).leaves ((manner_in c).outcome given) c.sinks c.sinks_now ended
         → IfSome c.source.bytes (λ h. (ended ≡ NoMemory) ⊎ Fulfils (outcome c.words (Held h)) c.sinks c.sinks_now ended)
     go (Failed taken) gave comes = absurd (calm gave.0)
+    go (FailedBehind held whole) gave comes = absurd (calm gave.0)
     go (Held held) gave comes =
         told_held (λ h. (ended ≡ NoMemory) ⊎ Fulfils (outcome c.words (Held h)) c.sinks c.sinks_now ended) c.source.bytes held gave.1
         (fulfilled (manner_in c).leaves (outcome c.words (Held held)) c.sinks c.sinks_now ended comes quiet)

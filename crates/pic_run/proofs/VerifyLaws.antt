@@ -16,7 +16,7 @@ use Rattle.pic_run.specs.declared.ended.Ended.{Ended}
 use Rattle.pic_run.specs.declared.ended.Ended.TheVariants.{Verified, ReadFault, NoMemory}
 use Rattle.pic_run.specs.Early.{stop_of_verify}
 use Rattle.pic_run.specs.Ended.{ended_of}
-use Rattle.pic_run.specs.Reading.{Given, Held, Failed, Gave, Reading}
+use Rattle.pic_run.specs.Reading.{Given, Held, Failed, FailedBehind, Gave, Reading}
 use Rattle.pic_run.specs.Outcome.{verdict_on, verdict_outcome}
 use Rattle.pic_run.specs.Leaves.{ComesTo, Fulfils, LeavesNothing}
 use Rattle.pic_run.specs.Finishes.{Announces, EndsStopped}
@@ -27,7 +27,7 @@ use Rattle.pic_run.proofs.EndLaws.{announced, starved, fed, unlike, told_held}
 use Rattle.pic_run.proofs.OpenedLaws.{gave_known}
 
 -- what was left in a source is what it held, where it tells its bytes
-left_held : (known : Option (List ℕ)) (held : List ℕ) → known ≡ option_map (λ _. held) known → IfSome known (λ bytes. bytes ≡ held)
+pub left_held : (known : Option (List ℕ)) (held : List ℕ) → known ≡ option_map (λ _. held) known → IfSome known (λ bytes. bytes ≡ held)
 left_held None held is = tt
 left_held (Some bytes) held is = let same : bytes ≡ held = cc in same
 
@@ -128,6 +128,11 @@ module _ (c : Call) (ended : Ended) (p : Performs verifying c.source c.source_no
   on_given : (given : Given) → Gave c.source c.source_now p.read.front given → Fulfils (verdict_outcome (verdict_on given)) c.sinks c.sinks_now ended
       → MeansIn verifying c (verdict_outcome (verdict_on given)).answer
   on_given (Failed taken) gave ends = record { rose = gave.0; calm_out = ends.wrote.calm_out; calm_report = ends.wrote.calm_report }
+  on_given (FailedBehind held whole) gave ends = record {
+    rose = gave.0;
+    calm_out = ends.wrote.calm_out;
+    calm_report = ends.wrote.calm_report;
+  }
   on_given (Held held) gave ends = go (verified held) refl ends
     where
       on_held : (v : Verdict) → verified held ≡ v → IfSome c.source.bytes (λ bytes. verified bytes ≡ v)

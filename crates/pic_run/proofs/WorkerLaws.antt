@@ -6,7 +6,7 @@ use Rattle.std.specs.Prelude.{codes}
 use Rattle.clap.specs.Words.{fault_of, subcommand_of}
 use Rattle.pic_crew.specs.Teams.{most_workers}
 use Rattle.pic_line.specs.declared.asked.Command.{Command}
-use Rattle.pic_line.specs.declared.asked.Command.TheVariants.{Check, Run, Verify, Demo}
+use Rattle.pic_line.specs.declared.asked.Command.TheVariants.{Check, Run, Verify, Demo, Upgrade}
 use Rattle.pic_line.specs.CommandLine.{pic_app, number_in, workers_in, seed_in, demo_of, command_from, unless_fault, command_of}
 
 -- so many workers
@@ -49,17 +49,18 @@ demo_has (Some seed) (Some n) c all h = plain (Demo seed n) c (all n refl) h
 demo_has (Some seed) None c all h = absurd (cc)
 demo_has None o c all h = absurd (cc)
 
-named : (a b d e : Bool) (s o : Option ℕ) (c : Command) → ((n : ℕ) → o ≡ Some n → AreWorkers n)
-    → cond a (Some Check) (cond b (option_map Run o) (cond d (Some Verify) (cond e (demo_of s o) None))) ≡ Some c → HasWorkers c
-named true b d e s o c all h = plain Check c tt h
-named false true d e s o c all h = run_has o c all h
-named false false true e s o c all h = plain Verify c tt h
-named false false false true s o c all h = demo_has s o c all h
-named false false false false s o c all h = absurd (cc)
+named : (a b d e u : Bool) (s o : Option ℕ) (c : Command) → ((n : ℕ) → o ≡ Some n → AreWorkers n)
+    → cond a (Some Check) (cond b (option_map Run o) (cond d (Some Verify) (cond e (demo_of s o) (cond u (Some Upgrade) None)))) ≡ Some c → HasWorkers c
+named true b d e u s o c all h = plain Check c tt h
+named false true d e u s o c all h = run_has o c all h
+named false false true e u s o c all h = plain Verify c tt h
+named false false false true u s o c all h = demo_has s o c all h
+named false false false false true s o c all h = plain Upgrade c tt h
+named false false false false false s o c all h = absurd (cc)
 
 from : (o : _) (c : Command) → command_from o ≡ Some c → HasWorkers c
 from None c h = plain Check c tt h
-from (Some (name, rows)) c h = named _ _ _ _ (seed_in rows) (workers_in rows) c (λ n. found _ n) h
+from (Some (name, rows)) c h = named _ _ _ _ _ (seed_in rows) (workers_in rows) c (λ n. found _ n) h
 
 without_fault : (kinds : _) (o : _) (c : Command) → unless_fault kinds (command_from o) ≡ Some c → HasWorkers c
 without_fault [] o c h = from o c h

@@ -3,7 +3,7 @@ use Rattle.std.specs.Prelude.{ℕ, Result, Ok, Err}
 use Rattle.pic_run.specs.declared.cut.Cut.{Cut}
 use Rattle.pic_run.specs.declared.cut.Cut.TheVariants as cut
 use Rattle.pic_run.specs.declared.ended.Ended.{Ended}
-use Rattle.pic_run.specs.declared.ended.Ended.TheVariants.{Done, Checked, Verified, Stopped, Usage, Refused, Gauss}
+use Rattle.pic_run.specs.declared.ended.Ended.TheVariants.{Done, Checked, Verified, Upgraded, Stopped, Usage, Refused, Gauss}
 use Rattle.pic_run.specs.declared.ended.Ended.TheVariants.{ReadFault, WriteFault, NoMemory, BadDump, Broken}
 
 -- the exit status of each answer
@@ -11,6 +11,7 @@ abbrev pub status_of : Ended → ℕ
 status_of (Done steps) = 0
 status_of (Checked particles) = 0
 status_of (Verified frames) = 0
+status_of (Upgraded frames) = 0
 status_of (Stopped step stop) = 1
 status_of Usage = 2
 status_of (Refused refusal) = 3

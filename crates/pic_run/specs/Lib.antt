@@ -18,5 +18,6 @@ pub mod Check
 pub mod Run
 pub mod Verify
 pub mod Demo
+pub mod Upgrade
 pub mod Commands
 pub mod Ends

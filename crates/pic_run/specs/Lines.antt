@@ -11,7 +11,7 @@ use Rattle.pic_run.specs.declared.ended.Ended.{Ended}
 use Rattle.pic_run.specs.declared.ended.Ended.TheVariants as ended
 
 unfoldable pub usage_line : List ℕ
-usage_line = codes "usage: pic [check | run [--workers N] | verify | demo SEED [--workers N]]\n"
+usage_line = codes "usage: pic [check | run [--workers N] | verify | demo SEED [--workers N] | upgrade]\n"
 
 unfoldable pub read_fault_line : List ℕ
 read_fault_line = codes "read fault\n"
@@ -38,6 +38,9 @@ gauss_line b = codes "gauss " ++ break_tail b
 
 unfoldable pub verified_line : ℕ → List ℕ
 verified_line frames = codes "verified " ++ decimal frames ++ codes " frames\n"
+
+unfoldable pub upgraded_line : ℕ → List ℕ
+upgraded_line frames = codes "upgraded " ++ decimal frames ++ codes " frames\n"
 
 unfoldable pub bad_dump_line : ℕ → ℕ → List ℕ
 bad_dump_line place cause = codes "bad dump " ++ decimal place ++ codes " " ++ decimal cause ++ codes "\n"

@@ -22,7 +22,7 @@ use Rattle.pic_run.specs.declared.output.Output.TheVariants.{Dump, Lines}
 use Rattle.pic_run.specs.DeckEnd.{Unread, Unfit, Unmet, Staged, ◌>>=◌, ended_at}
 use Rattle.pic_run.specs.Frames.{frames_of, end_of_run, end_piece}
 use Rattle.pic_run.specs.Lines.{check_line, verified_line, early_line}
-use Rattle.pic_run.specs.Reading.{deck_limit, Given, Held, Failed}
+use Rattle.pic_run.specs.Reading.{deck_limit, Given, Held, Failed, FailedBehind}
 use Rattle.pic_run.specs.Starting.{first_state, state_break, header_of}
 
 -- an answer, and what goes to the two sinks: the head of a dump, frames, and what comes last
@@ -50,6 +50,7 @@ pieces_of o = with_head o.head (o.frames ++ o.last ∷ [])
 abbrev pub taken : Given → Staged (List ℕ)
 taken (Held held) = Ok (take deck_limit held)
 taken (Failed front) = Err Unread
+taken (FailedBehind held whole) = Err Unread
 
 -- the deck, or the first refusal that its walk meets
 abbrev pub unless_refused : ReadDeck → Staged DeckView
@@ -78,6 +79,7 @@ demonstrated seed = tested (demo_deck seed)
 abbrev pub verdict_on : Given → Verdict
 verdict_on (Held held) = verified held
 verdict_on (Failed front) = Err verify_stop.ReadFault
+verdict_on (FailedBehind held whole) = Err verify_stop.ReadFault
 
 -- an answer that comes before its command has put anything: its line alone, on report
 abbrev pub early_outcome : Ended → Outcome

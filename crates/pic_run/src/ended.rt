@@ -18,6 +18,8 @@ pub enum Ended {
     Checked { particles: u32 },
     /// So many frames of a dump are good, and it was read to its end.
     Verified { frames: u32 },
+    /// So many frames of a dump were put in the spelling of version 2, and it was read to its end.
+    Upgraded { frames: u32 },
     /// The run stopped in a step.
     Stopped { step: u32, stop: Stop },
     /// The words are no command.
@@ -45,7 +47,10 @@ impl Ended {
         ensures { result ≡ status_of self.now }
     {
         match self {
-            Ended::Done { .. } | Ended::Checked { .. } | Ended::Verified { .. } => 0,
+            Ended::Done { .. }
+            | Ended::Checked { .. }
+            | Ended::Verified { .. }
+            | Ended::Upgraded { .. } => 0,
             Ended::Stopped { .. } => 1,
             Ended::Usage => 2,
             Ended::Refused(_) | Ended::Gauss(_) => 3,

@@ -18,6 +18,7 @@ mod showing;
 mod source_reader;
 mod threading;
 mod top_call;
+mod upgrade;
 mod verify;
 mod writing;
 

@@ -1,7 +1,7 @@
 //! The lines of a call, but for those of refused decks and of frames.
 
 ghost use Rattle.std.specs.Prelude.{◌≡◌, ◌≤◌, length};
-ghost use Rattle.pic_run.specs.Lines.{check_line, verified_line, gauss_line, bad_dump_line, broken_line, usage_line, read_fault_line, break_tail, limit_tail};
+ghost use Rattle.pic_run.specs.Lines.{check_line, verified_line, upgraded_line, gauss_line, bad_dump_line, broken_line, usage_line, read_fault_line, break_tail, limit_tail};
 
 use pic_charge::Break;
 use pic_num::Text;
@@ -14,7 +14,7 @@ pub const LINE_BYTES: usize = 280;
 pub fn line_of_usage() -> &'static [u8]
     ensures { result.now ≡ usage_line }
 {
-    b"usage: pic [check | run [--workers N] | verify | demo SEED [--workers N]]\n"
+    b"usage: pic [check | run [--workers N] | verify | demo SEED [--workers N] | upgrade]\n"
 }
 
 /// The line of a read that failed.
@@ -44,6 +44,18 @@ pub fn line_of_verified(frames: u32) -> Text<LINE_BYTES>
 {
     let mut text = Text::new();
     text.push(b"verified ");
+    text.push_decimal(u128::from(frames));
+    text.push(b" frames\n");
+    text
+}
+
+/// The line of a dump that was put in the spelling of version 2.
+#[tactic(auto, unfolding(crate::specs::Lines::upgraded_line))]
+pub fn line_of_upgraded(frames: u32) -> Text<LINE_BYTES>
+    ensures { result ≡ upgraded_line frames }
+{
+    let mut text = Text::new();
+    text.push(b"upgraded ");
     text.push_decimal(u128::from(frames));
     text.push(b" frames\n");
     text

@@ -15,6 +15,7 @@ use crate::ended::{Ended, ended_of};
 use crate::running::run;
 use crate::showing::demo;
 use crate::threading::Threading;
+use crate::upgrade::upgrade;
 use crate::verify::verify;
 use pic_gate::Gate;
 use pic_io::{Sink, Source};
@@ -82,6 +83,7 @@ fn perform<H: Threads + Sync, S: Source, O: Sink, R: Sink, G: Gate + Sync>(
         Ok(Command::Run { workers }) => run(threading, alloc, source, out, report, workers),
         Ok(Command::Verify) => verify(alloc, source, out, report),
         Ok(Command::Demo { seed, workers }) => demo(threading, alloc, seed, out, report, workers),
+        Ok(Command::Upgrade) => upgrade(alloc, source, out, report),
         Err(LineFault::Usage) => end_early(report, StageStop::Answer(Early::Usage)),
         Err(LineFault::NoMemory) => Err(Cut::NoMemory),
     }

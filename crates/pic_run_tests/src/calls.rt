@@ -16,7 +16,8 @@ const LONE_REPORT: &[u8] = b"gauss 0 0 0 div 0 rho 618475290624\n";
 
 const EMPTY_REPORT: &[u8] = b"frame 0 kinetic 0 electric 0 magnetic 0\ndone 0\n";
 
-const USAGE: &[u8] = b"usage: pic [check | run [--workers N] | verify | demo SEED [--workers N]]\n";
+const USAGE: &[u8] =
+    b"usage: pic [check | run [--workers N] | verify | demo SEED [--workers N] | upgrade]\n";
 
 // The words, the deck, the take that fails, the status, out and report.
 type Answer = (

@@ -8,7 +8,7 @@ const SEVEN: Command = Command::Demo {
     workers: 1,
 };
 
-const COMMANDS: [(&[&str], Command); 14] = [
+const COMMANDS: [(&[&str], Command); 15] = [
     (&[], Command::Check),
     (&["--"], Command::Check),
     (&["check"], Command::Check),
@@ -19,6 +19,7 @@ const COMMANDS: [(&[&str], Command); 14] = [
     (&["run", "--workers", "+3"], Command::Run { workers: 3 }),
     (&["run", "--workers", "003"], Command::Run { workers: 3 }),
     (&["verify"], Command::Verify),
+    (&["upgrade"], Command::Upgrade),
     (&["demo", "7"], SEVEN),
     (&["demo", "--", "7"], SEVEN),
     (
@@ -37,7 +38,7 @@ const COMMANDS: [(&[&str], Command); 14] = [
     ),
 ];
 
-const USAGES: [&[&str]; 15] = [
+const USAGES: [&[&str]; 16] = [
     &["go"],
     &[""],
     &["help"],
@@ -45,6 +46,7 @@ const USAGES: [&[&str]; 15] = [
     &["run", "-h"],
     &["check", "x"],
     &["verify", "x"],
+    &["upgrade", "x"],
     &["run", "--workers"],
     &["run", "--workers", "0"],
     &["run", "--workers", "65"],

@@ -1,6 +1,6 @@
 use Rattle.std.proofs.Common.{map, string_bytes, Some, None, refl}
 use Rattle.pic_io.specs.Sinks.{sinks}
-use Rattle.pic_line.specs.declared.asked.Command.TheVariants.{Check, Run, Verify, Demo}
+use Rattle.pic_line.specs.declared.asked.Command.TheVariants.{Check, Run, Verify, Demo, Upgrade}
 use Rattle.pic_line.specs.CommandLine.{command_of}
 use Rattle.pic_run.specs.declared.ended.Ended.TheVariants.{Usage}
 use Rattle.pic_run.specs.Ended.{ended_of}
@@ -30,6 +30,11 @@ pub returns-in-Ok-Demo : goal.returns-in-Ok-Demo
 returns-in-Ok-Demo g c =
     by_name (command_of (map string_bytes c.args.words.now)) (Some (Demo c.in-Ok-Demo.seed c.in-Ok-Demo.workers)) _ _ _ _ (ended_of c.demo.result)
     (rw c.in-Ok-Demo.field-0-is at c.in-Ok-Demo.ensures.ok) (c.demo.ensures (g.S.Source.told c.args.source.now))
+
+pub returns-in-Ok-Upgrade : goal.returns-in-Ok-Upgrade
+returns-in-Ok-Upgrade g c =
+    by_name (command_of (map string_bytes c.args.words.now)) (Some Upgrade) _ _ _ _ (ended_of c.upgrade.result)
+    (rw c.in-Ok-Upgrade.field-0-is at c.in-Ok-Upgrade.ensures.ok) c.upgrade.ensures
 
 pub returns-in-Err-Usage : goal.returns-in-Err-Usage
 returns-in-Err-Usage g c =
