@@ -6,3 +6,4 @@ pub mod ReadableDump
 pub mod SpellingLaws
 pub mod UpgradeLaws
 pub mod DumpUpgradeLaws
+pub mod UpgradeSpelling

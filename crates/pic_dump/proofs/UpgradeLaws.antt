@@ -1,5 +1,5 @@
 -- The records of a dump, read and put one after another.
-use Rattle.std.proofs.Common.{◌≡◌, ◌≢◌, ℕ, suc, ◌+◌, ◌-◌, ◌<◌, List, [], ◌∷◌, ◌++◌, length, take, None, Ok, Err, IsErrAnd}
+use Rattle.std.proofs.Common.{◌≡◌, ◌≢◌, ℕ, suc, ◌+◌, ◌<◌, List, [], ◌∷◌, ◌++◌, length, take, None, Ok, Err, IsErrAnd}
 use Rattle.std.proofs.Common.{refl, sym, ap, subst, ◌∙◌, arith, append_assoc, append-nil, length-append}
 use Rattle.std.proofs.Math.Seq.{take-append_seam}
 use Rattle.std.proofs.lemmas.Grind.{flat_map-append}
@@ -35,7 +35,7 @@ use Rattle.pic_dump.specs.NextReads.{HasFrame, most_of, record_most}
 use Rattle.pic_dump.specs.Standing.{Standing}
 use Rattle.pic_dump.specs.Upgrade.{Answer, Upgrade, piece_of, frame_pieces, end_pieces, record_end, upgrade_records, upgrade_behind, UpgradesBehind, Answered}
 use Rattle.pic_dump.specs.UpgradeStops.{stop_of_read}
-use Rattle.pic_dump.specs.declared.upgrade_stop.UpgradeStop.TheVariants.{ReadFault, BadDump, WriteFault, NoMemory}
+use Rattle.pic_dump.specs.declared.upgrade_stop.UpgradeStop.TheVariants.{WriteFault, NoMemory}
 use Rattle.pic_dump.proofs.ReadOnLaws.{with_frames, records_of, HasReadOn, on_none, on_frame, on_end, on_fault}
 
 -- each record of a dump has a byte at least
@@ -77,7 +77,7 @@ outs_split : (ps qs : List Piece) → outs (ps ++ qs) ≡ outs ps ++ outs qs
 outs_split ps qs = flat_map-append (λ (p : Piece). p.out) ps qs
 
 -- a piece behind others
-outs_more : (ps : List Piece) (text : List ℕ) → outs (ps ++ piece_of text ∷ []) ≡ outs ps ++ text
+pub outs_more : (ps : List Piece) (text : List ℕ) → outs (ps ++ piece_of text ∷ []) ≡ outs ps ++ text
 outs_more ps text = outs_split ps (piece_of text ∷ []) ∙ ap (λ t. outs ps ++ t) (append-nil text)
 
 -- k frames were read and put, after which the reader stands here
@@ -108,7 +108,8 @@ follows_frame r before out y z o p k here behind e b particles step energies so_
     let text = record_bytes l (AFrame f) in
     let pieces = frame_pieces l so_far.frames in
     let here_put = subst (Appended o p) (same_text l step e b particles energies) put in
-    let more : outs pieces ++ text ≡ outs (frame_pieces l (so_far.frames ++ f ∷ [])) = sym (ap outs (map-append (λ (g : FrameView). piece_of (record_bytes l (AFrame g))) so_far.frames (f ∷ []))
+    let spelled : FrameView → Piece = λ g. piece_of (record_bytes l (AFrame g)) in
+    let more : outs pieces ++ text ≡ outs (frame_pieces l (so_far.frames ++ f ∷ [])) = sym (ap outs (map-append spelled so_far.frames (f ∷ []))
     ∙ outs_more pieces text) in
     record {
       frames = so_far.frames ++ f ∷ [];
@@ -122,11 +123,14 @@ follows_frame r before out y z o p k here behind e b particles step energies so_
 ends_at : (r : Standing) (before y : Told) (frames : List FrameView) (here : Standing) → HasReadOn r before frames here y
     → here.place + record_most here ≡ record_end r.layout r.place (length frames)
 ends_at r before y frames here on =
-    let most : record_most here ≡ most_of r.layout (due_after r.layout.steps r.layout.every (step_before r.layout (length frames))) = (λ i. most_of (on.layout i) (due_after (on.layout i).steps (on.layout i).every (on.last i))) in
+    let l = r.layout in
+    let most : record_most here ≡ most_of l (due_after l.steps l.every (step_before l (length frames))) =
+    (λ i. most_of (on.layout i) (due_after (on.layout i).steps (on.layout i).every (on.last i))) in
     omega (arith, most, on.place)
 
 -- what is put of these records
-pieces_are : (r : Standing) (held : List ℕ) (records : RecordsRead) → records_of r held ≡ records → upgrade_behind r held ≡ upgrade_records r.layout r.place records
+pieces_are : (r : Standing) (held : List ℕ) (records : RecordsRead) → records_of r held ≡ records
+    → upgrade_behind r held ≡ upgrade_records r.layout r.place records
 unfolding upgrade_behind
 pieces_are r held records is = ap (upgrade_records r.layout r.place) is
 
@@ -231,8 +235,8 @@ cuts_end r before out y z o p k here mark result stop so_far has front rose =
         calm = has.calm ∙ so_far.on.calm;
         held = held;
         was = was;
-        cut = λ report. cut_behind l frames (end_bytes mark) [] (upgrade_behind r held).pieces out o p report pieces (end_some mark) so_far.put so_far.calm front
-            rose;
+        cut = λ report. cut_behind l frames (end_bytes mark) [] (upgrade_behind r held).pieces out o p report pieces (end_some mark) so_far.put so_far.calm
+            front rose;
         last = length frames;
         moves = moves_up (omega (arith, ends_at r before y frames here so_far.on)) (moves_then so_far.on.moves has.moves);
       };
@@ -258,7 +262,8 @@ stops_answer r before out y z o k here read.ReadFault so_far stops =
     ∙ pieces_split l frames more.0 (end_pieces more.1) in
     let front : outs ps ≡ outs (take (length ps) (upgrade_behind r held).pieces) = sym (ap (λ qs. outs (take (length ps) qs)) pieces
     ∙ ap outs (take-append_seam ps others)) in
-    let end : here.place + record_most here ≡ record_end l r.place (length ps) = ends_at r before y frames here on ∙ ap (record_end l r.place) (sym (pieces_count l frames)) in
+    let end : here.place + record_most here ≡ record_end l r.place (length ps) = ends_at r before y frames here on
+    ∙ ap (record_end l r.place) (sym (pieces_count l frames)) in
     record {
       rose = rose_after before y z on.calm stops.why;
       calm_out = so_far.calm;

@@ -6,3 +6,4 @@ pub mod Readable
 pub mod Spelling
 pub mod Upgrade
 pub mod UpgradeStops
+pub mod UpgradeSpelling

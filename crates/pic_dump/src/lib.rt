@@ -8,7 +8,7 @@ mod upgrade_stop;
 mod upgrading;
 
 pub use dump_reader::{DumpReader, Next};
-pub use laws::{dumps_are_read, dumps_have_one_spelling};
+pub use laws::{dumps_are_read, dumps_have_one_spelling, upgrades_have_one_spelling};
 pub use pic_fields::ReadStop;
 pub use pic_header::{
     Head, HeadStop, Header, Heads, headers_are_read, headers_have_one_spelling, keep_kind,
