@@ -23,11 +23,11 @@ fn an_empty_dump_is_upgraded(rt: HostRuntime) {
     let old = written.out.bytes();
     let left = upgrade(&rt, old, CALM);
     let new = left.out.bytes();
-    assert_eq!(rt; left.report.bytes(), b"upgraded 1 frames\n");
+    assert_eq!(rt; left.report.bytes(), b"upgraded 1 frames\n".as_slice());
     assert!(rt; left.status == 0 && old.len() == 891 && new.len() == 903);
-    assert!(rt; new.get(..8) == Some(b"PICDUMP2") && new.get(8..60) == old.get(8..60));
+    assert!(rt; new.get(..8) == Some(b"PICDUMP2".as_slice()) && new.get(8..60) == old.get(8..60));
     let added: [u8; 16] = [0, 0, 0, 12, 0, 0, 0, 0, 0, 0, 0, 0, 0, 0, 0, 0];
-    assert!(rt; new.get(60..76) == Some(&added) && new.get(76..) == old.get(64..));
+    assert!(rt; new.get(60..76) == Some(added.as_slice()) && new.get(76..) == old.get(64..));
     check(
         &rt,
         &upgrade(&rt, new, CALM),
