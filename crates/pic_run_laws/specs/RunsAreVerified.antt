@@ -4,7 +4,7 @@ use Rattle.pic_deck.specs.Deck.{DeckView}
 use Rattle.pic_line.specs.declared.asked.Command.TheVariants.{Run, Verify}
 use Rattle.pic_line.specs.CommandLine.{command_of}
 use Rattle.pic_run.specs.declared.ended.Ended.{Ended}
-use Rattle.pic_run.specs.declared.ended.Ended.TheVariants.{Done, Checked, Verified, Stopped, Usage, Refused, Gauss, ReadFault, WriteFault, NoMemory, BadDump, Broken}
+use Rattle.pic_run.specs.declared.ended.Ended.TheVariants.{Done, Checked, Verified, Upgraded, Stopped, Usage, Refused, Gauss, ReadFault, WriteFault, NoMemory, BadDump, Broken}
 use Rattle.pic_run.specs.Reading.{Given, Held}
 use Rattle.pic_run.specs.Outcome.{out_text, accepted, tested, run_outcome}
 use Rattle.pic_run.specs.Commands.{outcome}
@@ -23,6 +23,7 @@ IsOfRun (Done steps) = ⊤
 IsOfRun (Stopped step stop) = ⊤
 IsOfRun (Checked particles) = ⊥
 IsOfRun (Verified frames) = ⊥
+IsOfRun (Upgraded frames) = ⊥
 IsOfRun Usage = ⊥
 IsOfRun (Refused refusal) = ⊥
 IsOfRun (Gauss at) = ⊥
