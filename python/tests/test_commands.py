@@ -174,7 +174,8 @@ class Commands(unittest.TestCase):
         for length, line in (5000, rb"pictools: stopped by Ctrl-C\n"), (100000, cut):
             words = [sys.executable, "-m", "pictools", "thin", "2", "-o", "half.dump"]
             with subprocess.Popen(words, stdin=subprocess.PIPE, stderr=subprocess.PIPE, cwd=self.folder,
-                                  env=os.environ | {"PYTHONPATH": str(HOME)}) as running:
+                                  env=os.environ | {"PYTHONPATH": str(HOME)},
+                                  preexec_fn=lambda: signal.signal(signal.SIGINT, signal.SIG_DFL)) as running:
                 running.stdin.write(dump[:length])
                 running.stdin.flush()
                 while not [path for path in self.folder.glob(".half*") if path.stat().st_size >= min(length, 35000) - 5000]:
