@@ -1,5 +1,5 @@
 -- How far the records lead.
-use Rattle.std.proofs.Common.{◌≡◌, ℕ, suc, ◌+◌, ◌-◌, ◌*◌, ◌<◌, ◌≤◌, Option, Some, None, inl, inr, arith}
+use Rattle.std.proofs.Common.{◌≡◌, ℕ, suc, ◌+◌, ◌-◌, ◌*◌, ◌<◌, ◌≤◌, Option, Some, None, inl, inr, ap, arith}
 use Rattle.std.specs.Prelude.{min}
 use Rattle.std.proofs.Math.Nat.{mul-le-mul_right}
 use Rattle.std.proofs.lemmas.Bool.{cases_lt, lt-ltb, le-ltb}
@@ -8,8 +8,10 @@ use Rattle.pic_record.specs.Due.{due_after}
 use Rattle.pic_record.specs.Limits.{longest_end}
 use Rattle.pic_record.specs.Layout.{LayoutView}
 use Rattle.pic_record.specs.FrameFields.{frame_length}
-use Rattle.pic_dump.specs.NextReads.{most_of}
-use Rattle.pic_verify.specs.Allowed.{frames_due, records_length}
+use Rattle.pic_dump.specs.NextReads.{most_of, record_most}
+use Rattle.pic_dump.specs.Allowed.{frames_due, records_length}
+use Rattle.pic_dump.specs.Standing.{Standing}
+use Rattle.pic_dump.specs.Whole.{place_behind}
 
 -- k frames went by, the last of them in this step
 pub record WentBy (l : LayoutView) (k s : ℕ) : Type 0 where
@@ -74,3 +76,13 @@ pub frames_fit : (l : LayoutView) (k : ℕ) (last : Option ℕ) → 1 ≤ l.ever
 frames_fit l k last least went =
     let h = end_fits k (1 + frame_length l) (frames_due l) (went_most l k last least went) in
     omega (arith, h)
+
+-- the record where a reader stands ends within what the header allows, and a byte
+pub last_fits : (r here : Standing) (k : ℕ) → here.layout ≡ r.layout → here.place ≡ place_behind r.layout r.place k → 1 ≤ r.layout.every
+    → Went r.layout k here.last → here.place + record_most here ≤ r.place + (records_length r.layout + 1)
+last_fits r here k layout place least went =
+    let l = r.layout in
+    let fits = record_fits l k here.last least went in
+    let most : record_most here ≡ most_of l (due_after l.steps l.every here.last) =
+    ap (λ (m : LayoutView). most_of m (due_after m.steps m.every here.last)) layout in
+    omega (arith, fits, most, place)
