@@ -7,7 +7,8 @@ PROGRAM is the path of the built program. Dump, report and exit status are compa
 agree, 1 where something differs, 2 for other words. The model takes it that a deck has the right form: of the refusals
 it knows that of a force value at the start and that of Gauss's law. KIND is `sources` where particles are lattices, random
 ones and pairs; `sides` where cells have 256 to 16384 sub-cells (version 2); `both` where either is so, and particles may be
-listed too. A random deck is run on 1 worker and on 3.
+listed too; `filter` where decks of the last kind have a filter or none, and charged particles apart with the E of their
+filtered charge. A random deck is run on 1, 3 and 64 workers.
 """
 
 import random
@@ -19,7 +20,8 @@ from fractions import Fraction
 from math import trunc
 from struct import pack
 
-KINDS = "sources", "sides", "both"
+KINDS = "sources", "sides", "both", "filter"
+WORKERS = 1, 3, 64
 CORNERS = [(dx, dy, dz) for dz in (0, 1) for dy in (0, 1) for dx in (0, 1)]
 PHASES, BOUNDS, FAULTS = ("", "half1", "", "half2", "electric"), ("", "value", "force"), ("", "speed", "turn", "far")
 
@@ -106,12 +108,8 @@ class Model:
         deck = tomllib.loads(text)
         self.version, self.cells, self.scale = deck["version"], deck["grid"]["cells"], deck["scale"]
         self.side = 2 ** deck["grid"]["sub"] if self.version == 2 else 4096
-        self.steps, self.every = deck["run"]["steps"], deck["run"]["every"]
-        nx, ny, nz = self.cells
-        self.places = [(i, j, k) for k in range(nz) for j in range(ny) for i in range(nx)]
-        self.up = [[self.at(*(c + (b == a) for b, c in enumerate(p))) for p in self.places] for a in range(3)]
-        self.down = [[self.at(*(c - (b == a) for b, c in enumerate(p))) for p in self.places] for a in range(3)]
-        self.here = [range(len(self.places))] * 3
+        self.steps, self.every, self.filter = deck["run"]["steps"], deck["run"]["every"], deck["run"].get("filter", 0)
+        self.lay_out()
         field = deck.get("field", {})
         self.electric, self.magnetic = ([[v] * len(self.places) for v in field.get(name, [0, 0, 0])] for name in "eb")
         for part, name in (self.electric, "edges"), (self.magnetic, "faces"):
@@ -123,6 +121,14 @@ class Model:
             rows[kind["name"]] = particles(kind, box, rows)
         self.counts = [len(part) for part in rows.values()]
         self.particles = [(kind, row[:3], row[3:]) for kind in self.kinds for row in rows[kind["name"]]]
+
+    def lay_out(self):
+        """The places of the grid with their neighbours, and two empty texts."""
+        nx, ny, nz = self.cells
+        self.places = [(i, j, k) for k in range(nz) for j in range(ny) for i in range(nx)]
+        self.up = [[self.at(*(c + (b == a) for b, c in enumerate(p))) for p in self.places] for a in range(3)]
+        self.down = [[self.at(*(c - (b == a) for b, c in enumerate(p))) for p in self.places] for a in range(3)]
+        self.here = [range(len(self.places))] * 3
         self.dump, self.report = [], []
 
     def at(self, i, j, k):
@@ -146,22 +152,32 @@ class Model:
             x, y, z = (p % self.side if d else self.side - p % self.side for p, d in zip(position, corner))
             yield self.at(*(p // self.side + d for p, d in zip(position, corner))), x * y * z
 
-    def test_gauss(self):
-        """Div E at every node is 12 times the charge there."""
+    def filtered(self, values):
+        """The binomial filter of a number at each place, axis by axis, which are weights of 64 in all; or with filter 0 the numbers."""
+        for down, up in zip(self.down, self.up) if self.filter else ():
+            values = [values[down[n]] + 2 * value + values[up[n]] for n, value in enumerate(values)]
+        return values
+
+    def charges(self):
+        """12 times the charge of the particles at each node, filtered."""
         charge = [0] * len(self.places)
         for kind, position, _ in self.particles:
             for node, weight in self.weights(position):
                 charge[node] += 12 * kind["charge"] * weight
-        for n, place in enumerate(self.places):
+        return self.filtered(charge)
+
+    def test_gauss(self):
+        """Div E at every node is the charge there."""
+        for n, (place, charge) in enumerate(zip(self.places, self.charges())):
             divergence = sum(self.electric[a][n] - self.electric[a][self.down[a][n]] for a in range(3))
-            if divergence != charge[n]:
-                raise Halt(3, "gauss %d %d %d div %d rho %d" % (*place, divergence, charge[n]), b"")
+            if divergence != charge:
+                raise Halt(3, "gauss %d %d %d div %d rho %d" % (*place, divergence, charge), b"")
 
     def write_header(self):
         self.dump.append(b"PICDUMP%d" % self.version + pack(">5I", *self.cells, self.steps, self.every))
         self.dump += [pack(">iI", *self.scale[name]) for name in ("e_to_b", "b_to_e", "e_force", "b_force")]
-        # Version 2 has the sub-cells of a cell as a power of 2, and two numbers that are 0.
-        self.dump.append(pack(">3I", self.side.bit_length() - 1, 0, 0) if self.version == 2 else b"")
+        # Version 2 has the sub-cells of a cell as a power of 2, the filter, and a number that is 0.
+        self.dump.append(pack(">3I", self.side.bit_length() - 1, self.filter, 0) if self.version == 2 else b"")
         self.dump.append(pack(">I", len(self.kinds)))
         for kind, count in zip(self.kinds, self.counts):
             numbers = kind["charge"], kind["mass"], *kind["kick"], *kind["turn"], count
@@ -196,7 +212,8 @@ class Model:
         self.test_field(step, phase, self.magnetic, "b_force")
 
     def electric_step(self, step, current):
-        """E becomes E and the curl of the scaled B, less the current."""
+        """E becomes E and the curl of the scaled B, less the filtered current."""
+        current = [self.filtered(part) for part in current]
         curl = differences(self.forces(self.magnetic, "b_to_e"), self.here, self.down)
         self.electric = [[e + c - j for e, c, j in zip(*parts)] for parts in zip(self.electric, curl, current)]
         self.test_field(step, 4, self.electric, "e_force")
@@ -256,23 +273,35 @@ class Model:
             self.particles[identity] = kind, position, velocity
         return current
 
+    def is_due(self, step):
+        """Whether the run writes a frame of this step."""
+        return step % self.every == 0 or step == self.steps
+
+    def go_on(self, last):
+        """The steps behind the step `last`, to the run's end."""
+        for step in range(last + 1, self.steps + 1):
+            self.half_step(step, 1)
+            current = self.push_all(step)
+            self.half_step(step, 3)
+            self.electric_step(step, current)
+            if self.is_due(step):
+                self.write_frame(step)
+        raise Halt(0, f"done {self.steps}", pack(">cBI", b"E", 0, self.steps))
+
+    def texts(self, line, record=b""):
+        """The dump and the report so far, with a last record and a last line."""
+        return b"".join(self.dump) + record, "\n".join(self.report + [line, ""]).encode()
+
     def run(self):
         """The whole run: its exit status, dump and report."""
         try:
             self.test_start()
             self.write_header()
             self.write_frame(0)
-            for step in range(1, self.steps + 1):
-                self.half_step(step, 1)
-                current = self.push_all(step)
-                self.half_step(step, 3)
-                self.electric_step(step, current)
-                if step % self.every == 0 or step == self.steps:
-                    self.write_frame(step)
-            raise Halt(0, f"done {self.steps}", pack(">cBI", b"E", 0, self.steps))
+            self.go_on(0)
         except Halt as end:
             status, line, record = end.args
-            return status, b"".join(self.dump) + record, "\n".join(self.report + [line, ""]).encode()
+            return status, *self.texts(line, record)
 
 
 def difference(model, other):
@@ -326,30 +355,62 @@ def random_sources(dice, wild, cells, side, gap_cells):
                    for name, sign, source in zip("abc", (1, -1, 0), sources))
 
 
-def random_deck(number, kind=""):
-    """The random deck of a number: a calm one where it is even, else a wild one that stops soon."""
-    dice, wild = random.Random(number), number % 2
-    cells = [dice.choice([2, 2, 3, 4] if wild else [2, 3, 4, 5, 6]) for _ in range(3)]
-    tiles = [dice.choice([t for t in range(1, c // 2 + 1) if c % t == 0]) for c in cells]
-    version = 2 if kind in ("sides", "both") else 1
-    sub = dice.randint(8, 14) if version == 2 else 12
-    text = f"version = {version}\n[grid]\ncells = {cells}\ntiles = {tiles}\n"
-    text += f"sub = {sub}\n" if version == 2 else ""
-    text += f"[run]\nsteps = {dice.randint(0, 12)}\nevery = {dice.randint(1, 5)}\n[scale]\n"
-    power = dice.choice([3, 40, 57, 58, 59, 60]) if wild else dice.randint(3, 43)
+def random_apart(dice, cells, side):
+    """Two species of opposite charge, as many particles of each, anywhere in the box."""
+    count, fast, charge = dice.randint(1, 4), dice.choice([2**8, 2**11]) * side, dice.choice([1, -1, 2])
+    row = lambda: [dice.randrange(c * side) for c in cells] + [dice.randint(-fast, fast) for _ in range(3)]
+    return "".join(random_kind(dice, False, name, sign * charge) + f"points = {[row() for _ in range(count)]}\n"
+                   for name, sign in (("a", 1), ("b", -1)))
+
+
+def field_of(model):
+    """An E whose divergence is the model's charge: what is left over goes along x to the last plane, there along y, and along z."""
+    left, field = model.charges(), [[0] * len(model.places) for _ in range(3)]
+    for a in range(3):
+        for n, place in enumerate(model.places):
+            if place[a] < model.cells[a] - 1 and all(place[b] == model.cells[b] - 1 for b in range(a)):
+                field[a][n], left[model.up[a][n]] = left[n], left[model.up[a][n]] + left[n]
+    return field
+
+
+def random_scales(dice, wild, power):
+    """The multipliers of fields of a size up to 2^power."""
+    text = "[scale]\n"
     for name, high in ("e_to_b", -2), ("b_to_e", 0):
         text += f"{name} = {random_multiplier(dice, wild and dice.random() < 0.7, high - 4, high)}\n"
     for name in "e_force", "b_force":
         k = dice.randint(14, 62) if wild else dice.choice([dice.randint(20, 40), max(0, power - dice.randint(5, 24))])
         text += f"{name} = {[dice.randint(-3, 3), k]}\n"
-    if kind == "sources" or kind == "both" and dice.random() < 0.8:
+    return text
+
+
+def random_deck(number, kind=""):
+    """The random deck of a number: a calm one where it is even, else a wild one that stops soon."""
+    dice, wild = random.Random(number), number % 2
+    cells = [dice.choice([2, 2, 3, 4] if wild else [2, 3, 4, 5, 6]) for _ in range(3)]
+    tiles = [dice.choice([t for t in range(1, c // 2 + 1) if c % t == 0]) for c in cells]
+    version = 2 if kind in ("sides", "both", "filter") else 1
+    sub = dice.randint(8, 14) if version == 2 else 12
+    text = f"version = {version}\n[grid]\ncells = {cells}\ntiles = {tiles}\n"
+    text += f"sub = {sub}\n" if version == 2 else ""
+    text += f"[run]\nsteps = {dice.randint(0, 12)}\nevery = {dice.randint(1, 5)}\n"
+    text += dice.choice(["", "filter = 0\n", "filter = 1\n", "filter = 1\n"]) if kind == "filter" else ""
+    power = dice.choice([3, 40, 57, 58, 59, 60]) if wild else dice.randint(3, 43)
+    apart = kind == "filter" and not wild and dice.random() < 0.5
+    # Charges of one sign come to 64 times 12 S^3 each.
+    text += random_scales(dice, wild, 3 * sub + 13 if apart else power)
+    if apart:
+        text += random_apart(dice, cells, 2**sub)
+    elif kind == "sources" or kind in ("both", "filter") and dice.random() < 0.8:
         text += random_sources(dice, wild, cells, 2**sub, 64 * version)
     else:
         text += random_species(dice, wild, cells, 2**sub)
-    # E is a curl, and so has no charge; but a few wild decks have a row more.
+    # E is a curl, and so has no charge but that of particles apart; a few wild decks have a row more.
     model, high = Model(text), 2**power
     source, faces = ([[dice.randint(-high, high) for _ in model.places] for _ in range(3)] for _ in "eb")
     curl = differences(source, model.here, model.down)
+    if apart:
+        curl = [[c + e for c, e in zip(*parts)] for parts in zip(curl, field_of(model))]
     edges, faces = ([[a, *p, v] for a in range(3) for p, v in zip(model.places, field[a])] for field in (curl, faces))
     edges += [[0, 0, 1, 0, 1]] if wild and dice.random() < 0.1 else []
     e, b = ([dice.choice([dice.randint(-high, high), 8 * high - 1]) for _ in range(3)] for _ in "eb")
@@ -374,7 +435,7 @@ def compare_random(count, program, kind):
         status, dump, report = Model(text).run()
         last = report.decode().splitlines()[-1].split()
         ends[" ".join(word for word in last[:5] if word[0].isalpha())] += 1
-        found = [line for workers in (1, 3) if (line := run_difference(program, workers, text, status, dump, report))]
+        found = [line for workers in WORKERS if (line := run_difference(program, workers, text, status, dump, report))]
         if found:
             differ += 1
             print(f"deck {number}, {'; '.join(found)}. The deck:\n{text}")

@@ -125,12 +125,12 @@ def uniform(dump: Dump, with_e: bool) -> tuple[float, float]:
     return e, b
 
 
-def plasma(dump: Dump) -> tuple[float, Species]:
-    """The plasma frequency, and the first species of electrons."""
+def plasma(dump: Dump, k: float = 0) -> tuple[float, Species]:
+    """The plasma frequency, of waves of k where there is a filter, and the first species of electrons."""
     kinds = units.electrons(dump.header)
     if not kinds or not units.plasma_frequency(dump.header):
         raise ValueError("no species has a charge below 0 and a kick that fits it")
-    return units.plasma_frequency(dump.header), kinds[0]
+    return units.plasma_frequency(dump.header, k), kinds[0]
 
 
 def frequency(dump: Dump, heights: np.ndarray, expected: float) -> float:
@@ -142,9 +142,9 @@ def frequency(dump: Dump, heights: np.ndarray, expected: float) -> float:
     return -measure.turned(np.angle(heights)) / (dump.steps[-1] - dump.steps[0])
 
 
-def at_rest(dump: Dump) -> tuple[float, Species]:
+def at_rest(dump: Dump, k: float = 0) -> tuple[float, Species]:
     """The same of electrons of one species that don't drift."""
-    wp, kind = plasma(dump)
+    wp, kind = plasma(dump, k)
     mean = dump[0].species(kind.name)["velocity"].mean(axis=0) / dump.header.fast
     if len(units.electrons(dump.header)) > 1 or hypot(*mean) > 0.001 + units.thermal_speed(dump[0]):
         raise ValueError(f"its electrons are of {len(units.electrons(dump.header))} species and drift by {hypot(*mean):.3g} "
@@ -186,7 +186,7 @@ def e_cross_b(dump: Dump) -> None:
 
 def plasma_oscillation(dump: Dump) -> None:
     wave = -measure.waves(dump, "ex")[:, 1] * np.exp(-1j * pi / dump.header.cells[0])
-    wp, _ = at_rest(dump)
+    wp, _ = at_rest(dump, wave_number(dump, 1))
     if 2 * asin(wp / 2) * np.diff(dump.steps).max() > pi:
         raise ValueError(f"its frames are {np.diff(dump.steps).max()} steps apart, more than half a swing")
     show("frequency", measure.frequency(dump.steps, wave.imag), 2 * asin(wp / 2))
@@ -218,7 +218,7 @@ def langmuir(dump: Dump) -> None:
     wp, thermal = at_rest(dump)[0], units.thermal_speed(dump[0])
     if dump[0].e.any():
         wave, k, heights = strongest(dump, "ex")
-        expected, duration = theory.langmuir(k, wp, thermal), dump.steps[-1] - dump.steps[0]
+        expected, duration = theory.langmuir(k, at_rest(dump, k)[0], thermal), dump.steps[-1] - dump.steps[0]
         turns = frequency(dump, heights, expected.real)
         if -expected.imag * duration < 0.7:
             show(f"wave {wave}: frequency", turns, expected.real)
@@ -235,7 +235,7 @@ def langmuir(dump: Dump) -> None:
         raise ValueError("no wave along x is longer than 21 Debye lengths, or the electrons are cold")
     for wave in numbers:
         k = wave_number(dump, wave)
-        expected = theory.langmuir(k, wp, thermal)
+        expected = theory.langmuir(k, at_rest(dump, k)[0], thermal)
         show(f"wave {wave}: frequency", measure.peak(dump.steps, heights[:, wave]), expected.real)
         print(f"{'':28} Bohm and Gross: {sqrt(wp**2 + 3 * (k * thermal)**2):.9f}, without grid and steps; "
               f"damped by {-expected.imag:.1e} a step")
@@ -243,7 +243,7 @@ def langmuir(dump: Dump) -> None:
 
 def upper_hybrid(dump: Dump) -> None:
     wave, k, heights = strongest(dump, "ex")
-    wp, electrons = at_rest(dump)
+    wp, electrons = at_rest(dump, k)
     angle = abs(units.gyration(dump.header, electrons, dump[0].b[2].mean()))
     if not angle:
         raise ValueError("the mean B along z is 0")
@@ -268,10 +268,10 @@ def show_growth(dump: Dump, wave: int, heights: np.ndarray, expected: float) -> 
 
 def two_stream(dump: Dump) -> None:
     """The wave at the start; where E is 0 there, the waves that grow out of the noise, while the strongest still does."""
-    wp, speed, thermal = plasma(dump)[0], drift(dump, [0]), units.thermal_speed(dump[0])
+    speed, thermal = drift(dump, [0]), units.thermal_speed(dump[0])
     if dump[0].e.any():
         wave, k, heights = strongest(dump, "ex")
-        show_growth(dump, wave, heights, theory.two_stream(k, wp, speed, thermal).imag)
+        show_growth(dump, wave, heights, theory.two_stream(k, plasma(dump, k)[0], speed, thermal).imag)
         return
     heights = abs(measure.waves(dump, "ex"))[:, : dump.header.cells[0] // 2]
     square = np.sum(heights[:, 1:]**2, axis=1)
@@ -279,7 +279,8 @@ def two_stream(dump: Dump) -> None:
     frames = measure.window(dump.steps, heights[:, top])
     # Beside two stronger waves a weak one is soon driven by their beat.
     numbers = {wave: wave_number(dump, wave) for wave in range(1, heights.shape[1])}
-    rates = {wave: theory.two_stream(k, wp, speed, thermal).imag for wave, k in numbers.items() if k * speed < wp}
+    found = {wave: (k, plasma(dump, k)[0]) for wave, k in numbers.items()}
+    rates = {wave: theory.two_stream(k, wp, speed, thermal).imag for wave, (k, wp) in found.items() if k * speed < wp}
     for wave, rate in rates.items():
         if rate > 0.75 * max(rates.values()):
             fit = measure.growth(dump.steps, heights[:, wave], frames)
@@ -290,21 +291,30 @@ def two_stream(dump: Dump) -> None:
 def filamentation(dump: Dump) -> None:
     speed = drift(dump, [1, 2])
     wave, k, heights = strongest(dump, "bz" if dump[0].b[2].any() else "by")
-    expected = theory.filamentation(k, plasma(dump)[0], speed, units.light_speed(dump.header))
+    expected = theory.filamentation(k, plasma(dump, k)[0], speed, units.light_speed(dump.header))
     show_growth(dump, wave, heights, expected)
 
 
-def show_noise(noise: np.ndarray, k: np.ndarray, wp: float, thermal: float) -> None:
+def show_noise(noise: np.ndarray, k: np.ndarray, wp: float, thermal: float, chosen: int) -> None:
     """The noise of the waves k, in units of half the temperature, by their lengths."""
     length = 2 * pi / np.sqrt(np.sum(k**2, axis=1)) + 1e-9
-    shot, screen = theory.thermal_shares(k, wp, thermal)
+    shot, screen = theory.thermal_shares(k, wp, thermal, chosen)
     for low, high in (6, np.inf), (4, 6), (3, 4), (2, 3), (1, 2):
         band = (low < length) & (length < high)
         if band.any():
             level = (shot / (1 + screen))[band]
             show(f"waves from {low} cell{'s' * (low > 1)}: noise", noise[band].mean(), level.mean())
-            chance = np.std(noise[band] / level) / sqrt(len(level) / 2)             # k and -k are one wave
+            there = level > 0                                                       # a filter leaves none of the shortest
+            chance = np.std(noise[band][there] / level[there]) / sqrt(there.sum() / 2)      # k and -k are one wave
             print(f"{'':28} off by {chance:.1e} by chance; without screening {shot[band].mean():.4f}")
+
+
+def field_energy(k: np.ndarray, wp: float, thermal: float, chosen: int) -> np.ndarray:
+    """What the noise of the waves k took out of the speeds, in units of half the temperature. Where a filter leaves the share f of the
+    charge, it is E's energy over f."""
+    shot, screen = theory.thermal_shares(k, wp, thermal)
+    share = theory.left_by_filter(k) if chosen else 1
+    return share * shot / (1 + share * screen)
 
 
 def thermal_plasma(dump: Dump) -> None:
@@ -321,9 +331,9 @@ def thermal_plasma(dump: Dump) -> None:
     noise = np.mean([measure.longitudinal(frame.e) for frame in frames], axis=0) * scale * number / kinetic
     k, noise = measure.wave_numbers(noise.shape).reshape(-1, 3)[1:], noise.ravel()[1:]
     show("kinetic energy over first", kinetic / units.kinetic_energy(dump[0]),
-         1 / (1 + theory.thermal_noise(k, wp, thermal).sum() / number))
+         1 / (1 + field_energy(k, wp, thermal, dump.header.filter).sum() / number))
     print(f"{'':28} means of the steps {frames[0].step} to {frames[-1].step}, here and below")
-    show_noise(noise, k, wp, thermal)
+    show_noise(noise, k, wp, thermal, dump.header.filter)
     e, b = frames[-1].e, frames[-1].b
     light = (np.sum(e**2) - np.sum(measure.longitudinal(e))) * scale, np.sum(b**2) * (
         dump.header.b_force.value**2 * units.magnetic_weight(dump.header))

@@ -1,6 +1,7 @@
-"""What `check`, `run` and `verify` answer to some bytes: a model of its own, after docs/FORMATS.md, which shares no code with pic.
+"""What `check`, `run`, `verify` and `resume` answer to some bytes: a model of its own, after docs/FORMATS.md, which shares no code with
+pic.
 
-    check(deck), run(deck), verify(dump)        each gives status, standard output, standard error
+    check(deck), run(deck), verify(dump), resume(dump, steps, tiles)        each gives status, standard output, standard error
     has_no_cause(word, ended)                   whether an answer of a command is none that docs/FORMATS.md has for it
     is_newer(deck)                              whether a text may be TOML 1.1 and not 1.0
 
@@ -14,17 +15,18 @@ import tomllib
 from math import isinf
 from pathlib import Path
 
-from verdicts import (MOST_CELLS, MOST_FACTOR, MOST_FORCE, MOST_PARTICLES, MOST_SHIFT, MOST_SPECIES, MOST_STEPS, MOST_VERSION, SUBS,
-                      verify)
+from verdicts import (MOST_CELLS, MOST_FACTOR, MOST_FILTER, MOST_FORCE, MOST_PARTICLES, MOST_SHIFT, MOST_SPECIES, MOST_STEPS,
+                      MOST_VERSION, SUBS, Bad, Broken, Dump, verify)
 
 sys.path.insert(0, str(Path(__file__).parents[1] / "examples"))
 from compare import Halt, Model, scaled
 
-__all__ = ["Refused", "check", "has_no_cause", "is_newer", "run", "verify", "walk"]
+__all__ = ["Refused", "check", "has_no_cause", "is_newer", "resume", "run", "verify", "walk"]
 
 MOST_BYTES, MOST_TILES = 2**20, 512
 WHOLE = (-(2**63), 2**63 - 1)
 GRID_KEYS = {1: ("cells", "tiles"), 2: ("cells", "tiles", "sub")}
+RUN_KEYS = {1: ("steps", "every"), 2: ("steps", "every", "filter")}
 SOURCES = {"points": (), "lattice": ("first", "gap", "count", "v"), "random": ("count", "seed", "stream", "drift", "spread"),
            "pair": ("of", "seed", "stream", "drift", "spread")}
 
@@ -122,6 +124,14 @@ class Terms:
         self.speed, self.drift, self.spread = ((low * most * side, most * side) for low, most in ((-1, 4096), (-1, 2048), (0, 256)))
 
 
+def test_tiles(tiles, cells):
+    """Into how many tiles each axis is cut, number by number, and their product."""
+    for n, (tile, most) in enumerate(zip(tiles, cells)):
+        limit(f"grid.tiles[{n}]", kind(f"grid.tiles[{n}]", tile, int), 1, most // 2)
+        limit(f"grid.tiles[{n}]", most % tile, 0, 0)
+    limit("grid.tiles", tiles[0] * tiles[1] * tiles[2], 1, MOST_TILES)
+
+
 def walk_grid(version, grid):
     """The cells, and how many sub-cells one has along an axis."""
     table("grid", grid, GRID_KEYS[version])
@@ -129,11 +139,16 @@ def walk_grid(version, grid):
     tiles = needed("grid", grid, "tiles")
     if len(kind("grid.tiles", tiles, list)) != 3:
         raise Refused("refused 4 kind grid.tiles")
-    for n, (tile, most) in enumerate(zip(tiles, cells)):
-        limit(f"grid.tiles[{n}]", kind(f"grid.tiles[{n}]", tile, int), 1, most // 2)
-        limit(f"grid.tiles[{n}]", most % tile, 0, 0)
-    limit("grid.tiles", tiles[0] * tiles[1] * tiles[2], 1, MOST_TILES)
+    test_tiles(tiles, cells)
     return cells, 2 ** (number("grid", grid, "sub", *SUBS[version]) if version == 2 else SUBS[version][0])
+
+
+def walk_run(version, run):
+    table("run", run, RUN_KEYS[version])
+    number("run", run, "steps", 0, MOST_STEPS)
+    number("run", run, "every", 1, MOST_STEPS)
+    if "filter" in run:
+        number("run", run, "filter", 0, MOST_FILTER)
 
 
 def rows(path, value, *limits):
@@ -216,9 +231,7 @@ def walk(deck):
     found = table("", document(deck), ("version", "grid", "run", "scale", "field", "species"))
     version = number("", found, "version", 1, MOST_VERSION)
     cells, side = walk_grid(version, kind("grid", needed("", found, "grid"), dict))
-    run = table("run", needed("", found, "run"), ("steps", "every"))
-    number("run", run, "steps", 0, MOST_STEPS)
-    number("run", run, "every", 1, MOST_STEPS)
+    walk_run(version, needed("", found, "run"))
     names = "e_to_b", "b_to_e", "e_force", "b_force"
     scale = table("scale", needed("", found, "scale"), names)
     for name in names:
@@ -270,20 +283,49 @@ def run(deck):
     return answered(deck, ran)
 
 
+def resume(held, steps, tiles=(1, 1, 1)):
+    """The dump's run, gone on with to so many steps in all: its due frames again, and then the steps behind its last frame."""
+    dump, texts = Dump(held), lambda line, record=b"": (b"", printed(line))
+    try:
+        dump.header()
+        limit("run.steps", steps, dump.steps, MOST_STEPS)
+        test_tiles(tiles, dump.cells)
+        state = dump.state()
+        state.steps, texts = steps, state.texts
+        state.write_header()
+        for step in dump.frames():
+            if dump.state().is_due(step):
+                state.write_frame(step)
+        state.go_on(step)
+    except Refused as line:
+        return 3, *texts(line.args[0])
+    except Bad as fault:
+        return 7, *texts("bad dump %d %d" % fault.args)
+    except Broken as line:
+        return 8, *texts(line.args[0])
+    except Halt as end:
+        return end.args[0], *texts(*end.args[1:])
+
+
+FRAMES = rb"(frame \d+ kinetic \d+ electric \d+ magnetic \d+\n)"
 CAUSES = {
-    (0, "check"): rb"ok \d+ particles\n", (0, "verify"): rb"verified \d+ frames\n",
-    (0, "run"): rb"(frame \d+ kinetic \d+ electric \d+ magnetic \d+\n)+done \d+\n",
-    (1, "run"): rb"(frame \d+ kinetic \d+ electric \d+ magnetic \d+\n)+stopped \d+ (field (half1|half2|electric) (value|force) "
-                rb"[012] \d+ \d+ \d+|particle \d+ (speed|turn|far) [012]) -?\d+\n",
+    (0, "check"): rb"ok \d+ particles\n", (0, "verify"): rb"verified \d+ frames\n", (0, "run"): FRAMES + rb"+done \d+\n",
+    (1, "run"): FRAMES + rb"+stopped \d+ (field (half1|half2|electric) (value|force) [012] \d+ \d+ \d+"
+                         rb"|particle \d+ (speed|turn|far) [012]) -?\d+\n",
     (3, "check"): rb"refused (1 text|2 unknown [!-~]*|3 missing [!-~]+|4 kind [!-~]+|5 limit [!-~]+( -?\d+){3}|6 name [!-~]+)\n"
                   rb"|gauss( \d+){3} div -?\d+ rho -?\d+\n",
+    (3, "resume"): rb"refused 5 limit (run\.steps|grid\.tiles(\[[012]\])?)( \d+){3}\n",
     (7, "verify"): rb"bad dump \d+ ([1-9]|10)\n", (8, "verify"): rb"broken frame \d+ node( \d+){3} div -?\d+ rho -?\d+\n"}
+CAUSES |= {(status, "resume"): CAUSES[status, "run"] for status in (0, 1)}
+CAUSES |= {(status, "resume"): FRAMES + rb"*" + CAUSES[status, "verify"] for status in (7, 8)}
 CAUSES[3, "run"] = CAUSES[3, "check"]
+# The commands whose lines are a report, beside a dump; and the answers at which a dump stands.
+WRITERS, WRITTEN = ("run", "resume"), {(0, "run"), (1, "run"), (0, "resume"), (1, "resume"), (7, "resume"), (8, "resume")}
 
 
 def has_no_cause(word, ended):
     """Whether an answer is none of those that docs/FORMATS.md has for the command, each of which has its cause in its line."""
     status, out, report = ended
-    texts = (report, out) if status or word == "run" else (out, report)
+    texts = (report, out) if status or word in WRITERS else (out, report)
     wanted = CAUSES.get((status, word))
-    return wanted is None or not re.fullmatch(wanted, texts[0]) or (word != "run" or status == 3) and texts[1] != b""
+    return wanted is None or not re.fullmatch(wanted, texts[0]) or (status, word) not in WRITTEN and texts[1] != b""

@@ -6,7 +6,7 @@ from pathlib import Path
 from struct import pack
 
 import answers
-from verdicts import MOST_VERSION
+from verdicts import MOST_FILTER, MOST_VERSION
 
 sys.path.insert(0, str(Path(__file__).parents[1] / "examples"))
 from compare import Model, differences, random_deck, scaled
@@ -72,8 +72,9 @@ def deck(dice):
     tiles = [dice.choice([t for t in range(1, c // 2 + 1) if c % t == 0]) for c in cells]
     version = dice.randint(1, MOST_VERSION)
     sub = {"sub": dice.randint(8, 14)} if version == 2 else {}
+    chosen = {"filter": dice.randint(0, MOST_FILTER)} if version == 2 and dice.random() < 0.7 else {}
     made = {"version": version, "grid": {"cells": cells, "tiles": tiles} | sub,
-            "run": {"steps": dice.randint(0, 6), "every": dice.choice([1, 1, 2, 3, 1000000])},
+            "run": {"steps": dice.randint(0, 6), "every": dice.choice([1, 1, 2, 3, 1000000])} | chosen,
             "scale": {"e_to_b": factor(dice, -4, -1), "b_to_e": factor(dice, -4, 1), "e_force": factor(dice, -30, -2),
                       "b_force": factor(dice, -30, -2)}}
     if dice.random() < 0.08:
@@ -130,7 +131,7 @@ def bend(dice, at, last):
     elif how == 2 and isinstance(at[last], list):
         at[last] = at[last] + at[last][-1:] if dice.random() < 0.5 else at[last][:-1]
     elif how == 3 and isinstance(at, dict):
-        at[dice.choice(["x", "Z", "é b", "", "a.b", "points", "lattice", "random", "pair", "drive", "sub"])] = dice.choice(ODD)
+        at[dice.choice(["x", "Z", "é b", "", "a.b", "points", "lattice", "random", "pair", "drive", "sub", "filter"])] = dice.choice(ODD)
     elif how == 4 and isinstance(at, list):
         at[last] = deepcopy(dice.choice(at))
     else:
@@ -209,7 +210,7 @@ def damaged(dice, held):
 
 def run_dump(dice):
     """The dump of a run of the model."""
-    kind = "both" if MOST_VERSION == 2 and dice.random() < 0.5 else ""
+    kind = dice.choice(["both", "filter"]) if MOST_VERSION == 2 and dice.random() < 0.6 else ""
     while True:
         text = spelled(dice, deck(dice)) if dice.random() < 0.8 else random_deck(dice.randrange(10**6), kind).encode()
         status, held, _ = answers.run(text)
@@ -227,7 +228,8 @@ def made_dump(dice):
     scales = [multiplier_bytes(dice) for _ in range(4)]
     scales[2:] = [pack(">iI", *dice.choice([(0, 0), (1, 46), (1, 62), (-1, 50)])) for _ in range(2)]
     version = dice.randint(1, MOST_VERSION)
-    form = pack(">3I", dice.choice([8, 14, dice.randint(7, 15)]), *(dice.choice([0] * 9 + [1]) for _ in range(2))) if version == 2 else b""
+    form = dice.choice([8, 14, dice.randint(7, 15)]), dice.choice([0] * 5 + [1] * 4 + [2]), dice.choice([0] * 9 + [1])
+    form = pack(">3I", *form) if version == 2 else b""
     made = b"PICDUMP%d" % version + pack(">5I", *cells, steps, every) + b"".join(scales) + form + bytes(4)
     model = object.__new__(Model)
     model.cells = cells

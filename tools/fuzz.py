@@ -3,11 +3,12 @@
     python3 tools/fuzz.py --minutes M [--jobs N] [--seed S] [--program PROGRAM]
 
 Decks come from a grammar, whole or with some value, key or list another; some then have bytes flipped, cut or doubled. Dumps are those
-of the model's runs, and such as are made field by field, with fields or bytes another. `check` and `verify` are called on each,
-and `run` where the model runs a deck in moments, on 1 to 64 workers. Status, standard output and standard error have to be those of
-tools/answers.py, byte for byte. Printed are the counts by kind of answer, how many calls differ, and how many have an answer without a
-cause. A case is found again by its seed and number (--only NUMBER writes its input to standard output). The exit status is 0 where none
-differs. A text that Python's reader refuses and pic's doesn't is no difference where it has forms of TOML 1.1; it is counted.
+of the model's runs, and such as are made field by field, with fields or bytes another. `check` and `verify` are called on each, and
+`run` and `resume` where the model does the steps in moments, on 1 to 64 workers. Status, standard output and standard error have to be
+those of tools/answers.py, byte for byte. Printed are the counts by kind of answer, how many calls differ, and how many have an answer
+without a cause. A case is found again by its seed and number (--only NUMBER writes its input to standard output). The exit status is 0
+where none differs. A text that Python's reader refuses and pic's doesn't is no difference where it has forms of TOML 1.1; it is
+counted.
 """
 
 import argparse
@@ -21,6 +22,7 @@ from pathlib import Path
 import answers
 import forms
 from program import Program, chosen_program
+from verdicts import MOST_STEPS, Bad, Broken, Dump
 
 MOST_WORK, MOST_PARTICLES = 20000, 3000
 WORKERS = "1", "2", "3", "5", "64"
@@ -61,10 +63,29 @@ def kind_of(word, ended):
     return f"{word}: {' '.join(w for w in words[:5] if w.isalpha() or w in ('half1', 'half2')) or f'status {status}'}"
 
 
+def resumes_of(dice, given):
+    """A call of `resume` with a dump, where the model goes on from it in moments: words, and the answer of the model."""
+    dump, last = Dump(given), None
+    steps, tiles = dice.choice([0, 1, 7, MOST_STEPS]), [dice.choice([1, 2, 3, 64]) for _ in range(3)]
+    try:
+        dump.header()
+        steps = min(max(dump.steps + dice.choice([0, 0, 1, 2, 5, 5, -1]), 0), MOST_STEPS)
+        if dice.random() < 0.9:
+            tiles = [dice.choice([t for t in range(1, n // 2 + 1) if n % t == 0]) for n in dump.cells]
+        last = list(dump.frames())[-1]
+    except (Bad, Broken):
+        pass
+    if last is not None and (len(dump.electric[0]) + 10 * len(dump.particles)) * (steps - last) > MOST_WORK:
+        return
+    cut = [f"--tiles-{axis}={n}" for axis, n in zip("xyz", tiles)]
+    yield ["resume", "--steps", str(steps), "--workers", dice.choice(WORKERS), *cut], answers.resume(given, steps, tiles)
+
+
 def calls_of(dice, kind, given):
     """The calls of a case: words, and the answer of the model."""
     if kind == "dump":
         yield ["verify"], answers.verify(given)
+        yield from resumes_of(dice, given)
         return
     work, count = work_of(given)
     if count <= MOST_PARTICLES:

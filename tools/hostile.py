@@ -53,16 +53,29 @@ def verify_all(program, test, cases):
     test.end()
 
 
+def resume_all(program, test, cases):
+    """Each dump of the cases is gone on with to three steps in all, and the answer has to be that of the model."""
+    def call(case):
+        return program.call("resume", "--steps", "3", given=case[1])
+
+    for (name, dump), ended in program.each(call, cases):
+        test.case(name, ended == answers.resume(dump, 3), ended)
+    test.end()
+
+
 def dumps(program):
     run = Run(program, "two_charges")
     test = Test("verify, the dump of two_charges.toml cut at every length")
     for length, ended in program.each(lambda length: program.call("verify", given=run.dump[:length]), range(len(run.dump))):
         test.case(f"{length} bytes", ended == (7, b"", b"bad dump %d 9\n" % length), ended)
     test.end()
+    resume_all(program, Test("resume --steps 3, the same dump cut at every length"), (
+        (f"{length} bytes", run.dump[:length]) for length in range(len(run.dump))))
     dice = random.Random(1)
     changed = [(place, dice.randint(1, 255)) for place in range(len(run.dump))]
-    verify_all(program, Test("verify, the same dump with each byte in turn another"), (
-        (f"byte {place}", run.dump[:place] + bytes([run.dump[place] ^ by]) + run.dump[place + 1:]) for place, by in changed))
+    changed = [(f"byte {place}", run.dump[:place] + bytes([run.dump[place] ^ by]) + run.dump[place + 1:]) for place, by in changed]
+    verify_all(program, Test("verify, the same dump with each byte in turn another"), changed)
+    resume_all(program, Test("resume --steps 3, the same dump with each byte in turn another"), changed)
 
 
 # By deck, changes of its dump: what is changed, the place, the bytes that stand there then, status and report.
@@ -87,7 +100,9 @@ if MOST_VERSION == 2:
         ("129 cells on x", 8, b"\0\0\0\x81", 7, "bad dump 8 2"),
         ("a sub of 7", 60, b"\0\0\0\x07", 7, "bad dump 60 2"),
         ("a sub of 15", 60, b"\0\0\0\x0f", 7, "bad dump 60 2"),
-        ("a filter", 64, b"\0\0\0\1", 7, "bad dump 64 2"),
+        ("a filter of 1, where there was none", 64, b"\0\0\0\1", 8, "broken frame 1 node 0 0 0 div 100663296 rho 402653184"),
+        ("a filter of 2", 64, b"\0\0\0\2", 7, "bad dump 64 2"),
+        ("a filter of 2^24", 64, b"\1\0\0\0", 7, "bad dump 64 2"),
         ("a loop", 68, b"\0\0\0\1", 7, "bad dump 68 2"),
         ("17 species", 72, b"\0\0\0\x11", 7, "bad dump 72 2"),
         ("the ion's x at the end of the box", 6345, b"\0\0\4\0", 7, "bad dump 6345 6"),
@@ -95,16 +110,26 @@ if MOST_VERSION == 2:
         ("one more kinetic energy", 6393, (274877906945).to_bytes(16, "big"), 7, "bad dump 6393 7"),
         ("a byte more", 12692, b"\0", 7, "bad dump 12692 10"),
     ]
+    CHANGES["two_charges_filtered"] = [
+        ("no filter, where there was one", 64, b"\0\0\0\0", 8, "broken frame 1 node 0 0 0 div 1649267441664 rho 412316860416"),
+        ("a filter of 2", 64, b"\0\0\0\2", 7, "bad dump 64 2"),
+        ("a loop", 68, b"\0\0\0\1", 7, "bad dump 68 2"),
+        ("a value of E that is 1", 216, b"\1", 8, "broken frame 0 node 0 0 0 div 1 rho 0"),
+        ("the ion's x 1 further", 6345, b"\0\0\4\1", 8, "broken frame 0 node 0 0 0 div 0 rho -805306368"),
+    ]
 
 
 def changes(program):
     for deck, listed in CHANGES.items():
         run = Run(program, deck)
-        test = Test(f"verify, the dump of {deck}.toml with one field another")
+        test = Test(f"verify and resume, the dump of {deck}.toml with one field another")
         for name, place, field, status, line in listed:
             changed = run.dump[:place] + field + run.dump[place + len(field):]
             ended = program.call("verify", given=changed)
             test.case(name, ended == (status, b"", f"{line}\n".encode()) == answers.verify(changed), ended)
+            ended = program.call("resume", "--steps", "3", given=changed)
+            fits = (ended[0], ended[2].splitlines()[-1].decode()) == (status, line) and ended == answers.resume(changed, 3)
+            test.case(f"{name}, resume", fits, ended)
         test.end()
 
 
@@ -146,8 +171,8 @@ def pipes(program):
         stopped = status == 5 and report in may or status == 0 and length + PAGE >= len(run.dump)
         test.case(f"{length} bytes", stopped and got == run.dump[:length], ended)
     test.end()
-    test = Test("run, the pipe of the report closed; check, verify, demo, refusals, usage with their pipe closed")
-    for name, words, given, stream, left in closed_calls(run):
+    test = Test("run, the pipe of the report closed; check, verify, demo, resume, refusals, usage with their pipe closed")
+    for name, words, given, stream, left in closed_calls(program, run):
         reader, writer = os.pipe()
         os.close(reader)
         ended = program.call(*words, given=given, **{stream: writer})
@@ -156,8 +181,12 @@ def pipes(program):
     test.end()
 
 
-def closed_calls(run):
+def closed_calls(program, run):
     """Calls with one of their streams shut: name, words, input, the stream, and what the other then holds."""
+    part = Run.resumed(program, "two_charges")
+    yield "resume, report", part.words, part.given, "stderr", part.dump[:part.frame_ends[0]]
+    yield "resume, dump", part.words, part.given, "stdout", b""
+    yield "resume, refused", ["resume", "--steps", "0"], part.given, "stderr", b""
     first = run.dump[:run.frame_ends[0]]
     yield "run, report", ["run"], run.deck, "stderr", first
     yield "run, dump", ["run"], run.deck, "stdout", b""
@@ -170,21 +199,21 @@ def closed_calls(run):
 
 
 def limited_file(program, run, length, stream):
-    """A run with one stream a file that may grow to a length: status, dump, report."""
+    """A call that writes a dump, with one stream a file that may grow to a length: status, dump, report."""
     def limit():
         resource.setrlimit(resource.RLIMIT_FSIZE, (length, length))
 
     with tempfile.TemporaryFile() as file:
         # Python ignores the signal that would come with the fault, and so does then its child.
-        status, out, report = program.call("run", given=run.deck, preexec_fn=limit, restore_signals=False, **{stream: file})
+        status, out, report = program.call(*run.words, given=run.given, preexec_fn=limit, restore_signals=False, **{stream: file})
         file.seek(0)
         return status, file.read() if out is None else out, file.read() if report is None else report
 
 
 def disks(program):
     run = Run(program, "demo_7")
-    test = Test("run, check, verify, demo, refusals, usage with a stream on /dev/full")
-    for name, words, given, stream, left in closed_calls(run):
+    test = Test("run, check, verify, demo, resume, refusals, usage with a stream on /dev/full")
+    for name, words, given, stream, left in closed_calls(program, run):
         with open("/dev/full", "wb") as full:
             ended = program.call(*words, given=given, **{stream: full})
         test.case(name, ended[0] == 5 and (ended[1] or b"") + (ended[2] or b"") == left, ended)
@@ -196,8 +225,18 @@ def disks(program):
         whole = length >= len(run.dump)
         test.case(f"{length} bytes", ended == (0 if whole else 5, run.dump[:length], run.lines_of(length)), ended)
     test.end()
-    run = Run(program, "two_charges")
-    test = Test("run, two_charges.toml, a disk that is full when the report has so many bytes")
+    part = Run.resumed(program, "two_charges")
+    test = Test("resume, two_charges.toml, a disk that is full when the dump has so many bytes")
+    for length in [*range(0, len(part.dump), 101), len(part.dump) - 1, len(part.dump)]:
+        ended = limited_file(program, part, length, "stdout")
+        test.case(f"{length} bytes", ended == (5 * (length < len(part.dump)), part.dump[:length], part.lines_of(length)), ended)
+    test.end()
+    for run in Run(program, "two_charges"), part:
+        full_report(program, run)
+
+
+def full_report(program, run):
+    test = Test(f"{run.words[0]}, two_charges.toml, a disk that is full when the report has so many bytes")
     text = b"".join(run.report)
     for length in range(len(text) + 1):
         ended = limited_file(program, run, length, "stderr")
@@ -225,11 +264,12 @@ def slow(program):
         ended = process.wait(NEVER_SO_LONG), got, report
         test.case(f"{most} bytes", ended == (0, run.dump, b"".join(run.report)), ended)
     test.end()
-    test = Test("check and verify, a writer slower than the reader: pieces of random lengths, with pauses")
-    dice = random.Random(2)
-    for words, given, answer in (("check", run.deck, b"ok 2 particles\n"), ("verify", run.dump, b"verified 2 frames\n")):
-        for most in (1, 7, 100) if words == "check" else (7, 100, 4097):
-            process = program.start(words)
+    test = Test("check, verify and resume, a writer slower than the reader: pieces of random lengths, with pauses")
+    dice, part = random.Random(2), Run.resumed(program, "two_charges")
+    for words, given, answer in ((["check"], run.deck, (0, b"ok 2 particles\n", b"")), (["verify"], run.dump, (0, b"verified 2 frames\n", b"")),
+                                 (part.words, part.given, (0, part.dump, b"".join(part.report)))):
+        for most in (1, 7, 100) if words == ["check"] else (7, 100, 4097):
+            process = program.start(*words)
             place = 0
             while place < len(given):
                 length = dice.randint(1, most)
@@ -240,23 +280,23 @@ def slow(program):
             process.stdin.close()
             ended = (None, process.stdout.read(), process.stderr.read())
             ended = process.wait(NEVER_SO_LONG), *ended[1:]
-            test.case(f"{words}, up to {most} bytes", ended == (0, answer, b""), ended)
+            test.case(f"{words[0]}, up to {most} bytes", ended == answer, ended)
     test.end()
 
 
 def reads(program):
-    test = Test("check, run, verify of a directory, and of a pipe that has nothing yet and doesn't block")
-    for words in "check", "run", "verify":
+    test = Test("check, run, verify, resume of a directory, and of a pipe that has nothing yet and doesn't block")
+    for words in ["check"], ["run"], ["verify"], ["resume", "--steps", "1"]:
         folder = os.open("/", os.O_RDONLY)
-        ended = program.call(words, stdin=folder)
+        ended = program.call(*words, stdin=folder)
         os.close(folder)
-        test.case(f"{words} of a directory", ended == (4, b"", b"read fault\n"), ended)
+        test.case(f"{words[0]} of a directory", ended == (4, b"", b"read fault\n"), ended)
         reader, writer = os.pipe()
         os.set_blocking(reader, False)
-        ended = program.call(words, stdin=reader)
+        ended = program.call(*words, stdin=reader)
         os.close(reader)
         os.close(writer)
-        test.case(f"{words} of an empty pipe", ended == (4, b"", b"read fault\n"), ended)
+        test.case(f"{words[0]} of an empty pipe", ended == (4, b"", b"read fault\n"), ended)
     test.end()
 
 

@@ -1,5 +1,6 @@
 """Calls of the built program for the tools beside this: the program, a test's count of how its cases ended, a deck's whole run."""
 
+import re
 import subprocess
 import sys
 import time
@@ -74,19 +75,33 @@ class Test:
         return cls.wrong == 0
 
 
-class Run:
-    """A deck and its whole run: the dump, the report's lines, and where the frames end in the dump."""
+def with_steps(deck, steps, every=None):
+    """A deck's text with other steps, and another number of steps between its frames where one is given."""
+    deck = re.sub(r"(?m)^steps = \d+", f"steps = {steps}", deck, count=1)
+    return deck if every is None else re.sub(r"(?m)^every = \d+", f"every = {every}", deck, count=1)
 
-    def __init__(self, program, name):
-        self.name, self.deck = name, (HOME / "decks" / f"{name}.toml").read_bytes()
-        status, self.dump, report = program.call("run", given=self.deck)
-        assert status == 0, f"{name} doesn't run"
+
+class Run:
+    """A call that writes a dump, and how it ends when nothing hinders it: the whole dump, the report's lines, and where the frames end
+    in the dump. The call is `run` with a deck; of `resumed` it is `resume` with a dump."""
+
+    def __init__(self, program, name, words=("run",), given=None):
+        self.name, self.deck, self.words = f"{name}.toml", (HOME / "decks" / f"{name}.toml").read_bytes(), list(words)
+        self.given = self.deck if given is None else given
+        status, self.dump, report = program.call(*words, given=self.given)
+        assert status == 0, f"{words[0]} doesn't end well with {name}"
         self.report = report.splitlines(keepends=True)
         front = 76 if self.dump[7:8] == b"2" else 64
         self.header = front + 60 * int.from_bytes(self.dump[front - 4:front], "big")
         frames = len(self.report) - 1
         frame = (len(self.dump) - 6 - self.header) // frames
         self.frame_ends = [self.header + (n + 1) * frame for n in range(frames)]
+
+    @classmethod
+    def resumed(cls, program, name, *words):
+        """The run of a deck in two parts: five steps, whose frames are those of the steps 0, 2, 4 and 5, and then to nine."""
+        deck = with_steps((HOME / "decks" / f"{name}.toml").read_text(), 5, 2)
+        return cls(program, name, ["resume", "--steps", "9", *words], program.call("run", given=deck.encode())[1])
 
     def lines_of(self, length):
         """The lines of the frames that so long a front of the dump has whole; all lines where it is the whole dump."""

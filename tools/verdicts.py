@@ -8,9 +8,10 @@ from struct import unpack_from
 sys.path.insert(0, str(Path(__file__).parents[1] / "examples"))
 from compare import FAULTS, Halt, Model, scaled
 
-# The newest version of decks and dumps that the program takes, and what each allows: cells on an axis, particles, and sub.
+# The newest version of decks and dumps that the program takes, and what each allows: cells on an axis, particles, sub; and the filters.
 MOST_VERSION = 2
 MOST_CELLS, MOST_PARTICLES, SUBS = {1: 64, 2: 128}, {1: 2**20, 2: 2**22}, {1: (12, 12), 2: (8, 14)}
+MOST_FILTER = 1
 MOST_FORCE, MOST_VALUE = 2**44, 2**90
 MOST_FACTOR, MOST_SHIFT, MOST_STEPS, MOST_SPECIES = 2**31 - 1, 62, 1000000, 16
 
@@ -27,7 +28,8 @@ class Dump:
     """A dump, read field by field from its front."""
 
     def __init__(self, held):
-        self.held, self.place = held, 0
+        self.held, self.place, self.model = held, 0, None
+        self.electric, self.magnetic, self.particles = None, None, []
 
     def field(self, form, size, cause, fits):
         """A number, which has to fit. A field that the end cuts has another fault."""
@@ -57,28 +59,29 @@ class Dump:
     def header(self):
         for byte in b"PICDUMP":
             self.small(1, lambda found: found == byte)
-        version = self.small(1, lambda digit: 1 <= digit - 48 <= MOST_VERSION) - 48
+        self.version = version = self.small(1, lambda digit: 1 <= digit - 48 <= MOST_VERSION) - 48
         self.cells = [self.natural(2, lambda n: 2 <= n <= MOST_CELLS[version]) for _ in range(3)]
         self.steps = self.natural(2, lambda n: n <= MOST_STEPS)
         self.every = self.natural(2, lambda n: 1 <= n <= MOST_STEPS)
         self.scale = {name: self.factor() for name in ("e_to_b", "b_to_e", "e_force", "b_force")}
-        self.side = 2**12 if version == 1 else self.form()
+        self.side, self.filter = (2**12, 0) if version == 1 else self.form()
         self.species, names, total = [], set(), 0
         for _ in range(self.natural(2, lambda n: n <= MOST_SPECIES)):
             name = self.field("32s", 32, 2, lambda name: re.fullmatch(rb"[A-Za-z0-9_]{1,32}\0*", name) and name not in names)
             names.add(name)
             charge, mass = self.signed(2, lambda n: -32768 <= n <= 32767), self.natural(2, lambda n: 1 <= n <= 65536)
-            self.factor(), self.factor()
+            kick, turn = self.factor(), self.factor()
             count = self.natural(2, lambda n: total + n <= MOST_PARTICLES[version])
             total += count
-            self.species.append({"charge": charge, "mass": mass, "count": count})
+            self.species.append({"name": name.rstrip(b"\0").decode(), "charge": charge, "mass": mass, "kick": kick, "turn": turn,
+                                 "count": count})
 
     def form(self):
-        """What version 2 says more: the side of a cell is given, and there is no filter and no loop."""
+        """What version 2 says more: the side of a cell, and the filter; and there is no loop."""
         sub = self.natural(2, lambda n: SUBS[2][0] <= n <= SUBS[2][1])
-        for _ in "filter", "loops":
-            self.natural(2, lambda n: n == 0)
-        return 2**sub
+        chosen = self.natural(2, lambda n: n <= MOST_FILTER)
+        self.natural(2, lambda loops: loops == 0)
+        return 2**sub, chosen
 
     def values(self, name):
         """The three components of a field."""
@@ -103,14 +106,20 @@ class Dump:
         for energy in kinetic, *squares:
             self.field("wide", 16, 7, lambda found: found % 2**128 == energy)
 
+    def state(self):
+        """The run's state that the last frame read is; before the first one it has none."""
+        if self.model is None:
+            self.model = object.__new__(Model)
+            for name in "version", "cells", "side", "scale", "steps", "every", "filter":
+                setattr(self.model, name, getattr(self, name))
+            self.model.kinds, self.model.counts = self.species, [kind["count"] for kind in self.species]
+            self.model.lay_out()
+        self.model.electric, self.model.magnetic, self.model.particles = self.electric, self.magnetic, self.particles
+        return self.model
+
     def test_gauss(self, number):
-        model = object.__new__(Model)
-        model.cells, model.side, model.electric, model.particles = self.cells, self.side, self.electric, self.particles
-        nx, ny, nz = self.cells
-        model.places = [(i, j, k) for k in range(nz) for j in range(ny) for i in range(nx)]
-        model.down = [[model.at(*(c - (b == a) for b, c in enumerate(p))) for p in model.places] for a in range(3)]
         try:
-            model.test_gauss()
+            self.state().test_gauss()
         except Halt as end:
             raise Broken(end.args[1].replace("gauss ", f"broken frame {number} node "))
 
@@ -134,23 +143,25 @@ class Dump:
             raise Bad(self.place, 10)
 
     def frames(self):
-        """Reads all, and counts the frames."""
-        self.header()
+        """Reads all behind the header, frame by frame: the steps."""
         last, due, number = None, 0, 0
         while True:
             marks = ([70] if due is not None else []) + ([69] if number else [])
             if self.small(3, lambda mark: mark in marks) == 69:
                 self.end(last, due)
-                return number
+                return
             self.frame(due)
             self.test_gauss(number)
+            yield due
             last, number = due, number + 1
             due = min(last - last % self.every + self.every, self.steps) if last < self.steps else None
 
 
-def verify(dump):
+def verify(held):
+    dump = Dump(held)
     try:
-        return 0, b"verified %d frames\n" % Dump(dump).frames(), b""
+        dump.header()
+        return 0, b"verified %d frames\n" % len(list(dump.frames())), b""
     except Bad as fault:
         return 7, b"", b"bad dump %d %d\n" % fault.args
     except Broken as line:

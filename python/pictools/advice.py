@@ -17,6 +17,7 @@ if TYPE_CHECKING:
 FORCE_BOUND = 2.0**44
 COURANT = 1 / sqrt(3)
 SLOW = 0.2                  # of light's speed: from here on a drift makes light that shows, and gamma^3 is 1.06
+FEW = 8                     # electrons a cell: with fewer in a box of three long axes a filter is worth its weight
 HEATED = 2e-4               # along one axis, all energy rises by this times wp t / (electrons a cell, Debye lengths squared)
 
 
@@ -44,6 +45,9 @@ def chosen(plasma: Plasma) -> list[str]:
         along = "" if p.wave_axis == "x" else f" along {p.wave_axis}"
         lines.append(f"They start with wave {p.wave} of the box{along}, k = {p.wave_number:.4f} a cell, of "
                      f"{p.wave_speed:g} cells a step.")
+    if p.filter:
+        lines.append("The current is filtered: short waves make less noise, and E and B are 64 times as large; e_force and b_force are "
+                     "64 times as small for that.")
     tiles = prod(tiles_of(p.cells))
     return lines + [ions(plasma), f"The grid has {tiles} tile{'s' * (tiles > 1)}: more workers than that only cost time."]
 
@@ -87,8 +91,8 @@ def fastest(plasma: Plasma) -> tuple[int, float]:
     for wave in range(1, p.along // 2 + 1):
         k = 2 * pi * wave / p.along
         if p.crosses:
-            rates[wave] = theory.filamentation(k, p.plasma_frequency, p.drift, p.light_speed)
-        elif wave == 1 or k * p.drift < p.plasma_frequency:
+            rates[wave] = theory.filamentation(k, p.frequency_of(k), p.drift, p.light_speed)
+        elif wave == 1 or k * p.drift < p.frequency_of(k):
             rates[wave] = along_streams(p, k)
     wave = max(rates, key=rates.__getitem__)
     return wave, rates[wave]
@@ -97,7 +101,7 @@ def fastest(plasma: Plasma) -> tuple[int, float]:
 def along_streams(plasma: Plasma, k: float) -> float:
     """How fast a wave of cold streams along it grows; 0 for one at the end of those that do, of which no zero is found."""
     try:
-        return theory.two_stream(k, plasma.plasma_frequency, plasma.drift).imag
+        return theory.two_stream(k, plasma.frequency_of(k), plasma.drift).imag
     except ArithmeticError:
         return 0.0
 
@@ -122,7 +126,7 @@ def expected(plasma: Plasma) -> list[str]:
 
 def warnings(plasma: Plasma) -> list[str]:
     """What docs/UNITS.md advises against."""
-    return [line for part in (heating, leapfrog, light, drifts, roundings, frames, noise, forces) for line in part(plasma)]
+    return [line for part in (heating, leapfrog, light, drifts, roundings, frames, noise, few, forces) for line in part(plasma)]
 
 
 def long_axes(plasma: Plasma) -> list[int]:
@@ -236,7 +240,8 @@ def start_noise(plasma: Plasma) -> float:
     waves = (2 * pi * np.fft.fftfreq(n if n > 2 else 1) for n in p.cells)
     k = np.stack(np.meshgrid(*waves, indexing="ij"), axis=-1).reshape(-1, 3)[1:]
     square = np.sum((2 * np.sin(k / 2))**2, axis=-1)
-    shot = np.sum(np.prod((2 + np.cos(k)) / 3, axis=-1) / square)
+    left = theory.left_by_filter(k) if p.filter else 1
+    shot = np.sum(np.prod((2 + np.cos(k)) / 3, axis=-1) * left**2 / square)
     kinetic = p.electrons / prod(p.copies) * (sum(v**2 for v in p.thermal_speeds) + greatest_drift(p)**2)
     return float(p.plasma_frequency**2 * shot / kinetic) if kinetic else np.inf
 
@@ -249,6 +254,15 @@ def noise(plasma: Plasma) -> list[str]:
     share = start_noise(p)
     return [f"electrons that are drawn between still ions begin with an E of {share:.2g} times their kinetic energy, which heats "
             "them; --mass-ratio puts an ion on each."] if share > 0.1 else []
+
+
+def few(plasma: Plasma) -> list[str]:
+    """Warm electrons that are drawn, so few that most of E is the noise of waves of some cells, without a filter."""
+    p = plasma
+    if p.filter or p.start == "quiet" or not any(p.thermal_speeds) or len(long_axes(p)) < 3 or p.particles_a_cell >= FEW:
+        return []
+    return [f"{p.particles_a_cell} electron{'s' * (p.particles_a_cell > 1)} a cell make much noise of waves of a few cells: --filter 1 "
+            "smooths the current, and takes most of it away (\"The filter\" in docs/UNITS.md)."]
 
 
 def forces(plasma: Plasma) -> list[str]:

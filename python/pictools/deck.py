@@ -147,7 +147,7 @@ class Pair(Drawn):
 @dataclass
 class Deck(Sided):
     """A deck. `edges` and `faces` are what is added to E and B: arrays of shape (3, nz, ny, nx), or None for nothing. With a
-    `sub` it is one of version 2."""
+    `sub` it is one of version 2, which may have a `filter` of the current."""
 
     cells: tuple[int, int, int]
     steps: int
@@ -163,6 +163,7 @@ class Deck(Sided):
     faces: NDArray[np.int64] | None = None
     species: list[Species] = field(default_factory=list)
     sub: int | None = None
+    filter: int = 0
 
     @property
     def particles(self) -> int:
@@ -173,7 +174,8 @@ class Deck(Sided):
         text = "".join(f"# {line}".rstrip() + "\n" for line in self.comment) + f"version = {self.version}\n"
         text += f"\n[grid]\ncells = {list(self.cells)}\ntiles = {tiles_of(self.cells)}\n"
         text += "" if self.sub is None else f"sub = {self.sub}\n"
-        text += f"\n[run]\nsteps = {self.steps}\nevery = {self.every}\n\n[scale]\n"
+        text += f"\n[run]\nsteps = {self.steps}\nevery = {self.every}\n"
+        text += (f"filter = {self.filter}\n" if self.filter else "") + "\n[scale]\n"
         text += "".join(f"{name} = {list(getattr(self, name))}\n" for name in ("e_to_b", "b_to_e", "e_force", "b_force"))
         text += f"\n[field]\ne = {list(self.e)}\nb = {list(self.b)}\n"
         text += field_rows("edges", self.edges) + field_rows("faces", self.faces)
@@ -205,8 +207,15 @@ def field_rows(name: str, values: NDArray[np.int64] | None) -> str:
     return rows(name, np.stack([axis, i, j, k, values[axis, k, j, i]], axis=1))
 
 
-def charges(cells: Sequence[int], species: Iterable[Points | Lattice], side: int = 1 << SUB_1) -> NDArray[np.int64]:
-    """The charge of each node, of shape (nz, ny, nx), with hats: 12 side^3 in all for a charge of 1."""
+def smoothed(values: NDArray) -> NDArray:
+    """The binomial filter of numbers at the places of a grid, of shape (.., nz, ny, nx), whose weights are 64 in all."""
+    for axis in -1, -2, -3:
+        values = np.roll(values, 1, axis) + 2 * values + np.roll(values, -1, axis)
+    return values
+
+
+def charges(cells: Sequence[int], species: Iterable[Points | Lattice], side: int = 1 << SUB_1, filter: int = 0) -> NDArray[np.int64]:
+    """The charge of each node, of shape (nz, ny, nx), with hats: 12 side^3 in all for a charge of 1; filtered where a run is."""
     total = np.zeros(tuple(reversed(cells)), np.int64)
     for kind in species:
         node, beyond = np.divmod(kind.position, side)
@@ -214,7 +223,7 @@ def charges(cells: Sequence[int], species: Iterable[Points | Lattice], side: int
             weight = np.prod(np.where(corner, beyond, side - beyond), axis=1)
             i, j, k = ((node + corner) % cells).T
             np.add.at(total, (k, j, i), 12 * kind.charge * weight)
-    return total
+    return smoothed(total) if filter else total
 
 
 def divergence(e: NDArray) -> NDArray:

@@ -88,7 +88,8 @@ class Frame:
 
     @cached_property
     def e(self) -> NDArray[np.float64]:
-        """E, of shape (3, nz, ny, nx), in the dump's own unit: a charge 1 is `header.unit_charge` of div E, 12 * 4096^3 in version 1."""
+        """E, of shape (3, nz, ny, nx), in the dump's own unit: a charge 1 is `header.unit_charge` of div E, 12 * 4096^3 in version 1,
+        and with a filter so much of the 27 nodes around it."""
         return rounded(self.record["e"])
 
     @cached_property

@@ -34,14 +34,19 @@ class Rate(NamedTuple):
 
 
 class Start(NamedTuple):
-    """A dump's electrons at the start: plasma frequency, light's speed, the drifts (kinds, 3), the thermal speeds (3,), and the
-    angle by which the uniform B along each axis turns them in a step."""
+    """A dump's electrons at the start: plasma frequency, light's speed, the drifts (kinds, 3), the thermal speeds (3,), the angle by
+    which the uniform B along each axis turns them in a step, and the filter of their current."""
 
     wp: float
     c: float
     drifts: NDArray
     thermal: NDArray
     turns: NDArray
+    filter: int
+
+    def of(self, k: float) -> float:
+        """The plasma frequency of waves of k along an axis."""
+        return theory.filtered(self.wp, k) if self.filter else self.wp
 
 
 def thermal_speeds(frame: Frame, along: int) -> NDArray[np.float64]:
@@ -65,7 +70,7 @@ def start_of(dump: Dump, along: str) -> Start:
     means = frame.b.mean(axis=(1, 2, 3))
     turns = [abs(units.gyration(header, kinds[0], float(mean))) if kinds else 0.0 for mean in means]
     return Start(units.plasma_frequency(header), units.light_speed(header), np.array(drifts).reshape(-1, 3),
-                 thermal_speeds(frame, AXES.index(along)), np.array(turns))
+                 thermal_speeds(frame, AXES.index(along)), np.array(turns), header.filter)
 
 
 def growth(dump: Dump, name: str, wave: Wave, along: str) -> Rate | None:
@@ -83,7 +88,7 @@ def growth(dump: Dump, name: str, wave: Wave, along: str) -> Rate | None:
         if len(start.drifts) == 2:
             return streams(dump, k, a, driven, start)
         if len(start.drifts) == 1 and driven != a and start.thermal[driven]:
-            rate = theory.weibel(k, start.wp, float(start.thermal[driven]), float(start.thermal[a]), start.c)
+            rate = theory.weibel(k, start.of(k), float(start.thermal[driven]), float(start.thermal[a]), start.c)
             return Rate(rate, 0.0, "Weibel")
     except ArithmeticError:
         pass
@@ -97,10 +102,10 @@ def streams(dump: Dump, k: float, a: int, driven: int, start: Start) -> Rate | N
     if len(counts) > 1 or np.abs(first + second).max() > SLOW:
         return None
     if driven == a and abs(first[a]) > SLOW:
-        w = theory.two_stream(k, start.wp, abs(float(first[a])), float(start.thermal[a]))
+        w = theory.two_stream(k, start.of(k), abs(float(first[a])), float(start.thermal[a]))
         return Rate(float(w.imag), float(w.real), "theory of two streams")
     if driven != a and abs(first[driven]) > SLOW:
-        return Rate(theory.filamentation(k, start.wp, abs(float(first[driven])), start.c), 0.0, "cold theory")
+        return Rate(theory.filamentation(k, start.of(k), abs(float(first[driven])), start.c), 0.0, "cold theory")
     return None
 
 
@@ -110,8 +115,9 @@ def damping(dump: Dump, name: str, wave: Wave, along: str) -> Rate | None:
     across = [turn for axis, turn in enumerate(start.turns) if axis != a]
     if not isinstance(wave, int) or component(name) != ("e", a) or len(start.drifts) != 1 or not start.wp or any(across):
         return None
+    k = 2 * pi * wave / dump.header.cells[a]
     try:
-        w = theory.langmuir(2 * pi * wave / dump.header.cells[a], start.wp, float(start.thermal[a]))
+        w = theory.langmuir(k, start.of(k), float(start.thermal[a]))
     except ArithmeticError:
         return None
     return Rate(float(w.imag), float(w.real), "Landau")
@@ -121,7 +127,8 @@ def curves(dump: Dump, name: str, along: str, numbers: NDArray) -> list[Curve]:
     """The theory's frequencies at these wave numbers, where it has any: of light; for E along the axis of Langmuir waves or, in
     a uniform B across it, of upper hybrid and Bernstein's waves."""
     a, (field, axis), start = AXES.index(along), component(name), start_of(dump, along)
-    inner = numbers[numbers > 0]
+    # A filter leaves nothing of waves of two cells.
+    inner = numbers[(numbers > 0) & (np.cos(numbers / 2) > 0.01 if start.filter else True)]
     turns = [(turn, b) for b, turn in enumerate(start.turns) if turn]
     if axis == a and field == "b" or len(turns) > 1:
         return []
@@ -132,34 +139,34 @@ def curves(dump: Dump, name: str, along: str, numbers: NDArray) -> list[Curve]:
     if not turns or not start.wp:
         label = "light on this grid" if not start.wp else "light in a cold plasma"
         inner = numbers if start.wp else inner
-        return [Curve(inner, np.array([theory.light(k, start.c, start.wp) for k in inner]), label)]
+        return [Curve(inner, np.array([theory.light(k, start.c, start.of(k)) for k in inner]), label)]
     turn, b = turns[0]
     if b == a:
         return []
     if (axis == b) == (field == "e"):
-        return [Curve(inner, np.array([theory.light(k, start.c, start.wp) for k in inner]), "cold ordinary light")]
-    return [Curve(inner, np.array([theory.upper_hybrid(k, start.wp, turn, start.c, fast) for k in inner]),
+        return [Curve(inner, np.array([theory.light(k, start.c, start.of(k)) for k in inner]), "cold ordinary light")]
+    return [Curve(inner, np.array([theory.upper_hybrid(k, start.of(k), turn, start.c, fast) for k in inner]),
                   f"cold extraordinary wave, {'fast' if fast else 'slow'}") for fast in (False, True)]
 
 
 def langmuir(numbers: NDArray, start: Start, a: int) -> list[Curve]:
     """Langmuir waves up to half an inverse Debye length, from where on they are damped at once."""
     thermal = float(start.thermal[a])
-    inner = numbers[numbers * thermal < 0.5 * start.wp]
+    inner = numbers[numbers * thermal < 0.5 * np.array([start.of(k) for k in numbers])]
     label = "Langmuir waves on this grid" if thermal else "cold Langmuir waves"
-    return [Curve(inner, np.array([theory.langmuir(k, start.wp, thermal).real for k in inner]), label)] if len(inner) else []
+    return [Curve(inner, np.array([theory.langmuir(k, start.of(k), thermal).real for k in inner]), label)] if len(inner) else []
 
 
 def across_b(numbers: NDArray, start: Start, turn: float, a: int) -> list[Curve]:
     """Waves of E along an axis that a uniform B crosses: the cold slow extraordinary one, and Bernstein's of warm electrons."""
-    cold = [theory.upper_hybrid(k, start.wp, turn, start.c) for k in numbers]
+    cold = [theory.upper_hybrid(k, start.of(k), turn, start.c) for k in numbers]
     found = [Curve(numbers, np.array(cold), "cold upper hybrid wave")]
     thermal = float(start.thermal[a])
     # Of waves for which light is well above the plasma's frequencies; the others go over into the cold ones.
     inner = numbers[numbers * start.c > 2 * sqrt(start.wp**2 + turn**2)]
     for branch in range(1, BRANCHES + 1):
         if pi * thermal > WARM * turn and len(inner) and branch * turn < pi:
-            waves = [theory.bernstein(k, start.wp, turn, thermal, branch) for k in inner]
+            waves = [theory.bernstein(k, start.of(k), turn, thermal, branch) for k in inner]
             found.append(Curve(inner, np.array(waves), f"Bernstein's wave {branch}"))
     return found
 

@@ -5,7 +5,7 @@ from __future__ import annotations
 import re
 from collections.abc import Callable, Iterable, Iterator
 
-from pictools.meanings import ADVICE, CAUSES, KEYS, STATUSES, USAGE
+from pictools.meanings import ADVICE, CAUSES, KEYS, MENDED, STATUSES, USAGE
 
 SIDE_1 = 4096               # sub-cells a cell in version 1; a line doesn't say those of version 2
 
@@ -57,7 +57,14 @@ def unknown(path: str) -> list[str]:
     said = [f"The deck has a key {path} that isn't one of a deck's."]
     if place_of(path).startswith("species[i].") and path.rpartition(".")[2] in ("points", "lattice", "random", "pair"):
         return said + ["A species has just one of points, lattice, random and pair."]
+    if path in ("grid.sub", "run.filter"):
+        return said + [f"It is a key of version 2: take it out, or give the deck version = 2 and {what_2(path)}."]
     return said + [f"In its place there can be: {', '.join(keys)}. Mend its name, or take it out." if keys else "Take it out."]
+
+
+def what_2(path: str) -> str:
+    """What else a deck of version 1 wants to be one of version 2 that has this key."""
+    return "keep it" if path == "grid.sub" else "grid.sub = 12; with a filter of 1 e_force and b_force also want 6 more in k"
 
 
 def missing(path: str) -> list[str]:
@@ -89,14 +96,14 @@ def gauss(i: str, j: str, k: str, divergence: str, charge: str) -> list[str]:
     d, r = int(divergence), int(charge)
     said = [f"Nothing was run: at the node ({i}, {j}, {k}), the first of those where they differ, the divergence of E is {d} "
             f"and the charge {r}, which is {r / (12 * SIDE_1**3):.6g} particles of charge 1 in version 1 "
-            "(12 * 8^sub is one in version 2)."]
+            "(12 * 8^sub is one in version 2, and 64 times that with a filter)."]
     if d == 0:
         said.append("E has no divergence there, and the particles aren't neutral. Put a `pair` of the opposite charge on each "
                     "species, or give the deck an E that fits as `field.edges`: pictools.deck.field_of(charges(cells, species)) "
                     "finds one.")
     else:
         said.append("The deck's E isn't that of its particles: make `field.edges` anew (pictools.deck.field_of) after each "
-                    "change of a particle.")
+                    "change of a particle, or of run.filter, with which the charge is filtered and 64 times as large.")
     return said + ["All charges have to add up to 0: count times charge, summed over the species. No E fits a box that is "
                    "charged."]
 
@@ -135,8 +142,8 @@ def bad_dump(place: str, cause: str) -> list[str]:
     said = [f"The dump isn't of the format from byte {place} on, counted from 0: "
             f"{CAUSES.get(cause, 'a cause that is not known')}."]
     if cause == "9":
-        said.append("Its run was cut (a full disk, Ctrl-C, a time limit), or still writes. python3 -m pictools mend makes it "
-                    "that of a shorter run; info, plot and thin take its whole frames as it is.")
+        said.append("Its run was cut (a full disk, Ctrl-C, a time limit), or still writes. " + MENDED + " info, plot and thin take "
+                    "its whole frames as it is.")
     return said
 
 

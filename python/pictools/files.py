@@ -2,6 +2,7 @@
 
 from __future__ import annotations
 
+import fcntl
 import os
 import re
 import sys
@@ -86,6 +87,17 @@ def places(path: str) -> tuple[Path, Path]:
     if not whole.parent.is_dir():
         raise ValueError(f"{path}: there is no folder {Path(path).parent}")
     return whole, whole.with_name(f".{whole.stem}.{os.getpid()}{whole.suffix}")
+
+
+def claim(file: BinaryIO) -> None:
+    """Takes a dump's file for writing, until it is closed here and by the programs that it was handed on to. Where a run still has
+    it, nothing is changed."""
+    try:
+        fcntl.flock(file, fcntl.LOCK_EX | fcntl.LOCK_NB)
+    except BlockingIOError:
+        raise ValueError(f"{file.name}: a run still writes it") from None
+    except OSError:
+        pass                # a file system that has no such locks
 
 
 @contextmanager

@@ -82,6 +82,7 @@ class Header(Sided):
     b_force: Multiplier
     species: tuple[Species, ...]
     sub: int | None = None
+    filter: int = 0
 
     @property
     def particles(self) -> int:
@@ -162,13 +163,13 @@ def read_version(data: bytes) -> int:
     return version
 
 
-def read_sub(row: np.void) -> int:
-    """The sub of a header of version 2, whose two next numbers are 0."""
+def read_form(row: np.void) -> tuple[int, int]:
+    """The sub and the filter of a header of version 2, behind which stands a 0."""
     allowance = ALLOWANCES[2]
     sub = limited(60, "sub", int(row["sub"]), allowance.least_sub, allowance.greatest_sub)
-    for place, name in (64, "filter"), (68, "loops"):
-        limited(place, name, int(row[name]), 0, 0)
-    return sub
+    chosen = limited(64, "filter", int(row["filter"]), 0, allowance.greatest_filter)
+    limited(68, "loops", int(row["loops"]), 0, 0)
+    return sub, chosen
 
 
 def read_header(file: BinaryIO) -> tuple[Header, bytes]:
@@ -185,7 +186,7 @@ def read_header(file: BinaryIO) -> tuple[Header, bytes]:
     cells = tuple(limited(8 + 4 * a, "cells", int(n), 2, ALLOWANCES[version].cells) for a, n in enumerate(row["cells"]))
     steps = limited(20, "steps", int(row["steps"]), 0, 10**6)
     every = limited(24, "every", int(row["every"]), 1, 10**6)
-    sub = read_sub(row) if version == 2 else None
+    form = read_form(row) if version == 2 else (None, 0)
     species: list[Species] = []
     for _ in range(limited(kind.itemsize - 4, "the number of species", int(row["species"]), 0, 16)):
         part = file.read(SPECIES.itemsize)
@@ -193,4 +194,4 @@ def read_header(file: BinaryIO) -> tuple[Header, bytes]:
         if len(part) < SPECIES.itemsize:
             raise DumpError(len(data), "the dump ends in its header")
         species.append(read_species(part, version, species))
-    return Header(cells, steps, every, *scales, tuple(species), sub), data
+    return Header(cells, steps, every, *scales, tuple(species), *form), data

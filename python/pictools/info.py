@@ -7,6 +7,9 @@ from math import pi, prod
 from pictools import note, units
 from pictools.dump import Dump, Header, Multiplier, Species
 from pictools.header import frame_length
+from pictools.versions import FILTER_WEIGHT
+
+FILTERED = f"1: the current is smoothed by weights of {FILTER_WEIGHT}, so E and B are {FILTER_WEIGHT} times as large"
 
 
 def info(dump: Dump) -> list[str]:
@@ -29,6 +32,7 @@ def facts(dump: Dump) -> list[tuple[str, str]]:
              ("particles", str(header.particles))]
     lines += [("its run", said)] if (said := note.said(dump)) else []
     lines += [(f"species {s.name}", kind(s)) for s in header.species]
+    lines += [("filter", FILTERED)] if header.filter else []
     lines += [(name, factor(getattr(header, name))) for name in ("e_to_b", "b_to_e", "e_force", "b_force")]
     return lines + physics(dump)
 
@@ -61,7 +65,8 @@ def physics(dump: Dump) -> list[tuple[str, str]]:
     if plasma and dump[0].step == 0:
         thermal = [units.thermal_speed(dump[0], axis) for axis in "xyz"]
         speeds = ", ".join(f"{speed:.4g}" for speed in thermal)
-        lines += [("plasma frequency", f"{plasma:.6g} a step, wp; a period is {2 * pi / plasma:.4g} steps"),
+        lines += [("plasma frequency", f"{plasma:.6g} a step, wp{', of long waves' if header.filter else ''}; a period is "
+                   f"{2 * pi / plasma:.4g} steps"),
                   ("thermal speed", f"{speeds} cells a step, of the electrons along x, y, z at the start"),
                   ("Debye length", f"{thermal[0] / plasma:.4g} cells, of that along x")]
     return lines + turning(header, dump)

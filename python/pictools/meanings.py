@@ -29,9 +29,10 @@ KEYS: dict[str, tuple[str, str]] = {
     "grid.cells": (THREE, "each from 2 to 64, in version 2 to 128"),
     "grid.tiles": (THREE, "each from 1 to half the cells of its axis, which it divides; their product is at most 512"),
     "grid.sub": ("a whole number, which a deck of version 2 has: a cell has 2^sub sub-cells along each axis", "from 8 to 14"),
-    "run": ("a table: steps, every", ""),
+    "run": ("a table: steps, every, and in version 2 filter, which may be left out", ""),
     "run.steps": ("a whole number", "from 0 to 1000000"),
     "run.every": ("a whole number", "from 1 to 1000000"),
+    "run.filter": ("a whole number, which a deck of version 2 may have: 1 smooths the current", "0 or 1"),
     "scale": ("a table of four multipliers: e_to_b, b_to_e, e_force, b_force", ""),
     **{f"scale.{name}": (MULTIPLIER, MULTIPLIERS) for name in ("e_to_b", "b_to_e", "e_force", "b_force")},
     "field": ("a table: e, b, edges, faces, each of which may be left out", ""),
@@ -69,9 +70,13 @@ ADVICE: list[tuple[str, str]] = [
     (r"grid\.cells.*", "Choose 2 to 64 cells along each axis, in version 2 to 128; an axis that nothing is to vary along has 2."),
     (r"grid\.sub .*", "A cell has 2^sub sub-cells along each axis, 256 to 16384; 12 is what version 1 has."),
     (r"grid\.tiles\[i\] 0 0", "The value is what the cells of this axis leave when they are divided by its tiles: choose tiles "
-                              "that divide them."),
-    (r"grid\.tiles\[i\] .*", "A tile has at least 2 cells along each axis: choose fewer tiles, or 1."),
+                              "that divide them. Those of `resume` are --tiles-x, --tiles-y and --tiles-z."),
+    (r"grid\.tiles\[i\] .*", "A tile has at least 2 cells along each axis: choose fewer tiles, or 1. Those of `resume` are "
+                             "--tiles-x, --tiles-y and --tiles-z."),
     (r"grid\.tiles .*", "There are at most 512 tiles in all: choose fewer along an axis."),
+    (r"run\.steps [1-9]\d* .*", "`resume` goes on to --steps steps in all, not so many more: at least as many as the dump says that "
+                               "its own run has."),
+    (r"run\.filter .*", "1 smooths the current by the binomial filter, 0 or no such key leaves it as it is; there is no other filter."),
     (r"run\..*", "Frames come at step 0, at the multiples of `every`, and at the last step."),
     (r"scale\.([eb])_force -17592186044416 17592186044416",
      "The value is a field at the start times this multiplier, as particles feel it, and at most 2^44 in size: choose a smaller "
@@ -108,10 +113,11 @@ CAUSES: dict[str, str] = {
     "10": "a byte follows the end record",
 }
 
-USAGE = ["What was typed is no command; nothing was read.", "run, check (or no word), verify and demo SEED are commands; run "
-                                                            "and demo take --workers N with N from 1 to 64, and a SEED is from "
-                                                            "0 to 4294967295. A deck and a dump come by standard input: ./pic "
-                                                            "run < DECK > DUMP"]
+USAGE = ["What was typed is no command; nothing was read.",
+         "run, check (or no word), verify, demo SEED, upgrade and resume --steps M are commands; run, demo and resume take --workers N "
+         "with N from 1 to 64, resume also --tiles-x, --tiles-y and --tiles-z, 1 to 64 each; a SEED is from 0 to 4294967295, and M "
+         "from 0 to 1000000. A deck and a dump come by standard input: ./pic run < DECK > DUMP"]
+MENDED = "python3 -m pictools mend makes it that of a shorter run, and ./pic resume goes on from there."
 
 STATUSES: dict[int, list[str]] = {
     0: ["Done: the run came to its last step, the deck can be run, or the dump is good."],
@@ -123,13 +129,13 @@ STATUSES: dict[int, list[str]] = {
     5: ["A write failed, and no line could say so: the disk is full, or what took the output (a pipe) has ended. What was put "
         "before stands: the dump has its whole frames, perhaps a part of one more, and no end.",
         "python3 -m pictools info, plot and thin take its whole frames. Free the disk, or keep fewer: a larger run.every, or "
-        "./pic run < DECK | python3 -m pictools thin 10 > DUMP. There is no going on from a frame: run the deck again."],
+        "./pic run < DECK | python3 -m pictools thin 10 > DUMP. " + MENDED],
     6: ["There wasn't memory enough, and no line could say so; whole frames may stand in the dump. A run takes some 97 bytes a "
-        "particle and 376 a cell: choose fewer of them, or fewer --workers."],
+        "particle and 376 a cell, 48 more with a filter: choose fewer of them, or fewer --workers."],
     7: ["The dump leaves its format: explain the line `bad dump ..`."],
     8: ["A frame doesn't meet Gauss's law: explain the line `broken frame ..`."],
     70: ["./pic has no program to run: its build failed. What went wrong stands above."],
-    130: ["Ctrl-C ended it. A dump that it was writing has its whole frames, perhaps a part of one more, and no end."],
-    137: ["A signal 9 ended it, mostly the system's for want of memory. A dump that it was writing has whole frames and no end."],
-    143: ["A signal 15 (TERM) ended it, such as that of a time limit. A dump that it was writing has whole frames and no end."],
+    130: ["Ctrl-C ended it. A dump that it was writing has its whole frames, perhaps a part of one more, and no end.", MENDED],
+    137: ["A signal 9 ended it, mostly the system's for want of memory. A dump that it was writing has whole frames and no end.", MENDED],
+    143: ["A signal 15 (TERM) ended it, such as that of a time limit. A dump that it was writing has whole frames and no end.", MENDED],
 }

@@ -24,6 +24,7 @@ def mend(path: str | os.PathLike) -> Dump:
     steps, length = struct.pack(">I", dump.steps[-1]), dump.header.length + dump.records.nbytes
     del dump
     with open(path, "r+b") as file:
+        files.claim(file)
         file.truncate(length)
         file.seek(STEPS_PLACE)
         file.write(steps)

@@ -36,12 +36,20 @@ def read_deck(text: bytes) -> dict[str, Any]:
         return {}
 
 
-def steps(text: bytes) -> int:
-    """A deck's steps; 0 of one that the program refuses."""
+def run_number(text: bytes, key: str) -> int:
+    """A number of a deck's table `run`; 0 where the program refuses the deck."""
     try:
-        return int(read_deck(text)["run"]["steps"])
+        return int(read_deck(text)["run"][key])
     except (LookupError, TypeError, ValueError):
         return 0
+
+
+def tiles(text: bytes) -> list[int]:
+    """A deck's tiles, which a dump doesn't have; one of a deck that the program refuses."""
+    try:
+        return [int(n) for n in read_deck(text)["grid"]["tiles"]]
+    except (LookupError, TypeError, ValueError):
+        return [1, 1, 1]
 
 
 def seeds(text: bytes) -> list[int]:
@@ -79,6 +87,14 @@ def begun(name: str, text: bytes, program: str, workers: int) -> dict[str, Any]:
     deck = {"file": name, "sha256": hashlib.sha256(text).hexdigest(), "made by": made_by(text), "seeds": seeds(text)}
     return {"deck": deck, "program": known(program), "versions": versions(), "workers": workers, "command": sys.argv,
             "deck text": text.decode("utf-8", "replace").splitlines()}
+
+
+def goes_on(note: dict[str, Any], before: dict[str, Any]) -> dict[str, Any]:
+    """The note of a call that goes on with the run of an earlier one: it keeps what that one's note said of itself, and of those
+    before it."""
+    kept = ("program", "versions", "workers", "command", "end", "mended after", "seconds")
+    return note | {"first": before["first"],
+                   "earlier calls": [*before.get("earlier calls", []), {name: before[name] for name in kept if name in before}]}
 
 
 def write(dump: str, note: dict[str, Any]) -> None:

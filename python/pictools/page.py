@@ -85,6 +85,8 @@ def deck_of(dump: Dump, given: str | None) -> Deck | None:
     if kept is None:
         return None
     told = [f"It ran on {kept['workers']} thread{'s' * (kept['workers'] != 1)}, by {told_of(kept['program'])}."]
+    if earlier := [part.get("end", "a lost end") for part in kept.get("earlier calls", [])]:
+        told.append(f"It went on behind {len(earlier)} earlier call{'s' * (len(earlier) > 1)}, which left: {', '.join(earlier)}.")
     if kept.get("mended after"):
         told.append(f"The run was cut ({kept['mended after']}); the dump was mended to what it had.")
     return Deck(Path(kept["deck"]["file"]).name, "\n".join(kept["deck text"]) + "\n", kept["deck"]["made by"], tuple(told))

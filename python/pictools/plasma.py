@@ -17,7 +17,7 @@ from typing import NamedTuple
 import numpy as np
 from numpy.typing import NDArray
 
-from pictools import advice, loading
+from pictools import advice, loading, theory
 from pictools.deck import (MOST_DRIFT, MOST_FIELD, MOST_MASS, MOST_SEED, MOST_SPREAD, Deck, Species, charges, field_of,
                            multiplier)
 from pictools.dump import Multiplier
@@ -82,6 +82,8 @@ class Plasma(Sided):
                                          "varies along it", (64, 2, 2))
     sub: int | None = choice("a cell has 2^sub sub-cells along each axis, which a place is rounded to; with it the deck is of "
                              "version 2. The other version has 2^12", None, Limits(NEWEST.least_sub, NEWEST.greatest_sub))
+    filter: int = choice("1 smooths the current, so that few particles a cell make less noise of short waves; a deck of version 2, "
+                         "with --sub 12 where it isn't given", 0, Limits(0, NEWEST.greatest_filter))
     steps: int = choice("of the run", 400, Limits(0, 10**6))
     every: int = choice("how many steps apart frames are", 4, Limits(1, 10**6))
     start: str = choice("quiet: places and speeds are spread evenly, and listed; lattice: places are, and the program draws "
@@ -90,6 +92,8 @@ class Plasma(Sided):
     seed: int = choice("of what is drawn", 1, Limits(0, MOST_SEED))
 
     def __post_init__(self) -> None:
+        if self.filter and self.sub is None:
+            self.sub = SUB_1
         test_cells(self.cells, self.allowance.cells)
         test_choices(self)
         test_companions(self, COMPANIONS)
@@ -117,6 +121,8 @@ class Plasma(Sided):
         if not (self.along > 2 and self.wave <= self.along // 2):
             refuse("wave", self.wave, f"{self.along} cells along {self.wave_axis} hold "
                    + (f"waves 1 to {self.along // 2}" if self.along > 2 else "none; an axis has more than two"))
+        if self.filter and 2 * self.wave == self.along:
+            refuse("wave", self.wave, "it is two cells long, and the filter leaves no current of such a wave; choose a longer one")
         if self.start == "lattice":
             refuse("start", self.start, "it begins no wave; choose quiet or random, or no --wave")
         if self.cross_drift:
@@ -205,13 +211,14 @@ class Plasma(Sided):
 
     @property
     def strength(self) -> float:
-        """The size of kick times e_force: wp^2 = 24 (S^2 / 4096) kick q e_force n, S the sub-cells of a cell."""
+        """The size of kick times e_force: wp^2 = 24 (S^2 / 4096) kick q e_force n, S the sub-cells of a cell, and 64 times that with
+        a filter."""
         return self.plasma_frequency**2 / (2 * self.unit_current * self.particles_a_cell)
 
     @property
     def e_force(self) -> Multiplier:
-        """2^-K, so that `kick` is about 2^-8 S / 4096: then e is the same for all sides S, and in version 1 a number some 2^8
-        times as large as what it adds to a speed."""
+        """2^-K, so that `kick` is about 2^-8 S / 4096: then e is the same for all sides S and with a filter, and in version 1 a
+        number some 2^8 times as large as what it adds to a speed."""
         return Multiplier(1, min(max(floor(log2(self.side) - SUB_1 - 8 - log2(self.strength)), 0), 62))
 
     @property
@@ -233,6 +240,10 @@ class Plasma(Sided):
     def wave_number(self) -> float:
         """Of the wave at the start, in radians a cell."""
         return 2 * pi * self.wave / self.along
+
+    def frequency_of(self, k: float) -> float:
+        """The plasma frequency of waves of k along an axis in the theory: the filter takes some of the short ones'."""
+        return theory.filtered(self.plasma_frequency, k) if self.filter else self.plasma_frequency
 
     @cached_property
     def wave_frequency(self) -> complex:
@@ -266,7 +277,7 @@ class Plasma(Sided):
         the start."""
         e = np.zeros((3, *reversed(self.cells)), np.int64)
         if self.listed:
-            e = field_of(charges(self.cells, self.species, self.side))
+            e = field_of(charges(self.cells, self.species, self.side, self.filter))
         b = np.zeros_like(e)
         if self.crosses and self.wave:
             by = AXES.index(self.wave_axis)
@@ -287,4 +298,4 @@ class Plasma(Sided):
         e = tuple(np.roll([0, 0, round(self.cross_drift * self.field_b)], AXES.index(self.gyration_axis)).tolist())
         return Deck(tuple(self.cells), self.steps, self.every, Multiplier(1, 1), multiplier(self.light_speed**2, "b_to_e = c^2"),
                     self.e_force, self.e_force, comment=[*self.report(), command(self)], e=e, b=b, edges=edges, faces=faces,
-                    species=self.species, sub=self.sub)
+                    species=self.species, sub=self.sub, filter=self.filter)

@@ -23,11 +23,11 @@ class Silent:
         pass
 
 
-def bar(total: int, unit: str, what: str) -> Any:
-    """A bar of so many units, whose `update` and `set_postfix_str` are tqdm's."""
+def bar(total: int, unit: str, what: str, done: int = 0) -> Any:
+    """A bar of so many units, of which some are done, whose `update` and `set_postfix_str` are tqdm's."""
     try:
         from tqdm import tqdm
     except ModuleNotFoundError:
         print("pictools: no progress is shown: that needs tqdm; on Debian it is python3-tqdm", file=sys.stderr)
         return Silent()
-    return tqdm(total=total, unit=unit, desc=what, disable=None, dynamic_ncols=True, leave=False)
+    return tqdm(total=total, initial=done, unit=unit, desc=what, disable=None, dynamic_ncols=True, leave=False)

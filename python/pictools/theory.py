@@ -41,6 +41,15 @@ def root(function: Callable[[complex], complex], guess: complex) -> complex:
     raise ArithmeticError(f"no zero found near {guess:.5f}")
 
 
+def filtered(wp: float, k: float) -> float:
+    """The plasma frequency that a wave along an axis has where the current goes through the binomial filter.
+
+    In each relation here wp^2 stands for the E that particles make, of which the filter leaves (1 + cos k) / 2 (Birdsall and
+    Langdon, appendix C); so it is that of a run with a filter with this frequency in its place.
+    """
+    return wp * cos(k / 2)
+
+
 def light(k: float, c: float, wp: float = 0) -> float:
     """The frequency of light along an axis, in a cold plasma or (wp = 0) in vacuum.
 
@@ -110,23 +119,30 @@ def two_stream(k: float, wp: float, drift: float, thermal: float = 0) -> complex
     return root(lambda w: electrostatic(w, k, wp, streams), guess)
 
 
-def thermal_noise(k: NDArray[np.float64], wp: float, thermal: float) -> NDArray[np.float64]:
+def thermal_noise(k: NDArray[np.float64], wp: float, thermal: float, filter: int = 0) -> NDArray[np.float64]:
     """The energy of waves of E along their k in thermal noise, in units of half the temperature.
 
     `k`, of shape (.., 3), may have any direction. All particles count in `wp`, and have one `thermal` speed. It is
     shot / (1 + screen), see `thermal_shares`; the textbook's is 1 / (1 + k^2 D^2), D = thermal / wp.
     """
-    shot, screen = thermal_shares(k, wp, thermal)
+    shot, screen = thermal_shares(k, wp, thermal, filter)
     return shot / (1 + screen)
 
 
-def thermal_shares(k: NDArray[np.float64], wp: float, thermal: float) -> tuple[NDArray[np.float64], NDArray[np.float64]]:
+def left_by_filter(k: NDArray[np.float64]) -> NDArray[np.float64]:
+    """The share of a wave's current and charge that the binomial filter leaves, k of shape (.., 3)."""
+    return np.prod((1 + np.cos(k)) / 2, axis=-1)
+
+
+def thermal_shares(k: NDArray[np.float64], wp: float, thermal: float,
+                   filter: int = 0) -> tuple[NDArray[np.float64], NDArray[np.float64]]:
     """The noise of particles that stand anywhere, without an order, and how far they screen it: `shot` and `screen`.
 
     With s_a = 2 sin(k_a/2) and sums over all aliases k_p of k, screen = (wp / thermal)^2 / s^2 times the sum of
     S(k_p)^2 (sum over a of (-1)^p_a k_pa s_a) / k_p^2, which is the dielectric function less 1 at frequency 0, and
     shot = (wp / thermal)^2 / s^2 times the sum of S(k_p)^2, which is the product of (2 + cos k_a) / 3. For long waves both
-    are 1 / (k D)^2. It is taken for granted that a step is short against a particle's way through a wave.
+    are 1 / (k D)^2. It is taken for granted that a step is short against a particle's way through a wave. A filter that leaves the
+    share f of the charge makes `screen` f times as large, and `shot`, which is E's square, f^2 times.
     """
     k = np.asarray(k, np.float64)
     s = 2 * np.sin(k / 2)
@@ -135,8 +151,9 @@ def thermal_shares(k: NDArray[np.float64], wp: float, thermal: float) -> tuple[N
         kp = k + 2 * pi * p
         hats = np.prod(np.sinc(kp / (2 * pi))**4, axis=-1)
         screen += hats * np.sum((-1.0)**p * kp * s, axis=-1) / np.sum(kp**2, axis=-1)
-    scale = (wp / thermal)**2 / np.sum(s**2, axis=-1)
-    return scale * np.prod((2 + np.cos(k)) / 3, axis=-1), scale * screen
+    scale = (wp / thermal)**2 / np.sum(s**2, axis=-1) * (left_by_filter(k) if filter else 1)
+    shot = np.prod((2 + np.cos(k)) / 3, axis=-1) * (left_by_filter(k) if filter else 1)
+    return scale * shot, scale * screen
 
 
 def filamentation(k: float, wp: float, drift: float, c: float) -> float:

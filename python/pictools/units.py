@@ -3,7 +3,7 @@ cells a step."""
 
 from __future__ import annotations
 
-from math import atan, prod, sqrt
+from math import atan, cos, prod, sqrt
 
 import numpy as np
 
@@ -15,13 +15,13 @@ def light_speed(header: Header) -> float:
     return sqrt(max(0, 2 * header.e_to_b.value * header.b_to_e.value))
 
 
-def plasma_frequency(header: Header) -> float:
+def plasma_frequency(header: Header, k: float = 0) -> float:
     """wp^2 = 24 (S^2 / 4096) kick q e_force n, summed over the species; S is the sub-cells of a cell, and n their particles a
-    cell."""
+    cell. With a filter it is 64 times that, and for a wave of k along an axis (1 + cos k) / 2 of it."""
     cells = prod(header.cells)
     square = sum(2 * header.unit_current * s.kick.value * s.charge * header.e_force.value * s.count / cells
                  for s in header.species)
-    return sqrt(max(0, square))
+    return sqrt(max(0, square)) * (cos(k / 2) if header.filter else 1)
 
 
 def gyration(header: Header, species: Species, b: float) -> float:

@@ -26,7 +26,7 @@ class Wave:
     @cached_property
     def frequency(self) -> complex:
         """By the theory of the scheme, in radians a step; it grows by the imaginary part."""
-        p, k, wp = self.plasma, self.number, self.plasma.plasma_frequency
+        p, k, wp = self.plasma, self.number, self.plasma.frequency_of(self.number)
         if self.crosses:
             return 1j * theory.filamentation(k, wp, p.drift, p.light_speed)
         if p.gyration and p.gyration_axis != "x":
@@ -39,7 +39,7 @@ class Wave:
     def electrostatic(self) -> complex:
         """The wave of the streams along x that grows the most, or the slowest that doesn't. The first guess is the textbook's for
         cold streams, 1 = wp^2 times the sum of share / (w - k drift)^2."""
-        p, k, wp = self.plasma, self.number, self.plasma.plasma_frequency
+        p, k, wp = self.plasma, self.number, self.plasma.frequency_of(self.number)
         beams, total = p.beams, sum(beam.number for beam in p.beams)
         if len(beams) == 2 and beams[0].number == beams[1].number:
             return theory.two_stream(k, wp, p.drift, p.thermal_along)

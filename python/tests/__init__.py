@@ -3,5 +3,5 @@
 import sys
 from pathlib import Path
 
-# The second model of the scheme, which shares no code with the program nor with the package.
-sys.path.insert(0, str(Path(__file__).parents[2] / "examples"))
+# The second models of the scheme and of dumps, which share no code with the program nor with the package.
+sys.path[:0] = [str(Path(__file__).parents[2] / folder) for folder in ("examples", "tools")]

@@ -8,7 +8,7 @@ from pictools import advice
 from pictools.plasma import Plasma
 
 GOOD = {"plasma_frequency": 0.1, "thermal_speed": 0.05}
-BOX = GOOD | {"cells": (16, 16, 16), "particles_a_cell": 2, "start": "random", "mass_ratio": 100, "every": 1}
+BOX = GOOD | {"cells": (16, 16, 16), "particles_a_cell": 2, "start": "random", "mass_ratio": 100, "every": 1, "filter": 1}
 
 
 def warned(**choices) -> str:
@@ -64,13 +64,21 @@ class Warnings(unittest.TestCase):
         choices = {"plasma_frequency": 0.1, "thermal_speed": 0.03, "start": "random", "particles_a_cell": 16, "cells": (32, 2, 2)}
         self.assertRegex(warned(**choices), r"begin with an E of 0\.43 times their kinetic energy")
         self.assertNotIn("an E of", warned(**choices, mass_ratio=100))
-        shares = []
-        for seed in range(1, 41):
-            plasma = Plasma(**choices, seed=seed)
-            electric = np.sum((plasma.fields()[0] * plasma.e_force.value)**2)
-            weight = plasma.unit_current * plasma.e_force.value / (2 * abs(plasma.kick.value))
-            shares.append(electric / (weight * np.sum(plasma.species[0].velocity.astype(float)**2)))
-        self.assertLess(abs(np.mean(shares) / advice.start_noise(Plasma(**choices)) - 1), 0.2)
+        for filter in 0, 1:
+            shares = []
+            for seed in range(1, 41):
+                plasma = Plasma(**choices, seed=seed, filter=filter)
+                electric = np.sum((plasma.fields()[0] * plasma.e_force.value)**2)
+                weight = plasma.unit_current * plasma.e_force.value / (2 * abs(plasma.kick.value))
+                shares.append(electric / (weight * np.sum(plasma.species[0].velocity.astype(float)**2)))
+            self.assertLess(abs(np.mean(shares) / advice.start_noise(Plasma(**choices, filter=filter)) - 1), 0.2)
+
+    def test_few_electrons_without_a_filter(self):
+        self.assertRegex(warned(**BOX | {"filter": 0}), r"^Warning: 2 electrons a cell make much noise.*--filter 1 smooths")
+        for other in {"particles_a_cell": 8}, {"thermal_speed": 0}, {"cells": (16, 16, 2)}:
+            self.assertNotIn("--filter", warned(**BOX | {"filter": 0} | other))
+        self.assertNotIn("--filter", warned(**GOOD, particles_a_cell=2))
+        self.assertTrue(any("64 times as large" in line for line in Plasma(**BOX).report()))
 
     def test_theories_that_are_cold_say_so(self):
         for more, line in (({"gyration": 0.1}, "Upper hybrid wave (of cold electrons) at the start: its frequency"),

@@ -63,6 +63,8 @@ REFUSED = (
     ({"cells": (8, 1, 2)}, "cells", "8 1 2", "1 cells along y"),
     ({"cells": (8, 2)}, "cells", "8 2", "three numbers"),
     ({"sub": 7}, "sub", "7", "from 8 to 14"), ({"sub": 15}, "sub", "15", "from 8 to 14"),
+    ({"filter": 2}, "filter", "2", "from 0 to 1"),
+    ({"wave": 4, "wave_speed": 0.01, "filter": 1}, "wave", "4", "two cells long, and the filter leaves no current"),
     ({"cells": (129, 2, 2), "sub": 12}, "cells", "129 2 2", "129 cells along x; an axis has 2 to 128"),
     (LONG | {"particles_a_cell": 8192, "start": "random", "sub": 8}, "particles_a_cell", "8192",
      "at most 4194304 particles, so here at most 4096 electrons a cell"),

@@ -104,6 +104,10 @@ class Pages(unittest.TestCase):
         self.assertIn("It ran on 2 threads, by true; SHA-256", page.text)
         self.assertIn("./pic run < b.toml > a.dump", page.text)
         self.assertIn("b.toml", [attributes.get("download") for tag, attributes in page.seen if tag == "a"])
+        kept = note.goes_on(note.goes_on(kept, kept | {"end": "done 20"}), kept | {"earlier calls": [{"end": "done 20"}]})
+        (self.folder / "a.dump.json").write_text(json.dumps(kept))
+        page = self.page("a.dump --panels phase --program no")
+        self.assertIn("It went on behind 2 earlier calls, which left: done 20, a lost end.", page.text)
 
     def test_refusals(self):
         for words, line in (("a.dump --deck other.toml -o b.html", r"--deck other.toml: it isn't the deck of a.dump: species\[0\]"

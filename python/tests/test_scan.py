@@ -30,7 +30,7 @@ WORDS = ("scan --plasma-frequency 0.1 --drift 0.1 --thermal-speed 0.005 --cells 
 # The program, which writes down whose child each call is, and at one call does something to it.
 COUNTED = """#!/bin/sh
 echo $PPID >> {calls}
-[ "$(wc -l < {calls})" != {at} ] || {what}
+if [ {at} != 0 ] && [ "$(wc -l < {calls})" -ge {at} ] && mkdir {calls}.once 2>/dev/null; then {what}; fi
 exec {program} "$@"
 """
 

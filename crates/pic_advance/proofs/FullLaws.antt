@@ -12,11 +12,11 @@ use Rattle.pic_grid.specs.Cells.{IsWithin, count_of, cell_of, place_of}
 use Rattle.pic_grid.specs.Lattice.{Field, EachAtMost, value_at}
 use Rattle.pic_grid.specs.Parts.{origin, part_size, corner_of}
 use Rattle.pic_field.specs.FieldPhases.{full_of, full_in, least_fault}
-use Rattle.pic_advance.specs.Blocks.{block_in, EachBlock, earliest}
+use Rattle.pic_advance.specs.Blocks.{block_in, EachBlock, earliest, IsMade}
 use Rattle.pic_advance.specs.Driven.{AllCanDrive, AreDriven, driven_stop}
-use Rattle.pic_advance.proofs.EachLaws.{zero_there}
+use Rattle.pic_advance.proofs.MadeLaws.{made_clear}
 use Rattle.pic_advance.proofs.RowStopLaws.{row_stop_is}
-use Rattle.pic_advance.proofs.TakenLaws.{HasBlocks, IsMade, taken_among, taken_edge, taken_value, taken_small}
+use Rattle.pic_advance.proofs.TakenLaws.{HasBlocks, taken_among, taken_edge, taken_value, taken_small}
 
 -- the new values of E, by those of the lattices
 abbrev pub full_all : Scales → Field → Field → Field → Axis → Triple → ℤ
@@ -94,13 +94,7 @@ module _ (scales : Scales) (b : Field) (n : Triple) (e j : Field) (es js : List 
         pub current_spent : EachBlock (IsMade (λ a p. pos 0)) js ks
         current_spent = record {
           long = driven.beside;
-          each = λ i below.
-              let is = (driven.each i (omega (arith, below, same_long))).spent in
-              let was = block_in js i in
-              record {
-                shaped = record { low = ap (λ (c : BlockValues). c.low) is; size = ap (λ (c : BlockValues). c.size) is };
-                values = λ a p w. ap (λ (c : BlockValues). inner_at c a p) is ∙ zero_there (3 * count_of was.size) (place_of was.size a p);
-              };
+          each = λ i below. made_clear (block_in js i) (block_in ks i) (driven.each i (omega (arith, below, same_long))).spent;
         }
 
         -- and its stop is that of all cells

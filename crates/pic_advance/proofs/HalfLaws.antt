@@ -1,23 +1,21 @@
--- Half a step of B and force values over all blocks of a lattice.
+-- Half a step of B over all blocks of a lattice.
 use Rattle.std.proofs.Common.{◌≡◌, ℤ, ◌<◌, All, List, ◌++◌, length, Option, sym, ◌∙◌, ap, arith}
 use Rattle.pic_num.specs.declared.axis.Axis.{Axis}
 use Rattle.pic_num.specs.declared.mult.Scales.{Scales}
 use Rattle.pic_num.specs.Limits.{most_value}
-use Rattle.pic_num.specs.Multiplier.{Multiplier}
 use Rattle.pic_num.specs.Space.{Triple}
 use Rattle.pic_grid.specs.declared.stop.Phase.{Phase}
 use Rattle.pic_grid.specs.declared.stop.Stop.{Stop}
 use Rattle.pic_grid.specs.Block.{BlockValues, outer_of}
 use Rattle.pic_grid.specs.Cells.{count_of}
-use Rattle.pic_grid.specs.Gather.{force_of}
 use Rattle.pic_grid.specs.Lattice.{Field, EachAtMost, value_at}
 use Rattle.pic_grid.specs.Parts.{origin}
 use Rattle.pic_field.specs.FieldPhases.{half_of, half_in, least_fault}
-use Rattle.pic_advance.specs.Blocks.{block_in, EachBlock, IsAmong, CanAdvance, IsHalved, IsForced, earlier, block_stop, halved_stop}
+use Rattle.pic_advance.specs.Blocks.{block_in, EachBlock, CanAdvance, IsHalved, earlier, block_stop, halved_stop, IsMade}
 use Rattle.pic_team.specs.Sharing.{CanShare}
 use Rattle.pic_advance.proofs.EachLaws.{each_append, stop_append, all_front, all_back}
 use Rattle.pic_advance.proofs.RowStopLaws.{row_stop_is}
-use Rattle.pic_advance.proofs.TakenLaws.{HasBlocks, IsMade, taken_edge, taken_value}
+use Rattle.pic_advance.proofs.TakenLaws.{HasBlocks, taken_edge, taken_value}
 
 -- the values of B after half a step, by those of the lattice
 abbrev pub half_all : Scales → Field → Field → Axis → Triple → ℤ
@@ -67,22 +65,4 @@ halves_share scales e phase = record {
   front = λ i xs ys us vs beside can. (can.0, all_front (CanAdvance e.cells) xs ys can.1);
   back = λ i xs ys us vs beside can. (can.0, all_back (CanAdvance e.cells) xs ys can.1);
   whole = λ i xs ys xs' ys' us vs us' vs' a b beside p q. half_append scales e phase xs ys xs' ys' a b p q;
-}
-
--- and so can force values
-pub forces_share : (by : Multiplier) (from : Field)
-    → CanShare (λ i bs (us : List BlockValues). EachAtMost most_value from × All (IsAmong from.cells) bs)
-    (λ i bs us cs vs (answer : Unit {0}). EachBlock (IsForced by from) bs cs) (λ a b. tt)
-forces_share by from = record {
-  front = λ i xs ys us vs beside can. (can.0, all_front (IsAmong from.cells) xs ys can.1);
-  back = λ i xs ys us vs beside can. (can.0, all_back (IsAmong from.cells) xs ys can.1);
-  whole = λ i xs ys xs' ys' us vs us' vs' a b beside p q. each_append (IsForced by from) xs ys xs' ys' p q;
-}
-
--- the force values of the blocks are those of the lattice
-pub force_made : (by : Multiplier) (from : Field) (old new : List BlockValues) → EachBlock (IsForced by from) old new
-    → EachBlock (IsMade (force_of by (value_at from))) old new
-force_made by from old new each = record {
-  long = each.long;
-  each = λ i below. let one = each.each i below in record { shaped = one.shaped; values = one.values };
 }

@@ -6,4 +6,6 @@ pub mod HalfLaws
 pub mod OrderLaws
 pub mod RowStopLaws
 pub mod TakenLaws
+pub mod MadeLaws
 pub mod ZoneLaws
+pub mod SamePhaseLaws

@@ -16,7 +16,7 @@ use Rattle.pic_grid.proofs.CellLaws.{index_of-cell_of}
 use Rattle.pic_grid.proofs.LatticeLaws.{is_field_of, length-values_of}
 use Rattle.pic_grid.proofs.PartLaws.{number_of as part_number, block_has, number_below, value_at-joined}
 use Rattle.pic_field.proofs.ZoneLaws.{edge_at-outer}
-use Rattle.pic_advance.specs.Blocks.{block_in, EachBlock, IsAmong, CanAdvance}
+use Rattle.pic_advance.specs.Blocks.{block_in, EachBlock, IsAmong, IsMade, CanAdvance}
 use Rattle.pic_advance.proofs.ZoneLaws.{part_among, outer_of-inner_of, outer_within}
 
 -- a lattice of n cells is that of these blocks
@@ -46,11 +46,6 @@ given_back len new items long same =
 pub record IsGrid (n : Triple) (side : ℕ) (g : Grid) : Type 0 where
   pub cells : g.n ≡ n
   pub side_is : g.side ≡ side
-
--- a block has the new values that g gives, by axis and cell of the grid
-pub record IsMade (g : Axis → Triple → ℤ) (old new : BlockValues) : Type 0 where
-  pub shaped : IsShaped new old
-  pub values : (a : Axis) (p : Triple) → IsWithin p old.size → inner_at new a p ≡ g a (outer_of old.low p)
 
 module _ (n : Triple) (f : Field) (blocks : List BlockValues) (h : HasBlocks n f blocks)
   where

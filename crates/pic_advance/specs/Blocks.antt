@@ -5,14 +5,13 @@ use Rattle.pic_num.specs.declared.axis.Axis.{Axis}
 use Rattle.pic_num.specs.declared.mult.Scales.{Scales}
 use Rattle.pic_num.specs.Limits.{most_value}
 use Rattle.pic_num.specs.Multiplier.{Multiplier}
-use Rattle.pic_num.specs.Rounding.{scaled}
 use Rattle.pic_num.specs.Space.{Triple, triple, axis_number}
 use Rattle.pic_grid.specs.declared.stop.Phase.{Phase}
 use Rattle.pic_grid.specs.declared.stop.Stop.{Stop}
 use Rattle.pic_grid.specs.declared.stop.Stop.TheVariants.{Push, Field as field_stop}
 use Rattle.pic_grid.specs.Block.{BlockValues, IsAmongCells, IsShaped, AllAtMost, inner_at, outer_of}
 use Rattle.pic_grid.specs.Cells.{IsWithin}
-use Rattle.pic_grid.specs.Lattice.{Field, value_at}
+use Rattle.pic_grid.specs.Lattice.{Field}
 use Rattle.pic_grid.specs.Parts.{no_block}
 use Rattle.pic_field.specs.FieldPhases.{half_of, half_in, lowest, least_fault}
 
@@ -76,8 +75,8 @@ abbrev pub halved_stop : Phase → Scales → Field → List BlockValues → Opt
 halved_stop phase scales e old =
     row_stop phase scales.b_force (λ i. half_in scales e (block_in old i)) old
 
--- a block that takes the force values of a field
-pub record IsForced (by : Multiplier) (from : Field) (old new : BlockValues) : Type 0 where
+-- a block has the new values that g gives, by axis and cell of the grid
+pub record IsMade (g : Axis → Triple → ℤ) (old new : BlockValues) : Type 0 where
   pub shaped : IsShaped new old
   pub values : (a : Axis) (p : Triple) → IsWithin p old.size
-      → inner_at new a p ≡ scaled (value_at from a (outer_of old.low p)) by
+      → inner_at new a p ≡ g a (outer_of old.low p)

@@ -1,3 +1,4 @@
 pub mod Phases
 pub mod Blocks
 pub mod Driven
+pub mod Current

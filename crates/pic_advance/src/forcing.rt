@@ -5,7 +5,7 @@ ghost use Rattle.std.specs.List.{All};
 ghost use Rattle.pic_num.specs.Limits.{most_value};
 ghost use Rattle.pic_grid.specs.Gather.{force_of};
 ghost use Rattle.pic_grid.specs.Lattice.{EachAtMost, field_of, value_at};
-ghost use Rattle.pic_advance.specs.Blocks.{EachBlock, IsAmong, IsForced};
+ghost use Rattle.pic_advance.specs.Blocks.{EachBlock, IsAmong, IsMade};
 
 use crate::useful::useful;
 use pic_field::force;
@@ -25,13 +25,14 @@ impl<'a> Work<Block, Block, ()> for Forcing<'a> {
     ghost use Rattle.std.specs.Prelude.{◌≡◌};
     ghost use Rattle.std.specs.List.{All};
     ghost use Rattle.pic_num.specs.Limits.{most_value};
-    ghost use Rattle.pic_grid.specs.Lattice.{EachAtMost};
-    ghost use Rattle.pic_advance.specs.Blocks.{EachBlock, IsAmong, IsForced};
+    ghost use Rattle.pic_grid.specs.Gather.{force_of};
+    ghost use Rattle.pic_grid.specs.Lattice.{EachAtMost, value_at};
+    ghost use Rattle.pic_advance.specs.Blocks.{EachBlock, IsAmong, IsMade};
 
     ghost can = { λ f _ bs _.
         EachAtMost most_value f.from.now × All (IsAmong f.from.now.cells) bs };
 
-    ghost does = { λ f _ bs _ cs _ _. EachBlock (IsForced f.mult f.from.now) bs cs };
+    ghost does = { λ f _ bs _ cs _ _. EachBlock (IsMade (force_of f.mult (value_at f.from.now))) bs cs };
 
     ghost both = { λ _ _. tt };
 
@@ -49,7 +50,8 @@ impl<'a> Work<Block, Block, ()> for Forcing<'a> {
 fn force_in_turn(forcing: &Forcing, blocks: &mut [Block])
     requires among { All (IsAmong forcing.now.from.now.cells) blocks.old }
     requires small { EachAtMost most_value forcing.now.from.now }
-    ensures { EachBlock (IsForced forcing.now.mult forcing.now.from.now) blocks.old blocks.new }
+    ensures { EachBlock (IsMade (force_of forcing.now.mult (value_at forcing.now.from.now)))
+        blocks.old blocks.new }
 {
     for i in 0..blocks.len() {
         force(forcing.mult, forcing.from, &mut blocks[i]);

@@ -54,7 +54,12 @@ fn pair_of(alloc: Global, sub: Sub) -> Result<State, NoMemory>
     let e = Lattice::new(alloc, cells, [2, 1, 1])?;
     let b = Lattice::new(alloc, cells, [2, 1, 1])?;
     let map = TileMap::new(cells, [2, 1, 1]);
-    let setup = Setup { map, scales, kinds };
+    let setup = Setup {
+        map,
+        filter: 0,
+        scales,
+        kinds,
+    };
     let start = Start {
         setup,
         step: 41,

@@ -15,7 +15,7 @@ use Rattle.pic_grid.specs.Lattice.{Field, value_at}
 use Rattle.pic_grid.specs.Cells.{IsWithin, count_of, index_of, cell_of}
 use Rattle.pic_grid.proofs.CellLaws.{index_of_below, cell_of-index_of, index_of-cell_of, cell_of_within}
 use Rattle.pic_charge.specs.declared.breaks.Break.{Break}
-use Rattle.pic_charge.specs.Charge.{charge_of}
+use Rattle.pic_charge.specs.Charge.{rho_of}
 use Rattle.pic_charge.specs.Gauss.{difference_at, first_break, Agree, IsLeastBreak, MeetsGauss}
 
 -- the break that a node has where the two differ
@@ -131,28 +131,28 @@ first_break_same n div rho div' rho' same_div same_rho =
     let r : ℤ = same_rho (cell_of n i) within t in cond (int_eq d r) None (Some (record { node = array_of_triple (cell_of n i); div = d; rho = r }))))
 
 -- where the nodes hold the charge, no break is Gauss's law
-pub meets_gauss : (side : ℕ) (n : Triple) (kinds : List Kind) (particles : List Particle) (e : Field) (rho : Triple → ℤ)
-    → ((p : Triple) → IsWithin p n → rho p ≡ charge_of side n kinds particles p)
+pub meets_gauss : (side filter : ℕ) (n : Triple) (kinds : List Kind) (particles : List Particle) (e : Field) (rho : Triple → ℤ)
+    → ((p : Triple) → IsWithin p n → rho p ≡ rho_of side filter n kinds particles p)
     → first_break n (div_e n (value_at e)) rho ≡ None
-    → MeetsGauss side n kinds particles e
-meets_gauss side n kinds particles e rho charges none =
+    → MeetsGauss side filter n kinds particles e
+meets_gauss side filter n kinds particles e rho charges none =
     let agree = first_break_none n (div_e n (value_at e)) rho none in
     record { at_node = λ p within. agree.at_node p within ∙ charges p within }
 
 -- and Gauss's law is no break
-pub gauss_none : (side : ℕ) (n : Triple) (kinds : List Kind) (particles : List Particle) (e : Field) (rho : Triple → ℤ)
-    → ((p : Triple) → IsWithin p n → rho p ≡ charge_of side n kinds particles p)
-    → MeetsGauss side n kinds particles e
+pub gauss_none : (side filter : ℕ) (n : Triple) (kinds : List Kind) (particles : List Particle) (e : Field) (rho : Triple → ℤ)
+    → ((p : Triple) → IsWithin p n → rho p ≡ rho_of side filter n kinds particles p)
+    → MeetsGauss side filter n kinds particles e
     → first_break n (div_e n (value_at e)) rho ≡ None
-gauss_none side n kinds particles e rho charges law =
+gauss_none side filter n kinds particles e rho charges law =
     none_first_break n (div_e n (value_at e)) rho (record { at_node = λ p within. law.at_node p within ∙ sym (charges p within) })
 
 -- where the nodes hold the charge, the break found is that of the charge
-pub first_break-charge : (side : ℕ) (n : Triple) (kinds : List Kind) (particles : List Particle) (div rho : Triple → ℤ)
-    → ((p : Triple) → IsWithin p n → rho p ≡ charge_of side n kinds particles p)
-    → first_break n div rho ≡ first_break n div (charge_of side n kinds particles)
-first_break-charge side n kinds particles div rho charges =
-    first_break_same n div rho div (charge_of side n kinds particles) (λ p within. refl) charges
+pub first_break-charge : (side filter : ℕ) (n : Triple) (kinds : List Kind) (particles : List Particle) (div rho : Triple → ℤ)
+    → ((p : Triple) → IsWithin p n → rho p ≡ rho_of side filter n kinds particles p)
+    → first_break n div rho ≡ first_break n div (rho_of side filter n kinds particles)
+first_break-charge side filter n kinds particles div rho charges =
+    first_break_same n div rho div (rho_of side filter n kinds particles) (λ p within. refl) charges
 
 -- what isn't there
 pub none_unless : {A : Type 0} (o : Option A) → is_some o ≡ false → o ≡ None

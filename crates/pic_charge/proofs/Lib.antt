@@ -3,3 +3,4 @@ pub mod NodeLaws
 pub mod PairLaws
 pub mod ChargeLaws
 pub mod BreakLaws
+pub mod RoomLaws

@@ -13,7 +13,7 @@ use Rattle.pic_grid.specs.Differences.{div_e}
 use Rattle.pic_grid.specs.Lattice.{Field, value_at}
 use Rattle.pic_grid.specs.Cells.{IsWithin, count_of, index_of, cell_of}
 use Rattle.pic_charge.specs.declared.breaks.Break.{Break}
-use Rattle.pic_charge.specs.Charge.{charge_of}
+use Rattle.pic_charge.specs.Charge.{rho_of}
 
 -- the break at a node, where the divergence and the charge differ there
 unfoldable pub difference_at : (Triple → ℤ) → (Triple → ℤ) → Triple → Option Break
@@ -36,22 +36,22 @@ pub record IsLeastBreak (n : Triple) (div rho : Triple → ℤ) (b : Break) : Ty
   pub differ : b.div ≡ b.rho → ⊥
   pub least : (p : Triple) → IsWithin p n → index_of n p < index_of n (triple b.node) → div p ≡ rho p
 
--- Gauss's law: at every node of the grid the divergence of E is the charge
-pub record MeetsGauss (side : ℕ) (n : Triple) (kinds : List Kind) (particles : List Particle) (e : Field) : Type 0 where
-  pub at_node : (p : Triple) → IsWithin p n → div_e n (value_at e) p ≡ charge_of side n kinds particles p
+-- Gauss's law: at every node of the grid the divergence of E is the charge, filtered where the current is
+pub record MeetsGauss (side filter : ℕ) (n : Triple) (kinds : List Kind) (particles : List Particle) (e : Field) : Type 0 where
+  pub at_node : (p : Triple) → IsWithin p n → div_e n (value_at e) p ≡ rho_of side filter n kinds particles p
 
 -- where the nodes hold the charge, no break is found exactly where E meets Gauss's law
 abbrev pub NoBreakIsGauss : Type 0
 NoBreakIsGauss =
-    (side : ℕ) (n : Triple) (kinds : List Kind) (particles : List Particle) (e : Field) (rho : Triple → ℤ)
-    → ((p : Triple) → IsWithin p n → rho p ≡ charge_of side n kinds particles p)
-    → (first_break n (div_e n (value_at e)) rho ≡ None) ↔ MeetsGauss side n kinds particles e
+    (side filter : ℕ) (n : Triple) (kinds : List Kind) (particles : List Particle) (e : Field) (rho : Triple → ℤ)
+    → ((p : Triple) → IsWithin p n → rho p ≡ rho_of side filter n kinds particles p)
+    → (first_break n (div_e n (value_at e)) rho ≡ None) ↔ MeetsGauss side filter n kinds particles e
 
 -- where the nodes hold the charge, a break that is found is the least node where E doesn't meet Gauss's
 -- law, with both numbers
 abbrev pub BreakIsWhereGaussFails : Type 0
 BreakIsWhereGaussFails =
-    (side : ℕ) (n : Triple) (kinds : List Kind) (particles : List Particle) (e : Field) (rho : Triple → ℤ) (b : Break)
-    → ((p : Triple) → IsWithin p n → rho p ≡ charge_of side n kinds particles p)
+    (side filter : ℕ) (n : Triple) (kinds : List Kind) (particles : List Particle) (e : Field) (rho : Triple → ℤ) (b : Break)
+    → ((p : Triple) → IsWithin p n → rho p ≡ rho_of side filter n kinds particles p)
     → first_break n (div_e n (value_at e)) rho ≡ Some b
-    → IsLeastBreak n (div_e n (value_at e)) (charge_of side n kinds particles) b
+    → IsLeastBreak n (div_e n (value_at e)) (rho_of side filter n kinds particles) b

@@ -1,3 +1,4 @@
 pub mod Charge
+pub mod ChargeRoom
 pub mod Gauss
 pub mod Spread

@@ -4,8 +4,10 @@
 mod breaks;
 mod charges;
 mod laws;
+mod room;
 mod spread;
 
 pub use breaks::{Break, gauss};
 pub use charges::charge;
 pub use laws::{break_is_where_gauss_fails, no_break_is_gauss};
+pub use room::ChargeRoom;

@@ -1,5 +1,5 @@
 -- The three axes of a grid.
-use Rattle.std.proofs.Common.{◌≡◌, ℤ, pos, ℕ, zero, suc, ◌+◌, ◌<◌, ◌≤◌, ◌≢◌, List, [], ◌∷◌, ◌++◌, length, get_or}
+use Rattle.std.proofs.Common.{◌≡◌, ℤ, pos, ℕ, ◌+◌, ◌<◌, ◌≤◌, ◌≢◌, List, [], ◌∷◌, ◌++◌, length, get_or}
 use Rattle.std.proofs.Common.{set, take, drop, slice_index, ap, ◌∙◌, lit<, ◌/◌, ◌^◌, ◌==◌, true, false, Ok, arith}
 use Rattle.std.specs.Prelude.{codes}
 use Rattle.std.proofs.lemmas.Bool.Decides.{nat_tests}
@@ -25,13 +25,6 @@ use Rattle.pic_num.proofs.VersionLaws.{within_scheme}
 use Rattle.pic_grid.specs.Cells.{IsCells, count_of}
 use Rattle.pic_grid.specs.Tiles.{IsTiled, AreTiles}
 use Rattle.pic_deck.specs.Keys.{cell_limits, bit_limits, next_tiles, axis_tiles, side_in}
-
--- what holds of 0, 1 and 2
-below_three : (P : ℕ → Type 0) → P 0 → P 1 → P 2 → (k : ℕ) → k < 3 → P k
-below_three P x y z zero h = x
-below_three P x y z (suc zero) h = y
-below_three P x y z (suc (suc zero)) h = z
-below_three P x y z (suc (suc (suc k))) h = absurd (omega (arith, h))
 
 pub cells_fit : (version : ℕ) (k : ℕ) → k < 3 → FitsU32 (limits_at (cell_limits version) k)
 cells_fit version = three_fit 2 (allowance_of version).cells (omega (arith, (within_scheme version).cells))
@@ -87,15 +80,6 @@ side_of_further version t further =
 pub tiles_within : (ns ts : List ℕ) → ((k : ℕ) → k < 3 → IsTiled (slice_index ns k) (slice_index ts k)) → count_of (triple ts) ≤ 512
     → AreTiles (triple ns) (triple ts)
 tiles_within ns ts tiled most = record { x = tiled 0 (lit< tt); y = tiled 1 (lit< tt); z = tiled 2 (lit< tt); most = most }
-
--- an axis has no more tiles than cells
-pub few_tiles : (ns ts : List ℕ) → IsCells (triple ns) → ((k : ℕ) → k < 3 → IsTiled (slice_index ns k) (slice_index ts k)) → (k : ℕ) → k < 3
-    → slice_index ts k ≤ 128
-few_tiles ns ts cells tiled =
-    let x = tiled 0 (lit< tt) in
-    let y = tiled 1 (lit< tt) in
-    let z = tiled 2 (lit< tt) in
-    below_three (λ k. slice_index ts k ≤ 128) (omega (arith, x.high, cells.x_most)) (omega (arith, y.high, cells.y_most)) (omega (arith, z.high, cells.z_most))
 
 -- the tiles of the next axis
 pub next_axis_tiles : (ns : List ℕ) (path : List ℕ) (ts : List ℕ) (vs : List Value) (i : ℕ) (d : Value) → i < length vs → i ≤ length ts

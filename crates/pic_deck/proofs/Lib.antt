@@ -1,4 +1,5 @@
 pub mod GridLaws
+pub mod TileLaws
 pub mod ContentLaws
 pub mod InitialLaws
 pub mod ForceLaws

@@ -73,20 +73,20 @@ no_text bs e {r} small h fault =
     go NoMemory is = record { answer = tt }
 
 -- a walk's stop is the reading's
-pub stops : (w : Walked DeckView) (e : WalkStop) {r : Result DeckView DeckFault} → IsErrAnd r (λ y. y ≡ deck_fault_of e)
-    → WalksAs (λ (d : DeckView). d) w (Err e) → ReadsAs (as_read w) r
+pub stops : {A B : Type 0} (w : Walked A) (e : WalkStop) {t : B → A} {r : Result A DeckFault} → IsErrAnd r (λ y. y ≡ deck_fault_of e)
+    → WalksAs t w (Err e) → ReadsAs (as_read w) r
 unfolding as_read
-stops w e {r} h stop =
+stops w e {t} {r} h stop =
     let p = err_from_is_err_and r h in
     rw (p.1, p.2) (go e stop)
   where
-    go : (e : WalkStop) → WalksAs (λ (d : DeckView). d) w (Err e) → ReadsAs (as_read w) (Err (deck_fault_of e))
+    go : (e : WalkStop) → WalksAs t w (Err e) → ReadsAs (as_read w) (Err (deck_fault_of e))
     go (walk_stop.Found fault) is = record { answer = rw is.answer }
     go walk_stop.NoMemory is = record { answer = tt }
 
-pub reads : (w : Walked DeckView) (d : DeckView) → w ≡ Ok d → ReadsAs (as_read w) (Ok d)
+pub reads : {A : Type 0} (w : Walked A) (a : A) → w ≡ Ok a → ReadsAs (as_read w) (Ok a)
 unfolding as_read
-reads w d e = record { answer = rw e }
+reads w a e = record { answer = rw e }
 
 -- a fault is no want of a text
 no_fault : (fault : Fault) → refusal_of fault ≡ Text → ⊥

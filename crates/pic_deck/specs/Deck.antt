@@ -1,5 +1,5 @@
 -- What a deck says, and the limits that its type keeps.
-use Rattle.std.specs.Prelude.{◌≡◌, ℕ, ℤ, List, map, ◌≤◌}
+use Rattle.std.specs.Prelude.{ℕ, ℤ, List, map, ◌≤◌}
 use Rattle.pic_num.specs.declared.mult.Scales.{Scales}
 use Rattle.pic_num.specs.declared.axis.Axis.{Axis}
 use Rattle.pic_num.specs.Limits.{most_steps, allowance_of}
@@ -19,7 +19,7 @@ use Rattle.pic_deck.specs.Species.{AreFilled, head_of}
 use Rattle.pic_deck.specs.Initial.{IsMild, set_up}
 
 -- a deck: its version, the cells of each axis, the side of a cell, the tiles of each axis, how many steps, after how
--- many a frame is due, the multipliers of the fields, the uniform parts of E and B and the rows that
+-- many a frame is due, the filter of the current, the multipliers of the fields, the uniform parts of E and B and the rows that
 -- are added to them, and the species
 pub record DeckView : Type 0 where
   pub version : ℕ
@@ -28,6 +28,7 @@ pub record DeckView : Type 0 where
   pub tiles : Triple
   pub steps : ℕ
   pub every : ℕ
+  pub filter : ℕ
   pub scales : Scales
   pub e : Spot
   pub b : Spot
@@ -44,6 +45,7 @@ deck_view settings field species = record {
   tiles = triple settings.tiles;
   steps = settings.steps;
   every = settings.every;
+  filter = settings.filter;
   scales = settings.scales;
   e = spot field.e;
   b = spot field.b;
@@ -78,7 +80,7 @@ abbrev pub heads_of : DeckView → List HeadView
 heads_of d = map head_of d.species
 
 -- the numbers of the tables of the grid, the run and the scales are within their limits
-pub record AreSettings (v : ℕ) (g : Grid) (t : Triple) (s f : ℕ) : Type 0 where
+pub record AreSettings (v : ℕ) (g : Grid) (t : Triple) (s f smoothing : ℕ) : Type 0 where
   pub version : IsVersion v
   pub cells : IsCells g.n
   pub allowed : IsGridOf v g.n g.side
@@ -86,10 +88,11 @@ pub record AreSettings (v : ℕ) (g : Grid) (t : Triple) (s f : ℕ) : Type 0 wh
   pub steps : s ≤ most_steps
   pub every_low : 1 ≤ f
   pub every_high : f ≤ most_steps
+  pub filter : smoothing ≤ (allowance_of v).filter
 
 -- all that a deck says is within its limits
 pub record IsWithinLimits (d : DeckView) : Type 0 where
-  pub settings : AreSettings d.version (deck_grid d) d.tiles d.steps d.every
+  pub settings : AreSettings d.version (deck_grid d) d.tiles d.steps d.every d.filter
   pub edges : AreRows d.cells d.edges
   pub faces : AreRows d.cells d.faces
   pub heads : AreHeads (allowance_of d.version).particles (heads_of d)

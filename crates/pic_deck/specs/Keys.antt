@@ -1,22 +1,22 @@
 -- The walk of a deck, this project's profile: the keys of each table in their order, the kind of
 -- each value and its limits. Which table a text is, is `toml`'s definition.
-use Rattle.std.specs.Prelude.{ℤ, pos, neg_ℤ, ℕ, ◌==◌, ◌+◌, ◌/◌, ◌%◌, ◌^◌, List, [], ◌∷◌, length, codes, slice_index, if◌then◌else◌, Option, Some, None, Ok, Err}
+use Rattle.std.specs.Prelude.{ℤ, pos, neg_ℤ, ℕ, ◌==◌, ◌+◌, ◌^◌, List, [], ◌∷◌, length, codes, slice_index, if◌then◌else◌, Option, Some, None, Ok, Err}
 use Rattle.toml.specs.Data.{Data, Members}
 use Rattle.pic_num.specs.declared.mult.Scales.{Scales}
 use Rattle.pic_num.specs.declared.motion.Kind.{Kind}
 use Rattle.pic_num.specs.Limits.{most_version, allowance_of, fewest_cells_of_axis, most_species, most_mass, most_force, most_steps, least_charge, greatest_charge}
 use Rattle.pic_num.specs.Space.{Triple, triple, spot}
-use Rattle.pic_grid.specs.Cells.{Grid, count_of}
-use Rattle.pic_grid.specs.Tiles.{most_tiles}
+use Rattle.pic_grid.specs.Cells.{Grid}
 use Rattle.pic_walk.specs.declared.fault.Fault.TheVariants.{Limit, Name}
 use Rattle.pic_walk.specs.declared.limits.Limits.{Limits}
 use Rattle.pic_walk.specs.Terms.{TermsView}
 use Rattle.pic_walk.specs.Path.{key_at}
 use Rattle.pic_walk.specs.Limits.{from_to, thrice}
 use Rattle.pic_walk.specs.Rows.{row_list}
-use Rattle.pic_walk.specs.Walk.{Walked, ◌>>=◌, within, limited, whole, text, elements, count_of_items, each, array_of}
+use Rattle.pic_walk.specs.Walk.{Walked, ◌>>=◌, number, within, limited, whole, text, elements, count_of_items, each, array_of}
 use Rattle.pic_walk.specs.Walk.{numbers, three, any_three, multiplier, listed, table_of, need, optional}
 use Rattle.pic_deck.specs.declared.fields.InitialFields.{InitialFields}
+use Rattle.pic_deck.specs.declared.run.Course.{Course}
 use Rattle.pic_deck.specs.declared.settings.Settings.{Settings}
 use Rattle.pic_deck.specs.declared.species.Fill.{Fill}
 use Rattle.pic_deck.specs.declared.species.Species.{Species}
@@ -24,6 +24,7 @@ use Rattle.pic_deck.specs.Deck.{DeckView, deck_view, terms_of}
 use Rattle.pic_deck.specs.Species.{is_new_name, filled_count, particles_of}
 use Rattle.pic_deck.specs.Initial.{set_up, first_strong}
 use Rattle.pic_deck.specs.Fill.{species_fill}
+use Rattle.pic_deck.specs.Tiles.{tiles_of_axis, few_tiles}
 
 -- the keys of the document's own table
 abbrev pub deck_keys : List (List ℕ)
@@ -35,9 +36,11 @@ grid_keys version =
     if version == 1 then codes "cells" ∷ codes "tiles" ∷ []
     else codes "cells" ∷ codes "tiles" ∷ codes "sub" ∷ []
 
--- the keys of `run`
-abbrev pub run_keys : List (List ℕ)
-run_keys = codes "steps" ∷ codes "every" ∷ []
+-- the keys of `run`: a deck of version 1 has no filter
+abbrev pub run_keys : ℕ → List (List ℕ)
+run_keys version =
+    if version == 1 then codes "steps" ∷ codes "every" ∷ []
+    else codes "steps" ∷ codes "every" ∷ codes "filter" ∷ []
 
 -- the keys of `scale`
 abbrev pub scale_keys : List (List ℕ)
@@ -51,12 +54,9 @@ cell_limits version = thrice (from_to (pos fewest_cells_of_axis) (pos (allowance
 abbrev pub bit_limits : ℕ → Limits
 bit_limits version = from_to (pos (allowance_of version).least_bits) (pos (allowance_of version).greatest_bits)
 
--- the tiles of an axis of n cells: from 1 to half the cells, and none is left over
+-- the tiles of an axis of n cells
 unfoldable pub axis_tiles : ℕ → List ℕ → Data → Walked ℕ
-axis_tiles n path d =
-    whole (from_to (pos 1) (pos (n / 2))) path d
-    >>= (λ t. within (from_to (pos 0) (pos 0)) path (pos (n % t))
-    >>= (λ _. Ok t))
+axis_tiles n path d = number path d >>= tiles_of_axis n path
 
 -- the tiles of the next axis, of those with these cells
 unfoldable pub next_tiles : List ℕ → List ℕ → List ℕ → Data → Walked ℕ
@@ -64,10 +64,7 @@ next_tiles ns done path d = axis_tiles (slice_index ns (length done)) path d
 
 -- the tiles of all three axes, not too many
 unfoldable pub tiles : List ℕ → List ℕ → Data → Walked (List ℕ)
-tiles ns path d =
-    array_of 3 (next_tiles ns) path d
-    >>= (λ ts. within (from_to (pos 1) (pos most_tiles)) path (pos (count_of (triple ts)))
-    >>= (λ _. Ok ts))
+tiles ns path d = array_of 3 (next_tiles ns) path d >>= few_tiles path
 
 -- the side of a cell: the one that version 1 has, or the power of two at the key `sub`
 unfoldable pub side_in : ℕ → Members → Walked ℕ
@@ -84,13 +81,29 @@ grid version ms =
     >>= (λ ts. side_in version t
     >>= (λ side. Ok (record { n = triple ns; side = side }, ts)))))
 
--- how many steps, and after how many a frame is due
-unfoldable pub run : Members → Walked (ℕ × ℕ)
-run ms =
-    need (table_of run_keys) (codes "run") [] ms
-    >>= (λ t. need (whole (from_to (pos 0) (pos most_steps))) (codes "steps") (codes "run") t
-    >>= (λ steps. need (whole (from_to (pos 1) (pos most_steps))) (codes "every") (codes "run") t
-    >>= (λ every. Ok (steps, every))))
+-- how many steps there may be, from these on
+abbrev pub step_limits : ℕ → Limits
+step_limits least = from_to (pos least) (pos most_steps)
+
+-- the filter of the current: none, where the key isn't there
+unfoldable pub filter_in : ℕ → Members → Walked ℕ
+filter_in version t =
+    if version == 1 then Ok 0
+    else optional 0 (whole (from_to (pos 0) (pos (allowance_of version).filter))) (codes "filter") (codes "run") t
+
+-- how many steps, after how many a frame is due, and the filter of the current
+unfoldable pub run : ℕ → Members → Walked Course
+run version ms =
+    need (table_of (run_keys version)) (codes "run") [] ms
+    >>= (λ t. need (whole (step_limits 0)) (codes "steps") (codes "run") t
+    >>= (λ steps. need (whole (step_limits 1)) (codes "every") (codes "run") t
+    >>= (λ every. filter_in version t
+    >>= (λ filter. Ok (record { steps = steps; every = every; filter = filter })))))
+
+-- the steps of a run that goes on behind so many, no fewer than these and not too many
+unfoldable pub steps_fit : ℕ → ℕ → Walked (Unit {0})
+steps_fit least steps =
+    within (step_limits least) (key_at (codes "run") (codes "steps")) (pos steps) >>= (λ _. Ok tt)
 
 -- the multipliers of the fields
 unfoldable pub scale : Members → Walked Scales
@@ -107,9 +120,9 @@ unfoldable pub settings : Members → Walked Settings
 settings ms =
     need (whole (from_to (pos 1) (pos most_version))) (codes "version") [] ms
     >>= (λ version. grid version ms
-    >>= (λ g. run ms
+    >>= (λ g. run version ms
     >>= (λ r. scale ms
-    >>= (λ scales. Ok (record { version = version; cells = g.0; tiles = g.1; steps = r.0; every = r.1; scales = scales })))))
+    >>= (λ scales. Ok (record { version = version; cells = g.0; tiles = g.1; steps = r.steps; every = r.every; filter = r.filter; scales = scales })))))
 
 -- the keys of `field`
 abbrev pub field_keys : List (List ℕ)

@@ -1,5 +1,5 @@
 -- The deck that some bytes are, and the bytes that are refused as no text.
-use Rattle.std.specs.Prelude.{◌≡◌, ◌≤◌, ℕ, pos, List, length, codes, nat_le, if◌then◌else◌, Option, Some, None, Ok, Err}
+use Rattle.std.specs.Prelude.{◌≡◌, ◌≤◌, ℕ, pos, List, length, codes, nat_le, if◌then◌else◌, Option, Some, None, Result, Ok, Err}
 use Rattle.std.specs.Str.{is_utf8}
 use Rattle.toml.specs.Data.{Members}
 use Rattle.toml.specs.Parse.{parse_document}
@@ -7,7 +7,6 @@ use Rattle.pic_walk.specs.Bounds.{most_bytes}
 use Rattle.pic_walk.specs.Walk.{Walked}
 use Rattle.pic_deck.specs.declared.refusal.Refusal.{Refusal}
 use Rattle.pic_deck.specs.declared.refusal.Refusal.TheVariants.{Text, Limit}
-use Rattle.pic_deck.specs.Deck.{DeckView}
 use Rattle.pic_deck.specs.Keys.{deck}
 use Rattle.pic_deck.specs.Refusal.{ReadDeck, refusal_of}
 
@@ -16,8 +15,8 @@ unfoldable pub document : List ℕ → Option Members
 document bytes = if is_utf8 bytes then parse_document bytes else None
 
 -- what a walk gives, its fault as a refusal
-unfoldable pub as_read : Walked DeckView → ReadDeck
-as_read (Ok d) = Ok d
+unfoldable pub as_read : {A : Type 0} → Walked A → Result A Refusal
+as_read (Ok a) = Ok a
 as_read (Err fault) = Err (refusal_of fault)
 
 -- the deck that a document is

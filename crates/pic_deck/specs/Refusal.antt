@@ -38,12 +38,12 @@ IsTextFault o NoMemory = ⊤
 abbrev pub ReadDeck : Type 0
 ReadDeck = Result DeckView Refusal
 
--- a call's answer is the deck or its refusal, or want of memory
-abbrev pub AnswersRead : ReadDeck → Result DeckView DeckFault → Type 0
-AnswersRead w (Ok d) = w ≡ Ok d
+-- a call's answer is the value or its refusal, or want of memory
+abbrev pub AnswersRead : {A : Type 0} → Result A Refusal → Result A DeckFault → Type 0
+AnswersRead w (Ok a) = w ≡ Ok a
 AnswersRead w (Err (Refused r)) = w ≡ Err r
 AnswersRead w (Err NoMemory) = ⊤
 
 -- the same as a record, of which lemmas find their arguments
-pub record ReadsAs (w : ReadDeck) (r : Result DeckView DeckFault) : Type 0 where
+pub record ReadsAs {A : Type 0} (w : Result A Refusal) (r : Result A DeckFault) : Type 0 where
   pub answer : AnswersRead w r

@@ -98,6 +98,14 @@ impl Deck {
         self.settings.every
     }
 
+    /// The filter of the current: 0 for none, 1 for the binomial one.
+    pub fn filter(&self) -> u32
+        ensures value { result ≡ self.now.filter }
+        ensures limits { IsWithinLimits self.now }
+    {
+        self.settings.filter
+    }
+
     /// The multipliers of the fields.
     pub fn scales(&self) -> Scales
         ensures value { result ≡ self.now.scales }

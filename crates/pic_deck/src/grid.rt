@@ -2,26 +2,23 @@
 
 ghost use Rattle.std.specs.Prelude.{◌≡◌, ℕ, List, ◌<◌, ◌≤◌, None, [], codes, IfOk, slice_index};
 ghost use Rattle.toml.specs.View.{view, table_view};
-ghost use Rattle.pic_num.specs.Limits.{allowance_of, most_cells_of_axis};
+ghost use Rattle.pic_num.specs.Limits.{allowance_of};
 ghost use Rattle.pic_num.specs.Space.{triple};
 ghost use Rattle.pic_num.specs.Versions.{IsSideOf, IsGridOf};
 ghost use Rattle.pic_walk.specs.Path.{path_of};
 ghost use Rattle.pic_walk.specs.Walk.{WalksAs, table_of, need, array_of, three};
-ghost use Rattle.pic_grid.specs.Cells.{Grid, IsCells, count_of};
+ghost use Rattle.pic_grid.specs.Cells.{Grid, IsCells};
 ghost use Rattle.pic_grid.specs.Tiles.{IsTiled, AreTiles};
 ghost use Rattle.pic_deck.specs.Keys.{grid_keys, grid, cell_limits, axis_tiles, next_tiles, tiles, side_in};
 
+use crate::tiles::{check_axis_tiles, check_few_tiles};
 use pic_grid::Cells;
 use pic_num::{MIN_CELLS, Sub, allowance_of};
 use pic_walk::{
-    Address, Limits, WalkStop, check_within, need_table, need_three, need_whole, needed_value,
-    read_array, read_whole,
+    Address, Limits, WalkStop, need_table, need_three, need_whole, needed_value, read_array,
 };
 use std::alloc::Global;
 use toml::{Table, Value};
-
-/// The most tiles of a grid.
-const MAX_TILES: i64 = 1 << 9;
 
 fn grid_table(alloc: Global, table: &Table, version: u32) -> Result<&Table, WalkStop>
     ensures { WalksAs (λ t. table_view t.now)
@@ -57,9 +54,10 @@ fn read_axis_tiles(
         (axis_tiles cells (path_of address.entry) (view value.now)) result }
     ensures tiled { IfOk result (λ t. IsTiled cells t) }
 {
-    let tiles = read_whole(alloc, address, value, Limits::new(1, i64::from(cells / 2)))?;
-    check_within(alloc, address, i128::from(cells % tiles), Limits::new(0, 0))?;
-    Ok(tiles)
+    match value.as_integer() {
+        Some(tiles) => check_axis_tiles(alloc, address, cells, tiles),
+        None => Err(address.kind_fault(alloc)),
+    }
 }
 
 // the tiles of each axis
@@ -83,13 +81,6 @@ fn read_each_tiles(
     Ok(tiles)
 }
 
-fn tiles_in_all(tiles: [u32; 3]) -> u32
-    requires { (k : ℕ) → k < 3 → slice_index tiles k ≤ most_cells_of_axis }
-    ensures { result ≡ count_of (triple tiles) }
-{
-    tiles[0] * tiles[1] * tiles[2]
-}
-
 // the tiles of all three axes
 fn read_tiles(
     alloc: Global,
@@ -104,8 +95,7 @@ fn read_tiles(
     ensures tiled { IfOk result (λ ts. AreTiles (triple cells) (triple ts)) }
 {
     let tiles = read_each_tiles(alloc, address, value, cells)?;
-    let count = i128::from(tiles_in_all(tiles));
-    check_within(alloc, address, count, Limits::new(1, MAX_TILES))?;
+    check_few_tiles(alloc, address, tiles)?;
     Ok(tiles)
 }
 

@@ -16,12 +16,15 @@ mod scale;
 mod settings;
 mod species;
 mod species_reader;
+mod tiles;
 
 pub use deck::Deck;
 pub use fields::InitialFields;
 pub use pic_walk::{KeyPath, Point6, Points, Row, Rows, Terms, extent};
 pub use reading::read_deck;
 pub use refusal::{DeckFault, Refusal};
+pub use run::check_steps;
 pub use settings::Settings;
 pub use species::{Fill, Species, SpeciesList};
 pub use species_reader::particles_of;
+pub use tiles::check_tiles;

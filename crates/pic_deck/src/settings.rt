@@ -25,6 +25,7 @@ pub struct Settings {
     pub tiles: [u32; 3],
     pub steps: u32,
     pub every: u32,
+    pub filter: u32,
     pub scales: Scales,
 }
 
@@ -32,19 +33,20 @@ pub struct Settings {
 pub(crate) fn read_settings(alloc: Global, table: &Table) -> Result<Settings, WalkStop>
     ensures walks { WalksAs (λ (s : SettingsView). s) (settings (table_view table.now)) result }
     ensures limits { IfOk result (λ s. AreSettings s.version s.cells (triple s.tiles) s.steps
-        s.every) }
+        s.every s.filter) }
 {
     let versions = Limits::from_to(1, MAX_VERSION);
     let version = need_whole(alloc, "", "version", table, versions)?;
     let (cells, tiles) = read_grid(alloc, table, version)?;
-    let (steps, every) = read_run(alloc, table)?;
+    let course = read_run(alloc, table, version)?;
     let scales = read_scale(alloc, table)?;
     Ok(Settings {
         version,
         cells,
         tiles,
-        steps,
-        every,
+        steps: course.steps,
+        every: course.every,
+        filter: course.filter,
         scales,
     })
 }

@@ -38,7 +38,7 @@ both P e p zero below = e
 both P e p (suc zero) below = p
 both P e p (suc (suc i)) below = absurd (omega (arith, below))
 
-settings_within : AreSettings 1 demo_settings.cells (record { x = 4; y = 4; z = 4 }) 16 4
+settings_within : AreSettings 1 demo_settings.cells (record { x = 4; y = 4; z = 4 }) 16 4 0
 settings_within = record {
   version = record { least = omega arith; most = omega arith };
   cells = record {
@@ -59,6 +59,7 @@ settings_within = record {
   steps = omega arith;
   every_low = omega arith;
   every_high = omega arith;
+  filter = omega arith;
 }
   where
     tiled : IsTiled 16 4

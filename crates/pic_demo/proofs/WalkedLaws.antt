@@ -16,7 +16,8 @@ use Rattle.pic_walk.proofs.WalkLaws.{then_ok}
 use Rattle.pic_deck.specs.Deck.{terms_of}
 use Rattle.pic_deck.specs.Fill.{random, pair, species_number, species_fill}
 use Rattle.pic_deck.specs.Initial.{set_up}
-use Rattle.pic_deck.specs.Keys.{deck_keys, axis_tiles, next_tiles, tiles, side_in, grid, run, scale, settings, fields, no_field, species_name, species_kind}
+use Rattle.pic_deck.specs.Keys.{deck_keys, axis_tiles, next_tiles, tiles, side_in, filter_in, grid, run, scale, settings, fields, no_field, species_name, species_kind}
+use Rattle.pic_deck.specs.Tiles.{tiles_of_axis, few_tiles}
 use Rattle.pic_deck.specs.Keys.{counted, species_in, one_species, species_list, force_allowed, forces, deck}
 use Rattle.pic_deck.specs.Species.{is_name, is_new_name}
 use Rattle.pic_deck.proofs.ForceLaws.{no_forces, zero_set_up}
@@ -37,7 +38,7 @@ unfolding keys_read species_name is_name is_new_name species_kind counted
 heads_read = tt
 
 settings_walked : (seed : ℕ) → settings (demo_table seed) ≡ Ok demo_settings
-unfolding keys_read settings grid run scale tiles next_tiles axis_tiles side_in
+unfolding keys_read settings grid run scale tiles next_tiles axis_tiles tiles_of_axis few_tiles side_in filter_in
 settings_walked seed = refl
 
 listed_walked : (seed : ℕ) → listed deck_keys [] (demo_table seed) ≡ Ok (demo_table seed)

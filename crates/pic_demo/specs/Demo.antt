@@ -34,6 +34,7 @@ demo_settings = record {
   tiles = on_each 4;
   steps = 16;
   every = 4;
+  filter = 0;
   scales = demo_scales;
 }
 

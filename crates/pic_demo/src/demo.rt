@@ -31,6 +31,7 @@ fn settings() -> Settings
         tiles: [4; 3],
         steps: 16,
         every: 4,
+        filter: 0,
         scales: scales(),
     }
 }

@@ -2,6 +2,12 @@ pub mod NextLaws
 pub mod TurnLaws
 pub mod ReadOnLaws
 pub mod FuelLaws
+pub mod AllowedLaws
+pub mod TakenLaws
+pub mod UntakenLaws
+pub mod WholeLaws
+pub mod WholeIsExact
+pub mod TextLaws
 pub mod ReadableDump
 pub mod SpellingLaws
 pub mod UpgradeLaws

@@ -8,7 +8,7 @@ use Rattle.pic_grid.specs.Lattice.{Field}
 use Rattle.pic_energy.specs.declared.amounts.Energies.{Energies}
 use Rattle.pic_fields.specs.Parser.{Input, input, Fault}
 use Rattle.pic_fields.specs.Reads.{Left, Moves, Fails, HasReadAll}
-use Rattle.pic_fields.proofs.ReadLaws.{moves_none, moves_then}
+use Rattle.pic_fields.proofs.ReadLaws.{moves_none, none_size, moves_then, then_size}
 use Rattle.pic_record.specs.Due.{due_after}
 use Rattle.pic_record.specs.FrameFields.{FrameView, frame_of, frame_length}
 use Rattle.pic_record.specs.Layout.{LayoutView}
@@ -48,6 +48,7 @@ pub record HasReadOn (r : Standing) (before : Told) (frames : List FrameView) (h
   pub calm : Calm before now
   pub layout : here.layout ≡ r.layout
   pub moves : Moves r.place here.place before now
+  pub whole : r.place + length moves.front ≡ here.place
   pub place : here.place ≡ r.place + length frames * (1 + frame_length r.layout)
   pub last : here.last ≡ step_before r.layout (length frames)
   pub few : length frames ≤ passed here.last
@@ -67,6 +68,7 @@ on_none r before start =
       calm = refl;
       layout = refl;
       moves = moves_none r.place before;
+      whole = omega (arith, none_size r.place before);
       place = omega arith;
       last = start;
       few = omega arith;
@@ -112,6 +114,7 @@ on_frame r before y z frames here behind e b particles step energies so_far has 
       calm = has.read.calm ∙ so_far.calm;
       layout = has.layout ∙ so_far.layout;
       moves = moves_then so_far.moves has.read.moves;
+      whole = omega (arith, so_far.whole, has.read.whole, then_size so_far.moves has.read.moves);
       place = omega (arith, so_far.place, has.place, length_is, length_more, text);
       last = has.last ∙ ap (λ s. Some s) step_is ∙ sym next;
       few = omega (arith, passed_is, few, later, size);

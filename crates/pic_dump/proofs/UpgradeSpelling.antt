@@ -2,7 +2,7 @@
 use Rattle.std.proofs.Common.{◌≡◌, List, [], ◌∷◌, ◌++◌, refl, sym, ap, ◌∙◌, append_assoc}
 use Rattle.std.specs.List.{flat_map}
 use Rattle.pic_io.specs.Sinks.{outs}
-use Rattle.pic_header.specs.Header.{HeaderView}
+use Rattle.pic_header.specs.Header.{HeaderView, upgraded}
 use Rattle.pic_header.specs.HeaderText.{header_bytes}
 use Rattle.pic_record.specs.FrameFields.{FrameView}
 use Rattle.pic_record.specs.Layout.{LayoutView, layout_of}
@@ -10,7 +10,7 @@ use Rattle.pic_record.specs.Records.{AFrame}
 use Rattle.pic_record.specs.RecordText.{end_bytes}
 use Rattle.pic_record.specs.Spelling.{record_bytes}
 use Rattle.pic_dump.specs.Readable.{dump_bytes}
-use Rattle.pic_dump.specs.Upgrade.{upgraded, frame_pieces, end_pieces, upgrade_dump, upgrade_of}
+use Rattle.pic_dump.specs.Upgrade.{frame_pieces, end_pieces, upgrade_dump, upgrade_of}
 use Rattle.pic_dump.specs.UpgradeSpelling.{UpgradesAreSpelled, VersionTwoStays}
 use Rattle.pic_dump.proofs.SpellingLaws.{dumps_are_spelled}
 use Rattle.pic_dump.proofs.UpgradeLaws.{outs_more}

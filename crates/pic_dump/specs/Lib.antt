@@ -4,6 +4,8 @@ pub mod InTurn
 pub mod DumpRead
 pub mod Readable
 pub mod Spelling
+pub mod Allowed
+pub mod Whole
 pub mod Upgrade
 pub mod UpgradeStops
 pub mod UpgradeSpelling

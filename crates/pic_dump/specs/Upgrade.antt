@@ -1,6 +1,6 @@
 -- The version 2 spelling of a dump: the same header, in version 2, and the same records. And what a call
 -- that puts it did, held against what the source had.
-use Rattle.std.specs.Prelude.{◌≡◌, ◌≢◌, ℕ, zero, suc, ◌+◌, ◌*◌, List, [], ◌∷◌, ◌++◌, length, map, take, None, Some, Result, Ok, Err, ⊤}
+use Rattle.std.specs.Prelude.{◌≡◌, ◌≢◌, ℕ, ◌+◌, ◌≤◌, List, [], ◌∷◌, ◌++◌, length, map, take, None, Some, Result, Ok, Err, ⊤}
 use Rattle.pic_io.specs.Told.{Told, Rose, Calm, Quiet}
 use Rattle.pic_io.specs.Source.{IsAtEnd}
 use Rattle.pic_io.specs.Sink.{Appended}
@@ -9,25 +9,19 @@ use Rattle.pic_io.specs.declared.side.Side.TheVariants.{Out}
 use Rattle.pic_grid.specs.declared.stop.EndMark.{EndMark}
 use Rattle.pic_fields.specs.Parser.{Fault, input}
 use Rattle.pic_fields.specs.Reads.{Left, Moves}
-use Rattle.pic_header.specs.Header.{HeaderView}
-use Rattle.pic_header.specs.HeaderFields.{header_length, header_most}
+use Rattle.pic_header.specs.Header.{HeaderView, upgraded}
 use Rattle.pic_header.specs.HeaderText.{header_bytes}
-use Rattle.pic_record.specs.Due.{due_after}
-use Rattle.pic_record.specs.FrameFields.{FrameView, frame_length}
+use Rattle.pic_record.specs.FrameFields.{FrameView}
 use Rattle.pic_record.specs.Layout.{LayoutView, layout_of}
 use Rattle.pic_record.specs.Records.{AFrame}
 use Rattle.pic_record.specs.RecordText.{end_bytes}
 use Rattle.pic_record.specs.Spelling.{record_bytes}
 use Rattle.pic_dump.specs.declared.upgrade_stop.UpgradeStop.{UpgradeStop}
 use Rattle.pic_dump.specs.declared.upgrade_stop.UpgradeStop.TheVariants.{ReadFault, BadDump, WriteFault, NoMemory}
+use Rattle.pic_dump.specs.Allowed.{records_length}
 use Rattle.pic_dump.specs.DumpRead.{DumpRead, RecordsRead, read_on, read_dump}
-use Rattle.pic_dump.specs.InTurn.{step_before}
-use Rattle.pic_dump.specs.NextReads.{most_of}
 use Rattle.pic_dump.specs.Standing.{Standing}
-
--- the header of the version 2 spelling: that of a dump of version 2 is itself
-abbrev pub upgraded : HeaderView → HeaderView
-upgraded h = record h { version = 2 }
+use Rattle.pic_dump.specs.Whole.{Parts, frame_parts, dump_parts, TakesWhole}
 
 -- a text for out alone
 abbrev pub piece_of : List ℕ → Piece
@@ -52,26 +46,17 @@ abbrev pub answer_behind : ℕ → Result EndMark Fault → Answer
 answer_behind n (Ok mark) = Ok n
 answer_behind n (Err f) = Err (BadDump f.place f.cause)
 
--- how far record k is read at most, where the records begin at a place
-abbrev pub record_end : LayoutView → ℕ → ℕ → ℕ
-record_end l place k = place + k * (1 + frame_length l) + most_of l (due_after l.steps l.every (step_before l k))
-
--- how far the header is read at most, and the records behind it
-abbrev pub piece_end : HeaderView → ℕ → ℕ
-piece_end h zero = header_most
-piece_end h (suc k) = record_end (layout_of h) (header_length h) k
-
--- what is put of some bytes, piece by piece, how far they are read at most for each piece, and the answer
+-- what is put of some bytes, piece by piece, the parts of them that are put whole, and the answer
 pub record Upgrade : Type 0 where
   pub pieces : List Piece
-  pub end : ℕ → ℕ
+  pub parts : Parts
   pub answer : Answer
 
 -- of records, where reading them begins at a place
 abbrev pub upgrade_records : LayoutView → ℕ → RecordsRead → Upgrade
 upgrade_records l place r = record {
   pieces = frame_pieces l r.0 ++ end_pieces r.1;
-  end = record_end l place;
+  parts = frame_parts l place (length r.0);
   answer = answer_behind (length r.0) r.1;
 }
 
@@ -79,10 +64,10 @@ upgrade_records l place r = record {
 abbrev pub upgrade_dump : Result DumpRead Fault → Upgrade
 upgrade_dump (Ok d) = record {
   pieces = header_piece d.header ∷ frame_pieces (layout_of d.header) d.frames ++ end_pieces d.end;
-  end = piece_end d.header;
+  parts = dump_parts (Ok d);
   answer = answer_behind (length d.frames) d.end;
 }
-upgrade_dump (Err f) = record { pieces = []; end = λ k. header_most; answer = Err (BadDump f.place f.cause) }
+upgrade_dump (Err f) = record { pieces = []; parts = dump_parts (Err f); answer = Err (BadDump f.place f.cause) }
 
 -- of some bytes
 unfoldable pub upgrade_of : List ℕ → Upgrade
@@ -92,7 +77,8 @@ upgrade_of bytes = upgrade_dump (read_dump bytes)
 unfoldable pub upgrade_behind : Standing → List ℕ → Upgrade
 upgrade_behind r held = upgrade_records r.layout r.place (read_on (r.layout.steps + 2) r.layout None (input r.place held))
 
--- neither count rose, all pieces of what was left were put, and this is its answer
+-- neither count rose, all pieces of what was left were put, and this is its answer; no more was taken than
+-- the part has that comes last, the end record or the one with the fault
 pub record Puts (of : List ℕ → Upgrade) (start : ℕ) (source source' out out' : Told) (answer : Answer) : Type 0 where
   pub calm : Calm source source'
   pub calm_out : Calm out out'
@@ -100,10 +86,9 @@ pub record Puts (of : List ℕ → Upgrade) (start : ℕ) (source source' out ou
   pub was : Left source held
   pub put : Appended out out' (outs (of held).pieces)
   pub answered : (of held).answer ≡ answer
-  pub last : ℕ
-  pub moves : Moves start ((of held).end last) source source'
+  pub moves : Moves start ((of held).parts.end (of held).parts.count) source source'
 
--- a read failed: the pieces before the one that was read then were put, whole
+-- a read failed: of the parts those were put, whole, that were taken whole before
 pub record FailsToRead (of : List ℕ → Upgrade) (start : ℕ) (source source' out out' : Told) : Type 0 where
   pub rose : Rose source source'
   pub calm_out : Calm out out'
@@ -111,16 +96,18 @@ pub record FailsToRead (of : List ℕ → Upgrade) (start : ℕ) (source source'
   pub was : Left source held
   pub whole : ℕ
   pub put : Appended out out' (outs (take whole (of held).pieces))
-  pub moves : Moves start ((of held).end whole) source source'
+  pub takes : TakesWhole (of held).parts start whole source source'
 
--- a put failed: the pieces are cut where it did, whatever another sink holds
+-- a put failed: the pieces are cut where it did, whatever another sink holds; no more was taken than the
+-- part has that was read last
 pub record FailsToPut (of : List ℕ → Upgrade) (start : ℕ) (source source' out out' : Told) : Type 0 where
   pub calm : Calm source source'
   pub held : List ℕ
   pub was : Left source held
   pub cut : (report : Told) → CutAt Out (sinks out report) (sinks out' report) (of held).pieces
   pub last : ℕ
-  pub moves : Moves start ((of held).end last) source source'
+  pub few : last ≤ (of held).parts.count
+  pub moves : Moves start ((of held).parts.end last) source source'
 
 -- memory was wanted: neither count rose, and nothing was put
 pub record PutsNothing (source source' out out' : Told) : Type 0 where
@@ -140,8 +127,10 @@ Answered of start source source' out out' (Err NoMemory) = PutsNothing source so
 pub record Upgrades (source source' out out' : Told) (result : Answer) : Type 0 where
   pub answer : Answered upgrade_of 0 source source' out out' result
 
--- the same for the records from where a reader stands
+-- the same for the records from where a reader stands, and that no more was taken than the header allows,
+-- and a byte
 pub record UpgradesBehind (r : Standing) (source source' out out' : Told) (result : Answer) : Type 0 where
+  pub moves : Moves r.place (r.place + (records_length r.layout + 1)) source source'
   pub answer : Answered (upgrade_behind r) r.place source source' out out' result
   pub no_memory : result ≢ Err NoMemory
 

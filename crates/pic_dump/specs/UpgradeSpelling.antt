@@ -4,9 +4,10 @@ use Rattle.std.specs.Prelude.{◌≡◌, ℕ, List, Ok}
 use Rattle.pic_io.specs.Sinks.{outs}
 use Rattle.pic_grid.specs.declared.stop.EndMark.{EndMark}
 use Rattle.pic_fields.specs.Bytes.{IsBytes}
+use Rattle.pic_header.specs.Header.{upgraded}
 use Rattle.pic_dump.specs.DumpRead.{DumpRead, read_dump}
 use Rattle.pic_dump.specs.Readable.{dump_bytes}
-use Rattle.pic_dump.specs.Upgrade.{upgraded, upgrade_of}
+use Rattle.pic_dump.specs.Upgrade.{upgrade_of}
 
 abbrev pub UpgradesAreSpelled : Type 0
 UpgradesAreSpelled =

@@ -1,13 +1,16 @@
 //! A dump, read record by record.
 
-ghost use Rattle.std.specs.Prelude.{◌≡◌, ◌+◌, ◌*◌, ◌<◌, ◌≤◌, ◌^◌, length, sum, Option, Some, None, IfOk, IfSome, IsTrue};
+ghost use Rattle.std.specs.Prelude.{◌≡◌, ◌+◌, ◌*◌, ◌<◌, ◌≤◌, ◌^◌, length, sum, Option, Some, None, Err, IfOk, IfSome, IsTrue};
+ghost use Rattle.pic_fields.specs.declared.read_stop.ReadStop.TheVariants.{ReadFault};
+ghost use Rattle.pic_header.specs.declared.head_stop.HeadStop.TheVariants.{Read};
+ghost use Rattle.pic_grid.specs.Parts.{one_part};
 ghost use Rattle.pic_header.specs.HeaderFields.{header_length, header_at, header_most};
 ghost use Rattle.pic_fields.specs.Parser.{checked};
 ghost use Rattle.pic_fields.specs.Number.{byte_at};
 ghost use Rattle.pic_fields.specs.Reads.{Reads, as_it_is};
 ghost use Rattle.pic_record.specs.Fields.{wrong_tag};
 ghost use Rattle.pic_record.specs.FrameFields.{frame_length, IsSameShape};
-ghost use Rattle.pic_header.specs.HeadReads.{HeadReads, TakesWithin};
+ghost use Rattle.pic_header.specs.HeadReads.{HeadReads, TakesWithin, TakesLess};
 ghost use Rattle.pic_record.specs.Layout.{IsLayout, layout_of};
 ghost use Rattle.pic_dump.specs.NextReads.{NextReads, AtEnd};
 ghost use Rattle.pic_record.specs.Records.{is_tag};
@@ -71,12 +74,14 @@ impl DumpReader {
     ///
     /// The header is taken field by field: however the call ends, no byte behind a header that is good
     /// was taken, and of one that isn't none more than the longest field has, a name of 32 bytes,
-    /// beyond the place of its first fault.
+    /// beyond the place of its first fault. Where a read failed not all bytes of the header were.
     pub fn head<S: Source>(alloc: Global, source: &mut S) -> Result<(DumpReader, Header), HeadStop>
         ensures reads { HeadReads (λ r. r.1) header_at 0
             header_length header_most
             (S.told source.old) (S.told source.new) result }
         ensures within { TakesWithin header_at 0 (S.told source.old) (S.told source.new) }
+        ensures less { result ≡ Err (Read ReadFault)
+            → TakesLess header_at 0 (S.told source.old) (S.told source.new) }
         ensures stands { IfOk result (λ r. r.0 ≡ record {
           layout = layout_of r.1;
           place = header_length r.1;
@@ -105,12 +110,14 @@ impl DumpReader {
         })
     }
 
-    /// Room for the frames of this dump: a snapshot with its numbers of cells and particles.
+    /// Room for the frames of this dump: a snapshot with its numbers of cells, in one part, and of
+    /// particles.
     pub fn room(&self, alloc: Global) -> Result<Snapshot, pic_num::NoMemory>
         ensures e { IfOk result (λ s. (s.e.cells ≡ self.now.layout.cells)
             × (s.e.side ≡ self.now.layout.side)) }
         ensures b { IfOk result (λ s. (s.b.cells ≡ self.now.layout.cells)
             × (s.b.side ≡ self.now.layout.side)) }
+        ensures parts { IfOk result (λ s. (s.e.parts ≡ one_part) × (s.b.parts ≡ one_part)) }
         ensures particles { IfOk result (λ s. length s.particles.items
             ≡ sum self.now.layout.counts) }
     {
@@ -126,6 +133,14 @@ impl DumpReader {
         self.layout.cells()
     }
 
+    /// The filter of the current: 0 for none, 1 for the binomial one.
+    pub fn filter(&self) -> u32
+        ensures value { result ≡ self.now.layout.filter }
+        ensures limits { IsLayout self.now.layout }
+    {
+        self.layout.filter()
+    }
+
     /// What the particles of each species have in common.
     pub fn kinds(&self) -> &[Kind]
         ensures value { result.now ≡ self.now.layout.kinds }
@@ -139,10 +154,10 @@ impl DumpReader {
     ///
     /// The record's mark is taken alone, and a frame then in pieces of up to 65536 bytes. No byte
     /// behind the record is taken, but for one that tells that the input doesn't end there, and no
-    /// memory. The snapshot has the header's numbers of cells and particles, and the end of the dump
-    /// leaves it as it was. After a frame its values are within their bounds, and its particles have
-    /// the identities 0, 1, 2 and so on, their species, and velocities that a push keeps. At an error
-    /// the reader is gone.
+    /// memory; where a read failed not all bytes of the record were taken. The snapshot has the header's
+    /// numbers of cells and particles, and the end of the dump leaves it as it was. After a frame its
+    /// values are within their bounds, and its particles have the identities 0, 1, 2 and so on, their
+    /// species, and velocities that a push keeps. At an error the reader is gone.
     pub fn next<S: Source>(self, source: &mut S, state: &mut Snapshot) -> Result<Next, ReadStop>
         requires e { state.old.e.cells ≡ self.layout.cells }
         requires b { state.old.b.cells ≡ self.layout.cells }

@@ -3,6 +3,7 @@
 ghost use Rattle.pic_dump.specs.Readable.{DumpsAreRead};
 ghost use Rattle.pic_dump.specs.Spelling.{DumpsAreSpelled};
 ghost use Rattle.pic_dump.specs.UpgradeSpelling.{UpgradesAreSpelled, VersionTwoStays};
+ghost use Rattle.pic_dump.specs.Whole.{WholeIsExact};
 
 /// The bytes of a dump are read as what was put: its header, its frames in their order, and its end
 /// record. The header is within its limits, each frame too, with the step that is due in its turn, and
@@ -21,4 +22,10 @@ pub fn dumps_have_one_spelling()
 pub fn upgrades_have_one_spelling()
     ensures spelled { UpgradesAreSpelled }
     ensures stays { VersionTwoStays }
+{}
+
+/// How many parts of a dump, its header and its frames, are whole before a place is one number: so what
+/// was put before a read that failed is said exactly.
+pub fn whole_parts_are_exact()
+    ensures { WholeIsExact }
 {}

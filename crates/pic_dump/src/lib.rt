@@ -8,15 +8,17 @@ mod upgrade_stop;
 mod upgrading;
 
 pub use dump_reader::{DumpReader, Next};
-pub use laws::{dumps_are_read, dumps_have_one_spelling, upgrades_have_one_spelling};
+pub use laws::{
+    dumps_are_read, dumps_have_one_spelling, upgrades_have_one_spelling, whole_parts_are_exact,
+};
 pub use pic_fields::ReadStop;
 pub use pic_header::{
-    Head, HeadStop, Header, Heads, headers_are_read, headers_have_one_spelling, keep_kind,
-    keep_scales, put_header,
+    Head, HeadStop, Header, HeaderSettings, Heads, headers_are_read, headers_have_one_spelling,
+    keep_kind, keep_scales, put_header,
 };
 pub use pic_record::{
-    ends_are_read, frames_are_due_in_turn, frames_are_read, frames_read_are_readable, put_end,
-    put_frame, records_have_one_spelling,
+    ends_are_read, frames_are_due_in_turn, frames_are_read, frames_read_are_readable, is_due,
+    put_end, put_frame, records_have_one_spelling,
 };
 pub use upgrade_stop::UpgradeStop;
 pub use upgrading::upgrade;

@@ -1,35 +1,30 @@
 //! A dump, put again in the spelling of version 2.
 
-ghost use Rattle.std.specs.Prelude.{◌≡◌, length, sum, None, Err, IfOk};
-ghost use Rattle.pic_fields.specs.Reads.{Moves};
-ghost use Rattle.pic_header.specs.HeaderFields.{header_at, header_most};
-ghost use Rattle.pic_header.specs.HeadReads.{TakesWithin};
+ghost use Rattle.std.specs.Prelude.{◌≡◌, length, sum, None, Err};
 ghost use Rattle.pic_record.specs.Layout.{IsLayout};
-ghost use Rattle.pic_dump.specs.Upgrade.{upgraded, Upgrades, UpgradesBehind, IsExact};
+ghost use Rattle.pic_dump.specs.Allowed.{TakesAllowed, TakesHeader};
+ghost use Rattle.pic_dump.specs.Upgrade.{Upgrades, UpgradesBehind, IsExact};
 ghost use Rattle.pic_dump.specs.declared.upgrade_stop.UpgradeStop.TheVariants.{NoMemory};
 
 use crate::dump_reader::{DumpReader, Next};
 use crate::upgrade_stop::UpgradeStop;
-use pic_grid::{Name, Snapshot};
-use pic_header::{Head, Header, Heads, put_header};
+use pic_grid::Snapshot;
+use pic_header::put_header;
 use pic_io::{Sink, Source};
 use pic_record::{put_end, put_frame};
 use std::alloc::Global;
-
-/// The version that a dump is put in.
-const NEW_VERSION: u32 = 2;
 
 /// Reads a dump to its end, puts it in the spelling of version 2, and answers how many frames it has.
 ///
 /// Only the header changes; a dump of version 2 is put as it is. Each frame is put once it was read
 /// whole, its energies included, and the end record once the input was found to end behind it. Gauss's
 /// law isn't tested. All memory is taken before the first put: where it is wanted, nothing was put and
-/// no byte behind the header was taken.
+/// no byte behind the header was taken. At most one byte is taken past the length that the header allows.
 ///
 /// # Errors
 /// `UpgradeStop` with the first fault of the bytes (its place, counted from 0, and its cause), before
 /// which all that is whole was put, but nothing where the header has the fault; a failed read, with the
-/// records put that were read before it; a failed write; or want of memory.
+/// header and the frames put that were taken whole before it; a failed write; or want of memory.
 pub fn upgrade<S: Source, O: Sink>(
     alloc: Global,
     source: &mut S,
@@ -39,15 +34,13 @@ pub fn upgrade<S: Source, O: Sink>(
         (O.told out.old) (O.told out.new) result }
     ensures exactly { IsExact (S.told source.old) (S.told source.new)
         (O.told out.old) (O.told out.new) result }
-    ensures longest { result ≡ Err NoMemory
-        → Moves 0 header_most (S.told source.old) (S.told source.new) }
-    ensures within { result ≡ Err NoMemory
-        → TakesWithin header_at 0 (S.told source.old) (S.told source.new) }
+    ensures taken { TakesAllowed (S.told source.old) (S.told source.new) }
+    ensures no_memory { result ≡ Err NoMemory
+        → TakesHeader (S.told source.old) (S.told source.new) }
 {
-    let (reader, old) = DumpReader::head(alloc, source)?;
+    let (reader, header) = DumpReader::head(alloc, source)?;
     let mut state = reader.room(alloc)?;
-    let header = upgraded(alloc, &old)?;
-    put_header(out, &header)?;
+    put_header(out, &header.upgraded())?;
     put_records(source, out, reader, &mut state)
 }
 
@@ -81,40 +74,4 @@ fn put_records<S: Source, O: Sink>(
             }
         }
     }
-}
-
-// The header of the version 2 spelling.
-fn upgraded(alloc: Global, header: &Header) -> Result<Header, pic_num::NoMemory>
-    ensures { IfOk result (λ h. h ≡ upgraded header.now) }
-{
-    let species = heads_of(alloc, header.species().as_slice())?;
-    Ok(Header::new(
-        NEW_VERSION,
-        header.cells(),
-        header.steps(),
-        header.every(),
-        header.scales(),
-        Heads::from_vec(species),
-    ))
-}
-
-fn heads_of(alloc: Global, species: &[Head]) -> Result<Vec<Head>, pic_num::NoMemory>
-    ensures { IfOk result (λ heads. heads.items ≡ species.now) }
-{
-    let mut heads = Vec::new(alloc);
-    for one in species {
-        heads.push(head_of(alloc, one)?)?;
-    }
-    Ok(heads)
-}
-
-fn head_of(alloc: Global, head: &Head) -> Result<Head, pic_num::NoMemory>
-    ensures { IfOk result (λ h. h ≡ head.now) }
-{
-    let name = Vec::from_slice(alloc, head.name.as_slice())?;
-    Ok(Head {
-        name: Name::from_vec(name),
-        kind: head.kind,
-        count: head.count,
-    })
 }

@@ -15,6 +15,7 @@ read_by : {A : Type 0} {p q : Parser A} {s e : ℕ} {x z : Told} {a : A} → ((i
 read_by same first = record {
   calm = first.calm;
   moves = first.moves;
+  whole = first.whole;
   reads = λ rest left. (let (held, was, is) = first.reads rest left in (held, was, same _ ∙ is));
 }
 
@@ -22,8 +23,8 @@ fails_by : {A : Type 0} {p q : Parser A} {s : ℕ} {x z : Told} {f : Fault} → 
 fails_by same first = record { calm = first.calm; held = first.held; was = first.was; fails = same _ ∙ first.fails }
 
 stops_by : {A : Type 0} {p q : Parser A} {s e : ℕ} {x z : Told} {stop : ReadStop} → ((i : Input) → q i ≡ p i) → Stops p s e x z stop → Stops q s e x z stop
-stops_by {stop = ReadFault} same first = record { why = first.why; moves = first.moves }
-stops_by {stop = BadDump place cause} same first = record { why = fails_by same first.why; moves = first.moves }
+stops_by {stop = ReadFault} same first = record { why = first.why; moves = first.moves; less = first.less }
+stops_by {stop = BadDump place cause} same first = record { why = fails_by same first.why; moves = first.moves; less = first.less }
 
 -- all values are the first ones, and those behind them
 last_value : {A : Type 0} (xs ys : List A) (r : Parsed A)

@@ -27,8 +27,8 @@ fails_with : {A : Type 0} (a : A) {s : ℕ} {x z : Told} {f : Fault} → Fails (
 fails_with a e = record { calm = e.calm; held = e.held; was = e.was; fails = finished_as a _ ∙ ap (swap a) e.fails }
 
 stops_with : {A : Type 0} (a : A) {s e : ℕ} {x z : Told} {stop : ReadStop} → Stops (finished (tt {0})) s e x z stop → Stops (finished a) s e x z stop
-stops_with a {stop = ReadFault} h = record { why = h.why; moves = h.moves }
-stops_with a {stop = BadDump place cause} h = record { why = fails_with a h.why; moves = h.moves }
+stops_with a {stop = ReadFault} h = record { why = h.why; moves = h.moves; less = h.less }
+stops_with a {stop = BadDump place cause} h = record { why = fails_with a h.why; moves = h.moves; less = h.less }
 
 pub exits_at_end : {A D : Type 0} (a : A) {other : D → A} {s e : ℕ} {x z : Told} {stop : ReadStop} {r : Result D ReadStop}
     → IsErrAnd r (λ y. y ≡ stop) → ReadsEnd as_it_is (finished (tt {0})) s e x z (Err stop) → ReadsEnd other (finished a) s e x z r

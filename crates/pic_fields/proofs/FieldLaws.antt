@@ -1,14 +1,17 @@
 -- A field of bytes, from what filling a room gave.
-use Rattle.std.proofs.Common.{◌≡◌, ℕ, ◌+◌, ◌<◌, ◌≤◌, List, [], ◌∷◌, ◌++◌, length, take, Option, Some, None, Ok, Err, refl, sym, ap, subst, ◌∙◌, arith, append-nil, length-append, ◌≢◌}
+use Rattle.std.proofs.Common.{◌≡◌, ℕ, ◌+◌, ◌<◌, ◌≤◌, List, [], ◌∷◌, ◌++◌, length, take, Option, Some, None, Result, Ok, Err, IsErrAnd, refl, sym, ap, subst, ◌∙◌, arith, append-nil, length-append, ◌≢◌}
 use Rattle.std.specs.Prelude.{option_map}
 use Rattle.std.proofs.lemmas.Bool.{lt-ltb, le-ltb}
 use Rattle.std.proofs.Math.Seq.{take-append_seam, drop-append_seam}
 use Rattle.std.proofs.lemmas.List.{take_all, length-take-le}
+use Rattle.std.proofs.lemmas.Result.{err_from_is_err_and}
 use Rattle.pic_io.specs.Told.{Told}
 use Rattle.pic_io.specs.Source.{with_front, IsAtEnd}
-use Rattle.pic_fields.specs.Parser.{input, fault, field, cut_short, too_many, finished}
-use Rattle.pic_fields.specs.Reads.{Left, Moves, HasRead, Fails, HasReadAll}
-use Rattle.pic_fields.specs.Fills.{Filled}
+use Rattle.pic_fields.specs.Parser.{input, fault, Parser, field, cut_short, too_many, finished}
+use Rattle.pic_fields.specs.Reads.{Left, Moves, HasRead, Fails, HasReadAll, Stops, Reads, ReadsEnd}
+use Rattle.pic_fields.specs.Fills.{Filled, Fills}
+use Rattle.pic_fields.specs.declared.read_stop.ReadStop.{ReadStop}
+use Rattle.pic_fields.specs.declared.read_stop.ReadStop.TheVariants.{ReadFault, BadDump}
 use Rattle.pic_fields.proofs.ReadLaws.{some_rest}
 
 -- what was left before some bytes were taken
@@ -36,6 +39,11 @@ filled_moves before now room n place count is filled =
     let size = length-take-le count room most in
     record { front = take count room; moved = filled.taken; most = omega (arith, size, most, is) }
 
+pub filled_size : (before now : Told) (room : List ℕ) (n place count : ℕ) (is : length room ≡ n) (filled : Filled before now room count)
+    → length (filled_moves before now room n place count is filled).front ≡ count
+unfolding filled_moves
+filled_size before now room n place count is filled = let most = filled.most in length-take-le count room most
+
 pub read_field : (before now : Told) (room : List ℕ) (n place count : ℕ) → length room ≡ n → Filled before now room count → n ≤ count
     → HasRead (field n) place before room (place + n) now
 read_field before now room n place count is filled all =
@@ -44,8 +52,33 @@ read_field before now room n place count is filled all =
     subst (λ m. HasRead (field m) place before room (place + m) now) is (record {
       calm = filled.calm;
       moves = filled_moves before now room (length room) place count refl filled;
+      whole = omega (arith, filled.most, is, all, filled_size before now room (length room) place count refl filled);
       reads = λ rest left. (room ++ rest, left_before before.bytes now.bytes room rest taken left, field_is place room rest);
     })
+
+-- filling a room failed
+pub stops_filling : {A : Type 0} {p : Parser A} {s e : ℕ} {x z : Told} (room : List ℕ) (stop : ReadStop) → s + length room ≤ e → Fills x z room (Err stop)
+    → Stops p s e x z stop
+stops_filling room ReadFault fits breaks =
+    let part = breaks.less in
+    record {
+      why = breaks.rose;
+      moves = record { front = breaks.front; moved = breaks.moved; most = omega (arith, part, fits) };
+      less = λ same. omega (arith, part, fits);
+    }
+stops_filling room (BadDump place cause) fits breaks = absurd breaks
+
+pub exits_filling : {A D : Type 0} {p : Parser A} {other : D → A} {s e : ℕ} {x z : Told} {r : Result D ReadStop} (room : List ℕ) (stop : ReadStop)
+    → s + length room ≤ e → IsErrAnd r (λ y. y ≡ stop) → Fills x z room (Err stop) → Reads other p s e x z r
+exits_filling {r = r} room stop fits is breaks =
+    let q = err_from_is_err_and r is in
+    rw (q.1, q.2) (record { answer = stops_filling room stop fits breaks })
+
+pub exits_filling_end : {A D : Type 0} {p : Parser A} {other : D → A} {s e : ℕ} {x z : Told} {r : Result D ReadStop} (room : List ℕ) (stop : ReadStop)
+    → s + length room ≤ e → IsErrAnd r (λ y. y ≡ stop) → Fills x z room (Err stop) → ReadsEnd other p s e x z r
+exits_filling_end {r = r} room stop fits is breaks =
+    let q = err_from_is_err_and r is in
+    rw (q.1, q.2) (record { answer = stops_filling room stop fits breaks })
 
 -- what was taken is all there was
 pub all_taken : (before now : Told) (front : List ℕ) → before.bytes ≡ with_front front now.bytes → IsAtEnd now → Left before front

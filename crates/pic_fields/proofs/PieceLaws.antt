@@ -1,22 +1,29 @@
 -- What is read from a piece that was taken ahead is what the source would have given.
-use Rattle.std.proofs.Common.{◌≡◌, ℕ, ◌+◌, ◌≤◌, List, [], ◌∷◌, ◌++◌, length, take, Some, Result, Ok, Err, inl, inr, refl, ap, subst, ◌∙◌, arith}
+use Rattle.std.proofs.Common.{◌≡◌, ℕ, ◌+◌, ◌≤◌, List, [], ◌∷◌, ◌++◌, length, take, Some, Result, Ok, Err, inl, inr, refl, ap, subst, ◌∙◌, arith, length-append}
 use Rattle.std.specs.Prelude.{option_map}
 use Rattle.std.proofs.lemmas.Bool.{cases_lt}
 use Rattle.std.proofs.lemmas.List.{length-take-le}
 use Rattle.pic_io.specs.Told.{Told}
+use Rattle.pic_io.specs.Source.{with_front}
 use Rattle.pic_fields.specs.declared.read_stop.ReadStop.{ReadStop}
 use Rattle.pic_fields.specs.declared.read_stop.ReadStop.TheVariants.{ReadFault, BadDump}
 use Rattle.pic_fields.specs.Parser.{Parser, Fault, input}
 use Rattle.pic_fields.specs.Reads.{HasRead, Fails, Stops, Reads}
 use Rattle.pic_fields.specs.Fills.{Filled}
 use Rattle.pic_fields.specs.Pieces.{piece_told}
-use Rattle.pic_fields.proofs.ReadLaws.{some_rest, moves_up}
-use Rattle.pic_fields.proofs.FieldLaws.{left_before, all_taken, filled_moves}
+use Rattle.pic_fields.proofs.ReadLaws.{some_rest, moves_up, up_size}
+use Rattle.pic_fields.proofs.FieldLaws.{left_before, all_taken, filled_moves, filled_size}
 use Rattle.pic_fields.proofs.LengthLaws.{behind, Leaves, IsOfLength}
 
 -- what a piece told is what it held
 piece_held : (bytes held : List ℕ) → Some bytes ≡ option_map (λ _. held) (Some bytes) → held ≡ bytes
 piece_held bytes held was = cc
+
+-- and what was taken of it and what is left are all of it
+piece_parts : (bytes front left : List ℕ) → Some bytes ≡ with_front front (Some left) → length bytes ≡ length front + length left
+piece_parts bytes front left is =
+    let same : bytes ≡ front ++ left = cc in
+    ap (λ (l : List ℕ). length l) same ∙ length-append front left
 
 none_left : (xs : List ℕ) → length xs ≡ 0 → xs ≡ []
 none_left [] is = refl
@@ -34,9 +41,13 @@ read_piece {p = p} {s = s} {e = e} {x = x} {z = z} {a = a} n count room left siz
     let most = filled.most in
     let long = length-take-le count room most in
     let none = none_left left (omega (arith, leaves, long, most, size)) in
+    let parts = piece_parts bytes read.moves.front left read.moves.moved in
+    let taken = filled_moves x z room n s count size filled in
+    let sizes : length (moves_up fits taken).front ≡ count = up_size fits taken ∙ filled_size x z room n s count size filled in
     record {
       calm = filled.calm;
-      moves = moves_up fits (filled_moves x z room n s count size filled);
+      moves = moves_up fits taken;
+      whole = omega (arith, leaves, long, most, size, read.whole, parts, sizes);
       reads = λ rest after. (
         bytes ++ rest,
         left_before x.bytes z.bytes bytes rest filled.taken after,
@@ -77,6 +88,7 @@ stops_piece {stop = ReadFault} n count room left sized size fits filled stops = 
 stops_piece {s = s} {x = x} {z = z} {stop = BadDump place cause} n count room left sized size fits filled stops = record {
   why = fails_piece n count room left sized size filled stops.why;
   moves = moves_up fits (filled_moves x z room n s count size filled);
+  less = λ same. cc;
 }
 
 -- a call that reads from a piece of n bytes, which is cut only at the end of the input

@@ -1,5 +1,5 @@
 -- What calls gave one after another, held against the format that they read.
-use Rattle.std.proofs.Common.{◌≡◌, ℕ, ◌≤◌, Bool, true, false, List, [], ◌++◌, Option, Some, None, Result, Ok, Err, IsErrAnd, refl, ap, subst, ◌∙◌, arith, length-append}
+use Rattle.std.proofs.Common.{◌≡◌, ℕ, ◌+◌, ◌<◌, ◌≤◌, Bool, true, false, List, [], ◌++◌, length, Option, Some, None, Result, Ok, Err, IsErrAnd, refl, ap, subst, ◌∙◌, arith, length-append}
 use Rattle.std.proofs.lemmas.Result.{err_from_is_err_and}
 use Rattle.std.specs.Prelude.{option_map}
 use Rattle.pic_io.specs.Told.{Told, Rose, Calm, raised}
@@ -53,12 +53,27 @@ moves_none s x = record { front = []; moved = same_front x.bytes; most = omega a
 pub moves_up : {s e d : ℕ} {x z : Told} → e ≤ d → Moves s e x z → Moves s d x z
 moves_up less first = let most = first.most in record { front = first.front; moved = first.moved; most = omega (arith, most, less) }
 
+-- how many bytes that were
+pub then_size : {s m e : ℕ} {x y z : Told} (first : Moves s m x y) (second : Moves m e y z)
+    → length (moves_then first second).front ≡ length first.front + length second.front
+unfolding moves_then
+then_size first second = length-append first.front second.front
+
+pub none_size : (s : ℕ) (x : Told) → length (moves_none s x).front ≡ 0
+unfolding moves_none
+none_size s x = refl
+
+pub up_size : {s e d : ℕ} {x z : Told} (less : e ≤ d) (first : Moves s e x z) → length (moves_up less first).front ≡ length first.front
+unfolding moves_up
+up_size less first = refl
+
 -- a value, and then another
 pub read_then : {A B : Type 0} {p : Parser A} (f : A → Parser B) {s m e : ℕ} {x y z : Told} {a : A} {b : B}
     → HasRead p s x a m y → HasRead (f a) m y b e z → HasRead (p >>= f) s x b e z
 read_then f first second = record {
   calm = second.calm ∙ first.calm;
   moves = moves_then first.moves second.moves;
+  whole = omega (arith, first.whole, second.whole, then_size first.moves second.moves);
   reads = λ rest left. (let (h2, left2, e2) = second.reads rest left in
       let (h1, left1, e1) = first.reads h2 left2 in
       (h1, left1, then_ok _ f _ _ _ e1 ∙ e2));
@@ -90,19 +105,29 @@ ends_then f first second =
       reads = then_ok _ f _ _ _ e1 ∙ second.reads;
     }
 
+-- a read that failed took no more by further bytes that it might have taken
+part_up : {A : Type 0} {p : Parser A} {s e d : ℕ} {x z : Told} {stop : ReadStop} (less : e ≤ d) (h : Stops p s e x z stop) → stop ≡ ReadFault
+    → s + length (moves_up less h.moves).front < d
+part_up less h same = let part = h.less same in omega (arith, part, less, up_size less h.moves)
+
 -- why a call stopped, where it is the first part, or comes after one
 pub stops_first : {A B : Type 0} {p : Parser A} (f : A → Parser B) {s e d : ℕ} {x z : Told} {stop : ReadStop} → e ≤ d → Stops p s e x z stop
     → Stops (p >>= f) s d x z stop
-stops_first f {stop = ReadFault} less first = record { why = first.why; moves = moves_up less first.moves }
-stops_first f {stop = BadDump place cause} less first = record { why = fails_first f first.why; moves = moves_up less first.moves }
+stops_first f {stop = ReadFault} less first = record { why = first.why; moves = moves_up less first.moves; less = part_up less first }
+stops_first f {stop = BadDump place cause} less first =
+    record { why = fails_first f first.why; moves = moves_up less first.moves; less = λ same. cc }
 
 pub stops_then : {A B : Type 0} {p : Parser A} (f : A → Parser B) {s m e : ℕ} {x y z : Told} {a : A} {stop : ReadStop}
     → HasRead p s x a m y → Stops (f a) m e y z stop → Stops (p >>= f) s e x z stop
 stops_then f {x = x} {y = y} {z = z} {stop = ReadFault} first second = record {
   why = rose_after x y z first.calm second.why;
   moves = moves_then first.moves second.moves;
+  less = λ same. (let part = second.less same in
+      let most = first.moves.most in
+      omega (arith, part, most, then_size first.moves second.moves));
 }
-stops_then f {stop = BadDump place cause} first second = record { why = fails_then f first second.why; moves = moves_then first.moves second.moves }
+stops_then f {stop = BadDump place cause} first second =
+    record { why = fails_then f first second.why; moves = moves_then first.moves second.moves; less = λ same. cc }
 
 -- a call after a value
 pub goes_on : {A B C : Type 0} {p : Parser A} (f : A → Parser B) {view : C → B} {s m e : ℕ} {x y z : Told} {a : A} {r : Result C ReadStop}
@@ -133,7 +158,7 @@ exits_to_end f {stop = stop} {r = r} less is first =
 -- a value that takes no bytes
 pub read_done : {A : Type 0} (a : A) (s : ℕ) (x : Told) → HasRead (done a) s x a s x
 unfolding done
-read_done a s x = record { calm = refl; moves = moves_none s x; reads = λ rest left. (rest, left, refl) }
+read_done a s x = record { calm = refl; moves = moves_none s x; whole = omega (arith, none_size s x); reads = λ rest left. (rest, left, refl) }
 
 -- a value as another
 pub read_as : {A B : Type 0} {p : Parser A} (f : A → B) {s e : ℕ} {x z : Told} {a : A} → HasRead p s x a e z → HasRead (mapped f p) s x (f a) e z
@@ -172,6 +197,7 @@ unfolding checked
 passes cause test first is = record {
   calm = first.calm;
   moves = first.moves;
+  whole = first.whole;
   reads = λ rest left. (let (held, was, e1) = first.reads rest left in
       (held, was, ap (tested_by _ cause test) e1 ∙ tested_true _ cause test _ is));
 }
@@ -188,7 +214,7 @@ refused cause test {z = z} first is =
 -- a call that refuses a value
 pub refuses : {A : Type 0} {p : Parser A} (cause : ℕ) (test : A → Bool) {s e : ℕ} {x z : Told} {a : A}
     → HasRead p s x a e z → test a ≡ false → Stops (checked cause test p) s e x z (BadDump s cause)
-refuses cause test first is = record { why = refused cause test first is; moves = first.moves }
+refuses cause test first is = record { why = refused cause test first is; moves = first.moves; less = λ same. cc }
 
 fails_checked : {A : Type 0} {p : Parser A} (cause : ℕ) (test : A → Bool) {s : ℕ} {x z : Told} {e : Fault} → Fails p s x e z
     → Fails (checked cause test p) s x e z
@@ -197,8 +223,9 @@ fails_checked cause test first = record { calm = first.calm; held = first.held; 
 
 pub stops_checked : {A : Type 0} {p : Parser A} (cause : ℕ) (test : A → Bool) {s e : ℕ} {x z : Told} {stop : ReadStop}
     → Stops p s e x z stop → Stops (checked cause test p) s e x z stop
-stops_checked cause test {stop = ReadFault} first = record { why = first.why; moves = first.moves }
-stops_checked cause test {stop = BadDump place c} first = record { why = fails_checked cause test first.why; moves = first.moves }
+stops_checked cause test {stop = ReadFault} first = record { why = first.why; moves = first.moves; less = first.less }
+stops_checked cause test {stop = BadDump place c} first =
+    record { why = fails_checked cause test first.why; moves = first.moves; less = first.less }
 
 pub exits_checked : {A C D : Type 0} {p : Parser A} (cause : ℕ) (test : A → Bool) {view : C → A} {other : D → A} {s e : ℕ} {x z : Told} {stop : ReadStop}
     {r : Result D ReadStop}
@@ -209,7 +236,7 @@ exits_checked cause test {stop = stop} {r = r} is first =
 
 -- further bytes that a call doesn't take
 pub stops_up : {A : Type 0} {p : Parser A} {s e d : ℕ} {x z : Told} {stop : ReadStop} → e ≤ d → Stops p s e x z stop → Stops p s d x z stop
-stops_up less h = record { why = h.why; moves = moves_up less h.moves }
+stops_up less h = record { why = h.why; moves = moves_up less h.moves; less = part_up less h }
 
 pub ended_up : {A : Type 0} {p : Parser A} {s e d : ℕ} {x z : Told} {a : A} → e ≤ d → HasReadAll p s e x a z → HasReadAll p s d x a z
 ended_up less h = record { calm = h.calm; moves = moves_up less h.moves; end = h.end; held = h.held; was = h.was; stop = h.stop; reads = h.reads }

@@ -12,12 +12,12 @@ pub record Filled (before now : Told) (room : List ℕ) (n : ℕ) : Type 0 where
   pub end : n < length room → IsAtEnd now
   pub calm : Calm before now
 
--- a read failed, and before it no more than the room's bytes were taken
+-- a read failed, and before it fewer bytes were taken than the room has
 pub record Breaks (before now : Told) (room : List ℕ) : Type 0 where
   pub rose : Rose before now
   pub front : List ℕ
   pub moved : before.bytes ≡ with_front front now.bytes
-  pub most : length front ≤ length room
+  pub less : length front < length room
 
 abbrev pub Fills : Told → Told → List ℕ → Result ℕ ReadStop → Type 0
 Fills before now room (Ok n) = Filled before now room n

@@ -1,5 +1,5 @@
 -- What a call that reads from a source gave, held against a format.
-use Rattle.std.specs.Prelude.{◌≡◌, ℕ, ◌+◌, ◌≤◌, List, [], length, option_map, Result, Ok, Err}
+use Rattle.std.specs.Prelude.{◌≡◌, ℕ, ◌+◌, ◌<◌, ◌≤◌, List, [], length, option_map, Result, Ok, Err}
 use Rattle.pic_io.specs.Told.{Told, Rose, Calm}
 use Rattle.pic_io.specs.Source.{with_front, IsAtEnd}
 use Rattle.pic_fields.specs.Parser.{Parser, Fault, fault, input}
@@ -16,11 +16,18 @@ pub record Moves (start end : ℕ) (before now : Told) : Type 0 where
   pub moved : before.bytes ≡ with_front front now.bytes
   pub most : start + length front ≤ end
 
--- a value was read from one place up to another: whatever is left now, what was there before is of
--- the format and gives the value
+-- what was taken begins at a place, and ends before another
+pub record MovesLess (start end : ℕ) (before now : Told) : Type 0 where
+  pub front : List ℕ
+  pub moved : before.bytes ≡ with_front front now.bytes
+  pub less : start + length front < end
+
+-- a value was read from one place up to another, all that lies between them: whatever is left now, what
+-- was there before is of the format and gives the value
 pub record HasRead {A : Type 0} (p : Parser A) (start : ℕ) (before : Told) (a : A) (end : ℕ) (now : Told) : Type 0 where
   pub calm : Calm before now
   pub moves : Moves start end before now
+  pub whole : start + length moves.front ≡ end
   pub reads : (rest : List ℕ) → Left now rest → (held : List ℕ) × Left before held × (p (input start held) ≡ Ok (a, input end rest))
 
 -- a fault was found, which is the first
@@ -44,10 +51,12 @@ abbrev pub Why : {A : Type 0} → Parser A → ℕ → Told → Told → ReadSto
 Why p start before now (BadDump place cause) = Fails p start before (fault place cause) now
 Why p start before now ReadFault = Rose before now
 
--- why a call gave no value: the first fault, or a read failed; no byte beyond `end` was taken
+-- why a call gave no value: the first fault, or a read failed; no byte beyond `end` was taken, and where a
+-- read failed not all of those before it
 pub record Stops {A : Type 0} (p : Parser A) (start end : ℕ) (before now : Told) (stop : ReadStop) : Type 0 where
   pub why : Why p start before now stop
   pub moves : Moves start end before now
+  pub less : stop ≡ ReadFault → start + length moves.front < end
 
 abbrev pub Answers : {A B : Type 0} → (B → A) → Parser A → ℕ → ℕ → Told → Told → Result B ReadStop → Type 0
 Answers view p start end before now (Ok b) = HasRead p start before (view b) end now

@@ -87,6 +87,9 @@ turn = [0, 0]
 points = [[64, 0, 0, 524288, 0, 0]]
 ";
 
+/// Its source of particles.
+pub const COARSE_POINTS: &str = "points = [[64, 0, 0, 524288, 0, 0]]";
+
 /// Two uncharged particles in a uniform field.
 pub const FAST: &str = "version = 1
 [grid]

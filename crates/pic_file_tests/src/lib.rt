@@ -1,7 +1,9 @@
-//! Tests of decks read and loaded, and of dumps written and verified, in a crate of their own: a
+//! Tests of decks read and loaded, and of dumps written, verified and carried on, in a crate of their own: a
 //! crate is proved a second time with its tests.
 #![tactic(auto)]
 
+#[cfg(test)]
+mod carry;
 #[cfg(test)]
 mod decks;
 #[cfg(test)]
@@ -10,6 +12,8 @@ mod demo;
 mod dump;
 #[cfg(test)]
 mod extents;
+#[cfg(test)]
+mod last_values;
 #[cfg(test)]
 mod load;
 #[cfg(test)]

@@ -1,6 +1,6 @@
 //! Decks that are refused: the first fault of each, in the order of the walk.
 
-use crate::decks::{COARSE, PAIR, SMALLEST, changed};
+use crate::decks::{COARSE, COARSE_POINTS, PAIR, SMALLEST, changed};
 use pic_deck::{DeckFault, Refusal, read_deck};
 use std::process::Abort;
 
@@ -8,7 +8,7 @@ use std::process::Abort;
 // numbers of a limit
 type Case = (&'static str, &'static str, &'static str);
 
-const FAULTS: [Case; 12] = [
+const FAULTS: [Case; 13] = [
     ("[grid]", "speed = 1\n[grid]", "unknown speed [0, 0, 0]"),
     (
         "cells = [2, 2, 2]",
@@ -44,6 +44,11 @@ const FAULTS: [Case; 12] = [
         "steps = 0",
         "steps = -1",
         "limit run.steps [-1, 0, 1000000]",
+    ),
+    (
+        "every = 1",
+        "filter = 0\nevery = 1",
+        "unknown run.filter [0, 0, 0]",
     ),
     ("[1, 4]", "[1, 63]", "limit scale.e_to_b[1] [63, 0, 62]"),
     ("[1, 4]", "[1]", "kind scale.e_to_b [0, 0, 0]"),
@@ -125,8 +130,8 @@ const SPECIES_FAULTS: [Case; 15] = [
     ("\"electron\"", "\"ion\"", "name species[1].name [0, 0, 0]"),
 ];
 
-// version 2: the key of the side, and limits by it
-const COARSE_FAULTS: [Case; 7] = [
+// version 2: the key of the side and limits by it, and the filter, which is read behind `every`
+const COARSE_FAULTS: [Case; 14] = [
     ("sub = 8\n", "", "missing grid.sub [0, 0, 0]"),
     ("sub = 8", "sub = 7", "limit grid.sub [7, 8, 14]"),
     ("sub = 8", "sub = 15", "limit grid.sub [15, 8, 14]"),
@@ -135,6 +140,22 @@ const COARSE_FAULTS: [Case; 7] = [
         "cells = [129, 2, 2]",
         "limit grid.cells[0] [129, 2, 128]",
     ),
+    (
+        "every = 1",
+        "filter = 2\nevery = 1",
+        "limit run.filter [2, 0, 1]",
+    ),
+    (
+        "every = 1",
+        "filter = -1\nevery = 1",
+        "limit run.filter [-1, 0, 1]",
+    ),
+    (
+        "every = 1",
+        "filter = true\nevery = 1",
+        "kind run.filter [0, 0, 0]",
+    ),
+    ("every = 1", "filter = 2", "missing run.every [0, 0, 0]"),
     (
         "[64, 0, 0,",
         "[1024, 0, 0,",
@@ -146,9 +167,27 @@ const COARSE_FAULTS: [Case; 7] = [
         "limit species[0].points[0][3] [1048577, -1048576, 1048576]",
     ),
     (
-        "points = [[64, 0, 0, 524288, 0, 0]]",
+        COARSE_POINTS,
         "lattice = { first = [0, 0, 0], gap = [0, 0, 0], count = [2048, 2049, 1], v = [0, 0, 0] }",
         "limit species[0] [4196352, 0, 4194304]",
+    ),
+    (
+        COARSE_POINTS,
+        "lattice = { first = [0, 0, 0], gap = [0, 0, 0], \
+        count = [4194304, 4194304, 4194304], v = [0, 0, 0] }",
+        "limit species[0] [73786976294838206464, 0, 4194304]",
+    ),
+    (
+        COARSE_POINTS,
+        "random = { count = 4194305 }",
+        "limit species[0].random.count [4194305, 0, 4194304]",
+    ),
+    (
+        COARSE_POINTS,
+        "random = { count = 4194304, seed = 0, stream = 0, drift = [0, 0, 0], spread = [0, 0, 0] }\n\
+        [[species]]\nname = \"other\"\ncharge = 0\nmass = 1\nkick = [0, 0]\nturn = [0, 0]\n\
+        points = [[0, 0, 0, 0, 0, 0]]",
+        "limit species[1] [4194305, 0, 4194304]",
     ),
 ];
 

@@ -3,7 +3,7 @@
 ghost use Rattle.std.specs.Prelude.{◌≡◌, ◌≤◌, length, map, IfOk};
 ghost use Rattle.std.specs.List.{range_with_len};
 
-use pic_dump::{Head, Header, Heads, put_end, put_frame, put_header};
+use pic_dump::{Head, Header, HeaderSettings, Heads, put_end, put_frame, put_header};
 use pic_energy::Energies;
 use pic_grid::{Cells, EndMark, Lattice, Name, Snapshot};
 use pic_io::MemSink;
@@ -45,14 +45,15 @@ pub fn two_charges(alloc: Global) -> Result<Header, Fail> {
     let ion = head(alloc, b"ion", 1, 1836)?;
     let electron = head(alloc, b"electron", -1, 1)?;
     let species = Heads::from_vec(vec![in alloc; ion, electron]?);
-    Ok(Header::new(
-        1,
-        Cells::new([4, 4, 4], Sub::of_bits(12)),
-        1,
-        1,
+    let settings = HeaderSettings {
+        version: 1,
+        cells: Cells::new([4, 4, 4], Sub::of_bits(12)),
+        steps: 1,
+        every: 1,
+        filter: 0,
         scales,
-        species,
-    ))
+    };
+    Ok(Header::new(settings, species))
 }
 
 // Their state with the electron at x, and this value of E along x in the first cell.

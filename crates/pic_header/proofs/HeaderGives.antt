@@ -1,5 +1,5 @@
 -- What is read of a header, of any list of numbers: after how many steps a frame is due, and what is left.
-use Rattle.std.proofs.Common.{◌≡◌, ℕ, ◌+◌, ◌^◌, ◌≤◌, Bool, true, false, eqb, leb, List, drop, Ok, arith}
+use Rattle.std.proofs.Common.{◌≡◌, ℕ, ◌+◌, ◌≤◌, Bool, true, false, eqb, leb, List, drop, Ok, arith}
 use Rattle.std.specs.Prelude.{⊤, if◌then◌else◌}
 use Rattle.std.proofs.lemmas.Bool.{and_parts, leb-true}
 use Rattle.pic_grid.specs.Species.{HeadView}
@@ -8,9 +8,8 @@ use Rattle.pic_fields.specs.Number.{byte_at}
 use Rattle.pic_fields.proofs.GiveLaws.{Gives, further_place, gives_any, gives_done, gives_then, gives_mapped, gives_checked, gives_field, gives_each}
 use Rattle.pic_fields.proofs.GiveLaws.{gives_within, gives_between, gives_exactly}
 use Rattle.pic_header.specs.Header.{HeaderView}
-use Rattle.pic_header.specs.HeaderFields.{version_at, mark_at, axis_at, cells_at, mult_at, scales_at, front_at, form_of_2, form_at, kind_at, name_of, name_at}
+use Rattle.pic_header.specs.HeaderFields.{version_at, mark_at, axis_at, cells_at, mult_at, scales_at, front_at, form_of_1, form_of_2, form_at, kind_at, name_of, name_at}
 use Rattle.pic_header.specs.HeaderFields.{head_at, heads_at, header_at, header_length}
-use Rattle.pic_num.specs.Limits.{allowance_of}
 use Rattle.pic_header.proofs.RunLaws.{header_place}
 
 gives_mark : Gives mark_at (λ version. ⊤)
@@ -39,11 +38,11 @@ gives_front version =
     gives_then (gives_cells version) (λ cells is. gives_then (gives_within _ _ _) (λ steps is. gives_then (gives_within _ 1 _)
     (λ every within. gives_then gives_scales (λ scales is. gives_done _ (leb-true 1 every (and_parts (leb 1 every) (leb every _) within).0)))))
 
-gives_form : (version : ℕ) → Gives (form_at version) (λ side. ⊤)
+gives_form : (version : ℕ) → Gives (form_at version) (λ form. ⊤)
 unfolding form_at form_of_2
 gives_form version = go (eqb version 1)
   where
-    go : (first : Bool) → Gives (if first then done (2 ^ (allowance_of version).least_bits) else form_of_2) (λ side. ⊤)
+    go : (first : Bool) → Gives (if first then done (form_of_1 version) else form_of_2) (λ form. ⊤)
     go true = gives_done _ tt
     go false =
         gives_then (gives_within _ _ _) (λ bits is. gives_then (gives_within _ _ _) (λ filter is. gives_then (gives_within _ _ _)
@@ -69,7 +68,7 @@ gives_header : Gives header_at (λ h. 1 ≤ h.every)
 unfolding header_at
 gives_header =
     gives_then gives_mark (λ version is. gives_then (gives_front version) (λ front least. gives_then (gives_form version)
-    (λ side is. gives_then (gives_heads _) (λ heads is. gives_done _ least))))
+    (λ form is. gives_then (gives_heads _) (λ heads is. gives_done _ least))))
 
 -- behind the header stands what is that many bytes on
 pub header_left : (i j : Input) (h : HeaderView) → header_at i ≡ Ok (h, j)

@@ -9,7 +9,7 @@ use Rattle.std.proofs.lemmas.List.{length-append, length-drop}
 use Rattle.pic_num.specs.declared.motion.Kind.{Kind}
 use Rattle.pic_num.specs.declared.mult.Scales.{Scales}
 use Rattle.pic_num.specs.Bytes.{u32_bytes, i32_bytes}
-use Rattle.pic_num.specs.Limits.{most_version, allowance_of, fewest_cells_of_axis, fewest_bits, most_bits, most_species, most_mass}
+use Rattle.pic_num.specs.Limits.{most_version, allowance_of, fewest_cells_of_axis, fewest_bits, most_bits, most_filter, most_species, most_mass}
 use Rattle.pic_num.specs.Multiplier.{Multiplier}
 use Rattle.pic_num.specs.Space.{Triple}
 use Rattle.pic_num.specs.Sub.{bits_of, bits_of-side}
@@ -26,7 +26,7 @@ use Rattle.pic_header.specs.HeaderText.{head_bytes, heads_bytes, header_bytes}
 use Rattle.pic_header.specs.Header.{HeaderView}
 use Rattle.pic_header.specs.Limits.{most_steps}
 use Rattle.pic_header.specs.HeaderFields.{out_of_limits, wrong_letter, version_at, mark_at, axis_at, cells_at, mult_at, scales_at, kind_at, name_of, is_name_field}
-use Rattle.pic_header.specs.HeaderFields.{is_new_name_field, name_at, particles_of, head_at, heads_at, Front, front_at, form_of_2, form_at, header_of, header_at}
+use Rattle.pic_header.specs.HeaderFields.{is_new_name_field, name_at, particles_of, head_at, heads_at, Front, front_at, Form, form_of_1, form_of_2, form_at, header_of, header_at}
 
 abbrev FitsMult : Multiplier → Type 0
 FitsMult m = FitsI32 (is_between (negsuc 2147483646) (pos 2147483647)) m.n × (FitsU32 (is_from_to 0 62) m.k × (m ≡ record { n = m.n; k = m.k }))
@@ -247,19 +247,23 @@ bits_back bits side fits is =
     let (least, most) = and_parts (leb fewest_bits bits) (leb bits most_bits) fits.1 in
     ap bits_of is ∙ bits_of-side bits (leb-true fewest_bits bits least) (leb-true bits most_bits most)
 
-abbrev form_text_2 : ℕ → List ℕ
-form_text_2 side = u32_bytes (bits_of side) ++ u32_bytes 0 ++ u32_bytes 0
+abbrev form_text_2 : Form → List ℕ
+form_text_2 f = u32_bytes (bits_of f.side) ++ u32_bytes f.filter ++ u32_bytes 0
 
-abbrev FitsForm_2 : ℕ → Type 0
-FitsForm_2 side = FitsU32 (is_from_to fewest_bits most_bits) (bits_of side) × (FitsU32 is_none 0 × (side ≡ 2 ^ bits_of side))
+abbrev FitsForm_2 : Form → Type 0
+FitsForm_2 f =
+    FitsU32 (is_from_to fewest_bits most_bits) (bits_of f.side)
+    × (FitsU32 (is_from_to 0 most_filter) f.filter × (f ≡ record { side = 2 ^ bits_of f.side; filter = f.filter }))
 
 spells_form_2 : Spells form_of_2 form_text_2 FitsForm_2
 unfolding form_of_2 mapped
 spells_form_2 =
-    spells_so (λ side f. f) (λ side f. f) (λ side f. append_assoc (u32_bytes (bits_of side)) (u32_bytes 0) (u32_bytes 0))
-    (spells_bind bits_of (λ bits side f g. bits_back bits side f g.1) (spells_within out_of_limits fewest_bits most_bits)
-    (λ bits. spells_bind (λ (side : ℕ). 0) (λ filter side f g. none_is filter f) (spells_within out_of_limits 0 0)
-    (λ filter. spells_mapped (λ loops. 2 ^ bits) (λ (side : ℕ). 0) (λ side. side ≡ 2 ^ bits) (λ side is. (omega arith, refl)) (λ side is. sym is)
+    spells_so (λ f fits. fits) (λ f fits. fits) (λ f fits. append_assoc (u32_bytes (bits_of f.side)) (u32_bytes f.filter) (u32_bytes 0))
+    (spells_bind (λ (f : Form). bits_of f.side) (λ bits f g h. bits_back bits f.side g (ap (λ (o : Form). o.side) h.1))
+    (spells_within out_of_limits fewest_bits most_bits)
+    (λ bits. spells_bind (λ (f : Form). f.filter) (λ filter f g h. ap (λ (o : Form). o.filter) h) (spells_within out_of_limits 0 most_filter)
+    (λ filter. spells_mapped (λ loops. record { side = 2 ^ bits; filter = filter }) (λ (f : Form). 0)
+    (λ (f : Form). f ≡ record { side = 2 ^ bits; filter = filter }) (λ f is. (omega arith, refl)) (λ f is. sym is)
     (λ loops f. refl) none_is (spells_within out_of_limits 0 0))))
 
 -- nothing
@@ -276,30 +280,33 @@ spells_nothing a = record {
       });
 }
 
-abbrev form_text_by : Bool → ℕ → List ℕ
-form_text_by true side = []
-form_text_by false side = form_text_2 side
+abbrev form_text_by : Bool → Form → List ℕ
+form_text_by true f = []
+form_text_by false f = form_text_2 f
 
-abbrev pub FitsFormBy : Bool → ℕ → ℕ → Type 0
-FitsFormBy true version side = side ≡ 2 ^ (allowance_of version).least_bits
-FitsFormBy false version side = FitsForm_2 side
+abbrev pub FitsFormBy : Bool → ℕ → Form → Type 0
+FitsFormBy true version f = f ≡ form_of_1 version
+FitsFormBy false version f = FitsForm_2 f
 
 spells_form_by : (first : Bool) (version : ℕ)
-    → Spells (if first then done (2 ^ (allowance_of version).least_bits) else form_of_2) (form_text_by first) (FitsFormBy first version)
-spells_form_by true version = spells_nothing (2 ^ (allowance_of version).least_bits)
+    → Spells (if first then done (form_of_1 version) else form_of_2) (form_text_by first) (FitsFormBy first version)
+spells_form_by true version = spells_nothing (form_of_1 version)
 spells_form_by false version = spells_form_2
 
 spells_form : (version : ℕ) → Spells (form_at version) (form_text_by (eqb version 1)) (FitsFormBy (eqb version 1) version)
 unfolding form_at
 spells_form version = spells_form_by (eqb version 1) version
 
-form_is : (first : Bool) (side : ℕ) → (if first then [] else form_text_2 side) ≡ form_text_by first side
-form_is true side = refl
-form_is false side = refl
+form_is : (first : Bool) (f : Form) → (if first then [] else form_text_2 f) ≡ form_text_by first f
+form_is true f = refl
+form_is false f = refl
 
 -- the whole header
 abbrev pub front_in : HeaderView → Front
 front_in h = front_of h.cells h.steps h.every h.scales
+
+abbrev pub form_in : HeaderView → Form
+form_in h = record { side = h.side; filter = h.filter }
 
 grouped : (a b c d e f g h : List ℕ) → a ++ b ++ c ++ d ++ e ++ f ++ g ++ h ≡ a ++ ((b ++ c ++ d ++ e) ++ (f ++ (g ++ h)))
 grouped a b c d e f g h =
@@ -307,12 +314,12 @@ grouped a b c d e f g h =
 
 -- behind the mark
 abbrev parts_text : ℕ → HeaderView → List ℕ
-parts_text version h = front_text (front_in h) ++ (form_text_by (eqb version 1) h.side ++ counted_bytes h.species)
+parts_text version h = front_text (front_in h) ++ (form_text_by (eqb version 1) (form_in h) ++ counted_bytes h.species)
 
 in_parts : (h : HeaderView) → header_bytes h ≡ mark_bytes h.version ++ parts_text h.version h
 unfolding header_bytes front_bytes form_bytes front_text counted_bytes
 in_parts h =
-    let form = form_is (eqb h.version 1) h.side in
+    let form = form_is (eqb h.version 1) (form_in h) in
     grouped (mark_bytes h.version) (cells_bytes h.cells) (u32_bytes h.steps) (u32_bytes h.every) (scales_bytes h.scales) (form_bytes h)
     (u32_bytes (length h.species)) (heads_bytes h.species)
     ∙ ap (λ l. mark_bytes h.version ++ (front_text (front_in h) ++ (l ++ counted_bytes h.species))) form
@@ -320,13 +327,13 @@ in_parts h =
 abbrev parts_at : ℕ → Parser HeaderView
 parts_at version =
     front_at version
-    >>= (λ front. form_at version >>= (λ side. heads_at (allowance_of version).particles >>= (λ heads. done (header_of version front side heads))))
+    >>= (λ front. form_at version >>= (λ form. heads_at (allowance_of version).particles >>= (λ heads. done (header_of version front form heads))))
 
 abbrev FitsParts : ℕ → HeaderView → Type 0
 FitsParts version h =
     FitsFront version (front_in h)
-    × (FitsFormBy (eqb version 1) version h.side
-    × (FitsHeads (allowance_of version).particles h.species × (h ≡ header_of version (front_in h) h.side h.species)))
+    × (FitsFormBy (eqb version 1) version (form_in h)
+    × (FitsHeads (allowance_of version).particles h.species × (h ≡ header_of version (front_in h) (form_in h) h.species)))
 
 abbrev pub FitsHeader : HeaderView → Type 0
 FitsHeader h = FitsMark h.version × FitsParts h.version h
@@ -335,8 +342,8 @@ spells_parts : (version : ℕ) → Spells (parts_at version) (λ h. parts_text h
 spells_parts version =
     spells_so (λ h fits. fits) (λ h fits. fits) (λ h fits. ap (λ v. parts_text v h) (ap (λ (o : HeaderView). o.version) fits.1.1.1))
     (spells_bind front_in (λ a h f g. ap front_in g.1.1) (spells_front version)
-    (λ front. spells_bind (λ (h : HeaderView). h.side) (λ b h f g. ap (λ (o : HeaderView). o.side) g.1) (spells_form version)
-    (λ side. spells_last (header_of version front side) (λ (h : HeaderView). h.species) (λ e. refl) (spells_heads (allowance_of version).particles))))
+    (λ front. spells_bind form_in (λ b h f g. ap form_in g.1) (spells_form version)
+    (λ form. spells_last (header_of version front form) (λ (h : HeaderView). h.species) (λ e. refl) (spells_heads (allowance_of version).particles))))
 
 pub spells_header : Spells header_at header_bytes FitsHeader
 unfolding header_at

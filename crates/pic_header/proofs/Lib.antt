@@ -4,6 +4,7 @@ pub mod HeadReadLaws
 pub mod RunLaws
 pub mod HeaderGives
 pub mod WithinLaws
+pub mod LessLaws
 pub mod HeaderSpells
 pub mod SpellingLaws
 pub mod ReadableHeader

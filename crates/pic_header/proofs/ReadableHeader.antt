@@ -14,7 +14,7 @@ use Rattle.std.proofs.lemmas.List.Folds.{list_any_none}
 use Rattle.std.proofs.lemmas.List.Sums.{sum_by_more_le}
 use Rattle.std.proofs.lemmas.Slice.Eq.{bytes_eq-Decides}
 use Rattle.pic_num.specs.Multiplier.{Multiplier, IsMultiplier}
-use Rattle.pic_num.specs.Limits.{most_version, allowance_of, fewest_cells_of_axis, fewest_bits, most_bits, most_mass, most_species}
+use Rattle.pic_num.specs.Limits.{most_version, allowance_of, fewest_cells_of_axis, fewest_bits, most_bits, most_filter, most_mass, most_species}
 use Rattle.pic_num.specs.Sub.{bits_of}
 use Rattle.pic_num.specs.Versions.{IsSideOf}
 use Rattle.pic_num.proofs.VersionLaws.{within_scheme, side_of_version_1}
@@ -27,8 +27,8 @@ use Rattle.pic_fields.proofs.SpellLaws.{fits_each}
 use Rattle.pic_header.specs.HeaderText.{name_bytes, header_bytes}
 use Rattle.pic_header.specs.Header.{HeaderView, IsHeader, HasMultipliers}
 use Rattle.pic_header.specs.Limits.{most_steps}
-use Rattle.pic_header.specs.HeaderFields.{name_of, is_name_field, particles_of, header_length}
-use Rattle.pic_header.proofs.HeaderSpells.{FitsName, FitsHead, FitsFormBy, FitsHeader, spells_header}
+use Rattle.pic_header.specs.HeaderFields.{Form, name_of, is_name_field, particles_of, header_length}
+use Rattle.pic_header.proofs.HeaderSpells.{FitsName, FitsHead, FitsFormBy, form_in, FitsHeader, spells_header}
 use Rattle.pic_header.proofs.RunLaws.{header_place}
 use Rattle.pic_header.specs.Readable.{HeadersAreRead}
 use Rattle.pic_fields.proofs.FitLaws.{fits_from_to, fits_between}
@@ -130,14 +130,21 @@ fits_from_to_byte : (low high n : ℕ) → high < 256 → low ≤ n → n ≤ hi
 fits_from_to_byte low high n small least most = (omega (arith, small, most), and_from (leb low n) (leb n high) (le-leb low n least) (le-leb n high most))
 
 -- what version 2 says more
-form_fits : (first : Bool) (version side : ℕ) → eqb version 1 ≡ first → IsSideOf version side → FitsFormBy first version side
-form_fits true version side is sides =
+form_fits : (first : Bool) (version : ℕ) (f : Form) → eqb version 1 ≡ first → IsSideOf version f.side → f.filter ≤ (allowance_of version).filter
+    → FitsFormBy first version f
+form_fits true version f is sides few =
     let same = eqb-true version 1 is in
-    subst (λ v. side ≡ 2 ^ (allowance_of v).least_bits) (sym same) (side_of_version_1 side (subst (λ v. IsSideOf v side) same sides))
-form_fits false version side is sides =
+    let side = subst (λ v. f.side ≡ 2 ^ (allowance_of v).least_bits) (sym same) (side_of_version_1 f.side (subst (λ v. IsSideOf v f.side) same sides)) in
+    let none : f.filter ≤ 0 = subst (λ v. f.filter ≤ (allowance_of v).filter) same few in
+    let zero : f.filter ≡ 0 = omega (arith, none) in
+    λ i. record { side = side i; filter = zero i }
+form_fits false version f is sides few =
     let scheme = within_scheme version in (
-      fits_from_to fewest_bits most_bits (bits_of side) (omega arith) (le_trans scheme.least_bits sides.least) (le_trans sides.most scheme.greatest_bits),
-      ((omega arith, refl), sides.power),
+      fits_from_to fewest_bits most_bits (bits_of f.side) (omega arith) (le_trans scheme.least_bits sides.least) (le_trans sides.most scheme.greatest_bits),
+      (
+        fits_from_to 0 most_filter f.filter (omega arith) (omega arith) (le_trans few scheme.filter),
+        (λ i. record { side = sides.power i; filter = f.filter }),
+      ),
     )
 
 -- all parts of a header
@@ -178,7 +185,7 @@ header_fits h is =
           ),
         ),
         (
-          form_fits (eqb h.version 1) h.version h.side refl l.grid.sides,
+          form_fits (eqb h.version 1) h.version (form_in h) refl l.grid.sides l.filter,
           (
             (
               fits_from_to 0 most_species count (omega arith) (omega arith) heads.few,

@@ -1,5 +1,5 @@
 -- How many bytes the parts of a header take, and that no place lies before the start.
-use Rattle.std.proofs.Common.{◌≡◌, ℕ, zero, suc, ◌+◌, ◌*◌, ◌^◌, ◌≤◌, eqb, Bool, true, false, List, [], ◌∷◌, ◌++◌, length, Ok, Err, inl, inr}
+use Rattle.std.proofs.Common.{◌≡◌, ℕ, zero, suc, ◌+◌, ◌*◌, ◌≤◌, eqb, Bool, true, false, List, [], ◌∷◌, ◌++◌, length, Ok, Err, inl, inr}
 use Rattle.std.proofs.Common.{refl, sym, ap, subst, arith, length-append}
 use Rattle.std.specs.Prelude.{if◌then◌else◌}
 use Rattle.std.proofs.lemmas.Bool.{cases_lt, lt-ltb, le-ltb}
@@ -10,7 +10,7 @@ use Rattle.pic_header.specs.Header.{HeaderView}
 use Rattle.pic_grid.specs.Species.{HeadView}
 use Rattle.pic_num.specs.Limits.{allowance_of}
 use Rattle.pic_header.specs.HeaderText.{form_length}
-use Rattle.pic_header.specs.HeaderFields.{version_at, mark_at, axis_at, cells_at, mult_at, scales_at, front_at, form_of_2, form_at, kind_at, name_at}
+use Rattle.pic_header.specs.HeaderFields.{version_at, mark_at, axis_at, cells_at, mult_at, scales_at, front_at, form_of_1, form_of_2, form_at, kind_at, name_at}
 use Rattle.pic_header.specs.HeaderFields.{head_at, heads_at, header_of, header_at, header_length}
 
 -- a value lies n bytes on, and a fault not before the start
@@ -171,7 +171,7 @@ pub runs_form : (version : ℕ) → Runs (form_at version) (form_length version)
 unfolding form_at
 runs_form version = go (eqb version 1)
   where
-    go : (first : Bool) → Runs (if first then done (2 ^ (allowance_of version).least_bits) else form_of_2) (if first then 0 else 12)
+    go : (first : Bool) → Runs (if first then done (form_of_1 version) else form_of_2) (if first then 0 else 12)
     go true = runs_done _
     go false = runs_form_of_2
 
@@ -224,13 +224,13 @@ unfolding header_at done
 header_place i j h is =
     let (version, i1, e1, r1) = bind_parts mark_at _ i j h is in
     let (front, i2, e2, r2) = bind_parts (front_at version) _ i1 j h r1 in
-    let (side, i3, e3, r3) = bind_parts (form_at version) _ i2 j h r2 in
-    let (heads, i4, e4, r4) = bind_parts (heads_at (allowance_of version).particles) (λ heads. done (header_of version front side heads)) i3 j h r3 in
+    let (form, i3, e3, r3) = bind_parts (form_at version) _ i2 j h r2 in
+    let (heads, i4, e4, r4) = bind_parts (heads_at (allowance_of version).particles) (λ heads. done (header_of version front form heads)) i3 j h r3 in
     let (value, here) = same_read _ h i4 j r4 in
     let size : 64 + form_length version + 60 * length heads ≡ header_length h = ap (λ (g : HeaderView). header_length g) value in
     let end : i4.place ≡ j.place = ap (λ (k : Input). k.place) here in
     let a : i1.place ≡ i.place + 8 = place_by _ 8 i i1 version runs_mark e1 in
     let b : i2.place ≡ i1.place + 52 = place_by _ 52 i1 i2 front (runs_front version) e2 in
-    let c : i3.place ≡ i2.place + form_length version = place_by _ (form_length version) i2 i3 side (runs_form version) e3 in
+    let c : i3.place ≡ i2.place + form_length version = place_by _ (form_length version) i2 i3 form (runs_form version) e3 in
     let d : i4.place ≡ i3.place + 4 + 60 * length heads = heads_end _ i3 i4 heads e4 in
     omega (arith, a, b, c, d, size, end)

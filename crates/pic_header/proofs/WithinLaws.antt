@@ -11,7 +11,7 @@ use Rattle.pic_header.specs.HeadReads.{reach_of, TakesWithin}
 use Rattle.pic_header.proofs.RunLaws.{RunsTo, Runs, IsNotBefore, GoesOn, goes_done, goes_then}
 
 -- a part of so few bytes was read, or some of it
-short_reach : {A : Type 0} (s n : ℕ) (r : Parsed A) → n ≤ 32 → RunsTo s n r → s + n ≤ reach_of r
+pub short_reach : {A : Type 0} (s n : ℕ) (r : Parsed A) → n ≤ 32 → RunsTo s n r → s + n ≤ reach_of r
 short_reach s n (Ok x) few on = omega (arith, on)
 short_reach s n (Err f) few on = omega (arith, on, few)
 
@@ -25,7 +25,7 @@ on_reach : {A : Type 0} (s : ℕ) (r : Parsed A) → IsNotBefore s r → s ≤ r
 on_reach s (Ok x) on = on
 on_reach s (Err f) on = omega (arith, on)
 
-reach_after : {A B : Type 0} (r : Parsed A) (f : A → Parser B) → ((a : A) → GoesOn (f a)) → reach_of r ≤ reach_of (after r f)
+pub reach_after : {A B : Type 0} (r : Parsed A) (f : A → Parser B) → ((a : A) → GoesOn (f a)) → reach_of r ≤ reach_of (after r f)
 reach_after (Ok x) f second = on_reach x.1.place (f x.0 x.1) ((second x.0).on x.1)
 reach_after (Err e) f second = omega arith
 
@@ -51,14 +51,22 @@ known_left : (now : Option (List ℕ)) (rest : List ℕ) → now ≡ Some rest �
 known_left None rest is = absurd cc
 known_left (Some known) rest is = is
 
+-- a part was read of known bytes: what follows is read of the known bytes that are left
+pub after_known : {A B : Type 0} {p : Parser A} (f : A → Parser B) {s m : ℕ} {x y : Told} {a : A} (bytes : List ℕ)
+    → HasRead p s x a m y → x.bytes ≡ Some bytes → (rest : List ℕ) × (y.bytes ≡ Some rest) × ((p >>= f) (input s bytes) ≡ f a (input m rest))
+after_known {p = p} f {s = s} {m = m} {x = x} {y = y} {a = a} bytes first told =
+    let (rest, known) = left_known first.moves.front bytes y.bytes (sym told ∙ first.moves.moved) in
+    let (held, was, e1) = first.reads rest (known_left y.bytes rest known) in (
+      rest,
+      known,
+      ap (λ b. (p >>= f) (input s b)) (sym (told_held x.bytes bytes held told was)) ∙ then_ok p f (input s held) (input m rest) a e1,
+    )
+
 -- a part was read, and then more
 pub within_then : {A B : Type 0} {p : Parser A} (f : A → Parser B) {s m : ℕ} {x y z : Told} {a : A}
     → HasRead p s x a m y → TakesWithin (f a) m y z → TakesWithin (p >>= f) s x z
-within_then {p = p} f {s = s} {m = m} {x = x} {y = y} {z = z} {a = a} first second = record {
-  moves = λ bytes told. (let (rest, known) = left_known first.moves.front bytes y.bytes (sym told ∙ first.moves.moved) in
-      let (held, was, e1) = first.reads rest (known_left y.bytes rest known) in
-      let is : (p >>= f) (input s bytes) ≡ f a (input m rest) =
-      ap (λ b. (p >>= f) (input s b)) (sym (told_held x.bytes bytes held told was)) ∙ then_ok p f (input s held) (input m rest) a e1 in
+within_then f {s = s} {x = x} {z = z} first second = record {
+  moves = λ bytes told. (let (rest, known, is) = after_known f bytes first told in
       subst (λ r. Moves s (reach_of r) x z) (sym is) (moves_then first.moves (second.moves rest known)));
 }
 

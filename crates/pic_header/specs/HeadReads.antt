@@ -2,7 +2,7 @@
 use Rattle.std.specs.Prelude.{◌≡◌, ℕ, ◌+◌, List, Result, Some, Ok, Err}
 use Rattle.pic_io.specs.Told.{Told, Calm}
 use Rattle.pic_fields.specs.Parser.{Parser, Parsed, input}
-use Rattle.pic_fields.specs.Reads.{Moves, HasRead, Stops}
+use Rattle.pic_fields.specs.Reads.{Moves, MovesLess, HasRead, Stops}
 use Rattle.pic_header.specs.Limits.{most_letters}
 use Rattle.pic_header.specs.declared.head_stop.HeadStop.{HeadStop}
 use Rattle.pic_header.specs.declared.head_stop.HeadStop.TheVariants.{Read, NoMemory}
@@ -33,3 +33,8 @@ reach_of (Err f) = f.place + most_letters
 pub record TakesWithin {A : Type 0} (p : Parser A) (start : ℕ) (before now : Told) : Type 0 where
   pub moves : (bytes : List ℕ) → before.bytes ≡ Some bytes
       → Moves start (reach_of (p (input start bytes))) before now
+
+-- and where a read failed, fewer: not all bytes of a value that is there
+pub record TakesLess {A : Type 0} (p : Parser A) (start : ℕ) (before now : Told) : Type 0 where
+  pub moves : (bytes : List ℕ) → before.bytes ≡ Some bytes
+      → MovesLess start (reach_of (p (input start bytes))) before now

@@ -6,32 +6,43 @@ use Rattle.pic_num.specs.Limits.{allowance_of}
 use Rattle.pic_num.specs.Multiplier.{IsMultiplier}
 use Rattle.pic_num.specs.Space.{Triple}
 use Rattle.pic_num.specs.Versions.{IsVersion, IsGridOf}
-use Rattle.pic_grid.specs.Cells.{Grid, IsCells}
+use Rattle.pic_grid.specs.Cells.{IsCells}
 use Rattle.pic_grid.specs.Species.{HeadView, AreHeads}
+use Rattle.pic_header.specs.declared.header.HeaderSettings.{HeaderSettings}
 use Rattle.pic_header.specs.Limits.{most_steps}
 
 -- a header: the version of its dump, the numbers of cells, the side of a cell, the steps, after how many
--- of them a frame is due, the multipliers, and the species
+-- of them a frame is due, the filter of the current, the multipliers, and the species
 pub record HeaderView : Type 0 where
   pub version : ℕ
   pub cells : Triple
   pub side : ℕ
   pub steps : ℕ
   pub every : ℕ
+  pub filter : ℕ
   pub scales : Scales
   pub species : List HeadView
 
 -- the header of these parts
-abbrev pub header_with : ℕ → Grid → ℕ → ℕ → Scales → List HeadView → HeaderView
-header_with version grid steps every scales species = record {
-  version = version;
-  cells = grid.n;
-  side = grid.side;
-  steps = steps;
-  every = every;
-  scales = scales;
+abbrev pub header_with : HeaderSettings → List HeadView → HeaderView
+header_with settings species = record {
+  version = settings.version;
+  cells = settings.cells.n;
+  side = settings.cells.side;
+  steps = settings.steps;
+  every = settings.every;
+  filter = settings.filter;
+  scales = settings.scales;
   species = species;
 }
+
+-- a header with another number of steps
+abbrev pub with_steps : ℕ → HeaderView → HeaderView
+with_steps steps h = record h { steps = steps }
+
+-- the header of the version 2 spelling: that of a dump of version 2 is itself
+abbrev pub upgraded : HeaderView → HeaderView
+upgraded h = record h { version = 2 }
 
 -- numbers of cells that a version allows
 pub record AreCellsOf (version : ℕ) (n : Triple) : Type 0 where
@@ -47,6 +58,7 @@ pub record HasLimits (h : HeaderView) : Type 0 where
   pub steps_most : h.steps ≤ most_steps
   pub every_least : 1 ≤ h.every
   pub every_most : h.every ≤ most_steps
+  pub filter : h.filter ≤ (allowance_of h.version).filter
   pub heads : AreHeads (allowance_of h.version).particles h.species
 
 -- the limits of the four multipliers

@@ -4,7 +4,7 @@ use Rattle.std.specs.Prelude.{bytes_eq, List, [], ◌∷◌, length, drop, sum_b
 use Rattle.std.specs.List.{list_all, list_any}
 use Rattle.pic_num.specs.declared.motion.Kind.{Kind}
 use Rattle.pic_num.specs.declared.mult.Scales.{Scales}
-use Rattle.pic_num.specs.Limits.{most_version, allowance_of, fewest_cells_of_axis, fewest_bits, most_bits, most_species, most_mass}
+use Rattle.pic_num.specs.Limits.{most_version, allowance_of, fewest_cells_of_axis, fewest_bits, most_bits, most_filter, most_species, most_mass}
 use Rattle.pic_num.specs.Multiplier.{Multiplier}
 use Rattle.pic_num.specs.Space.{Triple}
 use Rattle.pic_grid.specs.Species.{HeadView, no_head, IsName, IsKind, is_name_byte}
@@ -69,16 +69,25 @@ front_at version =
     >>= (λ every. scales_at
     >>= (λ scales. done (record { cells = cells; steps = steps; every = every; scales = scales })))))
 
--- what version 2 says more, of which the side is kept: a power of two, no filter and no loops; a cell of
--- version 1 has the one side
-unfoldable pub form_of_2 : Parser ℕ
+-- what version 2 says more: the side of a cell and the filter of the current
+pub record Form : Type 0 where
+  pub side : ℕ
+  pub filter : ℕ
+
+-- a cell of version 1 has the one side, and there is no filter
+abbrev pub form_of_1 : ℕ → Form
+form_of_1 version = record { side = 2 ^ (allowance_of version).least_bits; filter = 0 }
+
+-- the side is a power of two, and there are no loops
+unfoldable pub form_of_2 : Parser Form
 form_of_2 =
     within out_of_limits fewest_bits most_bits
-    >>= (λ bits. within out_of_limits 0 0
-    >>= (λ filter. within out_of_limits 0 0 >>= (λ loops. done (2 ^ bits))))
+    >>= (λ bits. within out_of_limits 0 most_filter
+    >>= (λ filter. within out_of_limits 0 0 >>= (λ loops. done (record { side = 2 ^ bits; filter = filter }))))
 
-unfoldable pub form_at : ℕ → Parser ℕ
-form_at version = if version == 1 then done (2 ^ (allowance_of version).least_bits) else form_of_2
+unfoldable pub form_at : ℕ → Parser Form
+form_at version =
+    if version == 1 then done (form_of_1 version) else form_of_2
 
 -- charge, mass and the two multipliers of a species
 unfoldable pub kind_at : Parser Kind
@@ -121,13 +130,14 @@ unfoldable pub heads_at : ℕ → Parser (List HeadView)
 heads_at most = within out_of_limits 0 most_species >>= (λ count. each count (head_at most))
 
 -- the header of these parts
-abbrev pub header_of : ℕ → Front → ℕ → List HeadView → HeaderView
-header_of version front side heads = record {
+abbrev pub header_of : ℕ → Front → Form → List HeadView → HeaderView
+header_of version front form heads = record {
   version = version;
   cells = front.cells;
-  side = side;
+  side = form.side;
   steps = front.steps;
   every = front.every;
+  filter = form.filter;
   scales = front.scales;
   species = heads;
 }
@@ -138,8 +148,8 @@ header_at =
     mark_at
     >>= (λ version. front_at version
     >>= (λ front. form_at version
-    >>= (λ side. heads_at (allowance_of version).particles
-    >>= (λ heads. done (header_of version front side heads)))))
+    >>= (λ form. heads_at (allowance_of version).particles
+    >>= (λ heads. done (header_of version front form heads)))))
 
 -- how many bytes a header has
 abbrev pub header_length : HeaderView → ℕ

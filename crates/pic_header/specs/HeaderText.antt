@@ -31,10 +31,10 @@ cells_bytes n = u32_bytes n.x ++ u32_bytes n.y ++ u32_bytes n.z
 unfoldable pub mark_bytes : ℕ → List ℕ
 mark_bytes version = codes "PICDUMP" ++ (zero_digit + version) ∷ []
 
--- what version 2 says more: which power of two the side of a cell is, that there is no filter, and how
+-- what version 2 says more: which power of two the side of a cell is, the filter of the current, and how
 -- many loops there are, which is none
 unfoldable pub form_bytes : HeaderView → List ℕ
-form_bytes h = if h.version == 1 then [] else u32_bytes (bits_of h.side) ++ u32_bytes 0 ++ u32_bytes 0
+form_bytes h = if h.version == 1 then [] else u32_bytes (bits_of h.side) ++ u32_bytes h.filter ++ u32_bytes 0
 
 -- how many bytes that has
 abbrev pub form_length : ℕ → ℕ

@@ -1,6 +1,6 @@
 //! The header of a dump, read.
 
-ghost use Rattle.std.specs.Prelude.{◌≡◌, ℤ, pos, negsuc, ◌+◌, ◌-◌, ◌*◌, ◌<◌, ◌≤◌, ◌≤ℤ◌, ◌^◌, IsTrue, length, map, IfOk};
+ghost use Rattle.std.specs.Prelude.{◌≡◌, ℤ, pos, negsuc, ◌+◌, ◌-◌, ◌*◌, ◌<◌, ◌≤◌, ◌≤ℤ◌, ◌^◌, IsTrue, length, map, Err, IfOk};
 ghost use Rattle.pic_num.specs.Limits.{fewest_cells_of_axis, most_species, most_steps, allowance_of};
 ghost use Rattle.pic_num.specs.Space.{triple};
 ghost use Rattle.pic_num.specs.Versions.{IsVersion, IsSideOf};
@@ -8,22 +8,25 @@ ghost use Rattle.pic_grid.specs.Species.{HeadView, IsName, IsKind, AreHeads};
 ghost use Rattle.pic_fields.specs.Causes.{cause_number};
 ghost use Rattle.pic_fields.specs.Parser.{each};
 ghost use Rattle.pic_fields.specs.Reads.{Reads, as_it_is};
+ghost use Rattle.pic_fields.specs.declared.read_stop.ReadStop.TheVariants.{ReadFault};
+ghost use Rattle.pic_header.specs.declared.head_stop.HeadStop.TheVariants.{Read};
 ghost use Rattle.pic_header.specs.Header.{HasLimits, AreCellsOf};
 ghost use Rattle.pic_header.specs.HeaderText.{form_length};
-ghost use Rattle.pic_header.specs.HeaderFields.{header_length, IsNewHead, Front as FrontOf, version_at, mark_at, axis_at, cells_at, front_at, form_of_2, form_at, mult_at, scales_at, kind_at, name_of, is_name_field, is_new_name_field, name_at, particles_of, head_at, heads_at, header_at, header_most};
-ghost use Rattle.pic_header.specs.HeadReads.{HeadReads, TakesWithin};
+ghost use Rattle.pic_header.specs.HeaderFields.{header_length, IsNewHead, Front as FrontOf, version_at, mark_at, axis_at, cells_at, front_at, Form as FormOf, form_of_2, form_at, mult_at, scales_at, kind_at, name_of, is_name_field, is_new_name_field, name_at, particles_of, head_at, heads_at, header_at, header_most};
+ghost use Rattle.pic_header.specs.HeadReads.{HeadReads, TakesWithin, TakesLess};
 
 use crate::head::{Head, Heads};
 use crate::head_stop::HeadStop;
-use crate::header::Header;
+use crate::header::{Header, HeaderSettings};
 use crate::heading::{HEAD_BYTES, ZERO_DIGIT, form_length};
 use crate::name_reader::read_name;
 use pic_fields::{Cause, ReadStop, is_from_to, read_between, read_byte, read_exactly, read_within};
 use pic_grid::{Cells, Name};
 use pic_io::Source;
 use pic_num::{
-    Kind, MAX_BITS, MAX_CHARGE, MAX_MASS, MAX_NUMERATOR, MAX_SHIFT, MAX_SPECIES, MAX_STEPS,
-    MAX_VERSION, MIN_BITS, MIN_CELLS, MIN_CHARGE, Mult, NoMemory, Scales, Sub, allowance_of,
+    Kind, MAX_BITS, MAX_CHARGE, MAX_FILTER, MAX_MASS, MAX_NUMERATOR, MAX_SHIFT, MAX_SPECIES,
+    MAX_STEPS, MAX_VERSION, MIN_BITS, MIN_CELLS, MIN_CHARGE, Mult, NoMemory, Scales, Sub,
+    allowance_of,
 };
 use std::alloc::Global;
 use std::marker::Model;
@@ -148,6 +151,8 @@ fn read_front<S: Source>(source: &mut S, version: u32, place: u64) -> Result<Fro
         (S.told source.new) result }
     ensures within { TakesWithin (front_at version) place (S.told source.old)
         (S.told source.new) }
+    ensures less { result ≡ Err ReadFault
+        → TakesLess (front_at version) place (S.told source.old) (S.told source.new) }
     ensures cells { IfOk result (λ f. AreCellsOf version f.cells) }
     ensures steps { IfOk result (λ f. f.steps ≤ most_steps) }
     ensures least { IfOk result (λ f. 1 ≤ f.every) }
@@ -168,31 +173,48 @@ fn read_front<S: Source>(source: &mut S, version: u32, place: u64) -> Result<Fro
     })
 }
 
-// Reads what version 2 says more: the side of a cell, no filter, and no loops.
-fn read_form_of_2<S: Source>(source: &mut S, place: u64) -> Result<Sub, ReadStop>
+// What version 2 says more: the side of a cell, and the filter of the current.
+#[derive(Drop)]
+struct Form {
+    side: Sub,
+    filter: u32,
+}
+
+impl Model for Form {
+    ghost Value = { FormOf };
+
+    ghost view = { λ f. record { side = f.side; filter = f.filter } };
+}
+
+// Reads what version 2 says more, and no loops.
+fn read_form_of_2<S: Source>(source: &mut S, place: u64) -> Result<Form, ReadStop>
     requires { place + 12 < 2 ^ 63 }
     ensures reads { Reads as_it_is form_of_2 place (place + 12) (S.told source.old)
         (S.told source.new) result }
-    ensures side { IfOk result (λ s. IsSideOf 2 s) }
+    ensures side { IfOk result (λ f. IsSideOf 2 f.side) }
+    ensures filter { IfOk result (λ f. f.filter ≤ (allowance_of 2).filter) }
 {
     let filter_place = place + 4;
     let loops_place = filter_place + 4;
     let bits = read_within(source, place, Cause::OutOfLimits, MIN_BITS, MAX_BITS)?;
-    let _filter = read_within(source, filter_place, Cause::OutOfLimits, 0, 0)?;
+    let filter = read_within(source, filter_place, Cause::OutOfLimits, 0, MAX_FILTER)?;
     let _loops = read_within(source, loops_place, Cause::OutOfLimits, 0, 0)?;
-    Ok(Sub::of_bits(bits))
+    let side = Sub::of_bits(bits);
+    Ok(Form { side, filter })
 }
 
-// Reads what a version says of the side of a cell, and behind it.
-fn read_form<S: Source>(source: &mut S, version: u32, place: u64) -> Result<Sub, ReadStop>
+// Reads what a version says of the side of a cell and of the filter, and behind them.
+fn read_form<S: Source>(source: &mut S, version: u32, place: u64) -> Result<Form, ReadStop>
     requires version { IsVersion version }
     requires place { place + 12 < 2 ^ 63 }
     ensures reads { Reads as_it_is (form_at version) place (place + form_length version)
         (S.told source.old) (S.told source.new) result }
-    ensures side { IfOk result (λ s. IsSideOf version s) }
+    ensures side { IfOk result (λ f. IsSideOf version f.side) }
+    ensures filter { IfOk result (λ f. f.filter ≤ (allowance_of version).filter) }
 {
     if version == 1 {
-        return Ok(Sub::of_bits(allowance_of(version).least_bits));
+        let side = Sub::of_bits(allowance_of(version).least_bits);
+        return Ok(Form { side, filter: 0 });
     }
     read_form_of_2(source, place)
 }
@@ -234,6 +256,8 @@ fn read_head<S: Source>(
         (place + 60) (S.told source.old) (S.told source.new) result }
     ensures within { TakesWithin (head_at most earlier.now) place (S.told source.old)
         (S.told source.new) }
+    ensures less { result ≡ Err (Read ReadFault)
+        → TakesLess (head_at most earlier.now) place (S.told source.old) (S.told source.new) }
     ensures new { IfOk result (λ h. IsNewHead most earlier.now h) }
 {
     let kind_place = place + 32;
@@ -267,6 +291,8 @@ fn read_each_head<S: Source>(
         (S.told source.new) result }
     ensures within { TakesWithin (each count (head_at most)) place (S.told source.old)
         (S.told source.new) }
+    ensures less { result ≡ Err (Read ReadFault)
+        → TakesLess (each count (head_at most)) place (S.told source.old) (S.told source.new) }
     ensures heads { IfOk result (λ hs. AreHeads most hs.items) }
 {
     let mut heads = Vec::new(alloc);
@@ -292,6 +318,8 @@ fn read_heads<S: Source>(
         (λ hs. place + 4 + 60 * length hs) (place + 4 + 60 * 16) (S.told source.old)
         (S.told source.new) result }
     ensures within { TakesWithin (heads_at most) place (S.told source.old) (S.told source.new) }
+    ensures less { result ≡ Err (Read ReadFault)
+        → TakesLess (heads_at most) place (S.told source.old) (S.told source.new) }
     ensures heads { IfOk result (λ hs. AreHeads most hs.items) }
 {
     let heads_place = place + 4;
@@ -304,21 +332,22 @@ pub fn read_header<S: Source>(alloc: Global, source: &mut S) -> Result<Header, H
     ensures reads { HeadReads (λ h. h) header_at 0 header_length
         header_most (S.told source.old) (S.told source.new) result }
     ensures within { TakesWithin header_at 0 (S.told source.old) (S.told source.new) }
+    ensures less { result ≡ Err (Read ReadFault)
+        → TakesLess header_at 0 (S.told source.old) (S.told source.new) }
     ensures few { IfOk result (λ h. length h.species ≤ most_species) }
 {
     let version = read_mark(source)?;
     let front = read_front(source, version, MARK_BYTES)?;
-    let side = read_form(source, version, FORM_PLACE)?;
+    let form = read_form(source, version, FORM_PLACE)?;
     let heads_place = FORM_PLACE + form_length(version);
     let heads = read_heads(alloc, source, heads_place, allowance_of(version).particles)?;
-    let cells = Cells::new(front.cells, side);
-    let species = Heads::from_vec(heads);
-    Ok(Header::new(
+    let settings = HeaderSettings {
         version,
-        cells,
-        front.steps,
-        front.every,
-        front.scales,
-        species,
-    ))
+        cells: Cells::new(front.cells, form.side),
+        steps: front.steps,
+        every: front.every,
+        filter: form.filter,
+        scales: front.scales,
+    };
+    Ok(Header::new(settings, Heads::from_vec(heads)))
 }

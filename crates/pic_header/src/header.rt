@@ -2,7 +2,8 @@
 
 ghost use Rattle.std.specs.Prelude.{◌≡◌, ◌≤◌, All, length};
 ghost use Rattle.pic_grid.specs.Cells.{IsCells};
-ghost use Rattle.pic_header.specs.Header.{HeaderView, header_with, HasLimits, HasMultipliers, AreMultipliers, IsHeader};
+ghost use Rattle.pic_header.specs.Header.{HeaderView, header_with, with_steps, upgraded, HasLimits, HasMultipliers, AreMultipliers, IsHeader};
+ghost use Rattle.pic_header.specs.Limits.{most_steps};
 ghost use Rattle.pic_header.specs.HeaderText.{header_bytes};
 ghost use Rattle.pic_header.specs.HeaderFields.{header_length, header_most};
 
@@ -13,55 +14,74 @@ use pic_grid::Cells;
 use pic_num::Scales;
 use std::marker::Model;
 
+/// The version that a header is upgraded to.
+const NEW_VERSION: u32 = 2;
+
 /// The header of a dump: its version, the numbers of cells and the side of a cell, the number of
-/// steps, after how many steps a frame is due, the four multipliers, and the species.
+/// steps, after how many steps a frame is due, the filter of the current, the four multipliers, and
+/// the species.
 ///
 /// `allowance_of` of `pic_num` says what the version allows of cells, their side and particles. There
 /// are at most 1000000 steps, a frame is due after 1 to 1000000 of them, and the species are at most
 /// 16, with names of their own. So a dump's reader refuses no number of it.
 #[derive(Debug, Drop)]
 pub struct Header {
-    version: u32,
-    cells: Cells,
-    steps: u32,
-    every: u32,
-    scales: Scales,
+    settings: HeaderSettings,
     species: Heads,
+}
+
+/// What a header says beside its species.
+#[derive(Clone, Copy, Debug)]
+pub struct HeaderSettings {
+    pub version: u32,
+    pub cells: Cells,
+    pub steps: u32,
+    pub every: u32,
+    pub filter: u32,
+    pub scales: Scales,
 }
 
 impl Model for Header {
     ghost Value = { HeaderView };
 
-    ghost view = { λ h. header_with h.version h.cells h.steps h.every h.scales h.species };
+    ghost view = { λ h. header_with h.settings h.species };
 
-    ghost invariant = { λ h. IsHeader
-        (header_with h.version h.cells h.steps h.every h.scales h.species) };
+    ghost invariant = { λ h. IsHeader (header_with h.settings h.species) };
 }
 
 impl Header {
     /// The header of numbers and species within the limits.
-    pub fn new(
-        version: u32,
-        cells: Cells,
-        steps: u32,
-        every: u32,
-        scales: Scales,
-        species: Heads,
-    ) -> Header
-        requires { HasLimits (header_with version cells steps every scales species) }
-        ensures { result ≡ header_with version cells steps every scales species }
+    pub fn new(settings: HeaderSettings, species: Heads) -> Header
+        requires { HasLimits (header_with settings species) }
+        ensures { result ≡ header_with settings species }
     {
-        keep_cells(cells);
-        keep_scales(&scales);
+        keep_cells(settings.cells);
+        keep_scales(&settings.scales);
         let species = keep_species(species);
-        Header {
-            version,
-            cells,
+        Header { settings, species }
+    }
+
+    /// The same header with another number of steps.
+    pub fn with_steps(self, steps: u32) -> Header
+        requires { steps ≤ most_steps }
+        ensures { result ≡ with_steps steps self }
+    {
+        let settings = HeaderSettings {
             steps,
-            every,
-            scales,
-            species,
-        }
+            ..self.settings
+        };
+        Header { settings, ..self }
+    }
+
+    /// The same header in version 2.
+    pub fn upgraded(self) -> Header
+        ensures { result ≡ upgraded self }
+    {
+        let settings = HeaderSettings {
+            version: NEW_VERSION,
+            ..self.settings
+        };
+        Header { settings, ..self }
     }
 
     /// The version of its dump.
@@ -69,7 +89,7 @@ impl Header {
         ensures value { result ≡ self.now.version }
         ensures limits { IsHeader self.now }
     {
-        self.version
+        self.settings.version
     }
 
     /// The numbers of cells and the side of a cell.
@@ -77,7 +97,7 @@ impl Header {
         ensures value { result.n ≡ self.now.cells }
         ensures side { result.side ≡ self.now.side }
     {
-        self.cells
+        self.settings.cells
     }
 
     /// The number of steps.
@@ -85,7 +105,7 @@ impl Header {
         ensures value { result ≡ self.now.steps }
         ensures limits { IsHeader self.now }
     {
-        self.steps
+        self.settings.steps
     }
 
     /// After how many steps a frame is due.
@@ -93,14 +113,22 @@ impl Header {
         ensures value { result ≡ self.now.every }
         ensures limits { IsHeader self.now }
     {
-        self.every
+        self.settings.every
+    }
+
+    /// The filter of the current: 0 for none, 1 for the binomial one.
+    pub fn filter(&self) -> u32
+        ensures value { result ≡ self.now.filter }
+        ensures limits { IsHeader self.now }
+    {
+        self.settings.filter
     }
 
     /// The four multipliers.
     pub fn scales(&self) -> Scales
         ensures { result ≡ self.now.scales }
     {
-        self.scales
+        self.settings.scales
     }
 
     /// The species.
@@ -118,7 +146,7 @@ impl Header {
         ensures most { header_length self.now ≤ header_most }
     {
         let species = self.species.as_slice().len() as u64;
-        FRONT_BYTES + form_length(self.version) + HEAD_BYTES * species
+        FRONT_BYTES + form_length(self.settings.version) + HEAD_BYTES * species
     }
 }
 

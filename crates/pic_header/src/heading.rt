@@ -83,7 +83,7 @@ fn push_mark(text: &mut HeaderText, version: u32)
     text.push(&[(ZERO_DIGIT + version) as u8]);
 }
 
-// What version 2 says more: which power of two the side is, no filter, and no loops.
+// What version 2 says more: which power of two the side is, the filter, and no loops.
 #[tactic(auto, unfolding(crate::specs::HeaderText::form_bytes))]
 fn push_form(text: &mut HeaderText, header: &Header)
     requires { length text.old + 12 ≤ header_most }
@@ -92,7 +92,7 @@ fn push_form(text: &mut HeaderText, header: &Header)
 {
     if header.version() != 1 {
         text.push_u32(header.cells().sub().bits());
-        text.push_u32(0);
+        text.push_u32(header.filter());
         text.push_u32(0);
     }
 }

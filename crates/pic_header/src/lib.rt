@@ -13,7 +13,7 @@ mod name_reader;
 pub use head::{Head, Heads};
 pub use head_reader::read_header;
 pub use head_stop::HeadStop;
-pub use header::Header;
+pub use header::{Header, HeaderSettings};
 pub use heading::put_header;
 pub use keeping::{keep_kind, keep_scales};
 pub use laws::{headers_are_read, headers_have_one_spelling};

@@ -2,7 +2,8 @@
 
 ghost use Rattle.std.specs.Prelude.{◌≡◌, false, IfOk};
 ghost use Rattle.clap.specs.Words.{app_of, rule_of};
-ghost use Rattle.pic_line.specs.CommandLine.{pic_app, workers_rule, seed_rule};
+ghost use Rattle.clap.specs.declared.builder.command.Command.TheViews.{out-Command};
+ghost use Rattle.pic_line.specs.CommandLine.{pic_app, resume_app, few_rule, seed_rule, steps_rule};
 
 use clap::Arg;
 use std::alloc::{AllocError, Global};
@@ -12,26 +13,41 @@ pub fn pic<'a>(alloc: Global) -> Result<clap::Command<'a>, AllocError>
     ensures { IfOk result (λ app. app_of app ≡ pic_app) }
 {
     let check = clap::Command::new(alloc, "check");
-    let run = clap::Command::new(alloc, "run").arg(workers(alloc))?;
+    let run = clap::Command::new(alloc, "run").arg(few(alloc, "workers"))?;
     let verify = clap::Command::new(alloc, "verify");
     let seeded = clap::Command::new(alloc, "demo").arg(seed(alloc))?;
-    let demo = seeded.arg(workers(alloc))?;
+    let demo = seeded.arg(few(alloc, "workers"))?;
     let upgrade = clap::Command::new(alloc, "upgrade");
     let one = clap::Command::new(alloc, "pic").subcommand(check)?;
     let two = one.subcommand(run)?;
     let three = two.subcommand(verify)?;
     let four = three.subcommand(demo)?;
-    let all = four.subcommand(upgrade)?;
+    let five = four.subcommand(upgrade)?;
+    let all = five.subcommand(resume(alloc)?)?;
     Ok(all)
 }
 
-// The option `--workers`.
-fn workers<'a>(alloc: Global) -> Arg<'a>
-    ensures rule { rule_of result ≡ workers_rule }
+// The subcommand `resume`.
+fn resume<'a>(alloc: Global) -> Result<clap::Command<'a>, AllocError>
+    ensures app { IfOk result (λ app. app_of app ≡ resume_app) }
+    ensures own { IfOk result (λ app. (out-Command app).has_globals ≡ false) }
+{
+    let named = clap::Command::new(alloc, "resume");
+    let one = named.arg(steps(alloc))?;
+    let two = one.arg(few(alloc, "workers"))?;
+    let three = two.arg(few(alloc, "tiles-x"))?;
+    let four = three.arg(few(alloc, "tiles-y"))?;
+    let all = four.arg(few(alloc, "tiles-z"))?;
+    Ok(all)
+}
+
+// An option `--NAME N` of 1 to 64, and 1 where it is absent.
+fn few<'a>(alloc: Global, name: &'a str) -> Arg<'a>
+    ensures rule { rule_of result ≡ few_rule name.entry.now }
     ensures own { result.global ≡ false }
 {
-    Arg::new(alloc, "workers")
-        .long("workers")
+    Arg::new(alloc, name)
+        .long(name)
         .value_parser(clap::value_parser!(u32).range(1..=64))
         .default_value("1")
 }
@@ -43,5 +59,16 @@ fn seed<'a>(alloc: Global) -> Arg<'a>
 {
     Arg::new(alloc, "SEED")
         .value_parser(clap::value_parser!(u32).range(0..=4294967295))
+        .required(true)
+}
+
+// The option `--steps`.
+fn steps<'a>(alloc: Global) -> Arg<'a>
+    ensures rule { rule_of result ≡ steps_rule }
+    ensures own { result.global ≡ false }
+{
+    Arg::new(alloc, "steps")
+        .long("steps")
+        .value_parser(clap::value_parser!(u32).range(0..=1000000))
         .required(true)
 }

@@ -11,13 +11,25 @@ pub enum Command {
     /// Reads the deck and says whether it can be run.
     Check,
     /// Runs the deck, on so many workers, 1 to 64.
-    Run { workers: u32 },
+    Run {
+        workers: u32,
+    },
     /// Reads a dump and holds it against Gauss's law.
     Verify,
     /// Runs the demonstration of this seed, on so many workers, 1 to 64.
-    Demo { seed: u32, workers: u32 },
+    Demo {
+        seed: u32,
+        workers: u32,
+    },
     /// Reads a dump and writes it in the spelling of version 2.
     Upgrade,
+    /// Reads a dump and goes on to so many steps in all, 0 to 1000000, on so many workers, 1 to 64, and
+    /// on so many tiles along each axis, 1 to 64.
+    Resume {
+        steps: u32,
+        workers: u32,
+        tiles: [u32; 3],
+    },
 }
 
 /// Why a line has no command.

@@ -1,8 +1,8 @@
 //! The words of a command line, read.
 
-ghost use Rattle.std.specs.Prelude.{◌≡◌, None, Some, ◌∷◌, codes, map, string_bytes, IfOk, IfErr};
+ghost use Rattle.std.specs.Prelude.{◌≡◌, None, Some, ◌∷◌, codes, map, string_bytes, option_and_then, IfOk, IfErr};
 ghost use Rattle.clap.specs.Words.{found_of, rows_of, one_of, subcommand_rows_of};
-ghost use Rattle.pic_line.specs.CommandLine.{command_of, command_from, command_named, workers_in, seed_in, demo_of, kept};
+ghost use Rattle.pic_line.specs.CommandLine.{command_of, command_from, command_named, workers_in, seed_in, steps_in, tiles_in, few_in, demo_of, resume_of, all_three, number_in, kept};
 
 use crate::app::pic;
 use crate::asked::{Command, LineFault};
@@ -10,13 +10,17 @@ use clap::ArgMatches;
 use clap::error::ErrorKind;
 use std::alloc::{AllocError, Global};
 
-const MIN_WORKERS: u32 = 1;
+const MIN_FEW: u32 = 1;
 
-const MAX_WORKERS: u32 = 1 << 6;
+const MAX_FEW: u32 = 1 << 6;
 
 const MIN_SEED: u32 = 0;
 
 const MAX_SEED: u32 = u32::MAX;
+
+const MIN_STEPS: u32 = 0;
+
+const MAX_STEPS: u32 = 1000000;
 
 /// The command of the words after the program's name. `Usage` comes exactly where they are none, but
 /// for want of memory.
@@ -76,6 +80,8 @@ fn command_named(name: &str, found: &ArgMatches<'_>) -> Option<Command>
         demo_of(seed_in(found), workers_in(found))
     } else if name == "upgrade" {
         Some(Command::Upgrade)
+    } else if name == "resume" {
+        resume_of(steps_in(found), workers_in(found), tiles_in(found))
     } else {
         None
     }
@@ -90,18 +96,72 @@ fn demo_of(seed: Option<u32>, workers: Option<u32>) -> Option<Command>
     }
 }
 
+fn resume_of(steps: Option<u32>, workers: Option<u32>, tiles: Option<[u32; 3]>) -> Option<Command>
+    ensures { result ≡ resume_of steps workers tiles }
+{
+    match (steps, workers, tiles) {
+        (Some(steps), Some(workers), Some(tiles)) => Some(Command::Resume {
+            steps,
+            workers,
+            tiles,
+        }),
+        _ => None,
+    }
+}
+
 // The number of workers.
 fn workers_in(found: &ArgMatches<'_>) -> Option<u32>
     ensures { result ≡ workers_in (rows_of (found_of found.now)) }
 {
-    kept(MIN_WORKERS, MAX_WORKERS, found.get_one::<u32>("workers"))
+    few_in(found, "workers")
 }
 
 // The seed.
 fn seed_in(found: &ArgMatches<'_>) -> Option<u32>
     ensures { result ≡ seed_in (rows_of (found_of found.now)) }
 {
-    kept(MIN_SEED, MAX_SEED, found.get_one::<u32>("SEED"))
+    number_in(found, "SEED", MIN_SEED, MAX_SEED)
+}
+
+// The number of steps in all.
+fn steps_in(found: &ArgMatches<'_>) -> Option<u32>
+    ensures { result ≡ steps_in (rows_of (found_of found.now)) }
+{
+    number_in(found, "steps", MIN_STEPS, MAX_STEPS)
+}
+
+// The numbers of tiles along the axes.
+fn tiles_in(found: &ArgMatches<'_>) -> Option<[u32; 3]>
+    ensures { result ≡ tiles_in (rows_of (found_of found.now)) }
+{
+    let x = few_in(found, "tiles-x");
+    let y = few_in(found, "tiles-y");
+    let z = few_in(found, "tiles-z");
+    all_three(x, y, z)
+}
+
+fn all_three(x: Option<u32>, y: Option<u32>, z: Option<u32>) -> Option<[u32; 3]>
+    ensures { result ≡ all_three x y z }
+{
+    match (x, y, z) {
+        (Some(x), Some(y), Some(z)) => Some([x, y, z]),
+        _ => None,
+    }
+}
+
+// A number of 1 to 64.
+fn few_in(found: &ArgMatches<'_>, name: &str) -> Option<u32>
+    ensures { result ≡ few_in name.now (rows_of (found_of found.now)) }
+{
+    number_in(found, name, MIN_FEW, MAX_FEW)
+}
+
+// The number of an argument, where it is one from low to high.
+fn number_in(found: &ArgMatches<'_>, name: &str, low: u32, high: u32) -> Option<u32>
+    ensures { result ≡ option_and_then (number_in low high)
+        (one_of name.now (rows_of (found_of found.now))) }
+{
+    kept(low, high, found.get_one::<u32>(name))
 }
 
 fn kept(low: u32, high: u32, number: Option<u32>) -> Option<u32>

@@ -4,7 +4,7 @@ use Rattle.std.proofs.lemmas.Bool.{cases_Bool}
 use Rattle.std.proofs.Math.Nat.{le_trans}
 use Rattle.std.proofs.Math.Pow.{pow_mono}
 use Rattle.pic_num.specs.declared.limits.Allowance.{Allowance}
-use Rattle.pic_num.specs.Limits.{allowance_of, fewest_cells_of_axis, most_cells_of_axis, most_particles, fewest_bits, most_bits, least_side, most_side}
+use Rattle.pic_num.specs.Limits.{allowance_of, fewest_cells_of_axis, most_cells_of_axis, most_particles, fewest_bits, most_bits, least_side, most_side, most_filter}
 use Rattle.pic_num.specs.Sub.{bits_of, bits_of-side}
 use Rattle.pic_num.specs.Versions.{IsSideOf}
 
@@ -17,6 +17,7 @@ pub record IsWithinScheme (a : Allowance) : Type 0 where
   pub least_bits : fewest_bits ≤ a.least_bits
   pub sides : a.least_bits ≤ a.greatest_bits
   pub greatest_bits : a.greatest_bits ≤ most_bits
+  pub filter : a.filter ≤ most_filter
 
 -- what holds of the two allowances holds of that of any version
 by_version : (P : Allowance → Type 0) → P (allowance_of 1) → P (allowance_of 2) → (version : ℕ) → P (allowance_of version)
@@ -35,6 +36,7 @@ within_scheme = by_version IsWithinScheme
       least_bits = omega arith;
       sides = omega arith;
       greatest_bits = omega arith;
+      filter = omega arith;
     })
     (record {
       fewest = omega arith;
@@ -44,6 +46,7 @@ within_scheme = by_version IsWithinScheme
       least_bits = omega arith;
       sides = omega arith;
       greatest_bits = omega arith;
+      filter = omega arith;
     })
 
 -- the side of so many bits as a version allows

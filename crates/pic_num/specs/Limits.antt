@@ -49,11 +49,27 @@ most_particles_1 = 1048576
 abbrev pub most_version : ℕ
 most_version = 2
 
+-- the filter of the current: none, or the binomial one
+abbrev pub most_filter : ℕ
+most_filter = 1
+
 -- what a version of decks and dumps allows: version 1 less than the scheme, version 2 all of it
 abbrev pub allowance_of : ℕ → Allowance
 allowance_of version =
-    if version == 1 then record { cells = most_cells_of_axis_1; particles = most_particles_1; least_bits = bits_1; greatest_bits = bits_1 }
-    else record { cells = most_cells_of_axis; particles = most_particles; least_bits = fewest_bits; greatest_bits = most_bits }
+    if version == 1 then record {
+      cells = most_cells_of_axis_1;
+      particles = most_particles_1;
+      least_bits = bits_1;
+      greatest_bits = bits_1;
+      filter = 0;
+    }
+    else record {
+      cells = most_cells_of_axis;
+      particles = most_particles;
+      least_bits = fewest_bits;
+      greatest_bits = most_bits;
+      filter = most_filter;
+    }
 
 -- a run has at most 1000000 steps, and so many from one frame to the next
 abbrev pub most_steps : ℕ

@@ -70,14 +70,18 @@ pub const VELOCITY_UNIT: u32 = 1 << 12;
 /// The greatest version of decks and dumps that is accepted.
 pub const MAX_VERSION: u32 = 2;
 
-/// What a version of decks and dumps allows: the most cells of an axis, the most particles, and the
-/// least and the greatest power of two of sub-cells that a side has.
+/// The filter of the current: none, or the binomial one.
+pub const MAX_FILTER: u32 = 1;
+
+/// What a version of decks and dumps allows: the most cells of an axis, the most particles, the least
+/// and the greatest power of two of sub-cells that a side has, and the greatest number of a filter.
 #[derive(Clone, Copy, Debug, PartialEq, Eq)]
 pub struct Allowance {
     pub cells: u32,
     pub particles: u32,
     pub least_bits: u32,
     pub greatest_bits: u32,
+    pub filter: u32,
 }
 
 /// What a version allows: version 1 less than the scheme, version 2 all of it.
@@ -90,6 +94,7 @@ pub fn allowance_of(version: u32) -> Allowance
             particles: MAX_PARTICLES_1,
             least_bits: BITS_1,
             greatest_bits: BITS_1,
+            filter: 0,
         }
     } else {
         Allowance {
@@ -97,6 +102,7 @@ pub fn allowance_of(version: u32) -> Allowance
             particles: MAX_PARTICLES,
             least_bits: MIN_BITS,
             greatest_bits: MAX_BITS,
+            filter: MAX_FILTER,
         }
     }
 }

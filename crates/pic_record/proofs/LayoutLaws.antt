@@ -1,5 +1,6 @@
 -- What of a header the records depend on keeps its limits.
 use Rattle.std.proofs.Common.{sym, ◌∙◌, arith}
+use Rattle.std.proofs.Math.Nat.{le_trans}
 use Rattle.std.proofs.lemmas.Int.{ints}
 use Rattle.std.proofs.lemmas.List.{length-map}
 use Rattle.std.proofs.lemmas.List.Elements.{All-map, All-from_get_or}
@@ -40,6 +41,7 @@ layout_fits h are =
       steps = are.limits.steps_most;
       every_least = are.limits.every_least;
       every_most = are.limits.every_most;
+      filter = le_trans are.limits.filter scheme.filter;
       masses = All-map HasMass (λ (s : HeadView). s.kind) h.species (All-from_get_or (λ (s : HeadView). HasMass s.kind) h.species no_head
           (λ i below. mass_of_kind _ (heads.kinds i below)));
       charges = All-map (λ (k : Kind). IsAtMost k.charge most_charge) (λ (s : HeadView). s.kind) h.species (All-from_get_or

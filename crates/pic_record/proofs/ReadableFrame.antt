@@ -72,14 +72,14 @@ energy_fits : (want n : ℕ) → n ≡ want → want < 2 ^ 128 → (n < 2 ^ 128)
 energy_fits want n is small = (omega (arith, is, small), eq-eqb want n (sym is))
 
 -- what stands for a particle past the end
-no_particle : Particle
+pub no_particle : Particle
 no_particle = record { id = 0; species = 0; x = []; v = [] }
 
-how_many : (l : LayoutView) (f : FrameView) → IsReadableFrame l f → length f.particles ≡ sum l.counts
+pub how_many : (l : LayoutView) (f : FrameView) → IsReadableFrame l f → length f.particles ≡ sum l.counts
 how_many l f is =
     sym (length-map f.particles (λ (p : Particle). p.id)) ∙ ap (λ (ids : List ℕ). length ids) is.identities ∙ length-range_with_len 0 (sum l.counts)
 
-identity_is : (l : LayoutView) (f : FrameView) (i : ℕ) → IsReadableFrame l f → i < sum l.counts → (get_or f.particles i no_particle).id ≡ i
+pub identity_is : (l : LayoutView) (f : FrameView) (i : ℕ) → IsReadableFrame l f → i < sum l.counts → (get_or f.particles i no_particle).id ≡ i
 identity_is l f i is below =
     let count = how_many l f is in
     let here = sym (get_or-map (λ (p : Particle). p.id) f.particles i no_particle 0 (omega (arith, count, below)))

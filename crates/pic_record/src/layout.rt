@@ -10,13 +10,14 @@ use pic_num::{Kind, NoMemory, Scales};
 use std::alloc::Global;
 use std::marker::Model;
 
-/// The numbers of cells and their side, the steps, after how many of them a frame is due, the
-/// multipliers, and the kinds and the numbers of particles of the species.
+/// The numbers of cells and their side, the steps, after how many of them a frame is due, the filter of
+/// the current, the multipliers, and the kinds and the numbers of particles of the species.
 #[derive(Debug, Drop)]
 pub struct Layout {
     cells: Cells,
     steps: u32,
     every: u32,
+    filter: u32,
     scales: Scales,
     kinds: Vec<Kind>,
     counts: Vec<u32>,
@@ -27,10 +28,11 @@ impl Model for Layout {
 
     ghost Value = { LayoutView };
 
-    ghost view = { λ l. layout_with l.cells l.steps l.every l.scales l.kinds.items l.counts.items };
+    ghost view = { λ l. layout_with l.cells l.steps l.every l.filter l.scales
+        l.kinds.items l.counts.items };
 
     ghost invariant = { λ l. IsLayout
-        (layout_with l.cells l.steps l.every l.scales l.kinds.items l.counts.items) };
+        (layout_with l.cells l.steps l.every l.filter l.scales l.kinds.items l.counts.items) };
 }
 
 impl Layout {
@@ -49,6 +51,7 @@ impl Layout {
             cells: header.cells(),
             steps: header.steps(),
             every: header.every(),
+            filter: header.filter(),
             scales: header.scales(),
             kinds,
             counts,
@@ -75,6 +78,14 @@ impl Layout {
         ensures limits { IsLayout self.now }
     {
         self.every
+    }
+
+    /// The filter of the current: 0 for none, 1 for the binomial one.
+    pub fn filter(&self) -> u32
+        ensures value { result ≡ self.now.filter }
+        ensures limits { IsLayout self.now }
+    {
+        self.filter
     }
 
     /// The side of a cell, in sub-cells.

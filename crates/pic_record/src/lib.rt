@@ -13,7 +13,7 @@ mod laws;
 mod layout;
 mod part;
 
-pub use due::due_after;
+pub use due::{due_after, is_due};
 pub use end_reader::read_end_record;
 pub use ending::put_end;
 pub use frame_reader::read_frame;

@@ -5,7 +5,7 @@ use Rattle.pic_io.specs.Told.{Told}
 use Rattle.pic_io.specs.Sinks.{Sinks}
 use Rattle.pic_io.proofs.Puts.{wrote_none}
 use Rattle.pic_line.specs.declared.asked.Command.{Command}
-use Rattle.pic_line.specs.declared.asked.Command.TheVariants.{Check, Run, Verify, Demo, Upgrade}
+use Rattle.pic_line.specs.declared.asked.Command.TheVariants.{Check, Run, Verify, Demo, Upgrade, Resume}
 use Rattle.pic_line.specs.CommandLine.{command_of}
 use Rattle.pic_run.specs.declared.ended.Ended.{Ended}
 use Rattle.pic_run.specs.declared.ended.Ended.TheVariants.{NoMemory}
@@ -18,7 +18,8 @@ use Rattle.pic_run.proofs.EndLaws.{untouched}
 use Rattle.pic_run.proofs.DeckLaws.{none_read, check_means, run_means}
 use Rattle.pic_run.proofs.DemoLaws.{demo_means}
 use Rattle.pic_run.proofs.VerifyLaws.{verify_starved, verify_means}
-use Rattle.pic_run.proofs.UpgradeLaws.{untaken, upgrade_means}
+use Rattle.pic_run.proofs.UpgradeLaws.{upgrade_starved, upgrade_means}
+use Rattle.pic_run.proofs.ResumeLaws.{resume_starved, resume_means}
 
 -- the command of the words
 pub by_name : (named found : Option Command) (source source' : Told) (before now : Sinks) (ended : Ended) → named ≡ found
@@ -46,8 +47,8 @@ starved_words (Some (Run workers)) source before =
 starved_words (Some Verify) source before = verify_starved source before
 starved_words (Some (Demo seed workers)) source before =
     at_once (manner_of (Some (Demo seed workers))) source before refl (λ whole. absurd (whole refl)) (inl (wrote_none before))
-starved_words (Some Upgrade) source before =
-    at_once (manner_of (Some Upgrade)) source before tt (untaken source) (wrote_none before)
+starved_words (Some Upgrade) source before = upgrade_starved source before
+starved_words (Some (Resume steps workers tiles)) source before = resume_starved steps tiles source before
 
 -- the outcome's answer means what the command says
 pub means_of : (k : Option Command) (c : Call) (ended : Ended) → command_of c.words ≡ k
@@ -59,3 +60,4 @@ means_of (Some (Run workers)) c ended named p ends = run_means workers c ended p
 means_of (Some Verify) c ended named p ends = verify_means c ended p ends
 means_of (Some (Demo seed workers)) c ended named p ends = demo_means seed workers c ended p ends
 means_of (Some Upgrade) c ended named p ends = upgrade_means c ended p ends
+means_of (Some (Resume steps workers tiles)) c ended named p ends = resume_means steps tiles c ended p ends

@@ -9,13 +9,12 @@ use Rattle.pic_grid.specs.declared.stop.Stop.{Stop}
 use Rattle.pic_grid.specs.Differences.{div_e}
 use Rattle.pic_grid.specs.Lattice.{value_at}
 use Rattle.pic_charge.specs.declared.breaks.Break.{Break}
-use Rattle.pic_charge.specs.Charge.{charge_of}
+use Rattle.pic_charge.specs.Charge.{rho_of}
 use Rattle.pic_charge.proofs.BreakLaws.{first_break_some}
 use Rattle.pic_deck.specs.Deck.{DeckView}
 use Rattle.pic_deck.specs.Refusal.{ReadDeck}
 use Rattle.pic_deck.specs.Reading.{walk}
 use Rattle.pic_step.specs.SerialStep.{World, e_of}
-use Rattle.pic_step.specs.SerialRun.{after}
 use Rattle.pic_step.specs.Sound.{IsSound}
 use Rattle.pic_step.proofs.AfterLaws.{step_after}
 use Rattle.pic_run.specs.declared.cut.Cut.{Cut}
@@ -26,7 +25,7 @@ use Rattle.pic_run.specs.declared.ended.Ended.TheVariants.{Done, Stopped, NoMemo
 use Rattle.pic_run.specs.declared.opening_deck.Opened.{Opened}
 use Rattle.pic_run.specs.DeckEnd.{DeckEnd, Unread, Unfit, Unmet, Staged, ◌>>=◌, ended_at}
 use Rattle.pic_run.specs.Ended.{ended_of}
-use Rattle.pic_run.specs.Frames.{end_where, end_of_run}
+use Rattle.pic_run.specs.Frames.{end_of_run}
 use Rattle.pic_run.specs.Starting.{first_state, state_break, IsGauss}
 use Rattle.pic_run.specs.Reading.{deck_limit, Given, Held, Failed, FailedBehind, Gave}
 use Rattle.pic_run.specs.Outcome.{Outcome, answer_of, early_outcome, unless_refused, unless_gauss_fails, accepted, tested, opened, on_deck, check_outcome, run_outcome}
@@ -39,7 +38,7 @@ use Rattle.pic_run.specs.Check.{CheckMeans, checking}
 use Rattle.pic_run.specs.Run.{running}
 use Rattle.pic_run.specs.Ends.{MeansIn}
 use Rattle.pic_run.proofs.EndLaws.{finished, announced, starved, fed, told_held, gave_held, gave_failed, HasFailed}
-use Rattle.pic_run.proofs.StateLaws.{each_gauss, stops_by_stop}
+use Rattle.pic_run.proofs.StateLaws.{each_gauss, run_ends}
 use Rattle.pic_run.proofs.StartLaws.{gauss_of}
 
 -- the end of a deck isn't want of memory
@@ -138,7 +137,7 @@ from (Held held) = go (walk (take deck_limit held)) refl
 
 pub least_of : (w : World) (b : Break) → state_break w ≡ Some b → IsLeastBreakOf w b
 unfolding state_break
-least_of w b found = first_break_some w.cells (div_e w.cells (value_at (e_of w))) (charge_of w.side w.cells w.kinds w.particles) b found
+least_of w b found = first_break_some w.cells (div_e w.cells (value_at (e_of w))) (rho_of w.side w.filter w.cells w.kinds w.particles) b found
 
 accepted_in : (given : Given) (held : List ℕ) (d : DeckView) → given ≡ Held held → walk (take deck_limit held) ≡ Ok d → accepted given ≡ Ok d
 accepted_in given held d is walked = ap accepted is ∙ ap unless_refused walked
@@ -183,25 +182,19 @@ module _ (performed : DeckView → Outcome) (leaves : Leaving) (own : Call → E
           say d (has_deck held d whole same walked) (p.reads.sound whole d is) (gauss_of (first_state d) none)
 
 -- how a run ends from the first state of its deck
-module _ (Has : DeckView → Type 0) (P : Ended → Type 0) (done : (steps : ℕ) → IsRunDone Has steps → P (Done steps))
-    (stopped : (step : ℕ) (stop : Stop) → IsStopped Has step stop → P (Stopped step stop)) where
-  states : (d : DeckView) → Has d → IsSound (first_state d) → (r : Result World EndMark) → after (first_state d) d.steps ≡ r
-      → P (answer_of (end_where r))
-  states d has sound (Ok v) reached =
-      done v.step (record {
-        deck = d;
-        held = has;
-        gauss = each_gauss (first_state d) sound;
-        last = let came = step_after (first_state d) v d.steps reached in omega (arith, came);
-        reached = subst IsOk (sym reached) refl;
-      })
-  states d has sound (Err (EndDone other)) stops = absurd (stops_by_stop (first_state d) d.steps (EndDone other) stops)
-  states d has sound (Err (EndStopped step stop)) stops =
-      stopped step stop (record { deck = d; held = has; gauss = each_gauss (first_state d) sound; stops = stops })
-
-  pub run_ends : (d : DeckView) → Has d → IsSound (first_state d) → P (answer_of (end_of_run d.steps (first_state d)))
-  unfolding end_of_run
-  run_ends d has sound = states d has sound (after (first_state d) d.steps) refl
+pub deck_ends : (Has : DeckView → Type 0) (P : Ended → Type 0) → ((steps : ℕ) → IsRunDone Has steps → P (Done steps))
+    → ((step : ℕ) (stop : Stop) → IsStopped Has step stop → P (Stopped step stop)) → (d : DeckView) → Has d → IsSound (first_state d)
+    → P (answer_of (end_of_run d.steps (first_state d)))
+deck_ends Has P done stopped d has sound =
+    run_ends (first_state d) d.steps P
+    (λ v reached. done v.step (record {
+      deck = d;
+      held = has;
+      gauss = each_gauss (first_state d) sound;
+      last = let came = step_after (first_state d) v d.steps reached in omega (arith, came);
+      reached = subst IsOk (sym reached) refl;
+    }))
+    (λ step stop stops. stopped step stop (record { deck = d; held = has; gauss = each_gauss (first_state d) sound; stops = stops }))
 
 -- nor is the end of a run
 pub not_of_run : (end : EndMark) → answer_of end ≡ NoMemory → ⊥
@@ -219,4 +212,4 @@ pub run_means : (workers : ℕ) (c : Call) (ended : Ended) (p : Performs (runnin
 run_means workers c ended p =
     deck_means run_outcome (LeavesWhole workers) (λ call. RunMeans (HasDeck call)) c ended p
     (λ d same. not_of_run (end_of_run d.steps (first_state d)) same)
-    (λ d has sound gauss. run_ends (HasDeck c) (MeansIn (running workers) c) (λ steps is. is) (λ step stop is. is) d has sound)
+    (λ d has sound gauss. deck_ends (HasDeck c) (MeansIn (running workers) c) (λ steps is. is) (λ step stop is. is) d has sound)

@@ -23,7 +23,7 @@ use Rattle.pic_run.specs.Manner.{Call, Performs}
 use Rattle.pic_run.specs.Demo.{IsDeckOf, demonstrating}
 use Rattle.pic_run.specs.Ends.{MeansIn}
 use Rattle.pic_run.proofs.EndLaws.{finished, announced, starved, untouched}
-use Rattle.pic_run.proofs.DeckLaws.{ok_is, least_of, run_ends, not_of_run}
+use Rattle.pic_run.proofs.DeckLaws.{ok_is, least_of, deck_ends, not_of_run}
 
 -- a demonstration was stopped, or it was tested and went on
 pub shown_stopped : (seed workers : ℕ) (stop : StageStop) (source : Told) (before now : Sinks) (finish : Result Ended Cut) → Tests (demo_deck seed) (Err stop)
@@ -87,5 +87,6 @@ demo_means seed workers c ended p ends = go (demonstrated seed) refl (demo_of se
           least = least_of (first_state (demo_deck seed)) b found;
         })
     go (Ok d) is same ends' =
-        run_ends (IsDeckOf seed c) (MeansIn (demonstrating seed workers) c) (λ steps is. is) (λ step stop is. is) d (record { deck = same; same = p.read.most })
+        deck_ends (IsDeckOf seed c) (MeansIn (demonstrating seed workers) c) (λ steps is. is) (λ step stop is. is) d
+        (record { deck = same; same = p.read.most })
         (p.reads (λ wanted. not_of_run (end_of_run d.steps (first_state d)) (ends'.answers ∙ wanted)) d is)

@@ -1,10 +1,10 @@
 -- How a call ends, from how its last part finished; and what a source gave that was read so.
-use Rattle.std.proofs.Common.{◌≡◌, List, [], ℕ, Option, Some, None, Result, Ok, Err, inl, inr, refl, ◌∙◌, ap, subst, sym}
+use Rattle.std.proofs.Common.{◌≡◌, List, [], ℕ, Option, Some, None, Result, Ok, Err, inl, inr, refl, ap, subst, sym}
 use Rattle.std.specs.Prelude.{⊤, unwrap_or, IfSome}
 use Rattle.pic_io.specs.Told.{Told, Rose}
 use Rattle.pic_io.specs.Sinks.{Sinks}
 use Rattle.pic_io.specs.declared.side.Side.{Side}
-use Rattle.pic_verify.proofs.UntakenLaws.{with_front_nil}
+use Rattle.pic_dump.proofs.UntakenLaws.{with_front_nil}
 use Rattle.pic_run.specs.declared.cut.Cut.{Cut}
 use Rattle.pic_run.specs.declared.cut.Cut.TheVariants as cut
 use Rattle.pic_run.specs.declared.ended.Ended.{Ended}
@@ -36,12 +36,16 @@ pub starved : (leaves : Leaving) (o : Outcome) (before now : Sinks) (finish : Re
 starved leaves o before now finish is left = inr (inr (record { wanted = ap ended_of is; left = left }))
 
 -- a part that wants no memory any more ends with the outcome's answer, or a put failed
+pub avoids : (P : Ended → Type 0) (o : Outcome) (before now : Sinks) (finish : Result Ended Cut) → (P o.answer → ⊥) → ((side : Side) → P (WriteFault side) → ⊥)
+    → Announces o before now finish → P (ended_of finish) → ⊥
+avoids P o before now (Ok answer) other write ends is = other (subst P (sym ends.answers) is)
+avoids P o before now (Err (cut.Write side)) other write ends is = write side is
+avoids P o before now (Err cut.NoMemory) other write ends is = ends
+
 pub unlike : (o : Outcome) (before now : Sinks) (finish : Result Ended Cut) (ended : Ended)
     → (o.answer ≡ ended → ⊥) → ((side : Side) → WriteFault side ≡ ended → ⊥)
     → Announces o before now finish → ended_of finish ≡ ended → ⊥
-unlike o before now (Ok answer) ended other write ends is = other (ends.answers ∙ is)
-unlike o before now (Err (cut.Write side)) ended other write ends is = write side is
-unlike o before now (Err cut.NoMemory) ended other write ends is = ends
+unlike o before now finish ended = avoids (λ answer. answer ≡ ended) o before now finish
 
 pub fed : (o : Outcome) (before now : Sinks) (finish : Result Ended Cut) → (o.answer ≡ NoMemory → ⊥) → Announces o before now finish
     → ended_of finish ≡ NoMemory → ⊥

@@ -19,7 +19,7 @@ use Rattle.pic_step.proofs.AfterLaws.{after_plus, step_after, after_stays}
 use Rattle.pic_record.specs.Due.{is_due}
 use Rattle.pic_run.specs.declared.ended.Ended.TheVariants as ended
 use Rattle.pic_run.specs.declared.output.Output.{Output}
-use Rattle.pic_run.specs.Frames.{frame_piece, due_state, due_states, frames_of, end_where, end_of_run, DueStatesJoin, EndsJoin}
+use Rattle.pic_run.specs.Frames.{frame_piece, due_state, due_states, frames_of, frames_behind, end_where, end_of_run, DueStatesJoin, EndsJoin}
 use Rattle.pic_run.specs.Outcome.{answer_of}
 use Rattle.pic_run.specs.Leaves.{HasFrames}
 use Rattle.pic_run.specs.Runs.{WroteFrames}
@@ -48,11 +48,11 @@ unfolding due_states
 states_one steps every w j = append-nil (due_state steps every (after w j))
 
 -- one state more, where it is due
-states_more : (steps every : ℕ) (w v : World) (n : ℕ) → after w n ≡ Ok v
-    → due_states steps every w 0 (n + 1) ≡ due_states steps every w 0 n ++ due_state steps every (Ok v)
+states_more : (steps every : ℕ) (w v : World) (n : ℕ) → after w (n + 1) ≡ Ok v
+    → due_states steps every w 1 (n + 1) ≡ due_states steps every w 1 n ++ due_state steps every (Ok v)
 states_more steps every w v n reached =
-    states_split steps every w 0 n 1 (n + 1) n refl (zero-add n)
-    ∙ ap (λ t. due_states steps every w 0 n ++ t) (states_one steps every w n ∙ ap (due_state steps every) reached)
+    states_split steps every w 1 n 1 (n + 1) (n + 1) refl (omega arith)
+    ∙ ap (λ t. due_states steps every w 1 n ++ t) (states_one steps every w (n + 1) ∙ ap (due_state steps every) reached)
 
 pub due_now : (steps every : ℕ) (w : World) → is_due steps every w.step ≡ true → due_state steps every (Ok w) ≡ w ∷ []
 due_now steps every w due = ap (λ (d : Bool). if d then w ∷ [] else []) due
@@ -133,33 +133,34 @@ states_wrote output a b c vs ws first second =
     (subst (λ (y : List ℕ). Wrote a c (outs ps ++ outs qs) y) line
     (wrote_twice a b c (outs ps) (lines ps) (outs qs) (lines qs) first second)))
 
--- the frames before a state were written, and then the frame of the state, where it is due
-pub more_written : (output : Output) (steps every : ℕ) (w v : World) (n : ℕ) (a b c : Sinks) → after w n ≡ Ok v
-    → WroteStates output a b (due_states steps every w 0 n) → WroteStates output b c (due_state steps every (Ok v))
-    → WroteStates output a c (due_states steps every w 0 (n + 1))
+-- the frames of the states before one were written, and then that of the state, where it is due
+pub more_written : (output : Output) (steps every : ℕ) (w v : World) (n : ℕ) (a b c : Sinks) → after w (n + 1) ≡ Ok v
+    → WroteStates output a b (due_states steps every w 1 n) → WroteStates output b c (due_state steps every (Ok v))
+    → WroteStates output a c (due_states steps every w 1 (n + 1))
 more_written output steps every w v n a b c reached first second =
     subst (WroteStates output a c) (sym (states_more steps every w v n reached))
-    (states_wrote output a b c (due_states steps every w 0 n) (due_state steps every (Ok v)) first second)
+    (states_wrote output a b c (due_states steps every w 1 n) (due_state steps every (Ok v)) first second)
 
 -- the frame of the state was cut
-pub more_cut : (side : Side) (output : Output) (steps every : ℕ) (w v : World) (n : ℕ) (a b c : Sinks) → n ≤ steps → after w n ≡ Ok v
-    → WroteStates output a b (due_states steps every w 0 n) → CutAt side b c (map (frame_piece output) (due_state steps every (Ok v)))
-    → CutAt side a c (frames_of output steps every w)
-more_cut side output steps every w v n a b c most reached first second =
+pub more_cut : (side : Side) (output : Output) (steps every : ℕ) (w v : World) (n : ℕ) (a b c : Sinks) → n < steps - w.step → after w (n + 1) ≡ Ok v
+    → WroteStates output a b (due_states steps every w 1 n) → CutAt side b c (map (frame_piece output) (due_state steps every (Ok v)))
+    → CutAt side a c (frames_behind output steps every w)
+more_cut side output steps every w v n a b c below reached first second =
     let piece = frame_piece output in
-    let before = due_states steps every w 0 n in
+    let count = steps - w.step in
+    let before = due_states steps every w 1 n in
     let here = due_state steps every (Ok v) in
-    let rest = due_states steps every w (n + 1) (steps - n) in
-    let all : due_states steps every w 0 (steps + 1) ≡ (before ++ here) ++ rest =
-    states_split steps every w 0 (n + 1) (steps - n) (steps + 1) (n + 1) (omega (arith, most)) (zero-add (n + 1))
+    let rest = due_states steps every w (n + 2) (count - (n + 1)) in
+    let all : due_states steps every w 1 count ≡ (before ++ here) ++ rest =
+    states_split steps every w 1 (n + 1) (count - (n + 1)) count (n + 2) (omega (arith, below)) (omega arith)
     ∙ ap (λ t. t ++ rest) (states_more steps every w v n reached) in
-    let whole : frames_of output steps every w ≡ (map piece before ++ map piece here) ++ map piece rest =
+    let whole : frames_behind output steps every w ≡ (map piece before ++ map piece here) ++ map piece rest =
     ap (map piece) all ∙ map-append piece (before ++ here) rest ∙ ap (λ t. t ++ map piece rest) (map-append piece before here) in
     subst (CutAt side a c) (sym whole)
     (cut_more side a c (map piece before ++ map piece here) (map piece rest) (cut_later side a b c (map piece before) (map piece here) first second))
 
 -- no frame was written yet
-pub none_written : (output : Output) (steps every : ℕ) (w : World) (a : Sinks) → Wrote a a [] [] → WroteStates output a a (due_states steps every w 0 0)
+pub none_written : (output : Output) (steps every : ℕ) (w : World) (a : Sinks) → Wrote a a [] [] → WroteStates output a a (due_states steps every w 1 0)
 unfolding due_states
 none_written output steps every w a none = none
 
@@ -180,6 +181,14 @@ states_first steps every w n above begins =
     ∙ ap (due_state steps every) (after_none w)
     ∙ due_now steps every w (ap (is_due steps every) begins ∙ first_due steps every above))
 
+-- so its frame comes before those of the states behind it
+pub frames_first : (output : Output) (steps every : ℕ) (w : World) → 1 ≤ every → w.step ≡ 0
+    → frames_of output steps every w ≡ frame_piece output w ∷ frames_behind output steps every w
+frames_first output steps every w above begins =
+    let all : steps - w.step ≡ steps = omega (arith, begins) in
+    ap (map (frame_piece output)) (states_first steps every w steps above begins)
+    ∙ ap (λ n. frame_piece output w ∷ map (frame_piece output) (due_states steps every w 1 n)) (sym all)
+
 -- so is the last one's
 last_due : (steps every : ℕ) → is_due steps every steps ≡ true
 last_due steps every = ap (λ (b : Bool). b || steps % every == 0) (eq-eqb steps steps refl)
@@ -195,63 +204,69 @@ reached_last w steps s done = go (after w steps) refl done
     go (Err (Stopped step stop)) is done' = absurd cc
 
 -- and has a frame more than those of any step before
-last_left : (steps every : ℕ) (w : World) (n s : ℕ) → n < steps → w.step ≡ 0 → answer_of (end_of_run steps w) ≡ ended.Done s
-    → 1 ≤ length (due_states steps every w (n + 1) (steps - n))
-last_left steps every w n s below begins done =
-    let (v, reached) = reached_last w steps s done in
-    let at : v.step ≡ steps = let came = step_after w v steps reached in omega (arith, came, begins) in
-    let front = due_states steps every w (n + 1) (steps - (n + 1)) in
-    let split = states_split steps every w (n + 1) (steps - (n + 1)) 1 (steps - n) steps (omega (arith, below)) (omega (arith, below)) in
-    let last : due_states steps every w steps 1 ≡ v ∷ [] =
-    states_one steps every w steps
+last_left : (steps every : ℕ) (w : World) (n s : ℕ) → n < steps - w.step → answer_of (end_of_run (steps - w.step) w) ≡ ended.Done s
+    → 1 ≤ length (due_states steps every w (n + 1) (steps - w.step - n))
+last_left steps every w n s below done =
+    let count = steps - w.step in
+    let (v, reached) = reached_last w count s done in
+    let at : v.step ≡ steps = let came = step_after w v count reached in omega (arith, came, below) in
+    let front = due_states steps every w (n + 1) (count - (n + 1)) in
+    let split = states_split steps every w (n + 1) (count - (n + 1)) 1 (count - n) count (omega (arith, below)) (omega (arith, below)) in
+    let last : due_states steps every w count 1 ≡ v ∷ [] =
+    states_one steps every w count
     ∙ ap (due_state steps every) reached
     ∙ due_now steps every v (ap (is_due steps every) at ∙ last_due steps every) in
-    let count = ap length split in
+    let count_is = ap length split in
     let one = ap length last in
-    omega (arith, count, length-append front (due_states steps every w steps 1), one)
+    omega (arith, count_is, length-append front (due_states steps every w count 1), one)
 
 -- memory was wanting in a step: the frames before it stand
-pub some_written : (workers : ℕ) (output : Output) (steps every : ℕ) (w : World) (n : ℕ) (a b : Sinks) → 2 ≤ workers → 1 ≤ every → w.step ≡ 0 → n < steps
-    → WroteStates output a b (due_states steps every w 0 (n + 1))
-    → HasFrames workers (answer_of (end_of_run steps w)) [] (frames_of output steps every w) a b
-some_written workers output steps every w n a b many above begins below wrote =
+pub some_written : (workers : ℕ) (output : Output) (steps every : ℕ) (w : World) (n : ℕ) (a b : Sinks) → 2 ≤ workers → n < steps - w.step
+    → WroteStates output a b (due_states steps every w 1 n)
+    → HasFrames 0 workers (answer_of (end_of_run (steps - w.step) w)) [] (frames_behind output steps every w) a b
+some_written workers output steps every w n a b many below wrote =
     let piece = frame_piece output in
-    let front = due_states steps every w 0 (n + 1) in
-    let rest = due_states steps every w (n + 1) (steps - n) in
-    let split : frames_of output steps every w ≡ map piece front ++ map piece rest =
-    ap (map piece) (states_split steps every w 0 (n + 1) (steps - n) (steps + 1) (n + 1) (omega (arith, below)) (zero-add (n + 1)))
+    let count = steps - w.step in
+    let front = due_states steps every w 1 n in
+    let rest = due_states steps every w (n + 1) (count - n) in
+    let split : frames_behind output steps every w ≡ map piece front ++ map piece rest =
+    ap (map piece) (states_split steps every w 1 n (count - n) count (n + 1) (omega (arith, below)) (omega arith))
     ∙ map-append piece front rest in
     let number = length (map piece front) in
-    let whole : take number (frames_of output steps every w) ≡ map piece front = ap (take number) split ∙ take-append_seam (map piece front) (map piece rest) in
+    let whole : take number (frames_behind output steps every w) ≡ map piece front =
+    ap (take number) split ∙ take-append_seam (map piece front) (map piece rest) in
     let all = ap length split ∙ length-append (map piece front) (map piece rest) in
     record {
+      front = record {
+        number = number;
+        most = omega (arith, all);
+        wrote = subst (λ (ps : List Piece). Wrote a b (outs ps) (lines ps)) (sym whole) wrote;
+      };
       many = many;
-      number = number;
-      least = let count = ap length (states_first steps every w n above begins) in omega (arith, count, length-map front piece);
-      most = omega (arith, all);
-      left = λ s done. let more = last_left steps every w n s below begins done in omega (arith, all, more, length-map rest piece);
-      wrote = subst (λ (ps : List Piece). Wrote a b (outs ps) (lines ps)) (sym whole) wrote;
+      enough = omega arith;
+      left = λ s done. let more = last_left steps every w n s below done in omega (arith, all, more, length-map rest piece);
     }
 
 -- a step stopped: its frames are all that are due
-pub stopped_written : (output : Output) (steps every : ℕ) (w v : World) (stop : Stop) (n : ℕ) (a b : Sinks) → n < steps → after w n ≡ Ok v
-    → stepped v ≡ Err stop → WroteStates output a b (due_states steps every w 0 (n + 1))
-    → WroteFrames (frames_of output steps every w) (end_of_run steps w) (Stopped (v.step + 1) stop) a b
+pub stopped_written : (output : Output) (steps every : ℕ) (w v : World) (stop : Stop) (n : ℕ) (a b : Sinks) → n < steps - w.step → after w n ≡ Ok v
+    → stepped v ≡ Err stop → WroteStates output a b (due_states steps every w 1 n)
+    → WroteFrames (frames_behind output steps every w) (end_of_run (steps - w.step) w) (Stopped (v.step + 1) stop) a b
 stopped_written output steps every w v stop n a b below reached stops wrote =
+    let count = steps - w.step in
     let end = Stopped (v.step + 1) stop in
     let here = after_stop w v stop n reached stops in
-    let front = due_states steps every w 0 (n + 1) in
-    let all : due_states steps every w 0 (steps + 1) ≡ front =
-    states_split steps every w 0 (n + 1) (steps - n) (steps + 1) (n + 1) (omega (arith, below)) (zero-add (n + 1))
-    ∙ ap (λ t. front ++ t) (none_due steps every w end (n + 1) (steps - n) here)
+    let front = due_states steps every w 1 n in
+    let all : due_states steps every w 1 count ≡ front =
+    states_split steps every w 1 n (count - n) count (n + 1) (omega (arith, below)) (omega arith)
+    ∙ ap (λ t. front ++ t) (none_due steps every w end (n + 1) (count - n) here)
     ∙ append-nil front in
     record {
-      ends = end_stopped steps w end (n + 1) (omega (arith, below)) here;
+      ends = end_stopped count w end (n + 1) (omega (arith, below)) here;
       wrote = subst (WroteStates output a b) (sym all) wrote;
     }
 
 -- the last step was done
-pub done_written : (output : Output) (steps every : ℕ) (w v : World) (a b : Sinks) → after w steps ≡ Ok v
-    → WroteStates output a b (due_states steps every w 0 (steps + 1))
-    → WroteFrames (frames_of output steps every w) (end_of_run steps w) (Done v.step) a b
-done_written output steps every w v a b reached wrote = record { ends = end_done steps w v reached; wrote = wrote }
+pub done_written : (output : Output) (steps every : ℕ) (w v : World) (a b : Sinks) → after w (steps - w.step) ≡ Ok v
+    → WroteStates output a b (due_states steps every w 1 (steps - w.step))
+    → WroteFrames (frames_behind output steps every w) (end_of_run (steps - w.step) w) (Done v.step) a b
+done_written output steps every w v a b reached wrote = record { ends = end_done (steps - w.step) w v reached; wrote = wrote }

@@ -11,5 +11,7 @@ pub mod DeckLaws
 pub mod VerifyLaws
 pub mod DemoLaws
 pub mod UpgradeLaws
+pub mod CarriedLaws
+pub mod ResumeLaws
 pub mod CommandLaws
 pub mod MeaningLaws

@@ -1,6 +1,6 @@
 -- The first state of a run is sound where its deck is within the limits and meets Gauss's law; and what
 -- a step keeps of a state's shape.
-use Rattle.std.proofs.Common.{◌≡◌, ℕ, ◌^◌, ◌<◌, List, length, get_or, lit≤, Option, Some, None, Ok, refl, sym, ap, ◌∙◌, subst, arith}
+use Rattle.std.proofs.Common.{◌≡◌, ℕ, ◌^◌, ◌<◌, List, length, get_or, lit≤, Option, Some, None, Ok, refl, sym, ◌∙◌, subst, arith}
 use Rattle.std.proofs.Math.IntN.{ℤ}
 use Rattle.std.specs.Prelude.{All}
 use Rattle.std.proofs.lemmas.Int.{ints}
@@ -12,7 +12,6 @@ use Rattle.pic_num.specs.declared.motion.Particle.{Particle}
 use Rattle.pic_num.specs.Multiplier.{Multiplier}
 use Rattle.pic_num.specs.Push.{unless}
 use Rattle.pic_num.specs.Sizes.{IsAtMost}
-use Rattle.pic_num.specs.Limits.{allowance_of}
 use Rattle.pic_num.specs.Space.{Triple, Spot, spot, along}
 use Rattle.pic_num.specs.Velocity.{IsKeptVelocity}
 use Rattle.pic_num.proofs.VersionLaws.{within_scheme, side_least, side_most}
@@ -21,7 +20,7 @@ use Rattle.pic_grid.specs.Lattice.{Field, value_at, field_of}
 use Rattle.pic_grid.specs.Cells.{IsWithin}
 use Rattle.pic_grid.specs.PushPhase.{moved_all, CanShare}
 use Rattle.pic_grid.proofs.LatticeLaws.{value_at-field_of}
-use Rattle.pic_charge.specs.Charge.{charge_of}
+use Rattle.pic_charge.specs.Charge.{rho_of}
 use Rattle.pic_charge.proofs.BreakLaws.{meets_gauss}
 use Rattle.pic_field.specs.FieldPhases.{IsBounded}
 use Rattle.pic_energy.specs.declared.amounts.Energies.{Energies}
@@ -43,7 +42,7 @@ use Rattle.pic_run.specs.Starting.{state_break, IsGauss}
 -- no break is Gauss's law
 pub gauss_of : (w : World) → state_break w ≡ None → IsGauss w
 unfolding state_break
-gauss_of w none = meets_gauss w.side w.cells w.kinds w.particles (e_of w) (charge_of w.side w.cells w.kinds w.particles) (λ p within. refl) none
+gauss_of w none = meets_gauss w.side w.filter w.cells w.kinds w.particles (e_of w) (rho_of w.side w.filter w.cells w.kinds w.particles) (λ p within. refl) none
 
 -- a mild field is safe
 safe_of : (side : ℕ) (n : Triple) (by : Multiplier) (g : Axis → Triple → ℤ) → IsMild n by g → IsSafe by (field_of side n one_part g)
@@ -86,6 +85,7 @@ sound_start d particles limits loaded none = record {
   side_least = side_least d.version d.side limits.settings.allowed.sides;
   side_most = side_most d.version d.side limits.settings.allowed.sides;
   cells = limits.settings.cells;
+  filter = le_trans limits.settings.filter (within_scheme d.version).filter;
   e = safe_of d.side d.cells d.scales.e_force (initial_e d) limits.e;
   b = safe_of d.side d.cells d.scales.b_force (initial_b d) limits.b;
   kinds = are_kinds d limits.heads;

@@ -7,6 +7,10 @@ use Rattle.pic_step.specs.SerialStep.{World, stepped}
 use Rattle.pic_step.specs.SerialRun.{after, step_from, stopped_in}
 use Rattle.pic_step.specs.Sound.{IsSound}
 use Rattle.pic_step.proofs.AfterLaws.{after_sound}
+use Rattle.pic_run.specs.declared.ended.Ended.{Ended}
+use Rattle.pic_run.specs.declared.ended.Ended.TheVariants as ended
+use Rattle.pic_run.specs.Frames.{end_where, end_of_run}
+use Rattle.pic_run.specs.Outcome.{answer_of}
 use Rattle.pic_run.specs.Starting.{EachGauss}
 
 pub each_gauss : (w : World) → IsSound w → EachGauss w
@@ -32,3 +36,14 @@ stops_by_stop w (suc n) end e = go (after w n) (λ other is. stops_by_stop w n o
     go : (r : Result World EndMark) → ((other : EndMark) → r ≡ Err other → IsStop other) → step_from r ≡ Err end → IsStop end
     go (Ok v) before e' = last (suc v.step) (stepped v) e'
     go (Err other) before e' = let same : other ≡ end = cc in subst IsStop same (before other refl)
+
+-- how a run of so many steps ends: by its last state, or by a stop
+pub run_ends : (w : World) (n : ℕ) (P : Ended → Type 0) → ((v : World) → after w n ≡ Ok v → P (ended.Done v.step))
+    → ((step : ℕ) (stop : Stop) → after w n ≡ Err (Stopped step stop) → P (ended.Stopped step stop)) → P (answer_of (end_of_run n w))
+unfolding end_of_run
+run_ends w n P done stopped = go (after w n) refl
+  where
+    go : (r : Result World EndMark) → after w n ≡ r → P (answer_of (end_where r))
+    go (Ok v) is = done v is
+    go (Err (Done steps)) is = absurd (stops_by_stop w n (Done steps) is)
+    go (Err (Stopped step stop)) is = stopped step stop is

@@ -1,33 +1,34 @@
 -- The command `upgrade`: how it ends, and what its answers mean.
-use Rattle.std.proofs.Common.{◌≡◌, ◌⊎◌, ℕ, zero, suc, List, [], ◌∷◌, ◌++◌, map, take, Result, Ok, Err, inl, inr, refl, sym, ap, ◌∙◌, subst}
+use Rattle.std.proofs.Common.{◌≡◌, ◌⊎◌, ℕ, zero, suc, List, [], ◌∷◌, ◌++◌, take, Result, Ok, Err, inl, inr, refl, sym, ap, ◌∙◌, subst}
 use Rattle.std.specs.Prelude.{⊤, unwrap_or, IfSome}
 use Rattle.pic_io.specs.Told.{Told}
 use Rattle.pic_io.specs.Sinks.{Sinks, sinks, Piece, outs, lines, Wrote}
 use Rattle.pic_io.specs.declared.side.Side.TheVariants.{Out}
-use Rattle.pic_io.proofs.Puts.{wrote_none, wrote_out, wrote_twice, cut_more, cut_later}
+use Rattle.pic_io.proofs.Puts.{wrote_none, wrote_out, cut_more}
 use Rattle.pic_grid.specs.declared.stop.EndMark.{EndMark}
 use Rattle.pic_fields.specs.Parser.{Fault}
-use Rattle.pic_fields.specs.Reads.{Moves}
 use Rattle.pic_record.specs.FrameFields.{FrameView}
 use Rattle.pic_record.specs.Layout.{LayoutView, layout_of}
 use Rattle.pic_dump.specs.declared.upgrade_stop.UpgradeStop.TheVariants as stop
 use Rattle.pic_dump.specs.DumpRead.{DumpRead, read_dump}
 use Rattle.pic_dump.specs.Upgrade.{Answer, Puts, FailsToRead, FailsToPut, PutsNothing, Upgrades, frame_pieces, end_pieces, answer_behind, upgrade_dump, upgrade_of}
-use Rattle.pic_verify.specs.Allowed.{TakesHeader}
-use Rattle.pic_verify.proofs.UntakenLaws.{none_header}
+use Rattle.pic_dump.specs.Allowed.{TakesAllowed, TakesHeader}
+use Rattle.pic_dump.specs.Whole.{Parts, dump_parts, parts_in, TakesWhole}
+use Rattle.pic_dump.proofs.UntakenLaws.{none_allowed, none_header}
 use Rattle.pic_run.specs.declared.cut.Cut.{Cut}
 use Rattle.pic_run.specs.declared.cut.Cut.TheVariants as cut
 use Rattle.pic_run.specs.declared.ended.Ended.{Ended}
 use Rattle.pic_run.specs.declared.ended.Ended.TheVariants.{Upgraded, BadDump, ReadFault, NoMemory}
 use Rattle.pic_run.specs.Ended.{ended_of}
-use Rattle.pic_run.specs.Reading.{Given, Held, Failed, FailedBehind, Gave, Reading}
+use Rattle.pic_run.specs.Reading.{Given, Held, Failed, FailedBehind, Gave, Reading, TakesOfDump}
 use Rattle.pic_run.specs.Leaves.{ComesTo, Fulfils, LeavesNothing}
 use Rattle.pic_run.specs.Finishes.{Announces}
 use Rattle.pic_run.specs.Manner.{Call, Performs}
-use Rattle.pic_run.specs.Upgrade.{upgrade_line, upgrade_outcome, ended_upgrade, upgrade_on, ReadsUpgraded, UpgradeMeans, upgrading}
+use Rattle.pic_run.specs.Upgrade.{upgrade_line, upgrade_outcome, ended_upgrade, upgrade_on, ReadsUpgraded, upgrading}
 use Rattle.pic_run.specs.Ends.{MeansIn}
-use Rattle.pic_run.proofs.EndLaws.{announced, starved, fed, unlike, told_held}
+use Rattle.pic_run.proofs.EndLaws.{announced, fed, unlike, told_held}
 use Rattle.pic_run.proofs.OpenedLaws.{gave_known}
+use Rattle.pic_run.proofs.RunLaws.{told_behind}
 use Rattle.pic_run.proofs.VerifyLaws.{left_held}
 
 -- pieces with no line
@@ -76,22 +77,28 @@ found : (held : List ℕ) → IsFound (upgrade_of held).answer
 unfolding upgrade_of
 found held = found_dump (read_dump held)
 
--- parts that were put, and the line of an answer behind them
-behind : (parts : List Piece) (answer : Ended) (a b c : Sinks) (finish : Result Ended Cut) → Wrote a b (outs parts) (lines parts)
-    → Announces (upgrade_outcome [] answer) b c finish → Announces (upgrade_outcome parts answer) a c finish
-behind parts answer a b c (Ok _) first ends = record {
-  answers = ends.answers;
-  wrote = wrote_twice a b c (outs parts) (lines parts) [] (upgrade_line answer) first ends.wrote;
+-- the parts that an upgrade puts are those of the dump
+parts_of : (r : Result DumpRead Fault) → (upgrade_dump r).parts ≡ dump_parts r
+parts_of (Ok d) = refl
+parts_of (Err f) = refl
+
+parts_are : (held : List ℕ) → (upgrade_of held).parts ≡ parts_in held
+unfolding upgrade_of
+parts_are held = parts_of (read_dump held)
+
+-- a dump that gave this, of which no more was taken than is allowed
+abbrev read : (source source' : Told) (allowed : TakesAllowed source source') (given : Given) → Gave source source' allowed.front given
+    → Reading (TakesOfDump source source') source source'
+read source source' allowed given gave = record {
+  front = allowed.front;
+  most = record { allowed = allowed; same = refl };
+  taken = allowed.taken;
+  given = given;
+  gave = gave;
 }
-behind parts answer a b c (Err (cut.Write side)) first ends = cut_later side a b c parts (record { out = []; line = upgrade_line answer } ∷ []) first ends
-behind parts answer a b c (Err cut.NoMemory) first ends = ends
 
--- a source of which nothing was taken for want of memory
-pub untaken : (source : Told) → ReadsUpgraded source source (Held (unwrap_or source.bytes [])) NoMemory
-untaken source = record { memory = λ _. none_header source; end = λ frames same. cc; part = λ held whole same. cc }
-
--- a call that put a dump again
-module _ (source source' out out' r r' : Told) (finish : Result Ended Cut) where
+-- a call that put a dump again, of which no more was taken than is allowed
+module _ (source source' out out' r r' : Told) (allowed : TakesAllowed source source') (finish : Result Ended Cut) where
   -- all that was whole of what the source held
   put : (answer : Answer) (puts : Puts upgrade_of 0 source source' out out' answer)
       → ReadsUpgraded source source' (Held puts.held) (ended_of finish)
@@ -102,19 +109,14 @@ module _ (source source' out out' r r' : Told) (finish : Result Ended Cut) where
       let first : Wrote (sinks out r) (sinks out' r) (outs parts) (lines parts) =
       subst (λ (t : List ℕ). Wrote (sinks out r) (sinks out' r) (outs parts) t) (sym (no_lines parts (silent puts.held)))
       (wrote_out out out' r (outs parts) puts.put puts.calm_out) in
-      let whole = behind parts (ended_upgrade answer) (sinks out r) (sinks out' r) (sinks out' r') finish first ends in
+      let end = ended_upgrade answer in
+      let whole = told_behind [] parts (upgrade_line end) end (sinks out r) (sinks out' r) (sinks out' r') finish first ends in
       record {
-        read = record {
-          front = puts.moves.front;
-          most = tt;
-          taken = puts.moves.moved;
-          given = Held puts.held;
-          gave = (puts.calm, left_held source.bytes puts.held puts.was);
-        };
+        read = read source source' allowed (Held puts.held) (puts.calm, left_held source.bytes puts.held puts.was);
         calm = λ _. puts.calm;
         reads = reads;
         comes = subst (λ (a : Answer). ComesTo LeavesNothing (upgrade_outcome parts (ended_upgrade a)) (sinks out r) (sinks out' r') (ended_of finish))
-            (sym puts.answered) (announced LeavesNothing (upgrade_outcome parts (ended_upgrade answer)) (sinks out r) (sinks out' r') finish whole);
+            (sym puts.answered) (announced LeavesNothing (upgrade_outcome parts end) (sinks out r) (sinks out' r') finish whole);
       }
 
   pub put_whole : (frames : ℕ) → Upgrades source source' out out' (Ok frames)
@@ -124,7 +126,7 @@ module _ (source source' out out' r r' : Told) (finish : Result Ended Cut) where
       put (Ok frames) is.answer.0 (record {
         memory = λ wanted. absurd (fed (upgrade_outcome [] (Upgraded frames)) (sinks out' r) (sinks out' r') finish (λ same. cc) ends wanted);
         end = λ _ _. is.answer.1;
-        part = λ held whole same. cc;
+        part = tt;
       }) ends
 
   pub put_up_to : (place cause : ℕ) → Upgrades source source' out out' (Err (stop.BadDump place cause))
@@ -135,7 +137,7 @@ module _ (source source' out out' r r' : Told) (finish : Result Ended Cut) where
       put (Err (stop.BadDump place cause)) is.answer (record {
         memory = λ wanted. absurd (fed o (sinks out' r) (sinks out' r') finish (λ same. cc) ends wanted);
         end = λ frames same. absurd (unlike o (sinks out' r) (sinks out' r') finish (Upgraded frames) (λ same'. cc) (λ side same'. cc) ends same);
-        part = λ held whole same. cc;
+        part = tt;
       }) ends
 
   -- a read failed
@@ -150,42 +152,26 @@ module _ (source source' out out' r r' : Told) (finish : Result Ended Cut) where
       (wrote_out out out' r (outs parts) fails.put fails.calm_out) in
       let o = upgrade_outcome [] ReadFault in
       record {
-        read = record {
-          front = fails.moves.front;
-          most = tt;
-          taken = fails.moves.moved;
-          given = FailedBehind fails.held fails.whole;
-          gave = (fails.rose, left_held source.bytes fails.held fails.was);
-        };
+        read = read source source' allowed (FailedBehind fails.held fails.whole) (fails.rose, left_held source.bytes fails.held fails.was);
         calm = λ wanted. absurd (fed o (sinks out' r) (sinks out' r') finish (λ same. cc) ends wanted);
         reads = record {
           memory = λ wanted. absurd (fed o (sinks out' r) (sinks out' r') finish (λ same. cc) ends wanted);
           end = λ frames same. absurd (unlike o (sinks out' r) (sinks out' r') finish (Upgraded frames) (λ same'. cc) (λ side same'. cc) ends same);
-          part = λ held whole same.
-              let held_is : fails.held ≡ held = cc in
-              let whole_is : fails.whole ≡ whole = cc in
-              subst (λ (n : ℕ). Moves 0 ((upgrade_of held).end n) source source') whole_is
-              (subst (λ (h : List ℕ). Moves 0 ((upgrade_of h).end fails.whole) source source') held_is fails.moves);
+          part = subst (λ (parts : Parts). TakesWhole parts 0 fails.whole source source') (parts_are fails.held) fails.takes;
         };
         comes = announced LeavesNothing (upgrade_outcome parts ReadFault) (sinks out r) (sinks out' r') finish
-            (behind parts ReadFault (sinks out r) (sinks out' r) (sinks out' r') finish first ends);
+            (told_behind [] parts (upgrade_line ReadFault) ReadFault (sinks out r) (sinks out' r) (sinks out' r') finish first ends);
       }
 
 -- a put failed
-pub put_failed : (source source' out out' r : Told) → Upgrades source source' out out' (Err stop.WriteFault)
+pub put_failed : (source source' out out' r : Told) → TakesAllowed source source' → Upgrades source source' out out' (Err stop.WriteFault)
     → Performs upgrading source source' (sinks out r) (sinks out' r) (ended_of (Err (cut.Write Out)))
-put_failed source source' out out' r is =
+put_failed source source' out out' r allowed is =
     let fails : FailsToPut upgrade_of 0 source source' out out' = is.answer in
     record {
-      read = record {
-        front = fails.moves.front;
-        most = tt;
-        taken = fails.moves.moved;
-        given = Held fails.held;
-        gave = (fails.calm, left_held source.bytes fails.held fails.was);
-      };
+      read = read source source' allowed (Held fails.held) (fails.calm, left_held source.bytes fails.held fails.was);
       calm = λ _. fails.calm;
-      reads = record { memory = λ same. cc; end = λ frames same. cc; part = λ held whole same. cc };
+      reads = record { memory = λ same. cc; end = λ frames same. cc; part = tt };
       comes = inr (inl (record {
         side = Out;
         failed = refl;
@@ -194,21 +180,26 @@ put_failed source source' out out' r is =
     }
 
 -- memory was wanting
-pub put_none : (source source' out out' r : Told) → Upgrades source source' out out' (Err stop.NoMemory) → TakesHeader source source'
-    → Performs upgrading source source' (sinks out r) (sinks out' r) NoMemory
-put_none source source' out out' r is header =
+pub put_none : (source source' out out' r : Told) → TakesAllowed source source' → Upgrades source source' out out' (Err stop.NoMemory)
+    → TakesHeader source source' → Performs upgrading source source' (sinks out r) (sinks out' r) NoMemory
+put_none source source' out out' r allowed is header =
     let none : PutsNothing source source' out out' = is.answer in
     record {
-      read = record {
-        front = header.longest.front;
-        most = tt;
-        taken = header.longest.moved;
-        given = Held (unwrap_or source.bytes []);
-        gave = gave_known source source' header.longest.front none.calm;
-      };
+      read = read source source' allowed (Held (unwrap_or source.bytes [])) (gave_known source source' allowed.front none.calm);
       calm = λ _. none.calm;
-      reads = record { memory = λ _. header; end = λ frames same. cc; part = λ held whole same. cc };
+      reads = record { memory = λ _. header; end = λ frames same. cc; part = tt };
       comes = inr (inr (record { wanted = refl; left = wrote_out out out' r [] none.put none.calm_out }));
+    }
+
+-- it was wanting before anything was taken
+pub upgrade_starved : (source : Told) (before : Sinks) → Performs upgrading source source before before NoMemory
+upgrade_starved source before =
+    let allowed = none_allowed source in
+    record {
+      read = read source source allowed (Held (unwrap_or source.bytes [])) (gave_known source source allowed.front refl);
+      calm = λ _. refl;
+      reads = record { memory = λ _. none_header source; end = λ frames same. cc; part = tt };
+      comes = inr (inr (record { wanted = refl; left = wrote_none before }));
     }
 
 -- what its answers mean

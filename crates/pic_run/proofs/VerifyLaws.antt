@@ -4,10 +4,11 @@ use Rattle.std.specs.Prelude.{unwrap_or, option_map, IfSome}
 use Rattle.pic_io.specs.Told.{Told}
 use Rattle.pic_io.specs.Sinks.{Sinks}
 use Rattle.pic_io.proofs.Puts.{wrote_none}
-use Rattle.pic_verify.proofs.UntakenLaws.{none_allowed, none_reached, none_header}
+use Rattle.pic_dump.proofs.UntakenLaws.{none_allowed, none_header}
+use Rattle.pic_verify.proofs.UntakenLaws.{none_reached}
 use Rattle.pic_verify.specs.declared.verify_stop.VerifyStop.{VerifyStop}
 use Rattle.pic_verify.specs.declared.verify_stop.VerifyStop.TheVariants as verify_stop
-use Rattle.pic_verify.specs.Allowed.{TakesAllowed, TakesHeader}
+use Rattle.pic_dump.specs.Allowed.{TakesAllowed, TakesHeader}
 use Rattle.pic_verify.specs.Reached.{TakesToRecord}
 use Rattle.pic_verify.specs.Verified.{Verdict, verified}
 use Rattle.pic_verify.specs.Verifies.{Finds, Verifies}
@@ -21,7 +22,7 @@ use Rattle.pic_run.specs.Outcome.{verdict_on, verdict_outcome}
 use Rattle.pic_run.specs.Leaves.{ComesTo, Fulfils, LeavesNothing}
 use Rattle.pic_run.specs.Finishes.{Announces, EndsStopped}
 use Rattle.pic_run.specs.Manner.{Call, Performs}
-use Rattle.pic_run.specs.Verify.{TakesOfDump, ReadsDump, verifying}
+use Rattle.pic_run.specs.Verify.{TakesOfTested, ReadsDump, verifying}
 use Rattle.pic_run.specs.Ends.{MeansIn}
 use Rattle.pic_run.proofs.EndLaws.{announced, starved, fed, unlike, told_held}
 use Rattle.pic_run.proofs.OpenedLaws.{gave_known}
@@ -32,11 +33,11 @@ left_held None held is = tt
 left_held (Some bytes) held is = let same : bytes ≡ held = cc in same
 
 -- a dump that gave this, of which no more was taken than is allowed
-abbrev read : (source source' : Told) (allowed : TakesAllowed source source') → TakesToRecord source source' → (given : Given)
-    → Gave source source' allowed.front given → Reading (TakesOfDump source source') source source'
+abbrev pub read : (source source' : Told) (allowed : TakesAllowed source source') → TakesToRecord source source' → (given : Given)
+    → Gave source source' allowed.front given → Reading (TakesOfTested source source') source source'
 read source source' allowed reached given gave = record {
   front = allowed.front;
-  most = record { allowed = allowed; reached = reached; same = refl };
+  most = record { dump = record { allowed = allowed; same = refl }; reached = reached };
   taken = allowed.taken;
   given = given;
   gave = gave;

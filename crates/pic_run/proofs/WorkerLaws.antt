@@ -6,8 +6,8 @@ use Rattle.std.specs.Prelude.{codes}
 use Rattle.clap.specs.Words.{fault_of, subcommand_of}
 use Rattle.pic_crew.specs.Teams.{most_workers}
 use Rattle.pic_line.specs.declared.asked.Command.{Command}
-use Rattle.pic_line.specs.declared.asked.Command.TheVariants.{Check, Run, Verify, Demo, Upgrade}
-use Rattle.pic_line.specs.CommandLine.{pic_app, number_in, workers_in, seed_in, demo_of, command_from, unless_fault, command_of}
+use Rattle.pic_line.specs.declared.asked.Command.TheVariants.{Check, Run, Verify, Demo, Upgrade, Resume}
+use Rattle.pic_line.specs.CommandLine.{pic_app, number_in, workers_in, seed_in, steps_in, tiles_in, demo_of, resume_of, command_from, unless_fault, command_of}
 
 -- so many workers
 pub record AreWorkers (n : ℕ) : Type 0 where
@@ -35,6 +35,7 @@ found None n h = absurd (cc)
 abbrev HasWorkers : Command → Type 0
 HasWorkers (Run workers) = AreWorkers workers
 HasWorkers (Demo seed workers) = AreWorkers workers
+HasWorkers (Resume steps workers tiles) = AreWorkers workers
 HasWorkers c = ⊤
 
 plain : (d c : Command) → HasWorkers d → ◌≡◌ {A = Option Command} (Some d) (Some c) → HasWorkers c
@@ -49,18 +50,26 @@ demo_has (Some seed) (Some n) c all h = plain (Demo seed n) c (all n refl) h
 demo_has (Some seed) None c all h = absurd (cc)
 demo_has None o c all h = absurd (cc)
 
-named : (a b d e u : Bool) (s o : Option ℕ) (c : Command) → ((n : ℕ) → o ≡ Some n → AreWorkers n)
-    → cond a (Some Check) (cond b (option_map Run o) (cond d (Some Verify) (cond e (demo_of s o) (cond u (Some Upgrade) None)))) ≡ Some c → HasWorkers c
-named true b d e u s o c all h = plain Check c tt h
-named false true d e u s o c all h = run_has o c all h
-named false false true e u s o c all h = plain Verify c tt h
-named false false false true u s o c all h = demo_has s o c all h
-named false false false false true s o c all h = plain Upgrade c tt h
-named false false false false false s o c all h = absurd (cc)
+resume_has : (m o : Option ℕ) (ts : Option (List ℕ)) (c : Command) → ((n : ℕ) → o ≡ Some n → AreWorkers n) → resume_of m o ts ≡ Some c → HasWorkers c
+resume_has (Some m) (Some n) (Some ts) c all h = plain (Resume m n ts) c (all n refl) h
+resume_has (Some m) (Some n) None c all h = absurd (cc)
+resume_has (Some m) None ts c all h = absurd (cc)
+resume_has None o ts c all h = absurd (cc)
+
+named : (a b d e u f : Bool) (s o m : Option ℕ) (ts : Option (List ℕ)) (c : Command) → ((n : ℕ) → o ≡ Some n → AreWorkers n)
+    → cond a (Some Check) (cond b (option_map Run o) (cond d (Some Verify) (cond e (demo_of s o) (cond u (Some Upgrade)
+    (cond f (resume_of m o ts) None))))) ≡ Some c → HasWorkers c
+named true b d e u f s o m ts c all h = plain Check c tt h
+named false true d e u f s o m ts c all h = run_has o c all h
+named false false true e u f s o m ts c all h = plain Verify c tt h
+named false false false true u f s o m ts c all h = demo_has s o c all h
+named false false false false true f s o m ts c all h = plain Upgrade c tt h
+named false false false false false true s o m ts c all h = resume_has m o ts c all h
+named false false false false false false s o m ts c all h = absurd (cc)
 
 from : (o : _) (c : Command) → command_from o ≡ Some c → HasWorkers c
 from None c h = plain Check c tt h
-from (Some (name, rows)) c h = named _ _ _ _ _ (seed_in rows) (workers_in rows) c (λ n. found _ n) h
+from (Some (name, rows)) c h = named _ _ _ _ _ _ (seed_in rows) (workers_in rows) (steps_in rows) (tiles_in rows) c (λ n. found _ n) h
 
 without_fault : (kinds : _) (o : _) (c : Command) → unless_fault kinds (command_from o) ≡ Some c → HasWorkers c
 without_fault [] o c h = from o c h
@@ -75,3 +84,6 @@ run_workers words n h = has_workers words (Run n) h
 
 pub demo_workers : (words : List (List ℕ)) (seed n : ℕ) → command_of words ≡ Some (Demo seed n) → AreWorkers n
 demo_workers words seed n h = has_workers words (Demo seed n) h
+
+pub resume_workers : (words : List (List ℕ)) (steps n : ℕ) (tiles : List ℕ) → command_of words ≡ Some (Resume steps n tiles) → AreWorkers n
+resume_workers words steps n tiles h = has_workers words (Resume steps n tiles) h

@@ -1,7 +1,7 @@
 -- The commands, each as what it does.
 use Rattle.std.specs.Prelude.{◌≡◌, ⊤, ℕ, List, Option, Some, None}
 use Rattle.pic_line.specs.declared.asked.Command.{Command}
-use Rattle.pic_line.specs.declared.asked.Command.TheVariants.{Check, Run, Verify, Demo, Upgrade}
+use Rattle.pic_line.specs.declared.asked.Command.TheVariants.{Check, Run, Verify, Demo, Upgrade, Resume}
 use Rattle.pic_line.specs.CommandLine.{command_of}
 use Rattle.pic_run.specs.declared.ended.Ended.TheVariants.{Usage}
 use Rattle.pic_run.specs.Reading.{Given}
@@ -13,6 +13,7 @@ use Rattle.pic_run.specs.Run.{running}
 use Rattle.pic_run.specs.Verify.{verifying}
 use Rattle.pic_run.specs.Demo.{demonstrating}
 use Rattle.pic_run.specs.Upgrade.{upgrading}
+use Rattle.pic_run.specs.Resume.{resuming}
 
 -- words that are no command: nothing is taken, and the usage is told
 abbrev pub no_command : Manner
@@ -31,6 +32,7 @@ manner_of (Some (Run workers)) = running workers
 manner_of (Some Verify) = verifying
 manner_of (Some (Demo seed workers)) = demonstrating seed workers
 manner_of (Some Upgrade) = upgrading
+manner_of (Some (Resume steps workers tiles)) = resuming steps tiles
 
 -- the outcome of some words, for what the source gave
 unfoldable pub outcome : List (List ℕ) → Given → Outcome

@@ -1,5 +1,5 @@
 -- The frames of a run, each with its line, and how the run ends: this project's profile.
-use Rattle.std.specs.Prelude.{◌≡◌, ℕ, ◌+◌, List, [], ◌∷◌, ◌++◌, map, if◌then◌else◌, Result, Ok, Err}
+use Rattle.std.specs.Prelude.{◌≡◌, ℕ, ◌+◌, ◌-◌, List, [], ◌∷◌, ◌++◌, map, if◌then◌else◌, Result, Ok, Err}
 use Rattle.std.specs.List.{flat_map, range_with_len}
 use Rattle.pic_io.specs.Sinks.{Piece}
 use Rattle.pic_grid.specs.declared.stop.EndMark.{EndMark}
@@ -42,6 +42,11 @@ due_states steps every w first count =
 -- the due frames of a run
 abbrev pub frames_of : Output → ℕ → ℕ → World → List Piece
 frames_of output steps every w = map (frame_piece output) (due_states steps every w 0 (steps + 1))
+
+-- those of the states behind w
+abbrev pub frames_behind : Output → ℕ → ℕ → World → List Piece
+frames_behind output steps every w =
+    map (frame_piece output) (due_states steps every w 1 (steps - w.step))
 
 -- how a run ends that came so far
 abbrev pub end_where : Result World EndMark → EndMark

@@ -11,16 +11,20 @@ pub record Fulfils (o : Outcome) (before now : Sinks) (answer : Ended) : Type 0 
   pub answers : o.answer ≡ answer
   pub wrote : Wrote before now (out_text o) (report_text o)
 
--- so many workers left the head, the first frame and so many more, whole, with their lines: one
--- alone wants no memory, and a run that comes to its last step wants none behind it
-pub record HasFrames (workers : ℕ) (answer : Ended) (head : List ℕ) (frames : List Piece)
-    (before now : Sinks) : Type 0 where
-  pub many : 2 ≤ workers
+-- the head and so many of the frames stand, whole, with their lines
+pub record HasFront (head : List ℕ) (frames : List Piece) (before now : Sinks) : Type 0 where
   pub number : ℕ
-  pub least : 1 ≤ number
   pub most : number ≤ length frames
-  pub left : (steps : ℕ) → answer ≡ Done steps → number < length frames
   pub wrote : Wrote before now (head ++ outs (take number frames)) (lines (take number frames))
+
+-- so many workers left a head and frames, at least so many: one alone wants no memory, and a run that
+-- comes to its last step wants none behind it
+pub record HasFrames (least workers : ℕ) (answer : Ended) (head : List ℕ) (frames : List Piece)
+    (before now : Sinks) : Type 0 where
+  pub front : HasFront head frames before now
+  pub many : 2 ≤ workers
+  pub enough : least ≤ front.number
+  pub left : (steps : ℕ) → answer ≡ Done steps → front.number < length frames
 
 -- what a command leaves of an outcome where memory was wanting
 abbrev pub Leaving : Type 1
@@ -30,10 +34,15 @@ Leaving = Outcome → Sinks → Sinks → Type 0
 abbrev pub LeavesNothing : Leaving
 LeavesNothing o before now = Wrote before now [] []
 
--- nothing, or whole frames: memory is wanted before the head, or by a step of so many workers
+-- nothing, or the first frame and some more: memory is wanted before the head, or by a step of so many
+-- workers
 abbrev pub LeavesWhole : ℕ → Leaving
 LeavesWhole workers o before now =
-    Wrote before now [] [] ⊎ HasFrames workers o.answer o.head o.frames before now
+    Wrote before now [] [] ⊎ HasFrames 1 workers o.answer o.head o.frames before now
+
+-- nothing, or the head and whole frames
+abbrev pub LeavesKept : Leaving
+LeavesKept o before now = Wrote before now [] [] ⊎ HasFront o.head o.frames before now
 
 -- a put failed: the pieces stand up to it, and nothing of what follows
 pub record IsCutOff (o : Outcome) (before now : Sinks) (answer : Ended) : Type 0 where

@@ -6,6 +6,7 @@ pub mod Early
 pub mod DeckEnd
 pub mod Starting
 pub mod Frames
+pub mod FrameStates
 pub mod Rooms
 pub mod Outcome
 pub mod Leaves
@@ -19,5 +20,6 @@ pub mod Run
 pub mod Verify
 pub mod Demo
 pub mod Upgrade
+pub mod Resume
 pub mod Commands
 pub mod Ends

@@ -11,7 +11,7 @@ use Rattle.pic_run.specs.declared.ended.Ended.{Ended}
 use Rattle.pic_run.specs.declared.ended.Ended.TheVariants as ended
 
 unfoldable pub usage_line : List ℕ
-usage_line = codes "usage: pic [check | run [--workers N] | verify | demo SEED [--workers N] | upgrade]\n"
+usage_line = codes "usage: pic [check | run [--workers N] | verify | demo SEED [--workers N] | upgrade | resume --steps M [--workers N]]\n"
 
 unfoldable pub read_fault_line : List ℕ
 read_fault_line = codes "read fault\n"

@@ -7,7 +7,7 @@ use Rattle.pic_grid.specs.declared.stop.Stop.{Stop}
 use Rattle.pic_grid.specs.Differences.{div_e}
 use Rattle.pic_grid.specs.Lattice.{value_at}
 use Rattle.pic_charge.specs.declared.breaks.Break.{Break}
-use Rattle.pic_charge.specs.Charge.{charge_of}
+use Rattle.pic_charge.specs.Charge.{rho_of}
 use Rattle.pic_charge.specs.Gauss.{IsLeastBreak}
 use Rattle.pic_deck.specs.declared.refusal.Refusal.{Refusal}
 use Rattle.pic_deck.specs.Deck.{DeckView}
@@ -44,7 +44,7 @@ IsRefused c refusal = IfSome c.source.bytes (λ held. walk (take deck_limit held
 abbrev pub IsLeastBreakOf : World → Break → Type 0
 IsLeastBreakOf w b =
     IsLeastBreak w.cells (div_e w.cells (value_at (e_of w)))
-    (charge_of w.side w.cells w.kinds w.particles) b
+    (rho_of w.side w.filter w.cells w.kinds w.particles) b
 
 -- this is the least node where the E of the command's deck and its charge differ
 pub record BreaksGauss (Has : DeckView → Type 0) (b : Break) : Type 0 where

@@ -81,14 +81,18 @@ verdict_on (Held held) = verified held
 verdict_on (Failed front) = Err verify_stop.ReadFault
 verdict_on (FailedBehind held whole) = Err verify_stop.ReadFault
 
--- an answer that comes before its command has put anything: its line alone, on report
-abbrev pub early_outcome : Ended → Outcome
-early_outcome answer = record {
+-- an answer that is told behind a head and frames: its line alone, on report
+abbrev pub told_outcome : List ℕ → List Piece → List ℕ → Ended → Outcome
+told_outcome head frames line answer = record {
   answer = answer;
-  head = [];
-  frames = [];
-  last = record { out = []; line = early_line answer };
+  head = head;
+  frames = frames;
+  last = record { out = []; line = line };
 }
+
+-- one that comes before its command has put anything
+abbrev pub early_outcome : Ended → Outcome
+early_outcome answer = told_outcome [] [] (early_line answer) answer
 
 -- what a command makes of its deck, or why that isn't run
 abbrev pub on_deck : (DeckView → Outcome) → Staged DeckView → Outcome

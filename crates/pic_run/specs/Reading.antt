@@ -1,8 +1,10 @@
 -- What a call took of its source, and what the source gave.
-use Rattle.std.specs.Prelude.{◌≡◌, ℕ, ◌<◌, ◌≤◌, List, length, take, IfSome, Result, Ok, Err, Vec}
+use Rattle.std.specs.Prelude.{◌≡◌, ⊤, ℕ, ◌<◌, ◌≤◌, List, length, take, IfSome, Result, Ok, Err, Vec}
 use Rattle.std.specs.declared.alloc.Global.{Global}
 use Rattle.pic_io.specs.Told.{Told, Calm, Rose}
 use Rattle.pic_io.specs.Source.{with_front, IsAtEnd}
+use Rattle.pic_dump.specs.Allowed.{TakesAllowed}
+use Rattle.pic_dump.specs.Whole.{parts_in, TakesWhole}
 use Rattle.pic_run.specs.declared.source_reader.SourceStop.{SourceStop}
 use Rattle.pic_run.specs.declared.source_reader.SourceStop.TheVariants.{Fault, NoMemory}
 
@@ -34,6 +36,17 @@ pub record Reading (Taken : List ℕ → Type 0) (before now : Told) : Type 0 wh
 -- so many bytes are no more than what is taken for a deck
 abbrev pub TakesOfDeck : List ℕ → Type 0
 TakesOfDeck front = length front ≤ deck_limit
+
+-- what is taken of a dump: at most one byte past the length that its header allows
+pub record TakesOfDump (source source' : Told) (front : List ℕ) : Type 0 where
+  pub allowed : TakesAllowed source source'
+  pub same : allowed.front ≡ front
+
+-- a dump is given whole, or where a read failed by so many parts as were taken whole before
+abbrev pub HasParts : Told → Told → Given → Type 0
+HasParts source source' (Held held) = ⊤
+HasParts source source' (Failed front) = ⊥
+HasParts source source' (FailedBehind held whole) = TakesWhole (parts_in held) 0 whole source source'
 
 -- at most so many bytes were taken
 pub record TakesAtMost (limit : ℕ) (before now : Told) : Type 0 where

@@ -19,11 +19,11 @@ abbrev pub WritesFrames : ℕ → List Piece → EndMark → Sinks → Sinks →
 WritesFrames workers frames last before now (Ok end) = WroteFrames frames last end before now
 WritesFrames workers frames last before now (Err (Write side)) = CutAt side before now frames
 WritesFrames workers frames last before now (Err NoMemory) =
-    HasFrames workers (answer_of last) [] frames before now
+    HasFrames 0 workers (answer_of last) [] frames before now
 
--- the same with the end of the run behind them
-abbrev pub WritesStates : ℕ → Outcome → Sinks → Sinks → Result Ended Cut → Type 0
-WritesStates workers o before now (Ok answer) = Fulfils o before now answer
-WritesStates workers o before now (Err (Write side)) = CutAt side before now (pieces_of o)
-WritesStates workers o before now (Err NoMemory) =
-    HasFrames workers o.answer o.head o.frames before now
+-- the same with the end of the run behind them; of the frames stand so many at least
+abbrev pub WritesStates : ℕ → ℕ → Outcome → Sinks → Sinks → Result Ended Cut → Type 0
+WritesStates least workers o before now (Ok answer) = Fulfils o before now answer
+WritesStates least workers o before now (Err (Write side)) = CutAt side before now (pieces_of o)
+WritesStates least workers o before now (Err NoMemory) =
+    HasFrames least workers o.answer o.head o.frames before now

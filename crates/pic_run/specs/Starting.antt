@@ -3,7 +3,7 @@ use Rattle.std.specs.Prelude.{◌≡◌, ℕ, Option, Ok}
 use Rattle.pic_grid.specs.Differences.{div_e}
 use Rattle.pic_grid.specs.Lattice.{value_at}
 use Rattle.pic_charge.specs.declared.breaks.Break.{Break}
-use Rattle.pic_charge.specs.Charge.{charge_of}
+use Rattle.pic_charge.specs.Charge.{rho_of}
 use Rattle.pic_charge.specs.Gauss.{first_break, MeetsGauss}
 use Rattle.pic_deck.specs.Deck.{DeckView, heads_of}
 use Rattle.pic_load.specs.Loading.{loaded}
@@ -20,11 +20,11 @@ first_state d = start_of d (loaded d)
 unfoldable pub state_break : World → Option Break
 state_break w =
     first_break w.cells (div_e w.cells (value_at (e_of w)))
-    (charge_of w.side w.cells w.kinds w.particles)
+    (rho_of w.side w.filter w.cells w.kinds w.particles)
 
 -- Gauss's law, at every node of a state
 abbrev pub IsGauss : World → Type 0
-IsGauss w = MeetsGauss w.side w.cells w.kinds w.particles (e_of w)
+IsGauss w = MeetsGauss w.side w.filter w.cells w.kinds w.particles (e_of w)
 
 -- Gauss's law, at every node of every state of a serial run
 pub record EachGauss (w : World) : Type 0 where
@@ -42,6 +42,7 @@ header_of d = record {
   side = d.side;
   steps = d.steps;
   every = d.every;
+  filter = d.filter;
   scales = d.scales;
   species = heads_of d;
 }

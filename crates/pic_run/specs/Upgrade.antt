@@ -1,18 +1,17 @@
 -- The command `upgrade`: a dump put again in the spelling of version 2, on out.
-use Rattle.std.specs.Prelude.{◌≡◌, ⊤, ℕ, List, [], take, IfSome, Ok, Err}
+use Rattle.std.specs.Prelude.{◌≡◌, ℕ, List, [], take, IfSome, Ok, Err}
 use Rattle.pic_io.specs.Told.{Told}
 use Rattle.pic_io.specs.Source.{IsAtEnd}
 use Rattle.pic_io.specs.Sinks.{Piece}
 use Rattle.pic_io.specs.declared.side.Side.TheVariants.{Out}
-use Rattle.pic_fields.specs.Reads.{Moves}
 use Rattle.pic_dump.specs.declared.upgrade_stop.UpgradeStop.TheVariants as stop
 use Rattle.pic_dump.specs.Upgrade.{Answer, upgrade_of}
-use Rattle.pic_verify.specs.Allowed.{TakesHeader}
+use Rattle.pic_dump.specs.Allowed.{TakesHeader}
 use Rattle.pic_run.specs.declared.ended.Ended.{Ended}
 use Rattle.pic_run.specs.declared.ended.Ended.TheVariants.{Upgraded, BadDump, ReadFault, WriteFault, NoMemory}
 use Rattle.pic_run.specs.Lines.{upgraded_line, early_line}
-use Rattle.pic_run.specs.Reading.{Given, Held, Failed, FailedBehind}
-use Rattle.pic_run.specs.Outcome.{Outcome}
+use Rattle.pic_run.specs.Reading.{Given, Held, Failed, FailedBehind, TakesOfDump, HasParts}
+use Rattle.pic_run.specs.Outcome.{Outcome, told_outcome}
 use Rattle.pic_run.specs.Leaves.{LeavesNothing}
 use Rattle.pic_run.specs.Manner.{Call, Manner}
 
@@ -23,12 +22,7 @@ upgrade_line answer = early_line answer
 
 -- the parts of a dump, on out, and behind them the line of the answer, on report
 abbrev pub upgrade_outcome : List Piece → Ended → Outcome
-upgrade_outcome parts answer = record {
-  answer = answer;
-  head = [];
-  frames = parts;
-  last = record { out = []; line = upgrade_line answer };
-}
+upgrade_outcome parts answer = told_outcome [] parts (upgrade_line answer) answer
 
 abbrev pub ended_upgrade : Answer → Ended
 ended_upgrade (Ok frames) = Upgraded frames
@@ -45,12 +39,11 @@ upgrade_on (Failed front) = upgrade_outcome [] ReadFault
 upgrade_on (FailedBehind held whole) = upgrade_outcome (take whole (upgrade_of held).pieces) ReadFault
 
 -- how a dump was read: where memory was wanting, no byte behind its header was taken; one that was put
--- whole, to its end; and before a read that failed no byte behind the part that was read then
+-- whole, to its end; and where a read failed, so many parts of it were whole
 pub record ReadsUpgraded (source source' : Told) (given : Given) (ended : Ended) : Type 0 where
   pub memory : ended ≡ NoMemory → TakesHeader source source'
   pub end : (frames : ℕ) → ended ≡ Upgraded frames → IsAtEnd source'
-  pub part : (held : List ℕ) (whole : ℕ) → given ≡ FailedBehind held whole
-      → Moves 0 ((upgrade_of held).end whole) source source'
+  pub part : HasParts source source' given
 
 -- the source held a whole dump of so many frames, and nothing behind it
 pub record IsUpgraded (c : Call) (frames : ℕ) : Type 0 where
@@ -71,7 +64,7 @@ abbrev pub upgrading : Manner
 upgrading = record {
   outcome = upgrade_on;
   leaves = LeavesNothing;
-  takes = λ source source' front. ⊤;
+  takes = TakesOfDump;
   reads = ReadsUpgraded;
   means = UpgradeMeans;
 }

@@ -4,21 +4,21 @@ use Rattle.pic_io.specs.Told.{Told, Rose}
 use Rattle.pic_io.specs.Source.{IsAtEnd}
 use Rattle.pic_charge.specs.declared.breaks.Break.{Break}
 use Rattle.pic_verify.specs.declared.verify_stop.VerifyStop.TheVariants as verify_stop
-use Rattle.pic_verify.specs.Allowed.{TakesAllowed, TakesHeader}
+use Rattle.pic_dump.specs.Allowed.{TakesHeader}
 use Rattle.pic_verify.specs.Reached.{TakesToRecord}
 use Rattle.pic_verify.specs.Verified.{verified}
 use Rattle.pic_run.specs.declared.ended.Ended.{Ended}
 use Rattle.pic_run.specs.declared.ended.Ended.TheVariants.{Verified, BadDump, Broken, ReadFault, NoMemory}
+use Rattle.pic_run.specs.Reading.{TakesOfDump}
 use Rattle.pic_run.specs.Outcome.{verdict_on, verdict_outcome}
 use Rattle.pic_run.specs.Leaves.{LeavesNothing}
 use Rattle.pic_run.specs.Manner.{Call, Manner}
 
--- what is taken of a dump: at most one byte past the length that its header allows, and none behind
--- the most that the first record that isn't good can have
-pub record TakesOfDump (source source' : Told) (front : List ℕ) : Type 0 where
-  pub allowed : TakesAllowed source source'
+-- what is taken of a dump whose frames are tested: no byte behind the most that the first record that
+-- isn't good can have
+pub record TakesOfTested (source source' : Told) (front : List ℕ) : Type 0 where
+  pub dump : TakesOfDump source source' front
   pub reached : TakesToRecord source source'
-  pub same : allowed.front ≡ front
 
 -- how a dump was read: where memory was wanting, no byte behind its header was taken; one whose frames
 -- are good, to its end; and a read fault is one that the source's count shows
@@ -53,7 +53,7 @@ abbrev pub verifying : Manner
 verifying = record {
   outcome = λ given. verdict_outcome (verdict_on given);
   leaves = LeavesNothing;
-  takes = TakesOfDump;
+  takes = TakesOfTested;
   reads = λ source source' given. ReadsDump source source';
   means = VerifyMeans;
 }

@@ -3,25 +3,16 @@
 ghost use Rattle.std.specs.Prelude.{◌≡◌, ◌≤◌, [], ◌∷◌, map, Ok};
 ghost use Rattle.pic_io.specs.Sinks.{sinks, Writes};
 ghost use Rattle.pic_step.specs.Sound.{IsSound};
-ghost use Rattle.pic_record.specs.Due.{is_due};
 ghost use Rattle.pic_run.specs.Frames.{frame_piece, due_state, energies_in, end_piece};
 ghost use Rattle.pic_run.specs.Rooms.{HasShape, HoldsState};
 
 use crate::output::{Output, Plan};
 use crate::writing::{put_line, put_out};
-use pic_dump::{put_end, put_frame};
+use pic_dump::{is_due, put_end, put_frame};
 use pic_energy::{Energies, end_line, energies, frame_line};
 use pic_grid::{EndMark, Snapshot};
 use pic_io::{Failed, Side, Sink};
 use pic_step::State;
-
-// Whether a frame is due after this step.
-fn is_due(steps: u32, every: u32, step: u32) -> bool
-    requires { 1 ≤ every }
-    ensures { result ≡ is_due steps every step }
-{
-    step == steps || step % every == 0
-}
 
 /// Writes the frame of a state, where it is due. What the room held is lost.
 pub fn write_due<O: Sink, R: Sink>(
@@ -46,7 +37,8 @@ pub fn write_due<O: Sink, R: Sink>(
     }
 }
 
-fn write_frame<O: Sink, R: Sink>(
+/// Writes the frame of a state. What the room held is lost.
+pub fn write_frame<O: Sink, R: Sink>(
     output: Output,
     out: &mut O,
     report: &mut R,

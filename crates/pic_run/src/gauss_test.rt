@@ -8,9 +8,8 @@ ghost use Rattle.pic_step.specs.Sound.{IsSound};
 ghost use Rattle.pic_step.specs.Start.{begun};
 ghost use Rattle.pic_run.specs.Starting.{state_break};
 
-use pic_charge::{Break, charge, gauss};
+use pic_charge::{Break, ChargeRoom};
 use pic_deck::Deck;
-use pic_grid::Nodes;
 use pic_num::NoMemory;
 use pic_step::Start;
 use std::alloc::Global;
@@ -25,12 +24,7 @@ pub fn find_break(alloc: Global, deck: &Deck, start: &Start) -> Result<Option<Br
     ensures sound { IfOk result (λ found. found ≡ None → IsSound (begun start.now)) }
 {
     let cells = deck.cells();
-    let mut rho = Nodes::new(alloc, cells)?;
-    charge(
-        cells,
-        start.setup.kinds.as_slice(),
-        &start.particles,
-        &mut rho,
-    );
-    Ok(gauss(cells, &start.e, &rho))
+    let mut room = ChargeRoom::new(alloc, cells, start.setup.filter)?;
+    let kinds = start.setup.kinds.as_slice();
+    Ok(room.find_break(kinds, &start.particles, &start.e))
 }

@@ -12,6 +12,7 @@ mod lines;
 mod opening_deck;
 mod output;
 mod refusing;
+mod resume;
 mod run_header;
 mod running;
 mod showing;

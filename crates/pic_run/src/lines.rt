@@ -14,7 +14,7 @@ pub const LINE_BYTES: usize = 280;
 pub fn line_of_usage() -> &'static [u8]
     ensures { result.now ≡ usage_line }
 {
-    b"usage: pic [check | run [--workers N] | verify | demo SEED [--workers N] | upgrade]\n"
+    b"usage: pic [check | run [--workers N] | verify | demo SEED [--workers N] | upgrade | resume --steps M [--workers N]]\n"
 }
 
 /// The line of a read that failed.

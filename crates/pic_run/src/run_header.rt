@@ -5,7 +5,7 @@ ghost use Rattle.pic_deck.specs.Species.{head_of};
 ghost use Rattle.pic_run.specs.Starting.{header_of};
 
 use pic_deck::{Deck, Species};
-use pic_dump::{Head, Header, Heads};
+use pic_dump::{Head, Header, HeaderSettings, Heads};
 use pic_grid::Name;
 use pic_num::NoMemory;
 use std::alloc::Global;
@@ -15,14 +15,15 @@ pub fn header_of(alloc: Global, deck: &Deck) -> Result<Header, NoMemory>
     ensures { IfOk result (λ header. header ≡ header_of deck.now) }
 {
     let heads = heads_of(alloc, deck.species())?;
-    Ok(Header::new(
-        deck.version(),
-        deck.cells(),
-        deck.steps(),
-        deck.every(),
-        deck.scales(),
-        Heads::from_vec(heads),
-    ))
+    let settings = HeaderSettings {
+        version: deck.version(),
+        cells: deck.cells(),
+        steps: deck.steps(),
+        every: deck.every(),
+        filter: deck.filter(),
+        scales: deck.scales(),
+    };
+    Ok(Header::new(settings, Heads::from_vec(heads)))
 }
 
 // What the header says of each species.

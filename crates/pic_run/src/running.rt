@@ -1,6 +1,6 @@
 //! The command `run`, and the loop over the states of a run.
 
-ghost use Rattle.std.specs.Prelude.{◌≡◌, ◌<◌, ◌≤◌, [], ◌∷◌, IfOk};
+ghost use Rattle.std.specs.Prelude.{◌≡◌, ◌-◌, ◌<◌, ◌≤◌, [], IfOk};
 ghost use Rattle.pic_num.specs.Limits.{most_steps};
 ghost use Rattle.pic_crew.specs.Teams.{most_workers};
 ghost use Rattle.pic_io.specs.Sinks.{sinks, Writes};
@@ -8,7 +8,7 @@ ghost use Rattle.pic_step.specs.Kept.{AreTiled};
 ghost use Rattle.pic_step.specs.Sound.{IsSound};
 ghost use Rattle.pic_step.specs.Start.{begun};
 ghost use Rattle.pic_run.specs.Starting.{header_of};
-ghost use Rattle.pic_run.specs.Frames.{frames_of, end_of_run, end_piece};
+ghost use Rattle.pic_run.specs.Frames.{frames_of, frames_behind, end_of_run};
 ghost use Rattle.pic_run.specs.Rooms.{HasShape};
 ghost use Rattle.pic_run.specs.Ended.{ended_of};
 ghost use Rattle.pic_run.specs.Outcome.{dump_outcome, states_outcome, answer_of};
@@ -21,7 +21,7 @@ ghost use Rattle.pic_run.specs.Runs.{WritesFrames, WritesStates};
 use crate::cut::Cut;
 use crate::early::end_early;
 use crate::ended::Ended;
-use crate::frame_writer::{put_last, write_due};
+use crate::frame_writer::{put_last, write_due, write_frame};
 use crate::opening_deck::{Opened, open};
 use crate::output::{Output, Plan};
 use crate::run_header::header_of;
@@ -152,7 +152,7 @@ fn write_run<H: Threads + Sync, O: Sink, R: Sink, G: Gate + Sync>(
     }
 }
 
-/// The due frames of a run from this state, and then its end.
+/// The due frames of a run from its first state, and then its end.
 pub fn write_states<H: Threads + Sync, O: Sink, R: Sink, G: Gate + Sync>(
     threading: Threading<'_, H, G>,
     alloc: Global,
@@ -167,9 +167,36 @@ pub fn write_states<H: Threads + Sync, O: Sink, R: Sink, G: Gate + Sync>(
     requires most { plan.workers ≤ most_workers }
     requires begins { stage.state.world.step ≡ 0 }
     requires room { HasShape stage.room stage.state.world }
-    ensures { WritesStates plan.workers
+    ensures { WritesStates 1 plan.workers
         (states_outcome plan.output [] (frames_of plan.output plan.steps plan.every stage.state.world)
         (end_of_run plan.steps stage.state.world))
+        (sinks (O.told out.old) (R.told report.old))
+        (sinks (O.told out.new) (R.told report.new)) result }
+{
+    let Stage { state, mut room } = stage;
+    write_frame(plan.output, out, report, &state, &mut room)?;
+    write_further(threading, alloc, plan, out, report, Stage { state, room })
+}
+
+/// The due frames of the states behind this one of a run, and then its end.
+pub fn write_further<H: Threads + Sync, O: Sink, R: Sink, G: Gate + Sync>(
+    threading: Threading<'_, H, G>,
+    alloc: Global,
+    plan: Plan,
+    out: &mut O,
+    report: &mut R,
+    stage: Stage,
+) -> Result<Ended, Cut>
+    requires steps { plan.steps ≤ most_steps }
+    requires every { 1 ≤ plan.every }
+    requires some { 0 < plan.workers }
+    requires most { plan.workers ≤ most_workers }
+    requires behind { stage.state.world.step ≤ plan.steps }
+    requires room { HasShape stage.room stage.state.world }
+    ensures { WritesStates 0 plan.workers
+        (states_outcome plan.output []
+        (frames_behind plan.output plan.steps plan.every stage.state.world)
+        (end_of_run (plan.steps - stage.state.world.step) stage.state.world))
         (sinks (O.told out.old) (R.told report.old))
         (sinks (O.told out.new) (R.told report.new)) result }
 {
@@ -178,7 +205,7 @@ pub fn write_states<H: Threads + Sync, O: Sink, R: Sink, G: Gate + Sync>(
     Ok(answer_of(end))
 }
 
-// The due frames up to the last step, or to the one that stops.
+// The due frames of the states behind this one, up to the last step, or to the one that stops.
 fn write_frames<H: Threads + Sync, O: Sink, R: Sink, G: Gate + Sync>(
     threading: Threading<'_, H, G>,
     alloc: Global,
@@ -191,11 +218,11 @@ fn write_frames<H: Threads + Sync, O: Sink, R: Sink, G: Gate + Sync>(
     requires every { 1 ≤ plan.every }
     requires some { 0 < plan.workers }
     requires most { plan.workers ≤ most_workers }
-    requires begins { stage.state.world.step ≡ 0 }
+    requires behind { stage.state.world.step ≤ plan.steps }
     requires room { HasShape stage.room stage.state.world }
     ensures { WritesFrames plan.workers
-        (frames_of plan.output plan.steps plan.every stage.state.world)
-        (end_of_run plan.steps stage.state.world)
+        (frames_behind plan.output plan.steps plan.every stage.state.world)
+        (end_of_run (plan.steps - stage.state.world.step) stage.state.world)
         (sinks (O.told out.old) (R.told report.old))
         (sinks (O.told out.new) (R.told report.new)) result }
 {
@@ -204,9 +231,9 @@ fn write_frames<H: Threads + Sync, O: Sink, R: Sink, G: Gate + Sync>(
         mut state,
         mut room,
     } = stage;
-    write_due(plan, out, report, &state, &mut room)?;
-    for done in 0..plan.steps {
-        let number = done + 1;
+    let first = state.step_number();
+    for done in 0..plan.steps - first {
+        let number = first + done + 1;
         state = match step(rt, alloc, state, plan.workers, gate) {
             Ok(next) => next,
             Err(StepStop::Stop(stop)) => {

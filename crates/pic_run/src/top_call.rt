@@ -12,6 +12,7 @@ use crate::check::check;
 use crate::cut::Cut;
 use crate::early::{Early, StageStop, end_early};
 use crate::ended::{Ended, ended_of};
+use crate::resume::{Further, resume};
 use crate::running::run;
 use crate::showing::demo;
 use crate::threading::Threading;
@@ -84,6 +85,20 @@ fn perform<H: Threads + Sync, S: Source, O: Sink, R: Sink, G: Gate + Sync>(
         Ok(Command::Verify) => verify(alloc, source, out, report),
         Ok(Command::Demo { seed, workers }) => demo(threading, alloc, seed, out, report, workers),
         Ok(Command::Upgrade) => upgrade(alloc, source, out, report),
+        Ok(
+            Command::Resume {
+                steps,
+                workers,
+                tiles,
+            },
+        ) => {
+            let further = Further {
+                steps,
+                workers,
+                tiles,
+            };
+            resume(threading, alloc, source, out, report, further)
+        }
         Err(LineFault::Usage) => end_early(report, StageStop::Answer(Early::Usage)),
         Err(LineFault::NoMemory) => Err(Cut::NoMemory),
     }

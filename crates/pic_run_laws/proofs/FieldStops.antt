@@ -1,7 +1,7 @@
 -- What stops a field phase, within the limits of a dump: a cell of the grid, and a value or force value
 -- past its bound, of 128 bits.
 use Rattle.std.proofs.Common.{◌≡◌, ℤ, ◌+◌, ◌-◌, ◌*◌, ◌/◌, ◌%◌, ◌^◌, ◌≤◌, Bool, true, false, [], ◌∷◌, if◌then◌else◌, ltb}
-use Rattle.std.proofs.Common.{unsigned_abs, Some, None, refl, sym, ◌∙◌, subst, arith}
+use Rattle.std.proofs.Common.{unsigned_abs, Some, None, refl, sym, ◌∙◌, subst, arith, zero-add}
 use Rattle.std.proofs.lemmas.Bool.{ltb-true, ltb-false}
 use Rattle.std.proofs.lemmas.Int.{ints, fits_signed_from_abs}
 use Rattle.std.proofs.lemmas.Nat.{mod_below}
@@ -22,11 +22,10 @@ use Rattle.pic_grid.specs.Differences.{up, down}
 use Rattle.pic_grid.specs.Lattice.{value_at}
 use Rattle.pic_grid.specs.Parts.{origin}
 use Rattle.pic_grid.proofs.CellLaws.{place_within}
-use Rattle.pic_field.specs.FieldPhases.{half_of, full_of, fault_of, least_fault}
+use Rattle.pic_field.specs.FieldPhases.{half_of, full_of, cell_above, fault_of, least_fault}
 use Rattle.pic_record.specs.Layout.{LayoutView}
 use Rattle.pic_step.specs.SerialStep.{World, e_of, b_of, half_at, full_at}
 use Rattle.pic_step.specs.Sound.{IsSafe}
-use Rattle.pic_step.proofs.OnePartLaws.{above_origin}
 use Rattle.pic_record.specs.Readable.{IsReadableStop}
 use Rattle.pic_run_laws.proofs.ScaledSizes.{scaled_size}
 
@@ -61,7 +60,7 @@ half_size w a p mult e_safe b_safe within =
 
 -- a new value of E, with the current j
 pub full_size : (w : World) (j : Axis → Triple → ℤ) (a : Axis) (p : Triple) → IsMultiplier w.scales.b_to_e → IsSafe w.scales.e_force (e_of w)
-    → IsSafe w.scales.b_force (b_of w) → IsAtMost (j a p) (2 ^ 90) → IsWithin p w.cells → IsAtMost (full_at j w a p) (2 ^ 124)
+    → IsSafe w.scales.b_force (b_of w) → IsAtMost (j a p) (2 ^ 96) → IsWithin p w.cells → IsAtMost (full_at j w a p) (2 ^ 124)
 unfolding full_of
 full_size w j a p mult e_safe b_safe small within =
     let n = w.cells in
@@ -114,6 +113,10 @@ fault_fits l phase by a p v stop mult within small is = go (ltb (2 ^ 90) (unsign
           };
         })
     go false false within_bound within_force found = absurd cc
+
+-- the block of a whole grid begins at its first cell
+above_origin : (p : Triple) → cell_above origin p ≡ p
+above_origin p = λ i. record { x = zero-add p.x i; y = zero-add p.y i; z = zero-add p.z i }
 
 -- what stops a phase
 pub phase_stop_fits : (l : LayoutView) (phase : Phase) (by : Multiplier) (n : Triple) (g : Axis → Triple → ℤ) (stop : Stop) → n ≡ l.cells → IsMultiplier by

@@ -26,7 +26,7 @@ use Rattle.pic_step.specs.SerialStep.{World, e_of, b_of}
 use Rattle.pic_step.specs.Sound.{IsSafe}
 use Rattle.pic_record.specs.Readable.{IsReadableField, IsReadableParticle, IsReadableFrame}
 use Rattle.pic_verify.specs.Verified.{ObeysGauss}
-use Rattle.pic_run_laws.specs.FrameStates.{frame_in}
+use Rattle.pic_run.specs.FrameStates.{frame_in}
 use Rattle.pic_run_laws.proofs.StateFits.{IsOfLayout, IsGoodState}
 
 -- a safe field with as many values as it has places
@@ -83,13 +83,14 @@ readable_frame l w good =
 pub obeys_gauss : (l : LayoutView) (w : World) → IsGoodState l w → ObeysGauss l (frame_in w)
 obeys_gauss l w good =
     let of = good.of in
-    subst (λ (s : ℕ). MeetsGauss s l.cells l.kinds w.particles (field_with l w.e)) of.side
-    (subst (λ (n : Triple). MeetsGauss w.side n l.kinds w.particles (field_with l w.e)) of.cells
-    (subst (λ (ks : List Kind). MeetsGauss w.side w.cells ks w.particles (field_with l w.e)) of.kinds
-    (subst (λ (f : Field). MeetsGauss w.side w.cells w.kinds w.particles f) (sym (e_is l w of)) good.sound.gauss)))
+    subst (λ (s : ℕ). MeetsGauss s l.filter l.cells l.kinds w.particles (field_with l w.e)) of.side
+    (subst (λ (k : ℕ). MeetsGauss w.side k l.cells l.kinds w.particles (field_with l w.e)) of.filter
+    (subst (λ (n : Triple). MeetsGauss w.side w.filter n l.kinds w.particles (field_with l w.e)) of.cells
+    (subst (λ (ks : List Kind). MeetsGauss w.side w.filter w.cells ks w.particles (field_with l w.e)) of.kinds
+    (subst (λ (f : Field). MeetsGauss w.side w.filter w.cells w.kinds w.particles f) (sym (e_is l w of)) good.sound.gauss))))
 
 -- its text is what the run puts of the state
-frame_text : (l : LayoutView) (w : World) → IsOfLayout l w → (frame_piece Dump w).out ≡ record_bytes l (AFrame (frame_in w))
+pub frame_text : (l : LayoutView) (w : World) → IsOfLayout l w → (frame_piece Dump w).out ≡ record_bytes l (AFrame (frame_in w))
 unfolding frame_piece
 frame_text l w of = λ i. frame_bytes w.step (sym (e_is l w of) i) (sym (b_is l w of) i) w.particles (energies_in w)
 

@@ -3,6 +3,7 @@ pub mod ScaledSizes
 pub mod StateFits
 pub mod GoodFrames
 pub mod DueRuns
+pub mod KeptStates
 pub mod TurnsLaws
 pub mod RunLaws
 pub mod FieldStops
@@ -13,4 +14,6 @@ pub mod StepStops
 pub mod LoadedLaws
 pub mod StartLaws
 pub mod RunsAreVerified
+pub mod ResumeLaws
+pub mod ResumesAreRuns
 pub mod CutTextsLaws

@@ -1,5 +1,5 @@
 -- The dump of a run is a readable one, of the frames of its due states; so it is read, and verified.
-use Rattle.std.proofs.Common.{◌≡◌, ℕ, zero, suc, ◌+◌, ◌-◌, ◌<◌, IsTrue, List, ◌∷◌, ◌++◌, length, get_or, map, Some, Ok, sym, ap, ◌∙◌, subst, arith}
+use Rattle.std.proofs.Common.{◌≡◌, ℕ, zero, suc, ◌+◌, ◌-◌, ◌<◌, IsTrue, List, ◌∷◌, ◌++◌, length, get_or, map, All, Some, Ok, sym, ap, ◌∙◌, subst, arith}
 use Rattle.std.proofs.lemmas.List.{get_or-map, length-map}
 use Rattle.pic_record.specs.Due.{is_due}
 use Rattle.pic_header.specs.HeaderText.{header_bytes}
@@ -17,11 +17,11 @@ use Rattle.pic_step.specs.SerialRun.{after}
 use Rattle.pic_dump.specs.InTurn.{due_step}
 use Rattle.pic_record.specs.Readable.{IsReadableEnd}
 use Rattle.pic_dump.specs.Readable.{dump_bytes, IsDueFrame, IsReadableDump}
-use Rattle.pic_dump.specs.DumpRead.{read_dump}
+use Rattle.pic_dump.specs.DumpRead.{DumpRead, read_dump}
 use Rattle.pic_dump.proofs.ReadableDump.{dumps_are_read}
 use Rattle.pic_verify.specs.Verified.{ObeysGauss, verdict_of, verified}
 use Rattle.pic_verify.proofs.ReadableDump.{good_verdict}
-use Rattle.pic_run_laws.specs.FrameStates.{frame_in}
+use Rattle.pic_run.specs.FrameStates.{frame_in}
 use Rattle.pic_run_laws.proofs.StateFits.{IsGoodState, StopsFit}
 use Rattle.pic_run_laws.proofs.GoodFrames.{readable_frame, obeys_gauss, frames_text}
 use Rattle.pic_run_laws.proofs.TurnsLaws.{IsTurn, Goes, goes}
@@ -77,20 +77,29 @@ module _ (h : HeaderView) (header : IsHeader h) (w : World) (begins : w.step ≡
           end = subst (λ n. IsReadableEnd (layout_of h) (due_step (layout_of h) n) (end_of_run h.steps w)) same behind_first.end_fits;
         }
 
+    -- each of these states is good
+    pub states_good : All (IsGoodState (layout_of h)) states
+    states_good k d below = (each_turn k d below).good
+
     -- what the run puts on out is the dump of these frames
     pub text_is : out_text (dump_outcome h w) ≡ dump_bytes h (map frame_in states) (end_of_run h.steps w)
-    text_is = ap (λ t. header_bytes h ++ t ++ end_bytes (end_of_run h.steps w)) (frames_text (layout_of h) states (λ k d below. (each_turn k d below).good))
+    text_is = ap (λ t. header_bytes h ++ t ++ end_bytes (end_of_run h.steps w)) (frames_text (layout_of h) states states_good)
 
     -- so it is read as them
-    pub run_read : read_dump (out_text (dump_outcome h w))
-        ≡ Ok (record { header = h; frames = map frame_in states; end = Ok (end_of_run h.steps w) })
+    abbrev pub dump : DumpRead
+    dump = record { header = h; frames = map frame_in states; end = Ok (end_of_run h.steps w) }
+
+    pub run_read : read_dump (out_text (dump_outcome h w)) ≡ Ok dump
     run_read = ap read_dump text_is ∙ dumps_are_read h (map frame_in states) (end_of_run h.steps w) readable
 
     -- and so verified
+    pub run_verdict : verdict_of (Ok dump) ≡ Ok (length (map frame_in states))
+    run_verdict = good_verdict h (map frame_in states) (end_of_run h.steps w)
+        (framed (λ k f. ObeysGauss (layout_of h) f) (λ k v turn. obeys_gauss (layout_of h) v turn.good))
+
     pub run_verified : verified (out_text (dump_outcome h w)) ≡ Ok (length (dump_outcome h w).frames)
     unfolding verified
     run_verified =
         ap verdict_of run_read
-        ∙ good_verdict h (map frame_in states) (end_of_run h.steps w)
-        (framed (λ k f. ObeysGauss (layout_of h) f) (λ k v turn. obeys_gauss (layout_of h) v turn.good))
+        ∙ run_verdict
         ∙ ap (λ n. Ok n) (length-map states frame_in ∙ sym (length-map states (frame_piece Dump)))

@@ -14,19 +14,20 @@ use Rattle.pic_run.specs.DeckEnd.{DeckEnd, Unread, Unfit, Unmet, Staged, ◌>>=�
 use Rattle.pic_run.specs.Reading.{Given, Held}
 use Rattle.pic_run.specs.Outcome.{Outcome, out_text, accepted, unless_gauss_fails, tested, on_deck, run_outcome, verdict_outcome}
 use Rattle.pic_run.specs.Commands.{manner_of, outcome}
+use Rattle.pic_run.specs.Resume.{HasRun}
 use Rattle.pic_run.specs.Starting.{header_of, first_state, state_break}
 use Rattle.pic_verify.specs.Verified.{Verdict, verified}
-use Rattle.pic_run_laws.specs.FrameStates.{FramesGiveStates}
+use Rattle.pic_run_laws.specs.FramesGiveStates.{FramesGiveStates}
 use Rattle.pic_run_laws.specs.KeptDecks.{IsKeptDeck}
 use Rattle.pic_run_laws.specs.RunsAreRead.{RunsAreRead}
-use Rattle.pic_run_laws.specs.RunsAreVerified.{RunsAreVerified, IsOfRun, RunsAreFoundGood}
+use Rattle.pic_run_laws.specs.RunsAreVerified.{RunsAreVerified, RunsAreFoundGood}
 use Rattle.pic_run_laws.proofs.RunLaws.{run_read, run_verified}
 use Rattle.pic_run_laws.proofs.StartLaws.{header_kept, start_good}
 use Rattle.pic_run_laws.proofs.StateFits.{StopsFit, of_after, stands}
 use Rattle.pic_run_laws.proofs.StepStops.{stops_fit}
 
 -- what stops a step of a kept deck's run can be said in its dump
-fit_of : (d : DeckView) → IsKeptDeck d → StopsFit (layout_of (header_of d))
+pub fit_of : (d : DeckView) → IsKeptDeck d → StopsFit (layout_of (header_of d))
 fit_of d kept =
     let h = header_of d in
     let header = header_kept d kept in
@@ -44,7 +45,7 @@ frames_give_states d n v kept passes reached =
     stands l v (of_after l (first_state d) (start_good d kept passes).of n v reached)
 
 -- why a deck isn't run is no answer of a run
-not_early : (end : DeckEnd) → IsOfRun (ended_at end) → ⊥
+not_early : (end : DeckEnd) → HasRun (ended_at end) → ⊥
 not_early Unread of = of
 not_early (Unfit refusal) of = of
 not_early (Unmet b) of = of
@@ -64,26 +65,29 @@ unfolding outcome
 verifies verify_words text n is good =
     ap (λ (c : Option Command). ((manner_of c).outcome (Held text)).answer) is ∙ ap (λ (v : Verdict). (verdict_outcome v).answer) good
 
-tested_good : (verify_words : List (List ℕ)) (d : DeckView) (r : Staged DeckView) → command_of verify_words ≡ Some Verify → IsKeptDeck d → tested d ≡ r
-    → IsOfRun (on_deck run_outcome r).answer → VerifiesAs verify_words (on_deck run_outcome r)
+-- a deck whose run ends so passes it
+pub passes_where : (d : DeckView) (r : Staged DeckView) → tested d ≡ r → HasRun (on_deck run_outcome r).answer → tested d ≡ Ok d
+passes_where d (Err end) is of = absurd (not_early end of)
+passes_where d (Ok e) is of = is ∙ ap (λ (g : DeckView). Ok g) (sym (same_deck d e (state_break (first_state d)) is))
+
+tested_good : (verify_words : List (List ℕ)) (d : DeckView) → command_of verify_words ≡ Some Verify → IsKeptDeck d
+    → HasRun (on_deck run_outcome (tested d)).answer → VerifiesAs verify_words (on_deck run_outcome (tested d))
 unfolding VerifiesAs
-tested_good verify_words d (Err end) verify_is kept is of = absurd (not_early end of)
-tested_good verify_words d (Ok e) verify_is kept is of =
-    let same = same_deck d e (state_break (first_state d)) is in
-    let passes : tested d ≡ Ok d = is ∙ ap (λ (g : DeckView). Ok g) (sym same) in
-    subst (λ (g : DeckView). VerifiesAs verify_words (run_outcome g)) same
+tested_good verify_words d verify_is kept of =
+    let passes = passes_where d (tested d) refl of in
+    subst (λ (r : Staged DeckView). VerifiesAs verify_words (on_deck run_outcome r)) (sym passes)
     (verifies verify_words (out_text (run_outcome d)) (length (run_outcome d).frames) verify_is (runs_are_verified d kept passes))
 
 accepted_good : (verify_words : List (List ℕ)) (given : Given) (r : Staged DeckView) → command_of verify_words ≡ Some Verify
-    → ((d : DeckView) → accepted given ≡ Ok d → IsKeptDeck d) → accepted given ≡ r → IsOfRun (on_deck run_outcome (r >>= tested)).answer
+    → ((d : DeckView) → accepted given ≡ Ok d → IsKeptDeck d) → accepted given ≡ r → HasRun (on_deck run_outcome (r >>= tested)).answer
     → VerifiesAs verify_words (on_deck run_outcome (r >>= tested))
 accepted_good verify_words given (Err end) verify_is kept is of = absurd (not_early end of)
-accepted_good verify_words given (Ok d) verify_is kept is of = tested_good verify_words d (tested d) verify_is (kept d is) refl of
+accepted_good verify_words given (Ok d) verify_is kept is of = tested_good verify_words d verify_is (kept d is) of
 
 pub runs_are_found_good : RunsAreFoundGood
 unfolding outcome VerifiesAs
 runs_are_found_good run_words verify_words workers given run_is verify_is kept of =
     let ran : (manner_of (command_of run_words)).outcome given ≡ on_deck run_outcome (accepted given >>= tested) =
     ap (λ (c : Option Command). (manner_of c).outcome given) run_is in
-    let here : IsOfRun (on_deck run_outcome (accepted given >>= tested)).answer = subst (λ (o : Outcome). IsOfRun o.answer) ran of in
+    let here : HasRun (on_deck run_outcome (accepted given >>= tested)).answer = subst (λ (o : Outcome). HasRun o.answer) ran of in
     subst (λ (o : Outcome). VerifiesAs verify_words o) (sym ran) (accepted_good verify_words given (accepted given) verify_is kept refl here)

@@ -30,6 +30,7 @@ header_kept d kept =
         steps_most = settings.steps;
         every_least = settings.every_low;
         every_most = settings.every_high;
+        filter = settings.filter;
         heads = kept.limits.heads;
       };
       cells = settings.cells;
@@ -42,7 +43,7 @@ same_kinds : (ss : List Species) → map (λ (s : Species). s.kind) ss ≡ map (
 same_kinds [] = refl
 same_kinds (s ∷ ss) = ap (λ ks. s.kind ∷ ks) (same_kinds ss)
 
-no_break : (d : DeckView) (o : Option Break) → unless_gauss_fails d o ≡ Ok d → o ≡ None
+pub no_break : (d : DeckView) (o : Option Break) → unless_gauss_fails d o ≡ Ok d → o ≡ None
 no_break d None is = refl
 no_break d (Some b) is = absurd cc
 
@@ -55,6 +56,7 @@ start_good d kept passes =
       of = record {
         side = refl;
         cells = refl;
+        filter = refl;
         scales = refl;
         kinds = same_kinds d.species;
         e_count = length-values_of d.cells (initial_e d);

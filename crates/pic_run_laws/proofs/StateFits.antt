@@ -16,13 +16,14 @@ use Rattle.pic_step.specs.SerialRun.{after}
 use Rattle.pic_step.specs.Sound.{IsSound}
 use Rattle.pic_step.proofs.AfterLaws.{after_keeps, after_sound_within}
 use Rattle.pic_record.specs.Readable.{IsReadableStop}
-use Rattle.pic_run_laws.specs.FrameStates.{frame_in, world_in}
+use Rattle.pic_run.specs.FrameStates.{frame_in, world_in}
 use Rattle.pic_run_laws.proofs.Listed.{IsListed}
 
 -- a state of a dump: the numbers that its header says, as many values and particles, and such particles
 pub record IsOfLayout (l : LayoutView) (w : World) : Type 0 where
   pub side : w.side ≡ l.side
   pub cells : w.cells ≡ l.cells
+  pub filter : w.filter ≡ l.filter
   pub scales : w.scales ≡ l.scales
   pub kinds : w.kinds ≡ l.kinds
   pub e_count : length w.e ≡ 3 * count_of w.cells
@@ -54,6 +55,7 @@ next_of_layout l w of =
     record {
       side = of.side;
       cells = of.cells;
+      filter = of.filter;
       scales = of.scales;
       kinds = of.kinds;
       e_count = length-values_of w.cells (full_at (current_of h) (before_electric w));
@@ -73,4 +75,4 @@ good_after l w good n v most reached = record { sound = after_sound_within w goo
 
 -- such a state stands in its frame
 pub stands : (l : LayoutView) (w : World) → IsOfLayout l w → world_in l (frame_in w) ≡ w
-stands l w of = λ i. record w { side = sym of.side i; cells = sym of.cells i; scales = sym of.scales i; kinds = sym of.kinds i }
+stands l w of = λ i. record w { side = sym of.side i; cells = sym of.cells i; filter = sym of.filter i; scales = sym of.scales i; kinds = sym of.kinds i }

@@ -6,6 +6,7 @@ use Rattle.pic_num.specs.declared.mult.Scales.{Scales}
 use Rattle.pic_grid.specs.declared.stop.Phase.{Phase}
 use Rattle.pic_grid.specs.declared.stop.Phase.TheVariants.{Half1, Half2, Electric}
 use Rattle.pic_grid.specs.declared.stop.Stop.{Stop}
+use Rattle.pic_grid.specs.Current.{current}
 use Rattle.pic_grid.specs.PushPhase.{push_stop}
 use Rattle.pic_header.specs.Header.{AreMultipliers, HasMultipliers}
 use Rattle.pic_record.specs.Layout.{LayoutView}
@@ -15,7 +16,7 @@ use Rattle.pic_step.proofs.SoundLaws.{safe_after}
 use Rattle.pic_record.specs.Readable.{IsReadableStop}
 use Rattle.pic_run_laws.proofs.StateFits.{IsGoodState, StopsFit}
 use Rattle.pic_run_laws.proofs.FieldStops.{half_size, full_size, phase_stop_fits}
-use Rattle.pic_run_laws.proofs.CurrentSizes.{current_size}
+use Rattle.pic_run_laws.proofs.CurrentSizes.{current_size, filtered_size}
 use Rattle.pic_run_laws.proofs.PushStops.{IsEither, either, unless_err, push_stop_fits}
 
 -- B after a half step without a stop
@@ -63,7 +64,8 @@ module _ (l : LayoutView) (scales : AreMultipliers l.scales) (kinds : All HasMul
         let j = current_of (half_on w) in
         phase_stop_fits l Electric w.scales.e_force w.cells (full_at j (before_electric w)) stop good.of.cells mults.e_force
         (λ a p within. full_size (before_electric w) j a p mults.b_to_e sound.e b
-        (current_size (around (half_on w)) w.particles a p above sound.side_most sound.kinds.limits sound.few) within) is
+        (filtered_size w.filter w.cells (current (around (half_on w)) w.particles a) p
+        (λ q. current_size (around (half_on w)) w.particles a q above sound.side_most sound.kinds.limits sound.few) within) within) is
 
     behind_push : (stop : Stop) → half_stop Half1 w ≡ None
         → IsEither (half_stop Half2 (push_on (half_on w))) (full_stop (current_of (half_on w)) (before_electric w)) stop → IsReadableStop l stop

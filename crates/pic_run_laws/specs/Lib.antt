@@ -1,5 +1,6 @@
 pub mod KeptDecks
-pub mod FrameStates
+pub mod FramesGiveStates
 pub mod RunsAreRead
 pub mod RunsAreVerified
+pub mod ResumesAreRuns
 pub mod CutTexts

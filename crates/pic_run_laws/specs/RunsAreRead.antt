@@ -5,7 +5,7 @@ use Rattle.pic_dump.specs.DumpRead.{read_dump}
 use Rattle.pic_run.specs.Frames.{due_states, end_of_run}
 use Rattle.pic_run.specs.Outcome.{out_text, tested, run_outcome}
 use Rattle.pic_run.specs.Starting.{first_state, header_of}
-use Rattle.pic_run_laws.specs.FrameStates.{frame_in}
+use Rattle.pic_run.specs.FrameStates.{frame_in}
 use Rattle.pic_run_laws.specs.KeptDecks.{IsKeptDeck}
 
 -- the dump of a deck's run is read as its header, the frames of its due states, and its end

@@ -1,13 +1,13 @@
 -- What `run` writes of a deck `verify` finds good.
-use Rattle.std.specs.Prelude.{◌≡◌, ℕ, List, length, ⊤, Some, Ok}
+use Rattle.std.specs.Prelude.{◌≡◌, ℕ, List, length, Some, Ok}
 use Rattle.pic_deck.specs.Deck.{DeckView}
 use Rattle.pic_line.specs.declared.asked.Command.TheVariants.{Run, Verify}
 use Rattle.pic_line.specs.CommandLine.{command_of}
-use Rattle.pic_run.specs.declared.ended.Ended.{Ended}
-use Rattle.pic_run.specs.declared.ended.Ended.TheVariants.{Done, Checked, Verified, Upgraded, Stopped, Usage, Refused, Gauss, ReadFault, WriteFault, NoMemory, BadDump, Broken}
+use Rattle.pic_run.specs.declared.ended.Ended.TheVariants.{Verified}
 use Rattle.pic_run.specs.Reading.{Given, Held}
 use Rattle.pic_run.specs.Outcome.{out_text, accepted, tested, run_outcome}
 use Rattle.pic_run.specs.Commands.{outcome}
+use Rattle.pic_run.specs.Resume.{HasRun}
 use Rattle.pic_verify.specs.Verified.{verified}
 use Rattle.pic_run_laws.specs.KeptDecks.{IsKeptDeck}
 
@@ -17,30 +17,15 @@ RunsAreVerified =
     (d : DeckView) → IsKeptDeck d → tested d ≡ Ok d
     → verified (out_text (run_outcome d)) ≡ Ok (length (run_outcome d).frames)
 
--- the answer of a run that came to its last step, or stopped in one
-abbrev pub IsOfRun : Ended → Type 0
-IsOfRun (Done steps) = ⊤
-IsOfRun (Stopped step stop) = ⊤
-IsOfRun (Checked particles) = ⊥
-IsOfRun (Verified frames) = ⊥
-IsOfRun (Upgraded frames) = ⊥
-IsOfRun Usage = ⊥
-IsOfRun (Refused refusal) = ⊥
-IsOfRun (Gauss at) = ⊥
-IsOfRun ReadFault = ⊥
-IsOfRun (WriteFault side) = ⊥
-IsOfRun NoMemory = ⊥
-IsOfRun (BadDump place cause) = ⊥
-IsOfRun (Broken frame at) = ⊥
-
--- where the command `run` ends so, over a source whose deck is one that its type keeps, the command
--- `verify` answers the number of frames over a source that holds what `run` put on out
+-- where the command `run` comes to its last step or to a stop, over a source whose deck is one that its
+-- type keeps, the command `verify` answers the number of frames over a source that holds what `run` put on
+-- out
 abbrev pub RunsAreFoundGood : Type 0
 RunsAreFoundGood =
     (run_words verify_words : List (List ℕ)) (workers : ℕ) (given : Given)
     → command_of run_words ≡ Some (Run workers)
     → command_of verify_words ≡ Some Verify
     → ((d : DeckView) → accepted given ≡ Ok d → IsKeptDeck d)
-    → IsOfRun (outcome run_words given).answer
+    → HasRun (outcome run_words given).answer
     → (outcome verify_words (Held (out_text (outcome run_words given)))).answer
     ≡ Verified (length (outcome run_words given).frames)

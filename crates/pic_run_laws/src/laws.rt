@@ -1,7 +1,8 @@
 //! Laws of what runs write. Each is the contract of a function that does nothing.
 
 ghost use Rattle.pic_run_laws.specs.CutTexts.{CutBehindWholePieces, CutsLeaveFronts};
-ghost use Rattle.pic_run_laws.specs.FrameStates.{FramesGiveStates};
+ghost use Rattle.pic_run_laws.specs.FramesGiveStates.{FramesGiveStates};
+ghost use Rattle.pic_run_laws.specs.ResumesAreRuns.{ResumesAreRuns, ResumesJoin, ResumesAreFoundRuns};
 ghost use Rattle.pic_run_laws.specs.RunsAreRead.{RunsAreRead};
 ghost use Rattle.pic_run_laws.specs.RunsAreVerified.{RunsAreVerified, RunsAreFoundGood};
 
@@ -26,6 +27,17 @@ pub fn runs_are_verified()
 #[tactic(auto, using(crate::proofs::RunsAreVerified::frames_give_states))]
 pub fn frames_give_states()
     ensures { FramesGiveStates }
+{}
+
+/// A run in parts is the run in one. What `run` puts on `out` of a deck that its type keeps and that meets
+/// Gauss's law, resumed with as many steps or more, is the run of that deck with these steps: the same dump
+/// and the same lines, byte for byte, and the same answer, also where either run stops, and for all tiles
+/// that the cells allow. So what is resumed twice is what is resumed once; and the command `resume` has over
+/// what the command `run` wrote the outcome that `run` has over the deck with all these steps.
+pub fn resumes_are_runs()
+    ensures run { ResumesAreRuns }
+    ensures twice { ResumesJoin }
+    ensures found { ResumesAreFoundRuns }
 {}
 
 /// Where a put fails among pieces that are put one after another, the pieces before one of them

@@ -1,9 +1,11 @@
 //! Laws of whole runs: what `run` wrote is read back as the states that it was and found good by
-//! `verify`, and what stands on the sinks where a put failed.
+//! `verify`, a run in parts is the run in one, and what stands on the sinks where a put failed.
 #![tactic(auto)]
 
 mod kept;
 mod laws;
 
 pub use kept::{keep_deck, keep_read};
-pub use laws::{frames_give_states, law_of_the_cut, runs_are_read, runs_are_verified};
+pub use laws::{
+    frames_give_states, law_of_the_cut, resumes_are_runs, runs_are_read, runs_are_verified,
+};

@@ -17,7 +17,8 @@ const LONE_REPORT: &[u8] = b"gauss 0 0 0 div 0 rho 618475290624\n";
 const EMPTY_REPORT: &[u8] = b"frame 0 kinetic 0 electric 0 magnetic 0\ndone 0\n";
 
 const USAGE: &[u8] =
-    b"usage: pic [check | run [--workers N] | verify | demo SEED [--workers N] | upgrade]\n";
+    b"usage: pic [check | run [--workers N] | verify | demo SEED [--workers N] | upgrade \
+    | resume --steps M [--workers N]]\n";
 
 // The words, the deck, the take that fails, the status, out and report.
 type Answer = (
@@ -30,7 +31,7 @@ type Answer = (
 );
 
 // Nothing is taken of a source where the words are no command.
-const ANSWERS: [Answer; 11] = [
+const ANSWERS: [Answer; 12] = [
     (&[], EMPTY, NEVER, 0, b"ok 0 particles\n", b""),
     (&["check"], PAIR, NEVER, 0, b"ok 2 particles\n", b""),
     (&["check"], LONE, NEVER, 3, b"", LONE_REPORT),
@@ -63,6 +64,7 @@ const ANSWERS: [Answer; 11] = [
     (&["run", "run"], EMPTY, NEVER, 2, b"", USAGE),
     (&["go"], EMPTY, 0, 2, b"", USAGE),
     (&["demo"], EMPTY, 0, 2, b"", USAGE),
+    (&["resume"], EMPTY, 0, 2, b"", USAGE),
 ];
 
 #[test]
@@ -89,49 +91,16 @@ fn a_long_key_is_put_in_pieces(rt: HostRuntime) {
     assert!(rt; left.status == 5 && left.report.bytes().len() == 522);
 }
 
-// Which take fails, and which puts on out and on report, with the bytes that these still take; then
-// the status, and how many bytes of the dump and of the report are left.
-type Cut = (u64, u64, usize, u64, usize, u8, usize, usize);
-
-// Header, frame and end record are a put each, and so are the two lines: further ones never come
-// to fail.
-const CUTS: [Cut; 5] = [
-    (NEVER, NEVER, 0, NEVER, 0, 0, 891, 47),
-    (NEVER, 0, 7, NEVER, 0, 5, 7, 0),
-    (NEVER, 1, 0, NEVER, 0, 5, 64, 0),
-    (NEVER, NEVER, 0, 0, 3, 5, 885, 3),
-    (NEVER, 3, 0, 2, 0, 0, 891, 47),
-];
-
-// The source has two pieces and then its end.
-const READ_FAULTS: [Cut; 3] = [
-    (0, NEVER, 0, NEVER, 0, 4, 0, 11),
-    (1, NEVER, 0, NEVER, 0, 4, 0, 11),
-    (2, NEVER, 0, 0, 4, 5, 0, 4),
-];
-
-fn check_cut<H: AllocGlobal + Abort + Threads + Sync>(rt: &H, cut: Cut, dump: &[u8], lines: &[u8]) {
-    let (take, out, out_len, report, report_len, status, dump_left, lines_left) = cut;
-    let faults = Faults {
-        take,
-        out: (out, out_len),
-        report: (report, report_len),
-    };
-    let left = call(rt, &["run"], EMPTY, faults);
-    let front = dump.get(..dump_left).expect(rt, "a front of the dump");
-    let said = lines.get(..lines_left).expect(rt, "a front of the lines");
-    check(rt, &left, status, front, said);
-}
-
 // The whole dump of the empty deck has 891 bytes: the header, one frame, the end record.
 #[test]
-fn runs_of_the_empty_deck(rt: HostRuntime) {
+fn the_run_of_the_empty_deck(rt: HostRuntime) {
     let pieces: Pieces<'_> = &[EMPTY_HEADER, b"F\0\0\0\0", &[0; 816], b"E\0\0\0\0\0"];
     let dump = pieces.concat(rt.alloc()).expect(&rt, "memory");
-    for cut in CUTS {
-        check_cut(&rt, cut, &dump, EMPTY_REPORT);
-    }
-    for cut in READ_FAULTS {
-        check_cut(&rt, cut, &dump, b"read fault\n");
-    }
+    check(
+        &rt,
+        &call(&rt, &["run"], EMPTY, CALM),
+        0,
+        &dump,
+        EMPTY_REPORT,
+    );
 }

@@ -1,6 +1,6 @@
 //! Dumps that are verified, and the demonstration.
 
-use crate::trial::{CALM, Faults, PAIR, PAIR_OF_12, call, check};
+use crate::trial::{CALM, FILTERED, Faults, PAIR, PAIR_OF_12, call, check};
 use std::process::Abort;
 use std::thread::Threads;
 
@@ -32,12 +32,20 @@ const CASES: [Case; 4] = [
 ];
 
 // The same in version 2: unchanged; the power of two of the side, the filter, the number of loops,
-// that of species, and the digit of the version.
-const CASES_OF_2: [Case; 7] = [
+// that of species, and the digit of the version. Where the charge is filtered, E isn't its field.
+const CASES_OF_2: [Case; 8] = [
     (0, b'P', 12692, 0, b"verified 2 frames\n", b""),
     (63, 7, 12692, 7, b"", b"bad dump 60 2\n"),
     (63, 15, 12692, 7, b"", b"bad dump 60 2\n"),
-    (67, 1, 12692, 7, b"", b"bad dump 64 2\n"),
+    (
+        67,
+        1,
+        12692,
+        8,
+        b"",
+        b"broken frame 1 node 0 0 0 div 412316860416 rho 1649267441664\n",
+    ),
+    (67, 2, 12692, 7, b"", b"bad dump 64 2\n"),
     (71, 1, 12692, 7, b"", b"bad dump 68 2\n"),
     (75, 17, 12692, 7, b"", b"bad dump 72 2\n"),
     (7, b'3', 12692, 7, b"", b"bad dump 7 1\n"),
@@ -63,19 +71,9 @@ fn dumps_that_are_verified(rt: HostRuntime) {
     for case in &CASES_OF_2 {
         check_case(&rt, second.out.bytes(), case);
     }
-}
-
-// The fourth put on out is that of the end record: header and frames stand.
-#[test]
-fn a_dump_without_its_end(rt: HostRuntime) {
-    let whole = call(&rt, &["run"], PAIR, CALM);
-    let front = whole.out.bytes().get(..12674).expect(&rt, "two frames");
-    let faults = Faults {
-        out: (3, 0),
-        ..CALM
-    };
-    let left = call(&rt, &["run"], PAIR, faults);
-    assert!(rt; left.status == 5 && left.out.bytes() == front);
+    let filtered = call(&rt, &["run"], FILTERED, CALM);
+    let left = call(&rt, &["verify"], &[filtered.out.bytes()], CALM);
+    check(&rt, &left, 0, b"verified 2 frames\n", b"");
 }
 
 // Nothing is taken of a source whose first take would fail, and no dump is put: the second put is

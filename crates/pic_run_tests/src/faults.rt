@@ -1,67 +1,96 @@
 //! The run of two charges with each take and each put failing in turn, and its deck cut at every byte.
 
-use crate::trial::{CALM, Faults, Left, PAIR, PAIR_REPORT, call, check};
+use crate::trial::{CALM, EMPTY, Faults, Left, PAIR, Pieces, call, check, check_front, check_same};
 use std::process::Abort;
 use std::thread::Threads;
 
-// A put on out: its number, where its piece begins, half of the piece's length, and how many bytes
-// of the report stand before it. The pieces are the header, two frames and the end record.
-const OUT_PUTS: [(u64, usize, usize, usize); 4] = [
-    (0, 0, 92, 0),
-    (1, 184, 3122, 0),
-    (2, 6429, 3122, 53),
-    (3, 12674, 3, 117),
-];
+// A put: its number, where its piece begins, half of the piece's length, and how many bytes of the
+// other stream stand before it.
+type Put = (u64, usize, usize, usize);
 
-// A put on report, whose pieces are the lines: the same, and the bytes of the dump before it.
-const REPORT_PUTS: [(u64, usize, usize, usize); 3] = [
-    (0, 0, 26, 6429),
-    (1, 53, 32, 12674),
-    (2, 117, 3, 12680),
-];
-
-// The run leaves so long a front of the dump and of the report.
-fn check_fronts<H: AllocGlobal + Abort + Threads + Sync>(
+// Each put of a call fails in turn, on out or on report.
+fn check_puts<H: AllocGlobal + Abort + Threads + Sync>(
     rt: &H,
-    faults: Faults,
-    dump: &[u8],
-    out: usize,
-    report: usize,
+    words: &[&str],
+    held: Pieces<'_>,
+    is_out: bool,
+    puts: &[Put],
 ) {
-    let left = call(rt, &["run"], PAIR, faults);
-    let front = dump.get(..out).expect(rt, "a front of the dump");
-    let lines = PAIR_REPORT.get(..report).expect(rt, "a front of the lines");
-    check(rt, &left, 5, front, lines);
-}
-
-#[test]
-fn each_put_on_out_fails_in_turn(rt: HostRuntime) {
-    let whole = call(&rt, &["run"], PAIR, CALM);
-    for (number, start, half, lines) in OUT_PUTS {
-        for taken in [0, 1, half] {
+    let calm = call(rt, words, held, CALM);
+    for (number, start, half, other) in puts {
+        for taken in [0, 1, *half] {
+            let fault = (*number, taken);
+            let len = start.wrapping_add(taken);
+            let (out, report, ends) = if is_out {
+                (fault, CALM.report, (len, *other))
+            } else {
+                (CALM.out, fault, (*other, len))
+            };
             let faults = Faults {
-                out: (number, taken),
+                out,
+                report,
                 ..CALM
             };
-            let out = start.wrapping_add(taken);
-            check_fronts(&rt, faults, whole.out.bytes(), out, lines);
+            check_front(rt, &call(rt, words, held, faults), &calm, ends, (5, b""));
         }
     }
 }
 
+// The pieces of the two charges' run are the header, two frames and the end record, and three lines.
 #[test]
-fn each_put_on_report_fails_in_turn(rt: HostRuntime) {
-    let whole = call(&rt, &["run"], PAIR, CALM);
-    for (number, start, half, out) in REPORT_PUTS {
-        for taken in [0, 1, half] {
-            let faults = Faults {
-                report: (number, taken),
-                ..CALM
-            };
-            let report = start.wrapping_add(taken);
-            check_fronts(&rt, faults, whole.out.bytes(), out, report);
-        }
-    }
+fn each_put_of_a_run_fails_in_turn(rt: HostRuntime) {
+    let puts = [
+        (0, 0, 92, 0),
+        (1, 184, 3122, 0),
+        (2, 6429, 3122, 53),
+        (3, 12674, 3, 117),
+    ];
+    check_puts(&rt, &["run"], PAIR, true, &puts);
+    let lines = [(0, 0, 26, 6429), (1, 53, 32, 12674), (2, 117, 3, 12680)];
+    check_puts(&rt, &["run"], PAIR, false, &lines);
+}
+
+// Those of the empty dump's upgrade are the header, the frame and the end record, and a line.
+#[test]
+fn each_put_of_an_upgrade_fails_in_turn(rt: HostRuntime) {
+    let old = call(&rt, &["run"], EMPTY, CALM);
+    let held = [old.out.bytes()];
+    let puts = [(0, 0, 38, 0), (1, 76, 410, 0), (2, 897, 3, 0)];
+    check_puts(&rt, &["upgrade"], &held, true, &puts);
+    check_puts(&rt, &["upgrade"], &held, false, &[(0, 0, 8, 903)]);
+}
+
+// Four puts come on out, and three on report: a further one never comes to fail.
+#[test]
+fn a_put_that_never_comes(rt: HostRuntime) {
+    let faults = Faults {
+        out: (4, 0),
+        report: (3, 0),
+        ..CALM
+    };
+    let left = call(&rt, &["run"], PAIR, faults);
+    check_same(&rt, &left, &call(&rt, &["run"], PAIR, CALM));
+}
+
+// The take fails at once, or in the second frame; and then the put of its line.
+#[test]
+fn a_take_and_a_put_fail(rt: HostRuntime) {
+    let faults = |take, number| Faults {
+        take,
+        report: (number, 4),
+        ..CALM
+    };
+    check(
+        &rt,
+        &call(&rt, &["run"], PAIR, faults(2, 0)),
+        5,
+        b"",
+        b"read",
+    );
+    let dump = call(&rt, &["run"], PAIR, CALM);
+    let held = [dump.out.bytes()];
+    let left = call(&rt, &["resume", "--steps=1"], &held, faults(120, 1));
+    check_front(&rt, &left, &dump, (6429, 53), (5, b"read"));
 }
 
 // Each take that comes fails in turn; where none comes any more, the call is a calm one.

@@ -10,7 +10,11 @@ mod dumps;
 #[cfg(test)]
 mod faults;
 #[cfg(test)]
+mod fronts;
+#[cfg(test)]
 mod pieces;
+#[cfg(test)]
+mod resumes;
 #[cfg(test)]
 mod rooms;
 #[cfg(test)]

@@ -34,6 +34,7 @@ fn pieces_of_a_dump(rt: HostRuntime) {
     let rest = dump.get(205..).expect(&rt, "the rest of the dump");
     let cut = dump.get(..12679).expect(&rt, "all but a byte");
     check_pieces(&rt, &["verify"], &[dump], 0);
+    check_pieces(&rt, &["resume", "--steps", "1"], &[dump], 0);
     check_pieces(&rt, &["verify"], &[front, &[1], rest], 8);
     check_pieces(&rt, &["verify"], &[cut], 7);
 }

@@ -1,20 +1,21 @@
 //! Whole runs, in values of their dumps.
 
 use crate::trial::{
-    CALM, CHARGES, ELECTRON, GRID_2, GRID_4, GRID_OF_8, ION, MOVING, ONE_STEP, ONE_TILE, PAIR,
-    PAIR_OF_12, PAIR_REPORT, Pieces, STILL, TWO_TILES, WAVES, call, check,
+    CALM, CHARGES, ELECTRON, FILTERED, FILTERED_STEP, GRID_2, GRID_4, GRID_OF_8, ION, Left, MOVING,
+    MOVING_OF_8, ONE_STEP, PAIR, PAIR_OF_12, PAIR_REPORT, Pieces, STILL, STILL_OF_8, WAVES, call,
+    check_same,
 };
 use std::process::Abort;
 use std::thread::Threads;
 
-// A run: its deck, the status and the report that it ends with, the length of its dump, and numbers
-// of the dump, each by its place, its length and its value.
-struct Run {
-    deck: Pieces<'static>,
-    status: u8,
-    report: &'static [u8],
-    len: usize,
-    numbers: &'static [(usize, usize, i128)],
+/// A run: its deck, the status and the report that it ends with, the length of its dump, and numbers
+/// of the dump, each by its place, its length and its value.
+pub struct Run {
+    pub deck: Pieces<'static>,
+    pub status: u8,
+    pub report: &'static [u8],
+    pub len: usize,
+    pub numbers: &'static [(usize, usize, i128)],
 }
 
 // Three steps, and a frame due after every ten.
@@ -50,8 +51,8 @@ const VACUUM: Run = Run {
     ],
 };
 
-// A step of two charges. Of frame 1: Ex(0,0,0), and the electron's x and vx.
-const TWO: Run = Run {
+/// A step of two charges. Of frame 1: Ex(0,0,0), and the electron's x and vx.
+pub const TWO: Run = Run {
     deck: PAIR,
     status: 0,
     report: PAIR_REPORT,
@@ -71,9 +72,9 @@ const COARSE: Run = Run {
         ONE_STEP,
         CHARGES,
         ION,
-        b"[[64, 0, 0, 0, 0, 0]]\n",
+        STILL_OF_8,
         ELECTRON,
-        b"[[64, 0, 0, 524288, 0, 0]]\n",
+        MOVING_OF_8,
     ],
     status: 0,
     report: b"frame 0 kinetic 274877906944 electric 0 magnetic 0\n\
@@ -88,6 +89,18 @@ const COARSE: Run = Run {
         (6446, 16, 100663296),
         (12614, 4, 192),
     ],
+};
+
+// The two charges with the filter of the current: the electron's own edge gets 8 of 64 parts. Of the
+// header: the filter; of frame 1: Ex(0,0,0), and the electron's x.
+const SMOOTH: Run = Run {
+    deck: FILTERED,
+    status: 0,
+    report: b"frame 0 kinetic 70368744177664 electric 0 magnetic 0\n\
+        frame 1 kinetic 70368744177664 electric 33397665693696 magnetic 0\n\
+        done 1\n",
+    len: 12692,
+    numbers: &[(64, 4, 1), (6446, 16, 3298534883328), (12614, 4, 3072)],
 };
 
 // Three pairs on a grid of two cells an axis: one electron crosses a corner, one stands still, and
@@ -163,40 +176,10 @@ const STRONG: Run = Run {
     numbers: &[(906, 16, 17596481003518)],
 };
 
-// The two charges, and two faces of B whose curl makes E's force values too large, in the first tile
-// and in the last: the step stops at the least place of all, which lies in the last tile.
-const CURLED: Pieces<'static> = &[
-    GRID_4,
-    ONE_STEP,
-    b"scale = { e_to_b = [0, 0], b_to_e = [2147483647, 0], e_force = [1, 0], b_force = [0, 0] }\n\
-    field = { faces = [[0, 0, 0, 0, 8193], [1, 2, 2, 2, 8193]] }\n",
-    ION,
-    STILL,
-    ELECTRON,
-    MOVING,
-];
+const RUNS: [Run; 7] = [RARE, VACUUM, COARSE, SMOOTH, CORNER, ROUND, STRONG];
 
-// Two uncharged particles, both too fast.
-const FAST: Run = Run {
-    deck: &[
-        GRID_4,
-        b"run = { steps = 5, every = 1 }\n\
-        scale = { e_to_b = [0, 0], b_to_e = [0, 0], e_force = [1, 0], b_force = [0, 0] }\n\
-        field = { e = [1, 0, 0] }\n\
-        [[species]]\nname = \"neutral\"\ncharge = 0\nmass = 1\nkick = [8388608, 0]\nturn = [0, 0]\n\
-        points = [[8192, 0, 0, 16777216, 0, 0], [0, 0, 0, 16777216, 0, 0]]\n",
-    ],
-    status: 1,
-    report: b"frame 0 kinetic 562949953421312 electric 64 magnetic 0\n\
-        stopped 1 particle 0 far 0 8192\n",
-    len: 6397,
-    numbers: &[(6381, 16, 8192)],
-};
-
-const RUNS: [Run; 8] = [RARE, VACUUM, TWO, COARSE, CORNER, ROUND, STRONG, FAST];
-
-// The number of so many bytes at this place: one of 16 bytes has a sign.
-fn number_at(bytes: &[u8], place: usize, len: usize) -> Option<i128> {
+/// The number of so many bytes at this place: one of 16 bytes has a sign.
+pub fn number_at(bytes: &[u8], place: usize, len: usize) -> Option<i128> {
     let mut number: i128 = 0;
     for byte in bytes.get(place..)?.get(..len)? {
         number = number.wrapping_mul(256).wrapping_add(i128::from(*byte));
@@ -204,7 +187,7 @@ fn number_at(bytes: &[u8], place: usize, len: usize) -> Option<i128> {
     Some(number)
 }
 
-fn check_run<H: AllocGlobal + Abort + Threads + Sync>(rt: &H, run: &Run) {
+pub fn check_run<H: AllocGlobal + Abort + Threads + Sync>(rt: &H, run: &Run) {
     let left = call(rt, &["run"], run.deck, CALM);
     let dump = left.out.bytes();
     assert_eq!(rt; left.report.bytes(), run.report);
@@ -221,20 +204,60 @@ fn whole_runs(rt: HostRuntime) {
     }
 }
 
-// The two charges on a grid in other tiles, on other numbers of workers: the same bytes.
-fn check_tiles<H: AllocGlobal + Abort + Threads + Sync>(rt: &H, grid: &[u8]) {
-    let wanted = call(rt, &["run"], PAIR, CALM);
-    let deck = [grid, ONE_STEP, CHARGES, ION, STILL, ELECTRON, MOVING];
+// A deck in front of its tiles and behind them.
+type Deck = (&'static [u8], Pieces<'static>);
+
+// And the same deck with tiles of its own.
+const TILED: [(Deck, Pieces<'static>); 2] = [
+    (
+        (
+            b"version = 1\ngrid.cells = [4, 4, 4]\n",
+            &[ONE_STEP, CHARGES, ION, STILL, ELECTRON, MOVING],
+        ),
+        PAIR,
+    ),
+    (
+        (
+            b"version = 2\ngrid.cells = [4, 4, 4]\ngrid.sub = 12\n",
+            &[FILTERED_STEP, CHARGES, ION, STILL, ELECTRON, MOVING],
+        ),
+        FILTERED,
+    ),
+];
+
+fn run_in_tiles<H: AllocGlobal + Abort + Threads + Sync>(
+    rt: &H,
+    (front, rest): Deck,
+    [x, y, z]: [u32; 3],
+    workers: &str,
+) -> Left {
+    let tiles = format!(in rt.alloc(); "grid.tiles = [{x}, {y}, {z}]\n");
+    let tiles = tiles.expect(rt, "memory");
+    let rest = rest.concat(rt.alloc()).expect(rt, "memory");
+    let words = ["run", "--workers", workers];
+    call(rt, &words, &[front, tiles.as_bytes(), &rest], CALM)
+}
+
+// On each number of workers: the same bytes.
+fn check_workers<H: AllocGlobal + Abort + Threads + Sync>(
+    rt: &H,
+    deck: Deck,
+    tiles: [u32; 3],
+    wanted: &Left,
+) {
     for workers in ["1", "3", "64"] {
-        let left = call(rt, &["run", "--workers", workers], &deck, CALM);
-        check(rt, &left, 0, wanted.out.bytes(), wanted.report.bytes());
+        let left = run_in_tiles(rt, deck, tiles, workers);
+        check_same(rt, &left, wanted);
     }
 }
 
 #[test]
 fn tiles_and_workers_change_nothing(rt: HostRuntime) {
-    for grid in [ONE_TILE, GRID_4, TWO_TILES] {
-        check_tiles(&rt, grid);
+    for (deck, whole) in TILED {
+        let wanted = call(&rt, &["run"], whole, CALM);
+        for tiles in [[1, 1, 1], [2, 2, 2], [1, 2, 1]] {
+            check_workers(&rt, deck, tiles, &wanted);
+        }
     }
 }
 
@@ -245,18 +268,4 @@ fn a_side_of_version_1_gives_its_frames(rt: HostRuntime) {
     let second = call(&rt, &["run"], PAIR_OF_12, CALM);
     assert_eq!(rt; second.report.bytes(), PAIR_REPORT);
     assert!(rt; second.out.bytes().get(196..) == first.out.bytes().get(184..));
-}
-
-#[test]
-fn the_least_place_stops_a_field_phase(rt: HostRuntime) {
-    for workers in ["1", "3", "64"] {
-        let left = call(&rt, &["run", "--workers", workers], CURLED, CALM);
-        assert_eq!(rt; left.status, 1);
-        assert_eq!(rt;
-            left.report.bytes(),
-            b"frame 0 kinetic 70368744177664 electric 0 magnetic 0\n\
-            stopped 1 field electric force 0 2 2 2 -17594333519871\n"
-                .as_slice()
-        );
-    }
 }

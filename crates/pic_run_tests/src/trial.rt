@@ -13,11 +13,6 @@ pub const GRID_2: &[u8] = b"version = 1\ngrid = { cells = [2, 2, 2], tiles = [1,
 
 pub const GRID_4: &[u8] = b"version = 1\ngrid = { cells = [4, 4, 4], tiles = [2, 2, 2] }\n";
 
-/// The same cells in one tile, and in two.
-pub const ONE_TILE: &[u8] = b"version = 1\ngrid = { cells = [4, 4, 4], tiles = [1, 1, 1] }\n";
-
-pub const TWO_TILES: &[u8] = b"version = 1\ngrid = { cells = [4, 4, 4], tiles = [1, 2, 1] }\n";
-
 /// The same cells in version 2, with a side of 2^12 sub-cells as in version 1, and with one of 2^8.
 pub const GRID_OF_12: &[u8] =
     b"version = 2\ngrid = { cells = [4, 4, 4], tiles = [2, 2, 2], sub = 12 }\n";
@@ -28,6 +23,9 @@ pub const GRID_OF_8: &[u8] =
 pub const NO_STEP: &[u8] = b"run = { steps = 0, every = 1 }\n";
 
 pub const ONE_STEP: &[u8] = b"run = { steps = 1, every = 1 }\n";
+
+/// The same with the filter of the current.
+pub const FILTERED_STEP: &[u8] = b"run = { steps = 1, every = 1, filter = 1 }\n";
 
 /// Multipliers of light waves, and of charges whose fields act on nothing.
 pub const WAVES: &[u8] =
@@ -47,6 +45,11 @@ pub const STILL: &[u8] = b"[[1024, 0, 0, 0, 0, 0]]\n";
 
 pub const MOVING: &[u8] = b"[[1024, 0, 0, 8388608, 0, 0]]\n";
 
+/// The same points where a side has 2^8 sub-cells.
+pub const STILL_OF_8: &[u8] = b"[[64, 0, 0, 0, 0, 0]]\n";
+
+pub const MOVING_OF_8: &[u8] = b"[[64, 0, 0, 524288, 0, 0]]\n";
+
 /// An empty grid of 2 by 2 by 2 cells, and no step.
 pub const EMPTY: Pieces<'static> = &[GRID_2, NO_STEP, WAVES];
 
@@ -58,7 +61,18 @@ pub const PAIR_OF_12: Pieces<'static> = &[
     GRID_OF_12, ONE_STEP, CHARGES, ION, STILL, ELECTRON, MOVING,
 ];
 
-/// The report of their run.
+/// The same with the filter of the current.
+pub const FILTERED: Pieces<'static> = &[
+    GRID_OF_12,
+    FILTERED_STEP,
+    CHARGES,
+    ION,
+    STILL,
+    ELECTRON,
+    MOVING,
+];
+
+/// The report of the run of the two charges, without the filter.
 pub const PAIR_REPORT: &[u8] = b"frame 0 kinetic 70368744177664 electric 0 magnetic 0\n\
     frame 1 kinetic 70368744177664 electric 154618822656 magnetic 0\n\
     done 1\n";
@@ -91,9 +105,10 @@ pub struct Sizes {
     pub room: usize,
 }
 
+/// Room for six frames of the two charges.
 pub const SMALL: Sizes = Sizes {
     piece: 100,
-    room: 13000,
+    room: 40000,
 };
 
 /// A call's status, and what stands on out and on report after it.
@@ -184,4 +199,30 @@ pub fn call_at<H: AllocGlobal + Abort + Threads + Sync, G: Gate + Sync>(
 pub fn check(rt: &impl Abort, left: &Left, status: u8, out: &[u8], report: &[u8]) {
     assert_eq!(rt; left.report.bytes(), report);
     assert!(rt; left.status == status && left.out.bytes() == out);
+}
+
+/// The same after both calls.
+pub fn check_same(rt: &impl Abort, left: &Left, wanted: &Left) {
+    check(
+        rt,
+        left,
+        wanted.status,
+        wanted.out.bytes(),
+        wanted.report.bytes(),
+    );
+}
+
+/// The status of a call that ends early, and what stands after it: fronts of what a calm call leaves,
+/// so long ones of out and of report, and then the line.
+pub fn check_front<H: AllocGlobal + Abort>(
+    rt: &H,
+    left: &Left,
+    calm: &Left,
+    (out, report): (usize, usize),
+    (status, line): (u8, &[u8]),
+) {
+    let out = calm.out.bytes().get(..out).expect(rt, "whole parts");
+    let lines = calm.report.bytes().get(..report).expect(rt, "their lines");
+    let report = [lines, line].concat(rt.alloc()).expect(rt, "memory");
+    check(rt, left, status, out, &report);
 }

@@ -8,7 +8,19 @@ const SEVEN: Command = Command::Demo {
     workers: 1,
 };
 
-const COMMANDS: [(&[&str], Command); 15] = [
+const RESUME: Command = Command::Resume {
+    steps: 7,
+    workers: 1,
+    tiles: [1; 3],
+};
+
+const RESUME_FAR: Command = Command::Resume {
+    steps: 1000000,
+    workers: 64,
+    tiles: [64, 2, 3],
+};
+
+const COMMANDS: [(&[&str], Command); 18] = [
     (&[], Command::Check),
     (&["--"], Command::Check),
     (&["check"], Command::Check),
@@ -20,6 +32,24 @@ const COMMANDS: [(&[&str], Command); 15] = [
     (&["run", "--workers", "003"], Command::Run { workers: 3 }),
     (&["verify"], Command::Verify),
     (&["upgrade"], Command::Upgrade),
+    (&["resume", "--steps", "7"], RESUME),
+    (&["resume", "--steps=007", "--tiles-z=1"], RESUME),
+    (
+        &[
+            "resume",
+            "--tiles-z",
+            "3",
+            "--workers",
+            "64",
+            "--tiles-x",
+            "64",
+            "--steps",
+            "1000000",
+            "--tiles-y",
+            "2",
+        ],
+        RESUME_FAR,
+    ),
     (&["demo", "7"], SEVEN),
     (&["demo", "--", "7"], SEVEN),
     (
@@ -38,7 +68,7 @@ const COMMANDS: [(&[&str], Command); 15] = [
     ),
 ];
 
-const USAGES: [&[&str]; 16] = [
+const USAGES: [&[&str]; 28] = [
     &["go"],
     &[""],
     &["help"],
@@ -52,6 +82,18 @@ const USAGES: [&[&str]; 16] = [
     &["run", "--workers", "65"],
     &["run", "--workers", "-1"],
     &["run", "--workers", "2", "--workers", "2"],
+    &["run", "--steps", "7"],
+    &["run", "--tiles-x", "2"],
+    &["resume"],
+    &["resume", "7"],
+    &["resume", "--steps"],
+    &["resume", "--steps", "1000001"],
+    &["resume", "--steps", "-1"],
+    &["resume", "--steps", "7", "--steps", "7"],
+    &["resume", "--steps", "7", "--workers", "65"],
+    &["resume", "--steps", "7", "--tiles-x", "0"],
+    &["resume", "--steps", "7", "--tiles-z", "65"],
+    &["resume", "--steps", "7", "--tiles", "2"],
     &["demo"],
     &["demo", "4294967296"],
     &["demo", "7", "8"],

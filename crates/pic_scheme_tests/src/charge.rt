@@ -5,12 +5,12 @@ ghost use Rattle.pic_num.specs.declared.axis.Axis.{Axis as AxisName};
 ghost use Rattle.pic_num.specs.Limits.{most_charge, most_value};
 ghost use Rattle.pic_num.specs.Sizes.{IsAtMost};
 ghost use Rattle.pic_num.specs.Space.{Triple, triple};
-ghost use Rattle.pic_grid.specs.Lattice.{value_at};
+ghost use Rattle.pic_grid.specs.Lattice.{value_at, node_at};
 ghost use Rattle.pic_grid.specs.Hat.{IsInBox};
 ghost use Rattle.pic_grid.specs.Cells.{IsWithin};
-ghost use Rattle.pic_charge.specs.Charge.{IsCharged};
+ghost use Rattle.pic_charge.specs.Charge.{IsCharged, most_node_charge};
 
-use pic_charge::{Break, charge, gauss};
+use pic_charge::{Break, ChargeRoom, charge, gauss};
 use pic_grid::{Cells, Lattice, Nodes};
 use pic_num::{Axis, Kind, Mult, NoMemory, Particle, Sub};
 use std::alloc::Global;
@@ -42,7 +42,7 @@ fn at(species: u8, x: [u32; 3]) -> Particle
 }
 
 // whether a position lies in the box
-fn is_in_box(cells: Cells, point: [u32; 3]) -> bool
+pub(crate) fn is_in_box(cells: Cells, point: [u32; 3]) -> bool
     ensures { IsTrue result → IsInBox cells.side cells.n (triple point) }
 {
     let side = cells.sub().side();
@@ -52,11 +52,13 @@ fn is_in_box(cells: Cells, point: [u32; 3]) -> bool
 }
 
 // the charge of a particle of charge 1 (species 0) or -1 (species 1)
-fn charge_one(cells: Cells, species: u8, x: [u32; 3], nodes: &mut Nodes)
+pub(crate) fn charge_one(cells: Cells, species: u8, x: [u32; 3], nodes: &mut Nodes)
     requires cells { nodes.old.cells ≡ cells.n }
     requires species { species < 2 }
     requires place { IsInBox cells.side cells.n (triple x) }
-    ensures { nodes.new.cells ≡ cells.n }
+    ensures cells { nodes.new.cells ≡ cells.n }
+    ensures size { (p : Triple) → IsWithin p cells.n
+        → IsAtMost (node_at nodes.new p) most_node_charge }
 {
     charge(cells, &[kind(1), kind(-1)], &[at(species, x)], nodes);
 }
@@ -189,4 +191,21 @@ fn two_charges_want_their_field(rt: HostRuntime) {
     let none = lone(rt.alloc(), cells, Axis::X, [0, 0, 0], 0).expect(&rt, "memory");
     let e = lone(rt.alloc(), cells, Axis::X, [0, 0, 0], 412316860416).expect(&rt, "memory");
     assert!(rt; gauss(cells, &none, &rho).is_some() && gauss(cells, &e, &rho).is_none());
+}
+
+#[test]
+fn a_filtered_charge_wants_another_field(rt: HostRuntime) {
+    let cells = Cells::new([4, 4, 4], Sub::of_bits(12));
+    let mut room = ChargeRoom::new(rt.alloc(), cells, 1).expect(&rt, "memory");
+    let e = lone(rt.alloc(), cells, Axis::X, [0, 0, 0], 412316860416).expect(&rt, "memory");
+    let particles = [at(0, [1024, 0, 0]), at(1, [3072, 0, 0])];
+    let found = Break {
+        node: [0, 0, 0],
+        div: 412316860416,
+        rho: 1649267441664,
+    };
+    assert_eq!(rt;
+        room.find_break(&[kind(1), kind(-1)], &particles, &e),
+        Some(found)
+    );
 }

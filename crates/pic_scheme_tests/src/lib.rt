@@ -10,4 +10,6 @@ mod energy;
 #[cfg(test)]
 mod field;
 #[cfg(test)]
+mod filter;
+#[cfg(test)]
 mod gather;

@@ -16,10 +16,12 @@ use Rattle.pic_grid.specs.Cells.{IsWithin}
 use Rattle.pic_grid.specs.PushPhase.{Surroundings, kind_of, push_of, after_push, moved, moved_all, CanShare}
 use Rattle.pic_grid.specs.Sums.{sum_over}
 use Rattle.pic_grid.proofs.DifferenceLaws.{div_e-curl_b}
-use Rattle.pic_charge.specs.Charge.{share, charge_of}
+use Rattle.pic_filter.proofs.FilteredLaws.{filtered_same, filtered_minus, div_e-filtered}
+use Rattle.pic_charge.specs.Charge.{share, charge_of, rho_of}
 use Rattle.pic_split.proofs.ContinuityLaws.{continuity_of_move}
 use Rattle.pic_split.proofs.ImageLaws.{div_e-zero, div_e-add, div_e-less}
 use Rattle.pic_push.proofs.PushLaws.{push_move}
+use Rattle.pic_step.specs.SerialStep.{World, around, half_on, current_of}
 
 -- one particle: the divergence of its current is what its share loses
 pub div_flux : (w : Surroundings) (particle : Particle) (node : Triple) (r : Result Shift Halting) → push_of w particle ≡ r
@@ -50,6 +52,22 @@ div_current w (particle ∷ particles) node above two within inside =
   where
     regroup : (a b c d : ℤ) → (a -ℤ b) +ℤ (c -ℤ d) ≡ (a +ℤ c) -ℤ (b +ℤ d)
     regroup a b c d = omega (arith, ints)
+
+-- that of the filtered current is what the charge loses that E is held against
+pub div_current_of : (w : World) (node : Triple) → 0 < w.side → HasTwo w.cells → IsWithin node w.cells
+    → All (CanShare w.side w.cells w.kinds) w.particles
+    → div_e w.cells (current_of (half_on w)) node
+    ≡ rho_of w.side w.filter w.cells w.kinds w.particles node
+    -ℤ rho_of w.side w.filter w.cells w.kinds (moved_all (around (half_on w)) w.particles) node
+unfolding rho_of
+div_current_of w node above two within inside =
+    let h = around (half_on w) in
+    let before = charge_of w.side w.cells w.kinds w.particles in
+    let after = charge_of w.side w.cells w.kinds (moved_all h w.particles) in
+    div_e-filtered w.filter w.cells (current h w.particles) node
+    ∙ filtered_same w.filter w.cells (div_e w.cells (current h w.particles)) (λ q. before q -ℤ after q)
+    (λ q inner. div_current h w.particles q above two inner inside) node within
+    ∙ filtered_minus w.filter w.cells before after node
 
 -- E and the curl of a field, less a current: the divergence falls by that of the current
 pub div_full : (n : Triple) (e b j : Axis → Triple → ℤ) (node : Triple)

@@ -57,6 +57,7 @@ step_keeps w sound = record {
   step = refl;
   side = refl;
   cells = refl;
+  filter = refl;
   scales = refl;
   kinds = refl;
   gauss = gauss_kept w sound;

@@ -8,6 +8,7 @@ use Rattle.pic_num.specs.Space.{triple}
 use Rattle.pic_grid.specs.Hat.{IsInBox}
 use Rattle.pic_grid.specs.Lattice.{Field}
 use Rattle.pic_grid.specs.PushPhase.{CanShare}
+use Rattle.pic_filter.specs.Smoothing.{filter_in}
 use Rattle.pic_tile.specs.InOrder.{IsCensus, written}
 use Rattle.pic_tile.specs.Same.{Same}
 use Rattle.pic_tile.specs.Totals.{together}
@@ -37,17 +38,17 @@ pub above_zero : (w : World) → IsSound w → 0 < w.side
 above_zero w sound = let least = sound.side_least in omega (arith, least)
 
 -- where its particles are cut into tiles, the state is that of its parts
-module _ (step : ℕ) (m : Tiling) (scales : Scales) (kinds : List Kind) (e b : Field) (xs : List Particle) (p : Plasma) (map : IsMap m)
-    (sound : IsSound (world_of step (grid_of_tiling m) scales kinds e.values b.values xs)) (tiled : AreTiled m e b) (of_map : p.frame.map ≡ m)
-    (of_kinds : p.frame.kinds ≡ kinds) (ready : IsPlasma xs p) where
+module _ (step filter : ℕ) (m : Tiling) (scales : Scales) (kinds : List Kind) (e b : Field) (xs : List Particle) (p : Plasma) (map : IsMap m)
+    (sound : IsSound (world_of step (grid_of_tiling m) filter scales kinds e.values b.values xs)) (tiled : AreTiled m e b) (of_map : p.frame.map ≡ m)
+    (of_filter : filter_in p.smooth ≡ filter) (of_kinds : p.frame.kinds ≡ kinds) (ready : IsPlasma xs p) where
   list_is : all_particles p.tiles.items ≡ xs
   list_is =
-      let w = world_of step (grid_of_tiling m) scales kinds e.values b.values xs in
+      let w = world_of step (grid_of_tiling m) filter scales kinds e.values b.values xs in
       particles_are m xs p.tiles.items (above_zero w sound) map.thick (inside w sound) sound.ordered
       (subst (λ (n : Tiling). AreFreshTiles n xs p.tiles.items) of_map ready.tiles)
 
-  pub begun_is : seen step scales e b p ≡ world_of step (grid_of_tiling m) scales kinds e.values b.values xs
-  begun_is = λ i. world_of step (grid_of_tiling (of_map i)) scales (of_kinds i) e.values b.values (list_is i)
+  pub begun_is : seen step scales e b p ≡ world_of step (grid_of_tiling m) filter scales kinds e.values b.values xs
+  begun_is = λ i. world_of step (grid_of_tiling (of_map i)) (of_filter i) scales (of_kinds i) e.values b.values (list_is i)
 
   pub kept : IsKept step scales e b p
   kept = record {
@@ -109,8 +110,8 @@ can_push step scales e b c p keeps tiled_c safe =
 
 -- the state of the parts that a step leaves
 pub next_is : (step next : ℕ) (scales : Scales) (e b e' b' : Field) (p q : Plasma) → next ≡ suc step → q.frame.map ≡ p.frame.map
-    → q.frame.kinds ≡ p.frame.kinds
+    → filter_in q.smooth ≡ filter_in p.smooth → q.frame.kinds ≡ p.frame.kinds
     → record (seen step scales e b p) { step = suc step; e = e'.values; b = b'.values; particles = all_particles q.tiles.items }
     ≡ seen next scales e' b' q
-next_is step next scales e b e' b' p q more map kinds =
-    λ i. world_of (sym more i) (grid_of_tiling (sym map i)) scales (sym kinds i) e'.values b'.values (all_particles q.tiles.items)
+next_is step next scales e b e' b' p q more map filter kinds =
+    λ i. world_of (sym more i) (grid_of_tiling (sym map i)) (sym filter i) scales (sym kinds i) e'.values b'.values (all_particles q.tiles.items)

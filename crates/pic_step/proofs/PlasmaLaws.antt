@@ -1,5 +1,6 @@
 -- The list that the tiles of a state stand for.
 use Rattle.std.proofs.Common.{◌≡◌, ℕ, ◌<◌, List, [], length, All, sym, ap, ◌∙◌, subst}
+use Rattle.std.specs.Option.{IfSome}
 use Rattle.std.proofs.lemmas.List.{ext_get_or, length-map}
 use Rattle.std.proofs.lemmas.List.Elements.{All-weaker}
 use Rattle.pic_num.specs.declared.motion.Particle.{Particle}
@@ -22,6 +23,7 @@ use Rattle.pic_tile.specs.Tiling.{Tiling, cells_of}
 use Rattle.pic_tile.proofs.HeldLaws.{chain_in}
 use Rattle.pic_tile.proofs.LeavingLaws.{tile_below}
 use Rattle.pic_core.specs.AtStart.{IsScratch}
+use Rattle.pic_advance.specs.Current.{LiesOn}
 use Rattle.pic_step.specs.declared.plasma.Plasma.{Plasma}
 use Rattle.pic_step.specs.TileFlux.{AreSpent}
 use Rattle.pic_step.specs.Plasma.{HasFlux, IsPlasma}
@@ -61,10 +63,11 @@ particles_kept m us vs count h =
     ap (λ (cs : List (List Particle)). in_order (together cs)) same
 
 -- and are ready for the next push
-pub ready_again : (p q : Plasma) → HasFlux p → q.frame ≡ p.frame → q.room ≡ p.room → length q.spare.items ≡ length p.spare.items → q.count ≡ p.count
+pub ready_again : (p q : Plasma) → HasFlux p → q.frame ≡ p.frame → q.room ≡ p.room → length q.spare.items ≡ length p.spare.items
+    → IfSome q.smooth (LiesOn (cells_of p.frame.map) p.frame.map.tiles) → q.count ≡ p.count
     → AreSpent p.frame.map p.tiles.items q.tiles.items
     → IsPlasma (all_particles p.tiles.items) q
-ready_again p q flux frame room spare count h = subst (λ f. IsPlasma (all_particles p.tiles.items) (record q { frame = f })) (sym frame) (record {
+ready_again p q flux frame room spare smooth count h = subst (λ f. IsPlasma (all_particles p.tiles.items) (record q { frame = f })) (sym frame) (record {
   tiles = record {
     count = h.numbered.count;
     numbers = h.numbered.numbers;
@@ -81,5 +84,6 @@ ready_again p q flux frame room spare count h = subst (λ f. IsPlasma (all_parti
   room = subst (λ o. IsScratch p.frame.map o) (sym room) flux.room;
   parts = flux.parts;
   spare = spare ∙ flux.spare;
+  smooth = smooth;
   count = count ∙ flux.count;
 })

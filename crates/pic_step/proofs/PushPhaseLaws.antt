@@ -1,5 +1,6 @@
 -- The force values of safe fields, and the push of the particles that feel them.
 use Rattle.std.proofs.Common.{◌≡◌, ◌≤◌, List, length, All, Option, refl, sym, ap, ◌∙◌, subst}
+use Rattle.std.specs.Option.{IfSome}
 use Rattle.std.proofs.Math.IntN.{ℤ}
 use Rattle.pic_num.specs.Limits.{most_force, most_particles}
 use Rattle.pic_num.specs.declared.axis.Axis.{Axis}
@@ -23,6 +24,7 @@ use Rattle.pic_tile.specs.Parcels.{AreFreshTiles}
 use Rattle.pic_tile.specs.Tile.{TileValue}
 use Rattle.pic_tile.specs.Tiling.{Tiling, cells_of, grid_of_tiling}
 use Rattle.pic_core.specs.AtStart.{IsScratch}
+use Rattle.pic_advance.specs.Current.{LiesOn}
 use Rattle.pic_step.specs.declared.plasma.Plasma.{Plasma}
 use Rattle.pic_step.specs.Kept.{IsTiled}
 use Rattle.pic_step.specs.Plasma.{IsPlasma}
@@ -88,6 +90,7 @@ pushed_by_fields p q scales e b f stop tiled is h =
     record {
       map = h.map ∙ ap (λ (g : FrameValue). g.map) is;
       kinds = h.kinds ∙ ap (λ (g : FrameValue). g.kinds) is;
+      smooth = h.smooth;
       flux = h.flux;
       pushed = subst (λ (w : Surroundings). ArePushed w q.frame.map xs us stop)
           (λ i. around_by (sym tiled.side i) kinds (sym tiled.cells i) of_e of_b) by;
@@ -102,5 +105,6 @@ ready_moves p f xs map parts ready = record {
   room = subst (λ (m : Tiling). IsScratch m p.room) (sym map) ready.room;
   parts = parts ∙ ap (λ (m : Tiling). layered (cells_of m)) (sym map);
   spare = ready.spare ∙ ap (λ (m : Tiling). count_of m.tiles) (sym map);
+  smooth = subst (λ (m : Tiling). IfSome p.smooth (LiesOn (cells_of m) m.tiles)) (sym map) ready.smooth;
   count = ready.count;
 }

@@ -2,9 +2,9 @@
 use Rattle.std.proofs.Common.{◌≡◌, ℕ, ◌+◌, ◌<◌, List, All, Option, length, unsigned_abs, sym, ap, ◌∙◌, subst, arith}
 use Rattle.std.proofs.Math.IntN.{pos, ◌-ℤ◌}
 use Rattle.std.specs.List.{range_with_len}
+use Rattle.std.specs.Option.{IfSome}
 use Rattle.std.proofs.lemmas.Int.{ints}
 use Rattle.std.proofs.lemmas.List.Elements.{All-weaker}
-use Rattle.pic_num.specs.Limits.{most_value}
 use Rattle.pic_num.specs.declared.axis.Axis.{Axis}
 use Rattle.pic_num.specs.declared.motion.Particle.{Particle}
 use Rattle.pic_num.specs.Space.{Triple, Spot, triple, unwrapped}
@@ -14,6 +14,7 @@ use Rattle.pic_grid.specs.Cells.{Grid, IsWithin, count_of}
 use Rattle.pic_grid.specs.Current.{current}
 use Rattle.pic_grid.specs.Hat.{IsInBox, HasTwo}
 use Rattle.pic_grid.specs.Parts.{layered}
+use Rattle.pic_grid.specs.Traces.{most_flux}
 use Rattle.pic_grid.specs.PushPhase.{Surroundings, CanShare, moved_all}
 use Rattle.pic_grid.proofs.BlockLaws.{inner_within}
 use Rattle.pic_tile.specs.InOrder.{AreOrdered}
@@ -31,6 +32,7 @@ use Rattle.pic_tile.specs.Tile.{TileValue, chain_at, flux_at, tile_in}
 use Rattle.pic_tile.specs.Tiling.{Tiling, IsMap, IsInTile, cells_of, owner_of}
 use Rattle.pic_tile.proofs.TilingLaws.{owner_below, owner_has}
 use Rattle.pic_core.specs.AtStart.{IsScratch}
+use Rattle.pic_advance.specs.Current.{LiesOn}
 use Rattle.pic_step.specs.declared.plasma.Plasma.{Plasma}
 use Rattle.pic_step.specs.TileFlux.{HaveReceived, flux_in}
 use Rattle.pic_step.specs.Exchange.{HasExchanged}
@@ -41,7 +43,7 @@ use Rattle.pic_step.proofs.SoundLaws.{has_two}
 
 -- the tiles have received all
 pub have_received : (w : Surroundings) (m : Tiling) (xs : List Particle) (us : List TileValue) → AreExchanged w m xs us
-    → ((r : ℕ) → r < count_of m.tiles → AllAtMost most_value (flux_at (tile_in us r) here)) → HaveReceived m us
+    → ((r : ℕ) → r < count_of m.tiles → AllAtMost most_flux (flux_at (tile_in us r) here)) → HaveReceived m us
 have_received w m xs us x small = record {
   numbered = record { count = x.count; numbers = λ r below. (x.each r below).number };
   ready = λ r below. (x.each r below).ready;
@@ -120,20 +122,22 @@ has_pushed p q stop h frame map some opening ready stopped =
     let f = q.frame in
     let back = sym h.frame in
     let x : AreExchanged (felt_in f) f.map xs us = subst (λ (g : FrameValue). AreExchanged (felt_in g) g.map xs us) back h.tiles in
-    let small : (r : ℕ) → r < count_of f.map.tiles → AllAtMost most_value (flux_at (tile_in us r) here) =
-    subst (λ (g : FrameValue). (r : ℕ) → r < count_of g.map.tiles → AllAtMost most_value (flux_at (tile_in us r) here)) back h.small in
+    let small : (r : ℕ) → r < count_of f.map.tiles → AllAtMost most_flux (flux_at (tile_in us r) here) =
+    subst (λ (g : FrameValue). (r : ℕ) → r < count_of g.map.tiles → AllAtMost most_flux (flux_at (tile_in us r) here)) back h.small in
     let pushed : ArePushed (felt_in f) f.map xs us stop =
     are_pushed f xs us stop frame map (subst (λ (g : FrameValue). 0 < g.map.side) back some) opening.ordered
     (subst (λ (g : FrameValue). All (CanShare g.map.side (cells_of g.map) g.kinds) xs) back opening.can) x stopped in
     record {
       map = ap (λ (g : FrameValue). g.map) h.frame;
       kinds = ap (λ (g : FrameValue). g.kinds) h.frame;
+      smooth = h.smooth;
       flux = record {
         received = have_received (felt_in f) f.map xs us x small;
         stand = stand_for (felt_in f) f.map xs us x pushed.particles;
         room = subst (λ (g : FrameValue). IsScratch g.map q.room) back h.room;
         parts = subst (λ (g : FrameValue). g.force_e.parts ≡ layered (cells_of g.map)) back ready.parts;
         spare = ap (λ v. length v.items) h.spare ∙ ready.spare ∙ ap (λ (g : FrameValue). count_of g.map.tiles) back;
+        smooth = subst (λ (g : FrameValue). IfSome q.smooth (LiesOn (cells_of g.map) g.map.tiles)) back (subst (λ o. IfSome o (LiesOn (cells_of p.frame.map) p.frame.map.tiles)) (sym h.smooth) ready.smooth);
         count = h.count ∙ ready.count ∙ sym (ap length pushed.particles ∙ length-moved_all (felt_in f) xs);
       };
       pushed = subst (λ (g : FrameValue). ArePushed (felt_in g) f.map xs us stop) h.frame pushed;

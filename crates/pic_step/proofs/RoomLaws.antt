@@ -1,10 +1,8 @@
 -- A push of all tiles by a core, in the room of a state.
-use Rattle.std.proofs.Common.{◌≡◌, ℕ, ◌<◌, List, ◌∙◌, subst, arith}
-use Rattle.pic_num.specs.Limits.{most_value}
+use Rattle.std.proofs.Common.{◌≡◌, ℕ, ◌<◌, List, ◌∙◌, subst}
 use Rattle.pic_grid.specs.Block.{AllAtMost}
 use Rattle.pic_grid.specs.Cells.{count_of}
 use Rattle.pic_grid.specs.Traces.{most_flux}
-use Rattle.pic_grid.proofs.BlockLaws.{all_at_most_more}
 use Rattle.pic_tile.specs.CoreState.{CoreState, tile_count, all_particles}
 use Rattle.pic_tile.specs.Directions.{here}
 use Rattle.pic_tile.specs.Exchanged.{AreExchanged}
@@ -21,17 +19,17 @@ use Rattle.pic_step.specs.Exchange.{HasExchanged}
 pub core_exchanges : (old new : Plasma) (s t : CoreState) (events : List Event) → IsAtStart old.frame old.tiles.items s → Ran s events t → new.frame ≡ t.frame
     → AreExchanged (felt_in t.frame) t.frame.map (all_particles t.opening) new.tiles.items
     → ((r : ℕ) → r < tile_count t → AllAtMost most_flux (flux_at (tile_in new.tiles.items r) here)) → IsScratch t.frame.map new.room
-    → new.spare ≡ old.spare → new.count ≡ old.count → HasExchanged old new
-core_exchanges old new s t events opened ran frame exchanged bound room spare count =
+    → new.spare ≡ old.spare → new.smooth ≡ old.smooth → new.count ≡ old.count → HasExchanged old new
+core_exchanges old new s t events opened ran frame exchanged bound room spare smooth count =
     let frame_is = ran_frame s events t ran ∙ opened.frame in
     let opening_is = ran_opening s events t ran ∙ opened.opening in
     record {
       frame = frame ∙ frame_is;
       tiles = subst (λ (ts : List TileValue). AreExchanged (felt_in old.frame) old.frame.map (all_particles ts) new.tiles.items) opening_is
           (subst (λ (f : FrameValue). AreExchanged (felt_in f) f.map (all_particles t.opening) new.tiles.items) frame_is exchanged);
-      small = subst (λ (f : FrameValue). (r : ℕ) → r < count_of f.map.tiles → AllAtMost most_value (flux_at (tile_in new.tiles.items r) here)) frame_is
-          (λ r below. all_at_most_more (flux_at (tile_in new.tiles.items r) here) most_flux most_value (omega arith) (bound r below));
+      small = subst (λ (f : FrameValue). (r : ℕ) → r < count_of f.map.tiles → AllAtMost most_flux (flux_at (tile_in new.tiles.items r) here)) frame_is bound;
       room = subst (λ (f : FrameValue). IsScratch f.map new.room) frame_is room;
       spare = spare;
+      smooth = smooth;
       count = count;
     }

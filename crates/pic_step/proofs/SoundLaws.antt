@@ -16,7 +16,7 @@ use Rattle.pic_grid.specs.Hat.{HasTwo}
 use Rattle.pic_grid.specs.Cells.{IsCells}
 use Rattle.pic_grid.specs.PushPhase.{moved_all, push_stop}
 use Rattle.pic_grid.proofs.LatticeLaws.{value_at-field_of}
-use Rattle.pic_charge.specs.Charge.{charge_of}
+use Rattle.pic_charge.specs.Charge.{rho_of}
 use Rattle.pic_charge.specs.Gauss.{MeetsGauss}
 use Rattle.pic_field.specs.FieldPhases.{full_of, least_fault, IsBounded}
 use Rattle.pic_field.proofs.FaultLaws.{least_fault-bounded}
@@ -26,10 +26,10 @@ use Rattle.pic_step.specs.SerialStep.{World, e_of, b_of, around, half_at, full_a
 use Rattle.pic_step.specs.SerialStep.{current_of, before_electric, half_stop, full_stop, next_world, stop_of_step}
 use Rattle.pic_grid.specs.Parts.{one_part}
 use Rattle.pic_step.specs.Sound.{IsSafe, IsSound}
-use Rattle.pic_step.proofs.OnePartLaws.{above_origin}
+use Rattle.pic_advance.proofs.SamePhaseLaws.{above_origin}
 use Rattle.pic_push.proofs.PushLaws.{ids_kept, length-moved_all, share_kept}
 use Rattle.pic_step.proofs.VelocityLaws.{velocities_kept}
-use Rattle.pic_step.proofs.GaussLaws.{div_current, div_full}
+use Rattle.pic_step.proofs.GaussLaws.{div_current_of, div_full}
 
 -- every grid has two cells on each axis
 pub has_two : (n : Triple) → IsCells n → HasTwo n
@@ -58,7 +58,7 @@ no_stop w none =
     record { half1 = left_none _ _ none; push = left_none _ _ second; half2 = left_none _ _ third; electric = right_none _ _ third }
 
 -- Gauss's law after a step
-pub gauss_kept : (w : World) → IsSound w → MeetsGauss w.side w.cells w.kinds (push_on (half_on w)).particles (e_of (next_world w))
+pub gauss_kept : (w : World) → IsSound w → MeetsGauss w.side w.filter w.cells w.kinds (push_on (half_on w)).particles (e_of (next_world w))
 unfolding next_world full_of
 gauss_kept w sound = record {
   at_node = λ p within.
@@ -72,9 +72,9 @@ gauss_kept w sound = record {
       (λ a q inside. value_at-field_of w.side n one_part (full_at j w4) a q inside) in
       let falls = div_full n (value_at (e_of w)) (λ c q. scaled (value_at (b_of w4) c q) w.scales.b_to_e) j p in
       let old = sound.gauss.at_node p within in
-      let law = div_current (around h) w.particles p above two within sound.places in
+      let law = div_current_of w p above two within sound.places in
       is_full ∙ falls ∙ (λ i. old i -ℤ law i)
-      ∙ cancel (charge_of w.side n w.kinds w.particles p) (charge_of w.side n w.kinds (moved_all (around h) w.particles) p);
+      ∙ cancel (rho_of w.side w.filter n w.kinds w.particles p) (rho_of w.side w.filter n w.kinds (moved_all (around h) w.particles) p);
 }
   where
     cancel : (a b : ℤ) → a -ℤ (a -ℤ b) ≡ b
@@ -90,6 +90,7 @@ sound_at w k few sound = record {
   side_least = sound.side_least;
   side_most = sound.side_most;
   cells = sound.cells;
+  filter = sound.filter;
   e = sound.e;
   b = sound.b;
   kinds = sound.kinds;
@@ -115,6 +116,7 @@ step_sound_at w k reached sound none =
       side_least = sound.side_least;
       side_most = sound.side_most;
       cells = sound.cells;
+      filter = sound.filter;
       e = safe_after Electric w.scales.e_force w.side n (full_at (current_of h) (before_electric w)) stops.electric;
       b = safe_after Half2 w.scales.b_force w.side n (half_at (push_on h)) stops.half2;
       kinds = sound.kinds;

@@ -1,5 +1,5 @@
 -- A step by its four calls: each leaves what the next one needs.
-use Rattle.std.proofs.Common.{◌≡◌, ℤ, suc, ◌<◌, List, Option, None, Result, Ok, sym, ap, ◌∙◌, subst}
+use Rattle.std.proofs.Common.{◌≡◌, ℕ, ℤ, suc, ◌<◌, List, Option, None, Result, Ok, sym, ap, ◌∙◌, subst}
 use Rattle.pic_num.specs.Limits.{most_steps}
 use Rattle.pic_num.specs.declared.motion.Particle.{Particle}
 use Rattle.pic_num.specs.declared.axis.Axis.{Axis}
@@ -7,10 +7,13 @@ use Rattle.pic_num.specs.Space.{Triple}
 use Rattle.pic_grid.specs.declared.stop.Phase.TheVariants.{Half1, Half2, Electric}
 use Rattle.pic_grid.specs.declared.stop.Stop.{Stop}
 use Rattle.pic_grid.specs.Lattice.{Field, value_at}
+use Rattle.pic_grid.specs.Current.{current}
 use Rattle.pic_grid.specs.Gather.{force_of}
 use Rattle.pic_grid.specs.Cells.{IsWithin}
 use Rattle.pic_grid.specs.Parts.{one_part}
 use Rattle.pic_grid.specs.PushPhase.{Surroundings, push_stop}
+use Rattle.pic_filter.specs.Smoothing.{filtered}
+use Rattle.pic_filter.proofs.FilteredLaws.{filtered_same}
 use Rattle.pic_field.specs.FieldPhases.{half_of, full_of}
 use Rattle.pic_tile.specs.CoreState.{all_particles}
 use Rattle.pic_tile.specs.Tile.{TileValue}
@@ -80,9 +83,26 @@ before_safe w b before = subst (λ (v : List ℤ). IsSafe w.scales.b_force (on_g
 abbrev pub IsCurrent : World → (Axis → Triple → ℤ) → Type 0
 IsCurrent w j = (a : Axis) (p : Triple) → IsWithin p w.cells → j a p ≡ current_of (half_on w) a p
 
+-- that of tiles is, filtered where the current is
+abbrev pub filtered_flux : World → Tiling → List TileValue → Axis → Triple → ℤ
+filtered_flux w m tiles a = filtered w.filter w.cells (flux_in m tiles a)
+
+pub flux_is : (w : World) (m : Tiling) (tiles : List TileValue) (stop : Option Stop) → ArePushed (around (half_on w)) m w.particles tiles stop
+    → IsCurrent w (filtered_flux w m tiles)
+flux_is w m tiles stop pushed a = filtered_same w.filter w.cells (flux_in m tiles a) (current (around (half_on w)) w.particles a) (pushed.current_is a)
+
 -- E by that flux is E by the current
 abbrev pub by_flux : World → List ℤ → (Axis → Triple → ℤ) → Axis → Triple → ℤ
 by_flux w b j a p = full_of w.scales (on_grid w b) a p (value_at (e_of w) a p) (j a p)
+
+-- by whatever names for the filter and the cells
+pub by_filter : (w : World) (b : List ℤ) (m : Tiling) (tiles : List TileValue) (r : Result (List ℤ) Stop) (filter : ℕ) (n : Triple)
+    → filter ≡ w.filter → n ≡ w.cells
+    → Advanced Electric w.scales.e_force w.cells (by_flux w b (λ a. filtered filter n (flux_in m tiles a))) r
+    → Advanced Electric w.scales.e_force w.cells (by_flux w b (filtered_flux w m tiles)) r
+by_filter w b m tiles r filter n same_filter same_cells done =
+    subst (λ (k : Triple). Advanced Electric w.scales.e_force w.cells (by_flux w b (λ a. filtered w.filter k (flux_in m tiles a))) r) same_cells
+    (subst (λ (f : ℕ). Advanced Electric w.scales.e_force w.cells (by_flux w b (λ a. filtered f n (flux_in m tiles a))) r) same_filter done)
 
 pub last_step : (w : World) (b : List ℤ) (j : Axis → Triple → ℤ) (r : Result (List ℤ) Stop) → IsBefore w b → IsCurrent w j
     → Advanced Electric w.scales.e_force w.cells (by_flux w b j) r
@@ -97,11 +117,11 @@ pub record IsAfter (w : World) (e b : List ℤ) (particles : List Particle) : Ty
 
 pub is_after : (w : World) (b c e : List ℤ) (m : Tiling) (tiles : List TileValue) (particles : List Particle) → IsHalf w b
     → ArePushed (around (half_on w)) m w.particles tiles None → IsBefore w c → particles ≡ all_particles tiles
-    → Advanced Electric w.scales.e_force w.cells (by_flux w c (flux_in m tiles)) (Ok e) → IsAfter w e c particles
+    → Advanced Electric w.scales.e_force w.cells (by_flux w c (filtered_flux w m tiles)) (Ok e) → IsAfter w e c particles
 unfolding next_world
 is_after w b c e m tiles particles half pushed before same done =
     let free : push_stop (around (half_on w)) w.particles ≡ None = sym pushed.stop_is in
-    let last = last_step w c (flux_in m tiles) (Ok e) before pushed.current_is done in
+    let last = last_step w c (filtered_flux w m tiles) (Ok e) before (flux_is w m tiles None pushed) done in
     let moved : particles ≡ (before_electric w).particles = same ∙ pushed.particles in
     record {
       none = no_stop_is w half.none free before.none last.1;

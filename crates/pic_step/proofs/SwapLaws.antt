@@ -5,7 +5,7 @@ use Rattle.std.proofs.Math.Decide.{ℕ_discrete}
 use Rattle.std.proofs.Math.Nat.{mul-div_cancel_left}
 use Rattle.std.proofs.lemmas.List.{length-set}
 use Rattle.pic_num.specs.declared.axis.Axis.{Axis}
-use Rattle.pic_num.specs.Limits.{most_value}
+use Rattle.pic_grid.specs.Traces.{most_flux}
 use Rattle.pic_num.specs.Sizes.{IsAtMost}
 use Rattle.pic_num.specs.Space.{Triple, Spot, unwrapped}
 use Rattle.pic_grid.specs.Block.{BlockValues, InZone, inner_of, edge_at, outer_of}
@@ -115,7 +115,7 @@ module _ (m : Tiling) (ts us : List TileValue) (bs js : List BlockValues) (map :
             ∙ ap (λ (b : BlockValues). edge_at b a (unwrapped p)) (swapped.each (owner_of m p) (in_list (owner_of m p) below)).block
 
         -- within the limits
-        pub flux_small : EachAtMost most_value (joined (record { n = cells_of m; side = side }) m.tiles js)
+        pub flux_small : EachAtMost most_flux (joined (record { n = cells_of m; side = side }) m.tiles js)
         flux_small = record {
           at_most = λ a p within.
               let r = owner_of m p in
@@ -123,7 +123,7 @@ module _ (m : Tiling) (ts us : List TileValue) (bs js : List BlockValues) (map :
               let inside : IsInTile m r p = owner_has m p map within in
               let ready = had.ready r below in
               let low : (flux_at (tile_in ts r) here).low ≡ lowest_cell m r = ready.low ∙ ap (lowest_cell m) (had.numbered.numbers r below) in
-              subst (λ (v : ℤ). IsAtMost v most_value) (sym (flux_is a p within))
+              subst (λ (v : ℤ). IsAtMost v most_flux) (sym (flux_is a p within))
               ((had.small r below).at_most a (unwrapped p)
               (subst (λ (n : Triple). InZone (flux_at (tile_in ts r) here).low n (unwrapped p)) (sym ready.size)
               (subst (λ (l : Spot). InZone l m.size (unwrapped p)) (sym low) inside)));

@@ -2,7 +2,6 @@
 use Rattle.std.proofs.Common.{◌≡◌, ℕ, ◌<◌, List, [], ◌∷◌, length, None, refl, sym, ap, ◌∙◌, subst, arith}
 use Rattle.std.proofs.Math.IntN.{ℤ, pos}
 use Rattle.pic_num.specs.First.{first_of}
-use Rattle.pic_num.specs.Limits.{most_value}
 use Rattle.pic_num.specs.Sizes.{IsAtMost}
 use Rattle.pic_num.specs.declared.axis.Axis.{Axis}
 use Rattle.pic_num.specs.declared.motion.Particle.{Particle}
@@ -12,6 +11,7 @@ use Rattle.pic_grid.specs.Cells.{IsWithin, count_of}
 use Rattle.pic_grid.specs.Current.{current}
 use Rattle.pic_grid.specs.PushPhase.{Surroundings, moved_all, push_stop}
 use Rattle.pic_grid.specs.Sums.{sum_over}
+use Rattle.pic_grid.specs.Traces.{most_flux}
 use Rattle.pic_tile.specs.CoreState.{all_particles}
 use Rattle.pic_tile.specs.Directions.{here}
 use Rattle.pic_tile.specs.Layers.{lowest_cell}
@@ -55,11 +55,11 @@ module _ (m : Tiling) (xs : List Particle) (us : List TileValue) (tiles : AreFre
       (subst (λ (n : Triple). InZone (flux_at (tile_in us r) here).low n (unwrapped p)) (sym size)
       (subst (λ (l : Spot). InZone l m.size (unwrapped p)) (sym low) inside))
 
-  pub flux_small : (r : ℕ) → r < count_of m.tiles → AllAtMost most_value (flux_at (tile_in us r) here)
+  pub flux_small : (r : ℕ) → r < count_of m.tiles → AllAtMost most_flux (flux_at (tile_in us r) here)
   flux_small r below = record {
     at_most = λ a c in_zone.
-        let zero : IsAtMost (pos 0) most_value = record { size = omega arith } in
-        subst (λ (v : ℤ). IsAtMost v most_value) (sym ((tiles.fresh r below).empty.values a c in_zone)) zero;
+        let zero : IsAtMost (pos 0) most_flux = record { size = omega arith } in
+        subst (λ (v : ℤ). IsAtMost v most_flux) (sym ((tiles.fresh r below).empty.values a c in_zone)) zero;
   }
 
 pub none_pushed : (w : Surroundings) (p : Plasma) → IsMap p.frame.map → w.cells ≡ cells_of p.frame.map → IsPlasma (all_particles p.tiles.items) p
@@ -71,6 +71,7 @@ none_pushed w p map cells ready none =
     record {
       map = refl;
       kinds = refl;
+      smooth = refl;
       flux = record {
         received = record {
           numbered = record { count = ready.tiles.count; numbers = ready.tiles.numbers };
@@ -82,6 +83,7 @@ none_pushed w p map cells ready none =
         room = ready.room;
         parts = ready.parts;
         spare = ready.spare;
+        smooth = ready.smooth;
         count = ready.count;
       };
       pushed = record {

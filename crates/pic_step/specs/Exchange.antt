@@ -1,7 +1,7 @@
 -- The push of all particles of a state, and the exchange of what leaves their tiles.
 use Rattle.std.specs.Prelude.{◌≡◌, ℕ, ◌<◌, Result, Ok, Err}
 use Rattle.pic_num.specs.declared.no_memory.NoMemory.{NoMemory}
-use Rattle.pic_num.specs.Limits.{most_value}
+use Rattle.pic_grid.specs.Traces.{most_flux}
 use Rattle.pic_grid.specs.Block.{AllAtMost}
 use Rattle.pic_grid.specs.Cells.{count_of}
 use Rattle.pic_tile.specs.CoreState.{all_particles}
@@ -19,9 +19,10 @@ pub record HasExchanged (old new : Plasma) : Type 0 where
   pub tiles : AreExchanged (felt_in old.frame) old.frame.map (all_particles old.tiles.items)
       new.tiles.items
   pub small : (r : ℕ) → r < count_of old.frame.map.tiles
-      → AllAtMost most_value (flux_at (tile_in new.tiles.items r) here)
+      → AllAtMost most_flux (flux_at (tile_in new.tiles.items r) here)
   pub room : IsScratch old.frame.map new.room
   pub spare : new.spare ≡ old.spare
+  pub smooth : new.smooth ≡ old.smooth
   pub count : new.count ≡ old.count
 
 -- what so many workers answer: want of memory more than one alone

@@ -5,6 +5,7 @@ use Rattle.pic_grid.specs.Lattice.{Field}
 use Rattle.pic_tile.specs.CoreState.{all_particles}
 use Rattle.pic_tile.specs.Tiling.{Tiling, cells_of, grid_of_tiling}
 use Rattle.pic_step.specs.declared.plasma.Plasma.{Plasma}
+use Rattle.pic_filter.specs.Smoothing.{filter_in}
 use Rattle.pic_step.specs.Plasma.{IsPlasma}
 use Rattle.pic_step.specs.SerialStep.{World, world_of}
 use Rattle.pic_step.specs.Sound.{IsSound}
@@ -24,7 +25,8 @@ pub record AreTiled (m : Tiling) (e b : Field) : Type 0 where
 -- of their identities
 abbrev pub seen : ℕ → Scales → Field → Field → Plasma → World
 seen step scales e b p =
-    world_of step (grid_of_tiling p.frame.map) scales p.frame.kinds e.values b.values
+    world_of step (grid_of_tiling p.frame.map) (filter_in p.smooth) scales p.frame.kinds e.values
+    b.values
     (all_particles p.tiles.items)
 
 -- it is sound, its fields lie in the tiles, and its particles are ready for their push

@@ -1,5 +1,5 @@
 -- The particles of a state in tiles, and what their push works with.
-use Rattle.std.specs.Prelude.{◌≡◌, ℕ, ◌<◌, List, length}
+use Rattle.std.specs.Prelude.{◌≡◌, ℕ, ◌<◌, List, length, IfSome}
 use Rattle.pic_num.specs.declared.motion.Particle.{Particle}
 use Rattle.pic_grid.specs.Cells.{count_of}
 use Rattle.pic_grid.specs.Parts.{layered}
@@ -7,6 +7,7 @@ use Rattle.pic_tile.specs.CoreState.{all_particles}
 use Rattle.pic_tile.specs.Parcels.{AreFreshTiles, StandsFor}
 use Rattle.pic_tile.specs.Tile.{tile_in}
 use Rattle.pic_tile.specs.Tiling.{cells_of}
+use Rattle.pic_advance.specs.Current.{LiesOn}
 use Rattle.pic_core.specs.AtStart.{IsScratch}
 use Rattle.pic_step.specs.declared.plasma.Plasma.{Plasma}
 use Rattle.pic_step.specs.TileFlux.{HaveReceived}
@@ -19,6 +20,7 @@ pub record IsPlasma (particles : List Particle) (p : Plasma) : Type 0 where
   pub room : IsScratch p.frame.map p.room
   pub parts : p.frame.force_e.parts ≡ layered (cells_of p.frame.map)
   pub spare : length p.spare.items ≡ count_of p.frame.map.tiles
+  pub smooth : IfSome p.smooth (LiesOn (cells_of p.frame.map) p.frame.map.tiles)
   pub count : p.count ≡ length particles
 
 -- they are pushed: each tile has its own of them and its flux; all else is ready for the next push
@@ -29,4 +31,5 @@ pub record HasFlux (p : Plasma) : Type 0 where
   pub room : IsScratch p.frame.map p.room
   pub parts : p.frame.force_e.parts ≡ layered (cells_of p.frame.map)
   pub spare : length p.spare.items ≡ count_of p.frame.map.tiles
+  pub smooth : IfSome p.smooth (LiesOn (cells_of p.frame.map) p.frame.map.tiles)
   pub count : p.count ≡ length (all_particles p.tiles.items)

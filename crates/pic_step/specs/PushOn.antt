@@ -52,5 +52,6 @@ pub record ArePushed (w : Surroundings) (m : Tiling) (old : List Particle) (tile
 pub record HasPushed (w : Surroundings) (old new : Plasma) (stop : Option Stop) : Type 0 where
   pub map : new.frame.map ≡ old.frame.map
   pub kinds : new.frame.kinds ≡ old.frame.kinds
+  pub smooth : new.smooth ≡ old.smooth
   pub flux : HasFlux new
   pub pushed : ArePushed w new.frame.map (all_particles old.tiles.items) new.tiles.items stop

@@ -19,15 +19,17 @@ use Rattle.pic_grid.specs.Lattice.{Field, value_at, values_of}
 use Rattle.pic_grid.specs.Gather.{force_of}
 use Rattle.pic_grid.specs.Parts.{one_part, origin}
 use Rattle.pic_grid.specs.PushPhase.{Surroundings, moved_all, push_stop}
+use Rattle.pic_filter.specs.Smoothing.{filtered}
 use Rattle.pic_field.specs.FieldPhases.{half_of, full_of, least_fault}
 
 -- a state of the scheme: after how many steps it is; the side of a cell, the numbers of cells, the
--- multipliers and the species, which stay; the values of E and of B in the order of places, and the
+-- filter of the current, the multipliers and the species, which stay; the values of E and of B in the order of places, and the
 -- particles in the order of their identities
 pub record World : Type 0 where
   pub step : ℕ
   pub side : ℕ
   pub cells : Triple
+  pub filter : ℕ
   pub scales : Scales
   pub kinds : List Kind
   pub e : List ℤ
@@ -35,11 +37,12 @@ pub record World : Type 0 where
   pub particles : List Particle
 
 -- the state of these parts
-abbrev pub world_of : ℕ → Grid → Scales → List Kind → List ℤ → List ℤ → List Particle → World
-world_of step grid scales kinds e b particles = record {
+abbrev pub world_of : ℕ → Grid → ℕ → Scales → List Kind → List ℤ → List ℤ → List Particle → World
+world_of step grid filter scales kinds e b particles = record {
   step = step;
   side = grid.side;
   cells = grid.n;
+  filter = filter;
   scales = scales;
   kinds = kinds;
   e = e;
@@ -80,9 +83,9 @@ half_on w = record w { b = values_of w.cells (half_at w) }
 abbrev pub push_on : World → World
 push_on w = record w { particles = moved_all (around w) w.particles }
 
--- the current of that push
+-- the current of that push, filtered where there is a filter
 abbrev pub current_of : World → Axis → Triple → ℤ
-current_of w = current (around w) w.particles
+current_of w a = filtered w.filter w.cells (current (around w) w.particles a)
 
 -- a step of E, with the current j
 abbrev pub full_on : (Axis → Triple → ℤ) → World → World

@@ -1,7 +1,7 @@
 -- What the state of a run keeps.
 use Rattle.std.specs.Prelude.{◌≤◌, length}
 use Rattle.std.specs.List.{All}
-use Rattle.pic_num.specs.Limits.{least_side, most_side, most_steps, most_particles}
+use Rattle.pic_num.specs.Limits.{least_side, most_side, most_filter, most_steps, most_particles}
 use Rattle.pic_num.specs.declared.axis.Axis.{Axis}
 use Rattle.pic_num.specs.Multiplier.{Multiplier}
 use Rattle.pic_num.specs.Space.{Triple, spot}
@@ -27,6 +27,7 @@ pub record IsSound (w : World) : Type 0 where
   pub side_least : least_side ≤ w.side
   pub side_most : w.side ≤ most_side
   pub cells : IsCells w.cells
+  pub filter : w.filter ≤ most_filter
   pub e : IsSafe w.scales.e_force (e_of w)
   pub b : IsSafe w.scales.b_force (b_of w)
   pub kinds : AreKinds w.kinds
@@ -34,4 +35,4 @@ pub record IsSound (w : World) : Type 0 where
   pub ordered : AreOrdered w.particles
   pub places : All (CanShare w.side w.cells w.kinds) w.particles
   pub velocities : All (λ particle. IsKeptVelocity w.side (spot particle.v)) w.particles
-  pub gauss : MeetsGauss w.side w.cells w.kinds w.particles (e_of w)
+  pub gauss : MeetsGauss w.side w.filter w.cells w.kinds w.particles (e_of w)

@@ -1,6 +1,6 @@
 -- The flux that tiles have after their push, and the tiles while it is elsewhere and when it is spent.
 use Rattle.std.specs.Prelude.{◌≡◌, ℕ, ℤ, ◌<◌, List, length, None, Some}
-use Rattle.pic_num.specs.Limits.{most_value}
+use Rattle.pic_grid.specs.Traces.{most_flux}
 use Rattle.pic_num.specs.declared.axis.Axis.{Axis}
 use Rattle.pic_num.specs.Space.{Triple, unwrapped}
 use Rattle.pic_grid.specs.Block.{BlockValues, AllAtMost, edge_at}
@@ -23,7 +23,7 @@ pub record HaveReceived (m : Tiling) (tiles : List TileValue) : Type 0 where
   pub ready : (r : ℕ) → r < count_of m.tiles → IsReady m (tile_in tiles r)
   pub quiet : (r d : ℕ) → r < count_of m.tiles → d < directions → (d ≡ here → ⊥)
       → stop_at (tile_in tiles r) d ≡ None
-  pub small : (r : ℕ) → r < count_of m.tiles → AllAtMost most_value (flux_at (tile_in tiles r) here)
+  pub small : (r : ℕ) → r < count_of m.tiles → AllAtMost most_flux (flux_at (tile_in tiles r) here)
 
 -- the flux that tiles have at an edge of the grid: that of the tile of its cell
 abbrev pub flux_in : Tiling → List TileValue → Axis → Triple → ℤ

@@ -47,6 +47,7 @@ fn in_turn<G: Gate>(plasma: Plasma, gate: &G) -> Plasma
         tiles,
         spare,
         room,
+        smooth,
         count,
     } = plasma;
     let mut core = Core::begin(frame, tiles, room);
@@ -57,6 +58,7 @@ fn in_turn<G: Gate>(plasma: Plasma, gate: &G) -> Plasma
         tiles,
         spare,
         room,
+        smooth,
         count,
     }
 }
@@ -76,6 +78,7 @@ fn at_board<H: Threads + Sync, G: Gate + Sync>(
         tiles,
         spare,
         room,
+        smooth,
         count,
     } = plasma;
     let done = on_board(team, alloc, frame, tiles)?;
@@ -85,6 +88,7 @@ fn at_board<H: Threads + Sync, G: Gate + Sync>(
         tiles,
         spare,
         room,
+        smooth,
         count,
     })
 }

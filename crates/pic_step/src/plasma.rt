@@ -1,21 +1,24 @@
 //! The particles of a state in tiles, and what their push works with.
 
-ghost use Rattle.std.specs.Prelude.{◌≡◌, ◌<◌, ◌≤◌, length, IfOk};
+ghost use Rattle.std.specs.Prelude.{◌≡◌, ◌<◌, ◌≤◌, length, IfOk, IfSome};
 ghost use Rattle.std.specs.List.{All};
-ghost use Rattle.pic_num.specs.Limits.{most_particles, most_value};
+ghost use Rattle.pic_num.specs.Limits.{most_filter, most_particles, most_value};
 ghost use Rattle.pic_num.specs.Space.{triple};
 ghost use Rattle.pic_grid.specs.Hat.{IsInBox};
 ghost use Rattle.pic_grid.specs.Lattice.{EachAtMost, value_at};
 ghost use Rattle.pic_grid.specs.Parts.{layered};
+ghost use Rattle.pic_filter.specs.Smoothing.{filtered, filter_in};
 ghost use Rattle.pic_field.specs.FieldPhases.{full_of};
 ghost use Rattle.pic_tile.specs.CoreState.{all_particles};
 ghost use Rattle.pic_tile.specs.Tiling.{cells_of};
+ghost use Rattle.pic_advance.specs.Current.{LiesOn};
 ghost use Rattle.pic_advance.specs.Phases.{Advances};
 ghost use Rattle.pic_step.specs.TileFlux.{flux_in};
 ghost use Rattle.pic_step.specs.Plasma.{HasFlux, IsPlasma};
 
+use crate::start::tiled_lattice;
 use crate::tile_flux::{spare_blocks, swap_each_flux};
-use pic_advance::advance_e;
+use pic_advance::{Current, drive_e};
 use pic_core::Scratch;
 use pic_grid::{Block, Lattice, Phase, Stop};
 use pic_num::{NoMemory, Particle, Scales};
@@ -25,29 +28,34 @@ use std::alloc::Global;
 use std::thread::Threads;
 
 /// The particles of a state in tiles, so many in all, and what their push works with: the frame, the
-/// room in which one worker's tiles receive parcels, and a block for each tile, which stands in it
-/// while its flux is elsewhere. All this memory is taken once; the board of two or more workers is
-/// made anew in each step.
+/// room in which one worker's tiles receive parcels, a block for each tile, which stands in it
+/// while its flux is elsewhere, and where the current is filtered a lattice for that. All this memory
+/// is taken once; the board of two or more workers is made anew in each step.
 #[derive(Drop)]
 pub struct Plasma {
     pub frame: Frame,
     pub tiles: Vec<Tile>,
     pub spare: Vec<Block>,
     pub room: Scratch,
+    pub smooth: Option<Lattice>,
     pub count: u32,
 }
 
 impl Plasma {
-    /// These particles, of these kinds, cut into the tiles of a map. Their positions lie in the box.
+    /// These particles, of these kinds, cut into the tiles of a map, whose current is filtered so. Their
+    /// positions lie in the box.
     pub fn new(
         alloc: Global,
         map: TileMap,
+        filter: u32,
         kinds: Kinds,
         particles: &[Particle],
     ) -> Result<Plasma, NoMemory>
         requires inside { All (λ p. IsInBox map.side (cells_of map) (triple p.x)) particles.now }
         requires few { length particles.now ≤ most_particles }
+        requires filter { filter ≤ most_filter }
         ensures map { IfOk result (λ p. p.frame.map ≡ map) }
+        ensures filter { IfOk result (λ p. filter_in p.smooth ≡ filter) }
         ensures kinds { IfOk result (λ p. p.frame.kinds ≡ kinds) }
         ensures plasma { IfOk result (IsPlasma particles.now) }
     {
@@ -55,11 +63,13 @@ impl Plasma {
         let spare = spare_blocks(alloc, tiles.len())?;
         let room = Scratch::new(alloc, map)?;
         let frame = frame_for(alloc, map, kinds)?;
+        let smooth = smooth_for(alloc, map, filter)?;
         Ok(Plasma {
             frame,
             tiles,
             spare,
             room,
+            smooth,
             count: particles.len() as u32,
         })
     }
@@ -82,8 +92,10 @@ impl Plasma {
         requires e_small { EachAtMost most_value e }
         ensures fields { Advances Phase.Electric scales.now.e_force b.now.side b.now.cells e.parts
             (λ a p. full_of scales.now b.now a p (value_at e a p)
-            (flux_in self.frame.map self.tiles.items a p)) result.0 }
+            (filtered (filter_in self.smooth) b.now.cells (flux_in self.frame.map self.tiles.items a) p))
+            result.0 }
         ensures frame { result.1.frame ≡ self.frame }
+        ensures filter { filter_in result.1.smooth ≡ filter_in self.smooth }
         ensures particles { all_particles result.1.tiles.items ≡ all_particles self.tiles.items }
         ensures plasma { IsPlasma (all_particles self.tiles.items) result.1 }
     {
@@ -92,6 +104,7 @@ impl Plasma {
             mut tiles,
             mut spare,
             room,
+            smooth,
             count,
         } = self;
         let map = frame.map();
@@ -99,19 +112,34 @@ impl Plasma {
         let cells = e.cells();
         let parts = e.parts();
         swap_each_flux(&mut tiles, &mut spare);
-        let current = Lattice::of_blocks(cells, parts, spare);
-        let (e, blank) = advance_e(team, scales, b, current, e);
-        let mut spare = blank.into_blocks();
+        let flux = Lattice::of_blocks(cells, parts, spare);
+        let (e, spent) = drive_e(team, scales, b, Current { flux, smooth }, e);
+        let Current { flux, smooth } = spent;
+        let mut spare = flux.into_blocks();
         swap_each_flux(&mut tiles, &mut spare);
         let plasma = Plasma {
             frame,
             tiles,
             spare,
             room,
+            smooth,
             count,
         };
         (e, plasma)
     }
+}
+
+/// A lattice with a part for each tile, where the current is filtered.
+fn smooth_for(alloc: Global, map: TileMap, filter: u32) -> Result<Option<Lattice>, NoMemory>
+    requires { filter ≤ most_filter }
+    ensures filter { IfOk result (λ smooth. filter_in smooth ≡ filter) }
+    ensures lies { IfOk result (λ smooth. IfSome smooth (LiesOn (cells_of map) map.tiles)) }
+{
+    if filter == 0 {
+        return Ok(None);
+    }
+    let smooth = tiled_lattice(alloc, &map)?;
+    Ok(Some(smooth))
 }
 
 /// A frame without forces, on lattices with a part for each layer of z: in these a gather finds its

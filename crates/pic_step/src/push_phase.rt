@@ -57,6 +57,7 @@ pub fn push_phase<H: Threads + Sync, G: Gate + Sync>(
         tiles,
         spare,
         room,
+        smooth,
         count,
     } = plasma;
     let frame = with_forces(team, fields, frame);
@@ -65,6 +66,7 @@ pub fn push_phase<H: Threads + Sync, G: Gate + Sync>(
         tiles,
         spare,
         room,
+        smooth,
         count,
     };
     let pushed = push_tiles(team, alloc, plasma)?;

@@ -4,10 +4,11 @@ ghost use Rattle.std.specs.Prelude.{◌≡◌, IfOk};
 ghost use Rattle.pic_grid.specs.Lattice.{field_of};
 ghost use Rattle.pic_deck.specs.Deck.{initial_e, initial_b, deck_grid};
 ghost use Rattle.pic_step.specs.SerialRun.{kinds_of};
-ghost use Rattle.pic_tile.specs.Tiling.{grid_of_tiling, tiles_of};
+ghost use Rattle.pic_tile.specs.Tiling.{cells_of, grid_of_tiling, tiles_of};
+ghost use Rattle.pic_step.specs.Kept.{IsTiled};
 
 use pic_deck::Deck;
-use pic_grid::Lattice;
+use pic_grid::{Lattice, Snapshot};
 use pic_num::{NoMemory, Particle};
 use pic_tile::{Kinds, Setup, TileMap};
 use std::alloc::Global;
@@ -27,7 +28,7 @@ pub struct Start {
 impl Start {
     ghost use Rattle.pic_step.specs.Kept.{AreTiled};
     ghost use Rattle.pic_step.specs.SerialRun.{start_of};
-    ghost use Rattle.pic_step.specs.Start.{begun};
+    ghost use Rattle.pic_step.specs.Start.{begun, world_in_frame};
 
     /// What a deck's run begins with, with these particles.
     pub fn new(alloc: Global, deck: &Deck, particles: Vec<Particle>) -> Result<Start, NoMemory>
@@ -46,6 +47,56 @@ impl Start {
             particles,
         })
     }
+
+    /// What a run goes on with after so many steps, from a snapshot of as many cells.
+    pub fn from_frame(
+        alloc: Global,
+        setup: &Setup,
+        step: u32,
+        frame: &Snapshot,
+    ) -> Result<Start, NoMemory>
+        requires e_cells { frame.now.e.cells ≡ cells_of setup.now.map }
+        requires b_cells { frame.now.b.cells ≡ cells_of setup.now.map }
+        ensures map { IfOk result (λ start. start.setup.map ≡ setup.now.map) }
+        ensures tiled { IfOk result (λ start. AreTiled start.setup.map start.e start.b) }
+        ensures start { IfOk result (λ start.
+            begun start ≡ world_in_frame setup.now step frame.now) }
+    {
+        let kinds = setup.kinds.copy(alloc)?;
+        let e = tiled_copy(alloc, &setup.map, &frame.e)?;
+        let b = tiled_copy(alloc, &setup.map, &frame.b)?;
+        let particles = Vec::from_slice(alloc, frame.particles.as_slice())?;
+        Ok(Start {
+            setup: Setup {
+                map: setup.map,
+                filter: setup.filter,
+                scales: setup.scales,
+                kinds,
+            },
+            step,
+            e,
+            b,
+            particles,
+        })
+    }
+}
+
+/// A lattice of the cells of a map, with one part for each of its tiles.
+pub(crate) fn tiled_lattice(alloc: Global, map: &TileMap) -> Result<Lattice, NoMemory>
+    ensures { IfOk result (IsTiled map.now) }
+{
+    Lattice::new(alloc, map.cells(), map.tiles())
+}
+
+// a field once more, with one part for each tile of a map
+fn tiled_copy(alloc: Global, map: &TileMap, from: &Lattice) -> Result<Lattice, NoMemory>
+    requires { from.now.cells ≡ cells_of map.now }
+    ensures tiled { IfOk result (IsTiled map.now) }
+    ensures values { IfOk result (λ l. l.values ≡ from.now.values) }
+{
+    let mut to = tiled_lattice(alloc, map)?;
+    to.copy_from(from);
+    Ok(to)
 }
 
 // what stays in a deck's run
@@ -53,12 +104,14 @@ fn setup_of(alloc: Global, deck: &Deck) -> Result<Setup, NoMemory>
     ensures map { IfOk result
         (λ setup. setup.map ≡ tiles_of (deck_grid deck.now) deck.now.tiles) }
     ensures cells { IfOk result (λ setup. grid_of_tiling setup.map ≡ deck_grid deck.now) }
+    ensures filter { IfOk result (λ setup. setup.filter ≡ deck.now.filter) }
     ensures scales { IfOk result (λ setup. setup.scales ≡ deck.now.scales) }
     ensures kinds { IfOk result (λ setup. setup.kinds ≡ kinds_of deck.now) }
 {
     let kinds = kinds_of(alloc, deck)?;
     Ok(Setup {
         map: TileMap::new(deck.cells(), deck.tiles()),
+        filter: deck.filter(),
         scales: deck.scales(),
         kinds,
     })

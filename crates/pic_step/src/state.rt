@@ -42,11 +42,11 @@ impl Model for State {
 
 impl State {
     ghost use Rattle.pic_deck.specs.Deck.{deck_grid};
-    ghost use Rattle.pic_tile.specs.Tiling.{tiles_of};
+    ghost use Rattle.pic_tile.specs.Tiling.{cells_of, tiles_of};
     ghost use Rattle.pic_step.specs.Kept.{AreTiled};
     ghost use Rattle.pic_step.specs.SerialRun.{start_of};
     ghost use Rattle.pic_step.specs.Sound.{IsSound};
-    ghost use Rattle.pic_step.specs.Start.{begun};
+    ghost use Rattle.pic_step.specs.Start.{begun, world_in_frame};
     ghost use Rattle.pic_step.specs.Tiled.{AreTilesOf};
 
     /// The state that a deck begins with, with these particles.
@@ -74,9 +74,14 @@ impl State {
             b,
             particles,
         } = start;
-        let Setup { map, scales, kinds } = setup;
+        let Setup {
+            map,
+            filter,
+            scales,
+            kinds,
+        } = setup;
         let _map = map.tiles();
-        let plasma = Plasma::new(alloc, map, kinds, particles.as_slice())?;
+        let plasma = Plasma::new(alloc, map, filter, kinds, particles.as_slice())?;
         Ok(State {
             step,
             scales,
@@ -84,6 +89,23 @@ impl State {
             b,
             plasma,
         })
+    }
+
+    /// The state after so many steps that stands in a snapshot of as many cells, under what stays in
+    /// its run. Its fields and particles are those of the snapshot, cut into the tiles of the map.
+    pub fn from_frame(
+        alloc: Global,
+        setup: &Setup,
+        step: u32,
+        frame: &Snapshot,
+    ) -> Result<State, NoMemory>
+        requires e_cells { frame.now.e.cells ≡ cells_of setup.now.map }
+        requires b_cells { frame.now.b.cells ≡ cells_of setup.now.map }
+        requires sound { IsSound (world_in_frame setup.now step frame.now) }
+        ensures world { IfOk result (λ s. s.world ≡ world_in_frame setup.now step frame.now) }
+        ensures map { IfOk result (λ s. s.map ≡ setup.now.map) }
+    {
+        State::begin(alloc, Start::from_frame(alloc, setup, step, frame)?)
     }
 
     /// After how many steps it is.
@@ -102,6 +124,16 @@ impl State {
     {
         let frame = &self.plasma.frame;
         frame.map().cells()
+    }
+
+    /// The filter of the current: 0 for none, 1 for the binomial one.
+    pub fn filter(&self) -> u32
+        ensures { result ≡ self.now.world.filter }
+    {
+        match &self.plasma.smooth {
+            None => 0,
+            Some(_) => 1,
+        }
     }
 
     /// The multipliers.

@@ -46,6 +46,7 @@ fn setup_of(alloc: Global, electron: Kind) -> Result<Setup, NoMemory>
     let cells = Cells::new([4, 4, 4], Sub::of_bits(8));
     Ok(Setup {
         map: TileMap::new(cells, [2, 1, 1]),
+        filter: 0,
         scales: Scales {
             e_to_b: none,
             b_to_e: none,

@@ -1,7 +1,6 @@
 pub mod WalkLaws
 pub mod VerdictLaws
 pub mod BreakLaws
-pub mod AllowedLaws
 pub mod MeaningLaws
 pub mod ReachedLaws
 pub mod ReadableDump

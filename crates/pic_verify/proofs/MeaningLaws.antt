@@ -5,7 +5,7 @@ use Rattle.std.proofs.lemmas.List.{drop-drop}
 use Rattle.pic_grid.specs.Differences.{div_e}
 use Rattle.pic_grid.specs.Lattice.{value_at}
 use Rattle.pic_charge.specs.declared.breaks.Break.{Break}
-use Rattle.pic_charge.specs.Charge.{charge_of}
+use Rattle.pic_charge.specs.Charge.{rho_of}
 use Rattle.pic_charge.specs.Gauss.{IsLeastBreak}
 use Rattle.pic_charge.proofs.BreakLaws.{meets_gauss, gauss_none, first_break_some}
 use Rattle.pic_fields.specs.Parser.{Input, input, Fault, fault, Parsed}
@@ -20,23 +20,24 @@ use Rattle.pic_dump.specs.DumpRead.{read_dump}
 use Rattle.pic_dump.specs.InTurn.{step_before}
 use Rattle.pic_dump.proofs.TurnLaws.{due_is_step, few_due}
 use Rattle.pic_verify.specs.Verified.{Verdict, ObeysGauss, break_of, unless_broken, walked, verified}
-use Rattle.pic_verify.specs.Meaning.{record_place, bytes_from, record_of, IsFrameAt, IsGood, Begins, Means, VerdictLaw}
+use Rattle.pic_dump.specs.Whole.{record_place}
+use Rattle.pic_verify.specs.Meaning.{bytes_from, record_of, IsFrameAt, IsGood, Begins, Means, VerdictLaw}
 use Rattle.pic_record.proofs.FormatLaws.{frame_read, end_read}
 use Rattle.pic_verify.proofs.WalkLaws.{verdict_by, walked_frame, walked_end, walked_fault}
 
 -- Gauss's law at every node is that no break is found
 pub no_break : (l : LayoutView) (f : FrameView) → ObeysGauss l f → break_of l f.e f.particles ≡ None
 unfolding break_of
-no_break l f law = gauss_none l.side l.cells l.kinds f.particles (field_with l f.e) (charge_of l.side l.cells l.kinds f.particles) (λ p within. refl) law
+no_break l f law = gauss_none l.side l.filter l.cells l.kinds f.particles (field_with l f.e) (rho_of l.side l.filter l.cells l.kinds f.particles) (λ p within. refl) law
 
 pub is_gauss : (l : LayoutView) (f : FrameView) → break_of l f.e f.particles ≡ None → ObeysGauss l f
 unfolding break_of
-is_gauss l f none = meets_gauss l.side l.cells l.kinds f.particles (field_with l f.e) (charge_of l.side l.cells l.kinds f.particles) (λ p within. refl) none
+is_gauss l f none = meets_gauss l.side l.filter l.cells l.kinds f.particles (field_with l f.e) (rho_of l.side l.filter l.cells l.kinds f.particles) (λ p within. refl) none
 
 is_least : (l : LayoutView) (f : FrameView) (b : Break) → break_of l f.e f.particles ≡ Some b
-    → IsLeastBreak l.cells (div_e l.cells (value_at (field_with l f.e))) (charge_of l.side l.cells l.kinds f.particles) b
+    → IsLeastBreak l.cells (div_e l.cells (value_at (field_with l f.e))) (rho_of l.side l.filter l.cells l.kinds f.particles) b
 unfolding break_of
-is_least l f b some = first_break_some l.cells (div_e l.cells (value_at (field_with l f.e))) (charge_of l.side l.cells l.kinds f.particles) b some
+is_least l f b some = first_break_some l.cells (div_e l.cells (value_at (field_with l f.e))) (rho_of l.side l.filter l.cells l.kinds f.particles) b some
 
 -- where a part that was read ends
 frame_end : (bytes : List ℕ) (h : HeaderView) (k : ℕ) (f : FrameView) (j : Input) → record_of bytes h k ≡ Ok (AFrame f, j)

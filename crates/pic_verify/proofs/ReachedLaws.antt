@@ -26,12 +26,14 @@ use Rattle.pic_record.specs.Records.{AFrame, record_at}
 use Rattle.pic_dump.specs.Standing.{Standing}
 use Rattle.pic_header.proofs.WithinLaws.{told_held, read_told}
 use Rattle.pic_verify.specs.Verified.{break_of}
-use Rattle.pic_verify.specs.Meaning.{record_place, bytes_from, IsGood}
-use Rattle.pic_verify.specs.Allowed.{IsInHeader}
-use Rattle.pic_verify.specs.Reached.{most_at, ReachesRecord, TakesToRecord, IsGoodAt, Reaches}
+use Rattle.pic_dump.specs.Whole.{most_at, record_place}
+use Rattle.pic_verify.specs.Meaning.{bytes_from, IsGood}
+use Rattle.pic_dump.specs.Allowed.{IsInHeader}
+use Rattle.pic_verify.specs.Reached.{ReachesRecord, TakesToRecord, IsGoodAt, Reaches}
 use Rattle.pic_record.proofs.FormatLaws.{frame_read}
 use Rattle.pic_verify.proofs.MeaningLaws.{header_end, is_gauss}
-use Rattle.pic_verify.proofs.VerdictLaws.{behind, takes_head, taken_size}
+use Rattle.pic_dump.proofs.TakenLaws.{takes_head, taken_size}
+use Rattle.pic_verify.proofs.VerdictLaws.{behind}
 use Rattle.pic_verify.proofs.WalkLaws.{Follows, place_of, last_of}
 
 -- so many good frames were read, and these bytes are left

@@ -16,7 +16,8 @@ use Rattle.pic_grid.specs.Lattice.{value_at}
 use Rattle.pic_grid.specs.Sums.{sum_over}
 use Rattle.pic_grid.proofs.ShapeLaws.{zero_read}
 use Rattle.pic_grid.specs.Species.{HeadView, no_head, IsName, IsKind}
-use Rattle.pic_charge.specs.Charge.{share, charge_of}
+use Rattle.pic_filter.specs.Smoothing.{filtered}
+use Rattle.pic_charge.specs.Charge.{share, charge_of, rho_of}
 use Rattle.pic_energy.specs.Energies.{square_of, kinetic_of, kinetic_sum, square_sum, energies_of}
 use Rattle.pic_header.specs.Header.{IsHeader, HasMultipliers}
 use Rattle.pic_record.specs.FrameFields.{FrameView, IsModerate, field_with}
@@ -62,6 +63,7 @@ header_is = record {
     steps_most = omega arith;
     every_least = omega arith;
     every_most = omega arith;
+    filter = omega arith;
     heads = record { few = omega arith; names = names; kinds = kinds; differ = differ; total = omega arith };
   };
   cells = record { x_least = omega arith; x_most = omega arith; y_least = omega arith; y_most = omega arith; z_least = omega arith; z_most = omega arith };
@@ -116,8 +118,8 @@ no_divergence p =
 cancel : (w : ℕ) → pos 12 *ℤ pos 1 *ℤ pos w +ℤ (pos 12 *ℤ negsuc 0 *ℤ pos w +ℤ pos 0) ≡ pos 0
 cancel w = omega (arith, ints)
 
-no_charge : (p : Triple) → charge_of small_layout.side small_layout.cells small_layout.kinds small_frame.particles p ≡ pos 0
-unfolding charge_of share sum_over
+no_charge : (p : Triple) → rho_of small_layout.side small_layout.filter small_layout.cells small_layout.kinds small_frame.particles p ≡ pos 0
+unfolding rho_of filtered charge_of share sum_over
 no_charge p = cancel (weight small_layout.side small_layout.cells (triple resting_ion.x) p)
 
 neutral : ObeysGauss small_layout small_frame

@@ -19,11 +19,11 @@ use Rattle.pic_header.specs.Header.{HeaderView}
 use Rattle.pic_dump.specs.DumpRead.{RecordsRead, with_frame, read_on, of_header}
 use Rattle.pic_dump.specs.InTurn.{step_before}
 use Rattle.pic_dump.specs.Standing.{Standing}
-use Rattle.pic_dump.specs.NextReads.{HasFrame, most_of, record_most}
+use Rattle.pic_dump.specs.NextReads.{HasFrame, record_most}
 use Rattle.pic_record.specs.Due.{due_after}
 use Rattle.pic_dump.proofs.ReadOnLaws.{read_on_frame, read_on_end, read_on_fault, with_frames, records_of, HasReadOn, more_frames, on_none, on_frame, on_end, on_fault}
-use Rattle.pic_verify.specs.Allowed.{records_length}
-use Rattle.pic_verify.proofs.AllowedLaws.{Went, went_more, record_fits, frames_fit}
+use Rattle.pic_dump.specs.Allowed.{records_length}
+use Rattle.pic_dump.proofs.AllowedLaws.{Went, went_more, frames_fit, last_fits}
 use Rattle.pic_verify.specs.declared.verify_stop.VerifyStop.TheVariants.{BadDump, Broken, NoMemory}
 use Rattle.pic_verify.specs.Stops.{stop_of_read}
 use Rattle.pic_verify.specs.Verified.{Verdict, break_of, unless_broken, at_end, verdict_behind, verdict_of, walked}
@@ -74,7 +74,7 @@ pub last_of : (r : Standing) (before : Told) (k : ℕ) (here : Standing) (now : 
 last_of r before k here now so_far = so_far.on.last ∙ ap (step_before r.layout) so_far.count
 
 -- where reading begins
-pub follows_none : (r : Standing) (before : Told) → r.last ≡ None → 1 ≤ r.layout.every → Follows r before 0 r before
+unfoldable pub follows_none : (r : Standing) (before : Told) → r.last ≡ None → 1 ≤ r.layout.every → Follows r before 0 r before
 follows_none r before start least = record {
   frames = [];
   count = refl;
@@ -85,20 +85,20 @@ follows_none r before start least = record {
 }
 
 -- the frame that was read is due
-due_here : (r : Standing) (before y z : Told) (k : ℕ) (here behind : Standing) (e b : Field) (particles : List Particle) (step : ℕ) (energies : Energies)
+pub due_here : (r : Standing) (before y z : Told) (k : ℕ) (here behind : Standing) (e b : Field) (particles : List Particle) (step : ℕ) (energies : Energies)
     → Follows r before k here y → HasFrame here y z e b particles behind step energies → due_after r.layout.steps r.layout.every here.last ≡ Some step
 due_here r before y z k here behind e b particles step energies so_far has =
     ap (λ (m : LayoutView). due_after m.steps m.every here.last) (sym so_far.on.layout) ∙ has.due
 
 -- the verdict behind a frame, by its break
-by_break : (r : Standing) (before y : Told) (k : ℕ) (here : Standing) (so_far : Follows r before k here y) (f : FrameView) (rest : RecordsRead)
+pub by_break : (r : Standing) (before y : Told) (k : ℕ) (here : Standing) (so_far : Follows r before k here y) (f : FrameView) (rest : RecordsRead)
     → verdict_at r.layout 0 (with_frames (so_far.frames ++ f ∷ []) rest)
     ≡ unless_broken k (break_of r.layout f.e f.particles) (verdict_at r.layout (suc k) rest)
 by_break r before y k here so_far f rest =
     ap (verdict_at r.layout 0) (sym (more_frames so_far.frames f rest)) ∙ so_far.good (with_frame f rest)
 
 -- a good frame
-pub follows_frame : (r : Standing) (before y z : Told) (k : ℕ) (here behind : Standing) (e b : Field) (particles : List Particle) (step : ℕ)
+unfoldable pub follows_frame : (r : Standing) (before y z : Told) (k : ℕ) (here behind : Standing) (e b : Field) (particles : List Particle) (step : ℕ)
     (energies : Energies)
     → Follows r before k here y → HasFrame here y z e b particles behind step energies → break_of r.layout e.values particles ≡ None
     → Follows r before (k + 1) behind z
@@ -119,14 +119,9 @@ follows_frame r before y z k here behind e b particles step energies so_far has 
     }
 
 -- the record where a reader stands ends within what the header allows, and a byte
-last_fits : (r : Standing) (before y : Told) (k : ℕ) (here : Standing) (so_far : Follows r before k here y)
+record_ends : (r : Standing) (before y : Told) (k : ℕ) (here : Standing) (so_far : Follows r before k here y)
     → here.place + record_most here ≤ r.place + (records_length r.layout + 1)
-last_fits r before y k here so_far =
-    let l = r.layout in
-    let fits = record_fits l k here.last so_far.least so_far.went in
-    let most : record_most here ≡ most_of l (due_after l.steps l.every here.last) =
-    ap (λ (m : LayoutView). most_of m (due_after m.steps m.every here.last)) so_far.on.layout in
-    omega (arith, fits, most, place_of r before k here y so_far)
+record_ends r before y k here so_far = last_fits r here k so_far.on.layout (place_of r before k here y so_far) so_far.least so_far.went
 
 -- the verdict on what was read
 found : (r : Standing) (held : List ℕ) (records : RecordsRead) → records_of r held ≡ records → on_records r held ≡ verdict_at r.layout 0 records
@@ -134,7 +129,7 @@ unfolding walked
 found r held records is = ap (verdict_at r.layout 0) is
 
 -- and at the end of it
-at_last : (r : Standing) (before y : Told) (k : ℕ) (here : Standing) (so_far : Follows r before k here y) (end : Result EndMark Fault)
+pub at_last : (r : Standing) (before y : Told) (k : ℕ) (here : Standing) (so_far : Follows r before k here y) (end : Result EndMark Fault)
     → verdict_at r.layout 0 (so_far.frames, end) ≡ at_end k end
 at_last r before y k here so_far end =
     ap (λ (fs : List FrameView). verdict_behind r.layout 0 fs end) (sym (append-nil so_far.frames)) ∙ so_far.good ([], end)
@@ -181,7 +176,7 @@ ends_records r before y z k here mark so_far has =
       verdict = found r held _ is ∙ at_last r before y k here so_far (Ok mark);
     } in
     record {
-      moves = moves_up (last_fits r before y k here so_far) (moves_then so_far.on.moves has.moves);
+      moves = moves_up (record_ends r before y k here so_far) (moves_then so_far.on.moves has.moves);
       answer = (verdict, has.end);
       no_memory = λ wanted. absurd cc;
     }
@@ -207,7 +202,7 @@ pub stops_records : (r : Standing) (before y z : Told) (k : ℕ) (here : Standin
 stops_records r before y z k here stop result is so_far stops =
     let q = err_from_is_err_and result is in
     rw (q.1, q.2) (record {
-      moves = moves_up (last_fits r before y k here so_far) (moves_then so_far.on.moves stops.moves);
+      moves = moves_up (record_ends r before y k here so_far) (moves_then so_far.on.moves stops.moves);
       answer = stops_answer r before y z k here stop so_far stops;
       no_memory = stops_fed stop (Err (stop_of_read stop)) refl;
     })

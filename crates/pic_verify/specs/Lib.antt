@@ -1,7 +1,6 @@
 pub mod Stops
 pub mod Verified
 pub mod Verifies
-pub mod Allowed
 pub mod Meaning
 pub mod Reached
 pub mod Readable

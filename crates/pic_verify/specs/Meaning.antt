@@ -1,26 +1,23 @@
 -- The law of the verdict on a dump, said of each record by itself: where it begins, after which step
 -- it is due, and whether its E and its charge meet Gauss's law (Birdsall and Langdon, "Plasma Physics
 -- via Computer Simulation").
-use Rattle.std.specs.Prelude.{◌≡◌, ◌↔◌, ℕ, suc, ◌+◌, ◌*◌, ◌<◌, ◌⊎◌, List, [], drop, Some, Ok, Err}
+use Rattle.std.specs.Prelude.{◌≡◌, ◌↔◌, ℕ, suc, ◌<◌, ◌⊎◌, List, [], drop, Some, Ok, Err}
 use Rattle.pic_grid.specs.declared.stop.EndMark.{EndMark}
 use Rattle.pic_grid.specs.Differences.{div_e}
 use Rattle.pic_grid.specs.Lattice.{value_at}
 use Rattle.pic_charge.specs.declared.breaks.Break.{Break}
-use Rattle.pic_charge.specs.Charge.{charge_of}
+use Rattle.pic_charge.specs.Charge.{rho_of}
 use Rattle.pic_charge.specs.Gauss.{IsLeastBreak}
 use Rattle.pic_fields.specs.Parser.{Input, input, Fault, fault, Parsed}
 use Rattle.pic_header.specs.Header.{HeaderView}
 use Rattle.pic_record.specs.Layout.{layout_of}
-use Rattle.pic_record.specs.FrameFields.{FrameView, frame_length, field_with}
-use Rattle.pic_header.specs.HeaderFields.{header_at, header_length}
+use Rattle.pic_record.specs.FrameFields.{FrameView, field_with}
+use Rattle.pic_header.specs.HeaderFields.{header_at}
 use Rattle.pic_record.specs.Records.{RecordView, AFrame, AnEnd, record_at}
 use Rattle.pic_verify.specs.declared.verify_stop.VerifyStop.TheVariants.{ReadFault, BadDump, Broken, NoMemory}
 use Rattle.pic_dump.specs.InTurn.{due_step, step_before}
+use Rattle.pic_dump.specs.Whole.{record_place}
 use Rattle.pic_verify.specs.Verified.{Verdict, ObeysGauss, break_of, verified}
-
--- where record k begins: behind the header and k frames, all of one length
-abbrev pub record_place : HeaderView → ℕ → ℕ
-record_place h k = header_length h + k * (1 + frame_length (layout_of h))
 
 -- the bytes from a place on
 abbrev pub bytes_from : List ℕ → ℕ → Input
@@ -73,7 +70,7 @@ pub record IsFirstBreak (bytes : List ℕ) (n : ℕ) (b : Break) : Type 0 where
   pub is : IsFrameAt bytes header n frame
   pub breaks : break_of (layout_of header) frame.e frame.particles ≡ Some b
   pub least : IsLeastBreak header.cells (div_e header.cells (value_at (field_with (layout_of header) frame.e)))
-      (charge_of header.side header.cells (layout_of header).kinds frame.particles) b
+      (rho_of header.side header.filter header.cells (layout_of header).kinds frame.particles) b
 
 -- what a verdict says of the bytes
 abbrev pub Means : List ℕ → Verdict → Type 0

@@ -4,22 +4,16 @@ use Rattle.pic_io.specs.Told.{Told}
 use Rattle.pic_io.specs.Source.{with_front}
 use Rattle.pic_fields.specs.Parser.{input}
 use Rattle.pic_fields.specs.Reads.{Moves}
-use Rattle.pic_record.specs.Due.{due_after}
 use Rattle.pic_header.specs.Header.{HeaderView}
 use Rattle.pic_record.specs.FrameFields.{FrameView, frame_length}
 use Rattle.pic_record.specs.Layout.{LayoutView, layout_of}
-use Rattle.pic_dump.specs.NextReads.{most_of}
 use Rattle.pic_record.specs.Records.{AFrame, record_at}
 use Rattle.pic_dump.specs.InTurn.{due_step, step_before}
 use Rattle.pic_dump.specs.Standing.{Standing}
-use Rattle.pic_verify.specs.Allowed.{IsInHeader}
-use Rattle.pic_verify.specs.Meaning.{record_place, Begins}
+use Rattle.pic_dump.specs.Allowed.{IsInHeader}
+use Rattle.pic_dump.specs.Whole.{most_at, place_behind, record_place}
+use Rattle.pic_verify.specs.Meaning.{Begins}
 use Rattle.pic_verify.specs.Verified.{ObeysGauss}
-
--- how many bytes record k has at most: those of a frame where one is due, and else those of the longest
--- end record and one behind it
-abbrev pub most_at : LayoutView → ℕ → ℕ
-most_at l k = most_of l (due_after l.steps l.every (step_before l k))
 
 -- some bytes begin with a header and so many good frames, and a count of them ends with the next record
 pub record ReachesRecord (bytes : List ℕ) (count : ℕ) : Type 0 where
@@ -50,5 +44,5 @@ pub record IsGoodAt (l : LayoutView) (place : ℕ) (bytes : List ℕ) (k : ℕ) 
 pub record Reaches (r : Standing) (before now : Told) : Type 0 where
   pub number : ℕ
   pub frames : (bytes : List ℕ) → before.bytes ≡ Some bytes → (k : ℕ) → k < number
-      → IsGoodAt r.layout (r.place + k * (1 + frame_length r.layout)) (drop (k * (1 + frame_length r.layout)) bytes) k
-  pub moves : Moves r.place (r.place + number * (1 + frame_length r.layout) + most_at r.layout number) before now
+      → IsGoodAt r.layout (place_behind r.layout r.place k) (drop (k * (1 + frame_length r.layout)) bytes) k
+  pub moves : Moves r.place (place_behind r.layout r.place number + most_at r.layout number) before now

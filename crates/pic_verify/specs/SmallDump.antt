@@ -29,6 +29,7 @@ small_header = record {
   side = 4096;
   steps = 1;
   every = 1;
+  filter = 0;
   scales = record { e_to_b = one; b_to_e = one; e_force = one; b_force = one };
   species = single (codes "ion") (pos 1) 1836 ∷ single (codes "electron") (negsuc 0) 1 ∷ [];
 }

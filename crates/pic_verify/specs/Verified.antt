@@ -1,13 +1,14 @@
 -- What a dump's bytes are found to be, of what they are read as: each whole frame is held against Gauss's
 -- law (Birdsall and Langdon, "Plasma Physics via Computer Simulation"). Which fault or break is answered is
 -- this project's profile: the first.
-use Rattle.std.specs.Prelude.{ℤ, ℕ, suc, List, [], ◌∷◌, Option, Some, None, Result, Ok, Err}
+use Rattle.std.specs.Prelude.{◌≡◌, ℤ, ℕ, suc, List, [], ◌∷◌, Option, Some, None, Result, Ok, Err}
 use Rattle.pic_num.specs.declared.motion.Particle.{Particle}
 use Rattle.pic_grid.specs.declared.stop.EndMark.{EndMark}
 use Rattle.pic_grid.specs.Differences.{div_e}
 use Rattle.pic_grid.specs.Lattice.{value_at}
 use Rattle.pic_charge.specs.declared.breaks.Break.{Break}
-use Rattle.pic_charge.specs.Charge.{charge_of}
+use Rattle.pic_charge.specs.Charge.{rho_of}
+use Rattle.pic_charge.specs.ChargeRoom.{RoomView}
 use Rattle.pic_charge.specs.Gauss.{MeetsGauss, first_break}
 use Rattle.pic_fields.specs.Parser.{Input, Fault}
 use Rattle.pic_record.specs.Layout.{LayoutView, layout_of}
@@ -22,11 +23,17 @@ Verdict = Result ℕ VerifyStop
 
 -- the least node of a frame where the divergence of its E and the charge of its particles differ
 unfoldable pub break_of : LayoutView → List ℤ → List Particle → Option Break
-break_of l e particles = first_break l.cells (div_e l.cells (value_at (field_with l e))) (charge_of l.side l.cells l.kinds particles)
+break_of l e particles = first_break l.cells (div_e l.cells (value_at (field_with l e))) (rho_of l.side l.filter l.cells l.kinds particles)
+
+-- room for the charge that a frame's E is held against
+pub record IsRoomFor (l : LayoutView) (room : RoomView) : Type 0 where
+  pub cells : room.grid.n ≡ l.cells
+  pub side : room.grid.side ≡ l.side
+  pub filter : room.filter ≡ l.filter
 
 -- Gauss's law holds at every node of a frame
 abbrev pub ObeysGauss : LayoutView → FrameView → Type 0
-ObeysGauss l f = MeetsGauss l.side l.cells l.kinds f.particles (field_with l f.e)
+ObeysGauss l f = MeetsGauss l.side l.filter l.cells l.kinds f.particles (field_with l f.e)
 
 -- a break in the frame after k others, or what follows that frame
 abbrev pub unless_broken : ℕ → Option Break → Verdict → Verdict

@@ -6,7 +6,7 @@ use Rattle.pic_fields.specs.Parser.{input}
 use Rattle.pic_fields.specs.Reads.{Left, Moves}
 use Rattle.pic_dump.specs.Standing.{Standing}
 use Rattle.pic_verify.specs.declared.verify_stop.VerifyStop.TheVariants.{ReadFault, BadDump, Broken, NoMemory}
-use Rattle.pic_verify.specs.Allowed.{records_length}
+use Rattle.pic_dump.specs.Allowed.{records_length}
 use Rattle.pic_verify.specs.Verified.{Verdict, walked, verified}
 
 -- the answer is the verdict on the bytes that were left, and no read failed

@@ -3,16 +3,16 @@
 ghost use Rattle.std.specs.Prelude.{◌≡◌, length, sum, None, Err};
 ghost use Rattle.pic_record.specs.FrameFields.{IsHeld};
 ghost use Rattle.pic_record.specs.Layout.{IsLayout};
-ghost use Rattle.pic_verify.specs.Allowed.{TakesAllowed, TakesHeader};
+ghost use Rattle.pic_dump.specs.Allowed.{TakesAllowed, TakesHeader};
 ghost use Rattle.pic_verify.specs.Reached.{Reaches, TakesToRecord};
-ghost use Rattle.pic_verify.specs.Verified.{break_of};
+ghost use Rattle.pic_verify.specs.Verified.{break_of, IsRoomFor};
 ghost use Rattle.pic_verify.specs.Verifies.{Verifies, IsExact, Walks};
 ghost use Rattle.pic_verify.specs.declared.verify_stop.VerifyStop.TheVariants.{NoMemory};
 
 use crate::verify_stop::VerifyStop;
-use pic_charge::{Break, charge, gauss};
+use pic_charge::{Break, ChargeRoom};
 use pic_dump::{DumpReader, Next};
-use pic_grid::{Nodes, Snapshot};
+use pic_grid::Snapshot;
 use pic_io::Source;
 use std::alloc::Global;
 
@@ -38,8 +38,8 @@ pub fn verify<S: Source>(alloc: Global, source: &mut S) -> Result<u32, VerifySto
 {
     let (reader, _header) = DumpReader::head(alloc, source)?;
     let mut state = reader.room(alloc)?;
-    let mut nodes = Nodes::new(alloc, reader.cells())?;
-    walk(source, reader, &mut state, &mut nodes)
+    let mut room = ChargeRoom::new(alloc, reader.cells(), reader.filter())?;
+    walk(source, reader, &mut state, &mut room)
 }
 
 // Verifies the records behind the header.
@@ -47,12 +47,12 @@ fn walk<S: Source>(
     source: &mut S,
     reader: DumpReader,
     state: &mut Snapshot,
-    nodes: &mut Nodes,
+    room: &mut ChargeRoom,
 ) -> Result<u32, VerifyStop>
     requires e { state.old.e.cells ≡ reader.layout.cells }
     requires b { state.old.b.cells ≡ reader.layout.cells }
     requires particles { length state.old.particles.items ≡ sum reader.layout.counts }
-    requires nodes { nodes.old.cells ≡ reader.layout.cells }
+    requires room { IsRoomFor reader.layout room.old }
     requires limits { IsLayout reader.layout }
     requires start { reader.last ≡ None }
     ensures walks { Walks reader (S.told source.old) (S.told source.new) result }
@@ -63,7 +63,7 @@ fn walk<S: Source>(
     'records: loop {
         match reader.next(source, state)? {
             Next::Frame(behind, _step, _energies) => {
-                if let Some(at) = first_break(&behind, state, nodes) {
+                if let Some(at) = first_break(&behind, state, room) {
                     return Err(VerifyStop::Broken { frame, at });
                 }
                 reader = behind;
@@ -74,17 +74,17 @@ fn walk<S: Source>(
     }
 }
 
-// The least node where the divergence of E and the charge of the particles differ.
-fn first_break(reader: &DumpReader, state: &Snapshot, nodes: &mut Nodes) -> Option<Break>
+/// The least node of a frame where the divergence of E and the charge of the particles differ, where
+/// there is one.
+pub fn first_break(reader: &DumpReader, state: &Snapshot, room: &mut ChargeRoom) -> Option<Break>
     requires e { state.now.e.cells ≡ reader.now.layout.cells }
-    requires nodes { nodes.old.cells ≡ reader.now.layout.cells }
+    requires room { IsRoomFor reader.now.layout room.old }
     requires limits { IsLayout reader.now.layout }
     requires held { IsHeld reader.now.layout state.now.e state.now.b state.now.particles.items }
     requires particles { length state.now.particles.items ≡ sum reader.now.layout.counts }
     ensures value { result ≡ break_of reader.now.layout state.now.e.values
         state.now.particles.items }
-    ensures nodes { nodes.new.cells ≡ nodes.old.cells }
+    ensures room { room.new ≡ room.old }
 {
-    charge(reader.cells(), reader.kinds(), &state.particles, nodes);
-    gauss(reader.cells(), &state.e, nodes)
+    room.find_break(reader.kinds(), &state.particles, &state.e)
 }

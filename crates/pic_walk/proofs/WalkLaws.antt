@@ -1,5 +1,5 @@
 -- How the exits of a reader answer a walk.
-use Rattle.std.proofs.Common.{◌≡◌, List, ℕ, Option, Some, None, Result, Ok, Err, IsErrAnd, ap, sym, ◌∙◌}
+use Rattle.std.proofs.Common.{◌≡◌, List, ℕ, Option, Some, None, Result, Ok, Err, IsErrAnd, ap, refl, sym, ◌∙◌}
 use Rattle.std.proofs.lemmas.Result.{err_from_is_err_and}
 use Rattle.pic_walk.specs.declared.fault.Fault.{Fault}
 use Rattle.pic_walk.specs.declared.fault.WalkStop.{WalkStop}
@@ -16,6 +16,17 @@ then_ok w a f e = rw e
 pub then_err : {A B : Type 0} (w : Walked A) (q : Fault) (f : A → Walked B) → w ≡ Err q → w >>= f ≡ Err q
 unfolding ◌>>=◌
 then_err w q f e = rw e
+
+-- a walk of two parts that went well: what the first one gave, and the second from there
+pub record Went {A B : Type 0} (w : Walked A) (f : A → Walked B) (b : B) : Type 0 where
+  pub value : A
+  pub first : w ≡ Ok value
+  pub then : f value ≡ Ok b
+
+pub went : {A B : Type 0} (w : Walked A) (f : A → Walked B) (b : B) → w >>= f ≡ Ok b → Went w f b
+unfolding ◌>>=◌
+went (Ok a) f b e = record { value = a; first = refl; then = e }
+went (Err q) f b e = absurd (cc e)
 
 pub goes_on : {A B C : Type 0} (w : Walked A) (a : A) (f : A → Walked B) {t : C → B} {r : Result C WalkStop} → w ≡ Ok a → WalksAs t (f a) r
     → WalksAs t (w >>= f) r

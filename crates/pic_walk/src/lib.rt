@@ -40,6 +40,6 @@ pub use row_reader::read_rows;
 pub use sites::{Sites, read_sites};
 pub use tables::{
     check_keys, find_value, need_long, need_multiplier, need_number, need_signed_three, need_table,
-    need_three, need_whole, needed_value, optional_three, read_table,
+    need_three, need_whole, needed_value, optional_three, optional_whole, read_table,
 };
 pub use terms::Terms;

@@ -1,6 +1,6 @@
 //! Readers of single numbers, texts and arrays.
 
-ghost use Rattle.std.specs.Prelude.{◌≡◌, ℤ, ℕ, pos, List, None, ◌<◌, ◌≤ℤ◌, IfOk, OnOk, slice_index, slice_index_or, unsigned_abs, vec_len};
+ghost use Rattle.std.specs.Prelude.{◌≡◌, ℤ, ℕ, pos, List, None, ◌<◌, ◌≤ℤ◌, IfOk, OnOk, OnErr, slice_index, slice_index_or, unsigned_abs, vec_len};
 ghost use Rattle.pic_num.specs.Multiplier.{Multiplier};
 ghost use Rattle.toml.specs.View.{view, array_view};
 ghost use Rattle.pic_walk.specs.Path.{path_of};
@@ -24,6 +24,7 @@ pub fn check_within(
 ) -> Result<(), WalkStop>
     ensures walks { WalksAs (λ _. value) (within limits (path_of address.entry) value) result }
     ensures bounds { OnOk result (MeetsLimits limits value) }
+    ensures beyond { OnErr result (MeetsLimits limits value → ⊥) }
 {
     if limits.allow(value) {
         Ok(())

@@ -192,6 +192,28 @@ pub fn need_multiplier(
     read_multiplier(alloc, Address::new(path, key), value)
 }
 
+/// The whole number at a key of the table at a path, within limits that allow none below 0, or this one
+/// where the key is absent.
+pub fn optional_whole(
+    alloc: Global,
+    path: &str,
+    key: &str,
+    table: &Table,
+    absent: u32,
+    limits: Limits,
+) -> Result<u32, WalkStop>
+    requires fits { FitsU32 limits }
+    requires absent { MeetsLimits limits (pos absent) }
+    ensures walks { WalksAs (λ (n : ℕ). n)
+        (optional absent (whole limits) key.now path.now (table_view table.now)) result }
+    ensures bounds { IfOk result (λ n. MeetsLimits limits (pos n)) }
+{
+    match find_value(key, table) {
+        Some(value) => read_whole(alloc, Address::new(path, key), value, limits),
+        None => Ok(absent),
+    }
+}
+
 /// Three numbers of 64 bits at a key of the table at a path, or zeros where the key is absent.
 pub fn optional_three(
     alloc: Global,

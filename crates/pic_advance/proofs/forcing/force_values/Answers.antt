@@ -1,13 +1,14 @@
 use Rattle.std.proofs.Common.{List, All, sym, ◌∙◌, ap, subst}
+use Rattle.pic_num.specs.Limits.{most_value}
 use Rattle.pic_num.specs.Space.{triple}
 use Rattle.pic_grid.specs.Block.{BlockValues}
 use Rattle.pic_grid.specs.Cells.{IsCells}
 use Rattle.pic_grid.specs.Gather.{force_of}
-use Rattle.pic_grid.specs.Lattice.{value_at}
+use Rattle.pic_grid.specs.Lattice.{EachAtMost, value_at}
 use Rattle.pic_grid.specs.Parts.{ArePartsOf, joined}
-use Rattle.pic_advance.specs.Blocks.{EachBlock, IsAmong, IsForced}
+use Rattle.pic_advance.specs.Blocks.{EachBlock, IsAmong, IsMade}
 use Rattle.pic_advance.proofs.TakenLaws.{HasBlocks, has_blocks, given_back, all_among, made_zones, made_is}
-use Rattle.pic_advance.proofs.HalfLaws.{force_made, forces_share}
+use Rattle.pic_advance.proofs.MadeLaws.{making_shares}
 use Rattle.pic_advance.proofs.forcing.force_values.Given.{Over}
 use Rattle.pic_advance.proofs.forcing.force_values.Goals as goal
 use Rattle.pic_advance.proofs.forcing.force_values.Goals.{After-deref_mut}
@@ -20,7 +21,8 @@ have g c =
     c.parts-parts.ensures.limits taken.ensures.zones taken.ensures.values
 
 pub each_share-requires-clause-shared : goal.each_share-requires-clause-shared
-each_share-requires-clause-shared g c κs within = forces_share c.args.mult c.args.from.now
+each_share-requires-clause-shared g c κs within =
+    let from = c.args.from.now in making_shares (EachAtMost most_value from) (IsAmong from.cells) (force_of c.args.mult (value_at from))
 
 pub each_share-requires-clause-can : goal.each_share-requires-clause-can
 each_share-requires-clause-can g c κs within =
@@ -38,10 +40,10 @@ of_blocks-requires-clause-zones g c =
     let new = c.each_share.new.items in
     let taken = c.into_blocks-blocks in
     let has = have g (goal.at.of_blocks-requires-clause-zones g c).After-deref_mut in
-    let each = subst (λ (bs : List BlockValues). EachBlock (IsForced c.args.mult from) bs new) c.deref_mut.ensures.value c.each_share.ensures in
+    let each = subst (λ (bs : List BlockValues). EachBlock (IsMade (force_of c.args.mult (value_at from))) bs new) c.deref_mut.ensures.value c.each_share.ensures in
     let back = given_back taken.result.len new old taken.result.ok.0 each.long in
     subst (λ (bs : List BlockValues). ArePartsOf c.cells-cells.result.n (triple c.parts-parts.result) bs) (sym back)
-    (made_zones from.cells c.args.to old has new (force_of c.args.mult (value_at from)) (force_made c.args.mult from old new each)
+    (made_zones from.cells c.args.to old has new (force_of c.args.mult (value_at from)) each
     c.cells-cells.result (triple c.parts-parts.result) c.cells-cells.ensures.value c.parts-parts.ensures.value)
 
 pub returns : goal.returns
@@ -51,9 +53,9 @@ returns g c =
     let new = c.each_share.new.items in
     let taken = c.into_blocks-blocks in
     let has = have g (goal.at.returns g c).After-deref_mut in
-    let each = subst (λ (bs : List BlockValues). EachBlock (IsForced c.args.mult from) bs new) c.deref_mut.ensures.value c.each_share.ensures in
+    let each = subst (λ (bs : List BlockValues). EachBlock (IsMade (force_of c.args.mult (value_at from))) bs new) c.deref_mut.ensures.value c.each_share.ensures in
     let back = given_back taken.result.len new old taken.result.ok.0 each.long in
-    made_is from.cells c.args.to old has new (force_of c.args.mult (value_at from)) (force_made c.args.mult from old new each)
+    made_is from.cells c.args.to old has new (force_of c.args.mult (value_at from)) each
     c.cells-cells.result from.side (triple c.parts-parts.result) c.of_blocks.result
     (record { cells = c.cells-cells.ensures.value; side_is = c.cells-cells.ensures.side })
     c.parts-parts.ensures.value

@@ -27,7 +27,8 @@ use Rattle.pic_grid.specs.Parts.{one_part}
 use Rattle.pic_grid.specs.PushPhase.{CanShare}
 use Rattle.pic_grid.specs.Species.{IsKind}
 use Rattle.pic_grid.specs.Sums.{sum_over}
-use Rattle.pic_charge.specs.Charge.{charge_of, share}
+use Rattle.pic_filter.specs.Smoothing.{filtered}
+use Rattle.pic_charge.specs.Charge.{share, charge_of, rho_of}
 use Rattle.pic_charge.specs.Gauss.{MeetsGauss}
 use Rattle.pic_field.specs.FieldPhases.{IsBounded}
 use Rattle.pic_tile.specs.Frame.{AreKinds}
@@ -67,8 +68,8 @@ zeros_safe side n by = record { bounded = λ a p w. subst (IsBounded by) (sym (z
 
 -- the two charges stand on one place
 pair_gauss : (side : ℕ) (n : Triple) (a b : Kind) (x : List ℕ) (u w : List ℤ) → a.charge ≡ pos 1 → b.charge ≡ negsuc 0
-    → MeetsGauss side n (a ∷ b ∷ []) (record { id = 0; species = 0; x = x; v = u } ∷ record { id = 1; species = 1; x = x; v = w } ∷ []) (zeros side n)
-unfolding charge_of sum_over share
+    → MeetsGauss side 0 n (a ∷ b ∷ []) (record { id = 0; species = 0; x = x; v = u } ∷ record { id = 1; species = 1; x = x; v = w } ∷ []) (zeros side n)
+unfolding rho_of filtered charge_of sum_over share
 pair_gauss side n a b x u w of_a of_b = record {
   at_node = λ p within.
       let none : (c : Axis) (q : Triple) → value_at (zeros side n) c q ≡ pos 0 = λ c q. zeros_at side n c q in
@@ -119,12 +120,13 @@ kept side v low high = record { least = least; most = most }
 
 pair_sound : (side q : ℕ) (v : ℤ) (scales : Scales) (a b : Kind) → least_side ≤ side → side ≤ most_side → q < 4 * side → pos 0 ≤ℤ v → v <ℤ pos (4096 * side)
     → a.charge ≡ pos 1 → a.mass ≡ 1 → b.charge ≡ negsuc 0 → b.mass ≡ 1
-    → IsSound (world_of 41 (record { n = four; side = side }) scales (a ∷ b ∷ []) (zero_values four) (zero_values four) (pair q v))
+    → IsSound (world_of 41 (record { n = four; side = side }) 0 scales (a ∷ b ∷ []) (zero_values four) (zero_values four) (pair q v))
 pair_sound side q v scales a b least most at low high a_is a_one b_is b_one = record {
   reached = omega arith;
   side_least = least;
   side_most = most;
   cells = record { x_least = omega arith; x_most = omega arith; y_least = omega arith; y_most = omega arith; z_least = omega arith; z_most = omega arith };
+  filter = omega arith;
   e = zeros_safe side four scales.e_force;
   b = zeros_safe side four scales.b_force;
   kinds = pair_kinds a b a_is a_one b_is b_one;
@@ -181,4 +183,4 @@ begin-requires-clause-sound c =
     let kinds = c.from_vec-kinds.ensures ∙ c.in_ok-from_slice.ensures.items in
     let particles = c.in_ok-particles.ensures.items ∙ ap (pair q) moves in
     let grid = c.new-map.ensures.cells ∙ cells in
-    subst IsSound (sym (λ i. world_of 41 (grid i) scales (kinds i) (e i) (b i) (particles i))) sound
+    subst IsSound (sym (λ i. world_of 41 (grid i) 0 scales (kinds i) (e i) (b i) (particles i))) sound

@@ -1,36 +1,29 @@
-use Rattle.std.proofs.Common.{◌<◌, ◌^◌, refl, arith}
-use Rattle.std.proofs.lemmas.Int.{ints}
-use Rattle.pic_walk.proofs.WalkLaws.{goes_on, exits}
+use Rattle.std.proofs.Common.{lit<}
+use Rattle.pic_walk.proofs.WalkLaws.{goes_on, exits, exits_as}
 use Rattle.pic_deck.specs.Keys.{tiles}
-use Rattle.pic_deck.proofs.GridLaws.{passed, few_tiles, tiles_within}
+use Rattle.pic_deck.proofs.GridLaws.{tiles_within}
+use Rattle.pic_deck.proofs.TileLaws.{tiled_size}
 use Rattle.pic_deck.proofs.grid.read_tiles.Goals as goal
 
 pub returns-in_err-tiles-clause-walks : goal.returns-in_err-tiles-clause-walks
 unfolding tiles
 returns-in_err-tiles-clause-walks c = exits _ _ c.from_residual.ensures.1 c.in_err-tiles.ensures.walks
 
-pub returns-in_err-check_within-clause-walks : goal.returns-in_err-check_within-clause-walks
+pub check_few_tiles-requires : goal.check_few_tiles-requires
+check_few_tiles-requires c =
+    let tiled = c.in_ok-tiles.ensures.tiled in
+    tiled_size _ _ c.requires.cells (tiled 0 (lit< tt)) (tiled 1 (lit< tt)) (tiled 2 (lit< tt))
+
+pub returns-in_err-check_few_tiles-clause-walks : goal.returns-in_err-check_few_tiles-clause-walks
 unfolding tiles
-returns-in_err-check_within-clause-walks c =
-    let few : c.tiles_in_all.result < 2 ^ 64 = omega arith in
-    let count = rw c.tiles_in_all.ensures at (passed c.tiles_in_all.result c.from-count.result few c.from-count.ensures) in
+returns-in_err-check_few_tiles-clause-walks c =
     goes_on _ _ _ c.in_ok-tiles.ensures.walks.answer
-    (exits _ _ c.from_residual-in_err-check_within.ensures.1 (rw (c.new.ensures, count) at c.in_err-check_within.ensures.walks))
+    (exits_as _ c.from_residual-in_err-check_few_tiles.ensures.1 c.in_err-check_few_tiles.ensures.walks)
 
 pub returns-clause-walks : goal.returns-clause-walks
 unfolding tiles
 returns-clause-walks c =
-    let few : c.tiles_in_all.result < 2 ^ 64 = omega arith in
-    let count = rw c.tiles_in_all.ensures at (passed c.tiles_in_all.result c.from-count.result few c.from-count.ensures) in
-    goes_on _ _ _ c.in_ok-tiles.ensures.walks.answer
-    (goes_on _ _ _ (rw (c.new.ensures, count) at c.in_ok-check_within.ensures.walks.answer) (record { answer = refl }))
-
-pub tiles_in_all-requires : goal.tiles_in_all-requires
-tiles_in_all-requires c = few_tiles _ _ c.requires.cells c.in_ok-tiles.ensures.tiled
+    goes_on _ _ _ c.in_ok-tiles.ensures.walks.answer (record { answer = c.in_ok-check_few_tiles.ensures.walks.answer })
 
 pub returns-clause-tiled : goal.returns-clause-tiled
-returns-clause-tiled c =
-    let few : c.tiles_in_all.result < 2 ^ 64 = omega arith in
-    let count = rw c.tiles_in_all.ensures at (passed c.tiles_in_all.result c.from-count.result few c.from-count.ensures) in
-    let inside = rw (c.new.ensures, count) at c.in_ok-check_within.ensures.bounds in
-    tiles_within _ _ c.in_ok-tiles.ensures.tiled (omega (arith, ints, inside.high))
+returns-clause-tiled c = tiles_within _ _ c.in_ok-tiles.ensures.tiled c.in_ok-check_few_tiles.ensures.few

@@ -19,8 +19,16 @@ returns-in_err-every-clause-walks c =
     goes_on _ _ _ c.in_ok-table.ensures.answer (goes_on _ _ _ (rw c.new.ensures at c.in_ok-steps.ensures.walks.answer)
     (exits _ _ c.from_residual-in_err-every.ensures.1 (rw c.new-2.ensures at c.in_err-every.ensures.walks)))
 
+pub returns-in_err-filter-clause-walks : goal.returns-in_err-filter-clause-walks
+unfolding run
+returns-in_err-filter-clause-walks c =
+    goes_on _ _ _ c.in_ok-table.ensures.answer (goes_on _ _ _ (rw c.new.ensures at c.in_ok-steps.ensures.walks.answer)
+    (goes_on _ _ _ (rw c.new-2.ensures at c.in_ok-every.ensures.walks.answer)
+    (exits _ _ c.from_residual-in_err-filter.ensures.1 c.in_err-filter.ensures.walks)))
+
 pub returns-clause-walks : goal.returns-clause-walks
 unfolding run
 returns-clause-walks c =
     goes_on _ _ _ c.in_ok-table.ensures.answer (goes_on _ _ _ (rw c.new.ensures at c.in_ok-steps.ensures.walks.answer)
-    (goes_on _ _ _ (rw c.new-2.ensures at c.in_ok-every.ensures.walks.answer) (record { answer = refl })))
+    (goes_on _ _ _ (rw c.new-2.ensures at c.in_ok-every.ensures.walks.answer)
+    (goes_on _ _ _ c.in_ok-filter.ensures.walks.answer (record { answer = refl }))))

@@ -15,24 +15,24 @@ returns-in_err-cells-clause-walks c =
     goes_on _ _ _ (rw c.from_to-versions.ensures at c.in_ok-version.ensures.walks.answer)
     (exits _ _ c.from_residual-in_err-cells.ensures.1 c.in_err-cells.ensures.walks)
 
-pub returns-in_err-steps-clause-walks : goal.returns-in_err-steps-clause-walks
+pub returns-in_err-course-clause-walks : goal.returns-in_err-course-clause-walks
 unfolding settings
-returns-in_err-steps-clause-walks c =
+returns-in_err-course-clause-walks c =
     goes_on _ _ _ (rw c.from_to-versions.ensures at c.in_ok-version.ensures.walks.answer)
-    (goes_on _ _ _ c.in_ok-cells.ensures.walks.answer (exits _ _ c.from_residual-in_err-steps.ensures.1 c.in_err-steps.ensures.walks))
+    (goes_on _ _ _ c.in_ok-cells.ensures.walks.answer (exits _ _ c.from_residual-in_err-course.ensures.1 c.in_err-course.ensures.walks))
 
 pub returns-in_err-scales-clause-walks : goal.returns-in_err-scales-clause-walks
 unfolding settings
 returns-in_err-scales-clause-walks c =
     goes_on _ _ _ (rw c.from_to-versions.ensures at c.in_ok-version.ensures.walks.answer)
-    (goes_on _ _ _ c.in_ok-cells.ensures.walks.answer (goes_on _ _ _ c.in_ok-steps.ensures.walks.answer
+    (goes_on _ _ _ c.in_ok-cells.ensures.walks.answer (goes_on _ _ _ c.in_ok-course.ensures.walks.answer
     (exits _ _ c.from_residual-in_err-scales.ensures.1 c.in_err-scales.ensures)))
 
 pub returns-clause-walks : goal.returns-clause-walks
 unfolding settings
 returns-clause-walks c =
     goes_on _ _ _ (rw c.from_to-versions.ensures at c.in_ok-version.ensures.walks.answer)
-    (goes_on _ _ _ c.in_ok-cells.ensures.walks.answer (goes_on _ _ _ c.in_ok-steps.ensures.walks.answer
+    (goes_on _ _ _ c.in_ok-cells.ensures.walks.answer (goes_on _ _ _ c.in_ok-course.ensures.walks.answer
     (goes_on _ _ _ c.in_ok-scales.ensures.answer (record { answer = refl }))))
 
 pub returns-clause-limits : goal.returns-clause-limits
@@ -43,7 +43,8 @@ returns-clause-limits c =
       cells = c.in_ok-cells.ensures.cells;
       allowed = c.in_ok-cells.ensures.allowed;
       tiles = c.in_ok-cells.ensures.tiled;
-      steps = c.in_ok-steps.ensures.steps;
-      every_low = c.in_ok-steps.ensures.every_low;
-      every_high = c.in_ok-steps.ensures.every_high;
+      steps = c.in_ok-course.ensures.steps;
+      every_low = c.in_ok-course.ensures.every_low;
+      every_high = c.in_ok-course.ensures.every_high;
+      filter = c.in_ok-course.ensures.filter;
     }

@@ -7,7 +7,7 @@ use Rattle.pic_dump.proofs.upgrading.put_records.Goals as goal
 
 pub records-init : goal.records-init
 records-init g c = record {
-  follows = follows_none c.args.reader _ _ c.requires.start;
+  follows = follows_none c.args.reader _ _ c.requires.start c.requires.limits.every_least;
   e = c.requires.e;
   b = c.requires.b;
   particles = c.requires.particles;

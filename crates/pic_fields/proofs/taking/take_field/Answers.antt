@@ -1,5 +1,5 @@
 use Rattle.std.proofs.Common.{arith}
-use Rattle.pic_fields.proofs.FieldLaws.{read_field, fails_field, filled_moves}
+use Rattle.pic_fields.proofs.FieldLaws.{read_field, fails_field, filled_moves, exits_filling}
 use Rattle.pic_fields.proofs.taking.take_field.Goals as goal
 
 pub returns-then-count-room-clause-reads : goal.returns-then-count-room-clause-reads
@@ -9,6 +9,7 @@ returns-then-count-room-clause-reads g c =
         why = fails_field _ _ c.fill.new.room _ _ c.in_ok-count.count c.fill.ensures.length c.in_ok-count.ensures.fills
             (omega (arith, c.if-count-room.true, c.fill.ensures.length));
         moves = filled_moves _ _ c.fill.new.room _ _ c.in_ok-count.count c.fill.ensures.length c.in_ok-count.ensures.fills;
+        less = λ same. cc;
       };
     })
 
@@ -17,3 +18,7 @@ returns-clause-reads g c = record {
   answer = read_field _ _ c.fill.new.room _ _ c.in_ok-count.count c.fill.ensures.length c.in_ok-count.ensures.fills
       (omega (arith, c.if-count-room.false, c.fill.ensures.length));
 }
+
+pub returns-in_err-count-clause-reads : goal.returns-in_err-count-clause-reads
+returns-in_err-count-clause-reads g c =
+    exits_filling c.fill.new.room c.in_err-count.field-0.0 (omega (arith, c.fill.ensures.length)) c.from_residual.ensures.1 c.in_err-count.ensures.fills

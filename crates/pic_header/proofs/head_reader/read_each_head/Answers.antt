@@ -1,4 +1,4 @@
-use Rattle.std.proofs.Common.{◌≡◌, ◌<◌, ◌+◌, ◌*◌, ◌++◌, ◌∷◌, [], length, refl, ap, ◌∙◌, subst, arith}
+use Rattle.std.proofs.Common.{Err, ◌≡◌, ◌<◌, ◌+◌, ◌*◌, ◌++◌, ◌∷◌, [], length, refl, ap, ◌∙◌, subst, arith}
 use Rattle.std.proofs.lemmas.List.{length-append}
 use Rattle.std.proofs.lemmas.List.Sums.{sum_by-append}
 use Rattle.pic_grid.specs.Species.{HeadView}
@@ -12,6 +12,7 @@ use Rattle.pic_header.proofs.HeadReadLaws.{head_among, head_starves}
 use Rattle.pic_header.proofs.RunLaws.{goes_on_by, runs_head}
 use Rattle.pic_header.proofs.WithinLaws.{within_among, within_read}
 use Rattle.pic_header.specs.HeadReads.{TakesWithin}
+use Rattle.pic_header.proofs.LessLaws.{same_head_stop, was_fed, less_among}
 use Rattle.pic_header.proofs.head_reader.read_each_head.Goals as goal
 
 pub loop-index-init : goal.loop-index-init
@@ -81,3 +82,12 @@ returns-clause-within g c =
     let before = g.S.Source.told c.args.source.now in
     let now = g.S.Source.told c.loop-index.source in
     subst (λ n. TakesWithin (each n (head_at c.args.most)) c.args.place before now) all (within_read so_far.read)
+
+pub returns-in_err-head-clause-less : goal.returns-in_err-head-clause-less
+returns-in_err-head-clause-less g c = λ same.
+    (let stopped = rw c.as_slice.ensures.value at c.in_err-head.ensures.less in
+    less_among c.args.count c.loop-index.index (head_at c.args.most) (λ hs. goes_on_by 60 (runs_head c.args.most hs)) c.loop-index-test.true
+    c.loop-index.invariant.read (stopped (ap Err (same_head_stop c.from_residual.ensures.1 same))))
+
+pub returns-in_err-push-clause-less : goal.returns-in_err-push-clause-less
+returns-in_err-push-clause-less g c = λ same. absurd (was_fed c.from_residual-in_err-push.ensures.1 same)

@@ -8,11 +8,11 @@ use Rattle.pic_header.proofs.head_reader.read_form.Goals as goal
 pub returns-then-version-eq1-clause-reads : goal.returns-then-version-eq1-clause-reads
 unfolding form_at
 returns-then-version-eq1-clause-reads g c =
-    rw (c.of_bits.ensures, c.allowance_of.ensures, c.if-version-eq1.true) (record { answer = read_up_to (omega arith) (read_done _ _ _) })
+    rw (c.of_bits-side.ensures, c.allowance_of.ensures, c.if-version-eq1.true) (record { answer = read_up_to (omega arith) (read_done _ _ _) })
 
 pub returns-then-version-eq1-clause-side : goal.returns-then-version-eq1-clause-side
 returns-then-version-eq1-clause-side g c =
-    rw (c.of_bits.ensures, c.allowance_of.ensures) (side_of_bits c.args.version _ (omega arith) (within_scheme c.args.version).sides)
+    rw (c.of_bits-side.ensures, c.allowance_of.ensures) (side_of_bits c.args.version _ (omega arith) (within_scheme c.args.version).sides)
 
 pub returns-clause-reads : goal.returns-clause-reads
 unfolding form_at

@@ -8,24 +8,27 @@ pub returns-in_err-bits-clause-reads : goal.returns-in_err-bits-clause-reads
 unfolding form_of_2
 returns-in_err-bits-clause-reads g c = exits _ (omega arith) c.from_residual.ensures.1 c.in_err-bits.ensures.reads
 
-pub returns-in_err-_filter-clause-reads : goal.returns-in_err-_filter-clause-reads
+pub returns-in_err-filter-clause-reads : goal.returns-in_err-filter-clause-reads
 unfolding form_of_2
-returns-in_err-_filter-clause-reads g c =
-    goes_on _ c.in_ok-bits.ensures.reads.answer (exits _ (omega arith) c.from_residual-in_err-_filter.ensures.1 c.in_err-_filter.ensures.reads)
+returns-in_err-filter-clause-reads g c =
+    goes_on _ c.in_ok-bits.ensures.reads.answer (exits _ (omega arith) c.from_residual-in_err-filter.ensures.1 c.in_err-filter.ensures.reads)
 
 pub returns-in_err-_loops-clause-reads : goal.returns-in_err-_loops-clause-reads
 unfolding form_of_2
 returns-in_err-_loops-clause-reads g c =
-    goes_on _ c.in_ok-bits.ensures.reads.answer (goes_on _ c.in_ok-_filter.ensures.reads.answer (exits _ (omega arith) c.from_residual-in_err-_loops.ensures.1
+    goes_on _ c.in_ok-bits.ensures.reads.answer (goes_on _ c.in_ok-filter.ensures.reads.answer (exits _ (omega arith) c.from_residual-in_err-_loops.ensures.1
     c.in_err-_loops.ensures.reads))
 
 pub returns-clause-reads : goal.returns-clause-reads
 unfolding form_of_2
 returns-clause-reads g c =
-    rw c.of_bits.ensures (record {
-      answer = read_up_to (omega arith) (read_then _ c.in_ok-bits.ensures.reads.answer (read_then _ c.in_ok-_filter.ensures.reads.answer
+    rw c.of_bits-side.ensures (record {
+      answer = read_up_to (omega arith) (read_then _ c.in_ok-bits.ensures.reads.answer (read_then _ c.in_ok-filter.ensures.reads.answer
           (read_then _ c.in_ok-_loops.ensures.reads.answer (read_done _ _ _))));
     })
 
 pub returns-clause-side : goal.returns-clause-side
-returns-clause-side g c = rw c.of_bits.ensures (side_of_bits 2 _ c.in_ok-bits.ensures.low c.in_ok-bits.ensures.high)
+returns-clause-side g c = rw c.of_bits-side.ensures (side_of_bits 2 _ c.in_ok-bits.ensures.low c.in_ok-bits.ensures.high)
+
+pub returns-clause-filter : goal.returns-clause-filter
+returns-clause-filter g c = c.in_ok-filter.ensures.high

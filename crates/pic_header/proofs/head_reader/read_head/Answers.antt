@@ -11,6 +11,7 @@ use Rattle.pic_header.proofs.NameLaws.{name_from, new_from}
 use Rattle.pic_header.proofs.HeadReadLaws.{head_goes_on, head_exits, head_starves}
 use Rattle.pic_header.proofs.RunLaws.{goes_on_by, goes_then, goes_done, runs_within, runs_kind, runs_name}
 use Rattle.pic_header.proofs.WithinLaws.{within_short, within_first, within_then, within_done}
+use Rattle.pic_header.proofs.LessLaws.{same_read_stop, was_fed, less_short, less_first, less_then}
 use Rattle.pic_header.proofs.head_reader.read_head.Goals as goal
 
 -- a species of these parts
@@ -94,3 +95,25 @@ unfolding head_at
 returns-clause-within g c =
     within_then _ c.in_ok-name.ensures.reads.answer (within_then _ c.in_ok-kind.ensures.reads.answer
     (within_then _ (so_many _ _ _ c.requires.count c.in_ok-count.ensures.reads).answer (within_done _ _ _)))
+
+pub returns-in_err-name-clause-less : goal.returns-in_err-name-clause-less
+unfolding head_at
+returns-in_err-name-clause-less g c = λ same.
+    less_first _ (λ name. goes_then (goes_on_by 24 runs_kind) (λ kind. goes_then (goes_on_by 4 (runs_within _ _ _)) (λ count. goes_done _)))
+    (less_short 32 (runs_name _) (omega arith) (same_read_stop c.from_residual.ensures.1 same) c.in_err-name.ensures.reads.answer)
+
+pub returns-in_err-kind-clause-less : goal.returns-in_err-kind-clause-less
+unfolding head_at
+returns-in_err-kind-clause-less g c = λ same.
+    less_then _ c.in_ok-name.ensures.reads.answer (less_first _ (λ kind. goes_then (goes_on_by 4 (runs_within _ _ _)) (λ count. goes_done _))
+    (less_short 24 runs_kind (omega arith) (same_read_stop c.from_residual-in_err-kind.ensures.1 same) c.in_err-kind.ensures.reads.answer))
+
+pub returns-in_err-count-clause-less : goal.returns-in_err-count-clause-less
+unfolding head_at
+returns-in_err-count-clause-less g c = λ same.
+    less_then _ c.in_ok-name.ensures.reads.answer (less_then _ c.in_ok-kind.ensures.reads.answer (less_first _ (λ count. goes_done _)
+    (less_short 4 (runs_within _ _ _) (omega arith) (same_read_stop c.from_residual-in_err-count.ensures.1 same)
+    (so_many _ _ _ c.requires.count c.in_err-count.ensures.reads).answer)))
+
+pub returns-in_err-head-clause-less : goal.returns-in_err-head-clause-less
+returns-in_err-head-clause-less g c = λ same. absurd (was_fed c.from_residual-in_err-head.ensures.1 same)

@@ -1,11 +1,12 @@
-use Rattle.std.proofs.Common.{◌≡◌, sym, ap, arith}
+use Rattle.std.proofs.Common.{◌≡◌, Err, sym, ap, arith}
 use Rattle.pic_fields.proofs.ReadLaws.{read_then, read_done, read_same, read_up_to}
 use Rattle.pic_header.specs.Header.{HeaderView}
 use Rattle.pic_header.specs.HeaderText.{form_length}
-use Rattle.pic_header.specs.HeaderFields.{Front, header_of, header_at, header_length}
+use Rattle.pic_header.specs.HeaderFields.{header_of, header_at, header_length}
 use Rattle.pic_header.proofs.HeadReadLaws.{head_goes_on, head_exits, head_passes_on}
 use Rattle.pic_header.proofs.RunLaws.{goes_on_by, goes_then, goes_done, goes_heads, runs_mark, runs_front, runs_form, form_few}
 use Rattle.pic_header.proofs.WithinLaws.{within_short, within_first, within_then}
+use Rattle.pic_header.proofs.LessLaws.{same_read_stop, same_head_stop, less_short, less_first, less_then}
 use Rattle.pic_header.proofs.head_reader.read_header.Goals as goal
 
 pub returns-in_err-version-clause-reads : goal.returns-in_err-version-clause-reads
@@ -17,18 +18,18 @@ unfolding header_at
 returns-in_err-front-clause-reads g c =
     head_goes_on _ c.in_ok-version.ensures.reads.answer (head_exits _ (omega arith) c.from_residual-in_err-front.ensures.1 c.in_err-front.ensures.reads)
 
-pub returns-in_err-side-clause-reads : goal.returns-in_err-side-clause-reads
+pub returns-in_err-form-clause-reads : goal.returns-in_err-form-clause-reads
 unfolding header_at
-returns-in_err-side-clause-reads g c =
+returns-in_err-form-clause-reads g c =
     head_goes_on _ c.in_ok-version.ensures.reads.answer (head_goes_on _ c.in_ok-front.ensures.reads.answer
-    (head_exits _ (omega (arith, form_few c.in_ok-version.version)) c.from_residual-in_err-side.ensures.1 c.in_err-side.ensures.reads))
+    (head_exits _ (omega (arith, form_few c.in_ok-version.version)) c.from_residual-in_err-form.ensures.1 c.in_err-form.ensures.reads))
 
 pub returns-in_err-heads-clause-reads : goal.returns-in_err-heads-clause-reads
 unfolding header_at
 returns-in_err-heads-clause-reads g c =
     let heads = rw (c.form_length-heads_place.ensures, c.allowance_of.ensures) at c.in_err-heads.ensures.reads in
     head_goes_on _ c.in_ok-version.ensures.reads.answer (head_goes_on _ c.in_ok-front.ensures.reads.answer
-    (head_goes_on _ c.in_ok-side.ensures.reads.answer (head_passes_on _ (omega (arith, form_few c.in_ok-version.version))
+    (head_goes_on _ c.in_ok-form.ensures.reads.answer (head_passes_on _ (omega (arith, form_few c.in_ok-version.version))
     c.from_residual-in_err-heads.ensures.1 heads)))
 
 pub returns-clause-reads : goal.returns-clause-reads
@@ -37,45 +38,76 @@ returns-clause-reads g c =
     let heads = rw (c.form_length-heads_place.ensures, c.allowance_of.ensures) at c.in_ok-heads.ensures.reads in
     let version = c.in_ok-version.version in
     let front = c.in_ok-front.front in
-    let is : c.new.result ≡ header_of version front c.in_ok-side.side c.in_ok-heads.heads.items =
-    rw (c.new.ensures, c.new-cells.ensures, c.from_vec-species.ensures)
-    (ap (λ (f : Front). header_of version f c.in_ok-side.side c.in_ok-heads.heads.items) c.front.view_is) in
+    let is : c.new-2.result ≡ header_of version front c.in_ok-form.form c.in_ok-heads.heads.items =
+    rw (c.new-2.ensures, c.new.ensures, c.from_vec.ensures)
+    (λ i. header_of version (c.front.view_is i) (c.form.view_is i) c.in_ok-heads.heads.items) in
     let length = ap (λ (h : HeaderView). header_length h) is in
     record {
       answer = read_same (sym is) (read_up_to (omega (arith, length)) (read_then _ c.in_ok-version.ensures.reads.answer
-          (read_then _ c.in_ok-front.ensures.reads.answer (read_then _ c.in_ok-side.ensures.reads.answer (read_then _ heads.answer (read_done _ _ _))))));
+          (read_then _ c.in_ok-front.ensures.reads.answer (read_then _ c.in_ok-form.ensures.reads.answer (read_then _ heads.answer (read_done _ _ _))))));
     }
 
 pub returns-in_err-version-clause-within : goal.returns-in_err-version-clause-within
 unfolding header_at
 returns-in_err-version-clause-within g c =
     within_first _ (λ version. goes_then (goes_on_by 52 (runs_front version)) (λ front. goes_then (goes_on_by _ (runs_form version))
-    (λ side. goes_then (goes_heads _) (λ heads. goes_done _)))) (within_short 8 runs_mark (omega arith) c.in_err-version.ensures.reads.answer.moves)
+    (λ form. goes_then (goes_heads _) (λ heads. goes_done _)))) (within_short 8 runs_mark (omega arith) c.in_err-version.ensures.reads.answer.moves)
 
 pub returns-in_err-front-clause-within : goal.returns-in_err-front-clause-within
 unfolding header_at
 returns-in_err-front-clause-within g c =
     within_then _ c.in_ok-version.ensures.reads.answer (within_first _ (λ front. goes_then (goes_on_by _ (runs_form c.in_ok-version.version))
-    (λ side. goes_then (goes_heads _) (λ heads. goes_done _))) c.in_err-front.ensures.within)
+    (λ form. goes_then (goes_heads _) (λ heads. goes_done _))) c.in_err-front.ensures.within)
 
-pub returns-in_err-side-clause-within : goal.returns-in_err-side-clause-within
+pub returns-in_err-form-clause-within : goal.returns-in_err-form-clause-within
 unfolding header_at
-returns-in_err-side-clause-within g c =
+returns-in_err-form-clause-within g c =
     let version = c.in_ok-version.version in
     within_then _ c.in_ok-version.ensures.reads.answer (within_then _ c.in_ok-front.ensures.reads.answer
-    (within_first _ (λ side. goes_then (goes_heads _) (λ heads. goes_done _))
-    (within_short (form_length version) (runs_form version) (omega (arith, form_few version)) c.in_err-side.ensures.reads.answer.moves)))
+    (within_first _ (λ form. goes_then (goes_heads _) (λ heads. goes_done _))
+    (within_short (form_length version) (runs_form version) (omega (arith, form_few version)) c.in_err-form.ensures.reads.answer.moves)))
 
 pub returns-in_err-heads-clause-within : goal.returns-in_err-heads-clause-within
 unfolding header_at
 returns-in_err-heads-clause-within g c =
     let heads = rw (c.form_length-heads_place.ensures, c.allowance_of.ensures) at c.in_err-heads.ensures.within in
     within_then _ c.in_ok-version.ensures.reads.answer (within_then _ c.in_ok-front.ensures.reads.answer
-    (within_then _ c.in_ok-side.ensures.reads.answer (within_first _ (λ heads. goes_done _) heads)))
+    (within_then _ c.in_ok-form.ensures.reads.answer (within_first _ (λ heads. goes_done _) heads)))
 
 pub returns-clause-within : goal.returns-clause-within
 unfolding header_at
 returns-clause-within g c =
     let heads = rw (c.form_length-heads_place.ensures, c.allowance_of.ensures) at c.in_ok-heads.ensures.within in
     within_then _ c.in_ok-version.ensures.reads.answer (within_then _ c.in_ok-front.ensures.reads.answer
-    (within_then _ c.in_ok-side.ensures.reads.answer (within_first _ (λ heads. goes_done _) heads)))
+    (within_then _ c.in_ok-form.ensures.reads.answer (within_first _ (λ heads. goes_done _) heads)))
+
+pub returns-in_err-version-clause-less : goal.returns-in_err-version-clause-less
+unfolding header_at
+returns-in_err-version-clause-less g c = λ same.
+    less_first _ (λ version. goes_then (goes_on_by 52 (runs_front version)) (λ front. goes_then (goes_on_by _ (runs_form version))
+    (λ form. goes_then (goes_heads _) (λ heads. goes_done _))))
+    (less_short 8 runs_mark (omega arith) (same_read_stop c.from_residual.ensures.1 same) c.in_err-version.ensures.reads.answer)
+
+pub returns-in_err-front-clause-less : goal.returns-in_err-front-clause-less
+unfolding header_at
+returns-in_err-front-clause-less g c = λ same.
+    less_then _ c.in_ok-version.ensures.reads.answer (less_first _ (λ front. goes_then (goes_on_by _ (runs_form c.in_ok-version.version))
+    (λ form. goes_then (goes_heads _) (λ heads. goes_done _)))
+    (c.in_err-front.ensures.less (ap Err (same_read_stop c.from_residual-in_err-front.ensures.1 same))))
+
+pub returns-in_err-form-clause-less : goal.returns-in_err-form-clause-less
+unfolding header_at
+returns-in_err-form-clause-less g c = λ same.
+    (let version = c.in_ok-version.version in
+    less_then _ c.in_ok-version.ensures.reads.answer (less_then _ c.in_ok-front.ensures.reads.answer
+    (less_first _ (λ form. goes_then (goes_heads _) (λ heads. goes_done _))
+    (less_short (form_length version) (runs_form version) (omega (arith, form_few version)) (same_read_stop c.from_residual-in_err-form.ensures.1 same)
+    c.in_err-form.ensures.reads.answer))))
+
+pub returns-in_err-heads-clause-less : goal.returns-in_err-heads-clause-less
+unfolding header_at
+returns-in_err-heads-clause-less g c = λ same.
+    (let heads = rw (c.form_length-heads_place.ensures, c.allowance_of.ensures) at c.in_err-heads.ensures.less in
+    less_then _ c.in_ok-version.ensures.reads.answer (less_then _ c.in_ok-front.ensures.reads.answer
+    (less_then _ c.in_ok-form.ensures.reads.answer (less_first _ (λ heads. goes_done _)
+    (heads (ap Err (same_head_stop c.from_residual-in_err-heads.ensures.1 same)))))))

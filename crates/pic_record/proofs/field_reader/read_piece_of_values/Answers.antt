@@ -1,4 +1,5 @@
-use Rattle.std.proofs.Common.{◌≡◌, ◌*◌, length, take, arith}
+use Rattle.std.proofs.Common.{◌≡◌, ◌*◌, length, take, refl, arith}
+use Rattle.pic_fields.proofs.FieldLaws.{exits_filling}
 use Rattle.pic_fields.proofs.PieceLaws.{reads_piece}
 use Rattle.pic_record.proofs.PartLaws.{of_values}
 use Rattle.pic_record.proofs.field_reader.read_piece_of_values.Goals as goal
@@ -16,3 +17,11 @@ returns-clause-part g c =
       whole = part.whole;
       front = part.front;
     }
+
+pub returns-in_err-taken-clause-part : goal.returns-in_err-taken-clause-part
+returns-in_err-taken-clause-part g c = record {
+  reads = exits_filling c.fill.new.room c.in_err-taken.field-0.0 (omega (arith, c.fill.ensures.length, c.requires.room)) c.from_residual.ensures.1
+      c.in_err-taken.ensures.fills;
+  whole = refl;
+  front = refl;
+}

@@ -1,4 +1,5 @@
 use Rattle.std.proofs.Common.{◌≡◌, length, take, arith}
+use Rattle.pic_fields.proofs.FieldLaws.{exits_filling}
 use Rattle.pic_fields.proofs.PieceLaws.{reads_piece}
 use Rattle.pic_record.proofs.PartLaws.{of_energies}
 use Rattle.pic_record.proofs.frame_reader.read_piece_of_energies.Goals as goal
@@ -11,3 +12,7 @@ returns g c =
     let piece : c.new-piece.result ≡ take taken room = c.new-piece.ensures in
     let reads = rw piece at c.read_energies.ensures in
     reads_piece 48 taken room _ (of_energies c.args.want) size (omega arith) c.in_ok-taken.ensures.fills reads
+
+pub returns-in_err-taken : goal.returns-in_err-taken
+returns-in_err-taken g c =
+    exits_filling c.fill.new.room c.in_err-taken.field-0.0 (omega (arith, c.fill.ensures.length)) c.from_residual.ensures.1 c.in_err-taken.ensures.fills

@@ -6,7 +6,7 @@ use Rattle.pic_energy.specs.Line.{end_line}
 use Rattle.pic_run.specs.declared.output.Output.{Output}
 use Rattle.pic_run.specs.declared.output.Output.TheVariants.{Dump}
 use Rattle.pic_run.specs.Frames.{end_piece}
-use Rattle.pic_run.proofs.RunLaws.{end_some}
+use Rattle.pic_dump.proofs.TextLaws.{end_some}
 use Rattle.pic_run.proofs.frame_writer.put_last.Goals as goal
 
 pub returns-in-Err : goal.returns-in-Err

@@ -8,7 +8,7 @@ use Rattle.pic_step.specs.SerialStep.{e_of, b_of}
 use Rattle.pic_run.specs.declared.output.Output.{Output}
 use Rattle.pic_run.specs.declared.output.Output.TheVariants.{Dump}
 use Rattle.pic_run.specs.Frames.{energies_in, frame_piece}
-use Rattle.pic_run.proofs.RunLaws.{frame_some}
+use Rattle.pic_dump.proofs.TextLaws.{frame_some}
 use Rattle.pic_run.proofs.StartLaws.{filled_as, frame_is}
 use Rattle.pic_run.proofs.frame_writer.write_frame.Goals as goal
 

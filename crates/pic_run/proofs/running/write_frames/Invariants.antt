@@ -1,4 +1,4 @@
-use Rattle.std.proofs.Common.{◌≡◌, ◌+◌, Ok}
+use Rattle.std.proofs.Common.{◌≡◌, Ok}
 use Rattle.pic_io.specs.Sinks.{sinks}
 use Rattle.pic_step.specs.SerialRun.{after}
 use Rattle.pic_run.specs.Frames.{due_states}
@@ -12,6 +12,6 @@ invariant-loop-done g l =
     record {
       reached : after l.fn.stage.state.world l.done ≡ Ok l.state.world;
       wrote : WroteStates l.fn.plan.output (sinks (g.O.Sink.told l.fn.out) (g.R.Sink.told l.fn.report)) (sinks (g.O.Sink.told l.out) (g.R.Sink.told l.report))
-          (due_states l.fn.plan.steps l.fn.plan.every l.fn.stage.state.world 0 (l.done + 1));
+          (due_states l.fn.plan.steps l.fn.plan.every l.fn.stage.state.world 1 l.done);
       room : HasShape l.room l.state.world;
     }

@@ -6,7 +6,8 @@ use Rattle.pic_run.specs.declared.output.Output.TheVariants.{Dump}
 use Rattle.pic_run.specs.Frames.{frames_of, end_of_run, end_piece}
 use Rattle.pic_run.specs.Outcome.{states_outcome}
 use Rattle.pic_run.specs.Runs.{WritesStates}
-use Rattle.pic_run.proofs.RunLaws.{headed, header_some, head_cut}
+use Rattle.pic_dump.proofs.TextLaws.{header_some}
+use Rattle.pic_run.proofs.RunLaws.{headed, head_cut}
 use Rattle.pic_run.proofs.running.write_run.Goals as goal
 
 pub returns-in-Ok : goal.returns-in-Ok
@@ -18,9 +19,9 @@ returns-in-Ok g c =
     let e = sinks (g.O.Sink.told c.write_states.new.out) (g.R.Sink.told c.write_states.new.report) in
     let h = c.args.ready.header in
     let w = c.args.ready.stage.state.world in
-    let states = subst (λ (every : ℕ). WritesStates c.args.workers (states_outcome Dump [] (frames_of Dump h.steps every w)
+    let states = subst (λ (every : ℕ). WritesStates 1 c.args.workers (states_outcome Dump [] (frames_of Dump h.steps every w)
     (end_of_run h.steps w)) b e c.write_states.result) c.every.ensures.value
-    (subst (λ (steps : ℕ). WritesStates c.args.workers (states_outcome Dump [] (frames_of Dump steps c.every.result w)
+    (subst (λ (steps : ℕ). WritesStates 1 c.args.workers (states_outcome Dump [] (frames_of Dump steps c.every.result w)
     (end_of_run steps w)) b e c.write_states.result) c.steps.ensures.value c.write_states.ensures) in
     headed c.args.workers Dump (header_bytes h) (frames_of Dump h.steps h.every w) (end_of_run h.steps w) (sinks o r) b e c.write_states.result
     (wrote_out o p r (header_bytes h) c.in-Ok.ensures.bytes c.in-Ok.ensures.cause.ok) states

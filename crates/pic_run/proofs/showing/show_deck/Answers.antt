@@ -23,9 +23,9 @@ returns g c =
     let d = c.args.opened.deck in
     let result = c.write_states.result in
     let w = c.in_ok-stage.stage.state.world in
-    let steps = subst (λ (steps : ℕ). WritesStates c.args.workers (states_outcome Lines [] (frames_of Lines steps c.every.result w) (end_of_run steps w)) a b result)
-    c.steps.ensures.value c.write_states.ensures in
-    let every = subst (λ (every : ℕ). WritesStates c.args.workers (states_outcome Lines [] (frames_of Lines d.steps every w) (end_of_run d.steps w)) a b result)
-    c.every.ensures.value steps in
-    let start = subst (λ (v : World). WritesStates c.args.workers (lines_outcome d v) a b result) c.in_ok-stage.ensures.state every in
+    let steps = subst (λ (steps : ℕ). WritesStates 1 c.args.workers (states_outcome Lines [] (frames_of Lines steps c.every.result w) (end_of_run steps w))
+    a b result) c.steps.ensures.value c.write_states.ensures in
+    let every = subst (λ (every : ℕ). WritesStates 1 c.args.workers (states_outcome Lines [] (frames_of Lines d.steps every w) (end_of_run d.steps w))
+    a b result) c.every.ensures.value steps in
+    let start = subst (λ (v : World). WritesStates 1 c.args.workers (lines_outcome d v) a b result) c.in_ok-stage.ensures.state every in
     without_head c.args.workers (lines_outcome d (begun c.args.opened.start)) a b result start

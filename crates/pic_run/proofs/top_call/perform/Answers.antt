@@ -1,6 +1,6 @@
 use Rattle.std.proofs.Common.{map, string_bytes, Some, None, refl}
 use Rattle.pic_io.specs.Sinks.{sinks}
-use Rattle.pic_line.specs.declared.asked.Command.TheVariants.{Check, Run, Verify, Demo, Upgrade}
+use Rattle.pic_line.specs.declared.asked.Command.TheVariants.{Check, Run, Verify, Demo, Upgrade, Resume}
 use Rattle.pic_line.specs.CommandLine.{command_of}
 use Rattle.pic_run.specs.declared.ended.Ended.TheVariants.{Usage}
 use Rattle.pic_run.specs.Ended.{ended_of}
@@ -8,7 +8,7 @@ use Rattle.pic_run.specs.Outcome.{early_outcome}
 use Rattle.pic_run.specs.Leaves.{LeavesNothing}
 use Rattle.pic_run.proofs.EndLaws.{announced, untouched}
 use Rattle.pic_run.proofs.CommandLaws.{by_name, starved_words}
-use Rattle.pic_run.proofs.WorkerLaws.{run_workers, demo_workers}
+use Rattle.pic_run.proofs.WorkerLaws.{run_workers, demo_workers, resume_workers}
 use Rattle.pic_run.proofs.top_call.perform.Goals as goal
 
 pub returns-in-Ok-Check : goal.returns-in-Ok-Check
@@ -35,6 +35,11 @@ pub returns-in-Ok-Upgrade : goal.returns-in-Ok-Upgrade
 returns-in-Ok-Upgrade g c =
     by_name (command_of (map string_bytes c.args.words.now)) (Some Upgrade) _ _ _ _ (ended_of c.upgrade.result)
     (rw c.in-Ok-Upgrade.field-0-is at c.in-Ok-Upgrade.ensures.ok) c.upgrade.ensures
+
+pub returns-in-Ok-Resume : goal.returns-in-Ok-Resume
+returns-in-Ok-Resume g c =
+    by_name (command_of (map string_bytes c.args.words.now)) (Some (Resume c.in-Ok-Resume.steps c.in-Ok-Resume.workers c.in-Ok-Resume.tiles)) _ _ _ _
+    (ended_of c.resume.result) (rw c.in-Ok-Resume.field-0-is at c.in-Ok-Resume.ensures.ok) c.resume.ensures
 
 pub returns-in-Err-Usage : goal.returns-in-Err-Usage
 returns-in-Err-Usage g c =
@@ -70,3 +75,15 @@ demo-requires-clause-some g c κs within =
 pub demo-requires-clause-most : goal.demo-requires-clause-most
 demo-requires-clause-most g c κs within =
     let has = demo_workers (map string_bytes c.args.words.now) c.in-Ok-Demo.seed c.in-Ok-Demo.workers (rw c.in-Ok-Demo.field-0-is at c.in-Ok-Demo.ensures.ok) in has.most
+
+pub resume-requires-clause-some : goal.resume-requires-clause-some
+resume-requires-clause-some g c κs within =
+    let has = resume_workers (map string_bytes c.args.words.now) c.in-Ok-Resume.steps c.in-Ok-Resume.workers c.in-Ok-Resume.tiles
+    (rw c.in-Ok-Resume.field-0-is at c.in-Ok-Resume.ensures.ok) in
+    has.some
+
+pub resume-requires-clause-most : goal.resume-requires-clause-most
+resume-requires-clause-most g c κs within =
+    let has = resume_workers (map string_bytes c.args.words.now) c.in-Ok-Resume.steps c.in-Ok-Resume.workers c.in-Ok-Resume.tiles
+    (rw c.in-Ok-Resume.field-0-is at c.in-Ok-Resume.ensures.ok) in
+    has.most

@@ -1,7 +1,10 @@
-use Rattle.std.proofs.Common.{◌≡◌, ℕ, suc, ◌+◌, ◌<◌, refl, sym, ap, ◌∙◌, subst, Result, Ok, Err, None, Option, arith}
+use Rattle.std.proofs.Common.{◌≡◌, ℕ, ℤ, suc, ◌+◌, ◌<◌, refl, sym, ap, ◌∙◌, subst, Result, Ok, Err, None, Option, arith}
 use Rattle.std.proofs.lemmas.Result.{err_from_is_err_and}
 use Rattle.pic_num.specs.Limits.{most_steps, most_value}
 use Rattle.pic_num.specs.Multiplier.{Multiplier}
+use Rattle.pic_num.specs.declared.axis.Axis.{Axis}
+use Rattle.pic_num.specs.Space.{Triple}
+use Rattle.pic_filter.specs.Smoothing.{filtered, filter_in}
 use Rattle.pic_grid.specs.declared.stop.Phase.TheVariants.{Half1, Half2, Electric}
 use Rattle.pic_grid.specs.declared.stop.Stop.{Stop}
 use Rattle.pic_grid.specs.Lattice.{Field, EachAtMost}
@@ -12,6 +15,7 @@ use Rattle.pic_step.specs.declared.stepping.StepStop.{StepStop}
 use Rattle.pic_step.specs.TileFlux.{flux_in}
 use Rattle.pic_step.specs.Keeps.{Keeps}
 use Rattle.pic_step.specs.Kept.{IsTiled, AreTiled, IsKept, seen}
+use Rattle.pic_step.specs.declared.plasma.Plasma.{Plasma}
 use Rattle.pic_step.specs.Plasma.{IsPlasma}
 use Rattle.pic_step.specs.PushOn.{ArePushed}
 use Rattle.pic_step.specs.SerialRun.{Steps}
@@ -22,7 +26,7 @@ use Rattle.pic_step.proofs.ExitLaws.{stops_first, stops_push, stops_second, stop
 use Rattle.pic_step.proofs.KeptLaws.{can_push, next_is}
 use Rattle.pic_step.proofs.OnePartLaws.{whole, whole_is, half_one, full_one, tiled_after, advanced_is, safe_parts, safe_small}
 use Rattle.pic_step.proofs.StepLaws.{IsHalf, is_half, half_safe, pushed_on, IsBefore, second_half, is_before}
-use Rattle.pic_step.proofs.StepLaws.{before_safe, last_step, IsAfter, is_after, sound_after, stepped_after, keeps_after}
+use Rattle.pic_step.proofs.StepLaws.{before_safe, filtered_flux, flux_is, by_filter, last_step, IsAfter, is_after, sound_after, stepped_after, keeps_after}
 use Rattle.pic_step.proofs.stepping.step.Given.{Over}
 use Rattle.pic_step.proofs.stepping.step.Goals as goal
 use Rattle.pic_step.proofs.stepping.step.Goals.{In_ok-b, In-None, In_ok-b-2, In-Ok}
@@ -81,6 +85,10 @@ before_tiled : (g : Over) (c : In_ok-b-2 g) → IsTiled (tiles_map c.state.insid
 before_tiled g c of_b =
     let k = c.state.inside in tiled_after (tiles_map k) k.e c.in_ok-b.b c.in_ok-b-2.b _ c.state.invariant.tiled.of_e of_b c.in_ok-b-2.ensures.0
 
+-- the flux by which E takes its step
+abbrev left_flux : Field → Plasma → Axis → Triple → ℤ
+left_flux b q a = filtered (filter_in q.smooth) b.cells (flux_in q.frame.map q.tiles.items a)
+
 -- and the step of E: the state after the step
 after : (g : Over) (c : In-Ok g) → IsHalf (world c.state.inside) c.in_ok-b.b.values
     → ArePushed (around (half_on (world c.state.inside))) c.in_ok-pushed.pushed.0.frame.map (world c.state.inside).particles
@@ -92,8 +100,10 @@ after g c first free of_b second =
     let q = c.in_ok-pushed.pushed.0 in
     is_after (world k) c.in_ok-b.b.values c.in_ok-b-2.b.values c.in-Ok.e.values q.frame.map q.tiles.items
     (all_particles c.advance_e-e.result.1.tiles.items) first free second c.advance_e-e.ensures.particles
-    (full_one Electric (tiles_map k) k.scales c.in_ok-b-2.b k.e (flux_in q.frame.map q.tiles.items) _ (Ok c.in-Ok.e) c.in-Ok.is
-    of_b c.state.invariant.tiled.of_e c.advance_e-e.ensures.fields)
+    (by_filter (world k) c.in_ok-b-2.b.values q.frame.map q.tiles.items (Ok c.in-Ok.e.values) (filter_in q.smooth) c.in_ok-b-2.b.cells
+    (ap filter_in c.in_ok-pushed.ensures.pushed.smooth) of_b.cells
+    (full_one Electric (tiles_map k) k.scales c.in_ok-b-2.b k.e (left_flux c.in_ok-b-2.b q) _ (Ok c.in-Ok.e) c.in-Ok.is
+    of_b c.state.invariant.tiled.of_e c.advance_e-e.ensures.fields))
 
 -- the state after the step, by its parts
 next : (g : Over) (c : In-Ok g) → record (world c.state.inside) {
@@ -106,7 +116,8 @@ next g c =
     let k = c.state.inside in
     let frame = c.advance_e-e.ensures.frame in
     next_is k.step (k.step + 1) k.scales k.e k.b c.in-Ok.e c.in_ok-b-2.b k.plasma c.advance_e-e.result.1 (omega arith)
-    (ap (λ f. f.map) frame ∙ c.in_ok-pushed.ensures.pushed.map) (ap (λ f. f.kinds) frame ∙ c.in_ok-pushed.ensures.pushed.kinds)
+    (ap (λ f. f.map) frame ∙ c.in_ok-pushed.ensures.pushed.map) (c.advance_e-e.ensures.filter ∙ ap filter_in c.in_ok-pushed.ensures.pushed.smooth)
+    (ap (λ f. f.kinds) frame ∙ c.in_ok-pushed.ensures.pushed.kinds)
 
 pub returns-in_err-b-clause-steps : goal.returns-in_err-b-clause-steps
 returns-in_err-b-clause-steps g c =
@@ -200,7 +211,7 @@ returns-in-Err-clause-steps g c =
     let k = c.state.inside in
     let w = world k in
     let q = c.in_ok-pushed.pushed.0 in
-    let j = flux_in q.frame.map q.tiles.items in
+    let j = left_flux c.in_ok-b-2.b q in
     let at = goal.at.returns-in-Err-clause-steps g c in
     let first = half g at.In_ok-b in
     let tiled = half_tiled g at.In_ok-b in
@@ -208,9 +219,11 @@ returns-in-Err-clause-steps g c =
     let second = before g at.In_ok-b-2 tiled first in
     ap (λ (v : StateView). stepped v.world) (sym c.state.view_is)
     ∙ stops_last w _ first.none (sym free.stop_is) second.none
-    (last_step w c.in_ok-b-2.b.values j (Err _) second free.current_is
+    (last_step w c.in_ok-b-2.b.values (filtered_flux w q.frame.map q.tiles.items) (Err _) second (flux_is w q.frame.map q.tiles.items None free)
+    (by_filter w c.in_ok-b-2.b.values q.frame.map q.tiles.items (Err _) (filter_in q.smooth) c.in_ok-b-2.b.cells
+    (ap filter_in c.in_ok-pushed.ensures.pushed.smooth) (before_tiled g at.In_ok-b-2 tiled).cells
     (full_one Electric (tiles_map k) k.scales c.in_ok-b-2.b k.e j _ (Err _) c.in-Err.is (before_tiled g at.In_ok-b-2 tiled) c.state.invariant.tiled.of_e
-    c.advance_e-e.ensures.fields))
+    c.advance_e-e.ensures.fields)))
 
 -- the step isn't the last that a run may have
 early : (g : Over) (c : In-Ok g) → c.state.inside.step < most_steps

@@ -1,4 +1,5 @@
-use Rattle.pic_verify.proofs.VerdictLaws.{verifies_behind, verifies_head, exact, stops_taken, head_taken, walks_taken}
+use Rattle.pic_dump.proofs.TakenLaws.{stops_taken, head_taken}
+use Rattle.pic_verify.proofs.VerdictLaws.{verifies_behind, verifies_head, exact, walks_taken}
 use Rattle.pic_verify.proofs.ReachedLaws.{stops_reached, reached_head, reached_behind}
 use Rattle.pic_verify.proofs.verifying.verify.Goals as goal
 
@@ -32,8 +33,8 @@ returns-in_err-state-clause-taken g c = head_taken _ _ _ c.in_ok-reader.ensures.
 pub returns-in_err-state-clause-reached : goal.returns-in_err-state-clause-reached
 returns-in_err-state-clause-reached g c = reached_head _ _ _ _ c.in_ok-reader.ensures.reads.answer
 
-pub returns-in_err-nodes-clause-taken : goal.returns-in_err-nodes-clause-taken
-returns-in_err-nodes-clause-taken g c = head_taken _ _ _ c.in_ok-reader.ensures.reads.answer
+pub returns-in_err-room-clause-taken : goal.returns-in_err-room-clause-taken
+returns-in_err-room-clause-taken g c = head_taken _ _ _ c.in_ok-reader.ensures.reads.answer
 
-pub returns-in_err-nodes-clause-reached : goal.returns-in_err-nodes-clause-reached
-returns-in_err-nodes-clause-reached g c = reached_head _ _ _ _ c.in_ok-reader.ensures.reads.answer
+pub returns-in_err-room-clause-reached : goal.returns-in_err-room-clause-reached
+returns-in_err-room-clause-reached g c = reached_head _ _ _ _ c.in_ok-reader.ensures.reads.answer

@@ -2,7 +2,8 @@ use Rattle.std.proofs.Common.{◌≡◌, Some, None, sym, ap, subst, ◌∙◌}
 use Rattle.std.specs.Prelude.{sum}
 use Rattle.pic_record.specs.Layout.{LayoutView, IsLayout}
 use Rattle.pic_dump.specs.NextReads.{HasFrame}
-use Rattle.pic_verify.specs.Verified.{break_of}
+use Rattle.pic_charge.specs.ChargeRoom.{RoomView}
+use Rattle.pic_verify.specs.Verified.{break_of, IsRoomFor}
 use Rattle.pic_verify.proofs.WalkLaws.{follows_none, follows_frame, breaks_frame, ends_records, stops_records}
 use Rattle.pic_verify.proofs.ReachedLaws.{good_none, good_frame, reached_record, reached_frame}
 use Rattle.pic_verify.proofs.verifying.walk.Goals as goal
@@ -13,7 +14,7 @@ records-init g c = record {
   e = c.requires.e;
   b = c.requires.b;
   particles = c.requires.particles;
-  nodes = c.requires.nodes;
+  room = c.requires.room;
   limits = c.requires.limits;
   good = good_none c.args.reader _;
 }
@@ -48,7 +49,7 @@ records-preserved g c =
       e = c.in_ok-behind.ensures.e.cells ∙ before.e ∙ ap (λ (l : LayoutView). l.cells) (sym has.layout);
       b = c.in_ok-behind.ensures.b.cells ∙ before.b ∙ ap (λ (l : LayoutView). l.cells) (sym has.layout);
       particles = c.in_ok-behind.ensures.particles ∙ before.particles ∙ ap (λ (l : LayoutView). sum l.counts) (sym has.layout);
-      nodes = c.first_break.ensures.nodes ∙ before.nodes ∙ ap (λ (l : LayoutView). l.cells) (sym has.layout);
+      room = subst (λ (v : RoomView). IsRoomFor c.in-Frame.behind.layout v) (sym c.first_break.ensures.room) (subst (λ (l : LayoutView). IsRoomFor l c.records.room) (sym has.layout) before.room);
       limits = subst IsLayout (sym has.layout) before.limits;
       good = good_frame _ _ _ _ _ _ _ _ _ _ _ _ before.good before.follows has none;
     }

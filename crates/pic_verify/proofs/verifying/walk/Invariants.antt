@@ -2,6 +2,7 @@
 use Rattle.std.proofs.Common.{◌≡◌, ◌+◌, ◌-◌, length}
 use Rattle.std.specs.Prelude.{sum}
 use Rattle.pic_record.specs.Layout.{IsLayout}
+use Rattle.pic_verify.specs.Verified.{IsRoomFor}
 use Rattle.pic_verify.proofs.WalkLaws.{Follows}
 use Rattle.pic_verify.proofs.ReachedLaws.{AreGood}
 use Rattle.pic_verify.proofs.verifying.walk.Given as goal
@@ -12,7 +13,7 @@ invariant-records g l = record {
   e : l.state.e.cells ≡ l.reader.layout.cells;
   b : l.state.b.cells ≡ l.reader.layout.cells;
   particles : length l.state.particles.items ≡ sum l.reader.layout.counts;
-  nodes : l.nodes.cells ≡ l.reader.layout.cells;
+  room : IsRoomFor l.reader.layout l.room;
   limits : IsLayout l.reader.layout;
   good : AreGood l.initial.reader (g.S.Source.told l.initial.source) l.frame (g.S.Source.told l.source);
 }

@@ -12,5 +12,5 @@ invariant_of-result c =
     let whole : take c.loop-head.head-index heads ≡ heads = ap (λ n. take n heads) (omega (arith, c.loop-head-test.false)) ∙ take-length heads in
     let kinds = c.loop-head.invariant.kinds ∙ ap (map (λ (s : HeadView). s.kind)) (whole ∙ are) in
     let counts = c.loop-head.invariant.counts ∙ ap (map (λ (s : HeadView). s.count)) (whole ∙ are) in
-    rw (c.cells.ensures.value, c.cells.ensures.side, c.steps.ensures.value, c.every.ensures.value, c.scales.ensures, kinds, counts)
+    rw (c.cells.ensures.value, c.cells.ensures.side, c.steps.ensures.value, c.every.ensures.value, c.filter.ensures.value, c.scales.ensures, kinds, counts)
     (layout_fits h c.species.ensures.limits)

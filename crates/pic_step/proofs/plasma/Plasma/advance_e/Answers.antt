@@ -1,28 +1,33 @@
 use Rattle.std.proofs.Common.{◌≡◌, ℕ, ◌<◌, List, length, IsSome, refl, sym, ap, ◌∙◌, subst, arith}
+use Rattle.std.specs.Option.{IfSome}
 use Rattle.std.specs.Vec.{with_items}
 use Rattle.std.proofs.lemmas.List.{with_items_is}
 use Rattle.std.proofs.Math.IntN.{pos}
-use Rattle.pic_num.specs.Limits.{most_value}
+use Rattle.pic_num.specs.declared.axis.Axis.{Axis}
 use Rattle.pic_num.specs.Space.{Triple, triple}
 use Rattle.pic_grid.specs.declared.stop.Phase.TheVariants.{Electric}
 use Rattle.pic_grid.specs.Block.{BlockValues}
 use Rattle.pic_grid.specs.Cells.{IsWithin, count_of}
 use Rattle.pic_grid.specs.Lattice.{Field, IsParts, EachAtMost, value_at, field_of}
 use Rattle.pic_grid.specs.Parts.{ArePartsOf, joined}
+use Rattle.pic_filter.specs.Smoothing.{filtered, filter_in, most_to_smooth}
+use Rattle.pic_filter.proofs.FilteredLaws.{filtered_same}
+use Rattle.pic_filter.proofs.SameLaws.{AreSame}
 use Rattle.pic_field.specs.FieldPhases.{full_of}
 use Rattle.pic_tile.specs.CoreState.{all_particles}
 use Rattle.pic_tile.specs.Directions.{here}
 use Rattle.pic_tile.specs.Tile.{TileValue, parcel_at, tile_in}
 use Rattle.pic_tile.specs.Tiling.{IsMap, cells_of}
+use Rattle.pic_advance.specs.Current.{LiesOn}
 use Rattle.pic_advance.proofs.TakenLaws.{HasBlocks, has_blocks, given_back}
 use Rattle.pic_step.specs.TileFlux.{AreSwapped, AreSpent, flux_in}
-use Rattle.pic_step.proofs.OnePartLaws.{advances_same}
+use Rattle.pic_advance.proofs.SamePhaseLaws.{advances_same}
 use Rattle.pic_step.proofs.PlasmaLaws.{particles_kept, ready_again}
 use Rattle.pic_step.proofs.SwapLaws.{flux_zones, flux_is, flux_small, still_there, swapped_back}
 use Rattle.pic_step.proofs.plasma.Plasma.advance_e.Given.{Over}
 use Rattle.pic_step.proofs.plasma.Plasma.advance_e.Goals as goal
-use Rattle.pic_step.proofs.plasma.Plasma.advance_e.Goals.{After-swap_each_flux, After-of_blocks-current}
-use Rattle.pic_step.proofs.plasma.Plasma.advance_e.Goals.{After-advance_e-e, After-into_blocks-spare, After-swap_each_flux-2}
+use Rattle.pic_step.proofs.plasma.Plasma.advance_e.Goals.{After-swap_each_flux, After-of_blocks-flux}
+use Rattle.pic_step.proofs.plasma.Plasma.advance_e.Goals.{After-drive_e-e, After-into_blocks-spare, After-swap_each_flux-2}
 
 -- the flux moves out of the tiles
 out : (g : Over) (c : After-swap_each_flux g)
@@ -36,8 +41,8 @@ map_is : (g : Over) (c : After-swap_each_flux g) → IsMap c.args.self.frame.map
 map_is g c = subst IsMap c.map-map.ensures.value c.tiles-tiles.ensures.limits
 
 -- and is the lattice of the current
-current_is : (g : Over) (c : After-of_blocks-current g) → length c.swap_each_flux.new.blocks ≡ length c.args.self.spare.items
-    → c.of_blocks-current.result
+current_is : (g : Over) (c : After-of_blocks-flux g) → length c.swap_each_flux.new.blocks ≡ length c.args.self.spare.items
+    → c.of_blocks-flux.result
     ≡ joined (record { n = cells_of c.args.self.frame.map; side = c.args.e.side }) c.args.self.frame.map.tiles c.swap_each_flux.new.blocks
 current_is g c beside =
     let p = c.args.self in
@@ -45,7 +50,7 @@ current_is g c beside =
     let cells : c.cells-cells.result.n ≡ cells_of p.frame.map = c.cells-cells.ensures.value ∙ c.requires.e_cells in
     let parts : triple c.parts-parts.result ≡ p.frame.map.tiles = c.parts-parts.ensures.value ∙ c.requires.parts in
     let items = given_back p.spare.len js p.spare.items p.spare.ok.0 beside in
-    c.of_blocks-current.ensures ∙ (λ i. joined (record { n = cells i; side = c.cells-cells.ensures.side i }) (parts i) (items i))
+    c.of_blocks-flux.ensures ∙ (λ i. joined (record { n = cells i; side = c.cells-cells.ensures.side i }) (parts i) (items i))
 
 pub swap_each_flux-requires-clause-long : goal.swap_each_flux-requires-clause-long
 swap_each_flux-requires-clause-long g c =
@@ -60,10 +65,10 @@ swap_each_flux-requires-clause-there g c =
     let count = had.numbered.count in
     (had.ready i (omega (arith, below, count))).whole here (omega arith))
 
-pub of_blocks-current-requires-clause-zones : goal.of_blocks-current-requires-clause-zones
-of_blocks-current-requires-clause-zones g c =
+pub of_blocks-flux-requires-clause-zones : goal.of_blocks-flux-requires-clause-zones
+of_blocks-flux-requires-clause-zones g c =
     let p = c.args.self in
-    let at = (goal.at.of_blocks-current-requires-clause-zones g c).After-swap_each_flux in
+    let at = (goal.at.of_blocks-flux-requires-clause-zones g c).After-swap_each_flux in
     let js = c.swap_each_flux.new.blocks in
     let cells : c.cells-cells.result.n ≡ cells_of p.frame.map = c.cells-cells.ensures.value ∙ c.requires.e_cells in
     let parts : triple c.parts-parts.result ≡ p.frame.map.tiles = c.parts-parts.ensures.value ∙ c.requires.parts in
@@ -73,52 +78,58 @@ of_blocks-current-requires-clause-zones g c =
     (subst (λ (t : Triple). ArePartsOf (cells_of p.frame.map) t js) (sym parts)
     (flux_zones p.frame.map p.tiles.items c.swap_each_flux.new.tiles p.spare.items js (map_is g at) c.requires.flux.received (out g at) c.requires.flux.spare)))
 
-pub advance_e-e-requires-clause-current_small : goal.advance_e-e-requires-clause-current_small
-advance_e-e-requires-clause-current_small g c κs within =
+pub drive_e-e-requires-clause-flux : goal.drive_e-e-requires-clause-flux
+drive_e-e-requires-clause-flux g c κs within =
+    let at = goal.at.drive_e-e-requires-clause-flux g c in
+    let is = current_is g at.After-of_blocks-flux (out g at.After-swap_each_flux).beside in
+    record {
+      cells = ap (λ (f : Field). f.cells) is ∙ sym c.requires.b_cells;
+      parts = ap (λ (f : Field). f.parts) is ∙ sym c.requires.parts;
+    }
+
+pub drive_e-e-requires-clause-smooth : goal.drive_e-e-requires-clause-smooth
+drive_e-e-requires-clause-smooth g c κs within =
+    subst (λ (t : Triple). IfSome c.args.self.smooth (LiesOn c.args.b.now.cells t)) (sym c.requires.parts)
+    (subst (λ (n : Triple). IfSome c.args.self.smooth (LiesOn n c.args.self.frame.map.tiles)) (sym c.requires.b_cells) c.requires.flux.smooth)
+
+pub drive_e-e-requires-clause-flux_small : goal.drive_e-e-requires-clause-flux_small
+drive_e-e-requires-clause-flux_small g c κs within =
     let p = c.args.self in
-    let at = goal.at.advance_e-e-requires-clause-current_small g c in
+    let at = goal.at.drive_e-e-requires-clause-flux_small g c in
     let one = out g at.After-swap_each_flux in
-    subst (EachAtMost most_value) (sym (current_is g at.After-of_blocks-current one.beside))
-    (flux_small p.frame.map p.tiles.items c.swap_each_flux.new.tiles p.spare.items c.swap_each_flux.new.blocks (map_is g at.After-swap_each_flux)
-    c.requires.flux.received one c.requires.flux.spare c.args.e.side)
-
-pub advance_e-e-requires-clause-current_cells : goal.advance_e-e-requires-clause-current_cells
-advance_e-e-requires-clause-current_cells g c κs within =
-    let at = goal.at.advance_e-e-requires-clause-current_cells g c in
-    ap (λ (f : Field). f.cells) (current_is g at.After-of_blocks-current (out g at.After-swap_each_flux).beside) ∙ sym c.requires.b_cells
-
-pub advance_e-e-requires-clause-parts : goal.advance_e-e-requires-clause-parts
-advance_e-e-requires-clause-parts g c κs within =
-    let at = goal.at.advance_e-e-requires-clause-parts g c in
-    ap (λ (f : Field). f.parts) (current_is g at.After-of_blocks-current (out g at.After-swap_each_flux).beside) ∙ sym c.requires.parts
+    let small = flux_small p.frame.map p.tiles.items c.swap_each_flux.new.tiles p.spare.items c.swap_each_flux.new.blocks (map_is g at.After-swap_each_flux)
+    c.requires.flux.received one c.requires.flux.spare c.args.e.side in
+    subst (EachAtMost most_to_smooth) (sym (current_is g at.After-of_blocks-flux one.beside)) (record {
+      at_most = λ a q inside. let h = small.at_most a q inside in record { size = omega (arith, h.size) };
+    })
 
 -- the tiles are those of the list
 tiles_out : (g : Over) (c : After-swap_each_flux g) → (with_items c.args.self.tiles c.swap_each_flux.new.tiles).items ≡ c.swap_each_flux.new.tiles
 tiles_out g c = with_items_is c.args.self.tiles c.swap_each_flux.new.tiles ((out g c).long ∙ sym c.args.self.tiles.ok.0)
 
 -- the blocks that come back are zeros over the tiles,
-blank_is : (g : Over) (c : After-advance_e-e g) → c.of_blocks-current.result
+blank_is : (g : Over) (c : After-drive_e-e g) → c.of_blocks-flux.result
     ≡ joined (record { n = cells_of c.args.self.frame.map; side = c.args.e.side }) c.args.self.frame.map.tiles c.swap_each_flux.new.blocks
-    → c.advance_e-e.result.1 ≡ field_of c.args.e.side (cells_of c.args.self.frame.map) c.args.self.frame.map.tiles (λ a p. pos 0)
+    → c.drive_e-e.result.1.flux ≡ field_of c.args.e.side (cells_of c.args.self.frame.map) c.args.self.frame.map.tiles (λ a p. pos 0)
 blank_is g c is =
-    c.advance_e-e.ensures.cleared
+    c.drive_e-e.ensures.cleared
     ∙ (λ i. field_of (ap (λ (f : Field). f.side) is i) (ap (λ (f : Field). f.cells) is i) (ap (λ (f : Field). f.parts) is i) (λ a p. pos 0))
 
 has_back : (g : Over) (c : After-into_blocks-spare g) → IsMap c.args.self.frame.map
-    → c.advance_e-e.result.1 ≡ field_of c.args.e.side (cells_of c.args.self.frame.map) c.args.self.frame.map.tiles (λ a p. pos 0)
-    → HasBlocks (cells_of c.args.self.frame.map) c.advance_e-e.result.1 c.into_blocks-spare.result.items
+    → c.drive_e-e.result.1.flux ≡ field_of c.args.e.side (cells_of c.args.self.frame.map) c.args.self.frame.map.tiles (λ a p. pos 0)
+    → HasBlocks (cells_of c.args.self.frame.map) c.drive_e-e.result.1.flux c.into_blocks-spare.result.items
 has_back g c map is =
     let m = c.args.self.frame.map in
-    let cells : c.advance_e-e.result.1.cells ≡ cells_of m = ap (λ (f : Field). f.cells) is in
-    let parts : IsParts c.advance_e-e.result.1.cells c.advance_e-e.result.1.parts =
-    subst (λ (n : Triple). IsParts n c.advance_e-e.result.1.parts) (c.requires.e_cells ∙ sym cells)
+    let cells : c.drive_e-e.result.1.flux.cells ≡ cells_of m = ap (λ (f : Field). f.cells) is in
+    let parts : IsParts c.drive_e-e.result.1.flux.cells c.drive_e-e.result.1.flux.parts =
+    subst (λ (n : Triple). IsParts n c.drive_e-e.result.1.flux.parts) (c.requires.e_cells ∙ sym cells)
     (subst (λ (t : Triple). IsParts c.args.e.cells t) (c.requires.parts ∙ sym (ap (λ (f : Field). f.parts) is)) c.parts-parts.ensures.limits) in
-    has_blocks (cells_of m) c.advance_e-e.result.1 c.into_blocks-spare.result.items cells map.cells parts
+    has_blocks (cells_of m) c.drive_e-e.result.1.flux c.into_blocks-spare.result.items cells map.cells parts
     c.into_blocks-spare.ensures.zones c.into_blocks-spare.ensures.values
 
 back_count : (g : Over) (c : After-into_blocks-spare g)
-    → c.advance_e-e.result.1 ≡ field_of c.args.e.side (cells_of c.args.self.frame.map) c.args.self.frame.map.tiles (λ a p. pos 0)
-    → HasBlocks (cells_of c.args.self.frame.map) c.advance_e-e.result.1 c.into_blocks-spare.result.items
+    → c.drive_e-e.result.1.flux ≡ field_of c.args.e.side (cells_of c.args.self.frame.map) c.args.self.frame.map.tiles (λ a p. pos 0)
+    → HasBlocks (cells_of c.args.self.frame.map) c.drive_e-e.result.1.flux c.into_blocks-spare.result.items
     → length c.into_blocks-spare.result.items ≡ count_of c.args.self.frame.map.tiles
 back_count g c is h = h.zones.count ∙ ap (λ (f : Field). count_of f.parts) is
 
@@ -126,7 +137,7 @@ pub swap_each_flux-requires-2-clause-long : goal.swap_each_flux-requires-2-claus
 swap_each_flux-requires-2-clause-long g c =
     let at = goal.at.swap_each_flux-requires-2-clause-long g c in
     let one = out g at.After-swap_each_flux in
-    let is = blank_is g at.After-advance_e-e (current_is g at.After-of_blocks-current one.beside) in
+    let is = blank_is g at.After-drive_e-e (current_is g at.After-of_blocks-flux one.beside) in
     let h = has_back g at.After-into_blocks-spare (map_is g at.After-swap_each_flux) is in
     ap (λ (bs : List BlockValues). length bs) c.deref_mut-4.ensures.value ∙ back_count g at.After-into_blocks-spare is h
     ∙ sym c.requires.flux.received.numbered.count ∙ sym one.long
@@ -165,7 +176,7 @@ returns-clause-particles g c =
     let at = goal.at.returns-clause-particles g c in
     let one = out g at.After-swap_each_flux in
     let map = map_is g at.After-swap_each_flux in
-    let is = blank_is g at.After-advance_e-e (current_is g at.After-of_blocks-current one.beside) in
+    let is = blank_is g at.After-drive_e-e (current_is g at.After-of_blocks-flux one.beside) in
     let h = has_back g at.After-into_blocks-spare map is in
     let two = back g at.After-swap_each_flux-2 (tiles_out g at.After-swap_each_flux) in
     ap all_particles (tiles_back g at.After-swap_each_flux-2 (two.long ∙ one.long))
@@ -178,7 +189,7 @@ returns-clause-plasma g c =
     let at = goal.at.returns-clause-plasma g c in
     let one = out g at.After-swap_each_flux in
     let map = map_is g at.After-swap_each_flux in
-    let is = blank_is g at.After-advance_e-e (current_is g at.After-of_blocks-current one.beside) in
+    let is = blank_is g at.After-drive_e-e (current_is g at.After-of_blocks-flux one.beside) in
     let h = has_back g at.After-into_blocks-spare map is in
     let two = back g at.After-swap_each_flux-2 (tiles_out g at.After-swap_each_flux) in
     let items = tiles_back g at.After-swap_each_flux-2 (two.long ∙ one.long) in
@@ -187,7 +198,11 @@ returns-clause-plasma g c =
     let long = ap (λ (bs : List BlockValues). length bs)
     (with_items_is c.into_blocks-spare.result c.swap_each_flux-2.new.blocks (two.beside ∙ sym c.into_blocks-spare.result.ok.0))
     ∙ two.beside ∙ back_count g at.After-into_blocks-spare is h ∙ sym c.requires.flux.spare in
-    ready_again p (record p { tiles = tiles; spare = blocks }) c.requires.flux refl refl long refl
+    let smooth = c.drive_e-e.result.1.smooth in
+    let back_smooth : IfSome smooth (LiesOn (cells_of p.frame.map) p.frame.map.tiles) =
+    subst (λ (t : Triple). IfSome smooth (LiesOn (cells_of p.frame.map) t)) c.requires.parts
+    (subst (λ (n : Triple). IfSome smooth (LiesOn n c.args.e.parts)) c.requires.b_cells c.drive_e-e.ensures.smooth) in
+    ready_again p (record p { tiles = tiles; spare = blocks; smooth = smooth }) c.requires.flux refl refl long back_smooth refl
     (subst (AreSpent p.frame.map p.tiles.items) (sym items)
     (swapped_back p.frame.map _ _ _ _ _ _ _ _ c.args.e.side map c.requires.flux.received one two h is))
 
@@ -200,11 +215,17 @@ returns-clause-fields g c =
     let e = c.args.e in
     let at = goal.at.returns-clause-fields g c in
     let one = out g at.After-swap_each_flux in
-    let is = current_is g at.After-of_blocks-current one.beside in
-    advances_same Electric s.e_force b.side b.cells e.parts
-    (λ a q. full_of s b a q (value_at e a q) (value_at c.of_blocks-current.result a q))
-    (λ a q. full_of s b a q (value_at e a q) (flux_in m p.tiles.items a q)) c.advance_e-e.result.0
-    (λ a q within. ap (full_of s b a q (value_at e a q)) (ap (λ (f : Field). value_at f a q) is
+    let is = current_is g at.After-of_blocks-flux one.beside in
+    let same : (a : Axis) → AreSame b.cells (value_at c.of_blocks-flux.result a) (flux_in m p.tiles.items a) = λ a q within.
+    ap (λ (f : Field). value_at f a q) is
     ∙ flux_is m p.tiles.items c.swap_each_flux.new.tiles p.spare.items c.swap_each_flux.new.blocks (map_is g at.After-swap_each_flux)
-    c.requires.flux.received one c.requires.flux.spare e.side a q (subst (IsWithin q) c.requires.b_cells within)))
-    c.advance_e-e.ensures.fields
+    c.requires.flux.received one c.requires.flux.spare e.side a q (subst (IsWithin q) c.requires.b_cells within) in
+    let filter = filter_in p.smooth in
+    advances_same Electric s.e_force b.side b.cells e.parts
+    (λ a q. full_of s b a q (value_at e a q) (filtered filter b.cells (value_at c.of_blocks-flux.result a) q))
+    (λ a q. full_of s b a q (value_at e a q) (filtered filter b.cells (flux_in m p.tiles.items a) q)) c.drive_e-e.result.0
+    (λ a q within. ap (full_of s b a q (value_at e a q)) (filtered_same filter b.cells _ _ (same a) q within))
+    c.drive_e-e.ensures.fields
+
+pub returns-clause-filter : goal.returns-clause-filter
+returns-clause-filter g c = c.drive_e-e.ensures.filter

@@ -1,0 +1,73 @@
+//! A step of E by the current of a push, filtered where there is room for that.
+
+ghost use Rattle.std.specs.Prelude.{◌≡◌, pos, IfSome};
+ghost use Rattle.pic_num.specs.Limits.{most_value};
+ghost use Rattle.pic_grid.specs.Lattice.{EachAtMost, field_of, value_at};
+ghost use Rattle.pic_filter.specs.Smoothing.{filtered, filter_in, most_to_smooth};
+ghost use Rattle.pic_field.specs.FieldPhases.{full_of};
+ghost use Rattle.pic_advance.specs.Current.{LiesOn};
+ghost use Rattle.pic_advance.specs.Phases.{Advances};
+
+use crate::filtering::filter_current;
+use crate::full_step::advance_e;
+use pic_grid::{Lattice, Phase, Stop};
+use pic_num::Scales;
+use pic_team::Team;
+use std::thread::Threads;
+
+/// The current of a push, and where it is filtered room for that: a lattice of the same cells and parts.
+#[derive(Drop)]
+pub struct Current {
+    pub flux: Lattice,
+    pub smooth: Option<Lattice>,
+}
+
+/// A step of E, from B and the current, which is filtered where there is room for that, by the workers
+/// of a team. No memory is taken. The current is handed back as a lattice of zeros, with its room, also
+/// where the answer is a stop.
+///
+/// # Errors
+/// The stop of the least place (the axis first, then z, y, x) whose new value is above 2^90 in
+/// size, or else its force value above 2^44.
+pub fn drive_e<H: Threads + Sync, G>(
+    team: &Team<H, G>,
+    scales: &Scales,
+    b: &Lattice,
+    current: Current,
+    e: Lattice,
+) -> (Result<Lattice, Stop>, Current)
+    requires cells { e.cells ≡ b.now.cells }
+    requires flux { LiesOn b.now.cells e.parts current.flux }
+    requires smooth { IfSome current.smooth (LiesOn b.now.cells e.parts) }
+    requires flux_small { EachAtMost most_to_smooth current.flux }
+    requires b_small { EachAtMost most_value b.now }
+    requires e_small { EachAtMost most_value e }
+    ensures fields { Advances Phase.Electric scales.now.e_force b.now.side b.now.cells e.parts
+        (λ a p. full_of scales.now b.now a p (value_at e a p)
+        (filtered (filter_in current.smooth) b.now.cells (value_at current.flux a) p)) result.0 }
+    ensures cleared { result.1.flux
+        ≡ field_of current.flux.side current.flux.cells current.flux.parts (λ _ _. pos 0) }
+    ensures filter { filter_in result.1.smooth ≡ filter_in current.smooth }
+    ensures smooth { IfSome result.1.smooth (LiesOn b.now.cells e.parts) }
+{
+    let Current { flux, smooth } = current;
+    match smooth {
+        None => {
+            let (e, blank) = advance_e(team, scales, b, flux, e);
+            let current = Current {
+                flux: blank,
+                smooth: None,
+            };
+            (e, current)
+        }
+        Some(room) => {
+            let (filtered, blank) = filter_current(team, flux, room);
+            let (e, room) = advance_e(team, scales, b, filtered, e);
+            let current = Current {
+                flux: blank,
+                smooth: Some(room),
+            };
+            (e, current)
+        }
+    }
+}

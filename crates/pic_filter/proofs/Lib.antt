@@ -1,0 +1,14 @@
+pub mod AlongLaws
+pub mod DivergenceLaws
+pub mod TotalLaws
+pub mod SizeLaws
+pub mod SameLaws
+pub mod FilteredLaws
+pub mod FillLaws
+pub mod RunLaws
+pub mod RowLaws
+pub mod BlockLaws
+pub mod NodeLaws
+pub mod KeptLaws
+pub mod LineLaws
+pub mod PlaceLaws

@@ -1,0 +1,3 @@
+pub mod Smoothing
+pub mod Runs
+pub mod Kept

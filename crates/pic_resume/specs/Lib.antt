@@ -1,0 +1,4 @@
+pub mod CarryStops
+pub mod Carry
+pub mod Carries
+pub mod Behind

@@ -1,0 +1,12 @@
+use Rattle.std.proofs.Common.{sym, refl}
+use Rattle.pic_walk.specs.Walk.{optional}
+use Rattle.pic_walk.proofs.WalkLaws.{given_some, given_none}
+use Rattle.pic_walk.proofs.tables.optional_whole.Goals as goal
+
+pub returns-in-Some-clause-walks : goal.returns-in-Some-clause-walks
+unfolding optional
+returns-in-Some-clause-walks c = given_some _ _ _ _ _ (sym c.in-Some.ensures) (rw c.new.ensures.path at c.read_whole.ensures.walks)
+
+pub returns-in-None-clause-walks : goal.returns-in-None-clause-walks
+unfolding optional
+returns-in-None-clause-walks c = given_none _ _ _ _ (sym c.in-None.ensures) (record { answer = refl })
