@@ -13,7 +13,8 @@ from collections import Counter
 from decks import HOME, plain_text
 
 sys.path.insert(0, str(HOME / "examples"))
-from compare import Model, random_deck
+from compare import Model
+from random_decks import random_deck
 
 
 def main(count, kind=""):

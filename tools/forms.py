@@ -9,7 +9,8 @@ import answers
 from verdicts import MOST_FILTER, MOST_VERSION
 
 sys.path.insert(0, str(Path(__file__).parents[1] / "examples"))
-from compare import Model, differences, random_deck, scaled
+from compare import Model, differences, scaled
+from random_decks import random_deck
 
 NAMES = "abcdefgh", "e", "ion", "S_1", "x" * 32, "A9_"
 FACTORS = 0, 1, -1, 3, 2**20, 2**31 - 1, 1 - 2**31

@@ -22,7 +22,8 @@ from long import deck_of, species, text_of
 from program import HOME, Program, Run, Test, chosen_program, with_steps
 
 sys.path[:0] = [str(HOME / "examples"), str(HOME / "python")]
-from compare import KINDS, Model, random_deck
+from compare import Model
+from random_decks import KINDS, random_deck
 
 WORKERS = 1, 2, 3, 5, 64
 MOST_TILES = 512

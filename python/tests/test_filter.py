@@ -5,7 +5,8 @@ import random
 import unittest
 
 import answers
-from compare import KINDS, Model, random_deck
+from compare import Model
+from random_decks import KINDS, random_deck
 from tests.test_program import HOME, call, changed, needs_program
 from verdicts import verify
 

@@ -4,7 +4,8 @@ import io
 import re
 import unittest
 
-from compare import Model, random_deck
+from compare import Model
+from random_decks import random_deck
 
 from pictools.dump import DumpError
 from pictools.thin import thin
