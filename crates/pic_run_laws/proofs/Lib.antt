@@ -14,6 +14,8 @@ pub mod StepStops
 pub mod LoadedLaws
 pub mod StartLaws
 pub mod RunsAreVerified
+pub mod OtherDecks
+pub mod ProbesAreColumns
 pub mod ResumeLaws
 pub mod ResumesAreRuns
 pub mod CutTextsLaws

@@ -3,4 +3,5 @@ pub mod FramesGiveStates
 pub mod RunsAreRead
 pub mod RunsAreVerified
 pub mod ResumesAreRuns
+pub mod ProbesAreColumns
 pub mod CutTexts

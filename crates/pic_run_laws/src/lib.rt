@@ -7,5 +7,6 @@ mod laws;
 
 pub use kept::{keep_deck, keep_read};
 pub use laws::{
-    frames_give_states, law_of_the_cut, resumes_are_runs, runs_are_read, runs_are_verified,
+    frames_give_states, law_of_the_cut, probes_are_columns, resumes_are_runs, runs_are_read,
+    runs_are_verified,
 };
