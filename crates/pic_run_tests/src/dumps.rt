@@ -1,6 +1,7 @@
 //! Dumps that are verified, and the demonstration.
 
-use crate::trial::{CALM, FILTERED, Faults, PAIR, PAIR_OF_12, call, check};
+use crate::trial::{call, check};
+use pic_trial::{CALM, FILTERED, Faults, PAIR, PAIR_OF_12};
 use std::process::Abort;
 use std::thread::Threads;
 
