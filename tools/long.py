@@ -172,9 +172,34 @@ def numbers_of(deck):
         yield ["species", place, name, "stream"], (0, BIGGEST)
 
 
+def deck_of_version_2():
+    """A small deck with a displaced species, loops and probes."""
+    moved = species("moved", -1, displace={"of": "points", "by": [5, -7, 0], "v": [0, 1, 2]})
+    deck = deck_of([4, 2, 3], [2, 1, 1], 2, 1, species=[species("points", 1, points=[[255, 0, 511, 1, 2, 3], [9, 8, 7, 0, 0, 0]]), moved],
+                   drive=[{"axis": 0, "cell": [3, 1, 2], "wave": [5, -6]}], probe={"places": [[0, 0, 0, 0, 0]], "ids": [1, 3]})
+    return deck | {"version": 2, "grid": deck["grid"] | {"sub": 8}, "run": deck["run"] | {"filter": 1}}
+
+
+def numbers_of_2(deck):
+    """The numbers that version 2 alone has."""
+    side, cells = 2 ** deck["grid"]["sub"], deck["grid"]["cells"]
+    yield ["grid", "sub"], (8, 14)
+    yield ["run", "filter"], (0, 1)
+    for n in range(3):
+        yield ["species", 1, "displace", "by", n], (-side, side)
+        yield ["species", 1, "displace", "v", n], (-4096 * side, 4096 * side)
+        yield ["drive", 0, "cell", n], (0, cells[n] - 1)
+        yield ["probe", "places", 0, 2 + n], (0, cells[n] - 1)
+    yield ["drive", 0, "axis"], (0, 2)
+    yield ["drive", 0, "wave", 1], (-(2**60), 2**60)
+    yield ["probe", "places", 0, 0], (0, 1)
+    yield ["probe", "places", 0, 1], (0, 2)
+    yield ["probe", "ids", 1], (0, 3)
+
+
 def is_brief(deck):
     """Whether the model runs a deck in seconds."""
-    counts = [s.get("lattice", {}).get("count", [1]) for s in deck["species"]] + [[deck["species"][2]["random"]["count"]]]
+    counts = [s.get("lattice", {}).get("count", [1]) + [s.get("random", {}).get("count", 1)] for s in deck["species"]]
     return deck["run"]["steps"] < 100 and max(map(max, counts)) < 1000
 
 
@@ -186,10 +211,17 @@ def limits(program, steps):
             species("random", 0, random={"count": 2} | drawn(1, [0, 0, 0], 5)), species("pair", 0, pair={"of": "random"} | drawn(3, [1, 2, 3], 4))]
     field = {"e": [0, 0, 0], "b": [1, 2, 3], "edges": [[0, 0, 0, 0, 0]], "faces": [[1, 0, 0, 0, 5]]}
     deck = deck_of([4, 4, 4], [2, 2, 2], 2, 1, field=field, species=four)
+    at_limits(program, "a deck", deck, numbers_of)
+    at_limits(program, "version 2 alone", deck_of_version_2(), numbers_of_2)
+    lists(program, deck)
+    lists_of_2(program, deck_of_version_2())
+
+
+def at_limits(program, what, deck, numbers):
     force = deck | {"scale": deck["scale"] | {"e_force": [0, 0], "b_force": [0, 0]}}
-    at, beyond = Test("run or check, each number of a deck at either limit"), Test("check, each number of a deck one beyond either limit")
-    for path, (low, high) in numbers_of(deck):
-        base = force if path[0] == "field" else deck
+    at, beyond = Test(f"run or check, each number of {what} at either limit"), Test(f"check, each number of {what} one beyond either limit")
+    for path, (low, high) in numbers(deck):
+        base = force if path[0] in ("field", "drive") else deck
         for value in low, high:
             made = changed(base, path, value)
             text, word = text_of(made), "run" if is_brief(made) else "check"
@@ -202,7 +234,21 @@ def limits(program, steps):
             beyond.case(f"{path} {value}", fits, ended, b" ".join(ended[2].split()[:3]).decode())
     at.end()
     beyond.end()
-    lists(program, deck)
+
+
+def lists_of_2(program, deck):
+    test = Test("check and probe, loops, waves and probes at their limits and beyond")
+    loop, probe = deck["drive"][0], deck["probe"]
+    made = [changed(deck, ["drive"], [loop] * number) for number in (0, 1, 16, 17)]
+    made += [changed(deck, ["drive", 0, "wave"], [n - 3 for n in range(number)]) for number in (0, 1, 64, 65)]
+    made += [changed(deck, ["probe", "places"], probe["places"] * number) for number in (0, 64, 65)]
+    made += [changed(deck, ["probe", "ids"], [n % 4 for n in range(number)]) for number in (0, 64, 65)]
+    made += [changed(deck, ["species"], []), changed(deck, ["probe"], {}), changed(deck, ["probe"], {"ids": [3, 3, 0]})]
+    for n, each in enumerate(made):
+        for word in "check", "probe":
+            ended, wanted = program.call(word, given=text_of(each)), getattr(answers, word)(text_of(each))
+            test.case(f"deck {n}, {word}", ended == wanted, ended)
+    test.end()
 
 
 def lists(program, deck):

@@ -18,7 +18,7 @@ BYTES_A_SECOND = 600e6
 def dump_bytes(deck: Deck) -> int:
     """The bytes of the whole dump."""
     frames = frames_due(deck.steps, deck.every)
-    return header_length(deck.version, len(deck.species)) + frames * frame_length(deck.cells, deck.particles) + 6
+    return header_length(deck.version, len(deck.species), deck.loops) + frames * frame_length(deck.cells, deck.particles) + 6
 
 
 def seconds(deck: Deck) -> float:

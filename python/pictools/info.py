@@ -6,7 +6,8 @@ from math import pi, prod
 
 from pictools import note, units
 from pictools.dump import Dump, Header, Multiplier, Species
-from pictools.header import frame_length
+from pictools.header import Loop, frame_length
+from pictools.measure import AXES
 from pictools.versions import FILTER_WEIGHT
 
 FILTERED = f"1: the current is smoothed by weights of {FILTER_WEIGHT}, so E and B are {FILTER_WEIGHT} times as large"
@@ -33,6 +34,7 @@ def facts(dump: Dump) -> list[tuple[str, str]]:
     lines += [("its run", said)] if (said := note.said(dump)) else []
     lines += [(f"species {s.name}", kind(s)) for s in header.species]
     lines += [("filter", FILTERED)] if header.filter else []
+    lines += [(f"loop {number}", driven(loop)) for number, loop in enumerate(header.loops)]
     lines += [(name, factor(getattr(header, name))) for name in ("e_to_b", "b_to_e", "e_force", "b_force")]
     return lines + physics(dump)
 
@@ -47,6 +49,13 @@ def kind(species: Species) -> str:
     still = "" if species.kick.n or species.turn.n else ", feels no field"
     return (f"{species.count} of charge {species.charge}, mass {species.mass}, kick {species.kick.value:g}, "
             f"turn {species.turn.value:g}{still}")
+
+
+def driven(loop: Loop) -> str:
+    """A driven loop in a line."""
+    most, steps = max(map(abs, loop.wave)), len(loop.wave)
+    return (f"around the face of the cell {loop.cell} across {AXES[loop.axis]}, by a wave of {steps} step{'s' * (steps > 1)}, up to "
+            f"{most:.4g} in size")
 
 
 def size(number: float) -> str:

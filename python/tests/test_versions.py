@@ -82,7 +82,7 @@ class Dumps(unittest.TestCase):
     def test_damage(self):
         data = model_bytes(FINE)
         for place, new, reason in ((7, b"3", "PICDUMP3"), (7, b"0", "PICDUMP0"), (60, b"\0\0\0\7", "sub"), (60, b"\0\0\0\x0f", "sub"),
-                                   (64, b"\0\0\0\2", "filter"), (68, b"\0\0\0\1", "loops"), (72, b"\0\0\0\x11", "species"),
+                                   (64, b"\0\0\0\2", "filter"), (68, b"\0\0\0\x11", "loops"), (72, b"\0\0\0\x11", "species"),
                                    (8, b"\0\0\0\x81", "cells"), (132, b"\0\x40\0\1", "particles")):
             with self.assertRaises(DumpError) as fault:
                 Dump.stream(io.BytesIO(data[:place] + new + data[place + len(new) :]))
