@@ -9,6 +9,7 @@ needs Python 3.11 and a C compiler (cc).
 """
 
 import argparse
+import random
 import subprocess
 import sys
 import tempfile
@@ -74,12 +75,22 @@ def agree_exactly(program, test, name, deck, workers):
     test.end()
 
 
+def loops(seed, cells, lengths):
+    """Loops at random faces, with waves of so many numbers."""
+    dice = random.Random(seed)
+    return [{"axis": n % 3, "cell": [dice.randrange(c) for c in cells], "wave": [dice.randint(-10**11, 10**11) for _ in range(length)]}
+            for n, length in enumerate(lengths)]
+
+
 def agree_with_model(program, test, name, deck, workers):
     text = text_of(deck)
-    wanted = answers.run(text)
+    wanted, lines = answers.run(text), answers.probe(text) if "probe" in deck else None
     for count in workers:
         ended = program.call("run", "--workers", str(count), given=text)
         test.case(f"{name}, {count} workers", ended == wanted, ended)
+        if lines:
+            ended = program.call("probe", "--workers", str(count), given=text)
+            test.case(f"{name}, probed, {count} workers", ended == lines, ended)
     test.case(f"{name}, verified", program.call("verify", given=wanted[1]) == answers.verify(wanted[1]), wanted, "verified")
     test.end()
 
@@ -97,6 +108,23 @@ def long(program, steps):
     agree_exactly(program, Test(f"{steps // 20} steps of the same, 2 and 4 workers"), "long", few, [2, 4])
     brief = deck | {"run": {"steps": steps // 500, "every": max(1, steps // 10000)}}
     agree_with_model(program, Test(f"{steps // 500} steps of the same, byte for byte, 1 and 3 workers"), "long", brief, [1, 3])
+    driven = brief | {"version": 2, "grid": deck["grid"] | {"sub": 12}, "drive": loops(3, deck["grid"]["cells"], [7, 64, 1])}
+    agree_with_model(program, Test(f"{steps // 500} steps of the same with three loops, byte for byte, 1 and 3 workers"), "driven", driven, [1, 3])
+
+
+def of_all_devices():
+    """A deck with displaced species, as many loops as there may be, each with a wave of 64 numbers, and as many probes."""
+    cells, dice = [6, 4, 4], random.Random(9)
+    held = [species("ion", 2, random={"count": 40} | drawn(5, [0, 0, 0], 2**12))]
+    # A way from drawn particles, from paired ones, from pairs of displaced ones, and from displaced ones, beside a pair of these.
+    for name, charge, of, by in (("a", -2, "ion", [4096, -4096, 1]), ("b", 3, "ion", None), ("c", -3, "b", [-2048, 0, 4096]), ("d", 1, "a", None),
+                                 ("e", -1, "d", [-4095, 7, -4096]), ("f", -2, "a", None), ("g", 2, "a", [0, 0, 4096])):
+        source = {"displace": {"of": of, "by": by, "v": [dice.randint(-2**20, 2**20) for _ in range(3)]}}
+        held.append(species(name, charge, **source if by else {"pair": {"of": of} | drawn(6, [0, 0, 0], 2**12)}))
+    places = [[dice.randrange(2), dice.randrange(3), *(dice.randrange(c) for c in cells)] for _ in range(64)]
+    probe = {"places": places, "ids": [dice.randrange(320) for _ in range(64)]}
+    deck = deck_of(cells, [3, 2, 2], 20, 7, species=held, drive=loops(4, cells, [64] * 16), probe=probe)
+    return deck | {"version": 2, "grid": deck["grid"] | {"sub": 12}, "run": deck["run"] | {"filter": 1}}
 
 
 def wide(program, steps):
@@ -116,6 +144,7 @@ def wide(program, steps):
                  species(f"P_{n}", n - 1, pair={"of": f"S_{n}".ljust(32, "x")} | drawn(n, [0, 0, n], 2**10))]
     deck = deck_of([4, 6, 5], [2, 3, 1], 20, 7, species=many)
     agree_with_model(program, Test("20 steps of 16 species from lattices, random ones and pairs, 1, 2, 64 workers"), "species", deck, [1, 2, 64])
+    agree_with_model(program, Test("20 steps of 4 displaced species, 16 loops, 128 probes, 1, 3, 64 workers"), "devices", of_all_devices(), [1, 3, 64])
     half = 524288
     most = [species("e", -1, random={"count": half} | drawn(1, [0, 0, 0], 2**18)), species("i", 1, pair={"of": "e"} | drawn(2, [0, 0, 0], 9))]
     deck = deck_of([64, 64, 64], [8, 8, 8], 3, 3, species=most)
