@@ -8,7 +8,7 @@ from pictools.deck import Deck
 from pictools.header import frame_length, frames_due, header_length
 from pictools.info import size
 
-# README, "What it costs": seconds on one thread of the machine named there.
+# bench/RESULTS.md, "In short": seconds on one thread of the machine named there.
 PARTICLE_STEP = 0.2e-6
 CELL_STEP = 0.08e-6
 CELL_STEP_BESIDE_PARTICLES = 0.18e-6
