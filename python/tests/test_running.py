@@ -250,11 +250,19 @@ class Running(Folder):
         self.assertEqual(call("verify", given=(self.folder / "a.dump").read_bytes())[0], 0)
 
     def test_without_tqdm(self):
+        """A line says so where there would be a bar, on a terminal, and nowhere else."""
         (self.folder / "tqdm.py").write_text("raise ModuleNotFoundError('no', name='tqdm')\n")
         self.deck(Plasma(plasma_frequency=0.1, cells=(4, 2, 2), particles_a_cell=2, steps=4))
         done = self.call("run", "a.toml", "-o", "a.dump")
         self.assertEqual(done.returncode, 0)
-        self.assertTrue(done.stderr.startswith("pictools: no progress is shown: that needs tqdm; on Debian it is python3-tqdm\n"))
+        self.assertRegex(done.stderr, r"^a\.dump: done 4, ")
+        reader, terminal = pty.openpty()
+        self.addCleanup(os.close, reader)
+        words = [sys.executable, "-m", "pictools", "run", "a.toml", "-o", "b.dump"]
+        done = subprocess.run(words, stderr=terminal, cwd=self.folder, env=self.environment, timeout=600)
+        os.close(terminal)
+        self.assertEqual(done.returncode, 0)
+        self.assertTrue(os.read(reader, 1000).startswith(b"pictools: no progress is shown: that needs tqdm; on Debian it is python3-tqdm\r\n"))
 
     @unittest.skipUnless(importlib.util.find_spec("matplotlib"), "matplotlib isn't there")
     def test_pictures_name_the_note(self):

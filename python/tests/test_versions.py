@@ -61,7 +61,7 @@ class Decks(unittest.TestCase):
             self.assertAlmostEqual(units.light_speed(header), 0.4, 6)
             self.assertAlmostEqual(units.thermal_speed(frame), 0.05, 2)
             self.assertAlmostEqual(units.gyration(header, header.species[0], frame.b[0].mean()), -0.2, 4)
-            self.assertLess(abs(frame.table()["x"].max() - 8), 0.2)
+            self.assertLess(abs(frame.particles["position"][:, 0].max() / 2**sub - 8), 0.2)
             self.assertIn(f"{2**sub} sub-cells a cell along each axis, by version 2", "\n".join(info.info(dump)))
 
     def test_a_wave_grows_alike_for_all_sides(self):
