@@ -4,3 +4,5 @@ pub mod NoneLaws
 pub mod AddedLaws
 pub mod StartLaws
 pub mod AnswerLaws
+pub mod CoupleSums
+pub mod CoupleLaws

@@ -40,7 +40,7 @@ one_answer : {t : Bool} → t ≡ true → t ≡ false → ⊥
 one_answer {t} affirmed denied = cc
 
 -- a particle of a species that isn't displaced has no way
-no_way_by : (ss : List Species) (ps : List Particle) (x : Particle) (f : Fill) → is_displacement f ≡ false → way_by ss ps x f ≡ None
+pub no_way_by : (ss : List Species) (ps : List Particle) (x : Particle) (f : Fill) → is_displacement f ≡ false → way_by ss ps x f ≡ None
 no_way_by ss ps x (Points points) h = refl
 no_way_by ss ps x (Lattice first gap count v) h = refl
 no_way_by ss ps x (Random count seed stream drift spread) h = refl
@@ -69,7 +69,7 @@ no_current side n way (x ∷ xs) none a p = (λ t. no_flux (none x) t +ℤ no_cu
     no_flux : way x ≡ None → wrapped n (way_flux side (way x) a) p ≡ pos 0
     no_flux e = ap (λ (o : Option Way). wrapped n (way_flux side o a) p) e ∙ wrapped-zero n p
 
-filtered_zero : (filter : ℕ) (n p : Triple) → filtered filter n (λ q. pos 0) p ≡ pos 0
+pub filtered_zero : (filter : ℕ) (n p : Triple) → filtered filter n (λ q. pos 0) p ≡ pos 0
 unfolding filtered smoothed smoothed_along
 filtered_zero filter n p = go (filter == 0)
   where

@@ -1,1 +1,2 @@
 pub mod Displace
+pub mod Couples

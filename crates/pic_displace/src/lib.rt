@@ -7,4 +7,4 @@ mod laws;
 
 pub use displacing::displace;
 pub use fault::DisplaceFault;
-pub use laws::law_of_displaced_start;
+pub use laws::{law_of_couples, law_of_displaced_start};
