@@ -19,3 +19,4 @@ pub mod ProbesAreColumns
 pub mod ResumeLaws
 pub mod ResumesAreRuns
 pub mod CutTextsLaws
+pub mod NeverGauss

@@ -5,3 +5,4 @@ pub mod RunsAreVerified
 pub mod ResumesAreRuns
 pub mod ProbesAreColumns
 pub mod CutTexts
+pub mod NeverGauss

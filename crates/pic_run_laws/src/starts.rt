@@ -1,0 +1,11 @@
+//! A law of how runs begin. It is the contract of a function that does nothing.
+
+ghost use Rattle.pic_run_laws.specs.NeverGauss.{CouplesAreNeverGauss};
+
+/// Where the source gives a deck that says no E and whose species come in disjoint couples, one
+/// named and one displaced from it, no command that takes the deck answers that it doesn't meet
+/// Gauss's law.
+#[tactic(auto, using(crate::proofs::NeverGauss::couples_are_never_gauss))]
+pub fn couples_are_never_gauss()
+    ensures { CouplesAreNeverGauss }
+{}
