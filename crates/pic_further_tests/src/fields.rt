@@ -9,13 +9,14 @@ pub type Value = ([u32; 3], [i128; 3]);
 
 // what some cells have at a place, and 0 where none of them is the place's
 fn value_in(values: &[Value], axis: Axis, cell: [u32; 3]) -> i128 {
-    match values.iter().find(|value| value.0 == cell) {
-        Some((_, [x, y, z])) => match axis {
-            Axis::X => *x,
-            Axis::Y => *y,
-            Axis::Z => *z,
-        },
-        None => 0,
+    let [x, y, z] = match values.iter().find(|value| value.0 == cell) {
+        Some(value) => value.1,
+        None => [0; 3],
+    };
+    match axis {
+        Axis::X => x,
+        Axis::Y => y,
+        Axis::Z => z,
     }
 }
 
