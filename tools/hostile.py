@@ -183,7 +183,7 @@ def pipes(program):
         stopped = status == 5 and report in may or status == 0 and length + PAGE >= len(run.dump)
         test.case(f"{length} bytes", stopped and got == run.dump[:length], ended)
     test.end()
-    test = Test("run, the pipe of the report closed; check, verify, demo, resume, refusals, usage with their pipe closed")
+    test = Test("run, the pipe of the report closed; check, probe, verify, demo, resume, refusals, usage with their pipe closed")
     for name, words, given, stream, left in closed_calls(program, run):
         reader, writer = os.pipe()
         os.close(reader)
@@ -225,7 +225,7 @@ def limited_file(program, run, length, stream):
 
 def disks(program):
     run = Run(program, "demo_7")
-    test = Test("run, check, verify, demo, resume, refusals, usage with a stream on /dev/full")
+    test = Test("run, check, probe, verify, demo, resume, refusals, usage with a stream on /dev/full")
     for name, words, given, stream, left in closed_calls(program, run):
         with open("/dev/full", "wb") as full:
             ended = program.call(*words, given=given, **{stream: full})
