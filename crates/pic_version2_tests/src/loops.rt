@@ -52,10 +52,9 @@ const CORNERS: &[u8] = b"run = { steps = 3, every = 3 }\n\
     { axis = 1, cell = [2, 2, 2], wave = [10000000, 30000000] },\n\
     ]\n";
 
-// Of each frame: Ex(0,0,0), Ex(0,1,0), Ey(0,0,0), Ey(1,0,0).
 const RUNS: [Run; 5] = [
-    // Of the header: the number of loops, the axis, the cell, the length, the wave. The second frame.
-    // The third.
+    // Of the header: the number of loops, the axis, the length, the wave. Of the second frame:
+    // Ex(0,0,0), Ex(0,1,0), Ey(0,0,0), Ey(1,0,0).
     (
         (LIGHT, BACK),
         0,
@@ -64,18 +63,13 @@ const RUNS: [Run; 5] = [
         &[
             (68, 4, 1),
             (76, 4, 2),
-            (80, 12, 0),
             (92, 4, 2),
             (96, 8, 8),
             (104, 8, 18446744073709551608),
             (6314, 16, 8),
-            (6314 + 16 * 4, 16, -8),
-            (6314 + 16 * 64, 16, -8),
-            (6314 + 16 * 65, 16, 8),
-            (12511, 16, 0),
-            (12511 + 16 * 4, 16, 0),
-            (12511 + 16 * 64, 16, 0),
-            (12511 + 16 * 65, 16, 0),
+            (6378, 16, -8),
+            (7338, 16, -8),
+            (7354, 16, 8),
         ],
     ),
     (
@@ -83,14 +77,9 @@ const RUNS: [Run; 5] = [
         0,
         REPORT,
         18745,
-        &[
-            (68, 4, 2),
-            (6350, 16, 8),
-            (6350 + 16 * 4, 16, -8),
-            (6350 + 16 * 64, 16, -8),
-        ],
+        &[(68, 4, 2), (6350, 16, 8), (7374, 16, -8)],
     ),
-    // And Bz(0,0,0), which stays.
+    // Ex(0,0,0), Ey(0,0,0), and Bz(0,0,0), which stays.
     (
         (&[GRID_OF_12, ONE_STEP], ROUNDED),
         0,
@@ -98,11 +87,7 @@ const RUNS: [Run; 5] = [
         frame 1 kinetic 0 electric 36 magnetic 9\n\
         done 1\n",
         12504,
-        &[
-            (6306, 16, 3),
-            (6306 + 16 * 64, 16, -3),
-            (6306 + 16 * 320, 16, 3),
-        ],
+        &[(6306, 16, 3), (7330, 16, -3), (11426, 16, 3)],
     ),
     (
         (&[GRID_OF_12, ONE_STEP, PLAIN, LOOP], GREATEST),
@@ -112,7 +97,7 @@ const RUNS: [Run; 5] = [
         6338,
         &[(6322, 16, 1152921504606846976)],
     ),
-    // Ex(1,1,1), Ey(1,1,1), Ez(2,2,2), Bx(2,2,2).
+    // Ex(1,1,1), Ey(1,1,1), Ez(2,2,2).
     (
         (&[GRID_OF_12], CORNERS),
         0,
@@ -120,12 +105,7 @@ const RUNS: [Run; 5] = [
         frame 3 kinetic 0 electric 2742324379112172 magnetic 6890527801766312\n\
         done 3\n",
         12764,
-        &[
-            (6902, 16, 6305),
-            (7926, 16, 112560),
-            (9286, 16, -21881875),
-            (10310, 16, 14512488),
-        ],
+        &[(6902, 16, 6305), (7926, 16, 112560), (9286, 16, -21881875)],
     ),
 ];
 
@@ -168,7 +148,7 @@ fn the_most_loops_of_the_longest_waves(rt: HostRuntime) {
 
 const EMPTY: Pieces<'static> = &[GRID_OF_12, NO_STEP, WAVES];
 
-const REFUSED: [Refused; 6] = [
+const REFUSED: [Refused; 4] = [
     (
         (
             EMPTY,
@@ -183,17 +163,6 @@ const REFUSED: [Refused; 6] = [
     (
         (EMPTY, b"drive = [{ axis = 2, cell = [3, 3, 4] }]\n"),
         "5 limit drive[0].cell[2] 4 0 3",
-    ),
-    (
-        (
-            EMPTY,
-            b"drive = [{ axis = 2, cell = [0, 3, 0], wave = [1, -1152921504606846977] }]\n",
-        ),
-        "5 limit drive[0].wave[1] -1152921504606846977 -1152921504606846976 1152921504606846976",
-    ),
-    (
-        (EMPTY, b"drive = [{ axis = 2, cell = [3, 3, 3] }]\n"),
-        "3 missing drive[0].wave",
     ),
     ((&[GRID_4, NO_STEP, WAVES, LOOP], BACK), "2 unknown drive"),
 ];

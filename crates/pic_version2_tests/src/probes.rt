@@ -91,25 +91,16 @@ fn a_probe_beside_other_commands(rt: HostRuntime) {
 
 const EMPTY: Pieces<'static> = &[GRID_OF_12, NO_STEP, WAVES];
 
-const REFUSED: [Refused; 7] = [
-    (
-        (PAIR_OF_12, b"[probe]\nids = [1, 2]\n"),
-        "5 limit probe.ids[1] 2 0 1",
-    ),
+const REFUSED: [Refused; 4] = [
     (
         (PAIR_OF_12, b"[probe]\nids = [2]\n"),
         "5 limit probe.ids[0] 2 0 1",
     ),
     ((EMPTY, b"probe.ids = [0]\n"), "5 limit probe.ids[0] 0 0 -1"),
     (
-        (EMPTY, b"probe.places = [[2, 0, 0, 0, 0]]\n"),
-        "5 limit probe.places[0][0] 2 0 1",
-    ),
-    (
         (EMPTY, b"probe.places = [[1, 2, 3, 3, 4]]\n"),
         "5 limit probe.places[0][4] 4 0 3",
     ),
-    ((EMPTY, b"probe.places = [0]\n"), "4 kind probe.places[0]"),
     ((&[GRID_2, NO_STEP, WAVES], b"[probe]\n"), "2 unknown probe"),
 ];
 
