@@ -34,7 +34,6 @@ fn head(alloc: Global, name: &[u8], charge: i32, mass: u32) -> Result<Head, Fail
 }
 
 /// An ion, and an electron that moves along x, at most one step.
-#[tactic(auto, using(crate::proofs::SideLaws::side_allowed))]
 pub fn two_charges(alloc: Global) -> Result<Header, Fail> {
     let scales = Scales {
         e_to_b: none(),
