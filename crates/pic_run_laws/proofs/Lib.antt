@@ -20,3 +20,4 @@ pub mod ResumeLaws
 pub mod ResumesAreRuns
 pub mod CutTextsLaws
 pub mod NeverGauss
+pub mod NoField

@@ -6,3 +6,4 @@ pub mod ResumesAreRuns
 pub mod ProbesAreColumns
 pub mod CutTexts
 pub mod NeverGauss
+pub mod NoField

@@ -12,4 +12,4 @@ pub use laws::{
     frames_give_states, law_of_the_cut, probes_are_columns, resumes_are_runs, runs_are_read,
     runs_are_verified,
 };
-pub use starts::couples_are_never_gauss;
+pub use starts::{couples_are_never_gauss, no_field_is_no_e};
