@@ -21,3 +21,4 @@ pub mod ResumesAreRuns
 pub mod CutTextsLaws
 pub mod NeverGauss
 pub mod NoField
+pub mod Beginnings

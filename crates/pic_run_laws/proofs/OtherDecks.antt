@@ -8,10 +8,10 @@ use Rattle.pic_devices.specs.declared.probes.Probes.{Probes}
 use Rattle.pic_displace.specs.Displace.{displaced_e, displaced_allowed}
 use Rattle.pic_load.specs.Loading.{loaded}
 use Rattle.pic_run.specs.DeckEnd.{◌>>=◌}
-use Rattle.pic_run.specs.Outcome.{unless_gauss_fails, unless_too_strong, gauss_tested, tested, on_deck, run_outcome}
+use Rattle.pic_run.specs.Outcome.{Outcome, unless_gauss_fails, unless_too_strong, gauss_tested, tested, on_deck, check_outcome, run_outcome}
 use Rattle.pic_run.specs.Starting.{first_state, state_break}
 use Rattle.pic_run_laws.specs.KeptDecks.{IsKeptDeck}
-use Rattle.pic_run_laws.specs.ProbesAreColumns.{deck_with_probes, ProbesChangeNoDump}
+use Rattle.pic_run_laws.specs.ProbesAreColumns.{deck_with_probes, IsSameForAllProbes, ProbesChangeNoDump, ProbesChangeNoCheck}
 use Rattle.pic_run_laws.proofs.StartLaws.{has_passed, passes}
 
 -- the deck with other steps, of which a frame is due after others
@@ -79,17 +79,28 @@ run_watched : (d : DeckView) (p : Probes) → run_outcome (deck_with_probes p d)
 unfolding loaded displaced_e
 run_watched d p = refl
 
-pub change_no_dump : ProbesChangeNoDump
-change_no_dump d p =
-    ap (λ (r : Result (Unit {0}) Refusal). on_deck run_outcome (unless_too_strong (deck_with_probes p d) r >>= gauss_tested)) (fit_watched d p)
+check_watched : (d : DeckView) (p : Probes) → check_outcome (deck_with_probes p d) ≡ check_outcome d
+unfolding loaded
+check_watched d p = refl
+
+-- what doesn't look at the probes is the same for all
+same_for_all : (performed : DeckView → Outcome) → ((d : DeckView) (p : Probes) → performed (deck_with_probes p d) ≡ performed d) → IsSameForAllProbes performed
+same_for_all performed same d p =
+    ap (λ (r : Result (Unit {0}) Refusal). on_deck performed (unless_too_strong (deck_with_probes p d) r >>= gauss_tested)) (fit_watched d p)
     ∙ go (displaced_allowed d (loaded d))
   where
-    behind : (o : Option Break) → on_deck run_outcome (unless_gauss_fails (deck_with_probes p d) o) ≡ on_deck run_outcome (unless_gauss_fails d o)
-    behind None = run_watched d p
+    behind : (o : Option Break) → on_deck performed (unless_gauss_fails (deck_with_probes p d) o) ≡ on_deck performed (unless_gauss_fails d o)
+    behind None = same d p
     behind (Some b) = refl
 
-    go : (r : Result (Unit {0}) Refusal) → on_deck run_outcome (unless_too_strong (deck_with_probes p d) r >>= gauss_tested)
-        ≡ on_deck run_outcome (unless_too_strong d r >>= gauss_tested)
+    go : (r : Result (Unit {0}) Refusal) → on_deck performed (unless_too_strong (deck_with_probes p d) r >>= gauss_tested)
+        ≡ on_deck performed (unless_too_strong d r >>= gauss_tested)
     go (Err refusal) = refl
     go (Ok _) =
-        ap (λ w. on_deck run_outcome (unless_gauss_fails (deck_with_probes p d) (state_break w))) (first_watched d p) ∙ behind (state_break (first_state d))
+        ap (λ w. on_deck performed (unless_gauss_fails (deck_with_probes p d) (state_break w))) (first_watched d p) ∙ behind (state_break (first_state d))
+
+pub change_no_dump : ProbesChangeNoDump
+change_no_dump = same_for_all run_outcome run_watched
+
+pub change_no_check : ProbesChangeNoCheck
+change_no_check = same_for_all check_outcome check_watched

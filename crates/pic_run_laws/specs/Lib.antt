@@ -7,3 +7,4 @@ pub mod ProbesAreColumns
 pub mod CutTexts
 pub mod NeverGauss
 pub mod NoField
+pub mod Beginnings

@@ -10,7 +10,7 @@ use Rattle.pic_header.specs.Header.{HeaderView}
 use Rattle.pic_probe.specs.ProbeLine.{probe_line}
 use Rattle.pic_record.specs.FrameFields.{FrameView, field_with}
 use Rattle.pic_record.specs.Layout.{LayoutView, layout_of}
-use Rattle.pic_run.specs.Outcome.{out_text, tested, on_deck, run_outcome, probe_outcome}
+use Rattle.pic_run.specs.Outcome.{Outcome, out_text, tested, on_deck, check_outcome, run_outcome, probe_outcome}
 use Rattle.pic_run_laws.specs.KeptDecks.{IsKeptDeck}
 
 -- the deck with a frame of each state, and all else as it is
@@ -35,8 +35,16 @@ ProbesAreColumns =
     ≡ Ok (record { header = h; frames = frames; end = Ok end })
     → out_text (probe_outcome d) ≡ flat_map (columns_in d.probes (layout_of h)) frames ++ end_line end
 
--- and the run of a deck, or why it isn't run, is the same for all probes
-abbrev pub ProbesChangeNoDump : Type 0
-ProbesChangeNoDump =
+-- what a command makes of a deck, or why it isn't run, is the same for all probes
+abbrev pub IsSameForAllProbes : (DeckView → Outcome) → Type 0
+IsSameForAllProbes performed =
     (d : DeckView) (p : Probes)
-    → on_deck run_outcome (tested (deck_with_probes p d)) ≡ on_deck run_outcome (tested d)
+    → on_deck performed (tested (deck_with_probes p d)) ≡ on_deck performed (tested d)
+
+-- that of `run` is
+abbrev pub ProbesChangeNoDump : Type 0
+ProbesChangeNoDump = IsSameForAllProbes run_outcome
+
+-- and that of `check`
+abbrev pub ProbesChangeNoCheck : Type 0
+ProbesChangeNoCheck = IsSameForAllProbes check_outcome

@@ -12,4 +12,7 @@ pub use laws::{
     frames_give_states, law_of_the_cut, probes_are_columns, resumes_are_runs, runs_are_read,
     runs_are_verified,
 };
-pub use starts::{couples_are_never_gauss, no_field_is_no_e};
+pub use starts::{
+    couples_are_never_gauss, decks_are_loaded, no_field_is_no_e, plain_decks_begin_as_said,
+    ways_stay_near,
+};
