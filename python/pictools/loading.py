@@ -173,8 +173,10 @@ def test_lattice(plasma: Plasma) -> None:
     if plasma.mass_ratio * len(plasma.beams) > MOST_MASS:
         refuse("mass_ratio", plasma.mass_ratio, f"on a lattice an ion has the mass of {len(plasma.beams)}, at most {MOST_MASS}")
     long = prod(n for n in plasma.cells if n > 2)
+    if long == 1:
+        refuse("start", plasma.start, "a lattice stands along axes of more than two cells, and the box has none; choose quiet or random")
     shares = plasma.electrons / (len(plasma.beams) * long)
-    if long == 1 or shares != 2 ** (int(shares).bit_length() - 1):
+    if shares != 2 ** (int(shares).bit_length() - 1):
         refuse("particles_a_cell", plasma.particles_a_cell,
                f"a lattice has a power of 2 on each long cell for each stream, not {shares:g}")
     if any(n > 1 and cells * plasma.side % n for n, cells in zip(lattice_sites(plasma), plasma.cells)):

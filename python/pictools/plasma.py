@@ -122,8 +122,10 @@ class Plasma(Sided):
             loading.test_lattice(self)
         if not self.listed:
             self.test_drawn()
-        if self.start == "quiet" and self.seed != 1:
-            refuse("seed", self.seed, "a quiet start draws nothing; it wants --start random or lattice")
+        self.test_thermal()
+        if self.seed != 1 and not self.draws:
+            refuse("seed", self.seed, "a quiet start draws nothing; it wants --start random or lattice" if self.start == "quiet" else
+                   f"here --start {self.start} draws nothing; it wants a thermal speed" + ", or a long axis" * (self.start == "random"))
         if self.wave or self.wave_speed:
             self.test_wave()
         if self.displace:
@@ -153,6 +155,13 @@ class Plasma(Sided):
         if self.crosses and (len(self.beams) == 1 or self.beams[0].number != self.beams[1].number):
             refuse("wave", self.wave,
                    "the theory has no filament of unequal streams; choose no wave at the start, or --beam-share 0.5")
+
+    def test_thermal(self) -> None:
+        """A thermal speed of all axes is that of one of them at least."""
+        own = self.thermal_speed_x, self.thermal_speed_y, self.thermal_speed_z
+        if self.thermal_speed and not any(moves and one is None for moves, one in zip(self.moves, own)):
+            refuse("thermal_speed", self.thermal_speed, "each axis that electrons move along has a speed of its own" if any(self.moves) else
+                   "electrons move along no axis of this box; give one more than two cells, or a speed of its own, as --thermal-speed-x")
 
     def test_drawn(self) -> None:
         """What the program can draw."""
@@ -186,6 +195,11 @@ class Plasma(Sided):
     def listed(self) -> bool:
         """Whether the deck lists its electrons: those of a quiet start, and those drawn along a short axis or for a wave."""
         return self.start == "quiet" or self.start == "random" and (min(self.cells) == 2 or bool(self.wave))
+
+    @property
+    def draws(self) -> bool:
+        """Whether places or speeds are drawn: of a random start places along the long axes, and speeds, also on a lattice."""
+        return self.start != "quiet" and any(self.thermal_speeds) or self.start == "random" and max(self.cells) > 2
 
     @property
     def moves(self) -> list[bool]:
