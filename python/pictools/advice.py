@@ -128,15 +128,19 @@ def expected(plasma: Plasma) -> list[str]:
         lines.append(f"{name} at the start: it grows by {w.imag:.5f} a step." if w.imag > 1e-6 else
                      f"{name} at the start: its frequency is {w.real:.5f} a step"
                      + (f", and it is damped by {-w.imag:.5f} a step." if w.imag < -5e-6 else "."))
-    if p.displace and not (p.gyration and p.gyration_axis != p.displace_axis) and swing_frequency(p) < 2:
-        lines.append(f"The electrons swing together with {2 * asin(swing_frequency(p) / 2):.5f} a step, sin(w/2) = wp/2, once in "
-                     f"{pi / asin(swing_frequency(p) / 2):.4g} steps.")
+    if w := swing(p):
+        lines.append(f"The electrons swing together with {w:.5f} a step, sin(w/2) = wp/2, once in {2 * pi / w:.4g} steps.")
     return lines
 
 
-def swing_frequency(plasma: Plasma) -> float:
-    """The plasma frequency with the part of ions that move."""
-    return plasma.plasma_frequency * sqrt(1 + (1 / plasma.mass_ratio if plasma.mass_ratio else 0))
+def swing(plasma: Plasma) -> float | None:
+    """The frequency with which displaced electrons swing together, by sin(w/2) = wp/2, with the part of ions that move; None where
+    none are displaced, or where B turns them."""
+    p = plasma
+    wp = p.plasma_frequency * sqrt(1 + (1 / p.mass_ratio if p.mass_ratio else 0))
+    if not p.displace or p.gyration and p.gyration_axis != p.displace_axis or wp >= 2:
+        return None
+    return 2 * asin(wp / 2)
 
 
 def warnings(plasma: Plasma) -> list[str]:

@@ -20,6 +20,8 @@ STOPPED = "stopped by Ctrl-C"
 
 def opened(path: str) -> Dump:
     """A dump, whose error names its file. Where it ends early its whole frames are taken, and a line says so."""
+    if is_lines(path):
+        raise ValueError(f"{path}: it is no dump; if these are lines of `pic probe`, `plot` takes them, with their --deck")
     try:
         dump = Dump(path, partial=True)
     except DumpError as error:

@@ -106,7 +106,7 @@ ADVICE: list[tuple[str, str]] = [
                                  "by `kick`."),
     (r"species\[i\]\.points\[i\]\[i\] 0 .*", "A place is from 0 to 4096 times the cells of its axis, in version 2 2^sub times, "
                                               "less 1."),
-    (r"species\[i\]\.(points\[i\]\[i\]|lattice\.v\[i\]) -.*", "The limit is one cell a step, the most that a particle may "
+    (r"species\[i\]\.(points\[i\]\[i\]|(lattice|displace)\.v\[i\]) -.*", "The limit is one cell a step, the most that a particle may "
                                                                 "move."),
     (r"species\[i\]\.(random|pair)\.spread\[i\] .*",
      "The limit is 1/16 cell a step: the program draws no larger thermal speed. Lower the plasma frequency and the speeds "

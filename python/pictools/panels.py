@@ -61,6 +61,11 @@ def uniform_energy(dump: Dump) -> NDArray[np.float64]:
     return np.array([0, 0, np.prod(header.cells) * np.sum(squares) * units.magnetic_weight(header)])
 
 
+def whole_energy(total: NDArray) -> tuple[float, str]:
+    """What energies are shown as shares of: all energy at the start or, where a run starts with none, at its greatest."""
+    return (float(total[0]), "at the start") if total[0] > 0 else (float(total.max()) or 1.0, "at its greatest")
+
+
 def draw_energies(axes: Axes, dump: Dump, view: View) -> list[str]:
     """The three energies in one unit, from what they were at the start, over the steps: without that of the uniform B,
     which hides the others."""
@@ -68,13 +73,13 @@ def draw_energies(axes: Axes, dump: Dump, view: View) -> list[str]:
     table, uniform = units.energies(dump), uniform_energy(dump)
     shown = table - uniform
     total = shown.sum(axis=1)
-    whole, time = total[0] if total[0] > 0 else total.max() or 1, dump.steps / scale.time
+    (whole, when), time = whole_energy(total), dump.steps / scale.time
     for values, name in zip(shown.T, ("kinetic", "electric", "magnetic")):
         if values.any():
             axes.plot(time, np.where(values > 0, values, np.nan if not view.linear else values) / whole, label=name)
     axes.plot(time, total / whole, color="#999999", linestyle="--", label="all")
     axes.set(title="Energies, in one unit" + (", without the uniform B's" if uniform.any() else ""), xlabel=scale.step,
-             ylabel="share of all energy at the start")
+             ylabel=f"share of all energy {when}")
     if view.linear:
         draw_change(axes, time, total / whole)
     elif total.any():

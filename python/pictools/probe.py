@@ -6,6 +6,8 @@
     lines.exact_signal(0)                   # the same as Python's whole numbers
     lines.along("ey", "x")                  # its cells along x, and the values, of shape (steps, cells)
     lines.orbit(1)                          # of the particle 1: places and velocities, whole numbers of shape (steps, 3)
+    lines.to_pandas(1, 7)                   # the orbits of two particles, as those of a dump
+    lines.to_xarray("ey")                   # an xarray.Dataset: ey over steps and places
     lines.end                               # "done 400", or how the run stopped
 """
 
@@ -16,12 +18,17 @@ import re
 from dataclasses import replace
 from functools import cached_property
 from pathlib import Path
+from typing import TYPE_CHECKING
 
 import numpy as np
 from numpy.typing import NDArray
 
 from pictools import measure
 from pictools.outline import outline
+
+if TYPE_CHECKING:
+    import pandas
+    import xarray
 
 END = re.compile(rb"done \d+|stopped \d+ (field|particle) .*")
 
@@ -130,3 +137,14 @@ class Probes:
     def way(self, identity: int) -> NDArray[np.float64]:
         """The places of a particle in cells, through the box's sides: shape (steps, 3)."""
         return measure.through(self.orbit(identity)[0] / self.header.side, self.header.cells)
+
+    def to_pandas(self, *identities: int, units: str = "steps") -> pandas.DataFrame:
+        """The orbits of these particles, or of all that are traced, over step and identity, as `to_pandas` of a dump."""
+        from pictools import tables
+        return tables.orbits(self, identities, units)
+
+    def to_xarray(self, *components: str, units: str = "dump") -> xarray.Dataset:
+        """Each component over step and its places, as ey over ey_place with ey_x, ey_y and ey_z; all that are probed where none is
+        named. `units` are "dump" or "steps"."""
+        from pictools import tables
+        return tables.signals(self, components, units)

@@ -11,6 +11,7 @@ import numpy as np
 from pictools import antenna, cost, info, measure, theory, thin
 from pictools.deck import Place
 from pictools.dump import Dump, DumpError
+from pictools.header import Loop
 from pictools.outline import outline
 from pictools.plasma import Plasma
 from tests.test_plasma import model_dump
@@ -50,6 +51,17 @@ class Displaced(unittest.TestCase):
         self.assertNotIn("swing together", "\n".join(quiet.comment))
         self.assertFalse(quiet.edges.any())
 
+    def test_a_dump_says_it(self):
+        """Its first frame has it, though its header hasn't."""
+        for more, names in ((SMALL | {"displace": -0.5, "start": "lattice"}, ("electron", "ion")),
+                            (SMALL | {"displace": -0.5, "start": "random", "thermal_speed": 0.01}, ("ion", "electron"))):
+            dump, way = model_dump(Plasma(**more).deck().text()), "-0.5" if names[0] == "electron" else "0.5"
+            self.assertIn((f"displaced {names[0]}", f"each {names[0]} starts {way}, 0, 0 cells along x, y and z from its {names[1]}"),
+                          info.facts(dump))
+            self.assertEqual(info.displaced(dump[1]), [])
+        for more in {"start": "lattice"}, {"mass_ratio": 4}, {"start": "random"}:
+            self.assertEqual(info.displaced(model_dump(Plasma(**SMALL | more).deck().text())[0]), [])
+
 
 class Antennas(unittest.TestCase):
     chosen = SMALL | {"cells": (16, 2, 2), "antenna": 0.01, "antenna_period": 16, "start": "random", "mass_ratio": 100}
@@ -85,7 +97,11 @@ class Antennas(unittest.TestCase):
         self.assertEqual((header.length, len(list(stream))), (76 + 120 + 4 * (20 + 8 * 16), 3))
         self.assertEqual(cost.dump_bytes(Plasma(**self.chosen).deck()), len(data))
         self.assertRegex("\n".join(info.info(model_dump(text))),
-                         r"\nloop 3 +around the face of the cell \(0, 1, 1\) across z, by a wave of 16 steps, up to 3.878e\+11 in size\n")
+                         r"\nloops 0 to 3 +around the faces of the cells \(0, 0, 0\), \(0, 1, 0\), \(0, 0, 1\), \(0, 1, 1\) across z, by a "
+                         r"wave of 16 steps, up to 3.878e\+11 in size\ndriven +by these loops from outside")
+        loops = (Loop(2, (0, 0, 0), (1,)), Loop(2, (1, 0, 0), (1, 2)), Loop(2, (2, 0, 0), (1, 2)), Loop(1, (2, 0, 0), (1, 2)))
+        self.assertEqual([name for name, _ in info.loops(replace(header, loops=loops))], ["loop 0", "loops 1 to 2", "loop 3", "driven"])
+        self.assertEqual(info.loops(replace(header, loops=())), [])
         thinned = io.BytesIO()
         thin.thin(io.BytesIO(data), thinned, 2)
         self.assertEqual(Dump.stream(io.BytesIO(thinned.getvalue())).header.loops, header.loops)

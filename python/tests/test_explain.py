@@ -6,6 +6,7 @@ from pathlib import Path
 
 from pictools.explain import all_lines, explain
 from pictools.meanings import ADVICE, CAUSES, KEYS, STATUSES
+from tests import test_displace, test_drive, test_probe
 
 FORMATS = (Path(__file__).parents[2] / "docs" / "FORMATS.md").read_text(encoding="utf-8")
 
@@ -102,6 +103,13 @@ class Explained(unittest.TestCase):
             self.assertTrue(any(table + key in KEYS for table in ("", "species[i].", "drive[i].", "probe.")), key)
         causes = re.findall(r"^\| (\d+) \| ", FORMATS.split("**Faults.**")[1].split("## The report")[0], re.MULTILINE)
         self.assertEqual(causes, list(CAUSES))
+
+    def test_what_devices_and_ways_are_refused_for(self):
+        """Each refusal of a displaced species, of a loop and of a probe says what to change, beyond its own words."""
+        for _, _, line in test_displace.REFUSED + test_drive.REFUSED + test_probe.REFUSED:
+            self.assertGreater(len(explain(line)), 2 * len(line) + 40, line)
+            if line.startswith("refused 5"):
+                self.assertEqual(len(explain(line).split("\n")), 3, line)
 
     def test_no_advice_is_hidden_by_an_earlier_one(self):
         lines = [re.fullmatch(r"refused 5 limit (\S+) -?\d+ (-?\d+ -?\d+)", line) for line, _ in LINES]

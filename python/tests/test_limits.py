@@ -152,6 +152,8 @@ class Costs(unittest.TestCase):
         self.assertEqual(cost.dump_bytes(deck), 64 + 2 * 60 + 21 * (53 + 96 * 64**3 + 24 * 2**20) + 6)
         self.assertLess(abs(cost.seconds(deck) - 54), 3)
         self.assertRegex(cost.say(deck), "about 5. seconds on one thread. Its dump has 21 frames, 1.06 GB.$")
+        probed = cost.say(Plasma(**SMALL | {"probe": "ey", "trace": 2, "steps": 99}).deck())
+        self.assertRegex(probed, r" `pic probe` puts 100 lines, about 21\.4 kB\.$")
         for time, words in (0.1, "1 second"), (90, "90 seconds"), (600, "10 minutes"), (10**5, "28 hours"):
             self.assertEqual(cost.spoken(time), words)
 

@@ -76,6 +76,39 @@ class Reading(Lines):
                 self.assertEqual(frame.particles["velocity"][identity].tolist(), velocities[frame.step].tolist())
         self.assertEqual((probes.header.every, probes.header.species, probes.header.loops), (1, dump.header.species, dump.header.loops))
 
+    @unittest.skipUnless(importlib.util.find_spec("pandas"), "pandas isn't there")
+    def test_pandas(self):
+        text = Plasma(**SMALL | {"trace": 3}).deck().text()
+        probes = self.probes(text)
+        (self.folder / "a.dump").write_bytes(Model(text).run()[1])
+        whole = Dump(self.folder / "a.dump").to_pandas(*probes.ids)
+        self.assertTrue(probes.to_pandas().equals(whole))
+        self.assertEqual(probes.to_pandas().attrs, whole.attrs)
+        some = probes.to_pandas(probes.ids[1])
+        self.assertTrue(some.equals(whole.xs(probes.ids[1], level="identity", drop_level=False)))
+        for call, reason in ((lambda: probes.to_pandas(99), "particle 99 isn't traced"), (lambda: probes.to_pandas(units="plasma"), "Debye"),
+                             (lambda: self.probes(PROBED.replace("ids = [1]\n", "")).to_pandas(), "traces no particle")):
+            with self.assertRaisesRegex(ValueError, reason):
+                call()
+
+    @unittest.skipUnless(importlib.util.find_spec("xarray"), "xarray isn't there")
+    def test_xarray(self):
+        text = Plasma(**SMALL | {"probe": "ey,bz"}).deck().text()
+        probes = self.probes(text)
+        (self.folder / "a.dump").write_bytes(Model(text).run()[1])
+        for units in "dump", "steps":
+            lines, whole = probes.to_xarray(units=units), Dump(self.folder / "a.dump").to_xarray("ey", "bz", units=units)
+            for name, x in ("ey", "x"), ("bz", "x_half"):
+                self.assertEqual(lines[name].dims, ("step", f"{name}_place"))
+                self.assertTrue((lines[name].values == whole[name].values[:, 0, 0]).all())
+                self.assertEqual(lines[f"{name}_x"].values.tolist(), whole[x].values.tolist())
+                self.assertEqual({key: lines[name].attrs[key] for key in whole[name].attrs}, whole[name].attrs)
+            self.assertEqual((lines.ey_y.values.tolist(), lines.step.values.tolist()), ([0.5] * 16, whole.step.values.tolist()))
+        self.assertEqual(list(probes.to_xarray("bz")), ["bz"])
+        for words, reason in (("ex",), "ex isn't probed; bz, ey is"), (("ey",), "Debye"):
+            with self.assertRaisesRegex(ValueError, reason):
+                probes.to_xarray(*words, units="plasma" if reason == "Debye" else "dump")
+
     def test_one_that_stops_and_one_without_probes(self):
         self.assertEqual(self.probes(STOPS).end, "stopped 1 particle 0 far 0 8192")
         plain = self.probes(PROBED.partition("[probe]")[0])
@@ -165,6 +198,7 @@ class Pictures(Lines):
         self.assertEqual((status, [line.partition(":")[0] for line in said.splitlines()]), (0, ["a"] * 2 + ["./a"] * 2))
         for words, reason in (("plot a.lines -o b.png", "--deck names the deck"), ("plot a.lines --deck a.toml -o b.png --panels growth", "no panel"),
                               ("plot a.toml --deck a.toml -o b.png", "no file of probe lines"),
+                              ("info a.lines", "a.lines: it is no dump; if these are lines of `pic probe`, `plot` takes them"),
                               ("plot a.lines -o b.png --deck a.toml a.toml", "one for all of 1 files, or one for each")):
             status, _, complained = called(words, self.folder)
             self.assertEqual(status, 1)

@@ -54,6 +54,16 @@ class Folder(unittest.TestCase):
         return {path.name for path in self.folder.iterdir()}
 
 
+class Gauges(Folder):
+    def test_a_run_from_nothing_has_no_shares(self):
+        """Where loops drive a cold plasma there is no energy at the start that the others could be shares of."""
+        for speed, words in (0.0, 1), (0.1, 4):
+            e, places = np.zeros((2, 3, 2, 2, 4)), np.zeros((4, 3))
+            (self.folder / "a.dump").write_bytes(made.dump((4, 2, 2), e, None, 1, lambda _: (places, places + speed), [("electron", -1, 4)]))
+            said = running.Gauge(str(self.folder / "a.dump"), 0).shown(1, (0, 5, 0)).split(", ")
+            self.assertEqual((len(said), said[0].endswith(" million particle-steps/s")), (words, True))
+
+
 class Mending(Folder):
     def setUp(self):
         super().setUp()
