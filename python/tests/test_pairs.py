@@ -1,6 +1,6 @@
 """Each option of the deck maker with each other, for every start, with the filter and without: they make a deck that the program takes,
-or a line names the option that doesn't go and says why. None is left out of the deck without a word. Without a program that was built
-the second model of decks takes some of them."""
+and some are run; or a line names the option that doesn't go and says why. None is left out of the deck without a word. Without a program
+that was built the second model of decks takes some of them."""
 
 import unittest
 from collections import Counter
@@ -98,6 +98,8 @@ class Pairs(unittest.TestCase):
                     self.assertFalse(left_out, f"no more is in the deck than of {less}")
                 if PROGRAM or number % 16 == 0:
                     self.assertEqual(takes(text.encode()), (0, b"ok %d particles\n" % particles, b""))
+                if PROGRAM and number % 16 == 0:
+                    self.assertEqual(call("run", given=text.encode())[0], 0)
         self.assertGreater(ends[False], 4 * ends[True])
 
     def test_each_choice_of_an_option_makes_another_deck(self):
