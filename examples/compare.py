@@ -3,10 +3,10 @@
     python3 examples/compare.py DECK DUMP                      is DUMP byte for byte what the model gives for DECK?
     python3 examples/compare.py --random COUNT PROGRAM [KIND]  do PROGRAM and the model agree on COUNT random decks?
 
-PROGRAM is the path of the built program. Dump, report and exit status are compared. The exit status here is 0 where all
-agree, 1 where something differs, 2 for other words. The model takes it that a deck has the right form: of the refusals
-it knows that of a force value at the start and that of Gauss's law. Random decks are those of random_decks.py, which says what KINDs
-there are; each is run on 1, 3 and 64 workers.
+PROGRAM is the path of the built program. Dump, report and exit status are compared, and with the KIND `probe` what its `probe` puts
+as well. The exit status here is 0 where all agree, 1 where something differs, 2 for other words. The model takes it that a deck has the
+right form: of the refusals it knows those of a force value at the start and that of Gauss's law. Random decks are those of
+random_decks.py, which says what KINDs there are; each is run on 1, 3 and 64 workers.
 """
 
 import subprocess
@@ -17,6 +17,8 @@ from fractions import Fraction
 from math import trunc
 from struct import pack
 
+from sources import particles, rounded, scaled
+
 WORKERS = 1, 3, 64
 CORNERS = [(dx, dy, dz) for dz in (0, 1) for dy in (0, 1) for dx in (0, 1)]
 PHASES, BOUNDS, FAULTS = ("", "half1", "", "half2", "electric"), ("", "value", "force"), ("", "speed", "turn", "far")
@@ -24,16 +26,6 @@ PHASES, BOUNDS, FAULTS = ("", "half1", "", "half2", "electric"), ("", "value", "
 
 class Halt(Exception):
     """The end of a run, with its exit status, last line of the report, and end record."""
-
-
-def rounded(number, divisor):
-    """The nearest whole number to number / divisor, a half going up."""
-    return (2 * number + divisor) // (2 * divisor)
-
-
-def scaled(value, multiplier):
-    """A value times the multiplier [n, k], which is n / 2^k."""
-    return rounded(value * multiplier[0], 2 ** multiplier[1])
 
 
 def cross(u, w):
@@ -48,38 +40,6 @@ def differences(field, high, low):
     """The curl of a field. The tables `high` and `low` have the two places of a difference, for each axis."""
     return [[field[c][high[b][n]] - field[c][low[b][n]] - field[b][high[c][n]] + field[b][low[c][n]]
              for n in range(len(field[0]))] for b, c in ((1, 2), (2, 0), (0, 1))]
-
-
-def random_words(seed, stream):
-    """The words of PCG32 (M. E. O'Neill, 2014: XSH RR of a 64-bit congruence) for a seed and a stream."""
-    step = (2 * stream + 1) % 2**64
-    state = ((step + seed) * 6364136223846793005 + step) % 2**64
-    while True:
-        mixed, turn = (state >> 18 ^ state) >> 27 & 2**32 - 1, state >> 59
-        yield (mixed >> turn | mixed << 32 - turn) & 2**32 - 1
-        state = (state * 6364136223846793005 + step) % 2**64
-
-
-def drawn_velocity(draw, source):
-    """On each axis the drift and the spread times a sum of twelve words, which is nearly Gaussian."""
-    return [drift + rounded(spread * (sum(next(draw) for _ in range(12)) - 6 * (2**32 - 1)), 2**32)
-            for drift, spread in zip(source["drift"], source["spread"])]
-
-
-def particles(kind, box, earlier):
-    """The rows [x, y, z, vx, vy, vz] of a species. `earlier` has those of the species before it, by name."""
-    if "points" in kind:
-        return kind["points"]
-    if "lattice" in kind:
-        source = kind["lattice"]
-        counts = [range(n) for n in source["count"]]
-        return [[(f + n * g) % b for f, n, g, b in zip(source["first"], place, source["gap"], box)] + source["v"]
-                for place in ((x, y, z) for z in counts[2] for y in counts[1] for x in counts[0])]
-    source = kind["random"] if "random" in kind else kind["pair"]
-    draw = random_words(source["seed"], source["stream"])
-    if "random" in kind:
-        return [[next(draw) * b >> 32 for b in box] + drawn_velocity(draw, source) for _ in range(source["count"])]
-    return [row[:3] + drawn_velocity(draw, source) for row in earlier[source["of"]]]
 
 
 def pieces(start, move, side):
@@ -111,12 +71,14 @@ class Model:
         for part, name in (self.electric, "edges"), (self.magnetic, "faces"):
             for axis, i, j, k, value in field.get(name, []):
                 part[axis][self.at(i, j, k)] += value
-        self.kinds = deck.get("species", [])
+        self.kinds, self.loops, self.probes = deck.get("species", []), deck.get("drive", []), deck.get("probe", {})
         rows, box = {}, [n * self.side for n in self.cells]
         for kind in self.kinds:
             rows[kind["name"]] = particles(kind, box, rows)
         self.counts = [len(part) for part in rows.values()]
         self.particles = [(kind, row[:3], row[3:]) for kind in self.kinds for row in rows[kind["name"]]]
+        self.displaced = [(kind, row[:3], kind["displace"]["by"]) for kind in self.kinds if "displace" in kind
+                          for row in rows[kind["displace"]["of"]]]
 
     def lay_out(self):
         """The places of the grid with their neighbours, and two empty texts."""
@@ -135,12 +97,25 @@ class Model:
         return [[scaled(value, self.scale[name]) for value in part] for part in field]
 
     def test_start(self):
-        """A force value at the start that is too large, and a charge that doesn't meet Gauss's law."""
-        for field, name in (self.electric, "e_force"), (self.magnetic, "b_force"):
-            for value in sum(self.forces(field, name), []):
-                if abs(value) > 2**44:
-                    raise Halt(3, f"refused 5 limit scale.{name} {value} {-2**44} {2**44}", b"")
+        """A force value of the deck's fields that is too large, or of the E of its displaced particles, and a charge that doesn't
+        meet Gauss's law."""
+        self.test_forces(self.electric, "e_force")
+        self.test_forces(self.magnetic, "b_force")
+        self.displace()
+        self.test_forces(self.electric, "e_force")
         self.test_gauss()
+
+    def test_forces(self, field, name):
+        for value in sum(self.forces(field, name), []):
+            if abs(value) > 2**44:
+                raise Halt(3, f"refused 5 limit scale.{name} {value} {-2**44} {2**44}", b"")
+
+    def displace(self):
+        """E less the current of the displaced particles on their ways, each from the place that it is displaced from."""
+        current = self.no_current()
+        for kind, place, way in self.displaced:
+            self.add_way(current, kind, place, way)
+        self.electric = [[e - j for e, j in zip(part, self.filtered(flow))] for part, flow in zip(self.electric, current)]
 
     def weights(self, position):
         """The eight nodes around a position, and its weight at each."""
@@ -172,12 +147,15 @@ class Model:
     def write_header(self):
         self.dump.append(b"PICDUMP%d" % self.version + pack(">5I", *self.cells, self.steps, self.every))
         self.dump += [pack(">iI", *self.scale[name]) for name in ("e_to_b", "b_to_e", "e_force", "b_force")]
-        # Version 2 has the sub-cells of a cell as a power of 2, the filter, and a number that is 0.
-        self.dump.append(pack(">3I", self.side.bit_length() - 1, self.filter, 0) if self.version == 2 else b"")
+        # Version 2 has the sub-cells of a cell as a power of 2, the filter, and the number of loops.
+        self.dump.append(pack(">3I", self.side.bit_length() - 1, self.filter, len(self.loops)) if self.version == 2 else b"")
         self.dump.append(pack(">I", len(self.kinds)))
         for kind, count in zip(self.kinds, self.counts):
             numbers = kind["charge"], kind["mass"], *kind["kick"], *kind["turn"], count
             self.dump.append(pack(">32siIiIiII", kind["name"].encode(), *numbers))
+        for loop in self.loops:
+            length = len(loop["wave"])
+            self.dump.append(pack(f">5I{length}q", loop["axis"], *loop["cell"], length, *loop["wave"]))
 
     def write_frame(self, step):
         """A frame, and its line of the report. Gauss's law is tested anew, which the program doesn't do."""
@@ -190,6 +168,15 @@ class Model:
         magnetic = sum(f * f for part in self.forces(self.magnetic, "b_force") for f in part)
         self.dump += [wide(energy, False) for energy in (kinetic, electric, magnetic)]
         self.report.append(f"frame {step} kinetic {kinetic} electric {electric} magnetic {magnetic}")
+
+    def write_probes(self, step):
+        """The step, the values at the probed places, and where the probed particles are and how they move. Gauss's law is tested."""
+        self.test_gauss()
+        numbers = [(self.electric, self.magnetic)[field][axis][self.at(*cell)] for field, axis, *cell in self.probes.get("places", [])]
+        for identity in self.probes.get("ids", []):
+            _, position, velocity = self.particles[identity]
+            numbers += [*position, *velocity]
+        self.report.append(" ".join(map(str, [step, *numbers])))
 
     def test_field(self, step, phase, field, name):
         """No new value of a field phase, and no force value of it, is too large."""
@@ -208,9 +195,11 @@ class Model:
         self.test_field(step, phase, self.magnetic, "b_force")
 
     def electric_step(self, step, current):
-        """E becomes E and the curl of the scaled B, less the filtered current."""
-        current = [self.filtered(part) for part in current]
-        curl = differences(self.forces(self.magnetic, "b_to_e"), self.here, self.down)
+        """E becomes E and the curl of the scaled B and the loops, less the filtered current."""
+        current, scaled_b = [self.filtered(part) for part in current], self.forces(self.magnetic, "b_to_e")
+        for loop in self.loops:
+            scaled_b[loop["axis"]][self.at(*loop["cell"])] += loop["wave"][(step - 1) % len(loop["wave"])]
+        curl = differences(scaled_b, self.here, self.down)
         self.electric = [[e + c - j for e, c, j in zip(*parts)] for parts in zip(self.electric, curl, current)]
         self.test_field(step, 4, self.electric, "e_force")
 
@@ -242,6 +231,14 @@ class Model:
         test(3, move, self.side)
         return velocity, move
 
+    def no_current(self):
+        return [[0] * len(self.places) for _ in range(3)]
+
+    def add_way(self, current, kind, place, way):
+        """The current of a particle that goes this way from a place."""
+        for cell, start, end in pieces(place, way, self.side):
+            self.add_flux(current, kind["charge"], cell, start, end)
+
     def add_flux(self, current, charge, cell, start, end):
         """Villasenor and Buneman's current of one piece, times 12, on the twelve edges of its cell."""
         first, last = ([p - c * self.side for p, c in zip(point, cell)] for point in (start, end))
@@ -258,13 +255,12 @@ class Model:
     def push_all(self, step):
         """Moves all particles, and gives the current."""
         electric, magnetic = self.forces(self.electric, "e_force"), self.forces(self.magnetic, "b_force")
-        current = [[0] * len(self.places) for _ in range(3)]
+        current = self.no_current()
         for identity, (kind, position, _) in enumerate(self.particles):
             e = [self.gather(electric[a], position, [a]) for a in range(3)]
             b = [self.gather(magnetic[a], position, [(a + 1) % 3, (a + 2) % 3]) for a in range(3)]
             velocity, move = self.push(step, identity, e, b)
-            for cell, start, end in pieces(position, move, self.side):
-                self.add_flux(current, kind["charge"], cell, start, end)
+            self.add_way(current, kind, position, move)
             position = [(p + d) % (n * self.side) for p, d, n in zip(position, move, self.cells)]
             self.particles[identity] = kind, position, velocity
         return current
@@ -299,6 +295,17 @@ class Model:
             status, line, record = end.args
             return status, *self.texts(line, record)
 
+    def probe(self):
+        """The same run with a line for each of its states in place of frames: exit status, lines and report."""
+        self.every, self.write_frame = 1, self.write_probes
+        try:
+            self.test_start()
+            self.write_frame(0)
+            self.go_on(0)
+        except Halt as end:
+            text = self.texts(end.args[1])[1]
+            return (end.args[0], text, b"") if end.args[0] < 3 else (end.args[0], b"", text)
+
 
 def difference(model, other):
     """Where two byte strings first differ, in words, or nothing."""
@@ -308,12 +315,13 @@ def difference(model, other):
     return f"differs at byte {place} (the model has {len(model)} bytes, the other {len(other)})"
 
 
-def run_difference(program, workers, text, status, dump, report):
-    """Where a run of the program on so many workers isn't what the model gave, in words, or nothing."""
-    done = subprocess.run([program, "run", "--workers", str(workers)], input=text.encode(), capture_output=True, timeout=600)
-    words = [difference(dump, done.stdout), difference(report, done.stderr)]
+def call_difference(program, word, workers, text, wanted):
+    """Where a call of the program with a deck, on so many workers, isn't what the model gave, in words, or nothing."""
+    done = subprocess.run([program, word, "--workers", str(workers)], input=text.encode(), capture_output=True, timeout=600)
+    status, out, report = wanted
+    words = [difference(out, done.stdout), difference(report, done.stderr)]
     if any(words) or status != done.returncode:
-        return (f"{workers} workers: dump {words[0] or 'agrees'}; report {words[1] or 'agrees'}; "
+        return (f"{word}, {workers} workers: output {words[0] or 'agrees'}; report {words[1] or 'agrees'}; "
                 f"status {status} and {done.returncode}")
     return ""
 
@@ -325,10 +333,10 @@ def compare_random(count, program, kind):
     ends, differ = Counter(), 0
     for number in range(count):
         text = random_deck(number, kind)
-        status, dump, report = Model(text).run()
-        last = report.decode().splitlines()[-1].split()
+        wanted = {"run": Model(text).run()} | ({"probe": Model(text).probe()} if kind == "probe" else {})
+        last = wanted["run"][2].decode().splitlines()[-1].split()
         ends[" ".join(word for word in last[:5] if word[0].isalpha())] += 1
-        found = [line for workers in WORKERS if (line := run_difference(program, workers, text, status, dump, report))]
+        found = [line for word in wanted for workers in WORKERS if (line := call_difference(program, word, workers, text, wanted[word]))]
         if found:
             differ += 1
             print(f"deck {number}, {'; '.join(found)}. The deck:\n{text}")

@@ -2,15 +2,14 @@
 
     python3 examples/measure.py [--any] DECK DUMP
 
-DECK is light_wave, gyration, e_cross_b, plasma_oscillation, thermal_plasma, langmuir or two_stream, after docs/EXAMPLES.md,
-or langmuir, two_stream, filamentation or upper_hybrid, after docs/GALLERY.md. A dump is refused that has other cells, scales,
+DECK is light_wave, gyration, e_cross_b, plasma_oscillation, cold_oscillation, thermal_plasma, langmuir or two_stream, after
+docs/EXAMPLES.md, or langmuir, two_stream, filamentation or upper_hybrid, after docs/GALLERY.md. A dump is refused that has other cells, scales,
 species or numbers of particles than that deck; with --any the dump of another deck of the kind is measured too, and refused
 only by what it lacks. All numbers of the theory are taken from the dump. It needs numpy.
 """
 
 import sys
-import tomllib
-from math import asin, hypot, pi, prod, sin, sqrt
+from math import asin, hypot, pi, sin, sqrt
 from pathlib import Path
 
 import numpy as np
@@ -19,11 +18,11 @@ HOME = Path(__file__).parents[1]
 sys.path.insert(0, str(HOME / "python"))
 
 from pictools import files, measure, theory, units
-from pictools.dump import Dump, Species
+from pictools.dump import Dump, Header, Species
+from pictools.outline import SCALES, outline
 from pictools.plasma import Plasma
 
 CLEAR = 3                   # a wave is above the noise where it is so many times as high as the next
-SCALES = ("e_to_b", "b_to_e", "e_force", "b_force")
 
 # What docs/GALLERY.md asks of `python3 -m pictools deck`, as far as a header shows it.
 GALLERY = {
@@ -39,23 +38,15 @@ def numbers(rows: list[tuple]) -> dict[str, tuple]:
     return {name: (charge, mass, tuple(kick), tuple(turn), count) for name, charge, mass, kick, turn, count in rows}
 
 
-def of_dump(dump: Dump) -> dict:
+def of_header(header: Header) -> dict:
     """What a header says that a deck says too."""
-    header = dump.header
     return {"cells": header.cells, **{name: tuple(getattr(header, name)) for name in SCALES},
             "species": numbers([(s.name, s.charge, s.mass, s.kick, s.turn, s.count) for s in header.species])}
 
 
 def of_example(path: Path) -> dict:
     """The same of a deck of the folder decks."""
-    deck, rows, counts = tomllib.loads(path.read_text(encoding="utf-8")), [], {}
-    for kind in deck.get("species", []):
-        counts[kind["name"]] = (len(kind["points"]) if "points" in kind else
-                                prod(kind["lattice"]["count"]) if "lattice" in kind else
-                                kind["random"]["count"] if "random" in kind else counts[kind["pair"]["of"]])
-        rows.append((*(kind[key] for key in ("name", "charge", "mass", "kick", "turn")), counts[kind["name"]]))
-    scales = {name: tuple(deck["scale"][name]) for name in SCALES}
-    return {"cells": tuple(deck["grid"]["cells"]), **scales, "species": numbers(rows)}
+    return of_header(outline(path.read_text(encoding="utf-8")).header)
 
 
 def of_gallery(chosen: dict) -> dict:
@@ -80,7 +71,7 @@ def differences(here: dict, there: dict) -> str:
 
 def test_deck(name: str, dump: Dump) -> None:
     """The dump has to be one of the deck of this name, of the folder decks or of the gallery."""
-    here, path, found = of_dump(dump), HOME / "decks" / f"{name}.toml", []
+    here, path, found = of_header(dump.header), HOME / "decks" / f"{name}.toml", []
     if path.exists():
         found.append(("decks/" + path.name, differences(here, of_example(path))))
     if name in GALLERY:
@@ -96,9 +87,7 @@ def show(what: str, measured: float, expected: float) -> None:
 
 def tracks(dump: Dump) -> np.ndarray:
     """The positions of all particles in cells, through the box's sides: shape (frames, particles, 3)."""
-    places = dump.records["particles"]["position"] / dump.header.side
-    moves = np.diff(places, axis=0, prepend=places[:1])
-    return places - np.cumsum(np.rint(moves / dump.header.cells), axis=0) * dump.header.cells
+    return measure.through(dump.records["particles"]["position"] / dump.header.side, dump.header.cells)
 
 
 def waves(dump: Dump, name: str) -> np.ndarray:
@@ -192,6 +181,19 @@ def plasma_oscillation(dump: Dump) -> None:
     show("frequency", measure.frequency(dump.steps, wave.imag), 2 * asin(wp / 2))
     print(f"{'':28} over {len(measure.crossings(dump.steps, wave.imag)) - 1} half swings; "
           f"the plasma frequency itself is {wp:.9f}")
+
+
+def cold_oscillation(dump: Dump) -> None:
+    """The mean of E along the axis on which it is the greatest at the start."""
+    means = np.array([frame.e.mean(axis=(1, 2, 3)) for frame in dump])
+    axis, (wp, _) = int(np.argmax(abs(means[0]))), at_rest(dump)
+    if not means[0, axis]:
+        raise ValueError("the mean of E is 0 at the start")
+    if 2 * asin(wp / 2) * np.diff(dump.steps).max() > pi:
+        raise ValueError(f"its frames are {np.diff(dump.steps).max()} steps apart, more than half a swing")
+    show("frequency", measure.frequency(dump.steps, means[:, axis]), 2 * asin(wp / 2))
+    print(f"{'':28} over {len(measure.crossings(dump.steps, means[:, axis])) - 1} half swings; B is "
+          + ("0 in all frames" if not any(frame.b.any() for frame in dump) else "not 0"))
 
 
 def wave_number(dump: Dump, wave: int) -> float:
@@ -341,7 +343,7 @@ def thermal_plasma(dump: Dump) -> None:
     print(f"{'light, last step':28} a wave's E {light[0]:.4f} and B {light[1]:.4f}; both 0 at the start")
 
 
-MEASURES = {f.__name__: f for f in (light_wave, gyration, e_cross_b, plasma_oscillation, thermal_plasma, langmuir,
+MEASURES = {f.__name__: f for f in (light_wave, gyration, e_cross_b, plasma_oscillation, cold_oscillation, thermal_plasma, langmuir,
                                     two_stream, filamentation, upper_hybrid)}
 
 

@@ -1,7 +1,8 @@
-"""What `check`, `run`, `verify` and `resume` answer to some bytes: a model of its own, after docs/FORMATS.md, which shares no code with
-pic.
+"""What `check`, `run`, `probe`, `verify` and `resume` answer to some bytes: a model of its own, after docs/FORMATS.md, which shares no
+code with pic.
 
-    check(deck), run(deck), verify(dump), resume(dump, steps, tiles)        each gives status, standard output, standard error
+    check(deck), run(deck), probe(deck), verify(dump), resume(dump, steps, tiles)
+                                                each gives status, standard output, standard error
     has_no_cause(word, ended)                   whether an answer of a command is none that docs/FORMATS.md has for it
     is_newer(deck)                              whether a text may be TOML 1.1 and not 1.0
 
@@ -15,20 +16,23 @@ import tomllib
 from math import isinf
 from pathlib import Path
 
-from verdicts import (MOST_CELLS, MOST_FACTOR, MOST_FILTER, MOST_FORCE, MOST_PARTICLES, MOST_SHIFT, MOST_SPECIES, MOST_STEPS,
-                      MOST_VERSION, SUBS, Bad, Broken, Dump, verify)
+from verdicts import (MOST_CELLS, MOST_FACTOR, MOST_FILTER, MOST_FORCE, MOST_LOOPS, MOST_NUMBER, MOST_PARTICLES, MOST_SHIFT,
+                      MOST_SPECIES, MOST_STEPS, MOST_VERSION, MOST_WAVE, SUBS, Bad, Broken, Dump, verify)
 
 sys.path.insert(0, str(Path(__file__).parents[1] / "examples"))
 from compare import Halt, Model, scaled
 
-__all__ = ["Refused", "check", "has_no_cause", "is_newer", "resume", "run", "verify", "walk"]
+__all__ = ["Refused", "check", "has_no_cause", "is_newer", "probe", "resume", "run", "verify", "walk"]
 
-MOST_BYTES, MOST_TILES = 2**20, 512
+MOST_BYTES, MOST_TILES, MOST_PROBES = 2**20, 512, 64
 WHOLE = (-(2**63), 2**63 - 1)
 GRID_KEYS = {1: ("cells", "tiles"), 2: ("cells", "tiles", "sub")}
 RUN_KEYS = {1: ("steps", "every"), 2: ("steps", "every", "filter")}
+DECK_KEYS = {1: ("version", "grid", "run", "scale", "field", "species")}
+DECK_KEYS[2] = *DECK_KEYS[1], "drive", "probe"
 SOURCES = {"points": (), "lattice": ("first", "gap", "count", "v"), "random": ("count", "seed", "stream", "drift", "spread"),
-           "pair": ("of", "seed", "stream", "drift", "spread")}
+           "pair": ("of", "seed", "stream", "drift", "spread"), "displace": ("of", "by", "v")}
+SOURCES_OF = {1: [*SOURCES][:-1], 2: [*SOURCES]}
 
 
 class Refused(Exception):
@@ -119,7 +123,7 @@ class Terms:
     """What a deck's version and grid say of its particles' limits."""
 
     def __init__(self, version, cells, side):
-        self.box = [(0, side * c - 1) for c in cells]
+        self.version, self.way, self.box = version, (-side, side), [(0, side * c - 1) for c in cells]
         self.particles, self.gap = MOST_PARTICLES[version], MOST_CELLS[version] * side
         self.speed, self.drift, self.spread = ((low * most * side, most * side) for low, most in ((-1, 4096), (-1, 2048), (0, 256)))
 
@@ -172,44 +176,78 @@ def walk_draw(path, value, terms):
     numbers(f"{path}.spread", needed(path, value, "spread"), *[terms.spread] * 3)
 
 
-def walk_source(path, species, terms, counts):
-    """How many particles a species has. `counts` has those of the earlier ones, by name."""
-    given = [key for key in SOURCES if key in species]
+def named(path, value, earlier):
+    """What an earlier species has that is named here."""
+    if kind(f"{path}.of", needed(path, value, "of"), str) not in earlier:
+        raise Refused(f"refused 6 name {path}.of")
+    return earlier[value["of"]]
+
+
+def walk_displace(path, value, charge, terms, earlier):
+    """How many particles a displaced species has, which is of this charge."""
+    count, opposite = named(f"{path}.displace", value, earlier)
+    limit(f"{path}.charge", charge, -opposite, -opposite)
+    numbers(f"{path}.displace.by", needed(f"{path}.displace", value, "by"), *[terms.way] * 3)
+    numbers(f"{path}.displace.v", needed(f"{path}.displace", value, "v"), *[terms.speed] * 3)
+    return count
+
+
+def walk_source(path, species, terms, earlier):
+    """How many particles a species has. `earlier` has the number and the charge of the earlier ones, by name."""
+    given = [key for key in SOURCES_OF[terms.version] if key in species]
     if len(given) > 1:
         raise Refused(f"refused 2 unknown {path}.{given[1]}")
     if not given:
         raise Refused(f"refused 3 missing {path}.points")
-    name, box, speeds = given[0], terms.box, [terms.speed] * 3
+    name, box, speeds, whole = given[0], terms.box, [terms.speed] * 3, path
     path, value = f"{path}.{name}", species[name]
     if name == "points":
         return len(rows(path, value, *box, *speeds))
     table(path, value, SOURCES[name])
+    if name == "displace":
+        return walk_displace(whole, value, species["charge"], terms, earlier)
     if name == "lattice":
         numbers(f"{path}.first", needed(path, value, "first"), *box)
         numbers(f"{path}.gap", needed(path, value, "gap"), *[(0, terms.gap)] * 3)
         count = numbers(f"{path}.count", needed(path, value, "count"), *[(1, terms.particles)] * 3)
         numbers(f"{path}.v", needed(path, value, "v"), *speeds)
         return count[0] * count[1] * count[2]
-    if name == "random":
-        count = number(path, value, "count", 0, terms.particles)
-    elif kind(f"{path}.of", needed(path, value, "of"), str) in counts:
-        count = counts[value["of"]]
-    else:
-        raise Refused(f"refused 6 name {path}.of")
+    count = number(path, value, "count", 0, terms.particles) if name == "random" else named(path, value, earlier)[0]
     walk_draw(path, value, terms)
     return count
 
 
-def walk_species(path, species, terms, counts):
-    table(path, species, ("name", "charge", "mass", "kick", "turn", *SOURCES))
+def walk_species(path, species, terms, earlier):
+    table(path, species, ("name", "charge", "mass", "kick", "turn", *SOURCES_OF[terms.version]))
     name = kind(f"{path}.name", needed(path, species, "name"), str)
-    if not re.fullmatch("[A-Za-z0-9_]{1,32}", name) or name in counts:
+    if not re.fullmatch("[A-Za-z0-9_]{1,32}", name) or name in earlier:
         raise Refused(f"refused 6 name {path}.name")
     number(path, species, "charge", -32768, 32767)
     number(path, species, "mass", 1, 65536)
     for key in "kick", "turn":
         multiplier(f"{path}.{key}", needed(path, species, key))
-    counts[name] = walk_source(path, species, terms, counts)
+    earlier[name] = walk_source(path, species, terms, earlier), species["charge"]
+
+
+def walk_drive(loops, cells):
+    limit("drive", len(kind("drive", loops, list)), 0, MOST_LOOPS)
+    for n, loop in enumerate(loops):
+        path = f"drive[{n}]"
+        table(path, loop, ("axis", "cell", "wave"))
+        number(path, loop, "axis", 0, 2)
+        numbers(f"{path}.cell", needed(path, loop, "cell"), *[(0, c - 1) for c in cells])
+        wave = kind(f"{path}.wave", needed(path, loop, "wave"), list)
+        numbers(f"{path}.wave", wave, *[(-MOST_NUMBER, MOST_NUMBER)] * len(wave))
+        limit(f"{path}.wave", len(wave), 1, MOST_WAVE)
+
+
+def walk_probe(probes, cells, particles):
+    table("probe", probes, ("places", "ids"))
+    places = rows("probe.places", probes.get("places", []), (0, 1), (0, 2), *[(0, c - 1) for c in cells])
+    limit("probe.places", len(places), 0, MOST_PROBES)
+    ids = kind("probe.ids", probes.get("ids", []), list)
+    numbers("probe.ids", ids, *[(0, particles - 1)] * len(ids))
+    limit("probe.ids", len(ids), 0, MOST_PROBES)
 
 
 def test_force(name, multiplier, uniform, changed, cells):
@@ -228,7 +266,9 @@ def test_force(name, multiplier, uniform, changed, cells):
 
 def walk(deck):
     """The deck's document and the number of its particles."""
-    found = table("", document(deck), ("version", "grid", "run", "scale", "field", "species"))
+    found = document(deck)
+    # The keys of version 2 are unknown where the version is the number 1; where it is none at all, that is the fault.
+    table("", found, DECK_KEYS[1 if type(found.get("version")) is int and found["version"] == 1 else 2])
     version = number("", found, "version", 1, MOST_VERSION)
     cells, side = walk_grid(version, kind("grid", needed("", found, "grid"), dict))
     walk_run(version, needed("", found, "run"))
@@ -238,14 +278,17 @@ def walk(deck):
         multiplier(f"scale.{name}", needed("scale", scale, name))
     field = found.get("field", {})
     walk_field(field, cells)
-    species, counts, terms = kind("species", found.get("species", []), list), {}, Terms(version, cells, side)
+    species, earlier, terms, count = kind("species", found.get("species", []), list), {}, Terms(version, cells, side), 0
     limit("species", len(species), 0, MOST_SPECIES)
     for n, each in enumerate(species):
-        walk_species(f"species[{n}]", each, terms, counts)
-        limit(f"species[{n}]", sum(counts.values()), 0, terms.particles)
+        walk_species(f"species[{n}]", each, terms, earlier)
+        count = sum(count for count, _ in earlier.values())
+        limit(f"species[{n}]", count, 0, terms.particles)
+    walk_drive(found.get("drive", []), cells)
+    walk_probe(found.get("probe", {}), cells, count)
     for name, part, changed in ("e_force", "e", "edges"), ("b_force", "b", "faces"):
         test_force(name, scale[name], field.get(part, [0, 0, 0]), field.get(changed, []), cells)
-    return found, sum(counts.values())
+    return found, count
 
 
 def printed(line):
@@ -267,12 +310,8 @@ def answered(deck, go):
 
 
 def checked(text, count):
-    Model(text).test_gauss()
+    Model(text).test_start()
     return 0, f"ok {count} particles\n".encode(), b""
-
-
-def ran(text, count):
-    return Model(text).run()
 
 
 def check(deck):
@@ -280,7 +319,11 @@ def check(deck):
 
 
 def run(deck):
-    return answered(deck, ran)
+    return answered(deck, lambda text, count: Model(text).run())
+
+
+def probe(deck):
+    return answered(deck, lambda text, count: Model(text).probe())
 
 
 def resume(held, steps, tiles=(1, 1, 1)):
@@ -308,17 +351,20 @@ def resume(held, steps, tiles=(1, 1, 1)):
 
 
 FRAMES = rb"(frame \d+ kinetic \d+ electric \d+ magnetic \d+\n)"
+LINES = rb"(\d+( -?\d+)*\n)"
 CAUSES = {
     (0, "check"): rb"ok \d+ particles\n", (0, "verify"): rb"verified \d+ frames\n", (0, "run"): FRAMES + rb"+done \d+\n",
     (1, "run"): FRAMES + rb"+stopped \d+ (field (half1|half2|electric) (value|force) [012] \d+ \d+ \d+"
                          rb"|particle \d+ (speed|turn|far) [012]) -?\d+\n",
     (3, "check"): rb"refused (1 text|2 unknown [!-~]*|3 missing [!-~]+|4 kind [!-~]+|5 limit [!-~]+( -?\d+){3}|6 name [!-~]+)\n"
                   rb"|gauss( \d+){3} div -?\d+ rho -?\d+\n",
+    (0, "probe"): LINES + rb"+done \d+\n",
     (3, "resume"): rb"refused 5 limit (run\.steps|grid\.tiles(\[[012]\])?)( \d+){3}\n",
     (7, "verify"): rb"bad dump \d+ ([1-9]|10)\n", (8, "verify"): rb"broken frame \d+ node( \d+){3} div -?\d+ rho -?\d+\n"}
 CAUSES |= {(status, "resume"): CAUSES[status, "run"] for status in (0, 1)}
 CAUSES |= {(status, "resume"): FRAMES + rb"*" + CAUSES[status, "verify"] for status in (7, 8)}
-CAUSES[3, "run"] = CAUSES[3, "check"]
+CAUSES[1, "probe"] = CAUSES[1, "run"].replace(FRAMES, LINES)
+CAUSES |= {(3, word): CAUSES[3, "check"] for word in ("run", "probe")}
 # The commands whose lines are a report, beside a dump; and the answers at which a dump stands.
 WRITERS, WRITTEN = ("run", "resume"), {(0, "run"), (1, "run"), (0, "resume"), (1, "resume"), (7, "resume"), (8, "resume")}
 
@@ -326,6 +372,6 @@ WRITERS, WRITTEN = ("run", "resume"), {(0, "run"), (1, "run"), (0, "resume"), (1
 def has_no_cause(word, ended):
     """Whether an answer is none of those that docs/FORMATS.md has for the command, each of which has its cause in its line."""
     status, out, report = ended
-    texts = (report, out) if status or word in WRITERS else (out, report)
+    texts = (report, out) if status and (status, word) != (1, "probe") or word in WRITERS else (out, report)
     wanted = CAUSES.get((status, word))
     return wanted is None or not re.fullmatch(wanted, texts[0]) or (status, word) not in WRITTEN and texts[1] != b""

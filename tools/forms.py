@@ -2,11 +2,12 @@
 
 import sys
 from copy import deepcopy
+from math import prod
 from pathlib import Path
 from struct import pack
 
 import answers
-from verdicts import MOST_FILTER, MOST_VERSION
+from verdicts import MOST_FILTER, MOST_LOOPS, MOST_NUMBER, MOST_VERSION, MOST_WAVE
 
 sys.path.insert(0, str(Path(__file__).parents[1] / "examples"))
 from compare import Model, differences, scaled
@@ -56,15 +57,49 @@ def species(dice, name, charge, filled):
             "turn": factor(dice, -12, 3)} | filled
 
 
-def all_species(dice, cells, side):
-    """Species that have no charge, or come in pairs of opposite charge; now and then one with a charge alone."""
+def displaced(dice, of, side):
+    """What fills a species that is displaced from another."""
+    by = [dice.choice([0, 1, -1, side, -side, dice.randint(-side, side)]) for _ in range(3)]
+    return {"displace": {"of": of, "by": by, "v": velocity(dice, 256 * side)}}
+
+
+def loops(dice, cells):
+    """Driven loops, within their limits."""
+    high = 2 ** dice.randint(0, 60)
+    return [{"axis": dice.randrange(3), "cell": [dice.randrange(c) for c in cells],
+             "wave": [dice.randint(-high, high) for _ in range(dice.choice([1, 2, 3, MOST_WAVE]))]}
+            for _ in range(dice.choice([0, 1, 2, MOST_LOOPS]))]
+
+
+def probes(dice, cells, particles):
+    """Probes, within their limits; either key may be left out."""
+    places = [[dice.randrange(2), dice.randrange(3), *(dice.randrange(c) for c in cells)] for _ in range(dice.choice([0, 1, 3, 64]))]
+    parts = {"places": places, "ids": [dice.randrange(particles) for _ in range(dice.choice([0, 1, 3, 64]))] if particles else []}
+    return {name: parts[name] for name in parts if dice.random() < 0.8}
+
+
+def all_species(dice, cells, side, version):
+    """Species that have no charge, or come in couples of opposite charge; now and then one with a charge alone."""
     made = []
     for n in range(dice.choice([0, 1, 1, 2])):
         charge = dice.choice([0, 1, -1, 7, 32767])
         made.append(species(dice, NAMES[2 * n], charge, source(dice, cells, side)))
         if charge and dice.random() < 0.9:
-            made.append(species(dice, NAMES[2 * n + 1], -charge, {"pair": {"of": NAMES[2 * n]} | drawn(dice, side)}))
+            filled = {"pair": {"of": NAMES[2 * n]} | drawn(dice, side)}
+            if version == 2 and dice.random() < 0.5:
+                filled = displaced(dice, NAMES[2 * n], side)
+            made.append(species(dice, NAMES[2 * n + 1], -charge, filled))
     return made
+
+
+def count_of(held):
+    """How many particles species have."""
+    counts = {}
+    for each in held:
+        filled = next(each[name] for name in answers.SOURCES if name in each)
+        counts[each["name"]] = (len(filled) if "points" in each else counts[filled["of"]] if "of" in filled else
+                                prod(filled["count"]) if "lattice" in each else filled["count"])
+    return sum(counts.values())
 
 
 def deck(dice):
@@ -83,9 +118,13 @@ def deck(dice):
         made["scale"] |= {name: wild[name] for name in wild if dice.random() < 0.8}
     if dice.random() < 0.6:
         made["field"] = field(dice, cells)
-    held = all_species(dice, cells, 2 ** sub.get("sub", 12))
+    held = all_species(dice, cells, 2 ** sub.get("sub", 12), version)
     if held or dice.random() < 0.5:
         made["species"] = held
+    if version == 2 and dice.random() < 0.4:
+        made["drive"] = loops(dice, cells)
+    if version == 2 and dice.random() < 0.4:
+        made["probe"] = probes(dice, cells, count_of(held))
     return made
 
 
@@ -132,7 +171,7 @@ def bend(dice, at, last):
     elif how == 2 and isinstance(at[last], list):
         at[last] = at[last] + at[last][-1:] if dice.random() < 0.5 else at[last][:-1]
     elif how == 3 and isinstance(at, dict):
-        at[dice.choice(["x", "Z", "é b", "", "a.b", "points", "lattice", "random", "pair", "drive", "sub", "filter"])] = dice.choice(ODD)
+        at[dice.choice(["x", "Z", "é b", "", "a.b", *answers.SOURCES, "drive", "probe", "sub", "filter", "wave"])] = dice.choice(ODD)
     elif how == 4 and isinstance(at, list):
         at[last] = deepcopy(dice.choice(at))
     else:
@@ -211,7 +250,7 @@ def damaged(dice, held):
 
 def run_dump(dice):
     """The dump of a run of the model."""
-    kind = dice.choice(["both", "filter"]) if MOST_VERSION == 2 and dice.random() < 0.6 else ""
+    kind = dice.choice(["both", "filter", "displace", "drive", "drive"]) if MOST_VERSION == 2 and dice.random() < 0.6 else ""
     while True:
         text = spelled(dice, deck(dice)) if dice.random() < 0.8 else random_deck(dice.randrange(10**6), kind).encode()
         status, held, _ = answers.run(text)
@@ -229,9 +268,10 @@ def made_dump(dice):
     scales = [multiplier_bytes(dice) for _ in range(4)]
     scales[2:] = [pack(">iI", *dice.choice([(0, 0), (1, 46), (1, 62), (-1, 50)])) for _ in range(2)]
     version = dice.randint(1, MOST_VERSION)
-    form = dice.choice([8, 14, dice.randint(7, 15)]), dice.choice([0] * 5 + [1] * 4 + [2]), dice.choice([0] * 9 + [1])
+    held = [loop_bytes(dice, cells) for _ in range(dice.choice([0] * 5 + [1, 2, MOST_LOOPS, MOST_LOOPS + 1]))] if version == 2 else []
+    form = dice.choice([8, 14, dice.randint(7, 15)]), dice.choice([0] * 5 + [1] * 4 + [2]), len(held)
     form = pack(">3I", *form) if version == 2 else b""
-    made = b"PICDUMP%d" % version + pack(">5I", *cells, steps, every) + b"".join(scales) + form + bytes(4)
+    made = b"PICDUMP%d" % version + pack(">5I", *cells, steps, every) + b"".join(scales) + form + bytes(4) + b"".join(held)
     model = object.__new__(Model)
     model.cells = cells
     model.places = [(i, j, k) for k in range(cells[2]) for j in range(cells[1]) for i in range(cells[0])]
@@ -240,6 +280,15 @@ def made_dump(dice):
     for step in due[:dice.randint(1, len(due))]:
         made += frame_bytes(dice, model, step, scales)
     return made + end_bytes(dice, cells, dice.choice([steps, step, step + 1, step + every]), dice.choice([0, 0, 1, 2]))
+
+
+def loop_bytes(dice, cells):
+    """A loop of a header; now and then a number of it is outside its limits."""
+    bad = dice.random() < 0.1
+    axis, *cell = (n + bad * dice.choice([0, 0, 1]) for n in (dice.randint(0, 2), *(c - 1 for c in cells)))
+    length = dice.choice([1, 2, MOST_WAVE, *[0, MOST_WAVE + 1] * bad])
+    wave = [dice.choice([0, 1, MOST_NUMBER, -MOST_NUMBER, *[MOST_NUMBER + 1, -MOST_NUMBER - 1] * bad]) for _ in range(length)]
+    return pack(f">5I{length}q", axis, *cell, length, *wave)
 
 
 def frame_bytes(dice, model, step, scales):

@@ -4,7 +4,7 @@
 
 Decks come from a grammar, whole or with some value, key or list another; some then have bytes flipped, cut or doubled. Dumps are those
 of the model's runs, and such as are made field by field, with fields or bytes another. `check` and `verify` are called on each, and
-`run` and `resume` where the model does the steps in moments, on 1 to 64 workers. Status, standard output and standard error have to be
+`run`, `probe` and `resume` where the model does the steps in moments, on 1 to 64 workers. Status, standard output and standard error have to be
 those of tools/answers.py, byte for byte. Printed are the counts by kind of answer, how many calls differ, and how many have an answer
 without a cause. A case is found again by its seed and number (--only NUMBER writes its input to standard output). The exit status is 0
 where none differs. A text that Python's reader refuses and pic's doesn't is no difference where it has forms of TOML 1.1; it is
@@ -54,7 +54,7 @@ def work_of(deck):
 def kind_of(word, ended):
     """The kind of an answer: its words without numbers."""
     status, out, report = ended
-    last = (report or out).splitlines()[-1:] or [b""]
+    last = (out if word == "probe" and status < 2 else report or out).splitlines()[-1:] or [b""]
     words = last[0].decode(errors="replace").split()
     if words[:2] == ["bad", "dump"]:
         return f"{word}: bad dump, cause {words[3]}"
@@ -92,6 +92,8 @@ def calls_of(dice, kind, given):
         yield ["check"] if dice.random() < 0.9 else [], answers.check(given)
     if work <= MOST_WORK:
         yield ["run", "--workers", dice.choice(WORKERS)], answers.run(given)
+        if dice.random() < 0.3:
+            yield ["probe", "--workers", dice.choice(WORKERS)], answers.probe(given)
 
 
 def tried(program, seed, number, counts):

@@ -103,7 +103,8 @@ if MOST_VERSION == 2:
         ("a filter of 1, where there was none", 64, b"\0\0\0\1", 8, "broken frame 1 node 0 0 0 div 100663296 rho 402653184"),
         ("a filter of 2", 64, b"\0\0\0\2", 7, "bad dump 64 2"),
         ("a filter of 2^24", 64, b"\1\0\0\0", 7, "bad dump 64 2"),
-        ("a loop", 68, b"\0\0\0\1", 7, "bad dump 68 2"),
+        ("a loop, where there was none", 68, b"\0\0\0\1", 7, "bad dump 196 2"),
+        ("17 loops", 68, b"\0\0\0\x11", 7, "bad dump 68 2"),
         ("17 species", 72, b"\0\0\0\x11", 7, "bad dump 72 2"),
         ("the ion's x at the end of the box", 6345, b"\0\0\4\0", 7, "bad dump 6345 6"),
         ("the ion's vx above what a push leaves", 6357, b"\0\x10\x08\0", 7, "bad dump 6357 6"),
@@ -113,9 +114,19 @@ if MOST_VERSION == 2:
     CHANGES["two_charges_filtered"] = [
         ("no filter, where there was one", 64, b"\0\0\0\0", 8, "broken frame 1 node 0 0 0 div 1649267441664 rho 412316860416"),
         ("a filter of 2", 64, b"\0\0\0\2", 7, "bad dump 64 2"),
-        ("a loop", 68, b"\0\0\0\1", 7, "bad dump 68 2"),
+        ("a loop, where there was none", 68, b"\0\0\0\1", 7, "bad dump 196 2"),
         ("a value of E that is 1", 216, b"\1", 8, "broken frame 0 node 0 0 0 div 1 rho 0"),
         ("the ion's x 1 further", 6345, b"\0\0\4\1", 8, "broken frame 0 node 0 0 0 div 0 rho -805306368"),
+    ]
+    CHANGES["antenna"] = [
+        ("no loops, where there were four", 68, b"\0\0\0\0", 7, "bad dump 76 3"),
+        ("17 loops", 68, b"\0\0\0\x11", 7, "bad dump 68 2"),
+        ("five loops", 68, b"\0\0\0\5", 7, "bad dump 1180 2"),
+        ("a loop across an axis that is none", 76, b"\0\0\0\3", 7, "bad dump 76 2"),
+        ("a loop beyond the box", 84, b"\0\0\0\2", 7, "bad dump 84 2"),
+        ("a wave without numbers", 92, b"\0\0\0\0", 7, "bad dump 92 2"),
+        ("a wave of 65 numbers", 92, b"\0\0\0\x41", 7, "bad dump 92 2"),
+        ("a wave's number above 2^60", 96, b"\x10\0\0\0\0\0\0\1", 7, "bad dump 96 2"),
     ]
 
 
@@ -127,8 +138,9 @@ def changes(program):
             changed = run.dump[:place] + field + run.dump[place + len(field):]
             ended = program.call("verify", given=changed)
             test.case(name, ended == (status, b"", f"{line}\n".encode()) == answers.verify(changed), ended)
-            ended = program.call("resume", "--steps", "3", given=changed)
-            fits = (ended[0], ended[2].splitlines()[-1].decode()) == (status, line) and ended == answers.resume(changed, 3)
+            steps = max(3, run.number(20))
+            ended = program.call("resume", "--steps", str(steps), given=changed)
+            fits = (ended[0], ended[2].splitlines()[-1].decode()) == (status, line) and ended == answers.resume(changed, steps)
             test.case(f"{name}, resume", fits, ended)
         test.end()
 
@@ -171,7 +183,7 @@ def pipes(program):
         stopped = status == 5 and report in may or status == 0 and length + PAGE >= len(run.dump)
         test.case(f"{length} bytes", stopped and got == run.dump[:length], ended)
     test.end()
-    test = Test("run, the pipe of the report closed; check, verify, demo, resume, refusals, usage with their pipe closed")
+    test = Test("run, the pipe of the report closed; check, probe, verify, demo, resume, refusals, usage with their pipe closed")
     for name, words, given, stream, left in closed_calls(program, run):
         reader, writer = os.pipe()
         os.close(reader)
@@ -191,6 +203,7 @@ def closed_calls(program, run):
     yield "run, report", ["run"], run.deck, "stderr", first
     yield "run, dump", ["run"], run.deck, "stdout", b""
     yield "check", ["check"], run.deck, "stdout", b""
+    yield "probe", ["probe"], run.deck, "stdout", b""
     yield "check, refused", ["check"], b"", "stderr", b""
     yield "verify", ["verify"], run.dump, "stdout", b""
     yield "verify, bad", ["verify"], b"", "stderr", b""
@@ -212,7 +225,7 @@ def limited_file(program, run, length, stream):
 
 def disks(program):
     run = Run(program, "demo_7")
-    test = Test("run, check, verify, demo, resume, refusals, usage with a stream on /dev/full")
+    test = Test("run, check, probe, verify, demo, resume, refusals, usage with a stream on /dev/full")
     for name, words, given, stream, left in closed_calls(program, run):
         with open("/dev/full", "wb") as full:
             ended = program.call(*words, given=given, **{stream: full})
@@ -264,9 +277,10 @@ def slow(program):
         ended = process.wait(NEVER_SO_LONG), got, report
         test.case(f"{most} bytes", ended == (0, run.dump, b"".join(run.report)), ended)
     test.end()
-    test = Test("check, verify and resume, a writer slower than the reader: pieces of random lengths, with pauses")
+    test = Test("check, probe, verify and resume, a writer slower than the reader: pieces of random lengths, with pauses")
     dice, part = random.Random(2), Run.resumed(program, "two_charges")
-    for words, given, answer in ((["check"], run.deck, (0, b"ok 2 particles\n", b"")), (["verify"], run.dump, (0, b"verified 2 frames\n", b"")),
+    for words, given, answer in ((["check"], run.deck, (0, b"ok 2 particles\n", b"")), (["probe"], run.deck, (0, b"0\n1\ndone 1\n", b"")),
+                                 (["verify"], run.dump, (0, b"verified 2 frames\n", b"")),
                                  (part.words, part.given, (0, part.dump, b"".join(part.report)))):
         for most in (1, 7, 100) if words == ["check"] else (7, 100, 4097):
             process = program.start(*words)
@@ -285,8 +299,8 @@ def slow(program):
 
 
 def reads(program):
-    test = Test("check, run, verify, resume of a directory, and of a pipe that has nothing yet and doesn't block")
-    for words in ["check"], ["run"], ["verify"], ["resume", "--steps", "1"]:
+    test = Test("check, run, probe, verify, resume of a directory, and of a pipe that has nothing yet and doesn't block")
+    for words in ["check"], ["run"], ["probe"], ["verify"], ["resume", "--steps", "1"]:
         folder = os.open("/", os.O_RDONLY)
         ended = program.call(*words, stdin=folder)
         os.close(folder)

@@ -9,6 +9,7 @@ needs Python 3.11 and a C compiler (cc).
 """
 
 import argparse
+import random
 import subprocess
 import sys
 import tempfile
@@ -74,12 +75,22 @@ def agree_exactly(program, test, name, deck, workers):
     test.end()
 
 
+def loops(seed, cells, lengths):
+    """Loops at random faces, with waves of so many numbers."""
+    dice = random.Random(seed)
+    return [{"axis": n % 3, "cell": [dice.randrange(c) for c in cells], "wave": [dice.randint(-10**11, 10**11) for _ in range(length)]}
+            for n, length in enumerate(lengths)]
+
+
 def agree_with_model(program, test, name, deck, workers):
     text = text_of(deck)
-    wanted = answers.run(text)
+    wanted, lines = answers.run(text), answers.probe(text) if "probe" in deck else None
     for count in workers:
         ended = program.call("run", "--workers", str(count), given=text)
         test.case(f"{name}, {count} workers", ended == wanted, ended)
+        if lines:
+            ended = program.call("probe", "--workers", str(count), given=text)
+            test.case(f"{name}, probed, {count} workers", ended == lines, ended)
     test.case(f"{name}, verified", program.call("verify", given=wanted[1]) == answers.verify(wanted[1]), wanted, "verified")
     test.end()
 
@@ -97,6 +108,23 @@ def long(program, steps):
     agree_exactly(program, Test(f"{steps // 20} steps of the same, 2 and 4 workers"), "long", few, [2, 4])
     brief = deck | {"run": {"steps": steps // 500, "every": max(1, steps // 10000)}}
     agree_with_model(program, Test(f"{steps // 500} steps of the same, byte for byte, 1 and 3 workers"), "long", brief, [1, 3])
+    driven = brief | {"version": 2, "grid": deck["grid"] | {"sub": 12}, "drive": loops(3, deck["grid"]["cells"], [7, 64, 1])}
+    agree_with_model(program, Test(f"{steps // 500} steps of the same with three loops, byte for byte, 1 and 3 workers"), "driven", driven, [1, 3])
+
+
+def of_all_devices():
+    """A deck with displaced species, as many loops as there may be, each with a wave of 64 numbers, and as many probes."""
+    cells, dice = [6, 4, 4], random.Random(9)
+    held = [species("ion", 2, random={"count": 40} | drawn(5, [0, 0, 0], 2**12))]
+    # A way from drawn particles, from paired ones, from pairs of displaced ones, and from displaced ones, beside a pair of these.
+    for name, charge, of, by in (("a", -2, "ion", [4096, -4096, 1]), ("b", 3, "ion", None), ("c", -3, "b", [-2048, 0, 4096]), ("d", 1, "a", None),
+                                 ("e", -1, "d", [-4095, 7, -4096]), ("f", -2, "a", None), ("g", 2, "a", [0, 0, 4096])):
+        source = {"displace": {"of": of, "by": by, "v": [dice.randint(-2**20, 2**20) for _ in range(3)]}}
+        held.append(species(name, charge, **source if by else {"pair": {"of": of} | drawn(6, [0, 0, 0], 2**12)}))
+    places = [[dice.randrange(2), dice.randrange(3), *(dice.randrange(c) for c in cells)] for _ in range(64)]
+    probe = {"places": places, "ids": [dice.randrange(320) for _ in range(64)]}
+    deck = deck_of(cells, [3, 2, 2], 20, 7, species=held, drive=loops(4, cells, [64] * 16), probe=probe)
+    return deck | {"version": 2, "grid": deck["grid"] | {"sub": 12}, "run": deck["run"] | {"filter": 1}}
 
 
 def wide(program, steps):
@@ -116,6 +144,7 @@ def wide(program, steps):
                  species(f"P_{n}", n - 1, pair={"of": f"S_{n}".ljust(32, "x")} | drawn(n, [0, 0, n], 2**10))]
     deck = deck_of([4, 6, 5], [2, 3, 1], 20, 7, species=many)
     agree_with_model(program, Test("20 steps of 16 species from lattices, random ones and pairs, 1, 2, 64 workers"), "species", deck, [1, 2, 64])
+    agree_with_model(program, Test("20 steps of 4 displaced species, 16 loops, 128 probes, 1, 3, 64 workers"), "devices", of_all_devices(), [1, 3, 64])
     half = 524288
     most = [species("e", -1, random={"count": half} | drawn(1, [0, 0, 0], 2**18)), species("i", 1, pair={"of": "e"} | drawn(2, [0, 0, 0], 9))]
     deck = deck_of([64, 64, 64], [8, 8, 8], 3, 3, species=most)
@@ -172,9 +201,34 @@ def numbers_of(deck):
         yield ["species", place, name, "stream"], (0, BIGGEST)
 
 
+def deck_of_version_2():
+    """A small deck with a displaced species, loops and probes."""
+    moved = species("moved", -1, displace={"of": "points", "by": [5, -7, 0], "v": [0, 1, 2]})
+    deck = deck_of([4, 2, 3], [2, 1, 1], 2, 1, species=[species("points", 1, points=[[255, 0, 511, 1, 2, 3], [9, 8, 7, 0, 0, 0]]), moved],
+                   drive=[{"axis": 0, "cell": [3, 1, 2], "wave": [5, -6]}], probe={"places": [[0, 0, 0, 0, 0]], "ids": [1, 3]})
+    return deck | {"version": 2, "grid": deck["grid"] | {"sub": 8}, "run": deck["run"] | {"filter": 1}}
+
+
+def numbers_of_2(deck):
+    """The numbers that version 2 alone has."""
+    side, cells = 2 ** deck["grid"]["sub"], deck["grid"]["cells"]
+    yield ["grid", "sub"], (8, 14)
+    yield ["run", "filter"], (0, 1)
+    for n in range(3):
+        yield ["species", 1, "displace", "by", n], (-side, side)
+        yield ["species", 1, "displace", "v", n], (-4096 * side, 4096 * side)
+        yield ["drive", 0, "cell", n], (0, cells[n] - 1)
+        yield ["probe", "places", 0, 2 + n], (0, cells[n] - 1)
+    yield ["drive", 0, "axis"], (0, 2)
+    yield ["drive", 0, "wave", 1], (-(2**60), 2**60)
+    yield ["probe", "places", 0, 0], (0, 1)
+    yield ["probe", "places", 0, 1], (0, 2)
+    yield ["probe", "ids", 1], (0, 3)
+
+
 def is_brief(deck):
     """Whether the model runs a deck in seconds."""
-    counts = [s.get("lattice", {}).get("count", [1]) for s in deck["species"]] + [[deck["species"][2]["random"]["count"]]]
+    counts = [s.get("lattice", {}).get("count", [1]) + [s.get("random", {}).get("count", 1)] for s in deck["species"]]
     return deck["run"]["steps"] < 100 and max(map(max, counts)) < 1000
 
 
@@ -186,10 +240,17 @@ def limits(program, steps):
             species("random", 0, random={"count": 2} | drawn(1, [0, 0, 0], 5)), species("pair", 0, pair={"of": "random"} | drawn(3, [1, 2, 3], 4))]
     field = {"e": [0, 0, 0], "b": [1, 2, 3], "edges": [[0, 0, 0, 0, 0]], "faces": [[1, 0, 0, 0, 5]]}
     deck = deck_of([4, 4, 4], [2, 2, 2], 2, 1, field=field, species=four)
+    at_limits(program, "a deck", deck, numbers_of)
+    at_limits(program, "version 2 alone", deck_of_version_2(), numbers_of_2)
+    lists(program, deck)
+    lists_of_2(program, deck_of_version_2())
+
+
+def at_limits(program, what, deck, numbers):
     force = deck | {"scale": deck["scale"] | {"e_force": [0, 0], "b_force": [0, 0]}}
-    at, beyond = Test("run or check, each number of a deck at either limit"), Test("check, each number of a deck one beyond either limit")
-    for path, (low, high) in numbers_of(deck):
-        base = force if path[0] == "field" else deck
+    at, beyond = Test(f"run or check, each number of {what} at either limit"), Test(f"check, each number of {what} one beyond either limit")
+    for path, (low, high) in numbers(deck):
+        base = force if path[0] in ("field", "drive") else deck
         for value in low, high:
             made = changed(base, path, value)
             text, word = text_of(made), "run" if is_brief(made) else "check"
@@ -202,7 +263,21 @@ def limits(program, steps):
             beyond.case(f"{path} {value}", fits, ended, b" ".join(ended[2].split()[:3]).decode())
     at.end()
     beyond.end()
-    lists(program, deck)
+
+
+def lists_of_2(program, deck):
+    test = Test("check and probe, loops, waves and probes at their limits and beyond")
+    loop, probe = deck["drive"][0], deck["probe"]
+    made = [changed(deck, ["drive"], [loop] * number) for number in (0, 1, 16, 17)]
+    made += [changed(deck, ["drive", 0, "wave"], [n - 3 for n in range(number)]) for number in (0, 1, 64, 65)]
+    made += [changed(deck, ["probe", "places"], probe["places"] * number) for number in (0, 64, 65)]
+    made += [changed(deck, ["probe", "ids"], [n % 4 for n in range(number)]) for number in (0, 64, 65)]
+    made += [changed(deck, ["species"], []), changed(deck, ["probe"], {}), changed(deck, ["probe"], {"ids": [3, 3, 0]})]
+    for n, each in enumerate(made):
+        for word in "check", "probe":
+            ended, wanted = program.call(word, given=text_of(each)), getattr(answers, word)(text_of(each))
+            test.case(f"deck {n}, {word}", ended == wanted, ended)
+    test.end()
 
 
 def lists(program, deck):

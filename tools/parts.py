@@ -130,7 +130,7 @@ def mended(program, chosen):
     dice = random.Random(5)
     with tempfile.TemporaryDirectory() as folder:
         path = Path(folder) / "cut.dump"
-        for name in "two_charges", "two_charges_fine", "two_charges_filtered":
+        for name in "two_charges", "two_charges_fine", "two_charges_filtered", "cold_oscillation", "antenna":
             run = Run(program, name)
             deck = with_steps(run.deck.decode(), 40, 3)
             whole = program.call("run", given=deck.encode())

@@ -83,19 +83,26 @@ def with_steps(deck, steps, every=None):
 
 class Run:
     """A call that writes a dump, and how it ends when nothing hinders it: the whole dump, the report's lines, and where the frames end
-    in the dump. The call is `run` with a deck; of `resumed` it is `resume` with a dump."""
+    in the dump. The call is `run` with a deck; of `resumed` it is `resume` with a dump. `probe_lines` is what `probe` puts for the deck."""
 
     def __init__(self, program, name, words=("run",), given=None):
         self.name, self.deck, self.words = f"{name}.toml", (HOME / "decks" / f"{name}.toml").read_bytes(), list(words)
+        self.probe_lines = program.call("probe", given=self.deck)[1]
         self.given = self.deck if given is None else given
         status, self.dump, report = program.call(*words, given=self.given)
         assert status == 0, f"{words[0]} doesn't end well with {name}"
         self.report = report.splitlines(keepends=True)
         front = 76 if self.dump[7:8] == b"2" else 64
-        self.header = front + 60 * int.from_bytes(self.dump[front - 4:front], "big")
+        self.header = front + 60 * self.number(front - 4)
+        for _ in range(self.number(68) if front == 76 else 0):
+            self.header += 20 + 8 * self.number(self.header + 16)
         frames = len(self.report) - 1
         frame = (len(self.dump) - 6 - self.header) // frames
         self.frame_ends = [self.header + (n + 1) * frame for n in range(frames)]
+
+    def number(self, place):
+        """The number of four bytes at a place of the dump."""
+        return int.from_bytes(self.dump[place:place + 4], "big")
 
     @classmethod
     def resumed(cls, program, name, *words):

@@ -63,7 +63,8 @@ def resume_takes(program):
 def takes(program):
     """The reads of standard input fail, one in turn, until one is named that never comes."""
     run = Run(program, "two_charges")
-    for words, given in (["check"], run.deck), (["run"], run.deck), (["run", "--workers", "3"], run.deck), (["verify"], run.dump):
+    for words, given in ((["check"], run.deck), (["run"], run.deck), (["run", "--workers", "3"], run.deck), (["probe"], run.deck),
+                         (["verify"], run.dump)):
         test = Test(f"{' '.join(words)}, with one read in turn that fails")
         whole = program.call(*words, given=given)
         for number in range(MOST_TAKES):
@@ -117,6 +118,9 @@ def puts(program):
     run = Run(program, "demo_7")
     report = b"".join(run.report)
     puts_on(program, run, ["demo", "7"], 1, lambda start, length: (report[:length], b""))
+    for name, words in ("cold_oscillation", ["probe"]), ("antenna", ["probe", "--workers", "3"]):
+        run = Run(program, name)
+        puts_on(program, run, words, 1, lambda start, length: (run.probe_lines[:length], b""))
     run = Run(program, "two_charges")
     test = Test("check, verify, refusals, usage, with their one write failing after 0, 1, half of its bytes")
     for words, given, stream in (["check"], run.deck, 1), (["verify"], run.dump, 1), (["check"], b"", 2), (["verify"], b"", 2), (["go"], b"", 2):
@@ -132,8 +136,9 @@ def is_short_of_memory(words, run, ended):
     status, out, report = ended
     if status != 6:
         return False
-    if words[0] == "demo":
-        return b"".join(run.report).startswith(out) and (not out or out.endswith(b"\n")) and not report
+    if words[0] in ("demo", "probe"):
+        text = b"".join(run.report) if words[0] == "demo" else run.probe_lines
+        return text.startswith(out) and (not out or out.endswith(b"\n")) and not report
     if words[0] in ("run", "resume") and out:
         return run.dump.startswith(out) and len(out) in (run.header, *run.frame_ends) and report == run.lines_of(len(out))
     return not out and not report
@@ -147,7 +152,7 @@ def has_no_start(ended):
 def has_no_stack(words, run, ended):
     """Whether the system, which had no room to let the stack grow, ended the program with a signal: fronts of both texts stand."""
     status, out, report = ended
-    text = {"run": run.dump, "resume": run.dump, "demo": b"".join(run.report)}.get(words[0], b"")
+    text = {"run": run.dump, "resume": run.dump, "demo": b"".join(run.report), "probe": run.probe_lines}.get(words[0], b"")
     has_report = words[0] in ("run", "resume")
     return status == -11 and text.startswith(out) and (has_report or not report) and run.lines_of(len(out)).startswith(report)
 
@@ -158,7 +163,8 @@ def memory_calls(program):
             ("empty", ["check"]), ("empty", ["run"]), ("two_charges", ["check"]), ("two_charges", ["run"]),
             ("two_charges", ["run", "--workers", "3"]), ("two_charges", ["run", "--workers", "64"]), ("two_charges", ["verify"]),
             ("two_charges_filtered", ["check"]), ("two_charges_filtered", ["run"]), ("two_charges_filtered", ["run", "--workers", "3"]),
-            ("two_charges_filtered", ["verify"]),
+            ("two_charges_filtered", ["verify"]), ("two_charges", ["probe"]), ("cold_oscillation", ["check"]), ("cold_oscillation", ["run"]),
+            ("antenna", ["check"]), ("antenna", ["run"]), ("antenna", ["probe"]), ("antenna", ["verify"]),
             ("demo_7", ["run", "--workers", "4"]), ("demo_7", ["demo", "7"]), ("demo_7", ["demo", "7", "--workers", "64"])):
         run = Run(program, name)
         yield f"{' '.join(words)}, {run.name}", words, run, {"verify": run.dump, "demo": b""}.get(words[0], run.deck)

@@ -12,6 +12,8 @@ from compare import FAULTS, Halt, Model, scaled
 MOST_VERSION = 2
 MOST_CELLS, MOST_PARTICLES, SUBS = {1: 64, 2: 128}, {1: 2**20, 2: 2**22}, {1: (12, 12), 2: (8, 14)}
 MOST_FILTER = 1
+# Loops, the numbers of a loop's wave, and the greatest of these in size.
+MOST_LOOPS, MOST_WAVE, MOST_NUMBER = 16, 64, 2**60
 MOST_FORCE, MOST_VALUE = 2**44, 2**90
 MOST_FACTOR, MOST_SHIFT, MOST_STEPS, MOST_SPECIES = 2**31 - 1, 62, 1000000, 16
 
@@ -64,7 +66,7 @@ class Dump:
         self.steps = self.natural(2, lambda n: n <= MOST_STEPS)
         self.every = self.natural(2, lambda n: 1 <= n <= MOST_STEPS)
         self.scale = {name: self.factor() for name in ("e_to_b", "b_to_e", "e_force", "b_force")}
-        self.side, self.filter = (2**12, 0) if version == 1 else self.form()
+        self.side, self.filter, number = (2**12, 0, 0) if version == 1 else self.form()
         self.species, names, total = [], set(), 0
         for _ in range(self.natural(2, lambda n: n <= MOST_SPECIES)):
             name = self.field("32s", 32, 2, lambda name: re.fullmatch(rb"[A-Za-z0-9_]{1,32}\0*", name) and name not in names)
@@ -75,13 +77,17 @@ class Dump:
             total += count
             self.species.append({"name": name.rstrip(b"\0").decode(), "charge": charge, "mass": mass, "kick": kick, "turn": turn,
                                  "count": count})
+        self.loops = [self.loop() for _ in range(number)]
 
     def form(self):
-        """What version 2 says more: the side of a cell, and the filter; and there is no loop."""
+        """What version 2 says more: the side of a cell, the filter, and the number of loops."""
         sub = self.natural(2, lambda n: SUBS[2][0] <= n <= SUBS[2][1])
-        chosen = self.natural(2, lambda n: n <= MOST_FILTER)
-        self.natural(2, lambda loops: loops == 0)
-        return 2**sub, chosen
+        return 2**sub, self.natural(2, lambda n: n <= MOST_FILTER), self.natural(2, lambda n: n <= MOST_LOOPS)
+
+    def loop(self):
+        axis, cell = self.natural(2, lambda n: n < 3), [self.natural(2, lambda n: n < cells) for cells in self.cells]
+        length = self.natural(2, lambda n: 1 <= n <= MOST_WAVE)
+        return {"axis": axis, "cell": cell, "wave": [self.field("q", 8, 2, lambda n: abs(n) <= MOST_NUMBER) for _ in range(length)]}
 
     def values(self, name):
         """The three components of a field."""
@@ -110,7 +116,7 @@ class Dump:
         """The run's state that the last frame read is; before the first one it has none."""
         if self.model is None:
             self.model = object.__new__(Model)
-            for name in "version", "cells", "side", "scale", "steps", "every", "filter":
+            for name in "version", "cells", "side", "scale", "steps", "every", "filter", "loops":
                 setattr(self.model, name, getattr(self, name))
             self.model.kinds, self.model.counts = self.species, [kind["count"] for kind in self.species]
             self.model.lay_out()

@@ -13,6 +13,7 @@ try:
     from pictools.deck import DeckError
     from pictools.limits import refuse
     from pictools.plasma import Plasma
+    from pictools.probe import Probes
 except ModuleNotFoundError as missing:
     if missing.name != "numpy":
         raise
@@ -25,9 +26,16 @@ def plots() -> ModuleType:
 
 
 def plot(words: argparse.Namespace) -> None:
-    module = plots()
-    runs = {path.removesuffix(".dump"): files.opened(path) for path in words.dump}
-    picture, lines = module.drawn(runs, words.panels, views.view_from(words))
+    decks, module = words.deck or [None], plots()
+    if len(decks) not in (1, len(words.dump)):
+        raise ValueError(f"--deck {' '.join(decks)}: there is one for all of {len(words.dump)} files, or one for each")
+    runs = {path.removesuffix(".dump").removesuffix(".lines"): files.drawable(path, deck)
+            for path, deck in zip(words.dump, decks * len(words.dump) if len(decks) == 1 else decks)}
+    kinds = {isinstance(run, Probes) for run in runs.values()}
+    if len(kinds) > 1:
+        raise ValueError("dumps and probe lines aren't drawn in one picture")
+    drawn = optional.module("probe_plots", "pictures").drawn if True in kinds else module.drawn
+    picture, lines = drawn(runs, words.panels, views.view_from(words))
     with files.written(words.out) as place:
         module.save(picture, place)
     for line in lines:
@@ -71,7 +79,9 @@ def explained(words: argparse.Namespace) -> None:
 
 
 def add_plot(part: argparse.ArgumentParser) -> None:
-    part.add_argument("dump", nargs="+", help="a dump, or several, whose panels are drawn side by side")
+    part.add_argument("dump", nargs="+", help="a dump, or several, whose panels are drawn side by side; or what `pic probe` puts, with "
+                                              "--deck")
+    part.add_argument("--deck", nargs="+", help="of probe lines: their deck, which says what their columns are; one for all, or one for each")
     part.add_argument("-o", "--out", required=True, help="the picture's file, .png or another kind that matplotlib knows")
     views.add_options(part)
     part.set_defaults(call=plot)

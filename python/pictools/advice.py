@@ -7,7 +7,7 @@ from typing import TYPE_CHECKING
 
 import numpy as np
 
-from pictools import theory
+from pictools import antenna, probing, theory
 from pictools.deck import tiles_of
 from pictools.versions import SUB_1
 
@@ -45,11 +45,15 @@ def chosen(plasma: Plasma) -> list[str]:
         along = "" if p.wave_axis == "x" else f" along {p.wave_axis}"
         lines.append(f"They start with wave {p.wave} of the box{along}, k = {p.wave_number:.4f} a cell, of "
                      f"{p.wave_speed:g} cells a step.")
+    if p.displace:
+        lines.append(f"They start {p.displace:g} cells along {p.displace_axis} from their ions, all of them.")
     if p.filter:
         lines.append("The current is filtered: short waves make less noise, and E and B are 64 times as large; e_force and b_force are "
                      "64 times as small for that.")
+    if p.antenna:
+        lines.append(antenna.Antenna(p).said())
     tiles = prod(tiles_of(p.cells))
-    return lines + [ions(plasma), f"The grid has {tiles} tile{'s' * (tiles > 1)}: more workers than that only cost time."]
+    return lines + [ions(plasma), *probing.said(p), f"The grid has {tiles} tile{'s' * (tiles > 1)}: more workers than that only cost time."]
 
 
 def thermal(plasma: Plasma) -> str:
@@ -75,6 +79,9 @@ def streams(plasma: Plasma) -> str:
 
 def ions(plasma: Plasma) -> str:
     """The ions, their mass and where they begin."""
+    if plasma.displace:
+        rest = f"{plasma.mass_ratio} times as heavy" if plasma.mass_ratio else "still for good"
+        return f"Ions: {rest}, one beside each electron."
     if plasma.mass_ratio:
         return f"Ions: {plasma.mass_ratio} times as heavy, one on each electron."
     rest = "going along" if len(plasma.beams) == 1 and plasma.drift else "still"
@@ -121,7 +128,19 @@ def expected(plasma: Plasma) -> list[str]:
         lines.append(f"{name} at the start: it grows by {w.imag:.5f} a step." if w.imag > 1e-6 else
                      f"{name} at the start: its frequency is {w.real:.5f} a step"
                      + (f", and it is damped by {-w.imag:.5f} a step." if w.imag < -5e-6 else "."))
+    if w := swing(p):
+        lines.append(f"The electrons swing together with {w:.5f} a step, sin(w/2) = wp/2, once in {2 * pi / w:.4g} steps.")
     return lines
+
+
+def swing(plasma: Plasma) -> float | None:
+    """The frequency with which displaced electrons swing together, by sin(w/2) = wp/2, with the part of ions that move; None where
+    none are displaced, or where B turns them."""
+    p = plasma
+    wp = p.plasma_frequency * sqrt(1 + (1 / p.mass_ratio if p.mass_ratio else 0))
+    if not p.displace or p.gyration and p.gyration_axis != p.displace_axis or wp >= 2:
+        return None
+    return 2 * asin(wp / 2)
 
 
 def warnings(plasma: Plasma) -> list[str]:
@@ -211,7 +230,8 @@ def roundings(plasma: Plasma) -> list[str]:
     """Speeds that are few sub-cells a step."""
     p = plasma
     speeds = [("thermal speed", min((v for v in p.thermal_speeds if v), default=0)), ("drift", p.drift),
-              ("drift across B", p.cross_drift), ("wave", p.wave_speed)]
+              ("drift across B", p.cross_drift), ("wave", p.wave_speed), ("antenna", p.antenna),
+              ("swing of what is displaced", abs(p.displace) * p.plasma_frequency)]
     return [f"the {name} moves a particle by {speed * p.side:.2g} sub-cells a step; below 20 rounded moves show."
             for name, speed in speeds if 0 < speed * p.side < 20]
 
@@ -221,7 +241,8 @@ def frames(plasma: Plasma) -> list[str]:
     p, lines, shown = plasma, [], pi / plasma.every
     warm = sqrt(1.75) if debye_length(p) else 1
     swing = sqrt((warm * p.plasma_frequency)**2 + p.gyration**2)
-    waves = 2 * asin(min(1, p.light_speed * sqrt(len(long_axes(p))))) if makes_light(p) else 0
+    waves = 2 * asin(min(1, p.light_speed * sqrt(len(long_axes(p))))) if makes_light(p) and not p.antenna else 0
+    swing = max(swing, 2 * pi / p.antenna_period if p.antenna else 0)
     if swing > shown:
         lines.append(f"frames every {p.every} steps show frequencies up to pi / every = {shown:.3g}, and electrons swing with "
                      f"up to {swing:.3g}: they are seen folded, as slower ones; take --every {max(int(pi / swing), 1)} or less.")
@@ -269,7 +290,7 @@ def forces(plasma: Plasma) -> list[str]:
     """Force values near their bound. A speed that swings makes E as large as 12 (S^2 / 4096) q n v / wp, and all that
     the streams have is the most that can swing."""
     p = plasma
-    swing = max(greatest_drift(p), p.wave_speed, *p.thermal_speeds) * p.fast
+    swing = max(greatest_drift(p), p.wave_speed, abs(p.displace) * p.plasma_frequency, *p.thermal_speeds) * p.fast
     force_e = p.unit_current * p.particles_a_cell * swing / p.plasma_frequency * p.e_force.value
     force_b = abs(p.field_b) * p.e_force.value
     return [f"force values of {name} come to about 2^{log2(force):.0f}, near their bound 2^44."

@@ -70,7 +70,8 @@ def add_scan(part: argparse.ArgumentParser) -> None:
                                            "in a folder of its name and _runs")
     add("--measure", choices=tuple(KINDS), default="growth",
         help=f"what is measured of each run: {', '.join(KINDS)} (default: growth)")
-    add("--of-wave", type=int, metavar="WAVE", help="the wave that is measured (default: that of the start)")
+    add("--of-wave", type=int, metavar="WAVE", help="the wave that is measured (default: that of the start; 0, which is all "
+                                                 "electrons together, with --displace)")
     add("--component", choices=views.COMPONENTS, help="of the wave (default: E along it; where electrons drift across it B)")
     views.add_window(part)
     add("--picture", help="the picture's file: what was measured beside theory")

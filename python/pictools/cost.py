@@ -8,17 +8,23 @@ from pictools.deck import Deck
 from pictools.header import frame_length, frames_due, header_length
 from pictools.info import size
 
-# README, "What it costs": seconds on one thread of the machine named there.
+# bench/RESULTS.md, "In short": seconds on one thread of the machine named there.
 PARTICLE_STEP = 0.2e-6
 CELL_STEP = 0.08e-6
 CELL_STEP_BESIDE_PARTICLES = 0.18e-6
 BYTES_A_SECOND = 600e6
+BYTES_A_STEP, BYTES_A_VALUE, BYTES_AN_ORBIT = 6, 14, 48     # of probe lines, mostly
 
 
 def dump_bytes(deck: Deck) -> int:
     """The bytes of the whole dump."""
     frames = frames_due(deck.steps, deck.every)
-    return header_length(deck.version, len(deck.species)) + frames * frame_length(deck.cells, deck.particles) + 6
+    return header_length(deck.version, len(deck.species), deck.loops) + frames * frame_length(deck.cells, deck.particles) + 6
+
+
+def line_bytes(deck: Deck) -> int:
+    """About the bytes of what `pic probe` puts: of a step, of a value, and of a particle's place and velocity."""
+    return (deck.steps + 1) * (BYTES_A_STEP + BYTES_A_VALUE * len(deck.places) + BYTES_AN_ORBIT * len(deck.ids))
 
 
 def seconds(deck: Deck) -> float:
@@ -38,5 +44,6 @@ def spoken(time: float) -> str:
 def say(deck: Deck) -> str:
     """The line of it."""
     frames = frames_due(deck.steps, deck.every)
+    lines = f" `pic probe` puts {deck.steps + 1} lines, about {size(line_bytes(deck))}." if deck.places or deck.ids else ""
     return (f"The run has {deck.steps} steps of {deck.particles} particles in {prod(deck.cells)} cells: about "
-            f"{spoken(seconds(deck))} on one thread. Its dump has {frames} frame{'s' * (frames > 1)}, {size(dump_bytes(deck))}.")
+            f"{spoken(seconds(deck))} on one thread. Its dump has {frames} frame{'s' * (frames > 1)}, {size(dump_bytes(deck))}." + lines)

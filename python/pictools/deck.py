@@ -5,11 +5,13 @@ from __future__ import annotations
 from collections.abc import Iterable, Sequence
 from dataclasses import dataclass, field
 from math import frexp, prod
+from typing import NamedTuple
 
 import numpy as np
 from numpy.typing import NDArray
 
 from pictools.dump import Multiplier
+from pictools.header import Loop
 from pictools.versions import SUB_1, Sided
 
 MOST_BYTES = 1 << 20
@@ -145,9 +147,42 @@ class Pair(Drawn):
 
 
 @dataclass
+class Displaced(Species):
+    """One where each particle of an earlier species of the opposite charge stands, moved by `by`, three whole numbers of
+    sub-cells, each at most a cell, all of the velocity `v`. The program makes the E of that."""
+
+    of: Species
+    by: Sequence[int]
+    v: Sequence[int] = (0, 0, 0)
+
+    @property
+    def count(self) -> int:
+        return self.of.count
+
+    def source(self) -> str:
+        return f'displace = {{ of = "{self.of.name}", by = {list(self.by)}, v = {list(self.v)} }}\n'
+
+
+class Place(NamedTuple):
+    """A component of a field, as "ey", at a cell."""
+
+    component: str
+    cell: tuple[int, int, int]
+
+    @property
+    def row(self) -> list[int]:
+        """As a row of a deck."""
+        return ["eb".index(self.component[0]), "xyz".index(self.component[1]), *self.cell]
+
+    def __str__(self) -> str:
+        return f"{self.component} at {', '.join(map(str, self.cell))}"
+
+
+@dataclass
 class Deck(Sided):
     """A deck. `edges` and `faces` are what is added to E and B: arrays of shape (3, nz, ny, nx), or None for nothing. With a
-    `sub` it is one of version 2, which may have a `filter` of the current."""
+    `sub` it is one of version 2, which may have a `filter` of the current, driven `loops`, and probes: `places`, and `ids` of
+    particles."""
 
     cells: tuple[int, int, int]
     steps: int
@@ -164,6 +199,9 @@ class Deck(Sided):
     species: list[Species] = field(default_factory=list)
     sub: int | None = None
     filter: int = 0
+    loops: Sequence[Loop] = ()
+    places: Sequence[Place] = ()
+    ids: Sequence[int] = ()
 
     @property
     def particles(self) -> int:
@@ -179,7 +217,9 @@ class Deck(Sided):
         text += "".join(f"{name} = {list(getattr(self, name))}\n" for name in ("e_to_b", "b_to_e", "e_force", "b_force"))
         text += f"\n[field]\ne = {list(self.e)}\nb = {list(self.b)}\n"
         text += field_rows("edges", self.edges) + field_rows("faces", self.faces)
-        text += "".join(species.text() for species in self.species)
+        text += "".join(species.text() for species in self.species) + "".join(map(loop_text, self.loops))
+        if self.places or self.ids:
+            text += "\n[probe]\n" + rows("places", [place.row for place in self.places]) + f"ids = {list(self.ids)}\n"
         if self.particles > self.allowance.particles:
             raise DeckError(f"{self.particles} particles; a deck of version {self.version} has at most "
                             f"{self.allowance.particles}")
@@ -197,6 +237,10 @@ def tiles_of(cells: Sequence[int]) -> list[int]:
 def rows(name: str, values: Iterable[Iterable[int]]) -> str:
     """An array of rows, a line each, without a blank that could be spared: a deck's bytes are its particles."""
     return f"{name} = [\n" + "".join(f"[{','.join(map(str, row))}],\n" for row in np.asarray(values).tolist()) + "]\n"
+
+
+def loop_text(loop: Loop) -> str:
+    return f"\n[[drive]]\naxis = {loop.axis}\ncell = {list(loop.cell)}\nwave = {list(loop.wave)}\n"
 
 
 def field_rows(name: str, values: NDArray[np.int64] | None) -> str:

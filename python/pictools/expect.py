@@ -2,6 +2,7 @@
 
 from __future__ import annotations
 
+from collections.abc import Sequence
 from math import pi, sqrt
 from typing import NamedTuple
 
@@ -9,7 +10,7 @@ import numpy as np
 from numpy.typing import NDArray
 
 from pictools import theory, units
-from pictools.dump import Dump, Frame
+from pictools.dump import Dump, Frame, Header
 from pictools.measure import AXES, Wave, component
 
 BRANCHES = 4                # of Bernstein's waves
@@ -73,6 +74,14 @@ def start_of(dump: Dump, along: str) -> Start:
                  thermal_speeds(frame, AXES.index(along)), np.array(turns), header.filter)
 
 
+def start_of_deck(header: Header, b: Sequence[int]) -> Start:
+    """The same of a deck with this uniform B, as far as it says it: its electrons are taken to be at rest."""
+    kinds = units.electrons(header)
+    turns = [abs(units.gyration(header, kinds[0], float(part))) if kinds else 0.0 for part in b]
+    return Start(units.plasma_frequency(header), units.light_speed(header), np.zeros((len(kinds), 3)), np.zeros(3), np.array(turns),
+                 header.filter)
+
+
 def growth(dump: Dump, name: str, wave: Wave, along: str) -> Rate | None:
     """How fast a wave along an axis grows: of two equal streams, or of one warm kind of electrons; None where there is no
     theory here."""
@@ -126,7 +135,12 @@ def damping(dump: Dump, name: str, wave: Wave, along: str) -> Rate | None:
 def curves(dump: Dump, name: str, along: str, numbers: NDArray) -> list[Curve]:
     """The theory's frequencies at these wave numbers, where it has any: of light; for E along the axis of Langmuir waves or, in
     a uniform B across it, of upper hybrid and Bernstein's waves."""
-    a, (field, axis), start = AXES.index(along), component(name), start_of(dump, along)
+    return curves_of(start_of(dump, along), name, along, numbers)
+
+
+def curves_of(start: Start, name: str, along: str, numbers: NDArray) -> list[Curve]:
+    """The same of such electrons."""
+    a, (field, axis) = AXES.index(along), component(name)
     # A filter leaves nothing of waves of two cells.
     inner = numbers[(numbers > 0) & (np.cos(numbers / 2) > 0.01 if start.filter else True)]
     turns = [(turn, b) for b, turn in enumerate(start.turns) if turn]

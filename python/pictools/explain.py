@@ -11,10 +11,10 @@ SIDE_1 = 4096               # sub-cells a cell in version 1; a line doesn't say 
 
 
 def all_lines(lines: Iterable[str]) -> Iterator[str]:
-    """What each of these lines means. Of the lines of frames the first is explained alone."""
+    """What each of these lines means. Of the lines of frames, and of those of `pic probe`, the first is explained alone."""
     framed = False
     for line in filter(str.strip, lines):
-        if line.startswith("frame "):
+        if re.match(r"frame |\d+ -?\d", line):
             if framed:
                 continue
             framed = True
@@ -55,21 +55,24 @@ def text() -> list[str]:
 def unknown(path: str) -> list[str]:
     keys = siblings(path)
     said = [f"The deck has a key {path} that isn't one of a deck's."]
-    if place_of(path).startswith("species[i].") and path.rpartition(".")[2] in ("points", "lattice", "random", "pair"):
-        return said + ["A species has just one of points, lattice, random and pair."]
-    if path in ("grid.sub", "run.filter"):
+    if place_of(path).startswith("species[i].") and path.rpartition(".")[2] in ("points", "lattice", "random", "pair", "displace"):
+        more = " (displace in version 2 alone)" if path.endswith("displace") else ""
+        return said + [f"A species has just one of points, lattice, random, pair and displace{more}."]
+    if path in ("grid.sub", "run.filter", "drive", "probe"):
         return said + [f"It is a key of version 2: take it out, or give the deck version = 2 and {what_2(path)}."]
     return said + [f"In its place there can be: {', '.join(keys)}. Mend its name, or take it out." if keys else "Take it out."]
 
 
 def what_2(path: str) -> str:
     """What else a deck of version 1 wants to be one of version 2 that has this key."""
-    return "keep it" if path == "grid.sub" else "grid.sub = 12; with a filter of 1 e_force and b_force also want 6 more in k"
+    if path != "run.filter":
+        return "keep it" if path == "grid.sub" else "grid.sub = 12"
+    return "grid.sub = 12; with a filter of 1 e_force and b_force also want 6 more in k"
 
 
 def missing(path: str) -> list[str]:
     what, limits = known(path)
-    more = " (or lattice, random or pair in its place)" if path.endswith(".points") else ""
+    more = " (or lattice, random, pair or displace in its place)" if path.endswith(".points") else ""
     return [f"The deck has no {path}{more}." + (f" It is {what}{', ' + limits if limits else ''}." if what else "")]
 
 
@@ -87,7 +90,8 @@ def limit(path: str, value: str, low: str, high: str) -> list[str]:
 
 def name(path: str) -> list[str]:
     if path.endswith(".of"):
-        return [f"{path} is no name of an earlier species: a pair stands on the particles of one that the deck has before it."]
+        how = "displaced particles stand beside" if path.endswith(".displace.of") else "a pair stands on"
+        return [f"{path} is no name of an earlier species: {how} the particles of one that the deck has before it."]
     return [f"{path} isn't allowed: a name has 1 to 32 letters (a to z, A to Z), digits and _, or an earlier species has it "
             "already."]
 
@@ -158,6 +162,11 @@ def frame(step: str) -> list[str]:
             "them, and pictools.units.energies of the dump has them in one."]
 
 
+def probed(step: str) -> list[str]:
+    return [f"A line of `pic probe`, of step {step}: behind it stand the values at the deck's `probe.places`, and of each of `probe.ids` x, y, z, "
+            "vx, vy, vz. python3 -m pictools plot LINES --deck DECK -o PICTURE draws such lines, and pictools.Probes reads them."]
+
+
 def status(number: str) -> list[str]:
     return STATUSES.get(int(number), ["No exit status of the program: a shell gives 128 and a signal's number where a signal "
                                       "ended it."])
@@ -170,7 +179,7 @@ MEANINGS: list[tuple[str, Callable[..., list[str]]]] = [
     (r"stopped (\d+) field (half1|half2|electric) (value|force) ([012]) (\d+) (\d+) (\d+) (-?\d+)", stopped_field),
     (r"stopped (\d+) particle (\d+) (speed|turn|far) ([012]) (-?\d+)", stopped_particle),
     (r"bad dump (\d+) (\d+)", bad_dump), (r"broken frame (\d+) node (\d+) (\d+) (\d+) div (-?\d+) rho (-?\d+)", broken),
-    (r"frame (\d+) kinetic \d+ electric \d+ magnetic \d+", frame), (r"usage: .*", lambda: USAGE),
+    (r"frame (\d+) kinetic \d+ electric \d+ magnetic \d+", frame), (r"(\d+)(?: -?\d+)+", probed), (r"usage: .*", lambda: USAGE),
     (r"done (\d+)", lambda step: [f"The run came to its last step, {step}; the dump is whole."]),
     (r"ok (\d+) particles", lambda number: [f"The deck can be run: {number} particles, and E meets Gauss's law at every node."]),
     (r"verified (\d+) frames", lambda number: [f"The dump is of the format, and each of its {number} frames meets Gauss's law."]),

@@ -12,6 +12,7 @@ from pathlib import Path
 from typing import BinaryIO
 
 from pictools.dump import Dump, DumpError
+from pictools.probe import ProbeError, Probes, is_lines
 from pictools.thin import thinned
 
 STOPPED = "stopped by Ctrl-C"
@@ -19,6 +20,8 @@ STOPPED = "stopped by Ctrl-C"
 
 def opened(path: str) -> Dump:
     """A dump, whose error names its file. Where it ends early its whole frames are taken, and a line says so."""
+    if is_lines(path):
+        raise ValueError(f"{path}: it is no dump; if these are lines of `pic probe`, `plot` takes them, with their --deck")
     try:
         dump = Dump(path, partial=True)
     except DumpError as error:
@@ -26,6 +29,24 @@ def opened(path: str) -> Dump:
     if dump.cut:
         say_cut(path, dump.cut, "Taken", len(dump), int(dump.steps[-1]))
     return dump
+
+
+def drawable(path: str, deck: str | None) -> Dump | Probes:
+    """A dump, or the lines of `pic probe` for a deck."""
+    if not is_lines(path):
+        if deck:
+            raise ValueError(f"--deck {deck}: {path} is no file of probe lines, which alone want a deck")
+        return opened(path)
+    if not deck:
+        raise ValueError(f"{path}: these are lines of `pic probe`; --deck names the deck that says what their columns are")
+    try:
+        probes = Probes(path, deck, partial=True)
+    except ProbeError as error:
+        raise ValueError(f"{path}: {error}") from None
+    if not probes.end:
+        print(f"pictools: {path}: the text has no end; its call was ended, or still writes. Taken: {len(probes)} whole lines",
+              file=sys.stderr)
+    return probes
 
 
 def say_cut(path: str, cut: str, did: str, frames: int, last: int) -> None:

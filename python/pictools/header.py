@@ -10,7 +10,7 @@ from typing import BinaryIO, NamedTuple
 
 import numpy as np
 
-from pictools.versions import ALLOWANCES, Sided
+from pictools.versions import ALLOWANCES, MOST_LOOPS, MOST_NUMBER, MOST_WAVE, Sided
 
 MAGIC = b"PICDUMP"          # and the digit of the version
 WIDE = np.dtype([("high", ">i8"), ("low", ">u8")])
@@ -20,11 +20,8 @@ HEADER = {version: np.dtype([("magic", "S8"), ("cells", ">u4", 3), ("steps", ">u
           for version, form in ((1, []), (2, [("sub", ">u4"), ("filter", ">u4"), ("loops", ">u4")]))}
 SPECIES = np.dtype([("name", "S32"), ("charge", ">i4"), ("mass", ">u4"),
                     ("kick", [("n", ">i4"), ("k", ">u4")]), ("turn", [("n", ">i4"), ("k", ">u4")]), ("count", ">u4")])
-
-
-def header_length(version: int, species: int) -> int:
-    """The bytes of a header with so many species."""
-    return HEADER[version].itemsize + SPECIES.itemsize * species
+LOOP = np.dtype([("axis", ">u4"), ("cell", ">u4", 3), ("length", ">u4")])
+NUMBER = np.dtype(">i8")    # of a loop's wave
 
 
 def frame_length(cells: Sequence[int], particles: int) -> int:
@@ -43,6 +40,20 @@ class DumpError(ValueError):
     def __init__(self, place: int, reason: str):
         super().__init__(f"byte {place}: {reason}")
         self.place = place
+
+
+class Loop(NamedTuple):
+    """A driven current loop: around the face of a cell across an axis (0, 1, 2), with the numbers of its wave, one a step."""
+
+    axis: int
+    cell: tuple[int, int, int]
+    wave: tuple[int, ...]
+
+
+def header_length(version: int, species: int, loops: Sequence[Loop] = ()) -> int:
+    """The bytes of a header with so many species, and these loops."""
+    waves = sum(len(loop.wave) for loop in loops)
+    return HEADER[version].itemsize + SPECIES.itemsize * species + LOOP.itemsize * len(loops) + NUMBER.itemsize * waves
 
 
 class Multiplier(NamedTuple):
@@ -83,6 +94,7 @@ class Header(Sided):
     species: tuple[Species, ...]
     sub: int | None = None
     filter: int = 0
+    loops: tuple[Loop, ...] = ()
 
     @property
     def particles(self) -> int:
@@ -91,7 +103,7 @@ class Header(Sided):
     @property
     def length(self) -> int:
         """The header's bytes."""
-        return header_length(self.version, len(self.species))
+        return header_length(self.version, len(self.species), self.loops)
 
     @cached_property
     def frame_type(self) -> np.dtype:
@@ -163,13 +175,34 @@ def read_version(data: bytes) -> int:
     return version
 
 
-def read_form(row: np.void) -> tuple[int, int]:
-    """The sub and the filter of a header of version 2, behind which stands a 0."""
+def read_form(row: np.void) -> tuple[int, int, int]:
+    """The sub, the filter and the number of loops of a header of version 2."""
     allowance = ALLOWANCES[2]
     sub = limited(60, "sub", int(row["sub"]), allowance.least_sub, allowance.greatest_sub)
     chosen = limited(64, "filter", int(row["filter"]), 0, allowance.greatest_filter)
-    limited(68, "loops", int(row["loops"]), 0, 0)
-    return sub, chosen
+    return sub, chosen, limited(68, "the number of loops", int(row["loops"]), 0, MOST_LOOPS)
+
+
+def read_more(file: BinaryIO, data: bytes, number: int) -> bytes:
+    """So many bytes more of a header that began with these: all together."""
+    part = file.read(number)
+    if len(part) < number:
+        raise DumpError(len(data) + len(part), "the dump ends in its header")
+    return data + part
+
+
+def read_loop(file: BinaryIO, data: bytes, cells: Sequence[int]) -> tuple[Loop, bytes]:
+    """The loop behind a header's bytes so far, and these with it."""
+    place = len(data)
+    data = read_more(file, data, LOOP.itemsize)
+    row = np.frombuffer(data, LOOP, 1, place)[0]
+    axis = limited(place, "the axis of a loop", int(row["axis"]), 0, 2)
+    cell = tuple(limited(place + 4 + 4 * a, "the cell of a loop", int(n), 0, cells[a] - 1) for a, n in enumerate(row["cell"]))
+    length, place = limited(place + 16, "the length of a wave", int(row["length"]), 1, MOST_WAVE), len(data)
+    data = read_more(file, data, NUMBER.itemsize * length)
+    wave = tuple(limited(place + 8 * i, "a number of a wave", n, -MOST_NUMBER, MOST_NUMBER)
+                 for i, n in enumerate(np.frombuffer(data, NUMBER, length, place).tolist()))
+    return Loop(axis, cell, wave), data
 
 
 def read_header(file: BinaryIO) -> tuple[Header, bytes]:
@@ -177,21 +210,20 @@ def read_header(file: BinaryIO) -> tuple[Header, bytes]:
     data = file.read(len(MAGIC) + 1)
     version = read_version(data)
     kind = HEADER[version]
-    data += file.read(kind.itemsize - len(data))
-    if len(data) < kind.itemsize:
-        raise DumpError(len(data), "the dump ends in its header")
+    data = read_more(file, data, kind.itemsize - len(data))
     row = np.frombuffer(data, kind)[0]
     scales = [read_multiplier(28 + 8 * i, name, row["scales"][i])
               for i, name in enumerate(("e_to_b", "b_to_e", "e_force", "b_force"))]
     cells = tuple(limited(8 + 4 * a, "cells", int(n), 2, ALLOWANCES[version].cells) for a, n in enumerate(row["cells"]))
     steps = limited(20, "steps", int(row["steps"]), 0, 10**6)
     every = limited(24, "every", int(row["every"]), 1, 10**6)
-    form = read_form(row) if version == 2 else (None, 0)
+    *form, number = read_form(row) if version == 2 else (None, 0, 0)
     species: list[Species] = []
     for _ in range(limited(kind.itemsize - 4, "the number of species", int(row["species"]), 0, 16)):
-        part = file.read(SPECIES.itemsize)
-        data += part
-        if len(part) < SPECIES.itemsize:
-            raise DumpError(len(data), "the dump ends in its header")
-        species.append(read_species(part, version, species))
-    return Header(cells, steps, every, *scales, tuple(species), *form), data
+        data = read_more(file, data, SPECIES.itemsize)
+        species.append(read_species(data[-SPECIES.itemsize:], version, species))
+    loops: list[Loop] = []
+    for _ in range(number):
+        loop, data = read_loop(file, data, cells)
+        loops.append(loop)
+    return Header(cells, steps, every, *scales, tuple(species), *form, tuple(loops)), data

@@ -96,15 +96,16 @@ def test_cells(cells: tuple[int, int, int], most: int) -> None:
             refuse("cells", cells, f"{number} cells along {axis}; an axis has 2 to {most}")
 
 
-def test_particles(particles_a_cell: int, kinds: int, cells: int, listed: bool, most: int) -> None:
-    """All particles together: `kinds` of them stand where an electron does. Where they are listed a deck has room for fewer."""
+def test_particles(particles_a_cell: int, kinds: int, cells: int, listed: int, most: int) -> None:
+    """All particles together: `kinds` of them are there for an electron, and `listed` of these are listed, of which a deck has room
+    for fewer."""
     if particles_a_cell * cells * kinds > most:
         ions = ", and as many ions," if kinds > 1 else ""
         refuse("particles_a_cell", particles_a_cell,
                f"{particles_a_cell * cells} electrons{ions} are too many; a deck has at most {most} particles, so here "
                f"at most {most // (cells * kinds)} electrons a cell")
-    rows = particles_a_cell * cells * kinds
-    if listed and rows * ROW_BYTES > MOST_BYTES:
+    rows = particles_a_cell * cells * listed
+    if rows * ROW_BYTES > MOST_BYTES:
         refuse("particles_a_cell", particles_a_cell,
                f"{rows} particles can't be listed; a deck has room for some 30000. Choose fewer, or --start lattice, or --start "
                "random with long axes and no --wave, which list none")

@@ -10,7 +10,7 @@ from typing import TYPE_CHECKING
 import numpy as np
 from numpy.typing import NDArray
 
-from pictools.deck import MOST_CHARGE, MOST_MASS, DeckError, Lattice, Pair, Points, Random, Species, multiplier
+from pictools.deck import MOST_CHARGE, MOST_MASS, DeckError, Displaced, Lattice, Pair, Points, Random, Species, multiplier
 from pictools.dump import Multiplier
 from pictools.limits import AXES, refuse
 
@@ -92,6 +92,8 @@ def listed(plasma: Plasma) -> list[Species]:
     electrons = [Points(beam.name, -1, 1, plasma.kick, plasma.turn, place, velocity)
                  for beam, (_, place, velocity) in zip(plasma.beams, loads)]
     kick, turn = ion_multipliers(plasma)
+    if plasma.displace:
+        return electrons + ions_beside(plasma, electrons)
     if plasma.mass_ratio:
         rest = np.concatenate([rest for rest, _, _ in loads])
         return electrons + [Points("ion", 1, plasma.mass_ratio, kick, turn, rest, np.tile(ion_drift(plasma), (len(rest), 1)))]
@@ -111,13 +113,42 @@ def drawing(plasma: Plasma, beam: Beam, stream: int) -> dict:
 
 
 def anywhere(plasma: Plasma) -> list[Species]:
-    """Random electrons, and an ion on each of them: there is no charge, and E = 0 meets Gauss's law."""
+    """Random electrons, and an ion on each of them, where E = 0 meets Gauss's law; or displaced from each."""
     kick, turn = ion_multipliers(plasma)
     electrons = [Random(beam.name, -1, 1, plasma.kick, plasma.turn, number=beam.number, **drawing(plasma, beam, stream))
                  for stream, beam in enumerate(plasma.beams, 1)]
-    names = ["ion"] if len(electrons) == 1 else [f"ion_{beam.name}" for beam in plasma.beams]
+    if plasma.displace:
+        return electrons + ions_beside(plasma, electrons)
     return electrons + [Pair(name, 1, plasma.mass_ratio or 1, kick, turn, of=of, seed=plasma.seed, stream=0,
-                             drift=ion_drift(plasma), spread=[0, 0, 0]) for name, of in zip(names, electrons)]
+                             drift=ion_drift(plasma), spread=[0, 0, 0]) for name, of in zip(ion_names(plasma), electrons)]
+
+
+def ion_names(plasma: Plasma) -> list[str]:
+    """Of the ions that stand by the electrons of each beam."""
+    return ["ion"] if len(plasma.beams) == 1 else [f"ion_{beam.name}" for beam in plasma.beams]
+
+
+def way(plasma: Plasma, sense: int) -> list[int]:
+    """The way between electrons and ions at the start, in sub-cells."""
+    return [sense * round(plasma.displace * plasma.side) * (axis == plasma.displace_axis) for axis in AXES]
+
+
+def ions_beside(plasma: Plasma, electrons: Sequence[Species]) -> list[Species]:
+    """An ion for each electron, displaced from it against the electrons' way; the program makes the E of that."""
+    kick, turn = ion_multipliers(plasma)
+    return [Displaced(name, 1, plasma.mass_ratio or 1, kick, turn, of=of, by=way(plasma, -1), v=ion_drift(plasma))
+            for name, of in zip(ion_names(plasma), electrons)]
+
+
+def test_displaced(plasma: Plasma) -> None:
+    """Whether electrons can stand beside their ions."""
+    if not any(way(plasma, 1)):
+        refuse("displace", plasma.displace, f"it is less than half a sub-cell, of which a cell has {plasma.side}")
+    if plasma.wave:
+        refuse("displace", plasma.displace, "all electrons stand one way from their ions, which is no wave; choose --displace or --wave")
+    if plasma.start == "lattice" and (len(plasma.beams) > 1 or any(plasma.thermal_speeds)):
+        refuse("displace", plasma.displace, "electrons that are displaced from a lattice of ions have one speed; choose one kind of "
+               "cold electrons, or --start quiet or random")
 
 
 def lattice_sites(plasma: Plasma) -> list[int]:
@@ -142,8 +173,10 @@ def test_lattice(plasma: Plasma) -> None:
     if plasma.mass_ratio * len(plasma.beams) > MOST_MASS:
         refuse("mass_ratio", plasma.mass_ratio, f"on a lattice an ion has the mass of {len(plasma.beams)}, at most {MOST_MASS}")
     long = prod(n for n in plasma.cells if n > 2)
+    if long == 1:
+        refuse("start", plasma.start, "a lattice stands along axes of more than two cells, and the box has none; choose quiet or random")
     shares = plasma.electrons / (len(plasma.beams) * long)
-    if long == 1 or shares != 2 ** (int(shares).bit_length() - 1):
+    if shares != 2 ** (int(shares).bit_length() - 1):
         refuse("particles_a_cell", plasma.particles_a_cell,
                f"a lattice has a power of 2 on each long cell for each stream, not {shares:g}")
     if any(n > 1 and cells * plasma.side % n for n, cells in zip(lattice_sites(plasma), plasma.cells)):
@@ -157,5 +190,9 @@ def on_lattice(plasma: Plasma) -> list[Species]:
     first = [g // 2 if g else plasma.side // 2 for g in gap]
     kick, turn = ion_multipliers(plasma)
     ion = Lattice("ion", number, number * (plasma.mass_ratio or 1), kick, turn, first, gap, sites, ion_drift(plasma))
+    if plasma.displace:
+        beam = plasma.beams[0]
+        return [ion, Displaced(beam.name, -1, 1, plasma.kick, plasma.turn, of=ion, by=way(plasma, 1),
+                               v=whole_speeds(plasma, plasma.velocity(beam.drift)))]
     return [ion] + [Pair(beam.name, -1, 1, plasma.kick, plasma.turn, of=ion, **drawing(plasma, beam, stream))
                     for stream, beam in enumerate(plasma.beams, 1)]

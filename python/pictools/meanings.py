@@ -41,7 +41,7 @@ KEYS: dict[str, tuple[str, str]] = {
     "field.edges": (ROWS + ", added to E", ROW),
     "field.faces": (ROWS + ", added to B", ROW),
     "species": ("an array of tables, [[species]]", "at most 16"),
-    "species[i]": ("a table: name, charge, mass, kick, turn, and one of points, lattice, random, pair", ""),
+    "species[i]": ("a table: name, charge, mass, kick, turn, and one of points, lattice, random, pair, and in version 2 displace", ""),
     "species[i].name": ("a text", "1 to 32 letters, digits and _, other than the earlier names"),
     "species[i].charge": ("a whole number", "from -32768 to 32767"),
     "species[i].mass": ("a whole number", "from 1 to 65536"),
@@ -59,6 +59,19 @@ KEYS: dict[str, tuple[str, str]] = {
     "species[i].pair": ("a table: of, seed, stream, drift, spread", ""),
     "species[i].pair.of": ("a text", "the name of an earlier species"),
     **drawn("species[i].pair"),
+    "species[i].displace": ("a table: of, by, v, which a species of a deck of version 2 may have", ""),
+    "species[i].displace.of": ("a text", "the name of an earlier species"),
+    "species[i].displace.by": (THREE + ", the way in sub-cells", "each from -4096 to 4096 for sub = 12, which is a cell"),
+    "species[i].displace.v": (THREE + ", the velocity of all", VELOCITY),
+    "drive": ("an array of tables, [[drive]], which a deck of version 2 may have: driven current loops", "at most 16"),
+    "drive[i]": ("a table: axis, cell, wave", ""),
+    "drive[i].axis": ("a whole number, the axis that the loop's face lies across", "0, 1 or 2"),
+    "drive[i].cell": (THREE, "a cell of the grid"),
+    "drive[i].wave": ("an array of 1 to 64 whole numbers, one a step", "each at most 1152921504606846976 in size"),
+    "probe": ("a table, which a deck of version 2 may have: places, ids, each of which may be left out", ""),
+    "probe.places": ("an array of rows [field, axis, i, j, k]", "field 0 for E or 1 for B, axis 0, 1 or 2, a cell of the grid; at most 64 "
+                                                                "rows"),
+    "probe.ids": ("an array of whole numbers, the identities of particles", "at most 64 of them"),
 }
 
 # By the path of a value that isn't within its limits, and these: what to change.
@@ -87,17 +100,29 @@ ADVICE: list[tuple[str, str]] = [
     (r"species 0 16", "A run has at most 16 species."),
     (r"species\[i\]\.mass .*", "The mass counts in the kinetic energy alone; what a field does to a particle `kick` and `turn` "
                                "say."),
+    (r"species\[i\]\.charge (-?\d+) \1", "A species that is displaced from another has its charge with the other sign, particle by "
+                                         "particle."),
     (r"species\[i\]\.charge .*", "The charge counts in E and the current; for more charge take more particles, or a larger wp "
                                  "by `kick`."),
     (r"species\[i\]\.points\[i\]\[i\] 0 .*", "A place is from 0 to 4096 times the cells of its axis, in version 2 2^sub times, "
                                               "less 1."),
-    (r"species\[i\]\.(points\[i\]\[i\]|lattice\.v\[i\]) -.*", "The limit is one cell a step, the most that a particle may "
+    (r"species\[i\]\.(points\[i\]\[i\]|(lattice|displace)\.v\[i\]) -.*", "The limit is one cell a step, the most that a particle may "
                                                                 "move."),
     (r"species\[i\]\.(random|pair)\.spread\[i\] .*",
      "The limit is 1/16 cell a step: the program draws no larger thermal speed. Lower the plasma frequency and the speeds "
      "together (the Debye length stays), or list the particles as points: python3 -m pictools deck --start quiet."),
     (r"species\[i\]\.(random|pair)\.drift\[i\] .*", "The limit is half a cell a step: the program draws about no larger drift; "
                                                     "points may have one cell a step."),
+    (r"species\[i\]\.displace\.by\[i\] .*", "A particle is displaced by at most a cell along each axis; one that is itself displaced from a "
+                                            "displaced one goes further."),
+    (r"drive 0 16", "A run has at most 16 loops."),
+    (r"drive\[i\]\.wave 1 64", "The value is how many numbers the wave has: one for each step of its period, 1 to 64."),
+    (r"drive\[i\]\.wave\[i\] .*", "A number of a wave is added to a scaled B, so it is in the unit of E, and at most 2^60 in size: lower "
+                                   "e_force, and raise kick as much."),
+    (r"(drive\[i\]|probe)\..*cell.*|drive\[i\]\.axis .*|probe\.places\[i\]\[i\] .*",
+     "Axes are 0, 1 and 2, a field is 0 for E and 1 for B, and cells count from 0 along each axis."),
+    (r"probe\.ids\[i\] .*", "Identities count from 0 through all species, in the order of the deck; a deck without particles has none."),
+    (r"probe\.(places|ids) 0 64", "At most 64 places and as many particles are probed: choose fewer; frames have them all."),
 ]
 
 CAUSES: dict[str, str] = {
@@ -114,8 +139,8 @@ CAUSES: dict[str, str] = {
 }
 
 USAGE = ["What was typed is no command; nothing was read.",
-         "run, check (or no word), verify, demo SEED, upgrade and resume --steps M are commands; run, demo and resume take --workers N "
-         "with N from 1 to 64, resume also --tiles-x, --tiles-y and --tiles-z, 1 to 64 each; a SEED is from 0 to 4294967295, and M "
+         "run, check (or no word), verify, demo SEED, upgrade, resume --steps M and probe are commands; run, demo, resume and probe take "
+         "--workers N with N from 1 to 64, resume also --tiles-x, --tiles-y and --tiles-z, 1 to 64 each; a SEED is from 0 to 4294967295, and M "
          "from 0 to 1000000. A deck and a dump come by standard input: ./pic run < DECK > DUMP"]
 MENDED = "python3 -m pictools mend makes it that of a shorter run, and ./pic resume goes on from there."
 

@@ -162,7 +162,8 @@ def growth(steps: NDArray, height: NDArray, frames: tuple[int, int] | None = Non
 
 
 def crossings(steps: NDArray, signal: NDArray) -> NDArray[np.float64]:
-    """The steps at which a signal goes through 0, between frames by a straight line."""
+    """The steps at which a signal goes through 0, between frames by a straight line. One that is just 0 lies on such a line."""
+    steps, signal = steps[signal != 0], signal[signal != 0]
     here, there = signal[:-1], signal[1:]
     at = np.nonzero(here * there < 0)[0]
     return steps[at] + (steps[at + 1] - steps[at]) * here[at] / (here[at] - there[at])
@@ -299,6 +300,12 @@ def longitudinal(e: NDArray[np.float64]) -> NDArray[np.float64]:
     return np.abs(transform)**2 / square
 
 
+def through(places: NDArray[np.float64], cells: Sequence[int]) -> NDArray[np.float64]:
+    """Places in cells, of shape (times, .., axes), with each way through a side of the box of so many cells gone on outside of it."""
+    box = np.array(cells)
+    return places - box * np.cumsum(np.rint(np.diff(places, axis=0, prepend=places[:1]) / box), axis=0)
+
+
 def wave_numbers(shape: tuple[int, ...]) -> NDArray[np.float64]:
     """The wave numbers (kx, ky, kz), in radians a cell, of a field's transform of this shape (nz, ny, nx): one axis more."""
     return np.stack(np.meshgrid(*(2 * np.pi * np.fft.fftfreq(n) for n in shape), indexing="ij")[::-1], axis=-1)
@@ -312,13 +319,17 @@ def spectrum(dump: Dump, name: str, along: str = "x") -> tuple[NDArray, NDArray,
     within some frequencies of its own.
     """
     regular = dump.steps % dump.header.every == 0
-    field = profile(dump, name, along)[regular]
+    return spectrum_of(profile(dump, name, along)[regular], dump.header.every)
+
+
+def spectrum_of(field: NDArray[np.float64], every: int) -> tuple[NDArray, NDArray, NDArray]:
+    """The same of values at all cells of an axis, every so many steps: shape (times, cells)."""
     if len(field) < 3:
-        raise ValueError(f"{len(field)} frames, every {dump.header.every} steps, have no spectrum; 3 have")
+        raise ValueError(f"{len(field)} frames, every {every} steps, have no spectrum; 3 have")
     faded = field * np.hanning(len(field) + 2)[1:-1, None]
     half, numbers = len(field) // 2, field.shape[1] // 2 + 1
     power = np.abs(np.fft.fft(np.fft.rfft(faded, axis=1), axis=0))**2
     # A wave along + is at minus its frequency: both senses count.
     power = power[: half + 1] + power[-np.arange(half + 1)]
     return (2 * np.pi / field.shape[1] * np.arange(numbers),
-            2 * np.pi / (len(field) * dump.header.every) * np.arange(half + 1), power)
+            2 * np.pi / (len(field) * every) * np.arange(half + 1), power)

@@ -22,6 +22,7 @@ import numpy as np
 
 from pictools import explain, info, movie, note, panels, plots, program, units
 from pictools.dump import Dump, Header
+from pictools.outline import SCALES, outline
 from pictools.views import View
 
 ROWS = 11                   # of the table of energies
@@ -77,7 +78,7 @@ def deck_of(dump: Dump, given: str | None) -> Deck | None:
     """The deck of a dump: the one that is given, which has to fit it, else that of the note beside it."""
     if given:
         data = Path(given).read_bytes()
-        wrong = differences(note.read_deck(data), dump.header)
+        wrong = differences(data, dump.header)
         if wrong:
             raise ValueError(f"--deck {given}: it isn't the deck of {dump.path}: {'; '.join(wrong)}")
         return Deck(Path(given).name, data.decode(), note.made_by(data))
@@ -92,27 +93,26 @@ def deck_of(dump: Dump, given: str | None) -> Deck | None:
     return Deck(Path(kept["deck"]["file"]).name, "\n".join(kept["deck text"]) + "\n", kept["deck"]["made by"], tuple(told))
 
 
-def grid_of(header: Header) -> dict[str, Any]:
-    """The grid of a header as a deck has it."""
-    return {"cells": list(header.cells)} | ({} if header.sub is None else {"sub": header.sub})
-
-
-def differences(deck: dict[str, Any], header: Header) -> list[str]:
+def differences(text: bytes, header: Header) -> list[str]:
     """Where a deck isn't that of a dump's header, the first few; the run's steps and frames may have been changed later."""
-    species = [{"name": s.name, "charge": s.charge, "mass": s.mass, "kick": list(s.kick), "turn": list(s.turn)}
-               for s in header.species]
-    scale = {name: list(getattr(header, name)) for name in ("e_to_b", "b_to_e", "e_force", "b_force")}
-    here, there = entries(deck), entries({"grid": grid_of(header), "scale": scale, "species": species})
+    try:
+        here, there = entries(outline(text.decode()).header), entries(header)
+    except ValueError as error:
+        return [str(error)]
     wrong = [path for path in here | there if here.get(path) != there.get(path)]
     return [f"{path} is {here.get(path)} in place of {there.get(path)}" for path in wrong[:FEW]]
 
 
-def entries(deck: dict[str, Any]) -> dict[str, Any]:
-    """What a header has of a deck, by its path."""
-    tables = [("grid", deck.get("grid"), ("cells", "sub")), ("scale", deck.get("scale"), ("e_to_b", "b_to_e", "e_force", "b_force"))]
-    tables += [(f"species[{number}]", one, ("name", "charge", "mass", "kick", "turn"))
-               for number, one in enumerate(deck.get("species") or [])]
-    return {f"{path}.{key}": one[key] for path, one, keys in tables if isinstance(one, dict) for key in keys if key in one}
+def entries(header: Header) -> dict[str, Any]:
+    """What a header has, by the paths of its deck."""
+    found: dict[str, Any] = {"grid.cells": list(header.cells), "grid.sub": header.sub, "run.filter": header.filter}
+    found |= {f"scale.{name}": list(getattr(header, name)) for name in SCALES}
+    for number, kind in enumerate(header.species):
+        found |= {f"species[{number}].{name}": getattr(kind, name) for name in ("name", "charge", "mass")}
+        found |= {f"species[{number}].{name}": list(getattr(kind, name)) for name in ("kick", "turn")}
+        found |= {f"the number of particles of species[{number}]": kind.count}
+    return found | {f"drive[{number}].{name}": value for number, loop in enumerate(header.loops)
+                    for name, value in loop._asdict().items()}
 
 
 def element(name: str, text: str, **attributes: str) -> str:
@@ -173,10 +173,10 @@ def energies(dump: Dump) -> str:
     uniform = panels.uniform_energy(dump)
     shown = units.energies(dump) - uniform
     sums = shown.sum(axis=1)
-    whole = sums[0] if sums[0] > 0 else sums.max() or 1.0
+    whole, when = panels.whole_energy(sums)
     rows = [[str(dump.steps[n]), *(f"{value / whole:.6g}" for value in (*shown[n], sums[n]))]
             for n in np.unique(np.linspace(0, len(dump) - 1, ROWS).round().astype(int))]
-    lines = ["As shares of all energy at the start" + (", without that of the uniform B." if uniform.any() else ".")
+    lines = [f"As shares of all energy {when}" + (", without that of the uniform B." if uniform.any() else ".")
              + " The kinetic one is of half a step before its frame, and so is B's."]
     if sums[0] > 0:
         worst = int(np.argmax(np.abs(sums / whole - 1)))

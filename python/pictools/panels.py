@@ -15,7 +15,7 @@ from matplotlib.transforms import ScaledTranslation
 from numpy.typing import NDArray
 
 from pictools import expect, measure, units
-from pictools.dump import Dump, Frame, rounded
+from pictools.dump import Dump, Frame, Header, rounded
 from pictools.measure import AXES, Wave
 from pictools.views import Scale, View, against, number_of, scale_of, slope, strength
 
@@ -23,6 +23,7 @@ COLOURS = ("#0b5fa5", "#d1495b", "#3a7d44", "#8a5a9e", "#c98a1b", "#555555")
 MOST_DOTS = 20000
 DRAWN_WITH = 1              # the seed of a drawn sample
 BINS = 128
+MOST_ORBITS = 12
 LONG = 4                    # orbits so much longer than wide have two scales
 FAR_OUT = 0.999             # the share of a field's values whose greatest ends the colours, where some lie twice as far out
 
@@ -60,6 +61,11 @@ def uniform_energy(dump: Dump) -> NDArray[np.float64]:
     return np.array([0, 0, np.prod(header.cells) * np.sum(squares) * units.magnetic_weight(header)])
 
 
+def whole_energy(total: NDArray) -> tuple[float, str]:
+    """What energies are shown as shares of: all energy at the start or, where a run starts with none, at its greatest."""
+    return (float(total[0]), "at the start") if total[0] > 0 else (float(total.max()) or 1.0, "at its greatest")
+
+
 def draw_energies(axes: Axes, dump: Dump, view: View) -> list[str]:
     """The three energies in one unit, from what they were at the start, over the steps: without that of the uniform B,
     which hides the others."""
@@ -67,13 +73,13 @@ def draw_energies(axes: Axes, dump: Dump, view: View) -> list[str]:
     table, uniform = units.energies(dump), uniform_energy(dump)
     shown = table - uniform
     total = shown.sum(axis=1)
-    whole, time = total[0] if total[0] > 0 else total.max() or 1, dump.steps / scale.time
+    (whole, when), time = whole_energy(total), dump.steps / scale.time
     for values, name in zip(shown.T, ("kinetic", "electric", "magnetic")):
         if values.any():
             axes.plot(time, np.where(values > 0, values, np.nan if not view.linear else values) / whole, label=name)
     axes.plot(time, total / whole, color="#999999", linestyle="--", label="all")
     axes.set(title="Energies, in one unit" + (", without the uniform B's" if uniform.any() else ""), xlabel=scale.step,
-             ylabel="share of all energy at the start")
+             ylabel=f"share of all energy {when}")
     if view.linear:
         draw_change(axes, time, total / whole)
     elif total.any():
@@ -125,19 +131,22 @@ def draw_orbits(axes: Axes, dump: Dump, view: View) -> list[str]:
     """The ways of the first particles over x and y, through the box's sides."""
     if not dump.header.particles:
         raise ValueError("orbits: the dump has no particles")
-    scale = scale_of(dump, view.units)
-    box = np.array(dump.header.cells[:2])
-    first = dump.records["particles"]["position"][:, :12, :2] / dump.header.side
-    ways = (first - box * np.cumsum(np.rint(np.diff(first, axis=0, prepend=first[:1]) / box), axis=0)) / scale.length
-    for number in range(ways.shape[1]):
-        axes.plot(*ways[:, number].T, marker=".", markersize=3, linewidth=0.6, label=f"particle {number}")
-    wide, high = np.ptp(ways, axis=(0, 1))
-    equal = max(wide, high) < LONG * min(wide, high)
-    axes.set(title=f"Orbits: a dot every {dump.header.every} steps, straight lines between"
-             + ("" if equal else "; x and y differ in scale"), xlabel=scale.place.format("x"),
-             ylabel=scale.place.format("y"), aspect="equal" if equal else "auto")
-    axes.legend(loc="center left", bbox_to_anchor=(1, 0.5))
+    first = dump.records["particles"]["position"][:, :MOST_ORBITS, :2] / dump.header.side
+    ways = measure.through(first, dump.header.cells[:2])
+    draw_ways(axes, dict(enumerate(ways.swapaxes(0, 1))), "xy", scale_of(dump, view.units), dump.header.every)
     return []
+
+
+def draw_ways(axes: Axes, ways: dict[int, NDArray], plane: str, scale: Scale, every: int) -> None:
+    """The ways of particles, by their identities, over a plane: (times, 2) each, in cells, every so many steps."""
+    for number, way in ways.items():
+        axes.plot(*way.T / scale.length, marker="." if every > 1 else "", markersize=3, linewidth=0.6, label=f"particle {number}")
+    wide, high = np.ptp(np.concatenate(list(ways.values())), axis=0)
+    equal = max(wide, high) < LONG * min(wide, high)
+    dots = f": a dot every {every} steps, straight lines between" if every > 1 else ""
+    axes.set(title=f"Orbits{dots}" + ("" if equal else f"; {plane[0]} and {plane[1]} differ in scale"),
+             xlabel=scale.place.format(plane[0]), ylabel=scale.place.format(plane[1]), aspect="equal" if equal else "auto")
+    axes.legend(loc="center left", bbox_to_anchor=(1, 0.5))
 
 
 class PhaseEnds(NamedTuple):
@@ -362,10 +371,19 @@ def draw_damping(axes: Axes, dump: Dump, scale: Scale, signal: NDArray, frames: 
 def draw_spectrum(axes: Axes, dump: Dump, view: View, name: str) -> list[str]:
     """The power of a component over wave number and frequency, and the theory's curves, folded where the frames are too far
     apart for them."""
-    scale, along = scale_of(dump, view.units), view.axis(dump.header)
-    numbers, frequencies, power = measure.spectrum(dump, name, along)
-    theirs = expect.curves(dump, name, along, numbers)
-    highest, lines = measure.nyquist(dump.header), []
+    along = view.axis(dump.header)
+    table = measure.spectrum(dump, name, along)
+    theirs = expect.curves(dump, name, along, table[0])
+    lines = show_spectrum(axes, dump.header, table, theirs, scale_of(dump, view.units))
+    axes.set(title=f"Spectrum of {title_of(name)} along {along}, mean over {others(along)}")
+    return lines + peaks(dump.header, view, theirs, table)
+
+
+def show_spectrum(axes: Axes, header: Header, table: tuple[NDArray, NDArray, NDArray], theirs: list[expect.Curve],
+                  scale: Scale) -> list[str]:
+    """A table of `measure.spectrum` in colours, and these curves."""
+    numbers, frequencies, power = table
+    highest, lines = measure.nyquist(header), []
     for curve, colour in zip(theirs, COLOURS[1:] * 3):
         lines += draw_curve(axes, curve, highest, scale, colour)
     top = min([frequencies[-1], 1.6 * max([c.frequencies.max() for c in theirs], default=np.inf)])
@@ -376,11 +394,10 @@ def draw_spectrum(axes: Axes, dump: Dump, view: View, name: str) -> list[str]:
     drawn = axes.imshow(shown, extent=(*extent[0], *extent[1]), origin="lower", aspect="auto", cmap="Blues",
                         interpolation="nearest")
     axes.figure.colorbar(drawn, cax=beside(axes), label="power, as a power of ten")
-    axes.set(title=f"Spectrum of {title_of(name)} along {along}, mean over {others(along)}", xlabel=scale.number,
-             ylabel=scale.frequency, xlim=(0, pi * scale.length), ylim=(0, top * scale.time))
+    axes.set(xlabel=scale.number, ylabel=scale.frequency, xlim=(0, pi * scale.length), ylim=(0, top * scale.time))
     if theirs:
         axes.legend(loc="upper left", facecolor="white", framealpha=0.8, frameon=True, fontsize="small")
-    return lines + peaks(dump, view, theirs, (numbers, frequencies, power))
+    return lines
 
 
 def draw_curve(axes: Axes, curve: expect.Curve, highest: float, scale: Scale, colour: str) -> list[str]:
@@ -396,19 +413,19 @@ def draw_curve(axes: Axes, curve: expect.Curve, highest: float, scale: Scale, co
             f"to pi / every = {highest:.3g}; higher ones are seen folded, and drawn so (dots)"]
 
 
-def peaks(dump: Dump, view: View, theirs: list[expect.Curve], table: tuple[NDArray, NDArray, NDArray]) -> list[str]:
+def peaks(header: Header, view: View, theirs: list[expect.Curve], table: tuple[NDArray, NDArray, NDArray]) -> list[str]:
     """Beside theory's frequencies of the view's waves the highest peaks of the spectrum that are nearer to each than to another
     curve, within three frequencies of it."""
     numbers, frequencies, power = table
     lines, apart = [], frequencies[1]
     for wave in view.wave if view.wave != (1,) else ():
-        measure.tested(dump.header, wave, view.axis(dump.header))
+        measure.tested(header, wave, view.axis(header))
         here = [(curve.label, float(w)) for curve in theirs if isinstance(wave, int)
                 for w in curve.frequencies[np.isclose(curve.numbers, numbers[wave])]]
         for label, expected in here:
             room = min([3 * apart] + [abs(w - expected) / 2 for other, w in here if other != label])
             try:
-                measure.resolved(dump.header, expected)
+                measure.resolved(header, expected)
                 found = measure.ridge(frequencies, power[:, wave], expected, room)
                 said = (f"a peak at {number_of(found)}, {against(found, expected)}, {(found - expected) / apart:+.2f} of the "
                         f"spectrum's frequencies")

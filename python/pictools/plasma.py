@@ -17,12 +17,12 @@ from typing import NamedTuple
 import numpy as np
 from numpy.typing import NDArray
 
-from pictools import advice, loading, theory
+from pictools import advice, antenna, loading, probing, theory
 from pictools.deck import (MOST_DRIFT, MOST_FIELD, MOST_MASS, MOST_SEED, MOST_SPREAD, Deck, Species, charges, field_of,
                            multiplier)
 from pictools.dump import Multiplier
 from pictools.limits import AXES, Limits, choice, command, refuse, test_cells, test_choices, test_companions, test_particles
-from pictools.versions import ALLOWANCES, SUB_1, Sided
+from pictools.versions import ALLOWANCES, MOST_PROBES, MOST_WAVE, SUB_1, Sided
 from pictools.wave import Wave
 
 SPEED = Limits(0, 1, why="a particle moves at most a cell a step")
@@ -30,7 +30,9 @@ NEWEST = ALLOWANCES[2]
 
 # What does nothing without another choice.
 COMPANIONS = {"drift_axis": ("drift", "streams"), "beam_share": ("drift", "streams"), "gyration_axis": ("gyration", "a uniform B"),
-              "cross_drift": ("gyration", "a uniform B")}
+              "cross_drift": ("gyration", "a uniform B"), "displace_axis": ("displace", "a way"),
+              "antenna_axis": ("antenna", "a speed"), "antenna_place": ("antenna", "a speed"), "antenna_period": ("antenna", "a speed"),
+              "probe_axis": ("probe", "a component")}
 
 
 class Beam(NamedTuple):
@@ -78,6 +80,18 @@ class Plasma(Sided):
                        "grows where one grows, else one that goes along its axis", 0, Limits(0, 32))
     wave_axis: str = choice("the axis that this wave goes along: x, y or z", "x", tuple(AXES))
     wave_speed: float = choice("the greatest speed along its axis that this wave adds, in cells a step", 0, SPEED)
+    displace: float = choice("how far the electrons stand from their ions at the start, all of them the same way, in cells; they swing "
+                             "together at the plasma frequency. A deck of version 2, as with a filter", 0, Limits(-1, 1))
+    displace_axis: str = choice("the axis of this way: x, y or z", "x", tuple(AXES))
+    antenna: float = choice("the greatest speed, in cells a step, that an electron swings with in the light of an antenna, which driven "
+                            "loops at all places of a plane launch, both ways; 0 for none. A deck of version 2", 0, SPEED)
+    antenna_axis: str = choice("the axis that this light goes along: x, y or z; its E stands along the one that follows", "x", tuple(AXES))
+    antenna_place: int = choice("the antenna's cell along this axis", 0, Limits(0, NEWEST.cells - 1))
+    antenna_period: int = choice("of this light, in steps", 32, Limits(3, MOST_WAVE))
+    probe: str = choice("components, as ey or ey,bz, whose values `pic probe` puts at every step, at up to 64 cells of an axis in all; none "
+                        "where it isn't given. A deck of version 2", "")
+    probe_axis: str = choice("the axis of these cells: x, y or z", "x", tuple(AXES))
+    trace: int = choice("so many electrons, evenly chosen, whose orbits `pic probe` puts. A deck of version 2", 0, Limits(0, MOST_PROBES))
     cells: tuple[int, int, int] = choice("along x, y and z, each 2 to 64, with --sub to 128; an axis of 2 is short: nothing "
                                          "varies along it", (64, 2, 2))
     sub: int | None = choice("a cell has 2^sub sub-cells along each axis, which a place is rounded to; with it the deck is of "
@@ -92,13 +106,14 @@ class Plasma(Sided):
     seed: int = choice("of what is drawn", 1, Limits(0, MOST_SEED))
 
     def __post_init__(self) -> None:
-        if self.filter and self.sub is None:
+        if self.sub is None and (self.filter or self.displace or self.antenna or self.probe or self.trace):
             self.sub = SUB_1
         test_cells(self.cells, self.allowance.cells)
         test_choices(self)
         test_companions(self, COMPANIONS)
-        kinds = 1 if self.mass_ratio == 0 and self.listed else 2
-        test_particles(self.particles_a_cell, kinds, prod(self.cells), self.listed, self.allowance.particles)
+        evenly = self.mass_ratio == 0 and self.listed and not self.displace
+        rows = self.listed * (2 if self.mass_ratio and not self.displace else 1)
+        test_particles(self.particles_a_cell, 1 if evenly else 2, prod(self.cells), rows, self.allowance.particles)
         if abs(self.field_b) > MOST_FIELD:
             refuse("gyration", self.gyration,
                    f"with this plasma frequency the deck's B would be {self.field_b:.1e}, at most 2^63; choose a greater "
@@ -107,10 +122,18 @@ class Plasma(Sided):
             loading.test_lattice(self)
         if not self.listed:
             self.test_drawn()
-        if self.start == "quiet" and self.seed != 1:
-            refuse("seed", self.seed, "a quiet start draws nothing; it wants --start random or lattice")
+        self.test_thermal()
+        if self.seed != 1 and not self.draws:
+            refuse("seed", self.seed, "a quiet start draws nothing; it wants --start random or lattice" if self.start == "quiet" else
+                   f"here --start {self.start} draws nothing; it wants a thermal speed" + ", or a long axis" * (self.start == "random"))
         if self.wave or self.wave_speed:
             self.test_wave()
+        if self.displace:
+            loading.test_displaced(self)
+        if self.antenna:
+            antenna.Antenna(self).test()
+        if self.probe or self.trace:
+            probing.test(self)
 
     def test_wave(self) -> None:
         """A wave has a speed, room in the box and a theory."""
@@ -132,6 +155,13 @@ class Plasma(Sided):
         if self.crosses and (len(self.beams) == 1 or self.beams[0].number != self.beams[1].number):
             refuse("wave", self.wave,
                    "the theory has no filament of unequal streams; choose no wave at the start, or --beam-share 0.5")
+
+    def test_thermal(self) -> None:
+        """A thermal speed of all axes is that of one of them at least."""
+        own = self.thermal_speed_x, self.thermal_speed_y, self.thermal_speed_z
+        if self.thermal_speed and not any(moves and one is None for moves, one in zip(self.moves, own)):
+            refuse("thermal_speed", self.thermal_speed, "each axis that electrons move along has a speed of its own" if any(self.moves) else
+                   "electrons move along no axis of this box; give one more than two cells, or a speed of its own, as --thermal-speed-x")
 
     def test_drawn(self) -> None:
         """What the program can draw."""
@@ -167,12 +197,19 @@ class Plasma(Sided):
         return self.start == "quiet" or self.start == "random" and (min(self.cells) == 2 or bool(self.wave))
 
     @property
+    def draws(self) -> bool:
+        """Whether places or speeds are drawn: of a random start places along the long axes, and speeds, also on a lattice."""
+        return self.start != "quiet" and any(self.thermal_speeds) or self.start == "random" and max(self.cells) > 2
+
+    @property
     def moves(self) -> list[bool]:
-        """The axes that electrons move along: the long ones, that of the drift, those of a thermal speed of their own, and those
-        across B."""
+        """The axes that electrons move along: the long ones, that of the drift, those of a thermal speed of their own, those across
+        B, that of the way that they are displaced by, and that of an antenna's E."""
         own = self.thermal_speed_x, self.thermal_speed_y, self.thermal_speed_z
+        driven = (AXES.index(self.antenna_axis) + 1) % 3 if self.antenna else None
         return [self.cells[a] > 2 or bool(self.drift) and AXES[a] == self.drift_axis or bool(own[a]) or
-                bool(self.gyration) and AXES[a] != self.gyration_axis for a in range(3)]
+                bool(self.gyration) and AXES[a] != self.gyration_axis or bool(self.displace) and AXES[a] == self.displace_axis or
+                a == driven for a in range(3)]
 
     @property
     def thermal_speeds(self) -> tuple[float, float, float]:
@@ -257,7 +294,8 @@ class Plasma(Sided):
         if by == 0:
             return self
         own = self.thermal_speed_x, self.thermal_speed_y, self.thermal_speed_z
-        turning = ["wave_axis"] + ["drift_axis"] * bool(self.drift) + ["gyration_axis"] * bool(self.gyration)
+        turning = ["wave_axis"] + [name for name in ("drift_axis", "gyration_axis", "displace_axis", "antenna_axis", "probe_axis")
+                                   if getattr(self, name.removesuffix("_axis"))]
         names = {name: AXES[AXES.index(getattr(self, name)) - by] for name in turning}
         speeds = {f"thermal_speed_{axis}": own[(a + by) % 3] for a, axis in enumerate(AXES)}
         return replace(self, cells=tuple(self.cells[(a + by) % 3] for a in range(3)), **names, **speeds)
@@ -276,7 +314,7 @@ class Plasma(Sided):
         """What is added to the uniform E and B, of shapes (3, nz, ny, nx): the E of the charges, and the E and B of a filament at
         the start."""
         e = np.zeros((3, *reversed(self.cells)), np.int64)
-        if self.listed:
+        if self.listed and not self.displace:
             e = field_of(charges(self.cells, self.species, self.side, self.filter))
         b = np.zeros_like(e)
         if self.crosses and self.wave:
@@ -298,4 +336,5 @@ class Plasma(Sided):
         e = tuple(np.roll([0, 0, round(self.cross_drift * self.field_b)], AXES.index(self.gyration_axis)).tolist())
         return Deck(tuple(self.cells), self.steps, self.every, Multiplier(1, 1), multiplier(self.light_speed**2, "b_to_e = c^2"),
                     self.e_force, self.e_force, comment=[*self.report(), command(self)], e=e, b=b, edges=edges, faces=faces,
-                    species=self.species, sub=self.sub, filter=self.filter)
+                    species=self.species, sub=self.sub, filter=self.filter, loops=antenna.loops_of(self),
+                    places=probing.places(self), ids=probing.ids(self))

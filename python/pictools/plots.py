@@ -70,7 +70,7 @@ def draw(axes: Axes, runs: dict[str, Dump], name: str, part: Part, view: View) -
             return panels.draw_rates(axes, dump, view, name, panel == "growth")
         case "spectrum":
             return panels.draw_spectrum(axes, dump, view, name)
-    raise ValueError(f"there is no panel {panel!r}; there are {', '.join(views.PANELS)}")
+    raise ValueError(f"a dump has no panel {panel!r}; it has {', '.join(views.PANELS)}")
 
 
 def strongest(dump: Dump) -> str:

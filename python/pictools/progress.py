@@ -28,6 +28,7 @@ def bar(total: int, unit: str, what: str, done: int = 0) -> Any:
     try:
         from tqdm import tqdm
     except ModuleNotFoundError:
-        print("pictools: no progress is shown: that needs tqdm; on Debian it is python3-tqdm", file=sys.stderr)
+        if sys.stderr.isatty():
+            print("pictools: no progress is shown: that needs tqdm; on Debian it is python3-tqdm", file=sys.stderr)
         return Silent()
     return tqdm(total=total, initial=done, unit=unit, desc=what, disable=None, dynamic_ncols=True, leave=False)

@@ -55,16 +55,21 @@ class Gauge:
             self.weights, self.first = weights_of(frame.header), frame.energies
             self.particles, self.moving = frame.header.particles, units.kinetic_energy(frame)
 
+    @property
+    def whole(self) -> float:
+        """All energy at the start; 0 of a run that is driven from nothing."""
+        return self.moving + self.first[1] + self.first[2] * self.weights[1]
+
     def shown(self, step: int, energies: tuple[int, ...]) -> str:
         """The words of it. Energies are shares of all energy at the start, where they can be had in one unit."""
         speed = self.particles * (step - self.start) / max(time.monotonic() - self.began, 1e-3) if self.first else nan
         words = [f"{speed / 1e6:.2f} million particle-steps/s"]
-        if self.first and self.weights:
+        if self.first and self.weights and self.whole:
             # The report's kinetic energy also has that of species that feel no E; it stays, and falls out here.
             kinetic = self.moving + (energies[0] - self.first[0]) * self.weights[0]
             parts = kinetic, energies[1], energies[2] * self.weights[1]
-            whole = self.moving + self.first[1] + self.first[2] * self.weights[1] or 1
-            words += [f"energy {sum(parts) / whole:.4f}", f"electric {parts[1] / whole:.2g}", f"magnetic {parts[2] / whole:.2g}"]
+            words += [f"{name} {part / self.whole:{form}}" for name, part, form in (
+                ("energy", sum(parts), ".4f"), ("electric", parts[1], ".2g"), ("magnetic", parts[2], ".2g"))]
         return ", ".join(words)
 
 

@@ -24,7 +24,7 @@ from typing import Any
 
 import numpy as np
 
-from pictools import expect, explain, files, measure, units
+from pictools import advice, expect, explain, files, measure, units
 from pictools.deck import DeckError
 from pictools.dump import Dump
 from pictools.limits import command, spoken
@@ -55,23 +55,29 @@ class Quantity:
         return " ".join([self.kind, *(f"{word} {value}" for word, value in parts if value is not None)])
 
     def wave_of(self, plasma: Plasma) -> int:
-        return self.wave or plasma.wave or 1
+        """The wave of the start, or all electrons together where they are displaced, which is the wave 0."""
+        return (plasma.wave or (0 if plasma.displace else 1)) if self.wave is None else self.wave
 
     def component_of(self, plasma: Plasma) -> str:
-        """E along the wave, or where the electrons drift across it B across both."""
-        if self.component:
-            return self.component
+        """E along the wave, or along the way of electrons that are displaced, or where electrons drift across the wave B across both."""
+        if self.component or plasma.displace and not self.wave_of(plasma):
+            return self.component or "e" + plasma.displace_axis
         a = "xyz".index(plasma.wave_axis)
         return "b" + "xyz"[3 - a - "xyz".index(plasma.drift_axis)] if plasma.crosses else "e" + plasma.wave_axis
 
     def signal(self, dump: Dump, plasma: Plasma) -> np.ndarray:
+        """The heights of the wave over the frames; of the wave 0 the means of the box."""
+        if not self.wave_of(plasma):
+            return measure.waves(dump, self.component_of(plasma), plasma.wave_axis)[:, 0]
         return measure.heights(dump, self.component_of(plasma), [self.wave_of(plasma)], plasma.wave_axis)[0]
 
     def frames(self, dump: Dump) -> tuple[int, int] | None:
         return measure.between(dump.steps, self.first, self.last)
 
     def theory(self, plasma: Plasma) -> float | None:
-        """What theory says of the wave at the start; None where another is measured."""
+        """What theory says of the wave at the start, or of all electrons together; None where another is measured."""
+        if self.kind == "frequency" and not self.wave_of(plasma):
+            return advice.swing(plasma)
         w = plasma.wave_frequency if plasma.wave and self.wave in (None, plasma.wave) else None
         return None if w is None or self.kind == "heating" else float({"growth": w.imag, "damping": -w.imag,
                                                                        "frequency": abs(w.real)}[self.kind])
@@ -103,6 +109,8 @@ def heating(dump: Dump, plasma: Plasma, asked: Quantity) -> tuple[float, float |
     """All energy at the end over that at the start."""
     first, last = asked.frames(dump) or (0, len(dump))
     table = units.energies(dump).sum(axis=1)
+    if not table[first] > 0:
+        raise ValueError(f"there is no energy at step {dump.steps[first]} that it could be a multiple of; --from names a later one")
     return float(table[last - 1] / table[first]), None, None
 
 

@@ -80,7 +80,8 @@ def draw(axes: Axes, scan: Scan, rows: list[Row]) -> None:
     for (label, chosen, those), colour in zip(groups(scan, rows, name), panels.COLOURS * 99):
         x = np.array([place(name, choices) if name else number for number, choices in enumerate(chosen)])
         order = np.argsort(x, kind="stable")
-        axes.errorbar(x[order], numbers(those, "measured")[order], numbers(those, "error")[order], fmt="o", markersize=4,
+        errors = numbers(those, "error")[order]
+        axes.errorbar(x[order], numbers(those, "measured")[order], errors if np.isfinite(errors).any() else None, fmt="o", markersize=4,
                       color=colour, capsize=2, label=label or "measured")
         line = curve(scan, name, chosen) if name else (np.zeros(0), np.zeros(0))
         if not np.isfinite(line[1]).any():

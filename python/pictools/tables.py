@@ -1,4 +1,5 @@
-"""Dumps for pandas and xarray, which are asked for only here; on Debian they are python3-pandas and python3-xarray."""
+"""Dumps, and the lines of `pic probe`, for pandas and xarray, which are asked for only here; on Debian they are python3-pandas and
+python3-xarray."""
 
 from __future__ import annotations
 
@@ -11,6 +12,7 @@ from numpy.typing import NDArray
 
 from pictools import measure
 from pictools.dump import Dump, Frame
+from pictools.probe import Probes
 from pictools.views import COMPONENTS, STEPS, scale_of, slope
 
 if TYPE_CHECKING:
@@ -48,18 +50,20 @@ def wanted(name: str, debian: str = "", what: str = "tables need") -> Any:
         raise ModuleNotFoundError(f"{what} {library}; on Debian it is {debian or 'python3-' + library}", name=name) from None
 
 
-def units_of(dump: Dump, name: str) -> Units:
+def units_of(dump: Dump | Probes, name: str) -> Units:
     """Units by name: "steps" and cells, with fields as an electron feels them; "dump", the same with fields in the dump's own
     numbers; "plasma", by the plasma frequency and by the Debye length along x in the dump's first frame."""
     if name not in NAMES:
         raise ValueError(f"there are no units {name!r}; there are {', '.join(NAMES)}")
+    if name == "plasma" and isinstance(dump, Probes):
+        raise ValueError("probe lines have no units 'plasma': their deck doesn't say the Debye length; they have dump and steps")
     if name != "plasma":
         return IN_STEPS if name == "steps" else IN_THE_DUMP
     scale = scale_of(dump, "plasma")
     return IN_PLASMA._replace(length=scale.length, time=scale.time)
 
 
-def factor_of(dump: Dump, name: str, units: Units) -> tuple[float, str]:
+def factor_of(dump: Dump | Probes, name: str, units: Units) -> tuple[float, str]:
     """What the values of a component are multiplied by, and the name of their unit then. A B is in proportion to itself: it is 2
     tan of half the angle by which a step turns an electron."""
     factor, label = slope(dump.header, name, STEPS._replace(length=units.length, time=units.time))
@@ -81,7 +85,7 @@ def labelled(table: pandas.DataFrame, units: Units) -> pandas.DataFrame:
     return table
 
 
-def kinds(frame: Frame) -> Any:
+def kinds(frame: Frame | Probes) -> Any:
     """The name of each particle's species, as pandas has names."""
     species = frame.header.species
     return wanted("pandas").Categorical.from_codes(np.repeat(np.arange(len(species)), [s.count for s in species]),
@@ -109,6 +113,18 @@ def tracks(dump: Dump, identities: Sequence[int], name: str) -> pandas.DataFrame
     return labelled(pandas.concat(parts), units)
 
 
+def orbits(probes: Probes, identities: Sequence[int], name: str) -> pandas.DataFrame:
+    """The same of probe lines: a row for each step and each of these particles, or of all that are traced."""
+    pandas, units, rows = wanted("pandas"), units_of(probes, name), list(dict.fromkeys(identities or probes.ids))
+    if not rows:
+        raise ValueError(f"{probes.path}: its deck traces no particle")
+    places, velocities = (np.stack(parts, axis=1).reshape(-1, 3) for parts in zip(*map(probes.orbit, rows)))
+    found = {axis: places[:, a] / probes.header.side for a, axis in enumerate("xyz")}
+    found |= {"v" + axis: velocities[:, a] / probes.header.fast for a, axis in enumerate("xyz")}
+    index = pandas.MultiIndex.from_product([probes.steps, rows], names=["step", "identity"])
+    return labelled(pandas.DataFrame({"species": kinds(probes)[np.tile(rows, len(probes))]} | found, index=index), units)
+
+
 def fields(dump: Dump, components: Sequence[str], name: str) -> xarray.Dataset:
     """Each component over step, z, y and x. Where it stands half a cell further on along an axis, that is the axis x_half, y_half
     or z_half, with the attributes of COMODO's conventions. Nothing is read before it is looked into."""
@@ -125,6 +141,18 @@ def fields(dump: Dump, components: Sequence[str], name: str) -> xarray.Dataset:
     time = ("step", dump.steps / units.time, {"long_name": "time", "units": units.step})
     return xarray.Dataset(variables, {"step": dump.steps, "time": time} | dict(sorted(places.items())), {
         "dump": dump.path, "cells_in_a_length": units.length, "steps_in_a_time": units.time})
+
+
+def signals(probes: Probes, components: Sequence[str], name: str) -> xarray.Dataset:
+    """Of probe lines each component over step and its places, as ey over ey_place, whose ey_x, ey_y and ey_z are in cells."""
+    xarray, units, variables, places = wanted("xarray"), units_of(probes, name), {}, {}
+    for one in components or dict.fromkeys(place.component for place in probes.places):
+        (factor, unit), numbers = factor_of(probes, one, units), probes.of(one)
+        variables[one] = (("step", f"{one}_place"), np.stack([probes.signal(number) for number in numbers], axis=1) * factor, {
+            "long_name": f"{one[0].upper()} along {one[1]}", "units": unit, "steps_after_its_step": 0.0 if one[0] == "e" else -0.5})
+        cells = np.array([probes.places[number].cell for number in numbers]) + measure.offsets(one)
+        places |= {f"{one}_{axis}": (f"{one}_place", cells[:, a], {"units": units.place}) for a, axis in enumerate("xyz")}
+    return xarray.Dataset(variables, {"step": probes.steps} | places, {"lines": probes.path, "deck": probes.deck})
 
 
 def place_of(dump: Dump, axis: str, units: Units) -> tuple[str, NDArray, dict[str, Any]]:

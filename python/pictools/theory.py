@@ -58,6 +58,19 @@ def light(k: float, c: float, wp: float = 0) -> float:
     return 2 * asin(sqrt(c**2 * sin(k / 2)**2 + wp**2 * (1 + 2 * cos(k / 2)**2) / 12))
 
 
+def light_number(w: float, c: float, wp: float = 0, filter: int = 0) -> complex:
+    """The wave number of light of this frequency along an axis, the relation of `light` the other way round. Below the frequencies
+    of light in the plasma it is imaginary, and the light falls by e in 1 / (imaginary part) cells.
+
+    With u = sin(k/2)^2 the relation is sin(w/2)^2 = c^2 u + wp^2 (3 - 2 u) / 12, and with a filter (1 - u) times the second part.
+    """
+    square = wp**2 / 12
+    factors = [2 * square, c**2 - 5 * square, 3 * square] if filter else [0, c**2 - 2 * square, 3 * square]
+    factors[2] -= sin(w / 2)**2
+    u = min(np.roots(np.trim_zeros(factors, "f")).real, key=abs)
+    return 2 * complex(np.arcsin(np.sqrt(complex(u))))
+
+
 def slowest_light(c: float) -> float:
     """How fast the shortest light along an axis goes in vacuum, two cells long, in cells a step: 2 asin(c) / pi, less than c.
     A particle that is faster than light of some wave makes it, as a boat does waves (numerical Cherenkov radiation: B. B.

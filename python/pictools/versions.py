@@ -20,6 +20,10 @@ class Allowance(NamedTuple):
 
 ALLOWANCES = {1: Allowance(64, 1 << 20, SUB_1, SUB_1, 0), 2: Allowance(128, 1 << 22, 8, 14, 1)}
 FILTER_WEIGHT = 64          # the weights of the binomial filter, in all
+MOST_LOOPS = 16             # driven loops, in version 2
+MOST_WAVE = 64              # the numbers of a loop's wave,
+MOST_NUMBER = 1 << 60       # and how large each may be
+MOST_PROBES = 64            # probed places, and as many particles
 
 
 class Sided:

@@ -14,6 +14,7 @@ from pictools.dump import Dump, Header
 from pictools.measure import AXES, Wave, component
 
 PANELS = ("energies", "phase", "orbits", "field", "history", "growth", "damping", "spectrum", "heating")
+PROBE_PANELS = ("signal", "spectrum", "orbit")      # of probe lines
 COMPONENTS = ("ex", "ey", "ez", "bx", "by", "bz")
 PLANES = ("x", "y", "z", "xy", "xz", "yz")
 
@@ -85,8 +86,8 @@ def add_options(part: argparse.ArgumentParser, steps: str = "of phase and field:
                 panels: str = "energies, and phase, field and spectrum where there are some") -> None:
     """The options of a picture; their names are the fields of View, and `panels`. What is said of two may be another thing."""
     add = part.add_argument
-    add("--panels", nargs="+", default=[], choices=PANELS, metavar="PANEL",
-        help=f"what to draw, of {', '.join(PANELS)} (default: {panels})")
+    add("--panels", nargs="+", default=[], choices=dict.fromkeys(PANELS + PROBE_PANELS), metavar="PANEL",
+        help=f"what to draw, of {', '.join(PANELS)} (default: {panels}); of probe lines, of {', '.join(PROBE_PANELS)}")
     add("--component", choices=COMPONENTS,
         help="of field, history, growth, damping and spectrum (default: the one that varies most)")
     add("--steps", nargs="+", type=int, default=[], help=steps)

@@ -24,6 +24,8 @@ REFUSED = (
     ({"light_speed": 1.2}, "light_speed", "1.2", "above 0 to 1"),
     ({"thermal_speed": -0.05}, "thermal_speed", "-0.05", "from 0 to 1 \\(a particle moves at most a cell a step\\)"),
     ({"thermal_speed": inf}, "thermal_speed", "inf", "from 0 to 1"),
+    ({"thermal_speed": 0.05, "thermal_speed_x": 0.1}, "thermal_speed", "0.05", "each axis .* has a speed of its own"),
+    ({"thermal_speed": 0.05, "cells": (2, 2, 2)}, "thermal_speed", "0.05", "along no axis of this box; .* as --thermal-speed-x"),
     ({"thermal_speed_y": -1}, "thermal_speed_y", "-1", "from 0 to 1"),
     ({"drift": -0.3}, "drift", "-0.3", "from 0 to 1"),
     ({"drift": 1.1}, "drift", "1.1", "from 0 to 1"),
@@ -38,7 +40,8 @@ REFUSED = (
     ({"gyration_axis": "x"}, "gyration_axis", "x", "wants --gyration"),
     ({"drift_axis": "y"}, "drift_axis", "y", "wants --drift, streams"),
     ({"beam_share": 0.1}, "beam_share", "0.1", "wants --drift"),
-    ({"seed": 7}, "seed", "7", "quiet start draws nothing"),
+    ({"seed": 7}, "seed", "7", "quiet start draws nothing"), ({"seed": 7, "start": "lattice"}, "seed", "7", "wants a thermal speed$"),
+    ({"seed": 7, "start": "random", "cells": (2, 2, 2)}, "seed", "7", "wants a thermal speed, or a long axis$"),
     ({"cross_drift": 1.1, "gyration": 0.1}, "cross_drift", "1.1", "from 0 to 1"),
     (LONG | {"cross_drift": 0.6, "gyration": 0.1, "start": "random"}, "cross_drift", "0.6", "at most 1/2 cell a step"),
     (WAVE | {"cross_drift": 0.1, "gyration": 0.1}, "wave", "1", "no wave in an E across B"),
@@ -65,6 +68,19 @@ REFUSED = (
     ({"sub": 7}, "sub", "7", "from 8 to 14"), ({"sub": 15}, "sub", "15", "from 8 to 14"),
     ({"filter": 2}, "filter", "2", "from 0 to 1"),
     ({"wave": 4, "wave_speed": 0.01, "filter": 1}, "wave", "4", "two cells long, and the filter leaves no current"),
+    ({"displace": 1.5}, "displace", "1.5", "from -1 to 1"), ({"displace": 1e-5}, "displace", "1e-05", "less than half a sub-cell"),
+    ({"displace_axis": "y"}, "displace_axis", "y", "wants --displace"),
+    (WAVE | {"displace": 0.1}, "displace", "0.1", "which is no wave"),
+    ({"displace": 0.1, "start": "lattice", "thermal_speed": 0.05}, "displace", "0.1", "have one speed"),
+    ({"displace": 0.1, "start": "lattice", "drift": 0.1}, "displace", "0.1", "have one speed"),
+    ({"antenna": 2}, "antenna", "2", "from 0 to 1"), (LONG | {"antenna": 0.01, "cells": (8, 8, 4)}, "antenna", "0.01", "32 places, and .* at most 16"),
+    ({"antenna": 1, "plasma_frequency": 1e-5, "filter": 1}, "antenna", "1", "at most 2\\^60"),
+    ({"antenna_period": 8}, "antenna_period", "8", "wants --antenna"), ({"antenna": 0.01, "antenna_period": 65}, "antenna_period", "65", "from 3 to 64"),
+    ({"antenna": 0.01, "antenna_place": 8}, "antenna_place", "8", "the cells 0 to 7"),
+    ({"antenna": 0.01, "antenna_axis": "y"}, "antenna_axis", "y", "more than two cells"),
+    ({"probe": "ey,q"}, "probe", "ey,q", "each once"), ({"probe": "ey,ey"}, "probe", "ey,ey", "each once"),
+    ({"probe_axis": "y"}, "probe_axis", "y", "wants --probe"), ({"trace": 65}, "trace", "65", "from 0 to 64"),
+    ({"trace": 9, "cells": (2, 2, 2), "particles_a_cell": 1}, "trace", "9", "there are 8 electrons"),
     ({"cells": (129, 2, 2), "sub": 12}, "cells", "129 2 2", "129 cells along x; an axis has 2 to 128"),
     (LONG | {"particles_a_cell": 8192, "start": "random", "sub": 8}, "particles_a_cell", "8192",
      "at most 4194304 particles, so here at most 4096 electrons a cell"),
@@ -86,6 +102,7 @@ REFUSED = (
      "at most 4096 on a cell"),
     ({"start": "lattice", "drift": 0.1, "mass_ratio": 65536, "cells": (8, 8, 8)}, "mass_ratio", "65536", "mass of 2"),
     ({"start": "lattice"} | WAVE, "start", "lattice", "begins no wave"),
+    ({"start": "lattice", "cells": (2, 2, 2)}, "start", "lattice", "more than two cells, and the box has none"),
     (WAVE | {"drift": 0.1, "gyration": 0.1}, "wave", "1", "no wave of streams in a magnetic field"),
     (WAVE | {"drift": 0.1, "drift_axis": "y", "beam_share": 0.25}, "wave", "1", "no filament of unequal streams"),
     (WAVE | {"drift": 0.1, "drift_axis": "y", "beam_share": 1}, "wave", "1", "no filament of unequal streams"),
@@ -135,6 +152,8 @@ class Costs(unittest.TestCase):
         self.assertEqual(cost.dump_bytes(deck), 64 + 2 * 60 + 21 * (53 + 96 * 64**3 + 24 * 2**20) + 6)
         self.assertLess(abs(cost.seconds(deck) - 54), 3)
         self.assertRegex(cost.say(deck), "about 5. seconds on one thread. Its dump has 21 frames, 1.06 GB.$")
+        probed = cost.say(Plasma(**SMALL | {"probe": "ey", "trace": 2, "steps": 99}).deck())
+        self.assertRegex(probed, r" `pic probe` puts 100 lines, about 21\.4 kB\.$")
         for time, words in (0.1, "1 second"), (90, "90 seconds"), (600, "10 minutes"), (10**5, "28 hours"):
             self.assertEqual(cost.spoken(time), words)
 

@@ -79,6 +79,7 @@ class Signals(unittest.TestCase):
     def test_frequency(self):
         steps = np.arange(0, 400, 2)
         self.assertAlmostEqual(measure.frequency(steps, np.cos(0.1 * steps + 0.3)), 0.1, 4)
+        self.assertEqual(measure.crossings(np.arange(6), np.array([2, 0, -2, 0, -1, 3])).tolist(), [1, 4.25])
         self.assertAlmostEqual(measure.turned(np.angle(np.exp(-0.4j * np.arange(100)))), -0.4 * 99)
         with self.assertRaisesRegex(ValueError, "0 times"):
             measure.frequency(steps, np.ones(200))

@@ -62,6 +62,7 @@ class Pages(unittest.TestCase):
         (cls.folder / "a.toml").write_text(cls.deck)
         (cls.folder / "a.dump").write_bytes(Model(cls.deck).run()[1])
         (cls.folder / "other.toml").write_text(cls.deck.replace("charge = -1", "charge = -2"))
+        (cls.folder / "few.toml").write_text(cls.deck.replace("count = [8, 1, 1]", "count = [4, 1, 1]"))
 
     def page(self, words: str) -> Reader:
         status, _, said = called(f"page {words} -o a.html --size 4 3 --dpi 50", self.folder)
@@ -112,12 +113,28 @@ class Pages(unittest.TestCase):
     def test_refusals(self):
         for words, line in (("a.dump --deck other.toml -o b.html", r"--deck other.toml: it isn't the deck of a.dump: species\[0\]"
                                                                    r".charge is -2 in place of -1"),
-                            ("a.dump --deck a.dump -o b.html", "it isn't the deck of a.dump: grid.cells is None in place of"),
+                            ("a.dump --deck a.dump -o b.html", "it isn't the deck of a.dump: "),
+                            ("a.dump --deck few.toml -o b.html", r"the number of particles of species\[2\] is 4 in place of 8"),
                             ("a.dump -o b.txt", "--out b.txt: a page's name ends in .html")):
             status, _, said = called(f"page {words} --program no", self.folder)
             self.assertEqual(status, 1)
             self.assertRegex(said, rf"^pictools: .*{line}.*\n$")
         self.assertEqual(list(self.folder.glob("*b.*")), [])
+
+    def test_a_driven_plasma_that_is_displaced(self):
+        """Its page says loops, filter and ways in words, and takes no deck with others."""
+        deck = Plasma(plasma_frequency=0.2, cells=(8, 2, 2), particles_a_cell=2, displace=0.25, antenna=0.01, filter=1, steps=2, every=1).deck().text()
+        (self.folder / "d.toml").write_text(deck)
+        (self.folder / "d.dump").write_bytes(Model(deck).run()[1])
+        page = self.page("d.dump --deck d.toml --panels energies --program no")
+        for words in ("each ion starts -0.25, 0, 0 cells along x, y and z from its electron", "loops 0 to 3 around the faces of the cells",
+                      "driven by these loops from outside", "the current is smoothed"):
+            self.assertIn(words, page.text)
+        for old, new, reason in (("filter = 1", "filter = 0", "run.filter is 0 in place of 1"), ("cell = [0, 0, 1]", "cell = [1, 0, 1]", r"drive\[2\].cell is")):
+            (self.folder / "another.toml").write_text(deck.replace(old, new))
+            status, _, said = called("page d.dump --deck another.toml -o b.html --program no", self.folder)
+            self.assertEqual(status, 1)
+            self.assertRegex(said, reason)
 
     @unittest.skipUnless(PROGRAM or os.environ.get("PIC_PROGRAM"), "no program was built of these sources")
     def test_verdicts(self):

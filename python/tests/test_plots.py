@@ -193,9 +193,11 @@ class Pictures(unittest.TestCase):
         self.assertIn("without the uniform B's", axes.get_title())
         field[1:, 0] = 1
         (axes,), _ = self.draw(self.dump(cells=(16, 2, 2), e=field[:, ::-1]), "energies")
-        self.assertEqual(axes.get_title(), "Energies, in one unit")
+        self.assertEqual((axes.get_title(), axes.get_ylabel()), ("Energies, in one unit", "share of all energy at its greatest"))
         axes, _ = self.draw(self.waves(), "energies", linear=True)
-        self.assertEqual(axes[0].get_yscale(), "linear")
+        self.assertEqual((axes[0].get_yscale(), axes[0].get_ylabel()), ("linear", "share of all energy at its greatest"))
+        self.assertEqual(panels.whole_energy(np.array([2.0, 3.0])), (2.0, "at the start"))
+        self.assertEqual(panels.whole_energy(np.array([0.0, 3.0])), (3.0, "at its greatest"))
         self.assertIn("parts of a thousand", axes[1].get_ylabel())
 
     def test_plasma_units_letters_and_size(self):

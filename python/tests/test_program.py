@@ -11,7 +11,8 @@ from compare import Model
 
 HOME = Path(__file__).parents[2]
 PROGRAM = subprocess.run([HOME / "pic", "built"], capture_output=True, text=True).stdout.strip()
-USAGE = b"usage: pic [check | run [--workers N] | verify | demo SEED [--workers N] | upgrade | resume --steps M [--workers N]]\n"
+USAGE = (b"usage: pic [check | run [--workers N] | verify | demo SEED [--workers N] | upgrade | resume --steps M [--workers N] "
+         b"| probe [--workers N]]\n")
 
 # The demonstration's deck, with SEED in two places.
 DEMONSTRATION = (HOME / "decks" / "demo_7.toml").read_text().replace("seed = 7", "seed = SEED")

@@ -1,6 +1,7 @@
 """A long run that was ended is gone on with by a second call, to the dump of a run in one; by the built program, skipped where none was
 built."""
 
+import io
 import json
 import resource
 import signal
@@ -8,6 +9,7 @@ import subprocess
 import sys
 import time
 import unittest
+from dataclasses import replace
 from pathlib import Path
 
 from pictools import running
@@ -56,6 +58,18 @@ class Resuming(Folder):
         self.assertEqual([end for end, _ in parts_of(told)], ["done 6"])
         self.assertRegex(parts_of(told)[0][1], "the program ended with the status")
         self.assertEqual(self.names(), {"a.toml", "a.dump", "a.dump.json"})
+
+    def test_in_the_middle_of_a_wave(self):
+        """Of loops that drive a filtered plasma which is displaced at the start, whose deck has probes too."""
+        plasma = replace(PLASMA, displace=0.5, antenna=0.01, antenna_period=7, filter=1, probe="ey", trace=2, thermal_speed=0)
+        self.deck.write_text(plasma.deck().text())
+        _, whole, _ = call("run", given=self.deck.read_bytes())
+        header = Dump.stream(io.BytesIO(whole)).header
+        done = self.limited(header.length + 3 * header.frame_type.itemsize + 100)
+        self.assertIn("is the dump of a run of 6 steps: 3 frames", done.stderr)
+        self.assertEqual(Dump(self.dump).header.loops, tuple(plasma.deck().loops))
+        self.assertEqual(running.run(str(self.deck), str(self.dump), named=PROGRAM).start, 6)
+        self.assertEqual(self.dump.read_bytes(), whole)
 
     def test_an_earlier_dump_stays_until_there_is_more(self):
         """Twice on the same full disk: the second call gets no further, and takes nothing away."""

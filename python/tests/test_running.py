@@ -54,6 +54,16 @@ class Folder(unittest.TestCase):
         return {path.name for path in self.folder.iterdir()}
 
 
+class Gauges(Folder):
+    def test_a_run_from_nothing_has_no_shares(self):
+        """Where loops drive a cold plasma there is no energy at the start that the others could be shares of."""
+        for speed, words in (0.0, 1), (0.1, 4):
+            e, places = np.zeros((2, 3, 2, 2, 4)), np.zeros((4, 3))
+            (self.folder / "a.dump").write_bytes(made.dump((4, 2, 2), e, None, 1, lambda _: (places, places + speed), [("electron", -1, 4)]))
+            said = running.Gauge(str(self.folder / "a.dump"), 0).shown(1, (0, 5, 0)).split(", ")
+            self.assertEqual((len(said), said[0].endswith(" million particle-steps/s")), (words, True))
+
+
 class Mending(Folder):
     def setUp(self):
         super().setUp()
@@ -250,11 +260,19 @@ class Running(Folder):
         self.assertEqual(call("verify", given=(self.folder / "a.dump").read_bytes())[0], 0)
 
     def test_without_tqdm(self):
+        """A line says so where there would be a bar, on a terminal, and nowhere else."""
         (self.folder / "tqdm.py").write_text("raise ModuleNotFoundError('no', name='tqdm')\n")
         self.deck(Plasma(plasma_frequency=0.1, cells=(4, 2, 2), particles_a_cell=2, steps=4))
         done = self.call("run", "a.toml", "-o", "a.dump")
         self.assertEqual(done.returncode, 0)
-        self.assertTrue(done.stderr.startswith("pictools: no progress is shown: that needs tqdm; on Debian it is python3-tqdm\n"))
+        self.assertRegex(done.stderr, r"^a\.dump: done 4, ")
+        reader, terminal = pty.openpty()
+        self.addCleanup(os.close, reader)
+        words = [sys.executable, "-m", "pictools", "run", "a.toml", "-o", "b.dump"]
+        done = subprocess.run(words, stderr=terminal, cwd=self.folder, env=self.environment, timeout=600)
+        os.close(terminal)
+        self.assertEqual(done.returncode, 0)
+        self.assertTrue(os.read(reader, 1000).startswith(b"pictools: no progress is shown: that needs tqdm; on Debian it is python3-tqdm\r\n"))
 
     @unittest.skipUnless(importlib.util.find_spec("matplotlib"), "matplotlib isn't there")
     def test_pictures_name_the_note(self):

@@ -10,9 +10,11 @@ import subprocess
 import sys
 import unittest
 from dataclasses import replace
+from math import asin
 from pathlib import Path
 
 import numpy as np
+from compare import Model
 
 from pictools import command_scan, scan
 from pictools.dump import Dump
@@ -33,6 +35,25 @@ echo $PPID >> {calls}
 if [ {at} != 0 ] && [ "$(wc -l < {calls})" -ge {at} ] && mkdir {calls}.once 2>/dev/null; then {what}; fi
 exec {program} "$@"
 """
+
+
+class Swinging(Folder):
+    def test_displaced_electrons_are_measured_together(self):
+        for axis, component in ("x", None), ("y", None), ("x", "ex"):
+            plasma = Plasma(plasma_frequency=0.3, cells=(3, 3, 3), particles_a_cell=1, start="lattice", displace=0.25, displace_axis=axis,
+                            steps=60, every=1, mass_ratio=4)
+            (self.folder / "a.dump").write_bytes(Model(plasma.deck().text()).run()[1])
+            row = scan.measured(Dump(self.folder / "a.dump"), plasma, Quantity("frequency", component=component))
+            self.assertAlmostEqual(float(row["theory"]), 2 * asin(0.3 * 1.25**0.5 / 2))
+            self.assertLess(abs(float(row["measured"]) / float(row["theory"]) - 1), 0.01)
+        turned = replace(plasma, gyration=0.1)
+        self.assertIsNone(Quantity("frequency").theory(turned))
+        self.assertEqual(Quantity("frequency", 1).component_of(replace(plasma, displace_axis="y")), "ex")
+
+    def test_no_energy_to_begin_with(self):
+        (self.folder / "a.dump").write_bytes(made.dump((4, 2, 2), np.zeros((8, 3, 2, 2, 4))))
+        row = scan.measured(Dump(self.folder / "a.dump"), Plasma(0.1), Quantity("heating"))
+        self.assertEqual(row, {"reason": "there is no energy at step 0 that it could be a multiple of; --from names a later one"})
 
 
 @needs_program

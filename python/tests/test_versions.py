@@ -61,7 +61,7 @@ class Decks(unittest.TestCase):
             self.assertAlmostEqual(units.light_speed(header), 0.4, 6)
             self.assertAlmostEqual(units.thermal_speed(frame), 0.05, 2)
             self.assertAlmostEqual(units.gyration(header, header.species[0], frame.b[0].mean()), -0.2, 4)
-            self.assertLess(abs(frame.table()["x"].max() - 8), 0.2)
+            self.assertLess(abs(frame.particles["position"][:, 0].max() / 2**sub - 8), 0.2)
             self.assertIn(f"{2**sub} sub-cells a cell along each axis, by version 2", "\n".join(info.info(dump)))
 
     def test_a_wave_grows_alike_for_all_sides(self):
@@ -82,7 +82,7 @@ class Dumps(unittest.TestCase):
     def test_damage(self):
         data = model_bytes(FINE)
         for place, new, reason in ((7, b"3", "PICDUMP3"), (7, b"0", "PICDUMP0"), (60, b"\0\0\0\7", "sub"), (60, b"\0\0\0\x0f", "sub"),
-                                   (64, b"\0\0\0\2", "filter"), (68, b"\0\0\0\1", "loops"), (72, b"\0\0\0\x11", "species"),
+                                   (64, b"\0\0\0\2", "filter"), (68, b"\0\0\0\x11", "loops"), (72, b"\0\0\0\x11", "species"),
                                    (8, b"\0\0\0\x81", "cells"), (132, b"\0\x40\0\1", "particles")):
             with self.assertRaises(DumpError) as fault:
                 Dump.stream(io.BytesIO(data[:place] + new + data[place + len(new) :]))

@@ -11,7 +11,7 @@ use Rattle.pic_grid.specs.Block.{BlockValues, IsShaped, edge_at, inner_at, outer
 use Rattle.pic_grid.specs.Cells.{IsWithin, count_of, cell_of, place_of}
 use Rattle.pic_grid.specs.Lattice.{Field, EachAtMost, value_at}
 use Rattle.pic_grid.specs.Parts.{origin, part_size, corner_of}
-use Rattle.pic_field.specs.FieldPhases.{full_of, full_in, least_fault}
+use Rattle.pic_field.specs.FieldPhases.{full_of, full_in, least_fault, no_drive, most_raised}
 use Rattle.pic_advance.specs.Blocks.{block_in, EachBlock, earliest, IsMade}
 use Rattle.pic_advance.specs.Driven.{AllCanDrive, AreDriven, driven_stop}
 use Rattle.pic_advance.proofs.MadeLaws.{made_clear}
@@ -20,7 +20,7 @@ use Rattle.pic_advance.proofs.TakenLaws.{HasBlocks, taken_among, taken_edge, tak
 
 -- the new values of E, by those of the lattices
 abbrev pub full_all : Scales → Field → Field → Field → Axis → Triple → ℤ
-full_all scales b e j a p = full_of scales b a p (value_at e a p) (value_at j a p)
+full_all scales b e j a p = full_of scales b no_drive a p (value_at e a p) (value_at j a p)
 
 -- the lattices of E and of the current have equally many blocks, over the same zones
 module _ (scales : Scales) (b : Field) (n : Triple) (e j : Field) (es js : List BlockValues) (h : HasBlocks n e es) (k : HasBlocks n j js)
@@ -48,14 +48,14 @@ module _ (scales : Scales) (b : Field) (n : Triple) (e j : Field) (es js : List 
     beside i below = omega (arith, below, same_long)
 
     -- what the calls for the blocks require
-    pub all_can_drive : EachAtMost most_value e → EachAtMost most_value j → e.cells ≡ n → j.cells ≡ n → AllCanDrive n es js
+    pub all_can_drive : EachAtMost most_raised e → EachAtMost most_value j → e.cells ≡ n → j.cells ≡ n → AllCanDrive n es js
     all_can_drive small current_small cells current_cells = record {
       long = same_long;
       each = λ i below. record {
         among = taken_among n e es h i below;
         shape = same_zone i below;
         current_small = taken_small n j js k most_value i (beside i below) current_small current_cells;
-        small = taken_small n e es h most_value i below small cells;
+        small = taken_small n e es h most_raised i below small cells;
       };
     }
 
@@ -86,7 +86,7 @@ module _ (scales : Scales) (b : Field) (n : Triple) (e j : Field) (es js : List 
                 shaped = one.shaped;
                 values = λ a p w.
                     let q = outer_of (block_in es i).low p in
-                    one.values a p w ∙ (λ l. full_of scales b a q (sym (taken_value n e es h i a p below w) l) (current_value i a p below w l));
+                    one.values a p w ∙ (λ l. full_of scales b no_drive a q (sym (taken_value n e es h i a p below w) l) (current_value i a p below w l));
               };
         }
 
@@ -101,8 +101,8 @@ module _ (scales : Scales) (b : Field) (n : Triple) (e j : Field) (es js : List 
         pub full_stop_is : stop ≡ least_fault Electric scales.e_force origin n (full_all scales b e j)
         full_stop_is =
             driven.stop_is
-            ∙ row_stop_is Electric scales.e_force n e.parts es (λ i. full_in scales b (block_in js i) (block_in es i)) (full_all scales b e j)
+            ∙ row_stop_is Electric scales.e_force n e.parts es (λ i. full_in scales b no_drive (block_in js i) (block_in es i)) (full_all scales b e j)
             h.cells h.parts h.zones (λ i below a p w.
             let q = outer_of (block_in es i).low p in
             let inside : i < length es = (let count = h.zones.count in omega (arith, below, count)) in
-            λ l. full_of scales b a q (sym (taken_edge n e es h i a p inside w) l) (current_edge i a p inside w l))
+            λ l. full_of scales b no_drive a q (sym (taken_edge n e es h i a p inside w) l) (current_edge i a p inside w l))

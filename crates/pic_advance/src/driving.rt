@@ -4,7 +4,7 @@ ghost use Rattle.std.specs.Prelude.{◌≡◌, pos, IfSome};
 ghost use Rattle.pic_num.specs.Limits.{most_value};
 ghost use Rattle.pic_grid.specs.Lattice.{EachAtMost, field_of, value_at};
 ghost use Rattle.pic_filter.specs.Smoothing.{filtered, filter_in, most_to_smooth};
-ghost use Rattle.pic_field.specs.FieldPhases.{full_of};
+ghost use Rattle.pic_field.specs.FieldPhases.{full_of, no_drive, most_raised};
 ghost use Rattle.pic_advance.specs.Current.{LiesOn};
 ghost use Rattle.pic_advance.specs.Phases.{Advances};
 
@@ -24,7 +24,7 @@ pub struct Current {
 
 /// A step of E, from B and the current, which is filtered where there is room for that, by the workers
 /// of a team. No memory is taken. The current is handed back as a lattice of zeros, with its room, also
-/// where the answer is a stop.
+/// where the answer is a stop. The values of E may be those that the curl of a drive was added to.
 ///
 /// # Errors
 /// The stop of the least place (the axis first, then z, y, x) whose new value is above 2^90 in
@@ -41,9 +41,9 @@ pub fn drive_e<H: Threads + Sync, G>(
     requires smooth { IfSome current.smooth (LiesOn b.now.cells e.parts) }
     requires flux_small { EachAtMost most_to_smooth current.flux }
     requires b_small { EachAtMost most_value b.now }
-    requires e_small { EachAtMost most_value e }
+    requires e_small { EachAtMost most_raised e }
     ensures fields { Advances Phase.Electric scales.now.e_force b.now.side b.now.cells e.parts
-        (λ a p. full_of scales.now b.now a p (value_at e a p)
+        (λ a p. full_of scales.now b.now no_drive a p (value_at e a p)
         (filtered (filter_in current.smooth) b.now.cells (value_at current.flux a) p)) result.0 }
     ensures cleared { result.1.flux
         ≡ field_of current.flux.side current.flux.cells current.flux.parts (λ _ _. pos 0) }

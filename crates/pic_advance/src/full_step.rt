@@ -5,7 +5,7 @@ ghost use Rattle.std.specs.Prelude.{◌≡◌, ℤ, pos};
 ghost use Rattle.pic_num.specs.Limits.{most_value};
 ghost use Rattle.pic_grid.specs.declared.stop.Phase.TheVariants.{Electric};
 ghost use Rattle.pic_grid.specs.Lattice.{EachAtMost, field_of, value_at};
-ghost use Rattle.pic_field.specs.FieldPhases.{full_of};
+ghost use Rattle.pic_field.specs.FieldPhases.{full_of, no_drive, most_raised};
 ghost use Rattle.pic_advance.specs.Driven.{CanDrive, AllCanDrive, IsDriven, AreDriven, driven_stop};
 ghost use Rattle.pic_advance.specs.Phases.{Advances};
 
@@ -79,7 +79,8 @@ fn full_in_turn(step: &FullStep, blocks: &mut [Block], current: &mut [Block]) ->
 
 /// A step of E, from B and the current, over the blocks of E, by the workers of a team, each in a
 /// thread of its own where one can be made and pays. No memory is taken. The current is handed back
-/// as a lattice of zeros, also where the answer is a stop.
+/// as a lattice of zeros, also where the answer is a stop. The values of E may be those that the curl
+/// of a drive was added to.
 ///
 /// # Errors
 /// The stop of the least place (the axis first, then z, y, x) whose new value is above 2^90 in
@@ -96,9 +97,9 @@ pub fn advance_e<H: Threads + Sync, G>(
     requires parts { current.parts ≡ e.parts }
     requires b_small { EachAtMost most_value b.now }
     requires current_small { EachAtMost most_value current }
-    requires e_small { EachAtMost most_value e }
+    requires e_small { EachAtMost most_raised e }
     ensures fields { Advances Phase.Electric scales.now.e_force b.now.side b.now.cells e.parts
-        (λ a p. full_of scales.now b.now a p (value_at e a p) (value_at current a p)) result.0 }
+        (λ a p. full_of scales.now b.now no_drive a p (value_at e a p) (value_at current a p)) result.0 }
     ensures cleared { result.1
         ≡ field_of current.side current.cells current.parts (λ _ _. pos 0) }
 {

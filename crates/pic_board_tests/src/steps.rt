@@ -1,13 +1,17 @@
 //! One step of a pair, by the side of a cell: numbers worked by hand.
 
 ghost use Rattle.std.specs.Prelude.{◌≡◌, IfOk};
+ghost use Rattle.pic_num.specs.Limits.{most_loops};
+ghost use Rattle.pic_grid.specs.Loops.{AreLoops};
 
+use pic_devices::optional_drive;
 use pic_gate::{Hold, Open};
-use pic_grid::{Cells, Lattice, Snapshot};
+use pic_grid::{Cells, Lattice, Loops, Snapshot};
 use pic_num::{Axis, Kind, Mult, NoMemory, Particle, Scales, Sub};
 use pic_step::{Start, State, step};
 use pic_tile::{Dir, Kinds, Setup, TileMap};
 use std::alloc::Global;
+use toml::table_from_str;
 
 /// A charge of either sign, which no field drives.
 fn kind_of(charge: i32) -> Kind
@@ -23,9 +27,26 @@ fn kind_of(charge: i32) -> Kind
     }
 }
 
+/// A loop round the face on z of the first cell, whose wave has two numbers.
+const ONE_LOOP: &str = "drive = [{ axis = 2, cell = [0, 0, 0], wave = [8, -5] }]";
+
+/// The loops that a text says, on 4 by 4 by 4 cells.
+fn loops_of(alloc: Global, text: &str) -> Result<Loops, NoMemory>
+    ensures { IfOk result (AreLoops (record { x = 4; y = 4; z = 4 }) most_loops) }
+{
+    let Ok(table) = table_from_str(alloc, text) else {
+        return Err(NoMemory);
+    };
+    match optional_drive(alloc, &table, Cells::new([4; 3], Sub::of_bits(12))) {
+        Ok(loops) => Ok(loops),
+        Err(_) => Err(NoMemory),
+    }
+}
+
 /// An ion at rest and an electron on one place, a quarter of a cell along x, after 41 steps. The
 /// electron moves half a cell along x in a step.
-fn pair_of(alloc: Global, sub: Sub) -> Result<State, NoMemory>
+fn pair_of(alloc: Global, sub: Sub, loops: Loops) -> Result<State, NoMemory>
+    requires { AreLoops (record { x = 4; y = 4; z = 4 }) most_loops loops }
     ensures { IfOk result (λ s. s.world.step ≡ 41) }
 {
     let none = Mult::new(0, 0);
@@ -57,6 +78,7 @@ fn pair_of(alloc: Global, sub: Sub) -> Result<State, NoMemory>
     let setup = Setup {
         map,
         filter: 0,
+        loops,
         scales,
         kinds,
     };
@@ -99,7 +121,13 @@ fn a_step_by_the_side_of_a_cell(rt: HostRuntime) -> Result<(), NoMemory> {
             continue;
         };
         for workers in 1..3 {
-            let next = step(&rt, rt.alloc(), pair_of(rt.alloc(), sub)?, workers, &Open);
+            let next = step(
+                &rt,
+                rt.alloc(),
+                pair_of(rt.alloc(), sub, loops_of(rt.alloc(), "")?)?,
+                workers,
+                &Open,
+            );
             assert!(rt; next.is_ok());
             if let Ok(state) = next {
                 let mut seen = Snapshot::new(rt.alloc(), state.cells(), state.count())?;
@@ -118,13 +146,50 @@ fn a_step_by_the_side_of_a_cell(rt: HostRuntime) -> Result<(), NoMemory> {
     Ok(())
 }
 
+/// E at the four edges of the current of a loop, and at two others.
+fn edges_of(alloc: Global, state: &State) -> Result<[i128; 6], NoMemory> {
+    let mut seen = Snapshot::new(alloc, state.cells(), state.count())?;
+    state.fill(&mut seen);
+    Ok([
+        value_in(&seen.e, Axis::X, [0, 0, 0]),
+        value_in(&seen.e, Axis::X, [0, 1, 0]),
+        value_in(&seen.e, Axis::Y, [0, 0, 0]),
+        value_in(&seen.e, Axis::Y, [1, 0, 0]),
+        value_in(&seen.e, Axis::Z, [0, 0, 0]),
+        value_in(&seen.e, Axis::X, [0, 3, 0]),
+    ])
+}
+
+// the step from the 41st state takes the second number of the wave, and the next one the first; the
+// electron goes half a cell in the first cell, and then a quarter
+#[test]
+fn a_loop_drives_by_the_number_of_the_step(rt: HostRuntime) -> Result<(), NoMemory> {
+    let pair = pair_of(
+        rt.alloc(),
+        Sub::of_bits(12),
+        loops_of(rt.alloc(), ONE_LOOP)?,
+    )?;
+    assert_eq!(rt; pair.loops().len(), 1);
+    let Ok(first) = step(&rt, rt.alloc(), pair, 1, &Open) else {
+        return Err(NoMemory);
+    };
+    let wanted = [412316860416 - 5, 5, 5, -5, 0, 0];
+    assert_eq!(rt; edges_of(rt.alloc(), &first)?, wanted);
+    let Ok(second) = step(&rt, rt.alloc(), first, 1, &Open) else {
+        return Err(NoMemory);
+    };
+    let wanted = [618475290624 + 3, -3, -3, 3, 0, 0];
+    assert_eq!(rt; edges_of(rt.alloc(), &second)?, wanted);
+    Ok(())
+}
+
 #[test]
 fn two_workers_are_at_work_at_once(rt: HostRuntime) -> Result<(), NoMemory> {
     let hold = Hold::new();
     let next = step(
         &rt,
         rt.alloc(),
-        pair_of(rt.alloc(), Sub::of_bits(12))?,
+        pair_of(rt.alloc(), Sub::of_bits(12), loops_of(rt.alloc(), "")?)?,
         2,
         &hold,
     );

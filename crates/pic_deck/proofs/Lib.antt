@@ -1,4 +1,3 @@
-pub mod GridLaws
 pub mod TileLaws
 pub mod ContentLaws
 pub mod InitialLaws

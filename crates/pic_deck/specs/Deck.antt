@@ -1,26 +1,30 @@
 -- What a deck says, and the limits that its type keeps.
-use Rattle.std.specs.Prelude.{ℕ, ℤ, List, map, ◌≤◌}
+use Rattle.std.specs.Prelude.{ℕ, ℤ, List, map}
 use Rattle.pic_num.specs.declared.mult.Scales.{Scales}
 use Rattle.pic_num.specs.declared.axis.Axis.{Axis}
-use Rattle.pic_num.specs.Limits.{most_steps, allowance_of}
+use Rattle.pic_num.specs.Limits.{allowance_of}
 use Rattle.pic_num.specs.Space.{Triple, triple, Spot, spot}
-use Rattle.pic_num.specs.Versions.{IsVersion, IsGridOf}
-use Rattle.pic_grid.specs.Cells.{Grid, IsCells}
+use Rattle.pic_grid.specs.declared.loops.Loop.{Loop}
+use Rattle.pic_grid.specs.Cells.{Grid}
+use Rattle.pic_grid.specs.Loops.{AreLoops}
 use Rattle.pic_grid.specs.Species.{HeadView, AreHeads}
-use Rattle.pic_grid.specs.Tiles.{AreTiles}
 use Rattle.pic_walk.specs.declared.row.Row.{Row}
 use Rattle.pic_walk.specs.Terms.{TermsView}
 pub use Rattle.pic_walk.specs.Extent.{extent_of, most_extent, IsExtent}
 use Rattle.pic_walk.specs.Rows.{AreRows}
+use Rattle.pic_devices.specs.declared.devices.Devices.{Devices}
+use Rattle.pic_devices.specs.declared.probes.Probes.{Probes}
+use Rattle.pic_devices.specs.Probes.{AreProbes}
+use Rattle.pic_settings.specs.declared.settings.Settings.{Settings}
+pub use Rattle.pic_settings.specs.Settings.{AreSettings, terms_of}
 use Rattle.pic_deck.specs.declared.fields.InitialFields.{InitialFields}
-use Rattle.pic_deck.specs.declared.settings.Settings.{Settings}
 use Rattle.pic_deck.specs.declared.species.Species.{Species}
-use Rattle.pic_deck.specs.Species.{AreFilled, head_of}
+use Rattle.pic_deck.specs.Species.{AreFilled, head_of, particles_of}
 use Rattle.pic_deck.specs.Initial.{IsMild, set_up}
 
 -- a deck: its version, the cells of each axis, the side of a cell, the tiles of each axis, how many steps, after how
 -- many a frame is due, the filter of the current, the multipliers of the fields, the uniform parts of E and B and the rows that
--- are added to them, and the species
+-- are added to them, the species, the loops that drive the run, and the probes that watch it
 pub record DeckView : Type 0 where
   pub version : ℕ
   pub cells : Triple
@@ -35,10 +39,12 @@ pub record DeckView : Type 0 where
   pub edges : List Row
   pub faces : List Row
   pub species : List Species
+  pub loops : List Loop
+  pub probes : Probes
 
 -- the deck of these parts
-abbrev pub deck_view : Settings → InitialFields → List Species → DeckView
-deck_view settings field species = record {
+abbrev pub deck_view : Settings → InitialFields → List Species → Devices → DeckView
+deck_view settings field species devices = record {
   version = settings.version;
   cells = settings.cells.n;
   side = settings.cells.side;
@@ -52,6 +58,8 @@ deck_view settings field species = record {
   edges = field.edges;
   faces = field.faces;
   species = species;
+  loops = devices.loops;
+  probes = devices.probes;
 }
 
 -- its grid
@@ -61,10 +69,6 @@ deck_grid d = record { n = d.cells; side = d.side }
 -- what its limits go by
 abbrev pub deck_terms : DeckView → TermsView
 deck_terms d = record { version = d.version; grid = deck_grid d }
-
--- the same of its settings
-abbrev pub terms_of : Settings → TermsView
-terms_of settings = record { version = settings.version; grid = settings.cells }
 
 -- the value of E that a deck begins with, on an axis at a cell: the uniform part, and what the rows
 -- of that place add up to
@@ -79,17 +83,6 @@ initial_b d = set_up d.b d.faces
 abbrev pub heads_of : DeckView → List HeadView
 heads_of d = map head_of d.species
 
--- the numbers of the tables of the grid, the run and the scales are within their limits
-pub record AreSettings (v : ℕ) (g : Grid) (t : Triple) (s f smoothing : ℕ) : Type 0 where
-  pub version : IsVersion v
-  pub cells : IsCells g.n
-  pub allowed : IsGridOf v g.n g.side
-  pub tiles : AreTiles g.n t
-  pub steps : s ≤ most_steps
-  pub every_low : 1 ≤ f
-  pub every_high : f ≤ most_steps
-  pub filter : smoothing ≤ (allowance_of v).filter
-
 -- all that a deck says is within its limits
 pub record IsWithinLimits (d : DeckView) : Type 0 where
   pub settings : AreSettings d.version (deck_grid d) d.tiles d.steps d.every d.filter
@@ -99,3 +92,5 @@ pub record IsWithinLimits (d : DeckView) : Type 0 where
   pub filled : AreFilled (deck_terms d) d.species
   pub e : IsMild d.cells d.scales.e_force (initial_e d)
   pub b : IsMild d.cells d.scales.b_force (initial_b d)
+  pub loops : AreLoops d.cells (allowance_of d.version).loops d.loops
+  pub probes : AreProbes d.cells (particles_of d.species) d.probes

@@ -1,5 +1,5 @@
 -- The species of a deck and their particles.
-use Rattle.std.specs.Prelude.{◌≡◌, ℕ, ◌+◌, ◌<◌, ◌≤◌, ◌&&◌, Bool, not, nat_le, bytes_eq, List, [], length, sum_by, take, slice_index_or}
+use Rattle.std.specs.Prelude.{◌≡◌, ⊤, ℕ, ℤ, neg_ℤ, ◌+◌, ◌<◌, ◌≤◌, ◌&&◌, Bool, not, nat_le, bytes_eq, List, [], length, sum_by, take, slice_index_or}
 use Rattle.std.specs.List.{list_all, list_any}
 use Rattle.pic_num.specs.Space.{triple}
 use Rattle.pic_grid.specs.Cells.{count_of}
@@ -7,13 +7,14 @@ use Rattle.pic_grid.specs.Species.{HeadView, no_head, is_name_byte, IsName, IsKi
 pub use Rattle.pic_walk.specs.declared.point6.Point6.{Point6}
 pub use Rattle.pic_walk.specs.Points.{no_point, IsPoint, ArePoints}
 pub use Rattle.pic_walk.specs.Terms.{TermsView}
+pub use Rattle.pic_walk.specs.Displacement.{IsDisplacement}
 pub use Rattle.pic_walk.specs.Draw.{IsDraw}
 pub use Rattle.pic_walk.specs.Sites.{AreSites}
 pub use Rattle.pic_num.specs.Limits.{most_particles, most_species, allowance_of}
 use Rattle.pic_num.specs.Limits.{most_letters}
 pub use Rattle.pic_walk.specs.Bounds.{fastest, fastest_drift, widest_spread}
 use Rattle.pic_deck.specs.declared.species.Fill.{Fill}
-use Rattle.pic_deck.specs.declared.species.Fill.TheVariants.{Points, Lattice, Random, Pair}
+use Rattle.pic_deck.specs.declared.species.Fill.TheVariants.{Points, Lattice, Random, Pair, Displace}
 use Rattle.pic_deck.specs.declared.species.Species.{Species}
 
 -- whether a text is a name: 1 to 32 bytes, each a letter, a digit or `_`
@@ -42,6 +43,7 @@ filled_count earlier (Points points) = length points
 filled_count earlier (Lattice first gap count v) = count_of (triple count)
 filled_count earlier (Random count seed stream drift spread) = count
 filled_count earlier (Pair named seed stream drift spread) = (species_at earlier named).count
+filled_count earlier (Displace named by v) = (species_at earlier named).count
 
 -- a species as the dump's header has it: its name, its kind and how many particles it has
 abbrev pub head_of : Species → HeadView
@@ -66,11 +68,21 @@ IsFill t earlier (Random count seed stream drift spread) =
     × IsDraw t.grid.side (record { seed = seed; stream = stream; drift = drift; spread = spread })
 IsFill t earlier (Pair named seed stream drift spread) =
     (named < length earlier) × IsDraw t.grid.side (record { seed = seed; stream = stream; drift = drift; spread = spread })
+IsFill t earlier (Displace named by v) = (named < length earlier) × IsDisplacement t.grid.side (record { by = by; v = v })
 
--- a species after earlier ones is filled so, and has so many particles
+-- a charge that a species after earlier ones may have: minus that of the one from which it is displaced
+abbrev pub IsOpposite : List Species → ℤ → Fill → Type 0
+IsOpposite earlier charge (Points points) = ⊤
+IsOpposite earlier charge (Lattice first gap count v) = ⊤
+IsOpposite earlier charge (Random count seed stream drift spread) = ⊤
+IsOpposite earlier charge (Pair named seed stream drift spread) = ⊤
+IsOpposite earlier charge (Displace named by v) = charge ≡ neg_ℤ (species_at earlier named).kind.charge
+
+-- a species after earlier ones is filled so, and has so many particles and such a charge
 pub record IsFilledFrom (t : TermsView) (earlier : List Species) (s : Species) : Type 0 where
   pub fill : IsFill t earlier s.fill
   pub count : s.count ≡ filled_count earlier s.fill
+  pub opposite : IsOpposite earlier s.kind.charge s.fill
 
 -- a species that may come next: its name is new, its particles are within their limits, and with
 -- them there are not too many

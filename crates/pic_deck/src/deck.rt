@@ -8,11 +8,12 @@ ghost use Rattle.pic_deck.specs.Species.{particles_of};
 
 use crate::fields::InitialFields;
 use crate::filling::fill;
-use crate::settings::Settings;
 use crate::species::{Species, SpeciesList};
 use crate::species_reader::particles_of;
-use pic_grid::{Cells, Lattice};
+use pic_devices::{Devices, Probes};
+use pic_grid::{Cells, Lattice, Loop};
 use pic_num::Scales;
+use pic_settings::Settings;
 use pic_walk::{Row, Terms};
 use std::marker::Model;
 
@@ -23,6 +24,7 @@ pub struct Deck {
     settings: Settings,
     field: InitialFields,
     species: SpeciesList,
+    devices: Devices,
 }
 
 impl Model for Deck {
@@ -30,23 +32,29 @@ impl Model for Deck {
 
     ghost Value = { DeckView };
 
-    ghost view = { λ a. deck_view a.settings a.field a.species };
+    ghost view = { λ a. deck_view a.settings a.field a.species a.devices };
 
-    ghost invariant = { λ a. IsWithinLimits (deck_view a.settings a.field a.species) };
+    ghost invariant = { λ a. IsWithinLimits (deck_view a.settings a.field a.species a.devices) };
 }
 
 impl Deck {
     ghost use Rattle.pic_deck.specs.Deck.{deck_view};
 
     /// The deck of these parts, which are within their limits.
-    pub fn new(settings: Settings, field: InitialFields, species: SpeciesList) -> Deck
-        requires { IsWithinLimits (deck_view settings field species) }
-        ensures { result ≡ deck_view settings field species }
+    pub fn new(
+        settings: Settings,
+        field: InitialFields,
+        species: SpeciesList,
+        devices: Devices,
+    ) -> Deck
+        requires { IsWithinLimits (deck_view settings field species devices) }
+        ensures { result ≡ deck_view settings field species devices }
     {
         Deck {
             settings,
             field,
             species,
+            devices,
         }
     }
 
@@ -152,6 +160,22 @@ impl Deck {
         ensures limits { IsWithinLimits self.now }
     {
         self.species.as_slice()
+    }
+
+    /// The loops that drive the run.
+    pub fn loops(&self) -> &[Loop]
+        ensures value { result.now ≡ self.now.loops }
+        ensures limits { IsWithinLimits self.now }
+    {
+        self.devices.loops.as_slice()
+    }
+
+    /// The probes that watch the run.
+    pub fn probes(&self) -> &Probes
+        ensures value { result.now ≡ self.now.probes }
+        ensures limits { IsWithinLimits self.now }
+    {
+        &self.devices.probes
     }
 
     /// How many particles the species have, no more than the deck's version allows.

@@ -15,9 +15,9 @@ ghost use Rattle.pic_deck.specs.Keys.{force_allowed, forces};
 
 use crate::fields::InitialFields;
 use crate::filling::fill;
-use crate::settings::Settings;
 use pic_grid::{Cells, Lattice};
 use pic_num::{MAX_FORCE, Mult, NoMemory, scale};
+use pic_settings::Settings;
 use pic_walk::{Address, Limits, Row, WalkStop};
 use std::alloc::Global;
 
@@ -35,8 +35,8 @@ fn strong(by: Mult, value: i128) -> Option<i128>
     }
 }
 
-// the force value of the least place that has one too large
-fn first_strong(by: Mult, field: &Lattice) -> Option<i128>
+/// The force value of the least place that has one above 2^44 in size, if there is one.
+pub fn first_strong(by: Mult, field: &Lattice) -> Option<i128>
     requires { (a : Axis) (p : Triple) → IsWithin p field.now.cells
         → IsAtMost (value_at field.now a p) most_value }
     ensures { result ≡ first_strong field.now.cells by (value_at field.now) }

@@ -1,34 +1,51 @@
 //! The deck that some bytes are.
 
-ghost use Rattle.std.specs.Prelude.{◌≡◌, ◌↔◌, ◌<◌, Some, Err, [], IfOk, IfErr};
+ghost use Rattle.std.specs.Prelude.{◌≡◌, ◌↔◌, ◌<◌, Some, Err, [], codes, IfOk, IfErr};
+ghost use Rattle.toml.specs.Data.{get_member};
 ghost use Rattle.toml.specs.View.{table_view};
 ghost use Rattle.pic_walk.specs.Walk.{WalksAs, listed};
 ghost use Rattle.pic_deck.specs.declared.refusal.Refusal.TheVariants.{Text};
 ghost use Rattle.pic_deck.specs.Deck.{DeckView};
-ghost use Rattle.pic_deck.specs.Keys.{deck_keys, deck};
+ghost use Rattle.pic_deck.specs.Keys.{says_first, deck_keys, deck};
 ghost use Rattle.pic_deck.specs.Reading.{document, walk, too_long, IsNoText};
 ghost use Rattle.pic_deck.specs.Refusal.{IsRefusal, IsTextFault, ReadsAs};
 
 use crate::deck::Deck;
+use crate::device_reader::read_devices;
 use crate::fields::optional_fields;
 use crate::forces::check_forces;
 use crate::refusal::{DeckFault, Refusal};
-use crate::settings::read_settings;
-use crate::species_reader::optional_species;
-use pic_walk::{Address, Limits, MAX_BYTES, Terms, WalkStop, check_keys};
+use crate::species_reader::{optional_species, particles_of};
+use pic_settings::read_settings;
+use pic_walk::{Address, Limits, MAX_BYTES, Terms, WalkStop, check_keys, find_value};
 use std::alloc::Global;
 use toml::Table;
 
-fn check_deck_keys(alloc: Global, table: &Table) -> Result<(), WalkStop>
-    ensures { WalksAs (λ _. table_view table.now) (listed deck_keys [] (table_view table.now))
-        result }
+const KEYS_1: [&str; 6] = ["version", "grid", "run", "scale", "field", "species"];
+
+const KEYS: [&str; 8] = [
+    "version", "grid", "run", "scale", "field", "species", "drive", "probe",
+];
+
+// whether a table says that it is a deck of version 1
+fn says_first(table: &Table) -> bool
+    ensures { result ≡ says_first (get_member (codes "version") (table_view table.now)) }
 {
-    check_keys(
-        alloc,
-        "",
-        &["version", "grid", "run", "scale", "field", "species"],
-        table,
-    )
+    match find_value("version", table) {
+        Some(value) => value.as_integer() == Some(1),
+        None => false,
+    }
+}
+
+fn check_deck_keys(alloc: Global, table: &Table) -> Result<(), WalkStop>
+    ensures { WalksAs (λ _. table_view table.now)
+        (listed (deck_keys (table_view table.now)) [] (table_view table.now)) result }
+{
+    if says_first(table) {
+        check_keys(alloc, "", &KEYS_1, table)
+    } else {
+        check_keys(alloc, "", &KEYS, table)
+    }
 }
 
 // the table that some bytes are
@@ -57,8 +74,9 @@ fn deck_of(alloc: Global, table: &Table) -> Result<Deck, WalkStop>
     let terms = Terms::new(settings.version, settings.cells);
     let field = optional_fields(alloc, table, settings.cells)?;
     let species = optional_species(alloc, table, terms)?;
+    let devices = read_devices(alloc, table, terms, particles_of(species.as_slice()))?;
     check_forces(alloc, &settings, &field)?;
-    Ok(Deck::new(settings, field, species))
+    Ok(Deck::new(settings, field, species, devices))
 }
 
 // that there are too many bytes

@@ -40,6 +40,13 @@ pub enum Fill {
         drift: [i32; 3],
         spread: [u32; 3],
     },
+    /// One beside each particle of the earlier species of this number: this way from where that one
+    /// stands on each axis, in the periodic box, with the velocity of all.
+    Displace {
+        of: u32,
+        by: [i32; 3],
+        v: [i32; 3],
+    },
 }
 
 fn count_of(count: [u32; 3]) -> u128
@@ -72,7 +79,9 @@ impl Fill {
             Fill::Points(points) => points.as_slice().len() as u128,
             Fill::Lattice { count, .. } => count_of(*count),
             Fill::Random { count, .. } => u128::from(*count),
-            Fill::Pair { of, .. } => u128::from(count_at(earlier, *of as usize)),
+            Fill::Pair { of, .. } | Fill::Displace { of, .. } => {
+                u128::from(count_at(earlier, *of as usize))
+            }
         }
     }
 }

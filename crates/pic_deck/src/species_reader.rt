@@ -24,9 +24,20 @@ use std::alloc::Global;
 use toml::value::Array;
 use toml::{Table, Value};
 
-const SPECIES_KEYS: [&str; 9] = [
+const KEYS_1: [&str; 9] = [
     "name", "charge", "mass", "kick", "turn", "points", "lattice", "random", "pair",
 ];
+
+const KEYS: [&str; 10] = [
+    "name", "charge", "mass", "kick", "turn", "points", "lattice", "random", "pair", "displace",
+];
+
+// the keys of a species in a deck of a version
+fn species_keys(version: u32) -> &'static [&'static str]
+    ensures { map (λ k. k.now) result.now ≡ species_keys version }
+{
+    if version == 1 { &KEYS_1 } else { &KEYS }
+}
 
 // what the particles of a species have in common
 fn read_kind(alloc: Global, path: &str, table: &Table) -> Result<Kind, WalkStop>
@@ -124,7 +135,7 @@ fn species_in(
 {
     let name = need_name(alloc, path, table, earlier)?;
     let kind = read_kind(alloc, path, table)?;
-    let fill = read_fill(alloc, path, table, terms, earlier)?;
+    let fill = read_fill(alloc, path, table, terms, earlier, kind.charge)?;
     let count = read_count(alloc, address, terms, earlier, &fill)?;
     Ok(Species {
         name,
@@ -148,7 +159,8 @@ fn read_species(
     ensures limits { IfOk result (λ s. IsNext terms earlier.now s) }
 {
     let path = address.path(alloc)?;
-    let table = read_table(alloc, address, path.as_str(), &SPECIES_KEYS, value)?;
+    let keys = species_keys(terms.version());
+    let table = read_table(alloc, address, path.as_str(), keys, value)?;
     species_in(alloc, address, path.as_str(), table, terms, earlier)
 }
 

@@ -2,6 +2,7 @@
 use Rattle.std.proofs.Common.{◌≡◌, ℕ, zero, suc, ◌<◌, ◌≤◌, ◌^◌, List, [], ◌∷◌, take, refl, arith}
 use Rattle.std.proofs.Math.IntN.{pos}
 use Rattle.std.specs.Prelude.{slice_index, slice_index_or, codes}
+use Rattle.std.proofs.lemmas.List.Elements.{All-nil}
 use Rattle.pic_num.specs.declared.axis.Axis.{Axis}
 use Rattle.pic_num.specs.declared.axis.Axis.TheVariants.{X, Y, Z}
 use Rattle.pic_num.specs.Limits.{allowance_of}
@@ -10,8 +11,10 @@ use Rattle.pic_num.specs.Space.{spot, along}
 use Rattle.pic_num.proofs.VersionLaws.{side_of_bits}
 use Rattle.pic_grid.specs.Species.{IsName, IsKind, AreHeads, no_head}
 use Rattle.pic_grid.specs.Tiles.{IsTiled}
+use Rattle.pic_devices.specs.declared.devices.Devices.{Devices}
+use Rattle.pic_devices.specs.Devices.{no_devices}
 use Rattle.pic_deck.specs.declared.fields.InitialFields.{InitialFields}
-use Rattle.pic_deck.specs.declared.settings.Settings.{Settings}
+use Rattle.pic_settings.specs.declared.settings.Settings.{Settings}
 use Rattle.pic_deck.specs.declared.species.Species.{Species}
 use Rattle.pic_deck.specs.Deck.{AreSettings, IsWithinLimits, deck_view, terms_of, heads_of}
 use Rattle.pic_deck.specs.Keys.{no_field}
@@ -114,6 +117,7 @@ filled_within seed small = record {
         },
       );
       count = refl;
+      opposite = tt;
     }
 
     ions : IsFilledFrom (terms_of demo_settings) (electron seed ∷ []) (ion seed)
@@ -128,6 +132,7 @@ filled_within seed small = record {
         },
       );
       count = refl;
+      opposite = tt;
     }
 
 pub demo_within : (seed : ℕ) → seed < 2 ^ 32 → IsWithinLimits (demo_deck seed)
@@ -139,9 +144,11 @@ demo_within seed small = record {
   filled = filled_within seed small;
   e = zero_mild _ _ _ (zero_set_up _ [] refl refl);
   b = zero_mild _ _ _ (zero_set_up _ [] refl refl);
+  loops = record { few = omega arith; each = All-nil _ };
+  probes = record { few_places = omega arith; places = All-nil _; few_ids = omega arith; ids = All-nil _ };
 }
 
 -- the same of parts that are the demonstration's
-pub within_by : (s : Settings) (f : InitialFields) (ss : List Species) (seed : ℕ) → s ≡ demo_settings → f ≡ no_field
-    → ss ≡ electron seed ∷ ion seed ∷ [] → seed < 2 ^ 32 → IsWithinLimits (deck_view s f ss)
-within_by s f ss seed settings field species small = rw (settings, field, species) (demo_within seed small)
+pub within_by : (s : Settings) (f : InitialFields) (ss : List Species) (ds : Devices) (seed : ℕ) → s ≡ demo_settings → f ≡ no_field
+    → ss ≡ electron seed ∷ ion seed ∷ [] → ds ≡ no_devices → seed < 2 ^ 32 → IsWithinLimits (deck_view s f ss ds)
+within_by s f ss ds seed settings field species devices small = rw (settings, field, species, devices) (demo_within seed small)

@@ -16,10 +16,12 @@ use Rattle.pic_walk.proofs.WalkLaws.{then_ok}
 use Rattle.pic_deck.specs.Deck.{terms_of}
 use Rattle.pic_deck.specs.Fill.{random, pair, species_number, species_fill}
 use Rattle.pic_deck.specs.Initial.{set_up}
-use Rattle.pic_deck.specs.Keys.{deck_keys, axis_tiles, next_tiles, tiles, side_in, filter_in, grid, run, scale, settings, fields, no_field, species_name, species_kind}
-use Rattle.pic_deck.specs.Tiles.{tiles_of_axis, few_tiles}
-use Rattle.pic_deck.specs.Keys.{counted, species_in, one_species, species_list, force_allowed, forces, deck}
-use Rattle.pic_deck.specs.Species.{is_name, is_new_name}
+use Rattle.pic_devices.specs.Devices.{no_devices}
+use Rattle.pic_settings.specs.Keys.{axis_tiles, next_tiles, tiles, side_in, filter_in, grid, run, scale, settings}
+use Rattle.pic_settings.specs.Tiles.{tiles_of_axis, few_tiles}
+use Rattle.pic_deck.specs.Keys.{deck_keys, fields, no_field, species_name, species_kind}
+use Rattle.pic_deck.specs.Keys.{counted, species_in, one_species, species_list, devices, force_allowed, forces, deck}
+use Rattle.pic_deck.specs.Species.{is_name, is_new_name, particles_of}
 use Rattle.pic_deck.proofs.ForceLaws.{no_forces, zero_set_up}
 use Rattle.pic_demo.specs.Demo.{electron, ion, demo_settings}
 use Rattle.pic_demo.specs.Table.{demo_table, DemoIsWalked}
@@ -41,7 +43,7 @@ settings_walked : (seed : ℕ) → settings (demo_table seed) ≡ Ok demo_settin
 unfolding keys_read settings grid run scale tiles next_tiles axis_tiles tiles_of_axis few_tiles side_in filter_in
 settings_walked seed = refl
 
-listed_walked : (seed : ℕ) → listed deck_keys [] (demo_table seed) ≡ Ok (demo_table seed)
+listed_walked : (seed : ℕ) → listed (deck_keys (demo_table seed)) [] (demo_table seed) ≡ Ok (demo_table seed)
 unfolding keys_read
 listed_walked seed = refl
 
@@ -53,6 +55,10 @@ species_walked : (seed : ℕ) → int_le (pos 0) (pos seed) ≡ true → leb see
     → optional [] (species_list (terms_of demo_settings)) (codes "species") [] (demo_table seed) ≡ Ok (electron seed ∷ ion seed ∷ [])
 unfolding heads_read species_list one_species species_in species_fill only alone random pair species_number draw
 species_walked seed some few = rw (some, few)
+
+devices_walked : (seed : ℕ) → devices (terms_of demo_settings) (particles_of (electron seed ∷ ion seed ∷ [])) (demo_table seed) ≡ Ok no_devices
+unfolding devices
+devices_walked seed = refl
 
 -- a scale by which no force value is too large
 none_allowed : (path : List ℕ) (o : Option ℤ) → o ≡ None → force_allowed path o ≡ Ok tt
@@ -77,4 +83,5 @@ demo_walked seed small =
     ∙ then_ok _ _ _ (settings_walked seed)
     ∙ then_ok _ _ _ (fields_walked seed)
     ∙ then_ok _ _ _ (species_walked seed some few)
+    ∙ then_ok _ _ _ (devices_walked seed)
     ∙ then_ok _ _ _ forces_walked

@@ -4,9 +4,10 @@
 use Rattle.std.specs.Prelude.{ℕ, ℤ, pos, negsuc, ◌^◌, List, [], ◌∷◌, codes}
 use Rattle.pic_num.specs.declared.mult.Scales.{Scales}
 use Rattle.pic_num.specs.Multiplier.{Multiplier}
-use Rattle.pic_deck.specs.declared.settings.Settings.{Settings}
+use Rattle.pic_settings.specs.declared.settings.Settings.{Settings}
 use Rattle.pic_deck.specs.declared.species.Fill.TheVariants.{Random, Pair}
 use Rattle.pic_deck.specs.declared.species.Species.{Species}
+use Rattle.pic_devices.specs.Devices.{no_devices}
 use Rattle.pic_deck.specs.Deck.{DeckView, deck_view}
 use Rattle.pic_deck.specs.Keys.{no_field}
 
@@ -62,4 +63,4 @@ ion seed = record {
 
 -- the deck that a number makes
 abbrev pub demo_deck : ℕ → DeckView
-demo_deck seed = deck_view demo_settings no_field (electron seed ∷ ion seed ∷ [])
+demo_deck seed = deck_view demo_settings no_field (electron seed ∷ ion seed ∷ []) no_devices

@@ -3,7 +3,7 @@
 ghost use Rattle.std.specs.Prelude.{◌≡◌, ◌<◌, IfOk};
 ghost use Rattle.pic_demo.specs.Demo.{demo_scales, demo_settings, electron, ion, demo_deck};
 
-use pic_deck::{Deck, Fill, InitialFields, Settings, Species, SpeciesList};
+use pic_deck::{Deck, Devices, Fill, InitialFields, Settings, Species, SpeciesList};
 use pic_grid::{Cells, Name};
 use pic_num::{Kind, Mult, NoMemory, Scales, Sub};
 use std::alloc::Global;
@@ -119,5 +119,6 @@ pub fn deck_of(alloc: Global, seed: u32) -> Result<Deck, NoMemory>
         settings(),
         InitialFields::none(alloc),
         SpeciesList::from_vec(species),
+        Devices::none(alloc),
     ))
 }

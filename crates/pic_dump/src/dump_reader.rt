@@ -95,11 +95,12 @@ impl DumpReader {
 
     // A reader that stands behind a header.
     fn behind(alloc: Global, header: &Header) -> Result<DumpReader, pic_num::NoMemory>
-        ensures { IfOk result (λ r. r ≡ record {
+        ensures stands { IfOk result (λ r. r ≡ record {
           layout = layout_of header.now;
           place = header_length header.now;
           last = None;
         }) }
+        ensures most { header_length header.now ≤ header_most }
     {
         let place = header.length();
         let layout = Layout::of_header(alloc, header)?;

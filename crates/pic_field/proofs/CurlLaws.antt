@@ -6,9 +6,10 @@ use Rattle.pic_num.specs.declared.axis.Axis.{Axis}
 use Rattle.pic_num.specs.Space.{Triple, Spot, next_axis}
 use Rattle.pic_num.proofs.Ring.{ring, reads}
 use Rattle.pic_grid.specs.Cells.{IsWithin}
+use Rattle.pic_grid.specs.Differences.{down, curl_b}
 use Rattle.pic_grid.specs.Lattice.{Field}
 use Rattle.pic_grid.specs.Block.{BlockValues, IsAmongCells, outer_of}
-use Rattle.pic_field.specs.FieldPhases.{half_of, full_of}
+use Rattle.pic_field.specs.FieldPhases.{half_of, full_of, driven_b, no_drive}
 use Rattle.pic_field.specs.declared.row.CurlRows.{CurlRows}
 use Rattle.pic_field.specs.Beside.{layer_beside, next_to, curl_beside, first_index, room_layer, row_room}
 use Rattle.pic_field.specs.Lines.{OnRow, line_start, taken_off, swept}
@@ -94,17 +95,36 @@ half_is scales e a q v =
     λ i. none i -ℤ curl_of (g third (beside_up e.cells second q i)) (g third q) (g second (beside_up e.cells third q i)) (g second q)
 
 full_sum : (e j far_third near_third far_second near_second : ℤ)
-    → e -ℤ j -ℤ curl_of far_third near_third far_second near_second ≡ e +ℤ (near_third -ℤ far_third -ℤ near_second +ℤ far_second) -ℤ j
+    → e -ℤ j -ℤ curl_of far_third near_third far_second near_second
+    ≡ e +ℤ (near_third +ℤ pos 0 -ℤ (far_third +ℤ pos 0) -ℤ (near_second +ℤ pos 0) +ℤ (far_second +ℤ pos 0)) -ℤ j
 full_sum e j far_third near_third far_second near_second =
     ring (e ∷ j ∷ far_third ∷ near_third ∷ far_second ∷ near_second ∷ []) (search reads depth 14) tt
 
 -- and a step of E with the current j there that of the scaled B toward the last ones, turned round
 pub full_is : (scales : Scales) (b : Field) (a : Axis) (q : Triple) (v j : ℤ)
-    → v -ℤ j -ℤ curl_beside false b.cells (scaled_of b scales.b_to_e) a q ≡ full_of scales b a q v j
+    → v -ℤ j -ℤ curl_beside false b.cells (scaled_of b scales.b_to_e) a q ≡ full_of scales b no_drive a q v j
 unfolding full_of
 full_is scales b a q v j =
     let g = scaled_of b scales.b_to_e in
+    let h = driven_b scales b no_drive in
     let second = next_axis a in
     let third = next_axis second in
     full_sum v j (g third (next_to false b.cells second q)) (g third q) (g second (next_to false b.cells third q)) (g second q)
-    ∙ (λ i. v +ℤ (g third q -ℤ g third (beside_down b.cells second q i) -ℤ g second q +ℤ g second (beside_down b.cells third q i)) -ℤ j)
+    ∙ (λ i. v +ℤ (h third q -ℤ h third (beside_down b.cells second q i) -ℤ h second q +ℤ h second (beside_down b.cells third q i)) -ℤ j)
+
+raised_sum : (v j a b c d m n o p : ℤ)
+    → v +ℤ (m -ℤ n -ℤ o +ℤ p) +ℤ (a +ℤ pos 0 -ℤ (b +ℤ pos 0) -ℤ (c +ℤ pos 0) +ℤ (d +ℤ pos 0)) -ℤ j
+    ≡ v +ℤ (a +ℤ m -ℤ (b +ℤ n) -ℤ (c +ℤ o) +ℤ (d +ℤ p)) -ℤ j
+raised_sum v j a b c d m n o p = ring (v ∷ j ∷ a ∷ b ∷ c ∷ d ∷ m ∷ n ∷ o ∷ p ∷ []) (search reads depth 24) tt
+
+-- the curl is linear: what drives B may as well be added to E first, by its curl
+pub full_of-raised : (scales : Scales) (b : Field) (m : Axis → Triple → ℤ) (a : Axis) (q : Triple) (v j : ℤ)
+    → full_of scales b no_drive a q (v +ℤ curl_b b.cells m a q) j ≡ full_of scales b m a q v j
+unfolding full_of
+full_of-raised scales b m a q v j =
+    let g = scaled_of b scales.b_to_e in
+    let n = b.cells in
+    let second = next_axis a in
+    let third = next_axis second in
+    raised_sum v j (g third q) (g third (down n second q)) (g second q) (g second (down n third q)) (m third q) (m third (down n second q)) (m second q)
+    (m second (down n third q))

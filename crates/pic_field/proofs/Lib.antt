@@ -8,3 +8,4 @@ pub mod LineLaws
 pub mod LentLaws
 pub mod CurlLaws
 pub mod PlaneLaws
+pub mod RaisedLaws

@@ -2,7 +2,7 @@
 -- 1966, 302): B and E advance in turn, each by the curl of the other. A value is scaled and rounded
 -- once and only then differenced. The roundings, the two bounds of a new value and the order of
 -- stops are this project's profile.
-use Rattle.std.specs.Prelude.{◌≡◌, ℤ, ℕ, ◌+◌, ◌*◌, ◌/◌, ◌%◌, ◌+ℤ◌, ◌-ℤ◌, unsigned_abs, nat_lt, if◌then◌else◌, [], ◌∷◌, Option, Some, None}
+use Rattle.std.specs.Prelude.{◌≡◌, ℤ, pos, ℕ, ◌+◌, ◌*◌, ◌/◌, ◌%◌, ◌^◌, ◌+ℤ◌, ◌-ℤ◌, unsigned_abs, nat_lt, if◌then◌else◌, [], ◌∷◌, Option, Some, None}
 use Rattle.std.specs.List.{range_with_len}
 use Rattle.pic_num.specs.declared.mult.Scales.{Scales}
 use Rattle.pic_num.specs.declared.axis.Axis.{Axis}
@@ -26,20 +26,36 @@ use Rattle.pic_grid.specs.Block.{BlockValues, InZone, edge_at, inner_at, outer_o
 unfoldable pub half_of : Scales → Field → Axis → Triple → ℤ → ℤ
 half_of scales e a p v = v -ℤ curl_e e.cells (λ c q. scaled (value_at e c q) scales.e_to_b) a p
 
+-- a value of B and what drives its face: rounded once, and only then added to
+abbrev pub driven_b : Scales → Field → (Axis → Triple → ℤ) → Axis → Triple → ℤ
+driven_b scales b m c q = scaled (value_at b c q) scales.b_to_e +ℤ m c q
+
 -- a step of E at a place, from its old value v and the current j there: v and the curl of the
--- scaled B, less j
-unfoldable pub full_of : Scales → Field → Axis → Triple → ℤ → ℤ → ℤ
-full_of scales b a p v j =
-    v +ℤ curl_b b.cells (λ c q. scaled (value_at b c q) scales.b_to_e) a p -ℤ j
+-- scaled B, which m drives, less j
+unfoldable pub full_of : Scales → Field → (Axis → Triple → ℤ) → Axis → Triple → ℤ → ℤ → ℤ
+full_of scales b m a p v j = v +ℤ curl_b b.cells (driven_b scales b m) a p -ℤ j
+
+-- what drives B where nothing does
+abbrev pub no_drive : Axis → Triple → ℤ
+no_drive _ _ = pos 0
+
+-- a value that drives B is at most 2^64 in size,
+abbrev pub most_drive_value : ℕ
+most_drive_value = 2 ^ 64
+
+-- so a value of E that the curl of such is added to is at most that much larger
+abbrev pub most_raised : ℕ
+most_raised = most_value + 4 * most_drive_value
 
 -- the values of a block after half a step of B, by axis and cell of the grid
 abbrev pub half_in : Scales → Field → BlockValues → Axis → Triple → ℤ
 half_in scales e old a p = half_of scales e a p (edge_at old a (unwrapped p))
 
 -- the values of a block after a step of E, by axis and cell of the grid
-abbrev pub full_in : Scales → Field → BlockValues → BlockValues → Axis → Triple → ℤ
-full_in scales b j old a p =
-    full_of scales b a p (edge_at old a (unwrapped p)) (edge_at j a (unwrapped p))
+abbrev pub full_in : Scales → Field → (Axis → Triple → ℤ) → BlockValues → BlockValues → Axis
+    → Triple → ℤ
+full_in scales b m j old a p =
+    full_of scales b m a p (edge_at old a (unwrapped p)) (edge_at j a (unwrapped p))
 
 -- what stops a phase at a new value v: it is above 2^90 in size, else its force value is above
 -- 2^44. The stop names the number that is too large.
@@ -79,11 +95,13 @@ IsHalfStep scales e old new =
     (a : Axis) (p : Triple) → IsWithin p old.size
     → inner_at new a p ≡ half_of scales e a (outer_of old.low p) (inner_at old a p)
 
--- or a step of E with the current j
-abbrev pub IsFullStep : Scales → Field → BlockValues → BlockValues → BlockValues → Type 0
-IsFullStep scales b j old new =
+-- or a step of E with the current j, where m drives B
+abbrev pub IsFullStep : Scales → Field → (Axis → Triple → ℤ) → BlockValues → BlockValues
+    → BlockValues → Type 0
+IsFullStep scales b m j old new =
     (a : Axis) (p : Triple) → IsWithin p old.size
-    → inner_at new a p ≡ full_of scales b a (outer_of old.low p) (inner_at old a p) (inner_at j a p)
+    → inner_at new a p
+    ≡ full_of scales b m a (outer_of old.low p) (inner_at old a p) (inner_at j a p)
 
 -- the stop of half a step of B in a phase,
 abbrev pub stop_of_half : Phase → Scales → Field → BlockValues → Option Stop
@@ -91,9 +109,10 @@ stop_of_half phase scales e old =
     least_fault phase scales.b_force (lowest old.low) old.size (half_in scales e old)
 
 -- and of a step of E
-abbrev pub stop_of_full : Scales → Field → BlockValues → BlockValues → Option Stop
-stop_of_full scales b j old =
-    least_fault Electric scales.e_force (lowest old.low) old.size (full_in scales b j old)
+abbrev pub stop_of_full : Scales → Field → (Axis → Triple → ℤ) → BlockValues → BlockValues
+    → Option Stop
+stop_of_full scales b m j old =
+    least_fault Electric scales.e_force (lowest old.low) old.size (full_in scales b m j old)
 
 -- a value passes neither bound: it is at most 2^90 in size, and its force value at most 2^44
 pub record IsBounded (by : Multiplier) (v : ℤ) : Type 0 where

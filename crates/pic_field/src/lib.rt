@@ -7,6 +7,7 @@ mod forces;
 mod laws;
 mod magnetic;
 mod plane;
+mod raising;
 mod rooms;
 mod row;
 mod sweep;

@@ -6,6 +6,7 @@ ghost use Rattle.pic_num.specs.Rounding.{scaled};
 ghost use Rattle.pic_num.specs.Space.{triple};
 ghost use Rattle.pic_grid.specs.Cells.{IsWithin};
 ghost use Rattle.pic_grid.specs.Lattice.{EachAtMost};
+ghost use Rattle.pic_field.specs.FieldPhases.{most_raised};
 ghost use Rattle.pic_field.specs.Rows.{most_row, read_by, row_at, taken_at, curl_at, start_cell, IsSmallRow, IsValueRow, IsStart, IsScaledRow, AreCurlRows};
 
 use pic_grid::{Lattice, Slot};
@@ -116,7 +117,7 @@ pub(crate) fn lessen_row(
     four: &CurlRows,
     most: u128,
 ) -> bool
-    requires small { IsSmallRow most_value (length row.old) row.old }
+    requires small { IsSmallRow most_raised (length row.old) row.old }
     requires take { IsTrue takes → IsValueRow most_value (length row.old) take.now }
     requires four { AreCurlRows (length row.old) four.now }
     ensures values { (i : ℕ) → i < length row.old → row_at row.new i

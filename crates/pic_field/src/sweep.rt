@@ -11,7 +11,7 @@ ghost use Rattle.pic_num.specs.Space.{Triple};
 ghost use Rattle.pic_grid.specs.Cells.{IsWithin};
 ghost use Rattle.pic_grid.specs.Lattice.{EachAtMost};
 ghost use Rattle.pic_grid.specs.Block.{IsAmongCells, AllAtMost, inner_at, outer_of};
-ghost use Rattle.pic_field.specs.FieldPhases.{lowest, least_fault, IsBounded, AllBounded};
+ghost use Rattle.pic_field.specs.FieldPhases.{lowest, least_fault, IsBounded, AllBounded, most_raised};
 ghost use Rattle.pic_field.specs.Lines.{HasCells, OnRow, OnLine, OnLines, OnStrip, Changed, AreSmall, IsTaken, taken_off};
 ghost use Rattle.pic_field.specs.Rows.{curl_at, AreCurlRows};
 ghost use Rattle.pic_field.specs.Planes.{IsStrip, plane_at};
@@ -62,7 +62,7 @@ pub(crate) fn advance(
     requires among { IsAmongCells b.old.low b.old.size (sweep_cells step.now) }
     requires field { EachAtMost most_value step.now.from.field.now }
     requires take { IfSome (take_of step.now) (IsTaken b.old.low b.old.size) }
-    requires small { AllAtMost most_value b.old }
+    requires small { AllAtMost most_raised b.old }
     requires safe { (v : ℤ) → IsAtMost v step.now.most → IsBounded force v }
     ensures changed { Changed (made step.now b.old.low) (OnStrip 0 b.old.size.y) b.old b.new }
     ensures stop { (f : AxisName → Triple → ℤ)
@@ -84,7 +84,7 @@ fn sweep_strips(step: &Sweep, b: &mut Block, rooms: &mut Rooms) -> bool
     requires among { IsAmongCells b.old.low b.old.size (sweep_cells step.now) }
     requires field { EachAtMost most_value step.now.from.field.now }
     requires take { IfSome (take_of step.now) (IsTaken b.old.low b.old.size) }
-    requires small { AreSmall most_value (OnStrip 0 b.old.size.y) b.old }
+    requires small { AreSmall most_raised (OnStrip 0 b.old.size.y) b.old }
     ensures changed { Changed (made step.now b.old.low) (OnStrip 0 b.old.size.y) b.old b.new }
     ensures calm { IsTrue result → AreSmall step.now.most (OnStrip 0 b.old.size.y) b.new }
 {
@@ -113,7 +113,7 @@ fn sweep_strip(step: &Sweep, b: &mut Block, strip: Strip, rooms: &mut Rooms) -> 
     requires field { EachAtMost most_value step.now.from.field.now }
     requires take { IfSome (take_of step.now) (IsTaken b.old.low b.old.size) }
     requires strip { IsStrip strip b.old.size.y }
-    requires small { AreSmall most_value (OnStrip strip.from strip.to) b.old }
+    requires small { AreSmall most_raised (OnStrip strip.from strip.to) b.old }
     ensures changed { Changed (made step.now b.old.low) (OnStrip strip.from strip.to)
         b.old b.new }
     ensures calm { IsTrue result → AreSmall step.now.most (OnStrip strip.from strip.to) b.new }
@@ -159,7 +159,7 @@ fn sweep_layer(
     requires take { IfSome (take_of step.now) (IsTaken b.old.low b.old.size) }
     requires strip { IsStrip strip b.old.size.y }
     requires z { z < b.old.size.z }
-    requires small { AreSmall most_value (OnLines strip.from strip.to z) b.old }
+    requires small { AreSmall most_raised (OnLines strip.from strip.to z) b.old }
     requires far { far < 2 }
     requires plane { IsPlaneBeside step.now b.old.low strip z b.old.size.x
         (plane_at rooms.old.planes far) }
@@ -188,7 +188,7 @@ fn sweep_lines(step: &Sweep, b: &mut Block, strip: Strip, z: u32, near: &Plane, 
     requires take { IfSome (take_of step.now) (IsTaken b.old.low b.old.size) }
     requires strip { IsStrip strip b.old.size.y }
     requires z { z < b.old.size.z }
-    requires small { AreSmall most_value (OnLines strip.from strip.to z) b.old }
+    requires small { AreSmall most_raised (OnLines strip.from strip.to z) b.old }
     requires near { IsPlaneOf step.now b.old.low strip z b.old.size.x near.now }
     requires far { IsPlaneBeside step.now b.old.low strip z b.old.size.x far.now }
     ensures changed { Changed (made step.now b.old.low) (OnLines strip.from strip.to z)
@@ -217,7 +217,7 @@ fn sweep_line(step: &Sweep, b: &mut Block, y: u32, z: u32, lines: &CurlLines) ->
     requires take { IfSome (take_of step.now) (IsTaken b.old.low b.old.size) }
     requires y { y < b.old.size.y }
     requires z { z < b.old.size.z }
-    requires small { AreSmall most_value (OnLine y z) b.old }
+    requires small { AreSmall most_raised (OnLine y z) b.old }
     requires rows { AreRowsOf step.now b.old.low y z b.old.size.x
         lines.now.own.now lines.now.by_y.now lines.now.by_z.now }
     ensures changed { Changed (made step.now b.old.low) (OnLine y z) b.old b.new }
@@ -259,7 +259,7 @@ fn sweep_row(step: &Sweep, b: &mut Block, axis: Axis, y: u32, z: u32, four: &Cur
     requires take { IfSome (take_of step.now) (IsTaken b.old.low b.old.size) }
     requires y { y < b.old.size.y }
     requires z { z < b.old.size.z }
-    requires small { AreSmall most_value (OnRow axis y z) b.old }
+    requires small { AreSmall most_raised (OnRow axis y z) b.old }
     requires four { AreCurlRows b.old.size.x four.now }
     ensures changed { Changed
         (λ a p v. v -ℤ taken_off (take_of step.now) a p -ℤ curl_at four.now p.x)

@@ -5,7 +5,7 @@ use Rattle.std.proofs.Math.Seq.{take-append_seam}
 use Rattle.std.proofs.lemmas.Bool.{cases_lt, lt-ltb, le-ltb}
 use Rattle.std.proofs.lemmas.List.{length-drop, length-take-le, drop-drop, take-append-le, get_or_append_left, get_or_push}
 use Rattle.pic_fields.specs.Parser.{Input, input, Parser, done, ◌>>=◌, mapped, field, checked, each}
-use Rattle.pic_fields.specs.Number.{byte_at, u32_at, i32_at, is_from_to, within, is_between, between, letter, exactly}
+use Rattle.pic_fields.specs.Number.{byte_at, u32_at, i32_at, i64_at, is_from_to, within, is_between, between, is_at_most, at_most, letter, exactly}
 use Rattle.pic_fields.proofs.SpellLaws.{FitsEach, same_read, bind_parts, passed_test}
 
 -- an input is another some bytes on
@@ -149,6 +149,10 @@ gives_within cause low high = gives_so (λ n is. is.1) (gives_checked cause (is_
 pub gives_between : (cause : ℕ) (low high : ℤ) → Gives (between cause low high) (λ z. is_between low high z ≡ true)
 unfolding between i32_at
 gives_between cause low high = gives_so (λ z is. is.1) (gives_checked cause (is_between low high) (gives_mapped {G = λ z. ⊤} _ (λ a is. tt) (gives_field 4)))
+
+pub gives_at_most : (cause most : ℕ) → Gives (at_most cause most) (λ z. is_at_most most z ≡ true)
+unfolding at_most i64_at
+gives_at_most cause most = gives_so (λ z is. is.1) (gives_checked cause (is_at_most most) (gives_mapped {G = λ z. ⊤} _ (λ a is. tt) (gives_field 8)))
 
 gives_letter : (cause : ℕ) (text before : List ℕ) → Gives (letter cause text before) (λ b. ⊤)
 unfolding letter byte_at

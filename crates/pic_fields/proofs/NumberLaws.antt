@@ -5,17 +5,17 @@ use Rattle.std.specs.List.{flat_map}
 use Rattle.std.proofs.Math.Seq.{take-length}
 use Rattle.std.proofs.lemmas.Bool.{eqb-true, eq-eqb}
 use Rattle.std.proofs.lemmas.List.{length-take-le, take_more}
-use Rattle.std.specs.Int.{w32, w128, byte_at as digit, bytes_high_first, to_be_bytes, from_be_bytes}
+use Rattle.std.specs.Int.{w32, w64, w128, byte_at as digit, bytes_high_first, to_be_bytes, from_be_bytes}
 use Rattle.std.proofs.Math.Facts.{Fits-of_z, Fits-of_lt, sfits_to_z, to_z-of_z, of_z-to_z}
 use Rattle.std.proofs.Math.Nat.{add-mul-div_right, div-one, mod-lt, mul_assoc, one-le-pow}
-use Rattle.std.proofs.lemmas.Nat.{be_bytes_4, from_be_bytes-to_be_bytes_4, div-mul-add, pow-add}
+use Rattle.std.proofs.lemmas.Nat.{be_bytes_4, be_bytes_8, from_be_bytes-to_be_bytes_4, from_be_bytes-to_be_bytes_8, div-mul-add, pow-add}
 use Rattle.byteorder.specs.Endian.{big_from}
 use Rattle.byteorder.specs.Numbers.{big_from-cons, big_from-lt, big_number-reads_back}
 use mir.Val.{SFits}
 use Rattle.pic_num.specs.Bytes.{u32_bytes, i32_bytes, u128_bytes, i128_bytes}
 use Rattle.pic_fields.specs.Parser.{mapped, field}
-use Rattle.pic_fields.specs.Number.{byte_of, u32_of, i32_of, u128_of, i128_of, byte_at, u32_at, i32_at, u128_at, i128_at, is_from_to, within, is_between, between}
-use Rattle.pic_fields.specs.Number.{letter, exactly}
+use Rattle.pic_fields.specs.Number.{byte_of, u32_of, i32_of, i64_of, u128_of, i128_of, byte_at, u32_at, i32_at, i64_at, i64_bytes, u128_at, i128_at}
+use Rattle.pic_fields.specs.Number.{is_from_to, within, is_between, between, is_at_most, at_most, letter, exactly}
 use Rattle.pic_fields.specs.Bytes.{IsBytes}
 use Rattle.pic_fields.proofs.Spells.{Spells}
 use Rattle.pic_fields.proofs.SpellLaws.{IsField, FitsEach, spells_field, spells_mapped, spells_checked, spells_so, spells_each, fits_each}
@@ -102,6 +102,22 @@ from_4_below bytes small =
 to_4_back : (bytes : List ℕ) → IsField 4 bytes → to_be_bytes w32 (from_be_bytes w32 bytes) ≡ bytes
 to_4_back bytes fits = be_bytes_4 bytes (from_be_bytes w32 bytes) fits.size fits.small refl
 
+-- 8 bytes
+from_8_below : (bytes : List ℕ) → IsBytes bytes → from_be_bytes w64 bytes < 2 ^ 64
+from_8_below bytes small =
+    let a = small 0 in
+    let b = small 1 in
+    let c = small 2 in
+    let d = small 3 in
+    let e = small 4 in
+    let f = small 5 in
+    let g = small 6 in
+    let h = small 7 in
+    omega (arith, a, b, c, d, e, f, g, h)
+
+to_8_back : (bytes : List ℕ) → IsField 8 bytes → to_be_bytes w64 (from_be_bytes w64 bytes) ≡ bytes
+to_8_back bytes fits = be_bytes_8 bytes (from_be_bytes w64 bytes) fits.size fits.small refl
+
 -- a byte
 abbrev pub one_byte : ℕ → List ℕ
 one_byte n = n ∷ []
@@ -137,6 +153,15 @@ spells_i32 =
     (λ bytes fits. sfits_to_z (Fits-of_lt (from_4_below bytes fits.small)))
     (λ bytes fits. ap (to_be_bytes w32) (of_z-to_z {w = w32} (Fits-of_lt (from_4_below bytes fits.small))) ∙ to_4_back bytes fits)
 
+pub spells_i64 : Spells i64_at i64_bytes (SFits w64)
+unfolding i64_at i64_of i64_bytes
+spells_i64 =
+    spells_number 8 (λ bytes. to_z w64 (from_be_bytes w64 bytes)) (λ z. to_be_bytes w64 (of_z w64 z)) (SFits w64)
+    (λ z fits. record { size = refl; small = small_bytes 8 (of_z w64 z) })
+    (λ z fits. ap (to_z w64) (from_be_bytes-to_be_bytes_8 (of_z w64 z) (Fits-of_z fits).fits) ∙ to_z-of_z fits)
+    (λ bytes fits. sfits_to_z (Fits-of_lt (from_8_below bytes fits.small)))
+    (λ bytes fits. ap (to_be_bytes w64) (of_z-to_z {w = w64} (Fits-of_lt (from_8_below bytes fits.small))) ∙ to_8_back bytes fits)
+
 pub spells_u128 : Spells u128_at u128_bytes (λ n. n < 2 ^ 128)
 unfolding u128_at u128_of u128_bytes
 spells_u128 =
@@ -167,6 +192,14 @@ FitsI32 test z = SFits w32 z × (test z ≡ true)
 pub spells_between : (cause : ℕ) (low high : ℤ) → Spells (between cause low high) i32_bytes (FitsI32 (is_between low high))
 unfolding between
 spells_between cause low high = spells_checked cause (is_between low high) spells_i32
+
+-- one at most so large in size
+abbrev pub FitsI64 : (ℤ → Bool) → ℤ → Type 0
+FitsI64 test z = SFits w64 z × (test z ≡ true)
+
+pub spells_at_most : (cause most : ℕ) → Spells (at_most cause most) i64_bytes (FitsI64 (is_at_most most))
+unfolding at_most
+spells_at_most cause most = spells_checked cause (is_at_most most) spells_i64
 
 -- a text
 letters_are : (xs : List ℕ) → flat_map one_byte xs ≡ xs

@@ -1,6 +1,6 @@
 -- Fields that are numbers, big-endian, signed ones in two's complement.
-use Rattle.std.specs.Prelude.{ℤ, ℕ, Bool, ◌&&◌, nat_eq, nat_le, int_le, List, length, get_or}
-use Rattle.std.specs.Int.{w32, w128, from_be_bytes, cast_signed}
+use Rattle.std.specs.Prelude.{ℤ, ℕ, Bool, ◌&&◌, nat_eq, nat_le, int_le, unsigned_abs, List, length, get_or}
+use Rattle.std.specs.Int.{w32, w64, w128, to_be_bytes, from_be_bytes, cast_signed, cast_unsigned}
 use Rattle.pic_fields.specs.Parser.{Parser, field, mapped, checked, each}
 
 unfoldable pub byte_of : List ℕ → ℕ
@@ -11,6 +11,9 @@ u32_of bytes = from_be_bytes w32 bytes
 
 unfoldable pub i32_of : List ℕ → ℤ
 i32_of bytes = cast_signed w32 (from_be_bytes w32 bytes)
+
+unfoldable pub i64_of : List ℕ → ℤ
+i64_of bytes = cast_signed w64 (from_be_bytes w64 bytes)
 
 unfoldable pub u128_of : List ℕ → ℕ
 u128_of bytes = from_be_bytes w128 bytes
@@ -26,6 +29,13 @@ u32_at = mapped u32_of (field 4)
 
 unfoldable pub i32_at : Parser ℤ
 i32_at = mapped i32_of (field 4)
+
+unfoldable pub i64_at : Parser ℤ
+i64_at = mapped i64_of (field 8)
+
+-- the bytes of such a number
+unfoldable pub i64_bytes : ℤ → List ℕ
+i64_bytes z = to_be_bytes w64 (cast_unsigned w64 z)
 
 unfoldable pub u128_at : Parser ℕ
 u128_at = mapped u128_of (field 16)
@@ -46,6 +56,13 @@ is_between low high z = int_le low z && int_le z high
 
 unfoldable pub between : ℕ → ℤ → ℤ → Parser ℤ
 between cause low high = checked cause (is_between low high) i32_at
+
+-- a number at most so large in size
+abbrev pub is_at_most : ℕ → ℤ → Bool
+is_at_most most z = nat_le (unsigned_abs z) most
+
+unfoldable pub at_most : ℕ → ℕ → Parser ℤ
+at_most cause most = checked cause (is_at_most most) i64_at
 
 -- the next byte of a text
 unfoldable pub letter : ℕ → List ℕ → List ℕ → Parser ℕ

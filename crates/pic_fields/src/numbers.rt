@@ -1,9 +1,9 @@
 //! Fields that are numbers.
 
-ghost use Rattle.std.specs.Prelude.{◌≡◌, ◌+◌, ◌<◌, ◌≤◌, ◌^◌, nat_eq, ◌≤ℤ◌, length, IfOk};
+ghost use Rattle.std.specs.Prelude.{◌≡◌, ◌+◌, ◌<◌, ◌≤◌, ◌^◌, nat_eq, ◌≤ℤ◌, unsigned_abs, length, IfOk};
 ghost use Rattle.pic_fields.specs.Causes.{cause_number};
 ghost use Rattle.pic_fields.specs.Parser.{checked};
-ghost use Rattle.pic_fields.specs.Number.{byte_at, u32_at, i32_at, u128_at, i128_at, is_from_to, within, is_between, between, exactly};
+ghost use Rattle.pic_fields.specs.Number.{byte_at, u32_at, i32_at, i64_at, u128_at, i128_at, is_from_to, within, is_between, between, is_at_most, at_most, exactly};
 ghost use Rattle.pic_fields.specs.Reads.{Reads, always, as_it_is};
 
 use crate::cause::Cause;
@@ -42,6 +42,17 @@ pub fn read_i32<S: Source>(source: &mut S, place: u64) -> Result<i32, ReadStop>
     let mut room = [0u8; 4];
     take_field(source, place, &mut room)?;
     Ok(i32::from_be_bytes(room))
+}
+
+/// Reads a signed number of 8 bytes.
+pub fn read_i64<S: Source>(source: &mut S, place: u64) -> Result<i64, ReadStop>
+    requires { place + 8 < 2 ^ 63 }
+    ensures { Reads as_it_is i64_at place (place + 8) (S.told source.old)
+        (S.told source.new) result }
+{
+    let mut room = [0u8; 8];
+    take_field(source, place, &mut room)?;
+    Ok(i64::from_be_bytes(room))
 }
 
 /// Reads an unsigned number of 16 bytes.
@@ -119,6 +130,31 @@ fn is_between(low: i32, high: i32, z: i32) -> bool
     ensures { result ≡ is_between low high z }
 {
     low <= z && z <= high
+}
+
+/// Reads a signed number of 8 bytes that is at most so large in size; another is a fault of this cause.
+pub fn read_at_most<S: Source>(
+    source: &mut S,
+    place: u64,
+    cause: Cause,
+    most: u64,
+) -> Result<i64, ReadStop>
+    requires { place + 8 < 2 ^ 63 }
+    ensures reads { Reads as_it_is (at_most (cause_number cause) most) place (place + 8)
+        (S.told source.old) (S.told source.new) result }
+    ensures most { IfOk result (λ z. unsigned_abs z ≤ most) }
+{
+    let z = read_i64(source, place)?;
+    if !is_at_most(most, z) {
+        return Err(cause.at(place));
+    }
+    Ok(z)
+}
+
+fn is_at_most(most: u64, z: i64) -> bool
+    ensures { result ≡ is_at_most most z }
+{
+    z.unsigned_abs() <= most
 }
 
 /// Reads a text, byte by byte; the first byte that is another is a fault of this cause.

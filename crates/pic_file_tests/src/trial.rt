@@ -5,7 +5,7 @@ ghost use Rattle.std.specs.List.{range_with_len};
 
 use pic_dump::{Head, Header, HeaderSettings, Heads, put_end, put_frame, put_header};
 use pic_energy::Energies;
-use pic_grid::{Cells, EndMark, Lattice, Name, Snapshot};
+use pic_grid::{Cells, EndMark, Lattice, Loops, Name, Snapshot};
 use pic_io::MemSink;
 use pic_num::{Axis, Kind, Mult, Particle, Scales, Sub};
 use std::alloc::Global;
@@ -34,7 +34,6 @@ fn head(alloc: Global, name: &[u8], charge: i32, mass: u32) -> Result<Head, Fail
 }
 
 /// An ion, and an electron that moves along x, at most one step.
-#[tactic(auto, using(crate::proofs::SideLaws::side_allowed))]
 pub fn two_charges(alloc: Global) -> Result<Header, Fail> {
     let scales = Scales {
         e_to_b: none(),
@@ -53,7 +52,8 @@ pub fn two_charges(alloc: Global) -> Result<Header, Fail> {
         filter: 0,
         scales,
     };
-    Ok(Header::new(settings, species))
+    let loops = Loops::from_vec(Vec::new(alloc));
+    Ok(Header::new(settings, species, loops))
 }
 
 // Their state with the electron at x, and this value of E along x in the first cell.

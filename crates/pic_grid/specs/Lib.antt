@@ -26,3 +26,4 @@ pub mod Traces
 pub mod Felt
 pub mod LeastHalt
 pub mod Copying
+pub mod Loops

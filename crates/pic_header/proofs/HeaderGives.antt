@@ -2,14 +2,16 @@
 use Rattle.std.proofs.Common.{◌≡◌, ℕ, ◌+◌, ◌≤◌, Bool, true, false, eqb, leb, List, drop, Ok, arith}
 use Rattle.std.specs.Prelude.{⊤, if◌then◌else◌}
 use Rattle.std.proofs.lemmas.Bool.{and_parts, leb-true}
+use Rattle.pic_num.specs.Space.{Triple}
 use Rattle.pic_grid.specs.Species.{HeadView}
 use Rattle.pic_fields.specs.Parser.{Input, input, done}
 use Rattle.pic_fields.specs.Number.{byte_at}
 use Rattle.pic_fields.proofs.GiveLaws.{Gives, further_place, gives_any, gives_done, gives_then, gives_mapped, gives_checked, gives_field, gives_each}
-use Rattle.pic_fields.proofs.GiveLaws.{gives_within, gives_between, gives_exactly}
+use Rattle.pic_fields.proofs.GiveLaws.{gives_within, gives_between, gives_at_most, gives_exactly}
 use Rattle.pic_header.specs.Header.{HeaderView}
 use Rattle.pic_header.specs.HeaderFields.{version_at, mark_at, axis_at, cells_at, mult_at, scales_at, front_at, form_of_1, form_of_2, form_at, kind_at, name_of, name_at}
-use Rattle.pic_header.specs.HeaderFields.{head_at, heads_at, header_at, header_length}
+use Rattle.pic_header.specs.HeaderFields.{head_at, heads_at, loop_axis_at, loop_cell_at, drive_at, numbers_at, wave_at, loop_at, loops_at}
+use Rattle.pic_header.specs.HeaderFields.{header_at, header_length}
 use Rattle.pic_header.proofs.RunLaws.{header_place}
 
 gives_mark : Gives mark_at (λ version. ⊤)
@@ -64,11 +66,31 @@ gives_heads : (most : ℕ) → Gives (heads_at most) (λ hs. ⊤)
 unfolding heads_at
 gives_heads most = gives_then (gives_within _ _ _) (λ count is. gives_any (gives_each (head_at most) (λ before h. ⊤) count (gives_head most)))
 
+gives_cell : (n : Triple) → Gives (loop_cell_at n) (λ cell. ⊤)
+unfolding loop_cell_at
+gives_cell n =
+    gives_then (gives_within _ _ _) (λ x is. gives_then (gives_within _ _ _) (λ y is. gives_then (gives_within _ _ _) (λ z is. gives_done _ tt)))
+
+gives_wave : Gives wave_at (λ wave. ⊤)
+unfolding wave_at numbers_at drive_at
+gives_wave =
+    gives_then (gives_within _ _ _) (λ count is. gives_any (gives_each (λ before. _) (λ before v. ⊤) count (λ before. gives_any (gives_at_most _ _))))
+
+gives_loop : (n : Triple) → Gives (loop_at n) (λ l. ⊤)
+unfolding loop_at loop_axis_at
+gives_loop n =
+    gives_then {F = λ axis. ⊤} (gives_mapped _ (λ number is. tt) (gives_within _ _ _))
+    (λ axis is. gives_then (gives_cell n) (λ cell is. gives_then gives_wave (λ wave is. gives_done _ tt)))
+
+gives_loops : (n : Triple) (count : ℕ) → Gives (loops_at n count) (λ ls. ⊤)
+unfolding loops_at
+gives_loops n count = gives_any (gives_each (λ before. loop_at n) (λ before l. ⊤) count (λ before. gives_loop n))
+
 gives_header : Gives header_at (λ h. 1 ≤ h.every)
 unfolding header_at
 gives_header =
     gives_then gives_mark (λ version is. gives_then (gives_front version) (λ front least. gives_then (gives_form version)
-    (λ form is. gives_then (gives_heads _) (λ heads is. gives_done _ least))))
+    (λ form is. gives_then (gives_heads _) (λ heads is. gives_then (gives_loops _ _) (λ loops is. gives_done _ least)))))
 
 -- behind the header stands what is that many bytes on
 pub header_left : (i j : Input) (h : HeaderView) → header_at i ≡ Ok (h, j)

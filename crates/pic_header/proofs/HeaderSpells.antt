@@ -9,10 +9,11 @@ use Rattle.std.proofs.lemmas.List.{length-append, length-drop}
 use Rattle.pic_num.specs.declared.motion.Kind.{Kind}
 use Rattle.pic_num.specs.declared.mult.Scales.{Scales}
 use Rattle.pic_num.specs.Bytes.{u32_bytes, i32_bytes}
-use Rattle.pic_num.specs.Limits.{most_version, allowance_of, fewest_cells_of_axis, fewest_bits, most_bits, most_filter, most_species, most_mass}
+use Rattle.pic_num.specs.Limits.{most_version, allowance_of, fewest_cells_of_axis, fewest_bits, most_bits, most_filter, most_loops, most_species, most_mass}
 use Rattle.pic_num.specs.Multiplier.{Multiplier}
 use Rattle.pic_num.specs.Space.{Triple}
 use Rattle.pic_num.specs.Sub.{bits_of, bits_of-side}
+use Rattle.pic_grid.specs.declared.loops.Loop.{Loop}
 use Rattle.pic_grid.specs.Species.{HeadView, is_name_byte}
 use Rattle.pic_fields.specs.Parser.{Input, input, Parser, done, ◌>>=◌, mapped}
 use Rattle.pic_fields.specs.Number.{is_from_to, is_between}
@@ -22,11 +23,13 @@ use Rattle.pic_fields.proofs.SpellLaws.{IsField, FitsEach, spells_bind, spells_m
 use Rattle.pic_fields.proofs.SpellLaws.{same_read, spells_field, spells_each, spells_so, right_4, right_5, right_7}
 use Rattle.pic_fields.proofs.NumberLaws.{FitsU32, FitsI32, one_byte, spells_byte, spells_between, spells_within, spells_exactly}
 use Rattle.pic_header.specs.HeaderText.{zero_digit, mult_bytes, scales_bytes, cells_bytes, mark_bytes, form_bytes, front_bytes, name_bytes, kind_bytes}
-use Rattle.pic_header.specs.HeaderText.{head_bytes, heads_bytes, header_bytes}
+use Rattle.pic_header.specs.HeaderText.{head_bytes, heads_bytes, loops_bytes, header_bytes}
 use Rattle.pic_header.specs.Header.{HeaderView}
 use Rattle.pic_header.specs.Limits.{most_steps}
 use Rattle.pic_header.specs.HeaderFields.{out_of_limits, wrong_letter, version_at, mark_at, axis_at, cells_at, mult_at, scales_at, kind_at, name_of, is_name_field}
-use Rattle.pic_header.specs.HeaderFields.{is_new_name_field, name_at, particles_of, head_at, heads_at, Front, front_at, Form, form_of_1, form_of_2, form_at, header_of, header_at}
+use Rattle.pic_header.specs.HeaderFields.{is_new_name_field, name_at, particles_of, head_at, heads_at, Front, front_at, Form, form_of_1, form_of_2, form_at, loops_at, header_of}
+use Rattle.pic_header.specs.HeaderFields.{header_at}
+use Rattle.pic_header.proofs.LoopSpells.{fits_length, FitsLoop, FitsLoops, spells_loops}
 
 abbrev FitsMult : Multiplier → Type 0
 FitsMult m = FitsI32 (is_between (negsuc 2147483646) (pos 2147483647)) m.n × (FitsU32 (is_from_to 0 62) m.k × (m ≡ record { n = m.n; k = m.k }))
@@ -153,13 +156,6 @@ spells_head most before =
     (λ a. spells_bind (λ (h : HeadView). h.kind) (λ b h f g. ap (λ (o : HeadView). o.kind) g.1) spells_kind
     (λ b. spells_last (head_of a b) (λ (h : HeadView). h.count) (λ d. refl) (spells_within out_of_limits 0 (most - particles_of before)))))
 
-fits_length : {A : Type 0} (G : List A → A → Type 0) (n : ℕ) (xs : List A) → FitsEach G n xs → length xs ≡ n
-fits_length G zero xs fits = ap length fits
-fits_length G (suc n) xs fits =
-    let before = fits_length G n fits.before fits.so_far in
-    let size = ap length fits.whole ∙ length-append fits.before (fits.last ∷ []) in
-    omega (arith, before, size)
-
 abbrev FitsHeads : ℕ → List HeadView → Type 0
 FitsHeads most heads = FitsU32 (is_from_to 0 most_species) (length heads) × FitsEach (FitsHead most) (length heads) heads
 
@@ -234,37 +230,29 @@ spells_front version =
     (λ c. spells_last (front_of a b c) (λ (f : Front). f.scales) (λ d. refl) spells_scales))))
 
 -- what version 2 says more
-abbrev is_none : ℕ → Bool
-is_none n = is_from_to 0 0 n
-
-none_is : (n : ℕ) → FitsU32 is_none n → 0 ≡ n
-none_is n fits =
-    let most = leb-true n 0 (and_parts (leb 0 n) (leb n 0) fits.1).1 in
-    omega (arith, most)
-
 bits_back : (bits side : ℕ) → FitsU32 (is_from_to fewest_bits most_bits) bits → side ≡ 2 ^ bits → bits_of side ≡ bits
 bits_back bits side fits is =
     let (least, most) = and_parts (leb fewest_bits bits) (leb bits most_bits) fits.1 in
     ap bits_of is ∙ bits_of-side bits (leb-true fewest_bits bits least) (leb-true bits most_bits most)
 
 abbrev form_text_2 : Form → List ℕ
-form_text_2 f = u32_bytes (bits_of f.side) ++ u32_bytes f.filter ++ u32_bytes 0
+form_text_2 f = u32_bytes (bits_of f.side) ++ u32_bytes f.filter ++ u32_bytes f.loops
 
 abbrev FitsForm_2 : Form → Type 0
 FitsForm_2 f =
     FitsU32 (is_from_to fewest_bits most_bits) (bits_of f.side)
-    × (FitsU32 (is_from_to 0 most_filter) f.filter × (f ≡ record { side = 2 ^ bits_of f.side; filter = f.filter }))
+    × (FitsU32 (is_from_to 0 most_filter) f.filter
+    × (FitsU32 (is_from_to 0 most_loops) f.loops × (f ≡ record { side = 2 ^ bits_of f.side; filter = f.filter; loops = f.loops })))
 
 spells_form_2 : Spells form_of_2 form_text_2 FitsForm_2
-unfolding form_of_2 mapped
+unfolding form_of_2
 spells_form_2 =
-    spells_so (λ f fits. fits) (λ f fits. fits) (λ f fits. append_assoc (u32_bytes (bits_of f.side)) (u32_bytes f.filter) (u32_bytes 0))
-    (spells_bind (λ (f : Form). bits_of f.side) (λ bits f g h. bits_back bits f.side g (ap (λ (o : Form). o.side) h.1))
+    spells_so (λ f fits. fits) (λ f fits. fits) (λ f fits. append_assoc (u32_bytes (bits_of f.side)) (u32_bytes f.filter) (u32_bytes f.loops))
+    (spells_bind (λ (f : Form). bits_of f.side) (λ bits f g h. bits_back bits f.side g (ap (λ (o : Form). o.side) h.1.1))
     (spells_within out_of_limits fewest_bits most_bits)
-    (λ bits. spells_bind (λ (f : Form). f.filter) (λ filter f g h. ap (λ (o : Form). o.filter) h) (spells_within out_of_limits 0 most_filter)
-    (λ filter. spells_mapped (λ loops. record { side = 2 ^ bits; filter = filter }) (λ (f : Form). 0)
-    (λ (f : Form). f ≡ record { side = 2 ^ bits; filter = filter }) (λ f is. (omega arith, refl)) (λ f is. sym is)
-    (λ loops f. refl) none_is (spells_within out_of_limits 0 0))))
+    (λ bits. spells_bind (λ (f : Form). f.filter) (λ filter f g h. ap (λ (o : Form). o.filter) h.1) (spells_within out_of_limits 0 most_filter)
+    (λ filter. spells_last (λ loops. record { side = 2 ^ bits; filter = filter; loops = loops }) (λ (f : Form). f.loops) (λ loops. refl)
+    (spells_within out_of_limits 0 most_loops))))
 
 -- nothing
 spells_nothing : {A : Type 0} (a : A) → Spells (done a) (λ b. []) (λ b. b ≡ a)
@@ -306,47 +294,71 @@ abbrev pub front_in : HeaderView → Front
 front_in h = front_of h.cells h.steps h.every h.scales
 
 abbrev pub form_in : HeaderView → Form
-form_in h = record { side = h.side; filter = h.filter }
+form_in h = record { side = h.side; filter = h.filter; loops = length h.loops }
 
-grouped : (a b c d e f g h : List ℕ) → a ++ b ++ c ++ d ++ e ++ f ++ g ++ h ≡ a ++ ((b ++ c ++ d ++ e) ++ (f ++ (g ++ h)))
-grouped a b c d e f g h =
-    append_assoc (a ++ b ++ c ++ d ++ e ++ f) g h ∙ right_7 a b c d e f (g ++ h) ∙ ap (λ l. a ++ l) (sym (right_5 b c d e (f ++ (g ++ h))))
+grouped : (a b c d e f g h l : List ℕ) → a ++ b ++ c ++ d ++ e ++ f ++ g ++ h ++ l ≡ a ++ ((b ++ c ++ d ++ e) ++ (f ++ ((g ++ h) ++ l)))
+grouped a b c d e f g h l =
+    append_assoc (a ++ b ++ c ++ d ++ e ++ f ++ g) h l
+    ∙ append_assoc (a ++ b ++ c ++ d ++ e ++ f) g (h ++ l)
+    ∙ right_7 a b c d e f (g ++ (h ++ l))
+    ∙ ap (λ t. a ++ t) (sym (right_5 b c d e (f ++ (g ++ (h ++ l)))))
+    ∙ ap (λ t. a ++ ((b ++ c ++ d ++ e) ++ (f ++ t))) (sym (append_assoc g h l))
 
 -- behind the mark
 abbrev parts_text : ℕ → HeaderView → List ℕ
-parts_text version h = front_text (front_in h) ++ (form_text_by (eqb version 1) (form_in h) ++ counted_bytes h.species)
+parts_text version h =
+    front_text (front_in h) ++ (form_text_by (eqb version 1) (form_in h) ++ (counted_bytes h.species ++ loops_bytes h.loops))
 
 in_parts : (h : HeaderView) → header_bytes h ≡ mark_bytes h.version ++ parts_text h.version h
 unfolding header_bytes front_bytes form_bytes front_text counted_bytes
 in_parts h =
     let form = form_is (eqb h.version 1) (form_in h) in
     grouped (mark_bytes h.version) (cells_bytes h.cells) (u32_bytes h.steps) (u32_bytes h.every) (scales_bytes h.scales) (form_bytes h)
-    (u32_bytes (length h.species)) (heads_bytes h.species)
-    ∙ ap (λ l. mark_bytes h.version ++ (front_text (front_in h) ++ (l ++ counted_bytes h.species))) form
+    (u32_bytes (length h.species)) (heads_bytes h.species) (loops_bytes h.loops)
+    ∙ ap (λ l. mark_bytes h.version ++ (front_text (front_in h) ++ (l ++ (counted_bytes h.species ++ loops_bytes h.loops)))) form
 
 abbrev parts_at : ℕ → Parser HeaderView
 parts_at version =
     front_at version
-    >>= (λ front. form_at version >>= (λ form. heads_at (allowance_of version).particles >>= (λ heads. done (header_of version front form heads))))
+    >>= (λ front. form_at version
+    >>= (λ form. heads_at (allowance_of version).particles
+    >>= (λ heads. loops_at front.cells form.loops >>= (λ loops. done (header_of version front form heads loops)))))
+
+-- the loops, behind the other parts
+abbrev FitsRest : ℕ → Front → Form → HeaderView → Type 0
+FitsRest version front form h =
+    FitsHeads (allowance_of version).particles h.species
+    × (FitsLoops front.cells form.loops h.loops × (h ≡ header_of version front form h.species h.loops))
 
 abbrev FitsParts : ℕ → HeaderView → Type 0
 FitsParts version h =
-    FitsFront version (front_in h)
-    × (FitsFormBy (eqb version 1) version (form_in h)
-    × (FitsHeads (allowance_of version).particles h.species × (h ≡ header_of version (front_in h) (form_in h) h.species)))
+    FitsFront version (front_in h) × (FitsFormBy (eqb version 1) version (form_in h) × FitsRest version (front_in h) (form_in h) h)
 
 abbrev pub FitsHeader : HeaderView → Type 0
 FitsHeader h = FitsMark h.version × FitsParts h.version h
 
+-- a header of these parts has as many loops as its form says
+form_back : (version : ℕ) (front : Front) (form : Form) (h : HeaderView) → FitsRest version front form h → form_in h ≡ form
+form_back version front form h fits =
+    let count = fits_length (λ before. FitsLoop front.cells) form.loops h.loops fits.1.0 in
+    ap form_in fits.1.1 ∙ ap (λ n. record { side = form.side; filter = form.filter; loops = n }) count
+
+spells_rest : (version : ℕ) (front : Front) (form : Form)
+    → Spells (heads_at (allowance_of version).particles
+    >>= (λ heads. loops_at front.cells form.loops >>= (λ loops. done (header_of version front form heads loops))))
+    (λ h. counted_bytes h.species ++ loops_bytes h.loops) (FitsRest version front form)
+spells_rest version front form =
+    spells_bind (λ (h : HeaderView). h.species) (λ heads h f g. ap (λ (o : HeaderView). o.species) g.1) (spells_heads (allowance_of version).particles)
+    (λ heads. spells_last (header_of version front form heads) (λ (h : HeaderView). h.loops) (λ loops. refl) (spells_loops front.cells form.loops))
+
 spells_parts : (version : ℕ) → Spells (parts_at version) (λ h. parts_text h.version h) (FitsParts version)
 spells_parts version =
-    spells_so (λ h fits. fits) (λ h fits. fits) (λ h fits. ap (λ v. parts_text v h) (ap (λ (o : HeaderView). o.version) fits.1.1.1))
-    (spells_bind front_in (λ a h f g. ap front_in g.1.1) (spells_front version)
-    (λ front. spells_bind form_in (λ b h f g. ap form_in g.1) (spells_form version)
-    (λ form. spells_last (header_of version front form) (λ (h : HeaderView). h.species) (λ e. refl) (spells_heads (allowance_of version).particles))))
+    spells_so (λ h fits. fits) (λ h fits. fits) (λ h fits. ap (λ v. parts_text v h) (ap (λ (o : HeaderView). o.version) fits.1.1.1.1))
+    (spells_bind front_in (λ a h f g. ap front_in g.1.1.1) (spells_front version)
+    (λ front. spells_bind form_in (λ b h f g. form_back version front b h g) (spells_form version) (λ form. spells_rest version front form)))
 
 pub spells_header : Spells header_at header_bytes FitsHeader
 unfolding header_at
 spells_header =
     spells_so (λ h fits. fits) (λ h fits. fits) (λ h fits. in_parts h)
-    (spells_bind (λ (h : HeaderView). h.version) (λ a h f g. ap (λ (o : HeaderView). o.version) g.1.1.1) spells_mark spells_parts)
+    (spells_bind (λ (h : HeaderView). h.version) (λ a h f g. ap (λ (o : HeaderView). o.version) g.1.1.1.1) spells_mark spells_parts)

@@ -84,6 +84,10 @@ less_then {p = p} f {s = s} {m = m} {x = x} {z = z} first second = record {
       subst (λ r. MovesLess s (reach_of r) x z) (sym is) (less_after first.moves (second.moves rest known)));
 }
 
+-- another spelling of a part
+pub less_by : {A : Type 0} {p q : Parser A} {s : ℕ} {x z : Told} → p ≡ q → TakesLess p s x z → TakesLess q s x z
+less_by {A = A} {s = s} {x = x} {z = z} is first = subst (λ (t : Parser A). TakesLess t s x z) is first
+
 -- one of several
 less_next : {A : Type 0} (n : ℕ) (f : List A → Parser A) {s m : ℕ} {x y z : Told} {xs : List A}
     → HasRead (each n f) s x xs m y → TakesLess (f xs) m y z → TakesLess (each (suc n) f) s x z

@@ -5,6 +5,8 @@ pub mod RunLaws
 pub mod HeaderGives
 pub mod WithinLaws
 pub mod LessLaws
+pub mod LoopLaws
+pub mod LoopSpells
 pub mod HeaderSpells
 pub mod SpellingLaws
 pub mod ReadableHeader

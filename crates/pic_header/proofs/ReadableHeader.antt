@@ -14,24 +14,31 @@ use Rattle.std.proofs.lemmas.List.Folds.{list_any_none}
 use Rattle.std.proofs.lemmas.List.Sums.{sum_by_more_le}
 use Rattle.std.proofs.lemmas.Slice.Eq.{bytes_eq-Decides}
 use Rattle.pic_num.specs.Multiplier.{Multiplier, IsMultiplier}
-use Rattle.pic_num.specs.Limits.{most_version, allowance_of, fewest_cells_of_axis, fewest_bits, most_bits, most_filter, most_mass, most_species}
+use Rattle.pic_num.specs.Limits.{most_version, allowance_of, fewest_cells_of_axis, fewest_bits, most_bits, most_filter, most_loops, most_wave, most_drive, most_mass, most_species}
+use Rattle.pic_num.specs.Space.{Triple, triple}
 use Rattle.pic_num.specs.Sub.{bits_of}
 use Rattle.pic_num.specs.Versions.{IsSideOf}
 use Rattle.pic_num.proofs.VersionLaws.{within_scheme, side_of_version_1}
+use Rattle.pic_num.specs.declared.axis.Axis.TheVariants.{X, Y, Z}
+use Rattle.pic_grid.specs.declared.loops.Loop.{Loop}
+use Rattle.pic_grid.specs.Cells.{IsCells}
+use Rattle.pic_grid.specs.Loops.{IsLoop}
 use Rattle.pic_grid.specs.Species.{HeadView, no_head, IsName, IsKind, is_name_byte}
 use Rattle.pic_fields.specs.Parser.{input}
-use Rattle.pic_fields.specs.Number.{is_from_to, is_between}
+use Rattle.pic_fields.specs.Number.{is_from_to, is_between, is_at_most}
 use Rattle.pic_fields.specs.Bytes.{IsBytes}
-use Rattle.pic_fields.proofs.NumberLaws.{FitsU32, FitsI32}
+use Rattle.pic_fields.proofs.NumberLaws.{FitsU32, FitsI32, FitsI64}
 use Rattle.pic_fields.proofs.SpellLaws.{fits_each}
 use Rattle.pic_header.specs.HeaderText.{name_bytes, header_bytes}
 use Rattle.pic_header.specs.Header.{HeaderView, IsHeader, HasMultipliers}
 use Rattle.pic_header.specs.Limits.{most_steps}
 use Rattle.pic_header.specs.HeaderFields.{Form, name_of, is_name_field, particles_of, header_length}
+use Rattle.pic_header.proofs.LoopLaws.{loops_of_version}
+use Rattle.pic_header.proofs.LoopSpells.{FitsLoop}
 use Rattle.pic_header.proofs.HeaderSpells.{FitsName, FitsHead, FitsFormBy, form_in, FitsHeader, spells_header}
 use Rattle.pic_header.proofs.RunLaws.{header_place}
 use Rattle.pic_header.specs.Readable.{HeadersAreRead}
-use Rattle.pic_fields.proofs.FitLaws.{fits_from_to, fits_between}
+use Rattle.pic_fields.proofs.FitLaws.{fits_from_to, fits_between, fits_at_most, three_are}
 
 -- a multiplier
 mult_fits : (m : Multiplier) → IsMultiplier m
@@ -129,21 +136,61 @@ head_fits most before h name kind mults differs small total =
 fits_from_to_byte : (low high n : ℕ) → high < 256 → low ≤ n → n ≤ high → (n < 256) × (is_from_to low high n ≡ true)
 fits_from_to_byte low high n small least most = (omega (arith, small, most), and_from (leb low n) (leb n high) (le-leb low n least) (le-leb n high most))
 
+-- a loop that isn't there
+abbrev no_loop : Loop
+no_loop = record { axis = X; cell = []; wave = [] }
+
+-- a driven loop
+loop_fits : (n : Triple) (l : Loop) → IsCells n → IsLoop n l → length l.cell ≡ 3 → FitsLoop n l
+loop_fits n l c is three =
+    let cell = triple l.cell in
+    let x = c.x_most in
+    let y = c.y_most in
+    let z = c.z_most in
+    let w = is.within in (
+      tt,
+      (
+        (
+          fits_from_to 0 (n.x - 1) cell.x (omega (arith, x)) (omega arith) (let less = w.x in omega (arith, less)),
+          (
+            fits_from_to 0 (n.y - 1) cell.y (omega (arith, y)) (omega arith) (let less = w.y in omega (arith, less)),
+            (
+              fits_from_to 0 (n.z - 1) cell.z (omega (arith, z)) (omega arith) (let less = w.z in omega (arith, less)),
+              three_are 0 l.cell three,
+            ),
+          ),
+        ),
+        (
+          (
+            fits_from_to 1 most_wave (length l.wave) (omega arith) is.some is.most,
+            fits_each (λ before v. FitsI64 (is_at_most most_drive) v) (pos 0) (length l.wave) l.wave refl
+                (λ i below. fits_at_most most_drive (get_or l.wave i (pos 0)) (omega arith) (is.sizes i (pos 0) below)),
+          ),
+          refl,
+        ),
+      ),
+    )
+
 -- what version 2 says more
 form_fits : (first : Bool) (version : ℕ) (f : Form) → eqb version 1 ≡ first → IsSideOf version f.side → f.filter ≤ (allowance_of version).filter
-    → FitsFormBy first version f
-form_fits true version f is sides few =
+    → f.loops ≤ (allowance_of version).loops → FitsFormBy first version f
+form_fits true version f is sides few some =
     let same = eqb-true version 1 is in
     let side = subst (λ v. f.side ≡ 2 ^ (allowance_of v).least_bits) (sym same) (side_of_version_1 f.side (subst (λ v. IsSideOf v f.side) same sides)) in
     let none : f.filter ≤ 0 = subst (λ v. f.filter ≤ (allowance_of v).filter) same few in
     let zero : f.filter ≡ 0 = omega (arith, none) in
-    λ i. record { side = side i; filter = zero i }
-form_fits false version f is sides few =
+    let no_loops : f.loops ≤ 0 = subst (λ v. f.loops ≤ (allowance_of v).loops) same some in
+    let no_loop : f.loops ≡ 0 = omega (arith, no_loops) in
+    λ i. record { side = side i; filter = zero i; loops = no_loop i }
+form_fits false version f is sides few some =
     let scheme = within_scheme version in (
       fits_from_to fewest_bits most_bits (bits_of f.side) (omega arith) (le_trans scheme.least_bits sides.least) (le_trans sides.most scheme.greatest_bits),
       (
         fits_from_to 0 most_filter f.filter (omega arith) (omega arith) (le_trans few scheme.filter),
-        (λ i. record { side = sides.power i; filter = f.filter }),
+        (
+          fits_from_to 0 most_loops f.loops (omega arith) (omega arith) (le_trans some (loops_of_version version)),
+          (λ i. record { side = sides.power i; filter = f.filter; loops = f.loops }),
+        ),
       ),
     )
 
@@ -185,13 +232,17 @@ header_fits h is =
           ),
         ),
         (
-          form_fits (eqb h.version 1) h.version (form_in h) refl l.grid.sides l.filter,
+          form_fits (eqb h.version 1) h.version (form_in h) refl l.grid.sides l.filter l.loops.few,
           (
             (
               fits_from_to 0 most_species count (omega arith) (omega arith) heads.few,
               fits_each (FitsHead (allowance_of h.version).particles) no_head count h.species refl (λ i below. species_fits i below),
             ),
-            refl,
+            (
+              fits_each (λ before. FitsLoop h.cells) no_loop (length h.loops) h.loops refl
+                  (λ i below. loop_fits h.cells (get_or h.loops i no_loop) c (l.loops.each i no_loop below) (is.axes i no_loop below)),
+              refl,
+            ),
           ),
         ),
       ),

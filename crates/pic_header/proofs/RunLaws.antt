@@ -1,17 +1,22 @@
 -- How many bytes the parts of a header take, and that no place lies before the start.
-use Rattle.std.proofs.Common.{◌≡◌, ℕ, zero, suc, ◌+◌, ◌*◌, ◌≤◌, eqb, Bool, true, false, List, [], ◌∷◌, ◌++◌, length, Ok, Err, inl, inr}
-use Rattle.std.proofs.Common.{refl, sym, ap, subst, arith, length-append}
-use Rattle.std.specs.Prelude.{if◌then◌else◌}
+use Rattle.std.proofs.Common.{◌≡◌, ℕ, ℤ, zero, suc, ◌+◌, ◌*◌, ◌≤◌, eqb, Bool, true, false, List, [], ◌∷◌, ◌++◌, length, Ok, Err, inl, inr}
+use Rattle.std.proofs.Common.{refl, sym, ap, subst, ◌∙◌, arith, length-append}
+use Rattle.std.specs.Prelude.{if◌then◌else◌, sum_by}
+use Rattle.std.proofs.Math.Nat.{mul_comm}
+use Rattle.std.proofs.lemmas.List.Sums.{sum_by_push}
 use Rattle.std.proofs.lemmas.Bool.{cases_lt, lt-ltb, le-ltb}
 use Rattle.pic_fields.specs.Parser.{Input, fault, Parsed, Parser, done, after, ◌>>=◌, mapped, field, tested_by, checked, each}
-use Rattle.pic_fields.specs.Number.{byte_at, u32_at, i32_at, within, letter, exactly, between}
+use Rattle.pic_fields.specs.Number.{byte_at, u32_at, i32_at, i64_at, within, letter, exactly, between, at_most}
 use Rattle.pic_fields.proofs.SpellLaws.{same_read, bind_parts}
 use Rattle.pic_header.specs.Header.{HeaderView}
+use Rattle.pic_grid.specs.declared.loops.Loop.{Loop}
 use Rattle.pic_grid.specs.Species.{HeadView}
 use Rattle.pic_num.specs.Limits.{allowance_of}
+use Rattle.pic_num.specs.Space.{Triple}
 use Rattle.pic_header.specs.HeaderText.{form_length}
 use Rattle.pic_header.specs.HeaderFields.{version_at, mark_at, axis_at, cells_at, mult_at, scales_at, front_at, form_of_1, form_of_2, form_at, kind_at, name_at}
-use Rattle.pic_header.specs.HeaderFields.{head_at, heads_at, header_of, header_at, header_length}
+use Rattle.pic_header.specs.HeaderFields.{head_at, heads_at, loop_axis_at, loop_cell_at, drive_at, numbers_at, wave_at, loop_of, loop_at, loops_at}
+use Rattle.pic_header.specs.HeaderFields.{out_of_limits, loop_length, loops_length, header_of, header_at, header_length}
 
 -- a value lies n bytes on, and a fault not before the start
 abbrev pub RunsTo : {A : Type 0} → ℕ → ℕ → Parsed A → Type 0
@@ -194,6 +199,37 @@ pub goes_heads : (most : ℕ) → GoesOn (heads_at most)
 unfolding heads_at
 goes_heads most = goes_then (goes_on_by 4 (runs_within _ _ _)) (λ count. goes_each (head_at most) count (λ hs. goes_on_by 60 (runs_head most hs)))
 
+-- the parts of a loop
+pub runs_loop_axis : Runs loop_axis_at 4
+unfolding loop_axis_at
+runs_loop_axis = runs_mapped _ 4 (runs_within _ _ _)
+
+pub runs_loop_cell : (n : Triple) → Runs (loop_cell_at n) 12
+unfolding loop_cell_at
+runs_loop_cell n =
+    runs_then 4 8 (runs_within _ _ _) (λ x. runs_then 4 4 (runs_within _ _ _) (λ y. runs_then 4 0 (runs_within _ _ _) (λ z. runs_done _)))
+
+pub runs_drive : Runs drive_at 8
+unfolding drive_at at_most i64_at
+runs_drive = runs_checked _ _ 8 (runs_mapped _ 8 (runs_field 8))
+
+pub goes_numbers : (count : ℕ) → GoesOn (numbers_at count)
+unfolding numbers_at
+goes_numbers count = goes_each (λ before. drive_at) count (λ before. goes_on_by 8 runs_drive)
+
+pub goes_wave : GoesOn wave_at
+unfolding wave_at
+goes_wave = goes_then (goes_on_by 4 (runs_within _ _ _)) goes_numbers
+
+pub goes_loop : (n : Triple) → GoesOn (loop_at n)
+unfolding loop_at
+goes_loop n =
+    goes_then (goes_on_by 4 runs_loop_axis) (λ axis. goes_then (goes_on_by 12 (runs_loop_cell n)) (λ cell. goes_then goes_wave (λ wave. goes_done _)))
+
+pub goes_loops : (n : Triple) (count : ℕ) → GoesOn (loops_at n count)
+unfolding loops_at
+goes_loops n count = goes_each (λ before. loop_at n) count (λ before. goes_loop n)
+
 -- so many values are as many
 each_count : {A : Type 0} (f : List A → Parser A) (k : ℕ) (i j : Input) (xs : List A) → each k f i ≡ Ok (xs, j) → length xs ≡ k
 unfolding each done
@@ -209,14 +245,63 @@ each_count f (suc k) i j xs is =
 place_by : {A : Type 0} (p : Parser A) (n : ℕ) (i j : Input) (a : A) → Runs p n → p i ≡ Ok (a, j) → j.place ≡ i.place + n
 place_by p n i j a runs is = subst (RunsTo i.place n) is (runs.on i)
 
+-- a number of values of one length, and these
+counted_end : {A : Type 0} (low high n : ℕ) (f : List A → Parser A) → ((xs : List A) → Runs (f xs) n) → (i j : Input) (xs : List A)
+    → (within out_of_limits low high >>= (λ count. each count f)) i ≡ Ok (xs, j) → j.place ≡ i.place + 4 + n * length xs
+counted_end low high n f each_one i j xs is =
+    let (count, k, e1, r1) = bind_parts (within out_of_limits low high) (λ count. each count f) i j xs is in
+    let first = place_by (within _ _ _) 4 i k count (runs_within _ _ _) e1 in
+    let second = place_by (each count f) (count * n) k j xs (runs_each f n count each_one) r1 in
+    let size = each_count f count k j xs r1 in
+    let all : count * n ≡ n * length xs = ap (λ c. c * n) (sym size) ∙ mul_comm (length xs) n in
+    omega (arith, first, second, all)
+
 heads_end : (most : ℕ) (i j : Input) (heads : List HeadView) → heads_at most i ≡ Ok (heads, j) → j.place ≡ i.place + 4 + 60 * length heads
 unfolding heads_at
-heads_end most i j heads is =
-    let (count, k, e1, r1) = bind_parts (within _ _ _) (λ count. each count (head_at most)) i j heads is in
-    let first = place_by (within _ _ _) 4 i k count (runs_within _ _ _) e1 in
-    let second = place_by (each count (head_at most)) (count * 60) k j heads (runs_each (head_at most) 60 count (runs_head most)) r1 in
-    let size = each_count (head_at most) count k j heads r1 in
-    omega (arith, first, second, size)
+heads_end most i j heads is = counted_end 0 _ 60 (head_at most) (runs_head most) i j heads is
+
+wave_end : (i j : Input) (wave : List ℤ) → wave_at i ≡ Ok (wave, j) → j.place ≡ i.place + 4 + 8 * length wave
+unfolding wave_at numbers_at
+wave_end i j wave is = counted_end 1 _ 8 (λ before. drive_at) (λ before. runs_drive) i j wave is
+
+loop_end : (n : Triple) (i j : Input) (l : Loop) → loop_at n i ≡ Ok (l, j) → j.place ≡ i.place + loop_length l
+unfolding loop_at done
+loop_end n i j l is =
+    let (axis, i1, e1, r1) = bind_parts loop_axis_at _ i j l is in
+    let (cell, i2, e2, r2) = bind_parts (loop_cell_at n) _ i1 j l r1 in
+    let (wave, i3, e3, r3) = bind_parts wave_at (λ wave. done (loop_of axis cell wave)) i2 j l r2 in
+    let (value, here) = same_read _ l i3 j r3 in
+    let size : 20 + 8 * length wave ≡ loop_length l = ap (λ (m : Loop). loop_length m) value in
+    let end : i3.place ≡ j.place = ap (λ (k : Input). k.place) here in
+    let a : i1.place ≡ i.place + 4 = place_by _ 4 i i1 axis runs_loop_axis e1 in
+    let b : i2.place ≡ i1.place + 12 = place_by _ 12 i1 i2 cell (runs_loop_cell n) e2 in
+    let c : i3.place ≡ i2.place + 4 + 8 * length wave = wave_end i2 i3 wave e3 in
+    omega (arith, a, b, c, size, end)
+
+-- values of lengths of their own
+each_end : {A : Type 0} (f : List A → Parser A) (size : A → ℕ) (k : ℕ)
+    → ((xs : List A) (i j : Input) (x : A) → f xs i ≡ Ok (x, j) → j.place ≡ i.place + size x)
+    → (i j : Input) (xs : List A) → each k f i ≡ Ok (xs, j) → j.place ≡ i.place + sum_by size xs
+unfolding each done
+each_end f size zero each_one i j xs is =
+    let (value, here) = same_read [] xs i j is in
+    let none : 0 ≡ sum_by size xs = ap (sum_by size) value in
+    let end : i.place ≡ j.place = ap (λ (k : Input). k.place) here in
+    omega (arith, none, end)
+each_end f size (suc k) each_one i j xs is =
+    let (ys, m, e1, r1) = bind_parts (each k f) (λ ys. f ys >>= (λ y. done (ys ++ y ∷ []))) i j xs is in
+    let (y, n, e2, r2) = bind_parts (f ys) (λ y. done (ys ++ y ∷ [])) m j xs r1 in
+    let (value, here) = same_read (ys ++ y ∷ []) xs n j r2 in
+    let first = each_end f size k each_one i m ys e1 in
+    let second = each_one ys m n y e2 in
+    let more = sum_by_push size ys y in
+    let all : sum_by size (ys ++ y ∷ []) ≡ sum_by size xs = ap (sum_by size) value in
+    let end : n.place ≡ j.place = ap (λ (k : Input). k.place) here in
+    omega (arith, first, second, more, all, end)
+
+loops_end : (n : Triple) (count : ℕ) (i j : Input) (loops : List Loop) → loops_at n count i ≡ Ok (loops, j) → j.place ≡ i.place + loops_length loops
+unfolding loops_at
+loops_end n count i j loops is = each_end (λ before. loop_at n) loop_length count (λ before. loop_end n) i j loops is
 
 -- what follows a header
 pub header_place : (i j : Input) (h : HeaderView) → header_at i ≡ Ok (h, j) → j.place ≡ i.place + header_length h
@@ -225,12 +310,14 @@ header_place i j h is =
     let (version, i1, e1, r1) = bind_parts mark_at _ i j h is in
     let (front, i2, e2, r2) = bind_parts (front_at version) _ i1 j h r1 in
     let (form, i3, e3, r3) = bind_parts (form_at version) _ i2 j h r2 in
-    let (heads, i4, e4, r4) = bind_parts (heads_at (allowance_of version).particles) (λ heads. done (header_of version front form heads)) i3 j h r3 in
-    let (value, here) = same_read _ h i4 j r4 in
-    let size : 64 + form_length version + 60 * length heads ≡ header_length h = ap (λ (g : HeaderView). header_length g) value in
-    let end : i4.place ≡ j.place = ap (λ (k : Input). k.place) here in
+    let (heads, i4, e4, r4) = bind_parts (heads_at (allowance_of version).particles) _ i3 j h r3 in
+    let (loops, i5, e5, r5) = bind_parts (loops_at front.cells form.loops) (λ loops. done (header_of version front form heads loops)) i4 j h r4 in
+    let (value, here) = same_read _ h i5 j r5 in
+    let size : 64 + form_length version + 60 * length heads + loops_length loops ≡ header_length h = ap (λ (g : HeaderView). header_length g) value in
+    let end : i5.place ≡ j.place = ap (λ (k : Input). k.place) here in
     let a : i1.place ≡ i.place + 8 = place_by _ 8 i i1 version runs_mark e1 in
     let b : i2.place ≡ i1.place + 52 = place_by _ 52 i1 i2 front (runs_front version) e2 in
     let c : i3.place ≡ i2.place + form_length version = place_by _ (form_length version) i2 i3 form (runs_form version) e3 in
     let d : i4.place ≡ i3.place + 4 + 60 * length heads = heads_end _ i3 i4 heads e4 in
-    omega (arith, a, b, c, d, size, end)
+    let e : i5.place ≡ i4.place + loops_length loops = loops_end _ _ i4 i5 loops e5 in
+    omega (arith, a, b, c, d, e, size, end)

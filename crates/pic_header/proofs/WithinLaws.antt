@@ -85,6 +85,10 @@ within_read {s = s} {x = x} {z = z} first = record {
       subst (λ r. Moves s (reach_of r) x z) (sym is) first.moves);
 }
 
+-- another spelling of a part
+pub within_by : {A : Type 0} {p q : Parser A} {s : ℕ} {x z : Told} → p ≡ q → TakesWithin p s x z → TakesWithin q s x z
+within_by {A = A} {s = s} {x = x} {z = z} is first = subst (λ (t : Parser A). TakesWithin t s x z) is first
+
 -- nothing more was
 pub within_done : {A : Type 0} (a : A) (s : ℕ) (x : Told) → TakesWithin (done a) s x x
 unfolding done

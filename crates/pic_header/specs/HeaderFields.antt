@@ -1,17 +1,21 @@
 -- The header of a dump, field by field: this project's profile.
-use Rattle.std.specs.Prelude.{◌≡◌, pos, negsuc, ℕ, ◌-◌, ◌+◌, ◌*◌, ◌^◌, ◌<◌, ◌≤◌, Bool, not, ◌&&◌, ◌==◌, nat_eq, nat_le, if◌then◌else◌}
+use Rattle.std.specs.Prelude.{◌≡◌, pos, negsuc, ℤ, ℕ, ◌-◌, ◌+◌, ◌*◌, ◌^◌, ◌<◌, ◌≤◌, Bool, not, ◌&&◌, ◌==◌, nat_eq, nat_le, if◌then◌else◌}
 use Rattle.std.specs.Prelude.{bytes_eq, List, [], ◌∷◌, length, drop, sum_by, slice_index_or, codes}
 use Rattle.std.specs.List.{list_all, list_any}
+use Rattle.pic_num.specs.declared.axis.Axis.{Axis}
 use Rattle.pic_num.specs.declared.motion.Kind.{Kind}
 use Rattle.pic_num.specs.declared.mult.Scales.{Scales}
 use Rattle.pic_num.specs.Limits.{most_version, allowance_of, fewest_cells_of_axis, fewest_bits, most_bits, most_filter, most_species, most_mass}
+use Rattle.pic_num.specs.Limits.{most_loops, most_wave, most_drive}
 use Rattle.pic_num.specs.Multiplier.{Multiplier}
 use Rattle.pic_num.specs.Space.{Triple}
+use Rattle.pic_grid.specs.declared.loops.Loop.{Loop}
+use Rattle.pic_grid.specs.Cells.{axis_of}
 use Rattle.pic_grid.specs.Species.{HeadView, no_head, IsName, IsKind, is_name_byte}
 use Rattle.pic_fields.specs.Causes.{cause_number}
 use Rattle.pic_fields.specs.declared.cause.Cause.TheVariants.{WrongLetter, OutOfLimits}
 use Rattle.pic_fields.specs.Parser.{Parser, field, done, ◌>>=◌, checked, mapped, each}
-use Rattle.pic_fields.specs.Number.{byte_at, is_from_to, within, exactly, between}
+use Rattle.pic_fields.specs.Number.{byte_at, is_from_to, within, exactly, between, at_most}
 use Rattle.pic_header.specs.Header.{HeaderView}
 use Rattle.pic_header.specs.HeaderText.{zero_digit, form_length}
 use Rattle.pic_header.specs.Limits.{most_steps, most_letters}
@@ -69,21 +73,22 @@ front_at version =
     >>= (λ every. scales_at
     >>= (λ scales. done (record { cells = cells; steps = steps; every = every; scales = scales })))))
 
--- what version 2 says more: the side of a cell and the filter of the current
+-- what version 2 says more: the side of a cell, the filter of the current, and how many loops there are
 pub record Form : Type 0 where
   pub side : ℕ
   pub filter : ℕ
+  pub loops : ℕ
 
--- a cell of version 1 has the one side, and there is no filter
+-- a cell of version 1 has the one side, and there is no filter and no loop
 abbrev pub form_of_1 : ℕ → Form
-form_of_1 version = record { side = 2 ^ (allowance_of version).least_bits; filter = 0 }
+form_of_1 version = record { side = 2 ^ (allowance_of version).least_bits; filter = 0; loops = 0 }
 
--- the side is a power of two, and there are no loops
+-- the side is a power of two
 unfoldable pub form_of_2 : Parser Form
 form_of_2 =
     within out_of_limits fewest_bits most_bits
     >>= (λ bits. within out_of_limits 0 most_filter
-    >>= (λ filter. within out_of_limits 0 0 >>= (λ loops. done (record { side = 2 ^ bits; filter = filter }))))
+    >>= (λ filter. within out_of_limits 0 most_loops >>= (λ loops. done (record { side = 2 ^ bits; filter = filter; loops = loops }))))
 
 unfoldable pub form_at : ℕ → Parser Form
 form_at version =
@@ -129,9 +134,41 @@ head_at most before =
 unfoldable pub heads_at : ℕ → Parser (List HeadView)
 heads_at most = within out_of_limits 0 most_species >>= (λ count. each count (head_at most))
 
+-- the axis of a loop
+unfoldable pub loop_axis_at : Parser Axis
+loop_axis_at = mapped axis_of (within out_of_limits 0 2)
+
+-- the cell of a loop: one of so many on each axis
+unfoldable pub loop_cell_at : Triple → Parser (List ℕ)
+loop_cell_at n =
+    within out_of_limits 0 (n.x - 1)
+    >>= (λ x. within out_of_limits 0 (n.y - 1) >>= (λ y. within out_of_limits 0 (n.z - 1) >>= (λ z. done (x ∷ y ∷ z ∷ []))))
+
+-- a number of a wave, and so many of them
+unfoldable pub drive_at : Parser ℤ
+drive_at = at_most out_of_limits most_drive
+
+unfoldable pub numbers_at : ℕ → Parser (List ℤ)
+numbers_at count = each count (λ before. drive_at)
+
+-- the wave of a loop: how many numbers it has, and these
+unfoldable pub wave_at : Parser (List ℤ)
+wave_at = within out_of_limits 1 most_wave >>= numbers_at
+
+-- a loop of a grid of n cells
+abbrev pub loop_of : Axis → List ℕ → List ℤ → Loop
+loop_of axis cell wave = record { axis = axis; cell = cell; wave = wave }
+
+unfoldable pub loop_at : Triple → Parser Loop
+loop_at n = loop_axis_at >>= (λ axis. loop_cell_at n >>= (λ cell. wave_at >>= (λ wave. done (loop_of axis cell wave))))
+
+-- so many loops
+unfoldable pub loops_at : Triple → ℕ → Parser (List Loop)
+loops_at n count = each count (λ before. loop_at n)
+
 -- the header of these parts
-abbrev pub header_of : ℕ → Front → Form → List HeadView → HeaderView
-header_of version front form heads = record {
+abbrev pub header_of : ℕ → Front → Form → List HeadView → List Loop → HeaderView
+header_of version front form heads loops = record {
   version = version;
   cells = front.cells;
   side = form.side;
@@ -140,6 +177,7 @@ header_of version front form heads = record {
   filter = form.filter;
   scales = front.scales;
   species = heads;
+  loops = loops;
 }
 
 -- the header
@@ -149,15 +187,26 @@ header_at =
     >>= (λ version. front_at version
     >>= (λ front. form_at version
     >>= (λ form. heads_at (allowance_of version).particles
-    >>= (λ heads. done (header_of version front form heads)))))
+    >>= (λ heads. loops_at front.cells form.loops
+    >>= (λ loops. done (header_of version front form heads loops))))))
+
+-- how many bytes a loop has, and how many some have
+abbrev pub loop_length : Loop → ℕ
+loop_length l = 20 + 8 * length l.wave
+
+abbrev pub loops_length : List Loop → ℕ
+loops_length loops = sum_by loop_length loops
 
 -- how many bytes a header has
 abbrev pub header_length : HeaderView → ℕ
-header_length h = 64 + form_length h.version + 60 * length h.species
+header_length h = 64 + form_length h.version + 60 * length h.species + loops_length h.loops
 
--- the bytes of the longest header
+-- the bytes of the longest loop, and of the longest header
+abbrev pub loop_most : ℕ
+loop_most = 532
+
 abbrev pub header_most : ℕ
-header_most = 1036
+header_most = 9548
 
 -- a species within the limits, with a name that none of these has, and few enough particles beside theirs
 pub record IsNewHead (most : ℕ) (heads : List HeadView) (h : HeadView) : Type 0 where

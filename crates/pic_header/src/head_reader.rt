@@ -12,21 +12,22 @@ ghost use Rattle.pic_fields.specs.declared.read_stop.ReadStop.TheVariants.{ReadF
 ghost use Rattle.pic_header.specs.declared.head_stop.HeadStop.TheVariants.{Read};
 ghost use Rattle.pic_header.specs.Header.{HasLimits, AreCellsOf};
 ghost use Rattle.pic_header.specs.HeaderText.{form_length};
-ghost use Rattle.pic_header.specs.HeaderFields.{header_length, IsNewHead, Front as FrontOf, version_at, mark_at, axis_at, cells_at, front_at, Form as FormOf, form_of_2, form_at, mult_at, scales_at, kind_at, name_of, is_name_field, is_new_name_field, name_at, particles_of, head_at, heads_at, header_at, header_most};
+ghost use Rattle.pic_header.specs.HeaderFields.{header_length, IsNewHead, Front as FrontOf, version_at, mark_at, axis_at, cells_at, front_at, Form as FormOf, form_of_2, form_at, mult_at, scales_at, kind_at, name_of, is_name_field, is_new_name_field, name_at, particles_of, head_at, heads_at, loops_at, header_at, header_most};
 ghost use Rattle.pic_header.specs.HeadReads.{HeadReads, TakesWithin, TakesLess};
 
 use crate::head::{Head, Heads};
 use crate::head_stop::HeadStop;
 use crate::header::{Header, HeaderSettings};
 use crate::heading::{HEAD_BYTES, ZERO_DIGIT, form_length};
+use crate::loop_reader::read_loops;
 use crate::name_reader::read_name;
 use pic_fields::{Cause, ReadStop, is_from_to, read_between, read_byte, read_exactly, read_within};
-use pic_grid::{Cells, Name};
+use pic_grid::{Cells, Loops, Name};
 use pic_io::Source;
 use pic_num::{
-    Kind, MAX_BITS, MAX_CHARGE, MAX_FILTER, MAX_MASS, MAX_NUMERATOR, MAX_SHIFT, MAX_SPECIES,
-    MAX_STEPS, MAX_VERSION, MIN_BITS, MIN_CELLS, MIN_CHARGE, Mult, NoMemory, Scales, Sub,
-    allowance_of,
+    Kind, MAX_BITS, MAX_CHARGE, MAX_FILTER, MAX_LOOPS, MAX_MASS, MAX_NUMERATOR, MAX_SHIFT,
+    MAX_SPECIES, MAX_STEPS, MAX_VERSION, MIN_BITS, MIN_CELLS, MIN_CHARGE, Mult, NoMemory, Scales,
+    Sub, allowance_of,
 };
 use std::alloc::Global;
 use std::marker::Model;
@@ -173,37 +174,43 @@ fn read_front<S: Source>(source: &mut S, version: u32, place: u64) -> Result<Fro
     })
 }
 
-// What version 2 says more: the side of a cell, and the filter of the current.
+// What version 2 says more: the side of a cell, the filter of the current, and how many loops there are.
 #[derive(Drop)]
 struct Form {
     side: Sub,
     filter: u32,
+    loops: u32,
 }
 
 impl Model for Form {
     ghost Value = { FormOf };
 
-    ghost view = { λ f. record { side = f.side; filter = f.filter } };
+    ghost view = { λ f. record { side = f.side; filter = f.filter; loops = f.loops } };
 }
 
-// Reads what version 2 says more, and no loops.
+// Reads what version 2 says more.
 fn read_form_of_2<S: Source>(source: &mut S, place: u64) -> Result<Form, ReadStop>
     requires { place + 12 < 2 ^ 63 }
     ensures reads { Reads as_it_is form_of_2 place (place + 12) (S.told source.old)
         (S.told source.new) result }
     ensures side { IfOk result (λ f. IsSideOf 2 f.side) }
     ensures filter { IfOk result (λ f. f.filter ≤ (allowance_of 2).filter) }
+    ensures loops { IfOk result (λ f. f.loops ≤ (allowance_of 2).loops) }
 {
     let filter_place = place + 4;
     let loops_place = filter_place + 4;
     let bits = read_within(source, place, Cause::OutOfLimits, MIN_BITS, MAX_BITS)?;
     let filter = read_within(source, filter_place, Cause::OutOfLimits, 0, MAX_FILTER)?;
-    let _loops = read_within(source, loops_place, Cause::OutOfLimits, 0, 0)?;
+    let loops = read_within(source, loops_place, Cause::OutOfLimits, 0, MAX_LOOPS)?;
     let side = Sub::of_bits(bits);
-    Ok(Form { side, filter })
+    Ok(Form {
+        side,
+        filter,
+        loops,
+    })
 }
 
-// Reads what a version says of the side of a cell and of the filter, and behind them.
+// Reads what a version says of the side of a cell, of the filter and of the loops.
 fn read_form<S: Source>(source: &mut S, version: u32, place: u64) -> Result<Form, ReadStop>
     requires version { IsVersion version }
     requires place { place + 12 < 2 ^ 63 }
@@ -211,10 +218,15 @@ fn read_form<S: Source>(source: &mut S, version: u32, place: u64) -> Result<Form
         (S.told source.old) (S.told source.new) result }
     ensures side { IfOk result (λ f. IsSideOf version f.side) }
     ensures filter { IfOk result (λ f. f.filter ≤ (allowance_of version).filter) }
+    ensures loops { IfOk result (λ f. f.loops ≤ (allowance_of version).loops) }
 {
     if version == 1 {
         let side = Sub::of_bits(allowance_of(version).least_bits);
-        return Ok(Form { side, filter: 0 });
+        return Ok(Form {
+            side,
+            filter: 0,
+            loops: 0,
+        });
     }
     read_form_of_2(source, place)
 }
@@ -341,13 +353,16 @@ pub fn read_header<S: Source>(alloc: Global, source: &mut S) -> Result<Header, H
     let form = read_form(source, version, FORM_PLACE)?;
     let heads_place = FORM_PLACE + form_length(version);
     let heads = read_heads(alloc, source, heads_place, allowance_of(version).particles)?;
+    let cells = Cells::new(front.cells, form.side);
+    let loops_place = heads_place + 4 + HEAD_BYTES * heads.as_slice().len() as u64;
+    let loops = read_loops(alloc, source, loops_place, cells, form.loops)?;
     let settings = HeaderSettings {
         version,
-        cells: Cells::new(front.cells, form.side),
+        cells,
         steps: front.steps,
         every: front.every,
         filter: form.filter,
         scales: front.scales,
     };
-    Ok(Header::new(settings, Heads::from_vec(heads)))
+    Ok(Header::new(settings, Heads::from_vec(heads), Loops::from_vec(loops)))
 }

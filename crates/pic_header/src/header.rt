@@ -1,16 +1,17 @@
 //! The header of a dump.
 
-ghost use Rattle.std.specs.Prelude.{◌≡◌, ◌≤◌, All, length};
+ghost use Rattle.std.specs.Prelude.{◌≡◌, ◌*◌, ◌≤◌, All, length};
 ghost use Rattle.pic_grid.specs.Cells.{IsCells};
 ghost use Rattle.pic_header.specs.Header.{HeaderView, header_with, with_steps, upgraded, HasLimits, HasMultipliers, AreMultipliers, IsHeader};
+ghost use Rattle.pic_num.specs.Limits.{most_loops, most_wave};
 ghost use Rattle.pic_header.specs.Limits.{most_steps};
 ghost use Rattle.pic_header.specs.HeaderText.{header_bytes};
-ghost use Rattle.pic_header.specs.HeaderFields.{header_length, header_most};
+ghost use Rattle.pic_header.specs.HeaderFields.{header_length, header_most, loop_most, loops_length};
 
 use crate::head::{Head, Heads};
-use crate::heading::{FRONT_BYTES, HEAD_BYTES, form_length};
+use crate::heading::{FRONT_BYTES, HEAD_BYTES, form_length, loop_length};
 use crate::keeping::{keep_kind, keep_scales};
-use pic_grid::Cells;
+use pic_grid::{Cells, Loop, Loops};
 use pic_num::Scales;
 use std::marker::Model;
 
@@ -18,19 +19,20 @@ use std::marker::Model;
 const NEW_VERSION: u32 = 2;
 
 /// The header of a dump: its version, the numbers of cells and the side of a cell, the number of
-/// steps, after how many steps a frame is due, the filter of the current, the four multipliers, and
-/// the species.
+/// steps, after how many steps a frame is due, the filter of the current, the four multipliers, the
+/// species, and the driven loops.
 ///
-/// `allowance_of` of `pic_num` says what the version allows of cells, their side and particles. There
-/// are at most 1000000 steps, a frame is due after 1 to 1000000 of them, and the species are at most
-/// 16, with names of their own. So a dump's reader refuses no number of it.
+/// `allowance_of` of `pic_num` says what the version allows of cells, their side, particles and loops.
+/// There are at most 1000000 steps, a frame is due after 1 to 1000000 of them, and the species are at
+/// most 16, with names of their own. So a dump's reader refuses no number of it.
 #[derive(Debug, Drop)]
 pub struct Header {
     settings: HeaderSettings,
     species: Heads,
+    loops: Loops,
 }
 
-/// What a header says beside its species.
+/// What a header says beside its species and loops.
 #[derive(Clone, Copy, Debug)]
 pub struct HeaderSettings {
     pub version: u32,
@@ -44,21 +46,26 @@ pub struct HeaderSettings {
 impl Model for Header {
     ghost Value = { HeaderView };
 
-    ghost view = { λ h. header_with h.settings h.species };
+    ghost view = { λ h. header_with h.settings h.species h.loops };
 
-    ghost invariant = { λ h. IsHeader (header_with h.settings h.species) };
+    ghost invariant = { λ h. IsHeader (header_with h.settings h.species h.loops) };
 }
 
 impl Header {
-    /// The header of numbers and species within the limits.
-    pub fn new(settings: HeaderSettings, species: Heads) -> Header
-        requires { HasLimits (header_with settings species) }
-        ensures { result ≡ header_with settings species }
+    /// The header of numbers, species and loops within the limits.
+    pub fn new(settings: HeaderSettings, species: Heads, loops: Loops) -> Header
+        requires { HasLimits (header_with settings species loops) }
+        ensures { result ≡ header_with settings species loops }
     {
         keep_cells(settings.cells);
         keep_scales(&settings.scales);
         let species = keep_species(species);
-        Header { settings, species }
+        let loops = keep_loops(loops);
+        Header {
+            settings,
+            species,
+            loops,
+        }
     }
 
     /// The same header with another number of steps.
@@ -139,6 +146,14 @@ impl Header {
         &self.species
     }
 
+    /// The driven loops.
+    pub fn loops(&self) -> &Loops
+        ensures value { result.now ≡ self.now.loops }
+        ensures limits { IsHeader self.now }
+    {
+        &self.loops
+    }
+
     /// How many bytes its text has.
     pub fn length(&self) -> u64
         ensures value { result ≡ header_length self.now }
@@ -146,8 +161,23 @@ impl Header {
         ensures most { header_length self.now ≤ header_most }
     {
         let species = self.species.as_slice().len() as u64;
-        FRONT_BYTES + form_length(self.settings.version) + HEAD_BYTES * species
+        let loops = loops_length(self.loops.as_slice());
+        FRONT_BYTES + form_length(self.settings.version) + HEAD_BYTES * species + loops
     }
+}
+
+// How many bytes loops have.
+fn loops_length(loops: &[Loop]) -> u64
+    requires few { length loops.now ≤ most_loops }
+    requires waves { All (λ l. length l.wave ≤ most_wave) loops.now }
+    ensures value { result ≡ loops_length loops.now }
+    ensures most { result ≤ loop_most * length loops.now }
+{
+    let mut bytes = 0u64;
+    for one in loops {
+        bytes += loop_length(one);
+    }
+    bytes
 }
 
 // What the types of cells and multipliers keep, as facts. None of these changes anything.
@@ -172,4 +202,26 @@ fn keep_kinds(heads: &[Head])
     for head in heads {
         keep_kind(head.kind);
     }
+}
+
+fn keep_loops(loops: Loops) -> Loops
+    ensures same { result ≡ loops }
+    ensures cells { All (λ l. length l.cell ≡ 3) loops }
+{
+    keep_cells_of(loops.as_slice());
+    loops
+}
+
+fn keep_cells_of(loops: &[Loop])
+    ensures { All (λ l. length l.cell ≡ 3) loops.now }
+{
+    for one in loops {
+        keep_cell(one.cell);
+    }
+}
+
+fn keep_cell(cell: [u32; 3])
+    ensures { length cell ≡ 3 }
+{
+    let _numbers = cell;
 }

@@ -8,6 +8,7 @@ mod header;
 mod heading;
 mod keeping;
 mod laws;
+mod loop_reader;
 mod name_reader;
 
 pub use head::{Head, Heads};

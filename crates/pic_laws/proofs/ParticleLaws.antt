@@ -7,11 +7,11 @@ use Rattle.std.proofs.lemmas.List.FromFn.{get_or-map-range_with_len}
 use Rattle.std.proofs.lemmas.Option.{slice_get-get_or}
 use Rattle.pic_num.specs.declared.motion.Particle.{Particle}
 use Rattle.pic_deck.specs.declared.species.Fill.{Fill}
-use Rattle.pic_deck.specs.declared.species.Fill.TheVariants.{Points, Lattice, Random, Pair}
+use Rattle.pic_deck.specs.declared.species.Fill.TheVariants.{Points, Lattice, Random, Pair, Displace}
 use Rattle.pic_deck.specs.declared.species.Species.{Species}
 use Rattle.pic_deck.specs.Deck.{deck_terms}
 use Rattle.pic_deck.specs.Species.{TermsView, AreFilled, IsFill, filled_count, no_species, species_at, particles_of}
-use Rattle.pic_load.specs.Loading.{no_particle, loaded_particle, beside, id_of, point_in, particles_in, loaded_after, loaded}
+use Rattle.pic_load.specs.Loading.{no_particle, loaded_particle, beside, displaced, id_of, point_in, particles_in, loaded_after, loaded}
 use Rattle.pic_load.specs.Generator.{generator, after}
 use Rattle.pic_load.proofs.LoadLaws.{within_earlier, species_more, count_more, length-particles_in}
 use Rattle.pic_laws.specs.ParticlesOfSpecies.{ParticlesAreThoseOfTheirSpecies}
@@ -59,6 +59,18 @@ module _ (t : TermsView) (ss : List Species) where
         (omega (arith, before.0, length-append (front n) new), get_or_append_left (front n) new no_particle k before.0 ∙ before.1)
   ]
 
+  -- a particle of an earlier species is the same among all particles as among those of the earlier species
+  same_other : (n named i : ℕ) → n ≤ length ss → named < length (take n ss) → i < (species_at (take n ss) named).count
+      → get_or (front n) (id_of (take n ss) named i) no_particle ≡ get_or (front (length ss)) (id_of ss named i) no_particle
+  same_other n named i most is below =
+      let earlier : named < n = omega (arith, is, length-take-le n ss most) in
+      let same : id_of (take n ss) named i ≡ id_of ss named i =
+      ap (λ (os : List Species). particles_of os + i) (take-take named n ss (omega (arith, earlier))) in
+      let room = within_earlier (take n ss) named no_species is in
+      let there : id_of (take n ss) named i < length (front n) = omega (arith, room, below, length-front n most) in
+      sym (stays n (length ss) (id_of (take n ss) named i) most there).1
+      ∙ ap (λ k. get_or (front (length ss)) k no_particle) same
+
   -- the point of a particle is the same beside all particles as beside those of the earlier species
   same_point : (n i : ℕ) (f : Fill) → n ≤ length ss → IsFill t (take n ss) f → i < filled_count (take n ss) f
       → point_in t.grid (take n ss) (front n) f i ≡ point_in t.grid ss (front (length ss)) f i
@@ -66,14 +78,9 @@ module _ (t : TermsView) (ss : List Species) where
   same_point n i (Lattice first gap count v) most is below = refl
   same_point n i (Random count seed stream drift spread) most is below = refl
   same_point n i (Pair named seed stream drift spread) most is below =
-      let earlier : named < n = omega (arith, is.0, length-take-le n ss most) in
-      let same : id_of (take n ss) named i ≡ id_of ss named i =
-      ap (λ (os : List Species). particles_of os + i) (take-take named n ss (omega (arith, earlier))) in
-      let room = within_earlier (take n ss) named no_species is.0 in
-      let there : id_of (take n ss) named i < length (front n) = omega (arith, room, below, length-front n most) in
-      let other = sym (stays n (length ss) (id_of (take n ss) named i) most there).1
-      ∙ ap (λ k. get_or (front (length ss)) k no_particle) same in
-      ap (λ (p : Particle). beside p drift spread (after (36 * i) (generator seed stream))) other
+      ap (λ (p : Particle). beside p drift spread (after (36 * i) (generator seed stream))) (same_other n named i most is.0 below)
+  same_point n i (Displace named by v) most is below =
+      ap (λ (p : Particle). displaced t.grid p by v) (same_other n named i most is.0 below)
 
   -- a particle of the species behind the first n
   of_next : (n i : ℕ) → n < length ss → i < (species_at ss n).count

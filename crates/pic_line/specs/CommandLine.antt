@@ -6,7 +6,7 @@ use Rattle.clap.specs.ValueTests.{is_unsigned_in}
 use Rattle.clap.specs.Kinds.{Kinds}
 use Rattle.clap.specs.Words.{App, Row, Rule, Text, fault_of, new_app, new_rule, one_of, subcommand_of, with_rule, with_subcommand}
 use Rattle.pic_line.specs.declared.asked.Command.{Command}
-use Rattle.pic_line.specs.declared.asked.Command.TheVariants.{Check, Run, Verify, Demo, Upgrade, Resume}
+use Rattle.pic_line.specs.declared.asked.Command.TheVariants.{Check, Run, Verify, Demo, Upgrade, Resume, Probe}
 
 -- `--workers N` and the like, a whole number of 1 to 64, and 1 where it is absent
 abbrev pub few_rule : Text → Rule
@@ -31,8 +31,15 @@ steps_rule = record (new_rule (codes "steps")) {
   required = true;
 }
 
+-- a subcommand that takes a number of workers alone
+abbrev pub working_app : Text → App
+working_app name = with_rule (new_app name) (few_rule (codes "workers"))
+
 abbrev pub run_app : App
-run_app = with_rule (new_app (codes "run")) (few_rule (codes "workers"))
+run_app = working_app (codes "run")
+
+abbrev pub probe_app : App
+probe_app = working_app (codes "probe")
 
 abbrev pub demo_app : App
 demo_app = with_rule (with_rule (new_app (codes "demo")) seed_rule) (few_rule (codes "workers"))
@@ -47,10 +54,11 @@ resume_app =
     (few_rule (codes "tiles-y")))
     (few_rule (codes "tiles-z"))
 
--- the command, with the subcommands `check`, `run`, `verify`, `demo`, `upgrade` and `resume`
+-- the command, with the subcommands `check`, `run`, `verify`, `demo`, `upgrade`, `resume` and `probe`
 unfoldable pub pic_app : App
 pic_app =
     with_subcommand
+    (with_subcommand
     (with_subcommand
     (with_subcommand
     (with_subcommand
@@ -59,7 +67,8 @@ pic_app =
     (new_app (codes "verify")).top)
     demo_app.top)
     (new_app (codes "upgrade")).top)
-    resume_app.top
+    resume_app.top)
+    probe_app.top
 
 -- the number from low to high that a text names
 unfoldable pub number_in : ℕ → ℕ → Text → Option ℕ
@@ -113,6 +122,7 @@ command_named name rows =
     else if bytes_eq name (codes "demo") then demo_of (seed_in rows) (workers_in rows)
     else if bytes_eq name (codes "upgrade") then Some Upgrade
     else if bytes_eq name (codes "resume") then resume_of (steps_in rows) (workers_in rows) (tiles_in rows)
+    else if bytes_eq name (codes "probe") then option_map Probe (workers_in rows)
     else None
 
 -- no subcommand is `check`

@@ -3,7 +3,7 @@
 ghost use Rattle.std.specs.Prelude.{◌≡◌, false, IfOk};
 ghost use Rattle.clap.specs.Words.{app_of, rule_of};
 ghost use Rattle.clap.specs.declared.builder.command.Command.TheViews.{out-Command};
-ghost use Rattle.pic_line.specs.CommandLine.{pic_app, resume_app, few_rule, seed_rule, steps_rule};
+ghost use Rattle.pic_line.specs.CommandLine.{pic_app, working_app, resume_app, few_rule, seed_rule, steps_rule};
 
 use clap::Arg;
 use std::alloc::{AllocError, Global};
@@ -13,7 +13,7 @@ pub fn pic<'a>(alloc: Global) -> Result<clap::Command<'a>, AllocError>
     ensures { IfOk result (λ app. app_of app ≡ pic_app) }
 {
     let check = clap::Command::new(alloc, "check");
-    let run = clap::Command::new(alloc, "run").arg(few(alloc, "workers"))?;
+    let run = working(alloc, "run")?;
     let verify = clap::Command::new(alloc, "verify");
     let seeded = clap::Command::new(alloc, "demo").arg(seed(alloc))?;
     let demo = seeded.arg(few(alloc, "workers"))?;
@@ -23,7 +23,18 @@ pub fn pic<'a>(alloc: Global) -> Result<clap::Command<'a>, AllocError>
     let three = two.subcommand(verify)?;
     let four = three.subcommand(demo)?;
     let five = four.subcommand(upgrade)?;
-    let all = five.subcommand(resume(alloc)?)?;
+    let six = five.subcommand(resume(alloc)?)?;
+    let all = six.subcommand(working(alloc, "probe")?)?;
+    Ok(all)
+}
+
+// A subcommand of this name that takes a number of workers alone.
+fn working<'a>(alloc: Global, name: &'a str) -> Result<clap::Command<'a>, AllocError>
+    ensures app { IfOk result (λ app. app_of app ≡ working_app name.entry.now) }
+    ensures own { IfOk result (λ app. (out-Command app).has_globals ≡ false) }
+{
+    let named = clap::Command::new(alloc, name);
+    let all = named.arg(few(alloc, "workers"))?;
     Ok(all)
 }
 

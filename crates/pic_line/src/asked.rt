@@ -30,6 +30,10 @@ pub enum Command {
         workers: u32,
         tiles: [u32; 3],
     },
+    /// Runs the deck and shows what its probes see of each state, on so many workers, 1 to 64.
+    Probe {
+        workers: u32,
+    },
 }
 
 /// Why a line has no command.

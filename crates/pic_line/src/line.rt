@@ -82,6 +82,8 @@ fn command_named(name: &str, found: &ArgMatches<'_>) -> Option<Command>
         Some(Command::Upgrade)
     } else if name == "resume" {
         resume_of(steps_in(found), workers_in(found), tiles_in(found))
+    } else if name == "probe" {
+        workers_in(found).map(|workers| Command::Probe { workers })
     } else {
         None
     }

@@ -1,17 +1,18 @@
 -- The particles that a run begins with, this project's profile: those of a deck's species in the
 -- deck's order, with the identities 0, 1, 2 and so on.
-use Rattle.std.specs.Prelude.{◌≡◌, ℕ, ℤ, ◌+◌, ◌*◌, ◌%◌, ◌<◌, ◌≤◌, List, [], ◌∷◌, ◌++◌, map, length, take, slice_index_or}
+use Rattle.std.specs.Prelude.{◌≡◌, ℕ, ℤ, pos, ◌+◌, ◌+ℤ◌, ◌*◌, ◌%◌, ◌<◌, ◌≤◌, List, [], ◌∷◌, ◌++◌, map, length, take, slice_index_or}
 use Rattle.std.specs.List.{All, range_with_len}
 use Rattle.rand_pcg.specs.Lcg.{Lcg}
 use Rattle.pic_num.specs.declared.motion.Particle.{Particle}
 pub use Rattle.pic_num.specs.NoParticle.{no_particle}
 use Rattle.pic_num.specs.declared.axis.Axis.{Axis}
+use Rattle.pic_num.specs.Rounding.{residue}
 use Rattle.pic_num.specs.Sizes.{IsAtMost}
-use Rattle.pic_num.specs.Space.{Triple, triple, spot, along}
+use Rattle.pic_num.specs.Space.{Triple, triple, Spot, spot, along}
 use Rattle.pic_grid.specs.Cells.{Grid, cell_of}
 use Rattle.pic_grid.specs.Hat.{IsInBox}
 use Rattle.pic_deck.specs.declared.species.Fill.{Fill}
-use Rattle.pic_deck.specs.declared.species.Fill.TheVariants.{Points, Lattice, Random, Pair}
+use Rattle.pic_deck.specs.declared.species.Fill.TheVariants.{Points, Lattice, Random, Pair, Displace}
 use Rattle.pic_deck.specs.declared.species.Species.{Species}
 use Rattle.pic_deck.specs.Deck.{DeckView, deck_grid}
 use Rattle.pic_deck.specs.Species.{Point6, no_point, allowance_of, fastest, particles_of}
@@ -47,6 +48,18 @@ id_of ss number i = particles_of (take number ss) + i
 abbrev pub beside : Particle → List ℤ → List ℕ → Lcg → Point6
 beside other drift spread g = record { x = other.x; v = drawn_velocity g drift spread }
 
+-- where a way from a position leads, in the periodic box of a grid
+unfoldable pub moved : Grid → Triple → Spot → List ℕ
+moved grid from by =
+    residue (pos from.x +ℤ by.x) (grid.n.x * grid.side)
+    ∷ residue (pos from.y +ℤ by.y) (grid.n.y * grid.side)
+    ∷ residue (pos from.z +ℤ by.z) (grid.n.z * grid.side)
+    ∷ []
+
+-- a particle this way from another one, with a velocity
+abbrev pub displaced : Grid → Particle → List ℤ → List ℤ → Point6
+displaced grid other by v = record { x = moved grid (triple other.x) (spot by); v = v }
+
 -- the particle of an index of what fills a species, after earlier species and their particles
 abbrev pub point_in : Grid → List Species → List Particle → Fill → ℕ → Point6
 point_in grid earlier done (Points points) i = slice_index_or points i no_point
@@ -55,6 +68,7 @@ point_in grid earlier done (Random count seed stream drift spread) i =
     drawn grid drift spread (after (39 * i) (generator seed stream))
 point_in grid earlier done (Pair named seed stream drift spread) i =
     beside (slice_index_or done (id_of earlier named i) no_particle) drift spread (after (36 * i) (generator seed stream))
+point_in grid earlier done (Displace named by v) i = displaced grid (slice_index_or done (id_of earlier named i) no_particle) by v
 
 -- the first particles of a species, with the identities from start on
 abbrev pub first_of_species : ℕ → ℕ → (ℕ → Point6) → ℕ → List Particle

@@ -1,9 +1,10 @@
 //! The particles of a deck, species by species.
 
-ghost use Rattle.std.specs.Prelude.{◌≡◌, ℕ, ◌+◌, ◌*◌, ◌%◌, ◌^◌, ◌<◌, ◌≤◌, ◌++◌, ◌∷◌, [], length, slice_index, slice_index_or, IfOk, OnOk};
+ghost use Rattle.std.specs.Prelude.{◌≡◌, ℕ, pos, ◌+◌, ◌+ℤ◌, ◌*◌, ◌%◌, ◌^◌, ◌<◌, ◌≤◌, ◌++◌, ◌∷◌, [], length, slice_index, slice_index_or, IfOk, OnOk};
 ghost use Rattle.std.specs.List.{All};
 ghost use Rattle.pic_num.specs.declared.axis.Axis.{Axis};
 ghost use Rattle.pic_num.specs.Limits.{most_side};
+ghost use Rattle.pic_num.specs.Rounding.{residue};
 ghost use Rattle.pic_num.specs.Sizes.{IsAtMost};
 ghost use Rattle.pic_num.specs.Space.{triple, spot, along};
 ghost use Rattle.pic_grid.specs.Cells.{Grid, cell_of};
@@ -12,12 +13,12 @@ ghost use Rattle.pic_grid.specs.Hat.{IsInBox};
 ghost use Rattle.pic_deck.specs.Species.{ArePoints, IsFilledFrom, fastest, most_particles, most_species, no_point, particles_of};
 ghost use Rattle.pic_load.specs.Drawing.{IsSpread};
 ghost use Rattle.pic_load.specs.Generator.{after};
-ghost use Rattle.pic_load.specs.Loading.{loaded_particle, no_particle, site, at_site, drawn, beside, first_of_species, particles_in, loaded, IsPlaced, AreLoaded};
+ghost use Rattle.pic_load.specs.Loading.{loaded_particle, no_particle, site, at_site, drawn, beside, moved, displaced, first_of_species, particles_in, loaded, IsPlaced, AreLoaded};
 
 use crate::drawing::{draw_place, draw_velocity};
 use pic_deck::{Deck, Fill, Point6, Species, Terms, extent, particles_of};
 use pic_grid::Cells;
-use pic_num::{NoMemory, Particle};
+use pic_num::{NoMemory, Particle, wrap};
 use rand_pcg::Pcg32;
 use std::alloc::Global;
 
@@ -181,6 +182,62 @@ fn load_pair(
     Ok(())
 }
 
+fn moved_on(from: u32, by: i32, len: u32) -> u32
+    requires some { 1 ≤ len }
+    requires most { len ≤ most_extent }
+    ensures value { result ≡ residue (pos from +ℤ by) len }
+    ensures below { result < len }
+{
+    wrap(i64::from(from) + i64::from(by), len)
+}
+
+// where a way from a position leads
+fn moved(cells: Cells, from: [u32; 3], by: [i32; 3]) -> [u32; 3]
+    ensures value { result ≡ moved cells (triple from) (spot by) }
+    ensures within { IsInBox cells.side cells.n (triple result) }
+{
+    let [x_len, y_len, z_len] = extent(cells);
+    let x = moved_on(from[0], by[0], x_len);
+    let y = moved_on(from[1], by[1], y_len);
+    let z = moved_on(from[2], by[2], z_len);
+    [x, y, z]
+}
+
+// how far the particles of a species stand from those of another one, and their velocity
+#[derive(Clone, Copy)]
+struct Displacement {
+    by: [i32; 3],
+    v: [i32; 3],
+}
+
+// adds so many particles beside others, those from an identity on
+fn load_displaced(
+    particles: &mut Vec<Particle>,
+    species: u8,
+    cells: Cells,
+    start: usize,
+    total: u32,
+    displacement: Displacement,
+) -> Result<(), NoMemory>
+    requires few { length particles.old.items + total ≤ most_particles }
+    requires others { start + total ≤ length particles.old.items }
+    ensures value { OnOk result (particles.new.items ≡ particles.old.items
+        ++ first_of_species (length particles.old.items) species
+        (λ i. displaced cells (slice_index_or particles.old.items (start + i) no_particle)
+        displacement.by displacement.v) total) }
+    ensures placed { (m : ℕ) → species < m
+        → ((a : Axis) → IsAtMost (along a (spot displacement.v)) (fastest cells.side))
+        → All (IsPlaced cells m) particles.old.items
+        → OnOk result (All (IsPlaced cells m) particles.new.items) }
+{
+    for i in 0..total {
+        let from = particles[start + i as usize].x;
+        let x = moved(cells, from, displacement.by);
+        add(particles, species, x, displacement.v)?;
+    }
+    Ok(())
+}
+
 // adds the particles of the next species
 fn load_species(
     particles: &mut Vec<Particle>,
@@ -246,6 +303,11 @@ fn load_species(
                 width: *spread,
             };
             load_pair(particles, number, start, total, &mut own, wide)
+        }
+        Fill::Displace { of, by, v } => {
+            let from = particles_of(&earlier[..*of as usize]);
+            let displacement = Displacement { by: *by, v: *v };
+            load_displaced(particles, number, cells, from, total, displacement)
         }
     }
 }

@@ -53,6 +53,17 @@ most_version = 2
 abbrev pub most_filter : ℕ
 most_filter = 1
 
+-- a run has at most 16 driven loops of current
+abbrev pub most_loops : ℕ
+most_loops = 16
+
+-- the wave of a loop has 1 to 64 numbers, each at most 2^60 in size
+abbrev pub most_wave : ℕ
+most_wave = 64
+
+abbrev pub most_drive : ℕ
+most_drive = 2 ^ 60
+
 -- what a version of decks and dumps allows: version 1 less than the scheme, version 2 all of it
 abbrev pub allowance_of : ℕ → Allowance
 allowance_of version =
@@ -62,6 +73,7 @@ allowance_of version =
       least_bits = bits_1;
       greatest_bits = bits_1;
       filter = 0;
+      loops = 0;
     }
     else record {
       cells = most_cells_of_axis;
@@ -69,6 +81,7 @@ allowance_of version =
       least_bits = fewest_bits;
       greatest_bits = most_bits;
       filter = most_filter;
+      loops = most_loops;
     }
 
 -- a run has at most 1000000 steps, and so many from one frame to the next

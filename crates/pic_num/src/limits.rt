@@ -73,8 +73,18 @@ pub const MAX_VERSION: u32 = 2;
 /// The filter of the current: none, or the binomial one.
 pub const MAX_FILTER: u32 = 1;
 
+/// The most driven loops of a run.
+pub const MAX_LOOPS: u32 = 1 << 4;
+
+/// The most numbers of a loop's wave.
+pub const MAX_WAVE: u32 = 1 << 6;
+
+/// The greatest size of a number of a loop's wave.
+pub const MAX_DRIVE: i64 = 1 << 60;
+
 /// What a version of decks and dumps allows: the most cells of an axis, the most particles, the least
-/// and the greatest power of two of sub-cells that a side has, and the greatest number of a filter.
+/// and the greatest power of two of sub-cells that a side has, the greatest number of a filter, and the
+/// most driven loops.
 #[derive(Clone, Copy, Debug, PartialEq, Eq)]
 pub struct Allowance {
     pub cells: u32,
@@ -82,6 +92,7 @@ pub struct Allowance {
     pub least_bits: u32,
     pub greatest_bits: u32,
     pub filter: u32,
+    pub loops: u32,
 }
 
 /// What a version allows: version 1 less than the scheme, version 2 all of it.
@@ -95,6 +106,7 @@ pub fn allowance_of(version: u32) -> Allowance
             least_bits: BITS_1,
             greatest_bits: BITS_1,
             filter: 0,
+            loops: 0,
         }
     } else {
         Allowance {
@@ -103,6 +115,7 @@ pub fn allowance_of(version: u32) -> Allowance
             least_bits: MIN_BITS,
             greatest_bits: MAX_BITS,
             filter: MAX_FILTER,
+            loops: MAX_LOOPS,
         }
     }
 }

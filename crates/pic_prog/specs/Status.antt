@@ -1,7 +1,7 @@
 -- The exit status of a call.
 use Rattle.std.specs.Prelude.{◌≡◌, ℕ}
-use Rattle.pic_run.specs.declared.ended.Ended.{Ended}
-use Rattle.pic_run.specs.Ended.{status_of}
+use Rattle.pic_report.specs.declared.ended.Ended.{Ended}
+use Rattle.pic_report.specs.Ended.{status_of}
 use Rattle.pic_run.specs.Ends.{Ends}
 use Rattle.pic_run.specs.Manner.{Call}
 

@@ -6,7 +6,7 @@ ghost use Rattle.std.specs.Process.{exit_status};
 ghost use Rattle.pic_line.specs.CommandLine.{command_of};
 ghost use Rattle.pic_io.specs.Sinks.{sinks};
 ghost use Rattle.pic_prog.specs.Status.{EndsWith};
-ghost use Rattle.pic_run.specs.Ended.{status_of};
+ghost use Rattle.pic_report.specs.Ended.{status_of};
 ghost use Rattle.pic_run.specs.Manner.{call};
 
 use pic_gate::Open;

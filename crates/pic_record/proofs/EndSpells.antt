@@ -22,6 +22,7 @@ use Rattle.pic_fields.specs.Number.{is_from_to}
 use Rattle.pic_fields.proofs.Spells.{Spells}
 use Rattle.pic_fields.proofs.SpellLaws.{spells_bind, spells_mapped, spells_last, spells_checked}
 use Rattle.pic_fields.proofs.NumberLaws.{FitsU32, one_byte, spells_byte, spells_i128}
+use Rattle.pic_header.proofs.LoopSpells.{axis_back}
 use Rattle.pic_record.specs.RecordText.{phase_code, bound_code, what_code}
 use Rattle.pic_record.specs.Fields.{wrong_end, is_below}
 use Rattle.pic_record.specs.EndFields.{code_at, below_at, is_phase, phase_of, bound_of, what_of, phase_at, bound_at, what_at, axis_at}
@@ -112,12 +113,6 @@ unfolding what_at
 spells_what =
     spells_mapped what_of what_code (λ w. Unit {0}) (λ w u. what_fits w) (λ w u. what_forth w) (λ n f. tt) (λ n f. what_back n f.1)
     (spells_code (is_from_to 1 3))
-
-axis_back : (n : ℕ) → is_from_to 0 2 n ≡ true → axis_number (axis_of n) ≡ n
-axis_back zero is = refl
-axis_back (suc zero) is = refl
-axis_back (suc (suc zero)) is = refl
-axis_back (suc (suc (suc n))) is = (let h = from_to 0 2 (suc (suc (suc n))) is in absurd (omega (arith, h.1)))
 
 axis_fits : (a : Axis) → FitsByte (is_from_to 0 2) (axis_number a)
 axis_fits X = (omega arith, refl)

@@ -32,8 +32,8 @@ use Rattle.pic_record.specs.Records.{AnEnd, is_tag, last_record, behind_tag, rec
 use Rattle.pic_record.proofs.EndSpells.{FitsFieldStop, FitsPushStop, field_stop_text, push_stop_text, spells_code, spells_field_stop, spells_push_stop}
 use Rattle.pic_header.specs.Readable.{IsReadFrom}
 use Rattle.pic_record.specs.Readable.{IsPast, IsFieldStop, IsPushStop, EndsAreRead}
-use Rattle.pic_record.proofs.FitLaws.{fits_below, three_are}
-use Rattle.pic_fields.proofs.FitLaws.{fits_from_to}
+use Rattle.pic_record.proofs.FitLaws.{fits_below}
+use Rattle.pic_fields.proofs.FitLaws.{fits_from_to, three_are}
 use Rattle.pic_record.proofs.ReadableFrame.{marked, due_most}
 
 -- the parts of a stop

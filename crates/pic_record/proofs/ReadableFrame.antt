@@ -36,8 +36,8 @@ use Rattle.pic_record.specs.Spelling.{record_bytes}
 use Rattle.pic_record.proofs.FrameSpells.{FitsState, state_text, spells_state}
 use Rattle.pic_record.specs.Readable.{IsReadableField, IsReadableFrame, FramesAreRead}
 use Rattle.pic_record.proofs.EnergyLaws.{most_kept, kept_size, kinetic_fits, squares_fit}
-use Rattle.pic_record.proofs.FitLaws.{fits_below, three_are}
-use Rattle.pic_fields.proofs.FitLaws.{fits_between}
+use Rattle.pic_record.proofs.FitLaws.{fits_below}
+use Rattle.pic_fields.proofs.FitLaws.{fits_between, three_are}
 
 -- the values of a field
 abbrev FitsValue : Multiplier → List ℤ → ℤ → Type 0

@@ -29,6 +29,7 @@ use Rattle.pic_tile.specs.Frame.{AreKinds}
 use Rattle.pic_run.specs.FrameStates.{world_in}
 use Rattle.pic_run.specs.Resume.{resumed_state, carried_state}
 use Rattle.pic_run.specs.Rooms.{HasShape}
+use Rattle.pic_run.proofs.StartLaws.{loops_within}
 
 -- the species of an identity is one of those that there are
 species_below : (counts : List ℕ) (i : ℕ) → i < sum counts → species_of counts i < length counts
@@ -72,7 +73,7 @@ share_at h f are is i below =
     record { species = omega (arith, species, most, kinds); place = particle.place }
 
 -- the state of a frame from which a run can go on
-pub frame_sound : (h : HeaderView) (f : FrameView) → IsHeader h → CanGoOn (layout_of h) f → IsSound (world_in (layout_of h) f)
+pub frame_sound : (h : HeaderView) (f : FrameView) → IsHeader h → CanGoOn (layout_of h) f → IsSound (world_in h f)
 frame_sound h f are can =
     let l = layout_of h in
     let fits = layout_fits h are in
@@ -84,6 +85,7 @@ frame_sound h f are can =
       side_most = fits.side_most;
       cells = fits.cells;
       filter = fits.filter;
+      loops = loops_within h.version h.cells h.loops are.limits.loops;
       e = safe_field l l.scales.e_force f.e readable.e;
       b = safe_field l l.scales.b_force f.b readable.b;
       kinds = kinds_kept h are;
@@ -104,6 +106,7 @@ carried_is g c is =
       side = (is.header i).side;
       cells = (is.header i).cells;
       filter = (is.header i).filter;
+      loops = (is.header i).loops;
       scales = (is.header i).scales;
       kinds = (layout_of (is.header i)).kinds;
       e = (held.e i).values;

@@ -5,17 +5,17 @@ use Rattle.pic_io.specs.Told.{Told}
 use Rattle.pic_io.specs.Sinks.{Sinks}
 use Rattle.pic_io.proofs.Puts.{wrote_none}
 use Rattle.pic_line.specs.declared.asked.Command.{Command}
-use Rattle.pic_line.specs.declared.asked.Command.TheVariants.{Check, Run, Verify, Demo, Upgrade, Resume}
+use Rattle.pic_line.specs.declared.asked.Command.TheVariants.{Check, Run, Verify, Demo, Upgrade, Resume, Probe}
 use Rattle.pic_line.specs.CommandLine.{command_of}
-use Rattle.pic_run.specs.declared.ended.Ended.{Ended}
-use Rattle.pic_run.specs.declared.ended.Ended.TheVariants.{NoMemory}
+use Rattle.pic_report.specs.declared.ended.Ended.{Ended}
+use Rattle.pic_report.specs.declared.ended.Ended.TheVariants.{NoMemory}
 use Rattle.pic_run.specs.Reading.{Held}
 use Rattle.pic_run.specs.Leaves.{Fulfils}
 use Rattle.pic_run.specs.Manner.{Call, Manner, Performs}
 use Rattle.pic_run.specs.Commands.{manner_of}
 use Rattle.pic_run.specs.Ends.{MeansIn}
 use Rattle.pic_run.proofs.EndLaws.{untouched}
-use Rattle.pic_run.proofs.DeckLaws.{none_read, check_means, run_means}
+use Rattle.pic_run.proofs.DeckLaws.{none_read, check_means, run_means, probe_means}
 use Rattle.pic_run.proofs.DemoLaws.{demo_means}
 use Rattle.pic_run.proofs.VerifyLaws.{verify_starved, verify_means}
 use Rattle.pic_run.proofs.UpgradeLaws.{upgrade_starved, upgrade_means}
@@ -49,6 +49,8 @@ starved_words (Some (Demo seed workers)) source before =
     at_once (manner_of (Some (Demo seed workers))) source before refl (λ whole. absurd (whole refl)) (inl (wrote_none before))
 starved_words (Some Upgrade) source before = upgrade_starved source before
 starved_words (Some (Resume steps workers tiles)) source before = resume_starved steps tiles source before
+starved_words (Some (Probe workers)) source before =
+    at_once (manner_of (Some (Probe workers))) source before (omega arith) (none_read source _ NoMemory refl) (inl (wrote_none before))
 
 -- the outcome's answer means what the command says
 pub means_of : (k : Option Command) (c : Call) (ended : Ended) → command_of c.words ≡ k
@@ -61,3 +63,4 @@ means_of (Some Verify) c ended named p ends = verify_means c ended p ends
 means_of (Some (Demo seed workers)) c ended named p ends = demo_means seed workers c ended p ends
 means_of (Some Upgrade) c ended named p ends = upgrade_means c ended p ends
 means_of (Some (Resume steps workers tiles)) c ended named p ends = resume_means steps tiles c ended p ends
+means_of (Some (Probe workers)) c ended named p ends = probe_means workers c ended p ends

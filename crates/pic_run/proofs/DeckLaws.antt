@@ -12,30 +12,34 @@ use Rattle.pic_charge.specs.declared.breaks.Break.{Break}
 use Rattle.pic_charge.specs.Charge.{rho_of}
 use Rattle.pic_charge.proofs.BreakLaws.{first_break_some}
 use Rattle.pic_deck.specs.Deck.{DeckView}
+use Rattle.pic_deck.specs.declared.refusal.Refusal.{Refusal}
 use Rattle.pic_deck.specs.Refusal.{ReadDeck}
 use Rattle.pic_deck.specs.Reading.{walk}
+use Rattle.pic_load.specs.Loading.{loaded}
+use Rattle.pic_displace.specs.Displace.{displaced_allowed}
 use Rattle.pic_step.specs.SerialStep.{World, e_of}
 use Rattle.pic_step.specs.Sound.{IsSound}
 use Rattle.pic_step.proofs.AfterLaws.{step_after}
-use Rattle.pic_run.specs.declared.cut.Cut.{Cut}
-use Rattle.pic_run.specs.declared.early.StageStop.{StageStop}
-use Rattle.pic_run.specs.declared.early.StageStop.TheVariants.{Answer, NoMemory as StageNoMemory}
-use Rattle.pic_run.specs.declared.ended.Ended.{Ended}
-use Rattle.pic_run.specs.declared.ended.Ended.TheVariants.{Done, Stopped, NoMemory}
+use Rattle.pic_report.specs.declared.cut.Cut.{Cut}
+use Rattle.pic_run.specs.declared.stage_stop.StageStop.{StageStop}
+use Rattle.pic_run.specs.declared.stage_stop.StageStop.TheVariants.{Answer, NoMemory as StageNoMemory}
+use Rattle.pic_report.specs.declared.ended.Ended.{Ended}
+use Rattle.pic_report.specs.declared.ended.Ended.TheVariants.{Done, Stopped, NoMemory}
 use Rattle.pic_run.specs.declared.opening_deck.Opened.{Opened}
 use Rattle.pic_run.specs.DeckEnd.{DeckEnd, Unread, Unfit, Unmet, Staged, ◌>>=◌, ended_at}
-use Rattle.pic_run.specs.Ended.{ended_of}
+use Rattle.pic_report.specs.Ended.{ended_of}
 use Rattle.pic_run.specs.Frames.{end_of_run}
 use Rattle.pic_run.specs.Starting.{first_state, state_break, IsGauss}
 use Rattle.pic_run.specs.Reading.{deck_limit, Given, Held, Failed, FailedBehind, Gave}
-use Rattle.pic_run.specs.Outcome.{Outcome, answer_of, early_outcome, unless_refused, unless_gauss_fails, accepted, tested, opened, on_deck, check_outcome, run_outcome}
+use Rattle.pic_run.specs.Outcome.{Outcome, answer_of, early_outcome, unless_refused, unless_gauss_fails, unless_too_strong, accepted, gauss_tested, tested, opened, on_deck, check_outcome, run_outcome, probe_outcome}
 use Rattle.pic_run.specs.Leaves.{Leaving, ComesTo, Fulfils, LeavesNothing, LeavesWhole}
 use Rattle.pic_run.specs.Finishes.{Finishes, Announces, EndsStopped}
 use Rattle.pic_run.specs.Opened.{Opens}
 use Rattle.pic_run.specs.Manner.{Call, Performs}
-use Rattle.pic_run.specs.OnDeck.{ReadsDeck, HasDeck, IsLeastBreakOf, IsRunDone, IsStopped, RunMeans, on_given_deck}
+use Rattle.pic_run.specs.OnDeck.{ReadsDeck, HasDeck, IsRefusedSo, IsLeastBreakOf, IsRunDone, IsStopped, RunMeans, on_given_deck}
 use Rattle.pic_run.specs.Check.{CheckMeans, checking}
 use Rattle.pic_run.specs.Run.{running}
+use Rattle.pic_run.specs.Probe.{probing}
 use Rattle.pic_run.specs.Ends.{MeansIn}
 use Rattle.pic_run.proofs.EndLaws.{finished, announced, starved, fed, told_held, gave_held, gave_failed, HasFailed}
 use Rattle.pic_run.proofs.StateLaws.{each_gauss, run_ends}
@@ -116,7 +120,7 @@ on_opened performed leaves own o source source' before now finish opens ends =
 abbrev IsFrom : Given → Staged DeckView → Type 0
 IsFrom given (Ok d) = (held : List ℕ) × (given ≡ Held held) × (walk (take deck_limit held) ≡ Ok d) × (state_break (first_state d) ≡ None)
 IsFrom given (Err Unread) = HasFailed given
-IsFrom given (Err (Unfit refusal)) = (held : List ℕ) × (given ≡ Held held) × (walk (take deck_limit held) ≡ Err refusal)
+IsFrom given (Err (Unfit refusal)) = (held : List ℕ) × (given ≡ Held held) × IsRefusedSo refusal (walk (take deck_limit held))
 IsFrom given (Err (Unmet b)) =
     (held : List ℕ) × (d : DeckView) × (given ≡ Held held) × (walk (take deck_limit held) ≡ Ok d) × (state_break (first_state d) ≡ Some b)
 
@@ -130,10 +134,15 @@ from (Held held) = go (walk (take deck_limit held)) refl
     test d walked None is = (held, refl, walked, is)
     test d walked (Some b) is = (held, d, refl, walked, is)
 
+    fit : (d : DeckView) → walk (take deck_limit held) ≡ Ok d → (r : Result (Unit {0}) Refusal) → displaced_allowed d (loaded d) ≡ r
+        → IsFrom (Held held) (unless_too_strong d r >>= gauss_tested)
+    fit d walked (Err refusal) is = (held, refl, subst (IsRefusedSo refusal) (sym walked) is)
+    fit d walked (Ok _) is = test d walked (state_break (first_state d)) refl
+
     go : (w : ReadDeck) → walk (take deck_limit held) ≡ w
         → IsFrom (Held held) (unless_refused w >>= tested)
-    go (Err refusal) walked = (held, refl, walked)
-    go (Ok d) walked = test d walked (state_break (first_state d)) refl
+    go (Err refusal) walked = (held, refl, subst (IsRefusedSo refusal) (sym walked) refl)
+    go (Ok d) walked = fit d walked (displaced_allowed d (loaded d)) refl
 
 pub least_of : (w : World) (b : Break) → state_break w ≡ Some b → IsLeastBreakOf w b
 unfolding state_break
@@ -159,9 +168,9 @@ module _ (performed : DeckView → Outcome) (leaves : Leaving) (own : Call → E
     calm_out = ends.wrote.calm_out;
     calm_report = ends.wrote.calm_report;
   }
-  means_end (Unfit refusal) (held, same, walked) ends =
-      told_held (λ bytes. walk (take deck_limit bytes) ≡ Err refusal) c.source.bytes held
-      (gave_held c.source c.source_now p.read.front p.read.given held p.read.gave same) walked
+  means_end (Unfit refusal) (held, same, refused) ends =
+      told_held (λ bytes. IsRefusedSo refusal (walk (take deck_limit bytes))) c.source.bytes held
+      (gave_held c.source c.source_now p.read.front p.read.given held p.read.gave same) refused
   means_end (Unmet b) (held, d, same, walked, found) ends = record {
     deck = d;
     held = has_deck held d (λ wanted. not_wanted (Unmet b) (ends.answers ∙ wanted)) same walked;
@@ -213,3 +222,10 @@ run_means workers c ended p =
     deck_means run_outcome (LeavesWhole workers) (λ call. RunMeans (HasDeck call)) c ended p
     (λ d same. not_of_run (end_of_run d.steps (first_state d)) same)
     (λ d has sound gauss. deck_ends (HasDeck c) (MeansIn (running workers) c) (λ steps is. is) (λ step stop is. is) d has sound)
+
+pub probe_means : (workers : ℕ) (c : Call) (ended : Ended) (p : Performs (probing workers) c.source c.source_now c.sinks c.sinks_now ended)
+    → Fulfils ((probing workers).outcome p.read.given) c.sinks c.sinks_now ended → MeansIn (probing workers) c ((probing workers).outcome p.read.given).answer
+probe_means workers c ended p =
+    deck_means probe_outcome (LeavesWhole workers) (λ call. RunMeans (HasDeck call)) c ended p
+    (λ d same. not_of_run (end_of_run d.steps (first_state d)) same)
+    (λ d has sound gauss. deck_ends (HasDeck c) (MeansIn (probing workers) c) (λ steps is. is) (λ step stop is. is) d has sound)

@@ -1,21 +1,34 @@
 -- The command `demo`: how it ends, and what its answers mean.
-use Rattle.std.proofs.Common.{◌≡◌, ℕ, Option, Some, None, Result, Ok, Err, inl, refl, sym, ap, ◌∙◌, subst}
+use Rattle.std.proofs.Math.IntN.{ℤ, pos}
+use Rattle.std.proofs.Common.{◌≡◌, ℕ, List, Option, Some, None, Result, Ok, Err, inl, refl, sym, ap, ◌∙◌, subst}
+use Rattle.std.specs.Prelude.{codes}
 use Rattle.pic_io.specs.Told.{Told}
 use Rattle.pic_io.specs.Sinks.{Sinks}
 use Rattle.pic_charge.specs.declared.breaks.Break.{Break}
 use Rattle.pic_demo.specs.Demo.{demo_deck}
+use Rattle.pic_num.specs.declared.axis.Axis.{Axis}
+use Rattle.pic_num.specs.declared.motion.Particle.{Particle}
+use Rattle.pic_num.specs.Space.{Triple}
+use Rattle.pic_walk.specs.Path.{key_at}
 use Rattle.pic_deck.specs.Deck.{DeckView}
+use Rattle.pic_deck.specs.Keys.{force_allowed}
+use Rattle.pic_deck.specs.Reading.{as_read}
+use Rattle.pic_deck.proofs.ForceLaws.{no_forces, zero_set_up}
+use Rattle.pic_deck.specs.declared.refusal.Refusal.{Refusal}
+use Rattle.pic_load.specs.Loading.{loaded}
+use Rattle.pic_displace.specs.Displace.{displaced_e, displaced_allowed}
+use Rattle.pic_displace.proofs.NoneLaws.{stays}
 use Rattle.pic_step.specs.Sound.{IsSound}
-use Rattle.pic_run.specs.declared.cut.Cut.{Cut}
-use Rattle.pic_run.specs.declared.early.StageStop.{StageStop}
-use Rattle.pic_run.specs.declared.early.StageStop.TheVariants.{Answer, NoMemory as StageNoMemory}
-use Rattle.pic_run.specs.declared.ended.Ended.{Ended}
+use Rattle.pic_report.specs.declared.cut.Cut.{Cut}
+use Rattle.pic_run.specs.declared.stage_stop.StageStop.{StageStop}
+use Rattle.pic_run.specs.declared.stage_stop.StageStop.TheVariants.{Answer, NoMemory as StageNoMemory}
+use Rattle.pic_report.specs.declared.ended.Ended.{Ended}
 use Rattle.pic_run.specs.declared.opening_deck.Opened.{Opened}
-use Rattle.pic_run.specs.DeckEnd.{DeckEnd, Unmet, Staged, ended_at}
-use Rattle.pic_run.specs.Ended.{ended_of}
+use Rattle.pic_run.specs.DeckEnd.{DeckEnd, Unmet, Staged, ◌>>=◌, ended_at}
+use Rattle.pic_report.specs.Ended.{ended_of}
 use Rattle.pic_run.specs.Frames.{end_of_run}
 use Rattle.pic_run.specs.Starting.{first_state, state_break}
-use Rattle.pic_run.specs.Outcome.{early_outcome, unless_gauss_fails, tested, demonstrated, on_deck, demo_outcome}
+use Rattle.pic_run.specs.Outcome.{early_outcome, unless_gauss_fails, unless_too_strong, gauss_tested, tested, demonstrated, on_deck, demo_outcome}
 use Rattle.pic_run.specs.Leaves.{ComesTo, Fulfils, LeavesWhole}
 use Rattle.pic_run.specs.Finishes.{Finishes, Announces, EndsStopped}
 use Rattle.pic_run.specs.Opened.{Tests}
@@ -57,13 +70,25 @@ shown seed workers o source before now finish is ends = record {
       (finished (LeavesWhole workers) (demo_outcome o.deck) before now finish ends);
 }
 
+-- a demonstration displaces no species, and begins with no field: so none is too strong
+no_e : (seed : ℕ) (particles : List Particle) (a : Axis) (p : Triple) → displaced_e (demo_deck seed) particles a p ≡ pos 0
+no_e seed particles a p = let d = demo_deck seed in stays d particles refl a p ∙ zero_set_up d.e d.edges refl refl a p
+
+demo_fits : (seed : ℕ) → displaced_allowed (demo_deck seed) (loaded (demo_deck seed)) ≡ Ok tt
+unfolding as_read force_allowed
+demo_fits seed =
+    let d = demo_deck seed in
+    ap (λ (o : Option ℤ). as_read (force_allowed (key_at (codes "scale") (codes "e_force")) o))
+    (no_forces d.cells d.scales.e_force (displaced_e d (loaded d)) (no_e seed (loaded d)))
+
 -- where the value of a deck's test comes from
 abbrev IsTestOf : DeckView → Staged DeckView → Type 0
 IsTestOf d (Ok other) = other ≡ d
 IsTestOf d (Err end) = (b : Break) × (Unmet b ≡ end) × (state_break (first_state d) ≡ Some b)
 
-test_of : (d : DeckView) → IsTestOf d (tested d)
-test_of d = go (state_break (first_state d)) refl
+test_of : (d : DeckView) → displaced_allowed d (loaded d) ≡ Ok tt → IsTestOf d (tested d)
+test_of d fit =
+    subst (λ (r : Result (Unit {0}) Refusal). IsTestOf d (unless_too_strong d r >>= gauss_tested)) (sym fit) (go (state_break (first_state d)) refl)
   where
     go : (found : Option Break) → state_break (first_state d) ≡ found → IsTestOf d (unless_gauss_fails d found)
     go None is = refl
@@ -71,7 +96,7 @@ test_of d = go (state_break (first_state d)) refl
 
 demo_of : (seed : ℕ) → IsTestOf (demo_deck seed) (demonstrated seed)
 unfolding demonstrated
-demo_of seed = test_of (demo_deck seed)
+demo_of seed = test_of (demo_deck seed) (demo_fits seed)
 
 pub demo_means : (seed workers : ℕ) (c : Call) (ended : Ended) (p : Performs (demonstrating seed workers) c.source c.source_now c.sinks c.sinks_now ended)
     → Fulfils (on_deck demo_outcome (demonstrated seed)) c.sinks c.sinks_now ended

@@ -5,11 +5,11 @@ use Rattle.pic_io.specs.Told.{Told, Rose}
 use Rattle.pic_io.specs.Sinks.{Sinks}
 use Rattle.pic_io.specs.declared.side.Side.{Side}
 use Rattle.pic_dump.proofs.UntakenLaws.{with_front_nil}
-use Rattle.pic_run.specs.declared.cut.Cut.{Cut}
-use Rattle.pic_run.specs.declared.cut.Cut.TheVariants as cut
-use Rattle.pic_run.specs.declared.ended.Ended.{Ended}
-use Rattle.pic_run.specs.declared.ended.Ended.TheVariants.{WriteFault, NoMemory}
-use Rattle.pic_run.specs.Ended.{ended_of}
+use Rattle.pic_report.specs.declared.cut.Cut.{Cut}
+use Rattle.pic_report.specs.declared.cut.Cut.TheVariants as cut
+use Rattle.pic_report.specs.declared.ended.Ended.{Ended}
+use Rattle.pic_report.specs.declared.ended.Ended.TheVariants.{WriteFault, NoMemory}
+use Rattle.pic_report.specs.Ended.{ended_of}
 use Rattle.pic_run.specs.Outcome.{Outcome}
 use Rattle.pic_run.specs.Reading.{Given, Held, Failed, FailedBehind, Gave, Reading}
 use Rattle.pic_run.specs.Leaves.{Leaving, ComesTo}

@@ -1,24 +1,31 @@
 -- The frames of a run, one after another: those of its states that are due.
 use Rattle.std.proofs.Common.{◌≡◌, ℕ, zero, suc, ◌+◌, ◌-◌, ◌%◌, ◌<◌, ◌≤◌, ◌==◌, ◌||◌, Bool, true, false, if◌then◌else◌, Result, List, [], ◌∷◌, ◌++◌}
 use Rattle.std.proofs.Common.{length, take, map, Ok, Err, refl, sym, ap, ◌∙◌, subst, arith, append-nil, zero-add, length-append}
-use Rattle.std.specs.List.{flat_map, range_with_len}
+use Rattle.std.specs.Prelude.{codes}
+use Rattle.std.specs.List.{flat_map, range_with_len, join_by}
 use Rattle.std.proofs.lemmas.Bool.{eq-eqb}
 use Rattle.std.proofs.lemmas.Grind.{flat_map-append}
 use Rattle.std.proofs.lemmas.List.{map-append, length-map}
 use Rattle.std.proofs.Math.Nat.{zero-mod}
 use Rattle.std.proofs.Math.Seq.{take-append_seam}
 use Rattle.pic_io.specs.declared.side.Side.{Side}
-use Rattle.pic_io.specs.Sinks.{Sinks, Wrote, Piece, outs, lines, CutAt}
-use Rattle.pic_io.proofs.Puts.{wrote_twice, cut_more, cut_later}
+use Rattle.pic_io.specs.Told.{Told, Calm}
+use Rattle.pic_io.specs.Sink.{Appended}
+use Rattle.pic_io.specs.Sinks.{Sinks, sinks, Wrote, Writes, Piece, outs, lines, CutAt}
+use Rattle.pic_io.proofs.Puts.{wrote_out, wrote_twice, cut_more, cut_later}
 use Rattle.pic_grid.specs.declared.stop.EndMark.{EndMark}
 use Rattle.pic_grid.specs.declared.stop.EndMark.TheVariants.{Done, Stopped}
 use Rattle.pic_grid.specs.declared.stop.Stop.{Stop}
-use Rattle.pic_step.specs.SerialStep.{World, stepped}
+use Rattle.pic_grid.specs.Lattice.{value_at}
+use Rattle.pic_devices.specs.declared.probes.Probes.{Probes}
+use Rattle.pic_probe.specs.ProbeLine.{columns, probe_line}
+use Rattle.pic_step.specs.SerialStep.{World, e_of, b_of, stepped}
 use Rattle.pic_step.specs.SerialRun.{after, step_from, stopped_in}
 use Rattle.pic_step.proofs.AfterLaws.{after_plus, step_after, after_stays}
 use Rattle.pic_record.specs.Due.{is_due}
-use Rattle.pic_run.specs.declared.ended.Ended.TheVariants as ended
+use Rattle.pic_report.specs.declared.ended.Ended.TheVariants as ended
 use Rattle.pic_run.specs.declared.output.Output.{Output}
+use Rattle.pic_run.specs.declared.output.Output.TheVariants.{Probe}
 use Rattle.pic_run.specs.Frames.{frame_piece, due_state, due_states, frames_of, frames_behind, end_where, end_of_run, DueStatesJoin, EndsJoin}
 use Rattle.pic_run.specs.Outcome.{answer_of}
 use Rattle.pic_run.specs.Leaves.{HasFrames}
@@ -270,3 +277,20 @@ pub done_written : (output : Output) (steps every : ℕ) (w v : World) (a b : Si
     → WroteStates output a b (due_states steps every w 1 (steps - w.step))
     → WroteFrames (frames_behind output steps every w) (end_of_run (steps - w.step) w) (Done v.step) a b
 done_written output steps every w v a b reached wrote = record { ends = end_done (steps - w.step) w v reached; wrote = wrote }
+
+-- what is put of a state by an output of the same value
+pub put_as : {T : Type 0} (a b : Sinks) (w : World) (o p : Output) (result : Result T Side) → o ≡ p → Writes a b (frame_piece p w ∷ []) result
+    → Writes a b (frame_piece o w ∷ []) result
+put_as a b w o p result is = subst (λ (q : Output). Writes a b (frame_piece q w ∷ []) result) (sym is)
+
+-- a line on out alone
+pub line_wrote : (o p r : Told) (text : List ℕ) → Appended o p text → Calm o p
+    → Wrote (sinks o r) (sinks p r) (outs (record { out = text; line = [] } ∷ [])) (lines (record { out = text; line = [] } ∷ []))
+line_wrote o p r text put calm = subst (λ (t : List ℕ). Wrote (sinks o r) (sinks p r) t []) (sym (append-nil text)) (wrote_out o p r text put calm)
+
+-- what probes see of a state isn't empty
+pub sight_some : (probes : Probes) (w : World) → 0 < length (frame_piece (Probe probes) w).out
+unfolding frame_piece probe_line
+sight_some probes w =
+    let text = join_by (λ (column : List ℕ). column) (codes " ") (columns probes w.step (value_at (e_of w)) (value_at (b_of w)) w.particles) in
+    omega (arith, length-append text (codes "\n"))

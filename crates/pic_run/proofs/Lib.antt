@@ -1,8 +1,8 @@
 pub mod FrameLaws
 pub mod StateLaws
 pub mod StartLaws
+pub mod DisplacedLaws
 pub mod RunLaws
-pub mod PrintedLaws
 pub mod OpenedLaws
 pub mod TakenLaws
 pub mod WorkerLaws

@@ -6,8 +6,8 @@ use Rattle.pic_io.specs.declared.side.Side.{Side}
 use Rattle.pic_io.specs.declared.side.Side.TheVariants.{Out, Report}
 use Rattle.pic_io.proofs.Puts.{cut_failed}
 use Rattle.pic_line.specs.CommandLine.{command_of}
-use Rattle.pic_run.specs.declared.ended.Ended.{Ended}
-use Rattle.pic_run.specs.declared.ended.Ended.TheVariants.{NoMemory}
+use Rattle.pic_report.specs.declared.ended.Ended.{Ended}
+use Rattle.pic_report.specs.declared.ended.Ended.TheVariants.{NoMemory}
 use Rattle.pic_run.specs.Reading.{Given, Held, Failed, FailedBehind, Gave}
 use Rattle.pic_run.specs.Outcome.{Outcome, pieces_of}
 use Rattle.pic_run.specs.Leaves.{Leaving, Fulfils, ComesTo}

@@ -5,7 +5,15 @@ use Rattle.std.proofs.lemmas.List.{length-take}
 use Rattle.pic_io.specs.Source.{IsAtEnd}
 use Rattle.pic_io.specs.Told.{Told, Calm}
 use Rattle.pic_charge.specs.declared.breaks.Break.{Break}
-use Rattle.pic_deck.specs.Deck.{DeckView}
+use Rattle.pic_num.specs.declared.motion.Particle.{Particle}
+use Rattle.pic_grid.specs.Lattice.{Field}
+use Rattle.pic_deck.specs.Deck.{DeckView, IsWithinLimits}
+use Rattle.pic_deck.specs.declared.refusal.Refusal.{Refusal}
+use Rattle.pic_devices.specs.Probes.{AreProbes}
+use Rattle.pic_load.specs.Loading.{loaded, AreLoaded}
+use Rattle.pic_displace.specs.declared.fault.DisplaceFault.{DisplaceFault}
+use Rattle.pic_displace.specs.declared.fault.DisplaceFault.TheVariants as displace_fault
+use Rattle.pic_displace.specs.Displace.{displaced_allowed, Displaces}
 use Rattle.pic_deck.specs.declared.refusal.DeckFault.{DeckFault}
 use Rattle.pic_deck.specs.declared.refusal.DeckFault.TheVariants as deck_fault
 use Rattle.pic_deck.specs.Refusal.{ReadDeck, ReadsAs}
@@ -15,18 +23,20 @@ use Rattle.pic_step.specs.SerialStep.{World}
 use Rattle.pic_step.specs.Kept.{AreTiled}
 use Rattle.pic_step.specs.Sound.{IsSound}
 use Rattle.pic_step.specs.Start.{begun}
-use Rattle.pic_run.specs.declared.early.Early.TheVariants.{Gauss}
-use Rattle.pic_run.specs.declared.early.StageStop.{StageStop}
-use Rattle.pic_run.specs.declared.early.StageStop.TheVariants.{Answer, NoMemory}
+use Rattle.pic_report.specs.declared.early.Early.TheVariants.{Refused, Gauss}
+use Rattle.pic_run.specs.declared.stage_stop.StageStop.{StageStop}
+use Rattle.pic_run.specs.declared.stage_stop.StageStop.TheVariants.{Answer, NoMemory}
+use Rattle.pic_run.specs.declared.output.Output.TheVariants.{Probe}
 use Rattle.pic_run.specs.declared.opening_deck.Opened.{Opened}
 use Rattle.pic_run.specs.declared.source_reader.SourceStop.{SourceStop}
 use Rattle.pic_run.specs.declared.source_reader.SourceStop.TheVariants as source_stop
 use Rattle.pic_run.specs.DeckEnd.{Unread, Unfit, Unmet, Staged, ◌>>=◌}
-use Rattle.pic_run.specs.Early.{stop_of_reading, stop_of_deck}
+use Rattle.pic_run.specs.Stops.{stop_of_reading, stop_of_deck, stop_of_displace}
 use Rattle.pic_run.specs.Opened.{IsTested, IsEndOf, Tests, Opens}
-use Rattle.pic_run.specs.Outcome.{accepted, tested, opened, unless_refused, unless_gauss_fails}
+use Rattle.pic_run.specs.Outcome.{accepted, gauss_tested, tested, opened, unless_refused, unless_gauss_fails, unless_too_strong}
 use Rattle.pic_run.specs.Reading.{deck_limit, Given, Held, Failed, Gave, Reading, TakesOfDeck, TakesAtMost, ReadsAll, TookAll}
-use Rattle.pic_run.specs.Starting.{first_state, state_break}
+use Rattle.pic_run.specs.Starting.{displaced_start, first_state, state_break}
+use Rattle.pic_run.specs.Rooms.{CanPut}
 
 -- what a source holds, where it tells its bytes
 pub gave_known : (a b : Told) (front : List ℕ) → Calm a b → Gave a b front (Held (unwrap_or a.bytes []))
@@ -90,9 +100,8 @@ walked a b limit bytes is took w e =
 accepted_as : (held : List ℕ) (w : ReadDeck) → walk (take deck_limit held) ≡ w → accepted (Held held) ≡ unless_refused w
 accepted_as held w e = ap unless_refused e
 
-opened_as : (held : List ℕ) (w : ReadDeck) → walk (take deck_limit held) ≡ w
-    → opened (Held held) ≡ unless_refused w >>= (λ d. unless_gauss_fails d (state_break (first_state d)))
-opened_as held w e = ap (λ (s : Staged DeckView). s >>= (λ d. unless_gauss_fails d (state_break (first_state d)))) (accepted_as held w e)
+opened_as : (held : List ℕ) (w : ReadDeck) → walk (take deck_limit held) ≡ w → opened (Held held) ≡ unless_refused w >>= tested
+opened_as held w e = ap (λ (s : Staged DeckView). s >>= tested) (accepted_as held w e)
 
 -- a text that is no accepted deck
 pub refused : (fault : DeckFault) (a b : Told) (limit : ℕ) (bytes : List ℕ) → limit ≡ deck_limit → TakesAtMost limit a b → TookAll a b limit bytes
@@ -119,6 +128,7 @@ read_and_tested a b limit bytes d (Ok o) is t took walks tests = record {
     start = tests.start;
     sound = tests.sound;
     tiled = tests.tiled;
+    probes = tests.probes;
     end = took.end (short_deck bytes d limit is walks);
   };
 }
@@ -136,19 +146,44 @@ read_and_tested a b limit bytes d (Err (Answer why)) is t took walks tests = rec
 }
 read_and_tested a b limit bytes d (Err NoMemory) is t took walks tests = starved a b limit bytes is t took
 
+-- a deck whose displaced start is too strong
+pub too_strong : (d : DeckView) (refusal : Refusal) → displaced_allowed d (loaded d) ≡ Err refusal → IsEndOf (tested d) (Refused refusal)
+too_strong d refusal strong = record {
+  end = Unfit refusal;
+  is = ap (λ (r : Result (Unit {0}) Refusal). unless_too_strong d r >>= gauss_tested) strong;
+  answer = refl;
+}
+
+-- so a displaced start stops the stages of a deck
+pub not_displaced : (fault : DisplaceFault) (d : DeckView) (particles : List Particle) (old new : Field) → particles ≡ loaded d
+    → Displaces d particles old new (Err fault) → Tests d (Err (stop_of_displace fault))
+not_displaced (displace_fault.Refused refusal) d particles old new same displaces =
+    too_strong d refusal (subst (λ (ps : List Particle). displaced_allowed d ps ≡ Err refusal) same displaces.1)
+not_displaced displace_fault.NoMemory d particles old new same displaces = tt
+
 -- a deck that can be run, and one that doesn't meet Gauss's law
-pub ready : (o : Opened) → begun o.start ≡ first_state o.deck → IsSound (begun o.start) → AreTiled o.start.setup.map o.start.e o.start.b
-    → state_break (begun o.start) ≡ None → IsTested o.deck o
-ready o start sound tiled none = record {
-  deck = ap (unless_gauss_fails o.deck) (ap state_break (sym start) ∙ none);
+after_displaced : (d : DeckView) (s : Staged DeckView) → displaced_allowed d (loaded d) ≡ Ok tt → gauss_tested d ≡ s → tested d ≡ s
+after_displaced d s fit is = ap (λ (r : Result (Unit {0}) Refusal). unless_too_strong d r >>= gauss_tested) fit ∙ is
+
+pub ready : (o : Opened) → displaced_allowed o.deck (loaded o.deck) ≡ Ok tt → begun o.start ≡ first_state o.deck → IsSound (begun o.start)
+    → AreTiled o.start.setup.map o.start.e o.start.b → CanPut (Probe o.deck.probes) (begun o.start) → state_break (begun o.start) ≡ None → IsTested o.deck o
+ready o fit start sound tiled probes none = record {
+  deck = after_displaced o.deck (Ok o.deck) fit (ap (unless_gauss_fails o.deck) (ap state_break (sym start) ∙ none));
   start = start;
   sound = sound;
   tiled = tiled;
+  probes = probes;
 }
 
-pub broken : (d : DeckView) (w : World) (at : Break) → w ≡ first_state d → state_break w ≡ Some at → IsEndOf (tested d) (Gauss at)
-broken d w at start found = record {
+pub broken : (d : DeckView) (w : World) (at : Break) → displaced_allowed d (loaded d) ≡ Ok tt → w ≡ first_state d → state_break w ≡ Some at
+    → IsEndOf (tested d) (Gauss at)
+broken d w at fit start found = record {
   end = Unmet at;
-  is = ap (unless_gauss_fails d) (ap state_break (sym start) ∙ found);
+  is = after_displaced d (Err (Unmet at)) fit (ap (unless_gauss_fails d) (ap state_break (sym start) ∙ found));
   answer = refl;
 }
+
+-- the probes of a deck are those of its first state
+pub probes_fit : (d : DeckView) (particles : List Particle) → IsWithinLimits d → AreLoaded d particles
+    → CanPut (Probe d.probes) (displaced_start d particles)
+probes_fit d particles limits loaded = subst (λ (count : ℕ). AreProbes d.cells count d.probes) (sym loaded.count) limits.probes

@@ -29,16 +29,17 @@ use Rattle.pic_resume.specs.Carries.{Finds, GivesRun, FailsToRead, FailsToPut, P
 use Rattle.pic_step.specs.SerialStep.{World}
 use Rattle.pic_step.specs.SerialRun.{after}
 use Rattle.pic_step.proofs.AfterLaws.{step_after}
-use Rattle.pic_run.specs.declared.cut.Cut.{Cut}
-use Rattle.pic_run.specs.declared.cut.Cut.TheVariants as cut
-use Rattle.pic_run.specs.declared.early.Early.{Early}
-use Rattle.pic_run.specs.declared.early.Early.TheVariants as why_early
-use Rattle.pic_run.specs.declared.ended.Ended.{Ended}
-use Rattle.pic_run.specs.declared.ended.Ended.TheVariants.{Refused, ReadFault, WriteFault, NoMemory}
+use Rattle.pic_report.specs.declared.cut.Cut.{Cut}
+use Rattle.pic_report.specs.declared.cut.Cut.TheVariants as cut
+use Rattle.pic_report.specs.declared.early.Early.{Early}
+use Rattle.pic_report.specs.declared.early.Early.TheVariants as why_early
+use Rattle.pic_report.specs.declared.ended.Ended.{Ended}
+use Rattle.pic_report.specs.declared.ended.Ended.TheVariants.{Refused, ReadFault, WriteFault, NoMemory}
 use Rattle.pic_run.specs.declared.output.Output.TheVariants.{Dump}
-use Rattle.pic_run.specs.Early.{ended_early, early_of_carry}
-use Rattle.pic_run.specs.Ended.{ended_of}
-use Rattle.pic_run.specs.Lines.{early_line}
+use Rattle.pic_report.specs.Early.{ended_early}
+use Rattle.pic_run.specs.Stops.{early_of_carry}
+use Rattle.pic_report.specs.Ended.{ended_of}
+use Rattle.pic_report.specs.Lines.{early_line}
 use Rattle.pic_run.specs.Reading.{Given, Held, Failed, FailedBehind, Gave}
 use Rattle.pic_run.specs.Frames.{frames_behind, end_of_run, end_piece}
 use Rattle.pic_run.specs.Outcome.{with_head, pieces_of, answer_of, states_outcome, told_outcome, early_outcome}

@@ -9,9 +9,9 @@ use Rattle.pic_io.specs.Sink.{AppendedFront}
 use Rattle.pic_io.specs.Sinks.{Sinks, sinks, Wrote, Piece, outs, lines, CutAt}
 use Rattle.pic_io.proofs.Puts.{wrote_twice, cut_from, cut_more, cut_later, cut_out}
 use Rattle.pic_grid.specs.declared.stop.EndMark.{EndMark}
-use Rattle.pic_run.specs.declared.cut.Cut.{Cut}
-use Rattle.pic_run.specs.declared.cut.Cut.TheVariants.{Write, NoMemory}
-use Rattle.pic_run.specs.declared.ended.Ended.{Ended}
+use Rattle.pic_report.specs.declared.cut.Cut.{Cut}
+use Rattle.pic_report.specs.declared.cut.Cut.TheVariants.{Write, NoMemory}
+use Rattle.pic_report.specs.declared.ended.Ended.{Ended}
 use Rattle.pic_run.specs.declared.output.Output.{Output}
 use Rattle.pic_run.specs.Frames.{end_piece}
 use Rattle.pic_run.specs.Outcome.{Outcome, with_head, answer_of, states_outcome, told_outcome}

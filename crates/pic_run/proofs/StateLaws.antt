@@ -7,8 +7,8 @@ use Rattle.pic_step.specs.SerialStep.{World, stepped}
 use Rattle.pic_step.specs.SerialRun.{after, step_from, stopped_in}
 use Rattle.pic_step.specs.Sound.{IsSound}
 use Rattle.pic_step.proofs.AfterLaws.{after_sound}
-use Rattle.pic_run.specs.declared.ended.Ended.{Ended}
-use Rattle.pic_run.specs.declared.ended.Ended.TheVariants as ended
+use Rattle.pic_report.specs.declared.ended.Ended.{Ended}
+use Rattle.pic_report.specs.declared.ended.Ended.TheVariants as ended
 use Rattle.pic_run.specs.Frames.{end_where, end_of_run}
 use Rattle.pic_run.specs.Outcome.{answer_of}
 use Rattle.pic_run.specs.Starting.{EachGauss}

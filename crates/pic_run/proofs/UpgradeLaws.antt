@@ -15,11 +15,11 @@ use Rattle.pic_dump.specs.Upgrade.{Answer, Puts, FailsToRead, FailsToPut, PutsNo
 use Rattle.pic_dump.specs.Allowed.{TakesAllowed, TakesHeader}
 use Rattle.pic_dump.specs.Whole.{Parts, dump_parts, parts_in, TakesWhole}
 use Rattle.pic_dump.proofs.UntakenLaws.{none_allowed, none_header}
-use Rattle.pic_run.specs.declared.cut.Cut.{Cut}
-use Rattle.pic_run.specs.declared.cut.Cut.TheVariants as cut
-use Rattle.pic_run.specs.declared.ended.Ended.{Ended}
-use Rattle.pic_run.specs.declared.ended.Ended.TheVariants.{Upgraded, BadDump, ReadFault, NoMemory}
-use Rattle.pic_run.specs.Ended.{ended_of}
+use Rattle.pic_report.specs.declared.cut.Cut.{Cut}
+use Rattle.pic_report.specs.declared.cut.Cut.TheVariants as cut
+use Rattle.pic_report.specs.declared.ended.Ended.{Ended}
+use Rattle.pic_report.specs.declared.ended.Ended.TheVariants.{Upgraded, BadDump, ReadFault, NoMemory}
+use Rattle.pic_report.specs.Ended.{ended_of}
 use Rattle.pic_run.specs.Reading.{Given, Held, Failed, FailedBehind, Gave, Reading, TakesOfDump}
 use Rattle.pic_run.specs.Leaves.{ComesTo, Fulfils, LeavesNothing}
 use Rattle.pic_run.specs.Finishes.{Announces}

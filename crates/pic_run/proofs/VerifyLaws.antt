@@ -12,11 +12,11 @@ use Rattle.pic_dump.specs.Allowed.{TakesAllowed, TakesHeader}
 use Rattle.pic_verify.specs.Reached.{TakesToRecord}
 use Rattle.pic_verify.specs.Verified.{Verdict, verified}
 use Rattle.pic_verify.specs.Verifies.{Finds, Verifies}
-use Rattle.pic_run.specs.declared.cut.Cut.{Cut}
-use Rattle.pic_run.specs.declared.ended.Ended.{Ended}
-use Rattle.pic_run.specs.declared.ended.Ended.TheVariants.{Verified, ReadFault, NoMemory}
-use Rattle.pic_run.specs.Early.{stop_of_verify}
-use Rattle.pic_run.specs.Ended.{ended_of}
+use Rattle.pic_report.specs.declared.cut.Cut.{Cut}
+use Rattle.pic_report.specs.declared.ended.Ended.{Ended}
+use Rattle.pic_report.specs.declared.ended.Ended.TheVariants.{Verified, ReadFault, NoMemory}
+use Rattle.pic_run.specs.Stops.{stop_of_verify}
+use Rattle.pic_report.specs.Ended.{ended_of}
 use Rattle.pic_run.specs.Reading.{Given, Held, Failed, FailedBehind, Gave, Reading}
 use Rattle.pic_run.specs.Outcome.{verdict_on, verdict_outcome}
 use Rattle.pic_run.specs.Leaves.{ComesTo, Fulfils, LeavesNothing}

@@ -6,7 +6,7 @@ use Rattle.std.specs.Prelude.{codes}
 use Rattle.clap.specs.Words.{fault_of, subcommand_of}
 use Rattle.pic_crew.specs.Teams.{most_workers}
 use Rattle.pic_line.specs.declared.asked.Command.{Command}
-use Rattle.pic_line.specs.declared.asked.Command.TheVariants.{Check, Run, Verify, Demo, Upgrade, Resume}
+use Rattle.pic_line.specs.declared.asked.Command.TheVariants.{Check, Run, Verify, Demo, Upgrade, Resume, Probe}
 use Rattle.pic_line.specs.CommandLine.{pic_app, number_in, workers_in, seed_in, steps_in, tiles_in, demo_of, resume_of, command_from, unless_fault, command_of}
 
 -- so many workers
@@ -36,6 +36,7 @@ abbrev HasWorkers : Command → Type 0
 HasWorkers (Run workers) = AreWorkers workers
 HasWorkers (Demo seed workers) = AreWorkers workers
 HasWorkers (Resume steps workers tiles) = AreWorkers workers
+HasWorkers (Probe workers) = AreWorkers workers
 HasWorkers c = ⊤
 
 plain : (d c : Command) → HasWorkers d → ◌≡◌ {A = Option Command} (Some d) (Some c) → HasWorkers c
@@ -56,20 +57,25 @@ resume_has (Some m) (Some n) None c all h = absurd (cc)
 resume_has (Some m) None ts c all h = absurd (cc)
 resume_has None o ts c all h = absurd (cc)
 
-named : (a b d e u f : Bool) (s o m : Option ℕ) (ts : Option (List ℕ)) (c : Command) → ((n : ℕ) → o ≡ Some n → AreWorkers n)
+probe_has : (o : Option ℕ) (c : Command) → ((n : ℕ) → o ≡ Some n → AreWorkers n) → option_map Probe o ≡ Some c → HasWorkers c
+probe_has (Some n) c all h = plain (Probe n) c (all n refl) h
+probe_has None c all h = absurd (cc)
+
+named : (a b d e u f v : Bool) (s o m : Option ℕ) (ts : Option (List ℕ)) (c : Command) → ((n : ℕ) → o ≡ Some n → AreWorkers n)
     → cond a (Some Check) (cond b (option_map Run o) (cond d (Some Verify) (cond e (demo_of s o) (cond u (Some Upgrade)
-    (cond f (resume_of m o ts) None))))) ≡ Some c → HasWorkers c
-named true b d e u f s o m ts c all h = plain Check c tt h
-named false true d e u f s o m ts c all h = run_has o c all h
-named false false true e u f s o m ts c all h = plain Verify c tt h
-named false false false true u f s o m ts c all h = demo_has s o c all h
-named false false false false true f s o m ts c all h = plain Upgrade c tt h
-named false false false false false true s o m ts c all h = resume_has m o ts c all h
-named false false false false false false s o m ts c all h = absurd (cc)
+    (cond f (resume_of m o ts) (cond v (option_map Probe o) None)))))) ≡ Some c → HasWorkers c
+named true b d e u f v s o m ts c all h = plain Check c tt h
+named false true d e u f v s o m ts c all h = run_has o c all h
+named false false true e u f v s o m ts c all h = plain Verify c tt h
+named false false false true u f v s o m ts c all h = demo_has s o c all h
+named false false false false true f v s o m ts c all h = plain Upgrade c tt h
+named false false false false false true v s o m ts c all h = resume_has m o ts c all h
+named false false false false false false true s o m ts c all h = probe_has o c all h
+named false false false false false false false s o m ts c all h = absurd (cc)
 
 from : (o : _) (c : Command) → command_from o ≡ Some c → HasWorkers c
 from None c h = plain Check c tt h
-from (Some (name, rows)) c h = named _ _ _ _ _ _ (seed_in rows) (workers_in rows) (steps_in rows) (tiles_in rows) c (λ n. found _ n) h
+from (Some (name, rows)) c h = named _ _ _ _ _ _ _ (seed_in rows) (workers_in rows) (steps_in rows) (tiles_in rows) c (λ n. found _ n) h
 
 without_fault : (kinds : _) (o : _) (c : Command) → unless_fault kinds (command_from o) ≡ Some c → HasWorkers c
 without_fault [] o c h = from o c h
@@ -87,3 +93,6 @@ demo_workers words seed n h = has_workers words (Demo seed n) h
 
 pub resume_workers : (words : List (List ℕ)) (steps n : ℕ) (tiles : List ℕ) → command_of words ≡ Some (Resume steps n tiles) → AreWorkers n
 resume_workers words steps n tiles h = has_workers words (Resume steps n tiles) h
+
+pub probe_workers : (words : List (List ℕ)) (n : ℕ) → command_of words ≡ Some (Probe n) → AreWorkers n
+probe_workers words n h = has_workers words (Probe n) h

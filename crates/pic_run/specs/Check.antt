@@ -2,8 +2,8 @@
 use Rattle.std.specs.Prelude.{◌≡◌, ℕ, length}
 use Rattle.pic_deck.specs.Deck.{DeckView}
 use Rattle.pic_load.specs.Loading.{loaded}
-use Rattle.pic_run.specs.declared.ended.Ended.{Ended}
-use Rattle.pic_run.specs.declared.ended.Ended.TheVariants.{Checked}
+use Rattle.pic_report.specs.declared.ended.Ended.{Ended}
+use Rattle.pic_report.specs.declared.ended.Ended.TheVariants.{Checked}
 use Rattle.pic_run.specs.Starting.{first_state, IsGauss}
 use Rattle.pic_run.specs.Outcome.{check_outcome}
 use Rattle.pic_run.specs.Leaves.{LeavesNothing}

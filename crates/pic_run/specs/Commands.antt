@@ -1,9 +1,9 @@
 -- The commands, each as what it does.
 use Rattle.std.specs.Prelude.{◌≡◌, ⊤, ℕ, List, Option, Some, None}
 use Rattle.pic_line.specs.declared.asked.Command.{Command}
-use Rattle.pic_line.specs.declared.asked.Command.TheVariants.{Check, Run, Verify, Demo, Upgrade, Resume}
+use Rattle.pic_line.specs.declared.asked.Command.TheVariants.{Check, Run, Verify, Demo, Upgrade, Resume, Probe}
 use Rattle.pic_line.specs.CommandLine.{command_of}
-use Rattle.pic_run.specs.declared.ended.Ended.TheVariants.{Usage}
+use Rattle.pic_report.specs.declared.ended.Ended.TheVariants.{Usage}
 use Rattle.pic_run.specs.Reading.{Given}
 use Rattle.pic_run.specs.Outcome.{Outcome, early_outcome}
 use Rattle.pic_run.specs.Leaves.{LeavesNothing}
@@ -14,6 +14,7 @@ use Rattle.pic_run.specs.Verify.{verifying}
 use Rattle.pic_run.specs.Demo.{demonstrating}
 use Rattle.pic_run.specs.Upgrade.{upgrading}
 use Rattle.pic_run.specs.Resume.{resuming}
+use Rattle.pic_run.specs.Probe.{probing}
 
 -- words that are no command: nothing is taken, and the usage is told
 abbrev pub no_command : Manner
@@ -33,6 +34,7 @@ manner_of (Some Verify) = verifying
 manner_of (Some (Demo seed workers)) = demonstrating seed workers
 manner_of (Some Upgrade) = upgrading
 manner_of (Some (Resume steps workers tiles)) = resuming steps tiles
+manner_of (Some (Probe workers)) = probing workers
 
 -- the outcome of some words, for what the source gave
 unfoldable pub outcome : List (List ℕ) → Given → Outcome

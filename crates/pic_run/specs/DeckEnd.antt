@@ -2,11 +2,11 @@
 use Rattle.std.specs.Prelude.{Result, Ok, Err}
 use Rattle.pic_charge.specs.declared.breaks.Break.{Break}
 use Rattle.pic_deck.specs.declared.refusal.Refusal.{Refusal}
-use Rattle.pic_run.specs.declared.ended.Ended.{Ended}
-use Rattle.pic_run.specs.declared.ended.Ended.TheVariants.{Refused, Gauss, ReadFault}
+use Rattle.pic_report.specs.declared.ended.Ended.{Ended}
+use Rattle.pic_report.specs.declared.ended.Ended.TheVariants.{Refused, Gauss, ReadFault}
 
--- why a deck isn't run: a read failed; its walk refuses it so; or this is the least node where its E and
--- its charge don't meet Gauss's law
+-- why a deck isn't run: a read failed; its walk or its displaced start refuses it so; or this is the least
+-- node where its E and its charge don't meet Gauss's law
 pub data DeckEnd : Type 0 where
   Unread : DeckEnd
   Unfit : Refusal → DeckEnd

@@ -3,8 +3,8 @@ use Rattle.std.specs.Prelude.{◌≡◌, ◌≢◌, ℕ, Ok}
 use Rattle.pic_deck.specs.Deck.{DeckView}
 use Rattle.pic_demo.specs.Demo.{demo_deck}
 use Rattle.pic_step.specs.Sound.{IsSound}
-use Rattle.pic_run.specs.declared.ended.Ended.{Ended}
-use Rattle.pic_run.specs.declared.ended.Ended.TheVariants.{Gauss, NoMemory}
+use Rattle.pic_report.specs.declared.ended.Ended.{Ended}
+use Rattle.pic_report.specs.declared.ended.Ended.TheVariants.{Gauss, NoMemory}
 use Rattle.pic_run.specs.Starting.{first_state}
 use Rattle.pic_run.specs.Outcome.{on_deck, demo_outcome, demonstrated}
 use Rattle.pic_run.specs.Leaves.{LeavesWhole}

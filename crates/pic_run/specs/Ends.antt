@@ -2,8 +2,8 @@
 use Rattle.std.specs.Prelude.{◌≡◌, ◌⊎◌, None, IfSome}
 use Rattle.pic_io.specs.Told.{Rose, Calm, Quiet}
 use Rattle.pic_io.specs.Sinks.{FailedAt, QuietSinks}
-use Rattle.pic_run.specs.declared.ended.Ended.{Ended}
-use Rattle.pic_run.specs.declared.ended.Ended.TheVariants.{Usage, ReadFault, WriteFault, NoMemory}
+use Rattle.pic_report.specs.declared.ended.Ended.{Ended}
+use Rattle.pic_report.specs.declared.ended.Ended.TheVariants.{Usage, ReadFault, WriteFault, NoMemory}
 use Rattle.pic_line.specs.CommandLine.{command_of}
 use Rattle.pic_run.specs.Reading.{Held, Reading}
 use Rattle.pic_run.specs.Leaves.{Fulfils}

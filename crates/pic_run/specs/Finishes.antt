@@ -1,12 +1,12 @@
 -- How the parts of a call finish: with an answer, or cut off.
 use Rattle.std.specs.Prelude.{◌≡◌, [], Result, Ok, Err}
 use Rattle.pic_io.specs.Sinks.{Sinks, Wrote, CutAt}
-use Rattle.pic_run.specs.declared.cut.Cut.{Cut}
-use Rattle.pic_run.specs.declared.cut.Cut.TheVariants as cut
-use Rattle.pic_run.specs.declared.early.StageStop.{StageStop}
-use Rattle.pic_run.specs.declared.early.StageStop.TheVariants as stage_stop
-use Rattle.pic_run.specs.declared.ended.Ended.{Ended}
-use Rattle.pic_run.specs.Early.{ended_early}
+use Rattle.pic_report.specs.declared.cut.Cut.{Cut}
+use Rattle.pic_report.specs.declared.cut.Cut.TheVariants as cut
+use Rattle.pic_run.specs.declared.stage_stop.StageStop.{StageStop}
+use Rattle.pic_run.specs.declared.stage_stop.StageStop.TheVariants as stage_stop
+use Rattle.pic_report.specs.declared.ended.Ended.{Ended}
+use Rattle.pic_report.specs.Early.{ended_early}
 use Rattle.pic_run.specs.Outcome.{Outcome, pieces_of, early_outcome}
 use Rattle.pic_run.specs.Leaves.{Leaving, Fulfils}
 

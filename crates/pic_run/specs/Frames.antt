@@ -1,33 +1,36 @@
--- The frames of a run, each with its line, and how the run ends: this project's profile.
+-- What a run puts of its states, as frames with a line each, as lines, or as what its probes see; and how the run ends: this project's profile.
 use Rattle.std.specs.Prelude.{◌≡◌, ℕ, ◌+◌, ◌-◌, List, [], ◌∷◌, ◌++◌, map, if◌then◌else◌, Result, Ok, Err}
 use Rattle.std.specs.List.{flat_map, range_with_len}
 use Rattle.pic_io.specs.Sinks.{Piece}
 use Rattle.pic_grid.specs.declared.stop.EndMark.{EndMark}
 use Rattle.pic_grid.specs.declared.stop.EndMark.TheVariants.{Done}
+use Rattle.pic_grid.specs.Lattice.{value_at}
 use Rattle.pic_energy.specs.declared.amounts.Energies.{Energies}
 use Rattle.pic_energy.specs.Energies.{energies_of}
 use Rattle.pic_energy.specs.Line.{frame_line, end_line}
 use Rattle.pic_record.specs.RecordText.{frame_bytes, end_bytes}
 use Rattle.pic_record.specs.Due.{is_due}
+use Rattle.pic_probe.specs.ProbeLine.{probe_line}
 use Rattle.pic_step.specs.SerialStep.{World, e_of, b_of}
 use Rattle.pic_step.specs.SerialRun.{after}
 use Rattle.pic_run.specs.declared.output.Output.{Output}
-use Rattle.pic_run.specs.declared.output.Output.TheVariants.{Dump, Lines}
+use Rattle.pic_run.specs.declared.output.Output.TheVariants.{Dump, Lines, Probe}
 
 -- the energies of a state
 abbrev pub energies_in : World → Energies
 energies_in w = energies_of w.scales w.kinds (e_of w) (b_of w) w.particles
 
--- a record on out and its line on report, or the line alone, on out
-abbrev pub shown : Output → List ℕ → List ℕ → Piece
-shown Dump bytes line = record { out = bytes; line = line }
-shown Lines bytes line = record { out = line; line = [] }
-
 -- what a run puts of a state
 unfoldable pub frame_piece : Output → World → Piece
-frame_piece output w =
-    shown output (frame_bytes w.step (e_of w) (b_of w) w.particles (energies_in w))
-    (frame_line w.step (energies_in w))
+frame_piece Dump w = record {
+  out = frame_bytes w.step (e_of w) (b_of w) w.particles (energies_in w);
+  line = frame_line w.step (energies_in w);
+}
+frame_piece Lines w = record { out = frame_line w.step (energies_in w); line = [] }
+frame_piece (Probe probes) w = record {
+  out = probe_line probes w.step (value_at (e_of w)) (value_at (b_of w)) w.particles;
+  line = [];
+}
 
 -- the state that a run came to, where its frame is due
 abbrev pub due_state : ℕ → ℕ → Result World EndMark → List World
@@ -73,4 +76,6 @@ EndsJoin =
 
 -- what a run puts of its end
 abbrev pub end_piece : Output → EndMark → Piece
-end_piece output end = shown output (end_bytes end) (end_line end)
+end_piece Dump end = record { out = end_bytes end; line = end_line end }
+end_piece Lines end = record { out = end_line end; line = [] }
+end_piece (Probe probes) end = record { out = end_line end; line = [] }

@@ -1,8 +1,5 @@
-pub mod Lines
-pub mod Piece
 pub mod Reading
-pub mod Ended
-pub mod Early
+pub mod Stops
 pub mod DeckEnd
 pub mod Starting
 pub mod Frames
@@ -17,6 +14,7 @@ pub mod Manner
 pub mod OnDeck
 pub mod Check
 pub mod Run
+pub mod Probe
 pub mod Verify
 pub mod Demo
 pub mod Upgrade

@@ -2,8 +2,8 @@
 use Rattle.std.specs.Prelude.{◌≡◌, ℕ, List}
 use Rattle.pic_io.specs.Told.{Told, Calm}
 use Rattle.pic_io.specs.Sinks.{Sinks}
-use Rattle.pic_run.specs.declared.ended.Ended.{Ended}
-use Rattle.pic_run.specs.declared.ended.Ended.TheVariants.{NoMemory}
+use Rattle.pic_report.specs.declared.ended.Ended.{Ended}
+use Rattle.pic_report.specs.declared.ended.Ended.TheVariants.{NoMemory}
 use Rattle.pic_run.specs.Outcome.{Outcome}
 use Rattle.pic_run.specs.Reading.{Given, Reading}
 use Rattle.pic_run.specs.Leaves.{Leaving, ComesTo}

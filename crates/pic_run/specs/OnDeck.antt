@@ -11,12 +11,15 @@ use Rattle.pic_charge.specs.Charge.{rho_of}
 use Rattle.pic_charge.specs.Gauss.{IsLeastBreak}
 use Rattle.pic_deck.specs.declared.refusal.Refusal.{Refusal}
 use Rattle.pic_deck.specs.Deck.{DeckView}
+use Rattle.pic_deck.specs.Refusal.{ReadDeck}
 use Rattle.pic_deck.specs.Reading.{walk}
+use Rattle.pic_load.specs.Loading.{loaded}
+use Rattle.pic_displace.specs.Displace.{displaced_allowed}
 use Rattle.pic_step.specs.SerialStep.{World, e_of}
 use Rattle.pic_step.specs.SerialRun.{after}
 use Rattle.pic_step.specs.Sound.{IsSound}
-use Rattle.pic_run.specs.declared.ended.Ended.{Ended}
-use Rattle.pic_run.specs.declared.ended.Ended.TheVariants.{Done, Stopped, Refused, Gauss, NoMemory}
+use Rattle.pic_report.specs.declared.ended.Ended.{Ended}
+use Rattle.pic_report.specs.declared.ended.Ended.TheVariants.{Done, Stopped, Refused, Gauss, NoMemory}
 use Rattle.pic_run.specs.Starting.{first_state, EachGauss}
 use Rattle.pic_run.specs.Reading.{deck_limit, Given, Held, TakesOfDeck}
 use Rattle.pic_run.specs.Outcome.{Outcome, accepted, opened, on_deck}
@@ -36,9 +39,14 @@ pub record HasDeck (c : Call) (d : DeckView) : Type 0 where
   pub held : IfSome c.source.bytes (λ held. walk (take deck_limit held) ≡ Ok d)
   pub end : IsAtEnd c.source_now
 
+-- a deck is refused so: by its walk, or by the E of its displaced start
+abbrev pub IsRefusedSo : Refusal → ReadDeck → Type 0
+IsRefusedSo refusal (Ok d) = displaced_allowed d (loaded d) ≡ Err refusal
+IsRefusedSo refusal (Err other) = other ≡ refusal
+
 -- the deck that the source held, where it tells its bytes, is refused so
 abbrev pub IsRefused : Call → Refusal → Type 0
-IsRefused c refusal = IfSome c.source.bytes (λ held. walk (take deck_limit held) ≡ Err refusal)
+IsRefused c refusal = IfSome c.source.bytes (λ held. IsRefusedSo refusal (walk (take deck_limit held)))
 
 -- the least node of a state where the divergence of E and the charge differ
 abbrev pub IsLeastBreakOf : World → Break → Type 0

@@ -6,23 +6,26 @@ use Rattle.pic_deck.specs.Deck.{DeckView}
 use Rattle.pic_step.specs.Kept.{AreTiled}
 use Rattle.pic_step.specs.Sound.{IsSound}
 use Rattle.pic_step.specs.Start.{begun}
-use Rattle.pic_run.specs.declared.early.Early.{Early}
-use Rattle.pic_run.specs.declared.early.StageStop.{StageStop}
-use Rattle.pic_run.specs.declared.early.StageStop.TheVariants.{Answer, NoMemory}
+use Rattle.pic_report.specs.declared.early.Early.{Early}
+use Rattle.pic_run.specs.declared.stage_stop.StageStop.{StageStop}
+use Rattle.pic_run.specs.declared.stage_stop.StageStop.TheVariants.{Answer, NoMemory}
+use Rattle.pic_run.specs.declared.output.Output.TheVariants.{Probe}
 use Rattle.pic_run.specs.declared.opening_deck.Opened.{Opened}
 use Rattle.pic_run.specs.DeckEnd.{DeckEnd, Staged, ended_at}
-use Rattle.pic_run.specs.Early.{ended_early}
+use Rattle.pic_report.specs.Early.{ended_early}
 use Rattle.pic_run.specs.Outcome.{accepted, tested, opened}
 use Rattle.pic_run.specs.Reading.{deck_limit, Given, Held, Reading, TakesOfDeck}
+use Rattle.pic_run.specs.Rooms.{CanPut}
 use Rattle.pic_run.specs.Starting.{first_state}
 
 -- the deck meets Gauss's law; it stands here with what its run begins with, and that is sound, its
--- fields cut into its tiles
+-- fields cut into its tiles, and its probes can be put of it
 pub record IsTested (d : DeckView) (o : Opened) : Type 0 where
   pub deck : tested d ≡ Ok o.deck
   pub start : begun o.start ≡ first_state o.deck
   pub sound : IsSound (begun o.start)
   pub tiled : AreTiled o.start.setup.map o.start.e o.start.b
+  pub probes : CanPut (Probe o.deck.probes) (begun o.start)
 
 -- a stage of a deck came to an end, and this early end says so
 pub record IsEndOf (stage : Staged DeckView) (why : Early) : Type 0 where
@@ -42,6 +45,7 @@ pub record IsDeckOpened (given : Given) (now : Told) (o : Opened) : Type 0 where
   pub start : begun o.start ≡ first_state o.deck
   pub sound : IsSound (begun o.start)
   pub tiled : AreTiled o.start.setup.map o.start.e o.start.b
+  pub probes : CanPut (Probe o.deck.probes) (begun o.start)
   pub end : IsAtEnd now
 
 -- the end of what was given; where its deck is accepted, and where it is no longer than a deck may be,

@@ -1,7 +1,8 @@
 -- The outcome of a command, for what its source gave: the answer, the text on out and the text on
 -- report. Every answer but a write fault and want of memory is the outcome's.
-use Rattle.std.specs.Prelude.{ℕ, List, [], ◌∷◌, ◌++◌, length, take, Option, Some, None, Ok, Err}
+use Rattle.std.specs.Prelude.{ℕ, List, [], ◌∷◌, ◌++◌, length, take, Option, Some, None, Result, Ok, Err}
 use Rattle.pic_io.specs.Sinks.{Piece, outs, lines}
+use Rattle.pic_deck.specs.declared.refusal.Refusal.{Refusal}
 use Rattle.pic_deck.specs.Refusal.{ReadDeck}
 use Rattle.pic_grid.specs.declared.stop.EndMark.{EndMark}
 use Rattle.pic_grid.specs.declared.stop.EndMark.TheVariants.{Done as EndDone, Stopped as EndStopped}
@@ -12,16 +13,17 @@ use Rattle.pic_demo.specs.Demo.{demo_deck}
 use Rattle.pic_header.specs.HeaderText.{header_bytes}
 use Rattle.pic_header.specs.Header.{HeaderView}
 use Rattle.pic_load.specs.Loading.{loaded}
+use Rattle.pic_displace.specs.Displace.{displaced_allowed}
 use Rattle.pic_step.specs.SerialStep.{World}
 use Rattle.pic_verify.specs.declared.verify_stop.VerifyStop.TheVariants as verify_stop
 use Rattle.pic_verify.specs.Verified.{Verdict, verified}
-use Rattle.pic_run.specs.declared.ended.Ended.{Ended}
-use Rattle.pic_run.specs.declared.ended.Ended.TheVariants.{Done, Checked, Verified, Stopped, NoMemory, ReadFault, BadDump, Broken}
+use Rattle.pic_report.specs.declared.ended.Ended.{Ended}
+use Rattle.pic_report.specs.declared.ended.Ended.TheVariants.{Done, Checked, Verified, Stopped, NoMemory, ReadFault, BadDump, Broken}
 use Rattle.pic_run.specs.declared.output.Output.{Output}
-use Rattle.pic_run.specs.declared.output.Output.TheVariants.{Dump, Lines}
+use Rattle.pic_run.specs.declared.output.Output.TheVariants.{Dump, Lines, Probe}
 use Rattle.pic_run.specs.DeckEnd.{Unread, Unfit, Unmet, Staged, ◌>>=◌, ended_at}
 use Rattle.pic_run.specs.Frames.{frames_of, end_of_run, end_piece}
-use Rattle.pic_run.specs.Lines.{check_line, verified_line, early_line}
+use Rattle.pic_report.specs.Lines.{check_line, verified_line, early_line}
 use Rattle.pic_run.specs.Reading.{deck_limit, Given, Held, Failed, FailedBehind}
 use Rattle.pic_run.specs.Starting.{first_state, state_break, header_of}
 
@@ -65,8 +67,19 @@ abbrev pub unless_gauss_fails : DeckView → Option Break → Staged DeckView
 unless_gauss_fails d None = Ok d
 unless_gauss_fails d (Some b) = Err (Unmet b)
 
+abbrev pub gauss_tested : DeckView → Staged DeckView
+gauss_tested d = unless_gauss_fails d (state_break (first_state d))
+
+-- a deck whose E isn't too strong once its species are displaced, or the refusal of that E
+abbrev pub unless_too_strong : DeckView → Result (Unit {0}) Refusal → Staged DeckView
+unless_too_strong d (Ok _) = Ok d
+unless_too_strong d (Err refusal) = Err (Unfit refusal)
+
+abbrev pub displaced : DeckView → Staged DeckView
+displaced d = unless_too_strong d (displaced_allowed d (loaded d))
+
 abbrev pub tested : DeckView → Staged DeckView
-tested d = unless_gauss_fails d (state_break (first_state d))
+tested d = displaced d >>= gauss_tested
 
 abbrev pub opened : Given → Staged DeckView
 opened given = accepted given >>= tested
@@ -130,13 +143,18 @@ dump_outcome h w =
 abbrev pub run_outcome : DeckView → Outcome
 run_outcome d = dump_outcome (header_of d) (first_state d)
 
--- the run of a deck from its first state w, as lines alone, on out
-abbrev pub lines_outcome : DeckView → World → Outcome
-lines_outcome d w =
-    states_outcome Lines [] (frames_of Lines d.steps d.every w) (end_of_run d.steps w)
+-- a run of so many steps from its first state w, shown with no head
+abbrev pub shown_outcome : Output → ℕ → ℕ → World → Outcome
+shown_outcome output steps every w =
+    states_outcome output [] (frames_of output steps every w) (end_of_run steps w)
 
+-- the run of a deck as lines alone, on out
 abbrev pub demo_outcome : DeckView → Outcome
-demo_outcome d = lines_outcome d (first_state d)
+demo_outcome d = shown_outcome Lines d.steps d.every (first_state d)
+
+-- the run of a deck as what its probes see, on out: a line of each state
+abbrev pub probe_outcome : DeckView → Outcome
+probe_outcome d = shown_outcome (Probe d.probes) d.steps 1 (first_state d)
 
 -- a dump whose frames are good: their number, on out; or what was found, on report
 abbrev pub verdict_outcome : Verdict → Outcome

@@ -17,12 +17,12 @@ use Rattle.pic_resume.specs.declared.carried.Carried.{Carried}
 use Rattle.pic_resume.specs.declared.carry_stop.CarryStop.{CarryStop}
 use Rattle.pic_resume.specs.declared.carry_stop.CarryStop.TheVariants as stop
 use Rattle.pic_resume.specs.Carry.{Carry, GoesOn, carry_of, carry_front}
-use Rattle.pic_run.specs.declared.ended.Ended.{Ended}
-use Rattle.pic_run.specs.declared.ended.Ended.TheVariants.{Done, Stopped, Refused, BadDump, Broken, ReadFault, WriteFault, NoMemory}
+use Rattle.pic_report.specs.declared.ended.Ended.{Ended}
+use Rattle.pic_report.specs.declared.ended.Ended.TheVariants.{Done, Stopped, Refused, BadDump, Broken, ReadFault, WriteFault, NoMemory}
 use Rattle.pic_run.specs.declared.output.Output.TheVariants.{Dump}
 use Rattle.pic_run.specs.Frames.{frames_behind, end_of_run}
 use Rattle.pic_run.specs.FrameStates.{world_in}
-use Rattle.pic_run.specs.Lines.{early_line}
+use Rattle.pic_report.specs.Lines.{early_line}
 use Rattle.pic_run.specs.Reading.{Given, Held, Failed, FailedBehind, HasParts}
 use Rattle.pic_run.specs.Starting.{EachGauss}
 use Rattle.pic_run.specs.Outcome.{Outcome, told_outcome, states_outcome}
@@ -32,12 +32,12 @@ use Rattle.pic_run.specs.Verify.{TakesOfTested}
 
 -- the state that a run goes on from
 abbrev pub resumed_state : GoesOn → World
-resumed_state g = world_in (layout_of g.header) g.last
+resumed_state g = world_in g.header g.last
 
 -- the same, as it is handed out
 abbrev pub carried_state : Carried → World
 carried_state c =
-    world_of c.step (record { n = c.header.cells; side = c.header.side }) c.header.filter c.header.scales
+    world_of c.step (record { n = c.header.cells; side = c.header.side }) c.header.filter c.header.loops c.header.scales
     (layout_of c.header).kinds c.last.e.values c.last.b.values c.last.particles.items
 
 -- the run that a header is of, from a state of it, behind a head and frames

@@ -2,9 +2,9 @@
 use Rattle.std.specs.Prelude.{◌≡◌, ℕ, List, [], Result, Ok, Err}
 use Rattle.pic_io.specs.Sinks.{Sinks, Wrote, Piece, outs, lines, CutAt}
 use Rattle.pic_grid.specs.declared.stop.EndMark.{EndMark}
-use Rattle.pic_run.specs.declared.cut.Cut.{Cut}
-use Rattle.pic_run.specs.declared.cut.Cut.TheVariants.{Write, NoMemory}
-use Rattle.pic_run.specs.declared.ended.Ended.{Ended}
+use Rattle.pic_report.specs.declared.cut.Cut.{Cut}
+use Rattle.pic_report.specs.declared.cut.Cut.TheVariants.{Write, NoMemory}
+use Rattle.pic_report.specs.declared.ended.Ended.{Ended}
 use Rattle.pic_run.specs.Outcome.{Outcome, pieces_of, answer_of}
 use Rattle.pic_run.specs.Leaves.{HasFrames, Fulfils}
 

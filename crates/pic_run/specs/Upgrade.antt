@@ -7,9 +7,9 @@ use Rattle.pic_io.specs.declared.side.Side.TheVariants.{Out}
 use Rattle.pic_dump.specs.declared.upgrade_stop.UpgradeStop.TheVariants as stop
 use Rattle.pic_dump.specs.Upgrade.{Answer, upgrade_of}
 use Rattle.pic_dump.specs.Allowed.{TakesHeader}
-use Rattle.pic_run.specs.declared.ended.Ended.{Ended}
-use Rattle.pic_run.specs.declared.ended.Ended.TheVariants.{Upgraded, BadDump, ReadFault, WriteFault, NoMemory}
-use Rattle.pic_run.specs.Lines.{upgraded_line, early_line}
+use Rattle.pic_report.specs.declared.ended.Ended.{Ended}
+use Rattle.pic_report.specs.declared.ended.Ended.TheVariants.{Upgraded, BadDump, ReadFault, WriteFault, NoMemory}
+use Rattle.pic_report.specs.Lines.{upgraded_line, early_line}
 use Rattle.pic_run.specs.Reading.{Given, Held, Failed, FailedBehind, TakesOfDump, HasParts}
 use Rattle.pic_run.specs.Outcome.{Outcome, told_outcome}
 use Rattle.pic_run.specs.Leaves.{LeavesNothing}

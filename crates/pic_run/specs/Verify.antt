@@ -7,8 +7,8 @@ use Rattle.pic_verify.specs.declared.verify_stop.VerifyStop.TheVariants as verif
 use Rattle.pic_dump.specs.Allowed.{TakesHeader}
 use Rattle.pic_verify.specs.Reached.{TakesToRecord}
 use Rattle.pic_verify.specs.Verified.{verified}
-use Rattle.pic_run.specs.declared.ended.Ended.{Ended}
-use Rattle.pic_run.specs.declared.ended.Ended.TheVariants.{Verified, BadDump, Broken, ReadFault, NoMemory}
+use Rattle.pic_report.specs.declared.ended.Ended.{Ended}
+use Rattle.pic_report.specs.declared.ended.Ended.TheVariants.{Verified, BadDump, Broken, ReadFault, NoMemory}
 use Rattle.pic_run.specs.Reading.{TakesOfDump}
 use Rattle.pic_run.specs.Outcome.{verdict_on, verdict_outcome}
 use Rattle.pic_run.specs.Leaves.{LeavesNothing}

@@ -5,20 +5,17 @@ ghost use Rattle.pic_io.specs.Told.{Told};
 ghost use Rattle.pic_io.specs.Sinks.{sinks};
 ghost use Rattle.pic_deck.specs.Deck.{DeckView};
 ghost use Rattle.pic_load.specs.Loading.{loaded};
-ghost use Rattle.pic_run.specs.Ended.{ended_of};
+ghost use Rattle.pic_report.specs.Ended.{ended_of};
 ghost use Rattle.pic_run.specs.Outcome.{check_outcome};
 ghost use Rattle.pic_run.specs.Leaves.{LeavesNothing};
 ghost use Rattle.pic_run.specs.Finishes.{Finishes};
 ghost use Rattle.pic_run.specs.Manner.{Performs};
 ghost use Rattle.pic_run.specs.Check.{checking};
 
-use crate::cut::Cut;
-use crate::early::end_early;
-use crate::ended::Ended;
-use crate::lines::line_of_check;
 use crate::opening_deck::open;
-use crate::writing::put_out;
+use crate::stage_stop::end_early;
 use pic_io::{Sink, Source};
+use pic_report::{Cut, Ended, line_of_check, put_out};
 use std::alloc::Global;
 
 /// Checks the deck that the source gives: the number of its particles goes to `out`.

@@ -1,13 +1,16 @@
-//! The stages of a deck: it is read and walked, its particles are loaded, Gauss's law is tested.
+//! The stages of a deck: it is read and walked, its particles are loaded and their species displaced,
+//! Gauss's law is tested.
 
 ghost use Rattle.pic_run.specs.Opened.{Opens, Tests};
 
-use crate::early::{Early, StageStop};
 use crate::gauss_test::find_break;
 use crate::source_reader::{greatest_deck, read_all};
+use crate::stage_stop::StageStop;
 use pic_deck::{Deck, read_deck};
+use pic_displace::displace;
 use pic_io::Source;
 use pic_load::load;
+use pic_report::Early;
 use pic_step::Start;
 use std::alloc::Global;
 
@@ -28,12 +31,15 @@ pub fn open<S: Source>(alloc: Global, source: &mut S) -> Result<Opened, StageSto
     load_and_test(alloc, deck)
 }
 
-/// The stages of a deck behind its reading: its particles are loaded, and Gauss's law is tested.
+/// The stages of a deck behind its reading: its particles are loaded, E is made that of their displaced
+/// start, and Gauss's law is tested.
 pub fn load_and_test(alloc: Global, deck: Deck) -> Result<Opened, StageStop>
     ensures { Tests deck result }
 {
     let particles = load(alloc, &deck)?;
-    let start = Start::new(alloc, &deck, particles)?;
+    let mut start = Start::new(alloc, &deck, particles)?;
+    displace(alloc, &deck, &start.particles, &mut start.e)?;
+    let _limits = deck.version();
     match find_break(alloc, &deck, &start)? {
         None => Ok(Opened { deck, start }),
         Some(at) => Err(StageStop::Answer(Early::Gauss(at))),

@@ -1,17 +1,21 @@
 //! What a run puts of its states, and how it goes.
 
+use pic_devices::Probes;
+
 /// What a run puts of its states.
-#[derive(Clone, Copy, Debug, PartialEq, Eq)]
+#[derive(Debug, Drop)]
 pub enum Output {
     /// The records of a dump on out, and a line of each on the report.
     Dump,
     /// The lines alone, on out.
     Lines,
+    /// What these probes see, a line of each state on out.
+    Probe(Probes),
 }
 
 /// How a run goes: what it puts of its states, how many steps it has, after how many of them a frame is
 /// due, and how many workers push the particles and step the fields.
-#[derive(Clone, Copy)]
+#[derive(Drop)]
 pub struct Plan {
     pub output: Output,
     pub steps: u32,

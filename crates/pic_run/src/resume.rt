@@ -7,24 +7,24 @@ ghost use Rattle.pic_crew.specs.Teams.{most_workers};
 ghost use Rattle.pic_io.specs.Sinks.{sinks};
 ghost use Rattle.pic_step.specs.Sound.{IsSound};
 ghost use Rattle.pic_tile.specs.Frame.{AreKinds};
-ghost use Rattle.pic_run.specs.Early.{early_of_carry};
-ghost use Rattle.pic_run.specs.Ended.{ended_of};
+ghost use Rattle.pic_run.specs.Stops.{early_of_carry};
+ghost use Rattle.pic_report.specs.Ended.{ended_of};
 ghost use Rattle.pic_run.specs.Manner.{Performs};
 ghost use Rattle.pic_run.specs.Rooms.{HasShape};
 ghost use Rattle.pic_run.specs.Leaves.{LeavesKept};
 ghost use Rattle.pic_run.specs.Finishes.{Finishes};
 ghost use Rattle.pic_run.specs.Resume.{behind_outcome, carried_state, resuming};
 
-use crate::cut::Cut;
-use crate::early::{Early, StageStop, end_early};
-use crate::ended::Ended;
 use crate::output::{Output, Plan};
 use crate::running::{Stage, write_further};
+use crate::stage_stop::{StageStop, end_early};
 use crate::threading::Threading;
 use pic_dump::Head;
 use pic_gate::Gate;
+use pic_grid::copy_loops;
 use pic_io::{Sink, Source};
 use pic_num::NoMemory;
+use pic_report::{Cut, Early, Ended};
 use pic_resume::{Carried, CarryStop, carry};
 use pic_step::State;
 use pic_tile::{Kinds, Setup, TileMap};
@@ -108,7 +108,7 @@ fn go_on<H: Threads + Sync, O: Sink, R: Sink, G: Gate + Sync>(
         workers: further.workers,
     };
     let stage = stage_from(alloc, carried, further.tiles)?;
-    write_further(threading, alloc, plan, out, report, stage)
+    write_further(threading, alloc, &plan, out, report, stage)
 }
 
 // The state that was carried, on so many tiles, with the room that it came in.
@@ -123,6 +123,7 @@ fn stage_from(alloc: Global, carried: Carried, tiles: [u32; 3]) -> Result<Stage,
     let setup = Setup {
         map: TileMap::new(header.cells(), tiles),
         filter: header.filter(),
+        loops: copy_loops(alloc, header.loops().as_slice())?,
         scales: header.scales(),
         kinds: kinds_of(alloc, header.species().as_slice())?,
     };

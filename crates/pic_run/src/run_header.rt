@@ -6,7 +6,7 @@ ghost use Rattle.pic_run.specs.Starting.{header_of};
 
 use pic_deck::{Deck, Species};
 use pic_dump::{Head, Header, HeaderSettings, Heads};
-use pic_grid::Name;
+use pic_grid::{Name, copy_loops};
 use pic_num::NoMemory;
 use std::alloc::Global;
 
@@ -23,7 +23,8 @@ pub fn header_of(alloc: Global, deck: &Deck) -> Result<Header, NoMemory>
         filter: deck.filter(),
         scales: deck.scales(),
     };
-    Ok(Header::new(settings, Heads::from_vec(heads)))
+    let loops = copy_loops(alloc, deck.loops())?;
+    Ok(Header::new(settings, Heads::from_vec(heads), loops))
 }
 
 // What the header says of each species.

@@ -9,8 +9,8 @@ ghost use Rattle.pic_step.specs.Sound.{IsSound};
 ghost use Rattle.pic_step.specs.Start.{begun};
 ghost use Rattle.pic_run.specs.Starting.{header_of};
 ghost use Rattle.pic_run.specs.Frames.{frames_of, frames_behind, end_of_run};
-ghost use Rattle.pic_run.specs.Rooms.{HasShape};
-ghost use Rattle.pic_run.specs.Ended.{ended_of};
+ghost use Rattle.pic_run.specs.Rooms.{CanPut, HasShape};
+ghost use Rattle.pic_report.specs.Ended.{ended_of};
 ghost use Rattle.pic_run.specs.Outcome.{dump_outcome, states_outcome, answer_of};
 ghost use Rattle.pic_run.specs.Leaves.{LeavesWhole};
 ghost use Rattle.pic_run.specs.Finishes.{Finishes};
@@ -18,13 +18,11 @@ ghost use Rattle.pic_run.specs.Manner.{Performs};
 ghost use Rattle.pic_run.specs.Run.{running};
 ghost use Rattle.pic_run.specs.Runs.{WritesFrames, WritesStates};
 
-use crate::cut::Cut;
-use crate::early::end_early;
-use crate::ended::Ended;
 use crate::frame_writer::{put_last, write_due, write_frame};
 use crate::opening_deck::{Opened, open};
 use crate::output::{Output, Plan};
 use crate::run_header::header_of;
+use crate::stage_stop::end_early;
 use crate::threading::Threading;
 use pic_deck::Deck;
 use pic_dump::{Header, put_header};
@@ -32,6 +30,7 @@ use pic_gate::Gate;
 use pic_grid::{EndMark, Snapshot};
 use pic_io::{Failed, Side, Sink, Source};
 use pic_num::NoMemory;
+use pic_report::{Cut, Ended};
 use pic_step::{Start, State, StepStop, step};
 use std::alloc::Global;
 use std::thread::Threads;
@@ -146,7 +145,7 @@ fn write_run<H: Threads + Sync, O: Sink, R: Sink, G: Gate + Sync>(
                 every: header.every(),
                 workers,
             };
-            write_states(threading, alloc, plan, out, report, stage)
+            write_states(threading, alloc, &plan, out, report, stage)
         }
         Err(Failed) => Err(Cut::Write(Side::Out)),
     }
@@ -156,25 +155,27 @@ fn write_run<H: Threads + Sync, O: Sink, R: Sink, G: Gate + Sync>(
 pub fn write_states<H: Threads + Sync, O: Sink, R: Sink, G: Gate + Sync>(
     threading: Threading<'_, H, G>,
     alloc: Global,
-    plan: Plan,
+    plan: &Plan,
     out: &mut O,
     report: &mut R,
     stage: Stage,
 ) -> Result<Ended, Cut>
-    requires steps { plan.steps ≤ most_steps }
-    requires every { 1 ≤ plan.every }
-    requires some { 0 < plan.workers }
-    requires most { plan.workers ≤ most_workers }
+    requires steps { plan.now.steps ≤ most_steps }
+    requires every { 1 ≤ plan.now.every }
+    requires some { 0 < plan.now.workers }
+    requires most { plan.now.workers ≤ most_workers }
     requires begins { stage.state.world.step ≡ 0 }
     requires room { HasShape stage.room stage.state.world }
-    ensures { WritesStates 1 plan.workers
-        (states_outcome plan.output [] (frames_of plan.output plan.steps plan.every stage.state.world)
-        (end_of_run plan.steps stage.state.world))
+    requires probes { CanPut plan.now.output stage.state.world }
+    ensures { WritesStates 1 plan.now.workers
+        (states_outcome plan.now.output []
+        (frames_of plan.now.output plan.now.steps plan.now.every stage.state.world)
+        (end_of_run plan.now.steps stage.state.world))
         (sinks (O.told out.old) (R.told report.old))
         (sinks (O.told out.new) (R.told report.new)) result }
 {
     let Stage { state, mut room } = stage;
-    write_frame(plan.output, out, report, &state, &mut room)?;
+    write_frame(&plan.output, out, report, &state, &mut room)?;
     write_further(threading, alloc, plan, out, report, Stage { state, room })
 }
 
@@ -182,26 +183,27 @@ pub fn write_states<H: Threads + Sync, O: Sink, R: Sink, G: Gate + Sync>(
 pub fn write_further<H: Threads + Sync, O: Sink, R: Sink, G: Gate + Sync>(
     threading: Threading<'_, H, G>,
     alloc: Global,
-    plan: Plan,
+    plan: &Plan,
     out: &mut O,
     report: &mut R,
     stage: Stage,
 ) -> Result<Ended, Cut>
-    requires steps { plan.steps ≤ most_steps }
-    requires every { 1 ≤ plan.every }
-    requires some { 0 < plan.workers }
-    requires most { plan.workers ≤ most_workers }
-    requires behind { stage.state.world.step ≤ plan.steps }
+    requires steps { plan.now.steps ≤ most_steps }
+    requires every { 1 ≤ plan.now.every }
+    requires some { 0 < plan.now.workers }
+    requires most { plan.now.workers ≤ most_workers }
+    requires behind { stage.state.world.step ≤ plan.now.steps }
     requires room { HasShape stage.room stage.state.world }
-    ensures { WritesStates 0 plan.workers
-        (states_outcome plan.output []
-        (frames_behind plan.output plan.steps plan.every stage.state.world)
-        (end_of_run (plan.steps - stage.state.world.step) stage.state.world))
+    requires probes { CanPut plan.now.output stage.state.world }
+    ensures { WritesStates 0 plan.now.workers
+        (states_outcome plan.now.output []
+        (frames_behind plan.now.output plan.now.steps plan.now.every stage.state.world)
+        (end_of_run (plan.now.steps - stage.state.world.step) stage.state.world))
         (sinks (O.told out.old) (R.told report.old))
         (sinks (O.told out.new) (R.told report.new)) result }
 {
     let end = write_frames(threading, alloc, plan, out, report, stage)?;
-    put_last(plan.output, out, report, end)?;
+    put_last(&plan.output, out, report, end)?;
     Ok(answer_of(end))
 }
 
@@ -209,20 +211,21 @@ pub fn write_further<H: Threads + Sync, O: Sink, R: Sink, G: Gate + Sync>(
 fn write_frames<H: Threads + Sync, O: Sink, R: Sink, G: Gate + Sync>(
     threading: Threading<'_, H, G>,
     alloc: Global,
-    plan: Plan,
+    plan: &Plan,
     out: &mut O,
     report: &mut R,
     stage: Stage,
 ) -> Result<EndMark, Cut>
-    requires steps { plan.steps ≤ most_steps }
-    requires every { 1 ≤ plan.every }
-    requires some { 0 < plan.workers }
-    requires most { plan.workers ≤ most_workers }
-    requires behind { stage.state.world.step ≤ plan.steps }
+    requires steps { plan.now.steps ≤ most_steps }
+    requires every { 1 ≤ plan.now.every }
+    requires some { 0 < plan.now.workers }
+    requires most { plan.now.workers ≤ most_workers }
+    requires behind { stage.state.world.step ≤ plan.now.steps }
     requires room { HasShape stage.room stage.state.world }
-    ensures { WritesFrames plan.workers
-        (frames_behind plan.output plan.steps plan.every stage.state.world)
-        (end_of_run (plan.steps - stage.state.world.step) stage.state.world)
+    requires probes { CanPut plan.now.output stage.state.world }
+    ensures { WritesFrames plan.now.workers
+        (frames_behind plan.now.output plan.now.steps plan.now.every stage.state.world)
+        (end_of_run (plan.now.steps - stage.state.world.step) stage.state.world)
         (sinks (O.told out.old) (R.told report.old))
         (sinks (O.told out.new) (R.told report.new)) result }
 {

@@ -3,24 +3,24 @@
 ghost use Rattle.std.specs.Prelude.{map, string_bytes};
 ghost use Rattle.pic_io.specs.Sinks.{sinks};
 ghost use Rattle.pic_line.specs.CommandLine.{command_of};
-ghost use Rattle.pic_run.specs.Ended.{ended_of};
+ghost use Rattle.pic_report.specs.Ended.{ended_of};
 ghost use Rattle.pic_run.specs.Manner.{call, Performs};
 ghost use Rattle.pic_run.specs.Commands.{manner_of};
 ghost use Rattle.pic_run.specs.Ends.{Ends, IsComplete, Means, Reads};
 
 use crate::check::check;
-use crate::cut::Cut;
-use crate::early::{Early, StageStop, end_early};
-use crate::ended::{Ended, ended_of};
+use crate::probing::probe;
 use crate::resume::{Further, resume};
 use crate::running::run;
 use crate::showing::demo;
+use crate::stage_stop::{StageStop, end_early};
 use crate::threading::Threading;
 use crate::upgrade::upgrade;
 use crate::verify::verify;
 use pic_gate::Gate;
 use pic_io::{Sink, Source};
 use pic_line::{Command, LineFault, command};
+use pic_report::{Cut, Early, Ended, ended_of};
 use std::alloc::Global;
 use std::thread::Threads;
 
@@ -99,6 +99,7 @@ fn perform<H: Threads + Sync, S: Source, O: Sink, R: Sink, G: Gate + Sync>(
             };
             resume(threading, alloc, source, out, report, further)
         }
+        Ok(Command::Probe { workers }) => probe(threading, alloc, source, out, report, workers),
         Err(LineFault::Usage) => end_early(report, StageStop::Answer(Early::Usage)),
         Err(LineFault::NoMemory) => Err(Cut::NoMemory),
     }

@@ -3,20 +3,17 @@
 ghost use Rattle.std.specs.Prelude.{[]};
 ghost use Rattle.pic_io.specs.Told.{Told};
 ghost use Rattle.pic_io.specs.Sinks.{sinks, WritesLine};
-ghost use Rattle.pic_run.specs.declared.ended.Ended.TheVariants.{Upgraded};
-ghost use Rattle.pic_run.specs.Ended.{ended_of};
-ghost use Rattle.pic_run.specs.Lines.{upgraded_line};
+ghost use Rattle.pic_report.specs.declared.ended.Ended.TheVariants.{Upgraded};
+ghost use Rattle.pic_report.specs.Ended.{ended_of};
+ghost use Rattle.pic_report.specs.Lines.{upgraded_line};
 ghost use Rattle.pic_run.specs.Finishes.{Announces};
 ghost use Rattle.pic_run.specs.Manner.{Performs};
 ghost use Rattle.pic_run.specs.Upgrade.{upgrade_outcome, upgrading};
 
-use crate::cut::Cut;
-use crate::early::{Early, StageStop, end_early};
-use crate::ended::Ended;
-use crate::lines::line_of_upgraded;
-use crate::writing::put_line;
+use crate::stage_stop::{StageStop, end_early};
 use pic_dump::UpgradeStop;
 use pic_io::{Side, Sink, Source};
+use pic_report::{Cut, Early, Ended, line_of_upgraded, put_line};
 use std::alloc::Global;
 
 /// Puts the dump that the source gives on `out`, in the spelling of version 2, record by record: the

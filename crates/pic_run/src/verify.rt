@@ -3,18 +3,15 @@
 ghost use Rattle.std.specs.Prelude.{Ok};
 ghost use Rattle.pic_io.specs.Told.{Told};
 ghost use Rattle.pic_io.specs.Sinks.{sinks};
-ghost use Rattle.pic_run.specs.Ended.{ended_of};
+ghost use Rattle.pic_report.specs.Ended.{ended_of};
 ghost use Rattle.pic_run.specs.Outcome.{verdict_outcome};
 ghost use Rattle.pic_run.specs.Finishes.{Announces};
 ghost use Rattle.pic_run.specs.Manner.{Performs};
 ghost use Rattle.pic_run.specs.Verify.{verifying};
 
-use crate::cut::Cut;
-use crate::early::{StageStop, end_early};
-use crate::ended::Ended;
-use crate::lines::line_of_verified;
-use crate::writing::put_out;
+use crate::stage_stop::{StageStop, end_early};
 use pic_io::{Sink, Source};
+use pic_report::{Cut, Ended, line_of_verified, put_out};
 use std::alloc::Global;
 
 /// Verifies the dump that the source gives: the number of its frames goes to `out`.

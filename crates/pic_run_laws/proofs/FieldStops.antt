@@ -2,12 +2,14 @@
 -- past its bound, of 128 bits.
 use Rattle.std.proofs.Common.{◌≡◌, ℤ, ◌+◌, ◌-◌, ◌*◌, ◌/◌, ◌%◌, ◌^◌, ◌≤◌, Bool, true, false, [], ◌∷◌, if◌then◌else◌, ltb}
 use Rattle.std.proofs.Common.{unsigned_abs, Some, None, refl, sym, ◌∙◌, subst, arith, zero-add}
+use Rattle.std.proofs.Math.IntN.{◌+ℤ◌, ◌-ℤ◌}
 use Rattle.std.proofs.lemmas.Bool.{ltb-true, ltb-false}
 use Rattle.std.proofs.lemmas.Int.{ints, fits_signed_from_abs}
 use Rattle.std.proofs.lemmas.Nat.{mod_below}
 use mir.Syntax.{w128}
 use Rattle.pic_num.specs.declared.axis.Axis.{Axis}
 use Rattle.pic_num.specs.declared.axis.Axis.TheVariants.{X, Y, Z}
+use Rattle.pic_num.specs.Limits.{most_loops}
 use Rattle.pic_num.specs.Multiplier.{Multiplier, IsMultiplier}
 use Rattle.pic_num.specs.Rounding.{scaled}
 use Rattle.pic_num.specs.Sizes.{IsAtMost}
@@ -18,13 +20,15 @@ use Rattle.pic_grid.specs.declared.stop.Phase.{Phase}
 use Rattle.pic_grid.specs.declared.stop.Stop.{Stop}
 use Rattle.pic_grid.specs.declared.stop.Stop.TheVariants.{Field as FieldStop}
 use Rattle.pic_grid.specs.Cells.{IsWithin, count_of, cell_of, axis_of}
-use Rattle.pic_grid.specs.Differences.{up, down}
+use Rattle.pic_grid.specs.Loops.{AreLoops}
+use Rattle.pic_grid.specs.Differences.{up, down, curl_b}
 use Rattle.pic_grid.specs.Lattice.{value_at}
 use Rattle.pic_grid.specs.Parts.{origin}
 use Rattle.pic_grid.proofs.CellLaws.{place_within}
-use Rattle.pic_field.specs.FieldPhases.{half_of, full_of, cell_above, fault_of, least_fault}
+use Rattle.pic_drive.proofs.DriveLaws.{driven_size}
+use Rattle.pic_field.specs.FieldPhases.{half_of, full_of, driven_b, cell_above, fault_of, least_fault}
 use Rattle.pic_record.specs.Layout.{LayoutView}
-use Rattle.pic_step.specs.SerialStep.{World, e_of, b_of, half_at, full_at}
+use Rattle.pic_step.specs.SerialStep.{World, e_of, b_of, drive_of, half_at, full_at}
 use Rattle.pic_step.specs.Sound.{IsSafe}
 use Rattle.pic_record.specs.Readable.{IsReadableStop}
 use Rattle.pic_run_laws.proofs.ScaledSizes.{scaled_size}
@@ -58,24 +62,33 @@ half_size w a p mult e_safe b_safe within =
     part : (c : Axis) (q : Triple) → IsWithin q w.cells → IsAtMost (scaled (value_at (e_of w) c q) w.scales.e_to_b) (2 ^ 90 * (2 ^ 31 - 1))
     part c q inside = scaled_size (value_at (e_of w) c q) w.scales.e_to_b (2 ^ 90) mult (e_safe.bounded c q inside).value
 
--- a new value of E, with the current j
-pub full_size : (w : World) (j : Axis → Triple → ℤ) (a : Axis) (p : Triple) → IsMultiplier w.scales.b_to_e → IsSafe w.scales.e_force (e_of w)
-    → IsSafe w.scales.b_force (b_of w) → IsAtMost (j a p) (2 ^ 96) → IsWithin p w.cells → IsAtMost (full_at j w a p) (2 ^ 124)
-unfolding full_of
-full_size w j a p mult e_safe b_safe small within =
-    let n = w.cells in
-    let old = (e_safe.bounded a p within).value.size in
-    let current = small.size in
+-- a value and a curl of moderate values, less a current
+curl_less : (n : Triple) (g : Axis → Triple → ℤ) (v j : ℤ) (a : Axis) (p : Triple)
+    → ((c : Axis) (q : Triple) → IsWithin q n → IsAtMost (g c q) (2 ^ 90 * (2 ^ 31 - 1) + 2 ^ 64))
+    → IsAtMost v (2 ^ 90) → IsAtMost j (2 ^ 96) → IsWithin p n → IsAtMost (v +ℤ curl_b n g a p -ℤ j) (2 ^ 124)
+curl_less n g v j a p small value less within =
+    let old = value.size in
+    let current = less.size in
     let second = next_axis a in
     let third = next_axis second in
-    let one = (part third p within).size in
-    let two = (part third (down n second p) (down_within n second p within)).size in
-    let three = (part second p within).size in
-    let four = (part second (down n third p) (down_within n third p within)).size in
+    let one = (small third p within).size in
+    let two = (small third (down n second p) (down_within n second p within)).size in
+    let three = (small second p within).size in
+    let four = (small second (down n third p) (down_within n third p within)).size in
     record { size = omega (arith, ints, old, current, one, two, three, four) }
+
+-- a new value of E, with the current j
+pub full_size : (w : World) (j : Axis → Triple → ℤ) (a : Axis) (p : Triple) → IsMultiplier w.scales.b_to_e → IsSafe w.scales.e_force (e_of w)
+    → IsSafe w.scales.b_force (b_of w) → AreLoops w.cells most_loops w.loops → IsAtMost (j a p) (2 ^ 96) → IsWithin p w.cells → IsAtMost (full_at j w a p) (2 ^ 124)
+unfolding full_of
+full_size w j a p mult e_safe b_safe loops small within =
+    curl_less w.cells (driven_b w.scales (b_of w) (drive_of w)) (value_at (e_of w) a p) (j a p) a p part (e_safe.bounded a p within).value small within
   where
-    part : (c : Axis) (q : Triple) → IsWithin q w.cells → IsAtMost (scaled (value_at (b_of w) c q) w.scales.b_to_e) (2 ^ 90 * (2 ^ 31 - 1))
-    part c q inside = scaled_size (value_at (b_of w) c q) w.scales.b_to_e (2 ^ 90) mult (b_safe.bounded c q inside).value
+    part : (c : Axis) (q : Triple) → IsWithin q w.cells → IsAtMost (driven_b w.scales (b_of w) (drive_of w) c q) (2 ^ 90 * (2 ^ 31 - 1) + 2 ^ 64)
+    part c q inside =
+        let value = (scaled_size (value_at (b_of w) c q) w.scales.b_to_e (2 ^ 90) mult (b_safe.bounded c q inside).value).size in
+        let drive = driven_size w.cells w.loops w.step loops c q in
+        record { size = omega (arith, ints, value, drive) }
 
 -- the stops that a place can have
 abbrev value_stop : Phase → Axis → Triple → ℤ → Stop

@@ -43,10 +43,10 @@ readable_field by f safe count = record {
 }
 
 -- its fields under the numbers of the layout
-e_is : (l : LayoutView) (w : World) → IsOfLayout l w → field_with l w.e ≡ e_of w
+pub e_is : (l : LayoutView) (w : World) → IsOfLayout l w → field_with l w.e ≡ e_of w
 e_is l w of = λ i. record (e_of w) { cells = sym of.cells i; side = sym of.side i }
 
-b_is : (l : LayoutView) (w : World) → IsOfLayout l w → field_with l w.b ≡ b_of w
+pub b_is : (l : LayoutView) (w : World) → IsOfLayout l w → field_with l w.b ≡ b_of w
 b_is l w of = λ i. record (b_of w) { cells = sym of.cells i; side = sym of.side i }
 
 -- a particle

@@ -14,6 +14,11 @@ pub mod StepStops
 pub mod LoadedLaws
 pub mod StartLaws
 pub mod RunsAreVerified
+pub mod OtherDecks
+pub mod ProbesAreColumns
 pub mod ResumeLaws
 pub mod ResumesAreRuns
 pub mod CutTextsLaws
+pub mod NeverGauss
+pub mod NoField
+pub mod Beginnings

@@ -13,17 +13,18 @@ use Rattle.pic_num.specs.declared.axis.Axis.{Axis}
 use Rattle.pic_num.specs.declared.motion.Particle.{Particle}
 use Rattle.pic_num.specs.Sizes.{IsAtMost}
 use Rattle.pic_num.specs.Space.{triple, spot, along}
+use Rattle.pic_num.proofs.RoundingLaws.{residue-is}
 use Rattle.pic_num.proofs.VersionLaws.{side_least}
 use Rattle.pic_grid.specs.Cells.{Grid}
 use Rattle.pic_grid.specs.Hat.{IsInBox}
 use Rattle.pic_deck.specs.declared.species.Fill.{Fill}
-use Rattle.pic_deck.specs.declared.species.Fill.TheVariants.{Points, Lattice, Random, Pair}
+use Rattle.pic_deck.specs.declared.species.Fill.TheVariants.{Points, Lattice, Random, Pair, Displace}
 use Rattle.pic_deck.specs.declared.species.Species.{Species}
 use Rattle.pic_deck.specs.Deck.{DeckView, deck_grid, deck_terms, heads_of}
 use Rattle.pic_grid.specs.Species.{HeadView}
 use Rattle.pic_deck.specs.Species.{TermsView, Point6, head_of, no_point, no_species, fastest, particles_of, IsFill, filled_count, species_at}
 use Rattle.pic_deck.proofs.HeadLaws.{particles_of-heads}
-use Rattle.pic_load.specs.Loading.{no_particle, loaded_particle, point_in, site, id_of, particles_in, loaded_after, loaded, IsPlaced, AreLoaded}
+use Rattle.pic_load.specs.Loading.{no_particle, loaded_particle, point_in, site, moved, id_of, particles_in, loaded_after, loaded, IsPlaced, AreLoaded}
 use Rattle.pic_load.specs.Drawing.{drawn_place, drawn_velocity}
 use Rattle.pic_load.specs.Generator.{generator, after}
 use Rattle.pic_load.proofs.LoadLaws.{within_earlier, species_more, count_more, length-particles_in, identities_more}
@@ -62,7 +63,7 @@ record IsWide (grid : Grid) : Type 0 where
 point_is : (t : TermsView) (kinds : ℕ) (counts : List ℕ) (earlier : List Species) (done : List Particle) (f : Fill) (i : ℕ) → IsWide t.grid
     → length done ≡ particles_of earlier → All (IsOfDeck t.grid kinds counts) done → IsFill t earlier f → IsByThrees f → i < filled_count earlier f
     → IsGoodPoint t.grid (point_in t.grid earlier done f i)
-unfolding site drawn_place drawn_velocity
+unfolding site moved drawn_place drawn_velocity
 point_is t kinds counts earlier done (Points points) i wide count all fill six below = record {
   six = six i no_point below;
   place = (fill.each i below).place;
@@ -95,6 +96,15 @@ point_is t kinds counts earlier done (Pair named seed stream drift spread) i wid
       place = other.placed.place;
       speed = drawn_slow t.grid.side g drift spread (record { mean = fill.1.drift; width = fill.1.spread });
     }
+point_is t kinds counts earlier done (Displace named by v) i wide count all fill six below = record {
+  six = record { place = refl; speed = six };
+  place = record {
+    x = (residue-is _ (t.grid.n.x * t.grid.side) wide.x).below;
+    y = (residue-is _ (t.grid.n.y * t.grid.side) wide.y).below;
+    z = (residue-is _ (t.grid.n.z * t.grid.side) wide.z).below;
+  };
+  speed = fill.1.speed;
+}
 
 -- the deck's species, those before one of them, and the particles of these
 record IsLoadedTo (d : DeckView) (counts : List ℕ) (i : ℕ) (done : List Particle) : Type 0 where

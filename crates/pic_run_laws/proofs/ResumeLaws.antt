@@ -27,7 +27,7 @@ use Rattle.pic_run.specs.Resume.{resumed_state, behind_outcome, resume_of}
 use Rattle.pic_run.proofs.FrameLaws.{end_joined}
 use Rattle.pic_step.specs.SerialStep.{World}
 use Rattle.pic_verify.specs.Verified.{Verdict}
-use Rattle.pic_run_laws.proofs.StateFits.{IsGoodState, StopsFit, of_after, stands}
+use Rattle.pic_run_laws.proofs.StateFits.{IsGoodState, StopsFit, of_after, loops_after, stands}
 use Rattle.pic_run_laws.proofs.GoodFrames.{frame_text}
 use Rattle.pic_run_laws.proofs.KeptStates.{due_in, IsLast, resumed_states, last_of}
 use Rattle.pic_run_laws.proofs.RunLaws.{dump, states_good, run_read, run_verdict}
@@ -71,7 +71,7 @@ asked_fits steps tiles h longer most tiled =
     ∙ ap (λ (r : Walked (Unit {0})). as_read r) (tiles_that_fit h.cells tiles tiled)
 
 module _ (h : HeaderView) (header : IsHeader h) (w : World) (begins : w.step ≡ 0) (fit : StopsFit (layout_of h)) (start : IsGoodState (layout_of h) w)
-    (steps : ℕ) (longer : h.steps ≤ steps)
+    (loops : w.loops ≡ h.loops) (steps : ℕ) (longer : h.steps ≤ steps)
   where
     -- the states whose frames stand in the dump
     abbrev states : List World
@@ -86,10 +86,9 @@ module _ (h : HeaderView) (header : IsHeader h) (w : World) (begins : w.step ≡
 
     state_is : resumed_state goes_on ≡ is_last.last
     state_is =
-        let l = layout_of h in
         let v = is_last.last in
-        ap (world_in (layout_of (with_steps steps h))) (last_is is_last.before states v is_last.states)
-        ∙ stands l v (of_after l w start.of v.step v is_last.reached)
+        ap (world_in (with_steps steps h)) (last_is is_last.before states v is_last.states)
+        ∙ stands h v (of_after (layout_of h) w start.of v.step v is_last.reached) (loops_after w v.step v is_last.reached ∙ loops)
 
     -- the frames that are kept, and those behind them, are those of the longer run
     frames_are : kept_pieces steps (layout_of h) (map frame_in states) ++ frames_behind Dump steps h.every is_last.last

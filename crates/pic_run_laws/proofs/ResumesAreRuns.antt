@@ -5,64 +5,32 @@ use Rattle.pic_deck.specs.Deck.{DeckView}
 use Rattle.pic_line.specs.declared.asked.Command.{Command}
 use Rattle.pic_line.specs.declared.asked.Command.TheVariants.{Run, Resume}
 use Rattle.pic_line.specs.CommandLine.{command_of}
-use Rattle.pic_load.specs.Loading.{loaded}
 use Rattle.pic_run.specs.DeckEnd.{Staged, ◌>>=◌}
 use Rattle.pic_run.specs.Reading.{Given, Held}
-use Rattle.pic_run.specs.Outcome.{Outcome, out_text, accepted, unless_gauss_fails, tested, on_deck, dump_outcome, run_outcome}
+use Rattle.pic_run.specs.Outcome.{Outcome, out_text, accepted, tested, on_deck, dump_outcome, run_outcome}
 use Rattle.pic_run.specs.Commands.{manner_of, outcome}
 use Rattle.pic_run.specs.Resume.{HasRun}
-use Rattle.pic_run.specs.Starting.{header_of, first_state, state_break}
-use Rattle.pic_step.specs.SerialStep.{World}
+use Rattle.pic_run.specs.Starting.{header_of, first_state}
 use Rattle.pic_run_laws.specs.KeptDecks.{IsKeptDeck}
 use Rattle.pic_run_laws.specs.ResumesAreRuns.{deck_with_steps, resumed, ResumesAreRuns, ResumesJoin, ResumesAreFoundRuns}
 use Rattle.pic_run_laws.proofs.ResumeLaws.{asked_fits, run_resumed}
 use Rattle.pic_run_laws.proofs.RunsAreVerified.{fit_of, passes_where}
-use Rattle.pic_run_laws.proofs.StartLaws.{header_kept, no_break, start_good}
+use Rattle.pic_run_laws.proofs.StartLaws.{header_kept, start_good}
+use Rattle.pic_run_laws.proofs.OtherDecks.{same_first, tested_running, kept_running}
 
--- the deck with other steps: its run begins in the same state, so it passes the test as well
-same_first : (steps : ℕ) (d : DeckView) → first_state (deck_with_steps steps d) ≡ first_state d
-unfolding loaded
-same_first steps d = refl
-
+-- the deck with other steps: its run begins in the same state, so it passes the tests as well
 tested_too : (steps : ℕ) (d : DeckView) → tested d ≡ Ok d → tested (deck_with_steps steps d) ≡ Ok (deck_with_steps steps d)
-tested_too steps d passes =
-    ap (λ (w : World). unless_gauss_fails (deck_with_steps steps d) (state_break w)) (same_first steps d)
-    ∙ ap (unless_gauss_fails (deck_with_steps steps d)) (no_break d (state_break (first_state d)) passes)
+tested_too steps d = tested_running steps d.every d
 
 -- and it is as its type keeps it
 kept_too : (steps : ℕ) (d : DeckView) → steps ≤ most_steps → IsKeptDeck d → IsKeptDeck (deck_with_steps steps d)
-kept_too steps d most kept =
-    let limits = kept.limits in
-    let settings = limits.settings in
-    record {
-      limits = record {
-        settings = record {
-          version = settings.version;
-          cells = settings.cells;
-          allowed = settings.allowed;
-          tiles = settings.tiles;
-          steps = most;
-          every_low = settings.every_low;
-          every_high = settings.every_high;
-          filter = settings.filter;
-        };
-        edges = limits.edges;
-        faces = limits.faces;
-        heads = limits.heads;
-        filled = limits.filled;
-        e = limits.e;
-        b = limits.b;
-      };
-      scales = kept.scales;
-      kinds = kept.kinds;
-      fills = kept.fills;
-    }
+kept_too steps d most kept = kept_running steps d.every d most kept.limits.settings.every_low kept.limits.settings.every_high kept
 
 pub resumes_are_runs : ResumesAreRuns
 resumes_are_runs d steps tiles kept passes can =
-    run_resumed (header_of d) (header_kept d kept) (first_state d) refl (fit_of d kept) (start_good d kept passes) steps can.longer tiles
+    run_resumed (header_of d) (header_kept d kept) (first_state d) refl (fit_of d kept) (start_good d kept passes) refl steps can.longer tiles
     (asked_fits steps tiles (header_of d) can.longer can.most can.tiles_fit)
-    ∙ ap (dump_outcome (header_of (deck_with_steps steps d))) (sym (same_first steps d))
+    ∙ ap (dump_outcome (header_of (deck_with_steps steps d))) (sym (same_first steps d.every d))
 
 pub resumes_join : ResumesJoin
 resumes_join d first second tiles tiles' kept passes can can' =

@@ -1,7 +1,6 @@
 -- The laws of a deck's dump, and of the two commands.
 use Rattle.std.proofs.Common.{◌≡◌, ℕ, List, length, Option, Some, None, Ok, Err, refl, sym, ap, ◌∙◌, subst}
 use Rattle.std.proofs.lemmas.List.Elements.{All-map}
-use Rattle.pic_charge.specs.declared.breaks.Break.{Break}
 use Rattle.pic_grid.specs.Species.{HeadView}
 use Rattle.pic_deck.specs.Deck.{DeckView}
 use Rattle.pic_header.specs.Header.{HasMultipliers}
@@ -9,21 +8,21 @@ use Rattle.pic_line.specs.declared.asked.Command.{Command}
 use Rattle.pic_line.specs.declared.asked.Command.TheVariants.{Verify}
 use Rattle.pic_line.specs.CommandLine.{command_of}
 use Rattle.pic_record.specs.Layout.{layout_of}
-use Rattle.pic_run.specs.declared.ended.Ended.TheVariants.{Verified}
+use Rattle.pic_report.specs.declared.ended.Ended.TheVariants.{Verified}
 use Rattle.pic_run.specs.DeckEnd.{DeckEnd, Unread, Unfit, Unmet, Staged, ◌>>=◌, ended_at}
 use Rattle.pic_run.specs.Reading.{Given, Held}
-use Rattle.pic_run.specs.Outcome.{Outcome, out_text, accepted, unless_gauss_fails, tested, on_deck, run_outcome, verdict_outcome}
+use Rattle.pic_run.specs.Outcome.{Outcome, out_text, accepted, tested, on_deck, run_outcome, verdict_outcome}
 use Rattle.pic_run.specs.Commands.{manner_of, outcome}
 use Rattle.pic_run.specs.Resume.{HasRun}
-use Rattle.pic_run.specs.Starting.{header_of, first_state, state_break}
+use Rattle.pic_run.specs.Starting.{header_of, first_state}
 use Rattle.pic_verify.specs.Verified.{Verdict, verified}
 use Rattle.pic_run_laws.specs.FramesGiveStates.{FramesGiveStates}
 use Rattle.pic_run_laws.specs.KeptDecks.{IsKeptDeck}
 use Rattle.pic_run_laws.specs.RunsAreRead.{RunsAreRead}
 use Rattle.pic_run_laws.specs.RunsAreVerified.{RunsAreVerified, RunsAreFoundGood}
 use Rattle.pic_run_laws.proofs.RunLaws.{run_read, run_verified}
-use Rattle.pic_run_laws.proofs.StartLaws.{header_kept, start_good}
-use Rattle.pic_run_laws.proofs.StateFits.{StopsFit, of_after, stands}
+use Rattle.pic_run_laws.proofs.StartLaws.{header_kept, same_deck, start_good}
+use Rattle.pic_run_laws.proofs.StateFits.{StopsFit, of_after, loops_after, stands}
 use Rattle.pic_run_laws.proofs.StepStops.{stops_fit}
 
 -- what stops a step of a kept deck's run can be said in its dump
@@ -42,18 +41,13 @@ runs_are_verified d kept passes = run_verified (header_of d) (header_kept d kept
 pub frames_give_states : FramesGiveStates
 frames_give_states d n v kept passes reached =
     let l = layout_of (header_of d) in
-    stands l v (of_after l (first_state d) (start_good d kept passes).of n v reached)
+    stands (header_of d) v (of_after l (first_state d) (start_good d kept passes).of n v reached) (loops_after (first_state d) n v reached)
 
 -- why a deck isn't run is no answer of a run
 not_early : (end : DeckEnd) → HasRun (ended_at end) → ⊥
 not_early Unread of = of
 not_early (Unfit refusal) of = of
 not_early (Unmet b) of = of
-
--- a deck that passes the test is the deck that is run
-same_deck : (d e : DeckView) (o : Option Break) → unless_gauss_fails d o ≡ Ok e → d ≡ e
-same_deck d e None is = cc
-same_deck d e (Some b) is = absurd cc
 
 -- what the command `verify` answers over what an outcome put on out
 VerifiesAs : List (List ℕ) → Outcome → Type 0
@@ -68,7 +62,7 @@ verifies verify_words text n is good =
 -- a deck whose run ends so passes it
 pub passes_where : (d : DeckView) (r : Staged DeckView) → tested d ≡ r → HasRun (on_deck run_outcome r).answer → tested d ≡ Ok d
 passes_where d (Err end) is of = absurd (not_early end of)
-passes_where d (Ok e) is of = is ∙ ap (λ (g : DeckView). Ok g) (sym (same_deck d e (state_break (first_state d)) is))
+passes_where d (Ok e) is of = is ∙ ap (λ (g : DeckView). Ok g) (sym (same_deck d e is))
 
 tested_good : (verify_words : List (List ℕ)) (d : DeckView) → command_of verify_words ≡ Some Verify → IsKeptDeck d
     → HasRun (on_deck run_outcome (tested d)).answer → VerifiesAs verify_words (on_deck run_outcome (tested d))

@@ -10,7 +10,8 @@ use Rattle.pic_grid.specs.Cells.{count_of}
 use Rattle.pic_grid.specs.PushPhase.{push_of, after_push, moved}
 use Rattle.pic_grid.proofs.LatticeLaws.{length-values_of}
 use Rattle.pic_push.proofs.PushLaws.{length-moved_all, all_kept}
-use Rattle.pic_record.specs.Layout.{LayoutView}
+use Rattle.pic_header.specs.Header.{HeaderView}
+use Rattle.pic_record.specs.Layout.{LayoutView, layout_of}
 use Rattle.pic_step.specs.SerialStep.{World, around, half_at, full_at, half_on, push_on, current_of, before_electric, next_world, stepped}
 use Rattle.pic_step.specs.SerialRun.{after}
 use Rattle.pic_step.specs.Sound.{IsSound}
@@ -73,6 +74,15 @@ of_after l w of = after_keeps (λ n u. IsOfLayout l u) w of (λ n u v to of'. su
 pub good_after : (l : LayoutView) (w : World) → IsGoodState l w → (n : ℕ) (v : World) → w.step + n ≤ most_steps → after w n ≡ Ok v → IsGoodState l v
 good_after l w good n v most reached = record { sound = after_sound_within w good.sound n v most reached; of = of_after l w good.of n v reached }
 
--- such a state stands in its frame
-pub stands : (l : LayoutView) (w : World) → IsOfLayout l w → world_in l (frame_in w) ≡ w
-stands l w of = λ i. record w { side = sym of.side i; cells = sym of.cells i; filter = sym of.filter i; scales = sym of.scales i; kinds = sym of.kinds i }
+-- its loops stay
+next_loops : (w : World) → (next_world w).loops ≡ w.loops
+unfolding next_world
+next_loops w = refl
+
+pub loops_after : (w : World) (n : ℕ) (v : World) → after w n ≡ Ok v → v.loops ≡ w.loops
+loops_after w = after_keeps (λ n u. u.loops ≡ w.loops) w refl (λ n u v to is. subst (λ (x : World). x.loops ≡ w.loops) to.is (next_loops u ∙ is))
+
+-- such a state stands in its frame, under a header of its loops
+pub stands : (h : HeaderView) (w : World) → IsOfLayout (layout_of h) w → w.loops ≡ h.loops → world_in h (frame_in w) ≡ w
+stands h w of loops =
+    λ i. record w { side = sym of.side i; cells = sym of.cells i; filter = sym of.filter i; loops = sym loops i; scales = sym of.scales i; kinds = sym of.kinds i }

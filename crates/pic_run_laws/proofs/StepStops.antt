@@ -63,7 +63,7 @@ module _ (l : LayoutView) (scales : AreMultipliers l.scales) (kinds : All HasMul
         let b = safe_half (push_on (half_on w)) Half2 second in
         let j = current_of (half_on w) in
         phase_stop_fits l Electric w.scales.e_force w.cells (full_at j (before_electric w)) stop good.of.cells mults.e_force
-        (λ a p within. full_size (before_electric w) j a p mults.b_to_e sound.e b
+        (λ a p within. full_size (before_electric w) j a p mults.b_to_e sound.e b sound.loops
         (filtered_size w.filter w.cells (current (around (half_on w)) w.particles a) p
         (λ q. current_size (around (half_on w)) w.particles a q above sound.side_most sound.kinds.limits sound.few) within) within) is
 

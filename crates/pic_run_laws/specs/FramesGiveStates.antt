@@ -1,7 +1,6 @@
 -- The frames of a dump give the states that they were.
 use Rattle.std.specs.Prelude.{◌≡◌, ℕ, Ok}
 use Rattle.pic_deck.specs.Deck.{DeckView}
-use Rattle.pic_record.specs.Layout.{layout_of}
 use Rattle.pic_step.specs.SerialStep.{World}
 use Rattle.pic_step.specs.SerialRun.{after}
 use Rattle.pic_run.specs.FrameStates.{frame_in, world_in}
@@ -14,4 +13,4 @@ abbrev pub FramesGiveStates : Type 0
 FramesGiveStates =
     (d : DeckView) (n : ℕ) (v : World) → IsKeptDeck d → tested d ≡ Ok d
     → after (first_state d) n ≡ Ok v
-    → world_in (layout_of (header_of d)) (frame_in v) ≡ v
+    → world_in (header_of d) (frame_in v) ≡ v

@@ -3,4 +3,8 @@ pub mod FramesGiveStates
 pub mod RunsAreRead
 pub mod RunsAreVerified
 pub mod ResumesAreRuns
+pub mod ProbesAreColumns
 pub mod CutTexts
+pub mod NeverGauss
+pub mod NoField
+pub mod Beginnings

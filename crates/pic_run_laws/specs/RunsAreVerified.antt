@@ -3,7 +3,7 @@ use Rattle.std.specs.Prelude.{◌≡◌, ℕ, List, length, Some, Ok}
 use Rattle.pic_deck.specs.Deck.{DeckView}
 use Rattle.pic_line.specs.declared.asked.Command.TheVariants.{Run, Verify}
 use Rattle.pic_line.specs.CommandLine.{command_of}
-use Rattle.pic_run.specs.declared.ended.Ended.TheVariants.{Verified}
+use Rattle.pic_report.specs.declared.ended.Ended.TheVariants.{Verified}
 use Rattle.pic_run.specs.Reading.{Given, Held}
 use Rattle.pic_run.specs.Outcome.{out_text, accepted, tested, run_outcome}
 use Rattle.pic_run.specs.Commands.{outcome}

@@ -8,6 +8,7 @@ ghost use Rattle.pic_run_laws.specs.KeptDecks.{IsSixfold, IsByThrees, IsKeptDeck
 
 use pic_deck::{Deck, DeckFault, Fill, Point6, Species, read_deck};
 use pic_dump::{keep_kind, keep_scales};
+use pic_grid::Loop;
 use pic_num::NoMemory;
 use std::alloc::Global;
 
@@ -18,6 +19,7 @@ pub fn keep_deck(deck: &Deck)
     keep_scales(&deck.scales());
     keep_kinds(deck.species());
     keep_fills(deck.species());
+    keep_loops(deck.loops());
 }
 
 /// The deck that some bytes are, where they are one, is as its type keeps it; or memory is wanting.
@@ -68,6 +70,21 @@ fn keep_fill(fill: &Fill)
         Fill::Points(points) => keep_points(points.as_slice()),
         Fill::Lattice { v, .. } => keep_velocity(*v),
         Fill::Random { .. } | Fill::Pair { .. } => (),
+        Fill::Displace { v, .. } => keep_velocity(*v),
+    }
+}
+
+fn keep_cell(cell: [u32; 3])
+    ensures { length cell ≡ 3 }
+{
+    let _numbers = cell;
+}
+
+fn keep_loops(loops: &[Loop])
+    ensures { All (λ l. length l.cell ≡ 3) loops.now }
+{
+    for one in loops {
+        keep_cell(one.cell);
     }
 }
 

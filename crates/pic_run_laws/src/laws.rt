@@ -2,6 +2,7 @@
 
 ghost use Rattle.pic_run_laws.specs.CutTexts.{CutBehindWholePieces, CutsLeaveFronts};
 ghost use Rattle.pic_run_laws.specs.FramesGiveStates.{FramesGiveStates};
+ghost use Rattle.pic_run_laws.specs.ProbesAreColumns.{ProbesAreColumns, ProbesChangeNoDump, ProbesChangeNoCheck};
 ghost use Rattle.pic_run_laws.specs.ResumesAreRuns.{ResumesAreRuns, ResumesJoin, ResumesAreFoundRuns};
 ghost use Rattle.pic_run_laws.specs.RunsAreRead.{RunsAreRead};
 ghost use Rattle.pic_run_laws.specs.RunsAreVerified.{RunsAreVerified, RunsAreFoundGood};
@@ -38,6 +39,17 @@ pub fn resumes_are_runs()
     ensures run { ResumesAreRuns }
     ensures twice { ResumesJoin }
     ensures found { ResumesAreFoundRuns }
+{}
+
+/// What `probe` puts on `out` of a deck that its type keeps and that meets Gauss's law are columns of the
+/// frames that `run` puts of this deck where each state has a frame, and the line of the run's end. And probes
+/// change no dump, nor what `check` says: what either makes of a deck, or why the deck isn't run, is the same
+/// with others.
+#[tactic(auto, using(crate::proofs::ProbesAreColumns::probes_are_columns, crate::proofs::OtherDecks::change_no_dump, crate::proofs::OtherDecks::change_no_check))]
+pub fn probes_are_columns()
+    ensures columns { ProbesAreColumns }
+    ensures dump { ProbesChangeNoDump }
+    ensures check { ProbesChangeNoCheck }
 {}
 
 /// Where a put fails among pieces that are put one after another, the pieces before one of them

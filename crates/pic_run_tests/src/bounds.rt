@@ -1,9 +1,8 @@
 //! Runs that end at a bound of the scheme, and the most particles: the same on every number of workers.
 
 use crate::runs::{Run, TWO, check_run};
-use crate::trial::{
-    CALM, ELECTRON, GRID_2, GRID_4, ION, MOVING, NO_STEP, ONE_STEP, STILL, WAVES, call, check,
-};
+use crate::trial::{call, check};
+use pic_trial::{CALM, ELECTRON, GRID_2, GRID_4, ION, MOVING, NO_STEP, ONE_STEP, STILL, WAVES};
 use std::process::Abort;
 use std::thread::Threads;
 

@@ -1,7 +1,8 @@
 //! Calls in bytes, and with each fault in mid-run.
 
-use crate::trial::{CALM, EMPTY, Faults, LONE, NEVER, PAIR, Pieces, call, check};
+use crate::trial::{call, check};
 use pic_run::every_state_meets_gauss;
+use pic_trial::{CALM, EMPTY, Faults, LONE, NEVER, PAIR, Pieces};
 use std::process::Abort;
 use std::thread::Threads;
 
@@ -18,7 +19,7 @@ const EMPTY_REPORT: &[u8] = b"frame 0 kinetic 0 electric 0 magnetic 0\ndone 0\n"
 
 const USAGE: &[u8] =
     b"usage: pic [check | run [--workers N] | verify | demo SEED [--workers N] | upgrade \
-    | resume --steps M [--workers N]]\n";
+    | resume --steps M [--workers N] | probe [--workers N]]\n";
 
 // The words, the deck, the take that fails, the status, out and report.
 type Answer = (

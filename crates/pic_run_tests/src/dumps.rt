@@ -1,6 +1,7 @@
 //! Dumps that are verified, and the demonstration.
 
-use crate::trial::{CALM, FILTERED, Faults, PAIR, PAIR_OF_12, call, check};
+use crate::trial::{call, check};
+use pic_trial::{CALM, FILTERED, Faults, PAIR, PAIR_OF_12};
 use std::process::Abort;
 use std::thread::Threads;
 
@@ -46,7 +47,7 @@ const CASES_OF_2: [Case; 8] = [
         b"broken frame 1 node 0 0 0 div 412316860416 rho 1649267441664\n",
     ),
     (67, 2, 12692, 7, b"", b"bad dump 64 2\n"),
-    (71, 1, 12692, 7, b"", b"bad dump 68 2\n"),
+    (71, 17, 12692, 7, b"", b"bad dump 68 2\n"),
     (75, 17, 12692, 7, b"", b"bad dump 72 2\n"),
     (7, b'3', 12692, 7, b"", b"bad dump 7 1\n"),
 ];

@@ -1,6 +1,7 @@
 //! The run of two charges with each take and each put failing in turn, and its deck cut at every byte.
 
-use crate::trial::{CALM, EMPTY, Faults, Left, PAIR, Pieces, call, check, check_front, check_same};
+use crate::trial::{call, check, check_front, check_same};
+use pic_trial::{CALM, EMPTY, Faults, Left, PAIR, Pieces};
 use std::process::Abort;
 use std::thread::Threads;
 

@@ -1,6 +1,7 @@
 //! What `upgrade` and `resume` put of a dump before its fault, and before a take that fails.
 
-use crate::trial::{CALM, Faults, GRID_2, PAIR, WAVES, call, check_front};
+use crate::trial::{call, check_front};
+use pic_trial::{CALM, Faults, GRID_2, PAIR, WAVES};
 use std::process::Abort;
 use std::thread::Threads;
 

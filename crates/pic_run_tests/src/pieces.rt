@@ -1,6 +1,7 @@
 //! Sources that give their bytes in small and in large pieces: the answers are the same.
 
-use crate::trial::{CALM, LONE, PAIR, Pieces, SMALL, Sizes, call, call_in, check};
+use crate::trial::{call, call_in, check};
+use pic_trial::{CALM, LONE, PAIR, Pieces, SMALL, Sizes};
 use std::process::Abort;
 use std::thread::Threads;
 

@@ -1,9 +1,9 @@
 //! Dumps that are read and run on: a run in parts is the run in one, byte for byte.
 
-use crate::runs::number_at;
-use crate::trial::{
+use crate::trial::{call, check, check_front, check_same};
+use pic_trial::{
     CALM, CHARGES, ELECTRON, Faults, GRID_4, GRID_OF_8, GRID_OF_12, ION, Left, MOVING, MOVING_OF_8,
-    PAIR, PAIR_REPORT, Pieces, STILL, STILL_OF_8, call, check, check_front, check_same,
+    PAIR, PAIR_REPORT, Pieces, STILL, STILL_OF_8, number_at,
 };
 use std::process::Abort;
 use std::thread::Threads;

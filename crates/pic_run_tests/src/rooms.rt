@@ -1,6 +1,7 @@
 //! Frames whose last room before a put is exactly full, and one whose last record no longer fits.
 
-use crate::trial::{CALM, Faults, NEVER, NO_STEP, SMALL, Sizes, WAVES, call_in};
+use crate::trial::call_in;
+use pic_trial::{CALM, Faults, NEVER, NO_STEP, SMALL, Sizes, WAVES};
 use std::process::Abort;
 use std::thread::Threads;
 

@@ -1,9 +1,10 @@
 //! Whole runs, in values of their dumps.
 
-use crate::trial::{
+use crate::trial::{call, check_same};
+use pic_trial::{
     CALM, CHARGES, ELECTRON, FILTERED, FILTERED_STEP, GRID_2, GRID_4, GRID_OF_8, ION, Left, MOVING,
-    MOVING_OF_8, ONE_STEP, PAIR, PAIR_OF_12, PAIR_REPORT, Pieces, STILL, STILL_OF_8, WAVES, call,
-    check_same,
+    MOVING_OF_8, ONE_STEP, PAIR, PAIR_OF_12, PAIR_REPORT, Pieces, STILL, STILL_OF_8, WAVES,
+    number_at,
 };
 use std::process::Abort;
 use std::thread::Threads;
@@ -177,15 +178,6 @@ const STRONG: Run = Run {
 };
 
 const RUNS: [Run; 7] = [RARE, VACUUM, COARSE, SMOOTH, CORNER, ROUND, STRONG];
-
-/// The number of so many bytes at this place: one of 16 bytes has a sign.
-pub fn number_at(bytes: &[u8], place: usize, len: usize) -> Option<i128> {
-    let mut number: i128 = 0;
-    for byte in bytes.get(place..)?.get(..len)? {
-        number = number.wrapping_mul(256).wrapping_add(i128::from(*byte));
-    }
-    Some(number)
-}
 
 pub fn check_run<H: AllocGlobal + Abort + Threads + Sync>(rt: &H, run: &Run) {
     let left = call(rt, &["run"], run.deck, CALM);

@@ -1,6 +1,7 @@
 //! Dumps that are put again in the spelling of version 2.
 
-use crate::trial::{CALM, EMPTY, FILTERED, PAIR, PAIR_OF_12, call, check};
+use crate::trial::{call, check};
+use pic_trial::{CALM, EMPTY, FILTERED, PAIR, PAIR_OF_12};
 
 const UPGRADE: &[&str] = &["upgrade"];
 

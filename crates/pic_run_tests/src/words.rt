@@ -1,7 +1,7 @@
 //! Lines that `clap` takes, and lines that it doesn't.
 
-use crate::trial::owned;
 use pic_line::{Command, LineFault, command};
+use pic_trial::owned;
 
 const SEVEN: Command = Command::Demo {
     seed: 7,
@@ -20,7 +20,7 @@ const RESUME_FAR: Command = Command::Resume {
     tiles: [64, 2, 3],
 };
 
-const COMMANDS: [(&[&str], Command); 18] = [
+const COMMANDS: [(&[&str], Command); 21] = [
     (&[], Command::Check),
     (&["--"], Command::Check),
     (&["check"], Command::Check),
@@ -50,6 +50,12 @@ const COMMANDS: [(&[&str], Command); 18] = [
         ],
         RESUME_FAR,
     ),
+    (&["probe"], Command::Probe { workers: 1 }),
+    (
+        &["probe", "--workers", "64"],
+        Command::Probe { workers: 64 },
+    ),
+    (&["probe", "--workers=003"], Command::Probe { workers: 3 }),
     (&["demo", "7"], SEVEN),
     (&["demo", "--", "7"], SEVEN),
     (
@@ -68,7 +74,7 @@ const COMMANDS: [(&[&str], Command); 18] = [
     ),
 ];
 
-const USAGES: [&[&str]; 28] = [
+const USAGES: [&[&str]; 32] = [
     &["go"],
     &[""],
     &["help"],
@@ -94,6 +100,10 @@ const USAGES: [&[&str]; 28] = [
     &["resume", "--steps", "7", "--tiles-x", "0"],
     &["resume", "--steps", "7", "--tiles-z", "65"],
     &["resume", "--steps", "7", "--tiles", "2"],
+    &["probe", "7"],
+    &["probe", "--workers", "65"],
+    &["probe", "--steps", "7"],
+    &["probes"],
     &["demo"],
     &["demo", "4294967296"],
     &["demo", "7", "8"],
@@ -102,7 +112,7 @@ const USAGES: [&[&str]; 28] = [
 #[test]
 fn lines_with_a_command(rt: HostRuntime) {
     for (texts, wanted) in &COMMANDS {
-        let found = command(rt.alloc(), &owned(&rt, texts));
+        let found = command(rt.alloc(), &owned(rt.alloc(), texts).expect(&rt, "memory"));
         assert_eq!(rt; found, Ok(*wanted), "{texts:?}");
     }
 }
@@ -110,7 +120,7 @@ fn lines_with_a_command(rt: HostRuntime) {
 #[test]
 fn lines_without_a_command(rt: HostRuntime) {
     for texts in &USAGES {
-        let found = command(rt.alloc(), &owned(&rt, texts));
+        let found = command(rt.alloc(), &owned(rt.alloc(), texts).expect(&rt, "memory"));
         assert_eq!(rt; found, Err(LineFault::Usage), "{texts:?}");
     }
 }

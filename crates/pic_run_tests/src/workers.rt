@@ -1,7 +1,8 @@
 //! The number of workers that the words name comes to the board: two of them meet there.
 
-use crate::trial::{CALM, PAIR, Pieces, SMALL, call, call_at};
+use crate::trial::{call, call_at};
 use pic_gate::Hold;
+use pic_trial::{CALM, PAIR, Pieces, SMALL};
 use std::process::Abort;
 use std::thread::Threads;
 

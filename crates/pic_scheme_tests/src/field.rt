@@ -18,30 +18,35 @@ type Value = (Axis, [u32; 3], i128);
 
 type Edge = (Axis, [i32; 3], i128);
 
-// A lattice of zeros but for these values.
-fn lattice_of(alloc: Global, n: [u32; 3], values: &[Value]) -> Result<Lattice, NoMemory>
+// The greatest size of a value, and of one that drives B.
+const MAX_VALUE: u128 = 1 << 90;
+
+const MAX_DRIVE: u128 = 1 << 64;
+
+// A lattice of zeros but for these values, as far as they are at most `most` in size.
+fn lattice_of(alloc: Global, n: [u32; 3], most: u128, values: &[Value]) -> Result<Lattice, NoMemory>
     requires { IsCells (triple n) }
     ensures cells { IfOk result (λ f. f.cells ≡ triple n) }
-    ensures small { IfOk result (EachAtMost (2 ^ 90)) }
+    ensures small { IfOk result (EachAtMost most) }
 {
     let mut field = Lattice::new(alloc, Cells::new(n, Sub::of_bits(12)), [1; 3])?;
     for (axis, cell, value) in values {
-        put(&mut field, *axis, *cell, *value);
+        put(&mut field, most, *axis, *cell, *value);
     }
     Ok(field)
 }
 
-fn put(field: &mut Lattice, axis: Axis, cell: [u32; 3], value: i128)
-    requires { EachAtMost (2 ^ 90) field.old }
+fn put(field: &mut Lattice, most: u128, axis: Axis, cell: [u32; 3], value: i128)
+    requires { EachAtMost most field.old }
     ensures cells { field.new.cells ≡ field.old.cells }
-    ensures small { EachAtMost (2 ^ 90) field.new }
+    ensures small { EachAtMost most field.new }
 {
     let [nx, ny, nz] = field.cells().numbers();
     let [x, y, z] = cell;
     if x >= nx || y >= ny || z >= nz {
         return;
     }
-    if value.unsigned_abs() > 1 << 90 {
+    if value.unsigned_abs() > most {
         return;
     }
     field.set(axis, cell, value);
@@ -83,12 +88,13 @@ fn read(block: &Block, axis: Axis, cell: [i32; 3]) -> i128 {
     }
 }
 
-// A step of E from zeros on all cells.
+// A step of E from zeros on all cells, by values of B, of what drives it and of the current.
 fn full_step(
     alloc: Global,
     scales: &Scales,
     n: [u32; 3],
     faces: &[Value],
+    drive: &[Value],
     current: &[Edge],
 ) -> Result<(Block, Result<(), Stop>), NoMemory>
     requires { IsCells (triple n) }
@@ -97,10 +103,11 @@ fn full_step(
         low: [0; 3],
         size: n,
     };
-    let b = lattice_of(alloc, n, faces)?;
+    let b = lattice_of(alloc, n, MAX_VALUE, faces)?;
+    let m = lattice_of(alloc, n, MAX_DRIVE, drive)?;
     let j = block_of(alloc, zone, current)?;
     let mut e = block_of(alloc, zone, &[])?;
-    let answer = full_e(scales, &b, &j, &mut e);
+    let answer = full_e(scales, &b, &m, &j, &mut e);
     Ok((e, answer))
 }
 
@@ -115,7 +122,7 @@ fn half_step(
     requires among { IsAmongCells (spot zone.low) (triple zone.size)
         (record { x = 4; y = 4; z = 4 }) }
 {
-    let e = lattice_of(alloc, [4, 4, 4], edges)?;
+    let e = lattice_of(alloc, [4, 4, 4], MAX_VALUE, edges)?;
     let mut b = block_of(alloc, zone, faces)?;
     let answer = half_b(scales, &e, &mut b, Phase::Half1);
     Ok((b, answer))
@@ -130,7 +137,7 @@ fn scales_of(e_to_b: Mult, b_to_e: Mult, e_force: Mult, b_force: Mult) -> Scales
     }
 }
 
-// E of a vacuum step from one face alone, Bz(0, 0, 0) = 8.
+// E of a vacuum step from one face alone, whose scaled Bz and drive make 4 at (0, 0, 0).
 fn around_one_face(axis: Axis, cell: [i32; 3]) -> i128 {
     match (axis, cell) {
         (Axis::X, [0, 0, 0]) => 4,
@@ -154,11 +161,16 @@ fn vacuum_step_of_one_face(rt: HostRuntime) {
     let none = Mult::new(0, 0);
     let one = Mult::new(1, 0);
     let scales = scales_of(none, Mult::new(1, 1), one, one);
-    let faces = [(Axis::Z, [0, 0, 0], 8)];
-    let (e, answer) = full_step(rt.alloc(), &scales, [4, 4, 4], &faces, &[]).expect(&rt, "memory");
-    assert_eq!(rt; answer, Ok(()));
-    for axis in [Axis::X, Axis::Y, Axis::Z] {
-        check_around(&rt, &e, axis);
+    // B is halved and rounded before the drive is added: a half is 1
+    for (face, drive) in [(8, 0), (0, 4), (1, 3), (-3, 5)] {
+        let faces = [(Axis::Z, [0, 0, 0], face)];
+        let drive = [(Axis::Z, [0, 0, 0], drive)];
+        let made = full_step(rt.alloc(), &scales, [4, 4, 4], &faces, &drive, &[]);
+        let (e, answer) = made.expect(&rt, "memory");
+        assert_eq!(rt; answer, Ok(()));
+        for axis in [Axis::X, Axis::Y, Axis::Z] {
+            check_around(&rt, &e, axis);
+        }
     }
 }
 
@@ -214,7 +226,7 @@ fn check_case(rt: &(impl AllocGlobal + Abort), case: &Case) {
     let scales = scales_of(none, b_to_e, e_force, none);
     let faces = [(Axis::Z, [0, 0, 0], face)];
     let current = [(Axis::X, [0, 0, 0], current)];
-    let made = full_step(rt.alloc(), &scales, [2, 2, 2], &faces, &current);
+    let made = full_step(rt.alloc(), &scales, [2, 2, 2], &faces, &[], &current);
     let (e, found) = made.expect(rt, "memory");
     let stop = match stop {
         Some((bound, value)) => Some(electric(bound, [0, 0, 0], value)),
@@ -237,7 +249,8 @@ fn a_step_of_e_stops_at_its_least_place(rt: HostRuntime) {
     let none = Mult::new(0, 0);
     let scales = scales_of(none, Mult::new(2147483647, 0), Mult::new(1, 0), none);
     let faces = [(Axis::X, [0, 0, 0], 8193), (Axis::Y, [2, 2, 2], 8193)];
-    let (_, found) = full_step(rt.alloc(), &scales, [4, 4, 4], &faces, &[]).expect(&rt, "memory");
+    let made = full_step(rt.alloc(), &scales, [4, 4, 4], &faces, &[], &[]);
+    let (_, found) = made.expect(&rt, "memory");
     let stop = electric(Bound::Force, [2, 2, 2], -17594333519871);
     assert_eq!(rt; found, Err(stop));
 }
@@ -296,9 +309,13 @@ fn half_a_step_of_b_is_rounded(rt: HostRuntime) {
 #[test]
 fn force_values_are_rounded_once(rt: HostRuntime) {
     let place = [127, 3, 3];
-    let from = lattice_of(rt.alloc(), [128, 4, 4], &[(Axis::X, [127, 3, 3], 5)]).expect(
-        &rt, "memory",
-    );
+    let from = lattice_of(
+        rt.alloc(),
+        [128, 4, 4],
+        MAX_VALUE,
+        &[(Axis::X, [127, 3, 3], 5)],
+    )
+    .expect(&rt, "memory");
     let zone = Zone {
         low: [127, 3, 3],
         size: [1, 1, 1],

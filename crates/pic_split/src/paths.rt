@@ -32,6 +32,7 @@ use pic_num::{Sub, unwrapped};
 
 /// The path of a particle from `p0` by the move `d`, cut where it passes from one cell into
 /// another; in sub-cells, of which a cell's side has `sub`. Nothing is wrapped.
+#[inline(always)]
 pub fn split(sub: Sub, p0: [u32; 3], d: [i32; 3]) -> Track
     requires start { EachIndex p0 (λ k. slice_index p0 k < 2 ^ 30) }
     requires small { AreAtMost (spot d) sub }

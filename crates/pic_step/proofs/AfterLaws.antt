@@ -60,8 +60,7 @@ step_after w v n = after_keeps (λ k u. u.step ≡ w.step + k) w (sym (plus_none
 
 -- a step from a state that is sound but for its number of steps
 next_sound : (k : ℕ) (u v : World) → IsStepTo u v → IsSound (at_step k u) → IsSound (at_step k v)
-unfolding next_world stop_of_step
-next_sound k u v to sound = subst (λ (w : World). IsSound (at_step k w)) to.is (step_sound_at (at_step k u) k sound.reached sound to.none)
+next_sound k u v to sound = subst (λ (w : World). IsSound (at_step k w)) to.is (step_sound_at u k k sound.reached sound to.none)
 
 -- every state of a run that begins in a sound one is sound, but for the limit of its number of steps,
 pub after_sound : (w : World) → IsSound w → (n : ℕ) (v : World) → after w n ≡ Ok v → IsSound (at_step w.step v)

@@ -58,8 +58,9 @@ step_keeps w sound = record {
   side = refl;
   cells = refl;
   filter = refl;
+  loops = refl;
   scales = refl;
   kinds = refl;
-  gauss = gauss_kept w sound;
+  gauss = gauss_kept w w.step sound;
   magnetic = λ p within. half_keeps (push_on (half_on w)) p within ∙ half_keeps w p within;
 }

@@ -5,6 +5,7 @@ use Rattle.pic_num.specs.declared.motion.Kind.{Kind}
 use Rattle.pic_num.specs.declared.motion.Particle.{Particle}
 use Rattle.pic_num.specs.declared.mult.Scales.{Scales}
 use Rattle.pic_num.specs.Space.{triple}
+use Rattle.pic_grid.specs.declared.loops.Loop.{Loop}
 use Rattle.pic_grid.specs.Hat.{IsInBox}
 use Rattle.pic_grid.specs.Lattice.{Field}
 use Rattle.pic_grid.specs.PushPhase.{CanShare}
@@ -38,19 +39,19 @@ pub above_zero : (w : World) → IsSound w → 0 < w.side
 above_zero w sound = let least = sound.side_least in omega (arith, least)
 
 -- where its particles are cut into tiles, the state is that of its parts
-module _ (step filter : ℕ) (m : Tiling) (scales : Scales) (kinds : List Kind) (e b : Field) (xs : List Particle) (p : Plasma) (map : IsMap m)
-    (sound : IsSound (world_of step (grid_of_tiling m) filter scales kinds e.values b.values xs)) (tiled : AreTiled m e b) (of_map : p.frame.map ≡ m)
+module _ (step filter : ℕ) (loops : List Loop) (m : Tiling) (scales : Scales) (kinds : List Kind) (e b : Field) (xs : List Particle) (p : Plasma) (map : IsMap m)
+    (sound : IsSound (world_of step (grid_of_tiling m) filter loops scales kinds e.values b.values xs)) (tiled : AreTiled m e b) (of_map : p.frame.map ≡ m)
     (of_filter : filter_in p.smooth ≡ filter) (of_kinds : p.frame.kinds ≡ kinds) (ready : IsPlasma xs p) where
   list_is : all_particles p.tiles.items ≡ xs
   list_is =
-      let w = world_of step (grid_of_tiling m) filter scales kinds e.values b.values xs in
+      let w = world_of step (grid_of_tiling m) filter loops scales kinds e.values b.values xs in
       particles_are m xs p.tiles.items (above_zero w sound) map.thick (inside w sound) sound.ordered
       (subst (λ (n : Tiling). AreFreshTiles n xs p.tiles.items) of_map ready.tiles)
 
-  pub begun_is : seen step scales e b p ≡ world_of step (grid_of_tiling m) filter scales kinds e.values b.values xs
-  begun_is = λ i. world_of step (grid_of_tiling (of_map i)) (of_filter i) scales (of_kinds i) e.values b.values (list_is i)
+  pub begun_is : seen step loops scales e b p ≡ world_of step (grid_of_tiling m) filter loops scales kinds e.values b.values xs
+  begun_is = λ i. world_of step (grid_of_tiling (of_map i)) (of_filter i) loops scales (of_kinds i) e.values b.values (list_is i)
 
-  pub kept : IsKept step scales e b p
+  pub kept : IsKept step loops scales e b p
   kept = record {
     sound = subst IsSound (sym begun_is) sound;
     tiled = subst (λ (n : Tiling). AreTiled n e b) (sym of_map) tiled;
@@ -58,10 +59,10 @@ module _ (step filter : ℕ) (m : Tiling) (scales : Scales) (kinds : List Kind) 
   }
 
 -- the census of the tiles of a state
-module _ (step : ℕ) (scales : Scales) (e b : Field) (p : Plasma) (map : IsMap p.frame.map) (keeps : IsKept step scales e b p) where
+module _ (step : ℕ) (loops : List Loop) (scales : Scales) (e b : Field) (p : Plasma) (map : IsMap p.frame.map) (keeps : IsKept step loops scales e b p) where
   same : Same (together (chains_of p.tiles.items)) (all_particles p.tiles.items)
   same =
-      let w = seen step scales e b p in
+      let w = seen step loops scales e b p in
       let held = fresh_hold p.frame.map w.particles p.tiles.items (above_zero w keeps.sound) map.thick (inside w keeps.sound) keeps.plasma.tiles in
       held.same
 
@@ -83,17 +84,17 @@ module _ (step : ℕ) (scales : Scales) (e b : Field) (p : Plasma) (map : IsMap 
       written_all all to census (long ∙ sym (same_length all (all_particles p.tiles.items) same))
 
   -- and each particle is in one of them
-  pub tiled : AreTilesOf (seen step scales e b p) p.frame.map p.tiles.items
+  pub tiled : AreTilesOf (seen step loops scales e b p) p.frame.map p.tiles.items
   tiled =
       let xs = all_particles p.tiles.items in
       let all = together (chains_of p.tiles.items) in
       record { side = refl; cells = refl; own = keeps.plasma.tiles; once = permutes particle_discrete xs all (same_sym all xs same) }
 
 -- a state's fields and particles can be pushed, B after its first half step
-pub can_push : (step : ℕ) (scales : Scales) (e b c : Field) (p : Plasma) → IsKept step scales e b p → IsTiled p.frame.map c → IsSafe scales.b_force c
+pub can_push : (step : ℕ) (loops : List Loop) (scales : Scales) (e b c : Field) (p : Plasma) → IsKept step loops scales e b p → IsTiled p.frame.map c → IsSafe scales.b_force c
     → CanPush scales e c p
-can_push step scales e b c p keeps tiled_c safe =
-    let w = seen step scales e b p in
+can_push step loops scales e b c p keeps tiled_c safe =
+    let w = seen step loops scales e b p in
     record {
       side = above_zero w keeps.sound;
       tiled = record { of_e = keeps.tiled.of_e; of_b = tiled_c };
@@ -109,9 +110,9 @@ can_push step scales e b c p keeps tiled_c safe =
     }
 
 -- the state of the parts that a step leaves
-pub next_is : (step next : ℕ) (scales : Scales) (e b e' b' : Field) (p q : Plasma) → next ≡ suc step → q.frame.map ≡ p.frame.map
+pub next_is : (step next : ℕ) (loops : List Loop) (scales : Scales) (e b e' b' : Field) (p q : Plasma) → next ≡ suc step → q.frame.map ≡ p.frame.map
     → filter_in q.smooth ≡ filter_in p.smooth → q.frame.kinds ≡ p.frame.kinds
-    → record (seen step scales e b p) { step = suc step; e = e'.values; b = b'.values; particles = all_particles q.tiles.items }
-    ≡ seen next scales e' b' q
-next_is step next scales e b e' b' p q more map filter kinds =
-    λ i. world_of (sym more i) (grid_of_tiling (sym map i)) (sym filter i) scales (sym kinds i) e'.values b'.values (all_particles q.tiles.items)
+    → record (seen step loops scales e b p) { step = suc step; e = e'.values; b = b'.values; particles = all_particles q.tiles.items }
+    ≡ seen next loops scales e' b' q
+next_is step next loops scales e b e' b' p q more map filter kinds =
+    λ i. world_of (sym more i) (grid_of_tiling (sym map i)) (sym filter i) loops scales (sym kinds i) e'.values b'.values (all_particles q.tiles.items)

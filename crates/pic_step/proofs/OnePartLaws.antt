@@ -1,18 +1,21 @@
 -- A lattice in the tiles of a map, seen whole: a field phase does the same to both.
-use Rattle.std.proofs.Common.{◌≡◌, ℕ, ℤ, List, Some, None, Result, Ok, Err, sym, ap, ◌∙◌, subst, zero-add}
+use Rattle.std.proofs.Common.{◌≡◌, ℕ, ℤ, List, Some, None, Result, Ok, Err, sym, ap, ◌∙◌, subst, ◌+ℤ◌}
 use Rattle.pic_num.specs.Limits.{most_value}
 use Rattle.pic_num.specs.declared.axis.Axis.{Axis}
 use Rattle.pic_num.specs.declared.mult.Scales.{Scales}
 use Rattle.pic_num.specs.Multiplier.{Multiplier}
 use Rattle.pic_num.specs.Space.{Triple}
 use Rattle.pic_grid.specs.declared.stop.Phase.{Phase}
+use Rattle.pic_grid.specs.declared.stop.Phase.TheVariants.{Electric}
 use Rattle.pic_grid.specs.declared.stop.Stop.{Stop}
 use Rattle.pic_grid.specs.Cells.{IsWithin}
+use Rattle.pic_grid.specs.Differences.{curl_b}
 use Rattle.pic_grid.specs.Lattice.{Field, EachAtMost, value_at, values_of, field_of}
 use Rattle.pic_grid.specs.Parts.{one_part, origin}
-use Rattle.pic_grid.proofs.LatticeLaws.{value_at-field_of, length-values_of, same_values}
-use Rattle.pic_field.specs.FieldPhases.{half_of, full_of, cell_above, least_fault}
-use Rattle.pic_field.proofs.CalmLaws.{least_fault-same}
+use Rattle.pic_grid.proofs.LatticeLaws.{value_at-field_of}
+use Rattle.pic_field.specs.FieldPhases.{half_of, full_of, least_fault, no_drive}
+use Rattle.pic_drive.specs.Drive.{plus}
+use Rattle.pic_field.proofs.CurlLaws.{full_of-raised}
 use Rattle.pic_tile.specs.Tiling.{Tiling, cells_of}
 use Rattle.pic_advance.specs.Phases.{Advances}
 use Rattle.pic_advance.proofs.SamePhaseLaws.{values_same, fault_same}
@@ -59,16 +62,16 @@ half_one phase m scales e b r of_e of_b h =
 -- a step of E, whose answer is known
 pub full_one : (phase : Phase) (m : Tiling) (scales : Scales) (b e : Field) (j : Axis → Triple → ℤ) (r s : Result Field Stop) → r ≡ s
     → IsTiled m b → IsTiled m e
-    → Advances phase scales.e_force b.side b.cells e.parts (λ a p. full_of scales b a p (value_at e a p) (j a p)) r
-    → Advanced phase scales.e_force (cells_of m) (λ a p. full_of scales (whole m b.values) a p (value_at (whole m e.values) a p) (j a p)) (values_in s)
+    → Advances phase scales.e_force b.side b.cells e.parts (λ a p. full_of scales b no_drive a p (value_at e a p) (j a p)) r
+    → Advanced phase scales.e_force (cells_of m) (λ a p. full_of scales (whole m b.values) no_drive a p (value_at (whole m e.values) a p) (j a p)) (values_in s)
 unfolding full_of
 full_one phase m scales b e j r s is of_b of_e h =
     subst (λ (t : Result Field Stop).
-    Advanced phase scales.e_force (cells_of m) (λ a p. full_of scales (whole m b.values) a p (value_at (whole m e.values) a p) (j a p)) (values_in t)) is
-    (subst (λ (g : Field). Advanced phase scales.e_force (cells_of m) (λ a p. full_of scales (whole m b.values) a p (value_at g a p) (j a p)) (values_in r))
+    Advanced phase scales.e_force (cells_of m) (λ a p. full_of scales (whole m b.values) no_drive a p (value_at (whole m e.values) a p) (j a p)) (values_in t)) is
+    (subst (λ (g : Field). Advanced phase scales.e_force (cells_of m) (λ a p. full_of scales (whole m b.values) no_drive a p (value_at g a p) (j a p)) (values_in r))
     (whole_is m e of_e)
-    (subst (λ (f : Field). Advanced phase scales.e_force f.cells (λ a p. full_of scales f a p (value_at e a p) (j a p)) (values_in r)) (whole_is m b of_b)
-    (advanced phase scales.e_force b.side b.cells e.parts (λ a p. full_of scales b a p (value_at e a p) (j a p)) r h)))
+    (subst (λ (f : Field). Advanced phase scales.e_force f.cells (λ a p. full_of scales f no_drive a p (value_at e a p) (j a p)) (values_in r)) (whole_is m b of_b)
+    (advanced phase scales.e_force b.side b.cells e.parts (λ a p. full_of scales b no_drive a p (value_at e a p) (j a p)) r h)))
 
 -- a lattice that a phase leaves, on the cells of one and with the parts of another, lies in the tiles as they do
 pub tiled_after : (m : Tiling) (f g r : Field) (values : Axis → Triple → ℤ) → IsTiled m f → IsTiled m g → r ≡ field_of f.side f.cells g.parts values
@@ -98,3 +101,29 @@ pub advanced_same : (phase : Phase) (by : Multiplier) (n : Triple) (g h : Axis �
     → ((a : Axis) (p : Triple) → IsWithin p n → g a p ≡ h a p) → Advanced phase by n g r → Advanced phase by n h r
 advanced_same phase by n g h (Ok values) same done = (done.0 ∙ values_same n g h same, fault_same phase by n g h same ∙ done.1)
 advanced_same phase by n g h (Err stop) same done = fault_same phase by n g h same ∙ done
+
+-- a lattice that a curl was added to lies in the tiles still, and has the values with the curl
+pub plus_tiled : (m : Tiling) (e f : Field) (g : Axis → Triple → ℤ) → IsTiled m e → f ≡ plus e g → IsTiled m f
+plus_tiled m e f g of_e is = tiled_after m e e f (λ a p. value_at e a p +ℤ g a p) of_e of_e is
+
+plus_whole : (m : Tiling) (e f : Field) (g : Axis → Triple → ℤ) → IsTiled m e → f ≡ plus e (curl_b e.cells g) → (a : Axis) (p : Triple)
+    → IsWithin p (cells_of m) → value_at (whole m f.values) a p ≡ value_at (whole m e.values) a p +ℤ curl_b (cells_of m) g a p
+plus_whole m e f g of_e is a p within =
+    let of_f = plus_tiled m e f (curl_b e.cells g) of_e is in
+    let inside : IsWithin p e.cells = subst (λ (n : Triple). IsWithin p n) (sym of_e.cells) within in
+    ap (λ (k : Field). value_at k a p) (sym (whole_is m f of_f)) ∙ ap (λ (k : Field). value_at k a p) is
+    ∙ value_at-field_of e.side e.cells e.parts (λ b q. value_at e b q +ℤ curl_b e.cells g b q) a p inside
+    ∙ (λ i. value_at (whole_is m e of_e i) a p +ℤ curl_b (of_e.cells i) g a p)
+
+-- a step of E that the curl of g was added to is one that g drives
+pub driven_one : (m : Tiling) (scales : Scales) (b e f : Field) (g j : Axis → Triple → ℤ) (r s : Result Field Stop) → r ≡ s → IsTiled m b → IsTiled m e
+    → f ≡ plus e (curl_b e.cells g)
+    → Advances Electric scales.e_force b.side b.cells f.parts (λ a p. full_of scales b no_drive a p (value_at f a p) (j a p)) r
+    → Advanced Electric scales.e_force (cells_of m) (λ a p. full_of scales (whole m b.values) g a p (value_at (whole m e.values) a p) (j a p)) (values_in s)
+driven_one m scales b e f g j r s known of_b of_e is h =
+    let w = whole m b.values in
+    advanced_same Electric scales.e_force (cells_of m) (λ a p. full_of scales w no_drive a p (value_at (whole m f.values) a p) (j a p))
+    (λ a p. full_of scales w g a p (value_at (whole m e.values) a p) (j a p)) (values_in s)
+    (λ a p within. ap (λ (v : ℤ). full_of scales w no_drive a p v (j a p)) (plus_whole m e f g of_e is a p within)
+    ∙ full_of-raised scales w g a p (value_at (whole m e.values) a p) (j a p))
+    (full_one Electric m scales b f j r s known of_b (plus_tiled m e f (curl_b e.cells g) of_e is) h)

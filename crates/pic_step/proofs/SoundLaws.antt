@@ -7,7 +7,6 @@ use Rattle.pic_num.specs.Limits.{most_particles, most_steps}
 use Rattle.pic_num.proofs.FirstLaws.{left_none, right_none}
 use Rattle.pic_num.specs.declared.axis.Axis.{Axis}
 use Rattle.pic_num.specs.Multiplier.{Multiplier}
-use Rattle.pic_num.specs.Rounding.{scaled}
 use Rattle.pic_num.specs.Space.{Triple}
 use Rattle.pic_grid.specs.declared.stop.Phase.{Phase}
 use Rattle.pic_grid.specs.declared.stop.Phase.TheVariants.{Half1, Half2, Electric}
@@ -18,12 +17,12 @@ use Rattle.pic_grid.specs.PushPhase.{moved_all, push_stop}
 use Rattle.pic_grid.proofs.LatticeLaws.{value_at-field_of}
 use Rattle.pic_charge.specs.Charge.{rho_of}
 use Rattle.pic_charge.specs.Gauss.{MeetsGauss}
-use Rattle.pic_field.specs.FieldPhases.{full_of, least_fault, IsBounded}
+use Rattle.pic_field.specs.FieldPhases.{full_of, driven_b, least_fault, IsBounded}
 use Rattle.pic_field.proofs.FaultLaws.{least_fault-bounded}
 use Rattle.pic_split.proofs.ImageLaws.{div_e_same}
 use Rattle.pic_grid.specs.Parts.{origin}
 use Rattle.pic_step.specs.SerialStep.{World, e_of, b_of, around, half_at, full_at, half_on, push_on}
-use Rattle.pic_step.specs.SerialStep.{current_of, before_electric, half_stop, full_stop, next_world, stop_of_step}
+use Rattle.pic_step.specs.SerialStep.{current_of, drive_of, before_electric, half_stop, full_stop, next_world, stop_of_step}
 use Rattle.pic_grid.specs.Parts.{one_part}
 use Rattle.pic_step.specs.Sound.{IsSafe, IsSound}
 use Rattle.pic_advance.proofs.SamePhaseLaws.{above_origin}
@@ -57,10 +56,14 @@ no_stop w none =
     let third = right_none _ _ second in
     record { half1 = left_none _ _ none; push = left_none _ _ second; half2 = left_none _ _ third; electric = right_none _ _ third }
 
--- Gauss's law after a step
-pub gauss_kept : (w : World) → IsSound w → MeetsGauss w.side w.filter w.cells w.kinds (push_on (half_on w)).particles (e_of (next_world w))
+-- a state after another number of steps
+abbrev pub at_step : ℕ → World → World
+at_step k w = record w { step = k }
+
+-- Gauss's law after a step, from a state that is sound but for its number of steps
+pub gauss_kept : (w : World) (k : ℕ) → IsSound (at_step k w) → MeetsGauss w.side w.filter w.cells w.kinds (push_on (half_on w)).particles (e_of (next_world w))
 unfolding next_world full_of
-gauss_kept w sound = record {
+gauss_kept w k sound = record {
   at_node = λ p within.
       let n = w.cells in
       let h = half_on w in
@@ -70,7 +73,7 @@ gauss_kept w sound = record {
       let above : 0 < w.side = omega (arith, sound.side_least) in
       let is_full = div_e_same n (value_at (field_of w.side n one_part (full_at j w4))) (full_at j w4) p within
       (λ a q inside. value_at-field_of w.side n one_part (full_at j w4) a q inside) in
-      let falls = div_full n (value_at (e_of w)) (λ c q. scaled (value_at (b_of w4) c q) w.scales.b_to_e) j p in
+      let falls = div_full n (value_at (e_of w)) (driven_b w.scales (b_of w4) (drive_of w)) j p in
       let old = sound.gauss.at_node p within in
       let law = div_current_of w p above two within sound.places in
       is_full ∙ falls ∙ (λ i. old i -ℤ law i)
@@ -80,10 +83,6 @@ gauss_kept w sound = record {
     cancel : (a b : ℤ) → a -ℤ (a -ℤ b) ≡ b
     cancel a b = omega (arith, ints)
 
--- a state after another number of steps
-abbrev pub at_step : ℕ → World → World
-at_step k w = record w { step = k }
-
 pub sound_at : (w : World) (k : ℕ) → k ≤ most_steps → IsSound w → IsSound (at_step k w)
 sound_at w k few sound = record {
   reached = few;
@@ -91,6 +90,7 @@ sound_at w k few sound = record {
   side_most = sound.side_most;
   cells = sound.cells;
   filter = sound.filter;
+  loops = sound.loops;
   e = sound.e;
   b = sound.b;
   kinds = sound.kinds;
@@ -102,9 +102,9 @@ sound_at w k few sound = record {
 }
 
 -- a step without a stop keeps all but the number of steps,
-pub step_sound_at : (w : World) (k : ℕ) → k ≤ most_steps → IsSound w → stop_of_step w ≡ None → IsSound (at_step k (next_world w))
+pub step_sound_at : (w : World) (k next : ℕ) → next ≤ most_steps → IsSound (at_step k w) → stop_of_step w ≡ None → IsSound (at_step next (next_world w))
 unfolding next_world
-step_sound_at w k reached sound none =
+step_sound_at w k next reached sound none =
     let n = w.cells in
     let h = half_on w in
     let stops = no_stop w none in
@@ -117,6 +117,7 @@ step_sound_at w k reached sound none =
       side_most = sound.side_most;
       cells = sound.cells;
       filter = sound.filter;
+      loops = sound.loops;
       e = safe_after Electric w.scales.e_force w.side n (full_at (current_of h) (before_electric w)) stops.electric;
       b = safe_after Half2 w.scales.b_force w.side n (half_at (push_on h)) stops.half2;
       kinds = sound.kinds;
@@ -124,10 +125,10 @@ step_sound_at w k reached sound none =
       ordered = record { identities = ids_kept (around h) w.particles ∙ sound.ordered.identities ∙ ap (range_with_len 0) (sym count) };
       places = share_kept (around h) w.particles above two sound.places;
       velocities = velocities_kept (around h) w.particles sound.velocities;
-      gauss = gauss_kept w sound;
+      gauss = gauss_kept w k sound;
     }
 
 -- which is one more, within the limit before the last
 pub step_sound : (w : World) → IsSound w → w.step < most_steps → stop_of_step w ≡ None → IsSound (next_world w)
 unfolding next_world
-step_sound w sound early none = step_sound_at w (suc w.step) (omega (arith, early)) sound none
+step_sound w sound early none = step_sound_at w w.step (suc w.step) (omega (arith, early)) sound none

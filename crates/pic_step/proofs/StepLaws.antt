@@ -21,7 +21,7 @@ use Rattle.pic_tile.specs.Tiling.{Tiling}
 use Rattle.pic_step.specs.TileFlux.{flux_in}
 use Rattle.pic_step.specs.PushOn.{around_fields, ArePushed}
 use Rattle.pic_step.specs.SerialStep.{World, e_of, b_of, around, half_at, full_at, half_on, push_on}
-use Rattle.pic_step.specs.SerialStep.{current_of, before_electric, half_stop, next_world, stop_of_step, stepped}
+use Rattle.pic_step.specs.SerialStep.{current_of, drive_of, before_electric, half_stop, next_world, stop_of_step, stepped}
 use Rattle.pic_step.specs.Sound.{IsSafe, IsSound}
 use Rattle.pic_step.specs.Keeps.{Keeps}
 use Rattle.pic_step.proofs.ExitLaws.{no_stop_is, steps_on}
@@ -93,7 +93,7 @@ flux_is w m tiles stop pushed a = filtered_same w.filter w.cells (flux_in m tile
 
 -- E by that flux is E by the current
 abbrev pub by_flux : World → List ℤ → (Axis → Triple → ℤ) → Axis → Triple → ℤ
-by_flux w b j a p = full_of w.scales (on_grid w b) a p (value_at (e_of w) a p) (j a p)
+by_flux w b j a p = full_of w.scales (on_grid w b) (drive_of w) a p (value_at (e_of w) a p) (j a p)
 
 -- by whatever names for the filter and the cells
 pub by_filter : (w : World) (b : List ℤ) (m : Tiling) (tiles : List TileValue) (r : Result (List ℤ) Stop) (filter : ℕ) (n : Triple)
@@ -108,7 +108,7 @@ pub last_step : (w : World) (b : List ℤ) (j : Axis → Triple → ℤ) (r : Re
     → Advanced Electric w.scales.e_force w.cells (by_flux w b j) r
     → Advanced Electric w.scales.e_force w.cells (full_at (current_of (half_on w)) (before_electric w)) r
 last_step w b j r before is = advanced_same Electric w.scales.e_force w.cells (by_flux w b j) (full_at (current_of (half_on w)) (before_electric w)) r
-    (λ a p within. λ i. full_of w.scales (on_grid w (before.is i)) a p (value_at (e_of w) a p) (is a p within i))
+    (λ a p within. λ i. full_of w.scales (on_grid w (before.is i)) (drive_of w) a p (value_at (e_of w) a p) (is a p within i))
 
 -- the state after the step
 pub record IsAfter (w : World) (e b : List ℤ) (particles : List Particle) : Type 0 where

@@ -9,13 +9,14 @@ use Rattle.pic_step.specs.SerialStep.{World, e_of, b_of, next_world}
 use Rattle.pic_step.specs.Sound.{IsSound}
 
 -- from a state to the next: it is after one step more; the side of a cell, the numbers of cells, the
--- filter, the multipliers and the species stay, Gauss's law holds at every node, and the divergence of B is what
--- it was in every cell
+-- filter, the loops, the multipliers and the species stay, Gauss's law holds at every node, and the
+-- divergence of B is what it was in every cell
 pub record Keeps (w next : World) : Type 0 where
   pub step : next.step ≡ suc w.step
   pub side : next.side ≡ w.side
   pub cells : next.cells ≡ w.cells
   pub filter : next.filter ≡ w.filter
+  pub loops : next.loops ≡ w.loops
   pub scales : next.scales ≡ w.scales
   pub kinds : next.kinds ≡ w.kinds
   pub gauss : MeetsGauss next.side next.filter next.cells next.kinds next.particles

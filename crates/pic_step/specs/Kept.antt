@@ -1,6 +1,7 @@
 -- What the state of a run is seen as, and what its type keeps.
-use Rattle.std.specs.Prelude.{◌≡◌, ℕ}
+use Rattle.std.specs.Prelude.{◌≡◌, ℕ, List}
 use Rattle.pic_num.specs.declared.mult.Scales.{Scales}
+use Rattle.pic_grid.specs.declared.loops.Loop.{Loop}
 use Rattle.pic_grid.specs.Lattice.{Field}
 use Rattle.pic_tile.specs.CoreState.{all_particles}
 use Rattle.pic_tile.specs.Tiling.{Tiling, cells_of, grid_of_tiling}
@@ -23,14 +24,14 @@ pub record AreTiled (m : Tiling) (e b : Field) : Type 0 where
 
 -- the state of these parts, after so many steps: its particles are those of the tiles, in the order
 -- of their identities
-abbrev pub seen : ℕ → Scales → Field → Field → Plasma → World
-seen step scales e b p =
-    world_of step (grid_of_tiling p.frame.map) (filter_in p.smooth) scales p.frame.kinds e.values
+abbrev pub seen : ℕ → List Loop → Scales → Field → Field → Plasma → World
+seen step loops scales e b p =
+    world_of step (grid_of_tiling p.frame.map) (filter_in p.smooth) loops scales p.frame.kinds e.values
     b.values
     (all_particles p.tiles.items)
 
 -- it is sound, its fields lie in the tiles, and its particles are ready for their push
-pub record IsKept (step : ℕ) (scales : Scales) (e b : Field) (p : Plasma) : Type 0 where
-  pub sound : IsSound (seen step scales e b p)
+pub record IsKept (step : ℕ) (loops : List Loop) (scales : Scales) (e b : Field) (p : Plasma) : Type 0 where
+  pub sound : IsSound (seen step loops scales e b p)
   pub tiled : AreTiled p.frame.map e b
   pub plasma : IsPlasma (all_particles p.tiles.items) p

@@ -20,7 +20,7 @@ kinds_of d = map (λ (s : Species). s.kind) d.species
 -- the state that a deck begins with, with these particles
 abbrev pub start_of : DeckView → List Particle → World
 start_of d particles =
-    world_of 0 (deck_grid d) d.filter d.scales (kinds_of d) (values_of d.cells (initial_e d))
+    world_of 0 (deck_grid d) d.filter d.loops d.scales (kinds_of d) (values_of d.cells (initial_e d))
     (values_of d.cells (initial_b d)) particles
 
 -- a step answers the state after it, or what stops it, or want of memory

@@ -10,6 +10,7 @@ use Rattle.pic_num.specs.declared.mult.Scales.{Scales}
 use Rattle.pic_num.specs.declared.axis.Axis.{Axis}
 use Rattle.pic_num.specs.Push.{unless}
 use Rattle.pic_num.specs.Space.{Triple}
+use Rattle.pic_grid.specs.declared.loops.Loop.{Loop}
 use Rattle.pic_grid.specs.declared.stop.Phase.{Phase}
 use Rattle.pic_grid.specs.declared.stop.Phase.TheVariants.{Half1, Half2, Electric}
 use Rattle.pic_grid.specs.declared.stop.Stop.{Stop}
@@ -20,16 +21,18 @@ use Rattle.pic_grid.specs.Gather.{force_of}
 use Rattle.pic_grid.specs.Parts.{one_part, origin}
 use Rattle.pic_grid.specs.PushPhase.{Surroundings, moved_all, push_stop}
 use Rattle.pic_filter.specs.Smoothing.{filtered}
+use Rattle.pic_drive.specs.Drive.{driven}
 use Rattle.pic_field.specs.FieldPhases.{half_of, full_of, least_fault}
 
 -- a state of the scheme: after how many steps it is; the side of a cell, the numbers of cells, the
--- filter of the current, the multipliers and the species, which stay; the values of E and of B in the order of places, and the
--- particles in the order of their identities
+-- filter of the current, the loops that drive the run, the multipliers and the species, which stay;
+-- the values of E and of B in the order of places, and the particles in the order of their identities
 pub record World : Type 0 where
   pub step : ℕ
   pub side : ℕ
   pub cells : Triple
   pub filter : ℕ
+  pub loops : List Loop
   pub scales : Scales
   pub kinds : List Kind
   pub e : List ℤ
@@ -37,12 +40,13 @@ pub record World : Type 0 where
   pub particles : List Particle
 
 -- the state of these parts
-abbrev pub world_of : ℕ → Grid → ℕ → Scales → List Kind → List ℤ → List ℤ → List Particle → World
-world_of step grid filter scales kinds e b particles = record {
+abbrev pub world_of : ℕ → Grid → ℕ → List Loop → Scales → List Kind → List ℤ → List ℤ → List Particle → World
+world_of step grid filter loops scales kinds e b particles = record {
   step = step;
   side = grid.side;
   cells = grid.n;
   filter = filter;
+  loops = loops;
   scales = scales;
   kinds = kinds;
   e = e;
@@ -71,9 +75,13 @@ around w = record {
 abbrev pub half_at : World → Axis → Triple → ℤ
 half_at w a p = half_of w.scales (e_of w) a p (value_at (b_of w) a p)
 
+-- what the loops add to the scaled B of the faces in the step from a state
+abbrev pub drive_of : World → Axis → Triple → ℤ
+drive_of w = driven w.loops w.step
+
 -- E after a step, at a place, with the current j
 abbrev pub full_at : (Axis → Triple → ℤ) → World → Axis → Triple → ℤ
-full_at j w a p = full_of w.scales (b_of w) a p (value_at (e_of w) a p) (j a p)
+full_at j w a p = full_of w.scales (b_of w) (drive_of w) a p (value_at (e_of w) a p) (j a p)
 
 -- half a step of B
 abbrev pub half_on : World → World
@@ -91,7 +99,7 @@ current_of w a = filtered w.filter w.cells (current (around w) w.particles a)
 abbrev pub full_on : (Axis → Triple → ℤ) → World → World
 full_on j w = record w { e = values_of w.cells (full_at j w) }
 
--- the state in which E takes its step
+-- the state in which E takes its step: it still has the number of the step before
 abbrev pub before_electric : World → World
 before_electric w = half_on (push_on (half_on w))
 

@@ -9,10 +9,11 @@ use Rattle.pic_step.specs.SerialStep.{World, world_of}
 -- the state that stands in what a run begins with
 abbrev pub begun : Start → World
 begun s =
-    world_of s.step (grid_of_tiling s.setup.map) s.setup.filter s.setup.scales s.setup.kinds
-    s.e.values s.b.values s.particles.items
+    world_of s.step (grid_of_tiling s.setup.map) s.setup.filter s.setup.loops
+    s.setup.scales s.setup.kinds s.e.values s.b.values s.particles.items
 
 -- the state after so many steps that stands in a snapshot, under what stays in its run
 abbrev pub world_in_frame : Setup → ℕ → Snapshot → World
 world_in_frame s step f =
-    world_of step (grid_of_tiling s.map) s.filter s.scales s.kinds f.e.values f.b.values f.particles.items
+    world_of step (grid_of_tiling s.map) s.filter s.loops s.scales s.kinds f.e.values f.b.values
+    f.particles.items

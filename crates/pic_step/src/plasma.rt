@@ -8,7 +8,7 @@ ghost use Rattle.pic_grid.specs.Hat.{IsInBox};
 ghost use Rattle.pic_grid.specs.Lattice.{EachAtMost, value_at};
 ghost use Rattle.pic_grid.specs.Parts.{layered};
 ghost use Rattle.pic_filter.specs.Smoothing.{filtered, filter_in};
-ghost use Rattle.pic_field.specs.FieldPhases.{full_of};
+ghost use Rattle.pic_field.specs.FieldPhases.{full_of, no_drive, most_raised};
 ghost use Rattle.pic_tile.specs.CoreState.{all_particles};
 ghost use Rattle.pic_tile.specs.Tiling.{cells_of};
 ghost use Rattle.pic_advance.specs.Current.{LiesOn};
@@ -76,7 +76,8 @@ impl Plasma {
 
     /// A step of E by the current that the push left. Each tile's finished block of flux moves out of
     /// it, the lot is the lattice of the current, and the spent blocks move back: the tiles are left
-    /// without flux, ready for the next push, also where the answer is a stop.
+    /// without flux, ready for the next push, also where the answer is a stop. The values of E may be
+    /// those that the current of loops was added to.
     pub fn advance_e<H: Threads + Sync, G>(
         self,
         team: &Team<H, G>,
@@ -89,9 +90,9 @@ impl Plasma {
         requires e_cells { e.cells ≡ cells_of self.frame.map }
         requires parts { e.parts ≡ self.frame.map.tiles }
         requires b_small { EachAtMost most_value b.now }
-        requires e_small { EachAtMost most_value e }
+        requires e_small { EachAtMost most_raised e }
         ensures fields { Advances Phase.Electric scales.now.e_force b.now.side b.now.cells e.parts
-            (λ a p. full_of scales.now b.now a p (value_at e a p)
+            (λ a p. full_of scales.now b.now no_drive a p (value_at e a p)
             (filtered (filter_in self.smooth) b.now.cells (flux_in self.frame.map self.tiles.items a) p))
             result.0 }
         ensures frame { result.1.frame ≡ self.frame }

@@ -8,7 +8,7 @@ ghost use Rattle.pic_tile.specs.Tiling.{cells_of, grid_of_tiling, tiles_of};
 ghost use Rattle.pic_step.specs.Kept.{IsTiled};
 
 use pic_deck::Deck;
-use pic_grid::{Lattice, Snapshot};
+use pic_grid::{Lattice, Snapshot, copy_loops};
 use pic_num::{NoMemory, Particle};
 use pic_tile::{Kinds, Setup, TileMap};
 use std::alloc::Global;
@@ -70,6 +70,7 @@ impl Start {
             setup: Setup {
                 map: setup.map,
                 filter: setup.filter,
+                loops: copy_loops(alloc, setup.loops.as_slice())?,
                 scales: setup.scales,
                 kinds,
             },
@@ -105,13 +106,16 @@ fn setup_of(alloc: Global, deck: &Deck) -> Result<Setup, NoMemory>
         (λ setup. setup.map ≡ tiles_of (deck_grid deck.now) deck.now.tiles) }
     ensures cells { IfOk result (λ setup. grid_of_tiling setup.map ≡ deck_grid deck.now) }
     ensures filter { IfOk result (λ setup. setup.filter ≡ deck.now.filter) }
+    ensures loops { IfOk result (λ setup. setup.loops ≡ deck.now.loops) }
     ensures scales { IfOk result (λ setup. setup.scales ≡ deck.now.scales) }
     ensures kinds { IfOk result (λ setup. setup.kinds ≡ kinds_of deck.now) }
 {
     let kinds = kinds_of(alloc, deck)?;
+    let loops = copy_loops(alloc, deck.loops())?;
     Ok(Setup {
         map: TileMap::new(deck.cells(), deck.tiles()),
         filter: deck.filter(),
+        loops,
         scales: deck.scales(),
         kinds,
     })

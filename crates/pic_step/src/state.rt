@@ -7,7 +7,7 @@ use crate::plasma::Plasma;
 use crate::start::Start;
 use crate::write::write_tiles;
 use pic_deck::Deck;
-use pic_grid::{Cells, Lattice, Snapshot};
+use pic_grid::{Cells, Lattice, Loop, Loops, Snapshot};
 use pic_num::{Kind, NoMemory, Particle, Scales};
 use pic_tile::{Setup, Tile, TileMap};
 use std::alloc::Global;
@@ -20,6 +20,7 @@ use std::marker::Model;
 #[derive(Drop)]
 pub struct State {
     pub(crate) step: u32,
+    pub(crate) loops: Loops,
     pub(crate) scales: Scales,
     pub(crate) e: Lattice,
     pub(crate) b: Lattice,
@@ -33,11 +34,11 @@ impl Model for State {
     ghost Value = { StateView };
 
     ghost view = { λ s. record {
-      world = seen s.step s.scales s.e s.b s.plasma;
+      world = seen s.step s.loops s.scales s.e s.b s.plasma;
       map = s.plasma.frame.map;
     } };
 
-    ghost invariant = { λ s. IsKept s.step s.scales s.e s.b s.plasma };
+    ghost invariant = { λ s. IsKept s.step s.loops s.scales s.e s.b s.plasma };
 }
 
 impl State {
@@ -77,6 +78,7 @@ impl State {
         let Setup {
             map,
             filter,
+            loops,
             scales,
             kinds,
         } = setup;
@@ -84,6 +86,7 @@ impl State {
         let plasma = Plasma::new(alloc, map, filter, kinds, particles.as_slice())?;
         Ok(State {
             step,
+            loops,
             scales,
             e,
             b,
@@ -134,6 +137,13 @@ impl State {
             None => 0,
             Some(_) => 1,
         }
+    }
+
+    /// The loops that drive the run.
+    pub fn loops(&self) -> &[Loop]
+        ensures { result.now ≡ self.now.world.loops }
+    {
+        self.loops.as_slice()
     }
 
     /// The multipliers.

@@ -12,6 +12,7 @@ ghost use Rattle.pic_crew.specs.Teams.{most_workers};
 use crate::push_phase::{Fields, push_phase};
 use crate::state::State;
 use pic_advance::advance_b;
+use pic_drive::raise_e;
 use pic_gate::Gate;
 use pic_grid::{Phase, Stop};
 use pic_num::{NoMemory, Workers};
@@ -42,13 +43,13 @@ impl From<NoMemory> for StepStop {
     }
 }
 
-/// One step of the scheme: half a step of B, the push, another half step of B, a step of E. So many
-/// workers, 1 to 64, push the particles, tile by tile and each on a thread of its own where one can
-/// be made. Each passes the gate after each claim of a tile and each post of a parcel. Whatever the
-/// tiles, the workers and the gate, the answer is that of the serial step: the state after it, or
-/// the stop of the first phase that has one. The state after it has one step more, and the same
-/// cells, multipliers, kinds and tiles; it meets Gauss's law at every node, and the divergence of its
-/// B is what it was in every cell.
+/// One step of the scheme: half a step of B, the push, another half step of B, a step of E, which the
+/// loops drive by the numbers of their waves in this step. So many workers, 1 to 64, push the
+/// particles, tile by tile and each on a thread of its own where one can be made. Each passes the gate
+/// after each claim of a tile and each post of a parcel. Whatever the tiles, the workers and the gate,
+/// the answer is that of the serial step: the state after it, or the stop of the first phase that has
+/// one. The state after it has one step more, and the same cells, loops, multipliers, kinds and tiles;
+/// it meets Gauss's law at every node, and the divergence of its B is what it was in every cell.
 ///
 /// # Errors
 /// `StepStop::Stop` as the serial step has it. `StepStop::NoMemory` where memory is refused to the
@@ -72,8 +73,9 @@ pub fn step<H: Threads + Sync, G: Gate + Sync>(
 {
     let State {
         step,
+        loops,
         scales,
-        e,
+        mut e,
         b,
         plasma,
     } = state;
@@ -92,6 +94,7 @@ pub fn step<H: Threads + Sync, G: Gate + Sync>(
         None => {}
     }
     let b = advance_b(&team, &scales, &e, b, Phase::Half2)?;
+    raise_e(loops.as_slice(), step, &mut e);
     let (e, plasma) = plasma.advance_e(&team, &scales, &b, e);
     let e = match e {
         Ok(e) => e,
@@ -99,6 +102,7 @@ pub fn step<H: Threads + Sync, G: Gate + Sync>(
     };
     Ok(State {
         step: step + 1,
+        loops,
         scales,
         e,
         b,

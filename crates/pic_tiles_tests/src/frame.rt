@@ -4,7 +4,7 @@ ghost use Rattle.std.specs.Prelude.{◌≡◌, IfOk};
 ghost use Rattle.pic_grid.specs.Species.{IsKind};
 ghost use Rattle.pic_tile.specs.Frame.{IsForceField};
 
-use pic_grid::{Cells, Lattice};
+use pic_grid::{Cells, Lattice, Loops};
 use pic_num::{Axis, Kind, Mult, NoMemory, Scales, Sub};
 use pic_tile::{Frame, Kinds, Setup, TileMap};
 use std::alloc::Global;
@@ -47,6 +47,7 @@ fn setup_of(alloc: Global, electron: Kind) -> Result<Setup, NoMemory>
     Ok(Setup {
         map: TileMap::new(cells, [2, 1, 1]),
         filter: 0,
+        loops: Loops::from_vec(Vec::new(alloc)),
         scales: Scales {
             e_to_b: none,
             b_to_e: none,

@@ -65,10 +65,12 @@ header_is = record {
     every_most = omega arith;
     filter = omega arith;
     heads = record { few = omega arith; names = names; kinds = kinds; differ = differ; total = omega arith };
+    loops = record { few = omega arith; each = λ i d below. absurd (omega (arith, below)) };
   };
   cells = record { x_least = omega arith; x_most = omega arith; y_least = omega arith; y_most = omega arith; z_least = omega arith; z_most = omega arith };
   scales = record { e_to_b = one_is; b_to_e = one_is; e_force = one_is; b_force = one_is };
   kinds = mults;
+  axes = λ i d below. absurd (omega (arith, below));
 }
 
 -- the frame

@@ -32,6 +32,7 @@ small_header = record {
   filter = 0;
   scales = record { e_to_b = one; b_to_e = one; e_force = one; b_force = one };
   species = single (codes "ion") (pos 1) 1836 ∷ single (codes "electron") (negsuc 0) 1 ∷ [];
+  loops = [];
 }
 
 -- the ion rests, and the electron moves along x

@@ -8,4 +8,5 @@ pub mod Rows
 pub mod Points
 pub mod Sites
 pub mod Draw
+pub mod Displacement
 pub mod FillKind

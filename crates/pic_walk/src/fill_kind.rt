@@ -9,6 +9,7 @@ ghost use Rattle.pic_walk.specs.FillKind.{sources, source_key, has, alone, only}
 use crate::address::Address;
 use crate::fault::WalkStop;
 use crate::tables::find_value;
+use FillKind::{Displace, Lattice, Pair, Points, Random};
 use std::alloc::Global;
 use toml::Table;
 
@@ -19,6 +20,7 @@ pub enum FillKind {
     Lattice,
     Random,
     Pair,
+    Displace,
 }
 
 impl FillKind {
@@ -27,23 +29,23 @@ impl FillKind {
         ensures { result.now ≡ source_key self }
     {
         match self {
-            FillKind::Points => "points",
-            FillKind::Lattice => "lattice",
-            FillKind::Random => "random",
-            FillKind::Pair => "pair",
+            Points => "points",
+            Lattice => "lattice",
+            Random => "random",
+            Pair => "pair",
+            Displace => "displace",
         }
     }
 }
 
-fn sources() -> [FillKind; 4]
-    ensures { result ≡ sources }
+const SOURCES_1: [FillKind; 4] = [Points, Lattice, Random, Pair];
+
+const SOURCES: [FillKind; 5] = [Points, Lattice, Random, Pair, Displace];
+
+fn sources(version: u32) -> &'static [FillKind]
+    ensures { result.now ≡ sources version }
 {
-    [
-        FillKind::Points,
-        FillKind::Lattice,
-        FillKind::Random,
-        FillKind::Pair,
-    ]
+    if version == 1 { &SOURCES_1 } else { &SOURCES }
 }
 
 fn has(table: &Table, source: FillKind) -> bool
@@ -74,14 +76,19 @@ fn alone(
     }
 }
 
-/// The source of the species that the table at a path is: the first that is there, and no further
-/// one may be.
-pub fn find_fill_kind(alloc: Global, path: &str, table: &Table) -> Result<FillKind, WalkStop>
-    ensures { WalksAs (λ (s : FillKindView). s) (only path.now (table_view table.now) sources)
-        result }
+/// The source of the species that the table at a path is, in a deck of a version: the first that is
+/// there, and no further one may be.
+pub fn find_fill_kind(
+    alloc: Global,
+    path: &str,
+    table: &Table,
+    version: u32,
+) -> Result<FillKind, WalkStop>
+    ensures { WalksAs (λ (s : FillKindView). s)
+        (only path.now (table_view table.now) (sources version)) result }
 {
-    let all = sources();
-    for i in 0..4usize {
+    let all = sources(version);
+    for i in 0..all.len() {
         if has(table, all[i]) {
             let further = first_there(table, &all[i + 1..]);
             return alone(alloc, path, all[i], further);

@@ -4,6 +4,7 @@
 
 mod address;
 mod bounds;
+mod displacement;
 mod draw;
 mod extents;
 mod fault;
@@ -22,6 +23,7 @@ mod terms;
 
 pub use address::Address;
 pub use bounds::MAX_BYTES;
+pub use displacement::{Displacement, read_displacement};
 pub use draw::{Draw, read_draw};
 pub use extents::extent;
 pub use fault::{Fault, WalkStop};

@@ -17,6 +17,7 @@ use crate::fault::WalkStop;
 use crate::limits::Limits;
 use crate::tables::{need_signed_three, need_three};
 use crate::terms::Terms;
+use pic_grid::Cells;
 use pic_num::allowance_of;
 use std::alloc::Global;
 use toml::Table;
@@ -53,11 +54,12 @@ fn count_limits(terms: Terms) -> [Limits; 3]
     [Limits::from_to(1, allowance_of(terms.version()).particles); 3]
 }
 
-fn velocity_limits(terms: Terms) -> [Limits; 3]
-    ensures value { result ≡ thrice (speed_limits terms.grid.side) }
-    ensures most { fastest terms.grid.side ≤ fastest most_side }
+/// The limits of a velocity on each axis.
+pub(crate) fn velocity_limits(cells: Cells) -> [Limits; 3]
+    ensures value { result ≡ thrice (speed_limits cells.side) }
+    ensures most { fastest cells.side ≤ fastest most_side }
 {
-    [Limits::either_way(fastest(terms.cells())); 3]
+    [Limits::either_way(fastest(cells)); 3]
 }
 
 /// The keys of a lattice of sites in the table at a path; the first site is in the box.
@@ -69,7 +71,7 @@ pub fn read_sites(alloc: Global, path: &str, table: &Table, terms: Terms) -> Res
     let first = need_three(alloc, path, "first", table, place_limits(terms))?;
     let gap = need_three(alloc, path, "gap", table, gap_limits(terms))?;
     let count = need_three(alloc, path, "count", table, count_limits(terms))?;
-    let v = need_signed_three(alloc, path, "v", table, velocity_limits(terms))?;
+    let v = need_signed_three(alloc, path, "v", table, velocity_limits(terms.cells()))?;
     Ok(Sites {
         first,
         gap,

@@ -6,7 +6,7 @@ use Rattle.pic_grid.specs.Cells.{IsWithin}
 use Rattle.pic_grid.specs.Lattice.{Field, value_at}
 use Rattle.pic_grid.proofs.LatticeLaws.{value_at-field_of}
 use Rattle.pic_filter.specs.Smoothing.{filtered, filter_in, smoothed_each}
-use Rattle.pic_field.specs.FieldPhases.{full_of}
+use Rattle.pic_field.specs.FieldPhases.{full_of, no_drive}
 use Rattle.pic_advance.specs.Phases.{Advances}
 use Rattle.pic_advance.proofs.SamePhaseLaws.{advances_same}
 use Rattle.pic_advance.proofs.driving.drive_e.Goals as goal
@@ -24,7 +24,7 @@ returns-in-None-clause-fields g c =
     let e = c.args.e in
     let flux = c.args.current.flux in
     subst (λ (o : Option Field). Advances Electric s.e_force b.side b.cells e.parts
-    (λ a p. full_of s b a p (value_at e a p) (filtered (filter_in o) b.cells (value_at flux a) p)) c.advance_e-e.result.0)
+    (λ a p. full_of s b no_drive a p (value_at e a p) (filtered (filter_in o) b.cells (value_at flux a) p)) c.advance_e-e.result.0)
     (sym c.in-None.is) c.advance_e-e.ensures.fields
 
 pub returns-in-Some-clause-fields : goal.returns-in-Some-clause-fields
@@ -41,8 +41,8 @@ returns-in-Some-clause-fields g c =
     ∙ value_at-field_of flux.side flux.cells c.in-Some.room.parts (smoothed_each flux.cells (value_at flux)) a p (subst (IsWithin p) (sym c.requires.flux.cells) within)
     ∙ ap (λ (n : Triple). filtered 1 n (value_at flux a) p) c.requires.flux.cells in
     subst (λ (o : Option Field). Advances Electric s.e_force b.side b.cells e.parts
-    (λ a p. full_of s b a p (value_at e a p) (filtered (filter_in o) b.cells (value_at flux a) p)) r)
+    (λ a p. full_of s b no_drive a p (value_at e a p) (filtered (filter_in o) b.cells (value_at flux a) p)) r)
     (sym c.in-Some.is)
-    (advances_same Electric s.e_force b.side b.cells e.parts (λ a p. full_of s b a p (value_at e a p) (value_at smooth a p))
-    (λ a p. full_of s b a p (value_at e a p) (filtered 1 b.cells (value_at flux a) p)) r
-    (λ a p within. ap (full_of s b a p (value_at e a p)) (same a p within)) c.advance_e-e-in-Some.ensures.fields)
+    (advances_same Electric s.e_force b.side b.cells e.parts (λ a p. full_of s b no_drive a p (value_at e a p) (value_at smooth a p))
+    (λ a p. full_of s b no_drive a p (value_at e a p) (filtered 1 b.cells (value_at flux a) p)) r
+    (λ a p within. ap (full_of s b no_drive a p (value_at e a p)) (same a p within)) c.advance_e-e-in-Some.ensures.fields)

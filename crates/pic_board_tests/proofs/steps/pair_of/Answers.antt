@@ -7,7 +7,7 @@ use Rattle.std.proofs.lemmas.Int.{ints, to_z_pos, to_z-of_z}
 use Rattle.std.proofs.lemmas.List.{get_or-replicate, get_or_past, length-replicate}
 use mir.Syntax.{w32}
 use mir.Val.{SFits, to_z}
-use Rattle.pic_num.specs.Limits.{most_force, least_side, most_side}
+use Rattle.pic_num.specs.Limits.{most_force, least_side, most_side, most_loops}
 use Rattle.pic_num.specs.declared.axis.Axis.{Axis}
 use Rattle.pic_num.specs.declared.axis.Axis.TheVariants.{X, Y, Z}
 use Rattle.pic_num.specs.declared.motion.Kind.{Kind}
@@ -22,7 +22,9 @@ use Rattle.pic_num.proofs.RoundingLaws.{rounded-unique, power_above_zero}
 use Rattle.pic_grid.specs.Cells.{Grid, count_of, place_of}
 use Rattle.pic_grid.specs.Differences.{div_e, down}
 use Rattle.pic_grid.specs.Hat.{weight}
+use Rattle.pic_grid.specs.declared.loops.Loop.{Loop}
 use Rattle.pic_grid.specs.Lattice.{Field, value_at}
+use Rattle.pic_grid.specs.Loops.{AreLoops}
 use Rattle.pic_grid.specs.Parts.{one_part}
 use Rattle.pic_grid.specs.PushPhase.{CanShare}
 use Rattle.pic_grid.specs.Species.{IsKind}
@@ -118,15 +120,17 @@ kept side v low high = record { least = least; most = most }
     most Y = omega (arith, ints)
     most Z = omega (arith, ints)
 
-pair_sound : (side q : ℕ) (v : ℤ) (scales : Scales) (a b : Kind) → least_side ≤ side → side ≤ most_side → q < 4 * side → pos 0 ≤ℤ v → v <ℤ pos (4096 * side)
+pair_sound : (loops : List Loop) (side q : ℕ) (v : ℤ) (scales : Scales) (a b : Kind) → AreLoops four most_loops loops
+    → least_side ≤ side → side ≤ most_side → q < 4 * side → pos 0 ≤ℤ v → v <ℤ pos (4096 * side)
     → a.charge ≡ pos 1 → a.mass ≡ 1 → b.charge ≡ negsuc 0 → b.mass ≡ 1
-    → IsSound (world_of 41 (record { n = four; side = side }) 0 scales (a ∷ b ∷ []) (zero_values four) (zero_values four) (pair q v))
-pair_sound side q v scales a b least most at low high a_is a_one b_is b_one = record {
+    → IsSound (world_of 41 (record { n = four; side = side }) 0 loops scales (a ∷ b ∷ []) (zero_values four) (zero_values four) (pair q v))
+pair_sound loops side q v scales a b within least most at low high a_is a_one b_is b_one = record {
   reached = omega arith;
   side_least = least;
   side_most = most;
   cells = record { x_least = omega arith; x_most = omega arith; y_least = omega arith; y_most = omega arith; z_least = omega arith; z_most = omega arith };
   filter = omega arith;
+  loops = within;
   e = zeros_safe side four scales.e_force;
   b = zeros_safe side four scales.b_force;
   kinds = pair_kinds a b a_is a_one b_is b_one;
@@ -174,7 +178,7 @@ begin-requires-clause-sound c =
     let moves = to_z-of_z w32 (to_z w32 s *ℤ pos 2048) fits ∙ (λ i. signed i *ℤ pos 2048) ∙ product in
     let none = c.new-none.result in
     let scales : Scales = record { e_to_b = none; b_to_e = none; e_force = none; b_force = none } in
-    let sound = pair_sound c.args.sub q (pos (s * 2048)) scales c.kind_of.result c.kind_of-2.result side.least side.most
+    let sound = pair_sound c.args.loops c.args.sub q (pos (s * 2048)) scales c.kind_of.result c.kind_of-2.result c.requires side.least side.most
     (omega (arith, side.value, side.least)) (omega (arith, ints)) (omega (arith, ints, side.value, side.least))
     c.kind_of.ensures.charge c.kind_of.ensures.mass c.kind_of-2.ensures.charge c.kind_of-2.ensures.mass in
     let zero = ap (λ (g : Grid). zero_values g.n) cells in
@@ -183,4 +187,4 @@ begin-requires-clause-sound c =
     let kinds = c.from_vec-kinds.ensures ∙ c.in_ok-from_slice.ensures.items in
     let particles = c.in_ok-particles.ensures.items ∙ ap (pair q) moves in
     let grid = c.new-map.ensures.cells ∙ cells in
-    subst IsSound (sym (λ i. world_of 41 (grid i) 0 scales (kinds i) (e i) (b i) (particles i))) sound
+    subst IsSound (sym (λ i. world_of 41 (grid i) 0 c.args.loops scales (kinds i) (e i) (b i) (particles i))) sound

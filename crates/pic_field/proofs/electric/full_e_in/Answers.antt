@@ -2,7 +2,7 @@ use Rattle.std.proofs.Common.{◌≡◌, ◌^◌, ◌-ℤ◌, ℤ, false, Option
 use Rattle.pic_num.specs.Space.{Triple, Spot}
 use Rattle.pic_grid.specs.Cells.{IsWithin}
 use Rattle.pic_grid.specs.Block.{BlockValues, IsAmongCells, inner_at, outer_of}
-use Rattle.pic_field.specs.FieldPhases.{full_of, full_in}
+use Rattle.pic_field.specs.FieldPhases.{full_of, full_in, no_drive}
 use Rattle.pic_field.specs.Beside.{curl_beside}
 use Rattle.pic_field.specs.Lines.{OnStrip, IsTaken}
 use Rattle.pic_field.specs.Rows.{scaled_of}
@@ -43,7 +43,7 @@ returns-clause-values c = λ a p w.
 
 pub returns-clause-stop : goal.returns-clause-stop
 returns-clause-stop c =
-    c.advance.ensures.stop (full_in c.args.scales.now c.args.b.now c.args.j.now c.args.e.now) (λ a p w.
+    c.advance.ensures.stop (full_in c.args.scales.now c.args.b.now no_drive c.args.j.now c.args.e.now) (λ a p w.
     let of_e = edge_at-outer c.args.e.now c.args.b.now.cells a p c.requires.among in
     let of_j = edge_at-shaped c.args.j.now c.args.e.now c.args.b.now.cells a p c.requires.j_shape c.requires.among in
-    returns-clause-values c a p w ∙ (λ i. full_of c.args.scales.now c.args.b.now a (outer_of c.args.e.now.low p) (sym of_e i) (sym of_j i)))
+    returns-clause-values c a p w ∙ (λ i. full_of c.args.scales.now c.args.b.now no_drive a (outer_of c.args.e.now.low p) (sym of_e i) (sym of_j i)))

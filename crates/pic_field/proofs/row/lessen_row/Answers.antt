@@ -4,6 +4,7 @@ use mir.Syntax.{w128}
 use mir.Val.{SFits}
 use Rattle.pic_num.specs.Sizes.{IsAtMost}
 use Rattle.pic_num.proofs.SizeLaws.{codes, code_is, code_fits}
+use Rattle.pic_field.specs.FieldPhases.{most_raised}
 use Rattle.pic_field.specs.Rows.{most_row, row_at, taken_at, curl_of, curl_at, IsValueRow}
 use Rattle.pic_field.proofs.LineLaws.{both_true}
 use Rattle.pic_field.proofs.RowLaws.{row_more, row_rest, small_more}
@@ -15,7 +16,7 @@ taken_small true row count i known below = (known refl).small.at_most i below
 taken_small false row count i known below = record { size = omega arith }
 
 -- the value at a place: the old one less what is taken and the curl, as the code computes it
-module _ (o t a b c d : ℤ) (old : IsAtMost o (2 ^ 90)) (take : IsAtMost t (2 ^ 90)) (far_third : IsAtMost a most_row) (near_third : IsAtMost b most_row)
+module _ (o t a b c d : ℤ) (old : IsAtMost o most_raised) (take : IsAtMost t (2 ^ 90)) (far_third : IsAtMost a most_row) (near_third : IsAtMost b most_row)
     (far_second : IsAtMost c most_row) (near_second : IsAtMost d most_row)
   where
     abbrev word : ℤ → ℤ
@@ -58,8 +59,8 @@ pub overflow_sub-value-in-loop-i : goal.overflow_sub-value-in-loop-i
 overflow_sub-value-in-loop-i c =
     let i = c.loop-i.i in
     let h = c.requires in
-    let own : IsAtMost (row_at c.loop-i.row i) (2 ^ 90) =
-    subst (λ (v : ℤ). IsAtMost v (2 ^ 90)) (sym (c.loop-i.invariant.rest i (omega arith))) (h.small.at_most i c.loop-i-test.true) in
+    let own : IsAtMost (row_at c.loop-i.row i) most_raised =
+    subst (λ (v : ℤ). IsAtMost v most_raised) (sym (c.loop-i.invariant.rest i (omega arith))) (h.small.at_most i c.loop-i-test.true) in
     let take : IsAtMost c.value_if.result (2 ^ 90) =
     subst (λ (v : ℤ). IsAtMost v (2 ^ 90)) (sym c.value_if.ensures) (taken_small c.args.takes c.args.take.now _ i h.take c.loop-i-test.true) in
     value_fits _ _ _ _ _ _ own take (h.four.far_third.small.at_most i c.loop-i-test.true)
@@ -71,7 +72,7 @@ loop-i-preserved c =
     let i = c.loop-i.i in
     let h = c.requires in
     let as_it_was = c.loop-i.invariant.rest i (omega arith) in
-    let own : IsAtMost (row_at c.loop-i.row i) (2 ^ 90) = subst (λ (v : ℤ). IsAtMost v (2 ^ 90)) (sym as_it_was) (h.small.at_most i c.loop-i-test.true) in
+    let own : IsAtMost (row_at c.loop-i.row i) most_raised = subst (λ (v : ℤ). IsAtMost v most_raised) (sym as_it_was) (h.small.at_most i c.loop-i-test.true) in
     let take : IsAtMost c.value_if.result (2 ^ 90) =
     subst (λ (v : ℤ). IsAtMost v (2 ^ 90)) (sym c.value_if.ensures) (taken_small c.args.takes c.args.take.now _ i h.take c.loop-i-test.true) in
     let value = value_is _ _ _ _ _ _ own take (h.four.far_third.small.at_most i c.loop-i-test.true)

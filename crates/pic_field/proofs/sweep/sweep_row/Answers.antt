@@ -1,7 +1,8 @@
-use Rattle.std.proofs.Common.{◌≡◌, ◌<◌, ◌-ℤ◌, ◌^◌, Option, Some, None, IfSome, slice_index, sym, ◌∙◌, ap, subst, arith}
+use Rattle.std.proofs.Common.{◌≡◌, ◌<◌, ◌-ℤ◌, Option, Some, None, IfSome, slice_index, sym, ◌∙◌, ap, subst, arith}
 use Rattle.std.specs.Option.{option_copied}
 use Rattle.pic_num.specs.Space.{Triple}
 use Rattle.pic_grid.specs.Block.{BlockValues}
+use Rattle.pic_field.specs.FieldPhases.{most_raised}
 use Rattle.pic_field.specs.Lines.{IsTaken, taken_off}
 use Rattle.pic_field.specs.Rows.{row_at, curl_at}
 use Rattle.pic_field.proofs.LentLaws.{IsLent, lent as row, lent_below, lent_small, lent_changed, lent_calm}
@@ -23,11 +24,11 @@ lent c = record {
 
 pub lessen_row-requires-clause-small : goal.lessen_row-requires-clause-small
 lessen_row-requires-clause-small c =
-    lent_small _ _ _ _ _ _ _ (lent (goal.at.lessen_row-requires-clause-small c).After-values_mut-values) (2 ^ 90) c.requires.small
+    lent_small _ _ _ _ _ _ _ (lent (goal.at.lessen_row-requires-clause-small c).After-values_mut-values) most_raised c.requires.small
 
 pub lessen_row-requires-in-None-clause-small : goal.lessen_row-requires-in-None-clause-small
 lessen_row-requires-in-None-clause-small c =
-    lent_small _ _ _ _ _ _ _ (lent (goal.at.lessen_row-requires-in-None-clause-small c).After-values_mut-values) (2 ^ 90) c.requires.small
+    lent_small _ _ _ _ _ _ _ (lent (goal.at.lessen_row-requires-in-None-clause-small c).After-values_mut-values) most_raised c.requires.small
 
 pub returns-in-Some-clause-changed : goal.returns-in-Some-clause-changed
 returns-in-Some-clause-changed c =

@@ -13,18 +13,18 @@ unfolding form_of_2
 returns-in_err-filter-clause-reads g c =
     goes_on _ c.in_ok-bits.ensures.reads.answer (exits _ (omega arith) c.from_residual-in_err-filter.ensures.1 c.in_err-filter.ensures.reads)
 
-pub returns-in_err-_loops-clause-reads : goal.returns-in_err-_loops-clause-reads
+pub returns-in_err-loops-clause-reads : goal.returns-in_err-loops-clause-reads
 unfolding form_of_2
-returns-in_err-_loops-clause-reads g c =
-    goes_on _ c.in_ok-bits.ensures.reads.answer (goes_on _ c.in_ok-filter.ensures.reads.answer (exits _ (omega arith) c.from_residual-in_err-_loops.ensures.1
-    c.in_err-_loops.ensures.reads))
+returns-in_err-loops-clause-reads g c =
+    goes_on _ c.in_ok-bits.ensures.reads.answer (goes_on _ c.in_ok-filter.ensures.reads.answer (exits _ (omega arith) c.from_residual-in_err-loops.ensures.1
+    c.in_err-loops.ensures.reads))
 
 pub returns-clause-reads : goal.returns-clause-reads
 unfolding form_of_2
 returns-clause-reads g c =
     rw c.of_bits-side.ensures (record {
       answer = read_up_to (omega arith) (read_then _ c.in_ok-bits.ensures.reads.answer (read_then _ c.in_ok-filter.ensures.reads.answer
-          (read_then _ c.in_ok-_loops.ensures.reads.answer (read_done _ _ _))));
+          (read_then _ c.in_ok-loops.ensures.reads.answer (read_done _ _ _))));
     })
 
 pub returns-clause-side : goal.returns-clause-side
@@ -32,3 +32,6 @@ returns-clause-side g c = rw c.of_bits-side.ensures (side_of_bits 2 _ c.in_ok-bi
 
 pub returns-clause-filter : goal.returns-clause-filter
 returns-clause-filter g c = c.in_ok-filter.ensures.high
+
+pub returns-clause-loops : goal.returns-clause-loops
+returns-clause-loops g c = c.in_ok-loops.ensures.high

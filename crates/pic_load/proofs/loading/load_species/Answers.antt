@@ -20,6 +20,11 @@ returns-in-Pair-clause-value c =
     rw (filled_by c.args.terms.grid c.args.earlier.now c.args.particles.now.items c.args.species.now _ c.args.species.now.count c.in-Pair.is refl)
     (rw (c.new-own.ensures, c.particles_of-start.ensures) at c.load_pair.ensures.value)
 
+pub returns-in-Displace-clause-value : goal.returns-in-Displace-clause-value
+returns-in-Displace-clause-value c =
+    rw (filled_by c.args.terms.grid c.args.earlier.now c.args.particles.now.items c.args.species.now _ c.args.species.now.count c.in-Displace.is refl)
+    (rw (c.cells-cells.ensures, c.particles_of-from.ensures) at c.load_displaced.ensures.value)
+
 pub returns-in-Points-clause-value : goal.returns-in-Points-clause-value
 returns-in-Points-clause-value c =
     let count = rw c.in-Points.is at c.requires.filled.count in

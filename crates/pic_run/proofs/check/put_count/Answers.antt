@@ -1,8 +1,8 @@
 use Rattle.std.proofs.Common.{◌≡◌, List, ℕ, [], length, sym, ap, subst, ◌∙◌}
 use Rattle.pic_io.specs.Sinks.{sinks, Wrote}
 use Rattle.pic_load.specs.Loading.{loaded}
-use Rattle.pic_run.specs.declared.ended.Ended.TheVariants.{Checked}
-use Rattle.pic_run.specs.Lines.{check_line}
+use Rattle.pic_report.specs.declared.ended.Ended.TheVariants.{Checked}
+use Rattle.pic_report.specs.Lines.{check_line}
 use Rattle.pic_run.proofs.RunLaws.{wrote_one}
 use Rattle.pic_run.proofs.check.put_count.Goals as goal
 

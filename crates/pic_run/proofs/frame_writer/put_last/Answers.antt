@@ -25,3 +25,12 @@ returns-in-Lines g c =
     let text : c.bytes-text.result.now ≡ end_line c.args.end = c.bytes-text.ensures ∙ c.end_line-line.ensures in
     subst (λ (output : Output). Writes a b (end_piece output c.args.end ∷ []) c.put_out.result) (sym c.in-Lines.is)
     (subst (λ (t : List ℕ). Writes a b (record { out = t; line = [] } ∷ []) c.put_out.result) text (c.put_out.ensures r))
+
+pub returns-in-Probe : goal.returns-in-Probe
+returns-in-Probe g c =
+    let r = g.R.Sink.told c.args.report.now in
+    let a = sinks (g.O.Sink.told c.args.out.now) r in
+    let b = sinks (g.O.Sink.told c.put_out-in-Probe.new.out) r in
+    let text : c.bytes-text.result.now ≡ end_line c.args.end = c.bytes-text.ensures ∙ c.end_line-line.ensures in
+    subst (λ (output : Output). Writes a b (end_piece output c.args.end ∷ []) c.put_out-in-Probe.result) (sym c.in-Probe.is)
+    (subst (λ (t : List ℕ). Writes a b (record { out = t; line = [] } ∷ []) c.put_out-in-Probe.result) text (c.put_out-in-Probe.ensures r))

@@ -18,11 +18,11 @@ use Rattle.pic_step.specs.declared.start.Start.{Start}
 use Rattle.pic_step.specs.Kept.{AreTiled}
 use Rattle.pic_step.specs.SerialStep.{World, e_of}
 use Rattle.pic_step.specs.SerialRun.{kinds_of}
-use Rattle.pic_step.specs.Sound.{IsSound}
+use Rattle.pic_step.specs.Sound.{IsSafe, IsSound}
 use Rattle.pic_step.specs.Start.{begun}
 use Rattle.pic_run.specs.Starting.{state_break}
 use Rattle.pic_step.proofs.StartLaws.{are_kinds}
-use Rattle.pic_run.proofs.StartLaws.{shares_are, initial_most, sound_start}
+use Rattle.pic_run.proofs.StartLaws.{shares_are, sound_start}
 use Rattle.pic_run.proofs.gauss_test.find_break.Goals as goal
 
 pub find_break-requires-clause-limits : goal.find_break-requires-clause-limits
@@ -48,11 +48,10 @@ e_values start tiled = λ i a p. get_or start.e.values (place_of (tiled.of_e.cel
 
 pub find_break-requires-clause-most : goal.find_break-requires-clause-most
 find_break-requires-clause-most c =
-    let d = c.args.deck.now in
-    let cells : c.cells-cells.result ≡ deck_grid d = c.cells-cells.ensures.value in
-    let e = e_values c.args.start.now c.requires.tiled ∙ ap (λ (w : World). value_at (e_of w)) c.requires.start in
-    λ a p within. subst (λ (f : Axis → Triple → ℤ). IsAtMost (f a p) (2 ^ 90)) (sym e)
-    (initial_most d c.cells-cells.ensures.limits a p (subst (λ (g : Grid). IsWithin p g.n) cells (subst (λ (r : RoomView). IsWithin p r.grid.n) c.in_ok-room.ensures within)))
+    let cells : c.cells-cells.result ≡ deck_grid c.args.deck.now = c.cells-cells.ensures.value in
+    let n = ap (λ (g : Grid). g.n) cells ∙ sym (ap (λ (w : World). w.cells) c.requires.start) in
+    λ a p within. subst (λ (f : Axis → Triple → ℤ). IsAtMost (f a p) (2 ^ 90)) (sym (e_values c.args.start.now c.requires.tiled))
+    (let bounded = c.requires.safe.bounded a p (subst (IsWithin p) n (subst (λ (r : RoomView). IsWithin p r.grid.n) c.in_ok-room.ensures within)) in bounded.value)
 
 pub returns-clause-value : goal.returns-clause-value
 unfolding state_break
@@ -74,4 +73,5 @@ returns-clause-sound c none =
     let d = c.args.deck.now in
     let is = c.requires.start in
     let whole = sym (ap state_break is) ∙ sym (returns-clause-value c) ∙ none in
-    subst IsSound (sym is) (sound_start d c.args.start.now.particles.items c.cells-cells.ensures.limits c.requires.loaded whole)
+    let safe = subst (λ (w : World). IsSafe d.scales.e_force (e_of w)) is c.requires.safe in
+    subst IsSound (sym is) (sound_start d c.args.start.now.particles.items c.cells-cells.ensures.limits c.requires.loaded safe whole)

@@ -2,7 +2,7 @@ use Rattle.std.proofs.Common.{◌≡◌, Ok}
 use Rattle.pic_io.specs.Sinks.{sinks}
 use Rattle.pic_step.specs.SerialRun.{after}
 use Rattle.pic_run.specs.Frames.{due_states}
-use Rattle.pic_run.specs.Rooms.{HasShape}
+use Rattle.pic_run.specs.Rooms.{CanPut, HasShape}
 use Rattle.pic_run.proofs.FrameLaws.{WroteStates}
 use Rattle.pic_run.proofs.running.write_frames.Given as goal
 
@@ -14,4 +14,5 @@ invariant-loop-done g l =
       wrote : WroteStates l.fn.plan.output (sinks (g.O.Sink.told l.fn.out) (g.R.Sink.told l.fn.report)) (sinks (g.O.Sink.told l.out) (g.R.Sink.told l.report))
           (due_states l.fn.plan.steps l.fn.plan.every l.fn.stage.state.world 1 l.done);
       room : HasShape l.room l.state.world;
+      probes : CanPut l.fn.plan.output l.state.world;
     }

@@ -1,14 +1,14 @@
 use Rattle.std.proofs.Common.{map, string_bytes, Some, None, refl}
 use Rattle.pic_io.specs.Sinks.{sinks}
-use Rattle.pic_line.specs.declared.asked.Command.TheVariants.{Check, Run, Verify, Demo, Upgrade, Resume}
+use Rattle.pic_line.specs.declared.asked.Command.TheVariants.{Check, Run, Verify, Demo, Upgrade, Resume, Probe}
 use Rattle.pic_line.specs.CommandLine.{command_of}
-use Rattle.pic_run.specs.declared.ended.Ended.TheVariants.{Usage}
-use Rattle.pic_run.specs.Ended.{ended_of}
+use Rattle.pic_report.specs.declared.ended.Ended.TheVariants.{Usage}
+use Rattle.pic_report.specs.Ended.{ended_of}
 use Rattle.pic_run.specs.Outcome.{early_outcome}
 use Rattle.pic_run.specs.Leaves.{LeavesNothing}
 use Rattle.pic_run.proofs.EndLaws.{announced, untouched}
 use Rattle.pic_run.proofs.CommandLaws.{by_name, starved_words}
-use Rattle.pic_run.proofs.WorkerLaws.{run_workers, demo_workers, resume_workers}
+use Rattle.pic_run.proofs.WorkerLaws.{run_workers, demo_workers, resume_workers, probe_workers}
 use Rattle.pic_run.proofs.top_call.perform.Goals as goal
 
 pub returns-in-Ok-Check : goal.returns-in-Ok-Check
@@ -40,6 +40,11 @@ pub returns-in-Ok-Resume : goal.returns-in-Ok-Resume
 returns-in-Ok-Resume g c =
     by_name (command_of (map string_bytes c.args.words.now)) (Some (Resume c.in-Ok-Resume.steps c.in-Ok-Resume.workers c.in-Ok-Resume.tiles)) _ _ _ _
     (ended_of c.resume.result) (rw c.in-Ok-Resume.field-0-is at c.in-Ok-Resume.ensures.ok) c.resume.ensures
+
+pub returns-in-Ok-Probe : goal.returns-in-Ok-Probe
+returns-in-Ok-Probe g c =
+    by_name (command_of (map string_bytes c.args.words.now)) (Some (Probe c.in-Ok-Probe.workers)) _ _ _ _ (ended_of c.probe.result)
+    (rw c.in-Ok-Probe.field-0-is at c.in-Ok-Probe.ensures.ok) c.probe.ensures
 
 pub returns-in-Err-Usage : goal.returns-in-Err-Usage
 returns-in-Err-Usage g c =
@@ -87,3 +92,11 @@ resume-requires-clause-most g c κs within =
     let has = resume_workers (map string_bytes c.args.words.now) c.in-Ok-Resume.steps c.in-Ok-Resume.workers c.in-Ok-Resume.tiles
     (rw c.in-Ok-Resume.field-0-is at c.in-Ok-Resume.ensures.ok) in
     has.most
+
+pub probe-requires-clause-some : goal.probe-requires-clause-some
+probe-requires-clause-some g c κs within =
+    let has = probe_workers (map string_bytes c.args.words.now) c.in-Ok-Probe.workers (rw c.in-Ok-Probe.field-0-is at c.in-Ok-Probe.ensures.ok) in has.some
+
+pub probe-requires-clause-most : goal.probe-requires-clause-most
+probe-requires-clause-most g c κs within =
+    let has = probe_workers (map string_bytes c.args.words.now) c.in-Ok-Probe.workers (rw c.in-Ok-Probe.field-0-is at c.in-Ok-Probe.ensures.ok) in has.most

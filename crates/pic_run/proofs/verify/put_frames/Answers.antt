@@ -1,6 +1,6 @@
 use Rattle.std.proofs.Common.{◌≡◌, List, ℕ, [], subst, ◌∙◌, refl}
 use Rattle.pic_io.specs.Sinks.{sinks, Wrote}
-use Rattle.pic_run.specs.Lines.{verified_line}
+use Rattle.pic_report.specs.Lines.{verified_line}
 use Rattle.pic_run.proofs.RunLaws.{wrote_one}
 use Rattle.pic_run.proofs.verify.put_frames.Goals as goal
 

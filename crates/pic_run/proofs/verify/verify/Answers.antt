@@ -1,6 +1,6 @@
 use Rattle.std.proofs.Common.{subst}
 use Rattle.pic_io.specs.Sinks.{sinks}
-use Rattle.pic_run.specs.declared.early.StageStop.{StageStop}
+use Rattle.pic_run.specs.declared.stage_stop.StageStop.{StageStop}
 use Rattle.pic_run.specs.Finishes.{EndsStopped}
 use Rattle.pic_run.proofs.VerifyLaws.{good_dump, dump_stopped}
 use Rattle.pic_run.proofs.verify.verify.Goals as goal

@@ -1,4 +1,4 @@
-use Rattle.std.proofs.Common.{◌^◌, sym, ◌∙◌, ap, subst}
+use Rattle.std.proofs.Common.{sym, ◌∙◌, ap, subst}
 use Rattle.pic_grid.specs.Cells.{Grid}
 use Rattle.pic_grid.specs.Lattice.{Field, EachAtMost}
 use Rattle.pic_grid.proofs.SmallLaws.{each_zeros}
@@ -7,5 +7,5 @@ use Rattle.pic_scheme_tests.proofs.field.lattice_of.Goals as goal
 pub loop-axis-init : goal.loop-axis-init
 loop-axis-init c = record {
   cells = ap (λ (f : Field). f.cells) c.in_ok-field.ensures ∙ ap (λ (g : Grid). g.n) c.new.ensures;
-  small = subst (EachAtMost (2 ^ 90)) (sym c.in_ok-field.ensures) (each_zeros (2 ^ 90) _ _ _);
+  small = subst (EachAtMost c.args.most) (sym c.in_ok-field.ensures) (each_zeros c.args.most _ _ _);
 }

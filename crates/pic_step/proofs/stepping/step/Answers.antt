@@ -1,13 +1,17 @@
-use Rattle.std.proofs.Common.{◌≡◌, ℕ, ℤ, suc, ◌+◌, ◌<◌, refl, sym, ap, ◌∙◌, subst, Result, Ok, Err, None, Option, arith}
+use Rattle.std.proofs.Common.{◌≡◌, ℕ, ℤ, suc, ◌+◌, ◌<◌, List, refl, sym, ap, ◌∙◌, subst, Result, Ok, Err, None, Option, arith}
 use Rattle.std.proofs.lemmas.Result.{err_from_is_err_and}
-use Rattle.pic_num.specs.Limits.{most_steps, most_value}
+use Rattle.pic_num.specs.Limits.{most_loops, most_steps, most_value}
 use Rattle.pic_num.specs.Multiplier.{Multiplier}
 use Rattle.pic_num.specs.declared.axis.Axis.{Axis}
 use Rattle.pic_num.specs.Space.{Triple}
 use Rattle.pic_filter.specs.Smoothing.{filtered, filter_in}
 use Rattle.pic_grid.specs.declared.stop.Phase.TheVariants.{Half1, Half2, Electric}
 use Rattle.pic_grid.specs.declared.stop.Stop.{Stop}
+use Rattle.pic_grid.specs.declared.loops.Loop.{Loop}
+use Rattle.pic_grid.specs.Differences.{curl_b}
 use Rattle.pic_grid.specs.Lattice.{Field, EachAtMost}
+use Rattle.pic_grid.specs.Loops.{AreLoops}
+use Rattle.pic_drive.specs.Drive.{driven, plus}
 use Rattle.pic_tile.specs.CoreState.{all_particles}
 use Rattle.pic_tile.specs.Tiling.{Tiling, cells_of}
 use Rattle.pic_step.specs.declared.state.State.TheInside.{Inside}
@@ -19,27 +23,27 @@ use Rattle.pic_step.specs.declared.plasma.Plasma.{Plasma}
 use Rattle.pic_step.specs.Plasma.{IsPlasma}
 use Rattle.pic_step.specs.PushOn.{ArePushed}
 use Rattle.pic_step.specs.SerialRun.{Steps}
-use Rattle.pic_step.specs.SerialStep.{World, around, half_on, half_stop, stepped}
+use Rattle.pic_step.specs.SerialStep.{World, around, drive_of, half_on, half_stop, stepped}
 use Rattle.pic_step.specs.Sound.{IsSafe, IsSound}
 use Rattle.pic_step.specs.StateView.{StateView}
 use Rattle.pic_step.proofs.ExitLaws.{stops_first, stops_push, stops_second, stops_last, wants_none}
 use Rattle.pic_step.proofs.KeptLaws.{can_push, next_is}
-use Rattle.pic_step.proofs.OnePartLaws.{whole, whole_is, half_one, full_one, tiled_after, advanced_is, safe_parts, safe_small}
+use Rattle.pic_step.proofs.OnePartLaws.{whole, whole_is, half_one, driven_one, plus_tiled, tiled_after, advanced_is, safe_parts, safe_small}
 use Rattle.pic_step.proofs.StepLaws.{IsHalf, is_half, half_safe, pushed_on, IsBefore, second_half, is_before}
 use Rattle.pic_step.proofs.StepLaws.{before_safe, filtered_flux, flux_is, by_filter, last_step, IsAfter, is_after, sound_after, stepped_after, keeps_after}
 use Rattle.pic_step.proofs.stepping.step.Given.{Over}
 use Rattle.pic_step.proofs.stepping.step.Goals as goal
-use Rattle.pic_step.proofs.stepping.step.Goals.{In_ok-b, In-None, In_ok-b-2, In-Ok}
+use Rattle.pic_step.proofs.stepping.step.Goals.{In_ok-b, In-None, In_ok-b-2, After-raise_e, In-Ok}
 
 -- the state before the step, and the map of its tiles
 abbrev world : Inside → World
-world k = seen k.step k.scales k.e k.b k.plasma
+world k = seen k.step k.loops k.scales k.e k.b k.plasma
 
 abbrev tiles_map : Inside → Tiling
 tiles_map k = k.plasma.frame.map
 
 abbrev Keeping : Inside → Type 0
-Keeping k = IsKept k.step k.scales k.e k.b k.plasma
+Keeping k = IsKept k.step k.loops k.scales k.e k.b k.plasma
 
 -- no value of E or B is too large, and none of a lattice in the tiles whose values are safe
 small : (k : Inside) (by : Multiplier) (f : Field) → IsTiled (tiles_map k) f → IsSafe by (whole (tiles_map k) f.values) → EachAtMost most_value f
@@ -85,6 +89,26 @@ before_tiled : (g : Over) (c : In_ok-b-2 g) → IsTiled (tiles_map c.state.insid
 before_tiled g c of_b =
     let k = c.state.inside in tiled_after (tiles_map k) k.e c.in_ok-b.b c.in_ok-b-2.b _ c.state.invariant.tiled.of_e of_b c.in_ok-b-2.ensures.0
 
+-- E with the current of the loops
+raised : (g : Over) (c : After-raise_e g) → c.raise_e.new.e ≡ plus c.state.inside.e (curl_b c.state.inside.e.cells (drive_of (world c.state.inside)))
+raised g c =
+    let k = c.state.inside in
+    c.raise_e.ensures.values ∙ ap (λ (ls : List Loop). plus k.e (curl_b k.e.cells (driven ls k.step))) c.as_slice.ensures
+
+raised_tiled : (g : Over) (c : After-raise_e g) → IsTiled (tiles_map c.state.inside) c.raise_e.new.e
+raised_tiled g c =
+    let k = c.state.inside in
+    plus_tiled (tiles_map k) k.e c.raise_e.new.e (curl_b k.e.cells (drive_of (world k))) c.state.invariant.tiled.of_e (raised g c)
+
+pub raise_e-requires-clause-loops : goal.raise_e-requires-clause-loops
+raise_e-requires-clause-loops g c =
+    let k = c.state.inside in
+    subst (λ (ls : List Loop). AreLoops k.e.cells most_loops ls) (sym c.as_slice.ensures)
+    (subst (λ (n : Triple). AreLoops n most_loops k.loops) (sym c.state.invariant.tiled.of_e.cells) c.state.invariant.sound.loops)
+
+pub raise_e-requires-clause-small : goal.raise_e-requires-clause-small
+raise_e-requires-clause-small g c = e_small c.state.inside c.state.invariant
+
 -- the flux by which E takes its step
 abbrev left_flux : Field → Plasma → Axis → Triple → ℤ
 left_flux b q a = filtered (filter_in q.smooth) b.cells (flux_in q.frame.map q.tiles.items a)
@@ -94,16 +118,17 @@ after : (g : Over) (c : In-Ok g) → IsHalf (world c.state.inside) c.in_ok-b.b.v
     → ArePushed (around (half_on (world c.state.inside))) c.in_ok-pushed.pushed.0.frame.map (world c.state.inside).particles
     c.in_ok-pushed.pushed.0.tiles.items None
     → IsTiled (tiles_map c.state.inside) c.in_ok-b-2.b → IsBefore (world c.state.inside) c.in_ok-b-2.b.values
+    → c.raise_e.new.e ≡ plus c.state.inside.e (curl_b c.state.inside.e.cells (drive_of (world c.state.inside)))
     → IsAfter (world c.state.inside) c.in-Ok.e.values c.in_ok-b-2.b.values (all_particles c.advance_e-e.result.1.tiles.items)
-after g c first free of_b second =
+after g c first free of_b second driven_e =
     let k = c.state.inside in
     let q = c.in_ok-pushed.pushed.0 in
     is_after (world k) c.in_ok-b.b.values c.in_ok-b-2.b.values c.in-Ok.e.values q.frame.map q.tiles.items
     (all_particles c.advance_e-e.result.1.tiles.items) first free second c.advance_e-e.ensures.particles
     (by_filter (world k) c.in_ok-b-2.b.values q.frame.map q.tiles.items (Ok c.in-Ok.e.values) (filter_in q.smooth) c.in_ok-b-2.b.cells
     (ap filter_in c.in_ok-pushed.ensures.pushed.smooth) of_b.cells
-    (full_one Electric (tiles_map k) k.scales c.in_ok-b-2.b k.e (left_flux c.in_ok-b-2.b q) _ (Ok c.in-Ok.e) c.in-Ok.is
-    of_b c.state.invariant.tiled.of_e c.advance_e-e.ensures.fields))
+    (driven_one (tiles_map k) k.scales c.in_ok-b-2.b k.e c.raise_e.new.e (drive_of (world k)) (left_flux c.in_ok-b-2.b q) _ (Ok c.in-Ok.e) c.in-Ok.is
+    of_b c.state.invariant.tiled.of_e driven_e c.advance_e-e.ensures.fields))
 
 -- the state after the step, by its parts
 next : (g : Over) (c : In-Ok g) → record (world c.state.inside) {
@@ -111,11 +136,11 @@ next : (g : Over) (c : In-Ok g) → record (world c.state.inside) {
   e = c.in-Ok.e.values;
   b = c.in_ok-b-2.b.values;
   particles = all_particles c.advance_e-e.result.1.tiles.items;
-} ≡ seen (c.state.inside.step + 1) c.state.inside.scales c.in-Ok.e c.in_ok-b-2.b c.advance_e-e.result.1
+} ≡ seen (c.state.inside.step + 1) c.state.inside.loops c.state.inside.scales c.in-Ok.e c.in_ok-b-2.b c.advance_e-e.result.1
 next g c =
     let k = c.state.inside in
     let frame = c.advance_e-e.ensures.frame in
-    next_is k.step (k.step + 1) k.scales k.e k.b c.in-Ok.e c.in_ok-b-2.b k.plasma c.advance_e-e.result.1 (omega arith)
+    next_is k.step (k.step + 1) k.loops k.scales k.e k.b c.in-Ok.e c.in_ok-b-2.b k.plasma c.advance_e-e.result.1 (omega arith)
     (ap (λ f. f.map) frame ∙ c.in_ok-pushed.ensures.pushed.map) (c.advance_e-e.ensures.filter ∙ ap filter_in c.in_ok-pushed.ensures.pushed.smooth)
     (ap (λ f. f.kinds) frame ∙ c.in_ok-pushed.ensures.pushed.kinds)
 
@@ -141,7 +166,7 @@ push_phase-requires-clause-can g c κs within =
     let k = c.state.inside in
     let at = (goal.at.push_phase-requires-clause-can g c).In_ok-b in
     let tiled = half_tiled g at in
-    can_push k.step k.scales k.e k.b c.in_ok-b.b k.plasma c.state.invariant tiled
+    can_push k.step k.loops k.scales k.e k.b c.in_ok-b.b k.plasma c.state.invariant tiled
     (safe_parts (tiles_map k) k.scales.b_force c.in_ok-b.b tiled (half_safe (world k) c.in_ok-b.b.values (half g at)))
 
 pub returns-in_err-pushed-clause-steps : goal.returns-in_err-pushed-clause-steps
@@ -190,10 +215,12 @@ advance_e-e-requires-clause-b_cells g c κs within =
     (before_tiled g at.In_ok-b-2 (half_tiled g at.In_ok-b)).cells ∙ sym (ap cells_of c.in_ok-pushed.ensures.pushed.map)
 
 pub advance_e-e-requires-clause-e_cells : goal.advance_e-e-requires-clause-e_cells
-advance_e-e-requires-clause-e_cells g c κs within = c.state.invariant.tiled.of_e.cells ∙ sym (ap cells_of c.in_ok-pushed.ensures.pushed.map)
+advance_e-e-requires-clause-e_cells g c κs within =
+    (raised_tiled g (goal.at.advance_e-e-requires-clause-e_cells g c).After-raise_e).cells ∙ sym (ap cells_of c.in_ok-pushed.ensures.pushed.map)
 
 pub advance_e-e-requires-clause-parts : goal.advance_e-e-requires-clause-parts
-advance_e-e-requires-clause-parts g c κs within = c.state.invariant.tiled.of_e.parts ∙ sym (ap (λ (m : Tiling). m.tiles) c.in_ok-pushed.ensures.pushed.map)
+advance_e-e-requires-clause-parts g c κs within =
+    (raised_tiled g (goal.at.advance_e-e-requires-clause-parts g c).After-raise_e).parts ∙ sym (ap (λ (m : Tiling). m.tiles) c.in_ok-pushed.ensures.pushed.map)
 
 pub advance_e-e-requires-clause-b_small : goal.advance_e-e-requires-clause-b_small
 advance_e-e-requires-clause-b_small g c κs within =
@@ -204,7 +231,7 @@ advance_e-e-requires-clause-b_small g c κs within =
     small k k.scales.b_force c.in_ok-b-2.b (before_tiled g at.In_ok-b-2 tiled) (before_safe (world k) c.in_ok-b-2.b.values second)
 
 pub advance_e-e-requires-clause-e_small : goal.advance_e-e-requires-clause-e_small
-advance_e-e-requires-clause-e_small g c κs within = e_small c.state.inside c.state.invariant
+advance_e-e-requires-clause-e_small g c κs within = c.raise_e.ensures.small
 
 pub returns-in-Err-clause-steps : goal.returns-in-Err-clause-steps
 returns-in-Err-clause-steps g c =
@@ -222,8 +249,8 @@ returns-in-Err-clause-steps g c =
     (last_step w c.in_ok-b-2.b.values (filtered_flux w q.frame.map q.tiles.items) (Err _) second (flux_is w q.frame.map q.tiles.items None free)
     (by_filter w c.in_ok-b-2.b.values q.frame.map q.tiles.items (Err _) (filter_in q.smooth) c.in_ok-b-2.b.cells
     (ap filter_in c.in_ok-pushed.ensures.pushed.smooth) (before_tiled g at.In_ok-b-2 tiled).cells
-    (full_one Electric (tiles_map k) k.scales c.in_ok-b-2.b k.e j _ (Err _) c.in-Err.is (before_tiled g at.In_ok-b-2 tiled) c.state.invariant.tiled.of_e
-    c.advance_e-e.ensures.fields)))
+    (driven_one (tiles_map k) k.scales c.in_ok-b-2.b k.e c.raise_e.new.e (drive_of w) j _ (Err _) c.in-Err.is (before_tiled g at.In_ok-b-2 tiled)
+    c.state.invariant.tiled.of_e (raised g at.After-raise_e) c.advance_e-e.ensures.fields)))
 
 -- the step isn't the last that a run may have
 early : (g : Over) (c : In-Ok g) → c.state.inside.step < most_steps
@@ -243,9 +270,9 @@ invariant_of-result g c =
     record {
       sound = subst IsSound (next g at.In-Ok)
           (sound_after w c.in-Ok.e.values c.in_ok-b-2.b.values _ c.state.invariant.sound (early g at.In-Ok)
-          (after g at.In-Ok first free second_tiled (before g at.In_ok-b-2 tiled first)));
+          (after g at.In-Ok first free second_tiled (before g at.In_ok-b-2 tiled first) (raised g at.After-raise_e)));
       tiled = subst (λ (m : Tiling). AreTiled m c.in-Ok.e c.in_ok-b-2.b) same (record {
-        of_e = tiled_after (tiles_map k) c.in_ok-b-2.b k.e c.in-Ok.e _ second_tiled c.state.invariant.tiled.of_e
+        of_e = tiled_after (tiles_map k) c.in_ok-b-2.b c.raise_e.new.e c.in-Ok.e _ second_tiled (raised_tiled g at.After-raise_e)
             (advanced_is Electric k.scales.e_force _ _ _ _ _ c.in-Ok.e c.in-Ok.is c.advance_e-e.ensures.fields);
         of_b = second_tiled;
       });
@@ -260,7 +287,8 @@ returns-clause-steps g c =
     let tiled = half_tiled g at.In_ok-b in
     ap (λ (v : StateView). stepped v.world) (sym c.state.view_is)
     ∙ stepped_after w c.in-Ok.e.values c.in_ok-b-2.b.values _
-    (after g at.In-Ok first (pushed g at.In-None tiled first) (before_tiled g at.In_ok-b-2 tiled) (before g at.In_ok-b-2 tiled first))
+    (after g at.In-Ok first (pushed g at.In-None tiled first) (before_tiled g at.In_ok-b-2 tiled) (before g at.In_ok-b-2 tiled first)
+    (raised g at.After-raise_e))
     ∙ ap (λ (v : World). Ok v) (next g at.In-Ok)
 
 pub returns-clause-keeps : goal.returns-clause-keeps
@@ -270,8 +298,9 @@ returns-clause-keeps g c =
     let at = goal.at.returns-clause-keeps g c in
     let first = half g at.In_ok-b in
     let tiled = half_tiled g at.In_ok-b in
-    let after' = after g at.In-Ok first (pushed g at.In-None tiled first) (before_tiled g at.In_ok-b-2 tiled) (before g at.In_ok-b-2 tiled first) in
-    subst (λ (v : StateView). Keeps v.world (seen (k.step + 1) k.scales c.in-Ok.e c.in_ok-b-2.b c.advance_e-e.result.1)) c.state.view_is
+    let after' = after g at.In-Ok first (pushed g at.In-None tiled first) (before_tiled g at.In_ok-b-2 tiled) (before g at.In_ok-b-2 tiled first)
+    (raised g at.After-raise_e) in
+    subst (λ (v : StateView). Keeps v.world (seen (k.step + 1) k.loops k.scales c.in-Ok.e c.in_ok-b-2.b c.advance_e-e.result.1)) c.state.view_is
     (subst (Keeps w) (next g at.In-Ok) (keeps_after w c.in-Ok.e.values c.in_ok-b-2.b.values _ c.state.invariant.sound after'))
 
 pub returns-clause-map : goal.returns-clause-map

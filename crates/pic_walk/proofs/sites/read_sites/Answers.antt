@@ -31,7 +31,7 @@ returns-in_err-v-clause-walks c =
     goes_on _ _ _ (rw c.place_limits.ensures.value at c.in_ok-first.ensures.walks.answer)
     (goes_on _ _ _ (rw c.gap_limits.ensures.value at c.in_ok-gap.ensures.walks.answer)
     (goes_on _ _ _ (rw c.count_limits.ensures at c.in_ok-count.ensures.walks.answer)
-    (exits _ _ c.from_residual-in_err-v.ensures.1 (rw c.velocity_limits.ensures.value at c.in_err-v.ensures.walks))))
+    (exits _ _ c.from_residual-in_err-v.ensures.1 (rw (c.velocity_limits.ensures.value, c.cells.ensures) at c.in_err-v.ensures.walks))))
 
 pub returns-clause-walks : goal.returns-clause-walks
 unfolding sites
@@ -39,7 +39,7 @@ returns-clause-walks c =
     goes_on _ _ _ (rw c.place_limits.ensures.value at c.in_ok-first.ensures.walks.answer)
     (goes_on _ _ _ (rw c.gap_limits.ensures.value at c.in_ok-gap.ensures.walks.answer)
     (goes_on _ _ _ (rw c.count_limits.ensures at c.in_ok-count.ensures.walks.answer)
-    (goes_on _ _ _ (rw c.velocity_limits.ensures.value at c.in_ok-v.ensures.walks.answer)
+    (goes_on _ _ _ (rw (c.velocity_limits.ensures.value, c.cells.ensures) at c.in_ok-v.ensures.walks.answer)
     (record { answer = refl }))))
 
 pub need_three-requires : goal.need_three-requires
@@ -55,8 +55,9 @@ need_three-requires-3 c = rw c.count_limits.ensures
     (three_fit 1 (allowance_of c.args.terms.version).particles (omega (arith, (within_scheme c.args.terms.version).particles)))
 
 pub need_signed_three-requires : goal.need_signed_three-requires
-need_signed_three-requires c = rw c.velocity_limits.ensures.value
-    (signed_fit (fastest c.args.terms.grid.side) (omega (arith, c.velocity_limits.ensures.most)))
+need_signed_three-requires c =
+    let most = rw c.cells.ensures at c.velocity_limits.ensures.most in
+    rw (c.velocity_limits.ensures.value, c.cells.ensures) (signed_fit (fastest c.args.terms.grid.side) (omega (arith, most)))
 
 pub returns-clause-limits : goal.returns-clause-limits
 returns-clause-limits c =
@@ -67,5 +68,5 @@ returns-clause-limits c =
       gap = at_most 0 (widest_gap terms.version terms.grid.side) _ (rw c.gap_limits.ensures.value at c.in_ok-gap.ensures.bounds);
       some = at_least 1 (allowance_of terms.version).particles _ count;
       few = at_most 1 (allowance_of terms.version).particles _ count;
-      speed = along_most (fastest terms.grid.side) _ (rw c.velocity_limits.ensures.value at c.in_ok-v.ensures.bounds);
+      speed = along_most (fastest terms.grid.side) _ (rw (c.velocity_limits.ensures.value, c.cells.ensures) at c.in_ok-v.ensures.bounds);
     }

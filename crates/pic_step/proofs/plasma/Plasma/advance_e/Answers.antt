@@ -13,7 +13,7 @@ use Rattle.pic_grid.specs.Parts.{ArePartsOf, joined}
 use Rattle.pic_filter.specs.Smoothing.{filtered, filter_in, most_to_smooth}
 use Rattle.pic_filter.proofs.FilteredLaws.{filtered_same}
 use Rattle.pic_filter.proofs.SameLaws.{AreSame}
-use Rattle.pic_field.specs.FieldPhases.{full_of}
+use Rattle.pic_field.specs.FieldPhases.{full_of, no_drive}
 use Rattle.pic_tile.specs.CoreState.{all_particles}
 use Rattle.pic_tile.specs.Directions.{here}
 use Rattle.pic_tile.specs.Tile.{TileValue, parcel_at, tile_in}
@@ -222,9 +222,9 @@ returns-clause-fields g c =
     c.requires.flux.received one c.requires.flux.spare e.side a q (subst (IsWithin q) c.requires.b_cells within) in
     let filter = filter_in p.smooth in
     advances_same Electric s.e_force b.side b.cells e.parts
-    (λ a q. full_of s b a q (value_at e a q) (filtered filter b.cells (value_at c.of_blocks-flux.result a) q))
-    (λ a q. full_of s b a q (value_at e a q) (filtered filter b.cells (flux_in m p.tiles.items a) q)) c.drive_e-e.result.0
-    (λ a q within. ap (full_of s b a q (value_at e a q)) (filtered_same filter b.cells _ _ (same a) q within))
+    (λ a q. full_of s b no_drive a q (value_at e a q) (filtered filter b.cells (value_at c.of_blocks-flux.result a) q))
+    (λ a q. full_of s b no_drive a q (value_at e a q) (filtered filter b.cells (flux_in m p.tiles.items a) q)) c.drive_e-e.result.0
+    (λ a q within. ap (full_of s b no_drive a q (value_at e a q)) (filtered_same filter b.cells _ _ (same a) q within))
     c.drive_e-e.ensures.fields
 
 pub returns-clause-filter : goal.returns-clause-filter

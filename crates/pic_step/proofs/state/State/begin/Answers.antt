@@ -8,7 +8,7 @@ pub returns-clause-world : goal.returns-clause-world
 returns-clause-world c =
     let s = c.args.start in
     let p = c.in_ok-plasma.plasma in
-    begun_is s.step s.setup.filter s.setup.map s.setup.scales s.setup.kinds s.e s.b s.particles.items p c.tiles-map.ensures.limits c.requires.sound c.requires.tiled
+    begun_is s.step s.setup.filter s.setup.loops s.setup.map s.setup.scales s.setup.kinds s.e s.b s.particles.items p c.tiles-map.ensures.limits c.requires.sound c.requires.tiled
     c.in_ok-plasma.ensures.map c.in_ok-plasma.ensures.filter c.in_ok-plasma.ensures.kinds
     (subst (λ (xs : List Particle). IsPlasma xs p) c.as_slice.ensures.value c.in_ok-plasma.ensures.plasma)
 
@@ -19,6 +19,6 @@ pub invariant_of-result : goal.invariant_of-result
 invariant_of-result c =
     let s = c.args.start in
     let p = c.in_ok-plasma.plasma in
-    kept s.step s.setup.filter s.setup.map s.setup.scales s.setup.kinds s.e s.b s.particles.items p c.tiles-map.ensures.limits c.requires.sound c.requires.tiled
+    kept s.step s.setup.filter s.setup.loops s.setup.map s.setup.scales s.setup.kinds s.e s.b s.particles.items p c.tiles-map.ensures.limits c.requires.sound c.requires.tiled
     c.in_ok-plasma.ensures.map c.in_ok-plasma.ensures.filter c.in_ok-plasma.ensures.kinds
     (subst (λ (xs : List Particle). IsPlasma xs p) c.as_slice.ensures.value c.in_ok-plasma.ensures.plasma)

@@ -26,7 +26,7 @@ write_tiles-requires c =
     let at = goal.at.write_tiles-requires c in
     let n = length c.deref_mut.result.now in
     subst (λ (ts : List TileValue). All (λ x. x.id < n) (together (chains_of ts))) (sym c.deref.ensures.value)
-    (can_write k.step k.scales k.e k.b k.plasma (of_map at.After-tiles-tiles) c.self.invariant n (as_many at.After-deref_mut))
+    (can_write k.step k.loops k.scales k.e k.b k.plasma (of_map at.After-tiles-tiles) c.self.invariant n (as_many at.After-deref_mut))
 
 pub returns-clause-particles : goal.returns-clause-particles
 returns-clause-particles c =
@@ -38,5 +38,5 @@ returns-clause-particles c =
     with_items_is c.args.to.now.particles new (long ∙ c.deref_mut.ensures.len)
     ∙ c.write_tiles.ensures
     ∙ ap (λ (ts : List TileValue). written (together (chains_of ts)) old) c.deref.ensures.value
-    ∙ written_is k.step k.scales k.e k.b k.plasma (of_map at.After-tiles-tiles) c.self.invariant old (as_many at.After-deref_mut)
+    ∙ written_is k.step k.loops k.scales k.e k.b k.plasma (of_map at.After-tiles-tiles) c.self.invariant old (as_many at.After-deref_mut)
     ∙ ap (λ (v : StateView). v.world.particles) c.self.view_is

@@ -1,0 +1,4 @@
+pub mod Lists
+pub mod Drive
+pub mod Probes
+pub mod Devices

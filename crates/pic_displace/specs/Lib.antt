@@ -1,0 +1,2 @@
+pub mod Displace
+pub mod Couples

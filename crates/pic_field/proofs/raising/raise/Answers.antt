@@ -1,0 +1,117 @@
+use Rattle.std.proofs.Common.{◌≡◌, ◌+◌, ◌*◌, ◌<◌, ◌≤◌, ◌^◌, ◌+ℤ◌, ℤ, to_z, of_z, refl, sym, ◌∙◌, ap, subst, arith}
+use mir.Syntax.{w128}
+use mir.Val.{SFits}
+use Rattle.pic_num.specs.declared.axis.Axis.{Axis}
+use Rattle.pic_num.specs.Limits.{most_value}
+use Rattle.pic_num.specs.Sizes.{IsAtMost}
+use Rattle.pic_num.specs.Space.{Triple, Spot, triple, spot, unwrapped}
+use Rattle.pic_num.proofs.SizeLaws.{codes, code_fits, code_is}
+use Rattle.pic_grid.specs.Block.{InZone, inner_at, edge_at, with_edge, outer_of}
+use Rattle.pic_grid.specs.Cells.{IsWithin, count_of, place_of}
+use Rattle.pic_grid.specs.Differences.{curl_b}
+use Rattle.pic_grid.specs.Lattice.{value_at}
+use Rattle.pic_grid.proofs.PlaceLaws.{first_place, next_place}
+use Rattle.pic_field.specs.FieldPhases.{most_drive_value}
+use Rattle.pic_field.specs.Lines.{OnStrip}
+use Rattle.pic_field.proofs.CalmLaws.{all_small}
+use Rattle.pic_field.proofs.RaisedLaws.{raised, none_raised, still_old, raised_more, raised_long, raised_all, raised_small, outer_within, drive_curl}
+use Rattle.pic_field.proofs.raising.raise.Goals as goal
+use Rattle.pic_field.proofs.raising.raise.Goals.{After-unwrapped}
+
+-- where the walk stands
+record Here (c : After-unwrapped) : Type 0 where
+  below : c.loop-number._number < 3 * count_of (triple c.zone-zone.result.size)
+  within : IsWithin (triple c.loop-number.place.inner) c.args.e.now.size
+  number : place_of c.args.e.now.size c.loop-number.place.axis (triple c.loop-number.place.inner) ≡ c.loop-number._number
+  at : spot c.unwrapped.result ≡ unwrapped (outer_of c.args.e.now.low (triple c.loop-number.place.inner))
+  old : IsAtMost (inner_at c.args.e.now c.loop-number.place.axis (triple c.loop-number.place.inner)) (2 ^ 90)
+  curl : IsAtMost c.curl_of-curl.result (2 ^ 66)
+
+here : (c : After-unwrapped) → Here c
+here c =
+    let e = c.args.e.now in
+    let p = triple c.loop-number.place.inner in
+    let a = c.loop-number.place.axis in
+    let below : c.loop-number._number < 3 * count_of (triple c.zone-zone.result.size) =
+    omega (arith, c.place_count-number-end.ensures, c.loop-number-test.true) in
+    let within = subst (λ (n : Triple). IsWithin p n) c.zone-zone.ensures.size (c.loop-number.invariant.place.within below) in
+    record {
+      below = below;
+      within = within;
+      number = ap (λ (n : Triple). place_of n a p) (sym c.zone-zone.ensures.size) ∙ c.loop-number.invariant.place.number below;
+      at = c.unwrapped.ensures ∙ ap unwrapped (c.cell_in-cell.ensures.value ∙ ap (λ (l : Spot). outer_of l p) c.zone-zone.ensures.low);
+      old = (all_small (2 ^ 90) (OnStrip 0 e.size.y) e c.args.m.now.cells c.requires.among c.requires.e_small).at_most a p within
+          (record { y_from = omega arith; y_below = within.y });
+      curl = subst (λ (v : ℤ). IsAtMost v (2 ^ 66)) (sym c.curl_of-curl.ensures)
+          (drive_curl c.args.m.now a (triple c.cell_in-cell.result)
+          (subst (λ (n : Triple). IsWithin (triple c.cell_in-cell.result) n) c.cells-cells.ensures.value c.cell_in-cell.ensures.within) c.requires.m_small);
+    }
+
+-- a value and what is added to it
+module _ (v w : ℤ) (old : IsAtMost v (2 ^ 90)) (curl : IsAtMost w (2 ^ 66))
+  where
+    abbrev word : ℤ → ℤ
+    word z = to_z w128 (of_z w128 z)
+
+    word_is : word w ≡ w
+    word_is = code_is (search codes depth 10) tt
+
+    sum_fits : SFits w128 (v +ℤ word w)
+    sum_fits = code_fits w128 (search codes depth 18) tt
+
+pub add-requires-clause-room : goal.add-requires-clause-room
+add-requires-clause-room c =
+    let at = (goal.at.add-requires-clause-room c).After-unwrapped in
+    let h = here at in
+    let is = still_old _ c.args.e.now c.loop-number.e c.args.m.now.cells c.loop-number._number c.loop-number.place.axis (triple c.loop-number.place.inner)
+    (spot c.unwrapped.result) c.requires.among c.loop-number.invariant.changed h.within h.number h.at in
+    subst (λ (v : ℤ). SFits w128 (v +ℤ to_z w128 (of_z w128 c.curl_of-curl.result))) (sym is) (sum_fits _ c.curl_of-curl.result h.old h.curl)
+
+pub loop-number-init : goal.loop-number-init
+loop-number-init c = record {
+  place = first_place (triple c.zone-zone.result.size) _ _ c.first-place.ensures.axis c.first-place.ensures.inner;
+  changed = none_raised _ c.args.e.now;
+  long = c.zone-zone.ensures.shape;
+}
+
+pub loop-number-preserved : goal.loop-number-preserved
+loop-number-preserved c =
+    let e = c.args.e.now in
+    let m = c.args.m.now in
+    let i = c.loop-number._number in
+    let a = c.loop-number.place.axis in
+    let p = triple c.loop-number.place.inner in
+    let g = raised m.cells (value_at m) e.low in
+    let h = here (goal.at.loop-number-preserved c).After-unwrapped in
+    let q = spot c.unwrapped.result in
+    let changed = c.loop-number.invariant.changed in
+    let old = still_old g e c.loop-number.e m.cells i a p q c.requires.among changed h.within h.number h.at in
+    let cell : triple c.cell_in-cell.result ≡ outer_of e.low p = c.cell_in-cell.ensures.value ∙ ap (λ (l : Spot). outer_of l p) c.zone-zone.ensures.low in
+    let curl : to_z w128 (of_z w128 c.curl_of-curl.result) ≡ curl_b m.cells (value_at m) a (outer_of e.low p) =
+    word_is _ c.curl_of-curl.result h.old h.curl ∙ c.curl_of-curl.ensures ∙ ap (curl_b m.cells (value_at m) a) cell in
+    let value : edge_at c.loop-number.e a q +ℤ to_z w128 (of_z w128 c.curl_of-curl.result) ≡ g a p (inner_at e a p) = λ j. old j +ℤ curl j in
+    let is = c.add.ensures.after in
+    record {
+      place = next_place (triple c.zone-zone.result.size) i a p _ _ c.loop-number.invariant.place h.below c.following-place.ensures.within
+          c.following-place.ensures.number;
+      changed = raised_more g e c.loop-number.e m.cells i a p q c.requires.among changed h.within h.number h.at c.add.new.self _ c.loop-number.invariant.long
+          value is;
+      long = raised_long g e c.loop-number.e m.cells i a p q c.requires.among changed h.within h.number h.at c.add.new.self _ c.loop-number.invariant.long
+          value is;
+    }
+
+pub returns-clause-values : goal.returns-clause-values
+returns-clause-values c =
+    let end : c.loop-number._number ≡ 3 * count_of (triple c.zone-zone.result.size) =
+    omega (arith, c.place_count-number-end.ensures, c.loop-number-test.false, c.loop-number.auto._number-end) in
+    raised_all _ c.args.e.now c.loop-number.e c.loop-number._number c.loop-number.invariant.changed
+    (end ∙ ap (λ (n : Triple). 3 * count_of n) c.zone-zone.ensures.size)
+
+pub returns-clause-small : goal.returns-clause-small
+returns-clause-small c =
+    let e = c.args.e.now in
+    let m = c.args.m.now in
+    let small = all_small (2 ^ 90) (OnStrip 0 e.size.y) e m.cells c.requires.among c.requires.e_small in
+    raised_small m.cells (value_at m) e c.loop-number.e c.loop-number.invariant.changed.shaped (returns-clause-values c)
+    (λ a p w. small.at_most a p w (record { y_from = omega arith; y_below = w.y }))
+    (λ a p w. drive_curl m a (outer_of e.low p) (outer_within e.low e.size m.cells p c.requires.among w) c.requires.m_small)

@@ -1,0 +1,54 @@
+//! What drives B, added to E: the curl of it, place by place.
+
+ghost use Rattle.std.specs.Prelude.{◌≡◌, ◌+ℤ◌};
+ghost use Rattle.pic_num.specs.declared.axis.Axis.{Axis as AxisName};
+ghost use Rattle.pic_num.specs.Limits.{most_value};
+ghost use Rattle.pic_num.specs.Space.{Triple, triple};
+ghost use Rattle.pic_grid.specs.Block.{IsAmongCells, IsShaped, AllAtMost, inner_at, outer_of};
+ghost use Rattle.pic_grid.specs.Cells.{IsWithin};
+ghost use Rattle.pic_grid.specs.Differences.{curl_b};
+ghost use Rattle.pic_grid.specs.Lattice.{EachAtMost, value_at};
+ghost use Rattle.pic_field.specs.FieldPhases.{most_drive_value, most_raised};
+
+use crate::zone::{cell_in, place_count};
+use pic_grid::{Block, Lattice, Place};
+use pic_num::Axis;
+
+/// Adds to every value of a block the curl of a lattice there. The zone of the block lies among its
+/// cells.
+pub(crate) fn raise(m: &Lattice, e: &mut Block)
+    requires among { IsAmongCells e.old.low e.old.size m.now.cells }
+    requires m_small { EachAtMost most_drive_value m.now }
+    requires e_small { AllAtMost most_value e.old }
+    ensures shape { IsShaped e.new e.old }
+    ensures values { (a : AxisName) → (p : Triple) → IsWithin p e.old.size
+        → inner_at e.new a p ≡ inner_at e.old a p
+        +ℤ curl_b m.now.cells (value_at m.now) a (outer_of e.old.low p) }
+    ensures small { AllAtMost most_raised e.new }
+{
+    let cells = m.cells();
+    let zone = e.zone();
+    let mut place = Place::first();
+    for _number in 0..place_count(cells, zone) {
+        let cell = cell_in(cells, zone, place.inner);
+        let curl = curl_of(m, place.axis, cell);
+        e.add(place.axis, cells.unwrapped(cell), curl);
+        place = place.following(zone.size);
+    }
+}
+
+/// The curl of a lattice as that of B, on an axis at a cell.
+fn curl_of(m: &Lattice, axis: Axis, cell: [u32; 3]) -> i128
+    requires within { IsWithin (triple cell) m.now.cells }
+    requires small { EachAtMost most_drive_value m.now }
+    ensures { result ≡ curl_b m.now.cells (value_at m.now) axis (triple cell) }
+{
+    let cells = m.cells();
+    let second = axis.next();
+    let third = second.next();
+    let near_third = m.at(third, cell);
+    let far_third = m.at(third, cells.down(second, cell));
+    let near_second = m.at(second, cell);
+    let far_second = m.at(second, cells.down(third, cell));
+    near_third - far_third - near_second + far_second
+}

@@ -1,0 +1,2 @@
+pub mod ProbeLine
+pub mod Columns

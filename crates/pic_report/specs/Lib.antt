@@ -1,0 +1,4 @@
+pub mod Lines
+pub mod Piece
+pub mod Ended
+pub mod Early

@@ -1,0 +1,4 @@
+pub mod PlaceLaws
+pub mod MarginLaws
+pub mod WayLaws
+pub mod WaySizeLaws

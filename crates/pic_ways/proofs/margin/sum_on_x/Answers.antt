@@ -1,0 +1,38 @@
+use Rattle.std.proofs.Common.{◌≡◌, ℕ, ◌≤◌, get_or, ap, ◌∙◌, arith}
+use Rattle.std.proofs.Math.IntN.{pos, ◌+ℤ◌, ◌-ℤ◌}
+use Rattle.std.proofs.lemmas.Int.{to_z-of_z}
+use mir.Syntax.{w32, w128}
+use mir.Val.{to_z, of_z}
+use Rattle.pic_num.specs.Space.{Triple}
+use Rattle.pic_num.proofs.SizeLaws.{codes, code_is}
+use Rattle.pic_grid.specs.Current.{sum_images, wrapped}
+use Rattle.pic_ways.specs.Margin.{edge_or_zero}
+use Rattle.pic_ways.proofs.MarginLaws.{own_index, down_index, up_index}
+use Rattle.pic_ways.proofs.margin.sum_on_x.Goals as goal
+
+pub returns-clause-value : goal.returns-clause-value
+unfolding sum_images wrapped
+returns-clause-value c =
+    let n : ℕ = get_or c.numbers.result 0 0 in
+    let at : ℕ = c.args.x in
+    let whole : n ≡ c.args.cells.n.x = ap (λ (t : Triple). t.x) c.numbers.ensures.value in
+    let limit = c.numbers.ensures.limits.x_most in
+    let most : n ≤ 128 = omega (arith, whole, limit) in
+    let near = c.requires.x in
+    let few : at ≤ 128 = omega (arith, near, limit) in
+    let own = own_index at few in
+    let down = down_index at n few most ∙ ap (λ (k : ℕ). pos at -ℤ pos k) whole in
+    let up = up_index at n few most ∙ ap (λ (k : ℕ). pos at +ℤ pos k) whole in
+    let y : to_z w32 (of_z w32 c.args.y) ≡ c.args.y = to_z-of_z w32 c.args.y c.ranges.y in
+    let z : to_z w32 (of_z w32 c.args.z) ≡ c.args.z = to_z-of_z w32 c.args.z c.ranges.z in
+    let d_size = c.at_or_zero-down.ensures.size in
+    let o_size = c.at_or_zero-own.ensures.size in
+    let u_size = c.at_or_zero-up.ensures.size in
+    let sum : to_z w128 (of_z w128 (to_z w128 (of_z w128 (to_z w128 (of_z w128 c.at_or_zero-down.result) +ℤ to_z w128 (of_z w128 c.at_or_zero-own.result)))
+    +ℤ to_z w128 (of_z w128 c.at_or_zero-up.result)))
+    ≡ c.at_or_zero-down.result +ℤ c.at_or_zero-own.result +ℤ c.at_or_zero-up.result = code_is (search codes depth 20) tt in
+    let f = edge_or_zero c.args.from.now c.args.axis in
+    let down_is = c.at_or_zero-down.ensures.value ∙ (λ t. f (record { x = down t; y = y t; z = z t })) in
+    let own_is = c.at_or_zero-own.ensures.value ∙ (λ t. f (record { x = own t; y = y t; z = z t })) in
+    let up_is = c.at_or_zero-up.ensures.value ∙ (λ t. f (record { x = up t; y = y t; z = z t })) in
+    sum ∙ (λ t. down_is t +ℤ own_is t +ℤ up_is t)

@@ -1,0 +1,22 @@
+use Rattle.std.proofs.Common.{◌≡◌, ◌*◌, ◌<◌, ◌≤◌, length}
+use Rattle.std.proofs.Math.IntN.{◌-ℤ◌}
+use Rattle.pic_num.specs.declared.axis.Axis.{Axis}
+use Rattle.pic_num.specs.Space.{Triple}
+use Rattle.pic_grid.specs.Cells.{IsWithin, count_of, place_of}
+use Rattle.pic_grid.specs.Current.{wrapped}
+use Rattle.pic_grid.specs.Lattice.{value_at}
+use Rattle.pic_ways.specs.Margin.{edge_or_zero}
+use Rattle.pic_ways.proofs.margin.take_off.Given as goal
+
+abbrev pub invariant-loop-place : goal.invariant-loop-place
+invariant-loop-place l = record {
+  same : l.cells.n ≡ l.to.cells;
+  cells : l.to.cells ≡ l.initial.to.cells;
+  side : l.to.side ≡ l.initial.to.side;
+  parts : l.to.parts ≡ l.initial.to.parts;
+  last : l.place-end ≡ 3 * count_of l.to.cells;
+  shape : length l.to.values ≡ 3 * count_of l.to.cells;
+  done : (a : Axis) (p : Triple) → IsWithin p l.to.cells → place_of l.to.cells a p < l.place
+      → value_at l.to a p ≡ value_at l.initial.to a p -ℤ wrapped l.to.cells (edge_or_zero l.from a) p;
+  left : (a : Axis) (p : Triple) → IsWithin p l.to.cells → l.place ≤ place_of l.to.cells a p → value_at l.to a p ≡ value_at l.initial.to a p;
+}
