@@ -1,5 +1,6 @@
 -- Blocks one after another, and in two groups.
-use Rattle.std.proofs.Common.{◌≡◌, ℕ, All, slice_index_or, ◌+◌, ◌-◌, ◌<◌, ◌≤◌, List, ◌++◌, length, set, Option, inl, inr, refl, sym, ◌∙◌, ap, subst, arith, get_or-set_same, get_or-set_other, length-append}
+use Rattle.std.proofs.Common.{◌≡◌, ℕ, All, slice_index_or, ◌+◌, ◌-◌, ◌<◌, ◌≤◌, List, ◌++◌, length, set, Option, inl}
+use Rattle.std.proofs.Common.{inr, refl, sym, ◌∙◌, ap, subst, arith, get_or-set_same, get_or-set_other, length-append}
 use Rattle.std.proofs.Math.Decide.{ℕ_discrete}
 use Rattle.std.proofs.Math.IntN.{pos}
 use Rattle.std.proofs.Math.Seq.{get_or-append_right, take-append_seam, drop-append_seam}

@@ -1,5 +1,6 @@
 -- The scratch memory that a core leaves is ready for the next.
-use Rattle.std.proofs.Common.{◌≡◌, ◌≢◌, ℕ, ◌+◌, ◌*◌, ◌/◌, ◌%◌, ◌<◌, true, false, inl, inr, List, length, get_or, slice_set, replicate, Option, None, sym, ap, ◌∙◌, subst, arith}
+use Rattle.std.proofs.Common.{◌≡◌, ◌≢◌, ℕ, ◌+◌, ◌*◌, ◌/◌, ◌%◌, ◌<◌, true, false, inl, inr, List, length}
+use Rattle.std.proofs.Common.{get_or, slice_set, replicate, Option, None, sym, ap, ◌∙◌, subst, arith}
 use Rattle.std.proofs.lemmas.Bool.{cases_lt}
 use Rattle.std.proofs.lemmas.List.{get_or-set_same, get_or-set_other, get_or-replicate, length-replicate, ext_get_or}
 use Rattle.pic_grid.specs.Block.{AllAtMost}

@@ -8,7 +8,8 @@ ghost use Rattle.pic_walk.specs.Limits.{MeetsLimits, limits_at};
 ghost use Rattle.pic_walk.specs.Walk.{WalksAs, list_by, table_of, optional};
 ghost use Rattle.pic_devices.specs.declared.place.Place.{Place as PlaceView};
 ghost use Rattle.pic_devices.specs.declared.probes.Probes.{Probes as ProbesView};
-ghost use Rattle.pic_devices.specs.Probes.{IsPlace, AreProbes, most_places, most_ids, no_probes, probe_keys, place_limits, id_limits, place_from, place, place_list, id, id_list, probes};
+ghost use Rattle.pic_devices.specs.Probes.{IsPlace, AreProbes, most_places, most_ids, no_probes, probe_keys};
+ghost use Rattle.pic_devices.specs.Probes.{place_limits, id_limits, place_from, place, place_list, id, id_list, probes};
 
 use crate::list_reader::counted;
 use crate::place::{Place, Places};

@@ -16,7 +16,8 @@ ghost use Rattle.pic_deck.specs.Species.{particles_of};
 ghost use Rattle.pic_load.specs.Loading.{loaded, AreLoaded};
 ghost use Rattle.pic_ways.specs.Room.{HasRoom};
 ghost use Rattle.pic_ways.specs.Way.{IsWithinLimits, flux_of_ways};
-ghost use Rattle.pic_displace.specs.Displace.{is_displacement, has_displaced, way_of, IsOfSpecies, displaced_e, BecomesDisplaced, e_allowed, Refuses, Displaces};
+ghost use Rattle.pic_displace.specs.Displace.{is_displacement, has_displaced, way_of, IsOfSpecies};
+ghost use Rattle.pic_displace.specs.Displace.{displaced_e, BecomesDisplaced, e_allowed, Refuses, Displaces};
 
 use crate::fault::DisplaceFault;
 use pic_deck::{Deck, Fill, KeyPath, Refusal, Species, first_strong, particles_of};

@@ -1,5 +1,6 @@
 -- What the rows of a line hold at a place of it, and what their curl makes of a value there.
-use Rattle.std.proofs.Common.{◌≡◌, ℕ, ℤ, pos, ◌+◌, ◌-◌, ◌%◌, ◌<◌, ◌≤◌, ◌+ℤ◌, ◌-ℤ◌, Bool, true, false, Option, List, [], ◌∷◌, sym, ◌∙◌, ap, subst, unsigned_abs, arith}
+use Rattle.std.proofs.Common.{◌≡◌, ℕ, ℤ, pos, ◌+◌, ◌-◌, ◌%◌, ◌<◌, ◌≤◌, ◌+ℤ◌, ◌-ℤ◌, Bool, true, false}
+use Rattle.std.proofs.Common.{Option, List, [], ◌∷◌, sym, ◌∙◌, ap, subst, unsigned_abs, arith}
 use Rattle.std.proofs.Math.Nat.{mod-eq_of_lt}
 use Rattle.pic_num.specs.declared.mult.Scales.{Scales}
 use Rattle.pic_num.specs.declared.axis.Axis.{Axis}

@@ -1,5 +1,6 @@
 -- A field of bytes, from what filling a room gave.
-use Rattle.std.proofs.Common.{◌≡◌, ℕ, ◌+◌, ◌<◌, ◌≤◌, List, [], ◌∷◌, ◌++◌, length, take, Option, Some, None, Result, Ok, Err, IsErrAnd, refl, sym, ap, subst, ◌∙◌, arith, append-nil, length-append, ◌≢◌}
+use Rattle.std.proofs.Common.{◌≡◌, ℕ, ◌+◌, ◌<◌, ◌≤◌, List, [], ◌∷◌, ◌++◌, length, take, Option, Some, None, Result}
+use Rattle.std.proofs.Common.{Ok, Err, IsErrAnd, refl, sym, ap, subst, ◌∙◌, arith, append-nil, length-append, ◌≢◌}
 use Rattle.std.specs.Prelude.{option_map}
 use Rattle.std.proofs.lemmas.Bool.{lt-ltb, le-ltb}
 use Rattle.std.proofs.Math.Seq.{take-append_seam, drop-append_seam}

@@ -3,7 +3,8 @@
 ghost use Rattle.std.specs.Prelude.{◌≡◌, ◌+◌, ◌<◌, ◌≤◌, ◌^◌, nat_eq, ◌≤ℤ◌, unsigned_abs, length, IfOk};
 ghost use Rattle.pic_fields.specs.Causes.{cause_number};
 ghost use Rattle.pic_fields.specs.Parser.{checked};
-ghost use Rattle.pic_fields.specs.Number.{byte_at, u32_at, i32_at, i64_at, u128_at, i128_at, is_from_to, within, is_between, between, is_at_most, at_most, exactly};
+ghost use Rattle.pic_fields.specs.Number.{byte_at, u32_at, i32_at, i64_at, u128_at, i128_at, is_from_to};
+ghost use Rattle.pic_fields.specs.Number.{within, is_between, between, is_at_most, at_most, exactly};
 ghost use Rattle.pic_fields.specs.Reads.{Reads, always, as_it_is};
 
 use crate::cause::Cause;

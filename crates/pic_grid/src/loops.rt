@@ -8,8 +8,9 @@ use std::alloc::Global;
 /// The numbers of a loop's wave in their order, as a list.
 pub type Wave = Listed<i64>;
 
-/// A driven loop of current round a face: the axis and the cell of the face, and its wave. Each step adds
-/// the next number of the wave to the scaled B of the face, behind the last one the first again.
+/// A driven loop of current round a face: the axis and the cell of the face, and its wave. Each step of E
+/// takes the scaled B of the face with the next number of the wave added, behind the last one the first
+/// again. B itself stays.
 #[derive(Debug, Drop)]
 pub struct Loop {
     pub axis: Axis,

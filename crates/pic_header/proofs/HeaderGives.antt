@@ -9,7 +9,8 @@ use Rattle.pic_fields.specs.Number.{byte_at}
 use Rattle.pic_fields.proofs.GiveLaws.{Gives, further_place, gives_any, gives_done, gives_then, gives_mapped, gives_checked, gives_field, gives_each}
 use Rattle.pic_fields.proofs.GiveLaws.{gives_within, gives_between, gives_at_most, gives_exactly}
 use Rattle.pic_header.specs.Header.{HeaderView}
-use Rattle.pic_header.specs.HeaderFields.{version_at, mark_at, axis_at, cells_at, mult_at, scales_at, front_at, form_of_1, form_of_2, form_at, kind_at, name_of, name_at}
+use Rattle.pic_header.specs.HeaderFields.{version_at, mark_at, axis_at, cells_at, mult_at, scales_at}
+use Rattle.pic_header.specs.HeaderFields.{front_at, form_of_1, form_of_2, form_at, kind_at, name_of, name_at}
 use Rattle.pic_header.specs.HeaderFields.{head_at, heads_at, loop_axis_at, loop_cell_at, drive_at, numbers_at, wave_at, loop_at, loops_at}
 use Rattle.pic_header.specs.HeaderFields.{header_at, header_length}
 use Rattle.pic_header.proofs.RunLaws.{header_place}

@@ -26,8 +26,10 @@ use Rattle.pic_header.specs.HeaderText.{zero_digit, mult_bytes, scales_bytes, ce
 use Rattle.pic_header.specs.HeaderText.{head_bytes, heads_bytes, loops_bytes, header_bytes}
 use Rattle.pic_header.specs.Header.{HeaderView}
 use Rattle.pic_header.specs.Limits.{most_steps}
-use Rattle.pic_header.specs.HeaderFields.{out_of_limits, wrong_letter, version_at, mark_at, axis_at, cells_at, mult_at, scales_at, kind_at, name_of, is_name_field}
-use Rattle.pic_header.specs.HeaderFields.{is_new_name_field, name_at, particles_of, head_at, heads_at, Front, front_at, Form, form_of_1, form_of_2, form_at, loops_at, header_of}
+use Rattle.pic_header.specs.HeaderFields.{out_of_limits, wrong_letter, version_at, mark_at, axis_at}
+use Rattle.pic_header.specs.HeaderFields.{cells_at, mult_at, scales_at, kind_at, name_of, is_name_field}
+use Rattle.pic_header.specs.HeaderFields.{is_new_name_field, name_at, particles_of, head_at, heads_at, Front}
+use Rattle.pic_header.specs.HeaderFields.{front_at, Form, form_of_1, form_of_2, form_at, loops_at, header_of}
 use Rattle.pic_header.specs.HeaderFields.{header_at}
 use Rattle.pic_header.proofs.LoopSpells.{fits_length, FitsLoop, FitsLoops, spells_loops}
 

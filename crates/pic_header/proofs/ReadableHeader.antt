@@ -14,7 +14,8 @@ use Rattle.std.proofs.lemmas.List.Folds.{list_any_none}
 use Rattle.std.proofs.lemmas.List.Sums.{sum_by_more_le}
 use Rattle.std.proofs.lemmas.Slice.Eq.{bytes_eq-Decides}
 use Rattle.pic_num.specs.Multiplier.{Multiplier, IsMultiplier}
-use Rattle.pic_num.specs.Limits.{most_version, allowance_of, fewest_cells_of_axis, fewest_bits, most_bits, most_filter, most_loops, most_wave, most_drive, most_mass, most_species}
+use Rattle.pic_num.specs.Limits.{most_version, allowance_of, fewest_cells_of_axis, fewest_bits, most_bits}
+use Rattle.pic_num.specs.Limits.{most_filter, most_loops, most_wave, most_drive, most_mass, most_species}
 use Rattle.pic_num.specs.Space.{Triple, triple}
 use Rattle.pic_num.specs.Sub.{bits_of}
 use Rattle.pic_num.specs.Versions.{IsSideOf}

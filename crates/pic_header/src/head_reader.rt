@@ -12,7 +12,9 @@ ghost use Rattle.pic_fields.specs.declared.read_stop.ReadStop.TheVariants.{ReadF
 ghost use Rattle.pic_header.specs.declared.head_stop.HeadStop.TheVariants.{Read};
 ghost use Rattle.pic_header.specs.Header.{HasLimits, AreCellsOf};
 ghost use Rattle.pic_header.specs.HeaderText.{form_length};
-ghost use Rattle.pic_header.specs.HeaderFields.{header_length, IsNewHead, Front as FrontOf, version_at, mark_at, axis_at, cells_at, front_at, Form as FormOf, form_of_2, form_at, mult_at, scales_at, kind_at, name_of, is_name_field, is_new_name_field, name_at, particles_of, head_at, heads_at, loops_at, header_at, header_most};
+ghost use Rattle.pic_header.specs.HeaderFields.{header_length, IsNewHead, Front as FrontOf, version_at, mark_at, axis_at, cells_at, front_at};
+ghost use Rattle.pic_header.specs.HeaderFields.{Form as FormOf, form_of_2, form_at, mult_at, scales_at, kind_at, name_of, is_name_field};
+ghost use Rattle.pic_header.specs.HeaderFields.{is_new_name_field, name_at, particles_of, head_at, heads_at, loops_at, header_at, header_most};
 ghost use Rattle.pic_header.specs.HeadReads.{HeadReads, TakesWithin, TakesLess};
 
 use crate::head::{Head, Heads};

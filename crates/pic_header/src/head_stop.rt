@@ -13,7 +13,7 @@ use std::fmt;
 pub enum HeadStop {
     /// A read failed, or the bytes aren't a header.
     Read(ReadStop),
-    /// Want of memory for the species.
+    /// Want of memory for the species or the loops.
     NoMemory,
 }
 

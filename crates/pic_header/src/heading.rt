@@ -9,7 +9,8 @@ ghost use Rattle.pic_io.specs.Told.{HasCause};
 ghost use Rattle.pic_io.specs.Sink.{Puts};
 ghost use Rattle.pic_grid.specs.Species.{HeadView, IsName, no_head};
 ghost use Rattle.pic_fields.specs.Number.{i64_bytes};
-ghost use Rattle.pic_header.specs.HeaderText.{mult_bytes, scales_bytes, cells_bytes, mark_bytes, form_bytes, form_length, front_bytes, name_bytes, kind_bytes, head_bytes, heads_bytes, wave_bytes, loop_bytes, loops_bytes, header_bytes};
+ghost use Rattle.pic_header.specs.HeaderText.{mult_bytes, scales_bytes, cells_bytes, mark_bytes, form_bytes, form_length, front_bytes};
+ghost use Rattle.pic_header.specs.HeaderText.{name_bytes, kind_bytes, head_bytes, heads_bytes, wave_bytes, loop_bytes, loops_bytes, header_bytes};
 
 use crate::head::Head;
 use crate::header::Header;

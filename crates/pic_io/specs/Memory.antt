@@ -1,4 +1,5 @@
-use Rattle.std.specs.Prelude.{◌<◌, ◌⊎◌, IsSome, ℕ, ◌+◌, ◌-◌, ◌≤◌, ◌==◌, min, List, ◌++◌, length, take, drop, find, Option, Some, IsNone, option_map, unwrap_or, Result, Ok, Err}
+use Rattle.std.specs.Prelude.{◌<◌, ◌⊎◌, IsSome, ℕ, ◌+◌, ◌-◌, ◌≤◌, ◌==◌, min, List, ◌++◌, length, take}
+use Rattle.std.specs.Prelude.{drop, find, Option, Some, IsNone, option_map, unwrap_or, Result, Ok, Err}
 use Rattle.pic_io.specs.Told.{Told, raised}
 
 -- a source in memory that fails at listed calls: the bytes left, its greatest piece, the numbers of

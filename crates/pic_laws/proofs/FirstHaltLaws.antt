@@ -12,7 +12,8 @@ use Rattle.pic_num.specs.Multiplier.{Multiplier}
 use Rattle.pic_num.specs.Push.{Shift, Halting, first_above, unless, pushed}
 use Rattle.pic_num.specs.Sizes.{IsAtMost}
 use Rattle.pic_num.specs.Space.{Spot, along, axis_number}
-use Rattle.pic_laws.specs.FirstHalt.{new_velocity, move_of, tested_vector, limit_of, test_number, PassesLimit, KeepsLimit, IsEarlier, earlier_test, less_axis, IsFirstHalt, IsWholePush, LawOfTheFirstHalt}
+use Rattle.pic_laws.specs.FirstHalt.{new_velocity, move_of, tested_vector, limit_of, test_number, PassesLimit, KeepsLimit}
+use Rattle.pic_laws.specs.FirstHalt.{IsEarlier, earlier_test, less_axis, IsFirstHalt, IsWholePush, LawOfTheFirstHalt}
 
 -- One test. What is found on an axis
 halt_on : What → Spot → Axis → Halting

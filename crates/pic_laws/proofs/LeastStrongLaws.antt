@@ -1,6 +1,7 @@
 -- The force value of the least place that has one too large. Where a field phase's new values are force
 -- values, and its multiplier 1, that is the number in the least stop, which has its law.
-use Rattle.std.proofs.Common.{◌≡◌, ◌+◌, ◌*◌, ◌/◌, ◌%◌, ◌^◌, ◌<◌, Bool, cond, List, [], ◌∷◌, Option, Some, None, unsigned_abs, refl, sym, ◌∙◌, ap, subst, inl, inr, arith}
+use Rattle.std.proofs.Common.{◌≡◌, ◌+◌, ◌*◌, ◌/◌, ◌%◌, ◌^◌, ◌<◌, Bool, cond, List, [], ◌∷◌, Option}
+use Rattle.std.proofs.Common.{Some, None, unsigned_abs, refl, sym, ◌∙◌, ap, subst, inl, inr, arith}
 use Rattle.std.proofs.Math.IntN.{ℤ, pos}
 use Rattle.std.specs.Prelude.{◌↔◌, nat_le, nat_lt, if◌then◌else◌}
 use Rattle.std.specs.Option.{option_map, option_or}

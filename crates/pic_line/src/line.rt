@@ -2,7 +2,8 @@
 
 ghost use Rattle.std.specs.Prelude.{◌≡◌, None, Some, ◌∷◌, codes, map, string_bytes, option_and_then, IfOk, IfErr};
 ghost use Rattle.clap.specs.Words.{found_of, rows_of, one_of, subcommand_rows_of};
-ghost use Rattle.pic_line.specs.CommandLine.{command_of, command_from, command_named, workers_in, seed_in, steps_in, tiles_in, few_in, demo_of, resume_of, all_three, number_in, kept};
+ghost use Rattle.pic_line.specs.CommandLine.{command_of, command_from, command_named, workers_in, seed_in, steps_in};
+ghost use Rattle.pic_line.specs.CommandLine.{tiles_in, few_in, demo_of, resume_of, all_three, number_in, kept};
 
 use crate::app::pic;
 use crate::asked::{Command, LineFault};

@@ -13,7 +13,8 @@ ghost use Rattle.pic_grid.specs.Hat.{IsInBox};
 ghost use Rattle.pic_deck.specs.Species.{ArePoints, IsFilledFrom, fastest, most_particles, most_species, no_point, particles_of};
 ghost use Rattle.pic_load.specs.Drawing.{IsSpread};
 ghost use Rattle.pic_load.specs.Generator.{after};
-ghost use Rattle.pic_load.specs.Loading.{loaded_particle, no_particle, site, at_site, drawn, beside, moved, displaced, first_of_species, particles_in, loaded, IsPlaced, AreLoaded};
+ghost use Rattle.pic_load.specs.Loading.{loaded_particle, no_particle, site, at_site, drawn, beside, moved};
+ghost use Rattle.pic_load.specs.Loading.{displaced, first_of_species, particles_in, loaded, IsPlaced, AreLoaded};
 
 use crate::drawing::{draw_place, draw_velocity};
 use pic_deck::{Deck, Fill, Point6, Species, Terms, extent, particles_of};

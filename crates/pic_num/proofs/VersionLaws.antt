@@ -4,7 +4,8 @@ use Rattle.std.proofs.lemmas.Bool.{cases_Bool}
 use Rattle.std.proofs.Math.Nat.{le_trans}
 use Rattle.std.proofs.Math.Pow.{pow_mono}
 use Rattle.pic_num.specs.declared.limits.Allowance.{Allowance}
-use Rattle.pic_num.specs.Limits.{allowance_of, fewest_cells_of_axis, most_cells_of_axis, most_particles, fewest_bits, most_bits, least_side, most_side, most_filter}
+use Rattle.pic_num.specs.Limits.{allowance_of, fewest_cells_of_axis, most_cells_of_axis, most_particles}
+use Rattle.pic_num.specs.Limits.{fewest_bits, most_bits, least_side, most_side, most_filter}
 use Rattle.pic_num.specs.Sub.{bits_of, bits_of-side}
 use Rattle.pic_num.specs.Versions.{IsSideOf}
 

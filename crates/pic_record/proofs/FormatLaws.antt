@@ -1,6 +1,7 @@
 -- What the format alone says of a record that was read: of a frame, its step, its length, and that it can
 -- be put, and of an end record, that nothing is behind it.
-use Rattle.std.proofs.Common.{◌≡◌, ℕ, ◌+◌, ◌*◌, Bool, true, false, List, [], ◌∷◌, length, drop, Option, Some, Ok, refl, sym, ap, subst, ◌∙◌, arith, eqb, if◌then◌else◌}
+use Rattle.std.proofs.Common.{◌≡◌, ℕ, ◌+◌, ◌*◌, Bool, true, false, List, [], ◌∷◌, length, drop}
+use Rattle.std.proofs.Common.{Option, Some, Ok, refl, sym, ap, subst, ◌∙◌, arith, eqb, if◌then◌else◌}
 use Rattle.std.specs.Prelude.{⊤, nat_eq, sum, unwrap_or}
 use Rattle.pic_grid.specs.Cells.{count_of}
 use Rattle.pic_grid.specs.declared.stop.EndMark.{EndMark}

@@ -10,7 +10,8 @@ use Rattle.pic_fields.specs.Number.{i128_of, i128_at, u128_of, u128_at, u32_of, 
 use Rattle.pic_fields.specs.Pieces.{each_behind}
 use Rattle.pic_fields.proofs.LengthLaws.{IsOfLength, of_done, of_then, of_mapped, of_field, of_checked, of_each}
 use Rattle.pic_record.specs.Fields.{strong_value, out_of_range, wrong_energy, is_below, below}
-use Rattle.pic_record.specs.FrameFields.{is_moderate, value_at, energy_at, energies_at, coordinate_at, position_at, speed_at, velocity_at, particle_with, particle_at}
+use Rattle.pic_record.specs.FrameFields.{is_moderate, value_at, energy_at, energies_at, coordinate_at}
+use Rattle.pic_record.specs.FrameFields.{position_at, speed_at, velocity_at, particle_with, particle_at}
 use Rattle.pic_record.specs.Layout.{LayoutView}
 
 -- none so far

@@ -7,7 +7,9 @@ ghost use Rattle.pic_fields.specs.Number.{is_from_to};
 ghost use Rattle.pic_fields.specs.Reads.{Reads, ReadsEnd, as_it_is};
 ghost use Rattle.pic_header.specs.Limits.{most_steps};
 ghost use Rattle.pic_record.specs.Limits.{longest_end};
-ghost use Rattle.pic_record.specs.EndFields.{code_at, below_at, is_phase, phase_of, bound_of, what_of, phase_at, bound_at, what_at, axis_at, stop_cell_at, bound_limit, what_limit, is_past, past_at, field_stop_at, push_stop_at, is_kind, first_after, done_at, field_end_at, push_end_at, end_at};
+ghost use Rattle.pic_record.specs.EndFields.{code_at, below_at, is_phase, phase_of, bound_of, what_of, phase_at, bound_at, what_at};
+ghost use Rattle.pic_record.specs.EndFields.{axis_at, stop_cell_at, bound_limit, what_limit, is_past, past_at, field_stop_at};
+ghost use Rattle.pic_record.specs.EndFields.{push_stop_at, is_kind, first_after, done_at, field_end_at, push_end_at, end_at};
 ghost use Rattle.pic_record.specs.Records.{RecordView, AnEnd, last_record};
 
 use crate::frame_reader::{read_below, read_step};

@@ -9,7 +9,8 @@ ghost use Rattle.pic_fields.specs.Causes.{cause_number};
 ghost use Rattle.pic_fields.specs.Reads.{Reads, always, as_it_is};
 ghost use Rattle.pic_energy.specs.Energies.{IsOfKinds};
 ghost use Rattle.pic_record.specs.Fields.{is_below, below, the_step};
-ghost use Rattle.pic_record.specs.FrameFields.{coordinate_at, position_at, velocity_at, speed_at, particle_with, particle_at, particles_at, energy_at, energies_at, frame_of, frame_at, frame_length, IsSameShape, IsBoxed, IsHeld};
+ghost use Rattle.pic_record.specs.FrameFields.{coordinate_at, position_at, velocity_at, speed_at, particle_with, particle_at, particles_at};
+ghost use Rattle.pic_record.specs.FrameFields.{energy_at, energies_at, frame_of, frame_at, frame_length, IsSameShape, IsBoxed, IsHeld};
 ghost use Rattle.pic_record.specs.Parts.{ReadsPart, FirstAreHeld};
 
 use crate::field_reader::read_field;

@@ -6,7 +6,8 @@ ghost use Rattle.pic_io.specs.Told.{HasCause};
 ghost use Rattle.pic_io.specs.Sink.{Puts};
 ghost use Rattle.pic_num.specs.Bytes.{i128_bytes};
 ghost use Rattle.pic_num.specs.Space.{triple, spot};
-ghost use Rattle.pic_record.specs.RecordText.{start_bytes, values_bytes, position_bytes, velocity_bytes, particle_bytes, particles_bytes, energies_bytes, state_bytes, frame_bytes};
+ghost use Rattle.pic_record.specs.RecordText.{start_bytes, values_bytes, position_bytes, velocity_bytes, particle_bytes};
+ghost use Rattle.pic_record.specs.RecordText.{particles_bytes, energies_bytes, state_bytes, frame_bytes};
 ghost use Rattle.pic_record.specs.Queues.{Queues};
 
 use crate::frame_buffer::{FrameBuffer, make_room};

@@ -1,7 +1,8 @@
 //! The lines of a call, but for those of refused decks and of frames.
 
 ghost use Rattle.std.specs.Prelude.{◌≡◌, ◌≤◌, length};
-ghost use Rattle.pic_report.specs.Lines.{check_line, verified_line, upgraded_line, gauss_line, bad_dump_line, broken_line, usage_line, read_fault_line, break_tail, limit_tail};
+ghost use Rattle.pic_report.specs.Lines.{check_line, verified_line, upgraded_line, gauss_line, bad_dump_line};
+ghost use Rattle.pic_report.specs.Lines.{broken_line, usage_line, read_fault_line, break_tail, limit_tail};
 
 use pic_charge::Break;
 use pic_num::Text;

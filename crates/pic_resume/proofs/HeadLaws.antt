@@ -34,7 +34,8 @@ use Rattle.pic_dump.proofs.WholeLaws.{whole_none}
 use Rattle.pic_resume.specs.declared.carried.Carried.{Carried}
 use Rattle.pic_resume.specs.declared.carry_stop.CarryStop.{CarryStop}
 use Rattle.pic_resume.specs.declared.carry_stop.CarryStop.TheVariants.{BadDump, Refused, WriteFault}
-use Rattle.pic_resume.specs.Carry.{Kept, Carry, asked, kept_before, under_header, nothing_but, unless_refused, carry_kept, carry_dump, carry_of, carry_part, carry_front, failed}
+use Rattle.pic_resume.specs.Carry.{Kept, Carry, asked, kept_before, under_header, nothing_but, unless_refused}
+use Rattle.pic_resume.specs.Carry.{carry_kept, carry_dump, carry_of, carry_part, carry_front, failed}
 use Rattle.pic_resume.specs.Carries.{Answered, Carries}
 use Rattle.pic_resume.specs.CarryStops.{stop_of_head, stop_of_deck}
 use Rattle.pic_resume.specs.Behind.{records_behind, kept_behind}

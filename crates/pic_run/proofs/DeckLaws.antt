@@ -31,7 +31,8 @@ use Rattle.pic_report.specs.Ended.{ended_of}
 use Rattle.pic_run.specs.Frames.{end_of_run}
 use Rattle.pic_run.specs.Starting.{first_state, state_break, IsGauss}
 use Rattle.pic_run.specs.Reading.{deck_limit, Given, Held, Failed, FailedBehind, Gave}
-use Rattle.pic_run.specs.Outcome.{Outcome, answer_of, early_outcome, unless_refused, unless_gauss_fails, unless_too_strong, accepted, gauss_tested, tested, opened, on_deck, check_outcome, run_outcome, probe_outcome}
+use Rattle.pic_run.specs.Outcome.{Outcome, answer_of, early_outcome, unless_refused, unless_gauss_fails, unless_too_strong}
+use Rattle.pic_run.specs.Outcome.{accepted, gauss_tested, tested, opened, on_deck, check_outcome, run_outcome, probe_outcome}
 use Rattle.pic_run.specs.Leaves.{Leaving, ComesTo, Fulfils, LeavesNothing, LeavesWhole}
 use Rattle.pic_run.specs.Finishes.{Finishes, Announces, EndsStopped}
 use Rattle.pic_run.specs.Opened.{Opens}

@@ -1,5 +1,6 @@
 -- The command `resume`: how it ends, and what its answers mean.
-use Rattle.std.proofs.Common.{◌≡◌, ℕ, suc, ◌-◌, List, [], ◌∷◌, ◌++◌, Option, Some, None, Result, Ok, Err, inl, inr, refl, sym, ap, ◌∙◌, subst, append_assoc, arith}
+use Rattle.std.proofs.Common.{◌≡◌, ℕ, suc, ◌-◌, List, [], ◌∷◌, ◌++◌, Option, Some, None, Result}
+use Rattle.std.proofs.Common.{Ok, Err, inl, inr, refl, sym, ap, ◌∙◌, subst, append_assoc, arith}
 use Rattle.std.specs.Prelude.{⊤, unwrap_or, IfSome, IsOk}
 use Rattle.pic_io.specs.Told.{Told}
 use Rattle.pic_io.specs.Sinks.{Sinks, Piece, CutAt}
@@ -46,7 +47,8 @@ use Rattle.pic_run.specs.Outcome.{with_head, pieces_of, answer_of, states_outcom
 use Rattle.pic_run.specs.Leaves.{ComesTo, Fulfils, LeavesKept}
 use Rattle.pic_run.specs.Finishes.{Finishes, Announces}
 use Rattle.pic_run.specs.Manner.{Call, Performs}
-use Rattle.pic_run.specs.Resume.{resumed_state, carried_state, behind_outcome, ended_carry, resume_behind, resume_on, HasRun, IsResumable, ReadsResumed, HasDump, resuming}
+use Rattle.pic_run.specs.Resume.{resumed_state, carried_state, behind_outcome, ended_carry, resume_behind}
+use Rattle.pic_run.specs.Resume.{resume_on, HasRun, IsResumable, ReadsResumed, HasDump, resuming}
 use Rattle.pic_run.specs.Ends.{MeansIn}
 use Rattle.pic_run.proofs.EndLaws.{finished, announced, fed, avoids, unlike, told_held}
 use Rattle.pic_run.proofs.OpenedLaws.{gave_known}

@@ -11,7 +11,8 @@ use Rattle.pic_record.specs.FrameFields.{FrameView}
 use Rattle.pic_record.specs.Layout.{LayoutView, layout_of}
 use Rattle.pic_dump.specs.declared.upgrade_stop.UpgradeStop.TheVariants as stop
 use Rattle.pic_dump.specs.DumpRead.{DumpRead, read_dump}
-use Rattle.pic_dump.specs.Upgrade.{Answer, Puts, FailsToRead, FailsToPut, PutsNothing, Upgrades, frame_pieces, end_pieces, answer_behind, upgrade_dump, upgrade_of}
+use Rattle.pic_dump.specs.Upgrade.{Answer, Puts, FailsToRead, FailsToPut, PutsNothing, Upgrades}
+use Rattle.pic_dump.specs.Upgrade.{frame_pieces, end_pieces, answer_behind, upgrade_dump, upgrade_of}
 use Rattle.pic_dump.specs.Allowed.{TakesAllowed, TakesHeader}
 use Rattle.pic_dump.specs.Whole.{Parts, dump_parts, parts_in, TakesWhole}
 use Rattle.pic_dump.proofs.UntakenLaws.{none_allowed, none_header}

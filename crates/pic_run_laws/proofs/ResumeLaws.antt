@@ -18,7 +18,8 @@ use Rattle.pic_deck.specs.declared.refusal.Refusal.{Refusal}
 use Rattle.pic_deck.specs.Reading.{as_read}
 use Rattle.pic_deck.specs.Tiles.{tiles_fit}
 use Rattle.pic_deck.proofs.TileLaws.{tiles_that_fit, steps_that_fit}
-use Rattle.pic_resume.specs.Carry.{GoesOn, Kept, asked, kept_frames, kept_piece, kept_pieces, no_frame, last_frame, under_header, unless_refused, carry_kept, kept_by, carry_dump, carry_of}
+use Rattle.pic_resume.specs.Carry.{GoesOn, Kept, asked, kept_frames, kept_piece, kept_pieces, no_frame, last_frame}
+use Rattle.pic_resume.specs.Carry.{under_header, unless_refused, carry_kept, kept_by, carry_dump, carry_of}
 use Rattle.pic_run.specs.declared.output.Output.TheVariants.{Dump}
 use Rattle.pic_run.specs.FrameStates.{frame_in, world_in}
 use Rattle.pic_run.specs.Frames.{frame_piece, due_states, frames_of, frames_behind, end_of_run}

@@ -10,7 +10,8 @@ use Rattle.pic_grid.specs.Current.{current}
 use Rattle.pic_grid.specs.PushPhase.{push_stop}
 use Rattle.pic_header.specs.Header.{AreMultipliers, HasMultipliers}
 use Rattle.pic_record.specs.Layout.{LayoutView}
-use Rattle.pic_step.specs.SerialStep.{World, e_of, b_of, around, half_at, full_at, half_on, push_on, current_of, before_electric, half_stop, full_stop, stop_of_step, stepped}
+use Rattle.pic_step.specs.SerialStep.{World, e_of, b_of, around, half_at, full_at, half_on, push_on}
+use Rattle.pic_step.specs.SerialStep.{current_of, before_electric, half_stop, full_stop, stop_of_step, stepped}
 use Rattle.pic_step.specs.Sound.{IsSafe}
 use Rattle.pic_step.proofs.SoundLaws.{safe_after}
 use Rattle.pic_record.specs.Readable.{IsReadableStop}

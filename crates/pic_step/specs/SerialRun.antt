@@ -17,7 +17,7 @@ use Rattle.pic_step.specs.StateView.{StateView}
 abbrev pub kinds_of : DeckView → List Kind
 kinds_of d = map (λ (s : Species). s.kind) d.species
 
--- the state that a deck begins with, with these particles
+-- the state that a deck without displaced species begins with, with these particles
 abbrev pub start_of : DeckView → List Particle → World
 start_of d particles =
     world_of 0 (deck_grid d) d.filter d.loops d.scales (kinds_of d) (values_of d.cells (initial_e d))

@@ -30,7 +30,7 @@ impl Start {
     ghost use Rattle.pic_step.specs.SerialRun.{start_of};
     ghost use Rattle.pic_step.specs.Start.{begun, world_in_frame};
 
-    /// What a deck's run begins with, with these particles.
+    /// What a deck's run begins with before a species is displaced, with these particles.
     pub fn new(alloc: Global, deck: &Deck, particles: Vec<Particle>) -> Result<Start, NoMemory>
         ensures map { IfOk result
             (λ start. start.setup.map ≡ tiles_of (deck_grid deck.now) deck.now.tiles) }

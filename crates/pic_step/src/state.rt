@@ -50,7 +50,7 @@ impl State {
     ghost use Rattle.pic_step.specs.Start.{begun, world_in_frame};
     ghost use Rattle.pic_step.specs.Tiled.{AreTilesOf};
 
-    /// The state that a deck begins with, with these particles.
+    /// The state that a deck without displaced species begins with, with these particles.
     pub fn new(alloc: Global, deck: &Deck, particles: &[Particle]) -> Result<State, NoMemory>
         requires { IsSound (start_of deck.now particles.now) }
         ensures world { IfOk result (λ s. s.world ≡ start_of deck.now particles.now) }

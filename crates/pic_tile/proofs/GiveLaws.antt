@@ -12,7 +12,8 @@ use Rattle.pic_grid.specs.BlockLayers.{is_from, is_over, lowered_by, box_of, lay
 use Rattle.pic_grid.specs.Cells.{IsWithin}
 use Rattle.pic_grid.proofs.BlockLayerLaws.{over_tells, cell_in, in_zone, inner_edge}
 use Rattle.pic_tile.specs.Directions.{steps_of}
-use Rattle.pic_tile.specs.Layers.{layer_count, layer_low, layer_begin, layer_at, layers_size, layers_from, layers_begin, lowest_cell, IsLayers, at_some, pick, given_at}
+use Rattle.pic_tile.specs.Layers.{layer_count, layer_low, layer_begin, layer_at, layers_size, layers_from}
+use Rattle.pic_tile.specs.Layers.{layers_begin, lowest_cell, IsLayers, at_some, pick, given_at}
 use Rattle.pic_tile.specs.Tiling.{Tiling}
 use Rattle.pic_tile.proofs.OneAxisLaws.{pick_same}
 

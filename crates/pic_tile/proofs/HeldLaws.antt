@@ -1,5 +1,6 @@
 -- What all tiles have together: the list that is cut into them, and what arrives at each after a push.
-use Rattle.std.proofs.Common.{◌≡◌, ℕ, ◌<◌, Bool, cond, nat_eq, All, List, [], length, map, filter, get_or, sum_by, IsPermutation, ◌-◌, eq-eqb, ne_eqb, sym, ◌∙◌, ap, subst, arith}
+use Rattle.std.proofs.Common.{◌≡◌, ℕ, ◌<◌, Bool, cond, nat_eq, All, List, [], length, map, filter, get_or}
+use Rattle.std.proofs.Common.{sum_by, IsPermutation, ◌-◌, eq-eqb, ne_eqb, sym, ◌∙◌, ap, subst, arith}
 use Rattle.std.proofs.Math.Decide.{ℕ_discrete}
 use Rattle.std.specs.List.{range_with_len}
 use Rattle.std.proofs.lemmas.List.{get_or-map, length-map}

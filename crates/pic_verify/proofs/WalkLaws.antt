@@ -1,5 +1,6 @@
 -- The verdict after so many good frames is that of what follows them.
-use Rattle.std.proofs.Common.{◌≡◌, ◌≢◌, ℕ, suc, ◌+◌, ◌*◌, ◌≤◌, List, [], ◌∷◌, ◌++◌, length, Option, Some, None, Result, Ok, Err, IsErrAnd, refl, sym, ap, ◌∙◌, arith, add-one, append-nil, length-append}
+use Rattle.std.proofs.Common.{◌≡◌, ◌≢◌, ℕ, suc, ◌+◌, ◌*◌, ◌≤◌, List, [], ◌∷◌, ◌++◌, length, Option, Some, None, Result}
+use Rattle.std.proofs.Common.{Ok, Err, IsErrAnd, refl, sym, ap, ◌∙◌, arith, add-one, append-nil, length-append}
 use Rattle.std.proofs.lemmas.Result.{err_from_is_err_and}
 use Rattle.pic_io.specs.Told.{Told}
 use Rattle.pic_num.specs.declared.motion.Particle.{Particle}
@@ -21,7 +22,8 @@ use Rattle.pic_dump.specs.InTurn.{step_before}
 use Rattle.pic_dump.specs.Standing.{Standing}
 use Rattle.pic_dump.specs.NextReads.{HasFrame, record_most}
 use Rattle.pic_record.specs.Due.{due_after}
-use Rattle.pic_dump.proofs.ReadOnLaws.{read_on_frame, read_on_end, read_on_fault, with_frames, records_of, HasReadOn, more_frames, on_none, on_frame, on_end, on_fault}
+use Rattle.pic_dump.proofs.ReadOnLaws.{read_on_frame, read_on_end, read_on_fault, with_frames, records_of}
+use Rattle.pic_dump.proofs.ReadOnLaws.{HasReadOn, more_frames, on_none, on_frame, on_end, on_fault}
 use Rattle.pic_dump.specs.Allowed.{records_length}
 use Rattle.pic_dump.proofs.AllowedLaws.{Went, went_more, frames_fit, last_fits}
 use Rattle.pic_verify.specs.declared.verify_stop.VerifyStop.TheVariants.{BadDump, Broken, NoMemory}

@@ -1,5 +1,6 @@
 -- The keys of a table beside the members that it stands for.
-use Rattle.std.proofs.Common.{◌≡◌, ◌∙◌, refl, ap, cond, not, ◌||◌, map, List, [], ◌∷◌, ℕ, Bool, true, false, Option, Some, None, Ok, Err, option_map, find, String, Global, Bor, string_bytes}
+use Rattle.std.proofs.Common.{◌≡◌, ◌∙◌, refl, ap, cond, not, ◌||◌, map, List, [], ◌∷◌, ℕ, Bool, true, false}
+use Rattle.std.proofs.Common.{Option, Some, None, Ok, Err, option_map, find, String, Global, Bor, string_bytes}
 use Rattle.std.specs.List.{list_any}
 use Rattle.std.specs.Map.{keys_of}
 use Rattle.toml.specs.View.{members_view}

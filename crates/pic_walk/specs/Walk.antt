@@ -1,6 +1,7 @@
 -- A walk through a document, this project's profile: it gives a value, or the one fault that it
 -- meets first. What table a text is, is `toml`'s definition.
-use Rattle.std.specs.Prelude.{◌≡◌, ⊤, ℤ, pos, neg_ℤ, ℕ, suc, Bool, true, not, ◌&&◌, ◌==◌, unsigned_abs, if◌then◌else◌, List, [], ◌∷◌, ◌++◌, length, map, find, bytes_eq, slice_index_or, Option, Some, None, Result, Ok, Err}
+use Rattle.std.specs.Prelude.{◌≡◌, ⊤, ℤ, pos, neg_ℤ, ℕ, suc, Bool, true, not, ◌&&◌, ◌==◌, unsigned_abs, if◌then◌else◌, List}
+use Rattle.std.specs.Prelude.{[], ◌∷◌, ◌++◌, length, map, find, bytes_eq, slice_index_or, Option, Some, None, Result, Ok, Err}
 use Rattle.std.specs.List.{list_any}
 use Rattle.toml.specs.Data.{Data, Items, no_items, item, Members, no_members, member, as_str, as_integer, as_array, as_table, get_member, is_before}
 use Rattle.pic_num.specs.Limits.{most_numerator, most_shift}

@@ -24,7 +24,8 @@ use Rattle.pic_yard.specs.Steps.{did_claim, was_told}
 use Rattle.pic_yard.proofs.CountLaws.{count_le, count_all}
 use Rattle.pic_yard.proofs.CollectLaws.{take_all, Collected, which_place, cleared, homes_cleared, all_carried, slot_row, slot_place}
 use Rattle.pic_yard.proofs.MarkLaws.{ArrivalsStay, claim_marks, told_marks}
-use Rattle.pic_yard.proofs.PlaceLaws.{SlotsHold, claim_slot, claim_kind, claim_home, claim_box, kind_home, kind_box, claim_takes, claim_places, claim_aways, told_places}
+use Rattle.pic_yard.proofs.PlaceLaws.{SlotsHold, claim_slot, claim_kind, claim_home, claim_box, kind_home}
+use Rattle.pic_yard.proofs.PlaceLaws.{kind_box, claim_takes, claim_places, claim_aways, told_places}
 use Rattle.pic_yard.proofs.PlaceLaws.{told_aways, own_from}
 use Rattle.pic_yard.proofs.TicketLaws.{draw_claims, draw_tells}
 use Rattle.pic_yard.proofs.ViewLaws.{each_view}
