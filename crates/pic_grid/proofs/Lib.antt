@@ -1,4 +1,5 @@
 pub mod CellLaws
+pub mod NumberedLaws
 pub mod PlaceLaws
 pub mod LatticeLaws
 pub mod BlockLaws
