@@ -1,6 +1,6 @@
 -- The stop of a phase: what it says of the new values, and how a walk finds it.
 use Rattle.std.proofs.Common.{◌≡◌, ℕ, ℤ, ◌+◌, ◌*◌, ◌^◌, ◌<◌, ◌≤◌, Bool, true, false, cond, ltb, Option}
-use Rattle.std.proofs.Common.{Some, None, Result, OnOk, unsigned_abs, refl, sym, ◌∙◌, ap, subst, arith}
+use Rattle.std.proofs.Common.{Some, None, Result, OnOk, unsigned_abs, refl, sym, ◌∙◌, ap, subst, arith, zero-add}
 use Rattle.std.specs.Option.{option_or}
 use Rattle.std.specs.List.{range_with_len}
 use borrow.Author.Tests.{ltb-false}
@@ -10,12 +10,14 @@ use Rattle.pic_num.specs.Multiplier.{Multiplier}
 use Rattle.pic_num.specs.Push.{unless}
 use Rattle.pic_num.specs.Rounding.{scaled}
 use Rattle.pic_num.specs.Space.{Triple, Spot}
-use Rattle.pic_num.proofs.FirstLaws.{first_of_next, first_of_none}
+use Rattle.pic_num.proofs.FirstLaws.{first_of_next, first_finds, first_is}
+use Rattle.pic_num.proofs.LeastLaws.{Finds}
 use Rattle.pic_grid.specs.declared.stop.Phase.{Phase}
 use Rattle.pic_grid.specs.declared.stop.Stop.{Stop}
 use Rattle.pic_grid.specs.Cells.{IsWithin, count_of, place_of}
 use Rattle.pic_grid.specs.Block.{BlockValues, IsAmongCells, inner_of, inner_at, outer_of}
-use Rattle.pic_grid.proofs.CellLaws.{place_of_below, axis_of-place_of, cell_of-place_of}
+use Rattle.pic_grid.specs.Parts.{origin}
+use Rattle.pic_grid.proofs.NumberedLaws.{Place, places_numbered}
 use Rattle.pic_grid.proofs.BlockLaws.{inner_within}
 use Rattle.pic_grid.proofs.PlaceLaws.{IsPlace}
 use Rattle.pic_field.specs.FieldPhases.{fault_of, cell_above, lowest, fault_at, least_fault, IsBounded, AllBounded}
@@ -35,28 +37,36 @@ fault_of-none phase by a p v none =
     let force : unsigned_abs (scaled v by) ≤ 2 ^ 44 = ltb-false (2 ^ 44) (unsigned_abs (scaled v by)) both.1 in
     record { value = record { size = value }; force = record { size = force } }
 
+-- a cell counted from the lowest of the grid
+pub above_origin : (p : Triple) → cell_above origin p ≡ p
+above_origin p = λ i. record { x = zero-add p.x i; y = zero-add p.y i; z = zero-add p.z i }
+
+-- the stop at a place of the box of size cells from low on
+abbrev pub box_fault : Phase → Multiplier → Triple → (Axis → Triple → ℤ) → Place → Option Stop
+box_fault phase by low f c = fault_of phase by c.0 (cell_above low c.1) (f c.0 (cell_above low c.1))
+
 -- the stop at a place's number is that of the place
 pub fault_at-place_of : (phase : Phase) (by : Multiplier) (low size : Triple) (f : Axis → Triple → ℤ) (a : Axis) (p : Triple) → IsWithin p size
     → fault_at phase by low size f (place_of size a p) ≡ fault_of phase by a (cell_above low p) (f a (cell_above low p))
-fault_at-place_of phase by low size f a p w =
-    let axis = axis_of-place_of size a p w in
-    let cell = cell_of-place_of size a p w in
-    λ i. fault_of phase by (axis i) (cell_above low (cell i)) (f (axis i) (cell_above low (cell i)))
+fault_at-place_of phase by low size f a p w = ap (box_fault phase by low f) ((places_numbered size).back (a, p) w)
 
--- where a box has no stop, no place of it has one
-pub least_fault-none : (phase : Phase) (by : Multiplier) (low size : Triple) (f : Axis → Triple → ℤ) → least_fault phase by low size f ≡ None
-    → (a : Axis) (p : Triple) → IsWithin p size → fault_of phase by a (cell_above low p) (f a (cell_above low p)) ≡ None
-unfolding least_fault
-least_fault-none phase by low size f none a p w =
-    let below : place_of size a p < 3 * count_of size = place_of_below size a p w in
-    sym (fault_at-place_of phase by low size f a p w)
-    ∙ first_of_none (fault_at phase by low size f) 0 (3 * count_of size) none (place_of size a p) (omega arith) (omega arith)
+module _ (phase : Phase) (by : Multiplier) (low size : Triple) (f : Axis → Triple → ℤ)
+  where
+    -- the stop of the box is found at its least place
+    abbrev pub BoxFinds : Option Stop → Type 0
+    BoxFinds o = Finds {X = Place} (λ c. IsWithin c.1 size) (λ c. place_of size c.0 c.1) (box_fault phase by low f) o
 
--- so its values pass neither bound
-pub least_fault-bounded : (phase : Phase) (by : Multiplier) (low size : Triple) (f : Axis → Triple → ℤ) → least_fault phase by low size f ≡ None
-    → (a : Axis) (p : Triple) → IsWithin p size → IsBounded by (f a (cell_above low p))
-least_fault-bounded phase by low size f none a p w =
-    fault_of-none phase by a (cell_above low p) (f a (cell_above low p)) (least_fault-none phase by low size f none a p w)
+    pub box_finds : BoxFinds (least_fault phase by low size f)
+    unfolding least_fault
+    box_finds = first_finds (places_numbered size) (box_fault phase by low f)
+
+    pub box_is : (o : Option Stop) → BoxFinds o → least_fault phase by low size f ≡ o
+    unfolding least_fault
+    box_is o found = first_is (places_numbered size) (box_fault phase by low f) o found
+
+    -- where it has none, its values pass neither bound
+    pub least_fault-bounded : least_fault phase by low size f ≡ None → (a : Axis) (p : Triple) → IsWithin p size → IsBounded by (f a (cell_above low p))
+    least_fault-bounded none a p w = fault_of-none phase by a (cell_above low p) (f a (cell_above low p)) (box_finds.none none (a, p) w)
 
 -- in a walk over a block, whose zone lies among n cells, the place of the number i is the component
 -- on an axis at the cell q of the grid, which lies p above the lowest

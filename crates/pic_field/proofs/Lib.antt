@@ -1,4 +1,5 @@
 pub mod ZoneLaws
+pub mod OrderLaws
 pub mod FaultLaws
 pub mod LeastStopLaws
 pub mod CalmLaws
