@@ -1,5 +1,5 @@
 -- The least node where a divergence and a charge differ.
-use Rattle.std.proofs.Common.{◌≡◌, ℕ, ◌+◌, ◌<◌, Bool, true, false, cond, Option, Some, None, List, ◌↔◌, is_some, refl, sym, ◌∙◌, ap, subst, arith}
+use Rattle.std.proofs.Common.{◌≡◌, ℕ, ◌<◌, Bool, true, false, cond, Option, Some, None, List, ◌↔◌, is_some, refl, sym, ◌∙◌, ap, subst, arith}
 use Rattle.std.proofs.Math.IntN.{ℤ}
 use Rattle.std.proofs.lemmas.Bool.{true≢false, false≢true}
 use Rattle.std.proofs.lemmas.Bool.Decides.{Decides-int_eq}
@@ -8,12 +8,14 @@ use Rattle.std.specs.Ordering.{int_eq}
 use Rattle.pic_num.specs.declared.motion.Particle.{Particle}
 use Rattle.pic_num.specs.declared.motion.Kind.{Kind}
 use Rattle.pic_num.specs.Space.{Triple}
-use Rattle.pic_num.proofs.FirstLaws.{first_of_some, first_of_at, first_of_none, none_first_of, first_of_same}
+use Rattle.pic_num.proofs.FirstLaws.{first_of_at, none_first_of, first_of_same, first_finds, first_is, none_if, some_if}
+use Rattle.pic_num.proofs.LeastLaws.{Finds, finds_none}
 use Rattle.pic_grid.specs.Arrays.{array_of_triple}
 use Rattle.pic_grid.specs.Differences.{div_e}
 use Rattle.pic_grid.specs.Lattice.{Field, value_at}
 use Rattle.pic_grid.specs.Cells.{IsWithin, count_of, index_of, cell_of}
-use Rattle.pic_grid.proofs.CellLaws.{index_of_below, cell_of-index_of, index_of-cell_of, cell_of_within}
+use Rattle.pic_grid.proofs.CellLaws.{cell_of_within}
+use Rattle.pic_grid.proofs.NumberedLaws.{cells_numbered}
 use Rattle.pic_charge.specs.declared.breaks.Break.{Break}
 use Rattle.pic_charge.specs.Charge.{rho_of}
 use Rattle.pic_charge.specs.Gauss.{difference_at, first_break, Agree, IsLeastBreak, MeetsGauss}
@@ -23,72 +25,50 @@ abbrev pub break_at : (Triple → ℤ) → (Triple → ℤ) → Triple → Break
 break_at div rho p = record { node = array_of_triple p; div = div p; rho = rho p }
 
 -- a node with no break: the two agree there
-pub agree_at : (div rho : Triple → ℤ) (p : Triple) → difference_at div rho p ≡ None → div p ≡ rho p
+agree_at : (div rho : Triple → ℤ) (p : Triple) → difference_at div rho p ≡ None → div p ≡ rho p
 unfolding difference_at
-agree_at div rho p none = go (int_eq (div p) (rho p)) refl none
-  where
-    go : (t : Bool) → int_eq (div p) (rho p) ≡ t → cond t None (Some (break_at div rho p)) ≡ None → div p ≡ rho p
-    go true test is = (Decides-int_eq (div p) (rho p)).0 test
-    go false test is = cc
+agree_at div rho p none = (Decides-int_eq (div p) (rho p)).0 (none_if (int_eq (div p) (rho p)) (break_at div rho p) none)
 
 pub none_at : (div rho : Triple → ℤ) (p : Triple) → div p ≡ rho p → difference_at div rho p ≡ None
 unfolding difference_at
 none_at div rho p same = ap (λ (t : Bool). cond t None (Some (break_at div rho p))) ((Decides-int_eq (div p) (rho p)).1 same)
 
 -- a node with a break: the two differ there
-pub differ_at : (div rho : Triple → ℤ) (p : Triple) (b : Break) → difference_at div rho p ≡ Some b → div p ≡ rho p → ⊥
+differ_at : (div rho : Triple → ℤ) (p : Triple) (b : Break) → difference_at div rho p ≡ Some b → div p ≡ rho p → ⊥
 differ_at div rho p b some same = let none = none_at div rho p same in cc
 
-pub break_is : (div rho : Triple → ℤ) (p : Triple) (b : Break) → difference_at div rho p ≡ Some b → break_at div rho p ≡ b
+break_is : (div rho : Triple → ℤ) (p : Triple) (b : Break) → difference_at div rho p ≡ Some b → break_at div rho p ≡ b
 unfolding difference_at
-break_is div rho p b some = go (int_eq (div p) (rho p)) some
-  where
-    go : (t : Bool) → cond t None (Some (break_at div rho p)) ≡ Some b → break_at div rho p ≡ b
-    go true is = cc
-    go false is = cc
+break_is div rho p b some = (some_if (int_eq (div p) (rho p)) (break_at div rho p) b some).1
+
+-- the first break is found at the least node
+abbrev BreakFinds : Triple → (Triple → ℤ) → (Triple → ℤ) → Option Break → Type 0
+BreakFinds n div rho o = Finds (λ p. IsWithin p n) (index_of n) (difference_at div rho) o
+
+break_finds : (n : Triple) (div rho : Triple → ℤ) → BreakFinds n div rho (first_break n div rho)
+unfolding first_break
+break_finds n div rho = first_finds (cells_numbered n) (difference_at div rho)
 
 -- no break is found exactly where the two agree at every node
-pub first_break_none : (n : Triple) (div rho : Triple → ℤ) → first_break n div rho ≡ None → Agree n div rho
-unfolding first_break
-first_break_none n div rho none = record {
-  at_node = λ p within.
-      let below : index_of n p < 0 + count_of n = let h = index_of_below n p within in omega (arith, h) in
-      let here = first_of_none (λ i. difference_at div rho (cell_of n i)) 0 (count_of n) none (index_of n p) (omega arith) below in
-      agree_at div rho p (subst (λ (q : Triple). difference_at div rho q ≡ None) (cell_of-index_of n p within) here);
-}
+first_break_none : (n : Triple) (div rho : Triple → ℤ) → first_break n div rho ≡ None → Agree n div rho
+first_break_none n div rho none = record { at_node = λ p within. agree_at div rho p ((break_finds n div rho).none none p within) }
 
-pub none_first_break : (n : Triple) (div rho : Triple → ℤ) → Agree n div rho → first_break n div rho ≡ None
+none_first_break : (n : Triple) (div rho : Triple → ℤ) → Agree n div rho → first_break n div rho ≡ None
 unfolding first_break
 none_first_break n div rho agree =
-    none_first_of (λ i. difference_at div rho (cell_of n i)) 0 (count_of n)
-    (λ i low high. none_at div rho (cell_of n i) (agree.at_node (cell_of n i) (cell_of_within n i (omega (arith, high)))))
-
--- a break at a number, with none before it, is the least
-least_at : (n : Triple) (div rho : Triple → ℤ) (b : Break) (i : ℕ) → i < count_of n
-    → difference_at div rho (cell_of n i) ≡ Some b
-    → ((j : ℕ) → j < i → difference_at div rho (cell_of n j) ≡ None)
-    → IsLeastBreak n div rho b
-least_at n div rho b i inside found before =
-    let p : Triple = cell_of n i in
-    let is : break_at div rho p ≡ b = break_is div rho p b found in
-    subst (IsLeastBreak n div rho) is (record {
-      within = cell_of_within n i inside;
-      div_is = refl;
-      rho_is = refl;
-      differ = differ_at div rho p b found;
-      least = λ q within below.
-          let number = index_of-cell_of n i in
-          let earlier = before (index_of n q) (omega (arith, below, number)) in
-          agree_at div rho q (subst (λ (r : Triple). difference_at div rho r ≡ None) (cell_of-index_of n q within) earlier);
-    })
+    first_is (cells_numbered n) (difference_at div rho) None (finds_none (λ p within. none_at div rho p (agree.at_node p within)))
 
 -- a break is found exactly where it is the least
 pub first_break_some : (n : Triple) (div rho : Triple → ℤ) (b : Break) → first_break n div rho ≡ Some b → IsLeastBreak n div rho b
-unfolding first_break
 first_break_some n div rho b some =
-    let at = first_of_some (λ i. difference_at div rho (cell_of n i)) 0 (count_of n) b some in
-    let high = at.1.high in
-    least_at n div rho b at.0 (omega (arith, high)) at.1.found (λ j below. at.1.before j (omega arith) below)
+    let l = (break_finds n div rho).some b some in
+    subst (IsLeastBreak n div rho) (break_is div rho l.at b l.found) (record {
+      within = l.within;
+      div_is = refl;
+      rho_is = refl;
+      differ = differ_at div rho l.at b l.found;
+      least = λ q within below. agree_at div rho q (l.before q within below);
+    })
 
 -- what is found at a number, with nothing before it, is the first break
 pub first_break_at : (n : Triple) (div rho : Triple → ℤ) (o : Option Break) (i : ℕ) → is_some o ≡ true → o ≡ difference_at div rho (cell_of n i)
