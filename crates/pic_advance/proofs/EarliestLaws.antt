@@ -1,9 +1,10 @@
 -- Of two stops the earlier, and of many: in which order and grouping they are compared makes no
 -- difference.
-use Rattle.std.proofs.Common.{◌≡◌, ℕ, zero, suc, ◌+◌, ◌<◌, ◌≤◌, Bool, cond, Option, Some, None, Result, inl, inr, refl, sym, ◌∙◌, ap, subst, arith}
+use Rattle.std.proofs.Common.{◌≡◌, ℕ, zero, suc, ◌+◌, ◌<◌, ◌≤◌, Bool, cond, Option, Some, None, Result, ◌⊎◌, inl, inr, refl, sym, ◌∙◌, ap, subst, arith}
 use Rattle.std.specs.Result.{result_err}
 use Rattle.std.proofs.lemmas.Bool.{cases_lt, lt-ltb, le-ltb}
 use Rattle.pic_num.specs.Push.{unless}
+use Rattle.pic_num.proofs.LeastLaws.{Finds, finds_none, finds_both, keys_named, lesser_by}
 use Rattle.pic_grid.specs.declared.stop.Stop.{Stop}
 use Rattle.pic_advance.specs.Blocks.{place_number, earlier, earliest}
 
@@ -91,95 +92,37 @@ earliest_both f m (suc n) =
     ∙ ap (λ (s : Option Stop). earlier s (f (m + n))) (earliest_both f m n)
     ∙ earlier-assoc (earliest f m) (earliest (λ i. f (m + i)) n) (f (m + n))
 
--- none of the stops is there where the least isn't
-pub earliest_none : (f : ℕ → Option Stop) (n : ℕ) → earliest f n ≡ None → (i : ℕ) → i < n → f i ≡ None
-unfolding earliest earlier
-earliest_none f zero none i below = absurd (omega (arith, below))
-earliest_none f (suc n) none i below = go (earliest_none f n) (earliest f n) (f n) refl refl none
-  where
-    go : (earliest f n ≡ None → (j : ℕ) → j < n → f j ≡ None) → (x y : Option Stop) → earliest f n ≡ x → f n ≡ y → earlier x y ≡ None → f i ≡ None
-    go held None y before last is = elim (cases_lt i n) [
-      | inl less ↦ held before i less
-      | inr more ↦ (let same : i ≡ n = omega (arith, more, below) in ap f same ∙ last ∙ is)
-    ]
-    go held (Some a) None before last is = cc
-    go held (Some a) (Some b) before last is = elim (cases_lt (place_number b) (place_number a)) [
-      | inl less ↦ (let some = earlier-less a b less in cc)
-      | inr more ↦ (let some = earlier-first a b more in cc)
-    ]
+earlier_is : (a b : Option Stop) → lesser_by place_number a b ≡ earlier a b
+unfolding lesser_by earlier
+earlier_is None b = refl
+earlier_is (Some a) None = refl
+earlier_is (Some a) (Some b) = refl
 
--- a stop is one of them, and of the least place
-pub record IsEarliest (f : ℕ → Option Stop) (n : ℕ) (stop : Stop) : Type 0 where
-  pub at : ℕ
-  pub below : at < n
-  pub found : f at ≡ Some stop
-  pub least : (i : ℕ) → i < n → (other : Stop) → f i ≡ Some other → place_number stop ≤ place_number other
-
-some_same : (s t : Stop) → Some s ≡ Some t → s ≡ t
-some_same s t e = cc
-
-at_once : (f : ℕ → Option Stop) (n : ℕ) (stop : Stop) → ((i : ℕ) → i < n → (other : Stop) → f i ≡ Some other → place_number stop ≤ place_number other)
-    → ((other : Stop) → f n ≡ Some other → place_number stop ≤ place_number other)
-    → (i : ℕ) → i < suc n → (other : Stop) → f i ≡ Some other → place_number stop ≤ place_number other
-at_once f n stop before last i below other is = elim (cases_lt i n) [
-  | inl less ↦ before i less other is
-  | inr more ↦ (let same : n ≡ i = omega (arith, more, below) in last other (ap f same ∙ is))
-]
-
-pub earliest_some : (f : ℕ → Option Stop) (n : ℕ) (stop : Stop) → earliest f n ≡ Some stop → IsEarliest f n stop
+-- the stops that are found among some things each are one that is found among all of them
+pub earliest_finds : {X : Type 0} {number : X → ℕ} {g : X → Option Stop} (In : ℕ → X → Type 0)
+    → ((x : X) (s : Stop) → g x ≡ Some s → place_number s ≡ number x) → (f : ℕ → Option Stop) (n : ℕ)
+    → ((i : ℕ) → i < n → Finds (In i) number g (f i)) → Finds (λ x. (i : ℕ) × (i < n) × In i x) number g (earliest f n)
 unfolding earliest
-earliest_some f zero stop is = cc
-earliest_some f (suc n) stop is = go (earliest_some f n) (earliest f n) (f n) refl refl is
+earliest_finds In named f zero each = finds_none (λ x there. let below = there.1 in absurd (omega (arith, below)))
+earliest_finds {X = X} {number = number} {g = g} In named f (suc n) each =
+    subst (Finds (Among (suc n)) number g) (earlier_is (earliest f n) (f n))
+    (finds_both place_number (keys_named (Among n) (In n) place_number named) left right out (earliest f n) (f n)
+    (earliest_finds In named f n (λ i below. each i (omega (arith, below))))
+    (each n (omega arith)))
   where
-    own : (b : Stop) → f n ≡ Some b → Some b ≡ Some stop → (other : Stop) → f n ≡ Some other → place_number stop ≤ place_number other
-    own b last is other found =
-        let same : stop ≡ other = sym (some_same b stop is) ∙ some_same b other (sym last ∙ found) in
-        subst (λ (s : Stop). place_number stop ≤ place_number s) same (omega arith)
+    Among : ℕ → X → Type 0
+    Among m x = (i : ℕ) × (i < m) × In i x
 
-    go : ((s : Stop) → earliest f n ≡ Some s → IsEarliest f n s) → (x y : Option Stop) → earliest f n ≡ x → f n ≡ y → earlier x y ≡ Some stop
-        → IsEarliest f (suc n) stop
-    go so_far None None before last is = let none = none-earlier None in cc
-    go so_far None (Some b) before last is =
-        let this : Some b ≡ Some stop = sym (none-earlier (Some b)) ∙ is in
-        record {
-          at = n;
-          below = omega arith;
-          found = last ∙ this;
-          least = at_once f n stop (λ i h other found. let none = earliest_none f n before i h in cc) (own b last this);
-        }
-    go so_far (Some a) None before last is =
-        let this : Some a ≡ Some stop = sym (earlier-none (Some a)) ∙ is in
-        let held = so_far stop (before ∙ this) in
-        record {
-          at = held.at;
-          below = let h = held.below in omega (arith, h);
-          found = held.found;
-          least = at_once f n stop held.least (λ other found. cc);
-        }
-    go so_far (Some a) (Some b) before last is = elim (cases_lt (place_number b) (place_number a)) [
-      | inl less ↦ (
-          let this : Some b ≡ Some stop = sym (earlier-less a b less) ∙ is in
-          let held = so_far a before in
-          let same : b ≡ stop = some_same b stop this in
-          let below_a : place_number stop < place_number a = subst (λ (s : Stop). place_number s < place_number a) same less in
-          record {
-            at = n;
-            below = omega arith;
-            found = last ∙ this;
-            least = at_once f n stop (λ i h other found. let least = held.least i h other found in omega (arith, least, below_a)) (own b last this);
-          }
-          )
-      | inr more ↦ (
-          let this : Some a ≡ Some stop = sym (earlier-first a b more) ∙ is in
-          let held = so_far stop (before ∙ this) in
-          let same : a ≡ stop = some_same a stop this in
-          let above : place_number stop ≤ place_number b = subst (λ (s : Stop). place_number s ≤ place_number b) same more in
-          record {
-            at = held.at;
-            below = let h = held.below in omega (arith, h);
-            found = held.found;
-            least = at_once f n stop held.least (λ other found.
-                subst (λ (s : Stop). place_number stop ≤ place_number s) (some_same b other (sym last ∙ found)) above);
-          }
-          )
-    ]
+    left : (x : X) → Among n x → Among (suc n) x
+    left x there = let below = there.1 in (there.0, omega (arith, below), there.2)
+
+    right : (x : X) → In n x → Among (suc n) x
+    right x here = (n, omega arith, here)
+
+    out : (x : X) → Among (suc n) x → Among n x ⊎ In n x
+    out x there =
+        let below = there.1 in
+        elim (cases_lt there.0 n) [
+          | inl less ↦ inl (there.0, less, there.2)
+          | inr more ↦ inr (let same : there.0 ≡ n = omega (arith, below, more) in subst (λ (i : ℕ). In i x) same there.2)
+        ]

@@ -3,7 +3,6 @@ pub mod EachLaws
 pub mod EarliestLaws
 pub mod FullLaws
 pub mod HalfLaws
-pub mod OrderLaws
 pub mod RowStopLaws
 pub mod TakenLaws
 pub mod MadeLaws
