@@ -1,6 +1,6 @@
 -- What one push leaves: a move of at most a side, the identity, the species, a place in the box.
-use Rattle.std.proofs.Common.{◌≡◌, ℕ, suc, ◌*◌, ◌<◌, ◌≤◌, Bool, true, false, cond, List, []}
-use Rattle.std.proofs.Common.{◌∷◌, length, map, Option, Some, None, Result, Ok, Err, refl, sym, ap, subst, arith}
+use Rattle.std.proofs.Common.{◌≡◌, ℕ, suc, ◌*◌, ◌<◌, ◌≤◌, false, List, []}
+use Rattle.std.proofs.Common.{◌∷◌, length, map, None, Result, Ok, Err, refl, sym, ap, subst, arith}
 use Rattle.std.specs.Prelude.{unsigned_abs, nat_lt, slice_index_or, All}
 use Rattle.std.proofs.lemmas.List.Elements.{All-map}
 use Rattle.pic_num.specs.declared.motion.Particle.{Particle}
@@ -9,9 +9,10 @@ use Rattle.pic_num.specs.declared.motion.What.TheVariants.{Far}
 use Rattle.pic_num.specs.declared.axis.Axis.{Axis}
 use Rattle.pic_num.specs.declared.axis.Axis.TheVariants.{X, Y, Z}
 use Rattle.pic_num.specs.First.{first_of}
-use Rattle.pic_num.proofs.FirstLaws.{left_none, right_none}
+use Rattle.pic_num.proofs.FirstLaws.{left_none, right_none, none_unless}
+pub use Rattle.pic_num.proofs.FirstLaws.{unless_ok}
 use Rattle.pic_num.specs.Multiplier.{Multiplier}
-use Rattle.pic_num.specs.Push.{Shift, Halting, pushed, first_above, unless, plus}
+use Rattle.pic_num.specs.Push.{Shift, Halting, pushed, first_above, plus}
 use Rattle.pic_num.specs.Space.{Triple, Spot, triple, along, unwrapped, AreAtMost}
 use Rattle.pic_grid.specs.Hat.{HasTwo, IsInBox}
 use Rattle.pic_num.proofs.RoundingLaws.{residue-is}
@@ -20,23 +21,15 @@ use Rattle.pic_grid.specs.PushPhase.{Surroundings, push_of, after_push, moved, m
 use Rattle.pic_grid.specs.PushPhase.{CanShare}
 use Rattle.pic_split.specs.Move.{wrapped_point}
 
-pub unless_ok : {A S : Type 0} (o : Option S) (a b : A) → unless o a ≡ Ok b → (o ≡ None) × (a ≡ b)
-unless_ok None a b h = (refl, cc)
-unless_ok (Some s) a b h = cc
-
-cond_none : {A : Type 0} (b : Bool) (a : A) → cond b (Some a) None ≡ None → b ≡ false
-cond_none true a h = cc
-cond_none false a h = refl
-
 not_above : (most n : ℕ) → nat_lt most n ≡ false → n ≤ most
 not_above most n h = grind (arith, nat_tests)
 
 -- a test that fails on no axis
 pub none_above : (what : What) (most : ℕ) (p : Spot) → first_above what most p ≡ None → (a : Axis) → unsigned_abs (along a p) ≤ most
 unfolding first_above first_of
-none_above what most p none X = not_above most (unsigned_abs p.x) (cond_none _ _ (left_none _ _ none))
-none_above what most p none Y = not_above most (unsigned_abs p.y) (cond_none _ _ (left_none _ _ (right_none _ _ none)))
-none_above what most p none Z = not_above most (unsigned_abs p.z) (cond_none _ _ (left_none _ _ (right_none _ _ (right_none _ _ none))))
+none_above what most p none X = not_above most (unsigned_abs p.x) (none_unless _ _ (left_none _ _ none))
+none_above what most p none Y = not_above most (unsigned_abs p.y) (none_unless _ _ (left_none _ _ (right_none _ _ none)))
+none_above what most p none Z = not_above most (unsigned_abs p.z) (none_unless _ _ (left_none _ _ (right_none _ _ (right_none _ _ none))))
 
 -- a push that doesn't halt moves by at most a side
 pub pushed_move : (side : ℕ) (v e b : Spot) (kick turn : Multiplier) (s : Shift) → pushed side v e b kick turn ≡ Ok s → AreAtMost s.d side
