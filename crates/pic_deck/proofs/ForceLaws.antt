@@ -1,23 +1,26 @@
 -- The least place with a force value above 2^44.
-use Rattle.std.proofs.Common.{◌≡◌, ℕ, ◌+◌, ◌*◌, ◌/◌, ◌%◌, ◌^◌, ◌<◌, true, leb, List, [], ◌∷◌, length, Option, Some, None, ap, sym, ◌∙◌, refl, inl, inr, arith}
+use Rattle.std.proofs.Common.{◌≡◌, ℕ, ◌+◌, ◌*◌, ◌/◌, ◌%◌, ◌^◌, ◌<◌, Bool, cond, leb, List, [], ◌∷◌, length, Option, Some, None, ap, sym, ◌∙◌, arith}
 use Rattle.std.proofs.Math.IntN.{ℤ, pos, ◌+ℤ◌, ◌*ℤ◌}
 use Rattle.std.specs.List.{range_with_len}
 use Rattle.std.specs.Prelude.{unsigned_abs}
-use Rattle.std.proofs.lemmas.Bool.{cases_Bool, leb-true, le-leb}
+use Rattle.std.proofs.lemmas.Bool.{leb-true, le-leb}
 use Rattle.std.proofs.lemmas.Int.{ints}
 use Rattle.pic_num.specs.declared.axis.Axis.{Axis}
 use Rattle.pic_num.specs.declared.axis.Axis.TheVariants.{X, Y, Z}
 use Rattle.pic_num.specs.First.{first_of}
+use Rattle.pic_num.specs.Limits.{most_force}
 use Rattle.pic_num.specs.Multiplier.{Multiplier}
 use Rattle.pic_num.specs.Rounding.{scaled}
 use Rattle.pic_num.specs.Sizes.{IsAtMost}
 use Rattle.pic_num.specs.Space.{Triple, Spot}
-use Rattle.pic_num.proofs.FirstLaws.{first_of_next, first_of_at, first_of_none, none_first_of, first_of_same}
+use Rattle.pic_num.proofs.FirstLaws.{first_of_next, first_of_at, first_of_none, first_of_same, first_finds, first_is, none_if}
+use Rattle.pic_num.proofs.LeastLaws.{Finds, finds_none}
 use Rattle.pic_num.proofs.RoundingLaws.{scaled-no_larger}
 use Rattle.pic_grid.specs.Lattice.{Field, value_at, field_of}
 use Rattle.pic_grid.proofs.LatticeLaws.{value_at-field_of}
 use Rattle.pic_grid.specs.Cells.{IsWithin, count_of, cell_of, axis_of, place_of}
-use Rattle.pic_grid.proofs.CellLaws.{axis_of-place_of, cell_of-place_of, place_of_below, place_within}
+use Rattle.pic_grid.proofs.CellLaws.{place_within}
+use Rattle.pic_grid.proofs.NumberedLaws.{Place, places_numbered}
 use Rattle.pic_grid.specs.Sums.{sum_over}
 use Rattle.pic_walk.specs.declared.row.Row.{Row}
 use Rattle.pic_deck.specs.Initial.{strong, first_strong, set_up, IsMild}
@@ -29,7 +32,7 @@ strong_at n by g i = strong by (g (axis_of (i / count_of n)) (cell_of n (i % cou
 pub strong_at-place : (n : Triple) (by : Multiplier) (g : Axis → Triple → ℤ) (a : Axis) (p : Triple) (i : ℕ) → IsWithin p n → place_of n a p ≡ i
     → strong_at n by g i ≡ strong by (g a p)
 strong_at-place n by g a p i h e =
-    ap (strong_at n by g) (sym e) ∙ (λ k. strong by (g (axis_of-place_of n a p h k) (cell_of-place_of n a p h k)))
+    ap (strong_at n by g) (sym e) ∙ ap (λ (c : Place). strong by (g c.0 c.1)) ((places_numbered n).back (a, p) h)
 
 -- nothing so far, and nothing here
 pub none_more : (n : Triple) (by : Multiplier) (g : Axis → Triple → ℤ) (i : ℕ) → first_of (strong_at n by g) (range_with_len 0 i) ≡ None
@@ -62,38 +65,50 @@ first_strong_same n by g h same =
     first_of_same (strong_at n by g) (strong_at n by h) 0 (3 * count_of n)
     (λ i low high. ap (strong by) (same (axis_of (i / count_of n)) (cell_of n (i % count_of n)) (place_within n i (omega (arith, high)))))
 
-weak : (by : Multiplier) (v : ℤ) → strong by v ≡ None → IsAtMost (scaled v by) (2 ^ 44)
-unfolding strong
-weak by v h =
-    elim (cases_Bool (leb (unsigned_abs (scaled v by)) (2 ^ 44))) [
-      | inl small ↦ record { size = leb-true _ _ small }
-      | inr large ↦ absurd (let e : Some (scaled v by) ≡ None = rw large at h in cc e)
-    ]
+-- a value whose force value isn't too large
+module _ (by : Multiplier) (v : ℤ)
+  where
+    abbrev is_weak : Bool
+    is_weak = leb (unsigned_abs (scaled v by)) most_force
 
--- where nothing is found every force value is small
-pub IsMild-from : (n : Triple) (by : Multiplier) (g : Axis → Triple → ℤ) → ((a : Axis) (p : Triple) → IsWithin p n → IsAtMost (g a p) (2 ^ 84))
-    → first_strong n by g ≡ None → IsMild n by g
-unfolding first_strong
-IsMild-from n by g small none = record {
-  values = small;
-  forces = λ a p h.
-      let below = place_of_below n a p h in
-      let here = first_of_none (strong_at n by g) 0 (3 * count_of n) none (place_of n a p) (omega arith) (omega (arith, below)) in
-      weak by (g a p) (sym (strong_at-place n by g a p (place_of n a p) h refl) ∙ here);
-}
+    pub weak_where : strong by v ≡ None → IsAtMost (scaled v by) most_force
+    unfolding strong
+    weak_where none = record { size = leb-true (unsigned_abs (scaled v by)) most_force (none_if is_weak (scaled v by) none) }
+
+    pub none_where : IsAtMost (scaled v by) most_force → strong by v ≡ None
+    unfolding strong
+    none_where weak = ap (λ (t : Bool). cond t None (Some (scaled v by))) (le-leb (unsigned_abs (scaled v by)) most_force weak.size)
+
+module _ (n : Triple) (by : Multiplier) (g : Axis → Triple → ℤ)
+  where
+    -- what is found is found at the least place
+    abbrev pub StrongFinds : Option ℤ → Type 0
+    StrongFinds o = Finds {X = Place} (λ c. IsWithin c.1 n) (λ c. place_of n c.0 c.1) (λ c. strong by (g c.0 c.1)) o
+
+    pub strong_finds : StrongFinds (first_strong n by g)
+    unfolding first_strong
+    strong_finds = first_finds (places_numbered n) (λ (c : Place). strong by (g c.0 c.1))
+
+    pub strong_is : (o : Option ℤ) → StrongFinds o → first_strong n by g ≡ o
+    unfolding first_strong
+    strong_is o found = first_is (places_numbered n) (λ (c : Place). strong by (g c.0 c.1)) o found
+
+    -- where nothing is found every force value is small
+    pub IsMild-from : ((a : Axis) (p : Triple) → IsWithin p n → IsAtMost (g a p) (2 ^ 84)) → first_strong n by g ≡ None → IsMild n by g
+    IsMild-from small none = record { values = small; forces = λ a p w. weak_where by (g a p) (strong_finds.none none (a, p) w) }
+
+    pub none_strong : ((a : Axis) (p : Triple) → IsWithin p n → IsAtMost (scaled (g a p) by) most_force) → first_strong n by g ≡ None
+    none_strong weak = strong_is None (finds_none (λ c w. none_where by (g c.0 c.1) (weak c.0 c.1 w)))
 
 -- the force value of 0 is 0
-no_force : (by : Multiplier) (v : ℤ) → v ≡ pos 0 → strong by v ≡ None
-unfolding strong
+no_force : (by : Multiplier) (v : ℤ) → v ≡ pos 0 → IsAtMost (scaled v by) most_force
 no_force by v e =
     let size = scaled-no_larger v by in
     let none : v *ℤ by.n ≡ pos 0 = ap (λ (z : ℤ). z *ℤ by.n) e ∙ omega (arith, ints) in
-    let small : leb (unsigned_abs (scaled v by)) (2 ^ 44) ≡ true = le-leb _ _ (omega (arith, size, ap unsigned_abs none)) in
-    rw small
+    record { size = omega (arith, size, ap unsigned_abs none) }
 
 pub no_forces : (n : Triple) (by : Multiplier) (g : Axis → Triple → ℤ) → ((a : Axis) (p : Triple) → g a p ≡ pos 0) → first_strong n by g ≡ None
-unfolding first_strong
-no_forces n by g zero = none_first_of (strong_at n by g) 0 (3 * count_of n) (λ i low high. no_force by _ (zero _ _))
+no_forces n by g zero = none_strong n by g (λ a p w. no_force by (g a p) (zero a p))
 
 pub zero_mild : (n : Triple) (by : Multiplier) (g : Axis → Triple → ℤ) → ((a : Axis) (p : Triple) → g a p ≡ pos 0) → IsMild n by g
 zero_mild n by g zero = IsMild-from n by g (λ a p h. record { size = rw (zero a p) (omega arith) }) (no_forces n by g zero)
