@@ -1,27 +1,19 @@
 -- A deck without displaced species: its E stays, and has passed its test.
-use Rattle.std.proofs.Common.{◌≡◌, ℕ, ◌*◌, ◌/◌, ◌%◌, ◌<◌, ◌≤◌, Bool, true, false, cond, leb, List, [], ◌∷◌}
-use Rattle.std.proofs.Common.{length, get_or, Option, Some, None, Ok, inl, inr, refl, sym, ap, subst, ◌∙◌, arith}
+use Rattle.std.proofs.Common.{◌≡◌, ℕ, Bool, true, false, cond, List, [], ◌∷◌}
+use Rattle.std.proofs.Common.{length, Option, None, Ok, inl, inr, refl, sym, ap, ◌∙◌, arith}
 use Rattle.std.proofs.Math.IntN.{ℤ, pos, ◌+ℤ◌, ◌-ℤ◌}
-use Rattle.std.specs.Prelude.{unsigned_abs, ◌==◌, codes}
-use Rattle.std.specs.List.{list_any, range_with_len}
-use Rattle.std.proofs.lemmas.Bool.{cases_Bool, cases_lt, le-leb}
+use Rattle.std.specs.Prelude.{◌==◌, codes}
+use Rattle.std.specs.List.{list_any}
+use Rattle.std.proofs.lemmas.Bool.{cases_Bool, cases_lt}
 use Rattle.std.proofs.lemmas.Int.{ints}
 use Rattle.std.proofs.lemmas.List.{get_or_past}
 use Rattle.std.proofs.lemmas.List.Folds.{list_any_at}
 use Rattle.pic_num.specs.declared.axis.Axis.{Axis}
 use Rattle.pic_num.specs.declared.motion.Particle.{Particle}
-use Rattle.pic_num.specs.First.{first_of}
-use Rattle.pic_num.specs.Multiplier.{Multiplier}
-use Rattle.pic_num.specs.Rounding.{scaled}
-use Rattle.pic_num.specs.Sizes.{IsAtMost}
 use Rattle.pic_num.specs.Space.{Triple}
-use Rattle.pic_num.proofs.FirstLaws.{none_first_of}
-use Rattle.pic_num.specs.Limits.{most_force}
-use Rattle.pic_grid.specs.Cells.{IsWithin, count_of, axis_of, cell_of}
 use Rattle.pic_grid.specs.Current.{wrapped}
 use Rattle.pic_grid.specs.Lattice.{Field, field_of}
 use Rattle.pic_grid.specs.Sums.{sum_over}
-use Rattle.pic_grid.proofs.CellLaws.{place_within}
 use Rattle.pic_filter.specs.Smoothing.{filtered, smoothed, smoothed_along}
 use Rattle.pic_split.proofs.ImageLaws.{wrapped-zero}
 use Rattle.pic_walk.specs.Path.{key_at}
@@ -29,7 +21,8 @@ use Rattle.pic_deck.specs.declared.species.Fill.{Fill}
 use Rattle.pic_deck.specs.declared.species.Fill.TheVariants.{Points, Lattice, Random, Pair, Displace}
 use Rattle.pic_deck.specs.declared.species.Species.{Species}
 use Rattle.pic_deck.specs.Deck.{DeckView, IsWithinLimits, initial_e}
-use Rattle.pic_deck.specs.Initial.{IsMild, strong, first_strong}
+use Rattle.pic_deck.specs.Initial.{first_strong}
+use Rattle.pic_deck.proofs.ForceLaws.{none_strong}
 use Rattle.pic_deck.specs.Keys.{force_allowed}
 use Rattle.pic_deck.specs.Reading.{as_read}
 use Rattle.pic_deck.specs.Species.{species_at, no_species}
@@ -95,19 +88,8 @@ becomes_itself d ps e none is = record {
   is = is ∙ (λ t. field_of e.side d.cells e.parts (λ a p. sym (stays d ps none a p) t));
 }
 
--- a mild field has no force value that is too large
-weak : (by : Multiplier) (v : ℤ) → IsAtMost (scaled v by) most_force → strong by v ≡ None
-unfolding strong
-weak by v small = ap (λ (t : Bool). cond t None (Some (scaled v by))) (le-leb (unsigned_abs (scaled v by)) most_force small.size)
-
-mild_none : (n : Triple) (by : Multiplier) (g : Axis → Triple → ℤ) → IsMild n by g → first_strong n by g ≡ None
-unfolding first_strong
-mild_none n by g mild =
-    none_first_of (λ i. strong by (g (axis_of (i / count_of n)) (cell_of n (i % count_of n)))) 0 (3 * count_of n)
-    (λ i low high. weak by _ (mild.forces (axis_of (i / count_of n)) (cell_of n (i % count_of n)) (place_within n i (omega (arith, high)))))
-
 pub allowed : (d : DeckView) (ps : List Particle) → IsWithinLimits d → has_displaced d.species ≡ false → displaced_allowed d ps ≡ Ok tt
 unfolding as_read force_allowed
 allowed d ps limits none =
     ap (λ (o : Option ℤ). as_read (force_allowed (key_at (codes "scale") (codes "e_force")) o))
-    ((λ t. first_strong d.cells d.scales.e_force (λ a p. stays d ps none a p t)) ∙ mild_none d.cells d.scales.e_force (initial_e d) limits.e)
+    ((λ t. first_strong d.cells d.scales.e_force (λ a p. stays d ps none a p t)) ∙ none_strong d.cells d.scales.e_force (initial_e d) limits.e.forces)
