@@ -50,6 +50,16 @@ flux_few side q h k =
 pub charge_small : (q : ℤ) → SFits w32 q → IsAtMost q (2 ^ 31)
 charge_small q fits = record { size = omega (arith, ints, fits.sfits) }
 
+-- a coordinate or an index that the code widens
+pub widened_is : (x r : ℤ) → SFits w32 x → r ≡ to_z w32 (of_z w32 x) → r ≡ x
+widened_is x r fits e = e ∙ to_z-of_z w32 x fits
+
+pub widened_small : (x r : ℤ) → SFits w32 x → r ≡ to_z w32 (of_z w32 x) → IsAtMost r (2 ^ 31)
+widened_small x r fits e =
+    let small = charge_small x fits in
+    let size = small.size in
+    let is = widened_is x r fits e in rw is (record { size = size })
+
 pub charge_passed : (q r : ℤ) → SFits w32 q → r ≡ to_z w32 (of_z w32 q) → to_z w64 (of_z w64 r) ≡ q
 charge_passed q r h e =
     let size = charge_small q h in

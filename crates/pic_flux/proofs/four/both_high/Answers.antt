@@ -2,6 +2,15 @@ use mir.Syntax.{w64}
 use Rattle.pic_num.proofs.SizeLaws.{codes, code_fits, code_is, code_at_most}
 use Rattle.pic_flux.proofs.four.both_high.Goals as goal
 
+pub overflow_mul-result : goal.overflow_mul-result
+overflow_mul-result c = code_fits w64 (search codes depth 8) tt
+
+pub overflow_mul-result-2 : goal.overflow_mul-result-2
+overflow_mul-result-2 c = code_fits w64 (search codes depth 8) tt
+
+pub overflow_mul-result-3 : goal.overflow_mul-result-3
+overflow_mul-result-3 c = code_fits w64 (search codes depth 8) tt
+
 pub overflow_add-result : goal.overflow_add-result
 overflow_add-result c = code_fits w64 (search codes depth 24) tt
 

@@ -3,7 +3,7 @@ use mir.Syntax.{w64, w128}
 use Rattle.std.proofs.lemmas.Int.{to_z-of_z, fits_signed_from_abs}
 use Rattle.pic_num.specs.Sizes.{IsAtMost}
 use Rattle.pic_num.specs.Space.{next_axis}
-use Rattle.pic_num.proofs.SizeLaws.{codes, code_at_most}
+use Rattle.pic_num.proofs.SizeLaws.{at_most_more}
 use Rattle.pic_flux.specs.Spans.{ends_on, both_of}
 use Rattle.pic_flux.specs.declared.spans.Ends.{Ends}
 use Rattle.pic_flux.proofs.four.four_of.Goals as goal
@@ -15,13 +15,74 @@ held x n h few = let size = h.size in to_z-of_z w64 x (fits_signed_from_abs w64 
 held_wide : (x : ℤ) → IsAtMost x (2 ^ 80) → to_z w128 (of_z w128 x) ≡ x
 held_wide x h = let size = h.size in to_z-of_z w128 x (fits_signed_from_abs w128 x (omega (arith, size)))
 
-pub one_high-high_b-requires-clause-part : goal.one_high-high_b-requires-clause-part
-one_high-high_b-requires-clause-part c =
-    let part = (c.on-b.ensures.short c.requires.short).part in code_at_most (search codes depth 4) tt
+-- and its size
+small : (x : ℤ) (n : ℕ) → IsAtMost x n → n < 2 ^ 63 → IsAtMost (to_z w64 (of_z w64 x)) n
+small x n h few = let size = h.size in rw (held x n h few) (record { size = size })
 
-pub carried-carried-requires-clause-way : goal.carried-carried-requires-clause-way
-carried-carried-requires-clause-way c =
-    let way = (c.on.ensures.short c.requires.short).way in code_at_most (search codes depth 4) tt
+pub both_high-both-requires : goal.both_high-both-requires
+both_high-both-requires c =
+    let a = c.on-a.ensures.short c.requires.short in
+    let b = c.on-b.ensures.short c.requires.short in
+    record {
+      a = small c.on-a.result.sum (2 ^ 15) a.sum (omega arith);
+      b = small c.on-b.result.sum (2 ^ 15) b.sum (omega arith);
+      way_a = small c.on-a.result.way (2 ^ 14) a.way (omega arith);
+      way_b = small c.on-b.result.way (2 ^ 14) b.way (omega arith);
+    }
+
+pub one_high-high_a-requires : goal.one_high-high_a-requires
+one_high-high_a-requires c =
+    let a = c.on-a.ensures.short c.requires.short in
+    record {
+      part = small c.on-a.result.part (3 * 2 ^ 30) a.part (omega arith);
+      both = small c.both_high-both.result (2 ^ 32) c.both_high-both.ensures.size (omega arith);
+    }
+
+pub one_high-high_b-requires : goal.one_high-high_b-requires
+one_high-high_b-requires c =
+    let b = c.on-b.ensures.short c.requires.short in
+    record {
+      part = small c.on-b.result.part (3 * 2 ^ 30) b.part (omega arith);
+      both = small c.both_high-both.result (2 ^ 32) c.both_high-both.ensures.size (omega arith);
+    }
+
+pub none_high-none-requires : goal.none_high-none-requires
+none_high-none-requires c = record {
+  whole = small c.args.spans.now.whole (3 * 2 ^ 30) c.requires.short.whole (omega arith);
+  high_a = small c.one_high-high_a.result (2 ^ 33) c.one_high-high_a.ensures.size (omega arith);
+  high_b = small c.one_high-high_b.result (2 ^ 33) c.one_high-high_b.ensures.size (omega arith);
+  both = small c.both_high-both.result (2 ^ 32) c.both_high-both.ensures.size (omega arith);
+}
+
+pub carried-carried-requires : goal.carried-carried-requires
+carried-carried-requires c = record {
+  q = small c.args.q (2 ^ 31) c.requires.charge (omega arith);
+  way = small c.on.result.way (2 ^ 14) (c.on.ensures.short c.requires.short).way (omega arith);
+}
+
+pub wide_product-requires : goal.wide_product-requires
+wide_product-requires c = record {
+  carried = small c.carried-carried.result (2 ^ 45) c.carried-carried.ensures.size (omega arith);
+  weight = small c.none_high-none.result (2 ^ 35) c.none_high-none.ensures.size (omega arith);
+}
+
+pub wide_product-requires-2 : goal.wide_product-requires-2
+wide_product-requires-2 c = record {
+  carried = small c.carried-carried.result (2 ^ 45) c.carried-carried.ensures.size (omega arith);
+  weight = small c.one_high-high_a.result (2 ^ 35) (at_most_more _ _ _ (omega arith) c.one_high-high_a.ensures.size) (omega arith);
+}
+
+pub wide_product-requires-3 : goal.wide_product-requires-3
+wide_product-requires-3 c = record {
+  carried = small c.carried-carried.result (2 ^ 45) c.carried-carried.ensures.size (omega arith);
+  weight = small c.one_high-high_b.result (2 ^ 35) (at_most_more _ _ _ (omega arith) c.one_high-high_b.ensures.size) (omega arith);
+}
+
+pub wide_product-requires-4 : goal.wide_product-requires-4
+wide_product-requires-4 c = record {
+  carried = small c.carried-carried.result (2 ^ 45) c.carried-carried.ensures.size (omega arith);
+  weight = small c.both_high-both.result (2 ^ 35) (at_most_more _ _ _ (omega arith) c.both_high-both.ensures.size) (omega arith);
+}
 
 pub returns-clause-value : goal.returns-clause-value
 returns-clause-value c =
