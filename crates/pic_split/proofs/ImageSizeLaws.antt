@@ -1,6 +1,6 @@
 -- How large the flux of a path is at all images of an edge together: on each axis the images of a node
 -- lie two sides apart or more, so a point has the weight of a side at most for all of them.
-use Rattle.std.proofs.Common.{◌≡◌, ℕ, zero, suc, ◌+◌, ◌-◌, ◌*◌, ◌≤◌, Bool, true, false, unsigned_abs, List, [], ◌∷◌, refl, sym, ◌∙◌, ap, subst, arith}
+use Rattle.std.proofs.Common.{◌≡◌, ℕ, ◌+◌, ◌-◌, ◌*◌, ◌≤◌, Bool, true, false, unsigned_abs, List, [], ◌∷◌, refl, sym, ◌∙◌, ap, subst, arith}
 use Rattle.std.proofs.Math.IntN.{ℤ, pos, negsuc, ◌+ℤ◌, ◌-ℤ◌, ◌*ℤ◌}
 use Rattle.std.proofs.Math.Nat.{mul-le-mul_right, mul-le-mul_left}
 use Rattle.std.specs.Prelude.{◌≤ℤ◌, ◌<ℤ◌, if◌then◌else◌}
@@ -11,7 +11,7 @@ use Rattle.pic_num.specs.declared.axis.Axis.TheVariants.{X, Y, Z}
 use Rattle.pic_num.specs.Flux.{simpson}
 use Rattle.pic_num.specs.Space.{Triple, Spot, along, next_axis}
 use Rattle.pic_grid.specs.Current.{sum_images, wrapped}
-use Rattle.pic_grid.specs.Flux.{edge_weight, flux, path_flux}
+use Rattle.pic_grid.specs.Flux.{flux, path_flux}
 use Rattle.pic_grid.specs.Hat.{hat, HasTwo}
 use Rattle.pic_grid.specs.Path.{same_int}
 use Rattle.pic_grid.specs.Segment.{Piece}

@@ -24,6 +24,19 @@ wide_is c =
 near : (c : After-from-3) → SFits w32 (c.args.cell *ℤ pos c.args.side -ℤ c.args.p)
 near c = let size = c.requires.near in code_fits w32 (search codes depth 2) tt
 
+pub overflow_mul-result : goal.overflow_mul-result
+overflow_mul-result c =
+    let cell = small c.args.cell c.from.result c.ranges.cell c.from.ensures in
+    let side : IsAtMost c.from-2.result (2 ^ 14) = subst (λ (z : ℤ). IsAtMost z (2 ^ 14)) (sym c.from-2.ensures) (record { size = c.requires.side }) in
+    code_fits w64 (search codes depth 8) tt
+
+pub overflow_sub-result : goal.overflow_sub-result
+overflow_sub-result c =
+    let cell = small c.args.cell c.from.result c.ranges.cell c.from.ensures in
+    let side : IsAtMost c.from-2.result (2 ^ 14) = subst (λ (z : ℤ). IsAtMost z (2 ^ 14)) (sym c.from-2.ensures) (record { size = c.requires.side }) in
+    let p = small c.args.p c.from-3.result c.ranges.p c.from-3.ensures in
+    code_fits w64 (search codes depth 10) tt
+
 pub overflow_cast-result : goal.overflow_cast-result
 overflow_cast-result c = subst (λ (z : ℤ). SFits w32 z) (sym (wide_is c)) (near c)
 
