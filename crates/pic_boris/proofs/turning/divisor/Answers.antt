@@ -14,6 +14,21 @@ sum_is : (a b d : ℤ) → IsAtMost a (2 ^ 48) → IsAtMost b (2 ^ 48) → IsAtM
     ≡ pos (2 ^ 40) +ℤ (a +ℤ b +ℤ d)
 sum_is a b d h k l = code_is (search codes depth 18) tt
 
+pub square-requires : goal.square-requires
+square-requires c = code_at_most (search codes depth 4) tt
+
+pub square-requires-2 : goal.square-requires-2
+square-requires-2 c = code_at_most (search codes depth 4) tt
+
+pub square-requires-3 : goal.square-requires-3
+square-requires-3 c = code_at_most (search codes depth 4) tt
+
+pub overflow_add-result : goal.overflow_add-result
+overflow_add-result c = code_fits w128 (search codes depth 8) tt
+
+pub overflow_add-result-2 : goal.overflow_add-result-2
+overflow_add-result-2 c = code_fits w128 (search codes depth 12) tt
+
 pub overflow_add-result-3 : goal.overflow_add-result-3
 overflow_add-result-3 c = code_fits w128 (search codes depth 18) tt
 
