@@ -1,9 +1,11 @@
-use Rattle.std.proofs.Common.{pos, ◌^◌, ◌∙◌}
+use Rattle.std.proofs.Common.{pos, ◌^◌, ◌≤◌, slice_index, ap, ◌∙◌, arith}
+use Rattle.std.proofs.Math.Nat.{mul-le-mul}
 use Rattle.std.proofs.lemmas.Int.{to_z-of_z}
 use mir.Syntax.{w64, w128}
 use Rattle.pic_num.specs.Rounding.{rounded}
+use Rattle.pic_num.specs.Space.{Triple}
 use Rattle.pic_gather.proofs.LayeredLaws.{list_of, low_force, high_force, row_is}
-use Rattle.pic_gather.proofs.MixLaws.{whole_row, four_mixed, four_size, mean_of}
+use Rattle.pic_gather.proofs.MixLaws.{row_most, held_row, whole_row, four_mixed, four_size, mean_of}
 use Rattle.pic_gather.proofs.layered.layered_component.Goals as goal
 
 pub row-low_low-requires-clause-low : goal.row-low_low-requires-clause-low
@@ -54,6 +56,38 @@ row-high_high-requires-clause-high c =
     let y = c.requires.on.y in
     high_force _ _ _ _ _ l c.args.at.x c.requires.on.x _ _ y.pair.high y.high
 
+pub row-low_low-requires-clause-most : goal.row-low_low-requires-clause-most
+row-low_low-requires-clause-most c = omega (arith, c.requires.on.x.pair.whole, c.requires.most)
+
+pub row-high_low-requires-clause-most : goal.row-high_low-requires-clause-most
+row-high_low-requires-clause-most c = omega (arith, c.requires.on.x.pair.whole, c.requires.most)
+
+pub row-low_high-requires-clause-most : goal.row-low_high-requires-clause-most
+row-low_high-requires-clause-most c = omega (arith, c.requires.on.x.pair.whole, c.requires.most)
+
+pub row-high_high-requires-clause-most : goal.row-high_high-requires-clause-most
+row-high_high-requires-clause-most c = omega (arith, c.requires.on.x.pair.whole, c.requires.most)
+
+pub wide_mix-sum-requires : goal.wide_mix-sum-requires
+wide_mix-sum-requires c =
+    let side = c.args.force.now.side in
+    let most = c.requires.most in
+    let x = c.requires.on.x.pair.whole in
+    record {
+      low_low_small = row_most _ side most (whole_row _ _ _ c.row-low_low.type_inv x c.row-low_low.ensures.size);
+      high_low_small = row_most _ side most (whole_row _ _ _ c.row-high_low.type_inv x c.row-high_low.ensures.size);
+      low_high_small = row_most _ side most (whole_row _ _ _ c.row-low_high.type_inv x c.row-low_high.ensures.size);
+      high_high_small = row_most _ side most (whole_row _ _ _ c.row-high_high.type_inv x c.row-high_high.ensures.size);
+      y_most = omega (arith, c.requires.on.y.pair.whole, most);
+      z_most = omega (arith, c.requires.on.z.whole, most);
+    }
+
+pub overflow_mul-first : goal.overflow_mul-first
+overflow_mul-first c =
+    let x : slice_index c.numbers.result 0 ≤ 2 ^ 7 = omega (arith, c.numbers.ensures.limits.x_most, ap (λ (n : Triple). n.x) c.numbers.ensures.value) in
+    let y : slice_index c.numbers.result 1 ≤ 2 ^ 7 = omega (arith, c.numbers.ensures.limits.y_most, ap (λ (n : Triple). n.y) c.numbers.ensures.value) in
+    let all = mul-le-mul x y in record { fits = omega (arith, all) }
+
 pub mean-requires : goal.mean-requires
 mean-requires c =
     let x = c.requires.on.x.pair.whole in
@@ -90,3 +124,6 @@ returns-clause-value c =
     low_high high_high
     in
     to_z-of_z w64 c.mean.result (record { sfits = c.mean.type_inv }) ∙ c.mean.ensures.value ∙ (λ i. rounded (sum i) (pos (c.requires.side i ^ 3)))
+
+pub returns-clause-size : goal.returns-clause-size
+returns-clause-size c = held_row c.mean.result _ c.mean.type_inv c.mean.ensures.size

@@ -1,9 +1,43 @@
-use Rattle.std.proofs.Common.{pos, ◌*◌, ◌*ℤ◌, ◌∙◌}
+use Rattle.std.proofs.Common.{pos, ◌*◌, ◌*ℤ◌, ◌∙◌, arith}
 use Rattle.std.proofs.lemmas.Int.{to_z-of_z}
 use mir.Syntax.{w64, w128}
 use Rattle.pic_num.proofs.SizeLaws.{codes, code_fits}
-use Rattle.pic_gather.proofs.MixLaws.{code_four, four_of}
+use Rattle.pic_gather.proofs.MixLaws.{held_row, code_four, four_of}
 use Rattle.pic_gather.proofs.mix.wide_mix.Goals as goal
+
+pub weighed-requires : goal.weighed-requires
+weighed-requires c = record {
+  small = held_row c.args.low_low _ c.ranges.low_low.sfits c.requires.low_low_small;
+  y_most = omega (arith, c.requires.y_most);
+  z_most = omega (arith, c.requires.z_most);
+}
+
+pub weighed-requires-2 : goal.weighed-requires-2
+weighed-requires-2 c = record {
+  small = held_row c.args.high_low _ c.ranges.high_low.sfits c.requires.high_low_small;
+  y_most = omega (arith, c.requires.y_most);
+  z_most = omega (arith, c.requires.z_most);
+}
+
+pub weighed-requires-3 : goal.weighed-requires-3
+weighed-requires-3 c = record {
+  small = held_row c.args.low_high _ c.ranges.low_high.sfits c.requires.low_high_small;
+  y_most = omega (arith, c.requires.y_most);
+  z_most = omega (arith, c.requires.z_most);
+}
+
+pub weighed-requires-4 : goal.weighed-requires-4
+weighed-requires-4 c = record {
+  small = held_row c.args.high_high _ c.ranges.high_high.sfits c.requires.high_high_small;
+  y_most = omega (arith, c.requires.y_most);
+  z_most = omega (arith, c.requires.z_most);
+}
+
+pub overflow_add-result : goal.overflow_add-result
+overflow_add-result c =
+    let one = c.weighed.ensures.size in
+    let two = c.weighed-2.ensures.size in
+    code_fits w128 (search codes depth 8) tt
 
 pub overflow_add-result-2 : goal.overflow_add-result-2
 overflow_add-result-2 c =
