@@ -3,6 +3,7 @@ use Rattle.std.proofs.Math.Nat.{mod-add-mod, mod-eq_of_lt}
 use Rattle.pic_num.specs.declared.axis.Axis.TheVariants.{X, Z}
 use Rattle.pic_num.specs.Sizes.{IsAtMost}
 use Rattle.pic_num.specs.Space.{Triple, triple}
+use Rattle.pic_grid.specs.Cells.{IsWithin}
 use Rattle.pic_grid.specs.Differences.{down}
 use Rattle.pic_grid.specs.Lattice.{value_at}
 use Rattle.pic_filter.specs.Kept.{kept_at, taken, row_cell}
@@ -77,6 +78,44 @@ known c =
       fits = omega (arith, in_row, c.loop-done.invariant.room);
       hold = three_hold f a most_to_smooth x more p c.requires.small c.requires.within z round three are enough;
       values = three_is f a most_to_smooth x more p c.requires.small c.requires.within z round three are enough;
+    }
+
+pub down-requires : goal.down-requires
+down-requires c = subst (λ (n : Triple). IsWithin (triple c.args.cell) n) (sym c.cells-cells.ensures.value) c.requires.within
+
+pub slot_y-on_y-requires : goal.slot_y-on_y-requires
+slot_y-on_y-requires c = subst (λ (n : Triple). slice_index c.down.result 1 < n.y) c.cells-cells.ensures.value c.down.ensures.within.y
+
+pub three_runs-three-requires : goal.three_runs-three-requires
+three_runs-three-requires c = record { x = c.slot_x.ensures.slot; y = c.slot_y-on_y.ensures.slot; z = c.slots_round-on_z.ensures.slots }
+
+pub overflow_sub-count : goal.overflow_sub-count
+overflow_sub-count c = c.loop-done.invariant.most
+
+pub overflow_add-done : goal.overflow_add-done
+overflow_add-done c =
+    let in_row = (known (goal.at.overflow_add-done c).After-min-more).in_row in record { fits = omega (arith, in_row) }
+
+pub slice_bounds-take_run-count : goal.slice_bounds-take_run-count
+slice_bounds-take_run-count c = omega arith
+
+pub overflow_add-done-in-loop-done : goal.overflow_add-done-in-loop-done
+overflow_add-done-in-loop-done c =
+    let in_row = (known (goal.at.overflow_add-done-in-loop-done c).After-min-more).in_row in record { fits = omega (arith, in_row) }
+
+pub overflow_sub-more : goal.overflow_sub-more
+overflow_sub-more c = let some = (known (goal.at.overflow_sub-more c).After-min-more).some in omega (arith, some)
+
+pub up-requires : goal.up-requires
+up-requires c =
+    let k = known (goal.at.up-requires c).After-min-more in
+    let inside = k.inside in
+    let some = k.some in
+    let cells = c.cells-cells.ensures.value in
+    record {
+      x = omega (arith, inside, some, ap (λ (t : Triple). t.x) cells);
+      y = c.down.ensures.within.y;
+      z = c.down.ensures.within.z;
     }
 
 pub take_run-requires-clause-hold : goal.take_run-requires-clause-hold
