@@ -134,6 +134,16 @@ two_on_line : (y z : ℕ) (a : Axis) (p : Triple) → OnTwo y z a p → OnLine y
 two_on_line y z a p (inl h) = on_line X y z a p h
 two_on_line y z a p (inr h) = on_line Y y z a p h
 
+-- a row of a line is as small as the line, and stays so while another row of it is changed
+pub row_of_line : (most : ℕ) (axis : Axis) (y z : ℕ) (b : BlockValues) → AreSmall most (OnLine y z) b → AreSmall most (OnRow axis y z) b
+row_of_line most axis y z b small = record { at_most = λ a p w on. small.at_most a p w (on_line axis y z a p on) }
+
+pub row_kept : (most : ℕ) (g : Axis → Triple → ℤ → ℤ) (axis other : Axis) (y z : ℕ) (old new : BlockValues) → (axis ≡ other → ⊥)
+    → Changed g (OnRow axis y z) old new → AreSmall most (OnRow other y z) old → AreSmall most (OnRow other y z) new
+row_kept most g axis other y z old new differ change small =
+    small_kept g (OnRow other y z) (OnRow axis y z) (OnRow other y z) old new new most change small (λ a p on. on)
+    (λ a p on off. differ (sym off.axis_is ∙ on.axis_is))
+
 pub three_rows : (n : Triple) (y z : ℕ) → IsJoined n (OnTwo y z) (OnRow Z y z) (OnLine y z)
 three_rows n y z = record { apart = two_not_z y z; either = λ a p w r. which_row y z a p r; left = two_on_line y z; right = on_line Z y z }
 

@@ -1,5 +1,5 @@
 -- A block to whose values a curl was added, place by place, and what a step of E makes of it.
-use Rattle.std.proofs.Common.{◌≡◌, ◌≢◌, ℕ, ℤ, pos, ◌+◌, ◌-◌, ◌*◌, ◌<◌, ◌≤◌, ◌+ℤ◌, length, slice_index_or, unsigned_abs, refl, sym, ◌∙◌, ap, subst, arith}
+use Rattle.std.proofs.Common.{◌≡◌, ◌≢◌, ℕ, ℤ, pos, ◌+◌, ◌-◌, ◌*◌, ◌<◌, ◌+ℤ◌, length, slice_index_or, refl, sym, ◌∙◌, ap, subst, arith}
 use Rattle.std.proofs.lemmas.Int.{ints}
 use Rattle.std.proofs.lemmas.Nat.{mod_below}
 use Rattle.std.proofs.lemmas.List.{get_or-set_same, get_or-set_other, length-set}
@@ -21,7 +21,7 @@ use Rattle.pic_field.specs.FieldPhases.{least_fault}
 use Rattle.pic_field.specs.Lines.{Changed}
 use Rattle.pic_field.proofs.CalmLaws.{least_fault-same, own_values}
 use Rattle.pic_field.proofs.CurlLaws.{full_of-raised}
-use Rattle.pic_field.proofs.ZoneLaws.{inner_of-outer_of, edge_at-outer, edge_at-shaped}
+use Rattle.pic_field.proofs.ZoneLaws.{inner_of-outer_of, edge_at-outer}
 
 -- the places whose numbers are less than one
 pub record BelowNumber (size : Triple) (i : ℕ) (a : Axis) (p : Triple) : Type 0 where

@@ -14,7 +14,7 @@ use Rattle.pic_num.specs.Space.{Triple}
 use Rattle.pic_grid.specs.Cells.{IsWithin}
 use Rattle.pic_grid.specs.Lattice.{Field, value_at, EachAtMost}
 use Rattle.pic_field.specs.declared.plane.Span.{Span}
-use Rattle.pic_field.specs.Rows.{most_row, scaled_of, row_at, along_x, IsSmallRow, IsScaledRow}
+use Rattle.pic_field.specs.Rows.{most_row, scaled_of, row_at, along_x, IsSmallRow, IsValueRow, IsScaledRow}
 use Rattle.pic_field.specs.Planes.{IsSpan}
 
 -- no value of a row is scaled at first
@@ -112,6 +112,19 @@ pub row_part : (n : Triple) (g : Axis → Triple → ℤ) (a : Axis) (p : Triple
 row_part n g a p count first past row fits is = record {
   values = λ i from below. is.values i (omega arith) (omega (arith, below, fits));
   small = λ i from below. is.small i (omega arith) (omega (arith, below, fits));
+}
+
+-- so many of its values are a row that a curl is made of
+pub value_row : (n : Triple) (g : Axis → Triple → ℤ) (a : Axis) (p : Triple) (first past at count size : ℕ) (row part : List ℤ)
+    → IsScaledRow n g a p first past row → first ≤ at → at + count ≤ past → count ≡ size → length part ≡ count
+    → ((i : ℕ) → i < count → row_at part i ≡ row_at row (at + i)) → IsValueRow most_row size part
+value_row n g a p first past at count size row part is from to same long values = record {
+  length_is = long ∙ same;
+  small = record {
+    at_most = λ i below.
+        let inside : i < count = omega (arith, below, same) in
+        subst (λ (z : ℤ). IsAtMost z most_row) (sym (values i inside)) (is.small (at + i) (omega (arith, from)) (omega (arith, inside, to)));
+  };
 }
 
 -- a number is another one or it isn't

@@ -1,9 +1,9 @@
-use Rattle.std.proofs.Common.{◌≡◌, ◌+ℤ◌, Option, sym, ◌∙◌, ap, subst}
+use Rattle.std.proofs.Common.{◌≡◌, ◌+ℤ◌, Option, ◌∙◌, ap}
 use Rattle.pic_num.specs.declared.axis.Axis.{Axis}
 use Rattle.pic_num.specs.Push.{unless}
-use Rattle.pic_num.specs.Space.{Triple, Spot}
+use Rattle.pic_num.specs.Space.{Triple}
 use Rattle.pic_grid.specs.declared.stop.Stop.{Stop}
-use Rattle.pic_grid.specs.Block.{BlockValues, IsAmongCells, inner_at, outer_of}
+use Rattle.pic_grid.specs.Block.{inner_at, outer_of}
 use Rattle.pic_grid.specs.Cells.{IsWithin}
 use Rattle.pic_grid.specs.Differences.{curl_b}
 use Rattle.pic_grid.specs.Lattice.{value_at}

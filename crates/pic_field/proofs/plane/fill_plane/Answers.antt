@@ -1,4 +1,5 @@
-use Rattle.std.proofs.Common.{◌≡◌, ◌+◌, ◌%◌, ◌<◌, ◌≤◌, ℕ, slice_index, ◌∙◌, ap, subst, arith}
+use Rattle.std.proofs.Common.{◌≡◌, ◌+◌, ◌%◌, ◌<◌, ◌≤◌, ℕ, slice_index, refl, sym, ◌∙◌, ap, subst, arith}
+use Rattle.std.proofs.Math.Nat.{mod-eq_of_lt}
 use Rattle.std.proofs.lemmas.List.{length-set}
 use Rattle.pic_num.specs.Space.{Triple, triple}
 use Rattle.pic_field.specs.Rows.{read_by}
@@ -6,6 +7,44 @@ use Rattle.pic_field.specs.Planes.{along_y, IsOwnLine, IsSideLine}
 use Rattle.pic_field.proofs.RowLaws.{round_on}
 use Rattle.pic_field.proofs.PlaneLaws.{line_more}
 use Rattle.pic_field.proofs.plane.fill_plane.Goals as goal
+
+pub loop-j-init : goal.loop-j-init
+loop-j-init c =
+    let within = c.requires.within in
+    let y = slice_index c.args.at 1 in
+    let same : y ≡ y + 0 = omega arith in
+    record {
+      at = sym (mod-eq_of_lt within.y) ∙ ap (λ (m : ℕ). m % c.args.from.now.field.now.cells.y) same;
+      room = refl;
+      below = within.y;
+      own = λ k below. absurd (omega (arith, below));
+      side = λ k below. absurd (omega (arith, below));
+    }
+
+pub is_own-own-requires : goal.is_own-own-requires
+is_own-own-requires c = record { first = c.requires.span.first; lines = c.requires.lines }
+
+pub scale_line-requires : goal.scale_line-requires
+scale_line-requires c = record {
+  within = record { x = c.requires.within.x; y = c.loop-j.invariant.below; z = c.requires.within.z };
+  span = c.requires.span;
+  edge = c.requires.edge;
+  small = c.requires.small;
+}
+
+pub after_run-y-requires : goal.after_run-y-requires
+after_run-y-requires c =
+    let limit = c.numbers.ensures.limits.y_most in
+    let number = ap (λ (n : Triple). n.y) c.numbers.ensures.value in
+    let cells = ap (λ (n : Triple). n.y) c.cells.ensures.value in
+    let below = c.loop-j.invariant.below in
+    record { count = omega (arith, limit, number); x = omega (arith, number, cells, below); run = omega (arith, number, cells, below) }
+
+pub returns : goal.returns
+returns c = record {
+  own = λ k past below. c.loop-j.invariant.own k (omega (arith, c.loop-j-test.false, c.requires.span.first, below)) past below;
+  side = λ k below. c.loop-j.invariant.side k (omega (arith, c.loop-j-test.false, below));
+}
 
 pub loop-j-preserved : goal.loop-j-preserved
 loop-j-preserved c =

@@ -1,4 +1,4 @@
-use Rattle.std.proofs.Common.{rules, ◌≡◌, ◌+◌, ◌%◌, ℤ, length, to_z, of_z, slice_index, refl, sym, ◌∙◌, ap, subst, arith}
+use Rattle.std.proofs.Common.{rules, ◌≡◌, ◌+◌, ◌%◌, ◌<◌, ℕ, ℤ, length, to_z, of_z, slice_index, refl, sym, ◌∙◌, ap, subst, arith}
 use mir.Syntax.{w128}
 use Rattle.pic_num.specs.declared.axis.Axis.TheVariants.{X, Y, Z}
 use Rattle.pic_num.specs.Rounding.{scaled}
@@ -9,6 +9,42 @@ use Rattle.pic_grid.specs.Lattice.{value_at}
 use Rattle.pic_field.specs.Rows.{most_row, read_by, start_cell, along_x, IsScaledRow}
 use Rattle.pic_field.proofs.RowLaws.{with_edge}
 use Rattle.pic_field.proofs.plane.scale_own.Goals as goal
+
+pub scale_rows-requires : goal.scale_rows-requires
+scale_rows-requires c = record { start = c.start_at-start.ensures.slots; span = c.requires.span; small = c.requires.small }
+
+pub after_run-requires : goal.after_run-requires
+after_run-requires c =
+    let limit = c.numbers.ensures.limits.x_most in
+    let number = ap (λ (n : Triple). n.x) c.numbers.ensures.value in
+    let cells = ap (λ (n : Triple). n.x) c.cells.ensures.value in
+    let first = ap (λ (n : Triple). n.x) c.start_at-start.ensures.cell in
+    let below = c.requires.within.x in
+    record {
+      count = omega (arith, limit, number);
+      x = omega (arith, number, cells, first, below);
+      run = omega (arith, number, cells, first, c.requires.edge);
+    }
+
+pub slot_x-edge-requires : goal.slot_x-edge-requires
+slot_x-edge-requires c =
+    subst (λ (m : ℕ). c.after_run.result < m) (ap (λ (n : Triple). n.x) (c.numbers.ensures.value ∙ c.cells.ensures.value)) c.after_run.ensures.below
+
+pub scaled_at-of_y-requires : goal.scaled_at-of_y-requires
+scaled_at-of_y-requires c = record {
+  x = c.slot_x-edge.ensures.slot;
+  y = c.start_at-start.ensures.slots.y;
+  z = c.start_at-start.ensures.slots.z;
+  small = c.requires.small;
+}
+
+pub scaled_at-of_z-requires : goal.scaled_at-of_z-requires
+scaled_at-of_z-requires c = record {
+  x = c.slot_x-edge.ensures.slot;
+  y = c.start_at-start.ensures.slots.y;
+  z = c.start_at-start.ensures.slots.z;
+  small = c.requires.small;
+}
 
 pub returns : goal.returns
 returns c =

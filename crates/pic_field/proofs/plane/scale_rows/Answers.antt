@@ -78,6 +78,19 @@ of_z c =
     front c Z c.run_at-of_z.result.now c.count_if-more_z.result (omega (arith, in_z c, c.count_if-more_z.ensures.most)) c.run_at-of_z.ensures.inside
     c.run_at-of_z.ensures.values
 
+-- they have room in their rows
+fits : (c : After-count_if-more_z) → c.loop-done.done + c.min-more.result ≤ 129
+fits c = omega (arith, c.requires.span.first, c.requires.span.few)
+
+fits_x : (c : After-count_if-more_z) → c.loop-done.done + c.min-more.result ≤ length c.loop-done.to.x
+fits_x c = omega (arith, fits c, c.loop-done.invariant.room_x)
+
+fits_y : (c : After-count_if-more_z) → c.loop-done.done + c.count_if-more_y.result ≤ length c.loop-done.to.y
+fits_y c = omega (arith, fits c, c.loop-done.invariant.room_y, c.count_if-more_y.ensures.most)
+
+fits_z : (c : After-count_if-more_z) → c.loop-done.done + c.count_if-more_z.result ≤ length c.loop-done.to.z
+fits_z c = omega (arith, fits c, c.loop-done.invariant.room_z, c.count_if-more_z.ensures.most)
+
 -- they are small,
 small : (c : After-count_if-more_z) (a : Axis) (run : List ℤ) (more : ℕ) → Front c a run more → IsSmallRow (2 ^ 90) (length (take more run)) (take more run)
 small c a run more k =
@@ -99,6 +112,78 @@ next c a run more k row part rest room long before values small =
     k.inside
     (take more run) k.values c.args.span.first row part rest room long before (λ i below. values i (omega (arith, below, k.long)))
     (subst (λ (m : ℕ). IsSmallRow most_row m part) k.long small)
+
+pub slice_bounds-scale_row-end : goal.slice_bounds-scale_row-end
+slice_bounds-scale_row-end c = let at = (goal.at.slice_bounds-scale_row-end c).After-count_if-more_z in sym (of_x at).long
+
+pub scale_row-requires-clause-length : goal.scale_row-requires-clause-length
+scale_row-requires-clause-length c =
+    let at = (goal.at.scale_row-requires-clause-length c).After-count_if-more_z in
+    part_long c.loop-done.to.x c.loop-done.done c.min-more.result (fits_x at) ∙ sym (of_x at).long
+
+pub slice_bounds-scale_row-end-in-loop-done-2 : goal.slice_bounds-scale_row-end-in-loop-done-2
+slice_bounds-scale_row-end-in-loop-done-2 c = let at = (goal.at.slice_bounds-scale_row-end-in-loop-done-2 c).After-count_if-more_z in sym (of_y at).long
+
+pub scale_row-requires-in-loop-done-clause-length : goal.scale_row-requires-in-loop-done-clause-length
+scale_row-requires-in-loop-done-clause-length c =
+    let at = (goal.at.scale_row-requires-in-loop-done-clause-length c).After-count_if-more_z in
+    part_long c.loop-done.to.y c.loop-done.done c.count_if-more_y.result (fits_y at) ∙ sym (of_y at).long
+
+pub slice_bounds-scale_row-end-in-loop-done-4 : goal.slice_bounds-scale_row-end-in-loop-done-4
+slice_bounds-scale_row-end-in-loop-done-4 c = let at = (goal.at.slice_bounds-scale_row-end-in-loop-done-4 c).After-count_if-more_z in sym (of_z at).long
+
+pub scale_row-requires-in-loop-done-2-clause-length : goal.scale_row-requires-in-loop-done-2-clause-length
+scale_row-requires-in-loop-done-2-clause-length c =
+    let at = (goal.at.scale_row-requires-in-loop-done-2-clause-length c).After-count_if-more_z in
+    part_long c.loop-done.to.z c.loop-done.done c.count_if-more_z.result (fits_z at) ∙ sym (of_z at).long
+
+pub run_at-of_x-requires : goal.run_at-of_x-requires
+run_at-of_x-requires c = record { x = c.slot_x-here.ensures.slot; y = c.requires.start.y; z = c.requires.start.z }
+
+pub run_at-of_y-requires : goal.run_at-of_y-requires
+run_at-of_y-requires c = record { x = c.slot_x-here.ensures.slot; y = c.requires.start.y; z = c.requires.start.z }
+
+pub run_at-of_z-requires : goal.run_at-of_z-requires
+run_at-of_z-requires c = record { x = c.slot_x-here.ensures.slot; y = c.requires.start.y; z = c.requires.start.z }
+
+pub overflow_add-span : goal.overflow_add-span
+overflow_add-span c = record { fits = omega arith }
+
+pub overflow_add-span-in-loop-done : goal.overflow_add-span-in-loop-done
+overflow_add-span-in-loop-done c = record { fits = omega arith }
+
+pub overflow_sub-span : goal.overflow_sub-span
+overflow_sub-span c = omega arith
+
+pub overflow_add-done : goal.overflow_add-done
+overflow_add-done c = record { fits = omega arith }
+
+pub offset_bounds-to-done : goal.offset_bounds-to-done
+offset_bounds-to-done c = record { fits = omega arith }
+
+pub slice_bounds-scale_row-count : goal.slice_bounds-scale_row-count
+slice_bounds-scale_row-count c = omega arith
+
+pub overflow_add-done-in-loop-done : goal.overflow_add-done-in-loop-done
+overflow_add-done-in-loop-done c = record { fits = omega arith }
+
+pub offset_bounds-to-done-in-loop-done : goal.offset_bounds-to-done-in-loop-done
+offset_bounds-to-done-in-loop-done c = record { fits = omega arith }
+
+pub slice_bounds-scale_row-count-in-loop-done : goal.slice_bounds-scale_row-count-in-loop-done
+slice_bounds-scale_row-count-in-loop-done c = omega arith
+
+pub overflow_add-done-in-loop-done-2 : goal.overflow_add-done-in-loop-done-2
+overflow_add-done-in-loop-done-2 c = record { fits = omega arith }
+
+pub offset_bounds-to-done-in-loop-done-2 : goal.offset_bounds-to-done-in-loop-done-2
+offset_bounds-to-done-in-loop-done-2 c = record { fits = omega arith }
+
+pub slice_bounds-scale_row-count-in-loop-done-2 : goal.slice_bounds-scale_row-count-in-loop-done-2
+slice_bounds-scale_row-count-in-loop-done-2 c = omega arith
+
+pub overflow_add-done-in-loop-done-3 : goal.overflow_add-done-in-loop-done-3
+overflow_add-done-in-loop-done-3 c = record { fits = omega arith }
 
 pub scale_row-requires-clause-small : goal.scale_row-requires-clause-small
 scale_row-requires-clause-small c =
@@ -125,13 +210,9 @@ loop-done-preserved c =
     let h = c.loop-done.invariant in
     let to = c.loop-done.to in
     let cells : slice_index c.numbers.result 0 ≡ n.x = ap (λ (m : Triple). m.x) (c.numbers.ensures.value ∙ c.cells.ensures.value) in
-    let fits : done + more ≤ 129 = omega (arith, c.requires.span.first, c.requires.span.few) in
-    let fits_x : done + more ≤ length to.x = omega (arith, fits, h.room_x) in
-    let fits_y : done + more_y ≤ length to.y = omega (arith, fits, h.room_y, c.count_if-more_y.ensures.most) in
-    let fits_z : done + more_z ≤ length to.z = omega (arith, fits, h.room_z, c.count_if-more_z.ensures.most) in
-    let part_x : length c.scale_row.new.to ≡ more = c.scale_row.auto.to ∙ part_long to.x done more fits_x in
-    let part_y : length c.scale_row-in-loop-done.new.to ≡ more_y = c.scale_row-in-loop-done.auto.to ∙ part_long to.y done more_y fits_y in
-    let part_z : length c.scale_row-in-loop-done-2.new.to ≡ more_z = c.scale_row-in-loop-done-2.auto.to ∙ part_long to.z done more_z fits_z in
+    let part_x : length c.scale_row.new.to ≡ more = c.scale_row.auto.to ∙ part_long to.x done more (fits_x here) in
+    let part_y : length c.scale_row-in-loop-done.new.to ≡ more_y = c.scale_row-in-loop-done.auto.to ∙ part_long to.y done more_y (fits_y here) in
+    let part_z : length c.scale_row-in-loop-done-2.new.to ≡ more_z = c.scale_row-in-loop-done-2.auto.to ∙ part_long to.z done more_z (fits_z here) in
     let rest_y : List ℤ = drop (done + more_y - done) (drop done to.y) in
     let rest_z : List ℤ = drop (done + more_z - done) (drop done to.z) in
     let all_y : List ℤ = take done to.y ++ (c.scale_row-in-loop-done.new.to ++ rest_y) in
@@ -143,21 +224,21 @@ loop-done-preserved c =
       below = subst (λ (m : ℕ). c.after_run-x-in-loop-done.result < m) cells c.after_run-x-in-loop-done.ensures.below;
       least = omega arith;
       most = omega arith;
-      room_x = filled_long to.x c.scale_row.new.to done more fits_x part_x ∙ h.room_x;
-      room_y = filled_long to.y c.scale_row-in-loop-done.new.to done more_y fits_y part_y ∙ h.room_y;
-      room_z = filled_long to.z c.scale_row-in-loop-done-2.new.to done more_z fits_z part_z ∙ h.room_z;
-      of_x = next here X c.run_at-of_x.result.now more (of_x here) to.x c.scale_row.new.to _ (omega (arith, fits_x)) part_x h.of_x c.scale_row.ensures.values
+      room_x = filled_long to.x c.scale_row.new.to done more (fits_x here) part_x ∙ h.room_x;
+      room_y = filled_long to.y c.scale_row-in-loop-done.new.to done more_y (fits_y here) part_y ∙ h.room_y;
+      room_z = filled_long to.z c.scale_row-in-loop-done-2.new.to done more_z (fits_z here) part_z ∙ h.room_z;
+      of_x = next here X c.run_at-of_x.result.now more (of_x here) to.x c.scale_row.new.to _ (omega (arith, fits_x here)) part_x h.of_x c.scale_row.ensures.values
           c.scale_row.ensures.small;
       of_y = λ is.
           subst (λ (m : ℕ). IsScaledRow c.args.from.now.field.now.cells (read_by c.args.from.now) Y (start_cell c.args.start) c.args.span.first
           (done + m) all_y)
           (c.count_if-more_y.ensures.all is)
-          (next here Y c.run_at-of_y.result.now more_y (of_y here) to.y c.scale_row-in-loop-done.new.to rest_y (omega (arith, fits_y)) part_y (h.of_y is)
+          (next here Y c.run_at-of_y.result.now more_y (of_y here) to.y c.scale_row-in-loop-done.new.to rest_y (omega (arith, fits_y here)) part_y (h.of_y is)
           c.scale_row-in-loop-done.ensures.values c.scale_row-in-loop-done.ensures.small);
       of_z = λ is.
           subst (λ (m : ℕ). IsScaledRow c.args.from.now.field.now.cells (read_by c.args.from.now) Z (start_cell c.args.start) c.args.span.first
           (done + m) all_z)
           (c.count_if-more_z.ensures.all is)
-          (next here Z c.run_at-of_z.result.now more_z (of_z here) to.z c.scale_row-in-loop-done-2.new.to rest_z (omega (arith, fits_z)) part_z (h.of_z is)
+          (next here Z c.run_at-of_z.result.now more_z (of_z here) to.z c.scale_row-in-loop-done-2.new.to rest_z (omega (arith, fits_z here)) part_z (h.of_z is)
           c.scale_row-in-loop-done-2.ensures.values c.scale_row-in-loop-done-2.ensures.small);
     }

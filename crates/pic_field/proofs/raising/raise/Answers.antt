@@ -1,17 +1,14 @@
-use Rattle.std.proofs.Common.{◌≡◌, ◌+◌, ◌*◌, ◌<◌, ◌≤◌, ◌^◌, ◌+ℤ◌, ℤ, to_z, of_z, refl, sym, ◌∙◌, ap, subst, arith}
+use Rattle.std.proofs.Common.{◌≡◌, ◌*◌, ◌<◌, ◌^◌, ◌+ℤ◌, ℤ, to_z, of_z, sym, ◌∙◌, ap, subst, arith}
 use mir.Syntax.{w128}
 use mir.Val.{SFits}
-use Rattle.pic_num.specs.declared.axis.Axis.{Axis}
-use Rattle.pic_num.specs.Limits.{most_value}
 use Rattle.pic_num.specs.Sizes.{IsAtMost}
 use Rattle.pic_num.specs.Space.{Triple, Spot, triple, spot, unwrapped}
 use Rattle.pic_num.proofs.SizeLaws.{codes, code_fits, code_is}
-use Rattle.pic_grid.specs.Block.{InZone, inner_at, edge_at, with_edge, outer_of}
+use Rattle.pic_grid.specs.Block.{InZone, inner_at, edge_at, outer_of}
 use Rattle.pic_grid.specs.Cells.{IsWithin, count_of, place_of}
 use Rattle.pic_grid.specs.Differences.{curl_b}
 use Rattle.pic_grid.specs.Lattice.{value_at}
 use Rattle.pic_grid.proofs.PlaceLaws.{first_place, next_place}
-use Rattle.pic_field.specs.FieldPhases.{most_drive_value}
 use Rattle.pic_field.specs.Lines.{OnStrip}
 use Rattle.pic_field.proofs.CalmLaws.{all_small}
 use Rattle.pic_field.proofs.RaisedLaws.{raised, none_raised, still_old, raised_more, raised_long, raised_all, raised_small, outer_within, drive_curl}
@@ -66,6 +63,34 @@ add-requires-clause-room c =
     let is = still_old _ c.args.e.now c.loop-number.e c.args.m.now.cells c.loop-number._number c.loop-number.place.axis (triple c.loop-number.place.inner)
     (spot c.unwrapped.result) c.requires.among c.loop-number.invariant.changed h.within h.number h.at in
     subst (λ (v : ℤ). SFits w128 (v +ℤ to_z w128 (of_z w128 c.curl_of-curl.result))) (sym is) (sum_fits _ c.curl_of-curl.result h.old h.curl)
+
+pub cell_in-cell-requires : goal.cell_in-cell-requires
+cell_in-cell-requires c = record {
+  among = rw (c.zone-zone.ensures.low, c.zone-zone.ensures.size, c.cells-cells.ensures.value) c.requires.among;
+  within = c.loop-number.invariant.place.within (omega (arith, c.place_count-number-end.ensures, c.loop-number-test.true));
+}
+
+pub curl_of-curl-requires : goal.curl_of-curl-requires
+curl_of-curl-requires c = record {
+  within = subst (λ (n : Triple). IsWithin (triple c.cell_in-cell.result) n) c.cells-cells.ensures.value c.cell_in-cell.ensures.within;
+  small = c.requires.m_small;
+}
+
+pub add-requires-clause-within : goal.add-requires-clause-within
+add-requires-clause-within c =
+    let shaped = c.loop-number.invariant.changed.shaped in
+    let low = c.zone-zone.ensures.low ∙ sym shaped.low in
+    let size = c.zone-zone.ensures.size ∙ sym shaped.size in
+    rw c.unwrapped.ensures (subst (λ (l : Spot). InZone l c.loop-number.e.size (unwrapped (triple c.cell_in-cell.result))) low
+    (subst (λ (n : Triple). InZone (spot c.zone-zone.result.low) n (unwrapped (triple c.cell_in-cell.result))) size c.cell_in-cell.ensures.inside))
+
+pub following-place-requires : goal.following-place-requires
+following-place-requires c = record {
+  within = c.loop-number.invariant.place.within (omega (arith, c.place_count-number-end.ensures, c.loop-number-test.true));
+}
+
+pub returns-clause-shape : goal.returns-clause-shape
+returns-clause-shape c = c.loop-number.invariant.changed.shaped
 
 pub loop-number-init : goal.loop-number-init
 loop-number-init c = record {

@@ -1,4 +1,4 @@
-use Rattle.std.proofs.Common.{◌≡◌, ◌+◌, ◌-◌, ◌<◌, ◌≤◌, Bool, ℕ, ℤ, List, unsigned_abs, sym, ◌∙◌, ap, subst, arith}
+use Rattle.std.proofs.Common.{◌≡◌, ◌+◌, ◌-◌, ◌<◌, ◌≤◌, Bool, ℕ, ℤ, List, length, unsigned_abs, sym, ◌∙◌, ap, subst, arith}
 use Rattle.pic_num.specs.declared.axis.Axis.{Axis}
 use Rattle.pic_num.specs.declared.axis.Axis.TheVariants.{X, Y, Z}
 use Rattle.pic_num.specs.Space.{Triple}
@@ -7,11 +7,12 @@ use Rattle.pic_grid.specs.Block.{inner_at}
 use Rattle.pic_field.specs.declared.row.CurlRows.{CurlRows}
 use Rattle.pic_field.specs.Beside.{first_index, layer_beside, row_room}
 use Rattle.pic_field.specs.Lines.{OnRow}
-use Rattle.pic_field.specs.Rows.{row_at, read_by, IsScaledRow}
+use Rattle.pic_field.specs.Rows.{most_row, row_at, read_by, IsScaledRow, IsValueRow}
 use Rattle.pic_field.specs.Sweeps.{sweep_cells, take_of, made, AreRowsOf}
 use Rattle.pic_field.proofs.BesideLaws.{first_most}
 use Rattle.pic_field.proofs.CurlLaws.{AreRead, own_part, side_part, row_swept}
-use Rattle.pic_field.proofs.LineLaws.{changed_as, line_changed}
+use Rattle.pic_field.proofs.LineLaws.{changed_as, line_changed, line_calm, row_of_line, row_kept}
+use Rattle.pic_field.proofs.RowLaws.{value_row}
 use Rattle.pic_field.proofs.sweep.sweep_line.Goals as goal
 use Rattle.pic_field.proofs.sweep.sweep_line.Goals.{After-first_of-near}
 
@@ -70,6 +71,86 @@ side c a y z row part is values i below =
     side_part (up c) (grid c) (read_by c.args.step.now.from) (at_x c) c.line_length-count.result y z (omega (arith, c.requires.among.x_high, same c))
     a 0 (c.line_length-count.result + 1) row is part c.first_of-near.result c.first_of-near.ensures.value (omega arith) (omega arith) values i
     (omega (arith, below, same c))
+
+-- so many of its values are a row of a curl
+first_row : (c : After-first_of-near) (a : Axis) (p : Triple) (size : ℕ) (row part : List ℤ)
+    → IsScaledRow (grid c) (read_by c.args.step.now.from) a p (first_index (up c)) (first_index (up c) + c.line_length-count.result) row
+    → c.line_length-count.result ≡ size → length part ≡ c.line_length-count.result
+    → ((i : ℕ) → i < c.line_length-count.result → row_at part i ≡ row_at row (c.first_of-near.result + i)) → IsValueRow most_row size part
+first_row c a p size row part is same long values =
+    let near = c.first_of-near.ensures.value in
+    value_row (grid c) (read_by c.args.step.now.from) a p (first_index (up c)) (first_index (up c) + c.line_length-count.result)
+    c.first_of-near.result c.line_length-count.result size row part is (omega (arith, near)) (omega (arith, near)) same long values
+
+edge_row : (c : After-first_of-near) (a : Axis) (p : Triple) (at size : ℕ) (row part : List ℤ) → at ≤ 1
+    → IsScaledRow (grid c) (read_by c.args.step.now.from) a p 0 (c.line_length-count.result + 1) row
+    → c.line_length-count.result ≡ size → length part ≡ c.line_length-count.result
+    → ((i : ℕ) → i < c.line_length-count.result → row_at part i ≡ row_at row (at + i)) → IsValueRow most_row size part
+edge_row c a p at size row part most is same long values =
+    value_row (grid c) (read_by c.args.step.now.from) a p 0 (c.line_length-count.result + 1) at c.line_length-count.result size row part is (omega arith)
+    (omega (arith, most)) same long values
+
+pub sweep_row-calm_x-requires-clause-four : goal.sweep_row-calm_x-requires-clause-four
+sweep_row-calm_x-requires-clause-four c =
+    let at = (goal.at.sweep_row-calm_x-requires-clause-four c).After-first_of-near in
+    let k = known at in
+    let size = (same at) in
+    let most : c.first_of-near.result ≤ 1 = c.first_of-near.ensures.most in
+    let far : 1 - c.first_of-near.result ≤ 1 = omega arith in
+    record {
+      far_third = first_row at Z _ _ c.args.lines.now.by_y.now.z c.part.result.now k.in_y.z size c.part.ensures.length c.part.ensures.values;
+      near_third = edge_row at Z _ c.first_of-near.result _ c.args.lines.now.own.now.z c.part-2.result.now most k.here.z size c.part-2.ensures.length c.part-2.ensures.values;
+      far_second = first_row at Y _ _ c.args.lines.now.by_z.now.y c.part-3.result.now k.in_z.y size c.part-3.ensures.length c.part-3.ensures.values;
+      near_second = edge_row at Y _ c.first_of-near.result _ c.args.lines.now.own.now.y c.part-4.result.now most k.here.y size c.part-4.ensures.length c.part-4.ensures.values;
+    }
+
+pub sweep_row-calm_y-requires-clause-four : goal.sweep_row-calm_y-requires-clause-four
+sweep_row-calm_y-requires-clause-four c =
+    let at = (goal.at.sweep_row-calm_y-requires-clause-four c).After-first_of-near in
+    let k = known at in
+    let size = (same at ∙ ap (λ (n : Triple). n.x) (sym c.sweep_row-calm_x.ensures.changed.shaped.size)) in
+    let most : c.first_of-near.result ≤ 1 = c.first_of-near.ensures.most in
+    let far : 1 - c.first_of-near.result ≤ 1 = omega arith in
+    record {
+      far_third = first_row at X _ _ c.args.lines.now.by_z.now.x c.part-5.result.now k.in_z.x size c.part-5.ensures.length c.part-5.ensures.values;
+      near_third = first_row at X _ _ c.args.lines.now.own.now.x c.part-6.result.now k.here.x size c.part-6.ensures.length c.part-6.ensures.values;
+      far_second = edge_row at Z _ (1 - c.first_of-near.result) _ c.args.lines.now.own.now.z c.part-7.result.now far k.here.z size c.part-7.ensures.length c.part-7.ensures.values;
+      near_second = edge_row at Z _ c.first_of-near.result _ c.args.lines.now.own.now.z c.part-8.result.now most k.here.z size c.part-8.ensures.length c.part-8.ensures.values;
+    }
+
+pub sweep_row-calm_z-requires-clause-four : goal.sweep_row-calm_z-requires-clause-four
+sweep_row-calm_z-requires-clause-four c =
+    let at = (goal.at.sweep_row-calm_z-requires-clause-four c).After-first_of-near in
+    let k = known at in
+    let size = (same at ∙ ap (λ (n : Triple). n.x) (sym (c.sweep_row-calm_y.ensures.changed.shaped.size ∙ c.sweep_row-calm_x.ensures.changed.shaped.size))) in
+    let most : c.first_of-near.result ≤ 1 = c.first_of-near.ensures.most in
+    let far : 1 - c.first_of-near.result ≤ 1 = omega arith in
+    record {
+      far_third = edge_row at Y _ (1 - c.first_of-near.result) _ c.args.lines.now.own.now.y c.part-9.result.now far k.here.y size c.part-9.ensures.length c.part-9.ensures.values;
+      near_third = edge_row at Y _ c.first_of-near.result _ c.args.lines.now.own.now.y c.part-10.result.now most k.here.y size c.part-10.ensures.length c.part-10.ensures.values;
+      far_second = first_row at X _ _ c.args.lines.now.by_y.now.x c.part-11.result.now k.in_y.x size c.part-11.ensures.length c.part-11.ensures.values;
+      near_second = first_row at X _ _ c.args.lines.now.own.now.x c.part-12.result.now k.here.x size c.part-12.ensures.length c.part-12.ensures.values;
+    }
+
+pub sweep_row-calm_x-requires-clause-small : goal.sweep_row-calm_x-requires-clause-small
+sweep_row-calm_x-requires-clause-small c = row_of_line _ X c.args.y c.args.z c.args.b.now c.requires.small
+
+pub sweep_row-calm_y-requires-clause-small : goal.sweep_row-calm_y-requires-clause-small
+sweep_row-calm_y-requires-clause-small c =
+    row_kept _ _ X Y c.args.y c.args.z c.args.b.now c.sweep_row-calm_x.new.b (λ e. cc) c.sweep_row-calm_x.ensures.changed
+    (row_of_line _ Y c.args.y c.args.z c.args.b.now c.requires.small)
+
+pub sweep_row-calm_z-requires-clause-small : goal.sweep_row-calm_z-requires-clause-small
+sweep_row-calm_z-requires-clause-small c =
+    let first = row_kept _ _ X Z c.args.y c.args.z c.args.b.now c.sweep_row-calm_x.new.b (λ e. cc) c.sweep_row-calm_x.ensures.changed
+    (row_of_line _ Z c.args.y c.args.z c.args.b.now c.requires.small) in
+    row_kept _ _ Y Z c.args.y c.args.z c.sweep_row-calm_x.new.b c.sweep_row-calm_y.new.b (λ e. cc) c.sweep_row-calm_y.ensures.changed first
+
+pub returns-clause-calm : goal.returns-clause-calm
+returns-clause-calm c =
+    line_calm c.args.step.now.most _ _ c.args.y c.args.z c.sweep_row-calm_x.new.b c.sweep_row-calm_y.new.b c.sweep_row-calm_z.new.b
+    c.sweep_row-calm_x.result c.sweep_row-calm_y.result c.sweep_row-calm_z.result c.sweep_row-calm_y.ensures.changed c.sweep_row-calm_z.ensures.changed
+    c.sweep_row-calm_x.ensures.calm c.sweep_row-calm_y.ensures.calm c.sweep_row-calm_z.ensures.calm
 
 pub returns-clause-changed : goal.returns-clause-changed
 returns-clause-changed c =
