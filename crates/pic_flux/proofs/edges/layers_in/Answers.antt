@@ -76,9 +76,12 @@ is_among-requires-6 c =
 pub returns : goal.returns
 returns c =
     let low = c.zone.result.low in
-    let low_x = (let held : to_z w32 (of_z w32 (get_or low 0 (pos 0))) ≡ get_or low 0 (pos 0) = search rules in held ∙ ap (λ (s : Spot). s.x) c.zone.ensures.low) in
-    let low_y = (let held : to_z w32 (of_z w32 (get_or low 1 (pos 0))) ≡ get_or low 1 (pos 0) = search rules in held ∙ ap (λ (s : Spot). s.y) c.zone.ensures.low) in
-    let low_z = (let held : to_z w32 (of_z w32 (get_or low 2 (pos 0))) ≡ get_or low 2 (pos 0) = search rules in held ∙ ap (λ (s : Spot). s.z) c.zone.ensures.low) in
+    let held_x : to_z w32 (of_z w32 (get_or low 0 (pos 0))) ≡ get_or low 0 (pos 0) = search rules in
+    let low_x = held_x ∙ ap (λ (s : Spot). s.x) c.zone.ensures.low in
+    let held_y : to_z w32 (of_z w32 (get_or low 1 (pos 0))) ≡ get_or low 1 (pos 0) = search rules in
+    let low_y = held_y ∙ ap (λ (s : Spot). s.y) c.zone.ensures.low in
+    let held_z : to_z w32 (of_z w32 (get_or low 2 (pos 0))) ≡ get_or low 2 (pos 0) = search rules in
+    let low_z = held_z ∙ ap (λ (s : Spot). s.z) c.zone.ensures.low in
     let size_x = ap (λ (n : Triple). n.x) c.zone.ensures.size in
     let size_y = ap (λ (n : Triple). n.y) c.zone.ensures.size in
     let size_z = ap (λ (n : Triple). n.z) c.zone.ensures.size in

@@ -24,7 +24,8 @@ returns c =
     let to = widened_small c.along.result c.from.result to_fits c.from.ensures in
     let from = widened_small c.along-2.result c.from-2.result from_fits c.from-2.ensures in
     let to_is = widened_is c.along.result c.from.result to_fits c.from.ensures ∙ c.along.ensures ∙ ap (λ (p : Piece). along a p.to) c.seg.view_is in
-    let from_is = widened_is c.along-2.result c.from-2.result from_fits c.from-2.ensures ∙ c.along-2.ensures ∙ ap (λ (p : Piece). along a p.from) c.seg.view_is in
+    let from_is =
+    widened_is c.along-2.result c.from-2.result from_fits c.from-2.ensures ∙ c.along-2.ensures ∙ ap (λ (p : Piece). along a p.from) c.seg.view_is in
     let is : to_z w64 (of_z w64 (to_z w64 (of_z w64 c.from.result) -ℤ to_z w64 (of_z w64 c.from-2.result))) ≡ along a s.to -ℤ along a s.from =
     code_is (search codes depth 8) tt ∙ (λ i. to_is i -ℤ from_is i) in
     let most = way_most c.args.sub s c.requires a in
