@@ -19,7 +19,7 @@ PHASES = [
     ("gather, Boris's push, path, chain", r"pic_(gather|boris|split|chain)::|pic_push::(?!sending|spreading)"),
     ("flux", r"pic_flux::|pic_push::"),
     ("parcels merged", r"pic_merge::"),
-    ("parcels posted, the board", r"pic_(core|crew|yard|slots|gate)::|atomic_table::|pic_run::run::"),
+    ("parcels posted, the board", r"pic_(core|crew|yard|slots|gate)::|atomic_table::|pic_states::"),
     ("half steps of B, step of E, force values", r"pic_(field|phase)::"),
     ("cleared or copied, and the kernel", r"mem(set|cpy|move)|\[k\]"),
 ]

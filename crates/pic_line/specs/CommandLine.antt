@@ -1,5 +1,6 @@
 -- The command line, as `clap` takes it: what it doesn't take is no command.
-use Rattle.std.specs.Prelude.{ℕ, pos, true, List, [], ◌∷◌, codes, ◌&&◌, nat_le, bytes_eq, Option, Some, None, option_map, option_and_then, if◌then◌else◌}
+use Rattle.std.specs.Prelude.{⊤, ℕ, ◌<◌, ◌≤◌, pos, true, List, [], ◌∷◌, codes, ◌&&◌, nat_le, bytes_eq}
+use Rattle.std.specs.Prelude.{Option, Some, None, option_map, option_and_then, if◌then◌else◌}
 use Rattle.std.specs.Str.Parse.{digits_value, without_leading_plus}
 use Rattle.clap.specs.declared.builder.value_parser.ValueParser.TheVariants.{Signed}
 use Rattle.clap.specs.ValueTests.{is_unsigned_in}
@@ -54,21 +55,22 @@ resume_app =
     (few_rule (codes "tiles-y")))
     (few_rule (codes "tiles-z"))
 
--- the command, with the subcommands `check`, `run`, `verify`, `demo`, `upgrade`, `resume` and `probe`
-unfoldable pub pic_app : App
-pic_app =
+-- the command, with the subcommands `check`, `run` and `verify`
+abbrev pub first_three_app : App
+first_three_app =
     with_subcommand
     (with_subcommand
-    (with_subcommand
-    (with_subcommand
-    (with_subcommand
-    (with_subcommand
     (with_subcommand (new_app (codes "pic")) (new_app (codes "check")).top) run_app.top)
-    (new_app (codes "verify")).top)
-    demo_app.top)
-    (new_app (codes "upgrade")).top)
-    resume_app.top)
-    probe_app.top
+    (new_app (codes "verify")).top
+
+-- and with `demo` and `upgrade`
+abbrev pub first_five_app : App
+first_five_app =
+    with_subcommand (with_subcommand first_three_app demo_app.top) (new_app (codes "upgrade")).top
+
+-- and with `resume` and `probe`
+unfoldable pub pic_app : App
+pic_app = with_subcommand (with_subcommand first_five_app resume_app.top) probe_app.top
 
 -- the number from low to high that a text names
 unfoldable pub number_in : ℕ → ℕ → Text → Option ℕ
@@ -140,3 +142,16 @@ command_at app words = unless_fault (fault_of app words) (command_from (subcomma
 -- the command of the words after the program's name
 unfoldable pub command_of : List Text → Option Command
 command_of words = command_at pic_app (codes "pic" ∷ words)
+
+-- so many workers, 1 to 64
+pub record AreWorkers (n : ℕ) : Type 0 where
+  pub some : 0 < n
+  pub most : n ≤ 64
+
+-- a command has so many workers, where it has any
+abbrev pub HasWorkers : Command → Type 0
+HasWorkers (Run workers) = AreWorkers workers
+HasWorkers (Demo seed workers) = AreWorkers workers
+HasWorkers (Resume steps workers tiles) = AreWorkers workers
+HasWorkers (Probe workers) = AreWorkers workers
+HasWorkers command = ⊤

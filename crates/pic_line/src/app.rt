@@ -3,7 +3,8 @@
 ghost use Rattle.std.specs.Prelude.{◌≡◌, false, IfOk};
 ghost use Rattle.clap.specs.Words.{app_of, rule_of};
 ghost use Rattle.clap.specs.declared.builder.command.Command.TheViews.{out-Command};
-ghost use Rattle.pic_line.specs.CommandLine.{pic_app, working_app, resume_app, few_rule, seed_rule, steps_rule};
+ghost use Rattle.pic_line.specs.CommandLine.{pic_app, first_three_app, first_five_app, working_app};
+ghost use Rattle.pic_line.specs.CommandLine.{demo_app, resume_app, few_rule, seed_rule, steps_rule};
 
 use clap::Arg;
 use std::alloc::{AllocError, Global};
@@ -12,20 +13,40 @@ use std::alloc::{AllocError, Global};
 pub fn pic<'a>(alloc: Global) -> Result<clap::Command<'a>, AllocError>
     ensures { IfOk result (λ app. app_of app ≡ pic_app) }
 {
-    let check = clap::Command::new(alloc, "check");
-    let run = working(alloc, "run")?;
-    let verify = clap::Command::new(alloc, "verify");
-    let seeded = clap::Command::new(alloc, "demo").arg(seed(alloc))?;
-    let demo = seeded.arg(few(alloc, "workers"))?;
-    let upgrade = clap::Command::new(alloc, "upgrade");
-    let one = clap::Command::new(alloc, "pic").subcommand(check)?;
-    let two = one.subcommand(run)?;
-    let three = two.subcommand(verify)?;
-    let four = three.subcommand(demo)?;
-    let five = four.subcommand(upgrade)?;
+    let five = first_five(alloc)?;
     let six = five.subcommand(resume(alloc)?)?;
     let all = six.subcommand(working(alloc, "probe")?)?;
     Ok(all)
+}
+
+// The command with the subcommands up to `upgrade`.
+fn first_five<'a>(alloc: Global) -> Result<clap::Command<'a>, AllocError>
+    ensures { IfOk result (λ app. app_of app ≡ first_five_app) }
+{
+    let three = first_three(alloc)?;
+    let four = three.subcommand(demo(alloc)?)?;
+    let five = four.subcommand(clap::Command::new(alloc, "upgrade"))?;
+    Ok(five)
+}
+
+// The command with `check`, `run` and `verify`.
+fn first_three<'a>(alloc: Global) -> Result<clap::Command<'a>, AllocError>
+    ensures { IfOk result (λ app. app_of app ≡ first_three_app) }
+{
+    let one = clap::Command::new(alloc, "pic").subcommand(clap::Command::new(alloc, "check"))?;
+    let two = one.subcommand(working(alloc, "run")?)?;
+    let three = two.subcommand(clap::Command::new(alloc, "verify"))?;
+    Ok(three)
+}
+
+// The subcommand `demo`.
+fn demo<'a>(alloc: Global) -> Result<clap::Command<'a>, AllocError>
+    ensures app { IfOk result (λ app. app_of app ≡ demo_app) }
+    ensures own { IfOk result (λ app. (out-Command app).has_globals ≡ false) }
+{
+    let seeded = clap::Command::new(alloc, "demo").arg(seed(alloc))?;
+    let demo = seeded.arg(few(alloc, "workers"))?;
+    Ok(demo)
 }
 
 // A subcommand of this name that takes a number of workers alone.

@@ -2,8 +2,8 @@
 
 ghost use Rattle.std.specs.Prelude.{◌≡◌, None, Some, ◌∷◌, codes, map, string_bytes, option_and_then, IfOk, IfErr};
 ghost use Rattle.clap.specs.Words.{found_of, rows_of, one_of, subcommand_rows_of};
-ghost use Rattle.pic_line.specs.CommandLine.{command_of, command_from, command_named, workers_in, seed_in, steps_in};
-ghost use Rattle.pic_line.specs.CommandLine.{tiles_in, few_in, demo_of, resume_of, all_three, number_in, kept};
+ghost use Rattle.pic_line.specs.CommandLine.{command_of, command_from, command_named, HasWorkers, workers_in, seed_in};
+ghost use Rattle.pic_line.specs.CommandLine.{steps_in, tiles_in, few_in, demo_of, resume_of, all_three, number_in, kept};
 
 use crate::app::pic;
 use crate::asked::{Command, LineFault};
@@ -23,12 +23,13 @@ const MIN_STEPS: u32 = 0;
 
 const MAX_STEPS: u32 = 1000000;
 
-/// The command of the words after the program's name. `Usage` comes exactly where they are none, but
-/// for want of memory.
+/// The command of the words after the program's name, with 1 to 64 workers where it has any. `Usage`
+/// comes exactly where they are none, but for want of memory.
 pub fn command(alloc: Global, words: &[String]) -> Result<Command, LineFault>
     ensures ok { IfOk result (λ found. command_of (map string_bytes words.now) ≡ Some found) }
     ensures usage { IfErr result
         (λ fault. fault ≡ LineFault.Usage → command_of (map string_bytes words.now) ≡ None) }
+    ensures workers { IfOk result HasWorkers }
 {
     let app = pic(alloc)?;
     let line = named(alloc, words)?;

@@ -7,7 +7,7 @@ ghost use Rattle.pic_line.specs.CommandLine.{command_of};
 ghost use Rattle.pic_io.specs.Sinks.{sinks};
 ghost use Rattle.pic_prog.specs.Status.{EndsWith};
 ghost use Rattle.pic_report.specs.Ended.{status_of};
-ghost use Rattle.pic_run.specs.Manner.{call};
+ghost use Rattle.pic_report.specs.Manner.{call};
 
 use pic_gate::Open;
 use pic_io::{Sink, Source, StdSink, StdSource};

@@ -1,1 +1,3 @@
+pub mod EndLaws
+pub mod PieceLaws
 pub mod PrintedLaws

@@ -1,4 +1,10 @@
-pub mod Lines
-pub mod Piece
-pub mod Ended
 pub mod Early
+pub mod Ended
+pub mod Finishes
+pub mod Leaves
+pub mod Lines
+pub mod Manner
+pub mod Meaning
+pub mod Outcome
+pub mod Piece
+pub mod Reading

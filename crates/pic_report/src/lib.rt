@@ -1,4 +1,5 @@
-//! How a call ends: its answer with the exit status of that, and the lines that tell it.
+//! How a call ends: its answer with the exit status of that, the lines that tell it, and what a command is to a
+//! caller: its outcome, and what it takes, leaves and means.
 #![tactic(auto)]
 
 mod cut;

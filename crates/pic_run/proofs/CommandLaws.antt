@@ -9,17 +9,17 @@ use Rattle.pic_line.specs.declared.asked.Command.TheVariants.{Check, Run, Verify
 use Rattle.pic_line.specs.CommandLine.{command_of}
 use Rattle.pic_report.specs.declared.ended.Ended.{Ended}
 use Rattle.pic_report.specs.declared.ended.Ended.TheVariants.{NoMemory}
-use Rattle.pic_run.specs.Reading.{Held}
-use Rattle.pic_run.specs.Leaves.{Fulfils}
-use Rattle.pic_run.specs.Manner.{Call, Manner, Performs}
+use Rattle.pic_report.specs.Reading.{Held}
+use Rattle.pic_report.specs.Leaves.{Fulfils}
+use Rattle.pic_report.specs.Manner.{Call, Manner, Performs}
 use Rattle.pic_run.specs.Commands.{manner_of}
-use Rattle.pic_run.specs.Ends.{MeansIn}
-use Rattle.pic_run.proofs.EndLaws.{untouched}
+use Rattle.pic_report.specs.Meaning.{MeansIn}
+use Rattle.pic_run.proofs.UntakenLaws.{untouched}
 use Rattle.pic_run.proofs.DeckLaws.{none_read, check_means, run_means, probe_means}
 use Rattle.pic_run.proofs.DemoLaws.{demo_means}
-use Rattle.pic_run.proofs.VerifyLaws.{verify_starved, verify_means}
-use Rattle.pic_run.proofs.UpgradeLaws.{upgrade_starved, upgrade_means}
-use Rattle.pic_run.proofs.ResumeLaws.{resume_starved, resume_means}
+use Rattle.pic_on_dump.proofs.VerifyLaws.{verify_starved, verify_means}
+use Rattle.pic_on_dump.proofs.UpgradeLaws.{upgrade_starved, upgrade_means}
+use Rattle.pic_on_dump.proofs.ResumeLaws.{resume_starved, resume_means}
 
 -- the command of the words
 pub by_name : (named found : Option Command) (source source' : Told) (before now : Sinks) (ended : Ended) → named ≡ found

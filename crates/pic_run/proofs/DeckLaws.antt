@@ -21,30 +21,34 @@ use Rattle.pic_step.specs.SerialStep.{World, e_of}
 use Rattle.pic_step.specs.Sound.{IsSound}
 use Rattle.pic_step.proofs.AfterLaws.{step_after}
 use Rattle.pic_report.specs.declared.cut.Cut.{Cut}
-use Rattle.pic_run.specs.declared.stage_stop.StageStop.{StageStop}
-use Rattle.pic_run.specs.declared.stage_stop.StageStop.TheVariants.{Answer, NoMemory as StageNoMemory}
+use Rattle.pic_open.specs.declared.stage_stop.StageStop.{StageStop}
+use Rattle.pic_open.specs.declared.stage_stop.StageStop.TheVariants.{Answer, NoMemory as StageNoMemory}
 use Rattle.pic_report.specs.declared.ended.Ended.{Ended}
 use Rattle.pic_report.specs.declared.ended.Ended.TheVariants.{Done, Stopped, NoMemory}
-use Rattle.pic_run.specs.declared.opening_deck.Opened.{Opened}
-use Rattle.pic_run.specs.DeckEnd.{DeckEnd, Unread, Unfit, Unmet, Staged, ◌>>=◌, ended_at}
+use Rattle.pic_open.specs.declared.opening_deck.Opened.{Opened}
+use Rattle.pic_open.specs.DeckEnd.{DeckEnd, Unread, Unfit, Unmet, Staged, ◌>>=◌, ended_at}
 use Rattle.pic_report.specs.Ended.{ended_of}
-use Rattle.pic_run.specs.Frames.{end_of_run}
-use Rattle.pic_run.specs.Starting.{first_state, state_break, IsGauss}
-use Rattle.pic_run.specs.Reading.{deck_limit, Given, Held, Failed, FailedBehind, Gave}
-use Rattle.pic_run.specs.Outcome.{Outcome, answer_of, early_outcome, unless_refused, unless_gauss_fails, unless_too_strong}
-use Rattle.pic_run.specs.Outcome.{accepted, gauss_tested, tested, opened, on_deck, check_outcome, run_outcome, probe_outcome}
-use Rattle.pic_run.specs.Leaves.{Leaving, ComesTo, Fulfils, LeavesNothing, LeavesWhole}
-use Rattle.pic_run.specs.Finishes.{Finishes, Announces, EndsStopped}
-use Rattle.pic_run.specs.Opened.{Opens}
-use Rattle.pic_run.specs.Manner.{Call, Performs}
+use Rattle.pic_states.specs.Frames.{end_of_run}
+use Rattle.pic_open.specs.Starting.{first_state, state_break}
+use Rattle.pic_states.specs.EachGauss.{IsGauss}
+use Rattle.pic_open.specs.DeckReading.{deck_limit}
+use Rattle.pic_report.specs.Reading.{Given, Held, Failed, FailedBehind, Gave}
+use Rattle.pic_report.specs.Outcome.{Outcome, answer_of, early_outcome}
+use Rattle.pic_open.specs.Stages.{unless_refused, unless_gauss_fails, unless_too_strong, accepted, gauss_tested, tested, opened}
+use Rattle.pic_run.specs.DeckOutcome.{on_deck, check_outcome, run_outcome, probe_outcome}
+use Rattle.pic_report.specs.Leaves.{Leaving, ComesTo, Fulfils, LeavesNothing, LeavesWhole}
+use Rattle.pic_report.specs.Finishes.{Finishes, Announces}
+use Rattle.pic_open.specs.Stops.{EndsStopped}
+use Rattle.pic_open.specs.Opened.{Opens}
+use Rattle.pic_report.specs.Manner.{Call, Performs}
 use Rattle.pic_run.specs.OnDeck.{ReadsDeck, HasDeck, IsRefusedSo, IsLeastBreakOf, IsRunDone, IsStopped, RunMeans, on_given_deck}
 use Rattle.pic_run.specs.Check.{CheckMeans, checking}
 use Rattle.pic_run.specs.Run.{running}
 use Rattle.pic_run.specs.Probe.{probing}
-use Rattle.pic_run.specs.Ends.{MeansIn}
-use Rattle.pic_run.proofs.EndLaws.{finished, announced, starved, fed, told_held, gave_held, gave_failed, HasFailed}
-use Rattle.pic_run.proofs.StateLaws.{each_gauss, run_ends}
-use Rattle.pic_run.proofs.StartLaws.{gauss_of}
+use Rattle.pic_report.specs.Meaning.{MeansIn}
+use Rattle.pic_report.proofs.EndLaws.{finished, announced, starved, fed, told_held, gave_held, gave_failed, HasFailed}
+use Rattle.pic_states.proofs.StateLaws.{each_gauss, run_ends}
+use Rattle.pic_open.proofs.StartLaws.{gauss_of}
 
 -- the end of a deck isn't want of memory
 pub not_wanted : (end : DeckEnd) → ended_at end ≡ NoMemory → ⊥
@@ -111,7 +115,7 @@ on_opened performed leaves own o source source' before now finish opens ends =
         end = λ _ d e. is.end;
         short = λ _ _ _ _. is.end;
         sound = λ _ d e. subst (λ (k : DeckView). IsSound (first_state k)) (ok_is o.deck d (sym is.deck ∙ e))
-            (subst IsSound is.start is.sound);
+            (subst IsSound is.begins.start is.begins.sound);
       };
       comes = subst (λ (s : Staged DeckView). ComesTo leaves (on_deck performed s) before now (ended_of finish)) (sym is.deck)
           (finished leaves (performed o.deck) before now finish ends);

@@ -20,22 +20,26 @@ use Rattle.pic_displace.specs.Displace.{displaced_e, displaced_allowed}
 use Rattle.pic_displace.proofs.NoneLaws.{stays}
 use Rattle.pic_step.specs.Sound.{IsSound}
 use Rattle.pic_report.specs.declared.cut.Cut.{Cut}
-use Rattle.pic_run.specs.declared.stage_stop.StageStop.{StageStop}
-use Rattle.pic_run.specs.declared.stage_stop.StageStop.TheVariants.{Answer, NoMemory as StageNoMemory}
+use Rattle.pic_open.specs.declared.stage_stop.StageStop.{StageStop}
+use Rattle.pic_open.specs.declared.stage_stop.StageStop.TheVariants.{Answer, NoMemory as StageNoMemory}
 use Rattle.pic_report.specs.declared.ended.Ended.{Ended}
-use Rattle.pic_run.specs.declared.opening_deck.Opened.{Opened}
-use Rattle.pic_run.specs.DeckEnd.{DeckEnd, Unmet, Staged, ◌>>=◌, ended_at}
+use Rattle.pic_open.specs.declared.opening_deck.Opened.{Opened}
+use Rattle.pic_open.specs.DeckEnd.{DeckEnd, Unmet, Staged, ◌>>=◌, ended_at}
 use Rattle.pic_report.specs.Ended.{ended_of}
-use Rattle.pic_run.specs.Frames.{end_of_run}
-use Rattle.pic_run.specs.Starting.{first_state, state_break}
-use Rattle.pic_run.specs.Outcome.{early_outcome, unless_gauss_fails, unless_too_strong, gauss_tested, tested, demonstrated, on_deck, demo_outcome}
-use Rattle.pic_run.specs.Leaves.{ComesTo, Fulfils, LeavesWhole}
-use Rattle.pic_run.specs.Finishes.{Finishes, Announces, EndsStopped}
-use Rattle.pic_run.specs.Opened.{Tests}
-use Rattle.pic_run.specs.Manner.{Call, Performs}
+use Rattle.pic_states.specs.Frames.{end_of_run}
+use Rattle.pic_open.specs.Starting.{first_state, state_break}
+use Rattle.pic_report.specs.Outcome.{early_outcome}
+use Rattle.pic_open.specs.Stages.{unless_gauss_fails, unless_too_strong, gauss_tested, tested}
+use Rattle.pic_run.specs.DeckOutcome.{demonstrated, on_deck, demo_outcome}
+use Rattle.pic_report.specs.Leaves.{ComesTo, Fulfils, LeavesWhole}
+use Rattle.pic_report.specs.Finishes.{Finishes, Announces}
+use Rattle.pic_open.specs.Stops.{EndsStopped}
+use Rattle.pic_open.specs.Opened.{Tests}
+use Rattle.pic_report.specs.Manner.{Call, Performs}
 use Rattle.pic_run.specs.Demo.{IsDeckOf, demonstrating}
-use Rattle.pic_run.specs.Ends.{MeansIn}
-use Rattle.pic_run.proofs.EndLaws.{finished, announced, starved, untouched}
+use Rattle.pic_report.specs.Meaning.{MeansIn}
+use Rattle.pic_report.proofs.EndLaws.{finished, announced, starved}
+use Rattle.pic_run.proofs.UntakenLaws.{untouched}
 use Rattle.pic_run.proofs.DeckLaws.{ok_is, least_of, deck_ends, not_of_run}
 
 -- a demonstration was stopped, or it was tested and went on
@@ -65,7 +69,7 @@ shown seed workers o source before now finish is ends = record {
   read = untouched source refl;
   calm = λ _. refl;
   reads = λ _ d e. subst (λ (k : DeckView). IsSound (first_state k)) (ok_is o.deck d (sym is.deck ∙ e))
-      (subst IsSound is.start is.sound);
+      (subst IsSound is.begins.start is.begins.sound);
   comes = subst (λ (s : Staged DeckView). ComesTo (LeavesWhole workers) (on_deck demo_outcome s) before now (ended_of finish)) (sym is.deck)
       (finished (LeavesWhole workers) (demo_outcome o.deck) before now finish ends);
 }

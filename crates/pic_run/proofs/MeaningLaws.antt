@@ -8,13 +8,14 @@ use Rattle.pic_io.proofs.Puts.{cut_failed}
 use Rattle.pic_line.specs.CommandLine.{command_of}
 use Rattle.pic_report.specs.declared.ended.Ended.{Ended}
 use Rattle.pic_report.specs.declared.ended.Ended.TheVariants.{NoMemory}
-use Rattle.pic_run.specs.Reading.{Given, Held, Failed, FailedBehind, Gave}
-use Rattle.pic_run.specs.Outcome.{Outcome, pieces_of}
-use Rattle.pic_run.specs.Leaves.{Leaving, Fulfils, ComesTo}
-use Rattle.pic_run.specs.Manner.{Call}
+use Rattle.pic_report.specs.Reading.{Given, Held, Failed, FailedBehind, Gave}
+use Rattle.pic_report.specs.Outcome.{Outcome, pieces_of}
+use Rattle.pic_report.specs.Leaves.{Leaving, Fulfils, ComesTo}
+use Rattle.pic_report.specs.Manner.{Call}
 use Rattle.pic_run.specs.Commands.{outcome}
-use Rattle.pic_run.specs.Ends.{manner_in, Ends, IsComplete, MeansIn, Means}
-use Rattle.pic_run.proofs.EndLaws.{told_held}
+use Rattle.pic_run.specs.Ends.{manner_in, Ends, IsComplete, Means}
+use Rattle.pic_report.specs.Meaning.{MeansIn}
+use Rattle.pic_report.proofs.EndLaws.{told_held}
 use Rattle.pic_run.proofs.CommandLaws.{means_of}
 
 pub means : (c : Call) (ended : Ended) → Ends c ended → Means c ended

@@ -4,10 +4,11 @@ use Rattle.pic_deck.specs.Deck.{DeckView}
 use Rattle.pic_load.specs.Loading.{loaded}
 use Rattle.pic_report.specs.declared.ended.Ended.{Ended}
 use Rattle.pic_report.specs.declared.ended.Ended.TheVariants.{Checked}
-use Rattle.pic_run.specs.Starting.{first_state, IsGauss}
-use Rattle.pic_run.specs.Outcome.{check_outcome}
-use Rattle.pic_run.specs.Leaves.{LeavesNothing}
-use Rattle.pic_run.specs.Manner.{Call, Manner}
+use Rattle.pic_open.specs.Starting.{first_state}
+use Rattle.pic_states.specs.EachGauss.{IsGauss}
+use Rattle.pic_run.specs.DeckOutcome.{check_outcome}
+use Rattle.pic_report.specs.Leaves.{LeavesNothing}
+use Rattle.pic_report.specs.Manner.{Call, Manner}
 use Rattle.pic_run.specs.OnDeck.{HasDeck, on_given_deck}
 
 -- the deck meets Gauss's law, and these are its particles

@@ -4,16 +4,16 @@ use Rattle.pic_line.specs.declared.asked.Command.{Command}
 use Rattle.pic_line.specs.declared.asked.Command.TheVariants.{Check, Run, Verify, Demo, Upgrade, Resume, Probe}
 use Rattle.pic_line.specs.CommandLine.{command_of}
 use Rattle.pic_report.specs.declared.ended.Ended.TheVariants.{Usage}
-use Rattle.pic_run.specs.Reading.{Given}
-use Rattle.pic_run.specs.Outcome.{Outcome, early_outcome}
-use Rattle.pic_run.specs.Leaves.{LeavesNothing}
-use Rattle.pic_run.specs.Manner.{Manner}
+use Rattle.pic_report.specs.Reading.{Given}
+use Rattle.pic_report.specs.Outcome.{Outcome, early_outcome}
+use Rattle.pic_report.specs.Leaves.{LeavesNothing}
+use Rattle.pic_report.specs.Manner.{Manner}
 use Rattle.pic_run.specs.Check.{checking}
 use Rattle.pic_run.specs.Run.{running}
-use Rattle.pic_run.specs.Verify.{verifying}
+use Rattle.pic_on_dump.specs.Verify.{verifying}
 use Rattle.pic_run.specs.Demo.{demonstrating}
-use Rattle.pic_run.specs.Upgrade.{upgrading}
-use Rattle.pic_run.specs.Resume.{resuming}
+use Rattle.pic_on_dump.specs.Upgrade.{upgrading}
+use Rattle.pic_on_dump.specs.Resume.{resuming}
 use Rattle.pic_run.specs.Probe.{probing}
 
 -- words that are no command: nothing is taken, and the usage is told

@@ -5,10 +5,10 @@ use Rattle.pic_demo.specs.Demo.{demo_deck}
 use Rattle.pic_step.specs.Sound.{IsSound}
 use Rattle.pic_report.specs.declared.ended.Ended.{Ended}
 use Rattle.pic_report.specs.declared.ended.Ended.TheVariants.{Gauss, NoMemory}
-use Rattle.pic_run.specs.Starting.{first_state}
-use Rattle.pic_run.specs.Outcome.{on_deck, demo_outcome, demonstrated}
-use Rattle.pic_run.specs.Leaves.{LeavesWhole}
-use Rattle.pic_run.specs.Manner.{Call, Manner}
+use Rattle.pic_open.specs.Starting.{first_state}
+use Rattle.pic_run.specs.DeckOutcome.{on_deck, demo_outcome, demonstrated}
+use Rattle.pic_report.specs.Leaves.{LeavesWhole}
+use Rattle.pic_report.specs.Manner.{Call, Manner}
 use Rattle.pic_run.specs.OnDeck.{BreaksGauss, RunMeans}
 
 -- unless memory was wanting, a demonstration that meets Gauss's law begins in a sound state

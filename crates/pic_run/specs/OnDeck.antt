@@ -20,11 +20,15 @@ use Rattle.pic_step.specs.SerialRun.{after}
 use Rattle.pic_step.specs.Sound.{IsSound}
 use Rattle.pic_report.specs.declared.ended.Ended.{Ended}
 use Rattle.pic_report.specs.declared.ended.Ended.TheVariants.{Done, Stopped, Refused, Gauss, NoMemory}
-use Rattle.pic_run.specs.Starting.{first_state, EachGauss}
-use Rattle.pic_run.specs.Reading.{deck_limit, Given, Held, TakesOfDeck}
-use Rattle.pic_run.specs.Outcome.{Outcome, accepted, opened, on_deck}
-use Rattle.pic_run.specs.Leaves.{Leaving}
-use Rattle.pic_run.specs.Manner.{Call, Manner}
+use Rattle.pic_open.specs.Starting.{first_state}
+use Rattle.pic_states.specs.EachGauss.{EachGauss}
+use Rattle.pic_open.specs.DeckReading.{deck_limit, TakesOfDeck}
+use Rattle.pic_report.specs.Reading.{Given, Held}
+use Rattle.pic_report.specs.Outcome.{Outcome}
+use Rattle.pic_open.specs.Stages.{accepted, opened}
+use Rattle.pic_run.specs.DeckOutcome.{on_deck}
+use Rattle.pic_report.specs.Leaves.{Leaving}
+use Rattle.pic_report.specs.Manner.{Call, Manner}
 
 -- how a deck was read: unless memory was wanting, one that is accepted, or refused and not too long, to
 -- its end; and one that meets Gauss's law begins in a sound state

@@ -1,8 +1,8 @@
 -- The command `probe`: the run of the deck that the source gives, as what its probes see.
 use Rattle.std.specs.Prelude.{ℕ}
-use Rattle.pic_run.specs.Outcome.{probe_outcome}
-use Rattle.pic_run.specs.Leaves.{LeavesWhole}
-use Rattle.pic_run.specs.Manner.{Manner}
+use Rattle.pic_run.specs.DeckOutcome.{probe_outcome}
+use Rattle.pic_report.specs.Leaves.{LeavesWhole}
+use Rattle.pic_report.specs.Manner.{Manner}
 use Rattle.pic_run.specs.OnDeck.{HasDeck, RunMeans, on_given_deck}
 
 -- on so many workers

@@ -6,15 +6,14 @@ ghost use Rattle.pic_io.specs.Sinks.{sinks};
 ghost use Rattle.pic_deck.specs.Deck.{DeckView};
 ghost use Rattle.pic_load.specs.Loading.{loaded};
 ghost use Rattle.pic_report.specs.Ended.{ended_of};
-ghost use Rattle.pic_run.specs.Outcome.{check_outcome};
-ghost use Rattle.pic_run.specs.Leaves.{LeavesNothing};
-ghost use Rattle.pic_run.specs.Finishes.{Finishes};
-ghost use Rattle.pic_run.specs.Manner.{Performs};
+ghost use Rattle.pic_run.specs.DeckOutcome.{check_outcome};
+ghost use Rattle.pic_report.specs.Leaves.{LeavesNothing};
+ghost use Rattle.pic_report.specs.Finishes.{Finishes};
+ghost use Rattle.pic_report.specs.Manner.{Performs};
 ghost use Rattle.pic_run.specs.Check.{checking};
 
-use crate::opening_deck::open;
-use crate::stage_stop::end_early;
 use pic_io::{Sink, Source};
+use pic_open::{end_early, open};
 use pic_report::{Cut, Ended, line_of_check, put_out};
 use std::alloc::Global;
 

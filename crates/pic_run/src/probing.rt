@@ -2,30 +2,26 @@
 
 ghost use Rattle.std.specs.Prelude.{◌≡◌, ◌<◌, ◌≤◌, IfOk};
 ghost use Rattle.pic_crew.specs.Teams.{most_workers};
-ghost use Rattle.pic_devices.specs.Probes.{AreProbes};
 ghost use Rattle.pic_io.specs.Sinks.{sinks};
 ghost use Rattle.pic_step.specs.Kept.{AreTiled};
 ghost use Rattle.pic_step.specs.Sound.{IsSound};
 ghost use Rattle.pic_step.specs.Start.{begun};
 ghost use Rattle.pic_report.specs.Ended.{ended_of};
-ghost use Rattle.pic_run.specs.declared.output.Output.TheVariants as put;
-ghost use Rattle.pic_run.specs.Outcome.{shown_outcome};
-ghost use Rattle.pic_run.specs.Leaves.{LeavesWhole};
-ghost use Rattle.pic_run.specs.Finishes.{Finishes};
-ghost use Rattle.pic_run.specs.Manner.{Performs};
+ghost use Rattle.pic_states.specs.declared.output.Output.TheVariants as put;
+ghost use Rattle.pic_states.specs.StatesOutcome.{shown_outcome};
+ghost use Rattle.pic_report.specs.Leaves.{LeavesWhole};
+ghost use Rattle.pic_report.specs.Finishes.{Finishes};
+ghost use Rattle.pic_report.specs.Manner.{Performs};
 ghost use Rattle.pic_run.specs.Probe.{probing};
-ghost use Rattle.pic_run.specs.Rooms.{CanPut};
+ghost use Rattle.pic_states.specs.Rooms.{CanPut};
 
-use crate::opening_deck::{Opened, open};
-use crate::output::{Output, Plan};
-use crate::showing::show;
-use crate::stage_stop::end_early;
-use crate::threading::Threading;
 use pic_devices::{Ids, Places, Probes};
 use pic_gate::Gate;
 use pic_io::{Sink, Source};
 use pic_num::NoMemory;
+use pic_open::{Opened, end_early, open};
 use pic_report::{Cut, Ended};
+use pic_states::{Output, Plan, Threading, show};
 use std::alloc::Global;
 use std::thread::Threads;
 

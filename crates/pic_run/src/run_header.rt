@@ -2,7 +2,7 @@
 
 ghost use Rattle.std.specs.Prelude.{◌≡◌, map, IfOk};
 ghost use Rattle.pic_deck.specs.Species.{head_of};
-ghost use Rattle.pic_run.specs.Starting.{header_of};
+ghost use Rattle.pic_run.specs.RunHeader.{header_of};
 
 use pic_deck::{Deck, Species};
 use pic_dump::{Head, Header, HeaderSettings, Heads};

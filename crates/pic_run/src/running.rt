@@ -1,37 +1,30 @@
-//! The command `run`, and the loop over the states of a run.
+//! The command `run`: the run of a deck, as a dump.
 
-ghost use Rattle.std.specs.Prelude.{◌≡◌, ◌-◌, ◌<◌, ◌≤◌, [], IfOk};
-ghost use Rattle.pic_num.specs.Limits.{most_steps};
+ghost use Rattle.std.specs.Prelude.{◌≡◌, ◌-◌, ◌<◌, ◌≤◌, IfOk};
 ghost use Rattle.pic_crew.specs.Teams.{most_workers};
-ghost use Rattle.pic_io.specs.Sinks.{sinks, Writes};
+ghost use Rattle.pic_io.specs.Sinks.{sinks};
 ghost use Rattle.pic_step.specs.Kept.{AreTiled};
 ghost use Rattle.pic_step.specs.Sound.{IsSound};
 ghost use Rattle.pic_step.specs.Start.{begun};
-ghost use Rattle.pic_run.specs.Starting.{header_of};
-ghost use Rattle.pic_run.specs.Frames.{frames_of, frames_behind, end_of_run};
-ghost use Rattle.pic_run.specs.Rooms.{CanPut, HasShape};
+ghost use Rattle.pic_run.specs.RunHeader.{header_of};
+ghost use Rattle.pic_states.specs.Rooms.{HasShape};
 ghost use Rattle.pic_report.specs.Ended.{ended_of};
-ghost use Rattle.pic_run.specs.Outcome.{dump_outcome, states_outcome, answer_of};
-ghost use Rattle.pic_run.specs.Leaves.{LeavesWhole};
-ghost use Rattle.pic_run.specs.Finishes.{Finishes};
-ghost use Rattle.pic_run.specs.Manner.{Performs};
+ghost use Rattle.pic_states.specs.StatesOutcome.{dump_outcome};
+ghost use Rattle.pic_report.specs.Leaves.{LeavesWhole};
+ghost use Rattle.pic_report.specs.Finishes.{Finishes};
+ghost use Rattle.pic_report.specs.Manner.{Performs};
 ghost use Rattle.pic_run.specs.Run.{running};
-ghost use Rattle.pic_run.specs.Runs.{WritesFrames, WritesStates};
 
-use crate::frame_writer::{put_last, write_due, write_frame};
-use crate::opening_deck::{Opened, open};
-use crate::output::{Output, Plan};
 use crate::run_header::header_of;
-use crate::stage_stop::end_early;
-use crate::threading::Threading;
 use pic_deck::Deck;
 use pic_dump::{Header, put_header};
 use pic_gate::Gate;
-use pic_grid::{EndMark, Snapshot};
 use pic_io::{Failed, Side, Sink, Source};
 use pic_num::NoMemory;
+use pic_open::{Opened, end_early, open};
 use pic_report::{Cut, Ended};
-use pic_step::{Start, State, StepStop, step};
+use pic_states::{Output, Plan, Stage, Threading, stage_of, write_states};
+use pic_step::Start;
 use std::alloc::Global;
 use std::thread::Threads;
 
@@ -79,25 +72,6 @@ fn run_deck<H: Threads + Sync, O: Sink, R: Sink, G: Gate + Sync>(
     let Opened { deck, start } = opened;
     let ready = prepare(alloc, &deck, start)?;
     write_run(threading, alloc, out, report, ready, workers)
-}
-
-/// A state, and room for its frames.
-#[derive(Drop)]
-pub struct Stage {
-    pub state: State,
-    pub room: Snapshot,
-}
-
-/// The state that a run begins with, and room for a frame.
-pub fn stage_of(alloc: Global, start: Start) -> Result<Stage, NoMemory>
-    requires sound { IsSound (begun start) }
-    requires tiled { AreTiled start.setup.map start.e start.b }
-    ensures state { IfOk result (λ stage. stage.state.world ≡ begun start) }
-    ensures room { IfOk result (λ stage. HasShape stage.room stage.state.world) }
-{
-    let state = State::begin(alloc, start)?;
-    let room = Snapshot::new(alloc, state.cells(), state.count())?;
-    Ok(Stage { state, room })
 }
 
 /// A run that has all its memory: the header of its dump, and its first state.
@@ -148,113 +122,5 @@ fn write_run<H: Threads + Sync, O: Sink, R: Sink, G: Gate + Sync>(
             write_states(threading, alloc, &plan, out, report, stage)
         }
         Err(Failed) => Err(Cut::Write(Side::Out)),
-    }
-}
-
-/// The due frames of a run from its first state, and then its end.
-pub fn write_states<H: Threads + Sync, O: Sink, R: Sink, G: Gate + Sync>(
-    threading: Threading<'_, H, G>,
-    alloc: Global,
-    plan: &Plan,
-    out: &mut O,
-    report: &mut R,
-    stage: Stage,
-) -> Result<Ended, Cut>
-    requires steps { plan.now.steps ≤ most_steps }
-    requires every { 1 ≤ plan.now.every }
-    requires some { 0 < plan.now.workers }
-    requires most { plan.now.workers ≤ most_workers }
-    requires begins { stage.state.world.step ≡ 0 }
-    requires room { HasShape stage.room stage.state.world }
-    requires probes { CanPut plan.now.output stage.state.world }
-    ensures { WritesStates 1 plan.now.workers
-        (states_outcome plan.now.output []
-        (frames_of plan.now.output plan.now.steps plan.now.every stage.state.world)
-        (end_of_run plan.now.steps stage.state.world))
-        (sinks (O.told out.old) (R.told report.old))
-        (sinks (O.told out.new) (R.told report.new)) result }
-{
-    let Stage { state, mut room } = stage;
-    write_frame(&plan.output, out, report, &state, &mut room)?;
-    write_further(threading, alloc, plan, out, report, Stage { state, room })
-}
-
-/// The due frames of the states behind this one of a run, and then its end.
-pub fn write_further<H: Threads + Sync, O: Sink, R: Sink, G: Gate + Sync>(
-    threading: Threading<'_, H, G>,
-    alloc: Global,
-    plan: &Plan,
-    out: &mut O,
-    report: &mut R,
-    stage: Stage,
-) -> Result<Ended, Cut>
-    requires steps { plan.now.steps ≤ most_steps }
-    requires every { 1 ≤ plan.now.every }
-    requires some { 0 < plan.now.workers }
-    requires most { plan.now.workers ≤ most_workers }
-    requires behind { stage.state.world.step ≤ plan.now.steps }
-    requires room { HasShape stage.room stage.state.world }
-    requires probes { CanPut plan.now.output stage.state.world }
-    ensures { WritesStates 0 plan.now.workers
-        (states_outcome plan.now.output []
-        (frames_behind plan.now.output plan.now.steps plan.now.every stage.state.world)
-        (end_of_run (plan.now.steps - stage.state.world.step) stage.state.world))
-        (sinks (O.told out.old) (R.told report.old))
-        (sinks (O.told out.new) (R.told report.new)) result }
-{
-    let end = write_frames(threading, alloc, plan, out, report, stage)?;
-    put_last(&plan.output, out, report, end)?;
-    Ok(answer_of(end))
-}
-
-// The due frames of the states behind this one, up to the last step, or to the one that stops.
-fn write_frames<H: Threads + Sync, O: Sink, R: Sink, G: Gate + Sync>(
-    threading: Threading<'_, H, G>,
-    alloc: Global,
-    plan: &Plan,
-    out: &mut O,
-    report: &mut R,
-    stage: Stage,
-) -> Result<EndMark, Cut>
-    requires steps { plan.now.steps ≤ most_steps }
-    requires every { 1 ≤ plan.now.every }
-    requires some { 0 < plan.now.workers }
-    requires most { plan.now.workers ≤ most_workers }
-    requires behind { stage.state.world.step ≤ plan.now.steps }
-    requires room { HasShape stage.room stage.state.world }
-    requires probes { CanPut plan.now.output stage.state.world }
-    ensures { WritesFrames plan.now.workers
-        (frames_behind plan.now.output plan.now.steps plan.now.every stage.state.world)
-        (end_of_run (plan.now.steps - stage.state.world.step) stage.state.world)
-        (sinks (O.told out.old) (R.told report.old))
-        (sinks (O.told out.new) (R.told report.new)) result }
-{
-    let Threading { rt, gate } = threading;
-    let Stage {
-        mut state,
-        mut room,
-    } = stage;
-    let first = state.step_number();
-    for done in 0..plan.steps - first {
-        let number = first + done + 1;
-        state = match step(rt, alloc, state, plan.workers, gate) {
-            Ok(next) => next,
-            Err(StepStop::Stop(stop)) => {
-                return Ok(EndMark::Stopped { step: number, stop });
-            }
-            Err(StepStop::NoMemory) => return Err(Cut::NoMemory),
-        };
-        write_due(plan, out, report, &state, &mut room)?;
-    }
-    Ok(EndMark::Done { steps: plan.steps })
-}
-
-// The answer of a run that ends so.
-fn answer_of(end: EndMark) -> Ended
-    ensures { result ≡ answer_of end }
-{
-    match end {
-        EndMark::Done { steps } => Ended::Done { steps },
-        EndMark::Stopped { step, stop } => Ended::Stopped { step, stop },
     }
 }

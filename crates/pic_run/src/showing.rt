@@ -1,7 +1,6 @@
 //! The command `demo`: the run of the deck that a number makes, as lines alone.
 
 ghost use Rattle.std.specs.Prelude.{◌≡◌, ◌<◌, ◌≤◌};
-ghost use Rattle.pic_num.specs.Limits.{most_steps};
 ghost use Rattle.pic_crew.specs.Teams.{most_workers};
 ghost use Rattle.pic_io.specs.Told.{Told};
 ghost use Rattle.pic_io.specs.Sinks.{sinks};
@@ -10,25 +9,20 @@ ghost use Rattle.pic_step.specs.Kept.{AreTiled};
 ghost use Rattle.pic_step.specs.Sound.{IsSound};
 ghost use Rattle.pic_step.specs.Start.{begun};
 ghost use Rattle.pic_report.specs.Ended.{ended_of};
-ghost use Rattle.pic_run.specs.declared.output.Output.TheVariants as put;
-ghost use Rattle.pic_run.specs.Outcome.{shown_outcome};
-ghost use Rattle.pic_run.specs.Opened.{Tests};
-ghost use Rattle.pic_run.specs.Leaves.{LeavesWhole};
-ghost use Rattle.pic_run.specs.Finishes.{Finishes};
-ghost use Rattle.pic_run.specs.Manner.{Performs};
+ghost use Rattle.pic_states.specs.declared.output.Output.TheVariants as put;
+ghost use Rattle.pic_states.specs.StatesOutcome.{shown_outcome};
+ghost use Rattle.pic_open.specs.Opened.{Tests};
+ghost use Rattle.pic_report.specs.Leaves.{LeavesWhole};
+ghost use Rattle.pic_report.specs.Finishes.{Finishes};
+ghost use Rattle.pic_report.specs.Manner.{Performs};
 ghost use Rattle.pic_run.specs.Demo.{demonstrating};
-ghost use Rattle.pic_run.specs.Rooms.{CanPut};
 
-use crate::opening_deck::{Opened, load_and_test};
-use crate::output::{Output, Plan};
-use crate::running::{stage_of, write_states};
-use crate::stage_stop::{StageStop, end_early};
-use crate::threading::Threading;
 use pic_demo::deck_of;
 use pic_gate::Gate;
 use pic_io::Sink;
+use pic_open::{Opened, StageStop, end_early, load_and_test};
 use pic_report::{Cut, Ended};
-use pic_step::Start;
+use pic_states::{Output, Plan, Threading, show};
 use std::alloc::Global;
 use std::thread::Threads;
 
@@ -89,31 +83,4 @@ fn show_deck<H: Threads + Sync, O: Sink, R: Sink, G: Gate + Sync>(
         workers,
     };
     show(threading, alloc, &plan, start, out, report)
-}
-
-/// Runs what begins so and shows its states on `out`, with no head. All memory that isn't a step's is taken
-/// before the first line.
-pub fn show<H: Threads + Sync, O: Sink, R: Sink, G: Gate + Sync>(
-    threading: Threading<'_, H, G>,
-    alloc: Global,
-    plan: &Plan,
-    start: Start,
-    out: &mut O,
-    report: &mut R,
-) -> Result<Ended, Cut>
-    requires steps { plan.now.steps ≤ most_steps }
-    requires every { 1 ≤ plan.now.every }
-    requires some { 0 < plan.now.workers }
-    requires most { plan.now.workers ≤ most_workers }
-    requires begins { (begun start).step ≡ 0 }
-    requires sound { IsSound (begun start) }
-    requires tiled { AreTiled start.setup.map start.e start.b }
-    requires probes { CanPut plan.now.output (begun start) }
-    ensures { Finishes (LeavesWhole plan.now.workers)
-        (shown_outcome plan.now.output plan.now.steps plan.now.every (begun start))
-        (sinks (O.told out.old) (R.told report.old))
-        (sinks (O.told out.new) (R.told report.new)) result }
-{
-    let stage = stage_of(alloc, start)?;
-    write_states(threading, alloc, plan, out, report, stage)
 }

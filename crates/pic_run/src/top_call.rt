@@ -4,23 +4,21 @@ ghost use Rattle.std.specs.Prelude.{map, string_bytes};
 ghost use Rattle.pic_io.specs.Sinks.{sinks};
 ghost use Rattle.pic_line.specs.CommandLine.{command_of};
 ghost use Rattle.pic_report.specs.Ended.{ended_of};
-ghost use Rattle.pic_run.specs.Manner.{call, Performs};
+ghost use Rattle.pic_report.specs.Manner.{call, Performs};
 ghost use Rattle.pic_run.specs.Commands.{manner_of};
 ghost use Rattle.pic_run.specs.Ends.{Ends, IsComplete, Means, Reads};
 
 use crate::check::check;
 use crate::probing::probe;
-use crate::resume::{Further, resume};
 use crate::running::run;
 use crate::showing::demo;
-use crate::stage_stop::{StageStop, end_early};
-use crate::threading::Threading;
-use crate::upgrade::upgrade;
-use crate::verify::verify;
 use pic_gate::Gate;
 use pic_io::{Sink, Source};
 use pic_line::{Command, LineFault, command};
+use pic_on_dump::{Further, resume, upgrade, verify};
+use pic_open::{StageStop, end_early};
 use pic_report::{Cut, Early, Ended, ended_of};
+use pic_states::Threading;
 use std::alloc::Global;
 use std::thread::Threads;
 

@@ -9,7 +9,7 @@ use Rattle.pic_io.specs.Told.{Told}
 use Rattle.pic_io.specs.Sink.{with_back, Appended, AppendedFront}
 use Rattle.pic_io.specs.Sinks.{Sinks, Piece, outs, lines, IsCut, CutAt}
 use Rattle.pic_io.proofs.Puts.{front_after, front_of_more, wrote_none, wrote_twice, cut_later}
-use Rattle.pic_run.specs.Outcome.{out_text, report_text, with_head, pieces_of}
+use Rattle.pic_report.specs.Outcome.{out_text, report_text, with_head, pieces_of}
 use Rattle.pic_run_laws.specs.CutTexts.{IsCutBehind, CutBehindWholePieces, CutsLeaveFronts}
 
 -- how many stand whole

@@ -8,8 +8,8 @@ use Rattle.pic_grid.specs.declared.stop.EndMark.TheVariants.{Stopped}
 use Rattle.pic_grid.specs.declared.stop.Stop.{Stop}
 use Rattle.pic_record.specs.Due.{is_due}
 use Rattle.pic_record.specs.Layout.{LayoutView}
-use Rattle.pic_run.specs.Frames.{due_state, due_states}
-use Rattle.pic_run.proofs.FrameLaws.{due_now}
+use Rattle.pic_states.specs.Frames.{due_state, due_states}
+use Rattle.pic_states.proofs.FrameLaws.{due_now}
 use Rattle.pic_step.specs.SerialStep.{World, stepped}
 use Rattle.pic_step.specs.SerialRun.{after, step_from, stopped_in}
 use Rattle.pic_step.proofs.AfterLaws.{step_after}

@@ -20,13 +20,13 @@ use Rattle.pic_record.specs.FrameFields.{IsModerate, field_with}
 use Rattle.pic_record.specs.Layout.{LayoutView}
 use Rattle.pic_record.specs.Records.{AFrame}
 use Rattle.pic_record.specs.Spelling.{record_bytes}
-use Rattle.pic_run.specs.declared.output.Output.TheVariants.{Dump}
-use Rattle.pic_run.specs.Frames.{energies_in, frame_piece}
+use Rattle.pic_states.specs.declared.output.Output.TheVariants.{Dump}
+use Rattle.pic_states.specs.Frames.{energies_in, frame_piece}
 use Rattle.pic_step.specs.SerialStep.{World, e_of, b_of}
 use Rattle.pic_step.specs.Sound.{IsSafe}
 use Rattle.pic_record.specs.Readable.{IsReadableField, IsReadableParticle, IsReadableFrame}
 use Rattle.pic_verify.specs.Verified.{ObeysGauss}
-use Rattle.pic_run.specs.FrameStates.{frame_in}
+use Rattle.pic_states.specs.FrameStates.{frame_in}
 use Rattle.pic_run_laws.proofs.StateFits.{IsOfLayout, IsGoodState}
 
 -- a safe field with as many values as it has places

@@ -5,8 +5,8 @@ use Rattle.std.proofs.lemmas.Bool.Decides.{nat_tests}
 use Rattle.std.proofs.lemmas.List.Elements.{filter-append}
 use Rattle.pic_grid.specs.declared.stop.EndMark.{EndMark}
 use Rattle.pic_record.specs.Due.{is_due}
-use Rattle.pic_run.specs.Frames.{due_state, due_states}
-use Rattle.pic_run.proofs.FrameLaws.{states_split, states_one, states_first, states_joined, after_none}
+use Rattle.pic_states.specs.Frames.{due_state, due_states}
+use Rattle.pic_states.proofs.FrameLaws.{states_split, states_one, states_first, states_joined, after_none}
 use Rattle.pic_step.specs.SerialStep.{World}
 use Rattle.pic_step.specs.SerialRun.{after}
 use Rattle.pic_run_laws.proofs.DueRuns.{step_is}

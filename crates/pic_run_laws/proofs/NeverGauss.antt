@@ -16,11 +16,13 @@ use Rattle.pic_line.specs.declared.asked.Command.TheVariants.{Check, Run, Verify
 use Rattle.pic_load.specs.Loading.{loaded}
 use Rattle.pic_report.specs.declared.ended.Ended.{Ended}
 use Rattle.pic_report.specs.declared.ended.Ended.TheVariants.{Checked, Refused, Gauss}
-use Rattle.pic_run.specs.DeckEnd.{Staged, ◌>>=◌}
-use Rattle.pic_run.specs.Outcome.{Outcome, accepted, unless_gauss_fails, unless_too_strong, gauss_tested, tested}
-use Rattle.pic_run.specs.Outcome.{on_deck, answer_of, check_outcome, run_outcome, probe_outcome}
+use Rattle.pic_open.specs.DeckEnd.{Staged, ◌>>=◌}
+use Rattle.pic_report.specs.Outcome.{Outcome}
+use Rattle.pic_open.specs.Stages.{accepted, unless_gauss_fails, unless_too_strong, gauss_tested, tested}
+use Rattle.pic_run.specs.DeckOutcome.{on_deck, check_outcome, run_outcome, probe_outcome}
+use Rattle.pic_report.specs.Outcome.{answer_of}
 use Rattle.pic_run.specs.Commands.{manner_of, outcome}
-use Rattle.pic_run.specs.Starting.{first_state, state_break}
+use Rattle.pic_open.specs.Starting.{first_state, state_break}
 use Rattle.pic_step.specs.SerialStep.{World, e_of}
 use Rattle.pic_run_laws.specs.KeptDecks.{IsKeptDeck}
 use Rattle.pic_run_laws.specs.NeverGauss.{TakesDeck, CouplesAreNeverGauss}

@@ -7,9 +7,11 @@ use Rattle.pic_deck.specs.Deck.{DeckView}
 use Rattle.pic_devices.specs.declared.probes.Probes.{Probes}
 use Rattle.pic_displace.specs.Displace.{displaced_e, displaced_allowed}
 use Rattle.pic_load.specs.Loading.{loaded}
-use Rattle.pic_run.specs.DeckEnd.{◌>>=◌}
-use Rattle.pic_run.specs.Outcome.{Outcome, unless_gauss_fails, unless_too_strong, gauss_tested, tested, on_deck, check_outcome, run_outcome}
-use Rattle.pic_run.specs.Starting.{first_state, state_break}
+use Rattle.pic_open.specs.DeckEnd.{◌>>=◌}
+use Rattle.pic_report.specs.Outcome.{Outcome}
+use Rattle.pic_open.specs.Stages.{unless_gauss_fails, unless_too_strong, gauss_tested, tested}
+use Rattle.pic_run.specs.DeckOutcome.{on_deck, check_outcome, run_outcome}
+use Rattle.pic_open.specs.Starting.{first_state, state_break}
 use Rattle.pic_run_laws.specs.KeptDecks.{IsKeptDeck}
 use Rattle.pic_run_laws.specs.ProbesAreColumns.{deck_with_probes, IsSameForAllProbes, ProbesChangeNoDump, ProbesChangeNoCheck}
 use Rattle.pic_run_laws.proofs.StartLaws.{has_passed, passes}

@@ -15,11 +15,13 @@ use Rattle.pic_io.specs.Sinks.{outs}
 use Rattle.pic_probe.specs.ProbeLine.{probe_line}
 use Rattle.pic_record.specs.FrameFields.{FrameView}
 use Rattle.pic_record.specs.Layout.{LayoutView, layout_of}
-use Rattle.pic_run.specs.declared.output.Output.TheVariants.{Probe}
-use Rattle.pic_run.specs.Frames.{frame_piece, due_states, end_of_run}
-use Rattle.pic_run.specs.FrameStates.{frame_in}
-use Rattle.pic_run.specs.Outcome.{out_text, run_outcome, probe_outcome}
-use Rattle.pic_run.specs.Starting.{header_of, first_state}
+use Rattle.pic_states.specs.declared.output.Output.TheVariants.{Probe}
+use Rattle.pic_states.specs.Frames.{frame_piece, due_states, end_of_run}
+use Rattle.pic_states.specs.FrameStates.{frame_in}
+use Rattle.pic_report.specs.Outcome.{out_text}
+use Rattle.pic_run.specs.DeckOutcome.{run_outcome, probe_outcome}
+use Rattle.pic_run.specs.RunHeader.{header_of}
+use Rattle.pic_open.specs.Starting.{first_state}
 use Rattle.pic_step.specs.SerialStep.{World}
 use Rattle.pic_run_laws.specs.KeptDecks.{IsKeptDeck}
 use Rattle.pic_run_laws.specs.ProbesAreColumns.{deck_framing_each, columns_in, ProbesAreColumns}

@@ -20,12 +20,13 @@ use Rattle.pic_deck.specs.Tiles.{tiles_fit}
 use Rattle.pic_deck.proofs.TileLaws.{tiles_that_fit, steps_that_fit}
 use Rattle.pic_resume.specs.Carry.{GoesOn, Kept, asked, kept_frames, kept_piece, kept_pieces, no_frame, last_frame}
 use Rattle.pic_resume.specs.Carry.{under_header, unless_refused, carry_kept, kept_by, carry_dump, carry_of}
-use Rattle.pic_run.specs.declared.output.Output.TheVariants.{Dump}
-use Rattle.pic_run.specs.FrameStates.{frame_in, world_in}
-use Rattle.pic_run.specs.Frames.{frame_piece, due_states, frames_of, frames_behind, end_of_run}
-use Rattle.pic_run.specs.Outcome.{out_text, states_outcome, dump_outcome}
-use Rattle.pic_run.specs.Resume.{resumed_state, behind_outcome, resume_of}
-use Rattle.pic_run.proofs.FrameLaws.{end_joined}
+use Rattle.pic_states.specs.declared.output.Output.TheVariants.{Dump}
+use Rattle.pic_states.specs.FrameStates.{frame_in, world_in}
+use Rattle.pic_states.specs.Frames.{frame_piece, due_states, frames_of, frames_behind, end_of_run}
+use Rattle.pic_report.specs.Outcome.{out_text}
+use Rattle.pic_states.specs.StatesOutcome.{states_outcome, dump_outcome}
+use Rattle.pic_on_dump.specs.Resume.{resumed_state, behind_outcome, resume_of}
+use Rattle.pic_states.proofs.FrameLaws.{end_joined}
 use Rattle.pic_step.specs.SerialStep.{World}
 use Rattle.pic_verify.specs.Verified.{Verdict}
 use Rattle.pic_run_laws.proofs.StateFits.{IsGoodState, StopsFit, of_after, loops_after, stands}

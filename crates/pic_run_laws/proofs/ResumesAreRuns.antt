@@ -5,12 +5,16 @@ use Rattle.pic_deck.specs.Deck.{DeckView}
 use Rattle.pic_line.specs.declared.asked.Command.{Command}
 use Rattle.pic_line.specs.declared.asked.Command.TheVariants.{Run, Resume}
 use Rattle.pic_line.specs.CommandLine.{command_of}
-use Rattle.pic_run.specs.DeckEnd.{Staged, ◌>>=◌}
-use Rattle.pic_run.specs.Reading.{Given, Held}
-use Rattle.pic_run.specs.Outcome.{Outcome, out_text, accepted, tested, on_deck, dump_outcome, run_outcome}
+use Rattle.pic_open.specs.DeckEnd.{Staged, ◌>>=◌}
+use Rattle.pic_report.specs.Reading.{Given, Held}
+use Rattle.pic_report.specs.Outcome.{Outcome, out_text}
+use Rattle.pic_open.specs.Stages.{accepted, tested}
+use Rattle.pic_run.specs.DeckOutcome.{on_deck, run_outcome}
+use Rattle.pic_states.specs.StatesOutcome.{dump_outcome}
 use Rattle.pic_run.specs.Commands.{manner_of, outcome}
-use Rattle.pic_run.specs.Resume.{HasRun}
-use Rattle.pic_run.specs.Starting.{header_of, first_state}
+use Rattle.pic_on_dump.specs.Resume.{HasRun}
+use Rattle.pic_run.specs.RunHeader.{header_of}
+use Rattle.pic_open.specs.Starting.{first_state}
 use Rattle.pic_run_laws.specs.KeptDecks.{IsKeptDeck}
 use Rattle.pic_run_laws.specs.ResumesAreRuns.{deck_with_steps, resumed, ResumesAreRuns, ResumesJoin, ResumesAreFoundRuns}
 use Rattle.pic_run_laws.proofs.ResumeLaws.{asked_fits, run_resumed}

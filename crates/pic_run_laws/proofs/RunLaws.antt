@@ -8,10 +8,11 @@ use Rattle.pic_header.specs.Header.{HeaderView, IsHeader}
 use Rattle.pic_record.proofs.DueLaws.{due_in_turn}
 use Rattle.pic_record.specs.FrameFields.{FrameView}
 use Rattle.pic_record.specs.Layout.{layout_of}
-use Rattle.pic_run.specs.declared.output.Output.TheVariants.{Dump}
-use Rattle.pic_run.specs.Frames.{frame_piece, due_states, end_of_run}
-use Rattle.pic_run.specs.Outcome.{out_text, dump_outcome}
-use Rattle.pic_run.proofs.FrameLaws.{after_none, states_first}
+use Rattle.pic_states.specs.declared.output.Output.TheVariants.{Dump}
+use Rattle.pic_states.specs.Frames.{frame_piece, due_states, end_of_run}
+use Rattle.pic_report.specs.Outcome.{out_text}
+use Rattle.pic_states.specs.StatesOutcome.{dump_outcome}
+use Rattle.pic_states.proofs.FrameLaws.{after_none, states_first}
 use Rattle.pic_step.specs.SerialStep.{World}
 use Rattle.pic_step.specs.SerialRun.{after}
 use Rattle.pic_dump.specs.InTurn.{due_step}
@@ -21,7 +22,7 @@ use Rattle.pic_dump.specs.DumpRead.{DumpRead, read_dump}
 use Rattle.pic_dump.proofs.ReadableDump.{dumps_are_read}
 use Rattle.pic_verify.specs.Verified.{ObeysGauss, verdict_of, verified}
 use Rattle.pic_verify.proofs.ReadableDump.{good_verdict}
-use Rattle.pic_run.specs.FrameStates.{frame_in}
+use Rattle.pic_states.specs.FrameStates.{frame_in}
 use Rattle.pic_run_laws.proofs.StateFits.{IsGoodState, StopsFit}
 use Rattle.pic_run_laws.proofs.GoodFrames.{readable_frame, obeys_gauss, frames_text}
 use Rattle.pic_run_laws.proofs.TurnsLaws.{IsTurn, Goes, goes}

@@ -9,12 +9,16 @@ use Rattle.pic_line.specs.declared.asked.Command.TheVariants.{Verify}
 use Rattle.pic_line.specs.CommandLine.{command_of}
 use Rattle.pic_record.specs.Layout.{layout_of}
 use Rattle.pic_report.specs.declared.ended.Ended.TheVariants.{Verified}
-use Rattle.pic_run.specs.DeckEnd.{DeckEnd, Unread, Unfit, Unmet, Staged, ◌>>=◌, ended_at}
-use Rattle.pic_run.specs.Reading.{Given, Held}
-use Rattle.pic_run.specs.Outcome.{Outcome, out_text, accepted, tested, on_deck, run_outcome, verdict_outcome}
+use Rattle.pic_open.specs.DeckEnd.{DeckEnd, Unread, Unfit, Unmet, Staged, ◌>>=◌, ended_at}
+use Rattle.pic_report.specs.Reading.{Given, Held}
+use Rattle.pic_report.specs.Outcome.{Outcome, out_text}
+use Rattle.pic_open.specs.Stages.{accepted, tested}
+use Rattle.pic_run.specs.DeckOutcome.{on_deck, run_outcome}
+use Rattle.pic_on_dump.specs.Verdict.{verdict_outcome}
 use Rattle.pic_run.specs.Commands.{manner_of, outcome}
-use Rattle.pic_run.specs.Resume.{HasRun}
-use Rattle.pic_run.specs.Starting.{header_of, first_state}
+use Rattle.pic_on_dump.specs.Resume.{HasRun}
+use Rattle.pic_run.specs.RunHeader.{header_of}
+use Rattle.pic_open.specs.Starting.{first_state}
 use Rattle.pic_verify.specs.Verified.{Verdict, verified}
 use Rattle.pic_run_laws.specs.FramesGiveStates.{FramesGiveStates}
 use Rattle.pic_run_laws.specs.KeptDecks.{IsKeptDeck}

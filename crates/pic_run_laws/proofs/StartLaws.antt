@@ -14,11 +14,12 @@ use Rattle.pic_deck.specs.declared.refusal.Refusal.{Refusal}
 use Rattle.pic_displace.specs.Displace.{displaced_e, displaced_allowed}
 use Rattle.pic_load.specs.Loading.{loaded}
 use Rattle.pic_record.specs.Layout.{layout_of}
-use Rattle.pic_run.specs.DeckEnd.{Unfit, Staged, ◌>>=◌}
-use Rattle.pic_run.specs.Outcome.{unless_gauss_fails, unless_too_strong, gauss_tested, tested}
-use Rattle.pic_run.specs.Starting.{first_state, state_break, header_of}
-use Rattle.pic_run.proofs.StartLaws.{sound_start}
-use Rattle.pic_run.proofs.DisplacedLaws.{displaced_safe}
+use Rattle.pic_open.specs.DeckEnd.{Unfit, Staged, ◌>>=◌}
+use Rattle.pic_open.specs.Stages.{unless_gauss_fails, unless_too_strong, gauss_tested, tested}
+use Rattle.pic_open.specs.Starting.{first_state, state_break}
+use Rattle.pic_run.specs.RunHeader.{header_of}
+use Rattle.pic_open.proofs.StartLaws.{sound_start}
+use Rattle.pic_open.proofs.DisplacedLaws.{displaced_safe}
 use Rattle.pic_run_laws.specs.KeptDecks.{IsKeptDeck}
 use Rattle.pic_run_laws.proofs.StateFits.{IsGoodState}
 use Rattle.pic_run_laws.proofs.LoadedLaws.{are_loaded, are_listed}

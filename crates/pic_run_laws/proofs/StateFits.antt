@@ -17,7 +17,7 @@ use Rattle.pic_step.specs.SerialRun.{after}
 use Rattle.pic_step.specs.Sound.{IsSound}
 use Rattle.pic_step.proofs.AfterLaws.{after_keeps, after_sound_within}
 use Rattle.pic_record.specs.Readable.{IsReadableStop}
-use Rattle.pic_run.specs.FrameStates.{frame_in, world_in}
+use Rattle.pic_states.specs.FrameStates.{frame_in, world_in}
 use Rattle.pic_run_laws.proofs.Listed.{IsListed}
 
 -- a state of a dump: the numbers that its header says, as many values and particles, and such particles
@@ -85,4 +85,5 @@ loops_after w = after_keeps (λ n u. u.loops ≡ w.loops) w refl (λ n u v to is
 -- such a state stands in its frame, under a header of its loops
 pub stands : (h : HeaderView) (w : World) → IsOfLayout (layout_of h) w → w.loops ≡ h.loops → world_in h (frame_in w) ≡ w
 stands h w of loops =
-    λ i. record w { side = sym of.side i; cells = sym of.cells i; filter = sym of.filter i; loops = sym loops i; scales = sym of.scales i; kinds = sym of.kinds i }
+    λ i. record w { side = sym of.side i; cells = sym of.cells i; filter = sym of.filter i; loops = sym loops i;
+        scales = sym of.scales i; kinds = sym of.kinds i }

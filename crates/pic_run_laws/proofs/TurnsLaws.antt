@@ -11,8 +11,8 @@ use Rattle.pic_record.specs.Due.{is_due, due_after}
 use Rattle.pic_record.specs.DueInTurn.{IsNextDue}
 use Rattle.pic_record.proofs.DueLaws.{due_in_turn}
 use Rattle.pic_record.specs.Layout.{LayoutView}
-use Rattle.pic_run.specs.Frames.{due_states, end_where, end_of_run}
-use Rattle.pic_run.proofs.FrameLaws.{none_due, end_stopped}
+use Rattle.pic_states.specs.Frames.{due_states, end_where, end_of_run}
+use Rattle.pic_states.proofs.FrameLaws.{none_due, end_stopped}
 use Rattle.pic_step.specs.SerialStep.{World}
 use Rattle.pic_step.specs.SerialRun.{after}
 use Rattle.pic_dump.specs.InTurn.{due_step, step_before}

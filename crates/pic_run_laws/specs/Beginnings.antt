@@ -11,7 +11,7 @@ use Rattle.pic_ways.specs.declared.way.Way.{Way}
 use Rattle.pic_ways.specs.Way.{IsWay, way_flux}
 use Rattle.pic_displace.specs.Displace.{has_displaced}
 use Rattle.pic_step.specs.SerialRun.{start_of}
-use Rattle.pic_run.specs.Starting.{first_state}
+use Rattle.pic_open.specs.Starting.{first_state}
 use Rattle.pic_run_laws.specs.KeptDecks.{IsKeptDeck}
 
 -- where no species is displaced, the state 0 has the deck's own fields

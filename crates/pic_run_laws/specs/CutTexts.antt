@@ -4,7 +4,7 @@ use Rattle.std.specs.Prelude.{◌≡◌, ◌↔◌, ℕ, List, slice_get, take, 
 use Rattle.pic_io.specs.declared.side.Side.{Side}
 use Rattle.pic_io.specs.Sink.{AppendedFront}
 use Rattle.pic_io.specs.Sinks.{Sinks, Wrote, Piece, outs, lines, IsCut, CutAt}
-use Rattle.pic_run.specs.Outcome.{Outcome, out_text, report_text, pieces_of}
+use Rattle.pic_report.specs.Outcome.{Outcome, out_text, report_text, pieces_of}
 
 -- n is below the number of pieces: the first n stand whole on both sinks, with their lines, which
 -- leaves the sinks at `mid`, and from there the next one is cut

@@ -8,8 +8,8 @@ use Rattle.pic_line.specs.declared.asked.Command.{Command}
 use Rattle.pic_line.specs.declared.asked.Command.TheVariants.{Check, Run, Probe}
 use Rattle.pic_line.specs.CommandLine.{command_of}
 use Rattle.pic_report.specs.declared.ended.Ended.TheVariants.{Gauss}
-use Rattle.pic_run.specs.Reading.{Given}
-use Rattle.pic_run.specs.Outcome.{accepted}
+use Rattle.pic_report.specs.Reading.{Given}
+use Rattle.pic_open.specs.Stages.{accepted}
 use Rattle.pic_run.specs.Commands.{outcome}
 use Rattle.pic_run_laws.specs.KeptDecks.{IsKeptDeck}
 

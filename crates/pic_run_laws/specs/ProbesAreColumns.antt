@@ -10,7 +10,9 @@ use Rattle.pic_header.specs.Header.{HeaderView}
 use Rattle.pic_probe.specs.ProbeLine.{probe_line}
 use Rattle.pic_record.specs.FrameFields.{FrameView, field_with}
 use Rattle.pic_record.specs.Layout.{LayoutView, layout_of}
-use Rattle.pic_run.specs.Outcome.{Outcome, out_text, tested, on_deck, check_outcome, run_outcome, probe_outcome}
+use Rattle.pic_report.specs.Outcome.{Outcome, out_text}
+use Rattle.pic_open.specs.Stages.{tested}
+use Rattle.pic_run.specs.DeckOutcome.{on_deck, check_outcome, run_outcome, probe_outcome}
 use Rattle.pic_run_laws.specs.KeptDecks.{IsKeptDeck}
 
 -- the deck with a frame of each state, and all else as it is

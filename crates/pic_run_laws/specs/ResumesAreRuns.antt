@@ -7,10 +7,12 @@ use Rattle.pic_deck.specs.Deck.{DeckView}
 use Rattle.pic_line.specs.declared.asked.Command.TheVariants.{Run, Resume}
 use Rattle.pic_line.specs.CommandLine.{command_of}
 use Rattle.pic_resume.specs.Carry.{carry_of}
-use Rattle.pic_run.specs.Reading.{Given, Held}
-use Rattle.pic_run.specs.Outcome.{Outcome, out_text, accepted, tested, run_outcome}
+use Rattle.pic_report.specs.Reading.{Given, Held}
+use Rattle.pic_report.specs.Outcome.{Outcome, out_text}
+use Rattle.pic_open.specs.Stages.{accepted, tested}
+use Rattle.pic_run.specs.DeckOutcome.{run_outcome}
 use Rattle.pic_run.specs.Commands.{outcome}
-use Rattle.pic_run.specs.Resume.{HasRun, resume_of}
+use Rattle.pic_on_dump.specs.Resume.{HasRun, resume_of}
 use Rattle.pic_run_laws.specs.KeptDecks.{IsKeptDeck}
 
 -- the deck with so many steps, and all else as it is

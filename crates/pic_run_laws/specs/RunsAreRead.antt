@@ -2,10 +2,13 @@
 use Rattle.std.specs.Prelude.{◌≡◌, ◌+◌, map, Ok}
 use Rattle.pic_deck.specs.Deck.{DeckView}
 use Rattle.pic_dump.specs.DumpRead.{read_dump}
-use Rattle.pic_run.specs.Frames.{due_states, end_of_run}
-use Rattle.pic_run.specs.Outcome.{out_text, tested, run_outcome}
-use Rattle.pic_run.specs.Starting.{first_state, header_of}
-use Rattle.pic_run.specs.FrameStates.{frame_in}
+use Rattle.pic_states.specs.Frames.{due_states, end_of_run}
+use Rattle.pic_report.specs.Outcome.{out_text}
+use Rattle.pic_open.specs.Stages.{tested}
+use Rattle.pic_run.specs.DeckOutcome.{run_outcome}
+use Rattle.pic_open.specs.Starting.{first_state}
+use Rattle.pic_run.specs.RunHeader.{header_of}
+use Rattle.pic_states.specs.FrameStates.{frame_in}
 use Rattle.pic_run_laws.specs.KeptDecks.{IsKeptDeck}
 
 -- the dump of a deck's run is read as its header, the frames of its due states, and its end

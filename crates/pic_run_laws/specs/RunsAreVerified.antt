@@ -4,10 +4,12 @@ use Rattle.pic_deck.specs.Deck.{DeckView}
 use Rattle.pic_line.specs.declared.asked.Command.TheVariants.{Run, Verify}
 use Rattle.pic_line.specs.CommandLine.{command_of}
 use Rattle.pic_report.specs.declared.ended.Ended.TheVariants.{Verified}
-use Rattle.pic_run.specs.Reading.{Given, Held}
-use Rattle.pic_run.specs.Outcome.{out_text, accepted, tested, run_outcome}
+use Rattle.pic_report.specs.Reading.{Given, Held}
+use Rattle.pic_report.specs.Outcome.{out_text}
+use Rattle.pic_open.specs.Stages.{accepted, tested}
+use Rattle.pic_run.specs.DeckOutcome.{run_outcome}
 use Rattle.pic_run.specs.Commands.{outcome}
-use Rattle.pic_run.specs.Resume.{HasRun}
+use Rattle.pic_on_dump.specs.Resume.{HasRun}
 use Rattle.pic_verify.specs.Verified.{verified}
 use Rattle.pic_run_laws.specs.KeptDecks.{IsKeptDeck}
 

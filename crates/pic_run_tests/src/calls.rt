@@ -1,7 +1,7 @@
 //! Calls in bytes, and with each fault in mid-run.
 
 use crate::trial::{call, check};
-use pic_run::every_state_meets_gauss;
+use pic_states::every_state_meets_gauss;
 use pic_trial::{CALM, EMPTY, Faults, LONE, NEVER, PAIR, Pieces};
 use std::process::Abort;
 use std::thread::Threads;

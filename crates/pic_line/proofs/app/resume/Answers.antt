@@ -1,5 +1,5 @@
-use Rattle.std.proofs.Common.{◌||◌, codes, ap₂, ◌∙◌}
-use Rattle.clap.specs.Words.{new_app, with_rule}
+use Rattle.std.proofs.Common.{◌||◌, ap₂, ◌∙◌}
+use Rattle.clap.specs.Words.{with_rule}
 use Rattle.pic_line.proofs.app.resume.Goals as goal
 
 pub returns : goal.returns

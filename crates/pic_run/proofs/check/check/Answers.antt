@@ -1,8 +1,8 @@
 use Rattle.std.proofs.Common.{length, ap, arith}
 use Rattle.pic_io.specs.Sinks.{sinks}
 use Rattle.pic_step.specs.SerialStep.{World}
-use Rattle.pic_run.specs.Outcome.{check_outcome}
-use Rattle.pic_run.specs.Leaves.{LeavesNothing}
+use Rattle.pic_run.specs.DeckOutcome.{check_outcome}
+use Rattle.pic_report.specs.Leaves.{LeavesNothing}
 use Rattle.pic_run.specs.Check.{CheckMeans}
 use Rattle.pic_run.proofs.DeckLaws.{on_stopped, on_opened}
 use Rattle.pic_run.proofs.check.check.Goals as goal

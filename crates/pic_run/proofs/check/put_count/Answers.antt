@@ -3,7 +3,7 @@ use Rattle.pic_io.specs.Sinks.{sinks, Wrote}
 use Rattle.pic_load.specs.Loading.{loaded}
 use Rattle.pic_report.specs.declared.ended.Ended.TheVariants.{Checked}
 use Rattle.pic_report.specs.Lines.{check_line}
-use Rattle.pic_run.proofs.RunLaws.{wrote_one}
+use Rattle.pic_report.proofs.PieceLaws.{wrote_one}
 use Rattle.pic_run.proofs.check.put_count.Goals as goal
 
 pub returns : goal.returns

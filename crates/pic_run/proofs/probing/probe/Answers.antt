@@ -1,10 +1,11 @@
 use Rattle.std.proofs.Common.{subst, inl}
 use Rattle.pic_io.specs.Sinks.{sinks}
 use Rattle.pic_step.specs.SerialStep.{World}
-use Rattle.pic_run.specs.declared.output.Output.TheVariants.{Probe}
-use Rattle.pic_run.specs.Outcome.{shown_outcome, probe_outcome}
-use Rattle.pic_run.specs.Leaves.{LeavesWhole}
-use Rattle.pic_run.specs.Finishes.{Finishes}
+use Rattle.pic_states.specs.declared.output.Output.TheVariants.{Probe}
+use Rattle.pic_states.specs.StatesOutcome.{shown_outcome}
+use Rattle.pic_run.specs.DeckOutcome.{probe_outcome}
+use Rattle.pic_report.specs.Leaves.{LeavesWhole}
+use Rattle.pic_report.specs.Finishes.{Finishes}
 use Rattle.pic_run.specs.OnDeck.{HasDeck, RunMeans}
 use Rattle.pic_run.proofs.DeckLaws.{on_stopped, on_opened}
 use Rattle.pic_run.proofs.probing.probe.Goals as goal
@@ -18,7 +19,8 @@ returns-in-Ok g c =
     let leaves = LeavesWhole c.args.workers in
     on_opened probe_outcome leaves (λ call. RunMeans (HasDeck call)) c.in-Ok.opened (g.S.Source.told c.args.source.now) (g.S.Source.told c.open.new.source)
     before now c.watch_deck.result opens
-    (subst (λ (w : World). Finishes leaves (shown_outcome (Probe d.probes) d.steps 1 w) before now c.watch_deck.result) opens.opens.start c.watch_deck.ensures)
+    (subst (λ (w : World). Finishes leaves (shown_outcome (Probe d.probes) d.steps 1 w) before now c.watch_deck.result)
+        opens.opens.begins.start c.watch_deck.ensures)
 
 pub returns-in-Err : goal.returns-in-Err
 returns-in-Err g c =

@@ -4,11 +4,11 @@ use Rattle.pic_devices.specs.declared.probes.Probes.{Probes}
 use Rattle.pic_io.specs.Sinks.{sinks}
 use Rattle.pic_io.proofs.Puts.{wrote_none}
 use Rattle.pic_step.specs.Start.{begun}
-use Rattle.pic_run.specs.declared.output.Output.TheVariants.{Probe}
-use Rattle.pic_run.specs.Outcome.{shown_outcome}
-use Rattle.pic_run.specs.Leaves.{LeavesWhole}
-use Rattle.pic_run.specs.Finishes.{Finishes}
-use Rattle.pic_run.specs.Rooms.{CanPut}
+use Rattle.pic_states.specs.declared.output.Output.TheVariants.{Probe}
+use Rattle.pic_states.specs.StatesOutcome.{shown_outcome}
+use Rattle.pic_report.specs.Leaves.{LeavesWhole}
+use Rattle.pic_report.specs.Finishes.{Finishes}
+use Rattle.pic_states.specs.Rooms.{CanPut}
 use Rattle.pic_run.proofs.probing.watch_deck.Goals as goal
 
 pub returns-in_err-copy_of : goal.returns-in_err-copy_of

@@ -1,10 +1,11 @@
 use Rattle.std.proofs.Common.{subst, inl}
 use Rattle.pic_io.specs.Sinks.{sinks}
 use Rattle.pic_step.specs.SerialStep.{World}
-use Rattle.pic_run.specs.Outcome.{run_outcome, dump_outcome}
-use Rattle.pic_run.specs.Starting.{header_of}
-use Rattle.pic_run.specs.Leaves.{LeavesWhole}
-use Rattle.pic_run.specs.Finishes.{Finishes}
+use Rattle.pic_run.specs.DeckOutcome.{run_outcome}
+use Rattle.pic_states.specs.StatesOutcome.{dump_outcome}
+use Rattle.pic_run.specs.RunHeader.{header_of}
+use Rattle.pic_report.specs.Leaves.{LeavesWhole}
+use Rattle.pic_report.specs.Finishes.{Finishes}
 use Rattle.pic_run.specs.OnDeck.{HasDeck, RunMeans}
 use Rattle.pic_run.proofs.DeckLaws.{on_stopped, on_opened}
 use Rattle.pic_run.proofs.running.run.Goals as goal
@@ -18,7 +19,7 @@ returns-in-Ok g c =
     let leaves = LeavesWhole c.args.workers in
     on_opened run_outcome leaves (λ call. RunMeans (HasDeck call)) c.in-Ok.opened (g.S.Source.told c.args.source.now) (g.S.Source.told c.open.new.source)
     before now c.run_deck.result opens
-    (subst (λ (w : World). Finishes leaves (dump_outcome (header_of d) w) before now c.run_deck.result) opens.opens.start c.run_deck.ensures)
+    (subst (λ (w : World). Finishes leaves (dump_outcome (header_of d) w) before now c.run_deck.result) opens.opens.begins.start c.run_deck.ensures)
 
 pub returns-in-Err : goal.returns-in-Err
 returns-in-Err g c =

@@ -2,12 +2,13 @@ use Rattle.std.proofs.Common.{ℕ, [], subst}
 use Rattle.pic_io.specs.Sinks.{sinks}
 use Rattle.pic_io.proofs.Puts.{wrote_out}
 use Rattle.pic_header.specs.HeaderText.{header_bytes}
-use Rattle.pic_run.specs.declared.output.Output.TheVariants.{Dump}
-use Rattle.pic_run.specs.Frames.{frames_of, end_of_run, end_piece}
-use Rattle.pic_run.specs.Outcome.{states_outcome}
-use Rattle.pic_run.specs.Runs.{WritesStates}
+use Rattle.pic_states.specs.declared.output.Output.TheVariants.{Dump}
+use Rattle.pic_states.specs.Frames.{frames_of, end_of_run, end_piece}
+use Rattle.pic_states.specs.StatesOutcome.{states_outcome}
+use Rattle.pic_states.specs.Runs.{WritesStates}
 use Rattle.pic_dump.proofs.TextLaws.{header_some}
-use Rattle.pic_run.proofs.RunLaws.{headed, head_cut}
+use Rattle.pic_states.proofs.RunLaws.{headed}
+use Rattle.pic_report.proofs.PieceLaws.{head_cut}
 use Rattle.pic_run.proofs.running.write_run.Goals as goal
 
 pub returns-in-Ok : goal.returns-in-Ok

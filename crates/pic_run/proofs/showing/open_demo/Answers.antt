@@ -1,7 +1,7 @@
 use Rattle.std.proofs.Common.{Err, ap, subst, ◌∙◌}
 use Rattle.std.proofs.lemmas.Result.{err_from_is_err_and}
 use Rattle.pic_deck.specs.Deck.{DeckView}
-use Rattle.pic_run.specs.Opened.{Tests}
+use Rattle.pic_open.specs.Opened.{Tests}
 use Rattle.pic_run.proofs.showing.open_demo.Goals as goal
 
 pub returns-in_err-deck : goal.returns-in_err-deck

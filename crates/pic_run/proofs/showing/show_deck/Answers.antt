@@ -1,10 +1,10 @@
 use Rattle.std.proofs.Common.{ℕ, subst}
 use Rattle.pic_io.specs.Sinks.{sinks}
 use Rattle.pic_step.specs.Start.{begun}
-use Rattle.pic_run.specs.declared.output.Output.TheVariants.{Lines}
-use Rattle.pic_run.specs.Outcome.{shown_outcome}
-use Rattle.pic_run.specs.Leaves.{LeavesWhole}
-use Rattle.pic_run.specs.Finishes.{Finishes}
+use Rattle.pic_states.specs.declared.output.Output.TheVariants.{Lines}
+use Rattle.pic_states.specs.StatesOutcome.{shown_outcome}
+use Rattle.pic_report.specs.Leaves.{LeavesWhole}
+use Rattle.pic_report.specs.Finishes.{Finishes}
 use Rattle.pic_run.proofs.showing.show_deck.Goals as goal
 
 pub returns : goal.returns

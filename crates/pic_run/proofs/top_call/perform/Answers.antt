@@ -4,11 +4,11 @@ use Rattle.pic_line.specs.declared.asked.Command.TheVariants.{Check, Run, Verify
 use Rattle.pic_line.specs.CommandLine.{command_of}
 use Rattle.pic_report.specs.declared.ended.Ended.TheVariants.{Usage}
 use Rattle.pic_report.specs.Ended.{ended_of}
-use Rattle.pic_run.specs.Outcome.{early_outcome}
-use Rattle.pic_run.specs.Leaves.{LeavesNothing}
-use Rattle.pic_run.proofs.EndLaws.{announced, untouched}
+use Rattle.pic_report.specs.Outcome.{early_outcome}
+use Rattle.pic_report.specs.Leaves.{LeavesNothing}
+use Rattle.pic_report.proofs.EndLaws.{announced}
+use Rattle.pic_run.proofs.UntakenLaws.{untouched}
 use Rattle.pic_run.proofs.CommandLaws.{by_name, starved_words}
-use Rattle.pic_run.proofs.WorkerLaws.{run_workers, demo_workers, resume_workers, probe_workers}
 use Rattle.pic_run.proofs.top_call.perform.Goals as goal
 
 pub returns-in-Ok-Check : goal.returns-in-Ok-Check
@@ -66,37 +66,25 @@ returns-in-Err-NoMemory g c =
     (sinks (g.O.Sink.told c.args.out.now) (g.R.Sink.told c.args.report.now))
 
 pub run-requires-clause-some : goal.run-requires-clause-some
-run-requires-clause-some g c κs within =
-    let has = run_workers (map string_bytes c.args.words.now) c.in-Ok-Run.workers (rw c.in-Ok-Run.field-0-is at c.in-Ok-Run.ensures.ok) in has.some
+run-requires-clause-some g c κs within = let has = rw c.in-Ok-Run.field-0-is at c.in-Ok-Run.ensures.workers in has.some
 
 pub run-requires-clause-most : goal.run-requires-clause-most
-run-requires-clause-most g c κs within =
-    let has = run_workers (map string_bytes c.args.words.now) c.in-Ok-Run.workers (rw c.in-Ok-Run.field-0-is at c.in-Ok-Run.ensures.ok) in has.most
+run-requires-clause-most g c κs within = let has = rw c.in-Ok-Run.field-0-is at c.in-Ok-Run.ensures.workers in has.most
 
 pub demo-requires-clause-some : goal.demo-requires-clause-some
-demo-requires-clause-some g c κs within =
-    let has = demo_workers (map string_bytes c.args.words.now) c.in-Ok-Demo.seed c.in-Ok-Demo.workers (rw c.in-Ok-Demo.field-0-is at c.in-Ok-Demo.ensures.ok) in has.some
+demo-requires-clause-some g c κs within = let has = rw c.in-Ok-Demo.field-0-is at c.in-Ok-Demo.ensures.workers in has.some
 
 pub demo-requires-clause-most : goal.demo-requires-clause-most
-demo-requires-clause-most g c κs within =
-    let has = demo_workers (map string_bytes c.args.words.now) c.in-Ok-Demo.seed c.in-Ok-Demo.workers (rw c.in-Ok-Demo.field-0-is at c.in-Ok-Demo.ensures.ok) in has.most
+demo-requires-clause-most g c κs within = let has = rw c.in-Ok-Demo.field-0-is at c.in-Ok-Demo.ensures.workers in has.most
 
 pub resume-requires-clause-some : goal.resume-requires-clause-some
-resume-requires-clause-some g c κs within =
-    let has = resume_workers (map string_bytes c.args.words.now) c.in-Ok-Resume.steps c.in-Ok-Resume.workers c.in-Ok-Resume.tiles
-    (rw c.in-Ok-Resume.field-0-is at c.in-Ok-Resume.ensures.ok) in
-    has.some
+resume-requires-clause-some g c κs within = let has = rw c.in-Ok-Resume.field-0-is at c.in-Ok-Resume.ensures.workers in has.some
 
 pub resume-requires-clause-most : goal.resume-requires-clause-most
-resume-requires-clause-most g c κs within =
-    let has = resume_workers (map string_bytes c.args.words.now) c.in-Ok-Resume.steps c.in-Ok-Resume.workers c.in-Ok-Resume.tiles
-    (rw c.in-Ok-Resume.field-0-is at c.in-Ok-Resume.ensures.ok) in
-    has.most
+resume-requires-clause-most g c κs within = let has = rw c.in-Ok-Resume.field-0-is at c.in-Ok-Resume.ensures.workers in has.most
 
 pub probe-requires-clause-some : goal.probe-requires-clause-some
-probe-requires-clause-some g c κs within =
-    let has = probe_workers (map string_bytes c.args.words.now) c.in-Ok-Probe.workers (rw c.in-Ok-Probe.field-0-is at c.in-Ok-Probe.ensures.ok) in has.some
+probe-requires-clause-some g c κs within = let has = rw c.in-Ok-Probe.field-0-is at c.in-Ok-Probe.ensures.workers in has.some
 
 pub probe-requires-clause-most : goal.probe-requires-clause-most
-probe-requires-clause-most g c κs within =
-    let has = probe_workers (map string_bytes c.args.words.now) c.in-Ok-Probe.workers (rw c.in-Ok-Probe.field-0-is at c.in-Ok-Probe.ensures.ok) in has.most
+probe-requires-clause-most g c κs within = let has = rw c.in-Ok-Probe.field-0-is at c.in-Ok-Probe.ensures.workers in has.most

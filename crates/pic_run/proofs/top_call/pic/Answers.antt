@@ -1,6 +1,6 @@
 use Rattle.std.proofs.Common.{map, string_bytes, sym, subst}
 use Rattle.pic_io.specs.Sinks.{sinks}
-use Rattle.pic_run.specs.Manner.{call}
+use Rattle.pic_report.specs.Manner.{call}
 use Rattle.pic_run.specs.Ends.{Ends}
 use Rattle.pic_run.proofs.MeaningLaws.{complete, means}
 use Rattle.pic_run.proofs.top_call.pic.Goals as goal

@@ -1,0 +1,4 @@
+pub mod CarriedLaws
+pub mod ResumeLaws
+pub mod UpgradeLaws
+pub mod VerifyLaws

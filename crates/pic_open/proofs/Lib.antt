@@ -1,0 +1,4 @@
+pub mod DisplacedLaws
+pub mod OpenedLaws
+pub mod StartLaws
+pub mod TakenLaws

@@ -1,0 +1,6 @@
+pub mod DeckEnd
+pub mod DeckReading
+pub mod Opened
+pub mod Stages
+pub mod Starting
+pub mod Stops

@@ -1,0 +1,4 @@
+pub mod FrameLaws
+pub mod RoomLaws
+pub mod RunLaws
+pub mod StateLaws
