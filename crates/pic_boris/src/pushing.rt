@@ -23,6 +23,7 @@ use pic_num::{MAX_SPEED, MAX_TURN, Mult, Sub, What};
 /// `Speed` where a component of the velocity after half of the kick is above 2^40 in size, else
 /// `Turn` where one of the turn is above 2^24, else `Far` where one of the move is above the side of
 /// a cell; each on the first axis of x, y, z that fails.
+#[inline(always)]
 pub fn push(
     sub: Sub,
     v: [i32; 3],

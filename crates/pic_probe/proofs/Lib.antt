@@ -1,2 +1,3 @@
-mod LineLaws
+pub mod LineLaws
 mod ColumnLaws
+pub mod SameLineLaws

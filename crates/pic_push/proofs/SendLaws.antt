@@ -147,7 +147,7 @@ unfolding trace_of
 no_trace w x h a c is = ap (λ (r : Result Shift Halting). trace_of w.side w.kinds x r a c) (sym is)
 
 -- stays as it was
-stays : (w : Surroundings) (x : Particle) (h : Halting) → push_of w x ≡ Err h → x ≡ after_its_push w x
+pub stays : (w : Surroundings) (x : Particle) (h : Halting) → push_of w x ≡ Err h → x ≡ after_its_push w x
 unfolding after_its_push after_push
 stays w x h is = ap (λ (r : Result Shift Halting). after_push w.side w.cells x r) (sym is)
 

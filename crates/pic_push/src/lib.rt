@@ -6,6 +6,7 @@ mod charged_path;
 mod feeling;
 mod laws;
 mod leading;
+mod lone_push;
 mod moves;
 mod node_push;
 mod reach;
@@ -18,5 +19,6 @@ mod tile_push;
 pub use laws::{
     layers_make_the_current, sums_grow_by_particles, sums_keep_the_bound, the_way_leads_to_the_tile,
 };
+pub use lone_push::push_alone;
 pub use stop_order::{least_stop, lesser};
 pub use tile_push::push_tile;

@@ -40,6 +40,7 @@ fn wrapped_by(side: u32, n: u32, at: u32, d: i32) -> u32
 }
 
 /// A particle after its move, wrapped into the box.
+#[inline(always)]
 #[tactic(auto, unfolding(pic_grid::specs::PushPhase::moved))]
 pub(crate) fn moved(sub: Sub, cells: Cells, particle: &Particle, by: &Moved) -> Particle
     requires { IsInBox sub cells.n (triple particle.now.x) }

@@ -28,6 +28,7 @@ use Rattle.pic_step.specs.PushOn.{CanPush}
 use Rattle.pic_step.specs.SerialStep.{World, world_of}
 use Rattle.pic_step.specs.Sound.{IsSafe, IsSound}
 use Rattle.pic_step.specs.Tiled.{AreTilesOf}
+use Rattle.pic_step.specs.Tracers.{IsOf}
 use Rattle.pic_step.proofs.OnePartLaws.{safe_parts}
 use Rattle.pic_step.proofs.PlasmaLaws.{particles_are}
 
@@ -41,7 +42,7 @@ above_zero w sound = let least = sound.side_least in omega (arith, least)
 -- where its particles are cut into tiles, the state is that of its parts
 module _ (step filter : ℕ) (loops : List Loop) (m : Tiling) (scales : Scales) (kinds : List Kind) (e b : Field) (xs : List Particle) (p : Plasma) (map : IsMap m)
     (sound : IsSound (world_of step (grid_of_tiling m) filter loops scales kinds e.values b.values xs)) (tiled : AreTiled m e b) (of_map : p.frame.map ≡ m)
-    (of_filter : filter_in p.smooth ≡ filter) (of_kinds : p.frame.kinds ≡ kinds) (ready : IsPlasma xs p) where
+    (of_filter : filter_in p.smooth ≡ filter) (of_kinds : p.frame.kinds ≡ kinds) (ready : IsPlasma xs p) (of : All (IsOf xs) p.tracers.items) where
   list_is : all_particles p.tiles.items ≡ xs
   list_is =
       let w = world_of step (grid_of_tiling m) filter loops scales kinds e.values b.values xs in
@@ -56,6 +57,7 @@ module _ (step filter : ℕ) (loops : List Loop) (m : Tiling) (scales : Scales) 
     sound = subst IsSound (sym begun_is) sound;
     tiled = subst (λ (n : Tiling). AreTiled n e b) (sym of_map) tiled;
     plasma = subst (λ (ys : List Particle). IsPlasma ys p) (sym list_is) ready;
+    tracers = subst (λ (ys : List Particle). All (IsOf ys) p.tracers.items) (sym list_is) of;
   }
 
 -- the census of the tiles of a state
@@ -107,6 +109,7 @@ can_push step loops scales e b c p keeps tiled_c safe =
         can = keeps.sound.places;
         few = keeps.sound.few;
       };
+      tracers = keeps.tracers;
     }
 
 -- the state of the parts that a step leaves

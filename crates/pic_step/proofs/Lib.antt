@@ -18,3 +18,5 @@ pub mod KeepLaws
 pub mod AfterLaws
 pub mod RoomLaws
 pub mod SwapLaws
+pub mod TracerLaws
+pub mod LookLaws

@@ -1,5 +1,5 @@
 -- The force values of safe fields, and the push of the particles that feel them.
-use Rattle.std.proofs.Common.{◌≡◌, ◌≤◌, List, length, All, Option, refl, sym, ap, ◌∙◌, subst}
+use Rattle.std.proofs.Common.{◌≡◌, ◌≤◌, List, Vec, Global, length, All, Option, refl, sym, ap, ◌∙◌, subst}
 use Rattle.std.specs.Option.{IfSome}
 use Rattle.std.proofs.Math.IntN.{ℤ}
 use Rattle.pic_num.specs.Limits.{most_force, most_particles}
@@ -15,7 +15,7 @@ use Rattle.pic_grid.specs.Lattice.{Field, value_at, field_of}
 use Rattle.pic_grid.specs.Cells.{IsWithin, count_of}
 use Rattle.pic_grid.specs.Parts.{layered}
 use Rattle.pic_num.specs.Space.{Triple}
-use Rattle.pic_grid.specs.PushPhase.{Surroundings, CanShare}
+use Rattle.pic_grid.specs.PushPhase.{Surroundings, CanShare, moved_all}
 use Rattle.pic_grid.proofs.LatticeLaws.{value_at-field_of}
 use Rattle.pic_tile.specs.InOrder.{AreOrdered}
 use Rattle.pic_tile.specs.CoreState.{all_particles, IsOpening}
@@ -30,7 +30,7 @@ use Rattle.pic_step.specs.Kept.{IsTiled}
 use Rattle.pic_step.specs.Plasma.{IsPlasma}
 use Rattle.pic_step.specs.PushOn.{around_fields, ArePushed, HasPushed}
 use Rattle.pic_step.specs.Sound.{IsSafe}
-use Rattle.pic_step.proofs.FeltLaws.{around_by, pushed_same}
+use Rattle.pic_step.proofs.FeltLaws.{around_by, moved_same, pushed_same}
 
 -- the force values of a field, on the cells of a map
 pub forced : (m : Tiling) (by : Multiplier) (f r : Field) (parts : Triple) → IsTiled m f → parts ≡ layered (cells_of m)
@@ -73,10 +73,10 @@ opening_moves f g ts us map kinds same open' = record {
 }
 
 -- pushed in that frame, they are pushed by the fields
-pub pushed_by_fields : (p q : Plasma) (scales : Scales) (e b : Field) (f : FrameValue) (stop : Option Stop)
+pub pushed_by_fields : (p q : Plasma) (scales : Scales) (e b : Field) (f : FrameValue) (ts : Vec Particle Global) (stop : Option Stop)
     → IsTiled p.frame.map e → f ≡ with_forces_of p.frame.map p.frame.kinds scales e b
-    → HasPushed (felt_in f) (record p { frame = f }) q stop → HasPushed (around_fields scales p.frame.kinds e b) p q stop
-pushed_by_fields p q scales e b f stop tiled is h =
+    → HasPushed (felt_in f) (record p { frame = f; tracers = ts }) q stop → HasPushed (around_fields scales p.frame.kinds e b) p q stop
+pushed_by_fields p q scales e b f ts stop tiled is h =
     let m = p.frame.map in
     let kinds = p.frame.kinds in
     let xs = all_particles p.tiles.items in
@@ -96,11 +96,23 @@ pushed_by_fields p q scales e b f stop tiled is h =
           (λ i. around_by (sym tiled.side i) kinds (sym tiled.cells i) of_e of_b) by;
     }
 
+-- and each is moved as by these
+pub moved_by_fields : (p : Plasma) (scales : Scales) (e b : Field) (f : FrameValue) (xs : List Particle) → IsTiled p.frame.map e
+    → f ≡ with_forces_of p.frame.map p.frame.kinds scales e b → moved_all (felt_in f) xs ≡ moved_all (around_fields scales p.frame.kinds e b) xs
+moved_by_fields p scales e b f xs tiled is =
+    let m = p.frame.map in
+    let kinds = p.frame.kinds in
+    let of_e : Axis → Triple → ℤ = force_of scales.e_force (value_at e) in
+    let of_b : Axis → Triple → ℤ = force_of scales.b_force (value_at b) in
+    ap (λ (g : FrameValue). moved_all (felt_in g) xs) is ∙ moved_same m.side kinds (cells_of m) of_e of_b xs
+    ∙ (λ i. moved_all (around_by (sym tiled.side i) kinds (sym tiled.cells i) of_e of_b) xs)
+
 -- what is ready for a push is so in a frame of the same map
-pub ready_moves : (p : Plasma) (f : FrameValue) (xs : List Particle) → f.map ≡ p.frame.map → f.force_e.parts ≡ layered (cells_of p.frame.map)
+pub ready_moves : (p : Plasma) (f : FrameValue) (ts : Vec Particle Global) (xs : List Particle) → f.map ≡ p.frame.map
+    → f.force_e.parts ≡ layered (cells_of p.frame.map)
     → IsPlasma xs p
-    → IsPlasma xs (record p { frame = f })
-ready_moves p f xs map parts ready = record {
+    → IsPlasma xs (record p { frame = f; tracers = ts })
+ready_moves p f ts xs map parts ready = record {
   tiles = subst (λ (m : Tiling). AreFreshTiles m xs p.tiles.items) (sym map) ready.tiles;
   room = subst (λ (m : Tiling). IsScratch m p.room) (sym map) ready.room;
   parts = parts ∙ ap (λ (m : Tiling). layered (cells_of m)) (sym map);

@@ -19,8 +19,8 @@ use Rattle.pic_step.specs.Exchange.{HasExchanged}
 pub core_exchanges : (old new : Plasma) (s t : CoreState) (events : List Event) → IsAtStart old.frame old.tiles.items s → Ran s events t → new.frame ≡ t.frame
     → AreExchanged (felt_in t.frame) t.frame.map (all_particles t.opening) new.tiles.items
     → ((r : ℕ) → r < tile_count t → AllAtMost most_flux (flux_at (tile_in new.tiles.items r) here)) → IsScratch t.frame.map new.room
-    → new.spare ≡ old.spare → new.smooth ≡ old.smooth → new.count ≡ old.count → HasExchanged old new
-core_exchanges old new s t events opened ran frame exchanged bound room spare smooth count =
+    → new.spare ≡ old.spare → new.smooth ≡ old.smooth → new.tracers ≡ old.tracers → new.count ≡ old.count → HasExchanged old new
+core_exchanges old new s t events opened ran frame exchanged bound room spare smooth tracers count =
     let frame_is = ran_frame s events t ran ∙ opened.frame in
     let opening_is = ran_opening s events t ran ∙ opened.opening in
     record {
@@ -31,5 +31,6 @@ core_exchanges old new s t events opened ran frame exchanged bound room spare sm
       room = subst (λ (f : FrameValue). IsScratch f.map new.room) frame_is room;
       spare = spare;
       smooth = smooth;
+      tracers = tracers;
       count = count;
     }

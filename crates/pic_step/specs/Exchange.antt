@@ -23,6 +23,7 @@ pub record HasExchanged (old new : Plasma) : Type 0 where
   pub room : IsScratch old.frame.map new.room
   pub spare : new.spare ≡ old.spare
   pub smooth : new.smooth ≡ old.smooth
+  pub tracers : new.tracers ≡ old.tracers
   pub count : new.count ≡ old.count
 
 -- what so many workers answer: want of memory more than one alone

@@ -1,5 +1,5 @@
 -- What the state of a run is seen as, and what its type keeps.
-use Rattle.std.specs.Prelude.{◌≡◌, ℕ, List}
+use Rattle.std.specs.Prelude.{◌≡◌, ℕ, List, All}
 use Rattle.pic_num.specs.declared.mult.Scales.{Scales}
 use Rattle.pic_grid.specs.declared.loops.Loop.{Loop}
 use Rattle.pic_grid.specs.Lattice.{Field}
@@ -10,6 +10,7 @@ use Rattle.pic_filter.specs.Smoothing.{filter_in}
 use Rattle.pic_step.specs.Plasma.{IsPlasma}
 use Rattle.pic_step.specs.SerialStep.{World, world_of}
 use Rattle.pic_step.specs.Sound.{IsSound}
+use Rattle.pic_step.specs.Tracers.{IsOf}
 
 -- a lattice on the cells of a map, with one part for each of its tiles
 pub record IsTiled (m : Tiling) (f : Field) : Type 0 where
@@ -30,8 +31,9 @@ seen step loops scales e b p =
     b.values
     (all_particles p.tiles.items)
 
--- it is sound, its fields lie in the tiles, and its particles are ready for their push
+-- it is sound, its fields lie in the tiles, its particles are ready for their push, and those that are followed are of them
 pub record IsKept (step : ℕ) (loops : List Loop) (scales : Scales) (e b : Field) (p : Plasma) : Type 0 where
   pub sound : IsSound (seen step loops scales e b p)
   pub tiled : AreTiled p.frame.map e b
   pub plasma : IsPlasma (all_particles p.tiles.items) p
+  pub tracers : All (IsOf (all_particles p.tiles.items)) p.tracers.items

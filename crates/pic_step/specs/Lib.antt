@@ -1,5 +1,7 @@
 pub mod SerialStep
 pub mod StateView
+pub mod Tracers
+pub mod Shown
 pub mod Sound
 pub mod SerialRun
 pub mod Start

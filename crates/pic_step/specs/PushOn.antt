@@ -1,5 +1,5 @@
 -- What the push phase of a state leaves.
-use Rattle.std.specs.Prelude.{◌≡◌, ◌<◌, List, Option}
+use Rattle.std.specs.Prelude.{◌≡◌, ◌<◌, List, All, Option}
 use Rattle.pic_num.specs.declared.motion.Kind.{Kind}
 use Rattle.pic_num.specs.declared.motion.Particle.{Particle}
 use Rattle.pic_num.specs.declared.axis.Axis.{Axis}
@@ -19,6 +19,7 @@ use Rattle.pic_step.specs.TileFlux.{flux_in}
 use Rattle.pic_step.specs.Kept.{AreTiled}
 use Rattle.pic_step.specs.Plasma.{IsPlasma, HasFlux}
 use Rattle.pic_step.specs.Sound.{IsSafe}
+use Rattle.pic_step.specs.Tracers.{IsOf}
 
 -- what is around the particles, by the fields E and B
 abbrev pub around_fields : Scales → List Kind → Field → Field → Surroundings
@@ -39,6 +40,7 @@ pub record CanPush (scales : Scales) (e b : Field) (p : Plasma) : Type 0 where
   pub safe_b : IsSafe scales.b_force b
   pub plasma : IsPlasma (all_particles p.tiles.items) p
   pub opening : IsOpening p.frame p.tiles.items
+  pub tracers : All (IsOf (all_particles p.tiles.items)) p.tracers.items
 
 -- the particles are pushed, their stop is known, and the flux of their tiles is the current
 pub record ArePushed (w : Surroundings) (m : Tiling) (old : List Particle) (tiles : List TileValue)

@@ -48,6 +48,7 @@ fn in_turn<G: Gate>(plasma: Plasma, gate: &G) -> Plasma
         spare,
         room,
         smooth,
+        tracers,
         count,
     } = plasma;
     let mut core = Core::begin(frame, tiles, room);
@@ -59,6 +60,7 @@ fn in_turn<G: Gate>(plasma: Plasma, gate: &G) -> Plasma
         spare,
         room,
         smooth,
+        tracers,
         count,
     }
 }
@@ -79,6 +81,7 @@ fn at_board<H: Threads + Sync, G: Gate + Sync>(
         spare,
         room,
         smooth,
+        tracers,
         count,
     } = plasma;
     let done = on_board(team, alloc, frame, tiles)?;
@@ -89,6 +92,7 @@ fn at_board<H: Threads + Sync, G: Gate + Sync>(
         spare,
         room,
         smooth,
+        tracers,
         count,
     })
 }

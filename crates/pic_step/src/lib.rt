@@ -3,12 +3,14 @@
 
 mod exchanging;
 mod laws;
+mod looking;
 mod plasma;
 mod push_phase;
 mod start;
 mod state;
 mod stepping;
 mod tile_flux;
+mod tracers;
 mod write;
 
 pub use laws::{

@@ -10,14 +10,17 @@ ghost use Rattle.pic_grid.specs.Parts.{layered};
 ghost use Rattle.pic_filter.specs.Smoothing.{filtered, filter_in};
 ghost use Rattle.pic_field.specs.FieldPhases.{full_of, no_drive, most_raised};
 ghost use Rattle.pic_tile.specs.CoreState.{all_particles};
+ghost use Rattle.pic_tile.specs.InOrder.{AreOrdered};
 ghost use Rattle.pic_tile.specs.Tiling.{cells_of};
 ghost use Rattle.pic_advance.specs.Current.{LiesOn};
 ghost use Rattle.pic_advance.specs.Phases.{Advances};
 ghost use Rattle.pic_step.specs.TileFlux.{flux_in};
+ghost use Rattle.pic_step.specs.Tracers.{IsOf, identities};
 ghost use Rattle.pic_step.specs.Plasma.{HasFlux, IsPlasma};
 
 use crate::start::tiled_lattice;
 use crate::tile_flux::{spare_blocks, swap_each_flux};
+use crate::tracers::tracers_of;
 use pic_advance::{Current, drive_e};
 use pic_core::Scratch;
 use pic_grid::{Block, Lattice, Phase, Stop};
@@ -29,8 +32,9 @@ use std::thread::Threads;
 
 /// The particles of a state in tiles, so many in all, and what their push works with: the frame, the
 /// room in which one worker's tiles receive parcels, a block for each tile, which stands in it
-/// while its flux is elsewhere, and where the current is filtered a lattice for that. All this memory
-/// is taken once; the board of two or more workers is made anew in each step.
+/// while its flux is elsewhere, and where the current is filtered a lattice for that. Beside them the
+/// particles that the run follows stand once more, so that none is looked for in the tiles. All this
+/// memory is taken once; the board of two or more workers is made anew in each step.
 #[derive(Drop)]
 pub struct Plasma {
     pub frame: Frame,
@@ -38,38 +42,46 @@ pub struct Plasma {
     pub spare: Vec<Block>,
     pub room: Scratch,
     pub smooth: Option<Lattice>,
+    pub tracers: Vec<Particle>,
     pub count: u32,
 }
 
 impl Plasma {
     /// These particles, of these kinds, cut into the tiles of a map, whose current is filtered so. Their
-    /// positions lie in the box.
+    /// positions lie in the box. Those with these identities are followed.
     pub fn new(
         alloc: Global,
         map: TileMap,
         filter: u32,
         kinds: Kinds,
         particles: &[Particle],
+        ids: &[u32],
     ) -> Result<Plasma, NoMemory>
         requires inside { All (λ p. IsInBox map.side (cells_of map) (triple p.x)) particles.now }
         requires few { length particles.now ≤ most_particles }
         requires filter { filter ≤ most_filter }
+        requires ordered { AreOrdered particles.now }
+        requires ids { All (λ id. id < length particles.now) ids.now }
         ensures map { IfOk result (λ p. p.frame.map ≡ map) }
         ensures filter { IfOk result (λ p. filter_in p.smooth ≡ filter) }
         ensures kinds { IfOk result (λ p. p.frame.kinds ≡ kinds) }
         ensures plasma { IfOk result (IsPlasma particles.now) }
+        ensures tracers { IfOk result (λ p. All (IsOf particles.now) p.tracers.items) }
+        ensures followed { IfOk result (λ p. identities p.tracers.items ≡ ids.now) }
     {
         let tiles = cut(alloc, &map, particles)?;
         let spare = spare_blocks(alloc, tiles.len())?;
         let room = Scratch::new(alloc, map)?;
         let frame = frame_for(alloc, map, kinds)?;
         let smooth = smooth_for(alloc, map, filter)?;
+        let tracers = tracers_of(alloc, ids, particles)?;
         Ok(Plasma {
             frame,
             tiles,
             spare,
             room,
             smooth,
+            tracers,
             count: particles.len() as u32,
         })
     }
@@ -97,6 +109,7 @@ impl Plasma {
             result.0 }
         ensures frame { result.1.frame ≡ self.frame }
         ensures filter { filter_in result.1.smooth ≡ filter_in self.smooth }
+        ensures tracers { result.1.tracers ≡ self.tracers }
         ensures particles { all_particles result.1.tiles.items ≡ all_particles self.tiles.items }
         ensures plasma { IsPlasma (all_particles self.tiles.items) result.1 }
     {
@@ -106,6 +119,7 @@ impl Plasma {
             mut spare,
             room,
             smooth,
+            tracers,
             count,
         } = self;
         let map = frame.map();
@@ -124,6 +138,7 @@ impl Plasma {
             spare,
             room,
             smooth,
+            tracers,
             count,
         };
         (e, plasma)

@@ -4,6 +4,7 @@ ghost use Rattle.std.specs.Prelude.{◌≡◌, ◌<◌, IfOk, IsErr};
 ghost use Rattle.pic_grid.specs.Gather.{force_of};
 ghost use Rattle.pic_grid.specs.Lattice.{value_at, field_of};
 ghost use Rattle.pic_grid.specs.Parts.{layered};
+ghost use Rattle.pic_grid.specs.PushPhase.{moved_all};
 ghost use Rattle.pic_tile.specs.CoreState.{all_particles, IsOpening};
 ghost use Rattle.pic_tile.specs.Frame.{felt_in};
 ghost use Rattle.pic_tile.specs.Tiling.{cells_of, grid_of_tiling};
@@ -14,6 +15,7 @@ ghost use Rattle.pic_step.specs.Sound.{IsSafe};
 
 use crate::exchanging::push_and_exchange;
 use crate::plasma::Plasma;
+use crate::tracers::push_tracers;
 use pic_advance::force_values;
 use pic_gate::Gate;
 use pic_grid::{Lattice, Stop};
@@ -33,7 +35,8 @@ pub struct Fields<'a> {
 }
 
 /// Pushes all particles by the fields, on the workers of a team. Their flux is left in their tiles.
-/// Where there are none, nothing is done: no force value is needed and no parcel is sent.
+/// Those that are followed are pushed once more, alone. Where there are none, nothing is done: no force
+/// value is needed and no parcel is sent.
 pub fn push_phase<H: Threads + Sync, G: Gate + Sync>(
     team: &Team<H, G>,
     alloc: Global,
@@ -45,6 +48,9 @@ pub fn push_phase<H: Threads + Sync, G: Gate + Sync>(
         (around_fields fields.entry.scales.now plasma.frame.kinds fields.entry.e.now
         fields.entry.b.now)
         plasma r.0 r.1) }
+    ensures tracers { IfOk result (λ r. r.0.tracers.items ≡ moved_all
+        (around_fields fields.entry.scales.now plasma.frame.kinds fields.entry.e.now
+        fields.entry.b.now) plasma.tracers.items) }
     ensures alone { IsErr result → 1 < team.now.workers }
 {
     if plasma.count == 0 {
@@ -58,15 +64,18 @@ pub fn push_phase<H: Threads + Sync, G: Gate + Sync>(
         spare,
         room,
         smooth,
+        mut tracers,
         count,
     } = plasma;
     let frame = with_forces(team, fields, frame);
+    push_tracers(&frame, &mut tracers);
     let plasma = Plasma {
         frame,
         tiles,
         spare,
         room,
         smooth,
+        tracers,
         count,
     };
     let pushed = push_tiles(team, alloc, plasma)?;
@@ -83,6 +92,7 @@ fn push_tiles<H: Threads + Sync, G: Gate + Sync>(
     requires opening { IsOpening plasma.frame plasma.tiles.items }
     requires ready { IsPlasma (all_particles plasma.tiles.items) plasma }
     ensures pushed { IfOk result (λ r. HasPushed (felt_in plasma.frame) plasma r.0 r.1) }
+    ensures tracers { IfOk result (λ r. r.0.tracers ≡ plasma.tracers) }
     ensures alone { IsErr result → 1 < team.now.workers }
 {
     let plasma = push_and_exchange(team, alloc, plasma)?;

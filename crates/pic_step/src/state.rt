@@ -1,12 +1,14 @@
 //! The state of a run: what its type keeps, how it begins, and what it shows.
 
-ghost use Rattle.std.specs.Prelude.{◌≡◌, ◌≤◌, IfOk, length};
+ghost use Rattle.std.specs.Prelude.{◌≡◌, ◌<◌, ◌≤◌, [], All, IfOk, length};
 ghost use Rattle.pic_num.specs.Limits.{most_steps};
 
+use crate::looking::{copy_places, write_each};
 use crate::plasma::Plasma;
 use crate::start::Start;
 use crate::write::write_tiles;
 use pic_deck::Deck;
+use pic_devices::Probes;
 use pic_grid::{Cells, Lattice, Loop, Loops, Snapshot};
 use pic_num::{Kind, NoMemory, Particle, Scales};
 use pic_tile::{Setup, Tile, TileMap};
@@ -16,7 +18,8 @@ use std::marker::Model;
 /// The state of a run, after a number of steps that it knows. Its type keeps the limits, that the
 /// particles have the identities 0, 1, .. in order, and Gauss's law at every node. The particles are
 /// kept in tiles, and the fields have one part for each tile; contracts see a list in the order of
-/// identities, the values of fields in the order of places, and the map of the tiles.
+/// identities, the values of fields in the order of places, the map of the tiles, and the identities
+/// of the particles that it follows.
 #[derive(Drop)]
 pub struct State {
     pub(crate) step: u32,
@@ -30,12 +33,14 @@ pub struct State {
 impl Model for State {
     ghost use Rattle.pic_step.specs.StateView.{StateView};
     ghost use Rattle.pic_step.specs.Kept.{IsKept, seen};
+    ghost use Rattle.pic_step.specs.Tracers.{identities};
 
     ghost Value = { StateView };
 
     ghost view = { λ s. record {
       world = seen s.step s.loops s.scales s.e s.b s.plasma;
       map = s.plasma.frame.map;
+      followed = identities s.plasma.tracers.items;
     } };
 
     ghost invariant = { λ s. IsKept s.step s.loops s.scales s.e s.b s.plasma };
@@ -43,9 +48,12 @@ impl Model for State {
 
 impl State {
     ghost use Rattle.pic_deck.specs.Deck.{deck_grid};
+    ghost use Rattle.pic_devices.specs.Probes.{AreProbes};
+    ghost use Rattle.pic_tile.specs.InOrder.{AreOrdered};
     ghost use Rattle.pic_tile.specs.Tiling.{cells_of, tiles_of};
     ghost use Rattle.pic_step.specs.Kept.{AreTiled};
     ghost use Rattle.pic_step.specs.SerialRun.{start_of};
+    ghost use Rattle.pic_step.specs.Shown.{Shows};
     ghost use Rattle.pic_step.specs.Sound.{IsSound};
     ghost use Rattle.pic_step.specs.Start.{begun, world_in_frame};
     ghost use Rattle.pic_step.specs.Tiled.{AreTilesOf};
@@ -61,12 +69,25 @@ impl State {
     }
 
     /// The first state of a run that begins so. The fields, which have one part for each tile, and
-    /// the particles are moved into it.
+    /// the particles are moved into it. No particle is followed.
     pub fn begin(alloc: Global, start: Start) -> Result<State, NoMemory>
         requires sound { IsSound (begun start) }
         requires tiled { AreTiled start.setup.map start.e start.b }
         ensures world { IfOk result (λ s. s.world ≡ begun start) }
         ensures map { IfOk result (λ s. s.map ≡ start.setup.map) }
+        ensures followed { IfOk result (λ s. s.followed ≡ []) }
+    {
+        State::begin_following(alloc, start, &[])
+    }
+
+    /// The same, where the particles with these identities are followed.
+    pub fn begin_following(alloc: Global, start: Start, ids: &[u32]) -> Result<State, NoMemory>
+        requires sound { IsSound (begun start) }
+        requires tiled { AreTiled start.setup.map start.e start.b }
+        requires ids { All (λ id. id < length start.particles.items) ids.now }
+        ensures world { IfOk result (λ s. s.world ≡ begun start) }
+        ensures map { IfOk result (λ s. s.map ≡ start.setup.map) }
+        ensures followed { IfOk result (λ s. s.followed ≡ ids.now) }
     {
         let Start {
             setup,
@@ -83,7 +104,7 @@ impl State {
             kinds,
         } = setup;
         let _map = map.tiles();
-        let plasma = Plasma::new(alloc, map, filter, kinds, particles.as_slice())?;
+        let plasma = Plasma::new(alloc, map, filter, kinds, particles.as_slice(), ids)?;
         Ok(State {
             step,
             loops,
@@ -195,5 +216,28 @@ impl State {
         to.e.copy_from(&self.e);
         to.b.copy_from(&self.b);
         write_tiles(&self.plasma.tiles, &mut to.particles);
+    }
+
+    /// Shows in a snapshot of as many cells and particles what probes see: the fields at their places,
+    /// and the particles that they follow, which the state follows too. All else of the snapshot stays,
+    /// no other particle is read, and it takes no memory.
+    pub fn look(&self, probes: &Probes, to: &mut Snapshot)
+        requires probes { let w = self.now.world in
+            AreProbes w.cells (length w.particles) probes.now }
+        requires followed { self.now.followed ≡ probes.now.ids }
+        requires e_cells { to.old.e.cells ≡ self.now.world.cells }
+        requires b_cells { to.old.b.cells ≡ self.now.world.cells }
+        requires count { length to.old.particles.items ≡ length self.now.world.particles }
+        requires ordered { AreOrdered to.old.particles.items }
+        ensures shows { Shows probes.now to.new self.now.world }
+        ensures e { to.new.e ≡ record to.old.e { values = to.new.e.values } }
+        ensures b { to.new.b ≡ record to.old.b { values = to.new.b.values } }
+        ensures count { length to.new.particles.items ≡ length self.now.world.particles }
+        ensures ordered { AreOrdered to.new.particles.items }
+    {
+        let places = probes.places.as_slice();
+        copy_places(&self.e, places, &mut to.e);
+        copy_places(&self.b, places, &mut to.b);
+        write_each(&self.plasma.tracers, &mut to.particles);
     }
 }

@@ -48,8 +48,9 @@ impl From<NoMemory> for StepStop {
 /// particles, tile by tile and each on a thread of its own where one can be made. Each passes the gate
 /// after each claim of a tile and each post of a parcel. Whatever the tiles, the workers and the gate,
 /// the answer is that of the serial step: the state after it, or the stop of the first phase that has
-/// one. The state after it has one step more, and the same cells, loops, multipliers, kinds and tiles;
-/// it meets Gauss's law at every node, and the divergence of its B is what it was in every cell.
+/// one. The state after it has one step more, and the same cells, loops, multipliers, kinds and tiles,
+/// and follows the same particles; it meets Gauss's law at every node, and the divergence of its B is
+/// what it was in every cell.
 ///
 /// # Errors
 /// `StepStop::Stop` as the serial step has it. `StepStop::NoMemory` where memory is refused to the
@@ -68,6 +69,7 @@ pub fn step<H: Threads + Sync, G: Gate + Sync>(
     ensures steps { Steps state.world result }
     ensures keeps { IfOk result (λ next. Keeps state.world next.world) }
     ensures map { IfOk result (λ next. next.map ≡ state.map) }
+    ensures followed { IfOk result (λ next. next.followed ≡ state.followed) }
     ensures memory { result ≡ Err step_stop.NoMemory
         → (1 < workers) × (half_stop Half1 state.world ≡ None) }
 {

@@ -11,5 +11,6 @@ returns g c =
       room = c.requires.room;
       spare = refl;
       smooth = refl;
+      tracers = refl;
       count = refl;
     }

@@ -14,6 +14,7 @@ returns g c =
       room = c.close_with_scratch-frame.result.2;
       spare = p.spare;
       smooth = p.smooth;
+      tracers = p.tracers;
       count = p.count;
     }) s t (in_turn s.frame.map) c.begin-core.ensures.opened c.run_in_turn.ensures.ran c.close_with_scratch-frame.ensures.frame
-    c.close_with_scratch-frame.ensures.exchanged c.close_with_scratch-frame.ensures.bound c.close_with_scratch-frame.ensures.scratch refl refl refl
+    c.close_with_scratch-frame.ensures.exchanged c.close_with_scratch-frame.ensures.bound c.close_with_scratch-frame.ensures.scratch refl refl refl refl

@@ -1,9 +1,14 @@
-use Rattle.std.proofs.Common.{◌≡◌, ◌<◌, refl, sym, ap, subst, arith}
+use Rattle.std.proofs.Common.{◌≡◌, ◌<◌, List, length, All, refl, sym, ap, ◌∙◌, subst, arith}
+use Rattle.std.proofs.lemmas.List.{with_items_is}
+use Rattle.pic_num.specs.declared.motion.Particle.{Particle}
+use Rattle.pic_grid.specs.PushPhase.{CanShare, moved_all}
+use Rattle.pic_push.proofs.PushLaws.{length-moved_all}
 use Rattle.pic_tile.specs.CoreState.{all_particles}
-use Rattle.pic_tile.specs.Frame.{FrameValue}
-use Rattle.pic_tile.specs.Tiling.{IsMap}
+use Rattle.pic_tile.specs.Frame.{FrameValue, felt_in}
+use Rattle.pic_tile.specs.Tiling.{IsMap, cells_of}
 use Rattle.pic_step.specs.PushOn.{around_fields}
-use Rattle.pic_step.proofs.PushPhaseLaws.{with_forces_of, opening_moves, ready_moves, pushed_by_fields}
+use Rattle.pic_step.proofs.PushPhaseLaws.{with_forces_of, opening_moves, ready_moves, pushed_by_fields, moved_by_fields}
+use Rattle.pic_step.proofs.TracerLaws.{hold_too, none_followed}
 use Rattle.pic_step.proofs.UnpushedLaws.{none_pushed}
 use Rattle.pic_step.proofs.push_phase.push_phase.Given.{Over}
 use Rattle.pic_step.proofs.push_phase.push_phase.Goals as goal
@@ -30,13 +35,47 @@ pub push_tiles-requires-clause-ready : goal.push_tiles-requires-clause-ready
 push_tiles-requires-clause-ready g c κs within =
     let p = c.args.plasma in
     let is = framed g (goal.at.push_tiles-requires-clause-ready g c).After-with_forces-frame in
-    ready_moves p c.with_forces-frame.result (all_particles p.tiles.items) (ap (λ (f : FrameValue). f.map) is) (ap (λ (f : FrameValue). f.force_e.parts) is)
+    ready_moves p c.with_forces-frame.result _ (all_particles p.tiles.items) (ap (λ (f : FrameValue). f.map) is) (ap (λ (f : FrameValue). f.force_e.parts) is)
     c.requires.can.plasma
 
 pub returns-clause-pushed : goal.returns-clause-pushed
 returns-clause-pushed g c =
-    pushed_by_fields c.args.plasma c.in_ok-pushed.pushed.0 c.args.fields.scales.now c.args.fields.e.now c.args.fields.b.now c.with_forces-frame.result c.in_ok-pushed.pushed.1
-    c.requires.can.tiled.of_e (framed g (goal.at.returns-clause-pushed g c).After-with_forces-frame) c.in_ok-pushed.ensures.pushed
+    pushed_by_fields c.args.plasma c.in_ok-pushed.pushed.0 c.args.fields.scales.now c.args.fields.e.now c.args.fields.b.now c.with_forces-frame.result _
+    c.in_ok-pushed.pushed.1 c.requires.can.tiled.of_e (framed g (goal.at.returns-clause-pushed g c).After-with_forces-frame) c.in_ok-pushed.ensures.pushed
+
+-- the frame's force values push as the fields do
+tracers_share : (g : Over) (c : After-with_forces-frame g) → All (CanShare c.with_forces-frame.result.map.side (cells_of c.with_forces-frame.result.map)
+    c.with_forces-frame.result.kinds) c.args.plasma.tracers.items
+tracers_share g c =
+    let p = c.args.plasma in
+    subst (λ (f : FrameValue). All (CanShare f.map.side (cells_of f.map) f.kinds) p.tracers.items) (sym (framed g c))
+    (hold_too (CanShare p.frame.map.side (cells_of p.frame.map) p.frame.kinds) (all_particles p.tiles.items) p.tracers.items
+    c.requires.can.opening.can c.requires.can.tracers)
+
+pub push_tracers-requires : goal.push_tracers-requires
+push_tracers-requires g c =
+    let f = c.with_forces-frame.result in
+    subst (λ (xs : List Particle). All (CanShare f.map.side (cells_of f.map) f.kinds) xs) (sym c.deref_mut.ensures.value)
+    (tracers_share g (goal.at.push_tracers-requires g c).After-with_forces-frame)
+
+pub returns-clause-tracers : goal.returns-clause-tracers
+returns-clause-tracers g c =
+    let p = c.args.plasma in
+    let f = c.with_forces-frame.result in
+    let old = p.tracers.items in
+    let new = c.push_tracers.new.tracers in
+    let is : new ≡ moved_all (felt_in f) old = c.push_tracers.ensures ∙ ap (moved_all (felt_in f)) c.deref_mut.ensures.value in
+    ap (λ ts. ts.items) c.in_ok-pushed.ensures.tracers
+    ∙ with_items_is p.tracers new (ap length is ∙ length-moved_all (felt_in f) old ∙ sym p.tracers.ok.0) ∙ is
+    ∙ moved_by_fields p c.args.fields.scales.now c.args.fields.e.now c.args.fields.b.now f old c.requires.can.tiled.of_e
+    (framed g (goal.at.returns-clause-tracers g c).After-with_forces-frame)
+
+pub returns-then-plasma-eq0-clause-tracers : goal.returns-then-plasma-eq0-clause-tracers
+returns-then-plasma-eq0-clause-tracers g c =
+    let p = c.args.plasma in
+    let none : p.count ≡ 0 = omega (arith, c.if-plasma-eq0.true) in
+    none_followed (around_fields c.args.fields.scales.now p.frame.kinds c.args.fields.e.now c.args.fields.b.now) (all_particles p.tiles.items) p.tracers.items
+    (sym c.requires.can.plasma.count ∙ none) c.requires.can.tracers
 
 pub returns-then-plasma-eq0-clause-pushed : goal.returns-then-plasma-eq0-clause-pushed
 returns-then-plasma-eq0-clause-pushed g c =

@@ -1,4 +1,4 @@
-use Rattle.std.proofs.Common.{◌≡◌, ℕ, ℤ, suc, ◌+◌, ◌<◌, List, refl, sym, ap, ◌∙◌, subst, Result, Ok, Err, None, Option, arith}
+use Rattle.std.proofs.Common.{◌≡◌, ℕ, ℤ, suc, ◌+◌, ◌<◌, List, All, refl, sym, ap, ◌∙◌, subst, Result, Ok, Err, None, Option, arith}
 use Rattle.std.proofs.lemmas.Result.{err_from_is_err_and}
 use Rattle.pic_num.specs.Limits.{most_loops, most_steps, most_value}
 use Rattle.pic_num.specs.Multiplier.{Multiplier}
@@ -21,16 +21,18 @@ use Rattle.pic_step.specs.Keeps.{Keeps}
 use Rattle.pic_step.specs.Kept.{IsTiled, AreTiled, IsKept, seen}
 use Rattle.pic_step.specs.declared.plasma.Plasma.{Plasma}
 use Rattle.pic_step.specs.Plasma.{IsPlasma}
-use Rattle.pic_step.specs.PushOn.{ArePushed}
+use Rattle.pic_step.specs.PushOn.{around_fields, ArePushed}
 use Rattle.pic_step.specs.SerialRun.{Steps}
 use Rattle.pic_step.specs.SerialStep.{World, around, drive_of, half_on, half_stop, stepped}
 use Rattle.pic_step.specs.Sound.{IsSafe, IsSound}
 use Rattle.pic_step.specs.StateView.{StateView}
+use Rattle.pic_step.specs.Tracers.{IsOf, identities}
 use Rattle.pic_step.proofs.ExitLaws.{stops_first, stops_push, stops_second, stops_last, wants_none}
 use Rattle.pic_step.proofs.KeptLaws.{can_push, next_is}
 use Rattle.pic_step.proofs.OnePartLaws.{whole, whole_is, half_one, driven_one, plus_tiled, tiled_after, advanced_is, safe_parts, safe_small}
 use Rattle.pic_step.proofs.StepLaws.{IsHalf, is_half, half_safe, pushed_on, IsBefore, second_half, is_before}
 use Rattle.pic_step.proofs.StepLaws.{before_safe, filtered_flux, flux_is, by_filter, last_step, IsAfter, is_after, sound_after, stepped_after, keeps_after}
+use Rattle.pic_step.proofs.TracerLaws.{still_of, same_identities}
 use Rattle.pic_step.proofs.stepping.step.Given.{Over}
 use Rattle.pic_step.proofs.stepping.step.Goals as goal
 use Rattle.pic_step.proofs.stepping.step.Goals.{In_ok-b, In-None, In_ok-b-2, After-raise_e, In-Ok}
@@ -277,6 +279,10 @@ invariant_of-result g c =
         of_b = second_tiled;
       });
       plasma = subst (λ xs. IsPlasma xs q) (sym c.advance_e-e.ensures.particles) c.advance_e-e.ensures.plasma;
+      tracers = subst (λ xs. All (IsOf xs) q.tracers.items) (sym c.advance_e-e.ensures.particles)
+          (subst (λ ts. All (IsOf (all_particles c.in_ok-pushed.pushed.0.tiles.items)) ts.items) (sym c.advance_e-e.ensures.tracers)
+          (still_of (around_fields k.scales k.plasma.frame.kinds k.e c.in_ok-b.b) w.particles _ k.plasma.tracers.items _
+          c.in_ok-pushed.ensures.pushed.pushed.particles c.in_ok-pushed.ensures.tracers c.state.invariant.tracers));
     }
 
 pub returns-clause-steps : goal.returns-clause-steps
@@ -306,6 +312,13 @@ returns-clause-keeps g c =
 pub returns-clause-map : goal.returns-clause-map
 returns-clause-map g c =
     ap (λ f. f.map) c.advance_e-e.ensures.frame ∙ c.in_ok-pushed.ensures.pushed.map ∙ ap (λ (v : StateView). v.map) c.state.view_is
+
+pub returns-clause-followed : goal.returns-clause-followed
+returns-clause-followed g c =
+    let k = c.state.inside in
+    ap (λ ts. identities ts.items) c.advance_e-e.ensures.tracers
+    ∙ same_identities (around_fields k.scales k.plasma.frame.kinds k.e c.in_ok-b.b) k.plasma.tracers.items _ c.in_ok-pushed.ensures.tracers
+    ∙ ap (λ (v : StateView). v.followed) c.state.view_is
 
 pub returns-in_err-b-clause-memory : goal.returns-in_err-b-clause-memory
 returns-in_err-b-clause-memory g c wanted = absurd (wants_none _ _ c.from_residual.ensures.1 wanted)

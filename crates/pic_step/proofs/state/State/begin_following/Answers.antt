@@ -1,8 +1,9 @@
-use Rattle.std.proofs.Common.{List, subst}
+use Rattle.std.proofs.Common.{List, All, subst}
 use Rattle.pic_num.specs.declared.motion.Particle.{Particle}
 use Rattle.pic_step.specs.Plasma.{IsPlasma}
+use Rattle.pic_step.specs.Tracers.{IsOf}
 use Rattle.pic_step.proofs.KeptLaws.{begun_is, kept}
-use Rattle.pic_step.proofs.state.State.begin.Goals as goal
+use Rattle.pic_step.proofs.state.State.begin_following.Goals as goal
 
 pub returns-clause-world : goal.returns-clause-world
 returns-clause-world c =
@@ -11,6 +12,7 @@ returns-clause-world c =
     begun_is s.step s.setup.filter s.setup.loops s.setup.map s.setup.scales s.setup.kinds s.e s.b s.particles.items p c.tiles-map.ensures.limits c.requires.sound c.requires.tiled
     c.in_ok-plasma.ensures.map c.in_ok-plasma.ensures.filter c.in_ok-plasma.ensures.kinds
     (subst (λ (xs : List Particle). IsPlasma xs p) c.as_slice.ensures.value c.in_ok-plasma.ensures.plasma)
+    (subst (λ (xs : List Particle). All (IsOf xs) p.tracers.items) c.as_slice.ensures.value c.in_ok-plasma.ensures.tracers)
 
 pub returns-clause-map : goal.returns-clause-map
 returns-clause-map c = c.in_ok-plasma.ensures.map
@@ -22,3 +24,4 @@ invariant_of-result c =
     kept s.step s.setup.filter s.setup.loops s.setup.map s.setup.scales s.setup.kinds s.e s.b s.particles.items p c.tiles-map.ensures.limits c.requires.sound c.requires.tiled
     c.in_ok-plasma.ensures.map c.in_ok-plasma.ensures.filter c.in_ok-plasma.ensures.kinds
     (subst (λ (xs : List Particle). IsPlasma xs p) c.as_slice.ensures.value c.in_ok-plasma.ensures.plasma)
+    (subst (λ (xs : List Particle). All (IsOf xs) p.tracers.items) c.as_slice.ensures.value c.in_ok-plasma.ensures.tracers)
