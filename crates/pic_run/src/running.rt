@@ -90,7 +90,7 @@ fn prepare(alloc: Global, deck: &Deck, start: Start) -> Result<Ready, NoMemory>
     ensures room { IfOk result (λ ready. HasShape ready.stage.room ready.stage.state.world) }
 {
     let header = header_of(alloc, deck)?;
-    let stage = stage_of(alloc, start)?;
+    let stage = stage_of(alloc, start, &[])?;
     Ok(Ready { header, stage })
 }
 

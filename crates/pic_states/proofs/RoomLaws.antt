@@ -1,6 +1,7 @@
 -- Room for a state is room for the next, and what is put of a snapshot that holds a state.
-use Rattle.std.proofs.Common.{◌≡◌, ℕ, length, Option, Some, None, Ok, refl, sym, ◌∙◌, subst}
+use Rattle.std.proofs.Common.{◌≡◌, ℕ, ◌<◌, All, List, length, Option, Some, None, Ok, refl, sym, ap, ◌∙◌, subst}
 use Rattle.std.proofs.lemmas.List.{length-map}
+use Rattle.std.proofs.lemmas.List.Elements.{All-nil}
 use Rattle.pic_num.specs.Push.{unless}
 use Rattle.pic_num.specs.Space.{Triple}
 use Rattle.pic_grid.specs.declared.snapshot.Snapshot.{Snapshot}
@@ -11,11 +12,14 @@ use Rattle.pic_record.specs.RecordText.{frame_bytes}
 use Rattle.pic_devices.specs.declared.probes.Probes.{Probes}
 use Rattle.pic_devices.specs.Probes.{AreProbes}
 use Rattle.pic_probe.specs.ProbeLine.{probe_line}
+use Rattle.pic_probe.proofs.SameLineLaws.{same_line}
 use Rattle.pic_step.specs.SerialStep.{World, e_of, b_of, next_world, stop_of_step, stepped}
+use Rattle.pic_step.specs.Shown.{Shows}
+use Rattle.pic_tile.specs.InOrder.{AreOrdered}
 use Rattle.pic_states.specs.declared.output.Output.{Output}
 use Rattle.pic_states.specs.declared.output.Output.TheVariants.{Dump, Lines, Probe}
 use Rattle.pic_states.specs.Frames.{energies_in}
-use Rattle.pic_states.specs.Rooms.{CanPut, HasShape, HoldsState}
+use Rattle.pic_states.specs.Rooms.{CanLook, CanPut, HasShape, HoldsState, followed_by}
 
 unless_ok : {A S : Type 0} (o : Option S) (a b : A) → unless o a ≡ Ok b → a ≡ b
 unless_ok None a b h = cc
@@ -82,8 +86,25 @@ frame_is step to w energies number filled measured =
     (λ i. frame_bytes (number i) (filled.e i) (filled.b i) (filled.particles i) (measured i))
 
 -- and what probes see of it
-pub sight_is : (probes : Probes) (step : ℕ) (to : Snapshot) (w : World) → step ≡ w.step → HoldsState to w
+pub sight_is : (probes : Probes) (step : ℕ) (to : Snapshot) (w : World) → step ≡ w.step → length to.particles.items ≡ length w.particles
+    → AreOrdered to.particles.items → AreOrdered w.particles → All (λ id. id < length w.particles) probes.ids → Shows probes to w
     → probe_line probes step (value_at to.e) (value_at to.b) to.particles.items
     ≡ probe_line probes w.step (value_at (e_of w)) (value_at (b_of w)) w.particles
-sight_is probes step to w number filled =
-    (λ i. probe_line probes (number i) (value_at (filled.e i)) (value_at (filled.b i)) (filled.particles i))
+sight_is probes step to w number long ordered sound below shows =
+    same_line probes step (value_at to.e) (value_at to.b) (value_at (e_of w)) (value_at (b_of w)) to.particles.items w.particles shows.e shows.b
+    ordered.identities sound.identities long below shows.tracers
+    ∙ ap (λ (n : ℕ). probe_line probes n (value_at (e_of w)) (value_at (b_of w)) w.particles) number
+
+-- before the first step: what an output needs is within the limits,
+pub followed_below : (output : Output) (w : World) → CanPut output w → All (λ id. id < length w.particles) (followed_by output)
+followed_below Dump w can = All-nil (λ id. id < length w.particles)
+followed_below Lines w can = All-nil (λ id. id < length w.particles)
+followed_below (Probe probes) w can = can.ids
+
+-- and it can look into room that has the state
+pub look_first : (output : Output) (to : Snapshot) (w : World) (followed : List ℕ) → followed ≡ followed_by output → to.particles.items ≡ w.particles
+    → AreOrdered w.particles → CanLook output to followed
+look_first Dump to w followed is particles ordered = tt
+look_first Lines to w followed is particles ordered = tt
+look_first (Probe probes) to w followed is particles ordered =
+    record { followed = is; ordered = subst AreOrdered (sym particles) ordered }

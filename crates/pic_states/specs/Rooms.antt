@@ -1,7 +1,9 @@
 -- Room for the states of a run.
-use Rattle.std.specs.Prelude.{◌≡◌, ⊤, length}
+use Rattle.std.specs.Prelude.{◌≡◌, ⊤, ℕ, List, [], length}
 use Rattle.pic_grid.specs.declared.snapshot.Snapshot.{Snapshot}
 use Rattle.pic_devices.specs.Probes.{AreProbes}
+use Rattle.pic_tile.specs.InOrder.{AreOrdered}
+use Rattle.pic_devices.specs.declared.probes.Probes.{Probes}
 use Rattle.pic_step.specs.SerialStep.{World, e_of, b_of}
 use Rattle.pic_grid.specs.Parts.{one_part}
 use Rattle.pic_states.specs.declared.output.Output.{Output}
@@ -22,6 +24,23 @@ abbrev pub CanPut : Output → World → Type 0
 CanPut Dump w = ⊤
 CanPut Lines w = ⊤
 CanPut (Probe probes) w = AreProbes w.cells (length w.particles) probes
+
+-- the identities of the particles that what a run puts needs at every step
+abbrev pub followed_by : Output → List ℕ
+followed_by Dump = []
+followed_by Lines = []
+followed_by (Probe probes) = probes.ids
+
+-- probes can look at a state that follows these particles, into room whose particles are in the order of identities
+pub record CanSee (probes : Probes) (to : Snapshot) (ids : List ℕ) : Type 0 where
+  pub followed : ids ≡ probes.ids
+  pub ordered : AreOrdered to.particles.items
+
+-- where probes are what a run puts, they can
+abbrev pub CanLook : Output → Snapshot → List ℕ → Type 0
+CanLook Dump to followed = ⊤
+CanLook Lines to followed = ⊤
+CanLook (Probe probes) to followed = CanSee probes to followed
 
 -- it holds the state
 pub record HoldsState (to : Snapshot) (w : World) : Type 0 where

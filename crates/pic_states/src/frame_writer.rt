@@ -3,10 +3,12 @@
 ghost use Rattle.std.specs.Prelude.{◌≡◌, ◌≤◌, [], ◌∷◌, map, Ok};
 ghost use Rattle.pic_io.specs.Told.{Told};
 ghost use Rattle.pic_io.specs.Sinks.{sinks, Writes};
+ghost use Rattle.pic_tile.specs.InOrder.{AreOrdered};
+ghost use Rattle.pic_step.specs.Shown.{Shows};
 ghost use Rattle.pic_step.specs.Sound.{IsSound};
 ghost use Rattle.pic_states.specs.declared.output.Output.TheVariants as put;
 ghost use Rattle.pic_states.specs.Frames.{frame_piece, due_state, energies_in, end_piece};
-ghost use Rattle.pic_states.specs.Rooms.{CanPut, HasShape, HoldsState};
+ghost use Rattle.pic_states.specs.Rooms.{CanLook, CanPut, HasShape, HoldsState};
 
 use crate::output::{Output, Plan};
 use pic_devices::Probes;
@@ -17,7 +19,8 @@ use pic_io::{Failed, Side, Sink};
 use pic_report::{put_line, put_out};
 use pic_step::State;
 
-/// Writes the frame of a state, where it is due. What the room held is lost.
+/// Writes the frame of a state, where it is due. What the room held is lost; for probes it stays where
+/// they don't look.
 pub fn write_due<O: Sink, R: Sink>(
     plan: &Plan,
     out: &mut O,
@@ -28,11 +31,13 @@ pub fn write_due<O: Sink, R: Sink>(
     requires every { 1 ≤ plan.now.every }
     requires room { HasShape room.old state.now.world }
     requires probes { CanPut plan.now.output state.now.world }
+    requires look { CanLook plan.now.output room.old state.now.followed }
     ensures writes { Writes (sinks (O.told out.old) (R.told report.old))
         (sinks (O.told out.new) (R.told report.new))
         (map (frame_piece plan.now.output)
         (due_state plan.now.steps plan.now.every (Ok state.now.world))) result }
     ensures room { HasShape room.new state.now.world }
+    ensures look { CanLook plan.now.output room.new state.now.followed }
 {
     if is_due(plan.steps, plan.every, state.step_number()) {
         write_frame(&plan.output, out, report, state, room)
@@ -41,7 +46,7 @@ pub fn write_due<O: Sink, R: Sink>(
     }
 }
 
-/// Writes the frame of a state. What the room held is lost.
+/// Writes the frame of a state. What the room held is lost; for probes it stays where they don't look.
 pub fn write_frame<O: Sink, R: Sink>(
     output: &Output,
     out: &mut O,
@@ -51,16 +56,26 @@ pub fn write_frame<O: Sink, R: Sink>(
 ) -> Result<(), Side>
     requires room { HasShape room.old state.now.world }
     requires probes { CanPut output.now state.now.world }
+    requires look { CanLook output.now room.old state.now.followed }
     ensures writes { Writes (sinks (O.told out.old) (R.told report.old))
         (sinks (O.told out.new) (R.told report.new))
         (frame_piece output.now state.now.world ∷ []) result }
     ensures room { HasShape room.new state.now.world }
+    ensures look { CanLook output.now room.new state.now.followed }
 {
-    state.fill(room);
     match output {
-        Output::Dump => put_record(out, report, state, room),
-        Output::Lines => put_summary(out, state, room),
-        Output::Probe(probes) => put_sight(out, probes, state, room),
+        Output::Dump => {
+            state.fill(room);
+            put_record(out, report, state, room)
+        }
+        Output::Lines => {
+            state.fill(room);
+            put_summary(out, state, room)
+        }
+        Output::Probe(probes) => {
+            state.look(probes, room);
+            put_sight(out, probes, state, room)
+        }
     }
 }
 
@@ -94,15 +109,17 @@ fn put_summary<O: Sink>(out: &mut O, state: &State, room: &Snapshot) -> Result<(
     put_out(out, line.bytes())
 }
 
-// Puts what the probes see of a state that stands in the room.
+// Puts what the probes see of a state, which the room shows.
 fn put_sight<O: Sink>(
     out: &mut O,
     probes: &Probes,
     state: &State,
     room: &Snapshot,
 ) -> Result<(), Side>
-    requires room { HoldsState room.now state.now.world }
+    requires room { HasShape room.now state.now.world }
     requires probes { CanPut (put.Probe probes.now) state.now.world }
+    requires ordered { AreOrdered room.now.particles.items }
+    requires shows { Shows probes.now room.now state.now.world }
     ensures { (r : Told) → Writes (sinks (O.told out.old) r) (sinks (O.told out.new) r)
         (frame_piece (put.Probe probes.now) state.now.world ∷ []) result }
 {

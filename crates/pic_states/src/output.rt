@@ -1,5 +1,8 @@
 //! What a run puts of its states, and how it goes.
 
+ghost use Rattle.std.specs.Prelude.{◌≡◌};
+ghost use Rattle.pic_states.specs.Rooms.{followed_by};
+
 use pic_devices::Probes;
 
 /// What a run puts of its states.
@@ -11,6 +14,19 @@ pub enum Output {
     Lines,
     /// What these probes see, a line of each state on out.
     Probe(Probes),
+}
+
+impl Output {
+    /// The identities of the particles that it needs of every state.
+    pub fn followed(&self) -> &[u32]
+        ensures { result.now ≡ followed_by self.now }
+    {
+        match self {
+            Output::Dump => &[],
+            Output::Lines => &[],
+            Output::Probe(probes) => probes.ids.as_slice(),
+        }
+    }
 }
 
 /// How a run goes: what it puts of its states, how many steps it has, after how many of them a frame is

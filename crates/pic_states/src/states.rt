@@ -1,6 +1,6 @@
 //! The loop over the states of a run.
 
-ghost use Rattle.std.specs.Prelude.{◌≡◌, ◌-◌, ◌<◌, ◌≤◌, [], IfOk};
+ghost use Rattle.std.specs.Prelude.{◌≡◌, ◌-◌, ◌<◌, ◌≤◌, [], All, IfOk, length};
 ghost use Rattle.pic_num.specs.Limits.{most_steps};
 ghost use Rattle.pic_crew.specs.Teams.{most_workers};
 ghost use Rattle.pic_io.specs.Sinks.{sinks};
@@ -11,12 +11,12 @@ ghost use Rattle.pic_report.specs.Outcome.{answer_of};
 ghost use Rattle.pic_report.specs.Leaves.{LeavesWhole};
 ghost use Rattle.pic_report.specs.Finishes.{Finishes};
 ghost use Rattle.pic_states.specs.Frames.{frames_of, frames_behind, end_of_run};
-ghost use Rattle.pic_states.specs.Rooms.{CanPut, HasShape};
+ghost use Rattle.pic_states.specs.Rooms.{CanLook, CanPut, HasShape};
 ghost use Rattle.pic_states.specs.Runs.{WritesFrames, WritesStates};
 ghost use Rattle.pic_states.specs.StatesOutcome.{shown_outcome, states_outcome};
 
 use crate::frame_writer::{put_last, write_due, write_frame};
-use crate::output::Plan;
+use crate::output::{Output, Plan};
 use crate::threading::Threading;
 use pic_gate::Gate;
 use pic_grid::{EndMark, Snapshot};
@@ -34,14 +34,17 @@ pub struct Stage {
     pub room: Snapshot,
 }
 
-/// The state that a run begins with, and room for a frame.
-pub fn stage_of(alloc: Global, start: Start) -> Result<Stage, NoMemory>
+/// The state that a run begins with, which follows the particles with these identities, and room for
+/// a frame.
+pub fn stage_of(alloc: Global, start: Start, ids: &[u32]) -> Result<Stage, NoMemory>
     requires sound { IsSound (begun start) }
     requires tiled { AreTiled start.setup.map start.e start.b }
+    requires ids { All (λ id. id < length start.particles.items) ids.now }
     ensures state { IfOk result (λ stage. stage.state.world ≡ begun start) }
+    ensures followed { IfOk result (λ stage. stage.state.followed ≡ ids.now) }
     ensures room { IfOk result (λ stage. HasShape stage.room stage.state.world) }
 {
-    let state = State::begin(alloc, start)?;
+    let state = State::begin_following(alloc, start, ids)?;
     let room = Snapshot::new(alloc, state.cells(), state.count())?;
     Ok(Stage { state, room })
 }
@@ -69,8 +72,22 @@ pub fn show<H: Threads + Sync, O: Sink, R: Sink, G: Gate + Sync>(
         (sinks (O.told out.old) (R.told report.old))
         (sinks (O.told out.new) (R.told report.new)) result }
 {
-    let stage = stage_of(alloc, start)?;
+    let stage = stage_for(alloc, start, &plan.output)?;
     write_states(threading, alloc, plan, out, report, stage)
+}
+
+// The state that begins so, with what an output needs of every state, and room that has it.
+fn stage_for(alloc: Global, start: Start, output: &Output) -> Result<Stage, NoMemory>
+    requires sound { IsSound (begun start) }
+    requires tiled { AreTiled start.setup.map start.e start.b }
+    requires probes { CanPut output.now (begun start) }
+    ensures state { IfOk result (λ stage. stage.state.world ≡ begun start) }
+    ensures room { IfOk result (λ stage. HasShape stage.room stage.state.world) }
+    ensures look { IfOk result (λ stage. CanLook output.now stage.room stage.state.followed) }
+{
+    let Stage { state, mut room } = stage_of(alloc, start, output.followed())?;
+    state.fill(&mut room);
+    Ok(Stage { state, room })
 }
 
 /// The due frames of a run from its first state, and then its end.
@@ -89,6 +106,7 @@ pub fn write_states<H: Threads + Sync, O: Sink, R: Sink, G: Gate + Sync>(
     requires begins { stage.state.world.step ≡ 0 }
     requires room { HasShape stage.room stage.state.world }
     requires probes { CanPut plan.now.output stage.state.world }
+    requires look { CanLook plan.now.output stage.room stage.state.followed }
     ensures { WritesStates 1 plan.now.workers
         (states_outcome plan.now.output []
         (frames_of plan.now.output plan.now.steps plan.now.every stage.state.world)
@@ -117,6 +135,7 @@ pub fn write_further<H: Threads + Sync, O: Sink, R: Sink, G: Gate + Sync>(
     requires behind { stage.state.world.step ≤ plan.now.steps }
     requires room { HasShape stage.room stage.state.world }
     requires probes { CanPut plan.now.output stage.state.world }
+    requires look { CanLook plan.now.output stage.room stage.state.followed }
     ensures { WritesStates 0 plan.now.workers
         (states_outcome plan.now.output []
         (frames_behind plan.now.output plan.now.steps plan.now.every stage.state.world)
@@ -145,6 +164,7 @@ fn write_frames<H: Threads + Sync, O: Sink, R: Sink, G: Gate + Sync>(
     requires behind { stage.state.world.step ≤ plan.now.steps }
     requires room { HasShape stage.room stage.state.world }
     requires probes { CanPut plan.now.output stage.state.world }
+    requires look { CanLook plan.now.output stage.room stage.state.followed }
     ensures { WritesFrames plan.now.workers
         (frames_behind plan.now.output plan.now.steps plan.now.every stage.state.world)
         (end_of_run (plan.now.steps - stage.state.world.step) stage.state.world)

@@ -20,7 +20,7 @@ returns-in-Ok g c =
     on_opened probe_outcome leaves (λ call. RunMeans (HasDeck call)) c.in-Ok.opened (g.S.Source.told c.args.source.now) (g.S.Source.told c.open.new.source)
     before now c.watch_deck.result opens
     (subst (λ (w : World). Finishes leaves (shown_outcome (Probe d.probes) d.steps 1 w) before now c.watch_deck.result)
-        opens.opens.begins.start c.watch_deck.ensures)
+    opens.opens.begins.start c.watch_deck.ensures)
 
 pub returns-in-Err : goal.returns-in-Err
 returns-in-Err g c =

@@ -7,6 +7,7 @@ use Rattle.pic_step.proofs.AfterLaws.{step_after}
 use Rattle.pic_grid.specs.declared.stop.EndMark.TheVariants.{Done, Stopped}
 use Rattle.pic_grid.specs.declared.stop.Stop.{Stop}
 use Rattle.pic_states.specs.Frames.{due_states, frames_behind, end_of_run}
+use Rattle.pic_states.specs.Rooms.{CanLook}
 use Rattle.pic_states.specs.Runs.{WroteFrames}
 use Rattle.pic_states.proofs.FrameLaws.{WroteStates, after_none, after_step, none_written, more_written, more_cut, some_written, stopped_written, done_written}
 use Rattle.pic_states.proofs.RoomLaws.{room_kept, put_kept}
@@ -21,6 +22,7 @@ loop-done-init g c =
       wrote = none_written c.args.plan.now.output c.args.plan.now.steps c.args.plan.now.every w a (wrote_none a);
       room = c.requires.room;
       probes = c.requires.probes;
+      look = c.requires.look;
     }
 
 pub step-requires-clause-early : goal.step-requires-clause-early
@@ -55,7 +57,7 @@ returns-in-Err-NoMemory g c =
     let many = (memory refl).0 in
     let first = c.step_number-first.ensures.value in
     some_written c.args.plan.now.workers c.args.plan.now.output c.args.plan.now.steps c.args.plan.now.every c.args.stage.state.world c.loop-done.done a b
-        (omega (arith, many))
+    (omega (arith, many))
     (omega (arith, first)) c.loop-done.invariant.wrote
 
 pub write_due-requires-clause-room : goal.write_due-requires-clause-room
@@ -65,6 +67,10 @@ write_due-requires-clause-room g c =
 pub write_due-requires-clause-probes : goal.write_due-requires-clause-probes
 write_due-requires-clause-probes g c =
     put_kept c.args.plan.now.output c.loop-done.state.world c.in-Ok.next.world c.in-Ok.ensures.steps c.loop-done.invariant.probes
+
+pub write_due-requires-clause-look : goal.write_due-requires-clause-look
+write_due-requires-clause-look g c =
+    subst (CanLook c.args.plan.now.output c.loop-done.room) (sym c.in-Ok.ensures.followed) c.loop-done.invariant.look
 
 pub returns-in_err-write_due : goal.returns-in_err-write_due
 returns-in_err-write_due g c =
@@ -81,7 +87,7 @@ returns-in_err-write_due g c =
     let first = c.step_number-first.ensures.value in
     rw (exit.1 ∙ ap Err exit.2)
     (more_cut side c.args.plan.now.output c.args.plan.now.steps c.args.plan.now.every w v n a b e
-        (omega (arith, first)) reached c.loop-done.invariant.wrote cut)
+    (omega (arith, first)) reached c.loop-done.invariant.wrote cut)
 
 pub loop-done-preserved : goal.loop-done-preserved
 loop-done-preserved g c =
@@ -98,6 +104,7 @@ loop-done-preserved g c =
       wrote = more_written c.args.plan.now.output c.args.plan.now.steps c.args.plan.now.every w v n a b e reached c.loop-done.invariant.wrote next;
       room = c.write_due.ensures.room;
       probes = put_kept c.args.plan.now.output c.loop-done.state.world v c.in-Ok.ensures.steps c.loop-done.invariant.probes;
+      look = c.write_due.ensures.look;
     }
 
 pub returns : goal.returns

@@ -2,7 +2,7 @@ use Rattle.std.proofs.Common.{◌≡◌, Ok}
 use Rattle.pic_io.specs.Sinks.{sinks}
 use Rattle.pic_step.specs.SerialRun.{after}
 use Rattle.pic_states.specs.Frames.{due_states}
-use Rattle.pic_states.specs.Rooms.{CanPut, HasShape}
+use Rattle.pic_states.specs.Rooms.{CanLook, CanPut, HasShape}
 use Rattle.pic_states.proofs.FrameLaws.{WroteStates}
 use Rattle.pic_states.proofs.states.write_frames.Given as goal
 
@@ -15,4 +15,5 @@ invariant-loop-done g l =
           (due_states l.fn.plan.steps l.fn.plan.every l.fn.stage.state.world 1 l.done);
       room : HasShape l.room l.state.world;
       probes : CanPut l.fn.plan.output l.state.world;
+      look : CanLook l.fn.plan.output l.room l.state.followed;
     }

@@ -40,5 +40,5 @@ returns g c =
     let frames = frames_behind c.args.plan.now.output c.args.plan.now.steps c.args.plan.now.every w in
     let last = end_of_run (c.args.plan.now.steps - w.step) w in
     subst (λ (answer : Ended). WritesStates 0 c.args.plan.now.workers (states_outcome c.args.plan.now.output [] frames last) a e (Ok answer))
-        (sym c.answer_of.ensures)
+    (sym c.answer_of.ensures)
     (last_done c.args.plan.now.workers c.args.plan.now.output frames last c.in_ok-end.end a b e c.in_ok-end.ensures c.in_ok-put_last.ensures)
