@@ -41,13 +41,14 @@ use Rattle.pic_resume.specs.CarryStops.{stop_of_head, stop_of_deck}
 use Rattle.pic_resume.specs.Behind.{records_behind, kept_behind}
 
 -- what is asked, from its two parts
-pub asked_both : (steps : ℕ) (tiles : List ℕ) (h : HeaderView) → as_read (steps_fit h.steps steps) ≡ Ok tt → as_read (tiles_fit h.cells tiles) ≡ Ok tt
-    → asked steps tiles h ≡ Ok tt
+-- where the steps are allowed, the tiles decide
+pub asked_is : (steps : ℕ) (tiles : List ℕ) (h : HeaderView) → as_read (steps_fit h.steps steps) ≡ Ok tt
+    → asked steps tiles h ≡ as_read (tiles_fit h.cells tiles)
 unfolding asked as_read ◌>>=◌
-asked_both steps tiles h first second = go (steps_fit h.steps steps) first
+asked_is steps tiles h first = go (steps_fit h.steps steps) first
   where
-    go : (w : Walked (Unit {0})) → as_read w ≡ Ok tt → as_read (w >>= (λ _. tiles_fit h.cells tiles)) ≡ Ok tt
-    go (Ok x) is = second
+    go : (w : Walked (Unit {0})) → as_read w ≡ Ok tt → as_read (w >>= (λ _. tiles_fit h.cells tiles)) ≡ as_read (tiles_fit h.cells tiles)
+    go (Ok x) is = refl
     go (Err f) is = absurd cc
 
 pub asked_steps : (steps : ℕ) (tiles : List ℕ) (h : HeaderView) (r : Refusal) → as_read (steps_fit h.steps steps) ≡ Err r → asked steps tiles h ≡ Err r
@@ -58,14 +59,16 @@ asked_steps steps tiles h r first = go (steps_fit h.steps steps) first
     go (Ok x) is = absurd cc
     go (Err f) is = is
 
-pub asked_tiles : (steps : ℕ) (tiles : List ℕ) (h : HeaderView) (r : Refusal) → as_read (steps_fit h.steps steps) ≡ Ok tt
-    → as_read (tiles_fit h.cells tiles) ≡ Err r → asked steps tiles h ≡ Err r
-unfolding asked as_read ◌>>=◌
-asked_tiles steps tiles h r first second = go (steps_fit h.steps steps) first
+-- and where they are refused, so is what is asked
+pub steps_refused : (steps : ℕ) (tiles : List ℕ) (h : HeaderView) (f : DeckFault) (result : Result (Unit {0}) DeckFault)
+    → IsErrAnd result (λ u. u ≡ f) → ReadsAs (as_read (steps_fit h.steps steps)) (Err f) → ReadsAs (asked steps tiles h) result
+steps_refused steps tiles h f result is reads =
+    let q = err_from_is_err_and result is in
+    rw (q.1, q.2) (refused f reads)
   where
-    go : (w : Walked (Unit {0})) → as_read w ≡ Ok tt → as_read (w >>= (λ _. tiles_fit h.cells tiles)) ≡ Err r
-    go (Ok x) is = second
-    go (Err f) is = absurd cc
+    refused : (f : DeckFault) → ReadsAs (as_read (steps_fit h.steps steps)) (Err f) → ReadsAs (asked steps tiles h) (Err f)
+    refused (deck.Refused r) first = record { answer = asked_steps steps tiles h r first.answer }
+    refused deck.NoMemory first = record { answer = tt }
 
 -- a dump is its header and the records behind it
 pub dump_is : (h : HeaderView) (bytes rest : List ℕ) → header_at (input 0 bytes) ≡ Ok (h, input (header_length h) rest)
@@ -143,16 +146,10 @@ refused_answer steps tiles h x y a r first refused =
       answered = ap (λ (c : Carry). c.answer) same;
     }
 
-pub steps_answer : (steps : ℕ) (tiles : List ℕ) (h : HeaderView) (least : ℕ) (x y : Told) (a : Sinks) (f : DeckFault) → least ≡ h.steps
-    → HasRead header_at 0 x h (header_length h) y → ReadsAs (as_read (steps_fit least steps)) (Err f) → Answered steps tiles x y a a (Err (stop_of_deck f))
-steps_answer steps tiles h least x y a (deck.Refused r) is first reads =
-    refused_answer steps tiles h x y a r first (asked_steps steps tiles h r (subst (λ n. as_read (steps_fit n steps) ≡ Err r) is reads.answer))
-steps_answer steps tiles h least x y a deck.NoMemory is first reads = record { calm = first.calm; put = wrote_none a }
-
-pub tiles_answer : (steps : ℕ) (tiles : List ℕ) (h : HeaderView) (x y : Told) (a : Sinks) (f : DeckFault) → HasRead header_at 0 x h (header_length h) y
-    → as_read (steps_fit h.steps steps) ≡ Ok tt → ReadsAs (as_read (tiles_fit h.cells tiles)) (Err f) → Answered steps tiles x y a a (Err (stop_of_deck f))
-tiles_answer steps tiles h x y a (deck.Refused r) first fits reads = refused_answer steps tiles h x y a r first (asked_tiles steps tiles h r fits reads.answer)
-tiles_answer steps tiles h x y a deck.NoMemory first fits reads = record { calm = first.calm; put = wrote_none a }
+pub asked_answer : (steps : ℕ) (tiles : List ℕ) (h : HeaderView) (x y : Told) (a : Sinks) (f : DeckFault) → HasRead header_at 0 x h (header_length h) y
+    → ReadsAs (asked steps tiles h) (Err f) → Answered steps tiles x y a a (Err (stop_of_deck f))
+asked_answer steps tiles h x y a (deck.Refused r) first reads = refused_answer steps tiles h x y a r first reads.answer
+asked_answer steps tiles h x y a deck.NoMemory first reads = record { calm = first.calm; put = wrote_none a }
 
 -- the put of the header failed
 pub header_cut : (steps : ℕ) (tiles : List ℕ) (h new : HeaderView) (x y o p report : Told) → HasRead header_at 0 x h (header_length h) y

@@ -1,26 +1,31 @@
 //! A dump, carried on to more steps.
 
-ghost use Rattle.std.specs.Prelude.{◌≡◌, ◌≤◌, ◌∷◌, [], length, map, sum, None};
+ghost use Rattle.std.specs.Prelude.{◌≡◌, ◌≤◌, ◌∷◌, [], length, map, sum, None, OnOk};
 ghost use Rattle.std.specs.List.{range_with_len};
+ghost use Rattle.pic_num.specs.Limits.{most_steps};
+ghost use Rattle.pic_num.specs.Space.{triple};
 ghost use Rattle.pic_io.specs.Sinks.{sinks, Writes};
+ghost use Rattle.pic_grid.specs.Tiles.{AreTiles};
+ghost use Rattle.pic_deck.specs.Refusal.{ReadsAs};
 ghost use Rattle.pic_record.specs.FrameFields.{frame_of, field_with};
 ghost use Rattle.pic_record.specs.Layout.{LayoutView, IsLayout};
 ghost use Rattle.pic_dump.specs.Allowed.{TakesAllowed, TakesHeader};
 ghost use Rattle.pic_verify.specs.Reached.{TakesToRecord};
 ghost use Rattle.pic_verify.specs.Verified.{IsRoomFor};
-ghost use Rattle.pic_resume.specs.Carry.{kept_piece, kept_pieces};
+ghost use Rattle.pic_resume.specs.Carry.{asked, kept_piece, kept_pieces};
 ghost use Rattle.pic_resume.specs.Carries.{Carries, IsExact, IsEarly};
 ghost use Rattle.pic_resume.specs.Behind.{CarriesBehind};
 
 use crate::carried::Carried;
 use crate::carry_stop::CarryStop;
 use pic_charge::ChargeRoom;
-use pic_deck::{check_steps, check_tiles};
+use pic_deck::{DeckFault, check_steps, check_tiles};
 use pic_dump::{DumpReader, Next, is_due, put_frame, put_header};
 use pic_energy::{Energies, frame_line};
 use pic_grid::Snapshot;
+use pic_header::Header;
 use pic_io::{Failed, Side, Sink, Source};
-use pic_verify::first_break;
+use pic_verify::{first_break, rooms_for};
 use std::alloc::Global;
 
 /// Reads a dump to its end, and puts it as far as a run of so many steps in all has its frames: the
@@ -59,10 +64,8 @@ pub fn carry<S: Source, O: Sink, R: Sink>(
     ensures early { IsEarly result → TakesHeader (S.told source.old) (S.told source.new) }
 {
     let (reader, header) = DumpReader::head(alloc, source)?;
-    check_steps(alloc, header.steps(), steps)?;
-    check_tiles(alloc, header.cells(), tiles)?;
-    let mut last = reader.room(alloc)?;
-    let mut charge = ChargeRoom::new(alloc, reader.cells(), reader.filter())?;
+    check_asked(alloc, &header, steps, tiles)?;
+    let (mut last, mut charge) = rooms_for(alloc, &reader)?;
     let header = header.with_steps(steps);
     if let Err(Failed) = put_header(out, &header) {
         return Err(CarryStop::WriteFault(Side::Out));
@@ -73,6 +76,17 @@ pub fn carry<S: Source, O: Sink, R: Sink>(
     };
     let step = put_kept(plan, source, out, report, reader, &mut last, &mut charge)?;
     Ok(Carried { header, step, last })
+}
+
+// Refuses steps and tiles that a run under this header can't go on with: the steps first.
+fn check_asked(alloc: Global, header: &Header, steps: u32, tiles: [u32; 3]) -> Result<(), DeckFault>
+    ensures walks { ReadsAs (asked steps tiles header.now) result }
+    ensures least { OnOk result (header.now.steps ≤ steps) }
+    ensures most { OnOk result (steps ≤ most_steps) }
+    ensures tiled { OnOk result (AreTiles header.now.cells (triple tiles)) }
+{
+    check_steps(alloc, header.steps(), steps)?;
+    check_tiles(alloc, header.cells(), tiles)
 }
 
 /// After which steps a frame is due: after every so many, and after the last.

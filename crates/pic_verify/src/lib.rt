@@ -8,4 +8,4 @@ mod verifying;
 
 pub use laws::{dumps_are_verified, law_of_the_verdict};
 pub use verify_stop::VerifyStop;
-pub use verifying::{first_break, verify};
+pub use verifying::{first_break, rooms_for, verify};

@@ -1,6 +1,7 @@
 //! A dump, verified frame by frame.
 
-ghost use Rattle.std.specs.Prelude.{◌≡◌, length, sum, None, Err};
+ghost use Rattle.std.specs.Prelude.{◌≡◌, length, sum, None, Err, IfOk};
+ghost use Rattle.pic_grid.specs.Parts.{one_part};
 ghost use Rattle.pic_record.specs.FrameFields.{IsHeld};
 ghost use Rattle.pic_record.specs.Layout.{IsLayout};
 ghost use Rattle.pic_dump.specs.Allowed.{TakesAllowed, TakesHeader};
@@ -37,9 +38,29 @@ pub fn verify<S: Source>(alloc: Global, source: &mut S) -> Result<u32, VerifySto
         → TakesHeader (S.told source.old) (S.told source.new) }
 {
     let (reader, _header) = DumpReader::head(alloc, source)?;
-    let mut state = reader.room(alloc)?;
-    let mut room = ChargeRoom::new(alloc, reader.cells(), reader.filter())?;
+    let (mut state, mut room) = rooms_for(alloc, &reader)?;
     walk(source, reader, &mut state, &mut room)
+}
+
+/// Room for a frame of a dump, and for the charge of its particles.
+pub fn rooms_for(
+    alloc: Global,
+    reader: &DumpReader,
+) -> Result<(Snapshot, ChargeRoom), pic_num::NoMemory>
+    ensures e { IfOk result (λ r. (r.0.e.cells ≡ reader.now.layout.cells)
+        × (r.0.e.side ≡ reader.now.layout.side)) }
+    ensures b { IfOk result (λ r. (r.0.b.cells ≡ reader.now.layout.cells)
+        × (r.0.b.side ≡ reader.now.layout.side)) }
+    ensures parts { IfOk result (λ r. (r.0.e.parts ≡ one_part) × (r.0.b.parts ≡ one_part)) }
+    ensures particles { IfOk result
+        (λ r. length r.0.particles.items ≡ sum reader.now.layout.counts) }
+    ensures room { IfOk result (λ r. IsRoomFor reader.now.layout r.1) }
+    ensures limits { IsLayout reader.now.layout }
+{
+    let cells = reader.cells();
+    let state = reader.room(alloc)?;
+    let room = ChargeRoom::new(alloc, cells, reader.filter())?;
+    Ok((state, room))
 }
 
 // Verifies the records behind the header.

@@ -1,7 +1,7 @@
 use Rattle.std.proofs.Common.{Err, ap}
 use Rattle.pic_dump.proofs.TakenLaws.{stops_taken, head_taken, records_taken}
 use Rattle.pic_verify.proofs.ReachedLaws.{stops_reached, reached_head, reached_behind}
-use Rattle.pic_resume.proofs.HeadLaws.{asked_both, carries_err, head_answer, steps_answer, tiles_answer, header_cut}
+use Rattle.pic_resume.proofs.HeadLaws.{carries_err, head_answer, asked_answer, header_cut}
 use Rattle.pic_resume.proofs.CarryLaws.{gives_all, stops_all, isnt_early, starves, exact}
 use Rattle.pic_resume.proofs.carrying.carry.Goals as goal
 
@@ -20,37 +20,20 @@ returns-in_err-reader-clause-reached g c = stops_reached _ _ _ _ _ c.in_err-read
 pub returns-in_err-reader-clause-exactly : goal.returns-in_err-reader-clause-exactly
 returns-in_err-reader-clause-exactly g c = exact _ _ _ _ _ _ _ (returns-in_err-reader-clause-carries g c)
 
--- steps that are refused
-pub returns-in_err-check_steps-clause-carries : goal.returns-in_err-check_steps-clause-carries
-returns-in_err-check_steps-clause-carries g c =
-    carries_err _ _ _ _ _ _ _ _ c.from_residual-in_err-check_steps.ensures.1 (steps_answer _ c.args.tiles _ _ _ _ _ _ c.steps.ensures.value
-    c.in_ok-reader.ensures.reads.answer c.in_err-check_steps.ensures.walks)
+-- steps or tiles that are refused
+pub returns-in_err-check_asked-clause-carries : goal.returns-in_err-check_asked-clause-carries
+returns-in_err-check_asked-clause-carries g c =
+    carries_err _ _ _ _ _ _ _ _ c.from_residual-in_err-check_asked.ensures.1 (asked_answer _ _ _ _ _ _ _ c.in_ok-reader.ensures.reads.answer
+    c.in_err-check_asked.ensures.walks)
 
-pub returns-in_err-check_steps-clause-taken : goal.returns-in_err-check_steps-clause-taken
-returns-in_err-check_steps-clause-taken g c = head_taken _ _ _ c.in_ok-reader.ensures.reads.answer
+pub returns-in_err-check_asked-clause-taken : goal.returns-in_err-check_asked-clause-taken
+returns-in_err-check_asked-clause-taken g c = head_taken _ _ _ c.in_ok-reader.ensures.reads.answer
 
-pub returns-in_err-check_steps-clause-reached : goal.returns-in_err-check_steps-clause-reached
-returns-in_err-check_steps-clause-reached g c = reached_head _ _ _ _ c.in_ok-reader.ensures.reads.answer
+pub returns-in_err-check_asked-clause-reached : goal.returns-in_err-check_asked-clause-reached
+returns-in_err-check_asked-clause-reached g c = reached_head _ _ _ _ c.in_ok-reader.ensures.reads.answer
 
-pub returns-in_err-check_steps-clause-exactly : goal.returns-in_err-check_steps-clause-exactly
-returns-in_err-check_steps-clause-exactly g c = exact _ _ _ _ _ _ _ (returns-in_err-check_steps-clause-carries g c)
-
--- tiles that are refused
-pub returns-in_err-check_tiles-clause-carries : goal.returns-in_err-check_tiles-clause-carries
-returns-in_err-check_tiles-clause-carries g c =
-    let fits = rw c.steps.ensures.value at c.in_ok-check_steps.ensures.walks in
-    let refused = rw c.cells.ensures.value at c.in_err-check_tiles.ensures.walks in
-    carries_err _ _ _ _ _ _ _ _ c.from_residual-in_err-check_tiles.ensures.1 (tiles_answer _ _ _ _ _ _ _ c.in_ok-reader.ensures.reads.answer fits.answer
-    refused)
-
-pub returns-in_err-check_tiles-clause-taken : goal.returns-in_err-check_tiles-clause-taken
-returns-in_err-check_tiles-clause-taken g c = head_taken _ _ _ c.in_ok-reader.ensures.reads.answer
-
-pub returns-in_err-check_tiles-clause-reached : goal.returns-in_err-check_tiles-clause-reached
-returns-in_err-check_tiles-clause-reached g c = reached_head _ _ _ _ c.in_ok-reader.ensures.reads.answer
-
-pub returns-in_err-check_tiles-clause-exactly : goal.returns-in_err-check_tiles-clause-exactly
-returns-in_err-check_tiles-clause-exactly g c = exact _ _ _ _ _ _ _ (returns-in_err-check_tiles-clause-carries g c)
+pub returns-in_err-check_asked-clause-exactly : goal.returns-in_err-check_asked-clause-exactly
+returns-in_err-check_asked-clause-exactly g c = exact _ _ _ _ _ _ _ (returns-in_err-check_asked-clause-carries g c)
 
 -- want of memory
 pub returns-in_err-last-clause-carries : goal.returns-in_err-last-clause-carries
@@ -62,22 +45,11 @@ returns-in_err-last-clause-taken g c = head_taken _ _ _ c.in_ok-reader.ensures.r
 pub returns-in_err-last-clause-reached : goal.returns-in_err-last-clause-reached
 returns-in_err-last-clause-reached g c = reached_head _ _ _ _ c.in_ok-reader.ensures.reads.answer
 
-pub returns-in_err-charge-clause-carries : goal.returns-in_err-charge-clause-carries
-returns-in_err-charge-clause-carries g c = starves _ _ _ _ _ _ _ c.from_residual-in_err-charge.ensures.1 c.in_ok-reader.ensures.reads.answer
-
-pub returns-in_err-charge-clause-taken : goal.returns-in_err-charge-clause-taken
-returns-in_err-charge-clause-taken g c = head_taken _ _ _ c.in_ok-reader.ensures.reads.answer
-
-pub returns-in_err-charge-clause-reached : goal.returns-in_err-charge-clause-reached
-returns-in_err-charge-clause-reached g c = reached_head _ _ _ _ c.in_ok-reader.ensures.reads.answer
-
 -- the put of the header failed
 pub returns-in-Err-clause-carries : goal.returns-in-Err-clause-carries
 returns-in-Err-clause-carries g c =
-    let fits = rw c.steps.ensures.value at c.in_ok-check_steps.ensures.walks in
-    let tiled = rw c.cells.ensures.value at c.in_ok-check_tiles.ensures.walks in
     record {
-      answer = header_cut _ _ _ _ _ _ _ _ _ c.in_ok-reader.ensures.reads.answer (asked_both _ _ _ fits.answer tiled.answer) c.with_steps-header.ensures
+      answer = header_cut _ _ _ _ _ _ _ _ _ c.in_ok-reader.ensures.reads.answer c.in_ok-check_asked.ensures.walks.answer c.with_steps-header.ensures
           c.in-Err.ensures.bytes c.in-Err.ensures.cause.err;
     }
 
@@ -90,11 +62,9 @@ returns-in-Err-clause-reached g c = reached_head _ _ _ _ c.in_ok-reader.ensures.
 -- behind the header
 pub returns-in_err-step-clause-carries : goal.returns-in_err-step-clause-carries
 returns-in_err-step-clause-carries g c =
-    let fits = rw c.steps.ensures.value at c.in_ok-check_steps.ensures.walks in
-    let tiled = rw c.cells.ensures.value at c.in_ok-check_tiles.ensures.walks in
     stops_all _ _ _ _ _ _ _ _ _ _ _ _ _ _ _ c.from_residual-in_err-step.ensures.1 (record {
       read = c.in_ok-reader.ensures.reads.answer;
-      allowed = asked_both _ _ _ fits.answer tiled.answer;
+      allowed = c.in_ok-check_asked.ensures.walks.answer;
       is = c.with_steps-header.ensures;
       put = c.in_default.ensures.bytes;
       calm = c.in_default.ensures.cause.ok;
@@ -117,17 +87,13 @@ returns-in_err-step-clause-early g c = λ early.
 
 pub returns-clause-carries : goal.returns-clause-carries
 returns-clause-carries g c =
-    let fits = rw c.steps.ensures.value at c.in_ok-check_steps.ensures.walks in
-    let tiled = rw c.cells.ensures.value at c.in_ok-check_tiles.ensures.walks in
-    let more = rw c.steps.ensures.value at c.in_ok-check_steps.ensures.exactly in
-    let cut = rw c.cells.ensures.value at c.in_ok-check_tiles.ensures.exactly in
     gives_all _ _ _ _ _ _ _ _ _ _ _ _ _ _ (record {
       read = c.in_ok-reader.ensures.reads.answer;
-      allowed = asked_both _ _ _ fits.answer tiled.answer;
+      allowed = c.in_ok-check_asked.ensures.walks.answer;
       is = c.with_steps-header.ensures;
       put = c.in_default.ensures.bytes;
       calm = c.in_default.ensures.cause.ok;
-    }) more.0.0 cut.0 c.in_ok-reader.ensures.stands c.in_ok-step.ensures
+    }) c.in_ok-check_asked.ensures.least c.in_ok-check_asked.ensures.tiled c.in_ok-reader.ensures.stands c.in_ok-step.ensures
 
 pub returns-clause-taken : goal.returns-clause-taken
 returns-clause-taken g c = records_taken _ _ _ _ _ c.in_ok-reader.ensures.reads.answer c.in_ok-reader.ensures.stands c.in_ok-step.ensures.moves

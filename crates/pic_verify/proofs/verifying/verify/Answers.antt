@@ -32,9 +32,3 @@ returns-in_err-state-clause-taken g c = head_taken _ _ _ c.in_ok-reader.ensures.
 
 pub returns-in_err-state-clause-reached : goal.returns-in_err-state-clause-reached
 returns-in_err-state-clause-reached g c = reached_head _ _ _ _ c.in_ok-reader.ensures.reads.answer
-
-pub returns-in_err-room-clause-taken : goal.returns-in_err-room-clause-taken
-returns-in_err-room-clause-taken g c = head_taken _ _ _ c.in_ok-reader.ensures.reads.answer
-
-pub returns-in_err-room-clause-reached : goal.returns-in_err-room-clause-reached
-returns-in_err-room-clause-reached g c = reached_head _ _ _ _ c.in_ok-reader.ensures.reads.answer
