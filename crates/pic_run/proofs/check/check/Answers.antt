@@ -11,7 +11,7 @@ pub returns-in-Ok : goal.returns-in-Ok
 returns-in-Ok g c =
     let r = g.R.Sink.told c.args.report.now in
     let opens = c.in-Ok.ensures in
-    let count = ap (λ (w : World). length w.particles) opens.opens.start in
+    let count = ap (λ (w : World). length w.particles) opens.opens.begins.start in
     on_opened check_outcome LeavesNothing CheckMeans c.in-Ok.opened (g.S.Source.told c.args.source.now) (g.S.Source.told c.open.new.source)
     (sinks (g.O.Sink.told c.args.out.now) r) (sinks (g.O.Sink.told c.put_count.new.out) r) c.put_count.result
     opens (c.put_count.ensures c.in-Ok.opened.deck r (omega arith))
