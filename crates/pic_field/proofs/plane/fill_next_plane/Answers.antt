@@ -21,6 +21,30 @@ loop-j-init c =
       next = λ k below past. absurd (omega (arith, below, past));
     }
 
+pub after_run-y-requires : goal.after_run-y-requires
+after_run-y-requires c =
+    let limit = c.numbers.ensures.limits.y_most in
+    let number = ap (λ (n : Triple). n.y) c.numbers.ensures.value in
+    let cells = ap (λ (n : Triple). n.y) c.cells.ensures.value in
+    let below = c.requires.within.y in
+    let first = c.requires.span.first in
+    record { count = omega (arith, limit, number); x = omega (arith, number, cells, below); run = omega (arith, number, cells, below, first) }
+
+pub scale_next-requires : goal.scale_next-requires
+scale_next-requires c = record {
+  within = record { x = c.requires.within.x; y = c.loop-j.invariant.below; z = c.requires.within.z };
+  span = c.requires.span;
+  small = c.requires.small;
+}
+
+pub after_run-y-requires-in-loop-j : goal.after_run-y-requires-in-loop-j
+after_run-y-requires-in-loop-j c =
+    let limit = c.numbers.ensures.limits.y_most in
+    let number = ap (λ (n : Triple). n.y) c.numbers.ensures.value in
+    let cells = ap (λ (n : Triple). n.y) c.cells.ensures.value in
+    let below = c.loop-j.invariant.below in
+    record { count = omega (arith, limit, number); x = omega (arith, number, cells, below); run = omega (arith, number, cells, below) }
+
 pub loop-j-preserved : goal.loop-j-preserved
 loop-j-preserved c =
     let f = c.args.from.now.field.now in

@@ -227,8 +227,8 @@ loop-done-preserved c =
       room_x = filled_long to.x c.scale_row.new.to done more (fits_x here) part_x ∙ h.room_x;
       room_y = filled_long to.y c.scale_row-in-loop-done.new.to done more_y (fits_y here) part_y ∙ h.room_y;
       room_z = filled_long to.z c.scale_row-in-loop-done-2.new.to done more_z (fits_z here) part_z ∙ h.room_z;
-      of_x = next here X c.run_at-of_x.result.now more (of_x here) to.x c.scale_row.new.to _ (omega (arith, fits_x here)) part_x h.of_x c.scale_row.ensures.values
-          c.scale_row.ensures.small;
+      of_x = next here X c.run_at-of_x.result.now more (of_x here) to.x c.scale_row.new.to _ (omega (arith, fits_x here)) part_x h.of_x
+          c.scale_row.ensures.values c.scale_row.ensures.small;
       of_y = λ is.
           subst (λ (m : ℕ). IsScaledRow c.args.from.now.field.now.cells (read_by c.args.from.now) Y (start_cell c.args.start) c.args.span.first
           (done + m) all_y)

@@ -94,42 +94,47 @@ pub sweep_row-calm_x-requires-clause-four : goal.sweep_row-calm_x-requires-claus
 sweep_row-calm_x-requires-clause-four c =
     let at = (goal.at.sweep_row-calm_x-requires-clause-four c).After-first_of-near in
     let k = known at in
-    let size = (same at) in
-    let most : c.first_of-near.result ≤ 1 = c.first_of-near.ensures.most in
-    let far : 1 - c.first_of-near.result ≤ 1 = omega arith in
+    let size = same at in
+    let near = c.first_of-near.result in
+    let own_line = c.args.lines.now.own.now in
+    let most : near ≤ 1 = c.first_of-near.ensures.most in
     record {
       far_third = first_row at Z _ _ c.args.lines.now.by_y.now.z c.part.result.now k.in_y.z size c.part.ensures.length c.part.ensures.values;
-      near_third = edge_row at Z _ c.first_of-near.result _ c.args.lines.now.own.now.z c.part-2.result.now most k.here.z size c.part-2.ensures.length c.part-2.ensures.values;
+      near_third = edge_row at Z _ near _ own_line.z c.part-2.result.now most k.here.z size c.part-2.ensures.length c.part-2.ensures.values;
       far_second = first_row at Y _ _ c.args.lines.now.by_z.now.y c.part-3.result.now k.in_z.y size c.part-3.ensures.length c.part-3.ensures.values;
-      near_second = edge_row at Y _ c.first_of-near.result _ c.args.lines.now.own.now.y c.part-4.result.now most k.here.y size c.part-4.ensures.length c.part-4.ensures.values;
+      near_second = edge_row at Y _ near _ own_line.y c.part-4.result.now most k.here.y size c.part-4.ensures.length c.part-4.ensures.values;
     }
 
 pub sweep_row-calm_y-requires-clause-four : goal.sweep_row-calm_y-requires-clause-four
 sweep_row-calm_y-requires-clause-four c =
     let at = (goal.at.sweep_row-calm_y-requires-clause-four c).After-first_of-near in
     let k = known at in
-    let size = (same at ∙ ap (λ (n : Triple). n.x) (sym c.sweep_row-calm_x.ensures.changed.shaped.size)) in
-    let most : c.first_of-near.result ≤ 1 = c.first_of-near.ensures.most in
-    let far : 1 - c.first_of-near.result ≤ 1 = omega arith in
+    let size = same at ∙ ap (λ (n : Triple). n.x) (sym c.sweep_row-calm_x.ensures.changed.shaped.size) in
+    let near = c.first_of-near.result in
+    let own_line = c.args.lines.now.own.now in
+    let most : near ≤ 1 = c.first_of-near.ensures.most in
+    let far : 1 - near ≤ 1 = omega arith in
     record {
       far_third = first_row at X _ _ c.args.lines.now.by_z.now.x c.part-5.result.now k.in_z.x size c.part-5.ensures.length c.part-5.ensures.values;
-      near_third = first_row at X _ _ c.args.lines.now.own.now.x c.part-6.result.now k.here.x size c.part-6.ensures.length c.part-6.ensures.values;
-      far_second = edge_row at Z _ (1 - c.first_of-near.result) _ c.args.lines.now.own.now.z c.part-7.result.now far k.here.z size c.part-7.ensures.length c.part-7.ensures.values;
-      near_second = edge_row at Z _ c.first_of-near.result _ c.args.lines.now.own.now.z c.part-8.result.now most k.here.z size c.part-8.ensures.length c.part-8.ensures.values;
+      near_third = first_row at X _ _ own_line.x c.part-6.result.now k.here.x size c.part-6.ensures.length c.part-6.ensures.values;
+      far_second = edge_row at Z _ (1 - near) _ own_line.z c.part-7.result.now far k.here.z size c.part-7.ensures.length c.part-7.ensures.values;
+      near_second = edge_row at Z _ near _ own_line.z c.part-8.result.now most k.here.z size c.part-8.ensures.length c.part-8.ensures.values;
     }
 
 pub sweep_row-calm_z-requires-clause-four : goal.sweep_row-calm_z-requires-clause-four
 sweep_row-calm_z-requires-clause-four c =
     let at = (goal.at.sweep_row-calm_z-requires-clause-four c).After-first_of-near in
     let k = known at in
-    let size = (same at ∙ ap (λ (n : Triple). n.x) (sym (c.sweep_row-calm_y.ensures.changed.shaped.size ∙ c.sweep_row-calm_x.ensures.changed.shaped.size))) in
-    let most : c.first_of-near.result ≤ 1 = c.first_of-near.ensures.most in
-    let far : 1 - c.first_of-near.result ≤ 1 = omega arith in
+    let size = same at ∙ ap (λ (n : Triple). n.x) (sym (c.sweep_row-calm_y.ensures.changed.shaped.size ∙ c.sweep_row-calm_x.ensures.changed.shaped.size)) in
+    let near = c.first_of-near.result in
+    let own_line = c.args.lines.now.own.now in
+    let most : near ≤ 1 = c.first_of-near.ensures.most in
+    let far : 1 - near ≤ 1 = omega arith in
     record {
-      far_third = edge_row at Y _ (1 - c.first_of-near.result) _ c.args.lines.now.own.now.y c.part-9.result.now far k.here.y size c.part-9.ensures.length c.part-9.ensures.values;
-      near_third = edge_row at Y _ c.first_of-near.result _ c.args.lines.now.own.now.y c.part-10.result.now most k.here.y size c.part-10.ensures.length c.part-10.ensures.values;
+      far_third = edge_row at Y _ (1 - near) _ own_line.y c.part-9.result.now far k.here.y size c.part-9.ensures.length c.part-9.ensures.values;
+      near_third = edge_row at Y _ near _ own_line.y c.part-10.result.now most k.here.y size c.part-10.ensures.length c.part-10.ensures.values;
       far_second = first_row at X _ _ c.args.lines.now.by_y.now.x c.part-11.result.now k.in_y.x size c.part-11.ensures.length c.part-11.ensures.values;
-      near_second = first_row at X _ _ c.args.lines.now.own.now.x c.part-12.result.now k.here.x size c.part-12.ensures.length c.part-12.ensures.values;
+      near_second = first_row at X _ _ own_line.x c.part-12.result.now k.here.x size c.part-12.ensures.length c.part-12.ensures.values;
     }
 
 pub sweep_row-calm_x-requires-clause-small : goal.sweep_row-calm_x-requires-clause-small
