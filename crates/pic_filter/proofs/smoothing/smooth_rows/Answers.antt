@@ -93,11 +93,12 @@ pub make_ready-requires : goal.make_ready-requires
 make_ready-requires c =
     let at = (goal.at.make_ready-requires c).In-loop-row in
     let h = c.loop-row.invariant in
+    let y = (triple c.loop-row.place.inner).y in
     record {
       within = on_grid at;
       small = c.requires.small;
       kept_small = h.small;
-      held = OnFalse_from (eqb (triple c.loop-row.place.inner).y 0) _ (λ later. h.ready.held (below at) (omega (arith, eqb-false (triple c.loop-row.place.inner).y 0 later)));
+      held = OnFalse_from (eqb y 0) _ (λ later. h.ready.held (below at) (omega (arith, eqb-false y 0 later)));
     }
 
 pub overflow_add-start : goal.overflow_add-start
