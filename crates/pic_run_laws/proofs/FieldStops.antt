@@ -1,7 +1,7 @@
 -- What stops a field phase, within the limits of a dump: a cell of the grid, and a value or force value
 -- past its bound, of 128 bits.
-use Rattle.std.proofs.Common.{◌≡◌, ℤ, ◌+◌, ◌-◌, ◌*◌, ◌/◌, ◌%◌, ◌^◌, ◌≤◌, Bool, true, false, [], ◌∷◌, if◌then◌else◌, ltb}
-use Rattle.std.proofs.Common.{unsigned_abs, Some, None, refl, sym, ◌∙◌, subst, arith, zero-add}
+use Rattle.std.proofs.Common.{◌≡◌, ℤ, ◌+◌, ◌-◌, ◌*◌, ◌^◌, ◌≤◌, Bool, true, false, [], ◌∷◌, if◌then◌else◌, ltb}
+use Rattle.std.proofs.Common.{unsigned_abs, Some, None, refl, sym, ◌∙◌, subst, arith}
 use Rattle.std.proofs.Math.IntN.{◌+ℤ◌, ◌-ℤ◌}
 use Rattle.std.proofs.lemmas.Bool.{ltb-true, ltb-false}
 use Rattle.std.proofs.lemmas.Int.{ints, fits_signed_from_abs}
@@ -14,19 +14,18 @@ use Rattle.pic_num.specs.Multiplier.{Multiplier, IsMultiplier}
 use Rattle.pic_num.specs.Rounding.{scaled}
 use Rattle.pic_num.specs.Sizes.{IsAtMost}
 use Rattle.pic_num.specs.Space.{Triple, next_axis}
-use Rattle.pic_num.proofs.FirstLaws.{first_of_some}
 use Rattle.pic_grid.specs.declared.stop.Bound.TheVariants.{Value, Force}
 use Rattle.pic_grid.specs.declared.stop.Phase.{Phase}
 use Rattle.pic_grid.specs.declared.stop.Stop.{Stop}
 use Rattle.pic_grid.specs.declared.stop.Stop.TheVariants.{Field as FieldStop}
-use Rattle.pic_grid.specs.Cells.{IsWithin, count_of, cell_of, axis_of}
+use Rattle.pic_grid.specs.Cells.{IsWithin}
 use Rattle.pic_grid.specs.Loops.{AreLoops}
 use Rattle.pic_grid.specs.Differences.{up, down, curl_b}
 use Rattle.pic_grid.specs.Lattice.{value_at}
 use Rattle.pic_grid.specs.Parts.{origin}
-use Rattle.pic_grid.proofs.CellLaws.{place_within}
 use Rattle.pic_drive.proofs.DriveLaws.{driven_size}
-use Rattle.pic_field.specs.FieldPhases.{half_of, full_of, driven_b, cell_above, fault_of, least_fault}
+use Rattle.pic_field.specs.FieldPhases.{half_of, full_of, driven_b, fault_of, least_fault}
+use Rattle.pic_field.proofs.FaultLaws.{box_finds, above_origin}
 use Rattle.pic_record.specs.Layout.{LayoutView}
 use Rattle.pic_step.specs.SerialStep.{World, e_of, b_of, drive_of, half_at, full_at}
 use Rattle.pic_step.specs.Sound.{IsSafe}
@@ -128,21 +127,13 @@ fault_fits l phase by a p v stop mult within small is = go (ltb (2 ^ 90) (unsign
         })
     go false false within_bound within_force found = absurd cc
 
--- the block of a whole grid begins at its first cell
-above_origin : (p : Triple) → cell_above origin p ≡ p
-above_origin p = λ i. record { x = zero-add p.x i; y = zero-add p.y i; z = zero-add p.z i }
-
 -- what stops a phase
 pub phase_stop_fits : (l : LayoutView) (phase : Phase) (by : Multiplier) (n : Triple) (g : Axis → Triple → ℤ) (stop : Stop) → n ≡ l.cells → IsMultiplier by
     → ((a : Axis) (p : Triple) → IsWithin p n → IsAtMost (g a p) (2 ^ 124)) → least_fault phase by origin n g ≡ Some stop → IsReadableStop l stop
-unfolding least_fault
 phase_stop_fits l phase by n g stop cells mult small is =
-    let found = first_of_some _ 0 (3 * count_of n) stop is in
-    let i = found.0 in
-    let high = found.1.high in
-    let a = axis_of (i / count_of n) in
-    let p = cell_of n (i % count_of n) in
-    let within = place_within n i (omega (arith, high)) in
+    let found = (box_finds phase by origin n g).some stop is in
+    let a = found.at.0 in
+    let p = found.at.1 in
     let here = above_origin p in
-    fault_fits l phase by a p (g a p) stop mult (subst (λ (m : Triple). IsWithin p m) cells within) (small a p within)
-    ((λ k. fault_of phase by a (sym here k) (g a (sym here k))) ∙ found.1.found)
+    fault_fits l phase by a p (g a p) stop mult (subst (λ (m : Triple). IsWithin p m) cells found.within) (small a p found.within)
+    ((λ k. fault_of phase by a (sym here k) (g a (sym here k))) ∙ found.found)

@@ -1,13 +1,11 @@
 -- What stops a push, within the limits of a dump: a particle of it, and a number past its limit, of 128
 -- bits.
-use Rattle.std.proofs.Common.{◌≡◌, ◌⊎◌, ℕ, suc, pos, ◌-◌, ◌^◌, ◌<◌, ◌≤◌, Bool, true, false, List, [], ◌∷◌, length, get_or, map, sum, All, ltb, if◌then◌else◌}
-use Rattle.std.proofs.Common.{unsigned_abs, Option, Some, None, Result, Ok, Err, inl, inr, refl, sym, ap, ◌∙◌, subst, arith}
+use Rattle.std.proofs.Common.{◌≡◌, ◌⊎◌, ℕ, pos, ◌-◌, ◌^◌, ◌<◌, ◌≤◌, Bool, true, false, List, length, get_or, map, sum, All, ltb, if◌then◌else◌}
+use Rattle.std.proofs.Common.{unsigned_abs, Option, Some, None, Err, inl, inr, refl, sym, ap, ◌∙◌, subst, arith}
 use Rattle.std.specs.Option.{option_or}
 use Rattle.std.specs.List.{range_with_len}
 use Rattle.std.proofs.lemmas.Bool.{ltb-true}
 use Rattle.std.proofs.lemmas.Int.{fits_signed_from_abs}
-use Rattle.std.proofs.lemmas.List.{get_or-map}
-use Rattle.std.proofs.lemmas.List.FromFn.{get_or-range_with_len}
 use mir.Syntax.{w128}
 use Rattle.pic_num.specs.declared.axis.Axis.{Axis}
 use Rattle.pic_num.specs.declared.axis.Axis.TheVariants.{X, Y, Z}
@@ -17,16 +15,18 @@ use Rattle.pic_num.specs.declared.motion.What.TheVariants.{Speed, Turn, Far}
 use Rattle.pic_num.specs.First.{first_of}
 use Rattle.pic_num.specs.Limits.{most_side, most_speed, most_turn, velocity_unit}
 use Rattle.pic_num.specs.Multiplier.{Multiplier, IsMultiplier}
-use Rattle.pic_num.specs.Push.{Shift, Halting, each, plus, turned, first_above, unless, pushed}
+use Rattle.pic_num.specs.Push.{Halting, each, plus, turned, first_above, pushed}
 use Rattle.pic_num.specs.Rounding.{rounded, scaled}
 use Rattle.pic_num.specs.Sizes.{IsAtMost}
 use Rattle.pic_num.specs.Space.{Triple, Spot, triple, spot, along, AreAtMost}
 use Rattle.pic_num.specs.Velocity.{IsKeptVelocity}
+pub use Rattle.pic_num.proofs.FirstLaws.{unless_err}
+use Rattle.pic_num.proofs.FirstLaws.{number_is}
 use Rattle.pic_grid.specs.declared.stop.Stop.{Stop}
-use Rattle.pic_grid.specs.declared.stop.Stop.TheVariants.{Push}
 use Rattle.pic_grid.specs.Gather.{gathered_e, gathered_b}
 use Rattle.pic_grid.specs.Cells.{IsCells, IsWithin}
-use Rattle.pic_grid.specs.PushPhase.{Surroundings, CanShare, kind_of, no_kind, push_of, halt_of, push_stop}
+use Rattle.pic_grid.specs.PushPhase.{Surroundings, CanShare, kind_of, no_kind, push_of, push_stop}
+use Rattle.pic_grid.proofs.LeastHaltLaws.{least_halt}
 use Rattle.pic_load.specs.Loading.{no_particle}
 use Rattle.pic_boris.proofs.MoveLaws.{kept_sizes}
 use Rattle.pic_boris.proofs.TurnLaws.{more_at_most}
@@ -95,10 +95,6 @@ halt_fits side what p h small is =
     let size = along_size is.axis p (2 ^ 97) small in
     subst (IsHalt side) (sym is.is) (record { past = is.above; fits = fits_signed_from_abs w128 (along is.axis p) (omega (arith, size)) })
 
-pub unless_err : {A S : Type 0} (o : Option S) (a : A) (s : S) → unless o a ≡ Err s → o ≡ Some s
-unless_err None a s is = absurd cc
-unless_err (Some t) a s is = let same : t ≡ s = cc in ap (λ x. Some x) same
-
 at_most_from : (p : Spot) (m : ℕ) → ((a : Axis) → unsigned_abs (along a p) ≤ m) → AreAtMost p m
 at_most_from p m small = record { x = record { size = small X }; y = record { size = small Y }; z = record { size = small Z } }
 
@@ -147,25 +143,6 @@ pushed_halts side v e b kick turn h slow near_e near_b kick_is turn_is halts =
     parts_halt side (plus v half) turn_by half h (plus_size v half (2 ^ 31 - 1) (2 ^ 96) (2 ^ 97) (omega arith) slow small)
     (more_at_most turn_by (2 ^ 96) (2 ^ 97) (omega arith) (kick_size b turn turn_is near_b)) small (unless_err _ _ h halts)
 
--- what stops the push of a list is a halt of one of its particles
-record IsHaltOf (w : Surroundings) (particles : List Particle) (stop : Stop) : Type 0 where
-  at : ℕ
-  below : at < length particles
-  halts : (d : Particle) → halt_of (get_or particles at d) (push_of w (get_or particles at d)) ≡ Some stop
-
-halt_in : (w : Surroundings) (particles : List Particle) (stop : Stop) → push_stop w particles ≡ Some stop → IsHaltOf w particles stop
-unfolding push_stop first_of
-halt_in w [] stop is = absurd cc
-halt_in w (particle ∷ particles) stop is = go (λ later. halt_in w particles stop later) (either _ _ stop is)
-  where
-    go : (push_stop w particles ≡ Some stop → IsHaltOf w particles stop)
-        → IsEither (halt_of particle (push_of w particle)) (push_stop w particles) stop → IsHaltOf w (particle ∷ particles) stop
-    go rest (inl is) = record { at = 0; below = omega arith; halts = λ d. is }
-    go rest (inr (none, is)) =
-        let found = rest is in
-        let below = found.below in
-        record { at = suc found.at; below = omega (arith, below); halts = found.halts }
-
 -- a push phase within the limits: its force values, its particles and its species
 pub record IsSmallPush (w : Surroundings) (particles : List Particle) : Type 0 where
   pub some : 0 < w.side
@@ -191,32 +168,17 @@ push_halts w particles i d h small below halts =
     (gathered_b_size w.side w.cells w.of_b (triple particle.x) small.some small.cells small.b)
     mult.kick mult.turn halts
 
-identity_is : (particles : List Particle) (i : ℕ) (d : Particle) → map (λ particle. particle.id) particles ≡ range_with_len 0 (length particles)
-    → i < length particles → (get_or particles i d).id ≡ i
-identity_is particles i d ids below =
-    let here = sym (get_or-map (λ (p : Particle). p.id) particles i d 0 below)
-    ∙ ap (λ (xs : List ℕ). get_or xs i 0) ids
-    ∙ get_or-range_with_len 0 (length particles) i 0 below in
-    omega (arith, here)
-
--- the stop of a halt
-halt_stop : (l : LayoutView) (w : Surroundings) (particles : List Particle) (i : ℕ) (stop : Stop) (r : Result Shift Halting) → IsSmallPush w particles
-    → w.side ≡ l.side → length particles ≡ sum l.counts → i < length particles → push_of w (get_or particles i no_particle) ≡ r
-    → halt_of (get_or particles i no_particle) r ≡ Some stop → IsReadableStop l stop
-unfolding halt_of
-halt_stop l w particles i stop (Ok s) small side count below at e = absurd cc
-halt_stop l w particles i stop (Err h) small side count below at e =
-    let particle = get_or particles i no_particle in
-    let same : Push particle.id h.what h.axis h.value ≡ stop = cc in
-    let id = identity_is particles i no_particle small.identities below in
-    subst (IsReadableStop l) same (record {
-      identity = omega (arith, id, below, count);
-      number = subst (λ (n : ℕ). IsPast (what_limit n h.what) h.value) side (push_halts w particles i no_particle h small below at);
-    })
-
 -- what stops the push phase
 pub push_stop_fits : (l : LayoutView) (w : Surroundings) (particles : List Particle) (stop : Stop) → IsSmallPush w particles → w.side ≡ l.side
     → length particles ≡ sum l.counts → push_stop w particles ≡ Some stop → IsReadableStop l stop
 push_stop_fits l w particles stop small side count is =
-    let found = halt_in w particles stop is in
-    halt_stop l w particles found.at stop (push_of w (get_or particles found.at no_particle)) small side count found.below refl (found.halts no_particle)
+    let halt = ((least_halt w particles small.identities).some stop).0 is in
+    let i = halt.among.0 in
+    let below = halt.among.1 in
+    let at = halt.among.2 in
+    let past = push_halts w particles i halt.particle halt.halting small below (ap (push_of w) at ∙ halt.halts) in
+    let id = ap (λ (p : Particle). p.id) (sym at) ∙ number_is (λ (p : Particle). p.id) particles no_particle small.identities i halt.particle below in
+    subst (IsReadableStop l) (sym halt.named) (record {
+      identity = omega (arith, id, below, count);
+      number = subst (λ (n : ℕ). IsPast (what_limit n halt.halting.what) halt.halting.value) side past;
+    })
