@@ -12,7 +12,8 @@ put_record-requires g c =
 
 pub put_summary-requires : goal.put_summary-requires
 put_summary-requires g c =
-    holds_filled c.args.room.now c.fill.new.to c.args.state.now.world c.requires.room c.fill.ensures.e c.fill.ensures.b c.fill.ensures.particles
+    let to = c.fill-in-Lines.ensures in
+    holds_filled c.args.room.now c.fill-in-Lines.new.to c.args.state.now.world c.requires.room to.e to.b to.particles
 
 pub look-requires-clause-probes : goal.look-requires-clause-probes
 look-requires-clause-probes g c =
@@ -31,10 +32,12 @@ look-requires-clause-ordered g c =
     can.ordered
 
 pub returns-in-Dump-clause-look : goal.returns-in-Dump-clause-look
-returns-in-Dump-clause-look g c = subst (λ (output : Output). CanLook output _ c.args.state.now.followed) (sym c.in-Dump.is) tt
+returns-in-Dump-clause-look g c =
+    subst (λ (output : Output). CanLook output c.fill.new.to c.args.state.now.followed) (sym c.in-Dump.is) tt
 
 pub returns-in-Lines-clause-look : goal.returns-in-Lines-clause-look
-returns-in-Lines-clause-look g c = subst (λ (output : Output). CanLook output _ c.args.state.now.followed) (sym c.in-Lines.is) tt
+returns-in-Lines-clause-look g c =
+    subst (λ (output : Output). CanLook output c.fill-in-Lines.new.to c.args.state.now.followed) (sym c.in-Lines.is) tt
 
 pub returns-in-Probe-clause-look : goal.returns-in-Probe-clause-look
 returns-in-Probe-clause-look g c =
