@@ -31,11 +31,11 @@ use Rattle.pic_open.specs.declared.source_reader.SourceStop.{SourceStop}
 use Rattle.pic_open.specs.declared.source_reader.SourceStop.TheVariants as source_stop
 use Rattle.pic_open.specs.DeckEnd.{Unread, Unfit, Unmet, Staged, ◌>>=◌}
 use Rattle.pic_open.specs.Stops.{stop_of_reading, stop_of_deck, stop_of_displace}
-use Rattle.pic_open.specs.Opened.{IsTested, IsEndOf, Tests, Opens}
+use Rattle.pic_open.specs.Opened.{IsTested, IsEndOf, Loads, Tests, Opens}
 use Rattle.pic_open.specs.Stages.{accepted, gauss_tested, tested, opened, unless_refused, unless_gauss_fails, unless_too_strong}
 use Rattle.pic_open.specs.DeckReading.{deck_limit, TakesOfDeck, TakesAtMost, ReadsAll, TookAll}
 use Rattle.pic_report.specs.Reading.{Given, Held, Failed, Gave, Reading}
-use Rattle.pic_open.specs.Starting.{displaced_start, first_state, state_break}
+use Rattle.pic_open.specs.Starting.{first_state, state_break}
 use Rattle.pic_report.proofs.EndLaws.{gave_known}
 
 -- a reading of a deck that took so much
@@ -145,10 +145,15 @@ too_strong d refusal strong = record {
 
 -- so a displaced start stops the stages of a deck
 pub not_displaced : (fault : DisplaceFault) (d : DeckView) (particles : List Particle) (old new : Field) → particles ≡ loaded d
-    → Displaces d particles old new (Err fault) → Tests d (Err (stop_of_displace fault))
+    → Displaces d particles old new (Err fault) → Loads d (Err (stop_of_displace fault))
 not_displaced (displace_fault.Refused refusal) d particles old new same displaces =
     too_strong d refusal (subst (λ (ps : List Particle). displaced_allowed d ps ≡ Err refusal) same displaces.1)
 not_displaced displace_fault.NoMemory d particles old new same displaces = tt
+
+-- what ends the loading of a deck ends its test
+pub not_loaded : (d : DeckView) (stop : StageStop) → Loads d (Err stop) → Tests d (Err stop)
+not_loaded d (Answer why) ends = ends
+not_loaded d NoMemory ends = tt
 
 -- a deck that can be run, and one that doesn't meet Gauss's law
 after_displaced : (d : DeckView) (s : Staged DeckView) → displaced_allowed d (loaded d) ≡ Ok tt → gauss_tested d ≡ s → tested d ≡ s

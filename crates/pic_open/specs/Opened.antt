@@ -3,9 +3,13 @@ use Rattle.std.specs.Prelude.{◌≡◌, ⊤, ℕ, ◌<◌, List, length, Result
 use Rattle.pic_io.specs.Told.{Told, Calm}
 use Rattle.pic_io.specs.Source.{IsAtEnd}
 use Rattle.pic_deck.specs.Deck.{DeckView}
+use Rattle.pic_load.specs.Loading.{loaded, AreLoaded}
+use Rattle.pic_displace.specs.Displace.{displaced_allowed}
 use Rattle.pic_devices.specs.Probes.{AreProbes}
 use Rattle.pic_step.specs.Kept.{AreTiled}
-use Rattle.pic_step.specs.Sound.{IsSound}
+use Rattle.pic_step.specs.SerialStep.{e_of}
+use Rattle.pic_step.specs.Sound.{IsSafe, IsSound}
+use Rattle.pic_step.specs.declared.start.Start.{Start}
 use Rattle.pic_step.specs.Start.{begun}
 use Rattle.pic_report.specs.declared.early.Early.{Early}
 use Rattle.pic_open.specs.declared.stage_stop.StageStop.{StageStop}
@@ -36,6 +40,21 @@ pub record IsEndOf (stage : Staged DeckView) (why : Early) : Type 0 where
   pub end : DeckEnd
   pub is : stage ≡ Err end
   pub answer : ended_early why ≡ ended_at end
+
+-- the displaced start of a deck isn't too strong; it stands here, with the deck's particles, its fields cut
+-- into the deck's tiles, and safe force values
+pub record IsLoaded (d : DeckView) (s : Start) : Type 0 where
+  pub fit : displaced_allowed d (loaded d) ≡ Ok tt
+  pub start : begun s ≡ first_state d
+  pub tiled : AreTiled s.setup.map s.e s.b
+  pub particles : AreLoaded d s.particles.items
+  pub safe : IsSafe d.scales.e_force (e_of (begun s))
+
+-- what loading a deck answers
+abbrev pub Loads : DeckView → Result Start StageStop → Type 0
+Loads d (Ok start) = IsLoaded d start
+Loads d (Err (Answer why)) = IsEndOf (tested d) why
+Loads d (Err NoMemory) = ⊤
 
 -- what testing a deck answers
 abbrev pub Tests : DeckView → Result Opened StageStop → Type 0

@@ -1,7 +1,7 @@
 //! The stages of a deck: it is read and walked, its particles are loaded and their species displaced,
 //! Gauss's law is tested.
 
-ghost use Rattle.pic_open.specs.Opened.{Opens, Tests};
+ghost use Rattle.pic_open.specs.Opened.{Loads, Opens, Tests};
 
 use crate::gauss_test::find_break;
 use crate::source_reader::{greatest_deck, read_all};
@@ -36,12 +36,21 @@ pub fn open<S: Source>(alloc: Global, source: &mut S) -> Result<Opened, StageSto
 pub fn load_and_test(alloc: Global, deck: Deck) -> Result<Opened, StageStop>
     ensures { Tests deck result }
 {
-    let particles = load(alloc, &deck)?;
-    let mut start = Start::new(alloc, &deck, particles)?;
-    displace(alloc, &deck, &start.particles, &mut start.e)?;
+    let start = load_displaced(alloc, &deck)?;
     let _limits = deck.version();
     match find_break(alloc, &deck, &start)? {
         None => Ok(Opened { deck, start }),
         Some(at) => Err(StageStop::Answer(Early::Gauss(at))),
     }
+}
+
+// What a deck's run begins with: its particles, as they are loaded, and the E of their displaced start.
+fn load_displaced(alloc: Global, deck: &Deck) -> Result<Start, StageStop>
+    ensures { Loads deck.now result }
+{
+    let particles = load(alloc, deck)?;
+    let mut start = Start::new(alloc, deck, particles)?;
+    displace(alloc, deck, &start.particles, &mut start.e)?;
+    let _limits = deck.version();
+    Ok(start)
 }

@@ -52,7 +52,7 @@ find_break-requires-clause-most c =
     let n = ap (λ (g : Grid). g.n) cells ∙ sym (ap (λ (w : World). w.cells) c.requires.start) in
     λ a p within. subst (λ (f : Axis → Triple → ℤ). IsAtMost (f a p) (2 ^ 90)) (sym (e_values c.args.start.now c.requires.tiled))
     (let bounded = c.requires.safe.bounded a p
-        (subst (IsWithin p) n (subst (λ (r : RoomView). IsWithin p r.grid.n) c.in_ok-room.ensures within)) in bounded.value)
+    (subst (IsWithin p) n (subst (λ (r : RoomView). IsWithin p r.grid.n) c.in_ok-room.ensures within)) in bounded.value)
 
 pub returns-clause-value : goal.returns-clause-value
 unfolding state_break
@@ -67,7 +67,7 @@ returns-clause-value c =
     let side : g.side ≡ w.side = ap (λ (h : Grid). h.side) c.cells-cells.ensures.value ∙ sym (ap (λ (v : World). v.side) c.requires.start) in
     c.find_break.ensures.value
     ∙ ap (λ (r : RoomView). first_break r.grid.n (div_e r.grid.n e) (rho_of r.grid.side r.filter r.grid.n c.as_slice-kinds.result.now c.deref.result.now))
-        c.in_ok-room.ensures
+    c.in_ok-room.ensures
     ∙ (λ i. first_break (n i) (div_e (n i) (same i)) (rho_of (side i) w.filter (n i) (kinds i) (particles i)))
 
 pub returns-clause-sound : goal.returns-clause-sound
