@@ -85,9 +85,9 @@ fn stage_for(alloc: Global, start: Start, output: &Output) -> Result<Stage, NoMe
     ensures room { IfOk result (λ stage. HasShape stage.room stage.state.world) }
     ensures look { IfOk result (λ stage. CanLook output.now stage.room stage.state.followed) }
 {
-    let Stage { state, mut room } = stage_of(alloc, start, output.followed())?;
-    state.fill(&mut room);
-    Ok(Stage { state, room })
+    let mut stage = stage_of(alloc, start, output.followed())?;
+    stage.state.fill(&mut stage.room);
+    Ok(stage)
 }
 
 /// The due frames of a run from its first state, and then its end.

@@ -11,5 +11,5 @@ stage_of-requires-clause-ids c =
 
 pub returns-clause-look : goal.returns-clause-look
 returns-clause-look c =
-    look_first c.args.output.now c.fill.new.to c.in_ok-state.state.world c.in_ok-state.state.followed (c.in_ok-state.ensures.followed ∙ c.followed.ensures)
-    c.fill.ensures.particles c.fill.ensures.sound.ordered
+    look_first c.args.output.now c.fill.new.to c.in_ok-stage.stage.state.world c.in_ok-stage.stage.state.followed
+    (c.in_ok-stage.ensures.followed ∙ c.followed.ensures) c.fill.ensures.particles c.fill.ensures.sound.ordered
