@@ -12,4 +12,4 @@ mod vector;
 
 pub use halt::Halt;
 pub use moved::Moved;
-pub use pushing::push;
+pub use pushing::{push, push_wide};

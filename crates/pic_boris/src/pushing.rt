@@ -23,7 +23,6 @@ use pic_num::{MAX_SPEED, MAX_TURN, Mult, Sub, What};
 /// `Speed` where a component of the velocity after half of the kick is above 2^40 in size, else
 /// `Turn` where one of the turn is above 2^24, else `Far` where one of the move is above the side of
 /// a cell; each on the first axis of x, y, z that fails.
-#[inline(always)]
 pub fn push(
     sub: Sub,
     v: [i32; 3],
@@ -41,9 +40,12 @@ pub fn push(
     }
 }
 
-/// The push in 128 bits, of any numbers.
+/// The same, in 128 bits alone.
+///
+/// # Errors
+/// As `push` has them.
 #[tactic(auto, unfolding(pic_num::specs::Push::pushed))]
-fn push_wide(
+pub fn push_wide(
     sub: Sub,
     v: [i32; 3],
     e: [i64; 3],

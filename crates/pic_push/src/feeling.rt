@@ -16,7 +16,6 @@ use pic_grid::Lattice;
 use pic_num::{Kind, Particle, Sub};
 
 /// A particle's new velocity and its move, by the force values at its position, or what halts it.
-#[inline(always)]
 pub(crate) fn feel(
     sub: Sub,
     kinds: &[Kind],

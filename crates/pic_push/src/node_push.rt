@@ -26,8 +26,7 @@ use pic_num::Particle;
 use pic_tile::{Frame, Parcel, Tile};
 
 /// A particle's new velocity and its move in a frame, or what halts it.
-#[inline(always)]
-pub(crate) fn feel_in(frame: &Frame, particle: &Particle) -> Result<Moved, Halt>
+fn feel_in(frame: &Frame, particle: &Particle) -> Result<Moved, Halt>
     requires { let m = frame.now.map in
         CanShare m.side (cells_of m) frame.now.kinds particle.now }
     ensures pushed { Pushes (push_of (felt_in frame.now) particle.now) result }
