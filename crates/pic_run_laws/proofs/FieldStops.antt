@@ -79,7 +79,7 @@ curl_less n g v j a p small value less within =
 -- a new value of E, with the current j
 pub full_size : (w : World) (j : Axis → Triple → ℤ) (a : Axis) (p : Triple) → IsMultiplier w.scales.b_to_e → IsSafe w.scales.e_force (e_of w)
     → IsSafe w.scales.b_force (b_of w) → AreLoops w.cells most_loops w.loops → IsAtMost (j a p) (2 ^ 96) → IsWithin p w.cells
-        → IsAtMost (full_at j w a p) (2 ^ 124)
+    → IsAtMost (full_at j w a p) (2 ^ 124)
 unfolding full_of
 full_size w j a p mult e_safe b_safe loops small within =
     curl_less w.cells (driven_b w.scales (b_of w) (drive_of w)) (value_at (e_of w) a p) (j a p) a p part (e_safe.bounded a p within).value small within

@@ -85,5 +85,11 @@ loops_after w = after_keeps (λ n u. u.loops ≡ w.loops) w refl (λ n u v to is
 -- such a state stands in its frame, under a header of its loops
 pub stands : (h : HeaderView) (w : World) → IsOfLayout (layout_of h) w → w.loops ≡ h.loops → world_in h (frame_in w) ≡ w
 stands h w of loops =
-    λ i. record w { side = sym of.side i; cells = sym of.cells i; filter = sym of.filter i; loops = sym loops i;
-        scales = sym of.scales i; kinds = sym of.kinds i }
+    λ i. record w {
+      side = sym of.side i;
+      cells = sym of.cells i;
+      filter = sym of.filter i;
+      loops = sym loops i;
+      scales = sym of.scales i;
+      kinds = sym of.kinds i;
+    }
