@@ -5,7 +5,7 @@ ghost use Rattle.pic_tile.specs.Directions.{directions};
 ghost use Rattle.pic_tile.specs.Tile.{parcel_at, with_parcel};
 ghost use Rattle.pic_yard.specs.Contents.{to_of};
 ghost use Rattle.pic_yard.specs.Yards.{IsSentBy, Owes, Serves, opening_of, view_of};
-ghost use Rattle.pic_crew.specs.Posting.{HasPostedAll, OwesAll, posted};
+ghost use Rattle.pic_crew.specs.Posting.{HasPostedAll, HasSent, OwesAll};
 ghost use Rattle.pic_crew.specs.Teams.{CanWork, HasWorked};
 
 use crate::opening::{begin, one_tile};
@@ -17,6 +17,7 @@ use pic_yard::{Claim, Posted, Seat, Yard};
 use std::alloc::Global;
 
 // posts a parcel, finishes the tile if this was the last to come to it, and says whether it was
+#[tactic(auto, using(pic_crew::proofs::SendLaws::sent_one, pic_crew::proofs::SendLaws::sent_two))]
 fn send(yard: &Yard, seat: &mut Seat, claim: &mut Claim, dir: Dir) -> bool
     requires serves { Serves yard.now seat.old }
     requires owes { Owes (opening_of yard.now) (view_of seat.old) claim.old.number dir }
@@ -24,8 +25,8 @@ fn send(yard: &Yard, seat: &mut Seat, claim: &mut Claim, dir: Dir) -> bool
     requires worked { let o = opening_of yard.now in
         IsSentBy o claim.old.number dir (parcel_at claim.old.held dir) }
     ensures serves { Serves yard.now seat.new }
-    ensures view { view_of seat.new
-        ≡ posted (to_of (opening_of yard.now) claim.old.number dir) dir (view_of seat.old) }
+    ensures sent { let r = to_of (opening_of yard.now) claim.old.number dir in
+        HasSent r dir (view_of seat.old) (view_of seat.new) }
     ensures number { claim.new.number ≡ claim.old.number }
     ensures taken { claim.new.held ≡ with_parcel claim.old.held dir None }
 {

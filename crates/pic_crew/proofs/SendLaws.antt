@@ -1,5 +1,5 @@
 -- What a seat owes while it posts the parcels of its claim.
-use Rattle.std.proofs.Common.{◌≡◌, ℕ, ◌+◌, ◌<◌, ◌≤◌, inl, inr, List, [], ◌∷◌, ◌++◌, None, refl, sym, ◌∙◌, ap, subst, arith}
+use Rattle.std.proofs.Common.{◌≡◌, ℕ, suc, ◌+◌, ◌<◌, ◌≤◌, inl, inr, List, [], ◌∷◌, ◌++◌, Bool, eqb, eq-eqb, ne_eqb, if◌then◌else◌, None, refl, sym, ◌∙◌, ap, subst, arith}
 use Rattle.std.proofs.lemmas.List.{get_or-set_other}
 use Rattle.atomic_table.specs.declared.shared.Seat.{Seat}
 use Rattle.pic_tile.specs.Directions.{directions}
@@ -9,12 +9,12 @@ use Rattle.pic_yard.specs.declared.view.View.{View}
 use Rattle.pic_yard.specs.declared.yard.Yard.{Yard}
 use Rattle.pic_yard.specs.Claims.{ClaimValue}
 use Rattle.pic_yard.specs.Contents.{Slot, tiles_in, to_of}
-use Rattle.pic_yard.specs.Members.{In, same_pair}
+use Rattle.pic_yard.specs.Members.{In, same_pair, without}
 use Rattle.pic_yard.specs.Seats.{HoldsNothing}
-use Rattle.pic_yard.specs.Steps.{boxes_of, did_claim}
+use Rattle.pic_yard.specs.Steps.{boxes_of, did_claim, did_post, gave_back}
 use Rattle.pic_yard.specs.Yards.{IsSentBy, Serves, opening_of, view_of}
 use Rattle.pic_yard.proofs.MemberLaws.{in_left, in_parts, in_boxes, boxes_in, kept, was_in, unseen_in, pair_apart, pair_other}
-use Rattle.pic_crew.specs.Posting.{HasPostedAll, HasPostedSome, OwesAll, OwesFrom, posted}
+use Rattle.pic_crew.specs.Posting.{HasPostedAll, HasPostedSome, HasSent, OwesAll, OwesFrom, posted}
 use Rattle.pic_crew.proofs.Turns.{IsSending}
 
 -- after a claim by a seat that lists nothing
@@ -34,10 +34,39 @@ owes_claim o n old new below idle is =
       rights = ap (λ (v : View). v.rights) is ∙ idle.rights;
     }
 
+-- a post that is counted takes one step
+pub sent_one : (r d n : ℕ) (old new : View) → new ≡ did_post directions r d n old → suc n < directions → HasSent r d old new
+sent_one r d n old new is few =
+    let Now : List ℕ → View = λ rights. record old {
+      owes = without (same_pair r d) old.owes;
+      rights = rights;
+      steps = suc old.steps;
+    } in
+    let now : new ≡ posted r d (suc old.steps) old =
+    is ∙ ap (λ (b : Bool). Now (if b then r ∷ old.rights else old.rights)) (ne_eqb (suc n) directions (λ e. omega (arith, e, few))) in
+    subst (λ (v : View). HasSent r d old v) (sym now) (record { steps = inl refl; view = refl })
+
+-- where it was the last, and the tile is given back, there are two; a seat that had no right has none
+pub sent_two : (r d n q : ℕ) (old mid new : View) → old.rights ≡ [] → mid ≡ did_post directions r d n old → (suc n ≡ directions) × (q ≡ r)
+    → new ≡ gave_back q mid → HasSent r d old new
+sent_two r d n q old mid new none is last back =
+    let Now : List ℕ → View = λ rights. record old {
+      owes = without (same_pair r d) old.owes;
+      rights = rights;
+      steps = suc (suc old.steps);
+    } in
+    let rights : without (eqb q) (r ∷ old.rights) ≡ old.rights =
+    ap (λ (b : Bool). if b then without (eqb q) old.rights else r ∷ without (eqb q) old.rights) (eq-eqb q r last.1)
+    ∙ ap (λ (rs : List ℕ). without (eqb q) rs) none ∙ sym none in
+    let now : new ≡ posted r d (suc (suc old.steps)) old =
+    back ∙ ap (λ (v : View). gave_back q v) is
+    ∙ ap (λ (b : Bool). Now (without (eqb q) (if b then r ∷ old.rights else old.rights))) (eq-eqb (suc n) directions last.0) ∙ ap Now rights in
+    subst (λ (v : View). HasSent r d old v) (sym now) (record { steps = inr refl; view = refl })
+
 -- one is posted
-pub owes_more : (o : Opening) (t d : ℕ) (v new : View) → OwesFrom o t d v → new ≡ posted (to_of o t d) d v → OwesFrom o t (d + 1) new
-owes_more o t d v new owes is =
-    subst (λ (u : View). OwesFrom o t (d + 1) u) (sym is)
+owes_more : (o : Opening) (t d : ℕ) (v new : View) → OwesFrom o t d v → HasSent (to_of o t d) d v new → OwesFrom o t (d + 1) new
+owes_more o t d v new owes sent =
+    subst (λ (u : View). OwesFrom o t (d + 1) u) (sym sent.view)
     (record {
       tile = owes.tile;
       lists = λ r e had.
@@ -74,8 +103,8 @@ worked_more o t d e old new is apart sent =
 pub some_none : (v : View) → HasPostedSome v v
 some_none v = record { same = record { number = refl; taken = refl; unmade = refl }; drawn = refl; told = refl }
 
-pub some_more : (r d : ℕ) (old v new : View) → HasPostedSome old v → new ≡ posted r d v → HasPostedSome old new
-some_more r d old v new some is = record {
+some_more : (r d : ℕ) (old v new : View) → HasPostedSome old v → HasSent r d v new → HasPostedSome old new
+some_more r d old v new some sent = let is = sent.view in record {
   same = record {
     number = ap (λ (u : View). u.number) is ∙ some.same.number;
     taken = ap (λ (u : View). u.taken) is ∙ some.same.taken;
@@ -97,13 +126,13 @@ module _ (yard : Yard) (t : ℕ) (old : Seat Slot View) where
   }
 
   pub sending_more : (d dir : ℕ) (seat new : Seat Slot View) (claim after : ClaimValue) → dir ≡ d → IsSending yard t d old seat claim → Serves yard new
-      → view_of new ≡ posted (to_of (opening_of yard) claim.number dir) dir (view_of seat) → after.number ≡ claim.number
+      → HasSent (to_of (opening_of yard) claim.number dir) dir (view_of seat) (view_of new) → after.number ≡ claim.number
       → after.held ≡ with_parcel claim.held dir None → IsSending yard t (d + 1) old new after
-  sending_more d dir seat new claim after is sending serves view number taken =
+  sending_more d dir seat new claim after is sending serves sent number taken =
       let o = opening_of yard in
-      let post : view_of new ≡ posted (to_of o t d) d (view_of seat) =
-      subst (λ (k : ℕ). view_of new ≡ posted (to_of o k d) d (view_of seat)) sending.number
-      (subst (λ (e : ℕ). view_of new ≡ posted (to_of o claim.number e) e (view_of seat)) is view) in
+      let post : HasSent (to_of o t d) d (view_of seat) (view_of new) =
+      subst (λ (k : ℕ). HasSent (to_of o k d) d (view_of seat) (view_of new)) sending.number
+      (subst (λ (e : ℕ). HasSent (to_of o claim.number e) e (view_of seat) (view_of new)) is sent) in
       record {
         serves = serves;
         number = number ∙ sending.number;

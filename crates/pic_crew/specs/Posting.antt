@@ -1,5 +1,5 @@
 -- The parcels of a worked tile are posted one after another.
-use Rattle.std.specs.Prelude.{◌≡◌, ℕ, ◌<◌, ◌≤◌, []}
+use Rattle.std.specs.Prelude.{◌≡◌, ℕ, suc, ◌<◌, ◌≤◌, ◌⊎◌, []}
 use Rattle.pic_tile.specs.Directions.{directions}
 use Rattle.pic_yard.specs.declared.opening.Opening.{Opening}
 use Rattle.pic_yard.specs.declared.view.View.{View}
@@ -7,9 +7,14 @@ use Rattle.pic_yard.specs.Contents.{tiles_in, to_of}
 use Rattle.pic_yard.specs.Members.{In, same_pair, without}
 use Rattle.pic_yard.specs.Seats.{HoldsNothing}
 
--- a seat that posted the parcel (r, d), and has no right afterwards
-abbrev pub posted : ℕ → ℕ → View → View
-posted r d v = record v { owes = without (same_pair r d) v.owes }
+-- a seat that posted the parcel (r, d), after so many steps on words in all, and has no right
+abbrev pub posted : ℕ → ℕ → ℕ → View → View
+posted r d steps v = record v { owes = without (same_pair r d) v.owes; steps = steps }
+
+-- it posted it by one step, and where it was the last to arrive, gave its tile back by another
+pub record HasSent (r d : ℕ) (old new : View) : Type 0 where
+  pub steps : (new.steps ≡ suc old.steps) ⊎ (new.steps ≡ suc (suc old.steps))
+  pub view : new ≡ posted r d new.steps old
 
 -- a seat whose one claim is that of the tile t, of which it owes the parcels from the direction d
 -- on; it has no right

@@ -26,6 +26,7 @@ use Rattle.pic_yard.proofs.BehindLaws.{post_act, behind_here, behind_step, act_h
 use Rattle.pic_yard.proofs.CollectLaws.{take_all, Collected, collect, cleared, homes_cleared, all_carried, slot_row, slot_place}
 use Rattle.pic_yard.proofs.PlaceLaws.{SlotsHold, own_from}
 use Rattle.pic_yard.proofs.PostLaws.{posts, OneArrives, post_marks, not_full, found_word, posts_other, count_posts}
+use Rattle.pic_yard.proofs.TallyLaws.{one_step}
 use Rattle.pic_yard.proofs.TicketLaws.{keep_numbers}
 use Rattle.pic_yard.proofs.ViewLaws.{each_view, below_there}
 use Rattle.pic_yard.proofs.WayLaws.{slots_hold, ways_of}
@@ -148,13 +149,19 @@ module _ (o : Opening) (s : State Slot View) (rule : Rule o s) (id : ℕ) (me : 
         })
   ]
 
+  word : slice_index s.words (suc r) ≡ n
+  word = found_word board s.words s.words s.views rule.marks id me.0 at load.live r d load.owes
+
+  there : suc r < length s.words
+  there = let e : length s.words ≡ suc T = rule.words in let b : r < T = owed.tile in omega (arith, e, b)
+
   next_word : (n + 1) % 2 ^ 64 ≡ suc n
   next_word =
       let a : n ≤ directions = count_le (rule.posted r) directions in mod-eq_of_lt (omega (arith, a)) ∙ omega arith
 
   words_are : OneArrives T r (suc n) s.words (set s.words (suc r) (suc n))
   words_are = record {
-    now = word_now s.words (suc r) (suc n) (let e : length s.words ≡ suc T = rule.words in let b : r < T = owed.tile in omega (arith, e, b));
+    now = word_now s.words (suc r) (suc n) there;
     others = λ x tile apart. word_still s.words (suc r) (suc x) (suc n) (λ e. apart (omega (arith, e)));
   }
 
@@ -191,6 +198,7 @@ module _ (o : Opening) (s : State Slot View) (rule : Rule o s) (id : ℕ) (me : 
         (suc n)) s.views rule.marks id me.0 at load.live r d load.owes words_are);
     places = subst (λ (k : ℕ). Places (slot_kinds o) (record board { ticket = k; posted = now_posted }) later) (sym same_ticket) places;
     aways = subst (λ (k : ℕ). Aways (record board { ticket = k; posted = now_posted }) later) (sym same_ticket) aways;
+    tally = one_step s.words s.views (suc r) n id me.0 after rule.tally there word at refl;
   }
 
   less_than_all : n < directions
@@ -359,8 +367,6 @@ module _ (o : Opening) (s : State Slot View) (rule : Rule o s) (id : ℕ) (me : 
   pub post_here : (u : View) × (a : Act Slot) × Valid s.homes me.1 a × Rule o (stepped s (suc r) ((slice_index s.words (suc r) + 1) % 2 ^ 64) id me.1 u a)
       × Arrived o r d slots me (slice_index s.words (suc r)) (u, carried_after me.1 a)
   post_here =
-      let word : slice_index s.words (suc r) ≡ n =
-      found_word board s.words s.words s.views rule.marks id me.0 at load.live r d load.owes in
       let Here : ℕ → ℕ → Type 0 = λ x y. (u : View) × (a : Act Slot) × Valid s.homes me.1 a × Rule o (stepped s
       (suc r) y id me.1 u a) × Arrived o r d slots me x (u, carried_after me.1 a) in
       let result : Here n (suc n) = elim (ℕ_discrete (suc n) directions) [

@@ -17,6 +17,7 @@ use Rattle.pic_yard.specs.Rule.{Rule}
 use Rattle.pic_yard.specs.Sits.{slot_at}
 use Rattle.pic_yard.specs.Steps.{ahead, first_view}
 use Rattle.pic_yard.specs.Tickets.{HasNumbers}
+use Rattle.pic_yard.proofs.TallyLaws.{no_step}
 
 ahead_in : (x k n : ℕ) → In x (ahead k n) → (k ≤ x) × (x < k + n)
 unfolding ahead
@@ -111,4 +112,5 @@ begins o words slots sound opens some_seats small laid =
         left = λ t tile below free. absurd (omega (arith, below, first));
         held = λ r k tile below full open_yet. absurd (none_posted full);
       };
+      tally = no_step words laid.zero;
     }

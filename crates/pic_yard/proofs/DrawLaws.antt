@@ -1,5 +1,5 @@
 -- A draw keeps the rule of the board.
-use Rattle.std.proofs.Common.{◌≡◌, ℕ, suc, ◌+◌, ◌%◌, ◌^◌, ◌<◌, ◌≤◌, List, ◌++◌, length, length-set, set, slice_index, Bool, true, false, Some, None, inl, inr}
+use Rattle.std.proofs.Common.{◌≡◌, ℕ, suc, ◌+◌, ◌%◌, ◌^◌, ◌<◌, ◌≤◌, List, ◌++◌, length, length-set, set, slice_index, sum, Bool, true, false, Some, None, inl, inr}
 use Rattle.std.proofs.Common.{refl, sym, ap, ◌∙◌, subst, arith}
 use Rattle.std.proofs.Math.Decide.{ℕ_discrete}
 use Rattle.std.proofs.Math.Nat.{mod-eq_of_lt}
@@ -17,7 +17,7 @@ use Rattle.pic_yard.specs.Marks.{Board, IsOwed, IsRight, Marks}
 use Rattle.pic_yard.specs.Tickets.{Tickets}
 use Rattle.pic_yard.specs.Members.{count_below}
 use Rattle.pic_yard.specs.Places.{Places, Aways}
-use Rattle.pic_yard.specs.Rule.{Rule, board_of, ticket_of}
+use Rattle.pic_yard.specs.Rule.{Rule, board_of, steps_in, ticket_of}
 use Rattle.pic_yard.specs.Sits.{slot_at, IsMine, a_box, a_home, of_right, Sits, Claimed, Drawn}
 use Rattle.pic_yard.specs.Sits as claimed
 use Rattle.pic_yard.specs.Steps.{did_claim, was_told}
@@ -27,6 +27,7 @@ use Rattle.pic_yard.proofs.MarkLaws.{ArrivalsStay, claim_marks, told_marks}
 use Rattle.pic_yard.proofs.PlaceLaws.{SlotsHold, claim_slot, claim_kind, claim_home, claim_box, kind_home}
 use Rattle.pic_yard.proofs.PlaceLaws.{kind_box, claim_takes, claim_places, claim_aways, told_places}
 use Rattle.pic_yard.proofs.PlaceLaws.{told_aways, own_from}
+use Rattle.pic_yard.proofs.TallyLaws.{one_step}
 use Rattle.pic_yard.proofs.TicketLaws.{draw_claims, draw_tells}
 use Rattle.pic_yard.proofs.ViewLaws.{each_view}
 use Rattle.pic_yard.proofs.WayLaws.{slots_hold, ways_of}
@@ -62,6 +63,11 @@ module _ (o : Opening) (s : State Slot View) (rule : Rule o s) (id : ℕ) (me : 
   pub opened_still : (u : View) → u.opening ≡ me.0.opening → (i : ℕ) (x : View) → get_elem? (set s.views id u) i ≡ some x → x.live ≡ true → x.opening ≡ Some o
   opened_still u same = each_view (λ (i : ℕ) (x : View). x.opening ≡ Some o) s.views id u (λ alive. same
       ∙ sits.opened) (λ i x apart there alive. rule.opened i x there alive)
+
+  -- the ticket is one more, by a step of this seat
+  one_more : (u : View) → u.steps ≡ suc me.0.steps → sum (set s.words 0 (suc n)) ≡ steps_in (set s.views id u)
+  one_more u steps =
+      one_step s.words s.views 0 n id me.0 u rule.tally (let e : length s.words ≡ suc T = rule.words in omega (arith, e)) refl at steps
 
   abbrev place : ℕ → ℕ
   place =
@@ -125,6 +131,7 @@ module _ (o : Opening) (s : State Slot View) (rule : Rule o s) (id : ℕ) (me : 
       aways = subst (λ (k : ℕ). Aways (record board { ticket = k }) later) (sym first_word)
           (subst (λ (hs : List (Option Slot)). Aways (record board { ticket = suc n }) hs) same_homes
           (claim_aways hold tile got));
+      tally = one_more after refl;
     }
 
     -- no slot of the claim was with the seat before
@@ -233,6 +240,7 @@ module _ (o : Opening) (s : State Slot View) (rule : Rule o s) (id : ℕ) (me : 
             (told_places hold past);
         aways = subst (λ (k : ℕ). Aways (record board { ticket = k }) s.homes) (sym first_word)
             (told_aways hold past);
+        tally = one_more after refl;
       }
 
   drawn_before : me.0.drawn ≤ n

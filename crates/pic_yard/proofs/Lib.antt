@@ -5,6 +5,7 @@ pub mod CountLaws
 pub mod CrossLaws
 pub mod MemberLaws
 pub mod ViewLaws
+pub mod TallyLaws
 pub mod TicketLaws
 pub mod NumberLaws
 pub mod MarkLaws

@@ -1,5 +1,5 @@
 -- Giving back a finished tile keeps the rule of the board.
-use Rattle.std.proofs.Common.{◌≡◌, ℕ, zero, suc, ◌<◌, ◌≤◌, List, length, length-set, set, Bool, true, Some, None, refl, sym, ap, ◌∙◌, subst, arith}
+use Rattle.std.proofs.Common.{◌≡◌, ℕ, zero, suc, ◌<◌, ◌≤◌, List, length, length-set, set, slice_index, if◌then◌else◌, Bool, true, Some, None, refl, sym, ap, ◌∙◌, subst, arith}
 use Rattle.std.proofs.Math.Decide.{ℕ_discrete}
 use mathlib.Core.Option.{Option, none, some}
 use lib.ListN.{get_elem?}
@@ -10,6 +10,7 @@ use Rattle.pic_yard.specs.declared.opening.Opening.{Opening}
 use Rattle.pic_yard.specs.declared.view.View.{View}
 use Rattle.pic_yard.specs.Contents.{Slot, tiles_in, to_of, from_of, slot_kinds}
 use Rattle.pic_yard.specs.Marks.{Board, Marks, IsRight}
+use Rattle.pic_yard.specs.Members.{count_below}
 use Rattle.pic_yard.specs.Places.{Places, Aways}
 use Rattle.pic_yard.specs.Returns.{boxes_on, IsStacked, Returned}
 use Rattle.pic_yard.specs.Rule.{Rule, board_of, ticket_of}
@@ -21,6 +22,7 @@ use Rattle.pic_yard.proofs.CountLaws.{at_else}
 use Rattle.pic_yard.proofs.CollectLaws.{slot_row, slot_place}
 use Rattle.pic_yard.proofs.PlaceLaws.{SlotsHold, ComesBack, back_places, back_aways}
 use Rattle.pic_yard.proofs.PostLaws.{OneArrives}
+use Rattle.pic_yard.proofs.TallyLaws.{one_step}
 use Rattle.pic_yard.proofs.TicketLaws.{keep_numbers}
 use Rattle.pic_yard.proofs.ViewLaws.{each_view, below_there}
 use Rattle.pic_yard.proofs.WayLaws.{slots_hold, ways_of}
@@ -155,9 +157,18 @@ module _ (o : Opening) (s : State Slot View) (rule : Rule o s) (id : ℕ) (me : 
         ∙ set_else s.homes home (slot_at q k) (some tile) (λ same. apart (slot_row directions q k r directions below (omega arith) same));
   }
 
+  there : suc r < length s.words
+  there = let e : length s.words ≡ suc T = rule.words in let b : r < T = right.tile in omega (arith, e, b)
+
+  -- all have arrived
+  word : slice_index s.words (suc r) ≡ directions
+  word =
+      rule.marks.arrivals r right.tile
+      ∙ ap (λ (b : Bool). if b then suc directions else count_below (rule.posted r) directions) right.open_yet ∙ right.all
+
   words_are : OneArrives T r (suc directions) s.words (set s.words (suc r) (suc directions))
   words_are = record {
-    now = word_now s.words (suc r) (suc directions) (let e : length s.words ≡ suc T = rule.words in let b : r < T = right.tile in omega (arith, e, b));
+    now = word_now s.words (suc r) (suc directions) there;
     others = λ x tile_x apart. word_still s.words (suc r) (suc x) (suc directions) (λ e. apart (omega (arith, e)));
   }
 
@@ -189,6 +200,7 @@ module _ (o : Opening) (s : State Slot View) (rule : Rule o s) (id : ℕ) (me : 
         aways = subst (λ (k : ℕ). Aways (record board { ticket = k; shut = now_shut }) later) (sym same_ticket)
             (subst (λ (hs : List (Option Slot)). Aways (record board { shut = now_shut }) hs) (sym act_homes)
             (back_aways hold r right.tile right.all given comes));
+        tally = one_step s.words s.views (suc r) directions id me.0 after rule.tally there word at refl;
       }
 
 -- giving back by a seat that has the right to the tile, and has it finished at hand

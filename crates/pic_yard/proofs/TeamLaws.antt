@@ -1,5 +1,5 @@
 -- The making and the taking in of a seat keep the rule of the board, and what holds at its end.
-use Rattle.std.proofs.Common.{◌≡◌, ℕ, ◌<◌, ◌⊎◌, [], set, true, Some, inl, inr, sym, ◌∙◌, subst, true≢false}
+use Rattle.std.proofs.Common.{◌≡◌, ℕ, ◌<◌, ◌⊎◌, [], set, true, Some, inl, inr, refl, sym, ◌∙◌, subst, true≢false}
 use mathlib.Core.Option.{some}
 use lib.ListN.{get_elem?}
 use Rattle.atomic_table.specs.Table.{State, Splits, Joins}
@@ -14,6 +14,7 @@ use Rattle.pic_yard.specs.Rule.{Rule, board_of, ticket_of}
 use Rattle.pic_yard.specs.Steps.{gave_number, newcomer, took_in, spent_view}
 use Rattle.pic_yard.proofs.NumberLaws.{number_given, seat_taken, all_taken}
 use Rattle.pic_yard.proofs.SeatLaws.{split_marks, join_marks, all_shut}
+use Rattle.pic_yard.proofs.TallyLaws.{steps_split, steps_join}
 use Rattle.pic_yard.proofs.ViewLaws.{each_view, at_end}
 use Rattle.pic_yard.proofs.WayLaws.{ways_of}
 
@@ -37,6 +38,7 @@ split_allowed o id v x live opened is s rule at = record {
   marks = split_marks (board_of o s rule.posted rule.shut) s.words s.views rule.marks id v at live x;
   places = rule.places;
   aways = rule.aways;
+  tally = rule.tally ∙ steps_split s.views id v (gave_number x v) (newcomer v x) at refl refl;
 }
 
 -- A seat takes in another, which was told that no tile is left and lists nothing. It is the other's
@@ -60,6 +62,7 @@ join_allowed o id v other u live opened lives over no_owes no_rights s rule at a
       marks = join_marks (board_of o s rule.posted rule.shut) s.words s.views rule.marks id v at live other u apart there no_owes no_rights;
       places = rule.places;
       aways = rule.aways;
+      tally = rule.tally ∙ steps_join s.views id other v u (took_in v u) spent_view at at_other refl refl;
     }
 
 -- a seat that has all numbers, was told that no tile is left, and lists nothing, is the last

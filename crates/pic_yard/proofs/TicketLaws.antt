@@ -11,11 +11,11 @@ use Rattle.pic_yard.specs.Tickets.{HasNumbers, Tickets}
 use Rattle.pic_yard.proofs.ViewLaws.{each_view, lists_still, lists_now}
 use Rattle.pic_yard.proofs.CountLaws.{at_else, at_here, at_other, stays_true, count_more}
 
--- a view that drew another number, and has other claims and rights, keeps its numbers
+-- a view that drew another number, and has other claims, rights and steps, keeps its numbers
 numbers_with : (tiles seats ticket ticket' : ℕ) (keeper : ℕ → ℕ) (told : ℕ → Bool) (j : ℕ) (v : View) → HasNumbers tiles seats ticket keeper told j v
-    → (drawn : ℕ) (owes : List (ℕ × ℕ)) (rights : List ℕ) → drawn ≤ ticket' → (v.told ≡ true → tiles < drawn)
-    → HasNumbers tiles seats ticket' keeper told j (now_has v drawn v.told owes rights)
-numbers_with tiles seats ticket ticket' keeper told j v h drawn owes rights few past = record {
+    → (drawn : ℕ) (owes : List (ℕ × ℕ)) (rights : List ℕ) (steps : ℕ) → drawn ≤ ticket' → (v.told ≡ true → tiles < drawn)
+    → HasNumbers tiles seats ticket' keeper told j (record v { drawn = drawn; owes = owes; rights = rights; steps = steps })
+numbers_with tiles seats ticket ticket' keeper told j v h drawn owes rights steps few past = record {
   own = h.own;
   own_kept = h.own_kept;
   own_told = h.own_told;
@@ -53,10 +53,10 @@ module _ (tiles seats ticket : ℕ) (views : List View) (t : Tickets tiles seats
         told = t.told;
         bound = omega (arith, below);
         each = each_view (Numbers t.told) views j (now_has v (suc ticket) v.told owes rights)
-            (λ lives. numbers_with tiles seats ticket (suc ticket) t.keeper t.told j v h (suc ticket) owes rights (omega arith)
+            (λ lives. numbers_with tiles seats ticket (suc ticket) t.keeper t.told j v h (suc ticket) owes rights (suc v.steps) (omega arith)
             (λ told. let a : tiles < v.drawn = h.past told in let b : v.drawn ≤ ticket = h.drawn in omega arith))
             (λ i x apart at lives. let g = t.each i x at lives in
-            numbers_with tiles seats ticket (suc ticket) t.keeper t.told i x g x.drawn x.owes x.rights
+            numbers_with tiles seats ticket (suc ticket) t.keeper t.told i x g x.drawn x.owes x.rights x.steps
             (let b : x.drawn ≤ ticket = g.drawn in omega arith) g.past);
         known = known_still (suc ticket) v.told;
       }
@@ -129,7 +129,7 @@ keep_numbers tiles seats ticket views t j v there live owes rights =
       told = t.told;
       bound = t.bound;
       each = each_view (λ (i : ℕ) (x : View). HasNumbers tiles seats ticket t.keeper t.told i x) views j (now_has v v.drawn v.told owes rights)
-          (λ lives. numbers_with tiles seats ticket ticket t.keeper t.told j v h v.drawn owes rights h.drawn h.past)
+          (λ lives. numbers_with tiles seats ticket ticket t.keeper t.told j v h v.drawn owes rights (suc v.steps) h.drawn h.past)
           (λ i x apart at lives. t.each i x at lives);
       known = λ x below is.
           lists_still views j v (now_has v v.drawn v.told owes rights) (t.keeper x) (λ y. (x ≡ y.number) ⊎ In x y.taken) there live (λ had. had)

@@ -1,8 +1,9 @@
 -- What holds of the words, slots and views of the board between any two steps of any threads: they
 -- stand for a state of the core. A tile is claimed by one seat, a parcel is posted once, by the
 -- seat that claimed its sender; a tile is finished by one seat, after its last post, and each slot
--- is at home or with the one seat that may move it.
-use Rattle.std.specs.Prelude.{◌≡◌, ℕ, suc, ◌+◌, ◌*◌, ◌^◌, ◌<◌, length, Bool, true, Some}
+-- is at home or with the one seat that may move it. The words are the sum of the steps that seats
+-- took on them.
+use Rattle.std.specs.Prelude.{◌≡◌, ℕ, suc, ◌+◌, ◌*◌, ◌^◌, ◌<◌, length, List, Bool, true, Some, sum, sum_by}
 use Rattle.std.specs.Prelude.{slice_index}
 use mathlib.Core.Option.{some}
 use lib.ListN.{get_elem?}
@@ -33,6 +34,10 @@ board_of o s posted shut =
       shut = shut;
     }
 
+-- how many steps on words seats took
+abbrev pub steps_in : List View → ℕ
+steps_in views = sum_by (λ v. v.steps) views
+
 pub record Rule (o : Opening) (s : State Slot View) : Type 0 where
   pub posted : ℕ → ℕ → Bool
   pub shut : ℕ → Bool
@@ -47,3 +52,4 @@ pub record Rule (o : Opening) (s : State Slot View) : Type 0 where
   pub marks : Marks (board_of o s posted shut) s.words s.views
   pub places : Places (slot_kinds o) (board_of o s posted shut) s.homes
   pub aways : Aways (board_of o s posted shut) s.homes
+  pub tally : sum s.words ≡ steps_in s.views

@@ -44,6 +44,7 @@ new_view o number unmade =
       told = false;
       owes = [];
       rights = [];
+      steps = 0;
     }
 
 -- a seat of this board that has done nothing, and is still to make others

@@ -1,18 +1,18 @@
 -- What each step on a word does to the view of its seat.
-use Rattle.std.specs.Prelude.{ℕ, zero, suc, ◌-◌, max, List, [], ◌∷◌, ◌++◌, Bool, true, false, eqb}
+use Rattle.std.specs.Prelude.{ℕ, zero, suc, ◌+◌, ◌-◌, max, List, [], ◌∷◌, ◌++◌, Bool, true, false, eqb}
 use Rattle.std.specs.Prelude.{if◌then◌else◌, Some, None}
 use Rattle.pic_yard.specs.declared.opening.Opening.{Opening}
 use Rattle.pic_yard.specs.declared.view.View.{View}
 use Rattle.pic_yard.specs.Members.{without, same_pair}
 
--- a view with other draws, and other claims and rights
+-- a view after one more step on a word, with other draws, and other claims and rights
 abbrev pub now_has : View → ℕ → Bool → List (ℕ × ℕ) → List ℕ → View
 now_has v drawn told owes rights = record v {
   drawn = drawn;
   told = told;
   owes = owes;
-  rights =
-      rights;
+  rights = rights;
+  steps = suc v.steps;
 }
 
 -- the mailboxes of a claim: in each direction that of the tile to which it leads
@@ -52,8 +52,8 @@ newcomer v x =
       drawn = 0;
       told = false;
       owes = [];
-      rights
-          = [];
+      rights = [];
+      steps = 0;
     }
 
 -- a seat that takes in another, which is spent
@@ -63,6 +63,7 @@ took_in v u =
       taken = u.number ∷ (v.taken ++ u.taken);
       unmade = v.unmade ++ u.unmade;
       drawn = max v.drawn u.drawn;
+      steps = v.steps + u.steps;
     }
 
 abbrev pub spent_view : View
@@ -77,6 +78,7 @@ spent_view =
       told = false;
       owes = [];
       rights = [];
+      steps = 0;
     }
 
 -- the n numbers from k on
@@ -97,4 +99,5 @@ first_view o =
       told = false;
       owes = [];
       rights = [];
+      steps = 0;
     }

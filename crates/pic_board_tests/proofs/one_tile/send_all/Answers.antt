@@ -9,7 +9,7 @@ pub loop-number-preserved : goal.loop-number-preserved
 loop-number-preserved c =
     let e = c.send.ensures in
     sending_more c.args.yard.now c.args.claim.number c.args.seat.now c.loop-number.number c.of.result c.loop-number.seat c.send.new.seat c.loop-number.claim
-    c.send.new.claim c.of.ensures c.loop-number.invariant e.serves e.view e.number e.taken
+    c.send.new.claim c.of.ensures c.loop-number.invariant e.serves e.sent e.number e.taken
 
 pub returns-clause-all : goal.returns-clause-all
 returns-clause-all c =
