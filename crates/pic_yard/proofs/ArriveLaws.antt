@@ -5,7 +5,6 @@ use mathlib.Core.Option.{Option, none, some}
 use lib.ListN.{get_elem?}
 use Rattle.pic_yard.specs.Marks.{Board, IsOwed}
 use Rattle.pic_yard.specs.Members.{count_below}
-use Rattle.pic_yard.proofs.Ways.{AreWays}
 use Rattle.pic_yard.specs.Places.{slot_in, IsHome, Kinds, Places, Aways}
 use Rattle.pic_yard.proofs.CountLaws.{count_all}
 use Rattle.pic_yard.proofs.CollectLaws.{slot_row, slot_place}

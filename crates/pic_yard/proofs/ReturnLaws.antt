@@ -5,10 +5,10 @@ use mathlib.Core.Option.{Option, none, some}
 use lib.ListN.{get_elem?}
 use Rattle.atomic_table.specs.Table.{State, Me, Act, keeps, chain, gives, Valid, Allows, stepped, homes_after, carried_after}
 use Rattle.atomic_table.proofs.Lists.{set_here, set_else}
-use Rattle.pic_tile.specs.Directions.{directions, here}
+use Rattle.pic_tile.specs.Directions.{directions}
 use Rattle.pic_yard.specs.declared.opening.Opening.{Opening}
 use Rattle.pic_yard.specs.declared.view.View.{View}
-use Rattle.pic_yard.specs.Contents.{Slot, tiles_in, to_of, from_of, slot_kinds}
+use Rattle.pic_yard.specs.Contents.{Slot, tiles_in, to_of, slot_kinds}
 use Rattle.pic_yard.specs.Marks.{Board, Marks, IsRight}
 use Rattle.pic_yard.specs.Members.{count_below}
 use Rattle.pic_yard.specs.Places.{Places, Aways}
@@ -25,7 +25,7 @@ use Rattle.pic_yard.proofs.PostLaws.{OneArrives}
 use Rattle.pic_yard.proofs.TallyLaws.{one_step}
 use Rattle.pic_yard.proofs.TicketLaws.{keep_numbers}
 use Rattle.pic_yard.proofs.ViewLaws.{each_view, below_there}
-use Rattle.pic_yard.proofs.WayLaws.{slots_hold, ways_of}
+use Rattle.pic_yard.proofs.WayLaws.{slots_hold}
 use Rattle.pic_yard.proofs.WordLaws.{word_now, word_still}
 
 -- the n slots that lie first are given back

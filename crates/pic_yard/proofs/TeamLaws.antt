@@ -4,10 +4,9 @@ use mathlib.Core.Option.{some}
 use lib.ListN.{get_elem?}
 use Rattle.atomic_table.specs.Table.{State, Splits, Joins}
 use Rattle.atomic_table.proofs.Lists.{set_else}
-use Rattle.pic_tile.specs.Directions.{directions, here}
 use Rattle.pic_yard.specs.declared.opening.Opening.{Opening}
 use Rattle.pic_yard.specs.declared.view.View.{View}
-use Rattle.pic_yard.specs.Contents.{Slot, tiles_in, to_of, from_of}
+use Rattle.pic_yard.specs.Contents.{Slot, tiles_in, to_of}
 use Rattle.pic_yard.specs.Laws.{IsOver}
 use Rattle.pic_yard.specs.Members.{In}
 use Rattle.pic_yard.specs.Rule.{Rule, board_of, ticket_of}

@@ -1,6 +1,6 @@
 -- What lies in the slots that are at home, and which slots are away with a seat. A tile r has a
 -- mailbox `slot r d` for each direction d, and its home slot `slot r dirs`.
-use Rattle.std.specs.Prelude.{◌≡◌, ℕ, suc, ◌+◌, ◌*◌, ◌<◌, ◌≤◌, List, Bool, true, false}
+use Rattle.std.specs.Prelude.{◌≡◌, ℕ, suc, ◌+◌, ◌*◌, ◌<◌, ◌≤◌, List, true, false}
 use mathlib.Core.Option.{Option, none, some}
 use lib.ListN.{get_elem?}
 use Rattle.pic_yard.specs.Marks.{Board}
