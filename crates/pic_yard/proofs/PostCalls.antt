@@ -14,9 +14,11 @@ use Rattle.pic_yard.specs.declared.opening.Opening.{Opening}
 use Rattle.pic_yard.specs.declared.slot_content.SlotContent.TheVariants as holds
 use Rattle.pic_yard.specs.declared.view.View.{View}
 use Rattle.pic_yard.specs.declared.yard.Yard.{Yard}
+use Rattle.pic_yard.specs.declared.yard.Yard.TheInside.{Inside}
 use Rattle.pic_yard.specs.Arrivals.{IsAboutToPost, Arrived}
 use Rattle.pic_yard.specs.Claims.{ClaimValue}
 use Rattle.pic_yard.specs.Contents.{Slot, tiles_in, to_of, from_of, HoldsParcel}
+use Rattle.pic_yard.specs.Inside.{IsFitted, yard_of}
 use Rattle.pic_yard.specs.Loads.{HasLoaded, TellsOf, first_slot}
 use Rattle.pic_yard.specs.Members.{In}
 use Rattle.pic_yard.specs.Posts.{IsAnswer, HasPosted, HasMailFor}
@@ -29,12 +31,25 @@ use Rattle.pic_yard.proofs.CollectLaws.{slot_row, slot_place}
 use Rattle.pic_yard.proofs.PostedLaws.{posted_sits, posted_mail}
 use Rattle.pic_yard.proofs.WayLaws.{ways_of}
 
-pub tile_few : (yard : Yard) (r : ℕ) → r < tiles_in (opening_of yard) → r ≤ most_tiles
-tile_few yard r below = let few = yard.few in let are = yard.tiles_are in omega (arith, below, few, are)
+pub tile_few : (yard : Yard) (seat : Seat Slot View) (r : ℕ) → Serves yard seat → r < tiles_in (opening_of yard) → r ≤ most_tiles
+tile_few yard seat r serves below = let most = serves.sits.sound.map.most in omega (arith, below, most)
 
 -- each tile has its arrival word
-pub word_there : (yard : Yard) (r : ℕ) → r < tiles_in (opening_of yard) → r + 1 < yard.table.shared.table_id.words
-word_there yard r below = let words = yard.words_are in let are = yard.tiles_are in omega (arith, below, words, are)
+pub word_there : (yard : Yard) (parts : Inside) (r : ℕ) → yard_of parts ≡ yard → IsFitted parts → r < tiles_in (opening_of yard)
+    → r + 1 < (yard_of parts).table_id.words
+word_there yard parts r is fitted below =
+    let own : r < tiles_in (opening_of (yard_of parts)) = subst (λ (y : Yard). r < tiles_in (opening_of y)) (sym is) below in
+    let words = fitted.words_are in
+    let are = fitted.tiles_are in
+    omega (arith, own, words, are)
+
+-- a seat of a board is one of the board that its parts show
+pub serves_parts : (yard : Yard) (parts : Inside) (seat : Seat Slot View) → yard_of parts ≡ yard → Serves yard seat → Serves (yard_of parts) seat
+serves_parts yard parts seat is serves = subst (λ (y : Yard). Serves y seat) (sym is) serves
+
+-- how many tiles there are
+pub tiles_seen : (yard : Yard) (parts : Inside) → yard_of parts ≡ yard → IsFitted parts → parts.tiles ≡ tiles_in (opening_of yard)
+tiles_seen yard parts is fitted = fitted.tiles_are ∙ ap (λ (y : Yard). tiles_in (opening_of y)) is
 
 -- what the push of a tile sends is what its receiver's mailbox is to hold
 pub sent_parcel : (o : Opening) (t d : ℕ) (found : Option Parcel) (parcel : Parcel) → t < tiles_in o → d < directions → IsSentBy o t d found

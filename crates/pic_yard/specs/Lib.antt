@@ -13,6 +13,8 @@ pub mod Returns
 pub mod Laying
 pub mod Unloading
 pub mod Claims
+pub mod YardValue
+pub mod Inside
 pub mod Yards
 pub mod Seats
 pub mod Ended

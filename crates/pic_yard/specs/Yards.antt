@@ -17,7 +17,7 @@ use Rattle.pic_yard.specs.Sits.{slot_at, Sits}
 
 -- what the board began with
 abbrev pub opening_of : Yard → Opening
-opening_of yard = yard.table.shared.key.value
+opening_of yard = yard.opening
 
 -- what a seat knows
 abbrev pub view_of : Seat Slot View → View
@@ -25,7 +25,7 @@ view_of seat = seat.me.0
 
 -- the seat is one of this board's
 pub record Serves (yard : Yard) (seat : Seat Slot View) : Type 0 where
-  pub own : seat.table_id ≡ yard.table.shared.table_id
+  pub own : seat.table_id ≡ yard.table_id
   pub sits : Sits (opening_of yard) seat.me
 
 -- the seat claimed the tile t, and still owes its parcel of the direction d

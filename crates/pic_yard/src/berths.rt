@@ -20,7 +20,7 @@ impl Yard {
         slot: usize,
         tile: Option<Tile>,
     ) -> Option<Tile>
-        requires own { seat.old.table_id ≡ self.now.table.shared.table_id }
+        requires own { seat.old.table_id ≡ self.now.table_id }
         requires place { HasPlace slot seat.old.me.1 }
         ensures table { seat.new.table_id ≡ seat.old.table_id }
         ensures lay { seek slot seat.old.me.1 ≡ some (Some (holds.Tile result)) }

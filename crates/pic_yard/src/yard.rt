@@ -1,9 +1,5 @@
 //! The board, as the threads share it, and the seats at it.
 
-ghost use Rattle.std.specs.Prelude.{◌≡◌, ◌+◌, ◌*◌, ◌≤◌, length};
-ghost use Rattle.pic_grid.specs.Tiles.{most_tiles};
-ghost use Rattle.pic_yard.specs.Contents.{tiles_in};
-
 use crate::board_rule::BoardRule;
 use crate::opening::Opening;
 use crate::slot_content::SlotContent;
@@ -11,6 +7,7 @@ use crate::view::View;
 use atomic_table::Table;
 use pic_tile::{Frame, Tile};
 use std::alloc::Global;
+use std::marker::Model;
 use std::snapshot::Snapshot;
 
 /// A thread's seat at a board: only through it are tiles claimed, parcels posted and tiles given
@@ -18,7 +15,8 @@ use std::snapshot::Snapshot;
 pub type Seat = atomic_table::Seat<Option<SlotContent>, View>;
 
 /// The board: one word from which the numbers of tiles are drawn, for each tile one that counts the
-/// parcels that arrived, and the slots in which tiles and parcels lie.
+/// parcels that arrived, and the slots in which tiles and parcels lie. Contracts see what it began
+/// with, and which table of words and slots it is.
 #[derive(Drop)]
 pub struct Yard {
     pub(crate) table: Table<Option<SlotContent>, View, Snapshot<Opening>, BoardRule, Global>,
@@ -26,10 +24,16 @@ pub struct Yard {
     /// Places for the finished tiles.
     pub(crate) room: Vec<Tile>,
     pub(crate) tiles: u32,
-    ghost frame_is: { frame ≡ table.shared.key.value.frame },
-    ghost tiles_are: { tiles ≡ tiles_in table.shared.key.value },
-    ghost room_is: { length room.items ≡ tiles },
-    ghost words_are: { table.shared.table_id.words ≡ tiles + 1 },
-    ghost slots_are: { table.shared.table_id.slots ≡ tiles * 28 },
-    ghost few: { tiles ≤ most_tiles },
+}
+
+impl Model for Yard {
+    ghost use Rattle.pic_yard.specs.YardValue.{YardValue};
+
+    ghost Value = { YardValue };
+
+    ghost use Rattle.pic_yard.specs.Inside.{IsFitted, yard_of};
+
+    ghost view = { yard_of };
+
+    ghost invariant = { IsFitted };
 }

@@ -1,27 +1,31 @@
-use Rattle.std.proofs.Common.{rules, refl, sym, ap, ◌∙◌, subst}
+use Rattle.std.proofs.Common.{refl, sym, ap, ◌∙◌, subst, arith}
 use Rattle.atomic_table.specs.Table.{Me}
 use Rattle.pic_yard.specs.Fronts.{seek}
 use Rattle.pic_yard.specs.declared.view.View.{View}
 use Rattle.pic_yard.specs.Contents.{Slot}
+use Rattle.pic_yard.specs.Inside.{yard_of}
 use Rattle.pic_yard.specs.Sits.{slot_at, Sits}
 use Rattle.pic_yard.specs.Steps.{took_in}
 use Rattle.pic_yard.specs.Yards.{opening_of}
+use Rattle.pic_yard.proofs.PostCalls.{serves_parts}
 use Rattle.pic_yard.proofs.SeatingLaws.{sits_same, idle_empty}
 use Rattle.pic_yard.proofs.TeamLaws.{join_allowed}
 use Rattle.pic_yard.proofs.yard.Yard.join.Goals as goal
 
 pub join_seat-requires : goal.join_seat-requires
 join_seat-requires c =
-    let o = opening_of c.args.self.now in
+    let o = opening_of (yard_of c.self.inside) in
+    let serves = serves_parts c.args.self.now c.self.inside c.args.seat.now c.self.view_is c.requires.serves in
+    let other = serves_parts c.args.self.now c.self.inside c.args.other c.self.view_is c.requires.other in
     let v = c.args.seat.now.me.0 in
     let u = c.args.other.me.0 in
-    let sits = c.requires.serves.sits in
+    let sits = serves.sits in
     let ended = c.requires.ended in (
-      c.requires.serves.own,
-      c.requires.other.own,
-      idle_empty o u c.args.other.me.1 c.requires.other.sits.carries ended.idle,
-      search rules,
-      join_allowed o c.args.seat.now.id v c.args.other.id u sits.live sits.opened c.requires.other.sits.live ended.told ended.idle.owes ended.idle.rights,
+      serves.own,
+      other.own,
+      idle_empty o u c.args.other.me.1 other.sits.carries ended.idle,
+      (let words = c.self.invariant.words_are in omega (arith, words)),
+      join_allowed o c.args.seat.now.id v c.args.other.id u sits.live sits.opened other.sits.live ended.told ended.idle.owes ended.idle.rights,
     )
 
 pub returns-clause-serves : goal.returns-clause-serves

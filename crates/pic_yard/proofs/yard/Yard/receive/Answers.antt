@@ -7,7 +7,7 @@ use Rattle.pic_yard.proofs.yard.Yard.receive.Goals as goal
 
 pub mailbox-requires : goal.mailbox-requires
 mailbox-requires c =
-    tile_few c.args.self.now c.right.inside.number
+    tile_few c.args.self.now c.args.seat.now c.right.inside.number c.requires.serves
     (c.requires.serves.sits.carries.inside c.right.inside.number
     (subst (λ (r : ℕ). In r c.args.seat.now.me.0.rights) (sym c.right.view_is) c.requires.right))
 

@@ -1,20 +1,22 @@
-use Rattle.std.proofs.Common.{rules, refl, sym, ap, ◌∙◌, subst}
+use Rattle.std.proofs.Common.{refl, sym, ap, ◌∙◌, subst, arith}
 use Rattle.atomic_table.specs.Table.{Me}
 use Rattle.pic_yard.specs.declared.view.View.{View}
 use Rattle.pic_yard.specs.Contents.{Slot}
+use Rattle.pic_yard.specs.Inside.{yard_of}
 use Rattle.pic_yard.specs.Seats.{gave_next, next_of, next_seat}
 use Rattle.pic_yard.specs.Sits.{Sits}
 use Rattle.pic_yard.specs.Yards.{opening_of}
+use Rattle.pic_yard.proofs.PostCalls.{serves_parts}
 use Rattle.pic_yard.proofs.SeatingLaws.{sits_same, new_sits}
 use Rattle.pic_yard.proofs.TeamLaws.{split_allowed}
 use Rattle.pic_yard.proofs.yard.Yard.split.Goals as goal
 
 pub split_seat-requires : goal.split_seat-requires
 split_seat-requires c =
-    let o = opening_of c.args.self.now in
+    let serves = serves_parts c.args.self.now c.self.inside c.args.seat.now c.self.view_is c.requires.serves in
     let v = c.args.seat.now.me.0 in
-    let sits = c.requires.serves.sits in
-    (c.requires.serves.own, search rules, split_allowed o c.args.seat.now.id v (next_of v.unmade) sits.live sits.opened c.requires.next)
+    let sits = serves.sits in
+    (serves.own, (let words = c.self.invariant.words_are in omega (arith, words)), split_allowed (opening_of (yard_of c.self.inside)) c.args.seat.now.id v (next_of v.unmade) sits.live sits.opened c.requires.next)
 
 pub returns-clause-serves : goal.returns-clause-serves
 returns-clause-serves c =
