@@ -3,7 +3,9 @@
 
 mod app;
 mod asked;
+mod laws;
 mod line;
 
 pub use asked::{Command, LineFault};
+pub use laws::commands_are_taken;
 pub use line::command;
