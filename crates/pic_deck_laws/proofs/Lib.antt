@@ -1,0 +1,9 @@
+pub mod TestLaws
+pub mod WalkTests
+pub mod ValueLaws
+pub mod GridLaws
+pub mod RunLaws
+pub mod ScaleLaws
+pub mod SettingsLaws
+pub mod ListLaws
+pub mod DriveLaws

@@ -1,0 +1,5 @@
+use Rattle.pic_deck_laws.proofs.SettingsLaws.{settings_are_tested}
+use Rattle.pic_deck_laws.proofs.settings.settings_are_tested.Goals as goal
+
+pub returns : goal.returns
+returns c = settings_are_tested

@@ -1,0 +1,13 @@
+//! Laws of the deck's walk: what a deck spells that is accepted, with no walk from key to key, and the
+//! tests of a deck in their order, of which the first that fails is the refusal. Each is the contract of
+//! a function that does nothing.
+#![tactic(auto)]
+
+mod devices;
+mod settings;
+
+pub use devices::{loops_are_spelled, loops_are_tested};
+pub use settings::{
+    grids_are_spelled, grids_are_tested, runs_are_spelled, runs_are_tested, scales_are_spelled,
+    scales_are_tested, settings_are_spelled, settings_are_tested,
+};
