@@ -7,3 +7,11 @@ pub mod ScaleLaws
 pub mod SettingsLaws
 pub mod ListLaws
 pub mod DriveLaws
+pub mod NumberRowLaws
+pub mod ProbeLaws
+pub mod FieldLaws
+pub mod ThreeLaws
+pub mod SourceLaws
+pub mod FillLaws
+pub mod AloneLaws
+pub mod SpeciesLaws

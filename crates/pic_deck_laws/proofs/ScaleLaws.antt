@@ -59,14 +59,14 @@ multiplier_from : (path : List ℕ) (m : Multiplier) → IsMultiplier m → mult
 unfolding multiplier
 multiplier_from path m is = then_ok _ (m.n ∷ pos m.k ∷ []) _ (numbers_from multiplier_limits path (m.n ∷ pos m.k ∷ []) refl (multiplier_fits m is))
 
-need_multiplier_ok : (key : List ℕ) (t : Members) (m : Multiplier) → need multiplier key (codes "scale") t ≡ Ok m → HasMultiplier t key m
-need_multiplier_ok key t m e =
-    let found = need_ok _ key (codes "scale") t m e in
+pub need_multiplier_ok : (key path : List ℕ) (t : Members) (m : Multiplier) → need multiplier key path t ≡ Ok m → HasMultiplier t key m
+need_multiplier_ok key path t m e =
+    let found = need_ok _ key path t m e in
     let is = multiplier_ok _ found.value m found.reads in
     record { there = found.has ∙ ap (λ x. Some x) is.is; within = is.within }
 
-need_multiplier_from : (key : List ℕ) (t : Members) (m : Multiplier) → HasMultiplier t key m → need multiplier key (codes "scale") t ≡ Ok m
-need_multiplier_from key t m has = need_from _ key (codes "scale") t (fraction m) m has.there (multiplier_from _ m has.within)
+pub need_multiplier_from : (key path : List ℕ) (t : Members) (m : Multiplier) → HasMultiplier t key m → need multiplier key path t ≡ Ok m
+need_multiplier_from key path t m has = need_from _ key path t (fraction m) m has.there (multiplier_from _ m has.within)
 
 -- The table
 scale_ok : (ms : Members) (s : Scales) → scale ms ≡ Ok s → HasTable ms (codes "scale") (λ t. IsScaleTable t s)
@@ -85,10 +85,10 @@ scale_ok ms s e =
       there = table.0;
       holds = record {
         keys = table.1;
-        e_to_b = need_multiplier_ok _ a.value b.value b.first;
-        b_to_e = need_multiplier_ok _ a.value c.value c.first;
-        e_force = need_multiplier_ok _ a.value d.value d.first;
-        b_force = need_multiplier_ok _ a.value f.value f.first;
+        e_to_b = need_multiplier_ok _ _ a.value b.value b.first;
+        b_to_e = need_multiplier_ok _ _ a.value c.value c.first;
+        e_force = need_multiplier_ok _ _ a.value d.value d.first;
+        b_force = need_multiplier_ok _ _ a.value f.value f.first;
       };
     })
 
@@ -98,10 +98,10 @@ scale_from ms s has =
     let t = has.members in
     let is = has.holds in
     then_ok _ t _ (need_table_from scale_keys (codes "scale") [] ms t has.there is.keys)
-    ∙ then_ok _ s.e_to_b _ (need_multiplier_from _ t s.e_to_b is.e_to_b)
-    ∙ then_ok _ s.b_to_e _ (need_multiplier_from _ t s.b_to_e is.b_to_e)
-    ∙ then_ok _ s.e_force _ (need_multiplier_from _ t s.e_force is.e_force)
-    ∙ then_ok _ s.b_force _ (need_multiplier_from _ t s.b_force is.b_force)
+    ∙ then_ok _ s.e_to_b _ (need_multiplier_from _ _ t s.e_to_b is.e_to_b)
+    ∙ then_ok _ s.b_to_e _ (need_multiplier_from _ _ t s.b_to_e is.b_to_e)
+    ∙ then_ok _ s.e_force _ (need_multiplier_from _ _ t s.e_force is.e_force)
+    ∙ then_ok _ s.b_force _ (need_multiplier_from _ _ t s.b_force is.b_force)
 
 pub scales_are_spelled : ScalesAreSpelled
 scales_are_spelled ms s = (scale_ok ms s, scale_from ms s)

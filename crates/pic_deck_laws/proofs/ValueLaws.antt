@@ -22,7 +22,7 @@ use Rattle.pic_deck_laws.specs.ValueTests.{sizes_of, members_of, or_empty, value
 use Rattle.pic_deck_laws.proofs.WalkTests.{last_length}
 
 -- a test that holds gives its value
-passed : {A : Type 0} (b : Bool) (a c : A) (q : Fault) → ◌≡◌ {A = Walked A} (if b then Ok a else Err q) (Ok c) → (b ≡ true) × (a ≡ c)
+pub passed : {A : Type 0} (b : Bool) (a c : A) (q : Fault) → ◌≡◌ {A = Walked A} (if b then Ok a else Err q) (Ok c) → (b ≡ true) × (a ≡ c)
 passed true a c q e = (refl, cc)
 passed false a c q e = absurd (cc e)
 
@@ -268,7 +268,7 @@ pub record Found {A : Type 0} (f : List ℕ → Data → Walked A) (key path : L
   pub has : Has t key value
   pub reads : f (key_at path key) value ≡ Ok a
 
-is_there : {A : Type 0} (q : Fault) (o : Option A) (a : A) → some_or q o ≡ Ok a → o ≡ Some a
+pub is_there : {A : Type 0} (q : Fault) (o : Option A) (a : A) → some_or q o ≡ Ok a → o ≡ Some a
 unfolding some_or
 is_there q (Some b) a e = ap (λ x. Some x) cc
 is_there q None a e = absurd (cc e)

@@ -6,3 +6,8 @@ pub mod RunTable
 pub mod ScaleTable
 pub mod SettingsTables
 pub mod DriveTable
+pub mod NumberRows
+pub mod ProbeTable
+pub mod FieldTable
+pub mod FillTables
+pub mod SpeciesTable

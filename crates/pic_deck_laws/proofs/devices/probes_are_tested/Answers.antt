@@ -1,0 +1,5 @@
+use Rattle.pic_deck_laws.proofs.ProbeLaws.{probes_are_tested}
+use Rattle.pic_deck_laws.proofs.devices.probes_are_tested.Goals as goal
+
+pub returns : goal.returns
+returns c = probes_are_tested
