@@ -15,3 +15,5 @@ pub mod SourceLaws
 pub mod FillLaws
 pub mod AloneLaws
 pub mod SpeciesLaws
+pub mod FillTestLaws
+pub mod SpeciesTestLaws

@@ -78,12 +78,12 @@ unfolding species_name
 name_from done path s new = then_ok _ s _ (text_from path s) ∙ named done path s (new_name_is done s new)
 
 -- The kind
-record KindIn (t : Members) (k : Kind) : Type 0 where
-  charge : Has t (codes "charge") (integer k.charge)
-  mass : Has t (codes "mass") (natural k.mass)
-  kick : HasMultiplier t (codes "kick") k.kick
-  turn : HasMultiplier t (codes "turn") k.turn
-  is : IsKind k
+pub record KindIn (t : Members) (k : Kind) : Type 0 where
+  pub charge : Has t (codes "charge") (integer k.charge)
+  pub mass : Has t (codes "mass") (natural k.mass)
+  pub kick : HasMultiplier t (codes "kick") k.kick
+  pub turn : HasMultiplier t (codes "turn") k.turn
+  pub is : IsKind k
 
 abbrev charges : Limits
 charges = from_to least_charge greatest_charge
@@ -91,7 +91,7 @@ charges = from_to least_charge greatest_charge
 abbrev masses : Limits
 masses = from_to (pos 1) (pos most_mass)
 
-kind_ok : (path : List ℕ) (t : Members) (k : Kind) → species_kind path t ≡ Ok k → KindIn t k
+pub kind_ok : (path : List ℕ) (t : Members) (k : Kind) → species_kind path t ≡ Ok k → KindIn t k
 unfolding species_kind
 kind_ok path t k e =
     let a = went _ _ _ e in
@@ -126,12 +126,12 @@ kind_from path t k has =
     ∙ then_ok _ k.turn _ (need_multiplier_from _ path t k.turn has.turn)
 
 -- What fills it
-record FillIn (t : TermsView) (ms : Members) (done : List Species) (charge : ℤ) (f : Fill) : Type 0 where
-  has : HasFill t.version ms done f
-  is : IsFill t done f
-  opposite : IsOpposite done charge f
+pub record FillIn (t : TermsView) (ms : Members) (done : List Species) (charge : ℤ) (f : Fill) : Type 0 where
+  pub has : HasFill t.version ms done f
+  pub is : IsFill t done f
+  pub opposite : IsOpposite done charge f
 
-fill_in_ok : (t : TermsView) → IsExtent (extent_of t.grid) → (done : List Species) (path : List ℕ) (charge : ℤ) (ms : Members) (f : Fill)
+pub fill_in_ok : (t : TermsView) → IsExtent (extent_of t.grid) → (done : List Species) (path : List ℕ) (charge : ℤ) (ms : Members) (f : Fill)
     → species_fill t done path charge ms ≡ Ok f → FillIn t ms done charge f
 unfolding species_fill
 fill_in_ok t extent done path charge ms f e =

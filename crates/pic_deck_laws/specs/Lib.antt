@@ -11,3 +11,5 @@ pub mod ProbeTable
 pub mod FieldTable
 pub mod FillTables
 pub mod SpeciesTable
+pub mod FillTests
+pub mod SpeciesTests

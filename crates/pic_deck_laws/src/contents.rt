@@ -2,6 +2,7 @@
 
 ghost use Rattle.pic_deck_laws.specs.FieldTable.{FieldsAreSpelled, FieldsAreTested};
 ghost use Rattle.pic_deck_laws.specs.SpeciesTable.{SpeciesAreSpelled};
+ghost use Rattle.pic_deck_laws.specs.SpeciesTests.{SpeciesAreTested};
 
 /// On the cells of a grid, the fields of a deck are accepted exactly where the value of `field` is a
 /// table that has at `e` and `b` their uniform parts, or 0 and that key isn't there, at `edges` and
@@ -22,4 +23,12 @@ pub fn fields_are_tested()
 /// it.
 pub fn species_are_spelled()
     ensures { SpeciesAreSpelled }
+{}
+
+/// The refusal of `species` is the fault of the first of its tests that fails: its kind and how many
+/// tables it has, and then, table by table, its kind and each of its keys, the name, the charge, the
+/// mass, `kick` and `turn`, the sources, the value of the one that counts, and how many particles there
+/// are so far.
+pub fn species_are_tested()
+    ensures { SpeciesAreTested }
 {}
