@@ -227,7 +227,7 @@ one_along n done path d =
     then_along _ _ (table_along loop_keys path d)
     (λ t is. rw (ap members_of (table_ok loop_keys path d t is).0) (loop_in_along n path t))
 
-drive_along : (n : Triple) (path : List ℕ) (d : Data) → Along (drive_tests n path d) (drive_list n path d)
+pub drive_along : (n : Triple) (path : List ℕ) (d : Data) → Along (drive_tests n path d) (drive_list n path d)
 unfolding drive_list drive_tests
 drive_along n path d = limited_along (from_to (pos 0) (pos most_loops)) (one_loop n) _ (one_along n) path d
 

@@ -17,3 +17,6 @@ pub mod AloneLaws
 pub mod SpeciesLaws
 pub mod FillTestLaws
 pub mod SpeciesTestLaws
+pub mod DeckLaws
+pub mod DeckTestLaws
+pub mod DeckReadLaws

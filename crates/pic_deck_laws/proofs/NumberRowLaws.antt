@@ -100,7 +100,7 @@ row_fit n r is = (
   ),
 )
 
-row_back : (n : Triple) (r : Row) → IsFieldRow n r → row_from (row_numbers r) ≡ r
+pub row_back : (n : Triple) (r : Row) → IsFieldRow n r → row_from (row_numbers r) ≡ r
 row_back n r is = λ i. record { axis = axis_back r.axis i; cell = sym (three_of r.cell is.three) i; value = r.value }
 
 pub row_stands : (n : Triple) → IsCells n → Stands (row_limits n) row_from row_numbers (IsFieldRow n)

@@ -60,7 +60,7 @@ kind_along path t =
     (λ kick _. last_along _ _ (need_along _ _ multiplier_along (codes "turn") path t))))
 
 -- The particles
-particles_known : (done : List Species) → particles_in (map known_by done) ≡ particles_of done
+pub particles_known : (done : List Species) → particles_in (map known_by done) ≡ particles_of done
 particles_known [] = refl
 particles_known (s ∷ ss) =
     sum_by-cons (λ (k : Known). k.count) (known_by s) (map known_by ss)
@@ -129,7 +129,7 @@ known_is t done ms s is =
     let count : count_in t.version (map known_by done) ms ≡ s.count = count_is t.version done ms s.fill is.fill ∙ sym is.next.filled.count in
     λ i. record { name = name i; charge = charge i; count = count i }
 
-known_more : (t : TermsView) → IsExtent (extent_of t.grid) → (done : List Species) (path : List ℕ) (d : Data) (s : Species)
+pub known_more : (t : TermsView) → IsExtent (extent_of t.grid) → (done : List Species) (path : List ℕ) (d : Data) (s : Species)
     → one_species t done path d ≡ Ok s
     → map known_by (done ++ s ∷ []) ≡ map known_by done ++ known_of t.version (map known_by done) (members_of d) ∷ []
 known_more t extent done path d s e =

@@ -312,7 +312,7 @@ none_listed keys (k ∷ ks) e zero d h = (none_first (is_listed keys k) k (find 
 none_listed keys (k ∷ ks) e (suc i) d h =
     none_listed keys ks (none_first (is_listed keys k) k (find (λ x. not (is_listed keys x)) ks) e).1 i d (omega (arith, h))
 
-listed_none : (keys ks : List (List ℕ)) → AllPass (is_listed keys) ks → find (λ k. not (is_listed keys k)) ks ≡ None
+pub listed_none : (keys ks : List (List ℕ)) → AllPass (is_listed keys) ks → find (λ k. not (is_listed keys k)) ks ≡ None
 listed_none keys [] all = refl
 listed_none keys (k ∷ ks) all =
     ap (λ (b : Bool). cond (not b) (Some k) (find (λ x. not (is_listed keys x)) ks)) (all 0 [] (omega arith))
@@ -323,6 +323,10 @@ unfolding listed first_unlisted
 listed_ok keys path ms t e =
     let is = known_ok path (first_unlisted keys ms) ms t e in
     (is.1, subst (HasOnly keys) is.1 (none_listed keys (member_keys ms) is.0))
+
+pub listed_from : (keys : List (List ℕ)) (path : List ℕ) (t : Members) → HasOnly keys t → listed keys path t ≡ Ok t
+unfolding first_unlisted
+listed_from keys path t only = known_is keys path t (listed_none keys (member_keys t) only)
 
 pub table_is : (q : Fault) (d : Data) (ms : Members) → some_or q (as_table d) ≡ Ok ms → d ≡ table ms
 unfolding some_or

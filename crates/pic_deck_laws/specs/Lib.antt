@@ -13,3 +13,5 @@ pub mod FillTables
 pub mod SpeciesTable
 pub mod FillTests
 pub mod SpeciesTests
+pub mod DeckTables
+pub mod DeckTests

@@ -65,3 +65,9 @@ pub record IsTable (d : Data) (P : Members → Type 0) : Type 0 where
   pub members : Members
   pub there : d ≡ table members
   pub holds : P members
+
+-- a table has at the key a value of which this holds
+pub record HasSuch (t : Members) (key : List ℕ) (P : Data → Type 0) : Type 0 where
+  pub value : Data
+  pub there : Has t key value
+  pub holds : P value

@@ -4,12 +4,14 @@
 #![tactic(auto)]
 
 mod contents;
+mod deck;
 mod devices;
 mod settings;
 
 pub use contents::{
     fields_are_spelled, fields_are_tested, species_are_spelled, species_are_tested,
 };
+pub use deck::{decks_are_read, decks_are_refused, decks_are_spelled, decks_are_tested};
 pub use devices::{loops_are_spelled, loops_are_tested, probes_are_spelled, probes_are_tested};
 pub use settings::{
     grids_are_spelled, grids_are_tested, runs_are_spelled, runs_are_tested, scales_are_spelled,
