@@ -6,6 +6,8 @@ use Rattle.std.proofs.lemmas.Bool.Decides.{nat_tests}
 use Rattle.std.proofs.Math.Nat.{mul-le-mul}
 use Rattle.toml.specs.Data.{Data, Members}
 use Rattle.pic_num.specs.Limits.{most_cells_of_axis, least_side, most_side}
+use Rattle.pic_num.specs.declared.axis.Axis.{Axis}
+use Rattle.pic_num.specs.Multiplier.{Multiplier}
 use Rattle.pic_num.specs.Space.{Triple}
 use Rattle.pic_num.specs.Versions.{IsGridOf}
 use Rattle.pic_num.proofs.VersionLaws.{side_least, side_most}
@@ -21,10 +23,12 @@ use Rattle.pic_devices.specs.Probes.{no_probes, probes}
 use Rattle.pic_settings.specs.declared.settings.Settings.{Settings}
 use Rattle.pic_settings.specs.Keys.{settings}
 use Rattle.pic_deck.specs.declared.fields.InitialFields.{InitialFields}
+use Rattle.pic_deck.specs.Initial.{first_strong}
 use Rattle.pic_deck.specs.Deck.{DeckView, deck_view, terms_of}
 use Rattle.pic_deck.specs.Keys.{deck_keys, no_field, fields, species_list, force_allowed, forces, devices, deck}
 use Rattle.pic_deck.specs.Species.{particles_of}
-use Rattle.pic_deck_laws.specs.DeckTables.{HasOr, SpellsDevices, AreMild, SpellsDeck, DecksAreSpelled}
+use Rattle.pic_deck.proofs.ForceLaws.{weak_where, strong_finds, none_strong}
+use Rattle.pic_deck_laws.specs.DeckTables.{HasOr, SpellsDevices, AreWeak, AreMild, SpellsDeck, DecksAreSpelled}
 use Rattle.pic_deck_laws.specs.DriveTable.{AreLoopTables}
 use Rattle.pic_deck_laws.specs.FieldTable.{IsFieldTable}
 use Rattle.pic_deck_laws.specs.ProbeTable.{IsProbeTable}
@@ -145,15 +149,21 @@ none_allowed : (path : List ℕ) (o : Option ℤ) → o ≡ None → force_allow
 unfolding force_allowed
 none_allowed path o none = ap (force_allowed path) none
 
+none_large : (n : Triple) (by : Multiplier) (g : Axis → Triple → ℤ) → first_strong n by g ≡ None → AreWeak n by g
+none_large n by g none = record { weak = λ a p w. weak_where by (g a p) ((strong_finds n by g).none none (a, p) w) }
+
+large_none : (n : Triple) (by : Multiplier) (g : Axis → Triple → ℤ) → AreWeak n by g → first_strong n by g ≡ None
+large_none n by g are = none_strong n by g are.weak
+
 forces_ok : (s : Settings) (f : InitialFields) → forces s f ≡ Ok tt → AreMild s f
 unfolding forces
 forces_ok s f e =
     let w = went _ _ _ e in
-    record { e = allowed_none _ _ w.first; b = allowed_none _ _ w.then }
+    record { e = none_large _ _ _ (allowed_none _ _ w.first); b = none_large _ _ _ (allowed_none _ _ w.then) }
 
 forces_from : (s : Settings) (f : InitialFields) → AreMild s f → forces s f ≡ Ok tt
 unfolding forces
-forces_from s f mild = then_ok _ tt _ (none_allowed _ _ mild.e) ∙ none_allowed _ _ mild.b
+forces_from s f mild = then_ok _ tt _ (none_allowed _ _ (large_none _ _ _ mild.e)) ∙ none_allowed _ _ (large_none _ _ _ mild.b)
 
 -- The document
 deck_ok : (ms : Members) (d : DeckView) → deck ms ≡ Ok d → SpellsDeck ms d

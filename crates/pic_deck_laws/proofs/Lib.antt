@@ -1,5 +1,6 @@
 pub mod TestLaws
 pub mod WalkTests
+pub mod KeyLaws
 pub mod ValueLaws
 pub mod GridLaws
 pub mod RunLaws

@@ -19,6 +19,7 @@ use Rattle.pic_walk.proofs.TableLaws.{known_is}
 use Rattle.pic_walk.proofs.WalkLaws.{then_ok, went, there}
 use Rattle.pic_deck_laws.specs.Spelling.{natural, spelled, integers, naturals, Has, Lacks, HasOnly}
 use Rattle.pic_deck_laws.specs.ValueTests.{sizes_of, members_of, or_empty, value_at}
+use Rattle.pic_deck_laws.proofs.KeyLaws.{only_from_all, all_from_only}
 use Rattle.pic_deck_laws.proofs.WalkTests.{last_length}
 
 -- a test that holds gives its value
@@ -322,11 +323,11 @@ pub listed_ok : (keys : List (List ℕ)) (path : List ℕ) (ms t : Members) → 
 unfolding listed first_unlisted
 listed_ok keys path ms t e =
     let is = known_ok path (first_unlisted keys ms) ms t e in
-    (is.1, subst (HasOnly keys) is.1 (none_listed keys (member_keys ms) is.0))
+    (is.1, only_from_all keys t (subst (λ (u : Members). AllPass (is_listed keys) (member_keys u)) is.1 (none_listed keys (member_keys ms) is.0)))
 
 pub listed_from : (keys : List (List ℕ)) (path : List ℕ) (t : Members) → HasOnly keys t → listed keys path t ≡ Ok t
 unfolding first_unlisted
-listed_from keys path t only = known_is keys path t (listed_none keys (member_keys t) only)
+listed_from keys path t only = known_is keys path t (listed_none keys (member_keys t) (all_from_only keys t only))
 
 pub table_is : (q : Fault) (d : Data) (ms : Members) → some_or q (as_table d) ≡ Ok ms → d ≡ table ms
 unfolding some_or
@@ -341,8 +342,8 @@ table_ok keys path d t e =
     (table_is (Kind path) d w.value w.first ∙ ap table is.0, is.1)
 
 pub table_from : (keys : List (List ℕ)) (path : List ℕ) (t : Members) → HasOnly keys t → table_of keys path (table t) ≡ Ok t
-unfolding table_of some_or ◌>>=◌ first_unlisted
-table_from keys path t only = known_is keys path t (listed_none keys (member_keys t) only)
+unfolding table_of some_or ◌>>=◌
+table_from keys path t only = listed_from keys path t only
 
 pub need_table_ok : (keys : List (List ℕ)) (key path : List ℕ) (ms t : Members) → need (table_of keys) key path ms ≡ Ok t
     → Has ms key (table t) × HasOnly keys t

@@ -1,8 +1,14 @@
 -- A whole deck, with no walk from key to key: what a document spells where it is accepted, and which bytes
 -- are a deck.
-use Rattle.std.specs.Prelude.{◌≡◌, ◌≢◌, ◌↔◌, ◌⊎◌, ℕ, ◌≤◌, List, [], length, codes, None, Some, Ok}
+use Rattle.std.specs.Prelude.{◌≡◌, ◌≢◌, ◌↔◌, ◌⊎◌, ℕ, ℤ, ◌≤◌, List, [], length, codes, Some, Ok}
 use Rattle.toml.specs.Data.{Data, Members}
+use Rattle.pic_num.specs.declared.axis.Axis.{Axis}
+use Rattle.pic_num.specs.Limits.{most_force}
+use Rattle.pic_num.specs.Multiplier.{Multiplier}
+use Rattle.pic_num.specs.Rounding.{scaled}
+use Rattle.pic_num.specs.Sizes.{IsAtMost}
 use Rattle.pic_num.specs.Space.{Triple, spot}
+use Rattle.pic_grid.specs.Cells.{IsWithin}
 use Rattle.pic_walk.specs.Bounds.{most_bytes}
 use Rattle.pic_devices.specs.declared.devices.Devices.{Devices}
 use Rattle.pic_devices.specs.Devices.{no_devices}
@@ -11,7 +17,7 @@ use Rattle.pic_settings.specs.declared.settings.Settings.{Settings}
 use Rattle.pic_deck.specs.declared.fields.InitialFields.{InitialFields}
 use Rattle.pic_deck.specs.declared.species.Species.{Species}
 use Rattle.pic_deck.specs.Deck.{DeckView, deck_view, terms_of}
-use Rattle.pic_deck.specs.Initial.{set_up, first_strong}
+use Rattle.pic_deck.specs.Initial.{set_up}
 use Rattle.pic_deck.specs.Keys.{deck_keys, no_field, deck}
 use Rattle.pic_deck.specs.Reading.{document, walk}
 use Rattle.pic_deck.specs.Species.{particles_of}
@@ -33,10 +39,14 @@ pub record SpellsDevices (version : ℕ) (n : Triple) (particles : ℕ) (ms : Me
   pub probes : version ≢ 1
       → HasOr ms (codes "probe") (λ d p. IsTable d (λ t. IsProbeTable n particles t p)) no_probes ds.probes
 
--- no force value of E nor of B is too large
+-- no force value of a field on n cells is too large
+pub record AreWeak (n : Triple) (by : Multiplier) (g : Axis → Triple → ℤ) : Type 0 where
+  pub weak : (a : Axis) (p : Triple) → IsWithin p n → IsAtMost (scaled (g a p) by) most_force
+
+-- none of E and none of B
 pub record AreMild (s : Settings) (f : InitialFields) : Type 0 where
-  pub e : first_strong s.cells.n s.scales.e_force (set_up (spot f.e) f.edges) ≡ None
-  pub b : first_strong s.cells.n s.scales.b_force (set_up (spot f.b) f.faces) ≡ None
+  pub e : AreWeak s.cells.n s.scales.e_force (set_up (spot f.e) f.edges)
+  pub b : AreWeak s.cells.n s.scales.b_force (set_up (spot f.b) f.faces)
 
 -- a document spells a deck: its settings, its field, its species and its devices, and it has no other keys
 pub record SpellsDeck (ms : Members) (d : DeckView) : Type 0 where

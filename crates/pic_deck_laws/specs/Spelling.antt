@@ -1,10 +1,9 @@
 -- What stands in a document: how it spells numbers and arrays of numbers, and what a table has at a key.
-use Rattle.std.specs.Prelude.{◌≡◌, ℕ, ℤ, pos, List, [], ◌∷◌, length, take, slice_get, Some, None}
-use Rattle.std.specs.List.{AllPass}
+use Rattle.std.specs.Prelude.{◌≡◌, ℕ, ℤ, pos, false, List, [], ◌∷◌, length, take, slice_get, Some, None}
 use Rattle.toml.specs.Data.{Data, integer, array, table, Items, no_items, item, Members, get_member, get_item}
 use Rattle.pic_num.specs.Multiplier.{Multiplier}
 use Rattle.pic_num.specs.Space.{Triple}
-use Rattle.pic_walk.specs.Walk.{count_of_items, is_listed, member_keys}
+use Rattle.pic_walk.specs.Walk.{count_of_items, is_listed}
 
 -- a natural number
 abbrev pub natural : ℕ → Data
@@ -41,7 +40,7 @@ Lacks t key = get_member key t ≡ None
 
 -- it has no other keys than the listed ones
 abbrev pub HasOnly : List (List ℕ) → Members → Type 0
-HasOnly keys t = AllPass (is_listed keys) (member_keys t)
+HasOnly keys t = (key : List ℕ) → is_listed keys key ≡ false → Lacks t key
 
 -- it has a table at the key, of which this holds
 pub record HasTable (t : Members) (key : List ℕ) (P : Members → Type 0) : Type 0 where
