@@ -134,7 +134,8 @@ devices_from t cells particles ms ds is = elim (cases_eq t.version 1) [
   | inl one ↦ devices_first t particles ms one ∙ ap Ok (sym (is.none one))
   | inr further ↦
       devices_further t particles ms further
-      ∙ then_ok _ ds.loops _ (or_from [] (drive_list t.grid.n) (AreLoopTables t.grid.n) (loops_are_spelled t.grid.n cells) (codes "drive") ms ds.loops (is.loops further))
+      ∙ then_ok _ ds.loops _ (or_from [] (drive_list t.grid.n) (AreLoopTables t.grid.n)
+      (loops_are_spelled t.grid.n cells) (codes "drive") ms ds.loops (is.loops further))
       ∙ then_ok _ ds.probes _ (or_from no_probes (probes t.grid.n particles) (λ d p. IsTable d (λ u. IsProbeTable t.grid.n particles u p))
       (probes_are_spelled t.grid.n cells particles) (codes "probe") ms ds.probes (is.probes further))
 ]

@@ -1,5 +1,6 @@
 -- The walk of a whole deck makes its tests.
-use Rattle.std.proofs.Common.{◌≡◌, ◌≢◌, ℕ, suc, ℤ, pos, ◌<◌, ◌==◌, ◌^◌, ap₂, slice_index_or, true, false, map, List, [], ◌∷◌, ◌++◌, length, Option, Some, None, Ok, refl, sym, ap, ◌∙◌, subst}
+use Rattle.std.proofs.Common.{◌≡◌, ◌≢◌, ℕ, suc, ℤ, pos, ◌<◌, ◌==◌, ◌^◌, ap₂, slice_index_or, true, false, map}
+use Rattle.std.proofs.Common.{List, [], ◌∷◌, ◌++◌, length, Option, Some, None, Ok, refl, sym, ap, ◌∙◌, subst}
 use Rattle.std.proofs.Common.{unsigned_abs, inl, inr, arith}
 use Rattle.std.specs.Prelude.{codes, if◌then◌else◌}
 use Rattle.std.proofs.lemmas.Bool.{cases_eq}
@@ -30,7 +31,8 @@ use Rattle.pic_deck.specs.Initial.{set_up, first_strong}
 use Rattle.pic_deck.specs.Keys.{deck_keys, no_field, fields, one_species, species_list, force_allowed, forces, devices, deck}
 use Rattle.pic_deck.specs.Species.{particles_of}
 use Rattle.pic_deck_laws.specs.DeckTests.{numbers_of, rows_of, table_in, said_cells, said_side, said_terms, multiplier_of, said_scale, or_zeros}
-use Rattle.pic_deck_laws.specs.DeckTests.{said_uniform, said_rows, all_known, said_particles, device_tests, force_test, force_tests, deck_tests, DecksAreTested}
+use Rattle.pic_deck_laws.specs.DeckTests.{said_uniform, said_rows, all_known, said_particles}
+use Rattle.pic_deck_laws.specs.DeckTests.{device_tests, force_test, force_tests, deck_tests, DecksAreTested}
 use Rattle.pic_deck_laws.specs.FieldTable.{IsFieldTable, HasRows, HasUniform, field_tests}
 use Rattle.pic_deck_laws.specs.FillTests.{Known}
 use Rattle.pic_deck_laws.specs.NumberRows.{row_numbers, IsFieldRow}
@@ -233,7 +235,8 @@ fields_part ms s is =
 species_part : (ms : Members) (s : Settings) → SpellsSettings ms s
     → Along (optional_tests (species_tests (said_terms ms)) (codes "species") [] ms) (optional [] (species_list (terms_of s)) (codes "species") [] ms)
 species_part ms s is =
-    subst (λ (t : TermsView). Along (optional_tests (species_tests t) (codes "species") [] ms) (optional [] (species_list (terms_of s)) (codes "species") [] ms))
+    subst (λ (t : TermsView). Along (optional_tests (species_tests t) (codes "species") [] ms)
+    (optional [] (species_list (terms_of s)) (codes "species") [] ms))
     (sym (terms_is ms s is)) (optional_along [] _ _ (species_along (terms_of s) (box_of ms s is)) (codes "species") [] ms)
 
 devices_part : (ms : Members) (s : Settings) (ss : List Species) → SpellsSettings ms s

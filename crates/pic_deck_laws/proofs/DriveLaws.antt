@@ -18,7 +18,8 @@ use Rattle.pic_devices.specs.Drive.{loop_keys, axis_limits, axis, cell_limits, d
 use Rattle.pic_devices.specs.Lists.{list_within}
 use Rattle.pic_deck_laws.specs.Spelling.{natural, integers, naturals, HasOnly, IsTable}
 use Rattle.pic_deck_laws.specs.ValueTests.{members_of, number_tests}
-use Rattle.pic_deck_laws.specs.DriveTable.{IsLoopTable, AreLoopTables, LoopsAreSpelled, wave_tests, loop_key_tests, loop_tests, drive_tests, LoopsAreTested}
+use Rattle.pic_deck_laws.specs.DriveTable.{IsLoopTable, AreLoopTables, LoopsAreSpelled, wave_tests}
+use Rattle.pic_deck_laws.specs.DriveTable.{loop_key_tests, loop_tests, drive_tests, LoopsAreTested}
 use Rattle.pic_deck_laws.proofs.TestLaws.{Along, makes_tests, then_along, last_along}
 use Rattle.pic_deck_laws.proofs.WalkTests.{number_along, whole_along, three_along, table_along, need_along}
 use Rattle.pic_deck_laws.proofs.ValueLaws.{limited_ok, limited_from, whole_ok, whole_from, FitFrom, WithinToo, Natural, three_ok, three_from}
@@ -114,7 +115,8 @@ wave_ok path d zs e =
       most = omega (arith, ints, counts.1.high);
     })
 
-wave_from : (path : List ℕ) (zs : List ℤ) → FitFrom (λ _ z. IsAtMost z most_drive) 0 zs → 1 ≤ length zs → length zs ≤ most_wave → wave path (integers zs) ≡ Ok zs
+wave_from : (path : List ℕ) (zs : List ℤ) → FitFrom (λ _ z. IsAtMost z most_drive) 0 zs → 1 ≤ length zs → length zs ≤ most_wave
+    → wave path (integers zs) ≡ Ok zs
 unfolding wave list_within amplitude
 wave_from path zs fit some most =
     then_ok _ zs _ (list_from amplitude integer (λ _ z. IsAtMost z most_drive)

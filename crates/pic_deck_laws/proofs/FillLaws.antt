@@ -23,7 +23,8 @@ use Rattle.pic_deck.specs.Species.{IsFill, IsOpposite}
 use Rattle.pic_deck_laws.specs.FillTables.{source_of, SpellsFill}
 use Rattle.pic_deck_laws.proofs.ValueLaws.{need_whole_ok, need_whole_from, table_ok, table_from}
 use Rattle.pic_deck_laws.proofs.ThreeLaws.{up_to}
-use Rattle.pic_deck_laws.proofs.SourceLaws.{sites_ok, sites_from, draw_ok, draw_from, displacement_ok, displacement_from, position_below, need_named_ok, need_named_from, points_ok, points_from, particles_of_points}
+use Rattle.pic_deck_laws.proofs.SourceLaws.{sites_ok, sites_from, draw_ok, draw_from, displacement_ok, displacement_from}
+use Rattle.pic_deck_laws.proofs.SourceLaws.{position_below, need_named_ok, need_named_from, points_ok, points_from, particles_of_points}
 
 -- What a source fills with: what its value spells, and its limits
 pub record Filled (t : TermsView) (done : List Species) (charge : ℤ) (d : Data) (f : Fill) : Type 0 where
@@ -38,7 +39,8 @@ pub record FilledBy (k : FillKind) (t : TermsView) (done : List Species) (charge
 pub same_ok : {A : Type 0} (a b : A) → ◌≡◌ {A = Walked A} (Ok a) (Ok b) → a ≡ b
 same_ok a b e = cc e
 
-pub fill_ok : (k : FillKind) (t : TermsView) → IsExtent (extent_of t.grid) → (done : List Species) (species : List ℕ) (charge : ℤ) (path : List ℕ) (d : Data) (f : Fill)
+pub fill_ok : (k : FillKind) (t : TermsView) → IsExtent (extent_of t.grid)
+    → (done : List Species) (species : List ℕ) (charge : ℤ) (path : List ℕ) (d : Data) (f : Fill)
     → fill_by k t done species charge path d ≡ Ok f → FilledBy k t done charge d f
 unfolding lattice random pair displaced opposite
 fill_ok source.Points t extent done species charge path d f e =
@@ -79,7 +81,8 @@ fill_ok source.Random t extent done species charge path d f e =
     let count = need_whole_ok _ _ path a.value b.value low b.first in
     let is = draw_ok t.grid.side path a.value c.value c.first in
     let both : (b.value, c.value) ≡ w.value = cc c.then in
-    subst (FilledBy source.Random t done charge d) (ap (λ (r : ℕ × Draw). Random r.0 r.1.seed r.1.stream r.1.drift r.1.spread) both ∙ same_ok _ f w.then) (record {
+    subst (FilledBy source.Random t done charge d)
+    (ap (λ (r : ℕ × Draw). Random r.0 r.1.seed r.1.stream r.1.drift r.1.spread) both ∙ same_ok _ f w.then) (record {
       source = refl;
       filled = record {
         spells = record { members = a.value; there = keys.0; holds = record { keys = keys.1; count = count.0; drawn = is.spells } };

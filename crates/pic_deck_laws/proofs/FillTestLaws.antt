@@ -21,7 +21,8 @@ use Rattle.pic_walk.specs.Sites.{place_limits, gap_limits, count_limits, sites}
 use Rattle.pic_walk.specs.Terms.{TermsView}
 use Rattle.pic_walk.specs.Walk.{Walked, ◌>>=◌, some_or, text, need}
 use Rattle.pic_deck.specs.declared.species.Species.{Species}
-use Rattle.pic_deck.specs.Fill.{lattice_keys, lattice, random_keys, random, pair_keys, species_number, pair, displace_keys, opposite, displaced, fill_by, species_fill}
+use Rattle.pic_deck.specs.Fill.{lattice_keys, lattice, random_keys, random, pair_keys, species_number}
+use Rattle.pic_deck.specs.Fill.{pair, displace_keys, opposite, displaced, fill_by, species_fill}
 use Rattle.pic_deck.specs.Species.{species_at, no_species}
 use Rattle.pic_deck_laws.specs.FillTables.{HasNameOf}
 use Rattle.pic_deck_laws.specs.FillTests.{Known, no_known, text_of, number_named, or_zero, named_in, or_points, source_in, tests_of_sources}

@@ -63,7 +63,8 @@ pub list_within_along : {A : Type 0} (limits : Limits) (f : List A → List ℕ 
 unfolding list_within counted_tests count_test
 list_within_along limits f tests one path d =
     then_along _ _ (list_along f tests one path d)
-    (λ xs is. subst (λ (n : ℕ). Along (limit_test limits path (pos n) ∷ []) (counted limits path xs)) (list_count f path d xs is) (counted_along limits path xs))
+    (λ xs is. subst (λ (n : ℕ). Along (limit_test limits path (pos n) ∷ []) (counted limits path xs))
+    (list_count f path d xs is) (counted_along limits path xs))
 
 pub limited_along : {A : Type 0} (limits : Limits) (f : List A → List ℕ → Data → Walked A) (tests : ℕ → List ℕ → Data → List Test)
     → ((done : List A) (path : List ℕ) (d : Data) → Along (tests (length done) path d) (f done path d))

@@ -17,7 +17,8 @@ use Rattle.pic_devices.specs.Probes.{most_places, most_ids, probe_keys, place_li
 use Rattle.pic_deck_laws.specs.NumberRows.{place_numbers, rows, IsWatched}
 use Rattle.pic_deck_laws.specs.Spelling.{natural, spelled, integers, naturals, IsTable}
 use Rattle.pic_deck_laws.specs.ValueTests.{members_of, number_tests, numbers_tests}
-use Rattle.pic_deck_laws.specs.ProbeTable.{HasPlaces, HasIds, IsProbeTable, ProbesAreSpelled, places_tests, ids_tests, probe_key_tests, probe_tests, ProbesAreTested}
+use Rattle.pic_deck_laws.specs.ProbeTable.{HasPlaces, HasIds, IsProbeTable, ProbesAreSpelled}
+use Rattle.pic_deck_laws.specs.ProbeTable.{places_tests, ids_tests, probe_key_tests, probe_tests, ProbesAreTested}
 use Rattle.pic_deck_laws.proofs.TestLaws.{Along, makes_tests, then_along, last_along}
 use Rattle.pic_deck_laws.proofs.WalkTests.{whole_along, numbers_along, table_along, optional_along}
 use Rattle.pic_deck_laws.proofs.ValueLaws.{natural_is, limited_ok, limited_from, table_ok, table_from, optional_ok, optional_from, optional_absent}

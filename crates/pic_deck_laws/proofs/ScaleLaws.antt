@@ -13,7 +13,8 @@ use Rattle.pic_deck_laws.specs.Spelling.{spelled, fraction, HasTable}
 use Rattle.pic_deck_laws.specs.ScaleTable.{HasMultiplier, IsScaleTable, ScalesAreSpelled, multiplier_tests, scale_key_tests, scale_tests, ScalesAreTested}
 use Rattle.pic_deck_laws.proofs.TestLaws.{Along, makes_tests, then_along, last_along}
 use Rattle.pic_deck_laws.proofs.WalkTests.{multiplier_along, table_along, need_along}
-use Rattle.pic_deck_laws.proofs.ValueLaws.{natural_is, FitFrom, Within, numbers_ok, numbers_from, need_ok, need_from, need_table_ok, need_table_from, table_found}
+use Rattle.pic_deck_laws.proofs.ValueLaws.{natural_is, FitFrom, Within, numbers_ok, numbers_from}
+use Rattle.pic_deck_laws.proofs.ValueLaws.{need_ok, need_from, need_table_ok, need_table_from, table_found}
 
 -- A multiplier
 abbrev made_of : List ℤ → Multiplier

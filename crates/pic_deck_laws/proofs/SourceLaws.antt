@@ -197,7 +197,8 @@ need_named_ok done path ms i e =
       found = is_there _ _ i w.then;
     }
 
-pub need_named_from : (done : List Species) (path : List ℕ) (ms : Members) (i : ℕ) → HasNameOf ms done i → need (species_number done) (codes "of") path ms ≡ Ok i
+pub need_named_from : (done : List Species) (path : List ℕ) (ms : Members) (i : ℕ) → HasNameOf ms done i
+    → need (species_number done) (codes "of") path ms ≡ Ok i
 unfolding species_number
 need_named_from done path ms i has =
     need_from _ _ path ms (string has.name) i has.there

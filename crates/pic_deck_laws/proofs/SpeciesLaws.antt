@@ -247,7 +247,8 @@ one_from t extent done path d s is =
     ∙ species_in_from t extent done path is.members s is.holds
 
 -- All species
-species_ok : (t : TermsView) → IsExtent (extent_of t.grid) → (path : List ℕ) (d : Data) (ss : List Species) → species_list t path d ≡ Ok ss → AreSpeciesTables t d ss
+species_ok : (t : TermsView) → IsExtent (extent_of t.grid) → (path : List ℕ) (d : Data) (ss : List Species) → species_list t path d ≡ Ok ss
+    → AreSpeciesTables t d ss
 unfolding species_list
 species_ok t extent path d ss e =
     let w = went _ _ _ e in
@@ -260,7 +261,8 @@ species_ok t extent path d ss e =
       few = omega (arith, ints, few.high, are.count);
     }
 
-species_from : (t : TermsView) → IsExtent (extent_of t.grid) → (path : List ℕ) (d : Data) (ss : List Species) → AreSpeciesTables t d ss → species_list t path d ≡ Ok ss
+species_from : (t : TermsView) → IsExtent (extent_of t.grid) → (path : List ℕ) (d : Data) (ss : List Species) → AreSpeciesTables t d ss
+    → species_list t path d ≡ Ok ss
 unfolding species_list
 species_from t extent path d ss is =
     let ds = is.tables.items in

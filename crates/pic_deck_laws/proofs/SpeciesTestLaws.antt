@@ -97,7 +97,8 @@ counted_along : (version : ℕ) (done : List Species) (path : List ℕ) (ms : Me
 unfolding counted particles_test
 counted_along version done path ms f has =
     subst (λ (n : ℕ). Along (limit_test (from_to (pos 0) (pos (allowance_of version).particles)) path (pos n) ∷ []) (counted version done path f))
-    (sym (ap (λ (m : ℕ). m + count_in version (map known_by done) ms) (particles_known done) ∙ ap (λ (m : ℕ). particles_of done + m) (count_is version done ms f has)))
+    (sym (ap (λ (m : ℕ). m + count_in version (map known_by done) ms) (particles_known done)
+    ∙ ap (λ (m : ℕ). particles_of done + m) (count_is version done ms f has)))
     (last_along _ _ (within_along _ path (pos (particles_of done + filled_count done f))))
 
 -- A species

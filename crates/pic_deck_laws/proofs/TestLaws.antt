@@ -4,7 +4,7 @@ use Rattle.std.specs.Prelude.{slice_get, is_some, if◌then◌else◌, IsOk}
 use Rattle.std.proofs.lemmas.Option.{same_Some}
 use Rattle.pic_walk.specs.declared.fault.Fault.{Fault}
 use Rattle.pic_walk.specs.Walk.{Walked, ◌>>=◌, some_or}
-use Rattle.pic_deck_laws.specs.Tests.{Test, test, IsFirstFault, MakesTests}
+use Rattle.pic_deck_laws.specs.Tests.{Test, test, IsFirstFault, MakesTests, TestsGoInTurn}
 
 -- the fault of the first test that fails
 abbrev pub first_fault : List Test → Option Fault
@@ -136,6 +136,17 @@ pub last_along : {A B : Type 0} {ts : List Test} (w : Walked A) (g : A → B) �
 unfolding ◌>>=◌
 last_along (Ok a) g first = record { is = first.is }
 last_along (Err q) g first = record { is = first.is }
+
+-- a walk that makes tests goes along them
+pub along_from : {A : Type 0} (ts : List Test) (w : Walked A) → MakesTests ts w → Along ts w
+along_from ts (Ok a) makes = record { is = sym (holds_none ts (makes.accepts.0 refl).each) }
+along_from ts (Err q) makes =
+    let f = (makes.refuses q).0 refl in
+    record { is = sym (is_first ts f.number f.failed f.there f.fails f.before ∙ ap (λ (x : Fault). Some x) f.gives) }
+
+pub tests_in_turn : (A B : Type 0) → TestsGoInTurn A B
+tests_in_turn A B ts us w f first later =
+    makes_tests _ _ (then_along w f (along_from ts w first) (λ a is. along_from us (f a) (later a is)))
 
 -- one test and then a walk
 pub test_along : {A : Type 0} (b : Bool) (a : A) (q : Fault) → Along (test b q ∷ []) (if b then Ok a else Err q)

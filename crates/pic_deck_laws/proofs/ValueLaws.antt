@@ -1,5 +1,6 @@
 -- Which values a walk accepts, and what it gives for them: exactly those that are spelled.
-use Rattle.std.proofs.Common.{◌≡◌, ℕ, zero, suc, ℤ, pos, ◌<◌, ◌==◌, ◌≤ℤ◌, Bool, true, false, cond, not, map, find, ◌⊎◌, inl, inr, List, [], ◌∷◌, ◌++◌, length}
+use Rattle.std.proofs.Common.{◌≡◌, ℕ, zero, suc, ℤ, pos, ◌<◌, ◌==◌, ◌≤ℤ◌, Bool, true, false}
+use Rattle.std.proofs.Common.{cond, not, map, find, ◌⊎◌, inl, inr, List, [], ◌∷◌, ◌++◌, length}
 use Rattle.std.proofs.Common.{slice_index, Option, Some, None, Ok, Err, unsigned_abs, refl, sym, ap, ap₂, ◌∙◌, subst, append-nil, append_assoc, arith}
 use Rattle.std.specs.Prelude.{if◌then◌else◌}
 use Rattle.std.specs.List.{AllPass}

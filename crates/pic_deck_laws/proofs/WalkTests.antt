@@ -98,7 +98,8 @@ unfolding some_or ◌>>=◌
 there_along f tests one path None = record { is = refl }
 there_along f tests one path (Some d) = record { is = (one path d).is }
 
-pub need_along : {A : Type 0} (f : List ℕ → Data → Walked A) (tests : List ℕ → Data → List Test) → ((path : List ℕ) (d : Data) → Along (tests path d) (f path d))
+pub need_along : {A : Type 0} (f : List ℕ → Data → Walked A) (tests : List ℕ → Data → List Test)
+    → ((path : List ℕ) (d : Data) → Along (tests path d) (f path d))
     → (key path : List ℕ) (t : Members) → Along (needed_tests tests key path t) (need f key path t)
 unfolding need needed needed_tests
 need_along f tests one key path t = there_along f tests one (key_at path key) (get_member key t)

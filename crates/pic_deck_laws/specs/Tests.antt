@@ -1,7 +1,7 @@
 -- Tests of a document in a row: what each wants, and the fault where it fails.
-use Rattle.std.specs.Prelude.{◌≡◌, ◌↔◌, ℕ, ◌<◌, Bool, true, false, List, slice_get, Some, IsOk, Err}
+use Rattle.std.specs.Prelude.{◌≡◌, ◌↔◌, ℕ, ◌<◌, Bool, true, false, List, ◌++◌, slice_get, Some, IsOk, Ok, Err}
 use Rattle.pic_walk.specs.declared.fault.Fault.{Fault}
-use Rattle.pic_walk.specs.Walk.{Walked}
+use Rattle.pic_walk.specs.Walk.{Walked, ◌>>=◌}
 
 -- a test of one place, and the fault there where it fails
 pub record Test : Type 0 where
@@ -29,3 +29,9 @@ pub record AllHold (tests : List Test) : Type 0 where
 pub record MakesTests {A : Type 0} (tests : List Test) (w : Walked A) : Type 0 where
   pub refuses : (fault : Fault) → (w ≡ Err fault) ↔ IsFirstFault tests fault
   pub accepts : IsOk w ↔ AllHold tests
+
+-- a walk and another one from its value make the tests of the first, and then those of the second
+abbrev pub TestsGoInTurn : Type 0 → Type 0 → Type 0
+TestsGoInTurn A B =
+    (ts us : List Test) (w : Walked A) (f : A → Walked B)
+    → MakesTests ts w → ((a : A) → w ≡ Ok a → MakesTests us (f a)) → MakesTests (ts ++ us) (w >>= f)

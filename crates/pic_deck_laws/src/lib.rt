@@ -7,6 +7,7 @@ mod contents;
 mod deck;
 mod devices;
 mod settings;
+mod turn;
 
 pub use contents::{
     fields_are_spelled, fields_are_tested, species_are_spelled, species_are_tested,
@@ -17,3 +18,4 @@ pub use settings::{
     grids_are_spelled, grids_are_tested, runs_are_spelled, runs_are_tested, scales_are_spelled,
     scales_are_tested, settings_are_spelled, settings_are_tested,
 };
+pub use turn::tests_go_in_turn;
