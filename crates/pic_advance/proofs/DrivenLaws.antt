@@ -136,7 +136,8 @@ driven_append scales b es es' js js' fs fs' ks ks' stop stop' p q =
 
     second : stop' ≡ earliest (λ i. s (length es + i)) (length es')
     second = q.stop_is ∙ earliest_same _ (λ i. s (length es + i)) (length es')
-        (λ i below j. driven_stop scales b (in_back es es' (length es + i) i refl j) (in_back js js' (length es + i) i ((let same = p.count in omega (arith, same))) j))
+        (λ i below j. driven_stop scales b (in_back es es' (length es + i) i refl j)
+        (in_back js js' (length es + i) i ((let same = p.count in omega (arith, same))) j))
 
 -- where blocks and their current are cut in two, so are both groups'
 cut_front : (xs ys us vs : List BlockValues) → IsBeside xs us vs → length (us ++ vs) ≡ length (xs ++ ys) → length us ≡ length xs

@@ -31,5 +31,6 @@ opening_two f m x y ts sound same fresh first second own other near also =
     subst (λ (n : Tiling). IsInBox n.side (cells_of n) (triple p.x)) (sym same) is in
     opening_of f (x ∷ y ∷ []) ts sound (subst (λ (n : Tiling). AreFreshTiles n (x ∷ y ∷ []) ts) (sym same) fresh)
     (record { identities = λ i. first i ∷ second i ∷ [] })
-    (All-cons Can x (y ∷ []) (record { species = own; place = place x near }) (All-cons Can y [] (record { species = other; place = place y also }) (All-nil Can)))
+    (All-cons Can x (y ∷ []) (record { species = own; place = place x near })
+    (All-cons Can y [] (record { species = other; place = place y also }) (All-nil Can)))
     (omega arith)

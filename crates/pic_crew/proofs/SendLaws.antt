@@ -1,5 +1,30 @@
 -- What a seat owes while it posts the parcels of its claim.
-use Rattle.std.proofs.Common.{◌≡◌, ℕ, suc, ◌+◌, ◌<◌, ◌≤◌, inl, inr, List, [], ◌∷◌, ◌++◌, Bool, eqb, eq-eqb, ne_eqb, if◌then◌else◌, None, refl, sym, ◌∙◌, ap, subst, arith}
+use Rattle.std.proofs.Common.{
+  ◌≡◌,
+  ℕ,
+  suc,
+  ◌+◌,
+  ◌<◌,
+  ◌≤◌,
+  inl,
+  inr,
+  List,
+  [],
+  ◌∷◌,
+  ◌++◌,
+  Bool,
+  eqb,
+  eq-eqb,
+  ne_eqb,
+  if◌then◌else◌,
+  None,
+  refl,
+  sym,
+  ◌∙◌,
+  ap,
+  subst,
+  arith,
+}
 use Rattle.std.proofs.lemmas.List.{get_or-set_other}
 use Rattle.atomic_table.specs.declared.shared.Seat.{Seat}
 use Rattle.pic_tile.specs.Directions.{directions}

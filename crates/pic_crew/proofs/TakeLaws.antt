@@ -70,7 +70,8 @@ pub sent_parcel : (o : Opening) (t d : ℕ) (p : Parcel) → IsSentBy o t d (Som
 sent_parcel o t d p sent =
     subst (λ (q : Parcel). IsParcel (felt_in o.frame) o.frame.map (start_at o t) t d q) (same_parcel p sent.parcel sent.there) sent.is
 
-module _ (o : Opening) (sound : IsSoundFrame o.frame) (opens : IsOpening o.frame o.tiles.items) (r d : ℕ) (tile : TileValue) (p : Parcel) (among : r < tiles_in o)
+module _ (o : Opening) (sound : IsSoundFrame o.frame) (opens : IsOpening o.frame o.tiles.items) (r d : ℕ) (tile : TileValue) (p : Parcel)
+    (among : r < tiles_in o)
     (below : d < directions) (sent : IsSentBy o (from_of o r d) d (Some p))
   where
     sends_most : (t : ℕ) → IsFluxAtMost most_flux (traces (felt_in o.frame) (start_at o t))

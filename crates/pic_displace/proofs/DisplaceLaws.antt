@@ -157,7 +157,8 @@ come_within : (side : ℕ) (n : Triple) (kinds : List Kind) (x : Particle) (o : 
 come_within side n kinds x None come = tt
 come_within side n kinds x (Some w) come = come.way
 
-pub ways_within : (d : DeckView) → IsWithinLimits d → AreLoaded d (loaded d) → All (λ x. IsWayWithinLimits d.side d.cells (way_of d.species (loaded d) x)) (loaded d)
+pub ways_within : (d : DeckView) → IsWithinLimits d → AreLoaded d (loaded d)
+    → All (λ x. IsWayWithinLimits d.side d.cells (way_of d.species (loaded d) x)) (loaded d)
 ways_within d limits are i x below = come_within d.side d.cells (kinds_of d) _ (way_of d.species (loaded d) _) (have_come d limits are i x below)
 
 -- The conditions of the code, for a list that is known to be the deck's.
@@ -178,7 +179,8 @@ all_of_species d species ps s p limits are =
     subst (λ (ts : List Species). All (IsOfSpecies ts ps) ps) (sym s)
     (subst (λ (qs : List Particle). All (IsOfSpecies d.species qs) qs) (sym p) (of_species d limits (subst (AreLoaded d) p are)))
 
-pub all_ways_within : (d : DeckView) (g : Grid) (species : List Species) (ps : List Particle) → g ≡ deck_grid d → species ≡ d.species → ps ≡ loaded d → IsWithinLimits d
+pub all_ways_within : (d : DeckView) (g : Grid) (species : List Species) (ps : List Particle) → g ≡ deck_grid d → species ≡ d.species → ps ≡ loaded d
+    → IsWithinLimits d
     → AreLoaded d ps → All (λ x. IsWayWithinLimits g.side g.n (way_of species ps x)) ps
 all_ways_within d g species ps is s p limits are =
     subst (λ (h : Grid). All (λ x. IsWayWithinLimits h.side h.n (way_of species ps x)) ps) (sym is)

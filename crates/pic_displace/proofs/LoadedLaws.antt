@@ -73,12 +73,14 @@ module _ (grid : Grid) (ss : List Species) (done : List Particle) (s : Species) 
       let few : j < s.count = omega (arith, least, below) in
       let whole : length done + j ≡ i = omega (arith, least) in
       let x_is : get_or new j no_particle ≡ loaded_particle i number (point_in grid ss done s.fill j) =
-      get_or-map-range_with_len (λ k. loaded_particle (length done + k) number (point_in grid ss done s.fill k)) 0 s.count j j no_particle few (let z : 0 + j ≡ j = omega arith in z)
+      get_or-map-range_with_len (λ k. loaded_particle (length done + k) number (point_in grid ss done s.fill k)) 0 s.count j j no_particle few
+      (let z : 0 + j ≡ j = omega arith in z)
       ∙ (λ t. loaded_particle (whole t) number (point_in grid ss done s.fill j)) in
       let earlier : take number (ss ++ s ∷ []) ≡ ss = same_take number (omega arith) ∙ take_all number ss (omega arith) in
       let count : particles_of (take number (ss ++ s ∷ [])) ≡ length done = ap particles_of earlier ∙ sym at.count in
       let species : species_at (ss ++ s ∷ []) number ≡ s =
-      get_or-append_right ss (s ∷ []) number number no_species refl (omega arith) ∙ ap (λ (k : ℕ). get_or (s ∷ []) k no_species) (let z : number - number ≡ 0 = omega arith in z) in
+      get_or-append_right ss (s ∷ []) number number no_species refl (omega arith) ∙ ap (λ (k : ℕ). get_or (s ∷ []) k no_species)
+      (let z : number - number ≡ 0 = omega arith in z) in
       let front : take (particles_of (take number (ss ++ s ∷ []))) (done ++ new) ≡ done =
       ap (λ (k : ℕ). take k (done ++ new)) count ∙ same_done (length done) (omega arith) ∙ take_all (length done) done (omega arith) in
       let length_more = length-append ss (s ∷ []) in

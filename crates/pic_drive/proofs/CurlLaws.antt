@@ -68,7 +68,8 @@ edges n a p v b q =
     only_there second p v b q +ℤ (only_there second (up n third p) (neg_ℤ v) b q
     +ℤ (only_there third p (neg_ℤ v) b q +ℤ only_there third (up n second p) v b q))
 
-along_second : (t u : Bool) (v : ℤ) → cond t v (pos 0) -ℤ cond u v (pos 0) -ℤ pos 0 +ℤ pos 0 ≡ cond t v (pos 0) +ℤ (cond u (neg_ℤ v) (pos 0) +ℤ (pos 0 +ℤ pos 0))
+along_second : (t u : Bool) (v : ℤ) → cond t v (pos 0) -ℤ cond u v (pos 0) -ℤ pos 0 +ℤ pos 0 ≡ cond t v (pos 0) +ℤ
+    (cond u (neg_ℤ v) (pos 0) +ℤ (pos 0 +ℤ pos 0))
 along_second t true v = omega (arith, ints)
 along_second t false v = omega (arith, ints)
 
@@ -84,17 +85,23 @@ curl_only n X p v X q at on = refl
 curl_only n Y p v Y q at on = refl
 curl_only n Z p v Z q at on = refl
 curl_only n X p v Y q at on =
-    ap (λ (t : Bool). cond (is_cell q p) v (pos 0) -ℤ cond t v (pos 0) -ℤ pos 0 +ℤ pos 0) (cell_turned n Z p q at on) ∙ along_second (is_cell q p) (is_cell q (up n Z p)) v
+    ap (λ (t : Bool). cond (is_cell q p) v (pos 0) -ℤ cond t v (pos 0) -ℤ pos 0 +ℤ pos 0) (cell_turned n Z p q at on) ∙ along_second (is_cell q p)
+    (is_cell q (up n Z p)) v
 curl_only n Y p v Z q at on =
-    ap (λ (t : Bool). cond (is_cell q p) v (pos 0) -ℤ cond t v (pos 0) -ℤ pos 0 +ℤ pos 0) (cell_turned n X p q at on) ∙ along_second (is_cell q p) (is_cell q (up n X p)) v
+    ap (λ (t : Bool). cond (is_cell q p) v (pos 0) -ℤ cond t v (pos 0) -ℤ pos 0 +ℤ pos 0) (cell_turned n X p q at on) ∙ along_second (is_cell q p)
+    (is_cell q (up n X p)) v
 curl_only n Z p v X q at on =
-    ap (λ (t : Bool). cond (is_cell q p) v (pos 0) -ℤ cond t v (pos 0) -ℤ pos 0 +ℤ pos 0) (cell_turned n Y p q at on) ∙ along_second (is_cell q p) (is_cell q (up n Y p)) v
+    ap (λ (t : Bool). cond (is_cell q p) v (pos 0) -ℤ cond t v (pos 0) -ℤ pos 0 +ℤ pos 0) (cell_turned n Y p q at on) ∙ along_second (is_cell q p)
+    (is_cell q (up n Y p)) v
 curl_only n X p v Z q at on =
-    ap (λ (t : Bool). pos 0 -ℤ pos 0 -ℤ cond (is_cell q p) v (pos 0) +ℤ cond t v (pos 0)) (cell_turned n Y p q at on) ∙ along_third (is_cell q p) (is_cell q (up n Y p)) v
+    ap (λ (t : Bool). pos 0 -ℤ pos 0 -ℤ cond (is_cell q p) v (pos 0) +ℤ cond t v (pos 0)) (cell_turned n Y p q at on) ∙ along_third (is_cell q p)
+    (is_cell q (up n Y p)) v
 curl_only n Y p v X q at on =
-    ap (λ (t : Bool). pos 0 -ℤ pos 0 -ℤ cond (is_cell q p) v (pos 0) +ℤ cond t v (pos 0)) (cell_turned n Z p q at on) ∙ along_third (is_cell q p) (is_cell q (up n Z p)) v
+    ap (λ (t : Bool). pos 0 -ℤ pos 0 -ℤ cond (is_cell q p) v (pos 0) +ℤ cond t v (pos 0)) (cell_turned n Z p q at on) ∙ along_third (is_cell q p)
+    (is_cell q (up n Z p)) v
 curl_only n Z p v Y q at on =
-    ap (λ (t : Bool). pos 0 -ℤ pos 0 -ℤ cond (is_cell q p) v (pos 0) +ℤ cond t v (pos 0)) (cell_turned n X p q at on) ∙ along_third (is_cell q p) (is_cell q (up n X p)) v
+    ap (λ (t : Bool). pos 0 -ℤ pos 0 -ℤ cond (is_cell q p) v (pos 0) +ℤ cond t v (pos 0)) (cell_turned n X p q at on) ∙ along_third (is_cell q p)
+    (is_cell q (up n X p)) v
 
 -- the curl of nothing
 pub curl_none : (n : Triple) (f : Axis → Triple → ℤ) → ((a : Axis) (p : Triple) → f a p ≡ pos 0) → (a : Axis) (p : Triple) → curl_b n f a p ≡ pos 0

@@ -35,7 +35,8 @@ pub none_are_small : (count : ℕ) → AreSmall (replicate count none_kept)
 none_are_small count = record {
   at = λ k. elim (cases_lt k count) as (λ _. IsSmall (kept_at (replicate count none_kept) k)) [
     | inl inside ↦ subst IsSmall (sym (get_or-replicate count k none_kept none_kept inside)) none_small
-    | inr past ↦ subst IsSmall (sym (get_or_past (replicate count none_kept) k none_kept (let long = length-replicate count none_kept in omega (arith, past, long)))) none_small
+    | inr past ↦ subst IsSmall (sym (get_or_past (replicate count none_kept) k none_kept
+        (let long = length-replicate count none_kept in omega (arith, past, long)))) none_small
   ];
 }
 

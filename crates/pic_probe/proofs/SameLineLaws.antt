@@ -30,7 +30,8 @@ unfolding value_of
 same_value e b e' b' p of_e of_b = λ i. if p.field == 0 then of_e i else of_b i
 
 -- the particle of an identity, in lists in order
-same_particle : (ps qs : List Particle) (id : ℕ) → map (λ (p : Particle). p.id) ps ≡ range_with_len 0 (length ps) → map (λ (p : Particle). p.id) qs ≡ range_with_len 0 (length qs)
+same_particle : (ps qs : List Particle) (id : ℕ) → map (λ (p : Particle). p.id) ps ≡ range_with_len 0 (length ps) → map (λ (p : Particle). p.id) qs
+    ≡ range_with_len 0 (length qs)
     → id < length ps → id < length qs → get_or ps id no_particle ≡ get_or qs id no_particle → particle_with ps id ≡ particle_with qs id
 same_particle ps qs id in_ps in_qs below inside same = particle_stands ps id in_ps below ∙ same ∙ sym (particle_stands qs id in_qs inside)
 

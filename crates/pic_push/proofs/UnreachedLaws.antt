@@ -106,6 +106,7 @@ unfolding reaches spans
 none_in_layer r t d s x y more below = let sx = s.x in let sy = s.y in grind (arith, nat_tests)
 
 -- nor those after the last
-pub none_after : (r : Reach) (t : Direction) (d : ℕ) → AreSteps t → r.x.last ≤ t.x → r.y.last ≤ t.y → r.z.last ≤ t.z → direction_number t < d → reaches r d ≡ false
+pub none_after : (r : Reach) (t : Direction) (d : ℕ) → AreSteps t → r.x.last ≤ t.x → r.y.last ≤ t.y → r.z.last ≤ t.z → direction_number t < d
+    → reaches r d ≡ false
 unfolding reaches spans
 none_after r t d s x y z more = let sx = s.x in let sy = s.y in grind (arith, nat_tests)

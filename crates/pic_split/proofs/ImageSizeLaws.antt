@@ -62,7 +62,8 @@ onlys_small n c i two = by_lt_z c (pos i) under (λ h. by_lt_z (pos i) c over (�
 
     -- of one place
     either : {P : Type 0} → (j : ℤ) → (only c j ≡ pos 1 → P) → (only c j ≡ pos 0 → P) → P
-    either j yes_is no_is = by_lt_z j c (λ h. no_is (only_below c j h)) (λ h. by_lt_z c j (λ k. no_is (only_above c j k)) (λ k. yes_is (only_same c j (omega (arith, ints, h, k)))))
+    either j yes_is no_is = by_lt_z j c (λ h. no_is (only_below c j h))
+        (λ h. by_lt_z c j (λ k. no_is (only_above c j k)) (λ k. yes_is (only_same c j (omega (arith, ints, h, k)))))
 
     under : c <ℤ pos i → IsUpTo (only c (pos i -ℤ pos n) +ℤ only c (pos i) +ℤ only c (pos i +ℤ pos n)) 1
     under h =

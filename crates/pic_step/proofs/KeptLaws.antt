@@ -40,7 +40,8 @@ pub above_zero : (w : World) → IsSound w → 0 < w.side
 above_zero w sound = let least = sound.side_least in omega (arith, least)
 
 -- where its particles are cut into tiles, the state is that of its parts
-module _ (step filter : ℕ) (loops : List Loop) (m : Tiling) (scales : Scales) (kinds : List Kind) (e b : Field) (xs : List Particle) (p : Plasma) (map : IsMap m)
+module _ (step filter : ℕ) (loops : List Loop) (m : Tiling) (scales : Scales) (kinds : List Kind) (e b : Field) (xs : List Particle) (p : Plasma)
+    (map : IsMap m)
     (sound : IsSound (world_of step (grid_of_tiling m) filter loops scales kinds e.values b.values xs)) (tiled : AreTiled m e b) (of_map : p.frame.map ≡ m)
     (of_filter : filter_in p.smooth ≡ filter) (of_kinds : p.frame.kinds ≡ kinds) (ready : IsPlasma xs p) (of : All (IsOf xs) p.tracers.items) where
   list_is : all_particles p.tiles.items ≡ xs
@@ -80,7 +81,8 @@ module _ (step : ℕ) (loops : List Loop) (scales : Scales) (e b : Field) (p : P
       let all = together (chains_of p.tiles.items) in
       subst (λ (k : ℕ). All (λ x. x.id < k) all) (same_length all (all_particles p.tiles.items) same ∙ sym is) (ids_below all census)
 
-  pub written_is : (to : List Particle) → length to ≡ length (all_particles p.tiles.items) → written (together (chains_of p.tiles.items)) to ≡ all_particles p.tiles.items
+  pub written_is : (to : List Particle) → length to ≡ length (all_particles p.tiles.items) → written (together (chains_of p.tiles.items)) to
+      ≡ all_particles p.tiles.items
   written_is to long =
       let all = together (chains_of p.tiles.items) in
       written_all all to census (long ∙ sym (same_length all (all_particles p.tiles.items) same))
@@ -93,7 +95,8 @@ module _ (step : ℕ) (loops : List Loop) (scales : Scales) (e b : Field) (p : P
       record { side = refl; cells = refl; own = keeps.plasma.tiles; once = permutes particle_discrete xs all (same_sym all xs same) }
 
 -- a state's fields and particles can be pushed, B after its first half step
-pub can_push : (step : ℕ) (loops : List Loop) (scales : Scales) (e b c : Field) (p : Plasma) → IsKept step loops scales e b p → IsTiled p.frame.map c → IsSafe scales.b_force c
+pub can_push : (step : ℕ) (loops : List Loop) (scales : Scales) (e b c : Field) (p : Plasma) → IsKept step loops scales e b p → IsTiled p.frame.map c
+    → IsSafe scales.b_force c
     → CanPush scales e c p
 can_push step loops scales e b c p keeps tiled_c safe =
     let w = seen step loops scales e b p in

@@ -60,7 +60,8 @@ place_more f g h qs i d v below cells is after stored all =
     (subst (λ (k : Field). All (HaveSameAt k g) (take i qs)) (sym after) (all_kept f g q.axis (triple q.cell) v (take i qs) cells is now all)) (stored ∙ is)
 
 -- and the lattice is as it was but for its values
-pub shape_kept : (o f h : Field) (a : Axis) (p : Triple) (v : ℤ) → h ≡ with_value f a p v → f ≡ record o { values = f.values } → h ≡ record o { values = h.values }
+pub shape_kept : (o f h : Field) (a : Axis) (p : Triple) (v : ℤ) → h ≡ with_value f a p v → f ≡ record o { values = f.values } → h ≡ record o
+    { values = h.values }
 shape_kept o f h a p v after shape =
     after ∙ (λ i. record (shape i) { values = set f.values (place_of f.cells a p) v }) ∙ (λ i. record o { values = (sym after i).values })
 

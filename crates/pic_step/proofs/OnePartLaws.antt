@@ -67,10 +67,13 @@ pub full_one : (phase : Phase) (m : Tiling) (scales : Scales) (b e : Field) (j :
 unfolding full_of
 full_one phase m scales b e j r s is of_b of_e h =
     subst (λ (t : Result Field Stop).
-    Advanced phase scales.e_force (cells_of m) (λ a p. full_of scales (whole m b.values) no_drive a p (value_at (whole m e.values) a p) (j a p)) (values_in t)) is
-    (subst (λ (g : Field). Advanced phase scales.e_force (cells_of m) (λ a p. full_of scales (whole m b.values) no_drive a p (value_at g a p) (j a p)) (values_in r))
+    Advanced phase scales.e_force (cells_of m) (λ a p. full_of scales (whole m b.values) no_drive a p (value_at (whole m e.values) a p) (j a p))
+    (values_in t)) is
+    (subst (λ (g : Field). Advanced phase scales.e_force (cells_of m) (λ a p. full_of scales (whole m b.values) no_drive a p (value_at g a p) (j a p))
+    (values_in r))
     (whole_is m e of_e)
-    (subst (λ (f : Field). Advanced phase scales.e_force f.cells (λ a p. full_of scales f no_drive a p (value_at e a p) (j a p)) (values_in r)) (whole_is m b of_b)
+    (subst (λ (f : Field). Advanced phase scales.e_force f.cells (λ a p. full_of scales f no_drive a p (value_at e a p) (j a p)) (values_in r))
+    (whole_is m b of_b)
     (advanced phase scales.e_force b.side b.cells e.parts (λ a p. full_of scales b no_drive a p (value_at e a p) (j a p)) r h)))
 
 -- a lattice that a phase leaves, on the cells of one and with the parts of another, lies in the tiles as they do

@@ -137,7 +137,8 @@ has_pushed p q stop h frame map some opening ready stopped =
         room = subst (λ (g : FrameValue). IsScratch g.map q.room) back h.room;
         parts = subst (λ (g : FrameValue). g.force_e.parts ≡ layered (cells_of g.map)) back ready.parts;
         spare = ap (λ v. length v.items) h.spare ∙ ready.spare ∙ ap (λ (g : FrameValue). count_of g.map.tiles) back;
-        smooth = subst (λ (g : FrameValue). IfSome q.smooth (LiesOn (cells_of g.map) g.map.tiles)) back (subst (λ o. IfSome o (LiesOn (cells_of p.frame.map) p.frame.map.tiles)) (sym h.smooth) ready.smooth);
+        smooth = subst (λ (g : FrameValue). IfSome q.smooth (LiesOn (cells_of g.map) g.map.tiles)) back
+            (subst (λ o. IfSome o (LiesOn (cells_of p.frame.map) p.frame.map.tiles)) (sym h.smooth) ready.smooth);
         count = h.count ∙ ready.count ∙ sym (ap length pushed.particles ∙ length-moved_all (felt_in f) xs);
       };
       pushed = subst (λ (g : FrameValue). ArePushed (felt_in g) f.map xs us stop) h.frame pushed;

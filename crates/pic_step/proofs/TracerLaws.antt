@@ -1,7 +1,20 @@
 -- The particles that are followed: each is that of the list with its identity, before and after a push.
 use Rattle.std.proofs.Common.{◌≡◌, ℕ, ◌+◌, ◌-◌, ◌<◌, ◌≤◌, List, [], ◌∷◌, ◌++◌, length, get_or, take, drop, map, All, refl, sym, ap, ◌∙◌, subst}
 use Rattle.std.proofs.Common.{append-nil, arith}
-use Rattle.std.proofs.lemmas.List.{get_or-map, get_or_default, get_or-append_right, get_or-drop, length-append, length-drop, length-map, length-take-le, map-append, take_all, drop_all, take_more}
+use Rattle.std.proofs.lemmas.List.{
+  get_or-map,
+  get_or_default,
+  get_or-append_right,
+  get_or-drop,
+  length-append,
+  length-drop,
+  length-map,
+  length-take-le,
+  map-append,
+  take_all,
+  drop_all,
+  take_more,
+}
 use Rattle.std.proofs.lemmas.List.Elements.{All-map, All-push, All-weaker}
 use Rattle.std.proofs.lemmas.List.FromFn.{get_or-range_with_len}
 use Rattle.pic_num.specs.declared.motion.Particle.{Particle}

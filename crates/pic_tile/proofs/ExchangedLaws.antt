@@ -93,7 +93,8 @@ module _ (law : LayersMakeTheCurrent) (leads : WayLeads) (w : Surroundings) (m :
 
     -- all tiles
     pub are_exchanged : (tiles : List TileValue) (done : ℕ → ℕ → Bool) → AreOrdered xs → length tiles ≡ count_of m.tiles
-        → ((r : ℕ) → r < count_of m.tiles → AreAllDone (done r)) → ((r : ℕ) → r < count_of m.tiles → IsReceiving w m (starts opening) (done r) r (tile_in tiles r))
+        → ((r : ℕ) → r < count_of m.tiles → AreAllDone (done r))
+        → ((r : ℕ) → r < count_of m.tiles → IsReceiving w m (starts opening) (done r) r (tile_in tiles r))
         → AreExchanged w m xs tiles
     are_exchanged tiles done ordered long all receives =
         let chains = chains_of opening in

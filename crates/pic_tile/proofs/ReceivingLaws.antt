@@ -212,7 +212,8 @@ module _ (w : Surroundings) (m : Tiling) (start : ℕ → List Particle) (r : �
             flux = λ a c within. ap (λ (b : BlockValues). inner_at b a c) (sym flux)
                 ∙ flux_more k done more (flux_at t here) (flux_at u here) p.flux a c below thick one size
                 (ap (λ (o : Option Parcel). inner_at (flux_of o) a c) own.1 ∙ had.flux a c within) added sent_is.flux within;
-            halt = subst (λ (o : Option Stop). IsStopOf w (start r) o) (sym (sym (ap stop_of_parcel is) ∙ merged.stop other ∙ ap stop_of_parcel own.1)) had.halt;
+            halt = subst (λ (o : Option Stop). IsStopOf w (start r) o)
+                (sym (sym (ap stop_of_parcel is) ∙ merged.stop other ∙ ap stop_of_parcel own.1)) had.halt;
           }
 
       -- and in the others

@@ -153,7 +153,8 @@ box_edge n b a p low size within =
       z_high = omega (arith, ints, within.z);
     } in
     let here : InZone b.low b.size (unwrapped p) =
-    subst (λ (l : Spot). InZone l b.size (unwrapped p)) (sym low) (subst (λ (s : Triple). InZone (record { x = pos 0; y = pos 0; z = pos 0 }) s (unwrapped p)) (sym size) zone) in
+    subst (λ (l : Spot). InZone l b.size (unwrapped p)) (sym low)
+    (subst (λ (s : Triple). InZone (record { x = pos 0; y = pos 0; z = pos 0 }) s (unwrapped p)) (sym size) zone) in
     edge_inside b a (unwrapped p) here
     ∙ ap (λ (l : Spot). slice_index_or b.values (place_of b.size a (inner_of l (unwrapped p))) (pos 0)) low
     ∙ ap (λ (q : Triple). slice_index_or b.values (place_of b.size a q) (pos 0)) (λ t. record { x = same p.x t; y = same p.y t; z = same p.z t })

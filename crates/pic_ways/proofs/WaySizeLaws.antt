@@ -114,7 +114,8 @@ module _ (side : ℕ) (n : Triple) (w : Way) (above : 0 < side) (most : side ≤
       let one = wrapped_size n (path_flux side w.charge pieces a) p in
       let images = path_images side n w.charge pieces a p two in
       let far = times_at_most (unsigned_abs w.charge) (ways a pieces) (unsigned_abs w.charge) side (omega arith) (short a) in
-      let product = times_at_most (unsigned_abs w.charge * ways a pieces) (12 * (side * side)) (unsigned_abs w.charge * side) (12 * (side * side)) far (omega arith) in
+      let product = times_at_most (unsigned_abs w.charge * ways a pieces) (12 * (side * side)) (unsigned_abs w.charge * side) (12 * (side * side)) far
+      (omega arith) in
       let all = carried_most side (unsigned_abs w.charge) most is.charge.size in
       record { size = omega (arith, ints, one, images, product, all) }
 
@@ -184,7 +185,8 @@ unfolding flux_of_ways current_of_ways
 wraps side n way xs a p = wrapped-over n (λ x. way_flux side (way x) a) xs p
 
 -- there is room for a path's flux beside that of all particles but one
-pub room_for : (b : BlockValues) (f : Axis → Spot → ℤ) → AllAtMost (most_flux_of (most_particles - 1)) b → ((a : Axis) (c : Spot) → unsigned_abs (f a c) ≤ most_flux_of 1)
+pub room_for : (b : BlockValues) (f : Axis → Spot → ℤ) → AllAtMost (most_flux_of (most_particles - 1)) b
+    → ((a : Axis) (c : Spot) → unsigned_abs (f a c) ≤ most_flux_of 1)
     → SumsBelow b f
 room_for b f room small = record {
   at = λ a c inside. let x = (room.at_most a c inside).size in let y = small a c in omega (arith, ints, x, y);

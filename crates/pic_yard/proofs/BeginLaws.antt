@@ -103,7 +103,12 @@ begins o words slots sound opens some_seats small laid =
         bare = λ r d tile dir sender. record { value = None; there = at_map some slots (slot_at r d) None (laid.laid.boxes r d tile dir); is = refl };
         full = λ r d tile dir is few. absurd (true≢false (sym is));
         emptied = λ r d tile dir closed. absurd (true≢false (sym closed));
-        opening = λ t tile above. record { value = tile_at o t; there = at_map some slots (slot_at t directions) (tile_at o t) (laid.laid.homes t tile); is = refl };
+        opening = λ t tile above. record {
+          value = tile_at o t;
+          there = at_map some slots (slot_at t directions) (tile_at o t)
+              (laid.laid.homes t tile);
+          is = refl;
+        };
         between = λ t tile is few. absurd (true≢false (sym is));
         finished = λ r tile closed. absurd (true≢false (sym closed));
       };

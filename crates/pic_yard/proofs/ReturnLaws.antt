@@ -1,5 +1,28 @@
 -- Giving back a finished tile keeps the rule of the board.
-use Rattle.std.proofs.Common.{◌≡◌, ℕ, zero, suc, ◌<◌, ◌≤◌, List, length, length-set, set, slice_index, if◌then◌else◌, Bool, true, Some, None, refl, sym, ap, ◌∙◌, subst, arith}
+use Rattle.std.proofs.Common.{
+  ◌≡◌,
+  ℕ,
+  zero,
+  suc,
+  ◌<◌,
+  ◌≤◌,
+  List,
+  length,
+  length-set,
+  set,
+  slice_index,
+  if◌then◌else◌,
+  Bool,
+  true,
+  Some,
+  None,
+  refl,
+  sym,
+  ap,
+  ◌∙◌,
+  subst,
+  arith,
+}
 use Rattle.std.proofs.Math.Decide.{ℕ_discrete}
 use mathlib.Core.Option.{Option, none, some}
 use lib.ListN.{get_elem?}

@@ -38,7 +38,8 @@ returns-in-Some-clause-fields g c =
     let r = c.advance_e-e-in-Some.result.0 in
     let same : (a : Axis) (p : Triple) → IsWithin p b.cells → value_at smooth a p ≡ filtered 1 b.cells (value_at flux a) p = λ a p within.
     ap (λ (f : Field). value_at f a p) c.filter_current-filtered.ensures.filtered
-    ∙ value_at-field_of flux.side flux.cells c.in-Some.room.parts (smoothed_each flux.cells (value_at flux)) a p (subst (IsWithin p) (sym c.requires.flux.cells) within)
+    ∙ value_at-field_of flux.side flux.cells c.in-Some.room.parts (smoothed_each flux.cells (value_at flux)) a p
+    (subst (IsWithin p) (sym c.requires.flux.cells) within)
     ∙ ap (λ (n : Triple). filtered 1 n (value_at flux a) p) c.requires.flux.cells in
     subst (λ (o : Option Field). Advances Electric s.e_force b.side b.cells e.parts
     (λ a p. full_of s b no_drive a p (value_at e a p) (filtered (filter_in o) b.cells (value_at flux a) p)) r)

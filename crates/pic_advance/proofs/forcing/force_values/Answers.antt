@@ -40,7 +40,8 @@ of_blocks-requires-clause-zones g c =
     let new = c.each_share.new.items in
     let taken = c.into_blocks-blocks in
     let has = have g (goal.at.of_blocks-requires-clause-zones g c).After-deref_mut in
-    let each = subst (λ (bs : List BlockValues). EachBlock (IsMade (force_of c.args.mult (value_at from))) bs new) c.deref_mut.ensures.value c.each_share.ensures in
+    let each = subst (λ (bs : List BlockValues). EachBlock (IsMade (force_of c.args.mult (value_at from))) bs new) c.deref_mut.ensures.value
+    c.each_share.ensures in
     let back = given_back taken.result.len new old taken.result.ok.0 each.long in
     subst (λ (bs : List BlockValues). ArePartsOf c.cells-cells.result.n (triple c.parts-parts.result) bs) (sym back)
     (made_zones from.cells c.args.to old has new (force_of c.args.mult (value_at from)) each
@@ -53,7 +54,8 @@ returns g c =
     let new = c.each_share.new.items in
     let taken = c.into_blocks-blocks in
     let has = have g (goal.at.returns g c).After-deref_mut in
-    let each = subst (λ (bs : List BlockValues). EachBlock (IsMade (force_of c.args.mult (value_at from))) bs new) c.deref_mut.ensures.value c.each_share.ensures in
+    let each = subst (λ (bs : List BlockValues). EachBlock (IsMade (force_of c.args.mult (value_at from))) bs new) c.deref_mut.ensures.value
+    c.each_share.ensures in
     let back = given_back taken.result.len new old taken.result.ok.0 each.long in
     made_is from.cells c.args.to old has new (force_of c.args.mult (value_at from)) each
     c.cells-cells.result from.side (triple c.parts-parts.result) c.of_blocks.result

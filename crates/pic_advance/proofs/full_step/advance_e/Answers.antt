@@ -40,7 +40,8 @@ driven g c =
     let scales = c.args.scales.now in
     let b = c.args.b.now in
     let new = c.each_share-stop.new in
-    subst (λ (js : List BlockValues). AreDriven scales b c.into_blocks-blocks.result.items js new.items new.beside c.each_share-stop.result) c.deref_mut-2.ensures.value
+    subst (λ (js : List BlockValues). AreDriven scales b c.into_blocks-blocks.result.items js new.items new.beside c.each_share-stop.result)
+    c.deref_mut-2.ensures.value
     (subst (λ (es : List BlockValues). AreDriven scales b es c.deref_mut-2.result.now new.items new.beside c.each_share-stop.result) c.deref_mut.ensures.value
     c.each_share-stop.ensures)
 
@@ -130,7 +131,8 @@ returns-in-None-clause-fields g c =
           (driven g at.After-each_share-stop))
           c.cells-cells.result c.args.b.now.side (triple c.parts-parts.result) c.of_blocks.result
           (record { cells = c.cells-cells.ensures.value; side_is = c.cells-cells.ensures.side }) c.parts-parts.ensures.value
-          (c.of_blocks.ensures ∙ ap (λ (bs : List BlockValues). joined c.cells-cells.result (triple c.parts-parts.result) bs) (made_items g at.After-each_share-stop)),
+          (c.of_blocks.ensures ∙ ap (λ (bs : List BlockValues). joined c.cells-cells.result (triple c.parts-parts.result) bs)
+          (made_items g at.After-each_share-stop)),
       sym (stop_is g at.After-each_share-stop) ∙ c.in-None.is,
     )
 

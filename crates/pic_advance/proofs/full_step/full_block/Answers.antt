@@ -9,4 +9,5 @@ pub returns-clause-stop : goal.returns-clause-stop
 returns-clause-stop c =
     let step = c.args.step.now in
     c.err-stop.ensures.value
-    ∙ stop_of (block_stop Electric step.scales.now.e_force (full_in step.scales.now step.b.now no_drive c.args.j.now c.args.e.now) c.args.e.now) c.full_e_in.result c.full_e_in.ensures.stop
+    ∙ stop_of (block_stop Electric step.scales.now.e_force (full_in step.scales.now step.b.now no_drive c.args.j.now c.args.e.now) c.args.e.now)
+    c.full_e_in.result c.full_e_in.ensures.stop

@@ -8,4 +8,5 @@ abbrev pub invariant-loop-i : goal.invariant-loop-i
 invariant-loop-i l =
     Stepping (IsHalved l.step.scales.now l.step.e.now) l.fn.blocks l.blocks l.i
     × (l.least
-    ≡ earliest (λ k. block_stop l.step.phase l.step.scales.now.b_force (half_in l.step.scales.now l.step.e.now (block_in l.fn.blocks k)) (block_in l.fn.blocks k)) l.i)
+    ≡ earliest (λ k. block_stop l.step.phase l.step.scales.now.b_force (half_in l.step.scales.now l.step.e.now (block_in l.fn.blocks k))
+    (block_in l.fn.blocks k)) l.i)

@@ -66,7 +66,8 @@ loop-number-preserved c =
             w.right-is ∙ e.right ∙ kept,
             subst (λ (v : Seat Slot View). IsTaking y r (finished_up_to (d + 1)) s0 v c.if-ne.tile) (sym w.seat-is)
                 (subst (λ (v : TileValue). IsTaking y r (finished_up_to (d + 1)) s0 u v) (sym w.tile-is)
-                (taking_more y r s0 (finished_up_to d) (finished_up_to (d + 1)) d s u t x taking (inr (here_done d)) (next_more d below apart) e.serves e.view received others
+                (taking_more y r s0 (finished_up_to d) (finished_up_to (d + 1)) d s u t x taking (inr (here_done d)) (next_more d below apart)
+                e.serves e.view received others
                 takes)),
           )
           )

@@ -23,7 +23,8 @@ add_ways-requires-clause-count c = few_particles c.args.deck.now c.args.particle
 
 pub add_ways-requires-clause-of : goal.add_ways-requires-clause-of
 add_ways-requires-clause-of c =
-    all_of_species c.args.deck.now c.species.result.now c.args.particles.now c.species.ensures.value c.requires.loaded c.species.ensures.limits c.requires.limits
+    all_of_species c.args.deck.now c.species.result.now c.args.particles.now c.species.ensures.value c.requires.loaded c.species.ensures.limits
+    c.requires.limits
 
 pub add_ways-requires-clause-ways : goal.add_ways-requires-clause-ways
 add_ways-requires-clause-ways c =
@@ -39,7 +40,8 @@ take_current_off-requires-clause-current c = λ a p within.
     let d = c.args.deck.now in
     let ps = c.args.particles.now in
     subst (λ (v : ℤ). IsAtMost v most_to_smooth)
-    (sym (now_current d ps c.species.ensures.limits c.requires.limits c.requires.loaded c.cells-cells.result c.species.result.now c.args.room.flux c.add_ways.new.to
+    (sym (now_current d ps c.species.ensures.limits c.requires.limits c.requires.loaded c.cells-cells.result c.species.result.now c.args.room.flux
+    c.add_ways.new.to
     c.cells-cells.ensures.value c.species.ensures.value c.requires.room.flux c.add_ways.ensures.shape c.add_ways.ensures.values a p))
     (current_fits d ps c.species.ensures.limits c.requires.limits c.requires.loaded a p)
 
@@ -52,7 +54,8 @@ returns-clause-displaced c =
     let ps = c.args.particles.now in
     let n = c.cells-cells.result.n in
     let off = c.take_current_off.ensures in
-    displaced_now d ps n (filter_in c.args.room.smoothing) (λ a. wrapped n (edge_or_zero c.add_ways.new.to a)) c.args.e.now c.take_current_off.new.e c.requires.e
+    displaced_now d ps n (filter_in c.args.room.smoothing) (λ a. wrapped n (edge_or_zero c.add_ways.new.to a)) c.args.e.now c.take_current_off.new.e
+    c.requires.e
     (ap (λ (g : Grid). g.n) c.cells-cells.ensures.value) c.requires.room.filter_is
     (now_current d ps c.species.ensures.limits c.requires.limits c.requires.loaded c.cells-cells.result c.species.result.now c.args.room.flux c.add_ways.new.to
     c.cells-cells.ensures.value c.species.ensures.value c.requires.room.flux c.add_ways.ensures.shape c.add_ways.ensures.values)

@@ -9,7 +9,8 @@ use Rattle.pic_drive.proofs.driving.add.Goals as goal
 pub returns : goal.returns
 returns c =
     let p = triple c.args.cell in
-    let old : IsAtMost c.at.result (2 ^ 101) = subst (λ (v : ℤ). IsAtMost v (2 ^ 101)) (sym c.at.ensures) (c.requires.small.at_most c.args.axis p c.requires.within) in
+    let old : IsAtMost c.at.result (2 ^ 101) = subst (λ (v : ℤ). IsAtMost v (2 ^ 101)) (sym c.at.ensures)
+    (c.requires.small.at_most c.args.axis p c.requires.within) in
     let value : IsAtMost c.args.value (2 ^ 60) = c.requires.value in
     let sum : to_z w128 (of_z w128 (to_z w128 (of_z w128 c.at.result) +ℤ to_z w128 (of_z w128 c.args.value))) ≡ c.at.result +ℤ c.args.value =
     code_is (search codes depth 20) tt in

@@ -15,7 +15,8 @@ returns-in_err-read_letter g c =
     let text = c.args.text.now in
     let i = c.loop-index.index in
     let size = length-take-le i text (omega (arith, c.loop-index-test.true)) in
-    let stopped : Reads as_it_is (letter (cause_number c.args.cause) text (take i text)) (c.args.place + i) (c.args.place + i + 1) (g.S.Source.told c.loop-index.source)
+    let stopped : Reads as_it_is (letter (cause_number c.args.cause) text (take i text)) (c.args.place + i) (c.args.place + i + 1)
+    (g.S.Source.told c.loop-index.source)
     (g.S.Source.told c.read_letter.new.source) (Err c.in_err-read_letter.field-0.0) = rw size c.in_err-read_letter.ensures.reads in
     exits_among (length text) i (letter (cause_number c.args.cause) text) c.from_residual.ensures.1 c.loop-index-test.true
     (omega (arith, c.loop-index-test.true)) c.loop-index.invariant stopped
@@ -29,7 +30,8 @@ loop-index-preserved g c =
     let text = c.args.text.now in
     let i = c.loop-index.index in
     let size = length-take-le i text (omega (arith, c.loop-index-test.true)) in
-    let next : HasRead (letter (cause_number c.args.cause) text (take i text)) (c.args.place + i) (g.S.Source.told c.loop-index.source) c.in_ok-read_letter.field-0
+    let next : HasRead (letter (cause_number c.args.cause) text (take i text)) (c.args.place + i) (g.S.Source.told c.loop-index.source)
+    c.in_ok-read_letter.field-0
     (c.args.place + i + 1) (g.S.Source.told c.read_letter.new.source) = rw size c.in_ok-read_letter.ensures.reads.answer in
     let one = read_more i (letter (cause_number c.args.cause) text) c.loop-index.invariant next in
     read_up_to (omega arith) (read_same (ap (λ b. take i text ++ b ∷ []) c.in_ok-read_letter.ensures.same
@@ -43,6 +45,7 @@ returns g c =
     let whole : take c.loop-index.index text ≡ text = ap (λ n. take n text) all ∙ take-length text in
     let before = g.S.Source.told c.args.source.now in
     let now = g.S.Source.told c.loop-index.source in
-    let read = subst (λ n. HasRead (each n (letter (cause_number c.args.cause) text)) c.args.place before (take c.loop-index.index text) (c.args.place + n) now) all
+    let read = subst (λ n. HasRead (each n (letter (cause_number c.args.cause) text)) c.args.place before (take c.loop-index.index text)
+    (c.args.place + n) now) all
     c.loop-index.invariant in
     record { answer = read_same whole read }

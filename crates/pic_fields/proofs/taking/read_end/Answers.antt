@@ -23,5 +23,6 @@ returns g c = rw c.at.ensures (record {
 
 pub returns-in_err-fill : goal.returns-in_err-fill
 returns-in_err-fill g c = record {
-  reads = exits_filling_end c.fill.new.room c.in_err-fill.field-0.0 (omega (arith, c.fill.ensures.length)) c.from_residual.ensures.1 c.in_err-fill.ensures.fills;
+  reads = exits_filling_end c.fill.new.room c.in_err-fill.field-0.0 (omega (arith, c.fill.ensures.length)) c.from_residual.ensures.1
+      c.in_err-fill.ensures.fills;
 }

@@ -12,7 +12,8 @@ loop-index-init c = given_none c.args.cells.n (smoothed c.args.cells.n (node_at 
 
 pub loop-index-preserved : goal.loop-index-preserved
 loop-index-preserved c =
-    given_more c.args.cells.n (smoothed c.args.cells.n (node_at c.args.from.now)) c.loop-index.to c.set.new.self c.loop-index.index (triple c.cell_at-node.result) _
+    given_more c.args.cells.n (smoothed c.args.cells.n (node_at c.args.from.now)) c.loop-index.to c.set.new.self c.loop-index.index
+    (triple c.cell_at-node.result) _
     c.loop-index.invariant c.set.ensures.after
     (c.set.ensures.stored ∙ held c.smoothed_at.result c.smoothed_at.ensures.size ∙ c.smoothed_at.ensures.value)
     c.cell_at-node.ensures.number c.cell_at-node.ensures.within

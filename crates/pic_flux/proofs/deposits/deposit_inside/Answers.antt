@@ -28,7 +28,8 @@ record Along (side : ℕ) (old now : BlockValues) (q : ℤ) (s : Piece) (axis : 
   grown : (n : ℕ) → AllAtMost n old → AllAtMost (n + 2 ^ 77) now
 
 along : (side : ℕ) (old now : BlockValues) (q r : ℤ) (s : Piece) (p : Spans) (at : Base) (axis : Axis) → side ≤ 2 ^ 14 → SFits w32 q → r ≡ q
-    → base_cell at ≡ s.cell → IsInCell side s → AreSpans side s p → IsShaped old now → Adds old now (at_four axis (base_cell at) (four_by p r axis)) → Along side old now q s axis
+    → base_cell at ≡ s.cell → IsInCell side s → AreSpans side s p → IsShaped old now → Adds old now (at_four axis (base_cell at) (four_by p r axis))
+    → Along side old now q s axis
 along side old now q r s p at axis few fits e cell inside spans shape h =
     let there : Adds old now (at_four axis s.cell (four_by p q axis)) =
     subst (Adds old now) (λ i. at_four axis (cell i) (four_by p (e i) axis)) h in

@@ -7,5 +7,6 @@ use Rattle.pic_laws.proofs.slow.row.Given as goal
 
 abbrev pub invariant-loop-x : goal.invariant-loop-x
 invariant-loop-x l =
-    IsSumOf (λ x. weighted l.side (triple l.cells) (triple l.offset) (laid_out (triple l.cells) l.values) (triple l.point) (record { x = x; y = slice_index l.first 1; z = slice_index l.first 2 }))
+    IsSumOf (λ x. weighted l.side (triple l.cells) (triple l.offset) (laid_out (triple l.cells) l.values) (triple l.point)
+    (record { x = x; y = slice_index l.first 1; z = slice_index l.first 2 }))
     l.x (2 ^ 86) l.total

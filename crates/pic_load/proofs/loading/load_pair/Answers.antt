@@ -16,7 +16,8 @@ pub loop-i-init : goal.loop-i-init
 unfolding after
 loop-i-init c = record {
   filled = none_yet c.args.particles.now.items c.args.species
-      (λ i. beside (slice_index_or c.args.particles.now.items (c.args.start + i) no_particle) c.args.spread.drift c.args.spread.width (after (36 * i) c.args.rng.now));
+      (λ i. beside (slice_index_or c.args.particles.now.items (c.args.start + i) no_particle) c.args.spread.drift c.args.spread.width
+      (after (36 * i) c.args.rng.now));
   left = refl;
   placed = λ n m kinds slow placed. placed;
 }
@@ -24,7 +25,8 @@ loop-i-init c = record {
 pub add-requires : goal.add-requires
 add-requires c =
     let size = so_far _ _ c.args.species c.loop-i.i
-    (λ i. beside (slice_index_or c.args.particles.now.items (c.args.start + i) no_particle) c.args.spread.drift c.args.spread.width (after (36 * i) c.args.rng.now))
+    (λ i. beside (slice_index_or c.args.particles.now.items (c.args.start + i) no_particle) c.args.spread.drift c.args.spread.width
+    (after (36 * i) c.args.rng.now))
     c.loop-i.invariant.filled in
     omega (arith, size, c.requires.few)
 

@@ -81,5 +81,6 @@ pub returns-then-plasma-eq0-clause-pushed : goal.returns-then-plasma-eq0-clause-
 returns-then-plasma-eq0-clause-pushed g c =
     let p = c.args.plasma in
     let none : p.count ≡ 0 = omega (arith, c.if-plasma-eq0.true) in
-    none_pushed (around_fields c.args.fields.scales.now p.frame.kinds c.args.fields.e.now c.args.fields.b.now) p (subst IsMap c.map-map.ensures.value c.tiles-tiles.ensures.limits)
+    none_pushed (around_fields c.args.fields.scales.now p.frame.kinds c.args.fields.e.now c.args.fields.b.now) p
+    (subst IsMap c.map-map.ensures.value c.tiles-tiles.ensures.limits)
     c.requires.can.tiled.of_e.cells c.requires.can.plasma none

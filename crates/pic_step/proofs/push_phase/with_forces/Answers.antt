@@ -14,14 +14,16 @@ of_e : (g : Over) (c : After-force_values-force_e g) → c.force_values-force_e.
     ≡ field_of c.args.frame.map.side (cells_of c.args.frame.map) (layered (cells_of c.args.frame.map))
     (force_of c.args.fields.scales.now.e_force (value_at c.args.fields.e.now))
 of_e g c =
-    forced c.args.frame.map c.args.fields.scales.now.e_force c.args.fields.e.now c.force_values-force_e.result c.into_parts-kinds.result.1.parts c.requires.tiled.of_e
+    forced c.args.frame.map c.args.fields.scales.now.e_force c.args.fields.e.now c.force_values-force_e.result c.into_parts-kinds.result.1.parts
+    c.requires.tiled.of_e
     (ap (λ f. f.parts) c.into_parts-kinds.ensures.e ∙ c.requires.parts) c.force_values-force_e.ensures
 
 of_b : (g : Over) (c : After-force_values-force_b g) → c.force_values-force_b.result
     ≡ field_of c.args.frame.map.side (cells_of c.args.frame.map) (layered (cells_of c.args.frame.map))
     (force_of c.args.fields.scales.now.b_force (value_at c.args.fields.b.now))
 of_b g c =
-    forced c.args.frame.map c.args.fields.scales.now.b_force c.args.fields.b.now c.force_values-force_b.result c.into_parts-kinds.result.2.parts c.requires.tiled.of_b
+    forced c.args.frame.map c.args.fields.scales.now.b_force c.args.fields.b.now c.force_values-force_b.result c.into_parts-kinds.result.2.parts
+    c.requires.tiled.of_b
     (ap (λ f. f.parts) c.into_parts-kinds.ensures.b ∙ c.into_parts-kinds.ensures.frame.parts ∙ c.requires.parts) c.force_values-force_b.ensures
 
 pub new-requires-clause-e : goal.new-requires-clause-e

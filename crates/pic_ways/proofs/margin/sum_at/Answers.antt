@@ -29,7 +29,10 @@ returns-clause-value c =
     +ℤ to_z w128 (of_z w128 c.sum_on_y-up.result)))
     ≡ c.sum_on_y-down.result +ℤ c.sum_on_y-own.result +ℤ c.sum_on_y-up.result = code_is (search codes depth 20) tt in
     let f = edge_or_zero c.args.from.now c.args.axis in
-    let down_is = c.sum_on_y-down.ensures.value ∙ (λ t. sum_images c.args.cells.n.y (λ j. sum_images c.args.cells.n.x (λ i. f (record { x = i; y = j; z = down t })) (get_or c.args.cell 0 0)) (get_or c.args.cell 1 0)) in
-    let own_is = c.sum_on_y-own.ensures.value ∙ (λ t. sum_images c.args.cells.n.y (λ j. sum_images c.args.cells.n.x (λ i. f (record { x = i; y = j; z = own t })) (get_or c.args.cell 0 0)) (get_or c.args.cell 1 0)) in
-    let up_is = c.sum_on_y-up.ensures.value ∙ (λ t. sum_images c.args.cells.n.y (λ j. sum_images c.args.cells.n.x (λ i. f (record { x = i; y = j; z = up t })) (get_or c.args.cell 0 0)) (get_or c.args.cell 1 0)) in
+    let down_is = c.sum_on_y-down.ensures.value ∙ (λ t. sum_images c.args.cells.n.y
+    (λ j. sum_images c.args.cells.n.x (λ i. f (record { x = i; y = j; z = down t })) (get_or c.args.cell 0 0)) (get_or c.args.cell 1 0)) in
+    let own_is = c.sum_on_y-own.ensures.value ∙ (λ t. sum_images c.args.cells.n.y
+    (λ j. sum_images c.args.cells.n.x (λ i. f (record { x = i; y = j; z = own t })) (get_or c.args.cell 0 0)) (get_or c.args.cell 1 0)) in
+    let up_is = c.sum_on_y-up.ensures.value ∙ (λ t. sum_images c.args.cells.n.y
+    (λ j. sum_images c.args.cells.n.x (λ i. f (record { x = i; y = j; z = up t })) (get_or c.args.cell 0 0)) (get_or c.args.cell 1 0)) in
     sum ∙ (λ t. down_is t +ℤ own_is t +ℤ up_is t)

@@ -47,11 +47,15 @@ returns-clause-scratch c =
     subst (λ (z : CoreState). IsScratch z.frame.map scratch) c.self.view_is
     (scratch_again s h (subst (λ (z : CoreState). AreAllShut z) (sym c.self.view_is) c.requires) scratch
     (subst (AreBare (tile_count s)) (sym bare) (subst (λ (n : ℕ). AreBare n tiles) count c.make_bare.ensures)) refl
-    (with_items_is k.claimed c.unmark.new.marks (ap length c.unmark.ensures ∙ length-replicate (length c.deref_mut-2.result.now) false ∙ c.deref_mut-2.ensures.len)
+    (with_items_is k.claimed c.unmark.new.marks (ap length c.unmark.ensures ∙ length-replicate (length c.deref_mut-2.result.now) false
+    ∙ c.deref_mut-2.ensures.len)
     ∙ c.unmark.ensures ∙ ap (λ (l : List Bool). replicate (length l) false) c.deref_mut-2.ensures.value)
-    (with_items_is k.posted c.unmark-2.new.marks (ap length c.unmark-2.ensures ∙ length-replicate (length c.deref_mut-3.result.now) false ∙ c.deref_mut-3.ensures.len)
+    (with_items_is k.posted c.unmark-2.new.marks (ap length c.unmark-2.ensures ∙ length-replicate (length c.deref_mut-3.result.now) false
+    ∙ c.deref_mut-3.ensures.len)
     ∙ c.unmark-2.ensures ∙ ap (λ (l : List Bool). replicate (length l) false) c.deref_mut-3.ensures.value)
-    (with_items_is k.merged c.unmark-3.new.marks (ap length c.unmark-3.ensures ∙ length-replicate (length c.deref_mut-4.result.now) false ∙ c.deref_mut-4.ensures.len)
+    (with_items_is k.merged c.unmark-3.new.marks (ap length c.unmark-3.ensures ∙ length-replicate (length c.deref_mut-4.result.now) false
+    ∙ c.deref_mut-4.ensures.len)
     ∙ c.unmark-3.ensures ∙ ap (λ (l : List Bool). replicate (length l) false) c.deref_mut-4.ensures.value)
-    (with_items_is k.shut c.unmark-4.new.marks (ap length c.unmark-4.ensures ∙ length-replicate (length c.deref_mut-5.result.now) false ∙ c.deref_mut-5.ensures.len)
+    (with_items_is k.shut c.unmark-4.new.marks (ap length c.unmark-4.ensures ∙ length-replicate (length c.deref_mut-5.result.now) false
+    ∙ c.deref_mut-5.ensures.len)
     ∙ c.unmark-4.ensures ∙ ap (λ (l : List Bool). replicate (length l) false) c.deref_mut-5.ensures.value))

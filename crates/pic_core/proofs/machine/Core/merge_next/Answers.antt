@@ -13,7 +13,8 @@ must-requires c =
     merge_can c.args.self.now c.args.tile c.args.dir c.neighbour-to.result
     (c.neighbour-to.ensures.value ∙ ap (λ (m : Tiling). neighbour_of m.tiles c.args.tile c.args.dir) c.map.ensures.value
     ∙ ap (λ (z : CoreState). neighbour_of z.frame.map.tiles c.args.tile c.args.dir) c.self.view_is)
-    c.requires.tile c.requires.dir c.args.number c.of.result c.of.ensures c.requires.number (λ is. c.if-number.false (is ∙ sym c.number.ensures.value)) c.requires.at
+    c.requires.tile c.requires.dir c.args.number c.of.result c.of.ensures c.requires.number
+    (λ is. c.if-number.false (is ∙ sym c.number.ensures.value)) c.requires.at
 
 pub returns-clause-at : goal.returns-clause-at
 returns-clause-at c =
@@ -32,5 +33,6 @@ returns-clause-ran c =
     (merge_can c.args.self.now c.args.tile c.args.dir c.neighbour-to.result
     (c.neighbour-to.ensures.value ∙ ap (λ (m : Tiling). neighbour_of m.tiles c.args.tile c.args.dir) c.map.ensures.value
     ∙ ap (λ (z : CoreState). neighbour_of z.frame.map.tiles c.args.tile c.args.dir) c.self.view_is)
-    c.requires.tile c.requires.dir c.args.number c.of.result c.of.ensures c.requires.number (λ is. c.if-number.false (is ∙ sym c.number.ensures.value)) c.requires.at)
+    c.requires.tile c.requires.dir c.args.number c.of.result c.of.ensures c.requires.number
+    (λ is. c.if-number.false (is ∙ sym c.number.ensures.value)) c.requires.at)
     c.must.ensures.applied c.must.ensures.stands

@@ -53,7 +53,8 @@ write_each-requires c =
     (All-weaker (IsOf ps) (λ p. p.id < n) (λ p one. subst (λ (m : ℕ). p.id < m) (sym long) one.below) k.plasma.tracers.items c.self.invariant.tracers)
 
 -- those that are followed are written over the particles that were there
-written_is : (c : After-write_each) → (with_items c.args.to.now.particles c.write_each.new.to).items ≡ written c.self.inside.plasma.tracers.items c.deref_mut.result.now
+written_is : (c : After-write_each) → (with_items c.args.to.now.particles c.write_each.new.to).items ≡ written c.self.inside.plasma.tracers.items
+    c.deref_mut.result.now
 written_is c =
     let old = c.deref_mut.result.now in
     with_items_is c.args.to.now.particles c.write_each.new.to

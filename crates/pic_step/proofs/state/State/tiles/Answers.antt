@@ -15,5 +15,6 @@ returns-clause-tiles c =
     let k = c.self.inside in
     let tiles = c.as_slice.result.now in
     let own = tiled k.step k.loops k.scales k.e k.b k.plasma (subst IsMap c.map-map.ensures.value c.tiles-tiles.ensures.limits) c.self.invariant in
-    let listed = subst (λ (ts : List TileValue). AreTilesOf (seen k.step k.loops k.scales k.e k.b k.plasma) k.plasma.frame.map ts) (sym c.as_slice.ensures.value) own in
+    let listed = subst (λ (ts : List TileValue). AreTilesOf (seen k.step k.loops k.scales k.e k.b k.plasma) k.plasma.frame.map ts)
+    (sym c.as_slice.ensures.value) own in
     subst (λ (v : StateView). AreTilesOf v.world v.map tiles) c.self.view_is listed

@@ -5,10 +5,12 @@ use Rattle.pic_yard.proofs.PostCalls.{tile_few}
 use Rattle.pic_yard.proofs.yard.Yard.load.Goals as goal
 
 pub home-requires : goal.home-requires
-home-requires c = tile_few c.args.self.now c.args.seat.now c.args.to c.requires.serves (c.requires.serves.sits.carries.near c.args.to c.args.dir c.requires.lists).0
+home-requires c = tile_few c.args.self.now c.args.seat.now c.args.to c.requires.serves
+    (c.requires.serves.sits.carries.near c.args.to c.args.dir c.requires.lists).0
 
 pub mailbox-requires : goal.mailbox-requires
-mailbox-requires c = tile_few c.args.self.now c.args.seat.now c.args.to c.requires.serves (c.requires.serves.sits.carries.near c.args.to c.args.dir c.requires.lists).0
+mailbox-requires c = tile_few c.args.self.now c.args.seat.now c.args.to c.requires.serves
+    (c.requires.serves.sits.carries.near c.args.to c.args.dir c.requires.lists).0
 
 pub exchange-requires-clause-held : goal.exchange-requires-clause-held
 exchange-requires-clause-held c = (

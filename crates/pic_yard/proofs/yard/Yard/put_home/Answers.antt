@@ -4,10 +4,12 @@ use Rattle.pic_yard.proofs.ReceiveCalls.{home_held, is_put_home}
 use Rattle.pic_yard.proofs.yard.Yard.put_home.Goals as goal
 
 pub stack-requires-clause-few : goal.stack-requires-clause-few
-stack-requires-clause-few c = tile_few c.args.self.now c.args.seat.now c.args.number c.requires.serves (c.requires.serves.sits.carries.inside c.args.number c.requires.right)
+stack-requires-clause-few c = tile_few c.args.self.now c.args.seat.now c.args.number c.requires.serves
+    (c.requires.serves.sits.carries.inside c.args.number c.requires.right)
 
 pub home-requires : goal.home-requires
-home-requires c = tile_few c.args.self.now c.args.seat.now c.args.number c.requires.serves (c.requires.serves.sits.carries.inside c.args.number c.requires.right)
+home-requires c = tile_few c.args.self.now c.args.seat.now c.args.number c.requires.serves
+    (c.requires.serves.sits.carries.inside c.args.number c.requires.right)
 
 pub exchange_tile-requires-clause-place : goal.exchange_tile-requires-clause-place
 exchange_tile-requires-clause-place c = (

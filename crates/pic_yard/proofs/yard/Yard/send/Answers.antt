@@ -8,7 +8,8 @@ use Rattle.pic_yard.proofs.yard.Yard.send.Goals as goal
 pub fetch_add-arrived-requires : goal.fetch_add-arrived-requires
 fetch_add-arrived-requires c = (
   c.load.ensures.table ∙ (serves_parts c.args.self.now c.self.inside c.args.seat.now c.self.view_is c.requires.serves).own,
-  word_there c.args.self.now c.self.inside c.args.to c.self.view_is c.self.invariant (c.requires.serves.sits.carries.near c.args.to c.args.dir c.requires.lists).0,
+  word_there c.args.self.now c.self.inside c.args.to c.self.view_is c.self.invariant
+      (c.requires.serves.sits.carries.near c.args.to c.args.dir c.requires.lists).0,
   let load = subst (λ (y : Yard). HasLoaded (opening_of y) c.args.seat.now c.load.new.seat c.args.to c.args.dir) (sym c.self.view_is) c.load.ensures in
       post_asked c.self.inside.table.shared.key.value c.self.inside.table.shared.table_id.slots c.load.new.seat.id c.load.new.seat.me c.args.to
       c.args.dir (c.requires.serves.sits.carries.near c.args.to c.args.dir c.requires.lists).1 load.parcel load.loaded,

@@ -15,8 +15,12 @@ pub split_seat-requires : goal.split_seat-requires
 split_seat-requires c =
     let serves = serves_parts c.args.self.now c.self.inside c.args.seat.now c.self.view_is c.requires.serves in
     let v = c.args.seat.now.me.0 in
-    let sits = serves.sits in
-    (serves.own, (let words = c.self.invariant.words_are in omega (arith, words)), split_allowed (opening_of (yard_of c.self.inside)) c.args.seat.now.id v (next_of v.unmade) sits.live sits.opened c.requires.next)
+    let sits = serves.sits in (
+      serves.own,
+      (let words = c.self.invariant.words_are in omega (arith, words)),
+      split_allowed (opening_of (yard_of c.self.inside))
+          c.args.seat.now.id v (next_of v.unmade) sits.live sits.opened c.requires.next,
+    )
 
 pub returns-clause-serves : goal.returns-clause-serves
 returns-clause-serves c =
