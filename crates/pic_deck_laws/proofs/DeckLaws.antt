@@ -167,18 +167,19 @@ unfolding forces
 forces_from s f mild = then_ok _ tt _ (none_allowed _ _ (large_none _ _ _ mild.e)) ∙ none_allowed _ _ (large_none _ _ _ mild.b)
 
 -- The document
-deck_ok : (ms : Members) (d : DeckView) → deck ms ≡ Ok d → SpellsDeck ms d
-unfolding deck
-deck_ok ms d e =
-    let a = went _ _ _ e in
-    let keys = listed_ok (deck_keys ms) [] ms a.value a.first in
-    let back = sym keys.0 in
-    let rest = subst (λ t. settings t >>= (λ s. optional no_field (fields s.cells.n) (codes "field") [] t
+-- what comes behind the keys of the document
+abbrev pub deck_walk : Members → Walked DeckView
+deck_walk t =
+    settings t
+    >>= (λ s. optional no_field (fields s.cells.n) (codes "field") [] t
     >>= (λ f. optional [] (species_list (terms_of s)) (codes "species") [] t
     >>= (λ ss. devices (terms_of s) (particles_of ss) t
     >>= (λ ds. forces s f
-    >>= (λ _. Ok (deck_view s f ss ds)))))) ≡ Ok d) back a.then in
-    let b = went _ _ _ rest in
+    >>= (λ _. Ok (deck_view s f ss ds))))))
+
+values_ok : (ms : Members) (d : DeckView) → HasOnly (deck_keys ms) ms → deck_walk ms ≡ Ok d → SpellsDeck ms d
+values_ok ms d keys e =
+    let b = went _ _ _ e in
     let c = went _ _ _ b.then in
     let g = went _ _ _ c.then in
     let h = went _ _ _ g.then in
@@ -190,7 +191,7 @@ deck_ok ms d e =
       field = c.value;
       species = g.value;
       devices = h.value;
-      keys = subst (λ t. HasOnly (deck_keys ms) t) back keys.1;
+      keys = keys;
       sets = sets;
       begins = or_ok no_field (fields b.value.cells.n) (λ v f. IsTable v (λ t. IsFieldTable b.value.cells.n t f))
           (fields_are_spelled b.value.cells.n cells) (codes "field") ms c.value c.first;
@@ -200,6 +201,14 @@ deck_ok ms d e =
       mild = forces_ok b.value c.value k.first;
       deck = sym (cc k.then);
     }
+
+deck_ok : (ms : Members) (d : DeckView) → deck ms ≡ Ok d → SpellsDeck ms d
+unfolding deck
+deck_ok ms d e =
+    let a = went _ _ _ e in
+    let keys = listed_ok (deck_keys ms) [] ms a.value a.first in
+    let back : a.value ≡ ms = sym keys.0 in
+    values_ok ms d (subst (HasOnly (deck_keys ms)) back keys.1) (subst (λ (t : Members). deck_walk t ≡ Ok d) back a.then)
 
 deck_from : (ms : Members) (d : DeckView) → SpellsDeck ms d → deck ms ≡ Ok d
 unfolding deck

@@ -18,15 +18,14 @@ use Rattle.pic_walk.specs.Extent.{extent_of, IsExtent}
 use Rattle.pic_walk.specs.Path.{key_at, element_at}
 use Rattle.pic_walk.specs.Rows.{row_from}
 use Rattle.pic_walk.specs.Terms.{TermsView}
-use Rattle.pic_walk.specs.Walk.{Walked, ◌>>=◌, each, optional}
+use Rattle.pic_walk.specs.Walk.{each, optional}
 use Rattle.pic_walk.proofs.WalkLaws.{went}
 use Rattle.pic_devices.specs.Devices.{no_devices}
 use Rattle.pic_devices.specs.Probes.{no_probes}
 use Rattle.pic_settings.specs.declared.settings.Settings.{Settings}
-use Rattle.pic_settings.specs.Keys.{settings}
 use Rattle.pic_deck.specs.declared.fields.InitialFields.{InitialFields}
 use Rattle.pic_deck.specs.declared.species.Species.{Species}
-use Rattle.pic_deck.specs.Deck.{DeckView, deck_view, terms_of}
+use Rattle.pic_deck.specs.Deck.{terms_of}
 use Rattle.pic_deck.specs.Initial.{set_up, first_strong}
 use Rattle.pic_deck.specs.Keys.{deck_keys, no_field, fields, one_species, species_list, force_allowed, forces, devices, deck}
 use Rattle.pic_deck.specs.Species.{particles_of}
@@ -53,7 +52,7 @@ use Rattle.pic_deck_laws.proofs.FieldLaws.{fields_are_spelled, fields_along}
 use Rattle.pic_deck_laws.proofs.SettingsLaws.{settings_are_spelled, settings_along}
 use Rattle.pic_deck_laws.proofs.SpeciesTestLaws.{known_more, particles_known, species_along}
 use Rattle.pic_deck_laws.proofs.FillTestLaws.{known_by}
-use Rattle.pic_deck_laws.proofs.DeckLaws.{cells_of, box_of, or_ok}
+use Rattle.pic_deck_laws.proofs.DeckLaws.{cells_of, box_of, or_ok, deck_walk}
 
 -- Look-ups of what is spelled
 numbers_spelled : (zs : List ℤ) → numbers_of (spelled integer zs) ≡ zs
@@ -255,15 +254,6 @@ devices_part ms s ss is e =
     subst (λ (ts : List Test). Along ts (devices (terms_of s) (particles_of ss) ms)) (sym same) (devices_along (terms_of s) (particles_of ss) ms)
 
 -- What comes behind the keys of the document
-abbrev deck_walk : Members → Walked DeckView
-deck_walk t =
-    settings t
-    >>= (λ s. optional no_field (fields s.cells.n) (codes "field") [] t
-    >>= (λ f. optional [] (species_list (terms_of s)) (codes "species") [] t
-    >>= (λ ss. devices (terms_of s) (particles_of ss) t
-    >>= (λ ds. forces s f
-    >>= (λ _. Ok (deck_view s f ss ds))))))
-
 abbrev value_tests : Members → List Test
 value_tests ms =
     settings_tests ms
