@@ -1,5 +1,6 @@
 -- The tests of a value, of the elements of an array and of the keys of a table. Each stands on look-ups
--- alone. What a look-up doesn't find counts as 0 or as empty: there an earlier test fails.
+-- alone. What a look-up doesn't find counts as 0 or as empty: an earlier test fails then, or the key may be
+-- left out.
 use Rattle.std.specs.Prelude.{ℕ, zero, suc, ℤ, pos, ◌==◌, unsigned_abs, List, [], ◌∷◌, ◌++◌, length, map, is_some, Option, Some, None}
 use Rattle.toml.specs.Data.{Data, integer, array, table, Items, no_items, item, Members, no_members, get_member}
 use Rattle.toml.specs.Data.{as_integer, as_array, as_table}
@@ -87,7 +88,7 @@ limited_tests limits tests path d =
     ∷ count_test limits path d
     ∷ element_tests tests path zero (items_of d)
 
--- each key of a table is a listed one
+-- each key of a table, in its order, which ascends byte by byte, is a listed one
 unfoldable pub listed_tests : List (List ℕ) → List ℕ → Members → List Test
 listed_tests keys path ms = map (λ k. test (is_listed keys k) (Unknown (key_at path k))) (member_keys ms)
 

@@ -19,14 +19,14 @@ pub fn fields_are_tested()
 
 /// In the box of a grid, species are accepted exactly where the value of `species` is an array of as
 /// many tables, 16 at most, each of which has the name, the charge, the mass, the two multipliers and
-/// one source alone of its species, and no other key, and each species may come next after those before
-/// it.
+/// one source alone of its species, and no other key: its name is new, its numbers are within their
+/// limits, a displaced one has the opposite charge, and all particles so far aren't too many.
 pub fn species_are_spelled()
     ensures { SpeciesAreSpelled }
 {}
 
-/// The refusal of `species` is the fault of the first of its tests that fails: its kind and how many
-/// tables it has, and then, table by table, its kind and each of its keys, the name, the charge, the
+/// In the box of a grid, the refusal of `species` is the fault of the first of its tests that fails: its
+/// kind and how many tables it has, and then, table by table, its kind and each of its keys, the name, the charge, the
 /// mass, `kick` and `turn`, the sources, the value of the one that counts, and how many particles there
 /// are so far.
 pub fn species_are_tested()

@@ -3,9 +3,9 @@
 ghost use Rattle.pic_deck_laws.specs.DeckTables.{DecksAreRead, DecksAreSpelled};
 ghost use Rattle.pic_deck_laws.specs.DeckTests.{DecksAreRefused, DecksAreTested};
 
-/// A deck is that of a document exactly where the document has its settings, its field, its species,
-/// its loops and its probes at their keys, each of which is there or may be left out, and no other key,
-/// and no force value at the start is too large.
+/// A deck is that of a document exactly where the document has its settings; its `field`, `species`,
+/// `drive` and `probe`, or the deck has none of what a key says that is left out (the last two are no
+/// keys of version 1); no other key; and no force value of its fields that is too large.
 pub fn decks_are_spelled()
     ensures { DecksAreSpelled }
 {}

@@ -21,7 +21,8 @@ pub fn grids_are_tested()
 {}
 
 /// A course of a run is accepted exactly where the table `run` has its steps and its frames' distance,
-/// each within its limits, in version 2 its filter, or no filter and it is 0, and no other key.
+/// each within its limits, in version 2 its filter, which is 0 without the key (in version 1 that key
+/// isn't there, and the filter is 0), and no other key.
 pub fn runs_are_spelled()
     ensures { RunsAreSpelled }
 {}
