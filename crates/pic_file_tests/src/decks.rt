@@ -1,6 +1,6 @@
 //! What the tests share: decks, a change in one, and its reading.
 
-use pic_deck::{Deck, read_deck};
+use pic_deck::{Deck, DeckFault, Refusal, read_deck};
 use std::process::Abort;
 
 /// The smallest deck: no field, no species and no step.
@@ -123,4 +123,40 @@ pub fn changed(rt: &(impl AllocGlobal + Abort), deck: &str, old: &str, new: &str
 /// The deck of a text.
 pub fn deck_of(rt: &(impl AllocGlobal + Abort), text: &str) -> Deck {
     read_deck(rt.alloc(), text.as_bytes()).expect(rt, "a deck")
+}
+
+/// A deck in all its parts.
+pub fn shown(rt: &(impl AllocGlobal + Abort), deck: &Deck) -> String {
+    format!(in rt.alloc(); "{deck:?}").expect(rt, "memory")
+}
+
+// the name of a fault, its path, and a limit's three numbers
+fn parts(fault: &DeckFault) -> (&str, &str, [i128; 3]) {
+    match fault {
+        DeckFault::NoMemory => ("memory", "", [0; 3]),
+        DeckFault::Refused(Refusal::Text) => ("text", "", [0; 3]),
+        DeckFault::Refused(Refusal::Unknown { path }) => ("unknown", path.as_str(), [0; 3]),
+        DeckFault::Refused(Refusal::Missing { path }) => ("missing", path.as_str(), [0; 3]),
+        DeckFault::Refused(Refusal::Kind { path }) => ("kind", path.as_str(), [0; 3]),
+        DeckFault::Refused(
+            Refusal::Limit {
+                path,
+                value,
+                low,
+                high,
+            },
+        ) => ("limit", path.as_str(), [*value, *low, *high]),
+        DeckFault::Refused(Refusal::Name { path }) => ("name", path.as_str(), [0; 3]),
+    }
+}
+
+/// A fault in words: its name, its path, and the three numbers of a limit.
+pub fn words(rt: &(impl AllocGlobal + Abort), fault: &DeckFault) -> String {
+    let (name, path, numbers) = parts(fault);
+    format!(in rt.alloc(); "{name} {path} {numbers:?}").expect(rt, "memory")
+}
+
+/// A text is this.
+pub fn same(rt: &impl Abort, found: &str, wanted: &str) {
+    assert_eq!(rt; found, wanted);
 }

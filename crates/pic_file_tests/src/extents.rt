@@ -6,8 +6,8 @@ use pic_walk::extent;
 
 #[test]
 fn a_box_reaches_as_far_as_its_cells(rt: HostRuntime) {
-    let coarse = Cells::new([2, 3, 128], Sub::of_bits(8));
-    assert_eq!(rt; extent(coarse), [512, 768, 32768]);
-    let fine = Cells::new([2, 3, 128], Sub::of_bits(14));
-    assert_eq!(rt; extent(fine), [32768, 49152, 2097152]);
+    let coarse = extent(Cells::new([2, 3, 128], Sub::of_bits(8)));
+    let fine = extent(Cells::new([2, 3, 128], Sub::of_bits(14)));
+    let wanted = [[512, 768, 32768], [32768, 49152, 2097152]];
+    assert!(rt; [coarse, fine] == wanted);
 }

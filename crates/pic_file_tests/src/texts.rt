@@ -5,9 +5,10 @@ use pic_dump::HeadStop;
 use pic_fields::ReadStop;
 use pic_num::NoMemory;
 use pic_verify::VerifyStop;
-use std::test::Fail;
 
 const BAD: ReadStop = ReadStop::BadDump { place: 9, cause: 3 };
+
+const BAD_TOO: VerifyStop = VerifyStop::BadDump { place: 9, cause: 3 };
 
 const BROKEN: VerifyStop = VerifyStop::Broken {
     frame: 2,
@@ -18,37 +19,19 @@ const BROKEN: VerifyStop = VerifyStop::Broken {
     },
 };
 
+const WORDS: &str = "out of memory, read fault, bad dump 9 3, bad dump 9 3, out of memory, \
+    read fault, bad dump 9 3, broken frame 2 node 4 5 6 div -7 rho 8, out of memory";
+
 #[test]
-fn errors_print_the_words_of_the_report(rt: HostRuntime) -> Result<(), Fail> {
-    let alloc = rt.alloc();
-    let bad = VerifyStop::BadDump { place: 9, cause: 3 };
-    for (text, want) in [
-        (format!(in alloc; "{NoMemory}")?, "out of memory"),
-        (format!(in alloc; "{}", ReadStop::ReadFault)?, "read fault"),
-        (format!(in alloc; "{BAD}")?, "bad dump 9 3"),
-        (
-            format!(in alloc; "{}", HeadStop::Read(BAD))?,
-            "bad dump 9 3",
-        ),
-        (
-            format!(in alloc; "{}", HeadStop::NoMemory)?,
-            "out of memory",
-        ),
-        (
-            format!(in alloc; "{}", VerifyStop::ReadFault)?,
-            "read fault",
-        ),
-        (format!(in alloc; "{bad}")?, "bad dump 9 3"),
-        (
-            format!(in alloc; "{BROKEN}")?,
-            "broken frame 2 node 4 5 6 div -7 rho 8",
-        ),
-        (
-            format!(in alloc; "{}", VerifyStop::NoMemory)?,
-            "out of memory",
-        ),
-    ] {
-        assert_eq!(rt; text.as_str(), want);
-    }
-    Ok(())
+fn errors_print_the_words_of_the_report(rt: HostRuntime) {
+    let (read, head) = (ReadStop::ReadFault, HeadStop::Read(BAD));
+    let (verify, of_head, of_verify) = (
+        VerifyStop::ReadFault,
+        HeadStop::NoMemory,
+        VerifyStop::NoMemory,
+    );
+    let words = format!(in rt.alloc();
+        "{NoMemory}, {read}, {BAD}, {head}, {of_head}, {verify}, {BAD_TOO}, {BROKEN}, {of_verify}"
+    );
+    assert_eq!(rt; words.expect(&rt, "memory").as_str(), WORDS);
 }

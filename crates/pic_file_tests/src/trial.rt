@@ -1,6 +1,6 @@
 //! What the tests share: two charges, and their dump.
 
-ghost use Rattle.std.specs.Prelude.{◌≡◌, ◌≤◌, length, map, IfOk};
+ghost use Rattle.std.specs.Prelude.{◌≡◌, ◌≤◌, length, map};
 ghost use Rattle.std.specs.List.{range_with_len};
 
 use pic_dump::{Head, Header, HeaderSettings, Heads, put_end, put_frame, put_header};
@@ -8,17 +8,16 @@ use pic_energy::Energies;
 use pic_grid::{Cells, EndMark, Lattice, Loops, Name, Snapshot};
 use pic_io::MemSink;
 use pic_num::{Axis, Kind, Mult, Particle, Scales, Sub};
-use std::alloc::Global;
-use std::test::Fail;
+use std::process::Abort;
 
 fn none() -> Mult {
     Mult::new(0, 0)
 }
 
 // A species of one particle.
-fn head(alloc: Global, name: &[u8], charge: i32, mass: u32) -> Result<Head, Fail>
-    ensures { IfOk result (λ h. (h.name ≡ name.now) × (h.kind.charge ≡ charge)
-        × (h.kind.mass ≡ mass) × (h.count ≡ 1)) }
+fn head(rt: &(impl AllocGlobal + Abort), name: &[u8], charge: i32, mass: u32) -> Head
+    ensures { (result.name ≡ name.now) × (result.kind.charge ≡ charge)
+        × (result.kind.mass ≡ mass) × (result.count ≡ 1) }
 {
     let kind = Kind {
         charge,
@@ -26,24 +25,25 @@ fn head(alloc: Global, name: &[u8], charge: i32, mass: u32) -> Result<Head, Fail
         kick: none(),
         turn: none(),
     };
-    Ok(Head {
-        name: Name::from_vec(Vec::from_slice(alloc, name)?),
+    Head {
+        name: Name::from_vec(Vec::from_slice(rt.alloc(), name).expect(rt, "memory")),
         kind,
         count: 1,
-    })
+    }
 }
 
 /// An ion, and an electron that moves along x, at most one step.
-pub fn two_charges(alloc: Global) -> Result<Header, Fail> {
+pub fn two_charges(rt: &(impl AllocGlobal + Abort)) -> Header {
     let scales = Scales {
         e_to_b: none(),
         b_to_e: none(),
         e_force: Mult::new(1, 20),
         b_force: none(),
     };
-    let ion = head(alloc, b"ion", 1, 1836)?;
-    let electron = head(alloc, b"electron", -1, 1)?;
-    let species = Heads::from_vec(vec![in alloc; ion, electron]?);
+    let ion = head(rt, b"ion", 1, 1836);
+    let electron = head(rt, b"electron", -1, 1);
+    let species = vec![in rt.alloc(); ion, electron].expect(rt, "memory");
+    let species = Heads::from_vec(species);
     let settings = HeaderSettings {
         version: 1,
         cells: Cells::new([4, 4, 4], Sub::of_bits(12)),
@@ -52,18 +52,18 @@ pub fn two_charges(alloc: Global) -> Result<Header, Fail> {
         filter: 0,
         scales,
     };
-    let loops = Loops::from_vec(Vec::new(alloc));
-    Ok(Header::new(settings, species, loops))
+    let loops = Loops::from_vec(Vec::new(rt.alloc()));
+    Header::new(settings, species, loops)
 }
 
 // Their state with the electron at x, and this value of E along x in the first cell.
-fn state(alloc: Global, x: u32, value: i128) -> Result<Snapshot, Fail>
-    ensures { IfOk result (λ s. map (λ particle. particle.id) s.particles.items
-        ≡ range_with_len 0 (length s.particles.items)) }
+fn state(rt: &(impl AllocGlobal + Abort), x: u32, value: i128) -> Snapshot
+    ensures { map (λ particle. particle.id) result.particles.items
+        ≡ range_with_len 0 (length result.particles.items) }
 {
     let cells = Cells::new([4, 4, 4], Sub::of_bits(12));
-    let mut e = Lattice::new(alloc, cells, [1, 1, 1])?;
-    let b = Lattice::new(alloc, cells, [1, 1, 1])?;
+    let mut e = Lattice::new(rt.alloc(), cells, [1, 1, 1]).expect(rt, "memory");
+    let b = Lattice::new(rt.alloc(), cells, [1, 1, 1]).expect(rt, "memory");
     e.set(Axis::X, [0, 0, 0], value);
     let ion = Particle {
         id: 0,
@@ -77,8 +77,8 @@ fn state(alloc: Global, x: u32, value: i128) -> Result<Snapshot, Fail>
         x: [x, 0, 0],
         v: [8388608, 0, 0],
     };
-    let particles = vec![in alloc; ion, electron]?;
-    Ok(Snapshot { e, b, particles })
+    let particles = vec![in rt.alloc(); ion, electron].expect(rt, "memory");
+    Snapshot { e, b, particles }
 }
 
 fn energies(electric: u128) -> Energies {
@@ -90,16 +90,13 @@ fn energies(electric: u128) -> Energies {
 }
 
 /// The bytes of their dump: 184 of the header, two frames of 6245, and 6 of the end record.
-pub fn dump(alloc: Global) -> Result<Vec<u8>, Fail> {
-    let mut out = MemSink::new(alloc, 12681, Vec::new(alloc))?;
-    put_header(&mut out, &two_charges(alloc)?)?;
-    put_frame(&mut out, 0, &state(alloc, 1024, 0)?, energies(0))?;
-    put_frame(
-        &mut out,
-        1,
-        &state(alloc, 3072, 412316860416)?,
-        energies(154618822656),
-    )?;
-    put_end(&mut out, EndMark::Done { steps: 1 })?;
-    Ok(Vec::from_slice(alloc, out.bytes())?)
+pub fn dump(rt: &(impl AllocGlobal + Abort)) -> Vec<u8> {
+    let mut out = MemSink::new(rt.alloc(), 12681, Vec::new(rt.alloc())).expect(rt, "memory");
+    let first = state(rt, 1024, 0);
+    let second = state(rt, 3072, 412316860416);
+    put_header(&mut out, &two_charges(rt)).expect(rt, "a header");
+    put_frame(&mut out, 0, &first, energies(0)).expect(rt, "a frame");
+    put_frame(&mut out, 1, &second, energies(154618822656)).expect(rt, "a frame");
+    put_end(&mut out, EndMark::Done { steps: 1 }).expect(rt, "an end");
+    Vec::from_slice(rt.alloc(), out.bytes()).expect(rt, "memory")
 }

@@ -6,7 +6,7 @@ use Rattle.pic_file_tests.proofs.trial.two_charges.Goals as goal
 
 -- src/trial.rt:57:8
 pub new-requires-4 : goal.new-requires-4
-new-requires-4 c = record {
+new-requires-4 g c = record {
   version = record { least = omega arith; most = omega arith };
   grid = subst (λ g. IsGridOf 1 g.n g.side) (sym c.new-2.ensures)
       (record { x = omega arith; y = omega arith; z = omega arith; sides = side_allowed _ c.of_bits.ensures });

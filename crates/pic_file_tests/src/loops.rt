@@ -38,18 +38,18 @@ const LOOPS: &str = "drive = [
     { axis = 0, cell = [1, 2, 3], wave = [-7] },
 ]";
 
-// how many steps came before, and the sum at the first face: each wave begins again by itself
-const SUMS: [(u32, i128); 6] = [(0, 9), (1, -3), (2, 101), (3, 10), (5, 102), (999999, 10)];
+// how many steps came before, and the sum at a face
+struct Sum(u32, i128);
 
-#[test]
-fn loops_round_one_face_add_up(rt: HostRuntime) {
-    let loops = loops_of(&rt, LOOPS);
-    for (step, sum) in SUMS {
-        let faces = driven(&rt, loops.as_slice(), step);
-        let values = [([0, 0, 0], [0, 0, sum]), ([1, 2, 3], [-7, 0, 0])];
-        check_values(&rt, &faces, &values, 1);
-    }
-}
+// at the first face: each wave begins again by itself
+const SUMS: [Sum; 6] = [
+    Sum(0, 9),
+    Sum(1, -3),
+    Sum(2, 101),
+    Sum(3, 10),
+    Sum(5, 102),
+    Sum(999999, 10),
+];
 
 // sixteen loops round one face, whose waves have 64 numbers of the greatest size, the last below 0
 fn greatest_loops(rt: &(impl AllocGlobal + Abort)) -> String {
@@ -63,91 +63,125 @@ fn greatest_loops(rt: &(impl AllocGlobal + Abort)) -> String {
     format!(in rt.alloc(); "drive = [{all}]").expect(rt, "memory")
 }
 
+const MOST: i128 = 1 << 64;
+
+const GREATEST_SUMS: [Sum; 5] = [
+    Sum(0, MOST),
+    Sum(62, MOST),
+    Sum(63, -MOST),
+    Sum(64, MOST),
+    Sum(127, -MOST),
+];
+
+fn check_sum(rt: &(impl AllocGlobal + Abort), loops: &[Loop], sum: &Sum)
+    requires { AreLoops (record { x = 2; y = 3; z = 4 }) most_loops loops.now }
+{
+    let faces = driven(rt, loops, sum.0);
+    let values = [
+        Value([0, 0, 0], [0, 0, sum.1]),
+        Value([1, 2, 3], [-7, 0, 0]),
+    ];
+    check_values(rt, &faces, &values, 1);
+}
+
+fn check_greatest(rt: &(impl AllocGlobal + Abort), loops: &[Loop], sum: &Sum)
+    requires { AreLoops (record { x = 2; y = 3; z = 4 }) most_loops loops.now }
+{
+    let faces = driven(rt, loops, sum.0);
+    check_values(rt, &faces, &[Value([1, 0, 3], [0, sum.1, 0])], 1);
+}
+
 #[test]
-fn sixteen_loops_of_the_greatest_size(rt: HostRuntime) {
-    let loops = loops_of(&rt, greatest_loops(&rt).as_str());
-    let most = 18446744073709551616;
-    for (step, sum) in [(0, most), (62, most), (63, -most), (64, most), (127, -most)] {
-        let faces = driven(&rt, loops.as_slice(), step);
-        check_values(&rt, &faces, &[([1, 0, 3], [0, sum, 0])], 1);
+fn loops_round_one_face_add_up(rt: HostRuntime) {
+    let loops = loops_of(&rt, LOOPS);
+    for sum in &SUMS {
+        check_sum(&rt, loops.as_slice(), sum);
+    }
+    let greatest = loops_of(&rt, greatest_loops(&rt).as_str());
+    for sum in &GREATEST_SUMS {
+        check_greatest(&rt, greatest.as_slice(), sum);
     }
 }
 
 // a loop, how many steps came before, and E, which was 100 along x in the last cell
-type Edges = (&'static str, u32, &'static [Value]);
+struct Edges(&'static str, u32, &'static [Value]);
 
 const EDGES: [Edges; 6] = [
-    (
+    Edges(
         "drive = [{ axis = 2, cell = [0, 0, 0], wave = [8, -8] }]",
         0,
         &[
-            ([0, 0, 0], [8, -8, 0]),
-            ([0, 1, 0], [-8, 0, 0]),
-            ([1, 0, 0], [0, 8, 0]),
-            ([1, 2, 3], [100, 0, 0]),
+            Value([0, 0, 0], [8, -8, 0]),
+            Value([0, 1, 0], [-8, 0, 0]),
+            Value([1, 0, 0], [0, 8, 0]),
+            Value([1, 2, 3], [100, 0, 0]),
         ],
     ),
-    (
+    Edges(
         "drive = [{ axis = 2, cell = [0, 0, 0], wave = [8, -8] }]",
         1,
         &[
-            ([0, 0, 0], [-8, 8, 0]),
-            ([0, 1, 0], [8, 0, 0]),
-            ([1, 0, 0], [0, -8, 0]),
-            ([1, 2, 3], [100, 0, 0]),
+            Value([0, 0, 0], [-8, 8, 0]),
+            Value([0, 1, 0], [8, 0, 0]),
+            Value([1, 0, 0], [0, -8, 0]),
+            Value([1, 2, 3], [100, 0, 0]),
         ],
     ),
-    (
+    Edges(
         "drive = [{ axis = 0, cell = [1, 2, 3], wave = [8] }]",
         5,
         &[
-            ([1, 2, 3], [100, 8, -8]),
-            ([1, 2, 0], [0, -8, 0]),
-            ([1, 0, 3], [0, 0, 8]),
+            Value([1, 2, 3], [100, 8, -8]),
+            Value([1, 2, 0], [0, -8, 0]),
+            Value([1, 0, 3], [0, 0, 8]),
         ],
     ),
-    (
+    Edges(
         "drive = [{ axis = 1, cell = [1, 2, 3], wave = [8] }]",
         5,
         &[
-            ([1, 2, 3], [92, 0, 8]),
-            ([0, 2, 3], [0, 0, -8]),
-            ([1, 2, 0], [8, 0, 0]),
+            Value([1, 2, 3], [92, 0, 8]),
+            Value([0, 2, 3], [0, 0, -8]),
+            Value([1, 2, 0], [8, 0, 0]),
         ],
     ),
-    (
+    Edges(
         "drive = [{ axis = 2, cell = [1, 2, 3], wave = [8] }]",
         5,
         &[
-            ([1, 2, 3], [108, -8, 0]),
-            ([1, 0, 3], [-8, 0, 0]),
-            ([0, 2, 3], [0, 8, 0]),
+            Value([1, 2, 3], [108, -8, 0]),
+            Value([1, 0, 3], [-8, 0, 0]),
+            Value([0, 2, 3], [0, 8, 0]),
         ],
     ),
     // two loops that have an edge in common
-    (
+    Edges(
         "drive = [{ axis = 2, cell = [0, 0, 0], wave = [8] },
             { axis = 2, cell = [0, 2, 0], wave = [3] }]",
         0,
         &[
-            ([0, 0, 0], [5, -8, 0]),
-            ([0, 1, 0], [-8, 0, 0]),
-            ([1, 0, 0], [0, 8, 0]),
-            ([0, 2, 0], [3, -3, 0]),
-            ([1, 2, 0], [0, 3, 0]),
-            ([1, 2, 3], [100, 0, 0]),
+            Value([0, 0, 0], [5, -8, 0]),
+            Value([0, 1, 0], [-8, 0, 0]),
+            Value([1, 0, 0], [0, 8, 0]),
+            Value([0, 2, 0], [3, -3, 0]),
+            Value([1, 2, 0], [0, 3, 0]),
+            Value([1, 2, 3], [100, 0, 0]),
         ],
     ),
 ];
 
+fn check_edges(rt: &(impl AllocGlobal + Abort), edges: &Edges) {
+    let loops = loops_of(rt, edges.0);
+    let cells = Cells::new([2, 3, 4], Sub::of_bits(12));
+    let mut e = Lattice::new(rt.alloc(), cells, [1, 3, 2]).expect(rt, "memory");
+    e.set(Axis::X, [1, 2, 3], 100);
+    raise_e(loops.as_slice(), edges.1, &mut e);
+    check_values(rt, &e, edges.2, 1);
+}
+
 #[test]
 fn a_loop_has_four_edges(rt: HostRuntime) {
-    for (text, step, values) in EDGES {
-        let loops = loops_of(&rt, text);
-        let cells = Cells::new([2, 3, 4], Sub::of_bits(12));
-        let mut e = Lattice::new(rt.alloc(), cells, [1, 3, 2]).expect(&rt, "memory");
-        e.set(Axis::X, [1, 2, 3], 100);
-        raise_e(loops.as_slice(), step, &mut e);
-        check_values(&rt, &e, values, 1);
+    for edges in &EDGES {
+        check_edges(&rt, edges);
     }
 }
