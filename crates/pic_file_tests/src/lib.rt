@@ -9,33 +9,13 @@ mod decks;
 #[cfg(test)]
 mod demo;
 #[cfg(test)]
-mod displaced_decks;
-#[cfg(test)]
-mod displacing;
-#[cfg(test)]
 mod dump;
 #[cfg(test)]
-mod ends;
-#[cfg(test)]
 mod extents;
-#[cfg(test)]
-mod fields;
 #[cfg(test)]
 mod last_values;
 #[cfg(test)]
 mod load;
-#[cfg(test)]
-mod loop_decks;
-#[cfg(test)]
-mod loop_headers;
-#[cfg(test)]
-mod loops;
-#[cfg(test)]
-mod pieces;
-#[cfg(test)]
-mod probe_decks;
-#[cfg(test)]
-mod probe_lines;
 #[cfg(test)]
 mod read;
 #[cfg(test)]

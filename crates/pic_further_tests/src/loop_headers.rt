@@ -1,6 +1,6 @@
 //! Headers of dumps with driven loops, read and put again.
 
-use crate::decks::same;
+use crate::reading::same;
 use pic_dump::{DumpReader, Header, put_header, upgrade};
 use pic_io::{MemSink, MemSource};
 use pic_verify::verify;
@@ -43,7 +43,6 @@ fn push_loop(rt: &impl Abort, bytes: &mut Vec<u8>, said: &Said) {
     }
 }
 
-// The bytes of some loops.
 fn loops_of(rt: &(impl AllocGlobal + Abort), loops: &[Said]) -> Vec<u8> {
     let mut bytes = Vec::new(rt.alloc());
     for said in loops {

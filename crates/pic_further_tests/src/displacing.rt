@@ -1,9 +1,8 @@
 //! The E of a displaced start, worked by hand from the paths of the ways.
 
-use crate::decks::{deck_of, same, words};
 use crate::fields::{Value, check_values};
-use crate::load::{Told, check_loaded};
 use crate::pieces::{ELECTRON, ION, Pieces, SCALE, STILL, VERSION_2};
+use crate::reading::{Told, check_loaded, deck_of, same, words};
 use pic_deck::{Deck, DeckFault};
 use pic_displace::{DisplaceFault, displace};
 use pic_grid::Lattice;
@@ -219,7 +218,6 @@ const FAR_VALUES: &[Value] = &[
     Value([1, 1, 0], [0, 6, 0]),
 ];
 
-// A deck and its start.
 struct Case(Pieces<'static>, Start);
 
 // The electron stands half a cell along x from the ion, and what the deck itself says of E stays; the

@@ -1,14 +1,13 @@
 //! Decks that are refused for their ends.
 
-use crate::decks::{same, words};
 use crate::displaced_decks::DISPLACED;
 use crate::loop_decks::LOOPS;
 use crate::pieces::{Case, Table};
 use crate::probe_decks::PROBES;
+use crate::reading::{same, words};
 use pic_deck::read_deck;
 use std::process::Abort;
 
-// What a deck of this text is read as.
 fn reading(rt: &(impl AllocGlobal + Abort), text: &str) -> String {
     match read_deck(rt.alloc(), text.as_bytes()).err() {
         Some(fault) => words(rt, &fault),
