@@ -54,7 +54,8 @@ due_most None n most = omega arith
 due_most (Some step) n most = most
 
 -- a frame that was read, whatever the source tells
-pub readable_frame : (l : LayoutView) (last : Option ℕ) (f : FrameView) {s e : ℕ} {x z : Told} → HasRead (record_at l last) s x (AFrame f) e z → IsReadableFrame l f
+pub readable_frame : (l : LayoutView) (last : Option ℕ) (f : FrameView) {s e : ℕ} {x z : Told} → HasRead (record_at l last) s x (AFrame f) e z
+    → IsReadableFrame l f
 readable_frame l last f {s = s} {e = e} {z = z} read =
     let (rest, left) = some_rest z in
     let (held, was, is) = read.reads rest left in

@@ -29,4 +29,5 @@ break_found l room e particles others kinds found e_cells of kinds_is same is =
     is
     ∙ ap (λ cells. first_break room.grid.n (div_e room.grid.n (λ a p. slice_index_or e.values (place_of cells a p) (pos 0)))
     (rho_of room.grid.side room.filter room.grid.n kinds others)) e_cells
-    ∙ (λ i. first_break (of.cells i) (div_e (of.cells i) (value_at (field_with l e.values))) (rho_of (of.side i) (of.filter i) (of.cells i) (kinds_is i) (same i)))
+    ∙ (λ i. first_break (of.cells i) (div_e (of.cells i) (value_at (field_with l e.values)))
+    (rho_of (of.side i) (of.filter i) (of.cells i) (kinds_is i) (same i)))

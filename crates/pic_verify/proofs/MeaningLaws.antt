@@ -28,11 +28,13 @@ use Rattle.pic_verify.proofs.WalkLaws.{verdict_by, walked_frame, walked_end, wal
 -- Gauss's law at every node is that no break is found
 pub no_break : (l : LayoutView) (f : FrameView) → ObeysGauss l f → break_of l f.e f.particles ≡ None
 unfolding break_of
-no_break l f law = gauss_none l.side l.filter l.cells l.kinds f.particles (field_with l f.e) (rho_of l.side l.filter l.cells l.kinds f.particles) (λ p within. refl) law
+no_break l f law = gauss_none l.side l.filter l.cells l.kinds f.particles (field_with l f.e) (rho_of l.side l.filter l.cells l.kinds f.particles)
+    (λ p within. refl) law
 
 pub is_gauss : (l : LayoutView) (f : FrameView) → break_of l f.e f.particles ≡ None → ObeysGauss l f
 unfolding break_of
-is_gauss l f none = meets_gauss l.side l.filter l.cells l.kinds f.particles (field_with l f.e) (rho_of l.side l.filter l.cells l.kinds f.particles) (λ p within. refl) none
+is_gauss l f none = meets_gauss l.side l.filter l.cells l.kinds f.particles (field_with l f.e) (rho_of l.side l.filter l.cells l.kinds f.particles)
+    (λ p within. refl) none
 
 is_least : (l : LayoutView) (f : FrameView) (b : Break) → break_of l f.e f.particles ≡ Some b
     → IsLeastBreak l.cells (div_e l.cells (value_at (field_with l f.e))) (rho_of l.side l.filter l.cells l.kinds f.particles) b

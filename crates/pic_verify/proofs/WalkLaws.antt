@@ -190,7 +190,13 @@ stops_answer r before y z k here read.ReadFault so_far stops = rose_after before
 stops_answer r before y z k here (read.BadDump place cause) so_far stops =
     let fails = stops.why in
     let (held, was, is) = on_fault r before y z so_far.frames here (fault place cause) so_far.on fails in
-    record { calm = fails.calm ∙ so_far.on.calm; held = held; was = was; verdict = found r held _ is ∙ at_last r before y k here so_far (Err (fault place cause)) }
+    record {
+      calm = fails.calm ∙ so_far.on.calm;
+      held = held;
+      was = was;
+      verdict = found r held _ is ∙ at_last r before y k here so_far
+          (Err (fault place cause));
+    }
 
 -- reading a record wants no memory
 stops_fed : (stop : ReadStop) (result : Verdict) → result ≡ Err (stop_of_read stop) → result ≢ Err NoMemory

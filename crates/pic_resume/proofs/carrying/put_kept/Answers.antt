@@ -61,7 +61,8 @@ records-preserved g c =
           (c.in_ok-put_due-in-Frame.ensures c.args.reader.layout (sym c.requires.every));
       good = good_frame _ _ _ _ _ _ _ _ _ _ _ _ so_far.good so_far.keeps.follows has none;
       room = subst (λ l. HasRoom l state) (sym has.layout) room;
-      charge = subst (λ (v : RoomView). IsRoomFor c.in-Frame.behind.layout v) (sym c.first_break.ensures.room) (subst (λ (l : LayoutView). IsRoomFor l c.records.charge) (sym has.layout) so_far.charge);
+      charge = subst (λ (v : RoomView). IsRoomFor c.in-Frame.behind.layout v) (sym c.first_break.ensures.room)
+          (subst (λ (l : LayoutView). IsRoomFor l c.records.charge) (sym has.layout) so_far.charge);
       limits = subst IsLayout (sym has.layout) so_far.limits;
     }
 

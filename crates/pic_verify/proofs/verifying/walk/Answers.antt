@@ -20,7 +20,8 @@ records-init g c = record {
 }
 
 pub returns-in_err-behind-clause-walks : goal.returns-in_err-behind-clause-walks
-returns-in_err-behind-clause-walks g c = stops_records _ _ _ _ _ _ _ _ c.from_residual.ensures.1 c.records.invariant.follows c.in_err-behind.ensures.reads.answer
+returns-in_err-behind-clause-walks g c = stops_records _ _ _ _ _ _ _ _ c.from_residual.ensures.1 c.records.invariant.follows
+    c.in_err-behind.ensures.reads.answer
 
 pub returns-in-Some-clause-walks : goal.returns-in-Some-clause-walks
 returns-in-Some-clause-walks g c =
@@ -49,7 +50,8 @@ records-preserved g c =
       e = c.in_ok-behind.ensures.e.cells ∙ before.e ∙ ap (λ (l : LayoutView). l.cells) (sym has.layout);
       b = c.in_ok-behind.ensures.b.cells ∙ before.b ∙ ap (λ (l : LayoutView). l.cells) (sym has.layout);
       particles = c.in_ok-behind.ensures.particles ∙ before.particles ∙ ap (λ (l : LayoutView). sum l.counts) (sym has.layout);
-      room = subst (λ (v : RoomView). IsRoomFor c.in-Frame.behind.layout v) (sym c.first_break.ensures.room) (subst (λ (l : LayoutView). IsRoomFor l c.records.room) (sym has.layout) before.room);
+      room = subst (λ (v : RoomView). IsRoomFor c.in-Frame.behind.layout v) (sym c.first_break.ensures.room)
+          (subst (λ (l : LayoutView). IsRoomFor l c.records.room) (sym has.layout) before.room);
       limits = subst IsLayout (sym has.layout) before.limits;
       good = good_frame _ _ _ _ _ _ _ _ _ _ _ _ before.good before.follows has none;
     }
