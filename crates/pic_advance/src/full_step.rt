@@ -99,7 +99,8 @@ pub fn advance_e<H: Threads + Sync, G>(
     requires current_small { EachAtMost most_value current }
     requires e_small { EachAtMost most_raised e }
     ensures fields { Advances Phase.Electric scales.now.e_force b.now.side b.now.cells e.parts
-        (λ a p. full_of scales.now b.now no_drive a p (value_at e a p) (value_at current a p)) result.0 }
+        (λ a p. full_of scales.now b.now no_drive a p (value_at e a p) (value_at current a p))
+        result.0 }
     ensures cleared { result.1
         ≡ field_of current.side current.cells current.parts (λ _ _. pos 0) }
 {

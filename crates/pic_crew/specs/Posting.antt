@@ -7,11 +7,11 @@ use Rattle.pic_yard.specs.Contents.{tiles_in, to_of}
 use Rattle.pic_yard.specs.Members.{In, same_pair, without}
 use Rattle.pic_yard.specs.Seats.{HoldsNothing}
 
--- a seat that posted the parcel (r, d), after so many steps on words in all, and has no right
+-- a seat that posted the parcel (r, d), after so many steps on words in all; its rights are as before
 abbrev pub posted : ℕ → ℕ → ℕ → View → View
 posted r d steps v = record v { owes = without (same_pair r d) v.owes; steps = steps }
 
--- it posted it by one step, and where it was the last to arrive, gave its tile back by another
+-- it posted it by one step, or by two where the second gave back the tile that was finished by it
 pub record HasSent (r d : ℕ) (old new : View) : Type 0 where
   pub steps : (new.steps ≡ suc old.steps) ⊎ (new.steps ≡ suc (suc old.steps))
   pub view : new ≡ posted r d new.steps old

@@ -40,6 +40,10 @@ unfoldable pub first_strong : Triple → Multiplier → (Axis → Triple → ℤ
 first_strong n by g =
     first_of (λ i. strong by (g (axis_of (i / count_of n)) (cell_of n (i % count_of n)))) (range_with_len 0 (3 * count_of n))
 
+-- no force value on n cells is too large
+pub record AreWeak (n : Triple) (by : Multiplier) (g : Axis → Triple → ℤ) : Type 0 where
+  pub weak : (a : Axis) (p : Triple) → IsWithin p n → IsAtMost (scaled (g a p) by) most_force
+
 -- every value on n cells is at most 2^84 in size, and its force value not too large
 pub record IsMild (n : Triple) (by : Multiplier) (g : Axis → Triple → ℤ) : Type 0 where
   pub values : (a : Axis) (p : Triple) → IsWithin p n → IsAtMost (g a p) (2 ^ 84)

@@ -53,7 +53,8 @@ pub fn first_strong(by: Mult, field: &Lattice) -> Option<i128>
 
 // refuses the scale at a key where a force value is too large
 fn check_strong(alloc: Global, key: &str, strong: Option<i128>) -> Result<(), WalkStop>
-    ensures walks { WalksAs (λ _. tt) (force_allowed (key_at (codes "scale") key.now) strong) result }
+    ensures walks { WalksAs (λ _. tt) (force_allowed (key_at (codes "scale") key.now) strong)
+        result }
     ensures none { OnOk result (strong ≡ None) }
 {
     match strong {

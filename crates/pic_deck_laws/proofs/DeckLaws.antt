@@ -23,12 +23,12 @@ use Rattle.pic_devices.specs.Probes.{no_probes, probes}
 use Rattle.pic_settings.specs.declared.settings.Settings.{Settings}
 use Rattle.pic_settings.specs.Keys.{settings}
 use Rattle.pic_deck.specs.declared.fields.InitialFields.{InitialFields}
-use Rattle.pic_deck.specs.Initial.{first_strong}
+use Rattle.pic_deck.specs.Initial.{first_strong, AreWeak}
 use Rattle.pic_deck.specs.Deck.{DeckView, deck_view, terms_of}
 use Rattle.pic_deck.specs.Keys.{deck_keys, no_field, fields, species_list, force_allowed, forces, devices, deck}
 use Rattle.pic_deck.specs.Species.{particles_of}
 use Rattle.pic_deck.proofs.ForceLaws.{weak_where, strong_finds, none_strong}
-use Rattle.pic_deck_laws.specs.DeckTables.{HasOr, SpellsDevices, AreWeak, AreMild, SpellsDeck, DecksAreSpelled}
+use Rattle.pic_deck_laws.specs.DeckTables.{HasOr, SpellsDevices, AreMild, SpellsDeck, DecksAreSpelled}
 use Rattle.pic_deck_laws.specs.DriveTable.{AreLoopTables}
 use Rattle.pic_deck_laws.specs.FieldTable.{IsFieldTable}
 use Rattle.pic_deck_laws.specs.ProbeTable.{IsProbeTable}

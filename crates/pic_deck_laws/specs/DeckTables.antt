@@ -2,13 +2,7 @@
 -- are a deck.
 use Rattle.std.specs.Prelude.{◌≡◌, ◌≢◌, ◌↔◌, ◌⊎◌, ℕ, ℤ, ◌≤◌, List, [], length, codes, Some, Ok}
 use Rattle.toml.specs.Data.{Data, Members}
-use Rattle.pic_num.specs.declared.axis.Axis.{Axis}
-use Rattle.pic_num.specs.Limits.{most_force}
-use Rattle.pic_num.specs.Multiplier.{Multiplier}
-use Rattle.pic_num.specs.Rounding.{scaled}
-use Rattle.pic_num.specs.Sizes.{IsAtMost}
 use Rattle.pic_num.specs.Space.{Triple, spot}
-use Rattle.pic_grid.specs.Cells.{IsWithin}
 use Rattle.pic_walk.specs.Bounds.{most_bytes}
 use Rattle.pic_devices.specs.declared.devices.Devices.{Devices}
 use Rattle.pic_devices.specs.Devices.{no_devices}
@@ -17,7 +11,7 @@ use Rattle.pic_settings.specs.declared.settings.Settings.{Settings}
 use Rattle.pic_deck.specs.declared.fields.InitialFields.{InitialFields}
 use Rattle.pic_deck.specs.declared.species.Species.{Species}
 use Rattle.pic_deck.specs.Deck.{DeckView, deck_view, terms_of}
-use Rattle.pic_deck.specs.Initial.{set_up}
+use Rattle.pic_deck.specs.Initial.{set_up, AreWeak}
 use Rattle.pic_deck.specs.Keys.{deck_keys, no_field, deck}
 use Rattle.pic_deck.specs.Reading.{document, walk}
 use Rattle.pic_deck.specs.Species.{particles_of}
@@ -39,11 +33,7 @@ pub record SpellsDevices (version : ℕ) (n : Triple) (particles : ℕ) (ms : Me
   pub probes : version ≢ 1
       → HasOr ms (codes "probe") (λ d p. IsTable d (λ t. IsProbeTable n particles t p)) no_probes ds.probes
 
--- no force value of a field on n cells is too large
-pub record AreWeak (n : Triple) (by : Multiplier) (g : Axis → Triple → ℤ) : Type 0 where
-  pub weak : (a : Axis) (p : Triple) → IsWithin p n → IsAtMost (scaled (g a p) by) most_force
-
--- none of E and none of B
+-- no force value of E is too large, and none of B
 pub record AreMild (s : Settings) (f : InitialFields) : Type 0 where
   pub e : AreWeak s.cells.n s.scales.e_force (set_up (spot f.e) f.edges)
   pub b : AreWeak s.cells.n s.scales.b_force (set_up (spot f.b) f.faces)

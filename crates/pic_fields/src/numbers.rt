@@ -115,8 +115,8 @@ pub fn read_between<S: Source>(
     high: i32,
 ) -> Result<i32, ReadStop>
     requires { place + 4 < 2 ^ 63 }
-    ensures reads { Reads as_it_is (between (cause_number cause) low high) place (place + 4) (S.told source.old)
-        (S.told source.new) result }
+    ensures reads { Reads as_it_is (between (cause_number cause) low high) place (place + 4)
+        (S.told source.old) (S.told source.new) result }
     ensures low { IfOk result (λ n. low ≤ℤ n) }
     ensures high { IfOk result (λ n. n ≤ℤ high) }
 {
@@ -166,8 +166,8 @@ pub fn read_exactly<S: Source>(
     text: &[u8],
 ) -> Result<(), ReadStop>
     requires { place + length text.now < 2 ^ 63 }
-    ensures { Reads (always text.now) (exactly (cause_number cause) text.now) place (place + length text.now)
-        (S.told source.old) (S.told source.new) result }
+    ensures { Reads (always text.now) (exactly (cause_number cause) text.now)
+        place (place + length text.now) (S.told source.old) (S.told source.new) result }
 {
     for index in 0..text.len() {
         read_letter(source, place + index as u64, cause, text[index])?;
@@ -183,8 +183,8 @@ fn read_letter<S: Source>(
     letter: u8,
 ) -> Result<u8, ReadStop>
     requires { place + 1 < 2 ^ 63 }
-    ensures reads { Reads as_it_is (checked (cause_number cause) (nat_eq letter) byte_at) place (place + 1)
-        (S.told source.old) (S.told source.new) result }
+    ensures reads { Reads as_it_is (checked (cause_number cause) (nat_eq letter) byte_at)
+        place (place + 1) (S.told source.old) (S.told source.new) result }
     ensures same { IfOk result (λ n. n ≡ letter) }
 {
     let byte = read_byte(source, place)?;

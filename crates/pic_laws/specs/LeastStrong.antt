@@ -9,11 +9,7 @@ use Rattle.pic_num.specs.Sizes.{IsAtMost}
 use Rattle.pic_num.specs.Space.{Triple}
 use Rattle.pic_grid.specs.Cells.{IsWithin}
 use Rattle.pic_field.specs.LeastStop.{IsBefore}
-use Rattle.pic_deck.specs.Initial.{first_strong}
-
--- no force value on n cells is too large
-pub record AreWeak (n : Triple) (by : Multiplier) (g : Axis → Triple → ℤ) : Type 0 where
-  pub weak : (a : Axis) (p : Triple) → IsWithin p n → IsAtMost (scaled (g a p) by) most_force
+use Rattle.pic_deck.specs.Initial.{first_strong, AreWeak}
 
 -- a number is the force value of a place on n cells, and too large; at no place before it is one
 pub record IsLeastStrong (n : Triple) (by : Multiplier) (g : Axis → Triple → ℤ) (force : ℤ) : Type 0

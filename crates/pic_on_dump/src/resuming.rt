@@ -50,8 +50,8 @@ pub fn resume<H: Threads + Sync, S: Source, O: Sink, R: Sink, G: Gate + Sync>(
 ) -> Result<Ended, Cut>
     requires some { 0 < further.workers }
     requires most { further.workers ≤ most_workers }
-    ensures { Performs (resuming further.steps further.tiles) (S.told source.old) (S.told source.new)
-        (sinks (O.told out.old) (R.told report.old))
+    ensures { Performs (resuming further.steps further.tiles)
+        (S.told source.old) (S.told source.new) (sinks (O.told out.old) (R.told report.old))
         (sinks (O.told out.new) (R.told report.new)) (ended_of result) }
 {
     match carry(alloc, source, out, report, further.steps, further.tiles) {

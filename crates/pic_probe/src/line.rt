@@ -63,7 +63,8 @@ fn push_places(text: &mut Text<LINE_BYTES>, places: &[Place], state: &Snapshot)
     requires few { length places.now ≤ most_places }
     requires room { length text.old ≤ COLUMN_BYTES }
     ensures bytes { text.new ≡ text.old ++ flat_map
-        (λ p. codes " " ++ signed_decimal (value_of (value_at state.now.e) (value_at state.now.b) p))
+        (λ p. codes " "
+        ++ signed_decimal (value_of (value_at state.now.e) (value_at state.now.b) p))
         places.now }
     ensures len { length text.new ≤ length text.old + COLUMN_BYTES * length places.now }
 {

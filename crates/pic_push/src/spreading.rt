@@ -21,7 +21,8 @@ use pic_tile::{Dir, Parcel, Tile};
 /// Adds the flux of a piece to a tile's parcel of a direction, if it is there.
 fn add_to(flux: &CellFlux, dir: Dir, tile: &mut Tile)
     requires modest { IsModest flux.now }
-    requires room { (p : Parcel) → parcel_at tile.old dir ≡ Some p → AllAtMost most_before_flux p.flux }
+    requires room { (p : Parcel) → parcel_at tile.old dir ≡ Some p
+        → AllAtMost most_before_flux p.flux }
     ensures { GainsAt (edge_flux flux.now) dir tile.old tile.new }
 {
     tile.change_flux(dir, |to| flux.add_to(to));
@@ -93,7 +94,8 @@ fn add_outside(flux: &CellFlux, number: u32, tile: &mut Tile)
     requires number { number < directions }
     requires modest { IsModest flux.now }
     requires apart { parcel_at tile.old here ≡ None }
-    requires room { (p : Parcel) → parcel_at tile.old number ≡ Some p → AllAtMost most_before_flux p.flux }
+    requires room { (p : Parcel) → parcel_at tile.old number ≡ Some p
+        → AllAtMost most_before_flux p.flux }
     ensures { GainsAt (edge_flux flux.now) number tile.old tile.new }
 {
     if number == Dir::HERE.number() {

@@ -151,7 +151,8 @@ gives_particles l =
 -- the energies
 gives_energy : (want : ℕ) → Gives (energy_at want) (λ n. want ≡ n)
 unfolding energy_at u128_at
-gives_energy want = gives_so (λ n is. eqb-true want n is.1) (gives_checked wrong_energy (nat_eq want) (gives_mapped {G = λ z. ⊤} _ (λ a is. tt) (gives_field 16)))
+gives_energy want =
+    gives_so (λ n is. eqb-true want n is.1) (gives_checked wrong_energy (nat_eq want) (gives_mapped {G = λ z. ⊤} _ (λ a is. tt) (gives_field 16)))
 
 gives_energies : (want : Energies) → Gives (energies_at want) (λ e. e ≡ want)
 unfolding energies_at

@@ -33,8 +33,8 @@ pub(crate) fn read_below<S: Source>(
     limit: u32,
 ) -> Result<u32, ReadStop>
     requires { place + 4 < 2 ^ 63 }
-    ensures reads { Reads as_it_is (below (cause_number cause) limit) place (place + 4) (S.told source.old)
-        (S.told source.new) result }
+    ensures reads { Reads as_it_is (below (cause_number cause) limit) place (place + 4)
+        (S.told source.old) (S.told source.new) result }
     ensures below { IfOk result (λ n. n < limit) }
 {
     let n = read_u32(source, place)?;

@@ -105,7 +105,8 @@ impl Plasma {
         requires e_small { EachAtMost most_raised e }
         ensures fields { Advances Phase.Electric scales.now.e_force b.now.side b.now.cells e.parts
             (λ a p. full_of scales.now b.now no_drive a p (value_at e a p)
-            (filtered (filter_in self.smooth) b.now.cells (flux_in self.frame.map self.tiles.items a) p))
+            (filtered (filter_in self.smooth) b.now.cells
+            (flux_in self.frame.map self.tiles.items a) p))
             result.0 }
         ensures frame { result.1.frame ≡ self.frame }
         ensures filter { filter_in result.1.smooth ≡ filter_in self.smooth }

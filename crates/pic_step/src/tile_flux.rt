@@ -44,7 +44,8 @@ fn swap_flux(tile: &mut Tile, block: &mut Block)
 /// The flux of each tile, and the block of its place, change places.
 pub(crate) fn swap_each_flux(tiles: &mut [Tile], blocks: &mut [Block])
     requires long { length blocks.old ≡ length tiles.old }
-    requires there { (i : ℕ) → i < length tiles.old → IsSome (parcel_at (tile_in tiles.old i) here) }
+    requires there { (i : ℕ) → i < length tiles.old
+        → IsSome (parcel_at (tile_in tiles.old i) here) }
     ensures { AreSwapped tiles.old tiles.new blocks.old blocks.new }
 {
     for i in 0..tiles.len() {

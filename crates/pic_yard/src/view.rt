@@ -20,6 +20,6 @@ pub struct View {
     pub owes: LinkedList<(u64, u64)>,
     /// The tiles whose parcels it may merge.
     pub rights: LinkedList<u64>,
-    /// How many steps on words the seat took, and those that it took in: each makes a word one more.
+    /// How many steps on words it took, and the seats that it took in; each step makes a word one more.
     pub steps: u64,
 }

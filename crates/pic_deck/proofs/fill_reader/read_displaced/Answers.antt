@@ -16,7 +16,8 @@ pub returns-in_err-number-clause-walks : goal.returns-in_err-number-clause-walks
 unfolding displaced
 returns-in_err-number-clause-walks c =
     goes_on _ _ _ (rw (c.as_str.ensures, c.in_ok-own.ensures, c.new-address.ensures.path) at c.in_ok-table.ensures.answer)
-    (exits _ _ c.from_residual-in_err-number.ensures.1 (rw (c.as_str-2.ensures, c.in_ok-own.ensures, c.new-address.ensures.path) at c.in_err-number.ensures.walks))
+    (exits _ _ c.from_residual-in_err-number.ensures.1
+    (rw (c.as_str-2.ensures, c.in_ok-own.ensures, c.new-address.ensures.path) at c.in_err-number.ensures.walks))
 
 pub returns-in_err-check_opposite-clause-walks : goal.returns-in_err-check_opposite-clause-walks
 unfolding displaced

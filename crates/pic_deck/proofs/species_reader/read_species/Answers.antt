@@ -5,7 +5,8 @@ use Rattle.pic_deck.proofs.species_reader.read_species.Goals as goal
 pub returns-in_err-table-clause-walks : goal.returns-in_err-table-clause-walks
 unfolding one_species
 returns-in_err-table-clause-walks c =
-    exits _ _ c.from_residual-in_err-table.ensures.1 (rw (c.as_str.ensures, c.in_ok-path.ensures, c.species_keys-keys.ensures, c.version.ensures) at c.in_err-table.ensures)
+    exits _ _ c.from_residual-in_err-table.ensures.1
+    (rw (c.as_str.ensures, c.in_ok-path.ensures, c.species_keys-keys.ensures, c.version.ensures) at c.in_err-table.ensures)
 
 pub returns-clause-walks : goal.returns-clause-walks
 unfolding one_species

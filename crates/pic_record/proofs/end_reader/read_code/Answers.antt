@@ -9,7 +9,8 @@ returns-in_err-n-clause-reads g c = exits_checked _ _ c.from_residual.ensures.1 
 
 pub returns-then-not-is_from_to-clause-reads : goal.returns-then-not-is_from_to-clause-reads
 unfolding code_at
-returns-then-not-is_from_to-clause-reads g c = rw c.at.ensures (record { answer = refuses _ _ c.in_ok-n.ensures.answer (sym c.is_from_to.ensures ∙ c.if-not-is_from_to.true) })
+returns-then-not-is_from_to-clause-reads g c =
+    rw c.at.ensures (record { answer = refuses _ _ c.in_ok-n.ensures.answer (sym c.is_from_to.ensures ∙ c.if-not-is_from_to.true) })
 
 pub returns-clause-reads : goal.returns-clause-reads
 unfolding code_at

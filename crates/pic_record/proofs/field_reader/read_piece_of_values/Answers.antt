@@ -12,8 +12,8 @@ returns-clause-part g c =
     let piece : c.new-piece.result ≡ take taken room = c.new-piece.ensures in
     let part = rw piece at c.read_values.ensures.part in
     record {
-      reads = reads_piece (c.args.part.count * 16) taken room _ (of_values c.args.by (take c.args.part.first c.args.field.now.values) c.args.part.count) size (omega arith)
-          c.in_ok-taken.ensures.fills part.reads;
+      reads = reads_piece _ taken room _ (of_values c.args.by (take c.args.part.first c.args.field.now.values) c.args.part.count) size
+          (omega arith) c.in_ok-taken.ensures.fills part.reads;
       whole = part.whole;
       front = part.front;
     }

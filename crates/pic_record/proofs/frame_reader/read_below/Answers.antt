@@ -9,7 +9,8 @@ returns-in_err-n-clause-reads g c = exits_checked _ _ c.from_residual.ensures.1 
 
 pub returns-then-not-is_below-clause-reads : goal.returns-then-not-is_below-clause-reads
 unfolding below
-returns-then-not-is_below-clause-reads g c = rw c.at.ensures (record { answer = refuses _ _ c.in_ok-n.ensures.answer (sym c.is_below.ensures ∙ c.if-not-is_below.true) })
+returns-then-not-is_below-clause-reads g c =
+    rw c.at.ensures (record { answer = refuses _ _ c.in_ok-n.ensures.answer (sym c.is_below.ensures ∙ c.if-not-is_below.true) })
 
 pub returns-clause-reads : goal.returns-clause-reads
 unfolding below

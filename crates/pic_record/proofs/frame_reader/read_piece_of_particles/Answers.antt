@@ -12,7 +12,7 @@ returns-clause-part g c =
     let piece : c.new-piece.result ≡ take taken room = c.new-piece.ensures in
     let part = rw piece at c.read_some_particles.ensures.part in
     record {
-      reads = reads_piece (c.args.part.count * 24) taken room _ (of_particles c.args.layout.now (take c.args.part.first c.args.particles.now) c.args.part.count) size
+      reads = reads_piece _ taken room _ (of_particles c.args.layout.now (take c.args.part.first c.args.particles.now) c.args.part.count) size
           (omega arith) c.in_ok-taken.ensures.fills part.reads;
       whole = part.whole;
       front = part.front;

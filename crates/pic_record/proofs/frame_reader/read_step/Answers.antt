@@ -9,7 +9,8 @@ returns-in_err-step g c = exits_checked _ _ c.from_residual.ensures.1 c.in_err-s
 
 pub returns-then-not-is_same_step : goal.returns-then-not-is_same_step
 unfolding the_step
-returns-then-not-is_same_step g c = rw c.at.ensures (record { answer = refuses _ _ c.in_ok-step.ensures.answer (sym c.is_same_step.ensures ∙ c.if-not-is_same_step.true) })
+returns-then-not-is_same_step g c =
+    rw c.at.ensures (record { answer = refuses _ _ c.in_ok-step.ensures.answer (sym c.is_same_step.ensures ∙ c.if-not-is_same_step.true) })
 
 pub returns : goal.returns
 unfolding the_step

@@ -56,7 +56,8 @@ known c =
     let second = c.next-second.ensures in
     let third : c.next-third.result ≡ next_axis (next_axis a) = c.next-third.ensures ∙ ap next_axis second in
     let same = c.as_mut_slice-values.ensures.value ∙ ap (λ (d : BlockValues). d.values) c.self.view_is in
-    let long : length b.values ≡ 3 * count_of b.size = subst (λ (d : BlockValues). length d.values ≡ 3 * count_of d.size) c.self.view_is c.self.invariant.long in
+    let long : length b.values ≡ 3 * count_of b.size =
+    subst (λ (d : BlockValues). length d.values ≡ 3 * count_of d.size) c.self.view_is c.self.invariant.long in
     let whole = ap length same ∙ long in
     let few : 3 * count_of b.size < 2 ^ 60 = omega (arith, whole, c.as_mut_slice-values.type_inv.1) in
     let fits_here : SFits w64 c.first-here.result = record { sfits = c.first-here.type_inv } in
