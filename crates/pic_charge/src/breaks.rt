@@ -13,8 +13,8 @@ ghost use Rattle.pic_charge.specs.Gauss.{difference_at, first_break, Agree, IsLe
 use pic_grid::{Cells, Lattice, Nodes};
 use pic_num::Axis;
 
-/// A node where the divergence of E and the charge differ, and the two numbers, in 12 times the
-/// unit of charge times the cube of a cell's side.
+/// A node where the divergence of E and the charge differ, and the two numbers, in twelfths of a charge
+/// times a cubic sub-cell; the charge is the filtered one where the run has a filter.
 #[derive(Clone, Copy, Debug, PartialEq, Eq)]
 pub struct Break {
     pub node: [u32; 3],

@@ -14,8 +14,8 @@ use crate::spread::add_box;
 use pic_grid::{Cells, Nodes, Pair};
 use pic_num::{Kind, Particle};
 
-/// Makes the nodes the charge of the particles, in 12 times the charge's unit times the cube of the
-/// side of a cell, whatever the nodes held. Weights are linear: Birdsall and Langdon, "Plasma
+/// Makes the nodes the charge of the particles, in twelfths of a charge times a cubic sub-cell, whatever
+/// the nodes held. Weights are linear: Birdsall and Langdon, "Plasma
 /// Physics via Computer Simulation". The nodes have these cells, each particle has one of the kinds as
 /// its species and a position in the box, and charges and particles are within their limits.
 pub fn charge(cells: Cells, kinds: &[Kind], particles: &[Particle], to: &mut Nodes)

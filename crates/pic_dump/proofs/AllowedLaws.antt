@@ -5,7 +5,7 @@ use Rattle.std.proofs.Math.Nat.{mul-le-mul_right}
 use Rattle.std.proofs.lemmas.Bool.{cases_lt, lt-ltb, le-ltb}
 use Rattle.std.proofs.lemmas.Nat.{le-div}
 use Rattle.pic_record.specs.Due.{due_after}
-use Rattle.pic_record.specs.Limits.{longest_end}
+use Rattle.pic_record.specs.Limits.{done_end}
 use Rattle.pic_record.specs.Layout.{LayoutView}
 use Rattle.pic_record.specs.FrameFields.{frame_length}
 use Rattle.pic_dump.specs.NextReads.{most_of, record_most}
@@ -52,7 +52,7 @@ went_most l k (Some s) least went = let most = frames_left l went.j least went.b
 next_fits : (l : LayoutView) (k f d : ℕ) → suc k ≤ d → k * f + f ≤ d * f
 next_fits l k f d less = let h = mul-le-mul_right f less in omega (arith, h)
 
-end_fits : (k f d : ℕ) → k ≤ d → k * f + (longest_end + 1) ≤ d * f + (longest_end + 1)
+end_fits : (k f d : ℕ) → k ≤ d → k * f + (done_end + 1) ≤ d * f + (done_end + 1)
 end_fits k f d less = let h = mul-le-mul_right f less in omega (arith, h)
 
 pub record_fits : (l : LayoutView) (k : ℕ) (last : Option ℕ) → 1 ≤ l.every → Went l k last

@@ -16,7 +16,7 @@ use Rattle.pic_record.specs.Due.{due_after}
 use Rattle.pic_record.specs.FrameFields.{FrameView, frame_length}
 use Rattle.pic_record.specs.Readable.{IsReadableFrame}
 use Rattle.pic_record.proofs.FormatLaws.{frames_read_are_readable}
-use Rattle.pic_record.specs.Limits.{longest_end}
+use Rattle.pic_record.specs.Limits.{end_most}
 use Rattle.pic_record.specs.Layout.{LayoutView}
 use Rattle.pic_record.specs.Records.{AFrame, is_tag, record_at}
 use Rattle.pic_dump.specs.Standing.{Standing, IsStanding, passed}
@@ -30,8 +30,8 @@ next_exits r {res = res} less is stops =
     let q = err_from_is_err_and res is in
     rw (q.1, q.2) (record { answer = stops_up less stops })
 
--- a record has at least so many bytes, and a frame all of its own
-pub most_least : (l : LayoutView) (due : Option ℕ) → longest_end + 1 ≤ most_of l due
+-- so many bytes may be taken as an end record has that may stand there, and one; and those of a frame
+pub most_least : (l : LayoutView) (due : Option ℕ) → end_most due + 1 ≤ most_of l due
 most_least l None = omega arith
 most_least l (Some step) = omega arith
 

@@ -7,7 +7,7 @@ use Rattle.pic_fields.specs.Reads.{Moves}
 use Rattle.pic_header.specs.Header.{HeaderView}
 use Rattle.pic_header.specs.Limits.{most_letters}
 use Rattle.pic_header.specs.HeaderFields.{header_length, header_at, header_most}
-use Rattle.pic_record.specs.Limits.{longest_end}
+use Rattle.pic_record.specs.Limits.{done_end}
 use Rattle.pic_record.specs.Layout.{LayoutView, layout_of}
 use Rattle.pic_record.specs.FrameFields.{frame_length}
 use Rattle.pic_header.specs.HeadReads.{TakesWithin}
@@ -16,9 +16,10 @@ use Rattle.pic_header.specs.HeadReads.{TakesWithin}
 abbrev pub frames_due : LayoutView → ℕ
 frames_due l = (l.steps + (l.every - 1)) / l.every + 1
 
--- the bytes of all frames that are due, and of the longest end record
+-- the bytes of all frames that are due, and of the end record of a run that is done: an end record that
+-- is longer stands in the place of a frame
 abbrev pub records_length : LayoutView → ℕ
-records_length l = frames_due l * (1 + frame_length l) + longest_end
+records_length l = frames_due l * (1 + frame_length l) + done_end
 
 -- the length that a header allows
 abbrev pub bytes_allowed : HeaderView → ℕ

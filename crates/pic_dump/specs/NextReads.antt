@@ -7,7 +7,7 @@ use Rattle.pic_energy.specs.declared.amounts.Energies.{Energies}
 use Rattle.pic_fields.specs.declared.read_stop.ReadStop.{ReadStop}
 use Rattle.pic_fields.specs.Reads.{HasRead, HasReadAll, Stops}
 use Rattle.pic_record.specs.Due.{due_after}
-use Rattle.pic_record.specs.Limits.{longest_end}
+use Rattle.pic_record.specs.Limits.{done_end}
 use Rattle.pic_record.specs.Layout.{LayoutView}
 use Rattle.pic_dump.specs.declared.dump_reader.Next.{Next}
 use Rattle.pic_dump.specs.declared.dump_reader.Next.TheVariants.{Frame, End}
@@ -31,9 +31,9 @@ pub record HasFrame (r : Standing) (before now : Told) (e b : Field) (particles 
   pub readable : IsReadableFrame r.layout (frame_of step e.values b.values particles energies)
 
 -- how many bytes may be taken for the next record: those of a frame where one is due, and else those of
--- the longest end record and one behind it
+-- the end record of a run that is done and one behind it
 abbrev pub most_of : LayoutView → Option ℕ → ℕ
-most_of l None = longest_end + 1
+most_of l None = done_end + 1
 most_of l (Some step) = 1 + frame_length l
 
 abbrev pub record_most : Standing → ℕ

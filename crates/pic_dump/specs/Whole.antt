@@ -13,8 +13,8 @@ use Rattle.pic_dump.specs.DumpRead.{DumpRead, read_dump}
 use Rattle.pic_dump.specs.InTurn.{step_before}
 use Rattle.pic_dump.specs.NextReads.{most_of}
 
--- how many bytes record k has at most: those of a frame where one is due, and else those of the longest
--- end record and one behind it
+-- how many bytes record k has at most: those of a frame where one is due, and else those of the end
+-- record of a run that is done and one behind it
 abbrev pub most_at : LayoutView → ℕ → ℕ
 most_at l k = most_of l (due_after l.steps l.every (step_before l k))
 
@@ -60,7 +60,7 @@ abbrev pub parts_in : List ℕ → Parts
 parts_in bytes = dump_parts (read_dump bytes)
 
 -- the first `whole` parts end at or before a place, and the next one doesn't: the header, or a frame
--- that is due; or where no frame is due, the longest end record and a byte behind it
+-- that is due; or where no frame is due, the end record of a run that is done and a byte behind it
 pub record AreWhole (parts : Parts) (place whole : ℕ) : Type 0 where
   pub few : whole ≤ parts.count
   pub ended : parts.begin whole ≤ place

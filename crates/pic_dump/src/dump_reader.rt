@@ -154,8 +154,8 @@ impl DumpReader {
     /// input.
     ///
     /// No byte behind the record is taken, but for one that tells that the input doesn't end there, and
-    /// no memory; of a bad record at most a frame's bytes are taken, or 38 where no frame is due; where
-    /// a read failed not all bytes of the record were taken. The snapshot has the header's
+    /// no memory; of a bad record at most a frame's bytes are taken, or 7 where no frame is due; where
+    /// a read failed fewer than so many were taken. The snapshot has the header's
     /// numbers of cells and particles, and the end of the dump leaves it as it was. After a frame its
     /// values are within their bounds, and its particles have the identities 0, 1, 2 and so on, their
     /// species, and velocities that a push keeps. At an error the reader is gone.

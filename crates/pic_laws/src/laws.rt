@@ -44,8 +44,9 @@ pub fn each_identity_has_one_species()
 
 /// The particles that a deck begins with are those of its species, and no others. At the place of
 /// each identity stands the particle of its species and of its index there: that point of the list,
-/// that site of the lattice, one drawn after the words of the earlier ones, or one that stands
-/// where the particle of its index of the paired species does.
+/// that site of the lattice, one drawn after the words of the earlier ones, one that stands where the
+/// particle of its index of the paired species does, or one moved by its way from where that of the
+/// named species stands.
 pub fn particles_are_those_of_their_species()
     ensures { ParticlesAreThoseOfTheirSpecies }
 {}

@@ -6,7 +6,7 @@ ghost use Rattle.pic_grid.specs.Cells.{IsWithin, axis_of};
 ghost use Rattle.pic_fields.specs.Number.{is_from_to};
 ghost use Rattle.pic_fields.specs.Reads.{Reads, ReadsEnd, as_it_is};
 ghost use Rattle.pic_header.specs.Limits.{most_steps};
-ghost use Rattle.pic_record.specs.Limits.{longest_end};
+ghost use Rattle.pic_record.specs.Limits.{end_most};
 ghost use Rattle.pic_record.specs.EndFields.{code_at, below_at, is_phase, phase_of, bound_of, what_of, phase_at, bound_at, what_at};
 ghost use Rattle.pic_record.specs.EndFields.{axis_at, stop_cell_at, bound_limit, what_limit, is_past, past_at, field_stop_at};
 ghost use Rattle.pic_record.specs.EndFields.{push_stop_at, is_kind, first_after, done_at, field_end_at, push_end_at, end_at};
@@ -271,8 +271,9 @@ fn read_push_end<S: Source>(
 // Reads the kind of an end record: a run is done where no frame is due any more.
 fn read_kind<S: Source>(source: &mut S, place: u64, due: Option<u32>) -> Result<u8, ReadStop>
     requires { place + 1 < 2 ^ 63 }
-    ensures { Reads as_it_is (code_at (is_kind due)) place (place + 1) (S.told source.old)
+    ensures reads { Reads as_it_is (code_at (is_kind due)) place (place + 1) (S.told source.old)
         (S.told source.new) result }
+    ensures is { IfOk result (λ kind. is_kind due kind ≡ true) }
 {
     let kind = read_byte(source, place)?;
     if !is_kind(due, kind) {
@@ -301,7 +302,7 @@ fn first_after(last: Option<u32>) -> u32
 }
 
 /// Reads the end record behind its mark, and the end of the input: at most what is left of the longest
-/// end record is taken, and one byte behind it.
+/// end record that may stand there is taken, and one byte behind it.
 pub fn read_end_record<S: Source>(
     source: &mut S,
     place: u64,
@@ -312,7 +313,7 @@ pub fn read_end_record<S: Source>(
     requires place { place + 65 < 2 ^ 63 }
     requires last { IfSome last (λ step. step ≤ most_steps) }
     ensures { ReadsEnd (λ m. AnEnd m) (end_at layout.now last due last_record) place
-        (place + longest_end) (S.told source.old) (S.told source.new) result }
+        (place + end_most due) (S.told source.old) (S.told source.new) result }
 {
     let step_place = place + 1;
     let kind = read_kind(source, place, due)?;

@@ -36,15 +36,15 @@ use std::alloc::Global;
 /// frame is put once it was read whole, its energies included, and found to meet Gauss's law; the end
 /// record is read to the end of the input and not used. All memory is taken before the first put, and
 /// where it is wanted, or steps or tiles are refused, nothing was put and no byte behind the header was
-/// taken. At most one byte is taken past the length that the header allows, and none behind the first
-/// record with a fault or a break.
+/// taken. At most one byte is taken past the length that the header allows, and none behind the most that
+/// the first record which isn't good can have: a frame's bytes, where one is due.
 ///
 /// # Errors
 /// `CarryStop` with the first fault of the bytes (its place, counted from 0, and its cause), or the
 /// first break of Gauss's law (its frame, counted from 0, and its least node), before which the kept
 /// frames were put, but nothing where the header has the fault; with the limit that the steps or the
-/// tiles pass; a failed read, with the frames put that were read before it; a failed write; or want of
-/// memory.
+/// tiles pass; a failed read, with the header and the kept ones of the frames put that were taken whole
+/// before it; a failed write; or want of memory.
 pub fn carry<S: Source, O: Sink, R: Sink>(
     alloc: Global,
     source: &mut S,

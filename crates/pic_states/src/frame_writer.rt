@@ -19,8 +19,7 @@ use pic_io::{Failed, Side, Sink};
 use pic_report::{put_line, put_out};
 use pic_step::State;
 
-/// Writes the frame of a state, where it is due. What the room held is lost; for probes it stays where
-/// they don't look.
+/// Writes the frame of a state, where it is due. What the room held is lost; its shape stays.
 pub fn write_due<O: Sink, R: Sink>(
     plan: &Plan,
     out: &mut O,
@@ -46,7 +45,7 @@ pub fn write_due<O: Sink, R: Sink>(
     }
 }
 
-/// Writes the frame of a state. What the room held is lost; for probes it stays where they don't look.
+/// Writes the frame of a state. What the room held is lost; its shape stays.
 pub fn write_frame<O: Sink, R: Sink>(
     output: &Output,
     out: &mut O,

@@ -10,7 +10,7 @@ use pic_devices::Place;
 use pic_grid::Lattice;
 use pic_num::Particle;
 
-/// Writes the values of some places into a lattice of as many cells, and nothing else.
+/// Writes the values of some places into a lattice of as many cells.
 pub(crate) fn copy_places(from: &Lattice, places: &[Place], to: &mut Lattice)
     requires places { All (IsPlace from.now.cells) places.now }
     requires cells { to.old.cells ≡ from.now.cells }

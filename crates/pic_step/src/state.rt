@@ -58,11 +58,12 @@ impl State {
     ghost use Rattle.pic_step.specs.Start.{begun, world_in_frame};
     ghost use Rattle.pic_step.specs.Tiled.{AreTilesOf};
 
-    /// The state that a deck without displaced species begins with, with these particles.
+    /// The state that a deck without displaced species begins with, with these particles. None is followed.
     pub fn new(alloc: Global, deck: &Deck, particles: &[Particle]) -> Result<State, NoMemory>
         requires { IsSound (start_of deck.now particles.now) }
         ensures world { IfOk result (λ s. s.world ≡ start_of deck.now particles.now) }
         ensures map { IfOk result (λ s. s.map ≡ tiles_of (deck_grid deck.now) deck.now.tiles) }
+        ensures followed { IfOk result (λ s. s.followed ≡ []) }
     {
         let particles = Vec::from_slice(alloc, particles)?;
         State::begin(alloc, Start::new(alloc, deck, particles)?)
@@ -116,7 +117,8 @@ impl State {
     }
 
     /// The state after so many steps that stands in a snapshot of as many cells, under what stays in
-    /// its run. Its fields and particles are those of the snapshot, cut into the tiles of the map.
+    /// its run. Its fields and particles are those of the snapshot, cut into the tiles of the map; no
+    /// particle is followed.
     pub fn from_frame(
         alloc: Global,
         setup: &Setup,
@@ -128,6 +130,7 @@ impl State {
         requires sound { IsSound (world_in_frame setup.now step frame.now) }
         ensures world { IfOk result (λ s. s.world ≡ world_in_frame setup.now step frame.now) }
         ensures map { IfOk result (λ s. s.map ≡ setup.now.map) }
+        ensures followed { IfOk result (λ s. s.followed ≡ []) }
     {
         State::begin(alloc, Start::from_frame(alloc, setup, step, frame)?)
     }
@@ -219,8 +222,8 @@ impl State {
     }
 
     /// Shows in a snapshot of as many cells and particles what probes see: the fields at their places,
-    /// and the particles that they follow, which the state follows too. All else of the snapshot stays,
-    /// no other particle is read, and it takes no memory.
+    /// and the particles that they follow, which the state follows too. The snapshot keeps its shape, and
+    /// it takes no memory.
     pub fn look(&self, probes: &Probes, to: &mut Snapshot)
         requires probes { let w = self.now.world in
             AreProbes w.cells (length w.particles) probes.now }

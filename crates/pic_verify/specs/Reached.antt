@@ -1,4 +1,5 @@
--- How far a call that verifies a dump reads: no byte behind the first record that isn't good.
+-- How far a call that verifies a dump reads: no byte behind the most that the first record which isn't
+-- good can have, a frame's bytes where one is due.
 use Rattle.std.specs.Prelude.{◌≡◌, ℕ, ◌+◌, ◌*◌, ◌<◌, ◌≤◌, ◌⊎◌, List, length, drop, Some, Ok}
 use Rattle.pic_io.specs.Told.{Told}
 use Rattle.pic_io.specs.Source.{with_front}
@@ -22,8 +23,8 @@ pub record ReachesRecord (bytes : List ℕ) (count : ℕ) : Type 0 where
   pub begins : Begins bytes header number
   pub most : count ≤ record_place header number + most_at (layout_of header) number
 
--- What is taken of a source: where its bytes begin with a header, no byte behind the first record
--- that isn't good; where they begin with none, no more than was read to find that.
+-- What is taken of a source: where its bytes begin with a header, no byte behind the most that the first
+-- record which isn't good can have; where they begin with none, no more than was read to find that.
 pub record TakesToRecord (before now : Told) : Type 0 where
   -- the bytes that were taken
   pub front : List ℕ

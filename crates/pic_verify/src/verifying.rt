@@ -22,8 +22,9 @@ use std::alloc::Global;
 /// Each frame is read whole, its energies included, and then held against Gauss's law, before the next
 /// record is read: the first fault or the first break is answered. All memory is taken before the first
 /// frame: where it is wanted, no byte behind the header was taken. At most one byte is taken past the
-/// length that the header allows, and none behind the first record with a fault or a break. Of a
-/// source that begins with no header, no more is taken than a name's 32 bytes beyond its first fault.
+/// length that the header allows, and none behind the most that the first record which isn't good can
+/// have: a frame's bytes, where one is due. Of a source that begins with no header, no more is taken than
+/// a name's 32 bytes beyond its first fault.
 ///
 /// # Errors
 /// `VerifyStop` with the first fault of the bytes (its place, counted from 0, and its cause), or the

@@ -43,13 +43,10 @@ module _ (o : Opening) (s : State Slot View) (rule : Rule o s) (id : ℕ) (me : 
   abbrev T : ℕ
   T = tiles_in o
 
-  abbrev w : ℕ
-  w = ticket_of s
-
   abbrev n : ℕ
   n = count_below (rule.posted r) directions
 
-  abbrev owed : IsOwed T directions w (from_of o) rule.posted rule.marks.claimer r d id
+  abbrev owed : IsOwed T directions (ticket_of s) (from_of o) rule.posted rule.marks.claimer r d id
   owed = rule.marks.owes id me.0 at load.live r d load.owes
 
   abbrev box : ℕ
@@ -65,7 +62,7 @@ module _ (o : Opening) (s : State Slot View) (rule : Rule o s) (id : ℕ) (me : 
   home_away is =
       let free : rule.posted r here ≡ false = ap (λ (k : ℕ). rule.posted r k) (sym is) ∙ owed.free in
       let own : from_of o r here ≡ r = own_from T directions here (to_of o) (from_of o) (ways_of o) r owed.tile in
-      let less : r < w = subst (λ (k : ℕ). k < w) (ap (λ (k : ℕ). from_of o r k) is ∙ own) owed.sender in
+      let less : r < ticket_of s = subst (λ (k : ℕ). k < ticket_of s) (ap (λ (k : ℕ). from_of o r k) is ∙ own) owed.sender in
       rule.aways.left r owed.tile less free
 
   home_apart : home ≡ box → ⊥
@@ -129,8 +126,7 @@ module _ (o : Opening) (s : State Slot View) (rule : Rule o s) (id : ℕ) (me : 
   one_there = set_here s.homes box (some parcel) (below_there s.homes box none box_away)
 
   abbrev Comes : List (Option Slot) → Type 0
-  Comes later =
-      ComesHome hold rule.marks.claimer r d id owed later
+  Comes later = ComesHome hold rule.marks.claimer r d id owed later
 
   comes : Comes given
   comes = elim (ℕ_discrete d here) [
@@ -165,7 +161,7 @@ module _ (o : Opening) (s : State Slot View) (rule : Rule o s) (id : ℕ) (me : 
     others = λ x tile apart. word_still s.words (suc r) (suc x) (suc n) (λ e. apart (omega (arith, e)));
   }
 
-  same_ticket : ticket_of (record s { words = set s.words (suc r) (suc n) }) ≡ w
+  same_ticket : ticket_of (record s { words = set s.words (suc r) (suc n) }) ≡ ticket_of s
   same_ticket = word_still s.words (suc r) 0 (suc n) (λ e. omega (arith, e))
 
   abbrev after : View
@@ -192,7 +188,7 @@ module _ (o : Opening) (s : State Slot View) (rule : Rule o s) (id : ℕ) (me : 
     slots = long ∙ rule.slots;
     opened = opened_still;
     tickets = subst (λ (k : ℕ). Tickets T o.seats k (set s.views id after)) (sym same_ticket)
-        (keep_numbers T o.seats w s.views rule.tickets id me.0 at load.live after.owes after.rights);
+        (keep_numbers T o.seats (ticket_of s) s.views rule.tickets id me.0 at load.live after.owes after.rights);
     marks = subst (λ (k : ℕ). Marks (record board { ticket = k; posted = now_posted }) (set s.words (suc r) (suc n)) (set s.views id after)) (sym same_ticket)
         (post_marks board s.words (set s.words (suc r)
         (suc n)) s.views rule.marks id me.0 at load.live r d load.owes words_are);
@@ -320,7 +316,7 @@ module _ (o : Opening) (s : State Slot View) (rule : Rule o s) (id : ℕ) (me : 
     not_mine k below (a_box q e way same is) y there =
         let row : r ≡ q = slot_row directions r k q e below (omega (arith, way)) same in
         let col : k ≡ e = slot_place directions r k q e below (omega (arith, way)) same in
-        let o' : IsOwed T directions w (from_of o) rule.posted rule.marks.claimer q e id = rule.marks.owes id me.0 at load.live q e is in
+        let o' : IsOwed T directions (ticket_of s) (from_of o) rule.posted rule.marks.claimer q e id = rule.marks.owes id me.0 at load.live q e is in
         let free : rule.posted r k ≡ false = (λ i. rule.posted (row i) (col i)) ∙ o'.free in
         let dir : k < directions = omega (arith, col, way) in
         elim (ℕ_discrete k d) [
@@ -331,7 +327,7 @@ module _ (o : Opening) (s : State Slot View) (rule : Rule o s) (id : ℕ) (me : 
     not_mine k below (a_home t same is) y there =
         let row : r ≡ t = slot_row directions r k t directions below (omega arith) same in
         let col : k ≡ directions = slot_place directions r k t directions below (omega arith) same in
-        let o' : IsOwed T directions w (from_of o) rule.posted rule.marks.claimer t here id = rule.marks.owes id me.0 at load.live t here is in
+        let o' : IsOwed T directions (ticket_of s) (from_of o) rule.posted rule.marks.claimer t here id = rule.marks.owes id me.0 at load.live t here is in
         let free : rule.posted r here ≡ false = ap (λ (q : ℕ). rule.posted q here) row ∙ o'.free in
         elim (ℕ_discrete here d) [
           | yes it ↦ some-ne-none y (sym there ∙ ap (λ (l : ℕ). seek (slot_at r l) (behind d slots)) col

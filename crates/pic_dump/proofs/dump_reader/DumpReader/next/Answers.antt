@@ -2,7 +2,7 @@ use Rattle.std.proofs.Common.{◌≡◌, ◌+◌, ℕ, Some, refl, sym, ap, ◌�
 use Rattle.pic_fields.proofs.ReadLaws.{read_then, read_same, read_as, read_up_to, ends_then, ended_up, stops_first, stops_then, stops_as}
 use Rattle.pic_record.specs.RecordText.{frame_tag}
 use Rattle.pic_record.specs.Due.{due_after}
-use Rattle.pic_record.specs.Limits.{longest_end}
+use Rattle.pic_record.specs.Limits.{end_most}
 use Rattle.std.specs.Prelude.{unwrap_or}
 use Rattle.std.proofs.lemmas.Bool.{eq-eqb, ne_eqb}
 use Rattle.pic_record.specs.FrameFields.{frame_of, frame_length}
@@ -99,7 +99,7 @@ returns-in_err-mark-clause-reads g c =
     let end = ne_eqb _ frame_tag c.if-tag-eq-FRAME.false in
     let stopped = rw due at c.in_err-mark.ensures in
     let behind = rw (sym (of_end l last (due_after l.steps l.every last) c.in_ok-tag.tag end)) at stopped.answer in
-    rw (sym c.self.view_is) (next_exits _ {n = c.self.inside.place + 1 + longest_end} (omega (arith, least)) c.from_residual-in_err-mark.ensures.1
+    rw (sym c.self.view_is) (next_exits _ {n = c.self.inside.place + 1 + end_most (due_after l.steps l.every last)} (omega (arith, least)) c.from_residual-in_err-mark.ensures.1
     (stops_then _ tag.answer behind))
 
 pub returns-clause-reads : goal.returns-clause-reads
@@ -113,4 +113,4 @@ returns-clause-reads g c =
     let end = ne_eqb _ frame_tag c.if-tag-eq-FRAME.false in
     let read = rw due at c.in_ok-mark.ensures in
     let behind = rw (sym (of_end l last (due_after l.steps l.every last) c.in_ok-tag.tag end)) at read.answer in
-    rw (sym c.self.view_is) (record { answer = ended_up {e = c.self.inside.place + 1 + longest_end} (omega (arith, least)) (ends_then _ tag.answer behind) })
+    rw (sym c.self.view_is) (record { answer = ended_up {e = c.self.inside.place + 1 + end_most (due_after l.steps l.every last)} (omega (arith, least)) (ends_then _ tag.answer behind) })
