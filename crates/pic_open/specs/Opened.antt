@@ -22,7 +22,7 @@ use Rattle.pic_open.specs.DeckReading.{deck_limit, TakesOfDeck}
 use Rattle.pic_report.specs.Reading.{Given, Held, Reading}
 use Rattle.pic_open.specs.Starting.{first_state}
 
--- a deck stands here with what its run begins with: that is sound, its fields are cut into the deck's tiles,
+-- a deck stands here with what its run begins with: that is sound, its fields are cut into the tiles of its map,
 -- and the deck's probes are within its limits
 pub record CanBegin (o : Opened) : Type 0 where
   pub start : begun o.start ≡ first_state o.deck
@@ -42,7 +42,7 @@ pub record IsEndOf (stage : Staged DeckView) (why : Early) : Type 0 where
   pub answer : ended_early why ≡ ended_at end
 
 -- the displaced start of a deck isn't too strong; it stands here, with the deck's particles, its fields cut
--- into the deck's tiles, and safe force values
+-- into the tiles of its map, and safe force values
 pub record IsLoaded (d : DeckView) (s : Start) : Type 0 where
   pub fit : displaced_allowed d (loaded d) ≡ Ok tt
   pub start : begun s ≡ first_state d
