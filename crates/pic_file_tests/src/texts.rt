@@ -1,7 +1,7 @@
 //! Tests of the printed texts of errors: the words of the report, where it has a line for them.
 
 use pic_charge::Break;
-use pic_dump::HeadStop;
+use pic_dump::{HeadStop, UpgradeStop};
 use pic_fields::ReadStop;
 use pic_num::NoMemory;
 use pic_verify::VerifyStop;
@@ -19,8 +19,22 @@ const BROKEN: VerifyStop = VerifyStop::Broken {
     },
 };
 
+const UNEVEN: VerifyStop = VerifyStop::Broken {
+    frame: 3,
+    at: Break {
+        node: [6, 5, 4],
+        div: 9,
+        rho: -2,
+    },
+};
+
+const BAD_AGAIN: UpgradeStop = UpgradeStop::BadDump { place: 9, cause: 3 };
+
 const WORDS: &str = "out of memory, read fault, bad dump 9 3, bad dump 9 3, out of memory, \
     read fault, bad dump 9 3, broken frame 2 node 4 5 6 div -7 rho 8, out of memory";
+
+const MORE_WORDS: &str = "read fault, broken frame 3 node 6 5 4 div 9 rho -2, read fault, \
+    bad dump 9 3, write fault, out of memory";
 
 #[test]
 fn errors_print_the_words_of_the_report(rt: HostRuntime) {
@@ -34,4 +48,16 @@ fn errors_print_the_words_of_the_report(rt: HostRuntime) {
         "{NoMemory}, {read}, {BAD}, {head}, {of_head}, {verify}, {BAD_TOO}, {BROKEN}, {of_verify}"
     );
     assert_eq!(rt; words.expect(&rt, "memory").as_str(), WORDS);
+}
+
+#[test]
+fn stops_of_an_upgrade_print_them_too(rt: HostRuntime) {
+    let head = HeadStop::Read(ReadStop::ReadFault);
+    let (read, write, memory) = (
+        UpgradeStop::ReadFault,
+        UpgradeStop::WriteFault,
+        UpgradeStop::NoMemory,
+    );
+    let words = format!(in rt.alloc(); "{head}, {UNEVEN}, {read}, {BAD_AGAIN}, {write}, {memory}");
+    assert_eq!(rt; words.expect(&rt, "memory").as_str(), MORE_WORDS);
 }

@@ -46,7 +46,7 @@ pub returns-in_err-kind : goal.returns-in_err-kind
 unfolding end_at
 returns-in_err-kind g c =
     let least = end_least c.args.due in
-    exits_to_end _ (omega (arith, least)) c.from_residual.ensures.1 c.in_err-kind.ensures
+    exits_to_end _ (omega (arith, least)) c.from_residual.ensures.1 c.in_err-kind.ensures.reads
 
 pub returns-then-kind-eq0 : goal.returns-then-kind-eq0
 unfolding end_at
