@@ -98,6 +98,7 @@ class Documents(unittest.TestCase):
         version = re.search(r"^version (.*)$", (HOME / "release" / "MANIFEST").read_text(), re.MULTILINE)[1]
         self.assertIn(f'\nversion: "{version}"\n', (HOME / "CITATION.cff").read_text())
         self.assertIn(f"\n## {version}\n", (HOME / "CHANGELOG.md").read_text())
+        self.assertIn(f"\nThe released program is {version}.\n", (HOME / "README.md").read_text())
 
 
 if __name__ == "__main__":

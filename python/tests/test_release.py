@@ -81,6 +81,9 @@ class Copy(unittest.TestCase):
         self.assertEqual((status, len(dump), report), (0, 12680, printed("The run of `decks/two_charges.toml` prints")))
         self.assertEqual(call(self.copy, "verify", given=dump, **quiet), (0, b"verified 2 frames\n", b""))
         self.assertEqual(call(self.copy, "check", given=self.deck, **quiet), (0, b"ok 2 particles\n", b""))
+        antenna = (HOME / "decks" / "antenna.toml").read_bytes()
+        status, lines, report = call(self.copy, "probe", given=antenna, **quiet)
+        self.assertEqual((status, report, lines.splitlines()[-1].split()[0]), (0, b"", b"done"))
 
     def test_a_line_where_the_sources_are_others(self):
         with self.source.open("a") as file:
