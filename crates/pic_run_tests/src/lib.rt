@@ -22,8 +22,6 @@ mod runs;
 #[cfg(test)]
 mod trial;
 #[cfg(test)]
-mod upgrades;
-#[cfg(test)]
 mod words;
 #[cfg(test)]
 mod workers;

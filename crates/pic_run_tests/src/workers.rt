@@ -5,54 +5,28 @@ use pic_gate::{Gate, Hold, Point};
 use pic_trial::{CALM, PAIR, Pieces, SMALL};
 use std::hint::spin_loop;
 use std::process::Abort;
-use std::sync::atomic::{AtomicBool, AtomicU32, Ordering};
+use std::sync::atomic::{AtomicU32, Ordering};
 use std::thread::Threads;
 
 // how often a worker looks for the others before it goes on alone
 const MOST_TURNS: u32 = 1 << 24;
 
-// a gate at which the workers 0 to 3, each at its first claim, wait until all of them have come
+// a gate at which the workers 0 to 3, each at its first claim, wait until all of them have come; it
+// has a bit for each that came
 #[derive(Drop)]
 struct Gathering {
-    first: AtomicBool,
-    second: AtomicBool,
-    third: AtomicBool,
-    fourth: AtomicBool,
+    came: AtomicU32,
     met: AtomicU32,
 }
 
 impl Gathering {
-    fn new() -> Gathering {
-        Gathering {
-            first: AtomicBool::new(false),
-            second: AtomicBool::new(false),
-            third: AtomicBool::new(false),
-            fourth: AtomicBool::new(false),
-            met: AtomicU32::new(0),
+    // comes, and the first time waits for the others
+    fn come(&self, bit: u32) {
+        if self.came.fetch_or(bit, Ordering::SeqCst) & bit != 0 {
+            return;
         }
-    }
-
-    fn place_of(&self, worker: u32) -> Option<&AtomicBool> {
-        match worker {
-            0 => Some(&self.first),
-            1 => Some(&self.second),
-            2 => Some(&self.third),
-            3 => Some(&self.fourth),
-            _ => None,
-        }
-    }
-
-    fn have_all_come(&self) -> bool {
-        self.first.load(Ordering::SeqCst)
-            && self.second.load(Ordering::SeqCst)
-            && self.third.load(Ordering::SeqCst)
-            && self.fourth.load(Ordering::SeqCst)
-    }
-
-    // waits for the others
-    fn wait(&self) {
         for _ in 0..MOST_TURNS {
-            if self.have_all_come() {
+            if self.came.load(Ordering::SeqCst) == 15 {
                 self.met.fetch_add(1, Ordering::SeqCst);
                 return;
             }
@@ -63,16 +37,8 @@ impl Gathering {
 
 impl Gate for Gathering {
     fn pass(&self, worker: u32, point: Point) {
-        let Point::Claimed = point else {
-            return;
-        };
-        match self.place_of(worker) {
-            Some(place) => {
-                if !place.swap(true, Ordering::SeqCst) {
-                    self.wait();
-                }
-            }
-            None => {}
+        if point == Point::Claimed && worker < 4 {
+            self.come(1 << worker);
         }
     }
 }
@@ -98,7 +64,10 @@ fn two_workers_meet(rt: HostRuntime) {
 
 #[test]
 fn four_workers_meet(rt: HostRuntime) {
-    let gathering = Gathering::new();
+    let gathering = Gathering {
+        came: AtomicU32::new(0),
+        met: AtomicU32::new(0),
+    };
     let words = ["run", "--workers", "4"];
     let left = call_at(&rt, &words, PAIR, SMALL, CALM, &gathering);
     assert!(rt; left.status == 0 && gathering.met.load(Ordering::SeqCst) == 4);

@@ -1,4 +1,4 @@
-//! Tests of whole calls for displaced starts, driven loops and probes.
+//! Tests of whole calls for displaced starts, driven loops and probes, and of upgrades.
 #![tactic(auto)]
 
 #[cfg(test)]
@@ -11,3 +11,5 @@ mod parts;
 mod probes;
 #[cfg(test)]
 mod trial;
+#[cfg(test)]
+mod upgrades;
