@@ -9,7 +9,7 @@ ghost use Rattle.pic_crew.specs.Posting.{HasPostedAll, HasSent, OwesAll};
 ghost use Rattle.pic_crew.specs.Teams.{CanWork, HasWorked};
 
 use crate::opening::{begin, one_tile};
-use crate::seeing::{current_of, place_in};
+use crate::seeing::{check_current, check_place};
 use pic_crew::finish;
 use pic_num::NoMemory;
 use pic_tile::{Dir, Tile};
@@ -89,18 +89,14 @@ fn run(alloc: Global) -> Result<Option<((u32, u32), Vec<Tile>)>, NoMemory> {
 }
 
 #[test]
-fn the_last_of_27_posts_gives_the_right(rt: HostRuntime) -> Result<(), NoMemory> {
-    let done = run(rt.alloc())?;
-    assert!(rt; done.is_some());
-    let Some((posts, tiles)) = done else {
-        return Ok(());
-    };
-    assert_eq!(rt; posts, (26, 26));
-    assert_eq!(rt; tiles.len(), 1);
-    assert_eq!(rt; place_in(&tiles, 0, 0), Some([1024, 0, 0]));
-    assert_eq!(rt; place_in(&tiles, 0, 1), Some([8092, 0, 0]));
-    assert_eq!(rt; current_of(&tiles, 0, [0, 0, 0]), Some(20132659200));
-    assert_eq!(rt; current_of(&tiles, 0, [1, 0, 0]), Some(20132659200));
-    assert_eq!(rt; current_of(&tiles, 0, [0, 1, 0]), Some(0));
-    Ok(())
+fn the_last_of_27_posts_gives_the_right(rt: HostRuntime) {
+    let done = run(rt.alloc()).expect(&rt, "memory");
+    let (posts, tiles) = done.expect(&rt, "all posts");
+    assert!(rt; posts == (26, 26));
+    assert!(rt; tiles.len() == 1);
+    check_place(&rt, &tiles, 0, 0, Some([1024, 0, 0]));
+    check_place(&rt, &tiles, 0, 1, Some([8092, 0, 0]));
+    check_current(&rt, &tiles, 0, [0, 0, 0], 20132659200);
+    check_current(&rt, &tiles, 0, [1, 0, 0], 20132659200);
+    check_current(&rt, &tiles, 0, [0, 1, 0], 0);
 }

@@ -2,9 +2,10 @@
 
 use pic_num::Axis;
 use pic_tile::{Dir, Tile};
+use std::process::Abort;
 
-/// The position of a particle that is in a tile.
-pub(crate) fn place_in(tiles: &[Tile], number: usize, id: u32) -> Option<[u32; 3]> {
+// the position of a particle that is in a tile
+fn place_in(tiles: &[Tile], number: usize, id: u32) -> Option<[u32; 3]> {
     let parcel = tiles.get(number)?.parcel(Dir::HERE)?;
     parcel
         .chain
@@ -13,11 +14,33 @@ pub(crate) fn place_in(tiles: &[Tile], number: usize, id: u32) -> Option<[u32; 3
         .map(|particle| particle.x)
 }
 
-/// The current of a tile through the edge on x of a cell.
-pub(crate) fn current_of(tiles: &[Tile], number: usize, cell: [i32; 3]) -> Option<i128> {
+// the current of a tile through the edge on x of a cell
+fn current_of(tiles: &[Tile], number: usize, cell: [i32; 3]) -> Option<i128> {
     let parcel = tiles.get(number)?.parcel(Dir::HERE)?;
     if !parcel.flux.has(cell) {
         return None;
     }
     Some(parcel.flux.at(Axis::X, cell))
+}
+
+/// A particle is there in a tile, or isn't in it.
+pub(crate) fn check_place(
+    rt: &impl Abort,
+    tiles: &[Tile],
+    number: usize,
+    id: u32,
+    wanted: Option<[u32; 3]>,
+) {
+    assert_eq!(rt; place_in(tiles, number, id), wanted);
+}
+
+/// So much current of a tile goes through the edge on x of a cell.
+pub(crate) fn check_current(
+    rt: &impl Abort,
+    tiles: &[Tile],
+    number: usize,
+    cell: [i32; 3],
+    wanted: i128,
+) {
+    assert_eq!(rt; current_of(tiles, number, cell), Some(wanted));
 }

@@ -1,16 +1,19 @@
 //! One step of a pair, by the side of a cell: numbers worked by hand.
 
-ghost use Rattle.std.specs.Prelude.{◌≡◌, IfOk};
+ghost use Rattle.std.specs.Prelude.{◌≡◌, ◌<◌, ◌≤◌, IfOk};
 ghost use Rattle.pic_num.specs.Limits.{most_loops};
 ghost use Rattle.pic_grid.specs.Loops.{AreLoops};
+ghost use Rattle.pic_crew.specs.Teams.{most_workers};
 
 use pic_devices::optional_drive;
-use pic_gate::{Hold, Open};
+use pic_gate::{Gate, Hold, Open};
 use pic_grid::{Cells, Lattice, Loops, Snapshot};
 use pic_num::{Axis, Kind, Mult, NoMemory, Particle, Scales, Sub};
 use pic_step::{Start, State, step};
 use pic_tile::{Dir, Kinds, Setup, TileMap};
 use std::alloc::Global;
+use std::process::Abort;
+use std::thread::Threads;
 use toml::table_from_str;
 
 /// A charge of either sign, which no field drives.
@@ -109,91 +112,120 @@ fn is_peopled(state: &State, number: usize) -> Option<bool> {
     Some(!parcel.chain.is_empty())
 }
 
-#[test]
-fn a_step_by_the_side_of_a_cell(rt: HostRuntime) -> Result<(), NoMemory> {
-    let cases = [
-        (8, 100663296, 192),
-        (12, 412316860416, 3072),
-        (14, 26388279066624, 12288),
-    ];
-    for (bits, current, place) in cases {
-        let Some(sub) = Sub::new(bits) else {
-            continue;
-        };
-        for workers in 1..3 {
-            let next = step(
-                &rt,
-                rt.alloc(),
-                pair_of(rt.alloc(), sub, loops_of(rt.alloc(), "")?)?,
-                workers,
-                &Open,
-            );
-            assert!(rt; next.is_ok());
-            if let Ok(state) = next {
-                let mut seen = Snapshot::new(rt.alloc(), state.cells(), state.count())?;
-                state.fill(&mut seen);
-                assert_eq!(rt; state.step_number(), 42);
-                assert_eq!(rt; state.cells().sub(), sub);
-                assert_eq!(rt; value_in(&seen.e, Axis::X, [0, 0, 0]), current);
-                assert_eq!(rt; value_in(&seen.e, Axis::X, [1, 0, 0]), 0);
-                assert_eq!(rt; value_in(&seen.e, Axis::Y, [0, 0, 0]), 0);
-                assert_eq!(rt; seen.particles.get(1).map(|p| p.x), Some([place, 0, 0]));
-                assert_eq!(rt; is_peopled(&state, 0), Some(true));
-                assert_eq!(rt; is_peopled(&state, 1), Some(false));
-            }
-        }
-    }
-    Ok(())
-}
-
-/// E at the four edges of the current of a loop, and at two others.
-fn edges_of(alloc: Global, state: &State) -> Result<[i128; 6], NoMemory> {
+/// The fields and the particles of a state.
+fn shown(alloc: Global, state: &State) -> Result<Snapshot, NoMemory> {
     let mut seen = Snapshot::new(alloc, state.cells(), state.count())?;
     state.fill(&mut seen);
-    Ok([
+    Ok(seen)
+}
+
+/// E has these values at the four edges of the current of a loop, and at two others.
+fn check_edges(rt: &(impl AllocGlobal + Abort), state: &State, wanted: &[i128; 6]) {
+    let seen = shown(rt.alloc(), state).expect(rt, "memory");
+    let found = [
         value_in(&seen.e, Axis::X, [0, 0, 0]),
         value_in(&seen.e, Axis::X, [0, 1, 0]),
         value_in(&seen.e, Axis::Y, [0, 0, 0]),
         value_in(&seen.e, Axis::Y, [1, 0, 0]),
         value_in(&seen.e, Axis::Z, [0, 0, 0]),
         value_in(&seen.e, Axis::X, [0, 3, 0]),
-    ])
+    ];
+    assert_eq!(rt; found, *wanted);
+}
+
+/// E is 0 along x in the second cell.
+fn check_second_cell(rt: &(impl AllocGlobal + Abort), state: &State) {
+    let seen = shown(rt.alloc(), state).expect(rt, "memory");
+    assert!(rt; value_in(&seen.e, Axis::X, [1, 0, 0]) == 0);
+}
+
+/// The electron is at this place along x.
+fn check_electron(rt: &(impl AllocGlobal + Abort), state: &State, place: u32) {
+    let seen = shown(rt.alloc(), state).expect(rt, "memory");
+    let electron = seen.particles.get(1).expect(rt, "an electron");
+    assert_eq!(rt; electron.x, [place, 0, 0]);
+}
+
+/// The pair that no loop drives, after a step of so many workers.
+fn stepped<H: AllocGlobal + Abort + Threads + Sync, G: Gate + Sync>(
+    rt: &H,
+    sub: Sub,
+    workers: u32,
+    gate: &G,
+) -> State
+    requires some { 0 < workers }
+    requires most { workers ≤ most_workers }
+{
+    let loops = loops_of(rt.alloc(), "").expect(rt, "no loops");
+    let pair = pair_of(rt.alloc(), sub, loops).expect(rt, "memory");
+    step(rt, rt.alloc(), pair, workers, gate).expect(rt, "a step")
+}
+
+/// A power of two as the side of a cell, the current of half a cell, and where the electron is then.
+struct Side {
+    bits: u32,
+    current: i128,
+    place: u32,
+}
+
+const SIDES: [Side; 3] = [
+    Side {
+        bits: 8,
+        current: 100663296,
+        place: 192,
+    },
+    Side {
+        bits: 12,
+        current: 412316860416,
+        place: 3072,
+    },
+    Side {
+        bits: 14,
+        current: 26388279066624,
+        place: 12288,
+    },
+];
+
+/// A step of so many workers is as its side says.
+fn check_side<H: AllocGlobal + Abort + Threads + Sync>(rt: &H, side: &Side, workers: u32)
+    requires some { 0 < workers }
+    requires most { workers ≤ most_workers }
+{
+    let sub = Sub::new(side.bits).expect(rt, "a side");
+    let state = stepped(rt, sub, workers, &Open);
+    assert!(rt; state.step_number() == 42);
+    assert!(rt; state.cells().sub() == sub);
+    check_edges(rt, &state, &[side.current, 0, 0, 0, 0, 0]);
+    check_second_cell(rt, &state);
+    check_electron(rt, &state, side.place);
+    assert!(rt; is_peopled(&state, 0) == Some(true));
+    assert!(rt; is_peopled(&state, 1) == Some(false));
+}
+
+#[test]
+fn a_step_by_the_side_of_a_cell(rt: HostRuntime) {
+    for side in &SIDES {
+        check_side(&rt, side, 1);
+        check_side(&rt, side, 2);
+    }
 }
 
 // the step from the 41st state takes the second number of the wave, and the next one the first; the
 // electron goes half a cell in the first cell, and then a quarter
 #[test]
-fn a_loop_drives_by_the_number_of_the_step(rt: HostRuntime) -> Result<(), NoMemory> {
-    let pair = pair_of(
-        rt.alloc(),
-        Sub::of_bits(12),
-        loops_of(rt.alloc(), ONE_LOOP)?,
-    )?;
-    assert_eq!(rt; pair.loops().len(), 1);
-    let Ok(first) = step(&rt, rt.alloc(), pair, 1, &Open) else {
-        return Err(NoMemory);
-    };
-    let wanted = [412316860416 - 5, 5, 5, -5, 0, 0];
-    assert_eq!(rt; edges_of(rt.alloc(), &first)?, wanted);
-    let Ok(second) = step(&rt, rt.alloc(), first, 1, &Open) else {
-        return Err(NoMemory);
-    };
-    let wanted = [618475290624 + 3, -3, -3, 3, 0, 0];
-    assert_eq!(rt; edges_of(rt.alloc(), &second)?, wanted);
-    Ok(())
+fn a_loop_drives_by_the_number_of_the_step(rt: HostRuntime) {
+    let loops = loops_of(rt.alloc(), ONE_LOOP).expect(&rt, "a loop");
+    let pair = pair_of(rt.alloc(), Sub::of_bits(12), loops).expect(&rt, "memory");
+    assert!(rt; pair.loops().len() == 1);
+    let first = step(&rt, rt.alloc(), pair, 1, &Open).expect(&rt, "a step");
+    check_edges(&rt, &first, &[412316860416 - 5, 5, 5, -5, 0, 0]);
+    let second = step(&rt, rt.alloc(), first, 1, &Open).expect(&rt, "a step");
+    check_edges(&rt, &second, &[618475290624 + 3, -3, -3, 3, 0, 0]);
 }
 
 #[test]
-fn two_workers_are_at_work_at_once(rt: HostRuntime) -> Result<(), NoMemory> {
+fn two_workers_are_at_work_at_once(rt: HostRuntime) {
     let hold = Hold::new();
-    let next = step(
-        &rt,
-        rt.alloc(),
-        pair_of(rt.alloc(), Sub::of_bits(12), loops_of(rt.alloc(), "")?)?,
-        2,
-        &hold,
-    );
-    assert!(rt; next.is_ok());
+    let _next = stepped(&rt, Sub::of_bits(12), 2, &hold);
     assert!(rt; hold.met());
-    Ok(())
 }

@@ -3,7 +3,7 @@
 ghost use Rattle.pic_crew.specs.Teams.{CanWork, HasWorked};
 
 use crate::opening::{begin, eight_tiles};
-use crate::seeing::{current_of, place_in};
+use crate::seeing::{check_current, check_place};
 use pic_crew::crew;
 use pic_gate::Open;
 use pic_num::NoMemory;
@@ -49,18 +49,14 @@ fn run<R: Threads + Sync>(rt: &R, alloc: Global) -> Result<Option<Vec<Tile>>, No
 }
 
 #[test]
-fn two_threads_end_as_one_worker_does(rt: HostRuntime) -> Result<(), NoMemory> {
-    let done = run(&rt, rt.alloc())?;
-    assert!(rt; done.is_some());
-    let Some(tiles) = done else {
-        return Ok(());
-    };
-    assert_eq!(rt; tiles.len(), 8);
-    assert_eq!(rt; place_in(&tiles, 0, 0), Some([1024, 0, 0]));
-    assert_eq!(rt; place_in(&tiles, 0, 1), None);
-    assert_eq!(rt; place_in(&tiles, 1, 1), Some([16284, 0, 0]));
-    assert_eq!(rt; current_of(&tiles, 0, [0, 0, 0]), Some(20132659200));
-    assert_eq!(rt; current_of(&tiles, 1, [3, 0, 0]), Some(20132659200));
-    assert_eq!(rt; current_of(&tiles, 1, [2, 0, 0]), Some(0));
-    Ok(())
+fn two_threads_end_as_one_worker_does(rt: HostRuntime) {
+    let done = run(&rt, rt.alloc()).expect(&rt, "memory");
+    let tiles = done.expect(&rt, "both seats");
+    assert!(rt; tiles.len() == 8);
+    check_place(&rt, &tiles, 0, 0, Some([1024, 0, 0]));
+    check_place(&rt, &tiles, 0, 1, None);
+    check_place(&rt, &tiles, 1, 1, Some([16284, 0, 0]));
+    check_current(&rt, &tiles, 0, [0, 0, 0], 20132659200);
+    check_current(&rt, &tiles, 1, [3, 0, 0], 20132659200);
+    check_current(&rt, &tiles, 1, [2, 0, 0], 0);
 }
