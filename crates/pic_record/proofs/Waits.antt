@@ -58,7 +58,7 @@ puts_behind a b c w x s t result first second =
     (puts_after a b c first.part (x ++ t) result first.put second)
 
 -- the pieces before the i-th of a list, with one more,
-flat_map-more : {A : Type 0} (f : A → List ℕ) (xs : List A) (i : ℕ) (d : A) → i < length xs
+pub flat_map-more : {A : Type 0} (f : A → List ℕ) (xs : List A) (i : ℕ) (d : A) → i < length xs
     → flat_map f (take i xs) ++ f (get_or xs i d) ≡ flat_map f (take (i + 1) xs)
 flat_map-more f xs i d below =
     let piece = get_or xs i d in

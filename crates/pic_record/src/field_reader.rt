@@ -13,7 +13,7 @@ ghost use Rattle.pic_record.specs.Parts.{ReadsPart};
 
 use crate::part::Part;
 use pic_fields::{Ahead, Cause, ReadStop, fill, read_i128};
-use pic_grid::Lattice;
+use pic_grid::{Lattice, Place};
 use pic_io::Source;
 use pic_num::{MAX_FORCE, MAX_VALUE, Mult, scale};
 
@@ -40,7 +40,8 @@ fn is_moderate(by: Mult, value: i128) -> bool
     value.unsigned_abs() <= MAX_VALUE && scale(value, by).unsigned_abs() <= MAX_FORCE
 }
 
-// Reads so many values of a field, behind the first ones.
+// Reads so many values of a field, behind the first ones. The place of the first is looked up, each other
+// one follows.
 fn read_values<S: Source>(
     source: &mut S,
     place: u64,
@@ -48,6 +49,7 @@ fn read_values<S: Source>(
     field: &mut Lattice,
     part: Part<usize>,
 ) -> Result<(), ReadStop>
+    requires some { 0 < part.count }
     requires place { place + 16 * part.count < 2 ^ 63 }
     requires count { part.first + part.count ≤ 3 * count_of field.old.cells }
     requires moderate { FirstAre (IsModerate by) part.first field.old.values }
@@ -58,10 +60,13 @@ fn read_values<S: Source>(
         (FirstAre (IsModerate by) (part.first + part.count) field.new.values) }
 {
     let cells = field.cells();
+    let size = cells.numbers();
+    let (axis, inner) = cells.place_at(part.first);
+    let mut at = Place { axis, inner };
     for index in 0..part.count {
-        let (axis, cell) = cells.place_at(part.first + index);
         let value = read_value(source, place + 16 * index as u64, by)?;
-        field.set(axis, cell, value);
+        field.set(at.axis, at.inner, value);
+        at = at.following(size);
     }
     Ok(())
 }
@@ -76,6 +81,7 @@ fn read_piece_of_values<S: Source>(
     part: Part<usize>,
 ) -> Result<(), ReadStop>
     requires room { length room.old ≡ 16 * part.count }
+    requires some { 0 < part.count }
     requires place { place + 16 * part.count < 2 ^ 63 }
     requires count { part.first + part.count ≤ 3 * count_of field.old.cells }
     requires moderate { FirstAre (IsModerate by) part.first field.old.values }

@@ -1,10 +1,10 @@
 //! A frame of a dump, put in pieces.
 
-ghost use Rattle.std.specs.Prelude.{◌≡◌, ◌+◌, ◌≤◌, [], ◌++◌, length, map};
+ghost use Rattle.std.specs.Prelude.{◌≡◌, ◌+◌, ◌*◌, ◌≤◌, [], ◌++◌, length, map};
 ghost use Rattle.std.specs.List.{range_with_len};
 ghost use Rattle.pic_io.specs.Told.{HasCause};
 ghost use Rattle.pic_io.specs.Sink.{Puts};
-ghost use Rattle.pic_num.specs.Bytes.{i128_bytes};
+ghost use Rattle.pic_num.specs.Limits.{most_cells_of_axis};
 ghost use Rattle.pic_num.specs.Space.{triple, spot};
 ghost use Rattle.pic_record.specs.RecordText.{start_bytes, values_bytes, position_bytes, velocity_bytes, particle_bytes};
 ghost use Rattle.pic_record.specs.RecordText.{particles_bytes, energies_bytes, state_bytes, frame_bytes};
@@ -86,25 +86,25 @@ fn put_values<O: Sink>(out: &mut O, room: &mut FrameBuffer, field: &Lattice) -> 
     Ok(())
 }
 
+// The values of a run, which the buffer has room for.
 fn put_run<O: Sink>(out: &mut O, room: &mut FrameBuffer, run: &[i128]) -> Result<(), Failed>
+    requires { length run.now ≤ most_cells_of_axis }
     ensures bytes { Queues (O.told out.old) (O.told out.new) room.old room.new
         (values_bytes run.now) result }
     ensures cause { HasCause (O.told out.old) (O.told out.new) result }
 {
-    for value in run {
-        put_value(out, room, *value)?;
-    }
+    make_room(out, room, VALUE_BYTES * run.len())?;
+    push_values(room, run);
     Ok(())
 }
 
-fn put_value<O: Sink>(out: &mut O, room: &mut FrameBuffer, value: i128) -> Result<(), Failed>
-    ensures bytes { Queues (O.told out.old) (O.told out.new) room.old room.new
-        (i128_bytes value) result }
-    ensures cause { HasCause (O.told out.old) (O.told out.new) result }
+fn push_values(room: &mut FrameBuffer, run: &[i128])
+    requires { length room.old + 16 * length run.now ≤ 65536 }
+    ensures { room.new ≡ room.old ++ values_bytes run.now }
 {
-    make_room(out, room, VALUE_BYTES)?;
-    room.push_i128(value);
-    Ok(())
+    for value in run {
+        room.push_i128(*value);
+    }
 }
 
 // The particles, in their order.
