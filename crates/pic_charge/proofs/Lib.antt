@@ -1,5 +1,6 @@
 pub mod SpreadLaws
 pub mod NodeLaws
+pub mod NodeWalkLaws
 pub mod PairLaws
 pub mod ChargeLaws
 pub mod BreakLaws

@@ -10,7 +10,7 @@ ghost use Rattle.pic_grid.specs.Lattice.{value_at, node_at};
 ghost use Rattle.pic_grid.specs.Cells.{IsWithin};
 ghost use Rattle.pic_charge.specs.Gauss.{difference_at, first_break, Agree, IsLeastBreak};
 
-use pic_grid::{Cells, Lattice, Nodes};
+use pic_grid::{Cells, Lattice, Nodes, Place};
 use pic_num::Axis;
 
 /// A node where the divergence of E and the charge differ, and the two numbers, in twelfths of a charge
@@ -36,11 +36,14 @@ pub fn gauss(cells: Cells, e: &Lattice, rho: &Nodes) -> Option<Break>
     ensures least { IfSome result (IsLeastBreak cells.n (div_e cells.n (value_at e.now))
         (node_at rho.now)) }
 {
-    for index in 0..cells.count() {
-        let found = difference(cells, e, rho, cells.cell_at(index as usize));
+    let size = cells.numbers();
+    let mut place = Place::first();
+    for _ in 0..cells.count() {
+        let found = difference(cells, e, rho, place.inner);
         if found.is_some() {
             return found;
         }
+        place = place.following(size);
     }
     None
 }

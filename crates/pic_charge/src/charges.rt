@@ -11,7 +11,7 @@ ghost use Rattle.pic_charge.specs.Charge.{share, charge_of, most_node_charge, Is
 ghost use Rattle.pic_charge.specs.Spread.{NodesAtMost, Adds};
 
 use crate::spread::add_box;
-use pic_grid::{Cells, Nodes, Pair};
+use pic_grid::{Cells, Nodes, Pair, Place};
 use pic_num::{Kind, Particle};
 
 /// Makes the nodes the charge of the particles, in twelfths of a charge times a cubic sub-cell, whatever
@@ -43,8 +43,11 @@ fn clear(cells: Cells, to: &mut Nodes)
     ensures same_cells { to.new.cells ≡ cells.n }
     ensures values { (p : Triple) → IsWithin p cells.n → node_at to.new p ≡ pos 0 }
 {
-    for index in 0..cells.count() {
-        to.set(cells.cell_at(index as usize), 0);
+    let size = cells.numbers();
+    let mut place = Place::first();
+    for _ in 0..cells.count() {
+        to.set(place.inner, 0);
+        place = place.following(size);
     }
 }
 

@@ -2,8 +2,14 @@ use Rattle.std.proofs.Common.{◌≡◌, ℕ, ◌<◌, None}
 use Rattle.pic_grid.specs.Differences.{div_e}
 use Rattle.pic_grid.specs.Lattice.{value_at, node_at}
 use Rattle.pic_grid.specs.Cells.{cell_of}
+use Rattle.pic_num.specs.Space.{triple}
+use Rattle.pic_grid.proofs.PlaceLaws.{IsPlace}
 use Rattle.pic_charge.specs.Gauss.{difference_at}
 use Rattle.pic_charge.proofs.breaks.gauss.Given as goal
 
-abbrev pub invariant-loop-index : goal.invariant-loop-index
-invariant-loop-index l = (j : ℕ) → j < l.index → difference_at (div_e l.cells.n (value_at l.e)) (node_at l.rho) (cell_of l.cells.n j) ≡ None
+-- the nodes so far have no break, and the walk stands at the next one
+abbrev pub invariant-loop : goal.invariant-loop
+invariant-loop l = record {
+  none : (j : ℕ) → j < l.counter → difference_at (div_e l.cells.n (value_at l.e)) (node_at l.rho) (cell_of l.cells.n j) ≡ None;
+  place : IsPlace l.cells.n l.counter l.place.axis (triple l.place.inner);
+}
