@@ -99,8 +99,8 @@ returns-in_err-mark-clause-reads g c =
     let end = ne_eqb _ frame_tag c.if-tag-eq-FRAME.false in
     let stopped = rw due at c.in_err-mark.ensures in
     let behind = rw (sym (of_end l last (due_after l.steps l.every last) c.in_ok-tag.tag end)) at stopped.answer in
-    rw (sym c.self.view_is) (next_exits _ {n = c.self.inside.place + 1 + end_most (due_after l.steps l.every last)} (omega (arith, least)) c.from_residual-in_err-mark.ensures.1
-    (stops_then _ tag.answer behind))
+    rw (sym c.self.view_is) (next_exits _ {n = c.self.inside.place + 1 + end_most (due_after l.steps l.every last)} (omega (arith, least))
+    c.from_residual-in_err-mark.ensures.1 (stops_then _ tag.answer behind))
 
 pub returns-clause-reads : goal.returns-clause-reads
 unfolding record_at
@@ -113,4 +113,6 @@ returns-clause-reads g c =
     let end = ne_eqb _ frame_tag c.if-tag-eq-FRAME.false in
     let read = rw due at c.in_ok-mark.ensures in
     let behind = rw (sym (of_end l last (due_after l.steps l.every last) c.in_ok-tag.tag end)) at read.answer in
-    rw (sym c.self.view_is) (record { answer = ended_up {e = c.self.inside.place + 1 + end_most (due_after l.steps l.every last)} (omega (arith, least)) (ends_then _ tag.answer behind) })
+    rw (sym c.self.view_is) (record {
+      answer = ended_up {e = c.self.inside.place + 1 + end_most (due_after l.steps l.every last)} (omega (arith, least)) (ends_then _ tag.answer behind);
+    })
