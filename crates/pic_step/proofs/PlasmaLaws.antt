@@ -1,12 +1,18 @@
 -- The list that the tiles of a state stand for.
-use Rattle.std.proofs.Common.{◌≡◌, ℕ, ◌<◌, List, [], length, All, sym, ap, ◌∙◌, subst}
+use Rattle.std.proofs.Common.{◌≡◌, ℕ, ◌*◌, ◌<◌, pos, List, [], length, replicate, All, sym, ap, ◌∙◌, subst, arith}
 use Rattle.std.specs.Option.{IfSome}
+use Rattle.std.proofs.Math.Nat.{mod-one, mod_self}
 use Rattle.std.proofs.lemmas.List.{ext_get_or, length-map}
 use Rattle.std.proofs.lemmas.List.Elements.{All-weaker}
 use Rattle.pic_num.specs.declared.motion.Particle.{Particle}
-use Rattle.pic_num.specs.Space.{triple}
-use Rattle.pic_grid.specs.Cells.{count_of}
+use Rattle.pic_num.specs.Space.{Triple, triple}
+use Rattle.pic_grid.specs.Cells.{Grid, IsCells, count_of}
 use Rattle.pic_grid.specs.Hat.{IsInBox, HasTwo}
+use Rattle.pic_grid.specs.Lattice.{Field, IsParts}
+use Rattle.pic_grid.specs.Parts.{layered}
+use Rattle.pic_grid.proofs.SmallLaws.{each_zeros}
+use Rattle.pic_tile.specs.Frame.{IsForceField}
+use Rattle.pic_num.specs.Limits.{most_force}
 use Rattle.pic_tile.specs.InOrder.{AreOrdered, in_order}
 use Rattle.pic_tile.specs.Same.{Same}
 use Rattle.pic_tile.specs.StandFor.{owned, StandFor}
@@ -87,3 +93,36 @@ ready_again p q flux frame room spare smooth count h = subst (λ f. IsPlasma (al
   smooth = smooth;
   count = count ∙ flux.count;
 })
+
+-- a grid has a part for each layer of z
+pub layered_parts : (n : Triple) → IsCells n → IsParts n (layered n)
+layered_parts n cells = record {
+  x_least = omega arith;
+  x_whole = mod-one n.x;
+  y_least = omega arith;
+  y_whole = mod-one n.y;
+  z_least = let least = cells.z_least in omega (arith, least);
+  z_whole = mod_self n.z;
+}
+
+-- a lattice of zeros has force values
+pub no_forces : (g h : Grid) (parts : Triple) (f : Field) → h ≡ g
+    → f ≡ record { cells = h.n; side = h.side; parts = parts; values = replicate (3 * count_of h.n) (pos 0) } → IsForceField g f
+no_forces g h parts f same is = subst (IsForceField g) (sym is) (record {
+  cells_are = ap (λ (k : Grid). k.n) same;
+  side = ap (λ (k : Grid). k.side) same;
+  small = each_zeros most_force h.side h.n parts;
+})
+
+-- what is made for the tiles of a map is ready for the first push
+pub made_ready : (m : Tiling) (xs : List Particle) (p : Plasma) → p.frame.map ≡ m → AreFreshTiles m xs p.tiles.items → IsScratch m p.room
+    → p.frame.force_e.parts ≡ layered (cells_of m) → length p.spare.items ≡ length p.tiles.items → IfSome p.smooth (LiesOn (cells_of m) m.tiles)
+    → p.count ≡ length xs → IsPlasma xs p
+made_ready m xs p map tiles room parts spare smooth count = record {
+  tiles = subst (λ (n : Tiling). AreFreshTiles n xs p.tiles.items) (sym map) tiles;
+  room = subst (λ (n : Tiling). IsScratch n p.room) (sym map) room;
+  parts = parts ∙ ap (λ (n : Tiling). layered (cells_of n)) (sym map);
+  spare = spare ∙ tiles.count ∙ ap (λ (n : Tiling). count_of n.tiles) (sym map);
+  smooth = subst (λ (n : Tiling). IfSome p.smooth (LiesOn (cells_of n) n.tiles)) (sym map) smooth;
+  count = count;
+}

@@ -1,13 +1,21 @@
 -- What a deck says of its species is within the limits of a run's.
-use Rattle.std.proofs.Common.{ℕ, ◌<◌, length, get_or, sym, ap, ◌∙◌, subst, arith}
-use Rattle.std.proofs.lemmas.List.{get_or-map, length-map}
+use Rattle.std.proofs.Common.{◌≡◌, ℕ, ℤ, ◌+◌, ◌<◌, List, [], ◌∷◌, ◌++◌, length, get_or, map, take, sym, ap, ◌∙◌, subst, arith}
+use Rattle.std.proofs.lemmas.List.{get_or-map, length-map, map-append, take_more}
 use Rattle.std.proofs.lemmas.List.Elements.{All-from_get_or}
+use Rattle.pic_num.specs.declared.motion.Kind.{Kind}
+use Rattle.pic_num.specs.Space.{Triple}
+use Rattle.pic_num.specs.declared.axis.Axis.{Axis}
+use Rattle.pic_grid.specs.Cells.{Grid}
+use Rattle.pic_grid.specs.Lattice.{Field, IsParts, field_of}
+use Rattle.pic_grid.specs.Tiles.{AreTiles}
 use Rattle.pic_grid.specs.PushPhase.{no_kind}
 use Rattle.pic_grid.specs.Species.{IsKind, AreHeads, no_head}
 use Rattle.pic_deck.specs.declared.species.Species.{Species}
-use Rattle.pic_deck.specs.Deck.{DeckView, heads_of}
+use Rattle.pic_deck.specs.Deck.{DeckView, IsWithinLimits, deck_grid, heads_of}
 use Rattle.pic_deck.specs.Species.{head_of, no_species}
 use Rattle.pic_tile.specs.Frame.{AreKinds}
+use Rattle.pic_tile.specs.Tiling.{Tiling, grid_of_tiling, tiles_of}
+use Rattle.pic_step.specs.Kept.{IsTiled}
 use Rattle.pic_step.specs.SerialRun.{kinds_of}
 
 -- the kinds of the species are within the limits
@@ -30,4 +38,37 @@ are_kinds d heads = record {
       let few = heads.few in
       omega (arith, count, same, few);
   limits = All-from_get_or IsKind (kinds_of d) no_kind (kind_at d heads);
+}
+
+-- the kinds of one more species
+pub kinds_more : (all : List Species) (i : ℕ) (s : Species) (before after : List Kind) → i < length all → s ≡ get_or all i s
+    → before ≡ map (λ (t : Species). t.kind) (take i all) → after ≡ before ++ s.kind ∷ [] → after ≡ map (λ (t : Species). t.kind) (take (i + 1) all)
+kinds_more all i s before after below at so_far more =
+    let kind : Species → Kind = λ t. t.kind in
+    more ∙ (λ k. so_far k ++ (at k).kind ∷ []) ∙ sym (ap (map kind) (take_more all i s below) ∙ map-append kind (take i all) (get_or all i s ∷ []))
+
+-- a deck's tiles fit its cells, and are parts of them
+pub deck_tiles : (d : DeckView) (g : Grid) (t : Triple) → IsWithinLimits d → g ≡ deck_grid d → t ≡ d.tiles → AreTiles g.n t
+deck_tiles d g t limits of_grid of_tiles =
+    subst (λ (n : Triple). AreTiles n t) (sym (ap (λ (h : Grid). h.n) of_grid)) (subst (AreTiles d.cells) (sym of_tiles) limits.settings.tiles)
+
+pub deck_parts : (d : DeckView) (g : Grid) (t : Triple) → IsWithinLimits d → g ≡ deck_grid d → t ≡ d.tiles → IsParts g.n t
+deck_parts d g t limits of_grid of_tiles =
+    let fit = deck_tiles d g t limits of_grid of_tiles in
+    record {
+      x_least = fit.x.low;
+      x_whole = fit.x.divides;
+      y_least = fit.y.low;
+      y_whole = fit.y.divides;
+      z_least = fit.z.low;
+      z_whole = fit.z.divides;
+    }
+
+-- a lattice of a grid and its tiles lies in the map of these
+pub begun_tiled : (m : Tiling) (g : Grid) (t : Triple) (f : Field) (values : Axis → Triple → ℤ) → m ≡ tiles_of g t → grid_of_tiling m ≡ g
+    → f ≡ field_of g.side g.n t values → IsTiled m f
+begun_tiled m g t f values of_tiles of_grid is = record {
+  cells = ap (λ (h : Field). h.cells) is ∙ sym (ap (λ (h : Grid). h.n) of_grid);
+  side = ap (λ (h : Field). h.side) is ∙ sym (ap (λ (h : Grid). h.side) of_grid);
+  parts = ap (λ (h : Field). h.parts) is ∙ sym (ap (λ (n : Tiling). n.tiles) of_tiles);
 }

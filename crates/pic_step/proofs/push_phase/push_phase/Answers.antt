@@ -19,6 +19,18 @@ framed : (g : Over) (c : After-with_forces-frame g) → c.with_forces-frame.resu
     ≡ with_forces_of c.args.plasma.frame.map c.args.plasma.frame.kinds c.args.fields.scales.now c.args.fields.e.now c.args.fields.b.now
 framed g c = c.with_forces-frame.ensures
 
+pub with_forces-frame-requires-clause-tiled : goal.with_forces-frame-requires-clause-tiled
+with_forces-frame-requires-clause-tiled g c κs within = c.requires.can.tiled
+
+pub with_forces-frame-requires-clause-e : goal.with_forces-frame-requires-clause-e
+with_forces-frame-requires-clause-e g c κs within = c.requires.can.safe_e
+
+pub with_forces-frame-requires-clause-b : goal.with_forces-frame-requires-clause-b
+with_forces-frame-requires-clause-b g c κs within = c.requires.can.safe_b
+
+pub with_forces-frame-requires-clause-parts : goal.with_forces-frame-requires-clause-parts
+with_forces-frame-requires-clause-parts g c κs within = c.requires.can.plasma.parts
+
 pub push_tiles-requires-clause-side : goal.push_tiles-requires-clause-side
 push_tiles-requires-clause-side g c κs within =
     let is = framed g (goal.at.push_tiles-requires-clause-side g c).After-with_forces-frame in

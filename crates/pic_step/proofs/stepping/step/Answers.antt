@@ -156,6 +156,16 @@ returns-in_err-b-clause-steps g c =
     (ap (λ (v : StateView). stepped v.world) (sym c.state.view_is)
     ∙ stops_first w _ (half_one Half1 (tiles_map k) k.scales k.e k.b (Err _) tiled.of_e tiled.of_b c.in_err-b.ensures))
 
+pub of-workers-requires-clause-some : goal.of-workers-requires-clause-some
+of-workers-requires-clause-some g c = c.requires.some
+
+pub of-workers-requires-clause-most : goal.of-workers-requires-clause-most
+of-workers-requires-clause-most g c = c.requires.most
+
+-- E and B have the cells of the map
+pub advance_b-requires-clause-cells : goal.advance_b-requires-clause-cells
+advance_b-requires-clause-cells g c κs within = let tiled = c.state.invariant.tiled in tiled.of_b.cells ∙ sym tiled.of_e.cells
+
 pub advance_b-requires-clause-e_small : goal.advance_b-requires-clause-e_small
 advance_b-requires-clause-e_small g c κs within = e_small c.state.inside c.state.invariant
 
@@ -187,6 +197,10 @@ returns-in-Some-clause-steps g c =
     (whole_is (tiles_map k) c.in_ok-b.b (half_tiled g at)) first c.in_ok-pushed.ensures.pushed.pushed in
     ap (λ (v : StateView). stepped v.world) (sym c.state.view_is) ∙ stops_push w c.in-Some.stop first.none (sym free.stop_is ∙ c.in-Some.is)
 
+pub advance_b-requires-2-clause-cells : goal.advance_b-requires-2-clause-cells
+advance_b-requires-2-clause-cells g c κs within =
+    (half_tiled g (goal.at.advance_b-requires-2-clause-cells g c).In_ok-b).cells ∙ sym c.state.invariant.tiled.of_e.cells
+
 pub advance_b-requires-2-clause-e_small : goal.advance_b-requires-2-clause-e_small
 advance_b-requires-2-clause-e_small g c κs within = e_small c.state.inside c.state.invariant
 
@@ -209,6 +223,9 @@ returns-in_err-b-2-clause-steps g c =
     (ap (λ (v : StateView). stepped v.world) (sym c.state.view_is)
     ∙ stops_second w _ first.none (sym free.stop_is) (second_half w c.in_ok-b.b.values (Err _) first
     (half_one Half2 (tiles_map k) k.scales k.e c.in_ok-b.b (Err _) c.state.invariant.tiled.of_e tiled c.in_err-b-2.ensures)))
+
+pub advance_e-e-requires-clause-flux : goal.advance_e-e-requires-clause-flux
+advance_e-e-requires-clause-flux g c κs within = c.in_ok-pushed.ensures.pushed.flux
 
 -- E takes its step on the cells and the tiles of the map
 pub advance_e-e-requires-clause-b_cells : goal.advance_e-e-requires-clause-b_cells

@@ -78,6 +78,15 @@ of_blocks-flux-requires-clause-zones g c =
     (subst (λ (t : Triple). ArePartsOf (cells_of p.frame.map) t js) (sym parts)
     (flux_zones p.frame.map p.tiles.items c.swap_each_flux.new.tiles p.spare.items js (map_is g at) c.requires.flux.received (out g at) c.requires.flux.spare)))
 
+pub drive_e-e-requires-clause-cells : goal.drive_e-e-requires-clause-cells
+drive_e-e-requires-clause-cells g c κs within = c.requires.e_cells ∙ sym c.requires.b_cells
+
+pub drive_e-e-requires-clause-b_small : goal.drive_e-e-requires-clause-b_small
+drive_e-e-requires-clause-b_small g c κs within = c.requires.b_small
+
+pub drive_e-e-requires-clause-e_small : goal.drive_e-e-requires-clause-e_small
+drive_e-e-requires-clause-e_small g c κs within = c.requires.e_small
+
 pub drive_e-e-requires-clause-flux : goal.drive_e-e-requires-clause-flux
 drive_e-e-requires-clause-flux g c κs within =
     let at = goal.at.drive_e-e-requires-clause-flux g c in

@@ -7,6 +7,7 @@ use Rattle.pic_tile.specs.CoreState.{all_particles}
 use Rattle.pic_tile.specs.Held.{chains_of}
 use Rattle.pic_tile.specs.Tile.{TileValue}
 use Rattle.pic_tile.specs.Tiling.{IsMap}
+use Rattle.pic_step.specs.Sound.{IsSound}
 use Rattle.pic_step.specs.StateView.{StateView}
 use Rattle.pic_step.proofs.KeptLaws.{can_write, written_is}
 use Rattle.pic_step.proofs.state.State.fill.Goals as goal
@@ -40,3 +41,31 @@ returns-clause-particles c =
     ∙ ap (λ (ts : List TileValue). written (together (chains_of ts)) old) c.deref.ensures.value
     ∙ written_is k.step k.loops k.scales k.e k.b k.plasma (of_map at.After-tiles-tiles) c.self.invariant old (as_many at.After-deref_mut)
     ∙ ap (λ (v : StateView). v.world.particles) c.self.view_is
+
+-- the fields of the state have its cells
+cells_are : (c : After-tiles-tiles) → (c.self.inside.e.cells ≡ c.args.self.now.world.cells) × (c.self.inside.b.cells ≡ c.args.self.now.world.cells)
+cells_are c =
+    let tiled = c.self.invariant.tiled in
+    let world = ap (λ (v : StateView). v.world.cells) c.self.view_is in
+    (tiled.of_e.cells ∙ world, tiled.of_b.cells ∙ world)
+
+pub copy_from-requires : goal.copy_from-requires
+copy_from-requires c = c.requires.e_cells ∙ sym (cells_are (goal.at.copy_from-requires c).After-tiles-tiles).0
+
+pub copy_from-requires-2 : goal.copy_from-requires-2
+copy_from-requires-2 c = c.requires.b_cells ∙ sym (cells_are (goal.at.copy_from-requires-2 c).After-tiles-tiles).1
+
+pub returns-clause-sound : goal.returns-clause-sound
+returns-clause-sound c = subst (λ (v : StateView). IsSound v.world) c.self.view_is c.self.invariant.sound
+
+pub returns-clause-e : goal.returns-clause-e
+returns-clause-e c =
+    let to = c.args.to.now.e in
+    let cells = (cells_are (goal.at.returns-clause-e c).After-tiles-tiles).0 ∙ sym c.requires.e_cells in
+    c.copy_from.ensures ∙ (λ i. record { cells = cells i; side = to.side; parts = to.parts; values = (c.self.view_is i).world.e })
+
+pub returns-clause-b : goal.returns-clause-b
+returns-clause-b c =
+    let to = c.args.to.now.b in
+    let cells = (cells_are (goal.at.returns-clause-b c).After-tiles-tiles).1 ∙ sym c.requires.b_cells in
+    c.copy_from-2.ensures ∙ (λ i. record { cells = cells i; side = to.side; parts = to.parts; values = (c.self.view_is i).world.b })
