@@ -47,3 +47,10 @@ steps_on w none = ends w None none
 -- what a phase of the fields stops for isn't memory
 pub wants_none : (r : Result StateView StepStop) (s : Stop) → IsErrAnd r (λ e. e ≡ step_stop.Stop s) → r ≢ Err step_stop.NoMemory
 wants_none r s is wanted = let exit = err_from_is_err_and r is in let both = sym wanted ∙ exit.1 ∙ ap Err exit.2 in absurd cc
+
+-- nor is a stop or a state
+pub stop_wants_none : (r : Result StateView StepStop) (s : Stop) → r ≡ Err (step_stop.Stop s) → r ≢ Err step_stop.NoMemory
+stop_wants_none r s is wanted = let both = sym wanted ∙ is in absurd cc
+
+pub state_wants_none : (r : Result StateView StepStop) (v : StateView) → r ≡ Ok v → r ≢ Err step_stop.NoMemory
+state_wants_none r v is wanted = let both = sym wanted ∙ is in absurd cc

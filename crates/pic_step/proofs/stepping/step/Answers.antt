@@ -1,5 +1,5 @@
-use Rattle.std.proofs.Common.{◌≡◌, ℕ, ℤ, suc, ◌+◌, ◌<◌, List, All, refl, sym, ap, ◌∙◌, subst, Result, Ok, Err, None, Option, arith}
-use Rattle.std.proofs.lemmas.Result.{err_from_is_err_and}
+use Rattle.std.proofs.Common.{◌≡◌, true, ℕ, ℤ, suc, ◌+◌, ◌<◌, List, All, refl, sym, ap, ◌∙◌, subst, Result, Ok, Err, None, Option, arith}
+use Rattle.std.proofs.lemmas.Result.{IfOk-from_err, err_from_is_err_and}
 use Rattle.pic_num.specs.Limits.{most_loops, most_steps, most_value}
 use Rattle.pic_num.specs.Multiplier.{Multiplier}
 use Rattle.pic_num.specs.declared.axis.Axis.{Axis}
@@ -27,7 +27,7 @@ use Rattle.pic_step.specs.SerialStep.{World, around, drive_of, half_on, half_sto
 use Rattle.pic_step.specs.Sound.{IsSafe, IsSound}
 use Rattle.pic_step.specs.StateView.{StateView}
 use Rattle.pic_step.specs.Tracers.{IsOf, identities}
-use Rattle.pic_step.proofs.ExitLaws.{stops_first, stops_push, stops_second, stops_last, wants_none}
+use Rattle.pic_step.proofs.ExitLaws.{stops_first, stops_push, stops_second, stops_last, wants_none, stop_wants_none, state_wants_none}
 use Rattle.pic_step.proofs.KeptLaws.{can_push, next_is}
 use Rattle.pic_step.proofs.OnePartLaws.{whole, whole_is, half_one, driven_one, plus_tiled, tiled_after, advanced_is, safe_parts, safe_small}
 use Rattle.pic_step.proofs.StepLaws.{IsHalf, is_half, half_safe, pushed_on, IsBefore, second_half, is_before}
@@ -343,9 +343,46 @@ returns-in_err-b-clause-memory g c wanted = absurd (wants_none _ _ c.from_residu
 pub returns-in_err-pushed-clause-memory : goal.returns-in_err-pushed-clause-memory
 returns-in_err-pushed-clause-memory g c wanted =
     let first = half g (goal.at.returns-in_err-pushed-clause-memory g c).In_ok-b in (
-      subst (λ (n : ℕ). 1 < n) c.of-workers.ensures (c.in_err-pushed.ensures.alone refl),
+      subst (λ (n : ℕ). 1 < n) c.of-workers.ensures (c.in_err-pushed.ensures.alone (refl {a = true})),
       ap (λ (v : StateView). half_stop Half1 v.world) (sym c.state.view_is) ∙ first.none,
     )
 
 pub returns-in_err-b-2-clause-memory : goal.returns-in_err-b-2-clause-memory
 returns-in_err-b-2-clause-memory g c wanted = absurd (wants_none _ _ c.from_residual-in_err-b-2.ensures.1 wanted)
+
+pub returns-in-Some-clause-memory : goal.returns-in-Some-clause-memory
+returns-in-Some-clause-memory g c wanted = absurd (stop_wants_none _ _ refl wanted)
+
+pub returns-in-Err-clause-memory : goal.returns-in-Err-clause-memory
+returns-in-Err-clause-memory g c wanted = absurd (stop_wants_none _ _ refl wanted)
+
+pub returns-clause-memory : goal.returns-clause-memory
+returns-clause-memory g c wanted = absurd (state_wants_none _ _ refl wanted)
+
+-- there is no state after a stop or want of memory
+pub returns-in_err-b-clause-keeps : goal.returns-in_err-b-clause-keeps
+returns-in_err-b-clause-keeps g c = IfOk-from_err c.from_residual.result _ c.from_residual.ensures.0
+
+pub returns-in_err-b-clause-map : goal.returns-in_err-b-clause-map
+returns-in_err-b-clause-map g c = IfOk-from_err c.from_residual.result _ c.from_residual.ensures.0
+
+pub returns-in_err-b-clause-followed : goal.returns-in_err-b-clause-followed
+returns-in_err-b-clause-followed g c = IfOk-from_err c.from_residual.result _ c.from_residual.ensures.0
+
+pub returns-in_err-pushed-clause-keeps : goal.returns-in_err-pushed-clause-keeps
+returns-in_err-pushed-clause-keeps g c = IfOk-from_err c.from_residual-in_err-pushed.result _ c.from_residual-in_err-pushed.ensures.0
+
+pub returns-in_err-pushed-clause-map : goal.returns-in_err-pushed-clause-map
+returns-in_err-pushed-clause-map g c = IfOk-from_err c.from_residual-in_err-pushed.result _ c.from_residual-in_err-pushed.ensures.0
+
+pub returns-in_err-pushed-clause-followed : goal.returns-in_err-pushed-clause-followed
+returns-in_err-pushed-clause-followed g c = IfOk-from_err c.from_residual-in_err-pushed.result _ c.from_residual-in_err-pushed.ensures.0
+
+pub returns-in_err-b-2-clause-keeps : goal.returns-in_err-b-2-clause-keeps
+returns-in_err-b-2-clause-keeps g c = IfOk-from_err c.from_residual-in_err-b-2.result _ c.from_residual-in_err-b-2.ensures.0
+
+pub returns-in_err-b-2-clause-map : goal.returns-in_err-b-2-clause-map
+returns-in_err-b-2-clause-map g c = IfOk-from_err c.from_residual-in_err-b-2.result _ c.from_residual-in_err-b-2.ensures.0
+
+pub returns-in_err-b-2-clause-followed : goal.returns-in_err-b-2-clause-followed
+returns-in_err-b-2-clause-followed g c = IfOk-from_err c.from_residual-in_err-b-2.result _ c.from_residual-in_err-b-2.ensures.0
