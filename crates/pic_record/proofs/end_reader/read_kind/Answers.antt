@@ -1,4 +1,5 @@
 use Rattle.std.proofs.Common.{sym, ◌∙◌}
+use Rattle.std.proofs.lemmas.Result.{IfOk-from_err}
 use Rattle.pic_record.specs.EndFields.{code_at}
 use Rattle.pic_fields.proofs.ReadLaws.{passes, refuses, exits_checked}
 use Rattle.pic_record.proofs.end_reader.read_kind.Goals as goal
@@ -18,3 +19,6 @@ returns-clause-reads g c = record { answer = passes _ _ c.in_ok-kind.ensures.ans
 
 pub returns-clause-is : goal.returns-clause-is
 returns-clause-is g c = sym c.is_kind.ensures ∙ c.if-not-is_kind.false
+
+pub returns-in_err-kind-clause-is : goal.returns-in_err-kind-clause-is
+returns-in_err-kind-clause-is g c = IfOk-from_err _ _ c.from_residual.ensures.0

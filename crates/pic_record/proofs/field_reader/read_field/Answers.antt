@@ -1,8 +1,9 @@
-use Rattle.std.proofs.Common.{◌≡◌, ◌+◌, ◌*◌, ◌≤◌, length, take, refl, sym, ap, ◌∙◌, subst, arith}
+use Rattle.std.proofs.Common.{◌≡◌, ◌+◌, ◌*◌, ◌≤◌, length, take, refl, sym, ap, ◌∙◌, subst, arith, drop}
+use Rattle.std.proofs.lemmas.Result.{IfOk-from_err}
 use Rattle.std.proofs.Math.Seq.{take-length}
 use Rattle.pic_grid.specs.Cells.{count_of}
 use Rattle.pic_fields.specs.Parser.{each}
-use Rattle.pic_fields.specs.Reads.{HasRead}
+use Rattle.pic_fields.specs.Reads.{always, HasRead}
 use Rattle.pic_fields.proofs.ReadLaws.{read_same, read_up_to}
 use Rattle.pic_fields.proofs.EachLaws.{read_none}
 use Rattle.pic_fields.proofs.BehindLaws.{read_behind, exits_behind}
@@ -31,7 +32,9 @@ returns-in_err-read_piece_of_values-clause-reads g c =
     let count = c.min-count.result in
     let n = 3 * count_of c.args.field.now.cells in
     let fits : first + count ≤ n = omega (arith, so_far.all, so_far.most, c.min-count.ensures) in
-    exits_behind (value_at c.args.by) first count n c.from_residual.ensures.1 fits (omega (arith, fits)) so_far.read
+    let new = c.read_piece_of_values.new.field.values in
+    exits_behind (value_at c.args.by) first count n {view = always (drop first (take (first + count) new))} c.from_residual.ensures.1
+    fits (omega (arith, fits)) so_far.read
     c.in_err-read_piece_of_values.ensures.part.reads
 
 pub loop-first-preserved : goal.loop-first-preserved
@@ -43,7 +46,7 @@ loop-first-preserved g c =
     let new = c.read_piece_of_values.new.field.values in
     let piece = c.in_ok-read_piece_of_values.ensures in
     record {
-      read = read_up_to (omega arith) (read_same (part_whole first count old new piece.part.front)
+      read = read_up_to {a = take (first + count) new} (omega arith) (read_same (part_whole first count old new piece.part.front)
           (read_behind (value_at c.args.by) first count so_far.read piece.part.reads.answer));
       all = so_far.all;
       most = omega (arith, so_far.most, c.min-count.ensures);
@@ -77,3 +80,6 @@ returns-clause-bounds g c =
     let shape : length f.values ≡ 3 * count_of f.cells = so_far.length ∙ c.cells.ensures.shape ∙ ap (λ n. 3 * count_of n) (sym so_far.cells) in
     bounded_from c.args.by f shape
     (λ k d below. so_far.moderate k d (omega (arith, below, so_far.length, c.cells.ensures.shape, so_far.all, so_far.most, c.loop-first-test.false)))
+
+pub returns-in_err-read_piece_of_values-clause-bounds : goal.returns-in_err-read_piece_of_values-clause-bounds
+returns-in_err-read_piece_of_values-clause-bounds g c = IfOk-from_err _ _ c.from_residual.ensures.0

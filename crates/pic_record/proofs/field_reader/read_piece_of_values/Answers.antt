@@ -1,4 +1,5 @@
 use Rattle.std.proofs.Common.{◌≡◌, ◌*◌, length, take, refl, arith}
+use Rattle.std.proofs.lemmas.Result.{IfOk-from_err}
 use Rattle.pic_fields.proofs.FieldLaws.{exits_filling}
 use Rattle.pic_fields.proofs.PieceLaws.{reads_piece}
 use Rattle.pic_record.proofs.PartLaws.{of_values}
@@ -25,3 +26,6 @@ returns-in_err-taken-clause-part g c = record {
   whole = refl;
   front = refl;
 }
+
+pub returns-in_err-taken-clause-moderate : goal.returns-in_err-taken-clause-moderate
+returns-in_err-taken-clause-moderate g c = IfOk-from_err _ _ c.from_residual.ensures.0

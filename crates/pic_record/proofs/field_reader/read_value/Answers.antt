@@ -1,4 +1,5 @@
 use Rattle.std.proofs.Common.{◌≡◌, ℤ, refl, sym, ◌∙◌, rules, to_z, of_z}
+use Rattle.std.proofs.lemmas.Result.{IfOk-from_err}
 use Rattle.std.proofs.lemmas.Int.{to_z-of_z}
 use mir.Syntax.{w128}
 use mir.Val.{SFits}
@@ -29,3 +30,6 @@ returns-clause-reads g c =
       answer = passes _ (is_moderate c.args.by) c.in_ok-value.ensures.answer
           (sym (code_moderate c.args.by c.in_ok-value.value fits) ∙ sym c.is_moderate.ensures ∙ c.if-not-is_moderate.false);
     })
+
+pub returns-in_err-value-clause-bounds : goal.returns-in_err-value-clause-bounds
+returns-in_err-value-clause-bounds g c = IfOk-from_err _ _ c.from_residual.ensures.0

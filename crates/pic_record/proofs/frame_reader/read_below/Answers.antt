@@ -1,4 +1,5 @@
 use Rattle.std.proofs.Common.{sym, ◌∙◌}
+use Rattle.std.proofs.lemmas.Result.{IfOk-from_err}
 use Rattle.pic_record.specs.Fields.{below}
 use Rattle.pic_fields.proofs.ReadLaws.{passes, refuses, exits_checked}
 use Rattle.pic_record.proofs.frame_reader.read_below.Goals as goal
@@ -15,3 +16,6 @@ returns-then-not-is_below-clause-reads g c =
 pub returns-clause-reads : goal.returns-clause-reads
 unfolding below
 returns-clause-reads g c = record { answer = passes _ _ c.in_ok-n.ensures.answer (sym c.is_below.ensures ∙ c.if-not-is_below.false) }
+
+pub returns-in_err-n-clause-below : goal.returns-in_err-n-clause-below
+returns-in_err-n-clause-below g c = IfOk-from_err _ _ c.from_residual.ensures.0

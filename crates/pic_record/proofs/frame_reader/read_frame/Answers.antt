@@ -1,5 +1,6 @@
-use Rattle.std.proofs.Common.{◌≡◌, ◌+◌, ◌*◌, ◌++◌, length, take, drop, ap, ◌∙◌, subst, arith}
-use Rattle.std.specs.Prelude.{sum}
+use Rattle.std.proofs.Common.{◌≡◌, ◌+◌, ◌*◌, ◌++◌, length, take, drop, Result, Ok, Err, refl, ap, ◌∙◌, subst, arith}
+use Rattle.std.proofs.lemmas.Result.{IfOk-from_err}
+use Rattle.std.specs.Prelude.{sum, OnOk}
 use Rattle.pic_grid.specs.Cells.{count_of}
 use Rattle.pic_energy.specs.Energies.{energies_of}
 use Rattle.pic_fields.specs.Reads.{HasRead, Reads, as_it_is}
@@ -7,6 +8,11 @@ use Rattle.pic_fields.proofs.ReadLaws.{read_up_to, reads_up_to, reads_as, goes_o
 use Rattle.pic_record.specs.FrameFields.{field_with, field_at, particles_at, energies_at, frame_of, state_at, frame_at}
 use Rattle.pic_record.proofs.FrameLaws.{same_energies, written_over}
 use Rattle.pic_record.proofs.frame_reader.read_frame.Goals as goal
+
+-- a fact that holds whatever the result is
+on_ok : {T E P : Type 0} (r : Result T E) → P → OnOk r P
+on_ok (Ok x) p = p
+on_ok (Err e) p = tt
 
 pub returns-in_err-read_step-clause-reads : goal.returns-in_err-read_step-clause-reads
 unfolding frame_at
@@ -94,3 +100,84 @@ returns-clause-reads g c =
     let last = reads_as (frame_of c.args.due e_is.values b_is.values new) energies in
     rw whole (reads_up_to {d = energies_place + 48} (omega (arith, count, number)) (goes_on _ c.in_ok-read_step.ensures.answer
     (goes_on _ e (goes_on _ b (goes_on _ p last)))))
+
+pub returns-in_err-read_step-clause-held : goal.returns-in_err-read_step-clause-held
+returns-in_err-read_step-clause-held g c = IfOk-from_err _ _ c.from_residual.ensures.0
+
+pub returns-in_err-read_field-clause-held : goal.returns-in_err-read_field-clause-held
+returns-in_err-read_field-clause-held g c = IfOk-from_err _ _ c.from_residual-in_err-read_field.ensures.0
+
+pub returns-in_err-read_field-2-clause-held : goal.returns-in_err-read_field-2-clause-held
+returns-in_err-read_field-2-clause-held g c = IfOk-from_err _ _ c.from_residual-in_err-read_field-2.ensures.0
+
+pub returns-in_err-read_particles-clause-held : goal.returns-in_err-read_particles-clause-held
+returns-in_err-read_particles-clause-held g c = IfOk-from_err _ _ c.from_residual-in_err-read_particles.ensures.0
+
+pub returns-in_err-read_step-clause-e : goal.returns-in_err-read_step-clause-e
+returns-in_err-read_step-clause-e g c = record { cells = refl; side = refl; parts = refl }
+
+pub returns-in_err-read_step-clause-b : goal.returns-in_err-read_step-clause-b
+returns-in_err-read_step-clause-b g c = record { cells = refl; side = refl; parts = refl }
+
+pub returns-in_err-read_step-clause-particles : goal.returns-in_err-read_step-clause-particles
+returns-in_err-read_step-clause-particles g c = refl
+
+pub returns-in_err-read_field-clause-e : goal.returns-in_err-read_field-clause-e
+returns-in_err-read_field-clause-e g c = c.read_field.ensures.shape
+
+pub returns-in_err-read_field-clause-b : goal.returns-in_err-read_field-clause-b
+returns-in_err-read_field-clause-b g c = record { cells = refl; side = refl; parts = refl }
+
+pub returns-in_err-read_field-clause-particles : goal.returns-in_err-read_field-clause-particles
+returns-in_err-read_field-clause-particles g c = refl
+
+pub returns-in_err-read_field-2-clause-e : goal.returns-in_err-read_field-2-clause-e
+returns-in_err-read_field-2-clause-e g c = c.read_field.ensures.shape
+
+pub returns-in_err-read_field-2-clause-b : goal.returns-in_err-read_field-2-clause-b
+returns-in_err-read_field-2-clause-b g c = c.read_field-2.ensures.shape
+
+pub returns-in_err-read_field-2-clause-particles : goal.returns-in_err-read_field-2-clause-particles
+returns-in_err-read_field-2-clause-particles g c = refl
+
+pub returns-in_err-read_particles-clause-e : goal.returns-in_err-read_particles-clause-e
+returns-in_err-read_particles-clause-e g c = c.read_field.ensures.shape
+
+pub returns-in_err-read_particles-clause-b : goal.returns-in_err-read_particles-clause-b
+returns-in_err-read_particles-clause-b g c = c.read_field-2.ensures.shape
+
+pub returns-in_err-read_particles-clause-particles : goal.returns-in_err-read_particles-clause-particles
+returns-in_err-read_particles-clause-particles g c =
+    let new = c.read_particles.new.particles in
+    let n = c.args.state.now.particles.len in
+    let same : length new ≡ length c.args.state.now.particles.items = c.in_err-read_particles.ensures.length ∙ ap length c.as_mut_slice.ensures.value in
+    let size : length new ≡ n = omega (arith, same, c.as_mut_slice.ensures.len, ap length c.as_mut_slice.ensures.value) in
+    ap length (written_over n new (drop (length new) c.args.state.now.particles.items) size) ∙ same
+
+pub returns-clause-e : goal.returns-clause-e
+returns-clause-e g c = c.read_field.ensures.shape
+
+pub returns-clause-b : goal.returns-clause-b
+returns-clause-b g c = c.read_field-2.ensures.shape
+
+pub returns-clause-particles : goal.returns-clause-particles
+returns-clause-particles g c =
+    let new = c.read_particles.new.particles in
+    let n = c.args.state.now.particles.len in
+    let same : length new ≡ length c.args.state.now.particles.items = c.in_ok-read_particles.ensures.length ∙ ap length c.as_mut_slice.ensures.value in
+    let size : length new ≡ n = omega (arith, same, c.as_mut_slice.ensures.len, ap length c.as_mut_slice.ensures.value) in
+    ap length (written_over n new (drop (length new) c.args.state.now.particles.items) size) ∙ same
+
+pub returns-clause-held : goal.returns-clause-held
+returns-clause-held g c =
+    let new = c.read_particles.new.particles in
+    let n = c.args.state.now.particles.len in
+    let items = ap length c.as_mut_slice.ensures.value in
+    let size : length new ≡ n = omega (arith, c.in_ok-read_particles.ensures.length, c.as_mut_slice.ensures.len, items) in
+    let whole = written_over n new (drop (length new) c.args.state.now.particles.items) size in
+    on_ok c.read_piece_of_energies.result (rw whole (record {
+      electric = rw c.scales.ensures.value at c.in_ok-read_field.ensures.bounds;
+      magnetic = rw c.scales-2.ensures.value at c.in_ok-read_field-2.ensures.bounds;
+      species = c.in_ok-read_particles.ensures.species;
+      places = c.in_ok-read_particles.ensures.places;
+    }))

@@ -1,4 +1,5 @@
 use Rattle.std.proofs.Common.{◌≡◌, ℕ, ℤ, List, sym, ap, ◌∙◌, arith}
+use Rattle.std.proofs.lemmas.Result.{IfOk-from_err}
 use Rattle.pic_num.specs.declared.motion.Particle.{Particle}
 use Rattle.pic_fields.proofs.ReadLaws.{read_then, read_done, read_same, read_up_to, goes_on, exits}
 use Rattle.pic_record.specs.FrameFields.{particle_with}
@@ -37,3 +38,15 @@ returns-clause-reads g c =
 
 pub returns-clause-place : goal.returns-clause-place
 returns-clause-place g c = record { place = rw (c.cells.ensures.value, c.cells.ensures.side) at c.in_ok-x.ensures.inside }
+
+pub returns-in_err-x-clause-species : goal.returns-in_err-x-clause-species
+returns-in_err-x-clause-species g c = IfOk-from_err _ _ c.from_residual.ensures.0
+
+pub returns-in_err-x-clause-place : goal.returns-in_err-x-clause-place
+returns-in_err-x-clause-place g c = IfOk-from_err _ _ c.from_residual.ensures.0
+
+pub returns-in_err-v-clause-species : goal.returns-in_err-v-clause-species
+returns-in_err-v-clause-species g c = IfOk-from_err _ _ c.from_residual-in_err-v.ensures.0
+
+pub returns-in_err-v-clause-place : goal.returns-in_err-v-clause-place
+returns-in_err-v-clause-place g c = IfOk-from_err _ _ c.from_residual-in_err-v.ensures.0

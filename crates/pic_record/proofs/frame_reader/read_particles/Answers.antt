@@ -1,8 +1,9 @@
-use Rattle.std.proofs.Common.{◌≡◌, ◌+◌, ◌*◌, ◌≤◌, take, refl, sym, ap, ◌∙◌, subst, arith}
+use Rattle.std.proofs.Common.{◌≡◌, ◌+◌, ◌*◌, ◌≤◌, take, refl, sym, ap, ◌∙◌, subst, arith, drop}
+use Rattle.std.proofs.lemmas.Result.{IfOk-from_err}
 use Rattle.std.specs.Prelude.{sum}
 use Rattle.std.proofs.Math.Seq.{take-length}
 use Rattle.pic_fields.specs.Parser.{each}
-use Rattle.pic_fields.specs.Reads.{HasRead}
+use Rattle.pic_fields.specs.Reads.{always, HasRead}
 use Rattle.pic_fields.proofs.ReadLaws.{read_same, read_up_to}
 use Rattle.pic_fields.proofs.EachLaws.{read_none}
 use Rattle.pic_fields.proofs.BehindLaws.{read_behind, exits_behind}
@@ -28,7 +29,9 @@ returns-in_err-read_piece_of_particles-clause-reads g c =
     let count = c.min-count.result in
     let n = sum c.args.layout.now.counts in
     let fits : first + count ≤ n = omega (arith, so_far.all, so_far.most, c.min-count.ensures) in
-    exits_behind (particle_at c.args.layout.now) first count n c.from_residual.ensures.1 fits (omega (arith, fits)) so_far.read
+    let new = c.read_piece_of_particles.new.particles in
+    exits_behind (particle_at c.args.layout.now) first count n {view = always (drop first (take (first + count) new))} c.from_residual.ensures.1
+    fits (omega (arith, fits)) so_far.read
     c.in_err-read_piece_of_particles.ensures.part.reads
 
 pub loop-first-preserved : goal.loop-first-preserved
@@ -40,7 +43,7 @@ loop-first-preserved g c =
     let new = c.read_piece_of_particles.new.particles in
     let piece = c.in_ok-read_piece_of_particles.ensures in
     record {
-      read = read_up_to (omega arith) (read_same (part_whole first count old new piece.part.front)
+      read = read_up_to {a = take (first + count) new} (omega arith) (read_same (part_whole first count old new piece.part.front)
           (read_behind (particle_at c.args.layout.now) first count so_far.read piece.part.reads.answer));
       all = so_far.all;
       most = omega (arith, so_far.most, c.min-count.ensures);
@@ -74,3 +77,9 @@ pub returns-clause-places : goal.returns-clause-places
 returns-clause-places g c =
     let so_far = c.loop-first.invariant in
     λ k d below. so_far.places k d (omega (arith, below, so_far.length, c.requires.count, so_far.all, so_far.most, c.loop-first-test.false))
+
+pub returns-in_err-read_piece_of_particles-clause-species : goal.returns-in_err-read_piece_of_particles-clause-species
+returns-in_err-read_piece_of_particles-clause-species g c = IfOk-from_err _ _ c.from_residual.ensures.0
+
+pub returns-in_err-read_piece_of_particles-clause-places : goal.returns-in_err-read_piece_of_particles-clause-places
+returns-in_err-read_piece_of_particles-clause-places g c = IfOk-from_err _ _ c.from_residual.ensures.0

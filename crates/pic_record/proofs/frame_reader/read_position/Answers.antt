@@ -1,4 +1,5 @@
 use Rattle.std.proofs.Common.{sym, ◌∙◌, arith}
+use Rattle.std.proofs.lemmas.Result.{IfOk-from_err}
 use Rattle.pic_fields.proofs.ReadLaws.{read_then, read_done, read_up_to, goes_on, exits}
 use Rattle.pic_record.specs.FrameFields.{position_at}
 use Rattle.pic_record.proofs.frame_reader.read_position.Goals as goal
@@ -37,3 +38,12 @@ returns-clause-inside g c =
       z =
           c.in_ok-z.ensures.below;
     })
+
+pub returns-in_err-x-clause-inside : goal.returns-in_err-x-clause-inside
+returns-in_err-x-clause-inside g c = IfOk-from_err _ _ c.from_residual.ensures.0
+
+pub returns-in_err-y-clause-inside : goal.returns-in_err-y-clause-inside
+returns-in_err-y-clause-inside g c = IfOk-from_err _ _ c.from_residual-in_err-y.ensures.0
+
+pub returns-in_err-z-clause-inside : goal.returns-in_err-z-clause-inside
+returns-in_err-z-clause-inside g c = IfOk-from_err _ _ c.from_residual-in_err-z.ensures.0

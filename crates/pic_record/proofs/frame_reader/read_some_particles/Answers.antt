@@ -1,4 +1,5 @@
 use Rattle.std.proofs.Common.{◌≡◌, ◌+◌, ◌*◌, ◌<◌, ◌++◌, Err, length, take, drop, refl, sym, ◌∙◌, subst, arith, length-set}
+use Rattle.std.proofs.lemmas.Result.{IfOk-from_err}
 use Rattle.pic_energy.specs.Energies.{IsOfKinds}
 use Rattle.pic_fields.specs.Pieces.{each_behind}
 use Rattle.pic_fields.specs.Reads.{HasRead, Reads, as_it_is}
@@ -98,3 +99,6 @@ returns-clause-held g c =
       species = λ k d below. so_far.species k d (omega (arith, below, all));
       places = λ k d below. so_far.places k d (omega (arith, below, all));
     }
+
+pub returns-in_err-particle-clause-held : goal.returns-in_err-particle-clause-held
+returns-in_err-particle-clause-held g c = IfOk-from_err _ _ c.from_residual.ensures.0
