@@ -111,8 +111,9 @@ class Scanning(Folder):
         self.counted(3, what)
         waves = ["--wave", "1", "2", "3", "4"]
         words = [sys.executable, "-m", "pictools", *WORDS.split(), "--program", "./pic.sh", *waves]
+        # As from a prompt: what is started in the background is deaf to Ctrl-C, and so is all that it starts.
         done = subprocess.run(words, capture_output=True, text=True, cwd=self.folder, env=self.environment, timeout=600,
-                              start_new_session=True)
+                              start_new_session=True, preexec_fn=lambda: signal.signal(signal.SIGINT, signal.SIG_DFL))
         self.assertEqual(done.returncode, status, done.stderr)
         self.assertRegex(done.stderr, line)
         self.assertEqual([row["wave"] for row in self.table()], ["1", "2"])
