@@ -23,20 +23,21 @@ const WIDE: Sizes = Sizes {
 // and the length that is left.
 type Case = (&'static [u8], u64, usize, u8, usize);
 
-// The header has 124 bytes. Of the frame the first put is its start and 4095 values, 65525 bytes;
-// the second and the third are 4096 values, 65536 bytes each. The fourth is the last value, the
-// particles and the energies. Of 2728 particles those fill the room to its last byte, and the next
-// put is the end record's. With one more the energies are a put of their own.
+// The header has 124 bytes. A row of 16 values is put into the room as one, of 256 bytes: of the frame
+// the first put is its start and 255 rows, 65285 bytes; the second and the third are 256 rows, 65536
+// bytes each. The fourth is the last row, the particles and the energies. Of 2718 particles those fill
+// the room to its last byte, and the next put is the end record's. With one more the energies are a
+// put of their own.
 const CASES: [Case; 9] = [
-    (b"2728", NEVER, 0, 0, 262263),
-    (b"2728", 3, 65535, 5, 196720),
-    (b"2728", 4, 0, 5, 196721),
-    (b"2728", 4, 65535, 5, 262256),
-    (b"2728", 5, 0, 5, 262257),
-    (b"2729", NEVER, 0, 0, 262287),
-    (b"2729", 5, 0, 5, 262233),
-    (b"2729", 5, 47, 5, 262280),
-    (b"2729", 6, 0, 5, 262281),
+    (b"2718", NEVER, 0, 0, 262023),
+    (b"2718", 3, 65535, 5, 196480),
+    (b"2718", 4, 0, 5, 196481),
+    (b"2718", 4, 65535, 5, 262016),
+    (b"2718", 5, 0, 5, 262017),
+    (b"2719", NEVER, 0, 0, 262047),
+    (b"2719", 5, 0, 5, 261993),
+    (b"2719", 5, 47, 5, 262040),
+    (b"2719", 6, 0, 5, 262041),
 ];
 
 fn check_case<H: AllocGlobal + Abort + Threads + Sync>(rt: &H, case: &Case) {
