@@ -8,3 +8,4 @@ pub mod FirstLaws
 pub mod AxisLaws
 pub mod VersionLaws
 mod PushRows
+pub mod WordLaws
