@@ -1,5 +1,5 @@
 -- The spellings of numbers.
-use Rattle.std.proofs.Common.{◌≡◌, ℕ, ℤ, zero, suc, ◌+◌, ◌-◌, ◌*◌, ◌/◌, ◌%◌, ◌^◌, ◌<◌, ◌≤◌, Bool, true, List, [], ◌∷◌, ◌++◌}
+use Rattle.std.proofs.Common.{◌≡◌, ℕ, ℤ, zero, suc, ◌+◌, ◌*◌, ◌/◌, ◌%◌, ◌^◌, ◌<◌, ◌≤◌, Bool, true, List, [], ◌∷◌, ◌++◌}
 use Rattle.std.proofs.Common.{length, get_or, take, refl, sym, ap, subst, ◌∙◌, arith, append-nil, add-one, to_z, of_z}
 use Rattle.std.specs.Prelude.{nat_eq}
 use Rattle.std.specs.List.{flat_map}
@@ -8,12 +8,13 @@ use Rattle.std.proofs.lemmas.Bool.{eqb-true, eq-eqb}
 use Rattle.std.proofs.lemmas.List.{length-take-le, take_more}
 use Rattle.std.specs.Int.{w32, w64, w128, byte_at as digit, bytes_high_first, to_be_bytes, from_be_bytes}
 use Rattle.std.proofs.Math.Facts.{Fits-of_z, Fits-of_lt, sfits_to_z, to_z-of_z, of_z-to_z}
-use Rattle.std.proofs.Math.Nat.{add-mul-div_right, div-one, mod-lt, mul_assoc, one-le-pow}
-use Rattle.std.proofs.lemmas.Nat.{be_bytes_4, be_bytes_8, from_be_bytes-to_be_bytes_4, from_be_bytes-to_be_bytes_8, div-mul-add, pow-add}
+use Rattle.std.proofs.Math.Nat.{mod-lt, mul-add-mod_self_right}
+use Rattle.std.proofs.lemmas.Nat.{be_bytes_4, be_bytes_8, from_be_bytes-to_be_bytes_4, from_be_bytes-to_be_bytes_8, div-mul-add}
 use Rattle.byteorder.specs.Endian.{big_from}
 use Rattle.byteorder.specs.Numbers.{big_from-cons, big_from-lt, big_number-reads_back}
 use mir.Val.{SFits}
 use Rattle.pic_num.specs.Bytes.{u32_bytes, i32_bytes, u128_bytes, i128_bytes}
+use Rattle.pic_num.proofs.WordLaws.{byte_at-pow, bytes-low}
 use Rattle.pic_fields.specs.Parser.{mapped, field}
 use Rattle.pic_fields.specs.Number.{byte_of, u32_of, i32_of, i64_of, u128_of, i128_of, byte_at, u32_at, i32_at, i64_at, i64_bytes, u128_at, i128_at}
 use Rattle.pic_fields.specs.Number.{is_from_to, within, is_between, between, is_at_most, at_most, letter, exactly}
@@ -28,38 +29,16 @@ pub spells_number : {B : Type 0} (n : ℕ) (read : List ℕ → B) (spell : B �
     → Spells (mapped read (field n)) spell Fits
 spells_number n read spell Fits size back fits forth = spells_mapped read spell Fits size back fits forth (spells_field n)
 
--- a byte of a number, by its place
-digit-pow : (k x : ℕ) → digit k x ≡ x / 256 ^ k % 256
-digit-pow zero x = ap (λ (y : ℕ). y % 256) (sym (div-one x))
-digit-pow (suc k) x = refl
-
 small_bytes : (n x : ℕ) → IsBytes (bytes_high_first n x)
 small_bytes zero x i = omega arith
-small_bytes (suc n) x zero = (let small : x / 256 ^ n % 256 < 256 = mod-lt (x / 256 ^ n) (omega arith) in rw (digit-pow n x) small)
+small_bytes (suc n) x zero = (let small : x / 256 ^ n % 256 < 256 = mod-lt (x / 256 ^ n) (omega arith) in rw (byte_at-pow n x) small)
 small_bytes (suc n) x (suc i) = small_bytes n x i
 
-pow_pos256 : (n : ℕ) → zero < 256 ^ n
-pow_pos256 n = let h = one-le-pow n 256 (omega arith) in omega (arith, h)
-
 -- the low bytes of a number don't depend on what stands above them
-digit_same : (k j c m : ℕ) → digit k (c * 256 ^ (suc j + k) + m) ≡ digit k m
-digit_same k j c m =
-    let high : c * 256 ^ (suc j + k) ≡ c * 256 ^ suc j * 256 ^ k = ap (λ p. c * p) (pow-add 256 (suc j) k) ∙ sym (mul_assoc c (256 ^ suc j) (256 ^ k)) in
-    let turned : c * 256 ^ (suc j + k) + m ≡ m + c * 256 ^ suc j * 256 ^ k = omega (arith, high) in
-    let divided : (c * 256 ^ (suc j + k) + m) / 256 ^ k ≡ m / 256 ^ k + c * 256 ^ suc j =
-    ap (λ (y : ℕ). y / 256 ^ k) turned ∙ add-mul-div_right m (c * 256 ^ suc j) (pow_pos256 k) in
-    let whole : c * 256 ^ suc j ≡ c * 256 ^ j * 256 = ap (λ e. c * 256 ^ e) (sym (add-one j)) ∙ ap (λ p. c * p) (pow-add 256 j 1)
-    ∙ sym (mul_assoc c (256 ^ j) 256) in
-    digit-pow k (c * 256 ^ (suc j + k) + m) ∙ ap (λ (y : ℕ). y % 256) divided ∙ omega (arith, whole) ∙ sym (digit-pow k m)
-
-bytes_same : (k n c m : ℕ) → k ≤ n → bytes_high_first k (c * 256 ^ n + m) ≡ bytes_high_first k m
-bytes_same zero n c m most = refl
-bytes_same (suc k) n c m most =
-    let j = n - suc k in
-    let is : suc j + k ≡ n = omega (arith, most) in
-    let head = ap (λ (e : ℕ). digit k (c * 256 ^ e + m)) (sym is) ∙ digit_same k j c m in
-    let rest = bytes_same k n c m (omega (arith, most)) in
-    λ i. head i ∷ rest i
+bytes_same : (n c m : ℕ) → bytes_high_first n (c * 256 ^ n + m) ≡ bytes_high_first n m
+bytes_same n c m =
+    sym (bytes-low n n (c * 256 ^ n + m) (omega arith)) ∙ ap (λ (r : ℕ). bytes_high_first n r) (mul-add-mod_self_right c (256 ^ n) m)
+    ∙ bytes-low n n m (omega arith)
 
 -- the bytes of the number that some bytes give
 written_back : (n : ℕ) (bytes : List ℕ) → length bytes ≡ n → IsBytes bytes → bytes_high_first n (big_from 0 n bytes) ≡ bytes
@@ -72,8 +51,8 @@ written_back (suc n) (b ∷ bytes) size small =
     let first = small 0 in
     let number : big_from 0 (suc n) (b ∷ bytes) ≡ b * 256 ^ n + m = ap (λ (r : ℕ). b * 256 ^ n + r) (big_from-cons 0 n b bytes) in
     let high : (b * 256 ^ n + m) / 256 ^ n % 256 ≡ b = ap (λ (y : ℕ). y % 256) (div-mul-add b (256 ^ n) m below) ∙ omega (arith, first) in
-    let head : digit n (b * 256 ^ n + m) ≡ b = digit-pow n (b * 256 ^ n + m) ∙ high in
-    let rest : bytes_high_first n (b * 256 ^ n + m) ≡ bytes = bytes_same n n b m (omega arith)
+    let head : digit n (b * 256 ^ n + m) ≡ b = byte_at-pow n (b * 256 ^ n + m) ∙ high in
+    let rest : bytes_high_first n (b * 256 ^ n + m) ≡ bytes = bytes_same n b m
     ∙ written_back n bytes (omega (arith, size)) (λ k. small (suc k)) in
     ap (bytes_high_first (suc n)) number ∙ (λ i. head i ∷ rest i)
 

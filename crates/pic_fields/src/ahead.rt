@@ -34,6 +34,7 @@ impl<'a> Ahead<'a> {
 impl<'a> Source for Ahead<'a> {
     ghost told = { piece_told };
 
+    #[inline(always)]
     fn take(&mut self, room: &mut [u8]) -> Result<usize, Failed>
         ensures bound { IfOk result (λ n. n ≤ length room.new) }
         ensures bytes { Takes (piece_told self.old) (piece_told self.new) room.new result }
@@ -41,7 +42,13 @@ impl<'a> Source for Ahead<'a> {
 
         ensures count { IfOk result (λ n. n ≡ min (length room.old) (length self.old)) }
     {
-        let count = room.len().min(self.bytes.len());
+        let wanted = room.len();
+        if wanted <= self.bytes.len() {
+            room.copy_from_slice(&self.bytes[..wanted]);
+            self.bytes = &self.bytes[wanted..];
+            return Ok(wanted);
+        }
+        let count = self.bytes.len();
         room[..count].copy_from_slice(&self.bytes[..count]);
         self.bytes = &self.bytes[count..];
         Ok(count)

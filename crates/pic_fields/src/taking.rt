@@ -11,6 +11,7 @@ use pic_io::{Failed, Source};
 
 /// Fills the room from its front, and returns how many bytes came: fewer only at the end of the
 /// input. No more are taken.
+#[inline(always)]
 pub fn fill<S: Source>(source: &mut S, room: &mut [u8]) -> Result<usize, ReadStop>
     ensures length { length room.new ≡ length room.old }
     ensures fills { Fills (S.told source.old) (S.told source.new) room.new result }
@@ -29,6 +30,7 @@ pub fn fill<S: Source>(source: &mut S, room: &mut [u8]) -> Result<usize, ReadSto
 /// Fills the room with the bytes of a field that begins at `place`.
 ///
 /// A field that the end of the input cuts is cause 9 at that end.
+#[inline(always)]
 pub fn take_field<S: Source>(source: &mut S, place: u64, room: &mut [u8]) -> Result<(), ReadStop>
     requires { place + length room.old < 2 ^ 63 }
     ensures length { length room.new ≡ length room.old }
