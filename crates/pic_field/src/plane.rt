@@ -149,6 +149,7 @@ fn is_own(first: usize, lines: usize, j: usize) -> bool
 
 /// Scales what a curl reads of a line whose rooms begin with the cell `at`: one of a strip's own,
 /// or else the line beside it in y.
+#[inline(always)]
 fn scale_line(from: &Scaled, at: [u32; 3], span: Span, own: bool, to: &mut Line)
     requires within { IsWithin (triple at) from.now.field.now.cells }
     requires span { IsSpan span }
@@ -187,6 +188,7 @@ fn scale_own(from: &Scaled, at: [u32; 3], span: Span, to: &mut Line)
 }
 
 /// Scales what a curl reads of a line beside it in z.
+#[inline(always)]
 fn scale_next(from: &Scaled, at: [u32; 3], span: Span, to: &mut Line)
     requires within { IsWithin (triple at) from.now.field.now.cells }
     requires span { IsSpan span }
