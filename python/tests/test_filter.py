@@ -112,6 +112,17 @@ class Filter(unittest.TestCase):
             with self.subTest(number=number):
                 self.assertEqual(call("verify", given=changed(whole[1], 64, number.to_bytes(4, "big"))), said(*answer))
 
+    def test_workers_share_the_cells(self):
+        """On 16384 cells four workers share each phase of the fields; on fewer than 8192 one does it alone."""
+        rows = [[2, i, j, 8, 1000003 * (7 * i + 13 * j + 1)] for i in range(0, 32, 4) for j in range(0, 32, 4)]
+        text = FILTERED.replace("[4, 4, 4]", "[32, 32, 16]").replace("steps = 1", "steps = 2") + f"\n[field]\nfaces = {rows}\n"
+        text = text.replace("e_to_b = [0, 0]", "e_to_b = [1, 2]").replace("b_to_e = [0, 0]", "b_to_e = [1, 1]")
+        whole = Model(text).run()
+        self.assertEqual(whole[0], 0)
+        for workers in "1", "2", "4", "64":
+            with self.subTest(workers=workers):
+                self.assertEqual(call("run", "--workers", workers, given=text.encode()), whole)
+
     def test_refused(self):
         for old, new, line in REFUSED:
             with self.subTest(line):

@@ -7,7 +7,7 @@ use pic_grid::Cells;
 use pic_num::Workers;
 
 /// The fewest cells that a worker is given: for two groups of fewer no thread is made.
-const CELLS_OF_A_WORKER: u32 = 1 << 10;
+const CELLS_OF_A_WORKER: u32 = 1 << 12;
 
 /// How many of the workers have enough to do: a block each at least, and about
 /// `CELLS_OF_A_WORKER` cells.
