@@ -1,5 +1,5 @@
 -- Layers of a block: the values of one block laid over some of another's.
-use Rattle.std.specs.Prelude.{◌≡◌, ◌≢◌, ℕ, ℤ, pos, ◌+◌, ◌-◌, ◌≤◌, ◌+ℤ◌, ◌&&◌, Bool, nat_le, nat_lt, if◌then◌else◌, List, slice_index_or, ◌^◌}
+use Rattle.std.specs.Prelude.{◌≡◌, ℕ, ℤ, pos, ◌+◌, ◌-◌, ◌≤◌, ◌+ℤ◌, ◌&&◌, Bool, nat_le, nat_lt, if◌then◌else◌, List, slice_index_or, ◌^◌}
 use Rattle.pic_num.specs.declared.axis.Axis.{Axis}
 use Rattle.pic_num.specs.Sizes.{IsAtMost}
 use Rattle.pic_num.specs.Space.{Triple}
@@ -39,13 +39,6 @@ layer_of n values offset a p =
 pub record AddsLayers (old now from : BlockValues) (offset : Triple) : Type 0 where
   pub at : (a : Axis) (p : Triple) → IsWithin p old.size
       → inner_at now a p ≡ inner_at old a p +ℤ layer_of from.size from.values offset a p
-
--- values of m layers before and after those of n on one axis are added, laid so far from the lowest cell
-pub record AddsOnAxis (m n offset : Triple) (axis : Axis) (from old now : List ℤ) : Type 0 where
-  pub here : (p : Triple) → IsWithin p m
-      → inner_at (box_of m now) axis p ≡ inner_at (box_of m old) axis p +ℤ layer_of n from offset axis p
-  pub others : (a : Axis) (p : Triple) → IsWithin p m → a ≢ axis
-      → inner_at (box_of m now) a p ≡ inner_at (box_of m old) a p
 
 -- where blocks are added, the components of both are at most 2^120 in size
 abbrev pub most_of_layer : ℕ

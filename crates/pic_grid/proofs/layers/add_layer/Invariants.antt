@@ -1,5 +1,5 @@
 use Rattle.std.proofs.Common.{◌≡◌, ◌+◌, ◌*◌}
-use Rattle.pic_grid.proofs.BlockRowLaws.{LayerAdded}
+use Rattle.pic_grid.proofs.BlockRowLaws.{RowsAdded}
 use Rattle.pic_grid.proofs.layers.add_layer.Given as goal
 
 -- the walk stands at the row of its number, and the rows so far are added
@@ -7,5 +7,5 @@ abbrev pub invariant-loop-y : goal.invariant-loop-y
 invariant-loop-y l = record {
   at : l.here ≡ l.fn.at + l._y * l.step;
   from : l.there ≡ l.fn.start + l._y * l.count;
-  added : LayerAdded l.from l.initial.to l.fn.at l.step l.fn.start l.count l._y l.to;
+  added : RowsAdded l.from l.initial.to l.fn.at l.apart l.step l.fn.start l.from_apart l.count l._y l.to;
 }

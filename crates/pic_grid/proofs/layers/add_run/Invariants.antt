@@ -1,5 +1,5 @@
 use Rattle.pic_grid.proofs.BlockRowLaws.{RowAdded}
-use Rattle.pic_grid.proofs.layers.add_row.Given as goal
+use Rattle.pic_grid.proofs.layers.add_run.Given as goal
 
 -- the numbers so far are added
 abbrev pub invariant-loop-x : goal.invariant-loop-x
