@@ -1,10 +1,11 @@
 //! A parcel merged into the tile that it goes to, and a tile that has all of them.
 
-ghost use Rattle.std.specs.Prelude.{◌≡◌, ◌^◌, ◌++◌, ◌⊎◌, ℕ, pos, ◌<◌, Bool, List, [], Some, None, IsSome, IfOk};
+ghost use Rattle.std.specs.Prelude.{◌≡◌, ◌^◌, ◌*◌, ◌++◌, ◌⊎◌, ℕ, pos, ◌<◌, Bool, List, [], replicate, Some, None, IsSome, IfOk, IsTrue};
 ghost use Rattle.pic_grid.specs.BlockLayers.{most_of_layer};
 ghost use Rattle.pic_num.specs.declared.motion.Particle.{Particle};
 ghost use Rattle.pic_num.specs.Space.{triple, spot};
 ghost use Rattle.pic_grid.specs.Block.{AllAtMost, IsShaped};
+ghost use Rattle.pic_grid.specs.Cells.{count_of};
 ghost use Rattle.pic_grid.specs.PushPhase.{Surroundings};
 ghost use Rattle.pic_tile.specs.Same.{Same};
 ghost use Rattle.pic_merge.specs.Pouring.{Poured};
@@ -63,8 +64,48 @@ pub fn shut(tile: &mut Tile)
 }
 
 /// Adds the flux of a parcel that comes in its direction to that of the parcel of no step, whose zone
-/// it answers, and moves the particles into its chain.
+/// it answers, and moves the particles into its chain. One that brings nothing is passed over.
 fn pour(tile: &mut Tile, from: &mut Parcel) -> Zone
+    requires there { IsSome (parcel_at tile.old here) }
+    requires zone { IsTileZone (flux_at tile.old here).low (flux_at tile.old here).size }
+    requires layers { from.old.flux.size ≡ layers_size (flux_at tile.old here).size from.old.dir }
+    requires room { AllAtMost most_of_layer (flux_at tile.old here) }
+    requires small { AllAtMost most_of_layer from.old.flux }
+    ensures low { spot result.low ≡ (flux_at tile.old here).low }
+    ensures size { triple result.size ≡ (flux_at tile.old here).size }
+    ensures left { from.new ≡ record from.old { chain = [] } }
+    ensures poured { Poured from.old.dir from.old.chain from.old.flux tile.old tile.new }
+{
+    if brings_nothing(from) {
+        return zone_here(tile);
+    }
+    pour_some(tile, from)
+}
+
+/// Whether a parcel is known to have no particles and no flux.
+fn brings_nothing(parcel: &Parcel) -> bool
+    ensures chain { IsTrue result → parcel.now.chain ≡ [] }
+    ensures flux { IsTrue result
+        → parcel.now.flux.values ≡ replicate (3 * count_of parcel.now.flux.size) (pos 0) }
+{
+    parcel.flux.is_blank() && parcel.chain.is_empty()
+}
+
+/// The zone of the flux of the parcel of no step.
+fn zone_here(tile: &Tile) -> Zone
+    requires { IsSome (parcel_at tile.now here) }
+    ensures low { spot result.low ≡ (flux_at tile.now here).low }
+    ensures size { triple result.size ≡ (flux_at tile.now here).size }
+{
+    match tile.parcel(Dir::HERE) {
+        Some(parcel) => parcel.flux.zone(),
+        None => unreachable!(),
+    }
+}
+
+/// The same of a parcel that may bring something: that of no step is taken out for it, and put back.
+#[inline(never)]
+fn pour_some(tile: &mut Tile, from: &mut Parcel) -> Zone
     requires there { IsSome (parcel_at tile.old here) }
     requires zone { IsTileZone (flux_at tile.old here).low (flux_at tile.old here).size }
     requires layers { from.old.flux.size ≡ layers_size (flux_at tile.old here).size from.old.dir }
