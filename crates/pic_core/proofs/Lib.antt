@@ -12,5 +12,6 @@ pub mod RunLaws
 pub mod StartLaws
 pub mod TurnLaws
 pub mod AtLaws
+pub mod BesideLaws
 pub mod WorkerLaws
 pub mod ScratchLaws

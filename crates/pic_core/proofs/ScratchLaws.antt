@@ -2,14 +2,17 @@
 use Rattle.std.proofs.Common.{◌≡◌, ◌≢◌, ℕ, ◌+◌, ◌*◌, ◌/◌, ◌%◌, ◌<◌, true, false, inl, inr, List, length}
 use Rattle.std.proofs.Common.{get_or, slice_set, replicate, Option, None, sym, ap, ◌∙◌, subst, arith}
 use Rattle.std.proofs.lemmas.Bool.{cases_lt}
-use Rattle.std.proofs.lemmas.List.{get_or-set_same, get_or-set_other, get_or-replicate, length-replicate, ext_get_or}
+use Rattle.std.proofs.lemmas.List.{get_or-set_same, get_or-set_other, get_or-replicate, length-replicate, length-set, ext_get_or}
+use Rattle.std.proofs.Math.Decide.{ℕ_discrete}
 use Rattle.pic_grid.specs.Block.{AllAtMost}
 use Rattle.pic_grid.specs.Traces.{most_flux}
 use Rattle.pic_tile.specs.declared.parcel.Parcel.{Parcel}
-use Rattle.pic_tile.specs.CoreState.{CoreState, Stands, AreAllShut, tile_count, slot_of, is_merged, mail_at, merged_into, all_particles, first_particles}
+use Rattle.pic_tile.specs.CoreState.{CoreState, Stands, AreAllShut, tile_count, slot_of, is_merged, merged_into, all_particles, first_particles}
 use Rattle.pic_tile.specs.Directions.{directions, here}
 use Rattle.pic_tile.specs.Frame.{felt_in}
 use Rattle.pic_tile.specs.Tile.{TileValue, flux_of, flux_at, no_tile, parcel_at, tile_in}
+use Rattle.pic_tile.specs.Tiling.{neighbour_of}
+use Rattle.pic_tile.proofs.AllTilesLaws.{neighbour_below}
 use Rattle.pic_tile.proofs.ExchangedLaws.{shared_out}
 use Rattle.pic_tile.proofs.OpeningLaws.{opening_inside, felt_side, felt_cells}
 use Rattle.pic_tile.proofs.ReceivedLaws.{merged_in_bound}
@@ -37,30 +40,32 @@ all_set {X = X} x xs n long done =
     ext_get_or x xs (replicate n x) (long ∙ sym all) (λ k below.
     done k (omega (arith, below, long)) ∙ sym (get_or-replicate {A = X} n k x x (omega (arith, below, long))))
 
--- Tiles are made bare, one after another.
+-- Tiles without parcels are numbered, one after another.
 
 pub record AreBareBelow (i : ℕ) (tiles : List TileValue) : Type 0 where
   pub numbers : (r : ℕ) → r < i → (tile_in tiles r).number ≡ r
-  pub none : (r d : ℕ) → r < i → d < directions → parcel_at (tile_in tiles r) d ≡ None
+  pub none : (r d : ℕ) → r < length tiles → d < directions → parcel_at (tile_in tiles r) d ≡ None
 
-pub bare_below : (tiles : List TileValue) → AreBareBelow 0 tiles
-bare_below tiles = record { numbers = λ r below. absurd (omega (arith, below)); none = λ r d below within. absurd (omega (arith, below)) }
+pub bare_below : (tiles : List TileValue) → ((r d : ℕ) → r < length tiles → d < directions → parcel_at (tile_in tiles r) d ≡ None) → AreBareBelow 0 tiles
+bare_below tiles none = record { numbers = λ r below. absurd (omega (arith, below)); none = none }
 
-pub bare_more : (tiles : List TileValue) (i : ℕ) (t : TileValue) → i < length tiles → AreBareBelow i tiles → t.number ≡ i → ((d : ℕ) → parcel_at t d ≡ None)
-    → AreBareBelow (i + 1) (slice_set tiles i t)
+pub bare_more : (tiles : List TileValue) (i : ℕ) (t : TileValue) → i < length tiles → AreBareBelow i tiles → t.number ≡ i
+    → ((d : ℕ) → d < directions → parcel_at t d ≡ None) → AreBareBelow (i + 1) (slice_set tiles i t)
 bare_more tiles i t inside done number none = record {
-  numbers = λ r below. elim (cases_lt r i) [
-    | inl less ↦ ap (λ (u : TileValue). u.number) (other r less) ∙ done.numbers r less
-    | inr more ↦ (let same : r ≡ i = omega (arith, below, more) in ap (λ (u : TileValue). u.number) (this r same) ∙ number ∙ sym same)
+  numbers = λ r below. elim (ℕ_discrete r i) [
+    | yes same ↦ ap (λ (u : TileValue). u.number) (this r same) ∙ number ∙ sym same
+    | no apart ↦ ap (λ (u : TileValue). u.number) (other r apart) ∙ done.numbers r (omega (arith, below, apart))
   ];
-  none = λ r d below within. elim (cases_lt r i) [
-    | inl less ↦ ap (λ (u : TileValue). parcel_at u d) (other r less) ∙ done.none r d less within
-    | inr more ↦ (let same : r ≡ i = omega (arith, below, more) in ap (λ (u : TileValue). parcel_at u d) (this r same) ∙ none d)
+  none = λ r d below within. elim (ℕ_discrete r i) [
+    | yes same ↦ ap (λ (u : TileValue). parcel_at u d) (this r same) ∙ none d within
+    | no apart ↦
+        ap (λ (u : TileValue). parcel_at u d) (other r apart)
+        ∙ done.none r d (let long = length-set {A = TileValue} tiles i t in omega (arith, below, long)) within
   ];
 }
   where
-    other : (r : ℕ) → r < i → tile_in (slice_set tiles i t) r ≡ tile_in tiles r
-    other r less = get_or-set_other {A = TileValue} tiles i r t no_tile (λ e. absurd (omega (arith, less, e)))
+    other : (r : ℕ) → (r ≡ i → ⊥) → tile_in (slice_set tiles i t) r ≡ tile_in tiles r
+    other r apart = get_or-set_other {A = TileValue} tiles i r t no_tile apart
 
     this : (r : ℕ) → r ≡ i → tile_in (slice_set tiles i t) r ≡ t
     this r same = ap (tile_in (slice_set tiles i t)) same ∙ get_or-set_same {A = TileValue} tiles i t no_tile inside
@@ -69,13 +74,20 @@ pub bare_all : (tiles : List TileValue) (i n : ℕ) → i ≡ n → length tiles
 bare_all tiles i n is long done = record {
   long = long;
   numbers = λ r below. done.numbers r (omega (arith, is, below));
-  none = λ r d below within. done.none r d (omega (arith, is, below)) within;
+  none = λ r d below within. done.none r d (omega (arith, long, below)) within;
 }
 
 -- When all tiles are shut.
 module _ (s : CoreState) (h : Stands s) (all : AreAllShut s) where
   merged_all : (r d : ℕ) → r < tile_count s → d < directions → is_merged s r d ≡ true
   merged_all r d below within = h.turn.over r below (all r below) d within
+
+  -- no claimer has a parcel any more
+  pub no_parcels : (r d : ℕ) → r < tile_count s → d < directions → parcel_at (tile_in s.tiles r) d ≡ None
+  no_parcels r d below within =
+      let to = neighbour_of s.frame.map.tiles r d in
+      let inside : to < tile_count s = neighbour_below s.frame.map.tiles r d below in
+      h.place.gone r d below within (h.turn.ready to d inside within (merged_all to d inside within) d within)
 
   -- nothing is in the mail
   no_mail : s.mail ≡ replicate (tile_count s * directions) None

@@ -77,12 +77,11 @@ module _ (s : CoreState) (t d to : ℕ) (is : to ≡ goal_of s t d) (below : t <
       merged_next s t d (up_to i) below within at i (up_to (i + 1)) next stands.places among
       (subst (λ (k : ℕ). Merges s k i next) is (subst (λ (j : ℕ). Merges s to j next) same merges)) (up_now i) (λ f inside apart. up_other i f apart)
 
-  pub merge_ran : (i e : ℕ) (next : CoreState) → e ≡ i → (i ≡ here → ⊥) → CanMerge s to e → Merges s to e next → Stands next
-      → Ran s (merging_at (goal_of s t d) i) next
+  pub merge_ran : (i e : ℕ) (next : CoreState) → e ≡ i → (i ≡ here → ⊥) → CanMerge s to e → Merges s to e next → Stands next → Ran s (merging_at to i) next
   merge_ran i e next same apart can merges stands =
       let one : Ran s (Merge to e ∷ []) next = ran_event s (Merge to e) next can merges stands in
-      let list : Merge to e ∷ [] ≡ merging_at (goal_of s t d) i =
-      (λ k. Merge (is k) (same k) ∷ []) ∙ ap (λ (b : Bool). cond b [] (Merge (goal_of s t d) i ∷ [])) (sym (ne_eqb i here apart)) in
+      let list : Merge to e ∷ [] ≡ merging_at to i =
+      ap (λ (j : ℕ). Merge to j ∷ []) same ∙ ap (λ (b : Bool). cond b [] (Merge to i ∷ [])) (sym (ne_eqb i here apart)) in
       subst (λ (es : List Event). Ran s es next) list one
 
   pub shut_can : IsFinishing t d (up_to directions) s → CanShut s to
@@ -99,17 +98,12 @@ passed_ran s r i same =
     subst (λ (es : List Event). Ran s es s) (ap (λ (b : Bool). cond b [] (Merge r i ∷ [])) (sym (eq-eqb i here same))) (ran_none s)
 
 -- all merges of a tile and its shutting
-pub finish_ran : (s one two next : CoreState) (t d to : ℕ) → to ≡ goal_of s t d → CanMerge s to here → Merges s to here one → Stands one
-    → Ran one (merging (goal_of one t d) directions) two → CanShut two to → next ≡ after_shut two to → Stands next
-    → Ran s (finishing (goal_of s t d)) next
-finish_ran s one two next t d to is can merges stands ran shut done last =
-    let same : goal_of one t d ≡ to = goal_same s one t d (ap (λ (z : CoreState). z.frame) merges.is) ∙ sym is in
-    let middle : Ran one (merging to directions) two = subst (λ (k : ℕ). Ran one (merging k directions) two) same ran in
+pub finish_ran : (s one two next : CoreState) (to : ℕ) → CanMerge s to here → Merges s to here one → Stands one → Ran one (merging to directions) two
+    → CanShut two to → next ≡ after_shut two to → Stands next → Ran s (finishing to) next
+finish_ran s one two next to can merges stands ran shut done last =
     let end : Ran two (Shut to ∷ []) next = ran_event two (Shut to) next shut done last in
-    let all : Ran s (finishing to) next =
     ran_append s (Merge to here ∷ []) (merging to directions ++ (Shut to ∷ [])) one next (ran_event s (Merge to here) one can merges stands)
-    (ran_append one (merging to directions) (Shut to ∷ []) two next middle end) in
-    subst (λ (k : ℕ). Ran s (finishing k) next) is all
+    (ran_append one (merging to directions) (Shut to ∷ []) two next ran end)
 
 -- After a post all that lead to its tile are posted exactly where the tile is complete.
 module _ (s : CoreState) (t d to : ℕ) (marks : List Bool) (below : t < tile_count s) (within : d < directions) (at : IsAt (t + 1) (slot_of t d) (slot_of t d) s)
@@ -134,11 +128,10 @@ module _ (s : CoreState) (t d to : ℕ) (marks : List Bool) (below : t < tile_co
             marked e inside ∙ all_at directions (λ f. nat_lt (turn_of s.frame.map (goal_of s t d) f) (slot_of t d + 1)) e all inside)))
 
 -- A post, and what follows it.
-pub post_ran_last : (s one next : CoreState) (t d : ℕ) → CanPost s t d → one ≡ after_post s t d → Stands one
-    → is_complete s.frame.map (slot_of t d + 1) (goal_of s t d) ≡ true → Ran one (finishing (goal_of one t d)) next → Ran s (posting s.frame.map t d) next
-post_ran_last s one next t d can done stands all ran =
-    let same : goal_of one t d ≡ goal_of s t d = goal_same s one t d (ap (λ (z : CoreState). z.frame) done) in
-    let rest : Ran one (finishing (goal_of s t d)) next = subst (λ (k : ℕ). Ran one (finishing k) next) same ran in
+pub post_ran_last : (s one next : CoreState) (t d to : ℕ) → to ≡ goal_of s t d → CanPost s t d → one ≡ after_post s t d → Stands one
+    → is_complete s.frame.map (slot_of t d + 1) (goal_of s t d) ≡ true → Ran one (finishing to) next → Ran s (posting s.frame.map t d) next
+post_ran_last s one next t d to is can done stands all ran =
+    let rest : Ran one (finishing (goal_of s t d)) next = subst (λ (k : ℕ). Ran one (finishing k) next) is ran in
     let both : Ran s (Post t d ∷ finishing (goal_of s t d)) next =
     ran_append s (Post t d ∷ []) (finishing (goal_of s t d)) one next (ran_event s (Post t d) one can done stands) rest in
     subst (λ (b : Bool). Ran s (Post t d ∷ cond b (finishing (goal_of s t d)) []) next) (sym all) both

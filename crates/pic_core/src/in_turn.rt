@@ -4,93 +4,87 @@ ghost use Rattle.std.specs.Prelude.{◌≡◌, ◌+◌, ◌*◌, ◌<◌, false}
 ghost use Rattle.pic_tile.specs.CoreState.{AreAllShut, Stands, tile_count, slot_of};
 ghost use Rattle.pic_tile.specs.Directions.{directions};
 ghost use Rattle.pic_tile.specs.Tiling.{neighbour_of};
-ghost use Rattle.pic_core.specs.Events.{Allowed, Applied, Ran};
+ghost use Rattle.pic_core.specs.Events.{Ran};
 ghost use Rattle.pic_core.specs.InTurn.{IsAt, IsFinishing, finishing, in_turn, merging};
 ghost use Rattle.pic_core.specs.InTurn.{merging_at, posting, tiling, up_to};
 ghost use Rattle.pic_core.specs.AtStart.{HasNotBegun};
 
 use crate::allowed::are_all_marked;
-use crate::event::Event;
+use crate::around::neighbours;
 use crate::machine::Core;
 use pic_gate::{Gate, Point};
 use pic_tile::Dir;
 
 impl Core {
-    /// Lets an event come that is allowed.
-    fn must(&mut self, event: Event)
-        requires { Allowed self.old event }
-        ensures applied { Applied self.old event self.new }
-        ensures stood { Stands self.old }
-        ensures stands { Stands self.new }
-    {
-        self.stands();
-        self.perform(event);
-        self.stands();
-    }
-
     /// Merges the parcel of the next direction into the tile to which a tile has posted; that of no
     /// step is merged.
-    fn merge_next(&mut self, tile: u32, dir: Dir, number: u32)
+    fn merge_next(&mut self, tile: u32, dir: Dir, to: u32, number: u32)
         requires tile { tile < tile_count self.old }
         requires dir { dir < directions }
+        requires to { to ≡ neighbour_of self.old.frame.map.tiles tile dir }
         requires number { number < directions }
         requires at { IsFinishing tile dir (up_to number) self.old }
         ensures at { IsFinishing tile dir (up_to (number + 1)) self.new }
-        ensures ran { Ran self.old
-            (merging_at (neighbour_of self.old.frame.map.tiles tile dir) number) self.new }
+        ensures ran { Ran self.old (merging_at to number) self.new }
     {
         if number == Dir::HERE.number() {
             return;
         }
-        let to = self.frame.map().neighbour(tile, dir);
-        self.must(Event::Merge(to, Dir::of(number)));
+        self.stands();
+        self.merge(to, Dir::of(number));
+        self.stands();
     }
 
     /// Merges the parcels of all directions but that of no step, which is merged, into the tile to
     /// which a tile has posted.
-    fn merge_others(&mut self, tile: u32, dir: Dir)
+    fn merge_others(&mut self, tile: u32, dir: Dir, to: u32)
         requires tile { tile < tile_count self.old }
         requires dir { dir < directions }
+        requires to { to ≡ neighbour_of self.old.frame.map.tiles tile dir }
         requires at { IsFinishing tile dir (up_to 0) self.old }
         ensures at { IsFinishing tile dir (up_to directions) self.new }
-        ensures ran { Ran self.old
-            (merging (neighbour_of self.old.frame.map.tiles tile dir) directions) self.new }
+        ensures ran { Ran self.old (merging to directions) self.new }
         ensures stands { Stands self.new }
     {
         for number in 0..Dir::COUNT {
-            self.merge_next(tile, dir, number);
+            self.merge_next(tile, dir, to, number);
         }
         self.stands();
     }
 
     /// Merges all parcels into the tile to which a tile has posted, and shuts it.
-    fn finish_tile(&mut self, tile: u32, dir: Dir)
+    fn finish_tile(&mut self, tile: u32, dir: Dir, to: u32)
         requires tile { tile < tile_count self.old }
         requires dir { dir < directions }
+        requires to { to ≡ neighbour_of self.old.frame.map.tiles tile dir }
         requires at { IsFinishing tile dir (λ _. false) self.old }
         ensures at { IsAt (tile + 1) (slot_of tile dir + 1) (slot_of tile dir + 1) self.new }
-        ensures ran { Ran self.old
-            (finishing (neighbour_of self.old.frame.map.tiles tile dir)) self.new }
+        ensures ran { Ran self.old (finishing to) self.new }
     {
-        let to = self.frame.map().neighbour(tile, dir);
-        self.must(Event::Merge(to, Dir::HERE));
-        self.merge_others(tile, dir);
-        self.must(Event::Shut(to));
+        self.stands();
+        self.merge(to, Dir::HERE);
+        self.stands();
+        self.merge_others(tile, dir, to);
+        self.shut(to);
+        self.stands();
     }
 
     /// Posts the next parcel, and finishes its tile where it is the last that leads there.
-    fn post_next<G: Gate>(&mut self, tile: u32, dir: Dir, gate: &G)
+    fn post_next<G: Gate>(&mut self, tile: u32, dir: Dir, to: u32, gate: &G)
         requires tile { tile < tile_count self.old }
         requires dir { dir < directions }
+        requires to { to ≡ neighbour_of self.old.frame.map.tiles tile dir }
+        requires below { to < tile_count self.old }
         requires at { IsAt (tile + 1) (slot_of tile dir) (slot_of tile dir) self.old }
         ensures at { IsAt (tile + 1) (slot_of tile dir + 1) (slot_of tile dir + 1) self.new }
         ensures ran { Ran self.old (posting self.old.frame.map tile dir) self.new }
     {
-        let to = self.frame.map().neighbour(tile, dir);
-        self.must(Event::Post(tile, dir));
+        self.stands();
+        self.post(tile, dir, to);
+        self.stands();
         gate.pass(0, Point::Posted);
         if are_all_marked(&self.posted, to) {
-            self.finish_tile(tile, dir);
+            self.finish_tile(tile, dir, to);
         }
     }
 
@@ -101,10 +95,13 @@ impl Core {
         ensures at { IsAt (tile + 1) ((tile + 1) * directions) ((tile + 1) * directions) self.new }
         ensures ran { Ran self.old (tiling self.old.frame.map tile) self.new }
     {
-        self.must(Event::Claim(tile));
+        let to = neighbours(self.frame.map(), tile);
+        self.stands();
+        self.claim(tile);
+        self.stands();
         gate.pass(0, Point::Claimed);
         for number in 0..Dir::COUNT {
-            self.post_next(tile, Dir::of(number), gate);
+            self.post_next(tile, Dir::of(number), to[number as usize], gate);
         }
     }
 

@@ -2,6 +2,7 @@
 #![tactic(auto)]
 
 mod allowed;
+mod around;
 mod core_end;
 mod core_start;
 mod event;

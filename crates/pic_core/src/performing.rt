@@ -1,9 +1,10 @@
 //! What an event changes.
 
-ghost use Rattle.std.specs.Prelude.{◌≡◌, ◌↔◌, IsOk, MatchResult};
+ghost use Rattle.std.specs.Prelude.{◌≡◌, ◌<◌, ◌↔◌, IsOk, MatchResult};
 ghost use Rattle.pic_tile.specs.CoreEvents.{CanClaim, CanPost, CanMerge, CanShut};
 ghost use Rattle.pic_tile.specs.CoreEvents.{Claims, Merges, after_post, after_shut};
-ghost use Rattle.pic_tile.specs.CoreState.{HasCensus, Stands};
+ghost use Rattle.pic_tile.specs.CoreState.{HasCensus, Stands, tile_count};
+ghost use Rattle.pic_tile.specs.Tiling.{neighbour_of};
 ghost use Rattle.pic_core.specs.Events.{Allowed, Applied};
 
 use crate::allowed::slot;
@@ -14,7 +15,8 @@ use pic_push::push_tile;
 use pic_tile::Dir;
 
 impl Core {
-    fn claim(&mut self, tile: u32)
+    /// Claims a tile, and pushes its particles.
+    pub(crate) fn claim(&mut self, tile: u32)
         requires { CanClaim self.old tile }
         ensures { Claims self.old tile self.new }
     {
@@ -22,18 +24,30 @@ impl Core {
         self.claimed[tile as usize] = true;
     }
 
-    fn post(&mut self, tile: u32, dir: Dir)
-        requires { CanPost self.old tile dir }
+    /// Posts the parcel of a direction to the tile that it leads to.
+    pub(crate) fn post(&mut self, tile: u32, dir: Dir, to: u32)
+        requires can { CanPost self.old tile dir }
+        requires to { to ≡ neighbour_of self.old.frame.map.tiles tile dir }
+        requires below { to < tile_count self.old }
         ensures { self.new ≡ after_post self.old tile dir }
     {
-        let to = self.frame.map().neighbour(tile, dir);
         let slot = slot(to, dir);
         let parcel = self.tiles[tile as usize].take_parcel(dir);
         self.mail[slot] = parcel;
         self.posted[slot] = true;
     }
 
-    fn merge(&mut self, tile: u32, dir: Dir)
+    /// Finds the tile that a parcel leads to, and posts it there.
+    fn find_and_post(&mut self, tile: u32, dir: Dir)
+        requires { CanPost self.old tile dir }
+        ensures { self.new ≡ after_post self.old tile dir }
+    {
+        let to = self.frame.map().neighbour(tile, dir);
+        self.post(tile, dir, to);
+    }
+
+    /// Merges the parcel of a direction into the tile that it was posted to.
+    pub(crate) fn merge(&mut self, tile: u32, dir: Dir)
         requires { CanMerge self.old tile dir }
         ensures { Merges self.old tile dir self.new }
     {
@@ -45,7 +59,8 @@ impl Core {
         self.merged[slot] = true;
     }
 
-    fn shut(&mut self, tile: u32)
+    /// Shuts a tile.
+    pub(crate) fn shut(&mut self, tile: u32)
         requires { CanShut self.old tile }
         ensures { self.new ≡ after_shut self.old tile }
     {
@@ -60,7 +75,7 @@ impl Core {
     {
         match event {
             Event::Claim(tile) => self.claim(tile),
-            Event::Post(tile, dir) => self.post(tile, dir),
+            Event::Post(tile, dir) => self.find_and_post(tile, dir),
             Event::Merge(tile, dir) => self.merge(tile, dir),
             Event::Shut(tile) => self.shut(tile),
         }

@@ -1,6 +1,8 @@
 //! What a push of all tiles works with beside them.
 
-ghost use Rattle.std.specs.Prelude.{◌≡◌, IfOk, length, replicate, None, false};
+ghost use Rattle.std.specs.Prelude.{◌≡◌, ◌<◌, ℕ, IfOk, length, replicate, None, false};
+ghost use Rattle.pic_tile.specs.Directions.{directions};
+ghost use Rattle.pic_tile.specs.Tile.{parcel_at, tile_in};
 ghost use Rattle.pic_core.specs.AtStart.{AreBare, IsScratch};
 
 use pic_num::NoMemory;
@@ -69,13 +71,26 @@ fn bare_tiles(alloc: Global, count: u32) -> Result<Vec<Tile>, NoMemory>
     Ok(tiles)
 }
 
-/// Makes so many tiles bare, numbered in order.
+/// Makes so many tiles without parcels the bare tiles of their places, numbered in order.
 pub(crate) fn make_bare(tiles: &mut [Tile], count: u32)
-    requires { length tiles.old ≡ count }
+    requires long { length tiles.old ≡ count }
+    requires none { (r d : ℕ) → r < count → d < directions
+        → parcel_at (tile_in tiles.old r) d ≡ None }
     ensures { AreBare count tiles.new }
 {
     for number in 0..count {
-        tiles[number as usize] = Tile::bare(number);
+        make_numbered(&mut tiles[number as usize], number);
+    }
+}
+
+/// Makes a tile without parcels that of a number, if it has another.
+fn make_numbered(tile: &mut Tile, number: u32)
+    requires { (d : ℕ) → d < directions → parcel_at tile.old d ≡ None }
+    ensures number { tile.new.number ≡ number }
+    ensures none { (d : ℕ) → d < directions → parcel_at tile.new d ≡ None }
+{
+    if tile.number() != number {
+        *tile = Tile::bare(number);
     }
 }
 

@@ -1,4 +1,4 @@
-use Rattle.std.proofs.Common.{Bool, false, List, length, replicate, refl, sym, ap, ◌∙◌, subst, ◌≡◌, ◌<◌, ℕ}
+use Rattle.std.proofs.Common.{Bool, false, List, length, None, replicate, refl, sym, ap, ◌∙◌, subst, ◌≡◌, ◌<◌, ℕ}
 use Rattle.std.specs.Vec.{with_items}
 use Rattle.std.proofs.lemmas.List.{with_items_is, length-replicate}
 use Rattle.pic_grid.specs.Block.{AllAtMost}
@@ -7,13 +7,21 @@ use Rattle.pic_tile.specs.CoreState.{CoreState, AreAllShut, tile_count, all_part
 use Rattle.pic_tile.specs.Directions.{here}
 use Rattle.pic_tile.specs.Exchanged.{AreExchanged}
 use Rattle.pic_tile.specs.Frame.{felt_in}
-use Rattle.pic_tile.specs.Tile.{TileValue, flux_at, tile_in}
+use Rattle.pic_tile.specs.Tile.{TileValue, flux_at, parcel_at, tile_in}
 use Rattle.pic_core.specs.declared.scratch.Scratch.{Scratch}
 use Rattle.pic_core.specs.Inside.{state_of}
 use Rattle.pic_core.specs.AtStart.{AreBare, IsScratch}
 use Rattle.pic_core.proofs.EndLaws.{all_exchanged}
-use Rattle.pic_core.proofs.ScratchLaws.{scratch_again, flux_bound}
+use Rattle.pic_core.proofs.ScratchLaws.{no_parcels, scratch_again, flux_bound}
 use Rattle.pic_core.proofs.machine.Core.close_with_scratch.Goals as goal
+
+pub make_bare-requires-clause-none : goal.make_bare-requires-clause-none
+make_bare-requires-clause-none c = λ r d below within.
+    let s = state_of c.self.inside in
+    let count : c.count-count.result ≡ tile_count s = c.count-count.ensures.value ∙ ap (λ (z : CoreState). tile_count z) (sym c.self.view_is) in
+    subst (λ (ts : List TileValue). parcel_at (tile_in ts r) d ≡ None) (sym c.deref_mut.ensures.value)
+    (no_parcels s c.self.invariant (subst (λ (z : CoreState). AreAllShut z) (sym c.self.view_is) c.requires) r d
+    (subst (λ (n : ℕ). r < n) count below) within)
 
 pub returns-clause-exchanged : goal.returns-clause-exchanged
 returns-clause-exchanged c =
