@@ -149,7 +149,6 @@ fn is_own(first: usize, lines: usize, j: usize) -> bool
 
 /// Scales what a curl reads of a line whose rooms begin with the cell `at`: one of a strip's own,
 /// or else the line beside it in y.
-#[inline(always)]
 fn scale_line(from: &Scaled, at: [u32; 3], span: Span, own: bool, to: &mut Line)
     requires within { IsWithin (triple at) from.now.field.now.cells }
     requires span { IsSpan span }
@@ -188,7 +187,6 @@ fn scale_own(from: &Scaled, at: [u32; 3], span: Span, to: &mut Line)
 }
 
 /// Scales what a curl reads of a line beside it in z.
-#[inline(always)]
 fn scale_next(from: &Scaled, at: [u32; 3], span: Span, to: &mut Line)
     requires within { IsWithin (triple at) from.now.field.now.cells }
     requires span { IsSpan span }
@@ -237,6 +235,7 @@ fn scale_rows(from: &Scaled, start: Start, span: Span, wanted: Wanted, to: &mut 
     ensures z { IsTrue wanted.z → IsScaledRow from.now.field.now.cells (read_by from.now) Axis.Z
         (start_cell start) span.first (span.first + span.cells) to.new.z }
 {
+    let by = from.by;
     let [nx, _, _] = from.field.cells().numbers();
     let Start { x: begin, y, z } = start;
     let mut x = after_run(nx, begin, span.first);
@@ -249,9 +248,9 @@ fn scale_rows(from: &Scaled, start: Start, span: Span, wanted: Wanted, to: &mut 
         let more = of_x.len().min(span.first + span.cells - done);
         let more_y = count_if(wanted.y, more);
         let more_z = count_if(wanted.z, more);
-        scale_row(&of_x[..more], from.by, &mut to.x[done..done + more]);
-        scale_row(&of_y[..more_y], from.by, &mut to.y[done..done + more_y]);
-        scale_row(&of_z[..more_z], from.by, &mut to.z[done..done + more_z]);
+        scale_row(&of_x[..more], by, &mut to.x[done..done + more]);
+        scale_row(&of_y[..more_y], by, &mut to.y[done..done + more_y]);
+        scale_row(&of_z[..more_z], by, &mut to.z[done..done + more_z]);
         done = done + more;
         x = after_run(nx, x, more);
     }
