@@ -19,8 +19,8 @@ PHASES = [
     ("gather, Boris's push, path, chain", r"pic_(gather|boris|split|chain)::|pic_push::(?!sending|spreading)"),
     ("flux", r"pic_flux::|pic_push::"),
     ("parcels merged", r"pic_merge::"),
-    ("parcels posted, the board", r"pic_(core|crew|yard|slots|gate)::|atomic_table::|pic_states::"),
-    ("half steps of B, step of E, force values", r"pic_(field|phase)::"),
+    ("parcels posted, the board", r"pic_(core|crew|yard|gate)::|atomic_table::|pic_states::"),
+    ("half steps of B, step of E, force values", r"pic_(field|filter|drive|advance|team)::"),
     ("cleared or copied, and the kernel", r"mem(set|cpy|move)|\[k\]"),
 ]
 REST = "decks, loading, the first and last frame, the rest"
