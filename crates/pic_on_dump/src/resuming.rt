@@ -115,6 +115,8 @@ fn stage_from(alloc: Global, carried: Carried, tiles: [u32; 3]) -> Result<Stage,
     requires sound { IsSound (carried_state carried) }
     requires room { HasShape carried.last (carried_state carried) }
     ensures state { IfOk result (λ stage. stage.state.world ≡ carried_state carried) }
+    ensures tiles { IfOk result (λ stage. stage.state.map.tiles ≡ triple tiles) }
+    ensures followed { IfOk result (λ stage. stage.state.followed ≡ []) }
     ensures room { IfOk result (λ stage. HasShape stage.room stage.state.world) }
 {
     let Carried { header, step, last } = carried;

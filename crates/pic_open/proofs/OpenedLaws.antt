@@ -159,12 +159,13 @@ not_loaded d NoMemory ends = tt
 after_displaced : (d : DeckView) (s : Staged DeckView) → displaced_allowed d (loaded d) ≡ Ok tt → gauss_tested d ≡ s → tested d ≡ s
 after_displaced d s fit is = ap (λ (r : Result (Unit {0}) Refusal). unless_too_strong d r >>= gauss_tested) fit ∙ is
 
-pub ready : (o : Opened) → displaced_allowed o.deck (loaded o.deck) ≡ Ok tt → begun o.start ≡ first_state o.deck → IsSound (begun o.start)
+pub ready : (o : Opened) → displaced_allowed o.deck (loaded o.deck) ≡ Ok tt → begun o.start ≡ first_state o.deck
+    → o.start.setup.map.tiles ≡ o.deck.tiles → IsSound (begun o.start)
     → AreTiled o.start.setup.map o.start.e o.start.b → AreProbes (begun o.start).cells (length (begun o.start).particles) o.deck.probes
     → state_break (begun o.start) ≡ None → IsTested o.deck o
-ready o fit start sound tiled probes none = record {
+ready o fit start tiles sound tiled probes none = record {
   deck = after_displaced o.deck (Ok o.deck) fit (ap (unless_gauss_fails o.deck) (ap state_break (sym start) ∙ none));
-  begins = record { start = start; sound = sound; tiled = tiled; probes = probes };
+  begins = record { start = start; tiles = tiles; sound = sound; tiled = tiled; probes = probes };
 }
 
 pub broken : (d : DeckView) (w : World) (at : Break) → displaced_allowed d (loaded d) ≡ Ok tt → w ≡ first_state d → state_break w ≡ Some at

@@ -23,9 +23,10 @@ use Rattle.pic_report.specs.Reading.{Given, Held, Reading}
 use Rattle.pic_open.specs.Starting.{first_state}
 
 -- a deck stands here with what its run begins with: that is sound, its fields are cut into the tiles of its map,
--- and the deck's probes are within its limits
+-- which are the deck's, and the deck's probes are within its limits
 pub record CanBegin (o : Opened) : Type 0 where
   pub start : begun o.start ≡ first_state o.deck
+  pub tiles : o.start.setup.map.tiles ≡ o.deck.tiles
   pub sound : IsSound (begun o.start)
   pub tiled : AreTiled o.start.setup.map o.start.e o.start.b
   pub probes : AreProbes (begun o.start).cells (length (begun o.start).particles) o.deck.probes
@@ -41,11 +42,12 @@ pub record IsEndOf (stage : Staged DeckView) (why : Early) : Type 0 where
   pub is : stage ≡ Err end
   pub answer : ended_early why ≡ ended_at end
 
--- the displaced start of a deck isn't too strong; it stands here, with the deck's particles, its fields cut
--- into the tiles of its map, and safe force values
+-- the displaced start of a deck isn't too strong; it stands here, with the deck's tiles and particles, its fields
+-- cut into the tiles of its map, and safe force values
 pub record IsLoaded (d : DeckView) (s : Start) : Type 0 where
   pub fit : displaced_allowed d (loaded d) ≡ Ok tt
   pub start : begun s ≡ first_state d
+  pub tiles : s.setup.map.tiles ≡ d.tiles
   pub tiled : AreTiled s.setup.map s.e s.b
   pub particles : AreLoaded d s.particles.items
   pub safe : IsSafe d.scales.e_force (e_of (begun s))

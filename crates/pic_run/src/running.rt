@@ -1,6 +1,6 @@
 //! The command `run`: the run of a deck, as a dump.
 
-ghost use Rattle.std.specs.Prelude.{◌≡◌, ◌-◌, ◌<◌, ◌≤◌, IfOk};
+ghost use Rattle.std.specs.Prelude.{◌≡◌, ◌-◌, ◌<◌, ◌≤◌, [], IfOk};
 ghost use Rattle.pic_crew.specs.Teams.{most_workers};
 ghost use Rattle.pic_io.specs.Sinks.{sinks};
 ghost use Rattle.pic_step.specs.Kept.{AreTiled};
@@ -87,6 +87,8 @@ fn prepare(alloc: Global, deck: &Deck, start: Start) -> Result<Ready, NoMemory>
     requires tiled { AreTiled start.setup.map start.e start.b }
     ensures header { IfOk result (λ ready. ready.header ≡ header_of deck.now) }
     ensures state { IfOk result (λ ready. ready.stage.state.world ≡ begun start) }
+    ensures map { IfOk result (λ ready. ready.stage.state.map ≡ start.setup.map) }
+    ensures followed { IfOk result (λ ready. ready.stage.state.followed ≡ []) }
     ensures room { IfOk result (λ ready. HasShape ready.stage.room ready.stage.state.world) }
 {
     let header = header_of(alloc, deck)?;

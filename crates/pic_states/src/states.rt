@@ -41,6 +41,7 @@ pub fn stage_of(alloc: Global, start: Start, ids: &[u32]) -> Result<Stage, NoMem
     requires tiled { AreTiled start.setup.map start.e start.b }
     requires ids { All (λ id. id < length start.particles.items) ids.now }
     ensures state { IfOk result (λ stage. stage.state.world ≡ begun start) }
+    ensures map { IfOk result (λ stage. stage.state.map ≡ start.setup.map) }
     ensures followed { IfOk result (λ stage. stage.state.followed ≡ ids.now) }
     ensures room { IfOk result (λ stage. HasShape stage.room stage.state.world) }
 {
@@ -82,6 +83,7 @@ fn stage_for(alloc: Global, start: Start, output: &Output) -> Result<Stage, NoMe
     requires tiled { AreTiled start.setup.map start.e start.b }
     requires probes { CanPut output.now (begun start) }
     ensures state { IfOk result (λ stage. stage.state.world ≡ begun start) }
+    ensures map { IfOk result (λ stage. stage.state.map ≡ start.setup.map) }
     ensures room { IfOk result (λ stage. HasShape stage.room stage.state.world) }
     ensures look { IfOk result (λ stage. CanLook output.now stage.room stage.state.followed) }
 {

@@ -1,4 +1,4 @@
-use Rattle.std.proofs.Common.{◌≡◌, List, Ok, Err, sym, ap, subst, ◌∙◌}
+use Rattle.std.proofs.Common.{◌≡◌, List, Ok, Err, refl, sym, ap, subst, ◌∙◌}
 use Rattle.std.proofs.lemmas.Result.{err_from_is_err_and}
 use Rattle.pic_num.specs.declared.motion.Particle.{Particle}
 use Rattle.pic_grid.specs.Lattice.{Field}
@@ -70,6 +70,7 @@ returns c =
     record {
       fit = fit;
       start = start;
+      tiles = rw c.in_ok-start.ensures.map refl;
       tiled = tiled_displaced c.in_ok-start.start d c.deref.result.now c.displace.new.e c.in_ok-start.ensures.tiled
           (c.in_ok-start.ensures.start ∙ ap (start_of d) (sym (c.deref.ensures.value ∙ ap (λ (w : World). w.particles) c.in_ok-start.ensures.start)))
           c.in_ok-displace.ensures.displaces.0;
