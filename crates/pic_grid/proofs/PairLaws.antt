@@ -27,6 +27,7 @@ pair_of s n p w some two inside low high low_weight high_weight =
       pair = record {
         low = subst (λ (i : ℕ). i < n) (sym low) below;
         high = subst (λ (i : ℕ). i < n) (sym high) next;
+        next = high ∙ (λ i. (sym low i + 1) % n);
         whole = (λ i. low_weight i + high_weight i) ∙ omega (arith, small);
       };
       weights = λ j among.
