@@ -21,7 +21,6 @@ pub(crate) const UP_Y: u32 = 16;
 pub(crate) const UP_Z: u32 = 22;
 
 /// That of steps up on y and z, with none on x.
-/// That of a step up on y alone.
 pub(crate) const UP_YZ: u32 = 25;
 
 /// That of steps up on x and z, with none on y.

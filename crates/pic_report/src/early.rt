@@ -1,4 +1,4 @@
-//! The early ends of a call: those that come before its command has put anything.
+//! The early ends of a call: those that its words, a read, its deck or its dump bring.
 
 ghost use Rattle.std.specs.Prelude.{◌≡◌};
 ghost use Rattle.pic_io.specs.Sinks.{WritesLine};
@@ -15,7 +15,8 @@ use pic_charge::Break;
 use pic_deck::Refusal;
 use pic_io::{Side, Sink};
 
-/// An end before a command has put anything. Each has a line of its own, on the report.
+/// An end that a call's words, a read, its deck or its dump bring, before the command is done; only
+/// `upgrade` and `resume` may have put anything by then. Each has a line of its own, on the report.
 #[derive(Debug, Drop)]
 pub enum Early {
     /// The words are no command.

@@ -7,7 +7,7 @@ ghost use Rattle.pic_run_laws.specs.ResumesAreRuns.{ResumesAreRuns, ResumesJoin,
 ghost use Rattle.pic_run_laws.specs.RunsAreRead.{RunsAreRead};
 ghost use Rattle.pic_run_laws.specs.RunsAreVerified.{RunsAreVerified, RunsAreFoundGood};
 
-/// What `run` puts on `out` of a deck that its type keeps and that meets Gauss's law is read as the
+/// What `run` puts on `out` of a deck that its type keeps and that is accepted is read as the
 /// dump of this header, of the frames of the states that are due, and of the run's end, whether it comes
 /// to its last step or stops in one.
 #[tactic(auto, using(crate::proofs::RunsAreVerified::runs_are_read))]
@@ -15,7 +15,7 @@ pub fn runs_are_read()
     ensures { RunsAreRead }
 {}
 
-/// What `run` puts on `out` of a deck that its type keeps and that meets Gauss's law is a dump that
+/// What `run` puts on `out` of a deck that its type keeps and that is accepted is a dump that
 /// is verified, with the number of frames that were put, whether the run comes to its last step or
 /// stops in one. So the command `verify` finds good what the command `run` wrote.
 pub fn runs_are_verified()
@@ -30,8 +30,8 @@ pub fn frames_give_states()
     ensures { FramesGiveStates }
 {}
 
-/// A run in parts is the run in one. What `run` puts on `out` of a deck that its type keeps and that meets
-/// Gauss's law, resumed with as many steps or more, is the run of that deck with these steps: the same dump
+/// A run in parts is the run in one. What `run` puts on `out` of a deck that its type keeps and that is
+/// accepted, resumed with as many steps or more, is the run of that deck with these steps: the same dump
 /// and the same lines, byte for byte, and the same answer, also where either run stops, and for all tiles
 /// that the cells allow. So what is resumed twice is what is resumed once; and the command `resume` has over
 /// what the command `run` wrote the outcome that `run` has over the deck with all these steps.
@@ -41,7 +41,7 @@ pub fn resumes_are_runs()
     ensures found { ResumesAreFoundRuns }
 {}
 
-/// What `probe` puts on `out` of a deck that its type keeps and that meets Gauss's law are columns of the
+/// What `probe` puts on `out` of a deck that its type keeps and that is accepted are columns of the
 /// frames that `run` puts of this deck where each state has a frame, and the line of the run's end. And probes
 /// change no dump, nor what `check` says: what either makes of a deck, or why the deck isn't run, is the same
 /// with others.
