@@ -5,4 +5,4 @@ use Rattle.pic_chain.specs.Links.{particles_of}
 
 -- what begins with a node isn't empty
 pub never_empty : (node : Node) → particles_of node ≡ [] → ⊥
-never_empty (Node' particle next) e = cc
+never_empty (Node' particle next home) e = cc

@@ -1,5 +1,5 @@
 -- What nodes stand for: lists of particles.
-use Rattle.std.specs.Prelude.{List, [], ◌∷◌, Option, None, Some}
+use Rattle.std.specs.Prelude.{ℕ, List, [], ◌∷◌, Option, None, Some}
 use Rattle.std.specs.declared.boxed.Box.{Box}
 use Rattle.std.specs.declared.alloc.Global.{Global}
 use Rattle.pic_num.specs.declared.motion.Particle.{Particle}
@@ -7,12 +7,16 @@ use Rattle.pic_chain.specs.declared.node.Node.{Node, Node', Held-Node-next, None
 
 -- the particle of a node
 abbrev pub particle_of : Node → Particle
-particle_of (Node' particle next) = particle
+particle_of (Node' particle next home) = particle
+
+-- as the how-manieth it was made
+abbrev pub home_of : Node → ℕ
+home_of (Node' particle next home) = home
 
 -- the particles of a node and of all that stand behind it
 abbrev mutual
   pub particles_of : Node → List Particle
-  particles_of (Node' particle next) = particle ∷ particles_behind next
+  particles_of (Node' particle next home) = particle ∷ particles_behind next
 
   pub particles_behind : Held-Node-next → List Particle
   particles_behind None' = []

@@ -30,7 +30,7 @@ impl Drop for Chain {
     fn drop(self) {
         let Chain { mut head } = self;
         while let Some(node) = head {
-            let Node { particle: _, next } = Box::into_inner(node);
+            let Node { next, .. } = Box::into_inner(node);
             head = next;
         }
     }

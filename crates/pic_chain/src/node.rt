@@ -1,16 +1,18 @@
 //! A boxed particle, and what stands behind it in its chain.
 
 ghost use Rattle.std.specs.Prelude.{◌≡◌, IfOk};
-ghost use Rattle.pic_chain.specs.Links.{particle_of};
+ghost use Rattle.pic_chain.specs.Links.{home_of, particle_of};
 
 use pic_num::{NoMemory, Particle};
 use std::alloc::Global;
 
-/// A node of a chain: it has one particle.
+/// A node of a chain: it has one particle, and knows where it was made, which lists of particles don't
+/// show.
 #[derive(Drop)]
 pub struct Node {
     pub(crate) particle: Particle,
     pub(crate) next: Option<Box<Node>>,
+    pub(crate) home: usize,
 }
 
 impl Node {
@@ -26,6 +28,7 @@ impl Node {
             Node {
                 particle,
                 next: None,
+                home: 0,
             },
         )?;
         Ok(node)
@@ -36,6 +39,29 @@ impl Node {
         ensures { result ≡ particle_of self.now }
     {
         self.particle
+    }
+
+    /// Puts another particle in the place of its own.
+    pub fn put(&mut self, particle: Particle)
+        ensures particle { particle_of self.new ≡ particle }
+        ensures home { home_of self.new ≡ home_of self.old }
+    {
+        self.particle = particle;
+    }
+
+    /// As the how-manieth of its run's nodes it was made, so far as it was told.
+    pub fn home(&self) -> usize
+        ensures { result ≡ home_of self.now }
+    {
+        self.home
+    }
+
+    /// Tells it as the how-manieth it was made.
+    pub fn set_home(&mut self, home: usize)
+        ensures home { home_of self.new ≡ home }
+        ensures particle { particle_of self.new ≡ particle_of self.old }
+    {
+        self.home = home;
     }
 
     /// Puts the particle at `x`, in sub-cells, with the velocity `v`, in 1/4096 sub-cell a step.
