@@ -1,0 +1,4 @@
+mod DealtLaws
+mod EmptiedLaws
+mod LaidLaws
+mod ShelfLaws

@@ -1,0 +1,10 @@
+//! Particles sorted: those of a tile lie side by side in memory again, as when the run began.
+#![tactic(auto)]
+
+mod dealing;
+mod emptying;
+mod shelves;
+mod sorting;
+
+pub use shelves::Shelves;
+pub use sorting::sort;
