@@ -1,6 +1,6 @@
 //! One step of a pair, by the side of a cell: numbers worked by hand.
 
-ghost use Rattle.std.specs.Prelude.{◌≡◌, ◌<◌, ◌≤◌, IfOk};
+ghost use Rattle.std.specs.Prelude.{◌≡◌, ◌<◌, ◌≤◌, IfOk, length};
 ghost use Rattle.pic_num.specs.Limits.{most_loops};
 ghost use Rattle.pic_grid.specs.Loops.{AreLoops};
 ghost use Rattle.pic_crew.specs.Teams.{most_workers};
@@ -113,7 +113,9 @@ fn is_peopled(state: &State, number: usize) -> Option<bool> {
 }
 
 /// The fields and the particles of a state.
-fn shown(alloc: Global, state: &State) -> Result<Snapshot, NoMemory> {
+fn shown(alloc: Global, state: &State) -> Result<Snapshot, NoMemory>
+    ensures { IfOk result (λ s. length s.particles.items ≡ length state.now.world.particles) }
+{
     let mut seen = Snapshot::new(alloc, state.cells(), state.count())?;
     state.fill(&mut seen);
     Ok(seen)
@@ -186,13 +188,15 @@ const SIDES: [Side; 3] = [
     },
 ];
 
-/// A step of so many workers is as its side says.
+/// A step of so many workers is as its side says, where the particles are sorted in memory behind it.
 fn check_side<H: AllocGlobal + Abort + Threads + Sync>(rt: &H, side: &Side, workers: u32)
     requires some { 0 < workers }
     requires most { workers ≤ most_workers }
 {
     let sub = Sub::new(side.bits).expect(rt, "a side");
-    let state = stepped(rt, sub, workers, &Open);
+    let mut state = stepped(rt, sub, workers, &Open);
+    let mut room = shown(rt.alloc(), &state).expect(rt, "memory");
+    state.sort(&mut room);
     assert!(rt; state.step_number() == 42);
     assert!(rt; state.cells().sub() == sub);
     check_edges(rt, &state, &[side.current, 0, 0, 0, 0, 0]);

@@ -4,6 +4,7 @@
 mod frame_writer;
 mod laws;
 mod output;
+mod sorting;
 mod states;
 mod threading;
 

@@ -17,6 +17,7 @@ ghost use Rattle.pic_states.specs.StatesOutcome.{shown_outcome, states_outcome};
 
 use crate::frame_writer::{put_last, write_due, write_frame};
 use crate::output::{Output, Plan};
+use crate::sorting::sort_due;
 use crate::threading::Threading;
 use pic_gate::Gate;
 use pic_grid::{EndMark, Snapshot};
@@ -189,6 +190,7 @@ fn write_frames<H: Threads + Sync, O: Sink, R: Sink, G: Gate + Sync>(
             Err(StepStop::NoMemory) => return Err(Cut::NoMemory),
         };
         write_due(plan, out, report, &state, &mut room)?;
+        sort_due(&plan.output, &mut state, &mut room);
     }
     Ok(EndMark::Done { steps: plan.steps })
 }

@@ -49,6 +49,7 @@ fn in_turn<G: Gate>(plasma: Plasma, gate: &G) -> Plasma
         room,
         smooth,
         tracers,
+        shelves,
         count,
     } = plasma;
     let mut core = Core::begin(frame, tiles, room);
@@ -61,6 +62,7 @@ fn in_turn<G: Gate>(plasma: Plasma, gate: &G) -> Plasma
         room,
         smooth,
         tracers,
+        shelves,
         count,
     }
 }
@@ -82,6 +84,7 @@ fn at_board<H: Threads + Sync, G: Gate + Sync>(
         room,
         smooth,
         tracers,
+        shelves,
         count,
     } = plasma;
     let done = on_board(team, alloc, frame, tiles)?;
@@ -93,6 +96,7 @@ fn at_board<H: Threads + Sync, G: Gate + Sync>(
         room,
         smooth,
         tracers,
+        shelves,
         count,
     })
 }

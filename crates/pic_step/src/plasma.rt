@@ -25,6 +25,7 @@ use pic_advance::{Current, drive_e};
 use pic_core::Scratch;
 use pic_grid::{Block, Lattice, Phase, Stop};
 use pic_num::{NoMemory, Particle, Scales};
+use pic_sort::Shelves;
 use pic_team::Team;
 use pic_tile::{Frame, Kinds, Tile, TileMap, cut};
 use std::alloc::Global;
@@ -33,8 +34,9 @@ use std::thread::Threads;
 /// The particles of a state in tiles, so many in all, and what their push works with: the frame, the
 /// room in which one worker's tiles receive parcels, a block for each tile, which stands in it
 /// while its flux is elsewhere, and where the current is filtered a lattice for that. Beside them the
-/// particles that the run follows stand once more, so that none is looked for in the tiles. All this
-/// memory is taken once; the board of two or more workers is made anew in each step.
+/// particles that the run follows stand once more, so that none is looked for in the tiles, and there are
+/// shelves, on which the nodes of particles are sorted. All this memory is taken once; the board of two
+/// or more workers is made anew in each step.
 #[derive(Drop)]
 pub struct Plasma {
     pub frame: Frame,
@@ -43,6 +45,7 @@ pub struct Plasma {
     pub room: Scratch,
     pub smooth: Option<Lattice>,
     pub tracers: Vec<Particle>,
+    pub shelves: Shelves,
     pub count: u32,
 }
 
@@ -75,6 +78,7 @@ impl Plasma {
         let frame = frame_for(alloc, map, kinds)?;
         let smooth = smooth_for(alloc, map, filter)?;
         let tracers = tracers_of(alloc, ids, particles)?;
+        let shelves = Shelves::new(alloc, particles.len())?;
         Ok(Plasma {
             frame,
             tiles,
@@ -82,6 +86,7 @@ impl Plasma {
             room,
             smooth,
             tracers,
+            shelves,
             count: particles.len() as u32,
         })
     }
@@ -121,6 +126,7 @@ impl Plasma {
             room,
             smooth,
             tracers,
+            shelves,
             count,
         } = self;
         let map = frame.map();
@@ -140,6 +146,7 @@ impl Plasma {
             room,
             smooth,
             tracers,
+            shelves,
             count,
         };
         (e, plasma)

@@ -65,6 +65,7 @@ pub fn push_phase<H: Threads + Sync, G: Gate + Sync>(
         room,
         smooth,
         mut tracers,
+        shelves,
         count,
     } = plasma;
     let frame = with_forces(team, fields, frame);
@@ -76,6 +77,7 @@ pub fn push_phase<H: Threads + Sync, G: Gate + Sync>(
         room,
         smooth,
         tracers,
+        shelves,
         count,
     };
     let pushed = push_tiles(team, alloc, plasma)?;

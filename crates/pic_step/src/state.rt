@@ -11,6 +11,7 @@ use pic_deck::Deck;
 use pic_devices::Probes;
 use pic_grid::{Cells, Lattice, Loop, Loops, Snapshot};
 use pic_num::{Kind, NoMemory, Particle, Scales};
+use pic_sort::sort;
 use pic_tile::{Setup, Tile, TileMap};
 use std::alloc::Global;
 use std::marker::Model;
@@ -219,6 +220,27 @@ impl State {
         to.e.copy_from(&self.e);
         to.b.copy_from(&self.b);
         write_tiles(&self.plasma.tiles, &mut to.particles);
+    }
+
+    /// Sorts the particles in memory: those of a tile come to lie side by side, as when the run began, so
+    /// that its pushes read memory in order. The state stays as it is. What the particles of a snapshot
+    /// of as many were is lost; and it takes no memory.
+    pub fn sort(&mut self, room: &mut Snapshot)
+        requires { length room.old.particles.items ≡ length self.old.world.particles }
+        ensures state { self.new ≡ self.old }
+        ensures e { room.new.e ≡ room.old.e }
+        ensures b { room.new.b ≡ room.old.b }
+        ensures count { length room.new.particles.items ≡ length room.old.particles.items }
+    {
+        let plasma = &mut self.plasma;
+        let map = *plasma.frame.map();
+        let _tiles = map.tiles();
+        sort(
+            &map,
+            &mut plasma.tiles,
+            &mut room.particles,
+            &mut plasma.shelves,
+        );
     }
 
     /// Shows in a snapshot of as many cells and particles what probes see: the fields at their places,

@@ -3,11 +3,12 @@ use Rattle.std.proofs.lemmas.Result.{err_from_is_err_and}
 use Rattle.pic_io.specs.Sinks.{sinks}
 use Rattle.pic_io.proofs.Puts.{wrote_none}
 use Rattle.pic_step.specs.SerialRun.{after}
+use Rattle.pic_step.specs.StateView.{StateView}
 use Rattle.pic_step.proofs.AfterLaws.{step_after}
 use Rattle.pic_grid.specs.declared.stop.EndMark.TheVariants.{Done, Stopped}
 use Rattle.pic_grid.specs.declared.stop.Stop.{Stop}
 use Rattle.pic_states.specs.Frames.{due_states, frames_behind, end_of_run}
-use Rattle.pic_states.specs.Rooms.{CanLook}
+use Rattle.pic_states.specs.Rooms.{CanLook, CanPut, HasShape}
 use Rattle.pic_states.specs.Runs.{WroteFrames}
 use Rattle.pic_states.proofs.FrameLaws.{WroteStates, after_none, after_step, none_written, more_written, more_cut, some_written, stopped_written, done_written}
 use Rattle.pic_states.proofs.RoomLaws.{room_kept, put_kept}
@@ -99,12 +100,16 @@ loop-done-preserved g c =
     let e = sinks (g.O.Sink.told c.write_due.new.out) (g.R.Sink.told c.write_due.new.report) in
     let reached = after_step w c.loop-done.state.world v n c.loop-done.invariant.reached c.in-Ok.ensures.steps in
     let next = c.in_ok-write_due.ensures.writes in
+    let output = c.args.plan.now.output in
+    let room = c.sort_due.new.room in
+    let sorted = sym c.sort_due.ensures.state in
     record {
-      reached = reached;
-      wrote = more_written c.args.plan.now.output c.args.plan.now.steps c.args.plan.now.every w v n a b e reached c.loop-done.invariant.wrote next;
-      room = c.write_due.ensures.room;
-      probes = put_kept c.args.plan.now.output c.loop-done.state.world v c.in-Ok.ensures.steps c.loop-done.invariant.probes;
-      look = c.write_due.ensures.look;
+      reached = subst (λ (s : StateView). after w (n + 1) ≡ Ok s.world) sorted reached;
+      wrote = more_written output c.args.plan.now.steps c.args.plan.now.every w v n a b e reached c.loop-done.invariant.wrote next;
+      room = subst (λ (s : StateView). HasShape room s.world) sorted c.sort_due.ensures.room;
+      probes = subst (λ (s : StateView). CanPut output s.world) sorted
+          (put_kept output c.loop-done.state.world v c.in-Ok.ensures.steps c.loop-done.invariant.probes);
+      look = subst (λ (s : StateView). CanLook output room s.followed) sorted c.sort_due.ensures.look;
     }
 
 pub returns : goal.returns

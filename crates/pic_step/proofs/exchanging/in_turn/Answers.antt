@@ -15,6 +15,7 @@ returns g c =
       spare = p.spare;
       smooth = p.smooth;
       tracers = p.tracers;
+      shelves = p.shelves;
       count = p.count;
     }) s t (in_turn s.frame.map) c.begin-core.ensures.opened c.run_in_turn.ensures.ran c.close_with_scratch-frame.ensures.frame
     c.close_with_scratch-frame.ensures.exchanged c.close_with_scratch-frame.ensures.bound c.close_with_scratch-frame.ensures.scratch refl refl refl refl
