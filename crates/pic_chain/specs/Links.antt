@@ -9,7 +9,7 @@ use Rattle.pic_chain.specs.declared.node.Node.{Node, Node', Held-Node-next, None
 abbrev pub particle_of : Node → Particle
 particle_of (Node' particle next home) = particle
 
--- as the how-manieth it was made
+-- its number in the order in which nodes were made
 abbrev pub home_of : Node → ℕ
 home_of (Node' particle next home) = home
 

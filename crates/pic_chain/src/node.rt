@@ -49,14 +49,14 @@ impl Node {
         self.particle = particle;
     }
 
-    /// As the how-manieth of its run's nodes it was made, so far as it was told.
+    /// Its number in the order in which the run's nodes were made, once it was told; 0 before.
     pub fn home(&self) -> usize
         ensures { result ≡ home_of self.now }
     {
         self.home
     }
 
-    /// Tells it as the how-manieth it was made.
+    /// Tells it its number in the order in which nodes were made.
     pub fn set_home(&mut self, home: usize)
         ensures home { home_of self.new ≡ home }
         ensures particle { particle_of self.new ≡ particle_of self.old }

@@ -1,5 +1,5 @@
 -- Planes of rows: how they are filled line by line, and what a line reads of two of them.
-use Rattle.std.proofs.Common.{◌≡◌, ◌≢◌, ℕ, ℤ, ◌+◌, ◌-◌, ◌%◌, ◌<◌, ◌≤◌, Bool, List, [], length, slice_set, unsigned_abs, sym, ◌∙◌, ap, subst, arith}
+use Rattle.std.proofs.Common.{◌≡◌, ◌≢◌, ℕ, ℤ, ◌+◌, ◌-◌, ◌%◌, ◌<◌, ◌≤◌, Bool, List, length, slice_set, unsigned_abs, sym, ◌∙◌, ap, subst, arith}
 use Rattle.std.proofs.lemmas.List.{get_or-set_same, get_or-set_other}
 use borrow.Author.Count.{below_more}
 use Rattle.pic_num.specs.declared.axis.Axis.{Axis}
@@ -10,7 +10,7 @@ use Rattle.pic_field.specs.declared.plane.Line.{Line}
 use Rattle.pic_field.specs.declared.plane.Span.{Span}
 use Rattle.pic_field.specs.Beside.{layer_beside, next_to, first_index, room_layer, row_room, plane_room, swept_layer}
 use Rattle.pic_field.specs.Lines.{line_start}
-use Rattle.pic_field.specs.Planes.{no_line, line_at, plane_at, along_y, span_of, IsOwnLine, IsSideLine, IsNextLine, IsScaledPlane, IsNextPlane, AreLineRows}
+use Rattle.pic_field.specs.Planes.{no_line, line_at, along_y, span_of, IsOwnLine, IsSideLine, IsNextLine, IsScaledPlane, IsNextPlane, AreLineRows}
 use Rattle.pic_field.proofs.BesideLaws.{own_layer, side_layer, layer_before}
 use Rattle.pic_field.proofs.RowLaws.{row_part}
 
@@ -32,10 +32,6 @@ pub plane_next : (n : Triple) (g : Axis → Triple → ℤ) (p : Triple) (s : Sp
 plane_next n g p s lines plane first is = record {
   next = λ j past below. own_next n g (along_y n p j) s (line_at plane j) first (is.own j past below);
 }
-
--- one of two planes, when the other is filled
-pub plane_filled : (planes : List (List Line)) (i : ℕ) (plane : List Line) → i < length planes → plane_at (slice_set planes i plane) i ≡ plane
-plane_filled planes i plane inside = get_or-set_same planes i plane [] inside
 
 -- the rows that a curl has along a line of a strip stand in the planes of its layer and the one beside it
 pub line_rows : (d : Bool) (n : Triple) (g : Axis → Triple → ℤ) (low : Spot) (size : Triple) (count from to y z : ℕ) (near far : List Line)

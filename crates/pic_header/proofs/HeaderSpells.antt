@@ -5,7 +5,7 @@ use Rattle.std.specs.Prelude.{codes}
 use Rattle.std.specs.List.{list_all, list_any}
 use Rattle.std.specs.Str.{bytes_eq}
 use Rattle.std.proofs.lemmas.Bool.{and_parts, eqb-true, leb-true}
-use Rattle.std.proofs.lemmas.List.{length-append, length-drop}
+use Rattle.std.proofs.lemmas.List.{length-drop}
 use Rattle.pic_num.specs.declared.motion.Kind.{Kind}
 use Rattle.pic_num.specs.declared.mult.Scales.{Scales}
 use Rattle.pic_num.specs.Bytes.{u32_bytes, i32_bytes}
@@ -13,9 +13,8 @@ use Rattle.pic_num.specs.Limits.{most_version, allowance_of, fewest_cells_of_axi
 use Rattle.pic_num.specs.Multiplier.{Multiplier}
 use Rattle.pic_num.specs.Space.{Triple}
 use Rattle.pic_num.specs.Sub.{bits_of, bits_of-side}
-use Rattle.pic_grid.specs.declared.loops.Loop.{Loop}
 use Rattle.pic_grid.specs.Species.{HeadView, is_name_byte}
-use Rattle.pic_fields.specs.Parser.{Input, input, Parser, done, ◌>>=◌, mapped}
+use Rattle.pic_fields.specs.Parser.{Input, input, Parser, done, ◌>>=◌}
 use Rattle.pic_fields.specs.Number.{is_from_to, is_between}
 use Rattle.pic_fields.specs.Bytes.{IsBytes}
 use Rattle.pic_fields.proofs.Spells.{Spells}

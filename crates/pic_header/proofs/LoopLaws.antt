@@ -1,8 +1,8 @@
 -- How many bytes the loops of a header have.
-use Rattle.std.proofs.Common.{◌≡◌, ℕ, ◌+◌, ◌*◌, ◌<◌, ◌≤◌, ◌==◌, List, All, length, get_or, take, inl, inr, arith}
+use Rattle.std.proofs.Common.{ℕ, ◌*◌, ◌≤◌, ◌==◌, List, All, length, take, inl, inr, arith}
 use Rattle.std.proofs.lemmas.Bool.{cases_Bool}
 use Rattle.std.proofs.lemmas.List.Elements.{All-weaker}
-use Rattle.std.proofs.lemmas.List.Sums.{sum_by-le, sum_by_more, sum_by-take-le}
+use Rattle.std.proofs.lemmas.List.Sums.{sum_by-le, sum_by-take-le}
 use Rattle.pic_num.specs.Limits.{allowance_of, most_loops, most_wave}
 use Rattle.pic_num.specs.Space.{Triple}
 use Rattle.pic_grid.specs.declared.loops.Loop.{Loop}
@@ -26,11 +26,6 @@ loops_most loops waves =
     let each = All-weaker (λ l. length l.wave ≤ most_wave) (λ l. loop_length l ≤ 532) (λ l few. omega (arith, few)) loops waves in
     let all = sum_by-le loop_length 532 loops each in
     omega (arith, all)
-
--- one loop more
-pub loops_more : (loops : List Loop) (i : ℕ) (d : Loop) → i < length loops
-    → loops_length (take (i + 1) loops) ≡ loops_length (take i loops) + loop_length (get_or loops i d)
-loops_more loops i d below = sum_by_more loop_length loops i d below
 
 pub loops_so_far : (loops : List Loop) (i : ℕ) → All (λ l. length l.wave ≤ most_wave) loops → loops_length (take i loops) ≤ 532 * length loops
 loops_so_far loops i waves =

@@ -1,5 +1,5 @@
 -- What is kept of frames, and what putting them writes.
-use Rattle.std.proofs.Common.{◌≡◌, ℕ, suc, ◌+◌, ◌-◌, ◌<◌, ◌≤◌, List, [], ◌∷◌, ◌++◌, length, take, drop, Bool, true, false, Option, Some, None, Result, Ok, Err}
+use Rattle.std.proofs.Common.{◌≡◌, ℕ, suc, ◌+◌, ◌-◌, ◌<◌, ◌≤◌, List, [], ◌∷◌, ◌++◌, length, take, drop, Bool, true, Option, Some, None, Result, Ok, Err}
 use Rattle.std.proofs.Common.{refl, sym, ap, subst, ◌∙◌, arith, length-append}
 use Rattle.std.proofs.Math.Seq.{get_or-append_seam, take-add, take-append_seam, drop-append_seam}
 use Rattle.std.proofs.lemmas.Grind.{flat_map-append}
@@ -67,9 +67,6 @@ line_cut l step e b particles energies o p r s text put calm is front rose =
 -- a frame is kept, or it isn't
 pub is_kept : (steps : ℕ) (l : LayoutView) (f : FrameView) → is_due steps l.every f.step ≡ true → kept_pieces steps l (f ∷ []) ≡ kept_piece l f ∷ []
 is_kept steps l f due = rw due refl
-
-pub isnt_kept : (steps : ℕ) (l : LayoutView) (f : FrameView) → is_due steps l.every f.step ≡ false → kept_pieces steps l (f ∷ []) ≡ []
-isnt_kept steps l f due = rw due refl
 
 -- what is kept of frames in two parts
 pub kept_split : (steps : ℕ) (l : LayoutView) (xs ys : List FrameView) → kept_pieces steps l (xs ++ ys) ≡ kept_pieces steps l xs ++ kept_pieces steps l ys

@@ -1,9 +1,9 @@
-use Rattle.std.proofs.Common.{◌≡◌, Err, sym, ap, arith}
+use Rattle.std.proofs.Common.{Err, ap, arith}
 use Rattle.pic_fields.proofs.ReadLaws.{read_then, read_done, read_up_to}
 use Rattle.pic_header.specs.HeaderFields.{loop_at}
 use Rattle.pic_header.proofs.HeadReadLaws.{head_goes_on, head_exits, head_passes_on}
 use Rattle.pic_header.proofs.RunLaws.{goes_on_by, goes_then, goes_done, goes_wave, runs_loop_axis, runs_loop_cell}
-use Rattle.pic_header.proofs.WithinLaws.{within_short, within_first, within_then, within_done}
+use Rattle.pic_header.proofs.WithinLaws.{within_short, within_first, within_then}
 use Rattle.pic_header.proofs.LessLaws.{same_read_stop, same_head_stop, less_short, less_first, less_then}
 use Rattle.pic_header.proofs.loop_reader.read_loop.Goals as goal
 

@@ -1,4 +1,4 @@
-use Rattle.std.proofs.Common.{Err, ◌≡◌, ◌<◌, ◌+◌, ◌*◌, ◌++◌, ◌∷◌, [], length, refl, ap, ◌∙◌, subst, arith, rules, length-append}
+use Rattle.std.proofs.Common.{◌≡◌, ◌+◌, ◌*◌, refl, ap, ◌∙◌, subst, arith, rules, length-append}
 use Rattle.std.proofs.lemmas.Int.{to_z-of_z}
 use mir.Syntax.{w64}
 use mir.Val.{SFits}
@@ -13,7 +13,7 @@ use Rattle.pic_header.specs.HeaderFields.{drive_at, numbers_at}
 use Rattle.pic_header.specs.HeadReads.{TakesWithin}
 use Rattle.pic_header.proofs.HeadReadLaws.{read_among, head_starves}
 use Rattle.pic_header.proofs.RunLaws.{goes_on_by, runs_drive}
-use Rattle.pic_header.proofs.WithinLaws.{within_short, within_done, within_among, within_read}
+use Rattle.pic_header.proofs.WithinLaws.{within_short, within_among, within_read}
 use Rattle.pic_header.proofs.LessLaws.{same_read_stop, was_fed, less_short, less_among}
 use Rattle.pic_header.proofs.loop_reader.read_numbers.Goals as goal
 
