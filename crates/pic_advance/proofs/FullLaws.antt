@@ -1,6 +1,6 @@
 -- A step of E over all blocks of a lattice, by those of the current: what it makes of the blocks is what
 -- it makes of the lattice, and no current is left.
-use Rattle.std.proofs.Common.{◌≡◌, ℕ, ℤ, pos, ◌*◌, ◌<◌, List, length, Option, refl, sym, ◌∙◌, ap, subst, arith}
+use Rattle.std.proofs.Common.{◌≡◌, ℕ, ℤ, pos, ◌<◌, List, length, Option, sym, ◌∙◌, ap, subst, arith}
 use Rattle.pic_num.specs.declared.axis.Axis.{Axis}
 use Rattle.pic_num.specs.declared.mult.Scales.{Scales}
 use Rattle.pic_num.specs.Limits.{most_value}
@@ -8,12 +8,12 @@ use Rattle.pic_num.specs.Space.{Triple, Spot, unwrapped}
 use Rattle.pic_grid.specs.declared.stop.Phase.TheVariants.{Electric}
 use Rattle.pic_grid.specs.declared.stop.Stop.{Stop}
 use Rattle.pic_grid.specs.Block.{BlockValues, IsShaped, edge_at, inner_at, outer_of}
-use Rattle.pic_grid.specs.Cells.{IsWithin, count_of, cell_of, place_of}
+use Rattle.pic_grid.specs.Cells.{IsWithin, count_of, cell_of}
 use Rattle.pic_grid.specs.Lattice.{Field, EachAtMost, value_at}
 use Rattle.pic_grid.specs.Parts.{origin, part_size, corner_of}
 use Rattle.pic_field.specs.FieldPhases.{full_of, full_in, least_fault, no_drive, most_raised}
-use Rattle.pic_advance.specs.Blocks.{block_in, EachBlock, earliest, IsMade}
-use Rattle.pic_advance.specs.Driven.{AllCanDrive, AreDriven, driven_stop}
+use Rattle.pic_advance.specs.Blocks.{block_in, EachBlock, IsMade}
+use Rattle.pic_advance.specs.Driven.{AllCanDrive, AreDriven}
 use Rattle.pic_advance.proofs.MadeLaws.{made_clear}
 use Rattle.pic_advance.proofs.RowStopLaws.{row_stop_is}
 use Rattle.pic_advance.proofs.TakenLaws.{HasBlocks, taken_among, taken_edge, taken_value, taken_small}

@@ -1,5 +1,5 @@
 -- Blocks of new values, made for each by itself.
-use Rattle.std.proofs.Common.{◌≡◌, ℕ, ℤ, pos, ◌*◌, All, List, ◌++◌, ap, ◌∙◌}
+use Rattle.std.proofs.Common.{◌≡◌, ℤ, pos, ◌*◌, All, List, ap, ◌∙◌}
 use Rattle.pic_num.specs.declared.axis.Axis.{Axis}
 use Rattle.pic_num.specs.Space.{Triple}
 use Rattle.pic_grid.specs.Block.{BlockValues, inner_at}

@@ -7,7 +7,7 @@ use Rattle.pic_num.specs.declared.axis.Axis.{Axis}
 use Rattle.pic_num.specs.Limits.{most_value}
 use Rattle.pic_num.specs.Sizes.{IsAtMost}
 use Rattle.pic_num.specs.Space.{Triple, Spot, unwrapped}
-use Rattle.pic_grid.specs.Block.{BlockValues, IsAmongCells, IsShaped, AllAtMost, inner_of, edge_at, inner_at, outer_of}
+use Rattle.pic_grid.specs.Block.{BlockValues, IsAmongCells, AllAtMost, inner_of, edge_at, inner_at, outer_of}
 use Rattle.pic_grid.specs.Cells.{Grid, IsCells, IsWithin, count_of, index_of, cell_of}
 use Rattle.pic_grid.specs.Lattice.{Field, IsParts, EachAtMost, grid_of, value_at, field_of}
 use Rattle.pic_grid.specs.Parts.{part_size, no_block, ArePartsOf, value_in, joined}

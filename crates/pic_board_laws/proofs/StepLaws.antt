@@ -25,7 +25,7 @@ use Rattle.pic_yard.proofs.MarkLaws.{ArrivalsStay, claim_marks, told_marks}
 use Rattle.pic_yard.proofs.PostLaws.{posts, post_marks}
 use Rattle.pic_yard.proofs.SeatLaws.{split_marks, join_marks}
 use Rattle.pic_yard.proofs.WayLaws.{ways_of}
-use Rattle.pic_board_laws.specs.BoardSteps.{IsStep, IsDraw, IsPost, IsReturn, IsSplit, IsJoin, events_of, one_more}
+use Rattle.pic_board_laws.specs.BoardSteps.{IsDraw, IsPost, IsReturn, IsSplit, IsJoin, events_of}
 use Rattle.pic_board_laws.specs.BoardSteps as steps
 use Rattle.pic_board_laws.specs.Laws.{LeadsTo, TheBoardGoesOnAsTheCore}
 use Rattle.pic_board_laws.specs.StandsFor.{StandsFor}

@@ -1,6 +1,6 @@
 -- A whole deck, with no walk from key to key: what a document spells where it is accepted, and which bytes
 -- are a deck.
-use Rattle.std.specs.Prelude.{◌≡◌, ◌≢◌, ◌↔◌, ◌⊎◌, ℕ, ℤ, ◌≤◌, List, [], length, codes, Some, Ok}
+use Rattle.std.specs.Prelude.{◌≡◌, ◌≢◌, ◌↔◌, ◌⊎◌, ℕ, ◌≤◌, List, [], length, codes, Some, Ok}
 use Rattle.toml.specs.Data.{Data, Members}
 use Rattle.pic_num.specs.Space.{Triple, spot}
 use Rattle.pic_walk.specs.Bounds.{most_bytes}

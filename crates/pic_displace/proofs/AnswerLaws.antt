@@ -11,9 +11,7 @@ use Rattle.pic_grid.specs.Cells.{IsWithin}
 use Rattle.pic_grid.specs.Lattice.{Field, value_at}
 use Rattle.pic_grid.proofs.LatticeLaws.{value_at-field_of}
 use Rattle.pic_walk.specs.Path.{key_at}
-use Rattle.pic_deck.specs.declared.refusal.Refusal.{Refusal}
 use Rattle.pic_deck.specs.Deck.{DeckView}
-use Rattle.pic_deck.specs.Initial.{first_strong}
 use Rattle.pic_deck.specs.Keys.{force_allowed}
 use Rattle.pic_deck.specs.Reading.{as_read}
 use Rattle.pic_deck.proofs.ForceLaws.{first_of_field}

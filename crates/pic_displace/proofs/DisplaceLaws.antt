@@ -1,21 +1,17 @@
 -- Displaced particles of a deck have come by their ways; and so the displaced start keeps Gauss's law.
-use Rattle.std.proofs.Common.{◌≡◌, ℕ, ◌+◌, ◌-◌, ◌*◌, ◌<◌, ◌≤◌, List, length, take, map, get_or, Option, Some, None, refl, sym, ap, subst, ◌∙◌, arith}
-use Rattle.std.proofs.Math.IntN.{ℤ, ◌-ℤ◌}
+use Rattle.std.proofs.Common.{◌≡◌, ℕ, ◌+◌, ◌-◌, ◌<◌, ◌≤◌, List, length, take, get_or, Option, Some, None, sym, ap, subst, ◌∙◌, arith}
 use Rattle.std.proofs.Math.Seq.{take-take}
 use Rattle.std.specs.Prelude.{All}
 use Rattle.std.proofs.lemmas.List.{get_or-map, get_or-take, length-map, length-take-le, get_or_default}
 use Rattle.std.proofs.lemmas.List.Elements.{All-get_or}
 use Rattle.std.proofs.lemmas.List.Sums.{sum_by_more_le}
-use Rattle.pic_num.specs.declared.axis.Axis.{Axis}
 use Rattle.pic_num.specs.declared.axis.Axis.TheVariants.{X, Y, Z}
 use Rattle.pic_num.specs.declared.motion.Particle.{Particle}
 use Rattle.pic_num.specs.declared.motion.Kind.{Kind}
-use Rattle.pic_num.specs.Limits.{most_charge, most_particles}
-use Rattle.pic_num.specs.Sizes.{IsAtMost}
-use Rattle.pic_num.specs.Space.{Triple, triple, spot, unwrapped}
+use Rattle.pic_num.specs.Limits.{most_particles}
+use Rattle.pic_num.specs.Space.{Triple, triple, spot}
 use Rattle.pic_num.proofs.VersionLaws.{side_least, within_scheme}
-use Rattle.pic_grid.specs.Cells.{Grid, IsWithin}
-use Rattle.pic_grid.specs.Differences.{div_e}
+use Rattle.pic_grid.specs.Cells.{Grid}
 use Rattle.pic_grid.specs.Hat.{HasTwo}
 use Rattle.pic_grid.specs.Lattice.{value_at, field_of}
 use Rattle.pic_grid.specs.PushPhase.{kind_of, no_kind}
@@ -23,7 +19,6 @@ use Rattle.pic_grid.specs.Species.{IsKind, no_head}
 use Rattle.pic_grid.proofs.LatticeLaws.{value_at-field_of}
 use Rattle.pic_grid.proofs.SpeciesLaws.{kind_most}
 use Rattle.pic_split.proofs.ImageLaws.{div_e_same}
-use Rattle.pic_walk.specs.Terms.{TermsView}
 use Rattle.pic_deck.specs.declared.species.Fill.{Fill}
 use Rattle.pic_deck.specs.declared.species.Fill.TheVariants.{Points, Lattice, Random, Pair, Displace}
 use Rattle.pic_deck.specs.declared.species.Species.{Species}
@@ -32,9 +27,9 @@ use Rattle.pic_deck.specs.Species.{particles_of, species_at, no_species, head_of
 use Rattle.pic_deck.proofs.HeadLaws.{particles_of-heads}
 use Rattle.pic_load.specs.Loading.{IsParticleOf, AreLoaded, id_of, loaded, loaded_particle, moved, no_particle, point_in}
 use Rattle.pic_ways.specs.declared.way.Way.{Way}
-use Rattle.pic_ways.specs.Way.{HasCome, IsWithinLimits as IsWayWithinLimits, current_of_ways}
+use Rattle.pic_ways.specs.Way.{HasCome, IsWithinLimits as IsWayWithinLimits}
 use Rattle.pic_ways.proofs.WayLaws.{gauss_by_ways}
-use Rattle.pic_displace.specs.Displace.{HasNamed, IsOfSpecies, index_of_particle, way_by, way_of, displaced_e, undisplaced, kinds_of, DisplacedStartKeepsGauss}
+use Rattle.pic_displace.specs.Displace.{HasNamed, IsOfSpecies, index_of_particle, way_by, way_of, displaced_e, kinds_of, DisplacedStartKeepsGauss}
 use Rattle.pic_displace.proofs.LoadedLaws.{IsLoadedAt, AreLoadedAt, all_loaded}
 
 module _ (d : DeckView) (limits : IsWithinLimits d) (are : AreLoaded d (loaded d)) where

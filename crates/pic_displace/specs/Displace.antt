@@ -1,6 +1,6 @@
 -- The displaced start: species begin a way away from others. What a run begins with is then the E of its
 -- deck, less the current of those ways.
-use Rattle.std.specs.Prelude.{◌≡◌, ◌≢◌, ⊤, ℕ, ℤ, ◌-◌, ◌<◌, ◌≤◌, ◌-ℤ◌, Bool, true, false, List, map}
+use Rattle.std.specs.Prelude.{◌≡◌, ⊤, ℕ, ℤ, ◌-◌, ◌<◌, ◌≤◌, ◌-ℤ◌, Bool, true, false, List, map}
 use Rattle.std.specs.Prelude.{take, length, codes, slice_index_or, Option, Some, None, Result, Ok, Err}
 use Rattle.std.specs.List.{list_any}
 use Rattle.pic_num.specs.declared.axis.Axis.{Axis}

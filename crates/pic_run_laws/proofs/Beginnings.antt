@@ -1,14 +1,11 @@
 -- What a run begins with, from the laws of the crates below.
-use Rattle.std.proofs.Common.{◌≡◌, ℕ, ◌+◌, ◌<◌, ◌≤◌, Some, inl, inr, arith}
+use Rattle.std.proofs.Common.{ℕ, ◌+◌, ◌<◌, ◌≤◌, Some, inl, inr, arith}
 use Rattle.std.proofs.Math.IntN.{ℤ, pos, negsuc, ◌+ℤ◌}
 use Rattle.std.specs.Prelude.{◌≤ℤ◌, ◌<ℤ◌}
 use Rattle.std.proofs.lemmas.Int.{ints}
-use Rattle.pic_num.specs.Space.{Triple, Spot}
-use Rattle.pic_grid.specs.Block.{InZone}
 use Rattle.pic_grid.specs.Lattice.{values_of}
 use Rattle.pic_grid.specs.Traces.{IsBeyond}
 use Rattle.pic_load.specs.Loading.{loaded}
-use Rattle.pic_ways.specs.Margin.{margin_low, margin_size}
 use Rattle.pic_ways.proofs.WaySizeLaws.{some_beyond}
 use Rattle.pic_displace.proofs.NoneLaws.{stays}
 use Rattle.pic_step.specs.SerialRun.{start_of}

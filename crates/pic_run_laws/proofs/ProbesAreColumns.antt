@@ -1,29 +1,23 @@
 -- The lines of probes, from the frames of a run.
-use Rattle.std.proofs.Common.{◌≡◌, ℕ, suc, ◌+◌, ◌<◌, List, [], ◌∷◌, ◌++◌, All, length, map, Result, Ok, Err, refl, sym, ap, ◌∙◌, arith}
+use Rattle.std.proofs.Common.{◌≡◌, suc, ◌+◌, List, [], ◌∷◌, ◌++◌, All, map, Result, Ok, refl, sym, ap, ◌∙◌, arith}
 use Rattle.std.specs.Prelude.{flat_map}
 use Rattle.pic_fields.specs.Parser.{Fault}
 use Rattle.pic_grid.specs.declared.stop.EndMark.{EndMark}
 use Rattle.pic_grid.specs.Lattice.{value_at}
-use Rattle.pic_deck.specs.Deck.{DeckView}
 use Rattle.pic_devices.specs.declared.probes.Probes.{Probes}
 use Rattle.pic_displace.specs.Displace.{displaced_e}
 use Rattle.pic_load.specs.Loading.{loaded}
-use Rattle.pic_dump.specs.DumpRead.{DumpRead, read_dump}
+use Rattle.pic_dump.specs.DumpRead.{DumpRead}
 use Rattle.pic_energy.specs.Line.{end_line}
-use Rattle.pic_header.specs.Header.{HeaderView}
 use Rattle.pic_io.specs.Sinks.{outs}
 use Rattle.pic_probe.specs.ProbeLine.{probe_line}
-use Rattle.pic_record.specs.FrameFields.{FrameView}
 use Rattle.pic_record.specs.Layout.{LayoutView, layout_of}
 use Rattle.pic_states.specs.declared.output.Output.TheVariants.{Probe}
 use Rattle.pic_states.specs.Frames.{frame_piece, due_states, end_of_run}
 use Rattle.pic_states.specs.FrameStates.{frame_in}
-use Rattle.pic_report.specs.Outcome.{out_text}
-use Rattle.pic_run.specs.DeckOutcome.{run_outcome, probe_outcome}
 use Rattle.pic_run.specs.RunHeader.{header_of}
 use Rattle.pic_open.specs.Starting.{first_state}
 use Rattle.pic_step.specs.SerialStep.{World}
-use Rattle.pic_run_laws.specs.KeptDecks.{IsKeptDeck}
 use Rattle.pic_run_laws.specs.ProbesAreColumns.{deck_framing_each, columns_in, ProbesAreColumns}
 use Rattle.pic_run_laws.proofs.GoodFrames.{e_is, b_is}
 use Rattle.pic_run_laws.proofs.OtherDecks.{tested_running, kept_running}

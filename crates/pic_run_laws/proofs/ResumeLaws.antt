@@ -32,7 +32,7 @@ use Rattle.pic_verify.specs.Verified.{Verdict}
 use Rattle.pic_run_laws.proofs.StateFits.{IsGoodState, StopsFit, of_after, loops_after, stands}
 use Rattle.pic_run_laws.proofs.GoodFrames.{frame_text}
 use Rattle.pic_run_laws.proofs.KeptStates.{due_in, IsLast, resumed_states, last_of}
-use Rattle.pic_run_laws.proofs.RunLaws.{dump, states_good, run_read, run_verdict}
+use Rattle.pic_run_laws.proofs.RunLaws.{states_good, run_read, run_verdict}
 
 -- the frames that are kept are those of the states that are
 kept_where : (b : Bool) (w : World) (fs : List FrameView) (ws : List World) → fs ≡ map frame_in ws

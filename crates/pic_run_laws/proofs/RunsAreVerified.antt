@@ -1,5 +1,5 @@
 -- The laws of a deck's dump, and of the two commands.
-use Rattle.std.proofs.Common.{◌≡◌, ℕ, List, length, Option, Some, None, Ok, Err, refl, sym, ap, ◌∙◌, subst}
+use Rattle.std.proofs.Common.{◌≡◌, ℕ, List, length, Option, Some, Ok, Err, refl, sym, ap, ◌∙◌, subst}
 use Rattle.std.proofs.lemmas.List.Elements.{All-map}
 use Rattle.pic_grid.specs.Species.{HeadView}
 use Rattle.pic_deck.specs.Deck.{DeckView}

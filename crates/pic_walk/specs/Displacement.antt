@@ -1,6 +1,6 @@
 -- A species that stands beside another one: how far its particles stand from those of the other, and their
 -- velocity. Their limits, and the walk of them.
-use Rattle.std.specs.Prelude.{ℕ, ℤ, List, codes, Ok}
+use Rattle.std.specs.Prelude.{ℕ, List, codes, Ok}
 use Rattle.toml.specs.Data.{Members}
 use Rattle.pic_num.specs.declared.axis.Axis.{Axis}
 use Rattle.pic_num.specs.Sizes.{IsAtMost}

@@ -5,10 +5,9 @@ use Rattle.std.proofs.lemmas.List.Elements.{All-nil}
 use Rattle.toml.specs.Data.{Members}
 use Rattle.pic_num.specs.Limits.{allowance_of, most_loops}
 use Rattle.pic_grid.specs.Loops.{AreLoops}
-use Rattle.pic_devices.specs.declared.devices.Devices.{Devices}
 use Rattle.pic_devices.specs.Devices.{no_devices}
 use Rattle.pic_devices.specs.Drive.{drive_list}
-use Rattle.pic_devices.specs.Probes.{AreProbes, no_probes, probes}
+use Rattle.pic_devices.specs.Probes.{no_probes, probes}
 use Rattle.pic_walk.specs.Terms.{TermsView}
 use Rattle.pic_walk.specs.Walk.{◌>>=◌, optional}
 use Rattle.pic_walk.proofs.WalkLaws.{goes_on, exits}

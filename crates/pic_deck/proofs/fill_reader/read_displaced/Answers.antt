@@ -1,9 +1,9 @@
-use Rattle.std.proofs.Common.{◌≡◌, ◌∙◌, refl, sym}
+use Rattle.std.proofs.Common.{◌∙◌, refl}
 use Rattle.std.proofs.lemmas.Int.{to_z-of_z}
 use Rattle.std.proofs.lemmas.List.{get_or_default}
 use mir.Syntax.{w32}
 use Rattle.pic_deck.specs.Fill.{displaced}
-use Rattle.pic_deck.specs.Species.{no_species, species_at}
+use Rattle.pic_deck.specs.Species.{no_species}
 use Rattle.pic_walk.proofs.WalkLaws.{goes_on, exits}
 use Rattle.pic_deck.proofs.fill_reader.read_displaced.Goals as goal
 

@@ -1,4 +1,4 @@
-use Rattle.std.proofs.Common.{◌≡◌, ◌+◌, sym, ◌∙◌, subst}
+use Rattle.std.proofs.Common.{◌+◌, sym, ◌∙◌, subst}
 use Rattle.pic_grid.specs.Block.{BlockValues}
 use Rattle.pic_displace.specs.Displace.{way_of}
 use Rattle.pic_displace.proofs.AddedLaws.{HasAdded, none_added, one_added, still_added}

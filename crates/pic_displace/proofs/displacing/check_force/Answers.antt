@@ -1,4 +1,4 @@
-use Rattle.std.proofs.Common.{◌≡◌, Option, Err, sym, ap, ◌∙◌, rules}
+use Rattle.std.proofs.Common.{Option, Err, sym, ap, ◌∙◌, rules}
 use Rattle.std.proofs.Math.IntN.{ℤ, pos}
 use Rattle.std.specs.Prelude.{codes, neg_ℤ}
 use Rattle.std.proofs.lemmas.Int.{to_z-of_z}

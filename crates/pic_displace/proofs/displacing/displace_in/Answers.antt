@@ -1,4 +1,4 @@
-use Rattle.std.proofs.Common.{◌≡◌, ◌≤◌, List, sym, ap, subst}
+use Rattle.std.proofs.Common.{◌≤◌, List, sym, ap, subst}
 use Rattle.std.proofs.Math.IntN.{ℤ}
 use Rattle.pic_num.specs.Limits.{most_particles}
 use Rattle.pic_num.specs.Sizes.{IsAtMost}

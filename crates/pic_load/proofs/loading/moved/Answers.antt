@@ -1,10 +1,10 @@
-use Rattle.std.proofs.Common.{◌*◌, ◌∷◌, [], slice_index, slice_index_or, ap, ◌∙◌, rules}
+use Rattle.std.proofs.Common.{◌∷◌, [], slice_index, slice_index_or, ap, ◌∙◌, rules}
 use Rattle.std.proofs.Math.IntN.{ℤ, pos, ◌+ℤ◌}
 use Rattle.std.proofs.lemmas.Int.{to_z-of_z}
 use mir.Syntax.{w32}
 use mir.Val.{SFits}
 use Rattle.pic_num.specs.Rounding.{residue}
-use Rattle.pic_num.specs.Space.{Triple, triple, spot}
+use Rattle.pic_num.specs.Space.{Triple, spot}
 use Rattle.pic_load.specs.Loading.{moved}
 use Rattle.pic_load.proofs.loading.moved.Goals as goal
 

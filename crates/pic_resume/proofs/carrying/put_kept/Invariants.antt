@@ -1,5 +1,5 @@
 -- So many good frames were read, and those that are kept were put.
-use Rattle.std.proofs.Common.{◌≡◌, ◌+◌, ◌-◌}
+use Rattle.std.proofs.Common.{◌+◌, ◌-◌}
 use Rattle.pic_io.specs.Sinks.{sinks}
 use Rattle.pic_record.specs.Layout.{IsLayout}
 use Rattle.pic_verify.proofs.ReachedLaws.{AreGood}

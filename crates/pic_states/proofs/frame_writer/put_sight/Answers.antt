@@ -1,4 +1,4 @@
-use Rattle.std.proofs.Common.{◌≡◌, List, ℕ, [], length, ◌∙◌, sym, subst}
+use Rattle.std.proofs.Common.{List, ℕ, [], length, ◌∙◌, sym, subst}
 use Rattle.pic_num.specs.Space.{Triple}
 use Rattle.pic_io.specs.Sink.{Appended, AppendedFront}
 use Rattle.pic_io.proofs.Puts.{cut_out}

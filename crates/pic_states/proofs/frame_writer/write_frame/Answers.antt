@@ -1,5 +1,4 @@
 use Rattle.std.proofs.Common.{sym, subst}
-use Rattle.pic_io.specs.Sinks.{sinks}
 use Rattle.pic_states.specs.declared.output.Output.{Output}
 use Rattle.pic_states.specs.Rooms.{CanLook, CanPut, CanSee}
 use Rattle.pic_states.proofs.FrameLaws.{put_as}

@@ -1,7 +1,6 @@
-use Rattle.std.proofs.Common.{◌≡◌, ℕ, ◌<◌, [], ◌∷◌, length, ◌∙◌, sym, subst, arith}
+use Rattle.std.proofs.Common.{◌≡◌, ◌<◌, [], ◌∷◌, length, ◌∙◌, sym, subst, arith}
 use Rattle.std.specs.Prelude.{All}
 use Rattle.std.proofs.lemmas.List.{get_or_default}
-use Rattle.pic_num.specs.Limits.{most_particles}
 use Rattle.pic_grid.specs.PushPhase.{no_kind}
 use Rattle.pic_tile.specs.Directions.{here}
 use Rattle.pic_tile.specs.Parcels.{AreFreshTiles, IsFresh}
