@@ -24,9 +24,11 @@ SIZES = [
     (16, 8, 10_000, 20, 420), (16, 8, 100_000, 4, 44), (16, 8, 1_000_000, 1, 5),
     (32, 8, 10_000, 10, 110), (32, 8, 100_000, 4, 44), (32, 8, 1_000_000, 1, 5),
     (64, 8, 10_000, 2, 22), (64, 8, 100_000, 2, 22), (64, 8, 1_000_000, 1, 5),
+    (64, 16, 524_288, 1, 7), (128, 16, 4_194_304, 1, 4),
 ]
-FIELDS = [(16, 8, 100, 2100), (32, 8, 20, 320), (64, 8, 4, 44)]
+FIELDS = [(16, 8, 100, 2100), (32, 8, 20, 320), (64, 8, 4, 44), (64, 16, 4, 44), (128, 16, 1, 7)]
 WORKERS = (1, 2, 4)
+MOST_CELLS_OF_VERSION_1 = 64
 QUIET = os.environ.get("QUIET")
 TRIES = 600
 
@@ -35,6 +37,8 @@ def deck(cells, tile, particles, steps, every=1_000_000):
     """The demonstration's plasma on a grid of its own, or its fields alone."""
     text = DECK.replace("[16, 16, 16]", str([cells] * 3)).replace("[4, 4, 4]", str([cells // tile] * 3))
     text = text.replace("steps = 16", f"steps = {steps}").replace("every = 4", f"every = {every}")
+    if cells > MOST_CELLS_OF_VERSION_1:
+        text = text.replace("version = 1", "version = 2").replace("[grid]", "[grid]\nsub = 12")
     if particles == 0:
         return text.split("[[species]]")[0] + "[field]\nfaces = [[2, 0, 0, 0, 1000003]]\n"
     return text.replace("count = 8192", f"count = {particles // 2}")
