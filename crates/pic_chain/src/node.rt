@@ -49,7 +49,7 @@ impl Node {
         self.particle = particle;
     }
 
-    /// Its number in the order in which the run's nodes were made, once it was told; 0 before.
+    /// Its number in the order in which the run's nodes were made, so far as it was told.
     pub fn home(&self) -> usize
         ensures { result ≡ home_of self.now }
     {

@@ -1,4 +1,4 @@
--- Linear weights along one axis: of all places of a grid two have a weight of a point that isn't 0
+-- Linear weights along one axis: at most two of its places have a weight of a point that isn't 0
 -- (first order, "cloud in cell": Birdsall and Langdon, "Plasma Physics via Computer Simulation").
 use Rattle.std.specs.Prelude.{◌≡◌, ℕ, ◌+◌, ◌*◌, ◌%◌, ◌<◌}
 use Rattle.pic_grid.specs.Hat.{periodic_hat, only_at}
@@ -8,8 +8,8 @@ use Rattle.pic_grid.specs.declared.pair.Pair.{Pair}
 abbrev pub weight_in : Pair → ℕ → ℕ
 weight_in w j = only_at w.low w.low_weight j + only_at w.high w.high_weight j
 
--- the two cells of a pair are among n, the high one next to the low one round the axis, and their weights add
--- up to the side of a cell
+-- the two cells of a pair are among n, the high one next behind the low one round the axis, and their weights
+-- add up to the side of a cell
 pub record IsPair (side n : ℕ) (w : Pair) : Type 0 where
   pub low : w.low < n
   pub high : w.high < n

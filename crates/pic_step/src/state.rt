@@ -223,8 +223,8 @@ impl State {
     }
 
     /// Sorts the particles in memory: those of a tile come to lie side by side, as when the run began, so
-    /// that its pushes read memory in order. The state stays as it is. What the particles of a snapshot
-    /// of as many were is lost; and it takes no memory.
+    /// that its pushes read memory in order. The state stays as it is. It uses the particles of a snapshot
+    /// of as many as room: what these were is lost. It takes no memory.
     pub fn sort(&mut self, room: &mut Snapshot)
         requires { length room.old.particles.items ≡ length self.old.world.particles }
         ensures state { self.new ≡ self.old }
