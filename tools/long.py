@@ -127,6 +127,11 @@ def of_all_devices():
     return deck | {"version": 2, "grid": deck["grid"] | {"sub": 12}, "run": deck["run"] | {"filter": 1}}
 
 
+def apart(count):
+    """So many electrons that drift a quarter of a cell a step, on as many ions that stand still."""
+    return [species("e", -1, random={"count": count} | drawn(3, [2**22, 0, -(2**21)], 2**20)), species("i", 1, pair={"of": "e"} | drawn(4, [0, 0, 0], 9))]
+
+
 def wide(program, steps):
     """As many tiles, species, particles as there may be."""
     del steps
@@ -145,11 +150,9 @@ def wide(program, steps):
     deck = deck_of([4, 6, 5], [2, 3, 1], 20, 7, species=many)
     agree_with_model(program, Test("20 steps of 16 species from lattices, random ones and pairs, 1, 2, 64 workers"), "species", deck, [1, 2, 64])
     agree_with_model(program, Test("20 steps of 4 displaced species, 16 loops, 128 probes, 1, 3, 64 workers"), "devices", of_all_devices(), [1, 3, 64])
-    apart = [species("e", -1, random={"count": 90} | drawn(3, [2**22, 0, -(2**21)], 2**20)), species("i", 1, pair={"of": "e"} | drawn(4, [0, 0, 0], 9))]
-    deck = deck_of([6, 4, 4], [3, 2, 2], 100, 33, species=apart)
+    deck = deck_of([6, 4, 4], [3, 2, 2], 100, 33, species=apart(90))
     agree_with_model(program, Test("100 steps of 180 particles that cross tiles, byte for byte, 1, 3, 64 workers"), "crossing", deck, [1, 3, 64])
-    apart = [species("e", -1, random={"count": 32768} | drawn(3, [2**22, 0, -(2**21)], 2**20)), species("i", 1, pair={"of": "e"} | drawn(4, [0, 0, 0], 9))]
-    deck = deck_of([32, 32, 32], [8, 8, 8], 100, 20, species=apart)
+    deck = deck_of([32, 32, 32], [8, 8, 8], 100, 20, species=apart(32768))
     agree_exactly(program, Test("100 steps of 65536 particles that cross tiles, 1, 3, 64 workers"), "crossing", deck, [1, 3, 64])
     half = 524288
     most = [species("e", -1, random={"count": half} | drawn(1, [0, 0, 0], 2**18)), species("i", 1, pair={"of": "e"} | drawn(2, [0, 0, 0], 9))]
