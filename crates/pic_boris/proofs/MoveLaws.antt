@@ -71,7 +71,7 @@ near_arrives side v h =
 
 -- where neither the speed nor the turn is too large, a push leads where its new velocity does
 pub slow_arrives : (side : ℕ) (v e b : Spot) (kick turn : Multiplier) → AreAtMost (plus v (each (λ c. scaled c kick) e)) (2 ^ 26)
-    → AreAtMost (each (λ c. scaled c turn) b) (2 ^ 20)
+    → AreAtMost (each (λ c. scaled c turn) b) (2 ^ 19)
     → pushed side v e b kick turn
     ≡ arrived side (plus (turned (plus v (each (λ c. scaled c kick) e)) (each (λ c. scaled c turn) b)) (each (λ c. scaled c kick) e))
 unfolding pushed
@@ -82,5 +82,5 @@ slow_arrives side v e b kick turn slow weak =
     let new_v = plus (turned kicked turn_by) half_kick in
     let move = each (λ c. rounded c (pos velocity_unit)) new_v in
     let speed = none_above Speed (2 ^ 26) most_speed kicked (omega arith) slow in
-    let turned_by = none_above Turn (2 ^ 20) most_turn turn_by (omega arith) weak in
+    let turned_by = none_above Turn (2 ^ 19) most_turn turn_by (omega arith) weak in
     λ i. unless (option_or (speed i) (option_or (turned_by i) (first_above Far side move))) (record { v = new_v; d = move })

@@ -1,6 +1,6 @@
 //! Three whole numbers of 64 bits by axis, and what the push computes with them.
 
-ghost use Rattle.std.specs.Prelude.{◌≡◌, pos, ◌^◌, ◌-◌, ◌≤◌, ◌+ℤ◌, ◌-ℤ◌, ◌*ℤ◌, unsigned_abs};
+ghost use Rattle.std.specs.Prelude.{◌≡◌, pos, ◌^◌, ◌-◌, ◌≤◌, ◌+ℤ◌, ◌-ℤ◌, ◌*ℤ◌, IsTrue, unsigned_abs};
 ghost use Rattle.pic_num.specs.Push.{each, plus, cross};
 ghost use Rattle.pic_num.specs.Rounding.{rounded, scaled};
 ghost use Rattle.pic_num.specs.Sizes.{IsAtMost};
@@ -15,6 +15,19 @@ pub(crate) struct Narrow {
     pub(crate) x: i64,
     pub(crate) y: i64,
     pub(crate) z: i64,
+}
+
+/// Whether a number is at most `most` in size: two comparisons, which the compiler makes one of.
+#[inline(always)]
+pub(crate) fn is_at_most(n: i64, most: u64) -> bool
+    requires { most ≤ 2 ^ 62 }
+    ensures { IsTrue result → IsAtMost n most }
+{
+    let most = most as i64;
+    if n < -most {
+        return false;
+    }
+    n <= most
 }
 
 /// The vector of three numbers.
@@ -89,9 +102,9 @@ pub(crate) fn narrow_sum(p: Narrow, q: Narrow) -> Narrow
 #[inline(always)]
 fn minor(a: i64, b: i64, c: i64, d: i64) -> i64
     requires a_small { IsAtMost a (2 ^ 28) }
-    requires b_small { IsAtMost b (2 ^ 20) }
+    requires b_small { IsAtMost b (2 ^ 19) }
     requires c_small { IsAtMost c (2 ^ 28) }
-    requires d_small { IsAtMost d (2 ^ 20) }
+    requires d_small { IsAtMost d (2 ^ 19) }
     ensures value { result ≡ a *ℤ b -ℤ c *ℤ d }
     ensures size { IsAtMost result (2 ^ 49) }
 {
@@ -103,7 +116,7 @@ fn minor(a: i64, b: i64, c: i64, d: i64) -> i64
 #[tactic(auto, unfolding(pic_num::specs::Push::cross))]
 pub(crate) fn narrow_cross(v: Narrow, t: Narrow) -> Narrow
     requires v_small { AreAtMost (narrow_spot v) (2 ^ 28) }
-    requires t_small { AreAtMost (narrow_spot t) (2 ^ 20) }
+    requires t_small { AreAtMost (narrow_spot t) (2 ^ 19) }
     ensures value { narrow_spot result ≡ cross (narrow_spot v) (narrow_spot t) }
     ensures size { AreAtMost (narrow_spot result) (2 ^ 49) }
 {

@@ -10,7 +10,7 @@ ghost use Rattle.pic_boris.specs.Narrow.{narrow_spot};
 ghost use Rattle.pic_boris.specs.Pushes.{IsInLimits, shift_of, arrived};
 
 use crate::moved::Moved;
-use crate::narrow::{Narrow, narrow_of, narrow_shift, narrow_sum, scaled_narrow};
+use crate::narrow::{Narrow, is_at_most, narrow_of, narrow_shift, narrow_sum, scaled_narrow};
 use crate::narrow_turning::narrow_turned;
 use pic_num::{Mult, Sub};
 
@@ -24,7 +24,7 @@ const MAX_SMALL_SHIFT: u32 = 60;
 const MAX_SMALL_SPEED: u64 = 1 << 26;
 
 /// The most that a turn may be in size here.
-const MAX_SMALL_TURN: u64 = 1 << 20;
+const MAX_SMALL_TURN: u64 = 1 << 19;
 
 /// A velocity is in 1 / 2^12 sub-cell per step.
 pub const SPEED_BITS: u32 = 12;
@@ -32,12 +32,12 @@ pub const SPEED_BITS: u32 = 12;
 /// Whether three numbers are at most `most` in size.
 #[inline(always)]
 fn are_at_most(x: i64, y: i64, z: i64, most: u64) -> bool
+    requires { most ≤ 2 ^ 62 }
     ensures x { IsTrue result → IsAtMost x most }
     ensures y { IsTrue result → IsAtMost y most }
     ensures z { IsTrue result → IsAtMost z most }
 {
-    let more = x.unsigned_abs().max(y.unsigned_abs());
-    more.max(z.unsigned_abs()) <= most
+    is_at_most(x, most) && is_at_most(y, most) && is_at_most(z, most)
 }
 
 /// Whether a gathered field and its multiplier are small.
@@ -53,6 +53,7 @@ fn is_weak(field: [i64; 3], by: Mult) -> bool
 /// Whether a vector is at most `most` in size.
 #[inline(always)]
 fn is_small(p: Narrow, most: u64) -> bool
+    requires { most ≤ 2 ^ 62 }
     ensures { IsTrue result → AreAtMost (narrow_spot p) most }
 {
     are_at_most(p.x, p.y, p.z, most)

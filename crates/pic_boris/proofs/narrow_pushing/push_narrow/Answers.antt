@@ -17,7 +17,7 @@ returns-clause-pushed c =
     let kicked = c.narrow_sum-kicked.ensures.value ∙ (λ i. plus (c.narrow_of.ensures.value i) (half_kick i)) in
     let turn_by = c.scaled_narrow-turn_by.ensures.value in
     let slow = subst (λ (p : Spot). AreAtMost p (2 ^ 26)) kicked (c.if-not-is_small.ensures refl) in
-    let weak = subst (λ (p : Spot). AreAtMost p (2 ^ 20)) turn_by (c.if-not-is_small-2.ensures refl) in
+    let weak = subst (λ (p : Spot). AreAtMost p (2 ^ 19)) turn_by (c.if-not-is_small-2.ensures refl) in
     let new_v = c.narrow_sum.ensures.value ∙ (λ i. plus (c.narrow_turned.ensures.value i) (half_kick i))
     ∙ (λ i. plus (turned (kicked i) (turn_by i)) (each (λ n. scaled n c.args.kick) e)) in
     let is : pushed c.args.sub v e b c.args.kick c.args.turn ≡ arrived c.args.sub (narrow_spot c.narrow_sum.result) =

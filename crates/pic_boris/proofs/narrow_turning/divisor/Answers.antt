@@ -8,7 +8,7 @@ use Rattle.pic_num.proofs.SizeLaws.{codes, code_fits, code_is, code_at_most}
 use Rattle.pic_boris.proofs.narrow_turning.divisor.Goals as goal
 
 -- the sum, with its casts left out
-sum_is : (a b d : ℤ) → IsAtMost a (2 ^ 40) → IsAtMost b (2 ^ 40) → IsAtMost d (2 ^ 40)
+sum_is : (a b d : ℤ) → IsAtMost a (2 ^ 38) → IsAtMost b (2 ^ 38) → IsAtMost d (2 ^ 38)
     → to_z w64 (of_z w64 (pos 1099511627776 +ℤ to_z w64
     (of_z w64 (to_z w64 (of_z w64 (to_z w64 (of_z w64 a) +ℤ to_z w64 (of_z w64 b))) +ℤ to_z w64 (of_z w64 d)))))
     ≡ pos (2 ^ 40) +ℤ (a +ℤ b +ℤ d)

@@ -14,7 +14,7 @@ value_is c =
     let w_is : c.from.result ≡ c.args.w = c.from.ensures ∙ to_z-of_z w64 c.args.w c.ranges.w in
     let d_is : c.from-2.result ≡ c.args.divisor = c.from-2.ensures ∙ to_z-of_z w64 c.args.divisor c.ranges.divisor in
     let w_size : IsAtMost c.from.result (2 ^ 49) = subst (λ (z : ℤ). IsAtMost z (2 ^ 49)) (sym w_is) c.requires.w in
-    let d_size : IsAtMost c.from-2.result (2 ^ 42) = subst (λ (z : ℤ). IsAtMost z (2 ^ 42)) (sym d_is) c.requires.size in
+    let d_size : IsAtMost c.from-2.result (2 ^ 41) = subst (λ (z : ℤ). IsAtMost z (2 ^ 41)) (sym d_is) c.requires.size in
     let n : to_z w128 (of_z w128 (pos 2097152 *ℤ to_z w128 (of_z w128 c.from.result))) ≡ pos 2097152 *ℤ c.from.result = code_is (search codes depth 8) tt in
     let d : to_z w128 (of_z w128 c.from-2.result) ≡ c.from-2.result = code_is (search codes depth 4) tt in
     c.rdiv.ensures.value ∙ (λ i. rounded (n i) (d i)) ∙ (λ i. rounded (pos (2 ^ 21) *ℤ w_is i) (d_is i))

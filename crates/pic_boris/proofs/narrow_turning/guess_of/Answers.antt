@@ -8,18 +8,18 @@ use Rattle.pic_boris.proofs.narrow_turning.guess_of.Goals as goal
 use Rattle.pic_boris.proofs.narrow_turning.guess_of.Goals.{After-from-2}
 
 -- a shift makes the product small
-shifted : (z : ℤ) → IsAtMost z (2 ^ 63 * 2 ^ 62) → IsAtMost (shr_z z (2 ^ 74)) (2 ^ 52)
+shifted : (z : ℤ) → IsAtMost z (3 * 2 ^ 60 * 2 ^ 62) → IsAtMost (shr_z z (2 ^ 74)) (2 ^ 52)
 shifted (pos a) h = let size = h.size in record { size = omega (arith, ints, size) }
 shifted (negsuc a) h = let size = h.size in record { size = omega (arith, ints, size) }
 
-dividend : (c : After-from-2) → IsAtMost c.from.result (2 ^ 63)
-dividend c = subst (λ (z : ℤ). IsAtMost z (2 ^ 63)) (sym (c.from.ensures ∙ to_z-of_z w64 c.args.dividend c.ranges.dividend)) c.requires.dividend
+dividend : (c : After-from-2) → IsAtMost c.from.result (3 * 2 ^ 60)
+dividend c = subst (λ (z : ℤ). IsAtMost z (3 * 2 ^ 60)) (sym (c.from.ensures ∙ to_z-of_z w64 c.args.dividend c.ranges.dividend)) c.requires.dividend
 
 reciprocal : (c : After-from-2) → IsAtMost c.from-2.result (2 ^ 62)
 reciprocal c = subst (λ (z : ℤ). IsAtMost z (2 ^ 62)) (sym (c.from-2.ensures ∙ to_z-of_z w64 c.args.reciprocal c.ranges.reciprocal)) c.requires.reciprocal
 
 -- which the code holds
-small : (a b : ℤ) → IsAtMost a (2 ^ 63) → IsAtMost b (2 ^ 62)
+small : (a b : ℤ) → IsAtMost a (3 * 2 ^ 60) → IsAtMost b (2 ^ 62)
     → IsAtMost (to_z w128 (of_z w128 (shr_z (to_z w128 (of_z w128 (to_z w128 (of_z w128 a) *ℤ to_z w128 (of_z w128 b)))) (2 ^ 74)))) (2 ^ 52)
 small a b h k =
     let low = shifted (to_z w128 (of_z w128 (to_z w128 (of_z w128 a) *ℤ to_z w128 (of_z w128 b)))) (code_at_most (search codes depth 8) tt) in

@@ -16,5 +16,5 @@ returns-clause-size c =
     ∙ (λ i. plus v (c.all_over_one.ensures.value i))
     ∙ (λ i. plus v (each (λ n. rounded n (pos (2 ^ 20))) (c.narrow_cross.ensures.value i))) in
     subst (λ (p : Spot). AreAtMost p (2 ^ 28)) (sym is)
-    (more_at_most (half_turned v t) (2 ^ 26 + 2 ^ 27) (2 ^ 28) (omega arith)
-    (half_turned_size v t (2 ^ 26) (2 ^ 20) (2 ^ 27) c.requires.v_small c.requires.t_small (omega arith)))
+    (more_at_most (half_turned v t) (2 ^ 26 + 2 ^ 26) (2 ^ 28) (omega arith)
+    (half_turned_size v t (2 ^ 26) (2 ^ 19) (2 ^ 26) c.requires.v_small c.requires.t_small (omega arith)))
