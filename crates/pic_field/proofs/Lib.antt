@@ -10,3 +10,4 @@ pub mod LentLaws
 pub mod CurlLaws
 pub mod PlaneLaws
 pub mod RaisedLaws
+pub mod ShiftLaws

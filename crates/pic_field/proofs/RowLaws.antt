@@ -1,16 +1,18 @@
 -- Rows filled value by value, and run by run round the grid.
 use Rattle.std.proofs.Common.{◌≡◌, ◌≢◌, ℕ, ℤ, pos, ◌+◌, ◌-◌, ◌*◌, ◌/◌, ◌%◌, ◌<◌, ◌≤◌, ◌⊎◌, List}
-use Rattle.std.proofs.Common.{◌++◌, length, take, slice_set, inl, inr, sym, ◌∙◌, ap, subst, arith}
+use Rattle.std.proofs.Common.{◌^◌, ◌++◌, length, take, slice_set, slice_index_or, to_z, of_z, inl, inr, sym, ◌∙◌, ap, subst, arith}
 use Rattle.std.proofs.lemmas.Bool.{cases_lt}
 use Rattle.std.proofs.lemmas.List.{get_or-set_same, get_or-set_other, get_or-take, get_or_append_left, get_or-append_right, length-take-le}
 use Rattle.std.proofs.lemmas.Nat.{div-add-mod', mod-mul-add}
 use Rattle.std.proofs.Math.Nat.{mul-add-mod_self_right}
 use borrow.Author.Count.{below_more}
+use mir.Syntax.{w128}
 use Rattle.pic_num.specs.declared.axis.Axis.{Axis}
 use Rattle.pic_num.specs.Multiplier.{Multiplier}
 use Rattle.pic_num.specs.Rounding.{scaled}
 use Rattle.pic_num.specs.Sizes.{IsAtMost}
 use Rattle.pic_num.specs.Space.{Triple}
+use Rattle.pic_num.proofs.SizeLaws.{codes, code_is}
 use Rattle.pic_grid.specs.Cells.{IsWithin}
 use Rattle.pic_grid.specs.Lattice.{Field, value_at, EachAtMost}
 use Rattle.pic_field.specs.declared.plane.Span.{Span}
@@ -160,3 +162,9 @@ with_edge n g a p s row v span inside is at small = record {
         subst (λ (z : ℤ). IsAtMost z most_row) (sym (get_or-set_other row s.edge i v (pos 0) other)) (is.small i among.0 among.1))
   ];
 }
+
+-- a small value of a row is held as it is
+pub held : (row : List ℤ) (i : ℕ) → i < length row → IsSmallRow (2 ^ 90) (length row) row → to_z w128 (of_z w128 (row_at row i)) ≡ row_at row i
+held row i inside small =
+    let h : IsAtMost (slice_index_or row i (pos 0)) (2 ^ 90) = small.at_most i inside in
+    code_is (search codes depth 6) tt

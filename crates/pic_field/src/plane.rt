@@ -11,9 +11,9 @@ ghost use Rattle.pic_field.specs.Beside.{first_index};
 ghost use Rattle.pic_field.specs.Rows.{most_row, read_by, start_cell, IsStart, IsScaledRow};
 ghost use Rattle.pic_field.specs.Planes.{span_of, IsSpan, IsOwnLine, IsSideLine, IsNextLine, IsScaledPlane, IsNextPlane};
 
-use crate::row::{Row, Scaled, Start, after_run, scale_row, start_at};
+use crate::row::{Row, Scaled, Start, after_run, scale_row, scale_value};
 use pic_grid::Slot;
-use pic_num::{Axis, scale};
+use pic_num::Axis;
 
 /// How many lines a strip has at most.
 pub(crate) const LINES_OF_STRIP: u32 = 8;
@@ -95,7 +95,6 @@ pub(crate) fn strip_end(from: u32, count: u32) -> u32
 /// Scales what a curl reads of the plane of a strip of `lines` lines in the strip's own layer and
 /// the one beside it: of the strip's lines, and of that beside them in y. The plane begins with the
 /// line whose rooms begin with the cell `at`.
-#[inline(always)]
 pub(crate) fn fill_plane(from: &Scaled, at: [u32; 3], span: Span, lines: usize, to: &mut Plane)
     requires within { IsWithin (triple at) from.now.field.now.cells }
     requires span { IsSpan span }
@@ -106,17 +105,22 @@ pub(crate) fn fill_plane(from: &Scaled, at: [u32; 3], span: Span, lines: usize, 
         to.new }
 {
     let [_, ny, _] = from.field.cells().numbers();
-    let [x, start, z] = at;
-    let mut y = start;
+    let [x, first, z] = at;
+    let z = from.field.slot_z(z);
+    let mut y = first;
     for j in 0..lines + 1 {
         let own = is_own(span.first, lines, j);
-        scale_line(from, [x, y, z], span, own, &mut to[j]);
+        let start = Start {
+            x,
+            y: from.field.slot_y(y),
+            z,
+        };
+        scale_line(from, start, span, own, &mut to[j]);
         y = after_run(ny, y, 1);
     }
 }
 
 /// Scales what a curl reads of the plane of a strip of `lines` lines in the layer beside it alone.
-#[inline(always)]
 pub(crate) fn fill_next_plane(from: &Scaled, at: [u32; 3], span: Span, lines: usize, to: &mut Plane)
     requires within { IsWithin (triple at) from.now.field.now.cells }
     requires span { IsSpan span }
@@ -126,10 +130,16 @@ pub(crate) fn fill_next_plane(from: &Scaled, at: [u32; 3], span: Span, lines: us
         to.new }
 {
     let [_, ny, _] = from.field.cells().numbers();
-    let [x, start, z] = at;
-    let mut y = after_run(ny, start, span.first);
+    let [x, first, z] = at;
+    let z = from.field.slot_z(z);
+    let mut y = after_run(ny, first, span.first);
     for j in span.first..span.first + lines {
-        scale_next(from, [x, y, z], span, &mut to[j]);
+        let start = Start {
+            x,
+            y: from.field.slot_y(y),
+            z,
+        };
+        scale_next(from, start, span, &mut to[j]);
         y = after_run(ny, y, 1);
     }
 }
@@ -147,36 +157,36 @@ fn is_own(first: usize, lines: usize, j: usize) -> bool
     j < first + lines
 }
 
-/// Scales what a curl reads of a line whose rooms begin with the cell `at`: one of a strip's own,
-/// or else the line beside it in y.
-fn scale_line(from: &Scaled, at: [u32; 3], span: Span, own: bool, to: &mut Line)
-    requires within { IsWithin (triple at) from.now.field.now.cells }
+/// Scales what a curl reads of the line from a start on, with whose cell its rooms begin: one of a
+/// strip's own, or else the line beside it in y.
+#[inline(always)]
+fn scale_line(from: &Scaled, start: Start, span: Span, own: bool, to: &mut Line)
+    requires start { IsStart from.now.field.now start }
     requires span { IsSpan span }
-    requires edge { (triple at).x + span.edge ≤ from.now.field.now.cells.x }
+    requires edge { start.x + span.edge ≤ from.now.field.now.cells.x }
     requires small { EachAtMost most_value from.now.field.now }
     ensures own { IsTrue own
-        → IsOwnLine from.now.field.now.cells (read_by from.now) (triple at) span to.new }
-    ensures side { IsSideLine from.now.field.now.cells (read_by from.now) (triple at) span to.new }
+        → IsOwnLine from.now.field.now.cells (read_by from.now) (start_cell start) span to.new }
+    ensures side { IsSideLine from.now.field.now.cells (read_by from.now) (start_cell start) span
+        to.new }
 {
     if own {
-        return scale_own(from, at, span, to);
+        return scale_own(from, start, span, to);
     }
-    let start = start_at(from.field, at);
     let wanted = Wanted { y: false, z: true };
     scale_rows(from, start, span, wanted, to)
 }
 
 /// Scales what a curl reads of the line that it is along.
 #[inline(always)]
-fn scale_own(from: &Scaled, at: [u32; 3], span: Span, to: &mut Line)
-    requires within { IsWithin (triple at) from.now.field.now.cells }
+fn scale_own(from: &Scaled, start: Start, span: Span, to: &mut Line)
+    requires start { IsStart from.now.field.now start }
     requires span { IsSpan span }
-    requires edge { (triple at).x + span.edge ≤ from.now.field.now.cells.x }
+    requires edge { start.x + span.edge ≤ from.now.field.now.cells.x }
     requires small { EachAtMost most_value from.now.field.now }
-    ensures { IsOwnLine from.now.field.now.cells (read_by from.now) (triple at) span to.new }
+    ensures { IsOwnLine from.now.field.now.cells (read_by from.now) (start_cell start) span to.new }
 {
     let [nx, _, _] = from.field.cells().numbers();
-    let start = start_at(from.field, at);
     let wanted = Wanted { y: true, z: true };
     scale_rows(from, start, span, wanted, to);
     let edge = from.field.slot_x(after_run(nx, start.x, span.edge));
@@ -187,13 +197,14 @@ fn scale_own(from: &Scaled, at: [u32; 3], span: Span, to: &mut Line)
 }
 
 /// Scales what a curl reads of a line beside it in z.
-fn scale_next(from: &Scaled, at: [u32; 3], span: Span, to: &mut Line)
-    requires within { IsWithin (triple at) from.now.field.now.cells }
+#[inline(always)]
+fn scale_next(from: &Scaled, start: Start, span: Span, to: &mut Line)
+    requires start { IsStart from.now.field.now start }
     requires span { IsSpan span }
     requires small { EachAtMost most_value from.now.field.now }
-    ensures { IsNextLine from.now.field.now.cells (read_by from.now) (triple at) span to.new }
+    ensures { IsNextLine from.now.field.now.cells (read_by from.now) (start_cell start) span
+        to.new }
 {
-    let start = start_at(from.field, at);
     let wanted = Wanted { y: true, z: false };
     scale_rows(from, start, span, wanted, to);
 }
@@ -210,7 +221,7 @@ fn scaled_at(from: &Scaled, axis: Axis, x: Slot, y: Slot, z: Slot) -> i128
     ensures size { IsAtMost result most_row }
 {
     let run = from.field.run_at(axis, x, y, z);
-    scale(run[0], from.by)
+    scale_value(run[0], from.by)
 }
 
 /// Which rows of a line are wanted beside that of x.

@@ -1,8 +1,9 @@
 //! Rows of values: a field's values along a line of cells, scaled, and what a curl makes of them.
 
-ghost use Rattle.std.specs.Prelude.{◌≡◌, ℕ, ◌+◌, ◌%◌, ◌^◌, ◌<◌, ◌≤◌, ◌-ℤ◌, IsTrue, length};
-ghost use Rattle.pic_num.specs.Limits.{most_value};
-ghost use Rattle.pic_num.specs.Rounding.{scaled};
+ghost use Rattle.std.specs.Prelude.{◌≡◌, ℕ, pos, ◌+◌, ◌/◌, ◌%◌, ◌^◌, ◌<◌, ◌≤◌, ◌-ℤ◌, IsTrue, length};
+ghost use Rattle.pic_num.specs.Limits.{most_scaled, most_value};
+ghost use Rattle.pic_num.specs.Rounding.{rounded, scaled};
+ghost use Rattle.pic_num.specs.Sizes.{IsAtMost};
 ghost use Rattle.pic_num.specs.Space.{triple};
 ghost use Rattle.pic_grid.specs.Cells.{IsWithin};
 ghost use Rattle.pic_grid.specs.Lattice.{EachAtMost};
@@ -14,6 +15,9 @@ use pic_num::{Axis, Mult, scale};
 
 /// How many values a row has room for: one more than the most cells of an axis.
 pub(crate) const VALUES_OF_ROW: usize = 129;
+
+/// The bits of a word of the machine. A shift that is seen to be less takes no test.
+const WORD: u32 = 64;
 
 /// A room for a row.
 pub(crate) type Row = [i128; VALUES_OF_ROW];
@@ -92,9 +96,25 @@ pub(crate) fn after_run(count: u32, x: u32, more: usize) -> u32
     if next == count { 0 } else { next }
 }
 
-/// Scales every value of a row.
+/// Scales every value of a row. A multiplier whose number is 1, as most are, takes no product.
 #[inline(always)]
 pub(crate) fn scale_row(from: &[i128], by: Mult, to: &mut [i128])
+    requires length { length to.old ≡ length from.now }
+    requires small { IsSmallRow most_value (length from.now) from.now }
+    ensures values { (i : ℕ) → i < length from.now
+        → row_at to.new i ≡ scaled (row_at from.now i) by }
+    ensures small { IsSmallRow most_row (length from.now) to.new }
+{
+    if by.n() == 1 {
+        shift_row(from, by, to);
+    } else {
+        multiply_row(from, by, to);
+    }
+}
+
+/// Scales every value of a row by any multiplier.
+#[inline(always)]
+fn multiply_row(from: &[i128], by: Mult, to: &mut [i128])
     requires length { length to.old ≡ length from.now }
     requires small { IsSmallRow most_value (length from.now) from.now }
     ensures values { (i : ℕ) → i < length from.now
@@ -106,9 +126,66 @@ pub(crate) fn scale_row(from: &[i128], by: Mult, to: &mut [i128])
     }
 }
 
+/// Scales every value of a row by a multiplier whose number is 1.
+#[inline(always)]
+fn shift_row(from: &[i128], by: Mult, to: &mut [i128])
+    requires one { by.n ≡ pos 1 }
+    requires length { length to.old ≡ length from.now }
+    requires small { IsSmallRow most_value (length from.now) from.now }
+    ensures values { (i : ℕ) → i < length from.now
+        → row_at to.new i ≡ scaled (row_at from.now i) by }
+    ensures small { IsSmallRow most_row (length from.now) to.new }
+{
+    let k = by.k();
+    let half = half_of_power(k);
+    for i in 0..from.len() {
+        to[i] = shifted(from[i], half, k);
+    }
+}
+
+/// A value times a multiplier, rounded once.
+#[inline(always)]
+pub(crate) fn scale_value(v: i128, by: Mult) -> i128
+    requires { IsAtMost v most_value }
+    ensures value { result ≡ scaled v by }
+    ensures size { IsAtMost result most_scaled }
+{
+    if by.n() == 1 {
+        let k = by.k();
+        shifted(v, half_of_power(k), k)
+    } else {
+        scale(v, by)
+    }
+}
+
+/// Half of a power of two, without its fraction.
+#[inline(always)]
+fn half_of_power(k: u32) -> i128
+    requires { k ≤ 62 }
+    ensures value { result ≡ pos (2 ^ k / 2) }
+    ensures size { IsAtMost result (2 ^ 62) }
+{
+    let power = 1u64 << (k % WORD);
+    i128::from(power / 2)
+}
+
+/// `v / 2^k`, rounded to the nearest whole number, a half going up, where `half` is that of `2^k`.
+#[inline(always)]
+fn shifted(v: i128, half: i128, k: u32) -> i128
+    requires v { IsAtMost v most_value }
+    requires k { k ≤ 62 }
+    requires half { half ≡ pos (2 ^ k / 2) }
+    requires small { IsAtMost half (2 ^ 62) }
+    ensures value { result ≡ rounded v (pos (2 ^ k)) }
+    ensures size { IsAtMost result most_value }
+{
+    let bits = k % WORD;
+    (v + half) >> bits
+}
+
 /// Lessens every value of a row by the curl of four rows, and by that of `take` where it `takes`
-/// one. The answer is whether all are then at most `most` in size. Each call says `takes` by a
-/// literal, so that it has straight code of its own.
+/// one. Where the answer is yes all are then at most `most` in size; where all are at most half of
+/// that it is yes. Each call says `takes` by a literal, so that it has straight code of its own.
 #[inline(always)]
 pub(crate) fn lessen_row(
     row: &mut [i128],
@@ -124,15 +201,26 @@ pub(crate) fn lessen_row(
         ≡ row_at row.old i -ℤ taken_at takes take.now i -ℤ curl_at four.now i }
     ensures calm { IsTrue result → IsSmallRow most (length row.old) row.new }
 {
-    let mut calm = true;
+    let mut sizes = 0;
     for i in 0..row.len() {
         let curl = four.far_third[i] - four.near_third[i] - four.far_second[i]
             + four.near_second[i];
         let value = row[i] - value_if(takes, take, i) - curl;
         row[i] = value;
-        calm = calm & (value.unsigned_abs() <= most);
+        sizes = sizes | size_of(value);
     }
-    calm
+    sizes < most
+}
+
+/// The size of a number, or one less: the bits of many such say at once how large the numbers are.
+#[inline(always)]
+fn size_of(value: i128) -> u128
+    ensures { IsAtMost value (result + 1) }
+{
+    if value < 0 {
+        return (-1 - value) as u128;
+    }
+    value as u128
 }
 
 /// The value of a row at an index, or 0 where it isn't wanted.

@@ -32,7 +32,7 @@ after_run-y-requires c =
 
 pub scale_next-requires : goal.scale_next-requires
 scale_next-requires c = record {
-  within = record { x = c.requires.within.x; y = c.loop-j.invariant.below; z = c.requires.within.z };
+  start = record { x = c.requires.within.x; y = c.slot_y.ensures.slot; z = c.slot_z-z.ensures.slot };
   span = c.requires.span;
   small = c.requires.small;
 }
@@ -55,7 +55,8 @@ loop-j-preserved c =
     let numbers : triple c.numbers.result ≡ f.cells = c.numbers.ensures.value ∙ c.cells.ensures.value in
     let cells : slice_index c.numbers.result 1 ≡ f.cells.y = ap (λ (n : Triple). n.y) numbers in
     let line = c.scale_next.new.to in
-    let at : record first { y = c.loop-j.y } ≡ along_y f.cells first j = λ i. record first { y = c.loop-j.invariant.at i } in
+    let at : record { x = first.x; y = c.slot_y.result.index; z = c.slot_z-z.result.index } ≡ along_y f.cells first j =
+    λ i. record { x = first.x; y = (c.slot_y.ensures.index ∙ c.loop-j.invariant.at) i; z = c.slot_z-z.ensures.index i } in
     record {
       at = c.after_run-y-in-loop-j.ensures.value
           ∙ ap (λ (m : ℕ). (c.loop-j.y + 1) % m) cells

@@ -26,7 +26,7 @@ is_own-own-requires c = record { first = c.requires.span.first; lines = c.requir
 
 pub scale_line-requires : goal.scale_line-requires
 scale_line-requires c = record {
-  within = record { x = c.requires.within.x; y = c.loop-j.invariant.below; z = c.requires.within.z };
+  start = record { x = c.requires.within.x; y = c.slot_y.ensures.slot; z = c.slot_z-z.ensures.slot };
   span = c.requires.span;
   edge = c.requires.edge;
   small = c.requires.small;
@@ -57,7 +57,8 @@ loop-j-preserved c =
     let numbers : triple c.numbers.result ≡ f.cells = c.numbers.ensures.value ∙ c.cells.ensures.value in
     let cells : slice_index c.numbers.result 1 ≡ f.cells.y = ap (λ (n : Triple). n.y) numbers in
     let line = c.scale_line.new.to in
-    let at : record first { y = c.loop-j.y } ≡ along_y f.cells first j = λ i. record first { y = c.loop-j.invariant.at i } in
+    let at : record { x = first.x; y = c.slot_y.result.index; z = c.slot_z-z.result.index } ≡ along_y f.cells first j =
+    λ i. record { x = first.x; y = (c.slot_y.ensures.index ∙ c.loop-j.invariant.at) i; z = c.slot_z-z.ensures.index i } in
     let own : s.first ≤ j → j < s.first + lines → IsOwnLine f.cells (read_by c.args.from.now) (along_y f.cells first j) s line =
     λ past below. subst (λ (p : Triple). IsOwnLine f.cells (read_by c.args.from.now) p s line) at
     (c.scale_line.ensures.own (c.is_own-own.ensures past below)) in

@@ -14,7 +14,7 @@ returns-clause-value c =
     let f = c.args.from.now.field.now in
     let a = c.args.axis in
     let run = c.run_at-run.result.now in
-    let kept : to_z w128 (of_z w128 c.scale.result) ≡ c.scale.result = code_is (search codes depth 6) tt in
+    let kept : to_z w128 (of_z w128 c.scale_value.result) ≡ c.scale_value.result = code_is (search codes depth 6) tt in
     let cell : Triple = record { x = c.args.x.index; y = c.args.y.index; z = c.args.z.index } in
     let same : c.args.x.index + 0 ≡ c.args.x.index = omega arith in
     let here : row_at run 0 ≡ value_at f a cell =
@@ -23,4 +23,4 @@ returns-clause-value c =
     let small : IsAtMost (slice_index_or run 0 (pos 0)) (2 ^ 90) =
     subst (λ (v : ℤ). IsAtMost v (2 ^ 90)) (sym here) (c.requires.small.at_most a cell within) in
     let read : to_z w128 (of_z w128 (row_at run 0)) ≡ row_at run 0 = code_is (search codes depth 6) tt in
-    kept ∙ c.scale.ensures.value ∙ ap (λ (v : ℤ). scaled v c.args.from.now.by) (read ∙ here)
+    kept ∙ c.scale_value.ensures.value ∙ ap (λ (v : ℤ). scaled v c.args.from.now.by) (read ∙ here)

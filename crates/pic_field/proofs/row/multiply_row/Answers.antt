@@ -1,17 +1,11 @@
-use Rattle.std.proofs.Common.{◌≡◌, ◌^◌, ◌<◌, ℕ, ℤ, pos, List, length, to_z, of_z, slice_index_or, ◌∙◌, ap, subst, sym, arith}
+use Rattle.std.proofs.Common.{◌≡◌, ◌^◌, ◌<◌, ℤ, length, to_z, of_z, ◌∙◌, ap, subst, sym, arith}
 use mir.Syntax.{w128}
 use Rattle.pic_num.specs.Rounding.{scaled}
 use Rattle.pic_num.specs.Sizes.{IsAtMost}
 use Rattle.pic_num.proofs.SizeLaws.{codes, code_is, at_most_more}
-use Rattle.pic_field.specs.Rows.{most_row, row_at, IsSmallRow}
-use Rattle.pic_field.proofs.RowLaws.{row_more, small_more}
-use Rattle.pic_field.proofs.row.scale_row.Goals as goal
-
--- a small value of a row is held as it is
-held : (row : List ℤ) (i : ℕ) → i < length row → IsSmallRow (2 ^ 90) (length row) row → to_z w128 (of_z w128 (row_at row i)) ≡ row_at row i
-held row i inside small =
-    let h : IsAtMost (slice_index_or row i (pos 0)) (2 ^ 90) = small.at_most i inside in
-    code_is (search codes depth 6) tt
+use Rattle.pic_field.specs.Rows.{most_row, row_at}
+use Rattle.pic_field.proofs.RowLaws.{held, row_more, small_more}
+use Rattle.pic_field.proofs.row.multiply_row.Goals as goal
 
 pub loop-i-preserved : goal.loop-i-preserved
 loop-i-preserved c =
