@@ -2,6 +2,7 @@
 use Rattle.std.proofs.Common.{◌≡◌, ℕ, ℤ, ◌+◌, ◌*◌, ◌^◌, ◌<◌, ◌≤◌, Bool, true, false, cond, ltb, Option}
 use Rattle.std.proofs.Common.{Some, None, Result, OnOk, unsigned_abs, refl, sym, ◌∙◌, ap, subst, arith, zero-add}
 use Rattle.std.specs.Option.{option_or}
+use Rattle.std.specs.Result.{result_err}
 use Rattle.std.specs.List.{range_with_len}
 use borrow.Author.Tests.{ltb-false}
 use Rattle.pic_num.specs.declared.axis.Axis.{Axis}
@@ -36,6 +37,11 @@ fault_of-none phase by a p v none =
     let value : unsigned_abs v ≤ 2 ^ 90 = ltb-false (2 ^ 90) (unsigned_abs v) both.0 in
     let force : unsigned_abs (scaled v by) ≤ 2 ^ 44 = ltb-false (2 ^ 44) (unsigned_abs (scaled v by)) both.1 in
     record { value = record { size = value }; force = record { size = force } }
+
+-- the stop that a phase's answer has
+pub stop_of : (o : Option Stop) (r : Result (Unit {0}) Stop) → r ≡ unless o tt → result_err r ≡ o
+stop_of None r is = ap result_err is
+stop_of (Some stop) r is = ap result_err is
 
 -- a cell counted from the lowest of the grid
 pub above_origin : (p : Triple) → cell_above origin p ≡ p

@@ -11,3 +11,4 @@ pub mod CurlLaws
 pub mod PlaneLaws
 pub mod RaisedLaws
 pub mod ShiftLaws
+pub mod HalvesLaws

@@ -12,7 +12,7 @@ use Rattle.pic_num.specs.Multiplier.{Multiplier}
 use Rattle.pic_num.specs.Rounding.{scaled}
 use Rattle.pic_num.specs.Sizes.{IsAtMost}
 use Rattle.pic_num.specs.Space.{Triple}
-use Rattle.pic_num.proofs.SizeLaws.{codes, code_is}
+use Rattle.pic_num.proofs.SizeLaws.{codes, code_is, at_most_more}
 use Rattle.pic_grid.specs.Cells.{IsWithin}
 use Rattle.pic_grid.specs.Lattice.{Field, value_at, EachAtMost}
 use Rattle.pic_field.specs.declared.plane.Span.{Span}
@@ -37,6 +37,10 @@ row_more P row i v inside below here =
 pub small_more : (most : ℕ) (row : List ℤ) (i : ℕ) (v : ℤ) → i < length row → IsSmallRow most i row → IsAtMost v most
     → IsSmallRow most (i + 1) (slice_set row i v)
 small_more most row i v inside small here = record { at_most = row_more (λ k z. IsAtMost z most) row i v inside small.at_most here }
+
+-- sizes that bound a row still do when they are more
+pub wider : (m n count : ℕ) (row : List ℤ) → m ≤ n → IsSmallRow (m + 1) count row → IsSmallRow (n + 1) count row
+wider m n count row more small = record { at_most = λ k below. at_most_more _ (m + 1) (n + 1) (omega (arith, more)) (small.at_most k below) }
 
 -- the values from i + 1 on stay as they were
 pub row_rest : (first row : List ℤ) (i : ℕ) (v : ℤ) → ((k : ℕ) → i ≤ k → row_at row k ≡ row_at first k)

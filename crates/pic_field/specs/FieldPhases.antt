@@ -14,7 +14,7 @@ use Rattle.pic_num.specs.Sizes.{IsAtMost}
 use Rattle.pic_num.specs.Space.{Triple, Spot, unwrapped}
 use Rattle.pic_grid.specs.declared.stop.Bound.TheVariants.{Value, Force}
 use Rattle.pic_grid.specs.declared.stop.Phase.{Phase}
-use Rattle.pic_grid.specs.declared.stop.Phase.TheVariants.{Electric}
+use Rattle.pic_grid.specs.declared.stop.Phase.TheVariants.{Half2, Electric}
 use Rattle.pic_grid.specs.declared.stop.Stop.{Stop}
 use Rattle.pic_grid.specs.declared.stop.Stop.TheVariants.{Field as field_stop}
 use Rattle.pic_grid.specs.Differences.{curl_b, curl_e}
@@ -47,11 +47,15 @@ most_drive_value = 2 ^ 64
 abbrev pub most_raised : ℕ
 most_raised = most_value + 4 * most_drive_value
 
--- the values of a block after half a step of B, by axis and cell of the grid
+-- the values of a block after half a step of B, by axis and cell of the grid,
 abbrev pub half_in : Scales → Field → BlockValues → Axis → Triple → ℤ
 half_in scales e old a p = half_of scales e a p (edge_at old a (unwrapped p))
 
--- the values of a block after a step of E, by axis and cell of the grid
+-- after both half steps of B, between which E stays,
+abbrev pub twice_in : Scales → Field → BlockValues → Axis → Triple → ℤ
+twice_in scales e old a p = half_of scales e a p (half_in scales e old a p)
+
+-- and after a step of E, by axis and cell of the grid
 abbrev pub full_in : Scales → Field → (Axis → Triple → ℤ) → BlockValues → BlockValues → Axis
     → Triple → ℤ
 full_in scales b m j old a p =
@@ -95,6 +99,20 @@ IsHalfStep scales e old new =
     (a : Axis) (p : Triple) → IsWithin p old.size
     → inner_at new a p ≡ half_of scales e a (outer_of old.low p) (inner_at old a p)
 
+-- or what both half steps of B of a step make of it, between which E stays,
+abbrev pub IsTwiceHalved : Scales → Field → BlockValues → BlockValues → Type 0
+IsTwiceHalved scales e old new =
+    (a : Axis) (p : Triple) → IsWithin p old.size
+    → let q = outer_of old.low p in
+    inner_at new a p ≡ half_of scales e a q (half_of scales e a q (inner_at old a p))
+
+-- or the force values of B between the two,
+abbrev pub IsForceBetween : Scales → Field → BlockValues → BlockValues → Type 0
+IsForceBetween scales e old force =
+    (a : Axis) (p : Triple) → IsWithin p old.size
+    → inner_at force a p
+    ≡ scaled (half_of scales e a (outer_of old.low p) (inner_at old a p)) scales.b_force
+
 -- or a step of E with the current j, where m drives B
 abbrev pub IsFullStep : Scales → Field → (Axis → Triple → ℤ) → BlockValues → BlockValues
     → BlockValues → Type 0
@@ -107,6 +125,11 @@ IsFullStep scales b m j old new =
 abbrev pub stop_of_half : Phase → Scales → Field → BlockValues → Option Stop
 stop_of_half phase scales e old =
     least_fault phase scales.b_force (lowest old.low) old.size (half_in scales e old)
+
+-- of the second half step of B where E stays between the two,
+abbrev pub stop_of_second : Scales → Field → BlockValues → Option Stop
+stop_of_second scales e old =
+    least_fault Half2 scales.b_force (lowest old.low) old.size (twice_in scales e old)
 
 -- and of a step of E
 abbrev pub stop_of_full : Scales → Field → (Axis → Triple → ℤ) → BlockValues → BlockValues

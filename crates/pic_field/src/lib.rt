@@ -1,6 +1,7 @@
 //! The field phases of a step, and force values, block by block.
 #![tactic(auto)]
 
+mod both_halves;
 mod electric;
 mod faults;
 mod forces;
@@ -13,6 +14,7 @@ mod row;
 mod sweep;
 mod zone;
 
+pub use both_halves::both_halves_in;
 pub use electric::{full_e, full_e_in};
 pub use forces::force;
 pub use laws::law_of_the_least_stop;

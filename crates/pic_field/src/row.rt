@@ -214,7 +214,7 @@ pub(crate) fn lessen_row(
 
 /// The size of a number, or one less: the bits of many such say at once how large the numbers are.
 #[inline(always)]
-fn size_of(value: i128) -> u128
+pub(crate) fn size_of(value: i128) -> u128
     ensures { IsAtMost value (result + 1) }
 {
     if value < 0 {

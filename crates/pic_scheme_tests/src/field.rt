@@ -7,7 +7,7 @@ ghost use Rattle.pic_grid.specs.Cells.{IsCells, IsWithin};
 ghost use Rattle.pic_grid.specs.Block.{InZone, IsAmongCells, IsShaped, AllAtMost};
 ghost use Rattle.pic_grid.specs.Lattice.{EachAtMost};
 
-use pic_field::{force, full_e, half_b};
+use pic_field::{Rooms, both_halves_in, force, full_e, half_b};
 use pic_grid::{Block, Bound, Cells, Lattice, Phase, Stop, Zone};
 use pic_num::{Axis, Mult, NoMemory, Scales, Sub};
 use std::alloc::Global;
@@ -126,6 +126,24 @@ fn half_step(
     let mut b = block_of(alloc, zone, faces)?;
     let answer = half_b(scales, &e, &mut b, Phase::Half1);
     Ok((b, answer))
+}
+
+// Both half steps of B on a zone, from these values: B, the force values between, and the answer.
+fn both_half_steps(
+    alloc: Global,
+    scales: &Scales,
+    zone: Zone,
+    edges: &[Value],
+    faces: &[Edge],
+) -> Result<(Block, Block, Result<Option<Stop>, Stop>), NoMemory>
+    requires among { IsAmongCells (spot zone.low) (triple zone.size)
+        (record { x = 4; y = 4; z = 4 }) }
+{
+    let e = lattice_of(alloc, [4, 4, 4], MAX_VALUE, edges)?;
+    let mut b = block_of(alloc, zone, faces)?;
+    let mut force = block_of(alloc, zone, &[])?;
+    let answer = both_halves_in(scales, &e, &mut b, &mut force, &mut Rooms::new());
+    Ok((b, force, answer))
 }
 
 fn scales_of(e_to_b: Mult, b_to_e: Mult, e_force: Mult, b_force: Mult) -> Scales {
@@ -304,6 +322,45 @@ fn half_a_step_of_b_is_rounded(rt: HostRuntime) {
         read(&b, Axis::Z, [2, 3, 2]),
     ];
     assert!(rt; found.is_ok() && values == [9, 1, 1, 7]);
+}
+
+// the second half step takes off what the first one did: 10 becomes 9 and 8; and the force values are
+// those between them, 9, 1, 1 and 7, halved here
+#[test]
+fn both_half_steps_of_b_take_off_as_much(rt: HostRuntime) {
+    let none = Mult::new(0, 0);
+    let scales = scales_of(Mult::new(1, 1), none, none, Mult::new(1, 1));
+    let zone = Zone {
+        low: [1, 0, 2],
+        size: [2, 4, 1],
+    };
+    let edges = [
+        (Axis::Y, [1, 0, 2], 1),
+        (Axis::Y, [2, 0, 2], 2),
+        (Axis::X, [1, 1, 2], -3),
+    ];
+    let faces = [(Axis::Z, [1, 0, 2], 10), (Axis::Z, [2, 3, 2], 7)];
+    let made = both_half_steps(rt.alloc(), &scales, zone, &edges, &faces);
+    let (b, force, found) = made.expect(&rt, "memory");
+    let values = [
+        (
+            read(&b, Axis::Z, [1, 0, 2]),
+            read(&force, Axis::Z, [1, 0, 2]),
+        ),
+        (
+            read(&b, Axis::Z, [1, 1, 2]),
+            read(&force, Axis::Z, [1, 1, 2]),
+        ),
+        (
+            read(&b, Axis::Z, [2, 0, 2]),
+            read(&force, Axis::Z, [2, 0, 2]),
+        ),
+        (
+            read(&b, Axis::Z, [2, 3, 2]),
+            read(&force, Axis::Z, [2, 3, 2]),
+        ),
+    ];
+    assert!(rt; found == Ok(None) && values == [(8, 5), (2, 1), (2, 1), (7, 4)]);
 }
 
 #[test]

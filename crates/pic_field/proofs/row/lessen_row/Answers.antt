@@ -1,12 +1,12 @@
-use Rattle.std.proofs.Common.{◌≡◌, ◌+◌, ◌^◌, ◌<◌, ◌≤◌, ◌+ℤ◌, ◌-ℤ◌, ℕ, ℤ, Bool, List, true, false, length, to_z, of_z, refl, sym, ◌∙◌, subst, arith}
+use Rattle.std.proofs.Common.{◌≡◌, ◌+◌, ◌^◌, ◌<◌, ◌+ℤ◌, ◌-ℤ◌, ℕ, ℤ, Bool, List, true, false, length, to_z, of_z, refl, sym, ◌∙◌, subst, arith}
 use Rattle.std.proofs.lemmas.Nat.{le_or_l, le_or_r}
 use mir.Syntax.{w128}
 use mir.Val.{SFits}
 use Rattle.pic_num.specs.Sizes.{IsAtMost}
 use Rattle.pic_num.proofs.SizeLaws.{codes, code_is, code_fits, at_most_more}
 use Rattle.pic_field.specs.FieldPhases.{most_raised}
-use Rattle.pic_field.specs.Rows.{most_row, row_at, taken_at, curl_of, curl_at, IsSmallRow, IsValueRow}
-use Rattle.pic_field.proofs.RowLaws.{row_more, row_rest, small_more}
+use Rattle.pic_field.specs.Rows.{most_row, row_at, taken_at, curl_of, curl_at, IsValueRow}
+use Rattle.pic_field.proofs.RowLaws.{row_more, row_rest, small_more, wider}
 use Rattle.pic_field.proofs.row.lessen_row.Goals as goal
 
 -- what is taken is small
@@ -35,10 +35,6 @@ module _ (o t a b c d : ℤ) (old : IsAtMost o most_raised) (take : IsAtMost t (
 
     value_is : word (word (word o -ℤ word t) -ℤ word curl) ≡ o -ℤ t -ℤ curl_of a b c d
     value_is = code_is (search codes depth 24) tt
-
--- sizes that bound a row still do when they are more
-wider : (m n count : ℕ) (row : List ℤ) → m ≤ n → IsSmallRow (m + 1) count row → IsSmallRow (n + 1) count row
-wider m n count row more small = record { at_most = λ k below. at_most_more _ (m + 1) (n + 1) (omega (arith, more)) (small.at_most k below) }
 
 pub overflow_sub-curl-in-loop-i : goal.overflow_sub-curl-in-loop-i
 overflow_sub-curl-in-loop-i c =
