@@ -32,7 +32,7 @@ use Rattle.pic_displace.specs.Displace.{displaced_e, displaced_allowed, kinds_of
 use Rattle.pic_displace.proofs.DisplaceLaws.{have_come}
 use Rattle.pic_displace.proofs.StartLaws.{displaced_small}
 use Rattle.pic_step.specs.declared.start.Start.{Start}
-use Rattle.pic_step.specs.Kept.{AreTiled}
+use Rattle.pic_step.specs.Kept.{AreCut}
 use Rattle.pic_step.specs.SerialStep.{World, e_of}
 use Rattle.pic_step.specs.SerialRun.{start_of}
 use Rattle.pic_step.specs.Sound.{IsSafe}
@@ -89,7 +89,7 @@ displaced_safe d limits are allowed =
     }
 
 -- the E that a deck begins with, as it lies in the tiles
-pub begun_initial : (start : Start) (d : DeckView) (particles : List Particle) → AreTiled start.setup.map start.e start.b → begun start ≡ start_of d particles
+pub begun_initial : (start : Start) (d : DeckView) (particles : List Particle) → AreCut start.setup.map start.e start.b → begun start ≡ start_of d particles
     → start.e ≡ field_of start.e.side d.cells start.e.parts (initial_e d)
 begun_initial start d particles tiled is =
     let cells = tiled.of_e.cells ∙ ap (λ (w : World). w.cells) is in
@@ -103,8 +103,8 @@ begun_displaced start d particles new is becomes =
     let values = ap (λ (f : Field). f.values) becomes.is in
     λ i. record (is i) { e = values i }
 
-pub tiled_displaced : (start : Start) (d : DeckView) (particles : List Particle) (new : Field) → AreTiled start.setup.map start.e start.b
-    → begun start ≡ start_of d particles → BecomesDisplaced d particles start.e new → AreTiled start.setup.map new start.b
+pub tiled_displaced : (start : Start) (d : DeckView) (particles : List Particle) (new : Field) → AreCut start.setup.map start.e start.b
+    → begun start ≡ start_of d particles → BecomesDisplaced d particles start.e new → AreCut start.setup.map new start.b
 tiled_displaced start d particles new tiled is becomes = record {
   of_e = record {
     cells = ap (λ (f : Field). f.cells) becomes.is ∙ sym (ap (λ (w : World). w.cells) is);

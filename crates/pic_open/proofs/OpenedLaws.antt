@@ -20,7 +20,7 @@ use Rattle.pic_deck.specs.Refusal.{ReadDeck, ReadsAs}
 use Rattle.pic_deck.specs.Reading.{walk}
 use Rattle.pic_deck.proofs.ReadingLaws.{deck_size}
 use Rattle.pic_step.specs.SerialStep.{World}
-use Rattle.pic_step.specs.Kept.{AreTiled}
+use Rattle.pic_step.specs.Kept.{AreCut}
 use Rattle.pic_step.specs.Sound.{IsSound}
 use Rattle.pic_step.specs.Start.{begun}
 use Rattle.pic_report.specs.declared.early.Early.TheVariants.{Refused, Gauss}
@@ -161,7 +161,7 @@ after_displaced d s fit is = ap (λ (r : Result (Unit {0}) Refusal). unless_too_
 
 pub ready : (o : Opened) → displaced_allowed o.deck (loaded o.deck) ≡ Ok tt → begun o.start ≡ first_state o.deck
     → o.start.setup.map.tiles ≡ o.deck.tiles → IsSound (begun o.start)
-    → AreTiled o.start.setup.map o.start.e o.start.b → AreProbes (begun o.start).cells (length (begun o.start).particles) o.deck.probes
+    → AreCut o.start.setup.map o.start.e o.start.b → AreProbes (begun o.start).cells (length (begun o.start).particles) o.deck.probes
     → state_break (begun o.start) ≡ None → IsTested o.deck o
 ready o fit start tiles sound tiled probes none = record {
   deck = after_displaced o.deck (Ok o.deck) fit (ap (unless_gauss_fails o.deck) (ap state_break (sym start) ∙ none));

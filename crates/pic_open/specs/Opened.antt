@@ -6,7 +6,7 @@ use Rattle.pic_deck.specs.Deck.{DeckView}
 use Rattle.pic_load.specs.Loading.{loaded, AreLoaded}
 use Rattle.pic_displace.specs.Displace.{displaced_allowed}
 use Rattle.pic_devices.specs.Probes.{AreProbes}
-use Rattle.pic_step.specs.Kept.{AreTiled}
+use Rattle.pic_step.specs.Kept.{AreCut}
 use Rattle.pic_step.specs.SerialStep.{e_of}
 use Rattle.pic_step.specs.Sound.{IsSafe, IsSound}
 use Rattle.pic_step.specs.declared.start.Start.{Start}
@@ -28,7 +28,7 @@ pub record CanBegin (o : Opened) : Type 0 where
   pub start : begun o.start ≡ first_state o.deck
   pub tiles : o.start.setup.map.tiles ≡ o.deck.tiles
   pub sound : IsSound (begun o.start)
-  pub tiled : AreTiled o.start.setup.map o.start.e o.start.b
+  pub tiled : AreCut o.start.setup.map o.start.e o.start.b
   pub probes : AreProbes (begun o.start).cells (length (begun o.start).particles) o.deck.probes
 
 -- the deck meets Gauss's law, and can begin
@@ -48,7 +48,7 @@ pub record IsLoaded (d : DeckView) (s : Start) : Type 0 where
   pub fit : displaced_allowed d (loaded d) ≡ Ok tt
   pub start : begun s ≡ first_state d
   pub tiles : s.setup.map.tiles ≡ d.tiles
-  pub tiled : AreTiled s.setup.map s.e s.b
+  pub tiled : AreCut s.setup.map s.e s.b
   pub particles : AreLoaded d s.particles.items
   pub safe : IsSafe d.scales.e_force (e_of (begun s))
 

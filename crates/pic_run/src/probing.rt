@@ -3,7 +3,7 @@
 ghost use Rattle.std.specs.Prelude.{◌≡◌, ◌<◌, ◌≤◌, IfOk};
 ghost use Rattle.pic_crew.specs.Teams.{most_workers};
 ghost use Rattle.pic_io.specs.Sinks.{sinks};
-ghost use Rattle.pic_step.specs.Kept.{AreTiled};
+ghost use Rattle.pic_step.specs.Kept.{AreCut};
 ghost use Rattle.pic_step.specs.Sound.{IsSound};
 ghost use Rattle.pic_step.specs.Start.{begun};
 ghost use Rattle.pic_report.specs.Ended.{ended_of};
@@ -58,7 +58,7 @@ fn watch_deck<H: Threads + Sync, O: Sink, R: Sink, G: Gate + Sync>(
 ) -> Result<Ended, Cut>
     requires begins { (begun opened.start).step ≡ 0 }
     requires sound { IsSound (begun opened.start) }
-    requires tiled { AreTiled opened.start.setup.map opened.start.e opened.start.b }
+    requires tiled { AreCut opened.start.setup.map opened.start.e opened.start.b }
     requires probes { CanPut (put.Probe opened.deck.probes) (begun opened.start) }
     requires some { 0 < workers }
     requires most { workers ≤ most_workers }

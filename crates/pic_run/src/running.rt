@@ -3,7 +3,7 @@
 ghost use Rattle.std.specs.Prelude.{◌≡◌, ◌-◌, ◌<◌, ◌≤◌, [], IfOk};
 ghost use Rattle.pic_crew.specs.Teams.{most_workers};
 ghost use Rattle.pic_io.specs.Sinks.{sinks};
-ghost use Rattle.pic_step.specs.Kept.{AreTiled};
+ghost use Rattle.pic_step.specs.Kept.{AreCut};
 ghost use Rattle.pic_step.specs.Sound.{IsSound};
 ghost use Rattle.pic_step.specs.Start.{begun};
 ghost use Rattle.pic_run.specs.RunHeader.{header_of};
@@ -63,7 +63,7 @@ fn run_deck<H: Threads + Sync, O: Sink, R: Sink, G: Gate + Sync>(
     requires most { workers ≤ most_workers }
     requires begins { (begun opened.start).step ≡ 0 }
     requires sound { IsSound (begun opened.start) }
-    requires tiled { AreTiled opened.start.setup.map opened.start.e opened.start.b }
+    requires tiled { AreCut opened.start.setup.map opened.start.e opened.start.b }
     ensures { Finishes (LeavesWhole workers)
         (dump_outcome (header_of opened.deck) (begun opened.start))
         (sinks (O.told out.old) (R.told report.old))
@@ -84,7 +84,7 @@ struct Ready {
 // Takes the memory of a run.
 fn prepare(alloc: Global, deck: &Deck, start: Start) -> Result<Ready, NoMemory>
     requires sound { IsSound (begun start) }
-    requires tiled { AreTiled start.setup.map start.e start.b }
+    requires tiled { AreCut start.setup.map start.e start.b }
     ensures header { IfOk result (λ ready. ready.header ≡ header_of deck.now) }
     ensures state { IfOk result (λ ready. ready.stage.state.world ≡ begun start) }
     ensures map { IfOk result (λ ready. ready.stage.state.map ≡ start.setup.map) }

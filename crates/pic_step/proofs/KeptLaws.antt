@@ -22,7 +22,7 @@ use Rattle.pic_tile.specs.Parcels.{AreFreshTiles}
 use Rattle.pic_tile.specs.Tiling.{Tiling, IsMap, grid_of_tiling}
 use Rattle.pic_tile.proofs.HeldLaws.{fresh_hold}
 use Rattle.pic_step.specs.declared.plasma.Plasma.{Plasma}
-use Rattle.pic_step.specs.Kept.{IsTiled, AreTiled, IsKept, seen}
+use Rattle.pic_step.specs.Kept.{IsLayered, AreCut, IsKept, seen}
 use Rattle.pic_step.specs.Plasma.{IsPlasma}
 use Rattle.pic_step.specs.PushOn.{CanPush}
 use Rattle.pic_step.specs.SerialStep.{World, world_of}
@@ -42,7 +42,7 @@ above_zero w sound = let least = sound.side_least in omega (arith, least)
 -- where its particles are cut into tiles, the state is that of its parts
 module _ (step filter : ℕ) (loops : List Loop) (m : Tiling) (scales : Scales) (kinds : List Kind) (e b : Field) (xs : List Particle) (p : Plasma)
     (map : IsMap m)
-    (sound : IsSound (world_of step (grid_of_tiling m) filter loops scales kinds e.values b.values xs)) (tiled : AreTiled m e b) (of_map : p.frame.map ≡ m)
+    (sound : IsSound (world_of step (grid_of_tiling m) filter loops scales kinds e.values b.values xs)) (tiled : AreCut m e b) (of_map : p.frame.map ≡ m)
     (of_filter : filter_in p.smooth ≡ filter) (of_kinds : p.frame.kinds ≡ kinds) (ready : IsPlasma xs p) (of : All (IsOf xs) p.tracers.items) where
   list_is : all_particles p.tiles.items ≡ xs
   list_is =
@@ -56,7 +56,7 @@ module _ (step filter : ℕ) (loops : List Loop) (m : Tiling) (scales : Scales) 
   pub kept : IsKept step loops scales e b p
   kept = record {
     sound = subst IsSound (sym begun_is) sound;
-    tiled = subst (λ (n : Tiling). AreTiled n e b) (sym of_map) tiled;
+    tiled = subst (λ (n : Tiling). AreCut n e b) (sym of_map) tiled;
     plasma = subst (λ (ys : List Particle). IsPlasma ys p) (sym list_is) ready;
     tracers = subst (λ (ys : List Particle). All (IsOf ys) p.tracers.items) (sym list_is) of;
   }
@@ -95,14 +95,14 @@ module _ (step : ℕ) (loops : List Loop) (scales : Scales) (e b : Field) (p : P
       record { side = refl; cells = refl; own = keeps.plasma.tiles; once = permutes particle_discrete xs all (same_sym all xs same) }
 
 -- a state's fields and particles can be pushed, B after its first half step
-pub can_push : (step : ℕ) (loops : List Loop) (scales : Scales) (e b c : Field) (p : Plasma) → IsKept step loops scales e b p → IsTiled p.frame.map c
+pub can_push : (step : ℕ) (loops : List Loop) (scales : Scales) (e b c : Field) (p : Plasma) → IsKept step loops scales e b p → IsLayered p.frame.map c
     → IsSafe scales.b_force c
     → CanPush scales e c p
-can_push step loops scales e b c p keeps tiled_c safe =
+can_push step loops scales e b c p keeps of_c safe =
     let w = seen step loops scales e b p in
     record {
       side = above_zero w keeps.sound;
-      tiled = record { of_e = keeps.tiled.of_e; of_b = tiled_c };
+      tiled = record { of_e = keeps.tiled.of_e; of_b = of_c };
       safe_e = safe_parts p.frame.map scales.e_force e keeps.tiled.of_e keeps.sound.e;
       safe_b = safe;
       plasma = keeps.plasma;

@@ -19,7 +19,7 @@ use Rattle.pic_tile.proofs.InOrderLaws.{written_push}
 use Rattle.pic_step.specs.Shown.{HaveSameAt}
 use Rattle.pic_step.specs.Tracers.{IsOf, identities}
 use Rattle.pic_tile.specs.Tiling.{Tiling}
-use Rattle.pic_step.specs.Kept.{IsTiled}
+use Rattle.pic_step.specs.Kept.{IsCut}
 use Rattle.pic_step.proofs.OnePartLaws.{whole, whole_is}
 use Rattle.pic_step.proofs.TracerLaws.{identity_at}
 
@@ -130,6 +130,7 @@ pub shown_tracers : (ps xs list to : List Particle) (ids : List ℕ) → length 
 shown_tracers ps xs list to ids long of is done =
     subst (All (IsSame to ps)) is (subst (λ (ys : List Particle). All (IsSame ys ps) (identities xs)) (sym done) (written_shows ps xs list long of))
 
--- a lattice in tiles has the values of the state's field
-pub same_whole : (m : Tiling) (to f : Field) (qs : List Place) → IsTiled m f → All (HaveSameAt to f) qs → All (HaveSameAt to (whole m f.values)) qs
-same_whole m to f qs tiled all = subst (λ (g : Field). All (HaveSameAt to g) qs) (whole_is m f tiled) all
+-- a lattice that is cut has the values of the state's field
+pub same_whole : {parts : Triple} (m : Tiling) (to f : Field) (qs : List Place) → IsCut m parts f → All (HaveSameAt to f) qs
+    → All (HaveSameAt to (whole m f.values)) qs
+same_whole m to f qs cut all = subst (λ (g : Field). All (HaveSameAt to g) qs) (whole_is m f cut) all

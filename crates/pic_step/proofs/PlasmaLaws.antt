@@ -1,5 +1,5 @@
 -- The list that the tiles of a state stand for.
-use Rattle.std.proofs.Common.{◌≡◌, ℕ, ◌*◌, ◌<◌, pos, List, [], length, replicate, All, sym, ap, ◌∙◌, subst, arith}
+use Rattle.std.proofs.Common.{◌≡◌, ℕ, ◌*◌, ◌<◌, pos, List, [], ◌∷◌, length, get_or, replicate, All, sym, ap, ◌∙◌, subst, arith}
 use Rattle.std.specs.Option.{IfSome}
 use Rattle.std.proofs.Math.Nat.{mod-one, mod_self}
 use Rattle.std.proofs.lemmas.List.{ext_get_or, length-map}
@@ -104,6 +104,10 @@ layered_parts n cells = record {
   z_least = let least = cells.z_least in omega (arith, least);
   z_whole = mod_self n.z;
 }
+
+-- and these are its parts
+pub parts_of_layers : (g : Grid) (ns : List ℕ) → triple ns ≡ g.n → IsCells g.n → IsParts g.n (triple (1 ∷ 1 ∷ get_or ns 2 0 ∷ []))
+parts_of_layers g ns is cells = subst (λ (t : Triple). IsParts g.n (layered t)) (sym is) (layered_parts g.n cells)
 
 -- a lattice of zeros has force values
 pub no_forces : (g h : Grid) (parts : Triple) (f : Field) → h ≡ g

@@ -26,27 +26,27 @@ use Rattle.pic_tile.specs.Tiling.{Tiling, cells_of, grid_of_tiling}
 use Rattle.pic_core.specs.AtStart.{IsScratch}
 use Rattle.pic_advance.specs.Current.{LiesOn}
 use Rattle.pic_step.specs.declared.plasma.Plasma.{Plasma}
-use Rattle.pic_step.specs.Kept.{IsTiled}
+use Rattle.pic_step.specs.Kept.{IsCut, IsTiled}
 use Rattle.pic_step.specs.Plasma.{IsPlasma}
 use Rattle.pic_step.specs.PushOn.{around_fields, ArePushed, HasPushed}
 use Rattle.pic_step.specs.Sound.{IsSafe}
 use Rattle.pic_step.proofs.FeltLaws.{around_by, moved_same, pushed_same}
 
 -- the force values of a field, on the cells of a map
-pub forced : (m : Tiling) (by : Multiplier) (f r : Field) (parts : Triple) → IsTiled m f → parts ≡ layered (cells_of m)
+pub forced : {s : Triple} (m : Tiling) (by : Multiplier) (f r : Field) (parts : Triple) → IsCut m s f → parts ≡ layered (cells_of m)
     → r ≡ field_of f.side f.cells parts (force_of by (value_at f)) → r ≡ field_of m.side (cells_of m) (layered (cells_of m)) (force_of by (value_at f))
-forced m by f r parts tiled cut is = is ∙ (λ i. field_of (tiled.side i) (tiled.cells i) (cut i) (force_of by (value_at f)))
+forced m by f r parts cut same is = is ∙ (λ i. field_of (cut.side i) (cut.cells i) (same i) (force_of by (value_at f)))
 
 -- where the field is safe, they are small enough to be gathered
-pub force_field : (m : Tiling) (by : Multiplier) (f r : Field) → IsTiled m f → IsSafe by f
+pub force_field : {parts : Triple} (m : Tiling) (by : Multiplier) (f r : Field) → IsCut m parts f → IsSafe by f
     → r ≡ field_of m.side (cells_of m) (layered (cells_of m)) (force_of by (value_at f)) → IsForceField (grid_of_tiling m) r
-force_field m by f r tiled safe is = subst (IsForceField (grid_of_tiling m)) (sym is) (record {
+force_field m by f r cut safe is = subst (IsForceField (grid_of_tiling m)) (sym is) (record {
   cells_are = refl;
   side = refl;
   small = record {
     at_most = λ a p within.
         subst (λ (v : ℤ). IsAtMost v most_force) (sym (value_at-field_of m.side (cells_of m) (layered (cells_of m)) (force_of by (value_at f)) a p within))
-        (safe.bounded a p (subst (IsWithin p) (sym tiled.cells) within)).force;
+        (safe.bounded a p (subst (IsWithin p) (sym cut.cells) within)).force;
   };
 })
 

@@ -14,8 +14,8 @@ use Rattle.pic_deck.specs.declared.species.Species.{Species}
 use Rattle.pic_deck.specs.Deck.{DeckView, IsWithinLimits, deck_grid, heads_of}
 use Rattle.pic_deck.specs.Species.{head_of, no_species}
 use Rattle.pic_tile.specs.Frame.{AreKinds}
-use Rattle.pic_tile.specs.Tiling.{Tiling, grid_of_tiling, tiles_of}
-use Rattle.pic_step.specs.Kept.{IsTiled}
+use Rattle.pic_tile.specs.Tiling.{Tiling, cells_of, grid_of_tiling}
+use Rattle.pic_step.specs.Kept.{IsCut}
 use Rattle.pic_step.specs.SerialRun.{kinds_of}
 
 -- the kinds of the species are within the limits
@@ -64,11 +64,20 @@ deck_parts d g t limits of_grid of_tiles =
       z_whole = fit.z.divides;
     }
 
--- a lattice of a grid and its tiles lies in the map of these
-pub begun_tiled : (m : Tiling) (g : Grid) (t : Triple) (f : Field) (values : Axis → Triple → ℤ) → m ≡ tiles_of g t → grid_of_tiling m ≡ g
-    → f ≡ field_of g.side g.n t values → IsTiled m f
-begun_tiled m g t f values of_tiles of_grid is = record {
+-- a lattice on the grid of a map is cut into its parts there
+pub begun_cut : (m : Tiling) (g : Grid) (s t : Triple) (f : Field) (values : Axis → Triple → ℤ) → grid_of_tiling m ≡ g → f ≡ field_of g.side g.n s values
+    → s ≡ t → IsCut m t f
+begun_cut m g s t f values of_grid is parts = record {
   cells = ap (λ (h : Field). h.cells) is ∙ sym (ap (λ (h : Grid). h.n) of_grid);
   side = ap (λ (h : Field). h.side) is ∙ sym (ap (λ (h : Grid). h.side) of_grid);
-  parts = ap (λ (h : Field). h.parts) is ∙ sym (ap (λ (n : Tiling). n.tiles) of_tiles);
+  parts = ap (λ (h : Field). h.parts) is ∙ parts;
+}
+
+-- a lattice that took the values of another is cut as it was
+pub cut_as : {parts : Triple} (m : Tiling) (f g h : Field) → IsCut m parts f → g.cells ≡ cells_of m → h ≡ record g { side = f.side; parts = f.parts }
+    → IsCut m parts h
+cut_as m f g h cut cells is = record {
+  cells = ap (λ (k : Field). k.cells) is ∙ cells;
+  side = ap (λ (k : Field). k.side) is ∙ cut.side;
+  parts = ap (λ (k : Field). k.parts) is ∙ cut.parts;
 }

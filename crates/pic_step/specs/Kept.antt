@@ -1,8 +1,10 @@
 -- What the state of a run is seen as, and what its type keeps.
 use Rattle.std.specs.Prelude.{◌≡◌, ℕ, List, All}
 use Rattle.pic_num.specs.declared.mult.Scales.{Scales}
+use Rattle.pic_num.specs.Space.{Triple}
 use Rattle.pic_grid.specs.declared.loops.Loop.{Loop}
 use Rattle.pic_grid.specs.Lattice.{Field}
+use Rattle.pic_grid.specs.Parts.{layered}
 use Rattle.pic_tile.specs.CoreState.{all_particles}
 use Rattle.pic_tile.specs.Tiling.{Tiling, cells_of, grid_of_tiling}
 use Rattle.pic_step.specs.declared.plasma.Plasma.{Plasma}
@@ -12,16 +14,24 @@ use Rattle.pic_step.specs.SerialStep.{World, world_of}
 use Rattle.pic_step.specs.Sound.{IsSound}
 use Rattle.pic_step.specs.Tracers.{IsOf}
 
--- a lattice on the cells of a map, with one part for each of its tiles
-pub record IsTiled (m : Tiling) (f : Field) : Type 0 where
+-- a lattice on the cells of a map, cut into these parts
+pub record IsCut (m : Tiling) (into : Triple) (f : Field) : Type 0 where
   pub cells : f.cells ≡ cells_of m
   pub side : f.side ≡ m.side
-  pub parts : f.parts ≡ m.tiles
+  pub parts : f.parts ≡ into
 
--- two lattices are
-pub record AreTiled (m : Tiling) (e b : Field) : Type 0 where
+-- with one for each of its tiles,
+abbrev pub IsTiled : Tiling → Field → Type 0
+IsTiled m = IsCut m m.tiles
+
+-- or for each layer of z
+abbrev pub IsLayered : Tiling → Field → Type 0
+IsLayered m = IsCut m (layered (cells_of m))
+
+-- the fields of a state: E has a part for each tile, B for each layer of z
+pub record AreCut (m : Tiling) (e b : Field) : Type 0 where
   pub of_e : IsTiled m e
-  pub of_b : IsTiled m b
+  pub of_b : IsLayered m b
 
 -- the state of these parts, after so many steps: its particles are those of the tiles, in the order
 -- of their identities
@@ -31,9 +41,9 @@ seen step loops scales e b p =
     b.values
     (all_particles p.tiles.items)
 
--- it is sound, its fields lie in the tiles, its particles are ready for their push, and those that are followed are of them
+-- it is sound, its fields are cut as a state's, its particles are ready for their push, and those that are followed are of them
 pub record IsKept (step : ℕ) (loops : List Loop) (scales : Scales) (e b : Field) (p : Plasma) : Type 0 where
   pub sound : IsSound (seen step loops scales e b p)
-  pub tiled : AreTiled p.frame.map e b
+  pub tiled : AreCut p.frame.map e b
   pub plasma : IsPlasma (all_particles p.tiles.items) p
   pub tracers : All (IsOf (all_particles p.tiles.items)) p.tracers.items

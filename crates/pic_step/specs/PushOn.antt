@@ -16,7 +16,7 @@ use Rattle.pic_tile.specs.Tile.{TileValue}
 use Rattle.pic_tile.specs.Tiling.{Tiling}
 use Rattle.pic_step.specs.declared.plasma.Plasma.{Plasma}
 use Rattle.pic_step.specs.TileFlux.{flux_in}
-use Rattle.pic_step.specs.Kept.{AreTiled}
+use Rattle.pic_step.specs.Kept.{AreCut}
 use Rattle.pic_step.specs.Plasma.{IsPlasma, HasFlux}
 use Rattle.pic_step.specs.Sound.{IsSafe}
 use Rattle.pic_step.specs.Tracers.{IsOf}
@@ -31,11 +31,11 @@ around_fields scales kinds e b = record {
   of_b = force_of scales.b_force (value_at b);
 }
 
--- fields and the particles of a state can be pushed: the fields are safe and lie in the tiles, and
+-- fields and the particles of a state can be pushed: the fields are safe and cut as a state's, and
 -- the particles are ready, within the limits and in the order of identities
 pub record CanPush (scales : Scales) (e b : Field) (p : Plasma) : Type 0 where
   pub side : 0 < p.frame.map.side
-  pub tiled : AreTiled p.frame.map e b
+  pub tiled : AreCut p.frame.map e b
   pub safe_e : IsSafe scales.e_force e
   pub safe_b : IsSafe scales.b_force b
   pub plasma : IsPlasma (all_particles p.tiles.items) p

@@ -18,7 +18,7 @@ ghost use Rattle.pic_step.specs.TileFlux.{flux_in};
 ghost use Rattle.pic_step.specs.Tracers.{IsOf, identities};
 ghost use Rattle.pic_step.specs.Plasma.{HasFlux, IsPlasma};
 
-use crate::start::tiled_lattice;
+use crate::start::{layered_lattice, tiled_lattice};
 use crate::tile_flux::{spare_blocks, swap_each_flux};
 use crate::tracers::tracers_of;
 use pic_advance::{Current, drive_e};
@@ -173,9 +173,7 @@ fn frame_for(alloc: Global, map: TileMap, kinds: Kinds) -> Result<Frame, NoMemor
     ensures kinds { IfOk result (λ f. f.kinds ≡ kinds) }
     ensures parts { IfOk result (λ f. f.force_e.parts ≡ layered (cells_of map)) }
 {
-    let cells = map.cells();
-    let [_, _, nz] = cells.numbers();
-    let force_e = Lattice::new(alloc, cells, [1, 1, nz])?;
-    let force_b = Lattice::new(alloc, cells, [1, 1, nz])?;
+    let force_e = layered_lattice(alloc, &map)?;
+    let force_b = layered_lattice(alloc, &map)?;
     Ok(Frame::new(map, kinds, force_e, force_b))
 }

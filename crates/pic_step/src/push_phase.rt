@@ -8,7 +8,7 @@ ghost use Rattle.pic_grid.specs.PushPhase.{moved_all};
 ghost use Rattle.pic_tile.specs.CoreState.{all_particles, IsOpening};
 ghost use Rattle.pic_tile.specs.Frame.{felt_in};
 ghost use Rattle.pic_tile.specs.Tiling.{cells_of, grid_of_tiling};
-ghost use Rattle.pic_step.specs.Kept.{AreTiled};
+ghost use Rattle.pic_step.specs.Kept.{AreCut};
 ghost use Rattle.pic_step.specs.Plasma.{IsPlasma};
 ghost use Rattle.pic_step.specs.PushOn.{around_fields, CanPush, HasPushed};
 ghost use Rattle.pic_step.specs.Sound.{IsSafe};
@@ -106,7 +106,7 @@ fn push_tiles<H: Threads + Sync, G: Gate + Sync>(
 
 /// The frame with the force values of these fields.
 fn with_forces<H: Threads + Sync, G>(team: &Team<H, G>, fields: Fields, frame: Frame) -> Frame
-    requires tiled { AreTiled frame.map fields.e.now fields.b.now }
+    requires tiled { AreCut frame.map fields.e.now fields.b.now }
     requires e { IsSafe fields.scales.now.e_force fields.e.now }
     requires b { IsSafe fields.scales.now.b_force fields.b.now }
     requires parts { frame.force_e.parts ≡ layered (cells_of frame.map) }

@@ -1,11 +1,13 @@
 //! What a run begins with: its fields and particles, before Gauss's law is tested.
 
-ghost use Rattle.std.specs.Prelude.{◌≡◌, IfOk};
+ghost use Rattle.std.specs.Prelude.{◌≡◌, pos, ◌*◌, replicate, IfOk};
+ghost use Rattle.pic_grid.specs.Cells.{count_of};
 ghost use Rattle.pic_grid.specs.Lattice.{field_of};
+ghost use Rattle.pic_grid.specs.Parts.{layered};
 ghost use Rattle.pic_deck.specs.Deck.{initial_e, initial_b, deck_grid};
 ghost use Rattle.pic_step.specs.SerialRun.{kinds_of};
 ghost use Rattle.pic_tile.specs.Tiling.{cells_of, grid_of_tiling, tiles_of};
-ghost use Rattle.pic_step.specs.Kept.{IsTiled};
+ghost use Rattle.pic_step.specs.Kept.{IsTiled, IsLayered};
 
 use pic_deck::Deck;
 use pic_grid::{Lattice, Snapshot, copy_loops};
@@ -15,7 +17,7 @@ use std::alloc::Global;
 
 /// What a run begins with: what stays in it, after how many steps it begins, E, B and the particles.
 /// Its type keeps no more than theirs do: whether Gauss's law holds has to be tested. A state begins
-/// with fields that have one part for each tile.
+/// with an E that has one part for each tile, and a B that has one for each layer of z.
 #[derive(Drop)]
 pub struct Start {
     pub setup: Setup,
@@ -26,7 +28,7 @@ pub struct Start {
 }
 
 impl Start {
-    ghost use Rattle.pic_step.specs.Kept.{AreTiled};
+    ghost use Rattle.pic_step.specs.Kept.{AreCut};
     ghost use Rattle.pic_step.specs.SerialRun.{start_of};
     ghost use Rattle.pic_step.specs.Start.{begun, world_in_frame};
 
@@ -34,7 +36,7 @@ impl Start {
     pub fn new(alloc: Global, deck: &Deck, particles: Vec<Particle>) -> Result<Start, NoMemory>
         ensures map { IfOk result
             (λ start. start.setup.map ≡ tiles_of (deck_grid deck.now) deck.now.tiles) }
-        ensures tiled { IfOk result (λ start. AreTiled start.setup.map start.e start.b) }
+        ensures tiled { IfOk result (λ start. AreCut start.setup.map start.e start.b) }
         ensures start { IfOk result (λ start. begun start ≡ start_of deck.now particles.items) }
     {
         let setup = setup_of(alloc, deck)?;
@@ -58,13 +60,15 @@ impl Start {
         requires e_cells { frame.now.e.cells ≡ cells_of setup.now.map }
         requires b_cells { frame.now.b.cells ≡ cells_of setup.now.map }
         ensures map { IfOk result (λ start. start.setup.map ≡ setup.now.map) }
-        ensures tiled { IfOk result (λ start. AreTiled start.setup.map start.e start.b) }
+        ensures tiled { IfOk result (λ start. AreCut start.setup.map start.e start.b) }
         ensures start { IfOk result (λ start.
             begun start ≡ world_in_frame setup.now step frame.now) }
     {
         let kinds = setup.kinds.copy(alloc)?;
-        let e = tiled_copy(alloc, &setup.map, &frame.e)?;
-        let b = tiled_copy(alloc, &setup.map, &frame.b)?;
+        let mut e = tiled_lattice(alloc, &setup.map)?;
+        e.copy_from(&frame.e);
+        let mut b = layered_lattice(alloc, &setup.map)?;
+        b.copy_from(&frame.b);
         let particles = Vec::from_slice(alloc, frame.particles.as_slice())?;
         Ok(Start {
             setup: Setup {
@@ -89,15 +93,15 @@ pub(crate) fn tiled_lattice(alloc: Global, map: &TileMap) -> Result<Lattice, NoM
     Lattice::new(alloc, map.cells(), map.tiles())
 }
 
-// a field once more, with one part for each tile of a map
-fn tiled_copy(alloc: Global, map: &TileMap, from: &Lattice) -> Result<Lattice, NoMemory>
-    requires { from.now.cells ≡ cells_of map.now }
-    ensures tiled { IfOk result (IsTiled map.now) }
-    ensures values { IfOk result (λ l. l.values ≡ from.now.values) }
+/// The same, with one for each layer of z. It is 0 everywhere.
+pub(crate) fn layered_lattice(alloc: Global, map: &TileMap) -> Result<Lattice, NoMemory>
+    ensures layered { IfOk result (IsLayered map.now) }
+    ensures zero { IfOk result (λ l.
+        l.values ≡ replicate (3 * count_of (cells_of map.now)) (pos 0)) }
 {
-    let mut to = tiled_lattice(alloc, map)?;
-    to.copy_from(from);
-    Ok(to)
+    let cells = map.cells();
+    let [_, _, nz] = cells.numbers();
+    Lattice::new(alloc, cells, [1, 1, nz])
 }
 
 // what stays in a deck's run
@@ -132,15 +136,18 @@ fn kinds_of(alloc: Global, deck: &Deck) -> Result<Kinds, NoMemory>
     Ok(Kinds::from_vec(kinds))
 }
 
-// the fields that a deck begins with, with one part for each tile
+// the fields that a deck begins with: E has one part for each tile, B for each layer of z
 fn fields_of(alloc: Global, deck: &Deck) -> Result<(Lattice, Lattice), NoMemory>
     ensures e { IfOk result (λ both.
         both.0 ≡ field_of deck.now.side deck.now.cells deck.now.tiles (initial_e deck.now)) }
     ensures b { IfOk result (λ both.
-        both.1 ≡ field_of deck.now.side deck.now.cells deck.now.tiles (initial_b deck.now)) }
+        both.1 ≡ field_of deck.now.side deck.now.cells (layered deck.now.cells)
+        (initial_b deck.now)) }
 {
-    let mut e = Lattice::new(alloc, deck.cells(), deck.tiles())?;
-    let mut b = Lattice::new(alloc, deck.cells(), deck.tiles())?;
+    let cells = deck.cells();
+    let [_, _, nz] = cells.numbers();
+    let mut e = Lattice::new(alloc, cells, deck.tiles())?;
+    let mut b = Lattice::new(alloc, cells, [1, 1, nz])?;
     deck.initial(&mut e, &mut b);
     Ok((e, b))
 }

@@ -25,7 +25,7 @@ use Rattle.pic_grid.specs.Hat.{weight}
 use Rattle.pic_grid.specs.declared.loops.Loop.{Loop}
 use Rattle.pic_grid.specs.Lattice.{Field, value_at}
 use Rattle.pic_grid.specs.Loops.{AreLoops}
-use Rattle.pic_grid.specs.Parts.{one_part}
+use Rattle.pic_grid.specs.Parts.{one_part, layered}
 use Rattle.pic_grid.specs.PushPhase.{CanShare}
 use Rattle.pic_grid.specs.Species.{IsKind}
 use Rattle.pic_grid.specs.Sums.{sum_over}
@@ -34,8 +34,8 @@ use Rattle.pic_charge.specs.Charge.{share, charge_of, rho_of}
 use Rattle.pic_charge.specs.Gauss.{MeetsGauss}
 use Rattle.pic_field.specs.FieldPhases.{IsBounded}
 use Rattle.pic_tile.specs.Frame.{AreKinds}
-use Rattle.pic_tile.specs.Tiling.{Tiling, grid_of_tiling}
-use Rattle.pic_step.specs.Kept.{IsTiled}
+use Rattle.pic_tile.specs.Tiling.{Tiling, cells_of, grid_of_tiling}
+use Rattle.pic_step.specs.Kept.{IsCut}
 use Rattle.pic_step.specs.SerialStep.{world_of}
 use Rattle.pic_step.specs.Sound.{IsSafe, IsSound}
 use Rattle.pic_board_tests.proofs.steps.pair_of.Goals as goal
@@ -144,13 +144,13 @@ pair_sound loops side q v scales a b within least most at low high a_is a_one b_
   gauss = pair_gauss side four a b (q ∷ 0 ∷ 0 ∷ []) _ _ a_is b_is;
 }
 
--- a lattice of zeros lies in the tiles of a map of its cells
-lies_in : (grid : Grid) (m : Tiling) (parts : Triple) (f : Field) → f ≡ record { cells = grid.n; side = grid.side; parts = parts; values = zero_values grid.n }
-    → grid_of_tiling m ≡ grid → m.tiles ≡ parts → IsTiled m f
-lies_in grid m parts f is of_grid tiles = record {
+-- a lattice of zeros is cut into its parts on a map of its cells
+lies_in : (grid : Grid) (m : Tiling) (parts into : Triple) (f : Field)
+    → f ≡ record { cells = grid.n; side = grid.side; parts = parts; values = zero_values grid.n } → grid_of_tiling m ≡ grid → parts ≡ into → IsCut m into f
+lies_in grid m parts into f is of_grid same = record {
   cells = ap (λ (k : Field). k.cells) is ∙ sym (ap (λ (h : Grid). h.n) of_grid);
   side = ap (λ (k : Field). k.side) is ∙ sym (ap (λ (h : Grid). h.side) of_grid);
-  parts = ap (λ (k : Field). k.parts) is ∙ sym tiles;
+  parts = ap (λ (k : Field). k.parts) is ∙ same;
 }
 
 pub from_vec-kinds-requires : goal.from_vec-kinds-requires
@@ -160,10 +160,12 @@ from_vec-kinds-requires c =
 
 pub begin-requires-clause-tiled : goal.begin-requires-clause-tiled
 begin-requires-clause-tiled c =
-    let tiles = ap (λ (m : Tiling). m.tiles) c.new-map.ensures.value in
+    let m = c.new-map.result in
+    let grid = c.new-map.ensures.cells in
     record {
-      of_e = lies_in c.new-cells.result c.new-map.result _ c.in_ok-e.e c.in_ok-e.ensures c.new-map.ensures.cells tiles;
-      of_b = lies_in c.new-cells.result c.new-map.result _ c.in_ok-b.b c.in_ok-b.ensures c.new-map.ensures.cells tiles;
+      of_e = lies_in c.new-cells.result m _ m.tiles c.in_ok-e.e c.in_ok-e.ensures grid (sym (ap (λ (n : Tiling). n.tiles) c.new-map.ensures.value));
+      of_b = lies_in c.new-cells.result m _ (layered (cells_of m)) c.in_ok-b.b c.in_ok-b.ensures grid
+          (sym (ap (λ (h : Grid). layered h.n) (grid ∙ c.new-cells.ensures)));
     }
 
 pub begin-requires-clause-sound : goal.begin-requires-clause-sound

@@ -15,7 +15,7 @@ use Rattle.pic_charge.specs.Gauss.{first_break}
 use Rattle.pic_charge.proofs.ChargeLaws.{all_charged}
 use Rattle.pic_deck.specs.Deck.{deck_grid}
 use Rattle.pic_step.specs.declared.start.Start.{Start}
-use Rattle.pic_step.specs.Kept.{AreTiled}
+use Rattle.pic_step.specs.Kept.{AreCut}
 use Rattle.pic_step.specs.SerialStep.{World, e_of}
 use Rattle.pic_step.specs.SerialRun.{kinds_of}
 use Rattle.pic_step.specs.Sound.{IsSafe, IsSound}
@@ -43,7 +43,7 @@ find_break-requires-clause-placed c =
     (subst (λ (g : Grid). All (CanShare g.side g.n (kinds_of d)) ps) (sym cells) (shares_are d ps c.requires.loaded))))
 
 -- E as it lies in its tiles has the values of the state's
-e_values : (start : Start) → AreTiled start.setup.map start.e start.b → value_at start.e ≡ value_at (e_of (begun start))
+e_values : (start : Start) → AreCut start.setup.map start.e start.b → value_at start.e ≡ value_at (e_of (begun start))
 e_values start tiled = λ i a p. get_or start.e.values (place_of (tiled.of_e.cells i) a p) (pos 0)
 
 pub find_break-requires-clause-most : goal.find_break-requires-clause-most

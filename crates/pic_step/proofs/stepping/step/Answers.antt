@@ -18,7 +18,7 @@ use Rattle.pic_step.specs.declared.state.State.TheInside.{Inside}
 use Rattle.pic_step.specs.declared.stepping.StepStop.{StepStop}
 use Rattle.pic_step.specs.TileFlux.{flux_in}
 use Rattle.pic_step.specs.Keeps.{Keeps}
-use Rattle.pic_step.specs.Kept.{IsTiled, AreTiled, IsKept, seen}
+use Rattle.pic_step.specs.Kept.{IsCut, IsTiled, IsLayered, AreCut, IsKept, seen}
 use Rattle.pic_step.specs.declared.plasma.Plasma.{Plasma}
 use Rattle.pic_step.specs.Plasma.{IsPlasma}
 use Rattle.pic_step.specs.PushOn.{around_fields, ArePushed}
@@ -29,7 +29,7 @@ use Rattle.pic_step.specs.StateView.{StateView}
 use Rattle.pic_step.specs.Tracers.{IsOf, identities}
 use Rattle.pic_step.proofs.ExitLaws.{stops_first, stops_push, stops_second, stops_last, wants_none, stop_wants_none, state_wants_none}
 use Rattle.pic_step.proofs.KeptLaws.{can_push, next_is}
-use Rattle.pic_step.proofs.OnePartLaws.{whole, whole_is, half_one, driven_one, plus_tiled, tiled_after, advanced_is, safe_parts, safe_small}
+use Rattle.pic_step.proofs.OnePartLaws.{whole, whole_is, half_one, driven_one, plus_cut, cut_after, advanced_is, safe_parts, safe_small}
 use Rattle.pic_step.proofs.StepLaws.{IsHalf, is_half, half_safe, pushed_on, IsBefore, second_half, is_before}
 use Rattle.pic_step.proofs.StepLaws.{before_safe, filtered_flux, flux_is, by_filter, last_step, IsAfter, is_after, sound_after, stepped_after, keeps_after}
 use Rattle.pic_step.proofs.TracerLaws.{still_of, same_identities}
@@ -47,9 +47,10 @@ tiles_map k = k.plasma.frame.map
 abbrev Keeping : Inside → Type 0
 Keeping k = IsKept k.step k.loops k.scales k.e k.b k.plasma
 
--- no value of E or B is too large, and none of a lattice in the tiles whose values are safe
-small : (k : Inside) (by : Multiplier) (f : Field) → IsTiled (tiles_map k) f → IsSafe by (whole (tiles_map k) f.values) → EachAtMost most_value f
-small k by f tiled safe = safe_small by f (safe_parts (tiles_map k) by f tiled safe)
+-- no value of E or B is too large, and none of a lattice on their cells whose values are safe
+small : {parts : Triple} (k : Inside) (by : Multiplier) (f : Field) → IsCut (tiles_map k) parts f → IsSafe by (whole (tiles_map k) f.values)
+    → EachAtMost most_value f
+small k by f cut safe = safe_small by f (safe_parts (tiles_map k) by f cut safe)
 
 e_small : (k : Inside) → Keeping k → EachAtMost most_value k.e
 e_small k keeps = small k k.scales.e_force k.e keeps.tiled.of_e keeps.sound.e
@@ -61,14 +62,14 @@ half g c =
     let tiled = c.state.invariant.tiled in
     is_half (world k) c.in_ok-b.b.values (half_one Half1 (tiles_map k) k.scales k.e k.b (Ok c.in_ok-b.b) tiled.of_e tiled.of_b c.in_ok-b.ensures)
 
-half_tiled : (g : Over) (c : In_ok-b g) → IsTiled (tiles_map c.state.inside) c.in_ok-b.b
-half_tiled g c =
+half_layered : (g : Over) (c : In_ok-b g) → IsLayered (tiles_map c.state.inside) c.in_ok-b.b
+half_layered g c =
     let k = c.state.inside in
     let tiled = c.state.invariant.tiled in
-    tiled_after (tiles_map k) k.e k.b c.in_ok-b.b _ tiled.of_e tiled.of_b c.in_ok-b.ensures.0
+    cut_after (tiles_map k) k.e k.b c.in_ok-b.b _ tiled.of_e tiled.of_b c.in_ok-b.ensures.0
 
 -- what the push left
-pushed : (g : Over) (c : In-None g) → IsTiled (tiles_map c.state.inside) c.in_ok-b.b → IsHalf (world c.state.inside) c.in_ok-b.b.values
+pushed : (g : Over) (c : In-None g) → IsLayered (tiles_map c.state.inside) c.in_ok-b.b → IsHalf (world c.state.inside) c.in_ok-b.b.values
     → ArePushed (around (half_on (world c.state.inside))) c.in_ok-pushed.pushed.0.frame.map (world c.state.inside).particles
     c.in_ok-pushed.pushed.0.tiles.items None
 pushed g c of_b first =
@@ -80,16 +81,16 @@ pushed g c of_b first =
     (whole_is (tiles_map k) c.in_ok-b.b of_b) first c.in_ok-pushed.ensures.pushed.pushed)
 
 -- what the second half step of B left
-before : (g : Over) (c : In_ok-b-2 g) → IsTiled (tiles_map c.state.inside) c.in_ok-b.b → IsHalf (world c.state.inside) c.in_ok-b.b.values
+before : (g : Over) (c : In_ok-b-2 g) → IsLayered (tiles_map c.state.inside) c.in_ok-b.b → IsHalf (world c.state.inside) c.in_ok-b.b.values
     → IsBefore (world c.state.inside) c.in_ok-b-2.b.values
 before g c of_b first =
     let k = c.state.inside in
     is_before (world k) c.in_ok-b-2.b.values (second_half (world k) c.in_ok-b.b.values (Ok c.in_ok-b-2.b.values) first
     (half_one Half2 (tiles_map k) k.scales k.e c.in_ok-b.b (Ok c.in_ok-b-2.b) c.state.invariant.tiled.of_e of_b c.in_ok-b-2.ensures))
 
-before_tiled : (g : Over) (c : In_ok-b-2 g) → IsTiled (tiles_map c.state.inside) c.in_ok-b.b → IsTiled (tiles_map c.state.inside) c.in_ok-b-2.b
-before_tiled g c of_b =
-    let k = c.state.inside in tiled_after (tiles_map k) k.e c.in_ok-b.b c.in_ok-b-2.b _ c.state.invariant.tiled.of_e of_b c.in_ok-b-2.ensures.0
+before_layered : (g : Over) (c : In_ok-b-2 g) → IsLayered (tiles_map c.state.inside) c.in_ok-b.b → IsLayered (tiles_map c.state.inside) c.in_ok-b-2.b
+before_layered g c of_b =
+    let k = c.state.inside in cut_after (tiles_map k) k.e c.in_ok-b.b c.in_ok-b-2.b _ c.state.invariant.tiled.of_e of_b c.in_ok-b-2.ensures.0
 
 -- E with the current of the loops
 raised : (g : Over) (c : After-raise_e g) → c.raise_e.new.e ≡ plus c.state.inside.e (curl_b c.state.inside.e.cells (drive_of (world c.state.inside)))
@@ -100,7 +101,7 @@ raised g c =
 raised_tiled : (g : Over) (c : After-raise_e g) → IsTiled (tiles_map c.state.inside) c.raise_e.new.e
 raised_tiled g c =
     let k = c.state.inside in
-    plus_tiled (tiles_map k) k.e c.raise_e.new.e (curl_b k.e.cells (drive_of (world k))) c.state.invariant.tiled.of_e (raised g c)
+    plus_cut (tiles_map k) k.e c.raise_e.new.e (curl_b k.e.cells (drive_of (world k))) c.state.invariant.tiled.of_e (raised g c)
 
 pub raise_e-requires-clause-loops : goal.raise_e-requires-clause-loops
 raise_e-requires-clause-loops g c =
@@ -119,7 +120,7 @@ left_flux b q a = filtered (filter_in q.smooth) b.cells (flux_in q.frame.map q.t
 after : (g : Over) (c : In-Ok g) → IsHalf (world c.state.inside) c.in_ok-b.b.values
     → ArePushed (around (half_on (world c.state.inside))) c.in_ok-pushed.pushed.0.frame.map (world c.state.inside).particles
     c.in_ok-pushed.pushed.0.tiles.items None
-    → IsTiled (tiles_map c.state.inside) c.in_ok-b-2.b → IsBefore (world c.state.inside) c.in_ok-b-2.b.values
+    → IsLayered (tiles_map c.state.inside) c.in_ok-b-2.b → IsBefore (world c.state.inside) c.in_ok-b-2.b.values
     → c.raise_e.new.e ≡ plus c.state.inside.e (curl_b c.state.inside.e.cells (drive_of (world c.state.inside)))
     → IsAfter (world c.state.inside) c.in-Ok.e.values c.in_ok-b-2.b.values (all_particles c.advance_e-e.result.1.tiles.items)
 after g c first free of_b second driven_e =
@@ -177,9 +178,9 @@ pub push_phase-requires-clause-can : goal.push_phase-requires-clause-can
 push_phase-requires-clause-can g c κs within =
     let k = c.state.inside in
     let at = (goal.at.push_phase-requires-clause-can g c).In_ok-b in
-    let tiled = half_tiled g at in
-    can_push k.step k.loops k.scales k.e k.b c.in_ok-b.b k.plasma c.state.invariant tiled
-    (safe_parts (tiles_map k) k.scales.b_force c.in_ok-b.b tiled (half_safe (world k) c.in_ok-b.b.values (half g at)))
+    let layered = half_layered g at in
+    can_push k.step k.loops k.scales k.e k.b c.in_ok-b.b k.plasma c.state.invariant layered
+    (safe_parts (tiles_map k) k.scales.b_force c.in_ok-b.b layered (half_safe (world k) c.in_ok-b.b.values (half g at)))
 
 pub returns-in_err-pushed-clause-steps : goal.returns-in_err-pushed-clause-steps
 returns-in_err-pushed-clause-steps g c =
@@ -194,12 +195,12 @@ returns-in-Some-clause-steps g c =
     let at = (goal.at.returns-in-Some-clause-steps g c).In_ok-b in
     let first = half g at in
     let free = pushed_on w k.e c.in_ok-b.b q.frame.map q.tiles.items c.in_ok-pushed.pushed.1 (whole_is (tiles_map k) k.e c.state.invariant.tiled.of_e)
-    (whole_is (tiles_map k) c.in_ok-b.b (half_tiled g at)) first c.in_ok-pushed.ensures.pushed.pushed in
+    (whole_is (tiles_map k) c.in_ok-b.b (half_layered g at)) first c.in_ok-pushed.ensures.pushed.pushed in
     ap (λ (v : StateView). stepped v.world) (sym c.state.view_is) ∙ stops_push w c.in-Some.stop first.none (sym free.stop_is ∙ c.in-Some.is)
 
 pub advance_b-requires-2-clause-cells : goal.advance_b-requires-2-clause-cells
 advance_b-requires-2-clause-cells g c κs within =
-    (half_tiled g (goal.at.advance_b-requires-2-clause-cells g c).In_ok-b).cells ∙ sym c.state.invariant.tiled.of_e.cells
+    (half_layered g (goal.at.advance_b-requires-2-clause-cells g c).In_ok-b).cells ∙ sym c.state.invariant.tiled.of_e.cells
 
 pub advance_b-requires-2-clause-e_small : goal.advance_b-requires-2-clause-e_small
 advance_b-requires-2-clause-e_small g c κs within = e_small c.state.inside c.state.invariant
@@ -208,7 +209,7 @@ pub advance_b-requires-2-clause-b_small : goal.advance_b-requires-2-clause-b_sma
 advance_b-requires-2-clause-b_small g c κs within =
     let k = c.state.inside in
     let at = (goal.at.advance_b-requires-2-clause-b_small g c).In_ok-b in
-    small k k.scales.b_force c.in_ok-b.b (half_tiled g at) (half_safe (world k) c.in_ok-b.b.values (half g at))
+    small k k.scales.b_force c.in_ok-b.b (half_layered g at) (half_safe (world k) c.in_ok-b.b.values (half g at))
 
 pub returns-in_err-b-2-clause-steps : goal.returns-in_err-b-2-clause-steps
 returns-in_err-b-2-clause-steps g c =
@@ -216,13 +217,13 @@ returns-in_err-b-2-clause-steps g c =
     let w = world k in
     let at = goal.at.returns-in_err-b-2-clause-steps g c in
     let first = half g at.In_ok-b in
-    let tiled = half_tiled g at.In_ok-b in
-    let free = pushed g at.In-None tiled first in
+    let layered = half_layered g at.In_ok-b in
+    let free = pushed g at.In-None layered first in
     let exit = err_from_is_err_and c.from_residual-in_err-b-2.result c.from_residual-in_err-b-2.ensures.1 in
     subst (λ (r : Result StateView StepStop). Steps c.args.state.world r) (sym (exit.1 ∙ ap Err exit.2))
     (ap (λ (v : StateView). stepped v.world) (sym c.state.view_is)
     ∙ stops_second w _ first.none (sym free.stop_is) (second_half w c.in_ok-b.b.values (Err _) first
-    (half_one Half2 (tiles_map k) k.scales k.e c.in_ok-b.b (Err _) c.state.invariant.tiled.of_e tiled c.in_err-b-2.ensures)))
+    (half_one Half2 (tiles_map k) k.scales k.e c.in_ok-b.b (Err _) c.state.invariant.tiled.of_e layered c.in_err-b-2.ensures)))
 
 pub advance_e-e-requires-clause-flux : goal.advance_e-e-requires-clause-flux
 advance_e-e-requires-clause-flux g c κs within = c.in_ok-pushed.ensures.pushed.flux
@@ -231,7 +232,7 @@ advance_e-e-requires-clause-flux g c κs within = c.in_ok-pushed.ensures.pushed.
 pub advance_e-e-requires-clause-b_cells : goal.advance_e-e-requires-clause-b_cells
 advance_e-e-requires-clause-b_cells g c κs within =
     let at = goal.at.advance_e-e-requires-clause-b_cells g c in
-    (before_tiled g at.In_ok-b-2 (half_tiled g at.In_ok-b)).cells ∙ sym (ap cells_of c.in_ok-pushed.ensures.pushed.map)
+    (before_layered g at.In_ok-b-2 (half_layered g at.In_ok-b)).cells ∙ sym (ap cells_of c.in_ok-pushed.ensures.pushed.map)
 
 pub advance_e-e-requires-clause-e_cells : goal.advance_e-e-requires-clause-e_cells
 advance_e-e-requires-clause-e_cells g c κs within =
@@ -245,9 +246,9 @@ pub advance_e-e-requires-clause-b_small : goal.advance_e-e-requires-clause-b_sma
 advance_e-e-requires-clause-b_small g c κs within =
     let k = c.state.inside in
     let at = goal.at.advance_e-e-requires-clause-b_small g c in
-    let tiled = half_tiled g at.In_ok-b in
-    let second = before g at.In_ok-b-2 tiled (half g at.In_ok-b) in
-    small k k.scales.b_force c.in_ok-b-2.b (before_tiled g at.In_ok-b-2 tiled) (before_safe (world k) c.in_ok-b-2.b.values second)
+    let layered = half_layered g at.In_ok-b in
+    let second = before g at.In_ok-b-2 layered (half g at.In_ok-b) in
+    small k k.scales.b_force c.in_ok-b-2.b (before_layered g at.In_ok-b-2 layered) (before_safe (world k) c.in_ok-b-2.b.values second)
 
 pub advance_e-e-requires-clause-e_small : goal.advance_e-e-requires-clause-e_small
 advance_e-e-requires-clause-e_small g c κs within = c.raise_e.ensures.small
@@ -260,15 +261,15 @@ returns-in-Err-clause-steps g c =
     let j = left_flux c.in_ok-b-2.b q in
     let at = goal.at.returns-in-Err-clause-steps g c in
     let first = half g at.In_ok-b in
-    let tiled = half_tiled g at.In_ok-b in
-    let free = pushed g at.In-None tiled first in
-    let second = before g at.In_ok-b-2 tiled first in
+    let layered = half_layered g at.In_ok-b in
+    let free = pushed g at.In-None layered first in
+    let second = before g at.In_ok-b-2 layered first in
     ap (λ (v : StateView). stepped v.world) (sym c.state.view_is)
     ∙ stops_last w _ first.none (sym free.stop_is) second.none
     (last_step w c.in_ok-b-2.b.values (filtered_flux w q.frame.map q.tiles.items) (Err _) second (flux_is w q.frame.map q.tiles.items None free)
     (by_filter w c.in_ok-b-2.b.values q.frame.map q.tiles.items (Err _) (filter_in q.smooth) c.in_ok-b-2.b.cells
-    (ap filter_in c.in_ok-pushed.ensures.pushed.smooth) (before_tiled g at.In_ok-b-2 tiled).cells
-    (driven_one (tiles_map k) k.scales c.in_ok-b-2.b k.e c.raise_e.new.e (drive_of w) j _ (Err _) c.in-Err.is (before_tiled g at.In_ok-b-2 tiled)
+    (ap filter_in c.in_ok-pushed.ensures.pushed.smooth) (before_layered g at.In_ok-b-2 layered).cells
+    (driven_one (tiles_map k) k.scales c.in_ok-b-2.b k.e c.raise_e.new.e (drive_of w) j _ (Err _) c.in-Err.is (before_layered g at.In_ok-b-2 layered)
     c.state.invariant.tiled.of_e (raised g at.After-raise_e) c.advance_e-e.ensures.fields)))
 
 -- the step isn't the last that a run may have
@@ -282,18 +283,18 @@ invariant_of-result g c =
     let q = c.advance_e-e.result.1 in
     let at = goal.at.invariant_of-result g c in
     let first = half g at.In_ok-b in
-    let tiled = half_tiled g at.In_ok-b in
-    let second_tiled = before_tiled g at.In_ok-b-2 tiled in
-    let free = pushed g at.In-None tiled first in
+    let layered = half_layered g at.In_ok-b in
+    let second_layered = before_layered g at.In_ok-b-2 layered in
+    let free = pushed g at.In-None layered first in
     let same : tiles_map k ≡ q.frame.map = sym (ap (λ f. f.map) c.advance_e-e.ensures.frame ∙ c.in_ok-pushed.ensures.pushed.map) in
     record {
       sound = subst IsSound (next g at.In-Ok)
           (sound_after w c.in-Ok.e.values c.in_ok-b-2.b.values _ c.state.invariant.sound (early g at.In-Ok)
-          (after g at.In-Ok first free second_tiled (before g at.In_ok-b-2 tiled first) (raised g at.After-raise_e)));
-      tiled = subst (λ (m : Tiling). AreTiled m c.in-Ok.e c.in_ok-b-2.b) same (record {
-        of_e = tiled_after (tiles_map k) c.in_ok-b-2.b c.raise_e.new.e c.in-Ok.e _ second_tiled (raised_tiled g at.After-raise_e)
+          (after g at.In-Ok first free second_layered (before g at.In_ok-b-2 layered first) (raised g at.After-raise_e)));
+      tiled = subst (λ (m : Tiling). AreCut m c.in-Ok.e c.in_ok-b-2.b) same (record {
+        of_e = cut_after (tiles_map k) c.in_ok-b-2.b c.raise_e.new.e c.in-Ok.e _ second_layered (raised_tiled g at.After-raise_e)
             (advanced_is Electric k.scales.e_force _ _ _ _ _ c.in-Ok.e c.in-Ok.is c.advance_e-e.ensures.fields);
-        of_b = second_tiled;
+        of_b = second_layered;
       });
       plasma = subst (λ xs. IsPlasma xs q) (sym c.advance_e-e.ensures.particles) c.advance_e-e.ensures.plasma;
       tracers = subst (λ xs. All (IsOf xs) q.tracers.items) (sym c.advance_e-e.ensures.particles)
@@ -307,10 +308,10 @@ returns-clause-steps g c =
     let w = world c.state.inside in
     let at = goal.at.returns-clause-steps g c in
     let first = half g at.In_ok-b in
-    let tiled = half_tiled g at.In_ok-b in
+    let layered = half_layered g at.In_ok-b in
     ap (λ (v : StateView). stepped v.world) (sym c.state.view_is)
     ∙ stepped_after w c.in-Ok.e.values c.in_ok-b-2.b.values _
-    (after g at.In-Ok first (pushed g at.In-None tiled first) (before_tiled g at.In_ok-b-2 tiled) (before g at.In_ok-b-2 tiled first)
+    (after g at.In-Ok first (pushed g at.In-None layered first) (before_layered g at.In_ok-b-2 layered) (before g at.In_ok-b-2 layered first)
     (raised g at.After-raise_e))
     ∙ ap (λ (v : World). Ok v) (next g at.In-Ok)
 
@@ -320,8 +321,8 @@ returns-clause-keeps g c =
     let w = world k in
     let at = goal.at.returns-clause-keeps g c in
     let first = half g at.In_ok-b in
-    let tiled = half_tiled g at.In_ok-b in
-    let after' = after g at.In-Ok first (pushed g at.In-None tiled first) (before_tiled g at.In_ok-b-2 tiled) (before g at.In_ok-b-2 tiled first)
+    let layered = half_layered g at.In_ok-b in
+    let after' = after g at.In-Ok first (pushed g at.In-None layered first) (before_layered g at.In_ok-b-2 layered) (before g at.In_ok-b-2 layered first)
     (raised g at.After-raise_e) in
     subst (λ (v : StateView). Keeps v.world (seen (k.step + 1) k.loops k.scales c.in-Ok.e c.in_ok-b-2.b c.advance_e-e.result.1)) c.state.view_is
     (subst (Keeps w) (next g at.In-Ok) (keeps_after w c.in-Ok.e.values c.in_ok-b-2.b.values _ c.state.invariant.sound after'))
