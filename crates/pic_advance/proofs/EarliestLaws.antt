@@ -1,17 +1,10 @@
 -- Of two stops the earlier, and of many: in which order and grouping they are compared makes no
 -- difference.
-use Rattle.std.proofs.Common.{◌≡◌, ℕ, zero, suc, ◌+◌, ◌<◌, ◌≤◌, Bool, cond, Option, Some, None, Result, ◌⊎◌, inl, inr, refl, sym, ◌∙◌, ap, subst, arith}
-use Rattle.std.specs.Result.{result_err}
+use Rattle.std.proofs.Common.{◌≡◌, ℕ, zero, suc, ◌+◌, ◌<◌, ◌≤◌, Bool, true, false, cond, Option, Some, None, ◌⊎◌, inl, inr, refl, sym, ◌∙◌, ap, subst, arith}
 use Rattle.std.proofs.lemmas.Bool.{cases_lt, lt-ltb, le-ltb}
-use Rattle.pic_num.specs.Push.{unless}
 use Rattle.pic_num.proofs.LeastLaws.{Finds, finds_none, finds_both, keys_named, lesser_by}
 use Rattle.pic_grid.specs.declared.stop.Stop.{Stop}
 use Rattle.pic_advance.specs.Blocks.{place_number, earlier, earliest}
-
--- the error of an answer is the stop
-pub stop_of : (o : Option Stop) (r : Result (Unit {0}) Stop) → r ≡ unless o tt → result_err r ≡ o
-stop_of None r is = ap result_err is
-stop_of (Some stop) r is = ap result_err is
 
 -- the stop of the lesser place is the earlier,
 earlier-less : (a b : Stop) → place_number b < place_number a → earlier (Some a) (Some b) ≡ Some b
@@ -78,6 +71,27 @@ earliest_same f g (suc n) same =
     let before = earliest_same f g n (λ i h. same i (omega (arith, h))) in
     let last = same n (omega arith) in
     λ i. earlier (before i) (last i)
+
+-- where there is no earlier one there is none
+none_in_either : (t : Bool) (a b : Stop) → cond t (Some b) (Some a) ≡ None → (Some a ≡ None) × (Some b ≡ None)
+none_in_either true a b none = absurd (cc)
+none_in_either false a b none = absurd (cc)
+
+pub none_earlier : (a b : Option Stop) → earlier a b ≡ None → (a ≡ None) × (b ≡ None)
+unfolding earlier
+none_earlier None b none = (refl, none)
+none_earlier (Some a) None none = absurd (cc)
+none_earlier (Some a) (Some b) none = none_in_either _ a b none
+
+pub none_earliest : (f : ℕ → Option Stop) (n : ℕ) → earliest f n ≡ None → (i : ℕ) → i < n → f i ≡ None
+unfolding earliest
+none_earliest f zero none i below = absurd (omega (arith, below))
+none_earliest f (suc n) none i below =
+    let both = none_earlier (earliest f n) (f n) none in
+    elim (cases_lt i n) [
+      | inl less ↦ none_earliest f n both.0 i less
+      | inr more ↦ (let same : i ≡ n = omega (arith, below, more) in ap f same ∙ both.1)
+    ]
 
 -- the stops of two groups
 pub earliest_both : (f : ℕ → Option Stop) (m n : ℕ) → earliest f (m + n) ≡ earlier (earliest f m) (earliest (λ i. f (m + i)) n)

@@ -7,16 +7,16 @@ use Rattle.pic_num.specs.Limits.{most_value}
 use Rattle.pic_num.specs.Space.{Triple, Spot, unwrapped}
 use Rattle.pic_grid.specs.declared.stop.Phase.TheVariants.{Electric}
 use Rattle.pic_grid.specs.declared.stop.Stop.{Stop}
-use Rattle.pic_grid.specs.Block.{BlockValues, IsShaped, edge_at, inner_at, outer_of}
-use Rattle.pic_grid.specs.Cells.{IsWithin, count_of, cell_of}
+use Rattle.pic_grid.specs.Block.{BlockValues, edge_at, inner_at, outer_of}
+use Rattle.pic_grid.specs.Cells.{IsWithin}
 use Rattle.pic_grid.specs.Lattice.{Field, EachAtMost, value_at}
-use Rattle.pic_grid.specs.Parts.{origin, part_size, corner_of}
+use Rattle.pic_grid.specs.Parts.{origin}
 use Rattle.pic_field.specs.FieldPhases.{full_of, full_in, least_fault, no_drive, most_raised}
 use Rattle.pic_advance.specs.Blocks.{block_in, EachBlock, IsMade}
 use Rattle.pic_advance.specs.Driven.{AllCanDrive, AreDriven}
 use Rattle.pic_advance.proofs.MadeLaws.{made_clear}
 use Rattle.pic_advance.proofs.RowStopLaws.{row_stop_is}
-use Rattle.pic_advance.proofs.TakenLaws.{HasBlocks, taken_among, taken_edge, taken_value, taken_small}
+use Rattle.pic_advance.proofs.TakenLaws.{HasBlocks, same_long, same_zone, taken_among, taken_edge, taken_value, taken_small}
 
 -- the new values of E, by those of the lattices
 abbrev pub full_all : Scales → Field → Field → Field → Axis → Triple → ℤ
@@ -26,34 +26,16 @@ full_all scales b e j a p = full_of scales b no_drive a p (value_at e a p) (valu
 module _ (scales : Scales) (b : Field) (n : Triple) (e j : Field) (es js : List BlockValues) (h : HasBlocks n e es) (k : HasBlocks n j js)
     (parts : j.parts ≡ e.parts)
   where
-    same_long : length js ≡ length es
-    same_long =
-        let all = h.zones.count in
-        let beside = k.zones.count in
-        let same : count_of j.parts ≡ count_of e.parts = ap count_of parts in
-        omega (arith, all, beside, same)
-
-    same_zone : (i : ℕ) → i < length es → IsShaped (block_in js i) (block_in es i)
-    same_zone i below =
-        let all = h.zones.count in
-        let beside = k.zones.count in
-        let one = h.zones.zones i (omega (arith, all, below)) in
-        let other = k.zones.zones i (omega (arith, beside, below, same_long)) in
-        record {
-          low = other.low ∙ (λ l. corner_of (part_size n (parts l)) (cell_of (parts l) i)) ∙ sym one.low;
-          size = other.size ∙ (λ l. part_size n (parts l)) ∙ sym one.size;
-        }
-
     beside : (i : ℕ) → i < length es → i < length js
-    beside i below = omega (arith, below, same_long)
+    beside i below = omega (arith, below, same_long n e j es js h k parts)
 
     -- what the calls for the blocks require
     pub all_can_drive : EachAtMost most_raised e → EachAtMost most_value j → e.cells ≡ n → j.cells ≡ n → AllCanDrive n es js
     all_can_drive small current_small cells current_cells = record {
-      long = same_long;
+      long = same_long n e j es js h k parts;
       each = λ i below. record {
         among = taken_among n e es h i below;
-        shape = same_zone i below;
+        shape = same_zone n e j es js h k parts i below;
         current_small = taken_small n j js k most_value i (beside i below) current_small current_cells;
         small = taken_small n e es h most_raised i below small cells;
       };
@@ -62,14 +44,14 @@ module _ (scales : Scales) (b : Field) (n : Triple) (e j : Field) (es js : List 
     current_value : (i : ℕ) (a : Axis) (p : Triple) → i < length es → IsWithin p (block_in es i).size
         → inner_at (block_in js i) a p ≡ value_at j a (outer_of (block_in es i).low p)
     current_value i a p below w =
-        let zone = same_zone i below in
+        let zone = same_zone n e j es js h k parts i below in
         sym (taken_value n j js k i a p (beside i below) (subst (IsWithin p) (sym zone.size) w))
         ∙ ap (λ (l : Spot). value_at j a (outer_of l p)) zone.low
 
     current_edge : (i : ℕ) (a : Axis) (p : Triple) → i < length es → IsWithin p (block_in es i).size
         → edge_at (block_in js i) a (unwrapped (outer_of (block_in es i).low p)) ≡ value_at j a (outer_of (block_in es i).low p)
     current_edge i a p below w =
-        let zone = same_zone i below in
+        let zone = same_zone n e j es js h k parts i below in
         sym (ap (λ (l : Spot). edge_at (block_in js i) a (unwrapped (outer_of l p))) zone.low)
         ∙ sym (taken_edge n j js k i a p (beside i below) (subst (IsWithin p) (sym zone.size) w))
         ∙ ap (λ (l : Spot). value_at j a (outer_of l p)) zone.low
@@ -79,9 +61,9 @@ module _ (scales : Scales) (b : Field) (n : Triple) (e j : Field) (es js : List 
         -- what the step makes of the blocks is what it makes of the lattice,
         pub full_made : EachBlock (IsMade (full_all scales b e j)) es fs
         full_made = record {
-          long = driven.long;
+          long = driven.pairs.long;
           each = λ i below.
-              let one = driven.each i below in
+              let one = driven.pairs.each i below in
               record {
                 shaped = one.shaped;
                 values = λ a p w.
@@ -93,8 +75,8 @@ module _ (scales : Scales) (b : Field) (n : Triple) (e j : Field) (es js : List 
         -- no current is left,
         pub current_spent : EachBlock (IsMade (λ a p. pos 0)) js ks
         current_spent = record {
-          long = driven.beside;
-          each = λ i below. made_clear (block_in js i) (block_in ks i) (driven.each i (omega (arith, below, same_long))).spent;
+          long = driven.pairs.beside;
+          each = λ i below. made_clear (block_in js i) (block_in ks i) (driven.pairs.each i (omega (arith, below, same_long n e j es js h k parts))).spent;
         }
 
         -- and its stop is that of all cells

@@ -1,8 +1,9 @@
+pub mod PairLaws
 pub mod DrivenLaws
+pub mod HalvesLaws
 pub mod EachLaws
 pub mod EarliestLaws
 pub mod FullLaws
-pub mod HalfLaws
 pub mod RowStopLaws
 pub mod TakenLaws
 pub mod MadeLaws

@@ -7,10 +7,10 @@ use Rattle.pic_num.specs.declared.axis.Axis.{Axis}
 use Rattle.pic_num.specs.Limits.{most_value}
 use Rattle.pic_num.specs.Sizes.{IsAtMost}
 use Rattle.pic_num.specs.Space.{Triple, Spot, unwrapped}
-use Rattle.pic_grid.specs.Block.{BlockValues, IsAmongCells, AllAtMost, inner_of, edge_at, inner_at, outer_of}
+use Rattle.pic_grid.specs.Block.{BlockValues, IsAmongCells, IsShaped, AllAtMost, inner_of, edge_at, inner_at, outer_of}
 use Rattle.pic_grid.specs.Cells.{Grid, IsCells, IsWithin, count_of, index_of, cell_of}
 use Rattle.pic_grid.specs.Lattice.{Field, IsParts, EachAtMost, grid_of, value_at, field_of}
-use Rattle.pic_grid.specs.Parts.{part_size, no_block, ArePartsOf, value_in, joined}
+use Rattle.pic_grid.specs.Parts.{part_size, corner_of, no_block, ArePartsOf, value_in, joined}
 use Rattle.pic_grid.proofs.BlockLaws.{inner_within}
 use Rattle.pic_grid.proofs.CellLaws.{index_of-cell_of}
 use Rattle.pic_grid.proofs.LatticeLaws.{is_field_of, length-values_of}
@@ -134,3 +134,24 @@ module _ (n : Triple) (f : Field) (blocks : List BlockValues) (h : HasBlocks n f
             ∙ ap (λ (l : Spot). inner_at (block_in new k) a (inner_of l (unwrapped p))) made.shaped.low
             ∙ made.values a (inner_of b.low (unwrapped p)) (inner_within b.low b.size (unwrapped p) zone)
             ∙ ap (g a) (outer_of-inner_of b.low b.size n p (taken_among k below) zone))
+
+-- two lattices that are cut alike have equally many blocks, over the same zones
+module _ (n : Triple) (e j : Field) (es js : List BlockValues) (h : HasBlocks n e es) (k : HasBlocks n j js) (parts : j.parts ≡ e.parts)
+  where
+    pub same_long : length js ≡ length es
+    same_long =
+        let all = h.zones.count in
+        let beside = k.zones.count in
+        let same : count_of j.parts ≡ count_of e.parts = ap count_of parts in
+        omega (arith, all, beside, same)
+
+    pub same_zone : (i : ℕ) → i < length es → IsShaped (block_in js i) (block_in es i)
+    same_zone i below =
+        let all = h.zones.count in
+        let beside = k.zones.count in
+        let one = h.zones.zones i (omega (arith, all, below)) in
+        let other = k.zones.zones i (omega (arith, beside, below, same_long)) in
+        record {
+          low = other.low ∙ (λ l. corner_of (part_size n (parts l)) (cell_of (parts l) i)) ∙ sym one.low;
+          size = other.size ∙ (λ l. part_size n (parts l)) ∙ sym one.size;
+        }

@@ -2,7 +2,6 @@
 -- each for itself, in any order or at the same time; the stop is the least of theirs.
 use Rattle.std.specs.Prelude.{◌≡◌, ℕ, zero, suc, ℤ, ◌+◌, ◌*◌, ◌^◌, ◌<◌, List, length, slice_index_or, nat_lt, if◌then◌else◌, Option, Some, None}
 use Rattle.pic_num.specs.declared.axis.Axis.{Axis}
-use Rattle.pic_num.specs.declared.mult.Scales.{Scales}
 use Rattle.pic_num.specs.Limits.{most_value}
 use Rattle.pic_num.specs.Multiplier.{Multiplier}
 use Rattle.pic_num.specs.Space.{Triple, triple, axis_number}
@@ -11,9 +10,8 @@ use Rattle.pic_grid.specs.declared.stop.Stop.{Stop}
 use Rattle.pic_grid.specs.declared.stop.Stop.TheVariants.{Push, Field as field_stop}
 use Rattle.pic_grid.specs.Block.{BlockValues, IsAmongCells, IsShaped, AllAtMost, inner_at, outer_of}
 use Rattle.pic_grid.specs.Cells.{IsWithin}
-use Rattle.pic_grid.specs.Lattice.{Field}
 use Rattle.pic_grid.specs.Parts.{no_block}
-use Rattle.pic_field.specs.FieldPhases.{half_of, half_in, lowest, least_fault}
+use Rattle.pic_field.specs.FieldPhases.{lowest, least_fault}
 
 -- the block at an index of a row
 abbrev pub block_in : List BlockValues → ℕ → BlockValues
@@ -63,17 +61,6 @@ block_stop phase by g b = least_fault phase by (lowest b.low) b.size g
 abbrev pub row_stop : Phase → Multiplier → (ℕ → Axis → Triple → ℤ) → List BlockValues → Option Stop
 row_stop phase by g blocks =
     earliest (λ i. block_stop phase by (g i) (block_in blocks i)) (length blocks)
-
--- a block after half a step of B,
-pub record IsHalved (scales : Scales) (e : Field) (old new : BlockValues) : Type 0 where
-  pub shaped : IsShaped new old
-  pub values : (a : Axis) (p : Triple) → IsWithin p old.size
-      → inner_at new a p ≡ half_of scales e a (outer_of old.low p) (inner_at old a p)
-
--- and the stop of a row of blocks, from their old values
-abbrev pub halved_stop : Phase → Scales → Field → List BlockValues → Option Stop
-halved_stop phase scales e old =
-    row_stop phase scales.b_force (λ i. half_in scales e (block_in old i)) old
 
 -- a block has the new values that g gives, by axis and cell of the grid
 pub record IsMade (g : Axis → Triple → ℤ) (old new : BlockValues) : Type 0 where

@@ -1,5 +1,5 @@
 -- A step of E over blocks: each is driven by the block of the current that has its zone.
-use Rattle.std.specs.Prelude.{◌≡◌, ℕ, pos, ◌*◌, ◌<◌, List, length, replicate, Option}
+use Rattle.std.specs.Prelude.{◌≡◌, pos, ◌*◌, List, length, replicate, Option}
 use Rattle.pic_num.specs.Limits.{most_value}
 use Rattle.pic_num.specs.declared.axis.Axis.{Axis}
 use Rattle.pic_num.specs.declared.mult.Scales.{Scales}
@@ -11,6 +11,7 @@ use Rattle.pic_grid.specs.Cells.{IsWithin, count_of}
 use Rattle.pic_grid.specs.Lattice.{Field}
 use Rattle.pic_field.specs.FieldPhases.{full_of, full_in, no_drive, most_raised}
 use Rattle.pic_advance.specs.Blocks.{block_in, earliest, block_stop}
+use Rattle.pic_advance.specs.Pairs.{AllPairs, EachPair}
 
 -- the current of a block j can drive a block e of E that lies among n cells: it has the block's zone
 pub record CanDrive (n : Triple) (e j : BlockValues) : Type 0 where
@@ -20,9 +21,8 @@ pub record CanDrive (n : Triple) (e j : BlockValues) : Type 0 where
   pub small : AllAtMost most_raised e
 
 -- so can that of each of some blocks the one of its place
-pub record AllCanDrive (n : Triple) (es js : List BlockValues) : Type 0 where
-  pub long : length js ≡ length es
-  pub each : (i : ℕ) → i < length es → CanDrive n (block_in es i) (block_in js i)
+abbrev pub AllCanDrive : Triple → List BlockValues → List BlockValues → Type 0
+AllCanDrive n = AllPairs (CanDrive n)
 
 -- a block of zeros over the same zone
 abbrev pub cleared : BlockValues → BlockValues
@@ -44,10 +44,6 @@ driven_stop scales b e j = block_stop Electric scales.e_force (full_in scales b 
 pub record AreDriven (scales : Scales) (b : Field) (es js fs ks : List BlockValues)
     (stop : Option Stop) : Type 0
   where
-    pub count : length js ≡ length es
-    pub long : length fs ≡ length es
-    pub beside : length ks ≡ length js
-    pub each : (i : ℕ) → i < length es
-        → IsDriven scales b (block_in es i) (block_in js i) (block_in fs i) (block_in ks i)
+    pub pairs : EachPair (IsDriven scales b) es js fs ks
     pub stop_is : stop
         ≡ earliest (λ i. driven_stop scales b (block_in es i) (block_in js i)) (length es)

@@ -22,11 +22,12 @@ use Rattle.pic_tile.specs.Parcels.{AreFreshTiles}
 use Rattle.pic_tile.specs.Tiling.{Tiling, IsMap, grid_of_tiling}
 use Rattle.pic_tile.proofs.HeldLaws.{fresh_hold}
 use Rattle.pic_step.specs.declared.plasma.Plasma.{Plasma}
-use Rattle.pic_step.specs.Kept.{IsLayered, AreCut, IsKept, seen}
+use Rattle.pic_step.specs.Halved.{forced_by}
+use Rattle.pic_step.specs.Kept.{AreCut, IsKept, seen}
 use Rattle.pic_step.specs.Plasma.{IsPlasma}
 use Rattle.pic_step.specs.PushOn.{CanPush}
 use Rattle.pic_step.specs.SerialStep.{World, world_of}
-use Rattle.pic_step.specs.Sound.{IsSafe, IsSound}
+use Rattle.pic_step.specs.Sound.{IsSound}
 use Rattle.pic_step.specs.Tiled.{AreTilesOf}
 use Rattle.pic_step.specs.Tracers.{IsOf}
 use Rattle.pic_step.proofs.OnePartLaws.{safe_parts}
@@ -94,26 +95,29 @@ module _ (step : ℕ) (loops : List Loop) (scales : Scales) (e b : Field) (p : P
       let all = together (chains_of p.tiles.items) in
       record { side = refl; cells = refl; own = keeps.plasma.tiles; once = permutes particle_discrete xs all (same_sym all xs same) }
 
--- a state's fields and particles can be pushed, B after its first half step
-pub can_push : (step : ℕ) (loops : List Loop) (scales : Scales) (e b c : Field) (p : Plasma) → IsKept step loops scales e b p → IsLayered p.frame.map c
-    → IsSafe scales.b_force c
-    → CanPush scales e c p
-can_push step loops scales e b c p keeps of_c safe =
-    let w = seen step loops scales e b p in
-    record {
-      side = above_zero w keeps.sound;
-      tiled = record { of_e = keeps.tiled.of_e; of_b = of_c };
-      safe_e = safe_parts p.frame.map scales.e_force e keeps.tiled.of_e keeps.sound.e;
-      safe_b = safe;
-      plasma = keeps.plasma;
-      opening = record {
-        fresh = keeps.plasma.tiles;
-        ordered = keeps.sound.ordered;
-        can = keeps.sound.places;
-        few = keeps.sound.few;
-      };
-      tracers = keeps.tracers;
-    }
+-- a state's particles can be pushed, by the force values of any B
+pub can_push : (step : ℕ) (loops : List Loop) (scales : Scales) (e b c : Field) (p : Plasma) → IsKept step loops scales e b p
+    → CanPush scales e (record p { frame = forced_by scales c p.frame })
+can_push step loops scales e b c p keeps = record {
+  side = above_zero (seen step loops scales e b p) keeps.sound;
+  tiled = keeps.tiled.of_e;
+  safe = safe_parts p.frame.map scales.e_force e keeps.tiled.of_e keeps.sound.e;
+  plasma = record {
+    tiles = keeps.plasma.tiles;
+    room = keeps.plasma.room;
+    parts = keeps.plasma.parts;
+    spare = keeps.plasma.spare;
+    smooth = keeps.plasma.smooth;
+    count = keeps.plasma.count;
+  };
+  opening = record {
+    fresh = keeps.plasma.tiles;
+    ordered = keeps.sound.ordered;
+    can = keeps.sound.places;
+    few = keeps.sound.few;
+  };
+  tracers = keeps.tracers;
+}
 
 -- the state of the parts that a step leaves
 pub next_is : (step next : ℕ) (loops : List Loop) (scales : Scales) (e b e' b' : Field) (p q : Plasma) → next ≡ suc step → q.frame.map ≡ p.frame.map

@@ -50,7 +50,17 @@ force_field m by f r cut safe is = subst (IsForceField (grid_of_tiling m)) (sym 
   };
 })
 
--- the frame of these force values
+-- the frame with the force values of E, those of B as they are,
+abbrev pub with_force_e : FrameValue → Scales → Field → FrameValue
+with_force_e f scales e = record {
+  cells = grid_of_tiling f.map;
+  map = f.map;
+  kinds = f.kinds;
+  force_e = field_of f.map.side (cells_of f.map) (layered (cells_of f.map)) (force_of scales.e_force (value_at e));
+  force_b = f.force_b;
+}
+
+-- and with those of a lattice
 abbrev pub with_forces_of : Tiling → List Kind → Scales → Field → Field → FrameValue
 with_forces_of m kinds scales e b = record {
   cells = grid_of_tiling m;

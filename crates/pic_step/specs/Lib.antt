@@ -8,6 +8,7 @@ pub mod Start
 pub mod TileFlux
 pub mod Plasma
 pub mod Kept
+pub mod Halved
 pub mod PushOn
 pub mod Keeps
 pub mod Reach

@@ -8,15 +8,17 @@ use Rattle.pic_num.specs.Space.{Triple}
 use Rattle.pic_grid.specs.declared.stop.Stop.{Stop}
 use Rattle.pic_grid.specs.Cells.{IsWithin}
 use Rattle.pic_grid.specs.Current.{current}
-use Rattle.pic_grid.specs.Lattice.{Field, value_at}
+use Rattle.pic_grid.specs.Lattice.{Field, value_at, field_of}
+use Rattle.pic_grid.specs.Parts.{layered}
 use Rattle.pic_grid.specs.Gather.{force_of}
 use Rattle.pic_grid.specs.PushPhase.{Surroundings, moved_all, push_stop}
 use Rattle.pic_tile.specs.CoreState.{all_particles, IsOpening}
+use Rattle.pic_tile.specs.Frame.{FrameValue}
 use Rattle.pic_tile.specs.Tile.{TileValue}
-use Rattle.pic_tile.specs.Tiling.{Tiling}
+use Rattle.pic_tile.specs.Tiling.{Tiling, cells_of}
 use Rattle.pic_step.specs.declared.plasma.Plasma.{Plasma}
 use Rattle.pic_step.specs.TileFlux.{flux_in}
-use Rattle.pic_step.specs.Kept.{AreCut}
+use Rattle.pic_step.specs.Kept.{IsTiled}
 use Rattle.pic_step.specs.Plasma.{IsPlasma, HasFlux}
 use Rattle.pic_step.specs.Sound.{IsSafe}
 use Rattle.pic_step.specs.Tracers.{IsOf}
@@ -31,16 +33,20 @@ around_fields scales kinds e b = record {
   of_b = force_of scales.b_force (value_at b);
 }
 
--- fields and the particles of a state can be pushed: the fields are safe and cut as a state's, and
--- the particles are ready, within the limits and in the order of identities
-pub record CanPush (scales : Scales) (e b : Field) (p : Plasma) : Type 0 where
+-- the particles of a state can be pushed: E is safe and lies in the tiles, and they are ready,
+-- within the limits and in the order of identities
+pub record CanPush (scales : Scales) (e : Field) (p : Plasma) : Type 0 where
   pub side : 0 < p.frame.map.side
-  pub tiled : AreCut p.frame.map e b
-  pub safe_e : IsSafe scales.e_force e
-  pub safe_b : IsSafe scales.b_force b
+  pub tiled : IsTiled p.frame.map e
+  pub safe : IsSafe scales.e_force e
   pub plasma : IsPlasma (all_particles p.tiles.items) p
   pub opening : IsOpening p.frame p.tiles.items
   pub tracers : All (IsOf (all_particles p.tiles.items)) p.tracers.items
+
+-- the force values of B in a frame are those of a lattice
+pub record HasForces (scales : Scales) (b : Field) (f : FrameValue) : Type 0 where
+  pub forces : f.force_b ≡ field_of f.map.side (cells_of f.map) (layered (cells_of f.map))
+      (force_of scales.b_force (value_at b))
 
 -- the particles are pushed, their stop is known, and the flux of their tiles is the current
 pub record ArePushed (w : Surroundings) (m : Tiling) (old : List Particle) (tiles : List TileValue)

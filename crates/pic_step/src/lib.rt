@@ -2,6 +2,7 @@
 #![tactic(auto)]
 
 mod exchanging;
+mod halving;
 mod laws;
 mod looking;
 mod plasma;

@@ -2,15 +2,15 @@
 
 ghost use Rattle.std.specs.Prelude.{◌≡◌, ◌<◌, IfOk, IsErr};
 ghost use Rattle.pic_grid.specs.Gather.{force_of};
-ghost use Rattle.pic_grid.specs.Lattice.{value_at, field_of};
+ghost use Rattle.pic_grid.specs.Lattice.{Field, value_at, field_of};
 ghost use Rattle.pic_grid.specs.Parts.{layered};
 ghost use Rattle.pic_grid.specs.PushPhase.{moved_all};
 ghost use Rattle.pic_tile.specs.CoreState.{all_particles, IsOpening};
 ghost use Rattle.pic_tile.specs.Frame.{felt_in};
 ghost use Rattle.pic_tile.specs.Tiling.{cells_of, grid_of_tiling};
-ghost use Rattle.pic_step.specs.Kept.{AreCut};
+ghost use Rattle.pic_step.specs.Kept.{IsTiled};
 ghost use Rattle.pic_step.specs.Plasma.{IsPlasma};
-ghost use Rattle.pic_step.specs.PushOn.{around_fields, CanPush, HasPushed};
+ghost use Rattle.pic_step.specs.PushOn.{around_fields, CanPush, HasForces, HasPushed};
 ghost use Rattle.pic_step.specs.Sound.{IsSafe};
 
 use crate::exchanging::push_and_exchange;
@@ -26,31 +26,22 @@ use pic_tile::Frame;
 use std::alloc::Global;
 use std::thread::Threads;
 
-/// The fields that push particles, and their multipliers.
-#[derive(Clone, Copy)]
-pub struct Fields<'a> {
-    pub scales: &'a Scales,
-    pub e: &'a Lattice,
-    pub b: &'a Lattice,
-}
-
-/// Pushes all particles by the fields, on the workers of a team. Their flux is left in their tiles.
-/// Those that are followed are pushed once more, alone. Where there are none, nothing is done: no force
-/// value is needed and no parcel is sent.
+/// Pushes all particles by E and by the force values of B in their frame, on the workers of a team.
+/// Their flux is left in their tiles. Those that are followed are pushed once more, alone. Where there
+/// are none, nothing is done: no force value is needed and no parcel is sent.
 pub fn push_phase<H: Threads + Sync, G: Gate + Sync>(
     team: &Team<H, G>,
     alloc: Global,
-    fields: Fields,
+    scales: &Scales,
+    e: &Lattice,
     plasma: Plasma,
 ) -> Result<(Plasma, Option<Stop>), NoMemory>
-    requires can { CanPush fields.scales.now fields.e.now fields.b.now plasma }
-    ensures pushed { IfOk result (λ r. HasPushed
-        (around_fields fields.entry.scales.now plasma.frame.kinds fields.entry.e.now
-        fields.entry.b.now)
-        plasma r.0 r.1) }
-    ensures tracers { IfOk result (λ r. r.0.tracers.items ≡ moved_all
-        (around_fields fields.entry.scales.now plasma.frame.kinds fields.entry.e.now
-        fields.entry.b.now) plasma.tracers.items) }
+    requires can { CanPush scales.now e.now plasma }
+    ensures pushed { IfOk result (λ r. (b : Field) → HasForces scales.now b plasma.frame
+        → HasPushed (around_fields scales.now plasma.frame.kinds e.now b) plasma r.0 r.1) }
+    ensures tracers { IfOk result (λ r. (b : Field) → HasForces scales.now b plasma.frame
+        → r.0.tracers.items ≡ moved_all
+        (around_fields scales.now plasma.frame.kinds e.now b) plasma.tracers.items) }
     ensures alone { IsErr result → 1 < team.now.workers }
 {
     if plasma.count == 0 {
@@ -68,7 +59,7 @@ pub fn push_phase<H: Threads + Sync, G: Gate + Sync>(
         shelves,
         count,
     } = plasma;
-    let frame = with_forces(team, fields, frame);
+    let frame = with_forces(team, scales, e, frame);
     push_tracers(&frame, &mut tracers);
     let plasma = Plasma {
         frame,
@@ -104,26 +95,27 @@ fn push_tiles<H: Threads + Sync, G: Gate + Sync>(
     Ok((plasma, stop))
 }
 
-/// The frame with the force values of these fields.
-fn with_forces<H: Threads + Sync, G>(team: &Team<H, G>, fields: Fields, frame: Frame) -> Frame
-    requires tiled { AreCut frame.map fields.e.now fields.b.now }
-    requires e { IsSafe fields.scales.now.e_force fields.e.now }
-    requires b { IsSafe fields.scales.now.b_force fields.b.now }
+/// The frame with the force values of E. Those of B stay.
+fn with_forces<H: Threads + Sync, G>(
+    team: &Team<H, G>,
+    scales: &Scales,
+    e: &Lattice,
+    frame: Frame,
+) -> Frame
+    requires tiled { IsTiled frame.map e.now }
+    requires safe { IsSafe scales.now.e_force e.now }
     requires parts { frame.force_e.parts ≡ layered (cells_of frame.map) }
     ensures { let m = frame.map in result ≡ record {
       cells = grid_of_tiling m;
       map = m;
       kinds = frame.kinds;
       force_e = field_of m.side (cells_of m) (layered (cells_of m))
-          (force_of fields.entry.scales.now.e_force (value_at fields.entry.e.now));
-      force_b = field_of m.side (cells_of m) (layered (cells_of m))
-          (force_of fields.entry.scales.now.b_force (value_at fields.entry.b.now));
+          (force_of scales.now.e_force (value_at e.now));
+      force_b = frame.force_b;
     } }
 {
     let map = *frame.map();
     let (kinds, force_e, force_b) = frame.into_parts();
-    let Fields { scales, e, b } = fields;
     let force_e = force_values(team, scales.e_force, e, force_e);
-    let force_b = force_values(team, scales.b_force, b, force_b);
     Frame::new(map, kinds, force_e, force_b)
 }

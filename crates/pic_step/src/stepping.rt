@@ -9,12 +9,12 @@ ghost use Rattle.pic_step.specs.SerialStep.{half_stop};
 ghost use Rattle.pic_step.specs.declared.stepping.StepStop.TheVariants as step_stop;
 ghost use Rattle.pic_crew.specs.Teams.{most_workers};
 
-use crate::push_phase::{Fields, push_phase};
+use crate::halving::{Halved, halve_b};
+use crate::push_phase::push_phase;
 use crate::state::State;
-use pic_advance::advance_b;
 use pic_drive::raise_e;
 use pic_gate::Gate;
-use pic_grid::{Phase, Stop};
+use pic_grid::Stop;
 use pic_num::{NoMemory, Workers};
 use pic_team::Team;
 use std::alloc::Global;
@@ -83,19 +83,21 @@ pub fn step<H: Threads + Sync, G: Gate + Sync>(
     } = state;
     let workers = Workers::of(workers);
     let team = Team { rt, gate, workers };
-    let b = advance_b(&team, &scales, &e, b, Phase::Half1)?;
-    let fields = Fields {
-        scales: &scales,
-        e: &e,
-        b: &b,
-    };
-    let pushed = push_phase(&team, alloc, fields, plasma)?;
+    let Halved {
+        b,
+        plasma,
+        stop: late,
+    } = halve_b(&team, &scales, &e, b, plasma)?;
+    let pushed = push_phase(&team, alloc, &scales, &e, plasma)?;
     let (plasma, stop) = pushed;
     match stop {
         Some(stop) => return Err(StepStop::Stop(stop)),
         None => {}
     }
-    let b = advance_b(&team, &scales, &e, b, Phase::Half2)?;
+    match late {
+        Some(stop) => return Err(StepStop::Stop(stop)),
+        None => {}
+    }
     raise_e(loops.as_slice(), step, &mut e);
     let (e, plasma) = plasma.advance_e(&team, &scales, &b, e);
     let e = match e {

@@ -67,14 +67,14 @@ blank_items : (g : Over) (c : After-each_share-stop g) → take c.into_blocks-sp
     ≡ c.each_share-stop.new.beside
 blank_items g c =
     let taken = c.into_blocks-spent in
-    given_back taken.result.len c.each_share-stop.new.beside taken.result.items taken.result.ok.0 (driven g c).beside
+    given_back taken.result.len c.each_share-stop.new.beside taken.result.items taken.result.ok.0 (driven g c).pairs.beside
 
 made_items : (g : Over) (c : After-each_share-stop g) → take c.into_blocks-blocks.result.len (c.each_share-stop.new.items
     ++ drop (length c.each_share-stop.new.items) c.into_blocks-blocks.result.items)
     ≡ c.each_share-stop.new.items
 made_items g c =
     let taken = c.into_blocks-blocks in
-    given_back taken.result.len c.each_share-stop.new.items taken.result.items taken.result.ok.0 (driven g c).long
+    given_back taken.result.len c.each_share-stop.new.items taken.result.items taken.result.ok.0 (driven g c).pairs.long
 
 pub of_blocks-blank-requires-clause-zones : goal.of_blocks-blank-requires-clause-zones
 of_blocks-blank-requires-clause-zones g c =

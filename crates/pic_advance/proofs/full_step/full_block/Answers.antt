@@ -2,7 +2,7 @@ use Rattle.std.proofs.Common.{◌∙◌}
 use Rattle.pic_grid.specs.declared.stop.Phase.TheVariants.{Electric}
 use Rattle.pic_field.specs.FieldPhases.{full_in, no_drive}
 use Rattle.pic_advance.specs.Blocks.{block_stop}
-use Rattle.pic_advance.proofs.EarliestLaws.{stop_of}
+use Rattle.pic_field.proofs.FaultLaws.{stop_of}
 use Rattle.pic_advance.proofs.full_step.full_block.Goals as goal
 
 pub returns-clause-stop : goal.returns-clause-stop

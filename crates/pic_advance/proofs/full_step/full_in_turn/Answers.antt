@@ -1,7 +1,9 @@
 use Rattle.std.proofs.Common.{◌<◌, length, arith}
 use Rattle.std.proofs.lemmas.List.{get_or_default}
 use Rattle.pic_grid.specs.Parts.{no_block}
-use Rattle.pic_advance.proofs.DrivenLaws.{driving_none, driving_more, driving_all, can_next}
+use Rattle.pic_advance.specs.Driven.{CanDrive, IsDriven}
+use Rattle.pic_advance.proofs.DrivenLaws.{driving_none, driving_more, driving_all}
+use Rattle.pic_advance.proofs.PairLaws.{can_next}
 use Rattle.pic_advance.proofs.full_step.full_in_turn.Goals as goal
 
 pub loop-i-init : goal.loop-i-init
@@ -15,10 +17,10 @@ full_block-stop-requires-clause-can c =
     let i = c.loop-i.i in
     let d = c.loop-i.invariant in
     let test = c.loop-i-test.true in
-    let below : i < length es = omega (arith, test, d.long) in
-    let inside : i < length js = omega (arith, test, d.beside, c.requires.can.long) in
-    can_next step.scales.now step.b.now c.args.blocks.now c.args.current.now step.b.now.cells es js c.loop-i.least
-    i _ _ c.requires.can d (omega (arith, test))
+    let below : i < length es = omega (arith, test, d.pairs.long) in
+    let inside : i < length js = omega (arith, test, d.pairs.beside, c.requires.can.long) in
+    can_next (CanDrive step.b.now.cells) (IsDriven step.scales.now step.b.now) c.args.blocks.now c.args.current.now es js
+    i _ _ c.requires.can d.pairs (omega (arith, test))
     (get_or_default es i c.index-blocks-i.result no_block below) (get_or_default js i c.index-current-i.result no_block inside)
 
 pub loop-i-preserved : goal.loop-i-preserved
@@ -29,8 +31,8 @@ loop-i-preserved c =
     let i = c.loop-i.i in
     let d = c.loop-i.invariant in
     let test = c.loop-i-test.true in
-    let below : i < length es = omega (arith, test, d.long) in
-    let inside : i < length js = omega (arith, test, d.beside, c.requires.can.long) in
+    let below : i < length es = omega (arith, test, d.pairs.long) in
+    let inside : i < length js = omega (arith, test, d.pairs.beside, c.requires.can.long) in
     let one = c.full_block-stop.ensures in
     driving_more step.scales.now step.b.now c.args.blocks.now c.args.current.now es js c.loop-i.least c.full_block-stop.result
     c.earlier-least.result i _ _ c.full_block-stop.new.e c.full_block-stop.new.j c.requires.can.long d (omega (arith, test))
