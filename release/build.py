@@ -3,7 +3,6 @@
 
     release/build.py                                    this checkout's: what ./pic build calls
     release/build.py --sources FOLDER --work WORK --program PROGRAM
-    release/build.py --cpu x86-64-v3                    for processors of that kind: another program of the same libraries
 
 The toolchain's command locks a crate's folder and those of the crates below it, so that two of its calls in one checkout wait for each
 other. So each crate has a room of its own in WORK: a folder of its sources and of those below it, which it is given as they were built.
@@ -29,8 +28,6 @@ GIB_A_JOB = 3
 MAX_JOBS = 4
 MAX_KEPT_PROGRAMS = 4
 NOT_BUILT = 70
-DEFAULT_CPU = "x86-64-v2"
-CPUS = (DEFAULT_CPU, "x86-64-v3")
 
 
 class Crate:
@@ -158,8 +155,8 @@ def lanes():
 class Build:
     """A build: the crates that are left, those at work with their calls, jobs and since when, and those that are built."""
 
-    def __init__(self, rooms, crates, cpu):
-        self.rooms, self.crates, self.cpu, self.left = rooms, crates, cpu, sorted(crates, key=lambda it: -it.chain)
+    def __init__(self, rooms, crates):
+        self.rooms, self.crates, self.left = rooms, crates, sorted(crates, key=lambda it: -it.chain)
         self.running, self.built, self.lanes = {}, set(), lanes()
         self.since, self.said = time.monotonic(), None
         (rooms.work / "logs").mkdir(parents=True, exist_ok=True)
@@ -170,11 +167,10 @@ class Build:
     def start(self, crate, jobs):
         self.rooms.lay_out(crate)
         folder, given = self.rooms.place(crate), os.devnull
-        words = ["rt", "run" if crate.name == TOP else "lib", "--jobs", str(jobs)]
         if crate.name == TOP:
-            (folder / "out" / TOP).unlink(missing_ok=True)      # (it may be for another processor)
+            (folder / "out" / TOP).unlink(missing_ok=True)
             given = self.rooms.sources / "crates" / TOP / "stdin"
-            words += [] if self.cpu == DEFAULT_CPU else ["--cpu", self.cpu]
+        words = ["rt", "run" if crate.name == TOP else "lib", "--jobs", str(jobs)]
         with self.log(crate).open("wb") as log, open(given, "rb") as file:
             call = subprocess.Popen(words, cwd=folder, env=plain(), stdin=file, stdout=log, stderr=subprocess.STDOUT)
         self.left.remove(crate)
@@ -275,17 +271,16 @@ def work_here():
     return Path(cache) / "pic" / f"{HOME.name}-{hashlib.sha256(os.fsencode(HOME)).hexdigest()[:8]}"
 
 
-def build(sources, work, program, cpu):
-    """Builds the program of the folder sources for a kind of processor, and gives the exit status."""
+def build(sources, work, program):
+    """Builds the program of the folder sources, and gives the exit status."""
     with locked(work):
         rooms = Rooms(work)
         copy_sources(sources, rooms.sources)
-        kind = "" if cpu == DEFAULT_CPU else f"-{cpu}"
-        to = program or HOME / "out" / f"pic-{sum_of(rooms.sources)[:16]}{kind}"
+        to = program or HOME / "out" / f"pic-{sum_of(rooms.sources)[:16]}"
         if to.exists():
             print(f"pic: {to} is built", file=sys.stderr)
             return 0
-        made = Build(rooms, read_crates(rooms.sources), cpu)
+        made = Build(rooms, read_crates(rooms.sources))
         lost = made.run()
         if lost:
             return say_why(made, lost)
@@ -301,11 +296,10 @@ def main():
     words.add_argument("--sources", default=HOME, type=Path)
     words.add_argument("--work", default=work_here(), type=Path)
     words.add_argument("--program", type=Path)
-    words.add_argument("--cpu", default=DEFAULT_CPU, choices=CPUS)
     chosen = words.parse_args()
     signal.signal(signal.SIGTERM, lambda *_: sys.exit(128 + signal.SIGTERM))
     try:
-        return build(chosen.sources.resolve(), chosen.work.resolve(), chosen.program, chosen.cpu)
+        return build(chosen.sources.resolve(), chosen.work.resolve(), chosen.program)
     except KeyboardInterrupt:
         print("\npic: stopped; ./pic build goes on from here", file=sys.stderr)
         return 128 + signal.SIGINT

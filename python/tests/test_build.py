@@ -1,8 +1,7 @@
 """What `./pic build` does with a toolchain's command that proves nothing: which crates it asks for and when, and what is there after a
-crate that isn't proved, after two calls at once, and after one that was stopped; and which program runs of two for two processors."""
+crate that isn't proved, after two calls at once, and after one that was stopped."""
 
 import os
-import re
 import shutil
 import signal
 import subprocess
@@ -12,13 +11,11 @@ import unittest
 from pathlib import Path
 
 HOME = Path(__file__).parents[2]
-NEWER = ("--cpu", "x86-64-v3")
 
-# A stand-in for `rt lib` and `rt run`: it wants what the crates below gave, and gives as little as `rt` leaves. Where there is a program
-# it makes no other one, as `rt` where nothing has changed; what it makes says what it is for.
+# A stand-in for `rt lib` and `rt run`: it wants what the crates below gave, and gives as little as `rt` leaves.
 RT = """#!/usr/bin/env bash
 name=$(basename "$PWD")
-echo "$1 $name ${RT_BACKEND:-}${*:4}" >>"$CALLS"
+echo "$1 $name ${RT_BACKEND:-}" >>"$CALLS"
 while [ -e "$CALLS.slow" ]; do sleep 0.1; done
 grep -rh 'error' src && exit 1
 for low in ../*/; do
@@ -27,16 +24,8 @@ done
 mkdir -p "out/rlib/$name.rlib"
 sha256sum src/* >"out/rlib/$name.rlib/format"
 cp "out/rlib/$name.rlib/format" out/rlib/stamp
-[ "$1" = run ] && [ ! -e out/pic_prog ] || exit 0
-printf '#!/bin/sh\\necho for %s\\n' "${5:-x86-64-v2}" >out/pic_prog
-chmod +x out/pic_prog
+[ "$1" = lib ] || cp /bin/echo out/pic_prog
 """
-
-
-def is_newer():
-    """Whether this machine has what a program for x86-64-v3 wants."""
-    flags = re.search(r"^flags\s*:(.*)$", Path("/proc/cpuinfo").read_text(), re.MULTILINE)
-    return bool(flags) and set(flags[1].split()).issuperset("avx avx2 bmi1 bmi2 f16c fma movbe abm xsave".split())
 
 
 class Build(unittest.TestCase):
@@ -63,27 +52,20 @@ class Build(unittest.TestCase):
         source.parent.mkdir(parents=True, exist_ok=True)
         source.write_text(f"// {text}\n")
 
-    def start(self, word="build", *more):
+    def start(self, word="build"):
         own = {"PATH": f"{self.room}/bin:{os.environ['PATH']}", "CALLS": str(self.calls), "XDG_CACHE_HOME": f"{self.room}/cache",
                "RT_BACKEND": "rattle"}
         # (what runs in the background hands on that it ignores Ctrl-C)
-        return subprocess.Popen([self.here / "pic", word, *more], env=own, stdout=subprocess.PIPE, stderr=subprocess.PIPE, text=True,
+        return subprocess.Popen([self.here / "pic", word], env=own, stdout=subprocess.PIPE, stderr=subprocess.PIPE, text=True,
                                 preexec_fn=lambda: signal.signal(signal.SIGINT, signal.SIG_DFL))
 
-    def build(self, *more):
-        call = self.start("build", *more)
+    def build(self):
+        call = self.start()
         _, said = call.communicate(timeout=60)
         return call.returncode, said
 
-    def said(self, word):
-        return self.start(word).communicate(timeout=60)[0].strip()
-
     def programs(self):
         return sorted(it.name for it in (self.here / "out").glob("*"))
-
-    def told_by(self, *names):
-        """What these programs say, each on its own."""
-        return [subprocess.check_output([self.here / "out" / name], text=True).strip() for name in names]
 
     def await_calls(self, number):
         while len(self.calls.read_text().splitlines()) < number:
@@ -94,9 +76,9 @@ class Build(unittest.TestCase):
         lines = self.calls.read_text().splitlines()
         self.assertEqual(sorted(lines[:2]), ["lib low ", "lib other "])
         self.assertEqual(lines[2:], ["lib high ", "run pic_prog "])
-        self.assertEqual(Path(self.said("built")), self.here / "out" / self.programs()[0])
+        built = self.start("built")
+        self.assertEqual(Path(built.communicate()[0].strip()), self.here / "out" / self.programs()[0])
         self.assertEqual(self.build()[0], 0)
-        self.assertEqual(self.build("--cpu", "x86-64-v2")[0], 0)
         self.assertEqual(len(self.calls.read_text().splitlines()), 4)
 
     def test_an_older_program_stays_until_there_is_a_new_one(self):
@@ -132,39 +114,6 @@ class Build(unittest.TestCase):
             self.assertEqual((call.returncode, self.programs()), (status, []))
             self.slow.unlink()
         self.assertEqual(self.build()[0], 0)
-
-    def test_a_program_for_newer_processors_stands_beside_the_default_one(self):
-        self.assertEqual(self.build()[0], 0)
-        default, = self.programs()
-        newer = f"{default}-x86-64-v3"
-        self.calls.write_text("")
-        self.assertEqual(self.build(*NEWER)[0], 0)
-        lines = self.calls.read_text().splitlines()
-        self.assertEqual((sorted(lines[:2]), lines[2:]), (["lib low ", "lib other "], ["lib high ", "run pic_prog --cpu x86-64-v3"]))
-        self.assertEqual(self.programs(), [default, newer])
-        self.assertEqual(self.told_by(default, newer), ["for x86-64-v2", "for x86-64-v3"])
-        (self.here / "out" / default).unlink()
-        self.assertEqual(self.build()[0], 0)
-        self.assertEqual(self.told_by(default, newer), ["for x86-64-v2", "for x86-64-v3"])
-        self.assertEqual(self.build(*NEWER)[0], 0)
-        self.assertEqual(len(self.calls.read_text().splitlines()), 8)
-
-    def test_the_program_for_newer_processors_runs_where_the_machine_has_what_it_wants(self):
-        self.assertEqual(self.build(*NEWER)[0], 0)
-        newer, = self.programs()
-        self.assertEqual(self.said("built"), str(self.here / "out" / newer) if is_newer() else "")
-        self.assertEqual(self.build()[0], 0)
-        taken = self.programs()[is_newer()]
-        self.assertEqual((self.said("built"), self.said("check")), (str(self.here / "out" / taken), *self.told_by(taken)))
-        (self.here / "out" / newer).unlink()
-        default, = self.programs()
-        self.assertEqual((self.said("built"), self.said("check")), (str(self.here / "out" / default), "for x86-64-v2"))
-
-    def test_a_processor_that_is_none_of_both_is_refused(self):
-        for word in ("x86-64", "x86-64-v4", "another"):
-            status, said = self.build("--cpu", word)
-            self.assertEqual((status, self.calls.read_text(), self.programs()), (2, "", []))
-            self.assertIn("argument --cpu: invalid choice", said)
 
 
 if __name__ == "__main__":
