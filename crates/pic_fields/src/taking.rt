@@ -16,7 +16,15 @@ pub fn fill<S: Source>(source: &mut S, room: &mut [u8]) -> Result<usize, ReadSto
     ensures length { length room.new ≡ length room.old }
     ensures fills { Fills (S.told source.old) (S.told source.new) room.new result }
 {
-    let mut count = 0;
+    if room.is_empty() {
+        return Ok(0);
+    }
+    // The first take stands apart: a field of a known length that lies in memory is then one move.
+    let mut count = match source.take(room) {
+        Ok(0) => return Ok(0),
+        Ok(first) => first,
+        Err(Failed) => return Err(ReadStop::ReadFault),
+    };
     while count < room.len() {
         match source.take(&mut room[count..]) {
             Ok(0) => return Ok(count),

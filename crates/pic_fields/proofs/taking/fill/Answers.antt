@@ -30,7 +30,10 @@ fronts_more x y z room part count more so_far most given calm =
       calm = calm ∙ so_far.calm;
     }
 
+pub loop-count-init : goal.loop-count-init
+loop-count-init g c = record { most = c.in-Ok.ensures.bound; taken = c.in-Ok.ensures.bytes.moved; calm = c.in-Ok.ensures.cause.ok }
+
 pub loop-count-preserved : goal.loop-count-preserved
 loop-count-preserved g c =
-    fronts_more _ _ _ c.loop-count.room c.take.new.room c.loop-count.count c.in-Ok.more c.loop-count.invariant c.in-Ok.ensures.bound c.in-Ok.ensures.bytes.moved
-    c.in-Ok.ensures.cause.ok
+    fronts_more _ _ _ c.loop-count.room c.take-in-loop-count.new.room c.loop-count.count c.in-Ok-take.more c.loop-count.invariant
+    c.in-Ok-take.ensures.bound c.in-Ok-take.ensures.bytes.moved c.in-Ok-take.ensures.cause.ok
