@@ -2,7 +2,7 @@
 use Rattle.std.proofs.Common.{◌≡◌, ℕ, ◌+◌, ◌*◌, ◌^◌, ◌≤◌, cond, eqb, true, false, [], ◌∷◌, sym, ◌∙◌, ap, subst, unsigned_abs, arith}
 use Rattle.std.proofs.Math.IntN.{ℤ, pos, ◌+ℤ◌, ◌*ℤ◌}
 use Rattle.std.proofs.lemmas.Int.{ints, to_z-of_z, unsigned_abs-mul, fits_signed_from_abs}
-use mir.Syntax.{w128}
+use mir.Syntax.{w64}
 use mir.Val.{to_z, of_z}
 use Rattle.pic_num.proofs.Ring.{ring, reads}
 use Rattle.pic_num.proofs.SizeLaws.{times_at_most}
@@ -110,16 +110,16 @@ still_at_most nodes m k small more = record {
 }
 
 -- what the code passes on of a number that is small
-pub kept_is : (r : ℤ) → IsAtMost r (2 ^ 61) → to_z w128 (of_z w128 r) ≡ r
-kept_is r small = let size = small.size in to_z-of_z w128 r (fits_signed_from_abs w128 r (omega (arith, size)))
+pub kept_is : (r : ℤ) → IsAtMost r (2 ^ 61) → to_z w64 (of_z w64 r) ≡ r
+kept_is r small = let size = small.size in to_z-of_z w64 r (fits_signed_from_abs w64 r (omega (arith, size)))
 
 -- a part of an amount, as the code passes it on
 pub record IsShare (amount r : ℤ) (weight most : ℕ) : Type 0 where
-  pub is : to_z w128 (of_z w128 r) ≡ amount *ℤ pos weight
-  pub size : IsAtMost (to_z w128 (of_z w128 r)) (most * most_side)
+  pub is : to_z w64 (of_z w64 r) ≡ amount *ℤ pos weight
+  pub size : IsAtMost (to_z w64 (of_z w64 r)) (most * most_side)
 
 share_of : (amount r : ℤ) (weight most : ℕ) → weight ≤ most_side → IsAtMost amount most → most ≤ 2 ^ 47
-    → r ≡ to_z w128 (of_z w128 amount) *ℤ pos weight → IsShare amount r weight most
+    → r ≡ to_z w64 (of_z w64 amount) *ℤ pos weight → IsShare amount r weight most
 share_of amount r weight most light small low is =
     let size = small.size in
     let plain : r ≡ amount *ℤ pos weight
@@ -127,25 +127,25 @@ share_of amount r weight most light small low is =
     let product : unsigned_abs (amount *ℤ pos weight) ≤ most * most_side
     = rw (unsigned_abs-mul amount (pos weight)) (times_at_most (unsigned_abs amount) weight most most_side size light) in
     let sized : unsigned_abs r ≤ most * most_side = subst (λ (z : ℤ). unsigned_abs z ≤ most * most_side) (sym plain) product in
-    let kept : to_z w128 (of_z w128 r) ≡ r = kept_is r (record { size = omega (arith, sized, low) }) in
+    let kept : to_z w64 (of_z w64 r) ≡ r = kept_is r (record { size = omega (arith, sized, low) }) in
     record { is = kept ∙ plain; size = subst (λ (z : ℤ). IsAtMost z (most * most_side)) (sym kept) (record { size = sized }) }
 
 pub low_share : (n most : ℕ) (amount r : ℤ) (s : Pair) → CanSpread n s → IsAtMost amount most → most ≤ 2 ^ 47
-    → r ≡ to_z w128 (of_z w128 amount) *ℤ pos s.low_weight → IsShare amount r s.low_weight most
+    → r ≡ to_z w64 (of_z w64 amount) *ℤ pos s.low_weight → IsShare amount r s.low_weight most
 low_share n most amount r s pair = let least = pair.most in share_of amount r s.low_weight most (omega (arith, least))
 
 pub high_share : (n most : ℕ) (amount r : ℤ) (s : Pair) → CanSpread n s → IsAtMost amount most → most ≤ 2 ^ 47
-    → r ≡ to_z w128 (of_z w128 amount) *ℤ pos s.high_weight → IsShare amount r s.high_weight most
+    → r ≡ to_z w64 (of_z w64 amount) *ℤ pos s.high_weight → IsShare amount r s.high_weight most
 high_share n most amount r s pair = let least = pair.most in share_of amount r s.high_weight most (omega (arith, least))
 
 -- two parts that are added one after the other, on each axis
 module _ (a b c : NodeValues) (amount r t : ℤ) (s : Pair) (most : ℕ) (low : IsShare amount r s.low_weight most) (high : IsShare amount t s.high_weight most)
   where
     abbrev first : ℤ
-    first = to_z w128 (of_z w128 r)
+    first = to_z w64 (of_z w64 r)
 
     abbrev second : ℤ
-    second = to_z w128 (of_z w128 t)
+    second = to_z w64 (of_z w64 t)
 
     pub line_added : (g h : ℕ → ℕ) → Adds a b (spread first (only_at s.low 1) g h) → Adds b c (spread second (only_at s.high 1) g h)
         → Adds a c (spread amount (weight_in s) g h)

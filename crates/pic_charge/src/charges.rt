@@ -72,10 +72,10 @@ fn add_particle(cells: Cells, kinds: &[Kind], particle: &Particle, to: &mut Node
 }
 
 /// 12 times a charge.
-fn twelvefold(charge: i32) -> i128
+fn twelvefold(charge: i32) -> i64
     requires { IsAtMost charge most_charge }
     ensures value { result ≡ pos 12 *ℤ charge }
     ensures size { IsAtMost result (2 ^ 19) }
 {
-    12 * i128::from(charge)
+    12 * i64::from(charge)
 }

@@ -10,7 +10,7 @@ ghost use Rattle.pic_charge.specs.Spread.{spread, CanSpread, NodesAtMost, Adds};
 use pic_grid::{Nodes, Pair};
 
 /// Adds an amount to one node.
-fn add(to: &mut Nodes, x: u32, y: u32, z: u32, amount: i128)
+fn add(to: &mut Nodes, x: u32, y: u32, z: u32, amount: i64)
     requires x { x < to.old.cells.x }
     requires y { y < to.old.cells.y }
     requires z { z < to.old.cells.z }
@@ -19,12 +19,12 @@ fn add(to: &mut Nodes, x: u32, y: u32, z: u32, amount: i128)
     ensures { Adds to.old to.new (spread amount (only_at x 1) (only_at y 1) (only_at z 1)) }
 {
     let node = [x, y, z];
-    let sum = to.at(node) + amount;
+    let sum = to.at(node) + i128::from(amount);
     to.set(node, sum);
 }
 
 /// Shares an amount between the two nodes of a line along x.
-fn add_line(to: &mut Nodes, x: Pair, y: u32, z: u32, amount: i128)
+fn add_line(to: &mut Nodes, x: Pair, y: u32, z: u32, amount: i64)
     requires x { CanSpread to.old.cells.x x }
     requires y { y < to.old.cells.y }
     requires z { z < to.old.cells.z }
@@ -37,7 +37,7 @@ fn add_line(to: &mut Nodes, x: Pair, y: u32, z: u32, amount: i128)
 }
 
 /// Shares an amount between the two lines of a plane across z.
-fn add_plane(to: &mut Nodes, x: Pair, y: Pair, z: u32, amount: i128)
+fn add_plane(to: &mut Nodes, x: Pair, y: Pair, z: u32, amount: i64)
     requires x { CanSpread to.old.cells.x x }
     requires y { CanSpread to.old.cells.y y }
     requires z { z < to.old.cells.z }
@@ -50,7 +50,7 @@ fn add_plane(to: &mut Nodes, x: Pair, y: Pair, z: u32, amount: i128)
 }
 
 /// Shares an amount between the two planes of a box of eight nodes.
-pub(crate) fn add_box(to: &mut Nodes, x: Pair, y: Pair, z: Pair, amount: i128)
+pub(crate) fn add_box(to: &mut Nodes, x: Pair, y: Pair, z: Pair, amount: i64)
     requires x { CanSpread to.old.cells.x x }
     requires y { CanSpread to.old.cells.y y }
     requires z { CanSpread to.old.cells.z z }
@@ -63,10 +63,10 @@ pub(crate) fn add_box(to: &mut Nodes, x: Pair, y: Pair, z: Pair, amount: i128)
 }
 
 /// An amount times a weight.
-fn times(amount: i128, weight: u32) -> i128
+fn times(amount: i64, weight: u32) -> i64
     requires amount_most { IsAtMost amount (2 ^ 47) }
     requires weight_most { weight ≤ most_side }
     ensures { result ≡ amount *ℤ pos weight }
 {
-    amount * i128::from(weight)
+    amount * i64::from(weight)
 }
