@@ -49,6 +49,7 @@ pub fn gauss(cells: Cells, e: &Lattice, rho: &Nodes) -> Option<Break>
 }
 
 /// The break at `node`, if there is one.
+#[inline(always)]
 #[tactic(auto, unfolding(crate::specs::Gauss::difference_at))]
 fn difference(cells: Cells, e: &Lattice, rho: &Nodes, node: [u32; 3]) -> Option<Break>
     requires e_cells { e.now.cells ≡ cells.n }
@@ -73,6 +74,7 @@ fn difference(cells: Cells, e: &Lattice, rho: &Nodes, node: [u32; 3]) -> Option<
 }
 
 /// The divergence of E at `node`.
+#[inline(always)]
 fn divergence(cells: Cells, e: &Lattice, node: [u32; 3]) -> i128
     requires e_cells { e.now.cells ≡ cells.n }
     requires e_most { (a : AxisName) (p : Triple) → IsWithin p cells.n
@@ -87,6 +89,7 @@ fn divergence(cells: Cells, e: &Lattice, node: [u32; 3]) -> i128
 }
 
 /// What leaves `node` along an axis, less what comes in.
+#[inline(always)]
 fn outflow(cells: Cells, e: &Lattice, axis: Axis, node: [u32; 3]) -> i128
     requires e_cells { e.now.cells ≡ cells.n }
     requires e_most { (a : AxisName) (p : Triple) → IsWithin p cells.n
@@ -96,5 +99,15 @@ fn outflow(cells: Cells, e: &Lattice, axis: Axis, node: [u32; 3]) -> i128
         -ℤ value_at e.now axis (down cells.n axis (triple node)) }
     ensures size { IsAtMost result (2 ^ 91) }
 {
-    e.at(axis, node) - e.at(axis, cells.down(axis, node))
+    component(e, axis, node) - component(e, axis, cells.down(axis, node))
+}
+
+/// The component of E on `axis` at `cell`, whose place is found axis by axis: neighbours share most of it.
+#[inline(always)]
+fn component(e: &Lattice, axis: Axis, cell: [u32; 3]) -> i128
+    requires { IsWithin (triple cell) e.now.cells }
+    ensures { result ≡ value_at e.now axis (triple cell) }
+{
+    let [x, y, z] = cell;
+    e.at_slots(axis, e.slot_x(x), e.slot_y(y), e.slot_z(z))
 }
