@@ -40,11 +40,12 @@ stepping_more R start now i u below s one = record {
 }
 
 -- the blocks of two groups in a row
-in_front : (xs ys : List BlockValues) (i : ℕ) → i < length xs → block_in (xs ++ ys) i ≡ block_in xs i
-in_front xs ys i below = get_or_append_left xs ys no_block i below
+pub in_front : (xs ys : List BlockValues) (i : ℕ) → i < length xs → block_in xs i ≡ block_in (xs ++ ys) i
+in_front xs ys i below = sym (get_or_append_left xs ys no_block i below)
 
-in_back : (xs ys : List BlockValues) (i : ℕ) → length xs ≤ i → block_in (xs ++ ys) i ≡ block_in ys (i - length xs)
-in_back xs ys i above = get_or-append_right xs ys i no_block above
+pub in_back : (xs ys : List BlockValues) (i k : ℕ) → i ≡ length xs + k → block_in ys k ≡ block_in (xs ++ ys) i
+in_back xs ys i k is =
+    (let e : k ≡ i - length xs = omega (arith, is) in ap (block_in ys) e) ∙ sym (get_or-append_right xs ys i no_block (omega (arith, is)))
 
 pub each_append : (R : BlockValues → BlockValues → Type 0) (xs ys us vs : List BlockValues) → EachBlock R xs us → EachBlock R ys vs
     → EachBlock R (xs ++ ys) (us ++ vs)
@@ -56,30 +57,27 @@ each_append R xs ys us vs p q =
       each = λ i below. elim (cases_lt i (length xs)) [
         | inl front ↦ (
             let less : i < length us = omega (arith, front, p.long) in
-            subst (λ (b : BlockValues). R b (block_in (us ++ vs) i)) (sym (in_front xs ys i front))
-            (subst (λ (b : BlockValues). R (block_in xs i) b) (sym (in_front us vs i less)) (p.each i front))
+            subst (λ (b : BlockValues). R b (block_in (us ++ vs) i)) (in_front xs ys i front)
+            (subst (λ (b : BlockValues). R (block_in xs i) b) (in_front us vs i less) (p.each i front))
             )
         | inr back ↦ (
-            let more : length us ≤ i = omega (arith, back, p.long) in
-            let same : i - length us ≡ i - length xs = omega (arith, p.long) in
-            subst (λ (b : BlockValues). R b (block_in (us ++ vs) i)) (sym (in_back xs ys i back))
-            (subst (λ (b : BlockValues). R (block_in ys (i - length xs)) b) (sym (in_back us vs i more ∙ ap (block_in vs) same))
-            (q.each (i - length xs) (omega (arith, back, below, all))))
+            let k : ℕ = i - length xs in
+            subst (λ (b : BlockValues). R b (block_in (us ++ vs) i)) (in_back xs ys i k (omega (arith, back)))
+            (subst (λ (b : BlockValues). R (block_in ys k) b) (in_back us vs i k (omega (arith, back, p.long)))
+            (q.each k (omega (arith, back, below, all))))
             )
       ];
     }
 
 -- the stop of the blocks of two groups is the earlier of theirs
-pub stop_append : (stop : BlockValues → Option Stop) (xs ys : List BlockValues)
-    → earliest (λ i. stop (block_in (xs ++ ys) i)) (length (xs ++ ys))
-    ≡ earlier (earliest (λ i. stop (block_in xs i)) (length xs)) (earliest (λ i. stop (block_in ys i)) (length ys))
-stop_append stop xs ys =
-    let all : ℕ → Option Stop = λ i. stop (block_in (xs ++ ys) i) in
-    let front = earliest_same all (λ i. stop (block_in xs i)) (length xs) (λ i below. ap stop (in_front xs ys i below)) in
-    let back = earliest_same (λ i. all (length xs + i)) (λ i. stop (block_in ys i)) (length ys) (λ i below.
-    let at : length xs + i - length xs ≡ i = omega arith in
-    ap stop (in_back xs ys (length xs + i) (omega arith) ∙ ap (block_in ys) at)) in
-    ap (earliest all) (length-append xs ys) ∙ earliest_both all (length xs) (length ys) ∙ (λ j. earlier (front j) (back j))
+pub stops_append : (s : BlockValues → Option Stop) (xs ys : List BlockValues) (one other : Option Stop)
+    → one ≡ earliest (λ i. s (block_in xs i)) (length xs) → other ≡ earliest (λ i. s (block_in ys i)) (length ys)
+    → earlier one other ≡ earliest (λ i. s (block_in (xs ++ ys) i)) (length (xs ++ ys))
+stops_append s xs ys one other p q =
+    let all : ℕ → Option Stop = λ i. s (block_in (xs ++ ys) i) in
+    let front = p ∙ earliest_same (λ i. s (block_in xs i)) all (length xs) (λ i below. ap s (in_front xs ys i below)) in
+    let back = q ∙ earliest_same (λ i. s (block_in ys i)) (λ i. all (length xs + i)) (length ys) (λ i below. ap s (in_back xs ys (length xs + i) i refl)) in
+    (λ j. earlier (front j) (back j)) ∙ sym (ap (earliest all) (length-append xs ys) ∙ earliest_both all (length xs) (length ys))
 
 -- what holds of all blocks holds of the blocks of each of two groups
 pub all_front : (P : BlockValues → Type 0) (xs ys : List BlockValues) → All P (xs ++ ys) → All P xs

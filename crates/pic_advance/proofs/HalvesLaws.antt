@@ -1,6 +1,6 @@
 -- Both half steps of B over blocks, one after another and in two groups, and over all blocks of a lattice.
 use Rattle.std.proofs.Common.{◌≡◌, ℕ, ℤ, ◌+◌, ◌<◌, List, ◌++◌, length, set, Option, Some, None}
-use Rattle.std.proofs.Common.{refl, sym, ◌∙◌, ap, arith, length-append}
+use Rattle.std.proofs.Common.{sym, ◌∙◌, ap, arith}
 use Rattle.pic_num.specs.declared.axis.Axis.{Axis}
 use Rattle.pic_num.specs.declared.mult.Scales.{Scales}
 use Rattle.pic_num.specs.Limits.{most_value}
@@ -21,8 +21,9 @@ use Rattle.pic_advance.specs.Blocks.{block_in, EachBlock, IsMade, earlier, earli
 use Rattle.pic_advance.specs.Halves.{CanHalve, AreHalves, AreHalved, first_stop, second_stop, between, HalfStep}
 use Rattle.pic_advance.specs.Pairs.{AllPairs}
 use Rattle.pic_advance.specs.Phases.{Advances}
-use Rattle.pic_advance.proofs.EarliestLaws.{earliest_zero, earliest_more, earliest_both, earliest_same, none_earlier, none_earliest}
-use Rattle.pic_advance.proofs.PairLaws.{IsPairing, in_front, in_back, can_front, can_back, pairing_none, pairing_more, pairing_all, pairs_append}
+use Rattle.pic_advance.proofs.EachLaws.{stops_append}
+use Rattle.pic_advance.proofs.EarliestLaws.{earliest_zero, earliest_more, none_earlier, none_earliest}
+use Rattle.pic_advance.proofs.PairLaws.{IsPairing, can_front, can_back, pairing_none, pairing_more, pairing_all, pairs_append}
 use Rattle.pic_advance.proofs.RowStopLaws.{row_stop_is}
 use Rattle.pic_advance.proofs.SamePhaseLaws.{values_same, advances_same}
 use Rattle.pic_advance.proofs.TakenLaws.{HasBlocks, same_long, same_zone, taken_among, taken_edge, taken_value, taken_small}
@@ -66,15 +67,6 @@ module _ (scales : Scales) (e : Field) (bs fs : List BlockValues)
       first = d.first_is ∙ ap (earliest (first_stop scales e bs)) all;
       second = λ none. d.second_is none ∙ ap (earliest (second_stop scales e bs)) all;
     }
-
--- the stops of two groups
-stops_append : (s : BlockValues → Option Stop) (xs ys : List BlockValues) (one other : Option Stop) → one ≡ earliest (λ i. s (block_in xs i)) (length xs)
-    → other ≡ earliest (λ i. s (block_in ys i)) (length ys) → earlier one other ≡ earliest (λ i. s (block_in (xs ++ ys) i)) (length (xs ++ ys))
-stops_append s xs ys one other p q =
-    let all : ℕ → Option Stop = λ i. s (block_in (xs ++ ys) i) in
-    let front = p ∙ earliest_same (λ i. s (block_in xs i)) all (length xs) (λ i below. ap s (in_front xs ys i below)) in
-    let back = q ∙ earliest_same (λ i. s (block_in ys i)) (λ i. all (length xs + i)) (length ys) (λ i below. ap s (in_back xs ys (length xs + i) i refl)) in
-    (λ j. earlier (front j) (back j)) ∙ sym (ap (earliest all) (length-append xs ys) ∙ earliest_both all (length xs) (length ys))
 
 halved_append : (scales : Scales) (e : Field) (bs bs' fs fs' cs cs' gs gs' : List BlockValues) (p q : Option Stop × Option Stop)
     → AreHalved scales e bs fs cs gs p → AreHalved scales e bs' fs' cs' gs' q

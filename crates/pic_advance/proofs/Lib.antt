@@ -3,7 +3,6 @@ pub mod DrivenLaws
 pub mod HalvesLaws
 pub mod EachLaws
 pub mod EarliestLaws
-pub mod FullLaws
 pub mod RowStopLaws
 pub mod TakenLaws
 pub mod MadeLaws

@@ -2,14 +2,14 @@
 use Rattle.std.proofs.Common.{◌≡◌, ℕ, ◌+◌, ◌-◌, ◌<◌, ◌≤◌, List, ◌++◌, length, set, inl, inr}
 use Rattle.std.proofs.Common.{refl, sym, ◌∙◌, ap, subst, arith, get_or-set_same, get_or-set_other, length-append}
 use Rattle.std.proofs.Math.Decide.{ℕ_discrete}
-use Rattle.std.proofs.Math.Seq.{get_or-append_right}
 use Rattle.std.proofs.lemmas.Bool.{cases_lt}
-use Rattle.std.proofs.lemmas.List.{get_or_append_left, length-set}
+use Rattle.std.proofs.lemmas.List.{length-set}
 use Rattle.pic_grid.specs.Block.{BlockValues}
 use Rattle.pic_grid.specs.Parts.{no_block}
 use Rattle.pic_team.specs.Sharing.{IsBeside}
 use Rattle.pic_advance.specs.Blocks.{block_in}
 use Rattle.pic_advance.specs.Pairs.{AllPairs, EachPair}
+use Rattle.pic_advance.proofs.EachLaws.{in_front, in_back}
 
 -- the pairs before i are, as R says, what became of the first ones, and the others are these
 pub record IsPairing (R : BlockValues → BlockValues → BlockValues → BlockValues → Type 0) (es js fs ks : List BlockValues) (i : ℕ) : Type 0 where
@@ -18,14 +18,6 @@ pub record IsPairing (R : BlockValues → BlockValues → BlockValues → BlockV
   pub rest : (j : ℕ) → i ≤ j → block_in fs j ≡ block_in es j
   pub beside_rest : (j : ℕ) → i ≤ j → block_in ks j ≡ block_in js j
   pub done : (j : ℕ) → j < i → R (block_in es j) (block_in js j) (block_in fs j) (block_in ks j)
-
--- two groups in a row
-pub in_front : (xs ys : List BlockValues) (i : ℕ) → i < length xs → block_in xs i ≡ block_in (xs ++ ys) i
-in_front xs ys i below = sym (get_or_append_left xs ys no_block i below)
-
-pub in_back : (xs ys : List BlockValues) (i k : ℕ) → i ≡ length xs + k → block_in ys k ≡ block_in (xs ++ ys) i
-in_back xs ys i k is =
-    (let e : k ≡ i - length xs = omega (arith, is) in ap (block_in ys) e) ∙ sym (get_or-append_right xs ys i no_block (omega (arith, is)))
 
 -- where pairs are cut in two, so are both rows
 pub cut_front : (xs ys us vs : List BlockValues) → IsBeside xs us vs → length (us ++ vs) ≡ length (xs ++ ys) → length us ≡ length xs

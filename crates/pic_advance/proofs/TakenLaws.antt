@@ -4,7 +4,6 @@ use Rattle.std.proofs.lemmas.List.Elements.{All-from_get_or}
 use Rattle.std.proofs.lemmas.Nat.{div-mul-add}
 use Rattle.std.proofs.Math.Seq.{take-append_seam}
 use Rattle.pic_num.specs.declared.axis.Axis.{Axis}
-use Rattle.pic_num.specs.Limits.{most_value}
 use Rattle.pic_num.specs.Sizes.{IsAtMost}
 use Rattle.pic_num.specs.Space.{Triple, Spot, unwrapped}
 use Rattle.pic_grid.specs.Block.{BlockValues, IsAmongCells, IsShaped, AllAtMost, inner_of, edge_at, inner_at, outer_of}
@@ -16,7 +15,7 @@ use Rattle.pic_grid.proofs.CellLaws.{index_of-cell_of}
 use Rattle.pic_grid.proofs.LatticeLaws.{is_field_of, length-values_of}
 use Rattle.pic_grid.proofs.PartLaws.{number_of as part_number, block_has, number_below, value_at-joined}
 use Rattle.pic_field.proofs.ZoneLaws.{edge_at-outer}
-use Rattle.pic_advance.specs.Blocks.{block_in, EachBlock, IsAmong, IsMade, CanAdvance}
+use Rattle.pic_advance.specs.Blocks.{block_in, EachBlock, IsAmong, IsMade}
 use Rattle.pic_advance.proofs.ZoneLaws.{part_among, outer_of-inner_of, outer_within}
 
 -- a lattice of n cells is that of these blocks
@@ -99,10 +98,6 @@ module _ (n : Triple) (f : Field) (blocks : List BlockValues) (h : HasBlocks n f
     -- what the calls for the blocks require
     pub all_among : All (IsAmong n) blocks
     all_among = All-from_get_or (IsAmong n) blocks no_block (λ i below. record { among = taken_among i below })
-
-    pub all_can : EachAtMost most_value f → f.cells ≡ n → All (CanAdvance n) blocks
-    all_can small same = All-from_get_or (CanAdvance n) blocks no_block (λ i below.
-        record { among = taken_among i below; small = taken_small most_value i below small same })
 
     module _ (new : List BlockValues) (g : Axis → Triple → ℤ) (each : EachBlock (IsMade g) blocks new)
       where

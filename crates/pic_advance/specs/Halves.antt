@@ -11,7 +11,7 @@ use Rattle.pic_grid.specs.Block.{BlockValues, IsShaped}
 use Rattle.pic_grid.specs.Gather.{force_of}
 use Rattle.pic_grid.specs.Lattice.{Field, value_at, field_of}
 use Rattle.pic_field.specs.FieldPhases.{half_of, stop_of_half, stop_of_second, IsTwiceHalved, IsForceBetween}
-use Rattle.pic_advance.specs.declared.both_halves.Halves.{Halves}
+use Rattle.pic_advance.specs.declared.half_steps.Halves.{Halves}
 use Rattle.pic_advance.specs.Blocks.{CanAdvance, block_in, earliest}
 use Rattle.pic_advance.specs.Pairs.{EachPair}
 use Rattle.pic_advance.specs.Phases.{Advances}

@@ -109,7 +109,7 @@ fn smooth_values<H: Threads + Sync, G>(team: &Team<H, G>, from: &Lattice, to: La
 }
 
 /// Makes every value of a lattice 0, over its blocks, by the workers of a team.
-fn clear_values<H: Threads + Sync, G>(team: &Team<H, G>, lattice: Lattice) -> Lattice
+pub(crate) fn clear_values<H: Threads + Sync, G>(team: &Team<H, G>, lattice: Lattice) -> Lattice
     ensures { result ≡ field_of lattice.side lattice.cells lattice.parts (λ _ _. pos 0) }
 {
     let cells = lattice.cells();

@@ -1,45 +1,51 @@
-//! A step of E over the blocks of a lattice, each by the block of the current that lies over it, by
-//! workers.
+//! A step of E over the blocks of a lattice, by workers.
 
-ghost use Rattle.std.specs.Prelude.{◌≡◌, ℤ, pos};
+ghost use Rattle.std.specs.Prelude.{◌≡◌, IfSome};
+ghost use Rattle.std.specs.List.{All};
+ghost use Rattle.std.specs.Option.{option_copied};
 ghost use Rattle.pic_num.specs.Limits.{most_value};
 ghost use Rattle.pic_grid.specs.declared.stop.Phase.TheVariants.{Electric};
-ghost use Rattle.pic_grid.specs.Lattice.{EachAtMost, field_of, value_at};
-ghost use Rattle.pic_field.specs.FieldPhases.{full_of, no_drive, most_raised};
-ghost use Rattle.pic_advance.specs.Driven.{CanDrive, AllCanDrive, IsDriven, AreDriven, driven_stop};
+ghost use Rattle.pic_grid.specs.Lattice.{EachAtMost};
+ghost use Rattle.pic_field.specs.FieldPhases.{stop_of_full, no_drive, most_raised};
+ghost use Rattle.pic_advance.specs.Blocks.{EachBlock};
+ghost use Rattle.pic_advance.specs.Driven.{CanBeDriven, CanDrive, IsCurrent, IsDriven, current_in, driven_stop, full_all};
 ghost use Rattle.pic_advance.specs.Phases.{Advances};
 
 use crate::stops::earlier;
 use crate::useful::useful;
-use pic_field::{Rooms, full_e_in};
+use pic_field::{Rooms, free_e_in, full_e_in};
 use pic_grid::{Block, Lattice, Phase, Stop};
 use pic_num::Scales;
 use pic_team::{Team, Work, each_share};
 use std::thread::Threads;
 
-/// What a step of E is made from, beside the current.
+/// What a step of E is made from. The current is a lattice of the same cells, cut as it may be.
 #[derive(Clone, Copy)]
 struct FullStep<'a> {
     scales: &'a Scales,
     b: &'a Lattice,
+    current: Option<&'a Lattice>,
 }
 
 impl<'a> Work<Block, Block, Option<Stop>> for FullStep<'a> {
     ghost use Rattle.std.specs.Prelude.{◌≡◌};
-    ghost use Rattle.pic_num.specs.Limits.{most_value};
-    ghost use Rattle.pic_grid.specs.Lattice.{EachAtMost};
-    ghost use Rattle.pic_advance.specs.Blocks.{earlier};
-    ghost use Rattle.pic_advance.specs.Driven.{AllCanDrive, AreDriven};
+    ghost use Rattle.std.specs.List.{All};
+    ghost use Rattle.std.specs.Option.{option_copied};
+    ghost use Rattle.pic_advance.specs.Blocks.{EachBlock, earlier};
+    ghost use Rattle.pic_advance.specs.Driven.{CanBeDriven, CanDrive, IsDriven, current_in, driven_stop};
 
-    ghost can = { λ s _ es js. EachAtMost most_value s.b.now × AllCanDrive s.b.now.cells es js };
+    ghost can = { λ s _ es _.
+        CanDrive s.b.now (option_copied s.current) × All (CanBeDriven s.b.now.cells) es };
 
-    ghost does = { λ s _ es js fs ks stop. AreDriven s.scales.now s.b.now es js fs ks stop };
+    ghost does = { λ s _ es _ fs _ stop. let j = current_in (option_copied s.current) in
+        EachBlock (IsDriven s.scales.now s.b.now j) es fs
+        × (stop ≡ driven_stop s.scales.now s.b.now j es) };
 
     ghost both = { earlier };
 
     /// A step of E in blocks, one after another. The answer is their least stop.
-    fn work(&self, _first: usize, items: &mut [Block], beside: &mut [Block]) -> Option<Stop> {
-        full_in_turn(self, items, beside)
+    fn work(&self, _first: usize, items: &mut [Block], _beside: &mut [Block]) -> Option<Stop> {
+        full_in_turn(self, items)
     }
 
     fn both(front: Option<Stop>, back: Option<Stop>) -> Option<Stop>
@@ -49,38 +55,42 @@ impl<'a> Work<Block, Block, Option<Stop>> for FullStep<'a> {
     }
 }
 
-/// A step of E in a block, by the current in its zone, which is left without any.
-fn full_block(step: &FullStep, e: &mut Block, j: &mut Block, rooms: &mut Rooms) -> Option<Stop>
-    requires can { CanDrive step.now.b.now.cells e.old j.old }
-    requires b_small { EachAtMost most_value step.now.b.now }
-    ensures driven { IsDriven step.now.scales.now step.now.b.now e.old j.old e.new j.new }
-    ensures stop { result ≡ driven_stop step.now.scales.now step.now.b.now e.old j.old }
+/// A step of E in a block. The answer is its stop.
+fn full_block(step: &FullStep, e: &mut Block, rooms: &mut Rooms) -> Option<Stop>
+    requires can { CanBeDriven step.now.b.now.cells e.old }
+    requires drive { CanDrive step.now.b.now (option_copied step.now.current) }
+    ensures driven { IsDriven step.now.scales.now step.now.b.now
+        (current_in (option_copied step.now.current)) e.old e.new }
+    ensures stop { result ≡ stop_of_full step.now.scales.now step.now.b.now no_drive
+        (current_in (option_copied step.now.current)) e.old }
 {
-    let stop = full_e_in(step.scales, step.b, j, e, rooms).err();
-    j.clear();
-    stop
+    match step.current {
+        Some(current) => full_e_in(step.scales, step.b, current, e, rooms).err(),
+        None => free_e_in(step.scales, step.b, e, rooms).err(),
+    }
 }
 
 /// A step of E in blocks, one after another. The answer is their least stop.
-fn full_in_turn(step: &FullStep, blocks: &mut [Block], current: &mut [Block]) -> Option<Stop>
-    requires can { AllCanDrive step.now.b.now.cells blocks.old current.old }
-    requires b_small { EachAtMost most_value step.now.b.now }
-    ensures { AreDriven step.now.scales.now step.now.b.now blocks.old current.old blocks.new
-        current.new result }
+fn full_in_turn(step: &FullStep, blocks: &mut [Block]) -> Option<Stop>
+    requires can { All (CanBeDriven step.now.b.now.cells) blocks.old }
+    requires drive { CanDrive step.now.b.now (option_copied step.now.current) }
+    ensures blocks { EachBlock (IsDriven step.now.scales.now step.now.b.now
+        (current_in (option_copied step.now.current))) blocks.old blocks.new }
+    ensures stop { result ≡ driven_stop step.now.scales.now step.now.b.now
+        (current_in (option_copied step.now.current)) blocks.old }
 {
     let mut rooms = Rooms::new();
     let mut least = None;
     for i in 0..blocks.len() {
-        let stop = full_block(step, &mut blocks[i], &mut current[i], &mut rooms);
+        let stop = full_block(step, &mut blocks[i], &mut rooms);
         least = earlier(least, stop);
     }
     least
 }
 
-/// A step of E, from B and the current, over the blocks of E, by the workers of a team, each in a
-/// thread of its own where one can be made and pays. No memory is taken. The current is handed back
-/// as a lattice of zeros, also where the answer is a stop. The values of E may be those that the curl
-/// of a drive was added to.
+/// A step of E, from B and the current, if there is one, over the blocks of E, by the workers of a
+/// team, each in a thread of its own where one can be made and pays. No memory is taken. The lattices
+/// may be cut as they will. The values of E may be those that the curl of a drive was added to.
 ///
 /// # Errors
 /// The stop of the least place (the axis first, then z, y, x) whose new value is above 2^90 in
@@ -89,32 +99,23 @@ pub fn advance_e<H: Threads + Sync, G>(
     team: &Team<H, G>,
     scales: &Scales,
     b: &Lattice,
-    current: Lattice,
+    current: Option<&Lattice>,
     e: Lattice,
-) -> (Result<Lattice, Stop>, Lattice)
+) -> Result<Lattice, Stop>
     requires cells { e.cells ≡ b.now.cells }
-    requires current_cells { current.cells ≡ b.now.cells }
-    requires parts { current.parts ≡ e.parts }
+    requires current { IfSome (option_copied current) (IsCurrent b.now.cells) }
     requires b_small { EachAtMost most_value b.now }
-    requires current_small { EachAtMost most_value current }
     requires e_small { EachAtMost most_raised e }
-    ensures fields { Advances Phase.Electric scales.now.e_force b.now.side b.now.cells e.parts
-        (λ a p. full_of scales.now b.now no_drive a p (value_at e a p) (value_at current a p))
-        result.0 }
-    ensures cleared { result.1
-        ≡ field_of current.side current.cells current.parts (λ _ _. pos 0) }
+    ensures { Advances Phase.Electric scales.now.e_force b.now.side b.now.cells e.parts
+        (full_all scales.now b.now (current_in (option_copied current.entry)) e) result }
 {
     let cells = b.cells();
     let parts = e.parts();
-    let current_cells = current.cells();
     let mut blocks = e.into_blocks();
-    let mut spent = current.into_blocks();
     let workers = useful(team.workers, cells, blocks.len());
-    let step = FullStep { scales, b };
-    let stop = each_share(team.rt, workers, &step, &mut blocks, &mut spent);
-    let blank = Lattice::of_blocks(current_cells, parts, spent);
-    match stop {
-        None => (Ok(Lattice::of_blocks(cells, parts, blocks)), blank),
-        Some(stop) => (Err(stop), blank),
+    let step = FullStep { scales, b, current };
+    match each_share(team.rt, workers, &step, &mut blocks, &mut []) {
+        None => Ok(Lattice::of_blocks(cells, parts, blocks)),
+        Some(stop) => Err(stop),
     }
 }

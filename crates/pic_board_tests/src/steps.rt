@@ -75,7 +75,7 @@ fn pair_of(alloc: Global, sub: Sub, loops: Loops) -> Result<State, NoMemory>
     };
     let kinds = Kinds::from_vec(Vec::from_slice(alloc, &[kind_of(1), kind_of(-1)])?);
     let particles = Vec::from_slice(alloc, &[ion, electron])?;
-    let e = Lattice::new(alloc, cells, [2, 1, 1])?;
+    let e = Lattice::new(alloc, cells, [1, 1, 4])?;
     let b = Lattice::new(alloc, cells, [1, 1, 4])?;
     let map = TileMap::new(cells, [2, 1, 1]);
     let setup = Setup {

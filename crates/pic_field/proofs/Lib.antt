@@ -2,6 +2,8 @@ pub mod ZoneLaws
 pub mod OrderLaws
 pub mod FaultLaws
 pub mod LeastStopLaws
+pub mod LessenedLaws
+pub mod MakingLaws
 pub mod CalmLaws
 pub mod RowLaws
 pub mod BesideLaws

@@ -122,7 +122,7 @@ two_not_z y z a p (inr h) k = let e : Y ≡ Z = sym h.axis_is ∙ k.axis_is in c
 pub two_rows : (n : Triple) (y z : ℕ) → IsJoined n (OnRow X y z) (OnRow Y y z) (OnTwo y z)
 two_rows n y z = record { apart = x_not_y y z; either = λ a p w r. r; left = λ a p h. inl h; right = λ a p h. inr h }
 
-on_line : (axis : Axis) (y z : ℕ) (a : Axis) (p : Triple) → OnRow axis y z a p → OnLine y z a p
+pub on_line : (axis : Axis) (y z : ℕ) (a : Axis) (p : Triple) → OnRow axis y z a p → OnLine y z a p
 on_line axis y z a p h = record { y_is = h.y_is; z_is = h.z_is }
 
 which_row : (y z : ℕ) (a : Axis) (p : Triple) → OnLine y z a p → OnTwo y z a p ⊎ OnRow Z y z a p

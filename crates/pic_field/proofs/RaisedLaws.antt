@@ -1,5 +1,5 @@
--- A block to whose values a curl was added, place by place, and what a step of E makes of it.
-use Rattle.std.proofs.Common.{◌≡◌, ◌≢◌, ℕ, ℤ, pos, ◌+◌, ◌-◌, ◌*◌, ◌<◌, ◌+ℤ◌, length, slice_index_or, refl, sym, ◌∙◌, ap, subst, arith}
+-- A block whose values were changed before a step of E, place by place, and what the step makes of it.
+use Rattle.std.proofs.Common.{◌≡◌, ◌≢◌, ℕ, ℤ, pos, ◌+◌, ◌-◌, ◌*◌, ◌<◌, ◌+ℤ◌, ◌-ℤ◌, length, slice_index_or, refl, sym, ◌∙◌, ap, subst, arith}
 use Rattle.std.proofs.lemmas.Int.{ints}
 use Rattle.std.proofs.lemmas.Nat.{mod_below}
 use Rattle.std.proofs.lemmas.List.{get_or-set_same, get_or-set_other, length-set}
@@ -9,27 +9,26 @@ use Rattle.pic_num.specs.declared.mult.Scales.{Scales}
 use Rattle.pic_num.specs.Limits.{most_value}
 use Rattle.pic_num.specs.Sizes.{IsAtMost}
 use Rattle.pic_num.specs.Space.{Triple, Spot, next_axis, unwrapped}
-use Rattle.pic_grid.specs.Block.{BlockValues, IsAmongCells, IsShaped, AllAtMost, inner_of, inner_at, edge_at, with_edge, outer_of}
+use Rattle.pic_grid.specs.Block.{BlockValues, InZone, IsAmongCells, IsShaped, AllAtMost, inner_of, inner_at, edge_at, with_edge, outer_of}
 use Rattle.pic_grid.specs.Cells.{IsWithin, count_of, place_of}
 use Rattle.pic_grid.specs.Differences.{down, curl_b}
 use Rattle.pic_grid.specs.Lattice.{Field, EachAtMost, value_at}
 use Rattle.pic_grid.proofs.BlockLaws.{inner_within}
 use Rattle.pic_grid.proofs.CellLaws.{place_of_below, places_more}
-use Rattle.pic_field.specs.FieldPhases.{full_of, full_in, lowest, stop_of_full, IsFullStep, no_drive, most_drive_value, most_raised}
+use Rattle.pic_field.specs.FieldPhases.{full_of, full_in, lowest, stop_of_full, IsFullStep, no_current, no_drive, most_drive_value, most_lessened, most_raised}
 use Rattle.pic_grid.specs.declared.stop.Phase.TheVariants.{Electric}
 use Rattle.pic_field.specs.FieldPhases.{least_fault}
 use Rattle.pic_field.specs.Lines.{Changed}
 use Rattle.pic_field.proofs.CalmLaws.{least_fault-same, own_values}
-use Rattle.pic_field.proofs.CurlLaws.{full_of-raised}
-use Rattle.pic_field.proofs.ZoneLaws.{inner_of-outer_of, edge_at-outer}
+use Rattle.pic_field.proofs.ZoneLaws.{inner_of-outer_of, outer_inside, edge_at-outer, edge_at-shaped}
 
 -- the places whose numbers are less than one
 pub record BelowNumber (size : Triple) (i : ℕ) (a : Axis) (p : Triple) : Type 0 where
   pub number : place_of size a p < i
 
--- a value of the block whose lowest cell is low, with the curl of m
-abbrev pub raised : Triple → (Axis → Triple → ℤ) → Spot → Axis → Triple → ℤ → ℤ
-raised n m low a p v = v +ℤ curl_b n m a (outer_of low p)
+-- a value of the block whose lowest cell is low, with the curl of m and less that of a block j
+abbrev pub raised : Triple → (Axis → Triple → ℤ) → BlockValues → Spot → Axis → Triple → ℤ → ℤ
+raised n m j low a p v = v +ℤ (curl_b n m a (outer_of low p) -ℤ inner_at j a p)
 
 -- the curl of small values
 pub curl_most : (n : Triple) (m : Axis → Triple → ℤ) (most : ℕ) (a : Axis) (p : Triple) → IsAtMost (m (next_axis (next_axis a)) p) most
@@ -108,44 +107,53 @@ raised_all g old new i changed end a p w =
     let below : place_of old.size a p < 3 * count_of old.size = place_of_below old.size a p w in
     changed.done a p w (record { number = omega (arith, below, end) })
 
--- what a curl was added to, as a step of E reads it
-module _ (scales : Scales) (b : Field) (m : Axis → Triple → ℤ) (j old mid : BlockValues) (among : IsAmongCells old.low old.size b.cells)
-    (shaped : IsShaped mid old)
-    (values : (a : Axis) (p : Triple) → IsWithin p old.size → inner_at mid a p ≡ inner_at old a p +ℤ curl_b b.cells m a (outer_of old.low p))
+-- a block that g changed, as a step of E without a current reads it: where that is the step with the current j that m drives,
+module _ (scales : Scales) (b : Field) (m j : Axis → Triple → ℤ) (g : Axis → Triple → ℤ → ℤ) (old mid : BlockValues)
+    (among : IsAmongCells old.low old.size b.cells) (shaped : IsShaped mid old)
+    (values : (a : Axis) (p : Triple) → IsWithin p old.size → inner_at mid a p ≡ g a (outer_of old.low p) (inner_at old a p))
+    (same : (a : Axis) (q : Triple) (v : ℤ) → full_of scales b no_drive a q (g a q v) (pos 0) ≡ full_of scales b m a q v (j a q))
   where
-    -- takes the step that m drives,
-    pub step_raised : (new : BlockValues) → IsFullStep scales b no_drive j mid new → IsFullStep scales b m j old new
-    step_raised new step a p w =
+    -- it takes that step,
+    pub step_changed : (new : BlockValues) → IsFullStep scales b no_drive no_current mid new → IsFullStep scales b m j old new
+    step_changed new step a p w =
         let inside : IsWithin p mid.size = subst (λ (n : Triple). IsWithin p n) (sym shaped.size) w in
-        step a p inside ∙ (λ i. full_of scales b no_drive a (outer_of (shaped.low i) p) (values a p w i) (inner_at j a p))
-        ∙ full_of-raised scales b m a (outer_of old.low p) (inner_at old a p) (inner_at j a p)
+        step a p inside ∙ (λ i. full_of scales b no_drive a (outer_of (shaped.low i) p) (values a p w i) (pos 0))
+        ∙ same a (outer_of old.low p) (inner_at old a p)
 
     -- with its stop
-    pub stop_raised : stop_of_full scales b no_drive j mid ≡ stop_of_full scales b m j old
-    stop_raised =
-        (λ i. least_fault Electric scales.e_force (lowest (shaped.low i)) (shaped.size i) (full_in scales b no_drive j mid))
-        ∙ least_fault-same Electric scales.e_force (lowest old.low) old.size (full_in scales b no_drive j mid) (full_in scales b m j old) (λ a p w.
+    pub stop_changed : stop_of_full scales b no_drive no_current mid ≡ stop_of_full scales b m j old
+    stop_changed =
+        (λ i. least_fault Electric scales.e_force (lowest (shaped.low i)) (shaped.size i) (full_in scales b no_drive no_current mid))
+        ∙ least_fault-same Electric scales.e_force (lowest old.low) old.size (full_in scales b no_drive no_current mid) (full_in scales b m j old) (λ a p w.
         let q = outer_of old.low p in
-        let value = sym (own_values old mid b.cells among shaped a p) ∙ values a p w
-        ∙ ap (λ (v : ℤ). v +ℤ curl_b b.cells m a q) (sym (edge_at-outer old b.cells a p among)) in
-        ap (λ (v : ℤ). full_of scales b no_drive a q v (edge_at j a (unwrapped q))) value
-        ∙ full_of-raised scales b m a q (edge_at old a (unwrapped q)) (edge_at j a (unwrapped q)))
+        let value = sym (own_values old mid b.cells among shaped a p) ∙ values a p w ∙ ap (g a q) (sym (edge_at-outer old b.cells a p among)) in
+        ap (λ (v : ℤ). full_of scales b no_drive a q v (pos 0)) value ∙ same a q (edge_at old a (unwrapped q)))
+
+-- values that are small place by place are small
+pub all_small_in : (most : ℕ) (b : BlockValues) → ((a : Axis) (p : Triple) → IsWithin p b.size → IsAtMost (inner_at b a p) most) → AllAtMost most b
+all_small_in most b small = record { at_most = λ a c inside. small a (inner_of b.low c) (inner_within b.low b.size c inside) }
+
+-- so they are where a block of its zone has none but small ones
+pub block_small : (j b : BlockValues) (n : Triple) → IsShaped j b → IsAmongCells b.low b.size n → AllAtMost most_value j
+    → (a : Axis) (p : Triple) → IsWithin p b.size → IsAtMost (inner_at j a p) most_value
+block_small j b n shaped among small a p w =
+    let in_j : InZone j.low j.size (unwrapped (outer_of b.low p)) =
+    subst (λ (l : Spot). InZone l j.size (unwrapped (outer_of b.low p))) (sym shaped.low)
+    (subst (λ (m : Triple). InZone b.low m (unwrapped (outer_of b.low p))) (sym shaped.size) (outer_inside b.low b.size n p among w)) in
+    subst (λ (v : ℤ). IsAtMost v most_value) (edge_at-shaped j b n a p shaped among) (small.at_most a (unwrapped (outer_of b.low p)) in_j)
 
 -- small values stay small
-pub raised_small : (n : Triple) (m : Axis → Triple → ℤ) (old new : BlockValues) → IsShaped new old
-    → ((a : Axis) (p : Triple) → IsWithin p old.size → inner_at new a p ≡ inner_at old a p +ℤ curl_b n m a (outer_of old.low p))
-    → ((a : Axis) (p : Triple) → IsWithin p old.size → IsAtMost (inner_at old a p) most_value)
-    → ((a : Axis) (p : Triple) → IsWithin p old.size → IsAtMost (curl_b n m a (outer_of old.low p)) (4 * most_drive_value))
-    → AllAtMost most_raised new
-raised_small n m old new shaped values small curls = record {
-  at_most = λ a c inside.
-      let p = inner_of new.low c in
-      let w : IsWithin p old.size = subst (λ (s : Triple). IsWithin p s) shaped.size (inner_within new.low new.size c inside) in
-      let is = values a p w in
-      let before = (small a p w).size in
-      let curl = (curls a p w).size in
-      record { size = omega (arith, ints, is, before, curl) };
-}
+pub raised_small : (v curl j : ℤ) → IsAtMost v most_value → IsAtMost curl (4 * most_drive_value) → IsAtMost j most_value
+    → IsAtMost (v +ℤ (curl -ℤ j)) most_lessened
+raised_small v curl j one two three =
+    let h = one.size in
+    let k = two.size in
+    let l = three.size in record { size = omega (arith, ints, h, k, l) }
+
+pub lessened_small : (v j : ℤ) → IsAtMost v most_raised → IsAtMost j most_value → IsAtMost (v -ℤ j) most_lessened
+lessened_small v j one two =
+    let h = one.size in
+    let k = two.size in record { size = omega (arith, ints, h, k) }
 
 -- the cell that lies p above the lowest of a zone among the cells is one of them
 pub outer_within : (low : Spot) (size n p : Triple) → IsAmongCells low size n → IsWithin p size → IsWithin (outer_of low p) n

@@ -47,6 +47,18 @@ most_drive_value = 2 ^ 64
 abbrev pub most_raised : ℕ
 most_raised = most_value + 4 * most_drive_value
 
+-- and one that a current is taken off then at most that of the current more
+abbrev pub most_lessened : ℕ
+most_lessened = most_raised + most_value
+
+-- the current where there is none
+abbrev pub no_current : Axis → Triple → ℤ
+no_current _ _ = pos 0
+
+-- the values of a block, by axis and cell of the grid
+abbrev pub values_in : BlockValues → Axis → Triple → ℤ
+values_in j a p = edge_at j a (unwrapped p)
+
 -- the values of a block after half a step of B, by axis and cell of the grid,
 abbrev pub half_in : Scales → Field → BlockValues → Axis → Triple → ℤ
 half_in scales e old a p = half_of scales e a p (edge_at old a (unwrapped p))
@@ -55,11 +67,10 @@ half_in scales e old a p = half_of scales e a p (edge_at old a (unwrapped p))
 abbrev pub twice_in : Scales → Field → BlockValues → Axis → Triple → ℤ
 twice_in scales e old a p = half_of scales e a p (half_in scales e old a p)
 
--- and after a step of E, by axis and cell of the grid
-abbrev pub full_in : Scales → Field → (Axis → Triple → ℤ) → BlockValues → BlockValues → Axis
-    → Triple → ℤ
-full_in scales b m j old a p =
-    full_of scales b m a p (edge_at old a (unwrapped p)) (edge_at j a (unwrapped p))
+-- and after a step of E with the current j
+abbrev pub full_in : Scales → Field → (Axis → Triple → ℤ) → (Axis → Triple → ℤ) → BlockValues
+    → Axis → Triple → ℤ
+full_in scales b m j old a p = full_of scales b m a p (edge_at old a (unwrapped p)) (j a p)
 
 -- what stops a phase at a new value v: it is above 2^90 in size, else its force value is above
 -- 2^44. The stop names the number that is too large.
@@ -114,12 +125,12 @@ IsForceBetween scales e old force =
     ≡ scaled (half_of scales e a (outer_of old.low p) (inner_at old a p)) scales.b_force
 
 -- or a step of E with the current j, where m drives B
-abbrev pub IsFullStep : Scales → Field → (Axis → Triple → ℤ) → BlockValues → BlockValues
+abbrev pub IsFullStep : Scales → Field → (Axis → Triple → ℤ) → (Axis → Triple → ℤ) → BlockValues
     → BlockValues → Type 0
 IsFullStep scales b m j old new =
     (a : Axis) (p : Triple) → IsWithin p old.size
-    → inner_at new a p
-    ≡ full_of scales b m a (outer_of old.low p) (inner_at old a p) (inner_at j a p)
+    → let q = outer_of old.low p in
+    inner_at new a p ≡ full_of scales b m a q (inner_at old a p) (j a q)
 
 -- the stop of half a step of B in a phase,
 abbrev pub stop_of_half : Phase → Scales → Field → BlockValues → Option Stop
@@ -132,7 +143,7 @@ stop_of_second scales e old =
     least_fault Half2 scales.b_force (lowest old.low) old.size (twice_in scales e old)
 
 -- and of a step of E
-abbrev pub stop_of_full : Scales → Field → (Axis → Triple → ℤ) → BlockValues → BlockValues
+abbrev pub stop_of_full : Scales → Field → (Axis → Triple → ℤ) → (Axis → Triple → ℤ) → BlockValues
     → Option Stop
 stop_of_full scales b m j old =
     least_fault Electric scales.e_force (lowest old.low) old.size (full_in scales b m j old)

@@ -1,15 +1,12 @@
 -- How a phase goes over a block: row by row, three rows to a line of cells in x, strip by strip of
 -- lines and layer by layer. Places are counted from the block's lowest cell.
-use Rattle.std.specs.Prelude.{◌≡◌, ℕ, ℤ, pos, ◌<◌, ◌≤◌, ◌-ℤ◌, Bool, Option, Some, None}
+use Rattle.std.specs.Prelude.{◌≡◌, ℕ, ℤ, ◌<◌, ◌≤◌, ◌-ℤ◌, Bool}
 use Rattle.pic_num.specs.declared.axis.Axis.{Axis}
-use Rattle.pic_num.specs.Limits.{most_value}
 use Rattle.pic_num.specs.Sizes.{IsAtMost}
 use Rattle.pic_num.specs.Space.{Triple, Spot}
 use Rattle.pic_grid.specs.Cells.{IsWithin}
 use Rattle.pic_grid.specs.Block.{BlockValues, IsShaped, inner_at, outer_of}
 use Rattle.pic_field.specs.Beside.{swept_layer, curl_beside}
-use Rattle.pic_field.specs.Rows.{read_by}
-use Rattle.pic_field.specs.declared.row.Scaled.{Scaled}
 
 -- a zone has a cell: at least one layer on each axis
 pub record HasCells (size : Triple) : Type 0 where
@@ -67,26 +64,9 @@ pub record AreSmall (most : ℕ) (P : Axis → Triple → Type 0) (b : BlockValu
   pub at_most : (a : Axis) (p : Triple) → IsWithin p b.size → P a p
       → IsAtMost (inner_at b a p) most
 
--- what is taken off at a place beside a curl: nothing, or the value of a block
-abbrev pub taken_off : Option BlockValues → Axis → Triple → ℤ
-taken_off None a p = pos 0
-taken_off (Some j) a p = inner_at j a p
-
--- it is a block of the zone, and its values are at most 2^90 in size
-pub record IsTaken (low : Spot) (size : Triple) (j : BlockValues) : Type 0 where
-  pub low_is : j.low ≡ low
-  pub size_is : j.size ≡ size
-  pub small : (a : Axis) (p : Triple) → IsWithin p size → IsAtMost (inner_at j a p) most_value
-
--- what a sweep makes of a value of the block whose lowest cell is low: it takes off the curl of g,
--- and what else is taken off there
-abbrev pub swept : Bool → Triple → (Axis → Triple → ℤ) → Option BlockValues → Spot → Axis
-    → Triple → ℤ → ℤ
-swept up n g take low a p v = v -ℤ taken_off take a p -ℤ curl_beside up n g a (outer_of low p)
-
--- the force values of a field
-abbrev pub force_made : Scaled → Spot → Axis → Triple → ℤ → ℤ
-force_made from low a p v = read_by from a (outer_of low p)
+-- what a sweep makes of a value of the block whose lowest cell is low: it takes off the curl of g
+abbrev pub swept : Bool → Triple → (Axis → Triple → ℤ) → Spot → Axis → Triple → ℤ → ℤ
+swept up n g low a p v = v -ℤ curl_beside up n g a (outer_of low p)
 
 -- the cell of the grid where the line at the layers y and z begins
 abbrev pub line_start : Spot → ℕ → ℕ → Triple

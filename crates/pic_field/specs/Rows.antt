@@ -1,6 +1,6 @@
 -- Rows of a phase: the values of one component along a line of cells in x. They are those of any g
 -- by axis and cell that has their size, as a field's scaled values.
-use Rattle.std.specs.Prelude.{◌≡◌, ℕ, ℤ, pos, ◌+◌, ◌%◌, ◌^◌, ◌<◌, ◌≤◌, ◌+ℤ◌, ◌-ℤ◌, Bool, true, false, List, length, slice_index_or}
+use Rattle.std.specs.Prelude.{◌≡◌, ℕ, ℤ, pos, ◌+◌, ◌%◌, ◌^◌, ◌<◌, ◌≤◌, ◌+ℤ◌, ◌-ℤ◌, List, length, slice_index_or}
 use Rattle.pic_num.specs.declared.axis.Axis.{Axis}
 use Rattle.pic_num.specs.Limits.{most_scaled}
 use Rattle.pic_num.specs.Multiplier.{Multiplier}
@@ -37,11 +37,6 @@ pub record IsSmallRow (most count : ℕ) (row : List ℤ) : Type 0 where
 pub record IsValueRow (most count : ℕ) (row : List ℤ) : Type 0 where
   pub length_is : length row ≡ count
   pub small : IsSmallRow most count row
-
--- the value at an index of a row that is taken off another, or 0 where none is
-abbrev pub taken_at : Bool → List ℤ → ℕ → ℤ
-taken_at true row i = row_at row i
-taken_at false row i = pos 0
 
 -- the cell where a row begins
 abbrev pub start_cell : Start → Triple

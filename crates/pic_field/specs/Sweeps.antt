@@ -1,10 +1,8 @@
 -- What a sweep over a block reads and makes.
-use Rattle.std.specs.Prelude.{ℕ, ℤ, ◌-◌, List, Option}
-use Rattle.std.specs.Option.{option_copied}
+use Rattle.std.specs.Prelude.{ℕ, ℤ, ◌-◌, List}
 use Rattle.pic_num.specs.declared.axis.Axis.{Axis}
 use Rattle.pic_num.specs.declared.axis.Axis.TheVariants.{Z}
 use Rattle.pic_num.specs.Space.{Triple, Spot}
-use Rattle.pic_grid.specs.Block.{BlockValues}
 use Rattle.pic_field.specs.Beside.{next_to, plane_room}
 use Rattle.pic_field.specs.Lines.{line_start, swept}
 use Rattle.pic_field.specs.Planes.{span_of, AreLineRows, IsScaledPlane, IsNextPlane}
@@ -17,13 +15,9 @@ use Rattle.pic_field.specs.declared.sweep.Sweep.{Sweep}
 abbrev pub sweep_cells : Sweep → Triple
 sweep_cells s = s.from.field.now.cells
 
--- what is taken off beside the curl
-abbrev pub take_of : Sweep → Option BlockValues
-take_of s = option_copied s.take
-
 -- what the sweep makes of a value of the block whose lowest cell is low
 abbrev pub made : Sweep → Spot → Axis → Triple → ℤ → ℤ
-made s low = swept s.up (sweep_cells s) (read_by s.from) (take_of s) low
+made s low = swept s.up (sweep_cells s) (read_by s.from) low
 
 -- the rows that it reads along the line at the layers y and z, of count cells,
 abbrev pub AreRowsOf : Sweep → Spot → ℕ → ℕ → ℕ → Line → Line → Line → Type 0

@@ -1,17 +1,14 @@
 //! A step of E in one block.
 
-ghost use Rattle.std.specs.Prelude.{◌≡◌, IfSome, OnOk};
-ghost use Rattle.std.specs.Option.{option_copied};
-ghost use Rattle.pic_num.specs.declared.axis.Axis.{Axis as AxisName};
+ghost use Rattle.std.specs.Prelude.{◌≡◌, OnOk};
 ghost use Rattle.pic_num.specs.Limits.{most_value};
 ghost use Rattle.pic_num.specs.Push.{unless};
-ghost use Rattle.pic_num.specs.Space.{Triple};
 ghost use Rattle.pic_grid.specs.Lattice.{EachAtMost, value_at};
-ghost use Rattle.pic_grid.specs.Block.{IsAmongCells, IsShaped, AllAtMost, inner_at};
-ghost use Rattle.pic_field.specs.FieldPhases.{stop_of_full, AllBounded, IsFullStep, no_drive, most_drive_value, most_raised};
-ghost use Rattle.pic_field.specs.Lines.{taken_off};
+ghost use Rattle.pic_grid.specs.Block.{IsAmongCells, IsShaped, AllAtMost};
+ghost use Rattle.pic_field.specs.FieldPhases.{stop_of_full, AllBounded, IsFullStep, no_current, no_drive, values_in, most_drive_value, most_lessened, most_raised};
 
 use crate::faults::safe_most;
+use crate::making::{Making, make};
 use crate::raising::raise;
 use crate::rooms::Rooms;
 use crate::row::Scaled;
@@ -43,30 +40,46 @@ pub fn full_e(
     requires e_small { AllAtMost most_value e.old }
     ensures bounded { OnOk result (AllBounded scales.now.e_force e.new) }
     ensures shape { IsShaped e.new e.old }
-    ensures values { IsFullStep scales.now b.now (value_at m.now) j.now e.old e.new }
-    ensures stop { result ≡ unless (stop_of_full scales.now b.now (value_at m.now) j.now e.old) tt }
+    ensures values { IsFullStep scales.now b.now (value_at m.now) (values_in j.now) e.old e.new }
+    ensures stop { result
+        ≡ unless (stop_of_full scales.now b.now (value_at m.now) (values_in j.now) e.old) tt }
 {
-    raise(m, e);
-    full_e_in(scales, b, j, e, &mut Rooms::new())
+    raise(m, j, e);
+    free_e_in(scales, b, e, &mut Rooms::new())
 }
 
-/// As `full_e`, where nothing drives B, in rooms that are lent. The values of E may be those that the
-/// curl of a drive was added to.
+/// As `full_e`, where nothing drives B and the current is a lattice of the same cells, cut as it may
+/// be, in rooms that are lent. The values of E may be those that the curl of a drive was added to.
 pub fn full_e_in(
     scales: &Scales,
     b: &Lattice,
-    j: &Block,
+    j: &Lattice,
     e: &mut Block,
     rooms: &mut Rooms,
 ) -> Result<(), Stop>
     requires among { IsAmongCells e.old.low e.old.size b.now.cells }
-    requires j_shape { IsShaped j.now e.old }
+    requires j_cells { j.now.cells ≡ b.now.cells }
     requires b_small { EachAtMost most_value b.now }
-    requires j_small { AllAtMost most_value j.now }
+    requires j_small { EachAtMost most_value j.now }
     requires e_small { AllAtMost most_raised e.old }
     ensures shape { IsShaped e.new e.old }
-    ensures values { IsFullStep scales.now b.now no_drive j.now e.old e.new }
-    ensures stop { result ≡ unless (stop_of_full scales.now b.now no_drive j.now e.old) tt }
+    ensures values { IsFullStep scales.now b.now no_drive (value_at j.now) e.old e.new }
+    ensures stop { result
+        ≡ unless (stop_of_full scales.now b.now no_drive (value_at j.now) e.old) tt }
+    ensures bounded { OnOk result (AllBounded scales.now.e_force e.new) }
+{
+    make(&Making::Less, j, e);
+    free_e_in(scales, b, e, rooms)
+}
+
+/// As `full_e_in`, where there is no current. The values of E may be those that one was taken off.
+pub fn free_e_in(scales: &Scales, b: &Lattice, e: &mut Block, rooms: &mut Rooms) -> Result<(), Stop>
+    requires among { IsAmongCells e.old.low e.old.size b.now.cells }
+    requires b_small { EachAtMost most_value b.now }
+    requires e_small { AllAtMost most_lessened e.old }
+    ensures shape { IsShaped e.new e.old }
+    ensures values { IsFullStep scales.now b.now no_drive no_current e.old e.new }
+    ensures stop { result ≡ unless (stop_of_full scales.now b.now no_drive no_current e.old) tt }
     ensures bounded { OnOk result (AllBounded scales.now.e_force e.new) }
 {
     let from = Scaled {
@@ -76,20 +89,7 @@ pub fn full_e_in(
     let step = Sweep {
         from,
         up: false,
-        take: current_of(j),
         most: safe_most(scales.e_force),
     };
     advance(&step, Phase::Electric, scales.e_force, e, rooms)
-}
-
-/// The current, where there is one: a block in which no flux was sent is blank, and isn't read.
-fn current_of(j: &Block) -> Option<&Block>
-    ensures some { IfSome (option_copied result) (λ k. k ≡ j.now) }
-    ensures values { (a : AxisName) → (p : Triple)
-        → taken_off (option_copied result) a p ≡ inner_at j.now a p }
-{
-    if j.is_blank() {
-        return None;
-    }
-    Some(j)
 }

@@ -55,7 +55,6 @@ pub fn half_b_in(
     let step = Sweep {
         from,
         up: true,
-        take: None,
         most: safe_most(scales.b_force),
     };
     advance(&step, phase, scales.b_force, b, rooms)

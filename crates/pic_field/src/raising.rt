@@ -1,6 +1,6 @@
-//! What drives B, added to E: the curl of it, place by place.
+//! What drives B and the current of a block, added to E and taken off it place by place.
 
-ghost use Rattle.std.specs.Prelude.{◌≡◌, ◌+ℤ◌};
+ghost use Rattle.std.specs.Prelude.{◌≡◌, ◌+ℤ◌, ◌-ℤ◌};
 ghost use Rattle.pic_num.specs.declared.axis.Axis.{Axis as AxisName};
 ghost use Rattle.pic_num.specs.Limits.{most_value};
 ghost use Rattle.pic_num.specs.Space.{Triple, triple};
@@ -8,31 +8,34 @@ ghost use Rattle.pic_grid.specs.Block.{IsAmongCells, IsShaped, AllAtMost, inner_
 ghost use Rattle.pic_grid.specs.Cells.{IsWithin};
 ghost use Rattle.pic_grid.specs.Differences.{curl_b};
 ghost use Rattle.pic_grid.specs.Lattice.{EachAtMost, value_at};
-ghost use Rattle.pic_field.specs.FieldPhases.{most_drive_value, most_raised};
+ghost use Rattle.pic_field.specs.FieldPhases.{most_drive_value, most_lessened};
 
 use crate::zone::{cell_in, place_count};
 use pic_grid::{Block, Lattice, Place};
 use pic_num::Axis;
 
-/// Adds to every value of a block the curl of a lattice there. The zone of the block lies among its
-/// cells.
-pub(crate) fn raise(m: &Lattice, e: &mut Block)
+/// Adds to every value of a block the curl of a lattice there, less what a block of its zone has
+/// there. The zone lies among the cells of the lattice.
+pub(crate) fn raise(m: &Lattice, j: &Block, e: &mut Block)
     requires among { IsAmongCells e.old.low e.old.size m.now.cells }
+    requires j_shape { IsShaped j.now e.old }
     requires m_small { EachAtMost most_drive_value m.now }
+    requires j_small { AllAtMost most_value j.now }
     requires e_small { AllAtMost most_value e.old }
     ensures shape { IsShaped e.new e.old }
     ensures values { (a : AxisName) → (p : Triple) → IsWithin p e.old.size
         → inner_at e.new a p ≡ inner_at e.old a p
-        +ℤ curl_b m.now.cells (value_at m.now) a (outer_of e.old.low p) }
-    ensures small { AllAtMost most_raised e.new }
+        +ℤ (curl_b m.now.cells (value_at m.now) a (outer_of e.old.low p) -ℤ inner_at j.now a p) }
+    ensures small { AllAtMost most_lessened e.new }
 {
     let cells = m.cells();
     let zone = e.zone();
     let mut place = Place::first();
     for _number in 0..place_count(cells, zone) {
         let cell = cell_in(cells, zone, place.inner);
-        let curl = curl_of(m, place.axis, cell);
-        e.add(place.axis, cells.unwrapped(cell), curl);
+        let at = cells.unwrapped(cell);
+        let more = curl_of(m, place.axis, cell) - j.at(place.axis, at);
+        e.add(place.axis, at, more);
         place = place.following(zone.size);
     }
 }

@@ -6,9 +6,9 @@ ghost use Rattle.pic_num.specs.Rounding.{rounded, scaled};
 ghost use Rattle.pic_num.specs.Sizes.{IsAtMost};
 ghost use Rattle.pic_num.specs.Space.{triple};
 ghost use Rattle.pic_grid.specs.Cells.{IsWithin};
-ghost use Rattle.pic_grid.specs.Lattice.{EachAtMost};
-ghost use Rattle.pic_field.specs.FieldPhases.{most_raised};
-ghost use Rattle.pic_field.specs.Rows.{most_row, read_by, row_at, taken_at, curl_at, start_cell, IsSmallRow, IsValueRow, IsStart, IsScaledRow, AreCurlRows};
+ghost use Rattle.pic_grid.specs.Lattice.{EachAtMost, value_at};
+ghost use Rattle.pic_field.specs.FieldPhases.{most_lessened, most_raised};
+ghost use Rattle.pic_field.specs.Rows.{most_row, read_by, row_at, curl_at, start_cell, IsSmallRow, IsStart, IsScaledRow, AreCurlRows};
 
 use pic_grid::{Lattice, Slot};
 use pic_num::{Axis, Mult, scale};
@@ -81,6 +81,41 @@ pub(crate) fn scaled_row(from: &Scaled, axis: Axis, start: Start, count: usize, 
         scale_row(&run[..more], from.by, &mut to[done..done + more]);
         done = done + more;
         x = after_run(nx, x, more);
+    }
+}
+
+/// Takes the values of a lattice from `start` on off those of a row, which doesn't pass the last cell.
+pub(crate) fn lessen_row(by: &Lattice, axis: Axis, start: Start, row: &mut [i128])
+    requires start { IsStart by.now start }
+    requires fits { start.x + length row.old ≤ by.now.cells.x }
+    requires by_small { EachAtMost most_value by.now }
+    requires small { IsSmallRow most_raised (length row.old) row.old }
+    ensures { (i : ℕ) → i < length row.old → row_at row.new i ≡ row_at row.old i
+        -ℤ value_at by.now axis (record (start_cell start) { x = start.x + i }) }
+{
+    let [_, _, _] = by.cells().numbers();
+    let count = row.len();
+    let mut done = 0;
+    while done < count {
+        let x = by.slot_x(start.x + done as u32);
+        let run = by.run_at(axis, x, start.y, start.z);
+        let more = run.len().min(count - done);
+        subtract(&mut row[done..done + more], &run[..more]);
+        done = done + more;
+    }
+}
+
+/// Takes the values of a row off those of another.
+#[inline(always)]
+fn subtract(row: &mut [i128], by: &[i128])
+    requires length { length by.now ≡ length row.old }
+    requires small { IsSmallRow most_raised (length row.old) row.old }
+    requires by_small { IsSmallRow most_value (length row.old) by.now }
+    ensures { (i : ℕ) → i < length row.old
+        → row_at row.new i ≡ row_at row.old i -ℤ row_at by.now i }
+{
+    for i in 0..row.len() {
+        row[i] = row[i] - by[i];
     }
 }
 
@@ -183,29 +218,21 @@ fn shifted(v: i128, half: i128, k: u32) -> i128
     (v + half) >> bits
 }
 
-/// Lessens every value of a row by the curl of four rows, and by that of `take` where it `takes`
-/// one. Where the answer is yes all are then at most `most` in size; where all are at most half of
-/// that it is yes. Each call says `takes` by a literal, so that it has straight code of its own.
+/// Lessens every value of a row by the curl of four rows. Where the answer is yes all are then at
+/// most `most` in size; where all are at most half of that it is yes.
 #[inline(always)]
-pub(crate) fn lessen_row(
-    row: &mut [i128],
-    takes: bool,
-    take: &[i128],
-    four: &CurlRows,
-    most: u128,
-) -> bool
-    requires small { IsSmallRow most_raised (length row.old) row.old }
-    requires take { IsTrue takes → IsValueRow most_value (length row.old) take.now }
+pub(crate) fn curl_row(row: &mut [i128], four: &CurlRows, most: u128) -> bool
+    requires small { IsSmallRow most_lessened (length row.old) row.old }
     requires four { AreCurlRows (length row.old) four.now }
-    ensures values { (i : ℕ) → i < length row.old → row_at row.new i
-        ≡ row_at row.old i -ℤ taken_at takes take.now i -ℤ curl_at four.now i }
+    ensures values { (i : ℕ) → i < length row.old
+        → row_at row.new i ≡ row_at row.old i -ℤ curl_at four.now i }
     ensures calm { IsTrue result → IsSmallRow most (length row.old) row.new }
 {
     let mut sizes = 0;
     for i in 0..row.len() {
         let curl = four.far_third[i] - four.near_third[i] - four.far_second[i]
             + four.near_second[i];
-        let value = row[i] - value_if(takes, take, i) - curl;
+        let value = row[i] - curl;
         row[i] = value;
         sizes = sizes | size_of(value);
     }
@@ -221,15 +248,6 @@ pub(crate) fn size_of(value: i128) -> u128
         return (-1 - value) as u128;
     }
     value as u128
-}
-
-/// The value of a row at an index, or 0 where it isn't wanted.
-#[inline(always)]
-fn value_if(is: bool, row: &[i128], i: usize) -> i128
-    requires { IsTrue is → i < length row.now }
-    ensures { result ≡ taken_at is row.now i }
-{
-    if is { row[i] } else { 0 }
 }
 
 /// The `count` values of a row from the index `first` on.

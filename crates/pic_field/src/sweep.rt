@@ -2,7 +2,7 @@
 //! field's scaled values, strip by strip of lines. It is inlined, so that each field has straight
 //! code of its own.
 
-ghost use Rattle.std.specs.Prelude.{◌≡◌, ℤ, ◌-◌, ◌<◌, ◌-ℤ◌, true, false, IfSome, IsTrue, OnOk};
+ghost use Rattle.std.specs.Prelude.{◌≡◌, ℤ, ◌-◌, ◌<◌, ◌-ℤ◌, true, false, IsTrue, OnOk};
 ghost use Rattle.pic_num.specs.declared.axis.Axis.{Axis as AxisName};
 ghost use Rattle.pic_num.specs.Limits.{most_value};
 ghost use Rattle.pic_num.specs.Push.{unless};
@@ -11,18 +11,18 @@ ghost use Rattle.pic_num.specs.Space.{Triple};
 ghost use Rattle.pic_grid.specs.Cells.{IsWithin};
 ghost use Rattle.pic_grid.specs.Lattice.{EachAtMost};
 ghost use Rattle.pic_grid.specs.Block.{IsAmongCells, AllAtMost, inner_at, outer_of};
-ghost use Rattle.pic_field.specs.FieldPhases.{lowest, least_fault, IsBounded, AllBounded, most_raised};
-ghost use Rattle.pic_field.specs.Lines.{HasCells, OnRow, OnLine, OnLines, OnStrip, Changed, AreSmall, IsTaken, taken_off};
+ghost use Rattle.pic_field.specs.FieldPhases.{lowest, least_fault, IsBounded, AllBounded, most_lessened};
+ghost use Rattle.pic_field.specs.Lines.{HasCells, OnRow, OnLine, OnLines, OnStrip, Changed, AreSmall};
 ghost use Rattle.pic_field.specs.Rows.{curl_at, AreCurlRows};
 ghost use Rattle.pic_field.specs.Planes.{IsStrip, plane_at};
-ghost use Rattle.pic_field.specs.Sweeps.{sweep_cells, take_of, made, AreRowsOf, IsPlaneOf, IsPlaneBeside};
+ghost use Rattle.pic_field.specs.Sweeps.{sweep_cells, made, AreRowsOf, IsPlaneOf, IsPlaneBeside};
 
 use crate::faults::stop_in;
 use crate::plane::{
     Line, Plane, Strip, fill_next_plane, fill_plane, first_of, span_for, strip_end,
 };
 use crate::rooms::Rooms;
-use crate::row::{CurlRows, Scaled, lessen_row, part};
+use crate::row::{CurlRows, Scaled, curl_row, part};
 use crate::zone::{beside_in_z, corner_in, is_empty, layer_of, line_length};
 use pic_grid::{Block, Phase, Stop};
 use pic_num::{Axis, Mult};
@@ -34,8 +34,6 @@ pub(crate) struct Sweep<'a> {
     pub(crate) from: Scaled<'a>,
     /// Whether the curl reads the next cells beside its own, or else the last ones.
     pub(crate) up: bool,
-    /// A block of the same zone that is taken off too.
-    pub(crate) take: Option<&'a Block>,
     /// A size up to which no new value passes a bound.
     pub(crate) most: u128,
 }
@@ -61,8 +59,7 @@ pub(crate) fn advance(
 ) -> Result<(), Stop>
     requires among { IsAmongCells b.old.low b.old.size (sweep_cells step.now) }
     requires field { EachAtMost most_value step.now.from.field.now }
-    requires take { IfSome (take_of step.now) (IsTaken b.old.low b.old.size) }
-    requires small { AllAtMost most_raised b.old }
+    requires small { AllAtMost most_lessened b.old }
     requires safe { (v : ℤ) → IsAtMost v step.now.most → IsBounded force v }
     ensures changed { Changed (made step.now b.old.low) (OnStrip 0 b.old.size.y) b.old b.new }
     ensures stop { (f : AxisName → Triple → ℤ)
@@ -83,8 +80,7 @@ pub(crate) fn advance(
 fn sweep_strips(step: &Sweep, b: &mut Block, rooms: &mut Rooms) -> bool
     requires among { IsAmongCells b.old.low b.old.size (sweep_cells step.now) }
     requires field { EachAtMost most_value step.now.from.field.now }
-    requires take { IfSome (take_of step.now) (IsTaken b.old.low b.old.size) }
-    requires small { AreSmall most_raised (OnStrip 0 b.old.size.y) b.old }
+    requires small { AreSmall most_lessened (OnStrip 0 b.old.size.y) b.old }
     ensures changed { Changed (made step.now b.old.low) (OnStrip 0 b.old.size.y) b.old b.new }
     ensures calm { IsTrue result → AreSmall step.now.most (OnStrip 0 b.old.size.y) b.new }
 {
@@ -111,9 +107,8 @@ fn sweep_strip(step: &Sweep, b: &mut Block, strip: Strip, rooms: &mut Rooms) -> 
     requires among { IsAmongCells b.old.low b.old.size (sweep_cells step.now) }
     requires some { HasCells b.old.size }
     requires field { EachAtMost most_value step.now.from.field.now }
-    requires take { IfSome (take_of step.now) (IsTaken b.old.low b.old.size) }
     requires strip { IsStrip strip b.old.size.y }
-    requires small { AreSmall most_raised (OnStrip strip.from strip.to) b.old }
+    requires small { AreSmall most_lessened (OnStrip strip.from strip.to) b.old }
     ensures changed { Changed (made step.now b.old.low) (OnStrip strip.from strip.to)
         b.old b.new }
     ensures calm { IsTrue result → AreSmall step.now.most (OnStrip strip.from strip.to) b.new }
@@ -156,10 +151,9 @@ fn sweep_layer(
     requires among { IsAmongCells b.old.low b.old.size (sweep_cells step.now) }
     requires some { HasCells b.old.size }
     requires field { EachAtMost most_value step.now.from.field.now }
-    requires take { IfSome (take_of step.now) (IsTaken b.old.low b.old.size) }
     requires strip { IsStrip strip b.old.size.y }
     requires z { z < b.old.size.z }
-    requires small { AreSmall most_raised (OnLines strip.from strip.to z) b.old }
+    requires small { AreSmall most_lessened (OnLines strip.from strip.to z) b.old }
     requires far { far < 2 }
     requires plane { IsPlaneBeside step.now b.old.low strip z b.old.size.x
         (plane_at rooms.old.planes far) }
@@ -185,10 +179,9 @@ fn sweep_layer(
 #[inline(always)]
 fn sweep_lines(step: &Sweep, b: &mut Block, strip: Strip, z: u32, near: &Plane, far: &Plane) -> bool
     requires among { IsAmongCells b.old.low b.old.size (sweep_cells step.now) }
-    requires take { IfSome (take_of step.now) (IsTaken b.old.low b.old.size) }
     requires strip { IsStrip strip b.old.size.y }
     requires z { z < b.old.size.z }
-    requires small { AreSmall most_raised (OnLines strip.from strip.to z) b.old }
+    requires small { AreSmall most_lessened (OnLines strip.from strip.to z) b.old }
     requires near { IsPlaneOf step.now b.old.low strip z b.old.size.x near.now }
     requires far { IsPlaneBeside step.now b.old.low strip z b.old.size.x far.now }
     ensures changed { Changed (made step.now b.old.low) (OnLines strip.from strip.to z)
@@ -214,10 +207,9 @@ fn sweep_lines(step: &Sweep, b: &mut Block, strip: Strip, z: u32, near: &Plane, 
 #[inline(always)]
 fn sweep_line(step: &Sweep, b: &mut Block, y: u32, z: u32, lines: &CurlLines) -> bool
     requires among { IsAmongCells b.old.low b.old.size (sweep_cells step.now) }
-    requires take { IfSome (take_of step.now) (IsTaken b.old.low b.old.size) }
     requires y { y < b.old.size.y }
     requires z { z < b.old.size.z }
-    requires small { AreSmall most_raised (OnLine y z) b.old }
+    requires small { AreSmall most_lessened (OnLine y z) b.old }
     requires rows { AreRowsOf step.now b.old.low y z b.old.size.x
         lines.now.own.now lines.now.by_y.now lines.now.by_z.now }
     ensures changed { Changed (made step.now b.old.low) (OnLine y z) b.old b.new }
@@ -252,27 +244,19 @@ fn sweep_line(step: &Sweep, b: &mut Block, y: u32, z: u32, lines: &CurlLines) ->
 }
 
 /// Lessens the components of a block on `axis` along the row at the layers `y` and `z` by the curl
-/// of four rows and by what else the sweep takes off, and answers whether all new values are at
-/// most the sweep's `most` in size.
+/// of four rows, and answers whether all new values are at most the sweep's `most` in size.
 #[inline(always)]
 fn sweep_row(step: &Sweep, b: &mut Block, axis: Axis, y: u32, z: u32, four: &CurlRows) -> bool
-    requires take { IfSome (take_of step.now) (IsTaken b.old.low b.old.size) }
     requires y { y < b.old.size.y }
     requires z { z < b.old.size.z }
-    requires small { AreSmall most_raised (OnRow axis y z) b.old }
+    requires small { AreSmall most_lessened (OnRow axis y z) b.old }
     requires four { AreCurlRows b.old.size.x four.now }
-    ensures changed { Changed
-        (λ a p v. v -ℤ taken_off (take_of step.now) a p -ℤ curl_at four.now p.x)
-        (OnRow axis y z) b.old b.new }
+    ensures changed { Changed (λ a p v. v -ℤ curl_at four.now p.x) (OnRow axis y z) b.old b.new }
     ensures calm { IsTrue result → AreSmall step.now.most (OnRow axis y z) b.new }
 {
     let zone = b.zone();
     let count = zone.size[0] as usize;
     let start = b.row_start(axis, y, z);
     let values = b.values_mut();
-    let row = &mut values[start..start + count];
-    match step.take {
-        Some(take) => lessen_row(row, true, take.row(axis, y, z), four, step.most),
-        None => lessen_row(row, false, &[], four, step.most),
-    }
+    curl_row(&mut values[start..start + count], four, step.most)
 }

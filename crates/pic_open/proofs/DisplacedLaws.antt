@@ -1,4 +1,4 @@
--- The E of a displaced start: within the bounds of a run's, and as it lies in the tiles.
+-- The E of a displaced start: within the bounds of a run's, and cut as a state's.
 use Rattle.std.proofs.Common.{◌≡◌, ℕ, ◌*◌, leb, List, inl, inr, Option, Some, None, Ok, refl, sym, ap, ◌∙◌, subst, arith}
 use Rattle.std.proofs.Math.IntN.{ℤ}
 use Rattle.std.specs.Prelude.{unsigned_abs, codes}
@@ -88,11 +88,11 @@ displaced_safe d limits are allowed =
           (record { value = displaced_most d limits are a p within; force = forces_weak d.cells d.scales.e_force g none a p within });
     }
 
--- the E that a deck begins with, as it lies in the tiles
+-- the E that a deck begins with, as a start has it
 pub begun_initial : (start : Start) (d : DeckView) (particles : List Particle) → AreCut start.setup.map start.e start.b → begun start ≡ start_of d particles
     → start.e ≡ field_of start.e.side d.cells start.e.parts (initial_e d)
-begun_initial start d particles tiled is =
-    let cells = tiled.of_e.cells ∙ ap (λ (w : World). w.cells) is in
+begun_initial start d particles cut is =
+    let cells = cut.of_e.cells ∙ ap (λ (w : World). w.cells) is in
     let values = ap (λ (w : World). w.e) is in
     λ i. record { cells = cells i; side = start.e.side; parts = start.e.parts; values = values i }
 
@@ -103,13 +103,13 @@ begun_displaced start d particles new is becomes =
     let values = ap (λ (f : Field). f.values) becomes.is in
     λ i. record (is i) { e = values i }
 
-pub tiled_displaced : (start : Start) (d : DeckView) (particles : List Particle) (new : Field) → AreCut start.setup.map start.e start.b
+pub cut_displaced : (start : Start) (d : DeckView) (particles : List Particle) (new : Field) → AreCut start.setup.map start.e start.b
     → begun start ≡ start_of d particles → BecomesDisplaced d particles start.e new → AreCut start.setup.map new start.b
-tiled_displaced start d particles new tiled is becomes = record {
+cut_displaced start d particles new cut is becomes = record {
   of_e = record {
     cells = ap (λ (f : Field). f.cells) becomes.is ∙ sym (ap (λ (w : World). w.cells) is);
-    side = ap (λ (f : Field). f.side) becomes.is ∙ tiled.of_e.side;
-    parts = ap (λ (f : Field). f.parts) becomes.is ∙ tiled.of_e.parts;
+    side = ap (λ (f : Field). f.side) becomes.is ∙ cut.of_e.side;
+    parts = ap (λ (f : Field). f.parts) becomes.is ∙ cut.of_e.parts;
   };
-  of_b = tiled.of_b;
+  of_b = cut.of_b;
 }

@@ -163,9 +163,9 @@ pub ready : (o : Opened) → displaced_allowed o.deck (loaded o.deck) ≡ Ok tt 
     → o.start.setup.map.tiles ≡ o.deck.tiles → IsSound (begun o.start)
     → AreCut o.start.setup.map o.start.e o.start.b → AreProbes (begun o.start).cells (length (begun o.start).particles) o.deck.probes
     → state_break (begun o.start) ≡ None → IsTested o.deck o
-ready o fit start tiles sound tiled probes none = record {
+ready o fit start tiles sound cut probes none = record {
   deck = after_displaced o.deck (Ok o.deck) fit (ap (unless_gauss_fails o.deck) (ap state_break (sym start) ∙ none));
-  begins = record { start = start; tiles = tiles; sound = sound; tiled = tiled; probes = probes };
+  begins = record { start = start; tiles = tiles; sound = sound; cut = cut; probes = probes };
 }
 
 pub broken : (d : DeckView) (w : World) (at : Break) → displaced_allowed d (loaded d) ≡ Ok tt → w ≡ first_state d → state_break w ≡ Some at

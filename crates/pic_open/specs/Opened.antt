@@ -28,7 +28,7 @@ pub record CanBegin (o : Opened) : Type 0 where
   pub start : begun o.start ≡ first_state o.deck
   pub tiles : o.start.setup.map.tiles ≡ o.deck.tiles
   pub sound : IsSound (begun o.start)
-  pub tiled : AreCut o.start.setup.map o.start.e o.start.b
+  pub cut : AreCut o.start.setup.map o.start.e o.start.b
   pub probes : AreProbes (begun o.start).cells (length (begun o.start).particles) o.deck.probes
 
 -- the deck meets Gauss's law, and can begin
@@ -48,7 +48,7 @@ pub record IsLoaded (d : DeckView) (s : Start) : Type 0 where
   pub fit : displaced_allowed d (loaded d) ≡ Ok tt
   pub start : begun s ≡ first_state d
   pub tiles : s.setup.map.tiles ≡ d.tiles
-  pub tiled : AreCut s.setup.map s.e s.b
+  pub cut : AreCut s.setup.map s.e s.b
   pub particles : AreLoaded d s.particles.items
   pub safe : IsSafe d.scales.e_force (e_of (begun s))
 

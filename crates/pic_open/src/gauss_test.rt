@@ -18,7 +18,7 @@ use std::alloc::Global;
 /// of its particles, or `None` where it holds. The memory that this takes is given back.
 pub fn find_break(alloc: Global, deck: &Deck, start: &Start) -> Result<Option<Break>, NoMemory>
     requires start { begun start.now ≡ displaced_start deck.now start.now.particles.items }
-    requires tiled { AreCut start.now.setup.map start.now.e start.now.b }
+    requires cut { AreCut start.now.setup.map start.now.e start.now.b }
     requires loaded { AreLoaded deck.now start.now.particles.items }
     requires safe { IsSafe deck.now.scales.e_force (e_of (begun start.now)) }
     ensures value { IfOk result (λ found. found ≡ state_break (begun start.now)) }

@@ -63,7 +63,7 @@ fn run_deck<H: Threads + Sync, O: Sink, R: Sink, G: Gate + Sync>(
     requires most { workers ≤ most_workers }
     requires begins { (begun opened.start).step ≡ 0 }
     requires sound { IsSound (begun opened.start) }
-    requires tiled { AreCut opened.start.setup.map opened.start.e opened.start.b }
+    requires cut { AreCut opened.start.setup.map opened.start.e opened.start.b }
     ensures { Finishes (LeavesWhole workers)
         (dump_outcome (header_of opened.deck) (begun opened.start))
         (sinks (O.told out.old) (R.told report.old))
@@ -84,7 +84,7 @@ struct Ready {
 // Takes the memory of a run.
 fn prepare(alloc: Global, deck: &Deck, start: Start) -> Result<Ready, NoMemory>
     requires sound { IsSound (begun start) }
-    requires tiled { AreCut start.setup.map start.e start.b }
+    requires cut { AreCut start.setup.map start.e start.b }
     ensures header { IfOk result (λ ready. ready.header ≡ header_of deck.now) }
     ensures state { IfOk result (λ ready. ready.stage.state.world ≡ begun start) }
     ensures map { IfOk result (λ ready. ready.stage.state.map ≡ start.setup.map) }

@@ -67,7 +67,7 @@ fn show_deck<H: Threads + Sync, O: Sink, R: Sink, G: Gate + Sync>(
 ) -> Result<Ended, Cut>
     requires begins { (begun opened.start).step ≡ 0 }
     requires sound { IsSound (begun opened.start) }
-    requires tiled { AreCut opened.start.setup.map opened.start.e opened.start.b }
+    requires cut { AreCut opened.start.setup.map opened.start.e opened.start.b }
     requires some { 0 < workers }
     requires most { workers ≤ most_workers }
     ensures { Finishes (LeavesWhole workers)

@@ -39,7 +39,7 @@ pub struct Stage {
 /// a frame.
 pub fn stage_of(alloc: Global, start: Start, ids: &[u32]) -> Result<Stage, NoMemory>
     requires sound { IsSound (begun start) }
-    requires tiled { AreCut start.setup.map start.e start.b }
+    requires cut { AreCut start.setup.map start.e start.b }
     requires ids { All (λ id. id < length start.particles.items) ids.now }
     ensures state { IfOk result (λ stage. stage.state.world ≡ begun start) }
     ensures map { IfOk result (λ stage. stage.state.map ≡ start.setup.map) }
@@ -67,7 +67,7 @@ pub fn show<H: Threads + Sync, O: Sink, R: Sink, G: Gate + Sync>(
     requires most { plan.now.workers ≤ most_workers }
     requires begins { (begun start).step ≡ 0 }
     requires sound { IsSound (begun start) }
-    requires tiled { AreCut start.setup.map start.e start.b }
+    requires cut { AreCut start.setup.map start.e start.b }
     requires probes { CanPut plan.now.output (begun start) }
     ensures { Finishes (LeavesWhole plan.now.workers)
         (shown_outcome plan.now.output plan.now.steps plan.now.every (begun start))
@@ -81,7 +81,7 @@ pub fn show<H: Threads + Sync, O: Sink, R: Sink, G: Gate + Sync>(
 // The state that begins so, with what an output needs of every state, and room that has it.
 fn stage_for(alloc: Global, start: Start, output: &Output) -> Result<Stage, NoMemory>
     requires sound { IsSound (begun start) }
-    requires tiled { AreCut start.setup.map start.e start.b }
+    requires cut { AreCut start.setup.map start.e start.b }
     requires probes { CanPut output.now (begun start) }
     ensures state { IfOk result (λ stage. stage.state.world ≡ begun start) }
     ensures map { IfOk result (λ stage. stage.state.map ≡ start.setup.map) }

@@ -43,7 +43,7 @@ above_zero w sound = let least = sound.side_least in omega (arith, least)
 -- where its particles are cut into tiles, the state is that of its parts
 module _ (step filter : ℕ) (loops : List Loop) (m : Tiling) (scales : Scales) (kinds : List Kind) (e b : Field) (xs : List Particle) (p : Plasma)
     (map : IsMap m)
-    (sound : IsSound (world_of step (grid_of_tiling m) filter loops scales kinds e.values b.values xs)) (tiled : AreCut m e b) (of_map : p.frame.map ≡ m)
+    (sound : IsSound (world_of step (grid_of_tiling m) filter loops scales kinds e.values b.values xs)) (cut : AreCut m e b) (of_map : p.frame.map ≡ m)
     (of_filter : filter_in p.smooth ≡ filter) (of_kinds : p.frame.kinds ≡ kinds) (ready : IsPlasma xs p) (of : All (IsOf xs) p.tracers.items) where
   list_is : all_particles p.tiles.items ≡ xs
   list_is =
@@ -57,7 +57,7 @@ module _ (step filter : ℕ) (loops : List Loop) (m : Tiling) (scales : Scales) 
   pub kept : IsKept step loops scales e b p
   kept = record {
     sound = subst IsSound (sym begun_is) sound;
-    tiled = subst (λ (n : Tiling). AreCut n e b) (sym of_map) tiled;
+    cut = subst (λ (n : Tiling). AreCut n e b) (sym of_map) cut;
     plasma = subst (λ (ys : List Particle). IsPlasma ys p) (sym list_is) ready;
     tracers = subst (λ (ys : List Particle). All (IsOf ys) p.tracers.items) (sym list_is) of;
   }
@@ -100,8 +100,8 @@ pub can_push : (step : ℕ) (loops : List Loop) (scales : Scales) (e b c : Field
     → CanPush scales e (record p { frame = forced_by scales c p.frame })
 can_push step loops scales e b c p keeps = record {
   side = above_zero (seen step loops scales e b p) keeps.sound;
-  tiled = keeps.tiled.of_e;
-  safe = safe_parts p.frame.map scales.e_force e keeps.tiled.of_e keeps.sound.e;
+  cut = keeps.cut.of_e;
+  safe = safe_parts p.frame.map scales.e_force e keeps.cut.of_e keeps.sound.e;
   plasma = record {
     tiles = keeps.plasma.tiles;
     room = keeps.plasma.room;

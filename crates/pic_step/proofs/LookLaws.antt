@@ -131,6 +131,6 @@ shown_tracers ps xs list to ids long of is done =
     subst (All (IsSame to ps)) is (subst (λ (ys : List Particle). All (IsSame ys ps) (identities xs)) (sym done) (written_shows ps xs list long of))
 
 -- a lattice that is cut has the values of the state's field
-pub same_whole : {parts : Triple} (m : Tiling) (to f : Field) (qs : List Place) → IsCut m parts f → All (HaveSameAt to f) qs
+pub same_whole : (m : Tiling) (to f : Field) (qs : List Place) → IsCut m f → All (HaveSameAt to f) qs
     → All (HaveSameAt to (whole m f.values)) qs
 same_whole m to f qs cut all = subst (λ (g : Field). All (HaveSameAt to g) qs) (whole_is m f cut) all

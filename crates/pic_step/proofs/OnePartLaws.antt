@@ -1,10 +1,11 @@
--- A lattice on the cells of a map, however it is cut, seen whole: a field phase does the same to both.
-use Rattle.std.proofs.Common.{◌≡◌, ℕ, ℤ, List, Some, None, Result, Ok, Err, sym, ap, ◌∙◌, subst, ◌+ℤ◌}
+-- A lattice on the cells of a map, as a state's fields are cut, seen whole: a field phase does the same to both.
+use Rattle.std.proofs.Common.{◌≡◌, ℕ, ℤ, pos, List, [], ◌∷◌, Some, None, Result, Ok, Err, sym, ap, ◌∙◌, subst, ◌+ℤ◌, ◌-ℤ◌}
 use Rattle.pic_num.specs.Limits.{most_value}
 use Rattle.pic_num.specs.declared.axis.Axis.{Axis}
 use Rattle.pic_num.specs.declared.mult.Scales.{Scales}
 use Rattle.pic_num.specs.Multiplier.{Multiplier}
 use Rattle.pic_num.specs.Space.{Triple}
+use Rattle.pic_num.proofs.Ring.{ring, reads}
 use Rattle.pic_grid.specs.declared.stop.Phase.{Phase}
 use Rattle.pic_grid.specs.declared.stop.Phase.TheVariants.{Electric}
 use Rattle.pic_grid.specs.declared.stop.Stop.{Stop}
@@ -15,7 +16,7 @@ use Rattle.pic_grid.specs.Parts.{one_part, origin}
 use Rattle.pic_grid.proofs.LatticeLaws.{value_at-field_of}
 use Rattle.pic_field.specs.FieldPhases.{half_of, full_of, least_fault, no_drive}
 use Rattle.pic_drive.specs.Drive.{plus}
-use Rattle.pic_field.proofs.CurlLaws.{full_of-raised}
+use Rattle.pic_field.proofs.CurlLaws.{full_of-raised, full_of-lessened}
 use Rattle.pic_tile.specs.Tiling.{Tiling, cells_of}
 use Rattle.pic_advance.specs.Phases.{Advances}
 use Rattle.pic_advance.proofs.SamePhaseLaws.{values_same, fault_same}
@@ -30,7 +31,7 @@ whole m values = record { cells = cells_of m; side = m.side; parts = one_part; v
 abbrev pub as_one : Field → Field
 as_one f = record f { parts = one_part }
 
-pub whole_is : {parts : Triple} (m : Tiling) (f : Field) → IsCut m parts f → as_one f ≡ whole m f.values
+pub whole_is : (m : Tiling) (f : Field) → IsCut m f → as_one f ≡ whole m f.values
 whole_is m f cut = λ i. record { cells = cut.cells i; side = cut.side i; parts = one_part; values = f.values }
 
 -- the values that a phase answers, or its stop
@@ -49,7 +50,7 @@ advanced phase by side n parts g (Ok f) h = (ap (λ (k : Field). k.values) h.0, 
 advanced phase by side n parts g (Err stop) h = h
 
 -- half a step of B
-pub half_one : {s t : Triple} (phase : Phase) (m : Tiling) (scales : Scales) (e b : Field) (r : Result Field Stop) → IsCut m s e → IsCut m t b
+pub half_one : (phase : Phase) (m : Tiling) (scales : Scales) (e b : Field) (r : Result Field Stop) → IsCut m e → IsCut m b
     → Advances phase scales.b_force e.side e.cells b.parts (λ a p. half_of scales e a p (value_at b a p)) r
     → Advanced phase scales.b_force (cells_of m) (λ a p. half_of scales (whole m e.values) a p (value_at (whole m b.values) a p)) (values_in r)
 unfolding half_of
@@ -60,8 +61,8 @@ half_one phase m scales e b r of_e of_b h =
     (advanced phase scales.b_force e.side e.cells b.parts (λ a p. half_of scales e a p (value_at b a p)) r h))
 
 -- a step of E, whose answer is known
-pub full_one : {t u : Triple} (phase : Phase) (m : Tiling) (scales : Scales) (b e : Field) (j : Axis → Triple → ℤ) (r s : Result Field Stop) → r ≡ s
-    → IsCut m t b → IsCut m u e
+pub full_one : (phase : Phase) (m : Tiling) (scales : Scales) (b e : Field) (j : Axis → Triple → ℤ) (r s : Result Field Stop) → r ≡ s
+    → IsCut m b → IsCut m e
     → Advances phase scales.e_force b.side b.cells e.parts (λ a p. full_of scales b no_drive a p (value_at e a p) (j a p)) r
     → Advanced phase scales.e_force (cells_of m) (λ a p. full_of scales (whole m b.values) no_drive a p (value_at (whole m e.values) a p) (j a p)) (values_in s)
 unfolding full_of
@@ -77,8 +78,8 @@ full_one phase m scales b e j r s is of_b of_e h =
     (advanced phase scales.e_force b.side b.cells e.parts (λ a p. full_of scales b no_drive a p (value_at e a p) (j a p)) r h)))
 
 -- a lattice that a phase leaves, on the cells of one and with the parts of another, is cut as the other is
-pub cut_after : {s t : Triple} (m : Tiling) (f g r : Field) (values : Axis → Triple → ℤ) → IsCut m s f → IsCut m t g
-    → r ≡ field_of f.side f.cells g.parts values → IsCut m t r
+pub cut_after : (m : Tiling) (f g r : Field) (values : Axis → Triple → ℤ) → IsCut m f → IsCut m g
+    → r ≡ field_of f.side f.cells g.parts values → IsCut m r
 cut_after m f g r values of_f of_g is = record {
   cells = ap (λ (k : Field). k.cells) is ∙ of_f.cells;
   side = ap (λ (k : Field). k.side) is ∙ of_f.side;
@@ -91,7 +92,7 @@ pub advanced_is : (phase : Phase) (by : Multiplier) (side : ℕ) (n parts : Trip
 advanced_is phase by side n parts g r f is h = (subst (λ (t : Result Field Stop). Advances phase by side n parts g t) is h).0
 
 -- a lattice whose values are safe is safe, and they are small
-pub safe_parts : {parts : Triple} (m : Tiling) (by : Multiplier) (f : Field) → IsCut m parts f → IsSafe by (whole m f.values) → IsSafe by f
+pub safe_parts : (m : Tiling) (by : Multiplier) (f : Field) → IsCut m f → IsSafe by (whole m f.values) → IsSafe by f
 safe_parts m by f cut safe =
     let one : IsSafe by (as_one f) = subst (IsSafe by) (sym (whole_is m f cut)) safe in
     record { bounded = λ a p within. one.bounded a p within }
@@ -106,10 +107,10 @@ advanced_same phase by n g h (Ok values) same done = (done.0 ∙ values_same n g
 advanced_same phase by n g h (Err stop) same done = fault_same phase by n g h same ∙ done
 
 -- a lattice that a curl was added to is cut as it was, and has the values with the curl
-pub plus_cut : {parts : Triple} (m : Tiling) (e f : Field) (g : Axis → Triple → ℤ) → IsCut m parts e → f ≡ plus e g → IsCut m parts f
+pub plus_cut : (m : Tiling) (e f : Field) (g : Axis → Triple → ℤ) → IsCut m e → f ≡ plus e g → IsCut m f
 plus_cut m e f g of_e is = cut_after m e e f (λ a p. value_at e a p +ℤ g a p) of_e of_e is
 
-plus_whole : {parts : Triple} (m : Tiling) (e f : Field) (g : Axis → Triple → ℤ) → IsCut m parts e → f ≡ plus e (curl_b e.cells g) → (a : Axis)
+plus_whole : (m : Tiling) (e f : Field) (g : Axis → Triple → ℤ) → IsCut m e → f ≡ plus e (curl_b e.cells g) → (a : Axis)
     (p : Triple) → IsWithin p (cells_of m) → value_at (whole m f.values) a p ≡ value_at (whole m e.values) a p +ℤ curl_b (cells_of m) g a p
 plus_whole m e f g of_e is a p within =
     let of_f = plus_cut m e f (curl_b e.cells g) of_e is in
@@ -118,9 +119,20 @@ plus_whole m e f g of_e is a p within =
     ∙ value_at-field_of e.side e.cells e.parts (λ b q. value_at e b q +ℤ curl_b e.cells g b q) a p inside
     ∙ (λ i. value_at (whole_is m e of_e i) a p +ℤ curl_b (of_e.cells i) g a p)
 
--- a step of E that the curl of g was added to is one that g drives
-pub driven_one : {t u : Triple} (m : Tiling) (scales : Scales) (b e f : Field) (g j : Axis → Triple → ℤ) (r s : Result Field Stop) → r ≡ s
-    → IsCut m t b → IsCut m u e → f ≡ plus e (curl_b e.cells g)
+-- a value that the curl of g was added to comes out as by a g that drives,
+sum_less : (v c j : ℤ) → v +ℤ c -ℤ j ≡ v +ℤ (c -ℤ j)
+sum_less v c j = ring (v ∷ c ∷ j ∷ []) (search reads depth 8) tt
+
+driven_value : (scales : Scales) (b : Field) (g : Axis → Triple → ℤ) (a : Axis) (p : Triple) (v j : ℤ)
+    → full_of scales b no_drive a p (v +ℤ curl_b b.cells g a p) j ≡ full_of scales b g a p v j
+driven_value scales b g a p v j =
+    let c = curl_b b.cells g a p in
+    sym (full_of-lessened scales b a p (v +ℤ c) j) ∙ ap (λ (u : ℤ). full_of scales b no_drive a p u (pos 0)) (sum_less v c j)
+    ∙ full_of-raised scales b g a p v j
+
+-- so a step of E that the curl was added to is one that g drives
+pub driven_one : (m : Tiling) (scales : Scales) (b e f : Field) (g j : Axis → Triple → ℤ) (r s : Result Field Stop) → r ≡ s
+    → IsCut m b → IsCut m e → f ≡ plus e (curl_b e.cells g)
     → Advances Electric scales.e_force b.side b.cells f.parts (λ a p. full_of scales b no_drive a p (value_at f a p) (j a p)) r
     → Advanced Electric scales.e_force (cells_of m) (λ a p. full_of scales (whole m b.values) g a p (value_at (whole m e.values) a p) (j a p)) (values_in s)
 driven_one m scales b e f g j r s known of_b of_e is h =
@@ -128,5 +140,5 @@ driven_one m scales b e f g j r s known of_b of_e is h =
     advanced_same Electric scales.e_force (cells_of m) (λ a p. full_of scales w no_drive a p (value_at (whole m f.values) a p) (j a p))
     (λ a p. full_of scales w g a p (value_at (whole m e.values) a p) (j a p)) (values_in s)
     (λ a p within. ap (λ (v : ℤ). full_of scales w no_drive a p v (j a p)) (plus_whole m e f g of_e is a p within)
-    ∙ full_of-raised scales w g a p (value_at (whole m e.values) a p) (j a p))
+    ∙ driven_value scales w g a p (value_at (whole m e.values) a p) (j a p))
     (full_one Electric m scales b f j r s known of_b (plus_cut m e f (curl_b e.cells g) of_e is) h)

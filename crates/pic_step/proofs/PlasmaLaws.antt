@@ -1,7 +1,7 @@
 -- The list that the tiles of a state stand for.
 use Rattle.std.proofs.Common.{◌≡◌, ℕ, ◌*◌, ◌<◌, pos, List, [], ◌∷◌, length, get_or, replicate, All, sym, ap, ◌∙◌, subst, arith}
 use Rattle.std.specs.Option.{IfSome}
-use Rattle.std.proofs.Math.Nat.{mod-one, mod_self}
+use Rattle.std.proofs.Math.Nat.{mod-one, mod_self, mul-mod_right}
 use Rattle.std.proofs.lemmas.List.{ext_get_or, length-map}
 use Rattle.std.proofs.lemmas.List.Elements.{All-weaker}
 use Rattle.pic_num.specs.declared.motion.Particle.{Particle}
@@ -25,7 +25,7 @@ use Rattle.pic_tile.specs.Held.{chains_of}
 use Rattle.pic_tile.specs.Owners.{tile_of}
 use Rattle.pic_tile.specs.Parcels.{AreFreshTiles}
 use Rattle.pic_tile.specs.Tile.{TileValue, chain_at, tile_in}
-use Rattle.pic_tile.specs.Tiling.{Tiling, cells_of}
+use Rattle.pic_tile.specs.Tiling.{Tiling, IsMap, cells_of}
 use Rattle.pic_tile.proofs.HeldLaws.{chain_in}
 use Rattle.pic_tile.proofs.LeavingLaws.{tile_below}
 use Rattle.pic_core.specs.AtStart.{IsScratch}
@@ -108,6 +108,17 @@ layered_parts n cells = record {
 -- and these are its parts
 pub parts_of_layers : (g : Grid) (ns : List ℕ) → triple ns ≡ g.n → IsCells g.n → IsParts g.n (triple (1 ∷ 1 ∷ get_or ns 2 0 ∷ []))
 parts_of_layers g ns is cells = subst (λ (t : Triple). IsParts g.n (layered t)) (sym is) (layered_parts g.n cells)
+
+-- and the cells of a map one for each of its tiles
+pub parts_of_map : (m : Tiling) → IsMap m → IsParts (cells_of m) m.tiles
+parts_of_map m map = record {
+  x_least = map.tiles.x_least;
+  x_whole = mul-mod_right m.tiles.x m.size.x;
+  y_least = map.tiles.y_least;
+  y_whole = mul-mod_right m.tiles.y m.size.y;
+  z_least = map.tiles.z_least;
+  z_whole = mul-mod_right m.tiles.z m.size.z;
+}
 
 -- a lattice of zeros has force values
 pub no_forces : (g h : Grid) (parts : Triple) (f : Field) → h ≡ g

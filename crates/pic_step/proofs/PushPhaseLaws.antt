@@ -26,19 +26,19 @@ use Rattle.pic_tile.specs.Tiling.{Tiling, cells_of, grid_of_tiling}
 use Rattle.pic_core.specs.AtStart.{IsScratch}
 use Rattle.pic_advance.specs.Current.{LiesOn}
 use Rattle.pic_step.specs.declared.plasma.Plasma.{Plasma}
-use Rattle.pic_step.specs.Kept.{IsCut, IsTiled}
+use Rattle.pic_step.specs.Kept.{IsCut}
 use Rattle.pic_step.specs.Plasma.{IsPlasma}
 use Rattle.pic_step.specs.PushOn.{around_fields, ArePushed, HasPushed}
 use Rattle.pic_step.specs.Sound.{IsSafe}
 use Rattle.pic_step.proofs.FeltLaws.{around_by, moved_same, pushed_same}
 
 -- the force values of a field, on the cells of a map
-pub forced : {s : Triple} (m : Tiling) (by : Multiplier) (f r : Field) (parts : Triple) → IsCut m s f → parts ≡ layered (cells_of m)
+pub forced : (m : Tiling) (by : Multiplier) (f r : Field) (parts : Triple) → IsCut m f → parts ≡ layered (cells_of m)
     → r ≡ field_of f.side f.cells parts (force_of by (value_at f)) → r ≡ field_of m.side (cells_of m) (layered (cells_of m)) (force_of by (value_at f))
 forced m by f r parts cut same is = is ∙ (λ i. field_of (cut.side i) (cut.cells i) (same i) (force_of by (value_at f)))
 
 -- where the field is safe, they are small enough to be gathered
-pub force_field : {parts : Triple} (m : Tiling) (by : Multiplier) (f r : Field) → IsCut m parts f → IsSafe by f
+pub force_field : (m : Tiling) (by : Multiplier) (f r : Field) → IsCut m f → IsSafe by f
     → r ≡ field_of m.side (cells_of m) (layered (cells_of m)) (force_of by (value_at f)) → IsForceField (grid_of_tiling m) r
 force_field m by f r cut safe is = subst (IsForceField (grid_of_tiling m)) (sym is) (record {
   cells_are = refl;
@@ -84,9 +84,9 @@ opening_moves f g ts us map kinds same open' = record {
 
 -- pushed in that frame, they are pushed by the fields
 pub pushed_by_fields : (p q : Plasma) (scales : Scales) (e b : Field) (f : FrameValue) (ts : Vec Particle Global) (stop : Option Stop)
-    → IsTiled p.frame.map e → f ≡ with_forces_of p.frame.map p.frame.kinds scales e b
+    → IsCut p.frame.map e → f ≡ with_forces_of p.frame.map p.frame.kinds scales e b
     → HasPushed (felt_in f) (record p { frame = f; tracers = ts }) q stop → HasPushed (around_fields scales p.frame.kinds e b) p q stop
-pushed_by_fields p q scales e b f ts stop tiled is h =
+pushed_by_fields p q scales e b f ts stop cut is h =
     let m = p.frame.map in
     let kinds = p.frame.kinds in
     let xs = all_particles p.tiles.items in
@@ -103,19 +103,19 @@ pushed_by_fields p q scales e b f ts stop tiled is h =
       smooth = h.smooth;
       flux = h.flux;
       pushed = subst (λ (w : Surroundings). ArePushed w q.frame.map xs us stop)
-          (λ i. around_by (sym tiled.side i) kinds (sym tiled.cells i) of_e of_b) by;
+          (λ i. around_by (sym cut.side i) kinds (sym cut.cells i) of_e of_b) by;
     }
 
 -- and each is moved as by these
-pub moved_by_fields : (p : Plasma) (scales : Scales) (e b : Field) (f : FrameValue) (xs : List Particle) → IsTiled p.frame.map e
+pub moved_by_fields : (p : Plasma) (scales : Scales) (e b : Field) (f : FrameValue) (xs : List Particle) → IsCut p.frame.map e
     → f ≡ with_forces_of p.frame.map p.frame.kinds scales e b → moved_all (felt_in f) xs ≡ moved_all (around_fields scales p.frame.kinds e b) xs
-moved_by_fields p scales e b f xs tiled is =
+moved_by_fields p scales e b f xs cut is =
     let m = p.frame.map in
     let kinds = p.frame.kinds in
     let of_e : Axis → Triple → ℤ = force_of scales.e_force (value_at e) in
     let of_b : Axis → Triple → ℤ = force_of scales.b_force (value_at b) in
     ap (λ (g : FrameValue). moved_all (felt_in g) xs) is ∙ moved_same m.side kinds (cells_of m) of_e of_b xs
-    ∙ (λ i. moved_all (around_by (sym tiled.side i) kinds (sym tiled.cells i) of_e of_b) xs)
+    ∙ (λ i. moved_all (around_by (sym cut.side i) kinds (sym cut.cells i) of_e of_b) xs)
 
 -- what is ready for a push is so in a frame of the same map
 pub ready_moves : (p : Plasma) (f : FrameValue) (ts : Vec Particle Global) (xs : List Particle) → f.map ≡ p.frame.map

@@ -1,12 +1,11 @@
 -- What a deck says of its species is within the limits of a run's.
-use Rattle.std.proofs.Common.{◌≡◌, ℕ, ℤ, ◌+◌, ◌<◌, List, [], ◌∷◌, ◌++◌, length, get_or, map, take, sym, ap, ◌∙◌, subst, arith}
+use Rattle.std.proofs.Common.{◌≡◌, ℕ, ◌+◌, ◌<◌, List, [], ◌∷◌, ◌++◌, length, get_or, map, take, sym, ap, ◌∙◌, subst, arith}
 use Rattle.std.proofs.lemmas.List.{get_or-map, length-map, map-append, take_more}
 use Rattle.std.proofs.lemmas.List.Elements.{All-from_get_or}
 use Rattle.pic_num.specs.declared.motion.Kind.{Kind}
 use Rattle.pic_num.specs.Space.{Triple}
-use Rattle.pic_num.specs.declared.axis.Axis.{Axis}
 use Rattle.pic_grid.specs.Cells.{Grid}
-use Rattle.pic_grid.specs.Lattice.{Field, IsParts, field_of}
+use Rattle.pic_grid.specs.Lattice.{Field}
 use Rattle.pic_grid.specs.Tiles.{AreTiles}
 use Rattle.pic_grid.specs.PushPhase.{no_kind}
 use Rattle.pic_grid.specs.Species.{IsKind, AreHeads, no_head}
@@ -14,7 +13,7 @@ use Rattle.pic_deck.specs.declared.species.Species.{Species}
 use Rattle.pic_deck.specs.Deck.{DeckView, IsWithinLimits, deck_grid, heads_of}
 use Rattle.pic_deck.specs.Species.{head_of, no_species}
 use Rattle.pic_tile.specs.Frame.{AreKinds}
-use Rattle.pic_tile.specs.Tiling.{Tiling, cells_of, grid_of_tiling}
+use Rattle.pic_tile.specs.Tiling.{Tiling, cells_of}
 use Rattle.pic_step.specs.Kept.{IsCut}
 use Rattle.pic_step.specs.SerialRun.{kinds_of}
 
@@ -47,35 +46,13 @@ kinds_more all i s before after below at so_far more =
     let kind : Species → Kind = λ t. t.kind in
     more ∙ (λ k. so_far k ++ (at k).kind ∷ []) ∙ sym (ap (map kind) (take_more all i s below) ∙ map-append kind (take i all) (get_or all i s ∷ []))
 
--- a deck's tiles fit its cells, and are parts of them
+-- a deck's tiles fit its cells
 pub deck_tiles : (d : DeckView) (g : Grid) (t : Triple) → IsWithinLimits d → g ≡ deck_grid d → t ≡ d.tiles → AreTiles g.n t
 deck_tiles d g t limits of_grid of_tiles =
     subst (λ (n : Triple). AreTiles n t) (sym (ap (λ (h : Grid). h.n) of_grid)) (subst (AreTiles d.cells) (sym of_tiles) limits.settings.tiles)
 
-pub deck_parts : (d : DeckView) (g : Grid) (t : Triple) → IsWithinLimits d → g ≡ deck_grid d → t ≡ d.tiles → IsParts g.n t
-deck_parts d g t limits of_grid of_tiles =
-    let fit = deck_tiles d g t limits of_grid of_tiles in
-    record {
-      x_least = fit.x.low;
-      x_whole = fit.x.divides;
-      y_least = fit.y.low;
-      y_whole = fit.y.divides;
-      z_least = fit.z.low;
-      z_whole = fit.z.divides;
-    }
-
--- a lattice on the grid of a map is cut into its parts there
-pub begun_cut : (m : Tiling) (g : Grid) (s t : Triple) (f : Field) (values : Axis → Triple → ℤ) → grid_of_tiling m ≡ g → f ≡ field_of g.side g.n s values
-    → s ≡ t → IsCut m t f
-begun_cut m g s t f values of_grid is parts = record {
-  cells = ap (λ (h : Field). h.cells) is ∙ sym (ap (λ (h : Grid). h.n) of_grid);
-  side = ap (λ (h : Field). h.side) is ∙ sym (ap (λ (h : Grid). h.side) of_grid);
-  parts = ap (λ (h : Field). h.parts) is ∙ parts;
-}
-
 -- a lattice that took the values of another is cut as it was
-pub cut_as : {parts : Triple} (m : Tiling) (f g h : Field) → IsCut m parts f → g.cells ≡ cells_of m → h ≡ record g { side = f.side; parts = f.parts }
-    → IsCut m parts h
+pub cut_as : (m : Tiling) (f g h : Field) → IsCut m f → g.cells ≡ cells_of m → h ≡ record g { side = f.side; parts = f.parts } → IsCut m h
 cut_as m f g h cut cells is = record {
   cells = ap (λ (k : Field). k.cells) is ∙ cells;
   side = ap (λ (k : Field). k.side) is ∙ cut.side;

@@ -1,7 +1,6 @@
 -- What the state of a run is seen as, and what its type keeps.
 use Rattle.std.specs.Prelude.{◌≡◌, ℕ, List, All}
 use Rattle.pic_num.specs.declared.mult.Scales.{Scales}
-use Rattle.pic_num.specs.Space.{Triple}
 use Rattle.pic_grid.specs.declared.loops.Loop.{Loop}
 use Rattle.pic_grid.specs.Lattice.{Field}
 use Rattle.pic_grid.specs.Parts.{layered}
@@ -14,24 +13,16 @@ use Rattle.pic_step.specs.SerialStep.{World, world_of}
 use Rattle.pic_step.specs.Sound.{IsSound}
 use Rattle.pic_step.specs.Tracers.{IsOf}
 
--- a lattice on the cells of a map, cut into these parts
-pub record IsCut (m : Tiling) (into : Triple) (f : Field) : Type 0 where
+-- a lattice on the cells of a map, with a part for each layer of z
+pub record IsCut (m : Tiling) (f : Field) : Type 0 where
   pub cells : f.cells ≡ cells_of m
   pub side : f.side ≡ m.side
-  pub parts : f.parts ≡ into
+  pub parts : f.parts ≡ layered (cells_of m)
 
--- with one for each of its tiles,
-abbrev pub IsTiled : Tiling → Field → Type 0
-IsTiled m = IsCut m m.tiles
-
--- or for each layer of z
-abbrev pub IsLayered : Tiling → Field → Type 0
-IsLayered m = IsCut m (layered (cells_of m))
-
--- the fields of a state: E has a part for each tile, B for each layer of z
+-- the fields of a state are
 pub record AreCut (m : Tiling) (e b : Field) : Type 0 where
-  pub of_e : IsTiled m e
-  pub of_b : IsLayered m b
+  pub of_e : IsCut m e
+  pub of_b : IsCut m b
 
 -- the state of these parts, after so many steps: its particles are those of the tiles, in the order
 -- of their identities
@@ -44,6 +35,6 @@ seen step loops scales e b p =
 -- it is sound, its fields are cut as a state's, its particles are ready for their push, and those that are followed are of them
 pub record IsKept (step : ℕ) (loops : List Loop) (scales : Scales) (e b : Field) (p : Plasma) : Type 0 where
   pub sound : IsSound (seen step loops scales e b p)
-  pub tiled : AreCut p.frame.map e b
+  pub cut : AreCut p.frame.map e b
   pub plasma : IsPlasma (all_particles p.tiles.items) p
   pub tracers : All (IsOf (all_particles p.tiles.items)) p.tracers.items

@@ -18,7 +18,7 @@ use Rattle.pic_tile.specs.Tile.{TileValue}
 use Rattle.pic_tile.specs.Tiling.{Tiling, cells_of}
 use Rattle.pic_step.specs.declared.plasma.Plasma.{Plasma}
 use Rattle.pic_step.specs.TileFlux.{flux_in}
-use Rattle.pic_step.specs.Kept.{IsTiled}
+use Rattle.pic_step.specs.Kept.{IsCut}
 use Rattle.pic_step.specs.Plasma.{IsPlasma, HasFlux}
 use Rattle.pic_step.specs.Sound.{IsSafe}
 use Rattle.pic_step.specs.Tracers.{IsOf}
@@ -33,11 +33,11 @@ around_fields scales kinds e b = record {
   of_b = force_of scales.b_force (value_at b);
 }
 
--- the particles of a state can be pushed: E is safe and lies in the tiles, and they are ready,
+-- the particles of a state can be pushed: E is safe and cut as a state's, and they are ready,
 -- within the limits and in the order of identities
 pub record CanPush (scales : Scales) (e : Field) (p : Plasma) : Type 0 where
   pub side : 0 < p.frame.map.side
-  pub tiled : IsTiled p.frame.map e
+  pub cut : IsCut p.frame.map e
   pub safe : IsSafe scales.e_force e
   pub plasma : IsPlasma (all_particles p.tiles.items) p
   pub opening : IsOpening p.frame p.tiles.items

@@ -18,7 +18,7 @@ ghost use Rattle.pic_step.specs.TileFlux.{flux_in};
 ghost use Rattle.pic_step.specs.Tracers.{IsOf, identities};
 ghost use Rattle.pic_step.specs.Plasma.{HasFlux, IsPlasma};
 
-use crate::start::{layered_lattice, tiled_lattice};
+use crate::start::layered_lattice;
 use crate::tile_flux::{spare_blocks, swap_each_flux};
 use crate::tracers::tracers_of;
 use pic_advance::{Current, drive_e};
@@ -105,7 +105,6 @@ impl Plasma {
         requires flux { HasFlux self }
         requires b_cells { b.now.cells ≡ cells_of self.frame.map }
         requires e_cells { e.cells ≡ cells_of self.frame.map }
-        requires parts { e.parts ≡ self.frame.map.tiles }
         requires b_small { EachAtMost most_value b.now }
         requires e_small { EachAtMost most_raised e }
         ensures fields { Advances Phase.Electric scales.now.e_force b.now.side b.now.cells e.parts
@@ -130,9 +129,8 @@ impl Plasma {
             count,
         } = self;
         let map = frame.map();
-        let _tiles = map.tiles();
-        let cells = e.cells();
-        let parts = e.parts();
+        let cells = map.cells();
+        let parts = map.tiles();
         swap_each_flux(&mut tiles, &mut spare);
         let flux = Lattice::of_blocks(cells, parts, spare);
         let (e, spent) = drive_e(team, scales, b, Current { flux, smooth }, e);
@@ -153,7 +151,7 @@ impl Plasma {
     }
 }
 
-/// A lattice with a part for each tile, where the current is filtered.
+/// A lattice with a part for each tile, as the current has, where that is filtered.
 fn smooth_for(alloc: Global, map: TileMap, filter: u32) -> Result<Option<Lattice>, NoMemory>
     requires { filter ≤ most_filter }
     ensures filter { IfOk result (λ smooth. filter_in smooth ≡ filter) }
@@ -162,7 +160,7 @@ fn smooth_for(alloc: Global, map: TileMap, filter: u32) -> Result<Option<Lattice
     if filter == 0 {
         return Ok(None);
     }
-    let smooth = tiled_lattice(alloc, &map)?;
+    let smooth = Lattice::new(alloc, map.cells(), map.tiles())?;
     Ok(Some(smooth))
 }
 

@@ -8,7 +8,7 @@ ghost use Rattle.pic_grid.specs.PushPhase.{moved_all};
 ghost use Rattle.pic_tile.specs.CoreState.{all_particles, IsOpening};
 ghost use Rattle.pic_tile.specs.Frame.{felt_in};
 ghost use Rattle.pic_tile.specs.Tiling.{cells_of, grid_of_tiling};
-ghost use Rattle.pic_step.specs.Kept.{IsTiled};
+ghost use Rattle.pic_step.specs.Kept.{IsCut};
 ghost use Rattle.pic_step.specs.Plasma.{IsPlasma};
 ghost use Rattle.pic_step.specs.PushOn.{around_fields, CanPush, HasForces, HasPushed};
 ghost use Rattle.pic_step.specs.Sound.{IsSafe};
@@ -102,7 +102,7 @@ fn with_forces<H: Threads + Sync, G>(
     e: &Lattice,
     frame: Frame,
 ) -> Frame
-    requires tiled { IsTiled frame.map e.now }
+    requires cut { IsCut frame.map e.now }
     requires safe { IsSafe scales.now.e_force e.now }
     requires parts { frame.force_e.parts ≡ layered (cells_of frame.map) }
     ensures { let m = frame.map in result ≡ record {

@@ -2,12 +2,10 @@
 
 ghost use Rattle.std.specs.Prelude.{◌≡◌, pos, ◌*◌, replicate, IfOk};
 ghost use Rattle.pic_grid.specs.Cells.{count_of};
-ghost use Rattle.pic_grid.specs.Lattice.{field_of};
-ghost use Rattle.pic_grid.specs.Parts.{layered};
-ghost use Rattle.pic_deck.specs.Deck.{initial_e, initial_b, deck_grid};
+ghost use Rattle.pic_deck.specs.Deck.{deck_grid};
 ghost use Rattle.pic_step.specs.SerialRun.{kinds_of};
 ghost use Rattle.pic_tile.specs.Tiling.{cells_of, grid_of_tiling, tiles_of};
-ghost use Rattle.pic_step.specs.Kept.{IsTiled, IsLayered};
+ghost use Rattle.pic_step.specs.Kept.{IsCut};
 
 use pic_deck::Deck;
 use pic_grid::{Lattice, Snapshot, copy_loops};
@@ -17,7 +15,7 @@ use std::alloc::Global;
 
 /// What a run begins with: what stays in it, after how many steps it begins, E, B and the particles.
 /// Its type keeps no more than theirs do: whether Gauss's law holds has to be tested. A state begins
-/// with an E that has one part for each tile, and a B that has one for each layer of z.
+/// with fields that have a part for each layer of z.
 #[derive(Drop)]
 pub struct Start {
     pub setup: Setup,
@@ -36,11 +34,13 @@ impl Start {
     pub fn new(alloc: Global, deck: &Deck, particles: Vec<Particle>) -> Result<Start, NoMemory>
         ensures map { IfOk result
             (λ start. start.setup.map ≡ tiles_of (deck_grid deck.now) deck.now.tiles) }
-        ensures tiled { IfOk result (λ start. AreCut start.setup.map start.e start.b) }
+        ensures cut { IfOk result (λ start. AreCut start.setup.map start.e start.b) }
         ensures start { IfOk result (λ start. begun start ≡ start_of deck.now particles.items) }
     {
         let setup = setup_of(alloc, deck)?;
-        let (e, b) = fields_of(alloc, deck)?;
+        let mut e = layered_lattice(alloc, &setup.map)?;
+        let mut b = layered_lattice(alloc, &setup.map)?;
+        deck.initial(&mut e, &mut b);
         Ok(Start {
             setup,
             step: 0,
@@ -60,12 +60,12 @@ impl Start {
         requires e_cells { frame.now.e.cells ≡ cells_of setup.now.map }
         requires b_cells { frame.now.b.cells ≡ cells_of setup.now.map }
         ensures map { IfOk result (λ start. start.setup.map ≡ setup.now.map) }
-        ensures tiled { IfOk result (λ start. AreCut start.setup.map start.e start.b) }
+        ensures cut { IfOk result (λ start. AreCut start.setup.map start.e start.b) }
         ensures start { IfOk result (λ start.
             begun start ≡ world_in_frame setup.now step frame.now) }
     {
         let kinds = setup.kinds.copy(alloc)?;
-        let mut e = tiled_lattice(alloc, &setup.map)?;
+        let mut e = layered_lattice(alloc, &setup.map)?;
         e.copy_from(&frame.e);
         let mut b = layered_lattice(alloc, &setup.map)?;
         b.copy_from(&frame.b);
@@ -86,16 +86,9 @@ impl Start {
     }
 }
 
-/// A lattice of the cells of a map, with one part for each of its tiles.
-pub(crate) fn tiled_lattice(alloc: Global, map: &TileMap) -> Result<Lattice, NoMemory>
-    ensures { IfOk result (IsTiled map.now) }
-{
-    Lattice::new(alloc, map.cells(), map.tiles())
-}
-
-/// The same, with one for each layer of z. It is 0 everywhere.
+/// A lattice on the cells of a map, with a part for each layer of z. It is 0 everywhere.
 pub(crate) fn layered_lattice(alloc: Global, map: &TileMap) -> Result<Lattice, NoMemory>
-    ensures layered { IfOk result (IsLayered map.now) }
+    ensures cut { IfOk result (IsCut map.now) }
     ensures zero { IfOk result (λ l.
         l.values ≡ replicate (3 * count_of (cells_of map.now)) (pos 0)) }
 {
@@ -134,20 +127,4 @@ fn kinds_of(alloc: Global, deck: &Deck) -> Result<Kinds, NoMemory>
         kinds.push(species.kind)?;
     }
     Ok(Kinds::from_vec(kinds))
-}
-
-// the fields that a deck begins with: E has one part for each tile, B for each layer of z
-fn fields_of(alloc: Global, deck: &Deck) -> Result<(Lattice, Lattice), NoMemory>
-    ensures e { IfOk result (λ both.
-        both.0 ≡ field_of deck.now.side deck.now.cells deck.now.tiles (initial_e deck.now)) }
-    ensures b { IfOk result (λ both.
-        both.1 ≡ field_of deck.now.side deck.now.cells (layered deck.now.cells)
-        (initial_b deck.now)) }
-{
-    let cells = deck.cells();
-    let [_, _, nz] = cells.numbers();
-    let mut e = Lattice::new(alloc, cells, deck.tiles())?;
-    let mut b = Lattice::new(alloc, cells, [1, 1, nz])?;
-    deck.initial(&mut e, &mut b);
-    Ok((e, b))
 }

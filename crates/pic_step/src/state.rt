@@ -18,9 +18,9 @@ use std::marker::Model;
 
 /// The state of a run, after a number of steps that it knows. Its type keeps the limits, that the
 /// particles have the identities 0, 1, .. in order, and Gauss's law at every node. The particles are
-/// kept in tiles; E has one part for each tile, and B for each layer of z. Contracts see a list in the
-/// order of identities, the values of fields in the order of places, the map of the tiles, and the
-/// identities of the particles that it follows.
+/// kept in tiles, and the fields have a part for each layer of z; contracts see a list in the order of
+/// identities, the values of fields in the order of places, the map of the tiles, and the identities
+/// of the particles that it follows.
 #[derive(Drop)]
 pub struct State {
     pub(crate) step: u32,
@@ -70,11 +70,11 @@ impl State {
         State::begin(alloc, Start::new(alloc, deck, particles)?)
     }
 
-    /// The first state of a run that begins so. The fields, of which E has one part for each tile and
-    /// B for each layer of z, and the particles are moved into it. No particle is followed.
+    /// The first state of a run that begins so. The fields, which have a part for each layer of z, and
+    /// the particles are moved into it. No particle is followed.
     pub fn begin(alloc: Global, start: Start) -> Result<State, NoMemory>
         requires sound { IsSound (begun start) }
-        requires tiled { AreCut start.setup.map start.e start.b }
+        requires cut { AreCut start.setup.map start.e start.b }
         ensures world { IfOk result (λ s. s.world ≡ begun start) }
         ensures map { IfOk result (λ s. s.map ≡ start.setup.map) }
         ensures followed { IfOk result (λ s. s.followed ≡ []) }
@@ -85,7 +85,7 @@ impl State {
     /// The same, where the particles with these identities are followed.
     pub fn begin_following(alloc: Global, start: Start, ids: &[u32]) -> Result<State, NoMemory>
         requires sound { IsSound (begun start) }
-        requires tiled { AreCut start.setup.map start.e start.b }
+        requires cut { AreCut start.setup.map start.e start.b }
         requires ids { All (λ id. id < length start.particles.items) ids.now }
         ensures world { IfOk result (λ s. s.world ≡ begun start) }
         ensures map { IfOk result (λ s. s.map ≡ start.setup.map) }
@@ -118,8 +118,8 @@ impl State {
     }
 
     /// The state after so many steps that stands in a snapshot of as many cells, under what stays in
-    /// its run. Its fields and particles are those of the snapshot, the particles and E cut into the
-    /// tiles of the map, and B into layers of z; no particle is followed.
+    /// its run. Its fields and particles are those of the snapshot, the fields cut into layers of z and
+    /// the particles into the tiles of the map; no particle is followed.
     pub fn from_frame(
         alloc: Global,
         setup: &Setup,

@@ -144,13 +144,14 @@ pair_sound loops side q v scales a b within least most at low high a_is a_one b_
   gauss = pair_gauss side four a b (q ∷ 0 ∷ 0 ∷ []) _ _ a_is b_is;
 }
 
--- a lattice of zeros is cut into its parts on a map of its cells
-lies_in : (grid : Grid) (m : Tiling) (parts into : Triple) (f : Field)
-    → f ≡ record { cells = grid.n; side = grid.side; parts = parts; values = zero_values grid.n } → grid_of_tiling m ≡ grid → parts ≡ into → IsCut m into f
-lies_in grid m parts into f is of_grid same = record {
+-- a lattice of zeros with a part for each layer of z is cut as a state's
+zeros_cut : (grid : Grid) (m : Tiling) (parts : Triple) (f : Field)
+    → f ≡ record { cells = grid.n; side = grid.side; parts = parts; values = zero_values grid.n } → grid_of_tiling m ≡ grid → parts ≡ layered (cells_of m)
+    → IsCut m f
+zeros_cut grid m parts f is of_grid layers = record {
   cells = ap (λ (k : Field). k.cells) is ∙ sym (ap (λ (h : Grid). h.n) of_grid);
   side = ap (λ (k : Field). k.side) is ∙ sym (ap (λ (h : Grid). h.side) of_grid);
-  parts = ap (λ (k : Field). k.parts) is ∙ same;
+  parts = ap (λ (k : Field). k.parts) is ∙ layers;
 }
 
 pub from_vec-kinds-requires : goal.from_vec-kinds-requires
@@ -158,14 +159,14 @@ from_vec-kinds-requires c =
     subst AreKinds (sym c.in_ok-from_slice.ensures.items)
     (pair_kinds c.kind_of.result c.kind_of-2.result c.kind_of.ensures.charge c.kind_of.ensures.mass c.kind_of-2.ensures.charge c.kind_of-2.ensures.mass)
 
-pub begin-requires-clause-tiled : goal.begin-requires-clause-tiled
-begin-requires-clause-tiled c =
+pub begin-requires-clause-cut : goal.begin-requires-clause-cut
+begin-requires-clause-cut c =
     let m = c.new-map.result in
     let grid = c.new-map.ensures.cells in
+    let layers = sym (ap (λ (h : Grid). layered h.n) (grid ∙ c.new-cells.ensures)) in
     record {
-      of_e = lies_in c.new-cells.result m _ m.tiles c.in_ok-e.e c.in_ok-e.ensures grid (sym (ap (λ (n : Tiling). n.tiles) c.new-map.ensures.value));
-      of_b = lies_in c.new-cells.result m _ (layered (cells_of m)) c.in_ok-b.b c.in_ok-b.ensures grid
-          (sym (ap (λ (h : Grid). layered h.n) (grid ∙ c.new-cells.ensures)));
+      of_e = zeros_cut c.new-cells.result m _ c.in_ok-e.e c.in_ok-e.ensures grid layers;
+      of_b = zeros_cut c.new-cells.result m _ c.in_ok-b.b c.in_ok-b.ensures grid layers;
     }
 
 pub begin-requires-clause-sound : goal.begin-requires-clause-sound

@@ -2,13 +2,13 @@ use Rattle.std.proofs.Common.{sym, ◌∙◌, ap, arith}
 use Rattle.pic_grid.specs.Block.{inner_at, outer_of}
 use Rattle.pic_num.specs.Limits.{most_value}
 use Rattle.pic_grid.proofs.BlockLaws.{all_at_most_more}
-use Rattle.pic_field.specs.FieldPhases.{half_of, half_in, most_raised}
+use Rattle.pic_field.specs.FieldPhases.{half_of, half_in, most_lessened}
 use Rattle.pic_field.proofs.CurlLaws.{half_is}
 use Rattle.pic_field.proofs.ZoneLaws.{edge_at-outer}
 use Rattle.pic_field.proofs.magnetic.half_b_in.Goals as goal
 
 pub advance-requires-clause-small : goal.advance-requires-clause-small
-advance-requires-clause-small c = all_at_most_more c.args.b.now most_value most_raised (omega arith) c.requires.b_small
+advance-requires-clause-small c = all_at_most_more c.args.b.now most_value most_lessened (omega arith) c.requires.b_small
 
 pub returns-clause-values : goal.returns-clause-values
 returns-clause-values c = λ a p w.

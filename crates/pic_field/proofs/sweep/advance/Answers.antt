@@ -3,7 +3,7 @@ use Rattle.pic_num.specs.Push.{unless}
 use Rattle.pic_num.specs.Space.{unwrapped}
 use Rattle.pic_grid.specs.declared.stop.Stop.{Stop}
 use Rattle.pic_grid.specs.Block.{edge_at}
-use Rattle.pic_field.specs.FieldPhases.{most_raised}
+use Rattle.pic_field.specs.FieldPhases.{most_lessened}
 use Rattle.pic_field.specs.Lines.{OnStrip}
 use Rattle.pic_field.specs.Sweeps.{sweep_cells}
 use Rattle.pic_field.proofs.CalmLaws.{all_small, calm_none, new_stop, own_values}
@@ -12,7 +12,7 @@ use Rattle.pic_field.proofs.sweep.advance.Goals as goal
 
 pub sweep_strips-requires-clause-small : goal.sweep_strips-requires-clause-small
 sweep_strips-requires-clause-small c =
-    all_small most_raised (OnStrip 0 c.args.b.now.size.y) c.args.b.now (sweep_cells c.args.step.now) c.requires.among c.requires.small
+    all_small most_lessened (OnStrip 0 c.args.b.now.size.y) c.args.b.now (sweep_cells c.args.step.now) c.requires.among c.requires.small
 
 pub returns-then-sweep_strips-clause-stop : goal.returns-then-sweep_strips-clause-stop
 returns-then-sweep_strips-clause-stop c = λ f values.

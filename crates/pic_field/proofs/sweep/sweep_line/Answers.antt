@@ -8,7 +8,7 @@ use Rattle.pic_field.specs.declared.row.CurlRows.{CurlRows}
 use Rattle.pic_field.specs.Beside.{first_index, layer_beside, row_room}
 use Rattle.pic_field.specs.Lines.{OnRow}
 use Rattle.pic_field.specs.Rows.{most_row, row_at, read_by, IsScaledRow, IsValueRow}
-use Rattle.pic_field.specs.Sweeps.{sweep_cells, take_of, made, AreRowsOf}
+use Rattle.pic_field.specs.Sweeps.{sweep_cells, made, AreRowsOf}
 use Rattle.pic_field.proofs.BesideLaws.{first_most}
 use Rattle.pic_field.proofs.CurlLaws.{AreRead, own_part, side_part, row_swept}
 use Rattle.pic_field.proofs.LineLaws.{changed_as, line_changed, line_calm, row_of_line, row_kept}
@@ -167,7 +167,6 @@ returns-clause-changed c =
     let z = c.args.z in
     let n = sweep_cells step in
     let g = read_by step.from in
-    let take = take_of step in
     let first = first_index step.up in
     let count = c.line_length-count.result in
     let own_line = c.args.lines.now.own.now in
@@ -205,10 +204,10 @@ returns-clause-changed c =
       near_second = own at X (at_y at) (at_z at) first (first + count) own_line.x c.part-12.result.now k.here.x self whole c.part-12.ensures.values;
     } in
     let first = changed_as _ (made step b.low) (OnRow X y z) b one c.sweep_row-calm_x.ensures.changed (λ a p w on.
-    row_swept step.up n g take b.low b.size y z X on_x read_x a p w on (inner_at b a p)) in
+    row_swept step.up n g b.low b.size y z X on_x read_x a p w on (inner_at b a p)) in
     let second = changed_as _ (made step b.low) (OnRow Y y z) one two c.sweep_row-calm_y.ensures.changed (λ a p w on.
-    row_swept step.up n g take b.low b.size y z Y on_y read_y a p (subst (λ (m : Triple). IsWithin p m) first.shaped.size w) on (inner_at one a p)) in
+    row_swept step.up n g b.low b.size y z Y on_y read_y a p (subst (λ (m : Triple). IsWithin p m) first.shaped.size w) on (inner_at one a p)) in
     let third = changed_as _ (made step b.low) (OnRow Z y z) two three c.sweep_row-calm_z.ensures.changed (λ a p w on.
-    row_swept step.up n g take b.low b.size y z Z on_z read_z a p (subst (λ (m : Triple). IsWithin p m) (second.shaped.size ∙ first.shaped.size) w) on
+    row_swept step.up n g b.low b.size y z Z on_z read_z a p (subst (λ (m : Triple). IsWithin p m) (second.shaped.size ∙ first.shaped.size) w) on
     (inner_at two a p)) in
     line_changed (made step b.low) y z b one two three first second third

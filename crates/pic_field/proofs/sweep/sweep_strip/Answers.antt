@@ -2,7 +2,7 @@ use Rattle.std.proofs.Common.{◌≡◌, ◌+◌, ◌-◌, ◌<◌, ℕ, sym, �
 use Rattle.pic_num.specs.Space.{Triple, Spot, triple}
 use Rattle.pic_grid.specs.Cells.{IsWithin}
 use Rattle.pic_field.specs.Beside.{swept_layer}
-use Rattle.pic_field.specs.FieldPhases.{most_raised}
+use Rattle.pic_field.specs.FieldPhases.{most_lessened}
 use Rattle.pic_field.specs.Lines.{OnLines, OnLayers, OnStrip, Changed, AreSmall}
 use Rattle.pic_field.specs.Planes.{span_of, plane_at}
 use Rattle.pic_field.specs.Rows.{read_by}
@@ -52,7 +52,7 @@ sweep_layer-found-requires c =
     let joined = layers_more step.up old.size strip.from strip.to k inside in
     let plane = plane_at c.loop-k.rooms.planes c.loop-k.far in
     let small = small_kept (made step old.low) (OnStrip strip.from strip.to) (OnLayers step.up strip.from strip.to old.size.z k)
-    (OnLines strip.from strip.to layer) old mid mid most_raised before c.requires.small
+    (OnLines strip.from strip.to layer) old mid mid most_lessened before c.requires.small
     (λ a p on. record { y_from = on.y_from; y_below = on.y_below })
     (λ a p on off. joined.apart a p off on)
     in
@@ -60,10 +60,9 @@ sweep_layer-found-requires c =
       among = rw (low, size) c.requires.among;
       some = rw size c.requires.some;
       field = c.requires.field;
-      take = rw (low, size) c.requires.take;
       strip = rw size c.requires.strip;
       z = omega (arith, c.layer_of-z.ensures.below, ap (λ (n : Triple). n.z) size, ap (λ (n : Triple). n.z) c.zone-zone.ensures.size);
-      small = subst (λ (m : ℕ). AreSmall most_raised (OnLines strip.from strip.to m) mid) (sym size_z) small;
+      small = subst (λ (m : ℕ). AreSmall most_lessened (OnLines strip.from strip.to m) mid) (sym size_z) small;
       far = c.loop-k.invariant.far;
       plane = subst (λ (m : ℕ). IsPlaneBeside step mid.low strip m mid.size.x plane) (sym size_z)
           (subst (λ (l : Spot). IsPlaneBeside step l strip layer mid.size.x plane) (sym low)

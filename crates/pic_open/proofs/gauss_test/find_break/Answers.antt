@@ -42,15 +42,15 @@ find_break-requires-clause-placed c =
     (subst (λ (ks : List Kind). All (CanShare c.cells-cells.result.side c.cells-cells.result.n ks) ps) (sym kinds)
     (subst (λ (g : Grid). All (CanShare g.side g.n (kinds_of d)) ps) (sym cells) (shares_are d ps c.requires.loaded))))
 
--- E as it lies in its tiles has the values of the state's
+-- E of a start has the values of the state's
 e_values : (start : Start) → AreCut start.setup.map start.e start.b → value_at start.e ≡ value_at (e_of (begun start))
-e_values start tiled = λ i a p. get_or start.e.values (place_of (tiled.of_e.cells i) a p) (pos 0)
+e_values start cut = λ i a p. get_or start.e.values (place_of (cut.of_e.cells i) a p) (pos 0)
 
 pub find_break-requires-clause-most : goal.find_break-requires-clause-most
 find_break-requires-clause-most c =
     let cells : c.cells-cells.result ≡ deck_grid c.args.deck.now = c.cells-cells.ensures.value in
     let n = ap (λ (g : Grid). g.n) cells ∙ sym (ap (λ (w : World). w.cells) c.requires.start) in
-    λ a p within. subst (λ (f : Axis → Triple → ℤ). IsAtMost (f a p) (2 ^ 90)) (sym (e_values c.args.start.now c.requires.tiled))
+    λ a p within. subst (λ (f : Axis → Triple → ℤ). IsAtMost (f a p) (2 ^ 90)) (sym (e_values c.args.start.now c.requires.cut))
     (let bounded = c.requires.safe.bounded a p
     (subst (IsWithin p) n (subst (λ (r : RoomView). IsWithin p r.grid.n) c.in_ok-room.ensures within)) in bounded.value)
 
@@ -62,7 +62,7 @@ returns-clause-value c =
     let particles : c.deref.result.now ≡ w.particles = c.deref.ensures.value in
     let g = c.cells-cells.result in
     let e = value_at c.args.start.now.e in
-    let same : e ≡ value_at (e_of w) = e_values c.args.start.now c.requires.tiled in
+    let same : e ≡ value_at (e_of w) = e_values c.args.start.now c.requires.cut in
     let n : g.n ≡ w.cells = ap (λ (h : Grid). h.n) c.cells-cells.ensures.value ∙ sym (ap (λ (v : World). v.cells) c.requires.start) in
     let side : g.side ≡ w.side = ap (λ (h : Grid). h.side) c.cells-cells.ensures.value ∙ sym (ap (λ (v : World). v.side) c.requires.start) in
     c.find_break.ensures.value

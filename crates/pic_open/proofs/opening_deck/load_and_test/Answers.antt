@@ -29,7 +29,7 @@ returns-in-None c =
     let is = c.in_ok-start.ensures in
     let are = subst (AreLoaded d) (ap (λ (w : World). w.particles) is.start) is.particles in
     let found = rw c.in-None.is at c.in_ok-find_break.ensures in
-    ready (record { deck = d; start = c.in_ok-start.start }) is.fit is.start is.tiles (found.sound refl) is.tiled
+    ready (record { deck = d; start = c.in_ok-start.start }) is.fit is.start is.tiles (found.sound refl) is.cut
     (subst (λ (w : World). AreProbes w.cells (length w.particles) d.probes) (sym is.start) (probes_fit d (loaded d) c.version-limits.ensures.limits are))
     (sym found.value)
 

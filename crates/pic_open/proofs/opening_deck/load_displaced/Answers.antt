@@ -9,7 +9,7 @@ use Rattle.pic_step.specs.SerialRun.{start_of}
 use Rattle.pic_step.specs.SerialStep.{World, e_of}
 use Rattle.pic_step.specs.Sound.{IsSafe}
 use Rattle.pic_open.specs.Starting.{displaced_start}
-use Rattle.pic_open.proofs.DisplacedLaws.{displaced_safe, begun_initial, begun_displaced, tiled_displaced}
+use Rattle.pic_open.proofs.DisplacedLaws.{displaced_safe, begun_initial, begun_displaced, cut_displaced}
 use Rattle.pic_open.proofs.OpenedLaws.{not_displaced}
 use Rattle.pic_open.proofs.opening_deck.load_displaced.Goals as goal
 
@@ -34,7 +34,7 @@ displace-requires-clause-limits c =
 
 pub displace-requires-clause-e : goal.displace-requires-clause-e
 displace-requires-clause-e c =
-    begun_initial c.in_ok-start.start c.args.deck.now c.in_ok-particles.particles.items c.in_ok-start.ensures.tiled c.in_ok-start.ensures.start
+    begun_initial c.in_ok-start.start c.args.deck.now c.in_ok-particles.particles.items c.in_ok-start.ensures.cut c.in_ok-start.ensures.start
 
 pub returns-in_err-displace : goal.returns-in_err-displace
 returns-in_err-displace c =
@@ -71,7 +71,7 @@ returns c =
       fit = fit;
       start = start;
       tiles = rw c.in_ok-start.ensures.map refl;
-      tiled = tiled_displaced c.in_ok-start.start d c.deref.result.now c.displace.new.e c.in_ok-start.ensures.tiled
+      cut = cut_displaced c.in_ok-start.start d c.deref.result.now c.displace.new.e c.in_ok-start.ensures.cut
           (c.in_ok-start.ensures.start ∙ ap (start_of d) (sym (c.deref.ensures.value ∙ ap (λ (w : World). w.particles) c.in_ok-start.ensures.start)))
           c.in_ok-displace.ensures.displaces.0;
       particles = subst (AreLoaded d) (sym (ap (λ (w : World). w.particles) c.in_ok-start.ensures.start)) c.in_ok-particles.ensures.limits;

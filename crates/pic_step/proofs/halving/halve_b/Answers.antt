@@ -5,7 +5,7 @@ use Rattle.pic_field.specs.FieldPhases.{half_of}
 use Rattle.pic_tile.specs.Frame.{IsForceField}
 use Rattle.pic_tile.specs.Tiling.{Tiling, grid_of_tiling}
 use Rattle.pic_advance.specs.Halves.{between}
-use Rattle.pic_step.specs.Kept.{IsLayered}
+use Rattle.pic_step.specs.Kept.{IsCut}
 use Rattle.pic_step.specs.Sound.{IsSafe}
 use Rattle.pic_step.proofs.PushPhaseLaws.{forced, force_field}
 use Rattle.pic_step.proofs.SoundLaws.{safe_after}
@@ -21,7 +21,7 @@ new-requires-clause-b g c =
     let b = c.args.b in
     let f = between scales e b in
     let cut = c.requires.cut in
-    let layers : IsLayered m f = record { cells = cut.of_e.cells; side = cut.of_e.side; parts = cut.of_b.parts } in
+    let layers : IsCut m f = record { cells = cut.of_e.cells; side = cut.of_e.side; parts = cut.of_b.parts } in
     let safe : IsSafe scales.b_force f = record {
       bounded = (safe_after Half1 scales.b_force e.side e.cells (λ a p. half_of scales e a p (value_at b a p)) c.in_ok-b.ensures.0.1).bounded;
     } in

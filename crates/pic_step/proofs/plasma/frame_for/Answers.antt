@@ -13,15 +13,15 @@ new-requires c =
     let b = c.in_ok-force_b.ensures in
     record {
       e = no_forces g g (layered (cells_of m)) c.in_ok-force_e.force_e refl
-          (λ i. record { cells = e.layered.cells i; side = e.layered.side i; parts = e.layered.parts i; values = e.zero i });
+          (λ i. record { cells = e.cut.cells i; side = e.cut.side i; parts = e.cut.parts i; values = e.zero i });
       b = no_forces g g (layered (cells_of m)) c.in_ok-force_b.force_b refl
-          (λ i. record { cells = b.layered.cells i; side = b.layered.side i; parts = b.layered.parts i; values = b.zero i });
-      parts = b.layered.parts ∙ sym e.layered.parts;
+          (λ i. record { cells = b.cut.cells i; side = b.cut.side i; parts = b.cut.parts i; values = b.zero i });
+      parts = b.cut.parts ∙ sym e.cut.parts;
     }
 
 pub returns : goal.returns
 returns c = record {
   map = ap (λ (f : FrameValue). f.map) c.new.ensures;
   kinds = ap (λ (f : FrameValue). f.kinds) c.new.ensures;
-  parts = ap (λ (f : FrameValue). f.force_e.parts) c.new.ensures ∙ c.in_ok-force_e.ensures.layered.parts;
+  parts = ap (λ (f : FrameValue). f.force_e.parts) c.new.ensures ∙ c.in_ok-force_e.ensures.cut.parts;
 }

@@ -26,8 +26,8 @@ framed_by g c b has =
     let made = with_force_e c.args.plasma.frame c.args.scales.now c.args.e.now in
     ◌∙◌ {b = made} (framed g c) (λ i. record made { force_b = has.forces i })
 
-pub with_forces-frame-requires-clause-tiled : goal.with_forces-frame-requires-clause-tiled
-with_forces-frame-requires-clause-tiled g c κs within = c.requires.can.tiled
+pub with_forces-frame-requires-clause-cut : goal.with_forces-frame-requires-clause-cut
+with_forces-frame-requires-clause-cut g c κs within = c.requires.can.cut
 
 pub with_forces-frame-requires-clause-safe : goal.with_forces-frame-requires-clause-safe
 with_forces-frame-requires-clause-safe g c κs within = c.requires.can.safe
@@ -57,7 +57,7 @@ push_tiles-requires-clause-ready g c κs within =
 pub returns-clause-pushed : goal.returns-clause-pushed
 returns-clause-pushed g c = λ b has.
     pushed_by_fields c.args.plasma c.in_ok-pushed.pushed.0 c.args.scales.now c.args.e.now b c.with_forces-frame.result _
-    c.in_ok-pushed.pushed.1 c.requires.can.tiled (framed_by g (goal.at.returns-clause-pushed g c).After-with_forces-frame b has) c.in_ok-pushed.ensures.pushed
+    c.in_ok-pushed.pushed.1 c.requires.can.cut (framed_by g (goal.at.returns-clause-pushed g c).After-with_forces-frame b has) c.in_ok-pushed.ensures.pushed
 
 -- the frame's force values push as the fields do
 tracers_share : (g : Over) (c : After-with_forces-frame g) → All (CanShare c.with_forces-frame.result.map.side (cells_of c.with_forces-frame.result.map)
@@ -83,7 +83,7 @@ returns-clause-tracers g c = λ b has.
     let is : new ≡ moved_all (felt_in f) old = c.push_tracers.ensures ∙ ap (moved_all (felt_in f)) c.deref_mut.ensures.value in
     ap (λ ts. ts.items) c.in_ok-pushed.ensures.tracers
     ∙ with_items_is p.tracers new (ap length is ∙ length-moved_all (felt_in f) old ∙ sym p.tracers.ok.0) ∙ is
-    ∙ moved_by_fields p c.args.scales.now c.args.e.now b f old c.requires.can.tiled
+    ∙ moved_by_fields p c.args.scales.now c.args.e.now b f old c.requires.can.cut
     (framed_by g (goal.at.returns-clause-tracers g c).After-with_forces-frame b has)
 
 pub returns-then-plasma-eq0-clause-tracers : goal.returns-then-plasma-eq0-clause-tracers
@@ -99,4 +99,4 @@ returns-then-plasma-eq0-clause-pushed g c = λ b has.
     let none : p.count ≡ 0 = omega (arith, c.if-plasma-eq0.true) in
     none_pushed (around_fields c.args.scales.now p.frame.kinds c.args.e.now b) p
     (subst IsMap c.map-map.ensures.value c.tiles-tiles.ensures.limits)
-    c.requires.can.tiled.cells c.requires.can.plasma none
+    c.requires.can.cut.cells c.requires.can.plasma none

@@ -17,14 +17,14 @@ of_e : (g : Over) (c : After-force_values-force_e g) → c.force_values-force_e.
     (force_of c.args.scales.now.e_force (value_at c.args.e.now))
 of_e g c =
     forced c.args.frame.map c.args.scales.now.e_force c.args.e.now c.force_values-force_e.result c.into_parts-kinds.result.1.parts
-    c.requires.tiled
+    c.requires.cut
     (ap (λ f. f.parts) c.into_parts-kinds.ensures.e ∙ c.requires.parts) c.force_values-force_e.ensures
 
 -- a frame's lattices have the cells of its map, as E has
 pub force_values-force_e-requires-clause-cells : goal.force_values-force_e-requires-clause-cells
 force_values-force_e-requires-clause-cells g c κs within =
     let had = c.into_parts-kinds.ensures.frame in
-    ap (λ f. f.cells) c.into_parts-kinds.ensures.e ∙ had.e.cells_are ∙ sym (ap (λ n. n.n) had.map_is) ∙ sym c.requires.tiled.cells
+    ap (λ f. f.cells) c.into_parts-kinds.ensures.e ∙ had.e.cells_are ∙ sym (ap (λ n. n.n) had.map_is) ∙ sym c.requires.cut.cells
 
 pub force_values-force_e-requires-clause-small : goal.force_values-force_e-requires-clause-small
 force_values-force_e-requires-clause-small g c κs within = safe_small c.args.scales.now.e_force c.args.e.now c.requires.safe
@@ -32,7 +32,7 @@ force_values-force_e-requires-clause-small g c κs within = safe_small c.args.sc
 pub new-requires-clause-e : goal.new-requires-clause-e
 new-requires-clause-e g c =
     subst (λ (m : Tiling). IsForceField (grid_of_tiling m) c.force_values-force_e.result) (sym c.map-map.ensures.value)
-    (force_field c.args.frame.map c.args.scales.now.e_force c.args.e.now c.force_values-force_e.result c.requires.tiled c.requires.safe
+    (force_field c.args.frame.map c.args.scales.now.e_force c.args.e.now c.force_values-force_e.result c.requires.cut c.requires.safe
     (of_e g (goal.at.new-requires-clause-e g c).After-force_values-force_e))
 
 pub new-requires-clause-b : goal.new-requires-clause-b

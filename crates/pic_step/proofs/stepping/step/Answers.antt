@@ -22,7 +22,7 @@ use Rattle.pic_step.specs.declared.state.State.TheInside.{Inside}
 use Rattle.pic_step.specs.declared.stepping.StepStop.{StepStop}
 use Rattle.pic_step.specs.TileFlux.{flux_in}
 use Rattle.pic_step.specs.Keeps.{Keeps}
-use Rattle.pic_step.specs.Kept.{IsCut, IsTiled, IsLayered, AreCut, IsKept, seen}
+use Rattle.pic_step.specs.Kept.{IsCut, AreCut, IsKept, seen}
 use Rattle.pic_step.specs.declared.plasma.Plasma.{Plasma}
 use Rattle.pic_step.specs.Plasma.{IsPlasma}
 use Rattle.pic_step.specs.Halved.{forced_by}
@@ -53,25 +53,25 @@ abbrev Keeping : Inside → Type 0
 Keeping k = IsKept k.step k.loops k.scales k.e k.b k.plasma
 
 -- no value of E or B is too large, and none of a lattice on their cells whose values are safe
-small : {parts : Triple} (k : Inside) (by : Multiplier) (f : Field) → IsCut (tiles_map k) parts f → IsSafe by (whole (tiles_map k) f.values)
+small : (k : Inside) (by : Multiplier) (f : Field) → IsCut (tiles_map k) f → IsSafe by (whole (tiles_map k) f.values)
     → EachAtMost most_value f
 small k by f cut safe = safe_small by f (safe_parts (tiles_map k) by f cut safe)
 
 e_small : (k : Inside) → Keeping k → EachAtMost most_value k.e
-e_small k keeps = small k k.scales.e_force k.e keeps.tiled.of_e keeps.sound.e
+e_small k keeps = small k k.scales.e_force k.e keeps.cut.of_e keeps.sound.e
 
--- B between both half steps, cut into layers as B is,
+-- B between both half steps, cut as B is,
 abbrev mid : Inside → Field
 mid k = between k.scales k.e k.b
 
-mid_layered : (k : Inside) → Keeping k → IsLayered (tiles_map k) (mid k)
-mid_layered k keeps = record { cells = keeps.tiled.of_e.cells; side = keeps.tiled.of_e.side; parts = keeps.tiled.of_b.parts }
+mid_cut : (k : Inside) → Keeping k → IsCut (tiles_map k) (mid k)
+mid_cut k keeps = record { cells = keeps.cut.of_e.cells; side = keeps.cut.of_e.side; parts = keeps.cut.of_b.parts }
 
 half : (g : Over) (c : In_ok-b g) → IsHalf (world c.state.inside) (mid c.state.inside).values
 half g c =
     let k = c.state.inside in
-    let tiled = c.state.invariant.tiled in
-    is_half (world k) (mid k).values (half_one Half1 (tiles_map k) k.scales k.e k.b (Ok (mid k)) tiled.of_e tiled.of_b c.in_ok-b.ensures.0)
+    let cut = c.state.invariant.cut in
+    is_half (world k) (mid k).values (half_one Half1 (tiles_map k) k.scales k.e k.b (Ok (mid k)) cut.of_e cut.of_b c.in_ok-b.ensures.0)
 
 -- and the particles with its force values
 abbrev ready : Inside → Plasma
@@ -79,7 +79,7 @@ ready k = record k.plasma { frame = forced_by k.scales (mid k) k.plasma.frame }
 
 mid_forces : (k : Inside) → Keeping k → HasForces k.scales (mid k) (ready k).frame
 mid_forces k keeps =
-    let l = mid_layered k keeps in
+    let l = mid_cut k keeps in
     record { forces = λ i. field_of (l.side i) (l.cells i) (l.parts i) (force_of k.scales.b_force (value_at (mid k))) }
 
 abbrev push_around : Inside → Surroundings
@@ -108,8 +108,8 @@ pushed : (g : Over) (c : In_ok-pushed g) → IsHalf (world c.state.inside) (mid 
 pushed g c first =
     let k = c.state.inside in
     let q = c.in_ok-pushed.pushed.0 in
-    pushed_on (world k) k.e (mid k) q.frame.map q.tiles.items c.in_ok-pushed.pushed.1 (whole_is (tiles_map k) k.e c.state.invariant.tiled.of_e)
-    (whole_is (tiles_map k) (mid k) (mid_layered k c.state.invariant)) first (has_pushed g c).pushed
+    pushed_on (world k) k.e (mid k) q.frame.map q.tiles.items c.in_ok-pushed.pushed.1 (whole_is (tiles_map k) k.e c.state.invariant.cut.of_e)
+    (whole_is (tiles_map k) (mid k) (mid_cut k c.state.invariant)) first (has_pushed g c).pushed
 
 unstopped : (g : Over) (c : In-None g) → ArePushed (around (half_on (world c.state.inside))) c.in_ok-pushed.pushed.0.frame.map
     (world c.state.inside).particles c.in_ok-pushed.pushed.0.tiles.items c.in_ok-pushed.pushed.1
@@ -129,12 +129,12 @@ before : (g : Over) (c : In-None-late g) → IsHalf (world c.state.inside) (mid 
 before g c first =
     let k = c.state.inside in
     is_before (world k) c.in_ok-b.field-0.b.values (second_half (world k) (mid k).values (Ok c.in_ok-b.field-0.b.values) first
-    (half_one Half2 (tiles_map k) k.scales k.e (mid k) (Ok c.in_ok-b.field-0.b) c.state.invariant.tiled.of_e (mid_layered k c.state.invariant) (second g c)))
+    (half_one Half2 (tiles_map k) k.scales k.e (mid k) (Ok c.in_ok-b.field-0.b) c.state.invariant.cut.of_e (mid_cut k c.state.invariant) (second g c)))
 
-before_layered : (g : Over) (c : In-None-late g) → IsLayered (tiles_map c.state.inside) c.in_ok-b.field-0.b
-before_layered g c =
+before_cut : (g : Over) (c : In-None-late g) → IsCut (tiles_map c.state.inside) c.in_ok-b.field-0.b
+before_cut g c =
     let k = c.state.inside in
-    cut_after (tiles_map k) k.e (mid k) c.in_ok-b.field-0.b _ c.state.invariant.tiled.of_e (mid_layered k c.state.invariant) (second g c).0
+    cut_after (tiles_map k) k.e (mid k) c.in_ok-b.field-0.b _ c.state.invariant.cut.of_e (mid_cut k c.state.invariant) (second g c).0
 
 -- E with the current of the loops
 raised : (g : Over) (c : After-raise_e g) → c.raise_e.new.e ≡ plus c.state.inside.e (curl_b c.state.inside.e.cells (drive_of (world c.state.inside)))
@@ -142,16 +142,16 @@ raised g c =
     let k = c.state.inside in
     c.raise_e.ensures.values ∙ ap (λ (ls : List Loop). plus k.e (curl_b k.e.cells (driven ls k.step))) c.as_slice.ensures
 
-raised_tiled : (g : Over) (c : After-raise_e g) → IsTiled (tiles_map c.state.inside) c.raise_e.new.e
-raised_tiled g c =
+raised_cut : (g : Over) (c : After-raise_e g) → IsCut (tiles_map c.state.inside) c.raise_e.new.e
+raised_cut g c =
     let k = c.state.inside in
-    plus_cut (tiles_map k) k.e c.raise_e.new.e (curl_b k.e.cells (drive_of (world k))) c.state.invariant.tiled.of_e (raised g c)
+    plus_cut (tiles_map k) k.e c.raise_e.new.e (curl_b k.e.cells (drive_of (world k))) c.state.invariant.cut.of_e (raised g c)
 
 pub raise_e-requires-clause-loops : goal.raise_e-requires-clause-loops
 raise_e-requires-clause-loops g c =
     let k = c.state.inside in
     subst (λ (ls : List Loop). AreLoops k.e.cells most_loops ls) (sym c.as_slice.ensures)
-    (subst (λ (n : Triple). AreLoops n most_loops k.loops) (sym c.state.invariant.tiled.of_e.cells) c.state.invariant.sound.loops)
+    (subst (λ (n : Triple). AreLoops n most_loops k.loops) (sym c.state.invariant.cut.of_e.cells) c.state.invariant.sound.loops)
 
 pub raise_e-requires-clause-small : goal.raise_e-requires-clause-small
 raise_e-requires-clause-small g c = e_small c.state.inside c.state.invariant
@@ -165,7 +165,7 @@ after : (g : Over) (c : In-Ok g) → IsHalf (world c.state.inside) (mid c.state.
     → HasPushed (push_around c.state.inside) (ready c.state.inside) c.in_ok-pushed.pushed.0 c.in_ok-pushed.pushed.1
     → ArePushed (around (half_on (world c.state.inside))) c.in_ok-pushed.pushed.0.frame.map (world c.state.inside).particles
     c.in_ok-pushed.pushed.0.tiles.items None
-    → IsLayered (tiles_map c.state.inside) c.in_ok-b.field-0.b → IsBefore (world c.state.inside) c.in_ok-b.field-0.b.values
+    → IsCut (tiles_map c.state.inside) c.in_ok-b.field-0.b → IsBefore (world c.state.inside) c.in_ok-b.field-0.b.values
     → c.raise_e.new.e ≡ plus c.state.inside.e (curl_b c.state.inside.e.cells (drive_of (world c.state.inside)))
     → IsAfter (world c.state.inside) c.in-Ok.e.values c.in_ok-b.field-0.b.values (all_particles c.advance_e-e.result.1.tiles.items)
 after g c first moved free of_b second driven_e =
@@ -177,7 +177,7 @@ after g c first moved free of_b second driven_e =
     (by_filter (world k) b.values q.frame.map q.tiles.items (Ok c.in-Ok.e.values) (filter_in q.smooth) b.cells
     (ap filter_in moved.smooth) of_b.cells
     (driven_one (tiles_map k) k.scales b k.e c.raise_e.new.e (drive_of (world k)) (left_flux b q) _ (Ok c.in-Ok.e) c.in-Ok.is
-    of_b c.state.invariant.tiled.of_e driven_e c.advance_e-e.ensures.fields))
+    of_b c.state.invariant.cut.of_e driven_e c.advance_e-e.ensures.fields))
 
 -- the state after the step, by its parts
 next : (g : Over) (c : In-Ok g) → HasPushed (push_around c.state.inside) (ready c.state.inside) c.in_ok-pushed.pushed.0 c.in_ok-pushed.pushed.1
@@ -198,11 +198,11 @@ pub returns-in_err-b-clause-steps : goal.returns-in_err-b-clause-steps
 returns-in_err-b-clause-steps g c =
     let k = c.state.inside in
     let w = world k in
-    let tiled = c.state.invariant.tiled in
+    let cut = c.state.invariant.cut in
     let exit = err_from_is_err_and c.from_residual.result c.from_residual.ensures.1 in
     subst (λ (r : Result StateView StepStop). Steps c.args.state.world r) (sym (exit.1 ∙ ap Err exit.2))
     (ap (λ (v : StateView). stepped v.world) (sym c.state.view_is)
-    ∙ stops_first w _ (half_one Half1 (tiles_map k) k.scales k.e k.b (Err _) tiled.of_e tiled.of_b c.in_err-b.ensures))
+    ∙ stops_first w _ (half_one Half1 (tiles_map k) k.scales k.e k.b (Err _) cut.of_e cut.of_b c.in_err-b.ensures))
 
 pub of-workers-requires-clause-some : goal.of-workers-requires-clause-some
 of-workers-requires-clause-some g c = c.requires.some
@@ -211,7 +211,7 @@ pub of-workers-requires-clause-most : goal.of-workers-requires-clause-most
 of-workers-requires-clause-most g c = c.requires.most
 
 pub halve_b-requires-clause-cut : goal.halve_b-requires-clause-cut
-halve_b-requires-clause-cut g c κs within = c.state.invariant.tiled
+halve_b-requires-clause-cut g c κs within = c.state.invariant.cut
 
 pub halve_b-requires-clause-parts : goal.halve_b-requires-clause-parts
 halve_b-requires-clause-parts g c κs within = c.state.invariant.plasma.parts
@@ -221,7 +221,7 @@ halve_b-requires-clause-e_small g c κs within = e_small c.state.inside c.state.
 
 pub halve_b-requires-clause-b_small : goal.halve_b-requires-clause-b_small
 halve_b-requires-clause-b_small g c κs within =
-    let k = c.state.inside in small k k.scales.b_force k.b c.state.invariant.tiled.of_b c.state.invariant.sound.b
+    let k = c.state.inside in small k k.scales.b_force k.b c.state.invariant.cut.of_b c.state.invariant.sound.b
 
 pub push_phase-requires-clause-can : goal.push_phase-requires-clause-can
 push_phase-requires-clause-can g c κs within =
@@ -251,32 +251,27 @@ returns-in-Some-late-clause-steps g c =
     subst (λ (o : Option Stop). HalfStep Half2 k.scales k.e (mid k) (unless o c.in_ok-b.field-0.b)) c.in-Some-late.is c.in_ok-b.ensures.2 in
     ap (λ (v : StateView). stepped v.world) (sym c.state.view_is)
     ∙ stops_second w _ first.none (sym free.stop_is) (second_half w (mid k).values (Err _) first
-    (half_one Half2 (tiles_map k) k.scales k.e (mid k) (Err _) c.state.invariant.tiled.of_e (mid_layered k c.state.invariant) stop))
+    (half_one Half2 (tiles_map k) k.scales k.e (mid k) (Err _) c.state.invariant.cut.of_e (mid_cut k c.state.invariant) stop))
 
 pub advance_e-e-requires-clause-flux : goal.advance_e-e-requires-clause-flux
 advance_e-e-requires-clause-flux g c κs within = (has_pushed g (goal.at.advance_e-e-requires-clause-flux g c).In_ok-pushed).flux
 
--- E takes its step on the cells and the tiles of the map
+-- E takes its step on the cells of the map
 pub advance_e-e-requires-clause-b_cells : goal.advance_e-e-requires-clause-b_cells
 advance_e-e-requires-clause-b_cells g c κs within =
     let at = goal.at.advance_e-e-requires-clause-b_cells g c in
-    (before_layered g at.In-None-late).cells ∙ sym (ap cells_of (has_pushed g at.In_ok-pushed).map)
+    (before_cut g at.In-None-late).cells ∙ sym (ap cells_of (has_pushed g at.In_ok-pushed).map)
 
 pub advance_e-e-requires-clause-e_cells : goal.advance_e-e-requires-clause-e_cells
 advance_e-e-requires-clause-e_cells g c κs within =
     let at = goal.at.advance_e-e-requires-clause-e_cells g c in
-    (raised_tiled g at.After-raise_e).cells ∙ sym (ap cells_of (has_pushed g at.In_ok-pushed).map)
-
-pub advance_e-e-requires-clause-parts : goal.advance_e-e-requires-clause-parts
-advance_e-e-requires-clause-parts g c κs within =
-    let at = goal.at.advance_e-e-requires-clause-parts g c in
-    (raised_tiled g at.After-raise_e).parts ∙ sym (ap (λ (m : Tiling). m.tiles) (has_pushed g at.In_ok-pushed).map)
+    (raised_cut g at.After-raise_e).cells ∙ sym (ap cells_of (has_pushed g at.In_ok-pushed).map)
 
 pub advance_e-e-requires-clause-b_small : goal.advance_e-e-requires-clause-b_small
 advance_e-e-requires-clause-b_small g c κs within =
     let k = c.state.inside in
     let at = goal.at.advance_e-e-requires-clause-b_small g c in
-    small k k.scales.b_force c.in_ok-b.field-0.b (before_layered g at.In-None-late)
+    small k k.scales.b_force c.in_ok-b.field-0.b (before_cut g at.In-None-late)
     (before_safe (world k) c.in_ok-b.field-0.b.values (before g at.In-None-late (half g at.In_ok-b)))
 
 pub advance_e-e-requires-clause-e_small : goal.advance_e-e-requires-clause-e_small
@@ -291,7 +286,7 @@ returns-in-Err-clause-steps g c =
     let at = goal.at.returns-in-Err-clause-steps g c in
     let first = half g at.In_ok-b in
     let free = unstopped g at.In-None (pushed g at.In_ok-pushed first) in
-    let of_b = before_layered g at.In-None-late in
+    let of_b = before_cut g at.In-None-late in
     let late = before g at.In-None-late first in
     ap (λ (v : StateView). stepped v.world) (sym c.state.view_is)
     ∙ stops_last w _ first.none (sym free.stop_is) late.none
@@ -299,7 +294,7 @@ returns-in-Err-clause-steps g c =
     (by_filter w b.values q.frame.map q.tiles.items (Err _) (filter_in q.smooth) b.cells
     (ap filter_in (has_pushed g at.In_ok-pushed).smooth) of_b.cells
     (driven_one (tiles_map k) k.scales b k.e c.raise_e.new.e (drive_of w) (left_flux b q) _ (Err _) c.in-Err.is of_b
-    c.state.invariant.tiled.of_e (raised g at.After-raise_e) c.advance_e-e.ensures.fields)))
+    c.state.invariant.cut.of_e (raised g at.After-raise_e) c.advance_e-e.ensures.fields)))
 
 -- the step isn't the last that a run may have
 early : (g : Over) (c : In-Ok g) → c.state.inside.step < most_steps
@@ -315,14 +310,14 @@ invariant_of-result g c =
     let first = half g at.In_ok-b in
     let moved = has_pushed g at.In_ok-pushed in
     let free = unstopped g at.In-None (pushed g at.In_ok-pushed first) in
-    let of_b = before_layered g at.In-None-late in
+    let of_b = before_cut g at.In-None-late in
     let same : tiles_map k ≡ q.frame.map = sym (ap (λ f. f.map) c.advance_e-e.ensures.frame ∙ moved.map) in
     record {
       sound = subst IsSound (next g at.In-Ok moved)
           (sound_after w c.in-Ok.e.values b.values _ c.state.invariant.sound (early g at.In-Ok)
           (after g at.In-Ok first moved free of_b (before g at.In-None-late first) (raised g at.After-raise_e)));
-      tiled = subst (λ (m : Tiling). AreCut m c.in-Ok.e b) same (record {
-        of_e = cut_after (tiles_map k) b c.raise_e.new.e c.in-Ok.e _ of_b (raised_tiled g at.After-raise_e)
+      cut = subst (λ (m : Tiling). AreCut m c.in-Ok.e b) same (record {
+        of_e = cut_after (tiles_map k) b c.raise_e.new.e c.in-Ok.e _ of_b (raised_cut g at.After-raise_e)
             (advanced_is Electric k.scales.e_force _ _ _ _ _ c.in-Ok.e c.in-Ok.is c.advance_e-e.ensures.fields);
         of_b = of_b;
       });
@@ -342,7 +337,7 @@ returns-clause-steps g c =
     let free = unstopped g at.In-None (pushed g at.In_ok-pushed first) in
     ap (λ (v : StateView). stepped v.world) (sym c.state.view_is)
     ∙ stepped_after w c.in-Ok.e.values c.in_ok-b.field-0.b.values _
-    (after g at.In-Ok first moved free (before_layered g at.In-None-late) (before g at.In-None-late first) (raised g at.After-raise_e))
+    (after g at.In-Ok first moved free (before_cut g at.In-None-late) (before g at.In-None-late first) (raised g at.After-raise_e))
     ∙ ap (λ (v : World). Ok v) (next g at.In-Ok moved)
 
 pub returns-clause-keeps : goal.returns-clause-keeps
@@ -354,7 +349,7 @@ returns-clause-keeps g c =
     let first = half g at.In_ok-b in
     let moved = has_pushed g at.In_ok-pushed in
     let free = unstopped g at.In-None (pushed g at.In_ok-pushed first) in
-    let after' = after g at.In-Ok first moved free (before_layered g at.In-None-late) (before g at.In-None-late first) (raised g at.After-raise_e) in
+    let after' = after g at.In-Ok first moved free (before_cut g at.In-None-late) (before g at.In-None-late first) (raised g at.After-raise_e) in
     subst (λ (v : StateView). Keeps v.world (seen (k.step + 1) k.loops k.scales c.in-Ok.e b c.advance_e-e.result.1)) c.state.view_is
     (subst (Keeps w) (next g at.In-Ok moved) (keeps_after w c.in-Ok.e.values b.values _ c.state.invariant.sound after'))
 

@@ -4,12 +4,12 @@ use Rattle.std.specs.Vec.{with_items}
 use Rattle.std.proofs.lemmas.List.{with_items_is}
 use Rattle.std.proofs.Math.IntN.{pos}
 use Rattle.pic_num.specs.declared.axis.Axis.{Axis}
-use Rattle.pic_num.specs.Space.{Triple, triple}
+use Rattle.pic_num.specs.Space.{Triple}
 use Rattle.pic_grid.specs.declared.stop.Phase.TheVariants.{Electric}
 use Rattle.pic_grid.specs.Block.{BlockValues}
 use Rattle.pic_grid.specs.Cells.{IsWithin, count_of}
 use Rattle.pic_grid.specs.Lattice.{Field, IsParts, EachAtMost, value_at, field_of}
-use Rattle.pic_grid.specs.Parts.{ArePartsOf, joined}
+use Rattle.pic_grid.specs.Parts.{joined}
 use Rattle.pic_filter.specs.Smoothing.{filtered, filter_in, most_to_smooth}
 use Rattle.pic_filter.proofs.FilteredLaws.{filtered_same}
 use Rattle.pic_filter.proofs.SameLaws.{AreSame}
@@ -17,12 +17,12 @@ use Rattle.pic_field.specs.FieldPhases.{full_of, no_drive}
 use Rattle.pic_tile.specs.CoreState.{all_particles}
 use Rattle.pic_tile.specs.Directions.{here}
 use Rattle.pic_tile.specs.Tile.{TileValue, parcel_at, tile_in}
-use Rattle.pic_tile.specs.Tiling.{IsMap, cells_of}
+use Rattle.pic_tile.specs.Tiling.{Tiling, IsMap, cells_of, grid_of_tiling}
 use Rattle.pic_advance.specs.Current.{LiesOn}
 use Rattle.pic_advance.proofs.TakenLaws.{HasBlocks, has_blocks, given_back}
 use Rattle.pic_step.specs.TileFlux.{AreSwapped, AreSpent, flux_in}
 use Rattle.pic_advance.proofs.SamePhaseLaws.{advances_same}
-use Rattle.pic_step.proofs.PlasmaLaws.{particles_kept, ready_again}
+use Rattle.pic_step.proofs.PlasmaLaws.{parts_of_map, particles_kept, ready_again}
 use Rattle.pic_step.proofs.SwapLaws.{flux_zones, flux_is, flux_small, still_there, swapped_back}
 use Rattle.pic_step.proofs.plasma.Plasma.advance_e.Given.{Over}
 use Rattle.pic_step.proofs.plasma.Plasma.advance_e.Goals as goal
@@ -38,19 +38,18 @@ out g c =
     (subst (λ (ts : List TileValue). AreSwapped ts new.tiles c.deref_mut-2.result.now new.blocks) c.deref_mut.ensures.value c.swap_each_flux.ensures)
 
 map_is : (g : Over) (c : After-swap_each_flux g) → IsMap c.args.self.frame.map
-map_is g c = subst IsMap c.map-map.ensures.value c.tiles-tiles.ensures.limits
+map_is g c = subst IsMap c.map-map.ensures.value c.tiles-parts.ensures.limits
 
 -- and is the lattice of the current
 current_is : (g : Over) (c : After-of_blocks-flux g) → length c.swap_each_flux.new.blocks ≡ length c.args.self.spare.items
-    → c.of_blocks-flux.result
-    ≡ joined (record { n = cells_of c.args.self.frame.map; side = c.args.e.side }) c.args.self.frame.map.tiles c.swap_each_flux.new.blocks
+    → c.of_blocks-flux.result ≡ joined (grid_of_tiling c.args.self.frame.map) c.args.self.frame.map.tiles c.swap_each_flux.new.blocks
 current_is g c beside =
     let p = c.args.self in
-    let js = c.swap_each_flux.new.blocks in
-    let cells : c.cells-cells.result.n ≡ cells_of p.frame.map = c.cells-cells.ensures.value ∙ c.requires.e_cells in
-    let parts : triple c.parts-parts.result ≡ p.frame.map.tiles = c.parts-parts.ensures.value ∙ c.requires.parts in
-    let items = given_back p.spare.len js p.spare.items p.spare.ok.0 beside in
-    c.of_blocks-flux.ensures ∙ (λ i. joined (record { n = cells i; side = c.cells-cells.ensures.side i }) (parts i) (items i))
+    let map = c.map-map.ensures.value in
+    let cells = c.cells-cells.ensures ∙ ap grid_of_tiling map in
+    let parts = c.tiles-parts.ensures.value ∙ ap (λ (m : Tiling). m.tiles) map in
+    let items = given_back p.spare.len c.swap_each_flux.new.blocks p.spare.items p.spare.ok.0 beside in
+    c.of_blocks-flux.ensures ∙ (λ i. joined (cells i) (parts i) (items i))
 
 pub swap_each_flux-requires-clause-long : goal.swap_each_flux-requires-clause-long
 swap_each_flux-requires-clause-long g c =
@@ -65,18 +64,17 @@ swap_each_flux-requires-clause-there g c =
     let count = had.numbered.count in
     (had.ready i (omega (arith, below, count))).whole here (omega arith))
 
+pub of_blocks-flux-requires-clause-parts : goal.of_blocks-flux-requires-clause-parts
+of_blocks-flux-requires-clause-parts g c = rw (c.cells-cells.ensures, c.tiles-parts.ensures.value) (parts_of_map _ c.tiles-parts.ensures.limits)
+
 pub of_blocks-flux-requires-clause-zones : goal.of_blocks-flux-requires-clause-zones
 of_blocks-flux-requires-clause-zones g c =
     let p = c.args.self in
     let at = (goal.at.of_blocks-flux-requires-clause-zones g c).After-swap_each_flux in
     let js = c.swap_each_flux.new.blocks in
-    let cells : c.cells-cells.result.n ≡ cells_of p.frame.map = c.cells-cells.ensures.value ∙ c.requires.e_cells in
-    let parts : triple c.parts-parts.result ≡ p.frame.map.tiles = c.parts-parts.ensures.value ∙ c.requires.parts in
     let items = given_back p.spare.len js p.spare.items p.spare.ok.0 (out g at).beside in
-    subst (λ bs. ArePartsOf c.cells-cells.result.n (triple c.parts-parts.result) bs) (sym items)
-    (subst (λ (n : Triple). ArePartsOf n (triple c.parts-parts.result) js) (sym cells)
-    (subst (λ (t : Triple). ArePartsOf (cells_of p.frame.map) t js) (sym parts)
-    (flux_zones p.frame.map p.tiles.items c.swap_each_flux.new.tiles p.spare.items js (map_is g at) c.requires.flux.received (out g at) c.requires.flux.spare)))
+    rw (items, c.cells-cells.ensures, c.tiles-parts.ensures.value, c.map-map.ensures.value)
+    (flux_zones p.frame.map p.tiles.items c.swap_each_flux.new.tiles p.spare.items js (map_is g at) c.requires.flux.received (out g at) c.requires.flux.spare)
 
 pub drive_e-e-requires-clause-cells : goal.drive_e-e-requires-clause-cells
 drive_e-e-requires-clause-cells g c κs within = c.requires.e_cells ∙ sym c.requires.b_cells
@@ -90,15 +88,13 @@ drive_e-e-requires-clause-e_small g c κs within = c.requires.e_small
 pub drive_e-e-requires-clause-flux : goal.drive_e-e-requires-clause-flux
 drive_e-e-requires-clause-flux g c κs within =
     let at = goal.at.drive_e-e-requires-clause-flux g c in
-    let is = current_is g at.After-of_blocks-flux (out g at.After-swap_each_flux).beside in
-    record {
-      cells = ap (λ (f : Field). f.cells) is ∙ sym c.requires.b_cells;
-      parts = ap (λ (f : Field). f.parts) is ∙ sym c.requires.parts;
-    }
+    ap (λ (f : Field). f.cells) (current_is g at.After-of_blocks-flux (out g at.After-swap_each_flux).beside) ∙ sym c.requires.b_cells
 
 pub drive_e-e-requires-clause-smooth : goal.drive_e-e-requires-clause-smooth
 drive_e-e-requires-clause-smooth g c κs within =
-    subst (λ (t : Triple). IfSome c.args.self.smooth (LiesOn c.args.b.now.cells t)) (sym c.requires.parts)
+    let at = goal.at.drive_e-e-requires-clause-smooth g c in
+    let is = current_is g at.After-of_blocks-flux (out g at.After-swap_each_flux).beside in
+    subst (λ (t : Triple). IfSome c.args.self.smooth (LiesOn c.args.b.now.cells t)) (sym (ap (λ (f : Field). f.parts) is))
     (subst (λ (n : Triple). IfSome c.args.self.smooth (LiesOn n c.args.self.frame.map.tiles)) (sym c.requires.b_cells) c.requires.flux.smooth)
 
 pub drive_e-e-requires-clause-flux_small : goal.drive_e-e-requires-clause-flux_small
@@ -107,7 +103,7 @@ drive_e-e-requires-clause-flux_small g c κs within =
     let at = goal.at.drive_e-e-requires-clause-flux_small g c in
     let one = out g at.After-swap_each_flux in
     let small = flux_small p.frame.map p.tiles.items c.swap_each_flux.new.tiles p.spare.items c.swap_each_flux.new.blocks (map_is g at.After-swap_each_flux)
-    c.requires.flux.received one c.requires.flux.spare c.args.e.side in
+    c.requires.flux.received one c.requires.flux.spare c.args.self.frame.map.side in
     subst (EachAtMost most_to_smooth) (sym (current_is g at.After-of_blocks-flux one.beside)) (record {
       at_most = λ a q inside. let h = small.at_most a q inside in record { size = omega (arith, h.size) };
     })
@@ -117,27 +113,26 @@ tiles_out : (g : Over) (c : After-swap_each_flux g) → (with_items c.args.self.
 tiles_out g c = with_items_is c.args.self.tiles c.swap_each_flux.new.tiles ((out g c).long ∙ sym c.args.self.tiles.ok.0)
 
 -- the blocks that come back are zeros over the tiles,
-blank_is : (g : Over) (c : After-drive_e-e g) → c.of_blocks-flux.result
-    ≡ joined (record { n = cells_of c.args.self.frame.map; side = c.args.e.side }) c.args.self.frame.map.tiles c.swap_each_flux.new.blocks
-    → c.drive_e-e.result.1.flux ≡ field_of c.args.e.side (cells_of c.args.self.frame.map) c.args.self.frame.map.tiles (λ a p. pos 0)
+abbrev blank : Tiling → Field
+blank m = field_of m.side (cells_of m) m.tiles (λ a p. pos 0)
+
+blank_is : (g : Over) (c : After-drive_e-e g)
+    → c.of_blocks-flux.result ≡ joined (grid_of_tiling c.args.self.frame.map) c.args.self.frame.map.tiles c.swap_each_flux.new.blocks
+    → c.drive_e-e.result.1.flux ≡ blank c.args.self.frame.map
 blank_is g c is =
     c.drive_e-e.ensures.cleared
     ∙ (λ i. field_of (ap (λ (f : Field). f.side) is i) (ap (λ (f : Field). f.cells) is i) (ap (λ (f : Field). f.parts) is i) (λ a p. pos 0))
 
-has_back : (g : Over) (c : After-into_blocks-spare g) → IsMap c.args.self.frame.map
-    → c.drive_e-e.result.1.flux ≡ field_of c.args.e.side (cells_of c.args.self.frame.map) c.args.self.frame.map.tiles (λ a p. pos 0)
+has_back : (g : Over) (c : After-into_blocks-spare g) → IsMap c.args.self.frame.map → c.drive_e-e.result.1.flux ≡ blank c.args.self.frame.map
     → HasBlocks (cells_of c.args.self.frame.map) c.drive_e-e.result.1.flux c.into_blocks-spare.result.items
 has_back g c map is =
     let m = c.args.self.frame.map in
-    let cells : c.drive_e-e.result.1.flux.cells ≡ cells_of m = ap (λ (f : Field). f.cells) is in
-    let parts : IsParts c.drive_e-e.result.1.flux.cells c.drive_e-e.result.1.flux.parts =
-    subst (λ (n : Triple). IsParts n c.drive_e-e.result.1.flux.parts) (c.requires.e_cells ∙ sym cells)
-    (subst (λ (t : Triple). IsParts c.args.e.cells t) (c.requires.parts ∙ sym (ap (λ (f : Field). f.parts) is)) c.parts-parts.ensures.limits) in
-    has_blocks (cells_of m) c.drive_e-e.result.1.flux c.into_blocks-spare.result.items cells map.cells parts
+    let flux = c.drive_e-e.result.1.flux in
+    has_blocks (cells_of m) flux c.into_blocks-spare.result.items (ap (λ (f : Field). f.cells) is) map.cells
+    (subst (λ (f : Field). IsParts f.cells f.parts) (sym is) (parts_of_map m map))
     c.into_blocks-spare.ensures.zones c.into_blocks-spare.ensures.values
 
-back_count : (g : Over) (c : After-into_blocks-spare g)
-    → c.drive_e-e.result.1.flux ≡ field_of c.args.e.side (cells_of c.args.self.frame.map) c.args.self.frame.map.tiles (λ a p. pos 0)
+back_count : (g : Over) (c : After-into_blocks-spare g) → c.drive_e-e.result.1.flux ≡ blank c.args.self.frame.map
     → HasBlocks (cells_of c.args.self.frame.map) c.drive_e-e.result.1.flux c.into_blocks-spare.result.items
     → length c.into_blocks-spare.result.items ≡ count_of c.args.self.frame.map.tiles
 back_count g c is h = h.zones.count ∙ ap (λ (f : Field). count_of f.parts) is
@@ -190,7 +185,7 @@ returns-clause-particles g c =
     let two = back g at.After-swap_each_flux-2 (tiles_out g at.After-swap_each_flux) in
     ap all_particles (tiles_back g at.After-swap_each_flux-2 (two.long ∙ one.long))
     ∙ particles_kept p.frame.map p.tiles.items c.swap_each_flux-2.new.tiles c.requires.flux.received.numbered.count
-    (swapped_back p.frame.map _ _ _ _ _ _ _ _ c.args.e.side map c.requires.flux.received one two h is)
+    (swapped_back p.frame.map _ _ _ _ _ _ _ _ p.frame.map.side map c.requires.flux.received one two h is)
 
 pub returns-clause-plasma : goal.returns-clause-plasma
 returns-clause-plasma g c =
@@ -198,7 +193,8 @@ returns-clause-plasma g c =
     let at = goal.at.returns-clause-plasma g c in
     let one = out g at.After-swap_each_flux in
     let map = map_is g at.After-swap_each_flux in
-    let is = blank_is g at.After-drive_e-e (current_is g at.After-of_blocks-flux one.beside) in
+    let current = current_is g at.After-of_blocks-flux one.beside in
+    let is = blank_is g at.After-drive_e-e current in
     let h = has_back g at.After-into_blocks-spare map is in
     let two = back g at.After-swap_each_flux-2 (tiles_out g at.After-swap_each_flux) in
     let items = tiles_back g at.After-swap_each_flux-2 (two.long ∙ one.long) in
@@ -209,11 +205,11 @@ returns-clause-plasma g c =
     ∙ two.beside ∙ back_count g at.After-into_blocks-spare is h ∙ sym c.requires.flux.spare in
     let smooth = c.drive_e-e.result.1.smooth in
     let back_smooth : IfSome smooth (LiesOn (cells_of p.frame.map) p.frame.map.tiles) =
-    subst (λ (t : Triple). IfSome smooth (LiesOn (cells_of p.frame.map) t)) c.requires.parts
-    (subst (λ (n : Triple). IfSome smooth (LiesOn n c.args.e.parts)) c.requires.b_cells c.drive_e-e.ensures.smooth) in
+    subst (λ (t : Triple). IfSome smooth (LiesOn (cells_of p.frame.map) t)) (ap (λ (f : Field). f.parts) current)
+    (subst (λ (n : Triple). IfSome smooth (LiesOn n c.of_blocks-flux.result.parts)) c.requires.b_cells c.drive_e-e.ensures.smooth) in
     ready_again p (record p { tiles = tiles; spare = blocks; smooth = smooth }) c.requires.flux refl refl long back_smooth refl
     (subst (AreSpent p.frame.map p.tiles.items) (sym items)
-    (swapped_back p.frame.map _ _ _ _ _ _ _ _ c.args.e.side map c.requires.flux.received one two h is))
+    (swapped_back p.frame.map _ _ _ _ _ _ _ _ p.frame.map.side map c.requires.flux.received one two h is))
 
 pub returns-clause-fields : goal.returns-clause-fields
 returns-clause-fields g c =
@@ -228,7 +224,7 @@ returns-clause-fields g c =
     let same : (a : Axis) → AreSame b.cells (value_at c.of_blocks-flux.result a) (flux_in m p.tiles.items a) = λ a q within.
     ap (λ (f : Field). value_at f a q) is
     ∙ flux_is m p.tiles.items c.swap_each_flux.new.tiles p.spare.items c.swap_each_flux.new.blocks (map_is g at.After-swap_each_flux)
-    c.requires.flux.received one c.requires.flux.spare e.side a q (subst (IsWithin q) c.requires.b_cells within) in
+    c.requires.flux.received one c.requires.flux.spare m.side a q (subst (IsWithin q) c.requires.b_cells within) in
     let filter = filter_in p.smooth in
     advances_same Electric s.e_force b.side b.cells e.parts
     (λ a q. full_of s b no_drive a q (value_at e a q) (filtered filter b.cells (value_at c.of_blocks-flux.result a) q))

@@ -6,18 +6,18 @@ use Rattle.pic_step.proofs.StartLaws.{cut_as}
 use Rattle.pic_step.proofs.start.Start.from_frame.Goals as goal
 
 pub copy_from-requires : goal.copy_from-requires
-copy_from-requires c = c.in_ok-e.ensures.cells ∙ sym c.requires.e_cells
+copy_from-requires c = c.in_ok-e.ensures.cut.cells ∙ sym c.requires.e_cells
 
 pub copy_from-requires-2 : goal.copy_from-requires-2
-copy_from-requires-2 c = c.in_ok-b.ensures.layered.cells ∙ sym c.requires.b_cells
+copy_from-requires-2 c = c.in_ok-b.ensures.cut.cells ∙ sym c.requires.b_cells
 
 pub returns-clause-map : goal.returns-clause-map
 returns-clause-map c = refl
 
-pub returns-clause-tiled : goal.returns-clause-tiled
-returns-clause-tiled c = record {
-  of_e = cut_as c.args.setup.now.map c.in_ok-e.e c.args.frame.now.e c.copy_from.new.self c.in_ok-e.ensures c.requires.e_cells c.copy_from.ensures;
-  of_b = cut_as c.args.setup.now.map c.in_ok-b.b c.args.frame.now.b c.copy_from-2.new.self c.in_ok-b.ensures.layered c.requires.b_cells
+pub returns-clause-cut : goal.returns-clause-cut
+returns-clause-cut c = record {
+  of_e = cut_as c.args.setup.now.map c.in_ok-e.e c.args.frame.now.e c.copy_from.new.self c.in_ok-e.ensures.cut c.requires.e_cells c.copy_from.ensures;
+  of_b = cut_as c.args.setup.now.map c.in_ok-b.b c.args.frame.now.b c.copy_from-2.new.self c.in_ok-b.ensures.cut c.requires.b_cells
       c.copy_from-2.ensures;
 }
 

@@ -38,7 +38,7 @@ returns-clause-world c =
     let s = c.args.start in
     let p = c.in_ok-plasma.plasma in
     begun_is s.step s.setup.filter s.setup.loops s.setup.map s.setup.scales s.setup.kinds s.e s.b s.particles.items p c.tiles-map.ensures.limits
-    c.requires.sound c.requires.tiled
+    c.requires.sound c.requires.cut
     c.in_ok-plasma.ensures.map c.in_ok-plasma.ensures.filter c.in_ok-plasma.ensures.kinds
     (subst (λ (xs : List Particle). IsPlasma xs p) c.as_slice.ensures.value c.in_ok-plasma.ensures.plasma)
     (subst (λ (xs : List Particle). All (IsOf xs) p.tracers.items) c.as_slice.ensures.value c.in_ok-plasma.ensures.tracers)
@@ -51,7 +51,7 @@ invariant_of-result c =
     let s = c.args.start in
     let p = c.in_ok-plasma.plasma in
     kept s.step s.setup.filter s.setup.loops s.setup.map s.setup.scales s.setup.kinds s.e s.b s.particles.items p c.tiles-map.ensures.limits
-    c.requires.sound c.requires.tiled
+    c.requires.sound c.requires.cut
     c.in_ok-plasma.ensures.map c.in_ok-plasma.ensures.filter c.in_ok-plasma.ensures.kinds
     (subst (λ (xs : List Particle). IsPlasma xs p) c.as_slice.ensures.value c.in_ok-plasma.ensures.plasma)
     (subst (λ (xs : List Particle). All (IsOf xs) p.tracers.items) c.as_slice.ensures.value c.in_ok-plasma.ensures.tracers)

@@ -45,9 +45,9 @@ returns-clause-particles c =
 -- the fields of the state have its cells
 cells_are : (c : After-tiles-tiles) → (c.self.inside.e.cells ≡ c.args.self.now.world.cells) × (c.self.inside.b.cells ≡ c.args.self.now.world.cells)
 cells_are c =
-    let tiled = c.self.invariant.tiled in
+    let cut = c.self.invariant.cut in
     let world = ap (λ (v : StateView). v.world.cells) c.self.view_is in
-    (tiled.of_e.cells ∙ world, tiled.of_b.cells ∙ world)
+    (cut.of_e.cells ∙ world, cut.of_b.cells ∙ world)
 
 pub copy_from-requires : goal.copy_from-requires
 copy_from-requires c = c.requires.e_cells ∙ sym (cells_are (goal.at.copy_from-requires c).After-tiles-tiles).0

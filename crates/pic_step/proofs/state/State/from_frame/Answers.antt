@@ -11,8 +11,8 @@ from_frame-requires c = record { e_cells = c.requires.e_cells; b_cells = c.requi
 pub begin-requires-clause-sound : goal.begin-requires-clause-sound
 begin-requires-clause-sound c = subst IsSound (sym c.in_ok-from_frame.ensures.start) c.requires.sound
 
-pub begin-requires-clause-tiled : goal.begin-requires-clause-tiled
-begin-requires-clause-tiled c = c.in_ok-from_frame.ensures.tiled
+pub begin-requires-clause-cut : goal.begin-requires-clause-cut
+begin-requires-clause-cut c = c.in_ok-from_frame.ensures.cut
 
 pub returns : goal.returns
 returns c =

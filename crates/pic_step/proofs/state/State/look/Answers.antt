@@ -20,24 +20,24 @@ use Rattle.pic_step.proofs.state.State.look.Goals.{After-deref_mut, After-write_
 pub copy_places-requires-clause-places : goal.copy_places-requires-clause-places
 copy_places-requires-clause-places c =
     let k = c.self.inside in
-    let cells : k.e.cells ≡ c.args.self.now.world.cells = c.self.invariant.tiled.of_e.cells ∙ ap (λ (v : StateView). v.world.cells) c.self.view_is in
+    let cells : k.e.cells ≡ c.args.self.now.world.cells = c.self.invariant.cut.of_e.cells ∙ ap (λ (v : StateView). v.world.cells) c.self.view_is in
     subst (λ (ps : List Place). All (IsPlace k.e.cells) ps) (sym c.as_slice-places.ensures)
     (subst (λ (n : Triple). All (IsPlace n) c.args.probes.now.places) (sym cells) c.requires.probes.places)
 
 pub copy_places-requires-clause-cells : goal.copy_places-requires-clause-cells
 copy_places-requires-clause-cells c =
-    c.requires.e_cells ∙ sym (c.self.invariant.tiled.of_e.cells ∙ ap (λ (v : StateView). v.world.cells) c.self.view_is)
+    c.requires.e_cells ∙ sym (c.self.invariant.cut.of_e.cells ∙ ap (λ (v : StateView). v.world.cells) c.self.view_is)
 
 pub copy_places-requires-2-clause-places : goal.copy_places-requires-2-clause-places
 copy_places-requires-2-clause-places c =
     let k = c.self.inside in
-    let cells : k.b.cells ≡ c.args.self.now.world.cells = c.self.invariant.tiled.of_b.cells ∙ ap (λ (v : StateView). v.world.cells) c.self.view_is in
+    let cells : k.b.cells ≡ c.args.self.now.world.cells = c.self.invariant.cut.of_b.cells ∙ ap (λ (v : StateView). v.world.cells) c.self.view_is in
     subst (λ (ps : List Place). All (IsPlace k.b.cells) ps) (sym c.as_slice-places.ensures)
     (subst (λ (n : Triple). All (IsPlace n) c.args.probes.now.places) (sym cells) c.requires.probes.places)
 
 pub copy_places-requires-2-clause-cells : goal.copy_places-requires-2-clause-cells
 copy_places-requires-2-clause-cells c =
-    c.requires.b_cells ∙ sym (c.self.invariant.tiled.of_b.cells ∙ ap (λ (v : StateView). v.world.cells) c.self.view_is)
+    c.requires.b_cells ∙ sym (c.self.invariant.cut.of_b.cells ∙ ap (λ (v : StateView). v.world.cells) c.self.view_is)
 
 -- the list has as many particles
 as_many : (c : After-deref_mut) → length c.deref_mut.result.now ≡ length (all_particles c.self.inside.plasma.tiles.items)
@@ -75,8 +75,8 @@ returns-clause-shows c =
     let of_e = subst (λ (xs : List Place). All (HaveSameAt to_e k.e) xs) c.as_slice-places.ensures c.copy_places.ensures.same in
     let of_b = subst (λ (xs : List Place). All (HaveSameAt to_b k.b) xs) c.as_slice-places.ensures c.copy_places-2.ensures.same in
     record {
-      e = subst (λ (v : StateView). All (HaveSameAt to_e (e_of v.world)) qs) view (same_whole m to_e k.e qs c.self.invariant.tiled.of_e of_e);
-      b = subst (λ (v : StateView). All (HaveSameAt to_b (b_of v.world)) qs) view (same_whole m to_b k.b qs c.self.invariant.tiled.of_b of_b);
+      e = subst (λ (v : StateView). All (HaveSameAt to_e (e_of v.world)) qs) view (same_whole m to_e k.e qs c.self.invariant.cut.of_e of_e);
+      b = subst (λ (v : StateView). All (HaveSameAt to_b (b_of v.world)) qs) view (same_whole m to_b k.b qs c.self.invariant.cut.of_b of_b);
       tracers = subst (λ (v : StateView). All (IsSame to v.world.particles) c.args.probes.now.ids) view
           (shown_tracers ps k.plasma.tracers.items c.deref_mut.result.now to c.args.probes.now.ids (as_many at.After-deref_mut) c.self.invariant.tracers
           (ap (λ (v : StateView). v.followed) view ∙ c.requires.followed) (written_is at.After-write_each));

@@ -15,8 +15,8 @@ start_is c = c.in_ok-new.ensures.start ∙ ap (start_of c.args.deck.now) c.in_ok
 pub begin-requires-clause-sound : goal.begin-requires-clause-sound
 begin-requires-clause-sound c = subst IsSound (sym (start_is (goal.at.begin-requires-clause-sound c).In_ok-new)) c.requires
 
-pub begin-requires-clause-tiled : goal.begin-requires-clause-tiled
-begin-requires-clause-tiled c = c.in_ok-new.ensures.tiled
+pub begin-requires-clause-cut : goal.begin-requires-clause-cut
+begin-requires-clause-cut c = c.in_ok-new.ensures.cut
 
 pub returns : goal.returns
 returns c =

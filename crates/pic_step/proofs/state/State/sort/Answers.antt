@@ -49,7 +49,7 @@ invariant_of-self c =
     let p = k.plasma in
     let keeps = c.self.invariant in
     kept k.step (filter_in p.smooth) k.loops p.frame.map k.scales p.frame.kinds k.e k.b (all_particles p.tiles.items) (sorted after) (of_map after)
-    keeps.sound keeps.tiled refl refl refl (ready after) keeps.tracers
+    keeps.sound keeps.cut refl refl refl (ready after) keeps.tracers
 
 pub returns-clause-state : goal.returns-clause-state
 returns-clause-state c =
@@ -59,5 +59,5 @@ returns-clause-state c =
     let keeps = c.self.invariant in
     let same : seen k.step k.loops k.scales k.e k.b (sorted after) ≡ seen k.step k.loops k.scales k.e k.b p =
     begun_is k.step (filter_in p.smooth) k.loops p.frame.map k.scales p.frame.kinds k.e k.b (all_particles p.tiles.items) (sorted after) (of_map after)
-    keeps.sound keeps.tiled refl refl refl (ready after) keeps.tracers in
+    keeps.sound keeps.cut refl refl refl (ready after) keeps.tracers in
     (λ i. record { world = same i; map = p.frame.map; followed = identities p.tracers.items }) ∙ c.self.view_is

@@ -13,9 +13,9 @@ use Rattle.pic_advance.specs.Pairs.{AllPairs}
 use Rattle.pic_advance.proofs.HalvesLaws.{halves_share, half_all, twice_all, all_can_halve, first_is, second_is, twice_made, forces_made}
 use Rattle.pic_advance.proofs.HalvesLaws.{between_forced, second_answer}
 use Rattle.pic_advance.proofs.TakenLaws.{HasBlocks, IsGrid, has_blocks, given_back, made_zones, made_is}
-use Rattle.pic_advance.proofs.both_halves.advance_b.Given.{Over}
-use Rattle.pic_advance.proofs.both_halves.advance_b.Goals as goal
-use Rattle.pic_advance.proofs.both_halves.advance_b.Goals.{After-deref_mut-2, After-each_share-first}
+use Rattle.pic_advance.proofs.half_steps.advance_b.Given.{Over}
+use Rattle.pic_advance.proofs.half_steps.advance_b.Goals as goal
+use Rattle.pic_advance.proofs.half_steps.advance_b.Goals.{After-deref_mut-2, After-each_share-first}
 
 -- the blocks of B, and those beside them
 have : (g : Over) (c : After-deref_mut-2 g) → HasBlocks c.args.e.now.cells c.args.b c.into_blocks-blocks.result.items

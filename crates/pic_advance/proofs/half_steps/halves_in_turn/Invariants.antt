@@ -1,5 +1,5 @@
 use Rattle.pic_advance.proofs.HalvesLaws.{IsHalving}
-use Rattle.pic_advance.proofs.both_halves.halves_in_turn.Given as goal
+use Rattle.pic_advance.proofs.half_steps.halves_in_turn.Given as goal
 
 -- the blocks before i have taken both half steps
 abbrev pub invariant-loop-i : goal.invariant-loop-i

@@ -4,7 +4,7 @@ use Rattle.pic_grid.specs.Parts.{no_block}
 use Rattle.pic_advance.specs.Halves.{CanHalve, AreHalves}
 use Rattle.pic_advance.proofs.HalvesLaws.{halving_none, halving_more, halving_all}
 use Rattle.pic_advance.proofs.PairLaws.{can_next}
-use Rattle.pic_advance.proofs.both_halves.halves_in_turn.Goals as goal
+use Rattle.pic_advance.proofs.half_steps.halves_in_turn.Goals as goal
 
 pub loop-i-init : goal.loop-i-init
 loop-i-init c = halving_none c.args.step.now.scales.now c.args.step.now.e.now c.args.blocks.now c.args.force.now
