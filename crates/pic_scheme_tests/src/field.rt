@@ -5,9 +5,9 @@ ghost use Rattle.pic_num.specs.Sizes.{IsAtMost};
 ghost use Rattle.pic_num.specs.Space.{triple, spot};
 ghost use Rattle.pic_grid.specs.Cells.{IsCells, IsWithin};
 ghost use Rattle.pic_grid.specs.Block.{InZone, IsAmongCells, IsShaped, AllAtMost};
-ghost use Rattle.pic_grid.specs.Lattice.{EachAtMost};
+ghost use Rattle.pic_grid.specs.Lattice.{EachAtMost, IsParts};
 
-use pic_field::{Rooms, both_halves_in, force, full_e, half_b};
+use pic_field::{Rooms, both_halves_in, force, free_e_in, full_e, full_e_in, half_b};
 use pic_grid::{Block, Bound, Cells, Lattice, Phase, Stop, Zone};
 use pic_num::{Axis, Mult, NoMemory, Scales, Sub};
 use std::alloc::Global;
@@ -23,17 +23,39 @@ const MAX_VALUE: u128 = 1 << 90;
 
 const MAX_DRIVE: u128 = 1 << 64;
 
-// A lattice of zeros but for these values, as far as they are at most `most` in size.
+// the second and the third layer of z, of four by four cells
+const TWO_LAYERS: Zone = Zone {
+    low: [0, 0, 1],
+    size: [4, 4, 2],
+};
+
+// A lattice of zeros in so many parts but for these values, as far as they are at most `most` in size.
+fn lattice_in(
+    alloc: Global,
+    n: [u32; 3],
+    parts: [u32; 3],
+    most: u128,
+    values: &[Value],
+) -> Result<Lattice, NoMemory>
+    requires cells { IsCells (triple n) }
+    requires parts { IsParts (triple n) (triple parts) }
+    ensures cells { IfOk result (λ f. f.cells ≡ triple n) }
+    ensures small { IfOk result (EachAtMost most) }
+{
+    let mut field = Lattice::new(alloc, Cells::new(n, Sub::of_bits(12)), parts)?;
+    for (axis, cell, value) in values {
+        put(&mut field, most, *axis, *cell, *value);
+    }
+    Ok(field)
+}
+
+// The same in one part.
 fn lattice_of(alloc: Global, n: [u32; 3], most: u128, values: &[Value]) -> Result<Lattice, NoMemory>
     requires { IsCells (triple n) }
     ensures cells { IfOk result (λ f. f.cells ≡ triple n) }
     ensures small { IfOk result (EachAtMost most) }
 {
-    let mut field = Lattice::new(alloc, Cells::new(n, Sub::of_bits(12)), [1; 3])?;
-    for (axis, cell, value) in values {
-        put(&mut field, most, *axis, *cell, *value);
-    }
-    Ok(field)
+    lattice_in(alloc, n, [1; 3], most, values)
 }
 
 fn put(field: &mut Lattice, most: u128, axis: Axis, cell: [u32; 3], value: i128)
@@ -108,6 +130,31 @@ fn full_step(
     let j = block_of(alloc, zone, current)?;
     let mut e = block_of(alloc, zone, &[])?;
     let answer = full_e(scales, &b, &m, &j, &mut e);
+    Ok((e, answer))
+}
+
+// A step of E on two layers from zeros, by values of B alone.
+fn free_step(
+    alloc: Global,
+    scales: &Scales,
+    faces: &[Value],
+) -> Result<(Block, Result<(), Stop>), NoMemory> {
+    let b = lattice_of(alloc, [4, 4, 4], MAX_VALUE, faces)?;
+    let mut e = block_of(alloc, TWO_LAYERS, &[])?;
+    let answer = free_e_in(scales, &b, &mut e, &mut Rooms::new());
+    Ok((e, answer))
+}
+
+// The same by a current in eight parts alone.
+fn current_step(
+    alloc: Global,
+    scales: &Scales,
+    current: &[Value],
+) -> Result<(Block, Result<(), Stop>), NoMemory> {
+    let b = lattice_of(alloc, [4, 4, 4], MAX_VALUE, &[])?;
+    let j = lattice_in(alloc, [4, 4, 4], [2, 2, 2], MAX_VALUE, current)?;
+    let mut e = block_of(alloc, TWO_LAYERS, &[])?;
+    let answer = full_e_in(scales, &b, &j, &mut e, &mut Rooms::new());
     Ok((e, answer))
 }
 
@@ -190,6 +237,45 @@ fn vacuum_step_of_one_face(rt: HostRuntime) {
             check_around(&rt, &e, axis);
         }
     }
+}
+
+// a line of the current lies in two of its parts
+#[test]
+fn a_current_in_parts_is_taken_off(rt: HostRuntime) {
+    let one = Mult::new(1, 0);
+    let scales = scales_of(one, one, one, one);
+    let current = [
+        (Axis::X, [1, 0, 1], 5),
+        (Axis::X, [2, 0, 1], -7),
+        (Axis::Y, [3, 3, 2], 11),
+        (Axis::Z, [0, 2, 3], 13),
+    ];
+    let (e, answer) = current_step(rt.alloc(), &scales, &current).expect(&rt, "memory");
+    let values = [
+        read(&e, Axis::X, [1, 0, 1]),
+        read(&e, Axis::X, [2, 0, 1]),
+        read(&e, Axis::X, [0, 0, 1]),
+        read(&e, Axis::Y, [3, 3, 2]),
+        read(&e, Axis::Z, [0, 2, 2]),
+    ];
+    assert!(rt; answer.is_ok() && values == [-5, 7, 0, -11, 0]);
+}
+
+// Bz of one face makes E along its four edges, those of the last cell in x for the first one
+#[test]
+fn a_step_of_e_without_a_current(rt: HostRuntime) {
+    let one = Mult::new(1, 0);
+    let scales = scales_of(one, Mult::new(1, 1), one, one);
+    let faces = [(Axis::Z, [3, 1, 2], 8)];
+    let (e, answer) = free_step(rt.alloc(), &scales, &faces).expect(&rt, "memory");
+    let values = [
+        read(&e, Axis::X, [3, 1, 2]),
+        read(&e, Axis::X, [3, 2, 2]),
+        read(&e, Axis::Y, [3, 1, 2]),
+        read(&e, Axis::Y, [0, 1, 2]),
+        read(&e, Axis::Y, [0, 1, 1]),
+    ];
+    assert!(rt; answer.is_ok() && values == [4, -4, -4, 4, 0]);
 }
 
 const GREATEST: i128 = 1237940039285380274899124224;
