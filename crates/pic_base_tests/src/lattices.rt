@@ -80,6 +80,32 @@ fn blocks_keep_all_values(rt: HostRuntime) -> Result<(), NoMemory> {
     Ok(())
 }
 
+// whether each of two layers of z is known to be weak, where each is a part
+fn are_weak(field: &Lattice) -> Option<[bool; 2]> {
+    let [_, _, nz] = field.cells().numbers();
+    if nz < 2 || !field.is_layered() {
+        return None;
+    }
+    Some([field.is_weak(0), field.is_weak(1)])
+}
+
+#[test]
+fn measured_layers_are_weak_until_they_are_written(rt: HostRuntime) -> Result<(), NoMemory> {
+    let cells = Cells::new([4, 6, 2], Sub::of_bits(8));
+    let mut field = Lattice::new(rt.alloc(), cells, [1, 1, 2])?;
+    field.set(Axis::X, [1, 2, 0], 1 << 26);
+    field.set(Axis::Z, [3, 5, 1], -(1 << 26) - 1);
+    let mut blocks = field.into_blocks();
+    blocks[0].measure();
+    blocks[1].measure();
+    let mut field = Lattice::of_blocks(cells, [1, 1, 2], blocks);
+    assert_eq!(rt; are_weak(&field), Some([true, false]));
+    assert_eq!(rt; field.at(Axis::X, [1, 2, 0]), 1 << 26);
+    field.set(Axis::X, [1, 2, 0], 0);
+    assert_eq!(rt; are_weak(&field), Some([false, false]));
+    Ok(())
+}
+
 #[test]
 fn values_are_copied_into_other_parts(rt: HostRuntime) -> Result<(), NoMemory> {
     let cells = Cells::new([4, 6, 2], Sub::of_bits(8));

@@ -2,13 +2,22 @@
 use Rattle.std.proofs.Common.{◌≡◌, ℕ, pos, ◌+◌, ◌*◌, ◌/◌, ◌%◌, ◌<◌, List, length, slice_index_or, refl, sym, ◌∙◌, ap, subst, arith}
 use Rattle.std.proofs.lemmas.Nat.{div-add-mod', div_below}
 use Rattle.std.proofs.Math.Nat.{div-one, div_self}
+use Rattle.std.proofs.Math.IntN.{ℤ}
+use Rattle.pic_num.specs.Sizes.{IsAtMost}
 use Rattle.pic_num.specs.Space.{Triple, Spot, unwrapped, axis_number}
 use Rattle.pic_grid.specs.Cells.{Grid, IsCells, IsWithin, count_of, index_of, place_of}
-use Rattle.pic_grid.specs.Lattice.{IsParts}
+use Rattle.pic_grid.specs.Lattice.{Field, IsParts}
 use Rattle.pic_grid.specs.Block.{BlockValues, inner_of, edge_at}
-use Rattle.pic_grid.specs.Parts.{part_size, part_with, layered, IsPart, no_block, ArePartsOf, joined, IsLayer}
+use Rattle.pic_grid.specs.Parts.{part_size, part_with, layered, IsPart, no_block, ArePartsOf, joined, IsLayer, IsWeakLayer}
+use Rattle.pic_grid.specs.Weak.{most_weak, AreWeak}
 use Rattle.pic_grid.proofs.PartLaws.{number_of, block_of, value_at-joined}
 use Rattle.pic_grid.proofs.RunLaws.{here, above_corner}
+
+-- a layer of weak values is weak
+pub weak_layer : (f : Field) (z : ℕ) (values : List ℤ) → IsLayer f z values → AreWeak values → IsWeakLayer f z
+weak_layer f z values is are = record {
+  at = λ a x y in_x in_y. subst (λ (v : ℤ). IsAtMost v most_weak) (is.at a x y in_x in_y) (are.at (axis_number a * (f.cells.x * f.cells.y) + y * f.cells.x + x));
+}
 
 -- a cell's part is the only one on an axis of one part
 none_over : (n x : ℕ) → x < n → x / n ≡ 0

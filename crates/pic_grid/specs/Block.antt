@@ -4,6 +4,7 @@ use Rattle.pic_num.specs.declared.axis.Axis.{Axis}
 use Rattle.pic_num.specs.Sizes.{IsAtMost}
 use Rattle.pic_num.specs.Space.{Triple, Spot}
 use Rattle.pic_grid.specs.Cells.{count_of, place_of}
+use Rattle.pic_grid.specs.Weak.{AreWeak}
 
 -- a block: its lowest cell, its layers of cells, and its values in the order of places
 pub record BlockValues : Type 0 where
@@ -11,10 +12,12 @@ pub record BlockValues : Type 0 where
   pub size : Triple
   pub values : List ℤ
 
--- a zone's layers have these values, three for each cell, and all are 0 where they are known to be
-pub record IsFilled (size : Triple) (values : List ℤ) (blank : Bool) : Type 0 where
+-- a zone's layers have these values, three for each cell, and all are 0, or weak, where they are known
+-- to be
+pub record IsFilled (size : Triple) (values : List ℤ) (blank weak : Bool) : Type 0 where
   pub long : length values ≡ 3 * count_of size
   pub zeros : IsTrue blank → values ≡ replicate (3 * count_of size) (pos 0)
+  pub small : IsTrue weak → AreWeak values
 
 -- the cell c, which isn't wrapped, is one of a zone's
 pub record InZone (low : Spot) (size : Triple) (c : Spot) : Type 0 where

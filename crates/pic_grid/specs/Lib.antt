@@ -4,6 +4,7 @@ pub mod Cells
 pub mod Arrays
 pub mod Lattice
 pub mod Among
+pub mod Weak
 pub mod Block
 pub mod Rows
 pub mod Fours

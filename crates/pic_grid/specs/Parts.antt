@@ -1,10 +1,12 @@
 -- A lattice cut into equal parts, one block for each, x fastest.
 use Rattle.std.specs.Prelude.{◌≡◌, ℕ, ℤ, pos, ◌+◌, ◌*◌, ◌/◌, ◌^◌, ◌<◌, ◌≤◌, List, [], length, slice_index_or}
 use Rattle.pic_num.specs.declared.axis.Axis.{Axis}
+use Rattle.pic_num.specs.Sizes.{IsAtMost}
 use Rattle.pic_num.specs.Space.{Triple, Spot, unwrapped, axis_number}
 use Rattle.pic_grid.specs.Cells.{Grid, IsCells, count_of, index_of, cell_of}
 use Rattle.pic_grid.specs.Lattice.{Field, IsParts, value_at, field_of}
 use Rattle.pic_grid.specs.Block.{BlockValues, edge_at}
+use Rattle.pic_grid.specs.Weak.{most_weak}
 
 -- one part on each axis, and the lowest cell of the grid
 abbrev pub one_part : Triple
@@ -81,3 +83,8 @@ pub record IsLayer (f : Field) (z : ℕ) (values : List ℤ) : Type 0 where
   pub at : (a : Axis) (x y : ℕ) → x < f.cells.x → y < f.cells.y
       → slice_index_or values (axis_number a * (f.cells.x * f.cells.y) + y * f.cells.x + x) (pos 0)
       ≡ value_at f a (record { x = x; y = y; z = z })
+
+-- and those are weak
+pub record IsWeakLayer (f : Field) (z : ℕ) : Type 0 where
+  pub at : (a : Axis) (x y : ℕ) → x < f.cells.x → y < f.cells.y
+      → IsAtMost (value_at f a (record { x = x; y = y; z = z })) most_weak

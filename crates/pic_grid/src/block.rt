@@ -34,12 +34,13 @@ impl Zone {
 }
 
 /// Three `i128` components for each cell of a zone.
-// Where `blank` is true, all of them are 0.
+// Where `blank` is true, all of them are 0; where `weak` is true, all are at most 2^26 in size.
 #[derive(Drop)]
 pub struct Block {
     pub(crate) zone: Zone,
     pub(crate) values: Vec<i128>,
     pub(crate) blank: bool,
+    pub(crate) weak: bool,
 }
 
 impl Model for Block {
@@ -51,7 +52,7 @@ impl Model for Block {
       values = b.values.items;
     } };
 
-    ghost invariant = { λ b. IsFilled (triple b.zone.size) b.values.items b.blank };
+    ghost invariant = { λ b. IsFilled (triple b.zone.size) b.values.items b.blank b.weak };
 }
 
 impl Block {
@@ -71,6 +72,7 @@ impl Block {
             zone,
             values,
             blank: true,
+            weak: false,
         })
     }
 
@@ -133,6 +135,7 @@ impl Block {
         if self.blank {
             return;
         }
+        self.weak = false;
         zero(self.values.as_mut_slice());
         self.blank = true;
     }
@@ -146,6 +149,7 @@ impl Block {
         let place = self.place(axis, cell);
         self.values[place] = value;
         self.blank = false;
+        self.weak = false;
     }
 
     fn place(&self, axis: Axis, cell: [i32; 3]) -> usize

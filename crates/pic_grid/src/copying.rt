@@ -46,6 +46,7 @@ impl Block {
         }
         let low = lowest_of(self.zone, from);
         self.blank = false;
+        self.weak = false;
         copy_rows(from, low, self.zone.size, self.values.as_mut_slice());
     }
 }

@@ -49,6 +49,7 @@ impl Block {
         let high = sum(here, at.step(third));
         let far = sum(high, at.step(second));
         self.blank = false;
+        self.weak = false;
         let values = self.values.as_mut_slice();
         add_at(values, here, found.low_low, four.low_low);
         add_at(values, up, found.high_low, four.high_low);

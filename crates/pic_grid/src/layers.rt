@@ -30,6 +30,7 @@ impl Block {
         let n = from.zone.size;
         let size = self.zone.size;
         self.blank = false;
+        self.weak = false;
         add_values(
             self.values.as_mut_slice(),
             size,

@@ -22,6 +22,7 @@ mod slot;
 mod snapshot;
 mod stop;
 mod track;
+mod weak;
 
 pub use among::is_among;
 pub use base::Base;

@@ -50,6 +50,7 @@ impl Block {
         ensures shape { length result.now ≡ 3 * count_of self.old.size }
     {
         self.blank = false;
+        self.weak = false;
         self.values.as_mut_slice()
     }
 }

@@ -229,6 +229,7 @@ invariant_of-self c =
     record {
       long = ap length items ∙ four.long ∙ ap (λ (b : BlockValues). 3 * count_of b.size) (sym c.self.view_is);
       zeros = λ never. absurd (false≢true never);
+      small = λ never. absurd (false≢true never);
     }
 
 pub returns-clause-values : goal.returns-clause-values

@@ -1,0 +1,57 @@
+//! Blocks of weak values, as force values are where nothing is violent: readers that know it sum them in
+//! 64 bits.
+
+ghost use Rattle.std.specs.Prelude.{◌≡◌, ℕ, pos, ◌<◌, slice_index_or, IsTrue};
+ghost use Rattle.pic_num.specs.Sizes.{IsAtMost};
+ghost use Rattle.pic_grid.specs.Parts.{layered, IsWeakLayer};
+ghost use Rattle.pic_grid.specs.Weak.{most_weak, AreWeak};
+
+use crate::block::Block;
+use crate::lattice::Lattice;
+
+/// The greatest size of a weak value.
+const GREATEST_WEAK: i128 = 1 << 26;
+
+impl Block {
+    /// Finds whether its components are weak, as `Lattice::is_weak` tells until one is changed. No
+    /// component is changed.
+    pub fn measure(&mut self)
+        ensures { self.new ≡ self.old }
+    {
+        self.weak = are_weak(self.values.as_slice());
+    }
+}
+
+impl Lattice {
+    /// Whether the components in the layer `z`, which is a part of its own, are known to be weak. It may
+    /// be false where they are, as long as nobody measured them.
+    #[inline(always)]
+    pub fn is_weak(&self, z: u32) -> bool
+        requires parts { self.now.parts ≡ layered self.now.cells }
+        requires below { z < self.now.cells.z }
+        ensures { IsTrue result → IsWeakLayer self.now z }
+    {
+        let block = &self.blocks[z as usize];
+        block.weak
+    }
+}
+
+/// Whether all values are weak.
+fn are_weak(values: &[i128]) -> bool
+    ensures { IsTrue result → AreWeak values.now }
+{
+    for i in 0..values.len() {
+        if !is_weak(values[i]) {
+            return false;
+        }
+    }
+    true
+}
+
+/// Whether a value is weak.
+#[inline(always)]
+fn is_weak(value: i128) -> bool
+    ensures { IsTrue result → IsAtMost value most_weak }
+{
+    -GREATEST_WEAK <= value && value <= GREATEST_WEAK
+}
