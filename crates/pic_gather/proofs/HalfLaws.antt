@@ -1,13 +1,14 @@
 -- A rounding by a power of two is a shift after half that power is added: a mean over the cube of a
 -- cell's side.
-use Rattle.std.proofs.Common.{◌≡◌, ℕ, ℤ, pos, negsuc, ◌+◌, ◌-◌, ◌*◌, ◌%◌, ◌^◌, ◌≤◌, ◌+ℤ◌, ◌*ℤ◌, [], ◌∷◌, add-one, refl, sym, ◌∙◌, ap, arith}
+use Rattle.std.proofs.Common.{◌≡◌, ℕ, ℤ, pos, negsuc, ◌+◌, ◌-◌, ◌*◌, ◌%◌, ◌^◌, ◌≤◌, ◌+ℤ◌, ◌*ℤ◌, [], ◌∷◌, add-one, inl, inr, refl, sym, ◌∙◌, ap, arith}
 use Rattle.std.proofs.Math.Nat.{pow-succ'}
 use Rattle.std.proofs.Math.Pow.{pow_mono}
 use Rattle.std.specs.Int.{int_div_euclid}
-use Rattle.std.proofs.lemmas.Int.{ints}
+use Rattle.std.proofs.lemmas.Bool.{cases_lt}
+use Rattle.std.proofs.lemmas.Int.{ints, to_z_pos}
 use Rattle.std.proofs.lemmas.Nat.{pow-add}
 use lib.Signed.{shr_z}
-use mir.Syntax.{w128}
+use mir.Syntax.{w64, w128}
 use mir.Val.{to_z, of_z}
 use Rattle.pic_num.specs.Limits.{fewest_bits, most_bits, most_force}
 use Rattle.pic_num.specs.Rounding.{rounded}
@@ -38,6 +39,22 @@ rounded_half n k =
 
 code_sum : (a b : ℤ) → IsAtMost a (2 ^ 86) → IsAtMost b (2 ^ 62) → to_z w128 (of_z w128 (to_z w128 (of_z w128 a) +ℤ b)) ≡ a +ℤ b
 code_sum a b h k = code_is (search codes depth 14) tt
+
+-- a half of at most 2^60 in a word of 64 bits, and a sum with it
+abbrev pub held : ℤ → ℤ
+held z = to_z w64 (of_z w64 z)
+
+half_is : (k : ℕ) → k ≤ 60 → to_z w64 (1 * 2 ^ k % 2 ^ 64) ≡ pos (2 ^ k)
+half_is k h =
+    let most : 2 ^ k ≤ 2 ^ 60 = pow_mono h in
+    let e : 1 * 2 ^ k % 2 ^ 64 ≡ 2 ^ k = omega (arith, most) in
+    ap (to_z w64) e ∙ to_z_pos w64 (2 ^ k) (omega (arith, most))
+
+pub half_most : (k : ℕ) → k ≤ 60 → 1 * 2 ^ k % 2 ^ 64 ≤ 2 ^ 60
+half_most k h = let most : 2 ^ k ≤ 2 ^ 60 = pow_mono h in omega (arith, most)
+
+half_added : (a : ℤ) (k : ℕ) → k ≤ 60 → IsAtMost a (2 ^ 62) → held (held a +ℤ pos (2 ^ k)) ≡ a +ℤ pos (2 ^ k)
+half_added a k h small = let half : IsAtMost (pos (2 ^ k)) (2 ^ 60) = record { size = pow_mono h } in code_is (search codes depth 14) tt
 
 -- the cube of a power of two
 pub cube_power : (b : ℕ) → 2 ^ b * 2 ^ b * 2 ^ b ≡ 2 ^ (3 * b)
@@ -95,3 +112,21 @@ module _ (s b : ℕ) (is : s ≡ 2 ^ b)
         plain sum low few small =
             let room = sum_most sum few small in
             let half = power_size (3 * b - 1) low in code_sum sum (pos (2 ^ (3 * b - 1))) room half
+
+    -- and in 64 bits, where the side and the sum are small
+    pub code_weak_mean : (sum : ℤ) → fewest_bits ≤ b → b ≤ 12 → IsAtMost sum (2 ^ 62)
+        → shr_z (held (held sum +ℤ to_z w64 (1 * 2 ^ (3 * b % 64 - 1) % 2 ^ 64))) (2 ^ (3 * b % 64)) ≡ rounded sum (pos (s ^ 3))
+    code_weak_mean sum some few small =
+        let k : 3 * b % 64 ≡ 3 * b = omega (arith, few) in
+        let low : 3 * b - 1 ≤ 60 = omega (arith, few) in
+        let half : to_z w64 (1 * 2 ^ (3 * b % 64 - 1) % 2 ^ 64) ≡ pos (2 ^ (3 * b - 1)) =
+        ap (λ (m : ℕ). to_z w64 (1 * 2 ^ (m - 1) % 2 ^ 64)) k ∙ half_is (3 * b - 1) low in
+        (λ i. shr_z (held (held sum +ℤ half i)) (2 ^ k i)) ∙ ap (λ (z : ℤ). shr_z z (2 ^ (3 * b))) (half_added sum (3 * b - 1) low small)
+        ∙ mean_is sum (omega (arith, some))
+
+    -- a side's bits, from the side
+    pub few_bits : s ≤ 2 ^ 12 → b ≤ 12
+    few_bits small = elim (cases_lt 12 b) [
+      | inl more ↦ (let up : 13 ≤ b = omega (arith, more) in let far : 2 ^ 13 ≤ 2 ^ b = pow_mono up in absurd (omega (arith, far, small, is)))
+      | inr upto ↦ upto
+    ]

@@ -7,7 +7,8 @@ use Rattle.pic_num.specs.Sizes.{IsAtMost}
 use Rattle.pic_num.specs.Space.{Triple, axis_number}
 use Rattle.pic_grid.specs.Cells.{IsWithin, index_of, place_of}
 use Rattle.pic_grid.specs.Lattice.{Field, value_at}
-use Rattle.pic_grid.specs.Parts.{IsLayer}
+use Rattle.pic_grid.specs.Parts.{IsLayer, IsWeakLayer}
+use Rattle.pic_grid.specs.Weak.{most_weak}
 use Rattle.pic_grid.proofs.CellLaws.{place_of_below}
 use Rattle.pic_gather.specs.Forces.{AreForces, IsForce, row_sum}
 use Rattle.pic_gather.specs.Sides.{IsSide}
@@ -65,6 +66,13 @@ module _ (f : Field) (z : ℕ) (values : List ℤ) (a : Axis) (first : ℕ) (l :
 
     pub high_force : IsForce values (first + y + x.high)
     high_force = force x.pair.high x.high on.pair.high on.high
+
+    -- weak ones where the layer is weak,
+    pub low_weak : IsWeakLayer f z → IsAtMost (slice_index_or values (first + y + x.low) (pos 0)) most_weak
+    low_weak w = subst (λ (v : ℤ). IsAtMost v most_weak) (sym (value x.pair.low x.low on.pair.low on.low)) (w.at a x.pair.low j on.pair.low in_y)
+
+    pub high_weak : IsWeakLayer f z → IsAtMost (slice_index_or values (first + y + x.high) (pos 0)) most_weak
+    high_weak w = subst (λ (v : ℤ). IsAtMost v most_weak) (sym (value x.pair.high x.high on.pair.high on.high)) (w.at a x.pair.high j on.pair.high in_y)
 
     -- and the mix of them is the sum along the row
     pub row_is : (r : ℤ)

@@ -1,5 +1,6 @@
 pub mod TwoTermLaws
 pub mod NestedLaws
+pub mod PlaceLaws
 pub mod MixLaws
 pub mod SameLaws
 pub mod LayeredLaws

@@ -5,17 +5,19 @@ use Rattle.std.proofs.Math.Nat.{mul-le-mul_right, mul-le-mul_left}
 use Rattle.std.proofs.lemmas.Int.{ints, to_z-of_z, unsigned_abs-mul}
 use lib.Signed.{mag}
 use mir.Syntax.{w64, w128}
-use mir.Val.{to_z, of_z}
+use mir.Val.{to_z, of_z, SFits}
 use Rattle.pic_num.specs.declared.axis.Axis.{Axis}
 use Rattle.pic_num.specs.Limits.{most_force, most_side}
 use Rattle.pic_num.specs.Sizes.{IsAtMost}
 use Rattle.pic_num.proofs.Ring.{ring, reads}
-use Rattle.pic_num.proofs.SizeLaws.{codes, code_is, at_most_more}
+use Rattle.pic_num.proofs.SizeLaws.{codes, code_is, code_fits, at_most_more}
 use Rattle.pic_grid.specs.Lattice.{Field}
+use Rattle.pic_grid.specs.Weak.{most_weak}
 use Rattle.pic_grid.specs.Pair.{IsPair, weight_in}
 use Rattle.pic_grid.specs.Sums.{sum_below}
 use Rattle.pic_grid.specs.declared.pair.Pair.{Pair}
 use Rattle.pic_gather.specs.Forces.{row_sum, layer_sum, whole_sum}
+use Rattle.pic_gather.proofs.HalfLaws.{held}
 use Rattle.pic_gather.proofs.TwoTermLaws.{two_terms}
 
 -- two values under two weights
@@ -57,11 +59,11 @@ pub code_four : (a b c d : ℤ) → IsAtMost a (2 ^ 86) → IsAtMost b (2 ^ 86) 
 code_four a b c d h k l m = code_is (search codes depth 20) tt
 
 -- a number of the code that stands for a weight
-pub weight_size : (z : ℤ) (u w : ℕ) → z ≡ pos u → u + w ≤ most_side → IsAtMost z most_side
-weight_size z u w is most = subst (λ (x : ℤ). IsAtMost x most_side) (sym is) (record { size = omega (arith, most) })
+pub weight_size : (z : ℤ) (u w m : ℕ) → z ≡ pos u → u + w ≤ m → IsAtMost z m
+weight_size z u w m is most = subst (λ (x : ℤ). IsAtMost x m) (sym is) (record { size = omega (arith, most) })
 
-pub other_size : (z : ℤ) (u w : ℕ) → z ≡ pos w → u + w ≤ most_side → IsAtMost z most_side
-other_size z u w is most = weight_size z w u is (omega (arith, most))
+pub other_size : (z : ℤ) (u w m : ℕ) → z ≡ pos w → u + w ≤ m → IsAtMost z m
+other_size z u w m is most = weight_size z w u m is (omega (arith, most))
 
 -- the code's mix of two forces is their mix
 pub narrow : (a b x y : ℤ) (u w : ℕ) → u + w ≤ most_side → IsAtMost a most_force → IsAtMost b most_force → x ≡ pos u → y ≡ pos w
@@ -69,7 +71,47 @@ pub narrow : (a b x y : ℤ) (u w : ℕ) → u + w ≤ most_side → IsAtMost a 
     +ℤ to_z w64 (of_z w64 (to_z w64 (of_z w64 b) *ℤ to_z w64 (of_z w64 y)))))
     ≡ mix a b u w
 narrow a b x y u w most h k x_is y_is =
-    code_narrow a b x y h k (weight_size x u w x_is most) (other_size y u w y_is most) ∙ (λ i. a *ℤ x_is i +ℤ b *ℤ y_is i)
+    code_narrow a b x y h k (weight_size x u w most_side x_is most) (other_size y u w most_side y_is most) ∙ (λ i. a *ℤ x_is i +ℤ b *ℤ y_is i)
+
+-- a number of 62 bits as a word holds it
+held_is : (s : ℤ) → IsAtMost s (2 ^ 62) → held s ≡ s
+held_is s small = code_is (search codes depth 4) tt
+
+held_fits : (s : ℤ) → IsAtMost s (2 ^ 62) → SFits w64 s
+held_fits s small = code_fits w64 (search codes depth 4) tt
+
+held_product : (a u : ℤ) → IsAtMost a (2 ^ 50) → IsAtMost u (2 ^ 12) → held (held a *ℤ held u) ≡ a *ℤ u
+held_product a u h k = code_is (search codes depth 12) tt
+
+-- the code's mix of two sums of weak values, under weights of at most a side together, has 62 bits,
+module _ (a b x y : ℤ) (u w : ℕ) (most : u + w ≤ 2 ^ 12) (a_most : IsAtMost a (2 ^ 50)) (b_most : IsAtMost b (2 ^ 50)) (x_is : x ≡ pos u) (y_is : y ≡ pos w)
+  where
+    pub weak_size : IsAtMost (mix a b u w) (2 ^ 62)
+    weak_size =
+        let all : 2 ^ 50 * (u + w) ≤ 2 ^ 62 = omega (arith, most) in
+        at_most_more _ (2 ^ 50 * (u + w)) (2 ^ 62) all (mix_size a b u w (2 ^ 50) a_most b_most)
+
+    products : held (held a *ℤ held x) +ℤ held (held b *ℤ held y) ≡ mix a b u w
+    products =
+        (λ i. held_product a x a_most (weight_size x u w (2 ^ 12) x_is most) i +ℤ held_product b y b_most (other_size y u w (2 ^ 12) y_is most) i)
+        ∙ (λ i. a *ℤ x_is i +ℤ b *ℤ y_is i)
+
+    -- fits its word,
+    pub weak_fits : SFits w64 (held (held a *ℤ held x) +ℤ held (held b *ℤ held y))
+    weak_fits = subst (SFits w64) (sym products) (held_fits _ weak_size)
+
+    -- and is their mix
+    pub weak_is : held (held (held a *ℤ held x) +ℤ held (held b *ℤ held y)) ≡ mix a b u w
+    weak_is = (λ i. held (products i)) ∙ held_is _ weak_size
+
+-- what is held of a row's sum is no larger
+pub held_row : (r : ℤ) (m : ℕ) → mag r < 2 ^ 63 → IsAtMost r m → IsAtMost (to_z w64 (of_z w64 r)) m
+held_row r m held small = subst (λ (z : ℤ). IsAtMost z m) (sym (to_z-of_z w64 r (record { sfits = held }))) small
+
+-- a row's sum of weak values in cells of few sub-cells
+pub weak_row : (r : ℤ) (sum side : ℕ) → mag r < 2 ^ 63 → sum ≡ side → side ≤ 2 ^ 12 → IsAtMost r (most_weak * sum) → IsAtMost (held r) (2 ^ 38)
+weak_row r sum side fits is few size =
+    held_row r (2 ^ 38) fits (at_most_more r (most_weak * sum) (2 ^ 38) (omega (arith, is, few)) size)
 
 -- the four weighed rows are a mix of two mixes
 pub four_of : (a b c d e f g h r : ℤ) (u w p q : ℕ) → e ≡ a *ℤ pos (u * p) → f ≡ b *ℤ pos (w * p) → g ≡ c *ℤ pos (u * q)
@@ -89,19 +131,18 @@ mixed side n f w low high r on low_is high_is is =
 pub row_most : (z : ℤ) (side : ℕ) → side ≤ most_side → IsAtMost z (most_force * side) → IsAtMost z (most_force * most_side)
 row_most z side most small = at_most_more z (most_force * side) (most_force * most_side) (mul-le-mul_left most_force most) small
 
--- what is held of a row's sum is no larger
-pub held_row : (r : ℤ) (m : ℕ) → mag r < 2 ^ 63 → IsAtMost r m → IsAtMost (to_z w64 (of_z w64 r)) m
-held_row r m held small = subst (λ (z : ℤ). IsAtMost z m) (sym (to_z-of_z w64 r (record { sfits = held }))) small
-
 pub whole_row : (r : ℤ) (sum side : ℕ) → mag r < 2 ^ 63 → sum ≡ side → IsAtMost r (most_force * sum) → IsAtMost (to_z w64 (of_z w64 r)) (most_force * side)
 whole_row r sum side held is small = held_row r (most_force * side) held (subst (λ (m : ℕ). IsAtMost r (most_force * m)) is small)
 
--- nor is what is held of their mix
+-- nor is their mix, under the side as the code has it,
+pub cube_of : (r : ℤ) (side sub : ℕ) → sub ≡ side → IsAtMost r (most_force * (side * side * side)) → IsAtMost r (most_force * (sub * sub * sub))
+cube_of r side sub is small = subst (λ (m : ℕ). IsAtMost r (most_force * (m * m * m))) (sym is) small
+
+-- and what is held of it
 pub mean_of : (r : ℤ) (side sub : ℕ) → mag r < 2 ^ 127 → sub ≡ side → IsAtMost r (most_force * (side * side * side))
     → IsAtMost (to_z w128 (of_z w128 r)) (most_force * (sub * sub * sub))
-mean_of r side sub held is small =
-    subst (λ (m : ℕ). IsAtMost (to_z w128 (of_z w128 r)) (most_force * (m * m * m))) (sym is)
-    (subst (λ (z : ℤ). IsAtMost z (most_force * (side * side * side))) (sym (to_z-of_z w128 r (record { sfits = held }))) small)
+mean_of r side sub fits is small =
+    cube_of _ side sub is (subst (λ (z : ℤ). IsAtMost z (most_force * (side * side * side))) (sym (to_z-of_z w128 r (record { sfits = fits }))) small)
 
 -- the sums along the four rows of two pairs, r being their mix
 module _ (f : Field) (a : Axis) (x y z : Pair) (low_low high_low low_high high_high r : ℤ) (on_y : IsPair f.side f.cells.y y) (on_z : IsPair f.side f.cells.z z)

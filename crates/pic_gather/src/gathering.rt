@@ -1,20 +1,24 @@
 //! The gather of E and of B at a point, apart or together.
 
-ghost use Rattle.std.specs.Prelude.{◌≡◌, ◌≤◌};
+ghost use Rattle.std.specs.Prelude.{◌≡◌, ◌≤◌, IsTrue};
 ghost use Rattle.pic_num.specs.Limits.{most_force, most_side};
 ghost use Rattle.pic_num.specs.Space.{triple, spot, AreAtMost};
 ghost use Rattle.pic_grid.specs.Lattice.{value_at};
 ghost use Rattle.pic_grid.specs.Gather.{gathered_e, gathered_b};
 ghost use Rattle.pic_grid.specs.Hat.{IsInBox};
-ghost use Rattle.pic_grid.specs.Parts.{layered};
+ghost use Rattle.pic_grid.specs.Pair.{IsPair};
+ghost use Rattle.pic_grid.specs.Parts.{layered, IsWeakLayer};
 ghost use Rattle.pic_gather.specs.Forces.{AreForces};
-ghost use Rattle.pic_gather.specs.Sides.{AreSidesOf, Gathers};
+ghost use Rattle.pic_gather.specs.Sides.{AreSidesOf, AreWeakLayers, Gathers};
 
 use crate::component::component;
-use crate::layered::layered_component;
-use crate::sides::{Sides, places_of};
-use pic_grid::Lattice;
+use crate::layered::{Layers, layered_component};
+use crate::sides::{Places, Sides, places_of};
+use pic_grid::{Lattice, Pair};
 use pic_num::{Axis, Sub};
+
+/// The greatest side of a cell under whose weights a sum of weak values fits 64 bits.
+const MAX_WEAK_SIDE: u32 = 1 << 12;
 
 /// The force values of E and of B at a point.
 #[derive(Clone, Copy, Debug, PartialEq, Eq)]
@@ -75,10 +79,41 @@ pub fn gather(force_e: &Lattice, force_b: &Lattice, point: [u32; 3]) -> Gathered
     let cells = force_e.cells();
     let sub = cells.sub();
     let at = places_of(cells, point);
-    Gathered {
-        e: layered_components(force_e, sub, at.middles, at.nodes),
-        b: layered_components(force_b, sub, at.nodes, at.middles),
+    if are_weak(force_e, at) & are_weak(force_b, at) {
+        return Gathered {
+            e: layered_components(force_e, sub, at.middles, at.nodes, true),
+            b: layered_components(force_b, sub, at.nodes, at.middles, true),
+        };
     }
+    Gathered {
+        e: layered_components(force_e, sub, at.middles, at.nodes, false),
+        b: layered_components(force_b, sub, at.nodes, at.middles, false),
+    }
+}
+
+/// Whether all layers of z that a point's places lie in are known to be weak, in cells of few enough
+/// sub-cells.
+#[inline(always)]
+fn are_weak(force: &Lattice, at: Places) -> bool
+    requires parts { force.now.parts ≡ layered force.now.cells }
+    requires nodes { IsPair force.now.side force.now.cells.z at.nodes.z }
+    requires middles { IsPair force.now.side force.now.cells.z at.middles.z }
+    ensures nodes { IsTrue result → AreWeakLayers force.now at.nodes.z }
+    ensures middles { IsTrue result → AreWeakLayers force.now at.middles.z }
+{
+    let few = force.cells().sub().side() <= MAX_WEAK_SIDE;
+    few & are_weak_at(force, at.nodes.z) & are_weak_at(force, at.middles.z)
+}
+
+/// Whether the two layers of a pair are known to be weak.
+#[inline(always)]
+fn are_weak_at(force: &Lattice, z: Pair) -> bool
+    requires parts { force.now.parts ≡ layered force.now.cells }
+    requires on { IsPair force.now.side force.now.cells.z z }
+    ensures low { IsTrue result → IsWeakLayer force.now z.low }
+    ensures high { IsTrue result → IsWeakLayer force.now z.high }
+{
+    force.is_weak(z.low) & force.is_weak(z.high)
 }
 
 /// The three components at a point, each by the sides `own` on its own axis, and by `others` on the
@@ -93,7 +128,7 @@ fn components(force: &Lattice, own: Sides, others: Sides) -> [i64; 3]
 {
     let sub = force.cells().sub();
     if force.is_layered() {
-        return layered_components(force, sub, own, others);
+        return layered_components(force, sub, own, others, false);
     }
     let Sides { x, y, z } = others;
     [
@@ -106,27 +141,35 @@ fn components(force: &Lattice, own: Sides, others: Sides) -> [i64; 3]
 /// The same in a lattice with a part for each layer of z: two layers have the places of the nodes
 /// on z, and two those of the middles.
 #[inline(always)]
-fn layered_components(force: &Lattice, sub: Sub, own: Sides, others: Sides) -> [i64; 3]
+fn layered_components(force: &Lattice, sub: Sub, own: Sides, others: Sides, weak: bool) -> [i64; 3]
     requires parts { force.now.parts ≡ layered force.now.cells }
     requires side { sub ≡ force.now.side }
     requires most { force.now.side ≤ most_side }
     requires small { AreForces force.now }
     requires own { AreSidesOf force.now own }
     requires others { AreSidesOf force.now others }
+    requires weak { IsTrue weak → AreWeakLayers force.now others.z }
+    requires own_weak { IsTrue weak → AreWeakLayers force.now own.z }
     ensures value { Gathers force.now own others (spot result) }
     ensures size { AreAtMost (spot result) most_force }
 {
     let Sides { x, y, z } = others;
-    let low = force.layer(z.low);
-    let high = force.layer(z.high);
-    let own_low = force.layer(own.z.low);
-    let own_high = force.layer(own.z.high);
+    let layers = Layers {
+        low: force.layer(z.low),
+        high: force.layer(z.high),
+        weak,
+    };
+    let own_layers = Layers {
+        low: force.layer(own.z.low),
+        high: force.layer(own.z.high),
+        weak,
+    };
     let on_x = Sides { x: own.x, y, z };
     let on_y = Sides { x, y: own.y, z };
     let on_z = Sides { x, y, z: own.z };
     [
-        layered_component(force, sub, Axis::X, on_x, low, high),
-        layered_component(force, sub, Axis::Y, on_y, low, high),
-        layered_component(force, sub, Axis::Z, on_z, own_low, own_high),
+        layered_component(force, sub, Axis::X, on_x, layers),
+        layered_component(force, sub, Axis::Y, on_y, layers),
+        layered_component(force, sub, Axis::Z, on_z, own_layers),
     ]
 }

@@ -4,6 +4,7 @@ ghost use Rattle.std.specs.Prelude.{◌≡◌, pos, ◌+◌, ◌*◌, ◌^◌, �
 ghost use Rattle.pic_num.specs.Limits.{most_force, most_side};
 ghost use Rattle.pic_num.specs.Rounding.{rounded};
 ghost use Rattle.pic_num.specs.Sizes.{IsAtMost};
+ghost use Rattle.pic_grid.specs.Weak.{most_weak};
 
 use pic_grid::Pair;
 use pic_num::Sub;
@@ -19,8 +20,50 @@ pub(crate) fn narrow_mix(low: i64, high: i64, pair: Pair) -> i64
     requires most { pair.low_weight + pair.high_weight ≤ most_side }
     ensures value { result ≡ low *ℤ pos pair.low_weight +ℤ high *ℤ pos pair.high_weight }
     ensures size { IsAtMost result (most_force * (pair.low_weight + pair.high_weight)) }
+    ensures weak { IsAtMost low most_weak → IsAtMost high most_weak
+        → IsAtMost result (most_weak * (pair.low_weight + pair.high_weight)) }
 {
     low * i64::from(pair.low_weight) + high * i64::from(pair.high_weight)
+}
+
+/// Two sums of weak values under the weights of a pair.
+#[inline(always)]
+fn weak_mix(low: i64, high: i64, pair: Pair) -> i64
+    requires low_small { IsAtMost low (2 ^ 50) }
+    requires high_small { IsAtMost high (2 ^ 50) }
+    requires most { pair.low_weight + pair.high_weight ≤ 2 ^ 12 }
+    ensures value { result ≡ low *ℤ pos pair.low_weight +ℤ high *ℤ pos pair.high_weight }
+    ensures size { IsAtMost result (2 ^ 62) }
+    ensures small { IsAtMost low (2 ^ 38) → IsAtMost high (2 ^ 38) → IsAtMost result (2 ^ 50) }
+{
+    low * i64::from(pair.low_weight) + high * i64::from(pair.high_weight)
+}
+
+/// Four rows' sums of weak values under the weights of the pairs of y and z, in 64 bits: the low and
+/// the high row of the low layer, then those of the high layer.
+#[inline(always)]
+pub(crate) fn weak_sum(
+    low_low: i64,
+    high_low: i64,
+    low_high: i64,
+    high_high: i64,
+    y: Pair,
+    z: Pair,
+) -> i64
+    requires low_low_small { IsAtMost low_low (2 ^ 38) }
+    requires high_low_small { IsAtMost high_low (2 ^ 38) }
+    requires low_high_small { IsAtMost low_high (2 ^ 38) }
+    requires high_high_small { IsAtMost high_high (2 ^ 38) }
+    requires y_most { y.low_weight + y.high_weight ≤ 2 ^ 12 }
+    requires z_most { z.low_weight + z.high_weight ≤ 2 ^ 12 }
+    ensures value { result
+        ≡ (low_low *ℤ pos y.low_weight +ℤ high_low *ℤ pos y.high_weight) *ℤ pos z.low_weight
+        +ℤ (low_high *ℤ pos y.low_weight +ℤ high_high *ℤ pos y.high_weight) *ℤ pos z.high_weight }
+    ensures size { IsAtMost result (2 ^ 62) }
+{
+    let low = weak_mix(low_low, high_low, y);
+    let high = weak_mix(low_high, high_high, y);
+    weak_mix(low, high, z)
 }
 
 /// A row's sum under its weight, which is the product of one of y and one of z.
@@ -73,4 +116,18 @@ pub(crate) fn mean(sub: Sub, sum: i128) -> i64
     let bits = 3 * sub.bits() % WORD;
     let half = 1 << (bits - 1);
     ((sum + half) >> bits) as i64
+}
+
+/// The same of a sum of weak values, in 64 bits.
+#[inline(always)]
+pub(crate) fn weak_mean(sub: Sub, sum: i64) -> i64
+    requires few { sub ≤ 2 ^ 12 }
+    requires small { IsAtMost sum (2 ^ 62) }
+    requires forces { IsAtMost sum (most_force * (sub * sub * sub)) }
+    ensures value { result ≡ rounded sum (pos (sub ^ 3)) }
+    ensures size { IsAtMost result most_force }
+{
+    let shift = 3 * sub.bits() % WORD;
+    let half = 1 << (shift - 1);
+    (sum + half) >> shift
 }
