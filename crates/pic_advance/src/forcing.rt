@@ -46,6 +46,16 @@ impl<'a> Work<Block, Block, ()> for Forcing<'a> {
     {}
 }
 
+/// The force values of a field in a block, which are measured for the gather.
+fn force_block(forcing: &Forcing, block: &mut Block)
+    requires among { IsAmong forcing.now.from.now.cells block.old }
+    requires small { EachAtMost most_value forcing.now.from.now }
+    ensures { IsMade (force_of forcing.now.mult (value_at forcing.now.from.now)) block.old block.new }
+{
+    force(forcing.mult, forcing.from, block);
+    block.measure();
+}
+
 /// The force values of a field in blocks, one after another.
 fn force_in_turn(forcing: &Forcing, blocks: &mut [Block])
     requires among { All (IsAmong forcing.now.from.now.cells) blocks.old }
@@ -54,7 +64,7 @@ fn force_in_turn(forcing: &Forcing, blocks: &mut [Block])
         blocks.old blocks.new }
 {
     for i in 0..blocks.len() {
-        force(forcing.mult, forcing.from, &mut blocks[i]);
+        force_block(forcing, &mut blocks[i]);
     }
 }
 

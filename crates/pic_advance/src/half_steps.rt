@@ -29,11 +29,13 @@ pub struct Halves {
     pub stop: Option<Stop>,
 }
 
-/// What both half steps of B are made from.
+/// What both half steps of B are made from, and whether particles feel the force values between them,
+/// which are measured then.
 #[derive(Clone, Copy)]
 struct BothHalves<'a> {
     scales: &'a Scales,
     e: &'a Lattice,
+    felt: bool,
 }
 
 impl<'a> Work<Block, Block, Stops> for BothHalves<'a> {
@@ -72,10 +74,14 @@ fn halves_of_block(step: &BothHalves, b: &mut Block, force: &mut Block, rooms: &
     ensures second { result.0 ≡ None
         → result.1 ≡ stop_of_second step.now.scales.now step.now.e.now b.old }
 {
-    match both_halves_in(step.scales, step.e, b, force, rooms) {
+    let stops = match both_halves_in(step.scales, step.e, b, force, rooms) {
         Ok(second) => (None, second),
         Err(first) => (Some(first), None),
+    };
+    if step.felt {
+        force.measure();
     }
+    stops
 }
 
 /// Both half steps of B in blocks, one after another. The answer is their least stops.
@@ -98,7 +104,8 @@ fn halves_in_turn(step: &BothHalves, blocks: &mut [Block], force: &mut [Block]) 
 
 /// Both half steps of B of a step, between which E stays, over the blocks of B, by the workers of a
 /// team, each in a thread of its own where one can be made and pays; and the force values of B between
-/// the two, in a lattice that is cut as B is, whatever it held. No memory is taken.
+/// the two, in a lattice that is cut as B is, whatever it held; where they are felt they are measured, for
+/// the gather. No memory is taken.
 ///
 /// # Errors
 /// The first half step's stop: that of the least place (the axis first, then z, y, x) whose value
@@ -109,6 +116,7 @@ pub fn advance_b<H: Threads + Sync, G>(
     e: &Lattice,
     b: Lattice,
     force: Lattice,
+    felt: bool,
 ) -> Result<Halves, Stop>
     requires cells { b.cells ≡ e.now.cells }
     requires force_cells { force.cells ≡ e.now.cells }
@@ -122,7 +130,7 @@ pub fn advance_b<H: Threads + Sync, G>(
     let mut blocks = b.into_blocks();
     let mut beside = force.into_blocks();
     let workers = useful(team.workers, cells, blocks.len());
-    let step = BothHalves { scales, e };
+    let step = BothHalves { scales, e, felt };
     let (first, stop) = each_share(team.rt, workers, &step, &mut blocks, &mut beside);
     match first {
         None => Ok(Halves {

@@ -55,7 +55,7 @@ pub(crate) fn halve_b<H: Threads + Sync, G>(
     } = plasma;
     let map = *frame.map();
     let (kinds, force_e, force_b) = frame.into_parts();
-    let Halves { b, force, stop } = advance_b(team, scales, e, b, force_b)?;
+    let Halves { b, force, stop } = advance_b(team, scales, e, b, force_b, count > 0)?;
     let plasma = Plasma {
         frame: Frame::new(map, kinds, force_e, force),
         tiles,
