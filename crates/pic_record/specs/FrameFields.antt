@@ -33,6 +33,10 @@ pub record IsModerate (by : Multiplier) (v : ℤ) : Type 0 where
   pub value : IsAtMost v most_value
   pub force : IsAtMost (scaled v by) most_force
 
+-- every value up to a size is so
+abbrev pub AreModerateUpTo : ℕ → Multiplier → Type 0
+AreModerateUpTo size by = (v : ℤ) → IsAtMost v size → IsModerate by v
+
 -- the next value of a field
 unfoldable pub value_at : Multiplier → List ℤ → Parser ℤ
 value_at by before = checked strong_value (is_moderate by) i128_at

@@ -11,33 +11,28 @@ ghost use Rattle.pic_record.specs.FrameFields.{is_moderate, IsModerate, value_at
 ghost use Rattle.pic_record.specs.Firsts.{FirstAre};
 ghost use Rattle.pic_record.specs.Parts.{ReadsPart};
 
+use crate::measure::Measure;
 use crate::part::Part;
 use pic_fields::{Ahead, Cause, ReadStop, fill, read_i128};
 use pic_grid::{Lattice, Place};
 use pic_io::Source;
-use pic_num::{MAX_FORCE, MAX_VALUE, Mult, scale};
+use pic_num::Mult;
 
 /// How many values a piece of 65536 bytes has.
 const VALUES_OF_A_PIECE: usize = 1 << 12;
 
 // Reads a field value.
-fn read_value<S: Source>(source: &mut S, place: u64, by: Mult) -> Result<i128, ReadStop>
+fn read_value<S: Source>(source: &mut S, place: u64, by: &Measure) -> Result<i128, ReadStop>
     requires { place + 16 < 2 ^ 63 }
-    ensures reads { Reads as_it_is (checked strong_value (is_moderate by) i128_at) place
+    ensures reads { Reads as_it_is (checked strong_value (is_moderate by.now) i128_at) place
         (place + 16) (S.told source.old) (S.told source.new) result }
-    ensures bounds { IfOk result (λ v. IsModerate by v) }
+    ensures bounds { IfOk result (λ v. IsModerate by.now v) }
 {
     let value = read_i128(source, place)?;
-    if !is_moderate(by, value) {
+    if !by.has_moderate(value) {
         return Err(Cause::StrongValue.at(place));
     }
     Ok(value)
-}
-
-fn is_moderate(by: Mult, value: i128) -> bool
-    ensures { result ≡ is_moderate by value }
-{
-    value.unsigned_abs() <= MAX_VALUE && scale(value, by).unsigned_abs() <= MAX_FORCE
 }
 
 // Reads so many values of a field, behind the first ones. The place of the first is looked up, each other
@@ -45,19 +40,19 @@ fn is_moderate(by: Mult, value: i128) -> bool
 fn read_values<S: Source>(
     source: &mut S,
     place: u64,
-    by: Mult,
+    by: &Measure,
     field: &mut Lattice,
     part: Part<usize>,
 ) -> Result<(), ReadStop>
     requires some { 0 < part.count }
     requires place { place + 16 * part.count < 2 ^ 63 }
     requires count { part.first + part.count ≤ 3 * count_of field.old.cells }
-    requires moderate { FirstAre (IsModerate by) part.first field.old.values }
-    ensures part { ReadsPart (value_at by) 16 part.first part.count place (S.told source.old)
+    requires moderate { FirstAre (IsModerate by.now) part.first field.old.values }
+    ensures part { ReadsPart (value_at by.now) 16 part.first part.count place (S.told source.old)
         (S.told source.new) field.old.values field.new.values result }
     ensures shape { IsSameShape field.old field.new }
     ensures moderate { OnOk result
-        (FirstAre (IsModerate by) (part.first + part.count) field.new.values) }
+        (FirstAre (IsModerate by.now) (part.first + part.count) field.new.values) }
 {
     let cells = field.cells();
     let size = cells.numbers();
@@ -76,7 +71,7 @@ fn read_piece_of_values<S: Source>(
     source: &mut S,
     room: &mut [u8],
     place: u64,
-    by: Mult,
+    by: &Measure,
     field: &mut Lattice,
     part: Part<usize>,
 ) -> Result<(), ReadStop>
@@ -84,12 +79,12 @@ fn read_piece_of_values<S: Source>(
     requires some { 0 < part.count }
     requires place { place + 16 * part.count < 2 ^ 63 }
     requires count { part.first + part.count ≤ 3 * count_of field.old.cells }
-    requires moderate { FirstAre (IsModerate by) part.first field.old.values }
-    ensures part { ReadsPart (value_at by) 16 part.first part.count place (S.told source.old)
+    requires moderate { FirstAre (IsModerate by.now) part.first field.old.values }
+    ensures part { ReadsPart (value_at by.now) 16 part.first part.count place (S.told source.old)
         (S.told source.new) field.old.values field.new.values result }
     ensures shape { IsSameShape field.old field.new }
     ensures moderate { OnOk result
-        (FirstAre (IsModerate by) (part.first + part.count) field.new.values) }
+        (FirstAre (IsModerate by.now) (part.first + part.count) field.new.values) }
 {
     let taken = fill(source, room)?;
     let mut piece = Ahead::new(&room[..taken]);
@@ -111,13 +106,14 @@ pub fn read_field<S: Source>(
     ensures bounds { OnOk result (IsBounded by field.new) }
 {
     let all = 3 * field.cells().count() as usize;
+    let measure = Measure::new(by);
     let mut room = [0u8; 65536];
     let mut first = 0;
     while first < all {
         let count = VALUES_OF_A_PIECE.min(all - first);
         let at = place + 16 * first as u64;
         let part = Part { first, count };
-        read_piece_of_values(source, &mut room[..16 * count], at, by, field, part)?;
+        read_piece_of_values(source, &mut room[..16 * count], at, &measure, field, part)?;
         first += count;
     }
     Ok(())

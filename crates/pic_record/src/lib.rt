@@ -11,6 +11,7 @@ mod frame_reader;
 mod framing;
 mod laws;
 mod layout;
+mod measure;
 mod part;
 
 pub use due::{due_after, is_due};

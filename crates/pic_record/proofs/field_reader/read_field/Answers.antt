@@ -35,7 +35,7 @@ returns-in_err-read_piece_of_values-clause-reads g c =
     let new = c.read_piece_of_values.new.field.values in
     exits_behind (value_at c.args.by) first count n {view = always (drop first (take (first + count) new))} c.from_residual.ensures.1
     fits (omega (arith, fits)) so_far.read
-    c.in_err-read_piece_of_values.ensures.part.reads
+    (rw c.new-measure.ensures at c.in_err-read_piece_of_values.ensures.part.reads)
 
 pub loop-first-preserved : goal.loop-first-preserved
 loop-first-preserved g c =
@@ -44,7 +44,7 @@ loop-first-preserved g c =
     let count = c.min-count.result in
     let old = c.loop-first.field.values in
     let new = c.read_piece_of_values.new.field.values in
-    let piece = c.in_ok-read_piece_of_values.ensures in
+    let piece = rw c.new-measure.ensures at c.in_ok-read_piece_of_values.ensures in
     record {
       read = read_up_to {a = take (first + count) new} (omega arith) (read_same (part_whole first count old new piece.part.front)
           (read_behind (value_at c.args.by) first count so_far.read piece.part.reads.answer));

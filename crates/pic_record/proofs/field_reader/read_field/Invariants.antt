@@ -9,7 +9,7 @@ use Rattle.pic_record.proofs.field_reader.read_field.Given as goal
 
 abbrev pub invariant-loop-first : goal.invariant-loop-first
 invariant-loop-first g l = record {
-  read : HasRead (each l.first (value_at l.by)) l.place (g.S.Source.told l.initial.source) (take l.first l.field.values) (l.place + 16 * l.first)
+  read : HasRead (each l.first (value_at l.fn.by)) l.place (g.S.Source.told l.initial.source) (take l.first l.field.values) (l.place + 16 * l.first)
       (g.S.Source.told l.source);
   all : l.all ≡ 3 * count_of l.initial.field.cells;
   most : l.first ≤ l.all;
@@ -17,7 +17,7 @@ invariant-loop-first g l = record {
   side : l.field.side ≡ l.initial.field.side;
   parts : l.field.parts ≡ l.initial.field.parts;
   length : length l.field.values ≡ length l.initial.field.values;
-  moderate : FirstAre (IsModerate l.by) l.first l.field.values;
+  moderate : FirstAre (IsModerate l.fn.by) l.first l.field.values;
 }
 
 abbrev pub decreases-loop-first : goal.decreases-loop-first

@@ -13,7 +13,7 @@ returns-clause-part g c =
     let piece : c.new-piece.result ≡ take taken room = c.new-piece.ensures in
     let part = rw piece at c.read_values.ensures.part in
     record {
-      reads = reads_piece _ taken room _ (of_values c.args.by (take c.args.part.first c.args.field.now.values) c.args.part.count) size
+      reads = reads_piece _ taken room _ (of_values c.args.by.now (take c.args.part.first c.args.field.now.values) c.args.part.count) size
           (omega arith) c.in_ok-taken.ensures.fills part.reads;
       whole = part.whole;
       front = part.front;

@@ -15,20 +15,20 @@ code_moderate by v fits = rw (to_z-of_z w128 v fits) refl
 pub returns-in_err-value-clause-reads : goal.returns-in_err-value-clause-reads
 returns-in_err-value-clause-reads g c = exits_checked _ _ c.from_residual.ensures.1 c.in_err-value.ensures
 
-pub returns-then-not-is_moderate-clause-reads : goal.returns-then-not-is_moderate-clause-reads
-returns-then-not-is_moderate-clause-reads g c =
+pub returns-then-not-has_moderate-clause-reads : goal.returns-then-not-has_moderate-clause-reads
+returns-then-not-has_moderate-clause-reads g c =
     let fits : SFits w128 c.in_ok-value.value = search rules in
     rw c.at.ensures (record {
-      answer = refuses _ (is_moderate c.args.by) c.in_ok-value.ensures.answer
-          (sym (code_moderate c.args.by c.in_ok-value.value fits) ∙ sym c.is_moderate.ensures ∙ c.if-not-is_moderate.true);
+      answer = refuses _ (is_moderate c.args.by.now) c.in_ok-value.ensures.answer
+          (sym (code_moderate c.args.by.now c.in_ok-value.value fits) ∙ sym c.has_moderate.ensures ∙ c.if-not-has_moderate.true);
     })
 
 pub returns-clause-reads : goal.returns-clause-reads
 returns-clause-reads g c =
     let fits : SFits w128 c.in_ok-value.value = search rules in
     rw (to_z-of_z w128 c.in_ok-value.value fits) (record {
-      answer = passes _ (is_moderate c.args.by) c.in_ok-value.ensures.answer
-          (sym (code_moderate c.args.by c.in_ok-value.value fits) ∙ sym c.is_moderate.ensures ∙ c.if-not-is_moderate.false);
+      answer = passes _ (is_moderate c.args.by.now) c.in_ok-value.ensures.answer
+          (sym (code_moderate c.args.by.now c.in_ok-value.value fits) ∙ sym c.has_moderate.ensures ∙ c.if-not-has_moderate.false);
     })
 
 pub returns-in_err-value-clause-bounds : goal.returns-in_err-value-clause-bounds

@@ -33,9 +33,9 @@ pub loop-index-init : goal.loop-index-init
 loop-index-init g c =
     let xs = c.args.field.now.values in
     let first = c.args.part.first in
-    let none = read_none (λ ys. value_at c.args.by (take first xs ++ ys)) c.args.place _ in
+    let none = read_none (λ ys. value_at c.args.by.now (take first xs ++ ys)) c.args.place _ in
     record {
-      read = read_same {p = each_behind (take first xs) 0 (value_at c.args.by)} (sym (part_none first xs)) (read_up_to (omega arith) none);
+      read = read_same {p = each_behind (take first xs) 0 (value_at c.args.by.now)} (sym (part_none first xs)) (read_up_to (omega arith) none);
       cells = refl;
       side = refl;
       parts = refl;
@@ -52,7 +52,7 @@ returns-in_err-value-clause-part g c =
     let xs = c.args.field.now.values in
     let first = c.args.part.first in
     record {
-      reads = exits_among c.args.part.count c.loop-index.index (λ ys. value_at c.args.by (take first xs ++ ys)) c.from_residual.ensures.1
+      reads = exits_among c.args.part.count c.loop-index.index (λ ys. value_at c.args.by.now (take first xs ++ ys)) c.from_residual.ensures.1
           c.loop-index-test.true (omega (arith, c.loop-index-test.true)) c.loop-index.invariant.read c.in_err-value.ensures.reads;
       whole = c.loop-index.invariant.length;
       front = c.loop-index.invariant.front;
@@ -64,7 +64,7 @@ loop-index-preserved g c =
     let so_far = c.loop-index.invariant in
     let f = c.loop-index.field in
     let i = c.loop-index.index in
-    let by = c.args.by in
+    let by = c.args.by.now in
     let first = c.args.part.first in
     let m = first + i in
     let v = c.in_ok-value.value in
@@ -105,7 +105,7 @@ returns-clause-part g c =
     let all : c.loop-index.index ≡ c.args.part.count = omega (arith, c.loop-index-test.false, c.loop-index.auto.index-end) in
     record {
       reads = record {
-        answer = subst (λ n. HasRead (each_behind (take first xs) n (value_at c.args.by)) c.args.place before (drop first (take (first + n) new))
+        answer = subst (λ n. HasRead (each_behind (take first xs) n (value_at c.args.by.now)) c.args.place before (drop first (take (first + n) new))
             (c.args.place + 16 * n) now) all so_far.read;
       };
       whole = so_far.length;
