@@ -1,8 +1,10 @@
 -- Laws of the charge of the particles.
-use Rattle.std.proofs.Common.{◌≡◌, ℕ, ◌+◌, ◌*◌, ◌^◌, ◌<◌, ◌≤◌, List, [], length, get_or, take, All, refl, sym, ◌∙◌, ap, subst, unsigned_abs, arith}
+use Rattle.std.proofs.Common.{◌≡◌, ℕ, ◌+◌, ◌*◌, ◌<◌, ◌≤◌, List, [], length, get_or, take, All, inl, inr, refl, sym, ◌∙◌, ap, subst, unsigned_abs, arith}
 use Rattle.std.proofs.Math.IntN.{ℤ, pos, ◌+ℤ◌, ◌*ℤ◌}
 use Rattle.std.proofs.Math.Nat.{le_trans}
+use Rattle.std.proofs.lemmas.Bool.{cases_lt}
 use Rattle.std.proofs.lemmas.Int.{ints, unsigned_abs-mul}
+use Rattle.std.proofs.lemmas.List.{get_or_past}
 use Rattle.pic_num.specs.declared.motion.Particle.{Particle}
 use Rattle.pic_num.specs.declared.motion.Kind.{Kind}
 use Rattle.pic_num.specs.Limits.{most_charge, most_particles, most_side}
@@ -12,12 +14,12 @@ use Rattle.pic_num.specs.Space.{Triple, triple}
 use Rattle.pic_grid.specs.Hat.{periodic_hat, weight}
 use Rattle.pic_grid.specs.Lattice.{NodeValues, node_at}
 use Rattle.pic_grid.specs.Cells.{IsWithin}
-use Rattle.pic_grid.specs.PushPhase.{kind_of}
+use Rattle.pic_grid.specs.PushPhase.{kind_of, no_kind}
 use Rattle.pic_grid.specs.Species.{IsKind}
 use Rattle.pic_grid.specs.Sums.{sum_over}
 use Rattle.pic_grid.proofs.HatLaws.{hat_most}
 use Rattle.pic_grid.proofs.OverLaws.{sum_over_more, sum_over_bound}
-use Rattle.pic_grid.proofs.SpeciesLaws.{kind_most, charge_most}
+use Rattle.pic_grid.proofs.SpeciesLaws.{kind_most}
 use Rattle.pic_charge.specs.Charge.{share, charge_of, most_node_charge, IsCharged}
 use Rattle.pic_charge.specs.Spread.{NodesAtMost, Adds}
 
@@ -36,6 +38,10 @@ pub charge_of_more : (side : ℕ) (n : Triple) (kinds : List Kind) (xs : List Pa
 unfolding charge_of
 charge_of_more side n kinds xs i d node below = sum_over_more (λ x. share side n kinds x node) xs i d below
 
+-- the cube of a number that is at most another
+pub cube_most : (side most : ℕ) → side ≤ most → side * side * side ≤ most * most * most
+cube_most side most short = times_at_most (side * side) side (most * most) most (times_at_most side side most most short short) short
+
 -- a weight is at most the cube of the side
 pub weight_most : (side : ℕ) (n point node : Triple) → weight side n point node ≤ side * side * side
 unfolding weight
@@ -51,31 +57,39 @@ weight_most side n point node =
 pub all_charged : (kinds : List Kind) → All IsKind kinds → All IsCharged kinds
 all_charged kinds limits i k below = record { size = kind_most (get_or kinds i k) (limits i k below) }
 
--- a particle's share is at most 12 * 2^15 times the cube of the side
-pub share_size : (side : ℕ) (n : Triple) (kinds : List Kind) (x : Particle) (node : Triple) → All IsCharged kinds
-    → unsigned_abs (share side n kinds x node) ≤ 12 * 2 ^ 15 * (side * side * side)
+-- what bounds the charge of each species bounds that of a particle, whatever its species
+pub charge_within : (kinds : List Kind) (x : Particle) (q : ℕ) → All (λ (k : Kind). IsAtMost k.charge q) kinds
+    → unsigned_abs (kind_of kinds x).charge ≤ q
+charge_within kinds x q limits = elim (cases_lt x.species (length kinds)) [
+  | inl below ↦ (limits x.species no_kind below).size
+  | inr past ↦ subst (λ (k : Kind). unsigned_abs k.charge ≤ q) (sym (get_or_past kinds x.species no_kind past)) (omega arith)
+]
+
+-- a particle's share is at most 12 times the greatest charge times the cube of the side
+pub share_size : (side : ℕ) (n : Triple) (kinds : List Kind) (x : Particle) (node : Triple) (q : ℕ) → All (λ (k : Kind). IsAtMost k.charge q) kinds
+    → unsigned_abs (share side n kinds x node) ≤ 12 * q * (side * side * side)
 unfolding share
-share_size side n kinds x node limits =
-    let q : ℤ = (kind_of kinds x).charge in
+share_size side n kinds x node q limits =
+    let charge : ℤ = (kind_of kinds x).charge in
     let w : ℕ = weight side n (triple x.x) node in
-    let small = charge_most kinds x limits in
-    let twelve : unsigned_abs (pos 12 *ℤ q) ≤ 12 * 2 ^ 15 = omega (arith, ints, small) in
-    rw (unsigned_abs-mul (pos 12 *ℤ q) (pos w))
-    (times_at_most (unsigned_abs (pos 12 *ℤ q)) w (12 * 2 ^ 15) (side * side * side) twelve (weight_most side n (triple x.x) node))
+    let small = charge_within kinds x q limits in
+    let twelve : unsigned_abs (pos 12 *ℤ charge) ≤ 12 * q = omega (arith, ints, small) in
+    rw (unsigned_abs-mul (pos 12 *ℤ charge) (pos w))
+    (times_at_most (unsigned_abs (pos 12 *ℤ charge)) w (12 * q) (side * side * side) twelve (weight_most side n (triple x.x) node))
 
 -- the charge of a node is at most that for each particle
-pub charge_of_size : (side : ℕ) (n : Triple) (kinds : List Kind) (xs : List Particle) (node : Triple) → All IsCharged kinds
-    → unsigned_abs (charge_of side n kinds xs node) ≤ length xs * (12 * 2 ^ 15 * (side * side * side))
+pub charge_of_size : (side : ℕ) (n : Triple) (kinds : List Kind) (xs : List Particle) (node : Triple) (q : ℕ) → All (λ (k : Kind). IsAtMost k.charge q) kinds
+    → unsigned_abs (charge_of side n kinds xs node) ≤ length xs * (12 * q * (side * side * side))
 unfolding charge_of
-charge_of_size side n kinds xs node limits =
-    sum_over_bound (λ x. share side n kinds x node) xs (12 * 2 ^ 15 * (side * side * side)) (λ x. share_size side n kinds x node limits)
+charge_of_size side n kinds xs node q limits =
+    sum_over_bound (λ x. share side n kinds x node) xs (12 * q * (side * side * side)) (λ x. share_size side n kinds x node q limits)
 
 -- with no longer side and no more particles than the limits it is no larger than that of a node can be
 pub charge_of_most : (side : ℕ) (n : Triple) (kinds : List Kind) (xs : List Particle) (node : Triple) → side ≤ most_side → All IsCharged kinds
     → length xs ≤ most_particles → IsAtMost (charge_of side n kinds xs node) most_node_charge
 charge_of_most side n kinds xs node short limits few =
-    let size = charge_of_size side n kinds xs node limits in
-    let cube = times_at_most (side * side) side (most_side * most_side) most_side (times_at_most side side most_side most_side short short) short in
+    let size = charge_of_size side n kinds xs node most_charge limits in
+    let cube = cube_most side most_side short in
     let each = times_at_most (12 * most_charge) (side * side * side) (12 * most_charge) (most_side * most_side * most_side) (omega arith) cube in
     record {
       size = le_trans size

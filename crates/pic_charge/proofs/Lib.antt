@@ -4,4 +4,5 @@ pub mod NodeWalkLaws
 pub mod PairLaws
 pub mod ChargeLaws
 pub mod BreakLaws
+pub mod SumLaws
 pub mod RoomLaws

@@ -1,4 +1,4 @@
--- Nodes after a write, and nodes that are being cleared.
+-- Nodes after a write, and nodes that are being written one after another.
 use Rattle.std.proofs.Common.{◌≡◌, ◌≢◌, ℕ, ◌+◌, ◌*◌, ◌<◌, refl, sym, ◌∙◌, ap, subst, inl, inr, arith}
 use Rattle.std.proofs.Math.IntN.{ℤ, pos, ◌+ℤ◌, ◌*ℤ◌}
 use Rattle.std.proofs.lemmas.Bool.{cases_eq}
@@ -78,32 +78,32 @@ node_added old new q amount sum after here inside = record {
   ];
 }
 
--- every node below a number is 0
-pub record IsCleared (n : Triple) (nodes : NodeValues) (i : ℕ) : Type 0 where
+-- every node below a number is what g gives
+pub record IsWritten (n : Triple) (g : Triple → ℤ) (nodes : NodeValues) (i : ℕ) : Type 0 where
   pub cells : nodes.cells ≡ n
-  pub zeros : (p : Triple) → IsWithin p n → index_of n p < i → node_at nodes p ≡ pos 0
+  pub values : (p : Triple) → IsWithin p n → index_of n p < i → node_at nodes p ≡ g p
 
-pub cleared_none : (n : Triple) (nodes : NodeValues) → nodes.cells ≡ n → IsCleared n nodes 0
-cleared_none n nodes same = record { cells = same; zeros = λ p within below. absurd (omega (arith, below)) }
+pub written_none : (n : Triple) (g : Triple → ℤ) (nodes : NodeValues) → nodes.cells ≡ n → IsWritten n g nodes 0
+written_none n g nodes same = record { cells = same; values = λ p within below. absurd (omega (arith, below)) }
 
-pub cleared_more : (n : Triple) (old new : NodeValues) (i : ℕ) (q : Triple)
-    → IsCleared n old i
-    → new ≡ with_node old q (pos 0)
-    → node_at new q ≡ pos 0
+pub written_more : (n : Triple) (g : Triple → ℤ) (old new : NodeValues) (i : ℕ) (q : Triple) (v : ℤ)
+    → IsWritten n g old i
+    → new ≡ with_node old q v
+    → node_at new q ≡ g q
     → index_of n q ≡ i
     → IsWithin q n
-    → IsCleared n new (i + 1)
-cleared_more n old new i q so_far after here at inside = record {
+    → IsWritten n g new (i + 1)
+written_more n g old new i q v so_far after here at inside = record {
   cells = ap (λ (f : NodeValues). f.cells) after ∙ so_far.cells;
-  zeros = cells_more n (λ (p : Triple). node_at new p ≡ pos 0) i q at inside
+  values = cells_more n (λ (p : Triple). node_at new p ≡ g p) i q at inside
       (λ p within below.
       let p_at = ap (λ (m : Triple). index_of m p) so_far.cells in
       let q_at = ap (λ (m : Triple). index_of m q) so_far.cells in
       let other : index_of old.cells p ≢ index_of old.cells q = λ e. absurd (omega (arith, e, p_at, q_at, at, below)) in
-      ap (λ (f : NodeValues). node_at f p) after ∙ node_at-other old q (pos 0) p other ∙ so_far.zeros p within below)
+      ap (λ (f : NodeValues). node_at f p) after ∙ node_at-other old q v p other ∙ so_far.values p within below)
       here;
 }
 
-pub cleared_all : (n : Triple) (nodes : NodeValues) (i : ℕ) → IsCleared n nodes i → i ≡ count_of n
-    → (p : Triple) → IsWithin p n → node_at nodes p ≡ pos 0
-cleared_all n nodes i all end p within = let below = index_of_below n p within in all.zeros p within (omega (arith, end, below))
+pub written_all : (n : Triple) (g : Triple → ℤ) (nodes : NodeValues) (i : ℕ) → IsWritten n g nodes i → i ≡ count_of n
+    → (p : Triple) → IsWithin p n → node_at nodes p ≡ g p
+written_all n g nodes i all end p within = let below = index_of_below n p within in all.values p within (omega (arith, end, below))

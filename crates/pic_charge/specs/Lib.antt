@@ -2,3 +2,4 @@ pub mod Charge
 pub mod ChargeRoom
 pub mod Gauss
 pub mod Spread
+pub mod Sums

@@ -1,7 +1,7 @@
 //! The charge of the particles at the nodes.
 
-ghost use Rattle.std.specs.Prelude.{◌≡◌, pos, ◌^◌, ◌≤◌, ◌*ℤ◌, All, length};
-ghost use Rattle.pic_num.specs.Limits.{most_charge, most_particles};
+ghost use Rattle.std.specs.Prelude.{◌≡◌, pos, ◌^◌, ◌≤◌, All, length};
+ghost use Rattle.pic_num.specs.Limits.{most_particles};
 ghost use Rattle.pic_num.specs.Sizes.{IsAtMost};
 ghost use Rattle.pic_num.specs.Space.{Triple};
 ghost use Rattle.pic_grid.specs.Lattice.{node_at};
@@ -10,8 +10,9 @@ ghost use Rattle.pic_grid.specs.PushPhase.{CanShare};
 ghost use Rattle.pic_charge.specs.Charge.{share, charge_of, most_node_charge, IsCharged};
 ghost use Rattle.pic_charge.specs.Spread.{NodesAtMost, Adds};
 
+use crate::cloud::cloud_of;
 use crate::spread::add_box;
-use pic_grid::{Cells, Nodes, Pair, Place};
+use pic_grid::{Cells, Nodes, Place};
 use pic_num::{Kind, Particle};
 
 /// Makes the nodes the charge of the particles, in twelfths of a charge times a cubic sub-cell, whatever
@@ -59,23 +60,6 @@ fn add_particle(cells: Cells, kinds: &[Kind], particle: &Particle, to: &mut Node
     requires room { NodesAtMost to.old (2 ^ 87) }
     ensures { Adds to.old to.new (share cells.side cells.n kinds.now particle.now) }
 {
-    let kind = kinds[particle.species as usize];
-    let sub = cells.sub();
-    let _side = sub.side();
-    let [nx, ny, nz] = cells.numbers();
-    let [x, y, z] = particle.x;
-    let amount = twelvefold(kind.charge);
-    let on_x = Pair::of_nodes(sub, nx, x);
-    let on_y = Pair::of_nodes(sub, ny, y);
-    let on_z = Pair::of_nodes(sub, nz, z);
-    add_box(to, on_x, on_y, on_z, amount);
-}
-
-/// 12 times a charge.
-fn twelvefold(charge: i32) -> i64
-    requires { IsAtMost charge most_charge }
-    ensures value { result ≡ pos 12 *ℤ charge }
-    ensures size { IsAtMost result (2 ^ 19) }
-{
-    12 * i64::from(charge)
+    let given = cloud_of(cells, kinds, particle);
+    add_box(to, given.x, given.y, given.z, given.amount);
 }

@@ -3,9 +3,12 @@
 
 mod breaks;
 mod charges;
+mod cloud;
 mod laws;
 mod room;
 mod spread;
+mod sum_spread;
+mod sums;
 
 pub use breaks::{Break, gauss};
 pub use charges::charge;

@@ -13,18 +13,20 @@ ghost use Rattle.pic_charge.specs.Charge.{rho_of, IsCharged};
 ghost use Rattle.pic_charge.specs.Gauss.{first_break};
 
 use crate::breaks::{Break, gauss};
-use crate::charges::charge;
+use crate::sums::charge_by;
 use pic_filter::smooth_nodes;
 use pic_grid::{Cells, Lattice, Nodes};
 use pic_num::{Kind, NoMemory, Particle};
 use std::alloc::Global;
 use std::marker::Model;
 
-/// Room for the charge of a grid's nodes, and for as many numbers again where it is filtered.
+/// Room for the charge of a grid's nodes, for its sums in 64 bits, and for as many numbers again where
+/// it is filtered.
 #[derive(Drop)]
 pub struct ChargeRoom {
     cells: Cells,
     charge: Nodes,
+    sums: Vec<i64>,
     smooth: Option<Nodes>,
 }
 
@@ -36,7 +38,7 @@ impl Model for ChargeRoom {
 
     ghost view = { λ r. record { grid = r.cells; filter = filter_in r.smooth } };
 
-    ghost invariant = { λ r. AreRooms r.cells r.charge r.smooth };
+    ghost invariant = { λ r. AreRooms r.cells r.charge r.sums.items r.smooth };
 }
 
 impl ChargeRoom {
@@ -46,6 +48,7 @@ impl ChargeRoom {
         ensures { IfOk result (λ r. r ≡ record { grid = cells; filter = filter }) }
     {
         let charge = Nodes::new(alloc, cells)?;
+        let sums = vec![in alloc; 0i64; cells.count() as usize]?;
         let smooth = if filter == 0 {
             None
         } else {
@@ -54,6 +57,7 @@ impl ChargeRoom {
         Ok(ChargeRoom {
             cells,
             charge,
+            sums,
             smooth,
         })
     }
@@ -80,7 +84,8 @@ impl ChargeRoom {
         ensures room { self.new ≡ self.old }
     {
         let cells = self.cells;
-        charge(cells, kinds, particles, &mut self.charge);
+        let sums = self.sums.as_mut_slice();
+        charge_by(cells, kinds, particles, sums, &mut self.charge);
         match &mut self.smooth {
             None => gauss(cells, e, &self.charge),
             Some(smooth) => {

@@ -63,7 +63,8 @@ pub(crate) fn add_box(to: &mut Nodes, x: Pair, y: Pair, z: Pair, amount: i64)
 }
 
 /// An amount times a weight.
-fn times(amount: i64, weight: u32) -> i64
+#[inline(always)]
+pub(crate) fn times(amount: i64, weight: u32) -> i64
     requires amount_most { IsAtMost amount (2 ^ 47) }
     requires weight_most { weight ≤ most_side }
     ensures { result ≡ amount *ℤ pos weight }

@@ -1,8 +1,8 @@
-use Rattle.std.proofs.Common.{◌<◌, sym, subst, arith}
+use Rattle.std.proofs.Common.{◌<◌, pos, sym, subst, arith}
 use Rattle.pic_num.specs.Space.{triple}
 use Rattle.pic_grid.specs.Cells.{IsWithin, count_of}
 use Rattle.pic_grid.proofs.PlaceLaws.{first_place}
-use Rattle.pic_charge.proofs.NodeLaws.{cleared_none, cleared_more, cleared_all}
+use Rattle.pic_charge.proofs.NodeLaws.{written_none, written_more, written_all}
 use Rattle.pic_charge.proofs.NodeWalkLaws.{node_within, node_number, node_behind}
 use Rattle.pic_charge.proofs.charges.clear.Goals as goal
 
@@ -24,7 +24,7 @@ following-place-requires c =
 
 pub loop-init : goal.loop-init
 loop-init c = record {
-  cleared = cleared_none c.args.cells.n c.args.to.now c.requires;
+  cleared = written_none c.args.cells.n (λ _. pos 0) c.args.to.now c.requires;
   place = first_place c.args.cells.n _ _ c.first-place.ensures.axis c.first-place.ensures.inner;
 }
 
@@ -38,7 +38,7 @@ loop-preserved c =
     let below : i < count_of n = omega (arith, c.loop-test.true, c.count-end.ensures.value) in
     let next = c.following-place in
     record {
-      cleared = cleared_more n c.loop.to c.set.new.self i p c.loop.invariant.cleared c.set.ensures.after c.set.ensures.stored
+      cleared = written_more n (λ _. pos 0) c.loop.to c.set.new.self i p (pos 0) c.loop.invariant.cleared c.set.ensures.after c.set.ensures.stored
           (node_number n i a p place below) (node_within n i a p place below);
       place = node_behind n (triple c.numbers-size.result) i a p next.result.axis (triple next.result.inner) c.numbers-size.ensures.value place below
           next.ensures.within next.ensures.number;
@@ -47,6 +47,6 @@ loop-preserved c =
 pub returns : goal.returns
 returns c = record {
   same_cells = c.loop.invariant.cleared.cells;
-  values = cleared_all c.args.cells.n c.loop.to c.loop.counter c.loop.invariant.cleared
+  values = written_all c.args.cells.n (λ _. pos 0) c.loop.to c.loop.counter c.loop.invariant.cleared
       (omega (arith, c.loop-test.false, c.loop.auto.counter-end, c.count-end.ensures.value));
 }

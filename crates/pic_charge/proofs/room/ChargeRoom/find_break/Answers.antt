@@ -21,12 +21,12 @@ returns-clause-value c =
     c.self.view_is in
     elim c.match-self.branch [
       | in-None w ↦ w.result-is ∙ w.gauss.ensures.value
-          ∙ first_break-charge g.side filter g.n kinds particles div (node_at c.charge.new.to)
-          (plain_charge g.side filter g.n kinds particles (node_at c.charge.new.to) (ap filter_in w.in-None.is) c.charge.ensures.values)
+          ∙ first_break-charge g.side filter g.n kinds particles div (node_at c.charge_by.new.to)
+          (plain_charge g.side filter g.n kinds particles (node_at c.charge_by.new.to) (ap filter_in w.in-None.is) c.charge_by.ensures.values)
           ∙ seen
       | in-Some w ↦ w.result-is ∙ w.gauss-in-Some.ensures.value
           ∙ first_break-charge g.side filter g.n kinds particles div (node_at w.smooth_nodes.new.to)
-          (smooth_charge g.side filter g.n kinds particles (node_at c.charge.new.to) (node_at w.smooth_nodes.new.to) (ap filter_in w.in-Some.is)
-          c.charge.ensures.values w.smooth_nodes.ensures.values)
+          (smooth_charge g.side filter g.n kinds particles (node_at c.charge_by.new.to) (node_at w.smooth_nodes.new.to) (ap filter_in w.in-Some.is)
+          c.charge_by.ensures.values w.smooth_nodes.ensures.values)
           ∙ seen
     ]
