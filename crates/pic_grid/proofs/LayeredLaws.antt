@@ -20,12 +20,12 @@ weak_layer f z values is are = record {
 }
 
 -- a cell's part is the only one on an axis of one part
-none_over : (n x : ℕ) → x < n → x / n ≡ 0
+pub none_over : (n x : ℕ) → x < n → x / n ≡ 0
 none_over n x below =
     let low : x / n < 1 = div_below x n 1 (omega (arith, below)) (omega (arith, below)) in
     omega (arith, low)
 
-whole_rest : (n x : ℕ) → x < n → x % n ≡ x
+pub whole_rest : (n x : ℕ) → x < n → x % n ≡ x
 whole_rest n x below =
     let whole : x / n * n + x % n ≡ x = div-add-mod' x n in
     let product : x / n * n ≡ 0 * n = ap (λ (m : ℕ). m * n) (none_over n x below) in

@@ -22,7 +22,9 @@ pub mod HatLaws
 pub mod PairLaws
 pub mod PathLaws
 pub mod TwoHatLaws
+pub mod WeakLaws
 pub mod WeightLaws
+pub mod WholeLaws
 pub mod FluxLaws
 pub mod LeastHaltLaws
 pub mod ApartLaws

@@ -1,4 +1,4 @@
-use Rattle.std.specs.Prelude.{◌≡◌, ℤ, pos, ℕ, ◌*◌, ◌/◌, ◌%◌, ◌≤◌, List, map, slice_index_or, slice_set}
+use Rattle.std.specs.Prelude.{◌≡◌, ℤ, pos, ℕ, ◌+◌, ◌*◌, ◌/◌, ◌%◌, ◌≤◌, List, ◌++◌, length, take, drop, map, slice_index_or, slice_set}
 use Rattle.std.specs.List.{range_with_len}
 use Rattle.pic_num.specs.declared.axis.Axis.{Axis}
 use Rattle.pic_num.specs.Sizes.{IsAtMost}
@@ -37,6 +37,14 @@ pub record EachAtMost (most : ℕ) (f : Field) : Type 0 where
 -- the lattice with that component changed
 abbrev pub with_value : Field → Axis → Triple → ℤ → Field
 with_value f a p v = record f { values = slice_set f.values (place_of f.cells a p) v }
+
+-- a list with the elements from the number first on changed to these
+abbrev pub overwritten : ℕ → List ℤ → List ℤ → List ℤ
+overwritten first vs xs = take first xs ++ (vs ++ drop (first + length vs) xs)
+
+-- the lattice with the components from the number first on changed, in the order of places
+abbrev pub with_places : Field → ℕ → List ℤ → Field
+with_places f first vs = record f { values = overwritten first vs f.values }
 
 -- the components that g gives, in the order of places
 unfoldable pub values_of : Triple → (Axis → Triple → ℤ) → List ℤ

@@ -18,6 +18,7 @@ mod parts;
 mod places;
 mod rows;
 mod runs;
+mod setting;
 mod slot;
 mod snapshot;
 mod stop;

@@ -2,9 +2,8 @@
 //! 64 bits.
 
 ghost use Rattle.std.specs.Prelude.{◌≡◌, ℕ, pos, ◌<◌, slice_index_or, IsTrue};
-ghost use Rattle.pic_num.specs.Sizes.{IsAtMost};
 ghost use Rattle.pic_grid.specs.Parts.{layered, IsWeakLayer};
-ghost use Rattle.pic_grid.specs.Weak.{most_weak, AreWeak};
+ghost use Rattle.pic_grid.specs.Weak.{AreWeak};
 
 use crate::block::Block;
 use crate::lattice::Lattice;
@@ -36,22 +35,15 @@ impl Lattice {
     }
 }
 
-/// Whether all values are weak.
+/// Whether all values are weak. It may be false where they are and one is as great as a weak value can
+/// be.
+// Any other sets a bit from the 27th on, once a weak value's greatest size is added to it.
 fn are_weak(values: &[i128]) -> bool
     ensures { IsTrue result → AreWeak values.now }
 {
+    let mut bits = 0i128;
     for i in 0..values.len() {
-        if !is_weak(values[i]) {
-            return false;
-        }
+        bits |= values[i].wrapping_add(GREATEST_WEAK);
     }
-    true
-}
-
-/// Whether a value is weak.
-#[inline(always)]
-fn is_weak(value: i128) -> bool
-    ensures { IsTrue result → IsAtMost value most_weak }
-{
-    -GREATEST_WEAK <= value && value <= GREATEST_WEAK
+    0 <= bits && bits < 2 * GREATEST_WEAK
 }

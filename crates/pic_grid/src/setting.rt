@@ -1,0 +1,65 @@
+//! Components of a lattice set in the order of places.
+
+ghost use Rattle.std.specs.Prelude.{◌≡◌, ◌↔◌, ◌+◌, ◌*◌, ◌<◌, ◌≤◌, length, IsTrue};
+ghost use Rattle.pic_grid.specs.Cells.{count_of};
+ghost use Rattle.pic_grid.specs.Lattice.{overwritten, with_places};
+ghost use Rattle.pic_grid.specs.Parts.{one_part};
+
+use crate::block::Block;
+use crate::lattice::Lattice;
+use crate::places::Place;
+
+impl Lattice {
+    /// Changes the components from the one of the number `first` on, in the order of places, to
+    /// `values`, and nothing else.
+    pub fn set_places(&mut self, first: usize, values: &[i128])
+        requires some { 0 < length values.now }
+        requires room { first + length values.now ≤ 3 * count_of self.old.cells }
+        ensures { self.new ≡ with_places self.old first values.now }
+    {
+        if self.is_whole() {
+            self.blocks[0].set_values(first, values);
+            return;
+        }
+        set_each(self, first, values);
+    }
+
+    /// Whether it is one part.
+    fn is_whole(&self) -> bool
+        ensures { IsTrue result ↔ (self.now.parts ≡ one_part) }
+    {
+        let [px, py, pz] = self.parts;
+        px == 1 && py == 1 && pz == 1
+    }
+}
+
+impl Block {
+    /// Changes the components from the one of the number `first` on to `values`, and nothing else.
+    fn set_values(&mut self, first: usize, values: &[i128])
+        requires { first + length values.now ≤ 3 * count_of self.old.size }
+        ensures after { self.new
+            ≡ record self.old { values = overwritten first values.now self.old.values } }
+        ensures shape { length self.old.values ≡ 3 * count_of self.old.size }
+    {
+        self.blank = false;
+        self.weak = false;
+        let end = first + values.len();
+        self.values.as_mut_slice()[first..end].copy_from_slice(values);
+    }
+}
+
+/// Changes the components of a lattice from the one of the number `first` on, place by place.
+fn set_each(lattice: &mut Lattice, first: usize, values: &[i128])
+    requires some { 0 < length values.now }
+    requires room { first + length values.now ≤ 3 * count_of lattice.old.cells }
+    ensures { lattice.new ≡ with_places lattice.old first values.now }
+{
+    let cells = lattice.cells();
+    let size = cells.numbers();
+    let (axis, inner) = cells.place_at(first);
+    let mut at = Place { axis, inner };
+    for i in 0..values.len() {
+        lattice.set(at.axis, at.inner, values[i]);
+        at = at.following(size);
+    }
+}
