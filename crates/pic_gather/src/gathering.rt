@@ -79,15 +79,10 @@ pub fn gather(force_e: &Lattice, force_b: &Lattice, point: [u32; 3]) -> Gathered
     let cells = force_e.cells();
     let sub = cells.sub();
     let at = places_of(cells, point);
-    if are_weak(force_e, at) & are_weak(force_b, at) {
-        return Gathered {
-            e: layered_components(force_e, sub, at.middles, at.nodes, true),
-            b: layered_components(force_b, sub, at.nodes, at.middles, true),
-        };
-    }
+    let weak = are_weak(force_e, at) & are_weak(force_b, at);
     Gathered {
-        e: layered_components(force_e, sub, at.middles, at.nodes, false),
-        b: layered_components(force_b, sub, at.nodes, at.middles, false),
+        e: layered_components(force_e, sub, at.middles, at.nodes, weak),
+        b: layered_components(force_b, sub, at.nodes, at.middles, weak),
     }
 }
 

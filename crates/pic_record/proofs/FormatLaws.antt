@@ -74,8 +74,8 @@ frame_size l d =
     let c = count_of l.cells in
     let s = sum l.counts in
     of_length (omega arith) (of_then _ 4 (3 * c * 16 + (3 * c * 16 + (s * 24 + 48))) (of_checked wrong_step (nat_eq d) 4 (of_mapped u32_of 4 (of_field 4)))
-    (λ step. of_then _ (3 * c * 16) (3 * c * 16 + (s * 24 + 48)) (of_values l.scales.e_force [] (3 * c))
-    (λ e. of_then _ (3 * c * 16) (s * 24 + 48) (of_values l.scales.b_force [] (3 * c))
+    (λ step. of_then _ (3 * c * 16) (3 * c * 16 + (s * 24 + 48)) (of_values l.scales.e_force (3 * c))
+    (λ e. of_then _ (3 * c * 16) (s * 24 + 48) (of_values l.scales.b_force (3 * c))
     (λ b. of_then _ (s * 24) 48 (of_particles l [] s) (λ particles. of_mapped _ 48 (of_energies _))))))
 
 -- and the step that it was to have

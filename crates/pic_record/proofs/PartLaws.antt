@@ -1,12 +1,19 @@
 -- A part of a field's values, or of the particles, and how many bytes it has.
-use Rattle.std.proofs.Common.{◌≡◌, ℕ, ℤ, ◌+◌, ◌*◌, ◌<◌, ◌≤◌, List, [], ◌∷◌, ◌++◌, length, set, take, drop, sym, ap, ◌∙◌, arith, take-append-drop}
+use Rattle.std.proofs.Common.{◌≡◌, ℕ, ℤ, ◌+◌, ◌-◌, ◌*◌, ◌<◌, ◌≤◌, List, [], ◌∷◌, ◌++◌, length, set, take, drop, inl, inr, sym, ap, subst, ◌∙◌, arith}
+use Rattle.std.proofs.Common.{take-append-drop, length-append, append_assoc}
 use Rattle.std.proofs.lemmas.List.{take_more_set, take-set-le, take-take, length-take, length-take-le, drop-append-le, drop_all}
+use Rattle.std.proofs.lemmas.List.{get_or-take, get_or_append_left, get_or-append_right}
+use Rattle.std.proofs.lemmas.Bool.{cases_lt}
+use Rattle.std.proofs.Math.Seq.{take-append_seam}
 use Rattle.std.specs.Prelude.{nat_eq}
+use Rattle.pic_grid.specs.Lattice.{overwritten}
+use Rattle.pic_record.specs.Firsts.{FirstAre}
 use Rattle.pic_num.specs.declared.motion.Particle.{Particle}
 use Rattle.pic_num.specs.Multiplier.{Multiplier}
 use Rattle.pic_num.specs.Space.{Triple}
 use Rattle.pic_energy.specs.declared.amounts.Energies.{Energies}
 use Rattle.pic_fields.specs.Number.{i128_of, i128_at, u128_of, u128_at, u32_of, u32_at, i32_of, i32_at, is_between, between}
+use Rattle.pic_fields.specs.Parser.{each}
 use Rattle.pic_fields.specs.Pieces.{each_behind}
 use Rattle.pic_fields.proofs.LengthLaws.{IsOfLength, of_done, of_then, of_mapped, of_field, of_checked, of_each}
 use Rattle.pic_record.specs.Fields.{strong_value, out_of_range, wrong_energy, is_below, below}
@@ -39,13 +46,36 @@ part_whole first count old new front =
     ap (λ l. l ++ drop first (take (first + count) new)) (sym front ∙ sym (take-take first (first + count) new (omega arith)))
     ∙ take-append-drop first (take (first + count) new)
 
+-- the values so far with those of a piece are so too,
+pub first_with_piece : (Is : ℤ → Type 0) (first : ℕ) (vs xs : List ℤ) → first ≤ length xs → FirstAre Is first xs → FirstAre Is (length vs) vs
+    → FirstAre Is (first + length vs) (overwritten first vs xs)
+first_with_piece Is first vs xs room before piece k d below =
+    let rest = vs ++ drop (first + length vs) xs in
+    let front = length-take-le first xs room in
+    elim (cases_lt k first) [
+      | inl less ↦ subst Is (sym (get_or_append_left (take first xs) rest d k (omega (arith, front, less)) ∙ get_or-take first xs k d less)) (before k d less)
+      | inr least ↦ (let inside : k - first < length vs = omega (arith, below, least) in
+          subst Is (sym (get_or-append_right (take first xs) rest first k d front least
+          ∙ get_or_append_left vs (drop (first + length vs) xs) d (k - first) inside)) (piece (k - first) d inside))
+    ]
+
+-- and stand in front
+pub taken_with_piece : (first : ℕ) (vs xs : List ℤ) → first ≤ length xs → take first xs ++ vs ≡ take (first + length vs) (overwritten first vs xs)
+taken_with_piece first vs xs room =
+    let rest = drop (first + length vs) xs in
+    let front = length-take-le first xs room in
+    let long : length (take first xs ++ vs) ≡ first + length vs = length-append (take first xs) vs ∙ ap (λ n. n + length vs) front in
+    sym (ap (take (first + length vs)) (sym (append_assoc (take first xs) vs rest))
+    ∙ ap (λ n. take n ((take first xs ++ vs) ++ rest)) (sym long)
+    ∙ take-append_seam (take first xs ++ vs) rest)
+
 -- the bytes of a value
 of_value : (by : Multiplier) (before : List ℤ) → IsOfLength (value_at by before) 16
 unfolding value_at i128_at
 of_value by before = of_checked strong_value (is_moderate by) 16 (of_mapped i128_of 16 (of_field 16))
 
-pub of_values : (by : Multiplier) (before : List ℤ) (n : ℕ) → IsOfLength (each_behind before n (value_at by)) (n * 16)
-of_values by before n = of_each (λ xs. value_at by (before ++ xs)) 16 n (λ xs. of_value by (before ++ xs))
+pub of_values : (by : Multiplier) (n : ℕ) → IsOfLength (each n (value_at by)) (n * 16)
+of_values by n = of_each (value_at by) 16 n (of_value by)
 
 -- the bytes of a particle
 of_coordinate : (side cells : ℕ) → IsOfLength (coordinate_at side cells) 4

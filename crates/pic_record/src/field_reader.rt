@@ -2,19 +2,17 @@
 
 ghost use Rattle.std.specs.Prelude.{◌≡◌, ◌+◌, ◌*◌, ◌<◌, ◌≤◌, ◌^◌, length, IfOk, OnOk};
 ghost use Rattle.pic_grid.specs.Cells.{count_of};
-ghost use Rattle.pic_fields.specs.Parser.{checked};
+ghost use Rattle.pic_fields.specs.Parser.{checked, each};
 ghost use Rattle.pic_fields.specs.Number.{i128_at};
 ghost use Rattle.pic_fields.specs.Reads.{Reads, always, as_it_is};
 ghost use Rattle.pic_energy.specs.Energies.{IsBounded};
 ghost use Rattle.pic_record.specs.Fields.{strong_value};
 ghost use Rattle.pic_record.specs.FrameFields.{is_moderate, IsModerate, value_at, field_at, IsSameShape};
 ghost use Rattle.pic_record.specs.Firsts.{FirstAre};
-ghost use Rattle.pic_record.specs.Parts.{ReadsPart};
 
 use crate::measure::Measure;
-use crate::part::Part;
 use pic_fields::{Ahead, Cause, ReadStop, fill, read_i128};
-use pic_grid::{Lattice, Place};
+use pic_grid::Lattice;
 use pic_io::Source;
 use pic_num::Mult;
 
@@ -35,33 +33,20 @@ fn read_value<S: Source>(source: &mut S, place: u64, by: &Measure) -> Result<i12
     Ok(value)
 }
 
-// Reads so many values of a field, behind the first ones. The place of the first is looked up, each other
-// one follows.
+// Reads values one after another.
 fn read_values<S: Source>(
     source: &mut S,
     place: u64,
     by: &Measure,
-    field: &mut Lattice,
-    part: Part<usize>,
+    values: &mut [i128],
 ) -> Result<(), ReadStop>
-    requires some { 0 < part.count }
-    requires place { place + 16 * part.count < 2 ^ 63 }
-    requires count { part.first + part.count ≤ 3 * count_of field.old.cells }
-    requires moderate { FirstAre (IsModerate by.now) part.first field.old.values }
-    ensures part { ReadsPart (value_at by.now) 16 part.first part.count place (S.told source.old)
-        (S.told source.new) field.old.values field.new.values result }
-    ensures shape { IsSameShape field.old field.new }
-    ensures moderate { OnOk result
-        (FirstAre (IsModerate by.now) (part.first + part.count) field.new.values) }
+    requires { place + 16 * length values.old < 2 ^ 63 }
+    ensures reads { Reads (always values.new) (each (length values.old) (value_at by.now)) place
+        (place + 16 * length values.old) (S.told source.old) (S.told source.new) result }
+    ensures moderate { OnOk result (FirstAre (IsModerate by.now) (length values.old) values.new) }
 {
-    let cells = field.cells();
-    let size = cells.numbers();
-    let (axis, inner) = cells.place_at(part.first);
-    let mut at = Place { axis, inner };
-    for index in 0..part.count {
-        let value = read_value(source, place + 16 * index as u64, by)?;
-        field.set(at.axis, at.inner, value);
-        at = at.following(size);
+    for i in 0..values.len() {
+        values[i] = read_value(source, place + 16 * i as u64, by)?;
     }
     Ok(())
 }
@@ -72,23 +57,17 @@ fn read_piece_of_values<S: Source>(
     room: &mut [u8],
     place: u64,
     by: &Measure,
-    field: &mut Lattice,
-    part: Part<usize>,
+    values: &mut [i128],
 ) -> Result<(), ReadStop>
-    requires room { length room.old ≡ 16 * part.count }
-    requires some { 0 < part.count }
-    requires place { place + 16 * part.count < 2 ^ 63 }
-    requires count { part.first + part.count ≤ 3 * count_of field.old.cells }
-    requires moderate { FirstAre (IsModerate by.now) part.first field.old.values }
-    ensures part { ReadsPart (value_at by.now) 16 part.first part.count place (S.told source.old)
-        (S.told source.new) field.old.values field.new.values result }
-    ensures shape { IsSameShape field.old field.new }
-    ensures moderate { OnOk result
-        (FirstAre (IsModerate by.now) (part.first + part.count) field.new.values) }
+    requires room { length room.old ≡ 16 * length values.old }
+    requires place { place + 16 * length values.old < 2 ^ 63 }
+    ensures reads { Reads (always values.new) (each (length values.old) (value_at by.now)) place
+        (place + 16 * length values.old) (S.told source.old) (S.told source.new) result }
+    ensures moderate { OnOk result (FirstAre (IsModerate by.now) (length values.old) values.new) }
 {
     let taken = fill(source, room)?;
     let mut piece = Ahead::new(&room[..taken]);
-    read_values(&mut piece, place, by, field, part)
+    read_values(&mut piece, place, by, values)
 }
 
 /// Reads the values of a field in the order of places, in pieces of up to 65536 bytes.
@@ -108,12 +87,14 @@ pub fn read_field<S: Source>(
     let all = 3 * field.cells().count() as usize;
     let measure = Measure::new(by);
     let mut room = [0u8; 65536];
+    let mut values = [0i128; VALUES_OF_A_PIECE];
     let mut first = 0;
     while first < all {
         let count = VALUES_OF_A_PIECE.min(all - first);
         let at = place + 16 * first as u64;
-        let part = Part { first, count };
-        read_piece_of_values(source, &mut room[..16 * count], at, &measure, field, part)?;
+        let piece = &mut values[..count];
+        read_piece_of_values(source, &mut room[..16 * count], at, &measure, piece)?;
+        field.set_places(first, piece);
         first += count;
     }
     Ok(())

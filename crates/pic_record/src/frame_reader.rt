@@ -160,7 +160,7 @@ fn read_some_particles<S: Source>(
     place: u64,
     layout: &Layout,
     particles: &mut [Particle],
-    part: Part<u32>,
+    part: Part,
 ) -> Result<(), ReadStop>
     requires place { place + 24 * part.count < 2 ^ 63 }
     requires end { part.first + part.count < 2 ^ 32 }
@@ -186,7 +186,7 @@ fn read_piece_of_particles<S: Source>(
     place: u64,
     layout: &Layout,
     particles: &mut [Particle],
-    part: Part<u32>,
+    part: Part,
 ) -> Result<(), ReadStop>
     requires room { length room.old ≡ 24 * part.count }
     requires place { place + 24 * part.count < 2 ^ 63 }

@@ -2,7 +2,7 @@
 
 /// So many elements, behind the first ones.
 #[derive(Clone, Copy)]
-pub struct Part<N> {
-    pub first: N,
-    pub count: N,
+pub struct Part {
+    pub first: u32,
+    pub count: u32,
 }
