@@ -93,16 +93,32 @@ fn are_weak(field: &Lattice) -> Option<[bool; 2]> {
 fn measured_layers_are_weak_until_they_are_written(rt: HostRuntime) -> Result<(), NoMemory> {
     let cells = Cells::new([4, 6, 2], Sub::of_bits(8));
     let mut field = Lattice::new(rt.alloc(), cells, [1, 1, 2])?;
-    field.set(Axis::X, [1, 2, 0], 1 << 26);
+    field.set(Axis::X, [1, 2, 0], (1 << 26) - 1);
+    field.set(Axis::Y, [1, 2, 0], -(1 << 26));
     field.set(Axis::Z, [3, 5, 1], -(1 << 26) - 1);
     let mut blocks = field.into_blocks();
     blocks[0].measure();
     blocks[1].measure();
     let mut field = Lattice::of_blocks(cells, [1, 1, 2], blocks);
     assert_eq!(rt; are_weak(&field), Some([true, false]));
-    assert_eq!(rt; field.at(Axis::X, [1, 2, 0]), 1 << 26);
+    assert_eq!(rt; field.at(Axis::X, [1, 2, 0]), (1 << 26) - 1);
     field.set(Axis::X, [1, 2, 0], 0);
     assert_eq!(rt; are_weak(&field), Some([false, false]));
+    Ok(())
+}
+
+#[test]
+fn places_are_set_in_their_order(rt: HostRuntime) -> Result<(), NoMemory> {
+    let cells = Cells::new([4, 6, 2], Sub::of_bits(8));
+    for parts in [[1, 1, 1], [2, 3, 1]] {
+        let mut field = Lattice::new(rt.alloc(), cells, parts)?;
+        field.set_places(46, &[7, 8, 9]);
+        let on_x = (field.at(Axis::X, [1, 5, 1]), field.at(Axis::X, [2, 5, 1]));
+        assert_eq!(rt; on_x, (0, 7));
+        let on_x_and_y = (field.at(Axis::X, [3, 5, 1]), field.at(Axis::Y, [0, 0, 0]));
+        assert_eq!(rt; on_x_and_y, (8, 9));
+        assert_eq!(rt; field.at(Axis::Y, [1, 0, 0]), 0);
+    }
     Ok(())
 }
 
