@@ -3,7 +3,7 @@ use Rattle.std.proofs.Common.{◌≡◌, ℕ, ℤ, pos, ◌+◌, ◌-◌, ◌*�
 use Rattle.std.proofs.Common.{drop, slice_index_or, unsigned_abs, inl, inr, refl, sym, ◌∙◌, ap, subst, arith}
 use Rattle.std.proofs.lemmas.Bool.{cases_lt}
 use Rattle.std.proofs.lemmas.Int.{ints}
-use Rattle.std.proofs.lemmas.List.{get_or-take, get_or_append_left, get_or-append_right, length-append, length-drop, length-take-le}
+use Rattle.std.proofs.lemmas.List.{length-drop}
 use Rattle.std.proofs.lemmas.Nat.{mul-add-lt}
 use Rattle.std.proofs.Math.Nat.{mul-le-mul_right}
 use Rattle.pic_num.specs.declared.axis.Axis.{Axis}
@@ -20,32 +20,15 @@ use Rattle.pic_grid.proofs.CellLaws.{place_of_same, place_of_below, cell_of_with
 use Rattle.pic_grid.proofs.LatticeLaws.{value_at-field_of, is_field_of}
 use Rattle.pic_grid.proofs.PartLaws.{IsAxisCut, cut, block_of, number_of, block_has, part_of_within, value_at-joined}
 use Rattle.pic_grid.proofs.RowLaws.{place_of-row}
-
--- a list of which a part is written
-module _ (row part rest : List ℤ) (start : ℕ) (room : start ≤ length row) where
-  abbrev all : List ℤ
-  all = take start row ++ (part ++ rest)
-
-  front : length (take start row) ≡ start
-  front = length-take-le start row room
-
-  left : (k : ℕ) → k < start → slice_index_or all k (pos 0) ≡ slice_index_or row k (pos 0)
-  left k less = get_or_append_left (take start row) (part ++ rest) (pos 0) k (omega (arith, front)) ∙ get_or-take start row k (pos 0) less
-
-  right : (k : ℕ) → start ≤ k → k - start < length part → slice_index_or all k (pos 0) ≡ slice_index_or part (k - start) (pos 0)
-  right k least inside =
-      get_or-append_right (take start row) (part ++ rest) start k (pos 0) front least
-      ∙ get_or_append_left part rest (pos 0) (k - start) inside
+use Rattle.pic_grid.proofs.WrittenLaws.{written_before, written_part, written_long}
 
 -- a row stays as long
 pub filled_long : (row part : List ℤ) (done more : ℕ) → done + more ≤ length row → length part ≡ more
     → length (take done row ++ (part ++ drop (done + more - done) (drop done row))) ≡ length row
 filled_long row part done more fits long =
-    let front = length-take-le done row (omega arith) in
     let rest = length-drop (done + more - done) (drop done row) in
-    let behind = length-drop done row in
-    let all = length-append (take done row) (part ++ drop (done + more - done) (drop done row)) in
-    omega (arith, front, rest, behind, all, length-append part (drop (done + more - done) (drop done row)))
+    let all = written_long row part (drop (done + more - done) (drop done row)) done (omega (arith, fits)) in
+    omega (arith, fits, long, rest, length-drop done row, all)
 
 pub as_long : (f : Field) (a : Axis) (p : Triple) (count n : ℕ) (row : List ℤ) → count ≡ n → IsRunOf f a p count row → IsRunOf f a p n row
 as_long f a p count n row same = subst (λ (k : ℕ). IsRunOf f a p k row) same
@@ -56,11 +39,11 @@ pub run_more : (f : Field) (a : Axis) (p : Triple) (done more : ℕ) (row part r
     → IsRunOf f a p (done + more) (take done row ++ (part ++ rest))
 run_more f a p done more row part rest before room long values = record {
   values = λ k below. elim (cases_lt k done) [
-    | inl less ↦ left row part rest done room k less ∙ before.values k less
+    | inl less ↦ written_before row part rest done room k (pos 0) less ∙ before.values k less
     | inr least ↦
         (let j : k - done < more = omega (arith, below, least) in
         let same : p.x + done + (k - done) ≡ p.x + k = omega (arith, least) in
-        right row part rest done room k least (omega (arith, j, long)) ∙ values (k - done) j
+        written_part row part rest done room k (pos 0) least (omega (arith, j, long)) ∙ values (k - done) j
         ∙ ap (λ (x : ℕ). value_at f a (record p { x = x })) same)
   ];
 }
@@ -100,7 +83,7 @@ rows_more f low n values part rest i start b r within number at room long run be
         elim (cases_lt k i) [
           | inl less ↦
               (let before_row : k * n.x + p.x < n.x * i = mul-add-lt k n.x p.x i less w.x in
-              left values part rest start room (place_of n a p) (omega (arith, place, before_row, begin)) ∙ before.at a p w less)
+              written_before values part rest start room (place_of n a p) (pos 0) (omega (arith, place, before_row, begin)) ∙ before.at a p w less)
           | inr least ↦
               (let same : k ≡ i = omega (arith, below, least) in
               let in_rows : IsWithin (record { x = 0; y = p.y; z = p.z }) (rows_of n) = record { x = omega arith; y = w.y; z = w.z } in
@@ -108,7 +91,7 @@ rows_more f low n values part rest i start b r within number at room long run be
               let here : place_of n a p ≡ start + p.x = place ∙ ap (λ (m : ℕ). m * n.x + p.x) same ∙ ap (λ (m : ℕ). m + p.x) (sym begin) in
               let inner : place_of n a p - start ≡ p.x = omega (arith, here) in
               let x = w.x in
-              right values part rest start room (place_of n a p) (omega (arith, here)) (omega (arith, inner, x, long))
+              written_part values part rest start room (place_of n a p) (pos 0) (omega (arith, here)) (omega (arith, inner, x, long))
               ∙ ap (λ (m : ℕ). slice_index_or part m (pos 0)) inner
               ∙ run.values p.x w.x
               ∙ (λ t. value_at f (sym both.0 t) (record { x = low.x + p.x; y = low.y + (sym both.1 t).y; z = low.z + (sym both.1 t).z })))

@@ -6,6 +6,7 @@ pub mod BlockLaws
 pub mod ShapeLaws
 pub mod SmallLaws
 pub mod PartLaws
+pub mod WrittenLaws
 pub mod RowLaws
 pub mod BlockLayerLaws
 pub mod BlockRowLaws

@@ -3,8 +3,7 @@ use Rattle.std.proofs.Common.{◌≡◌, ℕ, ℤ, pos, ◌+◌, ◌-◌, ◌*�
 use Rattle.std.proofs.lemmas.Bool.{cases_lt}
 use Rattle.std.proofs.Math.Nat.{mul-le-mul_right}
 use Rattle.std.proofs.lemmas.Nat.{mul-add-lt}
-use Rattle.std.proofs.lemmas.List.{length-append, length-take-le, length-drop, get_or-take, get_or-drop}
-use Rattle.std.proofs.lemmas.List.{get_or_append_left, get_or-append_right, drop-drop, take_at}
+use Rattle.std.proofs.lemmas.List.{length-take-le, length-drop, get_or-take, get_or-drop, get_or-append_right, drop-drop, take_at}
 use Rattle.pic_num.specs.declared.axis.Axis.{Axis}
 use Rattle.pic_num.specs.Space.{Triple, axis_number}
 use Rattle.pic_num.proofs.AxisLaws.{axis_below}
@@ -13,6 +12,7 @@ use Rattle.pic_grid.specs.Block.{BlockValues, inner_at}
 use Rattle.pic_grid.specs.Lending.{with_values}
 use Rattle.pic_grid.specs.Rows.{row_of, with_row}
 use Rattle.pic_grid.proofs.CellLaws.{place_of_same}
+use Rattle.pic_grid.proofs.WrittenLaws.{written_before, written_part, written_long}
 
 -- the places of a row follow each other
 pub place_of-row : (n : Triple) (a : Axis) (x y z : ℕ) → place_of n a (record { x = x; y = y; z = z }) ≡ row_of n a y z + x
@@ -66,11 +66,9 @@ row_written b values row start k a y z same at size =
 pub written_length : (values row : List ℤ) (start k : ℕ) → start + k ≤ length values → length row ≡ k
     → length (take start values ++ (row ++ drop k (drop start values))) ≡ length values
 written_length values row start k fits size =
-    let front = length-take-le start values (omega arith) in
     let rest = length-drop k (drop start values) in
-    let behind = length-drop start values in
-    let all = length-append (take start values) (row ++ drop k (drop start values)) in
-    omega (arith, front, rest, behind, all, length-append row (drop k (drop start values)))
+    let all = written_long values row (drop k (drop start values)) start (omega (arith, fits)) in
+    omega (arith, fits, size, rest, length-drop start values, all)
 
 -- and of a block whose values were lent for it
 pub row_given : (b : BlockValues) (values row : List ℤ) (start k : ℕ) (a : Axis) (y z : ℕ) → values ≡ b.values → start ≡ row_of b.size a y z → k ≡ b.size.x
@@ -91,27 +89,26 @@ module _ (b : BlockValues) (axis : Axis) (y z : ℕ) (row : List ℤ) (whole : l
     abbrev start : ℕ
     start = row_of b.size axis y z
 
-    front : length (take start b.values) ≡ start
-    front = length-take-le start b.values (omega (arith, whole, row_fits b.size axis y z in_y in_z))
+    room : start ≤ length b.values
+    room = let fits = row_fits b.size axis y z in_y in_z in omega (arith, whole, fits)
 
     -- after the write the row has its new values,
     pub row_here : (x : ℕ) → x < b.size.x → inner_at (with_row b axis y z row) axis (record { x = x; y = y; z = z }) ≡ slice_index_or row x (pos 0)
     unfolding with_row
     row_here x below =
         let at = place_of-row b.size axis x y z in
-        let rest = row ++ drop (start + b.size.x) b.values in
+        let rest = drop (start + b.size.x) b.values in
         let same : start + x - start ≡ x = omega arith in
-        ap (λ (i : ℕ). slice_index_or (take start b.values ++ rest) i (pos 0)) at
-        ∙ get_or-append_right (take start b.values) rest start (start + x) (pos 0) front (omega arith)
-        ∙ ap (λ (i : ℕ). slice_index_or rest i (pos 0)) same
-        ∙ get_or_append_left row (drop (start + b.size.x) b.values) (pos 0) x (omega (arith, size))
+        ap (λ (i : ℕ). slice_index_or (take start b.values ++ (row ++ rest)) i (pos 0)) at
+        ∙ written_part b.values row rest start room (start + x) (pos 0) (omega arith) (omega (arith, size, same, below))
+        ∙ ap (λ (i : ℕ). slice_index_or row i (pos 0)) same
 
     -- and every other component stays
     pub row_others : (a : Axis) (p : Triple) → IsWithin p b.size → IsOff axis y z a p → inner_at (with_row b axis y z row) a p ≡ inner_at b a p
     unfolding with_row
     row_others a p w off = elim (cases_lt i start) as (λ _. slice_index_or (take start b.values ++ rest) i (pos 0) ≡ slice_index_or b.values i (pos 0)) [
       | inl below ↦
-          get_or_append_left (take start b.values) rest (pos 0) i (omega (arith, front)) ∙ get_or-take start b.values i (pos 0) below
+          written_before b.values row (drop (start + b.size.x) b.values) start room i (pos 0) below
       | inr more ↦ elim (cases_lt (i - start) b.size.x) as (λ _. slice_index_or (take start b.values ++ rest) i (pos 0) ≡ slice_index_or b.values i (pos 0)) [
         | inl inside ↦
             (let at : place_of b.size axis (record { x = i - start; y = y; z = z }) ≡ i = place_of-row b.size axis (i - start) y z ∙ omega arith in
@@ -119,7 +116,7 @@ module _ (b : BlockValues) (axis : Axis) (y z : ℕ) (row : List ℤ) (whole : l
             absurd (off.off both.0 (ap (λ (q : Triple). q.y) both.1) (ap (λ (q : Triple). q.z) both.1)))
         | inr above ↦
             (let last : start + b.size.x + (i - start - b.size.x) ≡ i = omega arith in
-            get_or-append_right (take start b.values) rest start i (pos 0) front more
+            get_or-append_right (take start b.values) rest start i (pos 0) (length-take-le start b.values room) more
             ∙ get_or-append_right row (drop (start + b.size.x) b.values) b.size.x (i - start) (pos 0) size above
             ∙ get_or-drop (start + b.size.x) b.values (i - start - b.size.x) (pos 0)
             ∙ ap (λ (j : ℕ). slice_index_or b.values j (pos 0)) last)

@@ -1,7 +1,6 @@
 -- A lattice of one part: its block has all components, in the order of places.
-use Rattle.std.proofs.Common.{◌≡◌, ℕ, ℤ, pos, ◌+◌, ◌*◌, ◌%◌, ◌<◌, ◌≤◌, ◌++◌, List, length, take, drop, slice_index_or, slice_set, sym, ◌∙◌, ap, subst, arith}
-use Rattle.std.proofs.Common.{length-append}
-use Rattle.std.proofs.lemmas.List.{get_or-set_same, length-take-le, length-drop}
+use Rattle.std.proofs.Common.{◌≡◌, ℕ, ℤ, pos, ◌+◌, ◌*◌, ◌%◌, ◌<◌, ◌≤◌, List, length, drop, slice_index_or, slice_set, sym, ◌∙◌, ap, subst, arith}
+use Rattle.std.proofs.lemmas.List.{get_or-set_same, length-drop}
 use Rattle.std.proofs.Math.Nat.{div-one}
 use Rattle.pic_num.specs.Space.{Triple, Spot, unwrapped}
 use Rattle.pic_grid.specs.Cells.{Grid, IsCells, IsWithin, count_of, index_of, place_of}
@@ -12,13 +11,13 @@ use Rattle.pic_grid.proofs.LatticeLaws.{length-values_of, same_values}
 use Rattle.pic_grid.proofs.LayeredLaws.{none_over, whole_rest}
 use Rattle.pic_grid.proofs.PartLaws.{number_of, block_of, value_at-joined, are_parts_with}
 use Rattle.pic_grid.proofs.RunLaws.{here, above_corner}
+use Rattle.pic_grid.proofs.WrittenLaws.{written_long}
 
 -- a list stays as long
 pub length-overwritten : (first : ℕ) (vs xs : List ℤ) → first + length vs ≤ length xs → length (overwritten first vs xs) ≡ length xs
 length-overwritten first vs xs room =
-    let front = length-take-le first xs (omega (arith, room)) in
-    let rest = length-drop (first + length vs) xs in
-    omega (arith, room, front, rest, length-append vs (drop (first + length vs) xs), length-append (take first xs) (vs ++ drop (first + length vs) xs))
+    let all = written_long xs vs (drop (first + length vs) xs) first (omega (arith, room)) in
+    omega (arith, room, length-drop (first + length vs) xs, all)
 
 module _ (grid : Grid) (parts : Triple) (blocks : List BlockValues) (h : IsCells grid.n) (k : IsParts grid.n parts) (are : ArePartsOf grid.n parts blocks)
     (is : parts ≡ one_part)

@@ -57,10 +57,17 @@ impl Lattice {
     pub fn is_layered(&self) -> bool
         ensures { IsTrue result ↔ (self.now.parts ≡ layered self.now.cells) }
     {
-        let cells = self.cells;
-        let [_, _, nz] = cells.n;
+        let [_, _, nz] = self.cells().numbers();
+        self.has_parts_on_z(nz)
+    }
+
+    /// Whether it has so many parts, all of them on z.
+    #[inline(always)]
+    pub(crate) fn has_parts_on_z(&self, count: u32) -> bool
+        ensures { IsTrue result ↔ (self.now.parts ≡ record { x = 1; y = 1; z = count }) }
+    {
         let [px, py, pz] = self.parts;
-        px == 1 && py == 1 && pz == nz
+        px == 1 && py == 1 && pz == count
     }
 
     /// The components in a layer of z, where each is a part of its own: x fastest, then y and the

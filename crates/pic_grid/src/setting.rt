@@ -1,9 +1,8 @@
 //! Components of a lattice set in the order of places.
 
-ghost use Rattle.std.specs.Prelude.{◌≡◌, ◌↔◌, ◌+◌, ◌*◌, ◌<◌, ◌≤◌, length, IsTrue};
+ghost use Rattle.std.specs.Prelude.{◌≡◌, ◌+◌, ◌*◌, ◌<◌, ◌≤◌, length};
 ghost use Rattle.pic_grid.specs.Cells.{count_of};
 ghost use Rattle.pic_grid.specs.Lattice.{overwritten, with_places};
-ghost use Rattle.pic_grid.specs.Parts.{one_part};
 
 use crate::block::Block;
 use crate::lattice::Lattice;
@@ -17,19 +16,11 @@ impl Lattice {
         requires room { first + length values.now ≤ 3 * count_of self.old.cells }
         ensures { self.new ≡ with_places self.old first values.now }
     {
-        if self.is_whole() {
+        if self.has_parts_on_z(1) {
             self.blocks[0].set_values(first, values);
             return;
         }
         set_each(self, first, values);
-    }
-
-    /// Whether it is one part.
-    fn is_whole(&self) -> bool
-        ensures { IsTrue result ↔ (self.now.parts ≡ one_part) }
-    {
-        let [px, py, pz] = self.parts;
-        px == 1 && py == 1 && pz == 1
     }
 }
 

@@ -23,7 +23,8 @@ impl Block {
 
 impl Lattice {
     /// Whether the components in the layer `z`, which is a part of its own, are known to be weak. It may
-    /// be false where they are, as long as nobody measured them.
+    /// be false where they are: as long as nobody measured them, and where one is as great as a weak
+    /// value can be.
     #[inline(always)]
     pub fn is_weak(&self, z: u32) -> bool
         requires parts { self.now.parts ≡ layered self.now.cells }

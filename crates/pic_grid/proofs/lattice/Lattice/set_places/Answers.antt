@@ -9,7 +9,7 @@ use Rattle.pic_grid.proofs.lattice.Lattice.set_places.Goals as goal
 use Rattle.pic_grid.proofs.lattice.Lattice.set_places.Goals.{After-index_mut}
 
 one : (c : After-index_mut) → triple c.self.inside.parts ≡ one_part
-one c = ap (λ (f : Field). f.parts) c.self.view_is ∙ c.is_whole.ensures.0 c.if-is_whole.true
+one c = ap (λ (f : Field). f.parts) c.self.view_is ∙ c.has_parts_on_z.ensures.0 c.if-has_parts_on_z.true
 
 of : (c : After-index_mut) → c.index_mut.result.now ≡ slice_index_or c.self.inside.blocks.items 0 no_block
 of c =
@@ -37,10 +37,10 @@ invariant_of-self c =
       factors = c.self.invariant.factors;
     }
 
-pub returns-then-is_whole : goal.returns-then-is_whole
-returns-then-is_whole c =
+pub returns-then-has_parts_on_z : goal.returns-then-has_parts_on_z
+returns-then-has_parts_on_z c =
     let k = c.self.inside in
-    let at = (goal.at.returns-then-is_whole c).After-index_mut in
+    let at = (goal.at.returns-then-has_parts_on_z c).After-index_mut in
     overwritten_is k.cells (triple k.parts) (triple k.layers) k.blocks.items c.self.invariant.lattice (one at) c.args.first c.args.values.now
     c.index_mut.result.now c.set_values.new.self (of at) c.set_values.ensures.shape (room at) c.set_values.ensures.after
     ∙ ap (λ (f : Field). with_places f c.args.first c.args.values.now) c.self.view_is
