@@ -2,11 +2,11 @@
 use Rattle.std.proofs.Common.{◌≡◌, ℕ, ℤ, ◌+◌, ◌-◌, ◌*◌, ◌<◌, ◌≤◌, List, [], ◌∷◌, ◌++◌, length, set, take, drop, inl, inr, sym, ap, subst, ◌∙◌, arith}
 use Rattle.std.proofs.Common.{take-append-drop, length-append, append_assoc}
 use Rattle.std.proofs.lemmas.List.{take_more_set, take-set-le, take-take, length-take, length-take-le, drop-append-le, drop_all}
-use Rattle.std.proofs.lemmas.List.{get_or-take, get_or_append_left, get_or-append_right}
 use Rattle.std.proofs.lemmas.Bool.{cases_lt}
 use Rattle.std.proofs.Math.Seq.{take-append_seam}
 use Rattle.std.specs.Prelude.{nat_eq}
 use Rattle.pic_grid.specs.Lattice.{overwritten}
+use Rattle.pic_grid.proofs.WrittenLaws.{written_before, written_part}
 use Rattle.pic_record.specs.Firsts.{FirstAre}
 use Rattle.pic_num.specs.declared.motion.Particle.{Particle}
 use Rattle.pic_num.specs.Multiplier.{Multiplier}
@@ -50,13 +50,11 @@ part_whole first count old new front =
 pub first_with_piece : (Is : ℤ → Type 0) (first : ℕ) (vs xs : List ℤ) → first ≤ length xs → FirstAre Is first xs → FirstAre Is (length vs) vs
     → FirstAre Is (first + length vs) (overwritten first vs xs)
 first_with_piece Is first vs xs room before piece k d below =
-    let rest = vs ++ drop (first + length vs) xs in
-    let front = length-take-le first xs room in
+    let rest = drop (first + length vs) xs in
     elim (cases_lt k first) [
-      | inl less ↦ subst Is (sym (get_or_append_left (take first xs) rest d k (omega (arith, front, less)) ∙ get_or-take first xs k d less)) (before k d less)
+      | inl less ↦ subst Is (sym (written_before xs vs rest first room k d less)) (before k d less)
       | inr least ↦ (let inside : k - first < length vs = omega (arith, below, least) in
-          subst Is (sym (get_or-append_right (take first xs) rest first k d front least
-          ∙ get_or_append_left vs (drop (first + length vs) xs) d (k - first) inside)) (piece (k - first) d inside))
+          subst Is (sym (written_part xs vs rest first room k d least inside)) (piece (k - first) d inside))
     ]
 
 -- and stand in front
