@@ -12,4 +12,5 @@ mod vector;
 
 pub use halt::Halt;
 pub use moved::Moved;
+pub use narrow_pushing::push_narrow;
 pub use pushing::{push, push_wide};

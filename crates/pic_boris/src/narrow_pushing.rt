@@ -10,7 +10,7 @@ ghost use Rattle.pic_boris.specs.Narrow.{narrow_spot};
 ghost use Rattle.pic_boris.specs.Pushes.{IsInLimits, shift_of, arrived};
 
 use crate::moved::Moved;
-use crate::narrow::{Narrow, is_at_most, narrow_of, narrow_shift, narrow_sum, scaled_narrow};
+use crate::narrow::{Narrow, narrow_of, narrow_shift, narrow_sum, scaled_narrow};
 use crate::narrow_turning::narrow_turned;
 use pic_num::{Mult, Sub};
 
@@ -29,15 +29,21 @@ const MAX_SMALL_TURN: u64 = 1 << 19;
 /// A velocity is in 1 / 2^12 sub-cell per step.
 pub const SPEED_BITS: u32 = 12;
 
-/// Whether three numbers are at most `most` in size.
+/// Whether three numbers are at most `most` in size. It may be false where one of them is `most`.
+// Raised by it, all are at least 0 and at most twice it, if that holds of their bits put together.
 #[inline(always)]
 fn are_at_most(x: i64, y: i64, z: i64, most: u64) -> bool
-    requires { most ≤ 2 ^ 62 }
+    requires { most ≤ 2 ^ 61 }
     ensures x { IsTrue result → IsAtMost x most }
     ensures y { IsTrue result → IsAtMost y most }
     ensures z { IsTrue result → IsAtMost z most }
 {
-    is_at_most(x, most) && is_at_most(y, most) && is_at_most(z, most)
+    let most = most as i64;
+    let bits = x.wrapping_add(most) | y.wrapping_add(most) | z.wrapping_add(most);
+    if bits < 0 {
+        return false;
+    }
+    bits <= 2 * most
 }
 
 /// Whether a gathered field and its multiplier are small.
@@ -50,10 +56,10 @@ fn is_weak(field: [i64; 3], by: Mult) -> bool
     by.k() <= MAX_SMALL_SHIFT && are_at_most(x, y, z, MAX_SMALL_FIELD)
 }
 
-/// Whether a vector is at most `most` in size.
+/// Whether a vector is at most `most` in size, as `are_at_most` tells.
 #[inline(always)]
 fn is_small(p: Narrow, most: u64) -> bool
-    requires { most ≤ 2 ^ 62 }
+    requires { most ≤ 2 ^ 61 }
     ensures { IsTrue result → AreAtMost (narrow_spot p) most }
 {
     are_at_most(p.x, p.y, p.z, most)
@@ -99,10 +105,10 @@ fn arrive_narrow(sub: Sub, v: Narrow) -> Option<Moved>
     })
 }
 
-/// The push, where its numbers are small and the move isn't too far; else `None`, which says
-/// nothing.
+/// What `push` gives, where its numbers are small and the move isn't too far; else `None`, which
+/// says nothing.
 #[inline(always)]
-pub(crate) fn push_narrow(
+pub fn push_narrow(
     sub: Sub,
     v: [i32; 3],
     e: [i64; 3],

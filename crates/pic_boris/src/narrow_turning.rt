@@ -86,7 +86,7 @@ fn divisor(t: Narrow) -> i64
     ONE_SQUARED + (square(t.x) + square(t.y) + square(t.z))
 }
 
-/// Nearly the reciprocal of twice a divisor. Whoever divides by it looks at the remainder.
+/// Nearly the reciprocal of twice a divisor, below 0. Whoever divides by it looks at the remainder.
 #[inline(always)]
 fn reciprocal(divisor: i64) -> i64
     requires least { pos (2 ^ 40) ≤ℤ divisor }
@@ -95,20 +95,22 @@ fn reciprocal(divisor: i64) -> i64
 {
     let over = (divisor - ONE_SQUARED) as u64;
     if over <= NEAR {
-        return ((1u64 << 33) - (over >> 7)) as i64;
+        return (over >> 7) as i64 - (1 << 33);
     }
     let coarse = (divisor as u64 >> 11) + 1;
-    ((1u64 << 62) / coarse) as i64
+    -(((1u64 << 62) / coarse) as i64)
 }
 
-/// The product of a dividend and a reciprocal, in whole numbers.
+/// The product of a dividend and a reciprocal that is below 0, in whole numbers and above 0 where the
+/// dividend is.
+// Two signed words have one product of 128 bits, where a word that can't be below 0 takes three.
 #[inline(always)]
 fn guess_of(dividend: i64, reciprocal: i64) -> i64
     requires dividend { IsAtMost dividend (3 * 2 ^ 60) }
     requires reciprocal { IsAtMost reciprocal (2 ^ 62) }
     ensures { IsAtMost result (2 ^ 52) }
 {
-    ((i128::from(dividend) * i128::from(reciprocal)) >> RECIPROCAL_BITS) as i64
+    ((i128::from(-dividend) * i128::from(reciprocal)) >> RECIPROCAL_BITS) as i64
 }
 
 /// Four times a cross product, and the divisor: the dividend of a rounding by twice the divisor.

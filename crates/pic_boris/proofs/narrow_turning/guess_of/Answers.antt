@@ -13,7 +13,9 @@ shifted (pos a) h = let size = h.size in record { size = omega (arith, ints, siz
 shifted (negsuc a) h = let size = h.size in record { size = omega (arith, ints, size) }
 
 dividend : (c : After-from-2) → IsAtMost c.from.result (3 * 2 ^ 60)
-dividend c = subst (λ (z : ℤ). IsAtMost z (3 * 2 ^ 60)) (sym (c.from.ensures ∙ to_z-of_z w64 c.args.dividend c.ranges.dividend)) c.requires.dividend
+dividend c =
+    let small = c.requires.dividend in
+    subst (λ (z : ℤ). IsAtMost z (3 * 2 ^ 60)) (sym c.from.ensures) (code_at_most (search codes depth 8) tt)
 
 reciprocal : (c : After-from-2) → IsAtMost c.from-2.result (2 ^ 62)
 reciprocal c = subst (λ (z : ℤ). IsAtMost z (2 ^ 62)) (sym (c.from-2.ensures ∙ to_z-of_z w64 c.args.reciprocal c.ranges.reciprocal)) c.requires.reciprocal
