@@ -1,5 +1,5 @@
 -- Two values under the weights of a pair, and four rows under those of two.
-use Rattle.std.proofs.Common.{◌≡◌, ℕ, ◌+◌, ◌*◌, ◌^◌, ◌<◌, ◌≤◌, [], ◌∷◌, unsigned_abs, refl, subst, sym, ◌∙◌, arith}
+use Rattle.std.proofs.Common.{◌≡◌, ℕ, ◌+◌, ◌*◌, ◌^◌, ◌<◌, ◌≤◌, [], ◌∷◌, unsigned_abs, refl, subst, sym, ap, ◌∙◌, arith}
 use Rattle.std.proofs.Math.IntN.{ℤ, pos, ◌+ℤ◌, ◌*ℤ◌}
 use Rattle.std.proofs.Math.Nat.{mul-le-mul_right, mul-le-mul_left}
 use Rattle.std.proofs.lemmas.Int.{ints, to_z-of_z, unsigned_abs-mul}
@@ -17,7 +17,11 @@ use Rattle.pic_grid.specs.Pair.{IsPair, weight_in}
 use Rattle.pic_grid.specs.Sums.{sum_below}
 use Rattle.pic_grid.specs.declared.pair.Pair.{Pair}
 use Rattle.pic_gather.specs.Forces.{row_sum, layer_sum, whole_sum}
-use Rattle.pic_gather.proofs.HalfLaws.{held}
+use Rattle.pic_grid.proofs.SumLaws.{cube_is}
+use Rattle.pic_gather.specs.Cube.{IsCubeOf}
+use Rattle.pic_gather.specs.Mix.{HaveRoom}
+use Rattle.pic_gather.specs.declared.cube.Cube.{Cube}
+use Rattle.pic_gather.proofs.HalfLaws.{held, word}
 use Rattle.pic_gather.proofs.TwoTermLaws.{two_terms}
 
 -- two values under two weights
@@ -39,20 +43,10 @@ mix_size a b u w most k l =
     bound : (all x y p q m r w : ℕ) → all ≤ x + y → x ≡ p → y ≡ q → p ≤ m * r → q ≤ m * w → all ≤ m * (r + w)
     bound all x y p q m r w h i j k l = omega (arith, h, i, j, k, l)
 
--- what the code computes, with its casts left out
-code_narrow : (a b u w : ℤ) → IsAtMost a most_force → IsAtMost b most_force → IsAtMost u most_side → IsAtMost w most_side
-    → to_z w64 (of_z w64 (to_z w64 (of_z w64 (to_z w64 (of_z w64 a) *ℤ to_z w64 (of_z w64 u)))
-    +ℤ to_z w64 (of_z w64 (to_z w64 (of_z w64 b) *ℤ to_z w64 (of_z w64 w)))))
-    ≡ a *ℤ u +ℤ b *ℤ w
-code_narrow a b u w h k l m = code_is (search codes depth 20) tt
-
 -- four rows under their weights, in the order of the code
 four_terms : (a b c d : ℤ) (u w p q : ℕ) → a *ℤ pos (u * p) +ℤ b *ℤ pos (w * p) +ℤ c *ℤ pos (u * q) +ℤ d *ℤ pos (w * q)
     ≡ mix (mix a b u w) (mix c d u w) p q
 four_terms a b c d u w p q = ring (a ∷ b ∷ c ∷ d ∷ pos u ∷ pos w ∷ pos p ∷ pos q ∷ []) (search reads depth 40 fits 9000) tt
-
-abbrev pub word : ℤ → ℤ
-word z = to_z w128 (of_z w128 z)
 
 pub code_four : (a b c d : ℤ) → IsAtMost a (2 ^ 86) → IsAtMost b (2 ^ 86) → IsAtMost c (2 ^ 86) → IsAtMost d (2 ^ 86)
     → word (word (word (word a +ℤ word b) +ℤ word c) +ℤ word d) ≡ a +ℤ b +ℤ c +ℤ d
@@ -65,14 +59,6 @@ weight_size z u w m is most = subst (λ (x : ℤ). IsAtMost x m) (sym is) (recor
 pub other_size : (z : ℤ) (u w m : ℕ) → z ≡ pos w → u + w ≤ m → IsAtMost z m
 other_size z u w m is most = weight_size z w u m is (omega (arith, most))
 
--- the code's mix of two forces is their mix
-pub narrow : (a b x y : ℤ) (u w : ℕ) → u + w ≤ most_side → IsAtMost a most_force → IsAtMost b most_force → x ≡ pos u → y ≡ pos w
-    → to_z w64 (of_z w64 (to_z w64 (of_z w64 (to_z w64 (of_z w64 a) *ℤ to_z w64 (of_z w64 x)))
-    +ℤ to_z w64 (of_z w64 (to_z w64 (of_z w64 b) *ℤ to_z w64 (of_z w64 y)))))
-    ≡ mix a b u w
-narrow a b x y u w most h k x_is y_is =
-    code_narrow a b x y h k (weight_size x u w most_side x_is most) (other_size y u w most_side y_is most) ∙ (λ i. a *ℤ x_is i +ℤ b *ℤ y_is i)
-
 -- a number of 62 bits as a word holds it
 held_is : (s : ℤ) → IsAtMost s (2 ^ 62) → held s ≡ s
 held_is s small = code_is (search codes depth 4) tt
@@ -80,33 +66,62 @@ held_is s small = code_is (search codes depth 4) tt
 held_fits : (s : ℤ) → IsAtMost s (2 ^ 62) → SFits w64 s
 held_fits s small = code_fits w64 (search codes depth 4) tt
 
-held_product : (a u : ℤ) → IsAtMost a (2 ^ 50) → IsAtMost u (2 ^ 12) → held (held a *ℤ held u) ≡ a *ℤ u
-held_product a u h k = code_is (search codes depth 12) tt
-
--- the code's mix of two sums of weak values, under weights of at most a side together, has 62 bits,
-module _ (a b x y : ℤ) (u w : ℕ) (most : u + w ≤ 2 ^ 12) (a_most : IsAtMost a (2 ^ 50)) (b_most : IsAtMost b (2 ^ 50)) (x_is : x ≡ pos u) (y_is : y ≡ pos w)
+-- a number under a weight, as the code has both
+module _ (n x : ℤ) (u : ℕ) (n_fits : SFits w64 n) (x_fits : SFits w64 x) (x_is : x ≡ pos u) (most : ℕ) (small : IsAtMost n most) (room : most * u ≤ 2 ^ 62)
   where
-    pub weak_size : IsAtMost (mix a b u w) (2 ^ 62)
-    weak_size =
-        let all : 2 ^ 50 * (u + w) ≤ 2 ^ 62 = omega (arith, most) in
-        at_most_more _ (2 ^ 50 * (u + w)) (2 ^ 62) all (mix_size a b u w (2 ^ 50) a_most b_most)
+    weighed_size : IsAtMost (n *ℤ pos u) (2 ^ 62)
+    weighed_size =
+        let one : unsigned_abs n * u ≤ most * u = mul-le-mul_right u small.size in
+        let is : unsigned_abs (n *ℤ pos u) ≡ unsigned_abs n * u = unsigned_abs-mul n (pos u) in
+        record { size = omega (arith, one, is, room) }
 
-    products : held (held a *ℤ held x) +ℤ held (held b *ℤ held y) ≡ mix a b u w
-    products =
-        (λ i. held_product a x a_most (weight_size x u w (2 ^ 12) x_is most) i +ℤ held_product b y b_most (other_size y u w (2 ^ 12) y_is most) i)
-        ∙ (λ i. a *ℤ x_is i +ℤ b *ℤ y_is i)
+    weighed : held n *ℤ held x ≡ n *ℤ pos u
+    weighed = (λ i. to_z-of_z w64 n n_fits i *ℤ to_z-of_z w64 x x_fits i) ∙ ap (λ z. n *ℤ z) x_is
 
-    -- fits its word,
-    pub weak_fits : SFits w64 (held (held a *ℤ held x) +ℤ held (held b *ℤ held y))
-    weak_fits = subst (SFits w64) (sym products) (held_fits _ weak_size)
+    -- fits its word
+    pub weighed_fits : SFits w64 (held n *ℤ held x)
+    weighed_fits = subst (SFits w64) (sym weighed) (held_fits _ weighed_size)
+
+    weighed_held : held (held n *ℤ held x) ≡ n *ℤ pos u
+    weighed_held = ap held weighed ∙ held_is _ weighed_size
+
+-- each number for whose sum with another a word has room has it alone
+pub low_room : (a b : ℤ) (w : Pair) (h : HaveRoom a b w) → h.most * w.low_weight ≤ 2 ^ 62
+low_room a b w h =
+    let all : h.most * w.low_weight ≤ h.most * (w.low_weight + w.high_weight) = mul-le-mul_left h.most (omega arith) in
+    omega (arith, all, h.room)
+
+pub high_room : (a b : ℤ) (w : Pair) (h : HaveRoom a b w) → h.most * w.high_weight ≤ 2 ^ 62
+high_room a b w h =
+    let all : h.most * w.high_weight ≤ h.most * (w.low_weight + w.high_weight) = mul-le-mul_left h.most (omega arith) in
+    omega (arith, all, h.room)
+
+-- the code's mix of two numbers, for whose sum a word has room,
+module _ (a b x y : ℤ) (w : Pair) (h : HaveRoom a b w) (a_fits : SFits w64 a) (b_fits : SFits w64 b) (x_fits : SFits w64 x) (y_fits : SFits w64 y)
+    (x_is : x ≡ pos w.low_weight) (y_is : y ≡ pos w.high_weight)
+  where
+    size : IsAtMost (mix a b w.low_weight w.high_weight) (2 ^ 62)
+    size = at_most_more _ (h.most * (w.low_weight + w.high_weight)) (2 ^ 62) h.room (mix_size a b w.low_weight w.high_weight h.most h.low h.high)
+
+    products : held (held a *ℤ held x) +ℤ held (held b *ℤ held y) ≡ mix a b w.low_weight w.high_weight
+    products = λ i. weighed_held a x w.low_weight a_fits x_fits x_is h.most h.low (low_room a b w h) i
+        +ℤ weighed_held b y w.high_weight b_fits y_fits y_is h.most h.high (high_room a b w h) i
+
+    -- fits it,
+    pub sum_fits : SFits w64 (held (held a *ℤ held x) +ℤ held (held b *ℤ held y))
+    sum_fits = subst (SFits w64) (sym products) (held_fits _ size)
 
     -- and is their mix
-    pub weak_is : held (held (held a *ℤ held x) +ℤ held (held b *ℤ held y)) ≡ mix a b u w
-    weak_is = (λ i. held (products i)) ∙ held_is _ weak_size
+    pub mix_is : held (held (held a *ℤ held x) +ℤ held (held b *ℤ held y)) ≡ mix a b w.low_weight w.high_weight
+    mix_is = ap held products ∙ held_is _ size
 
 -- what is held of a row's sum is no larger
 pub held_row : (r : ℤ) (m : ℕ) → mag r < 2 ^ 63 → IsAtMost r m → IsAtMost (to_z w64 (of_z w64 r)) m
 held_row r m held small = subst (λ (z : ℤ). IsAtMost z m) (sym (to_z-of_z w64 r (record { sfits = held }))) small
+
+-- nor is what a word of 128 bits holds of a sum
+pub held_sum : (r : ℤ) (m : ℕ) → mag r < 2 ^ 127 → IsAtMost r m → IsAtMost (word r) m
+held_sum r m fits small = subst (λ (z : ℤ). IsAtMost z m) (sym (to_z-of_z w128 r (record { sfits = fits }))) small
 
 -- a row's sum of weak values in cells of few sub-cells
 pub weak_row : (r : ℤ) (sum side : ℕ) → mag r < 2 ^ 63 → sum ≡ side → side ≤ 2 ^ 12 → IsAtMost r (most_weak * sum) → IsAtMost (held r) (2 ^ 38)
@@ -134,15 +149,11 @@ row_most z side most small = at_most_more z (most_force * side) (most_force * mo
 pub whole_row : (r : ℤ) (sum side : ℕ) → mag r < 2 ^ 63 → sum ≡ side → IsAtMost r (most_force * sum) → IsAtMost (to_z w64 (of_z w64 r)) (most_force * side)
 whole_row r sum side held is small = held_row r (most_force * side) held (subst (λ (m : ℕ). IsAtMost r (most_force * m)) is small)
 
--- nor is their mix, under the side as the code has it,
-pub cube_of : (r : ℤ) (side sub : ℕ) → sub ≡ side → IsAtMost r (most_force * (side * side * side)) → IsAtMost r (most_force * (sub * sub * sub))
-cube_of r side sub is small = subst (λ (m : ℕ). IsAtMost r (most_force * (m * m * m))) (sym is) small
-
--- and what is held of it
-pub mean_of : (r : ℤ) (side sub : ℕ) → mag r < 2 ^ 127 → sub ≡ side → IsAtMost r (most_force * (side * side * side))
-    → IsAtMost (to_z w128 (of_z w128 r)) (most_force * (sub * sub * sub))
-mean_of r side sub fits is small =
-    cube_of _ side sub is (subst (λ (z : ℤ). IsAtMost z (most_force * (side * side * side))) (sym (to_z-of_z w128 r (record { sfits = fits }))) small)
+-- their mix is within its bound, over the cube as the code has it
+pub cube_of : (r : ℤ) (side : ℕ) (c : Cube) → IsCubeOf side c → IsAtMost r (most_force * (side * side * side)) → IsAtMost r (most_force * 2 ^ c.bits)
+cube_of r side c is small =
+    let both : side * side * side ≡ 2 ^ c.bits = cube_is side ∙ sym is.cube in
+    subst (λ (m : ℕ). IsAtMost r (most_force * m)) both small
 
 -- the sums along the four rows of two pairs, r being their mix
 module _ (f : Field) (a : Axis) (x y z : Pair) (low_low high_low low_high high_high r : ℤ) (on_y : IsPair f.side f.cells.y y) (on_z : IsPair f.side f.cells.z z)

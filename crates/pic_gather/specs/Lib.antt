@@ -1,2 +1,4 @@
 pub mod Sides
 pub mod Forces
+pub mod Mix
+pub mod Cube

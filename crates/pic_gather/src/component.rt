@@ -9,13 +9,15 @@ ghost use Rattle.pic_num.specs.Space.{triple};
 ghost use Rattle.pic_grid.specs.Cells.{IsWithin};
 ghost use Rattle.pic_grid.specs.Lattice.{value_at};
 ghost use Rattle.pic_grid.specs.Pair.{IsPair};
+ghost use Rattle.pic_gather.specs.Cube.{IsCubeOf};
 ghost use Rattle.pic_gather.specs.Forces.{AreForces, row_sum, whole_sum};
 ghost use Rattle.pic_gather.specs.Sides.{AreSidesOf};
 
-use crate::mix::{mean, narrow_mix, wide_mix};
+use crate::cube::Cube;
+use crate::mix::{mix, wide_mix};
 use crate::sides::Sides;
 use pic_grid::{Lattice, Pair};
-use pic_num::{Axis, Sub};
+use pic_num::Axis;
 
 /// The force value at a cell.
 fn value(force: &Lattice, axis: Axis, cell: [u32; 3]) -> i64
@@ -39,12 +41,12 @@ fn row(force: &Lattice, axis: Axis, x: Pair, y: u32, z: u32) -> i64
 {
     let low = value(force, axis, [x.low, y, z]);
     let high = value(force, axis, [x.high, y, z]);
-    narrow_mix(low, high, x)
+    mix(low, high, x)
 }
 
 /// One component at a point: of all places eight have a weight, in four rows.
-pub(crate) fn component(force: &Lattice, sub: Sub, axis: Axis, at: Sides) -> i64
-    requires side { sub ≡ force.now.side }
+pub(crate) fn component(force: &Lattice, cube: Cube, axis: Axis, at: Sides) -> i64
+    requires cube { IsCubeOf force.now.side cube }
     requires most { force.now.side ≤ most_side }
     requires small { AreForces force.now }
     requires on { AreSidesOf force.now at }
@@ -60,5 +62,5 @@ pub(crate) fn component(force: &Lattice, sub: Sub, axis: Axis, at: Sides) -> i64
     let low_high = row(force, axis, x, y.low, z.high);
     let high_high = row(force, axis, x, y.high, z.high);
     let sum = wide_mix(low_low, high_low, low_high, high_high, y, z);
-    mean(sub, sum)
+    cube.mean(sum)
 }

@@ -8,14 +8,16 @@ ghost use Rattle.pic_grid.specs.Gather.{gathered_e, gathered_b};
 ghost use Rattle.pic_grid.specs.Hat.{IsInBox};
 ghost use Rattle.pic_grid.specs.Pair.{IsPair};
 ghost use Rattle.pic_grid.specs.Parts.{layered, IsWeakLayer};
+ghost use Rattle.pic_gather.specs.Cube.{IsCubeOf};
 ghost use Rattle.pic_gather.specs.Forces.{AreForces};
 ghost use Rattle.pic_gather.specs.Sides.{AreSidesOf, AreWeakLayers, Gathers};
 
 use crate::component::component;
+use crate::cube::Cube;
 use crate::layered::{Layers, layered_component};
 use crate::sides::{Places, Sides, places_of};
 use pic_grid::{Lattice, Pair};
-use pic_num::{Axis, Sub};
+use pic_num::Axis;
 
 /// The greatest side of a cell under whose weights a sum of weak values fits 64 bits.
 const MAX_WEAK_SIDE: u32 = 1 << 12;
@@ -77,12 +79,12 @@ pub fn gather(force_e: &Lattice, force_b: &Lattice, point: [u32; 3]) -> Gathered
         };
     }
     let cells = force_e.cells();
-    let sub = cells.sub();
+    let cube = Cube::of(cells.sub());
     let at = places_of(cells, point);
     let weak = are_weak(force_e, at) & are_weak(force_b, at);
     Gathered {
-        e: layered_components(force_e, sub, at.middles, at.nodes, weak),
-        b: layered_components(force_b, sub, at.nodes, at.middles, weak),
+        e: layered_components(force_e, cube, at.middles, at.nodes, weak),
+        b: layered_components(force_b, cube, at.nodes, at.middles, weak),
     }
 }
 
@@ -121,24 +123,30 @@ fn components(force: &Lattice, own: Sides, others: Sides) -> [i64; 3]
     ensures value { Gathers force.now own others (spot result) }
     ensures size { AreAtMost (spot result) most_force }
 {
-    let sub = force.cells().sub();
+    let cube = Cube::of(force.cells().sub());
     if force.is_layered() {
-        return layered_components(force, sub, own, others, false);
+        return layered_components(force, cube, own, others, false);
     }
     let Sides { x, y, z } = others;
     [
-        component(force, sub, Axis::X, Sides { x: own.x, y, z }),
-        component(force, sub, Axis::Y, Sides { x, y: own.y, z }),
-        component(force, sub, Axis::Z, Sides { x, y, z: own.z }),
+        component(force, cube, Axis::X, Sides { x: own.x, y, z }),
+        component(force, cube, Axis::Y, Sides { x, y: own.y, z }),
+        component(force, cube, Axis::Z, Sides { x, y, z: own.z }),
     ]
 }
 
 /// The same in a lattice with a part for each layer of z: two layers have the places of the nodes
 /// on z, and two those of the middles.
 #[inline(always)]
-fn layered_components(force: &Lattice, sub: Sub, own: Sides, others: Sides, weak: bool) -> [i64; 3]
+fn layered_components(
+    force: &Lattice,
+    cube: Cube,
+    own: Sides,
+    others: Sides,
+    weak: bool,
+) -> [i64; 3]
     requires parts { force.now.parts ≡ layered force.now.cells }
-    requires side { sub ≡ force.now.side }
+    requires cube { IsCubeOf force.now.side cube }
     requires most { force.now.side ≤ most_side }
     requires small { AreForces force.now }
     requires own { AreSidesOf force.now own }
@@ -163,8 +171,8 @@ fn layered_components(force: &Lattice, sub: Sub, own: Sides, others: Sides, weak
     let on_y = Sides { x, y: own.y, z };
     let on_z = Sides { x, y, z: own.z };
     [
-        layered_component(force, sub, Axis::X, on_x, layers),
-        layered_component(force, sub, Axis::Y, on_y, layers),
-        layered_component(force, sub, Axis::Z, on_z, own_layers),
+        layered_component(force, cube, Axis::X, on_x, layers),
+        layered_component(force, cube, Axis::Y, on_y, layers),
+        layered_component(force, cube, Axis::Z, on_z, own_layers),
     ]
 }

@@ -6,14 +6,16 @@ ghost use Rattle.pic_num.specs.Limits.{most_force, most_side};
 ghost use Rattle.pic_num.specs.Rounding.{rounded};
 ghost use Rattle.pic_num.specs.Sizes.{IsAtMost};
 ghost use Rattle.pic_grid.specs.Parts.{IsLayer};
+ghost use Rattle.pic_gather.specs.Cube.{IsCubeOf};
 ghost use Rattle.pic_gather.specs.Forces.{AreForces, IsForce, whole_sum};
 ghost use Rattle.pic_grid.specs.Weak.{most_weak};
 ghost use Rattle.pic_gather.specs.Sides.{AreSidesOf, AreWeakLayers};
 
-use crate::mix::{mean, narrow_mix, weak_mean, weak_sum, wide_mix};
+use crate::cube::Cube;
+use crate::mix::{mix, weak_sum, wide_mix};
 use crate::sides::{Side, Sides};
 use pic_grid::Lattice;
-use pic_num::{Axis, Sub};
+use pic_num::Axis;
 
 /// The values of the two layers of z between whose places a point lies, and whether they are known to
 /// be weak, in cells of few enough sub-cells.
@@ -40,14 +42,14 @@ fn row(values: &[i128], start: usize, x: Side) -> i64
 {
     let low = values[start + x.low] as i64;
     let high = values[start + x.high] as i64;
-    narrow_mix(low, high, x.pair)
+    mix(low, high, x.pair)
 }
 
 /// One component of `force` at a point between two layers, which may be known to be weak.
 #[inline(always)]
 pub(crate) fn layered_component(
     force: &Lattice,
-    sub: Sub,
+    cube: Cube,
     axis: Axis,
     at: Sides,
     layers: Layers,
@@ -55,7 +57,7 @@ pub(crate) fn layered_component(
     requires low { IsLayer force.now at.z.low layers.low.now }
     requires high { IsLayer force.now at.z.high layers.high.now }
     requires weak { IsTrue layers.weak → AreWeakLayers force.now at.z }
-    requires side { sub ≡ force.now.side }
+    requires cube { IsCubeOf force.now.side cube }
     requires most { force.now.side ≤ most_side }
     requires small { AreForces force.now }
     requires on { AreSidesOf force.now at }
@@ -73,8 +75,8 @@ pub(crate) fn layered_component(
     let high_high = row(high, first + y.high, x);
     if weak {
         let sum = weak_sum(low_low, high_low, low_high, high_high, y.pair, z);
-        return weak_mean(sub, sum);
+        return cube.weak_mean(sum);
     }
     let sum = wide_mix(low_low, high_low, low_high, high_high, y.pair, z);
-    mean(sub, sum)
+    cube.mean(sum)
 }

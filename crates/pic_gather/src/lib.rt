@@ -2,6 +2,7 @@
 #![tactic(auto)]
 
 mod component;
+mod cube;
 mod gathering;
 mod layered;
 mod mix;

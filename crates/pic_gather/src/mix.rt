@@ -1,40 +1,19 @@
-//! Weighted sums: of two values, which is a row's, in 64 bits, and of four rows; and their mean.
+//! Weighted sums: of two numbers in 64 bits, and of four rows, in 64 bits or in 128.
 
-ghost use Rattle.std.specs.Prelude.{◌≡◌, pos, ◌+◌, ◌*◌, ◌^◌, ◌≤◌, ◌+ℤ◌, ◌*ℤ◌};
+ghost use Rattle.std.specs.Prelude.{◌≡◌, ℕ, pos, ◌+◌, ◌*◌, ◌^◌, ◌≤◌, ◌+ℤ◌, ◌*ℤ◌};
 ghost use Rattle.pic_num.specs.Limits.{most_force, most_side};
-ghost use Rattle.pic_num.specs.Rounding.{rounded};
 ghost use Rattle.pic_num.specs.Sizes.{IsAtMost};
-ghost use Rattle.pic_grid.specs.Weak.{most_weak};
+ghost use Rattle.pic_gather.specs.Mix.{HaveRoom};
 
 use pic_grid::Pair;
-use pic_num::Sub;
 
-/// The bits of a word of the machine. A shift that is seen to be less takes one instruction.
-const WORD: u32 = 64;
-
-/// Two values under the weights of a pair.
+/// Two numbers under the weights of a pair.
 #[inline(always)]
-pub(crate) fn narrow_mix(low: i64, high: i64, pair: Pair) -> i64
-    requires low_small { IsAtMost low most_force }
-    requires high_small { IsAtMost high most_force }
-    requires most { pair.low_weight + pair.high_weight ≤ most_side }
+pub(crate) fn mix(low: i64, high: i64, pair: Pair) -> i64
+    requires { HaveRoom low high pair }
     ensures value { result ≡ low *ℤ pos pair.low_weight +ℤ high *ℤ pos pair.high_weight }
-    ensures size { IsAtMost result (most_force * (pair.low_weight + pair.high_weight)) }
-    ensures weak { IsAtMost low most_weak → IsAtMost high most_weak
-        → IsAtMost result (most_weak * (pair.low_weight + pair.high_weight)) }
-{
-    low * i64::from(pair.low_weight) + high * i64::from(pair.high_weight)
-}
-
-/// Two sums of weak values under the weights of a pair.
-#[inline(always)]
-fn weak_mix(low: i64, high: i64, pair: Pair) -> i64
-    requires low_small { IsAtMost low (2 ^ 50) }
-    requires high_small { IsAtMost high (2 ^ 50) }
-    requires most { pair.low_weight + pair.high_weight ≤ 2 ^ 12 }
-    ensures value { result ≡ low *ℤ pos pair.low_weight +ℤ high *ℤ pos pair.high_weight }
-    ensures size { IsAtMost result (2 ^ 62) }
-    ensures small { IsAtMost low (2 ^ 38) → IsAtMost high (2 ^ 38) → IsAtMost result (2 ^ 50) }
+    ensures size { (most : ℕ) → IsAtMost low most → IsAtMost high most
+        → IsAtMost result (most * (pair.low_weight + pair.high_weight)) }
 {
     low * i64::from(pair.low_weight) + high * i64::from(pair.high_weight)
 }
@@ -61,9 +40,9 @@ pub(crate) fn weak_sum(
         +ℤ (low_high *ℤ pos y.low_weight +ℤ high_high *ℤ pos y.high_weight) *ℤ pos z.high_weight }
     ensures size { IsAtMost result (2 ^ 62) }
 {
-    let low = weak_mix(low_low, high_low, y);
-    let high = weak_mix(low_high, high_high, y);
-    weak_mix(low, high, z)
+    let low = mix(low_low, high_low, y);
+    let high = mix(low_high, high_high, y);
+    mix(low, high, z)
 }
 
 /// A row's sum under its weight, which is the product of one of y and one of z.
@@ -103,31 +82,4 @@ pub(crate) fn wide_mix(
         + weighed(high_low, y.high_weight, z.low_weight)
         + weighed(low_high, y.low_weight, z.high_weight)
         + weighed(high_high, y.high_weight, z.high_weight)
-}
-
-/// A weighted sum over the cube of a cell's side, rounded to the nearest whole number, a half going
-/// up.
-#[inline(always)]
-pub(crate) fn mean(sub: Sub, sum: i128) -> i64
-    requires { IsAtMost sum (most_force * (sub * sub * sub)) }
-    ensures value { result ≡ rounded sum (pos (sub ^ 3)) }
-    ensures size { IsAtMost result most_force }
-{
-    let bits = 3 * sub.bits() % WORD;
-    let half = 1 << (bits - 1);
-    ((sum + half) >> bits) as i64
-}
-
-/// The same of a sum of weak values, in 64 bits.
-#[inline(always)]
-pub(crate) fn weak_mean(sub: Sub, sum: i64) -> i64
-    requires few { sub ≤ 2 ^ 12 }
-    requires small { IsAtMost sum (2 ^ 62) }
-    requires forces { IsAtMost sum (most_force * (sub * sub * sub)) }
-    ensures value { result ≡ rounded sum (pos (sub ^ 3)) }
-    ensures size { IsAtMost result most_force }
-{
-    let shift = 3 * sub.bits() % WORD;
-    let half = 1 << (shift - 1);
-    (sum + half) >> shift
 }

@@ -1,8 +1,8 @@
-use Rattle.std.proofs.Common.{pos, ◌^◌, ◌∙◌, arith}
+use Rattle.std.proofs.Common.{pos, ◌∙◌, arith}
 use Rattle.std.proofs.lemmas.Int.{to_z-of_z}
 use mir.Syntax.{w64, w128}
 use Rattle.pic_num.specs.Rounding.{rounded}
-use Rattle.pic_gather.proofs.MixLaws.{held_row, row_most, four_mixed, four_size, mean_of}
+use Rattle.pic_gather.proofs.MixLaws.{held_row, held_sum, row_most, four_mixed, four_size, cube_of}
 use Rattle.pic_gather.proofs.component.component.Goals as goal
 
 pub wide_mix-sum-requires : goal.wide_mix-sum-requires
@@ -19,15 +19,15 @@ wide_mix-sum-requires c =
       z_most = omega (arith, z, most);
     }
 
-pub mean-requires : goal.mean-requires
-mean-requires c =
+pub mean-requires-clause-small : goal.mean-requires-clause-small
+mean-requires-clause-small c =
     let y = c.requires.on.y.pair in
     let z = c.requires.on.z in
     let small = four_size c.args.force.now c.args.axis c.args.at.x.pair c.args.at.y.pair c.args.at.z _ _ _ _ c.wide_mix-sum.result y z c.wide_mix-sum.ensures
     (held_row _ _ c.row-low_low.type_inv c.row-low_low.ensures.size) (held_row _ _ c.row-high_low.type_inv c.row-high_low.ensures.size)
     (held_row _ _ c.row-low_high.type_inv c.row-low_high.ensures.size) (held_row _ _ c.row-high_high.type_inv c.row-high_high.ensures.size)
     in
-    mean_of c.wide_mix-sum.result _ _ c.wide_mix-sum.type_inv c.requires.side small
+    held_sum c.wide_mix-sum.result _ c.wide_mix-sum.type_inv (cube_of c.wide_mix-sum.result _ c.args.cube c.requires.cube small)
 
 pub returns-clause-value : goal.returns-clause-value
 returns-clause-value c =
@@ -43,4 +43,4 @@ returns-clause-value c =
     let sum = to_z-of_z w128 c.wide_mix-sum.result (record { sfits = c.wide_mix-sum.type_inv })
     ∙ four_mixed f a x c.args.at.y.pair c.args.at.z _ _ _ _ c.wide_mix-sum.result y z c.wide_mix-sum.ensures low_low high_low low_high high_high
     in
-    to_z-of_z w64 c.mean.result (record { sfits = c.mean.type_inv }) ∙ c.mean.ensures.value ∙ (λ i. rounded (sum i) (pos (c.requires.side i ^ 3)))
+    to_z-of_z w64 c.mean.result (record { sfits = c.mean.type_inv }) ∙ c.mean.ensures.value ∙ (λ i. rounded (sum i) (pos (c.requires.cube.cube i)))

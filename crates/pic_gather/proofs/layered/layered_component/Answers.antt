@@ -1,4 +1,4 @@
-use Rattle.std.proofs.Common.{◌≡◌, ℤ, pos, ◌*◌, ◌^◌, ◌≤◌, slice_index, refl, ap, ◌∙◌, arith}
+use Rattle.std.proofs.Common.{◌≡◌, ℤ, pos, ◌*◌, ◌^◌, ◌≤◌, slice_index, ap, ◌∙◌, arith}
 use Rattle.std.proofs.Math.Nat.{mul-le-mul}
 use Rattle.std.proofs.lemmas.Int.{to_z-of_z}
 use mir.Syntax.{w64, w128}
@@ -7,7 +7,7 @@ use Rattle.pic_num.specs.Rounding.{rounded}
 use Rattle.pic_num.specs.Sizes.{IsAtMost}
 use Rattle.pic_num.specs.Space.{Triple}
 use Rattle.pic_gather.proofs.LayeredLaws.{list_of, low_force, high_force, low_weak, high_weak, row_is}
-use Rattle.pic_gather.proofs.MixLaws.{mix, weak_row, row_most, held_row, whole_row, four_mixed, four_size, cube_of, mean_of}
+use Rattle.pic_gather.proofs.MixLaws.{mix, weak_row, row_most, held_row, held_sum, whole_row, four_mixed, four_size, cube_of}
 use Rattle.pic_gather.proofs.HalfLaws.{held}
 use Rattle.pic_gather.specs.Forces.{row_sum, whole_sum}
 use Rattle.pic_gather.proofs.layered.layered_component.Goals as goal
@@ -165,14 +165,14 @@ module _ (c : After-row-high_high) (r : ℤ)
         four_mixed c.args.force.now c.args.axis c.args.at.x.pair c.args.at.y.pair c.args.at.z _ _ _ _ r c.requires.on.y.pair c.requires.on.z is
         at.low_low at.high_low at.low_high at.high_high
 
-    sum_size : IsAtMost r (most_force * (c.args.sub * c.args.sub * c.args.sub))
+    sum_size : IsAtMost r (most_force * 2 ^ c.args.cube.bits)
     sum_size =
         let x = c.requires.on.x.pair.whole in
         let small = four_size c.args.force.now c.args.axis c.args.at.x.pair c.args.at.y.pair c.args.at.z _ _ _ _ r c.requires.on.y.pair c.requires.on.z is
         (whole_row _ _ _ c.row-low_low.type_inv x c.row-low_low.ensures.size) (whole_row _ _ _ c.row-high_low.type_inv x c.row-high_low.ensures.size)
         (whole_row _ _ _ c.row-low_high.type_inv x c.row-low_high.ensures.size) (whole_row _ _ _ c.row-high_high.type_inv x c.row-high_high.ensures.size)
         in
-        cube_of _ _ _ c.requires.side small
+        cube_of _ _ c.args.cube c.requires.cube small
 
 pub weak_mean-requires-clause-forces : goal.weak_mean-requires-clause-forces
 weak_mean-requires-clause-forces c =
@@ -186,20 +186,20 @@ returns-then-weak-clause-value c =
     let r = c.weak_sum-sum.result in
     let sum = to_z-of_z w64 r (record { sfits = c.weak_sum-sum.type_inv }) ∙ sum_is at r c.weak_sum-sum.ensures.value in
     to_z-of_z w64 c.weak_mean.result (record { sfits = c.weak_mean.type_inv }) ∙ c.weak_mean.ensures.value
-    ∙ (λ i. rounded (sum i) (pos (c.requires.side i ^ 3)))
+    ∙ (λ i. rounded (sum i) (pos (c.requires.cube.cube i)))
 
-pub mean-requires : goal.mean-requires
-mean-requires c =
-    let at = (goal.at.mean-requires c).After-row-high_high in
+pub mean-requires-clause-small : goal.mean-requires-clause-small
+mean-requires-clause-small c =
+    let at = (goal.at.mean-requires-clause-small c).After-row-high_high in
     let r = c.wide_mix-sum.result in
-    mean_of r _ _ c.wide_mix-sum.type_inv refl (sum_size at r c.wide_mix-sum.ensures)
+    held_sum r _ c.wide_mix-sum.type_inv (sum_size at r c.wide_mix-sum.ensures)
 
 pub returns-clause-value : goal.returns-clause-value
 returns-clause-value c =
     let at = (goal.at.returns-clause-value c).After-row-high_high in
     let r = c.wide_mix-sum.result in
     let sum = to_z-of_z w128 r (record { sfits = c.wide_mix-sum.type_inv }) ∙ sum_is at r c.wide_mix-sum.ensures in
-    to_z-of_z w64 c.mean.result (record { sfits = c.mean.type_inv }) ∙ c.mean.ensures.value ∙ (λ i. rounded (sum i) (pos (c.requires.side i ^ 3)))
+    to_z-of_z w64 c.mean.result (record { sfits = c.mean.type_inv }) ∙ c.mean.ensures.value ∙ (λ i. rounded (sum i) (pos (c.requires.cube.cube i)))
 
 pub returns-clause-size : goal.returns-clause-size
 returns-clause-size c = held_row c.mean.result _ c.mean.type_inv c.mean.ensures.size
