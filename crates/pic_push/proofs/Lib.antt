@@ -16,3 +16,4 @@ pub mod LeastLaws
 pub mod RegionLaws
 pub mod TakeLaws
 pub mod PieceLaws
+pub mod StayLaws

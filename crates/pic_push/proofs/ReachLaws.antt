@@ -5,9 +5,11 @@ use Rattle.std.specs.Prelude.{◌≤ℤ◌, ◌<ℤ◌, unsigned_abs, nat_lt}
 use Rattle.std.proofs.lemmas.Bool.Decides.{nat_tests}
 use Rattle.std.proofs.lemmas.Int.{ints}
 use Rattle.pic_num.specs.Space.{Triple, Spot}
+use Rattle.pic_grid.specs.Block.{InZone}
+use Rattle.pic_tile.specs.Directions.{here}
 use Rattle.pic_tile.specs.Tiling.{Tiling}
 use Rattle.pic_tile.specs.Layers.{lowest_cell}
-use Rattle.pic_tile.specs.Leaving.{step_to, direction_to}
+use Rattle.pic_tile.specs.Leaving.{step_to, direction_by, direction_to}
 use Rattle.pic_push.specs.declared.reach.Steps.{Steps}
 use Rattle.pic_push.specs.Reach.{AreStepsOf, direction_from}
 
@@ -54,6 +56,19 @@ pub direction_is : (m : Tiling) (tile : ℕ) (low : Spot) (size : Triple) (cell 
     → direction_from low size cell ≡ direction_to m tile cell
 unfolding direction_to
 direction_is m tile low size cell at thick = λ i. direction_from (at i) (thick i) cell
+
+-- and to one of its own cells that of no step
+pub here_is : (m : Tiling) (tile : ℕ) (low : Spot) (size : Triple) (cell : Spot) → low ≡ lowest_cell m tile → InZone low size cell
+    → here ≡ direction_from low size cell
+here_is m tile low size cell at = subst (λ (l : Spot). InZone l size cell → here ≡ direction_from l size cell) (sym at) among
+  where
+    among : InZone (lowest_cell m tile) size cell → here ≡ direction_from (lowest_cell m tile) size cell
+    among inside =
+        let low = lowest_cell m tile in
+        let x = step_among low.x size.x cell.x (omega (arith, ints)) inside.x_low inside.x_high in
+        let y = step_among low.y size.y cell.y (omega (arith, ints)) inside.y_low inside.y_high in
+        let z = step_among low.z size.z cell.z (omega (arith, ints)) inside.z_low inside.z_high in
+        λ i. direction_by (x i) (y i) (z i)
 
 -- steps of numbers as the code holds them
 pub steps_are : (low cell low' cell' : ℤ) (n : ℕ) (s : Steps) → low' ≡ low → cell' ≡ cell → AreStepsOf low' n cell' s → AreStepsOf low n cell s

@@ -5,7 +5,9 @@ use Rattle.std.proofs.Math.IntN.{ℤ, pos, ◌+ℤ◌}
 use Rattle.std.specs.Prelude.{◌≤ℤ◌, ◌<ℤ◌, ◌↔◌, IsTrue, nat_le}
 use Rattle.std.proofs.lemmas.Bool.{false≢true, cases_lt}
 use Rattle.std.proofs.lemmas.Bool.Decides.{nat_tests}
-use Rattle.std.proofs.lemmas.Int.{ints}
+use Rattle.std.proofs.lemmas.Int.{ints, to_z-of_z}
+use mir.Syntax.{w32}
+use mir.Val.{SFits, to_z, of_z}
 use Rattle.pic_num.specs.Space.{Triple, Spot}
 use Rattle.pic_flux.specs.CellFlux.{AreLayers}
 use Rattle.pic_grid.specs.Among.{IsOneOf}
@@ -240,6 +242,6 @@ level_by low n cell above count above' count' a b at size same less a_most a_non
           ];
         }
 
--- levels of numbers as the code holds them
-pub level_is : (low cell low' cell' : ℤ) (n level : ℕ) → low' ≡ low → cell' ≡ cell → IsLevel low' n cell' level → IsLevel low n cell level
-level_is low cell low' cell' n level l e h = subst (λ (a : ℤ). IsLevel a n cell level) l (subst (λ (a : ℤ). IsLevel low' n a level) e h)
+-- what is known of numbers as the code holds them
+pub as_held : (P : ℤ → ℤ → Type 0) (low cell : ℤ) → SFits w32 low → SFits w32 cell → P (to_z w32 (of_z w32 low)) (to_z w32 (of_z w32 cell)) → P low cell
+as_held P low cell l e h = subst (λ (a : ℤ). P a cell) (to_z-of_z w32 low l) (subst (P (to_z w32 (of_z w32 low))) (to_z-of_z w32 cell e) h)

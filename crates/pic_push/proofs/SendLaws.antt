@@ -127,6 +127,15 @@ sends_on w m x y s path d dir p p' is of leads moves gained = record {
     into : Parcel
     into = record p' { chain = y ∷ p'.chain }
 
+-- one that stays in its tile goes into none of the other parcels
+pub receives_none : (y : Particle) (t : TileValue) → Receives y here t t
+receives_none y t = record {
+  others = λ d p other at. let apart : here == d ≡ false = grind (arith, nat_tests) in
+      at ∙ (λ i. Some (cond (sym apart i) (record p { chain = y ∷ p.chain }) p));
+  none = λ at. at;
+  number_is = refl;
+}
+
 -- all parcels of a tile do
 pub sends_out : (w : Surroundings) (m : Tiling) (x y : Particle) (s : Shift) (path : Path) (dir : ℕ) (t t' t'' : TileValue) → push_of w x ≡ Ok s
     → IsPathOf w x s path → dir ≡ way w m x → y ≡ after_its_push w x → Gains (flux_along path) t t' → Receives y dir t' t'' → SendsOut w m x t t''

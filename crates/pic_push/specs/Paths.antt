@@ -1,11 +1,12 @@
 -- The path of a charged particle in one step.
-use Rattle.std.specs.Prelude.{◌≡◌, ℤ}
+use Rattle.std.specs.Prelude.{◌≡◌, ℕ, ℤ, pos, ◌*◌}
 use Rattle.pic_num.specs.Limits.{most_charge, most_cells_of_axis}
 use Rattle.pic_num.specs.declared.axis.Axis.{Axis}
 use Rattle.pic_num.specs.declared.motion.Particle.{Particle}
 use Rattle.pic_num.specs.Push.{Shift, plus}
 use Rattle.pic_num.specs.Sizes.{IsAtMost}
 use Rattle.pic_num.specs.Space.{Triple, Spot, triple, spot, unwrapped, AreAtMost}
+use Rattle.pic_grid.specs.Among.{IsOneOf}
 use Rattle.pic_grid.specs.Flux.{path_flux}
 use Rattle.pic_grid.specs.Hat.{IsInBox}
 use Rattle.pic_grid.specs.Path.{floor_cell, path}
@@ -37,3 +38,9 @@ pub record IsPathOf (w : Surroundings) (x : Particle) (s : Shift) (p : Path) : T
   pub from_is : triple p.from ≡ triple x.x
   pub by_is : spot p.by ≡ s.d
   pub charge_is : p.charge ≡ (kind_of w.kinds x).charge
+
+-- a point that isn't wrapped lies in the box of a grid of n cells
+pub record StaysInBox (side : ℕ) (n : Triple) (p : Spot) : Type 0 where
+  pub x : IsOneOf (pos 0) (n.x * side) p.x
+  pub y : IsOneOf (pos 0) (n.y * side) p.y
+  pub z : IsOneOf (pos 0) (n.z * side) p.z

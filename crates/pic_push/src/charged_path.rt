@@ -19,6 +19,7 @@ pub(crate) struct Path {
 
 impl Path {
     /// The cell of its end, which isn't wrapped.
+    #[inline(always)]
     pub(crate) fn end(&self) -> [i32; 3]
         requires { IsPath self.now }
         ensures { spot result ≡ path_end self.now }

@@ -1,28 +1,30 @@
 //! What moves a particle: the force values at its position, and its charge.
 
-ghost use Rattle.std.specs.Prelude.{◌≡◌, ◌<◌, IfOk, length, All};
+ghost use Rattle.std.specs.Prelude.{◌≡◌, ◌<◌, Ok, IfSome, length, All};
 ghost use Rattle.pic_num.specs.Limits.{most_charge};
 ghost use Rattle.pic_num.specs.Sizes.{IsAtMost};
 ghost use Rattle.pic_grid.specs.Felt.{felt};
 ghost use Rattle.pic_grid.specs.PushPhase.{push_of, kind_of};
 ghost use Rattle.pic_grid.specs.Species.{IsKind};
-ghost use Rattle.pic_boris.specs.Pushes.{Pushes, IsInLimits};
+ghost use Rattle.pic_boris.specs.Pushes.{shift_of, IsInLimits};
 ghost use Rattle.pic_grid.specs.PushPhase.{CanShare};
 ghost use Rattle.pic_gather.specs.Forces.{AreForces};
 
-use pic_boris::{Halt, Moved, push};
+use pic_boris::{Moved, push_narrow};
 use pic_gather::{Gathered, gather};
 use pic_grid::Lattice;
 use pic_num::{Kind, Particle, Sub};
 
-/// A particle's new velocity and its move, by the force values at its position, or what halts it.
+/// A particle's new velocity and its move, by the force values at its position, where the numbers
+/// of its push are small; else `None`, which says nothing. Most are.
+#[inline(always)]
 pub(crate) fn feel(
     sub: Sub,
     kinds: &[Kind],
     force_e: &Lattice,
     force_b: &Lattice,
     particle: &Particle,
-) -> Result<Moved, Halt>
+) -> Option<Moved>
     requires side { sub ≡ force_e.now.side }
     requires can { CanShare force_e.now.side force_e.now.cells kinds.now particle.now }
     requires cells { force_b.now.cells ≡ force_e.now.cells }
@@ -30,12 +32,13 @@ pub(crate) fn feel(
     requires parts { force_b.now.parts ≡ force_e.now.parts }
     requires e { AreForces force_e.now }
     requires b { AreForces force_b.now }
-    ensures pushed { Pushes (push_of (felt kinds.now force_e.now force_b.now) particle.now) result }
-    ensures limits { IfOk result (IsInLimits sub) }
+    ensures pushed { let w = felt kinds.now force_e.now force_b.now in
+        IfSome result (λ m. push_of w particle.now ≡ Ok (shift_of m)) }
+    ensures limits { IfSome result (IsInLimits sub) }
 {
     let kind = kinds[particle.species as usize];
     let Gathered { e, b } = gather(force_e, force_b, particle.x);
-    push(sub, particle.v, e, b, kind.kick, kind.turn)
+    push_narrow(sub, particle.v, e, b, kind.kick, kind.turn)
 }
 
 /// The charge of a particle.

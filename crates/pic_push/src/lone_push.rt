@@ -1,5 +1,6 @@
-//! The push of one particle alone, without its flux. It goes by the calls that take any numbers: a second
-//! caller of the fast ones would have them out of the push of a tile, and cost each particle of it.
+//! The push of one particle by the calls that take any numbers, and the push of one alone, without
+//! its flux. A second caller of the fast calls would have them out of the push of a tile, and cost
+//! each particle of it.
 
 ghost use Rattle.std.specs.Prelude.{◌≡◌, IfOk};
 ghost use Rattle.pic_grid.specs.Felt.{felt};
@@ -29,8 +30,8 @@ pub fn push_alone(frame: &Frame, particle: &Particle) -> Particle
     }
 }
 
-// A particle's new velocity and its move in a frame, or what halts it.
-fn feel_alone(frame: &Frame, particle: &Particle) -> Result<Moved, Halt>
+/// A particle's new velocity and its move in a frame, or what halts it.
+pub(crate) fn feel_alone(frame: &Frame, particle: &Particle) -> Result<Moved, Halt>
     requires { let m = frame.now.map in
         CanShare m.side (cells_of m) frame.now.kinds particle.now }
     ensures pushed { Pushes (push_of (felt_in frame.now) particle.now) result }

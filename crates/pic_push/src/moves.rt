@@ -2,11 +2,13 @@
 
 ghost use Rattle.std.specs.Prelude.{◌≡◌, pos, ◌*◌, ◌^◌, ◌<◌, ◌≤◌, ◌+ℤ◌, ◌≤ℤ◌, ◌<ℤ◌};
 ghost use Rattle.pic_num.specs.Limits.{most_cells_of_axis};
+ghost use Rattle.pic_num.specs.Push.{plus};
 ghost use Rattle.pic_num.specs.Rounding.{residue};
-ghost use Rattle.pic_num.specs.Space.{triple};
+ghost use Rattle.pic_num.specs.Space.{triple, spot, unwrapped};
 ghost use Rattle.pic_grid.specs.Hat.{IsInBox};
 ghost use Rattle.pic_grid.specs.PushPhase.{moved};
 ghost use Rattle.pic_boris.specs.Pushes.{shift_of};
+ghost use Rattle.pic_push.specs.Paths.{StaysInBox};
 
 use pic_boris::Moved;
 use pic_grid::{Cells, is_among};
@@ -59,6 +61,38 @@ pub(crate) fn moved(sub: Sub, cells: Cells, particle: &Particle, by: &Moved) -> 
             wrapped_by(side, ny, at_y, dy),
             wrapped_by(side, nz, at_z, dz),
         ],
+        v: [vx, vy, vz],
+    }
+}
+
+/// A coordinate after a move that leads neither below 0 nor to 2^31.
+#[inline(always)]
+fn moved_by(at: u32, d: i32) -> u32
+    requires at { at < 2 ^ 31 }
+    requires low { pos 0 ≤ℤ (pos at +ℤ d) }
+    requires high { (pos at +ℤ d) <ℤ pos (2 ^ 31) }
+    ensures { pos result ≡ pos at +ℤ d }
+{
+    (at as i32 + d) as u32
+}
+
+/// A particle after a move that stays in the box, where nothing has to be wrapped.
+#[inline(always)]
+pub(crate) fn moved_within(sub: Sub, cells: Cells, particle: &Particle, by: &Moved) -> Particle
+    requires from { IsInBox sub cells.n (triple particle.now.x) }
+    requires to { let x = particle.now.x in
+        StaysInBox sub cells.n (plus (unwrapped (triple x)) (spot by.now.d)) }
+    ensures { result ≡ moved sub cells.n particle.now (shift_of by.now) }
+{
+    let _side = sub.side();
+    let [_, _, _] = cells.numbers();
+    let [at_x, at_y, at_z] = particle.x;
+    let [dx, dy, dz] = by.d;
+    let [vx, vy, vz] = by.v;
+    Particle {
+        id: particle.id,
+        species: particle.species,
+        x: [moved_by(at_x, dx), moved_by(at_y, dy), moved_by(at_z, dz)],
         v: [vx, vy, vz],
     }
 }

@@ -1,8 +1,8 @@
 //! The push of one particle of a tile.
 
-ghost use Rattle.std.specs.Prelude.{◌≡◌, ◌∷◌, IfOk, Ok, Some};
+ghost use Rattle.std.specs.Prelude.{◌≡◌, ◌∷◌, IfSome, Ok, Some};
 ghost use Rattle.pic_num.specs.Space.{triple, spot};
-ghost use Rattle.pic_boris.specs.Pushes.{Pushes, shift_of, IsInLimits};
+ghost use Rattle.pic_boris.specs.Pushes.{shift_of, IsInLimits};
 ghost use Rattle.pic_chain.specs.Links.{particle_of};
 ghost use Rattle.pic_grid.specs.declared.stop.Stop.TheVariants.{Push};
 ghost use Rattle.pic_grid.specs.PushPhase.{push_of, CanShare};
@@ -15,8 +15,9 @@ ghost use Rattle.pic_tile.specs.Pushed.{IsOfTile};
 ghost use Rattle.pic_push.specs.Sends.{HasHeadroom, HasParcels, Sends, SendsOut};
 
 use crate::feeling::feel;
-use crate::leading::{advance, lead};
-use crate::reach::way_to;
+use crate::leading::{advance, advance_within, lead};
+use crate::lone_push::feel_alone;
+use crate::reach::{is_here, way_to};
 use crate::sending::{path_of, send_flux};
 use crate::stop_order::lesser;
 use pic_boris::{Halt, Moved};
@@ -25,12 +26,15 @@ use pic_grid::{Stop, Zone};
 use pic_num::Particle;
 use pic_tile::{Frame, Parcel, Tile};
 
-/// A particle's new velocity and its move in a frame, or what halts it.
-fn feel_in(frame: &Frame, particle: &Particle) -> Result<Moved, Halt>
+/// A particle's new velocity and its move in a frame, where the numbers of its push are small; else
+/// `None`, which says nothing.
+#[inline(always)]
+fn feel_in(frame: &Frame, particle: &Particle) -> Option<Moved>
     requires { let m = frame.now.map in
         CanShare m.side (cells_of m) frame.now.kinds particle.now }
-    ensures pushed { Pushes (push_of (felt_in frame.now) particle.now) result }
-    ensures limits { IfOk result (IsInLimits frame.now.map.side) }
+    ensures pushed { let w = felt_in frame.now in
+        IfSome result (λ m. push_of w particle.now ≡ Ok (shift_of m)) }
+    ensures limits { IfSome result (IsInLimits frame.now.map.side) }
 {
     let sub = frame.cells().sub();
     feel(
@@ -43,7 +47,8 @@ fn feel_in(frame: &Frame, particle: &Particle) -> Result<Moved, Halt>
 }
 
 /// Moves a particle that doesn't halt: its flux goes into all parcels of its tile, and it into that
-/// of the direction in which it leads.
+/// of the direction in which it leads. Most stay in their tile.
+#[inline(always)]
 fn follow(frame: &Frame, zone: Zone, node: Box<Node>, by: &Moved, tile: &mut Tile, own: &mut Parcel)
     requires of { IsOfTile frame.now.map frame.now.kinds tile.old.number (particle_of node.value) }
     requires low { spot zone.low ≡ lowest_cell frame.now.map tile.old.number }
@@ -59,9 +64,17 @@ fn follow(frame: &Frame, zone: Zone, node: Box<Node>, by: &Moved, tile: &mut Til
 {
     let path = path_of(frame, &node.particle(), by);
     send_flux(&path, zone, tile, own);
+    let end = path.end();
+    let (sub, cells) = (frame.cells().sub(), frame.cells());
     let mut node = node;
-    advance(frame.cells().sub(), frame.cells(), by, &mut node);
-    lead(way_to(zone, path.end()), node, tile, own);
+    if is_here(zone, end) {
+        frame.sound();
+        advance_within(sub, cells, by, &mut node);
+        own.chain.push(node);
+        return;
+    }
+    advance(sub, cells, by, &mut node);
+    lead(way_to(zone, end), node, tile, own);
 }
 
 /// Leaves a particle that halts in its tile as it was.
@@ -82,7 +95,28 @@ fn stay(node: Box<Node>, halt: Halt, own: &mut Parcel)
     own.chain.push(node);
 }
 
-/// Pushes the particle of a node of a tile, of which the parcel of no step is held apart.
+/// Pushes the particle of a node of a tile, as `push_node` does, whatever the size of the numbers
+/// of its push. It stands apart from the push of most particles.
+#[inline(never)]
+fn push_node_wide(frame: &Frame, zone: Zone, node: Box<Node>, tile: &mut Tile, own: &mut Parcel)
+    requires of { IsOfTile frame.now.map frame.now.kinds tile.old.number (particle_of node.value) }
+    requires low { spot zone.low ≡ lowest_cell frame.now.map tile.old.number }
+    requires size { triple zone.size ≡ frame.now.map.size }
+    requires open { HasParcels (spot zone.low) (triple zone.size) tile.old }
+    requires room { HasHeadroom (spot zone.low) (triple zone.size) here own.old }
+    ensures own { let w = felt_in frame.now in
+        Sends w frame.now.map (particle_of node.value) here own.old own.new }
+    ensures others { let w = felt_in frame.now in
+        SendsOut w frame.now.map (particle_of node.value) tile.old tile.new }
+{
+    match feel_alone(frame, &node.particle()) {
+        Ok(by) => follow(frame, zone, node, &by, tile, own),
+        Err(halt) => stay(node, halt, own),
+    }
+}
+
+/// Pushes the particle of a node of a tile, of which the parcel of no step is held apart. The
+/// numbers of most pushes are small.
 pub(crate) fn push_node(
     frame: &Frame,
     zone: Zone,
@@ -101,7 +135,7 @@ pub(crate) fn push_node(
         SendsOut w frame.now.map (particle_of node.value) tile.old tile.new }
 {
     match feel_in(frame, &node.particle()) {
-        Ok(by) => follow(frame, zone, node, &by, tile, own),
-        Err(halt) => stay(node, halt, own),
+        Some(by) => follow(frame, zone, node, &by, tile, own),
+        None => push_node_wide(frame, zone, node, tile, own),
     }
 }

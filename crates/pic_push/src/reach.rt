@@ -132,7 +132,7 @@ fn last_step(low: i32, size: u32, cell: i32) -> u32
     if i64::from(cell) + 1 >= end { 2 } else { 1 }
 }
 
-/// The direction from the tile of a zone to a cell, which isn't wrapped: most cells are the zone's.
+/// The direction from the tile of a zone to a cell, which isn't wrapped.
 #[inline(always)]
 pub(crate) fn way_to(zone: Zone, cell: [i32; 3]) -> Dir
     requires x { pos 0 ≤ℤ (spot zone.low).x }
@@ -141,9 +141,6 @@ pub(crate) fn way_to(zone: Zone, cell: [i32; 3]) -> Dir
     ensures value { result ≡ direction_from (spot zone.low) (triple zone.size) (spot cell) }
     ensures below { result < directions }
 {
-    if is_here(zone, cell) {
-        return Dir::HERE;
-    }
     let [low_x, low_y, low_z] = zone.low;
     let [nx, ny, nz] = zone.size;
     let [x, y, z] = cell;
@@ -157,7 +154,7 @@ pub(crate) fn way_to(zone: Zone, cell: [i32; 3]) -> Dir
 
 /// Whether a cell is one of a zone's, by one test.
 #[inline(always)]
-fn is_here(zone: Zone, cell: [i32; 3]) -> bool
+pub(crate) fn is_here(zone: Zone, cell: [i32; 3]) -> bool
     ensures { IsTrue result → InZone (spot zone.low) (triple zone.size) (spot cell) }
 {
     let [low_x, low_y, low_z] = zone.low;

@@ -1,11 +1,11 @@
 //! Where a piece of a path lies in its tile, and which layers of its cell the tile's blocks have.
 
-ghost use Rattle.std.specs.Prelude.{◌≡◌, ◌⊎◌, pos, ◌≤◌, ◌≤ℤ◌, ◌<ℤ◌};
+ghost use Rattle.std.specs.Prelude.{◌≡◌, ◌⊎◌, pos, ◌≤◌, ◌≤ℤ◌, ◌<ℤ◌, IsTrue};
 ghost use Rattle.pic_num.specs.Space.{triple, spot};
-ghost use Rattle.pic_push.specs.Region.{IsLevel, LiesIn, layers_at};
+ghost use Rattle.pic_push.specs.Region.{IsInner, IsLevel, LiesIn, layers_at};
 
 use pic_flux::Layers;
-use pic_grid::Zone;
+use pic_grid::{Zone, is_among};
 use pic_tile::Dir;
 
 /// The number of the direction without a step.
@@ -43,7 +43,7 @@ pub(crate) enum Region {
     Elsewhere,
 }
 
-/// Where a cell lies in the tile of a zone.
+/// Where a cell lies in the tile of a zone: most lie inside.
 #[inline(always)]
 pub(crate) fn region_of(zone: Zone, cell: [i32; 3]) -> Region
     ensures { LiesIn result (spot zone.low) (triple zone.size) (spot cell) }
@@ -51,6 +51,12 @@ pub(crate) fn region_of(zone: Zone, cell: [i32; 3]) -> Region
     let [low_x, low_y, low_z] = zone.low;
     let [nx, ny, nz] = zone.size;
     let [x, y, z] = cell;
+    if is_before_last(low_x, nx, x)
+        && is_before_last(low_y, ny, y)
+        && is_before_last(low_z, nz, z)
+    {
+        return Region::Inside;
+    }
     let (x, y, z) = (
         level_on(low_x, nx, x),
         level_on(low_y, ny, y),
@@ -66,6 +72,15 @@ pub(crate) fn region_of(zone: Zone, cell: [i32; 3]) -> Region
         4 => Region::EdgeZ,
         _ => Region::Elsewhere,
     }
+}
+
+/// Whether a cell lies before the last layer on an axis on which a tile has `size` layers from
+/// `low` on.
+#[inline(always)]
+fn is_before_last(low: i32, size: u32, cell: i32) -> bool
+    ensures { IsTrue result → IsInner low size cell }
+{
+    is_among(low, size.saturating_sub(1), i64::from(cell))
 }
 
 /// Where a cell lies on an axis on which a tile has `size` layers from `low` on: 0 before the last

@@ -31,6 +31,7 @@ use pic_split::{lone, split};
 use pic_tile::{Frame, Parcel, Tile};
 
 /// The path of a particle's move.
+#[inline(always)]
 pub(crate) fn path_of(frame: &Frame, particle: &Particle, by: &Moved) -> Path
     requires can { let m = frame.now.map in
         CanShare m.side (cells_of m) frame.now.kinds particle.now }
@@ -121,6 +122,7 @@ fn send_anywhere(sub: Sub, piece: &Segment, q: i32, tile: &mut Tile, own: &mut P
 }
 
 /// The same for the pieces of a path that crosses faces of cells, one after the other.
+#[inline(always)]
 fn send_track(sub: Sub, track: &Track, q: i32, zone: Zone, tile: &mut Tile, own: &mut Parcel)
     requires inside { All (IsInCell sub) track.now }
     requires charge { IsAtMost q most_charge }
@@ -138,6 +140,7 @@ fn send_track(sub: Sub, track: &Track, q: i32, zone: Zone, tile: &mut Tile, own:
 
 /// Adds the flux of a path to all parcels of a tile, of which that of no step is held apart. Most
 /// paths stay in a cell.
+#[inline(always)]
 pub(crate) fn send_flux(path: &Path, zone: Zone, tile: &mut Tile, own: &mut Parcel)
     requires path { IsPath path.now }
     requires open { HasParcels (spot zone.low) (triple zone.size) tile.old }

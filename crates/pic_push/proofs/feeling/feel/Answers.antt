@@ -2,11 +2,11 @@ use Rattle.std.proofs.Common.{◌≡◌, ◌∙◌, subst}
 use Rattle.std.proofs.lemmas.List.{get_or_read}
 use Rattle.pic_num.specs.Push.{Shift, Halting, pushed}
 use Rattle.pic_num.specs.Space.{triple, spot}
-use Rattle.std.specs.Prelude.{Result}
+use Rattle.std.specs.Prelude.{Result, Ok, IfSome}
 use Rattle.pic_grid.specs.Lattice.{value_at}
 use Rattle.pic_grid.specs.Gather.{gathered_b}
 use Rattle.pic_grid.specs.PushPhase.{no_kind, kind_of, push_of}
-use Rattle.pic_boris.specs.Pushes.{Pushes}
+use Rattle.pic_boris.specs.Pushes.{shift_of}
 use Rattle.pic_grid.specs.Felt.{felt}
 use Rattle.pic_push.proofs.feeling.feel.Goals as goal
 
@@ -25,4 +25,4 @@ returns-clause-pushed c =
     c.index-kinds-particle.result.kick c.index-kinds-particle.result.turn
     ≡ push_of (felt kinds c.args.force_e.now b) particle =
     λ i. pushed (c.requires.side i) (spot particle.v) (at_e i) (at_b i) (kind i).kick (kind i).turn in
-    subst (λ (r : Result Shift Halting). Pushes r c.push.result) told c.push.ensures.pushed
+    subst (λ (r : Result Shift Halting). IfSome c.push_narrow.result (λ m. r ≡ Ok (shift_of m))) told c.push_narrow.ensures.pushed

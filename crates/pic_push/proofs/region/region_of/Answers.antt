@@ -1,12 +1,9 @@
 use Rattle.std.proofs.Common.{◌≡◌, ℕ, ◌+◌, ◌*◌, refl, rules, arith}
-use Rattle.std.proofs.lemmas.Int.{to_z-of_z}
-use mir.Syntax.{w32}
-use mir.Val.{SFits}
 use Rattle.pic_num.specs.declared.axis.Axis.TheVariants.{X, Y, Z}
 use Rattle.pic_num.specs.Space.{triple, spot}
 use Rattle.pic_tile.specs.Directions.{here}
-use Rattle.pic_push.specs.Region.{IsLastOn, up_on, up_beside}
-use Rattle.pic_push.proofs.RegionLaws.{AreUpTo, up_to, by_number, level_is}
+use Rattle.pic_push.specs.Region.{IsInner, IsLastOn, IsLevel, up_on, up_beside}
+use Rattle.pic_push.proofs.RegionLaws.{AreUpTo, up_to, by_number, as_held}
 use Rattle.pic_push.proofs.region.region_of.Goals as goal
 use Rattle.pic_push.proofs.region.region_of.Goals.{After-level_on-z}
 
@@ -15,17 +12,25 @@ placed : (c : After-level_on-z) (last : ℕ) → AreUpTo here last → c.level_o
     → IsLastOn last (spot c.args.zone.low) (triple c.args.zone.size) (spot c.args.cell)
 placed c last to is =
     let low = spot c.args.zone.low in
+    let n = triple c.args.zone.size in
     let cell = spot c.args.cell in
-    let lx : SFits w32 low.x = search rules in
-    let ly : SFits w32 low.y = search rules in
-    let lz : SFits w32 low.z = search rules in
-    let cx : SFits w32 cell.x = search rules in
-    let cy : SFits w32 cell.y = search rules in
-    let cz : SFits w32 cell.z = search rules in
-    by_number last low (triple c.args.zone.size) cell c.level_on-x.result c.level_on-y.result c.level_on-z.result to
-    (level_is low.x cell.x _ _ _ _ (to_z-of_z w32 low.x lx) (to_z-of_z w32 cell.x cx) c.level_on-x.ensures)
-    (level_is low.y cell.y _ _ _ _ (to_z-of_z w32 low.y ly) (to_z-of_z w32 cell.y cy) c.level_on-y.ensures)
-    (level_is low.z cell.z _ _ _ _ (to_z-of_z w32 low.z lz) (to_z-of_z w32 cell.z cz) c.level_on-z.ensures) is
+    by_number last low n cell c.level_on-x.result c.level_on-y.result c.level_on-z.result to
+    (as_held (λ l e. IsLevel l n.x e c.level_on-x.result) low.x cell.x (search rules) (search rules) c.level_on-x.ensures)
+    (as_held (λ l e. IsLevel l n.y e c.level_on-y.result) low.y cell.y (search rules) (search rules) c.level_on-y.ensures)
+    (as_held (λ l e. IsLevel l n.z e c.level_on-z.result) low.z cell.z (search rules) (search rules) c.level_on-z.ensures) is
+
+pub returns-then-is_before_last-3 : goal.returns-then-is_before_last-3
+returns-then-is_before_last-3 c =
+    let low = spot c.args.zone.low in
+    let n = triple c.args.zone.size in
+    let cell = spot c.args.cell in
+    record {
+      x = as_held (λ l e. IsInner l n.x e) low.x cell.x (search rules) (search rules) (c.is_before_last.ensures c.if-is_before_last.true);
+      y = as_held (λ l e. IsInner l n.y e) low.y cell.y (search rules) (search rules)
+          (c.is_before_last-then-is_before_last.ensures c.if-is_before_last-2.true);
+      z = as_held (λ l e. IsInner l n.z e) low.z cell.z (search rules) (search rules)
+          (c.is_before_last-then-is_before_last-2.ensures c.if-is_before_last-3.true);
+    }
 
 pub returns-in-0 : goal.returns-in-0
 returns-in-0 c = placed (goal.at.returns-in-0 c).After-level_on-z here (up_to here here refl refl refl) (omega (arith, c.in-0.is))

@@ -7,7 +7,7 @@ use Rattle.pic_tile.specs.Directions.{here}
 use Rattle.pic_tile.specs.Frame.{felt_in}
 use Rattle.pic_push.specs.Sends.{Sends}
 use Rattle.pic_push.proofs.SendLaws.{sends_halted, out_halted}
-use Rattle.pic_push.proofs.node_push.push_node.Goals as goal
+use Rattle.pic_push.proofs.node_push.push_node_wide.Goals as goal
 
 pub returns-in-Err-clause-own : goal.returns-in-Err-clause-own
 returns-in-Err-clause-own c =

@@ -1,0 +1,76 @@
+-- A particle whose path ends in its tile stays in the box, where nothing has to be wrapped.
+use Rattle.std.proofs.Common.{◌≡◌, ℕ, ◌+◌, ◌*◌, ◌^◌, ◌<◌, ◌≤◌, ◌∙◌, subst, arith}
+use Rattle.std.proofs.Math.IntN.{ℤ, pos, negsuc, ◌+ℤ◌, ◌*ℤ◌}
+use Rattle.std.proofs.Math.Nat.{mul-le-mul_right}
+use Rattle.std.proofs.lemmas.Int.{ints}
+use Rattle.std.specs.Prelude.{◌≤ℤ◌, ◌<ℤ◌}
+use Rattle.pic_num.proofs.RoundingLaws.{residue-unique}
+use Rattle.pic_num.proofs.SizeLaws.{times_at_most}
+use Rattle.pic_num.specs.declared.motion.Particle.{Particle}
+use Rattle.pic_num.specs.Limits.{most_side, most_cells_of_axis}
+use Rattle.pic_num.specs.Push.{Shift, plus}
+use Rattle.pic_num.specs.Rounding.{residue}
+use Rattle.pic_num.specs.Space.{Triple, Spot, triple, unwrapped}
+use Rattle.pic_grid.proofs.CellLaws.{cell_of_within}
+use Rattle.pic_grid.proofs.PathLaws.{floor_low, floor_high}
+use Rattle.pic_grid.specs.Among.{IsOneOf}
+use Rattle.pic_grid.specs.Block.{InZone}
+use Rattle.pic_grid.specs.Cells.{count_of, cell_of}
+use Rattle.pic_grid.specs.Hat.{IsInBox, HasTwo}
+use Rattle.pic_grid.specs.Path.{floor_of, floor_cell}
+use Rattle.pic_grid.specs.PushPhase.{Surroundings}
+use Rattle.pic_tile.proofs.LeavingLaws.{tile_below}
+use Rattle.pic_tile.specs.Layers.{lowest_cell}
+use Rattle.pic_tile.specs.Owners.{tile_of}
+use Rattle.pic_tile.specs.Tiling.{Tiling, cells_of}
+use Rattle.pic_push.specs.declared.charged_path.Path.{Path}
+use Rattle.pic_push.specs.Paths.{IsPathOf, StaysInBox, path_end}
+
+-- a coordinate of the box is its own residue
+pub as_it_was : (p : ℤ) (len r : ℕ) → pos r ≡ p → p <ℤ pos len → r ≡ residue p len
+as_it_was p len r is below =
+    residue-unique p len r (omega (arith, ints, is, below)) (record { below = omega (arith, ints, is, below); turns = (pos 0, omega (arith, ints, is)) })
+
+-- and no large number
+pub no_large : (side n : ℕ) (p : ℤ) → side ≤ most_side → n ≤ most_cells_of_axis → IsOneOf (pos 0) (n * side) p → p <ℤ pos (2 ^ 31)
+no_large side n p most few on =
+    let length = times_at_most n side most_cells_of_axis most_side few most in let below = on.1 in omega (arith, ints, length, below)
+
+-- on an axis of k tiles of n cells: one whose cell is among those of a tile is on the axis
+stays_on : (side k n t : ℕ) (p c : ℤ) → t < k → (c *ℤ pos side) ≤ℤ p → p <ℤ (c *ℤ pos side +ℤ pos side) → pos (t * n) ≤ℤ c → c <ℤ (pos (t * n) +ℤ pos n)
+    → IsOneOf (pos 0) (k * n * side) p
+stays_on side k n t p (pos c) few low high least below =
+    let row : (t + 1) * n ≤ k * n = mul-le-mul_right n (omega arith) in
+    let end : (t + 1) * n ≡ t * n + n = omega arith in
+    let cells : c + 1 ≤ k * n = omega (arith, ints, row, end, below) in
+    let points : (c + 1) * side ≤ k * n * side = mul-le-mul_right side cells in
+    let next : (c + 1) * side ≡ c * side + side = omega arith in
+    (omega (arith, ints, low), omega (arith, ints, high, points, next))
+stays_on side k n t p (negsuc c) few low high least below = absurd (omega (arith, ints, least))
+
+-- a point whose cell is one of a tile's is in the box
+stays : (m : Tiling) (tile : ℕ) (p : Spot) → 0 < m.side → tile < count_of m.tiles → InZone (lowest_cell m tile) m.size (floor_cell m.side p)
+    → StaysInBox m.side (cells_of m) p
+stays m tile p some few inside =
+    let at = cell_of m.tiles tile in
+    let w = cell_of_within m.tiles tile few in
+    record {
+      x = stays_on m.side m.tiles.x m.size.x at.x p.x (floor_of m.side p.x) w.x (floor_low m.side p.x some) (floor_high m.side p.x some)
+          inside.x_low inside.x_high;
+      y = stays_on m.side m.tiles.y m.size.y at.y p.y (floor_of m.side p.y) w.y (floor_low m.side p.y some) (floor_high m.side p.y some)
+          inside.y_low inside.y_high;
+      z = stays_on m.side m.tiles.z m.size.z at.z p.z (floor_of m.side p.z) w.z (floor_low m.side p.z some) (floor_high m.side p.z some)
+          inside.z_low inside.z_high;
+    }
+
+-- so is the end of a particle's path that ends in its tile
+pub end_stays : (w : Surroundings) (m : Tiling) (x : Particle) (s : Shift) (p : Path) (tile : ℕ) (low : Spot) (size : Triple) (cell : Spot) → 0 < m.side
+    → HasTwo m.size → IsInBox m.side (cells_of m) (triple x.x) → IsPathOf w x s p → w.side ≡ m.side → tile_of m x ≡ tile → low ≡ lowest_cell m tile
+    → size ≡ m.size → cell ≡ path_end p → InZone low size cell → StaysInBox m.side (cells_of m) (plus (unwrapped (triple x.x)) s.d)
+end_stays w m x s p tile low size cell some thick place of same own at layers end inside =
+    let side : p.sub ≡ m.side = of.sub_is ∙ same in
+    let few : tile < count_of m.tiles = subst (λ (t : ℕ). t < count_of m.tiles) own (tile_below m x some thick place) in
+    let led = end ∙ (λ i. floor_cell (side i) (plus (unwrapped (of.from_is i)) (of.by_is i))) in
+    stays m tile (plus (unwrapped (triple x.x)) s.d) some few
+    (subst (InZone (lowest_cell m tile) m.size) led
+    (subst (λ (n : Triple). InZone (lowest_cell m tile) n cell) layers (subst (λ (l : Spot). InZone l size cell) at inside)))
