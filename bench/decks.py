@@ -67,6 +67,11 @@ def million():
     return demonstration().replace("[16, 16, 16]", "[64, 64, 64]").replace("[4, 4, 4]", "[8, 8, 8]").replace("8192", "524288")
 
 
+def small():
+    """The same plasma with 2048 particles, 4 a cell, on 8^3 cells in one tile: what a step goes over stays in a core's second cache."""
+    return demonstration().replace("[16, 16, 16]", "[8, 8, 8]").replace("[4, 4, 4]", "[1, 1, 1]").replace("8192", "1024")
+
+
 def fields():
     """Fields alone on 64^3 cells in tiles of 8^3: a sheet of Bz of no order, which spreads as light."""
     head = demonstration().split("[[species]]")[0]
@@ -76,7 +81,8 @@ def fields():
 
 
 # Each with the lesser and the greater number of steps.
-DECKS = {"demonstration": (demonstration, 16, 216), "eight": (eight, 16, 216), "million": (million, 1, 4), "fields": (fields, 4, 44)}
+DECKS = {"small": (small, 100, 2100), "demonstration": (demonstration, 16, 216), "eight": (eight, 16, 216), "million": (million, 1, 4),
+         "fields": (fields, 4, 44)}
 
 
 def with_steps(text, steps):
